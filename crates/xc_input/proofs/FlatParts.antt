@@ -1,0 +1,61 @@
+-- Options kept flat.
+use Rattle.std.proofs.Common.{ℕ, zero, suc, ◌≡◌, ◌+◌, ◌-◌, ◌<◌, ◌≤◌, List, [], ◌∷◌, length, map, take, get_or, Some, refl, sym, ap, ap₂, ◌∙◌, arith}
+use Rattle.std.proofs.lemmas.Grind.{get_or_default_zero}
+use Rattle.std.specs.Prelude.{slice_get, slice_range}
+use Rattle.xc_input.specs.Flat.{pieces, AreStarts}
+use Rattle.xc_input.specs.Problem.{numbered_get}
+
+pub slice_get-map : {X Y : Type 0} (f : X → Y) (xs : List X) (i : ℕ) (d : X) → i < length xs → slice_get (map f xs) i ≡ Some (f (get_or xs i d))
+slice_get-map f [] i d h = absurd (omega (arith, h))
+slice_get-map f (x ∷ xs) zero d h = refl
+slice_get-map f (x ∷ xs) (suc i) d h = slice_get-map f xs i d (omega (arith, h))
+
+pub slice_get-map-take : {X Y : Type 0} (f : X → Y) (n : ℕ) (xs : List X) (i : ℕ) (d : X) → i < n → i < length xs → slice_get (map f (take n xs)) i ≡ Some (f (get_or xs i d))
+slice_get-map-take f zero xs i d h k = absurd (omega (arith, h))
+slice_get-map-take f (suc n) [] i d h k = absurd (omega (arith, k))
+slice_get-map-take f (suc n) (x ∷ xs) zero d h k = refl
+slice_get-map-take f (suc n) (x ∷ xs) (suc i) d h k = slice_get-map-take f n xs i d (omega (arith, h)) (omega (arith, k))
+
+pub length-pieces : {X : Type 0} (starts : List ℕ) (us : List X) → AreStarts starts (length us) → length (pieces starts us) + 1 ≡ length starts
+length-pieces [] us h = absurd h
+length-pieces (a ∷ []) us h = omega arith
+length-pieces (a ∷ b ∷ starts) us h = omega (arith, length-pieces (b ∷ starts) us h.1)
+
+-- a part lies within the list
+pub start_range : (starts : List ℕ) (n k : ℕ) → AreStarts starts n → k + 1 < length starts → (get_or starts k 0 ≤ get_or starts (suc k) 0) × (get_or starts (suc k) 0 ≤ n)
+start_range [] n k h l = absurd h
+start_range (a ∷ []) n k h l = absurd (omega (arith, l))
+start_range (a ∷ b ∷ []) n zero h l = (h.0, omega (arith, h.1))
+start_range (a ∷ b ∷ c ∷ starts) n zero h l = let later = start_range (b ∷ c ∷ starts) n zero h.1 (omega arith) in (h.0, omega (arith, later.0, later.1))
+start_range (a ∷ b ∷ starts) n (suc k) h l = start_range (b ∷ starts) n k h.1 (omega (arith, l))
+
+pub piece_at : {X : Type 0} (starts : List ℕ) (us : List X) (k : ℕ) → k + 1 < length starts → slice_get (pieces starts us) k ≡ Some (slice_range us (get_or starts k 0) (get_or starts (suc k) 0))
+piece_at [] us k h = absurd (omega (arith, h))
+piece_at (a ∷ []) us k h = absurd (omega (arith, h))
+piece_at (a ∷ b ∷ starts) us zero h = refl
+piece_at (a ∷ b ∷ starts) us (suc k) h = piece_at (b ∷ starts) us k (omega (arith, h))
+
+pub numbered_get-at : {X : Type 0} (xs : List X) (i k : ℕ) → i ≡ k + 1 → numbered_get xs i ≡ slice_get xs k
+numbered_get-at xs zero k e = absurd (omega (arith, e))
+numbered_get-at xs (suc i) k e = let same : i ≡ k = omega (arith, e) in ap (slice_get xs) same
+
+pub length-map-take : {X Y : Type 0} (f : X → Y) (n : ℕ) (xs : List X) → n ≤ length xs → length (map f (take n xs)) ≡ n
+length-map-take f zero xs h = refl
+length-map-take f (suc n) [] h = absurd (omega (arith, h))
+length-map-take f (suc n) (x ∷ xs) h = ap suc (length-map-take f n xs (omega (arith, h)))
+
+-- the part between two starts that were read
+pub part_range : (starts : List ℕ) (n k a b : ℕ) → AreStarts starts n → k + 1 < length starts → a ≡ get_or starts k 0 → b ≡ get_or starts (suc k) 0 → (a ≤ b) × (b ≤ n)
+part_range starts n k a b h l e f = let r = start_range starts n k h l in (omega (arith, r.0, e, f), omega (arith, r.1, f))
+
+pub option_part : {X : Type 0} (starts : List ℕ) (us : List X) (o a b : ℕ) → AreStarts starts (length us) → 1 ≤ o → o < length starts → a ≡ get_or starts (o - 1) a → b ≡ get_or starts o b →
+    (a ≤ b) × (b ≤ length us) × (numbered_get (pieces starts us) o ≡ Some (slice_range us a b))
+option_part starts us zero a b h l m e f = absurd (omega (arith, l))
+option_part starts us (suc k) a b h l m e f =
+    let before : suc k - 1 ≡ k = omega arith in
+    let in_front : k < length starts = omega (arith, m) in
+    let two : k + 1 < length starts = omega (arith, m) in
+    let from : a ≡ get_or starts k 0 = e ∙ ap (λ n. get_or starts n a) before ∙ get_or_default_zero starts k a in_front in
+    let to : b ≡ get_or starts (suc k) 0 = f ∙ get_or_default_zero starts (suc k) b m in
+    let range = part_range starts (length us) k a b h two from to in
+    (range.0, range.1, piece_at starts us k two ∙ ap₂ (λ x y. Some (slice_range us x y)) (sym from) (sym to))

@@ -1,0 +1,2 @@
+pub mod FlatParts
+pub mod Known

@@ -1,0 +1,3 @@
+pub mod Problem
+pub mod Named
+pub mod Flat

@@ -1,0 +1,67 @@
+-- The moves of a level stand on those before it.
+use Rattle.std.proofs.Common.{ℕ, zero, suc, ◌≡◌, ◌+◌, ◌-◌, ◌<◌, ◌≤◌, Bool, true, false, cond, leb, eqb, List, [], ◌∷◌, ◌++◌, length, drop, take, refl, sym, ap, ◌∙◌, arith, subst, get_or, drop-cons, length-drop}
+use Rattle.xc_input.specs.declared.problem.Use.{Use}
+use Rattle.xc_dance.specs.declared.dance.Move.{Move}
+use Rattle.xc_dance.specs.declared.dance.Move.TheVariants.{Cover, Purify, Tweak, Spend}
+use Rattle.xc_input.specs.Problem.{Puzzle, primary_count, high_at}
+use Rattle.xc_dance.specs.Moves.{AreLegal, is_open, spends}
+use Rattle.xc_search.specs.Residuals.{opened}
+use Rattle.xc_search.specs.Commits.{after_use, after_uses, place_in, others}
+
+legal_opened : (p : Puzzle) (i : ℕ) (t : List Move) → AreLegal p (opened p i t) → AreLegal p t
+legal_opened p i t =
+    elim (eqb (high_at p i - spends i (Spend i ∷ t)) 0) as (λ b. AreLegal p (cond b (Cover i ∷ Spend i ∷ t) (Spend i ∷ t)) → AreLegal p t) [
+      | true ↦ λ l. l.1.1
+      | false ↦ λ l. l.1
+    ]
+
+pub legal_after_use : (p : Puzzle) (u : Use) (t : List Move) → AreLegal p (after_use p u t) → AreLegal p t
+legal_after_use p u t =
+    elim (leb u.item (primary_count p)) as (λ b. AreLegal p (cond b (opened p u.item t) (cond (eqb u.colour 0) (Cover u.item ∷ t) (cond (is_open u.item t) (Purify u.item u.colour ∷ t) t))) → AreLegal p t) [
+      | true ↦ legal_opened p u.item t
+      | false ↦ elim (eqb u.colour 0) as (λ b. AreLegal p (cond b (Cover u.item ∷ t) (cond (is_open u.item t) (Purify u.item u.colour ∷ t) t)) → AreLegal p t) [
+        | true ↦ λ l. l.1
+        | false ↦ elim (is_open u.item t) as (λ b. AreLegal p (cond b (Purify u.item u.colour ∷ t) t) → AreLegal p t) [
+          | true ↦ λ l. l.1
+          | false ↦ λ l. l
+        ]
+      ]
+    ]
+
+pub legal_after_uses : (p : Puzzle) (us : List Use) (t : List Move) → AreLegal p (after_uses p us t) → AreLegal p t
+legal_after_uses p [] t l = l
+legal_after_uses p (u ∷ us) t l = legal_after_use p u t (legal_after_uses p us (after_use p u t) l)
+
+pub after_uses-append : (p : Puzzle) (us vs : List Use) (t : List Move) → after_uses p (us ++ vs) t ≡ after_uses p vs (after_uses p us t)
+after_uses-append p [] vs t = refl
+after_uses-append p (u ∷ us) vs t = after_uses-append p us vs (after_use p u t)
+
+pub place_here : (i k : ℕ) (us : List Use) (u : Use) (rest : List Use) → drop k us ≡ u ∷ rest → eqb u.item i ≡ true → place_in i us ≡ k + place_in i (drop k us) → k ≡ place_in i us
+place_here i k us u rest d e h =
+    let none : place_in i (drop k us) ≡ 0 = ap (place_in i) d ∙ rw e refl in
+    omega (arith, none, h)
+
+pub place_later : (i k : ℕ) (us : List Use) (u : Use) (rest : List Use) → drop k us ≡ u ∷ rest → eqb u.item i ≡ false → place_in i us ≡ k + place_in i (drop k us) → place_in i us ≡ (k + 1) + place_in i rest
+place_later i k us u rest d e h =
+    let more : place_in i (drop k us) ≡ suc (place_in i rest) = ap (place_in i) d ∙ rw e refl in
+    omega (arith, more, h)
+
+pub first_use : (p : Puzzle) (us : List Use) (k : ℕ) (d : Use) (t : List Move) → k < length us → after_uses p (drop k us) t ≡ after_uses p (drop (k + 1) us) (after_use p (get_or us k d) t)
+first_use p us k d t h =
+    let next : suc k ≡ k + 1 = omega arith in
+    ap (λ vs. after_uses p vs t) (drop-cons us k d h) ∙ ap (λ n. after_uses p (drop n us) (after_use p (get_or us k d) t)) next
+
+take_all : {X : Type 0} (xs : List X) → take (length xs) xs ≡ xs
+take_all [] = refl
+take_all (x ∷ xs) = ap (λ ys. x ∷ ys) (take_all xs)
+
+-- after the uses behind the place k come those before it
+pub other_uses : (p : Puzzle) (i : ℕ) (us vs : List Use) (k : ℕ) (t : List Move) → us ≡ vs → k ≡ place_in i vs →
+    after_uses p (others i us) t ≡ after_uses p (take k vs) (after_uses p (take (length vs - (k + 1)) (drop (k + 1) vs)) t)
+other_uses p i us vs k t e h =
+    let enough : length vs - (k + 1) ≡ length (drop (k + 1) vs) = omega (arith, length-drop (k + 1) vs) in
+    let behind : take (length vs - (k + 1)) (drop (k + 1) vs) ≡ drop (k + 1) vs = ap (λ n. take n (drop (k + 1) vs)) enough ∙ take_all (drop (k + 1) vs) in
+    ap (λ ws. after_uses p (others i ws) t) e
+    ∙ ap (λ n. after_uses p (drop (n + 1) vs ++ take n vs) t) (sym h)
+    ∙ after_uses-append p (drop (k + 1) vs) (take k vs) t
+    ∙ ap (λ ws. after_uses p (take k vs) (after_uses p ws t)) (sym behind)

@@ -1,0 +1,41 @@
+-- Covers, and the sets of options that members of a listing stand for.
+use Rattle.std.specs.Prelude.{ℕ, ◌+◌, ◌<◌, ◌≤◌, ◌≡◌, ◌≢◌, ◌↔◌, Bool, List, length, Option, Some, None, is_some, All, AllPairs, Contains, count_by, filter_map, slice_get, IsTrue}
+use Rattle.xc_search.specs.declared.choice.Choice.{Choice}
+use Rattle.xc_input.specs.Problem.{Puzzle, Bounds, primary_count, option_count, bounds_at, uses_of, colour_in, IsSecondary}
+use Rattle.xc_search.specs.Listing.{listing, whole}
+
+-- how many of these options hold item i
+abbrev pub times_held : Puzzle → ℕ → List ℕ → ℕ
+times_held p i s = count_by (λ o. is_some (colour_in (uses_of p o) i)) s
+
+-- A set of option numbers, as a list without repetition, is a cover.
+pub record IsCover (p : Puzzle) (s : List ℕ) : Type 0 where
+  pub known : All (λ o. (1 ≤ o) × (o ≤ option_count p)) s
+  pub distinct : AllPairs (λ a b. a ≢ b) s
+  -- each primary item is held as often as its bounds say
+  pub within : (i : ℕ) (b : Bounds) → bounds_at p i ≡ Some b → (b.low ≤ times_held p i s) × (times_held p i s ≤ b.high)
+  -- two options that hold the same secondary item give it the same colour, which isn't 0
+  pub agree : (a b i c d : ℕ) → Contains s a → Contains s b → a ≢ b → IsSecondary p i → colour_in (uses_of p a) i ≡ Some c → colour_in (uses_of p b) i ≡ Some d → (c ≡ d) × (0 < c)
+
+-- the options of a member, in the order of its choices
+abbrev pub options_of : List Choice → List ℕ
+options_of m = filter_map (λ c. c.option) m
+
+-- two lists of numbers have the same members
+abbrev pub SameSet : List ℕ → List ℕ → Type 0
+SameSet a b = (o : ℕ) → Contains a o ↔ Contains b o
+
+abbrev pub members : Puzzle → List (List Choice)
+members p = listing (whole p)
+
+-- each member is a cover
+abbrev pub EachMemberCovers : Puzzle → Type 0
+EachMemberCovers p = All (λ m. IsCover p (options_of m)) (members p)
+
+-- each cover is the set of a member
+abbrev pub EachCoverIsListed : Puzzle → Type 0
+EachCoverIsListed p = (s : List ℕ) → IsCover p s → (k : ℕ) × (m : List Choice) × (slice_get (members p) k ≡ Some m) × SameSet s (options_of m)
+
+-- members at two places have different sets
+abbrev pub NoSetTwice : Puzzle → Type 0
+NoSetTwice p = (j k : ℕ) (l m : List Choice) → slice_get (members p) j ≡ Some l → slice_get (members p) k ≡ Some m → SameSet (options_of l) (options_of m) → j ≡ k

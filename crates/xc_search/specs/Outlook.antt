@@ -1,0 +1,18 @@
+-- What a search stands for.
+use Rattle.std.specs.Prelude.{ℕ, Bool, List}
+use Rattle.xc_search.specs.declared.choice.Choice.{Choice}
+use Rattle.xc_input.specs.Problem.{Puzzle}
+
+pub record Outlook : Type 0 where
+  pub puzzle : Puzzle
+  -- the members still to come
+  pub to_come : List (List Choice)
+  -- the member that was reached last, as long as it stands
+  pub shown : List Choice
+  -- how many moves the trail has room for
+  pub room : ℕ
+  -- how many levels and choices it has memory for
+  pub levels_room : ℕ
+  pub choices_room : ℕ
+  -- there was no memory
+  pub failed : Bool
