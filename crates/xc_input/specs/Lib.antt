@@ -1,3 +1,4 @@
 pub mod Problem
 pub mod Named
 pub mod Flat
+pub mod Calls

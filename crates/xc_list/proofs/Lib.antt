@@ -1,0 +1,5 @@
+pub mod Digits
+pub mod KnownMembers
+pub mod Outputs
+pub mod TextLemmas
+pub mod Writing

@@ -1,0 +1,171 @@
+-- The output grows member by member.
+use Rattle.std.proofs.Common.{◌≡◌, ℕ, zero, suc, ◌+◌, ◌<◌, ◌≤◌, ◌-◌, Bool, true, false, cond, List, [], ◌∷◌, ◌++◌, Option, None, Some, length, take, drop, get_or, filter, refl, sym, ap, ◌∙◌, append_assoc, append-nil, arith, subst}
+use Rattle.std.specs.Prelude.{flat_map, slice_get, if◌then◌else◌}
+use Rattle.std.specs.List.{enumerate_from}
+use Rattle.std.proofs.lemmas.Grind.{common_steps}
+use Rattle.std.proofs.lemmas.List.Concat.{flat_map-append}
+use Rattle.std.proofs.lemmas.List.Elements.{filter-append}
+use Rattle.xc_search.specs.declared.choice.Choice.{Choice}
+use Rattle.xc_input.specs.Problem.{numbered_get}
+use Rattle.xc_input.specs.Named.{Named}
+use Rattle.xc_search.specs.Cover.{members}
+use Rattle.xc_list.specs.Output.{text_of, output, is_printed, member_text}
+use Rattle.xc_list.specs.Runs.{printed_text, StoppedAt}
+use Rattle.std.specs.Io.KnownBytes.{Appends}
+use Rattle.xc_list.specs.Texts.{Begins}
+use Rattle.std.specs.Prelude.{All}
+use Rattle.std.proofs.lemmas.List.Elements.{All-head, All-drop}
+use Rattle.xc_input.specs.Calls.{Rose}
+use Rattle.xc_list.specs.Texts.{TookBeginning}
+use Rattle.xc_list.proofs.TextLemmas.{appends_more}
+use Rattle.xc_input.specs.Problem.{Puzzle}
+use Rattle.xc_list.specs.Known.{IsKnownChoice}
+use Rattle.xc_list.proofs.KnownMembers.{members_known}
+
+pub take_next : {X : Type 0} (ms : List X) (k : ℕ) (m : X) (rest : List X) → drop k ms ≡ m ∷ rest → take (k + 1) ms ≡ take k ms ++ m ∷ []
+take_next [] zero m rest e = absurd (cc e)
+take_next [] (suc k) m rest e = absurd (cc e)
+take_next (x ∷ ms) zero m rest e = cc e
+take_next (x ∷ ms) (suc k) m rest e = let h : suc k + 1 ≡ suc (k + 1) = omega arith in ap (λ n. take n (x ∷ ms)) h ∙ ap (λ l. x ∷ l) (take_next ms k m rest e)
+
+pub rest_next : {X : Type 0} (ms : List X) (k : ℕ) (m : X) (rest : List X) → drop k ms ≡ m ∷ rest → rest ≡ drop (k + 1) ms
+rest_next [] zero m rest e = absurd (cc e)
+rest_next [] (suc k) m rest e = absurd (cc e)
+rest_next (x ∷ ms) zero m rest e = cc e
+rest_next (x ∷ ms) (suc k) m rest e = let h : suc (k + 1) ≡ suc k + 1 = omega arith in rest_next ms k m rest e ∙ ap (λ n. drop n (x ∷ ms)) h
+
+pub within_next : {X : Type 0} (ms : List X) (k : ℕ) (m : X) (rest : List X) → drop k ms ≡ m ∷ rest → k < length ms
+within_next ms k m rest e = grind (arith, common_steps)
+
+pub at_next : {X : Type 0} (ms : List X) (k : ℕ) (m : X) (rest : List X) → drop k ms ≡ m ∷ rest → numbered_get ms (k + 1) ≡ Some m
+at_next [] zero m rest e = absurd (cc e)
+at_next [] (suc k) m rest e = absurd (cc e)
+at_next (x ∷ ms) zero m rest e = cc e
+at_next (x ∷ ms) (suc k) m rest e =
+    let there = at_next ms k m rest e in
+    let f : k + 1 ≡ suc k = omega arith in
+    let h : suc k + 1 ≡ suc (suc k) = omega arith in
+    ap (λ n. numbered_get (x ∷ ms) n) h ∙ sym (ap (λ n. numbered_get ms n) f) ∙ there
+
+enumerate_more : {X : Type 0} (n : ℕ) (xs : List X) (x : X) → enumerate_from n (xs ++ x ∷ []) ≡ enumerate_from n xs ++ (n + length xs, x) ∷ []
+enumerate_more n [] x = grind (arith, common_steps)
+enumerate_more n (y ∷ xs) x = grind (arith, common_steps, enumerate_more (n + 1) xs x)
+
+text_more : (a : Named) (spacing : ℕ) (ms : List (List Choice)) (m : List Choice) → text_of a spacing (ms ++ m ∷ []) ≡ text_of a spacing ms ++ printed_text a spacing (1 + length ms, m)
+text_more a spacing ms m =
+    let p = λ (nm : ℕ × List Choice). is_printed spacing nm.0 in
+    ap (λ l. flat_map (member_text a) (filter p l)) (enumerate_more 1 ms m)
+    ∙ ap (flat_map (member_text a)) (filter-append p (enumerate_from 1 ms) ((1 + length ms, m) ∷ []))
+    ∙ flat_map-append (member_text a) (filter p (enumerate_from 1 ms)) (filter p ((1 + length ms, m) ∷ []))
+    ∙ ap (λ l. text_of a spacing ms ++ l) (one (p (1 + length ms, m)) (member_text a (1 + length ms, m)) refl)
+  where
+    one : (b : Bool) (t : List ℕ) → t ≡ t → flat_map (member_text a) (cond b ((1 + length ms, m) ∷ []) []) ≡ cond b (member_text a (1 + length ms, m)) []
+    one true t e = append-nil (member_text a (1 + length ms, m))
+    one false t e = refl
+
+pub output_next : (a : Named) (spacing k : ℕ) (m : List Choice) (rest : List (List Choice)) → drop k (members a.puzzle) ≡ m ∷ rest
+    → output a spacing (k + 1) ≡ output a spacing k ++ printed_text a spacing (k + 1, m)
+output_next a spacing k m rest e =
+    let so_far : 1 + length (take k (members a.puzzle)) ≡ k + 1 = grind (arith, common_steps, within_next (members a.puzzle) k m rest e) in
+    ap (text_of a spacing) (take_next (members a.puzzle) k m rest e) ∙ text_more a spacing (take k (members a.puzzle)) m
+    ∙ ap (λ n. output a spacing k ++ printed_text a spacing (n, m)) so_far
+
+pub all_done : {X : Type 0} (ms : List X) (k : ℕ) → drop k ms ≡ [] → k ≤ length ms → k ≡ length ms
+all_done [] zero e h = refl
+all_done [] (suc k) e h = absurd (omega (arith, h))
+all_done (x ∷ ms) zero e h = absurd (cc e)
+all_done (x ∷ ms) (suc k) e h = ap suc (all_done ms k e (omega (arith, h)))
+
+pub output_all : (a : Named) (spacing k limit : ℕ) → k ≡ length (members a.puzzle) → k ≤ limit → output a spacing limit ≡ output a spacing k
+output_all a spacing k limit e h =
+    let same : take limit (members a.puzzle) ≡ take k (members a.puzzle) = grind (arith, common_steps) in
+    ap (text_of a spacing) same
+
+pub stopped : (a : Named) (spacing limit k : ℕ) (m : List Choice) (rest : List (List Choice)) (f g h : ℕ) (x y z : Option (List ℕ)) → drop k (members a.puzzle) ≡ m ∷ rest → k < limit
+    → g ≡ f → Appends x y (output a spacing k) → Rose g h × TookBeginning y z (printed_text a spacing (k + 1, m)) → StoppedAt a spacing limit (k + 1) (f, x) (h, z)
+stopped a spacing limit k m rest f g h x y z e below same so_far stop = by_case (is_printed spacing (k + 1)) refl stop.1
+  where
+    by_case : (b : Bool) → is_printed spacing (k + 1) ≡ b → TookBeginning y z (if b then member_text a (k + 1, m) else []) → StoppedAt a spacing limit (k + 1) (f, x) (h, z)
+    by_case true p t =
+        let back : k ≡ (k + 1) - 1 = omega arith in
+        record {
+          within = (omega arith, omega (arith, below));
+          member = m;
+          is_member = at_next (members a.puzzle) k m rest e;
+          printed = p;
+          failed = subst (λ n. Rose n h) same stop.0;
+          part = t.0;
+          proper = t.1;
+          taken = subst (λ n. Appends x z (output a spacing n ++ take t.0 (member_text a (k + 1, m)))) back (appends_more x y z (output a spacing k) (take t.0 (member_text a (k + 1, m))) so_far t.2);
+        }
+    by_case false p t = absurd (omega (arith, t.1))
+
+pub known_next : (p : Puzzle) (k : ℕ) (m : List Choice) (rest : List (List Choice)) → drop k (members p) ≡ m ∷ rest → All (IsKnownChoice p) m
+known_next p k m rest e =
+    All-head (All (IsKnownChoice p)) m rest (subst (All (All (IsKnownChoice p))) e (All-drop (All (IsKnownChoice p)) k (members p) (members_known p)))
+
+enumerate_append : {X : Type 0} (n : ℕ) (xs ys : List X) → enumerate_from n (xs ++ ys) ≡ enumerate_from n xs ++ enumerate_from (n + length xs) ys
+enumerate_append n [] ys = let e : n ≡ n + 0 = omega arith in ap (λ k. enumerate_from k ys) e
+enumerate_append n (x ∷ xs) ys =
+    let e : (n + 1) + length xs ≡ n + suc (length xs) = omega arith in
+    ap (λ l. (n, x) ∷ l) (enumerate_append (n + 1) xs ys ∙ ap (λ k. enumerate_from (n + 1) xs ++ enumerate_from k ys) e)
+
+-- the text of the members behind
+text_behind : (a : Named) (spacing : ℕ) (xs ys : List (List Choice)) → (tail : List ℕ) × (text_of a spacing (xs ++ ys) ≡ text_of a spacing xs ++ tail)
+text_behind a spacing xs ys =
+    let p = λ (nm : ℕ × List Choice). is_printed spacing nm.0 in
+    (flat_map (member_text a) (filter p (enumerate_from (1 + length xs) ys)),
+     ap (λ l. flat_map (member_text a) (filter p l)) (enumerate_append 1 xs ys)
+     ∙ ap (flat_map (member_text a)) (filter-append p (enumerate_from 1 xs) (enumerate_from (1 + length xs) ys))
+     ∙ flat_map-append (member_text a) (filter p (enumerate_from 1 xs)) (filter p (enumerate_from (1 + length xs) ys)))
+
+take_split : {X : Type 0} (ms : List X) (k limit : ℕ) → k ≤ limit → take limit ms ≡ take k ms ++ drop k (take limit ms)
+take_split ms zero limit h = refl
+take_split ms (suc k) zero h = absurd (omega (arith, h))
+take_split [] (suc k) (suc l) h = refl
+take_split (x ∷ ms) (suc k) (suc l) h = ap (λ r. x ∷ r) (take_split ms k l (omega (arith, h)))
+
+-- a smaller output stands before a larger one
+pub output_behind : (a : Named) (spacing k limit : ℕ) → k ≤ limit → (tail : List ℕ) × (output a spacing limit ≡ output a spacing k ++ tail)
+output_behind a spacing k limit h =
+    let behind = text_behind a spacing (take k (members a.puzzle)) (drop k (take limit (members a.puzzle))) in
+    let split : take limit (members a.puzzle) ≡ take k (members a.puzzle) ++ drop k (take limit (members a.puzzle)) = take_split (members a.puzzle) k limit h in
+    (behind.0, ap (text_of a spacing) split ∙ behind.1)
+
+take-front : (xs ys : List ℕ) → take (length xs) (xs ++ ys) ≡ xs
+take-front xs ys = grind (arith, common_steps)
+
+pub begins_front : (x y : Option (List ℕ)) (text front tail : List ℕ) → text ≡ front ++ tail → Appends x y front → Begins x y text
+begins_front x y text front tail e p = (length front, subst (Appends x y) (sym (ap (take (length front)) e ∙ take-front front tail)) p)
+
+pub begins_whole : (x y : Option (List ℕ)) (text : List ℕ) → Appends x y text → Begins x y text
+begins_whole x y text p = begins_front x y text text [] (sym (append-nil text)) p
+
+pub part_begins : (a : Named) (spacing limit k : ℕ) (x y : Option (List ℕ)) → k ≤ limit → Appends x y (output a spacing k) → Begins x y (output a spacing limit)
+part_begins a spacing limit k x y h p = let b = output_behind a spacing k limit h in begins_front x y (output a spacing limit) (output a spacing k) b.0 b.1 p
+
+drop_at : {X : Type 0} (ms : List X) (k : ℕ) (m : X) → slice_get ms k ≡ Some m → drop k ms ≡ m ∷ drop (k + 1) ms
+drop_at [] k m e = absurd (cc e)
+drop_at (x ∷ ms) zero m e = let f : x ≡ m = cc e in ap (λ y. y ∷ ms) f
+drop_at (x ∷ ms) (suc k) m e = let h : suc (k + 1) ≡ suc k + 1 = omega arith in drop_at ms k m e ∙ ap (λ n. m ∷ drop n (x ∷ ms)) h
+
+drop_before : {X : Type 0} (ms : List X) (t : ℕ) (m : X) → numbered_get ms t ≡ Some m → drop (t - 1) ms ≡ m ∷ drop ((t - 1) + 1) ms
+drop_before ms zero m e = absurd (cc e)
+drop_before ms (suc k) m e = let h : k ≡ suc k - 1 = omega arith in ap (λ n. drop n ms) (sym h) ∙ drop_at ms k m e ∙ ap (λ n. m ∷ drop (n + 1) ms) h
+
+pub stopped_begins : (a : Named) (spacing limit t f h : ℕ) (x z : Option (List ℕ)) → StoppedAt a spacing limit t (f, x) (h, z) → Begins x z (output a spacing limit)
+stopped_begins a spacing limit t f h x z s =
+    let text : List ℕ = member_text a (t, s.member) in
+    let again : (t - 1) + 1 ≡ t = omega (arith, s.within.0) in
+    let next : output a spacing ((t - 1) + 1) ≡ output a spacing (t - 1) ++ printed_text a spacing ((t - 1) + 1, s.member) =
+        output_next a spacing (t - 1) s.member (drop ((t - 1) + 1) (members a.puzzle)) (drop_before (members a.puzzle) t s.member s.is_member) in
+    let printed : printed_text a spacing ((t - 1) + 1, s.member) ≡ text = ap (λ n. printed_text a spacing (n, s.member)) again ∙ ap (λ b. if b then text else []) s.printed in
+    let b = output_behind a spacing ((t - 1) + 1) limit (omega (arith, again, s.within.1)) in
+    let cut : text ≡ take s.part text ++ drop s.part text = take_drop text s.part in
+    begins_front x z (output a spacing limit) (output a spacing (t - 1) ++ take s.part text) (drop s.part text ++ b.0)
+      (b.1 ∙ ap (λ l. l ++ b.0) (next ∙ ap (λ l. output a spacing (t - 1) ++ l) (printed ∙ cut)) ∙ regroup (output a spacing (t - 1)) (take s.part text) (drop s.part text) b.0) s.taken
+  where
+    take_drop : (text : List ℕ) (n : ℕ) → text ≡ take n text ++ drop n text
+    take_drop text n = grind (arith, common_steps)
+    regroup : (p q r s : List ℕ) → (p ++ (q ++ r)) ++ s ≡ (p ++ q) ++ (r ++ s)
+    regroup p q r s = grind (arith, common_steps)

@@ -1,0 +1,44 @@
+-- What follows when a sink takes one text after another.
+use Rattle.std.proofs.Common.{◌≡◌, ◌≢◌, ℕ, ◌+◌, ◌<◌, ◌≤◌, ◌-◌, List, [], ◌∷◌, ◌++◌, Option, None, Some, Ok, length, take, drop, refl, sym, ap, ◌∙◌, append_assoc, append-nil, arith, subst}
+use Rattle.std.proofs.lemmas.Bool.Decides.{nat_tests}
+use Rattle.xc_input.specs.Calls.{Rose, counted, is_failed_write}
+use Rattle.std.proofs.lemmas.Grind.{common_steps}
+use Rattle.std.specs.Io.KnownBytes.{Appends, Keeps}
+use Rattle.xc_list.specs.Texts.{TookBeginning}
+
+pub appends_none : (a : Option (List ℕ)) → Appends a a []
+appends_none None = tt
+appends_none (Some x) = grind (arith, common_steps)
+
+pub appends_more : (a b c : Option (List ℕ)) (xs ys : List ℕ) → Appends a b xs → Appends b c ys → Appends a c (xs ++ ys)
+appends_more None b c xs ys p q = tt
+appends_more (Some x) None c xs ys p q = absurd p
+appends_more (Some x) (Some y) None xs ys p q = absurd q
+appends_more (Some x) (Some y) (Some z) xs ys p q = q ∙ ap (λ l. l ++ ys) p ∙ append_assoc x xs ys
+
+pub appends_kept : (a b c : Option (List ℕ)) (xs : List ℕ) → Appends a b xs → Keeps b c → Appends a c xs
+appends_kept None b c xs p q = tt
+appends_kept (Some x) None c xs p q = absurd p
+appends_kept (Some x) (Some y) None xs p q = absurd q
+appends_kept (Some x) (Some y) (Some z) xs p q = q ∙ p
+
+-- the front that was taken, and then all of the rest but its own front
+pub front_more : (written rest : List ℕ) (n : ℕ) → n ≤ length rest
+    → written ++ rest ≡ (written ++ take n rest) ++ take (length rest - n) (drop n rest)
+front_more written rest n h = grind (arith, common_steps)
+
+-- a text of which some is left was not taken whole
+pub begun : (a b : Option (List ℕ)) (text written rest : List ℕ) → text ≡ written ++ rest → 0 < length rest → Appends a b written → TookBeginning a b text
+begun a b text written rest e h p =
+    (length written, grind (arith, common_steps), (let f : take (length written) text ≡ written = grind (arith, common_steps) in subst (Appends a b) (sym f) p))
+
+pub appends_zero : (a b c : Option (List ℕ)) (xs rest : List ℕ) (n : ℕ) → n ≡ 0 → Appends a b xs → Appends b c (take n rest) → Appends a c xs
+appends_zero a b c xs rest n e p q =
+    let f : xs ++ take n rest ≡ xs = ap (λ k. xs ++ take k rest) e ∙ append-nil xs in
+    subst (Appends a c) f (appends_more a b c xs (take n rest) p q)
+
+pub failed_write-Rose : (a b n : ℕ) (bytes : List ℕ) → n ≡ 0 → 0 < length bytes → b ≡ counted (is_failed_write {E = ℕ} (Ok n) bytes) a → Rose a b
+failed_write-Rose a b n bytes e h p = grind (arith, nat_tests)
+
+pub good_write-counts : (a b n : ℕ) (bytes : List ℕ) → n ≢ 0 → b ≡ counted (is_failed_write {E = ℕ} (Ok n) bytes) a → b ≡ a
+good_write-counts a b n bytes e p = grind (arith, nat_tests)

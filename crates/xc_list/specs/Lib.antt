@@ -1,0 +1,6 @@
+pub mod Known
+pub mod Messages
+pub mod Output
+pub mod Runs
+pub mod Settings
+pub mod Texts

@@ -1,0 +1,31 @@
+-- What is told beside a listing.
+use Rattle.std.specs.Prelude.{ℕ, List, ◌++◌, decimal, codes, ◌==◌, if◌then◌else◌}
+use Rattle.xc_list.specs.declared.run.End.{End}
+use Rattle.xc_list.specs.declared.words.WordFault.{WordFault}
+use Rattle.xc_list.specs.declared.words.WordFault.TheVariants.{Unknown, BadNumber, ZeroLimit}
+use Rattle.xc_list.specs.declared.run.End.TheVariants.{Done, Limit, WriteFailed}
+
+abbrev pub plural : ℕ → List ℕ
+plural n = if n == 1 then codes " solution" else codes " solutions"
+
+abbrev pub total_text : ℕ → List ℕ → List ℕ
+total_text n tail = codes "Altogether " ++ decimal n ++ plural n ++ tail
+
+abbrev pub failed_text : ℕ → List ℕ
+failed_text n = codes "Write failed at solution " ++ decimal n ++ codes ".\n"
+
+abbrev pub summary_text : End → List ℕ
+summary_text (Done n) = total_text n (codes ".\n")
+summary_text (Limit n) = total_text n (codes " (limit).\n")
+summary_text (WriteFailed n) = failed_text n
+
+abbrev pub warning_text : ℕ → List ℕ
+warning_text n = codes "Option ignored (no primary items): line " ++ decimal n ++ codes "\n"
+
+abbrev pub word_text : ℕ → List ℕ → List ℕ
+word_text n tail = codes "Word " ++ decimal n ++ tail
+
+abbrev pub word_fault_text : WordFault → List ℕ
+word_fault_text (Unknown n) = word_text n (codes ": unknown.\n")
+word_fault_text (BadNumber n) = word_text n (codes ": bad number.\n")
+word_fault_text (ZeroLimit n) = word_text n (codes ": limit must be at least 1.\n")

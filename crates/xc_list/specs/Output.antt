@@ -1,0 +1,49 @@
+-- The listing as text.
+use Rattle.std.specs.Prelude.{ℕ, zero, suc, ◌+◌, ◌-◌, ◌%◌, ◌<◌, ◌≤◌, ◌≡◌, Bool, true, false, not, ◌&&◌, ◌==◌, nat_lt, min, List, [], ◌∷◌, ◌++◌, length, filter, take, drop, flat_map, decimal, codes, Option, Some, None, if◌then◌else◌, unwrap_or}
+use Rattle.std.specs.List.{position_or_len, enumerate_from}
+use Rattle.xc_input.specs.declared.problem.Use.{Use}
+use Rattle.xc_search.specs.declared.choice.Choice.{Choice}
+use Rattle.xc_input.specs.Problem.{Puzzle, numbered_get, uses_of}
+use Rattle.xc_input.specs.Named.{Named}
+use Rattle.xc_search.specs.Cover.{members}
+
+-- the bytes numbered i, counted from 1; none where there are none
+abbrev pub bytes_at : List (List ℕ) → ℕ → List ℕ
+bytes_at texts i = unwrap_or (numbered_get texts i) []
+
+-- the uses of an option, cyclically from item i's
+abbrev pub from_item : ℕ → List Use → List Use
+from_item i us = drop (position_or_len (λ u. u.item == i) us) us ++ take (position_or_len (λ u. u.item == i) us) us
+
+-- a colour behind a colon; nothing for colour 0
+abbrev pub colour_text : List (List ℕ) → ℕ → List ℕ
+colour_text colours c = if c == 0 then [] else codes ":" ++ bytes_at colours c
+
+-- a space and a name, and a coloured use's colour
+abbrev pub use_text : Named → Use → List ℕ
+use_text a u = codes " " ++ bytes_at a.names u.item ++ colour_text a.colours u.colour
+
+abbrev pub body_text : Named → ℕ → Option ℕ → List ℕ
+body_text a i (Some o) = flat_map (use_text a) (from_item i (uses_of a.puzzle o))
+body_text a i None = codes " null " ++ bytes_at a.names i
+
+abbrev pub choice_text : Named → Choice → List ℕ
+choice_text a c =
+    body_text a c.item c.option ++ codes " (" ++ decimal c.k ++ codes " of " ++ decimal c.n ++ codes ")\n"
+
+-- the text of the member with this number
+abbrev pub member_text : Named → ℕ × List Choice → List ℕ
+member_text a nm = decimal nm.0 ++ codes ":\n" ++ flat_map (choice_text a) nm.1
+
+-- whether the member with this number is printed: its number is a multiple of the spacing; none is where that is 0
+abbrev pub is_printed : ℕ → ℕ → Bool
+is_printed zero n = false
+is_printed (suc s) n = n % suc s == 0
+
+-- the text of these members, numbered from 1, as far as they are printed
+abbrev pub text_of : Named → ℕ → List (List Choice) → List ℕ
+text_of a spacing ms = flat_map (member_text a) (filter (λ nm. is_printed spacing nm.0) (enumerate_from 1 ms))
+
+-- the text of the first members up to the limit that are printed
+abbrev pub output : Named → ℕ → ℕ → List ℕ
+output a spacing limit = text_of a spacing (take limit (members a.puzzle))

@@ -1,0 +1,41 @@
+-- What a run writes, and its end.
+use Rattle.std.specs.Prelude.{ℕ, ◌+◌, ◌-◌, ◌<◌, ◌≤◌, ◌≡◌, true, List, [], ◌++◌, length, take, Option, Some, if◌then◌else◌}
+use Rattle.std.specs.Io.KnownBytes.{Appends}
+use Rattle.xc_input.specs.Calls.{Rose}
+use Rattle.xc_list.specs.Texts.{TookBeginning}
+use Rattle.xc_search.specs.declared.choice.Choice.{Choice}
+use Rattle.xc_input.specs.Problem.{numbered_get}
+use Rattle.xc_search.specs.Cover.{members}
+use Rattle.xc_input.specs.Named.{Named}
+use Rattle.xc_list.specs.Output.{member_text, is_printed, output}
+use Rattle.xc_list.specs.declared.run.End.{End}
+use Rattle.xc_list.specs.declared.run.End.TheVariants.{Done, Limit, WriteFailed}
+
+-- the text of the member with this number, if it is printed
+abbrev pub printed_text : Named → ℕ → ℕ × List Choice → List ℕ
+printed_text a spacing nm = if is_printed spacing nm.0 then member_text a nm else []
+
+-- No failure came, and the text was taken.
+abbrev pub Took : ℕ × Option (List ℕ) → ℕ × Option (List ℕ) → List ℕ → Type 0
+Took old new text = (new.0 ≡ old.0) × Appends old.1 new.1 text
+
+-- The sink failed at a member that is printed: it took the texts of those printed before whole, and a proper beginning of this one's.
+pub record StoppedAt (a : Named) (spacing limit t : ℕ) (old new : ℕ × Option (List ℕ)) : Type 0 where
+  pub within : (1 ≤ t) × (t ≤ limit)
+  pub member : List Choice
+  pub is_member : numbered_get (members a.puzzle) t ≡ Some member
+  pub printed : is_printed spacing t ≡ true
+  pub failed : Rose old.0 new.0
+  pub part : ℕ
+  pub proper : part < length (member_text a (t, member))
+  pub taken : Appends old.1 new.1 (output a spacing (t - 1) ++ take part (member_text a (t, member)))
+
+-- What was written up to this end, from one state of the sink to another
+abbrev pub IsRun : Named → ℕ → ℕ → ℕ × Option (List ℕ) → ℕ × Option (List ℕ) → End → Type 0
+IsRun a spacing limit old new (Done n) = (n ≡ length (members a.puzzle)) × (n < limit) × Took old new (output a spacing limit)
+IsRun a spacing limit old new (Limit n) = (n ≡ limit) × (limit ≤ length (members a.puzzle)) × Took old new (output a spacing limit)
+IsRun a spacing limit old new (WriteFailed t) = StoppedAt a spacing limit t old new
+
+-- Where memory was wanting: the texts of the printed ones among the first members
+abbrev pub IsPart : Named → ℕ → ℕ → ℕ × Option (List ℕ) → ℕ × Option (List ℕ) → Type 0
+IsPart a spacing limit old new = (k : ℕ) × (k ≤ limit) × Took old new (output a spacing k)

@@ -1,0 +1,84 @@
+//! What is told beside a listing.
+ghost use Rattle.std.specs.Prelude.{◌≡◌, ℕ, ◌+◌, ◌-◌, ◌<◌, ◌≤◌, ◌++◌, flat_map, decimal, codes};
+ghost use Rattle.xc_list.specs.Texts.{Writes};
+ghost use Rattle.xc_list.specs.Messages.{plural, total_text, failed_text, summary_text, warning_text, word_text, word_fault_text};
+
+use crate::run::End;
+use crate::sink::Sink;
+use crate::text::{SinkFault, write_all, write_number};
+use crate::words::WordFault;
+
+fn write_plural<S: Sink>(n: u64, sink: &mut S) -> Result<(), SinkFault>
+    ensures { Writes (S.failures sink.old, S.taken sink.old) (S.failures sink.new, S.taken sink.new) result (plural n) }
+{
+    if n == 1 {
+        write_all(sink, b" solution")
+    } else {
+        write_all(sink, b" solutions")
+    }
+}
+
+fn write_total<S: Sink>(n: u64, tail: &[u8], sink: &mut S) -> Result<(), SinkFault>
+    ensures { Writes (S.failures sink.old, S.taken sink.old) (S.failures sink.new, S.taken sink.new) result (total_text n tail.now) }
+{
+    write_all(sink, b"Altogether ")?;
+    write_number(sink, n)?;
+    write_plural(n, sink)?;
+    write_all(sink, tail)
+}
+
+fn write_failed<S: Sink>(n: u64, sink: &mut S) -> Result<(), SinkFault>
+    ensures { Writes (S.failures sink.old, S.taken sink.old) (S.failures sink.new, S.taken sink.new) result (failed_text n) }
+{
+    write_all(sink, b"Write failed at solution ")?;
+    write_number(sink, n)?;
+    write_all(sink, b".\n")
+}
+
+/// Writes how a run ended.
+pub fn summary<S: Sink>(end: &End, sink: &mut S) -> Result<(), SinkFault>
+    ensures { Writes (S.failures sink.old, S.taken sink.old) (S.failures sink.new, S.taken sink.new) result (summary_text end.now) }
+{
+    match *end {
+        End::Done(n) => write_total(n, b".\n", sink),
+        End::Limit(n) => write_total(n, b" (limit).\n", sink),
+        End::WriteFailed(n) => write_failed(n, sink),
+    }
+}
+
+fn write_warning<S: Sink>(line: u64, sink: &mut S) -> Result<(), SinkFault>
+    ensures { Writes (S.failures sink.old, S.taken sink.old) (S.failures sink.new, S.taken sink.new) result (warning_text line) }
+{
+    write_all(sink, b"Option ignored (no primary items): line ")?;
+    write_number(sink, line)?;
+    write_all(sink, b"\n")
+}
+
+/// Writes a line for each ignored option.
+pub fn warnings<S: Sink>(ignored: &[u64], sink: &mut S) -> Result<(), SinkFault>
+    ensures { Writes (S.failures sink.old, S.taken sink.old) (S.failures sink.new, S.taken sink.new) result (flat_map warning_text ignored.now) }
+{
+    for line in ignored {
+        write_warning(*line, sink)?;
+    }
+    Ok(())
+}
+
+fn write_word<S: Sink>(place: usize, tail: &[u8], sink: &mut S) -> Result<(), SinkFault>
+    ensures { Writes (S.failures sink.old, S.taken sink.old) (S.failures sink.new, S.taken sink.new) result (word_text place tail.now) }
+{
+    write_all(sink, b"Word ")?;
+    write_number(sink, place as u64)?;
+    write_all(sink, tail)
+}
+
+/// Writes which word is faulty.
+pub fn word_fault<S: Sink>(fault: &WordFault, sink: &mut S) -> Result<(), SinkFault>
+    ensures { Writes (S.failures sink.old, S.taken sink.old) (S.failures sink.new, S.taken sink.new) result (word_fault_text fault.now) }
+{
+    match *fault {
+        WordFault::Unknown(n) => write_word(n, b": unknown.\n", sink),
+        WordFault::BadNumber(n) => write_word(n, b": bad number.\n", sink),
+        WordFault::ZeroLimit(n) => write_word(n, b": limit must be at least 1.\n", sink),
+    }
+}

@@ -1,0 +1,152 @@
+//! Solutions as text.
+ghost use Rattle.std.specs.Prelude.{◌≡◌, ℕ, ◌+◌, ◌-◌, ◌<◌, ◌≤◌, ◌++◌, ◌==◌, true, length, All, flat_map, drop, take, is_some, codes, decimal};
+ghost use Rattle.std.specs.List.{position_or_len};
+ghost use Rattle.xc_list.specs.Texts.{Writes};
+ghost use Rattle.xc_input.specs.Problem.{IsItem, IsPrimary, option_count, uses_of, colour_in};
+ghost use Rattle.xc_input.specs.Named.{IsKnownUse};
+ghost use Rattle.xc_list.specs.Output.{bytes_at, colour_text, use_text, from_item, body_text, choice_text, member_text};
+ghost use Rattle.xc_list.specs.Known.{IsKnownChoice};
+
+use crate::sink::Sink;
+use crate::text::{SinkFault, write_all, write_number};
+use xc_input::{Problem, Use};
+use xc_search::Choice;
+
+fn name_of<'a>(problem: &'a Problem, i: u32) -> &'a [u8]
+    requires { IsItem problem.now.puzzle i }
+    ensures { result.now ≡ bytes_at problem.now.names i }
+{
+    problem.item(i).name.as_slice()
+}
+
+fn colour_of<'a>(problem: &'a Problem, c: u32) -> &'a [u8]
+    requires { (1 ≤ c) × (c ≤ length problem.now.colours) }
+    ensures { result.now ≡ bytes_at problem.now.colours c }
+{
+    problem.colour(c)
+}
+
+fn uses_at<'a>(problem: &'a Problem, o: u32) -> &'a [Use]
+    requires { (1 ≤ o) × (o ≤ option_count problem.now.puzzle) }
+    ensures value { result.now ≡ uses_of problem.now.puzzle o }
+    ensures known { All (IsKnownUse problem.now) result.now }
+{
+    problem.option(o)
+}
+
+fn write_name<S: Sink>(problem: &Problem, i: u32, sink: &mut S) -> Result<(), SinkFault>
+    requires { IsItem problem.now.puzzle i }
+    ensures { Writes (S.failures sink.old, S.taken sink.old) (S.failures sink.new, S.taken sink.new) result (bytes_at problem.now.names i) }
+{
+    write_all(sink, name_of(problem, i))
+}
+
+fn write_colour<S: Sink>(problem: &Problem, c: u32, sink: &mut S) -> Result<(), SinkFault>
+    requires { c ≤ length problem.now.colours }
+    ensures { Writes (S.failures sink.old, S.taken sink.old) (S.failures sink.new, S.taken sink.new) result (colour_text problem.now.colours c) }
+{
+    if c == 0 {
+        return Ok(());
+    }
+    write_all(sink, b":")?;
+    write_all(sink, colour_of(problem, c))
+}
+
+fn write_use<S: Sink>(problem: &Problem, u: &Use, sink: &mut S) -> Result<(), SinkFault>
+    requires { IsKnownUse problem.now u.now }
+    ensures { Writes (S.failures sink.old, S.taken sink.old) (S.failures sink.new, S.taken sink.new) result (use_text problem.now u.now) }
+{
+    write_all(sink, b" ")?;
+    write_name(problem, u.item, sink)?;
+    write_colour(problem, u.colour, sink)
+}
+
+fn write_uses<S: Sink>(problem: &Problem, uses: &[Use], sink: &mut S) -> Result<(), SinkFault>
+    requires { All (IsKnownUse problem.now) uses.now }
+    ensures { Writes (S.failures sink.old, S.taken sink.old) (S.failures sink.new, S.taken sink.new) result (flat_map (use_text problem.now) uses.now) }
+{
+    for u in uses {
+        write_use(problem, u, sink)?;
+    }
+    Ok(())
+}
+
+/// The place of an item's use.
+fn place_of(uses: &[Use], item: u32) -> usize
+    ensures place { result ≡ position_or_len (λ u. u.item == item) uses.now }
+    ensures within { result ≤ length uses.now }
+{
+    for (place, u) in uses.iter().enumerate() {
+        if u.item == item {
+            return place;
+        }
+    }
+    uses.len()
+}
+
+/// Writes an option's uses, cyclically from an item's.
+fn write_option<S: Sink>(problem: &Problem, item: u32, o: u32, sink: &mut S) -> Result<(), SinkFault>
+    requires { (1 ≤ o) × (o ≤ option_count problem.now.puzzle) }
+    ensures { Writes (S.failures sink.old, S.taken sink.old) (S.failures sink.new, S.taken sink.new) result (flat_map (use_text problem.now) (from_item item (uses_of problem.now.puzzle o))) }
+{
+    let uses = uses_at(problem, o);
+    let (before, after) = uses.split_at(place_of(uses, item));
+    write_uses(problem, after, sink)?;
+    write_uses(problem, before, sink)
+}
+
+/// Writes that no option is taken.
+fn write_none<S: Sink>(problem: &Problem, item: u32, sink: &mut S) -> Result<(), SinkFault>
+    requires { IsItem problem.now.puzzle item }
+    ensures { Writes (S.failures sink.old, S.taken sink.old) (S.failures sink.new, S.taken sink.new) result (codes " null " ++ bytes_at problem.now.names item) }
+{
+    write_all(sink, b" null ")?;
+    write_name(problem, item, sink)
+}
+
+fn write_body<S: Sink>(problem: &Problem, choice: &Choice, sink: &mut S) -> Result<(), SinkFault>
+    requires { IsKnownChoice problem.now.puzzle choice.now }
+    ensures { Writes (S.failures sink.old, S.taken sink.old) (S.failures sink.new, S.taken sink.new) result (body_text problem.now choice.now.item choice.now.option) }
+{
+    match choice.option {
+        Some(o) => write_option(problem, choice.item, o, sink),
+        None => write_none(problem, choice.item, sink),
+    }
+}
+
+fn write_choice<S: Sink>(problem: &Problem, choice: &Choice, sink: &mut S) -> Result<(), SinkFault>
+    requires { IsKnownChoice problem.now.puzzle choice.now }
+    ensures { Writes (S.failures sink.old, S.taken sink.old) (S.failures sink.new, S.taken sink.new) result (choice_text problem.now choice.now) }
+{
+    write_body(problem, choice, sink)?;
+    write_all(sink, b" (")?;
+    write_number(sink, choice.k as u64)?;
+    write_all(sink, b" of ")?;
+    write_number(sink, choice.n as u64)?;
+    write_all(sink, b")\n")
+}
+
+fn write_choices<S: Sink>(problem: &Problem, choices: &[Choice], sink: &mut S) -> Result<(), SinkFault>
+    requires { All (IsKnownChoice problem.now.puzzle) choices.now }
+    ensures { Writes (S.failures sink.old, S.taken sink.old) (S.failures sink.new, S.taken sink.new) result (flat_map (choice_text problem.now) choices.now) }
+{
+    for choice in choices {
+        write_choice(problem, choice, sink)?;
+    }
+    Ok(())
+}
+
+/// Writes a solution: its number, and a line for each choice.
+pub fn write_solution<S: Sink>(
+    number: u64,
+    choices: &[Choice],
+    problem: &Problem,
+    sink: &mut S,
+) -> Result<(), SinkFault>
+    requires { All (IsKnownChoice problem.now.puzzle) choices.now }
+    ensures { Writes (S.failures sink.old, S.taken sink.old) (S.failures sink.new, S.taken sink.new) result (member_text problem.now (number, choices.now)) }
+{
+    write_number(sink, number)?;
+    write_all(sink, b":\n")?;
+    write_choices(problem, choices, sink)
+}

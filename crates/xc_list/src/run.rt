@@ -1,0 +1,108 @@
+//! A run over a search.
+ghost use Rattle.std.specs.Prelude.{◌≡◌, ℕ, ◌+◌, ◌-◌, ◌<◌, ◌≤◌, [], All, MatchResult};
+ghost use Rattle.xc_list.specs.Texts.{Writes};
+ghost use Rattle.xc_search.specs.Cover.{members};
+ghost use Rattle.xc_list.specs.Output.{is_printed};
+ghost use Rattle.xc_list.specs.Known.{IsKnownChoice};
+ghost use Rattle.xc_list.specs.Runs.{printed_text, IsRun, IsPart};
+
+use crate::print::write_solution;
+use crate::sink::Sink;
+use crate::text::SinkFault;
+use crate::words::Words;
+use std::alloc::Global;
+use xc_dance::{Dance, Memory};
+use xc_input::Problem;
+use xc_search::{Choice, Search, Step};
+
+/// How a run ended, and at how many solutions.
+#[derive(Clone, Copy, Debug, PartialEq, Eq)]
+pub enum End {
+    /// There are no more.
+    Done(u64),
+    /// The limit was met.
+    Limit(u64),
+    /// The text of this solution was not taken whole.
+    WriteFailed(u64),
+}
+
+/// Whether the solution with this number is printed.
+fn is_printed(spacing: u64, number: u64) -> bool
+    ensures { result ≡ is_printed spacing number }
+{
+    spacing != 0 && number % spacing == 0
+}
+
+/// Writes a solution if its number is one to print.
+fn write_printed<S: Sink>(
+    spacing: u64,
+    number: u64,
+    choices: &[Choice],
+    problem: &Problem,
+    sink: &mut S,
+) -> Result<(), SinkFault>
+    requires { All (IsKnownChoice problem.now.puzzle) choices.now }
+    ensures { Writes (S.failures sink.old, S.taken sink.old) (S.failures sink.new, S.taken sink.new) result (printed_text problem.now spacing (number, choices.now)) }
+{
+    if is_printed(spacing, number) {
+        write_solution(number, choices, problem, sink)
+    } else {
+        Ok(())
+    }
+}
+
+/// Writes what a search has to come, up to the limit.
+fn write_members<'a, D: Dance, S: Sink>(
+    search: &mut Search<'a, D>,
+    problem: &Problem,
+    words: &Words,
+    sink: &mut S,
+) -> Result<End, Memory>
+    requires puzzle { search.old.puzzle ≡ problem.now.puzzle }
+    requires all { search.old.to_come ≡ members problem.now.puzzle }
+    ensures puzzle { search.new.puzzle ≡ search.old.puzzle }
+    ensures room { search.new.room ≡ search.old.room }
+    ensures run { MatchResult result
+        (λ e. IsRun problem.now words.now.spacing words.now.limit (S.failures sink.old, S.taken sink.old) (S.failures sink.new, S.taken sink.new) e)
+        (λ _. IsPart problem.now words.now.spacing words.now.limit (S.failures sink.old, S.taken sink.old) (S.failures sink.new, S.taken sink.new)) }
+{
+    for found in 0..words.limit {
+        match search.next() {
+            Step::Solution => {
+                let number = found + 1;
+                match write_printed(words.spacing, number, search.choices(), problem, sink) {
+                    Ok(()) => {}
+                    Err(_) => return Ok(End::WriteFailed(number)),
+                }
+            }
+            Step::Done => return Ok(End::Done(found)),
+            Step::Memory => return Err(Memory),
+        }
+    }
+    Ok(End::Limit(words.limit))
+}
+
+/// Searches, writes the solutions, unwinds, and gives the dance back with no moves.
+pub fn run_over<D: Dance, S: Sink>(
+    alloc: Global,
+    dance: D,
+    problem: &Problem,
+    words: Words,
+    sink: &mut S,
+) -> (D, Result<End, Memory>)
+    requires same { D.problem dance ≡ problem.now.puzzle }
+    requires none { D.trail dance ≡ [] }
+    ensures dance { (D.problem result.0 ≡ problem.now.puzzle) × (D.trail result.0 ≡ []) }
+    ensures room { D.limit result.0 ≡ D.limit dance }
+    ensures run { MatchResult result.1
+        (λ e. IsRun problem.now words.spacing words.limit (S.failures sink.old, S.taken sink.old) (S.failures sink.new, S.taken sink.new) e)
+        (λ _. IsPart problem.now words.spacing words.limit (S.failures sink.old, S.taken sink.old) (S.failures sink.new, S.taken sink.new)) }
+{
+    match Search::new(alloc, dance, problem) {
+        Ok(mut search) => {
+            let end = write_members(&mut search, problem, &words, sink);
+            (search.close(), end)
+        }
+        Err((dance, memory)) => (dance, Err(memory)),
+    }
+}

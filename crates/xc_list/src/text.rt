@@ -1,0 +1,35 @@
+//! Texts on a sink.
+ghost use Rattle.std.specs.Prelude.{◌++◌, decimal, codes};
+ghost use Rattle.xc_list.specs.Texts.{Writes};
+
+use crate::sink::Sink;
+use itoa::Buffer;
+
+/// What can go wrong with a sink.
+#[derive(Clone, Copy, Debug, PartialEq, Eq)]
+pub enum SinkFault {
+    Failed,
+}
+
+/// Writes all bytes, or a beginning of them where the sink fails.
+pub fn write_all<S: Sink>(sink: &mut S, bytes: &[u8]) -> Result<(), SinkFault>
+    ensures { Writes (S.failures sink.old, S.taken sink.old) (S.failures sink.new, S.taken sink.new) result bytes.now }
+{
+    let mut rest = bytes;
+    while !rest.is_empty() {
+        match sink.write(rest) {
+            Ok(0) => return Err(SinkFault::Failed),
+            Ok(n) => rest = &rest[n..],
+            Err(_) => return Err(SinkFault::Failed),
+        }
+    }
+    Ok(())
+}
+
+/// Writes a number in decimal.
+pub fn write_number<S: Sink>(sink: &mut S, n: u64) -> Result<(), SinkFault>
+    ensures { Writes (S.failures sink.old, S.taken sink.old) (S.failures sink.new, S.taken sink.new) result (decimal n) }
+{
+    let mut buffer = Buffer::new();
+    write_all(sink, buffer.format(n).as_bytes())
+}

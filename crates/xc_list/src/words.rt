@@ -1,0 +1,83 @@
+//! The words of a command line.
+ghost use Rattle.std.specs.Prelude.{◌≡◌, ℕ, ◌+◌, ◌-◌, ◌<◌, ◌≤◌, map, length};
+ghost use Rattle.xc_list.specs.Settings.{number_in, read_word, read_words};
+
+/// What is asked for: print each solution whose number is a multiple of `spacing`, none where that
+/// is 0, and stop after `limit` solutions.
+#[derive(Clone, Copy, Debug, PartialEq, Eq)]
+pub struct Words {
+    pub spacing: u64,
+    pub limit: u64,
+}
+
+/// What is wrong with a word, with its place from 1.
+#[derive(Clone, Copy, Debug, PartialEq, Eq)]
+pub enum WordFault {
+    Unknown(usize),
+    BadNumber(usize),
+    ZeroLimit(usize),
+}
+
+/// The number that stands here in decimal.
+fn number_in(bytes: &[u8]) -> Option<u64>
+    ensures { result ≡ number_in bytes.now }
+{
+    if bytes.is_empty() {
+        return None;
+    }
+    let mut value: u64 = 0;
+    for b in bytes {
+        if *b < b'0' || b'9' < *b {
+            return None;
+        }
+        let digit = (*b - b'0') as u64;
+        if (u64::MAX - digit) / 10 < value {
+            return None;
+        }
+        value = value * 10 + digit;
+    }
+    Some(value)
+}
+
+/// What one word makes of the words before it.
+fn read_word(place: usize, words: Words, word: &[u8]) -> Result<Words, WordFault>
+    ensures { result ≡ read_word place words word.now }
+{
+    match word {
+        [b'm', number @ ..] => match number_in(number) {
+            None => Err(WordFault::BadNumber(place)),
+            Some(spacing) => Ok(Words {
+                spacing,
+                limit: words.limit,
+            }),
+        },
+        [b't', number @ ..] => match number_in(number) {
+            None => Err(WordFault::BadNumber(place)),
+            Some(0) => Err(WordFault::ZeroLimit(place)),
+            Some(limit) => Ok(Words {
+                spacing: words.spacing,
+                limit,
+            }),
+        },
+        _ => Err(WordFault::Unknown(place)),
+    }
+}
+
+impl Words {
+    /// What the words ask for, or the first faulty one.
+    pub fn read(words: &[Vec<u8>]) -> Result<Words, WordFault>
+        ensures { result ≡ read_words (map (λ w. w.items) words.now) }
+    {
+        let mut asked = Words {
+            spacing: 0,
+            limit: u64::MAX,
+        };
+        for (before, word) in words.iter().enumerate() {
+            match read_word(before + 1, asked, word.as_slice()) {
+                Ok(next) => asked = next,
+                Err(fault) => return Err(fault),
+            }
+        }
+        Ok(asked)
+    }
+}
