@@ -1,1 +1,9 @@
 pub mod ListLemmas
+pub mod Removal
+pub mod Marks
+pub mod Copied
+pub mod StateLemmas
+pub mod OptionsLost
+pub mod Shortened
+pub mod Filled
+pub mod NextPlaces

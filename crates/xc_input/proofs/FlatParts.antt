@@ -1,5 +1,8 @@
 -- Options kept flat.
-use Rattle.std.proofs.Common.{ℕ, zero, suc, ◌≡◌, ◌+◌, ◌-◌, ◌<◌, ◌≤◌, List, [], ◌∷◌, length, map, take, get_or, Some, refl, sym, ap, ap₂, ◌∙◌, arith}
+use Rattle.std.proofs.Common.{ℕ, zero, suc, ◌≡◌, ◌+◌, ◌-◌, ◌<◌, ◌≤◌, List, [], ◌∷◌, ◌++◌, length, map, take, drop, get_or, sum_by, Some, refl, sym, ap, ap₂, ◌∙◌, arith, length-append, length-drop}
+use Rattle.std.proofs.lemmas.List.{take-append-le, drop-append-le, length-take-le}
+use Rattle.std.proofs.lemmas.List.Sums.{sum_by-cons}
+use Rattle.std.proofs.Math.Seq.{drop-append_seam, take-length}
 use Rattle.std.proofs.lemmas.Grind.{get_or_default_zero}
 use Rattle.std.specs.Prelude.{slice_get, slice_range}
 use Rattle.xc_input.specs.Flat.{pieces, AreStarts}
@@ -59,3 +62,51 @@ option_part starts us (suc k) a b h l m e f =
     let to : b ≡ get_or starts (suc k) 0 = f ∙ get_or_default_zero starts (suc k) b m in
     let range = part_range starts (length us) k a b h two from to in
     (range.0, range.1, piece_at starts us k two ∙ ap₂ (λ x y. Some (slice_range us x y)) (sym from) (sym to))
+
+pub slice-front : {X : Type 0} (us vs : List X) (a b : ℕ) → a ≤ b → b ≤ length us → slice_range (us ++ vs) a b ≡ slice_range us a b
+slice-front us vs a b h l =
+    let whole : length (drop a us) ≡ length us - a = length-drop a us in
+    let room : b - a ≤ length (drop a us) = omega arith in
+    ap (take (b - a)) (drop-append-le a us vs (omega arith)) ∙ take-append-le (b - a) (drop a us) vs room
+
+slice-back : {X : Type 0} (us vs : List X) (a n : ℕ) → a ≡ length us → n ≡ length us + length vs → slice_range (us ++ vs) a n ≡ vs
+slice-back us vs a n e f =
+    let count : n - a ≡ length vs = omega arith in
+    (λ i. take (count i) (drop (e i) (us ++ vs))) ∙ ap (take (length vs)) (drop-append_seam us vs) ∙ take-length vs
+
+starts-low : (a : ℕ) (starts : List ℕ) (n : ℕ) → AreStarts (a ∷ starts) n → a ≤ n
+starts-low a [] n h = omega (arith, h)
+starts-low a (b ∷ starts) n h = let later = starts-low b starts n h.1 in omega (arith, h.0, later)
+
+-- one part more
+pub pieces-snoc : {X : Type 0} (a : ℕ) (starts : List ℕ) (us vs : List X) (n : ℕ) → AreStarts (a ∷ starts) (length us) → n ≡ length us + length vs
+    → AreStarts (a ∷ starts ++ n ∷ []) (length (us ++ vs)) × (pieces (a ∷ starts ++ n ∷ []) (us ++ vs) ≡ pieces (a ∷ starts) us ++ vs ∷ [])
+pieces-snoc a [] us vs n h e =
+    let all : length (us ++ vs) ≡ length us + length vs = length-append us vs in
+    ((omega (arith, h, e), e ∙ sym all), ap (λ p. p ∷ []) (slice-back us vs a n h e))
+pieces-snoc a (b ∷ starts) us vs n h e =
+    let later = pieces-snoc b starts us vs n h.1 e in
+    let same = slice-front us vs a b h.0 (starts-low b starts (length us) h.1) in
+    ((h.0, later.0), λ i. same i ∷ later.1 i)
+
+-- the parts have as many elements as stand behind the first start
+pub pieces-total : {X : Type 0} (a : ℕ) (starts : List ℕ) (us : List X) → AreStarts (a ∷ starts) (length us) → sum_by (λ p. length p) (pieces (a ∷ starts) us) + a ≡ length us
+pieces-total a [] us h = omega (arith, h)
+pieces-total a (b ∷ starts) us h =
+    let later : sum_by (λ p. length p) (pieces (b ∷ starts) us) + b ≡ length us = pieces-total b starts us h.1 in
+    let split = sum_by-cons (λ (p : List _). length p) (slice_range us a b) (pieces (b ∷ starts) us) in
+    let rest : length (drop a us) ≡ length us - a = length-drop a us in
+    let low : b ≤ length us = starts-low b starts (length us) h.1 in
+    let part : length (slice_range us a b) ≡ b - a = length-take-le (b - a) (drop a us) (omega (arith, rest, low)) in
+    let rise : a ≤ b = h.0 in
+    omega (arith, later, split, part, rise)
+
+pub slice_get-map-some : {X Y : Type 0} (f : X → Y) (xs : List X) (i : ℕ) (x : X) → Some x ≡ slice_get xs i → slice_get (map f xs) i ≡ Some (f x)
+slice_get-map-some f [] i x e = absurd (cc)
+slice_get-map-some f (y ∷ xs) zero x e = let same : x ≡ y = cc in ap (λ z. Some (f z)) (sym same)
+slice_get-map-some f (y ∷ xs) (suc i) x e = slice_get-map-some f xs i x e
+
+-- the part between the ends of two options, which were read
+pub end_part : {X : Type 0} (ends : List ℕ) (us : List X) (o a b : ℕ) → AreStarts (0 ∷ ends) (length us) → (1 ≤ o) × (o ≤ length ends) → a ≡ get_or (0 ∷ ends) (o - 1) a → b ≡ get_or (0 ∷ ends) o b →
+    (a ≤ b) × (b ≤ length us) × (numbered_get (pieces (0 ∷ ends) us) o ≡ Some (slice_range us a b))
+end_part ends us o a b h known e f = option_part (0 ∷ ends) us o a b h known.0 (omega (arith, known.1)) e f

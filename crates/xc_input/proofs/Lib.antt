@@ -1,2 +1,17 @@
 pub mod FlatParts
 pub mod Known
+pub mod SheetValidity
+pub mod TokenLemmas
+pub mod FaultLemmas
+pub mod OptionLemmas
+pub mod DraftLemmas
+pub mod ReadLemmas
+pub mod GrammarLemmas
+pub mod LawLemmas
+pub mod ValidLemmas
+pub mod MarkLemmas
+pub mod UnbrokenLemmas
+pub mod SoundLemmas
+pub mod FinishLemmas
+pub mod LineLemmas
+pub mod SourceLemmas

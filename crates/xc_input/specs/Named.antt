@@ -1,7 +1,10 @@
 -- A problem with the names of its items and the bytes of its colours.
-use Rattle.std.specs.Prelude.{ℕ, ◌≤◌, List, All, length}
+use Rattle.std.specs.Prelude.{ℕ, ◌≤◌, ◌≡◌, ◌≢◌, false, List, All, AllPairs, length}
 use Rattle.xc_input.specs.declared.problem.Use.{Use}
-use Rattle.xc_input.specs.Problem.{Puzzle, IsItem}
+use Rattle.xc_input.specs.Problem.{Puzzle, IsItem, item_count, IsValid, IsWithinLimits}
+use Rattle.std.specs.List.{list_any}
+use Rattle.xc_input.specs.Tokens.{is_space}
+use Rattle.xc_input.specs.Words.{has}
 
 pub record Named : Type 0 where
   pub names : List (List ℕ)
@@ -15,3 +18,38 @@ AreColoursKnown colours options = All (λ us. All (λ u. u.colour ≤ length col
 -- a use whose name and colour can be told
 abbrev pub IsKnownUse : Named → Use → Type 0
 IsKnownUse a u = IsItem a.puzzle u.item × (u.colour ≤ length a.colours)
+
+-- 1 to 32 bytes without a colon or a bar
+pub record IsName (name : List ℕ) : Type 0 where
+  pub some : 1 ≤ length name
+  pub short : length name ≤ 32
+  pub no_colon : has 58 name ≡ false
+  pub no_bar : has 124 name ≡ false
+
+-- 1 to 8 bytes
+abbrev pub IsColour : List ℕ → Type 0
+IsColour colour = (1 ≤ length colour) × (length colour ≤ 8)
+
+-- bytes that no white space, NUL byte or line feed breaks
+pub record IsUnbroken (bytes : List ℕ) : Type 0 where
+  pub no_space : list_any is_space bytes ≡ false
+  pub no_nul : has 0 bytes ≡ false
+  pub no_feed : has 10 bytes ≡ false
+
+-- each item has a name of its own, and no colour stands twice
+pub record IsWellNamed (a : Named) : Type 0 where
+  pub count : length a.names ≡ item_count a.puzzle
+  pub names : All IsName a.names
+  pub unbroken_names : All IsUnbroken a.names
+  pub distinct : AllPairs (λ x y. x ≢ y) a.names
+  pub colours : All IsColour a.colours
+  pub unbroken_colours : All IsUnbroken a.colours
+  pub distinct_colours : AllPairs (λ x y. x ≢ y) a.colours
+
+-- what holds of each problem that was read
+pub record IsSound (a : Named) : Type 0 where
+  pub valid : IsValid a.puzzle
+  pub limits : IsWithinLimits a.puzzle
+  pub coloured : AreColoursKnown a.colours a.puzzle.options
+  pub few_colours : length a.colours ≤ 10000000
+  pub named : IsWellNamed a

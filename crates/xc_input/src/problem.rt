@@ -1,9 +1,12 @@
 //! A problem as it was read.
-ghost use Rattle.std.specs.Prelude.{◌≡◌, ℕ, ◌+◌, ◌-◌, ◌<◌, ◌≤◌, length, slice_get, slice_range, Some, All};
-ghost use Rattle.xc_input.specs.Problem.{Puzzle, IsValid, IsWithinLimits, primary_count, item_count, option_count, IsItem, low_at, high_at, uses_of, numbered_get, bounds_at, IsPrimary};
-ghost use Rattle.xc_input.specs.Flat.{bounds_of};
-ghost use Rattle.xc_input.specs.Named.{Named, AreColoursKnown, IsKnownUse};
 
+ghost use Rattle.std.specs.Prelude.{◌≡◌, ◌-◌, ◌<◌, ◌≤◌, ◌∷◌, length, get_or, Some, All};
+ghost use Rattle.xc_input.specs.Problem.{IsValid, IsWithinLimits, primary_count, item_count, option_count, IsItem, numbered_get, bounds_at, IsPrimary};
+ghost use Rattle.xc_input.specs.Flat.{bounds_of, pieces, AreStarts};
+ghost use Rattle.xc_input.specs.Named.{Named, AreColoursKnown, IsKnownUse, IsWellNamed, IsSound};
+ghost use Rattle.xc_input.specs.Stored.{named_from};
+
+use indexmap::IndexSet;
 use std::marker::Model;
 
 /// An item: its name, and how many options of a cover hold it.
@@ -21,67 +24,74 @@ pub struct Use {
     pub colour: u32,
 }
 
+/// A problem. Items, options and colours have numbers from 1.
 #[derive(Drop)]
 pub struct Problem {
     items: Vec<Item>,
     primary: u32,
     uses: Vec<Use>,
-    starts: Vec<usize>,
-    colours: Vec<Vec<u8>>,
+    ends: Vec<u32>,
+    colours: IndexSet<Vec<u8>>,
 }
 
 impl Model for Problem {
-    ghost use Rattle.std.specs.Prelude.{◌≡◌, ◌≤◌, ◌-◌, length, map, take};
-    ghost use Rattle.xc_input.specs.Problem.{IsValid, IsWithinLimits};
-    ghost use Rattle.xc_input.specs.Named.{Named, AreColoursKnown};
-    ghost use Rattle.xc_input.specs.Flat.{pieces, AreStarts, bounds_of};
+    ghost use Rattle.std.specs.Prelude.{◌≤◌, ◌∷◌, length};
+    ghost use Rattle.xc_input.specs.Named.{Named, IsSound};
+    ghost use Rattle.xc_input.specs.Flat.{AreStarts};
+    ghost use Rattle.xc_input.specs.Stored.{named_from};
 
     ghost Value = { Named };
 
-    ghost view = { λ a. record {
-      names = map (λ x. x.name.items) a.items.items;
-      colours = map (λ c. c.items) a.colours.items;
-      puzzle = record {
-        bounds = map bounds_of (take a.primary a.items.items);
-        secondary = length a.items.items - a.primary;
-        options = pieces a.starts.items a.uses.items;
-      };
-    } };
+    ghost view = { λ p. named_from p.items.items p.primary p.uses.items p.ends.items p.colours.keys };
 
-    ghost invariant = { λ a. record {
-      primary : a.primary ≤ length a.items.items;
-      starts : AreStarts a.starts.items (length a.uses.items);
-      valid : IsValid (record {
-        bounds = map bounds_of (take a.primary a.items.items);
-        secondary = length a.items.items - a.primary;
-        options = pieces a.starts.items a.uses.items;
-      });
-      limits : IsWithinLimits (record {
-        bounds = map bounds_of (take a.primary a.items.items);
-        secondary = length a.items.items - a.primary;
-        options = pieces a.starts.items a.uses.items;
-      });
-      coloured : AreColoursKnown (map (λ c. c.items) a.colours.items) (pieces a.starts.items a.uses.items);
-      few_colours : length a.colours.items ≤ 10000000;
+    ghost invariant = { λ p. record {
+      primary : p.primary ≤ length p.items.items;
+      starts : AreStarts (0 ∷ p.ends.items) (length p.uses.items);
+      sound : IsSound (named_from p.items.items p.primary p.uses.items p.ends.items p.colours.keys);
     } };
 }
 
 impl Problem {
+    pub(crate) fn new(
+        items: Vec<Item>,
+        primary: u32,
+        uses: Vec<Use>,
+        ends: Vec<u32>,
+        colours: IndexSet<Vec<u8>>,
+    ) -> Problem
+        requires primary { primary ≤ length items.items }
+        requires starts { AreStarts (0 ∷ ends.items) (length uses.items) }
+        requires sound { IsSound (named_from items.items primary uses.items ends.items colours.keys) }
+        ensures { result ≡ named_from items.items primary uses.items ends.items colours.keys }
+    {
+        Problem {
+            items,
+            primary,
+            uses,
+            ends,
+            colours,
+        }
+    }
+
+    /// How many items there are.
     pub fn items(&self) -> u32
         ensures value { result ≡ item_count self.now.puzzle }
         ensures valid { IsValid self.now.puzzle }
         ensures limits { IsWithinLimits self.now.puzzle }
         ensures coloured { AreColoursKnown self.now.colours self.now.puzzle.options }
+        ensures named { IsWellNamed self.now }
     {
         self.items.len() as u32
     }
 
+    /// How many items are primary. They come first.
     pub fn primary(&self) -> u32
         ensures { result ≡ primary_count self.now.puzzle }
     {
         self.primary
     }
 
+    /// The item of this number.
     pub fn item(&self, i: u32) -> &Item
         requires { IsItem self.now.puzzle i }
         ensures name { numbered_get self.now.names i ≡ Some result.now.name.items }
@@ -97,35 +107,52 @@ impl Problem {
         self.colours.len() as u32
     }
 
-    /// The bytes of a colour.
+    /// The bytes of the colour of this number.
     pub fn colour(&self, c: u32) -> &[u8]
         requires { (1 ≤ c) × (c ≤ length self.now.colours) }
         ensures { numbered_get self.now.colours c ≡ Some result.now }
     {
-        self.colours[c as usize - 1].as_slice()
+        match self.colours.get_index(c as usize - 1) {
+            Some(bytes) => bytes.as_slice(),
+            None => unreachable!(),
+        }
     }
 
+    /// How many options there are.
     pub fn options(&self) -> u32
         ensures { result ≡ option_count self.now.puzzle }
     {
-        (self.starts.len() - 1) as u32
+        self.ends.len() as u32
     }
 
+    /// The uses of the option of this number, in file order.
     pub fn option(&self, o: u32) -> &[Use]
         requires known { (1 ≤ o) × (o ≤ option_count self.now.puzzle) }
         ensures value { numbered_get self.now.puzzle.options o ≡ Some result.now }
         ensures known { All (IsKnownUse self.now) result.now }
     {
-        let o = o as usize;
-        let from = self.starts[o - 1];
-        let to = self.starts[o];
-        part(&self.uses, from, to)
+        piece(&self.uses, &self.ends, o as usize)
     }
 }
 
-fn part(uses: &[Use], from: usize, to: usize) -> &[Use]
-    requires range { (from ≤ to) × (to ≤ length uses.now) }
-    ensures { result.now ≡ slice_range uses.now from to }
+/// The uses of the option of this number, of options that end here.
+fn piece<'a>(uses: &'a [Use], ends: &[u32], o: usize) -> &'a [Use]
+    requires starts { AreStarts (0 ∷ ends.now) (length uses.now) }
+    requires known { (1 ≤ o) × (o ≤ length ends.now) }
+    ensures { numbered_get (pieces (0 ∷ ends.now) uses.now) o ≡ Some result.now }
 {
+    let from = end_of(ends, o - 1);
+    let to = end_of(ends, o);
     &uses[from..to]
+}
+
+/// Where an option ends; 0 before the first one.
+fn end_of(ends: &[u32], o: usize) -> usize
+    requires { o ≤ length ends.now }
+    ensures { result ≡ get_or (0 ∷ ends.now) o result }
+{
+    if o == 0 {
+        return 0;
+    }
+    ends[o - 1] as usize
 }

@@ -1,11 +1,11 @@
 -- The choices of a member can be told.
-use Rattle.std.proofs.Common.{◌≡◌, ℕ, zero, suc, ◌+◌, ◌<◌, ◌≤◌, ◌-◌, Bool, true, false, cond, not, ◌&&◌, List, [], ◌∷◌, ◌++◌, Option, None, Some, length, take, filter, map, refl, sym, ap, ◌∙◌, arith, subst, nat_lt}
+use Rattle.std.proofs.Common.{◌≡◌, ℕ, zero, suc, ◌+◌, ◌≤◌, Bool, true, false, cond, not, ◌&&◌, List, [], ◌∷◌, Option, None, Some, length, take, filter, map, refl, sym, ap, ◌∙◌, arith, subst, nat_lt}
 use Rattle.std.specs.Prelude.{All, flat_map, unwrap_or, is_some, nat_le, ◌==◌, if◌then◌else◌}
 use Rattle.std.specs.List.{enumerate_from, best_of}
 use Rattle.std.proofs.lemmas.List.Elements.{All-nil, All-cons, All-head, All-tail, All-append, All-map, All-filter, All-take, All-weaker}
 use Rattle.xc_input.specs.declared.problem.Use.{Use}
 use Rattle.xc_search.specs.declared.choice.Choice.{Choice}
-use Rattle.xc_input.specs.Problem.{Puzzle, Bounds, Numbered, numbered_options, numbered_from, numbered_get, uses_of, option_count, primary_count, holds, colour_in, IsPrimary}
+use Rattle.xc_input.specs.Problem.{Puzzle, Bounds, Numbered, numbered_from, numbered_get, uses_of, option_count, primary_count, holds, colour_in, IsPrimary}
 use Rattle.xc_search.specs.Listing.{Wanted, Residual, whole, wanted_from, branch_count, first_least, branch_item, less_one, spend_one, stays, pick, none, Branch, take_branch, none_branch, branches_of, level, listing_to, listing, size_of}
 use Rattle.xc_input.specs.Problem.{holding}
 use Rattle.xc_search.specs.Cover.{members}
@@ -67,7 +67,7 @@ spend_item x w = by_case (holds x w.item)
 pick_known : (p : Puzzle) (r : Residual) (i : ℕ) (x : Numbered) → IsKnownResidual p r → IsKnownResidual p (pick r i x)
 pick_known p r i x known = record {
   items = All-filter (λ w. nat_lt 0 w.high) (IsKnownItem p) (map (spend_one x) r.items)
-    (All-map (IsKnownItem p) (spend_one x) r.items (All-weaker (IsKnownItem p) (λ w. IsKnownItem p (spend_one x w)) (λ w h. subst (IsPrimary p) (sym (spend_item x w)) h) r.items known.items));
+      (All-map (IsKnownItem p) (spend_one x) r.items (All-weaker (IsKnownItem p) (λ w. IsKnownItem p (spend_one x w)) (λ w h. subst (IsPrimary p) (sym (spend_item x w)) h) r.items known.items));
   options = All-filter (λ o. not (holds o i && nat_le o.number x.number) && stays r x o) (IsKnownOption p) r.options known.options;
 }
 
@@ -80,20 +80,23 @@ none_known p r i known = record {
 branches_known : (p : Puzzle) (r : Residual) (w : Wanted) → IsKnownResidual p r → IsKnownItem p w → All (IsKnownBranch p) (branches_of r w)
 branches_known p r w known item =
     All-append (IsKnownBranch p) (map (take_branch r w.item n) (enumerate_from 1 (take n (holding w.item r.options)))) (if w.low == 0 then none_branch r w.item n ∷ [] else [])
-      (All-map (IsKnownBranch p) (take_branch r w.item n) (enumerate_from 1 (take n (holding w.item r.options)))
-        (All-weaker (λ kx. Held kx.1) (λ kx. IsKnownBranch p (take_branch r w.item n kx)) taken (enumerate_from 1 (take n (holding w.item r.options)))
-          (All-enumerate Held 1 (take n (holding w.item r.options)) (All-take Held n (holding w.item r.options) (All-passes (IsKnownOption p) (λ o. holds o w.item) r.options known.options)))))
-      (last (w.low == 0))
+    (All-map (IsKnownBranch p) (take_branch r w.item n) (enumerate_from 1 (take n (holding w.item r.options)))
+    (All-weaker (λ kx. Held kx.1) (λ kx. IsKnownBranch p (take_branch r w.item n kx)) taken (enumerate_from 1 (take n (holding w.item r.options)))
+    (All-enumerate Held 1 (take n (holding w.item r.options)) (All-take Held n (holding w.item r.options) (All-passes (IsKnownOption p) (λ o. holds o w.item) r.options known.options)))))
+    (last (w.low == 0))
   where
     n : ℕ
     n = branch_count r w
+
     Held : Numbered → Type 0
     Held o = IsKnownOption p o × (holds o w.item ≡ true)
+
     taken : (kx : ℕ × Numbered) → Held kx.1 → IsKnownBranch p (take_branch r w.item n kx)
     taken kx h = record {
       choice = (item, (h.0.0, h.0.1, subst (λ us. is_some (colour_in us w.item) ≡ true) (sym h.0.2) h.1));
       next = pick_known p r w.item kx.1 known;
     }
+
     last : (b : Bool) → All (IsKnownBranch p) (cond b (none_branch r w.item n ∷ []) [])
     last true = All-cons (IsKnownBranch p) (none_branch r w.item n) [] (record { choice = (item, tt); next = none_known p r w.item known }) (All-nil (IsKnownBranch p))
     last false = All-nil (IsKnownBranch p)
@@ -106,9 +109,9 @@ level_known : (p : Puzzle) (rest : Residual → List (List Choice)) (r : Residua
 level_known p rest r None below known e = one_empty p
 level_known p rest r (Some w) below known e =
     All-flat_map (IsKnownBranch p) (All (IsKnownChoice p)) (λ b. map (λ m. b.choice ∷ m) (rest b.next)) (branches_of r w)
-      (λ b kb. All-map (All (IsKnownChoice p)) (λ m. b.choice ∷ m) (rest b.next)
-        (All-weaker (All (IsKnownChoice p)) (λ m. All (IsKnownChoice p) (b.choice ∷ m)) (λ m km. All-cons (IsKnownChoice p) b.choice m kb.choice km) (rest b.next) (below b.next kb.next)))
-      (branches_known p r w known (branch_known p (branch_count r) r.items w known.items e))
+    (λ b kb. All-map (All (IsKnownChoice p)) (λ m. b.choice ∷ m) (rest b.next)
+    (All-weaker (All (IsKnownChoice p)) (λ m. All (IsKnownChoice p) (b.choice ∷ m)) (λ m km. All-cons (IsKnownChoice p) b.choice m kb.choice km) (rest b.next) (below b.next kb.next)))
+    (branches_known p r w known (branch_known p (branch_count r) r.items w known.items e))
 
 known_to : (p : Puzzle) (depth : ℕ) (r : Residual) → IsKnownResidual p r → All (All (IsKnownChoice p)) (listing_to depth r)
 unfolding listing_to
@@ -127,9 +130,9 @@ options_known p n (us ∷ os) h e at =
     let here : n + 0 ≡ n = omega arith in
     let value : uses_of p n ≡ us = ap (λ k. uses_of p k) (sym here) ∙ ap (λ o. unwrap_or o []) (at 0) in
     All-cons (IsKnownOption p) (record { number = n; uses = us }) (numbered_from (n + 1) os) (h, omega (arith, e), value)
-      (options_known p (n + 1) os (omega arith) (omega (arith, e))
-        (λ k. let f : (n + 1) + k ≡ n + (k + 1) = omega arith in let g : (k + 1) + 1 ≡ suc (k + 1) = omega arith in
-          ap (numbered_get p.options) f ∙ at (k + 1) ∙ ap (numbered_get (us ∷ os)) g ∙ same k))
+    (options_known p (n + 1) os (omega arith) (omega (arith, e))
+    (λ k. let f : (n + 1) + k ≡ n + (k + 1) = omega arith in let g : (k + 1) + 1 ≡ suc (k + 1) = omega arith in
+    ap (numbered_get p.options) f ∙ at (k + 1) ∙ ap (numbered_get (us ∷ os)) g ∙ same k))
   where
     same : (k : ℕ) → numbered_get (us ∷ os) (suc (k + 1)) ≡ numbered_get os (k + 1)
     same k = let f : k + 1 ≡ suc k = omega arith in ap (λ j. numbered_get (us ∷ os) (suc j)) f ∙ sym (ap (numbered_get os) f)

@@ -1,5 +1,5 @@
 -- The output grows member by member.
-use Rattle.std.proofs.Common.{◌≡◌, ℕ, zero, suc, ◌+◌, ◌<◌, ◌≤◌, ◌-◌, Bool, true, false, cond, List, [], ◌∷◌, ◌++◌, Option, None, Some, length, take, drop, get_or, filter, refl, sym, ap, ◌∙◌, append_assoc, append-nil, arith, subst}
+use Rattle.std.proofs.Common.{◌≡◌, ℕ, zero, suc, ◌+◌, ◌<◌, ◌≤◌, ◌-◌, Bool, true, false, cond, List, [], ◌∷◌, ◌++◌, Option, Some, length, take, drop, filter, refl, sym, ap, ◌∙◌, append-nil, arith, subst, nat_lt, lt-ltb, le-ltb}
 use Rattle.std.specs.Prelude.{flat_map, slice_get, if◌then◌else◌}
 use Rattle.std.specs.List.{enumerate_from}
 use Rattle.std.proofs.lemmas.Grind.{common_steps}
@@ -10,7 +10,8 @@ use Rattle.xc_input.specs.Problem.{numbered_get}
 use Rattle.xc_input.specs.Named.{Named}
 use Rattle.xc_search.specs.Cover.{members}
 use Rattle.xc_list.specs.Output.{text_of, output, is_printed, member_text}
-use Rattle.xc_list.specs.Runs.{printed_text, StoppedAt}
+use Rattle.xc_list.specs.declared.runs.End.TheVariants.{Done, Limit}
+use Rattle.xc_list.specs.Runs.{printed_text, StoppedAt, end_of}
 use Rattle.std.specs.Io.KnownBytes.{Appends}
 use Rattle.xc_list.specs.Texts.{Begins}
 use Rattle.std.specs.Prelude.{All}
@@ -113,11 +114,12 @@ enumerate_append n (x ∷ xs) ys =
 -- the text of the members behind
 text_behind : (a : Named) (spacing : ℕ) (xs ys : List (List Choice)) → (tail : List ℕ) × (text_of a spacing (xs ++ ys) ≡ text_of a spacing xs ++ tail)
 text_behind a spacing xs ys =
-    let p = λ (nm : ℕ × List Choice). is_printed spacing nm.0 in
-    (flat_map (member_text a) (filter p (enumerate_from (1 + length xs) ys)),
-     ap (λ l. flat_map (member_text a) (filter p l)) (enumerate_append 1 xs ys)
-     ∙ ap (flat_map (member_text a)) (filter-append p (enumerate_from 1 xs) (enumerate_from (1 + length xs) ys))
-     ∙ flat_map-append (member_text a) (filter p (enumerate_from 1 xs)) (filter p (enumerate_from (1 + length xs) ys)))
+    let p = λ (nm : ℕ × List Choice). is_printed spacing nm.0 in (
+      flat_map (member_text a) (filter p (enumerate_from (1 + length xs) ys)),
+      ap (λ l. flat_map (member_text a) (filter p l)) (enumerate_append 1 xs ys)
+          ∙ ap (flat_map (member_text a)) (filter-append p (enumerate_from 1 xs) (enumerate_from (1 + length xs) ys))
+          ∙ flat_map-append (member_text a) (filter p (enumerate_from 1 xs)) (filter p (enumerate_from (1 + length xs) ys)),
+    )
 
 take_split : {X : Type 0} (ms : List X) (k limit : ℕ) → k ≤ limit → take limit ms ≡ take k ms ++ drop k (take limit ms)
 take_split ms zero limit h = refl
@@ -158,14 +160,24 @@ stopped_begins a spacing limit t f h x z s =
     let text : List ℕ = member_text a (t, s.member) in
     let again : (t - 1) + 1 ≡ t = omega (arith, s.within.0) in
     let next : output a spacing ((t - 1) + 1) ≡ output a spacing (t - 1) ++ printed_text a spacing ((t - 1) + 1, s.member) =
-        output_next a spacing (t - 1) s.member (drop ((t - 1) + 1) (members a.puzzle)) (drop_before (members a.puzzle) t s.member s.is_member) in
+    output_next a spacing (t - 1) s.member (drop ((t - 1) + 1) (members a.puzzle)) (drop_before (members a.puzzle) t s.member s.is_member) in
     let printed : printed_text a spacing ((t - 1) + 1, s.member) ≡ text = ap (λ n. printed_text a spacing (n, s.member)) again ∙ ap (λ b. if b then text else []) s.printed in
     let b = output_behind a spacing ((t - 1) + 1) limit (omega (arith, again, s.within.1)) in
     let cut : text ≡ take s.part text ++ drop s.part text = take_drop text s.part in
     begins_front x z (output a spacing limit) (output a spacing (t - 1) ++ take s.part text) (drop s.part text ++ b.0)
-      (b.1 ∙ ap (λ l. l ++ b.0) (next ∙ ap (λ l. output a spacing (t - 1) ++ l) (printed ∙ cut)) ∙ regroup (output a spacing (t - 1)) (take s.part text) (drop s.part text) b.0) s.taken
+    (b.1 ∙ ap (λ l. l ++ b.0) (next ∙ ap (λ l. output a spacing (t - 1) ++ l) (printed ∙ cut)) ∙ regroup (output a spacing (t - 1)) (take s.part text) (drop s.part text) b.0) s.taken
   where
     take_drop : (text : List ℕ) (n : ℕ) → text ≡ take n text ++ drop n text
     take_drop text n = grind (arith, common_steps)
+
     regroup : (p q r s : List ℕ) → (p ++ (q ++ r)) ++ s ≡ (p ++ q) ++ (r ++ s)
     regroup p q r s = grind (arith, common_steps)
+
+-- the two ends of a run in which no write fails
+pub done_end : (a : Named) (limit n : ℕ) → n ≡ length (members a.puzzle) → n < limit → Done n ≡ end_of a limit
+done_end a limit n e h =
+    let less : nat_lt (length (members a.puzzle)) limit ≡ true = rw (← e) (lt-ltb n limit h) in
+    ap Done e ∙ sym (ap (λ b. if b then Done (length (members a.puzzle)) else Limit limit) less)
+
+pub limit_end : (a : Named) (limit n : ℕ) → n ≡ limit → limit ≤ length (members a.puzzle) → Limit n ≡ end_of a limit
+limit_end a limit n e h = ap Limit e ∙ sym (ap (λ b. if b then Done (length (members a.puzzle)) else Limit limit) (le-ltb (length (members a.puzzle)) limit h))

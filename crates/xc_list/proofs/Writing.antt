@@ -1,5 +1,5 @@
 -- What a sink has taken, text after text.
-use Rattle.std.proofs.Common.{◌≡◌, ℕ, ◌+◌, ◌<◌, ◌≤◌, ◌-◌, List, [], ◌∷◌, ◌++◌, Option, None, Some, Result, Ok, Err, length, take, drop, get_or, refl, sym, ap, ◌∙◌, append_assoc, append-nil, arith, subst, zero, suc}
+use Rattle.std.proofs.Common.{◌≡◌, ℕ, ◌+◌, ◌<◌, ◌≤◌, List, [], ◌∷◌, ◌++◌, Option, Result, Ok, Err, length, take, drop, get_or, sym, ap, ◌∙◌, append-nil, arith, subst, zero, suc, inl, inr}
 use Rattle.std.specs.Prelude.{flat_map, IsErr, codes, ◌==◌}
 use Rattle.xc_list.specs.Output.{colour_text, bytes_at, from_item}
 use Rattle.std.proofs.lemmas.Grind.{common_steps}
@@ -8,7 +8,7 @@ use Rattle.xc_input.specs.declared.problem.Use.{Use}
 use Rattle.std.specs.List.{position_or_len}
 use Rattle.std.proofs.lemmas.List.Concat.{flat_map-append}
 use Rattle.std.specs.Io.KnownBytes.{Appends}
-use Rattle.xc_list.specs.Texts.{TookBeginning, Writes}
+use Rattle.xc_list.specs.Texts.{TookBeginning, Writes, WasTold}
 use Rattle.xc_input.specs.Calls.{Rose}
 use Rattle.xc_list.proofs.TextLemmas.{appends_more}
 
@@ -50,7 +50,7 @@ pub each_begun : {X : Type 0} (f : X → List ℕ) (xs : List X) (i : ℕ) (x : 
     → Appends a b (flat_map f (take i xs)) → TookBeginning b c (f x) → TookBeginning a c (flat_map f xs)
 each_begun f xs i x a b c h e p q =
     subst (TookBeginning a c) (ap (λ y. flat_map f (take i xs) ++ f y ++ flat_map f (drop (i + 1) xs)) e ∙ sym (flat_map-parts f xs i x h))
-      (begun_first a c (flat_map f (take i xs) ++ f x) (flat_map f (drop (i + 1) xs)) (begun_second a b c (flat_map f (take i xs)) (f x) p q))
+    (begun_first a c (flat_map f (take i xs) ++ f x) (flat_map f (drop (i + 1) xs)) (begun_second a b c (flat_map f (take i xs)) (f x) p q))
 
 -- The same with the counts of failures.
 pub then_good : (a b c : ℕ) (x y z : Option (List ℕ)) (s t : List ℕ) → (b ≡ a) × Appends x y s → (c ≡ b) × Appends y z t → (c ≡ a) × Appends x z (s ++ t)
@@ -76,10 +76,11 @@ colour_text-some cs (suc c) h = grind (arith, nat_tests)
 
 pub loop_begun : {X : Type 0} (f : X → List ℕ) (xs : List X) (i : ℕ) (d : X) (a b c : ℕ) (x y z : Option (List ℕ)) → i < length xs
     → (b ≡ a) → Appends x y (flat_map f (take i xs)) → Rose b c × TookBeginning y z (f (get_or xs i d)) → Rose a c × TookBeginning x z (flat_map f xs)
-loop_begun f xs i d a b c x y z h e p q =
-    (subst (λ n. Rose n c) e q.0,
-     subst (TookBeginning x z) (sym (flat_map-parts f xs i d h))
-      (begun_first x z (flat_map f (take i xs) ++ f (get_or xs i d)) (flat_map f (drop (i + 1) xs)) (begun_second x y z (flat_map f (take i xs)) (f (get_or xs i d)) p q.1)))
+loop_begun f xs i d a b c x y z h e p q = (
+  subst (λ n. Rose n c) e q.0,
+  subst (TookBeginning x z) (sym (flat_map-parts f xs i d h))
+      (begun_first x z (flat_map f (take i xs) ++ f (get_or xs i d)) (flat_map f (drop (i + 1) xs)) (begun_second x y z (flat_map f (take i xs)) (f (get_or xs i d)) p q.1)),
+)
 
 pub option_texts : (f : Use → List ℕ) (item : ℕ) (all us before after : List Use) (p : ℕ) → us ≡ all → p ≡ position_or_len (λ u. u.item == item) us
     → before ≡ take p us → after ≡ drop p us → flat_map f (from_item item all) ≡ flat_map f after ++ flat_map f before
@@ -92,3 +93,7 @@ option_texts f item all us before after p e at b a =
 pub loop_more : {X : Type 0} (f : X → List ℕ) (xs : List X) (i : ℕ) (d : X) (x y z : Option (List ℕ)) → i < length xs
     → Appends x y (flat_map f (take i xs)) → Appends y z (f (get_or xs i d)) → Appends x z (flat_map f (take (i + 1) xs))
 loop_more f xs i d x y z h p q = subst (Appends x z) (sym (flat_map-take-more f xs i d h)) (appends_more x y z (flat_map f (take i xs)) (f (get_or xs i d)) p q)
+
+pub was_told : {E : Type 0} (old new : ℕ × Option (List ℕ)) (r : Result (Unit {0}) E) (text : List ℕ) → Writes old new r text → WasTold old new text
+was_told old new (Ok u) text w = inl w
+was_told old new (Err e) text w = inr w

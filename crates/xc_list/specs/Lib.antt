@@ -4,3 +4,4 @@ pub mod Output
 pub mod Runs
 pub mod Settings
 pub mod Texts
+pub mod Worked

@@ -1,9 +1,9 @@
 -- What is told beside a listing.
 use Rattle.std.specs.Prelude.{ℕ, List, ◌++◌, decimal, codes, ◌==◌, if◌then◌else◌}
-use Rattle.xc_list.specs.declared.run.End.{End}
+use Rattle.xc_list.specs.declared.runs.End.{End}
 use Rattle.xc_list.specs.declared.words.WordFault.{WordFault}
 use Rattle.xc_list.specs.declared.words.WordFault.TheVariants.{Unknown, BadNumber, ZeroLimit}
-use Rattle.xc_list.specs.declared.run.End.TheVariants.{Done, Limit, WriteFailed}
+use Rattle.xc_list.specs.declared.runs.End.TheVariants.{Done, Limit, WriteFailed}
 
 abbrev pub plural : ℕ → List ℕ
 plural n = if n == 1 then codes " solution" else codes " solutions"

@@ -1,9 +1,9 @@
 -- The listing as text.
-use Rattle.std.specs.Prelude.{ℕ, zero, suc, ◌+◌, ◌-◌, ◌%◌, ◌<◌, ◌≤◌, ◌≡◌, Bool, true, false, not, ◌&&◌, ◌==◌, nat_lt, min, List, [], ◌∷◌, ◌++◌, length, filter, take, drop, flat_map, decimal, codes, Option, Some, None, if◌then◌else◌, unwrap_or}
+use Rattle.std.specs.Prelude.{ℕ, zero, suc, ◌%◌, Bool, false, ◌==◌, List, [], ◌++◌, filter, take, drop, flat_map, decimal, codes, Option, Some, None, if◌then◌else◌, unwrap_or}
 use Rattle.std.specs.List.{position_or_len, enumerate_from}
 use Rattle.xc_input.specs.declared.problem.Use.{Use}
 use Rattle.xc_search.specs.declared.choice.Choice.{Choice}
-use Rattle.xc_input.specs.Problem.{Puzzle, numbered_get, uses_of}
+use Rattle.xc_input.specs.Problem.{numbered_get, uses_of}
 use Rattle.xc_input.specs.Named.{Named}
 use Rattle.xc_search.specs.Cover.{members}
 

@@ -1,23 +1,19 @@
 -- What a run writes, and its end.
-use Rattle.std.specs.Prelude.{ℕ, ◌+◌, ◌-◌, ◌<◌, ◌≤◌, ◌≡◌, true, List, [], ◌++◌, length, take, Option, Some, if◌then◌else◌}
+use Rattle.std.specs.Prelude.{ℕ, ◌-◌, ◌<◌, ◌≤◌, ◌≡◌, true, List, [], ◌++◌, length, take, Option, Some, if◌then◌else◌, nat_lt}
 use Rattle.std.specs.Io.KnownBytes.{Appends}
 use Rattle.xc_input.specs.Calls.{Rose}
-use Rattle.xc_list.specs.Texts.{TookBeginning}
+use Rattle.xc_list.specs.Texts.{Took}
 use Rattle.xc_search.specs.declared.choice.Choice.{Choice}
 use Rattle.xc_input.specs.Problem.{numbered_get}
 use Rattle.xc_search.specs.Cover.{members}
 use Rattle.xc_input.specs.Named.{Named}
 use Rattle.xc_list.specs.Output.{member_text, is_printed, output}
-use Rattle.xc_list.specs.declared.run.End.{End}
-use Rattle.xc_list.specs.declared.run.End.TheVariants.{Done, Limit, WriteFailed}
+use Rattle.xc_list.specs.declared.runs.End.{End}
+use Rattle.xc_list.specs.declared.runs.End.TheVariants.{Done, Limit, WriteFailed}
 
 -- the text of the member with this number, if it is printed
 abbrev pub printed_text : Named → ℕ → ℕ × List Choice → List ℕ
 printed_text a spacing nm = if is_printed spacing nm.0 then member_text a nm else []
-
--- No failure came, and the text was taken.
-abbrev pub Took : ℕ × Option (List ℕ) → ℕ × Option (List ℕ) → List ℕ → Type 0
-Took old new text = (new.0 ≡ old.0) × Appends old.1 new.1 text
 
 -- The sink failed at a member that is printed: it took the texts of those printed before whole, and a proper beginning of this one's.
 pub record StoppedAt (a : Named) (spacing limit t : ℕ) (old new : ℕ × Option (List ℕ)) : Type 0 where
@@ -36,6 +32,6 @@ IsRun a spacing limit old new (Done n) = (n ≡ length (members a.puzzle)) × (n
 IsRun a spacing limit old new (Limit n) = (n ≡ limit) × (limit ≤ length (members a.puzzle)) × Took old new (output a spacing limit)
 IsRun a spacing limit old new (WriteFailed t) = StoppedAt a spacing limit t old new
 
--- Where memory was wanting: the texts of the printed ones among the first members
-abbrev pub IsPart : Named → ℕ → ℕ → ℕ × Option (List ℕ) → ℕ × Option (List ℕ) → Type 0
-IsPart a spacing limit old new = (k : ℕ) × (k ≤ limit) × Took old new (output a spacing k)
+-- How a run ends where no write fails: by the limit where there are as many members, else after the last one
+abbrev pub end_of : Named → ℕ → End
+end_of a limit = if nat_lt (length (members a.puzzle)) limit then Done (length (members a.puzzle)) else Limit limit

@@ -3,13 +3,15 @@ ghost use Rattle.std.specs.Prelude.{◌≡◌, ℕ, ◌+◌, ◌-◌, ◌<◌, �
 ghost use Rattle.xc_list.specs.Texts.{Writes};
 ghost use Rattle.xc_list.specs.Messages.{plural, total_text, failed_text, summary_text, warning_text, word_text, word_fault_text};
 
-use crate::run::End;
+use crate::runs::End;
 use crate::sink::Sink;
 use crate::text::{SinkFault, write_all, write_number};
 use crate::words::WordFault;
+use xc_input::Read;
 
 fn write_plural<S: Sink>(n: u64, sink: &mut S) -> Result<(), SinkFault>
-    ensures { Writes (S.failures sink.old, S.taken sink.old) (S.failures sink.new, S.taken sink.new) result (plural n) }
+    ensures { Writes (S.failures sink.old, S.taken sink.old)
+        (S.failures sink.new, S.taken sink.new) result (plural n) }
 {
     if n == 1 {
         write_all(sink, b" solution")
@@ -19,7 +21,8 @@ fn write_plural<S: Sink>(n: u64, sink: &mut S) -> Result<(), SinkFault>
 }
 
 fn write_total<S: Sink>(n: u64, tail: &[u8], sink: &mut S) -> Result<(), SinkFault>
-    ensures { Writes (S.failures sink.old, S.taken sink.old) (S.failures sink.new, S.taken sink.new) result (total_text n tail.now) }
+    ensures { Writes (S.failures sink.old, S.taken sink.old)
+        (S.failures sink.new, S.taken sink.new) result (total_text n tail.now) }
 {
     write_all(sink, b"Altogether ")?;
     write_number(sink, n)?;
@@ -28,7 +31,8 @@ fn write_total<S: Sink>(n: u64, tail: &[u8], sink: &mut S) -> Result<(), SinkFau
 }
 
 fn write_failed<S: Sink>(n: u64, sink: &mut S) -> Result<(), SinkFault>
-    ensures { Writes (S.failures sink.old, S.taken sink.old) (S.failures sink.new, S.taken sink.new) result (failed_text n) }
+    ensures { Writes (S.failures sink.old, S.taken sink.old)
+        (S.failures sink.new, S.taken sink.new) result (failed_text n) }
 {
     write_all(sink, b"Write failed at solution ")?;
     write_number(sink, n)?;
@@ -37,7 +41,8 @@ fn write_failed<S: Sink>(n: u64, sink: &mut S) -> Result<(), SinkFault>
 
 /// Writes how a run ended.
 pub fn summary<S: Sink>(end: &End, sink: &mut S) -> Result<(), SinkFault>
-    ensures { Writes (S.failures sink.old, S.taken sink.old) (S.failures sink.new, S.taken sink.new) result (summary_text end.now) }
+    ensures { Writes (S.failures sink.old, S.taken sink.old)
+        (S.failures sink.new, S.taken sink.new) result (summary_text end.now) }
 {
     match *end {
         End::Done(n) => write_total(n, b".\n", sink),
@@ -47,25 +52,35 @@ pub fn summary<S: Sink>(end: &End, sink: &mut S) -> Result<(), SinkFault>
 }
 
 fn write_warning<S: Sink>(line: u64, sink: &mut S) -> Result<(), SinkFault>
-    ensures { Writes (S.failures sink.old, S.taken sink.old) (S.failures sink.new, S.taken sink.new) result (warning_text line) }
+    ensures { Writes (S.failures sink.old, S.taken sink.old)
+        (S.failures sink.new, S.taken sink.new) result (warning_text line) }
 {
     write_all(sink, b"Option ignored (no primary items): line ")?;
     write_number(sink, line)?;
     write_all(sink, b"\n")
 }
 
-/// Writes a line for each ignored option.
-pub fn warnings<S: Sink>(ignored: &[u64], sink: &mut S) -> Result<(), SinkFault>
-    ensures { Writes (S.failures sink.old, S.taken sink.old) (S.failures sink.new, S.taken sink.new) result (flat_map warning_text ignored.now) }
+fn write_warnings<S: Sink>(lines: &[u64], sink: &mut S) -> Result<(), SinkFault>
+    ensures { Writes (S.failures sink.old, S.taken sink.old) (S.failures sink.new, S.taken sink.new)
+        result (flat_map warning_text lines.now) }
 {
-    for line in ignored {
+    for line in lines {
         write_warning(*line, sink)?;
     }
     Ok(())
 }
 
+/// Writes a line for each option that was ignored, in order.
+pub fn warnings<S: Sink>(read: &Read, sink: &mut S) -> Result<(), SinkFault>
+    ensures { Writes (S.failures sink.old, S.taken sink.old) (S.failures sink.new, S.taken sink.new)
+        result (flat_map warning_text read.now.ignored.items) }
+{
+    write_warnings(&read.ignored, sink)
+}
+
 fn write_word<S: Sink>(place: usize, tail: &[u8], sink: &mut S) -> Result<(), SinkFault>
-    ensures { Writes (S.failures sink.old, S.taken sink.old) (S.failures sink.new, S.taken sink.new) result (word_text place tail.now) }
+    ensures { Writes (S.failures sink.old, S.taken sink.old)
+        (S.failures sink.new, S.taken sink.new) result (word_text place tail.now) }
 {
     write_all(sink, b"Word ")?;
     write_number(sink, place as u64)?;
@@ -74,7 +89,8 @@ fn write_word<S: Sink>(place: usize, tail: &[u8], sink: &mut S) -> Result<(), Si
 
 /// Writes which word is faulty.
 pub fn word_fault<S: Sink>(fault: &WordFault, sink: &mut S) -> Result<(), SinkFault>
-    ensures { Writes (S.failures sink.old, S.taken sink.old) (S.failures sink.new, S.taken sink.new) result (word_fault_text fault.now) }
+    ensures { Writes (S.failures sink.old, S.taken sink.old)
+        (S.failures sink.new, S.taken sink.new) result (word_fault_text fault.now) }
 {
     match *fault {
         WordFault::Unknown(n) => write_word(n, b": unknown.\n", sink),

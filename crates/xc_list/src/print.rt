@@ -36,14 +36,16 @@ fn uses_at<'a>(problem: &'a Problem, o: u32) -> &'a [Use]
 
 fn write_name<S: Sink>(problem: &Problem, i: u32, sink: &mut S) -> Result<(), SinkFault>
     requires { IsItem problem.now.puzzle i }
-    ensures { Writes (S.failures sink.old, S.taken sink.old) (S.failures sink.new, S.taken sink.new) result (bytes_at problem.now.names i) }
+    ensures { Writes (S.failures sink.old, S.taken sink.old)
+        (S.failures sink.new, S.taken sink.new) result (bytes_at problem.now.names i) }
 {
     write_all(sink, name_of(problem, i))
 }
 
 fn write_colour<S: Sink>(problem: &Problem, c: u32, sink: &mut S) -> Result<(), SinkFault>
     requires { c ≤ length problem.now.colours }
-    ensures { Writes (S.failures sink.old, S.taken sink.old) (S.failures sink.new, S.taken sink.new) result (colour_text problem.now.colours c) }
+    ensures { Writes (S.failures sink.old, S.taken sink.old)
+        (S.failures sink.new, S.taken sink.new) result (colour_text problem.now.colours c) }
 {
     if c == 0 {
         return Ok(());
@@ -54,7 +56,8 @@ fn write_colour<S: Sink>(problem: &Problem, c: u32, sink: &mut S) -> Result<(), 
 
 fn write_use<S: Sink>(problem: &Problem, u: &Use, sink: &mut S) -> Result<(), SinkFault>
     requires { IsKnownUse problem.now u.now }
-    ensures { Writes (S.failures sink.old, S.taken sink.old) (S.failures sink.new, S.taken sink.new) result (use_text problem.now u.now) }
+    ensures { Writes (S.failures sink.old, S.taken sink.old)
+        (S.failures sink.new, S.taken sink.new) result (use_text problem.now u.now) }
 {
     write_all(sink, b" ")?;
     write_name(problem, u.item, sink)?;
@@ -63,7 +66,8 @@ fn write_use<S: Sink>(problem: &Problem, u: &Use, sink: &mut S) -> Result<(), Si
 
 fn write_uses<S: Sink>(problem: &Problem, uses: &[Use], sink: &mut S) -> Result<(), SinkFault>
     requires { All (IsKnownUse problem.now) uses.now }
-    ensures { Writes (S.failures sink.old, S.taken sink.old) (S.failures sink.new, S.taken sink.new) result (flat_map (use_text problem.now) uses.now) }
+    ensures { Writes (S.failures sink.old, S.taken sink.old)
+        (S.failures sink.new, S.taken sink.new) result (flat_map (use_text problem.now) uses.now) }
 {
     for u in uses {
         write_use(problem, u, sink)?;
@@ -85,9 +89,16 @@ fn place_of(uses: &[Use], item: u32) -> usize
 }
 
 /// Writes an option's uses, cyclically from an item's.
-fn write_option<S: Sink>(problem: &Problem, item: u32, o: u32, sink: &mut S) -> Result<(), SinkFault>
+fn write_option<S: Sink>(
+    problem: &Problem,
+    item: u32,
+    o: u32,
+    sink: &mut S,
+) -> Result<(), SinkFault>
     requires { (1 ≤ o) × (o ≤ option_count problem.now.puzzle) }
-    ensures { Writes (S.failures sink.old, S.taken sink.old) (S.failures sink.new, S.taken sink.new) result (flat_map (use_text problem.now) (from_item item (uses_of problem.now.puzzle o))) }
+    ensures { Writes (S.failures sink.old, S.taken sink.old)
+        (S.failures sink.new, S.taken sink.new)
+        result (flat_map (use_text problem.now) (from_item item (uses_of problem.now.puzzle o))) }
 {
     let uses = uses_at(problem, o);
     let (before, after) = uses.split_at(place_of(uses, item));
@@ -98,7 +109,9 @@ fn write_option<S: Sink>(problem: &Problem, item: u32, o: u32, sink: &mut S) -> 
 /// Writes that no option is taken.
 fn write_none<S: Sink>(problem: &Problem, item: u32, sink: &mut S) -> Result<(), SinkFault>
     requires { IsItem problem.now.puzzle item }
-    ensures { Writes (S.failures sink.old, S.taken sink.old) (S.failures sink.new, S.taken sink.new) result (codes " null " ++ bytes_at problem.now.names item) }
+    ensures { Writes (S.failures sink.old, S.taken sink.old)
+        (S.failures sink.new, S.taken sink.new)
+        result (codes " null " ++ bytes_at problem.now.names item) }
 {
     write_all(sink, b" null ")?;
     write_name(problem, item, sink)
@@ -106,7 +119,9 @@ fn write_none<S: Sink>(problem: &Problem, item: u32, sink: &mut S) -> Result<(),
 
 fn write_body<S: Sink>(problem: &Problem, choice: &Choice, sink: &mut S) -> Result<(), SinkFault>
     requires { IsKnownChoice problem.now.puzzle choice.now }
-    ensures { Writes (S.failures sink.old, S.taken sink.old) (S.failures sink.new, S.taken sink.new) result (body_text problem.now choice.now.item choice.now.option) }
+    ensures { Writes (S.failures sink.old, S.taken sink.old)
+        (S.failures sink.new, S.taken sink.new)
+        result (body_text problem.now choice.now.item choice.now.option) }
 {
     match choice.option {
         Some(o) => write_option(problem, choice.item, o, sink),
@@ -116,7 +131,8 @@ fn write_body<S: Sink>(problem: &Problem, choice: &Choice, sink: &mut S) -> Resu
 
 fn write_choice<S: Sink>(problem: &Problem, choice: &Choice, sink: &mut S) -> Result<(), SinkFault>
     requires { IsKnownChoice problem.now.puzzle choice.now }
-    ensures { Writes (S.failures sink.old, S.taken sink.old) (S.failures sink.new, S.taken sink.new) result (choice_text problem.now choice.now) }
+    ensures { Writes (S.failures sink.old, S.taken sink.old)
+        (S.failures sink.new, S.taken sink.new) result (choice_text problem.now choice.now) }
 {
     write_body(problem, choice, sink)?;
     write_all(sink, b" (")?;
@@ -126,9 +142,15 @@ fn write_choice<S: Sink>(problem: &Problem, choice: &Choice, sink: &mut S) -> Re
     write_all(sink, b")\n")
 }
 
-fn write_choices<S: Sink>(problem: &Problem, choices: &[Choice], sink: &mut S) -> Result<(), SinkFault>
+fn write_choices<S: Sink>(
+    problem: &Problem,
+    choices: &[Choice],
+    sink: &mut S,
+) -> Result<(), SinkFault>
     requires { All (IsKnownChoice problem.now.puzzle) choices.now }
-    ensures { Writes (S.failures sink.old, S.taken sink.old) (S.failures sink.new, S.taken sink.new) result (flat_map (choice_text problem.now) choices.now) }
+    ensures { Writes (S.failures sink.old, S.taken sink.old)
+        (S.failures sink.new, S.taken sink.new)
+        result (flat_map (choice_text problem.now) choices.now) }
 {
     for choice in choices {
         write_choice(problem, choice, sink)?;
@@ -144,7 +166,9 @@ pub fn write_solution<S: Sink>(
     sink: &mut S,
 ) -> Result<(), SinkFault>
     requires { All (IsKnownChoice problem.now.puzzle) choices.now }
-    ensures { Writes (S.failures sink.old, S.taken sink.old) (S.failures sink.new, S.taken sink.new) result (member_text problem.now (number, choices.now)) }
+    ensures { Writes (S.failures sink.old, S.taken sink.old)
+        (S.failures sink.new, S.taken sink.new)
+        result (member_text problem.now (number, choices.now)) }
 {
     write_number(sink, number)?;
     write_all(sink, b":\n")?;

@@ -3,8 +3,8 @@ ghost use Rattle.std.specs.Prelude.{◌≡◌, ◌+◌, ◌-◌, ◌^◌, ◌<�
 ghost use Rattle.std.specs.Io.KnownBytes.{WriteAppends, Keeps};
 ghost use Rattle.xc_input.specs.Calls.{counted, is_failed_write};
 
-
-use std::alloc::{AllocError, Global};
+use std::alloc::Global;
+use xc_dance::Memory;
 
 /// A write that failed.
 #[derive(Clone, Copy, Debug, PartialEq, Eq)]
@@ -18,10 +18,12 @@ pub trait Sink {
     /// The bytes that it took, where it tells them.
     ghost taken: { Self → Option (List ℕ) };
 
-    /// Takes bytes from the front, and says how many. To take none of at least one is a failure too.
+    /// Takes bytes from the front, and says how many. To take none of at least one is a failure
+    /// too.
     fn write(&mut self, bytes: &[u8]) -> Result<usize, WriteFailed>
         ensures bound { IfOk result (λ n. n ≤ length bytes.now) }
-        ensures failures { failures self.new ≡ counted (is_failed_write result bytes.now) (failures self.old) }
+        ensures failures { failures self.new
+            ≡ counted (is_failed_write result bytes.now) (failures self.old) }
         ensures bytes { WriteAppends (taken self.old) (taken self.new) result bytes.now };
 
     /// Passes on what the sink holds back. It takes no bytes.
@@ -45,12 +47,14 @@ pub struct Tray {
 impl Tray {
     /// It takes at most `step` bytes at a call and `room` in all. Then it fails, or takes 0 where
     /// `zero` is set.
-    pub fn new(alloc: Global, step: usize, room: usize, zero: bool) -> Result<Tray, AllocError>
+    pub fn new(alloc: Global, step: usize, room: usize, zero: bool) -> Result<Tray, Memory>
         requires { 0 < step }
         ensures taken { IfOk result (λ t. ⟦<Tray as Sink>⟧.taken t ≡ Some []) }
         ensures failures { IfOk result (λ t. ⟦<Tray as Sink>⟧.failures t ≡ 0) }
     {
-        let bytes = Vec::with_capacity(alloc, room)?;
+        let Ok(bytes) = Vec::with_capacity(alloc, room) else {
+            return Err(Memory);
+        };
         Ok(Tray {
             bytes,
             step,

@@ -13,7 +13,8 @@ pub enum SinkFault {
 
 /// Writes all bytes, or a beginning of them where the sink fails.
 pub fn write_all<S: Sink>(sink: &mut S, bytes: &[u8]) -> Result<(), SinkFault>
-    ensures { Writes (S.failures sink.old, S.taken sink.old) (S.failures sink.new, S.taken sink.new) result bytes.now }
+    ensures { Writes (S.failures sink.old, S.taken sink.old)
+        (S.failures sink.new, S.taken sink.new) result bytes.now }
 {
     let mut rest = bytes;
     while !rest.is_empty() {
@@ -28,7 +29,8 @@ pub fn write_all<S: Sink>(sink: &mut S, bytes: &[u8]) -> Result<(), SinkFault>
 
 /// Writes a number in decimal.
 pub fn write_number<S: Sink>(sink: &mut S, n: u64) -> Result<(), SinkFault>
-    ensures { Writes (S.failures sink.old, S.taken sink.old) (S.failures sink.new, S.taken sink.new) result (decimal n) }
+    ensures { Writes (S.failures sink.old, S.taken sink.old)
+        (S.failures sink.new, S.taken sink.new) result (decimal n) }
 {
     let mut buffer = Buffer::new();
     write_all(sink, buffer.format(n).as_bytes())

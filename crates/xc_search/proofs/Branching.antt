@@ -1,29 +1,30 @@
 -- A branch of a level, by its moves and by what is left.
-use Rattle.std.proofs.Common.{ℕ, zero, suc, ◌≡◌, ◌≢◌, ◌+◌, ◌-◌, ◌<◌, ◌≤◌, Bool, true, false, cond, not, ◌&&◌, eqb, ltb, leb, List, [], ◌∷◌, ◌++◌, length, map, filter, take, drop, Option, Some, None, refl, sym, ap, ap₂, ◌∙◌, arith, subst, eqb-true, eq-eqb, ne_eqb, le-leb, get_or}
+use Rattle.std.proofs.Common.{ℕ, zero, suc, ◌≡◌, ◌≢◌, ◌+◌, ◌-◌, ◌<◌, ◌≤◌, Bool, true, false, cond, not, ◌&&◌, eqb, List, [], ◌∷◌, ◌++◌, length, map, filter, take, drop, Some, refl, sym, ap, ◌∙◌, arith, subst, eq-eqb, ne_eqb, le-leb, get_or}
 use Rattle.std.proofs.lemmas.List.Elements.{filter_agree, recursion_from_All}
 use Rattle.std.proofs.lemmas.Option.{slice_get-get_or, slice_get_within}
-use Rattle.std.specs.Prelude.{nat_lt, nat_le, is_some, slice_get}
-use Rattle.std.specs.List.{AllByRecursion, enumerate_from}
+use Rattle.std.specs.Prelude.{nat_le, slice_get}
+use Rattle.std.specs.List.{AllByRecursion}
 use Rattle.xc_input.specs.declared.problem.Use.{Use}
 use Rattle.xc_dance.specs.declared.dance.Move.{Move}
-use Rattle.xc_dance.specs.declared.dance.Move.TheVariants.{Cover, Purify, Tweak, Spend}
-use Rattle.xc_input.specs.Problem.{Puzzle, Numbered, primary_count, holds, high_at, IsPrimary, IsItem, IsValid, IsSoundUse, colour_in}
-use Rattle.xc_search.specs.Listing.{Wanted, Residual, Branch, less_one, pick, none, branches_of, branch_count, take_branch, none_branch, branch_item}
-use Rattle.xc_input.specs.Problem.{holding}
-use Rattle.xc_dance.specs.Moves.{listed, is_open, purified, spends, AreLegal, IsLegal}
-use Rattle.xc_search.specs.Residuals.{wanted_at, wanted_after}
-use Rattle.xc_search.specs.Residuals.{left, residual_of, opened, branches_at}
+use Rattle.xc_dance.specs.declared.dance.Move.TheVariants.{Cover, Spend}
+use Rattle.xc_input.specs.Problem.{Puzzle, Numbered, primary_count, holds, high_at, IsItem, IsValid, IsSoundUse, holding}
+use Rattle.xc_search.specs.Listing.{Wanted, Residual, pick, none}
+use Rattle.xc_dance.specs.Moves.{listed, is_open, spends, AreLegal}
+use Rattle.xc_search.specs.Residuals.{wanted_after, left, residual_of}
+use Rattle.xc_search.specs.Commits.{opened, tweaked, after_use, after_uses, others, place_in, closed}
 use Rattle.xc_search.specs.Stack.{IsNode}
-use Rattle.xc_search.specs.Commits.{tweaked, after_use, after_uses, others, place_in, closed}
-use Rattle.xc_search.proofs.Unrolled.{each_weaker}
-use Rattle.xc_search.proofs.Left.{filter_both, listed_open}
-use Rattle.xc_search.proofs.LeftOptions.{each-filter, each_passes}
-use Rattle.xc_search.proofs.Picked.{dec, commit_use, commit_uses, committed, uses_committed, AreApart, AreWanted, as_residual, still_wanted, is_wanted}
+use Rattle.xc_search.proofs.Left.{listed_open}
+use Rattle.xc_search.proofs.Picked.{dec, commit_uses, uses_committed, AreWanted, as_residual, still_wanted, is_wanted}
 use Rattle.xc_search.proofs.MoveSteps.{residual_spend, residual_cover}
-use Rattle.xc_search.proofs.Ready.{Ready, AreReady, ready_after, ready_later, commit_all, Committed, each_two}
-use Rattle.xc_search.proofs.ReadyLeft.{IsOption, left_options, of_left, ready_left, apart_from_pairs, each_at}
-use Rattle.xc_search.proofs.Rotated.{Placed, placed, apart_turned, each_turned, committed_picks, cut}
-use Rattle.xc_search.proofs.Tweaked.{branch_cut, legal_branch, legal_node, items_tweaked, open_tweaked, purified_tweaked, spends_tweaked, left_closed, left_open}
+use Rattle.xc_search.proofs.Ready.{Ready, AreReady, ready_after, ready_later, commit_all}
+use Rattle.xc_search.proofs.ReadyLeft.{left_options, of_left, ready_left}
+use Rattle.xc_search.proofs.Rotated.{placed, apart_turned, committed_picks, cut}
+use Rattle.xc_search.proofs.Tweaked.{branch_cut, legal_branch, items_tweaked, open_tweaked, purified_tweaked, spends_tweaked, left_closed, left_open}
+use Rattle.xc_search.proofs.Elements.{each_weaker, each-filter, each_passes, each_at, each_turned, each_both}
+use Rattle.xc_search.proofs.Filters.{filter_both}
+use Rattle.xc_search.proofs.Tests.{only_rest}
+use Rattle.xc_search.proofs.Uses.{AreApart, apart_from_pairs}
+use Rattle.xc_search.proofs.Numbering.{IsOption}
 
 -- ---- an option is taken
 
@@ -56,11 +57,13 @@ taken_at p t k m x u us vs option n e h le w =
     let ready : AreReady p t (u ∷ vs ++ us) = each_turned (λ u. Ready p t u) us (u ∷ vs) (subst (AreReady p t) w (ready_left p t u.item k x n.legal n.wanted option e)) in
     let before = branch_cut p u t k m x n e h (legal_branch p k u.item t n (omega (arith, within))) in
     let rest = commit_all p (vs ++ us) s apart.1
-      (each_two (λ v. eqb u.item v.item ≡ false) (λ v. Ready p t v) (λ v. Ready p s v) (vs ++ us) (λ v a r. ready_behind p u v t m n.item.1 a r) apart.0 ready.1)
-      (legal_branch p m u.item t n (omega (arith, within, le)))
-      (subst (λ r. AreWanted r.items) (sym before) (still_wanted u.item (wanted_after p t))) in
-    (rest.residual ∙ ap (commit_uses (vs ++ us)) before ∙ uses_committed (u ∷ vs ++ us) (cut (residual_of p t) u.item x.number) apart n.wanted ∙ committed_picks (residual_of p t) u.item x us (u ∷ vs) w,
-     rest.legal, rest.wanted)
+    (each_both (λ v. eqb u.item v.item ≡ false) (λ v. Ready p t v) (λ v. Ready p s v) (vs ++ us) (λ v a r. ready_behind p u v t m n.item.1 a r) apart.0 ready.1)
+    (legal_branch p m u.item t n (omega (arith, within, le)))
+    (subst (λ r. AreWanted r.items) (sym before) (still_wanted u.item (wanted_after p t))) in (
+      rest.residual ∙ ap (commit_uses (vs ++ us)) before ∙ uses_committed (u ∷ vs ++ us) (cut (residual_of p t) u.item x.number) apart n.wanted ∙ committed_picks (residual_of p t) u.item x us (u ∷ vs) w,
+      rest.legal,
+      rest.wanted,
+    )
 
 pub taken : (p : Puzzle) (t : List Move) (i k m : ℕ) (x : Numbered) → IsValid p → IsNode p t i → slice_get (holding i (left p t)) k ≡ Some x →
     (high_at p i - spends i (Spend i ∷ t) ≢ 0 → m ≡ suc k) → m ≤ suc k → Taken p t m i x
@@ -71,10 +74,10 @@ taken p t i k m x v n e h le =
     let us = take (place_in i x.uses) x.uses in
     let vs = drop (place_in i x.uses + 1) x.uses in
     let all = subst (λ j. IsNode p t j → slice_get (holding j (left p t)) k ≡ Some x → (high_at p j - spends j (Spend j ∷ t) ≢ 0 → m ≡ suc k) →
-        (residual_of p (after_uses p (vs ++ us) (tweaked m j (opened p j t))) ≡ pick (residual_of p t) j x)
-        × AreLegal p (after_uses p (vs ++ us) (tweaked m j (opened p j t)))
-        × AreWanted (wanted_after p (after_uses p (vs ++ us) (tweaked m j (opened p j t))))) pl.at
-      (λ n e h. taken_at p t k m x pl.use_of us vs option n e h le pl.whole) n e h in
+    (residual_of p (after_uses p (vs ++ us) (tweaked m j (opened p j t))) ≡ pick (residual_of p t) j x)
+    × AreLegal p (after_uses p (vs ++ us) (tweaked m j (opened p j t)))
+    × AreWanted (wanted_after p (after_uses p (vs ++ us) (tweaked m j (opened p j t))))) pl.at
+    (λ n e h. taken_at p t k m x pl.use_of us vs option n e h le pl.whole) n e h in
     record {
       residual = all.0;
       legal = all.1;
@@ -94,10 +97,6 @@ none_dec i (w ∷ ws) = by_case (eqb w.item i) refl (none_dec i ws)
     by_case : (b : Bool) → eqb w.item i ≡ b → filter (λ w. not (eqb w.item i)) (map (dec i) ws) ≡ filter (λ w. not (eqb w.item i)) ws → filter (λ w. not (eqb w.item i)) (map (dec i) (w ∷ ws)) ≡ filter (λ w. not (eqb w.item i)) (w ∷ ws)
     by_case true e later = rw (e, e) later
     by_case false e later = rw (e, e) (ap (λ vs. w ∷ vs) later)
-
-only_rest : (a b : Bool) → (not (a && b) && not a) ≡ not a
-only_rest true b = elim b as (λ b. (not (true && b) && false) ≡ false) [ true ↦ refl | false ↦ refl ]
-only_rest false b = refl
 
 -- tweaks of an open item take only options that hold it
 rest_tweaked : (p : Puzzle) (m i : ℕ) (s : List Move) → AreLegal p (tweaked m i s) → is_open i s ≡ true → listed p s i ≡ holding i (left p s) → m ≤ length (holding i (left p s)) →

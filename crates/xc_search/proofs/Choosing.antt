@@ -1,13 +1,14 @@
 -- The branch item by a walk over the open items.
-use Rattle.std.proofs.Common.{ℕ, zero, suc, ◌≡◌, ◌+◌, ◌<◌, ◌≤◌, Bool, true, false, cond, ltb, nat_lt, List, [], ◌∷◌, map, filter, Option, Some, None, refl, sym, ap, ◌∙◌, arith, ltb-true, ltb-false, lt-ltb, le-ltb}
+use Rattle.std.proofs.Common.{ℕ, ◌≡◌, Bool, false, cond, ltb, nat_lt, List, [], ◌∷◌, map, filter, Some, None, refl, sym, ap, ◌∙◌, arith, le-ltb}
 use Rattle.std.specs.Prelude.{option_map}
 use Rattle.std.specs.List.{range_with_len, best_of}
 use Rattle.xc_dance.specs.declared.dance.Move.{Move}
-use Rattle.xc_input.specs.Problem.{Puzzle, primary_count, IsPrimary}
+use Rattle.xc_input.specs.Problem.{Puzzle, primary_count}
 use Rattle.xc_search.specs.Listing.{Wanted, first_least}
 use Rattle.xc_dance.specs.Moves.{next_above, is_open, open_items, IsOpenPrimary}
 use Rattle.xc_search.specs.Residuals.{wanted_at, wanted_after, branches_after, choice_after}
-use Rattle.xc_dance.proofs.ListLemmas.{Rises, Rises-range, Rises-filter, above_all, next_above-gt, next_above-split, next_above-none, found_open}
+use Rattle.xc_dance.specs.Rising.{Rises}
+use Rattle.xc_dance.proofs.ListLemmas.{Rises-range, Rises-filter, above_all, next_above-split, next_above-none, found_open}
 
 -- of these items and w the first with the fewest branches
 abbrev pub best_from : Puzzle → List Move → Wanted → List ℕ → Wanted
@@ -38,19 +39,29 @@ abbrev pub fewer : Puzzle → List Move → ℕ → ℕ → Bool
 fewer p t k i = nat_lt (branches_after p t (wanted_at p t k)) (branches_after p t (wanted_at p t i))
 
 -- one item more
-pub choice_next : (p : Puzzle) (t : List Move) (i n k : ℕ) (b : Bool) → next_above n (open_items p t) ≡ Some k → fewer p t k i ≡ b →
-    best_from p t (wanted_at p t i) (filter (λ j. ltb n j) (open_items p t)) ≡ best_from p t (cond b (wanted_at p t k) (wanted_at p t i)) (filter (λ j. ltb k j) (open_items p t))
-choice_next p t i n k b e f =
-    ap (best_from p t (wanted_at p t i)) (next_above-split 0 n k (open_items p t) (open_rises p t) e)
-    ∙ ap (λ c. best_from p t (cond c (wanted_at p t k) (wanted_at p t i)) (filter (λ j. ltb k j) (open_items p t))) f
+pub choice_next : (p : Puzzle) (t : List Move) (i n k : ℕ) (b : Bool) →
+    first_least (branches_after p t) (wanted_after p t) ≡ Some (best_from p t (wanted_at p t i) (filter (λ j. ltb n j) (open_items p t))) →
+    next_above n (open_items p t) ≡ Some k → fewer p t k i ≡ b →
+    first_least (branches_after p t) (wanted_after p t) ≡ Some (best_from p t (cond b (wanted_at p t k) (wanted_at p t i)) (filter (λ j. ltb k j) (open_items p t)))
+choice_next p t i n k b best e f =
+    best
+    ∙ ap (λ is. Some (best_from p t (wanted_at p t i) is)) (next_above-split 0 n k (open_items p t) (open_rises p t) e)
+    ∙ ap (λ c. Some (best_from p t (cond c (wanted_at p t k) (wanted_at p t i)) (filter (λ j. ltb k j) (open_items p t)))) f
 
 pub choice_last : (p : Puzzle) (t : List Move) (i n : ℕ) → next_above n (open_items p t) ≡ None →
     best_from p t (wanted_at p t i) (filter (λ j. ltb n j) (open_items p t)) ≡ wanted_at p t i
 choice_last p t i n e = ap (best_from p t (wanted_at p t i)) (next_above-none n (open_items p t) e)
 
--- after the last item
+-- an item without branches stays the best
+pub choice_settled : (p : Puzzle) (t : List Move) (i : ℕ) (is : List ℕ) → branches_after p t (wanted_at p t i) ≡ 0 → best_from p t (wanted_at p t i) is ≡ wanted_at p t i
+choice_settled p t i [] e = refl
+choice_settled p t i (k ∷ is) e =
+    let not_fewer : fewer p t k i ≡ false = le-ltb _ _ (omega (arith, e)) in
+    ap (λ c. best_from p t (cond c (wanted_at p t k) (wanted_at p t i)) is) not_fewer ∙ choice_settled p t i is e
+
+-- no later item is better
 pub choice_done : (p : Puzzle) (t : List Move) (i n count : ℕ) →
     first_least (branches_after p t) (wanted_after p t) ≡ Some (best_from p t (wanted_at p t i) (filter (λ j. ltb n j) (open_items p t))) →
-    count ≡ branches_after p t (wanted_at p t i) → next_above n (open_items p t) ≡ None → Some (i, count) ≡ choice_after p t
-choice_done p t i n count best counted e =
-    ap (λ c. Some (i, c)) counted ∙ sym (ap (λ o. option_map (λ w. (w.item, branches_after p t w)) o) (best ∙ ap Some (choice_last p t i n e)))
+    count ≡ branches_after p t (wanted_at p t i) → best_from p t (wanted_at p t i) (filter (λ j. ltb n j) (open_items p t)) ≡ wanted_at p t i → Some (i, count) ≡ choice_after p t
+choice_done p t i n count best counted stays =
+    ap (λ c. Some (i, c)) counted ∙ sym (ap (λ o. option_map (λ w. (w.item, branches_after p t w)) o) (best ∙ ap Some stays))

@@ -1,12 +1,13 @@
 -- The moves of a level stand on those before it.
-use Rattle.std.proofs.Common.{ℕ, zero, suc, ◌≡◌, ◌+◌, ◌-◌, ◌<◌, ◌≤◌, Bool, true, false, cond, leb, eqb, List, [], ◌∷◌, ◌++◌, length, drop, take, refl, sym, ap, ◌∙◌, arith, subst, get_or, drop-cons, length-drop}
+use Rattle.std.proofs.Common.{ℕ, suc, ◌≡◌, ◌+◌, ◌-◌, ◌<◌, true, false, cond, leb, eqb, List, [], ◌∷◌, ◌++◌, length, drop, take, refl, sym, ap, ◌∙◌, arith, get_or, Some, drop-cons, length-drop}
 use Rattle.xc_input.specs.declared.problem.Use.{Use}
 use Rattle.xc_dance.specs.declared.dance.Move.{Move}
-use Rattle.xc_dance.specs.declared.dance.Move.TheVariants.{Cover, Purify, Tweak, Spend}
-use Rattle.xc_input.specs.Problem.{Puzzle, primary_count, high_at}
+use Rattle.xc_dance.specs.declared.dance.Move.TheVariants.{Cover, Purify, Spend}
+use Rattle.xc_input.specs.Problem.{Puzzle, primary_count, high_at, uses_of, numbered_get}
+use Rattle.std.specs.Prelude.{unwrap_or}
 use Rattle.xc_dance.specs.Moves.{AreLegal, is_open, spends}
-use Rattle.xc_search.specs.Residuals.{opened}
-use Rattle.xc_search.specs.Commits.{after_use, after_uses, place_in, others}
+use Rattle.xc_search.specs.Commits.{opened, after_use, after_uses, place_in, others}
+use Rattle.std.proofs.Math.Seq.{take-length}
 
 legal_opened : (p : Puzzle) (i : ℕ) (t : List Move) → AreLegal p (opened p i t) → AreLegal p t
 legal_opened p i t =
@@ -36,32 +37,18 @@ pub after_uses-append : (p : Puzzle) (us vs : List Use) (t : List Move) → afte
 after_uses-append p [] vs t = refl
 after_uses-append p (u ∷ us) vs t = after_uses-append p us vs (after_use p u t)
 
-pub place_here : (i k : ℕ) (us : List Use) (u : Use) (rest : List Use) → drop k us ≡ u ∷ rest → eqb u.item i ≡ true → place_in i us ≡ k + place_in i (drop k us) → k ≡ place_in i us
-place_here i k us u rest d e h =
-    let none : place_in i (drop k us) ≡ 0 = ap (place_in i) d ∙ rw e refl in
-    omega (arith, none, h)
-
-pub place_later : (i k : ℕ) (us : List Use) (u : Use) (rest : List Use) → drop k us ≡ u ∷ rest → eqb u.item i ≡ false → place_in i us ≡ k + place_in i (drop k us) → place_in i us ≡ (k + 1) + place_in i rest
-place_later i k us u rest d e h =
-    let more : place_in i (drop k us) ≡ suc (place_in i rest) = ap (place_in i) d ∙ rw e refl in
-    omega (arith, more, h)
-
 pub first_use : (p : Puzzle) (us : List Use) (k : ℕ) (d : Use) (t : List Move) → k < length us → after_uses p (drop k us) t ≡ after_uses p (drop (k + 1) us) (after_use p (get_or us k d) t)
 first_use p us k d t h =
     let next : suc k ≡ k + 1 = omega arith in
     ap (λ vs. after_uses p vs t) (drop-cons us k d h) ∙ ap (λ n. after_uses p (drop n us) (after_use p (get_or us k d) t)) next
 
-take_all : {X : Type 0} (xs : List X) → take (length xs) xs ≡ xs
-take_all [] = refl
-take_all (x ∷ xs) = ap (λ ys. x ∷ ys) (take_all xs)
-
 -- after the uses behind the place k come those before it
-pub other_uses : (p : Puzzle) (i : ℕ) (us vs : List Use) (k : ℕ) (t : List Move) → us ≡ vs → k ≡ place_in i vs →
-    after_uses p (others i us) t ≡ after_uses p (take k vs) (after_uses p (take (length vs - (k + 1)) (drop (k + 1) vs)) t)
-other_uses p i us vs k t e h =
+pub other_uses : (p : Puzzle) (i o : ℕ) (vs : List Use) (k : ℕ) (t : List Move) → numbered_get p.options o ≡ Some vs → k ≡ place_in i vs →
+    after_uses p (others i (uses_of p o)) t ≡ after_uses p (take k vs) (after_uses p (take (length vs - (k + 1)) (drop (k + 1) vs)) t)
+other_uses p i o vs k t e h =
     let enough : length vs - (k + 1) ≡ length (drop (k + 1) vs) = omega (arith, length-drop (k + 1) vs) in
-    let behind : take (length vs - (k + 1)) (drop (k + 1) vs) ≡ drop (k + 1) vs = ap (λ n. take n (drop (k + 1) vs)) enough ∙ take_all (drop (k + 1) vs) in
-    ap (λ ws. after_uses p (others i ws) t) e
+    let behind : take (length vs - (k + 1)) (drop (k + 1) vs) ≡ drop (k + 1) vs = ap (λ n. take n (drop (k + 1) vs)) enough ∙ take-length (drop (k + 1) vs) in
+    ap (λ found. after_uses p (others i (unwrap_or found [])) t) e
     ∙ ap (λ n. after_uses p (drop (n + 1) vs ++ take n vs) t) (sym h)
     ∙ after_uses-append p (drop (k + 1) vs) (take k vs) t
     ∙ ap (λ ws. after_uses p (take k vs) (after_uses p ws t)) (sym behind)

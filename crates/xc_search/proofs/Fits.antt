@@ -1,22 +1,23 @@
 -- The moves of a branch fit where there is room for a search.
-use Rattle.std.proofs.Common.{ℕ, zero, suc, ◌≡◌, ◌+◌, ◌-◌, ◌<◌, ◌≤◌, Bool, true, false, List, [], ◌∷◌, ◌++◌, length, Option, Some, None, refl, sym, ap, ◌∙◌, arith, subst}
+use Rattle.std.proofs.Common.{ℕ, ◌≡◌, ◌<◌, ◌≤◌, false, List, ◌∷◌, length, Some, sym, ap, ◌∙◌, arith, subst}
 use Rattle.xc_input.specs.declared.problem.Use.{Use}
 use Rattle.xc_dance.specs.declared.dance.Move.{Move}
-use Rattle.xc_dance.specs.declared.dance.Move.TheVariants.{Cover, Purify, Tweak, Spend}
+use Rattle.xc_dance.specs.declared.dance.Move.TheVariants.{Tweak}
 use Rattle.xc_search.specs.declared.level.Level.{Level}
 use Rattle.xc_input.specs.Problem.{Puzzle}
 use Rattle.xc_search.specs.Listing.{branch_item}
 use Rattle.xc_dance.specs.Moves.{AreLegal}
-use Rattle.xc_search.specs.Residuals.{wanted_at}
-use Rattle.xc_search.specs.Residuals.{residual_of, opened, oldest}
-use Rattle.xc_search.specs.Commits.{tweaked, after_use, after_uses}
-use Rattle.xc_search.specs.Room.{spendings, room_for, use_count, IsSparing}
+use Rattle.xc_search.specs.Residuals.{wanted_at, residual_of}
+use Rattle.xc_search.specs.Commits.{opened, oldest, after_uses}
+use Rattle.xc_search.specs.Room.{room_for}
+use Rattle.xc_search.specs.Sparing.{spendings}
 use Rattle.xc_search.specs.Stack.{IsNode, IsLevel, IsBegun, next_number}
 use Rattle.xc_search.proofs.Rooms.{has_room}
-use Rattle.xc_search.proofs.Sparing.{sparing_opened, spent_opened, spent_tweaked}
+use Rattle.xc_search.proofs.Sparing.{sparing_opened, spent_tweaked}
 use Rattle.xc_search.proofs.Stacks.{ext_longer, ext_uses}
 use Rattle.xc_search.proofs.Tweaked.{legal_node, legal_branch}
-use Rattle.xc_search.proofs.Begins.{ground_is, may_tweak, few_tweaks}
+use Rattle.xc_search.proofs.Taking.{ground_is, may_tweak}
+use Rattle.xc_search.proofs.Begins.{few_tweaks}
 
 pub fits_opened : (p : Puzzle) (t : List Move) (i : ℕ) → IsNode p t i → branch_item (residual_of p t) ≡ Some (wanted_at p t i) → length (opened p i t) ≤ room_for p
 fits_opened p t i n b = has_room p (opened p i t) (legal_node p i t n) (sparing_opened p t i n.sparing b)

@@ -1,18 +1,17 @@
 -- The branch item by the lists is that of what is left.
-use Rattle.std.proofs.Common.{ℕ, zero, suc, ◌≡◌, ◌+◌, ◌-◌, ◌<◌, ◌≤◌, Bool, true, false, cond, not, ◌&&◌, eqb, List, [], ◌∷◌, length, map, filter, take, drop, Option, Some, None, refl, sym, ap, ap₂, ◌∙◌, arith, subst}
+use Rattle.std.proofs.Common.{ℕ, suc, ◌≡◌, ◌+◌, ◌-◌, true, false, cond, List, [], ◌∷◌, length, map, filter, Option, Some, refl, sym, ap, ap₂, ◌∙◌, arith}
 use Rattle.std.specs.Prelude.{nat_lt, option_map, slice_get, unwrap_or}
 use Rattle.std.specs.List.{AllByRecursion, best_of, range_with_len}
 use Rattle.std.proofs.lemmas.List.Elements.{filter_passes, recursion_from_All}
 use Rattle.xc_dance.specs.declared.dance.Move.{Move}
-use Rattle.xc_input.specs.Problem.{Puzzle, Bounds, low_at, high_at, bounds_at, numbered_get, primary_count, numbered_options}
-use Rattle.xc_search.specs.Listing.{Wanted, Residual, count_of, first_least, branch_count, branch_item, whole, wanted_from}
-use Rattle.xc_input.specs.Problem.{holding}
-use Rattle.xc_dance.specs.Moves.{listed, is_open, open_items, AreLegal}
-use Rattle.xc_search.specs.Residuals.{wanted_at, wanted_after, branches_after, choice_after}
-use Rattle.xc_search.specs.Residuals.{left, residual_of, choice_of, ChoiceIsBranchItem, NoMovesLeaveAll}
-use Rattle.xc_search.proofs.Unrolled.{each_weaker, each-map}
+use Rattle.xc_input.specs.Problem.{Puzzle, Bounds, low_at, high_at, numbered_get, primary_count, numbered_options}
+use Rattle.xc_search.specs.Listing.{Wanted, Residual, count_of, first_least, branch_count, wanted_from, whole, branch_item}
+use Rattle.xc_dance.specs.Moves.{is_open, open_items, AreLegal}
+use Rattle.xc_search.specs.Residuals.{wanted_at, wanted_after, branches_after, residual_of, choice_after}
 use Rattle.xc_search.proofs.Left.{listed_open}
 use Rattle.xc_input.proofs.FlatParts.{numbered_get-at}
+use Rattle.xc_search.proofs.Elements.{each_weaker, each-map}
+use Rattle.xc_search.proofs.Filters.{map-same}
 
 best_same : (f g : Wanted → ℕ) (w : Wanted) (ws : List Wanted) → f w ≡ g w → AllByRecursion (λ v. f v ≡ g v) ws →
     best_of (λ x b. nat_lt (f x) (f b)) w ws ≡ best_of (λ x b. nat_lt (g x) (g b)) w ws
@@ -22,10 +21,6 @@ best_same f g w (v ∷ vs) e a =
       | true ↦ best_same f g v vs a.0 a.1
       | false ↦ best_same f g w vs e a.1
     ])
-
-pub least_same : (f g : Wanted → ℕ) (ws : List Wanted) → AllByRecursion (λ v. f v ≡ g v) ws → first_least f ws ≡ first_least g ws
-least_same f g [] a = refl
-least_same f g (w ∷ ws) a = ap Some (best_same f g w ws a.0 a.1)
 
 each_open : (p : Puzzle) (t : List Move) → AllByRecursion (λ i. is_open i t ≡ true) (open_items p t)
 each_open p t = recursion_from_All (λ i. is_open i t ≡ true) (open_items p t) (filter_passes (λ i. is_open i t) (range_with_len 1 (primary_count p)))
@@ -55,7 +50,11 @@ least_with_count f g (w ∷ ws) a =
     ap (λ c. Some (best.item, c)) (best_counts f g w ws a.0 a.1)
     ∙ ap (λ b. Some (with_count g b)) (best_same f g w ws a.0 a.1)
 
-pub choice_is_branch_item : (p : Puzzle) (t : List Move) → ChoiceIsBranchItem p t
+-- the branch item of what is left, and its number of branches
+abbrev pub choice_of : Residual → Option (ℕ × ℕ)
+choice_of r = option_map (λ w. (w.item, branch_count r w)) (branch_item r)
+
+pub choice_is_branch_item : (p : Puzzle) (t : List Move) → AreLegal p t → choice_after p t ≡ choice_of (residual_of p t)
 choice_is_branch_item p t legal = least_with_count (branches_after p t) (branch_count (residual_of p t)) (wanted_after p t) (counts_same p t legal)
 
 -- ---- no moves leave all
@@ -79,10 +78,6 @@ wanted_shift all (b ∷ bs) k h =
     (ap (λ o. let x = unwrap_or o nothing in let w : Wanted = record { item = k + 1; low = x.low; high = x.high } in w) (sym here))
     (wanted_shift all bs (k + 1) (λ j. let next : (k + 1) + j ≡ k + suc j = omega arith in ap (slice_get all) next ∙ h (suc j)))
 
-map-same : {X Y : Type 0} (f g : X → Y) (xs : List X) → ((x : X) → f x ≡ g x) → map f xs ≡ map g xs
-map-same f g [] h = refl
-map-same f g (x ∷ xs) h = ap₂ (λ y ys. y ∷ ys) (h x) (map-same f g xs h)
-
 minus_zero : (n : ℕ) → n - 0 ≡ n
 minus_zero n = omega arith
 
@@ -90,7 +85,7 @@ all_open : (xs : List ℕ) → filter (λ i. is_open i []) xs ≡ xs
 all_open [] = refl
 all_open (x ∷ xs) = ap (λ ys. x ∷ ys) (all_open xs)
 
-pub no_moves_leave_all : (p : Puzzle) → NoMovesLeaveAll p
+pub no_moves_leave_all : (p : Puzzle) → residual_of p [] ≡ whole p
 no_moves_leave_all p =
     let items : wanted_after p [] ≡ wanted_from 1 p.bounds =
     ap (map (wanted_at p [])) (all_open (range_with_len 1 (primary_count p)))

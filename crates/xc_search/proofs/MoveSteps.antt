@@ -1,33 +1,17 @@
 -- What each move does to what is left.
-use Rattle.std.proofs.Common.{ℕ, zero, suc, ◌≡◌, ◌+◌, ◌-◌, ◌<◌, ◌≤◌, Bool, true, false, cond, not, ◌&&◌, ◌||◌, eqb, ltb, List, [], ◌∷◌, length, map, filter, find, Option, Some, None, refl, sym, ap, ap₂, ◌∙◌, arith, subst, eqb-true, eq-eqb, ne_eqb}
-use Rattle.std.specs.Prelude.{nat_lt, is_some}
+use Rattle.std.proofs.Common.{ℕ, zero, suc, ◌≡◌, ◌+◌, ◌-◌, ◌<◌, true, false, cond, not, ◌&&◌, eqb, List, ◌∷◌, map, filter, refl, sym, ap, ap₂, ◌∙◌, arith, ne_eqb}
 use Rattle.std.specs.List.{AllByRecursion, range_with_len}
-use Rattle.xc_input.specs.declared.problem.Use.{Use}
 use Rattle.xc_dance.specs.declared.dance.Move.{Move}
-use Rattle.xc_dance.specs.declared.dance.Move.TheVariants.{Cover, Purify, Tweak, Spend}
-use Rattle.xc_input.specs.Problem.{Puzzle, Numbered, primary_count, holds, colour_at, low_at, high_at}
+use Rattle.xc_dance.specs.declared.dance.Move.TheVariants.{Cover, Purify, Spend}
+use Rattle.xc_input.specs.Problem.{Puzzle, primary_count, holds, colour_at, low_at, high_at}
 use Rattle.xc_search.specs.Listing.{Wanted, Residual, less_one, none, agrees}
 use Rattle.xc_dance.specs.Moves.{is_open, spends, open_items}
-use Rattle.xc_search.specs.Residuals.{wanted_at, wanted_after}
-use Rattle.xc_search.specs.Residuals.{left, residual_of}
-use Rattle.xc_search.proofs.Unrolled.{each_weaker}
-use Rattle.xc_search.proofs.Left.{filter_same, filter_both, filter_swap}
+use Rattle.xc_search.specs.Residuals.{wanted_at, wanted_after, left, residual_of}
 use Rattle.xc_search.proofs.Picked.{dec, as_residual}
-
-map-map : {X Y Z : Type 0} (f : X → Y) (g : Y → Z) (xs : List X) → map g (map f xs) ≡ map (λ x. g (f x)) xs
-map-map f g [] = refl
-map-map f g (x ∷ xs) = ap (λ ys. g (f x) ∷ ys) (map-map f g xs)
-
-map-same : {X Y : Type 0} (f g : X → Y) (xs : List X) → ((x : X) → f x ≡ g x) → map f xs ≡ map g xs
-map-same f g [] h = refl
-map-same f g (x ∷ xs) h = ap₂ (λ y ys. y ∷ ys) (h x) (map-same f g xs h)
-
-filter-map : {X Y : Type 0} (p : Y → Bool) (f : X → Y) (xs : List X) → filter p (map f xs) ≡ map f (filter (λ x. p (f x)) xs)
-filter-map p f [] = refl
-filter-map p f (x ∷ xs) = elim (p (f x)) as (λ b. cond b (f x ∷ filter p (map f xs)) (filter p (map f xs)) ≡ map f (cond b (x ∷ filter (λ x. p (f x)) xs) (filter (λ x. p (f x)) xs))) [
-  | true ↦ ap (λ ys. f x ∷ ys) (filter-map p f xs)
-  | false ↦ filter-map p f xs
-]
+use Rattle.xc_search.proofs.Elements.{each_weaker}
+use Rattle.xc_search.proofs.Filters.{filter_same, filter_both, filter-map, map-same, map-map}
+use Rattle.std.proofs.Math.Bool.{and_comm}
+use Rattle.std.proofs.lemmas.List.Elements.{filter_agree}
 
 make : ℕ → ℕ → ℕ → Wanted
 make i l h = record { item = i; low = l; high = h }
@@ -45,19 +29,9 @@ residual_spend p t j = as_residual _ _ _ _
     (map-same (wanted_at p (Spend j ∷ t)) (λ i. dec j (wanted_at p t i)) (open_items p t) (spent_once p t j) ∙ sym (map-map (wanted_at p t) (dec j) (open_items p t)))
     refl
 
-and_comm : (a b : Bool) → (a && b) ≡ (b && a)
-and_comm true true = refl
-and_comm true false = refl
-and_comm false true = refl
-and_comm false false = refl
-
-all_same : {X : Type 0} (p q : X → Bool) (xs : List X) → ((x : X) → p x ≡ q x) → filter p xs ≡ filter q xs
-all_same p q [] h = refl
-all_same p q (x ∷ xs) h = ap₂ (λ b ys. cond b (x ∷ ys) ys) (h x) (all_same p q xs h)
-
 covered_items : (p : Puzzle) (t : List Move) (j : ℕ) → open_items p (Cover j ∷ t) ≡ filter (λ i. not (eqb i j)) (open_items p t)
 covered_items p t j =
-    all_same _ _ (range_with_len 1 (primary_count p)) (λ i. and_comm (not (eqb i j)) (is_open i t))
+    filter_agree _ _ (λ i. and_comm (not (eqb i j)) (is_open i t)) (range_with_len 1 (primary_count p))
     ∙ sym (filter_both (λ i. not (eqb i j)) (λ i. is_open i t) (range_with_len 1 (primary_count p)))
 
 -- a Cover takes its item and the options that hold it

@@ -1,21 +1,19 @@
 -- The option that a level's next branch takes.
-use Rattle.std.proofs.Common.{ℕ, zero, suc, ◌≡◌, ◌≢◌, ◌+◌, ◌-◌, ◌<◌, ◌≤◌, Bool, true, false, cond, eqb, ltb, List, [], ◌∷◌, ◌++◌, length, map, filter, drop, min, Option, Some, None, refl, sym, ap, ap₂, ◌∙◌, arith, subst, lt-ltb, le-ltb, get_or}
-use Rattle.std.proofs.lemmas.Option.{slice_get_within, slice_get-get_or, slice_get_past, get_or_from_slice_get}
-use Rattle.std.specs.Prelude.{nat_lt, slice_get, option_map, Contains}
+use Rattle.std.proofs.Common.{ℕ, zero, suc, ◌≡◌, ◌<◌, ◌≤◌, Bool, true, false, ltb, List, [], ◌∷◌, length, map, drop, min, Some, None, refl, sym, ap, ap₂, ◌∙◌, arith, lt-ltb, le-ltb, get_or}
+use Rattle.std.proofs.lemmas.Option.{slice_get_within, slice_get-get_or}
+use Rattle.std.specs.Prelude.{slice_get, option_map, Contains}
 use Rattle.xc_dance.specs.declared.dance.Move.{Move}
 use Rattle.xc_search.specs.declared.level.Level.{Level}
-use Rattle.xc_input.specs.Problem.{Puzzle, Numbered, numbered_get, holds, IsItem}
-use Rattle.xc_input.specs.Problem.{holding}
-use Rattle.xc_search.specs.Listing.{branch_count}
+use Rattle.xc_input.specs.Problem.{Puzzle, Numbered, numbered_get, holds}
 use Rattle.xc_dance.specs.Moves.{listed, listed_numbers, next_above}
-use Rattle.xc_search.specs.Residuals.{wanted_at}
-use Rattle.xc_search.specs.Residuals.{left, residual_of, opened, oldest}
-use Rattle.xc_search.specs.Commits.{tweaked}
-use Rattle.xc_search.specs.Stack.{IsNode, next_number, options_at, IsLevelAt, IsLevel}
-use Rattle.xc_input.proofs.FlatParts.{numbered_get-at}
+use Rattle.xc_search.specs.Residuals.{left}
+use Rattle.xc_search.specs.Commits.{opened, oldest, tweaked}
+use Rattle.xc_search.specs.Stack.{next_number, options_at, IsLevelAt, IsLevel}
 use Rattle.xc_search.proofs.Trails.{oldest_all}
-use Rattle.xc_search.proofs.Left.{NumbersRise, NumbersRise-weaker, NumbersRise-filter, left_rises}
-use Rattle.xc_search.proofs.Tweaked.{listed_branch, rise_above, rise_step}
+use Rattle.xc_search.proofs.Left.{left_rises}
+use Rattle.xc_search.proofs.Rising.{NumbersRise-filter, NumbersRise-weaker, NumbersRise}
+use Rattle.xc_search.proofs.Tweaked.{listed_branch, rise_above}
+use Rattle.xc_search.proofs.Places.{slice_get-drop}
 
 abbrev number_of : Numbered → ℕ
 number_of o = o.number
@@ -42,11 +40,6 @@ rise_drop : (n m : ℕ) (os : List Numbered) → NumbersRise n os → NumbersRis
 rise_drop n zero os r = r
 rise_drop n (suc m) [] r = r
 rise_drop n (suc m) (o ∷ os) r = NumbersRise-weaker n o.number (drop m os) (omega (arith, r.0)) (rise_drop o.number m os r.1)
-
-get_drop : {X : Type 0} (xs : List X) (m : ℕ) → slice_get (drop m xs) 0 ≡ slice_get xs m
-get_drop xs zero = refl
-get_drop [] (suc m) = refl
-get_drop (x ∷ xs) (suc m) = get_drop xs m
 
 rises_at : (p : Puzzle) (u : List Move) (i : ℕ) → NumbersRise 0 (options_at p u i)
 rises_at p u i = NumbersRise-filter (λ o. holds o i) 0 (left p u) (left_rises p u)
@@ -77,11 +70,12 @@ first_is p t l is_level whole more h =
     let stood : l.tweaks ≡ l.begun = by_case l.walks refl in
     ap (λ xs. next_above 0 (map number_of xs)) (list_is p t l is_level whole)
     ∙ first_above 0 (drop l.tweaks os) (rise_drop 0 l.tweaks os (rises_at p u l.item))
-    ∙ ap (option_map number_of) (get_drop os l.tweaks ∙ ap (slice_get os) stood)
+    ∙ ap (option_map number_of) (slice_get-drop os l.tweaks ∙ ap (slice_get os) stood)
   where
     by_begun : (k : ℕ) → l.begun ≡ k → l.walks ≡ true → l.begun ≡ 0
     by_begun zero e c = e
     by_begun (suc k) e c = let before = some_before p (oldest l.mark t) t l k is_level more e in let none : l.option ≡ None = h c in cc (none, before.2)
+
     by_case : (b : Bool) → l.walks ≡ b → l.tweaks ≡ l.begun
     by_case true c = let stood : l.tweaks ≡ 0 = is_level.tweaks ∙ rw c refl in stood ∙ sym (by_begun l.begun refl c)
     by_case false c = let stood : l.tweaks ≡ min l.begun (length (options_at p (oldest l.mark t) l.item)) = is_level.tweaks ∙ rw c refl in omega (arith, stood, few_begun p (oldest l.mark t) t l is_level more)
@@ -104,9 +98,10 @@ walked p t l o k is_level whole more c e b =
     let number_is : before.0.number ≡ o = cc (before.2, e) in
     let stood : l.tweaks ≡ 0 = is_level.tweaks ∙ rw c refl in
     let list : listed p t l.item ≡ os = list_is p t l is_level whole ∙ ap (λ m. drop m os) stood in
-    let within = slice_get_within os k before.0 before.1 in
-    (ap₂ (λ n xs. next_above n (map number_of xs)) (sym number_is) list ∙ above_place 0 0 os k before.0 (rises_at p u l.item) before.1 ∙ ap (λ n. option_map number_of (slice_get os n)) (sym b),
-     (k, omega (arith, ap (λ xs. length (map number_of xs)) list, length-numbers os, within), ap (λ xs. get_or (map number_of xs) k o) list ∙ number_at os k o before.0 before.1 ∙ number_is))
+    let within = slice_get_within os k before.0 before.1 in (
+      ap₂ (λ n xs. next_above n (map number_of xs)) (sym number_is) list ∙ above_place 0 0 os k before.0 (rises_at p u l.item) before.1 ∙ ap (λ n. option_map number_of (slice_get os n)) (sym b),
+      (k, omega (arith, ap (λ xs. length (map number_of xs)) list, length-numbers os, within), ap (λ xs. get_or (map number_of xs) k o) list ∙ number_at os k o before.0 before.1 ∙ number_is),
+    )
 
 -- the next of the list, where it is walked
 pub below_is : (p : Puzzle) (t : List Move) (l : Level) (o : ℕ) → IsLevel p t l → l.base ≡ length t → l.begun < l.count → l.walks ≡ true → l.option ≡ Some o →

@@ -1,12 +1,13 @@
 -- Taking an option use by use comes to `pick`.
-use Rattle.std.proofs.Common.{ℕ, zero, suc, ◌≡◌, ◌≢◌, ◌+◌, ◌-◌, ◌<◌, ◌≤◌, Bool, true, false, cond, not, ◌&&◌, ◌||◌, eqb, ltb, List, [], ◌∷◌, length, map, filter, find, Option, Some, None, refl, sym, ap, ap₂, ◌∙◌, arith, subst, eqb-true, eq-eqb, lt-ltb, le-ltb, ltb-true, ltb-false, ne_eqb}
+use Rattle.std.proofs.Common.{ℕ, ◌≡◌, Bool, true, false, cond, ◌&&◌, eqb, List, [], ◌∷◌, map, filter, find, Option, Some, refl, sym, ap, ap₂, ◌∙◌, subst, eqb-true, eq-eqb, ne_eqb}
 use Rattle.std.specs.Prelude.{nat_lt, is_some}
 use Rattle.std.specs.List.{AllByRecursion, list_all}
 use Rattle.xc_input.specs.declared.problem.Use.{Use}
-use Rattle.xc_input.specs.Problem.{Numbered, colour_in, holds, colour_at}
+use Rattle.xc_input.specs.Problem.{Numbered, colour_in}
 use Rattle.xc_search.specs.Listing.{Wanted, Residual, less_one, may_stay, item_left}
-use Rattle.xc_search.proofs.Unrolled.{each_weaker}
-use Rattle.xc_search.proofs.Left.{filter_same, filter_both}
+use Rattle.xc_search.proofs.Filters.{filter_both, keep_all}
+use Rattle.std.proofs.lemmas.List.Elements.{filter_agree}
+use Rattle.xc_search.proofs.Uses.{AreApart}
 
 -- one use of a taken option
 abbrev pub dec : ℕ → Wanted → Wanted
@@ -37,10 +38,6 @@ committed us r = record {
   items = filter is_wanted (map (spend_uses us) r.items);
   options = filter (all_stay r us) r.options;
 }
-
-abbrev pub AreApart : List Use → Type 0
-AreApart [] = Unit {0}
-AreApart (u ∷ us) = AllByRecursion (λ v. eqb u.item v.item ≡ false) us × AreApart us
 
 abbrev pub AreWanted : List Wanted → Type 0
 AreWanted ws = AllByRecursion (λ w. is_wanted w ≡ true) ws
@@ -117,10 +114,6 @@ stay_same u [] r o a h = refl
 stay_same u (v ∷ us) r o a h =
     ap₂ (λ x y. may_stay x v o && y) (left_same u.item v.item r.items a.0 h) (stay_same u us r o a.1 h)
 
-pub keep_all : {X : Type 0} (p : X → Bool) (xs : List X) → AllByRecursion (λ x. p x ≡ true) xs → filter p xs ≡ xs
-keep_all p [] a = refl
-keep_all p (x ∷ xs) a = rw a.0 (ap (λ ys. x ∷ ys) (keep_all p xs a.1))
-
 map_nothing : (ws : List Wanted) → map (spend_uses []) ws ≡ ws
 map_nothing [] = refl
 map_nothing (w ∷ ws) = ap (λ vs. w ∷ vs) (map_nothing ws)
@@ -132,15 +125,11 @@ keep_each (x ∷ xs) = ap (λ ys. x ∷ ys) (keep_each xs)
 pub as_residual : (a b : List Wanted) (c d : List Numbered) → a ≡ b → c ≡ d → ◌≡◌ {A = Residual} (record { items = a; options = c }) (record { items = b; options = d })
 as_residual a b c d e f = ap₂ (λ x y. let r : Residual = record { items = x; options = y } in r) e f
 
-same_everywhere : {X : Type 0} (p q : X → Bool) (xs : List X) → ((x : X) → p x ≡ q x) → filter p xs ≡ filter q xs
-same_everywhere p q [] h = refl
-same_everywhere p q (x ∷ xs) h = ap₂ (λ b ys. cond b (x ∷ ys) ys) (h x) (same_everywhere p q xs h)
-
 pub uses_committed : (us : List Use) (r : Residual) → AreApart us → AreWanted r.items → commit_uses us r ≡ committed us r
 uses_committed [] r a h =
     as_residual r.items _ r.options _ (sym (ap (filter is_wanted) (map_nothing r.items) ∙ keep_all is_wanted r.items h)) (sym (keep_each r.options))
 uses_committed (u ∷ us) r a h =
     uses_committed us (commit_use u r) a.1 (still_wanted u.item r.items)
     ∙ as_residual _ _ _ _ (items_more u us r.items a.0 h)
-    (same_everywhere _ _ (filter (may_stay (item_left r u.item) u) r.options) (λ o. stay_same u us r o a.0 h)
+    (filter_agree _ _ (λ o. stay_same u us r o a.0 h) (filter (may_stay (item_left r u.item) u) r.options)
     ∙ filter_both (all_stay r us) (may_stay (item_left r u.item) u) r.options)

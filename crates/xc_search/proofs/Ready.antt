@@ -1,23 +1,23 @@
 -- The uses of an option left can be committed, and committing one is what `commit_use` says.
-use Rattle.std.proofs.Common.{ℕ, zero, suc, ◌≡◌, ◌≢◌, ◌+◌, ◌-◌, ◌<◌, ◌≤◌, Bool, true, false, cond, not, ◌&&◌, ◌||◌, eqb, ltb, leb, List, [], ◌∷◌, length, map, filter, find, Option, Some, None, refl, sym, ap, ap₂, ◌∙◌, arith, subst, eqb-true, eq-eqb, ne_eqb, le-leb, lt-ltb, le-ltb, ltb-true, IsTrue}
-use Rattle.std.proofs.lemmas.Bool.{lt-leb}
+use Rattle.std.proofs.Common.{ℕ, zero, suc, ◌≡◌, ◌+◌, ◌-◌, ◌<◌, ◌≤◌, Bool, true, false, cond, not, eqb, leb, List, [], ◌∷◌, map, filter, find, Option, Some, None, refl, sym, ap, ◌∙◌, arith, subst, eqb-true, eq-eqb, ne_eqb, le-leb, lt-ltb, le-ltb}
+use Rattle.std.proofs.lemmas.Bool.{lt-leb, eqb-false}
 use Rattle.std.proofs.lemmas.List.Elements.{filter_agree}
 use Rattle.std.specs.Prelude.{nat_lt, is_some}
 use Rattle.std.specs.List.{AllByRecursion, range_with_len}
 use Rattle.xc_input.specs.declared.problem.Use.{Use}
 use Rattle.xc_dance.specs.declared.dance.Move.{Move}
-use Rattle.xc_dance.specs.declared.dance.Move.TheVariants.{Cover, Purify, Tweak, Spend}
-use Rattle.xc_input.specs.Problem.{Puzzle, Numbered, primary_count, item_count, holds, colour_at, low_at, high_at, IsPrimary, IsSecondary, IsItem}
-use Rattle.xc_search.specs.Listing.{Wanted, Residual, less_one, none, agrees, may_stay, item_left}
-use Rattle.xc_dance.specs.Moves.{is_open, purified, spends, open_items, AreLegal, IsLegal}
-use Rattle.xc_search.specs.Residuals.{wanted_at, wanted_after}
-use Rattle.xc_search.specs.Residuals.{left, residual_of, opened}
-use Rattle.xc_search.specs.Commits.{after_use, after_uses}
-use Rattle.xc_search.proofs.Unrolled.{each_weaker, each-map}
-use Rattle.xc_search.proofs.Left.{filter_same}
-use Rattle.xc_search.proofs.Picked.{dec, is_wanted, commit_use, commit_uses, AreApart, AreWanted, as_residual, still_wanted, keep_all}
+use Rattle.xc_dance.specs.declared.dance.Move.TheVariants.{Cover, Purify, Spend}
+use Rattle.xc_input.specs.Problem.{Puzzle, primary_count, holds, colour_at, high_at, IsPrimary, IsSecondary}
+use Rattle.xc_search.specs.Listing.{Wanted, less_one, none, agrees, may_stay, item_left}
+use Rattle.xc_dance.specs.Moves.{is_open, purified, spends, open_items, AreLegal}
+use Rattle.xc_search.specs.Residuals.{wanted_at, wanted_after, left, residual_of}
+use Rattle.xc_search.specs.Commits.{opened, after_use, after_uses}
+use Rattle.xc_search.proofs.Picked.{dec, is_wanted, commit_use, commit_uses, AreWanted, as_residual, still_wanted}
 use Rattle.xc_search.proofs.MoveSteps.{residual_spend, residual_cover, residual_purify, residual_cover_secondary, in_range}
 use Rattle.xc_search.proofs.LeftOptions.{left_agrees}
+use Rattle.xc_search.proofs.Elements.{each_weaker, each-map, each_of_all, each_both, each-filter}
+use Rattle.xc_search.proofs.Filters.{filter_same, keep_all}
+use Rattle.xc_search.proofs.Uses.{AreApart}
 
 pub data Ready (p : Puzzle) (t : List Move) (u : Use) : Type 0 where
   primary : IsPrimary p u.item → is_open u.item t ≡ true → spends u.item t < high_at p u.item → Ready p t u
@@ -92,21 +92,6 @@ legal_commit p u t l (same_colour h c o q) =
 
 -- ---- one use
 
-pub each_of_all : {X : Type 0} (P : X → Type 0) (xs : List X) → ((x : X) → P x) → AllByRecursion P xs
-each_of_all P [] h = tt
-each_of_all P (x ∷ xs) h = (h x, each_of_all P xs h)
-
-pub each_two : {X : Type 0} (P Q R : X → Type 0) (xs : List X) → ((x : X) → P x → Q x → R x) → AllByRecursion P xs → AllByRecursion Q xs → AllByRecursion R xs
-each_two P Q R [] h a b = tt
-each_two P Q R (x ∷ xs) h a b = (h x a.0 b.0, each_two P Q R xs h a.1 b.1)
-
-each_kept : {X : Type 0} (P : X → Type 0) (q : X → Bool) (xs : List X) → AllByRecursion P xs → AllByRecursion P (filter q xs)
-each_kept P q [] a = tt
-each_kept P q (x ∷ xs) a = elim (q x) as (λ b. AllByRecursion P (cond b (x ∷ filter q xs) (filter q xs))) [ true ↦ (a.0, each_kept P q xs a.1) | false ↦ each_kept P q xs a.1 ]
-
-pub ne_from : (a b : ℕ) → eqb a b ≡ false → a ≢ b
-ne_from a b e i = let same : eqb a b ≡ true = eq-eqb a b i in cc (e, same)
-
 found_from : (p : Puzzle) (t : List Move) (j a n : ℕ) → a ≤ j → j < a + n → is_open j t ≡ true →
     find (λ w. eqb w.item j) (map (wanted_at p t) (filter (λ i. is_open i t) (range_with_len a n))) ≡ Some (wanted_at p t j)
 found_from p t j a zero h k o = absurd (omega (arith, h, k))
@@ -119,7 +104,7 @@ found_from p t j a (suc n) h k o = by_case (eqb a j) refl (λ l. found_from p t 
         let opened_a : is_open a t ≡ true = ap (λ i. is_open i t) same ∙ o in
         rw (opened_a, e) (ap (λ i. Some (wanted_at p t i)) same)
     by_case false e later =
-        let found = later (omega (arith, h, ne_from a j e)) in
+        let found = later (omega (arith, h, eqb-false a j e)) in
         elim (is_open a t) as (λ b. find (λ w. eqb w.item j) (map (wanted_at p t) (cond b (a ∷ filter (λ i. is_open i t) (range_with_len (a + 1) n)) (filter (λ i. is_open i t) (range_with_len (a + 1) n)))) ≡ Some (wanted_at p t j)) [
           | true ↦ rw e found
           | false ↦ found
@@ -131,7 +116,7 @@ found_wanted p t j h o = found_from p t j 1 (primary_count p) h.0 (omega (arith,
 pub not_found : (p : Puzzle) (t : List Move) (j : ℕ) → primary_count p < j → AllByRecursion (λ w. eqb w.item j ≡ false) (wanted_after p t)
 not_found p t j h =
     each-map (λ w. eqb w.item j ≡ false) (wanted_at p t) (open_items p t)
-    (each_kept (λ i. eqb i j ≡ false) (λ i. is_open i t) (range_with_len 1 (primary_count p))
+    (each-filter (λ i. eqb i j ≡ false) (λ i. is_open i t) (range_with_len 1 (primary_count p))
     (each_weaker (λ i. i < 1 + primary_count p) (λ i. eqb i j ≡ false) (range_with_len 1 (primary_count p)) (λ i l. ne_eqb i j (λ e. omega (arith, l, h, e))) (in_range 1 (primary_count p))))
 
 none_found : (j : ℕ) (ws : List Wanted) → AllByRecursion (λ w. eqb w.item j ≡ false) ws → find (λ w. eqb w.item j) ws ≡ None
@@ -182,22 +167,22 @@ opening_commits p u t a h o k = by_case (eqb (high_at p u.item - spends u.item (
         rw e
         (residual_cover p (Spend u.item ∷ t) u.item ∙ ap (λ r. none r u.item) (residual_spend p t u.item)
         ∙ as_residual _ _ _ _
-          (filter_same (λ w. not (eqb w.item u.item)) is_wanted (map (dec u.item) (wanted_after p t))
-          (each-map (λ w. not (eqb w.item u.item) ≡ is_wanted w) (dec u.item) (wanted_after p t)
-          (each_two (λ w. w ≡ wanted_at p t w.item) (λ w. is_wanted w ≡ true) (λ w. not (eqb (dec u.item w).item u.item) ≡ is_wanted (dec u.item w)) (wanted_after p t)
-          (λ w z i. covered_item u.item w i (λ q. high_of p t u.item w z q ∙ last)) (as_spent p t) a)))
-          (filter_agree (λ o. not (holds o u.item)) (may_stay (item_left (residual_of p t) u.item) u) (λ x. rw (found_wanted p t u.item h o, not_more) refl) (left p t)))
+        (filter_same (λ w. not (eqb w.item u.item)) is_wanted (map (dec u.item) (wanted_after p t))
+        (each-map (λ w. not (eqb w.item u.item) ≡ is_wanted w) (dec u.item) (wanted_after p t)
+        (each_both (λ w. w ≡ wanted_at p t w.item) (λ w. is_wanted w ≡ true) (λ w. not (eqb (dec u.item w).item u.item) ≡ is_wanted (dec u.item w)) (wanted_after p t)
+        (λ w z i. covered_item u.item w i (λ q. high_of p t u.item w z q ∙ last)) (as_spent p t) a)))
+        (filter_agree (λ o. not (holds o u.item)) (may_stay (item_left (residual_of p t) u.item) u) (λ x. rw (found_wanted p t u.item h o, not_more) refl) (left p t)))
     by_case false e =
-        let more : 1 < high_at p u.item - spends u.item t = omega (arith, ne_from _ _ e, spent_self u.item t, k) in
+        let more : 1 < high_at p u.item - spends u.item t = omega (arith, eqb-false _ _ e, spent_self u.item t, k) in
         let is_more : nat_lt 1 (high_at p u.item - spends u.item t) ≡ true = lt-ltb 1 (high_at p u.item - spends u.item t) more in
         rw e
         (residual_spend p t u.item
         ∙ as_residual _ _ _ _
-          (sym (keep_all is_wanted (map (dec u.item) (wanted_after p t))
-          (each-map (λ w. is_wanted w ≡ true) (dec u.item) (wanted_after p t)
-          (each_two (λ w. w ≡ wanted_at p t w.item) (λ w. is_wanted w ≡ true) (λ w. is_wanted (dec u.item w) ≡ true) (wanted_after p t)
-          (λ w z i. kept_item u.item w i (λ q. omega (arith, high_of p t u.item w z q, more))) (as_spent p t) a))))
-          (sym (keep_all (may_stay (item_left (residual_of p t) u.item) u) (left p t) (each_of_all (λ x. may_stay (item_left (residual_of p t) u.item) u x ≡ true) (left p t) (λ x. rw (found_wanted p t u.item h o, is_more) refl)))))
+        (sym (keep_all is_wanted (map (dec u.item) (wanted_after p t))
+        (each-map (λ w. is_wanted w ≡ true) (dec u.item) (wanted_after p t)
+        (each_both (λ w. w ≡ wanted_at p t w.item) (λ w. is_wanted w ≡ true) (λ w. is_wanted (dec u.item w) ≡ true) (wanted_after p t)
+        (λ w z i. kept_item u.item w i (λ q. omega (arith, high_of p t u.item w z q, more))) (as_spent p t) a))))
+        (sym (keep_all (may_stay (item_left (residual_of p t) u.item) u) (left p t) (each_of_all (λ x. may_stay (item_left (residual_of p t) u.item) u x ≡ true) (left p t) (λ x. rw (found_wanted p t u.item h o, is_more) refl)))))
 
 pub commit_one : (p : Puzzle) (u : Use) (t : List Move) → AreWanted (wanted_after p t) → Ready p t u → residual_of p (after_use p u t) ≡ commit_use u (residual_of p t)
 commit_one p u t a (primary h o k) = rw (le-leb u.item (primary_count p) h.1) (opening_commits p u t a h o k)
@@ -207,24 +192,24 @@ commit_one p u t a (blank h c o) =
     rw (second, no_colour)
     (residual_cover_secondary p t u.item h.0
     ∙ as_residual _ _ _ _ (second_items p t u.item h.0 a)
-      (filter_agree (λ x. not (holds x u.item)) (may_stay (item_left (residual_of p t) u.item) u)
-      (λ x. rw (none_found u.item (wanted_after p t) (not_found p t u.item h.0), c) (blank_agrees (colour_at x u.item))) (left p t)))
+    (filter_agree (λ x. not (holds x u.item)) (may_stay (item_left (residual_of p t) u.item) u)
+    (λ x. rw (none_found u.item (wanted_after p t) (not_found p t u.item h.0), c) (blank_agrees (colour_at x u.item))) (left p t)))
 commit_one p u t a (coloured h c o) =
     let second : leb u.item (primary_count p) ≡ false = lt-leb u.item (primary_count p) h.0 in
     let colour : eqb u.colour 0 ≡ false = ne_eqb u.colour 0 (λ e. omega (arith, c, e)) in
     rw (second, colour, o)
     (residual_purify p t u.item u.colour h.0
     ∙ as_residual _ _ _ _ (second_items p t u.item h.0 a)
-      (filter_agree (λ x. agrees u.colour (colour_at x u.item)) (may_stay (item_left (residual_of p t) u.item) u)
-      (λ x. rw (none_found u.item (wanted_after p t) (not_found p t u.item h.0)) refl) (left p t)))
+    (filter_agree (λ x. agrees u.colour (colour_at x u.item)) (may_stay (item_left (residual_of p t) u.item) u)
+    (λ x. rw (none_found u.item (wanted_after p t) (not_found p t u.item h.0)) refl) (left p t)))
 commit_one p u t a (same_colour h c o q) =
     let second : leb u.item (primary_count p) ≡ false = lt-leb u.item (primary_count p) h.0 in
     let colour : eqb u.colour 0 ≡ false = ne_eqb u.colour 0 (λ e. omega (arith, c, e)) in
     rw (second, colour, o)
     (as_residual _ _ _ _ (second_items p t u.item h.0 a)
-      (sym (keep_all (may_stay (item_left (residual_of p t) u.item) u) (left p t)
-      (each_weaker (λ x. agrees u.colour (colour_at x u.item) ≡ true) (λ x. may_stay (item_left (residual_of p t) u.item) u x ≡ true) (left p t)
-      (λ x e. rw (none_found u.item (wanted_after p t) (not_found p t u.item h.0)) e) (left_agrees p t u.item u.colour q)))))
+    (sym (keep_all (may_stay (item_left (residual_of p t) u.item) u) (left p t)
+    (each_weaker (λ x. agrees u.colour (colour_at x u.item) ≡ true) (λ x. may_stay (item_left (residual_of p t) u.item) u x ≡ true) (left p t)
+    (λ x e. rw (none_found u.item (wanted_after p t) (not_found p t u.item h.0)) e) (left_agrees p t u.item u.colour q)))))
 
 -- ---- all uses
 
@@ -241,8 +226,8 @@ commit_all p [] t d r l a = record { residual = refl; legal = l; wanted = a }
 commit_all p (u ∷ us) t d r l a =
     let one = commit_one p u t a r.0 in
     let rest = commit_all p us (after_use p u t) d.1
-      (each_two (λ v. eqb u.item v.item ≡ false) (λ v. Ready p t v) (λ v. Ready p (after_use p u t) v) us
-      (λ v e q. ready_after p u t v (ne_eqb v.item u.item (λ i. let same : eqb u.item v.item ≡ true = eq-eqb u.item v.item (sym i) in cc (e, same))) q) d.0 r.1)
-      (legal_commit p u t l r.0)
-      (subst (λ r. AreWanted r.items) (sym one) (still_wanted u.item (wanted_after p t))) in
+    (each_both (λ v. eqb u.item v.item ≡ false) (λ v. Ready p t v) (λ v. Ready p (after_use p u t) v) us
+    (λ v e q. ready_after p u t v (ne_eqb v.item u.item (λ i. let same : eqb u.item v.item ≡ true = eq-eqb u.item v.item (sym i) in cc (e, same))) q) d.0 r.1)
+    (legal_commit p u t l r.0)
+    (subst (λ r. AreWanted r.items) (sym one) (still_wanted u.item (wanted_after p t))) in
     record { residual = rest.residual ∙ ap (commit_uses us) one; legal = rest.legal; wanted = rest.wanted }

@@ -1,63 +1,26 @@
 -- The uses of an option that is left are ready to be committed.
-use Rattle.std.proofs.Common.{ℕ, zero, suc, ◌≡◌, ◌≢◌, ◌+◌, ◌-◌, ◌<◌, ◌≤◌, Bool, true, false, cond, not, ◌&&◌, eqb, ltb, leb, List, [], ◌∷◌, ◌++◌, length, map, filter, find, take, drop, Option, Some, None, refl, sym, ap, ◌∙◌, arith, subst, eqb-true, eq-eqb, ne_eqb, ltb-true, leb-true, ◌||◌}
+use Rattle.std.proofs.Common.{ℕ, zero, suc, ◌≡◌, ◌-◌, ◌<◌, ◌≤◌, Bool, true, false, cond, not, ◌&&◌, eqb, leb, List, [], ◌∷◌, filter, find, Option, Some, None, refl, ap, ◌∙◌, arith, subst, eqb-true, ltb-true, leb-true, ◌||◌}
 use Rattle.std.proofs.lemmas.Bool.{leb-false}
 use Rattle.std.proofs.lemmas.List.Elements.{recursion_from_All}
-use Rattle.std.specs.Prelude.{nat_lt, is_some, slice_get, unwrap_or, All, AllPairs}
+use Rattle.std.specs.Prelude.{nat_lt, is_some, slice_get}
 use Rattle.std.specs.List.{AllByRecursion}
 use Rattle.xc_input.specs.declared.problem.Use.{Use}
 use Rattle.xc_dance.specs.declared.dance.Move.{Move}
 use Rattle.xc_dance.specs.declared.dance.Move.TheVariants.{Cover, Purify, Tweak, Spend}
-use Rattle.xc_input.specs.Problem.{Puzzle, Numbered, numbered_options, numbered_from, numbered_get, option_count, uses_of, primary_count, item_count, holds, colour_at, colour_in, high_at, IsPrimary, IsSecondary, IsItem, IsSoundUse, IsSoundOption, IsValid}
-use Rattle.xc_search.specs.Listing.{Wanted, agrees, item_left}
-use Rattle.xc_dance.specs.Moves.{is_open, is_covered, purified, spends, AreLegal, IsLegal}
-use Rattle.xc_search.specs.Residuals.{wanted_at, wanted_after}
-use Rattle.xc_search.specs.Residuals.{left, residual_of}
-use Rattle.xc_search.proofs.Unrolled.{each_weaker}
-use Rattle.xc_input.proofs.FlatParts.{numbered_get-at}
-use Rattle.xc_search.proofs.Picked.{is_wanted, AreApart, AreWanted}
+use Rattle.xc_input.specs.Problem.{Puzzle, Numbered, primary_count, holds, colour_at, colour_in, high_at, IsPrimary, IsSoundUse, IsValid}
+use Rattle.xc_search.specs.Listing.{Wanted, agrees}
+use Rattle.xc_dance.specs.Moves.{is_open, is_covered, purified, spends, AreLegal}
+use Rattle.xc_search.specs.Residuals.{wanted_at, wanted_after, left}
+use Rattle.xc_search.proofs.Picked.{is_wanted, AreWanted}
 use Rattle.xc_search.proofs.LeftOptions.{left_agrees, left_free, kept}
 use Rattle.xc_search.proofs.Ready.{Ready, primary, blank, coloured, same_colour, found_wanted, AreReady}
-
--- ---- the options of a problem
-
-pub record IsOption (p : Puzzle) (o : Numbered) : Type 0 where
-  pub known : (1 ≤ o.number) × (o.number ≤ option_count p)
-  pub uses : uses_of p o.number ≡ o.uses
-  pub sound : IsSoundOption p o.uses
-
-options_from : (p : Puzzle) (k : ℕ) (os : List (List Use)) → k + length os ≡ option_count p → ((j : ℕ) → slice_get p.options (k + j) ≡ slice_get os j) → AllByRecursion (IsSoundOption p) os → AllByRecursion (IsOption p) (numbered_from (k + 1) os)
-options_from p k [] l h s = tt
-options_from p k (us ∷ os) l h s =
-    let same : k ≡ k + 0 = omega arith in
-    let here : numbered_get p.options (k + 1) ≡ Some us = numbered_get-at p.options (k + 1) k refl ∙ ap (slice_get p.options) same ∙ h 0 in
-    (record { known = (omega arith, omega (arith, l)); uses = ap (λ o. unwrap_or o []) here; sound = s.0 },
-     options_from p (k + 1) os (omega (arith, l)) (λ j. let next : (k + 1) + j ≡ k + suc j = omega arith in ap (slice_get p.options) next ∙ h (suc j)) s.1)
-
-pub all_options : (p : Puzzle) → IsValid p → AllByRecursion (IsOption p) (numbered_options p)
-all_options p v = options_from p 0 p.options (omega arith) (λ j. let same : 0 + j ≡ j = omega arith in ap (slice_get p.options) same) (recursion_from_All (IsSoundOption p) p.options v.options)
+use Rattle.xc_search.proofs.Elements.{each_at, each_both}
+use Rattle.xc_search.proofs.Uses.{apart_from_pairs, own_colours}
+use Rattle.xc_search.proofs.Numbering.{IsOption, all_options}
 
 pub left_options : (p : Puzzle) → IsValid p → (t : List Move) → AllByRecursion (IsOption p) (left p t)
 left_options p v [] = all_options p v
 left_options p v (m ∷ t) = kept (IsOption p) p t m (left_options p v t)
-
--- ---- items that are apart
-
-pub apart_from_pairs : (us : List Use) → AllPairs (λ (u : Use) (v : Use). u.item ≢ v.item) us → AreApart us
-apart_from_pairs [] h = tt
-apart_from_pairs (u ∷ us) h =
-    (recursion_from_All (λ v. eqb u.item v.item ≡ false) us (λ k d l. ne_eqb _ _ (h 0 (suc k) d (omega arith) (omega (arith, l)))),
-     apart_from_pairs us (λ i j d l k. h (suc i) (suc j) d (omega (arith, l)) (omega (arith, k))))
-
-each_more : {X : Type 0} (P Q R : X → Type 0) (xs : List X) → ((x : X) → P x → Q x → R x) → AllByRecursion P xs → AllByRecursion Q xs → AllByRecursion R xs
-each_more P Q R [] h a b = tt
-each_more P Q R (x ∷ xs) h a b = (h x a.0 b.0, each_more P Q R xs h a.1 b.1)
-
-pub own_colours : (us : List Use) → AreApart us → AllByRecursion (λ u. colour_in us u.item ≡ Some u.colour) us
-own_colours [] a = tt
-own_colours (u ∷ us) a =
-    let self : eqb u.item u.item ≡ true = eq-eqb _ _ refl in
-    (rw self refl,
-     each_more (λ v. eqb u.item v.item ≡ false) (λ v. colour_in us v.item ≡ Some v.colour) (λ v. colour_in (u ∷ us) v.item ≡ Some v.colour) us (λ v e c. rw e c) a.0 (own_colours us a.1))
 
 -- ---- open or not
 
@@ -141,6 +104,7 @@ ready_use p t x u l a f s e = by_kind (leb u.item (primary_count p)) refl (purif
     by_colour : primary_count p < u.item → (b : Bool) → eqb u.colour 0 ≡ b → is_open u.item t ≡ true → Ready p t u
     by_colour h true c o = blank (h, s.0.1) (eqb-true u.colour 0 c) o
     by_colour h false c o = coloured (h, s.0.1) (ne_zero u.colour c) o
+
     by_kind : (b : Bool) → leb u.item (primary_count p) ≡ b → (q : Option ℕ) → purified u.item t ≡ q → Ready p t u
     by_kind true h q i =
         let within : u.item ≤ primary_count p = leb-true u.item (primary_count p) h in
@@ -151,11 +115,6 @@ ready_use p t x u l a f s e = by_kind (leb u.item (primary_count p)) refl (purif
         let same = agree_colour d u.colour (subst (λ o. agrees d o ≡ true) e (f.agreeing u.item d i)) in
         same_colour (leb-false u.item (primary_count p) h, s.0.1) same.1 (closed_if u.item d t i) (i ∙ ap Some same.0)
 
-pub each_at : {X : Type 0} (P : X → Type 0) (xs : List X) (k : ℕ) (x : X) → AllByRecursion P xs → slice_get xs k ≡ Some x → P x
-each_at P [] k x a e = cc
-each_at P (y ∷ ys) zero x a e = let same : y ≡ x = cc in subst P same a.0
-each_at P (y ∷ ys) (suc k) x a e = each_at P ys k x a.1 e
-
 pub of_left : (P : Numbered → Type 0) (i k : ℕ) (os : List Numbered) (x : Numbered) → AllByRecursion P os → slice_get (filter (λ o. holds o i) os) k ≡ Some x → P x
 of_left P i k os x a e = each_at P (filter (λ o. holds o i) os) k x (each_holding P i os a) e
 
@@ -165,6 +124,6 @@ ready_left p t i k x l a option e =
       uncovered = λ j c. of_left (λ o. holds o j ≡ false) i k (left p t) x (left_free p t j c) e;
       agreeing = λ j d c. of_left (λ o. agrees d (colour_at o j) ≡ true) i k (left p t) x (left_agrees p t j d c) e;
     } in
-    each_more (IsSoundUse p) (λ u. colour_in x.uses u.item ≡ Some u.colour) (λ u. Ready p t u) x.uses (λ u s c. ready_use p t x u l a free s c)
+    each_both (IsSoundUse p) (λ u. colour_in x.uses u.item ≡ Some u.colour) (λ u. Ready p t u) x.uses (λ u s c. ready_use p t x u l a free s c)
     (recursion_from_All (IsSoundUse p) x.uses option.sound.sound)
     (own_colours x.uses (apart_from_pairs x.uses option.sound.distinct))

@@ -1,15 +1,18 @@
 -- Taking an option: its branch item's use first, the others cyclically after it.
-use Rattle.std.proofs.Common.{ℕ, zero, suc, ◌≡◌, ◌+◌, ◌-◌, ◌<◌, ◌≤◌, Bool, true, false, cond, not, ◌&&◌, ◌||◌, eqb, leb, List, [], ◌∷◌, ◌++◌, length, map, filter, take, drop, Option, Some, None, refl, sym, ap, ap₂, ◌∙◌, arith, subst, eqb-true, eq-eqb, ne_eqb, append-nil}
+use Rattle.std.proofs.Common.{ℕ, suc, ◌≡◌, ◌+◌, ◌<◌, Bool, true, false, cond, not, ◌&&◌, ◌||◌, eqb, List, [], ◌∷◌, ◌++◌, length, filter, take, drop, Some, refl, sym, ap, ◌∙◌, arith, eqb-true, eq-eqb, ne_eqb}
 use Rattle.std.proofs.lemmas.List.Elements.{filter_agree}
-use Rattle.std.specs.Prelude.{nat_lt, nat_le, is_some}
+use Rattle.std.specs.Prelude.{nat_le, is_some}
 use Rattle.std.specs.List.{AllByRecursion, list_all}
 use Rattle.xc_input.specs.declared.problem.Use.{Use}
 use Rattle.xc_input.specs.Problem.{Numbered, colour_in, holds}
-use Rattle.xc_search.specs.Listing.{Wanted, Residual, less_one, may_stay, item_left, pick, spend_one, stays}
-use Rattle.xc_search.specs.Commits.{place_in, others}
-use Rattle.xc_search.proofs.Unrolled.{each_weaker, each-append}
-use Rattle.xc_search.proofs.Left.{filter_both}
-use Rattle.xc_search.proofs.Picked.{is_wanted, spend_uses, all_stay, committed, AreApart, as_residual}
+use Rattle.xc_search.specs.Listing.{Residual, less_one, may_stay, item_left, pick, spend_one}
+use Rattle.xc_search.specs.Commits.{place_in}
+use Rattle.xc_search.proofs.Picked.{is_wanted, spend_uses, all_stay, committed, as_residual}
+use Rattle.xc_search.proofs.Elements.{each-append, each_front}
+use Rattle.xc_search.proofs.Filters.{filter_both, map-same}
+use Rattle.std.proofs.Math.Bool.{and_comm, or_comm}
+use Rattle.std.proofs.lemmas.List.Folds.{list_all-append}
+use Rattle.xc_search.proofs.Uses.{AreApart}
 
 -- ---- where the item stands
 
@@ -46,18 +49,6 @@ placed i (u ∷ us) h = by_case (eqb u.item i) refl (λ l. placed i us l)
 
 -- ---- the order of the uses doesn't matter
 
-or_comm : (a b : Bool) → (a || b) ≡ (b || a)
-or_comm true true = refl
-or_comm true false = refl
-or_comm false true = refl
-or_comm false false = refl
-
-and_comm : (a b : Bool) → (a && b) ≡ (b && a)
-and_comm true true = refl
-and_comm true false = refl
-and_comm false true = refl
-and_comm false false = refl
-
 held_append : (us vs : List Use) (j : ℕ) → is_some (colour_in (us ++ vs) j) ≡ (is_some (colour_in us j) || is_some (colour_in vs j))
 held_append [] vs j = refl
 held_append (u ∷ us) vs j = elim (eqb u.item j) as (λ b. is_some (cond b (Some u.colour) (colour_in (us ++ vs) j)) ≡ (is_some (cond b (Some u.colour) (colour_in us j)) || is_some (colour_in vs j))) [ true ↦ refl | false ↦ held_append us vs j ]
@@ -65,22 +56,11 @@ held_append (u ∷ us) vs j = elim (eqb u.item j) as (λ b. is_some (cond b (Som
 held_turned : (us vs : List Use) (j : ℕ) → is_some (colour_in (us ++ vs) j) ≡ is_some (colour_in (vs ++ us) j)
 held_turned us vs j = held_append us vs j ∙ or_comm (is_some (colour_in us j)) (is_some (colour_in vs j)) ∙ sym (held_append vs us j)
 
-all_append : {X : Type 0} (f : X → Bool) (us vs : List X) → list_all f (us ++ vs) ≡ (list_all f us && list_all f vs)
-all_append f [] vs = refl
-all_append f (u ∷ us) vs = elim (f u) as (λ b. (b && list_all f (us ++ vs)) ≡ ((b && list_all f us) && list_all f vs)) [ true ↦ all_append f us vs | false ↦ refl ]
-
 all_turned : {X : Type 0} (f : X → Bool) (us vs : List X) → list_all f (us ++ vs) ≡ list_all f (vs ++ us)
-all_turned f us vs = all_append f us vs ∙ and_comm (list_all f us) (list_all f vs) ∙ sym (all_append f vs us)
+all_turned f us vs = list_all-append f us vs ∙ and_comm (list_all f us) (list_all f vs) ∙ sym (list_all-append f vs us)
 
 abbrev Apart : Use → Use → Type 0
 Apart u v = eqb u.item v.item ≡ false
-
-each_front : {X : Type 0} (P : X → Type 0) (us vs : List X) → AllByRecursion P (us ++ vs) → AllByRecursion P us × AllByRecursion P vs
-each_front P [] vs a = (tt, a)
-each_front P (u ∷ us) vs a = let rest = each_front P us vs a.1 in ((a.0, rest.0), rest.1)
-
-pub each_turned : {X : Type 0} (P : X → Type 0) (us vs : List X) → AllByRecursion P (us ++ vs) → AllByRecursion P (vs ++ us)
-each_turned P us vs a = let parts = each_front P us vs a in each-append P vs us parts.1 parts.0
 
 -- every one of the second is apart from all of the first
 abbrev AreCross : List Use → List Use → Type 0
@@ -126,13 +106,9 @@ apart_turned us vs a = join vs us (apart_back us vs a) (apart_front us vs a) (cr
 abbrev pub cut : Residual → ℕ → ℕ → Residual
 cut r i n = record { items = r.items; options = filter (λ o. not (holds o i && nat_le o.number n)) r.options }
 
-map-same : {X Y : Type 0} (f g : X → Y) (xs : List X) → ((x : X) → f x ≡ g x) → map f xs ≡ map g xs
-map-same f g [] h = refl
-map-same f g (x ∷ xs) h = ap₂ (λ y ys. y ∷ ys) (h x) (map-same f g xs h)
-
 pub committed_picks : (r : Residual) (i : ℕ) (x : Numbered) (us vs : List Use) → x.uses ≡ us ++ vs → committed (vs ++ us) (cut r i x.number) ≡ pick r i x
 committed_picks r i x us vs e = as_residual _ _ _ _
     (ap (filter is_wanted) (map-same (spend_uses (vs ++ us)) (spend_one x) r.items
-      (λ w. ap (λ b. cond b (less_one w) w) (held_turned vs us w.item ∙ ap (λ ws. is_some (colour_in ws w.item)) (sym e)))))
+    (λ w. ap (λ b. cond b (less_one w) w) (held_turned vs us w.item ∙ ap (λ ws. is_some (colour_in ws w.item)) (sym e)))))
     (filter_both (all_stay (cut r i x.number) (vs ++ us)) (λ o. not (holds o i && nat_le o.number x.number)) r.options
     ∙ filter_agree _ _ (λ o. ap (λ b. not (holds o i && nat_le o.number x.number) && b) (all_turned (λ u. may_stay (item_left r u.item) u o) vs us ∙ ap (λ ws. list_all (λ u. may_stay (item_left r u.item) u o) ws) (sym e))) r.options)

@@ -1,25 +1,22 @@
 -- The Spends of a search are no more than the uses of the options that were taken and the items that were left out.
-use Rattle.std.proofs.Common.{ℕ, zero, suc, ◌≡◌, ◌≢◌, ◌+◌, ◌-◌, ◌<◌, ◌≤◌, Bool, true, false, cond, not, ◌&&◌, eqb, leb, List, [], ◌∷◌, ◌++◌, length, map, filter, take, drop, Option, Some, None, refl, sym, ap, ap₂, ◌∙◌, arith, subst, le-leb, length-append, length-drop}
-use Rattle.std.specs.Prelude.{slice_get, nat_lt, nat_le, replicate}
+use Rattle.std.proofs.Common.{ℕ, zero, suc, ◌≡◌, ◌+◌, ◌-◌, ◌<◌, ◌≤◌, Bool, true, false, cond, not, ◌&&◌, eqb, leb, List, [], ◌∷◌, length, map, filter, take, drop, Some, refl, sym, ap, ◌∙◌, arith, subst, le-leb, length-append, length-drop}
+use Rattle.std.specs.Prelude.{slice_get, nat_lt, nat_le}
 use Rattle.std.specs.List.{range_with_len}
 use Rattle.xc_input.specs.declared.problem.Use.{Use}
 use Rattle.xc_dance.specs.declared.dance.Move.{Move}
-use Rattle.xc_dance.specs.declared.dance.Move.TheVariants.{Cover, Purify, Tweak, Spend}
-use Rattle.xc_input.specs.Problem.{Puzzle, Numbered, numbered_options, holds, high_at, primary_count}
-use Rattle.xc_search.specs.Listing.{Wanted, Residual, pick, none, spend_one, stays, branch_item, branch_count}
-use Rattle.xc_input.specs.Problem.{holding}
+use Rattle.xc_dance.specs.declared.dance.Move.TheVariants.{Cover, Purify, Spend}
+use Rattle.xc_input.specs.Problem.{Puzzle, Numbered, holds, high_at, primary_count, holding}
+use Rattle.xc_search.specs.Listing.{Residual, pick, none, spend_one, stays, branch_item, branch_count}
 use Rattle.xc_dance.specs.Moves.{is_open, spends, open_items}
-use Rattle.xc_search.specs.Residuals.{wanted_at, wanted_after}
-use Rattle.xc_search.specs.Residuals.{left, residual_of, opened}
-use Rattle.xc_search.specs.Commits.{tweaked, after_use, after_uses, others, place_in, closed}
-use Rattle.xc_search.specs.Room.{spendings, uses_in, use_count, IsSparing}
+use Rattle.xc_search.specs.Residuals.{wanted_at, wanted_after, left, residual_of}
+use Rattle.xc_search.specs.Commits.{opened, tweaked, after_use, after_uses, others, place_in, closed}
+use Rattle.xc_search.specs.Room.{use_count}
+use Rattle.xc_search.specs.Sparing.{spendings, uses_in, IsSparing}
 use Rattle.xc_dance.proofs.ListLemmas.{length-filter-le}
-use Rattle.xc_search.proofs.Unrolled.{less_items, least_is_one}
-use Rattle.xc_search.proofs.Rooms.{uses_whole, length-range}
-
-length-mapped : {X Y : Type 0} (f : X → Y) (xs : List X) → length (map f xs) ≡ length xs
-length-mapped f [] = refl
-length-mapped f (x ∷ xs) = ap suc (length-mapped f xs)
+use Rattle.xc_search.proofs.BranchesLess.{less_items, least_is_one}
+use Rattle.xc_search.proofs.FewTweaks.{uses_whole}
+use Rattle.std.proofs.lemmas.List.{length-map, length-take}
+use Rattle.std.proofs.lemmas.List.FromFn.{length-range_with_len}
 
 -- ---- Spends of the moves
 
@@ -47,13 +44,8 @@ spent_uses : (p : Puzzle) (us : List Use) (t : List Move) → spendings (after_u
 spent_uses p [] t = omega arith
 spent_uses p (u ∷ us) t = omega (arith, spent_uses p us (after_use p u t), spent_use p u t)
 
-length-take-le : {X : Type 0} (k : ℕ) (xs : List X) → length (take k xs) ≤ k
-length-take-le zero xs = omega arith
-length-take-le (suc k) [] = omega arith
-length-take-le (suc k) (x ∷ xs) = omega (arith, length-take-le k xs)
-
 others_less : (i : ℕ) (us : List Use) → place_in i us < length us → length (others i us) < length us
-others_less i us h = omega (arith, length-append (drop (place_in i us + 1) us) (take (place_in i us) us), length-drop (place_in i us + 1) us, length-take-le (place_in i us) us, h)
+others_less i us h = omega (arith, length-append (drop (place_in i us + 1) us) (take (place_in i us) us), length-drop (place_in i us + 1) us, length-take (place_in i us) us, h)
 
 -- ---- uses of the options left
 
@@ -67,6 +59,7 @@ without_uses q i k x (o ∷ os) e f = by_case (holds o i) refl k e (λ k e. with
   where
     more : uses_in (filter q os) + length x.uses ≤ uses_in os → uses_in (filter q (o ∷ os)) + length x.uses ≤ length o.uses + uses_in os
     more h = elim (q o) as (λ b. uses_in (cond b (o ∷ filter q os) (filter q os)) + length x.uses ≤ length o.uses + uses_in os) [ true ↦ omega (arith, h) | false ↦ omega (arith, h) ]
+
     by_case : (b : Bool) → holds o i ≡ b → (k : ℕ) → slice_get (cond (holds o i) (o ∷ holding i os) (holding i os)) k ≡ Some x → ((k : ℕ) → slice_get (holding i os) k ≡ Some x → uses_in (filter q os) + length x.uses ≤ uses_in os) →
         uses_in (filter q (o ∷ os)) + length x.uses ≤ length o.uses + uses_in os
     by_case false h k e later = more (later k (subst (λ b. slice_get (cond b (o ∷ holding i os) (holding i os)) k ≡ Some x) h e))
@@ -78,12 +71,12 @@ without_uses q i k x (o ∷ os) e f = by_case (holds o i) refl k e (λ k e. with
     by_case true h (suc k) e later = more (later k (subst (λ b. slice_get (cond b (o ∷ holding i os) (holding i os)) (suc k) ≡ Some x) h e))
 
 open_is : (p : Puzzle) (t : List Move) → length (open_items p t) ≡ length (residual_of p t).items
-open_is p t = sym (length-mapped (wanted_at p t) (open_items p t))
+open_is p t = sym (length-map (open_items p t) (wanted_at p t))
 
 -- ---- nodes
 
 pub sparing_first : (p : Puzzle) → IsSparing p []
-sparing_first p = omega (arith, uses_whole 1 p.options, length-filter-le (λ i. is_open i []) (range_with_len 1 (primary_count p)), length-range 1 (primary_count p))
+sparing_first p = omega (arith, uses_whole 1 p.options, length-filter-le (λ i. is_open i []) (range_with_len 1 (primary_count p)), length-range_with_len 1 (primary_count p))
 
 pub sparing_taken : (p : Puzzle) (t : List Move) (i k m : ℕ) (x : Numbered) → IsSparing p t → slice_get (holding i (left p t)) k ≡ Some x → holds x i ≡ true → place_in i x.uses < length x.uses →
     residual_of p (after_uses p (others i x.uses) (tweaked m i (opened p i t))) ≡ pick (residual_of p t) i x → IsSparing p (after_uses p (others i x.uses) (tweaked m i (opened p i t)))
@@ -94,9 +87,21 @@ sparing_taken p t i k m x s e held within r =
     let goes : (not (holds x i && nat_le x.number x.number) && stays (residual_of p t) x x) ≡ false = rw (held, itself) refl in
     let items : length (residual_of p u).items ≡ length (pick (residual_of p t) i x).items = ap (λ (r : Residual). length r.items) r in
     let options : uses_in (left p u) ≡ uses_in (pick (residual_of p t) i x).options = ap (λ (r : Residual). uses_in r.options) r in
-    omega (arith, s, spent_uses p (others i x.uses) ground, others_less i x.uses within, spent_tweaked m i (opened p i t), spent_opened p i t,
-      open_is p u, open_is p t, items, length-filter-le (λ w. nat_lt 0 w.high) (map (spend_one x) (wanted_after p t)), length-mapped (spend_one x) (wanted_after p t),
-      options, without_uses (λ o. not (holds o i && nat_le o.number x.number) && stays (residual_of p t) x o) i k x (left p t) e goes)
+    omega (
+      arith,
+      s,
+      spent_uses p (others i x.uses) ground,
+      others_less i x.uses within,
+      spent_tweaked m i (opened p i t),
+      spent_opened p i t,
+      open_is p u,
+      open_is p t,
+      items,
+      length-filter-le (λ w. nat_lt 0 w.high) (map (spend_one x) (wanted_after p t)),
+      length-map (wanted_after p t) (spend_one x),
+      options,
+      without_uses (λ o. not (holds o i && nat_le o.number x.number) && stays (residual_of p t) x o) i k x (left p t) e goes,
+    )
 
 pub sparing_none : (p : Puzzle) (t : List Move) (i m : ℕ) → IsSparing p t → branch_item (residual_of p t) ≡ Some (wanted_at p t i) →
     residual_of p (closed i (tweaked m i (opened p i t))) ≡ none (residual_of p t) i → IsSparing p (closed i (tweaked m i (opened p i t)))
@@ -105,9 +110,19 @@ sparing_none p t i m s b r =
     let u = closed i ground in
     let items : length (residual_of p u).items ≡ length (none (residual_of p t) i).items = ap (λ (r : Residual). length r.items) r in
     let options : uses_in (left p u) ≡ uses_in (none (residual_of p t) i).options = ap (λ (r : Residual). uses_in r.options) r in
-    omega (arith, s, spent_closed i ground, spent_tweaked m i (opened p i t), spent_opened p i t, open_is p u, open_is p t, items, options,
+    omega (
+      arith,
+      s,
+      spent_closed i ground,
+      spent_tweaked m i (opened p i t),
+      spent_opened p i t,
+      open_is p u,
+      open_is p t,
+      items,
+      options,
       less_items (wanted_at p t i) (wanted_after p t) (least_is_one (branch_count (residual_of p t)) (wanted_after p t) (wanted_at p t i) b),
-      fewer_uses (λ o. not (holds o i)) (left p t))
+      fewer_uses (λ o. not (holds o i)) (left p t),
+    )
 
 -- also while a level is open and no branch was begun
 pub sparing_opened : (p : Puzzle) (t : List Move) (i : ℕ) → IsSparing p t → branch_item (residual_of p t) ≡ Some (wanted_at p t i) → spendings (opened p i t) ≤ use_count p + primary_count p

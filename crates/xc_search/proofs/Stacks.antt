@@ -1,33 +1,31 @@
 -- What one step of the search does to the levels.
-use Rattle.std.proofs.Common.{ℕ, zero, suc, ◌≡◌, ◌≢◌, ◌+◌, ◌-◌, ◌<◌, ◌≤◌, Bool, true, false, cond, not, ◌&&◌, eqb, ltb, leb, List, [], ◌∷◌, ◌++◌, length, map, filter, take, drop, reverse, min, Option, Some, None, refl, sym, ap, ap₂, ◌∙◌, arith, subst, eqb-true, eq-eqb, inl, inr, append_assoc, append-nil, length-append, length-drop}
-use Rattle.std.proofs.lemmas.List.{reverse-append}
-use Rattle.std.proofs.lemmas.Option.{slice_get_within}
-use Rattle.std.specs.Prelude.{nat_lt, slice_get, option_map, flat_map, replicate}
+use Rattle.std.proofs.Common.{ℕ, zero, suc, ◌≡◌, ◌+◌, ◌-◌, ◌<◌, ◌≤◌, true, false, cond, eqb, leb, List, [], ◌∷◌, ◌++◌, length, map, take, drop, min, Option, Some, None, refl, sym, ap, ap₂, ◌∙◌, arith, subst, append_assoc, append-nil, length-append, length-drop}
+use Rattle.std.specs.Prelude.{option_map, flat_map}
 use Rattle.std.specs.List.{AllByRecursion, range_with_len}
 use Rattle.xc_input.specs.declared.problem.Use.{Use}
 use Rattle.xc_search.specs.declared.choice.Choice.{Choice}
 use Rattle.xc_dance.specs.declared.dance.Move.{Move}
-use Rattle.xc_dance.specs.declared.dance.Move.TheVariants.{Cover, Purify, Tweak, Spend}
+use Rattle.xc_dance.specs.declared.dance.Move.TheVariants.{Cover, Purify, Spend}
 use Rattle.xc_search.specs.declared.level.Level.{Level}
-use Rattle.xc_input.specs.Problem.{Puzzle, Numbered, primary_count, high_at, low_at, IsPrimary, IsValid, numbered_get}
-use Rattle.xc_search.specs.Listing.{Wanted, Residual, Branch, branches_of, branch_count, branch_item, take_branch, none_branch, listing, level, first_least}
-use Rattle.xc_input.specs.Problem.{holding}
-use Rattle.xc_dance.specs.Moves.{is_open, spends, open_items, AreLegal, AreTweaks}
-use Rattle.xc_search.specs.Residuals.{wanted_at, wanted_after, choice_after, branches_after}
-use Rattle.xc_search.specs.Residuals.{left, residual_of, opened, oldest, branches_at, members_of, choice_of}
-use Rattle.xc_search.specs.Commits.{tweaked, after_use, after_uses, others, closed, walks}
-use Rattle.xc_search.specs.Room.{IsSparing}
-use Rattle.xc_search.specs.Stack.{AreAllWanted, IsNode, options_at, IsLevelAt, IsLevel, AreStacked, chosen, choices_of, to_give, coming, IsStanding, first_level, IsBegun, cost, work, work_level, visits, ahead}
-use Rattle.xc_search.proofs.Unrolled.{listing_unrolled, least_is_one, IsOneOf, each_weaker, each-map}
-use Rattle.xc_search.proofs.LeftOptions.{each-filter, each_passes}
+use Rattle.xc_input.specs.Problem.{Puzzle, primary_count, high_at, IsPrimary}
+use Rattle.xc_search.specs.Listing.{Wanted, Branch, branches_of, branch_count, branch_item, listing, level}
+use Rattle.xc_dance.specs.Moves.{is_open, spends, open_items, AreLegal}
+use Rattle.xc_search.specs.Residuals.{wanted_at, wanted_after, choice_after, residual_of}
+use Rattle.xc_search.specs.Stack.{branches_at, members_of, AreAllWanted, IsNode, options_at, IsLevelAt, AreStacked, choices_of, to_give, coming, first_level}
+use Rattle.xc_search.specs.Commits.{opened, oldest, after_use, after_uses, closed, walks}
+use Rattle.xc_search.specs.Sparing.{IsSparing}
+use Rattle.xc_search.specs.Ahead.{cost, work, work_level, visits, ahead}
+use Rattle.xc_search.proofs.Members.{each_in}
+use Rattle.xc_search.proofs.Unrolled.{listing_unrolled}
+use Rattle.xc_search.proofs.BranchesLess.{least_is_one}
 use Rattle.xc_search.proofs.MoveSteps.{in_range}
-use Rattle.xc_search.proofs.Ready.{as_spent, each_two}
-use Rattle.xc_search.proofs.LeftChoice.{choice_is_branch_item}
-use Rattle.xc_input.proofs.FlatParts.{numbered_get-at}
+use Rattle.xc_search.proofs.Ready.{as_spent}
+use Rattle.xc_search.proofs.LeftChoice.{choice_is_branch_item, choice_of}
 use Rattle.xc_search.proofs.Trails.{oldest_all}
-use Rattle.xc_search.proofs.BranchLists.{branch_takes, branch_none, branches_end, drop_at, work_unrolled}
-use Rattle.xc_search.proofs.Branching.{Taken, taken, none_taken, legal_closed, none_wanted}
-use Rattle.xc_search.proofs.Tweaked.{legal_branch, legal_node}
+use Rattle.xc_search.proofs.Work.{work_unrolled}
+use Rattle.xc_search.proofs.Elements.{each_weaker, each-map, each-filter, each_passes, each_both}
+use Rattle.xc_search.proofs.Filters.{map-map}
+use Rattle.std.proofs.lemmas.List.{map-append, take-append-drop}
 
 -- ---- the oldest moves
 
@@ -40,14 +38,9 @@ oldest-append n (m ∷ ms) t h =
     let one_more : suc (length (ms ++ t)) - n ≡ suc (length (ms ++ t) - n) = omega (arith, length-append ms t, h) in
     ap (λ k. drop k (m ∷ ms ++ t)) one_more ∙ oldest-append n ms t h
 
-pub split_at : {X : Type 0} (k : ℕ) (xs : List X) → xs ≡ take k xs ++ drop k xs
-split_at zero xs = refl
-split_at (suc k) [] = refl
-split_at (suc k) (x ∷ xs) = ap (λ ys. x ∷ ys) (split_at k xs)
-
 pub oldest-oldest : (m n : ℕ) (t : List Move) → m ≤ n → n ≤ length t → oldest m (oldest n t) ≡ oldest m t
 oldest-oldest m n t h k =
-    sym (ap (oldest m) (split_at (length t - n) t) ∙ oldest-append m (take (length t - n) t) (oldest n t) (omega (arith, length-oldest n t k, h)))
+    sym (ap (oldest m) (sym (take-append-drop (length t - n) t)) ∙ oldest-append m (take (length t - n) t) (oldest n t) (omega (arith, length-oldest n t k, h)))
 
 -- ---- moves on top
 
@@ -94,11 +87,6 @@ ext_longer s t e = omega (arith, ap length e.1, length-append e.0 t)
 
 -- ---- the item of a level
 
-one_of : (P : Wanted → Type 0) (w : Wanted) (ws : List Wanted) → AllByRecursion P ws → IsOneOf w ws → P w
-one_of P w [] a h = absurd h
-one_of P w (v ∷ vs) a (inl e) = subst P (sym e) a.0
-one_of P w (v ∷ vs) a (inr h) = one_of P w vs a.1 h
-
 range_from : (a n : ℕ) → AllByRecursion (λ i. a ≤ i) (range_with_len a n)
 range_from a zero = tt
 range_from a (suc n) = (omega arith, each_weaker (λ i. a + 1 ≤ i) (λ i. a ≤ i) (range_with_len (a + 1) n) (λ i h. omega (arith, h)) (range_from (a + 1) n))
@@ -107,9 +95,9 @@ all_primary : (p : Puzzle) (t : List Move) → AllByRecursion (λ w. IsPrimary p
 all_primary p t =
     let is = range_with_len 1 (primary_count p) in
     each-map (λ w. IsPrimary p w.item × (is_open w.item t ≡ true)) (wanted_at p t) (open_items p t)
-    (each_two (λ i. IsPrimary p i) (λ i. is_open i t ≡ true) (λ i. IsPrimary p i × (is_open i t ≡ true)) (open_items p t) (λ i a b. (a, b))
-      (each-filter (λ i. IsPrimary p i) (λ i. is_open i t) is (each_two (λ i. 1 ≤ i) (λ i. i < 1 + primary_count p) (λ i. IsPrimary p i) is (λ i a b. (a, omega (arith, b))) (range_from 1 (primary_count p)) (in_range 1 (primary_count p))))
-      (each_passes (λ i. is_open i t) is))
+    (each_both (λ i. IsPrimary p i) (λ i. is_open i t ≡ true) (λ i. IsPrimary p i × (is_open i t ≡ true)) (open_items p t) (λ i a b. (a, b))
+    (each-filter (λ i. IsPrimary p i) (λ i. is_open i t) is (each_both (λ i. 1 ≤ i) (λ i. i < 1 + primary_count p) (λ i. IsPrimary p i) is (λ i a b. (a, omega (arith, b))) (range_from 1 (primary_count p)) (in_range 1 (primary_count p))))
+    (each_passes (λ i. is_open i t) is))
 
 pub record Chosen (p : Puzzle) (t : List Move) (i n : ℕ) : Type 0 where
   pub branch : branch_item (residual_of p t) ≡ Some (wanted_at p t i)
@@ -129,8 +117,8 @@ chosen_item p t i n l e = by_case (branch_item (residual_of p t)) refl (sym (cho
         let some : choice_of (residual_of p t) ≡ Some (w.item, branch_count (residual_of p t) w) = ap (option_map (λ w. (w.item, branch_count (residual_of p t) w))) b in
         let parts = first_of_pair (w.item, branch_count (residual_of p t) w) (i, n) (sym some ∙ c) in
         let one = least_is_one (branch_count (residual_of p t)) (wanted_after p t) w b in
-        let here = one_of (λ w. IsPrimary p w.item × (is_open w.item t ≡ true)) w (wanted_after p t) (all_primary p t) one in
-        let as_is : w ≡ wanted_at p t i = one_of (λ w. w ≡ wanted_at p t w.item) w (wanted_after p t) (as_spent p t) one ∙ ap (wanted_at p t) parts.0 in
+        let here = each_in (λ w. IsPrimary p w.item × (is_open w.item t ≡ true)) (wanted_after p t) w (all_primary p t) one in
+        let as_is : w ≡ wanted_at p t i = each_in (λ w. w ≡ wanted_at p t w.item) (wanted_after p t) w (as_spent p t) one ∙ ap (wanted_at p t) parts.0 in
         record {
           branch = b ∙ ap Some as_is;
           count = sym parts.1 ∙ ap (branch_count (residual_of p t)) as_is;
@@ -150,18 +138,6 @@ chosen_none p t l e = by_case (branch_item (residual_of p t)) refl (sym (choice_
 
 pub branches_here : (p : Puzzle) (t : List Move) (w : Wanted) → branch_item (residual_of p t) ≡ Some w → branches_at p t ≡ branches_of (residual_of p t) w
 branches_here p t w e = rw e refl
-
-pub map-same : {X Y : Type 0} (f g : X → Y) (xs : List X) → ((x : X) → f x ≡ g x) → map f xs ≡ map g xs
-map-same f g [] h = refl
-map-same f g (x ∷ xs) h = ap₂ (λ y ys. y ∷ ys) (h x) (map-same f g xs h)
-
-map-map : {X Y Z : Type 0} (f : X → Y) (g : Y → Z) (xs : List X) → map g (map f xs) ≡ map (λ x. g (f x)) xs
-map-map f g [] = refl
-map-map f g (x ∷ xs) = ap (λ ys. g (f x) ∷ ys) (map-map f g xs)
-
-pub map-append : {X Y : Type 0} (f : X → Y) (xs ys : List X) → map f (xs ++ ys) ≡ map f xs ++ map f ys
-map-append f [] ys = refl
-map-append f (x ∷ xs) ys = ap (λ zs. f x ∷ zs) (map-append f xs ys)
 
 -- no primary item is left: one member, with no more choices
 pub solution : (p : Puzzle) (t : List Move) (ls : List Level) → AreLegal p t → choice_after p t ≡ None → coming p t ls true ≡ choices_of ls ∷ to_give p t ls
@@ -200,10 +176,11 @@ descended p t ls i n l a sp c stacked =
       base = oldest_all s;
     } in
     let unrolled : listing (residual_of p t) ≡ flat_map (λ b. map (λ m. b.choice ∷ m) (listing b.next)) (branches_at p t) =
-      listing_unrolled (residual_of p t) ∙ ap (λ o. level listing o (residual_of p t)) c.branch ∙ ap (flat_map (λ b. map (λ m. b.choice ∷ m) (listing b.next))) (sym (branches_here p t (wanted_at p t i) c.branch)) in
+    listing_unrolled (residual_of p t) ∙ ap (λ o. level listing o (residual_of p t)) c.branch ∙ ap (flat_map (λ b. map (λ m. b.choice ∷ m) (listing b.next))) (sym (branches_here p t (wanted_at p t i) c.branch)) in
     let worked : work (residual_of p t) ≡ suc (suc (cost work (branches_at p t))) =
-      work_unrolled (residual_of p t) ∙ ap (λ o. work_level work o (residual_of p t)) c.branch ∙ ap (λ bs. suc (suc (cost work bs))) (sym (branches_here p t (wanted_at p t i) c.branch)) in
-    ((subst (λ u. IsLevelAt p u s f) (sym under) is_level, subst (λ u. AreStacked p u ls) (sym under) stacked),
-     ap (λ ms. map (λ m. choices_of ls ++ m) ms ++ to_give p t ls) unrolled ∙ ap (λ ms. ms ++ to_give p t ls) (members_all (choices_of ls) (branches_at p t))
-     ∙ ap (λ u. members_of (choices_of ls) (branches_at p u) ++ to_give p u ls) (sym under),
-     omega (arith, worked, ap (λ u. cost work (branches_at p u)) under, ap (λ u. visits p u ls) under))
+    work_unrolled (residual_of p t) ∙ ap (λ o. work_level work o (residual_of p t)) c.branch ∙ ap (λ bs. suc (suc (cost work bs))) (sym (branches_here p t (wanted_at p t i) c.branch)) in (
+      (subst (λ u. IsLevelAt p u s f) (sym under) is_level, subst (λ u. AreStacked p u ls) (sym under) stacked),
+      ap (λ ms. map (λ m. choices_of ls ++ m) ms ++ to_give p t ls) unrolled ∙ ap (λ ms. ms ++ to_give p t ls) (members_all (choices_of ls) (branches_at p t))
+          ∙ ap (λ u. members_of (choices_of ls) (branches_at p u) ++ to_give p u ls) (sym under),
+      omega (arith, worked, ap (λ u. cost work (branches_at p u)) under, ap (λ u. visits p u ls) under),
+    )

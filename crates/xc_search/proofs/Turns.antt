@@ -1,24 +1,16 @@
 -- The steps of the search's loop.
-use Rattle.std.proofs.Common.{ℕ, zero, suc, ◌≡◌, ◌+◌, ◌-◌, ◌<◌, ◌≤◌, Bool, true, false, not, List, [], ◌∷◌, ◌++◌, length, reverse, Option, Some, None, refl, sym, ap, ap₂, ◌∙◌, arith, subst}
-use Rattle.std.proofs.lemmas.List.{reverse-append}
-use Rattle.xc_search.specs.declared.choice.Choice.{Choice}
+use Rattle.std.proofs.Common.{ℕ, ◌≡◌, ◌+◌, ◌<◌, ◌≤◌, Bool, true, false, List, ◌∷◌, length, Some, None, sym, ap, ◌∙◌, arith, subst}
 use Rattle.xc_dance.specs.declared.dance.Move.{Move}
 use Rattle.xc_search.specs.declared.level.Level.{Level}
 use Rattle.xc_input.specs.Problem.{Puzzle}
-use Rattle.xc_dance.specs.Moves.{AreLegal, AreTweaks}
-use Rattle.xc_search.specs.Residuals.{choice_after, wanted_after}
-use Rattle.xc_search.specs.Residuals.{opened, oldest}
-use Rattle.xc_search.specs.Stack.{AreAllWanted, IsNode, IsLevel, AreStacked, choices_of, to_give, coming, IsStanding, first_level, IsBegun, visits, ahead, IsDeepened, IsTurned}
+use Rattle.xc_dance.specs.Moves.{AreTweaks}
+use Rattle.xc_search.specs.Residuals.{choice_after}
+use Rattle.xc_search.specs.Commits.{opened, oldest}
+use Rattle.xc_search.specs.Stack.{IsNode, IsLevel, AreStacked, choices_of, to_give, coming, IsStanding, first_level, IsBegun}
+use Rattle.xc_search.specs.Ahead.{ahead, IsDeepened, IsTurned}
 use Rattle.xc_search.proofs.Stacks.{solution, descended, chosen_item}
-use Rattle.xc_search.proofs.Begins.{returned, finished, begun_coming, closing}
-
-pub not_false : (b : Bool) → not b ≡ false → b ≡ true
-not_false true e = refl
-not_false false e = sym e
-
-pub not_true : (b : Bool) → not b ≡ true → b ≡ false
-not_true false e = refl
-not_true true e = sym e
+use Rattle.xc_search.proofs.Returns.{returned, finished, closing}
+use Rattle.xc_search.proofs.Coming.{begun_coming}
 
 pub finds : (p : Puzzle) (t : List Move) (ls : List Level) (down : Bool) → IsStanding p t ls down → down ≡ true → choice_after p t ≡ None → coming p t ls down ≡ choices_of ls ∷ to_give p t ls
 finds p t ls down s d e = ap (coming p t ls) d ∙ solution p t ls (s.legal d) e
@@ -27,9 +19,6 @@ pub node_at : (p : Puzzle) (t : List Move) (ls : List Level) (down : Bool) (i n 
 node_at p t ls down i n s d e =
     let c = chosen_item p t i n (s.legal d) e in
     record { legal = s.legal d; wanted = s.wanted d; item = c.item; is_open = c.is_open; sparing = s.sparing d }
-
-pub stays_there : (p : Puzzle) (t : List Move) (ls : List Level) (down : Bool) → IsStanding p t ls down → down ≡ false → IsDeepened p t ls down t ls
-stays_there p t ls down s d = record { stacked = s.stacked; members = ap (coming p t ls) d; less = omega (arith, ap (ahead p t ls) d) }
 
 pub deepens : (p : Puzzle) (t : List Move) (ls : List Level) (down : Bool) (i n : ℕ) (s : List Move) (l : Level) (ks : List Level) → IsStanding p t ls down → down ≡ true → choice_after p t ≡ Some (i, n) →
     s ≡ opened p i t → l ≡ first_level p t i n → ks ≡ l ∷ ls → IsDeepened p t ls down s ks
@@ -74,7 +63,3 @@ back_at p t r l ls stacked er =
     let u = oldest l.base t in
     let close = closing p u l back.0.0 back.3 in
     subst (λ r. IsLevel p r l × (l.base ≡ length r) × (0 < l.tweaks → AreTweaks l.tweaks r) × (l.mark + l.tweaks ≤ length r)) (sym er) (back.0.0, back.3, close.0, close.1)
-
--- the newest level of a list that holds them oldest first
-pub popped : (before after : List Level) (l : Level) → before ≡ after ++ l ∷ [] → reverse before ≡ l ∷ reverse after
-popped before after l e = ap reverse e ∙ reverse-append after (l ∷ [])

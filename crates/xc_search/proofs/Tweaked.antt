@@ -1,25 +1,27 @@
 -- Opening a level, and tweaks of its item.
-use Rattle.std.proofs.Common.{ℕ, zero, suc, ◌≡◌, ◌≢◌, ◌+◌, ◌-◌, ◌<◌, ◌≤◌, Bool, true, false, cond, not, ◌&&◌, eqb, ltb, leb, List, [], ◌∷◌, ◌++◌, length, map, filter, take, drop, Option, Some, None, refl, sym, ap, ap₂, ◌∙◌, arith, subst, eqb-true, eq-eqb, ne_eqb, le-leb, lt-ltb, le-ltb, leb-true, length-drop}
-use Rattle.std.proofs.lemmas.Bool.{lt-leb}
+use Rattle.std.proofs.Common.{ℕ, zero, suc, ◌≡◌, ◌≢◌, ◌-◌, ◌<◌, ◌≤◌, Bool, true, false, cond, not, ◌&&◌, eqb, leb, List, [], ◌∷◌, length, filter, take, drop, Some, None, refl, sym, ap, ◌∙◌, arith, subst, eqb-true, eq-eqb, le-leb, lt-ltb, le-ltb, leb-true, length-drop}
+use Rattle.std.proofs.lemmas.Bool.{lt-leb, eqb-false}
 use Rattle.std.proofs.lemmas.List.Elements.{filter_agree}
-use Rattle.std.specs.Prelude.{nat_lt, nat_le, is_some, slice_get, replicate}
-use Rattle.std.specs.List.{AllByRecursion}
+use Rattle.std.specs.Prelude.{nat_lt, nat_le, slice_get}
 use Rattle.xc_input.specs.declared.problem.Use.{Use}
 use Rattle.xc_dance.specs.declared.dance.Move.{Move}
-use Rattle.xc_dance.specs.declared.dance.Move.TheVariants.{Cover, Purify, Tweak, Spend}
-use Rattle.xc_input.specs.Problem.{Puzzle, Numbered, primary_count, holds, high_at, IsPrimary, IsItem}
-use Rattle.xc_search.specs.Listing.{Wanted, Residual, less_one, may_stay, item_left}
-use Rattle.xc_input.specs.Problem.{holding}
-use Rattle.xc_dance.specs.Moves.{listed, is_open, purified, spends, open_items, without, AreLegal, IsLegal}
-use Rattle.xc_search.specs.Residuals.{wanted_at, wanted_after}
-use Rattle.xc_search.specs.Residuals.{left, residual_of, opened}
-use Rattle.xc_search.specs.Commits.{tweaked}
+use Rattle.xc_dance.specs.declared.dance.Move.TheVariants.{Cover, Tweak, Spend}
+use Rattle.xc_input.specs.Problem.{Puzzle, Numbered, holds, high_at, IsItem, holding}
+use Rattle.xc_search.specs.Listing.{Residual, may_stay, item_left}
+use Rattle.xc_dance.specs.Moves.{listed, is_open, purified, spends, without, AreLegal}
+use Rattle.xc_search.specs.Residuals.{wanted_after, left, residual_of}
+use Rattle.xc_search.specs.Commits.{opened, tweaked}
 use Rattle.xc_search.specs.Stack.{IsNode}
-use Rattle.xc_search.proofs.Left.{listed_open, left_rises, NumbersRise, NumbersRise-weaker, NumbersRise-filter, filter_both, filter_same, without_filter}
-use Rattle.xc_search.proofs.Picked.{commit_use, AreWanted, as_residual, keep_all, is_wanted}
-use Rattle.xc_search.proofs.Ready.{found_wanted, opening_commits, legal_opening, spent_self, ne_from, each_of_all}
+use Rattle.xc_search.proofs.Left.{listed_open, left_rises, without_filter}
+use Rattle.xc_search.proofs.Rising.{NumbersRise-filter, NumbersRise-weaker, NumbersRise}
+use Rattle.xc_search.proofs.Picked.{commit_use, as_residual}
+use Rattle.xc_search.proofs.Ready.{found_wanted, opening_commits, legal_opening, spent_self}
 use Rattle.xc_search.proofs.ReadyLeft.{has_left, primary_pure}
 use Rattle.xc_search.proofs.Rotated.{cut}
+use Rattle.xc_search.proofs.Elements.{each_of_all}
+use Rattle.xc_search.proofs.Filters.{filter_both, keep_all}
+use Rattle.xc_search.proofs.Tests.{only_rest}
+use Rattle.xc_search.proofs.Places.{slice_get-drop, before_some, drop_one}
 
 -- ---- what tweaks leave as it was
 
@@ -38,11 +40,6 @@ purified_tweaked j (suc m) i s = purified_tweaked j m i s
 pub spends_tweaked : (j m i : ℕ) (s : List Move) → spends j (tweaked m i s) ≡ spends j s
 spends_tweaked j zero i s = refl
 spends_tweaked j (suc m) i s = spends_tweaked j m i s
-
-drop_one : {X : Type 0} (m : ℕ) (xs : List X) → drop 1 (drop m xs) ≡ drop (suc m) xs
-drop_one zero xs = refl
-drop_one (suc m) [] = refl
-drop_one (suc m) (x ∷ xs) = drop_one m xs
 
 pub listed_tweaked : (p : Puzzle) (m i : ℕ) (s : List Move) → listed p (tweaked m i s) i ≡ drop m (listed p s i)
 listed_tweaked p zero i s = refl
@@ -86,16 +83,6 @@ first_below i n (o ∷ os) x r e =
 without_head : (i n : ℕ) (os : List Numbered) (x : Numbered) → NumbersRise n os → slice_get (holding i os) 0 ≡ Some x → without (take 1 (holding i os)) os ≡ filter (λ o. not (holds o i && nat_le o.number x.number)) os
 without_head i n os x r e = ap (λ g. without g os) (sym (first_below i n os x r e)) ∙ without_filter (λ o. holds o i && nat_le o.number x.number) n os r
 
-slice_get-drop : {X : Type 0} (xs : List X) (m : ℕ) → slice_get (drop m xs) 0 ≡ slice_get xs m
-slice_get-drop xs zero = refl
-slice_get-drop [] (suc m) = refl
-slice_get-drop (x ∷ xs) (suc m) = slice_get-drop xs m
-
-pub before_some : {X : Type 0} (xs : List X) (m : ℕ) (x : X) → slice_get xs (suc m) ≡ Some x → (y : X) × (slice_get xs m ≡ Some y)
-before_some [] m x e = cc
-before_some (y ∷ xs) zero x e = (y, refl)
-before_some (y ∷ xs) (suc m) x e = before_some xs m x e
-
 pub rise_above : (n : ℕ) (os : List Numbered) (m : ℕ) (x : Numbered) → NumbersRise n os → slice_get os m ≡ Some x → n < x.number
 rise_above n [] m x r e = cc
 rise_above n (o ∷ os) zero x r e = let same : o ≡ x = cc in omega (arith, r.0, ap (λ (y : Numbered). y.number) same)
@@ -126,14 +113,14 @@ left_open p (suc m) i s x l o h e =
     let t = tweaked (suc m) i s in
     let here : is_open i t ≡ true = open_tweaked i (suc m) i s ∙ o in
     let head : slice_get (holding i (left p t)) 0 ≡ Some x =
-      ap (λ os. slice_get os 0) (sym (listed_open p t l i here) ∙ listed_tweaked p (suc m) i s ∙ ap (drop (suc m)) h) ∙ slice_get-drop (holding i (left p s)) (suc m) ∙ e in
+    ap (λ os. slice_get os 0) (sym (listed_open p t l i here) ∙ listed_tweaked p (suc m) i s ∙ ap (drop (suc m)) h) ∙ slice_get-drop (holding i (left p s)) (suc m) ∙ e in
     let fewer = rise_step 0 (holding i (left p s)) m before.0 x (NumbersRise-filter (λ o. holds o i) 0 (left p s) (left_rises p s)) before.1 e in
     left_tweak p i t here
     ∙ (without_head i 0 (left p t) x (left_rises p t) head
     ∙ ap (filter (λ o. not (holds o i && nat_le o.number x.number))) (left_open p m i s before.0 l.1 o h before.1)
     ∙ filter_both (λ o. not (holds o i && nat_le o.number x.number)) (λ o. not (holds o i && nat_le o.number before.0.number)) (left p s)
     ∙ filter_agree _ _ (λ o. cut_more (holds o i) (nat_le o.number before.0.number) (nat_le o.number x.number)
-      (λ b. le-leb o.number x.number (omega (arith, leb-true o.number before.0.number b, fewer)))) (left p s))
+    (λ b. le-leb o.number x.number (omega (arith, leb-true o.number before.0.number b, fewer)))) (left p s))
 
 -- ---- a level is opened at an open primary item
 
@@ -159,10 +146,6 @@ legal_branch p m i t n h =
 pub listed_branch : (p : Puzzle) (m i : ℕ) (t : List Move) → IsNode p t i → listed p (tweaked m i (opened p i t)) i ≡ drop m (holding i (left p t))
 listed_branch p m i t n = listed_tweaked p m i (opened p i t) ∙ ap (drop m) (listed_opened p i t n)
 
-only_rest : (a b : Bool) → (not (a && b) && not a) ≡ not a
-only_rest true b = elim b as (λ b. (not (true && b) && false) ≡ false) [ true ↦ refl | false ↦ refl ]
-only_rest false b = refl
-
 -- before option x at place k of the item's list is committed for the other items
 pub branch_cut : (p : Puzzle) (u : Use) (t : List Move) (k m : ℕ) (x : Numbered) → IsNode p t u.item → slice_get (holding u.item (left p t)) k ≡ Some x →
     (high_at p u.item - spends u.item (Spend u.item ∷ t) ≢ 0 → m ≡ suc k) → AreLegal p (tweaked k u.item (opened p u.item t)) →
@@ -182,12 +165,12 @@ branch_cut p u t k m x n e h l = by_case (eqb (high_at p u.item - spends u.item 
         ∙ as_residual _ _ _ _ (items_tweaked p m u.item s) (left_closed p m u.item s closed)
         ∙ ap (residual_of p) (sym it_is) ∙ commits
         ∙ as_residual _ _ _ _ refl
-          (filter_agree (may_stay (item_left (residual_of p t) u.item) u) (λ o. not (holds o u.item && nat_le o.number x.number) && may_stay (item_left (residual_of p t) u.item) u o)
-            (λ o. rw (found_wanted p t u.item n.item n.is_open, not_more) (sym (only_rest (holds o u.item) (nat_le o.number x.number)))) (left p t)
-          ∙ sym (filter_both (may_stay (item_left (residual_of p t) u.item) u) (λ o. not (holds o u.item && nat_le o.number x.number)) (left p t)))
+        (filter_agree (may_stay (item_left (residual_of p t) u.item) u) (λ o. not (holds o u.item && nat_le o.number x.number) && may_stay (item_left (residual_of p t) u.item) u o)
+        (λ o. rw (found_wanted p t u.item n.item n.is_open, not_more) (sym (only_rest (holds o u.item) (nat_le o.number x.number)))) (left p t)
+        ∙ sym (filter_both (may_stay (item_left (residual_of p t) u.item) u) (λ o. not (holds o u.item && nat_le o.number x.number)) (left p t)))
     by_case false c =
         let some_left = has_left p t u.item n.wanted n.item n.is_open in
-        let not_zero : high_at p u.item - spends u.item (Spend u.item ∷ t) ≢ 0 = ne_from _ _ c in
+        let not_zero : high_at p u.item - spends u.item (Spend u.item ∷ t) ≢ 0 = eqb-false _ _ c in
         let is_more : nat_lt 1 (high_at p u.item - spends u.item t) ≡ true = lt-ltb 1 (high_at p u.item - spends u.item t) (omega (arith, not_zero, spent_self u.item t)) in
         let s : List Move = Spend u.item ∷ t in
         let it_is : opened p u.item t ≡ s = rw c refl in
@@ -197,6 +180,6 @@ branch_cut p u t k m x n e h l = by_case (eqb (high_at p u.item - spends u.item 
         ap (λ s. residual_of p (tweaked m u.item s)) it_is
         ∙ ap (λ m. residual_of p (tweaked m u.item s)) (h not_zero)
         ∙ as_residual _ _ _ _ (items_tweaked p (suc k) u.item s ∙ items)
-          (left_open p k u.item s x legal n.is_open (listed_open p t n.legal u.item n.is_open) e
-          ∙ sym (keep_all (may_stay (item_left (residual_of p t) u.item) u) (filter (λ o. not (holds o u.item && nat_le o.number x.number)) (left p t))
-            (each_of_all (λ o. may_stay (item_left (residual_of p t) u.item) u o ≡ true) (filter (λ o. not (holds o u.item && nat_le o.number x.number)) (left p t)) (λ o. rw (found_wanted p t u.item n.item n.is_open, is_more) refl))))
+        (left_open p k u.item s x legal n.is_open (listed_open p t n.legal u.item n.is_open) e
+        ∙ sym (keep_all (may_stay (item_left (residual_of p t) u.item) u) (filter (λ o. not (holds o u.item && nat_le o.number x.number)) (left p t))
+        (each_of_all (λ o. may_stay (item_left (residual_of p t) u.item) u o ≡ true) (filter (λ o. not (holds o u.item && nat_le o.number x.number)) (left p t)) (λ o. rw (found_wanted p t u.item n.item n.is_open, is_more) refl))))

@@ -1,7 +1,7 @@
 -- Covers, and the sets of options that members of a listing stand for.
-use Rattle.std.specs.Prelude.{ℕ, ◌+◌, ◌<◌, ◌≤◌, ◌≡◌, ◌≢◌, ◌↔◌, Bool, List, length, Option, Some, None, is_some, All, AllPairs, Contains, count_by, filter_map, slice_get, IsTrue}
+use Rattle.std.specs.Prelude.{ℕ, ◌<◌, ◌≤◌, ◌≡◌, ◌≢◌, ◌↔◌, List, Some, is_some, All, AllPairs, Contains, count_by, filter_map, slice_get}
 use Rattle.xc_search.specs.declared.choice.Choice.{Choice}
-use Rattle.xc_input.specs.Problem.{Puzzle, Bounds, primary_count, option_count, bounds_at, uses_of, colour_in, IsSecondary}
+use Rattle.xc_input.specs.Problem.{Puzzle, Bounds, option_count, bounds_at, uses_of, colour_in, IsSecondary}
 use Rattle.xc_search.specs.Listing.{listing, whole}
 
 -- how many of these options hold item i
@@ -25,6 +25,7 @@ options_of m = filter_map (λ c. c.option) m
 abbrev pub SameSet : List ℕ → List ℕ → Type 0
 SameSet a b = (o : ℕ) → Contains a o ↔ Contains b o
 
+-- the solutions of a problem, in order
 abbrev pub members : Puzzle → List (List Choice)
 members p = listing (whole p)
 
@@ -39,3 +40,10 @@ EachCoverIsListed p = (s : List ℕ) → IsCover p s → (k : ℕ) × (m : List 
 -- members at two places have different sets
 abbrev pub NoSetTwice : Puzzle → Type 0
 NoSetTwice p = (j k : ℕ) (l m : List Choice) → slice_get (members p) j ≡ Some l → slice_get (members p) k ≡ Some m → SameSet (options_of l) (options_of m) → j ≡ k
+
+-- each cover is the set of exactly one member
+abbrev pub EachCoverIsListedOnce : Puzzle → Type 0
+EachCoverIsListedOnce p =
+    (s : List ℕ) → IsCover p s →
+    (k : ℕ) × ((m : List Choice) × (slice_get (members p) k ≡ Some m) × SameSet s (options_of m))
+    × ((j : ℕ) (l : List Choice) → slice_get (members p) j ≡ Some l → SameSet s (options_of l) → j ≡ k)

@@ -3,5 +3,8 @@ pub mod Cover
 pub mod Residuals
 pub mod Commits
 pub mod Stack
+pub mod Ahead
 pub mod Room
+pub mod Sparing
 pub mod Outlook
+pub mod Worked

@@ -1,5 +1,5 @@
 -- The solutions of a problem, in order.
-use Rattle.std.specs.Prelude.{ℕ, zero, suc, ◌+◌, ◌-◌, ◌<◌, ◌≤◌, ◌≡◌, Bool, true, false, not, ◌&&◌, ◌||◌, ◌==◌, nat_lt, nat_le, List, [], ◌∷◌, ◌++◌, length, map, filter, take, find, flat_map, Option, Some, None, is_some, if◌then◌else◌}
+use Rattle.std.specs.Prelude.{ℕ, zero, suc, ◌+◌, ◌-◌, Bool, true, not, ◌&&◌, ◌||◌, ◌==◌, nat_lt, nat_le, List, [], ◌∷◌, ◌++◌, length, map, filter, take, find, flat_map, Option, Some, None, if◌then◌else◌}
 use Rattle.std.specs.List.{list_all, enumerate_from, best_of}
 use Rattle.xc_input.specs.declared.problem.Use.{Use}
 use Rattle.xc_search.specs.declared.choice.Choice.{Choice}
@@ -16,6 +16,7 @@ pub record Residual : Type 0 where
   pub items : List Wanted
   pub options : List Numbered
 
+-- the primary items with these bounds, from item i on
 abbrev pub wanted_from : ℕ → List Bounds → List Wanted
 wanted_from i [] = []
 wanted_from i (b ∷ bs) = record { item = i; low = b.low; high = b.high } ∷ wanted_from (i + 1) bs
@@ -28,6 +29,7 @@ whole p = record { items = wanted_from 1 p.bounds; options = numbered_options p 
 abbrev pub count_of : ℕ → ℕ → ℕ
 count_of len low = (len + 1) - low
 
+-- the number of branches of an item that is left
 abbrev pub branch_count : Residual → Wanted → ℕ
 branch_count r w = count_of (length (holding w.item r.options)) w.low
 
@@ -36,6 +38,7 @@ abbrev pub first_least : (Wanted → ℕ) → List Wanted → Option Wanted
 first_least count [] = None
 first_least count (w ∷ ws) = Some (best_of (λ x best. nat_lt (count x) (count best)) w ws)
 
+-- the branch item
 abbrev pub branch_item : Residual → Option Wanted
 branch_item r = first_least (branch_count r) r.items
 
@@ -43,6 +46,7 @@ branch_item r = first_least (branch_count r) r.items
 abbrev pub less_one : Wanted → Wanted
 less_one w = record { item = w.item; low = w.low - 1; high = w.high - 1 }
 
+-- held once more, where the option holds it
 abbrev pub spend_one : Numbered → Wanted → Wanted
 spend_one x w = if holds x w.item then less_one w else w
 
@@ -56,9 +60,11 @@ abbrev pub may_stay : Option Wanted → Use → Numbered → Bool
 may_stay (Some w) u o = nat_lt 1 w.high || not (holds o u.item)
 may_stay None u o = agrees u.colour (colour_at o u.item)
 
+-- item i, where it is left
 abbrev pub item_left : Residual → ℕ → Option Wanted
 item_left r i = find (λ w. w.item == i) r.items
 
+-- an option stays where x is taken
 abbrev pub stays : Residual → Numbered → Numbered → Bool
 stays r x o = list_all (λ u. may_stay (item_left r u.item) u o) x.uses
 
@@ -85,6 +91,7 @@ pub record Branch : Type 0 where
 abbrev pub take_branch : Residual → ℕ → ℕ → ℕ × Numbered → Branch
 take_branch r i n kx = record { choice = record { item = i; option = Some kx.1.number; k = kx.0; n = n }; next = pick r i kx.1 }
 
+-- the branch that takes none
 abbrev pub none_branch : Residual → ℕ → ℕ → Branch
 none_branch r i n = record { choice = record { item = i; option = None; k = n; n = n }; next = none r i }
 

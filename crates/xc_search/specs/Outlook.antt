@@ -1,5 +1,5 @@
 -- What a search stands for.
-use Rattle.std.specs.Prelude.{ℕ, Bool, List}
+use Rattle.std.specs.Prelude.{ℕ, List}
 use Rattle.xc_search.specs.declared.choice.Choice.{Choice}
 use Rattle.xc_input.specs.Problem.{Puzzle}
 
@@ -11,8 +11,3 @@ pub record Outlook : Type 0 where
   pub shown : List Choice
   -- how many moves the trail has room for
   pub room : ℕ
-  -- how many levels and choices it has memory for
-  pub levels_room : ℕ
-  pub choices_room : ℕ
-  -- there was no memory
-  pub failed : Bool

@@ -1,17 +1,15 @@
 -- The levels of a search.
-use Rattle.std.specs.Prelude.{ℕ, zero, suc, ◌+◌, ◌-◌, ◌<◌, ◌≤◌, ◌≡◌, Bool, true, false, nat_lt, min, List, [], ◌∷◌, ◌++◌, length, map, drop, reverse, Option, Some, None, option_map, slice_get, if◌then◌else◌}
+use Rattle.std.specs.Prelude.{◌<◌, ℕ, suc, ◌≤◌, ◌≡◌, Bool, true, false, nat_lt, min, List, [], ◌∷◌, ◌++◌, length, map, drop, reverse, Option, Some, None, option_map, slice_get, flat_map, if◌then◌else◌}
 use Rattle.std.specs.List.{AllByRecursion}
 use Rattle.xc_search.specs.declared.choice.Choice.{Choice}
 use Rattle.xc_dance.specs.declared.dance.Move.{Move}
 use Rattle.xc_search.specs.declared.level.Level.{Level}
-use Rattle.xc_input.specs.Problem.{Puzzle, Numbered, IsPrimary, numbered_get}
-use Rattle.xc_search.specs.Listing.{Wanted, Residual, Branch, branch_item, branch_count, branches_of, listing, size_of}
-use Rattle.xc_input.specs.Problem.{holding}
+use Rattle.xc_input.specs.Problem.{Puzzle, Numbered, IsPrimary, numbered_get, holding}
+use Rattle.xc_search.specs.Listing.{Wanted, Branch, branch_item, branch_count, branches_of, listing}
 use Rattle.xc_dance.specs.Moves.{is_open, AreLegal}
-use Rattle.xc_search.specs.Residuals.{wanted_at, wanted_after}
-use Rattle.xc_search.specs.Residuals.{left, residual_of, opened, oldest, branches_at, members_of}
-use Rattle.xc_search.specs.Commits.{tweaked, walks}
-use Rattle.xc_search.specs.Room.{IsSparing}
+use Rattle.xc_search.specs.Residuals.{wanted_at, wanted_after, left, residual_of}
+use Rattle.xc_search.specs.Commits.{opened, oldest, tweaked, walks}
+use Rattle.xc_search.specs.Sparing.{IsSparing}
 
 -- something is left of each bound
 abbrev pub AreAllWanted : List Wanted → Type 0
@@ -25,6 +23,7 @@ pub record IsNode (p : Puzzle) (t : List Move) (i : ℕ) : Type 0 where
   pub is_open : is_open i t ≡ true
   pub sparing : IsSparing p t
 
+-- the options left that hold item i
 abbrev pub options_at : Puzzle → List Move → ℕ → List Numbered
 options_at p t i = holding i (left p t)
 
@@ -41,6 +40,7 @@ pub record IsLevelAt (p : Puzzle) (u t : List Move) (l : Level) : Type 0 where
   -- what stands before a branch
   pub base : oldest l.base t ≡ tweaked l.tweaks l.item (opened p l.item u)
 
+-- a level of the newest moves
 abbrev pub IsLevel : Puzzle → List Move → Level → Type 0
 IsLevel p t l = IsLevelAt p (oldest l.mark t) t l
 
@@ -56,6 +56,18 @@ chosen l = record { item = l.item; option = l.option; k = l.begun; n = l.count }
 -- the choices of levels, the newest first, in the order of the levels
 abbrev pub choices_of : List Level → List Choice
 choices_of ls = map chosen (reverse ls)
+
+-- the branches of what moves leave
+abbrev pub branches_at : Puzzle → List Move → List Branch
+branches_at p t = branches_from (branch_item (residual_of p t))
+  where
+    branches_from : Option Wanted → List Branch
+    branches_from None = []
+    branches_from (Some w) = branches_of (residual_of p t) w
+
+-- the members of these branches, behind the choices before them
+abbrev pub members_of : List Choice → List Branch → List (List Choice)
+members_of before bs = flat_map (λ b. map (λ m. before ++ b.choice ∷ m) (listing b.next)) bs
 
 -- what the levels have still to give by the branches that weren't begun
 abbrev pub to_give : Puzzle → List Move → List Level → List (List Choice)
@@ -78,6 +90,12 @@ pub record IsStanding (p : Puzzle) (t : List Move) (ls : List Level) (down : Boo
 abbrev pub first_level : Puzzle → List Move → ℕ → ℕ → Level
 first_level p t i n = record { mark = length t; base = length (opened p i t); item = i; option = None; begun = 0; count = n; tweaks = 0; walks = walks p t i }
 
+-- The moves of a level stand alone, and a branch wasn't begun yet.
+pub record MayBegin (p : Puzzle) (t : List Move) (l : Level) : Type 0 where
+  pub level : IsLevel p t l
+  pub whole : l.base ≡ length t
+  pub more : l.begun < l.count
+
 -- From level l on moves t a branch was begun, and level k stands on moves s.
 pub record IsBegun (p : Puzzle) (t : List Move) (l : Level) (s : List Move) (k : Level) : Type 0 where
   pub branch : Branch
@@ -95,42 +113,3 @@ pub record IsBegun (p : Puzzle) (t : List Move) (l : Level) (s : List Move) (k :
 -- the number of the option that a level's next branch takes
 abbrev pub next_number : Puzzle → List Move → Level → Option ℕ
 next_number p t l = option_map (λ o. o.number) (slice_get (options_at p (oldest l.mark t) l.item) l.begun)
-
--- ---- how much work is ahead
-
--- the work of these branches, each by the work of what it leaves
-abbrev pub cost : (Residual → ℕ) → List Branch → ℕ
-cost f [] = 0
-cost f (b ∷ bs) = suc (f b.next + cost f bs)
-
-abbrev pub work_level : (Residual → ℕ) → Option Wanted → Residual → ℕ
-work_level f None r = 2
-work_level f (Some w) r = suc (suc (cost f (branches_of r w)))
-
-unfoldable pub work_to : ℕ → Residual → ℕ
-work_to zero r = 2
-work_to (suc d) r = work_level (work_to d) (branch_item r) r
-
--- nodes and levels to be visited
-unfoldable pub work : Residual → ℕ
-work r = work_to (size_of r) r
-
-abbrev pub visits : Puzzle → List Move → List Level → ℕ
-visits p t [] = 0
-visits p t (l ∷ ls) = suc (cost work (drop l.begun (branches_at p (oldest l.mark t)))) + visits p (oldest l.mark t) ls
-
-abbrev pub ahead : Puzzle → List Move → List Level → Bool → ℕ
-ahead p t ls true = work (residual_of p t) + visits p t ls
-ahead p t ls false = visits p t ls
-
--- A search that stands at levels ls on moves t goes on at levels ks on moves s, with nothing lost.
-pub record IsDeepened (p : Puzzle) (t : List Move) (ls : List Level) (down : Bool) (s : List Move) (ks : List Level) : Type 0 where
-  pub stacked : AreStacked p s ks
-  pub members : coming p t ls down ≡ to_give p s ks
-  pub less : visits p s ks ≤ ahead p t ls down
-
--- Back at level l, a search goes on at levels ks.
-pub record IsTurned (p : Puzzle) (t : List Move) (l : Level) (ls : List Level) (s : List Move) (ks : List Level) (down : Bool) : Type 0 where
-  pub standing : IsStanding p s ks down
-  pub members : coming p s ks down ≡ to_give p t (l ∷ ls)
-  pub less : ahead p s ks down < visits p t (l ∷ ls)

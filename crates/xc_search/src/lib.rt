@@ -1,8 +1,11 @@
-//! The search for all covers, over any dance.
+//! The search for all covers of a problem, over any dance: Algorithms X, C and M of The Art of
+//! Computer Programming, Volume 4B, section 7.2.2.1.
 #![tactic(auto)]
 
 mod branch_item;
 mod choice;
+mod counts;
+pub mod laws;
 mod level;
 mod levels;
 mod search;
@@ -10,4 +13,5 @@ mod steps;
 
 pub use branch_item::{branches, choose};
 pub use choice::Choice;
+pub use counts::most_moves;
 pub use search::{Search, Step};

@@ -1,10 +1,10 @@
-//! The search.
-ghost use Rattle.std.specs.Prelude.{◌≡◌, ◌≢◌, ℕ, ◌+◌, ◌-◌, ◌<◌, ◌≤◌, ◌↔◌, List, [], ◌∷◌, IfOk, IfErr, Bool, true, false};
-ghost use Rattle.xc_input.specs.Problem.{primary_count, IsPrimary};
-ghost use Rattle.xc_search.specs.Room.{room_for, use_count};
+//! The search: a stack of levels over a dance.
+ghost use Rattle.std.specs.Prelude.{◌≡◌, ◌≤◌, [], ◌∷◌, IfOk, IfErr};
+ghost use Rattle.xc_search.specs.Room.{room_for};
 ghost use Rattle.xc_search.specs.Cover.{members};
 
 use crate::choice::Choice;
+use crate::counts::most_levels;
 use crate::level::Level;
 use crate::levels::{advance, show};
 use std::alloc::Global;
@@ -12,13 +12,17 @@ use std::marker::Model;
 use xc_dance::{Dance, Memory};
 use xc_input::Problem;
 
+/// An answer of `Search::next`.
 #[derive(Clone, Copy, Debug, PartialEq, Eq)]
 pub enum Step {
+    /// Another solution was reached.
     Solution,
+    /// No solution is left.
     Done,
-    Memory,
 }
 
+/// A search for all solutions of a problem, over a dance of that problem, whose moves it makes and
+/// undoes. It stands for the members of the problem's listing that are still to come.
 pub struct Search<'a, D: Dance> {
     dance: D,
     problem: &'a Problem,
@@ -27,12 +31,12 @@ pub struct Search<'a, D: Dance> {
     choices: Vec<Choice>,
     /// What is left wasn't searched yet.
     down: bool,
-    failed: bool,
 }
 
 impl<'a, D: Dance> Model for Search<'a, D> {
-    ghost use Rattle.std.specs.Prelude.{◌≡◌, reverse, false, vec_capacity};
+    ghost use Rattle.std.specs.Prelude.{◌≡◌, ◌≤◌, reverse, vec_capacity};
     ghost use Rattle.xc_search.specs.Outlook.{Outlook};
+    ghost use Rattle.xc_search.specs.Room.{room_for, level_limit};
     ghost use Rattle.xc_search.specs.Stack.{coming, IsStanding};
 
     ghost Value = { Outlook };
@@ -42,84 +46,73 @@ impl<'a, D: Dance> Model for Search<'a, D> {
       to_come = coming s.problem.now.puzzle (D.trail s.dance) (reverse s.levels.items) s.down;
       shown = s.choices.items;
       room = D.limit s.dance;
-      levels_room = vec_capacity s.levels;
-      choices_room = vec_capacity s.choices;
-      failed = s.failed;
     } };
 
     ghost invariant = { λ s. record {
       same : D.problem s.dance ≡ s.problem.now.puzzle;
-      standing : s.failed ≡ false → IsStanding s.problem.now.puzzle (D.trail s.dance) (reverse s.levels.items) s.down;
+      standing : IsStanding s.problem.now.puzzle (D.trail s.dance) (reverse s.levels.items) s.down;
+      moves_fit : room_for s.problem.now.puzzle ≤ D.limit s.dance;
+      levels_fit : level_limit s.problem.now.puzzle ≤ vec_capacity s.levels;
+      choices_fit : level_limit s.problem.now.puzzle ≤ vec_capacity s.choices;
     } };
 }
 
 impl<'a, D: Dance> Search<'a, D> {
-    pub fn new(
-        alloc: Global,
-        dance: D,
-        problem: &'a Problem,
-    ) -> Result<Search<'a, D>, (D, Memory)>
+    /// Begins a search over a dance that has no moves and room for `2 * items + 2 * uses` of them.
+    /// All memory is taken here: where there is none, the dance comes back as it was.
+    pub fn new(alloc: Global, dance: D, problem: &'a Problem) -> Result<Search<'a, D>, (D, Memory)>
         requires same { D.problem dance ≡ problem.now.puzzle }
         requires none { D.trail dance ≡ [] }
+        requires room { room_for problem.now.puzzle ≤ D.limit dance }
         ensures puzzle { IfOk result (λ s. s.puzzle ≡ problem.now.puzzle) }
         ensures members { IfOk result (λ s. s.to_come ≡ members problem.now.puzzle) }
         ensures shown { IfOk result (λ s. s.shown ≡ []) }
         ensures room { IfOk result (λ s. s.room ≡ D.limit dance) }
-        ensures failed { IfOk result (λ s. s.failed ≡ false) }
         ensures back { IfErr result (λ e. e.0 ≡ dance) }
     {
         let _items = problem.items();
+        let most = most_levels(problem);
+        let Ok(levels) = Vec::with_capacity(alloc, most) else {
+            return Err((dance, Memory));
+        };
+        let Ok(choices) = Vec::with_capacity(alloc, most) else {
+            return Err((dance, Memory));
+        };
         Ok(Search {
             dance,
             problem,
-            levels: Vec::new(alloc),
-            choices: Vec::new(alloc),
+            levels,
+            choices,
             down: true,
-            failed: false,
         })
     }
 
+    /// After `Solution` the choices of that solution, from the first level down; else none.
     pub fn choices(&self) -> &[Choice]
         ensures { result.now ≡ self.now.shown }
     {
         &self.choices
     }
 
+    /// Goes on to the next solution, which `choices` then gives. After `Done` it answers `Done`
+    /// again.
     pub fn next(&mut self) -> Step
         ensures puzzle { self.new.puzzle ≡ self.old.puzzle }
         ensures room { self.new.room ≡ self.old.room }
         ensures solution { result ≡ Step.Solution → self.old.to_come ≡ self.new.shown ∷ self.new.to_come }
-        ensures done { result ≡ Step.Done → (self.old.to_come ≡ []) × (self.new ≡ record self.old { shown = []; levels_room = self.new.levels_room; choices_room = self.new.choices_room }) }
-        ensures failed { self.new.failed ≡ true ↔ (result ≡ Step.Memory) }
-        ensures again { self.old.failed ≡ true → (result ≡ Step.Memory) × (self.new ≡ record self.old { shown = []; levels_room = self.new.levels_room; choices_room = self.new.choices_room }) }
-        ensures rooms { (self.old.levels_room ≤ self.new.levels_room) × (self.old.choices_room ≤ self.new.choices_room) }
-        ensures never { self.old.failed ≡ false → room_for self.old.puzzle ≤ self.old.room → use_count self.old.puzzle + primary_count self.old.puzzle ≤ self.old.levels_room → use_count self.old.puzzle + primary_count self.old.puzzle ≤ self.old.choices_room → result ≢ Step.Memory }
-        ensures cleared { result ≢ Step.Solution → self.new.shown ≡ [] }
+        ensures done { result ≡ Step.Done → (self.old.to_come ≡ []) × (self.new ≡ record self.old { shown = [] }) }
     {
         self.choices.clear();
-        if self.failed {
-            return Step::Memory;
-        }
         let down = self.down;
         self.down = false;
-        match advance(&mut self.dance, self.problem, &mut self.levels, down) {
-            Err(Memory) => {
-                self.failed = true;
-                Step::Memory
-            }
-            Ok(false) => Step::Done,
-            Ok(true) => match show(&self.levels, &mut self.choices) {
-                Ok(()) => Step::Solution,
-                Err(Memory) => {
-                    self.choices.clear();
-                    self.failed = true;
-                    Step::Memory
-                }
-            },
+        if !advance(&mut self.dance, self.problem, &mut self.levels, down) {
+            return Step::Done;
         }
+        show(&self.levels, &mut self.choices);
+        Step::Solution
     }
 
-    /// Undoes every move and gives the dance back.
+    /// Undoes every move and gives the dance back, after any answer of `next`.
     pub fn close(self) -> D
         ensures problem { D.problem result ≡ self.entry.puzzle }
         ensures room { D.limit result ≡ self.entry.room }
@@ -131,7 +124,6 @@ impl<'a, D: Dance> Search<'a, D> {
             levels: _,
             choices: _,
             down: _,
-            failed: _,
         } = self;
         while !dance.moves().is_empty() {
             dance.undo();

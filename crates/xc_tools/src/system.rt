@@ -2,9 +2,9 @@
 ghost use Rattle.std.specs.Prelude.{◌≡◌, ◌≤◌, None, is_err};
 ghost use Rattle.xc_input.specs.Calls.{counted};
 
-use crate::sink::{Sink, WriteFailed};
-use crate::source::{ReadFailed, Source};
 use std::io::{Read, Write};
+use xc_input::{ReadFailed, Source};
+use xc_list::{Sink, WriteFailed};
 
 /// How many bytes a sink holds back.
 const HELD: usize = 8192;
@@ -40,7 +40,9 @@ impl<R: Read + Drop> Source for Incoming<R> {
             self.failures = self.failures.saturating_add(1);
             return Err(ReadFailed);
         }
-        let most = usize::try_from(self.left).unwrap_or(usize::MAX).min(buf.len());
+        let most = usize::try_from(self.left)
+            .unwrap_or(usize::MAX)
+            .min(buf.len());
         let read = match &mut self.reader {
             Some(reader) => reader.read(&mut buf[..most]),
             None => {

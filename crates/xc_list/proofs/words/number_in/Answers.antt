@@ -11,4 +11,4 @@ returns-then-digit-value c =
     let some : 0 < length bytes = omega (arith, c.loop-b-test.true) in
     let large : 2 ^ 64 ≤ value * 10 + (get_or bytes i 0 - 48) = omega (arith, c.if-digit-value.true, c.if-b-lt48.false, c.if-b-gt57.false) in
     sym (some_digits bytes some ∙ c.loop-b.invariant.same ∙ ap (digits_in value) (behind bytes i 0 c.loop-b-test.true)
-      ∙ too_large value (get_or bytes i 0) (drop (i + 1) bytes) large)
+    ∙ too_large value (get_or bytes i 0) (drop (i + 1) bytes) large)

@@ -6,8 +6,8 @@ use Rattle.xc_dance.specs.Moves.{IsOpenPrimary, open_items}
 use Rattle.xc_search.specs.Residuals.{branches_after, wanted_at, wanted_after}
 use Rattle.xc_search.proofs.branch_item.choose.Given as goal
 
-abbrev pub invariant-loop-next : goal.invariant-loop-next
-invariant-loop-next g l =
+abbrev pub invariant-loop-count : goal.invariant-loop-count
+invariant-loop-count g l =
     let p = l.problem.puzzle in
     let t = g.D.Dance.trail l.dance in
     record {
@@ -17,5 +17,5 @@ invariant-loop-next g l =
       best : first_least (branches_after p t) (wanted_after p t) ≡ Some (best_from p t (wanted_at p t l.item) (filter (λ j. ltb l.at j) (open_items p t)));
     }
 
-abbrev pub decreases-loop-next : goal.decreases-loop-next
-decreases-loop-next g l = primary_count l.problem.puzzle - l.at
+abbrev pub decreases-loop-count : goal.decreases-loop-count
+decreases-loop-count g l = primary_count l.problem.puzzle - l.at

@@ -1,9 +1,10 @@
 use Rattle.std.proofs.Common.{◌≡◌, ◌≤◌, reverse, vec_capacity}
-use Rattle.xc_search.specs.Stack.{coming, IsStanding, ahead}
+use Rattle.xc_search.specs.Stack.{coming, IsStanding}
+use Rattle.xc_search.specs.Ahead.{ahead}
 use Rattle.xc_search.proofs.levels.advance.Given as goal
 
-abbrev pub invariant-loop-levels : goal.invariant-loop-levels
-invariant-loop-levels g l =
+abbrev pub invariant-loop-down : goal.invariant-loop-down
+invariant-loop-down g l =
     let p = l.problem.puzzle in
     record {
       problem : g.D.Dance.problem l.dance ≡ g.D.Dance.problem l.initial.dance;
@@ -13,5 +14,5 @@ invariant-loop-levels g l =
       members : coming p (g.D.Dance.trail l.dance) (reverse l.levels.items) l.descends ≡ coming p (g.D.Dance.trail l.initial.dance) (reverse l.initial.levels.items) l.initial.descends;
     }
 
-abbrev pub decreases-loop-levels : goal.decreases-loop-levels
-decreases-loop-levels g l = ahead l.problem.puzzle (g.D.Dance.trail l.dance) (reverse l.levels.items) l.descends
+abbrev pub decreases-loop-down : goal.decreases-loop-down
+decreases-loop-down g l = ahead l.problem.puzzle (g.D.Dance.trail l.dance) (reverse l.levels.items) l.descends

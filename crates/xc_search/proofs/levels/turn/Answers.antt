@@ -1,4 +1,4 @@
-use Rattle.std.proofs.Common.{◌≡◌, sym, ap, ◌∙◌, true, false, None, Some, reverse}
+use Rattle.std.proofs.Common.{reverse, arith}
 use Rattle.xc_search.proofs.Turns.{turns_end, turns_next, back_at}
 use Rattle.xc_search.proofs.levels.turn.Goals as goal
 
@@ -8,15 +8,16 @@ returns-then-level-clause-turned g c =
     let t = g.D.Dance.trail c.args.dance.now in
     turns_end p t (g.D.Dance.trail c.close_level.new.dance) (g.D.Dance.trail c.undo_to.new.dance) c.args.level (reverse c.args.levels.now.items) c.requires.stacked c.undo_to.ensures.trail c.if-level.true c.close_level.ensures.trail
 
-pub begin-requires-clause-level : goal.begin-requires-clause-level
-begin-requires-clause-level g c =
+pub begin-next-requires-clause-ready : goal.begin-next-requires-clause-ready
+begin-next-requires-clause-ready g c =
     let p = c.args.problem.now.puzzle in
     let t = g.D.Dance.trail c.args.dance.now in
-    (back_at p t (g.D.Dance.trail c.undo_to.new.dance) c.args.level (reverse c.args.levels.now.items) c.requires.stacked c.undo_to.ensures.trail).0
+    let back = back_at p t (g.D.Dance.trail c.undo_to.new.dance) c.args.level (reverse c.args.levels.now.items) c.requires.stacked c.undo_to.ensures.trail in
+    record { level = back.0; whole = back.1; more = omega (arith, c.if-level.false) }
 
 pub returns-clause-turned : goal.returns-clause-turned
 returns-clause-turned g c =
     let p = c.args.problem.now.puzzle in
     let t = g.D.Dance.trail c.args.dance.now in
-    turns_next p t (g.D.Dance.trail c.begin.new.dance) (g.D.Dance.trail c.undo_to.new.dance) c.args.level c.in-Ok.next (reverse c.args.levels.now.items) (reverse c.push.new.levels.items)
-    c.requires.stacked c.undo_to.ensures.trail c.in-Ok.ensures.begun c.in_ok-push.ensures.items
+    turns_next p t (g.D.Dance.trail c.begin-next.new.dance) (g.D.Dance.trail c.undo_to.new.dance) c.args.level c.begin-next.result (reverse c.args.levels.now.items) (reverse c.push.new.levels.items)
+    c.requires.stacked c.undo_to.ensures.trail c.begin-next.ensures.begun c.push.ensures.items

@@ -1,5 +1,5 @@
 use Rattle.xc_search.proofs.Fits.{fits_uses}
-use Rattle.std.proofs.Common.{arith, ◌≤◌, length, ◌+◌, sym, ap, ◌∙◌, subst, drop, get_or}
+use Rattle.std.proofs.Common.{arith, length, ◌+◌, sym, ap, ◌∙◌, subst, drop, get_or}
 use Rattle.xc_input.specs.declared.problem.Use.{Use}
 use Rattle.xc_dance.specs.Moves.{AreLegal}
 use Rattle.xc_search.specs.Commits.{after_use, after_uses}
@@ -29,18 +29,15 @@ loop-u-preserved g c =
     record {
       problem = c.commit_use.ensures.problem ∙ c.loop-u.invariant.problem;
       limit = c.commit_use.ensures.limit ∙ c.loop-u.invariant.limit;
-      trail = ap (after_uses p (drop (k + 1) us)) c.in_ok-commit_use.ensures.trail ∙ sym (first_use p us k u t (omega arith)) ∙ c.loop-u.invariant.trail;
+      trail = ap (after_uses p (drop (k + 1) us)) c.commit_use.ensures.trail ∙ sym (first_use p us k u t (omega arith)) ∙ c.loop-u.invariant.trail;
     }
 
-pub returns-in_err-commit_use-clause-room : goal.returns-in_err-commit_use-clause-room
-returns-in_err-commit_use-clause-room g c h =
+pub commit_use-requires-clause-room : goal.commit_use-requires-clause-room
+commit_use-requires-clause-room g c =
     let p = c.args.problem.now.puzzle in
     let t = g.D.Dance.trail c.loop-u.dance in
     let d : Use = record { item = 0; colour = 0 } in
     let us = c.args.uses.now in
     let k = c.loop-u.u-index in
-    let u = get_or us k d in
     let same = sym c.loop-u.invariant.trail ∙ first_use p us k d t (omega arith) in
-    let fits : length (after_use p u t) ≤ g.D.Dance.limit c.loop-u.dance = omega (arith, h, ap length same, fits_uses p (drop (k + 1) us) (after_use p u t), c.loop-u.invariant.limit) in
-    let bad = c.in_err-commit_use.ensures.room fits in
-    cc bad
+    omega (arith, c.requires.room, ap length same, fits_uses p (drop (k + 1) us) (after_use p (get_or us k d) t), c.loop-u.invariant.limit)

@@ -1,5 +1,5 @@
 use Rattle.std.proofs.Common.{arith, ◌<◌, ap, ◌∙◌, length, length-drop}
-use Rattle.xc_search.specs.Residuals.{oldest}
+use Rattle.xc_search.specs.Commits.{oldest}
 use Rattle.std.proofs.lemmas.List.{length-reverse}
 use Rattle.xc_search.proofs.Trails.{oldest-drop}
 use Rattle.xc_search.proofs.steps.undo_to.Goals as goal

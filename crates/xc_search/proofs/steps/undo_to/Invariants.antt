@@ -1,5 +1,5 @@
 use Rattle.std.proofs.Common.{◌≡◌, ◌≤◌, length}
-use Rattle.xc_search.specs.Residuals.{oldest}
+use Rattle.xc_search.specs.Commits.{oldest}
 use Rattle.xc_search.proofs.steps.undo_to.Given as goal
 
 abbrev pub invariant-loop-dance : goal.invariant-loop-dance

@@ -1,0 +1,87 @@
+-- One token of an option line.
+use Rattle.std.proofs.Common.{◌≡◌, ℕ, ◌+◌, List, [], ◌∷◌, ◌++◌, Option, None, Some, Bool, true, false, ◌||◌, ◌&&◌, not, nat_lt, nat_eq, is_none, is_some, unwrap_or, map, refl, ap, ◌∙◌, sym, subst, if◌then◌else◌, MatchOption, Result, Ok, Err, append_assoc, is_ok, is_err}
+use Rattle.std.specs.List.{list_any}
+use Rattle.xc_input.specs.declared.Kind.{Kind}
+use Rattle.xc_input.specs.declared.FaultKind.{FaultKind}
+use Rattle.xc_input.specs.declared.FaultKind.TheVariants.{UnknownItem, RepeatedInOption, ColourOnPrimary, BadColour, ColourNotHere}
+use Rattle.xc_input.specs.declared.option_line.Part.{Part}
+use Rattle.xc_input.specs.Words.{has, before, after, place}
+use Rattle.xc_input.specs.Sheets.{Written}
+use Rattle.xc_input.specs.Faults.{first, is_plain, is_bad_colour, name_checks, token_checks, option_checks, item_number, written, all_written}
+use Rattle.xc_input.specs.Drafts.{written_of, items_of}
+use Rattle.xc_input.proofs.FaultLemmas.{first-front, first-back, map-snoc}
+
+-- what follows the checks of the name, where the item is known by its place
+abbrev later : ℕ → List ℕ → Option ℕ → Bool → List ℕ → Option FaultKind
+later primary seen at coloured colour =
+    (if is_none at then Some UnknownItem else (if list_any (λ i. nat_eq i (unwrap_or at 0 + 1)) seen then Some RepeatedInOption else
+    (if coloured && not (nat_lt primary (unwrap_or at 0 + 1)) then Some ColourOnPrimary else (if coloured && is_bad_colour colour then Some BadColour else None))))
+
+pub none-after : (b : ℕ) (xs : List ℕ) → has b xs ≡ false → after b xs ≡ []
+none-after b [] e = refl
+none-after b (x ∷ xs) e =
+    let P : Bool → Type 0 = λ t. (t || has b xs) ≡ false → (if t then xs else after b xs) ≡ [] in
+    let h : P (nat_eq x b) = (elim (nat_eq x b) as P [ true ↦ λ f. absurd (cc) | false ↦ λ f. none-after b xs f ]) in h e
+
+module _ (kind : Kind) (names : List (List ℕ)) (primary : ℕ) (seen : List ℕ) (token : List ℕ) where
+  abbrev tail : List ℕ → List (FaultKind × Bool)
+  tail name = (UnknownItem, is_none (place names name)) ∷
+      (RepeatedInOption, list_any (λ i. nat_eq i (item_number names name)) seen) ∷
+      (ColourOnPrimary, has 58 token && not (nat_lt primary (item_number names name))) ∷
+      (BadColour, has 58 token && is_bad_colour (after 58 token)) ∷ []
+
+  module _ (b c : Bool) (e : b ≡ (is_plain kind && c)) (f : c ≡ has 58 token) (g : b ≡ false) (name : List ℕ) (is : name ≡ before 58 token) where
+    here : first (token_checks kind names primary seen token) ≡ first (name_checks name ++ tail name)
+    here = ap (λ t. if t then Some ColourNotHere else first (name_checks (before 58 token) ++ tail (before 58 token))) (ap (λ t. is_plain kind && t) (sym f) ∙ sym e ∙ g)
+        ∙ ap (λ n. first (name_checks n ++ tail n)) (sym is)
+
+    module _ (o : Option FaultKind) (h : o ≡ first (name_checks name)) (i : o ≡ None) (at : Option ℕ) (j : at ≡ place names name) where
+      named : first (token_checks kind names primary seen token) ≡ later primary seen at (has 58 token) (after 58 token)
+      named = here ∙ first-back (name_checks name) (tail name) (sym h ∙ i) ∙ ap (λ p. later primary seen p (has 58 token) (after 58 token)) (sym j)
+
+      module _ (k : ℕ) (l : at ≡ Some k) (t : Bool) (m : t ≡ list_any (λ i. nat_eq i (k + 1)) seen) where
+        known : first (token_checks kind names primary seen token) ≡ (if t then Some RepeatedInOption else (if has 58 token && not (nat_lt primary (k + 1)) then Some ColourOnPrimary else (if has 58 token && is_bad_colour (after 58 token) then Some BadColour else None)))
+        known = named ∙ ap (λ p. later primary seen p (has 58 token) (after 58 token)) l
+            ∙ ap (λ t. if t then Some RepeatedInOption else (if has 58 token && not (nat_lt primary (k + 1)) then Some ColourOnPrimary else (if has 58 token && is_bad_colour (after 58 token) then Some BadColour else None))) (sym m)
+
+        module _ (n : t ≡ false) where
+          once : first (token_checks kind names primary seen token) ≡ (if has 58 token && not (nat_lt primary (k + 1)) then Some ColourOnPrimary else (if has 58 token && is_bad_colour (after 58 token) then Some BadColour else None))
+          once = known ∙ ap (λ t. if t then Some RepeatedInOption else (if has 58 token && not (nat_lt primary (k + 1)) then Some ColourOnPrimary else (if has 58 token && is_bad_colour (after 58 token) then Some BadColour else None))) n
+
+          item-is : item_number names (before 58 token) ≡ k + 1
+          item-is = ap (λ x. item_number names x) (sym is) ∙ ap (λ p. unwrap_or p 0 + 1) (sym j ∙ l)
+
+          pub bare : has 58 token ≡ false → (first (token_checks kind names primary seen token) ≡ None) × (record { item = k + 1; colour = [] } ≡ written names token)
+          bare q = (
+            once ∙ ap (λ c. if c && not (nat_lt primary (k + 1)) then Some ColourOnPrimary else (if c && is_bad_colour (after 58 token) then Some BadColour else None)) q,
+            λ x. record { item = sym item-is x; colour = sym (none-after 58 token q) x },
+          )
+
+pub is-has : {A : Type 0} (o : Option A) (h : Bool) (P : A → Type 0) → MatchOption o (h ≡ false) (λ x. (h ≡ true) × P x) → is_some o ≡ h
+is-has None h P m = sym m
+is-has (Some x) h P m = sym m.0
+
+-- a step of the loop over the tokens
+pub token-stop : (kind : Kind) (names : List (List ℕ)) (primary : ℕ) (seen token : List ℕ) (line others : List (List ℕ)) (a : Option FaultKind) (k : FaultKind) → a ≡ first (option_checks kind names primary seen line) → line ≡ token ∷ others
+    → first (token_checks kind names primary seen token) ≡ Some k → a ≡ Some k
+token-stop kind names primary seen token line others a k e l f =
+    e ∙ ap (λ ts. first (option_checks kind names primary seen ts)) l ∙ first-front (token_checks kind names primary seen token) (option_checks kind names primary (seen ++ item_number names (before 58 token) ∷ []) others) k f
+
+pub token-step : (kind : Kind) (names : List (List ℕ)) (primary : ℕ) (parts more : List Part) (token : List ℕ) (line others : List (List ℕ)) (a : Option FaultKind) (all : List Written) (part : Part) → a ≡ first (option_checks kind names primary (items_of (map written_of parts)) line) → all ≡ map written_of parts ++ all_written names line
+    → line ≡ token ∷ others → (first (token_checks kind names primary (items_of (map written_of parts)) token) ≡ None) × (written_of part ≡ written names token) → more ≡ parts ++ part ∷ []
+    → (a ≡ first (option_checks kind names primary (items_of (map written_of more)) others)) × (all ≡ map written_of more ++ all_written names others)
+token-step kind names primary parts more token line others a all part e f l g h =
+    let us : map written_of more ≡ map written_of parts ++ written names token ∷ [] = ap (map written_of) h ∙ map-snoc written_of parts part ∙ ap (λ u. map written_of parts ++ u ∷ []) g.1 in
+    let is : items_of (map written_of more) ≡ items_of (map written_of parts) ++ item_number names (before 58 token) ∷ [] = ap items_of us ∙ map-snoc (λ (u : Written). u.item) (map written_of parts) (written names token) in (
+      e ∙ ap (λ ts. first (option_checks kind names primary (items_of (map written_of parts)) ts)) l
+          ∙ first-back (token_checks kind names primary (items_of (map written_of parts)) token) (option_checks kind names primary (items_of (map written_of parts) ++ item_number names (before 58 token) ∷ []) others) g.0
+          ∙ ap (λ s. first (option_checks kind names primary s others)) (sym is),
+      f ∙ ap (λ ts. map written_of parts ++ all_written names ts) l ∙ sym (append_assoc (map written_of parts) (written names token ∷ []) (all_written names others)) ∙ ap (λ us. us ++ all_written names others) (sym us),
+    )
+
+pub pushed : {A E : Type 0} (r : Result (Unit {0}) E) (old new : List A) (x : A) → is_err r ≡ false → new ≡ (if is_ok r then old ++ x ∷ [] else old) → new ≡ old ++ x ∷ []
+pushed (Ok y) old new x e f = f
+pushed (Err y) old new x e f = absurd (cc)
+
+pub at-none : {A : Type 0} (o : Option A) (N : Type 0) (P : A → Type 0) → o ≡ None → MatchOption o N P → N
+at-none o N P e m = subst (λ q. MatchOption q N P) e m

@@ -1,0 +1,28 @@
+use Rattle.std.proofs.Common.{subst, ◌<◌, refl, ◌∙◌, map}
+use Rattle.xc_input.specs.Drafts.{entry_of}
+use Rattle.xc_input.specs.Stored.{key_names}
+use Rattle.xc_input.proofs.FaultLemmas.{bad-bound, bad-name, too-many, no-fault, judged-on, grown, OnOk-map, length-items, items-length}
+use Rattle.xc_input.proofs.item_line.Items.add_item.Goals as goal
+
+pub returns-in-Err-clause-judged : goal.returns-in-Err-clause-judged
+returns-in-Err-clause-judged c = bad-bound c.args.kind (map entry_of c.args.self.now.items.items) _ _ c.args.token.now c.is_some.ensures _ c.in-Err.ensures
+
+pub returns-in-Some-clause-judged : goal.returns-in-Some-clause-judged
+returns-in-Some-clause-judged c = bad-name c.args.kind (map entry_of c.args.self.now.items.items) _ _ c.args.token.now c.is_some.ensures c.in-Ok.token.name.now c.in-Ok.token.low c.in-Ok.token.high c.in-Ok.ensures _ _ c.name_fault.ensures c.in-Some.is
+
+pub returns-then-len-ge100000-clause-judged : goal.returns-then-len-ge100000-clause-judged
+returns-then-len-ge100000-clause-judged c =
+    too-many c.args.kind (map entry_of c.args.self.now.items.items) _ _ c.args.token.now c.is_some.ensures c.in-Ok.token.name.now c.in-Ok.token.low c.in-Ok.token.high c.in-Ok.ensures _ c.name_fault.ensures c.in_default.is _ c.requires.0 _ c.place_of.ensures
+    _ _ c.is_some-2.ensures c.if-is_some.false (c.len.ensures ∙ length-items c.args.self.now.items) c.if-len-ge100000.true
+
+pub returns-clause-judged : goal.returns-clause-judged
+returns-clause-judged c =
+    judged-on _ _ c.push_item.result (no-fault c.args.kind (map entry_of c.args.self.now.items.items) _ _ c.args.token.now c.is_some.ensures c.in-Ok.token.name.now c.in-Ok.token.low c.in-Ok.token.high c.in-Ok.ensures _ c.name_fault.ensures c.in_default.is _ c.requires.0 _ c.place_of.ensures
+    _ _ c.is_some-2.ensures c.if-is_some.false (c.len.ensures ∙ length-items c.args.self.now.items) c.if-len-ge100000.false) c.push_item.ensures.judged
+
+pub returns-clause-added : goal.returns-clause-added
+returns-clause-added c =
+    OnOk-map c.push_item.result _ _ c.push_item.ensures.added (λ h.
+    let g = grown c.args.kind c.args.self.now.bar _ c.args.token.now c.is_some.ensures _ (key_names c.add_name.new.names.keys) c.args.self.now.items.items c.push_item.new.items.items
+    (record { name = c.in-Ok.token.name.now; low = c.in-Ok.token.low; high = c.in-Ok.token.high }) c.in-Ok.ensures.1 c.requires c.in_ok-add_name.ensures.added (subst (λ n. n < 100000) (c.len.ensures ∙ items-length c.args.self.now.items) c.if-len-ge100000.false) h in
+    (g.0, g.1, refl))

@@ -1,0 +1,65 @@
+-- What a text writes down, and the problem that it is.
+use Rattle.std.specs.Prelude.{ℕ, ◌+◌, ◌-◌, length, List, [], ◌∷◌, ◌++◌, is_none, unwrap_or, if◌then◌else◌, map, take, sum_by}
+use Rattle.xc_input.specs.declared.problem.Use.{Use}
+use Rattle.xc_input.specs.Words.{place}
+use Rattle.xc_input.specs.Problem.{Bounds}
+use Rattle.xc_input.specs.Named.{Named}
+
+-- an item: its name, and how many options of a cover hold it
+pub record Entry : Type 0 where
+  pub name : List ℕ
+  pub low : ℕ
+  pub high : ℕ
+
+-- the items in order, how many of them are primary, the options in file order, and the colours by their numbers, from 1
+pub record Sheet : Type 0 where
+  pub entries : List Entry
+  pub primaries : ℕ
+  pub options : List (List Use)
+  pub colours : List (List ℕ)
+
+-- a use as an option line writes it: the number of its item, and its colour, empty for none
+pub record Written : Type 0 where
+  pub item : ℕ
+  pub colour : List ℕ
+
+abbrev pub names_of : List Entry → List (List ℕ)
+names_of [] = []
+names_of (e ∷ es) = e.name ∷ names_of es
+
+abbrev pub entry_bounds : Entry → Bounds
+entry_bounds e = record { low = e.low; high = e.high }
+
+-- the problem of a sheet
+abbrev pub named_of : Sheet → Named
+named_of s = record {
+  names = names_of s.entries;
+  colours = s.colours;
+  puzzle = record { bounds = map entry_bounds (take s.primaries s.entries); secondary = length s.entries - s.primaries; options = s.options };
+}
+
+-- the colours so far and this one, where it is a new one
+abbrev pub with_colour : List (List ℕ) → List ℕ → List (List ℕ)
+with_colour colours [] = colours
+with_colour colours (b ∷ bs) = (if is_none (place colours (b ∷ bs)) then colours ++ (b ∷ bs) ∷ [] else colours)
+
+-- the number of a colour; none has 0
+abbrev pub colour_number : List (List ℕ) → List ℕ → ℕ
+colour_number colours [] = 0
+colour_number colours (b ∷ bs) = unwrap_or (place colours (b ∷ bs)) 0 + 1
+
+abbrev pub numbered : List (List ℕ) → Written → Use
+numbered colours u = record { item = u.item; colour = colour_number colours u.colour }
+
+-- the uses of an option that is kept, behind options that used these colours
+abbrev pub number_uses : List (List ℕ) → List Written → List Use
+number_uses colours [] = []
+number_uses colours (u ∷ us) = numbered (with_colour colours u.colour) u ∷ number_uses (with_colour colours u.colour) us
+
+-- the colours so far and those of the option
+abbrev pub with_uses : List (List ℕ) → List Written → List (List ℕ)
+with_uses colours [] = colours
+with_uses colours (u ∷ us) = with_uses (with_colour colours u.colour) us
+
+abbrev pub use_count : List (List Use) → ℕ
+use_count options = sum_by (λ us. length us) options

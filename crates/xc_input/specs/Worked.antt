@@ -1,0 +1,85 @@
+-- Worked texts, and what the definitions say of them.
+use Rattle.std.specs.Prelude.{◌≡◌, ℕ, List, [], ◌∷◌, ◌++◌, None, Some, codes}
+use Rattle.xc_input.specs.declared.Kind.{Kind}
+use Rattle.xc_input.specs.declared.Kind.TheVariants.{Plain, Colours, Bounds}
+use Rattle.xc_input.specs.declared.FaultKind.{FaultKind}
+use Rattle.xc_input.specs.declared.FaultKind.TheVariants.{NoItems, NulByte, EmptyName, NameTooLong, BadByteInName, RepeatedName, TwoBars, BadBound, BoundOrder, BoundOnSecondary, UnknownItem, RepeatedInOption, ColourOnPrimary, BadColour, ColourNotHere}
+use Rattle.xc_input.specs.declared.problem.Use.{Use}
+use Rattle.xc_input.specs.Problem.{Bounds as ItemBounds}
+use Rattle.xc_input.specs.Named.{Named}
+use Rattle.xc_input.specs.Sheets.{named_of}
+use Rattle.xc_input.specs.Stages.{first_fault, stage_of}
+use Rattle.xc_input.specs.Lines.{lines_of}
+
+abbrev pub use_of : ℕ → ℕ → Use
+use_of i c = record { item = i; colour = c }
+
+-- a final line feed begins no further line
+abbrev pub Cuts : Type 0
+Cuts =
+    (lines_of [] ≡ []) × (lines_of (10 ∷ []) ≡ [] ∷ []) × (lines_of (codes "A") ≡ codes "A" ∷ []) × (lines_of (codes "A" ++ 10 ∷ []) ≡ codes "A" ∷ [])
+    × (lines_of (codes "A" ++ 10 ∷ 10 ∷ codes "B") ≡ codes "A" ∷ [] ∷ codes "B" ∷ [])
+
+-- one line, or an item line and an option line, has this first fault
+abbrev pub Faulty : Kind → List ℕ → FaultKind → Type 0
+Faulty kind line k = first_fault kind (line ∷ []) ≡ Some (1, k)
+
+abbrev pub Faulty2 : Kind → List ℕ → List ℕ → FaultKind → Type 0
+Faulty2 kind a b k = first_fault kind (a ∷ b ∷ []) ≡ Some (2, k)
+
+abbrev pub ItemLines : Type 0
+ItemLines =
+    (first_fault Plain [] ≡ Some (1, NoItems)) × (first_fault Plain (codes "| hi" ∷ []) ≡ Some (2, NoItems))
+    × Faulty Bounds (codes "B|x A") BadBound × Faulty Plain (codes "B|x A") BadByteInName
+    × Faulty Bounds (codes "9999999999|a") BadBound × Faulty Bounds (codes "2:1|A") BoundOrder × Faulty Bounds (codes "0|A") BoundOrder
+    × Faulty Bounds (codes "A |1|x") BoundOnSecondary × Faulty Bounds (codes "A |0|x") BoundOrder × Faulty Bounds (codes "2|") EmptyName
+    × Faulty Bounds (codes "1|2|A") BadByteInName × Faulty Bounds (codes "A:b") BadByteInName × Faulty Bounds (codes "A||x") BadBound
+    × Faulty Plain (codes "A A") RepeatedName × Faulty Plain (codes "A | | x") TwoBars
+    × Faulty Plain (codes "123456789012345678901234567890123") NameTooLong
+
+abbrev pub OptionLines : Type 0
+OptionLines =
+    Faulty2 Plain (codes "A B") (codes "A B A") RepeatedInOption × Faulty2 Plain (codes "A") (codes "B") UnknownItem
+    × Faulty2 Plain (codes "A | x") (codes "A x:1") ColourNotHere × Faulty2 Plain (codes "A | x") (codes "x x") RepeatedInOption
+    × Faulty2 Colours (codes "A | x") (codes "A:1") ColourOnPrimary × Faulty2 Colours (codes "A | x") (codes "A x:") BadColour
+    × Faulty2 Colours (codes "A | x") (codes "A x:123456789") BadColour × Faulty2 Colours (codes "A | x") (codes "A A:1") RepeatedInOption
+    × Faulty2 Colours (codes "A") (codes ":") EmptyName × Faulty2 Plain (codes "A B") (codes "A ABCDEFGHIJ Q A") UnknownItem
+    × Faulty2 Plain (codes "A B") (codes "A A " ++ 0 ∷ []) NulByte
+
+-- comments, blank lines and carriage returns, and an option that is ignored
+abbrev pub commented : List (List ℕ)
+commented = (codes "| test" ++ 13 ∷ []) ∷ (13 ∷ []) ∷ (codes "A | x" ++ 13 ∷ []) ∷ (codes "x" ++ 13 ∷ []) ∷ codes "A x" ∷ []
+
+abbrev pub coloured : List (List ℕ)
+coloured = codes "A B | x" ∷ codes "A x:red" ∷ codes "B x:green" ∷ codes "B x:red" ∷ []
+
+abbrev pub bounds : ℕ → ℕ → ItemBounds
+bounds l h = record { low = l; high = h }
+
+-- the problem that lines without a fault stand for
+abbrev pub problem_of : Kind → List (List ℕ) → Named
+problem_of kind lines = named_of (stage_of kind lines).sheet
+
+abbrev pub Problems : Type 0
+Problems =
+    (first_fault Plain commented ≡ None) × ((stage_of Plain commented).ignored ≡ 4 ∷ [])
+    × (problem_of Plain commented ≡ record {
+      names = codes "A" ∷ codes "x" ∷ [];
+      colours = [];
+      puzzle = record { bounds = bounds 1 1 ∷ []; secondary = 1; options = (use_of 1 0 ∷ use_of 2 0 ∷ []) ∷ [] };
+    })
+    × (first_fault Colours coloured ≡ None)
+    × (problem_of Colours coloured ≡ record {
+      names = codes "A" ∷ codes "B" ∷ codes "x" ∷ [];
+      colours = codes "red" ∷ codes "green" ∷ [];
+      puzzle = record {
+        bounds = bounds 1 1 ∷ bounds 1 1 ∷ [];
+        secondary = 1;
+        options = (use_of 1 0 ∷ use_of 3 1 ∷ []) ∷ (use_of 2 0 ∷ use_of 3 2 ∷ []) ∷ (use_of 2 0 ∷ use_of 3 1 ∷ []) ∷ [];
+      };
+    })
+    × (problem_of Bounds (codes "2|A 0:1|B |x" ∷ []) ≡ record {
+      names = codes "A" ∷ codes "B" ∷ codes "x" ∷ [];
+      colours = [];
+      puzzle = record { bounds = bounds 2 2 ∷ bounds 0 1 ∷ []; secondary = 1; options = [] };
+    })

@@ -1,0 +1,137 @@
+//! Cuts lines into tokens, and tokens into their parts.
+
+ghost use Rattle.std.specs.Prelude.{◌≡◌, ◌++◌, ◌∷◌, ◌<◌, ◌≤◌, [], length, MatchOption, map, false, true, None, OnOk, IfOk};
+ghost use Rattle.xc_input.specs.Tokens.{is_space, tokens, parts, drop_white, word, is_skipped};
+ghost use Rattle.xc_input.specs.Words.{has, before, after, place, is_number, number};
+ghost use Rattle.xc_input.specs.Drafts.{Judged};
+
+use crate::draft::LineError;
+use bstr::ByteSlice;
+use indexmap::IndexSet;
+use std::alloc::Global;
+
+/// Whether a byte is white space.
+#[inline]
+pub fn is_white(b: u8) -> bool
+    ensures { result ≡ is_space b }
+{
+    b == b' ' || b == b'\t' || b == 11 || b == 12 || b == b'\r'
+}
+
+/// What stands behind leading white space.
+pub fn skip_white(line: &[u8]) -> &[u8]
+    ensures { result.now ≡ drop_white line.now }
+{
+    let mut rest = line;
+    while let [first, others @ ..] = rest {
+        if !is_white(*first) {
+            break;
+        }
+        rest = others;
+    }
+    rest
+}
+
+/// Whether a line is blank or a comment.
+pub fn is_skipped_line(line: &[u8]) -> bool
+    ensures { result ≡ is_skipped line.now }
+{
+    match skip_white(line) {
+        [] => true,
+        [first, ..] => *first == b'|',
+    }
+}
+
+/// How many bytes stand before the first white space.
+fn word_len(line: &[u8]) -> usize
+    ensures value { result ≡ length (word line.now) }
+    ensures within { result ≤ length line.now }
+{
+    for (i, b) in line.iter().enumerate() {
+        if is_white(*b) {
+            return i;
+        }
+    }
+    line.len()
+}
+
+/// The first token, and what is left behind it.
+pub fn next_token(line: &[u8]) -> Option<(&[u8], &[u8])>
+    ensures { MatchOption result (tokens line.now ≡ []) (λ p. (tokens line.now ≡ p.0.now ∷ tokens p.1.now) × (length p.1.now < length line.now)) }
+{
+    let rest = skip_white(line);
+    if rest.is_empty() {
+        return None;
+    }
+    Some(rest.split_at(word_len(rest)))
+}
+
+/// The first part of an item line, a bar or another token, and what is left behind it.
+pub fn next_part(line: &[u8]) -> Option<(&[u8], &[u8])>
+    ensures { MatchOption result (parts line.now ≡ []) (λ p. (parts line.now ≡ p.0.now ∷ parts p.1.now) × (length p.1.now < length line.now)) }
+{
+    let rest = skip_white(line);
+    if rest.is_empty() {
+        return None;
+    }
+    if rest[0] == b'|' {
+        return Some(rest.split_at(1));
+    }
+    Some(rest.split_at(word_len(rest)))
+}
+
+/// What stands before and behind the first such byte: all and nothing where there is none.
+pub fn cut_at(bytes: &[u8], byte: u8) -> (&[u8], Option<&[u8]>)
+    ensures front { result.0.now ≡ before byte bytes.now }
+    ensures back { MatchOption result.1 (has byte bytes.now ≡ false) (λ back. (has byte bytes.now ≡ true) × (back.now ≡ after byte bytes.now)) }
+{
+    match bytes.find_byte(byte) {
+        None => (bytes, None),
+        Some(i) => (&bytes[..i], Some(&bytes[i + 1..])),
+    }
+}
+
+/// The place of a name, from 0.
+pub fn place_of(names: &IndexSet<Vec<u8>>, name: &[u8]) -> Option<usize>
+    ensures { result ≡ place (map (λ v. v.items) names.now.keys) name.now }
+{
+    names.get_index_of(name)
+}
+
+/// Adds a new name, and gives its place.
+pub fn add_name(
+    alloc: Global,
+    names: &mut IndexSet<Vec<u8>>,
+    name: &[u8],
+) -> Result<usize, LineError>
+    requires { place (map (λ v. v.items) names.old.keys) name.now ≡ None }
+    ensures judged { Judged None result }
+    ensures added { OnOk result (map (λ v. v.items) names.new.keys ≡ map (λ v. v.items) names.old.keys ++ name.now ∷ []) }
+    ensures place { IfOk result (λ n. n ≡ length names.old.keys) }
+{
+    let Ok(key) = Vec::from_slice(alloc, name) else {
+        return Err(LineError::Memory);
+    };
+    let Ok((n, _)) = names.insert_full(key) else {
+        return Err(LineError::Memory);
+    };
+    Ok(n)
+}
+
+/// The number that one to nine digits stand for.
+pub fn number_of(text: &[u8]) -> Option<u32>
+    ensures value { MatchOption result (is_number text.now ≡ false) (λ n. (is_number text.now ≡ true) × (n ≡ number text.now)) }
+    ensures fits { MatchOption result (Unit {0}) (λ n. n < 1000000000) }
+{
+    if text.is_empty() || text.len() > 9 {
+        return None;
+    }
+    let mut n: u32 = 0;
+    for b in text {
+        if !b.is_ascii_digit() {
+            return None;
+        }
+        n = n * 10 + u32::from(*b - b'0');
+    }
+    Some(n)
+}

@@ -1,0 +1,122 @@
+//! Reads an option line.
+
+ghost use Rattle.std.specs.Prelude.{◌≡◌, ◌≤◌, [], None, Some, ◌&&◌, IfOk, OnOk, MatchResult, length, map, ℕ, List, All};
+ghost use Rattle.xc_input.specs.Tokens.{tokens};
+ghost use Rattle.xc_input.specs.Faults.{first, is_plain, is_bad_colour, token_checks, option_checks, written, all_written, most_items};
+ghost use Rattle.xc_input.specs.Drafts.{Judged, written_of, items_of, AreMarks, IsMarkable};
+ghost use Rattle.xc_input.specs.Stored.{key_names};
+
+use crate::cut::{cut_at, next_token, place_of};
+use crate::draft::LineError;
+use crate::item_line::name_fault;
+use crate::{FaultKind, Kind};
+use indexmap::IndexSet;
+use std::alloc::Global;
+
+/// A use as the line writes it: its item, and its colour, empty for none.
+#[derive(Clone, Copy)]
+pub struct Part<'a> {
+    pub item: u32,
+    pub colour: &'a [u8],
+}
+
+/// Whether a token has a colour where none may stand.
+fn is_refused(kind: Kind, coloured: bool) -> bool
+    ensures { result ≡ (is_plain kind && coloured) }
+{
+    match kind {
+        Kind::Plain => coloured,
+        Kind::Colours => false,
+        Kind::Bounds => false,
+    }
+}
+
+/// Whether a colour is empty or too long.
+fn is_misfit(colour: &[u8]) -> bool
+    ensures { result ≡ is_bad_colour colour.now }
+{
+    colour.is_empty() || colour.len() > 8
+}
+
+/// The use of a token behind uses of the marked items, or its first fault.
+fn use_of<'a>(
+    kind: Kind,
+    names: &IndexSet<Vec<u8>>,
+    primary: u32,
+    marks: &[bool],
+    token: &'a [u8],
+) -> Result<Part<'a>, FaultKind>
+    requires few { length names.now.keys ≤ most_items }
+    requires marks { length marks.now ≡ length names.now.keys }
+    ensures judged { (seen : List ℕ) → AreMarks marks.now seen → MatchResult result (λ p. (first (token_checks kind (key_names names.now.keys) primary seen token.now) ≡ None) × (written_of p ≡ written (key_names names.now.keys) token.now)) (λ fault. first (token_checks kind (key_names names.now.keys) primary seen token.now) ≡ Some fault) }
+    ensures within { IfOk result (λ p. IsMarkable (length marks.now) p) }
+{
+    let (name, colour) = cut_at(token, b':');
+    if is_refused(kind, colour.is_some()) {
+        return Err(FaultKind::ColourNotHere);
+    }
+    if let Some(fault) = name_fault(name) {
+        return Err(fault);
+    }
+    let Some(place) = place_of(names, name) else {
+        return Err(FaultKind::UnknownItem);
+    };
+    if marks[place] {
+        return Err(FaultKind::RepeatedInOption);
+    }
+    let item = place as u32 + 1;
+    let Some(colour) = colour else {
+        return Ok(Part { item, colour: b"" });
+    };
+    if item <= primary {
+        return Err(FaultKind::ColourOnPrimary);
+    }
+    if is_misfit(colour) {
+        return Err(FaultKind::BadColour);
+    }
+    Ok(Part { item, colour })
+}
+
+/// The uses of an option line, or its first fault. No item is marked before it, nor behind it.
+pub fn option_line<'a>(
+    alloc: Global,
+    kind: Kind,
+    names: &IndexSet<Vec<u8>>,
+    primary: u32,
+    marks: &mut [bool],
+    line: &'a [u8],
+) -> Result<Vec<Part<'a>>, LineError>
+    requires few { length names.now.keys ≤ most_items }
+    requires marks { length marks.old ≡ length names.now.keys }
+    requires unmarked { AreMarks marks.old [] }
+    ensures judged { Judged (first (option_checks kind (key_names names.now.keys) primary [] (tokens line.now))) result }
+    ensures uses { IfOk result (λ v. map written_of v.items ≡ all_written (key_names names.now.keys) (tokens line.now)) }
+    ensures unmarked { OnOk result (AreMarks marks.new []) }
+{
+    let mut parts = Vec::new(alloc);
+    let mut rest = line;
+    while let Some((token, others)) = next_token(rest) {
+        let part = match use_of(kind, names, primary, marks, token) {
+            Ok(part) => part,
+            Err(fault) => return Err(LineError::Fault(fault)),
+        };
+        marks[part.item as usize - 1] = true;
+        if parts.push(part).is_err() {
+            return Err(LineError::Memory);
+        }
+        rest = others;
+    }
+    clear(marks, parts.as_slice());
+    Ok(parts)
+}
+
+/// Takes the marks of these uses away.
+fn clear(marks: &mut [bool], parts: &[Part])
+    requires within { All (IsMarkable (length marks.old)) parts.now }
+    requires marked { AreMarks marks.old (items_of (map written_of parts.now)) }
+    ensures { AreMarks marks.new [] }
+{
+    for part in parts {
+        marks[part.item as usize - 1] = false;
+    }
+}

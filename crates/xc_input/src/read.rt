@@ -1,0 +1,126 @@
+//! Reads a problem from a source.
+
+ghost use Rattle.std.specs.Prelude.{◌≡◌, ◌++◌, ◌∷◌, [], ℕ, List, false, length, OnOk, IfErr, IfOk, IfSome, MatchOption};
+ghost use Rattle.xc_input.specs.Words.{has};
+ghost use Rattle.xc_input.specs.Named.{Named, IsSound};
+ghost use Rattle.xc_input.specs.Readings.{IsFault, IsEndOf};
+ghost use Rattle.xc_input.specs.Lines.{IsTextOf, lines_of};
+ghost use Rattle.xc_input.specs.Feeding.{fed, IsBetween, Spoils};
+ghost use Rattle.xc_input.specs.Inputs.{IsFaultOf, Counts, IsCut};
+
+use crate::cut::cut_at;
+use crate::reader::{Read, Reader};
+use crate::source::Source;
+use crate::{InputError, Kind};
+use std::alloc::{AllocError, Global};
+
+/// Reads the source to its end, or to the first error.
+pub fn read_problem<S: Source>(
+    alloc: Global,
+    kind: Kind,
+    source: &mut S,
+) -> Result<Read, InputError>
+    ensures accepted { IfSome (S.rest source.old) (λ bytes. IfOk result (λ r. IsTextOf kind bytes r.problem r.ignored.items)) }
+    ensures only { IfSome (S.rest source.old) (λ bytes. IfOk result (λ r. (p : Named) (ignored : List ℕ) → IsTextOf kind bytes p ignored → (p ≡ r.problem) × (ignored ≡ r.ignored.items))) }
+    ensures valid { IfOk result (λ r. IsSound r.problem) }
+    ensures first { IfSome (S.rest source.old) (λ bytes. IfErr result (IsFaultOf kind bytes)) }
+    ensures refused { IfSome (S.rest source.old) (λ bytes. IfErr result (λ e. IsFault e → (p : Named) (ignored : List ℕ) → IsTextOf kind bytes p ignored → ⊥)) }
+    ensures counts { Counts (S.failures source.old) (S.failures source.new) result }
+    ensures cut { IsCut kind (S.rest source.old) (S.rest source.new) result }
+{
+    let mut reader = Reader::new(alloc, kind);
+    let mut carry = Vec::new(alloc);
+    let Ok(mut store) = buffer(alloc, 65536) else {
+        return Err(InputError::Memory);
+    };
+    let buf = store.as_mut_slice();
+    'reading: loop {
+        match source.read(buf) {
+            Err(_) => return Err(InputError::Device),
+            Ok(0) => break,
+            Ok(n) => {
+                if let Err(e) = feed(&mut reader, &mut carry, &buf[..n]) {
+                    return Err(e);
+                }
+            }
+        }
+    }
+    end_text(reader, carry.as_slice())
+}
+
+/// A buffer of zeros.
+fn buffer(alloc: Global, n: usize) -> Result<Vec<u8>, AllocError>
+    ensures { IfOk result (λ v. length v.items ≡ n) }
+{
+    vec![in alloc; 0; n]
+}
+
+/// Hands on the lines that end in a piece, and carries on the rest.
+fn feed(reader: &mut Reader, carry: &mut Vec<u8>, piece: &[u8]) -> Result<(), InputError>
+    requires { IsBetween reader.old carry.old.items }
+    ensures kind { reader.new.kind ≡ reader.old.kind }
+    ensures fed { OnOk result (fed reader.new carry.new.items ≡ fed reader.old carry.old.items ++ piece.now) }
+    ensures state { OnOk result (IsBetween reader.new carry.new.items) }
+    ensures err { IfErr result (Spoils reader.old.kind (fed reader.old carry.old.items ++ piece.now)) }
+{
+    let mut rest = piece;
+    while let Some((end, others)) = next_line(rest) {
+        if let Err(e) = end_line(reader, carry, end) {
+            return Err(e);
+        }
+        rest = others;
+    }
+    if carry.extend_from_slice(rest).is_err() {
+        return Err(InputError::Memory);
+    }
+    Ok(())
+}
+
+/// The first line that ends in a piece, and what is left behind it.
+fn next_line(piece: &[u8]) -> Option<(&[u8], &[u8])>
+    ensures { MatchOption result (has 10 piece.now ≡ false) (λ p. (piece.now ≡ p.0.now ++ 10 ∷ p.1.now) × (has 10 p.0.now ≡ false)) }
+{
+    let (end, others) = cut_at(piece, b'\n');
+    match others {
+        None => None,
+        Some(others) => Some((end, others)),
+    }
+}
+
+/// Hands on a line that ends here.
+fn end_line(reader: &mut Reader, carry: &mut Vec<u8>, end: &[u8]) -> Result<(), InputError>
+    requires state { IsBetween reader.old carry.old.items }
+    requires piece { has 10 end.now ≡ false }
+    ensures kind { reader.new.kind ≡ reader.old.kind }
+    ensures fed { OnOk result (fed reader.new carry.new.items ≡ fed reader.old carry.old.items ++ end.now ++ 10 ∷ []) }
+    ensures state { OnOk result (IsBetween reader.new carry.new.items) }
+    ensures err { IfErr result (Spoils reader.old.kind (fed reader.old carry.old.items ++ end.now ++ 10 ∷ [])) }
+{
+    if carry.is_empty() {
+        return reader.line(end);
+    }
+    if carry.extend_from_slice(end).is_err() {
+        return Err(InputError::Memory);
+    }
+    let outcome = reader.line(carry.as_slice());
+    carry.clear();
+    outcome
+}
+
+/// Takes the last line, where the text doesn't end behind a line feed.
+fn end_text(mut reader: Reader, carry: &[u8]) -> Result<Read, InputError>
+    requires { IsBetween reader carry.now }
+    ensures accepted { IfOk result (λ r. IsTextOf reader.kind (fed reader carry.now) r.problem r.ignored.items) }
+    ensures only { IfOk result (λ r. (p : Named) (ignored : List ℕ) → IsTextOf reader.kind (fed reader carry.now) p ignored → (p ≡ r.problem) × (ignored ≡ r.ignored.items)) }
+    ensures valid { IfOk result (λ r. IsSound r.problem) }
+    ensures first { IfErr result (λ e. IsEndOf reader.kind (lines_of (fed reader carry.now)) e) }
+    ensures refused { IfErr result (λ e. IsFault e → (p : Named) (ignored : List ℕ) → IsTextOf reader.kind (fed reader carry.now) p ignored → ⊥) }
+{
+    if carry.is_empty() {
+        return reader.finish();
+    }
+    if let Err(e) = reader.line(carry) {
+        return Err(e);
+    }
+    reader.finish()
+}

@@ -1,0 +1,141 @@
+//! A reader that is fed line by line.
+
+ghost use Rattle.std.specs.Prelude.{◌≡◌, IfOk, IfErr, ℕ, List, ◌++◌, [], ◌∷◌, None, Some, IfSome, false};
+ghost use Rattle.std.specs.Result.{result_err};
+ghost use Rattle.xc_input.specs.Readings.{IsStateOf, IsEndOf, IsFault, error_at};
+ghost use Rattle.xc_input.specs.Named.{Named, IsSound};
+ghost use Rattle.xc_input.specs.Words.{has};
+ghost use Rattle.xc_input.specs.Text.{StandsFor};
+
+use crate::draft::{Draft, LineError};
+use crate::given::Given;
+use crate::problem::Problem;
+use crate::{FaultKind, InputError, Kind};
+use std::alloc::Global;
+use std::marker::Model;
+
+/// A problem, and the numbers of the lines that were ignored.
+#[derive(Drop)]
+pub struct Read {
+    pub problem: Problem,
+    pub ignored: Vec<u64>,
+}
+
+/// Reads a problem, line by line.
+#[derive(Drop)]
+pub struct Reader {
+    given: Given,
+    alloc: Global,
+    kind: Kind,
+    count: u64,
+    draft: Draft,
+    error: Option<InputError>,
+}
+
+impl Model for Reader {
+    ghost use Rattle.xc_input.specs.Readings.{Reading, IsStateOf};
+    ghost use Rattle.xc_input.specs.Stages.{line_number, stage_of};
+    ghost use Rattle.xc_input.specs.Drafts.{IsDraft, stage_of_draft};
+    ghost use Rattle.xc_input.specs.Lines.{AreWhole};
+    ghost use Rattle.std.specs.Prelude.{◌≡◌, length, MatchOption};
+
+    ghost Value = { Reading };
+
+    ghost view = { λ r. record { kind = r.kind; lines = r.given.lines; error = r.error } };
+
+    ghost invariant = { λ r. (r.count ≡ line_number (length r.given.lines)) × IsStateOf r.kind r.given.lines r.error
+        × MatchOption r.error (IsDraft r.draft × (stage_of_draft r.draft ≡ stage_of r.kind r.given.lines)) (λ _. Unit {0})
+        × AreWhole r.given.lines };
+}
+
+impl Reader {
+    pub fn new(alloc: Global, kind: Kind) -> Reader
+        ensures kind { result.kind ≡ kind }
+        ensures lines { result.lines ≡ [] }
+        ensures error { result.error ≡ None }
+    {
+        Reader {
+            given: Given::new(),
+            alloc,
+            kind,
+            count: 0,
+            draft: Draft::new(alloc),
+            error: None,
+        }
+    }
+
+    /// Takes one line, without its line feed.
+    pub fn line(&mut self, line: &[u8]) -> Result<(), InputError>
+        requires { has 10 line.now ≡ false }
+        ensures kind { self.new.kind ≡ self.old.kind }
+        ensures given { self.new.lines ≡ self.old.lines ++ line.now ∷ [] }
+        ensures error { self.new.error ≡ result_err result }
+        ensures state { IsStateOf self.new.kind self.new.lines (result_err result) }
+        ensures same { IfSome self.old.error (λ e. result_err result ≡ Some e) }
+    {
+        self.given = Given::after(&self.given, line);
+        self.count = self.count.saturating_add(1);
+        if let Some(e) = self.error {
+            return Err(e);
+        }
+        if let Err(e) = self.draft.take(self.alloc, self.kind, self.count, line) {
+            let error = at_line(self.count, e);
+            self.error = Some(error);
+            return Err(error);
+        }
+        Ok(())
+    }
+
+    /// The problem that was read, or the first error.
+    pub fn finish(self) -> Result<Read, InputError>
+        ensures accepted { IfOk result (λ r. StandsFor self.kind self.lines r.problem r.ignored.items) }
+        ensures only { IfOk result (λ r. (p : Named) (ignored : List ℕ) → StandsFor self.kind self.lines p ignored → (p ≡ r.problem) × (ignored ≡ r.ignored.items)) }
+        ensures valid { IfOk result (λ r. IsSound r.problem) }
+        ensures first { IfErr result (λ e. IsEndOf self.kind self.lines e) }
+        ensures refused { IfErr result (λ e. IsFault e → (p : Named) (ignored : List ℕ) → StandsFor self.kind self.lines p ignored → ⊥) }
+        ensures same { IfSome self.error (λ e. result_err result ≡ Some e) }
+    {
+        let Reader {
+            given: _,
+            alloc: _,
+            kind: _,
+            count,
+            draft,
+            error,
+        } = self;
+        if let Some(e) = error {
+            return Err(e);
+        }
+        if !draft.started {
+            return Err(InputError::Fault {
+                line: count.saturating_add(1),
+                kind: FaultKind::NoItems,
+            });
+        }
+        let Draft {
+            started: _,
+            names: _,
+            items,
+            primary,
+            marks: _,
+            colours,
+            uses,
+            ends,
+            ignored,
+        } = draft;
+        Ok(Read {
+            problem: Problem::new(items, primary, uses, ends, colours),
+            ignored,
+        })
+    }
+}
+
+/// The error of the line of this number.
+fn at_line(line: u64, error: LineError) -> InputError
+    ensures { result ≡ error_at line error }
+{
+    match error {
+        LineError::Fault(kind) => InputError::Fault { line, kind },
+        LineError::Memory => InputError::Memory,
+    }
+}

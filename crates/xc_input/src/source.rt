@@ -1,0 +1,91 @@
+//! Where bytes come from.
+
+ghost use Rattle.std.specs.Prelude.{◌≡◌, ◌+◌, ◌-◌, ◌<◌, ◌≤◌, ℕ, List, Option, Some, length, IfOk, OnErr, is_err};
+ghost use Rattle.std.specs.Io.KnownBytes.{ReadConsumes};
+ghost use Rattle.xc_input.specs.Calls.{counted};
+
+/// A read that failed.
+#[derive(Clone, Copy, Debug, PartialEq, Eq)]
+pub struct ReadFailed;
+
+/// Where bytes come from.
+pub trait Source {
+    /// How many reads failed so far. The count stays at its last value.
+    ghost failures: { Self → ℕ };
+
+    /// At most how many bytes it may still give.
+    ghost limit: { Self → ℕ };
+
+    /// The bytes that it will give, where it tells them.
+    ghost rest: { Self → Option (List ℕ) };
+
+    /// Reads into the front of the buffer, and says how many bytes. 0 is the end of the input.
+    fn read(&mut self, buf: &mut [u8]) -> Result<usize, ReadFailed>
+        requires { 0 < length buf.old }
+        ensures bound { IfOk result (λ n. n ≤ length buf.new) }
+        ensures limit { IfOk result (λ n. limit self.new + n ≡ limit self.old) }
+        ensures limit_kept { OnErr result (limit self.new ≡ limit self.old) }
+        ensures failures { failures self.new ≡ counted (is_err result) (failures self.old) }
+        ensures bytes { ReadConsumes (rest self.old) (rest self.new) result buf.new };
+}
+
+/// A source over memory. It tells its bytes.
+#[derive(Drop)]
+pub struct Feed<'a> {
+    left: &'a [u8],
+    step: usize,
+    calls_to_failure: Option<u64>,
+    failures: u64,
+    ghost moves: { 0 < step },
+}
+
+impl<'a> Feed<'a> {
+    /// It gives at most `step` bytes at a call, and the call numbered `fail_at`, from 1, fails.
+    pub fn new(bytes: &'a [u8], step: usize, fail_at: Option<u64>) -> Feed<'a>
+        requires { 0 < step }
+        ensures rest { ⟦<Feed<'a> as Source>⟧.rest result ≡ Some bytes.now }
+        ensures failures { ⟦<Feed<'a> as Source>⟧.failures result ≡ 0 }
+    {
+        Feed {
+            left: bytes,
+            step,
+            calls_to_failure: fail_at,
+            failures: 0,
+        }
+    }
+
+    /// Whether this call fails.
+    fn fails_now(&mut self) -> bool
+        ensures left { self.new.left ≡ self.old.left }
+        ensures failures { self.new.failures ≡ self.old.failures }
+        ensures step { self.new.step ≡ self.old.step }
+    {
+        match self.calls_to_failure {
+            None => false,
+            Some(n) => {
+                self.calls_to_failure = n.checked_sub(1);
+                n == 1
+            }
+        }
+    }
+}
+
+impl<'a> Source for Feed<'a> {
+    ghost failures = { λ s. s.failures };
+
+    ghost limit = { λ s. length s.left.now };
+
+    ghost rest = { λ s. Some s.left.now };
+
+    fn read(&mut self, buf: &mut [u8]) -> Result<usize, ReadFailed> {
+        if self.fails_now() {
+            self.failures = self.failures.saturating_add(1);
+            return Err(ReadFailed);
+        }
+        let all = self.left;
+        let n = all.len().min(self.step).min(buf.len());
+        buf[..n].copy_from_slice(&all[..n]);
+        self.left = &all[n..];
+        Ok(n)
+    }
+}

@@ -1,0 +1,34 @@
+//! What the definitions say of worked problems and words.
+ghost use Rattle.std.specs.Prelude.{◌≡◌, ◌-◌, ◌^◌, [], ◌∷◌, ◌++◌, codes, Ok, Err};
+ghost use Rattle.xc_input.specs.Named.{Named};
+ghost use Rattle.xc_list.specs.Messages.{summary_text};
+ghost use Rattle.xc_list.specs.Output.{output};
+ghost use Rattle.xc_list.specs.Runs.{end_of};
+ghost use Rattle.xc_list.specs.Settings.{read_words};
+ghost use Rattle.xc_list.specs.Worked.{seven, alike, colours};
+ghost use Rattle.xc_list.specs.declared.runs.End.TheVariants.{Done, Limit};
+ghost use Rattle.xc_list.specs.declared.words.WordFault.TheVariants.{Unknown, BadNumber, ZeroLimit};
+
+/// The outputs and the ends of worked problems.
+pub fn worked_texts()
+    ensures seven { output seven 1 100 ≡ codes "1:\n a d f (2 of 2)\n b g (1 of 1)\n c e (1 of 1)\n" }
+    ensures colours { output colours 1 100 ≡ codes "1:\n q x:A (2 of 2)\n p r x:A y (1 of 1)\n" }
+    ensures spaced { output alike 2 100 ≡ codes "2:\n A (2 of 3)\n" }
+    ensures limited { output alike 1 2 ≡ codes "1:\n A (1 of 3)\n2:\n A (2 of 3)\n" }
+    ensures counted { output alike 0 100 ≡ [] }
+    ensures done { end_of alike 4 ≡ Done 3 }
+    ensures limit { end_of alike 3 ≡ Limit 3 }
+    ensures one { summary_text (Done 1) ≡ codes "Altogether 1 solution.\n" }
+    ensures met { summary_text (Limit 12) ≡ codes "Altogether 12 solutions (limit).\n" }
+{}
+
+/// What words ask for.
+pub fn worked_words()
+    ensures none { read_words [] ≡ Ok (record { spacing = 0; limit = 2 ^ 64 - 1 }) }
+    ensures last_holds { read_words (codes "m1" ∷ codes "t007" ∷ codes "m3" ∷ [])
+        ≡ Ok (record { spacing = 3; limit = 7 }) }
+    ensures first_fault { read_words (codes "m" ∷ codes "t0" ∷ []) ≡ Err (BadNumber 1) }
+    ensures zero_limit { read_words (codes "m2" ∷ codes "t00" ∷ codes "x" ∷ []) ≡ Err (ZeroLimit 2) }
+    ensures empty { read_words (codes "t18446744073709551615" ∷ [] ∷ []) ≡ Err (Unknown 2) }
+    ensures large { read_words (codes "t18446744073709551616" ∷ []) ≡ Err (BadNumber 1) }
+{}

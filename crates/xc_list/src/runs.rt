@@ -1,0 +1,139 @@
+//! A run over a search.
+ghost use Rattle.std.specs.Prelude.{◌≡◌, ℕ, ◌+◌, ◌-◌, ◌<◌, ◌≤◌, [], All, MatchResult};
+ghost use Rattle.xc_list.specs.Texts.{Writes, IsUntouched};
+ghost use Rattle.xc_search.specs.Cover.{members, EachMemberCovers, EachCoverIsListedOnce};
+ghost use Rattle.xc_search.specs.Room.{room_for};
+ghost use Rattle.xc_list.specs.Output.{is_printed};
+ghost use Rattle.xc_list.specs.Known.{IsKnownChoice};
+ghost use Rattle.xc_list.specs.Runs.{printed_text, IsRun};
+
+use crate::print::write_solution;
+use crate::sink::Sink;
+use crate::text::SinkFault;
+use crate::words::Words;
+use std::alloc::Global;
+use xc_dance::{Dance, Lists, Memory};
+use xc_input::Problem;
+use xc_search::{Choice, Search, Step, most_moves};
+
+/// How a run ended, and at how many solutions.
+#[derive(Clone, Copy, Debug, PartialEq, Eq)]
+pub enum End {
+    /// There are no more.
+    Done(u64),
+    /// The limit was met.
+    Limit(u64),
+    /// The text of this solution was not taken whole.
+    WriteFailed(u64),
+}
+
+/// Whether the solution with this number is printed.
+fn is_printed(spacing: u64, number: u64) -> bool
+    ensures { result ≡ is_printed spacing number }
+{
+    spacing != 0 && number % spacing == 0
+}
+
+/// Writes a solution if its number is one to print.
+fn write_printed<S: Sink>(
+    spacing: u64,
+    number: u64,
+    choices: &[Choice],
+    problem: &Problem,
+    sink: &mut S,
+) -> Result<(), SinkFault>
+    requires { All (IsKnownChoice problem.now.puzzle) choices.now }
+    ensures { Writes (S.failures sink.old, S.taken sink.old)
+        (S.failures sink.new, S.taken sink.new)
+        result (printed_text problem.now spacing (number, choices.now)) }
+{
+    if is_printed(spacing, number) {
+        write_solution(number, choices, problem, sink)
+    } else {
+        Ok(())
+    }
+}
+
+/// Writes what a search has to come, up to the limit.
+fn write_members<'a, D: Dance, S: Sink>(
+    search: &mut Search<'a, D>,
+    problem: &Problem,
+    words: &Words,
+    sink: &mut S,
+) -> End
+    requires puzzle { search.old.puzzle ≡ problem.now.puzzle }
+    requires all { search.old.to_come ≡ members problem.now.puzzle }
+    ensures puzzle { search.new.puzzle ≡ search.old.puzzle }
+    ensures room { search.new.room ≡ search.old.room }
+    ensures run { IsRun problem.now words.now.spacing words.now.limit
+        (S.failures sink.old, S.taken sink.old) (S.failures sink.new, S.taken sink.new) result }
+{
+    for found in 0..words.limit {
+        match search.next() {
+            Step::Solution => {
+                let number = found + 1;
+                match write_printed(words.spacing, number, search.choices(), problem, sink) {
+                    Ok(()) => {}
+                    Err(_) => return End::WriteFailed(number),
+                }
+            }
+            Step::Done => return End::Done(found),
+        }
+    }
+    End::Limit(words.limit)
+}
+
+/// Searches for the solutions, writes the listing as far as the words ask for it, unwinds, and
+/// gives the dance back with no moves. Want of memory is met before the first move alone.
+/// Each member of the listing is a cover, and each cover is the set of exactly one member.
+pub fn run_over<D: Dance, S: Sink>(
+    alloc: Global,
+    dance: D,
+    problem: &Problem,
+    words: Words,
+    sink: &mut S,
+) -> (D, Result<End, Memory>)
+    requires same { D.problem dance ≡ problem.now.puzzle }
+    requires none { D.trail dance ≡ [] }
+    requires room { room_for problem.now.puzzle ≤ D.limit dance }
+    ensures dance { (D.problem result.0 ≡ problem.now.puzzle) × (D.trail result.0 ≡ []) }
+    ensures room { D.limit result.0 ≡ D.limit dance }
+    ensures run { MatchResult result.1
+        (IsRun problem.now words.spacing words.limit
+        (S.failures sink.old, S.taken sink.old) (S.failures sink.new, S.taken sink.new))
+        (λ _. IsUntouched
+        (S.failures sink.old, S.taken sink.old) (S.failures sink.new, S.taken sink.new)) }
+    ensures right { EachMemberCovers problem.now.puzzle }
+    ensures complete { EachCoverIsListedOnce problem.now.puzzle }
+{
+    let _items = problem.items();
+    match Search::new(alloc, dance, problem) {
+        Ok(mut search) => {
+            let end = write_members(&mut search, problem, &words, sink);
+            (search.close(), Ok(end))
+        }
+        Err((dance, memory)) => (dance, Err(memory)),
+    }
+}
+
+/// Does what `run_over` does over live lists of its own. Want of memory is answered with nothing
+/// written.
+pub fn run<S: Sink>(
+    alloc: Global,
+    problem: &Problem,
+    words: Words,
+    sink: &mut S,
+) -> Result<End, Memory>
+    ensures run { MatchResult result
+        (IsRun problem.now words.spacing words.limit
+            (S.failures sink.old, S.taken sink.old) (S.failures sink.new, S.taken sink.new))
+        (λ _. IsUntouched
+            (S.failures sink.old, S.taken sink.old) (S.failures sink.new, S.taken sink.new)) }
+    ensures right { EachMemberCovers problem.now.puzzle }
+    ensures complete { EachCoverIsListedOnce problem.now.puzzle }
+{
+    let _items = problem.items();
+    let lists = Lists::new(alloc, problem, most_moves(problem))?;
+    let (_, end) = run_over(alloc, lists, problem, words, sink);
+    end
+}

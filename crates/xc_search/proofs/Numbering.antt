@@ -1,0 +1,69 @@
+-- Options with their numbers, and items with their bounds.
+use Rattle.std.proofs.Common.{ℕ, zero, suc, ◌≡◌, ◌+◌, ◌<◌, ◌≤◌, List, [], ◌∷◌, length, Some, refl, ap, ◌∙◌, arith, subst, sym, inl, inr}
+use Rattle.std.proofs.lemmas.List.Elements.{recursion_from_All}
+use Rattle.std.specs.Prelude.{slice_get, unwrap_or}
+use Rattle.std.specs.List.{AllByRecursion}
+use Rattle.xc_input.specs.declared.problem.Use.{Use}
+use Rattle.xc_input.specs.Problem.{Puzzle, Numbered, numbered_options, numbered_from, option_count, uses_of, IsSoundOption, IsValid, Bounds}
+use Rattle.xc_search.specs.Listing.{Wanted, wanted_from}
+use Rattle.xc_search.proofs.Members.{IsIn, each_from}
+
+-- an option with its number
+pub numbered_at : (k : ℕ) (os : List (List Use)) (o : Numbered) → IsIn (numbered_from (k + 1) os) o → (j : ℕ) × (o.number ≡ k + suc j) × (j < length os) × (slice_get os j ≡ Some o.uses)
+numbered_at k [] o h = absurd h
+numbered_at k (us ∷ os) o (inl q) =
+    let same = ap (λ (z : Numbered). z.number) q in
+    (zero, omega (arith, same), omega arith, ap (λ (z : Numbered). Some z.uses) q)
+numbered_at k (us ∷ os) o (inr q) =
+    let later = numbered_at (k + 1) os o q in
+    (suc later.0, omega (arith, later.1), omega (arith, later.2), later.3)
+
+pub at_number : (k : ℕ) (os : List (List Use)) (j : ℕ) → j < length os → (o : Numbered) × IsIn (numbered_from (k + 1) os) o × (o.number ≡ k + suc j)
+at_number k [] j h = absurd (omega (arith, h))
+at_number k (us ∷ os) zero h = (record { number = k + 1; uses = us }, inl refl, omega arith)
+at_number k (us ∷ os) (suc j) h = let later = at_number (k + 1) os j (omega (arith, h)) in (later.0, inr later.1, omega (arith, later.2))
+
+pub option_sound : (p : Puzzle) (k : ℕ) (os : List (List Use)) (o : Numbered) → AllByRecursion (IsSoundOption p) os → IsIn (numbered_from (k + 1) os) o → IsSoundOption p o.uses
+option_sound p k [] o a h = absurd h
+option_sound p k (us ∷ os) o a (inl q) = subst (λ (z : Numbered). IsSoundOption p z.uses) q a.0
+option_sound p k (us ∷ os) o a (inr q) = option_sound p (k + 1) os o a.1 q
+
+pub uses_known : (p : Puzzle) (o : Numbered) → IsIn (numbered_options p) o → uses_of p o.number ≡ o.uses
+uses_known p o h =
+    let at = numbered_at 0 p.options o h in
+    let number : o.number ≡ suc at.0 = omega (arith, at.1) in
+    ap (uses_of p) number ∙ ap (λ us. unwrap_or us []) at.3
+
+pub record IsOption (p : Puzzle) (o : Numbered) : Type 0 where
+  pub known : (1 ≤ o.number) × (o.number ≤ option_count p)
+  pub uses : uses_of p o.number ≡ o.uses
+  pub sound : IsSoundOption p o.uses
+
+pub all_options : (p : Puzzle) → IsValid p → AllByRecursion (IsOption p) (numbered_options p)
+all_options p v = each_from (IsOption p) (numbered_options p) is_option
+  where
+    is_option : (o : Numbered) → IsIn (numbered_options p) o → IsOption p o
+    is_option o h =
+        let at = numbered_at 0 p.options o h in
+        record {
+          known = (omega (arith, at.1), omega (arith, at.1, at.2));
+          uses = uses_known p o h;
+          sound = option_sound p 0 p.options o (recursion_from_All (IsSoundOption p) p.options v.options) h;
+        }
+
+-- an item with its bounds
+pub with_bounds : (k : ℕ) (bs : List Bounds) (w : Wanted) → IsIn (wanted_from (k + 1) bs) w → (j : ℕ) × (b : Bounds) × (w.item ≡ k + suc j) × (j < length bs) × (slice_get bs j ≡ Some b) × (w.low ≡ b.low) × (w.high ≡ b.high)
+with_bounds k [] w h = absurd h
+with_bounds k (b ∷ bs) w (inl q) =
+    let same = ap (λ (z : Wanted). z.item) q in
+    (zero, b, omega (arith, same), omega arith, refl, sym (ap (λ (z : Wanted). z.low) q), sym (ap (λ (z : Wanted). z.high) q))
+with_bounds k (b ∷ bs) w (inr q) =
+    let later = with_bounds (k + 1) bs w q in
+    (suc later.0, later.1, omega (arith, later.2), omega (arith, later.3), later.4, later.5, later.6)
+
+pub at_item : (k : ℕ) (bs : List Bounds) (j : ℕ) (b : Bounds) → slice_get bs j ≡ Some b → (w : Wanted) × IsIn (wanted_from (k + 1) bs) w × (w.item ≡ k + suc j) × (w.low ≡ b.low) × (w.high ≡ b.high)
+at_item k [] j b e = cc
+at_item k (c ∷ bs) zero b e =
+    let same : c ≡ b = cc in
+    (record { item = k + 1; low = c.low; high = c.high }, inl refl, omega arith, ap (λ (z : Bounds). z.low) same, ap (λ (z : Bounds). z.high) same)
+at_item k (c ∷ bs) (suc j) b e = let later = at_item (k + 1) bs j b e in (later.0, inr later.1, omega (arith, later.2), later.3, later.4)

@@ -1,0 +1,59 @@
+-- What stands at a place of a list.
+use Rattle.std.proofs.Common.{ℕ, zero, suc, ◌≡◌, ◌+◌, ◌<◌, ◌≤◌, List, [], ◌∷◌, ◌++◌, length, map, take, drop, Some, None, refl, ap, ap₂, ◌∙◌, arith}
+use Rattle.std.specs.Prelude.{slice_get}
+use Rattle.std.specs.List.{enumerate_from}
+
+pub get_left : {X : Type 0} (xs ys : List X) (k : ℕ) (x : X) → slice_get xs k ≡ Some x → slice_get (xs ++ ys) k ≡ Some x
+get_left [] ys k x e = cc
+get_left (y ∷ xs) ys zero x e = e
+get_left (y ∷ xs) ys (suc k) x e = get_left xs ys k x e
+
+pub get_seam : {X : Type 0} (xs : List X) (y : X) → slice_get (xs ++ y ∷ []) (length xs) ≡ Some y
+get_seam [] y = refl
+get_seam (x ∷ xs) y = get_seam xs y
+
+pub get_map : {X Y : Type 0} (f : X → Y) (xs : List X) (k : ℕ) (x : X) → slice_get xs k ≡ Some x → slice_get (map f xs) k ≡ Some (f x)
+get_map f [] k x e = cc
+get_map f (y ∷ xs) zero x e = let same : y ≡ x = cc in ap (λ z. Some (f z)) same
+get_map f (y ∷ xs) (suc k) x e = get_map f xs k x e
+
+pub get_numbered : {X : Type 0} (a : ℕ) (xs : List X) (k : ℕ) (x : X) → slice_get xs k ≡ Some x → slice_get (enumerate_from a xs) k ≡ Some (a + k, x)
+get_numbered a [] k x e = cc
+get_numbered a (y ∷ xs) zero x e =
+    let same : y ≡ x = cc in
+    let here : a ≡ a + 0 = omega arith in
+    ap₂ (λ n z. let kx : ℕ × _ = (n, z) in Some kx) here same
+get_numbered a (y ∷ xs) (suc k) x e =
+    let next : (a + 1) + k ≡ a + suc k = omega arith in
+    get_numbered (a + 1) xs k x e ∙ ap (λ n. let kx : ℕ × _ = (n, x) in Some kx) next
+
+pub get_take : {X : Type 0} (n : ℕ) (xs : List X) (k : ℕ) → k < n → slice_get (take n xs) k ≡ slice_get xs k
+get_take zero xs k h = absurd (omega (arith, h))
+get_take (suc n) [] k h = refl
+get_take (suc n) (x ∷ xs) zero h = refl
+get_take (suc n) (x ∷ xs) (suc k) h = get_take n xs k (omega (arith, h))
+
+pub drop_at : {X : Type 0} (xs : List X) (k : ℕ) (x : X) → slice_get xs k ≡ Some x → drop k xs ≡ x ∷ drop (suc k) xs
+drop_at [] k x e = cc
+drop_at (y ∷ xs) zero x e = let same : y ≡ x = cc in ap (λ z. z ∷ xs) same
+drop_at (y ∷ xs) (suc k) x e = drop_at xs k x e
+
+pub not_some : {X : Type 0} (xs : List X) (k : ℕ) → slice_get xs k ≡ None → length xs ≤ k
+not_some [] k e = omega arith
+not_some (x ∷ xs) zero e = cc
+not_some (x ∷ xs) (suc k) e = omega (arith, not_some xs k e)
+
+pub slice_get-drop : {X : Type 0} (xs : List X) (m : ℕ) → slice_get (drop m xs) 0 ≡ slice_get xs m
+slice_get-drop xs zero = refl
+slice_get-drop [] (suc m) = refl
+slice_get-drop (x ∷ xs) (suc m) = slice_get-drop xs m
+
+pub before_some : {X : Type 0} (xs : List X) (m : ℕ) (x : X) → slice_get xs (suc m) ≡ Some x → (y : X) × (slice_get xs m ≡ Some y)
+before_some [] m x e = cc
+before_some (y ∷ xs) zero x e = (y, refl)
+before_some (y ∷ xs) (suc m) x e = before_some xs m x e
+
+pub drop_one : {X : Type 0} (m : ℕ) (xs : List X) → drop 1 (drop m xs) ≡ drop (suc m) xs
+drop_one zero xs = refl
+drop_one (suc m) [] = refl
+drop_one (suc m) (x ∷ xs) = drop_one m xs

@@ -1,0 +1,116 @@
+-- What the code of a branch asks and gives.
+use Rattle.std.proofs.Common.{ℕ, suc, ◌≡◌, ◌≢◌, ◌+◌, ◌-◌, ◌<◌, ◌≤◌, Bool, true, false, cond, List, ◌∷◌, length, reverse, min, Option, Some, None, refl, sym, ap, ◌∙◌, arith, subst}
+use Rattle.std.proofs.lemmas.Option.{slice_get_within}
+use Rattle.std.specs.Prelude.{slice_get, option_map}
+use Rattle.std.specs.List.{AllByRecursion}
+use Rattle.xc_input.specs.declared.problem.Use.{Use}
+use Rattle.xc_dance.specs.declared.dance.Move.{Move}
+use Rattle.xc_dance.specs.declared.dance.Move.TheVariants.{Tweak, Spend}
+use Rattle.xc_search.specs.declared.level.Level.{Level}
+use Rattle.xc_input.specs.Problem.{Puzzle, Numbered, high_at, IsItem, IsValid, option_count, uses_of}
+use Rattle.xc_dance.specs.Moves.{spends, AreLegal, IsLegal}
+use Rattle.xc_search.specs.Stack.{options_at, IsLevel, IsBegun, next_number}
+use Rattle.xc_search.specs.Commits.{opened, oldest, tweaked, after_uses, others, closed, place_in}
+use Rattle.xc_search.proofs.Trails.{oldest_all}
+use Rattle.xc_search.proofs.Branching.{taken}
+use Rattle.xc_search.proofs.Tweaked.{legal_branch}
+use Rattle.xc_search.proofs.Rooms.{has_room}
+use Rattle.xc_search.specs.Room.{room_for}
+use Rattle.std.proofs.lemmas.List.{length-reverse}
+use Rattle.xc_search.proofs.Begins.{covered_walks, with_option, begins_take, with_none, begins_none}
+
+record Taking (p : Puzzle) (t : List Move) (l : Level) (o m : ℕ) : Type 0 where
+  pub known : (1 ≤ o) × (o ≤ option_count p)
+  pub holds : place_in l.item (uses_of p o) < length (uses_of p o)
+  pub items : AllByRecursion (λ (u : Use). IsItem p u.item) (uses_of p o)
+  pub legal : AreLegal p (after_uses p (others l.item (uses_of p o)) (tweaked m l.item (opened p l.item (oldest l.mark t))))
+  pub begun : IsBegun p t l (after_uses p (others l.item (uses_of p o)) (tweaked m l.item (opened p l.item (oldest l.mark t)))) (with_option (length (tweaked m l.item (opened p l.item (oldest l.mark t)))) l m o)
+
+taking_at : (p : Puzzle) (t : List Move) (l : Level) (x : Numbered) (m : ℕ) → IsValid p → IsLevel p t l → l.begun < l.count →
+    slice_get (options_at p (oldest l.mark t) l.item) l.begun ≡ Some x → m ≡ cond l.walks l.tweaks (l.tweaks + 1) → Taking p t l x.number m
+taking_at p t l x m v is_level more e hm = by_case l.walks refl
+  where
+    made : (m ≤ suc l.begun) → (high_at p l.item - spends l.item (Spend l.item ∷ oldest l.mark t) ≢ 0 → m ≡ suc l.begun) → Taking p t l x.number m
+    made le h =
+        let u = oldest l.mark t in
+        let took = taken p u l.item l.begun m x v is_level.node e h le in
+        let own : x.uses ≡ uses_of p x.number = sym took.option.uses in
+        record {
+          known = took.option.known;
+          holds = subst (λ (us : List Use). place_in l.item us < length us) own took.within;
+          items = subst (λ us. AllByRecursion (λ (u : Use). IsItem p u.item) us) own took.items;
+          legal = subst (λ us. AreLegal p (after_uses p (others l.item us) (tweaked m l.item (opened p l.item u)))) own took.legal;
+          begun = subst (λ us. IsBegun p t l (after_uses p (others l.item us) (tweaked m l.item (opened p l.item u))) (with_option (length (tweaked m l.item (opened p l.item u))) l m x.number)) own (begins_take p t l x m v is_level more e hm);
+        }
+
+    by_case : (b : Bool) → l.walks ≡ b → Taking p t l x.number m
+    by_case true c =
+        let stood : l.tweaks ≡ 0 = is_level.tweaks ∙ rw c refl in
+        let m_is : m ≡ 0 = hm ∙ rw c stood in
+        let used_up = covered_walks p (oldest l.mark t) l.item (sym is_level.walking ∙ c) in
+        made (omega (arith, m_is)) (λ h. absurd (h used_up))
+    by_case false c =
+        let within = slice_get_within (options_at p (oldest l.mark t) l.item) l.begun x e in
+        let stood : l.tweaks ≡ min l.begun (length (options_at p (oldest l.mark t) l.item)) = is_level.tweaks ∙ rw c refl in
+        let m_is : m ≡ l.tweaks + 1 = hm ∙ rw c refl in
+        let all : m ≡ l.begun + 1 = omega (arith, m_is, stood, within) in
+        made (omega (arith, all)) (λ h. omega (arith, all))
+
+some_option : (o : Option Numbered) (n : ℕ) → option_map (λ (x : Numbered). x.number) o ≡ Some n → (x : Numbered) × (o ≡ Some x) × (x.number ≡ n)
+some_option None n e = cc
+some_option (Some x) n e = let same : x.number ≡ n = cc in (x, refl, same)
+
+no_option : (o : Option Numbered) → option_map (λ (x : Numbered). x.number) o ≡ None → o ≡ None
+no_option None e = refl
+no_option (Some x) e = cc
+
+taking : (p : Puzzle) (t : List Move) (l : Level) (o m : ℕ) → IsValid p → IsLevel p t l → l.begun < l.count → next_number p t l ≡ Some o → m ≡ cond l.walks l.tweaks (l.tweaks + 1) → Taking p t l o m
+taking p t l o m v is_level more e hm =
+    let found = some_option (slice_get (options_at p (oldest l.mark t) l.item) l.begun) o e in
+    subst (λ n. Taking p t l n m) found.2 (taking_at p t l found.0 m v is_level more found.1 hm)
+
+-- What is asked and given where the tweaks of the branch made the moves s.
+pub record TakingOn (p : Puzzle) (t : List Move) (l : Level) (o m : ℕ) (s : List Move) : Type 0 where
+  pub known : (1 ≤ o) × (o ≤ option_count p)
+  pub holds : place_in l.item (uses_of p o) < length (uses_of p o)
+  pub items : AllByRecursion (λ (u : Use). IsItem p u.item) (uses_of p o)
+  pub legal : AreLegal p (after_uses p (others l.item (uses_of p o)) s)
+  pub fits : length (after_uses p (others l.item (uses_of p o)) s) ≤ room_for p
+  pub begun : (r : List Move) (n : ℕ) → r ≡ after_uses p (others l.item (uses_of p o)) s → n ≡ length (reverse s) → IsBegun p t l r (with_option n l m o)
+
+pub taking_on : {p q : Puzzle} {t s : List Move} {l : Level} {o m : ℕ} → IsValid p → IsLevel p t l → l.begun < l.count → next_number p t l ≡ Some o → m ≡ cond l.walks l.tweaks (l.tweaks + 1) →
+    q ≡ p → s ≡ tweaked m l.item (opened q l.item (oldest l.mark t)) → TakingOn p t l o m s
+taking_on {p} {q} {t} {s} {l} {o} {m} v is_level more e hm same stands =
+    let u = oldest l.mark t in
+    let ground = tweaked m l.item (opened p l.item u) in
+    let s_is : s ≡ ground = stands ∙ ap (λ p. tweaked m l.item (opened p l.item u)) same in
+    let all = taking p t l o m v is_level more e hm in
+    let after = ap (after_uses p (others l.item (uses_of p o))) s_is in
+    record {
+      known = all.known;
+      holds = all.holds;
+      items = all.items;
+      legal = subst (AreLegal p) (sym after) all.legal;
+      fits = omega (arith, ap length after, has_room p (after_uses p (others l.item (uses_of p o)) ground) all.begun.legal (omega (arith, all.begun.sparing)));
+      begun = λ r n er en.
+          let base : n ≡ length ground = en ∙ length-reverse s ∙ ap length s_is in
+          subst (λ r. IsBegun p t l r (with_option n l m o)) (sym (er ∙ after)) (subst (λ n. IsBegun p t l (after_uses p (others l.item (uses_of p o)) ground) (with_option n l m o)) (sym base) all.begun);
+    }
+
+pub passing : (p : Puzzle) (t : List Move) (l : Level) → IsLevel p t l → l.base ≡ length t → l.begun < l.count → next_number p t l ≡ None → IsBegun p t l (closed l.item t) (with_none l)
+passing p t l is_level whole more e = begins_none p t l is_level whole more (no_option (slice_get (options_at p (oldest l.mark t) l.item) l.begun) e)
+
+-- the ground of a level
+pub ground_is : (p : Puzzle) (t : List Move) (l : Level) → IsLevel p t l → l.base ≡ length t → t ≡ tweaked l.tweaks l.item (opened p l.item (oldest l.mark t))
+ground_is p t l is_level whole = sym (ap (λ n. oldest n t) whole ∙ oldest_all t) ∙ is_level.base
+
+-- another tweak may be made where an option is left
+pub may_tweak : (p : Puzzle) (t : List Move) (l : Level) (o : ℕ) → IsLevel p t l → l.base ≡ length t → l.begun < l.count → l.walks ≡ false → next_number p t l ≡ Some o → IsLegal p t (Tweak l.item) × (l.tweaks ≡ l.begun)
+may_tweak p t l o is_level whole more c e =
+    let u = oldest l.mark t in
+    let found = some_option (slice_get (options_at p u l.item) l.begun) o e in
+    let within = slice_get_within (options_at p u l.item) l.begun found.0 found.1 in
+    let stood : l.tweaks ≡ min l.begun (length (options_at p u l.item)) = is_level.tweaks ∙ rw c refl in
+    let all : l.tweaks ≡ l.begun = omega (arith, stood, within) in
+    let legal = legal_branch p (suc l.tweaks) l.item u is_level.node (omega (arith, all, within)) in
+    (subst (λ t. IsLegal p t (Tweak l.item)) (sym (ground_is p t l is_level whole)) legal.0, all)

@@ -1,0 +1,5 @@
+use Rattle.xc_search.proofs.Whole.{each_cover_is_listed}
+use Rattle.xc_search.proofs.laws.each_cover_is_listed.Goals as goal
+
+pub returns : goal.returns
+returns c = each_cover_is_listed

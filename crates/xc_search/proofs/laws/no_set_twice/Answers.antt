@@ -1,0 +1,5 @@
+use Rattle.xc_search.proofs.Once.{no_set_twice}
+use Rattle.xc_search.proofs.laws.no_set_twice.Goals as goal
+
+pub returns : goal.returns
+returns c = no_set_twice

@@ -1,0 +1,46 @@
+//! How many moves and levels a search has at most.
+ghost use Rattle.std.specs.Prelude.{◌≡◌, ◌≤◌};
+ghost use Rattle.xc_search.specs.Room.{room_for, use_count, high_total, level_limit};
+
+use xc_input::Problem;
+
+/// How many uses the options have.
+fn count_uses(problem: &Problem) -> usize
+    ensures value { result ≡ use_count problem.now.puzzle }
+    ensures limit { result ≤ 10000000 }
+{
+    let _items = problem.items();
+    let mut uses = 0;
+    for o in 0..problem.options() {
+        uses += problem.option(o + 1).len();
+    }
+    uses
+}
+
+/// How often the primary items can be spent in all.
+fn count_spends(problem: &Problem) -> usize
+    ensures { result ≡ high_total problem.now.puzzle }
+{
+    let _items = problem.items();
+    let mut spends = 0;
+    for i in 0..problem.primary() {
+        spends += problem.item(i + 1).high as usize;
+    }
+    spends
+}
+
+/// How many moves a search of the problem has on its trail at most: twice the items and twice the uses.
+pub fn most_moves(problem: &Problem) -> usize
+    ensures { result ≡ room_for problem.now.puzzle }
+{
+    2 * problem.items() as usize + 2 * count_uses(problem)
+}
+
+/// How many levels a search of the problem has at most: each has a Spend of its own.
+pub fn most_levels(problem: &Problem) -> usize
+    ensures { result ≡ level_limit problem.now.puzzle }
+{
+    let _items = problem.items();
+    let by_uses = count_uses(problem) + problem.primary() as usize;
+    by_uses.min(count_spends(problem))
+}

@@ -1,0 +1,56 @@
+//! What is told where no problem was read.
+ghost use Rattle.std.specs.Prelude.{◌≡◌, ◌++◌, codes, decimal};
+ghost use Rattle.xc_list.specs.Texts.{Writes};
+ghost use Rattle.xc_tools.specs.Errors.{fault_text, input_error_text};
+
+use xc_input::{FaultKind, InputError};
+use xc_list::{Sink, SinkFault, write_all, write_number};
+
+/// What is wrong with a line.
+fn fault_text(kind: FaultKind) -> &'static [u8]
+    ensures { result.now ≡ fault_text kind }
+{
+    match kind {
+        FaultKind::NoItems => b"no items",
+        FaultKind::NulByte => b"NUL byte",
+        FaultKind::EmptyName => b"empty name",
+        FaultKind::NameTooLong => b"name too long",
+        FaultKind::BadByteInName => b"bad byte in name",
+        FaultKind::RepeatedName => b"name repeated",
+        FaultKind::TwoBars => b"second bar",
+        FaultKind::BadBound => b"bad bound",
+        FaultKind::BoundOrder => b"bound order",
+        FaultKind::BoundOnSecondary => b"bound on a secondary item",
+        FaultKind::UnknownItem => b"unknown item",
+        FaultKind::RepeatedInOption => b"item repeated in option",
+        FaultKind::ColourOnPrimary => b"colour on a primary item",
+        FaultKind::BadColour => b"bad colour",
+        FaultKind::ColourNotHere => b"colour not allowed here",
+        FaultKind::TooManyItems => b"too many items",
+        FaultKind::TooManyUses => b"too many uses",
+    }
+}
+
+fn write_fault<S: Sink>(line: u64, kind: FaultKind, sink: &mut S) -> Result<(), SinkFault>
+    ensures { Writes (S.failures sink.old, S.taken sink.old)
+        (S.failures sink.new, S.taken sink.new)
+        result (codes "Line " ++ decimal line ++ codes ": " ++ fault_text kind ++ codes ".\n") }
+{
+    write_all(sink, b"Line ")?;
+    write_number(sink, line)?;
+    write_all(sink, b": ")?;
+    write_all(sink, fault_text(kind))?;
+    write_all(sink, b".\n")
+}
+
+/// Writes why no problem was read.
+pub fn input_error<S: Sink>(error: &InputError, sink: &mut S) -> Result<(), SinkFault>
+    ensures { Writes (S.failures sink.old, S.taken sink.old)
+        (S.failures sink.new, S.taken sink.new) result (input_error_text error.now) }
+{
+    match *error {
+        InputError::Fault { line, kind } => write_fault(line, kind, sink),
+        InputError::Device => write_all(sink, b"Read failed.\n"),
+        InputError::Memory => write_all(sink, b"Out of memory.\n"),
+    }
+}
