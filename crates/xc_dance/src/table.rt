@@ -1,7 +1,6 @@
 //! A problem without its names, in fixed tables.
-ghost use Rattle.std.specs.Prelude.{◌≡◌, ℕ, ◌+◌, ◌<◌, ◌≤◌, ◌↔◌, ◌++◌, List, ◌∷◌, length, map, take, slice_range, All, AllPairs, ◌≢◌, IfOk, IsTrue};
-ghost use Rattle.xc_input.specs.Problem.{Puzzle, IsValid, IsWithinLimits, IsItem, IsPrimary, IsSecondary, IsSoundOption, item_count, primary_count, option_count, high_at, uses_of};
-ghost use Rattle.xc_input.specs.Flat.{pieces, AreStarts};
+ghost use Rattle.std.specs.Prelude.{◌≡◌, ◌≤◌, ◌↔◌, length, map, slice_range, IsTrue, IfOk};
+ghost use Rattle.xc_input.specs.Problem.{IsWithinLimits, IsItem, IsPrimary, IsSecondary, IsSoundOption, item_count, primary_count, option_count, high_at, uses_of};
 ghost use Rattle.xc_dance.specs.Spans.{bounds_in};
 
 use std::alloc::{AllocError, Global};

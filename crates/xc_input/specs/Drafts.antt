@@ -27,8 +27,8 @@ abbrev pub row_of_items : Items → Row
 row_of_items i = record { entries = map entry_of i.items.items; bar = i.bar }
 
 -- the table of names has the names of the items
-abbrev pub IsNamed : Items → Type 0
-IsNamed i = (key_names i.names.keys ≡ names_of (map entry_of i.items.items)) × (length i.items.items ≤ most_items)
+abbrev pub IsItemTable : Items → Type 0
+IsItemTable i = (key_names i.names.keys ≡ names_of (map entry_of i.items.items)) × (length i.items.items ≤ most_items)
 
 abbrev pub written_of : Part → Written
 written_of p = record { item = p.item; colour = p.colour.now }

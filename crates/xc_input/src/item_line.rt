@@ -5,7 +5,7 @@ ghost use Rattle.xc_input.specs.Tokens.{parts};
 ghost use Rattle.xc_input.specs.Words.{number};
 ghost use Rattle.xc_input.specs.Faults.{first, name_checks, is_bounds, prefix_checks, bound_checks, low_text, high_text, entry, part_checks, with_part, row_checks, row_of, no_row, item_checks};
 ghost use Rattle.xc_input.specs.Sheets.{names_of};
-ghost use Rattle.xc_input.specs.Drafts.{Judged, IsNamed, row_of_items, entry_of};
+ghost use Rattle.xc_input.specs.Drafts.{Judged, IsItemTable, row_of_items, entry_of};
 
 use crate::cut::{add_name, cut_at, next_part, number_of, place_of};
 use crate::draft::LineError;
@@ -117,9 +117,9 @@ fn split_token(kind: Kind, secondary: bool, token: &[u8]) -> Result<Token<'_>, F
 impl Items {
     /// Takes a bar or another token of the line.
     fn add(&mut self, alloc: Global, kind: Kind, part: &[u8]) -> Result<(), LineError>
-        requires { IsNamed self.old }
+        requires { IsItemTable self.old }
         ensures judged { Judged (first (part_checks kind (row_of_items self.old) part.now)) result }
-        ensures added { OnOk result (IsNamed self.new × (row_of_items self.new ≡ with_part kind (row_of_items self.old) part.now)) }
+        ensures added { OnOk result (IsItemTable self.new × (row_of_items self.new ≡ with_part kind (row_of_items self.old) part.now)) }
     {
         if let [b'|', ..] = part {
             if self.bar.is_some() {
@@ -133,9 +133,9 @@ impl Items {
 
     /// Takes a token that is no bar.
     fn add_item(&mut self, alloc: Global, kind: Kind, token: &[u8]) -> Result<(), LineError>
-        requires { IsNamed self.old }
+        requires { IsItemTable self.old }
         ensures judged { Judged (first (item_checks kind (names_of (map entry_of self.old.items.items)) (is_some self.old.bar) token.now)) result }
-        ensures added { OnOk result (IsNamed self.new × (map entry_of self.new.items.items ≡ map entry_of self.old.items.items ++ entry kind (is_some self.old.bar) token.now ∷ []) × (self.new.bar ≡ self.old.bar)) }
+        ensures added { OnOk result (IsItemTable self.new × (map entry_of self.new.items.items ≡ map entry_of self.old.items.items ++ entry kind (is_some self.old.bar) token.now ∷ []) × (self.new.bar ≡ self.old.bar)) }
     {
         let Token { name, low, high } = match split_token(kind, self.bar.is_some(), token) {
             Ok(token) => token,
@@ -178,7 +178,7 @@ fn push_item(
 /// The items of the item line, or its first fault.
 pub fn item_line(alloc: Global, kind: Kind, line: &[u8]) -> Result<Items, LineError>
     ensures judged { Judged (first (row_checks kind no_row (parts line.now))) result }
-    ensures row { IfOk result (λ i. IsNamed i × (row_of_items i ≡ row_of kind no_row (parts line.now))) }
+    ensures row { IfOk result (λ i. IsItemTable i × (row_of_items i ≡ row_of kind no_row (parts line.now))) }
 {
     let mut items = Items {
         names: IndexSet::new(alloc),

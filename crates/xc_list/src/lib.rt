@@ -15,3 +15,6 @@ pub use runs::{End, run, run_over};
 pub use sink::{Sink, Tray, WriteFailed};
 pub use text::{SinkFault, write_all, write_number};
 pub use words::{WordFault, Words};
+
+#[cfg(test)]
+mod tests;

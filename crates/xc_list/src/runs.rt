@@ -126,9 +126,9 @@ pub fn run<S: Sink>(
 ) -> Result<End, Memory>
     ensures run { MatchResult result
         (IsRun problem.now words.spacing words.limit
-            (S.failures sink.old, S.taken sink.old) (S.failures sink.new, S.taken sink.new))
+        (S.failures sink.old, S.taken sink.old) (S.failures sink.new, S.taken sink.new))
         (λ _. IsUntouched
-            (S.failures sink.old, S.taken sink.old) (S.failures sink.new, S.taken sink.new)) }
+        (S.failures sink.old, S.taken sink.old) (S.failures sink.new, S.taken sink.new)) }
     ensures right { EachMemberCovers problem.now.puzzle }
     ensures complete { EachCoverIsListedOnce problem.now.puzzle }
 {

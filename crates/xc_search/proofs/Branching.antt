@@ -22,7 +22,7 @@ use Rattle.xc_search.proofs.Rotated.{placed, apart_turned, committed_picks, cut}
 use Rattle.xc_search.proofs.Tweaked.{branch_cut, legal_branch, items_tweaked, open_tweaked, purified_tweaked, spends_tweaked, left_closed, left_open}
 use Rattle.xc_search.proofs.Elements.{each_weaker, each-filter, each_passes, each_at, each_turned, each_both}
 use Rattle.xc_search.proofs.Filters.{filter_both}
-use Rattle.xc_search.proofs.Tests.{only_rest}
+use Rattle.xc_search.proofs.BooleanTests.{only_rest}
 use Rattle.xc_search.proofs.Uses.{AreApart, apart_from_pairs}
 use Rattle.xc_search.proofs.Numbering.{IsOption}
 

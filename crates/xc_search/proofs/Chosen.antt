@@ -6,7 +6,7 @@ use Rattle.xc_input.specs.Problem.{Numbered}
 use Rattle.xc_search.proofs.Members.{IsIn}
 use Rattle.xc_dance.proofs.ListLemmas.{length-filter-le}
 use Rattle.xc_search.proofs.Rising.{NumbersRise, above_in}
-use Rattle.xc_search.proofs.Tests.{and_left, and_right}
+use Rattle.xc_search.proofs.BooleanTests.{and_left, and_right}
 
 abbrev pub passing : (Numbered → Bool) → List Numbered → ℕ
 passing t os = length (filter t os)

@@ -15,7 +15,7 @@ use Rattle.xc_search.proofs.EachBranch.{takes-in, nones-in, level-in, no_items_l
 use Rattle.xc_search.proofs.Chosen.{passing, one_passes, two_pass, same_passing, passing_without, first_passing, list_all-each, list_all-at}
 use Rattle.xc_search.proofs.Filters.{filter_both}
 use Rattle.std.proofs.lemmas.List.{nil_from_length}
-use Rattle.xc_search.proofs.Tests.{and_right}
+use Rattle.xc_search.proofs.BooleanTests.{and_right}
 use Rattle.xc_search.proofs.Uses.{holds_use}
 
 -- ---- a choice of option numbers that covers what is left

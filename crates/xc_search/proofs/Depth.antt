@@ -1,19 +1,18 @@
 -- Each level has its own Spend.
-use Rattle.std.proofs.Common.{ℕ, ◌≡◌, ◌+◌, ◌-◌, ◌<◌, ◌≤◌, List, [], ◌∷◌, ◌++◌, length, take, Some, ap, arith}
+use Rattle.std.proofs.Common.{ℕ, ◌≡◌, ◌-◌, ◌<◌, ◌≤◌, List, [], ◌∷◌, ◌++◌, length, take, Some, ap, arith}
 use Rattle.xc_dance.specs.declared.dance.Move.{Move}
 use Rattle.xc_dance.specs.declared.dance.Move.TheVariants.{Cover, Purify, Tweak, Spend}
 use Rattle.xc_search.specs.declared.level.Level.{Level}
-use Rattle.xc_input.specs.Problem.{Puzzle, primary_count}
+use Rattle.xc_input.specs.Problem.{Puzzle}
 use Rattle.xc_search.specs.Listing.{branch_item}
 use Rattle.xc_search.specs.Residuals.{wanted_at, residual_of}
 use Rattle.xc_search.specs.Commits.{opened, oldest}
-use Rattle.xc_search.specs.Room.{use_count, level_limit}
+use Rattle.xc_search.specs.Room.{level_limit}
 use Rattle.xc_search.specs.Sparing.{spendings}
 use Rattle.xc_search.specs.Stack.{AreStacked, IsNode}
 use Rattle.xc_search.proofs.Sparing.{sparing_opened, spent_opened, spent_tweaked}
 use Rattle.xc_search.proofs.FewSpends.{few_spendings}
 use Rattle.xc_search.proofs.Tweaked.{legal_node}
-use Rattle.xc_dance.specs.Moves.{AreLegal}
 use Rattle.std.proofs.lemmas.List.{take-append-drop}
 
 spent_above : (ms t : List Move) → spendings t ≤ spendings (ms ++ t)
@@ -31,9 +30,6 @@ depth p t [] s = omega arith
 depth p t (l ∷ ls) s =
     let u = oldest l.mark t in
     omega (arith, depth p u ls s.1, spent_oldest l.base t, ap spendings s.0.base, spent_tweaked l.tweaks l.item (opened p l.item u), spent_opened p l.item u)
-
-pub shallow : (p : Puzzle) (t : List Move) (ls : List Level) → AreStacked p t ls → AreLegal p t → spendings t ≤ use_count p + primary_count p → length ls ≤ level_limit p
-shallow p t ls s l h = omega (arith, depth p t ls s, few_spendings p t l, h)
 
 -- before another level is begun there is room for it
 pub depth_at : (p : Puzzle) (t : List Move) (ls : List Level) (i : ℕ) → AreStacked p t ls → IsNode p t i → branch_item (residual_of p t) ≡ Some (wanted_at p t i) → length ls < level_limit p

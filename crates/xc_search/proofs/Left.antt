@@ -12,7 +12,7 @@ use Rattle.xc_search.specs.Residuals.{left}
 use Rattle.xc_search.proofs.Rising.{NumbersRise, NumbersRise-weaker, NumbersRise-filter, options_rise}
 use Rattle.xc_search.proofs.Elements.{each_weaker, each_both}
 use Rattle.xc_search.proofs.Filters.{filter_same, filter_both, filter_swap, keep_all}
-use Rattle.xc_search.proofs.Tests.{and_right}
+use Rattle.xc_search.proofs.BooleanTests.{and_right}
 
 -- ---- numbers that rise
 

@@ -42,7 +42,7 @@ pub mod Sparing
 pub mod Stacks
 pub mod Starts
 pub mod Taking
-pub mod Tests
+pub mod BooleanTests
 pub mod Totals
 pub mod Trails
 pub mod Turns

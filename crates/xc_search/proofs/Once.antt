@@ -11,7 +11,7 @@ use Rattle.xc_search.proofs.Rising.{NumbersRise, NumbersRise-filter, options_ris
 use Rattle.xc_search.proofs.EachBranch.{IsTaken, IsNone, takes, nones, in-branches, in-nones, in-level, behind}
 use Rattle.xc_search.proofs.Proper.{goes_on}
 use Rattle.xc_search.proofs.EachTwo.{EachTwo, EachTwo-append, EachTwo-map, EachTwo-flat_map, EachTwo-at, EachTwo-weaker, EachTwo-take, EachTwo-enumerated}
-use Rattle.xc_search.proofs.Tests.{and_left}
+use Rattle.xc_search.proofs.BooleanTests.{and_left}
 
 -- an option of this number is left
 abbrev HasNumber : Residual → ℕ → Type 0

@@ -8,7 +8,7 @@ use Rattle.xc_search.specs.Listing.{Wanted, Residual, wanted_from, whole, less_o
 use Rattle.xc_search.proofs.Members.{IsIn, in-filter, filter-in, in-map, map-in, each_in, each_from, in-contains}
 use Rattle.xc_search.proofs.Rising.{NumbersRise, NumbersRise-filter, options_rise}
 use Rattle.xc_search.proofs.Solved.{IsSound, used_up}
-use Rattle.xc_search.proofs.Tests.{and_right}
+use Rattle.xc_search.proofs.BooleanTests.{and_right}
 use Rattle.xc_search.proofs.Uses.{held_by, holds_use}
 use Rattle.xc_search.proofs.Numbering.{option_sound}
 

@@ -10,7 +10,7 @@ use Rattle.xc_search.proofs.Rising.{NumbersRise, same_number}
 use Rattle.xc_search.proofs.Elements.{each_weaker}
 use Rattle.std.proofs.Math.Bool.{or-true}
 use Rattle.std.proofs.lemmas.Bool.{not-true}
-use Rattle.xc_search.proofs.Tests.{and_left, and_right}
+use Rattle.xc_search.proofs.BooleanTests.{and_left, and_right}
 
 -- how many of the selection hold item j
 abbrev pub count : ℕ → List Numbered → ℕ

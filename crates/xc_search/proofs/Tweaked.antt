@@ -20,7 +20,7 @@ use Rattle.xc_search.proofs.ReadyLeft.{has_left, primary_pure}
 use Rattle.xc_search.proofs.Rotated.{cut}
 use Rattle.xc_search.proofs.Elements.{each_of_all}
 use Rattle.xc_search.proofs.Filters.{filter_both, keep_all}
-use Rattle.xc_search.proofs.Tests.{only_rest}
+use Rattle.xc_search.proofs.BooleanTests.{only_rest}
 use Rattle.xc_search.proofs.Places.{slice_get-drop, before_some, drop_one}
 
 -- ---- what tweaks leave as it was

@@ -1,5 +1,5 @@
 -- How much work a search has ahead, and what a step of its loop does.
-use Rattle.std.specs.Prelude.{ℕ, zero, suc, ◌+◌, ◌<◌, ◌≤◌, ◌≡◌, Bool, true, false, List, [], ◌∷◌, drop, length, Option, Some, None}
+use Rattle.std.specs.Prelude.{ℕ, zero, suc, ◌+◌, ◌<◌, ◌≤◌, ◌≡◌, Bool, true, false, List, [], ◌∷◌, drop, Option, Some, None}
 use Rattle.xc_dance.specs.declared.dance.Move.{Move}
 use Rattle.xc_search.specs.declared.level.Level.{Level}
 use Rattle.xc_input.specs.Problem.{Puzzle}
@@ -7,7 +7,6 @@ use Rattle.xc_search.specs.Listing.{Wanted, Residual, Branch, branch_item, branc
 use Rattle.xc_search.specs.Residuals.{residual_of}
 use Rattle.xc_search.specs.Commits.{oldest}
 use Rattle.xc_search.specs.Stack.{AreStacked, IsStanding, coming, choices_of, to_give, branches_at}
-use Rattle.xc_search.specs.Room.{level_limit}
 
 -- the work of these branches, each by the work of what it leaves
 abbrev pub cost : (Residual → ℕ) → List Branch → ℕ
@@ -38,9 +37,8 @@ abbrev pub ahead : Puzzle → List Move → List Level → Bool → ℕ
 ahead p t ls true = work (residual_of p t) + visits p t ls
 ahead p t ls false = visits p t ls
 
--- A search that stood at levels ls on moves t reached a solution: its choices are the next member, and the levels ks stand on moves s.
+-- A search that stood at levels ls on moves t reached a solution: the choices of ks are the next member, and the levels ks stand on moves s.
 pub record IsReached (p : Puzzle) (t : List Move) (ls : List Level) (down : Bool) (s : List Move) (ks : List Level) : Type 0 where
-  pub short : length ks ≤ level_limit p
   pub members : coming p t ls down ≡ choices_of ks ∷ to_give p s ks
   pub stacked : AreStacked p s ks
 

@@ -11,6 +11,13 @@ use Rattle.xc_search.specs.Residuals.{wanted_at, wanted_after, left, residual_of
 use Rattle.xc_search.specs.Commits.{opened, oldest, tweaked, walks}
 use Rattle.xc_search.specs.Sparing.{IsSparing}
 
+-- What a stack stands for.
+pub record Levels : Type 0 where
+  -- the newest first
+  pub levels : List Level
+  -- how many levels there is room for
+  pub room : ℕ
+
 -- something is left of each bound
 abbrev pub AreAllWanted : List Wanted → Type 0
 AreAllWanted ws = AllByRecursion (λ w. nat_lt 0 w.high ≡ true) ws

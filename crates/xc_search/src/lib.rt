@@ -9,9 +9,13 @@ pub mod laws;
 mod level;
 mod levels;
 mod search;
+mod stack;
 mod steps;
 
 pub use branch_item::{branches, choose};
 pub use choice::Choice;
 pub use counts::most_moves;
 pub use search::{Search, Step};
+
+#[cfg(test)]
+mod tests;

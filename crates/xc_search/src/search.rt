@@ -1,12 +1,12 @@
 //! The search: a stack of levels over a dance.
 ghost use Rattle.std.specs.Prelude.{◌≡◌, ◌≤◌, [], ◌∷◌, IfOk, IfErr};
 ghost use Rattle.xc_search.specs.Room.{room_for};
-ghost use Rattle.xc_search.specs.Cover.{members};
+ghost use Rattle.xc_search.specs.Cover.{members, EachMemberCovers, EachCoverIsListedOnce};
 
 use crate::choice::Choice;
 use crate::counts::most_levels;
-use crate::level::Level;
-use crate::levels::{advance, show};
+use crate::levels::advance;
+use crate::stack::Stack;
 use std::alloc::Global;
 use std::marker::Model;
 use xc_dance::{Dance, Memory};
@@ -26,34 +26,31 @@ pub enum Step {
 pub struct Search<'a, D: Dance> {
     dance: D,
     problem: &'a Problem,
-    /// The levels, the oldest first.
-    levels: Vec<Level>,
-    choices: Vec<Choice>,
+    stack: Stack,
     /// What is left wasn't searched yet.
     down: bool,
 }
 
 impl<'a, D: Dance> Model for Search<'a, D> {
-    ghost use Rattle.std.specs.Prelude.{◌≡◌, ◌≤◌, reverse, vec_capacity};
+    ghost use Rattle.std.specs.Prelude.{◌≡◌, ◌≤◌};
     ghost use Rattle.xc_search.specs.Outlook.{Outlook};
     ghost use Rattle.xc_search.specs.Room.{room_for, level_limit};
-    ghost use Rattle.xc_search.specs.Stack.{coming, IsStanding};
+    ghost use Rattle.xc_search.specs.Stack.{choices_of, coming, IsStanding};
 
     ghost Value = { Outlook };
 
     ghost view = { λ s. record {
       puzzle = s.problem.now.puzzle;
-      to_come = coming s.problem.now.puzzle (D.trail s.dance) (reverse s.levels.items) s.down;
-      shown = s.choices.items;
+      to_come = coming s.problem.now.puzzle (D.trail s.dance) s.stack.levels s.down;
+      shown = choices_of s.stack.levels;
       room = D.limit s.dance;
     } };
 
     ghost invariant = { λ s. record {
       same : D.problem s.dance ≡ s.problem.now.puzzle;
-      standing : IsStanding s.problem.now.puzzle (D.trail s.dance) (reverse s.levels.items) s.down;
+      standing : IsStanding s.problem.now.puzzle (D.trail s.dance) s.stack.levels s.down;
       moves_fit : room_for s.problem.now.puzzle ≤ D.limit s.dance;
-      levels_fit : level_limit s.problem.now.puzzle ≤ vec_capacity s.levels;
-      choices_fit : level_limit s.problem.now.puzzle ≤ vec_capacity s.choices;
+      levels_fit : level_limit s.problem.now.puzzle ≤ s.stack.room;
     } };
 }
 
@@ -66,23 +63,21 @@ impl<'a, D: Dance> Search<'a, D> {
         requires room { room_for problem.now.puzzle ≤ D.limit dance }
         ensures puzzle { IfOk result (λ s. s.puzzle ≡ problem.now.puzzle) }
         ensures members { IfOk result (λ s. s.to_come ≡ members problem.now.puzzle) }
+        ensures right { IfOk result (λ s. EachMemberCovers s.puzzle) }
+        ensures complete { IfOk result (λ s. EachCoverIsListedOnce s.puzzle) }
         ensures shown { IfOk result (λ s. s.shown ≡ []) }
         ensures room { IfOk result (λ s. s.room ≡ D.limit dance) }
         ensures back { IfErr result (λ e. e.0 ≡ dance) }
     {
         let _items = problem.items();
         let most = most_levels(problem);
-        let Ok(levels) = Vec::with_capacity(alloc, most) else {
-            return Err((dance, Memory));
-        };
-        let Ok(choices) = Vec::with_capacity(alloc, most) else {
+        let Ok(stack) = Stack::new(alloc, most) else {
             return Err((dance, Memory));
         };
         Ok(Search {
             dance,
             problem,
-            levels,
-            choices,
+            stack,
             down: true,
         })
     }
@@ -91,7 +86,7 @@ impl<'a, D: Dance> Search<'a, D> {
     pub fn choices(&self) -> &[Choice]
         ensures { result.now ≡ self.now.shown }
     {
-        &self.choices
+        self.stack.choices()
     }
 
     /// Goes on to the next solution, which `choices` then gives. After `Done` it answers `Done`
@@ -102,14 +97,13 @@ impl<'a, D: Dance> Search<'a, D> {
         ensures solution { result ≡ Step.Solution → self.old.to_come ≡ self.new.shown ∷ self.new.to_come }
         ensures done { result ≡ Step.Done → (self.old.to_come ≡ []) × (self.new ≡ record self.old { shown = [] }) }
     {
-        self.choices.clear();
         let down = self.down;
         self.down = false;
-        if !advance(&mut self.dance, self.problem, &mut self.levels, down) {
-            return Step::Done;
+        if advance(&mut self.dance, self.problem, &mut self.stack, down) {
+            Step::Solution
+        } else {
+            Step::Done
         }
-        show(&self.levels, &mut self.choices);
-        Step::Solution
     }
 
     /// Undoes every move and gives the dance back, after any answer of `next`.
@@ -121,8 +115,7 @@ impl<'a, D: Dance> Search<'a, D> {
         let Search {
             mut dance,
             problem: _,
-            levels: _,
-            choices: _,
+            stack: _,
             down: _,
         } = self;
         while !dance.moves().is_empty() {

@@ -1,5 +1,5 @@
 -- What a whole run does.
-use Rattle.std.specs.Prelude.{ℕ, ◌≡◌, List, ◌++◌, Option, flat_map}
+use Rattle.std.specs.Prelude.{ℕ, List, ◌++◌, Option, flat_map}
 use Rattle.xc_input.specs.declared.Kind.{Kind}
 use Rattle.xc_input.specs.Named.{Named}
 use Rattle.xc_input.specs.Lines.{IsTextOf, IsFirstFault}

@@ -7,7 +7,7 @@ use xc_input::{ReadFailed, Source};
 use xc_list::{Sink, WriteFailed};
 
 /// How many bytes a sink holds back.
-const HELD: usize = 8192;
+const HELD: usize = 65536;
 
 /// A reader of the system as a source, or a file that could not be opened.
 #[derive(Drop)]
@@ -70,7 +70,7 @@ pub struct Outgoing<W: Write + Drop> {
     held: [u8; HELD],
     len: usize,
     failures: u64,
-    ghost within: { len ≤ 8192 },
+    ghost within: { len ≤ 65536 },
 }
 
 /// Writes all bytes, and says whether that went well. A failed write isn't tried again.

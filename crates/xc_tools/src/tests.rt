@@ -1,3 +1,5 @@
+ghost use Rattle.std.specs.Prelude.{◌<◌};
+
 use crate::solve;
 use std::alloc::Global;
 use std::test::Fail;

@@ -1,19 +1,18 @@
-use Rattle.xc_search.proofs.Depth.{shallow, depth_at}
-use Rattle.std.proofs.lemmas.List.{length-reverse}
-use Rattle.std.proofs.Common.{arith, ◌≡◌, None, Some, reverse}
+use Rattle.xc_search.proofs.Depth.{depth_at}
+use Rattle.std.proofs.Common.{arith, ◌≡◌, None, Some, ap}
 use Rattle.xc_search.specs.Residuals.{choice_after}
 use Rattle.xc_search.proofs.Stacks.{chosen_item}
 use Rattle.xc_search.proofs.Turns.{finds, node_at, deepens}
+use Rattle.xc_search.specs.Stack.{Levels}
 use Rattle.xc_search.proofs.levels.deepen.Goals as goal
 
 pub returns-in_default-clause-reached : goal.returns-in_default-clause-reached
 returns-in_default-clause-reached g c _ =
     let p = c.args.problem.now.puzzle in
     let t = g.D.Dance.trail c.args.dance.now in
-    let ls = reverse c.args.levels.now.items in
+    let ls = c.args.stack.now.levels in
     let e : choice_after p t ≡ None = cc (c.choose.ensures, c.in_default.is) in
     record {
-      short = shallow p t ls c.requires.standing.stacked (c.requires.standing.legal c.if-not-down.false) (omega (arith, c.requires.standing.sparing c.if-not-down.false));
       members = finds p t ls c.args.down c.requires.standing c.if-not-down.false e;
       stacked = c.requires.standing.stacked;
     }
@@ -23,16 +22,16 @@ descend-level-requires-clause-node g c =
     let p = c.args.problem.now.puzzle in
     let t = g.D.Dance.trail c.args.dance.now in
     let e : choice_after p t ≡ Some (c.in-Some.item, c.in-Some.count) = cc (c.choose.ensures, c.in-Some.is) in
-    node_at p t (reverse c.args.levels.now.items) c.args.down c.in-Some.item c.in-Some.count c.requires.standing c.if-not-down.false e
+    node_at p t c.args.stack.now.levels c.args.down c.in-Some.item c.in-Some.count c.requires.standing c.if-not-down.false e
 
 pub returns-clause-deeper : goal.returns-clause-deeper
 returns-clause-deeper g c _ =
     let p = c.args.problem.now.puzzle in
     let t = g.D.Dance.trail c.args.dance.now in
-    let ls = reverse c.args.levels.now.items in
+    let ls = c.args.stack.now.levels in
     let e : choice_after p t ≡ Some (c.in-Some.item, c.in-Some.count) = cc (c.choose.ensures, c.in-Some.is) in
-    deepens p t ls c.args.down c.in-Some.item c.in-Some.count (g.D.Dance.trail c.descend-level.new.dance) c.descend-level.result (reverse c.push.new.levels.items)
-    c.requires.standing c.if-not-down.false e c.descend-level.ensures.trail c.descend-level.ensures.level c.push.ensures.items
+    deepens p t ls c.args.down c.in-Some.item c.in-Some.count (g.D.Dance.trail c.descend-level.new.dance) c.descend-level.result c.push.new.self.levels
+    c.requires.standing c.if-not-down.false e c.descend-level.ensures.trail c.descend-level.ensures.level (ap (λ (s : Levels). s.levels) c.push.ensures)
 
 pub descend-level-requires-clause-branch : goal.descend-level-requires-clause-branch
 descend-level-requires-clause-branch g c =
@@ -45,9 +44,9 @@ pub push-requires : goal.push-requires
 push-requires g c =
     let p = c.args.problem.now.puzzle in
     let t = g.D.Dance.trail c.args.dance.now in
-    let items = c.args.levels.now.items in
+    let ls = c.args.stack.now.levels in
     let i = c.in-Some.item in
     let e : choice_after p t ≡ Some (i, c.in-Some.count) = cc (c.choose.ensures, c.in-Some.is) in
-    let node = node_at p t (reverse items) c.args.down i c.in-Some.count c.requires.standing c.if-not-down.false e in
+    let node = node_at p t ls c.args.down i c.in-Some.count c.requires.standing c.if-not-down.false e in
     let chosen = chosen_item p t i c.in-Some.count (c.requires.standing.legal c.if-not-down.false) e in
-    omega (arith, c.requires.levels_fit, length-reverse items, depth_at p t (reverse items) i c.requires.standing.stacked node chosen.branch)
+    omega (arith, c.requires.levels_fit, depth_at p t ls i c.requires.standing.stacked node chosen.branch)

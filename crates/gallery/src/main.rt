@@ -1,0 +1,41 @@
+//! Counts the solutions of the problems in `examples`.
+#![tactic(auto)]
+
+use std::fs;
+use std::process::ExitCode;
+use xc_input::Kind;
+use xc_list::{Sink, write_all};
+use xc_tools::{Direct, Incoming, Outgoing, solve};
+
+const PROBLEMS: [(&str, Kind); 9] = [
+    ("seven.dlx", Kind::Plain),
+    ("queens.dlx", Kind::Plain),
+    ("langford.dlx", Kind::Plain),
+    ("pentominoes.dlx", Kind::Plain),
+    ("sudoku.dlx", Kind::Plain),
+    ("words.dlx", Kind::Colours),
+    ("squares.dlx", Kind::Colours),
+    ("covering.dlx", Kind::Bounds),
+    ("timetable.dlx", Kind::Bounds),
+];
+
+fn main(rt: HostRuntime) -> ExitCode {
+    let mut listing = Outgoing::new(rt.stdout());
+    let mut messages = Direct::new(rt.stdout());
+    let mut worst = 0;
+    for (name, kind) in &PROBLEMS {
+        let mut problem = Incoming::new(fs::open(&rt, *name).ok());
+        let _ = write_all(&mut messages, name.as_bytes());
+        let _ = write_all(&mut messages, b": ");
+        let status = solve(
+            rt.alloc(),
+            *kind,
+            &[],
+            &mut problem,
+            &mut listing,
+            &mut messages,
+        );
+        worst = worst.max(status);
+    }
+    ExitCode::from(worst)
+}
