@@ -124,7 +124,7 @@ fn words_come_before_the_input(rt: HostRuntime) -> Result<(), Fail> {
 }
 
 #[test]
-fn secondary_items_colours_and_bounds(rt: HostRuntime) -> Result<(), Fail> {
+fn secondary_items(rt: HostRuntime) -> Result<(), Fail> {
     let rows: [(Kind, &[u8], &[u8], &[u8]); 4] = [
         (
             Kind::Plain,
@@ -133,9 +133,49 @@ fn secondary_items_colours_and_bounds(rt: HostRuntime) -> Result<(), Fail> {
             b"Option ignored (no primary items): line 4\nAltogether 1 solution.\n",
         ),
         (
+            Kind::Plain,
+            b"A B | x y\nA x\nA y\nB x\nB y\nB\n",
+            b"1:\n A x (1 of 2)\n B y (1 of 2)\n2:\n A x (1 of 2)\n B (2 of 2)\n3:\n A y (2 of 2)\n B x (1 of 2)\n4:\n A y (2 of 2)\n B (2 of 2)\n",
+            b"Altogether 4 solutions.\n",
+        ),
+        (
+            Kind::Plain,
+            b"ABCDEFGHI\n",
+            b"",
+            b"Altogether 0 solutions.\n",
+        ),
+        (
+            Kind::Plain,
+            b"\xc3\xa9\n\xc3\xa9\n",
+            b"1:\n \xc3\xa9 (1 of 1)\n",
+            b"Altogether 1 solution.\n",
+        ),
+    ];
+    for (kind, text, listing, messages) in &rows {
+        assert!(rt; tells(rt.alloc(), *kind, &[b"m1"], text, 0, listing, messages)?);
+    }
+    Ok(())
+}
+
+#[test]
+fn colours(rt: HostRuntime) -> Result<(), Fail> {
+    let rows: [(Kind, &[u8], &[u8], &[u8]); 6] = [
+        (
             Kind::Colours,
             b"p q r | x y\np q x y:A\np r x:A y\np x:B\nq x:A\nr y:B\n",
             b"1:\n q x:A (2 of 2)\n p r x:A y (1 of 1)\n",
+            b"Altogether 1 solution.\n",
+        ),
+        (
+            Kind::Colours,
+            b"A B |x\nA x:1\nB x:1\nB x:2\nB x\n",
+            b"1:\n A x:1 (1 of 1)\n B x:1 (1 of 1)\n",
+            b"Altogether 1 solution.\n",
+        ),
+        (
+            Kind::Colours,
+            b"A B | x\nA x:|\nB x:|\nB x::\n",
+            b"1:\n A x:| (1 of 1)\n B x:| (1 of 1)\n",
             b"Altogether 1 solution.\n",
         ),
         (
@@ -145,14 +185,204 @@ fn secondary_items_colours_and_bounds(rt: HostRuntime) -> Result<(), Fail> {
             b"Altogether 1 solution.\n",
         ),
         (
+            Kind::Colours,
+            b"A | x\nA x:12\n",
+            b"1:\n A x:12 (1 of 1)\n",
+            b"Altogether 1 solution.\n",
+        ),
+        (
+            Kind::Colours,
+            b"A | x\nA x:12345678\n",
+            b"1:\n A x:12345678 (1 of 1)\n",
+            b"Altogether 1 solution.\n",
+        ),
+    ];
+    for (kind, text, listing, messages) in &rows {
+        assert!(rt; tells(rt.alloc(), *kind, &[b"m1"], text, 0, listing, messages)?);
+    }
+    Ok(())
+}
+
+#[test]
+fn bounds(rt: HostRuntime) -> Result<(), Fail> {
+    let rows: [(Kind, &[u8], &[u8], &[u8]); 8] = [
+        (
             Kind::Bounds,
             b"1:2|A B\nA\nA B\nB\n",
             b"1:\n A (1 of 2)\n A B (1 of 2)\n2:\n A (1 of 2)\n null A (2 of 2)\n B (1 of 1)\n3:\n A B (2 of 2)\n null A (1 of 1)\n",
             b"Altogether 3 solutions.\n",
         ),
+        (
+            Kind::Bounds,
+            b"0:2|A\nA\nA\n",
+            b"1:\n A (1 of 3)\n A (1 of 2)\n2:\n A (1 of 3)\n null A (2 of 2)\n3:\n A (2 of 3)\n null A (1 of 1)\n4:\n null A (3 of 3)\n",
+            b"Altogether 4 solutions.\n",
+        ),
+        (
+            Kind::Bounds,
+            b"0:1|A\n",
+            b"1:\n null A (1 of 1)\n",
+            b"Altogether 1 solution.\n",
+        ),
+        (
+            Kind::Bounds,
+            b"999999999|A\nA\n",
+            b"",
+            b"Altogether 0 solutions.\n",
+        ),
+        (
+            Kind::Bounds,
+            b"2|A\nA\nA\n",
+            b"1:\n A (1 of 1)\n A (1 of 1)\n",
+            b"Altogether 1 solution.\n",
+        ),
+        (
+            Kind::Bounds,
+            b"2|A 0:1|B | x\nA B\nA x:1\nA x:2\nB\n",
+            b"1:\n A B (1 of 2)\n A x:1 (1 of 2)\n2:\n A B (1 of 2)\n A x:2 (2 of 2)\n",
+            b"Altogether 2 solutions.\n",
+        ),
+        (
+            Kind::Bounds,
+            b"0:2|A B\nA B\nA\n",
+            b"1:\n B A (1 of 1)\n A (1 of 2)\n2:\n B A (1 of 1)\n null A (2 of 2)\n",
+            b"Altogether 2 solutions.\n",
+        ),
+        (
+            Kind::Bounds,
+            b"2|A 2|B\nA B\nB A\n",
+            b"1:\n A B (1 of 1)\n A B (1 of 1)\n",
+            b"Altogether 1 solution.\n",
+        ),
     ];
     for (kind, text, listing, messages) in &rows {
         assert!(rt; tells(rt.alloc(), *kind, &[b"m1"], text, 0, listing, messages)?);
+    }
+    Ok(())
+}
+
+#[test]
+fn faults(rt: HostRuntime) -> Result<(), Fail> {
+    let rows: [(Kind, &[u8], &[u8]); 25] = [
+        (
+            Kind::Plain,
+            b"A B\nA B A\n",
+            b"Line 2: item repeated in option.\n",
+        ),
+        (Kind::Bounds, b"B|x A\n", b"Line 1: bad bound.\n"),
+        (Kind::Plain, b"B|x A\n", b"Line 1: bad byte in name.\n"),
+        (Kind::Bounds, b"9999999999|a", b"Line 1: bad bound.\n"),
+        (Kind::Bounds, b"2:1|A", b"Line 1: bound order.\n"),
+        (Kind::Bounds, b"0|A", b"Line 1: bound order.\n"),
+        (
+            Kind::Bounds,
+            b"A |1|x",
+            b"Line 1: bound on a secondary item.\n",
+        ),
+        (Kind::Bounds, b"A |0|x", b"Line 1: bound order.\n"),
+        (Kind::Bounds, b"2|", b"Line 1: empty name.\n"),
+        (Kind::Bounds, b"1|2|A", b"Line 1: bad byte in name.\n"),
+        (Kind::Bounds, b"A:b", b"Line 1: bad byte in name.\n"),
+        (Kind::Plain, b"A A", b"Line 1: name repeated.\n"),
+        (Kind::Plain, b"A | | x", b"Line 1: second bar.\n"),
+        (
+            Kind::Plain,
+            b"123456789012345678901234567890123",
+            b"Line 1: name too long.\n",
+        ),
+        (Kind::Plain, b"A\nB", b"Line 2: unknown item.\n"),
+        (
+            Kind::Plain,
+            b"A | x\nA x:1",
+            b"Line 2: colour not allowed here.\n",
+        ),
+        (
+            Kind::Plain,
+            b"A | x\nx x",
+            b"Line 2: item repeated in option.\n",
+        ),
+        (
+            Kind::Colours,
+            b"A | x\nA:1",
+            b"Line 2: colour on a primary item.\n",
+        ),
+        (Kind::Colours, b"A | x\nA x:", b"Line 2: bad colour.\n"),
+        (
+            Kind::Colours,
+            b"A | x\nA x:123456789",
+            b"Line 2: bad colour.\n",
+        ),
+        (
+            Kind::Colours,
+            b"A | x\nA A:1",
+            b"Line 2: item repeated in option.\n",
+        ),
+        (Kind::Colours, b"A\n:", b"Line 2: empty name.\n"),
+        (
+            Kind::Plain,
+            b"A B\nA ABCDEFGHIJ Q A\n",
+            b"Line 2: unknown item.\n",
+        ),
+        (Kind::Plain, b"A B\nA A \0\n", b"Line 2: NUL byte.\n"),
+        (Kind::Plain, b"| a\0b\nA\n", b"Line 1: NUL byte.\n"),
+    ];
+    for (kind, text, message) in &rows {
+        assert!(rt; tells(rt.alloc(), *kind, &[b"m1"], text, 2, b"", message)?);
+    }
+    Ok(())
+}
+
+#[test]
+fn a_text_cut_at_each_byte(rt: HostRuntime) -> Result<(), Fail> {
+    let text = b"A B\nA B A\n";
+    let none: &[u8] = b"Altogether 0 solutions.\n";
+    let fault: &[u8] = b"Line 2: item repeated in option.\n";
+    for cut in 0..11 {
+        let (status, listing, message): (u8, &[u8], &[u8]) = match cut {
+            0 => (2, b"", b"Line 1: no items.\n"),
+            1..=6 => (0, b"", none),
+            7 | 8 => (0, b"1:\n A B (1 of 1)\n", b"Altogether 1 solution.\n"),
+            _ => (2, b"", fault),
+        };
+        let part = &text[..cut];
+        assert!(rt;
+            tells(
+                rt.alloc(),
+                Kind::Plain,
+                &[b"m1"],
+                part,
+                status,
+                listing,
+                message
+            )?
+        );
+    }
+    Ok(())
+}
+
+#[test]
+fn tokens_of_a_thousand_bytes(rt: HostRuntime) -> Result<(), Fail> {
+    let mut letters = Vec::new(rt.alloc());
+    let mut digits = Vec::new(rt.alloc());
+    for _ in 0..1000 {
+        letters.push(b'a')?;
+        digits.push(b'1')?;
+    }
+    digits.extend_from_slice(b"|A")?;
+    let mut name = Vec::new(rt.alloc());
+    name.extend_from_slice(b"A\n")?;
+    name.extend_from_slice(&letters)?;
+    let mut colour = Vec::new(rt.alloc());
+    colour.extend_from_slice(b"A | x\nA x:")?;
+    colour.extend_from_slice(&letters)?;
+    let rows: [(Kind, &[u8], &[u8]); 4] = [
+        (Kind::Plain, &letters, b"Line 1: name too long.\n"),
+        (Kind::Plain, &name, b"Line 2: name too long.\n"),
+        (Kind::Bounds, &digits, b"Line 1: bad bound.\n"),
+        (Kind::Colours, &colour, b"Line 2: bad colour.\n"),
+    ];
+    for (kind, text, message) in &rows {
+        assert!(rt; tells(rt.alloc(), *kind, &[], text, 2, b"", message)?);
     }
     Ok(())
 }
