@@ -18,7 +18,7 @@ pub struct Item {
 }
 
 /// A use of an item by an option: its number, and its colour, 0 for none.
-#[derive(Clone, Copy, Debug, PartialEq, Eq)]
+#[derive(Clone, Copy, Debug, PartialEq, Eq, Hash)]
 pub struct Use {
     pub item: u32,
     pub colour: u32,

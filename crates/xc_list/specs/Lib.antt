@@ -1,4 +1,7 @@
+pub mod Kinds
 pub mod Known
+pub mod Listed
+pub mod ListingLines
 pub mod Messages
 pub mod Output
 pub mod Runs

@@ -1,6 +1,7 @@
 //! Listings of exact cover problems: words, texts and runs.
 #![tactic(auto)]
 
+mod judge;
 pub mod laws;
 mod messages;
 mod print;
@@ -9,6 +10,7 @@ mod sink;
 mod text;
 mod words;
 
+pub use judge::{ListingFault, Verdict};
 pub use messages::{summary, warnings, word_fault};
 pub use print::write_solution;
 pub use runs::{End, run, run_over};

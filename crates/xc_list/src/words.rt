@@ -19,7 +19,7 @@ pub enum WordFault {
 }
 
 /// The number that stands here in decimal.
-fn number_in(bytes: &[u8]) -> Option<u64>
+pub(crate) fn number_in(bytes: &[u8]) -> Option<u64>
     ensures { result ≡ number_in bytes.now }
 {
     if bytes.is_empty() {

@@ -1,0 +1,74 @@
+-- The lines of a listing: headers, and choice lines with their bodies.
+use Rattle.std.specs.Prelude.{ℕ, ◌-◌, ◌^◌, Bool, false, not, ◌&&◌, ◌==◌, nat_le, nat_lt, List, [], ◌∷◌, length, take, drop, Option, Some, None, if◌then◌else◌}
+use Rattle.std.specs.List.{list_all, list_any}
+use Rattle.xc_input.specs.Tokens.{at_front, is_space}
+use Rattle.xc_list.specs.Settings.{is_digit, value_from}
+
+-- the words of a text that single spaces part
+abbrev pub words_in : List ℕ → List (List ℕ)
+words_in [] = [] ∷ []
+words_in (b ∷ text) = if b == 32 then [] ∷ words_in text else at_front b (words_in text)
+
+-- one digit or more, at most this many
+abbrev pub are_digits : ℕ → List ℕ → Bool
+are_digits most text = nat_le 1 (length text) && nat_le (length text) most && list_all is_digit text
+
+-- what stands before a last byte, where that is the text's last
+abbrev pub before_last : ℕ → List ℕ → Option (List ℕ)
+before_last b [] = None
+before_last b (x ∷ []) = if x == b then Some [] else None
+before_last b (x ∷ y ∷ text) = elim (before_last b (y ∷ text)) [ None ↦ None | Some front ↦ Some (x ∷ front) ]
+
+-- the number of one to twenty digits, where it fits
+abbrev pub solution_number : List ℕ → Option ℕ
+solution_number text = if are_digits 20 text && nat_lt (value_from 0 text) (2 ^ 64) then Some (value_from 0 text) else None
+
+-- a header's number: digits and a colon, and nothing else
+abbrev pub header_number : List ℕ → Option ℕ
+header_number line = elim (before_last 58 line) [ None ↦ None | Some text ↦ solution_number text ]
+
+-- one byte or more, and no white space
+abbrev pub is_word : List ℕ → Bool
+is_word word = not (length word == 0) && not (list_any is_space word)
+
+-- `(` and one to ten digits
+abbrev pub is_opening : List ℕ → Bool
+is_opening [] = false
+is_opening (b ∷ text) = b == 40 && are_digits 10 text
+
+abbrev pub is_of : List ℕ → Bool
+is_of (a ∷ b ∷ []) = a == 111 && b == 102
+is_of _ = false
+
+-- one to ten digits and `)`
+abbrev pub is_closing : List ℕ → Bool
+is_closing text = elim (before_last 41 text) [ None ↦ false | Some digits ↦ are_digits 10 digits ]
+
+-- `(k`, `of`, `n)`
+abbrev pub is_ending : List (List ℕ) → Bool
+is_ending (a ∷ b ∷ c ∷ []) = is_opening a && is_of b && is_closing c
+is_ending _ = false
+
+-- the body of these words: those before the last three
+abbrev pub body_of_words : List (List ℕ) → Option (List (List ℕ))
+body_of_words words =
+    let k = length words - 3 in
+    if nat_le 1 k && list_all is_word words && is_ending (drop k words) then Some (take k words) else None
+
+-- A choice line is a space and at least four words that single spaces part; its body.
+abbrev pub body_of : List ℕ → Option (List (List ℕ))
+body_of [] = None
+body_of (b ∷ line) = if b == 32 then body_of_words (words_in line) else None
+
+-- what a line is: a header with its number, a choice line with its body, or neither
+pub data Line : Type 0 where
+  Header : ℕ → Line
+  Body : List (List ℕ) → Line
+  Other : Line
+
+-- (no line is both: a header begins with a digit, a choice line with a space)
+abbrev pub read : List ℕ → Line
+read line = elim (header_number line) [
+  | Some n ↦ Header n
+  | None ↦ elim (body_of line) [ Some words ↦ Body words | None ↦ Other ]
+]
