@@ -3,11 +3,21 @@
 
 use std::process::ExitCode;
 use xc_input::Kind;
-use xc_tools::{Direct, Incoming, Outgoing, solve_by_arguments};
+use xc_tools::{Direct, Incoming, Outgoing, out_of_memory, solve, words};
 
 fn main(rt: HostRuntime) -> ExitCode {
     let mut input = Incoming::new(Some(rt.stdin()));
     let mut out = Outgoing::new(rt.stdout());
     let mut err = Direct::new(rt.stderr());
-    ExitCode::from(solve_by_arguments(&rt, Kind::Bounds, &mut input, &mut out, &mut err))
+    ExitCode::from(match words(&rt) {
+        Ok(words) => solve(
+            rt.alloc(),
+            Kind::Bounds,
+            &words,
+            &mut input,
+            &mut out,
+            &mut err,
+        ),
+        Err(_) => out_of_memory(&mut err),
+    })
 }

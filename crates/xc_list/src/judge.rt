@@ -1,4 +1,10 @@
 //! Listings judged.
+ghost use Rattle.std.specs.Prelude.{◌≡◌, IfOk, IfErr, None};
+ghost use Rattle.xc_input.specs.Lines.{lines_of};
+ghost use Rattle.xc_list.specs.Listed.{first_fault, AreVerdicts, IsFirstFault};
+
+use std::alloc::Global;
+use xc_input::Problem;
 
 /// The verdict on a listed solution.
 #[derive(Clone, Copy, Debug, PartialEq, Eq)]
@@ -18,4 +24,13 @@ pub enum ListingFault {
     UnknownOption(u64),
     /// Memory is out.
     Memory,
+}
+
+/// The verdicts on the solutions of a listing, or its first fault.
+pub fn check(alloc: Global, problem: &Problem, listing: &[u8]) -> Result<Vec<Verdict>, ListingFault>
+    ensures accepted { IfOk result (λ vs. first_fault problem.now (lines_of listing.now) ≡ None) }
+    ensures verdicts { IfOk result (λ vs. AreVerdicts problem.now (lines_of listing.now) vs.items) }
+    ensures fault { IfErr result (λ e. IsFirstFault problem.now (lines_of listing.now) e) }
+{
+    Err(ListingFault::Memory)
 }

@@ -10,12 +10,12 @@ mod sink;
 mod text;
 mod words;
 
-pub use judge::{ListingFault, Verdict};
+pub use judge::{ListingFault, Verdict, check};
 pub use messages::{summary, warnings, word_fault};
 pub use print::write_solution;
 pub use runs::{End, run, run_over};
 pub use sink::{Sink, Tray, WriteFailed};
-pub use text::{SinkFault, write_all, write_number};
+pub use text::{SinkFault, write_all, write_number, write_numbered};
 pub use words::{WordFault, Words};
 
 #[cfg(test)]

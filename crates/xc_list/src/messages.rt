@@ -5,7 +5,7 @@ ghost use Rattle.xc_list.specs.Messages.{plural, total_text, failed_text, summar
 
 use crate::runs::End;
 use crate::sink::Sink;
-use crate::text::{SinkFault, write_all, write_number};
+use crate::text::{SinkFault, write_all, write_number, write_numbered};
 use crate::words::WordFault;
 use xc_input::Read;
 
@@ -34,9 +34,7 @@ fn write_failed<S: Sink>(n: u64, sink: &mut S) -> Result<(), SinkFault>
     ensures { Writes (S.failures sink.old, S.taken sink.old)
         (S.failures sink.new, S.taken sink.new) result (failed_text n) }
 {
-    write_all(sink, b"Write failed at solution ")?;
-    write_number(sink, n)?;
-    write_all(sink, b".\n")
+    write_numbered(sink, b"Write failed at solution ", n, b".\n")
 }
 
 /// Writes how a run ended.
@@ -55,9 +53,12 @@ fn write_warning<S: Sink>(line: u64, sink: &mut S) -> Result<(), SinkFault>
     ensures { Writes (S.failures sink.old, S.taken sink.old)
         (S.failures sink.new, S.taken sink.new) result (warning_text line) }
 {
-    write_all(sink, b"Option ignored (no primary items): line ")?;
-    write_number(sink, line)?;
-    write_all(sink, b"\n")
+    write_numbered(
+        sink,
+        b"Option ignored (no primary items): line ",
+        line,
+        b"\n",
+    )
 }
 
 fn write_warnings<S: Sink>(lines: &[u64], sink: &mut S) -> Result<(), SinkFault>
@@ -82,9 +83,7 @@ fn write_word<S: Sink>(place: usize, tail: &[u8], sink: &mut S) -> Result<(), Si
     ensures { Writes (S.failures sink.old, S.taken sink.old)
         (S.failures sink.new, S.taken sink.new) result (word_text place tail.now) }
 {
-    write_all(sink, b"Word ")?;
-    write_number(sink, place as u64)?;
-    write_all(sink, tail)
+    write_numbered(sink, b"Word ", place as u64, tail)
 }
 
 /// Writes which word is faulty.

@@ -35,3 +35,19 @@ pub fn write_number<S: Sink>(sink: &mut S, n: u64) -> Result<(), SinkFault>
     let mut buffer = Buffer::new();
     write_all(sink, buffer.format(n).as_bytes())
 }
+
+/// Writes a number in decimal between two texts.
+pub fn write_numbered<S: Sink>(
+    sink: &mut S,
+    before: &[u8],
+    n: u64,
+    behind: &[u8],
+) -> Result<(), SinkFault>
+    ensures { Writes (S.failures sink.old, S.taken sink.old)
+        (S.failures sink.new, S.taken sink.new)
+        result (before.now ++ decimal n ++ behind.now) }
+{
+    write_all(sink, before)?;
+    write_number(sink, n)?;
+    write_all(sink, behind)
+}

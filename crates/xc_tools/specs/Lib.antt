@@ -1,2 +1,4 @@
 pub mod Errors
+pub mod Judges
 pub mod Solves
+pub mod WholeTexts

@@ -2,9 +2,10 @@
 ghost use Rattle.std.specs.Prelude.{◌≡◌, ◌++◌, codes, decimal};
 ghost use Rattle.xc_list.specs.Texts.{Writes};
 ghost use Rattle.xc_tools.specs.Errors.{fault_text, input_error_text};
+ghost use Rattle.xc_tools.specs.Judges.{listing_fault_text};
 
 use xc_input::{FaultKind, InputError};
-use xc_list::{Sink, SinkFault, write_all, write_number};
+use xc_list::{ListingFault, Sink, SinkFault, write_all, write_number, write_numbered};
 
 /// What is wrong with a line.
 fn fault_text(kind: FaultKind) -> &'static [u8]
@@ -52,5 +53,27 @@ pub fn input_error<S: Sink>(error: &InputError, sink: &mut S) -> Result<(), Sink
         InputError::Fault { line, kind } => write_fault(line, kind, sink),
         InputError::Device => write_all(sink, b"Read failed.\n"),
         InputError::Memory => write_all(sink, b"Out of memory.\n"),
+    }
+}
+
+fn write_listing_fault<S: Sink>(line: u64, text: &[u8], sink: &mut S) -> Result<(), SinkFault>
+    ensures { Writes (S.failures sink.old, S.taken sink.old)
+        (S.failures sink.new, S.taken sink.new)
+        result (codes "Listing line " ++ decimal line ++ text.now) }
+{
+    write_numbered(sink, b"Listing line ", line, text)
+}
+
+/// Writes why a listing gets no verdicts.
+pub fn listing_fault<S: Sink>(fault: &ListingFault, sink: &mut S) -> Result<(), SinkFault>
+    ensures { Writes (S.failures sink.old, S.taken sink.old)
+        (S.failures sink.new, S.taken sink.new) result (listing_fault_text fault.now) }
+{
+    match *fault {
+        ListingFault::BadLine(line) => write_listing_fault(line, b": bad line.\n", sink),
+        ListingFault::UnknownOption(line) => {
+            write_listing_fault(line, b": unknown option.\n", sink)
+        }
+        ListingFault::Memory => write_all(sink, b"Out of memory.\n"),
     }
 }

@@ -11,29 +11,11 @@ ghost use Rattle.xc_list.specs.declared.words.Words.{Words};
 ghost use Rattle.xc_tools.specs.Solves.{IsSolved, IsSolvedText, IsBegunText, IsFaultyText};
 
 use crate::messages::input_error;
+use crate::status::{BAD_INPUT, BAD_WORDS, COMPLETE, FAILED, NO_MEMORY, out_of_memory, refuse};
 use std::alloc::Global;
 use xc_dance::Memory;
 use xc_input::{InputError, Kind, Problem, Read, Source, read_problem};
-use xc_list::{End, Sink, Words, run, summary, warnings, word_fault, write_all};
-
-/// The run was complete, or met its limit.
-const COMPLETE: u8 = 0;
-/// A word was refused.
-const BAD_WORD: u8 = 1;
-/// The input has a fault.
-const BAD_INPUT: u8 = 2;
-/// A read or a write failed.
-const FAILED: u8 = 3;
-/// There was no memory.
-const NO_MEMORY: u8 = 4;
-
-/// Writes a line in place of the last one, as far as that goes, and gives its status.
-fn refuse<E: Sink>(status: u8, text: &[u8], err: &mut E) -> u8
-    ensures { result ≡ status }
-{
-    let _ = write_all(err, text);
-    status
-}
+use xc_list::{End, Sink, Words, run, summary, warnings, word_fault};
 
 /// Flushes the output, and tells the end of a complete run.
 fn finish<O: Sink, E: Sink>(end: &End, out: &mut O, err: &mut E) -> u8
@@ -77,7 +59,7 @@ fn solve_problem<O: Sink, E: Sink>(
         (output problem.now words.spacing words.limit) }
 {
     match run(alloc, problem, words, out) {
-        Err(Memory) => refuse(NO_MEMORY, b"Out of memory.\n", err),
+        Err(Memory) => out_of_memory(err),
         Ok(End::WriteFailed(n)) => {
             let _ = summary(&End::WriteFailed(n), err);
             FAILED
@@ -195,7 +177,7 @@ pub fn solve<S: Source, O: Sink, E: Sink>(
         Ok(words) => solve_words(alloc, kind, words, input, out, err),
         Err(fault) => {
             let _ = word_fault(&fault, err);
-            BAD_WORD
+            BAD_WORDS
         }
     }
 }

@@ -1,0 +1,25 @@
+//! Judges a listing of a problem's solutions: `dlxcheck PROBLEM [1|2|3] < LISTING`.
+#![tactic(auto)]
+
+use std::process::ExitCode;
+use xc_tools::{Direct, Incoming, Outgoing, judge, named_file, out_of_memory, words};
+
+fn main(rt: HostRuntime) -> ExitCode {
+    let mut listing = Incoming::new(Some(rt.stdin()));
+    let mut out = Outgoing::new(rt.stdout());
+    let mut err = Direct::new(rt.stderr());
+    ExitCode::from(match words(&rt) {
+        Ok(words) => {
+            let mut problem = named_file(&rt, &words);
+            judge(
+                rt.alloc(),
+                &words,
+                &mut problem,
+                &mut listing,
+                &mut out,
+                &mut err,
+            )
+        }
+        Err(_) => out_of_memory(&mut err),
+    })
+}

@@ -1,0 +1,25 @@
+//! What the programs take from the command line.
+use crate::system::Incoming;
+use std::alloc::{AllocError, AllocGlobal};
+use std::env::{self, Env};
+use std::fs::{self, Files};
+use std::str;
+
+/// The words behind the program's name, by their bytes.
+pub fn words<R: Env + AllocGlobal>(rt: &R) -> Result<Vec<Vec<u8>>, AllocError> {
+    let Ok(arguments) = env::args(rt) else {
+        return Err(AllocError);
+    };
+    let mut words = Vec::new(rt.alloc());
+    for argument in arguments.skip(1) {
+        words.push(argument.into_bytes())?;
+    }
+    Ok(words)
+}
+
+/// The file that the first word names, as a source. Without a word, and where there is no such file
+/// to read, it fails at the first read.
+pub fn named_file<R: Files>(rt: &R, words: &[Vec<u8>]) -> Incoming<R::File> {
+    let path = words.first().and_then(|word| str::from_utf8(word).ok());
+    Incoming::new(path.and_then(|path| fs::open(rt, path).ok()))
+}

@@ -1,0 +1,38 @@
+//! The statuses that the programs end with.
+ghost use Rattle.std.specs.Prelude.{◌≡◌, codes};
+ghost use Rattle.xc_list.specs.Texts.{WasTold};
+
+use xc_list::{Sink, write_all};
+
+/// The run was complete or met its limit, or each solution is a cover.
+pub(crate) const COMPLETE: u8 = 0;
+/// The words were refused.
+pub(crate) const BAD_WORDS: u8 = 1;
+/// The input has a fault.
+pub(crate) const BAD_INPUT: u8 = 2;
+/// A read or a write failed.
+pub(crate) const FAILED: u8 = 3;
+/// There was no memory.
+pub(crate) const NO_MEMORY: u8 = 4;
+/// Some solution is not a cover.
+pub(crate) const NOT_ALL_COVERS: u8 = 5;
+
+/// Writes a line in place of the last one, as far as that goes, and gives its status.
+pub(crate) fn refuse<E: Sink>(status: u8, text: &[u8], err: &mut E) -> u8
+    ensures status { result ≡ status }
+    ensures told { WasTold
+        (E.failures err.old, E.taken err.old) (E.failures err.new, E.taken err.new) text.now }
+{
+    let _ = write_all(err, text);
+    status
+}
+
+/// Tells that memory is out, and gives the status of that: 4.
+pub fn out_of_memory<E: Sink>(err: &mut E) -> u8
+    ensures status { result ≡ 4 }
+    ensures told { WasTold
+        (E.failures err.old, E.taken err.old) (E.failures err.new, E.taken err.new)
+        (codes "Out of memory.\n") }
+{
+    refuse(NO_MEMORY, b"Out of memory.\n", err)
+}
