@@ -1,5 +1,7 @@
 ghost use Rattle.std.specs.Prelude.{◌<◌};
 
+mod judged;
+
 use crate::solve;
 use std::alloc::Global;
 use std::test::Fail;
@@ -41,7 +43,8 @@ fn answer(
     Ok(Told { status, out, err })
 }
 
-/// Whether a program tells this, by steps of one byte as by large ones.
+/// Whether a program tells this, by steps of one byte as by large ones. The judge finds nothing but
+/// covers in what it lists.
 fn tells(
     alloc: Global,
     kind: Kind,
@@ -57,7 +60,7 @@ fn tells(
             return Ok(false);
         }
     }
-    Ok(true)
+    Ok(status != 0 || judged::status_of(alloc, kind, text, out)? == 0)
 }
 
 #[test]
