@@ -203,9 +203,10 @@ no_header (b ∷ line) = by_case (before_last 58 (b ∷ line))
     by_case None = refl
     by_case (Some front) = not_digits front
 
-pub read-choice : (w : List ℕ) (body : List (List ℕ)) (k n : ℕ) → All IsPlain (w ∷ body) → k < 10 ^ 10 → n < 10 ^ 10
-    → (read (spaced ((w ∷ body) ++ ending_words k n)) ≡ Body (w ∷ body)) × (has 10 (spaced ((w ∷ body) ++ ending_words k n)) ≡ false)
-read-choice w body k n plain h l =
+pub read-choice : (body : List (List ℕ)) (k n : ℕ) → 1 ≤ length body → All IsPlain body → k < 10 ^ 10 → n < 10 ^ 10
+    → (read (spaced (body ++ ending_words k n)) ≡ Body body) × (has 10 (spaced (body ++ ending_words k n)) ≡ false)
+read-choice [] k n some plain h l = absurd (omega (arith, some))
+read-choice (w ∷ body) k n some plain h l =
     let ends : All IsPlain (ending_words k n) = plain-ending k n (omega (arith, h)) (omega (arith, l)) in
     let all : All IsPlain ((w ∷ body) ++ ending_words k n) = All-append IsPlain (w ∷ body) (ending_words k n) plain ends in
     let cut : words_in (w ++ spaced (body ++ ending_words k n)) ≡ w ∷ (body ++ ending_words k n) =
