@@ -1,6 +1,7 @@
 pub mod CountedMembers
 pub mod Digits
 pub mod KnownMembers
+pub mod OutputBodies
 pub mod OutputLines
 pub mod OutputWords
 pub mod Outputs

@@ -1,5 +1,5 @@
 -- The lines of an output.
-use Rattle.std.proofs.Common.{◌≡◌, ℕ, ◌+◌, ◌^◌, ◌<◌, ◌≤◌, List, [], ◌∷◌, ◌++◌, Option, None, Some, length, map, refl, sym, ap, ◌∙◌, append_assoc, append-nil}
+use Rattle.std.proofs.Common.{◌≡◌, ℕ, false, ◌+◌, ◌^◌, ◌<◌, ◌≤◌, List, [], ◌∷◌, ◌++◌, Option, None, Some, length, map, refl, sym, ap, ◌∙◌, append_assoc, append-nil}
 use Rattle.std.specs.Prelude.{All, codes, decimal, flat_map}
 use Rattle.std.proofs.lemmas.List.Elements.{All-head, All-tail}
 use Rattle.xc_input.specs.declared.problem.Use.{Use}
@@ -61,19 +61,14 @@ body-spaced : (p : Named) (i : ℕ) (o : Option ℕ) → body_text p i o ≡ spa
 body-spaced p i (Some o) = uses-spaced p (from_item i (uses_of p.puzzle o))
 body-spaced p i None = ap (λ t. codes " null " ++ t) (sym (append-nil (bytes_at p.names i)))
 
-ending-spaced : (k n : ℕ) → codes " (" ++ decimal k ++ codes " of " ++ decimal n ++ codes ")\n" ≡ spaced (ending_words k n) ++ 10 ∷ []
-ending-spaced k n = ap (λ t. 32 ∷ 40 ∷ t) (cut (decimal k) (decimal n))
-  where
-    cut : (ks ns : List ℕ) → ks ++ 32 ∷ 111 ∷ 102 ∷ 32 ∷ (ns ++ 41 ∷ 10 ∷ []) ≡ (ks ++ 32 ∷ 111 ∷ 102 ∷ 32 ∷ ((ns ++ 41 ∷ []) ++ [])) ++ 10 ∷ []
-    cut ks ns =
-        ap (λ t. ks ++ 32 ∷ 111 ∷ 102 ∷ 32 ∷ t) (sym (append_assoc ns (41 ∷ []) (10 ∷ [])) ∙ ap (λ t. t ++ 10 ∷ []) (sym (append-nil (ns ++ 41 ∷ []))))
-        ∙ sym (append_assoc ks (32 ∷ 111 ∷ 102 ∷ 32 ∷ ((ns ++ 41 ∷ []) ++ [])) (10 ∷ []))
+regroup : (body ks ns : List ℕ) → body ++ codes " (" ++ ks ++ codes " of " ++ ns ++ codes ")\n"
+    ≡ (body ++ (32 ∷ 40 ∷ (ks ++ 32 ∷ 111 ∷ 102 ∷ 32 ∷ ((ns ++ 41 ∷ []) ++ [])))) ++ 10 ∷ []
+regroup body ks ns = simp (append_assoc {A = ℕ}, append-nil {A = ℕ})
 
 choice-ended : (p : Named) (c : Choice) → choice_text p c ≡ choice_line p c ++ 10 ∷ []
 choice-ended p c =
     ap (λ t. t ++ codes " (" ++ decimal c.k ++ codes " of " ++ decimal c.n ++ codes ")\n") (body-spaced p c.item c.option)
-    ∙ ap (λ t. spaced (choice_words p c) ++ t) (ending-spaced c.k c.n)
-    ∙ sym (append_assoc (spaced (choice_words p c)) (spaced (ending_words c.k c.n)) (10 ∷ []))
+    ∙ regroup (spaced (choice_words p c)) (decimal c.k) (decimal c.n)
     ∙ ap (λ t. t ++ 10 ∷ []) (sym (spaced-append (choice_words p c) (ending_words c.k c.n)))
 
 choices-ended : (p : Named) (m : List Choice) → flat_map (choice_text p) m ≡ ended (map (choice_line p) m)
@@ -85,7 +80,8 @@ choices-ended p (c ∷ m) =
 
 member-ended : (p : Named) (nm : ℕ × List Choice) → member_text p nm ≡ ended (member_lines p nm)
 member-ended p nm =
-    sym (append_assoc (decimal nm.0) (codes ":") (10 ∷ flat_map (choice_text p) nm.1))
+    append_assoc (decimal nm.0) (codes ":\n") (flat_map (choice_text p) nm.1)
+    ∙ sym (append_assoc (decimal nm.0) (codes ":") (10 ∷ flat_map (choice_text p) nm.1))
     ∙ ap (λ t. (decimal nm.0 ++ codes ":") ++ 10 ∷ t) (choices-ended p nm.1)
 
 pub read-choice_line : (p : Named) (c : Choice) → IsPrintable p c → (read (choice_line p c) ≡ Body (choice_words p c)) × (has 10 (choice_line p c) ≡ false)
