@@ -1,11 +1,11 @@
 -- What the words of a choice stand for.
-use Rattle.std.proofs.Common.{◌≡◌, ◌≢◌, ℕ, zero, suc, ◌+◌, ◌-◌, ◌<◌, ◌≤◌, Bool, true, false, cond, not, ◌&&◌, ◌||◌, nat_eq, List, [], ◌∷◌, ◌++◌, Option, None, Some, length, map, take, drop, refl, sym, ap, ap₂, ◌∙◌, arith, subst, length-append, append-nil, eqb-true, eq-eqb}
+use Rattle.std.proofs.Common.{◌≡◌, ◌≢◌, ℕ, zero, suc, ◌+◌, ◌-◌, ◌<◌, ◌≤◌, Bool, true, false, cond, not, ◌&&◌, ◌||◌, nat_eq, List, [], ◌∷◌, ◌++◌, Option, None, Some, length, map, take, drop, get_or, refl, sym, ap, ap₂, ◌∙◌, arith, subst, length-append, append-nil, eqb-true, eq-eqb}
 use Rattle.std.specs.Prelude.{All, codes, is_some, slice_get, unwrap_or, MatchOption, ◌==◌, if◌then◌else◌}
 use Rattle.std.specs.List.{list_any, position_or_len}
 use Rattle.std.specs.Str.{bytes_eq}
 use Rattle.std.proofs.lemmas.Bool.Decides.{nat_tests}
 use Rattle.std.proofs.lemmas.List.{length-drop, length-map, take-append-drop}
-use Rattle.std.proofs.lemmas.List.Elements.{All-nil, All-cons, All-head, All-tail, All-append, All-drop, All-take, All-map, All-weaker}
+use Rattle.std.proofs.lemmas.List.Elements.{All-nil, All-cons, All-head, All-tail, All-append, All-drop, All-take, All-map, All-weaker, All-from_get_or}
 use Rattle.std.proofs.lemmas.List.Folds.{list_any-append, list_any_none}
 use Rattle.std.proofs.lemmas.Slice.Eq.{bytes_eq-Decides}
 use Rattle.xc_input.specs.declared.problem.Use.{Use}
@@ -16,9 +16,11 @@ use Rattle.xc_input.specs.Tokens.{is_space}
 use Rattle.xc_input.proofs.GrammarLemmas.{or-both, and-both, no-cut, cut-at}
 use Rattle.xc_input.proofs.Known.{at_number, known_option}
 use Rattle.xc_search.proofs.Places.{get_take}
+use Rattle.xc_search.specs.declared.choice.Choice.{Choice}
 use Rattle.xc_list.specs.Known.{IsKnownChoice}
 use Rattle.xc_list.specs.Output.{bytes_at, from_item, colour_text}
 use Rattle.xc_list.specs.Listed.{Word, word_of, use_word, same_colour, same_words, turned, below, is_body, stands_for, is_known, is_none}
+use Rattle.xc_list.proofs.Writing.{colour_text-some}
 use Rattle.xc_list.proofs.OutputWords.{IsPlain}
 use Rattle.xc_list.proofs.OutputLines.{use_bytes, body_words}
 
@@ -48,7 +50,7 @@ plain-colour p sound c h l = plain-text (bytes_at p.colours c) (at_bytes IsColou
 -- a colour's text has no byte that breaks a word
 lacks-colour : (q : ℕ → Bool) (colours : List (List ℕ)) (c : ℕ) → q 58 ≡ false → (1 ≤ c → list_any q (bytes_at colours c) ≡ false) → list_any q (colour_text colours c) ≡ false
 lacks-colour q colours zero h k = refl
-lacks-colour q colours (suc c) h k = or-both (q 58) (list_any q (bytes_at colours (suc c))) h (k (omega arith))
+lacks-colour q colours (suc c) h k = ap (list_any q) (colour_text-some colours (suc c) (omega arith)) ∙ or-both (q 58) (list_any q (bytes_at colours (suc c))) h (k (omega arith))
 
 pub plain-use : (p : Named) → IsSound p → (u : Use) → IsKnownUse p u → IsPlain (use_bytes p u)
 plain-use p sound u known =
@@ -145,3 +147,102 @@ pub body-stands : (p : Named) (words : List (List ℕ)) (us : List Use) (k : ℕ
 body-stands p words us k l e =
     any_below (λ k. same_words (map (use_word p) (turned k us)) (map word_of words)) (length us) k l
     (ap (λ ws. same_words (map (use_word p) (turned k us)) ws) e ∙ same_words-itself (map (use_word p) (turned k us)))
+
+-- ---- choices
+
+-- that the words of a choice are read as such, and what they stand for
+pub record IsTold (p : Named) (i : ℕ) (o : Option ℕ) : Type 0 where
+  pub some : 1 ≤ length (body_words p i o)
+  pub plain : All IsPlain (body_words p i o)
+  pub accepted : (is_known p (body_words p i o) || is_none p (body_words p i o)) ≡ true
+  pub stands : MatchOption o (is_known p (body_words p i o) ≡ false) (λ j. (is_known p (body_words p i o) ≡ true) × (stands_for p (body_words p i o) j ≡ true))
+
+told-option : (p : Named) → IsSound p → (i o : ℕ) → 1 ≤ o → o ≤ option_count p.puzzle → is_some (colour_in (uses_of p.puzzle o) i) ≡ true → IsTold p i (Some o)
+told-option p sound i o h l held = record {
+  some = omega (arith, length-map (turned k us) (use_bytes p), length-turned k us, within);
+  plain = All-map IsPlain (use_bytes p) (turned k us) (All-weaker (IsKnownUse p) (λ u. IsPlain (use_bytes p u)) (λ u. plain-use p sound u) (turned k us) all);
+  accepted = or-left (is_known p words) (is_none p words) known;
+  stands = (known, stands);
+}
+  where
+    us : List Use
+    us = uses_of p.puzzle o
+
+    words : List (List ℕ)
+    words = body_words p i (Some o)
+
+    k : ℕ
+    k = position_or_len (λ u. u.item == i) us
+
+    within : k < length us
+    within = place-within i us held
+
+    at : numbered_get p.puzzle.options o ≡ Some us
+    at = numbered_some p.puzzle.options o [] h l
+
+    all : All (IsKnownUse p) (turned k us)
+    all = All-turned (IsKnownUse p) k us (known_option p.puzzle p.colours o us sound.valid sound.coloured at)
+
+    stands : is_body p words us ≡ true
+    stands = body-stands p words us k within (words_of-uses p sound (turned k us) all)
+
+    known : is_known p words ≡ true
+    known = any_numbered (is_body p words) p.puzzle.options o us at stands
+
+not-true : (b : Bool) → b ≢ true → b ≡ false
+not-true true h = absurd (h refl)
+not-true false h = refl
+
+slice_at : (options : List (List Use)) (j : ℕ) → j < length options → slice_get options j ≡ Some (get_or options j [])
+slice_at [] j h = absurd (omega (arith, h))
+slice_at (us ∷ options) zero h = refl
+slice_at (us ∷ options) (suc j) h = slice_at options j (omega (arith, h))
+
+-- no use has the word null
+not_null : (p : Named) → IsSound p → All (λ n. n ≢ codes "null") p.names → (us : List Use) → All (IsKnownUse p) us → (w : List ℕ) → same_words (map (use_word p) us) (map word_of (codes "null" ∷ w ∷ [])) ≡ false
+not_null p sound none [] known w = refl
+not_null p sound none (u ∷ us) known w =
+    let first : IsKnownUse p u = All-head (IsKnownUse p) u us known in
+    let within : u.item ≤ length p.names = omega (arith, first.0.1, sound.named.count) in
+    let other : bytes_at p.names u.item ≢ codes "null" = at_bytes (λ n. n ≢ codes "null") p.names u.item first.0.0 within none in
+    let name : bytes_eq (bytes_at p.names u.item) (codes "null") ≡ false = not-true (bytes_eq (bytes_at p.names u.item) (codes "null")) (λ e. other ((bytes_eq-Decides (bytes_at p.names u.item) (codes "null")).0 e)) in
+    ap (λ t. t && same_colour (use_word p u).colour None && same_words (map (use_word p) us) (map word_of (w ∷ []))) name
+
+not_known : (p : Named) → IsSound p → All (λ n. n ≢ codes "null") p.names → (w : List ℕ) → is_known p (codes "null" ∷ w ∷ []) ≡ false
+not_known p sound none w = list_any_none (is_body p (codes "null" ∷ w ∷ [])) p.puzzle.options each
+  where
+    -- an option stands at its number
+    known : (us : List Use) → (o : ℕ) → numbered_get p.puzzle.options o ≡ Some us → is_body p (codes "null" ∷ w ∷ []) us ≡ false
+    known us o at =
+        let all : All (IsKnownUse p) us = known_option p.puzzle p.colours o us sound.valid sound.coloured at in
+        list_any_none (λ k. same_words (map (use_word p) (turned k us)) (map word_of (codes "null" ∷ w ∷ []))) (below (length us))
+        (λ j d h. not_null p sound none (turned (get_or (below (length us)) j d) us) (All-turned (IsKnownUse p) (get_or (below (length us)) j d) us all) w)
+
+    each : All (λ us. is_body p (codes "null" ∷ w ∷ []) us ≡ false) p.puzzle.options
+    each = All-from_get_or (λ us. is_body p (codes "null" ∷ w ∷ []) us ≡ false) p.puzzle.options [] (λ j h. known (get_or p.puzzle.options j []) (suc j) (slice_at p.puzzle.options j h))
+
+told-none : (p : Named) → IsSound p → All (λ n. n ≢ codes "null") p.names → (i : ℕ) → IsPrimary p.puzzle i → IsTold p i None
+told-none p sound none zero primary = absurd (omega (arith, primary.0))
+told-none p sound none (suc j) primary =
+    let within : suc j ≤ length p.names = omega (arith, primary.1, sound.named.count) in
+    let null : IsPlain (codes "null") = record { some = omega arith; no_space = refl; no_feed = refl } in
+    let name : IsPlain (bytes_at p.names (suc j)) = plain-name p sound (suc j) (primary.0, omega (arith, primary.1)) in
+    let words : List (List ℕ) = codes "null" ∷ bytes_at p.names (suc j) ∷ [] in
+    let at : slice_get p.names j ≡ Some (bytes_at p.names (suc j)) = numbered_some p.names (suc j) [] primary.0 within in
+    let listed : list_any (bytes_eq (bytes_at p.names (suc j))) (take (primary_count p.puzzle) p.names) ≡ true =
+        any_at (bytes_eq (bytes_at p.names (suc j))) (take (primary_count p.puzzle) p.names) j (bytes_at p.names (suc j))
+        (get_take (primary_count p.puzzle) p.names j (omega (arith, primary.1)) ∙ at) ((bytes_eq-Decides (bytes_at p.names (suc j)) (bytes_at p.names (suc j))).1 refl) in
+    let is : is_none p words ≡ true = and-both (bytes_eq (codes "null") (codes "null")) (list_any (bytes_eq (bytes_at p.names (suc j))) (take (primary_count p.puzzle) p.names)) ((bytes_eq-Decides (codes "null") (codes "null")).1 refl) listed in
+    record {
+      some = omega arith;
+      plain = All-cons IsPlain (codes "null") (bytes_at p.names (suc j) ∷ []) null (All-cons IsPlain (bytes_at p.names (suc j)) [] name (All-nil IsPlain));
+      accepted = or-right (is_known p words) (is_none p words) is;
+      stands = not_known p sound none (bytes_at p.names (suc j));
+    }
+
+pub told : (p : Named) → IsSound p → All (λ n. n ≢ codes "null") p.names → (c : Choice) → IsKnownChoice p.puzzle c → IsTold p c.item c.option
+told p sound none c known = by_option c.option known.1
+  where
+    by_option : (o : Option ℕ) → MatchOption o (Unit {0}) (λ o. (1 ≤ o) × (o ≤ option_count p.puzzle) × (is_some (colour_in (uses_of p.puzzle o) c.item) ≡ true)) → IsTold p c.item o
+    by_option None h = told-none p sound none c.item known.0
+    by_option (Some o) h = told-option p sound c.item o h.0 h.1 h.2
