@@ -25,10 +25,10 @@ body_words p i None = codes "null" ∷ bytes_at p.names i ∷ []
 abbrev pub choice_words : Named → Choice → List (List ℕ)
 choice_words p c = body_words p c.item c.option
 
-abbrev choice_line : Named → Choice → List ℕ
+abbrev pub choice_line : Named → Choice → List ℕ
 choice_line p c = spaced (choice_words p c ++ ending_words c.k c.n)
 
-abbrev header_line : ℕ → List ℕ
+abbrev pub header_line : ℕ → List ℕ
 header_line n = decimal n ++ codes ":"
 
 abbrev pub member_lines : Named → ℕ × List Choice → List (List ℕ)
