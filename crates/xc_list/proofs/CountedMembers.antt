@@ -1,6 +1,6 @@
 -- The counts in the choices of a member are small.
-use Rattle.std.proofs.Common.{◌≡◌, ℕ, zero, suc, ◌+◌, ◌-◌, ◌<◌, ◌≤◌, Bool, true, false, cond, not, ◌&&◌, List, [], ◌∷◌, Option, None, Some, length, take, filter, map, refl, ap, ◌∙◌, arith, subst}
-use Rattle.std.specs.Prelude.{All, flat_map, nat_lt, nat_le, ◌==◌, if◌then◌else◌}
+use Rattle.std.proofs.Common.{◌≡◌, ℕ, zero, suc, ◌+◌, ◌<◌, ◌≤◌, Bool, true, false, cond, not, ◌&&◌, List, [], ◌∷◌, Option, None, Some, length, take, filter, map, refl, ap, arith}
+use Rattle.std.specs.Prelude.{All, flat_map, nat_le, ◌==◌, if◌then◌else◌}
 use Rattle.std.specs.List.{enumerate_from}
 use Rattle.std.proofs.lemmas.List.{length-take}
 use Rattle.std.proofs.lemmas.List.Sums.{length-filter, count_by-le-length}
@@ -8,7 +8,7 @@ use Rattle.std.proofs.lemmas.List.Elements.{All-nil, All-cons, All-head, All-tai
 use Rattle.xc_input.specs.declared.problem.Use.{Use}
 use Rattle.xc_search.specs.declared.choice.Choice.{Choice}
 use Rattle.xc_input.specs.Problem.{Puzzle, Numbered, numbered_from, option_count, holds, holding}
-use Rattle.xc_search.specs.Listing.{Wanted, Residual, whole, branch_count, branch_item, stays, pick, none, Branch, take_branch, none_branch, branches_of, level, listing_to, listing, size_of}
+use Rattle.xc_search.specs.Listing.{Wanted, Residual, whole, branch_count, branch_item, stays, Branch, take_branch, none_branch, branches_of, level, listing_to, listing, size_of}
 use Rattle.xc_search.specs.Cover.{members}
 
 -- a choice whose counts are at most this
@@ -28,7 +28,7 @@ each_flat_map P Q f [] step all = All-nil Q
 each_flat_map P Q f (x ∷ xs) step all = All-append Q (f x) (flat_map f xs) (step x (All-head P x xs all)) (each_flat_map P Q f xs step (All-tail P x xs all))
 
 -- the numbers of numbered elements
-pub numbers_below : {X : Type 0} (a b : ℕ) (xs : List X) → a + length xs ≤ b → All (λ kx. kx.0 < b) (enumerate_from a xs)
+numbers_below : {X : Type 0} (a b : ℕ) (xs : List X) → a + length xs ≤ b → All (λ kx. kx.0 < b) (enumerate_from a xs)
 numbers_below a b [] h = All-nil (λ kx. kx.0 < b)
 numbers_below a b (x ∷ xs) h = All-cons (λ kx. kx.0 < b) (a, x) (enumerate_from (a + 1) xs) (omega (arith, h)) (numbers_below (a + 1) b xs (omega (arith, h)))
 

@@ -1,24 +1,24 @@
 -- What the words of a choice stand for.
-use Rattle.std.proofs.Common.{◌≡◌, ◌≢◌, ℕ, zero, suc, ◌+◌, ◌-◌, ◌<◌, ◌≤◌, Bool, true, false, cond, not, ◌&&◌, ◌||◌, nat_eq, List, [], ◌∷◌, ◌++◌, Option, None, Some, length, map, take, drop, get_or, refl, sym, ap, ap₂, ◌∙◌, arith, subst, length-append, append-nil, eqb-true, eq-eqb}
+use Rattle.std.proofs.Common.{◌≡◌, ◌≢◌, ℕ, zero, suc, ◌+◌, ◌<◌, ◌≤◌, Bool, true, false, not, ◌&&◌, ◌||◌, nat_eq, List, [], ◌∷◌, ◌++◌, Option, None, Some, length, map, take, drop, get_or, refl, sym, ap, ap₂, ◌∙◌, arith, length-append, append-nil, eqb-true}
 use Rattle.std.specs.Prelude.{All, codes, is_some, slice_get, unwrap_or, MatchOption, ◌==◌, if◌then◌else◌}
 use Rattle.std.specs.List.{list_any, position_or_len}
 use Rattle.std.specs.Str.{bytes_eq}
 use Rattle.std.proofs.lemmas.Bool.Decides.{nat_tests}
-use Rattle.std.proofs.lemmas.List.{length-drop, length-map, take-append-drop}
+use Rattle.std.proofs.lemmas.List.{length-map, take-append-drop}
 use Rattle.std.proofs.lemmas.List.Elements.{All-nil, All-cons, All-head, All-tail, All-append, All-drop, All-take, All-map, All-weaker, All-from_get_or}
 use Rattle.std.proofs.lemmas.List.Folds.{list_any-append, list_any_none}
 use Rattle.std.proofs.lemmas.Slice.Eq.{bytes_eq-Decides}
 use Rattle.xc_input.specs.declared.problem.Use.{Use}
-use Rattle.xc_input.specs.Problem.{Puzzle, IsPrimary, IsItem, numbered_get, uses_of, option_count, primary_count, item_count, colour_in}
+use Rattle.xc_input.specs.Problem.{IsPrimary, IsItem, numbered_get, uses_of, option_count, primary_count, colour_in}
 use Rattle.xc_input.specs.Named.{Named, IsKnownUse, IsSound, IsName, IsColour, IsUnbroken}
-use Rattle.xc_input.specs.Words.{has, before, after}
+use Rattle.xc_input.specs.Words.{has, after}
 use Rattle.xc_input.specs.Tokens.{is_space}
 use Rattle.xc_input.proofs.GrammarLemmas.{or-both, and-both, no-cut, cut-at}
 use Rattle.xc_input.proofs.Known.{at_number, known_option}
 use Rattle.xc_search.proofs.Places.{get_take}
 use Rattle.xc_search.specs.declared.choice.Choice.{Choice}
 use Rattle.xc_list.specs.Known.{IsKnownChoice}
-use Rattle.xc_list.specs.Output.{bytes_at, from_item, colour_text}
+use Rattle.xc_list.specs.Output.{bytes_at, colour_text}
 use Rattle.xc_list.specs.Listed.{Word, word_of, use_word, same_colour, same_words, turned, below, is_body, stands_for, is_known, is_none}
 use Rattle.xc_list.proofs.Writing.{colour_text-some}
 use Rattle.xc_list.proofs.OutputWords.{IsPlain}
@@ -52,7 +52,7 @@ lacks-colour : (q : ℕ → Bool) (colours : List (List ℕ)) (c : ℕ) → q 58
 lacks-colour q colours zero h k = refl
 lacks-colour q colours (suc c) h k = ap (list_any q) (colour_text-some colours (suc c) (omega arith)) ∙ or-both (q 58) (list_any q (bytes_at colours (suc c))) h (k (omega arith))
 
-pub plain-use : (p : Named) → IsSound p → (u : Use) → IsKnownUse p u → IsPlain (use_bytes p u)
+plain-use : (p : Named) → IsSound p → (u : Use) → IsKnownUse p u → IsPlain (use_bytes p u)
 plain-use p sound u known =
     let name : IsPlain (bytes_at p.names u.item) = plain-name p sound u.item known.0 in
     let space : list_any is_space (colour_text p.colours u.colour) ≡ false = lacks-colour is_space p.colours u.colour refl (λ h. (plain-colour p sound u.colour h known.1).no_space) in
@@ -143,7 +143,7 @@ any_below q (suc n) k l h =
     apart : (n k : ℕ) → k < suc n → (k == n) ≡ false → k < n
     apart n k l e = grind (arith, nat_tests)
 
-pub body-stands : (p : Named) (words : List (List ℕ)) (us : List Use) (k : ℕ) → k < length us → map word_of words ≡ map (use_word p) (turned k us) → is_body p words us ≡ true
+body-stands : (p : Named) (words : List (List ℕ)) (us : List Use) (k : ℕ) → k < length us → map word_of words ≡ map (use_word p) (turned k us) → is_body p words us ≡ true
 body-stands p words us k l e =
     any_below (λ k. same_words (map (use_word p) (turned k us)) (map word_of words)) (length us) k l
     (ap (λ ws. same_words (map (use_word p) (turned k us)) ws) e ∙ same_words-itself (map (use_word p) (turned k us)))
@@ -230,8 +230,8 @@ told-none p sound none (suc j) primary =
     let words : List (List ℕ) = codes "null" ∷ bytes_at p.names (suc j) ∷ [] in
     let at : slice_get p.names j ≡ Some (bytes_at p.names (suc j)) = numbered_some p.names (suc j) [] primary.0 within in
     let listed : list_any (bytes_eq (bytes_at p.names (suc j))) (take (primary_count p.puzzle) p.names) ≡ true =
-        any_at (bytes_eq (bytes_at p.names (suc j))) (take (primary_count p.puzzle) p.names) j (bytes_at p.names (suc j))
-        (get_take (primary_count p.puzzle) p.names j (omega (arith, primary.1)) ∙ at) ((bytes_eq-Decides (bytes_at p.names (suc j)) (bytes_at p.names (suc j))).1 refl) in
+    any_at (bytes_eq (bytes_at p.names (suc j))) (take (primary_count p.puzzle) p.names) j (bytes_at p.names (suc j))
+    (get_take (primary_count p.puzzle) p.names j (omega (arith, primary.1)) ∙ at) ((bytes_eq-Decides (bytes_at p.names (suc j)) (bytes_at p.names (suc j))).1 refl) in
     let is : is_none p words ≡ true = and-both (bytes_eq (codes "null") (codes "null")) (list_any (bytes_eq (bytes_at p.names (suc j))) (take (primary_count p.puzzle) p.names)) ((bytes_eq-Decides (codes "null") (codes "null")).1 refl) listed in
     record {
       some = omega arith;

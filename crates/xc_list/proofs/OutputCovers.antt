@@ -1,5 +1,5 @@
 -- What is printed for a problem is a listing without a fault, and each listed solution is a cover.
-use Rattle.std.proofs.Common.{◌≡◌, ◌≢◌, ℕ, zero, suc, ◌+◌, ◌^◌, ◌<◌, ◌≤◌, Bool, true, false, cond, not, ◌||◌, List, [], ◌∷◌, ◌++◌, Option, None, Some, length, map, take, filter, get_or, min, ◌-◌, refl, sym, ap, ◌∙◌, arith, subst, append-nil}
+use Rattle.std.proofs.Common.{◌≡◌, ◌≢◌, ℕ, ◌+◌, ◌^◌, ◌<◌, ◌≤◌, true, false, cond, not, List, [], ◌∷◌, ◌++◌, Option, None, Some, length, map, take, filter, get_or, min, ◌-◌, refl, sym, ap, ◌∙◌, arith, subst, append-nil}
 use Rattle.std.specs.Prelude.{All, Contains, IsTrue, MatchOption, codes, flat_map, ◌==◌, if◌then◌else◌}
 use Rattle.std.specs.List.{AllZip, enumerate_from, cons_option}
 use Rattle.std.proofs.lemmas.Bool.Decides.{nat_tests}
@@ -10,15 +10,14 @@ use Rattle.xc_input.specs.Lines.{lines_of}
 use Rattle.xc_search.specs.declared.choice.Choice.{Choice}
 use Rattle.xc_search.specs.Cover.{IsCover, options_of, members}
 use Rattle.xc_search.proofs.Covering.{each_member_covers}
-use Rattle.xc_list.specs.declared.judge.ListingFault.{ListingFault}
 use Rattle.xc_list.specs.declared.judge.ListingFault.TheVariants.{UnknownOption}
 use Rattle.xc_list.specs.Known.{IsKnownChoice}
 use Rattle.xc_list.specs.Output.{member_text, is_printed, output}
-use Rattle.xc_list.specs.ListingLines.{Line, Header, Body, read}
-use Rattle.xc_list.specs.Listed.{stands_for, is_known, is_none, line_fault, or_later, first_fault_from, first_fault, Solution, Listing, before_listing, listing_of, listed, IsListedCover}
+use Rattle.xc_list.specs.ListingLines.{Header, Body}
+use Rattle.xc_list.specs.Listed.{stands_for, is_known, line_fault, or_later, first_fault_from, first_fault, Solution, Listing, before_listing, listing_of, listed, IsListedCover}
 use Rattle.xc_list.proofs.KnownMembers.{members_known}
 use Rattle.xc_list.proofs.CountedMembers.{IsCounted, members_counted}
-use Rattle.xc_list.proofs.OutputLines.{choice_words, choice_line, header_line, output_lines, IsPrintable, IsPrintableMember, lines_of-members, read-choice_line, read-header_line}
+use Rattle.xc_list.proofs.OutputLines.{choice_words, choice_line, output_lines, IsPrintable, IsPrintableMember, lines_of-members, read-choice_line, read-header_line}
 use Rattle.xc_list.proofs.OutputBodies.{IsTold, told}
 
 record IsReadable (p : Named) (c : Choice) : Type 0 where
@@ -101,10 +100,11 @@ readable_covers : (p : Named) (nms : List (ℕ × List Choice)) → All (IsReada
     → (first_fault p (lines_of (flat_map (member_text p) nms)) ≡ None) × All (λ s. IsListedCover p s.bodies) (listed (lines_of (flat_map (member_text p) nms)))
 readable_covers p nms all =
     let lines : lines_of (flat_map (member_text p) nms) ≡ output_lines p nms =
-        lines_of-members p nms (All-weaker (IsReadableMember p) (IsPrintableMember p) (λ nm h. record { number = h.number; choices = All-weaker (IsReadable p) (IsPrintable p) (λ c r. r.printable) nm.1 h.choices }) nms all) in
-    let solutions : listed (lines_of (flat_map (member_text p) nms)) ≡ map (solution_of p) nms = ap listed lines ∙ ap (λ (l : Listing). l.solutions) (listing_of-members p nms all) in
-    (ap (first_fault p) lines ∙ no_fault-members p 0 nms all,
-     subst (All (λ s. IsListedCover p s.bodies)) (sym solutions) (All-map (λ s. IsListedCover p s.bodies) (solution_of p) nms (All-weaker (IsReadableMember p) (λ nm. IsListedCover p (solution_of p nm).bodies) (listed_cover p) nms all)))
+    lines_of-members p nms (All-weaker (IsReadableMember p) (IsPrintableMember p) (λ nm h. record { number = h.number; choices = All-weaker (IsReadable p) (IsPrintable p) (λ c r. r.printable) nm.1 h.choices }) nms all) in
+    let solutions : listed (lines_of (flat_map (member_text p) nms)) ≡ map (solution_of p) nms = ap listed lines ∙ ap (λ (l : Listing). l.solutions) (listing_of-members p nms all) in (
+      ap (first_fault p) lines ∙ no_fault-members p 0 nms all,
+      subst (All (λ s. IsListedCover p s.bodies)) (sym solutions) (All-map (λ s. IsListedCover p s.bodies) (solution_of p) nms (All-weaker (IsReadableMember p) (λ nm. IsListedCover p (solution_of p nm).bodies) (listed_cover p) nms all)),
+    )
 
 -- ---- members
 

@@ -1,5 +1,5 @@
 -- What the lines of an output are read as.
-use Rattle.std.proofs.Common.{◌≡◌, ℕ, zero, suc, ◌+◌, ◌-◌, ◌*◌, ◌/◌, ◌%◌, ◌^◌, ◌<◌, ◌≤◌, Bool, true, false, not, cond, ◌&&◌, ◌||◌, nat_lt, nat_eq, List, [], ◌∷◌, ◌++◌, Option, None, Some, length, take, drop, refl, sym, ap, ◌∙◌, arith, subst, length-append, lt-ltb, le-ltb}
+use Rattle.std.proofs.Common.{◌≡◌, ℕ, ◌+◌, ◌-◌, ◌*◌, ◌/◌, ◌%◌, ◌^◌, ◌<◌, ◌≤◌, Bool, true, false, not, ◌&&◌, nat_lt, nat_eq, List, [], ◌∷◌, ◌++◌, Option, None, Some, length, take, drop, refl, ap, ◌∙◌, arith, length-append, lt-ltb}
 use Rattle.std.specs.Prelude.{All, codes, decimal, nat_le, ◌==◌, if◌then◌else◌}
 use Rattle.std.specs.List.{list_all, list_any}
 use Rattle.std.proofs.lemmas.Bool.Decides.{nat_tests}
@@ -11,12 +11,12 @@ use Rattle.xc_input.specs.Words.{has}
 use Rattle.xc_input.specs.Tokens.{at_front, is_space}
 use Rattle.xc_input.proofs.GrammarLemmas.{or-false, or-both, and-true, and-false, and-both}
 use Rattle.xc_list.specs.Settings.{is_digit, value_from}
-use Rattle.xc_list.specs.ListingLines.{words_in, are_digits, before_last, solution_number, header_number, is_word, is_opening, is_of, is_closing, is_ending, body_of_words, body_of, Line, Header, Body, Other, read}
+use Rattle.xc_list.specs.ListingLines.{words_in, are_digits, before_last, solution_number, header_number, is_word, is_closing, is_ending, body_of_words, body_of, Line, Header, Body, Other, read}
 
 -- ---- digits
 
 -- digits that stand for n
-pub record AreDigitsOf (n : ℕ) (ds : List ℕ) : Type 0 where
+record AreDigitsOf (n : ℕ) (ds : List ℕ) : Type 0 where
   pub some : 1 ≤ length ds
   pub digits : list_all is_digit ds ≡ true
   pub value : value_from 0 ds ≡ n
@@ -45,7 +45,7 @@ one_more n ds h known =
     back : (n : ℕ) → (n / 10) * 10 + ((48 + n % 10) - 48) ≡ n
     back n = omega arith
 
-pub decimal_digits : (n : ℕ) → n < 2 ^ 64 → AreDigitsOf n (decimal n)
+decimal_digits : (n : ℕ) → n < 2 ^ 64 → AreDigitsOf n (decimal n)
 decimal_digits n h = decimal_by_steps AreDigitsOf one_digit one_more n h
 
 are_digits-is : (most : ℕ) (text : List ℕ) → 1 ≤ length text → length text ≤ most → list_all is_digit text ≡ true → are_digits most text ≡ true
@@ -82,14 +82,14 @@ solution_number-decimal : (n : ℕ) → n < 2 ^ 64 → solution_number (decimal 
 solution_number-decimal n h =
     let known = decimal_digits n h in
     let test : (are_digits 20 (decimal n) && nat_lt (value_from 0 (decimal n)) (2 ^ 64)) ≡ true =
-        and-both (are_digits 20 (decimal n)) (nat_lt (value_from 0 (decimal n)) (2 ^ 64)) (are_digits-decimal 20 n (omega arith) (omega (arith, h)) h)
-        (ap (λ v. nat_lt v (2 ^ 64)) known.value ∙ lt-ltb n (2 ^ 64) h) in
+    and-both (are_digits 20 (decimal n)) (nat_lt (value_from 0 (decimal n)) (2 ^ 64)) (are_digits-decimal 20 n (omega arith) (omega (arith, h)) h)
+    (ap (λ v. nat_lt v (2 ^ 64)) known.value ∙ lt-ltb n (2 ^ 64) h) in
     ap (λ t. if t then Some (value_from 0 (decimal n)) else None) test ∙ ap Some known.value
 
 pub read-header : (n : ℕ) → n < 2 ^ 64 → read (decimal n ++ codes ":") ≡ Header n
 read-header n h =
     let number : header_number (decimal n ++ 58 ∷ []) ≡ Some n =
-        ap (λ o. elim o as (λ _. Option ℕ) [ None ↦ None | Some text ↦ solution_number text ]) (before_last-last 58 (decimal n)) ∙ solution_number-decimal n h in
+    ap (λ o. elim o as (λ _. Option ℕ) [ None ↦ None | Some text ↦ solution_number text ]) (before_last-last 58 (decimal n)) ∙ solution_number-decimal n h in
     ap (λ o. elim o as (λ _. Line) [ Some m ↦ Header m | None ↦ elim (body_of (decimal n ++ 58 ∷ [])) as (λ _. Line) [ Some words ↦ Body words | None ↦ Other ] ]) number
 
 -- ---- words
@@ -147,9 +147,9 @@ body_of_words-is body ending some three words ends =
     let k : length (body ++ ending) - 3 ≡ length body = omega (arith, length-append body ending, three) in
     let a : nat_le 1 (length body) ≡ true = grind (arith, nat_tests) in
     let test : (nat_le 1 (length body) && list_all is_word (body ++ ending) && is_ending (drop (length body) (body ++ ending))) ≡ true =
-        and-both (nat_le 1 (length body) && list_all is_word (body ++ ending)) (is_ending (drop (length body) (body ++ ending)))
-            (and-both (nat_le 1 (length body)) (list_all is_word (body ++ ending)) a words)
-            (ap is_ending (drop-append_seam body ending) ∙ ends) in
+    and-both (nat_le 1 (length body) && list_all is_word (body ++ ending)) (is_ending (drop (length body) (body ++ ending)))
+    (and-both (nat_le 1 (length body)) (list_all is_word (body ++ ending)) a words)
+    (ap is_ending (drop-append_seam body ending) ∙ ends) in
     ap (λ k. if nat_le 1 k && list_all is_word (body ++ ending) && is_ending (drop k (body ++ ending)) then Some (take k (body ++ ending)) else None) k
     ∙ ap (λ t. if t then Some (take (length body) (body ++ ending)) else None) test
     ∙ ap Some (take-append_seam body ending)
@@ -197,8 +197,9 @@ no_header (b ∷ line) = by_case (before_last 58 (b ∷ line))
     not_digits : (front : List ℕ) → solution_number (32 ∷ front) ≡ None
     not_digits front =
         let test : (are_digits 20 (32 ∷ front) && nat_lt (value_from 0 (32 ∷ front)) (2 ^ 64)) ≡ false =
-            ap (λ t. t && nat_lt (value_from 0 (32 ∷ front)) (2 ^ 64)) (and-false (nat_le 1 (length (32 ∷ front)) && nat_le (length (32 ∷ front)) 20)) in
+        ap (λ t. t && nat_lt (value_from 0 (32 ∷ front)) (2 ^ 64)) (and-false (nat_le 1 (length (32 ∷ front)) && nat_le (length (32 ∷ front)) 20)) in
         ap (λ t. if t then Some (value_from 0 (32 ∷ front)) else None) test
+
     by_case : (o : Option (List ℕ)) → (elim (elim o as (λ _. Option (List ℕ)) [ None ↦ None | Some front ↦ Some (32 ∷ front) ]) as (λ _. Option ℕ) [ None ↦ None | Some text ↦ solution_number text ]) ≡ None
     by_case None = refl
     by_case (Some front) = not_digits front
@@ -210,12 +211,13 @@ read-choice (w ∷ body) k n some plain h l =
     let ends : All IsPlain (ending_words k n) = plain-ending k n (omega (arith, h)) (omega (arith, l)) in
     let all : All IsPlain ((w ∷ body) ++ ending_words k n) = All-append IsPlain (w ∷ body) (ending_words k n) plain ends in
     let cut : words_in (w ++ spaced (body ++ ending_words k n)) ≡ w ∷ (body ++ ending_words k n) =
-        words_in-spaced w (body ++ ending_words k n) (All-head IsPlain w (body ++ ending_words k n) all) (All-tail IsPlain w (body ++ ending_words k n) all) in
+    words_in-spaced w (body ++ ending_words k n) (All-head IsPlain w (body ++ ending_words k n) all) (All-tail IsPlain w (body ++ ending_words k n) all) in
     let is : body_of_words (words_in (w ++ spaced (body ++ ending_words k n))) ≡ Some (w ∷ body) =
-        ap body_of_words cut ∙ body_of_words-is (w ∷ body) (ending_words k n) (omega arith) refl (are_words ((w ∷ body) ++ ending_words k n) all) (is_ending-words k n h l) in
-    (ap (λ o. elim o as (λ _. Line) [ Some m ↦ Header m | None ↦ elim (body_of (spaced ((w ∷ body) ++ ending_words k n))) as (λ _. Line) [ Some words ↦ Body words | None ↦ Other ] ]) (no_header (w ++ spaced (body ++ ending_words k n)))
-      ∙ ap (λ o. elim o as (λ _. Line) [ Some words ↦ Body words | None ↦ Other ]) is,
-    no_feed-spaced ((w ∷ body) ++ ending_words k n) all)
+    ap body_of_words cut ∙ body_of_words-is (w ∷ body) (ending_words k n) (omega arith) refl (are_words ((w ∷ body) ++ ending_words k n) all) (is_ending-words k n h l) in (
+      ap (λ o. elim o as (λ _. Line) [ Some m ↦ Header m | None ↦ elim (body_of (spaced ((w ∷ body) ++ ending_words k n))) as (λ _. Line) [ Some words ↦ Body words | None ↦ Other ] ]) (no_header (w ++ spaced (body ++ ending_words k n)))
+          ∙ ap (λ o. elim o as (λ _. Line) [ Some words ↦ Body words | None ↦ Other ]) is,
+      no_feed-spaced ((w ∷ body) ++ ending_words k n) all,
+    )
 
 pub no_feed-header : (n : ℕ) → n < 2 ^ 64 → has 10 (decimal n ++ codes ":") ≡ false
 no_feed-header n h =
