@@ -1,5 +1,10 @@
+pub mod CountedMembers
 pub mod Digits
 pub mod KnownMembers
+pub mod OutputBodies
+pub mod OutputCovers
+pub mod OutputLines
+pub mod OutputWords
 pub mod Outputs
 pub mod TextLemmas
 pub mod Writing
