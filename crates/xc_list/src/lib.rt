@@ -1,12 +1,14 @@
 //! Listings of exact cover problems: words, texts and runs.
 #![tactic(auto)]
 
+mod book;
 mod judge;
 pub mod laws;
 mod messages;
 mod print;
 mod runs;
 mod sink;
+mod solution;
 mod text;
 mod words;
 
