@@ -1,7 +1,11 @@
+pub mod Deciding
 pub mod Digits
+pub mod Giving
 pub mod HoldLemmas
 pub mod KnownMembers
 pub mod Outputs
 pub mod ShortLemmas
+pub mod Standing
 pub mod TextLemmas
+pub mod Turning
 pub mod Writing
