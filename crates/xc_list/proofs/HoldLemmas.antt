@@ -3,8 +3,8 @@ use Rattle.std.proofs.Common.{ℕ, zero, suc, ◌≡◌, ◌≢◌, ◌+◌, ◌
 use Rattle.std.specs.List.{AllByRecursion}
 use Rattle.std.proofs.lemmas.List.{get_or-set_same, get_or-set_other, length-set, take_more}
 use Rattle.xc_input.specs.declared.problem.Use.{Use}
-use Rattle.xc_search.proofs.EachTwo.{EachTwo}
 use Rattle.xc_list.specs.Tallies.{added, coloured, cleared}
+use Rattle.xc_list.proofs.Turning.{DifferInItems}
 
 -- how many of these uses are of item i
 abbrev pub held : ℕ → List Use → ℕ
@@ -13,9 +13,6 @@ held i (u ∷ us) = cond (u.item == i) 1 0 + held i us
 
 abbrev pub AreItems : ℕ → List Use → Type 0
 AreItems n us = AllByRecursion (λ u. (1 ≤ u.item) × (u.item ≤ n)) us
-
-abbrev pub DifferInItems : List Use → Type 0
-DifferInItems us = EachTwo (λ u v. u.item ≢ v.item) us
 
 pub added-append : (us vs : List Use) (ts : List ℕ) → added (us ++ vs) ts ≡ added vs (added us ts)
 added-append [] vs ts = refl

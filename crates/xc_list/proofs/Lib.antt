@@ -6,6 +6,7 @@ pub mod KnownMembers
 pub mod Outputs
 pub mod ShortLemmas
 pub mod Standing
+pub mod TallyLemmas
 pub mod TextLemmas
 pub mod Turning
 pub mod Writing
