@@ -1,5 +1,6 @@
 pub mod Deciding
 pub mod Digits
+pub mod GivenLemmas
 pub mod Giving
 pub mod HoldLemmas
 pub mod KnownMembers

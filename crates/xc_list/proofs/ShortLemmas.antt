@@ -1,5 +1,5 @@
 -- How many items are held too seldom.
-use Rattle.std.proofs.Common.{ℕ, zero, suc, ◌≡◌, ◌≢◌, ◌+◌, ◌<◌, ◌≤◌, Bool, true, false, List, [], ◌∷◌, length, get_or, set, Some, refl, ap, ◌∙◌, arith, subst, ltb, ltb-true, ltb-false, lt-ltb, le-ltb}
+use Rattle.std.proofs.Common.{ℕ, zero, suc, ◌≡◌, ◌≢◌, ◌+◌, ◌<◌, ◌≤◌, Bool, true, false, List, [], ◌∷◌, length, get_or, set, replicate, Some, refl, ap, ◌∙◌, arith, subst, ltb, ltb-true, ltb-false, lt-ltb, le-ltb}
 use Rattle.std.specs.Prelude.{slice_get, nat_lt}
 use Rattle.xc_list.specs.declared.solution.Limits.{Limits}
 use Rattle.xc_list.specs.Tallies.{short_of}
@@ -58,3 +58,8 @@ none_short (x ∷ bs) [] h =
 none_short (x ∷ bs) (t ∷ ts) h =
     let here : nat_lt t x.low ≡ false = le-ltb _ _ (h 0 x refl) in
     rw here (omega (arith, none_short bs ts (λ k b e. h (suc k) b e)))
+
+pub short_zeros : (bs : List Limits) (n : ℕ) → short_of bs (replicate n 0) ≡ short_of bs []
+short_zeros [] n = refl
+short_zeros (b ∷ bs) zero = refl
+short_zeros (b ∷ bs) (suc n) = omega (arith, short_zeros bs n)

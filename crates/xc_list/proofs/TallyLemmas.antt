@@ -49,23 +49,25 @@ differ_turned : (a b : List Use) → DifferInItems (a ++ b) → DifferInItems (b
 differ_turned a b d =
     EachTwo-append (λ u v. u.item ≢ v.item) b a (differ_back a b d) (differ_front a b d) (λ u v h k e. EachTwo-between a b v u d k h (sym e))
 
+pub kind-differs : (us : List Use) → DifferInItems us → DifferInItems (kind_of us)
+kind-differs us d =
+    let turn = kind-place us in
+    let whole : DifferInItems (take turn.0 us ++ drop turn.0 us) = subst DifferInItems (sym (halves turn.0 us)) d in
+    subst DifferInItems (sym turn.1) (differ_turned (take turn.0 us) (drop turn.0 us) whole)
+
 pub kinds_usable : (b : Kinds) → IsSound b.problem → AreKinds b.problem.puzzle b.kinds → AreUsable (item_count b.problem.puzzle) b.kinds
 kinds_usable b s are k l =
     let p = b.problem.puzzle in
     let n = item_count p in
     let one = are.used k (uses_at b.kinds k) (at-slice_get b.kinds k [] l) in
-    let o = one.0 in
-    let us = uses_of_option o in
+    let us = uses_of p one.0 in
     let turn = kind-place us in
     let is : turned turn.0 us ≡ uses_at b.kinds k = sym turn.1 ∙ one.2 in
-    let sound = option-sound p s.valid o one.1 in
+    let sound = option-sound p s.valid one.0 one.1 in
     let items : AreItems n us = each_weaker (IsSoundUse p) (λ u. (1 ≤ u.item) × (u.item ≤ n)) us (λ u h. h.0) (recursion_from_All (IsSoundUse p) us sound.sound) in
     let whole : AreItems n (take turn.0 us ++ drop turn.0 us) = subst (AreItems n) (sym (halves turn.0 us)) items in
-    let differ : DifferInItems (take turn.0 us ++ drop turn.0 us) = subst DifferInItems (sym (halves turn.0 us)) (option-differs p s.valid o one.1) in
-    (subst (AreItems n) is (each_turned (λ u. (1 ≤ u.item) × (u.item ≤ n)) (take turn.0 us) (drop turn.0 us) whole), subst DifferInItems is (differ_turned (take turn.0 us) (drop turn.0 us) differ))
-  where
-    uses_of_option : ℕ → List Use
-    uses_of_option o = uses_of b.problem.puzzle o
+    (subst (AreItems n) is (each_turned (λ u. (1 ≤ u.item) × (u.item ≤ n)) (take turn.0 us) (drop turn.0 us) whole),
+    subst DifferInItems one.2 (kind-differs us (option-differs p s.valid one.0 one.1)))
 
 -- ---- the uses of kinds
 
@@ -204,7 +206,7 @@ zero_or : (m n : ℕ) → m ≡ 0 + n → (m ≡ 0) ⊎ (0 < n)
 zero_or m zero e = inl (omega (arith, e))
 zero_or m (suc n) e = inr (omega arith)
 
-pub cleared_again : (n : ℕ) (us : List Use) → AreItems n us → cleared us (added us (replicate n 0)) ≡ replicate n 0
+cleared_again : (n : ℕ) (us : List Use) → AreItems n us → cleared us (added us (replicate n 0)) ≡ replicate n 0
 cleared_again n us a =
     ext_get_or 0 (cleared us ts) (replicate n 0) (length-cleared us ts ∙ length-added us (replicate n 0))
     (λ k l. let below : k < n = omega (arith, l, size) in
@@ -217,7 +219,7 @@ cleared_again n us a =
     size : length (cleared us (added us (replicate n 0))) ≡ n
     size = length-cleared us (added us (replicate n 0)) ∙ length-added us (replicate n 0) ∙ length-replicate {A = ℕ} n 0
 
-pub lowered_again : (n : ℕ) (ks : List ℕ) → lowered ks (raised ks (replicate n 0)) ≡ replicate n 0
+lowered_again : (n : ℕ) (ks : List ℕ) → lowered ks (raised ks (replicate n 0)) ≡ replicate n 0
 lowered_again n ks =
     ext_get_or 0 (lowered ks ns) (replicate n 0) (length-lowered ks ns ∙ length-raised ks (replicate n 0))
     (λ k l. let below : k < n = omega (arith, l, size) in
@@ -229,3 +231,11 @@ lowered_again n ks =
     ns = raised ks (replicate n 0)
     size : length (lowered ks (raised ks (replicate n 0))) ≡ n
     size = length-lowered ks (raised ks (replicate n 0)) ∙ length-raised ks (replicate n 0) ∙ length-replicate {A = ℕ} n 0
+
+-- ---- between solutions
+
+pub times_again : (n : ℕ) (kinds : List (List Use)) (ks ts : List ℕ) → AreUsable n kinds → AreBelow (length kinds) ks → ts ≡ replicate n 0 → cleared (uses_in kinds ks) (added (uses_in kinds ks) ts) ≡ ts
+times_again n kinds ks ts h a e = subst (λ l. cleared (uses_in kinds ks) (added (uses_in kinds ks) l) ≡ l) (sym e) (cleared_again n (uses_in kinds ks) (items_in n kinds ks h a))
+
+pub asked_again : (n : ℕ) (ks ns : List ℕ) → ns ≡ replicate n 0 → lowered ks (raised ks ns) ≡ ns
+asked_again n ks ns e = subst (λ l. lowered ks (raised ks l) ≡ l) (sym e) (lowered_again n ks)

@@ -9,6 +9,7 @@ mod print;
 mod runs;
 mod sink;
 mod solution;
+mod tally;
 mod text;
 mod words;
 
