@@ -1,3 +1,4 @@
+pub mod AskedLemmas
 pub mod Deciding
 pub mod Digits
 pub mod GivenLemmas
@@ -6,6 +7,7 @@ pub mod HoldLemmas
 pub mod KnownMembers
 pub mod Outputs
 pub mod ShortLemmas
+pub mod SolutionLemmas
 pub mod Standing
 pub mod TallyLemmas
 pub mod TextLemmas
