@@ -97,8 +97,14 @@ asked_by_kinds b are ks reps z a r =
         let p = b.problem.puzzle in
         let f = found b (IsRoomFor b ks) (alike p r) ks reps z a (omega (arith, e)) in
         let same = one_kind (alike p) (alike-kinds p) r f.option f.passes in
-        omega (arith, count_same (alike p r) (alike p f.option) reps same, count_same (alike p r) (alike p f.option) (numbers p) same,
-          asked-at b are f.kind f.option f.of_kind ks reps z, members-at b f.kind f.option f.of_kind, leb-true _ _ f.holds)
+        omega (
+          arith,
+          count_same (alike p r) (alike p f.option) reps same,
+          count_same (alike p r) (alike p f.option) (numbers p) same,
+          asked-at b are f.kind f.option f.of_kind ks reps z,
+          members-at b f.kind f.option f.of_kind,
+          leb-true _ _ f.holds,
+        )
 
 pub kinds_by_asked : (b : Kinds) → AreKinds b.problem.puzzle b.kinds → (ks reps : List ℕ) → AllZip (IsOfKind b) ks reps →
     ((r : ℕ) → count_by (alike b.problem.puzzle r) reps ≤ count_by (alike b.problem.puzzle r) (numbers b.problem.puzzle)) → (k o : ℕ) → IsOfKind b k o → IsRoomFor b ks k

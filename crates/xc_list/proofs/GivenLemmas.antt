@@ -1,5 +1,5 @@
 -- The colours that options give an item, in turn.
-use Rattle.std.proofs.Common.{ℕ, zero, suc, ◌≡◌, ◌≢◌, ◌+◌, ◌-◌, ◌<◌, ◌≤◌, ◌⊎◌, inl, inr, Bool, true, false, cond, ◌==◌, List, [], ◌∷◌, ◌++◌, length, get_or, set, Some, None, refl, sym, ap, ap₂, ◌∙◌, arith, subst, eqb-true, ne_eqb, eq-eqb}
+use Rattle.std.proofs.Common.{ℕ, zero, suc, ◌≡◌, ◌≢◌, ◌+◌, ◌-◌, ◌<◌, ◌⊎◌, inl, inr, Bool, true, false, cond, ◌==◌, List, [], ◌∷◌, ◌++◌, length, get_or, set, Some, None, refl, sym, ap, ap₂, ◌∙◌, arith, subst, eqb-true, ne_eqb, eq-eqb}
 use Rattle.std.specs.Prelude.{Option, slice_get, is_some}
 use Rattle.std.specs.List.{AllByRecursion, AllZip}
 use Rattle.std.proofs.lemmas.List.{get_or-set_same, get_or-set_other, length-set}
@@ -206,8 +206,10 @@ agree-last d (x ∷ y ∷ cs) h =
     same : (ds : List ℕ) → AllByRecursion (Agree x) ds → AllByRecursion (λ e. x ≡ e) ds
     same [] a = tt
     same (e ∷ ds) a = (a.0.0, same ds a.1)
+
     last : last_or x (y ∷ cs) ≡ x
     last = last_same x (y ∷ cs) (same (y ∷ cs) h.0)
+
     all : (ds : List ℕ) → AllByRecursion (Agree x) ds → AllByRecursion (IsLast d (x ∷ y ∷ cs)) ds
     all [] a = tt
     all (e ∷ ds) a = (inr (omega (arith, a.0), sym a.0.0 ∙ sym last), all ds a.1)
@@ -220,12 +222,15 @@ last-agree d (x ∷ y ∷ cs) h = each_two (x ∷ y ∷ cs) (all (x ∷ y ∷ cs
     one : (c : ℕ) → IsLast d (x ∷ y ∷ cs) c → (0 < c) × (c ≡ last_or d (x ∷ y ∷ cs))
     one c (inl e) = absurd (omega (arith, e))
     one c (inr e) = e
+
     all : (ds : List ℕ) → AllByRecursion (IsLast d (x ∷ y ∷ cs)) ds → AllByRecursion (λ c. (0 < c) × (c ≡ last_or d (x ∷ y ∷ cs))) ds
     all [] a = tt
     all (c ∷ ds) a = (one c a.0, all ds a.1)
+
     row : (c : ℕ) → (0 < c) × (c ≡ last_or d (x ∷ y ∷ cs)) → (ds : List ℕ) → AllByRecursion (λ c. (0 < c) × (c ≡ last_or d (x ∷ y ∷ cs))) ds → AllByRecursion (Agree c) ds
     row c g [] a = tt
     row c g (e ∷ ds) a = ((g.1 ∙ sym a.0.1, g.0), row c g ds a.1)
+
     each_two : (ds : List ℕ) → AllByRecursion (λ c. (0 < c) × (c ≡ last_or d (x ∷ y ∷ cs))) ds → EachTwo Agree ds
     each_two [] a = tt
     each_two (c ∷ ds) a = (row c a.0 ds a.1, each_two ds a.1)

@@ -1,5 +1,5 @@
 -- How many items are held too seldom.
-use Rattle.std.proofs.Common.{ℕ, zero, suc, ◌≡◌, ◌≢◌, ◌+◌, ◌<◌, ◌≤◌, Bool, true, false, List, [], ◌∷◌, length, get_or, set, replicate, Some, refl, ap, ◌∙◌, arith, subst, ltb, ltb-true, ltb-false, lt-ltb, le-ltb}
+use Rattle.std.proofs.Common.{ℕ, zero, suc, ◌≡◌, ◌≢◌, ◌+◌, ◌<◌, ◌≤◌, Bool, true, false, List, [], ◌∷◌, length, get_or, set, replicate, Some, refl, arith, subst, ltb-true, ltb-false, lt-ltb, le-ltb}
 use Rattle.std.specs.Prelude.{slice_get, nat_lt}
 use Rattle.xc_list.specs.declared.solution.Limits.{Limits}
 use Rattle.xc_list.specs.Tallies.{short_of}
@@ -23,10 +23,10 @@ short_kept (b ∷ bs) [] k t d l e r = absurd (omega (arith, l))
 short_kept (b ∷ bs) (x ∷ ts) zero t d l e r =
     let ne : t + 1 ≢ b.low = r (omega arith) in
     let same : nat_lt (t + 1) b.low ≡ nat_lt x b.low =
-        elim (nat_lt x b.low) as (λ v. nat_lt x b.low ≡ v → nat_lt (t + 1) b.low ≡ v) [
-          | true ↦ λ q. lt-ltb _ _ (omega (arith, ltb-true x b.low q, ne, e))
-          | false ↦ λ q. le-ltb _ _ (omega (arith, ltb-false x b.low q, e))
-        ] refl
+    elim (nat_lt x b.low) as (λ v. nat_lt x b.low ≡ v → nat_lt (t + 1) b.low ≡ v) [
+      | true ↦ λ q. lt-ltb _ _ (omega (arith, ltb-true x b.low q, ne, e))
+      | false ↦ λ q. le-ltb _ _ (omega (arith, ltb-false x b.low q, e))
+    ] refl
     in rw same refl
 short_kept (b ∷ bs) (x ∷ ts) (suc k) t d l e r = omega (arith, short_kept bs ts k t d (omega (arith, l)) e (λ m. r (omega (arith, m))))
 

@@ -1,23 +1,22 @@
 -- What the counts of a solution say: they agree exactly where options of its kinds are a cover of their kinds.
-use Rattle.std.proofs.Common.{ℕ, zero, suc, ◌≡◌, ◌≢◌, ◌+◌, ◌-◌, ◌<◌, ◌≤◌, ◌⊎◌, inl, inr, Bool, true, false, not, ◌&&◌, ◌||◌, ◌==◌, List, [], ◌∷◌, ◌++◌, length, map, get_or, replicate, Some, None, refl, sym, ap, ap₂, ◌∙◌, arith, subst, ltb, ltb-true, ltb-false, eqb-true, eq-eqb, ne_eqb}
+use Rattle.std.proofs.Common.{ℕ, zero, suc, ◌≡◌, ◌≢◌, ◌-◌, ◌<◌, ◌≤◌, ◌⊎◌, inl, inr, Bool, true, false, not, ◌&&◌, ◌||◌, ◌==◌, List, [], ◌∷◌, length, map, get_or, replicate, Some, None, refl, sym, ap, ◌∙◌, arith, subst, eqb-true, eq-eqb, ne_eqb}
 use Rattle.std.specs.Prelude.{Option, slice_get, nat_le}
 use Rattle.std.specs.List.{AllByRecursion, AllZip, list_all}
 use Rattle.std.proofs.lemmas.Bool.{leb-true, le-leb}
 use Rattle.std.proofs.lemmas.List.{length-replicate, length-map, get_or-replicate}
 use Rattle.xc_input.specs.declared.problem.Use.{Use}
-use Rattle.xc_input.specs.Problem.{Puzzle, Bounds, IsSecondary, bounds_at, item_count}
+use Rattle.xc_input.specs.Problem.{Bounds, IsSecondary, bounds_at, item_count}
 use Rattle.xc_input.specs.Named.{IsSound}
 use Rattle.xc_search.specs.Cover.{times_held}
 use Rattle.xc_search.proofs.Members.{IsIn, each_in, each_from}
-use Rattle.xc_search.proofs.EachTwo.{EachTwo}
 use Rattle.xc_search.proofs.Elements.{each_weaker, each-append, each_front}
 use Rattle.xc_list.specs.declared.solution.Limits.{Limits}
 use Rattle.xc_list.specs.Kinds.{Kinds, AreKinds, IsOfKind, IsCoverOfKinds, kind_at, members_of}
 use Rattle.xc_list.specs.Tallies.{bounds_in, added, coloured, raised, uses_at, uses_in, short_of, agrees, is_met, is_kind_met}
 use Rattle.xc_list.proofs.ShortLemmas.{short_none, none_short}
-use Rattle.xc_list.proofs.HoldLemmas.{AreItems, held, added-at}
-use Rattle.xc_list.proofs.GivenLemmas.{given, gathered, last_or, length-given, coloured-at, given-gathered, length-gathered, given-each, each-given, Agree, AgreeAt, gathered-agree, agree-gathered, IsLast, agree-last, last-agree}
-use Rattle.xc_list.proofs.TallyLemmas.{AreBelow, kinds_usable, items_in, at-slice_get}
+use Rattle.xc_list.proofs.HoldLemmas.{AreItems, added-at}
+use Rattle.xc_list.proofs.GivenLemmas.{given, gathered, last_or, length-given, coloured-at, given-gathered, length-gathered, given-each, each-given, AgreeAt, gathered-agree, agree-gathered, IsLast, agree-last, last-agree}
+use Rattle.xc_list.proofs.TallyLemmas.{AreBelow, kinds_usable, items_in}
 use Rattle.xc_list.proofs.AskedLemmas.{slice_get-within, IsRoomFor, asked_by_kinds, kinds_by_asked}
 
 -- ---- tests
@@ -156,14 +155,15 @@ module _ (b : Kinds) (limits : List Limits) (cs ks reps : List ℕ) (s : IsSolut
   high a k x e =
       by_given (given (suc k) (uses_in b.kinds ks)) (time k (is_item k x e))
       (given-each (λ c. get_or (times_after b ks) k 0 ≤ x.high) (suc k) (uses_in b.kinds ks)
-        (each_weaker (λ u. u.item ≡ suc k → agrees (slice_get limits k) (get_or (times_after b ks) k 0) (get_or (colours_after b ks cs) k 0) u.colour ≡ true)
-          (λ u. u.item ≡ suc k → get_or (times_after b ks) k 0 ≤ x.high) (uses_in b.kinds ks) (λ u h q. top u (h q)) (met_at k a)))
+      (each_weaker (λ u. u.item ≡ suc k → agrees (slice_get limits k) (get_or (times_after b ks) k 0) (get_or (colours_after b ks cs) k 0) u.colour ≡ true)
+      (λ u. u.item ≡ suc k → get_or (times_after b ks) k 0 ≤ x.high) (uses_in b.kinds ks) (λ u h q. top u (h q)) (met_at k a)))
     where
       top : (u : Use) → agrees (slice_get limits k) (get_or (times_after b ks) k 0) (get_or (colours_after b ks cs) k 0) u.colour ≡ true → get_or (times_after b ks) k 0 ≤ x.high
       top u h =
           let here : agrees (Some x) (get_or (times_after b ks) k 0) (get_or (colours_after b ks cs) k 0) u.colour ≡ true =
-              subst (λ o. agrees o (get_or (times_after b ks) k 0) (get_or (colours_after b ks cs) k 0) u.colour ≡ true) e h
+          subst (λ o. agrees o (get_or (times_after b ks) k 0) (get_or (colours_after b ks cs) k 0) u.colour ≡ true) e h
           in leb-true _ _ (both_true (nat_le x.low (get_or (times_after b ks) k 0)) (nat_le (get_or (times_after b ks) k 0) x.high) here).1
+
       by_given : (g : List ℕ) → get_or (times_after b ks) k 0 ≡ length g → AllByRecursion (λ c. get_or (times_after b ks) k 0 ≤ x.high) g → get_or (times_after b ks) k 0 ≤ x.high
       by_given [] t h = omega (arith, t)
       by_given (c ∷ g) t h = h.0
@@ -172,15 +172,15 @@ module _ (b : Kinds) (limits : List Limits) (cs ks reps : List ℕ) (s : IsSolut
   agree_at a k l e =
       agree-gathered b.problem.puzzle (suc k) reps
       (last-agree (get_or cs k 0) (gathered b.problem.puzzle (suc k) reps)
-        (subst (λ g. AllByRecursion (IsLast (get_or cs k 0) g) g) (gives (suc k))
-          (given-each (IsLast (get_or cs k 0) (given (suc k) (uses_in b.kinds ks))) (suc k) (uses_in b.kinds ks)
-            (each_weaker (λ u. u.item ≡ suc k → agrees (slice_get limits k) (get_or (times_after b ks) k 0) (get_or (colours_after b ks cs) k 0) u.colour ≡ true)
-              (λ u. u.item ≡ suc k → IsLast (get_or cs k 0) (given (suc k) (uses_in b.kinds ks)) u.colour) (uses_in b.kinds ks) (λ u h q. last u (h q)) (met_at k a)))))
+      (subst (λ g. AllByRecursion (IsLast (get_or cs k 0) g) g) (gives (suc k))
+      (given-each (IsLast (get_or cs k 0) (given (suc k) (uses_in b.kinds ks))) (suc k) (uses_in b.kinds ks)
+      (each_weaker (λ u. u.item ≡ suc k → agrees (slice_get limits k) (get_or (times_after b ks) k 0) (get_or (colours_after b ks cs) k 0) u.colour ≡ true)
+      (λ u. u.item ≡ suc k → IsLast (get_or cs k 0) (given (suc k) (uses_in b.kinds ks)) u.colour) (uses_in b.kinds ks) (λ u h q. last u (h q)) (met_at k a)))))
     where
       last : (u : Use) → agrees (slice_get limits k) (get_or (times_after b ks) k 0) (get_or (colours_after b ks cs) k 0) u.colour ≡ true → IsLast (get_or cs k 0) (given (suc k) (uses_in b.kinds ks)) u.colour
       last u h =
           let here : agrees None (get_or (times_after b ks) k 0) (get_or (colours_after b ks cs) k 0) u.colour ≡ true =
-              subst (λ o. agrees o (get_or (times_after b ks) k 0) (get_or (colours_after b ks cs) k 0) u.colour ≡ true) e h
+          subst (λ o. agrees o (get_or (times_after b ks) k 0) (get_or (colours_after b ks cs) k 0) u.colour ≡ true) e h
           in
           elim (agrees_last (get_or (times_after b ks) k 0) (get_or (colours_after b ks cs) k 0) u.colour here) [
             | inl q ↦ inl (sym (time k l) ∙ q)
@@ -200,6 +200,7 @@ module _ (b : Kinds) (limits : List Limits) (cs ks reps : List ℕ) (s : IsSolut
           let x = limit_of k d e in
           let t = held_time k (is_item k x.0 x.1) in
           (omega (arith, t, short_none limits (times_after b ks) short k x.0 x.1, ap (λ (v : Bounds). v.low) x.2), omega (arith, t, high met k x.0 x.1, ap (λ (v : Bounds). v.high) x.2))
+
       agree : (i : ℕ) → IsSecondary b.problem.puzzle i → AgreeAt b.problem.puzzle i reps
       agree zero sec = absurd (omega (arith, sec))
       agree (suc k) sec = agree_at met k (omega (arith, sec)) (past_none limits k (omega (arith, sec, primaries)))
@@ -218,10 +219,13 @@ module _ (b : Kinds) (limits : List Limits) (cs ks reps : List ℕ) (s : IsSolut
     where
       known : (1 ≤ u.item) × (u.item ≤ item_count b.problem.puzzle)
       known = each_in (λ v. (1 ≤ v.item) × (v.item ≤ item_count b.problem.puzzle)) (uses_in b.kinds ks) u items m
+
       l : u.item - 1 < item_count b.problem.puzzle
       l = omega (arith, known)
+
       is : u.item ≡ suc (u.item - 1)
       is = omega (arith, known)
+
       last : slice_get limits (u.item - 1) ≡ None → IsLast (get_or cs (u.item - 1) 0) (given (suc (u.item - 1)) (uses_in b.kinds ks)) u.colour
       last e =
           let i = suc (u.item - 1) in
@@ -230,23 +234,25 @@ module _ (b : Kinds) (limits : List Limits) (cs ks reps : List ℕ) (s : IsSolut
           let sec : IsSecondary p i = (omega (arith, none_past limits (u.item - 1) e, primaries), omega (arith, known)) in
           let agree : AgreeAt p i reps = λ j k a q c d l e f y z. h.agree j k a q i c d l e f sec y z in
           let lasts : AllByRecursion (IsLast d (given i (uses_in b.kinds ks))) (given i (uses_in b.kinds ks)) =
-              subst (λ g. AllByRecursion (IsLast d g) g) (sym (gives i)) (agree-last d (gathered p i reps) (gathered-agree p i reps agree))
+          subst (λ g. AllByRecursion (IsLast d g) g) (sym (gives i)) (agree-last d (gathered p i reps) (gathered-agree p i reps agree))
           in
           each_in (λ v. v.item ≡ i → IsLast d (given i (uses_in b.kinds ks)) v.colour) (uses_in b.kinds ks) u
           (each-given (IsLast d (given i (uses_in b.kinds ks))) i (uses_in b.kinds ks) lasts) m is
+
       by_limit : (v : Option Limits) → slice_get limits (u.item - 1) ≡ v → agrees (slice_get limits (u.item - 1)) (get_or (times_after b ks) (u.item - 1) 0) (get_or (colours_after b ks cs) (u.item - 1) 0) u.colour ≡ true
       by_limit (Some x) e =
           let two = limited h (u.item - 1) x e in
           rw e (true_both _ _ (le-leb _ _ two.0) (le-leb _ _ two.1))
       by_limit None e =
           rw e (last_agrees (get_or (times_after b ks) (u.item - 1) 0) (get_or (colours_after b ks cs) (u.item - 1) 0) u.colour
-            (elim (last e) [ inl q ↦ inl (time (u.item - 1) l ∙ q) | inr q ↦ inr (q.0, q.1 ∙ sym (colour (u.item - 1) l)) ]))
+          (elim (last e) [ inl q ↦ inl (time (u.item - 1) l ∙ q) | inr q ↦ inr (q.0, q.1 ∙ sym (colour (u.item - 1) l)) ]))
 
   counts : IsCoverOfKinds b.problem.puzzle reps → (short_of limits (times_after b ks) ≡ 0) × AreMet b limits cs ks × AreAsked b ks
-  counts h =
-      (none_short limits (times_after b ks) (λ k x e. (limited h k x e).0),
-      each_from (λ u. is_met limits (times_after b ks) (colours_after b ks cs) u ≡ true) (uses_in b.kinds ks) (met_one h),
-      each_kind b (IsRoomFor b ks) ks reps (kinds_by_asked b s.kinds ks reps s.taken h.asked) s.taken)
+  counts h = (
+    none_short limits (times_after b ks) (λ k x e. (limited h k x e).0),
+    each_from (λ u. is_met limits (times_after b ks) (colours_after b ks cs) u ≡ true) (uses_in b.kinds ks) (met_one h),
+    each_kind b (IsRoomFor b ks) ks reps (kinds_by_asked b s.kinds ks reps s.taken h.asked) s.taken,
+  )
 
 -- ---- the verdict
 

@@ -1,16 +1,16 @@
 -- What kinds add to the counts, and that the counts are 0 again once they were cleared.
-use Rattle.std.proofs.Common.{ℕ, zero, suc, ◌≡◌, ◌≢◌, ◌+◌, ◌-◌, ◌<◌, ◌≤◌, ◌⊎◌, inl, inr, drop, ltb, ltb-true, ltb-false, Bool, true, false, cond, ◌==◌, List, [], ◌∷◌, ◌++◌, length, get_or, set, take, replicate, Some, refl, sym, ap, ap₂, ◌∙◌, arith, subst, eqb-true, eq-eqb}
-use Rattle.std.specs.Prelude.{slice_get, All}
+use Rattle.std.proofs.Common.{ℕ, zero, suc, ◌≡◌, ◌≢◌, ◌+◌, ◌-◌, ◌<◌, ◌≤◌, ◌⊎◌, inl, inr, drop, ltb, ltb-true, ltb-false, Bool, true, false, cond, ◌==◌, List, [], ◌∷◌, ◌++◌, length, get_or, set, take, replicate, Some, refl, sym, ap, ◌∙◌, arith, subst, eqb-true, eq-eqb}
+use Rattle.std.specs.Prelude.{slice_get}
 use Rattle.std.specs.List.{AllByRecursion}
 use Rattle.std.proofs.lemmas.List.{append-nil, append_assoc, get_or-set_same, get_or-set_other, length-set, length-take-le, length-replicate, get_or-replicate, get_or_past, ext_get_or, take_more}
 use Rattle.std.proofs.lemmas.List.Elements.{recursion_from_All}
 use Rattle.xc_input.specs.declared.problem.Use.{Use}
 use Rattle.xc_input.specs.Problem.{item_count, uses_of, IsSoundUse}
 use Rattle.xc_input.specs.Named.{IsSound}
-use Rattle.xc_search.proofs.EachTwo.{EachTwo-append, EachTwo-take}
+use Rattle.xc_search.proofs.EachTwo.{EachTwo-append}
 use Rattle.xc_search.proofs.Elements.{each_weaker, each-append, each_turned}
 use Rattle.xc_list.specs.Listed.{turned}
-use Rattle.xc_list.specs.Kinds.{Kinds, AreKinds, IsOption, kind_at, kind_of}
+use Rattle.xc_list.specs.Kinds.{Kinds, AreKinds, kind_of}
 use Rattle.xc_list.specs.Tallies.{added, coloured, cleared, raised, lowered, uses_at, uses_in}
 use Rattle.xc_list.proofs.Giving.{counted}
 use Rattle.xc_list.proofs.Turning.{DifferInItems, EachTwo-between, kind-place, halves}
@@ -65,9 +65,10 @@ kinds_usable b s are k l =
     let is : turned turn.0 us ≡ uses_at b.kinds k = sym turn.1 ∙ one.2 in
     let sound = option-sound p s.valid one.0 one.1 in
     let items : AreItems n us = each_weaker (IsSoundUse p) (λ u. (1 ≤ u.item) × (u.item ≤ n)) us (λ u h. h.0) (recursion_from_All (IsSoundUse p) us sound.sound) in
-    let whole : AreItems n (take turn.0 us ++ drop turn.0 us) = subst (AreItems n) (sym (halves turn.0 us)) items in
-    (subst (AreItems n) is (each_turned (λ u. (1 ≤ u.item) × (u.item ≤ n)) (take turn.0 us) (drop turn.0 us) whole),
-    subst DifferInItems one.2 (kind-differs us (option-differs p s.valid one.0 one.1)))
+    let whole : AreItems n (take turn.0 us ++ drop turn.0 us) = subst (AreItems n) (sym (halves turn.0 us)) items in (
+      subst (AreItems n) is (each_turned (λ u. (1 ≤ u.item) × (u.item ≤ n)) (take turn.0 us) (drop turn.0 us) whole),
+      subst DifferInItems one.2 (kind-differs us (option-differs p s.valid one.0 one.1)),
+    )
 
 -- ---- the uses of kinds
 
@@ -112,14 +113,23 @@ added_few n kinds ks i k h a l = by_case (ltb k n) refl
   where
     before : AreBelow (length kinds) (take i ks)
     before = each_take (λ j. j < length kinds) i ks a
+
     by_case : (v : Bool) → ltb k n ≡ v → get_or (added (uses_in kinds (take i ks)) (replicate n 0)) k 0 ≤ i
     by_case true q =
         let below : k < n = ltb-true k n q in
-        omega (arith, added-at n (uses_in kinds (take i ks)) (replicate n 0) k (items_in n kinds (take i ks) h before) (sym (length-replicate {A = ℕ} n 0)) below,
-          get_or-replicate {A = ℕ} n k 0 0 below, held_few n (suc k) kinds (take i ks) h before, length-take-le i ks l)
+        omega (
+          arith,
+          added-at n (uses_in kinds (take i ks)) (replicate n 0) k (items_in n kinds (take i ks) h before) (sym (length-replicate {A = ℕ} n 0)) below,
+          get_or-replicate {A = ℕ} n k 0 0 below,
+          held_few n (suc k) kinds (take i ks) h before,
+          length-take-le i ks l,
+        )
     by_case false q =
-        omega (arith, get_or_past (added (uses_in kinds (take i ks)) (replicate n 0)) k 0
-          (omega (arith, ltb-false k n q, length-added (uses_in kinds (take i ks)) (replicate n 0), length-replicate {A = ℕ} n 0)))
+        omega (
+          arith,
+          get_or_past (added (uses_in kinds (take i ks)) (replicate n 0)) k 0
+              (omega (arith, ltb-false k n q, length-added (uses_in kinds (take i ks)) (replicate n 0), length-replicate {A = ℕ} n 0)),
+        )
 
 -- ---- how often kinds are asked
 
@@ -210,12 +220,13 @@ cleared_again : (n : ℕ) (us : List Use) → AreItems n us → cleared us (adde
 cleared_again n us a =
     ext_get_or 0 (cleared us ts) (replicate n 0) (length-cleared us ts ∙ length-added us (replicate n 0))
     (λ k l. let below : k < n = omega (arith, l, size) in
-      cleared-at n us ts k a (sym (length-added us (replicate n 0) ∙ length-replicate {A = ℕ} n 0)) below
-      (zero_or (get_or ts k 0) (held (suc k) us) (omega (arith, added-at n us (replicate n 0) k a (sym (length-replicate {A = ℕ} n 0)) below, get_or-replicate {A = ℕ} n k 0 0 below)))
-      ∙ sym (get_or-replicate {A = ℕ} n k 0 0 below))
+    cleared-at n us ts k a (sym (length-added us (replicate n 0) ∙ length-replicate {A = ℕ} n 0)) below
+    (zero_or (get_or ts k 0) (held (suc k) us) (omega (arith, added-at n us (replicate n 0) k a (sym (length-replicate {A = ℕ} n 0)) below, get_or-replicate {A = ℕ} n k 0 0 below)))
+    ∙ sym (get_or-replicate {A = ℕ} n k 0 0 below))
   where
     ts : List ℕ
     ts = added us (replicate n 0)
+
     size : length (cleared us (added us (replicate n 0))) ≡ n
     size = length-cleared us (added us (replicate n 0)) ∙ length-added us (replicate n 0) ∙ length-replicate {A = ℕ} n 0
 
@@ -223,12 +234,13 @@ lowered_again : (n : ℕ) (ks : List ℕ) → lowered ks (raised ks (replicate n
 lowered_again n ks =
     ext_get_or 0 (lowered ks ns) (replicate n 0) (length-lowered ks ns ∙ length-raised ks (replicate n 0))
     (λ k l. let below : k < n = omega (arith, l, size) in
-      lowered-at ks ns k (omega (arith, below, length-raised ks (replicate n 0), length-replicate {A = ℕ} n 0))
-      (zero_or (get_or ns k 0) (counted (λ j. j == k) ks) (omega (arith, raised-at ks (replicate n 0) k (omega (arith, below, length-replicate {A = ℕ} n 0)), get_or-replicate {A = ℕ} n k 0 0 below)))
-      ∙ sym (get_or-replicate {A = ℕ} n k 0 0 below))
+    lowered-at ks ns k (omega (arith, below, length-raised ks (replicate n 0), length-replicate {A = ℕ} n 0))
+    (zero_or (get_or ns k 0) (counted (λ j. j == k) ks) (omega (arith, raised-at ks (replicate n 0) k (omega (arith, below, length-replicate {A = ℕ} n 0)), get_or-replicate {A = ℕ} n k 0 0 below)))
+    ∙ sym (get_or-replicate {A = ℕ} n k 0 0 below))
   where
     ns : List ℕ
     ns = raised ks (replicate n 0)
+
     size : length (lowered ks (raised ks (replicate n 0))) ≡ n
     size = length-lowered ks (raised ks (replicate n 0)) ∙ length-raised ks (replicate n 0) ∙ length-replicate {A = ℕ} n 0
 

@@ -1,10 +1,8 @@
-use Rattle.std.proofs.Common.{suc, ◌≢◌, arith, ◌≡◌, ◌+◌, ◌-◌, ◌<◌, ◌≤◌, [], ◌∷◌, length, get_or, take, sym, ◌∙◌, ap, refl}
-use Rattle.std.specs.Prelude.{All}
+use Rattle.std.proofs.Common.{suc, ◌≢◌, arith, ◌≡◌, ◌-◌, ◌≤◌, [], ◌∷◌, length, get_or, take, sym, ◌∙◌, ap, refl}
 use Rattle.std.proofs.lemmas.List.Elements.{recursion_from_All}
-use Rattle.std.proofs.lemmas.List.{get_or_past}
 use Rattle.xc_input.specs.declared.problem.Use.{Use}
-use Rattle.xc_search.proofs.EachTwo.{each_two_from_AllPairs, EachTwo-take}
-use Rattle.xc_list.specs.Tallies.{added, coloured, short_of}
+use Rattle.xc_search.proofs.EachTwo.{each_two_from_AllPairs}
+use Rattle.xc_list.specs.Tallies.{added, coloured}
 use Rattle.xc_list.proofs.HoldLemmas.{AreItems, held, each_take, added-at, length-added, length-coloured, not_before, added_more, coloured_more}
 use Rattle.xc_list.proofs.solution.Counts.add.Goals as goal
 

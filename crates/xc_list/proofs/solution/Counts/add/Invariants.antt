@@ -1,4 +1,4 @@
-use Rattle.std.proofs.Common.{◌≡◌, ◌≤◌, take, length}
+use Rattle.std.proofs.Common.{◌≡◌, take}
 use Rattle.xc_list.specs.Tallies.{added, coloured, short_of}
 use Rattle.xc_list.proofs.solution.Counts.add.Given as goal
 

@@ -1,4 +1,4 @@
-use Rattle.std.proofs.Common.{arith, ◌≡◌, ◌+◌, ◌-◌, ◌<◌, [], ◌∷◌, length, get_or, set, take, sym, ◌∙◌, ap}
+use Rattle.std.proofs.Common.{arith, [], ◌∷◌, length, get_or, take, sym, ◌∙◌, ap}
 use Rattle.std.proofs.lemmas.List.{take_more}
 use Rattle.xc_input.specs.declared.problem.Use.{Use}
 use Rattle.xc_list.specs.Tallies.{cleared}

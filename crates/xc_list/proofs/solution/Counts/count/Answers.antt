@@ -1,4 +1,4 @@
-use Rattle.std.proofs.Common.{ℕ, arith, ◌≡◌, ◌+◌, ◌-◌, ◌<◌, ◌≤◌, ◌≢◌, ◌^◌, [], ◌∷◌, length, get_or, set, take, replicate, sym, ◌∙◌, ap, ap₂, subst}
+use Rattle.std.proofs.Common.{ℕ, arith, ◌≡◌, ◌+◌, ◌<◌, ◌≤◌, ◌≢◌, [], ◌∷◌, length, get_or, set, take, replicate, sym, ◌∙◌, ap, ap₂, subst}
 use Rattle.std.proofs.lemmas.List.{get_or_default, length-replicate}
 use Rattle.std.proofs.lemmas.List.Elements.{recursion_from_All, All-from_recursion}
 use Rattle.xc_input.specs.declared.problem.Use.{Use}
@@ -7,7 +7,7 @@ use Rattle.xc_search.proofs.EachTwo.{AllPairs-from_each_two}
 use Rattle.xc_list.specs.Tallies.{added, coloured, raised, uses_at, uses_in}
 use Rattle.xc_list.proofs.HoldLemmas.{AreItems, length-added, length-coloured}
 use Rattle.xc_list.proofs.Turning.{DifferInItems}
-use Rattle.xc_list.proofs.TallyLemmas.{AreBelow, AreUsable, kinds_usable, slice_get-at, added_few, added_kind_more, coloured_kind_more, raised_few, raised_more, length-raised}
+use Rattle.xc_list.proofs.TallyLemmas.{AreBelow, kinds_usable, slice_get-at, added_few, added_kind_more, coloured_kind_more, raised_few, raised_more, length-raised}
 use Rattle.xc_list.proofs.solution.Counts.count.Goals as goal
 
 pub index_mut-requires : goal.index_mut-requires
@@ -40,7 +40,7 @@ add-requires-clause-items c =
     let is : uses_at b.kinds k ≡ us = slice_get-at b.kinds k us [] c.uses.ensures.value in
     let usable = kinds_usable b c.kinds-kinds.ensures.sound c.kinds-kinds.ensures.kinds k (c.requires.known i 0 c.loop-kind-test.true) in
     let size : length c.loop-kind.self.times.items ≡ n =
-        ap length c.loop-kind.invariant.times ∙ length-added (uses_in b.kinds (take i c.args.chosen.now)) c.args.self.now.times.items ∙ ap length c.requires.times ∙ length-replicate {A = ℕ} n 0
+    ap length c.loop-kind.invariant.times ∙ length-added (uses_in b.kinds (take i c.args.chosen.now)) c.args.self.now.times.items ∙ ap length c.requires.times ∙ length-replicate {A = ℕ} n 0
     in
     All-from_recursion (λ u. (1 ≤ u.item) × (u.item ≤ length c.loop-kind.self.times.items)) us (subst (λ m. AreItems m us) (sym size) (subst (AreItems n) is usable.0))
 
@@ -59,8 +59,16 @@ add-requires-clause-colours c =
     let b = c.args.book.now in
     let n = item_count b.problem.puzzle in
     let i = c.loop-kind.kind-index in
-    omega (arith, ap length c.loop-kind.invariant.times, length-added (uses_in b.kinds (take i c.args.chosen.now)) c.args.self.now.times.items, ap length c.requires.times, length-replicate {A = ℕ} n 0,
-      ap length c.loop-kind.invariant.colours, length-coloured (uses_in b.kinds (take i c.args.chosen.now)) c.args.self.now.colours.items, c.requires.colours)
+    omega (
+      arith,
+      ap length c.loop-kind.invariant.times,
+      length-added (uses_in b.kinds (take i c.args.chosen.now)) c.args.self.now.times.items,
+      ap length c.requires.times,
+      length-replicate {A = ℕ} n 0,
+      ap length c.loop-kind.invariant.colours,
+      length-coloured (uses_in b.kinds (take i c.args.chosen.now)) c.args.self.now.colours.items,
+      c.requires.colours,
+    )
 
 pub add-requires-clause-few : goal.add-requires-clause-few
 add-requires-clause-few c = λ k.

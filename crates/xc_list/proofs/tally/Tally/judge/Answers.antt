@@ -1,9 +1,8 @@
-use Rattle.std.proofs.Common.{ℕ, ◌≡◌, ◌∙◌, ◌<◌, ◌==◌, ◌&&◌, List, [], length, map, replicate, refl, sym, ap, ap₂, subst}
+use Rattle.std.proofs.Common.{ℕ, ◌≡◌, ◌∙◌, ◌<◌, ◌==◌, ◌&&◌, length, map, replicate, sym, ap, ap₂, subst}
 use Rattle.std.specs.List.{list_all}
 use Rattle.std.proofs.lemmas.List.Elements.{recursion_from_All}
 use Rattle.xc_input.specs.Problem.{item_count}
-use Rattle.xc_list.specs.declared.solution.Limits.{Limits}
-use Rattle.xc_list.specs.Tallies.{Places, places_of, bounds_in, uses_in, added, coloured, raised, cleared, lowered, short_of, is_kind_met}
+use Rattle.xc_list.specs.Tallies.{Places, bounds_in, uses_in, added, raised, cleared, lowered, short_of, is_kind_met}
 use Rattle.xc_list.proofs.HoldLemmas.{length-added, length-coloured}
 use Rattle.xc_list.proofs.TallyLemmas.{AreBelow, kinds_usable, length-raised, times_again, asked_again}
 use Rattle.xc_list.proofs.SolutionLemmas.{IsSolution, times_after, colours_after, asked_after, is_counted_cover, counted-cover, cover-counted}
@@ -103,11 +102,11 @@ returns-clause-decided c = λ reps z.
       taken = z;
     } in
     let is : c.is_cover-cover.result ≡ is_counted_cover b limits cs ks =
-        c.is_cover-cover.ensures
-        ∙ ap (λ m. m == 0 && list_all (is_kind_met b c.deref-2.result.now c.count.new.self.times.items c.count.new.self.colours.items c.count.new.self.asked.items) ks) short
-        ∙ ap (λ l. short_of limits (times_after b ks) == 0 && list_all (is_kind_met b l c.count.new.self.times.items c.count.new.self.colours.items c.count.new.self.asked.items) ks) c.deref-2.ensures.value
-        ∙ ap (λ ts. short_of limits (times_after b ks) == 0 && list_all (is_kind_met b limits ts c.count.new.self.colours.items c.count.new.self.asked.items) ks) times
-        ∙ ap (λ ds. short_of limits (times_after b ks) == 0 && list_all (is_kind_met b limits (times_after b ks) ds c.count.new.self.asked.items) ks) c.count.ensures.colours
-        ∙ ap (λ ns. short_of limits (times_after b ks) == 0 && list_all (is_kind_met b limits (times_after b ks) (colours_after b ks cs) ns) ks) asked
+    c.is_cover-cover.ensures
+    ∙ ap (λ m. m == 0 && list_all (is_kind_met b c.deref-2.result.now c.count.new.self.times.items c.count.new.self.colours.items c.count.new.self.asked.items) ks) short
+    ∙ ap (λ l. short_of limits (times_after b ks) == 0 && list_all (is_kind_met b l c.count.new.self.times.items c.count.new.self.colours.items c.count.new.self.asked.items) ks) c.deref-2.ensures.value
+    ∙ ap (λ ts. short_of limits (times_after b ks) == 0 && list_all (is_kind_met b limits ts c.count.new.self.colours.items c.count.new.self.asked.items) ks) times
+    ∙ ap (λ ds. short_of limits (times_after b ks) == 0 && list_all (is_kind_met b limits (times_after b ks) ds c.count.new.self.asked.items) ks) c.count.ensures.colours
+    ∙ ap (λ ns. short_of limits (times_after b ks) == 0 && list_all (is_kind_met b limits (times_after b ks) (colours_after b ks cs) ns) ks) asked
     in
     (λ h. counted-cover b limits cs ks reps solution (sym is ∙ h), λ h. is ∙ cover-counted b limits cs ks reps solution h)
