@@ -1,5 +1,9 @@
+pub mod Deciding
 pub mod Digits
+pub mod Giving
 pub mod KnownMembers
 pub mod Outputs
+pub mod Standing
 pub mod TextLemmas
+pub mod Turning
 pub mod Writing

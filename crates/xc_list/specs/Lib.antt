@@ -1,3 +1,4 @@
+pub mod Books
 pub mod Kinds
 pub mod Known
 pub mod Listed
