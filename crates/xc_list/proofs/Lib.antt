@@ -1,9 +1,12 @@
 pub mod Deciding
 pub mod Digits
 pub mod Giving
+pub mod KindLemmas
 pub mod KnownMembers
 pub mod Outputs
+pub mod Places
 pub mod Standing
 pub mod TextLemmas
 pub mod Turning
+pub mod WordCuts
 pub mod Writing

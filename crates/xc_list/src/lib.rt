@@ -1,8 +1,11 @@
 //! Listings of exact cover problems: words, texts and runs.
 #![tactic(auto)]
 
+mod book;
 mod judge;
+mod kinds;
 pub mod laws;
+mod listing_lines;
 mod messages;
 mod print;
 mod runs;
