@@ -9,7 +9,7 @@ use Rattle.xc_input.specs.Named.{Named, IsSound, IsKnownUse}
 use Rattle.xc_input.proofs.FlatParts.{slice_get-map-some}
 use Rattle.xc_search.proofs.Members.{each_from}
 use Rattle.xc_list.specs.Kinds.{AreKinds, IsOption, kind_at}
-use Rattle.xc_list.specs.Books.{AreKindsTo, IsBook}
+use Rattle.xc_list.specs.Books.{AreKindsTo, IsBook, Spellings}
 use Rattle.xc_list.proofs.Turning.{kind-place}
 use Rattle.xc_list.proofs.Standing.{AreTold, told-turned}
 use Rattle.xc_list.proofs.Deciding.{option-told}
@@ -32,7 +32,7 @@ kind-told p s o h =
 pub told-known : (p : Named) → IsSound p → (us : List Use) → AreTold p us → All (IsKnownUse p) us
 told-known p s us t = All-from_recursion (IsKnownUse p) us (each_from (IsKnownUse p) us (λ u k. let x = t u k in ((x.0, omega (arith, x.1, s.named.count)), x.2)))
 
-pub known-uses : (p : Named) (names colours : List (Vec ℕ Global)) (keys : List (Vec Use Global)) (counts : List ℕ) → IsBook p names colours keys counts → (k : ℕ) (v : Vec Use Global) → Some v ≡ slice_get keys k → All (IsKnownUse p) v.items
-known-uses p names colours keys counts b k v e =
+pub known-uses : (p : Named) (texts : Spellings) (keys : List (Vec Use Global)) (counts : List ℕ) → IsBook p texts keys counts → (k : ℕ) (v : Vec Use Global) → Some v ≡ slice_get keys k → All (IsKnownUse p) v.items
+known-uses p texts keys counts b k v e =
     let u = b.complete.used k v.items (slice_get-map-some (λ v. v.items) keys k v e) in
     told-known p b.sound v.items (subst (AreTold p) u.3 (kind-told p b.sound u.0 (u.1, u.2)))

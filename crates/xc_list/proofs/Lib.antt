@@ -3,6 +3,7 @@ pub mod Digits
 pub mod Giving
 pub mod KindLemmas
 pub mod KnownMembers
+pub mod NameLemmas
 pub mod Outputs
 pub mod Places
 pub mod Standing

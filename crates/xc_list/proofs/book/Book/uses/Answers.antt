@@ -10,4 +10,4 @@ returns-clause-known c =
     let b = c.self.inside in
     subst (λ (v : Kinds). All (IsKnownUse v.problem) c.as_slice.result.now) c.self.view_is
     (subst (All (IsKnownUse b.problem.now)) (sym c.as_slice.ensures.value)
-    (known-uses b.problem.now b.names.keys b.colours.keys b.kinds.keys b.members.items c.self.invariant c.args.kind c.in-Some.uses.now c.in-Some.ensures.key))
+    (known-uses b.problem.now b.texts b.kinds.keys b.members.items c.self.invariant c.args.kind c.in-Some.uses.now c.in-Some.ensures.key))
