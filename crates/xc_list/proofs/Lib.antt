@@ -4,12 +4,16 @@ pub mod Digits
 pub mod GivenLemmas
 pub mod Giving
 pub mod HoldLemmas
+pub mod KindLemmas
 pub mod KnownMembers
+pub mod NameLemmas
 pub mod Outputs
+pub mod Places
 pub mod ShortLemmas
 pub mod SolutionLemmas
 pub mod Standing
 pub mod TallyLemmas
 pub mod TextLemmas
 pub mod Turning
+pub mod WordCuts
 pub mod Writing

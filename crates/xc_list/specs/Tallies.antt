@@ -1,10 +1,9 @@
--- Counts over a listed solution.
-use Rattle.std.specs.Prelude.{ℕ, ◌+◌, ◌-◌, Bool, ◌&&◌, ◌||◌, ◌==◌, not, nat_le, nat_lt, List, [], ◌∷◌, ◌++◌, length, Option, Some, None, slice_get, slice_set, slice_index, slice_index_or, if◌then◌else◌}
+-- Counts over a listed solution. The item i stands at place i - 1.
+use Rattle.std.specs.Prelude.{ℕ, ◌+◌, ◌-◌, Bool, ◌&&◌, ◌||◌, ◌==◌, not, nat_le, nat_lt, List, [], ◌∷◌, length, flat_map, Option, Some, None, slice_get, slice_set, slice_index, slice_index_or, if◌then◌else◌}
 use Rattle.std.specs.List.{list_all}
 use Rattle.xc_input.specs.declared.problem.Use.{Use}
 use Rattle.xc_input.specs.Problem.{Bounds, item_count}
 use Rattle.xc_list.specs.declared.solution.Limits.{Limits}
-use Rattle.xc_list.specs.declared.book.Never.{Never}
 use Rattle.xc_list.specs.Kinds.{Kinds, members_of}
 
 -- what a tally is for: the bounds of the primary items, how many items there are, and how many kinds
@@ -49,27 +48,23 @@ abbrev pub uses_at : List (List Use) → ℕ → List Use
 uses_at kinds k = slice_index_or kinds k []
 
 abbrev pub uses_in : List (List Use) → List ℕ → List Use
-uses_in kinds [] = []
-uses_in kinds (k ∷ ks) = uses_at kinds k ++ uses_in kinds ks
+uses_in kinds ks = flat_map (uses_at kinds) ks
 
--- how many items are held less often than their bounds say, of those counted
+-- how many primary items are held less often than they have to be, where the times of the first items are these and the others are held by none
 abbrev pub short_of : List Limits → List ℕ → ℕ
 short_of [] ts = 0
-short_of (b ∷ bs) [] = (if nat_lt 0 b.low then 1 else 0) + short_of bs []
-short_of (b ∷ bs) (t ∷ ts) = (if nat_lt t b.low then 1 else 0) + short_of bs ts
+short_of (x ∷ limits) [] = (if nat_lt 0 x.low then 1 else 0) + short_of limits []
+short_of (x ∷ limits) (t ∷ ts) = (if nat_lt t x.low then 1 else 0) + short_of limits ts
 
--- an item that is held this often has colour c as last given: whether its bounds, or else the colour d of a use, agree
+-- Whether an item that is held t times agrees with a use of it: a primary item with its limits, and any other, whose last colour is c, with the use's colour d.
 abbrev pub agrees : Option Limits → ℕ → ℕ → ℕ → Bool
-agrees (Some b) t c d = nat_le b.low t && nat_le t b.high
+agrees (Some x) t c d = nat_le x.low t && nat_le t x.high
 agrees None t c d = t == 1 || (not (d == 0) && d == c)
 
+-- whether its item agrees with a use, by the limits, the times and the last colours
 abbrev pub is_met : List Limits → List ℕ → List ℕ → Use → Bool
-is_met bounds ts cs u = agrees (slice_get bounds (u.item - 1)) (slice_index ts (u.item - 1)) (slice_index cs (u.item - 1)) u.colour
+is_met limits ts cs u = agrees (slice_get limits (u.item - 1)) (slice_index ts (u.item - 1)) (slice_index cs (u.item - 1)) u.colour
 
 -- whether a kind is asked no more often than it has options, and its items agree
 abbrev pub is_kind_met : Kinds → List Limits → List ℕ → List ℕ → List ℕ → ℕ → Bool
-is_kind_met b bounds ts cs asked k = nat_le (slice_index asked k) (members_of b.problem.puzzle (uses_at b.kinds k)) && list_all (is_met bounds ts cs) (uses_at b.kinds k)
-
--- for a book that there isn't
-pub never_kinds : Never → Kinds
-never_kinds n = elim n [ ]
+is_kind_met b limits ts cs asked k = nat_le (slice_index asked k) (members_of b.problem.puzzle (uses_at b.kinds k)) && list_all (is_met limits ts cs) (uses_at b.kinds k)

@@ -3,7 +3,9 @@
 
 mod book;
 mod judge;
+mod kinds;
 pub mod laws;
+mod listing_lines;
 mod messages;
 mod print;
 mod runs;
