@@ -162,7 +162,7 @@ module _ (b : Kinds) (limits : List Limits) (cs ks reps : List ℕ) (s : IsSolut
       top u h =
           let here : agrees (Some x) (get_or (times_after b ks) k 0) (get_or (colours_after b ks cs) k 0) u.colour ≡ true =
           subst (λ o. agrees o (get_or (times_after b ks) k 0) (get_or (colours_after b ks cs) k 0) u.colour ≡ true) e h
-          in leb-true _ _ (both_true (nat_le x.low (get_or (times_after b ks) k 0)) (nat_le (get_or (times_after b ks) k 0) x.high) here).1
+          in leb-true _ _ here
 
       by_given : (g : List ℕ) → get_or (times_after b ks) k 0 ≡ length g → AllByRecursion (λ c. get_or (times_after b ks) k 0 ≤ x.high) g → get_or (times_after b ks) k 0 ≤ x.high
       by_given [] t h = omega (arith, t)
@@ -242,7 +242,7 @@ module _ (b : Kinds) (limits : List Limits) (cs ks reps : List ℕ) (s : IsSolut
       by_limit : (v : Option Limits) → slice_get limits (u.item - 1) ≡ v → agrees (slice_get limits (u.item - 1)) (get_or (times_after b ks) (u.item - 1) 0) (get_or (colours_after b ks cs) (u.item - 1) 0) u.colour ≡ true
       by_limit (Some x) e =
           let two = limited h (u.item - 1) x e in
-          rw e (true_both _ _ (le-leb _ _ two.0) (le-leb _ _ two.1))
+          rw e (le-leb _ _ two.1)
       by_limit None e =
           rw e (last_agrees (get_or (times_after b ks) (u.item - 1) 0) (get_or (colours_after b ks cs) (u.item - 1) 0) u.colour
           (elim (last e) [ inl q ↦ inl (time (u.item - 1) l ∙ q) | inr q ↦ inr (q.0, q.1 ∙ sym (colour (u.item - 1) l)) ]))

@@ -56,9 +56,9 @@ short_of [] ts = 0
 short_of (x ∷ limits) [] = (if nat_lt 0 x.low then 1 else 0) + short_of limits []
 short_of (x ∷ limits) (t ∷ ts) = (if nat_lt t x.low then 1 else 0) + short_of limits ts
 
--- Whether an item that is held t times agrees with a use of it: a primary item with its limits, and any other, whose last colour is c, with the use's colour d.
+-- Whether an item that is held t times agrees with a use of it: a primary item with its upper bound, and any other, whose last colour is c, with the use's colour d.
 abbrev pub agrees : Option Limits → ℕ → ℕ → ℕ → Bool
-agrees (Some x) t c d = nat_le x.low t && nat_le t x.high
+agrees (Some x) t c d = nat_le t x.high
 agrees None t c d = t == 1 || (not (d == 0) && d == c)
 
 -- whether its item agrees with a use, by the limits, the times and the last colours

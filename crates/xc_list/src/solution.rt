@@ -86,7 +86,7 @@ impl Counts {
         let place = u.item as usize - 1;
         let times = self.times[place];
         match limits.get(place) {
-            Some(b) => b.low as usize <= times && times <= b.high as usize,
+            Some(b) => times <= b.high as usize,
             None => times == 1 || (u.colour != 0 && u.colour == self.colours[place]),
         }
     }
