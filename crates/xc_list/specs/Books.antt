@@ -1,9 +1,10 @@
 -- What a book of kinds stores.
-use Rattle.std.specs.Prelude.{ℕ, suc, ◌≤◌, ◌≡◌, ◌≢◌, ◌==◌, List, [], ◌∷◌, Vec, length, map, count_by, slice_get, Option, None, Some, All, AllPairs, Contains, if◌then◌else◌}
+use Rattle.std.specs.Prelude.{ℕ, suc, ◌+◌, ◌≤◌, ◌≡◌, ◌≢◌, ◌==◌, List, [], ◌∷◌, Vec, length, map, count_by, slice_get, Option, None, Some, All, AllPairs, Contains, if◌then◌else◌}
 use Rattle.std.specs.declared.alloc.Global.{Global}
 use Rattle.xc_input.specs.declared.problem.Use.{Use}
 use Rattle.xc_input.specs.Problem.{Puzzle, option_count}
 use Rattle.xc_input.specs.Named.{Named, IsSound}
+use Rattle.xc_input.specs.Words.{place}
 use Rattle.xc_list.specs.Output.{bytes_at}
 use Rattle.xc_list.specs.Listed.{Word, word_of, below}
 use Rattle.xc_list.specs.Kinds.{kind_at, same_uses}
