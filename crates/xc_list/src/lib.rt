@@ -1,12 +1,17 @@
 //! Listings of exact cover problems: words, texts and runs.
 #![tactic(auto)]
 
+mod book;
 mod judge;
+mod kinds;
 pub mod laws;
+mod listing_lines;
 mod messages;
 mod print;
 mod runs;
 mod sink;
+mod solution;
+mod tally;
 mod text;
 mod words;
 
