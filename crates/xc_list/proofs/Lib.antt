@@ -3,9 +3,11 @@ pub mod Digits
 pub mod Giving
 pub mod KindLemmas
 pub mod KnownMembers
+pub mod Lookups
 pub mod NameLemmas
 pub mod Outputs
 pub mod Places
+pub mod ReadingLemmas
 pub mod Standing
 pub mod TextLemmas
 pub mod Turning
