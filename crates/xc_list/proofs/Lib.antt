@@ -1,3 +1,4 @@
+pub mod Adding
 pub mod Deciding
 pub mod Digits
 pub mod Giving

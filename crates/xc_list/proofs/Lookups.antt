@@ -1,5 +1,5 @@
 -- Kinds found by their uses.
-use Rattle.std.proofs.Common.{ℕ, zero, suc, ◌≡◌, ◌≢◌, ◌+◌, ◌<◌, ◌≤◌, if◌then◌else◌, not, Bool, true, false, ◌&&◌, ◌||◌, ◌==◌, List, [], ◌∷◌, ◌++◌, length, map, get_or, take, drop, position, Some, None, refl, sym, ap, ap₂, ◌∙◌, arith, subst, inl, inr, eqb-true, eq-eqb}
+use Rattle.std.proofs.Common.{ℕ, zero, suc, ◌≡◌, ◌≢◌, ◌+◌, ◌<◌, ◌≤◌, if◌then◌else◌, Option, Bool, true, false, ◌&&◌, ◌||◌, ◌==◌, List, [], ◌∷◌, ◌++◌, length, map, get_or, take, drop, position, Some, None, refl, sym, ap, ap₂, ◌∙◌, arith, subst, inl, inr, eqb-true, eq-eqb}
 use Rattle.std.specs.Prelude.{Vec, IsTrue, slice_get, unwrap_or}
 use Rattle.std.specs.Bool.{Decides}
 use Rattle.std.specs.Cmp.Lexicographic.{pointwise}
@@ -35,6 +35,7 @@ use-decides a b = (both (a.item == b.item) (a.colour == b.colour) refl refl, λ 
     both true true x y h = ap₂ (λ i c. let r : Use = record { item = i; colour = c } in r) (eqb-true a.item b.item x) (eqb-true a.colour b.colour y)
     both true false x y h = cc
     both false t x y h = cc
+
     itself : (a.item == a.item && a.colour == a.colour) ≡ true
     itself = let x = eq-eqb a.item a.item refl in let y = eq-eqb a.colour a.colour refl in rw (x, y) refl
 
@@ -79,7 +80,7 @@ module _ (E : Use → Use → Bool) (decides : (a b : Use) → Decides (E a b) (
 
 two_front : (us vs : List Use) → DifferInItems (us ++ vs) → DifferInItems us × DifferInItems vs
 two_front [] vs d = (tt, d)
-two_front (u ∷ us) vs d = let later = two_front us vs d.1 in ((each_front (λ v. u.item ≢ v.item) us vs d.0).0 , later.0) , later.1
+two_front (u ∷ us) vs d = let later = two_front us vs d.1 in let first = each_front (λ v. u.item ≢ v.item) us vs d.0 in ((first.0, later.0), later.1)
 
 differ-swapped : (us vs : List Use) → DifferInItems (us ++ vs) → DifferInItems (vs ++ us)
 differ-swapped us vs d = let two = two_front us vs d in EachTwo-append (λ u v. u.item ≢ v.item) vs us two.1 two.0 (λ x y j k e. EachTwo-between us vs y x d k j (sym e))
@@ -111,6 +112,9 @@ known-as p s words h =
     let us = turned k.0 (uses_of p.puzzle o) in
     (o, known, k.0, record { told = All-from_recursion (IsTold (spellings p)) us (each_from (IsTold (spellings p)) us (told-turned p k.0 (uses_of p.puzzle o) (option-told p s o known))); spelled_so = k.2 })
 
+one_value : (o : Option (List Use)) (a b : List Use) → o ≡ Some a → o ≡ Some b → a ≡ b
+one_value o a b e f = let both : Some a ≡ Some b = sym e ∙ f in cc
+
 module _ (p : Named) (texts : Spellings) (keys : List (Vec Use Global)) (counts : List ℕ) (b : IsBook p texts keys counts) where
   own : texts ≡ spellings p
   own = λ i. record { names = b.named i; colours = b.coloured i }
@@ -122,12 +126,12 @@ module _ (p : Named) (texts : Spellings) (keys : List (Vec Use Global)) (counts 
   -- a body of uses that are of no kind
   pub no-kind : (words : List (List ℕ)) (us : List Use) → HaveWords texts words us → (IsIn (key_uses keys) (kind_of us) → ⊥) → is_known p words ≡ false
   no-kind words us have none = not_false (is_known p words) (λ h.
-    let o = known-as p b.sound words h in
-    let vs = uses_of p.puzzle o.0 in
-    let mine : HaveWords (spellings p) words us = subst (λ t. HaveWords t words us) own have in
-    let same : turned o.2 vs ≡ us = same_uses_by_words p (texts-apart p b.sound) (turned o.2 vs) us (have_told p words (turned o.2 vs) o.3) (have_told p words us mine) (o.3.spelled_so ∙ sym mine.spelled_so) in
-    let kind : kind_at p.puzzle o.0 ≡ kind_of us = sym (kind-turned o.2 vs (option-differs p.puzzle b.sound.valid o.0 o.1)) ∙ ap kind_of same in
-    none (subst (IsIn (key_uses keys)) kind (in-contains (key_uses keys) (kind_at p.puzzle o.0) (b.complete.whole o.0 o.1.0 o.1.1))))
+      let o = known-as p b.sound words h in
+      let vs = uses_of p.puzzle o.0 in
+      let mine : HaveWords (spellings p) words us = subst (λ t. HaveWords t words us) own have in
+      let same : turned o.2 vs ≡ us = same_uses_by_words p (texts-apart p b.sound) (turned o.2 vs) us (have_told p words (turned o.2 vs) o.3) (have_told p words us mine) (o.3.spelled_so ∙ sym mine.spelled_so) in
+      let kind : kind_at p.puzzle o.0 ≡ kind_of us = sym (kind-turned o.2 vs (option-differs p.puzzle b.sound.valid o.0 o.1)) ∙ ap kind_of same in
+      none (subst (IsIn (key_uses keys)) kind (in-contains (key_uses keys) (kind_at p.puzzle o.0) (b.complete.whole o.0 o.1.0 o.1.1))))
 
   -- a body of uses of this kind
   pub its-kind : (words : List (List ℕ)) (us : List Use) (k : ℕ) → HaveWords texts words us → 0 < length us → (k < length (key_uses keys)) × (slice_get (key_uses keys) k ≡ Some (kind_of us))
@@ -139,13 +143,19 @@ module _ (p : Named) (texts : Spellings) (keys : List (Vec Use Global)) (counts 
           let vs = uses_of p.puzzle o in
           let mine : HaveWords (spellings p) words us = subst (λ t. HaveWords t words us) own have in
           let differ = option-differs p.puzzle b.sound.valid o h.0 in
-          let both : Some (kind_of us) ≡ Some (kind_of vs) = sym at.1 ∙ h.1 in
-          let kind : kind_of us ≡ kind_of vs = cc in
+          let kind = one_value (slice_get (key_uses keys) k) (kind_of us) (kind_of vs) at.1 h.1 in
           let x = kind-place us in
           let y = kind-place vs in
           let own_differ : DifferInItems us = turned-differ x.0 us (subst (λ v. DifferInItems v) (sym y.1 ∙ sym kind ∙ x.1) (differ-turned y.0 vs differ)) in
           let j = turned-alike us vs 0 own_differ differ kind l in
           is-body p words vs j.0 j.1 (ap (map (use_word p)) (sym j.2 ∙ append-nil us) ∙ mine.spelled_so)
+
+  -- what a look-up of the kind of a body's uses says
+  pub kind-found : (E : Use → Use → Bool) → ((a b : Use) → Decides (E a b) (a ≡ b)) → (words : List (List ℕ)) (us kind : List Use) (r : Option ℕ) → HaveWords texts words us → 0 < length us → kind ≡ kind_of us
+      → r ≡ position (λ v. pointwise E kind v.items) keys → IsKindOfBody (record { problem = p; kinds = key_uses keys }) words r
+  kind-found E decides words us kind None have l e f = no-kind words us have (λ h. lost-key E decides kind keys (sym f) (subst (IsIn (key_uses keys)) (sym e) h))
+  kind-found E decides words us kind (Some k) have l e f =
+      let at = found-key E decides kind keys k (sym f) in its-kind words us k have l (at.0, at.1 ∙ ap (λ x. Some x) e)
 
 -- a text's words are some
 pub some-uses : (t : Spellings) (text : List ℕ) (us : List Use) → HaveWords t (words_in text) us → 0 < length us
@@ -153,10 +163,10 @@ some-uses t text [] h = (let w = words-some text in let e : [] ≡ map word_of (
 some-uses t text (u ∷ us) h = omega arith
 
 -- what was read or wasn't
-pub was_read : (t : Spellings) (words : List (List ℕ)) (r : Bool) (us : List Use) → not r ≡ false → IsReading t words r us → HaveWords t words us
+pub was_read : (t : Spellings) (words : List (List ℕ)) (r : Bool) (us : List Use) → r ≡ true → IsReading t words r us → HaveWords t words us
 was_read t words true us e h = h
 was_read t words false us e h = cc
 
-pub not_read : (t : Spellings) (words : List (List ℕ)) (r : Bool) (us : List Use) → not r ≡ true → IsReading t words r us → (vs : List Use) → HaveWords t words vs → ⊥
+pub not_read : (t : Spellings) (words : List (List ℕ)) (r : Bool) (us : List Use) → r ≡ false → IsReading t words r us → (vs : List Use) → HaveWords t words vs → ⊥
 not_read t words true us e h = cc
 not_read t words false us e h = h

@@ -77,11 +77,7 @@ impl Texts {
 }
 
 /// Adds a new text to a table.
-fn add_text(
-    alloc: Global,
-    texts: &mut IndexSet<Vec<u8>>,
-    text: &[u8],
-) -> Result<(), AllocError>
+fn add_text(alloc: Global, texts: &mut IndexSet<Vec<u8>>, text: &[u8]) -> Result<(), AllocError>
     requires { place (key_names texts.old.keys) text.now ≡ None }
     ensures { OnOk result (key_names texts.new.keys ≡ key_names texts.old.keys ++ text.now ∷ []) }
 {
@@ -138,6 +134,7 @@ fn read_uses(texts: &Texts, body: &[u8], uses: &mut Vec<Use>) -> Result<bool, Al
 
 /// Adds an option to the kinds of the options before it, and counts it.
 fn add_option(
+    alloc: Global,
     problem: &Problem,
     o: u32,
     turned: &mut Vec<Use>,
@@ -154,7 +151,7 @@ fn add_option(
     match kinds.get_index_of(turned.as_slice()) {
         Some(kind) => members[kind] += 1,
         None => {
-            kinds.insert(turned.clone()?)?;
+            kinds.insert(Vec::from_slice(alloc, turned.as_slice())?)?;
             members.push(1)?;
         }
     }
@@ -191,12 +188,16 @@ impl<'a> Book<'a> {
         ensures { IfOk result (λ b. b.problem ≡ problem.now) }
     {
         let _items = problem.items();
+        let colours = problem.colours();
+        if 10_000_000 < colours {
+            return Err(AllocError);
+        }
         let texts = Texts::new(alloc, problem)?;
         let mut kinds = IndexSet::new(alloc);
         let mut members = Vec::new(alloc);
         let mut turned = Vec::new(alloc);
         for o in 0..problem.options() {
-            add_option(problem, o, &mut turned, &mut kinds, &mut members)?;
+            add_option(alloc, problem, o, &mut turned, &mut kinds, &mut members)?;
         }
         Ok(Book {
             problem,
