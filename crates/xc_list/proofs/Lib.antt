@@ -1,5 +1,6 @@
 pub mod CountedMembers
 pub mod AskedLemmas
+pub mod Adding
 pub mod Deciding
 pub mod Digits
 pub mod GivenLemmas
@@ -16,6 +17,11 @@ pub mod Outputs
 pub mod Places
 pub mod ShortLemmas
 pub mod SolutionLemmas
+pub mod Lookups
+pub mod NameLemmas
+pub mod Outputs
+pub mod Places
+pub mod ReadingLemmas
 pub mod Standing
 pub mod TallyLemmas
 pub mod TextLemmas

@@ -1,15 +1,16 @@
 -- Names and colours by their texts.
-use Rattle.std.proofs.Common.{ℕ, zero, suc, ◌≡◌, ◌≢◌, ◌+◌, ◌<◌, ◌≤◌, ◌==◌, Bool, true, false, ◌||◌, List, [], ◌∷◌, length, take, get_or, position, Some, None, refl, sym, ap, ◌∙◌, arith, nat_lt, ltb-true, ltb-false, if◌then◌else◌}
-use Rattle.std.specs.Prelude.{slice_get, unwrap_or}
-use Rattle.std.specs.List.{list_any}
+use Rattle.std.proofs.Common.{ℕ, zero, suc, ◌≡◌, ◌≢◌, ◌+◌, ◌<◌, ◌≤◌, ◌==◌, Bool, true, false, ◌||◌, List, [], ◌∷◌, length, take, get_or, position, Some, None, refl, sym, ap, ◌∙◌, arith, nat_lt, le-ltb, ltb-true, ltb-false, if◌then◌else◌}
+use Rattle.std.specs.Prelude.{slice_get, unwrap_or, AllPairs}
+use Rattle.std.specs.List.{list_any, position_or_len}
 use Rattle.std.specs.Str.{bytes_eq}
 use Rattle.std.proofs.lemmas.List.Quantifiers.{position-Some}
-use Rattle.std.proofs.lemmas.Option.{unwrap_or-slice_get}
+use Rattle.std.proofs.lemmas.Option.{unwrap_or-slice_get, slice_get_within, get_or_from_slice_get}
 use Rattle.std.proofs.lemmas.Slice.Eq.{bytes_eq-Decides}
 use Rattle.xc_input.specs.Tokens.{at_front}
 use Rattle.xc_input.specs.Words.{place}
 use Rattle.xc_input.specs.Named.{Named}
-use Rattle.xc_input.proofs.FaultLemmas.{no-place}
+use Rattle.xc_input.proofs.FaultLemmas.{no-place, last-place}
+use Rattle.xc_input.proofs.TokenLemmas.{not_false}
 use Rattle.xc_input.proofs.FlatParts.{numbered_get-at}
 use Rattle.xc_list.specs.ListingLines.{words_in}
 use Rattle.xc_list.specs.Listed.{is_none}
@@ -80,3 +81,14 @@ words-some (b ∷ text) = by_case (b == 32) (words_in text) refl
 -- three words are no body of none
 pub none-of-three : (p : Named) (a b : List ℕ) (rest : List ℕ) → false ≡ is_none p (a ∷ b ∷ words_in rest)
 none-of-three p a b rest = let w = words-some rest in ap (λ ws. is_none p (a ∷ b ∷ ws)) (sym w.2)
+
+-- a text of a list without repetition has no place among those before it
+pub new-place : (texts : List (List ℕ)) (i : ℕ) (text : List ℕ) → AllPairs (λ a b. a ≢ b) texts → slice_get texts i ≡ Some text → place (take i texts) text ≡ None
+new-place texts i text apart e =
+    let l = slice_get_within texts i text e in
+    let is : get_or texts i [] ≡ text = get_or_from_slice_get texts i text [] e in
+    let absent : list_any (bytes_eq text) (take i texts) ≡ false = sym (any-false (bytes_eq text) texts i (λ k m n. not_false (bytes_eq text (get_or texts k []))
+    (λ q. apart k i [] m l (sym ((bytes_eq-Decides text (get_or texts k [])).0 q) ∙ sym is)))) in
+    let last : position_or_len (bytes_eq text) (take i texts) ≡ length (take i texts) = last-place (bytes_eq text) (take i texts) absent in
+    let none : nat_lt (position_or_len (bytes_eq text) (take i texts)) (length (take i texts)) ≡ false = le-ltb (position_or_len (bytes_eq text) (take i texts)) (length (take i texts)) (omega (arith, last)) in
+    ap (λ t. if t then Some (position_or_len (bytes_eq text) (take i texts)) else None) none

@@ -1,5 +1,5 @@
 -- What a book of kinds stores.
-use Rattle.std.specs.Prelude.{ℕ, suc, ◌+◌, ◌≤◌, ◌≡◌, ◌≢◌, ◌==◌, List, [], ◌∷◌, Vec, length, map, count_by, slice_get, Option, None, Some, All, AllPairs, Contains, if◌then◌else◌}
+use Rattle.std.specs.Prelude.{ℕ, suc, ◌+◌, ◌≤◌, ◌≡◌, ◌≢◌, ◌==◌, List, [], ◌∷◌, Vec, length, map, count_by, slice_get, Bool, true, false, Option, None, Some, All, AllPairs, Contains, if◌then◌else◌}
 use Rattle.std.specs.declared.alloc.Global.{Global}
 use Rattle.xc_input.specs.declared.problem.Use.{Use}
 use Rattle.xc_input.specs.Problem.{Puzzle, option_count}
@@ -41,6 +41,11 @@ IsUseOfWord t word (Some u) = IsTold t u × (spelled t u ≡ word_of word)
 pub record HaveWords (t : Spellings) (words : List (List ℕ)) (us : List Use) : Type 0 where
   pub told : All (IsTold t) us
   pub spelled_so : map (spelled t) us ≡ map word_of words
+
+-- the uses that have these words, if any have
+abbrev pub IsReading : Spellings → List (List ℕ) → Bool → List Use → Type 0
+IsReading t words true us = HaveWords t words us
+IsReading t words false us = (vs : List Use) → HaveWords t words vs → ⊥
 
 -- the uses of each key of a table
 abbrev pub key_uses : List (Vec Use Global) → List (List Use)

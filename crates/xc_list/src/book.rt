@@ -1,16 +1,16 @@
 //! The options of a problem by their bodies.
-ghost use Rattle.std.specs.Prelude.{◌≡◌, ◌<◌, ◌≤◌, length, slice_get, take, All, Some, IfOk};
+ghost use Rattle.std.specs.Prelude.{◌≡◌, ◌<◌, ◌+◌, ◌^◌, ◌++◌, [], ◌∷◌, length, slice_get, take, All, None, Some, IfOk, OnOk};
 ghost use Rattle.std.specs.List.{list_any};
 ghost use Rattle.std.specs.Option.{option_map};
 ghost use Rattle.std.specs.Str.{bytes_eq};
-ghost use Rattle.xc_input.specs.Problem.{primary_count};
+ghost use Rattle.xc_input.specs.Problem.{primary_count, option_count, IsValid, IsWithinLimits};
 ghost use Rattle.xc_input.specs.Named.{IsKnownUse, IsSound};
 ghost use Rattle.xc_input.specs.Stored.{key_names};
 ghost use Rattle.xc_input.specs.Words.{place};
 ghost use Rattle.xc_list.specs.ListingLines.{words_in};
 ghost use Rattle.xc_list.specs.Listed.{word_of, is_none};
 ghost use Rattle.xc_list.specs.Kinds.{AreKinds, IsKindOfBody, members_of};
-ghost use Rattle.xc_list.specs.Books.{IsNumberOf, IsUseOfWord};
+ghost use Rattle.xc_list.specs.Books.{IsNumberOf, IsUseOfWord, IsReading, AreKindsTo, key_uses};
 
 use crate::kinds::turn;
 use crate::listing_lines::cut_word;
@@ -28,7 +28,7 @@ struct Texts {
 }
 
 impl Model for Texts {
-    ghost use Rattle.std.specs.Prelude.{◌≤◌, length};
+    ghost use Rattle.std.specs.Prelude.{◌<◌, ◌^◌, length};
     ghost use Rattle.xc_input.specs.Stored.{key_names};
     ghost use Rattle.xc_list.specs.Books.{Spellings};
 
@@ -36,10 +36,25 @@ impl Model for Texts {
 
     ghost view = { λ t. record { names = key_names t.names.keys; colours = key_names t.colours.keys } };
 
-    ghost invariant = { λ t. (length t.names.keys ≤ 10000000) × (length t.colours.keys ≤ 10000000) };
+    ghost invariant = { λ t. (length t.names.keys < 2 ^ 32) × (length t.colours.keys < 2 ^ 32) };
 }
 
 impl Texts {
+    /// The names and colours of a problem.
+    fn new(alloc: Global, problem: &Problem) -> Result<Texts, AllocError>
+        ensures { IfOk result (λ t. t ≡ record { names = problem.now.names; colours = problem.now.colours }) }
+    {
+        let mut names = IndexSet::new(alloc);
+        for i in 0..problem.items() {
+            add_text(alloc, &mut names, problem.item(i + 1).name.as_slice())?;
+        }
+        let mut colours = IndexSet::new(alloc);
+        for c in 0..problem.colours() {
+            add_text(alloc, &mut colours, problem.colour(c + 1))?;
+        }
+        Ok(Texts { names, colours })
+    }
+
     /// The place of a name, from 0.
     fn place_of(&self, name: &[u8]) -> Option<usize>
         ensures { result ≡ place self.now.names name.now }
@@ -61,6 +76,15 @@ impl Texts {
     }
 }
 
+/// Adds a new text to a table.
+fn add_text(alloc: Global, texts: &mut IndexSet<Vec<u8>>, text: &[u8]) -> Result<(), AllocError>
+    requires { place (key_names texts.old.keys) text.now ≡ None }
+    ensures { OnOk result (key_names texts.new.keys ≡ key_names texts.old.keys ++ text.now ∷ []) }
+{
+    texts.insert(Vec::from_slice(alloc, text)?)?;
+    Ok(())
+}
+
 /// The place of a text in a table, from 0.
 fn place_in(texts: &IndexSet<Vec<u8>>, text: &[u8]) -> Option<usize>
     ensures { result ≡ place (key_names texts.now.keys) text.now }
@@ -70,7 +94,7 @@ fn place_in(texts: &IndexSet<Vec<u8>>, text: &[u8]) -> Option<usize>
 
 /// The number of a text in a table, from 1.
 fn number_of(texts: &IndexSet<Vec<u8>>, text: &[u8]) -> Option<u32>
-    requires { length texts.now.keys ≤ 10000000 }
+    requires { length texts.now.keys < 2 ^ 32 }
     ensures { IsNumberOf (key_names texts.now.keys) text.now result }
 {
     let place = place_in(texts, text)?;
@@ -86,6 +110,52 @@ fn cut_colour(word: &[u8]) -> (&[u8], Option<&[u8]>)
         None => (word, None),
         Some(k) => (&word[..k], Some(&word[k + 1..])),
     }
+}
+
+/// Puts the uses that have a body's words into a list, in place of what it holds, if there are
+/// such uses.
+fn read_uses(texts: &Texts, body: &[u8], uses: &mut Vec<Use>) -> Result<bool, AllocError>
+    ensures { IfOk result (λ read. IsReading texts.now (words_in body.now) read uses.new.items) }
+{
+    uses.clear();
+    let mut text = body;
+    loop {
+        let (word, more) = cut_word(text);
+        match texts.use_of(word) {
+            Some(u) => uses.push(u)?,
+            None => return Ok(false),
+        }
+        match more {
+            Some(rest) => text = rest,
+            None => return Ok(true),
+        }
+    }
+}
+
+/// Adds an option to the kinds of the options before it, and counts it.
+fn add_option(
+    alloc: Global,
+    problem: &Problem,
+    o: u32,
+    turned: &mut Vec<Use>,
+    kinds: &mut IndexSet<Vec<Use>>,
+    members: &mut Vec<usize>,
+) -> Result<(), AllocError>
+    requires option { o < option_count problem.now.puzzle }
+    requires valid { IsValid problem.now.puzzle }
+    requires limits { IsWithinLimits problem.now.puzzle }
+    requires before { AreKindsTo problem.now.puzzle o (key_uses kinds.old.keys) members.old.items }
+    ensures { OnOk result (AreKindsTo problem.now.puzzle (o + 1) (key_uses kinds.new.keys) members.new.items) }
+{
+    turn(problem.option(o + 1), turned)?;
+    match kinds.get_index_of(turned.as_slice()) {
+        Some(kind) => members[kind] += 1,
+        None => {
+            kinds.insert(Vec::from_slice(alloc, turned.as_slice())?)?;
+            members.push(1)?;
+        }
+    }
+    Ok(())
 }
 
 /// The kinds of a problem's options. Options whose uses are rotations of each other are of one
@@ -113,6 +183,32 @@ impl<'a> Model for Book<'a> {
 }
 
 impl<'a> Book<'a> {
+    /// The kinds of a problem's options.
+    pub fn new(alloc: Global, problem: &'a Problem) -> Result<Book<'a>, AllocError>
+        ensures { IfOk result (λ b. b.problem ≡ problem.now) }
+    {
+        let _items = problem.items();
+        let colours = problem.colours();
+        if 10_000_000 < colours {
+            return Err(AllocError);
+        }
+        let texts = Texts::new(alloc, problem)?;
+        let mut kinds = IndexSet::new(alloc);
+        let mut members = Vec::new(alloc);
+        let mut turned = Vec::new(alloc);
+        for o in 0..problem.options() {
+            add_option(alloc, problem, o, &mut turned, &mut kinds, &mut members)?;
+        }
+        Ok(Book {
+            problem,
+            texts,
+            kinds,
+            members,
+            read: Vec::new(alloc),
+            turned,
+        })
+    }
+
     /// How many kinds there are.
     pub fn kinds(&self) -> usize
         ensures value { result ≡ length self.now.kinds }
@@ -140,6 +236,18 @@ impl<'a> Book<'a> {
         ensures { (us : _) → slice_get self.now.kinds kind ≡ Some us → result ≡ members_of self.now.problem.puzzle us }
     {
         self.members[kind]
+    }
+
+    /// The kind of the options that a body stands for, if it stands for any.
+    pub fn kind_of(&mut self, body: &[u8]) -> Result<Option<usize>, AllocError>
+        ensures same { self.new ≡ self.old }
+        ensures kind { IfOk result (λ kind. IsKindOfBody self.old (words_in body.now) kind) }
+    {
+        if !read_uses(&self.texts, body, &mut self.read)? {
+            return Ok(None);
+        }
+        turn(&self.read, &mut self.turned)?;
+        Ok(self.kinds.get_index_of(self.turned.as_slice()))
     }
 
     /// Whether a body is the word `null` and the name of a primary item.
