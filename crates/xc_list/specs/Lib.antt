@@ -1,4 +1,5 @@
 pub mod Kinds
+pub mod Judging
 pub mod Known
 pub mod Listed
 pub mod ListingLines

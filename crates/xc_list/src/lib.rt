@@ -3,6 +3,7 @@
 
 mod judge;
 pub mod laws;
+mod listing_lines;
 mod messages;
 mod print;
 mod runs;
