@@ -1,5 +1,7 @@
 pub mod BodyLemmas
+pub mod Deciding
 pub mod Digits
+pub mod JudgeLemmas
 pub mod KnownMembers
 pub mod LineLemmas
 pub mod Outputs

@@ -7,5 +7,6 @@ pub mod Messages
 pub mod Output
 pub mod Runs
 pub mod Settings
+pub mod Tallies
 pub mod Texts
 pub mod Worked

@@ -1,6 +1,7 @@
 //! Listings of exact cover problems: words, texts and runs.
 #![tactic(auto)]
 
+mod book;
 mod judge;
 pub mod laws;
 mod listing_lines;
@@ -8,10 +9,11 @@ mod messages;
 mod print;
 mod runs;
 mod sink;
+mod tally;
 mod text;
 mod words;
 
-pub use judge::{ListingFault, Verdict};
+pub use judge::{ListingFault, Verdict, check};
 pub use messages::{summary, warnings, word_fault};
 pub use print::write_solution;
 pub use runs::{End, run, run_over};
