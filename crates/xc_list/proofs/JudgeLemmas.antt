@@ -1,19 +1,18 @@
 -- Verdicts by kinds, and what a line changes.
-use Rattle.std.proofs.Common.{◌≡◌, ℕ, zero, suc, ◌+◌, ◌-◌, ◌^◌, ◌<◌, ◌≤◌, Bool, true, false, not, ◌||◌, nat_eq, min, List, [], ◌∷◌, ◌++◌, length, filter, Option, Some, None, is_some, refl, sym, ap, ◌∙◌, subst, append_assoc, append-nil, arith, inl, inr, if◌then◌else◌}
+use Rattle.std.proofs.Common.{◌≡◌, ℕ, zero, suc, ◌+◌, ◌-◌, ◌^◌, ◌<◌, Bool, true, false, not, ◌||◌, nat_eq, min, List, [], ◌∷◌, ◌++◌, length, filter, Option, Some, None, is_some, refl, sym, ap, ◌∙◌, subst, append_assoc, append-nil, arith, inl, inr, if◌then◌else◌}
 use Rattle.std.specs.Prelude.{◌==◌, ◌↔◌, All, IsTrue, unwrap_or}
-use Rattle.std.specs.List.{AllZip, list_any}
+use Rattle.std.specs.List.{AllZip}
 use Rattle.std.proofs.lemmas.Bool.Decides.{nat_tests}
 use Rattle.std.proofs.lemmas.List.Elements.{All-cons, filter-append}
 use Rattle.std.proofs.lemmas.Map.Keys.{any_passes_from_place}
 use Rattle.std.proofs.lemmas.Option.{slice_get_cases, slice_get-get_or}
-use Rattle.xc_input.specs.Problem.{numbered_get, option_count, uses_of}
 use Rattle.xc_input.specs.Named.{Named, IsSound}
 use Rattle.xc_list.specs.declared.judge.Verdict.{Verdict}
 use Rattle.xc_list.specs.declared.judge.ListingFault.TheVariants.{UnknownOption}
 use Rattle.xc_list.specs.ListingLines.{Line, Header, Body, read}
 use Rattle.xc_list.specs.Listed.{Solution, Listing, before_listing, listing_of, is_body, is_known, is_none, stands_for, line_fault, or_later, first_fault_from, IsListedCover, IsVerdictOn, AreVerdicts}
 use Rattle.xc_list.specs.Kinds.{Kinds, AreKinds, IsOption, IsOfKind, IsKindOfBody, StandFor, IsCoverOfKinds}
-use Rattle.xc_list.specs.Judging.{Progress, AreChosen, with_later, IsProgress, Closes, Takes}
+use Rattle.xc_list.specs.Judging.{Progress, AreChosen, with_later, Closes, Takes}
 use Rattle.xc_list.proofs.Deciding.{kinds_decide}
 
 -- LISTS PLACE BY PLACE

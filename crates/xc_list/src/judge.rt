@@ -38,7 +38,7 @@ struct Judge {
     book: Book,
     tally: Tally,
     /// The number of the solution that is open.
-    open: Option<u64>,
+    open_number: Option<u64>,
     /// The kinds of its choice lines.
     chosen: Vec<usize>,
     /// The verdicts on the solutions before it.
@@ -54,7 +54,7 @@ impl Model for Judge {
 
     ghost view = { λ s. record {
       book = s.book;
-      open_number = s.open;
+      open_number = s.open_number;
       chosen = s.chosen.items;
       verdicts = s.verdicts.items;
     } };
@@ -76,7 +76,7 @@ impl Judge {
         Ok(Judge {
             book,
             tally,
-            open: None,
+            open_number: None,
             chosen: Vec::new(alloc),
             verdicts: Vec::new(alloc),
         })
@@ -87,7 +87,7 @@ impl Judge {
         ensures book { self.new.book ≡ self.old.book }
         ensures closes { OnOk result (Closes self.old self.new) }
     {
-        if let Some(number) = self.open {
+        if let Some(number) = self.open_number {
             let _kinds = self.book.kinds();
             let cover = self.tally.judge(&self.book, self.chosen.as_slice());
             self.verdicts.push(Verdict { number, cover })?;
@@ -101,7 +101,7 @@ impl Judge {
     {
         self.close()?;
         self.chosen.clear();
-        self.open = Some(number);
+        self.open_number = Some(number);
         Ok(())
     }
 
@@ -111,7 +111,7 @@ impl Judge {
         ensures takes { OnOk result (Takes (Body (words_in body.now)) self.old self.new) }
         ensures fault { IfErr result (Refuses number (Body (words_in body.now)) self.old) }
     {
-        if self.open.is_none() {
+        if self.open_number.is_none() {
             return Err(ListingFault::BadLine(number));
         }
         let _kinds = self.book.kinds();
@@ -123,12 +123,8 @@ impl Judge {
                 }
                 Ok(())
             }
-            Ok(None) => {
-                if !self.book.is_none(body) {
-                    return Err(ListingFault::UnknownOption(number));
-                }
-                Ok(())
-            }
+            Ok(None) if self.book.is_none(body) => Ok(()),
+            Ok(None) => Err(ListingFault::UnknownOption(number)),
         }
     }
 
@@ -139,10 +135,9 @@ impl Judge {
         ensures fault { IfErr result (Refuses number (read line.now) self.old) }
     {
         match read_line(line) {
-            ListingLine::Header(solution) => match self.take_header(solution) {
-                Ok(()) => Ok(()),
-                Err(_) => Err(ListingFault::Memory),
-            },
+            ListingLine::Header(solution) => {
+                self.take_header(solution).map_err(|_| ListingFault::Memory)
+            }
             ListingLine::Body(body) => self.take_body(number, body),
             ListingLine::Other => Err(ListingFault::BadLine(number)),
         }
@@ -153,14 +148,7 @@ impl Judge {
         ensures { IfOk result (λ vs. (all : List (List ℕ)) (done : ℕ) → IsProgress all done [] self → AreVerdicts self.book.problem all vs.items) }
     {
         self.close()?;
-        let Judge {
-            book: _,
-            tally: _,
-            open: _,
-            chosen: _,
-            verdicts,
-        } = self;
-        Ok(verdicts)
+        Ok(self.verdicts)
     }
 }
 
@@ -181,8 +169,5 @@ pub fn check(alloc: Global, problem: &Problem, listing: &[u8]) -> Result<Vec<Ver
         judge.take_line(lines, line)?;
         rest = others;
     }
-    match judge.finish() {
-        Ok(verdicts) => Ok(verdicts),
-        Err(_) => Err(ListingFault::Memory),
-    }
+    judge.finish().map_err(|_| ListingFault::Memory)
 }
