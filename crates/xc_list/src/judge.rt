@@ -1,9 +1,15 @@
 //! Listings judged.
-ghost use Rattle.std.specs.Prelude.{◌≡◌, IfOk, IfErr, None};
+ghost use Rattle.std.specs.Prelude.{◌≡◌, ℕ, List, [], OnOk, IfOk, IfErr};
 ghost use Rattle.xc_input.specs.Lines.{lines_of};
+ghost use Rattle.xc_list.specs.ListingLines.{read, words_in, Header, Body};
 ghost use Rattle.xc_list.specs.Listed.{first_fault, AreVerdicts, IsFirstFault};
+ghost use Rattle.xc_list.specs.Judging.{IsProgress, Closes, Takes, Refuses};
 
-use std::alloc::Global;
+use crate::book::Book;
+use crate::listing_lines::{ListingLine, cut_line, read_line};
+use crate::tally::Tally;
+use std::alloc::{AllocError, Global};
+use std::marker::Model;
 use xc_input::Problem;
 
 /// The verdict on a listed solution.
@@ -26,11 +32,142 @@ pub enum ListingFault {
     Memory,
 }
 
+/// A listing judged up to some line.
+#[derive(Drop)]
+struct Judge<'a> {
+    book: Book<'a>,
+    tally: Tally,
+    /// The number of the solution that is open.
+    open_number: Option<u64>,
+    /// The kinds of its choice lines.
+    chosen: Vec<usize>,
+    /// The verdicts on the solutions before it.
+    verdicts: Vec<Verdict>,
+}
+
+impl<'a> Model for Judge<'a> {
+    ghost use Rattle.std.specs.Prelude.{◌≡◌, ◌<◌, length, All};
+    ghost use Rattle.xc_list.specs.Tallies.{places_of};
+    ghost use Rattle.xc_list.specs.Judging.{Progress};
+
+    ghost Value = { Progress };
+
+    ghost view = { λ s. record {
+      book = s.book;
+      open_number = s.open_number;
+      chosen = s.chosen.items;
+      verdicts = s.verdicts.items;
+    } };
+
+    ghost invariant = { λ s. record {
+      places : s.tally ≡ places_of s.book;
+      known : All (λ k. k < length s.book.kinds) s.chosen.items;
+    } };
+}
+
+impl<'a> Judge<'a> {
+    /// No line of any listing is judged.
+    fn new(alloc: Global, problem: &'a Problem) -> Result<Judge<'a>, AllocError>
+        ensures problem { IfOk result (λ s. s.book.problem ≡ problem.now) }
+        ensures begun { IfOk result (λ s. (all : List (List ℕ)) → IsProgress all 0 all s) }
+    {
+        let book = Book::new(alloc, problem)?;
+        let tally = Tally::new(alloc, problem, book.kinds())?;
+        Ok(Judge {
+            book,
+            tally,
+            open_number: None,
+            chosen: Vec::new(alloc),
+            verdicts: Vec::new(alloc),
+        })
+    }
+
+    /// Judges the solution that is open.
+    fn close(&mut self) -> Result<(), AllocError>
+        ensures book { self.new.book ≡ self.old.book }
+        ensures closes { OnOk result (Closes self.old self.new) }
+    {
+        if let Some(number) = self.open_number {
+            let _kinds = self.book.kinds();
+            let cover = self.tally.judge(&self.book, self.chosen.as_slice());
+            self.verdicts.push(Verdict { number, cover })?;
+        }
+        Ok(())
+    }
+
+    fn take_header(&mut self, number: u64) -> Result<(), AllocError>
+        ensures book { self.new.book ≡ self.old.book }
+        ensures takes { OnOk result (Takes (Header number) self.old self.new) }
+    {
+        self.close()?;
+        self.chosen.clear();
+        self.open_number = Some(number);
+        Ok(())
+    }
+
+    /// Takes the body of the choice line with this number.
+    fn take_body(&mut self, number: u64, body: &[u8]) -> Result<(), ListingFault>
+        ensures book { self.new.book ≡ self.old.book }
+        ensures takes { OnOk result (Takes (Body (words_in body.now)) self.old self.new) }
+        ensures fault { IfErr result (Refuses number (Body (words_in body.now)) self.old) }
+    {
+        if self.open_number.is_none() {
+            return Err(ListingFault::BadLine(number));
+        }
+        let _kinds = self.book.kinds();
+        match self.book.kind_of(body) {
+            Err(_) => Err(ListingFault::Memory),
+            Ok(Some(kind)) => {
+                if self.chosen.push(kind).is_err() {
+                    return Err(ListingFault::Memory);
+                }
+                Ok(())
+            }
+            Ok(None) if self.book.is_none(body) => Ok(()),
+            Ok(None) => Err(ListingFault::UnknownOption(number)),
+        }
+    }
+
+    /// Takes the line with this number.
+    fn take_line(&mut self, number: u64, line: &[u8]) -> Result<(), ListingFault>
+        ensures book { self.new.book ≡ self.old.book }
+        ensures takes { OnOk result (Takes (read line.now) self.old self.new) }
+        ensures fault { IfErr result (Refuses number (read line.now) self.old) }
+    {
+        match read_line(line) {
+            ListingLine::Header(solution) => {
+                self.take_header(solution).map_err(|_| ListingFault::Memory)
+            }
+            ListingLine::Body(body) => self.take_body(number, body),
+            ListingLine::Other => Err(ListingFault::BadLine(number)),
+        }
+    }
+
+    /// The verdicts, once all lines are judged.
+    fn finish(mut self) -> Result<Vec<Verdict>, AllocError>
+        ensures { IfOk result (λ vs. (all : List (List ℕ)) (done : ℕ) → IsProgress all done [] self → AreVerdicts self.book.problem all vs.items) }
+    {
+        self.close()?;
+        Ok(self.verdicts)
+    }
+}
+
 /// The verdicts on the solutions of a listing, or its first fault.
 pub fn check(alloc: Global, problem: &Problem, listing: &[u8]) -> Result<Vec<Verdict>, ListingFault>
     ensures accepted { IfOk result (λ vs. first_fault problem.now (lines_of listing.now) ≡ None) }
     ensures verdicts { IfOk result (λ vs. AreVerdicts problem.now (lines_of listing.now) vs.items) }
-    ensures fault { IfErr result (λ e. IsFirstFault problem.now (lines_of listing.now) e) }
+    ensures fault { IfErr result (IsFirstFault problem.now (lines_of listing.now)) }
 {
-    Err(ListingFault::Memory)
+    let Ok(mut judge) = Judge::new(alloc, problem) else {
+        return Err(ListingFault::Memory);
+    };
+    let mut lines: u64 = 0;
+    let mut rest = listing;
+    while !rest.is_empty() {
+        let (line, others) = cut_line(rest);
+        lines = lines.saturating_add(1);
+        judge.take_line(lines, line)?;
+        rest = others;
+    }
+    judge.finish().map_err(|_| ListingFault::Memory)
 }
