@@ -1,23 +1,22 @@
 -- One option more among the kinds.
-use Rattle.std.proofs.Common.{ℕ, zero, suc, ◌≡◌, ◌≢◌, ◌+◌, ◌<◌, ◌≤◌, Bool, true, false, cond, List, [], ◌∷◌, ◌++◌, length, map, get_or, Some, ◌⊎◌, refl, sym, ap, ap₂, ◌∙◌, arith, subst, inl, inr, ◌==◌, eqb-true, eq-eqb}
-use Rattle.std.specs.Prelude.{slice_get, count_by, Contains, AllPairs}
-use Rattle.std.specs.List.{AllByRecursion}
+use Rattle.std.proofs.Common.{ℕ, zero, suc, ◌≡◌, ◌≢◌, ◌+◌, ◌≤◌, Bool, true, false, cond, List, [], ◌∷◌, ◌++◌, length, map, get_or, Some, ◌⊎◌, refl, sym, ap, ap₂, ◌∙◌, arith, subst, inl, inr, ◌==◌, eqb-true, eq-eqb}
+use Rattle.std.specs.Prelude.{slice_get, Contains}
 use Rattle.std.proofs.Math.ListN.{set}
 use Rattle.std.proofs.lemmas.List.{map-append}
 use Rattle.std.proofs.lemmas.List.Elements.{Contains-append_left, Contains-push}
 use Rattle.std.proofs.lemmas.List.Sums.{count_by-le-length}
 use Rattle.xc_input.specs.declared.problem.Use.{Use}
-use Rattle.xc_input.specs.Problem.{Puzzle, IsValid}
+use Rattle.xc_input.specs.Problem.{Puzzle}
 use Rattle.xc_input.proofs.FaultLemmas.{map-length, map-snoc}
 use Rattle.xc_input.proofs.TokenLemmas.{not_false}
-use Rattle.xc_search.proofs.Members.{IsIn, each_in, each_from, in-map, in-append, in-contains, contains-in, in-slice_get, slice_get-in}
+use Rattle.xc_search.proofs.Members.{IsIn, each_in, in-map, in-append, in-contains, contains-in, in-slice_get, slice_get-in}
 use Rattle.xc_search.proofs.EachTwo.{EachTwo, EachTwo-append, each_two_from_AllPairs, AllPairs-from_each_two}
 use Rattle.xc_list.specs.Listed.{below}
-use Rattle.xc_list.specs.Kinds.{IsOption, kind_at, same_uses}
+use Rattle.xc_list.specs.Kinds.{kind_at, same_uses}
 use Rattle.xc_list.specs.Books.{AreKindsTo, members_to}
 use Rattle.xc_list.proofs.Giving.{counted, is_counted}
 use Rattle.xc_list.proofs.Standing.{same_uses-are, same_uses-itself}
-use Rattle.xc_list.proofs.Deciding.{in-below, option-sound}
+use Rattle.xc_list.proofs.Deciding.{in-below}
 
 counted-append : (p : ℕ → Bool) (xs ys : List ℕ) → counted p (xs ++ ys) ≡ counted p xs + counted p ys
 counted-append p [] ys = omega arith

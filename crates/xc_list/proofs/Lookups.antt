@@ -1,5 +1,5 @@
 -- Kinds found by their uses.
-use Rattle.std.proofs.Common.{ℕ, zero, suc, ◌≡◌, ◌≢◌, ◌+◌, ◌<◌, ◌≤◌, if◌then◌else◌, Option, Bool, true, false, ◌&&◌, ◌||◌, ◌==◌, List, [], ◌∷◌, ◌++◌, length, map, get_or, take, drop, position, Some, None, refl, sym, ap, ap₂, ◌∙◌, arith, subst, inl, inr, eqb-true, eq-eqb}
+use Rattle.std.proofs.Common.{ℕ, suc, ◌≡◌, ◌≢◌, ◌<◌, if◌then◌else◌, Option, Bool, true, false, ◌&&◌, ◌||◌, ◌==◌, List, [], ◌∷◌, ◌++◌, length, map, get_or, take, drop, position, Some, None, refl, sym, ap, ap₂, ◌∙◌, arith, subst, inl, inr, eqb-true, eq-eqb}
 use Rattle.std.specs.Prelude.{Vec, IsTrue, slice_get, unwrap_or}
 use Rattle.std.specs.Bool.{Decides}
 use Rattle.std.specs.Cmp.Lexicographic.{pointwise}
@@ -11,17 +11,17 @@ use Rattle.std.proofs.lemmas.List.Quantifiers.{position-Some}
 use Rattle.std.proofs.lemmas.Option.{slice_get-get_or, slice_get_within}
 use Rattle.std.proofs.lemmas.Slice.Eq.{slice_eq-Decides}
 use Rattle.xc_input.specs.declared.problem.Use.{Use}
-use Rattle.xc_input.specs.Problem.{Puzzle, option_count, uses_of}
+use Rattle.xc_input.specs.Problem.{uses_of}
 use Rattle.xc_input.specs.Named.{Named, IsSound}
 use Rattle.xc_input.proofs.FaultLemmas.{no-place, map-snoc}
 use Rattle.xc_input.proofs.TokenLemmas.{position-map, not_false}
 use Rattle.xc_search.proofs.Members.{IsIn, each_in, each_from, in-contains, slice_get-in}
 use Rattle.xc_search.proofs.Elements.{each_front}
-use Rattle.xc_search.proofs.EachTwo.{EachTwo, EachTwo-append}
+use Rattle.xc_search.proofs.EachTwo.{EachTwo-append}
 use Rattle.xc_list.specs.ListingLines.{words_in}
 use Rattle.xc_list.specs.Listed.{word_of, use_word, turned, is_body, is_known, stands_for}
-use Rattle.xc_list.specs.Kinds.{Kinds, IsOption, IsOfKind, IsKindOfBody, kind_of, kind_at}
-use Rattle.xc_list.specs.Books.{Spellings, IsTold, HaveWords, IsReading, IsBook, key_uses}
+use Rattle.xc_list.specs.Kinds.{IsOption, IsOfKind, IsKindOfBody, kind_of, kind_at}
+use Rattle.xc_list.specs.Books.{Spellings, spellings, IsTold, HaveWords, IsReading, IsBook, key_uses}
 use Rattle.xc_list.proofs.Turning.{DifferInItems, EachTwo-between, DifferInItems-halves, halves, kind-place, kind-turned, turned-alike}
 use Rattle.xc_list.proofs.Standing.{AreTold, told-turned, body-is, is-body, same_uses_by_words}
 use Rattle.xc_list.proofs.Deciding.{option-differs, option-told, texts-apart}
@@ -91,9 +91,6 @@ differ-turned k us d = differ-swapped (take k us) (drop k us) (DifferInItems-hal
 
 turned-differ : (k : ℕ) (us : List Use) → DifferInItems (turned k us) → DifferInItems us
 turned-differ k us d = subst (λ v. DifferInItems v) (halves k us) (differ-swapped (drop k us) (take k us) d)
-
-abbrev spellings : Named → Spellings
-spellings p = record { names = p.names; colours = p.colours }
 
 have_told : (p : Named) (words : List (List ℕ)) (us : List Use) → HaveWords (spellings p) words us → AreTold p us
 have_told p words us h u k = each_in (IsTold (spellings p)) us u (recursion_from_All (IsTold (spellings p)) us h.told) k

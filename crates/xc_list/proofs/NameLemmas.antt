@@ -1,5 +1,5 @@
 -- Names and colours by their texts.
-use Rattle.std.proofs.Common.{ℕ, zero, suc, ◌≡◌, ◌≢◌, ◌+◌, ◌<◌, ◌≤◌, ◌==◌, Bool, true, false, ◌||◌, List, [], ◌∷◌, length, take, get_or, position, Some, None, refl, sym, ap, ◌∙◌, arith, nat_lt, le-ltb, ltb-true, ltb-false, if◌then◌else◌}
+use Rattle.std.proofs.Common.{ℕ, zero, suc, ◌≡◌, ◌≢◌, ◌+◌, ◌<◌, ◌==◌, Bool, true, false, ◌||◌, List, [], ◌∷◌, length, take, get_or, position, Some, None, refl, sym, ap, ◌∙◌, arith, nat_lt, le-ltb, ltb-true, ltb-false, if◌then◌else◌}
 use Rattle.std.specs.Prelude.{slice_get, unwrap_or, AllPairs}
 use Rattle.std.specs.List.{list_any, position_or_len}
 use Rattle.std.specs.Str.{bytes_eq}

@@ -11,6 +11,7 @@ use Rattle.xc_search.proofs.EachTwo.{EachTwo, EachTwo-at}
 use Rattle.xc_list.specs.Listed.{Word, word_of, use_word, same_colour, same_words, turned, below, is_body}
 use Rattle.xc_list.specs.Kinds.{kind_of, same_uses}
 use Rattle.xc_list.specs.Output.{bytes_at}
+use Rattle.xc_list.specs.Books.{IsTold, spellings}
 use Rattle.xc_list.proofs.Turning.{DifferInItems, kind-turned, turned-alike, halves}
 
 and_left : (a b : Bool) → (a && b) ≡ true → a ≡ true
@@ -98,12 +99,9 @@ body-alike p words us vs d e q h =
     let j = turned-alike us vs k.0 d e q k.1 in
     is-body p words vs j.0 j.1 (ap (map (use_word p)) (sym j.2) ∙ k.2)
 
--- a use of an item with a name, and of no colour or one with bytes
-abbrev pub IsTold : Named → Use → Type 0
-IsTold p u = (1 ≤ u.item) × (u.item ≤ length p.names) × (u.colour ≤ length p.colours)
-
+-- uses that can be told
 abbrev pub AreTold : Named → List Use → Type 0
-AreTold p us = (u : Use) → IsIn us u → IsTold p u
+AreTold p us = (u : Use) → IsIn us u → IsTold (spellings p) u
 
 -- no name and no colour stands twice
 abbrev pub AreApartTexts : Named → Type 0
@@ -155,7 +153,7 @@ one_colour p d a b l m e = by_case (a == 0) (b == 0) refl refl e
         one_text p.colours d a b (omega (arith, x)) l (omega (arith, y)) m same
 
 -- uses with one word are one
-pub one_word : (p : Named) → AreApartTexts p → (u v : Use) → IsTold p u → IsTold p v → use_word p u ≡ use_word p v → u ≡ v
+pub one_word : (p : Named) → AreApartTexts p → (u v : Use) → IsTold (spellings p) u → IsTold (spellings p) v → use_word p u ≡ use_word p v → u ≡ v
 one_word p d u v a b e =
     let item = one_text p.names d.0 u.item v.item a.0 a.1 b.0 b.1 (ap (λ (w : Word). w.name) e) in
     let colour = one_colour p d.1 u.colour v.colour a.2 b.2 (ap (λ (w : Word). w.colour) e) in

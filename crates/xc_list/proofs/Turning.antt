@@ -6,7 +6,7 @@ use Rattle.xc_input.specs.Problem.{colour_in}
 use Rattle.xc_list.specs.Listed.{turned}
 use Rattle.xc_list.specs.Kinds.{before_item, behind_item, least_of, turned_to, kind_of}
 use Rattle.xc_list.specs.Books.{place_of}
-use Rattle.std.proofs.lemmas.List.{take-append-drop, length-append, length-drop}
+use Rattle.std.proofs.lemmas.List.{append-nil, take-append-drop, length-append, length-drop}
 use Rattle.xc_search.proofs.Members.{IsIn, each_in}
 use Rattle.xc_search.proofs.EachTwo.{EachTwo}
 
@@ -20,10 +20,6 @@ DifferInItems us = EachTwo (λ u v. u.item ≢ v.item) us
 pub assoc : (a b c : List Use) → (a ++ b) ++ c ≡ a ++ (b ++ c)
 assoc [] b c = refl
 assoc (x ∷ a) b c = ap (λ t. x ∷ t) (assoc a b c)
-
-pub append-nil : (a : List Use) → a ++ [] ≡ a
-append-nil [] = refl
-append-nil (x ∷ a) = ap (λ t. x ∷ t) (append-nil a)
 
 pub behind-lacks : (i : ℕ) (a b : List Use) → has i a ≡ false → behind_item i (a ++ b) ≡ behind_item i b
 behind-lacks i [] b h = refl

@@ -1,10 +1,9 @@
 -- What a book of kinds stores.
-use Rattle.std.specs.Prelude.{ℕ, suc, ◌+◌, ◌≤◌, ◌≡◌, ◌≢◌, ◌==◌, List, [], ◌∷◌, Vec, length, map, count_by, slice_get, Bool, true, false, Option, None, Some, All, AllPairs, Contains, if◌then◌else◌}
+use Rattle.std.specs.Prelude.{ℕ, suc, ◌≤◌, ◌≡◌, ◌≢◌, ◌==◌, List, [], ◌∷◌, Vec, length, map, count_by, slice_get, Bool, true, false, Option, None, Some, All, AllPairs, Contains, if◌then◌else◌}
 use Rattle.std.specs.declared.alloc.Global.{Global}
 use Rattle.xc_input.specs.declared.problem.Use.{Use}
 use Rattle.xc_input.specs.Problem.{Puzzle, option_count}
 use Rattle.xc_input.specs.Named.{Named, IsSound}
-use Rattle.xc_input.specs.Words.{place}
 use Rattle.xc_list.specs.Output.{bytes_at}
 use Rattle.xc_list.specs.Listed.{Word, word_of, below}
 use Rattle.xc_list.specs.Kinds.{kind_at, same_uses}
@@ -18,6 +17,9 @@ place_of i (u ∷ us) = if u.item == i then 0 else suc (place_of i us)
 pub record Spellings : Type 0 where
   pub names : List (List ℕ)
   pub colours : List (List ℕ)
+
+abbrev pub spellings : Named → Spellings
+spellings p = record { names = p.names; colours = p.colours }
 
 -- the word of a use
 abbrev pub spelled : Spellings → Use → Word

@@ -7,7 +7,7 @@ use std::alloc::AllocError;
 use xc_input::Use;
 
 /// The least item of uses.
-pub(crate) fn least_item(uses: &[Use]) -> u32
+fn least_item(uses: &[Use]) -> u32
     requires { 0 < length uses.now }
     ensures { result ≡ least_of uses.now }
 {
@@ -21,7 +21,7 @@ pub(crate) fn least_item(uses: &[Use]) -> u32
 }
 
 /// The place of the first use with the least item.
-pub(crate) fn least_place(uses: &[Use]) -> usize
+fn least_place(uses: &[Use]) -> usize
     requires { 0 < length uses.now }
     ensures within { result ≤ length uses.now }
     ensures place { result ≡ place_of (least_of uses.now) uses.now }

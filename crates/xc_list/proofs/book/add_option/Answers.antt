@@ -1,4 +1,4 @@
-use Rattle.std.proofs.Common.{ℕ, suc, ◌≡◌, ◌+◌, ◌<◌, ◌≤◌, ◌++◌, ◌∷◌, [], List, ◌∙◌, Some, sym, ap, subst, length, arith, refl}
+use Rattle.std.proofs.Common.{ℕ, suc, ◌≡◌, ◌+◌, ◌<◌, ◌≤◌, ◌++◌, ◌∷◌, [], List, ◌∙◌, Some, sym, ap, subst, length, arith}
 use Rattle.std.specs.Prelude.{Option, slice_get, slice_set, unwrap_or, Any}
 use Rattle.xc_input.specs.declared.problem.Use.{Use}
 use Rattle.xc_input.specs.Problem.{Puzzle, IsSoundOption, numbered_get, primary_count}

@@ -1,4 +1,4 @@
-use Rattle.std.proofs.Common.{suc, ◌≡◌, ◌+◌, ◌<◌, take, drop, arith, sym, ap, ◌∙◌, refl, true, add-one, Some, None, if◌then◌else◌}
+use Rattle.std.proofs.Common.{suc, ◌≡◌, ◌+◌, take, drop, arith, sym, ap, ◌∙◌, refl, true, add-one, Some, None, if◌then◌else◌}
 use Rattle.xc_input.specs.Words.{has, before, after}
 use Rattle.xc_input.proofs.TokenLemmas.{has-all, has-at, not_false, whole}
 use Rattle.xc_list.proofs.book.cut_colour.Goals as goal

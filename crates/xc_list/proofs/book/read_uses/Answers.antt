@@ -1,5 +1,3 @@
-use Rattle.std.proofs.Common.{subst}
-use Rattle.xc_list.specs.Books.{IsUseOfWord}
 use Rattle.xc_list.proofs.ReadingLemmas.{first_word, read-none}
 use Rattle.xc_list.proofs.book.read_uses.Goals as goal
 

@@ -1,4 +1,4 @@
-use Rattle.std.proofs.Common.{sym, ap, ap₂, ◌∙◌, nat_lt, take}
+use Rattle.std.proofs.Common.{sym, ap, ◌∙◌, nat_lt, take}
 use Rattle.std.specs.List.{list_any}
 use Rattle.std.specs.Str.{bytes_eq}
 use Rattle.xc_input.specs.Problem.{primary_count}

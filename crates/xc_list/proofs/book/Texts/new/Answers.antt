@@ -1,4 +1,4 @@
-use Rattle.std.proofs.Common.{arith, ◌≡◌, ◌+◌, ◌∙◌, ap, sym, take, ◌∷◌, ◌++◌, [], Some, None}
+use Rattle.std.proofs.Common.{arith, ◌≡◌, ◌+◌, ◌∙◌, ap, sym, ◌∷◌, ◌++◌, [], Some}
 use Rattle.std.specs.Prelude.{slice_get}
 use Rattle.xc_input.specs.Words.{place}
 use Rattle.xc_input.proofs.FlatParts.{numbered_get-at}
