@@ -79,6 +79,7 @@ impl Problem {
         ensures valid { IsValid self.now.puzzle }
         ensures limits { IsWithinLimits self.now.puzzle }
         ensures coloured { AreColoursKnown self.now.colours self.now.puzzle.options }
+        ensures few_colours { length self.now.colours ≤ 10000000 }
         ensures named { IsWellNamed self.now }
     {
         self.items.len() as u32

@@ -188,11 +188,6 @@ impl<'a> Book<'a> {
         ensures { IfOk result (λ b. b.problem ≡ problem.now) }
     {
         let _items = problem.items();
-        // No problem has so many, but its contracts don't say so.
-        let colours = problem.colours();
-        if 10_000_000 < colours {
-            return Err(AllocError);
-        }
         let texts = Texts::new(alloc, problem)?;
         let mut kinds = IndexSet::new(alloc);
         let mut members = Vec::new(alloc);

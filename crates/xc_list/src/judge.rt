@@ -145,7 +145,7 @@ impl<'a> Judge<'a> {
 
     /// The verdicts, once all lines are judged.
     fn finish(mut self) -> Result<Vec<Verdict>, AllocError>
-        ensures { IfOk result (λ vs. (all : List (List ℕ)) (done : ℕ) → IsProgress all done [] self → AreVerdicts self.book.problem all vs.items) }
+        ensures { IfOk result (λ vs. (all : List (List ℕ)) (done : ℕ) → IsProgress all done [] self.entry → AreVerdicts self.entry.book.problem all vs.items) }
     {
         self.close()?;
         Ok(self.verdicts)

@@ -42,8 +42,7 @@ pub fn cut_line(text: &[u8]) -> (&[u8], &[u8])
 
 /// The first word of a text whose words single spaces part, and what is left behind that space.
 pub fn cut_word(text: &[u8]) -> (&[u8], Option<&[u8]>)
-    ensures words { MatchOption result.1 (words_in text.now ≡ result.0.now ∷ []) (λ rest. words_in text.now ≡ result.0.now ∷ words_in rest.now) }
-    ensures shorter { IfSome result.1 (λ rest. length rest.now < length text.now) }
+    ensures { MatchOption result.1 (words_in text.now ≡ result.0.now ∷ []) (λ rest. (words_in text.now ≡ result.0.now ∷ words_in rest.now) × (length rest.now < length text.now)) }
 {
     match cut_first(text, b' ') {
         Some((word, rest)) => (word, Some(rest)),
