@@ -9,8 +9,8 @@ ghost use Rattle.xc_input.specs.Stored.{key_names};
 use crate::cut::{cut_at, next_token, place_of};
 use crate::draft::LineError;
 use crate::item_line::name_fault;
+use crate::names::NameSet;
 use crate::{FaultKind, Kind};
-use indexmap::IndexSet;
 use std::alloc::Global;
 
 /// A use as the line writes it: its item, and its colour, empty for none.
@@ -41,7 +41,7 @@ fn is_misfit(colour: &[u8]) -> bool
 /// The use of a token behind uses of the marked items, or its first fault.
 fn use_of<'a>(
     kind: Kind,
-    names: &IndexSet<Vec<u8>>,
+    names: &NameSet,
     primary: u32,
     marks: &[bool],
     token: &'a [u8],
@@ -81,7 +81,7 @@ fn use_of<'a>(
 pub fn option_line<'a>(
     alloc: Global,
     kind: Kind,
-    names: &IndexSet<Vec<u8>>,
+    names: &NameSet,
     primary: u32,
     marks: &mut [bool],
     line: &'a [u8],
