@@ -47,12 +47,11 @@ fn word_len(line: &[u8]) -> usize
     ensures value { result ≡ length (word line.now) }
     ensures within { result ≤ length line.now }
 {
-    for (i, b) in line.iter().enumerate() {
-        if is_white(*b) {
-            return i;
-        }
+    let mut n = 0;
+    while n < line.len() && !is_white(line[n]) {
+        n += 1;
     }
-    line.len()
+    n
 }
 
 /// The first token, and what is left behind it.

@@ -31,7 +31,8 @@ impl Hasher for NameHasher {
 
     #[inline(always)]
     fn finish(&self) -> u64 {
-        self.state.wrapping_mul(0x9e37_79b9_7f4a_7c15)
+        let product = u128::from(self.state) * 0x9e37_79b9_7f4a_7c15;
+        (product & 0xffff_ffff_ffff_ffff) as u64 ^ (product >> 64) as u64
     }
 
     #[inline(always)]
