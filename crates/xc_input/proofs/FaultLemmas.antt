@@ -118,12 +118,12 @@ pub judged-on : (T : Type 0) (a : Option FaultKind) (r : Result T LineError) →
 judged-on T a r e j = subst (λ f. Judged f r) (sym e) j
 
 -- one item more
-pub grown : (kind : Kind) (bar : Option ℕ) (sec : Bool) (token : List ℕ) → sec ≡ is_some bar → (keys keys' : List (List ℕ)) (items items' : List Item) (e : Entry) → e ≡ entry kind sec token → (keys ≡ names_of (map entry_of items)) × (length items ≤ most_items)
-    → keys' ≡ keys ++ e.name ∷ [] → length items < 100000 → map entry_of items' ≡ map entry_of items ++ e ∷ []
-    → ((keys' ≡ names_of (map entry_of items')) × (length items' ≤ most_items)) × (map entry_of items' ≡ map entry_of items ++ entry kind (is_some bar) token ∷ [])
-grown kind bar sec token s keys keys' items items' e is n k m all =
+pub grown : (kind : Kind) (bar : Option ℕ) (sec : Bool) (token : List ℕ) → sec ≡ is_some bar → (P : List (List ℕ) → Type 0) (keys keys' : List (List ℕ)) (items items' : List Item) (e : Entry) → e ≡ entry kind sec token → (keys ≡ names_of (map entry_of items)) × (length items ≤ most_items) × P keys
+    → P keys' → keys' ≡ keys ++ e.name ∷ [] → length items < 100000 → map entry_of items' ≡ map entry_of items ++ e ∷ []
+    → ((keys' ≡ names_of (map entry_of items')) × (length items' ≤ most_items) × P keys') × (map entry_of items' ≡ map entry_of items ++ entry kind (is_some bar) token ∷ [])
+grown kind bar sec token s P keys keys' items items' e is n p k m all =
     let l : length items' ≡ length items + 1 = sym (map-length entry_of items') ∙ ap length all ∙ grind (arith, common_steps, map-length entry_of items) in (
-      (k ∙ ap (λ ns. ns ++ e.name ∷ []) n.0 ∙ sym (names_of-snoc (map entry_of items) e) ∙ ap names_of (sym all), omega arith),
+      (k ∙ ap (λ ns. ns ++ e.name ∷ []) n.0 ∙ sym (names_of-snoc (map entry_of items) e) ∙ ap names_of (sym all), omega arith, p),
       all ∙ ap (λ d. map entry_of items ++ d ∷ []) (is ∙ ap (λ b. entry kind b token) s),
     )
 

@@ -4,6 +4,7 @@ pub mod SheetValidity
 pub mod TokenLemmas
 pub mod FaultLemmas
 pub mod OptionLemmas
+pub mod NameLemmas
 pub mod DraftLemmas
 pub mod ReadLemmas
 pub mod GrammarLemmas

@@ -1,5 +1,5 @@
 -- Marks at the items of a line.
-use Rattle.std.proofs.Common.{◌≡◌, ◌≢◌, ℕ, ◌+◌, ◌-◌, ◌<◌, ◌≤◌, List, [], ◌∷◌, ◌++◌, Bool, true, false, ◌||◌, nat_eq, length, map, get_or, set, take, drop, All, refl, ap, ◌∙◌, sym, subst, arith, length-set, Option, Some, position, Vec, Global}
+use Rattle.std.proofs.Common.{◌≡◌, ◌≢◌, ℕ, ◌+◌, ◌-◌, ◌<◌, ◌≤◌, List, [], ◌∷◌, ◌++◌, Bool, true, false, ◌||◌, nat_eq, length, map, get_or, set, take, drop, All, refl, ap, ◌∙◌, sym, subst, arith, length-set, Some, position, Vec, Global}
 use Rattle.std.proofs.lemmas.Bool.Decides.{nat_tests}
 use Rattle.std.proofs.lemmas.Grind.{get_or-set_at}
 use Rattle.std.proofs.lemmas.List.{get_or-set_other, length-map}
@@ -52,12 +52,11 @@ markable-more marks parts more p e all within =
 abbrev pub AreAmong : List Bool → List Part → Type 0
 AreAmong marks parts = (k : ℕ) → k < length marks → get_or marks k false ≡ true → list_any (λ i. nat_eq i (k + 1)) (items_of (map written_of parts)) ≡ true
 
--- the item at this place isn't marked
-pub not-marked : (marks : List Bool) (keys : List (Vec ℕ Global)) (name : List ℕ) (seen : List ℕ) (place : ℕ) (found : Option ℕ) → AreMarks marks seen → length marks ≡ length keys → found ≡ position (bytes_eq name) (key_names keys) → found ≡ Some place
-    → get_or marks place false ≡ false → false ≡ list_any (λ i. nat_eq i (place + 1)) seen
-not-marked marks keys name seen place found are count e f unmarked =
-    let within : place < length (key_names keys) = in-range (bytes_eq name) (key_names keys) place (sym e ∙ f) in
-    sym unmarked ∙ are place (omega (arith, within, count, length-map keys (λ (v : Vec ℕ Global). v.items)))
+-- the mark of the item at this place
+pub mark-at : (marks : List Bool) (keys : List (Vec ℕ Global)) (name : List ℕ) (seen : List ℕ) (place : ℕ) → AreMarks marks seen → length marks ≡ length keys → position (bytes_eq name) (key_names keys) ≡ Some place
+    → get_or marks place false ≡ list_any (λ i. nat_eq i (place + 1)) seen
+mark-at marks keys name seen place are count e =
+    let within : place < length (key_names keys) = in-range (bytes_eq name) (key_names keys) place e in are place (omega (arith, within, count, length-map keys (λ (v : Vec ℕ Global). v.items)))
 
 written : (new old : List Bool) → length new ≡ length old → take (length new) (new ++ drop (length new) old) ≡ new
 written [] old e = refl

@@ -1,5 +1,6 @@
 -- One token of an option line.
-use Rattle.std.proofs.Common.{◌≡◌, ℕ, ◌+◌, List, [], ◌∷◌, ◌++◌, Option, None, Some, Bool, true, false, ◌||◌, ◌&&◌, not, nat_lt, nat_eq, is_none, is_some, unwrap_or, map, refl, ap, ◌∙◌, sym, subst, if◌then◌else◌, MatchOption, Result, Ok, Err, append_assoc, is_ok, is_err}
+use Rattle.std.proofs.Common.{arith, ◌<◌, ◌≤◌, ◌≡◌, ℕ, ◌+◌, List, [], ◌∷◌, ◌++◌, Option, None, Some, Bool, true, false, ◌||◌, ◌&&◌, not, nat_lt, nat_eq, is_none, unwrap_or, map, refl, ap, ◌∙◌, sym, subst, if◌then◌else◌, MatchOption, Result, Ok, Err, append_assoc, is_ok, is_err}
+use Rattle.std.proofs.lemmas.Bool.Decides.{nat_tests}
 use Rattle.std.specs.List.{list_any}
 use Rattle.xc_input.specs.declared.Kind.{Kind}
 use Rattle.xc_input.specs.declared.FaultKind.{FaultKind}
@@ -9,7 +10,9 @@ use Rattle.xc_input.specs.Words.{has, before, after, place}
 use Rattle.xc_input.specs.Sheets.{Written}
 use Rattle.xc_input.specs.Faults.{first, is_plain, is_bad_colour, name_checks, token_checks, option_checks, item_number, written, all_written}
 use Rattle.xc_input.specs.Drafts.{written_of, items_of}
+use Rattle.xc_input.specs.Named.{IsName}
 use Rattle.xc_input.proofs.FaultLemmas.{first-front, first-back, map-snoc}
+use Rattle.xc_input.proofs.GrammarLemmas.{good-name}
 
 -- what follows the checks of the name, where the item is known by its place
 abbrev later : ℕ → List ℕ → Option ℕ → Bool → List ℕ → Option FaultKind
@@ -23,43 +26,66 @@ none-after b (x ∷ xs) e =
     let P : Bool → Type 0 = λ t. (t || has b xs) ≡ false → (if t then xs else after b xs) ≡ [] in
     let h : P (nat_eq x b) = (elim (nat_eq x b) as P [ true ↦ λ f. absurd (cc) | false ↦ λ f. none-after b xs f ]) in h e
 
+-- a check that holds hides the ones behind it
+first-known : {A : Type 0} (a : List (A × Bool)) (k : A) (cs : List (A × Bool)) → first (a ++ (k, true) ∷ cs) ≡ first (a ++ (k, true) ∷ [])
+first-known [] k cs = refl
+first-known (c ∷ a) k cs = ap (λ r. if c.1 then Some c.0 else r) (first-known a k cs)
+
 module _ (kind : Kind) (names : List (List ℕ)) (primary : ℕ) (seen : List ℕ) (token : List ℕ) where
-  abbrev tail : List ℕ → List (FaultKind × Bool)
-  tail name = (UnknownItem, is_none (place names name)) ∷
-      (RepeatedInOption, list_any (λ i. nat_eq i (item_number names name)) seen) ∷
+  abbrev others : List ℕ → List (FaultKind × Bool)
+  others name = (RepeatedInOption, list_any (λ i. nat_eq i (item_number names name)) seen) ∷
       (ColourOnPrimary, has 58 token && not (nat_lt primary (item_number names name))) ∷
       (BadColour, has 58 token && is_bad_colour (after 58 token)) ∷ []
 
-  module _ (b c : Bool) (e : b ≡ (is_plain kind && c)) (f : c ≡ has 58 token) (g : b ≡ false) (name : List ℕ) (is : name ≡ before 58 token) where
-    here : first (token_checks kind names primary seen token) ≡ first (name_checks name ++ tail name)
-    here = ap (λ t. if t then Some ColourNotHere else first (name_checks (before 58 token) ++ tail (before 58 token))) (ap (λ t. is_plain kind && t) (sym f) ∙ sym e ∙ g)
-        ∙ ap (λ n. first (name_checks n ++ tail n)) (sym is)
+  module _ (allowed : (is_plain kind && has 58 token) ≡ false) (name : List ℕ) (is : name ≡ before 58 token) where
+    here : first (token_checks kind names primary seen token) ≡ first (name_checks name ++ (UnknownItem, is_none (place names name)) ∷ others name)
+    here = ap (λ t. if t then Some ColourNotHere else first (name_checks (before 58 token) ++ (UnknownItem, is_none (place names (before 58 token))) ∷ others (before 58 token))) allowed
+        ∙ ap (λ n. first (name_checks n ++ (UnknownItem, is_none (place names n)) ∷ others n)) (sym is)
 
-    module _ (o : Option FaultKind) (h : o ≡ first (name_checks name)) (i : o ≡ None) (at : Option ℕ) (j : at ≡ place names name) where
-      named : first (token_checks kind names primary seen token) ≡ later primary seen at (has 58 token) (after 58 token)
-      named = here ∙ first-back (name_checks name) (tail name) (sym h ∙ i) ∙ ap (λ p. later primary seen p (has 58 token) (after 58 token)) (sym j)
+    -- no item has the name
+    pub unknown : (fault : FaultKind) → place names name ≡ None → first (name_checks name ++ (UnknownItem, true) ∷ []) ≡ Some fault → first (token_checks kind names primary seen token) ≡ Some fault
+    unknown fault e f = here ∙ ap (λ p. first (name_checks name ++ (UnknownItem, is_none p) ∷ others name)) e ∙ first-known (name_checks name) UnknownItem (others name) ∙ f
 
-      module _ (k : ℕ) (l : at ≡ Some k) (t : Bool) (m : t ≡ list_any (λ i. nat_eq i (k + 1)) seen) where
-        known : first (token_checks kind names primary seen token) ≡ (if t then Some RepeatedInOption else (if has 58 token && not (nat_lt primary (k + 1)) then Some ColourOnPrimary else (if has 58 token && is_bad_colour (after 58 token) then Some BadColour else None)))
-        known = named ∙ ap (λ p. later primary seen p (has 58 token) (after 58 token)) l
-            ∙ ap (λ t. if t then Some RepeatedInOption else (if has 58 token && not (nat_lt primary (k + 1)) then Some ColourOnPrimary else (if has 58 token && is_bad_colour (after 58 token) then Some BadColour else None))) (sym m)
+    -- the item at place k has it, and is marked or not
+    module _ (good : IsName name) (k : ℕ) (at : place names name ≡ Some k) (marked : Bool) (m : marked ≡ list_any (λ i. nat_eq i (k + 1)) seen) where
+      known : first (token_checks kind names primary seen token)
+          ≡ (if marked then Some RepeatedInOption else (if has 58 token && not (nat_lt primary (k + 1)) then Some ColourOnPrimary else (if has 58 token && is_bad_colour (after 58 token) then Some BadColour else None)))
+      known = here ∙ first-back (name_checks name) ((UnknownItem, is_none (place names name)) ∷ others name) (good-name name good) ∙ ap (λ p. later primary seen p (has 58 token) (after 58 token)) at
+          ∙ ap (λ t. if t then Some RepeatedInOption else (if has 58 token && not (nat_lt primary (k + 1)) then Some ColourOnPrimary else (if has 58 token && is_bad_colour (after 58 token) then Some BadColour else None))) (sym m)
 
-        module _ (n : t ≡ false) where
-          once : first (token_checks kind names primary seen token) ≡ (if has 58 token && not (nat_lt primary (k + 1)) then Some ColourOnPrimary else (if has 58 token && is_bad_colour (after 58 token) then Some BadColour else None))
-          once = known ∙ ap (λ t. if t then Some RepeatedInOption else (if has 58 token && not (nat_lt primary (k + 1)) then Some ColourOnPrimary else (if has 58 token && is_bad_colour (after 58 token) then Some BadColour else None))) n
+      pub repeated : marked ≡ true → first (token_checks kind names primary seen token) ≡ Some RepeatedInOption
+      repeated e = known ∙ ap (λ t. if t then Some RepeatedInOption else (if has 58 token && not (nat_lt primary (k + 1)) then Some ColourOnPrimary else (if has 58 token && is_bad_colour (after 58 token) then Some BadColour else None))) e
 
-          item-is : item_number names (before 58 token) ≡ k + 1
-          item-is = ap (λ x. item_number names x) (sym is) ∙ ap (λ p. unwrap_or p 0 + 1) (sym j ∙ l)
+      module _ (n : marked ≡ false) where
+        once : first (token_checks kind names primary seen token) ≡ (if has 58 token && not (nat_lt primary (k + 1)) then Some ColourOnPrimary else (if has 58 token && is_bad_colour (after 58 token) then Some BadColour else None))
+        once = known ∙ ap (λ t. if t then Some RepeatedInOption else (if has 58 token && not (nat_lt primary (k + 1)) then Some ColourOnPrimary else (if has 58 token && is_bad_colour (after 58 token) then Some BadColour else None))) n
 
-          pub bare : has 58 token ≡ false → (first (token_checks kind names primary seen token) ≡ None) × (record { item = k + 1; colour = [] } ≡ written names token)
-          bare q = (
-            once ∙ ap (λ c. if c && not (nat_lt primary (k + 1)) then Some ColourOnPrimary else (if c && is_bad_colour (after 58 token) then Some BadColour else None)) q,
-            λ x. record { item = sym item-is x; colour = sym (none-after 58 token q) x },
-          )
+        item-is : item_number names (before 58 token) ≡ k + 1
+        item-is = ap (λ x. item_number names x) (sym is) ∙ ap (λ p. unwrap_or p 0 + 1) at
 
-pub is-has : {A : Type 0} (o : Option A) (h : Bool) (P : A → Type 0) → MatchOption o (h ≡ false) (λ x. (h ≡ true) × P x) → is_some o ≡ h
-is-has None h P m = sym m
-is-has (Some x) h P m = sym m.0
+        pub bare : has 58 token ≡ false → (first (token_checks kind names primary seen token) ≡ None) × (record { item = k + 1; colour = [] } ≡ written names token)
+        bare q = (
+          once ∙ ap (λ c. if c && not (nat_lt primary (k + 1)) then Some ColourOnPrimary else (if c && is_bad_colour (after 58 token) then Some BadColour else None)) q,
+          λ x. record { item = sym item-is x; colour = sym (none-after 58 token q) x },
+        )
+
+        module _ (q : has 58 token ≡ true) (colour : List ℕ) (c : colour ≡ after 58 token) where
+          judged : first (token_checks kind names primary seen token) ≡ (if not (nat_lt primary (k + 1)) then Some ColourOnPrimary else (if is_bad_colour colour then Some BadColour else None))
+          judged = once ∙ ap (λ t. if t && not (nat_lt primary (k + 1)) then Some ColourOnPrimary else (if t && is_bad_colour (after 58 token) then Some BadColour else None)) q
+              ∙ ap (λ xs. if not (nat_lt primary (k + 1)) then Some ColourOnPrimary else (if is_bad_colour xs then Some BadColour else None)) (sym c)
+
+          pub on-primary : k + 1 ≤ primary → first (token_checks kind names primary seen token) ≡ Some ColourOnPrimary
+          on-primary h = judged ∙ (let z : nat_lt primary (k + 1) ≡ false = grind (arith, nat_tests) in ap (λ t. if not t then Some ColourOnPrimary else (if is_bad_colour colour then Some BadColour else None)) z)
+
+          module _ (h : primary < k + 1) where
+            on-secondary : first (token_checks kind names primary seen token) ≡ (if is_bad_colour colour then Some BadColour else None)
+            on-secondary = judged ∙ (let z : nat_lt primary (k + 1) ≡ true = grind (arith, nat_tests) in ap (λ t. if not t then Some ColourOnPrimary else (if is_bad_colour colour then Some BadColour else None)) z)
+
+            pub misfit : is_bad_colour colour ≡ true → first (token_checks kind names primary seen token) ≡ Some BadColour
+            misfit e = on-secondary ∙ ap (λ t. if t then Some BadColour else None) e
+
+            pub coloured : is_bad_colour colour ≡ false → (first (token_checks kind names primary seen token) ≡ None) × (record { item = k + 1; colour = colour } ≡ written names token)
+            coloured e = (on-secondary ∙ ap (λ t. if t then Some BadColour else None) e, λ x. record { item = sym item-is x; colour = c x })
 
 -- a step of the loop over the tokens
 pub token-stop : (kind : Kind) (names : List (List ℕ)) (primary : ℕ) (seen token : List ℕ) (line others : List (List ℕ)) (a : Option FaultKind) (k : FaultKind) → a ≡ first (option_checks kind names primary seen line) → line ≡ token ∷ others
@@ -85,3 +111,6 @@ pushed (Err y) old new x e f = absurd (cc)
 
 pub at-none : {A : Type 0} (o : Option A) (N : Type 0) (P : A → Type 0) → o ≡ None → MatchOption o N P → N
 at-none o N P e m = subst (λ q. MatchOption q N P) e m
+
+pub at-some : {A : Type 0} (o : Option A) (x : A) (N : Type 0) (P : A → Type 0) → o ≡ Some x → MatchOption o N P → P x
+at-some o x N P e m = subst (λ q. MatchOption q N P) e m

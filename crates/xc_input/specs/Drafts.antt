@@ -1,5 +1,5 @@
 -- What the parts of the reader hold, in the words of the grammar.
-use Rattle.std.specs.Prelude.{◌≡◌, ℕ, ◌+◌, ◌<◌, ◌≤◌, Bool, false, nat_eq, List, [], ◌∷◌, Option, None, Some, Result, Ok, Err, map, length, get_or}
+use Rattle.std.specs.Prelude.{◌≡◌, ℕ, ◌+◌, ◌<◌, ◌≤◌, Bool, false, nat_eq, List, [], ◌∷◌, Option, None, Some, Result, Ok, Err, All, map, length, get_or}
 use Rattle.std.specs.List.{list_any}
 use Rattle.xc_input.specs.declared.problem.Item.{Item}
 use Rattle.xc_input.specs.declared.FaultKind.{FaultKind}
@@ -8,6 +8,7 @@ use Rattle.xc_input.specs.declared.draft.LineError.{LineError}
 use Rattle.xc_input.specs.declared.draft.LineError.TheVariants.{Fault, Memory}
 use Rattle.xc_input.specs.declared.option_line.Part.{Part}
 use Rattle.xc_input.specs.declared.draft.Draft.{Draft}
+use Rattle.xc_input.specs.Named.{IsName}
 use Rattle.xc_input.specs.Flat.{pieces, AreStarts}
 use Rattle.xc_input.specs.Stored.{key_names}
 use Rattle.xc_input.specs.Stages.{Stage}
@@ -28,7 +29,7 @@ row_of_items i = record { entries = map entry_of i.items.items; bar = i.bar }
 
 -- the table of names has the names of the items
 abbrev pub IsItemTable : Items → Type 0
-IsItemTable i = (key_names i.names.keys ≡ names_of (map entry_of i.items.items)) × (length i.items.items ≤ most_items)
+IsItemTable i = (key_names i.names.keys ≡ names_of (map entry_of i.items.items)) × (length i.items.items ≤ most_items) × All IsName (key_names i.names.keys)
 
 abbrev pub written_of : Part → Written
 written_of p = record { item = p.item; colour = p.colour.now }
@@ -54,6 +55,7 @@ stage_of_draft d = record { started = d.started; sheet = sheet_of_draft d; ignor
 -- the tables of a draft agree
 pub record IsDraft (d : Draft) : Type 0 where
   pub names : key_names d.names.keys ≡ names_of (map entry_of d.items.items)
+  pub named : All IsName (key_names d.names.keys)
   pub few_items : length d.items.items ≤ most_items
   pub ends : AreStarts (0 ∷ d.ends.items) (length d.uses.items)
   pub few_uses : length d.uses.items ≤ most_uses

@@ -16,3 +16,4 @@ pub mod Feeding
 pub mod Inputs
 pub mod Law
 pub mod Worked
+pub mod Hashing

@@ -6,8 +6,8 @@ ghost use Rattle.xc_input.specs.Words.{has, before, after, place, is_number, num
 ghost use Rattle.xc_input.specs.Drafts.{Judged};
 
 use crate::draft::LineError;
+use crate::names::NameSet;
 use bstr::ByteSlice;
-use indexmap::IndexSet;
 use std::alloc::Global;
 
 /// Whether a byte is white space.
@@ -47,12 +47,11 @@ fn word_len(line: &[u8]) -> usize
     ensures value { result ≡ length (word line.now) }
     ensures within { result ≤ length line.now }
 {
-    for (i, b) in line.iter().enumerate() {
-        if is_white(*b) {
-            return i;
-        }
+    let mut n = 0;
+    while n < line.len() && !is_white(line[n]) {
+        n += 1;
     }
-    line.len()
+    n
 }
 
 /// The first token, and what is left behind it.
@@ -80,6 +79,13 @@ pub fn next_part(line: &[u8]) -> Option<(&[u8], &[u8])>
     Some(rest.split_at(word_len(rest)))
 }
 
+/// Whether a byte stands in a list.
+pub fn has_byte(bytes: &[u8], byte: u8) -> bool
+    ensures { result ≡ has byte bytes.now }
+{
+    bytes.find_byte(byte).is_some()
+}
+
 /// What stands before and behind the first such byte: all and nothing where there is none.
 pub fn cut_at(bytes: &[u8], byte: u8) -> (&[u8], Option<&[u8]>)
     ensures front { result.0.now ≡ before byte bytes.now }
@@ -92,18 +98,14 @@ pub fn cut_at(bytes: &[u8], byte: u8) -> (&[u8], Option<&[u8]>)
 }
 
 /// The place of a name, from 0.
-pub fn place_of(names: &IndexSet<Vec<u8>>, name: &[u8]) -> Option<usize>
+pub fn place_of(names: &NameSet, name: &[u8]) -> Option<usize>
     ensures { result ≡ place (map (λ v. v.items) names.now.keys) name.now }
 {
     names.get_index_of(name)
 }
 
 /// Adds a new name, and gives its place.
-pub fn add_name(
-    alloc: Global,
-    names: &mut IndexSet<Vec<u8>>,
-    name: &[u8],
-) -> Result<usize, LineError>
+pub fn add_name(alloc: Global, names: &mut NameSet, name: &[u8]) -> Result<usize, LineError>
     requires { place (map (λ v. v.items) names.old.keys) name.now ≡ None }
     ensures judged { Judged None result }
     ensures added { OnOk result (map (λ v. v.items) names.new.keys ≡ map (λ v. v.items) names.old.keys ++ name.now ∷ []) }

@@ -8,12 +8,12 @@ ghost use Rattle.xc_input.specs.Stages.{line_checks, content_checks, with_line, 
 ghost use Rattle.xc_input.specs.Drafts.{Judged, IsDraft, AreMarks, stage_of_draft, sheet_of_draft, written_of};
 ghost use Rattle.xc_input.specs.Stored.{key_names};
 
-use crate::cut::{add_name, is_skipped_line, place_of};
+use crate::cut::{add_name, has_byte, is_skipped_line, place_of};
 use crate::item_line::{Items, item_line};
+use crate::names::{NameSet, no_names};
 use crate::option_line::{Part, option_line};
 use crate::problem::{Item, Use};
 use crate::{FaultKind, Kind};
-use indexmap::IndexSet;
 use std::alloc::{AllocError, Global};
 
 /// Why a line wasn't taken.
@@ -27,11 +27,11 @@ pub enum LineError {
 #[derive(Drop)]
 pub struct Draft {
     pub started: bool,
-    pub names: IndexSet<Vec<u8>>,
+    pub names: NameSet,
     pub items: Vec<Item>,
     pub primary: u32,
     pub marks: Vec<bool>,
-    pub colours: IndexSet<Vec<u8>>,
+    pub colours: NameSet,
     pub uses: Vec<Use>,
     pub ends: Vec<u32>,
     pub ignored: Vec<u64>,
@@ -44,11 +44,11 @@ impl Draft {
     {
         Draft {
             started: false,
-            names: IndexSet::new(alloc),
+            names: no_names(alloc),
             items: Vec::new(alloc),
             primary: 0,
             marks: Vec::new(alloc),
-            colours: IndexSet::new(alloc),
+            colours: no_names(alloc),
             uses: Vec::new(alloc),
             ends: Vec::new(alloc),
             ignored: Vec::new(alloc),
@@ -67,7 +67,7 @@ impl Draft {
         ensures judged { Judged (first (line_checks kind (stage_of_draft self.old) line.now)) result }
         ensures taken { OnOk result (IsDraft self.new × (stage_of_draft self.new ≡ with_line kind count (stage_of_draft self.old) line.now)) }
     {
-        if line.contains(&0) {
+        if has_byte(line, 0) {
             return Err(LineError::Fault(FaultKind::NulByte));
         }
         if is_skipped_line(line) {
@@ -157,11 +157,7 @@ fn has_primary_part(parts: &[Part], primary: u32) -> bool
 }
 
 /// The number of a colour, which is a new one where it wasn't met yet.
-fn number_colour(
-    alloc: Global,
-    colours: &mut IndexSet<Vec<u8>>,
-    colour: &[u8],
-) -> Result<u32, LineError>
+fn number_colour(alloc: Global, colours: &mut NameSet, colour: &[u8]) -> Result<u32, LineError>
     requires { length (key_names colours.old.keys) < most_uses }
     ensures judged { Judged None result }
     ensures colours { OnOk result (key_names colours.new.keys ≡ with_colour (key_names colours.old.keys) colour.now) }
@@ -180,7 +176,7 @@ fn number_colour(
 /// Adds the uses of an option that is kept.
 fn add_uses(
     alloc: Global,
-    colours: &mut IndexSet<Vec<u8>>,
+    colours: &mut NameSet,
     uses: &mut Vec<Use>,
     parts: &[Part],
 ) -> Result<(), LineError>

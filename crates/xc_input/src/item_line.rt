@@ -9,15 +9,15 @@ ghost use Rattle.xc_input.specs.Drafts.{Judged, IsItemTable, row_of_items, entry
 
 use crate::cut::{add_name, cut_at, next_part, number_of, place_of};
 use crate::draft::LineError;
+use crate::names::{NameSet, no_names};
 use crate::problem::Item;
 use crate::{FaultKind, Kind};
-use indexmap::IndexSet;
 use std::alloc::Global;
 
 /// The items of a line, and how many stand before its bar.
 #[derive(Drop)]
 pub struct Items {
-    pub names: IndexSet<Vec<u8>>,
+    pub names: NameSet,
     pub items: Vec<Item>,
     pub bar: Option<u32>,
 }
@@ -181,7 +181,7 @@ pub fn item_line(alloc: Global, kind: Kind, line: &[u8]) -> Result<Items, LineEr
     ensures row { IfOk result (λ i. IsItemTable i × (row_of_items i ≡ row_of kind no_row (parts line.now))) }
 {
     let mut items = Items {
-        names: IndexSet::new(alloc),
+        names: no_names(alloc),
         items: Vec::new(alloc),
         bar: None,
     };

@@ -6,6 +6,7 @@ mod draft;
 mod given;
 mod item_line;
 pub mod law;
+mod names;
 mod option_line;
 mod problem;
 mod read;

@@ -1,16 +1,19 @@
 //! Reads an option line.
 
-ghost use Rattle.std.specs.Prelude.{◌≡◌, ◌≤◌, [], None, Some, ◌&&◌, IfOk, OnOk, MatchResult, length, map, ℕ, List, All};
+ghost use Rattle.std.specs.Prelude.{◌≡◌, ◌≤◌, [], ◌∷◌, ◌++◌, true, None, Some, IfOk, OnOk, MatchResult, length, map, ℕ, List, All};
 ghost use Rattle.xc_input.specs.Tokens.{tokens};
-ghost use Rattle.xc_input.specs.Faults.{first, is_plain, is_bad_colour, token_checks, option_checks, written, all_written, most_items};
+ghost use Rattle.xc_input.specs.Faults.{first, is_plain, is_bad_colour, name_checks, token_checks, option_checks, written, all_written, most_items};
+ghost use Rattle.xc_input.specs.declared.FaultKind.TheVariants.{UnknownItem};
+ghost use Rattle.xc_input.specs.Words.{place};
+ghost use Rattle.xc_input.specs.Named.{IsName};
 ghost use Rattle.xc_input.specs.Drafts.{Judged, written_of, items_of, AreMarks, IsMarkable};
 ghost use Rattle.xc_input.specs.Stored.{key_names};
 
 use crate::cut::{cut_at, next_token, place_of};
 use crate::draft::LineError;
 use crate::item_line::name_fault;
+use crate::names::NameSet;
 use crate::{FaultKind, Kind};
-use indexmap::IndexSet;
 use std::alloc::Global;
 
 /// A use as the line writes it: its item, and its colour, empty for none.
@@ -20,12 +23,12 @@ pub struct Part<'a> {
     pub colour: &'a [u8],
 }
 
-/// Whether a token has a colour where none may stand.
-fn is_refused(kind: Kind, coloured: bool) -> bool
-    ensures { result ≡ (is_plain kind && coloured) }
+/// Whether no use may have a colour.
+fn lacks_colours(kind: Kind) -> bool
+    ensures { result ≡ is_plain kind }
 {
     match kind {
-        Kind::Plain => coloured,
+        Kind::Plain => true,
         Kind::Colours => false,
         Kind::Bounds => false,
     }
@@ -38,36 +41,67 @@ fn is_misfit(colour: &[u8]) -> bool
     colour.is_empty() || colour.len() > 8
 }
 
+/// The first fault of a name that no item has.
+fn fault_of_unknown(name: &[u8]) -> FaultKind
+    ensures { first (name_checks name.now ++ (UnknownItem, true) ∷ []) ≡ Some result }
+{
+    name_fault(name).unwrap_or(FaultKind::UnknownItem)
+}
+
 /// The use of a token behind uses of the marked items, or its first fault.
 fn use_of<'a>(
     kind: Kind,
-    names: &IndexSet<Vec<u8>>,
+    names: &NameSet,
     primary: u32,
     marks: &[bool],
     token: &'a [u8],
 ) -> Result<Part<'a>, FaultKind>
     requires few { length names.now.keys ≤ most_items }
+    requires named { All IsName (key_names names.now.keys) }
     requires marks { length marks.now ≡ length names.now.keys }
     ensures judged { (seen : List ℕ) → AreMarks marks.now seen → MatchResult result (λ p. (first (token_checks kind (key_names names.now.keys) primary seen token.now) ≡ None) × (written_of p ≡ written (key_names names.now.keys) token.now)) (λ fault. first (token_checks kind (key_names names.now.keys) primary seen token.now) ≡ Some fault) }
     ensures within { IfOk result (λ p. IsMarkable (length marks.now) p) }
 {
+    // A name has no colon, so a token that is a name has no colour.
+    match place_of(names, token) {
+        Some(place) if marks[place] => Err(FaultKind::RepeatedInOption),
+        Some(place) => Ok(Part {
+            item: place as u32 + 1,
+            colour: b"",
+        }),
+        None => coloured_use(kind, names, primary, marks, token),
+    }
+}
+
+/// The same of a token that is no name: it may be a name and a colour.
+fn coloured_use<'a>(
+    kind: Kind,
+    names: &NameSet,
+    primary: u32,
+    marks: &[bool],
+    token: &'a [u8],
+) -> Result<Part<'a>, FaultKind>
+    requires few { length names.now.keys ≤ most_items }
+    requires named { All IsName (key_names names.now.keys) }
+    requires marks { length marks.now ≡ length names.now.keys }
+    requires unknown { place (key_names names.now.keys) token.now ≡ None }
+    ensures judged { (seen : List ℕ) → AreMarks marks.now seen → MatchResult result (λ p. (first (token_checks kind (key_names names.now.keys) primary seen token.now) ≡ None) × (written_of p ≡ written (key_names names.now.keys) token.now)) (λ fault. first (token_checks kind (key_names names.now.keys) primary seen token.now) ≡ Some fault) }
+    ensures within { IfOk result (λ p. IsMarkable (length marks.now) p) }
+{
     let (name, colour) = cut_at(token, b':');
-    if is_refused(kind, colour.is_some()) {
+    let Some(colour) = colour else {
+        return Err(fault_of_unknown(token));
+    };
+    if lacks_colours(kind) {
         return Err(FaultKind::ColourNotHere);
     }
-    if let Some(fault) = name_fault(name) {
-        return Err(fault);
-    }
     let Some(place) = place_of(names, name) else {
-        return Err(FaultKind::UnknownItem);
+        return Err(fault_of_unknown(name));
     };
     if marks[place] {
         return Err(FaultKind::RepeatedInOption);
     }
     let item = place as u32 + 1;
-    let Some(colour) = colour else {
-        return Ok(Part { item, colour: b"" });
-    };
     if item <= primary {
         return Err(FaultKind::ColourOnPrimary);
     }
@@ -81,19 +115,22 @@ fn use_of<'a>(
 pub fn option_line<'a>(
     alloc: Global,
     kind: Kind,
-    names: &IndexSet<Vec<u8>>,
+    names: &NameSet,
     primary: u32,
     marks: &mut [bool],
     line: &'a [u8],
 ) -> Result<Vec<Part<'a>>, LineError>
     requires few { length names.now.keys ≤ most_items }
+    requires named { All IsName (key_names names.now.keys) }
     requires marks { length marks.old ≡ length names.now.keys }
     requires unmarked { AreMarks marks.old [] }
     ensures judged { Judged (first (option_checks kind (key_names names.now.keys) primary [] (tokens line.now))) result }
     ensures uses { IfOk result (λ v. map written_of v.items ≡ all_written (key_names names.now.keys) (tokens line.now)) }
     ensures unmarked { OnOk result (AreMarks marks.new []) }
 {
-    let mut parts = Vec::new(alloc);
+    let Ok(mut parts) = Vec::with_capacity(alloc, line.len() / 4) else {
+        return Err(LineError::Memory);
+    };
     let mut rest = line;
     while let Some((token, others)) = next_token(rest) {
         let part = match use_of(kind, names, primary, marks, token) {

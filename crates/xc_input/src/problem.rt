@@ -6,7 +6,7 @@ ghost use Rattle.xc_input.specs.Flat.{bounds_of, pieces, AreStarts};
 ghost use Rattle.xc_input.specs.Named.{Named, AreColoursKnown, IsKnownUse, IsWellNamed, IsSound};
 ghost use Rattle.xc_input.specs.Stored.{named_from};
 
-use indexmap::IndexSet;
+use crate::names::NameSet;
 use std::marker::Model;
 
 /// An item: its name, and how many options of a cover hold it.
@@ -31,7 +31,7 @@ pub struct Problem {
     primary: u32,
     uses: Vec<Use>,
     ends: Vec<u32>,
-    colours: IndexSet<Vec<u8>>,
+    colours: NameSet,
 }
 
 impl Model for Problem {
@@ -57,7 +57,7 @@ impl Problem {
         primary: u32,
         uses: Vec<Use>,
         ends: Vec<u32>,
-        colours: IndexSet<Vec<u8>>,
+        colours: NameSet,
     ) -> Problem
         requires primary { primary ≤ length items.items }
         requires starts { AreStarts (0 ∷ ends.items) (length uses.items) }

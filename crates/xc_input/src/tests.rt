@@ -191,6 +191,21 @@ fn bars_and_bounds(rt: HostRuntime) {
 }
 
 #[test]
+fn longest_names(rt: HostRuntime) {
+    let name = b"12345678901234567890123456789012";
+    let text = b"A 12345678901234567890123456789012\nA 12345678901234567890123456789012";
+    for step in [1, 65536] {
+        let Ok(read) = read(rt.alloc(), Kind::Plain, text, step) else {
+            return assert!(rt; false);
+        };
+        assert!(rt; has_item(&read.problem, 2, name, 1, 1));
+        assert!(rt; has_option(&read.problem, 1, &[(1, 0), (2, 0)]));
+    }
+    let longer = b"A 12345678901234567890123456789012\nA 123456789012345678901234567890123";
+    assert!(rt; has_fault(rt.alloc(), Kind::Plain, longer, 2, FaultKind::NameTooLong));
+}
+
+#[test]
 fn no_more_items(rt: HostRuntime) {
     let Ok(mut line) = String::with_capacity(rt.alloc(), 700_000) else {
         return assert!(rt; false);

@@ -13,12 +13,12 @@ returns-in-Err-clause-judged c =
 
 pub loop-token-preserved : goal.loop-token-preserved
 loop-token-preserved c =
-    let more = pushed c.push.result c.loop-token.parts.items c.push.new.self.items c.in-Ok.part (sym c.is_err.ensures.value ∙ c.if-is_err.false) c.push.ensures.items in
-    let step = token-step c.args.kind (key_names c.args.names.now.keys) c.args.primary c.loop-token.parts.items c.push.new.self.items c.in-Some.token.now (tokens c.loop-token.rest.now) (tokens c.in-Some.others.now) _ _ c.in-Ok.part c.loop-token.invariant.0 c.loop-token.invariant.1 c.in-Some.ensures.0
-    (c.in-Ok.ensures.judged (items_of (map written_of c.loop-token.parts.items)) c.loop-token.invariant.3) more in (
+    let more = pushed c.push.result c.loop-token.parts.items c.push.new.self.items c.in-Ok-use_of.part (sym c.is_err.ensures.value ∙ c.if-is_err.false) c.push.ensures.items in
+    let step = token-step c.args.kind (key_names c.args.names.now.keys) c.args.primary c.loop-token.parts.items c.push.new.self.items c.in-Some.token.now (tokens c.loop-token.rest.now) (tokens c.in-Some.others.now) _ _ c.in-Ok-use_of.part c.loop-token.invariant.0 c.loop-token.invariant.1 c.in-Some.ensures.0
+    (c.in-Ok-use_of.ensures.judged (items_of (map written_of c.loop-token.parts.items)) c.loop-token.invariant.3) more in (
       step.0,
       step.1,
-      length-set c.loop-token.marks (c.in-Ok.part.item - 1) true ∙ c.loop-token.invariant.2,
-      mark-more c.loop-token.marks c.loop-token.parts.items c.push.new.self.items c.in-Ok.part more c.loop-token.invariant.3 c.in-Ok.ensures.within,
-      markable-more c.loop-token.marks c.loop-token.parts.items c.push.new.self.items c.in-Ok.part more c.loop-token.invariant.4 c.in-Ok.ensures.within,
+      length-set c.loop-token.marks (c.in-Ok-use_of.part.item - 1) true ∙ c.loop-token.invariant.2,
+      mark-more c.loop-token.marks c.loop-token.parts.items c.push.new.self.items c.in-Ok-use_of.part more c.loop-token.invariant.3 c.in-Ok-use_of.ensures.within,
+      markable-more c.loop-token.marks c.loop-token.parts.items c.push.new.self.items c.in-Ok-use_of.part more c.loop-token.invariant.4 c.in-Ok-use_of.ensures.within,
     )

@@ -1,13 +1,22 @@
-use Rattle.std.proofs.Common.{◌∙◌, refl, false}
+use Rattle.std.proofs.Common.{◌∙◌, ◌&&◌, sym, ap}
+use Rattle.xc_input.specs.Faults.{is_plain}
 use Rattle.xc_input.specs.Stored.{key_names}
-use Rattle.xc_input.proofs.OptionLemmas.{bare, is-has, at-none}
-use Rattle.xc_input.proofs.MarkLemmas.{not-marked}
+use Rattle.xc_input.proofs.GrammarLemmas.{no-cut, and-false}
+use Rattle.xc_input.proofs.NameLemmas.{stored-name}
+use Rattle.xc_input.proofs.OptionLemmas.{repeated, bare}
+use Rattle.xc_input.proofs.MarkLemmas.{mark-at}
 use Rattle.xc_input.proofs.option_line.use_of.Goals as goal
 
-pub returns-in_default-colour-clause-judged : goal.returns-in_default-colour-clause-judged
-returns-in_default-colour-clause-judged c = λ seen are.
-    bare c.args.kind (key_names c.args.names.now.keys) c.args.primary seen c.args.token.now
-    c.is_refused.result c.is_some.result c.is_refused.ensures (c.is_some.ensures ∙ is-has c.cut_at.result.1 _ _ c.cut_at.ensures.back) c.if-is_refused.false c.cut_at.result.0.now c.cut_at.ensures.front
-    c.name_fault.result c.name_fault.ensures c.in_default.is c.place_of.result c.place_of.ensures c.in-Some-place_of.place c.in-Some-place_of.is
-    false (not-marked c.args.marks.now c.args.names.now.keys c.cut_at.result.0.now seen c.in-Some-place_of.place c.place_of.result are c.requires.marks c.place_of.ensures c.in-Some-place_of.is c.if-marks-place.false) refl
-    (at-none c.cut_at.result.1 _ _ c.in_default-colour.is c.cut_at.ensures.back)
+pub returns-in-Some-clause-judged : goal.returns-in-Some-clause-judged
+returns-in-Some-clause-judged c = λ seen are.
+    let at = sym c.place_of.ensures ∙ c.in-Some.is in
+    let good = stored-name (key_names c.args.names.now.keys) c.args.token.now c.in-Some.place c.requires.named at in
+    repeated c.args.kind (key_names c.args.names.now.keys) c.args.primary seen c.args.token.now (ap (λ h. is_plain c.args.kind && h) good.no_colon ∙ and-false (is_plain c.args.kind)) c.args.token.now (sym (no-cut 58 c.args.token.now good.no_colon))
+    good c.in-Some.place at _ (mark-at c.args.marks.now c.args.names.now.keys c.args.token.now seen c.in-Some.place are c.requires.marks at) c.if-marks-place.true
+
+pub returns-in-Some-2-clause-judged : goal.returns-in-Some-2-clause-judged
+returns-in-Some-2-clause-judged c = λ seen are.
+    let at = sym c.place_of.ensures ∙ c.in-Some.is in
+    let good = stored-name (key_names c.args.names.now.keys) c.args.token.now c.in-Some.place c.requires.named at in
+    bare c.args.kind (key_names c.args.names.now.keys) c.args.primary seen c.args.token.now (ap (λ h. is_plain c.args.kind && h) good.no_colon ∙ and-false (is_plain c.args.kind)) c.args.token.now (sym (no-cut 58 c.args.token.now good.no_colon))
+    good c.in-Some.place at _ (mark-at c.args.marks.now c.args.names.now.keys c.args.token.now seen c.in-Some.place are c.requires.marks at) c.if-marks-place.false good.no_colon

@@ -1,6 +1,8 @@
-use Rattle.std.proofs.Common.{subst, ◌<◌, refl, ◌∙◌, map}
+use Rattle.std.proofs.Common.{All, subst, ◌<◌, refl, ◌∙◌, map}
 use Rattle.xc_input.specs.Drafts.{entry_of}
+use Rattle.xc_input.specs.Named.{IsName}
 use Rattle.xc_input.specs.Stored.{key_names}
+use Rattle.xc_input.proofs.NameLemmas.{names-more}
 use Rattle.xc_input.proofs.FaultLemmas.{bad-bound, bad-name, too-many, no-fault, judged-on, grown, OnOk-map, length-items, items-length}
 use Rattle.xc_input.proofs.item_line.Items.add_item.Goals as goal
 
@@ -23,6 +25,7 @@ returns-clause-judged c =
 pub returns-clause-added : goal.returns-clause-added
 returns-clause-added c =
     OnOk-map c.push_item.result _ _ c.push_item.ensures.added (λ h.
-    let g = grown c.args.kind c.args.self.now.bar _ c.args.token.now c.is_some.ensures _ (key_names c.add_name.new.names.keys) c.args.self.now.items.items c.push_item.new.items.items
-    (record { name = c.in-Ok.token.name.now; low = c.in-Ok.token.low; high = c.in-Ok.token.high }) c.in-Ok.ensures.1 c.requires c.in_ok-add_name.ensures.added (subst (λ n. n < 100000) (c.len.ensures ∙ items-length c.args.self.now.items) c.if-len-ge100000.false) h in
+    let named = names-more (key_names c.args.self.now.names.keys) (key_names c.add_name.new.names.keys) c.in-Ok.token.name.now _ c.requires.2 c.in_ok-add_name.ensures.added c.name_fault.ensures c.in_default.is in
+    let g = grown c.args.kind c.args.self.now.bar _ c.args.token.now c.is_some.ensures (All IsName) _ (key_names c.add_name.new.names.keys) c.args.self.now.items.items c.push_item.new.items.items
+    (record { name = c.in-Ok.token.name.now; low = c.in-Ok.token.low; high = c.in-Ok.token.high }) c.in-Ok.ensures.1 c.requires named c.in_ok-add_name.ensures.added (subst (λ n. n < 100000) (c.len.ensures ∙ items-length c.args.self.now.items) c.if-len-ge100000.false) h in
     (g.0, g.1, refl))

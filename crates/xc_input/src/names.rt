@@ -1,0 +1,44 @@
+//! Sets of names.
+
+ghost use Rattle.std.specs.Prelude.{◌≡◌, []};
+ghost use Rattle.xc_input.specs.Hashing.{hashed, mixed};
+
+use indexmap::IndexSet;
+use std::alloc::Global;
+use std::hash::{BuildHasherDefault, Hasher};
+
+/// Names, numbered from 0.
+pub type NameSet = IndexSet<Vec<u8>, BuildHasherDefault<NameHasher>>;
+
+/// A set of no names.
+pub fn no_names(alloc: Global) -> NameSet
+    ensures { result.keys ≡ [] }
+{
+    IndexSet::with_hasher(alloc, BuildHasherDefault::new())
+}
+
+/// Hashes a name, which feeds its length and then its bytes, each by a write of its own. So the
+/// first byte of a write is enough, and this is much faster than the hasher that sets have by themselves.
+#[derive(Clone, Copy, Default)]
+pub struct NameHasher {
+    state: u64,
+}
+
+impl Hasher for NameHasher {
+    ghost write = { λ h bytes. record { state = hashed h.state bytes } };
+
+    ghost finish = { λ h. mixed h.state };
+
+    #[inline(always)]
+    fn finish(&self) -> u64 {
+        let product = u128::from(self.state) * 0x9e37_79b9_7f4a_7c15;
+        (product & 0xffff_ffff_ffff_ffff) as u64 ^ (product >> 64) as u64
+    }
+
+    #[inline(always)]
+    fn write(&mut self, bytes: &[u8]) {
+        if let [first, ..] = bytes {
+            self.state = self.state.wrapping_mul(257).wrapping_add(u64::from(*first));
+        }
+    }
+}
