@@ -1,5 +1,5 @@
 -- Verdicts by kinds, and what a line changes.
-use Rattle.std.proofs.Common.{◌≡◌, ℕ, zero, suc, ◌+◌, ◌-◌, ◌^◌, ◌<◌, Bool, true, false, not, ◌||◌, nat_eq, min, List, [], ◌∷◌, ◌++◌, length, filter, Option, Some, None, is_some, refl, sym, ap, ◌∙◌, subst, append_assoc, append-nil, arith, inl, inr, if◌then◌else◌}
+use Rattle.std.proofs.Common.{◌≡◌, ℕ, zero, suc, ◌+◌, ◌-◌, ◌^◌, ◌<◌, Bool, true, false, not, ◌||◌, nat_eq, min, List, [], ◌∷◌, ◌++◌, length, filter, Option, Some, None, is_some, refl, sym, ap, ◌∙◌, subst, append_assoc, append-nil, arith, inl, inr, eqb-true, if◌then◌else◌}
 use Rattle.std.specs.Prelude.{◌==◌, ◌↔◌, All, IsTrue, unwrap_or}
 use Rattle.std.specs.List.{AllZip}
 use Rattle.std.proofs.lemmas.Bool.Decides.{nat_tests}
@@ -8,11 +8,13 @@ use Rattle.std.proofs.lemmas.Map.Keys.{any_passes_from_place}
 use Rattle.std.proofs.lemmas.Option.{slice_get_cases, slice_get-get_or}
 use Rattle.xc_input.specs.Named.{Named, IsSound}
 use Rattle.xc_list.specs.declared.judge.Verdict.{Verdict}
+use Rattle.xc_list.specs.declared.judge.ListingFault.{ListingFault}
 use Rattle.xc_list.specs.declared.judge.ListingFault.TheVariants.{UnknownOption}
 use Rattle.xc_list.specs.ListingLines.{Line, Header, Body, read}
-use Rattle.xc_list.specs.Listed.{Solution, Listing, before_listing, listing_of, is_body, is_known, is_none, stands_for, line_fault, or_later, first_fault_from, IsListedCover, IsVerdictOn, AreVerdicts}
+use Rattle.xc_list.specs.Listed.{Solution, Listing, before_listing, listing_of, is_body, is_known, is_none, stands_for, line_fault, or_later, first_fault_from, IsListedCover, IsVerdictOn, AreVerdicts, IsFirstFault}
 use Rattle.xc_list.specs.Kinds.{Kinds, AreKinds, IsOption, IsOfKind, IsKindOfBody, StandFor, IsCoverOfKinds}
-use Rattle.xc_list.specs.Judging.{Progress, AreChosen, with_later, Closes, Takes}
+use Rattle.xc_input.specs.Lines.{lines_of}
+use Rattle.xc_list.specs.Judging.{Progress, IsProgress, AreChosen, with_later, Closes, Takes, Refuses}
 use Rattle.xc_list.proofs.Deciding.{kinds_decide}
 
 -- LISTS PLACE BY PLACE
@@ -165,3 +167,20 @@ none_taken s words h e some =
     let p = s.book.problem in
     let R : List (List ℕ) → ℕ → Type 0 = λ ws j. IsKindOfBody s.book ws (Some j) in
     body_taken s words s.chosen some (ap (λ t. t || is_none p words) h ∙ e) (λ bodies are. subst (λ bs. AllZip R bs s.chosen) (sym (filter-other p bodies words h)) are)
+
+-- THE WHOLE PASS
+-- the fault of a line that is refused is the first one
+pub refused : (p : Named) (all : List (List ℕ)) (done number : ℕ) (line : List ℕ) (left others : List (List ℕ)) (s : Progress) (e : ListingFault) → s.book.problem ≡ p → left ≡ line ∷ others
+    → number ≡ min (done + 1) (2 ^ 64 - 1) → IsProgress all done left s → Refuses number (read line) s e → IsFirstFault p all e
+refused p all done number line left others s e of_problem cut count progress refuses =
+    subst (λ (q : Named). IsFirstFault q all e) of_problem (refuses all done line others refl count (subst (λ (ls : List (List ℕ)). IsProgress all done ls s) cut progress))
+
+-- nothing is left: the verdicts are those on all solutions
+pub judged : (p : Named) (all : List (List ℕ)) (done : ℕ) (left : List (List ℕ)) (s : Progress) (vs : List Verdict) → s.book.problem ≡ p → left ≡ []
+    → IsProgress all done left s → ((all : List (List ℕ)) (done : ℕ) → IsProgress all done [] s → AreVerdicts s.book.problem all vs) → AreVerdicts p all vs
+judged p all done left s vs of_problem none progress finished =
+    subst (λ (q : Named). AreVerdicts q all vs) of_problem (finished all done (subst (λ (ls : List (List ℕ)). IsProgress all done ls s) none progress))
+
+pub ends : (rest : List ℕ) (empty : Bool) → empty ≡ (length rest == 0) → empty ≡ true → lines_of rest ≡ []
+ends [] empty is e = refl
+ends (b ∷ rest) empty is e = let none = eqb-true (length (b ∷ rest)) 0 (sym is ∙ e) in absurd (omega (arith, none))

@@ -10,11 +10,13 @@ use Rattle.xc_input.specs.Lines.{lines_of}
 use Rattle.xc_search.specs.declared.choice.Choice.{Choice}
 use Rattle.xc_search.specs.Cover.{IsCover, options_of, members}
 use Rattle.xc_search.proofs.Covering.{each_member_covers}
-use Rattle.xc_list.specs.declared.judge.ListingFault.TheVariants.{UnknownOption}
 use Rattle.xc_list.specs.Known.{IsKnownChoice}
 use Rattle.xc_list.specs.Output.{member_text, is_printed, output}
 use Rattle.xc_list.specs.ListingLines.{Header, Body}
-use Rattle.xc_list.specs.Listed.{stands_for, is_known, line_fault, or_later, first_fault_from, first_fault, Solution, Listing, before_listing, listing_of, listed, IsListedCover}
+use Rattle.xc_list.specs.declared.judge.Verdict.{Verdict}
+use Rattle.xc_list.specs.declared.judge.ListingFault.{ListingFault}
+use Rattle.xc_list.specs.declared.judge.ListingFault.TheVariants.{BadLine, UnknownOption, Memory}
+use Rattle.xc_list.specs.Listed.{Solution, IsVerdictOn, AreVerdicts, IsFirstFault, stands_for, is_known, line_fault, or_later, first_fault_from, first_fault, Listing, before_listing, listing_of, listed, IsListedCover}
 use Rattle.xc_list.proofs.KnownMembers.{members_known}
 use Rattle.xc_list.proofs.CountedMembers.{IsCounted, members_counted}
 use Rattle.xc_list.proofs.OutputLines.{choice_words, choice_line, output_lines, IsPrintable, IsPrintableMember, lines_of-members, read-choice_line, read-header_line}
@@ -146,3 +148,29 @@ outputs_are_covers p sound none spacing limit h =
   where
     first : List (List Choice)
     first = take limit (members p.puzzle)
+
+-- ---- what is said of an output
+
+pub wants_memory : (p : Named) (listing : List ℕ) (spacing limit : ℕ) (e : ListingFault) → IsSound p → All (λ n. n ≢ codes "null") p.names → limit < 2 ^ 64 → listing ≡ output p spacing limit
+    → IsFirstFault p (lines_of listing) e → e ≡ Memory
+wants_memory p listing spacing limit e sound none fits is first = by_fault e (subst (λ text. IsFirstFault p (lines_of text) e) is first)
+  where
+    no_fault : first_fault p (lines_of (output p spacing limit)) ≡ None
+    no_fault = (outputs_are_covers p sound none spacing limit fits).0
+
+    by_fault : (e : ListingFault) → IsFirstFault p (lines_of (output p spacing limit)) e → e ≡ Memory
+    by_fault (BadLine n) first = absurd (cc (no_fault, first))
+    by_fault (UnknownOption n) first = absurd (cc (no_fault, first))
+    by_fault Memory first = refl
+
+each_yes : (p : Named) (ss : List Solution) (vs : List Verdict) → All (λ s. IsListedCover p s.bodies) ss → AllZip (IsVerdictOn p) ss vs → All (λ v. IsTrue v.cover) vs
+each_yes p [] [] covers h = All-nil (λ v. IsTrue v.cover)
+each_yes p [] (v ∷ vs) covers h = absurd h
+each_yes p (s ∷ ss) [] covers h = absurd h
+each_yes p (s ∷ ss) (v ∷ vs) covers h =
+    All-cons (λ v. IsTrue v.cover) v vs (h.0.1.1 (All-head (λ s. IsListedCover p s.bodies) s ss covers)) (each_yes p ss vs (All-tail (λ s. IsListedCover p s.bodies) s ss covers) h.1)
+
+pub all_yes : (p : Named) (listing : List ℕ) (spacing limit : ℕ) (vs : List Verdict) → IsSound p → All (λ n. n ≢ codes "null") p.names → limit < 2 ^ 64 → listing ≡ output p spacing limit
+    → AreVerdicts p (lines_of listing) vs → All (λ v. IsTrue v.cover) vs
+all_yes p listing spacing limit vs sound none fits is verdicts =
+    each_yes p (listed (lines_of (output p spacing limit))) vs (outputs_are_covers p sound none spacing limit fits).1 (subst (λ text. AreVerdicts p (lines_of text) vs) is verdicts)

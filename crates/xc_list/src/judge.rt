@@ -1,9 +1,12 @@
 //! Listings judged.
-ghost use Rattle.std.specs.Prelude.{◌≡◌, ℕ, List, [], OnOk, IfOk, IfErr};
+ghost use Rattle.std.specs.Prelude.{◌≡◌, ◌≢◌, ◌<◌, ◌^◌, ℕ, List, [], codes, All, IsTrue, OnOk, IfOk, IfErr, MatchResult};
+ghost use Rattle.xc_input.specs.Named.{IsSound};
 ghost use Rattle.xc_input.specs.Lines.{lines_of};
 ghost use Rattle.xc_list.specs.ListingLines.{read, words_in, Header, Body};
 ghost use Rattle.xc_list.specs.Listed.{first_fault, AreVerdicts, IsFirstFault};
 ghost use Rattle.xc_list.specs.Judging.{IsProgress, Closes, Takes, Refuses};
+ghost use Rattle.xc_list.specs.Output.{output};
+ghost use Rattle.xc_list.specs.declared.judge.ListingFault.TheVariants.{Memory};
 
 use crate::book::Book;
 use crate::listing_lines::{ListingLine, cut_line, read_line};
@@ -69,6 +72,7 @@ impl<'a> Judge<'a> {
     /// No line of any listing is judged.
     fn new(alloc: Global, problem: &'a Problem) -> Result<Judge<'a>, AllocError>
         ensures problem { IfOk result (λ s. s.book.problem ≡ problem.now) }
+        ensures sound { IfOk result (λ s. IsSound s.book.problem) }
         ensures begun { IfOk result (λ s. (all : List (List ℕ)) → IsProgress all 0 all s) }
     {
         let book = Book::new(alloc, problem)?;
@@ -157,6 +161,11 @@ pub fn check(alloc: Global, problem: &Problem, listing: &[u8]) -> Result<Vec<Ver
     ensures accepted { IfOk result (λ vs. first_fault problem.now (lines_of listing.now) ≡ None) }
     ensures verdicts { IfOk result (λ vs. AreVerdicts problem.now (lines_of listing.now) vs.items) }
     ensures fault { IfErr result (IsFirstFault problem.now (lines_of listing.now)) }
+
+    // What is printed for the problem is a listing of covers, unless an item is named `null`.
+    ensures outputs { (spacing limit : ℕ) → limit < 2 ^ 64 → All (λ name. name ≢ codes "null") problem.now.names
+        → listing.now ≡ output problem.now spacing limit
+        → MatchResult result (λ vs. All (λ v. IsTrue v.cover) vs.items) (λ e. e ≡ Memory) }
 {
     let Ok(mut judge) = Judge::new(alloc, problem) else {
         return Err(ListingFault::Memory);
@@ -166,8 +175,13 @@ pub fn check(alloc: Global, problem: &Problem, listing: &[u8]) -> Result<Vec<Ver
     while !rest.is_empty() {
         let (line, others) = cut_line(rest);
         lines = lines.saturating_add(1);
-        judge.take_line(lines, line)?;
+        if let Err(fault) = judge.take_line(lines, line) {
+            return Err(fault);
+        }
         rest = others;
     }
-    judge.finish().map_err(|_| ListingFault::Memory)
+    match judge.finish() {
+        Ok(verdicts) => Ok(verdicts),
+        Err(_) => Err(ListingFault::Memory),
+    }
 }

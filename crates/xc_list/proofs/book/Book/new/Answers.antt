@@ -12,7 +12,7 @@ invariant_of-result c =
         valid = c.items-items.ensures.valid;
         limits = c.items-items.ensures.limits;
         coloured = c.items-items.ensures.coloured;
-        few_colours = omega (arith, c.if-colours-gt10000000.false, c.colours-colours.ensures);
+        few_colours = c.items-items.ensures.few_colours;
         named = c.items-items.ensures.named;
       };
       named = ap (λ (t : Spellings). t.names) c.in_ok-texts.ensures;

@@ -1,0 +1,51 @@
+use Rattle.std.proofs.Common.{refl, ◌∙◌, ◌+◌, ◌∷◌, ℕ, List, ap, subst, arith}
+use Rattle.std.proofs.lemmas.Grind.{common_steps}
+use Rattle.xc_input.specs.Lines.{lines_of}
+use Rattle.xc_list.specs.Kinds.{Kinds}
+use Rattle.xc_list.specs.Judging.{IsProgress}
+use Rattle.xc_input.specs.Named.{IsSound}
+use Rattle.xc_list.proofs.JudgeLemmas.{refused, judged, ends}
+use Rattle.xc_list.proofs.OutputCovers.{wants_memory, all_yes}
+use Rattle.xc_list.proofs.judge.check.Goals as goal
+
+pub loop-rest-init : goal.loop-rest-init
+loop-rest-init c = record {
+  problem = c.in-Ok.ensures.problem;
+  done = 0;
+  count = refl;
+  progress = c.in-Ok.ensures.begun (lines_of c.args.listing.now);
+}
+
+pub loop-rest-preserved : goal.loop-rest-preserved
+loop-rest-preserved c =
+    let so_far = c.loop-rest.invariant in
+    let all = lines_of c.args.listing.now in
+    record {
+      problem = ap (λ (b : Kinds). b.problem) c.take_line.ensures.book ∙ so_far.problem;
+      done = so_far.done + 1;
+      count = omega (arith, so_far.count, c.saturating_add-lines.ensures);
+      progress = c.in_default-take_line.ensures.takes all so_far.done c.cut_line.result.0.now (lines_of c.cut_line.result.1.now) refl (subst (λ (ls : List (List ℕ)). IsProgress all so_far.done ls c.loop-rest.judge) c.cut_line.ensures.lines so_far.progress);
+    }
+
+
+pub returns-in-Err-clause-fault : goal.returns-in-Err-clause-fault
+returns-in-Err-clause-fault c =
+    let so_far = c.loop-rest.invariant in
+    refused c.args.problem.now _ so_far.done _ _ _ _ c.loop-rest.judge c.in-Err.fault so_far.problem c.cut_line.ensures.lines (omega (arith, so_far.count, c.saturating_add-lines.ensures)) so_far.progress c.in-Err.ensures.fault
+
+pub returns-in-Err-clause-outputs : goal.returns-in-Err-clause-outputs
+returns-in-Err-clause-outputs c = λ spacing limit fits named is.
+    let so_far = c.loop-rest.invariant in
+    let first = refused c.args.problem.now _ so_far.done _ _ _ _ c.loop-rest.judge c.in-Err.fault so_far.problem c.cut_line.ensures.lines (omega (arith, so_far.count, c.saturating_add-lines.ensures)) so_far.progress c.in-Err.ensures.fault in
+    wants_memory c.args.problem.now c.args.listing.now spacing limit c.in-Err.fault (subst IsSound c.in-Ok.ensures.problem c.in-Ok.ensures.sound) named fits is first
+
+pub returns-in-Ok-finish-clause-verdicts : goal.returns-in-Ok-finish-clause-verdicts
+returns-in-Ok-finish-clause-verdicts c =
+    let so_far = c.loop-rest.invariant in
+    judged c.args.problem.now _ so_far.done _ c.loop-rest.judge _ so_far.problem (ends c.loop-rest.rest.now _ c.is_empty.ensures c.loop-rest-test.false) so_far.progress c.in-Ok-finish.ensures
+
+pub returns-in-Ok-finish-clause-outputs : goal.returns-in-Ok-finish-clause-outputs
+returns-in-Ok-finish-clause-outputs c = λ spacing limit fits named is.
+    let so_far = c.loop-rest.invariant in
+    let verdicts = judged c.args.problem.now _ so_far.done _ c.loop-rest.judge _ so_far.problem (ends c.loop-rest.rest.now _ c.is_empty.ensures c.loop-rest-test.false) so_far.progress c.in-Ok-finish.ensures in
+    all_yes c.args.problem.now c.args.listing.now spacing limit _ (subst IsSound c.in-Ok.ensures.problem c.in-Ok.ensures.sound) named fits is verdicts
