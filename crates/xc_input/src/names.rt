@@ -1,4 +1,4 @@
-//! Sets of names.
+//! Sets of names, and how they are hashed.
 
 ghost use Rattle.std.specs.Prelude.{◌≡◌, []};
 ghost use Rattle.xc_input.specs.Hashing.{hashed, mixed};
@@ -7,7 +7,7 @@ use indexmap::IndexSet;
 use std::alloc::Global;
 use std::hash::{BuildHasherDefault, Hasher};
 
-/// Names, numbered from 0.
+/// Names or colours, numbered from 0 in the order in which they were met.
 pub type NameSet = IndexSet<Vec<u8>, BuildHasherDefault<NameHasher>>;
 
 /// A set of no names.
@@ -17,8 +17,8 @@ pub fn no_names(alloc: Global) -> NameSet
     IndexSet::with_hasher(alloc, BuildHasherDefault::new())
 }
 
-/// Hashes a name, which feeds its length and then its bytes, each by a write of its own. So the
-/// first byte of a write is enough, and this is much faster than the hasher that sets have by themselves.
+/// Hashes names, as numbers in base 257. A name writes its length and then each of its bytes alone,
+/// so the first byte of a write is enough. Names are short, and this is faster than the usual hasher.
 #[derive(Clone, Copy, Default)]
 pub struct NameHasher {
     state: u64,

@@ -128,7 +128,9 @@ pub fn option_line<'a>(
     ensures uses { IfOk result (λ v. map written_of v.items ≡ all_written (key_names names.now.keys) (tokens line.now)) }
     ensures unmarked { OnOk result (AreMarks marks.new []) }
 {
-    let Ok(mut parts) = Vec::with_capacity(alloc, line.len() / 4) else {
+    // Most lines have no more uses than that.
+    let room = (line.len() / 4).min(256);
+    let Ok(mut parts) = Vec::with_capacity(alloc, room) else {
         return Err(LineError::Memory);
     };
     let mut rest = line;
