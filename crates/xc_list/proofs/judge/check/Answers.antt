@@ -27,7 +27,6 @@ loop-rest-preserved c =
       progress = c.in_default-take_line.ensures.takes all so_far.done c.cut_line.result.0.now (lines_of c.cut_line.result.1.now) refl (subst (λ (ls : List (List ℕ)). IsProgress all so_far.done ls c.loop-rest.judge) c.cut_line.ensures.lines so_far.progress);
     }
 
-
 pub returns-in-Err-clause-fault : goal.returns-in-Err-clause-fault
 returns-in-Err-clause-fault c =
     let so_far = c.loop-rest.invariant in
