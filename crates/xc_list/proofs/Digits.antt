@@ -18,9 +18,6 @@ is_digit-false b h = grind (arith, nat_tests)
 pub step : (v b w : ℕ) (bs : List ℕ) → 48 ≤ b → b ≤ 57 → w ≡ v * 10 + (b - 48) → digits_in v (b ∷ bs) ≡ digits_in w bs
 step v b w bs h k e = rw (is_digit-true b h k) (rw e refl)
 
-pub not_digit : (v b : ℕ) (bs : List ℕ) → (48 ≤ b → b ≤ 57 → ⊥) → digits_in v (b ∷ bs) ≡ None
-not_digit v b bs h = rw (is_digit-false b h) refl
-
 pub too_large : (v b : ℕ) (bs : List ℕ) → 2 ^ 64 ≤ v * 10 + (b - 48) → digits_in v (b ∷ bs) ≡ None
 too_large v b bs h =
     let larger : 2 ^ 64 ≤ value_from v (b ∷ bs) = le_trans h (value_from-le (v * 10 + (b - 48)) bs) in

@@ -143,9 +143,6 @@ begins_front x y text front tail e p = (length front, subst (Appends x y) (sym (
 pub begins_whole : (x y : Option (List ℕ)) (text : List ℕ) → Appends x y text → Begins x y text
 begins_whole x y text p = begins_front x y text text [] (sym (append-nil text)) p
 
-pub part_begins : (a : Named) (spacing limit k : ℕ) (x y : Option (List ℕ)) → k ≤ limit → Appends x y (output a spacing k) → Begins x y (output a spacing limit)
-part_begins a spacing limit k x y h p = let b = output_behind a spacing k limit h in begins_front x y (output a spacing limit) (output a spacing k) b.0 b.1 p
-
 drop_at : {X : Type 0} (ms : List X) (k : ℕ) (m : X) → slice_get ms k ≡ Some m → drop k ms ≡ m ∷ drop (k + 1) ms
 drop_at [] k m e = absurd (cc e)
 drop_at (x ∷ ms) zero m e = let f : x ≡ m = cc e in ap (λ y. y ∷ ms) f

@@ -39,19 +39,6 @@ flat_map-parts f xs i d h =
     let all : xs ≡ take (i + 1) xs ++ drop (i + 1) xs = grind (arith, common_steps) in
     ap (flat_map f) all ∙ flat_map-append f (take (i + 1) xs) (drop (i + 1) xs) ∙ ap (λ l. l ++ flat_map f (drop (i + 1) xs)) (flat_map-take-more f xs i d h)
 
--- the texts of a list: one more was taken
-pub each_more : {X : Type 0} (f : X → List ℕ) (xs : List X) (i : ℕ) (x : X) (a b c : Option (List ℕ)) → i < length xs → x ≡ get_or xs i x
-    → Appends a b (flat_map f (take i xs)) → Appends b c (f x) → Appends a c (flat_map f (take (i + 1) xs))
-each_more f xs i x a b c h e p q =
-    subst (Appends a c) (ap (λ y. flat_map f (take i xs) ++ f y) e ∙ sym (flat_map-take-more f xs i x h)) (appends_more a b c (flat_map f (take i xs)) (f x) p q)
-
--- the texts of a list: the next was begun
-pub each_begun : {X : Type 0} (f : X → List ℕ) (xs : List X) (i : ℕ) (x : X) (a b c : Option (List ℕ)) → i < length xs → x ≡ get_or xs i x
-    → Appends a b (flat_map f (take i xs)) → TookBeginning b c (f x) → TookBeginning a c (flat_map f xs)
-each_begun f xs i x a b c h e p q =
-    subst (TookBeginning a c) (ap (λ y. flat_map f (take i xs) ++ f y ++ flat_map f (drop (i + 1) xs)) e ∙ sym (flat_map-parts f xs i x h))
-    (begun_first a c (flat_map f (take i xs) ++ f x) (flat_map f (drop (i + 1) xs)) (begun_second a b c (flat_map f (take i xs)) (f x) p q))
-
 -- The same with the counts of failures.
 pub then_good : (a b c : ℕ) (x y z : Option (List ℕ)) (s t : List ℕ) → (b ≡ a) × Appends x y s → (c ≡ b) × Appends y z t → (c ≡ a) × Appends x z (s ++ t)
 then_good a b c x y z s t p q = (q.0 ∙ p.0, appends_more x y z s t p.1 q.1)

@@ -20,6 +20,17 @@ struct Told {
     err: Tray,
 }
 
+/// Words as a program gathers them.
+fn gathered(alloc: Global, words: &[&[u8]]) -> Result<Vec<Vec<u8>>, Fail> {
+    let mut all = Vec::new(alloc);
+    for word in words {
+        let mut bytes = Vec::new(alloc);
+        bytes.extend_from_slice(word)?;
+        all.push(bytes)?;
+    }
+    Ok(all)
+}
+
 /// Runs `solve` over a text that is read, and whose answers are taken, so many bytes at a time.
 fn answer(
     alloc: Global,
@@ -30,12 +41,7 @@ fn answer(
 ) -> Result<Told, Fail>
     requires { 0 < step }
 {
-    let mut asked = Vec::new(alloc);
-    for word in words {
-        let mut bytes = Vec::new(alloc);
-        bytes.extend_from_slice(word)?;
-        asked.push(bytes)?;
-    }
+    let asked = gathered(alloc, words)?;
     let mut input = Feed::new(text, step, None);
     let mut out = Tray::new(alloc, step, 1000, false)?;
     let mut err = Tray::new(alloc, step, 1000, false)?;
@@ -393,10 +399,7 @@ fn tokens_of_a_thousand_bytes(rt: HostRuntime) -> Result<(), Fail> {
 #[test]
 fn reads_and_writes_that_fail(rt: HostRuntime) -> Result<(), Fail> {
     let alloc = rt.alloc();
-    let mut m1 = Vec::new(alloc);
-    m1.extend_from_slice(b"m1")?;
-    let mut words = Vec::new(alloc);
-    words.push(m1)?;
+    let words = gathered(alloc, &[b"m1"])?;
 
     let mut out = Tray::new(alloc, 1, 5, false)?;
     let mut err = Tray::new(alloc, 1, 100, false)?;

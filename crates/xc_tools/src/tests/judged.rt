@@ -1,7 +1,7 @@
 //! Listings judged.
 ghost use Rattle.std.specs.Prelude.{◌<◌};
 
-use super::Told;
+use super::{Told, gathered};
 use crate::judge;
 use std::alloc::Global;
 use std::test::Fail;
@@ -33,12 +33,7 @@ fn run_by_words(
 ) -> Result<Told, Fail>
     requires { 0 < step }
 {
-    let mut asked = Vec::new(alloc);
-    for word in words {
-        let mut bytes = Vec::new(alloc);
-        bytes.extend_from_slice(word)?;
-        asked.push(bytes)?;
-    }
+    let asked = gathered(alloc, words)?;
     let mut problem = Feed::new(problem, step, None);
     let mut listing = Feed::new(listing, step, None);
     let mut out = Tray::new(alloc, step, 1000, false)?;
@@ -288,10 +283,7 @@ fn a_line_of_spaces(rt: HostRuntime) -> Result<(), Fail> {
 #[test]
 fn reads_and_writes_of_the_judge_that_fail(rt: HostRuntime) -> Result<(), Fail> {
     let alloc = rt.alloc();
-    let mut words = Vec::new(alloc);
-    let mut name = Vec::new(alloc);
-    name.extend_from_slice(b"PROBLEM")?;
-    words.push(name)?;
+    let words = gathered(alloc, &[b"PROBLEM"])?;
     for (problem_fails, listing_fails) in [(Some(1), None), (None, Some(2))] {
         let mut problem = Feed::new(COLOURED, 1000, problem_fails);
         let mut listing = Feed::new(COLOURED_LISTING, 20, listing_fails);

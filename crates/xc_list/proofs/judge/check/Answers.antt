@@ -1,5 +1,4 @@
-use Rattle.std.proofs.Common.{refl, ◌∙◌, ◌+◌, ◌∷◌, ℕ, List, ap, subst, arith}
-use Rattle.std.proofs.lemmas.Grind.{common_steps}
+use Rattle.std.proofs.Common.{refl, ◌∙◌, ◌+◌, ℕ, List, ap, subst, arith}
 use Rattle.xc_input.specs.Lines.{lines_of}
 use Rattle.xc_list.specs.Kinds.{Kinds}
 use Rattle.xc_list.specs.Judging.{IsProgress}
