@@ -1,4 +1,3 @@
-use Rattle.std.proofs.Common.{Bool, true, false}
 use Rattle.xc_list.proofs.Writing.{then_writes}
 use Rattle.xc_tools.proofs.judging.write_verdict.Goals as goal
 
