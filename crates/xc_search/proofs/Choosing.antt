@@ -8,7 +8,7 @@ use Rattle.xc_search.specs.Listing.{Wanted, first_least}
 use Rattle.xc_dance.specs.Moves.{next_above, is_open, open_items, IsOpenPrimary}
 use Rattle.xc_search.specs.Residuals.{wanted_at, wanted_after, branches_after, choice_after}
 use Rattle.xc_dance.specs.Rising.{Rises}
-use Rattle.xc_dance.proofs.ListLemmas.{Rises-range, Rises-filter, above_all, next_above-split, next_above-none, found_open}
+use Rattle.xc_dance.proofs.MoveLemmas.ListLemmas.{Rises-range, Rises-filter, above_all, next_above-split, next_above-none, found_open}
 
 -- of these items and w the first with the fewest branches
 abbrev pub best_from : Puzzle → List Move → Wanted → List ℕ → Wanted

@@ -4,7 +4,7 @@ use Rattle.std.specs.List.{list_all}
 use Rattle.xc_input.specs.declared.problem.Use.{Use}
 use Rattle.xc_input.specs.Problem.{Numbered}
 use Rattle.xc_search.proofs.Members.{IsIn}
-use Rattle.xc_dance.proofs.ListLemmas.{length-filter-le}
+use Rattle.xc_dance.proofs.MoveLemmas.ListLemmas.{length-filter-le}
 use Rattle.xc_search.proofs.Rising.{NumbersRise, above_in}
 use Rattle.xc_search.proofs.BooleanTests.{and_left, and_right}
 

@@ -12,7 +12,7 @@ use Rattle.xc_search.specs.Residuals.{wanted_at, wanted_after, left, residual_of
 use Rattle.xc_search.specs.Commits.{opened, tweaked, after_use, after_uses, others, place_in, closed}
 use Rattle.xc_search.specs.Room.{use_count}
 use Rattle.xc_search.specs.Sparing.{spendings, uses_in, IsSparing}
-use Rattle.xc_dance.proofs.ListLemmas.{length-filter-le}
+use Rattle.xc_dance.proofs.MoveLemmas.ListLemmas.{length-filter-le}
 use Rattle.xc_search.proofs.BranchesLess.{less_items, least_is_one}
 use Rattle.xc_search.proofs.FewTweaks.{uses_whole}
 use Rattle.std.proofs.lemmas.List.{length-map, length-take}

@@ -2,7 +2,7 @@ use Rattle.std.proofs.Common.{arith, ◌≡◌, sym, ◌∙◌, true, false, lt-
 use Rattle.xc_dance.specs.Moves.{next_above, open_items}
 use Rattle.xc_search.specs.Residuals.{branches_after, wanted_at}
 use Rattle.xc_search.proofs.Choosing.{next_open, choice_first, choice_none, choice_next, choice_last, choice_settled, choice_done, fewer}
-use Rattle.xc_dance.proofs.ListLemmas.{next_above-gt}
+use Rattle.xc_dance.proofs.MoveLemmas.ListLemmas.{next_above-gt}
 use Rattle.xc_search.proofs.branch_item.choose.Goals as goal
 
 pub returns-in_err-item : goal.returns-in_err-item

@@ -1,0 +1,179 @@
+-- A cell that is read is the field.
+use Rattle.std.proofs.Common.{◌≡◌, ◌≢◌, ◌⊎◌, inl, inr, ℕ, zero, suc, ◌+◌, ◌-◌, ◌<◌, ◌≤◌, ◌^◌, true, false, cond, ◌&&◌, eqb, leb, ltb, List, length, map, Option, Some, None, refl, ap, sym, ◌∙◌, arith, eqb-true, ne_eqb, le-leb, leb-true, lt-ltb, le-ltb, ltb-true, ltb-false}
+use Rattle.std.specs.Prelude.{ℤ, pos, neg_ℤ, slice_get, option_map, nat_le, nat_lt}
+use Rattle.std.specs.List.{range_with_len}
+use Rattle.std.proofs.lemmas.Bool.{eqb-false, false≢true}
+use Rattle.std.proofs.lemmas.Option.{slice_get-map}
+use Rattle.std.proofs.lemmas.List.{length-map}
+use Rattle.xc_dance.specs.declared.dance.Move.{Move}
+use Rattle.xc_dance.specs.declared.links.field.Field.TheVariants.{Llink, Rlink, Bound, Slack, Top, Ulink, Dlink, Color}
+use Rattle.xc_input.specs.Problem.{Puzzle, primary_count, item_count, high_at, low_at, uses_of}
+use Rattle.xc_dance.specs.Moves.{listed, spends}
+use Rattle.xc_dance.specs.Fields.{Node, unused, own, spacer, used, layout, field_of, top_of, ulink_of, dlink_of, color_of, item_cell, primary_cell, ring_of, left_of, right_of, first_of, last_of, is_marked}
+use Rattle.xc_dance.specs.Links.Cells.{top_in, ulink_in, dlink_in, color_in, line_of, nodes_after}
+use Rattle.xc_dance.specs.Links.ItemCells.{items_after}
+use Rattle.xc_dance.specs.Links.Laid.{IsLaid, IsFit}
+use Rattle.xc_dance.specs.Links.Read.{minus, color_read, top_read}
+use Rattle.xc_dance.proofs.LinkedTables.MarkedNodes.{colour_small}
+use Rattle.xc_dance.proofs.LinkedTables.GoodLines.{numbers_few}
+
+row_read : (f : ℕ → ℕ) (a n q : ℕ) → slice_get (map f (range_with_len a n)) q ≡ cond (ltb q n) (Some (f (a + q))) None
+row_read f a zero q = ap (λ b. cond b (Some (f (a + q))) None) (sym (le-ltb q 0 (omega arith)))
+row_read f a (suc n) zero = let z : a ≡ a + 0 = omega arith in ap (λ k. Some (f k)) z ∙ ap (λ b. cond b (Some (f (a + 0))) None) (sym (lt-ltb 0 (suc n) (omega arith)))
+row_read f a (suc n) (suc q) =
+    let s : a + 1 + q ≡ a + suc q = omega arith in
+    row_read f (a + 1) n q ∙ ap (λ k. cond (ltb q n) (Some (f k)) None) s ∙ ap (λ b. cond b (Some (f (a + suc q))) None) (same q n)
+  where
+    same : (q n : ℕ) → ltb q n ≡ ltb (suc q) (suc n)
+    same q n = elim (ltb q n) as (λ b. ltb q n ≡ b → b ≡ ltb (suc q) (suc n)) [
+      | true ↦ λ e. let h = ltb-true q n e in sym (lt-ltb (suc q) (suc n) (omega (arith, h)))
+      | false ↦ λ e. let h = ltb-false q n e in sym (le-ltb (suc q) (suc n) (omega (arith, h)))
+    ] refl
+
+row_at_zero : (f : ℕ → ℕ) (n q : ℕ) → slice_get (map f (range_with_len 0 n)) q ≡ cond (ltb q n) (Some (f q)) None
+row_at_zero f n q = let z : 0 + q ≡ q = omega arith in row_read f 0 n q ∙ ap (λ k. cond (ltb q n) (Some (f k)) None) z
+
+abbrev natural : ℕ → ℤ
+natural v = pos v
+
+-- the columns from 0 to the items and one more
+item_row : (p : Puzzle) (inner : ℕ → ℕ) (first last q : ℕ) →
+    option_map natural (slice_get (map (λ k. cond (eqb k 0) first (cond (leb k (item_count p)) (inner k) last)) (range_with_len 0 (item_count p + 2))) q) ≡ item_cell p q inner first last
+item_row p inner first last q =
+    ap (option_map natural) (row_at_zero (λ k. cond (eqb k 0) first (cond (leb k (item_count p)) (inner k) last)) (item_count p + 2) q)
+    ∙ elim (eqb q 0) as (λ a. eqb q 0 ≡ a → option_map natural (cond (ltb q (item_count p + 2)) (Some (cond a first (cond (leb q (item_count p)) (inner q) last))) None) ≡ cond a (Some (pos first)) (cond (leb q (item_count p)) (Some (pos (inner q))) (cond (eqb q (item_count p + 1)) (Some (pos last)) None))) [
+      | true ↦ λ e. let z = eqb-true q 0 e in rw (lt-ltb q (item_count p + 2) (omega (arith, z))) refl
+      | false ↦ λ e. elim (leb q (item_count p)) as (λ b. leb q (item_count p) ≡ b → option_map natural (cond (ltb q (item_count p + 2)) (Some (cond b (inner q) last)) None) ≡ cond b (Some (pos (inner q))) (cond (eqb q (item_count p + 1)) (Some (pos last)) None)) [
+        | true ↦ λ f. let h = leb-true q (item_count p) f in rw (lt-ltb q (item_count p + 2) (omega (arith, h))) refl
+        | false ↦ λ f. elim (eqb q (item_count p + 1)) as (λ c. eqb q (item_count p + 1) ≡ c → option_map natural (cond (ltb q (item_count p + 2)) (Some last) None) ≡ cond c (Some (pos last)) None) [
+          | true ↦ λ g. let h = eqb-true q (item_count p + 1) g in rw (lt-ltb q (item_count p + 2) (omega (arith, h))) refl
+          | false ↦ λ g.
+              let ne = eqb-false q (item_count p + 1) g in
+              let gt : item_count p < q = elim (ltb (item_count p) q) as (λ d. ltb (item_count p) q ≡ d → item_count p < q) [ true ↦ λ t. ltb-true (item_count p) q t | false ↦ λ t. let le = ltb-false (item_count p) q t in absurd (false≢true (sym f ∙ le-leb q (item_count p) (omega (arith, le)))) ] refl in
+              rw (le-ltb q (item_count p + 2) (omega (arith, ne, gt))) refl
+        ] refl
+      ] refl
+    ] refl
+
+pub llink_read : (p : Puzzle) (t : List Move) (q : ℕ) → option_map natural (slice_get (items_after p t).llink q) ≡ field_of p t Llink q
+llink_read p t q = item_row p (left_of p t) (last_of 0 (ring_of p t 0)) (last_of (item_count p + 1) (ring_of p t (primary_count p + 1))) q
+
+pub rlink_read : (p : Puzzle) (t : List Move) (q : ℕ) → option_map natural (slice_get (items_after p t).rlink q) ≡ field_of p t Rlink q
+rlink_read p t q = item_row p (right_of p t) (first_of 0 (ring_of p t 0)) (first_of (item_count p + 1) (ring_of p t (primary_count p + 1))) q
+
+-- ---- the node table
+
+minus_is : (n : ℕ) → minus n ≡ neg_ℤ (pos n)
+minus_is zero = refl
+minus_is (suc n) = refl
+
+small_top : (v : ℕ) → v < 2147483648 → top_read v ≡ pos v
+small_top v h =
+    let no' : nat_le 2147483648 v ≡ false = elim (leb 2147483648 v) as (λ b. leb 2147483648 v ≡ b → b ≡ false) [ true ↦ λ e. let le = leb-true 2147483648 v e in absurd (omega (arith, h, le)) | false ↦ λ e. refl ] refl in
+    rw no' refl
+
+spacer_top : (n : ℕ) → top_read (2147483648 + n) ≡ neg_ℤ (pos n)
+spacer_top n =
+    let is : nat_le 2147483648 (2147483648 + n) ≡ true = le-leb 2147483648 (2147483648 + n) (omega arith) in
+    let rest : 2147483648 + n - 2147483648 ≡ n = omega arith in
+    rw is (ap minus rest ∙ minus_is n)
+
+map_at : {X Y : Type 0} (f g : X → Y) (o : Option X) → ((x : X) → o ≡ Some x → f x ≡ g x) → option_map f o ≡ option_map g o
+map_at f g None h = refl
+map_at f g (Some x) h = ap Some (h x refl)
+
+map_twice : {X Y Z : Type 0} (f : X → Y) (g : Y → Z) (o : Option X) → option_map g (option_map f o) ≡ option_map (λ x. g (f x)) o
+map_twice f g None = refl
+map_twice f g (Some x) = refl
+
+node_read : (p : Puzzle) (f : Node → ℕ) (g : ℕ → ℤ) (h : Node → ℤ) (q : ℕ) → ((n : Node) → slice_get (layout p) q ≡ Some n → g (f n) ≡ h n) → option_map g (slice_get (map f (layout p)) q) ≡ option_map h (slice_get (layout p) q)
+node_read p f g h q same = ap (option_map g) (slice_get-map f (layout p) q) ∙ map_twice f g (slice_get (layout p) q) ∙ map_at (λ n. g (f n)) h (slice_get (layout p) q) same
+
+pub top_cell : (p : Puzzle) (t : List Move) (q : ℕ) → IsLaid p → IsFit p → item_count p < 2 ^ 31 → option_map top_read (slice_get (nodes_after p t).top q) ≡ field_of p t Top q
+top_cell p t q laid fit few = node_read p (top_in (line_of p t)) top_read (top_of p t) q by_node
+  where
+    by_node : (n : Node) → slice_get (layout p) q ≡ Some n → top_read (top_in (line_of p t) n) ≡ top_of p t n
+    by_node unused e = refl
+    by_node (own i) e =
+        let long = length-map (listed p t i) (λ o. o.number) in
+        let a = numbers_few p t i in
+        let b = fit.few in
+        small_top (length (listed p t i)) (omega (arith, long, a, b))
+    by_node (spacer n) e = spacer_top n
+    by_node (used o u) e = let r = laid.ranged q (used o u) u.item o e refl in small_top u.item (omega (arith, r.1, few))
+
+pub ulink_cell : (p : Puzzle) (t : List Move) (q : ℕ) → IsLaid p → option_map natural (slice_get (nodes_after p t).ulink q) ≡ field_of p t Ulink q
+ulink_cell p t q laid = node_read p (ulink_in p (line_of p t)) natural (λ n. pos (ulink_of p t n)) q by_node
+  where
+    by_node : (n : Node) → slice_get (layout p) q ≡ Some n → pos (ulink_in p (line_of p t) n) ≡ pos (ulink_of p t n)
+    by_node unused e = refl
+    by_node (own i) e = refl
+    by_node (spacer zero) e = refl
+    by_node (spacer (suc n)) e = refl
+    by_node (used zero u) e = let h = laid.numbered q 0 u e in absurd (omega (arith, h))
+    by_node (used (suc o) u) e = refl
+
+pub dlink_cell : (p : Puzzle) (t : List Move) (q : ℕ) → IsLaid p → option_map natural (slice_get (nodes_after p t).dlink q) ≡ field_of p t Dlink q
+dlink_cell p t q laid = node_read p (dlink_in p (line_of p t)) natural (λ n. pos (dlink_of p t n)) q by_node
+  where
+    by_node : (n : Node) → slice_get (layout p) q ≡ Some n → pos (dlink_in p (line_of p t) n) ≡ pos (dlink_of p t n)
+    by_node unused e = refl
+    by_node (own i) e = refl
+    by_node (spacer n) e = refl
+    by_node (used zero u) e = let h = laid.numbered q 0 u e in absurd (omega (arith, h))
+    by_node (used (suc o) u) e = refl
+
+small_color : (v : ℕ) → v < 4294967295 → color_read v ≡ pos v
+small_color v h = rw (ne_eqb v 4294967295 (λ e. omega (arith, e, h))) refl
+
+-- the items' own nodes are never read as marked
+pub color_own : (p : Puzzle) (t : List Move) (q : ℕ) → IsLaid p → q ≤ item_count p → option_map natural (slice_get (nodes_after p t).color q) ≡ field_of p t Color q
+color_own p t q laid le = node_read p (color_in p t) natural (color_of p t) q by_node
+  where
+    at_head : (n : Node) → slice_get (layout p) q ≡ Some n → (n ≡ unused) ⊎ (n ≡ own q)
+    at_head n e =
+        elim (eqb q 0) as (λ b. eqb q 0 ≡ b → (n ≡ unused) ⊎ (n ≡ own q)) [
+          | true ↦ λ f. inl (let z : Some unused ≡ Some n = ap (slice_get (layout p)) (sym (eqb-true q 0 f)) ∙ e in cc)
+          | false ↦ λ f. inr (let h : slice_get (layout p) q ≡ Some (own q) = laid.head q (omega (arith, eqb-false q 0 f)) le in let z : Some (own q) ≡ Some n = sym h ∙ e in cc)
+        ] refl
+
+    by_node : (n : Node) → slice_get (layout p) q ≡ Some n → natural (color_in p t n) ≡ color_of p t n
+    by_node n e = elim (at_head n e) [
+      | inl a ↦ ap (λ m. natural (color_in p t m)) a ∙ sym (ap (color_of p t) a)
+      | inr a ↦ ap (λ m. natural (color_in p t m)) a ∙ sym (ap (color_of p t) a)
+    ]
+
+pub color_use : (p : Puzzle) (t : List Move) (q : ℕ) → IsLaid p → IsFit p → item_count p < q → option_map color_read (slice_get (nodes_after p t).color q) ≡ field_of p t Color q
+color_use p t q laid fit gt = node_read p (color_in p t) color_read (color_of p t) q by_node
+  where
+    by_node : (n : Node) → slice_get (layout p) q ≡ Some n → color_read (color_in p t n) ≡ color_of p t n
+    by_node unused e = refl
+    by_node (own i) e =
+        let at : i ≡ q = laid.unique q (own i) i 0 e refl in
+        let r = laid.ranged q (own i) i 0 e refl in
+        absurd (omega (arith, at, r.1, gt))
+    by_node (spacer n) e = refl
+    by_node (used o u) e =
+        let small = colour_small (uses_of p o) u.item u.colour (fit.colours o) (laid.coloured q o u e) in
+        elim (is_marked p t u.item o u.colour) as (λ b. color_read (cond b 4294967295 u.colour) ≡ cond b (neg_ℤ (pos 1)) (pos u.colour)) [ true ↦ refl | false ↦ small_color u.colour small ]
+
+-- ---- bounds
+
+bound_row : (p : Puzzle) (f : ℕ → ℕ) (q : ℕ) → q ≢ 0 → option_map natural (slice_get (map (λ k. cond (eqb k 0) 0 (f k)) (range_with_len 0 (primary_count p + 1))) q) ≡ primary_cell p q (f q)
+bound_row p f q ne =
+    let gt : nat_lt 0 q ≡ true = lt-ltb 0 q (omega (arith, ne)) in
+    ap (option_map natural) (row_at_zero (λ k. cond (eqb k 0) 0 (f k)) (primary_count p + 1) q)
+    ∙ ap (λ b. option_map natural (cond (ltb q (primary_count p + 1)) (Some (cond b 0 (f q))) None)) (ne_eqb q 0 ne)
+    ∙ elim (leb q (primary_count p)) as (λ b. leb q (primary_count p) ≡ b → option_map natural (cond (ltb q (primary_count p + 1)) (Some (f q)) None) ≡ cond (true && b) (Some (pos (f q))) None) [
+      | true ↦ λ e. let h = leb-true q (primary_count p) e in rw (lt-ltb q (primary_count p + 1) (omega (arith, h))) refl
+      | false ↦ λ e.
+          let over : primary_count p < q = elim (ltb (primary_count p) q) as (λ d. ltb (primary_count p) q ≡ d → primary_count p < q) [ true ↦ λ t. ltb-true (primary_count p) q t | false ↦ λ t. let le = ltb-false (primary_count p) q t in absurd (false≢true (sym e ∙ le-leb q (primary_count p) (omega (arith, le)))) ] refl in
+          rw (le-ltb q (primary_count p + 1) (omega (arith, over))) refl
+    ] refl
+    ∙ ap (λ b. cond (b && leb q (primary_count p)) (Some (pos (f q))) None) (sym gt)
+
+pub bound_read : (p : Puzzle) (t : List Move) (q : ℕ) → q ≢ 0 → option_map natural (slice_get (items_after p t).bound q) ≡ field_of p t Bound q
+bound_read p t q ne = bound_row p (λ k. high_at p k - spends k t) q ne
+
+pub slack_read : (p : Puzzle) (t : List Move) (q : ℕ) → q ≢ 0 → option_map natural (slice_get (items_after p t).slack q) ≡ field_of p t Slack q
+slack_read p t q ne = bound_row p (λ k. high_at p k - low_at p k) q ne

@@ -1,0 +1,301 @@
+-- Down the nodes that Tweaks of one item took off: each option comes back into the lists of its other items, and under the node above it into its own.
+use Rattle.std.proofs.Common.{◌≡◌, ◌≢◌, ℕ, ◌+◌, ◌*◌, ◌<◌, ◌≤◌, ◌^◌, inr, Bool, true, false, not, cond, ◌&&◌, ◌||◌, eqb, List, [], ◌∷◌, ◌++◌, length, map, fold, filter, reverse, get_or, Option, Some, None, refl, ap, ap₂, sym, subst, ◌∙◌, arith, eqb-true, eq-eqb, ne_eqb}
+use Rattle.std.specs.List.{list_any}
+use Rattle.std.proofs.lemmas.Bool.{eqb-false, false≢true}
+use Rattle.std.proofs.lemmas.List.{length-map, reverse-append}
+use Rattle.xc_dance.specs.declared.dance.Move.{Move}
+use Rattle.xc_dance.specs.declared.links.nodes.Nodes.{Nodes}
+use Rattle.xc_dance.specs.declared.links.nodes.Span.{Span}
+use Rattle.xc_input.specs.Problem.{Puzzle, item_count, uses_of}
+use Rattle.xc_dance.specs.Moves.{is_open, AreLegal, listed_numbers}
+use Rattle.xc_dance.specs.Fields.{Node, unused, own, spacer, used, layout, link_place, is_in}
+use Rattle.xc_dance.specs.Links.Lines.{Line, put_at, mended}
+use Rattle.xc_dance.specs.Links.Steps.{shown, CanShowAll, others_of, show_costs}
+use Rattle.xc_dance.specs.Links.Tweaking.{shown_unless}
+use Rattle.xc_dance.specs.Links.TweaksBack.{with_ulink, climbed, climb_cost, CanClimb}
+use Rattle.xc_dance.proofs.LinkedTables.UnmarkedCosts.{show_costs-are, unmarked-reverse, unmarked_items}
+use Rattle.xc_dance.proofs.LinkedTables.OneList.{gone_count}
+use Rattle.xc_dance.specs.Links.Cells.{slot_of, link_at, fixed_up, fixed_down, top_in, ulink_in, dlink_in, color_in, nodes_from, line_of, with_line}
+use Rattle.xc_dance.specs.Links.Others.{other_items}
+use Rattle.xc_dance.specs.Links.Laid.{IsName, Placed, IsLaid}
+use Rattle.xc_dance.specs.Links.Made.{IsFitted}
+use Rattle.xc_dance.proofs.LinkedTables.Mapped.{map_same, get_within}
+use Rattle.xc_dance.proofs.LinkedTables.Undo.{same_nodes}
+use Rattle.xc_dance.proofs.LinkedTables.ReadyLemmas.{Stands}
+use Rattle.xc_dance.proofs.LinkedTables.OneNode.{IsMember, set_link, get_down}
+use Rattle.xc_dance.proofs.LinkedTables.Sweep.{in_above, by_first, put_at-same, put_at-other}
+use Rattle.xc_dance.proofs.LinkedTables.Goods.{Named, IsGood, member}
+use Rattle.xc_dance.proofs.LinkedTables.OneOption.{is_mark, IsApart}
+use Rattle.xc_dance.proofs.LinkedTables.OtherItems.{leaves, AllApart, in_others}
+use Rattle.xc_dance.proofs.LinkedTables.OthersApart.{others_apart, own_apart, item_range}
+use Rattle.xc_dance.proofs.LinkedTables.GoodLines.{all_good, numbers_named}
+use Rattle.xc_dance.proofs.MoveLemmas.Members.{element_of}
+use Rattle.xc_dance.proofs.LinkedTables.LineSteps.{numbers_rise}
+use Rattle.xc_dance.proofs.LinkedTables.MarkedNodes.{stands_in}
+use Rattle.xc_dance.proofs.LinkedTables.MetOptions.{met_at, split_and}
+use Rattle.xc_dance.proofs.LinkedTables.Regained.{Regaining, NextBack, next_back}
+use Rattle.xc_dance.proofs.LinkedTables.OneReturn.{shown_walk, back_all, back_at}
+use Rattle.xc_dance.proofs.LinkedTables.TweakStep.{line_here, line_there}
+
+-- ---- lists turned round
+
+in_push : (k x : ℕ) (xs : List ℕ) → is_in k (xs ++ x ∷ []) ≡ (is_in k (x ∷ xs))
+in_push k x [] = refl
+in_push k x (y ∷ ys) = ap (λ b. eqb y k || b) (in_push k x ys) ∙ swap (eqb y k) (eqb x k) (is_in k ys)
+  where
+    swap : (a b c : Bool) → (a || (b || c)) ≡ (b || (a || c))
+    swap true true c = refl
+    swap true false c = refl
+    swap false b c = refl
+
+pub in_reverse : (k : ℕ) (xs : List ℕ) → is_in k (reverse xs) ≡ is_in k xs
+in_reverse k [] = refl
+in_reverse k (x ∷ xs) = ap (is_in k) (reverse-append (x ∷ []) xs) ∙ in_push k x (reverse xs) ∙ ap (λ b. eqb x k || b) (in_reverse k xs)
+
+apart_push : (k x : ℕ) (xs : List ℕ) → IsApart k xs → x ≢ k → IsApart k (xs ++ x ∷ [])
+apart_push k x [] h ne = (ne, tt)
+apart_push k x (y ∷ ys) h ne = (h.0, apart_push k x ys h.1 ne)
+
+all_push : (x : ℕ) (xs : List ℕ) → AllApart xs → is_in x xs ≡ false → AllApart (xs ++ x ∷ [])
+all_push x [] h e = (tt, tt)
+all_push x (y ∷ ys) h e =
+    elim (eqb y x) as (λ b. eqb y x ≡ b → (b || is_in x ys) ≡ false → AllApart (y ∷ (ys ++ x ∷ []))) [
+      | true ↦ λ f g. absurd (false≢true (sym g))
+      | false ↦ λ f g. (apart_push y x ys h.0 (λ s. eqb-false y x f (sym s)), all_push x ys h.1 g)
+    ] refl e
+
+out_of : (j : ℕ) (js : List ℕ) → IsApart j js → is_in j js ≡ false
+out_of j [] h = refl
+out_of j (k ∷ ks) h = ap (λ b. b || is_in j ks) (ne_eqb k j h.0) ∙ out_of j ks h.1
+
+pub apart_reverse : (xs : List ℕ) → AllApart xs → AllApart (reverse xs)
+apart_reverse [] h = tt
+apart_reverse (x ∷ xs) h = subst AllApart (sym (reverse-append (x ∷ []) xs)) (all_push x (reverse xs) (apart_reverse xs h.1) (in_reverse x xs ∙ out_of x xs h.0))
+
+-- ---- the lines on the way
+
+-- the options of item i's list that are still to come back to item j's
+abbrev pub to_come : Puzzle → List Move → Bool → ℕ → ℕ → List ℕ → List ℕ
+to_come p t covered i j os = cond covered [] (filter (leaves p (color_in p t) i j) os)
+
+-- x is below one of these
+abbrev pub is_below : Line → ℕ → List ℕ → Bool
+is_below l x os = list_any (λ o. eqb (l.down o) x) os
+
+pub record Climbing (p : Puzzle) (t : List Move) (covered : Bool) (i : ℕ) (ln : ℕ → Line) (os : List ℕ) : Type 0 where
+  pub others : (j : ℕ) → 0 < j → j ≤ item_count p → j ≢ i → Regaining (line_of p t j) (ln j) (to_come p t covered i j os)
+  pub few : (j : ℕ) → 0 < j → j ≤ item_count p → j ≢ i → (ln j).len + length (to_come p t covered i j os) ≡ (line_of p t j).len
+  pub own_down : (x : ℕ) → (ln i).down x ≡ (line_of p t i).down x
+  pub own_up : (x : ℕ) → is_below (line_of p t i) x os ≡ false → (ln i).up x ≡ (line_of p t i).up x
+
+-- ---- what stands above one member is written
+
+abbrev pub raised : Line → ℕ → Line
+raised l o = record { len = l.len; up = put_at l.up (l.down o) o; down = l.down }
+
+pub top_kept : (ln : ℕ → Line) (i : ℕ) (l : Line) (n : Node) → l.len ≡ (ln i).len → top_in (with_line ln i l) n ≡ top_in ln n
+top_kept ln i l unused e = refl
+top_kept ln i l (spacer m) e = refl
+top_kept ln i l (used o u) e = refl
+top_kept ln i l (own k) e = elim (eqb k i) as (λ b. eqb k i ≡ b → cond b l.len (ln k).len ≡ (ln k).len) [
+  | true ↦ λ f. e ∙ ap (λ j. (ln j).len) (sym (eqb-true k i f))
+  | false ↦ λ f. refl
+] refl
+
+abbrev pub link_to : Puzzle → (ℕ → Line) → ℕ → Option (ℕ × ℕ) → ℕ
+link_to p ln fixed s = link_at p (λ j x. (ln j).down x) fixed s
+
+pub down_kept : (p : Puzzle) (ln : ℕ → Line) (i : ℕ) (l : Line) (n : Node) → ((x : ℕ) → l.down x ≡ (ln i).down x) → dlink_in p (with_line ln i l) n ≡ dlink_in p ln n
+down_kept p ln i l n h = by_slot (slot_of n)
+  where
+    by_slot : (s : Option (ℕ × ℕ)) → link_to p (with_line ln i l) (fixed_down p n) s ≡ link_to p ln (fixed_down p n) s
+    by_slot None = refl
+    by_slot (Some s) = ap (link_place p s.0) (elim (eqb s.0 i) as (λ b. eqb s.0 i ≡ b → cond b (l.down s.1) ((ln s.0).down s.1) ≡ (ln s.0).down s.1) [
+      | true ↦ λ f. h s.1 ∙ ap (λ j. (ln j).down s.1) (sym (eqb-true s.0 i f))
+      | false ↦ λ f. refl
+    ] refl)
+
+raised_is : (p : Puzzle) (col : Node → ℕ) (ln : ℕ → Line) (i o : ℕ) → IsLaid p → Placed p i ((ln i).down o) →
+    with_ulink (nodes_from p ln col) (link_place p i ((ln i).down o)) (link_place p i o) ≡ nodes_from p (with_line ln i (raised (ln i) o)) col
+raised_is p col ln i o laid h =
+    same_nodes (with_ulink (nodes_from p ln col) (link_place p i ((ln i).down o)) (link_place p i o)) (nodes_from p (with_line ln i (raised (ln i) o)) col)
+    (sym (map_same (top_in ln) (top_in (with_line ln i (raised (ln i) o))) (layout p) (λ k n e. top_kept ln i (raised (ln i) o) n refl)))
+    (sym (set_link p (λ k x. (ln k).up x) (fixed_up p) i ((ln i).down o) o laid h))
+    (sym (map_same (dlink_in p ln) (dlink_in p (with_line ln i (raised (ln i) o))) (layout p) (λ k n e. down_kept p ln i (raised (ln i) o) n (λ x. refl))))
+    refl
+
+-- ---- one step
+
+pub map_append : {X Y : Type 0} (f : X → Y) (xs ys : List X) → map f (xs ++ ys) ≡ map f xs ++ map f ys
+map_append f [] ys = refl
+map_append f (x ∷ xs) ys = ap (λ zs. f x ∷ zs) (map_append f xs ys)
+
+pub map_reverse : (f : ℕ → ℕ) (xs : List ℕ) → reverse (map f xs) ≡ map f (reverse xs)
+map_reverse f [] = refl
+map_reverse f (x ∷ xs) =
+    reverse-append (f x ∷ []) (map f xs) ∙ ap (λ ks. ks ++ f x ∷ []) (map_reverse f xs)
+    ∙ sym (map_append f (reverse xs) (x ∷ [])) ∙ ap (map f) (sym (reverse-append (x ∷ []) xs))
+
+-- what a step writes for option o
+abbrev pub back_writes : Puzzle → (Node → ℕ) → Bool → ℕ → ℕ → ℕ
+back_writes p col covered i o = cond covered 0 (3 * gone_count p col i o)
+
+-- the lines when the option is back in the lists of its other items
+pub record Opened (p : Puzzle) (t : List Move) (spans : List Span) (covered : Bool) (i : ℕ) (ln : ℕ → Line) (o : ℕ) (os : List ℕ) : Type 0 where
+  pub ln1 : ℕ → Line
+  pub can : covered ≡ false → (link_place p i o < length spans) × CanShowAll (nodes_from p ln (color_in p t)) (reverse (others_of spans (link_place p i o)))
+  pub done : shown_unless spans covered (nodes_from p ln (color_in p t)) (link_place p i o) ≡ nodes_from p ln1 (color_in p t)
+  pub own : ln1 i ≡ ln i
+  pub cost : cond covered 0 (show_costs (nodes_from p ln (color_in p t)) (reverse (others_of spans (link_place p i o)))) ≡ back_writes p (color_in p t) covered i o
+  pub others : (j : ℕ) → 0 < j → j ≤ item_count p → j ≢ i → Regaining (line_of p t j) (ln1 j) (to_come p t covered i j os)
+  pub few : (j : ℕ) → 0 < j → j ≤ item_count p → j ≢ i → (ln1 j).len + length (to_come p t covered i j os) ≡ (line_of p t j).len
+
+opened_covered : (p : Puzzle) (t : List Move) (spans : List Span) (i : ℕ) (ln : ℕ → Line) (o : ℕ) (os : List ℕ) → Climbing p t true i ln (o ∷ os) → Opened p t spans true i ln o os
+opened_covered p t spans i ln o os h = record {
+  ln1 = ln;
+  can = λ e. absurd (false≢true (sym e));
+  done = refl;
+  own = refl;
+  cost = refl;
+  others = h.others;
+  few = h.few;
+}
+
+opened_open : (p : Puzzle) (t : List Move) (spans : List Span) (i : ℕ) (ln : ℕ → Line) (o : ℕ) (os : List ℕ) → AreLegal p t → IsFitted p spans → is_open i t ≡ true → 0 < o → Named p i o → is_in o (listed_numbers p t i) ≡ true
+    → Climbing p t false i ln (o ∷ os) → Opened p t spans false i ln o os
+opened_open p t spans i ln o os legal fit opened o_pos named within h =
+    let col = color_in p t in
+    let laid = fit.laid in
+    let js = other_items p o i in
+    let x = link_place p i o in
+    let t0 : Nodes = nodes_from p ln col in
+    let back = reverse js in
+    let apart : AllApart back = apart_reverse js (others_apart p o i fit.fit) in
+    let comes : (j : ℕ) → leaves p col i j o ≡ true → 0 < j → j ≤ item_count p → j ≢ i → NextBack (line_of p t j) (ln j) o (filter (leaves p col i j) os) = λ j e pos le ne.
+    next_back (line_of p t j) (ln j) o (filter (leaves p col i j) os)
+    (subst (Regaining (line_of p t j) (ln j)) (ap (λ b. cond b (o ∷ filter (leaves p col i j) os) (filter (leaves p col i j) os)) e) (h.others j pos le ne)) in
+    let w = shown_walk p col ln o back laid o_pos apart (λ j e.
+    let in_js : is_in j js ≡ true = sym (in_reverse j js) ∙ e in
+    let both = split_and _ _ (sym (in_others p o i j (fit.fit.distinct o)) ∙ in_js) in
+    let j_named : Named p j o = both.1 in
+    let r = item_range p (uses_of p o) j (fit.fit.items o) j_named in
+    let ne : j ≢ i = λ s. false≢true (sym (ap not (eq-eqb j i s)) ∙ both.0) in
+    record {
+      pos = r.0;
+      le = r.1;
+      name = inr (o_pos, j_named);
+      returner = λ un.
+          let leave : leaves p col i j o ≡ true = ap₂ (λ a b. a && not b) in_js un in
+          let nb = comes j leave r.0 r.1 ne in
+          let met = met_at p t i j o legal laid fit.fit opened r.0 r.1 within j_named in
+          let j_open : is_open j t ≡ true = elim (is_open j t) as (λ b. is_open j t ≡ b → b ≡ true) [ true ↦ λ f. refl | false ↦ λ f. absurd (false≢true (sym un ∙ met.shut f)) ] refl in
+          let st : Stands (listed_numbers p t j) o = stands_in o (listed_numbers p t j) (met.opened j_open).1 in
+          let good : IsGood p j (line_of p t j) (st.ys ++ o ∷ st.zs) = subst (IsGood p j (line_of p t j)) st.is (all_good p t fit.fit j r.0 r.1) in
+          let m : IsMember p j (line_of p t j) o = member p j (line_of p t j) st.ys o st.zs r.0 r.1 good in
+          let count = h.few j r.0 r.1 ne in
+          let all : (line_of p t j).len ≡ length (st.ys ++ o ∷ st.zs) = good.len in
+          let most : length (st.ys ++ o ∷ st.zs) < 2 ^ 31 = good.few in
+          record {
+            name = m.name;
+            above = subst (IsName p j) (sym nb.up) m.above;
+            below = subst (IsName p j) (sym nb.down) m.below;
+            few = omega (arith, count, all, most);
+          };
+    }) in
+    let ln1 : ℕ → Line = back_all p col o ln back in
+    let at : (j : ℕ) → ln1 j ≡ cond (leaves p col i j o) (mended (ln j) o) (ln j) = λ j.
+    back_at p col o ln back j apart ∙ ap (λ b. cond (b && not (is_mark p col o j)) (mended (ln j) o) (ln j)) (in_reverse j js) in
+    let nodes : reverse (others_of spans x) ≡ map (λ j. link_place p j o) back = ap reverse (fit.spanned.others o i o_pos named) ∙ map_reverse (λ j. link_place p j o) js in
+    record {
+      ln1 = ln1;
+      can = λ e. (fit.spanned.within o i o_pos named, subst (CanShowAll t0) (sym nodes) w.can);
+      done = ap (fold shown t0) nodes ∙ w.done;
+      own = at i ∙ ap (λ b. cond (b && not (is_mark p col o i)) (mended (ln i) o) (ln i)) (out_of i js (own_apart p i o fit.fit));
+      cost =
+          ap (λ ks. show_costs t0 (reverse ks)) (fit.spanned.others o i o_pos named) ∙ show_costs-are t0 (reverse (map (λ j. link_place p j o) js))
+          ∙ unmarked-reverse (map col (layout p)) (map (λ j. link_place p j o) js) ∙ unmarked_items p col o js;
+      others = λ j pos le ne.
+          elim (leaves p col i j o) as (λ b. leaves p col i j o ≡ b → Regaining (line_of p t j) (ln1 j) (filter (leaves p col i j) os)) [
+            | true ↦ λ e. subst (λ (l : Line). Regaining (line_of p t j) l (filter (leaves p col i j) os)) (sym (at j ∙ ap (λ b. cond b (mended (ln j) o) (ln j)) e)) (comes j e pos le ne).next
+            | false ↦ λ e.
+                subst (λ (l : Line). Regaining (line_of p t j) l (filter (leaves p col i j) os)) (sym (at j ∙ ap (λ b. cond b (mended (ln j) o) (ln j)) e))
+                (subst (Regaining (line_of p t j) (ln j)) (ap (λ b. cond b (o ∷ filter (leaves p col i j) os) (filter (leaves p col i j) os)) e) (h.others j pos le ne))
+          ] refl;
+      few = λ j pos le ne.
+          let count = h.few j pos le ne in
+          elim (leaves p col i j o) as (λ b. leaves p col i j o ≡ b → (ln1 j).len + length (filter (leaves p col i j) os) ≡ (line_of p t j).len) [
+            | true ↦ λ e.
+                let is : (ln1 j).len ≡ (ln j).len + 1 = ap (λ (l : Line). l.len) (at j ∙ ap (λ b. cond b (mended (ln j) o) (ln j)) e) in
+                let long : length (filter (leaves p col i j) (o ∷ os)) ≡ 1 + length (filter (leaves p col i j) os) = ap (λ b. length (cond b (o ∷ filter (leaves p col i j) os) (filter (leaves p col i j) os))) e ∙ omega arith in
+                omega (arith, count, is, long)
+            | false ↦ λ e.
+                let is : (ln1 j).len ≡ (ln j).len = ap (λ (l : Line). l.len) (at j ∙ ap (λ b. cond b (mended (ln j) o) (ln j)) e) in
+                let long : length (filter (leaves p col i j) (o ∷ os)) ≡ length (filter (leaves p col i j) os) = ap (λ b. length (cond b (o ∷ filter (leaves p col i j) os) (filter (leaves p col i j) os))) e in
+                omega (arith, count, is, long)
+          ] refl;
+    }
+
+pub record ClimbStep (p : Puzzle) (t : List Move) (spans : List Span) (covered : Bool) (i : ℕ) (ln : ℕ → Line) (o : ℕ) (os : List ℕ) : Type 0 where
+  pub ln' : ℕ → Line
+  pub can : CanClimb spans covered (nodes_from p ln (color_in p t)) (link_place p i o)
+  pub done : climbed spans covered (nodes_from p ln (color_in p t)) (link_place p i o) ≡ nodes_from p ln' (color_in p t)
+  pub climbing : Climbing p t covered i ln' os
+  pub len : (ln' i).len ≡ (ln i).len
+  pub cost : climb_cost spans covered (nodes_from p ln (color_in p t)) (link_place p i o) ≡ 1 + back_writes p (color_in p t) covered i o
+
+by_opened : (p : Puzzle) (t : List Move) (spans : List Span) (covered : Bool) (i : ℕ) (ln : ℕ → Line) (o : ℕ) (os : List ℕ) → IsFitted p spans → 0 < i → i ≤ item_count p → is_in o (listed_numbers p t i) ≡ true
+    → Climbing p t covered i ln (o ∷ os) → Opened p t spans covered i ln o os → ClimbStep p t spans covered i ln o os
+by_opened p t spans covered i ln o os fit pos le within h m1 =
+    let col = color_in p t in
+    let laid = fit.laid in
+    let x = link_place p i o in
+    let l : Line = line_of p t i in
+    let ln1 : ℕ → Line = m1.ln1 in
+    let t0 : Nodes = nodes_from p ln col in
+    let t1 : Nodes = nodes_from p ln1 col in
+    let st : Stands (listed_numbers p t i) o = stands_in o (listed_numbers p t i) within in
+    let good : IsGood p i l (st.ys ++ o ∷ st.zs) = subst (IsGood p i l) st.is (all_good p t fit.fit i pos le) in
+    let m : IsMember p i l o = member p i l st.ys o st.zs pos le good in
+    let down_is : (ln1 i).down o ≡ l.down o = ap (λ (k : Line). k.down o) m1.own ∙ h.own_down o in
+    let here = laid.there i o pos le m.name in
+    let below : Placed p i ((ln1 i).down o) = laid.there i ((ln1 i).down o) pos le (subst (IsName p i) (sym down_is) m.below) in
+    let w : Line = raised (ln1 i) o in
+    let ln' : ℕ → Line = with_line ln1 i w in
+    let at_i : ln' i ≡ w = line_here ln1 i w in
+    let x_in = get_within (layout p) x here.node here.at in
+    let d_in = get_within (layout p) (link_place p i ((ln1 i).down o)) below.node below.at in
+    let down_long : length t1.dlink ≡ length (layout p) = length-map (layout p) (dlink_in p ln1) in
+    let up_long : length t1.ulink ≡ length (layout p) = length-map (layout p) (ulink_in p ln1) in
+    let leads : get_or t1.dlink x 0 ≡ link_place p i ((ln1 i).down o) = get_down p ln1 i o here in
+    record {
+      ln' = ln';
+      can = record {
+        show = m1.can;
+        place = subst (λ (u : Nodes). x < length u.dlink) (sym m1.done) (omega (arith, x_in, down_long));
+        below = subst (λ (u : Nodes). get_or u.dlink x 0 < length u.ulink) (sym m1.done) (omega (arith, d_in, up_long, leads));
+      };
+      done = ap (λ (u : Nodes). with_ulink u (get_or u.dlink x 0) x) m1.done ∙ ap (λ k. with_ulink t1 k x) leads ∙ raised_is p col ln1 i o laid below;
+      climbing = record {
+        others = λ j jpos jle ne. subst (λ (k : Line). Regaining (line_of p t j) k (to_come p t covered i j os)) (sym (line_there ln1 i j w ne)) (m1.others j jpos jle ne);
+        few = λ j jpos jle ne. let a = m1.few j jpos jle ne in let b = ap (λ (k : Line). k.len) (line_there ln1 i j w ne) in omega (arith, a, b);
+        own_down = λ y. ap (λ (k : Line). k.down y) at_i ∙ ap (λ (k : Line). k.down y) m1.own ∙ h.own_down y;
+        own_up = λ y e.
+            ap (λ (k : Line). k.up y) at_i
+            ∙ by_first (put_at (ln1 i).up ((ln1 i).down o) o y ≡ l.up y) ((ln1 i).down o) y
+            (λ s. put_at-same (ln1 i).up ((ln1 i).down o) o y (sym s) ∙ sym m.down_back ∙ ap l.up (sym down_is ∙ s))
+            (λ ne.
+            put_at-other (ln1 i).up ((ln1 i).down o) o y (λ s. ne (sym s))
+            ∙ ap (λ (k : Line). k.up y) m1.own
+            ∙ h.own_up y (ap (λ b. b || is_below l y os) (ne_eqb (l.down o) y (λ s. ne (down_is ∙ s))) ∙ e));
+      };
+      len = ap (λ (k : Line). k.len) at_i ∙ ap (λ (k : Line). k.len) m1.own;
+      cost = ap (λ n. 1 + n) m1.cost;
+    }
+
+pub climb_step : (p : Puzzle) (t : List Move) (spans : List Span) (covered : Bool) (i : ℕ) (ln : ℕ → Line) (o : ℕ) (os : List ℕ) → AreLegal p t → IsFitted p spans → 0 < i → i ≤ item_count p → is_open i t ≡ not covered → is_in o (listed_numbers p t i) ≡ true
+    → Climbing p t covered i ln (o ∷ os) → ClimbStep p t spans covered i ln o os
+climb_step p t spans true i ln o os legal fit pos le shut within h = by_opened p t spans true i ln o os fit pos le within h (opened_covered p t spans i ln o os h)
+climb_step p t spans false i ln o os legal fit pos le opened within h =
+    let named : Named p i o = element_of (Named p i) o (listed_numbers p t i) (numbers_named p t i) within in
+    let o_pos : 0 < o = in_above 0 o (listed_numbers p t i) (numbers_rise p t i) within in
+    by_opened p t spans false i ln o os fit pos le within h (opened_open p t spans i ln o os legal fit opened o_pos named within h)

@@ -1,0 +1,106 @@
+-- Whether an item is covered, read from its ring.
+use Rattle.std.proofs.Common.{◌≡◌, ◌≢◌, ℕ, ◌+◌, ◌<◌, ◌≤◌, Bool, true, false, not, cond, ◌&&◌, ◌||◌, eqb, List, [], ◌∷◌, length, get_or, Some, None, refl, ap, sym, subst, ◌∙◌, arith, eqb-true, eq-eqb, ne_eqb}
+use Rattle.std.proofs.lemmas.Bool.{false≢true}
+use Rattle.xc_dance.specs.declared.dance.Move.{Move}
+use Rattle.xc_dance.specs.declared.dance.Move.TheVariants.{Cover, Purify, Tweak, Spend}
+use Rattle.xc_input.specs.Problem.{Puzzle, item_count}
+use Rattle.xc_dance.specs.Moves.{is_open, is_covered, purified, AreLegal}
+use Rattle.xc_dance.specs.Fields.{left_of, right_of, last_below, ring_head, ring_of}
+use Rattle.xc_dance.specs.Links.ItemCells.{items_after, llink_at, rlink_at}
+use Rattle.xc_dance.specs.Links.Rings.{is_off}
+use Rattle.xc_dance.proofs.LinkedTables.RingStep.{row_get, row_len, spent_rlink, spent_left}
+use Rattle.xc_dance.proofs.LinkedTables.StillItems.{IsStill, still_rlink, still_left}
+use Rattle.xc_dance.proofs.LinkedTables.Turned.{side, rlink_next, right_beside, left_beside, beside_place, beside_covered, open_uncovered, rlink_back, llink_item}
+
+-- what leads past a covered item
+pub record IsPast (p : Puzzle) (t : List Move) (i : ℕ) : Type 0 where
+  pub place : left_of p t i < item_count p + 2
+  pub past : rlink_at p t (left_of p t i) ≢ i
+
+still_past : (p : Puzzle) (t : List Move) (m : Move) (i : ℕ) → left_of p (m ∷ t) i ≡ left_of p t i → ((q : ℕ) → rlink_at p (m ∷ t) q ≡ rlink_at p t q) → IsPast p t i → IsPast p (m ∷ t) i
+still_past p t m i l r h = record {
+  place = subst (λ k. k < item_count p + 2) (sym l) h.place;
+  past = λ e. h.past (sym (r (left_of p t i)) ∙ ap (rlink_at p (m ∷ t)) (sym l) ∙ e);
+}
+
+pub past_covered : (p : Puzzle) (t : List Move) (i : ℕ) → AreLegal p t → 0 < i → i ≤ item_count p → is_covered i t ≡ true → IsPast p t i
+past_covered p [] i legal pos le e = absurd (false≢true e)
+past_covered p (Purify j c ∷ t) i legal pos le e =
+    let still : IsStill t (Purify j c) = record { covered = λ q. refl; spent = λ q. refl } in
+    still_past p t (Purify j c) i (still_left p t (Purify j c) i still) (λ q. still_rlink p t (Purify j c) q still) (past_covered p t i legal.1 pos le e)
+past_covered p (Tweak j ∷ t) i legal pos le e =
+    let still : IsStill t (Tweak j) = record { covered = λ q. refl; spent = λ q. refl } in
+    still_past p t (Tweak j) i (still_left p t (Tweak j) i still) (λ q. still_rlink p t (Tweak j) q still) (past_covered p t i legal.1 pos le e)
+past_covered p (Spend j ∷ t) i legal pos le e = still_past p t (Spend j) i (spent_left p t j i) (λ q. spent_rlink p t j q) (past_covered p t i legal.1 pos le e)
+past_covered p (Cover k ∷ t) i legal pos le e =
+    let k_pos : 0 < k = let h = legal.0.0.0 in omega (arith, h) in
+    let k_le : k ≤ item_count p = legal.0.0.1 in
+    let un : is_covered k t ≡ false = open_uncovered k t legal.0.1 in
+    let next = Cover k ∷ t in
+    let l = left_of p t i in
+    let same_l : left_of p next i ≡ l = ap (λ v. cond v l (last_below (ring_head p i) i (ring_of p next i))) e in
+    elim (eqb i k) as (λ b. eqb i k ≡ b → (b || is_covered i t) ≡ true → IsPast p next i) [
+      | true ↦ λ f g.
+          let same : i ≡ k = eqb-true i k f in
+          let un_i : is_covered i t ≡ false = ap (λ j. is_covered j t) same ∙ un in
+          let l_in : l < item_count p + 2 = beside_place p t (side p i) l (left_beside p t i pos le un_i).0 in
+          let leads : rlink_at p (Cover i ∷ t) l ≡ right_of p t i = rlink_next p t i pos le un_i l l_in ∙ ap (λ v. cond v (right_of p t i) (rlink_at p t l)) (eq-eqb l l refl) in
+          record {
+            place = subst (λ j. j < item_count p + 2) (sym same_l) l_in;
+            past = λ h. (right_beside p t i pos le un_i).1 (sym leads ∙ ap (λ j. rlink_at p (Cover j ∷ t) l) same ∙ ap (rlink_at p next) (sym same_l) ∙ h);
+          }
+      | false ↦ λ f g.
+          let before = past_covered p t i legal.1 pos le g in
+          let r = right_of p t k in
+          let r_ne : i ≢ r = beside_covered p t (side p k) r i (right_beside p t k k_pos k_le un).0 pos le g in
+          let leads : rlink_at p next l ≡ cond (eqb l (left_of p t k)) r (rlink_at p t l) = rlink_next p t k k_pos k_le un l before.place in
+          let no : (v : Bool) → cond v r (rlink_at p t l) ≢ i = λ v. elim v as (λ v. cond v r (rlink_at p t l) ≢ i) [
+            | true ↦ λ h. r_ne (sym h)
+            | false ↦ before.past
+          ] in
+          record {
+            place = subst (λ j. j < item_count p + 2) (sym same_l) before.place;
+            past = λ h. no (eqb l (left_of p t k)) (sym leads ∙ ap (rlink_at p next) (sym same_l) ∙ h);
+          }
+    ] refl e
+
+-- the ring tells whether an item is covered
+pub record OffStep (p : Puzzle) (t : List Move) (i : ℕ) : Type 0 where
+  pub place : i < length (items_after p t).llink
+  pub left : get_or (items_after p t).llink i 0 < length (items_after p t).rlink
+  pub is : is_off (items_after p t) i ≡ is_covered i t
+
+pub off_is : (p : Puzzle) (t : List Move) (i : ℕ) → AreLegal p t → 0 < i → i ≤ item_count p → OffStep p t i
+off_is p t i legal pos le =
+    let n = item_count p + 2 in
+    let l = left_of p t i in
+    let long_l = row_len (llink_at p t) n in
+    let long_r = row_len (rlink_at p t) n in
+    let get_l : get_or (items_after p t).llink i 0 ≡ l = row_get (llink_at p t) n i (omega (arith, le)) ∙ llink_item p t i pos le in
+    let both : (l < n) × (eqb (rlink_at p t l) i ≡ not (is_covered i t)) =
+    elim (is_covered i t) as (λ b. is_covered i t ≡ b → (l < n) × (eqb (rlink_at p t l) i ≡ not b)) [
+      | true ↦ λ e. let h = past_covered p t i legal pos le e in (h.place, ne_eqb (rlink_at p t l) i h.past)
+      | false ↦ λ e. (beside_place p t (side p i) l (left_beside p t i pos le e).0, eq-eqb (rlink_at p t l) i (rlink_back p t i pos le e))
+    ] refl in
+    let get_r : get_or (items_after p t).rlink (get_or (items_after p t).llink i 0) 0 ≡ rlink_at p t l = ap (λ k. get_or (items_after p t).rlink k 0) get_l ∙ row_get (rlink_at p t) n l both.0 in
+    record {
+      place = omega (arith, long_l, le);
+      left = omega (arith, get_l, both.0, long_r);
+      is = ap (λ k. not (eqb k i)) get_r ∙ ap not both.1 ∙ elim (is_covered i t) as (λ b. not (not b) ≡ b) [ true ↦ refl | false ↦ refl ];
+    }
+
+-- an item that isn't purified is open where it isn't covered
+pub open_or_covered : (i : ℕ) (t : List Move) → purified i t ≡ None → is_open i t ≡ not (is_covered i t)
+open_or_covered i [] e = refl
+open_or_covered i (Cover j ∷ t) e =
+    elim (eqb i j) as (λ b. (not b && is_open i t) ≡ not (b || is_covered i t)) [
+      | true ↦ refl
+      | false ↦ open_or_covered i t e
+    ]
+open_or_covered i (Purify j c ∷ t) e =
+    elim (eqb i j) as (λ b. cond b (Some c) (purified i t) ≡ None → (not b && is_open i t) ≡ not (is_covered i t)) [
+      | true ↦ λ f. cc
+      | false ↦ λ f. open_or_covered i t f
+    ] e
+open_or_covered i (Tweak j ∷ t) e = open_or_covered i t e
+open_or_covered i (Spend j ∷ t) e = open_or_covered i t e

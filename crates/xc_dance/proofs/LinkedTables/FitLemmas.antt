@@ -1,0 +1,53 @@
+-- A valid problem is fit for the walks.
+use Rattle.std.proofs.Common.{◌≡◌, ◌≢◌, ℕ, zero, suc, ◌<◌, ◌≤◌, ◌^◌, false, List, [], ◌∷◌, length, get_or, refl, sym, arith, ne_eqb}
+use Rattle.std.specs.Prelude.{is_some, slice_get, unwrap_or, All, AllPairs}
+use Rattle.std.specs.List.{AllByRecursion}
+use Rattle.std.proofs.lemmas.List.Elements.{recursion_from_All}
+use Rattle.xc_input.specs.declared.problem.Use.{Use}
+use Rattle.xc_input.specs.Problem.{Puzzle, colour_in, uses_of, item_count, IsValid, IsSoundOption, IsSoundUse}
+use Rattle.xc_dance.specs.Links.Laid.{AreDistinct, IsFit}
+
+absent : (us : List Use) (i : ℕ) (d : Use) → ((j : ℕ) → j < length us → i ≢ (get_or us j d).item) → is_some (colour_in us i) ≡ false
+absent [] i d h = refl
+absent (u ∷ us) i d h =
+    let ne : u.item ≢ i = λ e. h 0 (omega arith) (sym e) in
+    rw (ne_eqb u.item i ne) (absent us i d (λ j lt. h (suc j) (omega (arith, lt))))
+
+pub distinct_from : (us : List Use) → AllPairs (λ u v. u.item ≢ v.item) us → AreDistinct us
+distinct_from [] h = tt
+distinct_from (u ∷ us) h = (
+  absent us u.item u (λ j lt. h 0 (suc j) u (omega arith) (omega (arith, lt))),
+  distinct_from us (λ i j d a b. h (suc i) (suc j) d (omega (arith, a)) (omega (arith, b))),
+)
+
+at_place : (P : List Use → Type 0) (os : List (List Use)) (k : ℕ) → P [] → AllByRecursion P os → P (unwrap_or (slice_get os k) [])
+at_place P [] k nil a = nil
+at_place P (us ∷ os) zero nil a = a.0
+at_place P (us ∷ os) (suc k) nil a = at_place P os k nil a.1
+
+at_option : (P : List Use → Type 0) (p : Puzzle) (o : ℕ) → P [] → AllByRecursion P p.options → P (uses_of p o)
+at_option P p zero nil a = nil
+at_option P p (suc k) nil a = at_place P p.options k nil a
+
+each_one : {X : Type 0} (P Q : X → Type 0) (xs : List X) → ((x : X) → P x → Q x) → AllByRecursion P xs → AllByRecursion Q xs
+each_one P Q [] h a = tt
+each_one P Q (x ∷ xs) h a = (h x a.0, each_one P Q xs h a.1)
+
+abbrev InRange : Puzzle → Use → Type 0
+InRange p u = (0 < u.item) × (u.item ≤ item_count p)
+
+sound_items : (p : Puzzle) (us : List Use) → IsSoundOption p us → AllByRecursion (InRange p) us
+sound_items p us s = each_one (IsSoundUse p) (InRange p) us (λ u h. (let a = h.0.0 in omega (arith, a), h.0.1)) (recursion_from_All (IsSoundUse p) us s.sound)
+
+-- of the colours D1 says nothing: they are to be below the mark
+pub is_fit : (p : Puzzle) → IsValid p → All (λ us. All (λ u. u.colour < 4294967295) us) p.options → length p.options < 2 ^ 30 → IsFit p
+is_fit p valid colours few =
+    let sound : AllByRecursion (IsSoundOption p) p.options = recursion_from_All (IsSoundOption p) p.options valid.options in
+    record {
+      distinct = λ o. at_option AreDistinct p o tt (each_one (IsSoundOption p) AreDistinct p.options (λ us s. distinct_from us s.distinct) sound);
+      items = λ o. at_option (λ us. AllByRecursion (InRange p) us) p o tt (each_one (IsSoundOption p) (λ us. AllByRecursion (InRange p) us) p.options (sound_items p) sound);
+      colours = λ o. at_option (λ us. AllByRecursion (λ u. u.colour < 4294967295) us) p o tt
+          (each_one (λ us. All (λ u. u.colour < 4294967295) us) (λ us. AllByRecursion (λ u. u.colour < 4294967295) us) p.options (λ us h. recursion_from_All (λ u. u.colour < 4294967295) us h)
+          (recursion_from_All (λ us. All (λ u. u.colour < 4294967295) us) p.options colours));
+      few = few;
+    }

@@ -1,0 +1,90 @@
+-- The node table as it is laid node by node.
+use Rattle.std.proofs.Common.{◌≡◌, ℕ, zero, suc, ◌+◌, ◌-◌, ◌<◌, ◌≤◌, Bool, true, false, cond, List, [], ◌∷◌, ◌++◌, length, map, Option, Some, None, refl, ap, ap₂, sym, ◌∙◌, arith, lt-ltb, le-ltb}
+use Rattle.std.specs.Prelude.{slice_get}
+use Rattle.xc_input.specs.declared.problem.Use.{Use}
+use Rattle.xc_input.specs.Problem.{Puzzle, item_count, option_count}
+use Rattle.xc_dance.specs.declared.links.nodes.Nodes.{Nodes}
+use Rattle.xc_dance.specs.declared.links.nodes.Row.{Row}
+use Rattle.xc_dance.specs.Links.Steps.{HasSize}
+use Rattle.xc_dance.specs.Fields.{Node, unused, own, spacer, layout, spacer_place}
+use Rattle.xc_dance.specs.Links.Cells.{top_in, ulink_in, dlink_in, color_in, fixed_up, fixed_down, nodes_from}
+use Rattle.xc_dance.specs.Links.OptionPlaces.{place_at}
+use Rattle.xc_dance.specs.Links.FirstNodes.{blanks, row_of, laid_to, with_row}
+use Rattle.xc_dance.proofs.LinkedTables.FilledColumns.{filled_none, filled_all, length-filled, filled_more}
+use Rattle.xc_dance.proofs.LinkedTables.LaidLemmas.{head_is}
+use Rattle.xc_dance.proofs.LinkedTables.SpacerPlaces.{spacer_at}
+use Rattle.xc_dance.proofs.LinkedTables.PlaceLemmas.{place_next}
+
+make : List ℕ → List ℕ → List ℕ → List ℕ → Nodes
+make a b c d = record { top = a; ulink = b; dlink = c; color = d }
+
+-- tables with the same columns are the same
+pub same_columns : (s t : Nodes) → s.top ≡ t.top → s.ulink ≡ t.ulink → s.dlink ≡ t.dlink → s.color ≡ t.color → s ≡ t
+unfolding make
+same_columns s t a b c d =
+    ap (λ w. make w s.ulink s.dlink s.color) a ∙ ap (λ x. make t.top x s.dlink s.color) b ∙ ap (λ y. make t.top t.ulink y s.color) c ∙ ap (make t.top t.ulink t.dlink) d
+
+-- one node more
+pub laid_more : (p : Puzzle) (k : ℕ) (n : Node) (r : Row) → slice_get (layout p) k ≡ Some n → r ≡ row_of p n → with_row (laid_to p k) k r ≡ laid_to p (k + 1)
+laid_more p k n r e is =
+    same_columns (with_row (laid_to p k) k r) (laid_to p (k + 1))
+    (filled_more (top_in blanks) (layout p) k n r.top e (ap (λ (x : Row). x.top) is))
+    (filled_more (ulink_in p blanks) (layout p) k n r.ulink e (ap (λ (x : Row). x.ulink) is))
+    (filled_more (dlink_in p blanks) (layout p) k n r.dlink e (ap (λ (x : Row). x.dlink) is))
+    (filled_more (color_in p []) (layout p) k n r.color e (ap (λ (x : Row). x.color) is))
+
+pub laid_none : (p : Puzzle) (t : Nodes) (c : ℕ) → c ≡ length (layout p) →
+    (let zeros = Rattle.std.proofs.Common.replicate {A = ℕ} c 0 in let z : Nodes = record { top = zeros; ulink = zeros; dlink = zeros; color = zeros } in t ≡ z) → t ≡ laid_to p 0
+laid_none p t c e h =
+    h ∙ ap (λ n. (let zeros = Rattle.std.proofs.Common.replicate {A = ℕ} n 0 in let z : Nodes = record { top = zeros; ulink = zeros; dlink = zeros; color = zeros } in z)) e
+    ∙ same_columns (let zeros = Rattle.std.proofs.Common.replicate {A = ℕ} (length (layout p)) 0 in record { top = zeros; ulink = zeros; dlink = zeros; color = zeros }) (laid_to p 0)
+    (filled_none (top_in blanks) (layout p)) (filled_none (ulink_in p blanks) (layout p)) (filled_none (dlink_in p blanks) (layout p)) (filled_none (color_in p []) (layout p))
+
+pub laid_all : (p : Puzzle) → laid_to p (length (layout p)) ≡ nodes_from p blanks (color_in p [])
+laid_all p =
+    let n = length (layout p) in
+    same_columns (laid_to p n) (nodes_from p blanks (color_in p []))
+    (filled_all (top_in blanks) (layout p) n (omega arith)) (filled_all (ulink_in p blanks) (layout p) n (omega arith)) (filled_all (dlink_in p blanks) (layout p) n (omega arith)) (filled_all (color_in p []) (layout p) n (omega arith))
+
+pub laid_len : (p : Puzzle) (k : ℕ) → length (laid_to p k).top ≡ length (layout p)
+laid_len p k = length-filled (top_in blanks) (layout p) k
+
+pub laid_size : (p : Puzzle) (k : ℕ) → HasSize (laid_to p k) (length (laid_to p k).top)
+laid_size p k =
+    let top = sym (laid_len p k) in
+    record {
+      top = refl;
+      ulink = length-filled (ulink_in p blanks) (layout p) k ∙ top;
+      dlink = length-filled (dlink_in p blanks) (layout p) k ∙ top;
+      color = length-filled (color_in p []) (layout p) k ∙ top;
+    }
+
+-- ---- what a spacer leads to
+
+pub up_next : (p : Puzzle) (o : ℕ) → o ≤ option_count p → place_at p o + 1 ≡ fixed_up p (spacer (o + 1))
+up_next p o le =
+    let s : suc o ≡ o + 1 = omega arith in
+    let here = spacer_at p o le in
+    let is : place_at p o + 1 ≡ fixed_up p (spacer (suc o)) = omega (arith, here) in
+    is ∙ ap (λ n. fixed_up p (spacer n)) s
+
+pub down_next : (p : Puzzle) (o : ℕ) (us : List Use) → o < option_count p → slice_get p.options o ≡ Some us → place_at p o + length us ≡ fixed_down p (spacer o)
+down_next p o us lt e =
+    let here = spacer_at p (o + 1) (omega (arith, lt)) in
+    let next = place_next p o us e in
+    let is : place_at p o + length us ≡ spacer_place p (o + 1) - 1 = omega (arith, here, next) in
+    rw (lt-ltb o (option_count p) lt) is
+
+pub down_none : (p : Puzzle) (o : ℕ) → option_count p ≤ o → 0 ≡ fixed_down p (spacer o)
+down_none p o le = rw (le-ltb o (option_count p) le) refl
+
+-- ---- the rows
+
+-- the unused node and an item's own node
+pub own_row : (p : Puzzle) (i : ℕ) → i ≤ item_count p → (n : Node) × (slice_get (layout p) i ≡ Some n) × (let r : Row = record { top = 0; ulink = i; dlink = i; color = 0 } in r ≡ row_of p n)
+own_row p zero le = (unused, refl, refl)
+own_row p (suc i) le = (own (suc i), head_is p (suc i) (omega arith) le, refl)
+
+pub spacer_row : (p : Puzzle) (o above below : ℕ) → above ≡ fixed_up p (spacer o) → below ≡ fixed_down p (spacer o) →
+    (let r : Row = record { top = 2147483648 + o; ulink = above; dlink = below; color = 0 } in r ≡ row_of p (spacer o))
+spacer_row p o above below e f = let row : ℕ → ℕ → Row = λ a b. record { top = 2147483648 + o; ulink = a; dlink = b; color = 0 } in ap₂ row e f

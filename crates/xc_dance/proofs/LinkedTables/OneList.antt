@@ -1,0 +1,375 @@
+-- Down one list and back up: the options of its nodes leave the lists of their other items, but for those of a colour that is kept, whose nodes are marked.
+use Rattle.std.proofs.Common.{◌≡◌, ◌≢◌, ℕ, ◌+◌, ◌*◌, ◌<◌, ◌≤◌, inr, Bool, true, false, not, cond, ◌&&◌, ◌||◌, eqb, List, [], ◌∷◌, ◌++◌, length, map, fold, filter, reverse, get_or, Option, Some, None, refl, ap, ap₂, sym, subst, ◌∙◌, arith, eqb-true, eq-eqb, ne_eqb}
+use Rattle.std.proofs.lemmas.Bool.{false≢true}
+use Rattle.std.proofs.lemmas.List.{length-map, reverse-append}
+use Rattle.std.proofs.lemmas.List.Sums.{fold-append}
+use Rattle.xc_dance.specs.declared.links.nodes.Nodes.{Nodes}
+use Rattle.xc_dance.specs.declared.links.nodes.Span.{Span}
+use Rattle.xc_input.specs.Problem.{Puzzle, item_count}
+use Rattle.xc_dance.specs.Lists.Losing.{is_kept}
+use Rattle.xc_dance.specs.Fields.{Node, layout, link_place, is_in}
+use Rattle.xc_dance.specs.Links.Lines.{Line, cut, IsLinkedFrom}
+use Rattle.xc_dance.specs.Links.Steps.{hidden, shown, CanHideAll, CanShowAll, others_of, hidden_node, shown_node, hide_costs, show_costs}
+use Rattle.xc_dance.specs.Links.ListWalks.{with_colour, is_kept_colour, is_kept_mark, kept_colour, left_node, back_node, leave_cost, back_cost, walk_costs, back_costs, CanLeave, CanReturn, IsWalk, IsWalkBack}
+use Rattle.xc_dance.specs.Links.Cells.{nodes_from, ulink_in, dlink_in, with_line, with_color}
+use Rattle.xc_dance.specs.Links.Others.{other_items, HasSpans}
+use Rattle.xc_dance.specs.Links.Laid.{Placed, IsLaid}
+use Rattle.xc_dance.proofs.LinkedTables.Mapped.{get_within}
+use Rattle.xc_dance.proofs.LinkedTables.Undo.{fold-shown-reverse, written_back, same_nodes}
+use Rattle.xc_dance.proofs.LinkedTables.ReadyLemmas.{Stands}
+use Rattle.xc_dance.proofs.LinkedTables.OneNode.{get_up, get_down}
+use Rattle.xc_dance.proofs.LinkedTables.Goods.{Named, AllGood}
+use Rattle.xc_dance.proofs.LinkedTables.Sweep.{Rises, in_above}
+use Rattle.xc_dance.proofs.LinkedTables.UnmarkedCosts.{hide_costs-are, show_costs-are, unmarked-reverse, unmarked_items}
+use Rattle.xc_dance.proofs.LinkedTables.Colours.{coloured_is, color_here, color_other}
+use Rattle.xc_dance.proofs.LinkedTables.OneOption.{is_mark, left_one, left_all, IsApart, AreReady, Walked, walked}
+
+-- ---- lines of other items
+
+pub one_other : (p : Puzzle) (col : Node → ℕ) (o : ℕ) (ln : ℕ → Line) (j k : ℕ) → j ≢ k → left_one p col o ln j k ≡ ln k
+one_other p col o ln j k ne =
+    let l : Line = cut (ln j) o in
+    let make : Bool → Line = λ b. record { len = cond b l.len (ln k).len; up = λ x. cond b (l.up x) ((ln k).up x); down = λ x. cond b (l.down x) ((ln k).down x) } in
+    elim (is_mark p col o j) as (λ b. cond b ln (with_line ln j l) k ≡ ln k) [
+      | true ↦ refl
+      | false ↦ ap make (ne_eqb k j (λ e. ne (sym e)))
+    ]
+
+pub all_other : (p : Puzzle) (col : Node → ℕ) (o : ℕ) (ln : ℕ → Line) (js : List ℕ) (k : ℕ) → IsApart k js → left_all p col o ln js k ≡ ln k
+all_other p col o ln [] k apart = refl
+all_other p col o ln (j ∷ js) k apart = all_other p col o (left_one p col o ln j) js k apart.1 ∙ one_other p col o ln j k apart.0
+
+-- ---- what the walk leaves
+
+-- the options xs, each without i, leave one after another
+abbrev pub left_list : Puzzle → (Node → ℕ) → ℕ → (ℕ → Line) → List ℕ → ℕ → Line
+left_list p col i ln xs = fold (λ ln o. left_all p col o ln (other_items p o i)) ln xs
+
+-- those of the options that leave
+abbrev pub leavers : Puzzle → ℕ → Option ℕ → List ℕ → List ℕ
+leavers p i keep xs = filter (λ o. not (is_kept p i keep o)) xs
+
+-- item i's nodes of the others are marked
+abbrev pub marked_list : Puzzle → ℕ → Option ℕ → (Node → ℕ) → List ℕ → Node → ℕ
+marked_list p i keep now xs = fold (λ now o. cond (is_kept p i keep o) (with_color now i o 4294967295) now) now xs
+
+-- ---- what the walk writes
+
+-- how many of option o's other nodes leave their lists
+abbrev pub gone_count : Puzzle → (Node → ℕ) → ℕ → ℕ → ℕ
+gone_count p col i o = length (filter (λ j. not (is_mark p col o j)) (other_items p o i))
+
+abbrev pub step_cost : Puzzle → (Node → ℕ) → ℕ → Option ℕ → ℕ → ℕ
+step_cost p col i keep o = cond (is_kept p i keep o) 1 (3 * gone_count p col i o)
+
+abbrev pub step_costs : Puzzle → (Node → ℕ) → ℕ → Option ℕ → List ℕ → ℕ
+step_costs p col i keep [] = 0
+step_costs p col i keep (o ∷ xs) = step_cost p col i keep o + step_costs p col i keep xs
+
+-- ---- what the walk asks
+
+abbrev pub own_color : Puzzle → (Node → ℕ) → ℕ → ℕ → ℕ
+own_color p col i o = get_or (map col (layout p)) (link_place p i o) 0
+
+-- the node of option o in item i's own list isn't marked yet, and its colour tells whether it is kept
+pub record OwnReady (p : Puzzle) (col : Node → ℕ) (i : ℕ) (keep : Option ℕ) (o : ℕ) : Type 0 where
+  pub unmarked : eqb (own_color p col i o) 4294967295 ≡ false
+  pub test : is_kept_colour keep (own_color p col i o) ≡ is_kept p i keep o
+
+-- each option's other uses are ready, and its own
+abbrev pub EachReady : Puzzle → (Node → ℕ) → (ℕ → List ℕ) → ℕ → Option ℕ → List ℕ → Type 0
+EachReady p col lists i keep [] = Unit {0}
+EachReady p col lists i keep (o ∷ xs) = Named p i o × AreReady p col lists o (other_items p o i) × IsApart i (other_items p o i) × OwnReady p col i keep o × EachReady p col lists i keep xs
+
+ready_kept : (p : Puzzle) (col : Node → ℕ) (lists lists' : ℕ → List ℕ) (r : ℕ) (js : List ℕ) → ((k : ℕ) → Stands (lists k) r → Stands (lists' k) r) → AreReady p col lists r js → AreReady p col lists' r js
+ready_kept p col lists lists' r [] kept h = tt
+ready_kept p col lists lists' r (j ∷ js) kept h = (h.0, h.1, h.2, (λ e. kept j (h.3 e)), h.4, ready_kept p col lists lists' r js kept h.5)
+
+each_kept : (p : Puzzle) (col : Node → ℕ) (lists lists' : ℕ → List ℕ) (i : ℕ) (keep : Option ℕ) (o n : ℕ) (xs : List ℕ) → o ≤ n → Rises n xs → ((k r : ℕ) → r ≢ o → Stands (lists k) r → Stands (lists' k) r) → EachReady p col lists i keep xs → EachReady p col lists' i keep xs
+each_kept p col lists lists' i keep o n [] le r kept h = tt
+each_kept p col lists lists' i keep o n (x ∷ xs) le r kept h =
+    let lt : n < x = r.0 in (
+      h.0,
+      ready_kept p col lists lists' x (other_items p x i) (λ k. kept k x (λ e. omega arith)) h.1,
+      h.2,
+      h.3,
+      each_kept p col lists lists' i keep o x xs (omega arith) r.1 kept h.4,
+    )
+
+-- the colours now: as at first, but for item i's nodes that were passed
+pub record Passed (p : Puzzle) (i : ℕ) (col now : Node → ℕ) (xs : List ℕ) : Type 0 where
+  pub others : (j o : ℕ) → j ≢ i → 0 < j → j ≤ item_count p → 0 < o → Named p j o → own_color p now j o ≡ own_color p col j o
+  pub own : (o : ℕ) → is_in o xs ≡ true → own_color p now i o ≡ own_color p col i o
+
+mark_by : (p : Puzzle) (col now : Node → ℕ) (o j : ℕ) → own_color p now j o ≡ own_color p col j o → is_mark p now o j ≡ is_mark p col o j
+mark_by p col now o j e = ap (λ v. eqb v 4294967295) e
+
+all_same : (p : Puzzle) (i : ℕ) (col now : Node → ℕ) (xs : List ℕ) (lists : ℕ → List ℕ) (o : ℕ) (ln : ℕ → Line) (js : List ℕ) → 0 < o → Passed p i col now xs → IsApart i js → AreReady p col lists o js → left_all p now o ln js ≡ left_all p col o ln js
+all_same p i col now xs lists o ln [] pos same apart h = refl
+all_same p i col now xs lists o ln (j ∷ js) pos same apart h =
+    let here : is_mark p now o j ≡ is_mark p col o j = mark_by p col now o j (same.others j o apart.0 h.0 h.1 pos h.2) in
+    ap (λ b. left_all p now o (cond b ln (with_line ln j (cut (ln j) o))) js) here
+    ∙ all_same p i col now xs lists o (left_one p col o ln j) js pos same apart.1 h.5
+
+ready_same : (p : Puzzle) (i : ℕ) (col now : Node → ℕ) (xs : List ℕ) (lists : ℕ → List ℕ) (o : ℕ) (js : List ℕ) → 0 < o → Passed p i col now xs → IsApart i js → AreReady p col lists o js → AreReady p now lists o js
+ready_same p i col now xs lists o [] pos same apart h = tt
+ready_same p i col now xs lists o (j ∷ js) pos same apart h =
+    let here : is_mark p now o j ≡ is_mark p col o j = mark_by p col now o j (same.others j o apart.0 h.0 h.1 pos h.2) in
+    (h.0, h.1, h.2, (λ e. h.3 (sym here ∙ e)), h.4, ready_same p i col now xs lists o js pos same apart.1 h.5)
+
+gone_same : (p : Puzzle) (i : ℕ) (col now : Node → ℕ) (xs : List ℕ) (lists : ℕ → List ℕ) (o : ℕ) (js : List ℕ) → 0 < o → Passed p i col now xs → IsApart i js → AreReady p col lists o js →
+    filter (λ j. not (is_mark p now o j)) js ≡ filter (λ j. not (is_mark p col o j)) js
+gone_same p i col now xs lists o [] pos same apart h = refl
+gone_same p i col now xs lists o (j ∷ js) pos same apart h =
+    let here : is_mark p now o j ≡ is_mark p col o j = mark_by p col now o j (same.others j o apart.0 h.0 h.1 pos h.2) in
+    ap₂ (λ b ks. cond (not b) (j ∷ ks) ks) here (gone_same p i col now xs lists o js pos same apart.1 h.5)
+
+-- ---- one step of the walk
+
+-- a step down from the table t to u at node x, and back, which writes n cells
+pub record OneStep (spans : List Span) (keep : Option ℕ) (t u : Nodes) (x n : ℕ) : Type 0 where
+  pub can : CanLeave spans keep t x
+  pub done : left_node spans keep t x ≡ u
+  pub back : CanReturn spans keep u x
+  pub undone : back_node spans keep u x ≡ t
+  pub cost : leave_cost spans keep t x ≡ n
+  pub cost_back : back_cost spans keep u x ≡ n
+
+kept_none : (v : ℕ) → is_kept_colour None v ≡ true → ⊥
+kept_none v e = false≢true e
+
+-- a node of the colour kept is marked, and gets it back
+mark_step : (p : Puzzle) (now : Node → ℕ) (spans : List Span) (keep : Option ℕ) (ln : ℕ → Line) (i o : ℕ) → IsLaid p → Placed p i o → link_place p i o < length spans → is_kept_colour keep (own_color p now i o) ≡ true →
+    OneStep spans keep (nodes_from p ln now) (nodes_from p ln (with_color now i o 4294967295)) (link_place p i o) 1
+mark_step p now spans None ln i o laid h near e = absurd (kept_none (own_color p now i o) e)
+mark_step p now spans (Some c) ln i o laid h near e =
+    let keep : Option ℕ = Some c in
+    let x = link_place p i o in
+    let t : Nodes = nodes_from p ln now in
+    let u : Nodes = nodes_from p ln (with_color now i o 4294967295) in
+    let within = get_within (layout p) x h.node h.at in
+    let long : length t.color ≡ length (layout p) = length-map (layout p) now in
+    let long' : length u.color ≡ length (layout p) = length-map (layout p) (with_color now i o 4294967295) in
+    let is : with_colour t x 4294967295 ≡ u = coloured_is p now ln i o 4294967295 laid h in
+    let colour : own_color p now i o ≡ c = eqb-true (own_color p now i o) c e in
+    let marked : is_kept_mark keep (get_or u.color x 0) ≡ true = eq-eqb (get_or u.color x 0) 4294967295 (color_here p now i o 4294967295 h) in
+    record {
+      can = record { span = near; place = omega (arith, long, within); hide = λ f. absurd (false≢true (sym f ∙ e)) };
+      done = ap (λ b. cond b (with_colour t x 4294967295) (hidden_node spans t x)) e ∙ is;
+      back = record { span = near; place = omega (arith, long', within); show = λ f. absurd (false≢true (sym f ∙ marked)) };
+      undone =
+          ap (λ b. cond b (with_colour u x c) (shown_node spans u x)) marked
+          ∙ ap (λ (s : Nodes). with_colour s x c) (sym is)
+          ∙ same_nodes (with_colour (with_colour t x 4294967295) x c) t refl refl refl (written_back t.color x x 4294967295 c refl colour);
+      cost = ap (λ b. cond b 1 (hide_costs t (others_of spans x))) e;
+      cost_back = ap (λ b. cond b 1 (show_costs u (reverse (others_of spans x)))) marked;
+    }
+
+no_mark : (keep : Option ℕ) (v : ℕ) → eqb v 4294967295 ≡ false → is_kept_mark keep v ≡ false
+no_mark None v e = refl
+no_mark (Some c) v e = e
+
+-- any other one is hidden, and comes back
+hide_step : (p : Puzzle) (now : Node → ℕ) (spans : List Span) (keep : Option ℕ) (ln : ℕ → Line) (lists : ℕ → List ℕ) (i o : ℕ) → HasSpans p spans → Placed p i o → 0 < o → Named p i o
+    → is_kept_colour keep (own_color p now i o) ≡ false → eqb (own_color p now i o) 4294967295 ≡ false → Walked p now ln lists o (other_items p o i) →
+    OneStep spans keep (nodes_from p ln now) (nodes_from p (left_all p now o ln (other_items p o i)) now) (link_place p i o) (3 * gone_count p now i o)
+hide_step p now spans keep ln lists i o spanned h pos named other unmarked w =
+    let x = link_place p i o in
+    let js = other_items p o i in
+    let qs = map (λ j. link_place p j o) js in
+    let t : Nodes = nodes_from p ln now in
+    let u : Nodes = nodes_from p (left_all p now o ln js) now in
+    let within = get_within (layout p) x h.node h.at in
+    let long : length (map now (layout p)) ≡ length (layout p) = length-map (layout p) now in
+    let others : others_of spans x ≡ qs = spanned.others o i pos named in
+    let not_marked : is_kept_mark keep (get_or u.color x 0) ≡ false = no_mark keep (own_color p now i o) unmarked in
+    record {
+      can = record { span = spanned.within o i pos named; place = omega (arith, long, within); hide = λ f. subst (CanHideAll t) (sym others) w.rest.can };
+      done = ap (λ b. cond b (with_colour t x 4294967295) (hidden_node spans t x)) other ∙ ap (fold hidden t) others ∙ w.done;
+      back = record {
+        span = spanned.within o i pos named;
+        place = omega (arith, long, within);
+        show = λ f. subst (λ ks. CanShowAll u (reverse ks)) (sym others) (subst (λ (v : Nodes). CanShowAll v (reverse qs)) w.done w.rest.back);
+      };
+      undone =
+          ap (λ b. cond b (with_colour u x (kept_colour keep)) (shown_node spans u x)) not_marked
+          ∙ ap (λ ks. fold shown u (reverse ks)) others ∙ ap (λ (v : Nodes). fold shown v (reverse qs)) (sym w.done) ∙ fold-shown-reverse t qs w.rest.undone;
+      cost = ap (λ b. cond b 1 (hide_costs t (others_of spans x))) other ∙ ap (hide_costs t) others ∙ hide_costs-are t qs ∙ unmarked_items p now o js;
+      cost_back =
+          ap (λ b. cond b 1 (show_costs u (reverse (others_of spans x)))) not_marked
+          ∙ ap (λ ks. show_costs u (reverse ks)) others ∙ show_costs-are u (reverse qs) ∙ unmarked-reverse (map now (layout p)) qs ∙ unmarked_items p now o js;
+    }
+
+-- the first step, and what is then asked of the rest
+pub record Turn (p : Puzzle) (col now : Node → ℕ) (spans : List Span) (i : ℕ) (keep : Option ℕ) (ln : ℕ → Line) (o : ℕ) (xs : List ℕ) : Type 0 where
+  pub ln' : ℕ → Line
+  pub now' : Node → ℕ
+  pub lists' : ℕ → List ℕ
+  pub step : OneStep spans keep (nodes_from p ln now) (nodes_from p ln' now') (link_place p i o) (step_cost p col i keep o)
+  pub own : ln' i ≡ ln i
+  pub good : AllGood p ln' lists'
+  pub ready : EachReady p col lists' i keep xs
+  pub passed : Passed p i col now' xs
+  pub lines : left_list p col i ln (leavers p i keep (o ∷ xs)) ≡ left_list p col i ln' (leavers p i keep xs)
+  pub colours : marked_list p i keep now (o ∷ xs) ≡ marked_list p i keep now' xs
+
+in_more : (o x : ℕ) (xs : List ℕ) → is_in x xs ≡ true → is_in x (o ∷ xs) ≡ true
+in_more o x xs e = elim (eqb o x) as (λ b. (b || is_in x xs) ≡ true) [ true ↦ refl | false ↦ e ]
+
+and_false : (a b : Bool) → b ≡ false → (a && b) ≡ false
+and_false true b e = e
+and_false false b e = refl
+
+turn : (p : Puzzle) (col now : Node → ℕ) (spans : List Span) (i : ℕ) (keep : Option ℕ) (ln : ℕ → Line) (lists : ℕ → List ℕ) (o : ℕ) (xs : List ℕ) → IsLaid p → HasSpans p spans → 0 < i → i ≤ item_count p → 0 < o
+    → AllGood p ln lists → EachReady p col lists i keep (o ∷ xs) → Rises o xs → Passed p i col now (o ∷ xs) → Turn p col now spans i keep ln o xs
+turn p col now spans i keep ln lists o xs laid spanned pos le o_pos good ready r passed =
+    let here = laid.there i o pos le (inr (o_pos, ready.0)) in
+    let first : is_in o (o ∷ xs) ≡ true = ap (λ b. b || is_in o xs) (eq-eqb o o refl) in
+    let same : own_color p now i o ≡ own_color p col i o = passed.own o first in
+    let test : is_kept_colour keep (own_color p now i o) ≡ is_kept p i keep o = ap (is_kept_colour keep) same ∙ ready.3.test in
+    let unmarked : eqb (own_color p now i o) 4294967295 ≡ false = ap (λ v. eqb v 4294967295) same ∙ ready.3.unmarked in
+    elim (is_kept p i keep o) as (λ b. is_kept p i keep o ≡ b → Turn p col now spans i keep ln o xs) [
+      | true ↦ λ e. record {
+        ln' = ln;
+        now' = with_color now i o 4294967295;
+        lists' = lists;
+        step = subst (OneStep spans keep (nodes_from p ln now) (nodes_from p ln (with_color now i o 4294967295)) (link_place p i o)) (sym (ap (λ b. cond b 1 (3 * gone_count p col i o)) e))
+            (mark_step p now spans keep ln i o laid here (spanned.within o i o_pos ready.0) (test ∙ e));
+        own = refl;
+        good = good;
+        ready = ready.4;
+        passed = record {
+          others = λ j x ne jpos jle xpos named. color_other p now i o 4294967295 j x (laid.there j x jpos jle (inr (xpos, named))) (ap (λ b. b && eqb x o) (ne_eqb j i ne)) ∙ passed.others j x ne jpos jle xpos named;
+          own = λ x f.
+              let gt : o < x = in_above o x xs r f in
+              color_other p now i o 4294967295 i x (laid.there i x pos le (inr (omega (arith, gt), named_in x xs ready.4 f))) (and_false (eqb i i) (eqb x o) (ne_eqb x o (λ g. omega (arith, gt, g)))) ∙ passed.own x (in_more o x xs f);
+        };
+        lines = ap (λ b. left_list p col i ln (cond (not b) (o ∷ leavers p i keep xs) (leavers p i keep xs))) e;
+        colours = ap (λ b. marked_list p i keep (cond b (with_color now i o 4294967295) now) xs) e;
+      }
+      | false ↦ λ e.
+          let js = other_items p o i in
+          let w = walked p now ln lists o js laid o_pos good (ready_same p i col now (o ∷ xs) lists o js o_pos passed ready.2 ready.1) in
+          let s = hide_step p now spans keep ln lists i o spanned here o_pos ready.0 (test ∙ e) unmarked w in
+          record {
+            ln' = left_all p now o ln js;
+            now' = now;
+            lists' = w.gone.lists';
+            step = subst (OneStep spans keep (nodes_from p ln now) (nodes_from p (left_all p now o ln js) now) (link_place p i o))
+                (ap (λ ks. 3 * length ks) (gone_same p i col now (o ∷ xs) lists o js o_pos passed ready.2 ready.1) ∙ sym (ap (λ b. cond b 1 (3 * gone_count p col i o)) e)) s;
+            own = all_other p now o ln js i ready.2;
+            good = w.gone.good;
+            ready = each_kept p col lists w.gone.lists' i keep o o xs (omega arith) r w.gone.kept ready.4;
+            passed = record { others = passed.others; own = λ x f. passed.own x (in_more o x xs f) };
+            lines =
+                ap (λ b. left_list p col i ln (cond (not b) (o ∷ leavers p i keep xs) (leavers p i keep xs))) e
+                ∙ ap (λ m. left_list p col i m (leavers p i keep xs)) (sym (all_same p i col now (o ∷ xs) lists o ln js o_pos passed ready.2 ready.1));
+            colours = ap (λ b. marked_list p i keep (cond b (with_color now i o 4294967295) now) xs) e;
+          }
+    ] refl
+  where
+    named_in : (x : ℕ) (ys : List ℕ) → EachReady p col lists i keep ys → is_in x ys ≡ true → Named p i x
+    named_in x [] h f = absurd (false≢true f)
+    named_in x (y ∷ ys) h f =
+        elim (eqb y x) as (λ b. eqb y x ≡ b → (b || is_in x ys) ≡ true → Named p i x) [
+          | true ↦ λ g k. subst (Named p i) (eqb-true y x g) h.0
+          | false ↦ λ g k. named_in x ys h.4 k
+        ] refl f
+
+-- ---- the walk
+
+-- where a walk back leads to in the end
+abbrev pub leads : List Span → Option ℕ → Nodes → ℕ → List ℕ → ℕ
+leads spans keep t q [] = q
+leads spans keep t q (x ∷ xs) = leads spans keep (back_node spans keep t x) (get_or (back_node spans keep t x).ulink x 0) xs
+
+back_push : (spans : List Span) (keep : Option ℕ) (t u v : Nodes) (q : ℕ) (xs : List ℕ) (x : ℕ) → IsWalkBack spans keep t q xs → fold (back_node spans keep) t xs ≡ u → leads spans keep t q xs ≡ x →
+    back_node spans keep u x ≡ v → x < length v.ulink → CanReturn spans keep u x → IsWalkBack spans keep t q (xs ++ x ∷ [])
+back_push spans keep t u v q [] x w done at next within can =
+    let is : u ≡ t = sym done in
+    (at, subst (λ (s : Nodes). CanReturn spans keep s x) is can, subst (λ (s : Nodes). x < length s.ulink) (sym next ∙ ap (λ (s : Nodes). back_node spans keep s x) is) within, tt)
+back_push spans keep t u v q (y ∷ ys) x w done at next within can =
+    (w.0, w.1, w.2, back_push spans keep (back_node spans keep t y) u v (get_or (back_node spans keep t y).ulink y 0) ys x w.3 done at next within can)
+
+leads_push : (spans : List Span) (keep : Option ℕ) (t u v : Nodes) (q : ℕ) (xs : List ℕ) (x : ℕ) → fold (back_node spans keep) t xs ≡ u → back_node spans keep u x ≡ v → leads spans keep t q (xs ++ x ∷ []) ≡ get_or v.ulink x 0
+leads_push spans keep t u v q [] x done next = ap (λ (s : Nodes). get_or (back_node spans keep s x).ulink x 0) done ∙ ap (λ (s : Nodes). get_or s.ulink x 0) next
+leads_push spans keep t u v q (y ∷ ys) x done next = leads_push spans keep (back_node spans keep t y) u v (get_or (back_node spans keep t y).ulink y 0) ys x done next
+
+costs_push : (spans : List Span) (keep : Option ℕ) (t : Nodes) (xs : List ℕ) (x : ℕ) → back_costs spans keep t (xs ++ x ∷ []) ≡ back_costs spans keep t xs + back_cost spans keep (fold (back_node spans keep) t xs) x
+costs_push spans keep t [] x = omega arith
+costs_push spans keep t (y ∷ ys) x = let r = costs_push spans keep (back_node spans keep t y) ys x in omega (arith, r)
+
+-- the table that the walk leads to
+abbrev pub walked_table : Puzzle → (Node → ℕ) → (Node → ℕ) → ℕ → Option ℕ → (ℕ → Line) → List ℕ → Nodes
+walked_table p col now i keep ln xs = nodes_from p (left_list p col i ln (leavers p i keep xs)) (marked_list p i keep now xs)
+
+-- what a walk down the list of item i does, from below a on, and the walk back
+pub record Listed (p : Puzzle) (col now : Node → ℕ) (spans : List Span) (i : ℕ) (keep : Option ℕ) (ln : ℕ → Line) (a : ℕ) (xs : List ℕ) : Type 0 where
+  pub walk : IsWalk spans keep (nodes_from p ln now) (link_place p i ((ln i).down a)) (map (link_place p i) xs)
+  pub done : fold (left_node spans keep) (nodes_from p ln now) (map (link_place p i) xs) ≡ walked_table p col now i keep ln xs
+  pub back : IsWalkBack spans keep (walked_table p col now i keep ln xs) (link_place p i ((ln i).up 0)) (reverse (map (link_place p i) xs))
+  pub undone : fold (back_node spans keep) (walked_table p col now i keep ln xs) (reverse (map (link_place p i) xs)) ≡ nodes_from p ln now
+  pub ends : leads spans keep (walked_table p col now i keep ln xs) (link_place p i ((ln i).up 0)) (reverse (map (link_place p i) xs)) ≡ link_place p i a
+  pub costs : walk_costs spans keep (nodes_from p ln now) (map (link_place p i) xs) ≡ step_costs p col i keep xs
+  pub costs_back : back_costs spans keep (walked_table p col now i keep ln xs) (reverse (map (link_place p i) xs)) ≡ step_costs p col i keep xs
+
+IsLinkedFrom-by : (l m : Line) (a : ℕ) (xs : List ℕ) → m ≡ l → IsLinkedFrom l a xs → IsLinkedFrom m a xs
+IsLinkedFrom-by l m a xs e h = subst (λ (k : Line). IsLinkedFrom k a xs) (sym e) h
+
+pub listed_walk : (p : Puzzle) (col now : Node → ℕ) (spans : List Span) (i : ℕ) (keep : Option ℕ) (ln : ℕ → Line) (lists : ℕ → List ℕ) (a : ℕ) (xs : List ℕ) → IsLaid p → HasSpans p spans → 0 < i → i ≤ item_count p
+    → AllGood p ln lists → IsLinkedFrom (ln i) a xs → EachReady p col lists i keep xs → Rises a xs → Passed p i col now xs → Listed p col now spans i keep ln a xs
+listed_walk p col now spans i keep ln lists a [] laid spanned pos le good linked ready r passed = record {
+  walk = tt;
+  done = refl;
+  back = tt;
+  undone = refl;
+  ends = ap (link_place p i) linked.1;
+  costs = refl;
+  costs_back = refl;
+}
+listed_walk p col now spans i keep ln lists a (o ∷ xs) laid spanned pos le good linked ready r passed =
+    let o_pos : 0 < o = let lt : a < o = r.0 in omega arith in
+    let x = link_place p i o in
+    let tn = turn p col now spans i keep ln lists o xs laid spanned pos le o_pos good ready r.1 passed in
+    let t0 : Nodes = nodes_from p ln now in
+    let t1 : Nodes = nodes_from p tn.ln' tn.now' in
+    let end' : Nodes = walked_table p col tn.now' i keep tn.ln' xs in
+    let end : Nodes = walked_table p col now i keep ln (o ∷ xs) in
+    let ends_same : end ≡ end' = ap₂ (λ m c. nodes_from p m c) tn.lines tn.colours in
+    let rest = listed_walk p col tn.now' spans i keep tn.ln' tn.lists' o xs laid spanned pos le tn.good (IsLinkedFrom-by (ln i) (tn.ln' i) o xs tn.own linked.3) tn.ready r.1 tn.passed in
+    let here = laid.there i o pos le (inr (o_pos, ready.0)) in
+    let x_in = get_within (layout p) x here.node here.at in
+    let down_long : length t1.dlink ≡ length (layout p) = length-map (layout p) (dlink_in p tn.ln') in
+    let up_long : length t0.ulink ≡ length (layout p) = length-map (layout p) (ulink_in p ln) in
+    let down_at : get_or t1.dlink x 0 ≡ link_place p i ((tn.ln' i).down o) = get_down p tn.ln' i o here in
+    let up_at : get_or t0.ulink x 0 ≡ link_place p i ((ln i).up o) = get_up p ln i o here in
+    let q0 = link_place p i ((ln i).up 0) in
+    let same_q : link_place p i ((tn.ln' i).up 0) ≡ q0 = ap (λ (l : Line). link_place p i (l.up 0)) tn.own in
+    let places = map (link_place p i) xs in
+    let turned : reverse (x ∷ places) ≡ reverse places ++ x ∷ [] = reverse-append (x ∷ []) places in
+    let back : IsWalkBack spans keep end' q0 (reverse places) = subst (λ q. IsWalkBack spans keep end' q (reverse places)) same_q rest.back in
+    let ends : leads spans keep end' q0 (reverse places) ≡ x = subst (λ q. leads spans keep end' q (reverse places) ≡ x) same_q rest.ends in
+    let s = tn.step in
+    record {
+      walk = (
+        ap (link_place p i) linked.1,
+        s.can,
+        subst (λ (u : Nodes). x < length u.dlink) (sym s.done) (omega (arith, down_long, x_in)),
+        subst (λ (u : Nodes). IsWalk spans keep u (get_or u.dlink x 0) places) (sym s.done) (subst (λ q. IsWalk spans keep t1 q places) (sym down_at) rest.walk),
+      );
+      done = ap (λ (u : Nodes). fold (left_node spans keep) u places) s.done ∙ rest.done ∙ sym ends_same;
+      back = subst (λ (u : Nodes). IsWalkBack spans keep u q0 (reverse (x ∷ places))) (sym ends_same)
+          (subst (IsWalkBack spans keep end' q0) (sym turned) (back_push spans keep end' t1 t0 q0 (reverse places) x back rest.undone ends s.undone (omega (arith, up_long, x_in)) s.back));
+      undone =
+          ap (λ (u : Nodes). fold (back_node spans keep) u (reverse (x ∷ places))) ends_same
+          ∙ ap (fold (back_node spans keep) end') turned ∙ fold-append (back_node spans keep) end' (reverse places) (x ∷ []) ∙ ap (λ (u : Nodes). back_node spans keep u x) rest.undone ∙ s.undone;
+      ends =
+          ap (λ (u : Nodes). leads spans keep u q0 (reverse (x ∷ places))) ends_same
+          ∙ ap (leads spans keep end' q0) turned ∙ leads_push spans keep end' t1 t0 q0 (reverse places) x rest.undone s.undone ∙ up_at ∙ ap (link_place p i) linked.2;
+      costs = ap₂ (λ a b. a + b) s.cost (ap (λ (u : Nodes). walk_costs spans keep u places) s.done ∙ rest.costs);
+      costs_back =
+          let turn_back = ap (λ (u : Nodes). back_costs spans keep u (reverse (x ∷ places))) ends_same ∙ ap (back_costs spans keep end') turned ∙ costs_push spans keep end' (reverse places) x in
+          let last : back_cost spans keep (fold (back_node spans keep) end' (reverse places)) x ≡ step_cost p col i keep o = ap (λ (u : Nodes). back_cost spans keep u x) rest.undone ∙ s.cost_back in
+          let before = rest.costs_back in
+          omega (arith, turn_back, last, before);
+    }

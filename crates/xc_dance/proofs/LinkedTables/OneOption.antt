@@ -1,0 +1,112 @@
+-- An option leaves the lists of some of its items, one after another.
+use Rattle.std.proofs.Common.{◌≡◌, ◌≢◌, ℕ, ◌<◌, ◌≤◌, ◌^◌, inr, Bool, true, false, cond, eqb, List, [], ◌∷◌, ◌++◌, length, map, fold, get_or, refl, ap, sym, subst, ◌∙◌, arith, eqb-true, ne_eqb}
+use Rattle.xc_dance.specs.declared.links.nodes.Nodes.{Nodes}
+use Rattle.xc_input.specs.Problem.{Puzzle, item_count}
+use Rattle.xc_dance.specs.Fields.{Node, layout, link_place}
+use Rattle.xc_dance.specs.Links.Lines.{Line, cut}
+use Rattle.xc_dance.specs.Links.Steps.{hidden}
+use Rattle.xc_dance.specs.Links.Cells.{nodes_from, with_line}
+use Rattle.xc_dance.specs.Links.Laid.{IsName, IsLaid}
+use Rattle.xc_dance.proofs.LinkedTables.Mapped.{get_within}
+use Rattle.xc_dance.proofs.LinkedTables.ReadyLemmas.{Stands, Stands-without, Rest, back_more}
+use Rattle.xc_dance.proofs.LinkedTables.OneNode.{Step, step_open, step_marked}
+use Rattle.xc_dance.proofs.LinkedTables.Goods.{Named, IsGood, AllGood, member, all_good_cut, with_list}
+
+-- the node of option o in item j's list is marked
+abbrev pub is_mark : Puzzle → (Node → ℕ) → ℕ → ℕ → Bool
+is_mark p col o j = eqb (get_or (map (col) (layout p)) (link_place p j o) 0) 4294967295
+
+-- option o leaves item j's list, unless it is marked there
+abbrev pub left_one : Puzzle → (Node → ℕ) → ℕ → (ℕ → Line) → ℕ → ℕ → Line
+left_one p col o ln j = cond (is_mark p col o j) ln (with_line ln j (cut (ln j) o))
+
+-- the same for some items in turn
+abbrev pub left_all : Puzzle → (Node → ℕ) → ℕ → (ℕ → Line) → List ℕ → ℕ → Line
+left_all p col o ln js = fold (left_one p col o) ln js
+
+-- j isn't one of them
+abbrev pub IsApart : ℕ → List ℕ → Type 0
+IsApart j [] = Unit {0}
+IsApart j (k ∷ ks) = (k ≢ j) × IsApart j ks
+
+-- the option stands in the list of each of them in which it isn't marked
+abbrev pub AreReady : Puzzle → (Node → ℕ) → (ℕ → List ℕ) → ℕ → List ℕ → Type 0
+AreReady p col lists o [] = Unit {0}
+AreReady p col lists o (j ∷ js) =
+    (0 < j) × (j ≤ item_count p) × Named p j o × (is_mark p col o j ≡ false → Stands (lists j) o) × IsApart j js × AreReady p col lists o js
+
+ready_other : (p : Puzzle) (col : Node → ℕ) (lists : ℕ → List ℕ) (o j : ℕ) (xs : List ℕ) (js : List ℕ) → IsApart j js → AreReady p col lists o js → AreReady p col (with_list lists j xs) o js
+ready_other p col lists o j xs [] apart h = tt
+ready_other p col lists o j xs (k ∷ js) apart h =
+    let no : eqb k j ≡ false = ne_eqb k j apart.0 in
+    (h.0, h.1, h.2, (λ e. subst (λ b. Stands (cond b xs (lists k)) o) (sym no) (h.3 e)), h.4, ready_other p col lists o j xs js apart.1 h.5)
+
+-- the lists after a walk: those of other items and members stay
+pub record Gone (p : Puzzle) (lists : ℕ → List ℕ) (ln : ℕ → Line) (o : ℕ) (js : List ℕ) : Type 0 where
+  pub lists' : ℕ → List ℕ
+  pub good : AllGood p ln lists'
+  pub kept : (k r : ℕ) → r ≢ o → Stands (lists k) r → Stands (lists' k) r
+  pub other : (k : ℕ) → IsApart k js → lists' k ≡ lists k
+
+-- what the walk does to the tables, and what is left of the lists
+pub record Walked (p : Puzzle) (col : Node → ℕ) (ln : ℕ → Line) (lists : ℕ → List ℕ) (o : ℕ) (js : List ℕ) : Type 0 where
+  pub rest : Rest (nodes_from p ln col) (map (λ j. link_place p j o) js)
+  pub done : fold hidden (nodes_from p ln col) (map (λ j. link_place p j o) js) ≡ nodes_from p (left_all p col o ln js) col
+  pub gone : Gone p lists (left_all p col o ln js) o js
+
+-- one step, then the rest
+step_more : (t u : Nodes) (q : ℕ) (qs : List ℕ) → Step t u q → Rest u qs → Rest t (q ∷ qs)
+step_more t u q qs s r =
+    let r' : Rest (hidden t q) qs = subst (λ (v : Nodes). Rest v qs) (sym s.done) r in
+    record { can = (s.can, r'.can); undone = (s.undone, r'.undone); back = back_more t q qs r'.undone r'.back s.back }
+
+keep_others : (lists : ℕ → List ℕ) (j : ℕ) (ys : List ℕ) (o : ℕ) (zs : List ℕ) → lists j ≡ ys ++ o ∷ zs → (k r : ℕ) → r ≢ o → Stands (lists k) r → Stands (with_list lists j (ys ++ zs) k) r
+keep_others lists j ys o zs is k r ne s =
+    elim (eqb k j) as (λ b. eqb k j ≡ b → Stands (cond b (ys ++ zs) (lists k)) r) [
+      | true ↦ λ e. Stands-without ys o zs r ne (subst (λ xs. Stands xs r) (ap lists (eqb-true k j e) ∙ is) s)
+      | false ↦ λ e. s
+    ] refl
+
+apart_list : (lists : ℕ → List ℕ) (j : ℕ) (xs : List ℕ) (k : ℕ) → j ≢ k → with_list lists j xs k ≡ lists k
+apart_list lists j xs k ne = let no : eqb k j ≡ false = ne_eqb k j (λ e. ne (sym e)) in rw no refl
+
+pub walked : (p : Puzzle) (col : Node → ℕ) (ln : ℕ → Line) (lists : ℕ → List ℕ) (o : ℕ) (js : List ℕ) → IsLaid p → 0 < o → AllGood p ln lists → AreReady p col lists o js → Walked p col ln lists o js
+walked p col ln lists o [] laid pos good ready = record {
+  rest = record { can = tt; undone = tt; back = tt };
+  done = refl;
+  gone = record { lists' = lists; good = good; kept = λ k r ne s. s; other = λ k a. refl };
+}
+walked p col ln lists o (j ∷ js) laid pos good ready =
+    let q = link_place p j o in
+    let qs = map (λ j. link_place p j o) js in
+    let tb : Nodes = nodes_from p ln col in
+    let name : IsName p j o = inr (pos, ready.2) in
+    let here = laid.there j o ready.0 ready.1 name in
+    let two : Rest tb (q ∷ qs) × (fold hidden (hidden tb q) qs ≡ nodes_from p (left_all p col o (left_one p col o ln j) js) col) × Gone p lists (left_all p col o (left_one p col o ln j) js) o (j ∷ js) =
+    elim (is_mark p col o j) as (λ b. is_mark p col o j ≡ b →
+    Rest tb (q ∷ qs) × (fold hidden (hidden tb q) qs ≡ nodes_from p (left_all p col o (cond b ln (with_line ln j (cut (ln j) o))) js) col)
+    × Gone p lists (left_all p col o (cond b ln (with_line ln j (cut (ln j) o))) js) o (j ∷ js)) [
+      | true ↦ λ e.
+          let s = step_marked p col ln q (get_within (layout p) q here.node here.at) e in
+          let w = walked p col ln lists o js laid pos good ready.5 in (
+            step_more tb tb q qs s w.rest,
+            ap (λ (u : Nodes). fold hidden u qs) s.done ∙ w.done,
+            record { lists' = w.gone.lists'; good = w.gone.good; kept = w.gone.kept; other = λ k a. w.gone.other k a.1 },
+          )
+      | false ↦ λ e.
+          let st : Stands (lists j) o = ready.3 e in
+          let own : IsGood p j (ln j) (st.ys ++ o ∷ st.zs) = subst (IsGood p j (ln j)) st.is (good j ready.0 ready.1) in
+          let ln' : ℕ → Line = with_line ln j (cut (ln j) o) in
+          let lists1 : ℕ → List ℕ = with_list lists j (st.ys ++ st.zs) in
+          let s = step_open p col ln j o laid (member p j (ln j) st.ys o st.zs ready.0 ready.1 own) (let l : (ln j).len ≡ length (st.ys ++ o ∷ st.zs) = own.len in let f : length (st.ys ++ o ∷ st.zs) < 2 ^ 31 = own.few in omega arith) e in
+          let w = walked p col ln' lists1 o js laid pos (all_good_cut p ln lists j st.ys o st.zs ready.0 ready.1 st.is good) (ready_other p col lists o j (st.ys ++ st.zs) js ready.4 ready.5) in (
+            step_more tb (nodes_from p ln' col) q qs s w.rest,
+            ap (λ (u : Nodes). fold hidden u qs) s.done ∙ w.done,
+            record {
+              lists' = w.gone.lists';
+              good = w.gone.good;
+              kept = λ k r ne a. w.gone.kept k r ne (keep_others lists j st.ys o st.zs st.is k r ne a);
+              other = λ k a. w.gone.other k a.1 ∙ apart_list lists j (st.ys ++ st.zs) k a.0;
+            },
+          )
+    ] refl in record { rest = two.0; done = two.1; gone = two.2 }

@@ -1,0 +1,92 @@
+-- Where the nodes of each option stand in the node table.
+use Rattle.std.proofs.Common.{◌≡◌, ℕ, zero, suc, ◌+◌, ◌<◌, ◌≤◌, List, [], ◌∷◌, length, map, get_or, Some, refl, ap, sym, ◌∙◌, arith}
+use Rattle.std.specs.Prelude.{slice_get}
+use Rattle.std.specs.List.{range_with_len}
+use Rattle.std.proofs.lemmas.List.{length-append}
+use Rattle.std.proofs.lemmas.List.FromFn.{length-map-range_with_len}
+use Rattle.xc_input.specs.declared.problem.Use.{Use}
+use Rattle.xc_input.specs.Problem.{Puzzle, item_count, option_count, uses_of, IsWithinLimits}
+use Rattle.xc_dance.specs.Fields.{Node, unused, own, spacer, used, layout}
+use Rattle.xc_dance.specs.Links.OptionPlaces.{reach, place_at}
+use Rattle.xc_dance.proofs.LinkedTables.OptionNumbers.{uses_at}
+use Rattle.xc_dance.proofs.LinkedTables.OptionReach.{get_behind, tail_from, spacer_get, use_get, length_tail, reach_next, reach_most}
+
+-- ---- the whole table
+
+abbrev pub front : Puzzle → List Node
+front p = unused ∷ map own (range_with_len 1 (item_count p))
+
+pub length_front : (p : Puzzle) → length (front p) ≡ item_count p + 1
+length_front p = let h = length-map-range_with_len own 1 (item_count p) in omega (arith, h)
+
+pub spacer_here : (p : Puzzle) (o : ℕ) → o ≤ option_count p → slice_get (layout p) (place_at p o) ≡ Some (spacer o)
+spacer_here p o le =
+    let z : 0 + o ≡ o = omega arith in
+    get_behind (front p) (tail_from 0 p.options) (place_at p o) (reach p.options o) (omega (arith, length_front p))
+    ∙ spacer_get 0 o p.options le ∙ ap (λ k. Some (spacer k)) z
+
+pub use_here : (p : Puzzle) (o k n : ℕ) (us : List Use) (u : Use) → slice_get p.options o ≡ Some us → slice_get us k ≡ Some u → n ≡ place_at p o + 1 + k → slice_get (layout p) n ≡ Some (used (o + 1) u)
+use_here p o k n us u e f at =
+    let z : 0 + o + 1 ≡ o + 1 = omega arith in
+    get_behind (front p) (tail_from 0 p.options) n (reach p.options o + 1 + k) (omega (arith, length_front p, at))
+    ∙ use_get 0 o k p.options us u e f ∙ ap (λ j. Some (used j u)) z
+
+pub place_next : (p : Puzzle) (o : ℕ) (us : List Use) → slice_get p.options o ≡ Some us → place_at p (o + 1) ≡ place_at p o + 1 + length us
+place_next p o us e = let h = reach_next p.options o us e in omega (arith, h)
+
+pub place_first : (p : Puzzle) → place_at p 0 ≡ item_count p + 1
+place_first p = let h = zero_of p.options in omega (arith, h)
+  where
+    zero_of : (os : List (List Use)) → reach os 0 ≡ 0
+    zero_of [] = refl
+    zero_of (us ∷ os) = refl
+
+pub layout_len : (p : Puzzle) → length (layout p) ≡ place_at p (option_count p) + 1
+layout_len p =
+    let a = length-append (front p) (tail_from 0 p.options) in
+    let b = length_front p in
+    let c = length_tail 0 p.options in
+    omega (arith, a, b, c)
+
+-- ---- an option that there is
+
+pub get_there : {X : Type 0} (xs : List X) (k : ℕ) (d : X) → k < length xs → slice_get xs k ≡ Some (get_or xs k d)
+get_there [] k d lt = absurd (omega (arith, lt))
+get_there (x ∷ xs) zero d lt = refl
+get_there (x ∷ xs) (suc k) d lt = get_there xs k d (omega (arith, lt))
+
+pub option_get : (p : Puzzle) (o : ℕ) (us : List Use) → o < option_count p → us ≡ uses_of p (o + 1) → slice_get p.options o ≡ Some us
+option_get p o us lt is =
+    let e = get_there p.options o [] lt in
+    e ∙ ap Some (sym (is ∙ uses_at p o (get_or p.options o []) e))
+
+pub reach_grows : (os : List (List Use)) (o n : ℕ) → o ≤ n → n ≤ length os → reach os o ≤ reach os n
+reach_grows [] o n le most = omega arith
+reach_grows (us ∷ os) zero n le most = omega arith
+reach_grows (us ∷ os) (suc o) zero le most = absurd (omega (arith, le))
+reach_grows (us ∷ os) (suc o) (suc n) le most = let rest = reach_grows os o n (omega (arith, le)) (omega (arith, most)) in omega (arith, rest)
+
+pub layout_small : (p : Puzzle) → IsWithinLimits p → length (layout p) ≤ 20100002
+layout_small p limits =
+    let a = layout_len p in
+    let b = reach_most p.options in
+    omega (arith, a, b, limits.items, limits.uses, limits.options)
+
+-- a spacer's place is among them
+pub place_within : (p : Puzzle) (o : ℕ) → o ≤ option_count p → place_at p o < length (layout p)
+place_within p o le =
+    let a = layout_len p in
+    let b = reach_grows p.options o (option_count p) le (omega arith) in
+    omega (arith, a, b)
+
+-- where the nodes of an option end
+pub record OptionFits (p : Puzzle) (o : ℕ) (us : List Use) : Type 0 where
+  pub at : slice_get p.options o ≡ Some us
+  pub next : place_at p (o + 1) ≡ place_at p o + 1 + length us
+  pub within : place_at p (o + 1) < length (layout p)
+  pub small : length (layout p) ≤ 20100002
+
+pub option_fits : (p : Puzzle) (o : ℕ) (us : List Use) → IsWithinLimits p → o < option_count p → us ≡ uses_of p (o + 1) → OptionFits p o us
+option_fits p o us limits lt is =
+    let at = option_get p o us lt is in
+    record { at = at; next = place_next p o us at; within = place_within p (o + 1) (omega (arith, lt)); small = layout_small p limits }

@@ -1,0 +1,49 @@
+-- How cells are read, and that different cells read differently.
+use Rattle.std.proofs.Common.{◌≡◌, ℕ, suc, true, false, cond, eqb, List, [], ◌∷◌, Option, Some, None, refl, ap, ap₂, sym, ◌∙◌, eqb-true}
+use Rattle.std.specs.Prelude.{ℤ, pos, negsuc, slice_get, option_map}
+use Rattle.xc_dance.specs.Links.Read.{color_read}
+
+-- ---- numbers that are read
+
+abbrev pub natural : ℕ → ℤ
+natural v = pos v
+
+pub pos_same : (v w : ℕ) → pos v ≡ pos w → v ≡ w
+pos_same v w e = cc
+
+pub negsuc_same : (v w : ℕ) → negsuc v ≡ negsuc w → v ≡ w
+negsuc_same v w e = cc
+
+pub color_same : (v w : ℕ) → color_read v ≡ color_read w → v ≡ w
+color_same v w e =
+    elim (eqb v 4294967295) as (λ a. eqb v 4294967295 ≡ a → cond a (negsuc 0) (pos v) ≡ color_read w → v ≡ w) [
+      | true ↦ λ f. elim (eqb w 4294967295) as (λ b. eqb w 4294967295 ≡ b → negsuc 0 ≡ cond b (negsuc 0) (pos w) → v ≡ w) [
+        | true ↦ λ g h. eqb-true v 4294967295 f ∙ sym (eqb-true w 4294967295 g)
+        | false ↦ λ g h. cc
+      ] refl
+      | false ↦ λ f. elim (eqb w 4294967295) as (λ b. eqb w 4294967295 ≡ b → pos v ≡ cond b (negsuc 0) (pos w) → v ≡ w) [
+        | true ↦ λ g h. cc
+        | false ↦ λ g h. pos_same v w h
+      ] refl
+    ] refl e
+
+-- ---- cells that are read
+
+pub some_same : {X : Type 0} (x y : X) → Some x ≡ Some y → x ≡ y
+some_same x y e = cc
+
+pub read_same : (g : ℕ → ℤ) (x y : Option ℕ) → ((v w : ℕ) → x ≡ Some v → y ≡ Some w → g v ≡ g w → v ≡ w) → option_map g x ≡ option_map g y → x ≡ y
+read_same g None None h e = refl
+read_same g None (Some w) h e = cc
+read_same g (Some v) None h e = cc
+read_same g (Some v) (Some w) h e = ap Some (h v w refl refl (some_same (g v) (g w) e))
+
+pub natural_same : (x y : Option ℕ) → option_map natural x ≡ option_map natural y → x ≡ y
+natural_same x y e = read_same natural x y (λ v w f g h. pos_same v w h) e
+
+-- lists with the same elements at the same places
+pub same_list : (xs ys : List ℕ) → ((k : ℕ) → slice_get xs k ≡ slice_get ys k) → xs ≡ ys
+same_list [] [] h = refl
+same_list [] (y ∷ ys) h = let e : None ≡ Some y = h 0 in cc
+same_list (x ∷ xs) [] h = let e : Some x ≡ None = h 0 in cc
+same_list (x ∷ xs) (y ∷ ys) h = ap₂ (λ z zs. z ∷ zs) (some_same x y (h 0)) (same_list xs ys (λ k. h (suc k)))

@@ -1,0 +1,221 @@
+-- Members that left one line from top to bottom come back in the same order: each finds its neighbours of before, and at the end the line is as it was.
+use Rattle.std.proofs.Common.{◌≡◌, ◌≢◌, ℕ, ◌<◌, ◌≤◌, ◌⊎◌, inl, inr, Bool, true, false, not, cond, ◌||◌, ◌&&◌, eqb, List, [], ◌∷◌, filter, refl, ap, ap₂, sym, subst, ◌∙◌, arith}
+use Rattle.std.proofs.lemmas.Bool.{false≢true}
+use Rattle.xc_dance.specs.Links.Lines.{Line, put_at, mended, IsLinkedFrom}
+use Rattle.xc_dance.specs.Fields.{last_below, first_above, first_of, last_of, is_in}
+use Rattle.xc_dance.proofs.LinkedTables.Sweep.{Rises, Rises-filter, Swept, swept, stay, cuts, rises, not_in, in_above, is_in-first, is_in-other, by_first, put_at-same, put_at-other, last_below-none, last_below-self, last_below-more, last_of-more, first_above-first, first_above-more}
+use Rattle.xc_dance.proofs.MoveLemmas.Members.{in_filter}
+
+-- The members before xs are back, a being the last of them and b the last of them that had stayed; those of xs that pass the test are still gone.
+pub record Held (l m : Line) (a b : ℕ) (xs : List ℕ) (g : ℕ → Bool) : Type 0 where
+  pub le : b ≤ a
+  pub up_first : m.up (first_of 0 xs) ≡ a
+  pub up_in : (x : ℕ) → is_in x xs ≡ true → x ≢ first_of 0 xs → m.up x ≡ last_below b x (stay g xs)
+  pub up_last : 0 ≢ first_of 0 xs → m.up 0 ≡ last_of b (stay g xs)
+  pub up_out : (x : ℕ) → x ≢ 0 → is_in x xs ≡ false → m.up x ≡ l.up x
+  pub down_in : (x : ℕ) → is_in x xs ≡ true → g x ≡ false → m.down x ≡ first_above 0 x (stay g xs)
+  pub down_gone : (x : ℕ) → is_in x xs ≡ true → g x ≡ true → m.down x ≡ l.down x
+  pub down_out : (x : ℕ) → x ≢ a → is_in x xs ≡ false → m.down x ≡ l.down x
+  pub down_at : (m.down a ≡ l.down a) ⊎ (m.down a ≡ first_of 0 (stay g xs))
+
+-- the next in a line that is linked
+next_is : (l : Line) (y : ℕ) (ys : List ℕ) → IsLinkedFrom l y ys → l.down y ≡ first_of 0 ys
+next_is l y [] h = h.0
+next_is l y (z ∷ zs) h = h.1
+
+in_more : (y x : ℕ) (ys : List ℕ) → is_in x ys ≡ true → is_in x (y ∷ ys) ≡ true
+in_more y x ys e = elim (eqb y x) as (λ b. (b || is_in x ys) ≡ true) [ true ↦ refl | false ↦ e ]
+
+-- what stays of the rest is not below its first
+near : (b z : ℕ) (zs : List ℕ) (g : ℕ → Bool) → Rises z zs → last_below b z (stay g (z ∷ zs)) ≡ b
+near b z zs g r =
+    let rk : Rises z (stay g zs) = Rises-filter (λ x. not (g x)) z zs r in
+    elim (g z) as (λ c. last_below b z (cond (not c) (z ∷ stay g zs) (stay g zs)) ≡ b) [
+      | true ↦ last_below-none b z z (stay g zs) (omega arith) rk
+      | false ↦ last_below-self b z (stay g zs) rk
+    ]
+
+-- ---- over a member that had stayed
+
+stay_first : (y : ℕ) (ys : List ℕ) (g : ℕ → Bool) → g y ≡ false → stay g (y ∷ ys) ≡ y ∷ stay g ys
+stay_first y ys g e = ap (λ c. cond (not c) (y ∷ stay g ys) (stay g ys)) e
+
+up_next : (l m : Line) (a b y : ℕ) (ys : List ℕ) (g : ℕ → Bool) → Rises y ys → 0 < y → g y ≡ false → Held l m a b (y ∷ ys) g → m.up (first_of 0 ys) ≡ y
+up_next l m a b y [] g r pos e h = h.up_last (λ z. omega (arith, z, pos)) ∙ ap (last_of b) (stay_first y [] g e)
+up_next l m a b y (z ∷ zs) g r pos e h =
+    let ne : y ≢ z = λ f. omega (arith, f, r.0) in
+    h.up_in z (in_more y z (z ∷ zs) (is_in-first z zs)) (λ f. ne (sym f))
+    ∙ ap (last_below b z) (stay_first y (z ∷ zs) g e)
+    ∙ last_below-more b z y (stay g (z ∷ zs)) r.0
+    ∙ near y z zs g r.1
+
+pub pass_on : (l m : Line) (a b y : ℕ) (ys : List ℕ) (g : ℕ → Bool) → IsLinkedFrom l a (y ∷ ys) → g y ≡ false → Held l m a b (y ∷ ys) g → Held l m y y ys g
+pass_on l m a b y ys g linked e h =
+    let lt : a < y = linked.0 in
+    let r : Rises y ys = rises l y ys linked.3 in
+    let rk : Rises y (stay g ys) = Rises-filter (λ x. not (g x)) y ys r in
+    let is : stay g (y ∷ ys) ≡ y ∷ stay g ys = stay_first y ys g e in
+    let y_out : is_in y ys ≡ false = not_in y y ys (omega arith) r in
+    record {
+      le = omega arith;
+      up_first = up_next l m a b y ys g r (omega (arith, lt)) e h;
+      up_in = λ x f ne.
+          let gt = in_above y x ys r f in
+          h.up_in x (in_more y x ys f) (λ s. omega (arith, s, gt)) ∙ ap (last_below b x) is ∙ last_below-more b x y (stay g ys) gt;
+      up_last = λ nz. h.up_last (λ z. omega (arith, z, lt)) ∙ ap (last_of b) is ∙ last_of-more b y (stay g ys);
+      up_out = λ x nz f. by_first (m.up x ≡ l.up x) y x
+          (λ s. ap m.up (sym s) ∙ h.up_first ∙ sym linked.2 ∙ ap l.up s)
+          (λ ne. h.up_out x nz (is_in-other y x ys ne ∙ f));
+      down_in = λ x f stays.
+          let gt = in_above y x ys r f in
+          h.down_in x (in_more y x ys f) stays ∙ ap (first_above 0 x) is ∙ first_above-more 0 x y (stay g ys) (omega (arith, gt));
+      down_gone = λ x f gone. h.down_gone x (in_more y x ys f) gone;
+      down_out = λ x ne f. by_first (m.down x ≡ l.down x) a x
+          (λ s. ap m.down (sym s) ∙ elim h.down_at [ inl k ↦ k | inr k ↦ k ∙ ap (first_of 0) is ∙ sym linked.1 ] ∙ ap l.down s)
+          (λ na. h.down_out x (λ s. na (sym s)) (is_in-other y x ys (λ s. ne (sym s)) ∙ f));
+      down_at = inr (h.down_in y (is_in-first y ys) e ∙ ap (first_above 0 y) is ∙ first_above-more 0 y y (stay g ys) (omega arith) ∙ first_above-first 0 y y (stay g ys) (omega arith) rk);
+    }
+
+-- ---- a member that was gone comes back
+
+-- it finds its neighbours of before
+pub finds : (l m : Line) (a b y : ℕ) (ys : List ℕ) (g : ℕ → Bool) → IsLinkedFrom l a (y ∷ ys) → g y ≡ true → Held l m a b (y ∷ ys) g → (m.up y ≡ l.up y) × (m.down y ≡ l.down y)
+finds l m a b y ys g linked e h = (h.up_first ∙ sym linked.2, h.down_gone y (is_in-first y ys) e)
+
+stay_gone : (y : ℕ) (ys : List ℕ) (g : ℕ → Bool) → g y ≡ true → stay g (y ∷ ys) ≡ stay g ys
+stay_gone y ys g e = ap (λ c. cond (not c) (y ∷ stay g ys) (stay g ys)) e
+
+-- the next isn't one that isn't in
+not_next : (x : ℕ) (ys : List ℕ) → x ≢ 0 → is_in x ys ≡ false → x ≢ first_of 0 ys
+not_next x [] nz f s = nz s
+not_next x (z ∷ zs) nz f s = false≢true (sym f ∙ ap (λ k. is_in x (k ∷ zs)) (sym s) ∙ is_in-first x zs)
+
+pub come_back : (l m : Line) (a b y : ℕ) (ys : List ℕ) (g : ℕ → Bool) → IsLinkedFrom l a (y ∷ ys) → g y ≡ true → Held l m a b (y ∷ ys) g → Held l (mended m y) y b ys g
+come_back l m a b y ys g linked e h =
+    let lt : a < y = linked.0 in
+    let le : b ≤ a = h.le in
+    let r : Rises y ys = rises l y ys linked.3 in
+    let is : stay g (y ∷ ys) ≡ stay g ys = stay_gone y ys g e in
+    let found = finds l m a b y ys g linked e h in
+    let d : m.down y ≡ first_of 0 ys = found.1 ∙ next_is l y ys linked.3 in
+    let u : m.up y ≡ a = h.up_first in
+    let kept_up : (x : ℕ) → x ≢ first_of 0 ys → put_at m.up (m.down y) y x ≡ m.up x = λ x ne. put_at-other m.up (m.down y) y x (λ s. ne (s ∙ d)) in
+    let kept_down : (x : ℕ) → x ≢ a → put_at m.down (m.up y) y x ≡ m.down x = λ x ne. put_at-other m.down (m.up y) y x (λ s. ne (s ∙ u)) in
+    let a_down : put_at m.down (m.up y) y a ≡ l.down a = put_at-same m.down (m.up y) y a (sym u) ∙ sym linked.1 in
+    record {
+      le = omega (arith, lt, le);
+      up_first = put_at-same m.up (m.down y) y (first_of 0 ys) (sym d);
+      up_in = λ x f ne.
+          let gt = in_above y x ys r f in
+          kept_up x ne ∙ h.up_in x (in_more y x ys f) (λ s. omega (arith, s, gt)) ∙ ap (last_below b x) is;
+      up_last = λ nz. kept_up 0 nz ∙ h.up_last (λ z. omega (arith, z, lt)) ∙ ap (last_of b) is;
+      up_out = λ x nz f.
+          kept_up x (not_next x ys nz f)
+          ∙ by_first (m.up x ≡ l.up x) y x
+          (λ s. ap m.up (sym s) ∙ found.0 ∙ ap l.up s)
+          (λ ne. h.up_out x nz (is_in-other y x ys ne ∙ f));
+      down_in = λ x f stays.
+          let gt = in_above y x ys r f in
+          kept_down x (λ s. omega (arith, s, gt, lt)) ∙ h.down_in x (in_more y x ys f) stays ∙ ap (first_above 0 x) is;
+      down_gone = λ x f gone.
+          let gt = in_above y x ys r f in
+          kept_down x (λ s. omega (arith, s, gt, lt)) ∙ h.down_gone x (in_more y x ys f) gone;
+      down_out = λ x ne f. by_first (put_at m.down (m.up y) y x ≡ l.down x) a x
+          (λ s. ap (put_at m.down (m.up y) y) (sym s) ∙ a_down ∙ ap l.down s)
+          (λ na. kept_down x (λ s. na (sym s)) ∙ h.down_out x (λ s. na (sym s)) (is_in-other y x ys (λ s. ne (sym s)) ∙ f));
+      down_at = inl (kept_down y (λ s. omega (arith, s, lt)) ∙ found.1);
+    }
+
+-- ---- the end
+
+pub record SameLinks (l m : Line) : Type 0 where
+  pub up : (x : ℕ) → m.up x ≡ l.up x
+  pub down : (x : ℕ) → m.down x ≡ l.down x
+
+pub all_back : (l m : Line) (a b : ℕ) (g : ℕ → Bool) → IsLinkedFrom l a [] → Held l m a b [] g → SameLinks l m
+all_back l m a b g linked h = record {
+  up = λ x. by_first (m.up x ≡ l.up x) 0 x (λ s. ap m.up (sym s) ∙ h.up_first ∙ sym linked.1 ∙ ap l.up s) (λ ne. h.up_out x (λ s. ne (sym s)) refl);
+  down = λ x. by_first (m.down x ≡ l.down x) a x
+      (λ s. ap m.down (sym s) ∙ elim h.down_at [ inl k ↦ k | inr k ↦ k ∙ sym linked.0 ] ∙ ap l.down s)
+      (λ ne. h.down_out x (λ s. ne (sym s)) refl);
+}
+
+-- ---- the same, told by those that are still gone
+
+pub record Regaining (l m : Line) (ks : List ℕ) : Type 0 where
+  pub a : ℕ
+  pub b : ℕ
+  pub xs : List ℕ
+  pub g : ℕ → Bool
+  pub linked : IsLinkedFrom l a xs
+  pub held : Held l m a b xs g
+  pub left : filter g xs ≡ ks
+
+first_up : (l m : Line) (xs : List ℕ) (g : ℕ → Bool) → IsLinkedFrom l 0 xs → Swept l m 0 xs (stay g xs) → m.up (first_of 0 xs) ≡ 0
+first_up l m [] g linked s = s.last
+first_up l m (y ∷ ys) g linked s = s.up_in y (is_in-first y ys) ∙ near 0 y ys g (rises l y ys linked.3)
+
+-- before the first comes back
+pub regaining : (l : Line) (xs : List ℕ) (g : ℕ → Bool) → IsLinkedFrom l 0 xs → Regaining l (cuts l (filter g xs)) (filter g xs)
+regaining l xs g linked =
+    let m : Line = cuts l (filter g xs) in
+    let s : Swept l m 0 xs (stay g xs) = swept l 0 xs g linked in
+    let r : Rises 0 xs = rises l 0 xs linked in
+    let pass : (x : ℕ) → g x ≡ false → is_in x xs ≡ true → is_in x (stay g xs) ≡ true = λ x e f. in_filter (λ x. not (g x)) x xs ∙ ap₂ (λ c d. not c && d) e f in
+    let fail : (x : ℕ) → g x ≡ true → is_in x (stay g xs) ≡ false = λ x e. in_filter (λ x. not (g x)) x xs ∙ ap (λ c. not c && is_in x xs) e in
+    let absent : (x : ℕ) → is_in x xs ≡ false → is_in x (stay g xs) ≡ false = λ x f. in_filter (λ x. not (g x)) x xs ∙ ap (λ d. not (g x) && d) f ∙ elim (g x) as (λ c. (not c && false) ≡ false) [ true ↦ refl | false ↦ refl ] in
+    record {
+      a = 0;
+      b = 0;
+      xs = xs;
+      g = g;
+      linked = linked;
+      held = record {
+        le = omega arith;
+        up_first = first_up l m xs g linked s;
+        up_in = λ x e ne. s.up_in x e;
+        up_last = λ nz. s.last;
+        up_out = s.up_out;
+        down_in = λ x e stays. s.down_in x (λ z. omega (arith, z, in_above 0 x xs r e)) (pass x stays e);
+        down_gone = λ x e gone. s.down_out x (λ z. omega (arith, z, in_above 0 x xs r e)) (fail x gone);
+        down_out = λ x ne f. s.down_out x ne (absent x f);
+        down_at = inr s.first;
+      };
+      left = refl;
+    }
+
+-- the next that comes back is reached over those that had stayed
+pub record NextBack (l m : Line) (k : ℕ) (ks : List ℕ) : Type 0 where
+  pub up : m.up k ≡ l.up k
+  pub down : m.down k ≡ l.down k
+  pub next : Regaining l (mended m k) ks
+
+reached : (l m : Line) (a b : ℕ) (xs : List ℕ) (g : ℕ → Bool) (k : ℕ) (ks : List ℕ) → IsLinkedFrom l a xs → Held l m a b xs g → filter g xs ≡ k ∷ ks → NextBack l m k ks
+reached l m a b [] g k ks linked h e = cc
+reached l m a b (y ∷ ys) g k ks linked h e =
+    elim (g y) as (λ c. g y ≡ c → cond c (y ∷ filter g ys) (filter g ys) ≡ k ∷ ks → NextBack l m k ks) [
+      | true ↦ λ f i.
+          let first : y ≡ k = cc in
+          let rest : filter g ys ≡ ks = cc in
+          let found = finds l m a b y ys g linked f h in
+          subst (λ z. NextBack l m z ks) first (record {
+            up = found.0;
+            down = found.1;
+            next = record { a = y; b = b; xs = ys; g = g; linked = linked.3; held = come_back l m a b y ys g linked f h; left = rest };
+          })
+      | false ↦ λ f i. reached l m y y ys g k ks linked.3 (pass_on l m a b y ys g linked f h) i
+    ] refl e
+
+pub next_back : (l m : Line) (k : ℕ) (ks : List ℕ) → Regaining l m (k ∷ ks) → NextBack l m k ks
+next_back l m k ks r = reached l m r.a r.b r.xs r.g k ks r.linked r.held r.left
+
+ended : (l m : Line) (a b : ℕ) (xs : List ℕ) (g : ℕ → Bool) → IsLinkedFrom l a xs → Held l m a b xs g → filter g xs ≡ [] → SameLinks l m
+ended l m a b [] g linked h e = all_back l m a b g linked h
+ended l m a b (y ∷ ys) g linked h e =
+    elim (g y) as (λ c. g y ≡ c → cond c (y ∷ filter g ys) (filter g ys) ≡ [] → SameLinks l m) [
+      | true ↦ λ f i. cc
+      | false ↦ λ f i. ended l m y y ys g linked.3 (pass_on l m a b y ys g linked f h) i
+    ] refl e
+
+pub regained : (l m : Line) → Regaining l m [] → SameLinks l m
+regained l m r = ended l m r.a r.b r.xs r.g r.linked r.held r.left

@@ -1,0 +1,120 @@
+-- Cover and Spend on the item table.
+use Rattle.std.proofs.Common.{◌≡◌, ◌≢◌, ℕ, zero, suc, ◌+◌, ◌-◌, ◌<◌, ◌^◌, List, [], ◌∷◌, length, map, get_or, set, refl, ap, sym, ◌∙◌, arith, cond, eqb, true, false, eq-eqb, ne_eqb, leb, Some}
+use Rattle.std.specs.List.{range_with_len}
+use Rattle.std.specs.Prelude.{slice_get}
+use Rattle.std.proofs.lemmas.List.{length-map}
+use Rattle.std.proofs.lemmas.List.FromFn.{get_or-map-range_with_len}
+use Rattle.xc_dance.specs.declared.links.items.Items.{Items}
+use Rattle.xc_dance.specs.Fields.{ring_of, ring_head, left_of, right_of, first_of, last_of, last_below, first_above}
+use Rattle.xc_dance.proofs.LinkedTables.Mapped.{get_within, map_put, map_same}
+use Rattle.xc_dance.specs.declared.dance.Move.{Move}
+use Rattle.xc_dance.specs.declared.dance.Move.TheVariants.{Spend}
+use Rattle.xc_input.specs.Problem.{Puzzle, primary_count, item_count, high_at}
+use Rattle.xc_dance.specs.Moves.{IsLegal, spends, is_covered}
+use Rattle.xc_dance.specs.Links.ItemCells.{items_after, llink_at, rlink_at, bound_at}
+use Rattle.xc_dance.specs.Links.Rings.{with_bound}
+
+some_is : (a b : ℕ) → Some a ≡ Some b → a ≡ b
+some_is a b e = cc
+
+pub record SpendStep (p : Puzzle) (t : List Move) (i : ℕ) : Type 0 where
+  pub can : (i < length (items_after p t).bound) × (0 < get_or (items_after p t).bound i 0)
+  pub done : with_bound (items_after p t) i (get_or (items_after p t).bound i 0 - 1) ≡ items_after p (Spend i ∷ t)
+  pub can_back : (i < length (items_after p (Spend i ∷ t)).bound) × (get_or (items_after p (Spend i ∷ t)).bound i 0 < 2 ^ 31)
+  pub undone : with_bound (items_after p (Spend i ∷ t)) i (get_or (items_after p (Spend i ∷ t)).bound i 0 + 1) ≡ items_after p t
+
+-- ---- columns over places in a row
+
+range_get : (a n q m : ℕ) → slice_get (range_with_len a n) q ≡ Some m → m ≡ a + q
+range_get a zero q m e = cc
+range_get a (suc n) zero m e = let same : a ≡ m = some_is a m e in omega (arith, same)
+range_get a (suc n) (suc q) m e = let r = range_get (a + 1) n q m e in omega (arith, r)
+
+length-range : (a n : ℕ) → length (range_with_len a n) ≡ n
+length-range a zero = refl
+length-range a (suc n) = ap suc (length-range (a + 1) n)
+
+pub row_len : (f : ℕ → ℕ) (n : ℕ) → length (map f (range_with_len 0 n)) ≡ n
+row_len f n = length-map (range_with_len 0 n) f ∙ length-range 0 n
+
+pub row_get : (f : ℕ → ℕ) (n q : ℕ) → q < n → get_or (map f (range_with_len 0 n)) q 0 ≡ f q
+row_get f n q h = get_or-map-range_with_len f 0 n q q 0 h (omega arith)
+
+row_at : (n q m : ℕ) → slice_get (range_with_len 0 n) q ≡ Some m → m ≡ q
+row_at n q m e = let r = range_get 0 n q m e in omega (arith, r)
+
+pub row_put : (f g : ℕ → ℕ) (n k v : ℕ) → ((q : ℕ) → q < n → q ≢ k → g q ≡ f q) → g k ≡ v → map g (range_with_len 0 n) ≡ set (map f (range_with_len 0 n)) k v
+row_put f g n k v rest here =
+    map_put f g (range_with_len 0 n) k v
+    (λ q m e ne. let same : m ≡ q = row_at n q m e in let within = get_within (range_with_len 0 n) q m e in let long = length-range 0 n in ap g same ∙ rest q (omega (arith, within, long)) ne ∙ ap f (sym same))
+    (λ m e. ap g (row_at n k m e) ∙ here)
+
+pub row_same : (f g : ℕ → ℕ) (n : ℕ) → ((q : ℕ) → q < n → g q ≡ f q) → map g (range_with_len 0 n) ≡ map f (range_with_len 0 n)
+row_same f g n h =
+    map_same f g (range_with_len 0 n) (λ q m e. let same : m ≡ q = row_at n q m e in let within = get_within (range_with_len 0 n) q m e in let long = length-range 0 n in ap g same ∙ h q (omega (arith, within, long)) ∙ ap f (sym same))
+
+-- ---- Spend
+
+pub left_now : (p : Puzzle) (t : List Move) (q : ℕ) → is_covered q t ≡ false → left_of p t q ≡ last_below (ring_head p q) q (ring_of p t q)
+left_now p [] q e = refl
+left_now p (m ∷ t) q e = ap (λ b. cond b (left_of p t q) (last_below (ring_head p q) q (ring_of p (m ∷ t) q))) e
+
+pub right_now : (p : Puzzle) (t : List Move) (q : ℕ) → is_covered q t ≡ false → right_of p t q ≡ first_above (ring_head p q) q (ring_of p t q)
+right_now p [] q e = refl
+right_now p (m ∷ t) q e = ap (λ b. cond b (right_of p t q) (first_above (ring_head p q) q (ring_of p (m ∷ t) q))) e
+
+pub spent_left : (p : Puzzle) (t : List Move) (i q : ℕ) → left_of p (Spend i ∷ t) q ≡ left_of p t q
+spent_left p t i q = elim (is_covered q t) as (λ b. is_covered q t ≡ b → cond b (left_of p t q) (last_below (ring_head p q) q (ring_of p t q)) ≡ left_of p t q) [
+  | true ↦ λ e. refl
+  | false ↦ λ e. sym (left_now p t q e)
+] refl
+
+spent_right : (p : Puzzle) (t : List Move) (i q : ℕ) → right_of p (Spend i ∷ t) q ≡ right_of p t q
+spent_right p t i q = elim (is_covered q t) as (λ b. is_covered q t ≡ b → cond b (right_of p t q) (first_above (ring_head p q) q (ring_of p t q)) ≡ right_of p t q) [
+  | true ↦ λ e. refl
+  | false ↦ λ e. sym (right_now p t q e)
+] refl
+
+pub same_items : (s t : Items) → s.llink ≡ t.llink → s.rlink ≡ t.rlink → s.bound ≡ t.bound → s.slack ≡ t.slack → s ≡ t
+same_items s t a b c d =
+    let made : List ℕ → List ℕ → List ℕ → List ℕ → Items = λ w x y z. record { llink = w; rlink = x; bound = y; slack = z } in
+    ap (λ w. made w s.rlink s.bound s.slack) a ∙ ap (λ x. made t.llink x s.bound s.slack) b ∙ ap (λ y. made t.llink t.rlink y s.slack) c ∙ ap (made t.llink t.rlink t.bound) d
+
+spent_llink : (p : Puzzle) (t : List Move) (i q : ℕ) → llink_at p (Spend i ∷ t) q ≡ llink_at p t q
+spent_llink p t i q = ap (λ v. cond (eqb q 0) (last_of 0 (ring_of p t 0)) (cond (leb q (item_count p)) v (last_of (item_count p + 1) (ring_of p t (primary_count p + 1))))) (spent_left p t i q)
+
+pub spent_rlink : (p : Puzzle) (t : List Move) (i q : ℕ) → rlink_at p (Spend i ∷ t) q ≡ rlink_at p t q
+spent_rlink p t i q = ap (λ v. cond (eqb q 0) (first_of 0 (ring_of p t 0)) (cond (leb q (item_count p)) v (first_of (item_count p + 1) (ring_of p t (primary_count p + 1))))) (spent_right p t i q)
+
+bound_own : (p : Puzzle) (t : List Move) (i : ℕ) → 0 < i → bound_at p t i ≡ high_at p i - spends i t
+bound_own p t i pos = rw (ne_eqb i 0 (λ e. omega (arith, e, pos))) refl
+
+spends_own : (t : List Move) (i : ℕ) → spends i (Spend i ∷ t) ≡ 1 + spends i t
+spends_own t i = rw (eq-eqb i i refl) refl
+
+bound_other : (p : Puzzle) (t : List Move) (i q : ℕ) → q ≢ i → bound_at p (Spend i ∷ t) q ≡ bound_at p t q
+bound_other p t i q ne = let z : 0 + spends q t ≡ spends q t = omega arith in rw (ne_eqb q i ne) (ap (λ n. cond (eqb q 0) 0 (high_at p q - n)) z)
+
+pub spend_step : (p : Puzzle) (t : List Move) (i : ℕ) → IsLegal p t (Spend i) → high_at p i < 2 ^ 31 → SpendStep p t i
+spend_step p t i may few =
+    let n = primary_count p + 1 in
+    let pos : 0 < i = let h = may.0.0 in omega (arith, h) in
+    let within : i < n = let h = may.0.1 in omega (arith, h) in
+    let lt = may.1 in
+    let next = Spend i ∷ t in
+    let before : get_or (items_after p t).bound i 0 ≡ high_at p i - spends i t = row_get (bound_at p t) n i within ∙ bound_own p t i pos in
+    let after : get_or (items_after p next).bound i 0 ≡ high_at p i - (1 + spends i t) = row_get (bound_at p next) n i within ∙ bound_own p next i pos ∙ ap (λ k. high_at p i - k) (spends_own t i) in
+    let llinks : (items_after p next).llink ≡ (items_after p t).llink = row_same (llink_at p t) (llink_at p next) (item_count p + 2) (λ q h. spent_llink p t i q) in
+    let rlinks : (items_after p next).rlink ≡ (items_after p t).rlink = row_same (rlink_at p t) (rlink_at p next) (item_count p + 2) (λ q h. spent_rlink p t i q) in
+    let down : bound_at p next i ≡ get_or (items_after p t).bound i 0 - 1 = bound_own p next i pos ∙ ap (λ k. high_at p i - k) (spends_own t i) ∙ omega (arith, before) in
+    let up : bound_at p t i ≡ get_or (items_after p next).bound i 0 + 1 = bound_own p t i pos ∙ omega (arith, after, lt) in
+    let bounds : (items_after p next).bound ≡ set (items_after p t).bound i (get_or (items_after p t).bound i 0 - 1) = row_put (bound_at p t) (bound_at p next) n i _ (λ q h ne. bound_other p t i q ne) down in
+    let back : (items_after p t).bound ≡ set (items_after p next).bound i (get_or (items_after p next).bound i 0 + 1) = row_put (bound_at p next) (bound_at p t) n i _ (λ q h ne. sym (bound_other p t i q ne)) up in
+    let long = row_len (bound_at p t) n in
+    let long' = row_len (bound_at p next) n in
+    record {
+      can = (omega (arith, long, within), omega (arith, before, lt));
+      done = same_items (with_bound (items_after p t) i (get_or (items_after p t).bound i 0 - 1)) (items_after p next) (sym llinks) (sym rlinks) (sym bounds) refl;
+      can_back = (omega (arith, long', within), omega (arith, after, few));
+      undone = same_items (with_bound (items_after p next) i (get_or (items_after p next).bound i 0 + 1)) (items_after p t) llinks rlinks (sym back) refl;
+    }

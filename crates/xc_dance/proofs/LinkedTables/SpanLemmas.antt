@@ -1,0 +1,139 @@
+-- The spans lead from each node of an option to its other nodes.
+use Rattle.std.proofs.Common.{◌≡◌, ℕ, zero, suc, ◌+◌, ◌-◌, ◌<◌, true, false, cond, eqb, List, [], ◌∷◌, ◌++◌, length, map, get_or, Some, refl, ap, ap₂, sym, subst, ◌∙◌, arith, eqb-true}
+use Rattle.std.specs.Prelude.{slice_get, is_some, unwrap_or, option_map}
+use Rattle.std.specs.List.{range_with_len}
+use Rattle.std.proofs.lemmas.Bool.{false≢true}
+use Rattle.std.proofs.lemmas.Option.{slice_get-map, slice_get_within, get_or_from_slice_get}
+use Rattle.std.proofs.lemmas.List.{length-map, map-append, length-take-le, take_all}
+use Rattle.xc_input.specs.declared.problem.Use.{Use}
+use Rattle.xc_input.specs.Problem.{Puzzle, colour_in, uses_of, option_count}
+use Rattle.xc_dance.specs.declared.links.nodes.Span.{Span}
+use Rattle.xc_dance.specs.Fields.{used, layout, spacer_place, link_place}
+use Rattle.xc_dance.specs.Links.Steps.{others, others_of}
+use Rattle.xc_dance.specs.Links.Laid.{IsFit}
+use Rattle.xc_dance.specs.Links.Others.{before_use, behind_use, other_items, HasSpans}
+use Rattle.xc_dance.specs.Links.OptionPlaces.{place_at}
+use Rattle.xc_dance.specs.Links.OptionSpans.{no_span, span_of, spans_of}
+use Rattle.xc_dance.proofs.LinkedTables.PlaceLemmas.{use_here, place_next}
+use Rattle.xc_dance.proofs.LinkedTables.SpacerPlaces.{use_at, spacer_at}
+use Rattle.xc_dance.proofs.LinkedTables.OptionReach.{get_behind}
+
+-- ---- an item's use
+
+-- the uses before that of item i, it, and those behind
+pub record Parted (us : List Use) (i : ℕ) : Type 0 where
+  pub before : List Use
+  pub use_of : Use
+  pub behind : List Use
+  pub is : us ≡ before ++ use_of ∷ behind
+  pub item : use_of.item ≡ i
+  pub items_before : before_use i us ≡ map (λ v. v.item) before
+  pub items_behind : behind_use i us ≡ map (λ v. v.item) behind
+
+pub parted : (us : List Use) (i : ℕ) → is_some (colour_in us i) ≡ true → Parted us i
+parted [] i e = absurd (false≢true e)
+parted (u ∷ us) i e =
+    elim (eqb u.item i) as (λ b. eqb u.item i ≡ b → is_some (cond b (Some u.colour) (colour_in us i)) ≡ true → Parted (u ∷ us) i) [
+      | true ↦ λ same f. record { before = []; use_of = u; behind = us; is = refl; item = eqb-true u.item i same; items_before = rw same refl; items_behind = rw same refl }
+      | false ↦ λ other f.
+          let r = parted us i f in
+          record {
+            before = u ∷ r.before;
+            use_of = r.use_of;
+            behind = r.behind;
+            is = ap (λ l. u ∷ l) r.is;
+            item = r.item;
+            items_before = rw other (ap (λ l. u.item ∷ l) r.items_before);
+            items_behind = rw other r.items_behind;
+          }
+    ] refl e
+
+-- ---- places in a row
+
+-- the nodes of these uses stand one behind another from place a on
+pub row : (p : Puzzle) (o a n : ℕ) (us : List Use) → n ≡ length us → ((k : ℕ) (u : Use) → slice_get us k ≡ Some u → link_place p u.item o ≡ a + k) →
+    range_with_len a n ≡ map (λ j. link_place p j o) (map (λ v. v.item) us)
+row p o a n [] e at = let z : n ≡ 0 = omega (arith, e) in ap (range_with_len a) z
+row p o a zero (u ∷ us) e at = absurd (omega (arith, e))
+row p o a (suc n) (u ∷ us) e at =
+    let z : a + 0 ≡ a = omega arith in
+    ap₂ (λ x xs. x ∷ xs) (sym (at 0 u refl ∙ z))
+    (row p o (a + 1) n us (omega (arith, e)) (λ k v f. (let s : a + suc k ≡ a + 1 + k = omega arith in at (suc k) v f ∙ s)))
+
+pub get_within : {X : Type 0} (xs ys : List X) (k : ℕ) (x : X) → slice_get xs k ≡ Some x → slice_get (xs ++ ys) k ≡ Some x
+get_within [] ys k x e = cc
+get_within (a ∷ xs) ys zero x e = e
+get_within (a ∷ xs) ys (suc k) x e = get_within xs ys k x e
+
+-- ---- one option
+
+pub some_same : {X : Type 0} (x y : X) → Some x ≡ Some y → x ≡ y
+some_same x y e = cc
+
+-- the span of a use's node
+pub span_here : (p : Puzzle) (o k : ℕ) (us : List Use) (u : Use) → o < option_count p → slice_get p.options o ≡ Some us → slice_get us k ≡ Some u → (d : Span) →
+    get_or (spans_of p) (place_at p o + 1 + k) d ≡ (let s : Span = record { first = place_at p o + 1; end = place_at p o + 1 + length us } in s)
+span_here p o k us u lt e f d =
+    let at = use_here p o k (place_at p o + 1 + k) us u e f refl in
+    let first : spacer_place p (o + 1 - 1) + 1 ≡ place_at p o + 1 = (let z : o + 1 - 1 ≡ o = omega arith in ap (λ n. spacer_place p n + 1) z ∙ ap (λ n. n + 1) (spacer_at p o (omega (arith, lt)))) in
+    let end : spacer_place p (o + 1) ≡ place_at p o + 1 + length us = spacer_at p (o + 1) (omega (arith, lt)) ∙ place_next p o us e in
+    let span : ℕ → ℕ → Span = λ a b. record { first = a; end = b } in
+    get_or_from_slice_get (spans_of p) (place_at p o + 1 + k) (span_of p (used (o + 1) u)) d (slice_get-map (span_of p) (layout p) (place_at p o + 1 + k) ∙ ap (option_map (span_of p)) at)
+    ∙ ap₂ span first end
+
+-- the places of an option's nodes but that behind those of some uses
+pub around : (p : Puzzle) (o : ℕ) (before behind us : List Use) (u : Use) → IsFit p → slice_get p.options o ≡ Some us → us ≡ before ++ u ∷ behind →
+    others (place_at p o + 1 + length before) (place_at p o + 1) (place_at p o + 1 + length us)
+    ≡ map (λ j. link_place p j (o + 1)) (map (λ v. v.item) behind ++ map (λ v. v.item) before)
+around p o before behind us u fit e is =
+    let a = place_at p o + 1 in
+    let size = ap length is ∙ Rattle.std.proofs.lemmas.List.length-append before (u ∷ behind) in
+    let behind_all : range_with_len (a + length before + 1) (a + length us - (a + length before + 1)) ≡ map (λ j. link_place p j (o + 1)) (map (λ v. v.item) behind) =
+    row p (o + 1) (a + length before + 1) (a + length us - (a + length before + 1)) behind (omega (arith, size))
+    (λ k v f. (let n : a + (length before + suc k) ≡ a + length before + 1 + k = omega arith in
+    use_at p o (length before + suc k) us v fit e (ap (λ l. slice_get l (length before + suc k)) is ∙ get_behind before (u ∷ behind) (length before + suc k) (suc k) refl ∙ f) ∙ n)) in
+    let before_all : range_with_len a (a + length before - a) ≡ map (λ j. link_place p j (o + 1)) (map (λ v. v.item) before) =
+    row p (o + 1) a (a + length before - a) before (omega arith)
+    (λ k v f. use_at p o k us v fit e (ap (λ l. slice_get l k) is ∙ get_within before (u ∷ behind) k v f)) in
+    ap₂ (λ l m. l ++ m) behind_all before_all ∙ sym (map-append (λ j. link_place p j (o + 1)) (map (λ v. v.item) behind) (map (λ v. v.item) before))
+
+-- an option that holds an item is there
+pub there : (os : List (List Use)) (k i : ℕ) → is_some (colour_in (unwrap_or (slice_get os k) []) i) ≡ true → slice_get os k ≡ Some (unwrap_or (slice_get os k) [])
+there [] k i e = absurd (false≢true e)
+there (us ∷ os) zero i e = refl
+there (us ∷ os) (suc k) i e = there os k i e
+
+pub record SpanOf (p : Puzzle) (o i : ℕ) : Type 0 where
+  pub others : others_of (spans_of p) (link_place p i o) ≡ map (λ j. link_place p j o) (other_items p o i)
+  pub within : link_place p i o < length (spans_of p)
+
+pub leads : (p : Puzzle) (o i : ℕ) (us : List Use) → IsFit p → slice_get p.options o ≡ Some us → uses_of p (o + 1) ≡ us → is_some (colour_in us i) ≡ true → SpanOf p (o + 1) i
+leads p o i us fit e is some =
+    let r = parted us i some in
+    let k = length r.before in
+    let lt : o < option_count p = slice_get_within p.options o us e in
+    let use_get : slice_get us k ≡ Some r.use_of = ap (λ l. slice_get l k) r.is ∙ get_behind r.before (r.use_of ∷ r.behind) k 0 (omega arith) in
+    let place : link_place p i (o + 1) ≡ place_at p o + 1 + k = ap (λ j. link_place p j (o + 1)) (sym r.item) ∙ use_at p o k us r.use_of fit e use_get in
+    let d : Span = no_span in
+    record {
+      others = ap (others_of (spans_of p)) place
+          ∙ ap (λ (s : Span). others (place_at p o + 1 + k) s.first s.end) (span_here p o k us r.use_of lt e use_get d)
+          ∙ around p o r.before r.behind us r.use_of fit e r.is
+          ∙ ap (map (λ j. link_place p j (o + 1))) (ap₂ (λ l m. l ++ m) (sym r.items_behind) (sym r.items_before) ∙ ap (λ l. behind_use i l ++ before_use i l) (sym is));
+      within = let here = slice_get_within (layout p) (place_at p o + 1 + k) (used (o + 1) r.use_of) (use_here p o k (place_at p o + 1 + k) us r.use_of e use_get refl) in
+          let size = length-map (layout p) (span_of p) in omega (arith, here, size, place);
+    }
+
+pub span_is : (p : Puzzle) (o i : ℕ) → IsFit p → 0 < o → is_some (colour_in (uses_of p o) i) ≡ true → SpanOf p o i
+span_is p zero i fit pos e = absurd (omega (arith, pos))
+span_is p (suc o) i fit pos e =
+    let us = unwrap_or (slice_get p.options o) [] in
+    let s : o + 1 ≡ suc o = omega arith in
+    let same : uses_of p (o + 1) ≡ us = ap (uses_of p) s in
+    subst (λ n. SpanOf p n i) s (leads p o i us fit (there p.options o i e) same e)
+
+pub has_spans : (p : Puzzle) → IsFit p → HasSpans p (spans_of p)
+has_spans p fit = record {
+  others = λ o i pos e. (span_is p o i fit pos e).others;
+  within = λ o i pos e. (span_is p o i fit pos e).within;
+}

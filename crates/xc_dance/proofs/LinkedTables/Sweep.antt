@@ -1,0 +1,223 @@
+-- Members leave one list from top to bottom: where every link then leads.
+use Rattle.std.proofs.Common.{◌≡◌, ◌≢◌, ℕ, ◌+◌, ◌<◌, ◌≤◌, Bool, true, false, not, cond, ◌||◌, eqb, ltb, nat_lt, List, [], ◌∷◌, length, filter, fold, Some, None, refl, ap, sym, ◌∙◌, arith, eqb-true, eq-eqb, ne_eqb, lt-ltb, le-ltb}
+use Rattle.std.specs.Prelude.{unwrap_or}
+use Rattle.std.specs.List.{last_or}
+use Rattle.std.proofs.lemmas.Bool.{eqb-false, false≢true}
+pub use Rattle.xc_dance.specs.Rising.{Rises}
+pub use Rattle.xc_dance.proofs.MoveLemmas.ListLemmas.{Rises-weaker, Rises-filter}
+use Rattle.xc_dance.specs.Links.Lines.{Line, put_at, cut, IsLinkedFrom}
+use Rattle.xc_dance.specs.Fields.{last_below, first_above, first_of, last_of, is_in}
+
+pub put_at-same : (f : ℕ → ℕ) (k v x : ℕ) → x ≡ k → put_at f k v x ≡ v
+put_at-same f k v x e = rw (eq-eqb x k e) refl
+
+pub put_at-other : (f : ℕ → ℕ) (k v x : ℕ) → x ≢ k → put_at f k v x ≡ f x
+put_at-other f k v x ne = rw (ne_eqb x k ne) refl
+
+pub rises : (l : Line) (a : ℕ) (xs : List ℕ) → IsLinkedFrom l a xs → Rises a xs
+rises l a [] h = tt
+rises l a (x ∷ xs) h = (h.0, rises l x xs h.3)
+
+-- one that is no higher than the start isn't in
+pub not_in : (n x : ℕ) (xs : List ℕ) → x ≤ n → Rises n xs → is_in x xs ≡ false
+not_in n x [] h r = refl
+not_in n x (y ∷ ys) h r =
+    let ne : eqb y x ≡ false = ne_eqb y x (λ e. omega (arith, e, r.0)) in
+    rw ne (not_in y x ys (omega (arith, r.0)) r.1)
+
+-- a member is higher than the start
+pub in_above : (n x : ℕ) (xs : List ℕ) → Rises n xs → is_in x xs ≡ true → n < x
+in_above n x [] r e = absurd (false≢true e)
+in_above n x (y ∷ ys) r e =
+    elim (eqb y x) as (λ b. eqb y x ≡ b → (b || is_in x ys) ≡ true → n < x) [
+      | true ↦ λ f g. let same : y ≡ x = eqb-true y x f in omega (arith, r.0, same)
+      | false ↦ λ f g. omega (arith, r.0, in_above y x ys r.1 g)
+    ] refl e
+
+pub is_in-other : (y x : ℕ) (ys : List ℕ) → y ≢ x → is_in x (y ∷ ys) ≡ is_in x ys
+is_in-other y x ys ne = rw (ne_eqb y x ne) refl
+
+pub is_in-first : (y : ℕ) (ys : List ℕ) → is_in y (y ∷ ys) ≡ true
+is_in-first y ys = rw (eq-eqb y y refl) refl
+
+-- ---- neighbours
+
+last_or_some : (y a : ℕ) (zs : List ℕ) → unwrap_or (last_or (Some y) zs) a ≡ unwrap_or (last_or None zs) y
+last_or_some y a [] = refl
+last_or_some y a (z ∷ zs) = last_or_some z a zs ∙ sym (last_or_some z y zs)
+
+pub last_of-more : (a y : ℕ) (zs : List ℕ) → last_of a (y ∷ zs) ≡ last_of y zs
+last_of-more a y zs = last_or_some y a zs
+
+none_below : (x n : ℕ) (xs : List ℕ) → x ≤ n → Rises n xs → filter (λ k. nat_lt k x) xs ≡ []
+none_below x n [] h r = refl
+none_below x n (y ∷ ys) h r = let no : ltb y x ≡ false = le-ltb y x (omega (arith, r.0)) in rw no (none_below x y ys (omega (arith, r.0)) r.1)
+
+pub last_below-none : (a x n : ℕ) (xs : List ℕ) → x ≤ n → Rises n xs → last_below a x xs ≡ a
+last_below-none a x n xs h r = ap (λ ks. unwrap_or (last_or None ks) a) (none_below x n xs h r)
+
+pub last_below-self : (a y : ℕ) (ys : List ℕ) → Rises y ys → last_below a y (y ∷ ys) ≡ a
+last_below-self a y ys r = let no : ltb y y ≡ false = le-ltb y y (omega arith) in rw no (last_below-none a y y ys (omega arith) r)
+
+pub last_below-more : (a x y : ℕ) (ys : List ℕ) → y < x → last_below a x (y ∷ ys) ≡ last_below y x ys
+last_below-more a x y ys h = let yes : ltb y x ≡ true = lt-ltb y x h in rw yes (last_or_some y a (filter (λ k. nat_lt k x) ys))
+
+pub first_above-first : (o x n : ℕ) (xs : List ℕ) → x ≤ n → Rises n xs → first_above o x xs ≡ first_of o xs
+first_above-first o x n [] h r = refl
+first_above-first o x n (y ∷ ys) h r = let yes : ltb x y ≡ true = lt-ltb x y (omega (arith, r.0)) in rw yes refl
+
+pub first_above-more : (o x y : ℕ) (ys : List ℕ) → y ≤ x → first_above o x (y ∷ ys) ≡ first_above o x ys
+first_above-more o x y ys h = let no : ltb x y ≡ false = le-ltb x y h in rw no refl
+
+-- ---- one leaves from the top
+
+-- what stands further down sees the links further down alone
+IsLinkedFrom-same : (l m : Line) (a : ℕ) (xs : List ℕ)
+    → ((k : ℕ) → a ≤ k → m.down k ≡ l.down k)
+    → ((k : ℕ) → a < k → m.up k ≡ l.up k)
+    → m.up 0 ≡ l.up 0
+    → IsLinkedFrom l a xs → IsLinkedFrom m a xs
+IsLinkedFrom-same l m a [] down up last h = (down a (omega arith) ∙ h.0, last ∙ h.1)
+IsLinkedFrom-same l m a (x ∷ xs) down up last h =
+    let lt : a < x = h.0 in
+    (lt, down a (omega arith) ∙ h.1, up x lt ∙ h.2, IsLinkedFrom-same l m x xs (λ k le. down k (omega arith)) (λ k le. up k (omega arith)) last h.3)
+
+pub cut-linked : (l : Line) (a y : ℕ) (ys : List ℕ) → IsLinkedFrom l a (y ∷ ys) → IsLinkedFrom (cut l y) a ys
+cut-linked l a y [] h = (
+  put_at-same l.down (l.up y) (l.down y) a (sym h.2) ∙ h.3.0,
+  put_at-same l.up (l.down y) (l.up y) 0 (sym h.3.0) ∙ h.2,
+)
+cut-linked l a y (z ∷ zs) h =
+    let lt : a < y = h.0 in
+    let is_u : l.up y ≡ a = h.2 in
+    let lt' : y < z = h.3.0 in
+    let is_d : l.down y ≡ z = h.3.1 in (
+      omega arith,
+      put_at-same l.down (l.up y) (l.down y) a (sym is_u) ∙ is_d,
+      put_at-same l.up (l.down y) (l.up y) z (sym is_d) ∙ is_u,
+      IsLinkedFrom-same l (cut l y) z zs
+          (λ k le. put_at-other l.down (l.up y) (l.down y) k (λ e. omega arith))
+          (λ k gt. put_at-other l.up (l.down y) (l.up y) k (λ e. omega arith))
+          (put_at-other l.up (l.down y) (l.up y) 0 (λ e. omega arith))
+          h.3.3,
+    )
+
+-- what stands below a member is the item's own node or a later member
+below_first : (l : Line) (y : ℕ) (ys : List ℕ) (x : ℕ) → IsLinkedFrom l y ys → x ≢ 0 → is_in x ys ≡ false → x ≢ l.down y
+below_first l y [] x h nz out e = nz (e ∙ h.0)
+below_first l y (z ∷ zs) x h nz out e =
+    let same : z ≡ x = sym h.1 ∙ sym e in
+    false≢true (sym out ∙ ap (λ k. is_in x (k ∷ zs)) same ∙ is_in-first x zs)
+
+-- ---- all that pass the test leave
+
+abbrev pub cuts : Line → List ℕ → Line
+cuts l ks = fold cut l ks
+
+abbrev pub stay : (ℕ → Bool) → List ℕ → List ℕ
+stay g xs = filter (λ x. not (g x)) xs
+
+pub record Swept (l m : Line) (a : ℕ) (xs ks : List ℕ) : Type 0 where
+  pub linked : IsLinkedFrom m a ks
+  pub up_in : (x : ℕ) → is_in x xs ≡ true → m.up x ≡ last_below a x ks
+  pub up_out : (x : ℕ) → x ≢ 0 → is_in x xs ≡ false → m.up x ≡ l.up x
+  pub down_in : (x : ℕ) → x ≢ a → is_in x ks ≡ true → m.down x ≡ first_above 0 x ks
+  pub down_out : (x : ℕ) → x ≢ a → is_in x ks ≡ false → m.down x ≡ l.down x
+  pub first : m.down a ≡ first_of 0 ks
+  pub last : m.up 0 ≡ last_of a ks
+
+-- a fact by whether a number is the first of a list
+pub by_first : (P : Type 0) (y x : ℕ) → (y ≡ x → P) → (y ≢ x → P) → P
+by_first P y x same other = elim (eqb y x) as (λ b. eqb y x ≡ b → P) [ true ↦ λ e. same (eqb-true y x e) | false ↦ λ e. other (eqb-false y x e) ] refl
+
+pub in_rest : (y x : ℕ) (ys : List ℕ) → y ≢ x → is_in x (y ∷ ys) ≡ true → is_in x ys ≡ true
+in_rest y x ys ne e = sym (is_in-other y x ys ne) ∙ e
+
+pub out_rest : (y x : ℕ) (ys : List ℕ) → is_in x (y ∷ ys) ≡ false → y ≢ x
+out_rest y x ys e same = false≢true (sym e ∙ ap (λ k. is_in x (k ∷ ys)) same ∙ is_in-first x ys)
+
+first_leaves : (l m : Line) (a y : ℕ) (ys ks : List ℕ) → IsLinkedFrom l a (y ∷ ys) → Rises a ks → Rises y ks → Swept (cut l y) m a ys ks → Swept l m a (y ∷ ys) ks
+first_leaves l m a y ys ks h ra ry s =
+    let lt : a < y = h.0 in
+    let is_u : l.up y ≡ a = h.2 in
+    let r : Rises y ys = rises l y ys h.3 in
+    let y_out : is_in y ys ≡ false = not_in y y ys (omega arith) r in
+    let kept_up : (x : ℕ) → x ≢ 0 → is_in x ys ≡ false → m.up x ≡ l.up x = λ x nz out.
+    s.up_out x nz out ∙ put_at-other l.up (l.down y) (l.up y) x (below_first l y ys x h.3 nz out) in
+    record {
+      linked = s.linked;
+      up_in = λ x e. by_first (m.up x ≡ last_below a x ks) y x
+          (λ same. let nz : x ≢ 0 = λ z. omega arith in
+          let out : is_in x ys ≡ false = ap (λ k. is_in k ys) (sym same) ∙ y_out in
+          kept_up x nz out ∙ ap l.up (sym same) ∙ is_u ∙ sym (last_below-none a x y ks (omega arith) ry))
+          (λ ne. s.up_in x (in_rest y x ys ne e));
+      up_out = λ x nz e. let ne : y ≢ x = out_rest y x ys e in kept_up x nz (sym (is_in-other y x ys ne) ∙ e);
+      down_in = s.down_in;
+      down_out = λ x ne e. s.down_out x ne e ∙ put_at-other l.down (l.up y) (l.down y) x (λ f. ne (f ∙ is_u));
+      first = s.first;
+      last = s.last;
+    }
+
+first_stays : (l m : Line) (a y : ℕ) (ys ks : List ℕ) → IsLinkedFrom l a (y ∷ ys) → Rises y ks → Swept l m y ys ks → Swept l m a (y ∷ ys) (y ∷ ks)
+first_stays l m a y ys ks h ry s =
+    let lt : a < y = h.0 in
+    let r : Rises y ys = rises l y ys h.3 in
+    let y_out : is_in y ys ≡ false = not_in y y ys (omega arith) r in
+    let a_out : is_in a ks ≡ false = not_in y a ks (omega arith) ry in
+    let a_ne : a ≢ y = λ e. omega arith in
+    let nz : y ≢ 0 = λ z. omega arith in
+    let at_a : m.down a ≡ y = s.down_out a a_ne a_out ∙ h.1 in
+    let at_y : m.up y ≡ a = s.up_out y nz y_out ∙ h.2 in
+    record {
+      linked = (lt, at_a, at_y, s.linked);
+      up_in = λ x e. by_first (m.up x ≡ last_below a x (y ∷ ks)) y x
+          (λ same. ap m.up (sym same) ∙ at_y ∙ sym (last_below-self a y ks ry) ∙ ap (λ k. last_below a k (y ∷ ks)) same)
+          (λ ne. let within = in_rest y x ys ne e in s.up_in x within ∙ sym (last_below-more a x y ks (in_above y x ys r within)));
+      up_out = λ x nz' e. let ne : y ≢ x = out_rest y x ys e in s.up_out x nz' (sym (is_in-other y x ys ne) ∙ e);
+      down_in = λ x ne e. by_first (m.down x ≡ first_above 0 x (y ∷ ks)) y x
+          (λ same. ap m.down (sym same) ∙ s.first ∙ sym (first_above-first 0 x y ks (omega arith) ry) ∙ sym (first_above-more 0 x y ks (omega arith)))
+          (λ ne'. let within = in_rest y x ks ne' e in
+          let gt : y < x = in_above y x ks ry within in
+          s.down_in x (λ f. ne' (sym f)) within ∙ sym (first_above-more 0 x y ks (omega arith)));
+      down_out = λ x ne e. let ne' : y ≢ x = out_rest y x ks e in s.down_out x (λ f. ne' (sym f)) (sym (is_in-other y x ks ne') ∙ e);
+      first = at_a;
+      last = s.last ∙ sym (last_of-more a y ks);
+    }
+
+pub swept : (l : Line) (a : ℕ) (xs : List ℕ) (g : ℕ → Bool) → IsLinkedFrom l a xs → Swept l (cuts l (filter g xs)) a xs (stay g xs)
+swept l a [] g h = record {
+  linked = h;
+  up_in = λ x e. absurd (false≢true e);
+  up_out = λ x nz e. refl;
+  down_in = λ x ne e. absurd (false≢true e);
+  down_out = λ x ne e. refl;
+  first = h.0;
+  last = h.1;
+}
+swept l a (y ∷ ys) g h =
+    let ks = stay g ys in
+    let r : Rises y ys = rises l y ys h.3 in
+    let lt : a < y = h.0 in
+    let ry : Rises y ks = Rises-filter (λ x. not (g x)) y ys r in
+    let ra : Rises a ks = Rises-weaker a y ks (omega arith) ry in
+    elim (g y) as (λ b. Swept l (cuts l (cond b (y ∷ filter g ys) (filter g ys))) a (y ∷ ys) (cond (not b) (y ∷ ks) ks)) [
+      | true ↦ first_leaves l (cuts (cut l y) (filter g ys)) a y ys ks h ra ry (swept (cut l y) a ys g (cut-linked l a y ys h))
+      | false ↦ first_stays l (cuts l (filter g ys)) a y ys ks h ry (swept l y ys g h.3)
+    ]
+
+-- how many are left
+pub swept_len : (l : Line) (xs : List ℕ) (g : ℕ → Bool) (n : ℕ) → l.len ≡ n + length xs → (cuts l (filter g xs)).len ≡ n + length (stay g xs)
+swept_len l [] g n e = e
+swept_len l (y ∷ ys) g n e =
+    elim (g y) as (λ b. (cuts l (cond b (y ∷ filter g ys) (filter g ys))).len ≡ n + length (cond (not b) (y ∷ stay g ys) (stay g ys))) [
+      | true ↦ swept_len (cut l y) ys g n (omega (arith, e))
+      | false ↦ omega (arith, swept_len l ys g (n + 1) (omega (arith, e)))
+    ]
+
+-- a number that isn't in is not taken out
+pub stay_same : (i : ℕ) (xs : List ℕ) → (is_in i xs ≡ true → ⊥) → stay (λ x. eqb x i) xs ≡ xs
+stay_same i [] out = refl
+stay_same i (y ∷ ys) out =
+    by_first (stay (λ x. eqb x i) (y ∷ ys) ≡ y ∷ ys) y i
+    (λ same. absurd (out (ap (λ k. is_in k (y ∷ ys)) (sym same) ∙ is_in-first y ys)))
+    (λ ne. rw (ne_eqb y i ne) (ap (λ ks. y ∷ ks) (stay_same i ys (λ e. out (is_in-other y i ys ne ∙ e)))))

@@ -1,0 +1,415 @@
+-- Cover on the item table: an item leaves its ring and comes back.
+use Rattle.std.proofs.Common.{◌≡◌, ◌≢◌, ℕ, zero, suc, ◌+◌, ◌<◌, ◌≤◌, ◌⊎◌, inl, inr, Bool, true, false, not, cond, ◌&&◌, ◌||◌, eqb, leb, ltb, List, [], ◌∷◌, filter, get_or, set, refl, ap, ap₂, sym, subst, ◌∙◌, arith, eq-eqb, ne_eqb, le-leb, leb-true, ltb-true, ltb-false}
+use Rattle.std.specs.List.{range_with_len}
+use Rattle.std.proofs.lemmas.Bool.{false≢true}
+use Rattle.std.proofs.lemmas.List.Elements.{filter_agree}
+use Rattle.xc_dance.specs.declared.dance.Move.{Move}
+use Rattle.xc_dance.specs.declared.dance.Move.TheVariants.{Cover, Purify, Tweak, Spend}
+use Rattle.xc_input.specs.Problem.{Puzzle, primary_count, item_count}
+use Rattle.xc_dance.specs.Moves.{IsLegal, is_open, is_covered}
+use Rattle.xc_dance.specs.Fields.{ring_of, ring_head, left_of, right_of, first_of, last_of, last_below, first_above, is_in}
+use Rattle.xc_dance.specs.Links.ItemCells.{items_after, llink_at, rlink_at}
+use Rattle.xc_dance.specs.Links.Rings.{left_ring, back_in_ring}
+use Rattle.xc_dance.specs.Links.RingSteps.{RingStep}
+use Rattle.xc_dance.proofs.LinkedTables.Undo.{written_back}
+use Rattle.xc_dance.proofs.MoveLemmas.OpenLists.{filter_both}
+use Rattle.xc_dance.proofs.LinkedTables.Sweep.{Rises, Rises-filter, Rises-weaker, is_in-first, by_first, in_rest, stay_same}
+use Rattle.xc_dance.proofs.LinkedTables.RingLemmas.{less, later, first_above-in, last_below-in, prev_without, next_without, first_without, last_without, link_behind, link_before}
+use Rattle.xc_dance.proofs.LinkedTables.RingStep.{row_put, row_get, row_len, same_items, left_now, right_now}
+
+abbrev pub base : Puzzle → Bool → List ℕ
+base p b = cond b (range_with_len 1 (primary_count p)) (range_with_len (primary_count p + 1) p.secondary)
+
+abbrev pub ring : Puzzle → List Move → Bool → List ℕ
+ring p t b = filter (λ j. not (is_covered j t)) (base p b)
+
+abbrev pub hd : Puzzle → Bool → ℕ
+hd p b = cond b 0 (item_count p + 1)
+
+abbrev pub side : Puzzle → ℕ → Bool
+side p q = leb q (primary_count p)
+
+rises_range : (a n : ℕ) → Rises a (range_with_len (a + 1) n)
+rises_range a zero = tt
+rises_range a (suc n) = (omega arith, rises_range (a + 1) n)
+
+ring_rises : (p : Puzzle) (t : List Move) (b : Bool) → Rises 0 (ring p t b)
+ring_rises p t true = Rises-filter (λ j. not (is_covered j t)) 0 (base p true) (rises_range 0 (primary_count p))
+ring_rises p t false = Rises-filter (λ j. not (is_covered j t)) 0 (base p false) (Rises-weaker 0 (primary_count p) (base p false) (omega arith) (rises_range (primary_count p) p.secondary))
+
+not_or : (a b : Bool) → not (a || b) ≡ (not b && not a)
+not_or true true = refl
+not_or true false = refl
+not_or false true = refl
+not_or false false = refl
+
+ring_next : (p : Puzzle) (t : List Move) (i : ℕ) (b : Bool) → ring p (Cover i ∷ t) b ≡ less i (ring p t b)
+ring_next p t i b =
+    filter_agree (λ j. not (eqb j i || is_covered j t)) (λ j. not (is_covered j t) && not (eqb j i)) (λ j. not_or (eqb j i) (is_covered j t)) (base p b)
+    ∙ sym (filter_both (λ j. not (eqb j i)) (λ j. not (is_covered j t)) (base p b))
+
+-- ---- members
+
+in_filter : (f : ℕ → Bool) (q : ℕ) (xs : List ℕ) → f q ≡ true → is_in q xs ≡ true → is_in q (filter f xs) ≡ true
+in_filter f q [] g e = e
+in_filter f q (y ∷ ys) g e =
+    by_first (is_in q (filter f (y ∷ ys)) ≡ true) y q
+    (λ same. let fy : f y ≡ true = ap f same ∙ g in rw fy (ap (λ k. is_in k (y ∷ filter f ys)) (sym same) ∙ is_in-first y (filter f ys)))
+    (λ ne. let rest = in_filter f q ys g (in_rest y q ys ne e) in elim (f y) as (λ b. is_in q (cond b (y ∷ filter f ys) (filter f ys)) ≡ true) [ true ↦ later y q (filter f ys) rest | false ↦ rest ])
+
+filter_in : (f : ℕ → Bool) (q : ℕ) (xs : List ℕ) → is_in q (filter f xs) ≡ true → (f q ≡ true) × (is_in q xs ≡ true)
+filter_in f q [] e = absurd (false≢true e)
+filter_in f q (y ∷ ys) e =
+    elim (f y) as (λ b. f y ≡ b → is_in q (cond b (y ∷ filter f ys) (filter f ys)) ≡ true → (f q ≡ true) × (is_in q (y ∷ ys) ≡ true)) [
+      | true ↦ λ fy g. by_first ((f q ≡ true) × (is_in q (y ∷ ys) ≡ true)) y q
+          (λ same. (ap f (sym same) ∙ fy, ap (λ k. is_in k (y ∷ ys)) (sym same) ∙ is_in-first y ys))
+          (λ ne. let r = filter_in f q ys (in_rest y q (filter f ys) ne g) in (r.0, later y q ys r.1))
+      | false ↦ λ fy g. let r = filter_in f q ys g in (r.0, later y q ys r.1)
+    ] refl e
+
+in_range : (a n q : ℕ) → a ≤ q → q < a + n → is_in q (range_with_len a n) ≡ true
+in_range a zero q le lt = absurd (omega arith)
+in_range a (suc n) q le lt =
+    by_first (is_in q (a ∷ range_with_len (a + 1) n) ≡ true) a q
+    (λ same. ap (λ k. is_in k (a ∷ range_with_len (a + 1) n)) (sym same) ∙ is_in-first a (range_with_len (a + 1) n))
+    (λ ne. later a q (range_with_len (a + 1) n) (in_range (a + 1) n q (omega arith) (omega arith)))
+
+range_in : (a n q : ℕ) → is_in q (range_with_len a n) ≡ true → (a ≤ q) × (q < a + n)
+range_in a zero q e = absurd (false≢true e)
+range_in a (suc n) q e =
+    by_first ((a ≤ q) × (q < a + suc n)) a q
+    (λ same. (omega arith, omega arith))
+    (λ ne. let r = range_in (a + 1) n q (in_rest a q (range_with_len (a + 1) n) ne e) in (omega (arith, r.0), omega (arith, r.1)))
+
+side_true : (p : Puzzle) (q : ℕ) → q ≤ primary_count p → side p q ≡ true
+side_true p q h = le-leb q (primary_count p) h
+
+side_false : (p : Puzzle) (q : ℕ) → primary_count p < q → side p q ≡ false
+side_false p q h = elim (side p q) as (λ b. side p q ≡ b → side p q ≡ false) [ true ↦ λ e. let le = leb-true q (primary_count p) e in absurd (omega (arith, h, le)) | false ↦ λ e. e ] refl
+
+base_in : (p : Puzzle) (b : Bool) (q : ℕ) → is_in q (base p b) ≡ true → (0 < q) × (q ≤ item_count p) × (side p q ≡ b)
+base_in p true q e = let r = range_in 1 (primary_count p) q e in (omega (arith, r.0), omega (arith, r.1), side_true p q (omega (arith, r.1)))
+base_in p false q e = let r = range_in (primary_count p + 1) p.secondary q e in (omega (arith, r.0), omega (arith, r.1), side_false p q (omega (arith, r.0)))
+
+in_base : (p : Puzzle) (q : ℕ) → 0 < q → q ≤ item_count p → is_in q (base p (side p q)) ≡ true
+in_base p q pos le =
+    elim (side p q) as (λ b. side p q ≡ b → is_in q (base p b) ≡ true) [
+      | true ↦ λ e. let h = leb-true q (primary_count p) e in in_range 1 (primary_count p) q (omega (arith, pos)) (omega (arith, h))
+      | false ↦ λ e. in_range (primary_count p + 1) p.secondary q (behind q e) (omega (arith, le))
+    ] refl
+  where
+    behind : (q : ℕ) → side p q ≡ false → primary_count p + 1 ≤ q
+    behind q e = elim (ltb (primary_count p) q) as (λ b. ltb (primary_count p) q ≡ b → primary_count p + 1 ≤ q) [
+      | true ↦ λ f. let h = ltb-true (primary_count p) q f in omega (arith, h)
+      | false ↦ λ f. let h = ltb-false (primary_count p) q f in absurd (false≢true (sym e ∙ le-leb q (primary_count p) (omega (arith, h))))
+    ] refl
+
+not_true : (b : Bool) → not b ≡ true → b ≡ false
+not_true true e = sym e
+not_true false e = refl
+
+-- a member of a ring
+ring_in : (p : Puzzle) (t : List Move) (b : Bool) (q : ℕ) → is_in q (ring p t b) ≡ true → (is_covered q t ≡ false) × ((0 < q) × (q ≤ item_count p) × (side p q ≡ b))
+ring_in p t b q e = let r = filter_in (λ j. not (is_covered j t)) q (base p b) e in (not_true (is_covered q t) r.0, base_in p b q r.1)
+
+in_ring : (p : Puzzle) (t : List Move) (q : ℕ) → 0 < q → q ≤ item_count p → is_covered q t ≡ false → is_in q (ring p t (side p q)) ≡ true
+in_ring p t q pos le un = in_filter (λ j. not (is_covered j t)) q (base p (side p q)) (ap not un) (in_base p q pos le)
+
+head_item : (p : Puzzle) (b : Bool) (q : ℕ) → 0 < q → q ≤ item_count p → hd p b ≢ q
+head_item p true q pos le = λ e. omega (arith, e, pos)
+head_item p false q pos le = λ e. omega (arith, e, le)
+
+heads_apart : (p : Puzzle) (b c : Bool) → hd p b ≡ hd p c → b ≡ c
+heads_apart p true true e = refl
+heads_apart p false false e = refl
+heads_apart p true false e = absurd (omega (arith, e))
+heads_apart p false true e = absurd (omega (arith, e))
+
+head_out : (p : Puzzle) (t : List Move) (b c : Bool) → is_in (hd p b) (ring p t c) ≡ false
+head_out p t b c = elim (is_in (hd p b) (ring p t c)) as (λ v. is_in (hd p b) (ring p t c) ≡ v → is_in (hd p b) (ring p t c) ≡ false) [
+  | true ↦ λ e. let r = ring_in p t c (hd p b) e in absurd (head_item p b (hd p b) r.1.0 r.1.1 refl)
+  | false ↦ λ e. e
+] refl
+
+-- a place beside item i in its ring: the head, or a member that isn't covered
+abbrev pub IsBeside : Puzzle → List Move → Bool → ℕ → Type 0
+IsBeside p t b k = (k ≡ hd p b) ⊎ (is_in k (ring p t b) ≡ true)
+
+pub beside_covered : (p : Puzzle) (t : List Move) (b : Bool) (k q : ℕ) → IsBeside p t b k → 0 < q → q ≤ item_count p → is_covered q t ≡ true → q ≢ k
+beside_covered p t b k q (inl h) pos le c e = head_item p b q pos le (sym h ∙ sym e)
+beside_covered p t b k q (inr h) pos le c e = false≢true (sym (ring_in p t b k h).0 ∙ ap (λ j. is_covered j t) (sym e) ∙ c)
+
+beside_other : (p : Puzzle) (t : List Move) (b c : Bool) (k q : ℕ) → IsBeside p t b k → 0 < q → q ≤ item_count p → side p q ≡ c → (c ≡ b → ⊥) → q ≢ k
+beside_other p t b c k q (inl h) pos le s ne e = head_item p b q pos le (sym h ∙ sym e)
+beside_other p t b c k q (inr h) pos le s ne e = ne (sym s ∙ ap (side p) e ∙ (ring_in p t b k h).1.2)
+
+beside_head : (p : Puzzle) (t : List Move) (b c : Bool) (k : ℕ) → IsBeside p t b k → (c ≡ b → ⊥) → hd p c ≢ k
+beside_head p t b c k (inl h) ne e = ne (heads_apart p c b (e ∙ h))
+beside_head p t b c k (inr h) ne e = let r = ring_in p t b k h in head_item p c k r.1.0 r.1.1 e
+
+pub beside_place : (p : Puzzle) (t : List Move) (b : Bool) (k : ℕ) → IsBeside p t b k → k < item_count p + 2
+beside_place p t true k (inl h) = omega (arith, h)
+beside_place p t false k (inl h) = omega (arith, h)
+beside_place p t b k (inr h) = let r = ring_in p t b k h in omega (arith, r.1.1)
+
+-- the other ring stays
+other_ring : (p : Puzzle) (t : List Move) (i : ℕ) (b : Bool) → (b ≡ side p i → ⊥) → ring p (Cover i ∷ t) b ≡ ring p t b
+other_ring p t i b ne = ring_next p t i b ∙ stay_same i (ring p t b) (λ e. ne (sym (ring_in p t b i e).1.2))
+
+pub open_uncovered : (i : ℕ) (t : List Move) → is_open i t ≡ true → is_covered i t ≡ false
+open_uncovered i [] e = refl
+open_uncovered i (Cover j ∷ t) e = elim (eqb i j) as (λ b. (not b && is_open i t) ≡ true → (b || is_covered i t) ≡ false) [ true ↦ λ f. absurd (false≢true f) | false ↦ λ f. open_uncovered i t f ] e
+open_uncovered i (Purify j c ∷ t) e = elim (eqb i j) as (λ b. (not b && is_open i t) ≡ true → is_covered i t ≡ false) [ true ↦ λ f. absurd (false≢true f) | false ↦ λ f. open_uncovered i t f ] e
+open_uncovered i (Tweak j ∷ t) e = open_uncovered i t e
+open_uncovered i (Spend j ∷ t) e = open_uncovered i t e
+
+-- ---- cells of the table
+
+side_zero : (p : Puzzle) → side p 0 ≡ true
+side_zero p = side_true p 0 (omega arith)
+
+by_side : (P : Type 0) (b c : Bool) → (b ≡ c → P) → ((b ≡ c → ⊥) → P) → P
+by_side P true true same other = same refl
+by_side P false false same other = same refl
+by_side P true false same other = other (λ e. false≢true (sym e))
+by_side P false true same other = other (λ e. false≢true e)
+
+rlink_head : (p : Puzzle) (t : List Move) (b : Bool) → rlink_at p t (hd p b) ≡ first_of (hd p b) (ring p t b)
+rlink_head p t true = ap (λ c. first_of 0 (ring p t c)) (side_zero p)
+rlink_head p t false =
+    let last : side p (primary_count p + 1) ≡ false = side_false p (primary_count p + 1) (omega arith) in
+    let past : leb (item_count p + 1) (item_count p) ≡ false = elim (leb (item_count p + 1) (item_count p)) as (λ b. leb (item_count p + 1) (item_count p) ≡ b → leb (item_count p + 1) (item_count p) ≡ false) [
+      | true ↦ λ e. let h = leb-true (item_count p + 1) (item_count p) e in absurd (omega (arith, h))
+      | false ↦ λ e. e
+    ] refl in
+    let some : eqb (item_count p + 1) 0 ≡ false = ne_eqb (item_count p + 1) 0 (λ e. omega (arith, e)) in
+    ap₂ (λ u v. cond u (first_of 0 (ring_of p t 0)) (cond v (right_of p t (item_count p + 1)) (first_of (item_count p + 1) (ring_of p t (primary_count p + 1))))) some past
+    ∙ ap (λ c. first_of (item_count p + 1) (ring p t c)) last
+
+rlink_item : (p : Puzzle) (t : List Move) (q : ℕ) → 0 < q → q ≤ item_count p → rlink_at p t q ≡ right_of p t q
+rlink_item p t q pos le =
+    ap₂ (λ u v. cond u (first_of 0 (ring_of p t 0)) (cond v (right_of p t q) (first_of (item_count p + 1) (ring_of p t (primary_count p + 1))))) (ne_eqb q 0 (λ e. omega (arith, e, pos))) (le-leb q (item_count p) le)
+
+pub right_beside : (p : Puzzle) (t : List Move) (i : ℕ) → 0 < i → i ≤ item_count p → is_covered i t ≡ false → IsBeside p t (side p i) (right_of p t i) × (right_of p t i ≢ i)
+right_beside p t i pos le un =
+    let b = side p i in
+    let is = right_now p t i un in
+    elim (first_above-in (hd p b) i 0 (ring p t b) (ring_rises p t b) (in_ring p t i pos le un)) [
+      | inl h ↦ (inl (is ∙ h), λ e. head_item p b i pos le (sym h ∙ sym is ∙ e))
+      | inr h ↦ (inr (ap (λ k. is_in k (ring p t b)) is ∙ h.0), λ e. let gt = h.1 in omega (arith, e, is, gt))
+    ]
+
+llink_head : (p : Puzzle) (t : List Move) (b : Bool) → llink_at p t (hd p b) ≡ last_of (hd p b) (ring p t b)
+llink_head p t true = ap (λ c. last_of 0 (ring p t c)) (side_zero p)
+llink_head p t false =
+    let last : side p (primary_count p + 1) ≡ false = side_false p (primary_count p + 1) (omega arith) in
+    let past : leb (item_count p + 1) (item_count p) ≡ false = elim (leb (item_count p + 1) (item_count p)) as (λ b. leb (item_count p + 1) (item_count p) ≡ b → leb (item_count p + 1) (item_count p) ≡ false) [
+      | true ↦ λ e. let h = leb-true (item_count p + 1) (item_count p) e in absurd (omega (arith, h))
+      | false ↦ λ e. e
+    ] refl in
+    let some : eqb (item_count p + 1) 0 ≡ false = ne_eqb (item_count p + 1) 0 (λ e. omega (arith, e)) in
+    ap₂ (λ u v. cond u (last_of 0 (ring_of p t 0)) (cond v (left_of p t (item_count p + 1)) (last_of (item_count p + 1) (ring_of p t (primary_count p + 1))))) some past
+    ∙ ap (λ c. last_of (item_count p + 1) (ring p t c)) last
+
+pub llink_item : (p : Puzzle) (t : List Move) (q : ℕ) → 0 < q → q ≤ item_count p → llink_at p t q ≡ left_of p t q
+llink_item p t q pos le =
+    ap₂ (λ u v. cond u (last_of 0 (ring_of p t 0)) (cond v (left_of p t q) (last_of (item_count p + 1) (ring_of p t (primary_count p + 1))))) (ne_eqb q 0 (λ e. omega (arith, e, pos))) (le-leb q (item_count p) le)
+
+pub left_beside : (p : Puzzle) (t : List Move) (i : ℕ) → 0 < i → i ≤ item_count p → is_covered i t ≡ false → IsBeside p t (side p i) (left_of p t i) × (left_of p t i ≢ i)
+left_beside p t i pos le un =
+    let b = side p i in
+    let is = left_now p t i un in
+    elim (last_below-in (hd p b) i 0 (ring p t b) (ring_rises p t b) (in_ring p t i pos le un)) [
+      | inl h ↦ (inl (is ∙ h), λ e. head_item p b i pos le (sym h ∙ sym is ∙ e))
+      | inr h ↦ (inr (ap (λ k. is_in k (ring p t b)) is ∙ h.0), λ e. let gt = h.1 in omega (arith, e, is, gt))
+    ]
+
+place_case : (p : Puzzle) (q : ℕ) → q < item_count p + 2 → ((b : Bool) × (q ≡ hd p b)) ⊎ ((0 < q) × (q ≤ item_count p))
+place_case p q lt =
+    by_first (((b : Bool) × (q ≡ hd p b)) ⊎ ((0 < q) × (q ≤ item_count p))) q 0
+    (λ z. inl (true, z))
+    (λ nz. by_first (((b : Bool) × (q ≡ hd p b)) ⊎ ((0 < q) × (q ≤ item_count p))) q (item_count p + 1)
+    (λ e. inl (false, e))
+    (λ ne. inr (omega (arith, nz), omega (arith, lt, ne))))
+
+pub rlink_next : (p : Puzzle) (t : List Move) (i : ℕ) → 0 < i → i ≤ item_count p → is_covered i t ≡ false → (q : ℕ) → q < item_count p + 2 →
+    rlink_at p (Cover i ∷ t) q ≡ cond (eqb q (left_of p t i)) (right_of p t i) (rlink_at p t q)
+rlink_next p t i pos le un q lt =
+    let b = side p i in
+    let l = left_of p t i in
+    let r = right_of p t i in
+    let beside = left_beside p t i pos le un in
+    let i_in = in_ring p t i pos le un in
+    let is_l : l ≡ last_below (hd p b) i (ring p t b) = left_now p t i un in
+    let is_r : r ≡ first_above (hd p b) i (ring p t b) = right_now p t i un in
+    let next = Cover i ∷ t in
+    let at_head : (c : Bool) → rlink_at p next (hd p c) ≡ cond (eqb (hd p c) l) r (rlink_at p t (hd p c)) = λ c.
+    rlink_head p next c
+    ∙ by_side (first_of (hd p c) (ring p next c) ≡ cond (eqb (hd p c) l) r (first_of (hd p c) (ring p t c))) c b
+    (λ same. subst (λ d. first_of (hd p d) (ring p next d) ≡ cond (eqb (hd p d) l) r (first_of (hd p d) (ring p t d))) (sym same)
+    (ap (first_of (hd p b)) (ring_next p t i b) ∙ first_without (hd p b) (hd p b) i 0 (ring p t b) (ring_rises p t b) i_in (head_out p t b b)
+    ∙ ap₂ (λ k v. cond (eqb (hd p b) k) v (first_of (hd p b) (ring p t b))) (sym is_l) (sym is_r)))
+    (λ ne. ap (first_of (hd p c)) (other_ring p t i c ne) ∙ sym (ap (λ v. cond v r (first_of (hd p c) (ring p t c))) (ne_eqb (hd p c) l (beside_head p t b c l beside.0 ne))))
+    ∙ ap (cond (eqb (hd p c) l) r) (sym (rlink_head p t c)) in
+    let at_item : 0 < q → q ≤ item_count p → rlink_at p next q ≡ cond (eqb q l) r (rlink_at p t q) = λ q_pos q_le.
+    rlink_item p next q q_pos q_le
+    ∙ by_first (right_of p next q ≡ cond (eqb q l) r (right_of p t q)) q i
+    (λ same.
+    let gone : is_covered q next ≡ true = ap (λ v. v || is_covered q t) (eq-eqb q i same) in
+    ap (λ v. cond v (right_of p t q) (first_above (ring_head p q) q (ring_of p next q))) gone
+    ∙ sym (ap (λ v. cond v r (right_of p t q)) (ne_eqb q l (λ e. beside.1 (sym e ∙ same)))))
+    (λ other.
+    let as_before : is_covered q next ≡ is_covered q t = ap (λ v. v || is_covered q t) (ne_eqb q i other) in
+    elim (is_covered q t) as (λ v. is_covered q t ≡ v → right_of p next q ≡ cond (eqb q l) r (right_of p t q)) [
+      | true ↦ λ c.
+          ap (λ v. cond v (right_of p t q) (first_above (ring_head p q) q (ring_of p next q))) (as_before ∙ c)
+          ∙ sym (ap (λ v. cond v r (right_of p t q)) (ne_eqb q l (beside_covered p t b l q beside.0 q_pos q_le c)))
+      | false ↦ λ c.
+          let s = side p q in
+          right_now p next q (as_before ∙ c)
+          ∙ by_side (first_above (hd p s) q (ring p next s) ≡ cond (eqb q l) r (first_above (hd p s) q (ring p t s))) s b
+          (λ same.
+          let q_in : is_in q (ring p t b) ≡ true = ap (λ d. is_in q (ring p t d)) (sym same) ∙ in_ring p t q q_pos q_le c in
+          subst (λ d. first_above (hd p d) q (ring p next d) ≡ cond (eqb q l) r (first_above (hd p d) q (ring p t d))) (sym same)
+          (ap (first_above (hd p b) q) (ring_next p t i b) ∙ next_without (hd p b) (hd p b) i q 0 (ring p t b) (ring_rises p t b) i_in q_in other (head_item p b q q_pos q_le)
+          ∙ ap₂ (λ k v. cond (eqb q k) v (first_above (hd p b) q (ring p t b))) (sym is_l) (sym is_r)))
+          (λ ne. ap (first_above (hd p s) q) (other_ring p t i s ne) ∙ sym (ap (λ v. cond v r (first_above (hd p s) q (ring p t s))) (ne_eqb q l (beside_other p t b s l q beside.0 q_pos q_le refl ne))))
+          ∙ ap (cond (eqb q l) r) (sym (right_now p t q c))
+    ] refl)
+    ∙ ap (cond (eqb q l) r) (sym (rlink_item p t q q_pos q_le)) in
+    elim (place_case p q lt) [
+      | inl c ↦ subst (λ k. rlink_at p next k ≡ cond (eqb k l) r (rlink_at p t k)) (sym c.1) (at_head c.0)
+      | inr h ↦ at_item h.0 h.1
+    ]
+
+llink_next : (p : Puzzle) (t : List Move) (i : ℕ) → 0 < i → i ≤ item_count p → is_covered i t ≡ false → (q : ℕ) → q < item_count p + 2 →
+    llink_at p (Cover i ∷ t) q ≡ cond (eqb q (right_of p t i)) (left_of p t i) (llink_at p t q)
+llink_next p t i pos le un q lt =
+    let b = side p i in
+    let l = right_of p t i in
+    let r = left_of p t i in
+    let beside = right_beside p t i pos le un in
+    let i_in = in_ring p t i pos le un in
+    let is_l : l ≡ first_above (hd p b) i (ring p t b) = right_now p t i un in
+    let is_r : r ≡ last_below (hd p b) i (ring p t b) = left_now p t i un in
+    let next = Cover i ∷ t in
+    let at_head : (c : Bool) → llink_at p next (hd p c) ≡ cond (eqb (hd p c) l) r (llink_at p t (hd p c)) = λ c.
+    llink_head p next c
+    ∙ by_side (last_of (hd p c) (ring p next c) ≡ cond (eqb (hd p c) l) r (last_of (hd p c) (ring p t c))) c b
+    (λ same. subst (λ d. last_of (hd p d) (ring p next d) ≡ cond (eqb (hd p d) l) r (last_of (hd p d) (ring p t d))) (sym same)
+    (ap (last_of (hd p b)) (ring_next p t i b) ∙ last_without (hd p b) (hd p b) i 0 (ring p t b) (ring_rises p t b) i_in (head_out p t b b)
+    ∙ ap₂ (λ k v. cond (eqb (hd p b) k) v (last_of (hd p b) (ring p t b))) (sym is_l) (sym is_r)))
+    (λ ne. ap (last_of (hd p c)) (other_ring p t i c ne) ∙ sym (ap (λ v. cond v r (last_of (hd p c) (ring p t c))) (ne_eqb (hd p c) l (beside_head p t b c l beside.0 ne))))
+    ∙ ap (cond (eqb (hd p c) l) r) (sym (llink_head p t c)) in
+    let at_item : 0 < q → q ≤ item_count p → llink_at p next q ≡ cond (eqb q l) r (llink_at p t q) = λ q_pos q_le.
+    llink_item p next q q_pos q_le
+    ∙ by_first (left_of p next q ≡ cond (eqb q l) r (left_of p t q)) q i
+    (λ same.
+    let gone : is_covered q next ≡ true = ap (λ v. v || is_covered q t) (eq-eqb q i same) in
+    ap (λ v. cond v (left_of p t q) (last_below (ring_head p q) q (ring_of p next q))) gone
+    ∙ sym (ap (λ v. cond v r (left_of p t q)) (ne_eqb q l (λ e. beside.1 (sym e ∙ same)))))
+    (λ other.
+    let as_before : is_covered q next ≡ is_covered q t = ap (λ v. v || is_covered q t) (ne_eqb q i other) in
+    elim (is_covered q t) as (λ v. is_covered q t ≡ v → left_of p next q ≡ cond (eqb q l) r (left_of p t q)) [
+      | true ↦ λ c.
+          ap (λ v. cond v (left_of p t q) (last_below (ring_head p q) q (ring_of p next q))) (as_before ∙ c)
+          ∙ sym (ap (λ v. cond v r (left_of p t q)) (ne_eqb q l (beside_covered p t b l q beside.0 q_pos q_le c)))
+      | false ↦ λ c.
+          let s = side p q in
+          left_now p next q (as_before ∙ c)
+          ∙ by_side (last_below (hd p s) q (ring p next s) ≡ cond (eqb q l) r (last_below (hd p s) q (ring p t s))) s b
+          (λ same.
+          let q_in : is_in q (ring p t b) ≡ true = ap (λ d. is_in q (ring p t d)) (sym same) ∙ in_ring p t q q_pos q_le c in
+          subst (λ d. last_below (hd p d) q (ring p next d) ≡ cond (eqb q l) r (last_below (hd p d) q (ring p t d))) (sym same)
+          (ap (last_below (hd p b) q) (ring_next p t i b) ∙ prev_without (hd p b) (hd p b) i q 0 (ring p t b) (ring_rises p t b) i_in q_in other (head_item p b q q_pos q_le)
+          ∙ ap₂ (λ k v. cond (eqb q k) v (last_below (hd p b) q (ring p t b))) (sym is_l) (sym is_r)))
+          (λ ne. ap (last_below (hd p s) q) (other_ring p t i s ne) ∙ sym (ap (λ v. cond v r (last_below (hd p s) q (ring p t s))) (ne_eqb q l (beside_other p t b s l q beside.0 q_pos q_le refl ne))))
+          ∙ ap (cond (eqb q l) r) (sym (left_now p t q c))
+    ] refl)
+    ∙ ap (cond (eqb q l) r) (sym (llink_item p t q q_pos q_le)) in
+    elim (place_case p q lt) [
+      | inl c ↦ subst (λ k. llink_at p next k ≡ cond (eqb k l) r (llink_at p t k)) (sym c.1) (at_head c.0)
+      | inr h ↦ at_item h.0 h.1
+    ]
+
+-- from the neighbour back to i
+pub rlink_back : (p : Puzzle) (t : List Move) (i : ℕ) → 0 < i → i ≤ item_count p → is_covered i t ≡ false → rlink_at p t (left_of p t i) ≡ i
+rlink_back p t i pos le un =
+    let b = side p i in
+    let is_l : left_of p t i ≡ last_below (hd p b) i (ring p t b) = left_now p t i un in
+    let all = link_behind (hd p b) (hd p b) i 0 (ring p t b) (ring_rises p t b) (in_ring p t i pos le un) (head_out p t b b) in
+    let k = last_below (hd p b) i (ring p t b) in
+    ap (rlink_at p t) is_l
+    ∙ by_first (rlink_at p t k ≡ i) k (hd p b)
+    (λ same. ap (rlink_at p t) same ∙ rlink_head p t b ∙ sym (ap (λ v. cond v (first_of (hd p b) (ring p t b)) (first_above (hd p b) k (ring p t b))) (eq-eqb k (hd p b) same)) ∙ all)
+    (λ ne. elim (last_below-in (hd p b) i 0 (ring p t b) (ring_rises p t b) (in_ring p t i pos le un)) [
+      | inl h ↦ absurd (ne h)
+      | inr h ↦
+          let m = ring_in p t b k h.0 in
+          rlink_item p t k m.1.0 m.1.1 ∙ right_now p t k m.0 ∙ ap (λ d. first_above (hd p d) k (ring p t d)) m.1.2
+          ∙ sym (ap (λ v. cond v (first_of (hd p b) (ring p t b)) (first_above (hd p b) k (ring p t b))) (ne_eqb k (hd p b) ne)) ∙ all
+    ])
+
+-- from the neighbour back to i
+llink_back : (p : Puzzle) (t : List Move) (i : ℕ) → 0 < i → i ≤ item_count p → is_covered i t ≡ false → llink_at p t (right_of p t i) ≡ i
+llink_back p t i pos le un =
+    let b = side p i in
+    let is_l : right_of p t i ≡ first_above (hd p b) i (ring p t b) = right_now p t i un in
+    let all = link_before (hd p b) (hd p b) i 0 (ring p t b) (ring_rises p t b) (in_ring p t i pos le un) (head_out p t b b) in
+    let k = first_above (hd p b) i (ring p t b) in
+    ap (llink_at p t) is_l
+    ∙ by_first (llink_at p t k ≡ i) k (hd p b)
+    (λ same. ap (llink_at p t) same ∙ llink_head p t b ∙ sym (ap (λ v. cond v (last_of (hd p b) (ring p t b)) (last_below (hd p b) k (ring p t b))) (eq-eqb k (hd p b) same)) ∙ all)
+    (λ ne. elim (first_above-in (hd p b) i 0 (ring p t b) (ring_rises p t b) (in_ring p t i pos le un)) [
+      | inl h ↦ absurd (ne h)
+      | inr h ↦
+          let m = ring_in p t b k h.0 in
+          llink_item p t k m.1.0 m.1.1 ∙ left_now p t k m.0 ∙ ap (λ d. last_below (hd p d) k (ring p t d)) m.1.2
+          ∙ sym (ap (λ v. cond v (last_of (hd p b) (ring p t b)) (last_below (hd p b) k (ring p t b))) (ne_eqb k (hd p b) ne)) ∙ all
+    ])
+
+-- ---- both ways
+
+pub ring_step : (p : Puzzle) (t : List Move) (i : ℕ) → IsLegal p t (Cover i) → RingStep p t i
+ring_step p t i may =
+    let pos : 0 < i = let h = may.0.0 in omega (arith, h) in
+    let le : i ≤ item_count p = may.0.1 in
+    let un : is_covered i t ≡ false = open_uncovered i t may.1 in
+    let n = item_count p + 2 in
+    let next = Cover i ∷ t in
+    let l = left_of p t i in
+    let r = right_of p t i in
+    let within : i < n = omega (arith, le) in
+    let l_in : l < n = beside_place p t (side p i) l (left_beside p t i pos le un).0 in
+    let r_in : r < n = beside_place p t (side p i) r (right_beside p t i pos le un).0 in
+    let gone : is_covered i next ≡ true = ap (λ v. v || is_covered i t) (eq-eqb i i refl) in
+    let l_next : left_of p next i ≡ l = ap (λ v. cond v (left_of p t i) (last_below (ring_head p i) i (ring_of p next i))) gone in
+    let r_next : right_of p next i ≡ r = ap (λ v. cond v (right_of p t i) (first_above (ring_head p i) i (ring_of p next i))) gone in
+    let get_l : get_or (items_after p t).llink i 0 ≡ l = row_get (llink_at p t) n i within ∙ llink_item p t i pos le in
+    let get_r : get_or (items_after p t).rlink i 0 ≡ r = row_get (rlink_at p t) n i within ∙ rlink_item p t i pos le in
+    let get_l' : get_or (items_after p next).llink i 0 ≡ l = row_get (llink_at p next) n i within ∙ llink_item p next i pos le ∙ l_next in
+    let get_r' : get_or (items_after p next).rlink i 0 ≡ r = row_get (rlink_at p next) n i within ∙ rlink_item p next i pos le ∙ r_next in
+    let rlinks : (items_after p next).rlink ≡ set (items_after p t).rlink l r =
+    row_put (rlink_at p t) (rlink_at p next) n l r
+    (λ q lt ne. rlink_next p t i pos le un q lt ∙ ap (λ v. cond v r (rlink_at p t q)) (ne_eqb q l ne))
+    (rlink_next p t i pos le un l l_in ∙ ap (λ v. cond v r (rlink_at p t l)) (eq-eqb l l refl)) in
+    let llinks : (items_after p next).llink ≡ set (items_after p t).llink r l =
+    row_put (llink_at p t) (llink_at p next) n r l
+    (λ q lt ne. llink_next p t i pos le un q lt ∙ ap (λ v. cond v l (llink_at p t q)) (ne_eqb q r ne))
+    (llink_next p t i pos le un r r_in ∙ ap (λ v. cond v l (llink_at p t r)) (eq-eqb r r refl)) in
+    let long_l = row_len (llink_at p t) n in
+    let long_r = row_len (rlink_at p t) n in
+    let long_l' = row_len (llink_at p next) n in
+    let long_r' = row_len (rlink_at p next) n in
+    let back_r : set (items_after p next).rlink l i ≡ (items_after p t).rlink =
+    ap (λ xs. set xs l i) rlinks ∙ written_back (items_after p t).rlink l l r i refl (row_get (rlink_at p t) n l l_in ∙ rlink_back p t i pos le un) in
+    let back_l : set (items_after p next).llink r i ≡ (items_after p t).llink =
+    ap (λ xs. set xs r i) llinks ∙ written_back (items_after p t).llink r r l i refl (row_get (llink_at p t) n r r_in ∙ llink_back p t i pos le un) in
+    record {
+      can = record { place = (omega (arith, long_l, within), omega (arith, long_r, within)); left = omega (arith, get_l, l_in, long_r); right = omega (arith, get_r, r_in, long_l) };
+      done = same_items (left_ring (items_after p t) i) (items_after p next)
+          (ap₂ (set (items_after p t).llink) get_r get_l ∙ sym llinks) (ap₂ (set (items_after p t).rlink) get_l get_r ∙ sym rlinks) refl refl;
+      can_back = record { place = (omega (arith, long_l', within), omega (arith, long_r', within)); left = omega (arith, get_l', l_in, long_r'); right = omega (arith, get_r', r_in, long_l') };
+      undone = same_items (back_in_ring (items_after p next) i) (items_after p t)
+          (ap (λ k. set (items_after p next).llink k i) get_r' ∙ back_l) (ap (λ k. set (items_after p next).rlink k i) get_l' ∙ back_r) refl refl;
+    }

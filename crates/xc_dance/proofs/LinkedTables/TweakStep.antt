@@ -1,0 +1,284 @@
+-- Tweak: from the node table after moves to that after one move more, and back.
+use Rattle.std.proofs.Common.{◌≡◌, ◌≢◌, ℕ, ◌+◌, ◌*◌, ◌<◌, ◌≤◌, ◌^◌, Bool, true, false, not, cond, ◌||◌, eqb, List, [], ◌∷◌, length, map, fold, filter, get_or, reverse, refl, ap, sym, subst, ◌∙◌, arith, eqb-true, eq-eqb, ne_eqb}
+use Rattle.std.specs.List.{AllByRecursion}
+use Rattle.std.proofs.lemmas.Bool.{eqb-false, false≢true}
+use Rattle.std.proofs.lemmas.List.{length-map}
+use Rattle.xc_dance.specs.declared.dance.Move.{Move}
+use Rattle.xc_dance.specs.declared.dance.Move.TheVariants.{Tweak}
+use Rattle.xc_dance.specs.declared.links.nodes.Nodes.{Nodes}
+use Rattle.xc_dance.specs.declared.links.nodes.Span.{Span}
+use Rattle.xc_input.specs.Problem.{Puzzle, item_count}
+use Rattle.xc_dance.specs.Moves.{listed, is_open, AreLegal, listed_numbers}
+use Rattle.xc_dance.specs.Fields.{Node, unused, own, spacer, used, layout, link_place, first_of, is_in}
+use Rattle.xc_dance.specs.Links.Lines.{Line, cut}
+use Rattle.xc_dance.specs.Links.Steps.{HasSize, NamesPlaces, unlinked, relinked, hidden, shown, others_of, CanHideAll, CanShowAll, hide_costs, show_costs}
+use Rattle.xc_dance.specs.Links.Tweaking.{hidden_unless, shown_unless, tweaked, untweaked, CanTweak, CanTweakAt, CanUntweak, tweak_cost, untweak_cost}
+use Rattle.xc_dance.specs.Links.Cells.{color_in, dlink_in, nodes_from, nodes_after, line_of, with_line}
+use Rattle.xc_dance.specs.Links.Others.{other_items}
+use Rattle.xc_dance.specs.Links.Made.{IsFitted}
+use Rattle.xc_dance.proofs.LinkedTables.Mapped.{get_within}
+use Rattle.xc_dance.proofs.LinkedTables.Undo.{relinked-unlinked, fold-shown-reverse}
+use Rattle.xc_dance.proofs.LinkedTables.ReadyLemmas.{CanRelink-unlinked}
+use Rattle.xc_dance.proofs.LinkedTables.OneNode.{IsMember, get_down, unlinked-is, linked-is, names-is, size-is, get_item, get_len}
+use Rattle.xc_dance.proofs.LinkedTables.Sweep.{Rises, stay, cuts, is_in-first}
+use Rattle.xc_dance.proofs.LinkedTables.Goods.{Named, IsGood, AllGood, member}
+use Rattle.xc_dance.proofs.LinkedTables.OneOption.{left_all, walked}
+use Rattle.xc_dance.proofs.LinkedTables.OneList.{all_other}
+use Rattle.xc_dance.proofs.LinkedTables.OtherItems.{leaves, list_at}
+use Rattle.xc_dance.proofs.LinkedTables.OthersApart.{each_apart, own_apart}
+use Rattle.xc_dance.proofs.LinkedTables.LineSteps.{numbers_rise, drop_first, stay_all, leave_none}
+use Rattle.xc_dance.proofs.LinkedTables.GoodLines.{all_good, numbers_named}
+use Rattle.xc_dance.proofs.LinkedTables.SameLines.{SameCut, SameLine, line_after, tables_same}
+use Rattle.xc_dance.proofs.LinkedTables.MetOptions.{ready_at}
+use Rattle.xc_dance.proofs.LinkedTables.Leaving.{AreOf, cut_others, leaves_own}
+use Rattle.xc_dance.specs.Cost.{cost_of, leaving}
+use Rattle.xc_dance.proofs.LinkedTables.Totals.{total, total_same, total_plus, total_zero, total_point}
+use Rattle.xc_dance.proofs.LinkedTables.UnmarkedCosts.{hide_costs-are, show_costs-are, unmarked-reverse, unmarked_items}
+use Rattle.xc_dance.proofs.LinkedTables.LeavingCosts.{exchanged, leaving_is}
+use Rattle.xc_dance.proofs.LinkedTables.TakenOut.{first_alone, takes_tweak, tweak_others, tweak_own}
+use Rattle.xc_dance.proofs.LinkedTables.ListLinks.{own_placed}
+
+-- the first of item i's list
+pub record HasFirst (p : Puzzle) (t : List Move) (i : ℕ) : Type 0 where
+  pub o : ℕ
+  pub os : List ℕ
+  pub is : listed_numbers p t i ≡ o ∷ os
+
+first_there : (xs : List ℕ) → 0 < length xs → (o : ℕ) × ((os : List ℕ) × (xs ≡ o ∷ os))
+first_there [] h = absurd (omega (arith, h))
+first_there (x ∷ xs) h = (x, (xs, refl))
+
+pub has_first : (p : Puzzle) (t : List Move) (i : ℕ) → 0 < length (listed p t i) → HasFirst p t i
+has_first p t i h =
+    let long : length (listed_numbers p t i) ≡ length (listed p t i) = length-map (listed p t i) (λ o. o.number) in
+    let f = first_there (listed_numbers p t i) (omega (arith, h, long)) in
+    record { o = f.0; os = f.1.0; is = f.1.1 }
+
+-- ---- what leaves each line
+
+pub tweak_colours : (p : Puzzle) (t : List Move) (i : ℕ) (n : Node) → color_in p (Tweak i ∷ t) n ≡ color_in p t n
+tweak_colours p t i unused = refl
+tweak_colours p t i (own j) = refl
+tweak_colours p t i (spacer m) = refl
+tweak_colours p t i (used o u) = refl
+
+one_only : (o n : ℕ) (os : List ℕ) → o ≤ n → Rises n os → filter (λ x. eqb x o) os ≡ []
+one_only o n [] le r = refl
+one_only o n (x ∷ xs) le r = let ne : eqb x o ≡ false = ne_eqb x o (λ e. omega (arith, e, r.0, le)) in rw ne (one_only o x xs (omega (arith, r.0, le)) r.1)
+
+-- its own line loses the first
+pub tweak_cut : (p : Puzzle) (t : List Move) (i : ℕ) (f : HasFirst p t i) → SameCut p t (Tweak i) i (f.o ∷ [])
+tweak_cut p t i f =
+    let r : Rises 0 (f.o ∷ f.os) = subst (Rises 0) f.is (numbers_rise p t i) in
+    record {
+      test = λ x. eqb x f.o;
+      cut_is =
+          ap (λ ks. f.o ∷ ks) (sym (one_only f.o f.o f.os (omega arith) r.1))
+          ∙ ap (λ b. cond b (f.o ∷ filter (λ x. eqb x f.o) f.os) (filter (λ x. eqb x f.o) f.os)) (sym (eq-eqb f.o f.o refl))
+          ∙ ap (filter (λ x. eqb x f.o)) (sym f.is);
+      stay_is =
+          tweak_own p t i ∙ drop_first 0 (listed_numbers p t i) (numbers_rise p t i)
+          ∙ ap (λ ks. stay (λ x. eqb x (first_of 0 ks)) (listed_numbers p t i)) f.is;
+    }
+
+-- a closed item's Tweak takes none from other lines
+pub tweak_shut : (p : Puzzle) (t : List Move) (i j : ℕ) → is_open i t ≡ false → j ≢ i → SameCut p t (Tweak i) j []
+tweak_shut p t i j shut ne = record {
+  test = λ x. false;
+  cut_is = sym (leave_none (listed_numbers p t j));
+  stay_is = tweak_others p t i j shut ne ∙ sym (stay_all (listed_numbers p t j));
+}
+
+pub first_of-list : (p : Puzzle) (t : List Move) (i : ℕ) → HasFirst p t i → AreOf p t i (first_alone (listed_numbers p t i))
+first_of-list p t i f =
+    let r : Rises 0 (f.o ∷ f.os) = subst (Rises 0) f.is (numbers_rise p t i) in
+    subst (λ ks. AreOf p t i (first_alone ks)) (sym f.is) (record {
+      rise = (r.0, tt);
+      among = λ x e. subst (λ ks. is_in x ks ≡ true) (sym f.is)
+          (elim (eqb f.o x) as (λ b. eqb f.o x ≡ b → (b || is_in x f.os) ≡ true) [
+            | true ↦ λ g. refl
+            | false ↦ λ g. absurd (false≢true (ap (λ b. b || false) (sym g) ∙ e))
+          ] refl);
+    })
+
+-- ---- the option is hidden, if the item is open
+
+-- the table when the first node is about to leave
+pub record Mid (p : Puzzle) (t : List Move) (spans : List Span) (covered : Bool) (i : ℕ) (o : ℕ) : Type 0 where
+  pub ln : ℕ → Line
+  pub lists : ℕ → List ℕ
+  pub good : AllGood p ln lists
+  pub own : ln i ≡ line_of p t i
+  pub list : lists i ≡ listed_numbers p t i
+  -- the members that leave the lines of the other items
+  pub ks : ℕ → List ℕ
+  pub none : ks i ≡ []
+  pub cut : (j : ℕ) → (0 < j) × (j ≤ item_count p) → j ≢ i → SameCut p t (Tweak i) j (ks j)
+  pub line : (j : ℕ) → ln j ≡ cuts (line_of p t j) (ks j)
+  pub hide : covered ≡ false → (link_place p i o < length spans) × CanHideAll (nodes_after p t) (others_of spans (link_place p i o))
+  pub done : hidden_unless spans covered (nodes_after p t) (link_place p i o) ≡ nodes_from p ln (color_in p t)
+  pub show : covered ≡ false → (link_place p i o < length spans) × CanShowAll (nodes_from p ln (color_in p t)) (reverse (others_of spans (link_place p i o)))
+  pub undone : shown_unless spans covered (nodes_from p ln (color_in p t)) (link_place p i o) ≡ nodes_after p t
+  pub cost : cond covered 0 (hide_costs (nodes_after p t) (others_of spans (link_place p i o))) ≡ 3 * total (λ j. length (ks j)) 1 (item_count p)
+  pub cost_back : cond covered 0 (show_costs (nodes_from p ln (color_in p t)) (reverse (others_of spans (link_place p i o)))) ≡ 3 * total (λ j. length (ks j)) 1 (item_count p)
+
+mid_covered : (p : Puzzle) (t : List Move) (spans : List Span) (i : ℕ) → IsFitted p spans → is_open i t ≡ false → (f : HasFirst p t i) → Mid p t spans true i f.o
+mid_covered p t spans i fit shut f = record {
+  ln = line_of p t;
+  lists = listed_numbers p t;
+  good = all_good p t fit.fit;
+  own = refl;
+  list = refl;
+  ks = λ j. [];
+  none = refl;
+  cut = λ j r ne. tweak_shut p t i j shut ne;
+  line = λ j. refl;
+  hide = λ e. absurd (false≢true (sym e));
+  done = refl;
+  show = λ e. absurd (false≢true (sym e));
+  undone = refl;
+  cost = let z = total_zero 1 (item_count p) in omega (arith, z);
+  cost_back = let z = total_zero 1 (item_count p) in omega (arith, z);
+}
+
+mid_open : (p : Puzzle) (t : List Move) (spans : List Span) (i : ℕ) → AreLegal p t → IsFitted p spans → is_open i t ≡ true → 0 < i → i ≤ item_count p → (f : HasFirst p t i) → Mid p t spans false i f.o
+mid_open p t spans i legal fit opened pos le f =
+    let o = f.o in
+    let laid = fit.laid in
+    let spanned = fit.spanned in
+    let col = color_in p t in
+    let js = other_items p o i in
+    let qs = map (λ j. link_place p j o) js in
+    let x = link_place p i o in
+    let r : Rises 0 (o ∷ f.os) = subst (Rises 0) f.is (numbers_rise p t i) in
+    let within : is_in o (listed_numbers p t i) ≡ true = subst (λ ks. is_in o ks ≡ true) (sym f.is) (is_in-first o f.os) in
+    let named : Named p i o = (subst (λ ks. AllByRecursion (Named p i) ks) f.is (numbers_named p t i)).0 in
+    let w = walked p col (line_of p t) (listed_numbers p t) o js laid r.0 (all_good p t fit.fit) (ready_at p t i o legal laid fit.fit opened within) in
+    let apart = own_apart p i o fit.fit in
+    let t0 : Nodes = nodes_after p t in
+    let t1 : Nodes = nodes_from p (left_all p col o (line_of p t) js) col in
+    let others : others_of spans x ≡ qs = spanned.others o i r.0 named in
+    let of = first_of-list p t i f in
+    let one : first_alone (listed_numbers p t i) ≡ o ∷ [] = ap first_alone f.is in
+    let counted = exchanged p col i (o ∷ []) fit.fit in
+    record {
+      ln = left_all p col o (line_of p t) js;
+      lists = w.gone.lists';
+      good = w.gone.good;
+      own = all_other p col o (line_of p t) js i apart;
+      list = w.gone.other i apart;
+      ks = λ j. filter (leaves p col i j) (o ∷ []);
+      none = leaves_own p t i (o ∷ []) fit.fit (r.0, tt);
+      cut = λ j rj ne.
+          let cut_j : SameCut p t (Tweak i) j (filter (leaves p col i j) (first_alone (listed_numbers p t i))) =
+          cut_others p t (Tweak i) i j (first_alone (listed_numbers p t i)) legal laid fit.fit opened rj of (takes_tweak p t i opened) ne in
+          subst (λ ks. SameCut p t (Tweak i) j (filter (leaves p col i j) ks)) one cut_j;
+      line = λ j. list_at p col i (line_of p t) (o ∷ []) j (each_apart p i (o ∷ []) fit.fit);
+      hide = λ e. (spanned.within o i r.0 named, subst (CanHideAll t0) (sym others) w.rest.can);
+      done = ap (fold hidden t0) others ∙ w.done;
+      show = λ e. (spanned.within o i r.0 named, subst (λ ks. CanShowAll t1 (reverse ks)) (sym others) (subst (λ (v : Nodes). CanShowAll v (reverse qs)) w.done w.rest.back));
+      undone = ap (λ ks. fold shown t1 (reverse ks)) others ∙ ap (λ (v : Nodes). fold shown v (reverse qs)) (sym w.done) ∙ fold-shown-reverse t0 qs w.rest.undone;
+      cost = let a = ap (hide_costs t0) others ∙ hide_costs-are t0 qs ∙ unmarked_items p col o js in omega (arith, a, counted);
+      cost_back = let a = ap (λ ks. show_costs t1 (reverse ks)) others ∙ show_costs-are t1 (reverse qs) ∙ unmarked-reverse (map col (layout p)) qs ∙ unmarked_items p col o js in omega (arith, a, counted);
+    }
+
+-- ---- the whole move
+
+pub record TweakMade (p : Puzzle) (t : List Move) (spans : List Span) (covered : Bool) (i : ℕ) : Type 0 where
+  pub can : CanTweak spans covered (nodes_after p t) i
+  pub done : tweaked spans covered (nodes_after p t) i ≡ nodes_after p (Tweak i ∷ t)
+  pub can_back : CanUntweak spans covered (nodes_after p (Tweak i ∷ t)) (link_place p i (first_of 0 (listed_numbers p t i)))
+  pub undone : untweaked spans covered (nodes_after p (Tweak i ∷ t)) (link_place p i (first_of 0 (listed_numbers p t i))) ≡ nodes_after p t
+  pub cost : tweak_cost spans covered (nodes_after p t) i ≡ cost_of p t (Tweak i)
+  pub cost_back : untweak_cost spans covered (nodes_after p (Tweak i ∷ t)) (link_place p i (first_of 0 (listed_numbers p t i))) ≡ cost_of p t (Tweak i)
+
+pub line_here : (ln : ℕ → Line) (i : ℕ) (l : Line) → with_line ln i l i ≡ l
+line_here ln i l =
+    let make : Bool → Line = λ b. record { len = cond b l.len (ln i).len; up = λ x. cond b (l.up x) ((ln i).up x); down = λ x. cond b (l.down x) ((ln i).down x) } in
+    ap make (eq-eqb i i refl)
+
+pub line_there : (ln : ℕ → Line) (i j : ℕ) (l : Line) → j ≢ i → with_line ln i l j ≡ ln j
+line_there ln i j l ne =
+    let make : Bool → Line = λ b. record { len = cond b l.len (ln j).len; up = λ x. cond b (l.up x) ((ln j).up x); down = λ x. cond b (l.down x) ((ln j).down x) } in
+    ap make (ne_eqb j i ne)
+
+-- one node leaves i's list, and those of the other lines
+leaving_tweak : (p : Puzzle) (t : List Move) (spans : List Span) (covered : Bool) (i : ℕ) → 0 < i → i ≤ item_count p → (f : HasFirst p t i) → (mid : Mid p t spans covered i f.o) → leaving p t (Tweak i) ≡ 1 + total (λ j. length (mid.ks j)) 1 (item_count p)
+leaving_tweak p t spans covered i pos le f mid =
+    let n = item_count p in
+    let k : ℕ → List ℕ = λ j. cond (eqb i j) (f.o ∷ []) (mid.ks j) in
+    let all : leaving p t (Tweak i) ≡ total (λ j. length (k j)) 1 n = leaving_is p t (Tweak i) k (λ j r.
+    elim (eqb i j) as (λ b. eqb i j ≡ b → SameCut p t (Tweak i) j (cond b (f.o ∷ []) (mid.ks j))) [
+      | true ↦ λ e. subst (λ m. SameCut p t (Tweak i) m (f.o ∷ [])) (eqb-true i j e) (tweak_cut p t i f)
+      | false ↦ λ e. mid.cut j r (λ g. eqb-false i j e (sym g))
+    ] refl) in
+    let split : total (λ j. length (k j)) 1 n ≡ total (λ j. cond (eqb i j) 1 0 + length (mid.ks j)) 1 n = total_same _ _ 1 n (λ j u v.
+    elim (eqb i j) as (λ b. eqb i j ≡ b → length (cond b (f.o ∷ []) (mid.ks j)) ≡ cond b 1 0 + length (mid.ks j)) [
+      | true ↦ λ e. let z : length (mid.ks j) ≡ 0 = ap (λ m. length (mid.ks m)) (sym (eqb-true i j e)) ∙ ap length mid.none in omega (arith, z)
+      | false ↦ λ e. omega arith
+    ] refl) in
+    let sum = total_plus (λ j. cond (eqb i j) 1 0) (λ j. length (mid.ks j)) 1 n in
+    let point = total_point i 1 1 n (omega (arith, pos)) (omega (arith, le)) in
+    omega (arith, all, split, sum, point)
+
+by_mid : (p : Puzzle) (t : List Move) (spans : List Span) (covered : Bool) (i : ℕ) → IsFitted p spans → 0 < i → i ≤ item_count p → (f : HasFirst p t i) → Mid p t spans covered i f.o → TweakMade p t spans covered i
+by_mid p t spans covered i fit pos le f mid =
+    let o = f.o in
+    let gone = leaving_tweak p t spans covered i pos le f mid in
+    let laid = fit.laid in
+    let col = color_in p t in
+    let x = link_place p i o in
+    let t0 : Nodes = nodes_after p t in
+    let u : Nodes = nodes_from p mid.ln col in
+    let next : Nodes = nodes_after p (Tweak i ∷ t) in
+    let l : Line = cut (mid.ln i) o in
+    let good : IsGood p i (mid.ln i) (o ∷ f.os) = subst (IsGood p i (mid.ln i)) (mid.list ∙ f.is) (mid.good i pos le) in
+    let m : IsMember p i (mid.ln i) o = member p i (mid.ln i) [] o f.os pos le good in
+    let few : (mid.ln i).len < 2 ^ 31 = let a : (mid.ln i).len ≡ length (o ∷ f.os) = good.len in let b : length (o ∷ f.os) < 2 ^ 31 = good.few in omega arith in
+    let linked = linked-is p col mid.ln i o laid m in
+    let names = names-is p col mid.ln i o laid m in
+    let size = size-is p col mid.ln in
+    let here = laid.there i o pos le m.name in
+    let count : get_or u.top (get_or u.top x 0) 0 ≡ (mid.ln i).len = ap (λ k. get_or u.top k 0) (get_item p mid.ln i o here m.pos) ∙ get_len p mid.ln i laid pos le in
+    let out : unlinked u x ≡ nodes_from p (with_line mid.ln i l) col = unlinked-is p col mid.ln i o laid m in
+    let end : next ≡ nodes_from p (with_line mid.ln i l) col =
+    tables_same p (with_line mid.ln i l) (line_of p (Tweak i ∷ t)) col (color_in p (Tweak i ∷ t)) laid
+    (λ j r. elim (eqb j i) as (λ b. eqb j i ≡ b → SameLine (with_line mid.ln i l j) (line_of p (Tweak i ∷ t) j)) [
+      | true ↦ λ e.
+          subst (λ k. SameLine (with_line mid.ln i l k) (line_of p (Tweak i ∷ t) k)) (sym (eqb-true j i e))
+          (subst (λ (k : Line). SameLine k (line_of p (Tweak i ∷ t) i)) (sym (line_here mid.ln i l ∙ ap (λ (k : Line). cut k o) mid.own)) (line_after p t (Tweak i) i (o ∷ []) (tweak_cut p t i f)))
+      | false ↦ λ e.
+          let ne : j ≢ i = eqb-false j i e in
+          subst (λ (k : Line). SameLine k (line_of p (Tweak i ∷ t) j)) (sym (line_there mid.ln i j l ne ∙ mid.line j)) (line_after p t (Tweak i) j (mid.ks j) (mid.cut j r ne))
+    ] refl)
+    (λ k n at. tweak_colours p t i n) in
+    let first : get_or t0.dlink i 0 ≡ x = get_down p (line_of p t) i 0 (own_placed p i laid pos le) ∙ ap (λ ks. link_place p i (first_of 0 ks)) f.is in
+    let taken : link_place p i (first_of 0 (listed_numbers p t i)) ≡ x = ap (λ ks. link_place p i (first_of 0 ks)) f.is in
+    let down_long : length t0.dlink ≡ length (layout p) = length-map (layout p) (dlink_in p (line_of p t)) in
+    let i_in = get_within (layout p) i (own i) (laid.head i pos le) in
+    let back = CanRelink-unlinked u x size names linked (omega (arith, count, few)) in
+    let same : unlinked u x ≡ next = out ∙ sym end in
+    let again : relinked next x ≡ u = ap (λ (v : Nodes). relinked v x) (sym same) ∙ relinked-unlinked u x linked in
+    record {
+      can = subst (λ k. CanTweakAt spans covered t0 i k) (sym first) (record {
+        place = omega (arith, i_in, down_long);
+        hide = mid.hide;
+        size = subst (λ (v : Nodes). HasSize v (length v.top)) (sym mid.done) size;
+        names = subst (λ (v : Nodes). NamesPlaces v x) (sym mid.done) names;
+        some = subst (λ (v : Nodes). 0 < get_or v.top (get_or v.top x 0) 0) (sym mid.done) linked.some;
+      });
+      done = ap (λ k. unlinked (hidden_unless spans covered t0 k) k) first ∙ ap (λ (v : Nodes). unlinked v x) mid.done ∙ same;
+      can_back = subst (CanUntweak spans covered next) (sym taken) (record {
+        size = subst (λ (v : Nodes). HasSize v (length v.top)) same back.size;
+        names = subst (λ (v : Nodes). NamesPlaces v x) same back.names;
+        few = subst (λ (v : Nodes). get_or v.top (get_or v.top x 0) 0 < 2 ^ 31) same back.few;
+        show = subst (λ (v : Nodes). covered ≡ false → (x < length spans) × CanShowAll v (reverse (others_of spans x))) (sym again) mid.show;
+      });
+      undone = ap (untweaked spans covered next) taken ∙ ap (λ (v : Nodes). shown_unless spans covered v x) again ∙ mid.undone;
+      cost = let a = ap (λ k. cond covered 0 (hide_costs t0 (others_of spans k))) first in let b = mid.cost in omega (arith, a, b, gone);
+      cost_back = let a = ap (untweak_cost spans covered next) taken in let b = ap (λ (v : Nodes). cond covered 0 (show_costs v (reverse (others_of spans x)))) again in let c = mid.cost_back in omega (arith, a, b, c, gone);
+    }
+
+pub tweak_made : (p : Puzzle) (t : List Move) (spans : List Span) (covered : Bool) (i : ℕ) → AreLegal p t → IsFitted p spans → 0 < i → i ≤ item_count p → 0 < length (listed p t i) → is_open i t ≡ not covered → TweakMade p t spans covered i
+tweak_made p t spans true i legal fit pos le some shut = let f = has_first p t i some in by_mid p t spans true i fit pos le f (mid_covered p t spans i fit shut f)
+tweak_made p t spans false i legal fit pos le some opened = let f = has_first p t i some in by_mid p t spans false i fit pos le f (mid_open p t spans i legal fit opened pos le f)

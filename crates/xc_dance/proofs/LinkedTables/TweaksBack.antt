@@ -1,0 +1,263 @@
+-- Some Tweaks of one item undone at once: from the node table after them to that before.
+use Rattle.std.proofs.Common.{◌≡◌, ◌≢◌, ℕ, ◌+◌, ◌*◌, ◌<◌, ◌≤◌, ◌^◌, inl, inr, Bool, true, false, not, cond, ◌||◌, eqb, List, [], ◌∷◌, ◌++◌, length, map, fold, filter, get_or, Option, Some, None, refl, ap, ap₂, sym, subst, ◌∙◌, arith, eqb-true, eq-eqb, length-append}
+use Rattle.std.proofs.lemmas.Bool.{eqb-false, false≢true}
+use Rattle.std.proofs.lemmas.List.{length-map}
+use Rattle.std.proofs.lemmas.List.Folds.{list_any-append}
+use Rattle.xc_dance.specs.declared.dance.Move.{Move}
+use Rattle.xc_dance.specs.declared.links.nodes.Nodes.{Nodes}
+use Rattle.xc_dance.specs.declared.links.nodes.Span.{Span}
+use Rattle.xc_input.specs.Problem.{Puzzle, item_count}
+use Rattle.xc_dance.specs.Moves.{is_open, AreLegal, listed, listed_numbers}
+use Rattle.xc_dance.specs.Fields.{Node, own, layout, link_place, is_in, first_of}
+use Rattle.xc_dance.specs.Links.Lines.{Line, put_at, cut, IsLinkedFrom}
+use Rattle.xc_dance.specs.Links.TweaksBack.{climbed, IsClimb, with_top, with_dlink, climb_costs, untweaked_all, untweak_all_cost, CanUntweakAll}
+use Rattle.xc_dance.specs.Links.Steps.{followed}
+use Rattle.xc_dance.specs.Cost.{cost_of_newest, undo_tweaks_cost}
+use Rattle.xc_dance.specs.Links.Cells.{slot_of, link_at, fixed_up, fixed_down, top_in, ulink_in, dlink_in, color_in, nodes_from, nodes_after, line_of, with_line}
+use Rattle.xc_dance.specs.Links.Laid.{IsLaid}
+use Rattle.xc_dance.specs.Links.Made.{IsFitted}
+use Rattle.xc_dance.proofs.LinkedTables.Mapped.{map_same, get_within}
+use Rattle.xc_dance.proofs.LinkedTables.Undo.{same_nodes}
+use Rattle.xc_dance.proofs.LinkedTables.OneNode.{set_link, set_top, get_len}
+use Rattle.xc_dance.proofs.LinkedTables.Sweep.{Rises, cuts, rises, by_first, put_at-same, put_at-other, cut-linked}
+use Rattle.xc_dance.proofs.LinkedTables.OtherItems.{leaves}
+use Rattle.xc_dance.proofs.LinkedTables.LineSteps.{stands, leave_none}
+use Rattle.xc_dance.proofs.LinkedTables.GoodLines.{numbers_few}
+use Rattle.xc_dance.proofs.LinkedTables.SameLines.{SameLine, tables_same}
+use Rattle.xc_dance.proofs.LinkedTables.Leaving.{AreOf, leaves_open, leaves_shut}
+use Rattle.xc_dance.proofs.LinkedTables.ListLinks.{own_placed}
+use Rattle.xc_dance.proofs.LinkedTables.Regained.{Held, Regaining, regaining, regained}
+use Rattle.xc_dance.proofs.LinkedTables.TweakStep.{line_here, line_there}
+use Rattle.xc_dance.proofs.LinkedTables.Climb.{Climbing, to_come, is_below, top_kept, down_kept}
+use Rattle.xc_dance.proofs.MoveLemmas.ListLemmas.{length-filter-le}
+use Rattle.xc_dance.proofs.LinkedTables.ClimbWalk.{climb_walk, climb_follow, climb_writes}
+use Rattle.xc_dance.proofs.LinkedTables.TweakedLines.{TweakedLines, tweaks, tweaked_lines, none_yet, tweak_writes}
+
+-- ---- the lines of other items are being regained
+
+held_same : (l m n : Line) (a b : ℕ) (xs : List ℕ) (g : ℕ → Bool) → ((x : ℕ) → n.up x ≡ m.up x) → ((x : ℕ) → n.down x ≡ m.down x) → Held l m a b xs g → Held l n a b xs g
+held_same l m n a b xs g up down h = record {
+  le = h.le;
+  up_first = up (first_of 0 xs) ∙ h.up_first;
+  up_in = λ x e ne. up x ∙ h.up_in x e ne;
+  up_last = λ nz. up 0 ∙ h.up_last nz;
+  up_out = λ x nz e. up x ∙ h.up_out x nz e;
+  down_in = λ x e s. down x ∙ h.down_in x e s;
+  down_gone = λ x e s. down x ∙ h.down_gone x e s;
+  down_out = λ x ne e. down x ∙ h.down_out x ne e;
+  down_at = elim h.down_at [ inl k ↦ inl (down a ∙ k) | inr k ↦ inr (down a ∙ k) ];
+}
+
+regaining_same : (l m n : Line) (ks : List ℕ) → SameLine m n → Regaining l m ks → Regaining l n ks
+regaining_same l m n ks s r = record { a = r.a; b = r.b; xs = r.xs; g = r.g; linked = r.linked; held = held_same l m n r.a r.b r.xs r.g s.up s.down r.held; left = r.left }
+
+-- what comes back to item j's list is in it
+start_other : (p : Puzzle) (t : List Move) (spans : List Span) (covered : Bool) (i j : ℕ) (os : List ℕ) → AreLegal p t → IsFitted p spans → is_open i t ≡ not covered → AreOf p t i os → 0 < j → j ≤ item_count p → j ≢ i →
+    Regaining (line_of p t j) (cuts (line_of p t j) (to_come p t covered i j os)) (to_come p t covered i j os)
+start_other p t spans true i j os legal fit shut of pos le ne =
+    subst (λ ks. Regaining (line_of p t j) (cuts (line_of p t j) ks) ks) (leave_none (listed_numbers p t j)) (regaining (line_of p t j) (listed_numbers p t j) (λ x. false) (stands p t j))
+start_other p t spans false i j os legal fit opened of pos le ne =
+    elim (is_open j t) as (λ b. is_open j t ≡ b → Regaining (line_of p t j) (cuts (line_of p t j) (filter (leaves p (color_in p t) i j) os)) (filter (leaves p (color_in p t) i j) os)) [
+      | true ↦ λ e.
+          subst (λ ks. Regaining (line_of p t j) (cuts (line_of p t j) ks) ks) (sym (leaves_open p t i j os legal fit.laid fit.fit opened (pos, le) of ne e))
+          (regaining (line_of p t j) (listed_numbers p t j) (λ x. is_in x os) (stands p t j))
+      | false ↦ λ e.
+          subst (λ ks. Regaining (line_of p t j) (cuts (line_of p t j) ks) ks) (leave_none (listed_numbers p t j) ∙ sym (leaves_shut p t i j os legal fit.laid fit.fit opened (pos, le) of e))
+          (regaining (line_of p t j) (listed_numbers p t j) (λ x. false) (stands p t j))
+    ] refl
+
+cuts_len : (l : Line) (ks : List ℕ) → length ks ≤ l.len → (cuts l ks).len + length ks ≡ l.len
+cuts_len l [] h = omega arith
+cuts_len l (k ∷ ks) h = let r = cuts_len (cut l k) ks (omega (arith, h)) in omega (arith, r, h)
+
+-- ---- its own line has lost its first members
+
+rises_part : (n : ℕ) (os rest : List ℕ) → Rises n (os ++ rest) → Rises n os
+rises_part n [] rest r = tt
+rises_part n (o ∷ os) rest r = (r.0, rises_part o os rest r.1)
+
+below_same : (l c : Line) (x n : ℕ) (os : List ℕ) → Rises n os → ((y : ℕ) → y ≢ 0 → c.down y ≡ l.down y) → is_below c x os ≡ is_below l x os
+below_same l c x n [] r h = refl
+below_same l c x n (o ∷ os) r h = ap₂ (λ d b. eqb d x || b) (h o (λ z. omega (arith, z, r.0))) (below_same l c x o os r.1 h)
+
+or_false : (a b : Bool) → (a || b) ≡ false → (a ≡ false) × (b ≡ false)
+or_false true b e = absurd (false≢true (sym e))
+or_false false b e = (refl, e)
+
+own_cuts : (l : Line) (os rest : List ℕ) → IsLinkedFrom l 0 (os ++ rest) → ((x : ℕ) → x ≢ 0 → (cuts l os).down x ≡ l.down x) × ((x : ℕ) → is_below l x os ≡ false → (cuts l os).up x ≡ l.up x)
+own_cuts l [] rest linked = ((λ x nz. refl), (λ x e. refl))
+own_cuts l (o ∷ os) rest linked =
+    let u : l.up o ≡ 0 = linked.2 in
+    let c : Line = cut l o in
+    let r = own_cuts c os rest (cut-linked l 0 o (os ++ rest) linked) in
+    let down_c : (x : ℕ) → x ≢ 0 → c.down x ≡ l.down x = λ x nz. put_at-other l.down (l.up o) (l.down o) x (λ e. nz (e ∙ u)) in
+    let rise : Rises o os = rises_part o os rest (rises l 0 (o ∷ (os ++ rest)) linked).1 in (
+      (λ x nz. r.0 x nz ∙ down_c x nz),
+      (λ x e.
+          let split = or_false (eqb (l.down o) x) (is_below l x os) e in
+          r.1 x (below_same l c x o os rise down_c ∙ split.1)
+          ∙ put_at-other l.up (l.down o) (l.up o) x (λ s. false≢true (sym split.0 ∙ eq-eqb (l.down o) x (sym s)))),
+    )
+
+-- ---- the head of its own line is written
+
+abbrev lowered : Line → ℕ → Line
+lowered l o = record { len = l.len; up = l.up; down = put_at l.down 0 o }
+
+up_kept : (p : Puzzle) (ln : ℕ → Line) (i : ℕ) (l : Line) (n : Node) → ((x : ℕ) → l.up x ≡ (ln i).up x) → ulink_in p (with_line ln i l) n ≡ ulink_in p ln n
+up_kept p ln i l n h = by_slot (slot_of n)
+  where
+    by_slot : (s : Option (ℕ × ℕ)) → link_at p (λ j x. (with_line ln i l j).up x) (fixed_up p n) s ≡ link_at p (λ j x. (ln j).up x) (fixed_up p n) s
+    by_slot None = refl
+    by_slot (Some s) = ap (link_place p s.0) (elim (eqb s.0 i) as (λ b. eqb s.0 i ≡ b → cond b (l.up s.1) ((ln s.0).up s.1) ≡ (ln s.0).up s.1) [
+      | true ↦ λ f. h s.1 ∙ ap (λ j. (ln j).up s.1) (sym (eqb-true s.0 i f))
+      | false ↦ λ f. refl
+    ] refl)
+
+lowered_is : (p : Puzzle) (col : Node → ℕ) (ln : ℕ → Line) (i o : ℕ) → IsLaid p → 0 < i → i ≤ item_count p → with_dlink (nodes_from p ln col) i (link_place p i o) ≡ nodes_from p (with_line ln i (lowered (ln i) o)) col
+lowered_is p col ln i o laid pos le =
+    same_nodes (with_dlink (nodes_from p ln col) i (link_place p i o)) (nodes_from p (with_line ln i (lowered (ln i) o)) col)
+    (sym (map_same (top_in ln) (top_in (with_line ln i (lowered (ln i) o))) (layout p) (λ k n e. top_kept ln i (lowered (ln i) o) n refl)))
+    (sym (map_same (ulink_in p ln) (ulink_in p (with_line ln i (lowered (ln i) o))) (layout p) (λ k n e. up_kept p ln i (lowered (ln i) o) n (λ x. refl))))
+    (sym (set_link p (λ k x. (ln k).down x) (fixed_down p) i 0 o laid (own_placed p i laid pos le)))
+    refl
+
+-- and its LEN
+abbrev longer : Line → ℕ → Line
+longer l n = record { len = n; up = l.up; down = l.down }
+
+longer_is : (p : Puzzle) (col : Node → ℕ) (ln : ℕ → Line) (i n : ℕ) → IsLaid p → 0 < i → i ≤ item_count p → with_top (nodes_from p ln col) i n ≡ nodes_from p (with_line ln i (longer (ln i) n)) col
+longer_is p col ln i n laid pos le =
+    same_nodes (with_top (nodes_from p ln col) i n) (nodes_from p (with_line ln i (longer (ln i) n)) col)
+    (sym (set_top p ln i (longer (ln i) n) laid pos le))
+    (sym (map_same (ulink_in p ln) (ulink_in p (with_line ln i (longer (ln i) n))) (layout p) (λ k m e. up_kept p ln i (longer (ln i) n) m (λ x. refl))))
+    (sym (map_same (dlink_in p ln) (dlink_in p (with_line ln i (longer (ln i) n))) (layout p) (λ k m e. down_kept p ln i (longer (ln i) n) m (λ x. refl))))
+    refl
+
+-- ---- all together
+
+come_few : (p : Puzzle) (t : List Move) (spans : List Span) (covered : Bool) (i j : ℕ) (os : List ℕ) → AreLegal p t → IsFitted p spans → is_open i t ≡ not covered → AreOf p t i os → 0 < j → j ≤ item_count p → j ≢ i →
+    length (to_come p t covered i j os) ≤ (line_of p t j).len
+come_few p t spans true i j os legal fit shut of pos le ne = omega arith
+come_few p t spans false i j os legal fit opened of pos le ne =
+    let long : length (listed_numbers p t j) ≡ (line_of p t j).len = length-map (listed p t j) (λ o. o.number) in
+    elim (is_open j t) as (λ b. is_open j t ≡ b → length (filter (leaves p (color_in p t) i j) os) ≤ (line_of p t j).len) [
+      | true ↦ λ e.
+          let a = ap length (leaves_open p t i j os legal fit.laid fit.fit opened (pos, le) of ne e) in
+          let b = length-filter-le (λ x. is_in x os) (listed_numbers p t j) in
+          omega (arith, a, b, long)
+      | false ↦ λ e. let a = ap length (leaves_shut p t i j os legal fit.laid fit.fit opened (pos, le) of e) in omega (arith, a)
+    ] refl
+
+pub record TweaksBack (p : Puzzle) (t : List Move) (spans : List Span) (covered : Bool) (i k : ℕ) : Type 0 where
+  pub can : CanUntweakAll spans covered (nodes_after p (tweaks k i t)) i (link_place p i (first_of 0 (listed_numbers p t i))) k
+  pub done : untweaked_all spans covered (nodes_after p (tweaks k i t)) i (link_place p i (first_of 0 (listed_numbers p t i))) k ≡ nodes_after p t
+  pub cost : untweak_all_cost spans covered (nodes_after p (tweaks k i t)) i (link_place p i (first_of 0 (listed_numbers p t i))) k ≡ undo_tweaks_cost k p (tweaks k i t)
+
+-- each step writes two cells less than the Tweak did
+fewer : (p : Puzzle) (col : Node → ℕ) (covered : Bool) (i : ℕ) (os : List ℕ) → climb_writes p col covered i os + 2 * length os ≡ tweak_writes p col covered i os
+fewer p col covered i [] = refl
+fewer p col covered i (o ∷ os) = let r = fewer p col covered i os in omega (arith, r)
+
+some_more : (os : List ℕ) (k : ℕ) → length os ≡ k → 0 < k → (o : ℕ) × ((rest : List ℕ) × (os ≡ o ∷ rest))
+some_more [] k e h = absurd (omega (arith, e, h))
+some_more (o ∷ os) k e h = (o, (os, refl))
+
+by_lines : (p : Puzzle) (t : List Move) (spans : List Span) (covered : Bool) (i k o : ℕ) (os : List ℕ) → AreLegal p t → IsFitted p spans → 0 < i → i ≤ item_count p → is_open i t ≡ not covered
+    → length (o ∷ os) ≡ k → cost_of_newest k p (tweaks k i t) ≡ tweak_writes p (color_in p t) covered i (o ∷ os) → TweakedLines p t (tweaks k i t) covered i (o ∷ os) → TweaksBack p t spans covered i k
+by_lines p t spans covered i k o os legal fit pos le opened count costs h =
+    let s = tweaks k i t in
+    let laid = fit.laid in
+    let col = color_in p t in
+    let all = o ∷ os in
+    let rest = listed_numbers p s i in
+    let l : Line = line_of p t i in
+    let linked : IsLinkedFrom l 0 (all ++ rest) = subst (IsLinkedFrom l 0) h.list (stands p t i) in
+    let rise : Rises 0 (all ++ rest) = rises l 0 (all ++ rest) linked in
+    let among : (x : ℕ) → is_in x all ≡ true → is_in x (listed_numbers p t i) ≡ true = λ x e.
+    subst (λ ks. is_in x ks ≡ true) (sym h.list) (list_any-append (λ y. eqb y x) all rest ∙ ap (λ b. b || is_in x rest) e) in
+    let of : AreOf p t i all = record { rise = rises_part 0 all rest rise; among = among } in
+    let lnS : ℕ → Line = line_of p s in
+    let lost_own = own_cuts l all rest linked in
+    let w : Line = lowered (lnS i) o in
+    let ln0 : ℕ → Line = with_line lnS i w in
+    let at_i : ln0 i ≡ w = line_here lnS i w in
+    let first : listed_numbers p t i ≡ o ∷ (os ++ rest) = h.list in
+    let xp : link_place p i (first_of 0 (listed_numbers p t i)) ≡ link_place p i o = ap (λ ks. link_place p i (first_of 0 ks)) first in
+    let x = link_place p i o in
+    let T : Nodes = nodes_after p s in
+    let t0 : Nodes = nodes_from p ln0 col in
+    let same_col : T ≡ nodes_from p lnS col = same_nodes T (nodes_from p lnS col) refl refl refl (map_same col (color_in p s) (layout p) (λ m n e. h.colours n)) in
+    let start : with_dlink T i x ≡ t0 = ap (λ (u : Nodes). with_dlink u i x) same_col ∙ lowered_is p col lnS i o laid pos le in
+    let down0 : (y : ℕ) → (ln0 i).down y ≡ l.down y = λ y.
+    ap (λ (m : Line). m.down y) at_i
+    ∙ by_first (put_at (lnS i).down 0 o y ≡ l.down y) 0 y
+    (λ z. put_at-same (lnS i).down 0 o y (sym z) ∙ sym linked.1 ∙ ap l.down z)
+    (λ nz. put_at-other (lnS i).down 0 o y (λ z. nz (sym z)) ∙ h.own.down y ∙ lost_own.0 y (λ z. nz (sym z))) in
+    let climbing : Climbing p t covered i ln0 all = record {
+      others = λ j jpos jle ne. subst (λ (m : Line). Regaining (line_of p t j) m (to_come p t covered i j all)) (sym (line_there lnS i j w ne))
+          (regaining_same (line_of p t j) (cuts (line_of p t j) (to_come p t covered i j all)) (lnS j) (to_come p t covered i j all) (h.others j jpos jle ne) (start_other p t spans covered i j all legal fit opened of jpos jle ne));
+      few = λ j jpos jle ne.
+          let a = cuts_len (line_of p t j) (to_come p t covered i j all) (come_few p t spans covered i j all legal fit opened of jpos jle ne) in
+          let b = (h.others j jpos jle ne).len in
+          let c = ap (λ (m : Line). m.len) (line_there lnS i j w ne) in
+          omega (arith, a, b, c);
+      own_down = down0;
+      own_up = λ y e. ap (λ (m : Line). m.up y) at_i ∙ h.own.up y ∙ lost_own.1 y e;
+    } in
+    let cw = climb_walk p t spans covered i ln0 0 all rest legal fit pos le opened among linked climbing in
+    let lead : link_place p i (l.down 0) ≡ x = ap (link_place p i) linked.1 in
+    let follow : followed t0.dlink k x ≡ map (link_place p i) all =
+    ap₂ (followed t0.dlink) (sym count) (sym lead) ∙ climb_follow p t spans i ln0 0 all rest fit pos le among linked down0 in
+    let follow' : followed (with_dlink T i x).dlink k x ≡ map (link_place p i) all = ap (λ (u : Nodes). followed u.dlink k x) start ∙ follow in
+    let fold_is : fold (climbed spans covered) (with_dlink T i x) (followed (with_dlink T i x).dlink k x) ≡ nodes_from p cw.end col =
+    ap₂ (λ (u : Nodes) qs. fold (climbed spans covered) u qs) start follow' ∙ cw.done in
+    let within : i < length (layout p) = get_within (layout p) i (own i) (laid.head i pos le) in
+    let top_long : length (map (top_in cw.end) (layout p)) ≡ length (layout p) = length-map (layout p) (top_in cw.end) in
+    let down_long : length T.dlink ≡ length (layout p) = length-map (layout p) (dlink_in p lnS) in
+    let len_end : get_or (nodes_from p cw.end col).top i 0 ≡ (cw.end i).len = get_len p cw.end i laid pos le in
+    let long_l : length (listed_numbers p t i) ≡ l.len = length-map (listed p t i) (λ o. o.number) in
+    let long_list : length (listed_numbers p t i) ≡ length all + length rest = ap length h.list ∙ length-append all rest in
+    let lost : (cuts l all).len + length all ≡ l.len = cuts_len l all (omega (arith, long_l, long_list)) in
+    let end_len : (cw.end i).len ≡ (lnS i).len = cw.len ∙ ap (λ (m : Line). m.len) at_i in
+    let own_len : (lnS i).len ≡ (cuts l all).len = h.own.len in
+    let most = numbers_few p t i in
+    let fit_few = fit.fit.few in
+    let n = get_or (nodes_from p cw.end col).top i 0 + k in
+    let end : with_top (nodes_from p cw.end col) i n ≡ nodes_after p t =
+    longer_is p col cw.end i n laid pos le
+    ∙ tables_same p (line_of p t) (with_line cw.end i (longer (cw.end i) n)) col col laid
+    (λ j r. elim (eqb j i) as (λ b. eqb j i ≡ b → SameLine (line_of p t j) (with_line cw.end i (longer (cw.end i) n) j)) [
+      | true ↦ λ e. subst (λ m. SameLine (line_of p t m) (with_line cw.end i (longer (cw.end i) n) m)) (sym (eqb-true j i e))
+          (subst (λ (m : Line). SameLine l m) (sym (line_here cw.end i (longer (cw.end i) n)))
+          (record { len = omega (arith, len_end, end_len, own_len, lost, count); up = λ y. cw.climbing.own_up y refl; down = cw.climbing.own_down }))
+      | false ↦ λ e.
+          let ne : j ≢ i = eqb-false j i e in
+          let back = regained (line_of p t j) (cw.end j) (subst (Regaining (line_of p t j) (cw.end j)) (none_yet p t covered i j) (cw.climbing.others j r.0 r.1 ne)) in
+          let few = cw.climbing.few j r.0 r.1 ne in
+          let none = ap length (none_yet p t covered i j) in
+          subst (λ (m : Line). SameLine (line_of p t j) m) (sym (line_there cw.end i j (longer (cw.end i) n) ne)) (record { len = omega (arith, few, none); up = back.up; down = back.down })
+    ] refl)
+    (λ m k e. refl) in
+    record {
+      can = subst (λ y. CanUntweakAll spans covered T i y k) (sym xp) (record {
+        place = omega (arith, within, down_long);
+        climb = subst (λ (u : Nodes). IsClimb spans covered u x (followed (with_dlink T i x).dlink k x)) (sym start)
+            (subst (λ qs. IsClimb spans covered t0 x qs) (sym follow') (subst (λ q. IsClimb spans covered t0 q (map (link_place p i) all)) lead cw.walk));
+        many = omega (arith, count, long_list, most, fit_few);
+        top = subst (λ (u : Nodes). i < length u.top) (sym fold_is) (omega (arith, within, top_long));
+        few = subst (λ (u : Nodes). get_or u.top i 0 < 2 ^ 31) (sym fold_is) (omega (arith, len_end, end_len, own_len, lost, long_l, most, fit_few));
+      });
+      done = ap (λ y. untweaked_all spans covered T i y k) xp ∙ ap (λ (u : Nodes). with_top u i (get_or u.top i 0 + k)) fold_is ∙ end;
+      cost =
+          let at = ap (λ y. untweak_all_cost spans covered T i y k) xp in
+          let walk = ap₂ (λ (u : Nodes) qs. climb_costs spans covered u qs) start follow' ∙ cw.costs in
+          let less = fewer p col covered i all in
+          omega (arith, at, walk, less, costs, count);
+    }
+
+pub tweaks_back : (p : Puzzle) (t : List Move) (spans : List Span) (covered : Bool) (i k : ℕ) → AreLegal p (tweaks k i t) → AreLegal p t → IsFitted p spans → 0 < i → i ≤ item_count p → is_open i t ≡ not covered → 0 < k → TweaksBack p t spans covered i k
+tweaks_back p t spans covered i k legal before fit pos le opened some =
+    let tw = tweaked_lines p t spans covered i k legal fit opened in
+    let f = some_more tw.os k tw.count some in
+    by_lines p t spans covered i k f.0 f.1.0 before fit pos le opened (ap length (sym f.1.1) ∙ tw.count) (tw.costs ∙ ap (tweak_writes p (color_in p t) covered i) f.1.1) (subst (TweakedLines p t (tweaks k i t) covered i) f.1.1 tw.lines)

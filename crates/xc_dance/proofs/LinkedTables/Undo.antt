@@ -1,0 +1,82 @@
+-- Hide and unhide undo one another.
+use Rattle.std.proofs.Common.{◌≡◌, ◌≢◌, ℕ, zero, suc, ◌+◌, ◌-◌, ◌<◌, Bool, true, false, cond, eqb, List, [], ◌∷◌, get_or, set, reverse, fold, refl, ap, sym, ◌∙◌, arith}
+use Rattle.std.proofs.lemmas.List.{get_or-set_same, get_or-set_other, set-set, set-get_or, reverse-append}
+use Rattle.std.proofs.lemmas.List.Sums.{fold-append}
+use Rattle.xc_dance.specs.declared.links.nodes.Nodes.{Nodes}
+use Rattle.xc_dance.specs.Links.Steps.{unlinked, relinked, hidden, shown, IsLinked}
+
+-- where a list has v at k, it has v there after v is written anywhere
+pub get_or-set_kept : (xs : List ℕ) (i k v : ℕ) → get_or xs k 0 ≡ v → get_or (set xs i v) k 0 ≡ v
+get_or-set_kept [] i k v h = h
+get_or-set_kept (x ∷ xs) zero zero v h = refl
+get_or-set_kept (x ∷ xs) zero (suc k) v h = h
+get_or-set_kept (x ∷ xs) (suc i) zero v h = h
+get_or-set_kept (x ∷ xs) (suc i) (suc k) v h = get_or-set_kept xs i k v h
+
+-- a cell that is written and then written back is as it was
+pub written_back : (xs : List ℕ) (i j v w : ℕ) → j ≡ i → get_or xs i 0 ≡ w → set (set xs i v) j w ≡ xs
+written_back xs i j v w e h =
+    ap (λ k. set (set xs i v) k w) e ∙ set-set xs i v w ∙ ap (set xs i) (sym h) ∙ set-get_or xs i 0
+
+-- tables with the same columns are the same
+pub same_nodes : (s t : Nodes) → s.top ≡ t.top → s.ulink ≡ t.ulink → s.dlink ≡ t.dlink → s.color ≡ t.color → s ≡ t
+same_nodes s t a b c d =
+    let made : List ℕ → List ℕ → List ℕ → List ℕ → Nodes = λ w x y z. record { top = w; ulink = x; dlink = y; color = z } in
+    ap (λ w. made w s.ulink s.dlink s.color) a ∙ ap (λ x. made t.top x s.dlink s.color) b ∙ ap (λ y. made t.top t.ulink y s.color) c ∙ ap (made t.top t.ulink t.dlink) d
+
+-- a node that left its list goes back to where it was
+pub relinked-unlinked : (t : Nodes) (q : ℕ) → IsLinked t q → relinked (unlinked t q) q ≡ t
+relinked-unlinked t q h =
+    let u = get_or t.ulink q 0 in
+    let d = get_or t.dlink q 0 in
+    let i = get_or t.top q 0 in
+    let n = get_or t.top i 0 in
+    let left : Nodes = unlinked t q in
+    let top : List ℕ = set t.top i (n - 1) in
+    let same_u : get_or (set t.ulink d u) q 0 ≡ u = get_or-set_kept t.ulink d q u refl in
+    let same_d : get_or (set t.dlink u d) q 0 ≡ d = get_or-set_kept t.dlink u q d refl in
+    let not_head : q ≢ i = λ e. h.other (sym e) in
+    let same_i : get_or top q 0 ≡ i = get_or-set_other t.top i q (n - 1) 0 not_head in
+    let len : get_or top i 0 ≡ n - 1 = get_or-set_same t.top i (n - 1) 0 h.top in
+    let some : 0 < n = h.some in
+    let back : get_or top (get_or top q 0) 0 + 1 ≡ n = ap (λ k. get_or top k 0 + 1) same_i ∙ ap (λ k. k + 1) len ∙ omega arith in
+    same_nodes (relinked left q) t
+    (ap (set top (get_or top q 0)) back ∙ written_back t.top i (get_or top q 0) (n - 1) n same_i refl)
+    (written_back t.ulink d (get_or (set t.dlink u d) q 0) u q same_d h.below)
+    (written_back t.dlink u (get_or (set t.ulink d u) q 0) d q same_u h.above)
+    refl
+
+-- a marked node is passed over
+pub hidden-marked : (t : Nodes) (q : ℕ) → eqb (get_or t.color q 0) 4294967295 ≡ true → hidden t q ≡ t
+hidden-marked t q e = ap (λ b. cond b t (unlinked t q)) e
+
+pub hidden-open : (t : Nodes) (q : ℕ) → eqb (get_or t.color q 0) 4294967295 ≡ false → hidden t q ≡ unlinked t q
+hidden-open t q e = ap (λ b. cond b t (unlinked t q)) e
+
+pub shown-marked : (t : Nodes) (q : ℕ) → eqb (get_or t.color q 0) 4294967295 ≡ true → shown t q ≡ t
+shown-marked t q e = ap (λ b. cond b t (relinked t q)) e
+
+pub shown-open : (t : Nodes) (q : ℕ) → eqb (get_or t.color q 0) 4294967295 ≡ false → shown t q ≡ relinked t q
+shown-open t q e = ap (λ b. cond b t (relinked t q)) e
+
+-- a step of unhide undoes that of hide
+pub shown-hidden : (t : Nodes) (q : ℕ) → (eqb (get_or t.color q 0) 4294967295 ≡ false → IsLinked t q) → shown (hidden t q) q ≡ t
+shown-hidden t q h =
+    let by : (b : Bool) → eqb (get_or t.color q 0) 4294967295 ≡ b → shown (hidden t q) q ≡ t = λ b. elim b as (λ b. eqb (get_or t.color q 0) 4294967295 ≡ b → shown (hidden t q) q ≡ t) [
+      | true ↦ (λ e. ap (λ u. shown u q) (hidden-marked t q e) ∙ shown-marked t q e)
+      | false ↦ (λ e. ap (λ u. shown u q) (hidden-open t q e) ∙ shown-open (unlinked t q) q e ∙ relinked-unlinked t q (h e))
+    ] in by (eqb (get_or t.color q 0) 4294967295) refl
+
+-- each step of a walk can be undone
+abbrev pub IsUndone : Nodes → List ℕ → Type 0
+IsUndone t [] = Unit {0}
+IsUndone t (q ∷ qs) = (shown (hidden t q) q ≡ t) × IsUndone (hidden t q) qs
+
+-- unhide, from the last place back, undoes hide
+pub fold-shown-reverse : (t : Nodes) (qs : List ℕ) → IsUndone t qs → fold shown (fold hidden t qs) (reverse qs) ≡ t
+fold-shown-reverse t [] h = refl
+fold-shown-reverse t (q ∷ qs) h =
+    ap (fold shown (fold hidden (hidden t q) qs)) (reverse-append (q ∷ []) qs)
+    ∙ fold-append shown (fold hidden (hidden t q) qs) (reverse qs) (q ∷ [])
+    ∙ ap (λ u. shown u q) (fold-shown-reverse (hidden t q) qs h.1)
+    ∙ h.0

@@ -1,0 +1,215 @@
+-- The newest moves are Tweaks of one item: what their undoing at once finds, and what it leaves.
+use Rattle.std.proofs.Common.{◌≡◌, ℕ, zero, suc, ◌+◌, ◌-◌, ◌<◌, ◌≤◌, inr, Bool, true, not, List, [], ◌∷◌, ◌++◌, length, map, drop, take, reverse, get_or, refl, ap, ap₂, sym, subst, ◌∙◌, arith, length-append}
+use Rattle.std.specs.Prelude.{replicate}
+use Rattle.std.proofs.lemmas.List.{reverse-append, reverse-reverse, length-reverse, length-drop, length-map, take-append-drop, get_or-append-add}
+use Rattle.std.proofs.Math.Seq.{drop-append_seam, take-append_seam}
+use Rattle.xc_dance.specs.declared.dance.Move.{Move}
+use Rattle.xc_dance.specs.declared.dance.Move.TheVariants.{Tweak}
+use Rattle.xc_dance.specs.declared.links.nodes.Span.{Span}
+use Rattle.xc_input.specs.Problem.{Puzzle, item_count}
+use Rattle.xc_dance.specs.Moves.{AreTweaks, AreLegal, is_covered, is_open, purified, listed_numbers}
+use Rattle.xc_dance.specs.Fields.{layout, link_place, first_of, is_in}
+use Rattle.xc_dance.specs.declared.links.nodes.Nodes.{Nodes}
+use Rattle.xc_dance.specs.Links.TweaksBack.{CanUntweakAll, untweaked_all, untweak_all_cost}
+use Rattle.xc_dance.specs.Links.Rings.{is_off}
+use Rattle.xc_dance.specs.Links.Taken.{taken_nodes}
+use Rattle.xc_dance.specs.Links.Cells.{top_in, line_of, nodes_after}
+use Rattle.xc_dance.specs.Links.ItemCells.{items_after}
+use Rattle.xc_dance.specs.Links.Laid.{IsLaid}
+use Rattle.xc_dance.specs.Links.Made.{IsFitted, CanTell}
+use Rattle.xc_dance.proofs.LinkedTables.Mapped.{get_within}
+use Rattle.xc_dance.proofs.LinkedTables.OneNode.{get_item}
+use Rattle.xc_dance.proofs.LinkedTables.Sweep.{in_above, is_in-first}
+use Rattle.xc_dance.proofs.LinkedTables.Goods.{Named}
+use Rattle.xc_dance.proofs.LinkedTables.GoodLines.{numbers_named}
+use Rattle.xc_dance.proofs.LinkedTables.LineSteps.{numbers_rise}
+use Rattle.xc_dance.proofs.MoveLemmas.Members.{element_of}
+use Rattle.xc_dance.proofs.LinkedTables.StillItems.{still_items}
+use Rattle.xc_dance.proofs.LinkedTables.Covered.{off_is, open_or_covered}
+use Rattle.xc_dance.proofs.LinkedTables.TweakedLines.{tweaks, Tweaked, tweaked_lines}
+use Rattle.xc_dance.proofs.LinkedTables.TweaksBack.{TweaksBack, tweaks_back}
+
+pub tweaks_are : (k i : ℕ) (s : List Move) → k ≤ length s → take k s ≡ replicate k (Tweak i) → s ≡ tweaks k i (drop k s)
+tweaks_are zero i s h e = refl
+tweaks_are (suc k) i [] h e = absurd (omega (arith, h))
+tweaks_are (suc k) i (m ∷ s) h e =
+    let first : m ≡ Tweak i = cc in
+    let rest : take k s ≡ replicate k (Tweak i) = cc in
+    ap₂ (λ a b. a ∷ b) first (tweaks_are k i s (omega (arith, h)) rest)
+
+legal_rest : (p : Puzzle) (k i : ℕ) (t : List Move) → AreLegal p (tweaks k i t) → AreLegal p t
+legal_rest p zero i t h = h
+legal_rest p (suc k) i t h = legal_rest p k i t h.1
+
+covered_same : (k i j : ℕ) (t : List Move) → is_covered j (tweaks k i t) ≡ is_covered j t
+covered_same zero i j t = refl
+covered_same (suc k) i j t = covered_same k i j t
+
+purified_same : (k i j : ℕ) (t : List Move) → purified j (tweaks k i t) ≡ purified j t
+purified_same zero i j t = refl
+purified_same (suc k) i j t = purified_same k i j t
+
+items_same : (p : Puzzle) (k i : ℕ) (t : List Move) → items_after p (tweaks k i t) ≡ items_after p t
+items_same p zero i t = refl
+items_same p (suc k) i t = still_items p (tweaks k i t) (Tweak i) (record { covered = λ q. refl; spent = λ q. refl }) ∙ items_same p k i t
+
+-- the last of a list, turned round
+pub turned_drop : {X : Type 0} (xs : List X) (k : ℕ) → k ≤ length xs → reverse (take (length xs - k) xs) ≡ drop k (reverse xs)
+turned_drop xs k h =
+    let m = length xs - k in
+    let a = take m xs in
+    let b = drop m xs in
+    let whole : reverse xs ≡ reverse b ++ reverse a = ap reverse (sym (take-append-drop m xs)) ∙ reverse-append a b in
+    let long : length (reverse b) ≡ k = let u = length-reverse b in let v = length-drop m xs in omega (arith, u, v, h) in
+    sym (drop-append_seam (reverse b) (reverse a)) ∙ ap₂ drop long (sym whole)
+
+-- the nodes that they took off stand last
+pub record TakenLast (p : Puzzle) (t : List Move) (i k : ℕ) (xs : List ℕ) : Type 0 where
+  pub enough : k ≤ length xs
+  pub first : get_or xs (length xs - k) 0 ≡ link_place p i (first_of 0 (listed_numbers p t i))
+  pub rest : reverse (take (length xs - k) xs) ≡ taken_nodes p t
+
+taken_last : (p : Puzzle) (t : List Move) (covered : Bool) (i k : ℕ) (xs : List ℕ) → 0 < k → Tweaked p t covered i k → reverse xs ≡ taken_nodes p (tweaks k i t) → TakenLast p t i k xs
+taken_last p t covered i k xs some tw e =
+    let os = tw.os in
+    let places = map (link_place p i) os in
+    let b = taken_nodes p t in
+    let is : xs ≡ reverse b ++ places =
+    sym (reverse-reverse xs) ∙ ap reverse (e ∙ tw.lines.taken) ∙ reverse-append (reverse places) b ∙ ap (λ ys. reverse b ++ ys) (reverse-reverse places) in
+    let long : length xs ≡ length (reverse b) + length places = ap length is ∙ length-append (reverse b) places in
+    let count : length places ≡ k = length-map os (link_place p i) ∙ tw.count in
+    let at : length xs - k ≡ length (reverse b) = omega (arith, long, count) in
+    record {
+      enough = omega (arith, long, count);
+      first =
+          ap₂ (λ ys n. get_or ys n 0) is (at ∙ omega arith) ∙ get_or-append-add (reverse b) places 0 0
+          ∙ first_place os tw.count (tw.lines.list);
+      rest = ap₂ (λ n ys. reverse (take n ys)) at is ∙ ap reverse (take-append_seam (reverse b) places) ∙ reverse-reverse b;
+    }
+  where
+    first_place : (os : List ℕ) → length os ≡ k → listed_numbers p t i ≡ os ++ listed_numbers p (tweaks k i t) i → get_or (map (link_place p i) os) 0 0 ≡ link_place p i (first_of 0 (listed_numbers p t i))
+    first_place [] c l = absurd (omega (arith, c, some))
+    first_place (o ∷ os) c l = ap (λ ks. link_place p i (first_of 0 ks)) (sym l)
+
+pub record TweaksFound (p : Puzzle) (s : List Move) (spans : List Span) (k : ℕ) (xs : List ℕ) : Type 0 where
+  pub i : ℕ
+  pub is : s ≡ tweaks k i (drop k s)
+  pub legal : AreLegal p (drop k s)
+  pub taken : TakenLast p (drop k s) i k xs
+  pub within : link_place p i (first_of 0 (listed_numbers p (drop k s) i)) < length (nodes_after p s).top
+  pub item : get_or (nodes_after p s).top (link_place p i (first_of 0 (listed_numbers p (drop k s) i))) 0 ≡ i
+  pub tell : CanTell (items_after p s) i
+  pub off : is_off (items_after p s) i ≡ is_covered i (drop k s)
+  pub back : TweaksBack p (drop k s) spans (is_covered i (drop k s)) i k
+  pub items : items_after p s ≡ items_after p (drop k s)
+
+-- the first node that they took off is of the item
+pub record FirstNode (p : Puzzle) (s t : List Move) (i : ℕ) : Type 0 where
+  pub within : link_place p i (first_of 0 (listed_numbers p t i)) < length (nodes_after p s).top
+  pub item : get_or (nodes_after p s).top (link_place p i (first_of 0 (listed_numbers p t i))) 0 ≡ i
+
+first_node : (p : Puzzle) (s t : List Move) (i : ℕ) (os rest : List ℕ) → IsLaid p → 0 < i → i ≤ item_count p → 0 < length os → listed_numbers p t i ≡ os ++ rest → FirstNode p s t i
+first_node p s t i [] rest laid pos le some l = absurd (omega (arith, some))
+first_node p s t i (o ∷ os) rest laid pos le some l =
+    let is : first_of 0 (listed_numbers p t i) ≡ o = ap (first_of 0) l in
+    let in_list = subst (λ ks. is_in o ks ≡ true) (sym l) (is_in-first o (os ++ rest)) in
+    let o_pos : 0 < o = in_above 0 o (listed_numbers p t i) (numbers_rise p t i) in_list in
+    let named : Named p i o = element_of (Named p i) o (listed_numbers p t i) (numbers_named p t i) in_list in
+    let here = laid.there i o pos le (inr (o_pos, named)) in
+    let at = get_within (layout p) (link_place p i o) here.node here.at in
+    let long : length (map (top_in (line_of p s)) (layout p)) ≡ length (layout p) = length-map (layout p) (top_in (line_of p s)) in
+    record {
+      within = subst (λ n. link_place p i n < length (nodes_after p s).top) (sym is) (omega (arith, at, long));
+      item = ap (λ n. get_or (nodes_after p s).top (link_place p i n) 0) is ∙ get_item p (line_of p s) i o here o_pos;
+    }
+
+pub record FoundBy (p : Puzzle) (t : List Move) (spans : List Span) (i k : ℕ) (xs : List ℕ) : Type 0 where
+  pub taken : TakenLast p t i k xs
+  pub node : FirstNode p (tweaks k i t) t i
+  pub tell : CanTell (items_after p (tweaks k i t)) i
+  pub off : is_off (items_after p (tweaks k i t)) i ≡ is_covered i t
+  pub back : TweaksBack p t spans (is_covered i t) i k
+
+found_by : (p : Puzzle) (t : List Move) (spans : List Span) (i k : ℕ) (xs : List ℕ) → AreLegal p (tweaks (suc k) i t) → IsFitted p spans → reverse xs ≡ taken_nodes p (tweaks (suc k) i t) → FoundBy p t spans i (suc k) xs
+found_by p t spans i k xs legal fit e =
+    let s = tweaks (suc k) i t in
+    let may = legal.0 in
+    let pos : 0 < i = let h = may.0.0 in omega (arith, h) in
+    let le : i ≤ item_count p = may.0.1 in
+    let before : AreLegal p t = legal_rest p (suc k) i t legal in
+    let covered = is_covered i t in
+    let opened : is_open i t ≡ not covered = open_or_covered i t (sym (purified_same k i i t) ∙ may.1) in
+    let tw = tweaked_lines p t spans covered i (suc k) legal fit opened in
+    let off = off_is p s i legal pos le in
+    let some : 0 < suc k = omega arith in
+    record {
+      taken = taken_last p t covered i (suc k) xs some tw e;
+      node = first_node p s t i tw.os (listed_numbers p s i) fit.laid pos le (let c = tw.count in omega (arith, c)) tw.lines.list;
+      tell = (off.place, off.left);
+      off = off.is ∙ covered_same (suc k) i i t;
+      back = tweaks_back p t spans covered i (suc k) legal before fit pos le opened some;
+    }
+
+pub tweaks_found : (p : Puzzle) (s : List Move) (spans : List Span) (k : ℕ) (xs : List ℕ) → AreTweaks k s → AreLegal p s → IsFitted p spans → reverse xs ≡ taken_nodes p s → TweaksFound p s spans k xs
+tweaks_found p s spans zero xs are legal fit e = absurd (let h = are.0 in omega (arith, h))
+tweaks_found p s spans (suc k) xs are legal fit e =
+    let i = are.2.0 in
+    let t = drop (suc k) s in
+    let is : s ≡ tweaks (suc k) i t = tweaks_are (suc k) i s are.1 are.2.1 in
+    let f = found_by p t spans i k xs (subst (AreLegal p) is legal) fit (e ∙ ap (taken_nodes p) is) in
+    record {
+      i = i;
+      is = is;
+      legal = legal_rest p (suc k) i t (subst (AreLegal p) is legal);
+      taken = f.taken;
+      within = subst (λ r. link_place p i (first_of 0 (listed_numbers p t i)) < length (nodes_after p r).top) (sym is) f.node.within;
+      item = ap (λ r. get_or (nodes_after p r).top (link_place p i (first_of 0 (listed_numbers p t i))) 0) is ∙ f.node.item;
+      tell = subst (λ r. CanTell (items_after p r) i) (sym is) f.tell;
+      off = ap (λ r. is_off (items_after p r) i) is ∙ f.off;
+      back = f.back;
+      items = ap (items_after p) is ∙ items_same p (suc k) i t;
+    }
+
+-- ---- as the code reads them
+
+any_default : {X : Type 0} (xs : List X) (n : ℕ) (d e : X) → n < length xs → get_or xs n d ≡ get_or xs n e
+any_default [] n d e h = absurd (omega (arith, h))
+any_default (x ∷ xs) zero d e h = refl
+any_default (x ∷ xs) (suc n) d e h = any_default xs n d e (omega (arith, h))
+
+pub read_first : (xs : List ℕ) (n k r v : ℕ) → n ≡ length xs → 1 ≤ k → k ≤ length xs → r ≡ get_or xs (n - k) r → get_or xs (length xs - k) 0 ≡ v → r ≡ v
+read_first xs n k r v long some enough read is = read ∙ ap (λ m. get_or xs (m - k) r) long ∙ any_default xs (length xs - k) r 0 (omega (arith, some, enough)) ∙ is
+
+pub can_all : (spans spans' : List Span) (covered covered' : Bool) (t u : Nodes) (i i' x x' k : ℕ) → spans' ≡ spans → covered' ≡ covered → u ≡ t → i' ≡ i → x' ≡ x → CanUntweakAll spans covered t i x k → CanUntweakAll spans' covered' u i' x' k
+can_all spans spans' covered covered' t u i i' x x' k a b c d e h =
+    subst (λ (y : List Span). CanUntweakAll y covered' u i' x' k) (sym a)
+    (subst (λ y. CanUntweakAll spans y u i' x' k) (sym b)
+    (subst (λ (y : Nodes). CanUntweakAll spans covered y i' x' k) (sym c)
+    (subst (λ y. CanUntweakAll spans covered t y x' k) (sym d)
+    (subst (λ y. CanUntweakAll spans covered t i y k) (sym e) h))))
+
+pub done_all : (spans spans' : List Span) (covered covered' : Bool) (t u : Nodes) (i i' x x' k : ℕ) → spans' ≡ spans → covered' ≡ covered → u ≡ t → i' ≡ i → x' ≡ x → untweaked_all spans' covered' u i' x' k ≡ untweaked_all spans covered t i x k
+done_all spans spans' covered covered' t u i i' x x' k a b c d e =
+    ap (λ (y : List Span). untweaked_all y covered' u i' x' k) a
+    ∙ ap₂ (λ y (z : Nodes). untweaked_all spans y z i' x' k) b c
+    ∙ ap₂ (λ y z. untweaked_all spans covered t y z k) d e
+
+pub cost_all : (spans spans' : List Span) (covered covered' : Bool) (t u : Nodes) (i i' x x' k : ℕ) → spans' ≡ spans → covered' ≡ covered → u ≡ t → i' ≡ i → x' ≡ x → untweak_all_cost spans' covered' u i' x' k ≡ untweak_all_cost spans covered t i x k
+cost_all spans spans' covered covered' t u i i' x x' k a b c d e =
+    ap (λ (y : List Span). untweak_all_cost y covered' u i' x' k) a
+    ∙ ap₂ (λ y (z : Nodes). untweak_all_cost spans y z i' x' k) b c
+    ∙ ap₂ (λ y z. untweak_all_cost spans covered t y z k) d e
+
+pub still_short : (xs ys : List Move) (k : ℕ) → reverse ys ≡ drop k (reverse xs) → length ys ≤ length xs
+still_short xs ys k e =
+    let a = ap length e in
+    let b = length-reverse ys in
+    let c = length-drop k (reverse xs) in
+    let d = length-reverse xs in
+    omega (arith, a, b, c, d)
+
+pub trail_left : (xs ys : List Move) (n k : ℕ) → n ≡ length xs → k ≤ length (reverse xs) → ys ≡ take (n - k) xs → reverse ys ≡ drop k (reverse xs)
+trail_left xs ys n k long h e = ap reverse (e ∙ ap (λ m. take (m - k) xs) long) ∙ turned_drop xs k (let d = length-reverse xs in omega (arith, h, d))
+
+pub taken_left : (xs ys : List ℕ) (n k : ℕ) → n ≡ length xs → ys ≡ take (n - k) xs → reverse ys ≡ reverse (take (length xs - k) xs)
+taken_left xs ys n k long e = ap reverse (e ∙ ap (λ m. take (m - k) xs) long)

@@ -1,0 +1,49 @@
+-- What steps of hide and unhide write: 3 at each node that isn't marked.
+use Rattle.std.proofs.Common.{◌≡◌, ℕ, ◌+◌, ◌*◌, true, false, not, cond, eqb, List, [], ◌∷◌, ◌++◌, length, map, filter, get_or, reverse, refl, ap, ◌∙◌, arith}
+use Rattle.std.proofs.lemmas.List.{reverse-append}
+use Rattle.xc_dance.specs.declared.links.nodes.Nodes.{Nodes}
+use Rattle.xc_input.specs.Problem.{Puzzle}
+use Rattle.xc_dance.specs.Fields.{Node, layout, link_place}
+use Rattle.xc_dance.specs.Links.Steps.{unlinked, relinked, hidden, shown, hide_cost, hide_costs, show_costs}
+use Rattle.xc_dance.proofs.LinkedTables.OneOption.{is_mark}
+
+abbrev pub unmarked_costs : List ℕ → List ℕ → ℕ
+unmarked_costs color [] = 0
+unmarked_costs color (q ∷ qs) = cond (eqb (get_or color q 0) 4294967295) 0 3 + unmarked_costs color qs
+
+hidden_color : (t : Nodes) (q : ℕ) → (hidden t q).color ≡ t.color
+hidden_color t q = elim (eqb (get_or t.color q 0) 4294967295) as (λ b. (cond b t (unlinked t q)).color ≡ t.color) [ true ↦ refl | false ↦ refl ]
+
+shown_color : (t : Nodes) (q : ℕ) → (shown t q).color ≡ t.color
+shown_color t q = elim (eqb (get_or t.color q 0) 4294967295) as (λ b. (cond b t (relinked t q)).color ≡ t.color) [ true ↦ refl | false ↦ refl ]
+
+pub hide_costs-are : (t : Nodes) (qs : List ℕ) → hide_costs t qs ≡ unmarked_costs t.color qs
+hide_costs-are t [] = refl
+hide_costs-are t (q ∷ qs) = ap (λ n. hide_cost t q + n) (hide_costs-are (hidden t q) qs ∙ ap (λ c. unmarked_costs c qs) (hidden_color t q))
+
+pub show_costs-are : (t : Nodes) (qs : List ℕ) → show_costs t qs ≡ unmarked_costs t.color qs
+show_costs-are t [] = refl
+show_costs-are t (q ∷ qs) = ap (λ n. hide_cost t q + n) (show_costs-are (shown t q) qs ∙ ap (λ c. unmarked_costs c qs) (shown_color t q))
+
+unmarked-append : (color ps qs : List ℕ) → unmarked_costs color (ps ++ qs) ≡ unmarked_costs color ps + unmarked_costs color qs
+unmarked-append color [] qs = omega arith
+unmarked-append color (p ∷ ps) qs = let r = unmarked-append color ps qs in omega (arith, r)
+
+-- back it is the same
+pub unmarked-reverse : (color qs : List ℕ) → unmarked_costs color (reverse qs) ≡ unmarked_costs color qs
+unmarked-reverse color [] = refl
+unmarked-reverse color (q ∷ qs) =
+    let turned = ap (unmarked_costs color) (reverse-append (q ∷ []) qs) in
+    let both = unmarked-append color (reverse qs) (q ∷ []) in
+    let rest = unmarked-reverse color qs in
+    omega (arith, turned, both, rest)
+
+-- for option o's nodes in the lists of the items js
+pub unmarked_items : (p : Puzzle) (col : Node → ℕ) (o : ℕ) (js : List ℕ) → unmarked_costs (map col (layout p)) (map (λ j. link_place p j o) js) ≡ 3 * length (filter (λ j. not (is_mark p col o j)) js)
+unmarked_items p col o [] = refl
+unmarked_items p col o (j ∷ js) =
+    let r = unmarked_items p col o js in
+    elim (is_mark p col o j) as (λ b. cond b 0 3 + unmarked_costs (map col (layout p)) (map (λ j. link_place p j o) js) ≡ 3 * length (cond (not b) (j ∷ filter (λ j. not (is_mark p col o j)) js) (filter (λ j. not (is_mark p col o j)) js))) [
+      | true ↦ omega (arith, r)
+      | false ↦ omega (arith, r)
+    ]

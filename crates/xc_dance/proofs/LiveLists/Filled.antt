@@ -1,0 +1,98 @@
+-- The lists before any move, filled option by option.
+use Rattle.std.proofs.Common.{ℕ, zero, suc, ◌≡◌, ◌≢◌, ◌+◌, ◌<◌, Bool, true, false, cond, eqb, List, [], ◌∷◌, ◌++◌, length, get_or, set, map, take, replicate, refl, ap, ap₂, sym, ◌∙◌, arith, subst}
+use Rattle.std.specs.Prelude.{AllPairs}
+use Rattle.std.specs.List.{range_with_len}
+use Rattle.std.proofs.lemmas.Bool.{ne_eqb}
+use Rattle.std.proofs.lemmas.List.{length-take-le, get_or-take, get_or_default, map-append, append-nil}
+use Rattle.std.proofs.lemmas.List.Folds.{list_any_none}
+use Rattle.std.proofs.lemmas.List.Elements.{filter-append}
+use Rattle.xc_input.specs.declared.problem.Use.{Use}
+use Rattle.xc_input.specs.Problem.{Puzzle, Numbered, numbered_from, item_count, holds, holding}
+use Rattle.xc_dance.specs.Lists.Taking.{list_at}
+use Rattle.xc_dance.specs.Lists.Losing.{enlisted_from, enlisted, has_use, lists_before}
+use Rattle.xc_dance.specs.declared.dance.Move.{Move}
+use Rattle.xc_dance.proofs.LiveLists.OptionsLost.{has_use_other, has_use_here}
+use Rattle.xc_dance.proofs.MoveLemmas.Shortened.{holds_use}
+
+pub length-enlisted_from : (us : List Use) (o n : ℕ) (ls : List (List ℕ)) → length (enlisted_from us o n ls) ≡ length ls
+length-enlisted_from us o n [] = refl
+length-enlisted_from us o n (l ∷ ls) = ap suc (length-enlisted_from us o (n + 1) ls)
+
+pub enlisted_none : (o n : ℕ) (ls : List (List ℕ)) → enlisted_from [] o n ls ≡ ls
+enlisted_none o n [] = refl
+enlisted_none o n (l ∷ ls) = ap (λ ks. l ∷ ks) (enlisted_none o (n + 1) ls)
+
+enlisted_above : (us : List Use) (u : Use) (o n : ℕ) (ls : List (List ℕ)) → u.item < n → enlisted_from us o n ls ≡ enlisted_from (us ++ u ∷ []) o n ls
+enlisted_above us u o n [] lt = refl
+enlisted_above us u o n (l ∷ ls) lt =
+    ap₂ (λ k ks. k ∷ ks) (ap (λ b. cond b (l ++ o ∷ []) l) (sym (has_use_other us u n (omega (arith, lt))))) (enlisted_above us u o (n + 1) ls (omega (arith, lt)))
+
+-- the item of one more use has the option
+pub enlisted_more : (us : List Use) (u : Use) (o n k : ℕ) (ls : List (List ℕ)) → n + k ≡ u.item → has_use us u.item ≡ false → k < length ls →
+    set (enlisted_from us o n ls) k (list_at (enlisted_from us o n ls) k ++ o ∷ []) ≡ enlisted_from (us ++ u ∷ []) o n ls
+enlisted_more us u o n k [] e new lt = refl
+enlisted_more us u o n zero (l ∷ ls) e new lt =
+    let same : u.item ≡ n = omega (arith, e) in
+    let none : has_use us n ≡ false = subst (λ i. has_use us i ≡ false) same new in
+    ap₂ (λ k ks. k ∷ ks) (rw (none, has_use_here us u n same) refl) (enlisted_above us u o (n + 1) ls (omega (arith, same)))
+enlisted_more us u o n (suc k) (l ∷ ls) e new lt =
+    let other : u.item ≢ n = omega (arith, e) in
+    ap₂ (λ k ks. k ∷ ks) (ap (λ b. cond b (l ++ o ∷ []) l) (sym (has_use_other us u n other))) (enlisted_more us u o (n + 1) k ls (omega (arith, e)) new (omega (arith, lt)))
+
+-- the uses before one are of other items
+pub new_use : (us : List Use) (k : ℕ) (u0 : Use) → AllPairs (λ u v. u.item ≢ v.item) us → k < length us → has_use (take k us) (get_or us k u0).item ≡ false
+new_use us k u0 distinct lt =
+    let size = length-take-le k us (omega (arith, lt)) in
+    list_any_none (λ v. eqb v.item (get_or us k u0).item) (take k us)
+    (λ m d within. (let front : m < k = omega (arith, within, size) in
+    let same = get_or-take k us m d front in
+    rw same (ne_eqb (get_or us m d).item (get_or us k u0).item (λ e. distinct_at m d front e))))
+  where
+    distinct_at : (m : ℕ) (d : Use) → m < k → (get_or us m d).item ≡ (get_or us k u0).item → ⊥
+    distinct_at m d front e = distinct m k d front lt (e ∙ ap (λ (u : Use). u.item) (get_or_default us k u0 d lt))
+
+-- ---- all options
+
+-- the lists of these options
+abbrev pub lists_of : Puzzle → List (List Use) → List (List ℕ)
+lists_of p os = map (λ i. map (λ o. o.number) (holding i (numbered_from 1 os))) (range_with_len 1 (item_count p))
+
+enlisted_range : (us : List Use) (o : ℕ) (f g : ℕ → List ℕ) → ((i : ℕ) → cond (has_use us i) (f i ++ o ∷ []) (f i) ≡ g i) → (a n : ℕ) →
+    enlisted_from us o a (map f (range_with_len a n)) ≡ map g (range_with_len a n)
+enlisted_range us o f g h a zero = refl
+enlisted_range us o f g h a (suc n) = ap₂ (λ l ls. l ∷ ls) (h a) (enlisted_range us o f g h (a + 1) n)
+
+numbered_more : (os : List (List Use)) (us : List Use) (n : ℕ) → numbered_from n (os ++ us ∷ []) ≡ numbered_from n os ++ (record { number = n + length os; uses = us }) ∷ []
+numbered_more [] us n = let same : n ≡ n + 0 = omega arith in ap (λ k. (let x : Numbered = record { number = k; uses = us } in x ∷ [])) same
+numbered_more (vs ∷ os) us n =
+    let same : n + 1 + length os ≡ n + suc (length os) = omega arith in
+    ap (λ l. (let x : Numbered = record { number = n; uses = vs } in x ∷ l)) (numbered_more os us (n + 1) ∙ ap (λ k. numbered_from (n + 1) os ++ (let x : Numbered = record { number = k; uses = us } in x ∷ [])) same)
+
+at_end : (front : List ℕ) (x : Numbered) (n : ℕ) → n ≡ x.number → (b : Bool) → cond b (front ++ n ∷ []) front ≡ front ++ map (λ (o : Numbered). o.number) (cond b (x ∷ []) [])
+at_end front x n e true = ap (λ k. front ++ k ∷ []) e
+at_end front x n e false = sym (append-nil front)
+
+filled_more : (os : List (List Use)) (us : List Use) (i : ℕ) → cond (has_use us i) (map (λ o. o.number) (holding i (numbered_from 1 os)) ++ (length os + 1) ∷ []) (map (λ o. o.number) (holding i (numbered_from 1 os))) ≡ map (λ o. o.number) (holding i (numbered_from 1 (os ++ us ∷ [])))
+filled_more os us i =
+    let x : Numbered = record { number = 1 + length os; uses = us } in
+    let all = ap (λ l. map (λ (o : Numbered). o.number) (holding i l)) (numbered_more os us 1)
+    ∙ ap (λ l. map (λ (o : Numbered). o.number) l) (filter-append (λ (o : Numbered). holds o i) (numbered_from 1 os) (x ∷ []))
+    ∙ map-append (λ (o : Numbered). o.number) (holding i (numbered_from 1 os)) (holding i (x ∷ [])) in
+    let front = map (λ (o : Numbered). o.number) (holding i (numbered_from 1 os)) in
+    at_end front x (length os + 1) (omega arith) (has_use us i)
+    ∙ ap (λ b. front ++ map (λ (o : Numbered). o.number) (cond b (x ∷ []) [])) (sym (holds_use us i)) ∙ sym all
+
+pub lists_more : (p : Puzzle) (os : List (List Use)) (us : List Use) (o : ℕ) → o ≡ length os + 1 → enlisted us o (lists_of p os) ≡ lists_of p (os ++ us ∷ [])
+lists_more p os us o e =
+    rw e (enlisted_range us (length os + 1) (λ i. map (λ o. o.number) (holding i (numbered_from 1 os))) (λ i. map (λ o. o.number) (holding i (numbered_from 1 (os ++ us ∷ [])))) (filled_more os us) 1 (item_count p))
+
+pub lists_none : (p : Puzzle) → replicate (item_count p) [] ≡ lists_of p []
+lists_none p = empty 1 (item_count p)
+  where
+    empty : (a n : ℕ) → replicate n [] ≡ map (λ i. map (λ (o : Numbered). o.number) (holding i (numbered_from 1 []))) (range_with_len a n)
+    empty a zero = refl
+    empty a (suc n) = ap (λ ls. [] ∷ ls) (empty (a + 1) n)
+
+pub length-lists_before : (p : Puzzle) (t : List Move) → length (lists_before p t) ≡ length t
+length-lists_before p [] = refl
+length-lists_before p (m ∷ t) = ap suc (length-lists_before p t)

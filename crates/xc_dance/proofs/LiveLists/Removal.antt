@@ -1,0 +1,121 @@
+-- A number that is taken out of a list that rises, and put back.
+use Rattle.std.proofs.Common.{ℕ, zero, suc, ◌≡◌, ◌≢◌, ◌+◌, ◌<◌, ◌≤◌, Bool, true, false, eqb, ltb, ltb-true, ltb-false, List, [], ◌∷◌, length, get_or, set, refl, ap, ap₂, sym, ◌∙◌, arith, subst, eq-eqb, ne_eqb, vec_capacity, sum_by}
+use Rattle.std.specs.List.{insert, remove}
+use Rattle.std.specs.Global.{Vec}
+use Rattle.std.proofs.lemmas.List.{map-set, get_or-map, get_or-set_same, set-get_or, length-set, length-map}
+use Rattle.std.proofs.Math.Seq.{map-set_same}
+use Rattle.std.proofs.lemmas.List.Edits.{length-insert, length-remove}
+use Rattle.std.proofs.lemmas.List.Sums.{sum_by-set}
+use Rattle.xc_dance.specs.declared.lists.undo_log.Taken.{Taken}
+use Rattle.xc_dance.specs.Rising.{Rises}
+use Rattle.xc_dance.specs.Lists.Taking.{numbers_of, rooms_of, list_at, less, put_back, HasRoom, IsPutBack}
+
+-- ---- one list
+
+pub less-absent : (x : ℕ) (xs : List ℕ) → ((k : ℕ) → k < length xs → get_or xs k 0 ≢ x) → less (x ∷ []) xs ≡ xs
+less-absent x [] h = refl
+less-absent x (y ∷ ys) h =
+    let here : eqb x y ≡ false = ne_eqb x y (λ e. h 0 (omega arith) (sym e)) in
+    rw here (ap (λ l. y ∷ l) (less-absent x ys (λ k lt. h (suc k) (omega (arith, lt)))))
+
+pub less-below : (x n : ℕ) (xs : List ℕ) → x ≤ n → Rises n xs → less (x ∷ []) xs ≡ xs
+less-below x n [] le r = refl
+less-below x n (y ∷ ys) le r =
+    let here : eqb x y ≡ false = ne_eqb x y (omega (arith, r.0)) in
+    rw here (ap (λ l. y ∷ l) (less-below x y ys (omega (arith, r.0)) r.1))
+
+pub above : (n : ℕ) (xs : List ℕ) (k : ℕ) → Rises n xs → k < length xs → n < get_or xs k 0
+above n [] k r lt = absurd (omega (arith, lt))
+above n (y ∷ ys) zero r lt = r.0
+above n (y ∷ ys) (suc k) r lt = let later = above y ys k r.1 (omega (arith, lt)) in omega (arith, r.0, later)
+
+-- the number goes from its place
+pub less-remove : (n : ℕ) (xs : List ℕ) (k : ℕ) → Rises n xs → k < length xs → less (get_or xs k 0 ∷ []) xs ≡ remove xs k
+less-remove n [] k r lt = absurd (omega (arith, lt))
+less-remove n (y ∷ ys) zero r lt =
+    let here : eqb y y ≡ true = eq-eqb y y refl in
+    rw here (less-below y y ys (omega arith) r.1)
+less-remove n (y ∷ ys) (suc k) r lt =
+    let x = get_or ys k 0 in
+    let behind : y < x = above y ys k r.1 (omega (arith, lt)) in
+    let here : eqb x y ≡ false = ne_eqb x y (omega (arith, behind)) in
+    rw here (ap (λ l. y ∷ l) (less-remove y ys k r.1 (omega (arith, lt))))
+
+pub insert-remove : {X : Type 0} (xs : List X) (k : ℕ) (d : X) → k < length xs → insert (remove xs k) k (get_or xs k d) ≡ xs
+insert-remove [] k d lt = absurd (omega (arith, lt))
+insert-remove (y ∷ ys) zero d lt = refl
+insert-remove (y ∷ ys) (suc k) d lt = ap (λ l. y ∷ l) (insert-remove ys k d (omega (arith, lt)))
+
+pub rises_weakly : (n : ℕ) (xs : List ℕ) → Rises n xs → (i j : ℕ) → i ≤ j → j < length xs → get_or xs i 0 ≤ get_or xs j 0
+rises_weakly n [] r i j le lt = absurd (omega (arith, lt))
+rises_weakly n (y ∷ ys) r zero zero le lt = omega arith
+rises_weakly n (y ∷ ys) r zero (suc j) le lt = let a = above y ys j r.1 (omega (arith, lt)) in omega (arith, a)
+rises_weakly n (y ∷ ys) r (suc i) zero le lt = absurd (omega (arith, le))
+rises_weakly n (y ∷ ys) r (suc i) (suc j) le lt = rises_weakly y ys r.1 i j (omega (arith, le)) (omega (arith, lt))
+
+-- a search that found another place says that the number is absent
+pub less-not_found : (x i : ℕ) (xs : List ℕ) → ((k : ℕ) → k < i → get_or xs k 0 < x) → ((k : ℕ) → i ≤ k → k < length xs → x < get_or xs k 0) → less (x ∷ []) xs ≡ xs
+less-not_found x i xs below above = less-absent x xs (λ k lt. by_side k lt (ltb k i) refl)
+  where
+    by_side : (k : ℕ) → k < length xs → (b : Bool) → ltb k i ≡ b → get_or xs k 0 ≢ x
+    by_side k lt true q = let h = below k (ltb-true k i q) in omega (arith, h)
+    by_side k lt false q = let h = above k (ltb-false k i q) lt in omega (arith, h)
+
+-- ---- lists in vectors
+
+pub numbers_of-set : (ls : List (Vec ℕ)) (k : ℕ) (v : Vec ℕ) → numbers_of (set ls k v) ≡ set (numbers_of ls) k v.items
+numbers_of-set ls k v = map-set (λ (l : Vec ℕ). l.items) ls k v
+
+pub list_at-numbers_of : (ls : List (Vec ℕ)) (k : ℕ) (d : Vec ℕ) → k < length ls → list_at (numbers_of ls) k ≡ (get_or ls k d).items
+list_at-numbers_of ls k d lt = get_or-map (λ (l : Vec ℕ). l.items) ls k d [] lt
+
+pub rooms_of-set : (ls : List (Vec ℕ)) (k : ℕ) (v d : Vec ℕ) → vec_capacity v ≡ vec_capacity (get_or ls k d) → rooms_of (set ls k v) ≡ rooms_of ls
+rooms_of-set ls k v d e = map-set_same (λ (l : Vec ℕ). vec_capacity l) ls k v d e
+
+pub room_at : (ls : List (Vec ℕ)) (k : ℕ) (d : Vec ℕ) → k < length ls → get_or (rooms_of ls) k 0 ≡ vec_capacity (get_or ls k d)
+room_at ls k d lt = get_or-map (λ (l : Vec ℕ). vec_capacity l) ls k d 0 lt
+
+-- ---- a list among lists
+
+set_set : {X : Type 0} (xs : List X) (k : ℕ) (a b : X) → set (set xs k a) k b ≡ set xs k b
+set_set [] k a b = refl
+set_set (x ∷ xs) zero a b = refl
+set_set (x ∷ xs) (suc k) a b = ap (λ l. x ∷ l) (set_set xs k a b)
+
+-- a number that was removed from its list can be put back
+pub removed : (rooms : List ℕ) (ls : List (List ℕ)) (list place number : ℕ) → list < length ls → place < length (list_at ls list) →
+    get_or (list_at ls list) place 0 ≡ number → length (list_at ls list) ≤ get_or rooms list 0 →
+    IsPutBack rooms (record { place = place; list = list; number = number }) (set ls list (remove (list_at ls list) place)) ls
+removed rooms ls list place number lt within is fits =
+    let row = list_at ls list in
+    let new = set ls list (remove row place) in
+    let read : list_at new list ≡ remove row place = get_or-set_same ls list (remove row place) [] lt in
+    let shorter = length-remove row place within in
+    let size = length-set ls list (remove row place) in
+    let read_length = ap (λ (l : List ℕ). length l) read in
+    let back : insert (list_at new list) place number ≡ row = ap₂ (λ (l : List ℕ) n. insert l place n) read (sym is) ∙ insert-remove row place 0 within in
+    let whole : set new list (insert (list_at new list) place number) ≡ ls =
+    ap (λ (l : List ℕ). set new list l) back ∙ set_set ls list (remove row place) row ∙ set-get_or ls list [] in
+    ((omega (arith, lt, size), omega (arith, within, shorter, read_length), omega (arith, within, shorter, read_length, fits)), whole)
+
+-- as a vector's row is changed
+pub row_removed : (ls : List (Vec ℕ)) (new : Vec ℕ) (list place number : ℕ) (row : Vec ℕ) → list < length ls → row ≡ get_or ls list row →
+    place < length row.items → get_or row.items place 0 ≡ number → new.items ≡ remove row.items place → length row.items ≤ vec_capacity row →
+    IsPutBack (rooms_of ls) (record { place = place; list = list; number = number }) (numbers_of (set ls list new)) (numbers_of ls)
+row_removed ls new list place number row lt is_row within is gone fits =
+    let read : list_at (numbers_of ls) list ≡ row.items = list_at-numbers_of ls list row lt ∙ ap (λ (v : Vec ℕ). v.items) (sym is_row) in
+    let room : get_or (rooms_of ls) list 0 ≡ vec_capacity row = room_at ls list row lt ∙ ap (λ (v : Vec ℕ). vec_capacity v) (sym is_row) in
+    let size = length-map ls (λ (v : Vec ℕ). v.items) in
+    let back = removed (rooms_of ls) (numbers_of ls) list place number (omega (arith, lt, size)) (omega (arith, within, ap (λ (l : List ℕ). length l) read)) (ap (λ (l : List ℕ). get_or l place 0) read ∙ is) (omega (arith, ap (λ (l : List ℕ). length l) read, room, fits)) in
+    let same : numbers_of (set ls list new) ≡ set (numbers_of ls) list (remove (list_at (numbers_of ls) list) place) =
+    numbers_of-set ls list new ∙ ap (λ (l : List ℕ). set (numbers_of ls) list l) (gone ∙ ap (λ (l : List ℕ). remove l place) (sym read)) in
+    let P : List (List ℕ) → Type 0 = λ l. IsPutBack (rooms_of ls) (record { place = place; list = list; number = number }) l (numbers_of ls) in
+    subst P (sym same) back
+
+-- there is one number more after one was put back
+pub sum-put_back : (rooms : List ℕ) (e : Taken) (ls : List (List ℕ)) → HasRoom rooms e ls → sum_by length (put_back e ls) ≡ sum_by length ls + 1
+sum-put_back rooms e ls h =
+    let row = list_at ls e.list in
+    let longer = length-insert row e.place e.number h.1 in
+    let total = sum_by-set (λ (l : List ℕ). length l) ls e.list (insert row e.place e.number) [] h.0 in
+    omega (arith, longer, total)

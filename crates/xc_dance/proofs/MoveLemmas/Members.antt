@@ -1,0 +1,72 @@
+-- Members of lists of numbers: lists that rise and have the same members are the same.
+use Rattle.std.proofs.Common.{◌≡◌, ◌≢◌, ℕ, ◌≤◌, Bool, true, false, cond, ◌&&◌, ◌||◌, eqb, List, [], ◌∷◌, filter, refl, ap, ap₂, sym, subst, ◌∙◌, arith, eqb-true}
+use Rattle.std.specs.List.{AllByRecursion}
+use Rattle.std.proofs.lemmas.Bool.{eqb-false, false≢true}
+use Rattle.xc_dance.specs.Fields.{is_in}
+use Rattle.xc_dance.proofs.LinkedTables.Sweep.{Rises, not_in, in_above, is_in-first, is_in-other}
+
+pub element_of : (P : ℕ → Type 0) (x : ℕ) (xs : List ℕ) → AllByRecursion P xs → is_in x xs ≡ true → P x
+element_of P x [] a e = absurd (false≢true e)
+element_of P x (y ∷ ys) a e =
+    elim (eqb y x) as (λ b. eqb y x ≡ b → (b || is_in x ys) ≡ true → P x) [
+      | true ↦ λ f g. subst P (eqb-true y x f) a.0
+      | false ↦ λ f g. element_of P x ys a.1 g
+    ] refl e
+
+-- a filter's members
+pub in_filter : (f : ℕ → Bool) (x : ℕ) (xs : List ℕ) → is_in x (filter f xs) ≡ (f x && is_in x xs)
+in_filter f x [] = elim (f x) as (λ b. false ≡ (b && false)) [ true ↦ refl | false ↦ refl ]
+in_filter f x (y ∷ ys) =
+    elim (eqb y x) as (λ b. eqb y x ≡ b → is_in x (cond (f y) (y ∷ filter f ys) (filter f ys)) ≡ (f x && (b || is_in x ys))) [
+      | true ↦ λ e.
+          let same : y ≡ x = eqb-true y x e in
+          ap (λ k. is_in x (cond (f k) (y ∷ filter f ys) (filter f ys))) same
+          ∙ elim (f x) as (λ b. f x ≡ b → is_in x (cond b (y ∷ filter f ys) (filter f ys)) ≡ (b && true)) [
+            | true ↦ λ g. ap (λ b. b || is_in x (filter f ys)) e
+            | false ↦ λ g. in_filter f x ys ∙ ap (λ b. b && is_in x ys) g
+          ] refl
+      | false ↦ λ e.
+          elim (f y) as (λ b. is_in x (cond b (y ∷ filter f ys) (filter f ys)) ≡ (f x && is_in x ys)) [
+            | true ↦ ap (λ b. b || is_in x (filter f ys)) e ∙ in_filter f x ys
+            | false ↦ in_filter f x ys
+          ]
+    ] refl
+
+-- the first of one list isn't missing in the other
+first_in : (y : ℕ) (ys xs : List ℕ) → is_in y xs ≡ is_in y (y ∷ ys) → is_in y xs ≡ true
+first_in y ys xs h = h ∙ is_in-first y ys
+
+pub same_members : (n : ℕ) (xs ys : List ℕ) → Rises n xs → Rises n ys → ((x : ℕ) → is_in x xs ≡ is_in x ys) → xs ≡ ys
+same_members n [] [] r s h = refl
+same_members n [] (y ∷ ys) r s h = absurd (false≢true (first_in y ys [] (h y)))
+same_members n (x ∷ xs) [] r s h = absurd (false≢true (sym (h x) ∙ is_in-first x xs))
+same_members n (x ∷ xs) (y ∷ ys) r s h =
+    let y_in : is_in y (x ∷ xs) ≡ true = first_in y ys (x ∷ xs) (h y) in
+    let x_in : is_in x (y ∷ ys) ≡ true = sym (h x) ∙ is_in-first x xs in
+    let le : x ≤ y = elim (eqb x y) as (λ b. eqb x y ≡ b → (b || is_in y xs) ≡ true → x ≤ y) [
+      | true ↦ λ e f. omega (arith, eqb-true x y e)
+      | false ↦ λ e f. omega (arith, in_above x y xs r.1 f)
+    ] refl y_in in
+    let ge : y ≤ x = elim (eqb y x) as (λ b. eqb y x ≡ b → (b || is_in x ys) ≡ true → y ≤ x) [
+      | true ↦ λ e f. omega (arith, eqb-true y x e)
+      | false ↦ λ e f. omega (arith, in_above y x ys s.1 f)
+    ] refl x_in in
+    let same : x ≡ y = omega (arith, le, ge) in
+    ap₂ (λ k ks. k ∷ ks) same
+    (same_members x xs ys r.1 (subst (λ k. Rises k ys) (sym same) s.1) (λ z.
+    elim (eqb x z) as (λ b. eqb x z ≡ b → is_in z xs ≡ is_in z ys) [
+      | true ↦ λ e.
+          let at : x ≡ z = eqb-true x z e in
+          not_in x z xs (omega (arith, at)) r.1 ∙ sym (not_in y z ys (omega (arith, at, same)) s.1)
+      | false ↦ λ e.
+          let ne : x ≢ z = eqb-false x z e in
+          sym (is_in-other x z xs ne) ∙ h z ∙ is_in-other y z ys (λ f. ne (same ∙ f))
+    ] refl))
+
+-- nothing passes
+pub none_in : (f : ℕ → Bool) (n : ℕ) (xs : List ℕ) → Rises n (filter f xs) → ((x : ℕ) → is_in x xs ≡ true → f x ≡ false) → filter f xs ≡ []
+none_in f n xs r h = same_members n (filter f xs) [] r tt (λ x. in_filter f x xs
+    ∙ elim (is_in x xs) as (λ b. is_in x xs ≡ b → (f x && b) ≡ false) [
+      | true ↦ λ e. ap (λ b. b && true) (h x e)
+      | false ↦ λ e. elim (f x) as (λ b. (b && false) ≡ false) [ true ↦ refl | false ↦ refl ]
+    ] refl)

@@ -1,0 +1,178 @@
+-- An open item's list is the options left that hold it.
+use Rattle.std.proofs.Common.{ℕ, ◌≡◌, ◌+◌, ◌<◌, ◌≤◌, Bool, true, false, cond, not, ◌&&◌, eqb, List, [], ◌∷◌, filter, take, drop, Option, Some, None, refl, sym, ap, ap₂, ◌∙◌, arith, eqb-true, eq-eqb, lt-ltb, ne_eqb}
+use Rattle.std.proofs.lemmas.List.Elements.{filter_agree}
+use Rattle.std.specs.Prelude.{nat_lt, is_some}
+use Rattle.std.specs.List.{AllByRecursion}
+use Rattle.xc_input.specs.declared.problem.Use.{Use}
+use Rattle.xc_dance.specs.declared.dance.Move.{Move}
+use Rattle.xc_dance.specs.declared.dance.Move.TheVariants.{Cover, Purify, Tweak, Spend}
+use Rattle.xc_input.specs.Problem.{Puzzle, Numbered, numbered_from, holds, colour_at}
+use Rattle.xc_input.specs.Problem.{holding}
+use Rattle.xc_input.specs.Problem.{holding}
+use Rattle.xc_dance.specs.Left.{agrees}
+use Rattle.xc_dance.specs.Moves.{listed, is_open, without, is_among, other_colours, is_other_colour}
+use Rattle.xc_dance.specs.Left.{left, OpenListsAreLeft}
+use Rattle.xc_dance.proofs.MoveLemmas.Each.{each_weaker}
+
+-- ---- filters
+
+each_both : {X : Type 0} (P Q R : X → Type 0) (xs : List X) → ((x : X) → P x → Q x → R x) → AllByRecursion P xs → AllByRecursion Q xs → AllByRecursion R xs
+each_both P Q R [] h a b = tt
+each_both P Q R (x ∷ xs) h a b = (h x a.0 b.0, each_both P Q R xs h a.1 b.1)
+
+pub filter_same : {X : Type 0} (p q : X → Bool) (xs : List X) → AllByRecursion (λ x. p x ≡ q x) xs → filter p xs ≡ filter q xs
+filter_same p q [] a = refl
+filter_same p q (x ∷ xs) a = ap₂ (λ b ys. cond b (x ∷ ys) ys) a.0 (filter_same p q xs a.1)
+
+pub filter_both : {X : Type 0} (p q : X → Bool) (xs : List X) → filter p (filter q xs) ≡ filter (λ x. q x && p x) xs
+filter_both p q [] = refl
+filter_both p q (x ∷ xs) = elim (q x) as (λ b. filter p (cond b (x ∷ filter q xs) (filter q xs)) ≡ cond (b && p x) (x ∷ filter (λ x. q x && p x) xs) (filter (λ x. q x && p x) xs)) [
+  | true ↦ ap (λ ys. cond (p x) (x ∷ ys) ys) (filter_both p q xs)
+  | false ↦ filter_both p q xs
+]
+
+and_comm : (a b : Bool) → (a && b) ≡ (b && a)
+and_comm true true = refl
+and_comm true false = refl
+and_comm false true = refl
+and_comm false false = refl
+
+pub filter_swap : {X : Type 0} (p q : X → Bool) (xs : List X) → filter p (filter q xs) ≡ filter q (filter p xs)
+filter_swap p q xs = filter_both p q xs ∙ filter_agree _ _ (λ x. and_comm (q x) (p x)) xs ∙ sym (filter_both q p xs)
+
+-- ---- options whose numbers rise
+
+abbrev pub NumbersRise : ℕ → List Numbered → Type 0
+NumbersRise n [] = Unit {0}
+NumbersRise n (o ∷ os) = (n < o.number) × NumbersRise o.number os
+
+pub NumbersRise-weaker : (m n : ℕ) (os : List Numbered) → m ≤ n → NumbersRise n os → NumbersRise m os
+NumbersRise-weaker m n [] h r = tt
+NumbersRise-weaker m n (o ∷ os) h r = (omega (arith, r.0), r.1)
+
+pub NumbersRise-filter : (p : Numbered → Bool) (n : ℕ) (os : List Numbered) → NumbersRise n os → NumbersRise n (filter p os)
+NumbersRise-filter p n [] r = tt
+NumbersRise-filter p n (o ∷ os) r = elim (p o) as (λ b. NumbersRise n (cond b (o ∷ filter p os) (filter p os))) [
+  | true ↦ (r.0, NumbersRise-filter p o.number os r.1)
+  | false ↦ NumbersRise-filter p n os (NumbersRise-weaker n o.number os (omega (arith, r.0)) r.1)
+]
+
+NumbersRise-from : (n : ℕ) (os : List (List Use)) → NumbersRise n (numbered_from (n + 1) os)
+NumbersRise-from n [] = tt
+NumbersRise-from n (us ∷ os) = (omega arith, NumbersRise-from (n + 1) os)
+
+pub left_rises : (p : Puzzle) (t : List Move) → NumbersRise 0 (left p t)
+left_rises p [] = NumbersRise-from 0 p.options
+left_rises p (Cover j ∷ t) = NumbersRise-filter (λ o. not (holds o j)) 0 (left p t) (left_rises p t)
+left_rises p (Purify j c ∷ t) = NumbersRise-filter (λ o. agrees c (colour_at o j)) 0 (left p t) (left_rises p t)
+left_rises p (Tweak j ∷ t) = elim (is_open j t) as (λ b. NumbersRise 0 (cond b (without (take 1 (holding j (left p t))) (left p t)) (left p t))) [
+  | true ↦ NumbersRise-filter (λ o. not (is_among (take 1 (holding j (left p t))) o)) 0 (left p t) (left_rises p t)
+  | false ↦ left_rises p t
+]
+left_rises p (Spend j ∷ t) = left_rises p t
+
+above : (n : ℕ) (os : List Numbered) → NumbersRise n os → AllByRecursion (λ o. n < o.number) os
+above n [] r = tt
+above n (o ∷ os) r = (r.0, above n os (NumbersRise-weaker n o.number os (omega (arith, r.0)) r.1))
+
+other : (k n : ℕ) → n < k → eqb k n ≡ false
+other k n h = ne_eqb k n (λ e. omega (arith, h, e))
+
+before : (k n : ℕ) → n < k → eqb n k ≡ false
+before k n h = ne_eqb n k (λ e. omega (arith, h, e))
+
+-- an option below all of a list isn't in it
+not_among : (x : Numbered) (n : ℕ) (os : List Numbered) → x.number ≤ n → NumbersRise n os → is_among os x ≡ false
+not_among x n [] h r = refl
+not_among x n (o ∷ os) h r = rw (other o.number x.number (omega (arith, r.0))) (not_among x o.number os (omega (arith, r.0)) r.1)
+
+-- among those that pass is who passes
+pub among_filter : (q : Numbered → Bool) (n : ℕ) (os : List Numbered) → NumbersRise n os → AllByRecursion (λ o. is_among (filter q os) o ≡ q o) os
+among_filter q n [] r = tt
+among_filter q n (x ∷ os) r =
+    let self : eqb x.number x.number ≡ true = eq-eqb _ _ refl in
+    elim (q x) as (λ b. (is_among (cond b (x ∷ filter q os) (filter q os)) x ≡ b) × AllByRecursion (λ o. is_among (cond b (x ∷ filter q os) (filter q os)) o ≡ q o) os) [
+      | true ↦ (rw self refl, each_both (λ o. x.number < o.number) (λ o. is_among (filter q os) o ≡ q o) (λ o. is_among (x ∷ filter q os) o ≡ q o) os (λ o h e. rw (before o.number x.number h) e) (above x.number os r.1) (among_filter q x.number os r.1))
+      | false ↦ (not_among x x.number (filter q os) (omega arith) (NumbersRise-filter q x.number os r.1), among_filter q x.number os r.1)
+    ]
+
+pub without_filter : (q : Numbered → Bool) (n : ℕ) (os : List Numbered) → NumbersRise n os → without (filter q os) os ≡ filter (λ o. not (q o)) os
+without_filter q n os r = filter_same _ _ os (each_weaker _ _ os (λ o e. ap not e) (among_filter q n os r))
+
+keep_all : {X : Type 0} (p : X → Bool) (xs : List X) → AllByRecursion (λ x. p x ≡ true) xs → filter p xs ≡ xs
+keep_all p [] a = refl
+keep_all p (x ∷ xs) a = rw a.0 (ap (λ ys. x ∷ ys) (keep_all p xs a.1))
+
+pub without_first : (n : ℕ) (os : List Numbered) → NumbersRise n os → without (take 1 os) os ≡ drop 1 os
+without_first n [] r = refl
+without_first n (x ∷ os) r =
+    let self : eqb x.number x.number ≡ true = eq-eqb _ _ refl in
+    rw self (keep_all (λ o. not (is_among (x ∷ []) o)) os (each_weaker _ _ os (λ o h. rw (before o.number x.number h) refl) (above x.number os r.1)))
+
+-- ---- the lists
+
+-- two filters of the options left: what passes q goes from those that hold i
+gone : (q : Numbered → Bool) (i : ℕ) (os : List Numbered) → NumbersRise 0 os → without (filter q os) (holding i os) ≡ holding i (filter (λ o. not (q o)) os)
+gone q i os r = filter_swap _ _ os ∙ ap (holding i) (without_filter q 0 os r)
+
+stays_if : (c d : ℕ) → 0 < c → not (true && not (eqb c d)) ≡ (nat_lt 0 c && eqb c d)
+stays_if c d h = rw (lt-ltb 0 c h) (elim (eqb c d) as (λ b. not (not b) ≡ b) [ true ↦ refl | false ↦ refl ])
+
+agree_test : (c : ℕ) (o : Option ℕ) → 0 < c → not (is_some o && is_other_colour c o) ≡ agrees c o
+agree_test c None h = refl
+agree_test c (Some d) h = stays_if c d h
+
+purified_gone : (i j c : ℕ) (os : List Numbered) → 0 < c → NumbersRise 0 os → without (other_colours j c (holding j os)) (holding i os) ≡ holding i (filter (λ o. agrees c (colour_at o j)) os)
+purified_gone i j c os h r =
+    ap (λ g. without g (holding i os)) (filter_both (λ o. is_other_colour c (colour_at o j)) (λ o. holds o j) os)
+    ∙ gone (λ o. holds o j && is_other_colour c (colour_at o j)) i os r
+    ∙ ap (holding i) (filter_agree _ _ (λ o. agree_test c (colour_at o j) h) os)
+
+pub and_left : (a b : Bool) → (a && b) ≡ true → a ≡ true
+and_left true b e = refl
+and_left false b e = e
+
+pub and_right : (a b : Bool) → (a && b) ≡ true → b ≡ true
+and_right true b e = e
+and_right false b e = cc
+
+tweaked_closed : (p : Puzzle) (t : List Move) (i j : ℕ) → is_open i t ≡ true → listed p t i ≡ holding i (left p t) → (is_open j t ≡ true → listed p t j ≡ holding j (left p t)) →
+    eqb i j ≡ false → listed p (Tweak j ∷ t) i ≡ holding i (left p (Tweak j ∷ t))
+tweaked_closed p t i j opened at_i at_j e =
+    rw (e, opened)
+    (elim (is_open j t) as (λ b. is_open j t ≡ b → cond (b && true) (without (take 1 (listed p t j)) (listed p t i)) (listed p t i) ≡ holding i (cond b (without (take 1 (holding j (left p t))) (left p t)) (left p t))) [
+      | true ↦ λ o. ap₂ (λ g os. without (take 1 g) os) (at_j o) at_i ∙ filter_swap _ _ (left p t)
+      | false ↦ λ o. at_i
+    ] refl)
+
+tweaked_itself : (p : Puzzle) (t : List Move) (i j : ℕ) → is_open i t ≡ true → (is_open j t ≡ true → listed p t j ≡ holding j (left p t)) →
+    i ≡ j → listed p (Tweak j ∷ t) i ≡ holding i (left p (Tweak j ∷ t))
+tweaked_itself p t i j opened at_j e =
+    let j_open : is_open j t ≡ true = ap (λ k. is_open k t) (sym e) ∙ opened in
+    let same : eqb i j ≡ true = eq-eqb i j e in
+    rw (same, j_open, e)
+    (ap (drop 1) (at_j j_open)
+    ∙ sym (without_first 0 (holding j (left p t)) (NumbersRise-filter (λ o. holds o j) 0 (left p t) (left_rises p t)))
+    ∙ filter_swap _ _ (left p t))
+
+tweaked : (p : Puzzle) (t : List Move) (i j : ℕ) → is_open i t ≡ true → listed p t i ≡ holding i (left p t) → (is_open j t ≡ true → listed p t j ≡ holding j (left p t)) →
+    listed p (Tweak j ∷ t) i ≡ holding i (left p (Tweak j ∷ t))
+tweaked p t i j opened at_i at_j = by_case (eqb i j) refl
+  where
+    by_case : (b : Bool) → eqb i j ≡ b → listed p (Tweak j ∷ t) i ≡ holding i (left p (Tweak j ∷ t))
+    by_case true e = tweaked_itself p t i j opened at_j (eqb-true i j e)
+    by_case false e = tweaked_closed p t i j opened at_i at_j e
+
+pub listed_open : (p : Puzzle) (t : List Move) → OpenListsAreLeft p t
+listed_open p [] legal i opened = refl
+listed_open p (Cover j ∷ t) legal i opened =
+    rw opened
+    (ap₂ (λ g os. without g os) (listed_open p t legal.1 j legal.0.1) (listed_open p t legal.1 i (and_right _ _ opened))
+    ∙ gone (λ o. holds o j) i (left p t) (left_rises p t))
+listed_open p (Purify j c ∷ t) legal i opened =
+    rw opened
+    (ap₂ (λ g os. without (other_colours j c g) os) (listed_open p t legal.1 j legal.0.1) (listed_open p t legal.1 i (and_right _ _ opened))
+    ∙ purified_gone i j c (left p t) legal.0.2 (left_rises p t))
+listed_open p (Tweak j ∷ t) legal i opened =
+    tweaked p t i j opened (listed_open p t legal.1 i opened) (λ o. listed_open p t legal.1 j o)
+listed_open p (Spend j ∷ t) legal i opened = listed_open p t legal.1 i opened

@@ -1,0 +1,194 @@
+-- The states of items after moves.
+use Rattle.std.proofs.Common.{ℕ, zero, suc, ◌≡◌, ◌≢◌, ◌+◌, ◌-◌, ◌<◌, ◌≤◌, Bool, true, false, not, cond, ◌&&◌, eqb, List, [], ◌∷◌, length, Some, None, refl, ap, sym, set, get_or, ltb, ltb-true, ltb-false, ◌∙◌, arith, eqb-true, eq-eqb}
+use Rattle.std.proofs.lemmas.List.{length-set, get_or-set_same, get_or-set_other, get_or_default}
+use Rattle.std.specs.Prelude.{Option, is_some, unwrap_or, filter}
+use Rattle.std.specs.List.{range_with_len}
+use Rattle.std.proofs.lemmas.Bool.{lt-ltb, le-ltb}
+use Rattle.xc_dance.specs.declared.dance.Move.{Move}
+use Rattle.xc_dance.specs.declared.dance.Move.TheVariants.{Cover, Purify, Tweak, Spend}
+use Rattle.xc_dance.specs.declared.lists.standing.State.{State}
+use Rattle.xc_dance.specs.declared.lists.standing.State.TheVariants.{Open, Covered, Purified}
+use Rattle.xc_input.specs.Problem.{Puzzle, Bounds, item_count, high_at, numbered_get, IsWithinLimits}
+use Rattle.xc_input.proofs.Known.{at_number}
+use Rattle.xc_dance.specs.Moves.{is_open, purified, next_above, AreLegal}
+use Rattle.xc_dance.specs.Lists.States.{state_of, AreStates}
+
+pub open_state : (i : ℕ) (t : List Move) → is_open i t ≡ true → state_of i t ≡ Open
+open_state i [] e = refl
+open_state i (Cover j ∷ t) e = elim (eqb i j) as (λ b. not b && is_open i t ≡ true → cond b Covered (state_of i t) ≡ Open) [
+  | true ↦ λ h. absurd (cc h)
+  | false ↦ λ h. open_state i t h
+] e
+open_state i (Purify j c ∷ t) e = elim (eqb i j) as (λ b. not b && is_open i t ≡ true → cond b Purified (state_of i t) ≡ Open) [
+  | true ↦ λ h. absurd (cc h)
+  | false ↦ λ h. open_state i t h
+] e
+open_state i (Tweak j ∷ t) e = open_state i t e
+open_state i (Spend j ∷ t) e = open_state i t e
+
+pub state_open : (i : ℕ) (t : List Move) → state_of i t ≡ Open → is_open i t ≡ true
+state_open i [] e = refl
+state_open i (Cover j ∷ t) e = elim (eqb i j) as (λ b. cond b Covered (state_of i t) ≡ Open → not b && is_open i t ≡ true) [
+  | true ↦ λ h. absurd (cc h)
+  | false ↦ λ h. state_open i t h
+] e
+state_open i (Purify j c ∷ t) e = elim (eqb i j) as (λ b. cond b Purified (state_of i t) ≡ Open → not b && is_open i t ≡ true) [
+  | true ↦ λ h. absurd (cc h)
+  | false ↦ λ h. state_open i t h
+] e
+state_open i (Tweak j ∷ t) e = state_open i t e
+state_open i (Spend j ∷ t) e = state_open i t e
+
+-- an open item isn't purified
+pub open_unpurified : (i : ℕ) (t : List Move) → is_open i t ≡ true → purified i t ≡ None
+open_unpurified i [] e = refl
+open_unpurified i (Cover j ∷ t) e = elim (eqb i j) as (λ b. not b && is_open i t ≡ true → purified i t ≡ None) [
+  | true ↦ λ h. absurd (cc h)
+  | false ↦ λ h. open_unpurified i t h
+] e
+open_unpurified i (Purify j c ∷ t) e = elim (eqb i j) as (λ b. not b && is_open i t ≡ true → cond b (Some c) (purified i t) ≡ None) [
+  | true ↦ λ h. absurd (cc h)
+  | false ↦ λ h. open_unpurified i t h
+] e
+open_unpurified i (Tweak j ∷ t) e = open_unpurified i t e
+open_unpurified i (Spend j ∷ t) e = open_unpurified i t e
+
+-- one item gets another state
+pub set_state : (p : Puzzle) (t u : List Move) (states : List State) (i : ℕ) (s : State) → AreStates p t states → 1 ≤ i → i ≤ item_count p →
+    ((k : ℕ) → k + 1 ≢ i → state_of (k + 1) t ≡ state_of (k + 1) u) → state_of i u ≡ s → AreStates p u (set states (i - 1) s)
+set_state p t u states i s are low high others here = record {
+  count = length-set states (i - 1) s ∙ are.count;
+  each = λ k lt. by_place k lt (eqb (k + 1) i) refl;
+}
+  where
+    by_place : (k : ℕ) → k < item_count p → (b : Bool) → eqb (k + 1) i ≡ b → get_or (set states (i - 1) s) k Open ≡ state_of (k + 1) u
+    by_place k lt true q =
+        let is : k + 1 ≡ i = eqb-true (k + 1) i q in
+        let at : k ≡ i - 1 = omega (arith, is) in
+        let within : i - 1 < length states = omega (arith, low, high, are.count) in
+        rw (at) (get_or-set_same states (i - 1) s Open within) ∙ sym here ∙ ap (λ n. state_of n u) (sym is)
+    by_place k lt false q =
+        let other : k + 1 ≢ i = λ e. (let y = eq-eqb (k + 1) i e in cc) in
+        let at : k ≢ i - 1 = omega (arith, other, low) in
+        get_or-set_other states (i - 1) k s Open at ∙ are.each k lt ∙ others k other
+
+-- what was read at the item's place is its state
+pub state_at : (p : Puzzle) (t : List Move) (states : List State) (i : ℕ) (r : State) → AreStates p t states → 1 ≤ i → i ≤ item_count p → r ≡ get_or states (i - 1) r → state_of i t ≡ r
+state_at p t states i r are low high read =
+    let lt : i - 1 < item_count p = omega (arith, low, high) in
+    let at : (i - 1) + 1 ≡ i = omega (arith, low) in
+    let within : i - 1 < length states = omega (arith, lt, are.count) in
+    ap (λ n. state_of n t) (sym at) ∙ sym (are.each (i - 1) lt) ∙ get_or_default states (i - 1) Open r within ∙ sym read
+
+abbrev pub is_purified_state : State → Bool
+is_purified_state Open = false
+is_purified_state Covered = false
+is_purified_state Purified = true
+
+abbrev pub is_open_state : State → Bool
+is_open_state Open = true
+is_open_state Covered = false
+is_open_state Purified = false
+
+no_state : (s : State) → Open ≡ s → is_open_state s ≡ false → ⊥
+no_state Open e f = cc f
+no_state Covered e f = cc e
+no_state Purified e f = cc e
+
+not_open : (i : ℕ) (t : List Move) (s : State) → state_of i t ≡ s → is_open_state s ≡ false → is_open i t ≡ false
+not_open i t s e f = by_case (is_open i t) refl
+  where
+    by_case : (b : Bool) → is_open i t ≡ b → is_open i t ≡ false
+    by_case true q = let o = open_state i t q in let same : Open ≡ s = sym o ∙ e in absurd (no_state s same f)
+    by_case false q = q
+
+pub open_by_state : (i : ℕ) (t : List Move) (s : State) → state_of i t ≡ s → is_open i t ≡ is_open_state s
+open_by_state i t Open e = state_open i t e
+open_by_state i t Covered e = not_open i t Covered e refl
+open_by_state i t Purified e = not_open i t Purified e refl
+
+pub closed_state : (s : State) → (s ≡ Open → ⊥) → is_open_state s ≡ false
+closed_state Open h = absurd (h refl)
+closed_state Covered h = refl
+closed_state Purified h = refl
+
+pub unpurified_state : (s : State) → (s ≡ Purified → ⊥) → is_purified_state s ≡ false
+unpurified_state Open h = refl
+unpurified_state Covered h = refl
+unpurified_state Purified h = absurd (h refl)
+
+pub purified_by_state : (p : Puzzle) (i : ℕ) (t : List Move) → AreLegal p t → is_some (purified i t) ≡ is_purified_state (state_of i t)
+purified_by_state p i [] legal = refl
+purified_by_state p i (Cover j ∷ t) legal =
+    elim (eqb i j) as (λ b. eqb i j ≡ b → is_some (purified i t) ≡ is_purified_state (cond b Covered (state_of i t))) [
+      | true ↦ λ q.
+          let same : j ≡ i = sym (eqb-true i j q) in
+          let none = open_unpurified i t (rw (← same) legal.0.1) in
+          ap (λ o. is_some o) none
+      | false ↦ λ q. purified_by_state p i t legal.1
+    ] refl
+purified_by_state p i (Purify j c ∷ t) legal =
+    elim (eqb i j) as (λ b. is_some (cond b (Some c) (purified i t)) ≡ is_purified_state (cond b Purified (state_of i t))) [
+      | true ↦ refl
+      | false ↦ purified_by_state p i t legal.1
+    ]
+purified_by_state p i (Tweak j ∷ t) legal = purified_by_state p i t legal.1
+purified_by_state p i (Spend j ∷ t) legal = purified_by_state p i t legal.1
+
+-- ---- the next open item
+
+pub next_open_step : (t : List Move) (n a len : ℕ) → is_open (n + 1) t ≡ false → next_above n (filter (λ i. is_open i t) (range_with_len a len)) ≡ next_above (n + 1) (filter (λ i. is_open i t) (range_with_len a len))
+next_open_step t n a zero e = refl
+next_open_step t n a (suc len) e =
+    let rest = next_open_step t n (a + 1) len e in
+    elim (is_open a t) as (λ b. is_open a t ≡ b → next_above n (cond b (a ∷ filter (λ i. is_open i t) (range_with_len (a + 1) len)) (filter (λ i. is_open i t) (range_with_len (a + 1) len))) ≡ next_above (n + 1) (cond b (a ∷ filter (λ i. is_open i t) (range_with_len (a + 1) len)) (filter (λ i. is_open i t) (range_with_len (a + 1) len)))) [
+      | true ↦ λ o. at_open o (ltb n a) (ltb (n + 1) a) refl refl rest
+      | false ↦ λ o. rest
+    ] refl
+  where
+    at_open : is_open a t ≡ true → (x y : Bool) → ltb n a ≡ x → ltb (n + 1) a ≡ y → next_above n (filter (λ i. is_open i t) (range_with_len (a + 1) len)) ≡ next_above (n + 1) (filter (λ i. is_open i t) (range_with_len (a + 1) len))
+        → cond (ltb n a) (Some a) (next_above n (filter (λ i. is_open i t) (range_with_len (a + 1) len))) ≡ cond (ltb (n + 1) a) (Some a) (next_above (n + 1) (filter (λ i. is_open i t) (range_with_len (a + 1) len)))
+    at_open o true true p q rest = rw (p, q) refl
+    at_open o true false p q rest =
+        let same : a ≡ n + 1 = omega (arith, ltb-true n a p, ltb-false (n + 1) a q) in
+        absurd (let closed : is_open a t ≡ false = ap (λ k. is_open k t) same ∙ e in cc)
+    at_open o false true p q rest = absurd (omega (arith, ltb-false n a p, ltb-true (n + 1) a q))
+    at_open o false false p q rest = rw (p, q) rest
+
+pub next_open_here : (t : List Move) (n a len : ℕ) → is_open (n + 1) t ≡ true → a ≤ n + 1 → n + 1 < a + len → next_above n (filter (λ i. is_open i t) (range_with_len a len)) ≡ Some (n + 1)
+next_open_here t n a zero e low high = absurd (omega (arith, low, high))
+next_open_here t n a (suc len) e low high = by_place (λ more less. next_open_here t n (a + 1) len e more less) (eqb a (n + 1)) refl
+  where
+    by_place : (a + 1 ≤ n + 1 → n + 1 < a + 1 + len → next_above n (filter (λ i. is_open i t) (range_with_len (a + 1) len)) ≡ Some (n + 1)) → (b : Bool) → eqb a (n + 1) ≡ b → next_above n (cond (is_open a t) (a ∷ filter (λ i. is_open i t) (range_with_len (a + 1) len)) (filter (λ i. is_open i t) (range_with_len (a + 1) len))) ≡ Some (n + 1)
+    by_place later true q =
+        let same : a ≡ n + 1 = eqb-true a (n + 1) q in
+        let above : ltb n a ≡ true = lt-ltb n a (omega (arith, same)) in
+        let open_here : is_open a t ≡ true = ap (λ k. is_open k t) same ∙ e in
+        rw (open_here, above, same) refl
+    by_place later false q =
+        let other : a ≢ n + 1 = λ e. (let y = eq-eqb a (n + 1) e in cc) in
+        let before : ltb n a ≡ false = le-ltb n a (omega (arith, other, low)) in
+        let rest = later (omega (arith, other, low)) (omega (arith, high)) in
+        elim (is_open a t) as (λ b. next_above n (cond b (a ∷ filter (λ i. is_open i t) (range_with_len (a + 1) len)) (filter (λ i. is_open i t) (range_with_len (a + 1) len))) ≡ Some (n + 1)) [
+          | true ↦ rw before rest
+          | false ↦ rest
+        ]
+
+pub next_open_none : (t : List Move) (n a len : ℕ) → a + len ≤ n + 1 → next_above n (filter (λ i. is_open i t) (range_with_len a len)) ≡ None
+next_open_none t n a zero le = refl
+next_open_none t n a (suc len) le =
+    let before : ltb n a ≡ false = le-ltb n a (omega (arith, le)) in
+    let rest = next_open_none t n (a + 1) len (omega (arith, le)) in
+    elim (is_open a t) as (λ b. next_above n (cond b (a ∷ filter (λ i. is_open i t) (range_with_len (a + 1) len)) (filter (λ i. is_open i t) (range_with_len (a + 1) len))) ≡ None) [
+      | true ↦ rw before rest
+      | false ↦ rest
+    ]
+
+-- ---- what is left
+
+pub high_within : (p : Puzzle) (i : ℕ) → IsWithinLimits p → high_at p i ≤ 999999999
+high_within p i limits = by_item (numbered_get p.bounds i) refl
+  where
+    by_item : (o : Option Bounds) → numbered_get p.bounds i ≡ o → (unwrap_or (numbered_get p.bounds i) (record { low = 0; high = 0 })).high ≤ 999999999
+    by_item None e = rw e (omega arith)
+    by_item (Some b) e = rw e (at_number (λ (b : Bounds). b.high ≤ 999999999) p.bounds i b limits.bounds e)

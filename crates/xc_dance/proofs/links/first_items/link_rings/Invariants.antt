@@ -1,0 +1,6 @@
+use Rattle.std.proofs.Common.{◌≡◌}
+use Rattle.xc_dance.specs.Links.FirstItems.{linked_to}
+use Rattle.xc_dance.proofs.links.first_items.link_rings.Given as goal
+
+abbrev pub invariant-loop-i : goal.invariant-loop-i
+invariant-loop-i l = l.items ≡ linked_to l.table l.i

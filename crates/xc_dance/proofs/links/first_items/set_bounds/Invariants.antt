@@ -1,0 +1,6 @@
+use Rattle.std.proofs.Common.{◌≡◌, ◌+◌}
+use Rattle.xc_dance.specs.Links.FirstItems.{bound_to}
+use Rattle.xc_dance.proofs.links.first_items.set_bounds.Given as goal
+
+abbrev pub invariant-loop-i : goal.invariant-loop-i
+invariant-loop-i l = l.items ≡ bound_to l.table (l.i + 1)

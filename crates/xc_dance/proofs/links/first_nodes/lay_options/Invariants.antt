@@ -1,0 +1,13 @@
+use Rattle.std.proofs.Common.{◌≡◌}
+use Rattle.xc_dance.specs.Fields.{spacer}
+use Rattle.xc_dance.specs.Links.Cells.{fixed_up}
+use Rattle.xc_dance.specs.Links.OptionPlaces.{place_at}
+use Rattle.xc_dance.specs.Links.FirstNodes.{laid_to}
+use Rattle.xc_dance.proofs.links.first_nodes.lay_options.Given as goal
+
+abbrev pub invariant-loop-o : goal.invariant-loop-o
+invariant-loop-o l = record {
+  nodes : l.nodes ≡ laid_to l.table l.place;
+  place : l.place ≡ place_at l.table l.o;
+  above : l.above ≡ fixed_up l.table (spacer l.o);
+}

@@ -1,0 +1,89 @@
+use Rattle.std.proofs.Common.{arith, ◌≡◌, ◌≤◌, ◌<◌, ◌∙◌, ◌+◌, ap, sym, subst, length, take, get_or, Some, [], ℕ}
+use Rattle.std.specs.Prelude.{slice_get, slice_index}
+use Rattle.xc_input.specs.declared.problem.Use.{Use}
+use Rattle.xc_input.specs.Problem.{Puzzle, item_count, IsWithinLimits}
+use Rattle.xc_dance.specs.declared.links.nodes.Nodes.{Nodes}
+use Rattle.xc_dance.specs.Fields.{Node, unused, own, spacer, used, layout}
+use Rattle.xc_dance.specs.Links.Laid.{IsFit}
+use Rattle.xc_dance.specs.Links.Cells.{nodes_from, color_in}
+use Rattle.xc_dance.specs.Links.FirstNodes.{entered}
+use Rattle.xc_dance.proofs.LinkedTables.PlaceLemmas.{get_there}
+use Rattle.xc_dance.proofs.LinkedTables.HeldOptions.{lines_of}
+use Rattle.xc_dance.proofs.LinkedTables.EnteredNodes.{UseStep, use_step, spacer_step, spacer_top, behind_items}
+use Rattle.xc_dance.proofs.LinkedTables.LinkedFirst.{none_entered, all_entered}
+use Rattle.xc_dance.proofs.links.first_nodes.link_uses.Goals as goal
+use Rattle.xc_dance.proofs.links.first_nodes.link_uses.Goals.{then-get-lt-SPACER, else-get-lt-SPACER}
+
+abbrev so_far : Puzzle → ℕ → Nodes
+so_far p q = nodes_from p (lines_of (take q (layout p))) (color_in p [])
+
+-- the node at q is a use's where its TOP is small
+is_use : (p : Puzzle) (q : ℕ) (n : Node) → IsFit p → IsWithinLimits p → item_count p + 1 ≤ q → slice_get (layout p) q ≡ Some n → slice_index (so_far p q).top q < 2147483648 →
+    (o : ℕ) × (u : Use) × UseStep p (so_far p q) q o u
+is_use p q unused fit limits from e small = absurd (behind_items p q unused from e)
+is_use p q (own i) fit limits from e small = absurd (behind_items p q (own i) from e)
+is_use p q (spacer n) fit limits from e small = let top = spacer_top p (lines_of (take q (layout p))) (color_in p []) q n e in absurd (omega (arith, top, small))
+is_use p q (used o u) fit limits from e small = (o, u, use_step p q o u fit limits e)
+
+-- and a spacer's where it isn't
+is_spacer : (p : Puzzle) (q : ℕ) (n : Node) → IsFit p → IsWithinLimits p → item_count p + 1 ≤ q → slice_get (layout p) q ≡ Some n → (slice_index (so_far p q).top q < 2147483648 → ⊥) → so_far p q ≡ so_far p (q + 1)
+is_spacer p q unused fit limits from e large = absurd (behind_items p q unused from e)
+is_spacer p q (own i) fit limits from e large = absurd (behind_items p q (own i) from e)
+is_spacer p q (spacer n) fit limits from e large = spacer_step p q n e
+is_spacer p q (used o u) fit limits from e large = let s = use_step p q o u fit limits e in absurd (large (omega (arith, s.is_item, s.item_small)))
+
+pub loop-q-init : goal.loop-q-init
+loop-q-init c =
+    let p = c.args.table.now in
+    c.requires.before ∙ none_entered p ∙ ap (λ k. so_far p (k + 1)) (sym c.items-q.ensures.count)
+
+pub enter-requires-clause-item : goal.enter-requires-clause-item
+enter-requires-clause-item c =
+    let p = c.args.table.now in
+    let q = c.loop-q.q in
+    let n = get_or (layout p) q unused in
+    let at : slice_get (layout p) q ≡ Some n = get_there (layout p) q unused (omega (arith, c.loop-q-test.true, c.requires.count)) in
+    let top = ap (λ (t : Nodes). slice_index t.top q) c.loop-q.invariant in
+    let s = is_use p q n c.requires.fit c.requires.limits (omega (arith, c.loop-q.auto.q, c.items-q.ensures.count)) at (omega (arith, top, c.get.ensures, c.if-get-lt-SPACER.true)) in
+    subst (λ (t : Nodes). slice_index t.top q < length t.top) (sym c.loop-q.invariant) s.2.item
+
+pub enter-requires-clause-last : goal.enter-requires-clause-last
+enter-requires-clause-last c =
+    let p = c.args.table.now in
+    let q = c.loop-q.q in
+    let n = get_or (layout p) q unused in
+    let at : slice_get (layout p) q ≡ Some n = get_there (layout p) q unused (omega (arith, c.loop-q-test.true, c.requires.count)) in
+    let top = ap (λ (t : Nodes). slice_index t.top q) c.loop-q.invariant in
+    let s = is_use p q n c.requires.fit c.requires.limits (omega (arith, c.loop-q.auto.q, c.items-q.ensures.count)) at (omega (arith, top, c.get.ensures, c.if-get-lt-SPACER.true)) in
+    subst (λ (t : Nodes). slice_index t.ulink (slice_index t.top q) < length t.top) (sym c.loop-q.invariant) s.2.last
+
+pub enter-requires-clause-few : goal.enter-requires-clause-few
+enter-requires-clause-few c =
+    let p = c.args.table.now in
+    let q = c.loop-q.q in
+    let n = get_or (layout p) q unused in
+    let at : slice_get (layout p) q ≡ Some n = get_there (layout p) q unused (omega (arith, c.loop-q-test.true, c.requires.count)) in
+    let top = ap (λ (t : Nodes). slice_index t.top q) c.loop-q.invariant in
+    let s = is_use p q n c.requires.fit c.requires.limits (omega (arith, c.loop-q.auto.q, c.items-q.ensures.count)) at (omega (arith, top, c.get.ensures, c.if-get-lt-SPACER.true)) in
+    subst (λ (t : Nodes). slice_index t.top (slice_index t.top q) < 2147483648) (sym c.loop-q.invariant) s.2.few
+
+pub loop-q-preserved : goal.loop-q-preserved
+loop-q-preserved c =
+    let p = c.args.table.now in
+    let q = c.loop-q.q in
+    let n = get_or (layout p) q unused in
+    let at : slice_get (layout p) q ≡ Some n = get_there (layout p) q unused (omega (arith, c.loop-q-test.true, c.requires.count)) in
+    let from : item_count p + 1 ≤ q = omega (arith, c.loop-q.auto.q, c.items-q.ensures.count) in
+    let top = ap (λ (t : Nodes). slice_index t.top q) c.loop-q.invariant in
+    elim c.if-get-lt-SPACER.branch [
+      | then-get-lt-SPACER w ↦
+          (let s = is_use p q n c.requires.fit c.requires.limits from at (omega (arith, top, c.get.ensures, w.if-get-lt-SPACER)) in
+          w.nodes-is ∙ w.enter.ensures ∙ ap (λ (t : Nodes). entered t q) c.loop-q.invariant ∙ s.2.done)
+      | else-get-lt-SPACER w ↦
+          w.nodes-is ∙ c.loop-q.invariant ∙ is_spacer p q n c.requires.fit c.requires.limits from at (λ small. omega (arith, top, c.get.ensures, w.if-get-lt-SPACER, small))
+    ]
+
+pub returns : goal.returns
+returns c =
+    let p = c.args.table.now in
+    c.loop-q.invariant ∙ all_entered p c.loop-q.q c.requires.fit (omega (arith, c.loop-q-test.false, c.requires.count))

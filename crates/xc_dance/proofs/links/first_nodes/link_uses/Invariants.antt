@@ -1,0 +1,9 @@
+use Rattle.std.proofs.Common.{◌≡◌, [], take}
+use Rattle.xc_dance.specs.Fields.{layout}
+use Rattle.xc_dance.specs.Links.Cells.{nodes_from, color_in}
+use Rattle.xc_dance.proofs.LinkedTables.HeldOptions.{lines_of}
+use Rattle.xc_dance.proofs.links.first_nodes.link_uses.Given as goal
+
+-- the uses' nodes so far stand in their lists
+abbrev pub invariant-loop-q : goal.invariant-loop-q
+invariant-loop-q l = l.nodes ≡ nodes_from l.table (lines_of (take l.q (layout l.table))) (color_in l.table [])

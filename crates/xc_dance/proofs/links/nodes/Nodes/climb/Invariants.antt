@@ -1,0 +1,16 @@
+use Rattle.std.proofs.Common.{◌≡◌, ◌+◌, ◌*◌, ◌^◌, ◌≤◌, drop, fold}
+use Rattle.xc_dance.specs.Links.Steps.{followed}
+use Rattle.xc_dance.specs.Links.TweaksBack.{climbed, IsClimb, climb_costs}
+use Rattle.xc_dance.proofs.links.nodes.Nodes.climb.Given as goal
+
+-- what is left of the nodes leads to the same end
+abbrev pub invariant-loop : goal.invariant-loop
+invariant-loop l =
+    let xs = followed l.fn.self.dlink l.k l.x in
+    record {
+      walk : IsClimb l.spans l.covered l.self l.p (drop l.counter xs);
+      done : fold (climbed l.spans l.covered) l.self (drop l.counter xs) ≡ fold (climbed l.spans l.covered) l.initial.self xs;
+      cost : l.count + climb_costs l.spans l.covered l.self (drop l.counter xs) ≡ climb_costs l.spans l.covered l.initial.self xs;
+      counted : l.writes.count ≡ l.initial.writes.count + l.count;
+      few : l.count ≤ (3 * 2 ^ 32 + 1) * l.counter;
+    }

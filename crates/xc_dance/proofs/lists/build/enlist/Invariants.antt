@@ -1,0 +1,7 @@
+use Rattle.std.proofs.Common.{◌≡◌, take}
+use Rattle.xc_dance.specs.Lists.Taking.{numbers_of}
+use Rattle.xc_dance.specs.Lists.Losing.{enlisted}
+use Rattle.xc_dance.proofs.lists.build.enlist.Given as goal
+
+abbrev pub invariant-loop-u : goal.invariant-loop-u
+invariant-loop-u l = numbers_of l.lists.items ≡ enlisted (take l.u-index l.uses) l.option (numbers_of l.initial.lists.items)

@@ -1,0 +1,32 @@
+-- The item table after moves.
+use Rattle.std.specs.Prelude.{ℕ, ◌+◌, ◌-◌, ◌==◌, nat_le, List, map, if◌then◌else◌}
+use Rattle.std.specs.List.{range_with_len}
+use Rattle.xc_dance.specs.declared.dance.Move.{Move}
+use Rattle.xc_dance.specs.declared.links.items.Items.{Items}
+use Rattle.xc_input.specs.Problem.{Puzzle, primary_count, item_count, low_at, high_at}
+use Rattle.xc_dance.specs.Moves.{spends}
+use Rattle.xc_dance.specs.Fields.{ring_of, left_of, right_of, first_of, last_of}
+
+abbrev pub llink_at : Puzzle → List Move → ℕ → ℕ
+llink_at p t q =
+    if q == 0 then last_of 0 (ring_of p t 0)
+    else (if nat_le q (item_count p) then left_of p t q else last_of (item_count p + 1) (ring_of p t (primary_count p + 1)))
+
+abbrev pub rlink_at : Puzzle → List Move → ℕ → ℕ
+rlink_at p t q =
+    if q == 0 then first_of 0 (ring_of p t 0)
+    else (if nat_le q (item_count p) then right_of p t q else first_of (item_count p + 1) (ring_of p t (primary_count p + 1)))
+
+abbrev pub bound_at : Puzzle → List Move → ℕ → ℕ
+bound_at p t q = if q == 0 then 0 else high_at p q - spends q t
+
+abbrev pub slack_at : Puzzle → ℕ → ℕ
+slack_at p q = if q == 0 then 0 else high_at p q - low_at p q
+
+abbrev pub items_after : Puzzle → List Move → Items
+items_after p t = record {
+  llink = map (llink_at p t) (range_with_len 0 (item_count p + 2));
+  rlink = map (rlink_at p t) (range_with_len 0 (item_count p + 2));
+  bound = map (bound_at p t) (range_with_len 0 (primary_count p + 1));
+  slack = map (slack_at p) (range_with_len 0 (primary_count p + 1));
+}

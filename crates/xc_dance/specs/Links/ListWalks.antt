@@ -1,0 +1,89 @@
+-- A walk over a list, which may keep the nodes of one colour.
+use Rattle.std.specs.Prelude.{Bool, false, Option, Some, None, ℕ, ◌+◌, ◌-◌, ◌<◌, ◌≡◌, ◌≢◌, ◌==◌, List, [], ◌∷◌, ◌++◌, length, slice_index, slice_set, if◌then◌else◌, fold, ◌^◌, reverse}
+use Rattle.std.proofs.Common.{zero, suc, get_or}
+use Rattle.std.specs.List.{range_with_len}
+use Rattle.xc_dance.specs.declared.links.nodes.Nodes.{Nodes}
+use Rattle.xc_dance.specs.declared.links.nodes.Span.{Span}
+use Rattle.xc_dance.specs.Links.Steps.{HasSize, hidden, hide_costs, CanHideAll, CanShowAll, show_costs, others_of, hidden_node, list_of, shown_node, list_back}
+
+-- node q has this colour now
+abbrev pub with_colour : Nodes → ℕ → ℕ → Nodes
+with_colour t q v = record { top = t.top; ulink = t.ulink; dlink = t.dlink; color = slice_set t.color q v }
+
+-- the colour is the one that is kept
+abbrev pub is_kept_colour : Option ℕ → ℕ → Bool
+is_kept_colour None v = false
+is_kept_colour (Some c) v = v == c
+
+-- the node was marked in place of being hidden
+abbrev pub is_kept_mark : Option ℕ → ℕ → Bool
+is_kept_mark None v = false
+is_kept_mark (Some c) v = v == 4294967295
+
+abbrev pub kept_colour : Option ℕ → ℕ
+kept_colour None = 0
+kept_colour (Some c) = c
+
+-- one step down: a node of the colour kept is marked, any other one hidden
+abbrev pub left_node : List Span → Option ℕ → Nodes → ℕ → Nodes
+left_node spans keep t p = if is_kept_colour keep (slice_index t.color p) then with_colour t p 4294967295 else hidden_node spans t p
+
+abbrev pub leave_cost : List Span → Option ℕ → Nodes → ℕ → ℕ
+leave_cost spans keep t p = if is_kept_colour keep (slice_index t.color p) then 1 else hide_costs t (others_of spans p)
+
+-- one step up: a marked node gets its colour back, any other one is unhidden
+abbrev pub back_node : List Span → Option ℕ → Nodes → ℕ → Nodes
+back_node spans keep t p = if is_kept_mark keep (slice_index t.color p) then with_colour t p (kept_colour keep) else shown_node spans t p
+
+abbrev pub back_cost : List Span → Option ℕ → Nodes → ℕ → ℕ
+back_cost spans keep t p = if is_kept_mark keep (slice_index t.color p) then 1 else show_costs t (reverse (others_of spans p))
+
+-- a step down may be made at p
+pub record CanLeave (spans : List Span) (keep : Option ℕ) (t : Nodes) (p : ℕ) : Type 0 where
+  pub span : p < length spans
+  pub place : p < length t.color
+  pub hide : is_kept_colour keep (slice_index t.color p) ≡ false → CanHideAll t (others_of spans p)
+
+-- a step up may be made at p
+pub record CanReturn (spans : List Span) (keep : Option ℕ) (t : Nodes) (p : ℕ) : Type 0 where
+  pub span : p < length spans
+  pub place : p < length t.color
+  pub show : is_kept_mark keep (slice_index t.color p) ≡ false → CanShowAll t (reverse (others_of spans p))
+
+-- steps down can be made at the nodes ps one after another, and each is where the one before leads to
+abbrev pub IsWalk : List Span → Option ℕ → Nodes → ℕ → List ℕ → Type 0
+IsWalk spans keep t p [] = Unit {0}
+IsWalk spans keep t p (x ∷ xs) =
+    (p ≡ x) × CanLeave spans keep t x × (x < length (left_node spans keep t x).dlink)
+    × IsWalk spans keep (left_node spans keep t x) (slice_index (left_node spans keep t x).dlink x) xs
+
+-- what that writes
+abbrev pub walk_costs : List Span → Option ℕ → Nodes → List ℕ → ℕ
+walk_costs spans keep t [] = 0
+walk_costs spans keep t (x ∷ xs) = leave_cost spans keep t x + walk_costs spans keep (left_node spans keep t x) xs
+
+-- steps up can be made at the nodes ps one after another, and each is where the one before leads to
+abbrev pub IsWalkBack : List Span → Option ℕ → Nodes → ℕ → List ℕ → Type 0
+IsWalkBack spans keep t p [] = Unit {0}
+IsWalkBack spans keep t p (x ∷ xs) =
+    (p ≡ x) × CanReturn spans keep t x × (x < length (back_node spans keep t x).ulink)
+    × IsWalkBack spans keep (back_node spans keep t x) (slice_index (back_node spans keep t x).ulink x) xs
+
+-- what that writes
+abbrev pub back_costs : List Span → Option ℕ → Nodes → List ℕ → ℕ
+back_costs spans keep t [] = 0
+back_costs spans keep t (x ∷ xs) = back_cost spans keep t x + back_costs spans keep (back_node spans keep t x) xs
+
+-- a walk down item i's list may be made
+pub record CanHideList (spans : List Span) (keep : Option ℕ) (t : Nodes) (i : ℕ) : Type 0 where
+  pub place : i < length t.top
+  pub size : HasSize t (length t.top)
+  pub few : slice_index t.top i < 2 ^ 30
+  pub walk : IsWalk spans keep t (slice_index t.dlink i) (list_of t i)
+
+-- a walk up item i's list may be made
+pub record CanShowList (spans : List Span) (keep : Option ℕ) (t : Nodes) (i : ℕ) : Type 0 where
+  pub place : i < length t.top
+  pub size : HasSize t (length t.top)
+  pub few : slice_index t.top i < 2 ^ 30
+  pub walk : IsWalkBack spans keep t (slice_index t.ulink i) (list_back t i)

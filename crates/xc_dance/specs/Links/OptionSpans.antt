@@ -1,0 +1,22 @@
+-- Where the option of each node stands in the node table.
+use Rattle.std.specs.Prelude.{ℕ, ◌+◌, ◌-◌, List, map, take}
+use Rattle.xc_dance.specs.declared.links.nodes.Span.{Span}
+use Rattle.xc_input.specs.Problem.{Puzzle}
+use Rattle.xc_dance.specs.Fields.{Node, unused, own, spacer, used, layout, spacer_place}
+
+abbrev pub no_span : Span
+no_span = record { first = 0; end = 0 }
+
+-- from behind one spacer to the next, for a use
+abbrev pub span_of : Puzzle → Node → Span
+span_of p unused = no_span
+span_of p (own i) = no_span
+span_of p (spacer n) = no_span
+span_of p (used o u) = record { first = spacer_place p (o - 1) + 1; end = spacer_place p o }
+
+abbrev pub spans_of : Puzzle → List Span
+spans_of p = map (span_of p) (layout p)
+
+-- those of the first k nodes
+abbrev pub spans_to : Puzzle → ℕ → List Span
+spans_to p k = map (span_of p) (take k (layout p))

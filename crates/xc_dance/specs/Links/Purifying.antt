@@ -1,0 +1,23 @@
+-- Purify on the node table.
+use Rattle.std.specs.Prelude.{Bool, false, Option, Some, None, ℕ, ◌+◌, ◌-◌, ◌<◌, ◌≡◌, ◌≢◌, ◌==◌, List, [], ◌∷◌, ◌++◌, length, slice_index, slice_set, if◌then◌else◌, fold, ◌^◌, reverse}
+use Rattle.std.proofs.Common.{zero, suc, get_or}
+use Rattle.std.specs.List.{range_with_len}
+use Rattle.xc_dance.specs.declared.links.nodes.Nodes.{Nodes}
+use Rattle.xc_dance.specs.declared.links.nodes.Span.{Span}
+use Rattle.xc_dance.specs.Links.Steps.{list_of, list_back}
+use Rattle.xc_dance.specs.Links.ListWalks.{with_colour, left_node, back_node, CanHideList, CanShowList}
+
+-- item i is purified with colour c
+abbrev pub purified_list : List Span → ℕ → Nodes → ℕ → Nodes
+purified_list spans c t i = fold (left_node spans (Some c)) (with_colour t i c) (list_of t i)
+
+abbrev pub unpurified_list : List Span → ℕ → Nodes → ℕ → Nodes
+unpurified_list spans c t i = with_colour (fold (back_node spans (Some c)) t (list_back t i)) i 0
+
+pub record CanPurify (spans : List Span) (c : ℕ) (t : Nodes) (i : ℕ) : Type 0 where
+  pub place : i < length t.color
+  pub walk : CanHideList spans (Some c) (with_colour t i c) i
+
+pub record CanUnpurify (spans : List Span) (c : ℕ) (t : Nodes) (i : ℕ) : Type 0 where
+  pub walk : CanShowList spans (Some c) t i
+  pub place : i < length (fold (back_node spans (Some c)) t (list_back t i)).color

@@ -1,0 +1,119 @@
+-- One step of a walk over the node table, and the walk round one option.
+use Rattle.std.specs.Prelude.{Bool, false, Option, Some, None, ℕ, ◌+◌, ◌-◌, ◌<◌, ◌≡◌, ◌≢◌, ◌==◌, List, [], ◌∷◌, ◌++◌, length, slice_index, slice_set, if◌then◌else◌, fold, ◌^◌, reverse}
+use Rattle.std.proofs.Common.{zero, suc, get_or}
+use Rattle.std.specs.List.{range_with_len}
+use Rattle.xc_dance.specs.declared.links.nodes.Nodes.{Nodes}
+use Rattle.xc_dance.specs.declared.links.nodes.Span.{Span}
+
+-- all columns have n cells
+pub record HasSize (t : Nodes) (n : ℕ) : Type 0 where
+  pub top : length t.top ≡ n
+  pub ulink : length t.ulink ≡ n
+  pub dlink : length t.dlink ≡ n
+  pub color : length t.color ≡ n
+
+-- the places that q names are in the table
+pub record NamesPlaces (t : Nodes) (q : ℕ) : Type 0 where
+  pub place : q < length t.top
+  pub top : slice_index t.top q < length t.top
+  pub above : slice_index t.ulink q < length t.top
+  pub below : slice_index t.dlink q < length t.top
+
+-- node q leaves its list
+abbrev pub unlinked : Nodes → ℕ → Nodes
+unlinked t q =
+    let u = slice_index t.ulink q in let d = slice_index t.dlink q in let i = slice_index t.top q in
+    record { top = slice_set t.top i (slice_index t.top i - 1); ulink = slice_set t.ulink d u; dlink = slice_set t.dlink u d; color = t.color }
+
+-- node q goes back into its list
+abbrev pub relinked : Nodes → ℕ → Nodes
+relinked t q =
+    let u = slice_index t.ulink q in let d = slice_index t.dlink q in let i = slice_index t.top q in
+    record { top = slice_set t.top i (slice_index t.top i + 1); ulink = slice_set t.ulink d q; dlink = slice_set t.dlink u q; color = t.color }
+
+-- a step of hide at node q, which passes over a marked node
+abbrev pub hidden : Nodes → ℕ → Nodes
+hidden t q = if slice_index t.color q == 4294967295 then t else unlinked t q
+
+-- what a step of hide writes
+abbrev pub hide_cost : Nodes → ℕ → ℕ
+hide_cost t q = if slice_index t.color q == 4294967295 then 0 else 3
+
+-- what a walk of hide writes
+abbrev pub hide_costs : Nodes → List ℕ → ℕ
+hide_costs t [] = 0
+hide_costs t (q ∷ qs) = hide_cost t q + hide_costs (hidden t q) qs
+
+-- a step of hide may be made at q
+pub record CanHide (t : Nodes) (q : ℕ) : Type 0 where
+  pub size : HasSize t (length t.top)
+  pub place : q < length t.top
+  pub places : slice_index t.color q ≢ 4294967295 → NamesPlaces t q
+  pub some : slice_index t.color q ≢ 4294967295 → 0 < slice_index t.top (slice_index t.top q)
+
+-- a walk of hide may be made, each step at what the one before left
+abbrev pub CanHideAll : Nodes → List ℕ → Type 0
+CanHideAll t [] = Unit {0}
+CanHideAll t (q ∷ qs) = CanHide t q × CanHideAll (hidden t q) qs
+
+-- the places from a to below b
+abbrev pub places : ℕ → ℕ → List ℕ
+places a b = range_with_len a (b - a)
+
+-- the other nodes of the option that stands from first to below end, cyclically from behind p
+abbrev pub others : ℕ → ℕ → ℕ → List ℕ
+others p first end = places (p + 1) end ++ places first p
+
+-- a step of unhide at node q, which passes over a marked node
+abbrev pub shown : Nodes → ℕ → Nodes
+shown t q = if slice_index t.color q == 4294967295 then t else relinked t q
+
+-- node q stands in its list: its neighbours name it, and its list counts it
+pub record IsLinked (t : Nodes) (q : ℕ) : Type 0 where
+  pub above : slice_index t.dlink (slice_index t.ulink q) ≡ q
+  pub below : slice_index t.ulink (slice_index t.dlink q) ≡ q
+  pub top : slice_index t.top q < length t.top
+  pub other : slice_index t.top q ≢ q
+  pub some : 0 < slice_index t.top (slice_index t.top q)
+
+-- a step of unhide may be made at q
+pub record CanShow (t : Nodes) (q : ℕ) : Type 0 where
+  pub size : HasSize t (length t.top)
+  pub place : q < length t.top
+  pub places : slice_index t.color q ≢ 4294967295 → NamesPlaces t q
+  pub few : slice_index t.color q ≢ 4294967295 → slice_index t.top (slice_index t.top q) < 2 ^ 31
+
+-- a walk of unhide may be made, each step at what the one before left
+abbrev pub CanShowAll : Nodes → List ℕ → Type 0
+CanShowAll t [] = Unit {0}
+CanShowAll t (q ∷ qs) = CanShow t q × CanShowAll (shown t q) qs
+
+-- what a walk of unhide writes
+abbrev pub show_costs : Nodes → List ℕ → ℕ
+show_costs t [] = 0
+show_costs t (q ∷ qs) = hide_cost t q + show_costs (shown t q) qs
+
+-- the other nodes of p's option
+abbrev pub others_of : List Span → ℕ → List ℕ
+others_of spans p = let s = get_or spans p (record { first = 0; end = 0 }) in others p s.first s.end
+
+-- hide(p)
+abbrev pub hidden_node : List Span → Nodes → ℕ → Nodes
+hidden_node spans t p = fold hidden t (others_of spans p)
+
+-- n nodes from p downwards
+abbrev pub followed : List ℕ → ℕ → ℕ → List ℕ
+followed dlink zero p = []
+followed dlink (suc n) p = p ∷ followed dlink n (slice_index dlink p)
+
+-- the nodes of i's list, by its links and its length
+abbrev pub list_of : Nodes → ℕ → List ℕ
+list_of t i = followed t.dlink (slice_index t.top i) (slice_index t.dlink i)
+
+-- unhide(p)
+abbrev pub shown_node : List Span → Nodes → ℕ → Nodes
+shown_node spans t p = fold shown t (reverse (others_of spans p))
+
+-- the nodes of i's list from bottom to top, by its links and its length
+abbrev pub list_back : Nodes → ℕ → List ℕ
+list_back t i = followed t.ulink (slice_index t.top i) (slice_index t.ulink i)

@@ -1,0 +1,45 @@
+-- Tweak on the node table.
+use Rattle.std.specs.Prelude.{Bool, false, Option, Some, None, ℕ, ◌+◌, ◌-◌, ◌<◌, ◌≡◌, ◌≢◌, ◌==◌, List, [], ◌∷◌, ◌++◌, length, slice_index, slice_set, if◌then◌else◌, fold, ◌^◌, reverse}
+use Rattle.std.proofs.Common.{zero, suc, get_or}
+use Rattle.std.specs.List.{range_with_len}
+use Rattle.xc_dance.specs.declared.links.nodes.Nodes.{Nodes}
+use Rattle.xc_dance.specs.declared.links.nodes.Span.{Span}
+use Rattle.xc_dance.specs.Links.Steps.{HasSize, NamesPlaces, unlinked, relinked, hidden, hide_costs, CanHideAll, CanShowAll, show_costs, others_of, hidden_node, shown_node}
+
+-- where item i isn't covered, the option of node x is hidden first
+abbrev pub hidden_unless : List Span → Bool → Nodes → ℕ → Nodes
+hidden_unless spans covered t x = if covered then t else hidden_node spans t x
+
+abbrev pub shown_unless : List Span → Bool → Nodes → ℕ → Nodes
+shown_unless spans covered t x = if covered then t else shown_node spans t x
+
+-- the first node of item i's list leaves it
+abbrev pub tweaked : List Span → Bool → Nodes → ℕ → Nodes
+tweaked spans covered t i = unlinked (hidden_unless spans covered t (slice_index t.dlink i)) (slice_index t.dlink i)
+
+-- node x comes back
+abbrev pub untweaked : List Span → Bool → Nodes → ℕ → Nodes
+untweaked spans covered t x = shown_unless spans covered (relinked t x) x
+
+abbrev pub tweak_cost : List Span → Bool → Nodes → ℕ → ℕ
+tweak_cost spans covered t i = 3 + (if covered then 0 else hide_costs t (others_of spans (slice_index t.dlink i)))
+
+abbrev pub untweak_cost : List Span → Bool → Nodes → ℕ → ℕ
+untweak_cost spans covered t x = 3 + (if covered then 0 else show_costs (relinked t x) (reverse (others_of spans x)))
+
+-- it may, node x being the first
+pub record CanTweakAt (spans : List Span) (covered : Bool) (t : Nodes) (i x : ℕ) : Type 0 where
+  pub place : i < length t.dlink
+  pub hide : covered ≡ false → (x < length spans) × CanHideAll t (others_of spans x)
+  pub size : HasSize (hidden_unless spans covered t x) (length (hidden_unless spans covered t x).top)
+  pub names : NamesPlaces (hidden_unless spans covered t x) x
+  pub some : 0 < slice_index (hidden_unless spans covered t x).top (slice_index (hidden_unless spans covered t x).top x)
+
+abbrev pub CanTweak : List Span → Bool → Nodes → ℕ → Type 0
+CanTweak spans covered t i = CanTweakAt spans covered t i (slice_index t.dlink i)
+
+pub record CanUntweak (spans : List Span) (covered : Bool) (t : Nodes) (x : ℕ) : Type 0 where
+  pub size : HasSize t (length t.top)
+  pub names : NamesPlaces t x
+  pub few : slice_index t.top (slice_index t.top x) < 2 ^ 31
+  pub show : covered ≡ false → (x < length spans) × CanShowAll (relinked t x) (reverse (others_of spans x))

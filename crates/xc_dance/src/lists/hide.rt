@@ -1,0 +1,108 @@
+//! What a move takes out of the lists.
+ghost use Rattle.std.specs.Prelude.{◌≡◌, ◌-◌, ◌<◌, ◌≤◌, ◌==◌, ◌&&◌, not, [], ◌∷◌, length, filter, if◌then◌else◌};
+ghost use Rattle.xc_input.specs.Problem.{IsItem, option_count, colour_in};
+ghost use Rattle.xc_dance.specs.Moves.{IsLegal, is_open, is_other_colour};
+ghost use Rattle.xc_dance.specs.Lists.Taking.{list_at};
+ghost use Rattle.xc_dance.specs.Lists.Losing.{lose, is_kept, AreLists, lists_after};
+
+use crate::Move;
+use crate::lists::standing::Standing;
+use crate::lists::undo_log::Live;
+use crate::table::Table;
+use xc_input::Use;
+
+/// Takes out of the lists what the move takes out.
+pub(crate) fn shorten(standing: &Standing, live: &mut Live, m: Move)
+    requires legal { IsLegal standing.now.problem standing.now.trail m }
+    requires lists { live.old.lists ≡ lists_after standing.now.problem standing.now.trail }
+    ensures { live.new ≡ record live.old { lists = lists_after standing.now.problem (m ∷ standing.now.trail) } }
+{
+    match m {
+        Move::Cover(item) => hide_list(standing, live, item, None),
+        Move::Purify(item, colour) => hide_list(standing, live, item, Some(colour)),
+        Move::Tweak(item) => tweak(standing, live, item),
+        Move::Spend(_) => {}
+    }
+}
+
+/// Takes off the first option of the item's list.
+fn tweak(standing: &Standing, live: &mut Live, item: u32)
+    requires item { IsItem standing.now.problem item }
+    requires lists { live.old.lists ≡ lists_after standing.now.problem standing.now.trail }
+    requires option { 0 < length (list_at live.old.lists (item - 1)) }
+    ensures { live.new ≡ record live.old { lists = lists_after standing.now.problem (Move.Tweak item ∷ standing.now.trail) } }
+{
+    let first = live.list(item - 1)[0];
+    hide_if_open(standing, live, item, first);
+    live.take_out(item - 1, first);
+}
+
+/// Every open item but `item` loses the options of `item`'s list, but those that give it the
+/// colour kept.
+fn hide_list(standing: &Standing, live: &mut Live, item: u32, kept: Option<u32>)
+    requires item { IsItem standing.now.problem item }
+    requires lists { AreLists standing.now.problem live.old.lists }
+    ensures { live.new ≡ record live.old { lists = lose standing.now.trail item (filter (λ o. not (is_kept standing.now.problem item kept o)) (list_at live.old.lists (item - 1))) live.old.lists } }
+{
+    for at in 0..live.list(item - 1).len() {
+        let option = live.list(item - 1)[at];
+        if !keeps(standing.table(), item, kept, option) {
+            hide(standing, live, item, option);
+        }
+    }
+}
+
+/// Every open item but `item` loses the option.
+fn hide(standing: &Standing, live: &mut Live, item: u32, option: u32)
+    requires option { (1 ≤ option) × (option ≤ option_count standing.now.problem) }
+    requires lists { AreLists standing.now.problem live.old.lists }
+    ensures { live.new ≡ record live.old { lists = lose standing.now.trail item (option ∷ []) live.old.lists } }
+{
+    for u in standing.table().uses(option) {
+        if loses(standing, u.item, item) {
+            live.take_out(u.item - 1, option);
+        }
+    }
+}
+
+/// Every other open item loses the option, if `item` is open.
+fn hide_if_open(standing: &Standing, live: &mut Live, item: u32, option: u32)
+    requires item { IsItem standing.now.problem item }
+    requires option { (1 ≤ option) × (option ≤ option_count standing.now.problem) }
+    requires lists { AreLists standing.now.problem live.old.lists }
+    ensures { live.new ≡ record live.old { lists = if is_open item standing.now.trail then lose standing.now.trail item (option ∷ []) live.old.lists else live.old.lists } }
+{
+    if standing.is_open(item) {
+        hide(standing, live, item, option);
+    }
+}
+
+/// Whether the item loses the options that are hidden from `hider` on.
+fn loses(standing: &Standing, item: u32, hider: u32) -> bool
+    requires { IsItem standing.now.problem item }
+    ensures { result ≡ (not (item == hider) && is_open item standing.now.trail) }
+{
+    item != hider && standing.is_open(item)
+}
+
+/// Whether the option gives the item the colour kept.
+fn keeps(table: &Table, item: u32, kept: Option<u32>, option: u32) -> bool
+    requires { (1 ≤ option) × (option ≤ option_count table.now) }
+    ensures { result ≡ is_kept table.now item kept option }
+{
+    match kept {
+        Some(colour) => has_colour(table.uses(option), item, colour),
+        None => false,
+    }
+}
+
+fn has_colour(uses: &[Use], item: u32, colour: u32) -> bool
+    ensures { result ≡ not (is_other_colour colour (colour_in uses.now item)) }
+{
+    for u in uses {
+        if u.item == item {
+            return u.colour == colour;
+        }
+    }
+    false
+}

@@ -1,0 +1,170 @@
+//! Lists of option numbers that can go back to how they were.
+ghost use Rattle.std.specs.Prelude.{◌≡◌, ◌+◌, ◌<◌, [], ◌∷◌, length, reverse, slice_index, slice_set, sum_by, vec_capacity, IfOk, IfSome, IsNone, MatchOption};
+ghost use Rattle.xc_dance.specs.Rising.{Rises};
+ghost use Rattle.xc_dance.specs.Lists.Taking.{numbers_of, rooms_of, list_at, less, put_back, restored, still_taken, HasRoom, IsPutBack, Fits};
+
+use std::alloc::{AllocError, Global};
+use std::marker::Model;
+
+/// A number that was taken out of a list, and the place where it stood.
+#[derive(Clone, Copy)]
+struct Taken {
+    place: usize,
+    list: u32,
+    number: u32,
+}
+
+/// Lists of option numbers, which are told by their places from 0 on. They lose numbers, and can
+/// go back to how they were at each mark.
+#[derive(Drop)]
+pub(crate) struct Live {
+    lists: Vec<Vec<u32>>,
+    /// What was taken out, the newest last.
+    taken: Vec<Taken>,
+    /// How much was taken out at each mark.
+    marks: Vec<usize>,
+    room: usize,
+}
+
+impl Model for Live {
+    ghost use Rattle.std.specs.Prelude.{◌≤◌, ◌+◌, length, reverse, sum_by, vec_capacity};
+    ghost use Rattle.xc_dance.specs.Lists.Versions.{Versions};
+    ghost use Rattle.xc_dance.specs.Lists.Taking.{lists_at_marks, Fits, AreMarks, numbers_of, rooms_of};
+
+    ghost Value = { Versions };
+
+    ghost view = { λ a. record {
+      lists = numbers_of a.lists.items;
+      marked = lists_at_marks (reverse a.marks.items) (reverse a.taken.items) (numbers_of a.lists.items);
+      room = a.room;
+    } };
+
+    ghost invariant = { λ a. record {
+      fits : Fits (rooms_of a.lists.items) (reverse a.taken.items) (numbers_of a.lists.items);
+      marks : AreMarks (reverse a.marks.items) (length a.taken.items);
+      few : length a.marks.items ≤ a.room;
+      room_to_mark : a.room ≤ vec_capacity a.marks;
+      room_to_take : length a.taken.items + sum_by length (numbers_of a.lists.items) ≤ vec_capacity a.taken;
+    } };
+}
+
+impl Live {
+    /// These lists, with no mark and room for `room` marks. No later call takes memory.
+    pub(crate) fn new(alloc: Global, lists: Vec<Vec<u32>>, room: usize) -> Result<Live, AllocError>
+        ensures { IfOk result (λ v. v ≡ record { lists = numbers_of lists.items; marked = []; room = room }) }
+    {
+        let numbers = total(&lists).ok_or(AllocError)?;
+        let taken = Vec::with_capacity(alloc, numbers)?;
+        let marks = Vec::with_capacity(alloc, room)?;
+        Ok(Live {
+            lists,
+            taken,
+            marks,
+            room,
+        })
+    }
+
+    pub(crate) fn list(&self, list: u32) -> &[u32]
+        requires { list < length self.now.lists }
+        ensures { result.now ≡ list_at self.now.lists list }
+    {
+        self.lists[list as usize].as_slice()
+    }
+
+    /// Keeps the lists as they are for `undo`.
+    pub(crate) fn mark(&mut self)
+        requires { length self.old.marked < self.old.room }
+        ensures { self.new ≡ record self.old { marked = self.old.lists ∷ self.old.marked } }
+    {
+        self.marks.push_reserved(self.taken.len());
+    }
+
+    /// Takes the number out of the list, if it is there.
+    pub(crate) fn take_out(&mut self, list: u32, number: u32)
+        requires list { list < length self.old.lists }
+        requires rises { Rises 0 (list_at self.old.lists list) }
+        ensures { self.new ≡ record self.old { lists = slice_set self.old.lists list (less (number ∷ []) (list_at self.old.lists list)) } }
+    {
+        if let Some(place) = remove(&mut self.lists, list, number) {
+            self.taken.push_reserved(Taken {
+                place,
+                list,
+                number,
+            });
+        }
+    }
+
+    /// Takes off the newest mark, and the lists are as they were at it.
+    pub(crate) fn undo(&mut self)
+        requires { 0 < length self.old.marked }
+        ensures lists { self.old.marked ≡ self.new.lists ∷ self.new.marked }
+        ensures room { self.new.room ≡ self.old.room }
+    {
+        if let Some(mark) = self.marks.pop() {
+            restore(&mut self.lists, &mut self.taken, mark);
+        }
+    }
+}
+
+/// How many numbers there are, if a `usize` can tell.
+fn total(lists: &[Vec<u32>]) -> Option<usize>
+    ensures { IfSome result (λ n. n ≡ sum_by length (numbers_of lists.now)) }
+{
+    let mut numbers: usize = 0;
+    for list in lists {
+        numbers = numbers.checked_add(list.len())?;
+    }
+    Some(numbers)
+}
+
+/// Takes the number out of the list, if it is there, and tells the place where it stood.
+fn remove(lists: &mut Vec<Vec<u32>>, list: u32, number: u32) -> Option<usize>
+    requires list { list < length lists.old.items }
+    requires rises { Rises 0 (list_at (numbers_of lists.old.items) list) }
+    ensures lists { numbers_of lists.new.items ≡ slice_set (numbers_of lists.old.items) list (less (number ∷ []) (list_at (numbers_of lists.old.items) list)) }
+    ensures rooms { rooms_of lists.new.items ≡ rooms_of lists.old.items }
+    ensures none { IsNone result → numbers_of lists.new.items ≡ numbers_of lists.old.items }
+    ensures back { IfSome result (λ place. IsPutBack (rooms_of lists.old.items) (record { place = place; list = list; number = number }) (numbers_of lists.new.items) (numbers_of lists.old.items)) }
+{
+    let row = &mut lists[list as usize];
+    let place = place_of(row.as_slice(), number)?;
+    let _ = row.remove(place);
+    Some(place)
+}
+
+/// The place of the number, if it is there.
+fn place_of(numbers: &[u32], number: u32) -> Option<usize>
+    requires { Rises 0 numbers.now }
+    ensures { MatchOption result (less (number ∷ []) numbers.now ≡ numbers.now) (λ place. (place < length numbers.now) × (slice_index numbers.now place ≡ number)) }
+{
+    match numbers.binary_search(&number) {
+        Ok(place) => Some(place),
+        Err(_) => None,
+    }
+}
+
+/// Puts the number back into its list.
+fn insert(lists: &mut Vec<Vec<u32>>, entry: Taken)
+    requires { HasRoom (rooms_of lists.old.items) entry (numbers_of lists.old.items) }
+    ensures lists { numbers_of lists.new.items ≡ put_back entry (numbers_of lists.old.items) }
+    ensures rooms { rooms_of lists.new.items ≡ rooms_of lists.old.items }
+{
+    let row = &mut lists[entry.list as usize];
+    row.insert(entry.place, entry.number).unwrap();
+}
+
+/// Puts back all but the oldest `mark` numbers, the newest first.
+fn restore(lists: &mut Vec<Vec<u32>>, taken: &mut Vec<Taken>, mark: usize)
+    requires { Fits (rooms_of lists.old.items) (reverse taken.old.items) (numbers_of lists.old.items) }
+    ensures lists { numbers_of lists.new.items ≡ restored mark (reverse taken.old.items) (numbers_of lists.old.items) }
+    ensures taken { reverse taken.new.items ≡ still_taken mark (reverse taken.old.items) }
+    ensures fits { Fits (rooms_of lists.new.items) (reverse taken.new.items) (numbers_of lists.new.items) }
+    ensures room { vec_capacity taken.new ≡ vec_capacity taken.old }
+    ensures count { length taken.new.items + sum_by length (numbers_of lists.new.items) ≡ length taken.old.items + sum_by length (numbers_of lists.old.items) }
+{
+    while taken.len() > mark {
+        if let Some(entry) = taken.pop() {
+            insert(lists, entry);
+        }
+    }
+}
