@@ -1,5 +1,6 @@
 //! Cells whose every write is counted.
-ghost use Rattle.std.specs.Prelude.{◌≡◌, ℕ, ◌+◌, ◌<◌, List, map, length, slice_index, slice_set, replicate, IfOk, slice_get, ◌↔◌, IsTrue};
+ghost use Rattle.std.specs.Prelude.{◌≡◌, ℕ, ◌+◌, ◌<◌, List, map, length, slice_index, slice_set, replicate, IfOk, slice_get, ◌↔◌, ◌==◌, ◌&&◌, IsTrue};
+ghost use Rattle.xc_dance.specs.Links.Columns.{values, ups, downs};
 
 use crate::links::writes::Writes;
 use std::alloc::{AllocError, Global};
@@ -23,6 +24,168 @@ impl Cell {
     }
 }
 
+/// The two links of a node side by side: whoever reads one reads the other.
+#[derive(Drop)]
+pub(crate) struct Link {
+    up: Cell,
+    down: Cell,
+}
+
+/// Cells that are all 0.
+pub(crate) fn zeros(alloc: Global, count: usize) -> Result<Vec<Cell>, AllocError>
+    ensures { IfOk result (λ v. values v.items ≡ replicate count 0) }
+{
+    let mut cells = Vec::with_capacity(alloc, count)?;
+    for _ in 0..count {
+        cells.push_reserved(Cell { value: 0 });
+    }
+    Ok(cells)
+}
+
+/// Links that are all 0.
+pub(crate) fn zero_links(alloc: Global, count: usize) -> Result<Vec<Link>, AllocError>
+    ensures up { IfOk result (λ v. ups v.items ≡ replicate count 0) }
+    ensures down { IfOk result (λ v. downs v.items ≡ replicate count 0) }
+{
+    let mut links = Vec::with_capacity(alloc, count)?;
+    for _ in 0..count {
+        links.push_reserved(Link {
+            up: Cell { value: 0 },
+            down: Cell { value: 0 },
+        });
+    }
+    Ok(links)
+}
+
+/// What stands at a place.
+#[inline(always)]
+pub(crate) fn get(cells: &[Cell], place: u32) -> u32
+    requires { place < length (values cells.now) }
+    ensures { result ≡ slice_index (values cells.now) place }
+{
+    cells[place as usize].value
+}
+
+/// Writes one cell.
+#[inline(always)]
+pub(crate) fn set(cells: &mut [Cell], place: u32, value: u32, writes: &mut Writes)
+    requires { place < length (values cells.old) }
+    ensures value { values cells.new ≡ slice_set (values cells.old) place value }
+    ensures counted { writes.new.count ≡ writes.old.count + 1 }
+{
+    cells[place as usize].write(value, writes);
+}
+
+/// Where the link at a place leads upwards.
+#[inline(always)]
+pub(crate) fn up(links: &[Link], place: u32) -> u32
+    requires { place < length (ups links.now) }
+    ensures { result ≡ slice_index (ups links.now) place }
+{
+    links[place as usize].up.value
+}
+
+/// Where the link at a place leads downwards.
+#[inline(always)]
+pub(crate) fn down(links: &[Link], place: u32) -> u32
+    requires { place < length (downs links.now) }
+    ensures { result ≡ slice_index (downs links.now) place }
+{
+    links[place as usize].down.value
+}
+
+/// Writes where the link at a place leads upwards.
+#[inline(always)]
+pub(crate) fn set_up(links: &mut [Link], place: u32, value: u32, writes: &mut Writes)
+    requires { place < length (ups links.old) }
+    ensures up { ups links.new ≡ slice_set (ups links.old) place value }
+    ensures down { downs links.new ≡ downs links.old }
+    ensures counted { writes.new.count ≡ writes.old.count + 1 }
+{
+    links[place as usize].up.write(value, writes);
+}
+
+/// Writes where the link at a place leads downwards.
+#[inline(always)]
+pub(crate) fn set_down(links: &mut [Link], place: u32, value: u32, writes: &mut Writes)
+    requires { place < length (downs links.old) }
+    ensures down { downs links.new ≡ slice_set (downs links.old) place value }
+    ensures up { ups links.new ≡ ups links.old }
+    ensures counted { writes.new.count ≡ writes.old.count + 1 }
+{
+    links[place as usize].down.write(value, writes);
+}
+
+/// What stands at a place, if there is one.
+#[inline(always)]
+pub(crate) fn read(cells: &[Cell], place: u32) -> Option<u32>
+    ensures { result ≡ slice_get (values cells.now) place }
+{
+    if (place as usize) < cells.len() {
+        Some(get(cells, place))
+    } else {
+        None
+    }
+}
+
+/// Where the link at a place leads upwards, if there is one.
+pub(crate) fn read_up(links: &[Link], place: u32) -> Option<u32>
+    ensures { result ≡ slice_get (ups links.now) place }
+{
+    if (place as usize) < links.len() {
+        Some(up(links, place))
+    } else {
+        None
+    }
+}
+
+/// Where the link at a place leads downwards, if there is one.
+pub(crate) fn read_down(links: &[Link], place: u32) -> Option<u32>
+    ensures { result ≡ slice_get (downs links.now) place }
+{
+    if (place as usize) < links.len() {
+        Some(down(links, place))
+    } else {
+        None
+    }
+}
+
+/// Whether the cells are equal, one by one.
+pub(crate) fn same_cells(cells: &[Cell], others: &[Cell]) -> bool
+    ensures { IsTrue result ↔ (values cells.now ≡ values others.now) }
+{
+    if cells.len() != others.len() {
+        return false;
+    }
+    for k in 0..cells.len() {
+        if cells[k].value != others[k].value {
+            return false;
+        }
+    }
+    true
+}
+
+/// Whether the links are equal, one by one.
+pub(crate) fn same_links(links: &[Link], others: &[Link]) -> bool
+    ensures { IsTrue result ↔ ((ups links.now ≡ ups others.now) × (downs links.now ≡ downs others.now)) }
+{
+    if links.len() != others.len() {
+        return false;
+    }
+    for k in 0..links.len() {
+        if !same_link(&links[k], &others[k]) {
+            return false;
+        }
+    }
+    true
+}
+
+fn same_link(link: &Link, other: &Link) -> bool
+    ensures { result ≡ (link.now.up.value == other.now.up.value && link.now.down.value == other.now.down.value) }
+{
+    link.up.value == other.up.value && link.down.value == other.down.value
+}
+
 /// One column of a table: a list of numbers.
 #[derive(Drop)]
 pub(crate) struct Column {
@@ -40,11 +203,9 @@ impl Column {
     pub(crate) fn new(alloc: Global, count: usize) -> Result<Column, AllocError>
         ensures { IfOk result (λ c. c ≡ replicate count 0) }
     {
-        let mut cells = Vec::with_capacity(alloc, count)?;
-        for _ in 0..count {
-            cells.push_reserved(Cell { value: 0 });
-        }
-        Ok(Column { cells })
+        Ok(Column {
+            cells: zeros(alloc, count)?,
+        })
     }
 
     /// How many cells there are.
@@ -61,19 +222,14 @@ impl Column {
         requires { place < length self.now }
         ensures { result ≡ slice_index self.now place }
     {
-        self.cells[place as usize].value
+        get(&self.cells, place)
     }
 
     /// What stands at a place, if it is one of the column's.
-    #[inline(always)]
     pub(crate) fn read(&self, place: u32) -> Option<u32>
         ensures { result ≡ slice_get self.now place }
     {
-        if (place as usize) < self.cells.len() {
-            Some(self.get(place))
-        } else {
-            None
-        }
+        read(&self.cells, place)
     }
 
     /// Writes one cell.
@@ -83,21 +239,13 @@ impl Column {
         ensures value { self.new ≡ slice_set self.old place value }
         ensures counted { writes.new.count ≡ writes.old.count + 1 }
     {
-        self.cells[place as usize].write(value, writes);
+        set(&mut self.cells, place, value, writes);
     }
 
     /// Whether the cells are equal, one by one.
     pub(crate) fn same(&self, other: &Column) -> bool
         ensures { IsTrue result ↔ (self.now ≡ other.now) }
     {
-        if self.cells.len() != other.cells.len() {
-            return false;
-        }
-        for k in 0..self.cells.len() {
-            if self.cells[k].value != other.cells[k].value {
-                return false;
-            }
-        }
-        true
+        same_cells(&self.cells, &other.cells)
     }
 }

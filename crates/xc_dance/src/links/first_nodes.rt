@@ -131,7 +131,7 @@ fn link_uses(nodes: &mut Nodes, table: &Table, count: u32, writes: &mut Writes)
     ensures { nodes.new ≡ nodes_after table.now [] }
 {
     for q in table.items() + 1..count {
-        if nodes.top.get(q) < SPACER {
+        if nodes.top(q) < SPACER {
             nodes.enter(q, writes);
         }
     }

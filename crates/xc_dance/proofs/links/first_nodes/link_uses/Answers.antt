@@ -12,7 +12,7 @@ use Rattle.xc_dance.proofs.LinkedTables.HeldOptions.{lines_of}
 use Rattle.xc_dance.proofs.LinkedTables.EnteredNodes.{UseStep, use_step, spacer_step, spacer_top, behind_items}
 use Rattle.xc_dance.proofs.LinkedTables.LinkedFirst.{none_entered, all_entered}
 use Rattle.xc_dance.proofs.links.first_nodes.link_uses.Goals as goal
-use Rattle.xc_dance.proofs.links.first_nodes.link_uses.Goals.{then-get-lt-SPACER, else-get-lt-SPACER}
+use Rattle.xc_dance.proofs.links.first_nodes.link_uses.Goals.{then-top-lt-SPACER, else-top-lt-SPACER}
 
 abbrev so_far : Puzzle → ℕ → Nodes
 so_far p q = nodes_from p (lines_of (take q (layout p))) (color_in p [])
@@ -44,7 +44,7 @@ enter-requires-clause-item c =
     let n = get_or (layout p) q unused in
     let at : slice_get (layout p) q ≡ Some n = get_there (layout p) q unused (omega (arith, c.loop-q-test.true, c.requires.count)) in
     let top = ap (λ (t : Nodes). slice_index t.top q) c.loop-q.invariant in
-    let s = is_use p q n c.requires.fit c.requires.limits (omega (arith, c.loop-q.auto.q, c.items-q.ensures.count)) at (omega (arith, top, c.get.ensures, c.if-get-lt-SPACER.true)) in
+    let s = is_use p q n c.requires.fit c.requires.limits (omega (arith, c.loop-q.auto.q, c.items-q.ensures.count)) at (omega (arith, top, c.top.ensures, c.if-top-lt-SPACER.true)) in
     subst (λ (t : Nodes). slice_index t.top q < length t.top) (sym c.loop-q.invariant) s.2.item
 
 pub enter-requires-clause-last : goal.enter-requires-clause-last
@@ -54,7 +54,7 @@ enter-requires-clause-last c =
     let n = get_or (layout p) q unused in
     let at : slice_get (layout p) q ≡ Some n = get_there (layout p) q unused (omega (arith, c.loop-q-test.true, c.requires.count)) in
     let top = ap (λ (t : Nodes). slice_index t.top q) c.loop-q.invariant in
-    let s = is_use p q n c.requires.fit c.requires.limits (omega (arith, c.loop-q.auto.q, c.items-q.ensures.count)) at (omega (arith, top, c.get.ensures, c.if-get-lt-SPACER.true)) in
+    let s = is_use p q n c.requires.fit c.requires.limits (omega (arith, c.loop-q.auto.q, c.items-q.ensures.count)) at (omega (arith, top, c.top.ensures, c.if-top-lt-SPACER.true)) in
     subst (λ (t : Nodes). slice_index t.ulink (slice_index t.top q) < length t.top) (sym c.loop-q.invariant) s.2.last
 
 pub enter-requires-clause-few : goal.enter-requires-clause-few
@@ -64,7 +64,7 @@ enter-requires-clause-few c =
     let n = get_or (layout p) q unused in
     let at : slice_get (layout p) q ≡ Some n = get_there (layout p) q unused (omega (arith, c.loop-q-test.true, c.requires.count)) in
     let top = ap (λ (t : Nodes). slice_index t.top q) c.loop-q.invariant in
-    let s = is_use p q n c.requires.fit c.requires.limits (omega (arith, c.loop-q.auto.q, c.items-q.ensures.count)) at (omega (arith, top, c.get.ensures, c.if-get-lt-SPACER.true)) in
+    let s = is_use p q n c.requires.fit c.requires.limits (omega (arith, c.loop-q.auto.q, c.items-q.ensures.count)) at (omega (arith, top, c.top.ensures, c.if-top-lt-SPACER.true)) in
     subst (λ (t : Nodes). slice_index t.top (slice_index t.top q) < 2147483648) (sym c.loop-q.invariant) s.2.few
 
 pub loop-q-preserved : goal.loop-q-preserved
@@ -75,12 +75,12 @@ loop-q-preserved c =
     let at : slice_get (layout p) q ≡ Some n = get_there (layout p) q unused (omega (arith, c.loop-q-test.true, c.requires.count)) in
     let from : item_count p + 1 ≤ q = omega (arith, c.loop-q.auto.q, c.items-q.ensures.count) in
     let top = ap (λ (t : Nodes). slice_index t.top q) c.loop-q.invariant in
-    elim c.if-get-lt-SPACER.branch [
-      | then-get-lt-SPACER w ↦
-          (let s = is_use p q n c.requires.fit c.requires.limits from at (omega (arith, top, c.get.ensures, w.if-get-lt-SPACER)) in
+    elim c.if-top-lt-SPACER.branch [
+      | then-top-lt-SPACER w ↦
+          (let s = is_use p q n c.requires.fit c.requires.limits from at (omega (arith, top, c.top.ensures, w.if-top-lt-SPACER)) in
           w.nodes-is ∙ w.enter.ensures ∙ ap (λ (t : Nodes). entered t q) c.loop-q.invariant ∙ s.2.done)
-      | else-get-lt-SPACER w ↦
-          w.nodes-is ∙ c.loop-q.invariant ∙ is_spacer p q n c.requires.fit c.requires.limits from at (λ small. omega (arith, top, c.get.ensures, w.if-get-lt-SPACER, small))
+      | else-top-lt-SPACER w ↦
+          w.nodes-is ∙ c.loop-q.invariant ∙ is_spacer p q n c.requires.fit c.requires.limits from at (λ small. omega (arith, top, c.top.ensures, w.if-top-lt-SPACER, small))
     ]
 
 pub returns : goal.returns

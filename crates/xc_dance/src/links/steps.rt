@@ -1,0 +1,193 @@
+//! Steps over the nodes of one option: hide and unhide. The walks take the tables as slices, so that their bases stay in
+//! registers: behind a vector each would be loaded anew after every write.
+ghost use Rattle.std.specs.Prelude.{◌≡◌, ℕ, ◌+◌, ◌-◌, ◌*◌, ◌<◌, ◌≤◌, ◌^◌, length, slice_index, fold, reverse};
+ghost use Rattle.xc_dance.specs.Links.Columns.{columns};
+ghost use Rattle.xc_dance.specs.Links.Steps.{HasSize, NamesPlaces, unlinked, relinked, hidden, hide_cost, hide_costs, CanHide, CanHideAll, places, others, shown, CanShow, CanShowAll, show_costs};
+
+use crate::links::cells::{Cell, Link, down, get, set, set_down, set_up, up};
+use crate::links::nodes::MARK;
+use crate::links::writes::Writes;
+
+/// Takes node q out of its list.
+#[inline(always)]
+pub(crate) fn unlink(
+    top: &mut [Cell],
+    links: &mut [Link],
+    color: &[Cell],
+    q: u32,
+    writes: &mut Writes,
+)
+    requires size { HasSize (columns top.old links.old color.now) (length (columns top.old links.old color.now).top) }
+    requires places { NamesPlaces (columns top.old links.old color.now) q }
+    requires some { 0 < slice_index (columns top.old links.old color.now).top (slice_index (columns top.old links.old color.now).top q) }
+    ensures done { columns top.new links.new color.now ≡ unlinked (columns top.old links.old color.now) q }
+    ensures counted { writes.new.count ≡ writes.old.count + 3 }
+{
+    let u = up(links, q);
+    let d = down(links, q);
+    let i = get(top, q);
+    set_down(links, u, d, writes);
+    set_up(links, d, u, writes);
+    let count = get(top, i);
+    set(top, i, count - 1, writes);
+}
+
+/// Puts node q back into its list.
+#[inline(always)]
+pub(crate) fn relink(
+    top: &mut [Cell],
+    links: &mut [Link],
+    color: &[Cell],
+    q: u32,
+    writes: &mut Writes,
+)
+    requires size { HasSize (columns top.old links.old color.now) (length (columns top.old links.old color.now).top) }
+    requires places { NamesPlaces (columns top.old links.old color.now) q }
+    requires few { slice_index (columns top.old links.old color.now).top (slice_index (columns top.old links.old color.now).top q) < 2 ^ 31 }
+    ensures done { columns top.new links.new color.now ≡ relinked (columns top.old links.old color.now) q }
+    ensures counted { writes.new.count ≡ writes.old.count + 3 }
+{
+    let u = up(links, q);
+    let d = down(links, q);
+    let i = get(top, q);
+    set_down(links, u, q, writes);
+    set_up(links, d, q, writes);
+    let count = get(top, i);
+    set(top, i, count + 1, writes);
+}
+
+/// A step of hide.
+#[inline(always)]
+fn hide_one(
+    top: &mut [Cell],
+    links: &mut [Link],
+    color: &[Cell],
+    q: u32,
+    writes: &mut Writes,
+) -> u64
+    requires { CanHide (columns top.old links.old color.now) q }
+    ensures done { columns top.new links.new color.now ≡ hidden (columns top.old links.old color.now) q }
+    ensures cost { result ≡ hide_cost (columns top.old links.old color.now) q }
+    ensures counted { writes.new.count ≡ writes.old.count + result }
+{
+    if get(color, q) == MARK {
+        0
+    } else {
+        unlink(top, links, color, q, writes);
+        3
+    }
+}
+
+/// Steps of hide at the places from a to below b.
+#[inline(always)]
+fn hide_range(
+    top: &mut [Cell],
+    links: &mut [Link],
+    color: &[Cell],
+    a: u32,
+    b: u32,
+    writes: &mut Writes,
+) -> u64
+    requires { CanHideAll (columns top.old links.old color.now) (places a b) }
+    ensures done { columns top.new links.new color.now ≡ fold hidden (columns top.old links.old color.now) (places a b) }
+    ensures cost { result ≡ hide_costs (columns top.old links.old color.now) (places a b) }
+    ensures counted { writes.new.count ≡ writes.old.count + result }
+    ensures few { result ≤ 3 * (b - a) }
+{
+    let mut count = 0u64;
+    for q in a..b {
+        count += hide_one(top, links, color, q, writes);
+    }
+    count
+}
+
+/// Hides the other nodes of the option of node p, which stands from `first` to below `end`.
+#[inline(always)]
+pub(crate) fn hide(
+    top: &mut [Cell],
+    links: &mut [Link],
+    color: &[Cell],
+    p: u32,
+    first: u32,
+    end: u32,
+    writes: &mut Writes,
+) -> u64
+    requires near { p < 2 ^ 31 }
+    requires can { CanHideAll (columns top.old links.old color.now) (others p first end) }
+    ensures done { columns top.new links.new color.now ≡ fold hidden (columns top.old links.old color.now) (others p first end) }
+    ensures cost { result ≡ hide_costs (columns top.old links.old color.now) (others p first end) }
+    ensures few { result ≤ 3 * (end + p) }
+    ensures counted { writes.new.count ≡ writes.old.count + result }
+{
+    let above = hide_range(top, links, color, p + 1, end, writes);
+    let below = hide_range(top, links, color, first, p, writes);
+    above + below
+}
+
+/// A step of unhide.
+#[inline(always)]
+fn show_one(
+    top: &mut [Cell],
+    links: &mut [Link],
+    color: &[Cell],
+    q: u32,
+    writes: &mut Writes,
+) -> u64
+    requires { CanShow (columns top.old links.old color.now) q }
+    ensures done { columns top.new links.new color.now ≡ shown (columns top.old links.old color.now) q }
+    ensures cost { result ≡ hide_cost (columns top.old links.old color.now) q }
+    ensures counted { writes.new.count ≡ writes.old.count + result }
+{
+    if get(color, q) == MARK {
+        0
+    } else {
+        relink(top, links, color, q, writes);
+        3
+    }
+}
+
+/// Steps of unhide at the places from below b down to a.
+#[inline(always)]
+fn show_range(
+    top: &mut [Cell],
+    links: &mut [Link],
+    color: &[Cell],
+    a: u32,
+    b: u32,
+    writes: &mut Writes,
+) -> u64
+    requires { CanShowAll (columns top.old links.old color.now) (reverse (places a b)) }
+    ensures done { columns top.new links.new color.now ≡ fold shown (columns top.old links.old color.now) (reverse (places a b)) }
+    ensures cost { result ≡ show_costs (columns top.old links.old color.now) (reverse (places a b)) }
+    ensures counted { writes.new.count ≡ writes.old.count + result }
+    ensures few { result ≤ 3 * (b - a) }
+{
+    let mut count = 0u64;
+    for q in (a..b).rev() {
+        count += show_one(top, links, color, q, writes);
+    }
+    count
+}
+
+/// Puts back what `hide` took out, from the last back.
+#[inline(always)]
+pub(crate) fn unhide(
+    top: &mut [Cell],
+    links: &mut [Link],
+    color: &[Cell],
+    p: u32,
+    first: u32,
+    end: u32,
+    writes: &mut Writes,
+) -> u64
+    requires near { p < 2 ^ 31 }
+    requires can { CanShowAll (columns top.old links.old color.now) (reverse (others p first end)) }
+    ensures done { columns top.new links.new color.now ≡ fold shown (columns top.old links.old color.now) (reverse (others p first end)) }
+    ensures cost { result ≡ show_costs (columns top.old links.old color.now) (reverse (others p first end)) }
+    ensures few { result ≤ 3 * (end + p) }
+    ensures counted { writes.new.count ≡ writes.old.count + result }
+{
+    let below = show_range(top, links, color, first, p, writes);
+    let above = show_range(top, links, color, p + 1, end, writes);
+    below + above
+}

@@ -1,0 +1,119 @@
+//! Tweaks: the option of a first node is hidden and comes back, alone or with those that were tweaked off behind it.
+ghost use Rattle.std.specs.Prelude.{◌≡◌, ℕ, ◌+◌, ◌*◌, ◌<◌, ◌≤◌, ◌^◌, length, fold, reverse, All, false, if◌then◌else◌};
+ghost use Rattle.xc_dance.specs.Links.Columns.{columns};
+ghost use Rattle.xc_dance.specs.Links.Steps.{hide_costs, CanHideAll, CanShowAll, show_costs, others_of, followed};
+ghost use Rattle.xc_dance.specs.Links.Tweaking.{hidden_unless, shown_unless};
+ghost use Rattle.xc_dance.specs.Links.TweaksBack.{climbed, climb_cost, CanClimb, IsClimb, climb_costs};
+
+use crate::links::cells::{Cell, Link, down, set_up};
+use crate::links::nodes::Span;
+use crate::links::steps::{hide, unhide};
+use crate::links::writes::Writes;
+
+/// Hides the other nodes of the option of node x, unless x's item is covered.
+#[inline(always)]
+pub(crate) fn hide_unless(
+    top: &mut [Cell],
+    links: &mut [Link],
+    color: &[Cell],
+    spans: &[Span],
+    covered: bool,
+    x: u32,
+    writes: &mut Writes,
+) -> u64
+    requires small { length spans.now < 2 ^ 31 }
+    requires ends { All (λ s. s.end < 2 ^ 31) spans.now }
+    requires can { covered ≡ false → (x < length spans.now) × CanHideAll (columns top.old links.old color.now) (others_of spans.now x) }
+    ensures done { columns top.new links.new color.now ≡ hidden_unless spans.now covered (columns top.old links.old color.now) x }
+    ensures cost { result ≡ (if covered then 0 else hide_costs (columns top.old links.old color.now) (others_of spans.now x)) }
+    ensures few { result ≤ 3 * 2 ^ 32 }
+    ensures counted { writes.new.count ≡ writes.old.count + result }
+{
+    if covered {
+        return 0;
+    }
+    let span = spans[x as usize];
+    hide(top, links, color, x, span.first, span.end, writes)
+}
+
+/// Undoes `hide_unless`.
+#[inline(always)]
+pub(crate) fn show_unless(
+    top: &mut [Cell],
+    links: &mut [Link],
+    color: &[Cell],
+    spans: &[Span],
+    covered: bool,
+    x: u32,
+    writes: &mut Writes,
+) -> u64
+    requires small { length spans.now < 2 ^ 31 }
+    requires ends { All (λ s. s.end < 2 ^ 31) spans.now }
+    requires can { covered ≡ false → (x < length spans.now) × CanShowAll (columns top.old links.old color.now) (reverse (others_of spans.now x)) }
+    ensures done { columns top.new links.new color.now ≡ shown_unless spans.now covered (columns top.old links.old color.now) x }
+    ensures cost { result ≡ (if covered then 0 else show_costs (columns top.old links.old color.now) (reverse (others_of spans.now x))) }
+    ensures few { result ≤ 3 * 2 ^ 32 }
+    ensures counted { writes.new.count ≡ writes.old.count + result }
+{
+    if covered {
+        return 0;
+    }
+    let span = spans[x as usize];
+    unhide(top, links, color, x, span.first, span.end, writes)
+}
+
+/// One step down nodes that come back: the option of node p is put back, unless its item is covered, and what
+/// stands below p has p above it.
+#[inline(always)]
+fn climb_one(
+    top: &mut [Cell],
+    links: &mut [Link],
+    color: &[Cell],
+    spans: &[Span],
+    covered: bool,
+    p: u32,
+    writes: &mut Writes,
+) -> u64
+    requires small { length spans.now < 2 ^ 31 }
+    requires ends { All (λ s. s.end < 2 ^ 31) spans.now }
+    requires can { CanClimb spans.now covered (columns top.old links.old color.now) p }
+    ensures done { columns top.new links.new color.now ≡ climbed spans.now covered (columns top.old links.old color.now) p }
+    ensures cost { result ≡ climb_cost spans.now covered (columns top.old links.old color.now) p }
+    ensures few { result ≤ 3 * 2 ^ 32 + 1 }
+    ensures counted { writes.new.count ≡ writes.old.count + result }
+{
+    let count = show_unless(top, links, color, spans, covered, p, writes);
+    let d = down(links, p);
+    set_up(links, d, p, writes);
+    count + 1
+}
+
+/// k such steps, from node x on.
+#[inline(always)]
+pub(crate) fn climb(
+    top: &mut [Cell],
+    links: &mut [Link],
+    color: &[Cell],
+    spans: &[Span],
+    covered: bool,
+    x: u32,
+    k: u32,
+    writes: &mut Writes,
+) -> u64
+    requires small { length spans.now < 2 ^ 31 }
+    requires ends { All (λ s. s.end < 2 ^ 31) spans.now }
+    requires many { k < 2 ^ 30 }
+    requires can { IsClimb spans.now covered (columns top.old links.old color.now) x (followed (columns top.old links.old color.now).dlink k x) }
+    ensures done { columns top.new links.new color.now ≡ fold (climbed spans.now covered) (columns top.old links.old color.now) (followed (columns top.old links.old color.now).dlink k x) }
+    ensures cost { result ≡ climb_costs spans.now covered (columns top.old links.old color.now) (followed (columns top.old links.old color.now).dlink k x) }
+    ensures few_writes { result ≤ 3 * 2 ^ 62 + 2 ^ 30 }
+    ensures counted { writes.new.count ≡ writes.old.count + result }
+{
+    let mut count = 0u64;
+    let mut p = x;
+    for _ in 0..k {
+        count += climb_one(top, links, color, spans, covered, p, writes);
+        p = down(links, p);
+    }
+    count
+}

@@ -1,0 +1,135 @@
+//! Walks down the list of an item and back up. The nodes of a colour that is kept are marked on the way, the options of the
+//! others hidden.
+ghost use Rattle.std.specs.Prelude.{◌≡◌, ℕ, ◌+◌, ◌-◌, ◌*◌, ◌<◌, ◌≤◌, ◌^◌, length, slice_index, fold, All};
+ghost use Rattle.xc_dance.specs.Links.Columns.{values, columns};
+ghost use Rattle.xc_dance.specs.Links.Steps.{list_of, list_back};
+ghost use Rattle.xc_dance.specs.Links.ListWalks.{is_kept_colour, left_node, leave_cost, back_node, back_cost, CanLeave, CanReturn, walk_costs, back_costs, CanHideList, CanShowList};
+
+use crate::links::cells::{Cell, Link, down, get, set, up};
+use crate::links::nodes::{MARK, Span};
+use crate::links::steps::{hide, unhide};
+use crate::links::writes::Writes;
+
+/// Whether the node has the colour that is kept.
+#[inline(always)]
+fn is_kept(color: &[Cell], p: u32, keep: Option<u32>) -> bool
+    requires { p < length (values color.now) }
+    ensures { result ≡ is_kept_colour keep (slice_index (values color.now) p) }
+{
+    match keep {
+        Some(colour) => get(color, p) == colour,
+        None => false,
+    }
+}
+
+/// A step down a list at node p: a node of the colour kept is marked, the option of any other one is hidden.
+#[inline(always)]
+fn leave(
+    top: &mut [Cell],
+    links: &mut [Link],
+    color: &mut [Cell],
+    spans: &[Span],
+    p: u32,
+    keep: Option<u32>,
+    writes: &mut Writes,
+) -> u64
+    requires small { length spans.now < 2 ^ 31 }
+    requires ends { All (λ s. s.end < 2 ^ 31) spans.now }
+    requires can { CanLeave spans.now keep (columns top.old links.old color.old) p }
+    ensures done { columns top.new links.new color.new ≡ left_node spans.now keep (columns top.old links.old color.old) p }
+    ensures cost { result ≡ leave_cost spans.now keep (columns top.old links.old color.old) p }
+    ensures few { result ≤ 3 * 2 ^ 32 }
+    ensures counted { writes.new.count ≡ writes.old.count + result }
+{
+    if is_kept(color, p, keep) {
+        set(color, p, MARK, writes);
+        return 1;
+    }
+    let span = spans[p as usize];
+    hide(top, links, color, p, span.first, span.end, writes)
+}
+
+/// A step up a list at node p: a marked node gets the colour kept back, the option of any other one is put back.
+#[inline(always)]
+fn come_back(
+    top: &mut [Cell],
+    links: &mut [Link],
+    color: &mut [Cell],
+    spans: &[Span],
+    p: u32,
+    keep: Option<u32>,
+    writes: &mut Writes,
+) -> u64
+    requires small { length spans.now < 2 ^ 31 }
+    requires ends { All (λ s. s.end < 2 ^ 31) spans.now }
+    requires can { CanReturn spans.now keep (columns top.old links.old color.old) p }
+    ensures done { columns top.new links.new color.new ≡ back_node spans.now keep (columns top.old links.old color.old) p }
+    ensures cost { result ≡ back_cost spans.now keep (columns top.old links.old color.old) p }
+    ensures few { result ≤ 3 * 2 ^ 32 }
+    ensures counted { writes.new.count ≡ writes.old.count + result }
+{
+    if let Some(colour) = keep {
+        if get(color, p) == MARK {
+            set(color, p, colour, writes);
+            return 1;
+        }
+    }
+    let span = spans[p as usize];
+    unhide(top, links, color, p, span.first, span.end, writes)
+}
+
+/// Goes down the list of item i: its nodes of the colour kept are marked, the others are hidden.
+#[inline(always)]
+pub(crate) fn hide_list(
+    top: &mut [Cell],
+    links: &mut [Link],
+    color: &mut [Cell],
+    spans: &[Span],
+    i: u32,
+    keep: Option<u32>,
+    writes: &mut Writes,
+) -> u64
+    requires small { length spans.now < 2 ^ 31 }
+    requires ends { All (λ s. s.end < 2 ^ 31) spans.now }
+    requires can { CanHideList spans.now keep (columns top.old links.old color.old) i }
+    ensures done { columns top.new links.new color.new ≡ fold (left_node spans.now keep) (columns top.old links.old color.old) (list_of (columns top.old links.old color.old) i) }
+    ensures cost { result ≡ walk_costs spans.now keep (columns top.old links.old color.old) (list_of (columns top.old links.old color.old) i) }
+    ensures few_writes { result ≤ 3 * 2 ^ 62 }
+    ensures counted { writes.new.count ≡ writes.old.count + result }
+{
+    let mut count = 0u64;
+    let mut p = down(links, i);
+    for _ in 0..get(top, i) {
+        count += leave(top, links, color, spans, p, keep, writes);
+        p = down(links, p);
+    }
+    count
+}
+
+/// Undoes `hide_list`, from bottom to top.
+#[inline(always)]
+pub(crate) fn unhide_list(
+    top: &mut [Cell],
+    links: &mut [Link],
+    color: &mut [Cell],
+    spans: &[Span],
+    i: u32,
+    keep: Option<u32>,
+    writes: &mut Writes,
+) -> u64
+    requires small { length spans.now < 2 ^ 31 }
+    requires ends { All (λ s. s.end < 2 ^ 31) spans.now }
+    requires can { CanShowList spans.now keep (columns top.old links.old color.old) i }
+    ensures done { columns top.new links.new color.new ≡ fold (back_node spans.now keep) (columns top.old links.old color.old) (list_back (columns top.old links.old color.old) i) }
+    ensures cost { result ≡ back_costs spans.now keep (columns top.old links.old color.old) (list_back (columns top.old links.old color.old) i) }
+    ensures few_writes { result ≤ 3 * 2 ^ 62 }
+    ensures counted { writes.new.count ≡ writes.old.count + result }
+{
+    let mut count = 0u64;
+    let mut p = up(links, i);
+    for _ in 0..get(top, i) {
+        count += come_back(top, links, color, spans, p, keep, writes);
+        p = up(links, p);
+    }
+    count
+}
