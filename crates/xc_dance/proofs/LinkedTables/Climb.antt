@@ -3,6 +3,7 @@ use Rattle.std.proofs.Common.{◌≡◌, ◌≢◌, ℕ, ◌+◌, ◌*◌, ◌<�
 use Rattle.std.specs.List.{list_any}
 use Rattle.std.proofs.lemmas.Bool.{eqb-false, false≢true}
 use Rattle.std.proofs.lemmas.List.{length-map, reverse-append}
+use Rattle.std.proofs.lemmas.List.{map-append}
 use Rattle.xc_dance.specs.declared.dance.Move.{Move}
 use Rattle.xc_dance.specs.declared.links.nodes.Nodes.{Nodes}
 use Rattle.xc_dance.specs.declared.links.nodes.Span.{Span}
@@ -13,6 +14,7 @@ use Rattle.xc_dance.specs.Links.Lines.{Line, put_at, mended}
 use Rattle.xc_dance.specs.Links.Steps.{shown, CanShowAll, others_of, show_costs}
 use Rattle.xc_dance.specs.Links.Tweaking.{shown_unless}
 use Rattle.xc_dance.specs.Links.TweaksBack.{with_ulink, climbed, climb_cost, CanClimb}
+use Rattle.xc_dance.proofs.LinkedTables.OtherItems.{out_of}
 use Rattle.xc_dance.proofs.LinkedTables.UnmarkedCosts.{show_costs-are, unmarked-reverse, unmarked_items}
 use Rattle.xc_dance.proofs.LinkedTables.OneList.{gone_count}
 use Rattle.xc_dance.specs.Links.Cells.{slot_of, link_at, fixed_up, fixed_down, top_in, ulink_in, dlink_in, color_in, nodes_from, line_of, with_line}
@@ -22,7 +24,8 @@ use Rattle.xc_dance.specs.Links.Made.{IsFitted}
 use Rattle.xc_dance.proofs.LinkedTables.Mapped.{map_same, get_within}
 use Rattle.xc_dance.proofs.LinkedTables.Undo.{same_nodes}
 use Rattle.xc_dance.proofs.LinkedTables.ReadyLemmas.{Stands}
-use Rattle.xc_dance.proofs.LinkedTables.OneNode.{IsMember, set_link, get_down}
+use Rattle.xc_dance.proofs.LinkedTables.OneNode.{IsMember}
+use Rattle.xc_dance.proofs.LinkedTables.LinkColumns.{set_link, get_down}
 use Rattle.xc_dance.proofs.LinkedTables.Sweep.{in_above, by_first, put_at-same, put_at-other}
 use Rattle.xc_dance.proofs.LinkedTables.Goods.{Named, IsGood, member}
 use Rattle.xc_dance.proofs.LinkedTables.OneOption.{is_mark, IsApart}
@@ -63,10 +66,6 @@ all_push x (y ∷ ys) h e =
       | true ↦ λ f g. absurd (false≢true (sym g))
       | false ↦ λ f g. (apart_push y x ys h.0 (λ s. eqb-false y x f (sym s)), all_push x ys h.1 g)
     ] refl e
-
-out_of : (j : ℕ) (js : List ℕ) → IsApart j js → is_in j js ≡ false
-out_of j [] h = refl
-out_of j (k ∷ ks) h = ap (λ b. b || is_in j ks) (ne_eqb k j h.0) ∙ out_of j ks h.1
 
 pub apart_reverse : (xs : List ℕ) → AllApart xs → AllApart (reverse xs)
 apart_reverse [] h = tt
@@ -126,15 +125,11 @@ raised_is p col ln i o laid h =
 
 -- ---- one step
 
-pub map_append : {X Y : Type 0} (f : X → Y) (xs ys : List X) → map f (xs ++ ys) ≡ map f xs ++ map f ys
-map_append f [] ys = refl
-map_append f (x ∷ xs) ys = ap (λ zs. f x ∷ zs) (map_append f xs ys)
-
 pub map_reverse : (f : ℕ → ℕ) (xs : List ℕ) → reverse (map f xs) ≡ map f (reverse xs)
 map_reverse f [] = refl
 map_reverse f (x ∷ xs) =
     reverse-append (f x ∷ []) (map f xs) ∙ ap (λ ks. ks ++ f x ∷ []) (map_reverse f xs)
-    ∙ sym (map_append f (reverse xs) (x ∷ [])) ∙ ap (map f) (sym (reverse-append (x ∷ []) xs))
+    ∙ sym (map-append f (reverse xs) (x ∷ [])) ∙ ap (map f) (sym (reverse-append (x ∷ []) xs))
 
 -- what a step writes for option o
 abbrev pub back_writes : Puzzle → (Node → ℕ) → Bool → ℕ → ℕ → ℕ

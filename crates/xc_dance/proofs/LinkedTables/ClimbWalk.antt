@@ -13,7 +13,7 @@ use Rattle.xc_dance.specs.Links.Steps.{followed}
 use Rattle.xc_dance.specs.Links.Cells.{color_in, dlink_in, nodes_from, line_of}
 use Rattle.xc_dance.specs.Links.Made.{IsFitted}
 use Rattle.xc_dance.proofs.LinkedTables.Mapped.{get_within}
-use Rattle.xc_dance.proofs.LinkedTables.OneNode.{get_down}
+use Rattle.xc_dance.proofs.LinkedTables.LinkColumns.{get_down}
 use Rattle.xc_dance.proofs.LinkedTables.Goods.{Named}
 use Rattle.xc_dance.proofs.LinkedTables.GoodLines.{numbers_named}
 use Rattle.xc_dance.proofs.MoveLemmas.Members.{element_of}

@@ -18,7 +18,7 @@ use Rattle.xc_dance.specs.Links.Made.{IsFitted}
 use Rattle.xc_dance.proofs.MoveLemmas.StateLemmas.{open_unpurified}
 use Rattle.xc_dance.proofs.LinkedTables.Mapped.{get_map, get_within}
 use Rattle.xc_dance.proofs.LinkedTables.Undo.{same_nodes, written_back}
-use Rattle.xc_dance.proofs.LinkedTables.OneNode.{get_up, get_down, size-is}
+use Rattle.xc_dance.proofs.LinkedTables.LinkColumns.{get_up, get_down, size_from}
 use Rattle.xc_dance.proofs.LinkedTables.Sweep.{in_above}
 use Rattle.xc_dance.proofs.LinkedTables.LineSteps.{numbers_rise, filter_numbers, leave_none}
 use Rattle.xc_dance.proofs.LinkedTables.Colours.{coloured_is, color_other}
@@ -87,14 +87,14 @@ walk_made p t spans m i keep start legal f pos le opened h =
     record {
       can = record {
         place = in_table p t i laid pos le;
-        size = size-is p start (line_of p t);
+        size = size_from p (line_of p t) start;
         few = few_in p t i laid fit pos le;
         walk = subst (λ q. IsWalk spans keep t0 q (list_of (nodes_after p t) i)) (sym first) (subst (IsWalk spans keep t0 (link_place p i ((line_of p t i).down 0))) (sym down) s.walk);
       };
       done = ap (fold (left_node spans keep) t0) down ∙ s.done;
       can_back = record {
         place = in_table p next i laid pos le;
-        size = size-is p (color_in p next) (line_of p next);
+        size = size_from p (line_of p next) (color_in p next);
         few = few_in p next i laid fit pos le;
         walk = subst (λ q. IsWalkBack spans keep (nodes_after p next) q (list_back (nodes_after p next) i)) (sym last) (subst (IsWalkBack spans keep (nodes_after p next) (link_place p i ((line_of p t i).up 0))) (sym up) s.back);
       };

@@ -14,7 +14,7 @@ use Rattle.xc_dance.specs.Links.Cells.{nodes_after, line_of}
 use Rattle.xc_dance.specs.Links.ItemCells.{items_after}
 use Rattle.xc_dance.specs.Links.Made.{CanMake, CanUnmake, nodes_made, items_made, nodes_unmade, items_unmade, made_cost, unmade_cost, IsFitted}
 use Rattle.xc_dance.specs.Cost.{cost_of, cost_of_newest}
-use Rattle.xc_dance.proofs.LinkedTables.OneNode.{get_down}
+use Rattle.xc_dance.proofs.LinkedTables.LinkColumns.{get_down}
 use Rattle.xc_dance.proofs.LinkedTables.ListLinks.{own_placed}
 use Rattle.xc_dance.proofs.LinkedTables.MoveStep.{MoveStep}
 

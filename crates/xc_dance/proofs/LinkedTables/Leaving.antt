@@ -1,7 +1,8 @@
 -- Options that leave an open item's list take their other uses out of the lists of the open items, and of no others.
-use Rattle.std.proofs.Common.{◌≡◌, ◌≢◌, ℕ, ◌<◌, ◌≤◌, Bool, true, false, not, cond, ◌&&◌, eqb, List, [], ◌∷◌, filter, refl, ap, sym, ◌∙◌, eq-eqb, ne_eqb}
+use Rattle.std.proofs.Common.{◌≡◌, ◌≢◌, ℕ, ◌<◌, ◌≤◌, true, false, not, cond, ◌&&◌, eqb, List, [], ◌∷◌, filter, refl, ap, sym, ◌∙◌, eq-eqb, ne_eqb}
 use Rattle.std.specs.Prelude.{is_some}
 use Rattle.std.proofs.lemmas.Bool.{false≢true}
+use Rattle.std.proofs.Math.Bool.{and-false}
 use Rattle.xc_dance.specs.declared.dance.Move.{Move}
 use Rattle.xc_input.specs.Problem.{Puzzle, item_count, colour_in, uses_of}
 use Rattle.xc_dance.specs.Moves.{is_open, AreLegal, listed_numbers}
@@ -33,18 +34,14 @@ pub record TakesOut (p : Puzzle) (t : List Move) (m : Move) (i : ℕ) (gs : List
 leaves_by : (p : Puzzle) (t : List Move) (i j x : ℕ) → IsFit p → leaves p (color_in p t) i j x ≡ ((not (eqb j i) && is_some (colour_in (uses_of p x) j)) && not (is_mark p (color_in p t) x j))
 leaves_by p t i j x fit = ap (λ b. b && not (is_mark p (color_in p t) x j)) (in_others p x i j (fit.distinct x))
 
-and_false : (a : Bool) → (a && false) ≡ false
-and_false true = refl
-and_false false = refl
-
 -- from a closed item's list none leaves
 pub leaves_shut : (p : Puzzle) (t : List Move) (i j : ℕ) (gs : List ℕ) → AreLegal p t → IsLaid p → IsFit p → is_open i t ≡ true → InRange p j → AreOf p t i gs → is_open j t ≡ false → filter (leaves p (color_in p t) i j) gs ≡ []
 leaves_shut p t i j gs legal laid fit opened r of shut =
     none_in (leaves p (color_in p t) i j) 0 gs (Rises-filter (leaves p (color_in p t) i j) 0 gs of.rise)
     (λ x e. leaves_by p t i j x fit
     ∙ elim (is_some (colour_in (uses_of p x) j)) as (λ b. is_some (colour_in (uses_of p x) j) ≡ b → ((not (eqb j i) && b) && not (is_mark p (color_in p t) x j)) ≡ false) [
-      | true ↦ λ n. ap (λ b. (not (eqb j i) && true) && not b) ((met_at p t i j x legal laid fit opened r.0 r.1 (of.among x e) n).shut shut) ∙ and_false (not (eqb j i) && true)
-      | false ↦ λ n. ap (λ b. b && not (is_mark p (color_in p t) x j)) (and_false (not (eqb j i)))
+      | true ↦ λ n. ap (λ b. (not (eqb j i) && true) && not b) ((met_at p t i j x legal laid fit opened r.0 r.1 (of.among x e) n).shut shut) ∙ and-false (not (eqb j i) && true)
+      | false ↦ λ n. ap (λ b. b && not (is_mark p (color_in p t) x j)) (and-false (not (eqb j i)))
     ] refl)
 
 -- nor from the list that is walked
@@ -72,7 +69,7 @@ leaves_open p t i j gs legal laid fit opened r of ne j_open =
               | false ↦ λ f. refl
             ] refl
           ] refl
-      | false ↦ λ e. and_false (leaves p (color_in p t) i j x)
+      | false ↦ λ e. and-false (leaves p (color_in p t) i j x)
     ] refl
     ∙ sym (in_filter (λ x. is_in x gs) x (listed_numbers p t j)))
 

@@ -1,5 +1,5 @@
 -- How many nodes leave the lists of an option's other items, counted option by option and item by item.
-use Rattle.std.proofs.Common.{◌≡◌, ℕ, ◌+◌, ◌-◌, ◌*◌, ◌<◌, ◌≤◌, Bool, true, false, not, cond, ◌&&◌, ◌||◌, eqb, List, [], ◌∷◌, length, filter, Option, refl, ap, sym, ◌∙◌, arith, eqb-true, eq-eqb, ne_eqb}
+use Rattle.std.proofs.Common.{◌≡◌, ℕ, ◌+◌, ◌-◌, ◌*◌, ◌<◌, ◌≤◌, Bool, true, false, not, cond, ◌&&◌, ◌||◌, eqb, List, [], ◌∷◌, length, filter, Option, refl, ap, sym, ◌∙◌, arith, eqb-true, eq-eqb}
 use Rattle.std.specs.Prelude.{is_some}
 use Rattle.std.proofs.lemmas.List.{length-map}
 use Rattle.xc_dance.specs.declared.dance.Move.{Move}
@@ -10,19 +10,15 @@ use Rattle.xc_dance.specs.Cost.{leaving}
 use Rattle.xc_dance.specs.Fields.{Node, is_in}
 use Rattle.xc_dance.specs.Links.Others.{other_items}
 use Rattle.xc_dance.specs.Links.Laid.{IsFit}
-use Rattle.xc_dance.proofs.LinkedTables.OneOption.{is_mark, IsApart}
+use Rattle.xc_dance.proofs.LinkedTables.OneOption.{is_mark}
 use Rattle.xc_dance.proofs.LinkedTables.OneList.{leavers, gone_count, step_costs}
-use Rattle.xc_dance.proofs.LinkedTables.OtherItems.{in_others, AllApart, leaves}
+use Rattle.xc_dance.proofs.LinkedTables.OtherItems.{out_of, in_others, AllApart, leaves}
 use Rattle.xc_dance.proofs.LinkedTables.OthersApart.{others_apart, item_range}
 use Rattle.xc_dance.proofs.LinkedTables.MetOptions.{split_and}
 use Rattle.xc_dance.proofs.LinkedTables.SameLines.{SameCut}
 use Rattle.xc_dance.proofs.LinkedTables.Totals.{total, sum_is_total, total_same, total_plus, total_zero, total_point, parts}
 
 -- ---- one option
-
-out_of : (j : ℕ) (js : List ℕ) → IsApart j js → is_in j js ≡ false
-out_of j [] h = refl
-out_of j (k ∷ ks) h = ap (λ b. b || is_in j ks) (ne_eqb k j h.0) ∙ out_of j ks h.1
 
 abbrev one_if : Bool → ℕ
 one_if b = cond b 1 0

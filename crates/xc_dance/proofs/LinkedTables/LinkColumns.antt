@@ -82,7 +82,7 @@ abbrev item_of : Option (ℕ × ℕ) → ℕ
 item_of None = 0
 item_of (Some s) = s.0
 
-abbrev member_of : Option (ℕ × ℕ) → ℕ
+abbrev pub member_of : Option (ℕ × ℕ) → ℕ
 member_of None = 0
 member_of (Some s) = s.1
 

@@ -11,7 +11,7 @@ use Rattle.xc_dance.specs.Links.Steps.{followed, list_of, list_back}
 use Rattle.xc_dance.specs.Links.Cells.{top_in, ulink_in, dlink_in, nodes_after, line_of}
 use Rattle.xc_dance.specs.Links.Laid.{Placed, IsLaid, IsFit}
 use Rattle.xc_dance.proofs.LinkedTables.Mapped.{get_within}
-use Rattle.xc_dance.proofs.LinkedTables.OneNode.{get_up, get_down, get_len}
+use Rattle.xc_dance.proofs.LinkedTables.LinkColumns.{get_up, get_down, get_len}
 use Rattle.xc_dance.proofs.LinkedTables.Goods.{Named}
 use Rattle.xc_dance.proofs.LinkedTables.LineSteps.{stands}
 use Rattle.xc_dance.proofs.LinkedTables.GoodLines.{numbers_few, numbers_named}

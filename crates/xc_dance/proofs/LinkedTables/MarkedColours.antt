@@ -2,6 +2,7 @@
 use Rattle.std.proofs.Common.{◌≡◌, ℕ, ◌<◌, Bool, true, false, not, cond, ◌&&◌, ◌||◌, eqb, List, [], ◌∷◌, Option, Some, None, refl, ap, sym, ◌∙◌, arith, eqb-true, eq-eqb, ne_eqb}
 use Rattle.std.specs.Prelude.{slice_get, unwrap_or}
 use Rattle.std.proofs.lemmas.Bool.{eqb-false}
+use Rattle.std.proofs.Math.Bool.{not-not}
 use Rattle.xc_dance.specs.declared.dance.Move.{Move}
 use Rattle.xc_dance.specs.declared.dance.Move.TheVariants.{Cover, Purify}
 use Rattle.xc_input.specs.Problem.{Puzzle, colour_in, uses_of}
@@ -84,10 +85,6 @@ marks true false k v = refl
 marks false true k v = refl
 marks false false k v = refl
 
-not_not : (b : Bool) → not (not b) ≡ b
-not_not true = refl
-not_not false = refl
-
 pub purify_colours : (p : Puzzle) (t : List Move) (i c : ℕ) → IsLaid p → (k : ℕ) (n : Node) → slice_get (layout p) k ≡ Some n → color_in p (Purify i c ∷ t) n ≡ marked_list p i (Some c) (purify_start p t i c) (listed_numbers p t i) n
 purify_colours p t i c laid k unused at = sym (marked_at p i (Some c) (purify_start p t i c) (listed_numbers p t i) unused)
 purify_colours p t i c laid k (spacer m) at = sym (marked_at p i (Some c) (purify_start p t i c) (listed_numbers p t i) (spacer m))
@@ -105,7 +102,7 @@ purify_colours p t i c laid k (used o u) at =
     elim (eqb u.item i) as (λ b. eqb u.item i ≡ b → color_in p (Purify i c ∷ t) (used o u) ≡ cond (b && (is_in o (listed_numbers p t i) && is_kept p i (Some c) o)) 4294967295 (cond (b && eqb o 0) c v)) [
       | true ↦ λ e.
           let same : u.item ≡ i = eqb-true u.item i e in
-          let kept : is_kept p i (Some c) o ≡ eqb c u.colour = ap (λ j. not (is_other_colour c (colour_in (uses_of p o) j))) (sym same) ∙ ap (λ d. not (is_other_colour c d)) colour ∙ not_not (eqb c u.colour) in
+          let kept : is_kept p i (Some c) o ≡ eqb c u.colour = ap (λ j. not (is_other_colour c (colour_in (uses_of p o) j))) (sym same) ∙ ap (λ d. not (is_other_colour c d)) colour ∙ not-not (eqb c u.colour) in
           ap (λ b. cond (cond ((b && eqb c u.colour) && is_in o (listed_numbers p t u.item)) true (is_marked p t u.item o u.colour)) 4294967295 u.colour) (eq-eqb i u.item (sym same))
           ∙ marks (eqb c u.colour) (is_in o (listed_numbers p t u.item)) (is_marked p t u.item o u.colour) u.colour
           ∙ ap (λ j. cond (is_in o (listed_numbers p t j) && eqb c u.colour) 4294967295 v) same

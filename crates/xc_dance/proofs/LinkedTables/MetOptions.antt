@@ -3,6 +3,7 @@ use Rattle.std.proofs.Common.{◌≡◌, ℕ, ◌<◌, ◌≤◌, Bool, true, fa
 use Rattle.std.specs.Prelude.{is_some}
 use Rattle.std.specs.List.{AllByRecursion}
 use Rattle.std.proofs.lemmas.Bool.{eqb-false, false≢true}
+use Rattle.std.proofs.Math.Bool.{not-not}
 use Rattle.xc_dance.specs.declared.dance.Move.{Move}
 use Rattle.xc_input.specs.Problem.{Puzzle, Numbered, item_count, colour_in, uses_of, holds, holding}
 use Rattle.xc_dance.specs.Moves.{listed, is_open, AreLegal, listed_numbers, is_other_colour}
@@ -75,10 +76,6 @@ ready_at p t i x legal laid fit opened within =
     ))
     (others_apart p x i fit)
 
-not_not : (b : Bool) → not (not b) ≡ b
-not_not true = refl
-not_not false = refl
-
 eqb_turn : (a b : ℕ) → eqb a b ≡ eqb b a
 eqb_turn a b = elim (eqb b a) as (λ c. eqb b a ≡ c → eqb a b ≡ c) [
   | true ↦ λ e. eq-eqb a b (sym (eqb-true b a e))
@@ -87,7 +84,7 @@ eqb_turn a b = elim (eqb b a) as (λ c. eqb b a ≡ c → eqb a b ≡ c) [
 
 test_is : (p : Puzzle) (i : ℕ) (keep : Option ℕ) (x c : ℕ) → colour_in (uses_of p x) i ≡ Some c → is_kept_colour keep c ≡ is_kept p i keep x
 test_is p i None x c e = refl
-test_is p i (Some d) x c e = eqb_turn c d ∙ sym (not_not (eqb d c)) ∙ sym (ap (λ o. not (is_other_colour d o)) e)
+test_is p i (Some d) x c e = eqb_turn c d ∙ sym (not-not (eqb d c)) ∙ sym (ap (λ o. not (is_other_colour d o)) e)
 
 -- its own node isn't marked, and tells whether it is kept
 pub own_ready : (p : Puzzle) (t : List Move) (i : ℕ) (keep : Option ℕ) (x : ℕ) → IsLaid p → IsFit p → is_open i t ≡ true → 0 < i → i ≤ item_count p → is_in x (listed_numbers p t i) ≡ true → OwnReady p (color_in p t) i keep x

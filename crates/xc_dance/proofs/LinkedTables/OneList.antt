@@ -17,9 +17,9 @@ use Rattle.xc_dance.specs.Links.Laid.{Placed, IsLaid}
 use Rattle.xc_dance.proofs.LinkedTables.Mapped.{get_within}
 use Rattle.xc_dance.proofs.LinkedTables.Undo.{fold-shown-reverse, written_back, same_nodes}
 use Rattle.xc_dance.proofs.LinkedTables.ReadyLemmas.{Stands}
-use Rattle.xc_dance.proofs.LinkedTables.OneNode.{get_up, get_down}
+use Rattle.xc_dance.proofs.LinkedTables.LinkColumns.{get_up, get_down}
 use Rattle.xc_dance.proofs.LinkedTables.Goods.{Named, AllGood}
-use Rattle.xc_dance.proofs.LinkedTables.Sweep.{Rises, in_above}
+use Rattle.xc_dance.proofs.LinkedTables.Sweep.{in_more, Rises, in_above}
 use Rattle.xc_dance.proofs.LinkedTables.UnmarkedCosts.{hide_costs-are, show_costs-are, unmarked-reverse, unmarked_items}
 use Rattle.xc_dance.proofs.LinkedTables.Colours.{coloured_is, color_here, color_other}
 use Rattle.xc_dance.proofs.LinkedTables.OneOption.{is_mark, left_one, left_all, IsApart, AreReady, Walked, walked}
@@ -212,9 +212,6 @@ pub record Turn (p : Puzzle) (col now : Node → ℕ) (spans : List Span) (i : �
   pub passed : Passed p i col now' xs
   pub lines : left_list p col i ln (leavers p i keep (o ∷ xs)) ≡ left_list p col i ln' (leavers p i keep xs)
   pub colours : marked_list p i keep now (o ∷ xs) ≡ marked_list p i keep now' xs
-
-in_more : (o x : ℕ) (xs : List ℕ) → is_in x xs ≡ true → is_in x (o ∷ xs) ≡ true
-in_more o x xs e = elim (eqb o x) as (λ b. (b || is_in x xs) ≡ true) [ true ↦ refl | false ↦ e ]
 
 and_false : (a b : Bool) → b ≡ false → (a && b) ≡ false
 and_false true b e = e

@@ -11,7 +11,7 @@ use Rattle.xc_dance.specs.Links.Cells.{fixed_up, fixed_down, top_in, nodes_from,
 use Rattle.xc_dance.specs.Links.Laid.{IsName, IsLaid}
 use Rattle.xc_dance.proofs.LinkedTables.Mapped.{get_within}
 use Rattle.xc_dance.proofs.LinkedTables.Undo.{same_nodes, shown-open, shown-marked}
-use Rattle.xc_dance.proofs.LinkedTables.OneNode.{column, get_link, set_link, set_top, get_item, get_len, size-is}
+use Rattle.xc_dance.proofs.LinkedTables.LinkColumns.{column, get_link, set_link, set_top, get_item, get_len, size_from}
 use Rattle.xc_dance.proofs.LinkedTables.OneOption.{is_mark, IsApart}
 use Rattle.xc_dance.proofs.LinkedTables.OtherItems.{AllApart}
 
@@ -52,7 +52,7 @@ show_open p col ln j o laid pos le o_pos m unmarked =
     let count' : get_or tops (get_or tops q 0) 0 ≡ (ln j).len = ap (λ k. get_or tops k 0) is_i ∙ count in
     record {
       can = record {
-        size = size-is p col ln;
+        size = size_from p ln col;
         place = omega (arith, long, q_in);
         places = λ _. record { place = omega (arith, long, q_in); top = omega (arith, long, at_head, is_i); above = omega (arith, long, u_in, is_u); below = omega (arith, long, d_in, is_d) };
         few = λ _. omega (arith, count', few);
@@ -73,7 +73,7 @@ show_marked p col ln j o laid pos le name marked =
     let long : length (map (top_in ln) (layout p)) ≡ length (layout p) = length-map (layout p) (top_in ln) in
     let bad : get_or (map col (layout p)) q 0 ≢ 4294967295 → ⊥ = λ ne. ne (eqb-true (get_or (map col (layout p)) q 0) 4294967295 marked) in
     record {
-      can = record { size = size-is p col ln; place = omega (arith, long, q_in); places = λ ne. absurd (bad ne); few = λ ne. absurd (bad ne) };
+      can = record { size = size_from p ln col; place = omega (arith, long, q_in); places = λ ne. absurd (bad ne); few = λ ne. absurd (bad ne) };
       done = shown-marked t q marked;
     }
 

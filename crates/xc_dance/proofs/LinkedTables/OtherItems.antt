@@ -63,6 +63,10 @@ in_others p o i k d = list_any-append (λ j. eqb j k) (behind_use i (uses_of p o
 
 -- ---- apart
 
+pub out_of : (j : ℕ) (js : List ℕ) → IsApart j js → is_in j js ≡ false
+out_of j [] h = refl
+out_of j (k ∷ ks) h = ap (λ b. b || is_in j ks) (ne_eqb k j h.0) ∙ out_of j ks h.1
+
 pub apart_from : (k : ℕ) (js : List ℕ) → is_in k js ≡ false → IsApart k js
 apart_from k [] e = tt
 apart_from k (j ∷ js) e =

@@ -1,9 +1,9 @@
 -- Members that left one line from top to bottom come back in the same order: each finds its neighbours of before, and at the end the line is as it was.
-use Rattle.std.proofs.Common.{◌≡◌, ◌≢◌, ℕ, ◌<◌, ◌≤◌, ◌⊎◌, inl, inr, Bool, true, false, not, cond, ◌||◌, ◌&&◌, eqb, List, [], ◌∷◌, filter, refl, ap, ap₂, sym, subst, ◌∙◌, arith}
+use Rattle.std.proofs.Common.{◌≡◌, ◌≢◌, ℕ, ◌<◌, ◌≤◌, ◌⊎◌, inl, inr, Bool, true, false, not, cond, ◌&&◌, List, [], ◌∷◌, filter, refl, ap, ap₂, sym, subst, ◌∙◌, arith}
 use Rattle.std.proofs.lemmas.Bool.{false≢true}
 use Rattle.xc_dance.specs.Links.Lines.{Line, put_at, mended, IsLinkedFrom}
 use Rattle.xc_dance.specs.Fields.{last_below, first_above, first_of, last_of, is_in}
-use Rattle.xc_dance.proofs.LinkedTables.Sweep.{Rises, Rises-filter, Swept, swept, stay, cuts, rises, not_in, in_above, is_in-first, is_in-other, by_first, put_at-same, put_at-other, last_below-none, last_below-self, last_below-more, last_of-more, first_above-first, first_above-more}
+use Rattle.xc_dance.proofs.LinkedTables.Sweep.{in_more, Rises, Rises-filter, Swept, swept, stay, cuts, rises, not_in, in_above, is_in-first, is_in-other, by_first, put_at-same, put_at-other, last_below-none, last_below-self, last_below-more, last_of-more, first_above-first, first_above-more}
 use Rattle.xc_dance.proofs.MoveLemmas.Members.{in_filter}
 
 -- The members before xs are back, a being the last of them and b the last of them that had stayed; those of xs that pass the test are still gone.
@@ -22,9 +22,6 @@ pub record Held (l m : Line) (a b : ℕ) (xs : List ℕ) (g : ℕ → Bool) : Ty
 next_is : (l : Line) (y : ℕ) (ys : List ℕ) → IsLinkedFrom l y ys → l.down y ≡ first_of 0 ys
 next_is l y [] h = h.0
 next_is l y (z ∷ zs) h = h.1
-
-in_more : (y x : ℕ) (ys : List ℕ) → is_in x ys ≡ true → is_in x (y ∷ ys) ≡ true
-in_more y x ys e = elim (eqb y x) as (λ b. (b || is_in x ys) ≡ true) [ true ↦ refl | false ↦ e ]
 
 -- what stays of the rest is not below its first
 near : (b z : ℕ) (zs : List ℕ) (g : ℕ → Bool) → Rises z zs → last_below b z (stay g (z ∷ zs)) ≡ b

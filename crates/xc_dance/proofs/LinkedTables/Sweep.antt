@@ -40,6 +40,9 @@ is_in-other y x ys ne = rw (ne_eqb y x ne) refl
 pub is_in-first : (y : ℕ) (ys : List ℕ) → is_in y (y ∷ ys) ≡ true
 is_in-first y ys = rw (eq-eqb y y refl) refl
 
+pub in_more : (y x : ℕ) (ys : List ℕ) → is_in x ys ≡ true → is_in x (y ∷ ys) ≡ true
+in_more y x ys e = elim (eqb y x) as (λ b. (b || is_in x ys) ≡ true) [ true ↦ refl | false ↦ e ]
+
 -- ---- neighbours
 
 last_or_some : (y a : ℕ) (zs : List ℕ) → unwrap_or (last_or (Some y) zs) a ≡ unwrap_or (last_or None zs) y

@@ -2,6 +2,7 @@
 use Rattle.std.proofs.Common.{◌≡◌, ◌≢◌, ℕ, Bool, true, false, not, cond, ◌&&◌, ◌||◌, eqb, List, [], ◌∷◌, map, drop, take, Some, None, refl, ap, sym, subst, ◌∙◌, eq-eqb, ne_eqb}
 use Rattle.std.specs.List.{AllByRecursion}
 use Rattle.std.proofs.lemmas.List.Elements.{filter_agree}
+use Rattle.std.proofs.Math.Bool.{not-not}
 use Rattle.xc_dance.specs.declared.dance.Move.{Move}
 use Rattle.xc_dance.specs.declared.dance.Move.TheVariants.{Cover, Purify, Tweak}
 use Rattle.xc_input.specs.Problem.{Puzzle, Numbered, colour_in, colour_at, uses_of, holds}
@@ -53,16 +54,12 @@ own_cover p t i = ap (λ b. map (λ o. o.number) (cond (not b && is_open i t) (w
 
 -- ---- Purify
 
-not_not : (b : Bool) → not (not b) ≡ b
-not_not true = refl
-not_not false = refl
-
 others_numbers : (p : Puzzle) (i c : ℕ) (os : List Numbered) → AllByRecursion (IsOption p) os → map (λ o. o.number) (other_colours i c os) ≡ leavers p i (Some c) (map (λ o. o.number) os)
 others_numbers p i c os a =
     let f : ℕ → Bool = λ x. not (is_kept p i (Some c) x) in
     ap (map (λ o. o.number)) (filter_same (λ o. is_other_colour c (colour_at o i)) (λ o. f o.number) os
     (each_one (IsOption p) (λ o. is_other_colour c (colour_at o i) ≡ f o.number) os
-    (λ o is. sym (not_not (is_other_colour c (colour_in (uses_of p o.number) i)) ∙ ap (λ us. is_other_colour c (colour_in us i)) is.1)) a))
+    (λ o is. sym (not-not (is_other_colour c (colour_in (uses_of p o.number) i)) ∙ ap (λ us. is_other_colour c (colour_in us i)) is.1)) a))
     ∙ filter_numbers f os
 
 pub takes_purify : (p : Puzzle) (t : List Move) (i c : ℕ) → AreLegal p t → is_open i t ≡ true → TakesOut p t (Purify i c) i (leavers p i (Some c) (listed_numbers p t i))

@@ -19,7 +19,8 @@ use Rattle.xc_dance.specs.Links.Made.{IsFitted}
 use Rattle.xc_dance.proofs.LinkedTables.Mapped.{get_within}
 use Rattle.xc_dance.proofs.LinkedTables.Undo.{relinked-unlinked, fold-shown-reverse}
 use Rattle.xc_dance.proofs.LinkedTables.ReadyLemmas.{CanRelink-unlinked}
-use Rattle.xc_dance.proofs.LinkedTables.OneNode.{IsMember, get_down, unlinked-is, linked-is, names-is, size-is, get_item, get_len}
+use Rattle.xc_dance.proofs.LinkedTables.OneNode.{IsMember, unlinked-is, linked-is, names-is}
+use Rattle.xc_dance.proofs.LinkedTables.LinkColumns.{get_down, get_item, get_len, size_from}
 use Rattle.xc_dance.proofs.LinkedTables.Sweep.{Rises, stay, cuts, is_in-first}
 use Rattle.xc_dance.proofs.LinkedTables.Goods.{Named, IsGood, AllGood, member}
 use Rattle.xc_dance.proofs.LinkedTables.OneOption.{left_all, walked}
@@ -237,7 +238,7 @@ by_mid p t spans covered i fit pos le f mid =
     let few : (mid.ln i).len < 2 ^ 31 = let a : (mid.ln i).len ≡ length (o ∷ f.os) = good.len in let b : length (o ∷ f.os) < 2 ^ 31 = good.few in omega arith in
     let linked = linked-is p col mid.ln i o laid m in
     let names = names-is p col mid.ln i o laid m in
-    let size = size-is p col mid.ln in
+    let size = size_from p mid.ln col in
     let here = laid.there i o pos le m.name in
     let count : get_or u.top (get_or u.top x 0) 0 ≡ (mid.ln i).len = ap (λ k. get_or u.top k 0) (get_item p mid.ln i o here m.pos) ∙ get_len p mid.ln i laid pos le in
     let out : unlinked u x ≡ nodes_from p (with_line mid.ln i l) col = unlinked-is p col mid.ln i o laid m in

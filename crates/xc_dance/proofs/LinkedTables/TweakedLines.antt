@@ -2,6 +2,7 @@
 use Rattle.std.proofs.Common.{◌≡◌, ◌≢◌, ℕ, zero, suc, ◌+◌, ◌*◌, ◌-◌, ◌<◌, ◌≤◌, Bool, true, false, not, cond, ◌&&◌, eqb, List, [], ◌∷◌, ◌++◌, length, map, filter, drop, reverse, get_or, refl, ap, ap₂, sym, subst, ◌∙◌, arith}
 use Rattle.std.proofs.lemmas.List.{reverse-append}
 use Rattle.std.proofs.lemmas.List.Sums.{fold-append}
+use Rattle.std.proofs.lemmas.List.{map-append}
 use Rattle.xc_dance.specs.declared.dance.Move.{Move}
 use Rattle.xc_dance.specs.declared.dance.Move.TheVariants.{Tweak}
 use Rattle.xc_dance.specs.declared.links.nodes.Span.{Span}
@@ -20,12 +21,12 @@ use Rattle.xc_dance.proofs.LinkedTables.SameLines.{SameCut, SameLine, line_after
 use Rattle.xc_dance.proofs.LinkedTables.Leaving.{cut_others}
 use Rattle.xc_dance.proofs.LinkedTables.TakenOut.{first_alone, takes_tweak, tweak_own}
 use Rattle.xc_dance.proofs.LinkedTables.TweakStep.{tweak_made, HasFirst, has_first, tweak_cut, tweak_shut, tweak_colours, first_of-list}
-use Rattle.xc_dance.proofs.LinkedTables.Climb.{to_come, map_append, back_writes}
+use Rattle.xc_dance.proofs.LinkedTables.Climb.{to_come, back_writes}
 use Rattle.xc_dance.specs.declared.links.nodes.Nodes.{Nodes}
 use Rattle.xc_dance.specs.Cost.{cost_of, cost_of_newest}
 use Rattle.xc_dance.specs.Links.Steps.{hide_costs, others_of}
 use Rattle.xc_dance.proofs.LinkedTables.OneList.{gone_count}
-use Rattle.xc_dance.proofs.LinkedTables.OneNode.{get_down}
+use Rattle.xc_dance.proofs.LinkedTables.LinkColumns.{get_down}
 use Rattle.xc_dance.proofs.LinkedTables.ListLinks.{own_placed}
 use Rattle.xc_dance.proofs.LinkedTables.Goods.{Named}
 use Rattle.xc_dance.proofs.LinkedTables.GoodLines.{numbers_named}
@@ -194,6 +195,6 @@ tweaked_lines p t spans covered i (suc k) legal fit opened =
         opened = h.opened;
         taken =
             ap₂ (λ y ys. y ∷ ys) (ap (λ ks. link_place p i (first_of 0 ks)) f.is) h.taken
-            ∙ ap (λ ys. ys ++ taken_nodes p t) (sym (ap reverse (map_append (link_place p i) os (o ∷ [])) ∙ reverse-append (map (link_place p i) os) (x ∷ [])));
+            ∙ ap (λ ys. ys ++ taken_nodes p t) (sym (ap reverse (map-append (link_place p i) os (o ∷ [])) ∙ reverse-append (map (link_place p i) os) (x ∷ [])));
       };
     }

@@ -18,7 +18,7 @@ use Rattle.xc_dance.specs.Links.Laid.{IsLaid}
 use Rattle.xc_dance.specs.Links.Made.{IsFitted}
 use Rattle.xc_dance.proofs.LinkedTables.Mapped.{map_same, get_within}
 use Rattle.xc_dance.proofs.LinkedTables.Undo.{same_nodes}
-use Rattle.xc_dance.proofs.LinkedTables.OneNode.{set_link, set_top, get_len}
+use Rattle.xc_dance.proofs.LinkedTables.LinkColumns.{set_link, set_top, get_len}
 use Rattle.xc_dance.proofs.LinkedTables.Sweep.{Rises, cuts, rises, by_first, put_at-same, put_at-other, cut-linked}
 use Rattle.xc_dance.proofs.LinkedTables.OtherItems.{leaves}
 use Rattle.xc_dance.proofs.LinkedTables.LineSteps.{stands, leave_none}

@@ -18,7 +18,7 @@ use Rattle.xc_dance.specs.Links.ItemCells.{items_after}
 use Rattle.xc_dance.specs.Links.Laid.{IsLaid}
 use Rattle.xc_dance.specs.Links.Made.{IsFitted, CanTell}
 use Rattle.xc_dance.proofs.LinkedTables.Mapped.{get_within}
-use Rattle.xc_dance.proofs.LinkedTables.OneNode.{get_item}
+use Rattle.xc_dance.proofs.LinkedTables.LinkColumns.{get_item}
 use Rattle.xc_dance.proofs.LinkedTables.Sweep.{in_above, is_in-first}
 use Rattle.xc_dance.proofs.LinkedTables.Goods.{Named}
 use Rattle.xc_dance.proofs.LinkedTables.GoodLines.{numbers_named}

@@ -6,6 +6,7 @@ use Rattle.std.proofs.lemmas.Bool.{ne_eqb}
 use Rattle.std.proofs.lemmas.List.Folds.{list_any-append}
 use Rattle.std.proofs.lemmas.List.Elements.{All-filter}
 use Rattle.std.proofs.lemmas.Option.{slice_get_within}
+use Rattle.std.proofs.Math.Bool.{and-false}
 use Rattle.xc_input.specs.declared.problem.Use.{Use}
 use Rattle.xc_input.specs.Problem.{Puzzle, uses_of, numbered_get, option_count}
 use Rattle.xc_dance.specs.declared.dance.Move.{Move}
@@ -40,10 +41,6 @@ or_false false = refl
 and_same : (a : Bool) → a ≡ (a && a)
 and_same true = refl
 and_same false = refl
-
-and_false : (a : Bool) → (a && false) ≡ false
-and_false true = refl
-and_false false = refl
 
 pub less_none : (l : List ℕ) → less [] l ≡ l
 less_none [] = refl
@@ -142,7 +139,7 @@ read_option p t j gone at row now ls low high are is read lt =
 pub hidden_none : (t : List Move) (j o n : ℕ) (ls : List (List ℕ)) → hidden_from t j [] o n ls ≡ ls
 hidden_none t j o n [] = refl
 hidden_none t j o n (l ∷ ls) =
-    ap₂ (λ k ks. k ∷ ks) (ap (λ b. cond b (less (o ∷ []) l) l) (and_false (not (eqb n j) && is_open n t))) (hidden_none t j o (n + 1) ls)
+    ap₂ (λ k ks. k ∷ ks) (ap (λ b. cond b (less (o ∷ []) l) l) (and-false (not (eqb n j) && is_open n t))) (hidden_none t j o (n + 1) ls)
 
 has_use_more : (us : List Use) (u : Use) (i : ℕ) → has_use (us ++ u ∷ []) i ≡ (has_use us i || eqb u.item i)
 has_use_more us u i = list_any-append (λ v. eqb v.item i) us (u ∷ []) ∙ ap (λ b. has_use us i || b) (or_false (eqb u.item i))

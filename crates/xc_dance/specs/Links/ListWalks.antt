@@ -1,10 +1,8 @@
 -- A walk over a list, which may keep the nodes of one colour.
-use Rattle.std.specs.Prelude.{Bool, false, Option, Some, None, ℕ, ◌+◌, ◌-◌, ◌<◌, ◌≡◌, ◌≢◌, ◌==◌, List, [], ◌∷◌, ◌++◌, length, slice_index, slice_set, if◌then◌else◌, fold, ◌^◌, reverse}
-use Rattle.std.proofs.Common.{zero, suc, get_or}
-use Rattle.std.specs.List.{range_with_len}
+use Rattle.std.specs.Prelude.{Bool, false, Option, Some, None, ℕ, ◌+◌, ◌<◌, ◌≡◌, ◌==◌, List, [], ◌∷◌, length, slice_index, slice_set, if◌then◌else◌, ◌^◌, reverse}
 use Rattle.xc_dance.specs.declared.links.nodes.Nodes.{Nodes}
 use Rattle.xc_dance.specs.declared.links.nodes.Span.{Span}
-use Rattle.xc_dance.specs.Links.Steps.{HasSize, hidden, hide_costs, CanHideAll, CanShowAll, show_costs, others_of, hidden_node, list_of, shown_node, list_back}
+use Rattle.xc_dance.specs.Links.Steps.{HasSize, hide_costs, CanHideAll, CanShowAll, show_costs, others_of, hidden_node, list_of, shown_node, list_back}
 
 -- node q has this colour now
 abbrev pub with_colour : Nodes → ℕ → ℕ → Nodes

@@ -1,5 +1,5 @@
 -- One step of a walk over the node table, and the walk round one option.
-use Rattle.std.specs.Prelude.{Bool, false, Option, Some, None, ℕ, ◌+◌, ◌-◌, ◌<◌, ◌≡◌, ◌≢◌, ◌==◌, List, [], ◌∷◌, ◌++◌, length, slice_index, slice_set, if◌then◌else◌, fold, ◌^◌, reverse}
+use Rattle.std.specs.Prelude.{ℕ, ◌+◌, ◌-◌, ◌<◌, ◌≡◌, ◌≢◌, ◌==◌, List, [], ◌∷◌, ◌++◌, length, slice_index, slice_set, if◌then◌else◌, fold, ◌^◌, reverse}
 use Rattle.std.proofs.Common.{zero, suc, get_or}
 use Rattle.std.specs.List.{range_with_len}
 use Rattle.xc_dance.specs.declared.links.nodes.Nodes.{Nodes}

@@ -1,10 +1,8 @@
 -- Tweak on the node table.
-use Rattle.std.specs.Prelude.{Bool, false, Option, Some, None, ℕ, ◌+◌, ◌-◌, ◌<◌, ◌≡◌, ◌≢◌, ◌==◌, List, [], ◌∷◌, ◌++◌, length, slice_index, slice_set, if◌then◌else◌, fold, ◌^◌, reverse}
-use Rattle.std.proofs.Common.{zero, suc, get_or}
-use Rattle.std.specs.List.{range_with_len}
+use Rattle.std.specs.Prelude.{Bool, false, ℕ, ◌+◌, ◌<◌, ◌≡◌, List, length, slice_index, if◌then◌else◌, ◌^◌, reverse}
 use Rattle.xc_dance.specs.declared.links.nodes.Nodes.{Nodes}
 use Rattle.xc_dance.specs.declared.links.nodes.Span.{Span}
-use Rattle.xc_dance.specs.Links.Steps.{HasSize, NamesPlaces, unlinked, relinked, hidden, hide_costs, CanHideAll, CanShowAll, show_costs, others_of, hidden_node, shown_node}
+use Rattle.xc_dance.specs.Links.Steps.{HasSize, NamesPlaces, unlinked, relinked, hide_costs, CanHideAll, CanShowAll, show_costs, others_of, hidden_node, shown_node}
 
 -- where item i isn't covered, the option of node x is hidden first
 abbrev pub hidden_unless : List Span → Bool → Nodes → ℕ → Nodes

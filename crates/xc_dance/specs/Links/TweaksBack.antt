@@ -1,7 +1,5 @@
 -- Many Tweaks undone at once, downwards.
-use Rattle.std.specs.Prelude.{Bool, false, Option, Some, None, ℕ, ◌+◌, ◌-◌, ◌<◌, ◌≡◌, ◌≢◌, ◌==◌, List, [], ◌∷◌, ◌++◌, length, slice_index, slice_set, if◌then◌else◌, fold, ◌^◌, reverse}
-use Rattle.std.proofs.Common.{zero, suc, get_or}
-use Rattle.std.specs.List.{range_with_len}
+use Rattle.std.specs.Prelude.{Bool, false, ℕ, ◌+◌, ◌<◌, ◌≡◌, List, [], ◌∷◌, length, slice_index, slice_set, if◌then◌else◌, fold, ◌^◌, reverse}
 use Rattle.xc_dance.specs.declared.links.nodes.Nodes.{Nodes}
 use Rattle.xc_dance.specs.declared.links.nodes.Span.{Span}
 use Rattle.xc_dance.specs.Links.Steps.{CanShowAll, show_costs, others_of, followed}

@@ -1,5 +1,5 @@
 -- Two columns are equal where all their cells are.
-use Rattle.std.proofs.Common.{arith, ◌≡◌, ◌<◌, ◌∙◌, ℕ, ap, sym, length, get_or}
+use Rattle.std.proofs.Common.{arith, ◌<◌, ◌∙◌, ℕ, ap, sym, length, get_or}
 use Rattle.std.proofs.lemmas.Bool.{false≢true}
 use Rattle.std.proofs.lemmas.List.{length-map, get_or-map, take_more_same}
 use Rattle.xc_dance.specs.declared.links.cells.Cell.{Cell}

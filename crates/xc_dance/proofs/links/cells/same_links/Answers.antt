@@ -1,5 +1,5 @@
 -- Two columns of links are equal where all their links are, both ways.
-use Rattle.std.proofs.Common.{arith, ◌≡◌, ◌<◌, ◌∙◌, ◌&&◌, eqb, ℕ, Bool, true, false, ap, ap₂, sym, length, get_or, eqb-true, eq-eqb}
+use Rattle.std.proofs.Common.{arith, ◌<◌, ◌∙◌, ◌&&◌, ℕ, ap, ap₂, sym, length, get_or, eqb-true, eq-eqb}
 use Rattle.std.proofs.lemmas.Bool.{false≢true, and_parts}
 use Rattle.std.proofs.lemmas.List.{length-map, get_or-map, take_more_same}
 use Rattle.xc_dance.specs.declared.links.cells.Link.{Link}

@@ -1,4 +1,4 @@
-use Rattle.std.proofs.Common.{◌≡◌, ◌≤◌, map, replicate, length}
+use Rattle.std.proofs.Common.{◌≡◌, ◌≤◌, replicate, length}
 use Rattle.std.specs.Prelude.{vec_capacity}
 use Rattle.xc_dance.specs.Links.Columns.{values}
 use Rattle.xc_dance.proofs.links.cells.zeros.Given as goal
