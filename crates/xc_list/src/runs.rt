@@ -12,7 +12,7 @@ use crate::sink::Sink;
 use crate::text::SinkFault;
 use crate::words::Words;
 use std::alloc::Global;
-use xc_dance::{Dance, Lists, Memory};
+use xc_dance::{Dance, Links, Memory};
 use xc_input::Problem;
 use xc_search::{Choice, Search, Step, most_moves};
 
@@ -116,8 +116,8 @@ pub fn run_over<D: Dance, S: Sink>(
     }
 }
 
-/// Does what `run_over` does over live lists of its own. Want of memory is answered with nothing
-/// written.
+/// Does what `run_over` does over linked tables of its own, with room for as many moves as a search
+/// makes at most. Want of memory is answered with nothing written.
 pub fn run<S: Sink>(
     alloc: Global,
     problem: &Problem,
@@ -133,7 +133,7 @@ pub fn run<S: Sink>(
     ensures complete { EachCoverIsListedOnce problem.now.puzzle }
 {
     let _items = problem.items();
-    let lists = Lists::new(alloc, problem, most_moves(problem))?;
-    let (_, end) = run_over(alloc, lists, problem, words, sink);
+    let links = Links::new(alloc, problem, most_moves(problem))?;
+    let (_, end) = run_over(alloc, links, problem, words, sink);
     end
 }
