@@ -1,4 +1,5 @@
 pub mod Books
+pub mod Built
 pub mod Judging
 pub mod Kinds
 pub mod Known

@@ -1,8 +1,9 @@
 -- What a run writes, and its end.
-use Rattle.std.specs.Prelude.{ℕ, ◌-◌, ◌<◌, ◌≤◌, ◌≡◌, true, List, [], ◌++◌, length, take, Option, Some, if◌then◌else◌, nat_lt}
+use Rattle.std.specs.Prelude.{ℕ, ◌-◌, ◌<◌, ◌≤◌, ◌≡◌, true, List, [], ◌++◌, length, take, Option, Some, Result, MatchResult, if◌then◌else◌, nat_lt}
 use Rattle.std.specs.Io.KnownBytes.{Appends}
 use Rattle.xc_input.specs.Calls.{Rose}
-use Rattle.xc_list.specs.Texts.{Took}
+use Rattle.xc_list.specs.Texts.{Took, IsUntouched}
+use Rattle.xc_dance.specs.declared.dance.Memory.{Memory}
 use Rattle.xc_search.specs.declared.choice.Choice.{Choice}
 use Rattle.xc_input.specs.Problem.{numbered_get}
 use Rattle.xc_search.specs.Cover.{members}
@@ -31,6 +32,10 @@ abbrev pub IsRun : Named → ℕ → ℕ → ℕ × Option (List ℕ) → ℕ ×
 IsRun a spacing limit old new (Done n) = (n ≡ length (members a.puzzle)) × (n < limit) × Took old new (output a spacing limit)
 IsRun a spacing limit old new (Limit n) = (n ≡ limit) × (limit ≤ length (members a.puzzle)) × Took old new (output a spacing limit)
 IsRun a spacing limit old new (WriteFailed t) = StoppedAt a spacing limit t old new
+
+-- What a run answers: its end, with what was written up to it; or, where there was no memory for the search, nothing was written.
+abbrev pub AnswersRun : Named → ℕ → ℕ → ℕ × Option (List ℕ) → ℕ × Option (List ℕ) → Result End Memory → Type 0
+AnswersRun a spacing limit old new r = MatchResult r (IsRun a spacing limit old new) (λ _. IsUntouched old new)
 
 -- How a run ends where no write fails: by the limit where there are as many members, else after the last one
 abbrev pub end_of : Named → ℕ → End

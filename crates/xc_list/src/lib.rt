@@ -18,7 +18,7 @@ mod words;
 pub use judge::{ListingFault, Verdict, check};
 pub use messages::{summary, warnings, word_fault};
 pub use print::write_solution;
-pub use runs::{End, run, run_over};
+pub use runs::{End, run, run_over, run_over_links};
 pub use sink::{Sink, Tray, WriteFailed};
 pub use text::{SinkFault, write_all, write_number, write_numbered};
 pub use words::{WordFault, Words};

@@ -1,18 +1,19 @@
 //! A run over a search.
-ghost use Rattle.std.specs.Prelude.{◌≡◌, ℕ, ◌+◌, ◌-◌, ◌<◌, ◌≤◌, [], All, MatchResult};
+ghost use Rattle.std.specs.Prelude.{◌≡◌, ℕ, ◌+◌, ◌-◌, ◌<◌, ◌≤◌, [], All, IfOk, MatchResult};
 ghost use Rattle.xc_list.specs.Texts.{Writes, IsUntouched};
 ghost use Rattle.xc_search.specs.Cover.{members, EachMemberCovers, EachCoverIsListedOnce};
 ghost use Rattle.xc_search.specs.Room.{room_for};
 ghost use Rattle.xc_list.specs.Output.{is_printed};
 ghost use Rattle.xc_list.specs.Known.{IsKnownChoice};
-ghost use Rattle.xc_list.specs.Runs.{printed_text, IsRun};
+ghost use Rattle.xc_list.specs.Runs.{printed_text, IsRun, AnswersRun};
+ghost use Rattle.xc_list.specs.Built.{AreAsBuilt};
 
 use crate::print::write_solution;
 use crate::sink::Sink;
 use crate::text::SinkFault;
 use crate::words::Words;
 use std::alloc::Global;
-use xc_dance::{Dance, Lists, Memory};
+use xc_dance::{Dance, Links, Memory};
 use xc_input::Problem;
 use xc_search::{Choice, Search, Step, most_moves};
 
@@ -98,11 +99,8 @@ pub fn run_over<D: Dance, S: Sink>(
     requires room { room_for problem.now.puzzle ≤ D.limit dance }
     ensures dance { (D.problem result.0 ≡ problem.now.puzzle) × (D.trail result.0 ≡ []) }
     ensures room { D.limit result.0 ≡ D.limit dance }
-    ensures run { MatchResult result.1
-        (IsRun problem.now words.spacing words.limit
-        (S.failures sink.old, S.taken sink.old) (S.failures sink.new, S.taken sink.new))
-        (λ _. IsUntouched
-        (S.failures sink.old, S.taken sink.old) (S.failures sink.new, S.taken sink.new)) }
+    ensures run { AnswersRun problem.now words.spacing words.limit
+        (S.failures sink.old, S.taken sink.old) (S.failures sink.new, S.taken sink.new) result.1 }
     ensures right { EachMemberCovers problem.now.puzzle }
     ensures complete { EachCoverIsListedOnce problem.now.puzzle }
 {
@@ -116,7 +114,31 @@ pub fn run_over<D: Dance, S: Sink>(
     }
 }
 
-/// Does what `run_over` does over live lists of its own. Want of memory is answered with nothing
+/// Does what `run_over` does over linked tables of its own, and gives them back beside the answer.
+/// However the run ended, by exhaustion, by its limit, at a failed write or for want of memory: each
+/// field of the tables is as it was built. Fails with nothing written where there was no memory for
+/// them.
+pub fn run_over_links<S: Sink>(
+    alloc: Global,
+    problem: &Problem,
+    words: Words,
+    sink: &mut S,
+) -> Result<(Links, Result<End, Memory>), Memory>
+    ensures built { IfOk result (λ back. AreAsBuilt problem.now.puzzle back.0) }
+    ensures run { MatchResult result
+        (λ back. AnswersRun problem.now words.spacing words.limit
+        (S.failures sink.old, S.taken sink.old) (S.failures sink.new, S.taken sink.new) back.1)
+        (λ _. IsUntouched
+        (S.failures sink.old, S.taken sink.old) (S.failures sink.new, S.taken sink.new)) }
+    ensures right { EachMemberCovers problem.now.puzzle }
+    ensures complete { EachCoverIsListedOnce problem.now.puzzle }
+{
+    let _items = problem.items();
+    let links = Links::new(alloc, problem, most_moves(problem))?;
+    Ok(run_over(alloc, links, problem, words, sink))
+}
+
+/// Does what `run_over_links` does, and lets the tables go. Want of memory is answered with nothing
 /// written.
 pub fn run<S: Sink>(
     alloc: Global,
@@ -124,16 +146,11 @@ pub fn run<S: Sink>(
     words: Words,
     sink: &mut S,
 ) -> Result<End, Memory>
-    ensures run { MatchResult result
-        (IsRun problem.now words.spacing words.limit
-        (S.failures sink.old, S.taken sink.old) (S.failures sink.new, S.taken sink.new))
-        (λ _. IsUntouched
-        (S.failures sink.old, S.taken sink.old) (S.failures sink.new, S.taken sink.new)) }
+    ensures run { AnswersRun problem.now words.spacing words.limit
+        (S.failures sink.old, S.taken sink.old) (S.failures sink.new, S.taken sink.new) result }
     ensures right { EachMemberCovers problem.now.puzzle }
     ensures complete { EachCoverIsListedOnce problem.now.puzzle }
 {
-    let _items = problem.items();
-    let lists = Lists::new(alloc, problem, most_moves(problem))?;
-    let (_, end) = run_over(alloc, lists, problem, words, sink);
+    let (_, end) = run_over_links(alloc, problem, words, sink)?;
     end
 }

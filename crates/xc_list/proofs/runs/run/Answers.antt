@@ -1,9 +1,0 @@
-use Rattle.xc_search.proofs.Covering.{each_member_covers}
-use Rattle.xc_search.proofs.Exactly.{each_cover_is_listed_once}
-use Rattle.xc_list.proofs.runs.run.Goals as goal
-
-pub returns-in_err-lists-clause-right : goal.returns-in_err-lists-clause-right
-returns-in_err-lists-clause-right g c = each_member_covers c.args.problem.now.puzzle c.items-items.ensures.valid
-
-pub returns-in_err-lists-clause-complete : goal.returns-in_err-lists-clause-complete
-returns-in_err-lists-clause-complete g c = each_cover_is_listed_once c.args.problem.now.puzzle c.items-items.ensures.valid

@@ -1,0 +1,170 @@
+//! Worked problems: runs over live lists and over linked tables list the same and end alike.
+use super::{ALL, COLOURS, SEVEN, end_over_links, end_over_lists, problem_of};
+use crate::{End, Tray, Words};
+use std::alloc::Global;
+use std::test::Fail;
+use xc_input::Kind;
+
+/// What is asked of a worked problem.
+#[derive(Clone, Copy)]
+struct Row<'a> {
+    kind: Kind,
+    text: &'a [u8],
+    words: Words,
+    /// How many bytes the sink takes, one by one. Then it takes none where `zero` is set; else it
+    /// fails.
+    room: usize,
+    zero: bool,
+}
+
+/// Whether runs over both keepers list this, end so, and leave linked tables as built.
+fn gives(alloc: Global, row: &Row, listing: &[u8], end: End) -> Result<bool, Fail> {
+    let problem = problem_of(alloc, row.kind, row.text)?;
+    let mut plain = Tray::new(alloc, 1, row.room, row.zero)?;
+    let mut linked = Tray::new(alloc, 1, row.room, row.zero)?;
+    let by_lists = end_over_lists(alloc, &problem, row.words, &mut plain)?;
+    let by_links = end_over_links(alloc, &problem, row.words, &mut linked)?;
+    let alike = plain.bytes() == listing && linked.bytes() == listing;
+    Ok(alike && by_lists == end && by_links == Some(end))
+}
+
+/// Whether the runs list this up to this end, by words.
+fn asked(
+    alloc: Global,
+    kind: Kind,
+    text: &[u8],
+    words: Words,
+    listing: &[u8],
+    end: End,
+) -> Result<bool, Fail> {
+    let row = Row {
+        kind,
+        text,
+        words,
+        room: 1000,
+        zero: false,
+    };
+    gives(alloc, &row, listing, end)
+}
+
+/// Whether the runs list all solutions so, as many as these.
+fn all(alloc: Global, kind: Kind, text: &[u8], listing: &[u8], count: u64) -> Result<bool, Fail> {
+    asked(alloc, kind, text, ALL, listing, End::Done(count))
+}
+
+#[test]
+fn seven_items(rt: HostRuntime) -> Result<(), Fail> {
+    let listing = b"1:\n a d f (2 of 2)\n b g (1 of 1)\n c e (1 of 1)\n";
+    assert!(rt; all(rt.alloc(), Kind::Plain, SEVEN, listing, 1)?);
+    Ok(())
+}
+
+#[test]
+fn two_colours(rt: HostRuntime) -> Result<(), Fail> {
+    let listing = b"1:\n q x:A (2 of 2)\n p r x:A y (1 of 1)\n";
+    assert!(rt; all(rt.alloc(), Kind::Colours, COLOURS, listing, 1)?);
+    Ok(())
+}
+
+#[test]
+fn once_or_twice(rt: HostRuntime) -> Result<(), Fail> {
+    let text = b"1:2|A B\nA\nA B\nB\n";
+    let listing =
+        b"1:\n A (1 of 2)\n A B (1 of 2)\n2:\n A (1 of 2)\n null A (2 of 2)\n B (1 of 1)\n3:\n A B (2 of 2)\n null A (1 of 1)\n";
+    assert!(rt; all(rt.alloc(), Kind::Bounds, text, listing, 3)?);
+    Ok(())
+}
+
+/// What three equal options give by each spacing and limit.
+fn three_alike(alloc: Global) -> Result<bool, Fail> {
+    let first = b"1:\n A (1 of 3)\n2:\n A (2 of 3)\n3:\n A (3 of 3)\n";
+    let rows: [(u64, u64, &[u8], End); 4] = [
+        (2, u64::MAX, &first[15..30], End::Done(3)),
+        (1, 2, &first[..30], End::Limit(2)),
+        (1, 3, first, End::Limit(3)),
+        (0, u64::MAX, b"", End::Done(3)),
+    ];
+    for &(spacing, limit, listing, end) in &rows {
+        let words = Words { spacing, limit };
+        if !asked(alloc, Kind::Plain, b"A\nA\nA\nA\n", words, listing, end)? {
+            return Ok(false);
+        }
+    }
+    Ok(true)
+}
+
+#[test]
+fn spacing_and_limit(rt: HostRuntime) -> Result<(), Fail> {
+    assert!(rt; three_alike(rt.alloc())?);
+    Ok(())
+}
+
+#[test]
+fn no_cover(rt: HostRuntime) -> Result<(), Fail> {
+    assert!(rt; all(rt.alloc(), Kind::Plain, b"A B\nA\n", b"", 0)?);
+    Ok(())
+}
+
+#[test]
+fn one_colour(rt: HostRuntime) -> Result<(), Fail> {
+    let text = b"A B |x\nA x:1\nB x:1\nB x:2\nB x\n";
+    let listing = b"1:\n A x:1 (1 of 1)\n B x:1 (1 of 1)\n";
+    assert!(rt; all(rt.alloc(), Kind::Colours, text, listing, 1)?);
+    Ok(())
+}
+
+#[test]
+fn an_option_ignored(rt: HostRuntime) -> Result<(), Fail> {
+    let text = b"| test\r\n\r\nA | x\r\nx\r\nA x";
+    assert!(rt; all(rt.alloc(), Kind::Plain, text, b"1:\n A x (1 of 1)\n", 1)?);
+    Ok(())
+}
+
+#[test]
+fn up_to_twice(rt: HostRuntime) -> Result<(), Fail> {
+    let text = b"0:2|A\nA\nA\n";
+    let listing =
+        b"1:\n A (1 of 3)\n A (1 of 2)\n2:\n A (1 of 3)\n null A (2 of 2)\n3:\n A (2 of 3)\n null A (1 of 1)\n4:\n null A (3 of 3)\n";
+    assert!(rt; all(rt.alloc(), Kind::Bounds, text, listing, 4)?);
+    Ok(())
+}
+
+/// The first row, into a sink that takes 5 bytes.
+fn broken_off(alloc: Global, zero: bool) -> Result<bool, Fail> {
+    let row = Row {
+        kind: Kind::Plain,
+        text: SEVEN,
+        words: ALL,
+        room: 5,
+        zero,
+    };
+    let taken = [0x31, 0x3a, 0x0a, 0x20, 0x61];
+    gives(alloc, &row, &taken, End::WriteFailed(1))
+}
+
+#[test]
+fn a_write_that_fails(rt: HostRuntime) -> Result<(), Fail> {
+    assert!(rt; broken_off(rt.alloc(), false)? && broken_off(rt.alloc(), true)?);
+    Ok(())
+}
+
+#[test]
+fn no_options(rt: HostRuntime) -> Result<(), Fail> {
+    let listing = b"1:\n null A (1 of 1)\n";
+    assert!(rt; all(rt.alloc(), Kind::Bounds, b"0:1|A\n", listing, 1)?);
+    Ok(())
+}
+
+#[test]
+fn the_largest_bound(rt: HostRuntime) -> Result<(), Fail> {
+    let text = b"999999999|A\nA\n";
+    assert!(rt; all(rt.alloc(), Kind::Bounds, text, b"", 0)?);
+    Ok(())
+}
+
+#[test]
+fn both_options(rt: HostRuntime) -> Result<(), Fail> {
+    let listing = b"1:\n A (1 of 1)\n A (1 of 1)\n";
+    assert!(rt; all(rt.alloc(), Kind::Bounds, b"2|A\nA\nA\n", listing, 1)?);
+    Ok(())
+}
