@@ -9,7 +9,7 @@ use Rattle.xc_search.specs.Residuals.{residual_of}
 use Rattle.xc_search.specs.Stack.{branches_at, members_of, IsShallow, AreStacked, chosen, choices_of, to_give, coming, IsBegun}
 use Rattle.xc_search.specs.Commits.{oldest}
 use Rattle.xc_search.specs.Ahead.{cost, work, visits, ahead}
-use Rattle.xc_search.proofs.Filters.{map-same}
+use Rattle.xc_input.proofs.ListFilters.{map-same}
 use Rattle.xc_search.proofs.Places.{drop_at}
 
 choices_more : (k : Level) (ls : List Level) → choices_of (k ∷ ls) ≡ choices_of ls ++ chosen k ∷ []

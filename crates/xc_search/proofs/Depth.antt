@@ -12,17 +12,17 @@ use Rattle.xc_search.specs.Sparing.{spendings}
 use Rattle.xc_search.specs.Stack.{IsShallow, AreStacked, IsNode, IsBegun}
 use Rattle.xc_search.proofs.Sparing.{spent_opened, spent_tweaked}
 use Rattle.xc_search.proofs.BranchesLess.{branches_less, less_items, least_is_one}
-use Rattle.xc_search.proofs.Elements.{each_at}
+use Rattle.xc_input.proofs.EachElement.{each_at}
 use Rattle.xc_search.proofs.Stacks.{branches_here}
-use Rattle.xc_dance.proofs.MoveLemmas.ListLemmas.{length-filter-le, length-numbered_from}
-use Rattle.std.proofs.lemmas.List.{length-map}
+use Rattle.xc_dance.proofs.MoveLemmas.ListLemmas.{length-numbered_from}
+use Rattle.xc_input.proofs.ListFilters.{length-filter-le}
+use Rattle.std.proofs.lemmas.List.{length-map, take-append-drop}
 use Rattle.std.proofs.lemmas.List.FromFn.{length-range_with_len}
 use Rattle.std.specs.Prelude.{slice_get}
 use Rattle.std.specs.List.{range_with_len}
 use Rattle.xc_dance.specs.Moves.{is_open, open_items}
 use Rattle.xc_search.proofs.FewSpends.{few_spendings}
 use Rattle.xc_search.proofs.Tweaked.{legal_node}
-use Rattle.std.proofs.lemmas.List.{take-append-drop}
 
 spent_above : (ms t : List Move) → spendings t ≤ spendings (ms ++ t)
 spent_above [] t = omega arith

@@ -23,8 +23,8 @@ use Rattle.xc_search.proofs.Ready.{as_spent}
 use Rattle.xc_search.proofs.LeftChoice.{choice_is_branch_item, choice_of}
 use Rattle.xc_search.proofs.Trails.{oldest_all}
 use Rattle.xc_search.proofs.Work.{work_unrolled}
-use Rattle.xc_search.proofs.Elements.{each_weaker, each-map, each-filter, each_passes, each_both}
-use Rattle.xc_search.proofs.Filters.{map-map}
+use Rattle.xc_input.proofs.EachElement.{each_weaker, each-map, each-filter, each_passes, each_both}
+use Rattle.xc_input.proofs.ListFilters.{map-map}
 use Rattle.std.proofs.lemmas.List.{map-append, take-append-drop}
 
 -- ---- the oldest moves

@@ -7,7 +7,8 @@ use Rattle.xc_search.specs.declared.level.Level.{Level}
 use Rattle.xc_input.specs.Problem.{Puzzle, Numbered, IsPrimary, numbered_get, holding, option_count, primary_count}
 use Rattle.xc_search.specs.Listing.{Wanted, Branch, branch_item, branch_count, branches_of, size_of, listing}
 use Rattle.xc_dance.specs.Moves.{is_open, AreLegal}
-use Rattle.xc_search.specs.Residuals.{wanted_at, wanted_after, left, residual_of}
+use Rattle.xc_search.specs.Residuals.{wanted_at, wanted_after, residual_of}
+use Rattle.xc_dance.specs.Left.{left}
 use Rattle.xc_search.specs.Commits.{opened, oldest, tweaked, walks}
 use Rattle.xc_search.specs.Sparing.{IsSparing}
 
