@@ -3,7 +3,7 @@ pub mod ListLemmas
 pub mod StateLemmas
 pub mod Shortened
 pub mod NextPlaces
+pub mod OptionsRise
 pub mod OpenLists
 pub mod LeftOptions
-pub mod Each
 pub mod Members

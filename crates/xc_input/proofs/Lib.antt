@@ -16,3 +16,6 @@ pub mod SoundLemmas
 pub mod FinishLemmas
 pub mod LineLemmas
 pub mod SourceLemmas
+pub mod EachElement
+pub mod ListFilters
+pub mod BooleanTests

@@ -16,7 +16,7 @@ use Rattle.xc_input.specs.Named.{Named, IsSound}
 use Rattle.xc_input.proofs.FaultLemmas.{no-place, map-snoc}
 use Rattle.xc_input.proofs.TokenLemmas.{position-map, not_false}
 use Rattle.xc_search.proofs.Members.{IsIn, each_in, each_from, in-contains, slice_get-in}
-use Rattle.xc_search.proofs.Elements.{each_front}
+use Rattle.xc_input.proofs.EachElement.{each_front}
 use Rattle.xc_search.proofs.EachTwo.{EachTwo-append}
 use Rattle.xc_list.specs.ListingLines.{words_in}
 use Rattle.xc_list.specs.Listed.{word_of, use_word, turned, is_body, is_known, stands_for}

@@ -9,7 +9,7 @@ use Rattle.xc_input.specs.Problem.{Bounds, IsSecondary, bounds_at, item_count}
 use Rattle.xc_input.specs.Named.{IsSound}
 use Rattle.xc_search.specs.Cover.{times_held}
 use Rattle.xc_search.proofs.Members.{IsIn, each_in, each_from}
-use Rattle.xc_search.proofs.Elements.{each_weaker, each-append, each_front}
+use Rattle.xc_input.proofs.EachElement.{each_weaker, each-append, each_front}
 use Rattle.xc_list.specs.declared.solution.Limits.{Limits}
 use Rattle.xc_list.specs.Kinds.{Kinds, AreKinds, IsOfKind, IsCoverOfKinds, kind_at, members_of}
 use Rattle.xc_list.specs.Tallies.{bounds_in, added, coloured, raised, uses_at, uses_in, short_of, agrees, is_met, is_kind_met}

@@ -8,7 +8,7 @@ use Rattle.xc_input.specs.declared.problem.Use.{Use}
 use Rattle.xc_input.specs.Problem.{item_count, uses_of, IsSoundUse}
 use Rattle.xc_input.specs.Named.{IsSound}
 use Rattle.xc_search.proofs.EachTwo.{EachTwo-append}
-use Rattle.xc_search.proofs.Elements.{each_weaker, each-append, each_turned}
+use Rattle.xc_input.proofs.EachElement.{each_weaker, each-append, each_turned}
 use Rattle.xc_list.specs.Listed.{turned}
 use Rattle.xc_list.specs.Kinds.{Kinds, AreKinds, kind_of}
 use Rattle.xc_list.specs.Tallies.{added, coloured, cleared, raised, lowered, uses_at, uses_in}

@@ -10,19 +10,20 @@ use Rattle.xc_dance.specs.declared.dance.Move.TheVariants.{Cover, Spend}
 use Rattle.xc_input.specs.Problem.{Puzzle, Numbered, primary_count, holds, high_at, IsItem, IsValid, IsSoundUse, holding}
 use Rattle.xc_search.specs.Listing.{Wanted, Residual, pick, none}
 use Rattle.xc_dance.specs.Moves.{listed, is_open, spends, AreLegal}
-use Rattle.xc_search.specs.Residuals.{wanted_after, left, residual_of}
+use Rattle.xc_search.specs.Residuals.{wanted_after, residual_of}
+use Rattle.xc_dance.specs.Left.{left}
 use Rattle.xc_search.specs.Commits.{opened, tweaked, after_use, after_uses, others, place_in, closed}
 use Rattle.xc_search.specs.Stack.{IsNode}
-use Rattle.xc_search.proofs.Left.{listed_open}
+use Rattle.xc_dance.proofs.MoveLemmas.OpenLists.{listed_open}
 use Rattle.xc_search.proofs.Picked.{dec, commit_uses, uses_committed, AreWanted, as_residual, still_wanted, is_wanted}
 use Rattle.xc_search.proofs.MoveSteps.{residual_spend, residual_cover}
 use Rattle.xc_search.proofs.Ready.{Ready, AreReady, ready_after, ready_later, commit_all}
 use Rattle.xc_search.proofs.ReadyLeft.{left_options, of_left, ready_left}
 use Rattle.xc_search.proofs.Rotated.{placed, apart_turned, committed_picks, cut}
 use Rattle.xc_search.proofs.Tweaked.{branch_cut, legal_branch, items_tweaked, open_tweaked, purified_tweaked, spends_tweaked, left_closed, left_open}
-use Rattle.xc_search.proofs.Elements.{each_weaker, each-filter, each_passes, each_at, each_turned, each_both}
-use Rattle.xc_search.proofs.Filters.{filter_both}
-use Rattle.xc_search.proofs.BooleanTests.{only_rest}
+use Rattle.xc_input.proofs.EachElement.{each_weaker, each-filter, each_passes, each_at, each_turned, each_both}
+use Rattle.xc_input.proofs.ListFilters.{filter_both}
+use Rattle.xc_input.proofs.BooleanTests.{only_rest}
 use Rattle.xc_search.proofs.Uses.{AreApart, apart_from_pairs}
 use Rattle.xc_search.proofs.Numbering.{IsOption}
 

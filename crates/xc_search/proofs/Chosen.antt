@@ -4,9 +4,10 @@ use Rattle.std.specs.List.{list_all}
 use Rattle.xc_input.specs.declared.problem.Use.{Use}
 use Rattle.xc_input.specs.Problem.{Numbered}
 use Rattle.xc_search.proofs.Members.{IsIn}
-use Rattle.xc_dance.proofs.MoveLemmas.ListLemmas.{length-filter-le}
-use Rattle.xc_search.proofs.Rising.{NumbersRise, above_in}
-use Rattle.xc_search.proofs.BooleanTests.{and_left, and_right}
+use Rattle.xc_input.proofs.ListFilters.{length-filter-le}
+use Rattle.xc_search.proofs.Rising.{above_in}
+use Rattle.xc_dance.proofs.MoveLemmas.OptionsRise.{NumbersRise}
+use Rattle.xc_input.proofs.BooleanTests.{and_left, and_right}
 
 abbrev pub passing : (Numbered → Bool) → List Numbered → ℕ
 passing t os = length (filter t os)

@@ -6,10 +6,10 @@ use Rattle.xc_search.specs.declared.level.Level.{Level}
 use Rattle.xc_input.specs.Problem.{Puzzle}
 use Rattle.xc_search.specs.Listing.{listing}
 use Rattle.xc_search.specs.Residuals.{residual_of}
-use Rattle.xc_search.specs.Stack.{branches_at, members_of, AreStacked, chosen, choices_of, to_give, coming, IsBegun}
+use Rattle.xc_search.specs.Stack.{branches_at, members_of, IsShallow, AreStacked, chosen, choices_of, to_give, coming, IsBegun}
 use Rattle.xc_search.specs.Commits.{oldest}
 use Rattle.xc_search.specs.Ahead.{cost, work, visits, ahead}
-use Rattle.xc_search.proofs.Filters.{map-same}
+use Rattle.xc_input.proofs.ListFilters.{map-same}
 use Rattle.xc_search.proofs.Places.{drop_at}
 
 choices_more : (k : Level) (ls : List Level) → choices_of (k ∷ ls) ≡ choices_of ls ++ chosen k ∷ []
@@ -31,6 +31,6 @@ begun_coming p t s l k ls stacked b =
       ap₂ (λ x y. x ++ y) one (ap₂ (λ bs v. members_of before bs ++ to_give p v ls) still under)
           ∙ sym (append_assoc (map (λ m. before ++ b.branch.choice ∷ m) (listing b.branch.next)) (members_of before rest) (to_give p u ls))
           ∙ ap (λ bs. members_of before bs ++ to_give p u ls) (sym next),
-      (b.level, subst (λ v. AreStacked p v ls) (sym under) stacked.1),
+      (b.level, subst (λ v. IsShallow p v ls) (sym under) stacked.1, subst (λ v. AreStacked p v ls) (sym under) stacked.2),
       omega (arith, ap (cost work) next, ap (cost work) still, ap work b.next, ap (λ v. visits p v ls) under),
     )

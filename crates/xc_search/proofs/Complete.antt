@@ -5,17 +5,18 @@ use Rattle.std.specs.List.{cons_option}
 use Rattle.xc_input.specs.declared.problem.Use.{Use}
 use Rattle.xc_search.specs.declared.choice.Choice.{Choice}
 use Rattle.xc_input.specs.Problem.{Numbered, colour_at, holds, holding}
-use Rattle.xc_search.specs.Listing.{Wanted, Residual, Branch, less_one, spend_one, may_stay, item_left, agrees, pick, none, branch_item, branch_count, take_branch, none_branch, branches_of, level, listing_to, size_of}
+use Rattle.xc_search.specs.Listing.{Wanted, Residual, Branch, less_one, spend_one, may_stay, item_left, pick, none, branch_item, branch_count, take_branch, none_branch, branches_of, level, listing_to, size_of}
+use Rattle.xc_dance.specs.Left.{agrees}
 use Rattle.xc_search.specs.Cover.{options_of}
 use Rattle.xc_search.proofs.Members.{IsIn, in-filter, filter-in, in-map, in-take}
-use Rattle.xc_search.proofs.Rising.{NumbersRise-filter}
+use Rattle.xc_dance.proofs.MoveLemmas.OptionsRise.{NumbersRise-filter}
 use Rattle.xc_search.proofs.Solved.{beside}
 use Rattle.xc_search.proofs.Proper.{IsProper, find-in, in-find, goes_on, proper_pick, proper_none}
 use Rattle.xc_search.proofs.EachBranch.{takes-in, nones-in, level-in, no_items_left, branch_item-in, less_behind}
 use Rattle.xc_search.proofs.Chosen.{passing, one_passes, two_pass, same_passing, passing_without, first_passing, list_all-each, list_all-at}
-use Rattle.xc_search.proofs.Filters.{filter_both}
+use Rattle.xc_input.proofs.ListFilters.{filter_both}
 use Rattle.std.proofs.lemmas.List.{nil_from_length}
-use Rattle.xc_search.proofs.BooleanTests.{and_right}
+use Rattle.xc_input.proofs.BooleanTests.{and_right}
 use Rattle.xc_search.proofs.Uses.{holds_use}
 
 -- ---- a choice of option numbers that covers what is left

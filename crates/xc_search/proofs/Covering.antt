@@ -7,7 +7,8 @@ use Rattle.std.proofs.lemmas.List.Sums.{sum_by-cons}
 use Rattle.xc_input.specs.declared.problem.Use.{Use}
 use Rattle.xc_search.specs.declared.choice.Choice.{Choice}
 use Rattle.xc_input.specs.Problem.{Puzzle, Bounds, Numbered, numbered_options, primary_count, option_count, colour_in, colour_at, holds, uses_of, bounds_at, IsSecondary, IsValid, holding}
-use Rattle.xc_search.specs.Listing.{Wanted, Residual, Branch, whole, agrees, item_left, pick, none, branch_item, branch_count, branches_of, level, listing_to, listing, size_of}
+use Rattle.xc_search.specs.Listing.{Wanted, Residual, Branch, whole, item_left, pick, none, branch_item, branch_count, branches_of, level, listing_to, listing, size_of}
+use Rattle.xc_dance.specs.Left.{agrees}
 use Rattle.xc_search.specs.Cover.{IsCover, times_held, options_of, members, EachMemberCovers}
 use Rattle.xc_search.proofs.Members.{IsIn, in-map, each_in, each_from, in-contains}
 use Rattle.xc_search.proofs.Solved.{count, beside, AreBeside, IsMet, Solves, solves_pick, solves_none}
@@ -15,7 +16,7 @@ use Rattle.xc_search.proofs.Proper.{IsProper, find-in, sound_items, low_items, p
 use Rattle.xc_search.proofs.EachBranch.{IsTaken, IsNone, in-branches, in-level, no_items_left, branch_item-in, less_behind}
 use Rattle.xc_search.proofs.EachTwo.{EachTwo, EachTwo-map, AllPairs-from_each_two, EachTwo-weaker, EachTwo-of}
 use Rattle.std.proofs.lemmas.List.{nil_from_length}
-use Rattle.xc_search.proofs.BooleanTests.{and_left, and_right, or_other}
+use Rattle.xc_input.proofs.BooleanTests.{and_left, and_right, or_other}
 use Rattle.xc_search.proofs.Numbering.{numbered_at, uses_known, at_item}
 
 abbrev pub number_of : Numbered → ℕ

@@ -10,7 +10,7 @@ use Rattle.xc_input.specs.Problem.{Puzzle, Numbered, numbered_options, numbered_
 use Rattle.xc_dance.specs.Moves.{listed, is_open, without, AreLegal}
 use Rattle.xc_search.specs.Room.{use_count}
 use Rattle.xc_search.specs.Sparing.{uses_in}
-use Rattle.xc_dance.proofs.MoveLemmas.ListLemmas.{length-filter-le}
+use Rattle.xc_input.proofs.ListFilters.{length-filter-le}
 use Rattle.xc_search.proofs.Totals.{total, total_zero, total_le, total_less, one_if, total_same, total_two, total_once}
 
 abbrev pub tweakings : List Move → ℕ

@@ -8,10 +8,10 @@ use Rattle.xc_input.specs.Problem.{Puzzle, Bounds, low_at, high_at, numbered_get
 use Rattle.xc_search.specs.Listing.{Wanted, Residual, count_of, first_least, branch_count, wanted_from, whole, branch_item}
 use Rattle.xc_dance.specs.Moves.{is_open, open_items, AreLegal}
 use Rattle.xc_search.specs.Residuals.{wanted_at, wanted_after, branches_after, residual_of, choice_after}
-use Rattle.xc_search.proofs.Left.{listed_open}
+use Rattle.xc_dance.proofs.MoveLemmas.OpenLists.{listed_open}
 use Rattle.xc_input.proofs.FlatParts.{numbered_get-at}
-use Rattle.xc_search.proofs.Elements.{each_weaker, each-map}
-use Rattle.xc_search.proofs.Filters.{map-same}
+use Rattle.xc_input.proofs.EachElement.{each_weaker, each-map}
+use Rattle.xc_input.proofs.ListFilters.{map-same}
 
 best_same : (f g : Wanted → ℕ) (w : Wanted) (ws : List Wanted) → f w ≡ g w → AllByRecursion (λ v. f v ≡ g v) ws →
     best_of (λ x b. nat_lt (f x) (f b)) w ws ≡ best_of (λ x b. nat_lt (g x) (g b)) w ws

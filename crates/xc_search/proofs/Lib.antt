@@ -13,16 +13,12 @@ pub mod Covering
 pub mod Depth
 pub mod EachBranch
 pub mod EachTwo
-pub mod Elements
 pub mod Exactly
 pub mod FewClosings
 pub mod FewSpends
 pub mod FewTweaks
-pub mod Filters
 pub mod Fits
-pub mod Left
 pub mod LeftChoice
-pub mod LeftOptions
 pub mod Members
 pub mod MoveSteps
 pub mod NextOption
@@ -42,7 +38,6 @@ pub mod Sparing
 pub mod Stacks
 pub mod Starts
 pub mod Taking
-pub mod BooleanTests
 pub mod Totals
 pub mod Trails
 pub mod Turns

@@ -4,12 +4,13 @@ use Rattle.std.specs.List.{AllByRecursion, range_with_len}
 use Rattle.xc_dance.specs.declared.dance.Move.{Move}
 use Rattle.xc_dance.specs.declared.dance.Move.TheVariants.{Cover, Purify, Spend}
 use Rattle.xc_input.specs.Problem.{Puzzle, primary_count, holds, colour_at, low_at, high_at}
-use Rattle.xc_search.specs.Listing.{Wanted, Residual, less_one, none, agrees}
+use Rattle.xc_search.specs.Listing.{Wanted, Residual, less_one, none}
+use Rattle.xc_dance.specs.Left.{agrees, left}
 use Rattle.xc_dance.specs.Moves.{is_open, spends, open_items}
-use Rattle.xc_search.specs.Residuals.{wanted_at, wanted_after, left, residual_of}
+use Rattle.xc_search.specs.Residuals.{wanted_at, wanted_after, residual_of}
 use Rattle.xc_search.proofs.Picked.{dec, as_residual}
-use Rattle.xc_search.proofs.Elements.{each_weaker}
-use Rattle.xc_search.proofs.Filters.{filter_same, filter_both, filter-map, map-same, map-map}
+use Rattle.xc_input.proofs.EachElement.{each_weaker}
+use Rattle.xc_input.proofs.ListFilters.{filter_same, filter_both, filter-map, map-same, map-map}
 use Rattle.std.proofs.Math.Bool.{and_comm}
 use Rattle.std.proofs.lemmas.List.Elements.{filter_agree}
 

@@ -6,12 +6,12 @@ use Rattle.xc_dance.specs.declared.dance.Move.{Move}
 use Rattle.xc_search.specs.declared.level.Level.{Level}
 use Rattle.xc_input.specs.Problem.{Puzzle, Numbered, numbered_get, holds}
 use Rattle.xc_dance.specs.Moves.{listed, listed_numbers, next_above}
-use Rattle.xc_search.specs.Residuals.{left}
+use Rattle.xc_dance.specs.Left.{left}
 use Rattle.xc_search.specs.Commits.{opened, oldest, tweaked}
 use Rattle.xc_search.specs.Stack.{next_number, options_at, IsLevelAt, IsLevel}
 use Rattle.xc_search.proofs.Trails.{oldest_all}
-use Rattle.xc_search.proofs.Left.{left_rises}
-use Rattle.xc_search.proofs.Rising.{NumbersRise-filter, NumbersRise-weaker, NumbersRise}
+use Rattle.xc_dance.proofs.MoveLemmas.OpenLists.{left_rises}
+use Rattle.xc_dance.proofs.MoveLemmas.OptionsRise.{NumbersRise-filter, NumbersRise-weaker, NumbersRise}
 use Rattle.xc_search.proofs.Tweaked.{listed_branch, rise_above}
 use Rattle.xc_search.proofs.Places.{slice_get-drop}
 

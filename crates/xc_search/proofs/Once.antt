@@ -7,11 +7,12 @@ use Rattle.xc_input.specs.Problem.{Puzzle, Numbered, holds, IsValid, holding}
 use Rattle.xc_search.specs.Listing.{Wanted, Residual, Branch, whole, pick, none, branch_item, branch_count, take_branch, none_branch, branches_of, level, listing_to, listing, size_of}
 use Rattle.xc_search.specs.Cover.{options_of, SameSet, members, NoSetTwice}
 use Rattle.xc_search.proofs.Members.{IsIn, in-filter, in-map, in-take, in-enumerated, in-contains, contains-in, each_from}
-use Rattle.xc_search.proofs.Rising.{NumbersRise, NumbersRise-filter, options_rise, same_number, above_in}
+use Rattle.xc_search.proofs.Rising.{same_number, above_in}
+use Rattle.xc_dance.proofs.MoveLemmas.OptionsRise.{NumbersRise, NumbersRise-filter, options_rise}
 use Rattle.xc_search.proofs.EachBranch.{IsTaken, IsNone, takes, nones, in-branches, in-nones, in-level, behind}
 use Rattle.xc_search.proofs.Proper.{goes_on}
 use Rattle.xc_search.proofs.EachTwo.{EachTwo, EachTwo-append, EachTwo-map, EachTwo-flat_map, EachTwo-at, EachTwo-weaker, EachTwo-take, EachTwo-enumerated}
-use Rattle.xc_search.proofs.BooleanTests.{and_left}
+use Rattle.xc_input.proofs.BooleanTests.{and_left}
 
 -- an option of this number is left
 abbrev HasNumber : Residual → ℕ → Type 0

@@ -8,15 +8,16 @@ use Rattle.xc_input.specs.declared.problem.Use.{Use}
 use Rattle.xc_dance.specs.declared.dance.Move.{Move}
 use Rattle.xc_dance.specs.declared.dance.Move.TheVariants.{Cover, Purify, Spend}
 use Rattle.xc_input.specs.Problem.{Puzzle, primary_count, holds, colour_at, high_at, IsPrimary, IsSecondary}
-use Rattle.xc_search.specs.Listing.{Wanted, less_one, none, agrees, may_stay, item_left}
+use Rattle.xc_search.specs.Listing.{Wanted, less_one, none, may_stay, item_left}
+use Rattle.xc_dance.specs.Left.{agrees, left}
 use Rattle.xc_dance.specs.Moves.{is_open, purified, spends, open_items, AreLegal}
-use Rattle.xc_search.specs.Residuals.{wanted_at, wanted_after, left, residual_of}
+use Rattle.xc_search.specs.Residuals.{wanted_at, wanted_after, residual_of}
 use Rattle.xc_search.specs.Commits.{opened, after_use, after_uses}
 use Rattle.xc_search.proofs.Picked.{dec, is_wanted, commit_use, commit_uses, AreWanted, as_residual, still_wanted}
 use Rattle.xc_search.proofs.MoveSteps.{residual_spend, residual_cover, residual_purify, residual_cover_secondary, in_range}
-use Rattle.xc_search.proofs.LeftOptions.{left_agrees}
-use Rattle.xc_search.proofs.Elements.{each_weaker, each-map, each_of_all, each_both, each-filter}
-use Rattle.xc_search.proofs.Filters.{filter_same, keep_all}
+use Rattle.xc_dance.proofs.MoveLemmas.LeftOptions.{left_agrees}
+use Rattle.xc_input.proofs.EachElement.{each_weaker, each-map, each_of_all, each_both, each-filter}
+use Rattle.xc_input.proofs.ListFilters.{filter_same, keep_all}
 use Rattle.xc_search.proofs.Uses.{AreApart}
 
 pub data Ready (p : Puzzle) (t : List Move) (u : Use) : Type 0 where

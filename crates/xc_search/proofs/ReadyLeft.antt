@@ -8,13 +8,14 @@ use Rattle.xc_input.specs.declared.problem.Use.{Use}
 use Rattle.xc_dance.specs.declared.dance.Move.{Move}
 use Rattle.xc_dance.specs.declared.dance.Move.TheVariants.{Cover, Purify, Tweak, Spend}
 use Rattle.xc_input.specs.Problem.{Puzzle, Numbered, primary_count, holds, colour_at, colour_in, high_at, IsPrimary, IsSoundUse, IsValid}
-use Rattle.xc_search.specs.Listing.{Wanted, agrees}
+use Rattle.xc_search.specs.Listing.{Wanted}
+use Rattle.xc_dance.specs.Left.{agrees, left}
 use Rattle.xc_dance.specs.Moves.{is_open, is_covered, purified, spends, AreLegal}
-use Rattle.xc_search.specs.Residuals.{wanted_at, wanted_after, left}
+use Rattle.xc_search.specs.Residuals.{wanted_at, wanted_after}
 use Rattle.xc_search.proofs.Picked.{is_wanted, AreWanted}
-use Rattle.xc_search.proofs.LeftOptions.{left_agrees, left_free, kept}
+use Rattle.xc_dance.proofs.MoveLemmas.LeftOptions.{left_agrees, left_free, kept}
 use Rattle.xc_search.proofs.Ready.{Ready, primary, blank, coloured, same_colour, found_wanted, AreReady}
-use Rattle.xc_search.proofs.Elements.{each_at, each_both}
+use Rattle.xc_input.proofs.EachElement.{each_at, each_both}
 use Rattle.xc_search.proofs.Uses.{apart_from_pairs, own_colours}
 use Rattle.xc_search.proofs.Numbering.{IsOption, all_options}
 

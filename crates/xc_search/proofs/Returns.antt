@@ -9,7 +9,7 @@ use Rattle.xc_input.specs.Problem.{Puzzle}
 use Rattle.xc_search.specs.Listing.{branch_count}
 use Rattle.xc_dance.specs.Moves.{AreTweaks}
 use Rattle.xc_search.specs.Residuals.{wanted_at, residual_of}
-use Rattle.xc_search.specs.Stack.{branches_at, members_of, IsLevelAt, IsLevel, AreStacked, choices_of, to_give}
+use Rattle.xc_search.specs.Stack.{branches_at, members_of, IsLevelAt, IsLevel, IsShallow, AreStacked, choices_of, to_give}
 use Rattle.xc_search.specs.Commits.{opened, oldest, tweaked}
 use Rattle.xc_search.specs.Ahead.{cost, work, visits}
 use Rattle.xc_search.proofs.Trails.{oldest_all}
@@ -35,7 +35,8 @@ returned p t l ls stacked =
           option = is_level.option;
           base = oldest-oldest l.base l.base t (omega arith) is_level.within.1 ∙ is_level.base;
         }),
-        subst (λ u. AreStacked p u ls) (sym under) stacked.1,
+        subst (λ u. IsShallow p u ls) (sym under) stacked.1,
+        subst (λ u. AreStacked p u ls) (sym under) stacked.2,
       ),
       ap (λ u. members_of (choices_of ls) (drop l.begun (branches_at p u)) ++ to_give p u ls) under,
       ap (λ u. suc (cost work (drop l.begun (branches_at p u))) + visits p u ls) under,

@@ -4,13 +4,15 @@ use Rattle.std.specs.Prelude.{nat_lt, nat_le, is_some}
 use Rattle.std.specs.List.{AllByRecursion, list_all}
 use Rattle.xc_input.specs.declared.problem.Use.{Use}
 use Rattle.xc_input.specs.Problem.{Numbered, colour_in, holds, colour_at, holding}
-use Rattle.xc_search.specs.Listing.{Wanted, Residual, less_one, spend_one, may_stay, item_left, agrees, stays, pick, none}
+use Rattle.xc_search.specs.Listing.{Wanted, Residual, less_one, spend_one, may_stay, item_left, stays, pick, none}
+use Rattle.xc_dance.specs.Left.{agrees}
 use Rattle.xc_search.proofs.Members.{IsIn, in-filter}
-use Rattle.xc_search.proofs.Rising.{NumbersRise, same_number}
-use Rattle.xc_search.proofs.Elements.{each_weaker}
+use Rattle.xc_search.proofs.Rising.{same_number}
+use Rattle.xc_dance.proofs.MoveLemmas.OptionsRise.{NumbersRise}
+use Rattle.xc_input.proofs.EachElement.{each_weaker}
 use Rattle.std.proofs.Math.Bool.{or-true}
 use Rattle.std.proofs.lemmas.Bool.{not-true}
-use Rattle.xc_search.proofs.BooleanTests.{and_left, and_right}
+use Rattle.xc_input.proofs.BooleanTests.{and_left, and_right}
 
 -- how many of the selection hold item j
 abbrev pub count : ℕ → List Numbered → ℕ

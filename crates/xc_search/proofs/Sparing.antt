@@ -8,11 +8,12 @@ use Rattle.xc_dance.specs.declared.dance.Move.TheVariants.{Cover, Purify, Spend}
 use Rattle.xc_input.specs.Problem.{Puzzle, Numbered, holds, high_at, primary_count, holding}
 use Rattle.xc_search.specs.Listing.{Residual, pick, none, spend_one, stays, branch_item, branch_count}
 use Rattle.xc_dance.specs.Moves.{is_open, spends, open_items}
-use Rattle.xc_search.specs.Residuals.{wanted_at, wanted_after, left, residual_of}
+use Rattle.xc_search.specs.Residuals.{wanted_at, wanted_after, residual_of}
+use Rattle.xc_dance.specs.Left.{left}
 use Rattle.xc_search.specs.Commits.{opened, tweaked, after_use, after_uses, others, place_in, closed}
 use Rattle.xc_search.specs.Room.{use_count}
 use Rattle.xc_search.specs.Sparing.{spendings, uses_in, IsSparing}
-use Rattle.xc_dance.proofs.MoveLemmas.ListLemmas.{length-filter-le}
+use Rattle.xc_input.proofs.ListFilters.{length-filter-le}
 use Rattle.xc_search.proofs.BranchesLess.{less_items, least_is_one}
 use Rattle.xc_search.proofs.FewTweaks.{uses_whole}
 use Rattle.std.proofs.lemmas.List.{length-map, length-take}

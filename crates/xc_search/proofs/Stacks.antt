@@ -11,7 +11,7 @@ use Rattle.xc_input.specs.Problem.{Puzzle, primary_count, high_at, IsPrimary}
 use Rattle.xc_search.specs.Listing.{Wanted, Branch, branches_of, branch_count, branch_item, listing, level}
 use Rattle.xc_dance.specs.Moves.{is_open, spends, open_items, AreLegal}
 use Rattle.xc_search.specs.Residuals.{wanted_at, wanted_after, choice_after, residual_of}
-use Rattle.xc_search.specs.Stack.{branches_at, members_of, AreAllWanted, IsNode, options_at, IsLevelAt, AreStacked, choices_of, to_give, coming, first_level}
+use Rattle.xc_search.specs.Stack.{branches_at, members_of, AreAllWanted, IsNode, options_at, IsLevelAt, IsShallow, AreStacked, choices_of, to_give, coming, first_level}
 use Rattle.xc_search.specs.Commits.{opened, oldest, after_use, after_uses, closed, walks}
 use Rattle.xc_search.specs.Sparing.{IsSparing}
 use Rattle.xc_search.specs.Ahead.{cost, work, work_level, visits, ahead}
@@ -23,8 +23,8 @@ use Rattle.xc_search.proofs.Ready.{as_spent}
 use Rattle.xc_search.proofs.LeftChoice.{choice_is_branch_item, choice_of}
 use Rattle.xc_search.proofs.Trails.{oldest_all}
 use Rattle.xc_search.proofs.Work.{work_unrolled}
-use Rattle.xc_search.proofs.Elements.{each_weaker, each-map, each-filter, each_passes, each_both}
-use Rattle.xc_search.proofs.Filters.{map-map}
+use Rattle.xc_input.proofs.EachElement.{each_weaker, each-map, each-filter, each_passes, each_both}
+use Rattle.xc_input.proofs.ListFilters.{map-map}
 use Rattle.std.proofs.lemmas.List.{map-append, take-append-drop}
 
 -- ---- the oldest moves
@@ -153,11 +153,11 @@ members_all before (b ∷ bs) =
     ∙ ap₂ (λ x y. x ++ y) (map-map (λ m. b.choice ∷ m) (λ m. before ++ m) (listing b.next)) (members_all before bs)
 
 -- a level is begun
-pub descended : (p : Puzzle) (t : List Move) (ls : List Level) (i n : ℕ) → AreLegal p t → AreAllWanted (wanted_after p t) → IsSparing p t → Chosen p t i n → AreStacked p t ls →
+pub descended : (p : Puzzle) (t : List Move) (ls : List Level) (i n : ℕ) → AreLegal p t → AreAllWanted (wanted_after p t) → IsSparing p t → IsShallow p t ls → Chosen p t i n → AreStacked p t ls →
     AreStacked p (opened p i t) (first_level p t i n ∷ ls)
     × (coming p t ls true ≡ to_give p (opened p i t) (first_level p t i n ∷ ls))
     × (visits p (opened p i t) (first_level p t i n ∷ ls) < ahead p t ls true)
-descended p t ls i n l a sp c stacked =
+descended p t ls i n l a sp sh c stacked =
     let f = first_level p t i n in
     let s = opened p i t in
     let ext = ext_opened p i t in
@@ -179,7 +179,7 @@ descended p t ls i n l a sp c stacked =
     listing_unrolled (residual_of p t) ∙ ap (λ o. level listing o (residual_of p t)) c.branch ∙ ap (flat_map (λ b. map (λ m. b.choice ∷ m) (listing b.next))) (sym (branches_here p t (wanted_at p t i) c.branch)) in
     let worked : work (residual_of p t) ≡ suc (suc (cost work (branches_at p t))) =
     work_unrolled (residual_of p t) ∙ ap (λ o. work_level work o (residual_of p t)) c.branch ∙ ap (λ bs. suc (suc (cost work bs))) (sym (branches_here p t (wanted_at p t i) c.branch)) in (
-      (subst (λ u. IsLevelAt p u s f) (sym under) is_level, subst (λ u. AreStacked p u ls) (sym under) stacked),
+      (subst (λ u. IsLevelAt p u s f) (sym under) is_level, subst (λ u. IsShallow p u ls) (sym under) sh, subst (λ u. AreStacked p u ls) (sym under) stacked),
       ap (λ ms. map (λ m. choices_of ls ++ m) ms ++ to_give p t ls) unrolled ∙ ap (λ ms. ms ++ to_give p t ls) (members_all (choices_of ls) (branches_at p t))
           ∙ ap (λ u. members_of (choices_of ls) (branches_at p u) ++ to_give p u ls) (sym under),
       omega (arith, worked, ap (λ u. cost work (branches_at p u)) under, ap (λ u. visits p u ls) under),

@@ -11,6 +11,7 @@ use Rattle.xc_search.specs.Residuals.{wanted_after, residual_of}
 use Rattle.xc_search.specs.Cover.{members}
 use Rattle.xc_search.specs.Stack.{AreAllWanted, IsStanding, coming}
 use Rattle.xc_search.proofs.Sparing.{sparing_first}
+use Rattle.xc_search.proofs.Depth.{shallow_first}
 use Rattle.xc_search.proofs.LeftChoice.{no_moves_leave_all}
 
 wanted_at_first : (i : ℕ) (bs : List Bounds) → AllByRecursion AreSoundBounds bs → AreAllWanted (wanted_from i bs)
@@ -20,7 +21,7 @@ wanted_at_first i (b ∷ bs) a = (lt-ltb 0 b.high (omega (arith, a.0)), wanted_a
 pub starts_standing : (p : Puzzle) (t : List Move) (ls : List Level) → IsValid p → t ≡ [] → ls ≡ [] → IsStanding p t ls true
 starts_standing p t ls v et el =
     let wanted : AreAllWanted (wanted_after p []) = subst (λ (r : Residual). AreAllWanted r.items) (sym (no_moves_leave_all p)) (wanted_at_first 1 p.bounds (recursion_from_All AreSoundBounds p.bounds v.bounds)) in
-    let made : IsStanding p [] [] true = record { stacked = tt; legal = λ e. tt; wanted = λ e. wanted; sparing = λ e. sparing_first p } in
+    let made : IsStanding p [] [] true = record { stacked = tt; legal = λ e. tt; wanted = λ e. wanted; sparing = λ e. sparing_first p; shallow = λ e. shallow_first p } in
     subst (λ t. IsStanding p t ls true) (sym et) (subst (λ ls. IsStanding p [] ls true) (sym el) made)
 
 map_nothing : (ms : List (List Choice)) → map (λ (m : List Choice). [] ++ m) ms ≡ ms

@@ -11,6 +11,7 @@ use Rattle.xc_search.specs.Ahead.{ahead, IsDeepened, IsTurned}
 use Rattle.xc_search.proofs.Stacks.{solution, descended, chosen_item}
 use Rattle.xc_search.proofs.Returns.{returned, finished, closing}
 use Rattle.xc_search.proofs.Coming.{begun_coming}
+use Rattle.xc_search.proofs.Depth.{shallower}
 
 pub finds : (p : Puzzle) (t : List Move) (ls : List Level) (down : Bool) → IsStanding p t ls down → down ≡ true → choice_after p t ≡ None → coming p t ls down ≡ choices_of ls ∷ to_give p t ls
 finds p t ls down s d e = ap (coming p t ls) d ∙ solution p t ls (s.legal d) e
@@ -23,7 +24,7 @@ node_at p t ls down i n s d e =
 pub deepens : (p : Puzzle) (t : List Move) (ls : List Level) (down : Bool) (i n : ℕ) (s : List Move) (l : Level) (ks : List Level) → IsStanding p t ls down → down ≡ true → choice_after p t ≡ Some (i, n) →
     s ≡ opened p i t → l ≡ first_level p t i n → ks ≡ l ∷ ls → IsDeepened p t ls down s ks
 deepens p t ls down i n s l ks st d e es el ek =
-    let all = descended p t ls i n (st.legal d) (st.wanted d) (st.sparing d) (chosen_item p t i n (st.legal d) e) st.stacked in
+    let all = descended p t ls i n (st.legal d) (st.wanted d) (st.sparing d) (st.shallow d) (chosen_item p t i n (st.legal d) e) st.stacked in
     let made : IsDeepened p t ls down (opened p i t) (first_level p t i n ∷ ls) = record {
       stacked = all.0;
       members = ap (coming p t ls) d ∙ all.1;
@@ -37,7 +38,7 @@ turns_end p t s r l ls stacked er h es =
     let u = oldest l.base t in
     let done = finished p u l ls back.0 h in
     let made : IsTurned p t l ls (oldest l.mark u) ls false = record {
-      standing = record { stacked = back.0.1; legal = λ e. cc; wanted = λ e. cc; sparing = λ e. cc };
+      standing = record { stacked = back.0.2; legal = λ e. cc; wanted = λ e. cc; sparing = λ e. cc; shallow = λ e. cc };
       members = sym done.0 ∙ back.1;
       less = omega (arith, done.1, back.2);
     } in
@@ -50,7 +51,7 @@ turns_next p t s r l k ls ks stacked er b ek =
     let begun : IsBegun p u l s k = subst (λ r. IsBegun p r l s k) er b in
     let all = begun_coming p u s l k ls back.0 begun in
     subst (λ ks. IsTurned p t l ls s ks true) (sym ek) (record {
-      standing = record { stacked = all.1; legal = λ e. begun.legal; wanted = λ e. begun.wanted; sparing = λ e. begun.sparing };
+      standing = record { stacked = all.1; legal = λ e. begun.legal; wanted = λ e. begun.wanted; sparing = λ e. begun.sparing; shallow = λ e. shallower p u s l k ls back.0 begun };
       members = all.0 ∙ back.1;
       less = omega (arith, all.2, back.2);
     })

@@ -9,18 +9,19 @@ use Rattle.xc_dance.specs.declared.dance.Move.TheVariants.{Cover, Tweak, Spend}
 use Rattle.xc_input.specs.Problem.{Puzzle, Numbered, holds, high_at, IsItem, holding}
 use Rattle.xc_search.specs.Listing.{Residual, may_stay, item_left}
 use Rattle.xc_dance.specs.Moves.{listed, is_open, purified, spends, without, AreLegal}
-use Rattle.xc_search.specs.Residuals.{wanted_after, left, residual_of}
+use Rattle.xc_search.specs.Residuals.{wanted_after, residual_of}
+use Rattle.xc_dance.specs.Left.{left}
 use Rattle.xc_search.specs.Commits.{opened, tweaked}
 use Rattle.xc_search.specs.Stack.{IsNode}
-use Rattle.xc_search.proofs.Left.{listed_open, left_rises, without_filter}
-use Rattle.xc_search.proofs.Rising.{NumbersRise-filter, NumbersRise-weaker, NumbersRise}
+use Rattle.xc_dance.proofs.MoveLemmas.OpenLists.{listed_open, left_rises, without_filter}
+use Rattle.xc_dance.proofs.MoveLemmas.OptionsRise.{NumbersRise-filter, NumbersRise-weaker, NumbersRise}
 use Rattle.xc_search.proofs.Picked.{commit_use, as_residual}
 use Rattle.xc_search.proofs.Ready.{found_wanted, opening_commits, legal_opening, spent_self}
 use Rattle.xc_search.proofs.ReadyLeft.{has_left, primary_pure}
 use Rattle.xc_search.proofs.Rotated.{cut}
-use Rattle.xc_search.proofs.Elements.{each_of_all}
-use Rattle.xc_search.proofs.Filters.{filter_both, keep_all}
-use Rattle.xc_search.proofs.BooleanTests.{only_rest}
+use Rattle.xc_input.proofs.EachElement.{each_of_all}
+use Rattle.xc_input.proofs.ListFilters.{filter_both, keep_all}
+use Rattle.xc_input.proofs.BooleanTests.{only_rest}
 use Rattle.xc_search.proofs.Places.{slice_get-drop, before_some, drop_one}
 
 -- ---- what tweaks leave as it was

@@ -2,8 +2,8 @@
 use Rattle.std.proofs.Common.{◌≡◌, ◌<◌, List, ◌∷◌, map, Option, Some, None, refl, ap}
 use Rattle.xc_search.specs.declared.choice.Choice.{Choice}
 use Rattle.xc_search.specs.Listing.{Wanted, Residual, branch_item, branches_of, level, listing_to, listing, size_of}
-use Rattle.xc_search.proofs.Elements.{each_weaker}
-use Rattle.xc_search.proofs.Filters.{flat_map-same}
+use Rattle.xc_input.proofs.EachElement.{each_weaker}
+use Rattle.xc_input.proofs.ListFilters.{flat_map-same}
 use Rattle.xc_search.proofs.BranchesLess.{branches_less}
 use Rattle.xc_search.proofs.ByDepth.{by_depth, no_branch_item}
 

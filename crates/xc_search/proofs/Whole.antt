@@ -6,15 +6,16 @@ use Rattle.std.proofs.lemmas.List.Elements.{recursion_from_All}
 use Rattle.std.proofs.lemmas.List.Sums.{sum_by-cons}
 use Rattle.xc_input.specs.declared.problem.Use.{Use}
 use Rattle.xc_input.specs.Problem.{Puzzle, Numbered, numbered_options, primary_count, option_count, colour_in, colour_at, holds, uses_of, bounds_at, IsSoundUse, IsSoundOption, IsValid}
-use Rattle.xc_search.specs.Listing.{whole, agrees, listing, size_of}
+use Rattle.xc_search.specs.Listing.{whole, listing, size_of}
+use Rattle.xc_dance.specs.Left.{agrees}
 use Rattle.xc_search.specs.Cover.{IsCover, times_held, options_of, members, EachCoverIsListed}
 use Rattle.xc_search.proofs.Members.{IsIn, in-contains, contains-in, slice_get-in, each_in, each_from}
-use Rattle.xc_search.proofs.Rising.{options_rise}
+use Rattle.xc_dance.proofs.MoveLemmas.OptionsRise.{options_rise}
 use Rattle.xc_search.proofs.Proper.{proper_whole}
 use Rattle.xc_search.proofs.Chosen.{passing, none_pass, passing_without, list_all-each}
 use Rattle.xc_search.proofs.Complete.{is_held, Covers, listed_for}
 use Rattle.xc_search.proofs.EachTwo.{EachTwo, each_two_from_AllPairs}
-use Rattle.xc_search.proofs.Filters.{filter_same, filter_both}
+use Rattle.xc_input.proofs.ListFilters.{filter_same, filter_both}
 use Rattle.std.proofs.Math.Bool.{or-true}
 use Rattle.xc_search.proofs.Numbering.{at_number, option_sound, uses_known, with_bounds}
 use Rattle.xc_search.proofs.Uses.{own_colours, apart_from_pairs}

@@ -4,7 +4,7 @@ use Rattle.std.specs.List.{AllByRecursion}
 use Rattle.xc_search.specs.Listing.{Wanted, Residual, Branch, branches_of, branch_item, size_of}
 use Rattle.xc_search.specs.Ahead.{cost, work_level, work_to, work}
 use Rattle.xc_search.proofs.BranchesLess.{branches_less}
-use Rattle.xc_search.proofs.Elements.{each_weaker}
+use Rattle.xc_input.proofs.EachElement.{each_weaker}
 use Rattle.xc_search.proofs.ByDepth.{by_depth, no_branch_item}
 
 cost-same : (f g : Residual → ℕ) (bs : List Branch) → AllByRecursion (λ b. f b.next ≡ g b.next) bs → cost f bs ≡ cost g bs

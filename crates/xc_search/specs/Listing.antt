@@ -1,8 +1,9 @@
 -- The solutions of a problem, in order.
-use Rattle.std.specs.Prelude.{ℕ, zero, suc, ◌+◌, ◌-◌, Bool, true, not, ◌&&◌, ◌||◌, ◌==◌, nat_lt, nat_le, List, [], ◌∷◌, ◌++◌, length, map, filter, take, find, flat_map, Option, Some, None, if◌then◌else◌}
+use Rattle.std.specs.Prelude.{ℕ, zero, suc, ◌+◌, ◌-◌, Bool, not, ◌&&◌, ◌||◌, ◌==◌, nat_lt, nat_le, List, [], ◌∷◌, ◌++◌, length, map, filter, take, find, flat_map, Option, Some, None, if◌then◌else◌}
 use Rattle.std.specs.List.{list_all, enumerate_from, best_of}
 use Rattle.xc_input.specs.declared.problem.Use.{Use}
 use Rattle.xc_search.specs.declared.choice.Choice.{Choice}
+use Rattle.xc_dance.specs.Left.{agrees}
 use Rattle.xc_input.specs.Problem.{Puzzle, Bounds, Numbered, numbered_options, holds, colour_at, holding}
 
 -- a primary item that is left: it has to be held at least low and at most high times more
@@ -49,11 +50,6 @@ less_one w = record { item = w.item; low = w.low - 1; high = w.high - 1 }
 -- held once more, where the option holds it
 abbrev pub spend_one : Numbered → Wanted → Wanted
 spend_one x w = if holds x w.item then less_one w else w
-
--- whether a secondary use of this colour, 0 for none, can stand beside an option that gives its item the other colour, if it holds it
-abbrev pub agrees : ℕ → Option ℕ → Bool
-agrees c None = true
-agrees c (Some d) = nat_lt 0 c && c == d
 
 -- Whether an option may stay where an option with this use is taken. It may not hold a primary item that is used up by it, and has to agree on a secondary one. (The primary items of an option that is left are left.)
 abbrev pub may_stay : Option Wanted → Use → Numbered → Bool

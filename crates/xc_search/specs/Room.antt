@@ -1,6 +1,6 @@
 -- How many moves and levels a search has at most.
 use Rattle.std.specs.Prelude.{ℕ, ◌+◌, ◌*◌, length, min, sum_by}
-use Rattle.xc_input.specs.Problem.{Puzzle, item_count, primary_count}
+use Rattle.xc_input.specs.Problem.{Puzzle, item_count, primary_count, option_count}
 
 -- the uses of all options
 abbrev pub use_count : Puzzle → ℕ
@@ -14,6 +14,6 @@ room_for p = 2 * item_count p + 2 * use_count p
 abbrev pub high_total : Puzzle → ℕ
 high_total p = sum_by (λ b. b.high) p.bounds
 
--- the most levels that a search has, each with a Spend of its own
+-- the most levels that a search has: each but the last takes an option or a primary item away, and each has a Spend of its own
 abbrev pub level_limit : Puzzle → ℕ
-level_limit p = min (use_count p + primary_count p) (high_total p)
+level_limit p = min (option_count p + primary_count p) (high_total p)

@@ -4,7 +4,7 @@ use Rattle.xc_dance.specs.declared.dance.Move.{Move}
 use Rattle.xc_dance.specs.declared.dance.Move.TheVariants.{Cover, Purify, Tweak, Spend}
 use Rattle.xc_input.specs.Problem.{Puzzle, Numbered, primary_count}
 use Rattle.xc_dance.specs.Moves.{open_items}
-use Rattle.xc_search.specs.Residuals.{left}
+use Rattle.xc_dance.specs.Left.{left}
 use Rattle.xc_search.specs.Room.{use_count}
 
 -- how many of the moves are Spends

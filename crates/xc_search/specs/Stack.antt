@@ -1,13 +1,14 @@
 -- The levels of a search.
-use Rattle.std.specs.Prelude.{◌<◌, ℕ, suc, ◌≤◌, ◌≡◌, Bool, true, false, nat_lt, min, List, [], ◌∷◌, ◌++◌, length, map, drop, reverse, Option, Some, None, option_map, slice_get, flat_map, if◌then◌else◌}
+use Rattle.std.specs.Prelude.{◌<◌, ℕ, suc, ◌+◌, ◌≤◌, ◌≡◌, Bool, true, false, nat_lt, min, List, [], ◌∷◌, ◌++◌, length, map, drop, reverse, Option, Some, None, option_map, slice_get, flat_map, if◌then◌else◌}
 use Rattle.std.specs.List.{AllByRecursion}
 use Rattle.xc_search.specs.declared.choice.Choice.{Choice}
 use Rattle.xc_dance.specs.declared.dance.Move.{Move}
 use Rattle.xc_search.specs.declared.level.Level.{Level}
-use Rattle.xc_input.specs.Problem.{Puzzle, Numbered, IsPrimary, numbered_get, holding}
-use Rattle.xc_search.specs.Listing.{Wanted, Branch, branch_item, branch_count, branches_of, listing}
+use Rattle.xc_input.specs.Problem.{Puzzle, Numbered, IsPrimary, numbered_get, holding, option_count, primary_count}
+use Rattle.xc_search.specs.Listing.{Wanted, Branch, branch_item, branch_count, branches_of, size_of, listing}
 use Rattle.xc_dance.specs.Moves.{is_open, AreLegal}
-use Rattle.xc_search.specs.Residuals.{wanted_at, wanted_after, left, residual_of}
+use Rattle.xc_search.specs.Residuals.{wanted_at, wanted_after, residual_of}
+use Rattle.xc_dance.specs.Left.{left}
 use Rattle.xc_search.specs.Commits.{opened, oldest, tweaked, walks}
 use Rattle.xc_search.specs.Sparing.{IsSparing}
 
@@ -51,10 +52,14 @@ pub record IsLevelAt (p : Puzzle) (u t : List Move) (l : Level) : Type 0 where
 abbrev pub IsLevel : Puzzle → List Move → Level → Type 0
 IsLevel p t l = IsLevelAt p (oldest l.mark t) t l
 
+-- Each of the levels took an option or a primary item away: with what moves leave they are no more than the problem has.
+abbrev pub IsShallow : Puzzle → List Move → List Level → Type 0
+IsShallow p t ls = length ls + size_of (residual_of p t) ≤ option_count p + primary_count p
+
 -- the levels, the newest first
 abbrev pub AreStacked : Puzzle → List Move → List Level → Type 0
 AreStacked p t [] = Unit {0}
-AreStacked p t (l ∷ ls) = IsLevel p t l × AreStacked p (oldest l.mark t) ls
+AreStacked p t (l ∷ ls) = IsLevel p t l × IsShallow p (oldest l.mark t) ls × AreStacked p (oldest l.mark t) ls
 
 -- the level's newest branch
 abbrev pub chosen : Level → Choice
@@ -92,6 +97,7 @@ pub record IsStanding (p : Puzzle) (t : List Move) (ls : List Level) (down : Boo
   pub legal : down ≡ true → AreLegal p t
   pub wanted : down ≡ true → AreAllWanted (wanted_after p t)
   pub sparing : down ≡ true → IsSparing p t
+  pub shallow : down ≡ true → IsShallow p t ls
 
 -- a level with no branch begun
 abbrev pub first_level : Puzzle → List Move → ℕ → ℕ → Level

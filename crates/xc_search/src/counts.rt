@@ -36,11 +36,12 @@ pub fn most_moves(problem: &Problem) -> usize
     2 * problem.items() as usize + 2 * count_uses(problem)
 }
 
-/// How many levels a search of the problem has at most: each has a Spend of its own.
+/// How many levels a search of the problem has at most: each but the last takes an option or a
+/// primary item away, and each has a Spend of its own.
 pub fn most_levels(problem: &Problem) -> usize
     ensures { result ≡ level_limit problem.now.puzzle }
 {
     let _items = problem.items();
-    let by_uses = count_uses(problem) + problem.primary() as usize;
-    by_uses.min(count_spends(problem))
+    let by_size = problem.options() as usize + problem.primary() as usize;
+    by_size.min(count_spends(problem))
 }

@@ -78,3 +78,17 @@ pub fn advance<D: Dance>(dance: &mut D, problem: &Problem, stack: &mut Stack, do
         descends = turn(dance, problem, stack, level);
     }
 }
+
+/// Ends every level, the newest first, and undoes what still stands.
+pub fn unwind<D: Dance>(dance: &mut D, mut stack: Stack)
+    requires stacked { AreStacked (D.problem dance.old) (D.trail dance.old) stack.levels }
+    ensures problem { D.problem dance.new ≡ D.problem dance.old }
+    ensures limit { D.limit dance.new ≡ D.limit dance.old }
+    ensures none { D.trail dance.new ≡ [] }
+{
+    while let Some(level) = stack.pop() {
+        undo_to(dance, level.base);
+        close_level(dance, level.tweaks, level.mark);
+    }
+    undo_to(dance, 0);
+}

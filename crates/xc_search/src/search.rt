@@ -5,7 +5,7 @@ ghost use Rattle.xc_search.specs.Cover.{members, EachMemberCovers, EachCoverIsLi
 
 use crate::choice::Choice;
 use crate::counts::most_levels;
-use crate::levels::advance;
+use crate::levels::{advance, unwind};
 use crate::stack::Stack;
 use std::alloc::Global;
 use std::marker::Model;
@@ -115,12 +115,10 @@ impl<'a, D: Dance> Search<'a, D> {
         let Search {
             mut dance,
             problem: _,
-            stack: _,
+            stack,
             down: _,
         } = self;
-        while !dance.moves().is_empty() {
-            dance.undo();
-        }
+        unwind(&mut dance, stack);
         dance
     }
 }

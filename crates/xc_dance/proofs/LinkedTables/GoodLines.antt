@@ -8,8 +8,9 @@ use Rattle.xc_input.specs.Problem.{Puzzle, Numbered, numbered_options, colour_in
 use Rattle.xc_dance.specs.Moves.{listed, listed_numbers}
 use Rattle.xc_dance.specs.Links.Cells.{line_of}
 use Rattle.xc_dance.specs.Links.Laid.{IsFit}
-use Rattle.xc_dance.proofs.MoveLemmas.ListLemmas.{length-filter-le, length-numbered_from}
-use Rattle.xc_dance.proofs.MoveLemmas.LeftOptions.{each-filter, each_passes}
+use Rattle.xc_dance.proofs.MoveLemmas.ListLemmas.{length-numbered_from}
+use Rattle.xc_input.proofs.ListFilters.{length-filter-le}
+use Rattle.xc_input.proofs.EachElement.{each-filter, each_passes}
 use Rattle.xc_dance.proofs.LinkedTables.Sweep.{stay}
 use Rattle.xc_dance.proofs.LinkedTables.Goods.{Named, AllGood}
 use Rattle.xc_dance.proofs.LinkedTables.LineSteps.{shrinks, stands, numbers_rise}

@@ -32,7 +32,7 @@ use Rattle.xc_dance.proofs.LinkedTables.ListLinks.{own_placed, list_is, back_is,
 use Rattle.xc_dance.proofs.LinkedTables.HideStep.{Hides, hide_step, hide_writes}
 use Rattle.xc_dance.specs.Cost.{cost_of, marking}
 use Rattle.xc_dance.specs.Lists.Losing.{is_kept}
-use Rattle.xc_dance.proofs.MoveLemmas.OpenLists.{filter_same}
+use Rattle.xc_input.proofs.ListFilters.{filter_same}
 use Rattle.xc_dance.proofs.LinkedTables.MarkedNodes.{each_one, IsOption}
 
 -- ---- what the two moves hide

@@ -3,14 +3,13 @@ use Rattle.std.proofs.Common.{◌≡◌, ◌≢◌, ℕ, zero, suc, ◌<◌, ◌
 use Rattle.std.specs.List.{list_any}
 use Rattle.xc_dance.specs.declared.dance.Move.{Move}
 use Rattle.xc_dance.specs.declared.dance.Move.TheVariants.{Cover, Purify, Tweak, Spend}
-use Rattle.xc_input.specs.Problem.{Puzzle, Numbered, numbered_options, holds}
-use Rattle.xc_input.specs.Problem.{holding}
-use Rattle.xc_dance.specs.Moves.{listed, is_open, without, other_colours}
-use Rattle.xc_dance.specs.Moves.{listed_numbers}
+use Rattle.xc_input.specs.Problem.{Puzzle, Numbered, numbered_options, holds, holding}
+use Rattle.xc_dance.specs.Moves.{listed, is_open, without, other_colours, listed_numbers}
 use Rattle.xc_dance.specs.Fields.{above, below_of, last_below, first_above, first_of, last_of, is_in}
 use Rattle.xc_dance.specs.Links.Lines.{Line, IsLinkedFrom}
 use Rattle.xc_dance.specs.Links.Cells.{line_of, up_of, down_of}
-use Rattle.xc_dance.proofs.MoveLemmas.OpenLists.{NumbersRise, NumbersRise-filter, left_rises}
+use Rattle.xc_dance.proofs.MoveLemmas.OpenLists.{left_rises}
+use Rattle.xc_dance.proofs.MoveLemmas.OptionsRise.{NumbersRise, NumbersRise-filter}
 use Rattle.xc_dance.proofs.LinkedTables.Sweep.{Rises, Rises-filter, Swept, swept, stay, cuts, in_above, is_in-first, is_in-other, last_below-self, last_below-more, first_above-first, first_above-more, last_of-more}
 
 -- ---- a line that is given by its list

@@ -6,17 +6,16 @@ use Rattle.std.proofs.lemmas.Bool.{false≢true}
 use Rattle.xc_input.specs.declared.problem.Use.{Use}
 use Rattle.xc_dance.specs.declared.dance.Move.{Move}
 use Rattle.xc_dance.specs.declared.dance.Move.TheVariants.{Cover, Purify, Tweak, Spend}
-use Rattle.xc_input.specs.Problem.{Puzzle, Numbered, numbered_options, numbered_from, numbered_get, item_count, colour_in, colour_at, uses_of, holds}
-use Rattle.xc_input.specs.Problem.{holding}
-use Rattle.xc_dance.specs.Moves.{listed, is_open, is_covered, purified, AreLegal}
-use Rattle.xc_dance.specs.Moves.{listed_numbers}
+use Rattle.xc_input.specs.Problem.{Puzzle, Numbered, numbered_options, numbered_from, numbered_get, item_count, colour_in, colour_at, uses_of, holds, holding}
+use Rattle.xc_dance.specs.Moves.{listed, is_open, is_covered, purified, AreLegal, listed_numbers}
 use Rattle.xc_dance.specs.Fields.{Node, unused, own, spacer, used, layout, link_place, is_in, is_marked}
 use Rattle.xc_dance.specs.Left.{left, agrees}
 use Rattle.xc_dance.specs.Links.Cells.{color_in, slot_of}
 use Rattle.xc_dance.specs.Links.Laid.{IsLaid, IsFit}
 use Rattle.xc_dance.proofs.LinkedTables.Mapped.{get_map}
 use Rattle.xc_dance.proofs.LinkedTables.ReadyLemmas.{Stands}
-use Rattle.xc_dance.proofs.MoveLemmas.OpenLists.{listed_open, and_right, and_left}
+use Rattle.xc_dance.proofs.MoveLemmas.OpenLists.{listed_open}
+use Rattle.xc_input.proofs.BooleanTests.{and_right, and_left}
 use Rattle.xc_dance.proofs.MoveLemmas.LeftOptions.{left_free, left_agrees, kept}
 use Rattle.xc_dance.proofs.LinkedTables.Sweep.{is_in-first}
 use Rattle.xc_dance.proofs.LinkedTables.Goods.{Named}

@@ -16,7 +16,7 @@ use Rattle.xc_dance.specs.Links.Others.{other_items}
 use Rattle.xc_dance.specs.Links.Laid.{IsLaid, IsFit}
 use Rattle.xc_dance.proofs.LinkedTables.ReadyLemmas.{Stands}
 use Rattle.xc_dance.proofs.MoveLemmas.OpenLists.{listed_open}
-use Rattle.xc_dance.proofs.MoveLemmas.LeftOptions.{each-filter}
+use Rattle.xc_input.proofs.EachElement.{each-filter}
 use Rattle.xc_dance.proofs.LinkedTables.Sweep.{in_above}
 use Rattle.xc_dance.proofs.LinkedTables.Goods.{Named}
 use Rattle.xc_dance.proofs.LinkedTables.OneOption.{is_mark, AreReady}

@@ -10,8 +10,9 @@ use Rattle.xc_dance.specs.Moves.{listed, listed_numbers, is_open, without, other
 use Rattle.xc_dance.specs.Lists.Losing.{is_kept}
 use Rattle.xc_dance.specs.Fields.{is_in}
 use Rattle.xc_dance.specs.Left.{left}
-use Rattle.xc_dance.proofs.MoveLemmas.OpenLists.{listed_open, filter_same}
-use Rattle.xc_dance.proofs.MoveLemmas.LeftOptions.{each-filter}
+use Rattle.xc_dance.proofs.MoveLemmas.OpenLists.{listed_open}
+use Rattle.xc_input.proofs.ListFilters.{filter_same}
+use Rattle.xc_input.proofs.EachElement.{each-filter}
 use Rattle.xc_dance.proofs.LinkedTables.Sweep.{stay}
 use Rattle.xc_dance.proofs.LinkedTables.OneList.{leavers}
 use Rattle.xc_dance.proofs.LinkedTables.LineSteps.{goes, without_numbers, filter_numbers, stay_all}

@@ -29,7 +29,7 @@ use Rattle.xc_dance.proofs.LinkedTables.ListLinks.{own_placed}
 use Rattle.xc_dance.proofs.LinkedTables.Regained.{Held, Regaining, regaining, regained}
 use Rattle.xc_dance.proofs.LinkedTables.TweakStep.{line_here, line_there}
 use Rattle.xc_dance.proofs.LinkedTables.Climb.{Climbing, to_come, is_below, top_kept, down_kept}
-use Rattle.xc_dance.proofs.MoveLemmas.ListLemmas.{length-filter-le}
+use Rattle.xc_input.proofs.ListFilters.{length-filter-le}
 use Rattle.xc_dance.proofs.LinkedTables.ClimbWalk.{climb_walk, climb_follow, climb_writes}
 use Rattle.xc_dance.proofs.LinkedTables.TweakedLines.{TweakedLines, tweaks, tweaked_lines, none_yet, tweak_writes}
 

@@ -1,23 +1,13 @@
 -- What holds of the options left.
-use Rattle.std.proofs.Common.{ℕ, ◌≡◌, Bool, true, false, cond, not, ◌||◌, eqb, List, [], ◌∷◌, filter, take, Some, refl, sym, subst, eqb-true}
+use Rattle.std.proofs.Common.{ℕ, ◌≡◌, true, false, cond, not, ◌||◌, eqb, List, [], ◌∷◌, take, Some, refl, sym, subst, eqb-true}
+use Rattle.std.proofs.lemmas.Bool.{not-true}
 use Rattle.std.specs.List.{AllByRecursion}
+use Rattle.xc_input.specs.Problem.{Puzzle, Numbered, holds, colour_at, holding}
+use Rattle.xc_input.proofs.EachElement.{each_weaker, each-filter, each_passes}
 use Rattle.xc_dance.specs.declared.dance.Move.{Move}
 use Rattle.xc_dance.specs.declared.dance.Move.TheVariants.{Cover, Purify, Tweak, Spend}
-use Rattle.xc_input.specs.Problem.{Puzzle, Numbered, holds, colour_at}
-use Rattle.xc_input.specs.Problem.{holding}
-use Rattle.xc_input.specs.Problem.{holding}
-use Rattle.xc_dance.specs.Left.{agrees}
 use Rattle.xc_dance.specs.Moves.{is_open, is_covered, purified, without}
-use Rattle.xc_dance.specs.Left.{left}
-use Rattle.xc_dance.proofs.MoveLemmas.Each.{each_weaker}
-
-pub each-filter : {X : Type 0} (P : X → Type 0) (q : X → Bool) (xs : List X) → AllByRecursion P xs → AllByRecursion P (filter q xs)
-each-filter P q [] a = a
-each-filter P q (x ∷ xs) a = elim (q x) as (λ b. AllByRecursion P (cond b (x ∷ filter q xs) (filter q xs))) [ true ↦ (a.0, each-filter P q xs a.1) | false ↦ each-filter P q xs a.1 ]
-
-pub each_passes : {X : Type 0} (q : X → Bool) (xs : List X) → AllByRecursion (λ x. q x ≡ true) (filter q xs)
-each_passes q [] = tt
-each_passes q (x ∷ xs) = elim (q x) as (λ b. q x ≡ b → AllByRecursion (λ x. q x ≡ true) (cond b (x ∷ filter q xs) (filter q xs))) [ true ↦ λ e. (e, each_passes q xs) | false ↦ λ e. each_passes q xs ] refl
+use Rattle.xc_dance.specs.Left.{agrees, left}
 
 -- a fact of all options left is kept by a move
 pub kept : (P : Numbered → Type 0) (p : Puzzle) (t : List Move) (m : Move) → AllByRecursion P (left p t) → AllByRecursion P (left p (m ∷ t))
@@ -26,17 +16,13 @@ kept P p t (Purify j c) a = each-filter P _ (left p t) a
 kept P p t (Tweak j) a = elim (is_open j t) as (λ b. AllByRecursion P (cond b (without (take 1 (holding j (left p t))) (left p t)) (left p t))) [ true ↦ each-filter P _ (left p t) a | false ↦ a ]
 kept P p t (Spend j) a = a
 
-not_true : (b : Bool) → not b ≡ true → b ≡ false
-not_true true e = sym e
-not_true false e = refl
-
 -- no option left holds a covered item
 pub left_free : (p : Puzzle) (t : List Move) (j : ℕ) → is_covered j t ≡ true → AllByRecursion (λ o. holds o j ≡ false) (left p t)
 left_free p [] j e = cc
 left_free p (Cover k ∷ t) j e =
     elim (eqb j k) as (λ b. eqb j k ≡ b → (b || is_covered j t) ≡ true → AllByRecursion (λ o. holds o j ≡ false) (left p (Cover k ∷ t))) [
       | true ↦ λ i f. subst (λ n. AllByRecursion (λ o. holds o n ≡ false) (left p (Cover k ∷ t))) (sym (eqb-true j k i))
-          (each_weaker (λ o. not (holds o k) ≡ true) (λ o. holds o k ≡ false) _ (λ o h. not_true (holds o k) h) (each_passes (λ o. not (holds o k)) (left p t)))
+          (each_weaker (λ o. not (holds o k) ≡ true) (λ o. holds o k ≡ false) _ (λ o h. not-true (holds o k) h) (each_passes (λ o. not (holds o k)) (left p t)))
       | false ↦ λ i f. kept (λ o. holds o j ≡ false) p t (Cover k) (left_free p t j f)
     ] refl e
 left_free p (Purify k c ∷ t) j e = kept (λ o. holds o j ≡ false) p t (Purify k c) (left_free p t j e)

@@ -1,68 +1,22 @@
 -- An open item's list is the options left that hold it.
-use Rattle.std.proofs.Common.{ℕ, ◌≡◌, ◌+◌, ◌<◌, ◌≤◌, Bool, true, false, cond, not, ◌&&◌, eqb, List, [], ◌∷◌, filter, take, drop, Option, Some, None, refl, sym, ap, ap₂, ◌∙◌, arith, eqb-true, eq-eqb, lt-ltb, ne_eqb}
+use Rattle.std.proofs.Common.{ℕ, ◌≡◌, ◌<◌, ◌≤◌, Bool, true, false, cond, not, ◌&&◌, eqb, List, [], ◌∷◌, filter, take, drop, Option, Some, None, refl, sym, ap, ap₂, ◌∙◌, arith, eqb-true, eq-eqb, lt-ltb, ne_eqb, IsTrue}
 use Rattle.std.proofs.lemmas.List.Elements.{filter_agree}
 use Rattle.std.specs.Prelude.{nat_lt, is_some}
 use Rattle.std.specs.List.{AllByRecursion}
-use Rattle.xc_input.specs.declared.problem.Use.{Use}
+use Rattle.xc_input.specs.Problem.{Puzzle, Numbered, holds, colour_at, holding}
+use Rattle.xc_input.proofs.EachElement.{each_weaker, each_both}
+use Rattle.xc_input.proofs.ListFilters.{filter_same, filter_both, filter_swap, keep_all}
+use Rattle.xc_input.proofs.BooleanTests.{and_right}
 use Rattle.xc_dance.specs.declared.dance.Move.{Move}
 use Rattle.xc_dance.specs.declared.dance.Move.TheVariants.{Cover, Purify, Tweak, Spend}
-use Rattle.xc_input.specs.Problem.{Puzzle, Numbered, numbered_from, holds, colour_at}
-use Rattle.xc_input.specs.Problem.{holding}
-use Rattle.xc_input.specs.Problem.{holding}
-use Rattle.xc_dance.specs.Left.{agrees}
-use Rattle.xc_dance.specs.Moves.{listed, is_open, without, is_among, other_colours, is_other_colour}
-use Rattle.xc_dance.specs.Left.{left, OpenListsAreLeft}
-use Rattle.xc_dance.proofs.MoveLemmas.Each.{each_weaker}
+use Rattle.xc_dance.specs.Moves.{listed, is_open, without, is_among, other_colours, is_other_colour, AreLegal}
+use Rattle.xc_dance.specs.Left.{agrees, left}
+use Rattle.xc_dance.proofs.MoveLemmas.OptionsRise.{NumbersRise, NumbersRise-weaker, NumbersRise-filter, options_rise}
 
--- ---- filters
-
-each_both : {X : Type 0} (P Q R : X → Type 0) (xs : List X) → ((x : X) → P x → Q x → R x) → AllByRecursion P xs → AllByRecursion Q xs → AllByRecursion R xs
-each_both P Q R [] h a b = tt
-each_both P Q R (x ∷ xs) h a b = (h x a.0 b.0, each_both P Q R xs h a.1 b.1)
-
-pub filter_same : {X : Type 0} (p q : X → Bool) (xs : List X) → AllByRecursion (λ x. p x ≡ q x) xs → filter p xs ≡ filter q xs
-filter_same p q [] a = refl
-filter_same p q (x ∷ xs) a = ap₂ (λ b ys. cond b (x ∷ ys) ys) a.0 (filter_same p q xs a.1)
-
-pub filter_both : {X : Type 0} (p q : X → Bool) (xs : List X) → filter p (filter q xs) ≡ filter (λ x. q x && p x) xs
-filter_both p q [] = refl
-filter_both p q (x ∷ xs) = elim (q x) as (λ b. filter p (cond b (x ∷ filter q xs) (filter q xs)) ≡ cond (b && p x) (x ∷ filter (λ x. q x && p x) xs) (filter (λ x. q x && p x) xs)) [
-  | true ↦ ap (λ ys. cond (p x) (x ∷ ys) ys) (filter_both p q xs)
-  | false ↦ filter_both p q xs
-]
-
-and_comm : (a b : Bool) → (a && b) ≡ (b && a)
-and_comm true true = refl
-and_comm true false = refl
-and_comm false true = refl
-and_comm false false = refl
-
-pub filter_swap : {X : Type 0} (p q : X → Bool) (xs : List X) → filter p (filter q xs) ≡ filter q (filter p xs)
-filter_swap p q xs = filter_both p q xs ∙ filter_agree _ _ (λ x. and_comm (q x) (p x)) xs ∙ sym (filter_both q p xs)
-
--- ---- options whose numbers rise
-
-abbrev pub NumbersRise : ℕ → List Numbered → Type 0
-NumbersRise n [] = Unit {0}
-NumbersRise n (o ∷ os) = (n < o.number) × NumbersRise o.number os
-
-pub NumbersRise-weaker : (m n : ℕ) (os : List Numbered) → m ≤ n → NumbersRise n os → NumbersRise m os
-NumbersRise-weaker m n [] h r = tt
-NumbersRise-weaker m n (o ∷ os) h r = (omega (arith, r.0), r.1)
-
-pub NumbersRise-filter : (p : Numbered → Bool) (n : ℕ) (os : List Numbered) → NumbersRise n os → NumbersRise n (filter p os)
-NumbersRise-filter p n [] r = tt
-NumbersRise-filter p n (o ∷ os) r = elim (p o) as (λ b. NumbersRise n (cond b (o ∷ filter p os) (filter p os))) [
-  | true ↦ (r.0, NumbersRise-filter p o.number os r.1)
-  | false ↦ NumbersRise-filter p n os (NumbersRise-weaker n o.number os (omega (arith, r.0)) r.1)
-]
-
-NumbersRise-from : (n : ℕ) (os : List (List Use)) → NumbersRise n (numbered_from (n + 1) os)
-NumbersRise-from n [] = tt
-NumbersRise-from n (us ∷ os) = (omega arith, NumbersRise-from (n + 1) os)
+-- ---- numbers that rise
 
 pub left_rises : (p : Puzzle) (t : List Move) → NumbersRise 0 (left p t)
-left_rises p [] = NumbersRise-from 0 p.options
+left_rises p [] = options_rise p
 left_rises p (Cover j ∷ t) = NumbersRise-filter (λ o. not (holds o j)) 0 (left p t) (left_rises p t)
 left_rises p (Purify j c ∷ t) = NumbersRise-filter (λ o. agrees c (colour_at o j)) 0 (left p t) (left_rises p t)
 left_rises p (Tweak j ∷ t) = elim (is_open j t) as (λ b. NumbersRise 0 (cond b (without (take 1 (holding j (left p t))) (left p t)) (left p t))) [
@@ -99,10 +53,6 @@ among_filter q n (x ∷ os) r =
 pub without_filter : (q : Numbered → Bool) (n : ℕ) (os : List Numbered) → NumbersRise n os → without (filter q os) os ≡ filter (λ o. not (q o)) os
 without_filter q n os r = filter_same _ _ os (each_weaker _ _ os (λ o e. ap not e) (among_filter q n os r))
 
-keep_all : {X : Type 0} (p : X → Bool) (xs : List X) → AllByRecursion (λ x. p x ≡ true) xs → filter p xs ≡ xs
-keep_all p [] a = refl
-keep_all p (x ∷ xs) a = rw a.0 (ap (λ ys. x ∷ ys) (keep_all p xs a.1))
-
 pub without_first : (n : ℕ) (os : List Numbered) → NumbersRise n os → without (take 1 os) os ≡ drop 1 os
 without_first n [] r = refl
 without_first n (x ∷ os) r =
@@ -127,14 +77,6 @@ purified_gone i j c os h r =
     ap (λ g. without g (holding i os)) (filter_both (λ o. is_other_colour c (colour_at o j)) (λ o. holds o j) os)
     ∙ gone (λ o. holds o j && is_other_colour c (colour_at o j)) i os r
     ∙ ap (holding i) (filter_agree _ _ (λ o. agree_test c (colour_at o j) h) os)
-
-pub and_left : (a b : Bool) → (a && b) ≡ true → a ≡ true
-and_left true b e = refl
-and_left false b e = e
-
-pub and_right : (a b : Bool) → (a && b) ≡ true → b ≡ true
-and_right true b e = e
-and_right false b e = cc
 
 tweaked_closed : (p : Puzzle) (t : List Move) (i j : ℕ) → is_open i t ≡ true → listed p t i ≡ holding i (left p t) → (is_open j t ≡ true → listed p t j ≡ holding j (left p t)) →
     eqb i j ≡ false → listed p (Tweak j ∷ t) i ≡ holding i (left p (Tweak j ∷ t))
@@ -163,7 +105,7 @@ tweaked p t i j opened at_i at_j = by_case (eqb i j) refl
     by_case true e = tweaked_itself p t i j opened at_j (eqb-true i j e)
     by_case false e = tweaked_closed p t i j opened at_i at_j e
 
-pub listed_open : (p : Puzzle) (t : List Move) → OpenListsAreLeft p t
+pub listed_open : (p : Puzzle) (t : List Move) → AreLegal p t → (i : ℕ) → IsTrue (is_open i t) → listed p t i ≡ holding i (left p t)
 listed_open p [] legal i opened = refl
 listed_open p (Cover j ∷ t) legal i opened =
     rw opened

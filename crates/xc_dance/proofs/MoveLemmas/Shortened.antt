@@ -1,13 +1,14 @@
 -- The lists after moves, as filters of the lists before.
 use Rattle.std.proofs.Common.{ℕ, zero, suc, ◌≡◌, ◌≢◌, ◌+◌, ◌-◌, ◌<◌, ◌≤◌, Bool, true, false, not, cond, eqb, ◌&&◌, ◌||◌, List, [], ◌∷◌, length, get_or, set, filter, map, take, drop, Some, None, refl, ap, ap₂, sym, ◌∙◌, arith, subst, eq-eqb, eqb-true}
 use Rattle.std.specs.Prelude.{All, IsTrue, is_some, unwrap_or, slice_get}
-use Rattle.std.specs.List.{list_any, range_with_len}
+use Rattle.std.specs.List.{AllByRecursion, list_any, range_with_len}
 use Rattle.std.proofs.lemmas.Bool.{ne_eqb}
 use Rattle.std.proofs.lemmas.List.FromFn.{length-map-range_with_len, get_or-map-range_with_len}
 use Rattle.std.proofs.lemmas.List.Elements.{All-nil, All-cons}
 use Rattle.std.proofs.Math.Bool.{not-not}
 use Rattle.xc_input.specs.declared.problem.Use.{Use}
 use Rattle.xc_input.specs.Problem.{Puzzle, Numbered, uses_of, numbered_from, numbered_options, item_count, holds, colour_in}
+use Rattle.xc_input.proofs.EachElement.{each-filter}
 use Rattle.xc_dance.specs.declared.dance.Move.{Move}
 use Rattle.xc_dance.specs.declared.dance.Move.TheVariants.{Cover, Purify, Tweak, Spend}
 use Rattle.xc_dance.specs.Moves.{is_open, is_among, without, other_colours, is_other_colour, listed, listed_numbers}
@@ -20,22 +21,11 @@ use Rattle.xc_dance.proofs.LiveLists.OptionsLost.{lose_other, length-lose_from, 
 
 -- ---- what holds of each option of a list
 
-abbrev pub Each : {X : Type 0} → (X → Type 0) → List X → Type 0
-Each P [] = Unit {0}
-Each P (x ∷ xs) = P x × Each P xs
-
-each_filter : {X : Type 0} (P : X → Type 0) (q : X → Bool) (xs : List X) → Each P xs → Each P (filter q xs)
-each_filter P q [] h = tt
-each_filter P q (x ∷ xs) h = elim (q x) as (λ b. Each P (cond b (x ∷ filter q xs) (filter q xs))) [
-  | true ↦ (h.0, each_filter P q xs h.1)
-  | false ↦ each_filter P q xs h.1
-]
-
-each_drop : {X : Type 0} (P : X → Type 0) (xs : List X) → Each P xs → Each P (drop 1 xs)
+each_drop : {X : Type 0} (P : X → Type 0) (xs : List X) → AllByRecursion P xs → AllByRecursion P (drop 1 xs)
 each_drop P [] h = tt
 each_drop P (x ∷ xs) h = h.1
 
-each_if : {X : Type 0} (P : X → Type 0) (b : Bool) (xs ys : List X) → Each P xs → Each P ys → Each P (cond b xs ys)
+each_if : {X : Type 0} (P : X → Type 0) (b : Bool) (xs ys : List X) → AllByRecursion P xs → AllByRecursion P ys → AllByRecursion P (cond b xs ys)
 each_if P true xs ys g h = g
 each_if P false xs ys g h = h
 
@@ -56,29 +46,29 @@ drop_cons [] (suc m) x xs e = absurd (cc e)
 drop_cons (y ∷ all) zero x xs e = ((let same : y ≡ x = cc e in ap (λ z. Some z) same), (let same : all ≡ xs = cc e in same))
 drop_cons (y ∷ all) (suc m) x xs e = drop_cons all m x xs e
 
-first_holders : (p : Puzzle) (i n : ℕ) (os : List (List Use)) (m : ℕ) → n ≡ suc m → drop m p.options ≡ os → Each (IsHolder p i) (filter (λ o. holds o i) (numbered_from n os))
+first_holders : (p : Puzzle) (i n : ℕ) (os : List (List Use)) (m : ℕ) → n ≡ suc m → drop m p.options ≡ os → AllByRecursion (IsHolder p i) (filter (λ o. holds o i) (numbered_from n os))
 first_holders p i n [] m e at = tt
 first_holders p i n (us ∷ os) m e at =
     let here = drop_cons p.options m us os at in
     let rest = first_holders p i (n + 1) os (suc m) (omega (arith, e)) here.1 in
     let known : uses_of p n ≡ us = rw e (ap (λ o. unwrap_or o []) here.0) in
     let x : Numbered = record { number = n; uses = us } in
-    elim (holds x i) as (λ b. holds x i ≡ b → Each (IsHolder p i) (cond b (x ∷ filter (λ o. holds o i) (numbered_from (n + 1) os)) (filter (λ o. holds o i) (numbered_from (n + 1) os)))) [
+    elim (holds x i) as (λ b. holds x i ≡ b → AllByRecursion (IsHolder p i) (cond b (x ∷ filter (λ o. holds o i) (numbered_from (n + 1) os)) (filter (λ o. holds o i) (numbered_from (n + 1) os)))) [
       | true ↦ λ q. ((known, sym (holds_use us i) ∙ q), rest)
       | false ↦ λ q. rest
     ] refl
 
-pub holders : (p : Puzzle) (t : List Move) (i : ℕ) → Each (IsHolder p i) (listed p t i)
+pub holders : (p : Puzzle) (t : List Move) (i : ℕ) → AllByRecursion (IsHolder p i) (listed p t i)
 holders p [] i = first_holders p i 1 p.options zero refl refl
 holders p (Cover j ∷ t) i =
-    each_if (IsHolder p i) (not (eqb i j) && is_open i t) _ _ (each_filter (IsHolder p i) _ (listed p t i) (holders p t i)) (holders p t i)
+    each_if (IsHolder p i) (not (eqb i j) && is_open i t) _ _ (each-filter (IsHolder p i) _ (listed p t i) (holders p t i)) (holders p t i)
 holders p (Purify j c ∷ t) i =
-    each_if (IsHolder p i) (not (eqb i j) && is_open i t) _ _ (each_filter (IsHolder p i) _ (listed p t i) (holders p t i)) (holders p t i)
+    each_if (IsHolder p i) (not (eqb i j) && is_open i t) _ _ (each-filter (IsHolder p i) _ (listed p t i) (holders p t i)) (holders p t i)
 holders p (Tweak j ∷ t) i = by_item (holders p t i) (eqb i j) refl
   where
-    by_item : Each (IsHolder p i) (listed p t i) → (b : Bool) → eqb i j ≡ b → Each (IsHolder p i) (cond b (drop 1 (listed p t j)) (cond (is_open j t && is_open i t) (without (take 1 (listed p t j)) (listed p t i)) (listed p t i)))
-    by_item h true q = subst (λ k. Each (IsHolder p i) (drop 1 (listed p t k))) (eqb-true i j q) (each_drop (IsHolder p i) (listed p t i) h)
-    by_item h false q = each_if (IsHolder p i) (is_open j t && is_open i t) _ _ (each_filter (IsHolder p i) _ (listed p t i) h) h
+    by_item : AllByRecursion (IsHolder p i) (listed p t i) → (b : Bool) → eqb i j ≡ b → AllByRecursion (IsHolder p i) (cond b (drop 1 (listed p t j)) (cond (is_open j t && is_open i t) (without (take 1 (listed p t j)) (listed p t i)) (listed p t i)))
+    by_item h true q = subst (λ k. AllByRecursion (IsHolder p i) (drop 1 (listed p t k))) (eqb-true i j q) (each_drop (IsHolder p i) (listed p t i) h)
+    by_item h false q = each_if (IsHolder p i) (is_open j t && is_open i t) _ _ (each-filter (IsHolder p i) _ (listed p t i) h) h
 holders p (Spend j ∷ t) i = holders p t i
 
 -- ---- the numbers rise
@@ -120,7 +110,7 @@ rises_listed p (Spend j ∷ t) i = rises_listed p t i
 
 -- ---- the lists of all items
 
-all_hold : (p : Puzzle) (i : ℕ) (xs : List Numbered) → Each (IsHolder p i) xs → All (λ o. IsTrue (has_use (uses_of p o) i)) (map (λ o. o.number) xs)
+all_hold : (p : Puzzle) (i : ℕ) (xs : List Numbered) → AllByRecursion (IsHolder p i) xs → All (λ o. IsTrue (has_use (uses_of p o) i)) (map (λ o. o.number) xs)
 all_hold p i [] h = All-nil _
 all_hold p i (x ∷ xs) h = All-cons (λ o. IsTrue (has_use (uses_of p o) i)) x.number (map (λ o. o.number) xs) (ap (λ us. has_use us i) h.0.0 ∙ h.0.1) (all_hold p i xs h.1)
 
@@ -170,7 +160,7 @@ lists_covered p t j low high =
     ap (λ l. lose t j l (lists_after p t)) (keep_all (list_at (lists_after p t) (j - 1)) ∙ list_after p t j low high)
     ∙ lose_range t j (listed_numbers p t j) (listed_numbers p t) (listed_numbers p (Cover j ∷ t)) (λ i. losing (listed p t j) (listed p t i) (not (eqb i j) && is_open i t)) 1 (item_count p)
 
-other_numbers : (p : Puzzle) (j c : ℕ) (xs : List Numbered) → Each (IsHolder p j) xs → filter (λ o. not (is_kept p j (Some c) o)) (map (λ o. o.number) xs) ≡ map (λ o. o.number) (other_colours j c xs)
+other_numbers : (p : Puzzle) (j c : ℕ) (xs : List Numbered) → AllByRecursion (IsHolder p j) xs → filter (λ o. not (is_kept p j (Some c) o)) (map (λ o. o.number) xs) ≡ map (λ o. o.number) (other_colours j c xs)
 other_numbers p j c [] h = refl
 other_numbers p j c (x ∷ xs) h =
     let rest = other_numbers p j c xs h.1 in

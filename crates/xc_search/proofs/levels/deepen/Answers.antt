@@ -49,4 +49,4 @@ push-requires g c =
     let e : choice_after p t ≡ Some (i, c.in-Some.count) = cc (c.choose.ensures, c.in-Some.is) in
     let node = node_at p t ls c.args.down i c.in-Some.count c.requires.standing c.if-not-down.false e in
     let chosen = chosen_item p t i c.in-Some.count (c.requires.standing.legal c.if-not-down.false) e in
-    omega (arith, c.requires.levels_fit, depth_at p t ls i c.requires.standing.stacked node chosen.branch)
+    omega (arith, c.requires.levels_fit, depth_at p t ls i c.requires.standing.stacked (c.requires.standing.shallow c.if-not-down.false) node chosen.branch)
