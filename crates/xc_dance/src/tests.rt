@@ -4,29 +4,66 @@ ghost use Rattle.xc_input.specs.Problem.{IsItem};
 
 use crate::{Dance, Full, Links, Lists, Move};
 use std::alloc::Global;
-use std::test::Fail;
 use xc_input::{Feed, Kind, Problem, read_problem};
 
 /// Three primary items and two secondary ones, with colours.
 pub const COLOURED: &[u8] = b"p q r | x y\np q x y:A\np r x:A y\np x:B\nq x:A\nr y:B\n";
 /// Two items, of which the first may be held twice.
 pub const TWICE: &[u8] = b"1:2|A B\nA\nA B\nB\n";
+/// Two items and two options.
+pub const SMALL: &[u8] = b"A B\nA\nA B\n";
 /// One item in two options, which may be left out or held twice.
 pub const ALONE: &[u8] = b"0:2|A\nA\nA\n";
 
-pub fn problem(alloc: Global, kind: Kind, text: &[u8]) -> Result<Problem, Fail> {
-    let read = read_problem(alloc, kind, &mut Feed::new(text, 100, None))?;
-    Ok(read.problem)
+pub fn problem(alloc: Global, kind: Kind, text: &[u8]) -> Option<Problem> {
+    match read_problem(alloc, kind, &mut Feed::new(text, 100, None)) {
+        Ok(read) => Some(read.problem),
+        Err(_) => None,
+    }
 }
 
-pub fn links(alloc: Global, kind: Kind, text: &[u8], room: usize) -> Result<Links, Fail> {
+pub fn links(alloc: Global, kind: Kind, text: &[u8], room: usize) -> Option<Links> {
     let problem = problem(alloc, kind, text)?;
-    Ok(Links::new(alloc, &problem, room)?)
+    Links::new(alloc, &problem, room).ok()
 }
 
-pub fn lists(alloc: Global, kind: Kind, text: &[u8], room: usize) -> Result<Lists, Fail> {
+pub fn lists(alloc: Global, kind: Kind, text: &[u8], room: usize) -> Option<Lists> {
     let problem = problem(alloc, kind, text)?;
-    Ok(Lists::new(alloc, &problem, room)?)
+    Lists::new(alloc, &problem, room).ok()
+}
+
+/// Does the work on a keeper that was made. The keeper is of any type, so that its drop is proved
+/// here and not in each test.
+pub fn on_one<D: Drop, F: Fn(&mut D) -> bool>(made: Option<D>, work: F) -> bool
+    requires { F.IsAlwaysCallable work }
+{
+    match made {
+        Some(mut one) => work(&mut one),
+        None => false,
+    }
+}
+
+/// Does the work on two keepers that were made.
+pub fn on_two<D: Drop, F: Fn(&mut D, &D) -> bool>(
+    made: Option<D>,
+    other: Option<D>,
+    work: F,
+) -> bool
+    requires { F.IsAlwaysCallable work }
+{
+    match (made, other) {
+        (Some(mut one), Some(two)) => work(&mut one, &two),
+        _ => false,
+    }
+}
+
+/// The keeper after these moves; None where one of them is illegal.
+pub fn after<D: Dance + Drop>(made: Option<D>, moves: &[Move]) -> Option<D> {
+    let mut dance = made?;
+    for m in moves {
+        make(&mut dance, *m)?;
+    }
+    Some(dance)
 }
 
 /// Makes the move and answers its cost; None where it is illegal or there is no room.
