@@ -52,6 +52,7 @@ pub mod PlaceLemmas
 pub mod SpacerPlaces
 pub mod SpanLemmas
 pub mod FilledSpans
+pub mod FilledOptions
 pub mod FittedLemmas
 pub mod FilledColumns
 pub mod LaidNodes

@@ -61,5 +61,4 @@ fitted p spans limits fit is =
       near = near p limits;
       bounds = λ i. high_small p i limits;
       items = let n = limits.items in omega (arith, n);
-      spans_are = refl;
     })

@@ -1,134 +1,99 @@
--- The option whose node stands at a place, and the node by which an option uses an item.
-use Rattle.std.proofs.Common.{◌≡◌, ◌≢◌, ◌⊎◌, inl, inr, ℕ, zero, suc, ◌+◌, ◌-◌, ◌<◌, ◌≤◌, Bool, true, false, cond, ◌||◌, eqb, ltb, List, [], ◌∷◌, length, map, drop, get_or, Some, None, Option, refl, ap, ap₂, sym, subst, ◌∙◌, arith, eq-eqb, ne_eqb, le-leb, length-drop}
-use Rattle.std.specs.Prelude.{is_some, unwrap_or, slice_get, slice_range, Contains}
+-- The node by which an option uses an item, and the links downwards by option numbers.
+use Rattle.std.proofs.Common.{◌≡◌, ◌≢◌, ◌⊎◌, inl, inr, ℕ, zero, suc, ◌+◌, ◌-◌, ◌<◌, ◌≤◌, Bool, true, false, cond, ◌||◌, eqb, ltb, List, [], ◌∷◌, length, get_or, Some, None, Option, refl, ap, ap₂, sym, subst, ◌∙◌, arith, eq-eqb, ne_eqb, le-leb}
+use Rattle.std.specs.Prelude.{is_some, unwrap_or, slice_get, Contains}
 use Rattle.std.specs.List.{range_with_len, AllByRecursion}
-use Rattle.std.proofs.lemmas.List.{length-take-le}
-use Rattle.std.proofs.lemmas.Bool.{false≢true}
 use Rattle.xc_input.specs.declared.problem.Use.{Use}
-use Rattle.xc_input.specs.Flat.{pieces, AreStarts}
 use Rattle.xc_dance.specs.declared.dance.Move.{Move}
-use Rattle.xc_dance.specs.declared.links.nodes.Span.{Span}
-use Rattle.xc_input.specs.Problem.{Puzzle, primary_count, item_count, option_count, uses_of, colour_in, IsWithinLimits}
+use Rattle.xc_input.specs.Problem.{Puzzle, primary_count, item_count, uses_of, colour_in}
 use Rattle.xc_dance.specs.Moves.{is_open, AreLegal, listed_numbers, next_above, open_items, IsOpenPrimary}
-use Rattle.xc_dance.specs.Fields.{Node, unused, own, spacer, used, layout, first_above, first_of, is_in, ring_of, right_of, below_of, spacer_place, link_place}
-use Rattle.xc_dance.specs.Links.Cells.{slot_of, link_at, fixed_down, top_in, dlink_in, line_of, nodes_after}
+use Rattle.xc_dance.specs.Fields.{own, used, layout, first_above, first_of, is_in, ring_of, right_of, below_of, link_place}
+use Rattle.xc_dance.specs.Links.Cells.{link_at, fixed_down, top_in, dlink_in, line_of, nodes_after}
 use Rattle.xc_dance.specs.Links.ItemCells.{items_after, rlink_at}
 use Rattle.xc_dance.specs.Links.Laid.{IsName, IsLaid, IsFit}
-use Rattle.xc_dance.specs.Links.Made.{IsFitted}
-use Rattle.xc_dance.specs.Links.OptionPlaces.{reach, place_at}
-use Rattle.xc_dance.specs.Links.OptionSpans.{span_of}
-use Rattle.xc_dance.specs.Links.Answered.{IsUseAt}
+use Rattle.xc_dance.specs.Links.OptionPlaces.{start_at}
 use Rattle.xc_dance.proofs.LinkedTables.Answering.{ring_open}
-use Rattle.xc_dance.proofs.LinkedTables.LaidLemmas.{placed, head_is}
 use Rattle.xc_dance.proofs.LinkedTables.Goods.{Named}
 use Rattle.xc_dance.proofs.LinkedTables.GoodLines.{numbers_named}
 use Rattle.xc_dance.proofs.MoveLemmas.ListLemmas.{next_above-gt, Rises-filter, Rises-range}
 use Rattle.xc_dance.proofs.MoveLemmas.Shortened.{rises_listed}
 use Rattle.xc_dance.proofs.LinkedTables.Mapped.{get_map, get_within}
-use Rattle.xc_dance.proofs.LinkedTables.PlaceLemmas.{spacer_here, use_here, option_get, layout_small, place_within}
-use Rattle.xc_dance.proofs.LinkedTables.SpacerPlaces.{spacer_at, use_at}
+use Rattle.xc_dance.proofs.LinkedTables.PlaceLemmas.{use_here, get_there}
+use Rattle.xc_dance.proofs.LinkedTables.OptionReach.{get_behind, same_some}
+use Rattle.xc_dance.proofs.LinkedTables.SpanLemmas.{parted, there}
+use Rattle.xc_dance.proofs.LinkedTables.SpacerPlaces.{use_at}
 use Rattle.xc_dance.proofs.LinkedTables.RingStep.{row_get, row_len, right_now}
 use Rattle.xc_dance.proofs.LinkedTables.Sweep.{first_above-first}
 use Rattle.xc_dance.proofs.LinkedTables.Turned.{open_uncovered}
 
--- ---- which option a node is of
-
-abbrev slot_member : Option (ℕ × ℕ) → ℕ
-slot_member None = 0
-slot_member (Some s) = s.1
-
-get_map_any : {X Y : Type 0} (f : X → Y) (ns : List X) (k : ℕ) (n : X) (d : Y) → slice_get ns k ≡ Some n → get_or (map f ns) k d ≡ f n
-get_map_any f [] k n d e = cc
-get_map_any f (x ∷ xs) zero n d e = let same : x ≡ n = cc in ap f same
-get_map_any f (x ∷ xs) (suc k) n d e = get_map_any f xs k n d e
-
--- an own node is of no option
-pub at_own : (p : Puzzle) (i x : ℕ) → 0 < i → i ≤ item_count p → IsName p i x → i ≡ link_place p i x → x ≡ 0
-at_own p i x pos le name at =
-    let q = placed p i x pos le name in
-    let two : Some (own i) ≡ Some q.node = sym (head_is p i pos le) ∙ ap (slice_get (layout p)) at ∙ q.at in
-    let same : own i ≡ q.node = cc in
-    let slots : Some (i, 0) ≡ Some (i, x) = ap slot_of same ∙ q.slot in
-    sym (ap slot_member slots)
-
-pub option_within : (p : Puzzle) (i x : ℕ) → 0 < x → is_some (colour_in (uses_of p x) i) ≡ true → x ≤ option_count p
-option_within p i zero pos e = omega arith
-option_within p i (suc n) pos e = by_uses (slice_get p.options n) refl
-  where
-    by_uses : (o : Option (List Use)) → slice_get p.options n ≡ o → suc n ≤ option_count p
-    by_uses None f = absurd (false≢true (ap (λ u. is_some (colour_in (unwrap_or u []) i)) (sym f) ∙ e))
-    by_uses (Some us) f = let w = get_within p.options n us f in omega (arith, w)
-
-pub record ReadsOption (p : Puzzle) (t : List Move) (spans : List Span) (place x : ℕ) (d : Span) : Type 0 where
-  pub within : (get_or spans place d).end < length (layout p)
-  pub top : get_or (nodes_after p t).top (get_or spans place d).end 0 ≡ 2147483648 + x
-  pub some : 0 < x
-
-pub reads_option : (p : Puzzle) (t : List Move) (spans : List Span) (i place x : ℕ) (d : Span) → IsFitted p spans → 0 < i → i ≤ item_count p → IsName p i x → place ≡ link_place p i x → place ≢ i → ReadsOption p t spans place x d
-reads_option p t spans i place zero d f pos le name at ne = absurd (ne at)
-reads_option p t spans i place (suc n) d f pos le (inl z) at ne = absurd (omega (arith, z))
-reads_option p t spans i place (suc n) d f pos le (inr h) at ne =
-    let q = f.laid.there i (suc n) pos le (inr h) in
-    let here : slice_get (layout p) place ≡ Some q.node = ap (slice_get (layout p)) at ∙ q.at in
-    let most = option_within p i (suc n) h.0 h.1 in
-    let span : get_or spans place d ≡ span_of p q.node = ap (λ l. get_or l place d) f.spans_are ∙ get_map_any (span_of p) (layout p) place q.node d here in
-    let end : (get_or spans place d).end ≡ place_at p (suc n) = ap (λ (s : Span). s.end) span ∙ by_node q.node q.slot ∙ spacer_at p (suc n) most in
-    record {
-      within = let w = place_within p (suc n) most in omega (arith, w, end);
-      top = ap (λ k. get_or (nodes_after p t).top k 0) end ∙ get_map (top_in (line_of p t)) (layout p) (place_at p (suc n)) (spacer (suc n)) (spacer_here p (suc n) most);
-      some = omega arith;
-    }
-  where
-    by_node : (m : Node) → slot_of m ≡ Some (i, suc n) → (span_of p m).end ≡ spacer_place p (suc n)
-    by_node unused e = cc
-    by_node (spacer s) e = cc
-    by_node (own j) e = let z : 0 ≡ suc n = ap slot_member e in absurd (omega (arith, z))
-    by_node (used o u) e = let same : o ≡ suc n = ap slot_member e in ap (spacer_place p) same
-
 -- ---- the node of an option
 
-pub record UsePlace (p : Puzzle) (i o n : ℕ) : Type 0 where
-  pub is : link_place p i o ≡ n
-  pub within : n < length (layout p)
-  pub few : length (layout p) ≤ 20100002
+-- one of an option's nodes, on the way from the first one to that of item i
+pub record OnTheWay (p : Puzzle) (t : List Move) (i o q : ℕ) : Type 0 where
+  pub within : q < length (layout p)
+  pub found : get_or (nodes_after p t).top q 0 ≡ i → q ≡ link_place p i o
+  pub next : get_or (nodes_after p t).top q 0 ≢ i → q + 1 ≤ link_place p i o
 
-pub use_place : (p : Puzzle) (i o k before : ℕ) (us : List Use) → IsFit p → IsWithinLimits p → 0 < o → o ≤ option_count p → us ≡ uses_of p o → IsUseAt us i k → before + (o - 1) ≡ reach p.options (o - 1) → UsePlace p i o (item_count p + 1 + o + (before + k))
-use_place p i zero k before us fit limits pos most is at e = absurd (omega (arith, pos))
-use_place p i (suc m) k before us fit limits pos most is at e =
+-- by which of its uses an option uses an item
+record UsePlace (p : Puzzle) (i m : ℕ) : Type 0 where
+  uses : List Use
+  index : ℕ
+  use_of : Use
+  uses_are : slice_get p.options m ≡ Some uses
+  use_is : slice_get uses index ≡ Some use_of
+  item : use_of.item ≡ i
+  place : link_place p i (suc m) ≡ start_at p m + index
+
+use_place : (p : Puzzle) (i m : ℕ) → IsFit p → is_some (colour_in (uses_of p (suc m)) i) ≡ true → UsePlace p i m
+use_place p i m fit held =
+    let us = unwrap_or (slice_get p.options m) [] in
+    let r = parted us i held in
+    let k = length r.before in
     let s : suc m ≡ m + 1 = omega arith in
-    let r : before + m ≡ reach p.options m = let z : suc m - 1 ≡ m = omega arith in ap (λ a. before + a) (sym z) ∙ e ∙ ap (reach p.options) z in
-    let get : slice_get p.options m ≡ Some us = option_get p m us (omega (arith, most)) (is ∙ ap (uses_of p) s) in
-    let stands = use_at p m k us at.use_here fit get at.at in
-    let same : item_count p + 1 + suc m + (before + k) ≡ place_at p m + 1 + k = omega (arith, r) in
-    let node = use_here p m k (place_at p m + 1 + k) us at.use_here get at.at refl in
-    let within = get_within (layout p) (place_at p m + 1 + k) (used (m + 1) at.use_here) node in
+    let uses_are = there p.options m i held in
+    let use_is : slice_get us k ≡ Some r.use_of = ap (λ l. slice_get l k) r.is ∙ get_behind r.before (r.use_of ∷ r.behind) k 0 (omega arith) in
     record {
-      is = ap₂ (λ j x. link_place p j x) (sym at.item) s ∙ stands ∙ sym same;
-      within = omega (arith, within, same);
-      few = layout_small p limits;
+      uses = us;
+      index = k;
+      use_of = r.use_of;
+      uses_are = uses_are;
+      use_is = use_is;
+      item = r.item;
+      place = ap₂ (link_place p) (sym r.item) s ∙ use_at p m k us r.use_of fit uses_are use_is;
     }
 
--- the uses before an option, by the places where the options start
-pub start_reach : {X : Type 0} (starts : List ℕ) (us : List X) (k : ℕ) → AreStarts starts (length us) → k < length starts →
-    (get_or starts 0 0 ≤ get_or starts k 0) × (get_or starts k 0 ≤ length us)
-start_reach [] us k h lt = absurd h
-start_reach (a ∷ []) us zero h lt = (omega arith, omega (arith, h))
-start_reach (a ∷ []) us (suc k) h lt = absurd (omega (arith, lt))
-start_reach (a ∷ b ∷ starts) us zero h lt = let later = start_reach (b ∷ starts) us zero h.1 (omega arith) in let le = h.0 in (omega arith, omega (arith, later.1, le))
-start_reach (a ∷ b ∷ starts) us (suc k) h lt = let later = start_reach (b ∷ starts) us k h.1 (omega (arith, lt)) in let le = h.0 in (omega (arith, later.0, le), later.1)
+pub starts_below : (p : Puzzle) (i o : ℕ) → IsFit p → 0 < o → is_some (colour_in (uses_of p o) i) ≡ true → start_at p (o - 1) ≤ link_place p i o
+starts_below p i zero fit pos held = absurd (omega (arith, pos))
+starts_below p i (suc m) fit pos held =
+    let w = use_place p i m fit held in
+    let place = w.place in
+    let same : suc m - 1 ≡ m = omega arith in
+    subst (λ n. start_at p n ≤ link_place p i (suc m)) (sym same) (omega (arith, place))
 
-pub reach_starts : (starts : List ℕ) (us : List Use) (k : ℕ) → AreStarts starts (length us) → k < length starts → reach (pieces starts us) k + get_or starts 0 0 ≡ get_or starts k 0 + k
-reach_starts [] us k h lt = absurd h
-reach_starts (a ∷ []) us zero h lt = omega arith
-reach_starts (a ∷ []) us (suc k) h lt = absurd (omega (arith, lt))
-reach_starts (a ∷ b ∷ starts) us zero h lt = omega arith
-reach_starts (a ∷ b ∷ starts) us (suc k) h lt =
-    let later : reach (pieces (b ∷ starts) us) k + b ≡ get_or (b ∷ starts) k 0 + k = reach_starts (b ∷ starts) us k h.1 (omega (arith, lt)) in
-    let rest : length (drop a us) ≡ length us - a = length-drop a us in
-    let low : b ≤ length us = (start_reach (b ∷ starts) us zero h.1 (omega arith)).1 in
-    let part : length (slice_range us a b) ≡ b - a = length-take-le (b - a) (drop a us) (omega (arith, rest, low)) in
-    let rise : a ≤ b = h.0 in
-    omega (arith, later, part, rise)
+pub on_the_way : (p : Puzzle) (t : List Move) (i o q : ℕ) → IsLaid p → IsFit p → 0 < o → is_some (colour_in (uses_of p o) i) ≡ true → start_at p (o - 1) ≤ q → q ≤ link_place p i o → OnTheWay p t i o q
+on_the_way p t i zero q laid fit pos held from to = absurd (omega (arith, pos))
+on_the_way p t i (suc m) q laid fit pos held from to =
+    let w = use_place p i m fit held in
+    let place = w.place in
+    let same : suc m - 1 ≡ m = omega arith in
+    let s : m + 1 ≡ suc m = omega arith in
+    let first : start_at p m ≤ q = subst (λ n. start_at p n ≤ q) same from in
+    let long = get_within w.uses w.index w.use_of w.use_is in
+    let k = q - start_at p m in
+    let d : Use = record { item = 0; colour = 0 } in
+    let u = get_or w.uses k d in
+    let use_is : slice_get w.uses k ≡ Some u = get_there w.uses k d (omega (arith, first, to, place, long)) in
+    let node : slice_get (layout p) q ≡ Some (used (m + 1) u) = use_here p m k q w.uses u w.uses_are use_is (omega (arith, first)) in
+    let top : get_or (nodes_after p t).top q 0 ≡ u.item = get_map (top_in (line_of p t)) (layout p) q (used (m + 1) u) node in
+    let here : u.item ≡ i → link_place p i (suc m) ≡ q = λ e. laid.unique q (used (m + 1) u) i (suc m) node (ap₂ (λ a b. Some (a, b)) e s) in
+    let its_item : q ≡ link_place p i (suc m) → u.item ≡ i = λ e.
+    let at : k ≡ w.index = omega (arith, e, place) in
+    let one : Some u ≡ Some w.use_of = sym use_is ∙ ap (slice_get w.uses) at ∙ w.use_is in
+    ap (λ (v : Use). v.item) (same_some u w.use_of one) ∙ w.item in
+    record {
+      within = get_within (layout p) q (used (m + 1) u) node;
+      found = λ e. sym (here (sym top ∙ e));
+      next = λ ne. (let other : q ≢ link_place p i (suc m) = λ e. ne (top ∙ its_item e) in omega (arith, to, other));
+    }
 
 -- ---- links downwards, by option numbers
 

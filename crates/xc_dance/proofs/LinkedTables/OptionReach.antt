@@ -1,11 +1,11 @@
 -- Where the nodes of each option stand behind the first spacer.
-use Rattle.std.proofs.Common.{◌≡◌, ℕ, zero, suc, ◌+◌, ◌≤◌, List, [], ◌∷◌, ◌++◌, length, map, Some, refl, ap, ◌∙◌, arith}
-use Rattle.std.specs.Prelude.{slice_get, flat_map, option_map, sum_by}
+use Rattle.std.proofs.Common.{◌≡◌, ℕ, zero, suc, ◌+◌, ◌≤◌, List, [], ◌∷◌, ◌++◌, length, map, Some, refl, ap, sym, ◌∙◌, arith}
+use Rattle.std.specs.Prelude.{slice_get, flat_map, option_map, sum_by, unwrap_or}
 use Rattle.std.proofs.lemmas.Option.{slice_get-map}
 use Rattle.std.proofs.lemmas.List.{length-map, length-append}
 use Rattle.std.proofs.lemmas.List.Sums.{sum_by-cons}
 use Rattle.xc_input.specs.declared.problem.Use.{Use}
-use Rattle.xc_input.specs.Problem.{numbered_from}
+use Rattle.xc_input.specs.Problem.{Puzzle, numbered_from, numbered_get, uses_of}
 use Rattle.xc_dance.specs.Fields.{Node, spacer, used, nodes_of}
 use Rattle.xc_dance.specs.Links.OptionPlaces.{reach}
 
@@ -97,3 +97,7 @@ reach_next (vs ∷ os) (suc o) us e =
 pub reach_most : (os : List (List Use)) → reach os (length os) ≡ sum_by (λ us. length us) os + length os
 reach_most [] = refl
 reach_most (us ∷ os) = let rest = reach_most os in let sum = sum_by-cons (λ (vs : List Use). length vs) us os in omega (arith, rest, sum)
+
+-- the uses of an option that there is
+pub uses_here : (p : Puzzle) (o : ℕ) (us : List Use) → numbered_get p.options o ≡ Some us → us ≡ uses_of p o
+uses_here p o us e = ap (λ found. unwrap_or found []) (sym e)

@@ -1,5 +1,5 @@
 -- What one move does to the tables, when it can be made, and what it writes.
-use Rattle.std.specs.Prelude.{None, Some, ℕ, ◌≡◌, ◌+◌, ◌-◌, ◌<◌, ◌^◌, List, length, slice_index, fold, All}
+use Rattle.std.specs.Prelude.{None, Some, ℕ, ◌+◌, ◌-◌, ◌<◌, ◌^◌, List, length, slice_index, fold, All}
 use Rattle.xc_dance.specs.declared.dance.Move.{Move}
 use Rattle.xc_dance.specs.declared.dance.Move.TheVariants.{Cover, Purify, Tweak, Spend}
 use Rattle.xc_dance.specs.declared.links.nodes.Nodes.{Nodes}
@@ -13,7 +13,6 @@ use Rattle.xc_dance.specs.Links.Tweaking.{tweaked, untweaked, tweak_cost, untwea
 use Rattle.xc_dance.specs.Links.Rings.{left_ring, back_in_ring, with_bound, is_off}
 use Rattle.xc_dance.specs.Links.Laid.{IsLaid, IsFit}
 use Rattle.xc_dance.specs.Links.Others.{HasSpans}
-use Rattle.xc_dance.specs.Links.OptionSpans.{spans_of}
 
 -- what a move makes of the node table
 abbrev pub nodes_made : List Span → Nodes → Items → Move → Nodes
@@ -84,7 +83,7 @@ unmade_cost spans t s (Purify i c) x = back_costs spans (Some c) t (list_back t 
 unmade_cost spans t s (Tweak i) x = untweak_cost spans (is_off s i) t x
 unmade_cost spans t s (Spend i) x = 1
 
--- the problem and its fixed tables
+-- a problem fits into the tables, with spans that lead to its options
 pub record IsFitted (p : Puzzle) (spans : List Span) : Type 0 where
   pub laid : IsLaid p
   pub spanned : HasSpans p spans
@@ -92,4 +91,3 @@ pub record IsFitted (p : Puzzle) (spans : List Span) : Type 0 where
   pub near : AreNear spans
   pub bounds : (i : ℕ) → high_at p i < 2 ^ 31
   pub items : item_count p < 2 ^ 31
-  pub spans_are : spans ≡ spans_of p

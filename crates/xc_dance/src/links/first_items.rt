@@ -6,71 +6,71 @@ ghost use Rattle.xc_dance.specs.Links.FirstItems.{linked_to, bound_to};
 
 use crate::links::items::Items;
 use crate::links::writes::Writes;
-use crate::table::Table;
 use std::alloc::{AllocError, Global};
+use xc_input::Problem;
 
 /// The item table before any move.
 pub(crate) fn first_items(
     alloc: Global,
-    table: &Table,
+    problem: &Problem,
     writes: &mut Writes,
 ) -> Result<Items, AllocError>
-    requires { IsValid table.now }
-    ensures { IfOk result (λ t. t ≡ items_after table.now []) }
+    requires { IsValid problem.now.puzzle }
+    ensures { IfOk result (λ t. t ≡ items_after problem.now.puzzle []) }
 {
-    let mut items = Items::new(alloc, table.items(), table.primary())?;
-    link_rings(&mut items, table, writes);
-    set_bounds(&mut items, table, writes);
+    let mut items = Items::new(alloc, problem.items(), problem.primary())?;
+    link_rings(&mut items, problem, writes);
+    set_bounds(&mut items, problem, writes);
     Ok(items)
 }
 
 /// Links the items with their rings' heads.
-fn link_rings(items: &mut Items, table: &Table, writes: &mut Writes)
-    requires { items.old ≡ linked_to table.now 0 }
-    ensures { items.new ≡ linked_to table.now (item_count table.now + 2) }
+fn link_rings(items: &mut Items, problem: &Problem, writes: &mut Writes)
+    requires { items.old ≡ linked_to problem.now.puzzle 0 }
+    ensures { items.new ≡ linked_to problem.now.puzzle (item_count problem.now.puzzle + 2) }
 {
-    for i in 0..table.items() + 2 {
-        items.llink.set(i, first_left(table, i), writes);
-        items.rlink.set(i, first_right(table, i), writes);
+    for i in 0..problem.items() + 2 {
+        items.llink.set(i, first_left(problem, i), writes);
+        items.rlink.set(i, first_right(problem, i), writes);
     }
 }
 
 /// Fills in the bounds of the primary items.
-fn set_bounds(items: &mut Items, table: &Table, writes: &mut Writes)
-    requires valid { IsValid table.now }
-    requires before { items.old ≡ bound_to table.now 1 }
-    ensures { items.new ≡ items_after table.now [] }
+fn set_bounds(items: &mut Items, problem: &Problem, writes: &mut Writes)
+    requires valid { IsValid problem.now.puzzle }
+    requires before { items.old ≡ bound_to problem.now.puzzle 1 }
+    ensures { items.new ≡ items_after problem.now.puzzle [] }
 {
-    for i in 0..table.primary() {
-        let high = table.high(i + 1);
-        items.bound.set(i + 1, high, writes);
-        items.slack.set(i + 1, high - table.low(i + 1), writes);
+    for i in 0..problem.primary() {
+        let item = problem.item(i + 1);
+        items.bound.set(i + 1, item.high, writes);
+        items.slack.set(i + 1, item.high - item.low, writes);
     }
 }
 
 /// The left neighbour at a place of the item table.
-fn first_left(table: &Table, i: u32) -> u32
-    requires { i ≤ item_count table.now + 1 }
-    ensures { result ≡ llink_at table.now [] i }
+fn first_left(problem: &Problem, i: u32) -> u32
+    requires { i ≤ item_count problem.now.puzzle + 1 }
+    ensures { result ≡ llink_at problem.now.puzzle [] i }
 {
     if i == 0 {
-        table.primary()
-    } else if i - 1 == table.primary() {
-        table.items() + 1
+        problem.primary()
+    } else if i - 1 == problem.primary() {
+        problem.items() + 1
     } else {
         i - 1
     }
 }
 
 /// The right neighbour at a place of the item table.
-fn first_right(table: &Table, i: u32) -> u32
-    requires { i ≤ item_count table.now + 1 }
-    ensures { result ≡ rlink_at table.now [] i }
+fn first_right(problem: &Problem, i: u32) -> u32
+    requires { i ≤ item_count problem.now.puzzle + 1 }
+    ensures { result ≡ rlink_at problem.now.puzzle [] i }
 {
-    if i == table.primary() {
+    if i == problem.primary() {
         0
-    } else if i == table.items() + 1 {
-        table.primary() + 1
+    } else if i == problem.items() + 1 {
+        problem.primary() + 1
     } else {
         i + 1
     }

@@ -9,8 +9,8 @@ ghost use Rattle.xc_dance.specs.Links.FirstNodes.{laid_to, blanks};
 
 use crate::links::nodes::{Nodes, Row};
 use crate::links::writes::Writes;
-use crate::table::Table;
 use std::alloc::{AllocError, Global};
+use xc_input::Problem;
 
 /// The number that a spacer's TOP is kept behind.
 const SPACER: u32 = 0x8000_0000;
@@ -18,28 +18,28 @@ const SPACER: u32 = 0x8000_0000;
 /// The node table before any move, of so many nodes.
 pub(crate) fn first_nodes(
     alloc: Global,
-    table: &Table,
+    problem: &Problem,
     count: usize,
     writes: &mut Writes,
 ) -> Result<Nodes, AllocError>
-    requires limits { IsWithinLimits table.now }
-    requires fit { IsFit table.now }
-    requires count { count ≡ length (layout table.now) }
-    ensures { IfOk result (λ t. t ≡ nodes_after table.now []) }
+    requires limits { IsWithinLimits problem.now.puzzle }
+    requires fit { IsFit problem.now.puzzle }
+    requires count { count ≡ length (layout problem.now.puzzle) }
+    ensures { IfOk result (λ t. t ≡ nodes_after problem.now.puzzle []) }
 {
     let mut nodes = Nodes::new(alloc, count)?;
-    lay_items(&mut nodes, table, writes);
-    lay_options(&mut nodes, table, writes);
-    link_uses(&mut nodes, table, count as u32, writes);
+    lay_items(&mut nodes, problem, writes);
+    lay_options(&mut nodes, problem, writes);
+    link_uses(&mut nodes, problem, count as u32, writes);
     Ok(nodes)
 }
 
 /// Lays the unused node and the items' own nodes, each with an empty list.
-fn lay_items(nodes: &mut Nodes, table: &Table, writes: &mut Writes)
-    requires { nodes.old ≡ laid_to table.now 0 }
-    ensures { nodes.new ≡ laid_to table.now (item_count table.now + 1) }
+fn lay_items(nodes: &mut Nodes, problem: &Problem, writes: &mut Writes)
+    requires { nodes.old ≡ laid_to problem.now.puzzle 0 }
+    ensures { nodes.new ≡ laid_to problem.now.puzzle (item_count problem.now.puzzle + 1) }
 {
-    for i in 0..table.items() + 1 {
+    for i in 0..problem.items() + 1 {
         let row = Row {
             top: 0,
             ulink: i,
@@ -52,32 +52,39 @@ fn lay_items(nodes: &mut Nodes, table: &Table, writes: &mut Writes)
 
 /// Lays the options' nodes and the spacers round them. A use's node leads to its item's own node
 /// alone.
-fn lay_options(nodes: &mut Nodes, table: &Table, writes: &mut Writes)
-    requires limits { IsWithinLimits table.now }
-    requires before { nodes.old ≡ laid_to table.now (item_count table.now + 1) }
-    ensures { nodes.new ≡ laid_to table.now (length (layout table.now)) }
+fn lay_options(nodes: &mut Nodes, problem: &Problem, writes: &mut Writes)
+    requires limits { IsWithinLimits problem.now.puzzle }
+    requires before { nodes.old ≡ laid_to problem.now.puzzle (item_count problem.now.puzzle + 1) }
+    ensures { nodes.new ≡ laid_to problem.now.puzzle (length (layout problem.now.puzzle)) }
 {
-    let mut place = table.items() + 1;
+    let mut place = problem.items() + 1;
     let mut above = 0;
-    for o in 0..table.options() {
-        lay_spacer(nodes, table, o, place, above, writes);
-        lay_uses(nodes, table, o, place + 1, writes);
+    for o in 0..problem.options() {
+        lay_spacer(nodes, problem, o, place, above, writes);
+        lay_uses(nodes, problem, o, place + 1, writes);
         above = place + 1;
-        place = above + table.uses(o + 1).len() as u32;
+        place = above + problem.option(o + 1).len() as u32;
     }
-    lay_spacer(nodes, table, table.options(), place, above, writes);
+    lay_spacer(nodes, problem, problem.options(), place, above, writes);
 }
 
 /// Lays the spacer behind option `o`, whose first node is `above`.
-fn lay_spacer(nodes: &mut Nodes, table: &Table, o: u32, place: u32, above: u32, writes: &mut Writes)
-    requires limits { IsWithinLimits table.now }
-    requires option { o ≤ option_count table.now }
-    requires place { place ≡ place_at table.now o }
-    requires above { above ≡ fixed_up table.now (spacer o) }
-    requires before { nodes.old ≡ laid_to table.now place }
-    ensures { nodes.new ≡ laid_to table.now (place + 1) }
+fn lay_spacer(
+    nodes: &mut Nodes,
+    problem: &Problem,
+    o: u32,
+    place: u32,
+    above: u32,
+    writes: &mut Writes,
+)
+    requires limits { IsWithinLimits problem.now.puzzle }
+    requires option { o ≤ option_count problem.now.puzzle }
+    requires place { place ≡ place_at problem.now.puzzle o }
+    requires above { above ≡ fixed_up problem.now.puzzle (spacer o) }
+    requires before { nodes.old ≡ laid_to problem.now.puzzle place }
+    ensures { nodes.new ≡ laid_to problem.now.puzzle (place + 1) }
 {
-    let below = last_node(table, o, place);
+    let below = last_node(problem, o, place);
     let row = Row {
         top: SPACER + o,
         ulink: above,
@@ -88,29 +95,29 @@ fn lay_spacer(nodes: &mut Nodes, table: &Table, o: u32, place: u32, above: u32, 
 }
 
 /// The last node of the option behind the spacer behind option `o`; 0 if there is none.
-fn last_node(table: &Table, o: u32, place: u32) -> u32
-    requires limits { IsWithinLimits table.now }
-    requires option { o ≤ option_count table.now }
-    requires place { place ≡ place_at table.now o }
-    ensures { result ≡ fixed_down table.now (spacer o) }
+fn last_node(problem: &Problem, o: u32, place: u32) -> u32
+    requires limits { IsWithinLimits problem.now.puzzle }
+    requires option { o ≤ option_count problem.now.puzzle }
+    requires place { place ≡ place_at problem.now.puzzle o }
+    ensures { result ≡ fixed_down problem.now.puzzle (spacer o) }
 {
-    if o < table.options() {
-        place + table.uses(o + 1).len() as u32
+    if o < problem.options() {
+        place + problem.option(o + 1).len() as u32
     } else {
         0
     }
 }
 
 /// Lays the nodes of option `o + 1` from `first` on.
-fn lay_uses(nodes: &mut Nodes, table: &Table, o: u32, first: u32, writes: &mut Writes)
-    requires limits { IsWithinLimits table.now }
-    requires option { o < option_count table.now }
-    requires first { first ≡ place_at table.now o + 1 }
-    requires before { nodes.old ≡ laid_to table.now first }
-    ensures { nodes.new ≡ laid_to table.now (place_at table.now (o + 1)) }
+fn lay_uses(nodes: &mut Nodes, problem: &Problem, o: u32, first: u32, writes: &mut Writes)
+    requires limits { IsWithinLimits problem.now.puzzle }
+    requires option { o < option_count problem.now.puzzle }
+    requires first { first ≡ place_at problem.now.puzzle o + 1 }
+    requires before { nodes.old ≡ laid_to problem.now.puzzle first }
+    ensures { nodes.new ≡ laid_to problem.now.puzzle (place_at problem.now.puzzle (o + 1)) }
 {
     let mut place = first;
-    for u in table.uses(o + 1) {
+    for u in problem.option(o + 1) {
         let row = Row {
             top: u.item,
             ulink: u.item,
@@ -123,14 +130,14 @@ fn lay_uses(nodes: &mut Nodes, table: &Table, o: u32, first: u32, writes: &mut W
 }
 
 /// Enters each use's node into its item's list.
-fn link_uses(nodes: &mut Nodes, table: &Table, count: u32, writes: &mut Writes)
-    requires limits { IsWithinLimits table.now }
-    requires fit { IsFit table.now }
-    requires count { count ≡ length (layout table.now) }
-    requires before { nodes.old ≡ nodes_from table.now blanks (color_in table.now []) }
-    ensures { nodes.new ≡ nodes_after table.now [] }
+fn link_uses(nodes: &mut Nodes, problem: &Problem, count: u32, writes: &mut Writes)
+    requires limits { IsWithinLimits problem.now.puzzle }
+    requires fit { IsFit problem.now.puzzle }
+    requires count { count ≡ length (layout problem.now.puzzle) }
+    requires before { nodes.old ≡ nodes_from problem.now.puzzle blanks (color_in problem.now.puzzle []) }
+    ensures { nodes.new ≡ nodes_after problem.now.puzzle [] }
 {
-    for q in table.items() + 1..count {
+    for q in problem.items() + 1..count {
         if nodes.top(q) < SPACER {
             nodes.enter(q, writes);
         }

@@ -5,41 +5,41 @@ ghost use Rattle.xc_dance.specs.Links.OptionPlaces.{place_at};
 ghost use Rattle.xc_dance.specs.Links.OptionSpans.{spans_of, spans_to};
 
 use crate::links::nodes::Span;
-use crate::table::Table;
 use std::alloc::{AllocError, Global};
+use xc_input::Problem;
 
 /// Where the option of each node stands; an empty span for what is no use.
-pub(crate) fn option_spans(alloc: Global, table: &Table) -> Result<Vec<Span>, AllocError>
-    requires { IsWithinLimits table.now }
-    ensures { IfOk result (λ v. v.items ≡ spans_of table.now) }
+pub(crate) fn option_spans(alloc: Global, problem: &Problem) -> Result<Vec<Span>, AllocError>
+    requires { IsWithinLimits problem.now.puzzle }
+    ensures { IfOk result (λ v. v.items ≡ spans_of problem.now.puzzle) }
 {
-    let mut spans = item_spans(alloc, table)?;
-    for o in 0..table.options() {
-        add_option(&mut spans, table, o)?;
+    let mut spans = item_spans(alloc, problem)?;
+    for o in 0..problem.options() {
+        add_option(&mut spans, problem, o)?;
     }
     Ok(spans)
 }
 
 /// The spans of the unused node, of the items' own nodes and of the first spacer.
-fn item_spans(alloc: Global, table: &Table) -> Result<Vec<Span>, AllocError>
-    ensures { IfOk result (λ v. v.items ≡ spans_to table.now (item_count table.now + 2)) }
+fn item_spans(alloc: Global, problem: &Problem) -> Result<Vec<Span>, AllocError>
+    ensures { IfOk result (λ v. v.items ≡ spans_to problem.now.puzzle (item_count problem.now.puzzle + 2)) }
 {
     let mut spans = Vec::new(alloc);
-    for _ in 0..table.items() + 2 {
+    for _ in 0..problem.items() + 2 {
         spans.push(Span { first: 0, end: 0 })?;
     }
     Ok(spans)
 }
 
 /// Adds the spans of the nodes of option `o + 1` and of the spacer behind them.
-fn add_option(spans: &mut Vec<Span>, table: &Table, o: u32) -> Result<(), AllocError>
-    requires limits { IsWithinLimits table.now }
-    requires option { o < option_count table.now }
-    requires before { spans.old.items ≡ spans_to table.now (place_at table.now o + 1) }
-    ensures { IfOk result (λ _. spans.new.items ≡ spans_to table.now (place_at table.now (o + 1) + 1)) }
+fn add_option(spans: &mut Vec<Span>, problem: &Problem, o: u32) -> Result<(), AllocError>
+    requires limits { IsWithinLimits problem.now.puzzle }
+    requires option { o < option_count problem.now.puzzle }
+    requires before { spans.old.items ≡ spans_to problem.now.puzzle (place_at problem.now.puzzle o + 1) }
+    ensures { IfOk result (λ _. spans.new.items ≡ spans_to problem.now.puzzle (place_at problem.now.puzzle (o + 1) + 1)) }
 {
     let first = spans.len() as u32;
-    let end = first + table.uses(o + 1).len() as u32;
+    let end = first + problem.option(o + 1).len() as u32;
     for _ in first..end {
         spans.push(Span { first, end })?;
     }

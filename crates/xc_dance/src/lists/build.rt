@@ -3,7 +3,7 @@ ghost use Rattle.std.specs.Prelude.{◌≡◌, ◌≢◌, ◌≤◌, [], length,
 ghost use Rattle.xc_dance.specs.Lists.Taking.{numbers_of};
 ghost use Rattle.xc_dance.specs.Lists.Losing.{enlisted, lists_after};
 
-use crate::table::Table;
+use crate::lists::table::Table;
 use std::alloc::{AllocError, Global};
 use xc_input::Use;
 

@@ -7,8 +7,8 @@ ghost use Rattle.xc_dance.specs.Lists.Losing.{lose, is_kept, AreLists, lists_aft
 
 use crate::Move;
 use crate::lists::standing::Standing;
+use crate::lists::table::Table;
 use crate::lists::undo_log::Live;
-use crate::table::Table;
 use xc_input::Use;
 
 /// Takes out of the lists what the move takes out.

@@ -5,7 +5,7 @@ ghost use Rattle.xc_dance.specs.Moves.{IsLegal, is_open, purified, spends, next_
 ghost use Rattle.xc_dance.specs.Lists.States.{AreStates, AreLeft};
 
 use crate::Move;
-use crate::table::Table;
+use crate::lists::table::Table;
 use std::alloc::{AllocError, Global};
 use std::marker::Model;
 use xc_input::Problem;

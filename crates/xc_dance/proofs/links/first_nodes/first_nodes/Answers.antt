@@ -4,10 +4,10 @@ use Rattle.xc_dance.proofs.LinkedTables.LaidNodes.{laid_none, laid_all}
 use Rattle.xc_dance.proofs.links.first_nodes.first_nodes.Goals as goal
 
 pub lay_items-requires : goal.lay_items-requires
-lay_items-requires c = laid_none c.args.table.now c.in_ok-nodes.nodes c.args.count c.requires.count c.in_ok-nodes.ensures
+lay_items-requires c = laid_none c.args.problem.now.puzzle c.in_ok-nodes.nodes c.args.count c.requires.count c.in_ok-nodes.ensures
 
 pub overflow_cast-count : goal.overflow_cast-count
-overflow_cast-count c = omega (arith, layout_small c.args.table.now c.requires.limits, c.requires.count)
+overflow_cast-count c = omega (arith, layout_small c.args.problem.now.puzzle c.requires.limits, c.requires.count)
 
 pub link_uses-requires-clause-before : goal.link_uses-requires-clause-before
-link_uses-requires-clause-before c = c.lay_options.ensures ∙ laid_all c.args.table.now
+link_uses-requires-clause-before c = c.lay_options.ensures ∙ laid_all c.args.problem.now.puzzle

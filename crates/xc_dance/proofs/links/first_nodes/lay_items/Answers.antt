@@ -8,18 +8,18 @@ use Rattle.xc_dance.proofs.LinkedTables.LaidNodes.{laid_size, laid_len, laid_mor
 use Rattle.xc_dance.proofs.links.first_nodes.lay_items.Goals as goal
 
 pub put-requires-clause-size : goal.put-requires-clause-size
-put-requires-clause-size c = subst (λ (t : Nodes). HasSize t (length t.top)) (sym c.loop-i.invariant) (laid_size c.args.table.now c.loop-i.i)
+put-requires-clause-size c = subst (λ (t : Nodes). HasSize t (length t.top)) (sym c.loop-i.invariant) (laid_size c.args.problem.now.puzzle c.loop-i.i)
 
 pub put-requires-clause-place : goal.put-requires-clause-place
 put-requires-clause-place c =
-    let p = c.args.table.now in
+    let p = c.args.problem.now.puzzle in
     let within = place_within p 0 (omega arith) in
-    omega (arith, within, place_first p, laid_len p c.loop-i.i, ap (λ (t : Nodes). length t.top) c.loop-i.invariant, c.loop-i-test.true, c.items-i-end.ensures.count)
+    omega (arith, within, place_first p, laid_len p c.loop-i.i, ap (λ (t : Nodes). length t.top) c.loop-i.invariant, c.loop-i-test.true, c.items-i-end.ensures.value)
 
 pub loop-i-preserved : goal.loop-i-preserved
 loop-i-preserved c =
-    let p = c.args.table.now in
+    let p = c.args.problem.now.puzzle in
     let i = c.loop-i.i in
     let row : Row = record { top = 0; ulink = i; dlink = i; color = 0 } in
-    let at = own_row p i (omega (arith, c.loop-i-test.true, c.items-i-end.ensures.count)) in
+    let at = own_row p i (omega (arith, c.loop-i-test.true, c.items-i-end.ensures.value)) in
     c.put.ensures ∙ ap (λ (t : Nodes). with_row t i row) c.loop-i.invariant ∙ laid_more p i at.0 row at.1 at.2

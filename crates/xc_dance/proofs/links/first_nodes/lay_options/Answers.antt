@@ -3,53 +3,54 @@ use Rattle.xc_input.specs.Problem.{option_count}
 use Rattle.xc_dance.specs.Fields.{layout}
 use Rattle.xc_dance.specs.Links.OptionPlaces.{place_at}
 use Rattle.xc_dance.specs.Links.FirstNodes.{laid_to}
+use Rattle.xc_dance.proofs.LinkedTables.OptionReach.{uses_here}
 use Rattle.xc_dance.proofs.LinkedTables.PlaceLemmas.{place_first, place_within, layout_small, layout_len, option_fits}
 use Rattle.xc_dance.proofs.LinkedTables.LaidNodes.{up_next}
 use Rattle.xc_dance.proofs.links.first_nodes.lay_options.Goals as goal
 
 pub loop-o-init : goal.loop-o-init
 loop-o-init c =
-    let p = c.args.table.now in
-    let first : c.items-place.result + 1 ≡ place_at p 0 = omega (arith, place_first p, c.items-place.ensures.count) in
+    let p = c.args.problem.now.puzzle in
+    let first : c.items-place.result + 1 ≡ place_at p 0 = omega (arith, place_first p, c.items-place.ensures.value) in
     record {
-      nodes = c.requires.before ∙ ap (λ n. laid_to p (n + 1)) (sym c.items-place.ensures.count);
+      nodes = c.requires.before ∙ ap (λ n. laid_to p (n + 1)) (sym c.items-place.ensures.value);
       place = first;
       above = Rattle.std.proofs.Common.refl;
     }
 
 pub overflow_add-place-in-loop-o : goal.overflow_add-place-in-loop-o
 overflow_add-place-in-loop-o c =
-    let p = c.args.table.now in
+    let p = c.args.problem.now.puzzle in
     let le : c.loop-o.o ≤ option_count p = omega (arith, c.loop-o-test.true, c.options-o-end.ensures) in
     omega (arith, place_within p c.loop-o.o le, layout_small p c.requires.limits, c.loop-o.invariant.place)
 
 pub overflow_add-above : goal.overflow_add-above
 overflow_add-above c =
-    let p = c.args.table.now in
+    let p = c.args.problem.now.puzzle in
     let le : c.loop-o.o ≤ option_count p = omega (arith, c.loop-o-test.true, c.options-o-end.ensures) in
     omega (arith, place_within p c.loop-o.o le, layout_small p c.requires.limits, c.loop-o.invariant.place)
 
 pub overflow_cast-place : goal.overflow_cast-place
 overflow_cast-place c =
-    let p = c.args.table.now in
+    let p = c.args.problem.now.puzzle in
     let lt : c.loop-o.o < option_count p = omega (arith, c.loop-o-test.true, c.options-o-end.ensures) in
-    let fits = option_fits p c.loop-o.o c.uses.result.now c.requires.limits lt c.uses.ensures.value in
+    let fits = option_fits p c.loop-o.o c.option.result.now c.requires.limits lt (uses_here p (c.loop-o.o + 1) c.option.result.now c.option.ensures.value) in
     omega (arith, fits.next, fits.within, fits.small)
 
 pub overflow_add-place-in-loop-o-2 : goal.overflow_add-place-in-loop-o-2
 overflow_add-place-in-loop-o-2 c =
-    let p = c.args.table.now in
+    let p = c.args.problem.now.puzzle in
     let lt : c.loop-o.o < option_count p = omega (arith, c.loop-o-test.true, c.options-o-end.ensures) in
-    let fits = option_fits p c.loop-o.o c.uses.result.now c.requires.limits lt c.uses.ensures.value in
+    let fits = option_fits p c.loop-o.o c.option.result.now c.requires.limits lt (uses_here p (c.loop-o.o + 1) c.option.result.now c.option.ensures.value) in
     omega (arith, fits.next, fits.within, fits.small, c.loop-o.invariant.place)
 
 pub loop-o-preserved : goal.loop-o-preserved
 loop-o-preserved c =
-    let p = c.args.table.now in
+    let p = c.args.problem.now.puzzle in
     let o = c.loop-o.o in
-    let us = c.uses.result.now in
+    let us = c.option.result.now in
     let lt : o < option_count p = omega (arith, c.loop-o-test.true, c.options-o-end.ensures) in
-    let fits = option_fits p o us c.requires.limits lt c.uses.ensures.value in
+    let fits = option_fits p o us c.requires.limits lt (uses_here p (c.loop-o.o + 1) c.option.result.now c.option.ensures.value) in
     let next : place_at p (o + 1) ≡ c.loop-o.place + 1 + length us = omega (arith, fits.next, c.loop-o.invariant.place) in
     record {
       nodes = c.lay_uses.ensures ∙ ap (laid_to p) next;
@@ -59,7 +60,7 @@ loop-o-preserved c =
 
 pub returns : goal.returns
 returns c =
-    let p = c.args.table.now in
+    let p = c.args.problem.now.puzzle in
     let last : c.loop-o.o ≡ option_count p = omega (arith, c.loop-o-test.false, c.options-o-end.ensures, c.loop-o.auto.o-end) in
     let at = ap (place_at p) last in
     let whole = layout_len p in

@@ -10,16 +10,16 @@ use Rattle.xc_dance.proofs.LinkedTables.LaidNodes.{laid_size, laid_len, laid_mor
 use Rattle.xc_dance.proofs.links.first_nodes.lay_spacer.Goals as goal
 
 pub put-requires-clause-size : goal.put-requires-clause-size
-put-requires-clause-size c = subst (λ (t : Nodes). HasSize t (length t.top)) (sym c.requires.before) (laid_size c.args.table.now c.args.place)
+put-requires-clause-size c = subst (λ (t : Nodes). HasSize t (length t.top)) (sym c.requires.before) (laid_size c.args.problem.now.puzzle c.args.place)
 
 pub put-requires-clause-place : goal.put-requires-clause-place
 put-requires-clause-place c =
-    let p = c.args.table.now in
+    let p = c.args.problem.now.puzzle in
     omega (arith, place_within p c.args.o c.requires.option, c.requires.place, laid_len p c.args.place, ap (λ (t : Nodes). length t.top) c.requires.before)
 
 pub returns : goal.returns
 returns c =
-    let p = c.args.table.now in
+    let p = c.args.problem.now.puzzle in
     let o = c.args.o in
     let q = c.args.place in
     let row : Row = record { top = 2147483648 + o; ulink = c.args.above; dlink = c.last_node-below.result; color = 0 } in

@@ -5,35 +5,36 @@ use Rattle.xc_dance.specs.declared.links.nodes.Nodes.{Nodes}
 use Rattle.xc_dance.specs.declared.links.nodes.Row.{Row}
 use Rattle.xc_dance.specs.Links.Steps.{HasSize}
 use Rattle.xc_dance.specs.Links.FirstNodes.{with_row, laid_to}
+use Rattle.xc_dance.proofs.LinkedTables.OptionReach.{uses_here}
 use Rattle.xc_dance.proofs.LinkedTables.PlaceLemmas.{use_here, option_fits, get_there}
 use Rattle.xc_dance.proofs.LinkedTables.LaidNodes.{laid_size, laid_len, laid_more}
 use Rattle.xc_dance.proofs.links.first_nodes.lay_uses.Goals as goal
 
 pub put-requires-clause-size : goal.put-requires-clause-size
-put-requires-clause-size c = subst (λ (t : Nodes). HasSize t (length t.top)) (sym c.loop-u.invariant.nodes) (laid_size c.args.table.now c.loop-u.place)
+put-requires-clause-size c = subst (λ (t : Nodes). HasSize t (length t.top)) (sym c.loop-u.invariant.nodes) (laid_size c.args.problem.now.puzzle c.loop-u.place)
 
 pub put-requires-clause-place : goal.put-requires-clause-place
 put-requires-clause-place c =
-    let p = c.args.table.now in
-    let fits = option_fits p c.args.o c.uses-u-items.result.now c.requires.limits c.requires.option c.uses-u-items.ensures.value in
+    let p = c.args.problem.now.puzzle in
+    let fits = option_fits p c.args.o c.option-u-items.result.now c.requires.limits c.requires.option (uses_here p (c.args.o + 1) c.option-u-items.result.now c.option-u-items.ensures.value) in
     omega (arith, fits.next, fits.within, c.loop-u.invariant.place, c.requires.first, c.loop-u-test.true, laid_len p c.loop-u.place, ap (λ (t : Nodes). length t.top) c.loop-u.invariant.nodes)
 
 pub overflow_add-place : goal.overflow_add-place
 overflow_add-place c =
-    let p = c.args.table.now in
-    let fits = option_fits p c.args.o c.uses-u-items.result.now c.requires.limits c.requires.option c.uses-u-items.ensures.value in
+    let p = c.args.problem.now.puzzle in
+    let fits = option_fits p c.args.o c.option-u-items.result.now c.requires.limits c.requires.option (uses_here p (c.args.o + 1) c.option-u-items.result.now c.option-u-items.ensures.value) in
     omega (arith, fits.next, fits.within, fits.small, c.loop-u.invariant.place, c.requires.first, c.loop-u-test.true)
 
 pub loop-u-preserved : goal.loop-u-preserved
 loop-u-preserved c =
-    let p = c.args.table.now in
-    let us = c.uses-u-items.result.now in
+    let p = c.args.problem.now.puzzle in
+    let us = c.option-u-items.result.now in
     let k = c.loop-u.u-index in
     let q = c.loop-u.place in
     let d : Use = record { item = 0; colour = 0 } in
     let u = get_or us k d in
     let row : Row = record { top = u.item; ulink = u.item; dlink = u.item; color = u.colour } in
-    let fits = option_fits p c.args.o us c.requires.limits c.requires.option c.uses-u-items.ensures.value in
+    let fits = option_fits p c.args.o us c.requires.limits c.requires.option (uses_here p (c.args.o + 1) c.option-u-items.result.now c.option-u-items.ensures.value) in
     let at = use_here p c.args.o k q us u fits.at (get_there us k d c.loop-u-test.true) (omega (arith, c.loop-u.invariant.place, c.requires.first)) in
     record {
       nodes = c.put.ensures ∙ ap (λ (t : Nodes). with_row t q row) c.loop-u.invariant.nodes ∙ laid_more p q (used (c.args.o + 1) u) row at refl;
@@ -42,7 +43,7 @@ loop-u-preserved c =
 
 pub returns : goal.returns
 returns c =
-    let p = c.args.table.now in
-    let us = c.uses-u-items.result.now in
-    let fits = option_fits p c.args.o us c.requires.limits c.requires.option c.uses-u-items.ensures.value in
+    let p = c.args.problem.now.puzzle in
+    let us = c.option-u-items.result.now in
+    let fits = option_fits p c.args.o us c.requires.limits c.requires.option (uses_here p (c.args.o + 1) c.option-u-items.result.now c.option-u-items.ensures.value) in
     c.loop-u.invariant.nodes ∙ ap (laid_to p) (omega (arith, fits.next, c.loop-u.invariant.place, c.requires.first, c.loop-u-test.false, c.loop-u.auto.u-index-end))

@@ -34,46 +34,46 @@ is_spacer p q (used o u) fit limits from e large = let s = use_step p q o u fit 
 
 pub loop-q-init : goal.loop-q-init
 loop-q-init c =
-    let p = c.args.table.now in
-    c.requires.before ∙ none_entered p ∙ ap (λ k. so_far p (k + 1)) (sym c.items-q.ensures.count)
+    let p = c.args.problem.now.puzzle in
+    c.requires.before ∙ none_entered p ∙ ap (λ k. so_far p (k + 1)) (sym c.items-q.ensures.value)
 
 pub enter-requires-clause-item : goal.enter-requires-clause-item
 enter-requires-clause-item c =
-    let p = c.args.table.now in
+    let p = c.args.problem.now.puzzle in
     let q = c.loop-q.q in
     let n = get_or (layout p) q unused in
     let at : slice_get (layout p) q ≡ Some n = get_there (layout p) q unused (omega (arith, c.loop-q-test.true, c.requires.count)) in
     let top = ap (λ (t : Nodes). slice_index t.top q) c.loop-q.invariant in
-    let s = is_use p q n c.requires.fit c.requires.limits (omega (arith, c.loop-q.auto.q, c.items-q.ensures.count)) at (omega (arith, top, c.top.ensures, c.if-top-lt-SPACER.true)) in
+    let s = is_use p q n c.requires.fit c.requires.limits (omega (arith, c.loop-q.auto.q, c.items-q.ensures.value)) at (omega (arith, top, c.top.ensures, c.if-top-lt-SPACER.true)) in
     subst (λ (t : Nodes). slice_index t.top q < length t.top) (sym c.loop-q.invariant) s.2.item
 
 pub enter-requires-clause-last : goal.enter-requires-clause-last
 enter-requires-clause-last c =
-    let p = c.args.table.now in
+    let p = c.args.problem.now.puzzle in
     let q = c.loop-q.q in
     let n = get_or (layout p) q unused in
     let at : slice_get (layout p) q ≡ Some n = get_there (layout p) q unused (omega (arith, c.loop-q-test.true, c.requires.count)) in
     let top = ap (λ (t : Nodes). slice_index t.top q) c.loop-q.invariant in
-    let s = is_use p q n c.requires.fit c.requires.limits (omega (arith, c.loop-q.auto.q, c.items-q.ensures.count)) at (omega (arith, top, c.top.ensures, c.if-top-lt-SPACER.true)) in
+    let s = is_use p q n c.requires.fit c.requires.limits (omega (arith, c.loop-q.auto.q, c.items-q.ensures.value)) at (omega (arith, top, c.top.ensures, c.if-top-lt-SPACER.true)) in
     subst (λ (t : Nodes). slice_index t.ulink (slice_index t.top q) < length t.top) (sym c.loop-q.invariant) s.2.last
 
 pub enter-requires-clause-few : goal.enter-requires-clause-few
 enter-requires-clause-few c =
-    let p = c.args.table.now in
+    let p = c.args.problem.now.puzzle in
     let q = c.loop-q.q in
     let n = get_or (layout p) q unused in
     let at : slice_get (layout p) q ≡ Some n = get_there (layout p) q unused (omega (arith, c.loop-q-test.true, c.requires.count)) in
     let top = ap (λ (t : Nodes). slice_index t.top q) c.loop-q.invariant in
-    let s = is_use p q n c.requires.fit c.requires.limits (omega (arith, c.loop-q.auto.q, c.items-q.ensures.count)) at (omega (arith, top, c.top.ensures, c.if-top-lt-SPACER.true)) in
+    let s = is_use p q n c.requires.fit c.requires.limits (omega (arith, c.loop-q.auto.q, c.items-q.ensures.value)) at (omega (arith, top, c.top.ensures, c.if-top-lt-SPACER.true)) in
     subst (λ (t : Nodes). slice_index t.top (slice_index t.top q) < 2147483648) (sym c.loop-q.invariant) s.2.few
 
 pub loop-q-preserved : goal.loop-q-preserved
 loop-q-preserved c =
-    let p = c.args.table.now in
+    let p = c.args.problem.now.puzzle in
     let q = c.loop-q.q in
     let n = get_or (layout p) q unused in
     let at : slice_get (layout p) q ≡ Some n = get_there (layout p) q unused (omega (arith, c.loop-q-test.true, c.requires.count)) in
-    let from : item_count p + 1 ≤ q = omega (arith, c.loop-q.auto.q, c.items-q.ensures.count) in
+    let from : item_count p + 1 ≤ q = omega (arith, c.loop-q.auto.q, c.items-q.ensures.value) in
     let top = ap (λ (t : Nodes). slice_index t.top q) c.loop-q.invariant in
     elim c.if-top-lt-SPACER.branch [
       | then-top-lt-SPACER w ↦
@@ -85,5 +85,5 @@ loop-q-preserved c =
 
 pub returns : goal.returns
 returns c =
-    let p = c.args.table.now in
+    let p = c.args.problem.now.puzzle in
     c.loop-q.invariant ∙ all_entered p c.loop-q.q c.requires.fit (omega (arith, c.loop-q-test.false, c.requires.count))

@@ -1,0 +1,134 @@
+//! What no move changes: the counts of the items, and where the nodes of the options stand.
+ghost use Rattle.std.specs.Prelude.{◌≡◌, ◌-◌, ◌<◌, ◌≤◌, ◌↔◌, length, slice_index, IsTrue, IfOk};
+ghost use Rattle.xc_input.specs.Problem.{IsValid, IsWithinLimits, IsItem, IsPrimary, IsSecondary, item_count, option_count};
+ghost use Rattle.xc_dance.specs.Fields.{layout};
+ghost use Rattle.xc_dance.specs.Links.Laid.{IsFit};
+ghost use Rattle.xc_dance.specs.Links.OptionPlaces.{start_at};
+ghost use Rattle.xc_dance.specs.Links.OptionSpans.{spans_of};
+ghost use Rattle.xc_dance.specs.Links.NodeOptions.{options_of};
+
+use crate::links::known::Known;
+use crate::links::nodes::Span;
+use crate::links::options::{node_options, option_starts};
+use crate::links::spans::option_spans;
+use std::alloc::{AllocError, Global};
+use std::marker::Model;
+use xc_input::Problem;
+
+/// The fixed tables of a problem. To contracts they are the problem itself.
+#[derive(Drop)]
+pub(crate) struct Fixed {
+    known: Known,
+    items: u32,
+    primary: u32,
+    /// Where the option of each node stands.
+    spans: Vec<Span>,
+    /// The option of each node.
+    options: Vec<u32>,
+    /// Where the nodes of each option start.
+    starts: Vec<u32>,
+}
+
+impl Model for Fixed {
+    ghost use Rattle.std.specs.Prelude.{◌≡◌};
+    ghost use Rattle.xc_input.specs.Problem.{Puzzle, item_count, primary_count};
+    ghost use Rattle.xc_dance.specs.Links.OptionPlaces.{starts_of};
+    ghost use Rattle.xc_dance.specs.Links.OptionSpans.{spans_of};
+    ghost use Rattle.xc_dance.specs.Links.NodeOptions.{options_of};
+
+    ghost Value = { Puzzle };
+
+    ghost view = { λ a. a.known.puzzle };
+
+    ghost invariant = { λ a. record {
+      items : a.items ≡ item_count a.known.puzzle;
+      primary : a.primary ≡ primary_count a.known.puzzle;
+      spans : a.spans.items ≡ spans_of a.known.puzzle;
+      options : a.options.items ≡ options_of a.known.puzzle;
+      starts : a.starts.items ≡ starts_of a.known.puzzle;
+    } };
+}
+
+impl Fixed {
+    pub(crate) fn new(alloc: Global, problem: &Problem) -> Result<Fixed, AllocError>
+        ensures value { IfOk result (λ f. f ≡ problem.now.puzzle) }
+        ensures valid { IsValid problem.now.puzzle }
+        ensures limits { IsWithinLimits problem.now.puzzle }
+        ensures fit { IfOk result (λ _. IsFit problem.now.puzzle) }
+    {
+        let items = problem.items();
+        let spans = option_spans(alloc, problem)?;
+        let options = node_options(alloc, problem)?;
+        let starts = option_starts(alloc, problem)?;
+        Ok(Fixed {
+            known: Known::of(problem),
+            items,
+            primary: problem.primary(),
+            spans,
+            options,
+            starts,
+        })
+    }
+
+    /// How many items there are.
+    #[inline]
+    pub(crate) fn items(&self) -> u32
+        ensures { result ≡ item_count self.now }
+    {
+        self.items
+    }
+
+    #[inline]
+    pub(crate) fn is_item(&self, item: u32) -> bool
+        ensures { IsTrue result ↔ IsItem self.now item }
+    {
+        1 <= item && item <= self.items
+    }
+
+    #[inline]
+    pub(crate) fn is_primary(&self, item: u32) -> bool
+        ensures { IsTrue result ↔ IsPrimary self.now item }
+    {
+        1 <= item && item <= self.primary
+    }
+
+    #[inline]
+    pub(crate) fn is_secondary(&self, item: u32) -> bool
+        ensures { IsTrue result ↔ IsSecondary self.now item }
+    {
+        self.primary < item && item <= self.items
+    }
+
+    /// How many nodes there are.
+    pub(crate) fn nodes(&self) -> usize
+        ensures { result ≡ length (layout self.now) }
+    {
+        self.spans.len()
+    }
+
+    /// Where the option of each node stands; an empty span for what is no use.
+    #[inline]
+    pub(crate) fn spans(&self) -> &[Span]
+        ensures { result.now ≡ spans_of self.now }
+    {
+        self.spans.as_slice()
+    }
+
+    /// The option of the node at a place; 0 for what is no use.
+    #[inline]
+    pub(crate) fn option(&self, place: u32) -> u32
+        requires { place < length (layout self.now) }
+        ensures { result ≡ slice_index (options_of self.now) place }
+    {
+        self.options[place as usize]
+    }
+
+    /// Where the nodes of an option start.
+    #[inline]
+    pub(crate) fn start(&self, option: u32) -> u32
+        requires { (1 ≤ option) × (option ≤ option_count self.now) }
+        ensures { result ≡ start_at self.now (option - 1) }
+    {
+        self.starts[option as usize - 1]
+    }
+}
