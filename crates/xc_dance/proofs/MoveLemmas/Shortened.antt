@@ -3,6 +3,7 @@ use Rattle.std.proofs.Common.{ℕ, zero, suc, ◌≡◌, ◌≢◌, ◌+◌, ◌
 use Rattle.std.specs.Prelude.{All, IsTrue, is_some, unwrap_or, slice_get}
 use Rattle.std.specs.List.{AllByRecursion, list_any, range_with_len}
 use Rattle.std.proofs.lemmas.Bool.{ne_eqb}
+use Rattle.std.proofs.Math.Bool.{not-not}
 use Rattle.std.proofs.lemmas.List.FromFn.{length-map-range_with_len, get_or-map-range_with_len}
 use Rattle.std.proofs.lemmas.List.Elements.{All-nil, All-cons}
 use Rattle.xc_input.specs.declared.problem.Use.{Use}
@@ -159,15 +160,11 @@ lists_covered p t j low high =
     ap (λ l. lose t j l (lists_after p t)) (keep_all (list_at (lists_after p t) (j - 1)) ∙ list_after p t j low high)
     ∙ lose_range t j (listed_numbers p t j) (listed_numbers p t) (listed_numbers p (Cover j ∷ t)) (λ i. losing (listed p t j) (listed p t i) (not (eqb i j) && is_open i t)) 1 (item_count p)
 
-not_not : (b : Bool) → not (not b) ≡ b
-not_not true = refl
-not_not false = refl
-
 other_numbers : (p : Puzzle) (j c : ℕ) (xs : List Numbered) → AllByRecursion (IsHolder p j) xs → filter (λ o. not (is_kept p j (Some c) o)) (map (λ o. o.number) xs) ≡ map (λ o. o.number) (other_colours j c xs)
 other_numbers p j c [] h = refl
 other_numbers p j c (x ∷ xs) h =
     let rest = other_numbers p j c xs h.1 in
-    let told : not (is_kept p j (Some c) x.number) ≡ is_other_colour c (colour_in x.uses j) = not_not _ ∙ ap (λ us. is_other_colour c (colour_in us j)) h.0.0 in
+    let told : not (is_kept p j (Some c) x.number) ≡ is_other_colour c (colour_in x.uses j) = not-not _ ∙ ap (λ us. is_other_colour c (colour_in us j)) h.0.0 in
     rw told (elim (is_other_colour c (colour_in x.uses j)) as (λ b. cond b (x.number ∷ filter (λ o. not (is_kept p j (Some c) o)) (map (λ o. o.number) xs)) (filter (λ o. not (is_kept p j (Some c) o)) (map (λ o. o.number) xs)) ≡ map (λ o. o.number) (cond b (x ∷ other_colours j c xs) (other_colours j c xs))) [
       | true ↦ ap (λ l. x.number ∷ l) rest
       | false ↦ rest
