@@ -16,7 +16,7 @@ use Rattle.xc_search.proofs.Chosen.{passing, none_pass, passing_without, list_al
 use Rattle.xc_search.proofs.Complete.{is_held, Covers, listed_for}
 use Rattle.xc_search.proofs.EachTwo.{EachTwo, each_two_from_AllPairs}
 use Rattle.xc_input.proofs.ListFilters.{filter_same, filter_both}
-use Rattle.std.proofs.Math.Bool.{or-true}
+use Rattle.std.proofs.Math.Bool.{or-true, and-false}
 use Rattle.xc_search.proofs.Numbering.{at_number, option_sound, uses_known, with_bounds}
 use Rattle.xc_search.proofs.Uses.{own_colours, apart_from_pairs}
 
@@ -40,10 +40,6 @@ not_listed : (s : List ℕ) (k : ℕ) → (IsIn s k → ⊥) → is_listed s k �
 not_listed s k h = elim (is_listed s k) as (λ b. is_listed s k ≡ b → b ≡ false) [ true ↦ λ e. absurd (h (listed_in s k e)) | false ↦ λ e. refl ] refl
 
 -- ---- how often an item is held
-
-and_false : (a : Bool) → (a && false) ≡ false
-and_false true = refl
-and_false false = refl
 
 -- the option of one number more
 one_more : (p : Puzzle) (i a : ℕ) (s : List ℕ) (x : Numbered) → IsIn (numbered_options p) x → x.number ≡ a → (IsIn s a → ⊥) →
@@ -73,7 +69,7 @@ one_more p i a s x h e out =
     alike y = elim (eqb a y.number) as (λ b. eqb a y.number ≡ b → (not b && (holds y i && (b || is_listed s y.number))) ≡ (holds y i && is_listed s y.number)) [
       | true ↦ λ q.
           let gone : is_listed s y.number ≡ false = not_listed s y.number (λ k. out (subst (IsIn s) (sym (eqb-true a y.number q)) k)) in
-          rw gone (sym (and_false (holds y i)))
+          rw gone (sym (and-false (holds y i)))
       | false ↦ λ q. refl
     ] refl
 
@@ -83,7 +79,7 @@ option_of p a h k = let at = at_number 0 p.options (a - 1) (omega (arith, h, k))
 
 held_times : (p : Puzzle) (i : ℕ) (s : List ℕ) → EachTwo (λ a b. a ≢ b) s → AllByRecursion (λ o. (1 ≤ o) × (o ≤ option_count p)) s →
     passing (is_held (is_listed s) i) (numbered_options p) ≡ times_held p i s
-held_times p i [] two known = none_pass (is_held (is_listed []) i) (numbered_options p) (λ y k. and_false (holds y i))
+held_times p i [] two known = none_pass (is_held (is_listed []) i) (numbered_options p) (λ y k. and-false (holds y i))
 held_times p i (a ∷ s) two known =
     let x = option_of p a known.0.0 known.0.1 in
     let uses : x.0.uses ≡ uses_of p a = sym (uses_known p x.0 x.1) ∙ ap (uses_of p) x.2 in
