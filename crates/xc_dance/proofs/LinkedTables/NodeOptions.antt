@@ -1,4 +1,4 @@
--- The node by which an option uses an item, and the links downwards by option numbers.
+-- The option of a node, the node by which an option uses an item, and the links downwards by option numbers.
 use Rattle.std.proofs.Common.{◌≡◌, ◌≢◌, ◌⊎◌, inl, inr, ℕ, zero, suc, ◌+◌, ◌-◌, ◌<◌, ◌≤◌, Bool, true, false, cond, ◌||◌, eqb, ltb, List, [], ◌∷◌, length, get_or, Some, None, Option, refl, ap, ap₂, sym, subst, ◌∙◌, arith, eq-eqb, ne_eqb, le-leb}
 use Rattle.std.specs.Prelude.{is_some, unwrap_or, slice_get, Contains}
 use Rattle.std.specs.List.{range_with_len, AllByRecursion}
@@ -6,12 +6,14 @@ use Rattle.xc_input.specs.declared.problem.Use.{Use}
 use Rattle.xc_dance.specs.declared.dance.Move.{Move}
 use Rattle.xc_input.specs.Problem.{Puzzle, primary_count, item_count, uses_of, colour_in}
 use Rattle.xc_dance.specs.Moves.{is_open, AreLegal, listed_numbers, next_above, open_items, IsOpenPrimary}
-use Rattle.xc_dance.specs.Fields.{own, used, layout, first_above, first_of, is_in, ring_of, right_of, below_of, link_place}
-use Rattle.xc_dance.specs.Links.Cells.{link_at, fixed_down, top_in, dlink_in, line_of, nodes_after}
+use Rattle.xc_dance.specs.Fields.{Node, unused, own, spacer, used, layout, first_above, first_of, is_in, ring_of, right_of, below_of, link_place}
+use Rattle.xc_dance.specs.Links.Cells.{slot_of, link_at, fixed_down, top_in, dlink_in, line_of, nodes_after}
 use Rattle.xc_dance.specs.Links.ItemCells.{items_after, rlink_at}
 use Rattle.xc_dance.specs.Links.Laid.{IsName, IsLaid, IsFit}
 use Rattle.xc_dance.specs.Links.OptionPlaces.{start_at}
+use Rattle.xc_dance.specs.Links.NodeOptions.{option_of, options_of}
 use Rattle.xc_dance.proofs.LinkedTables.Answering.{ring_open}
+use Rattle.xc_dance.proofs.LinkedTables.LaidLemmas.{placed, head_is}
 use Rattle.xc_dance.proofs.LinkedTables.Goods.{Named}
 use Rattle.xc_dance.proofs.LinkedTables.GoodLines.{numbers_named}
 use Rattle.xc_dance.proofs.MoveLemmas.ListLemmas.{next_above-gt, Rises-filter, Rises-range}
@@ -24,6 +26,33 @@ use Rattle.xc_dance.proofs.LinkedTables.SpacerPlaces.{use_at}
 use Rattle.xc_dance.proofs.LinkedTables.RingStep.{row_get, row_len, right_now}
 use Rattle.xc_dance.proofs.LinkedTables.Sweep.{first_above-first}
 use Rattle.xc_dance.proofs.LinkedTables.Turned.{open_uncovered}
+
+-- ---- which option a node is of
+
+abbrev slot_member : Option (ℕ × ℕ) → ℕ
+slot_member None = 0
+slot_member (Some s) = s.1
+
+-- an own node is of no option
+pub at_own : (p : Puzzle) (i x : ℕ) → 0 < i → i ≤ item_count p → IsName p i x → i ≡ link_place p i x → x ≡ 0
+at_own p i x pos le name at =
+    let q = placed p i x pos le name in
+    let two : Some (own i) ≡ Some q.node = sym (head_is p i pos le) ∙ ap (slice_get (layout p)) at ∙ q.at in
+    let same : own i ≡ q.node = cc in
+    let slots : Some (i, 0) ≡ Some (i, x) = ap slot_of same ∙ q.slot in
+    sym (ap slot_member slots)
+
+-- what the options' table says of a node
+pub option_read : (p : Puzzle) (i place x : ℕ) → IsLaid p → 0 < i → i ≤ item_count p → IsName p i x → place ≡ link_place p i x → get_or (options_of p) place 0 ≡ x
+option_read p i place x laid pos le name at =
+    let q = laid.there i x pos le name in
+    get_map option_of (layout p) place q.node (ap (slice_get (layout p)) at ∙ q.at) ∙ by_node q.node q.slot
+  where
+    by_node : (m : Node) → slot_of m ≡ Some (i, x) → option_of m ≡ x
+    by_node unused e = cc
+    by_node (spacer s) e = cc
+    by_node (own j) e = ap slot_member e
+    by_node (used o u) e = ap slot_member e
 
 -- ---- the node of an option
 
