@@ -171,6 +171,7 @@ impl Nodes {
     }
 
     /// Goes down the list of item i: its nodes of the colour kept are marked, the others are hidden.
+    #[inline(always)]
     pub(crate) fn hide_list(
         &mut self,
         spans: &[Span],
@@ -198,6 +199,7 @@ impl Nodes {
     }
 
     /// Undoes `hide_list`, from bottom to top.
+    #[inline(always)]
     pub(crate) fn unhide_list(
         &mut self,
         spans: &[Span],
