@@ -1,8 +1,8 @@
 //! Where bytes come from.
 
-ghost use Rattle.std.specs.Prelude.{◌≡◌, ◌+◌, ◌-◌, ◌<◌, ◌≤◌, ℕ, List, Option, Some, length, IfOk, OnErr, is_err};
+ghost use Rattle.std.specs.Prelude.{◌≡◌, ◌+◌, ◌-◌, ◌<◌, ◌≤◌, ◌↔◌, ℕ, List, Option, Some, length, min, IfOk, IsErr, IsTrue, OnErr, is_err};
 ghost use Rattle.std.specs.Io.KnownBytes.{ReadConsumes};
-ghost use Rattle.xc_input.specs.Calls.{counted};
+ghost use Rattle.xc_input.specs.Calls.{counted, fewer_calls};
 
 /// A read that failed.
 #[derive(Clone, Copy, Debug, PartialEq, Eq)]
@@ -44,6 +44,8 @@ impl<'a> Feed<'a> {
     pub fn new(bytes: &'a [u8], step: usize, fail_at: Option<u64>) -> Feed<'a>
         requires { 0 < step }
         ensures rest { ⟦<Feed<'a> as Source>⟧.rest result ≡ Some bytes.now }
+        ensures step { result.step ≡ step }
+        ensures fail_at { result.calls_to_failure ≡ fail_at }
         ensures failures { ⟦<Feed<'a> as Source>⟧.failures result ≡ 0 }
     {
         Feed {
@@ -59,6 +61,8 @@ impl<'a> Feed<'a> {
         ensures left { self.new.left ≡ self.old.left }
         ensures failures { self.new.failures ≡ self.old.failures }
         ensures step { self.new.step ≡ self.old.step }
+        ensures now { IsTrue result ↔ (self.old.calls_to_failure ≡ Some 1) }
+        ensures nearer { self.new.calls_to_failure ≡ fewer_calls self.old.calls_to_failure }
     {
         match self.calls_to_failure {
             None => false,
@@ -77,7 +81,21 @@ impl<'a> Source for Feed<'a> {
 
     ghost rest = { λ s. Some s.left.now };
 
-    fn read(&mut self, buf: &mut [u8]) -> Result<usize, ReadFailed> {
+    fn read(&mut self, buf: &mut [u8]) -> Result<usize, ReadFailed>
+        requires { 0 < length buf.old }
+        ensures bound { IfOk result (λ n. n ≤ length buf.new) }
+        ensures limit { IfOk result (λ n. length self.new.left.now + n ≡ length self.old.left.now) }
+        ensures limit_kept { OnErr result (length self.new.left.now ≡ length self.old.left.now) }
+        ensures failures { self.new.failures ≡ counted (is_err result) self.old.failures }
+        ensures bytes { ReadConsumes (Some self.old.left.now) (Some self.new.left.now) result buf.new }
+
+        // The call that is to fail does, and no other; the others give as much as they may.
+        ensures fails { IsErr result ↔ (self.old.calls_to_failure ≡ Some 1) }
+        ensures gives { IfOk result (λ n.
+            n ≡ min (min (length self.old.left.now) self.old.step) (length buf.old)) }
+        ensures nearer { self.new.calls_to_failure ≡ fewer_calls self.old.calls_to_failure }
+        ensures step { self.new.step ≡ self.old.step }
+    {
         if self.fails_now() {
             self.failures = self.failures.saturating_add(1);
             return Err(ReadFailed);
