@@ -4,10 +4,12 @@ ghost use Rattle.std.specs.Io.KnownBytes.{WriteAppends, Keeps};
 ghost use Rattle.xc_input.specs.Calls.{counted, is_failed_write};
 
 use std::alloc::Global;
+use thiserror::Error;
 use xc_dance::Memory;
 
 /// A write that failed.
-#[derive(Clone, Copy, Debug, PartialEq, Eq)]
+#[derive(Clone, Copy, Debug, PartialEq, Eq, Error)]
+#[error("a write failed")]
 pub struct WriteFailed;
 
 /// Where bytes go.

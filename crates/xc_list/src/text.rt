@@ -4,10 +4,12 @@ ghost use Rattle.xc_list.specs.Texts.{Writes};
 
 use crate::sink::Sink;
 use itoa::Buffer;
+use thiserror::Error;
 
 /// What can go wrong with a sink.
-#[derive(Clone, Copy, Debug, PartialEq, Eq)]
+#[derive(Clone, Copy, Debug, PartialEq, Eq, Error)]
 pub enum SinkFault {
+    #[error("a write failed")]
     Failed,
 }
 
