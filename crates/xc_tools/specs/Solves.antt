@@ -4,6 +4,7 @@ use Rattle.xc_input.specs.Calls.{Rose}
 use Rattle.xc_input.specs.declared.Kind.{Kind}
 use Rattle.xc_input.specs.Named.{Named}
 use Rattle.xc_input.specs.Lines.{IsTextOf, IsFirstFault}
+use Rattle.xc_input.specs.Pieces.{IsPart}
 use Rattle.xc_input.specs.declared.FaultKind.{FaultKind}
 use Rattle.xc_input.specs.declared.InputError.TheVariants.{Fault}
 use Rattle.xc_tools.specs.Errors.{input_error_text}
@@ -38,6 +39,13 @@ pub record IsFaultyText (kind : Kind) (err_old err_new : ℕ × Option (List ℕ
   pub line : ℕ
   pub fault : FaultKind
   pub first : IsFirstFault kind bytes line fault
+  pub told : WasTold err_old err_new (input_error_text (Fault line fault))
+
+-- What a source gave has a first fault, however it goes on, and a sink was told it.
+pub record IsFaultGiven (kind : Kind) (in_old in_new : List (List ℕ)) (err_old err_new : ℕ × Option (List ℕ)) : Type 0 where
+  pub line : ℕ
+  pub fault : FaultKind
+  pub first : IsPart kind in_old in_new (Fault line fault)
   pub told : WasTold err_old err_new (input_error_text (Fault line fault))
 
 -- A sink took one text whole, and then this one, or a beginning of it behind which it failed.

@@ -1,9 +1,10 @@
 //! A whole run of the judge.
-ghost use Rattle.std.specs.Prelude.{◌≡◌, ◌≢◌, ℕ, ◌≤◌, ◌⊎◌, ◌↔◌, None, map, IfSome, IsTrue, OnErr, codes, flat_map};
+ghost use Rattle.std.specs.Prelude.{◌≡◌, ◌≢◌, ℕ, ◌≤◌, ◌⊎◌, ◌↔◌, None, map, IfSome, IsTrue, OnErr, List, codes, flat_map};
 ghost use Rattle.std.specs.Io.KnownBytes.{Keeps};
 ghost use Rattle.xc_input.specs.Calls.{Rose};
 ghost use Rattle.xc_list.specs.Texts.{Took, WasTold, Writes, IsUntouched, Begins};
-ghost use Rattle.xc_tools.specs.Solves.{IsFaultyText};
+ghost use Rattle.xc_input.specs.Pieces.{GaveAll};
+ghost use Rattle.xc_tools.specs.Solves.{IsFaultyText, IsFaultGiven};
 ghost use Rattle.xc_tools.specs.Judges.{asked_kind, numbered_kind, usage_text, verdict_text, judged_status, IsJudged, IsBegun, IsFaulty, StandsForOne};
 
 use crate::messages::{input_error, listing_fault};
@@ -110,6 +111,12 @@ fn judge_listing<L: Source, O: Sink, E: Sink>(
     ensures only { (result ≡ 0) ⊎ (result ≡ 2) ⊎ (result ≡ 3) ⊎ (result ≡ 4) ⊎ (result ≡ 5) }
     ensures settled { (result ≡ 0) ⊎ (result ≡ 5) → IsTrue (O.settled out.new) }
     ensures quiet { (result ≡ 0) ⊎ (result ≡ 5) → err.new ≡ err.old }
+    ensures judged_given { (result ≡ 0) ⊎ (result ≡ 5) → (lines : List ℕ)
+        × GaveAll (L.given listing.old) (L.given listing.new) lines
+        × IsJudged problem.now result (O.failures out.old, O.taken out.old) (O.failures out.new, O.taken out.new) lines }
+    ensures fault_given { result ≡ 2 → (lines : List ℕ)
+        × GaveAll (L.given listing.old) (L.given listing.new) lines
+        × IsFaulty problem.now (E.failures err.old, E.taken err.old) (E.failures err.new, E.taken err.new) lines }
     ensures failing { (L.failures listing.new ≢ L.failures listing.old)
         ⊎ (O.failures out.new ≢ O.failures out.old) → result ≡ 3 }
     ensures clean { (result ≡ 0) ⊎ (result ≡ 5) → (L.failures listing.new ≡ L.failures listing.old)
@@ -161,6 +168,18 @@ fn judge_kind<P: Source, L: Source, O: Sink, E: Sink>(
     ensures only { (result ≡ 0) ⊎ (result ≡ 2) ⊎ (result ≡ 3) ⊎ (result ≡ 4) ⊎ (result ≡ 5) }
     ensures settled { (result ≡ 0) ⊎ (result ≡ 5) → IsTrue (O.settled out.new) }
     ensures quiet { (result ≡ 0) ⊎ (result ≡ 5) → err.new ≡ err.old }
+    ensures judged_given { (result ≡ 0) ⊎ (result ≡ 5) → (text : List ℕ) × (lines : List ℕ)
+        × GaveAll (P.given problem.old) (P.given problem.new) text
+        × GaveAll (L.given listing.old) (L.given listing.new) lines
+        × StandsForOne kind (λ a. IsJudged a result
+        (O.failures out.old, O.taken out.old) (O.failures out.new, O.taken out.new) lines) text }
+    ensures fault_given { result ≡ 2 → IsFaultGiven kind (P.given problem.old) (P.given problem.new)
+        (E.failures err.old, E.taken err.old) (E.failures err.new, E.taken err.new)
+        ⊎ ((text : List ℕ) × (lines : List ℕ)
+        × GaveAll (P.given problem.old) (P.given problem.new) text
+        × GaveAll (L.given listing.old) (L.given listing.new) lines
+        × StandsForOne kind (λ a. IsFaulty a
+        (E.failures err.old, E.taken err.old) (E.failures err.new, E.taken err.new) lines) text) }
     ensures failing { (P.failures problem.new ≢ P.failures problem.old)
         ⊎ (L.failures listing.new ≢ L.failures listing.old)
         ⊎ (O.failures out.new ≢ O.failures out.old) → result ≡ 3 }
@@ -250,6 +269,20 @@ pub fn judge<P: Source, L: Source, O: Sink, E: Sink>(
         (E.failures err.old, E.taken err.old) (E.failures err.new, E.taken err.new) lines) text))) }
 
     // Whatever fails gives 3 and is told; the problem comes first, and then the listing.
+    ensures judged_given { (result ≡ 0) ⊎ (result ≡ 5) → IfSome (asked_kind (map (λ w. w.items) words.now)) (λ kind.
+        (text : List ℕ) × (lines : List ℕ)
+        × GaveAll (P.given problem.old) (P.given problem.new) text
+        × GaveAll (L.given listing.old) (L.given listing.new) lines
+        × StandsForOne kind (λ a. IsJudged a result
+        (O.failures out.old, O.taken out.old) (O.failures out.new, O.taken out.new) lines) text) }
+    ensures fault_given { result ≡ 2 → IfSome (asked_kind (map (λ w. w.items) words.now)) (λ kind.
+        IsFaultGiven kind (P.given problem.old) (P.given problem.new)
+        (E.failures err.old, E.taken err.old) (E.failures err.new, E.taken err.new)
+        ⊎ ((text : List ℕ) × (lines : List ℕ)
+        × GaveAll (P.given problem.old) (P.given problem.new) text
+        × GaveAll (L.given listing.old) (L.given listing.new) lines
+        × StandsForOne kind (λ a. IsFaulty a
+        (E.failures err.old, E.taken err.old) (E.failures err.new, E.taken err.new) lines) text)) }
     ensures failing { (P.failures problem.new ≢ P.failures problem.old)
         ⊎ (L.failures listing.new ≢ L.failures listing.old)
         ⊎ (O.failures out.new ≢ O.failures out.old) → result ≡ 3 }

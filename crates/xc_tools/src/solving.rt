@@ -1,14 +1,15 @@
 //! A whole run of a program.
-ghost use Rattle.std.specs.Prelude.{◌≡◌, ◌≢◌, ◌≤◌, ◌⊎◌, ◌↔◌, Ok, map, IsErr, IsTrue, IfSome, IfErr, codes, flat_map};
+ghost use Rattle.std.specs.Prelude.{◌≡◌, ◌≢◌, ◌≤◌, ◌⊎◌, ◌↔◌, Ok, map, IsErr, IsTrue, IfSome, IfErr, ℕ, List, codes, flat_map};
 ghost use Rattle.std.specs.Io.KnownBytes.{Keeps};
 ghost use Rattle.xc_input.specs.Calls.{Rose};
+ghost use Rattle.xc_input.specs.Pieces.{GaveAll};
 ghost use Rattle.xc_list.specs.Messages.{summary_text, warning_text, word_fault_text};
 ghost use Rattle.xc_list.specs.Output.{output};
 ghost use Rattle.xc_list.specs.Runs.{end_of};
 ghost use Rattle.xc_list.specs.Settings.{read_words};
 ghost use Rattle.xc_list.specs.Texts.{Took, BrokeOff, WasTold, IsUntouched, Begins};
 ghost use Rattle.xc_list.specs.declared.words.Words.{Words};
-ghost use Rattle.xc_tools.specs.Solves.{IsSolved, IsSolvedText, IsBegunText, IsFaultyText, WasToldBehind, IsFailedSearch, IsFailedSolving, IsFailedRun, RanOut};
+ghost use Rattle.xc_tools.specs.Solves.{IsSolved, IsSolvedText, IsBegunText, IsFaultyText, IsFaultGiven, WasToldBehind, IsFailedSearch, IsFailedSolving, IsFailedRun, RanOut};
 
 use crate::messages::input_error;
 use crate::status::{BAD_INPUT, BAD_WORDS, COMPLETE, FAILED, NO_MEMORY, out_of_memory, refuse};
@@ -132,10 +133,17 @@ fn solve_words<S: Source, O: Sink, E: Sink>(
     ensures solved { result ≡ 0 → IfSome (S.rest input.old) (IsSolvedText kind words
         (O.failures out.old, O.taken out.old) (O.failures out.new, O.taken out.new)
         (E.failures err.old, E.taken err.old) (E.failures err.new, E.taken err.new)) }
+    ensures solved_given { result ≡ 0 → (bytes : List ℕ)
+        × GaveAll (S.given input.old) (S.given input.new) bytes
+        × IsSolvedText kind words
+        (O.failures out.old, O.taken out.old) (O.failures out.new, O.taken out.new)
+        (E.failures err.old, E.taken err.old) (E.failures err.new, E.taken err.new) bytes }
     ensures fault { result ≡ 2 → IfSome (S.rest input.old)
         (IsFaultyText kind
         (E.failures err.old, E.taken err.old) (E.failures err.new, E.taken err.new))
         × Keeps (O.taken out.old) (O.taken out.new) }
+    ensures fault_given { result ≡ 2 → IsFaultGiven kind (S.given input.old) (S.given input.new)
+        (E.failures err.old, E.taken err.old) (E.failures err.new, E.taken err.new) }
     ensures failed { result ≡ 3 → IsFailedRun (S.failures input.old) (S.failures input.new)
         (O.failures out.old, O.taken out.old) (O.failures out.new, O.taken out.new)
         (E.failures err.old, E.taken err.old) (E.failures err.new, E.taken err.new) }
@@ -198,6 +206,17 @@ pub fn solve<S: Source, O: Sink, E: Sink>(
         (IsFaultyText kind
         (E.failures err.old, E.taken err.old) (E.failures err.new, E.taken err.new))
         × Keeps (O.taken out.old) (O.taken out.new) }
+
+    // The same of the bytes that the input gave, whether it told them before or not.
+    ensures solved_given { result ≡ 0 → (w : Words)
+        × (read_words (map (λ w. w.items) words.now) ≡ Ok w) × (bytes : List ℕ)
+        × GaveAll (S.given input.old) (S.given input.new) bytes
+        × IsSolvedText kind w
+        (O.failures out.old, O.taken out.old) (O.failures out.new, O.taken out.new)
+        (E.failures err.old, E.taken err.old) (E.failures err.new, E.taken err.new) bytes }
+    ensures fault_given { result ≡ 2 → IsFaultGiven kind (S.given input.old) (S.given input.new)
+        (E.failures err.old, E.taken err.old) (E.failures err.new, E.taken err.new) }
+
     ensures failed { result ≡ 3 → IsFailedRun (S.failures input.old) (S.failures input.new)
         (O.failures out.old, O.taken out.old) (O.failures out.new, O.taken out.new)
         (E.failures err.old, E.taken err.old) (E.failures err.new, E.taken err.new) }

@@ -1,11 +1,11 @@
 //! The system's streams and files as sources and sinks.
-ghost use Rattle.std.specs.Prelude.{◌≡◌, ◌+◌, ◌-◌, ◌^◌, ◌<◌, ◌≤◌, true, None, length, nat_eq, is_err, option_map, IfOk, IsErr, IsTrue, OnErr, OnOk, ◌++◌, take, drop, slice_range};
+ghost use Rattle.std.specs.Prelude.{◌≡◌, ◌+◌, ◌-◌, ◌^◌, ◌<◌, ◌≤◌, true, None, length, nat_eq, is_err, option_map, IfOk, IsErr, IsTrue, OnErr, OnOk, [], ◌∷◌, ◌++◌, take, drop, slice_range};
 ghost use Rattle.std.specs.Io.KnownBytes.{append_known, Appends, Keeps, ReadConsumes};
 ghost use Rattle.xc_input.specs.Calls.{counted};
 ghost use Rattle.xc_tools.specs.Streams.{left_of};
 
 use std::io::{Read, Write};
-use xc_input::{ReadFailed, Source};
+use xc_input::{Given, ReadFailed, Source};
 use xc_list::{Sink, WriteFailed};
 
 /// How many bytes a sink holds back.
@@ -17,6 +17,7 @@ pub struct Incoming<R: Read + Drop> {
     reader: Option<R>,
     left: u64,
     failures: u64,
+    given: Given,
 }
 
 impl<R: Read + Drop> Incoming<R> {
@@ -30,6 +31,7 @@ impl<R: Read + Drop> Incoming<R> {
             reader,
             left: u64::MAX,
             failures: 0,
+            given: Given::new(),
         }
     }
 }
@@ -41,6 +43,8 @@ impl<R: Read + Drop> Source for Incoming<R> {
 
     ghost rest = { λ s. left_of (option_map R.remaining s.reader) };
 
+    ghost given = { λ s. s.given.lines };
+
     fn read(&mut self, buf: &mut [u8]) -> Result<usize, ReadFailed>
         requires { 0 < length buf.old }
         ensures bound { IfOk result (λ n. n ≤ length buf.new) }
@@ -49,6 +53,9 @@ impl<R: Read + Drop> Source for Incoming<R> {
         ensures failures { self.new.failures ≡ counted (is_err result) self.old.failures }
         ensures bytes { ReadConsumes (left_of (option_map R.remaining self.old.reader))
             (left_of (option_map R.remaining self.new.reader)) result buf.new }
+        ensures given { IfOk result (λ n.
+            self.new.given.lines ≡ self.old.given.lines ++ take n buf.new ∷ []) }
+        ensures given_kept { OnErr result (self.new.given.lines ≡ self.old.given.lines) }
 
         // What was not opened fails, and so does a reader that gave all that may be given.
         ensures missing { self.old.reader ≡ None → IsErr result }
@@ -71,6 +78,7 @@ impl<R: Read + Drop> Source for Incoming<R> {
         match read {
             Ok(n) => {
                 self.left -= n as u64;
+                self.given = Given::after(&self.given, &buf[..n]);
                 Ok(n)
             }
             Err(_) => {

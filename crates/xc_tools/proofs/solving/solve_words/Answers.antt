@@ -38,3 +38,19 @@ returns-in-Fault-clause-fault g c = λ _.
 pub returns-in-Memory-clause-memory : goal.returns-in-Memory-clause-memory
 returns-in-Memory-clause-memory g c = λ _.
     ran_out _ _ _ c.in-Err.error c.in-Memory.is (was_told _ _ c.input_error.result (input_error_text c.in-Err.error) c.input_error.ensures.text)
+
+pub returns-in-Ok-clause-solved_given : goal.returns-in-Ok-clause-solved_given
+returns-in-Ok-clause-solved_given g c = λ done. (
+  c.in-Ok.ensures.whole.0,
+  c.in-Ok.ensures.whole.1,
+  record { named = c.in-Ok.read.problem; ignored = c.in-Ok.read.ignored.items; text = c.in-Ok.ensures.whole.2; solved = c.solve_read.ensures.solved done },
+)
+
+pub returns-in-Fault-clause-fault_given : goal.returns-in-Fault-clause-fault_given
+returns-in-Fault-clause-fault_given g c = λ _.
+    let told = was_told _ _ c.input_error.result (input_error_text c.in-Err.error) c.input_error.ensures.text in record {
+      line = c.in-Fault.line;
+      fault = c.in-Fault.kind;
+      first = rw c.in-Fault.is at c.in-Err.ensures.part;
+      told = rw c.in-Fault.is at told;
+    }
