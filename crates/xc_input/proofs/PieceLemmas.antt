@@ -1,6 +1,6 @@
 -- What a source gave, piece after piece.
-use Rattle.std.proofs.Common.{◌≡◌, ◌≢◌, ℕ, ◌<◌, ◌≤◌, List, [], ◌∷◌, ◌++◌, Option, None, Some, Result, Ok, Err, IfOk, IfErr, length, take, sym, ap, ◌∙◌, subst, append_assoc, append-nil, arith, refl, inl, inr}
-use Rattle.std.specs.Prelude.{All, flat_map}
+use Rattle.std.proofs.Common.{◌≡◌, ℕ, ◌<◌, List, [], ◌∷◌, ◌++◌, Result, Ok, Err, IfOk, IfErr, length, take, sym, ap, ◌∙◌, append_assoc, append-nil, arith, refl, inl, inr}
+use Rattle.std.specs.Prelude.{All}
 use Rattle.std.proofs.lemmas.Grind.{common_steps, flat_map-append}
 use Rattle.std.proofs.lemmas.List.Elements.{All-append}
 use Rattle.xc_input.specs.declared.Kind.{Kind}
@@ -8,7 +8,7 @@ use Rattle.xc_input.specs.declared.InputError.{InputError}
 use Rattle.xc_input.specs.declared.InputError.TheVariants.{Fault, Device, Memory}
 use Rattle.xc_input.specs.declared.reader.Read.{Read}
 use Rattle.xc_input.specs.Feeding.{Spoils}
-use Rattle.xc_input.specs.Lines.{lines_of, IsTextOf}
+use Rattle.xc_input.specs.Lines.{lines_of}
 use Rattle.xc_input.specs.Pieces.{Gave, GaveAll, IsWhole, IsPart}
 use Rattle.xc_input.proofs.SourceLemmas.{EndsAs, error-ends}
 

@@ -1,5 +1,5 @@
 -- What a writer holds, and what is held back from it.
-use Rattle.std.proofs.Common.{◌≡◌, ℕ, ◌+◌, ◌-◌, ◌≤◌, List, [], ◌++◌, Option, None, Some, length, take, drop, sym, ap, ◌∙◌, append_assoc, append-nil, arith, refl}
+use Rattle.std.proofs.Common.{◌≡◌, ℕ, ◌+◌, ◌-◌, ◌≤◌, List, [], ◌++◌, Option, None, Some, length, take, drop, sym, ap, ◌∙◌, append_assoc, arith}
 use Rattle.std.specs.Prelude.{slice_range}
 use Rattle.std.proofs.lemmas.Grind.{common_steps}
 use Rattle.std.proofs.Math.Seq.{take-add}
@@ -68,7 +68,7 @@ part_put held xs start end a b =
     let first : start ≤ length front = omega arith in
     let both : start ≤ length (front ++ xs) = grind (arith, common_steps) in
     let behind : drop start ((front ++ xs) ++ back) ≡ (drop start front ++ xs) ++ back =
-      drop-append-le start (front ++ xs) back both ∙ ap (λ l. l ++ back) (drop-append-le start front xs first) in
+    drop-append-le start (front ++ xs) back both ∙ ap (λ l. l ++ back) (drop-append-le start front xs first) in
     let count : (end + length xs) - start ≡ length (drop start front ++ xs) = grind (arith, common_steps) in
     let whole : take (length (drop start front ++ xs)) ((drop start front ++ xs) ++ back) ≡ drop start front ++ xs = grind (arith, common_steps) in
     ap (take ((end + length xs) - start)) behind ∙ ap (λ m. take m ((drop start front ++ xs) ++ back)) count ∙ whole ∙ ap (λ l. l ++ xs) (part_of_front held start end a)
@@ -80,5 +80,5 @@ held_more None old held now xs start end n a b e f p = tt
 held_more (Some x) None held now xs start end n a b e f p = absurd p
 held_more (Some x) (Some y) held now xs start end n a b e f p =
     let here : slice_range now start (end + n) ≡ slice_range held start end ++ xs =
-      rw f (rw (← e) (part_put held xs start end a (rw e b))) in
+    rw f (rw (← e) (part_put held xs start end a (rw e b))) in
     ap (λ l. y ++ l) here ∙ sym (append_assoc y (slice_range held start end) xs) ∙ ap (λ l. l ++ xs) p

@@ -2,7 +2,7 @@
 ghost use Rattle.std.specs.Prelude.{◌≡◌, ◌≢◌, ℕ, ◌≤◌, ◌⊎◌, ◌↔◌, None, map, IfSome, IsTrue, OnErr, List, codes, flat_map};
 ghost use Rattle.std.specs.Io.KnownBytes.{Keeps};
 ghost use Rattle.xc_input.specs.Calls.{Rose};
-ghost use Rattle.xc_list.specs.Texts.{Took, WasTold, Writes, IsUntouched, Begins};
+ghost use Rattle.xc_list.specs.Texts.{Took, WasTold, Writes, Begins};
 ghost use Rattle.xc_input.specs.Pieces.{GaveAll};
 ghost use Rattle.xc_tools.specs.Solves.{IsFaultyText, IsFaultGiven};
 ghost use Rattle.xc_tools.specs.Judges.{asked_kind, numbered_kind, usage_text, verdict_text, judged_status, IsJudged, IsBegun, IsFaulty, StandsForOne};

@@ -44,14 +44,14 @@ returns-in-Err-feed-clause-cut g c = (spoilt g c).cut
 pub reading-preserved : goal.reading-preserved
 reading-preserved g c =
     let some : 0 < length (take c.in-Ok-read.n c.read.new.buf) = grind (arith, common_steps, c.in-Ok-read.n-test, c.in-Ok-read.ensures.bound) in (
-  c.in_default-feed.ensures.state,
-  c.in_default-feed.ensures.kind ∙ c.reading.invariant.1,
-  c.in-Ok-read.ensures.failures ∙ c.reading.invariant.2,
-  subst (Consumes (g.S.Source.rest c.args.source.now) (g.S.Source.rest c.read.new.self)) (sym c.in_default-feed.ensures.fed)
-      (consumes_more _ _ _ _ _ c.reading.invariant.3 c.in-Ok-read.ensures.bytes.0),
-  subst (Gave (g.S.Source.given c.args.source.now) (g.S.Source.given c.read.new.self)) (sym c.in_default-feed.ensures.fed)
-      (gave_more _ _ _ _ _ c.reading.invariant.4 some c.in-Ok-read.ensures.given),
-)
+      c.in_default-feed.ensures.state,
+      c.in_default-feed.ensures.kind ∙ c.reading.invariant.1,
+      c.in-Ok-read.ensures.failures ∙ c.reading.invariant.2,
+      subst (Consumes (g.S.Source.rest c.args.source.now) (g.S.Source.rest c.read.new.self)) (sym c.in_default-feed.ensures.fed)
+          (consumes_more _ _ _ _ _ c.reading.invariant.3 c.in-Ok-read.ensures.bytes.0),
+      subst (Gave (g.S.Source.given c.args.source.now) (g.S.Source.given c.read.new.self)) (sym c.in_default-feed.ensures.fed)
+          (gave_more _ _ _ _ _ c.reading.invariant.4 some c.in-Ok-read.ensures.given),
+    )
 
 -- what the answer at the end of the input says of what was fed
 as_fed : (g : _) (c : After-drop-carry-2 g) → EndsAs c.args.kind (lines_of (fed c.reading.reader c.reading.carry.items)) c.end_text.result

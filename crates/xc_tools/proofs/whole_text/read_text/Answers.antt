@@ -13,7 +13,7 @@ returns-clause-whole g c = gave_end _ _ _ _ c.read.new.buf c.in-Ok-eq0.field-0 c
 pub reading-preserved : goal.reading-preserved
 reading-preserved g c =
     let more : c.extend_from_slice.new.self.items ≡ c.reading.text.items ++ take c.in-Ok-read.n c.read.new.buf =
-      grown c.extend_from_slice.result c.reading.text.items c.extend_from_slice.new.self.items (take c.in-Ok-read.n c.read.new.buf) (sym c.is_err.ensures.value ∙ c.if-is_err.false) c.extend_from_slice.ensures.items in
+    grown c.extend_from_slice.result c.reading.text.items c.extend_from_slice.new.self.items (take c.in-Ok-read.n c.read.new.buf) (sym c.is_err.ensures.value ∙ c.if-is_err.false) c.extend_from_slice.ensures.items in
     let some : 0 < length (take c.in-Ok-read.n c.read.new.buf) = grind (arith, common_steps, c.in-Ok-read.n-test, c.in-Ok-read.ensures.bound) in (
       c.in-Ok-read.ensures.failures ∙ c.reading.invariant.0,
       subst (Consumes (g.S.Source.rest c.args.source.now) (g.S.Source.rest c.read.new.self)) (sym more) (consumes_more _ _ _ _ _ c.reading.invariant.1 c.in-Ok-read.ensures.bytes.0),
