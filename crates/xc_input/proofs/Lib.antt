@@ -6,6 +6,7 @@ pub mod FaultLemmas
 pub mod OptionLemmas
 pub mod NameLemmas
 pub mod DraftLemmas
+pub mod PieceLemmas
 pub mod ReadLemmas
 pub mod GrammarLemmas
 pub mod LawLemmas

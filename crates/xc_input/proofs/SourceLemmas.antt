@@ -26,7 +26,7 @@ pub ends-as : (kind now : Kind) (lines told : List (List ℕ)) (r : Result Read 
 ends-as kind now lines told r e f h = subst (λ k. EndsAs k lines r) e (subst (λ ls. EndsAs now ls r) f h)
 
 -- the error of a line is that of the text
-error-ends : (kind : Kind) (lines : List (List ℕ)) (e : InputError) → IsErrorOf kind lines e → IsEndOf kind lines e
+pub error-ends : (kind : Kind) (lines : List (List ℕ)) (e : InputError) → IsErrorOf kind lines e → IsEndOf kind lines e
 error-ends kind lines (Fault n k) h = ap (λ q. or_else q (end_fault (length lines) (stage_of kind lines).started)) h
 error-ends kind lines Device h = h
 error-ends kind lines Memory h = tt

@@ -14,6 +14,7 @@ pub mod Readings
 pub mod Drafts
 pub mod Feeding
 pub mod Inputs
+pub mod Pieces
 pub mod Law
 pub mod Worked
 pub mod Hashing

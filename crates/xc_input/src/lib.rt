@@ -14,6 +14,7 @@ mod reader;
 mod source;
 pub mod worked;
 
+pub use given::Given;
 pub use problem::{Item, Problem, Use};
 pub use read::read_problem;
 pub use reader::{Read, Reader};

@@ -7,6 +7,7 @@ ghost use Rattle.xc_input.specs.Readings.{IsFault, IsEndOf};
 ghost use Rattle.xc_input.specs.Lines.{IsTextOf, lines_of};
 ghost use Rattle.xc_input.specs.Feeding.{fed, IsBetween, Spoils};
 ghost use Rattle.xc_input.specs.Inputs.{IsFaultOf, Counts, IsCut};
+ghost use Rattle.xc_input.specs.Pieces.{IsWhole, IsPart};
 
 use crate::cut::cut_at;
 use crate::reader::{Read, Reader};
@@ -27,6 +28,8 @@ pub fn read_problem<S: Source>(
     ensures refused { IfSome (S.rest source.old) (λ bytes. IfErr result (λ e. IsFault e → (p : Named) (ignored : List ℕ) → IsTextOf kind bytes p ignored → ⊥)) }
     ensures counts { Counts (S.failures source.old) (S.failures source.new) result }
     ensures cut { IsCut kind (S.rest source.old) (S.rest source.new) result }
+    ensures whole { IfOk result (λ r. IsWhole kind (S.given source.old) (S.given source.new) r.problem r.ignored.items) }
+    ensures part { IfErr result (IsPart kind (S.given source.old) (S.given source.new)) }
 {
     let mut reader = Reader::new(alloc, kind);
     let mut carry = Vec::new(alloc);

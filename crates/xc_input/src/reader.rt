@@ -93,6 +93,7 @@ impl Reader {
         ensures valid { IfOk result (λ r. IsSound r.problem) }
         ensures first { IfErr result (λ e. IsEndOf self.kind self.lines e) }
         ensures refused { IfErr result (λ e. IsFault e → (p : Named) (ignored : List ℕ) → StandsFor self.kind self.lines p ignored → ⊥) }
+        ensures no_memory { result_err result ≡ Some InputError.Memory → self.error ≡ Some InputError.Memory }
         ensures same { IfSome self.error (λ e. result_err result ≡ Some e) }
     {
         let Reader {

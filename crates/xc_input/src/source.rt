@@ -1,11 +1,15 @@
 //! Where bytes come from.
 
-ghost use Rattle.std.specs.Prelude.{◌≡◌, ◌+◌, ◌-◌, ◌<◌, ◌≤◌, ℕ, List, Option, Some, length, IfOk, OnErr, is_err};
+ghost use Rattle.std.specs.Prelude.{◌≡◌, ◌+◌, ◌-◌, ◌<◌, ◌≤◌, ◌↔◌, ℕ, List, [], ◌∷◌, ◌++◌, take, Option, Some, length, min, IfOk, IsErr, IsTrue, OnErr, is_err};
 ghost use Rattle.std.specs.Io.KnownBytes.{ReadConsumes};
-ghost use Rattle.xc_input.specs.Calls.{counted};
+ghost use Rattle.xc_input.specs.Calls.{counted, fewer_calls};
+
+use crate::given::Given;
+use thiserror::Error;
 
 /// A read that failed.
-#[derive(Clone, Copy, Debug, PartialEq, Eq)]
+#[derive(Clone, Copy, Debug, PartialEq, Eq, Error)]
+#[error("a read failed")]
 pub struct ReadFailed;
 
 /// Where bytes come from.
@@ -19,6 +23,9 @@ pub trait Source {
     /// The bytes that it will give, where it tells them.
     ghost rest: { Self → Option (List ℕ) };
 
+    /// What each read gave so far, in order: nothing at the end.
+    ghost given: { Self → List (List ℕ) };
+
     /// Reads into the front of the buffer, and says how many bytes. 0 is the end of the input.
     fn read(&mut self, buf: &mut [u8]) -> Result<usize, ReadFailed>
         requires { 0 < length buf.old }
@@ -26,7 +33,9 @@ pub trait Source {
         ensures limit { IfOk result (λ n. limit self.new + n ≡ limit self.old) }
         ensures limit_kept { OnErr result (limit self.new ≡ limit self.old) }
         ensures failures { failures self.new ≡ counted (is_err result) (failures self.old) }
-        ensures bytes { ReadConsumes (rest self.old) (rest self.new) result buf.new };
+        ensures bytes { ReadConsumes (rest self.old) (rest self.new) result buf.new }
+        ensures given { IfOk result (λ n. given self.new ≡ given self.old ++ take n buf.new ∷ []) }
+        ensures given_kept { OnErr result (given self.new ≡ given self.old) };
 }
 
 /// A source over memory. It tells its bytes.
@@ -36,6 +45,7 @@ pub struct Feed<'a> {
     step: usize,
     calls_to_failure: Option<u64>,
     failures: u64,
+    given: Given,
     ghost moves: { 0 < step },
 }
 
@@ -44,6 +54,8 @@ impl<'a> Feed<'a> {
     pub fn new(bytes: &'a [u8], step: usize, fail_at: Option<u64>) -> Feed<'a>
         requires { 0 < step }
         ensures rest { ⟦<Feed<'a> as Source>⟧.rest result ≡ Some bytes.now }
+        ensures step { result.step ≡ step }
+        ensures fail_at { result.calls_to_failure ≡ fail_at }
         ensures failures { ⟦<Feed<'a> as Source>⟧.failures result ≡ 0 }
     {
         Feed {
@@ -51,6 +63,7 @@ impl<'a> Feed<'a> {
             step,
             calls_to_failure: fail_at,
             failures: 0,
+            given: Given::new(),
         }
     }
 
@@ -59,6 +72,9 @@ impl<'a> Feed<'a> {
         ensures left { self.new.left ≡ self.old.left }
         ensures failures { self.new.failures ≡ self.old.failures }
         ensures step { self.new.step ≡ self.old.step }
+        ensures given { self.new.given ≡ self.old.given }
+        ensures now { IsTrue result ↔ (self.old.calls_to_failure ≡ Some 1) }
+        ensures nearer { self.new.calls_to_failure ≡ fewer_calls self.old.calls_to_failure }
     {
         match self.calls_to_failure {
             None => false,
@@ -77,7 +93,26 @@ impl<'a> Source for Feed<'a> {
 
     ghost rest = { λ s. Some s.left.now };
 
-    fn read(&mut self, buf: &mut [u8]) -> Result<usize, ReadFailed> {
+    ghost given = { λ s. s.given.lines };
+
+    fn read(&mut self, buf: &mut [u8]) -> Result<usize, ReadFailed>
+        requires { 0 < length buf.old }
+        ensures bound { IfOk result (λ n. n ≤ length buf.new) }
+        ensures limit { IfOk result (λ n. length self.new.left.now + n ≡ length self.old.left.now) }
+        ensures limit_kept { OnErr result (length self.new.left.now ≡ length self.old.left.now) }
+        ensures failures { self.new.failures ≡ counted (is_err result) self.old.failures }
+        ensures bytes { ReadConsumes (Some self.old.left.now) (Some self.new.left.now) result buf.new }
+        ensures given { IfOk result (λ n.
+            self.new.given.lines ≡ self.old.given.lines ++ take n buf.new ∷ []) }
+        ensures given_kept { OnErr result (self.new.given.lines ≡ self.old.given.lines) }
+
+        // The call that is to fail does, and no other; the others give as much as they may.
+        ensures fails { IsErr result ↔ (self.old.calls_to_failure ≡ Some 1) }
+        ensures gives { IfOk result (λ n.
+            n ≡ min (min (length self.old.left.now) self.old.step) (length buf.old)) }
+        ensures nearer { self.new.calls_to_failure ≡ fewer_calls self.old.calls_to_failure }
+        ensures step { self.new.step ≡ self.old.step }
+    {
         if self.fails_now() {
             self.failures = self.failures.saturating_add(1);
             return Err(ReadFailed);
@@ -86,6 +121,7 @@ impl<'a> Source for Feed<'a> {
         let n = all.len().min(self.step).min(buf.len());
         buf[..n].copy_from_slice(&all[..n]);
         self.left = &all[n..];
+        self.given = Given::after(&self.given, &all[..n]);
         Ok(n)
     }
 }

@@ -13,6 +13,7 @@ use crate::listing_lines::{ListingLine, cut_line, read_line};
 use crate::tally::Tally;
 use std::alloc::{AllocError, Global};
 use std::marker::Model;
+use thiserror::Error;
 use xc_input::Problem;
 
 /// The verdict on a listed solution.
@@ -25,13 +26,16 @@ pub struct Verdict {
 }
 
 /// Why a listing gets no verdicts. Lines are counted from 1.
-#[derive(Clone, Copy, Debug, PartialEq, Eq)]
+#[derive(Clone, Copy, Debug, PartialEq, Eq, Error)]
 pub enum ListingFault {
     /// A line that is neither a header nor a choice line, or a choice line before the first header.
+    #[error("listing line {0}: bad line")]
     BadLine(u64),
     /// A choice line whose body stands for no option.
+    #[error("listing line {0}: unknown option")]
     UnknownOption(u64),
     /// Memory is out.
+    #[error("out of memory")]
     Memory,
 }
 

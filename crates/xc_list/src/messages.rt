@@ -1,5 +1,5 @@
 //! What is told beside a listing.
-ghost use Rattle.std.specs.Prelude.{◌≡◌, ℕ, ◌+◌, ◌-◌, ◌<◌, ◌≤◌, ◌++◌, flat_map, decimal, codes};
+ghost use Rattle.std.specs.Prelude.{◌≡◌, ℕ, ◌+◌, ◌-◌, ◌<◌, ◌≤◌, ◌++◌, flat_map, OnErr, IsTrue, decimal, codes};
 ghost use Rattle.xc_list.specs.Texts.{Writes};
 ghost use Rattle.xc_list.specs.Messages.{plural, total_text, failed_text, summary_text, warning_text, word_text, word_fault_text};
 
@@ -10,8 +10,9 @@ use crate::words::WordFault;
 use xc_input::Read;
 
 fn write_plural<S: Sink>(n: u64, sink: &mut S) -> Result<(), SinkFault>
-    ensures { Writes (S.failures sink.old, S.taken sink.old)
+    ensures text { Writes (S.failures sink.old, S.taken sink.old)
         (S.failures sink.new, S.taken sink.new) result (plural n) }
+    ensures stops { OnErr result (IsTrue (S.failed sink.new)) }
 {
     if n == 1 {
         write_all(sink, b" solution")
@@ -21,8 +22,9 @@ fn write_plural<S: Sink>(n: u64, sink: &mut S) -> Result<(), SinkFault>
 }
 
 fn write_total<S: Sink>(n: u64, tail: &[u8], sink: &mut S) -> Result<(), SinkFault>
-    ensures { Writes (S.failures sink.old, S.taken sink.old)
+    ensures text { Writes (S.failures sink.old, S.taken sink.old)
         (S.failures sink.new, S.taken sink.new) result (total_text n tail.now) }
+    ensures stops { OnErr result (IsTrue (S.failed sink.new)) }
 {
     write_all(sink, b"Altogether ")?;
     write_number(sink, n)?;
@@ -31,16 +33,18 @@ fn write_total<S: Sink>(n: u64, tail: &[u8], sink: &mut S) -> Result<(), SinkFau
 }
 
 fn write_failed<S: Sink>(n: u64, sink: &mut S) -> Result<(), SinkFault>
-    ensures { Writes (S.failures sink.old, S.taken sink.old)
+    ensures text { Writes (S.failures sink.old, S.taken sink.old)
         (S.failures sink.new, S.taken sink.new) result (failed_text n) }
+    ensures stops { OnErr result (IsTrue (S.failed sink.new)) }
 {
     write_numbered(sink, b"Write failed at solution ", n, b".\n")
 }
 
 /// Writes how a run ended.
 pub fn summary<S: Sink>(end: &End, sink: &mut S) -> Result<(), SinkFault>
-    ensures { Writes (S.failures sink.old, S.taken sink.old)
+    ensures text { Writes (S.failures sink.old, S.taken sink.old)
         (S.failures sink.new, S.taken sink.new) result (summary_text end.now) }
+    ensures stops { OnErr result (IsTrue (S.failed sink.new)) }
 {
     match *end {
         End::Done(n) => write_total(n, b".\n", sink),
@@ -50,8 +54,9 @@ pub fn summary<S: Sink>(end: &End, sink: &mut S) -> Result<(), SinkFault>
 }
 
 fn write_warning<S: Sink>(line: u64, sink: &mut S) -> Result<(), SinkFault>
-    ensures { Writes (S.failures sink.old, S.taken sink.old)
+    ensures text { Writes (S.failures sink.old, S.taken sink.old)
         (S.failures sink.new, S.taken sink.new) result (warning_text line) }
+    ensures stops { OnErr result (IsTrue (S.failed sink.new)) }
 {
     write_numbered(
         sink,
@@ -62,8 +67,9 @@ fn write_warning<S: Sink>(line: u64, sink: &mut S) -> Result<(), SinkFault>
 }
 
 fn write_warnings<S: Sink>(lines: &[u64], sink: &mut S) -> Result<(), SinkFault>
-    ensures { Writes (S.failures sink.old, S.taken sink.old) (S.failures sink.new, S.taken sink.new)
+    ensures text { Writes (S.failures sink.old, S.taken sink.old) (S.failures sink.new, S.taken sink.new)
         result (flat_map warning_text lines.now) }
+    ensures stops { OnErr result (IsTrue (S.failed sink.new)) }
 {
     for line in lines {
         write_warning(*line, sink)?;
@@ -73,23 +79,26 @@ fn write_warnings<S: Sink>(lines: &[u64], sink: &mut S) -> Result<(), SinkFault>
 
 /// Writes a line for each option that was ignored, in order.
 pub fn warnings<S: Sink>(read: &Read, sink: &mut S) -> Result<(), SinkFault>
-    ensures { Writes (S.failures sink.old, S.taken sink.old) (S.failures sink.new, S.taken sink.new)
+    ensures text { Writes (S.failures sink.old, S.taken sink.old) (S.failures sink.new, S.taken sink.new)
         result (flat_map warning_text read.now.ignored.items) }
+    ensures stops { OnErr result (IsTrue (S.failed sink.new)) }
 {
     write_warnings(&read.ignored, sink)
 }
 
 fn write_word<S: Sink>(place: usize, tail: &[u8], sink: &mut S) -> Result<(), SinkFault>
-    ensures { Writes (S.failures sink.old, S.taken sink.old)
+    ensures text { Writes (S.failures sink.old, S.taken sink.old)
         (S.failures sink.new, S.taken sink.new) result (word_text place tail.now) }
+    ensures stops { OnErr result (IsTrue (S.failed sink.new)) }
 {
     write_numbered(sink, b"Word ", place as u64, tail)
 }
 
 /// Writes which word is faulty.
 pub fn word_fault<S: Sink>(fault: &WordFault, sink: &mut S) -> Result<(), SinkFault>
-    ensures { Writes (S.failures sink.old, S.taken sink.old)
+    ensures text { Writes (S.failures sink.old, S.taken sink.old)
         (S.failures sink.new, S.taken sink.new) result (word_fault_text fault.now) }
+    ensures stops { OnErr result (IsTrue (S.failed sink.new)) }
 {
     match *fault {
         WordFault::Unknown(n) => write_word(n, b": unknown.\n", sink),

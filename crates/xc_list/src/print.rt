@@ -1,5 +1,5 @@
 //! Solutions as text.
-ghost use Rattle.std.specs.Prelude.{◌≡◌, ℕ, ◌+◌, ◌-◌, ◌<◌, ◌≤◌, ◌++◌, ◌==◌, true, length, All, flat_map, drop, take, is_some, codes, decimal};
+ghost use Rattle.std.specs.Prelude.{◌≡◌, ℕ, ◌+◌, ◌-◌, ◌<◌, ◌≤◌, ◌++◌, ◌==◌, true, length, All, flat_map, drop, take, is_some, OnErr, IsTrue, codes, decimal};
 ghost use Rattle.std.specs.List.{position_or_len};
 ghost use Rattle.xc_list.specs.Texts.{Writes};
 ghost use Rattle.xc_input.specs.Problem.{IsItem, IsPrimary, option_count, uses_of, colour_in};
@@ -36,16 +36,18 @@ fn uses_at<'a>(problem: &'a Problem, o: u32) -> &'a [Use]
 
 fn write_name<S: Sink>(problem: &Problem, i: u32, sink: &mut S) -> Result<(), SinkFault>
     requires { IsItem problem.now.puzzle i }
-    ensures { Writes (S.failures sink.old, S.taken sink.old)
+    ensures text { Writes (S.failures sink.old, S.taken sink.old)
         (S.failures sink.new, S.taken sink.new) result (bytes_at problem.now.names i) }
+    ensures stops { OnErr result (IsTrue (S.failed sink.new)) }
 {
     write_all(sink, name_of(problem, i))
 }
 
 fn write_colour<S: Sink>(problem: &Problem, c: u32, sink: &mut S) -> Result<(), SinkFault>
     requires { c ≤ length problem.now.colours }
-    ensures { Writes (S.failures sink.old, S.taken sink.old)
+    ensures text { Writes (S.failures sink.old, S.taken sink.old)
         (S.failures sink.new, S.taken sink.new) result (colour_text problem.now.colours c) }
+    ensures stops { OnErr result (IsTrue (S.failed sink.new)) }
 {
     if c == 0 {
         return Ok(());
@@ -56,8 +58,9 @@ fn write_colour<S: Sink>(problem: &Problem, c: u32, sink: &mut S) -> Result<(), 
 
 fn write_use<S: Sink>(problem: &Problem, u: &Use, sink: &mut S) -> Result<(), SinkFault>
     requires { IsKnownUse problem.now u.now }
-    ensures { Writes (S.failures sink.old, S.taken sink.old)
+    ensures text { Writes (S.failures sink.old, S.taken sink.old)
         (S.failures sink.new, S.taken sink.new) result (use_text problem.now u.now) }
+    ensures stops { OnErr result (IsTrue (S.failed sink.new)) }
 {
     write_all(sink, b" ")?;
     write_name(problem, u.item, sink)?;
@@ -66,8 +69,9 @@ fn write_use<S: Sink>(problem: &Problem, u: &Use, sink: &mut S) -> Result<(), Si
 
 fn write_uses<S: Sink>(problem: &Problem, uses: &[Use], sink: &mut S) -> Result<(), SinkFault>
     requires { All (IsKnownUse problem.now) uses.now }
-    ensures { Writes (S.failures sink.old, S.taken sink.old)
+    ensures text { Writes (S.failures sink.old, S.taken sink.old)
         (S.failures sink.new, S.taken sink.new) result (flat_map (use_text problem.now) uses.now) }
+    ensures stops { OnErr result (IsTrue (S.failed sink.new)) }
 {
     for u in uses {
         write_use(problem, u, sink)?;
@@ -96,9 +100,10 @@ fn write_option<S: Sink>(
     sink: &mut S,
 ) -> Result<(), SinkFault>
     requires { (1 ≤ o) × (o ≤ option_count problem.now.puzzle) }
-    ensures { Writes (S.failures sink.old, S.taken sink.old)
+    ensures text { Writes (S.failures sink.old, S.taken sink.old)
         (S.failures sink.new, S.taken sink.new)
         result (flat_map (use_text problem.now) (from_item item (uses_of problem.now.puzzle o))) }
+    ensures stops { OnErr result (IsTrue (S.failed sink.new)) }
 {
     let uses = uses_at(problem, o);
     let (before, after) = uses.split_at(place_of(uses, item));
@@ -109,9 +114,10 @@ fn write_option<S: Sink>(
 /// Writes that no option is taken.
 fn write_none<S: Sink>(problem: &Problem, item: u32, sink: &mut S) -> Result<(), SinkFault>
     requires { IsItem problem.now.puzzle item }
-    ensures { Writes (S.failures sink.old, S.taken sink.old)
+    ensures text { Writes (S.failures sink.old, S.taken sink.old)
         (S.failures sink.new, S.taken sink.new)
         result (codes " null " ++ bytes_at problem.now.names item) }
+    ensures stops { OnErr result (IsTrue (S.failed sink.new)) }
 {
     write_all(sink, b" null ")?;
     write_name(problem, item, sink)
@@ -119,9 +125,10 @@ fn write_none<S: Sink>(problem: &Problem, item: u32, sink: &mut S) -> Result<(),
 
 fn write_body<S: Sink>(problem: &Problem, choice: &Choice, sink: &mut S) -> Result<(), SinkFault>
     requires { IsKnownChoice problem.now.puzzle choice.now }
-    ensures { Writes (S.failures sink.old, S.taken sink.old)
+    ensures text { Writes (S.failures sink.old, S.taken sink.old)
         (S.failures sink.new, S.taken sink.new)
         result (body_text problem.now choice.now.item choice.now.option) }
+    ensures stops { OnErr result (IsTrue (S.failed sink.new)) }
 {
     match choice.option {
         Some(o) => write_option(problem, choice.item, o, sink),
@@ -131,8 +138,9 @@ fn write_body<S: Sink>(problem: &Problem, choice: &Choice, sink: &mut S) -> Resu
 
 fn write_choice<S: Sink>(problem: &Problem, choice: &Choice, sink: &mut S) -> Result<(), SinkFault>
     requires { IsKnownChoice problem.now.puzzle choice.now }
-    ensures { Writes (S.failures sink.old, S.taken sink.old)
+    ensures text { Writes (S.failures sink.old, S.taken sink.old)
         (S.failures sink.new, S.taken sink.new) result (choice_text problem.now choice.now) }
+    ensures stops { OnErr result (IsTrue (S.failed sink.new)) }
 {
     write_body(problem, choice, sink)?;
     write_all(sink, b" (")?;
@@ -148,9 +156,10 @@ fn write_choices<S: Sink>(
     sink: &mut S,
 ) -> Result<(), SinkFault>
     requires { All (IsKnownChoice problem.now.puzzle) choices.now }
-    ensures { Writes (S.failures sink.old, S.taken sink.old)
+    ensures text { Writes (S.failures sink.old, S.taken sink.old)
         (S.failures sink.new, S.taken sink.new)
         result (flat_map (choice_text problem.now) choices.now) }
+    ensures stops { OnErr result (IsTrue (S.failed sink.new)) }
 {
     for choice in choices {
         write_choice(problem, choice, sink)?;
@@ -166,9 +175,10 @@ pub fn write_solution<S: Sink>(
     sink: &mut S,
 ) -> Result<(), SinkFault>
     requires { All (IsKnownChoice problem.now.puzzle) choices.now }
-    ensures { Writes (S.failures sink.old, S.taken sink.old)
+    ensures text { Writes (S.failures sink.old, S.taken sink.old)
         (S.failures sink.new, S.taken sink.new)
         result (member_text problem.now (number, choices.now)) }
+    ensures stops { OnErr result (IsTrue (S.failed sink.new)) }
 {
     write_number(sink, number)?;
     write_all(sink, b":\n")?;

@@ -1,13 +1,15 @@
 //! Where bytes go.
-ghost use Rattle.std.specs.Prelude.{◌≡◌, ◌+◌, ◌-◌, ◌^◌, ◌<◌, ◌≤◌, ℕ, List, [], Option, Some, length, IfOk, IfErr, OnErr, is_err, OnOk, vec_capacity};
+ghost use Rattle.std.specs.Prelude.{◌≡◌, ◌+◌, ◌-◌, ◌^◌, ◌<◌, ◌≤◌, ◌↔◌, ℕ, Bool, true, false, List, [], Option, Some, length, min, IfOk, IfErr, IsErr, IsOk, IsTrue, OnErr, is_err, OnOk, vec_capacity};
 ghost use Rattle.std.specs.Io.KnownBytes.{WriteAppends, Keeps};
 ghost use Rattle.xc_input.specs.Calls.{counted, is_failed_write};
 
 use std::alloc::Global;
+use thiserror::Error;
 use xc_dance::Memory;
 
 /// A write that failed.
-#[derive(Clone, Copy, Debug, PartialEq, Eq)]
+#[derive(Clone, Copy, Debug, PartialEq, Eq, Error)]
+#[error("a write failed")]
 pub struct WriteFailed;
 
 /// Where bytes go.
@@ -15,8 +17,14 @@ pub trait Sink {
     /// How many writes and flushes failed so far. The count stays at its last value.
     ghost failures: { Self → ℕ };
 
+    /// Whether its last call failed.
+    ghost failed: { Self → Bool };
+
     /// The bytes that it took, where it tells them.
     ghost taken: { Self → Option (List ℕ) };
+
+    /// Whether nothing that it took is held back.
+    ghost settled: { Self → Bool };
 
     /// Takes bytes from the front, and says how many. To take none of at least one is a failure
     /// too.
@@ -24,12 +32,15 @@ pub trait Sink {
         ensures bound { IfOk result (λ n. n ≤ length bytes.now) }
         ensures failures { failures self.new
             ≡ counted (is_failed_write result bytes.now) (failures self.old) }
+        ensures failed { failed self.new ≡ is_failed_write result bytes.now }
         ensures bytes { WriteAppends (taken self.old) (taken self.new) result bytes.now };
 
     /// Passes on what the sink holds back. It takes no bytes.
     fn flush(&mut self) -> Result<(), WriteFailed>
         ensures failures { failures self.new ≡ counted (is_err result) (failures self.old) }
-        ensures bytes { Keeps (taken self.old) (taken self.new) };
+        ensures failed { failed self.new ≡ is_err result }
+        ensures bytes { Keeps (taken self.old) (taken self.new) }
+        ensures settled { OnOk result (IsTrue (settled self.new)) };
 }
 
 /// A sink over memory. It tells the bytes that it took.
@@ -40,6 +51,7 @@ pub struct Tray {
     room: usize,
     zero: bool,
     failures: u64,
+    failed: bool,
     ghost moves: { 0 < step },
     ghost reserved: { room ≤ vec_capacity bytes },
 }
@@ -49,6 +61,9 @@ impl Tray {
     /// `zero` is set.
     pub fn new(alloc: Global, step: usize, room: usize, zero: bool) -> Result<Tray, Memory>
         requires { 0 < step }
+        ensures step { IfOk result (λ t. t.step ≡ step) }
+        ensures room { IfOk result (λ t. t.room ≡ room) }
+        ensures zero { IfOk result (λ t. t.zero ≡ zero) }
         ensures taken { IfOk result (λ t. ⟦<Tray as Sink>⟧.taken t ≡ Some []) }
         ensures failures { IfOk result (λ t. ⟦<Tray as Sink>⟧.failures t ≡ 0) }
     {
@@ -61,6 +76,7 @@ impl Tray {
             room,
             zero,
             failures: 0,
+            failed: false,
         })
     }
 
@@ -75,12 +91,32 @@ impl Tray {
 impl Sink for Tray {
     ghost failures = { λ s. s.failures };
 
+    ghost failed = { λ s. s.failed };
+
     ghost taken = { λ s. Some s.bytes.items };
 
-    fn write(&mut self, bytes: &[u8]) -> Result<usize, WriteFailed> {
+    ghost settled = { λ s. true };
+
+    fn write(&mut self, bytes: &[u8]) -> Result<usize, WriteFailed>
+        ensures bound { IfOk result (λ n. n ≤ length bytes.now) }
+        ensures failures { self.new.failures
+            ≡ counted (is_failed_write result bytes.now) self.old.failures }
+        ensures failed { self.new.failed ≡ is_failed_write result bytes.now }
+        ensures bytes { WriteAppends (Some self.old.bytes.items) (Some self.new.bytes.items)
+            result bytes.now }
+
+        // It takes as much as it may, and fails only where it may take nothing.
+        ensures takes { IfOk result (λ n.
+            n ≡ min (min (length bytes.now) self.old.step) (self.old.room - length self.old.bytes.items)) }
+        ensures fails { IsErr result ↔ (0 < length bytes.now)
+            × (self.old.room ≤ length self.old.bytes.items) × (self.old.zero ≡ false) }
+        ensures kept { (self.new.step ≡ self.old.step) × (self.new.room ≡ self.old.room)
+            × (self.new.zero ≡ self.old.zero) }
+    {
         let free = self.room.saturating_sub(self.bytes.len());
         let n = bytes.len().min(self.step).min(free);
-        if n == 0 && !bytes.is_empty() {
+        self.failed = n == 0 && !bytes.is_empty();
+        if self.failed {
             self.failures = self.failures.saturating_add(1);
             return if self.zero { Ok(0) } else { Err(WriteFailed) };
         }
@@ -88,7 +124,16 @@ impl Sink for Tray {
         Ok(n)
     }
 
-    fn flush(&mut self) -> Result<(), WriteFailed> {
+    fn flush(&mut self) -> Result<(), WriteFailed>
+        ensures failures { self.new.failures ≡ counted (is_err result) self.old.failures }
+        ensures failed { self.new.failed ≡ is_err result }
+        ensures bytes { Keeps (Some self.old.bytes.items) (Some self.new.bytes.items) }
+        ensures settled { OnOk result (IsTrue true) }
+        ensures succeeds { IsOk result }
+        ensures kept { (self.new.step ≡ self.old.step) × (self.new.room ≡ self.old.room)
+            × (self.new.zero ≡ self.old.zero) }
+    {
+        self.failed = false;
         Ok(())
     }
 }

@@ -2,6 +2,8 @@
 ghost use Rattle.std.specs.Prelude.{◌≡◌, ℕ, ◌+◌, ◌-◌, ◌<◌, ◌≤◌, map, length};
 ghost use Rattle.xc_list.specs.Settings.{number_in, read_word, read_words};
 
+use thiserror::Error;
+
 /// What is asked for: print each solution whose number is a multiple of `spacing`, none where that
 /// is 0, and stop after `limit` solutions.
 #[derive(Clone, Copy, Debug, PartialEq, Eq)]
@@ -11,10 +13,13 @@ pub struct Words {
 }
 
 /// What is wrong with a word, with its place from 1.
-#[derive(Clone, Copy, Debug, PartialEq, Eq)]
+#[derive(Clone, Copy, Debug, PartialEq, Eq, Error)]
 pub enum WordFault {
+    #[error("word {0}: unknown")]
     Unknown(usize),
+    #[error("word {0}: bad number")]
     BadNumber(usize),
+    #[error("word {0}: limit must be at least 1")]
     ZeroLimit(usize),
 }
 

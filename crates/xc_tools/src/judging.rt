@@ -1,9 +1,10 @@
 //! A whole run of the judge.
-ghost use Rattle.std.specs.Prelude.{◌≡◌, ℕ, ◌≤◌, ◌⊎◌, ◌↔◌, None, map, IfSome, flat_map};
+ghost use Rattle.std.specs.Prelude.{◌≡◌, ◌≢◌, ℕ, ◌≤◌, ◌⊎◌, ◌↔◌, None, map, IfSome, IsTrue, OnErr, List, codes, flat_map};
 ghost use Rattle.std.specs.Io.KnownBytes.{Keeps};
 ghost use Rattle.xc_input.specs.Calls.{Rose};
 ghost use Rattle.xc_list.specs.Texts.{Took, WasTold, Writes, Begins};
-ghost use Rattle.xc_tools.specs.Solves.{IsFaultyText};
+ghost use Rattle.xc_input.specs.Pieces.{GaveAll};
+ghost use Rattle.xc_tools.specs.Solves.{IsFaultyText, IsFaultGiven};
 ghost use Rattle.xc_tools.specs.Judges.{asked_kind, numbered_kind, usage_text, verdict_text, judged_status, IsJudged, IsBegun, IsFaulty, StandsForOne};
 
 use crate::messages::{input_error, listing_fault};
@@ -39,8 +40,9 @@ fn asked_kind(words: &[Vec<u8>]) -> Option<Kind>
 }
 
 fn write_verdict<S: Sink>(verdict: &Verdict, sink: &mut S) -> Result<(), SinkFault>
-    ensures { Writes (S.failures sink.old, S.taken sink.old)
+    ensures text { Writes (S.failures sink.old, S.taken sink.old)
         (S.failures sink.new, S.taken sink.new) result (verdict_text verdict.now) }
+    ensures stops { OnErr result (IsTrue (S.failed sink.new)) }
 {
     write_number(sink, verdict.number)?;
     if verdict.cover {
@@ -51,8 +53,9 @@ fn write_verdict<S: Sink>(verdict: &Verdict, sink: &mut S) -> Result<(), SinkFau
 }
 
 fn write_verdicts<S: Sink>(verdicts: &[Verdict], sink: &mut S) -> Result<(), SinkFault>
-    ensures { Writes (S.failures sink.old, S.taken sink.old)
+    ensures text { Writes (S.failures sink.old, S.taken sink.old)
         (S.failures sink.new, S.taken sink.new) result (flat_map verdict_text verdicts.now) }
+    ensures stops { OnErr result (IsTrue (S.failed sink.new)) }
 {
     for verdict in verdicts {
         write_verdict(verdict, sink)?;
@@ -76,10 +79,15 @@ fn judged_status(verdicts: &[Verdict]) -> u8
 /// Writes and flushes the verdicts.
 fn tell_verdicts<O: Sink, E: Sink>(verdicts: &[Verdict], out: &mut O, err: &mut E) -> u8
     ensures only { (result ≡ 0) ⊎ (result ≡ 3) ⊎ (result ≡ 5) }
+    ensures settled { (result ≡ 0) ⊎ (result ≡ 5) → IsTrue (O.settled out.new) }
+    ensures quiet { (result ≡ 0) ⊎ (result ≡ 5) → err.new ≡ err.old }
+    ensures failing { O.failures out.new ≢ O.failures out.old → result ≡ 3 }
     ensures told { (result ≡ 0) ⊎ (result ≡ 5) → (judged_status verdicts.now ≡ result) × Took
         (O.failures out.old, O.taken out.old) (O.failures out.new, O.taken out.new)
         (flat_map verdict_text verdicts.now) }
-    ensures failed { result ≡ 3 → Rose (O.failures out.old) (O.failures out.new) }
+    ensures failed { result ≡ 3 → Rose (O.failures out.old) (O.failures out.new)
+        × IsTrue (O.failed out.new) × WasTold (E.failures err.old, E.taken err.old) (E.failures err.new, E.taken err.new)
+        (codes "Write failed.\n") }
     ensures begins { Begins (O.taken out.old) (O.taken out.new) (flat_map verdict_text verdicts.now) }
 {
     match write_verdicts(verdicts, out) {
@@ -101,15 +109,33 @@ fn judge_listing<L: Source, O: Sink, E: Sink>(
     err: &mut E,
 ) -> u8
     ensures only { (result ≡ 0) ⊎ (result ≡ 2) ⊎ (result ≡ 3) ⊎ (result ≡ 4) ⊎ (result ≡ 5) }
+    ensures settled { (result ≡ 0) ⊎ (result ≡ 5) → IsTrue (O.settled out.new) }
+    ensures quiet { (result ≡ 0) ⊎ (result ≡ 5) → err.new ≡ err.old }
+    ensures judged_given { (result ≡ 0) ⊎ (result ≡ 5) → (lines : List ℕ)
+        × GaveAll (L.given listing.old) (L.given listing.new) lines
+        × IsJudged problem.now result (O.failures out.old, O.taken out.old) (O.failures out.new, O.taken out.new) lines }
+    ensures fault_given { result ≡ 2 → (lines : List ℕ)
+        × GaveAll (L.given listing.old) (L.given listing.new) lines
+        × IsFaulty problem.now (E.failures err.old, E.taken err.old) (E.failures err.new, E.taken err.new) lines }
+    ensures failing { (L.failures listing.new ≢ L.failures listing.old)
+        ⊎ (O.failures out.new ≢ O.failures out.old) → result ≡ 3 }
     ensures clean { (result ≡ 0) ⊎ (result ≡ 5) → (L.failures listing.new ≡ L.failures listing.old)
         × (O.failures out.new ≡ O.failures out.old) }
     ensures judged { (result ≡ 0) ⊎ (result ≡ 5) → IfSome (L.rest listing.old) (IsJudged problem.now result
         (O.failures out.old, O.taken out.old) (O.failures out.new, O.taken out.new)) }
     ensures fault { result ≡ 2 → IfSome (L.rest listing.old) (IsFaulty problem.now
         (E.failures err.old, E.taken err.old) (E.failures err.new, E.taken err.new)) }
-    ensures failed { result ≡ 3 → Rose (L.failures listing.old) (L.failures listing.new)
-        ⊎ Rose (O.failures out.old) (O.failures out.new) }
-    ensures kept { (result ≡ 2) ⊎ (result ≡ 4) → Keeps (O.taken out.old) (O.taken out.new) }
+    ensures failed { result ≡ 3 →
+        (Rose (L.failures listing.old) (L.failures listing.new) × (out.new ≡ out.old)
+        × WasTold (E.failures err.old, E.taken err.old) (E.failures err.new, E.taken err.new)
+        (codes "Read failed.\n"))
+        ⊎ (Rose (O.failures out.old) (O.failures out.new) × IsTrue (O.failed out.new)
+        × WasTold (E.failures err.old, E.taken err.old) (E.failures err.new, E.taken err.new)
+        (codes "Write failed.\n")) }
+    ensures memory { result ≡ 4 → (out.new ≡ out.old)
+        × WasTold (E.failures err.old, E.taken err.old) (E.failures err.new, E.taken err.new)
+        (codes "Out of memory.\n") }
+    ensures unread { (L.failures listing.new ≢ L.failures listing.old) ⊎ (result ≡ 2) → out.new ≡ out.old }
     ensures begins { Keeps (O.taken out.old) (O.taken out.new)
         ⊎ IfSome (L.rest listing.old) (IsBegun problem.now (O.taken out.old) (O.taken out.new)) }
 {
@@ -140,6 +166,24 @@ fn judge_kind<P: Source, L: Source, O: Sink, E: Sink>(
     err: &mut E,
 ) -> u8
     ensures only { (result ≡ 0) ⊎ (result ≡ 2) ⊎ (result ≡ 3) ⊎ (result ≡ 4) ⊎ (result ≡ 5) }
+    ensures settled { (result ≡ 0) ⊎ (result ≡ 5) → IsTrue (O.settled out.new) }
+    ensures quiet { (result ≡ 0) ⊎ (result ≡ 5) → err.new ≡ err.old }
+    ensures judged_given { (result ≡ 0) ⊎ (result ≡ 5) → (text : List ℕ) × (lines : List ℕ)
+        × GaveAll (P.given problem.old) (P.given problem.new) text
+        × GaveAll (L.given listing.old) (L.given listing.new) lines
+        × StandsForOne kind (λ a. IsJudged a result
+        (O.failures out.old, O.taken out.old) (O.failures out.new, O.taken out.new) lines) text }
+    ensures fault_given { result ≡ 2 → IsFaultGiven kind (P.given problem.old) (P.given problem.new)
+        (E.failures err.old, E.taken err.old) (E.failures err.new, E.taken err.new)
+        ⊎ ((text : List ℕ) × (lines : List ℕ)
+        × GaveAll (P.given problem.old) (P.given problem.new) text
+        × GaveAll (L.given listing.old) (L.given listing.new) lines
+        × StandsForOne kind (λ a. IsFaulty a
+        (E.failures err.old, E.taken err.old) (E.failures err.new, E.taken err.new) lines) text) }
+    ensures failing { (P.failures problem.new ≢ P.failures problem.old)
+        ⊎ (L.failures listing.new ≢ L.failures listing.old)
+        ⊎ (O.failures out.new ≢ O.failures out.old) → result ≡ 3 }
+    ensures first { P.failures problem.new ≢ P.failures problem.old → (listing.new ≡ listing.old) × (out.new ≡ out.old) }
     ensures clean { (result ≡ 0) ⊎ (result ≡ 5) → (P.failures problem.new ≡ P.failures problem.old)
         × (L.failures listing.new ≡ L.failures listing.old)
         × (O.failures out.new ≡ O.failures out.old) }
@@ -147,13 +191,25 @@ fn judge_kind<P: Source, L: Source, O: Sink, E: Sink>(
         StandsForOne kind (λ a. IsJudged a result
         (O.failures out.old, O.taken out.old) (O.failures out.new, O.taken out.new) lines) text)) }
     ensures fault { result ≡ 2 → IfSome (P.rest problem.old) (λ text.
-        IsFaultyText kind (E.failures err.old, E.taken err.old) (E.failures err.new, E.taken err.new) text
+        (IsFaultyText kind (E.failures err.old, E.taken err.old) (E.failures err.new, E.taken err.new) text
+        × (listing.new ≡ listing.old))
         ⊎ IfSome (L.rest listing.old) (λ lines. StandsForOne kind (λ a. IsFaulty a
         (E.failures err.old, E.taken err.old) (E.failures err.new, E.taken err.new) lines) text)) }
-    ensures failed { result ≡ 3 → Rose (P.failures problem.old) (P.failures problem.new)
-        ⊎ Rose (L.failures listing.old) (L.failures listing.new)
-        ⊎ Rose (O.failures out.old) (O.failures out.new) }
-    ensures kept { (result ≡ 2) ⊎ (result ≡ 4) → Keeps (O.taken out.old) (O.taken out.new) }
+    ensures failed { result ≡ 3 →
+        (Rose (P.failures problem.old) (P.failures problem.new)
+        × (listing.new ≡ listing.old) × (out.new ≡ out.old)
+        × WasTold (E.failures err.old, E.taken err.old) (E.failures err.new, E.taken err.new)
+        (codes "Read failed.\n"))
+        ⊎ (Rose (L.failures listing.old) (L.failures listing.new) × (out.new ≡ out.old)
+        × WasTold (E.failures err.old, E.taken err.old) (E.failures err.new, E.taken err.new)
+        (codes "Read failed.\n"))
+        ⊎ (Rose (O.failures out.old) (O.failures out.new) × IsTrue (O.failed out.new)
+        × WasTold (E.failures err.old, E.taken err.old) (E.failures err.new, E.taken err.new)
+        (codes "Write failed.\n")) }
+    ensures memory { result ≡ 4 → (out.new ≡ out.old)
+        × WasTold (E.failures err.old, E.taken err.old) (E.failures err.new, E.taken err.new)
+        (codes "Out of memory.\n") }
+    ensures unread { (L.failures listing.new ≢ L.failures listing.old) ⊎ (result ≡ 2) → out.new ≡ out.old }
     ensures begins { Keeps (O.taken out.old) (O.taken out.new)
         ⊎ IfSome (P.rest problem.old) (λ text. IfSome (L.rest listing.old) (λ lines.
         StandsForOne kind (λ a. IsBegun a (O.taken out.old) (O.taken out.new) lines) text)) }
@@ -187,11 +243,16 @@ pub fn judge<P: Source, L: Source, O: Sink, E: Sink>(
 ) -> u8
     ensures only { result ≤ 5 }
 
+    // The words are judged before anything else is touched.
     ensures refused { result ≡ 1 ↔ asked_kind (map (λ w. w.items) words.now) ≡ None }
     ensures refused_told { result ≡ 1 → WasTold
         (E.failures err.old, E.taken err.old) (E.failures err.new, E.taken err.new) usage_text }
+    ensures refused_kept { result ≡ 1 → (problem.new ≡ problem.old) × (listing.new ≡ listing.old)
+        × (out.new ≡ out.old) }
 
-    // The verdicts were taken whole and flushed.
+    // The verdicts were taken whole and flushed, and nothing else was told.
+    ensures settled { (result ≡ 0) ⊎ (result ≡ 5) → IsTrue (O.settled out.new) }
+    ensures quiet { (result ≡ 0) ⊎ (result ≡ 5) → err.new ≡ err.old }
     ensures clean { (result ≡ 0) ⊎ (result ≡ 5) → (P.failures problem.new ≡ P.failures problem.old)
         × (L.failures listing.new ≡ L.failures listing.old)
         × (O.failures out.new ≡ O.failures out.old) }
@@ -202,15 +263,47 @@ pub fn judge<P: Source, L: Source, O: Sink, E: Sink>(
 
     ensures fault { result ≡ 2 → IfSome (asked_kind (map (λ w. w.items) words.now)) (λ kind.
         IfSome (P.rest problem.old) (λ text.
-        IsFaultyText kind (E.failures err.old, E.taken err.old) (E.failures err.new, E.taken err.new) text
+        (IsFaultyText kind (E.failures err.old, E.taken err.old) (E.failures err.new, E.taken err.new) text
+        × (listing.new ≡ listing.old))
         ⊎ IfSome (L.rest listing.old) (λ lines. StandsForOne kind (λ a. IsFaulty a
         (E.failures err.old, E.taken err.old) (E.failures err.new, E.taken err.new) lines) text))) }
-    ensures failed { result ≡ 3 → Rose (P.failures problem.old) (P.failures problem.new)
-        ⊎ Rose (L.failures listing.old) (L.failures listing.new)
-        ⊎ Rose (O.failures out.old) (O.failures out.new) }
 
-    // Nothing was taken without verdicts, and else a beginning of them.
-    ensures kept { (result ≡ 1) ⊎ (result ≡ 2) ⊎ (result ≡ 4) → Keeps (O.taken out.old) (O.taken out.new) }
+    // Whatever fails gives 3 and is told; the problem comes first, and then the listing.
+    ensures judged_given { (result ≡ 0) ⊎ (result ≡ 5) → IfSome (asked_kind (map (λ w. w.items) words.now)) (λ kind.
+        (text : List ℕ) × (lines : List ℕ)
+        × GaveAll (P.given problem.old) (P.given problem.new) text
+        × GaveAll (L.given listing.old) (L.given listing.new) lines
+        × StandsForOne kind (λ a. IsJudged a result
+        (O.failures out.old, O.taken out.old) (O.failures out.new, O.taken out.new) lines) text) }
+    ensures fault_given { result ≡ 2 → IfSome (asked_kind (map (λ w. w.items) words.now)) (λ kind.
+        IsFaultGiven kind (P.given problem.old) (P.given problem.new)
+        (E.failures err.old, E.taken err.old) (E.failures err.new, E.taken err.new)
+        ⊎ ((text : List ℕ) × (lines : List ℕ)
+        × GaveAll (P.given problem.old) (P.given problem.new) text
+        × GaveAll (L.given listing.old) (L.given listing.new) lines
+        × StandsForOne kind (λ a. IsFaulty a
+        (E.failures err.old, E.taken err.old) (E.failures err.new, E.taken err.new) lines) text)) }
+    ensures failing { (P.failures problem.new ≢ P.failures problem.old)
+        ⊎ (L.failures listing.new ≢ L.failures listing.old)
+        ⊎ (O.failures out.new ≢ O.failures out.old) → result ≡ 3 }
+    ensures failed { result ≡ 3 →
+        (Rose (P.failures problem.old) (P.failures problem.new)
+        × (listing.new ≡ listing.old) × (out.new ≡ out.old)
+        × WasTold (E.failures err.old, E.taken err.old) (E.failures err.new, E.taken err.new)
+        (codes "Read failed.\n"))
+        ⊎ (Rose (L.failures listing.old) (L.failures listing.new) × (out.new ≡ out.old)
+        × WasTold (E.failures err.old, E.taken err.old) (E.failures err.new, E.taken err.new)
+        (codes "Read failed.\n"))
+        ⊎ (Rose (O.failures out.old) (O.failures out.new) × IsTrue (O.failed out.new)
+        × WasTold (E.failures err.old, E.taken err.old) (E.failures err.new, E.taken err.new)
+        (codes "Write failed.\n")) }
+    ensures memory { result ≡ 4 → (out.new ≡ out.old)
+        × WasTold (E.failures err.old, E.taken err.old) (E.failures err.new, E.taken err.new)
+        (codes "Out of memory.\n") }
+    ensures first { P.failures problem.new ≢ P.failures problem.old → (listing.new ≡ listing.old) × (out.new ≡ out.old) }
+
+    // Nothing was written without verdicts, and else a beginning of them.
+    ensures unread { (L.failures listing.new ≢ L.failures listing.old) ⊎ (result ≡ 2) → out.new ≡ out.old }
     ensures begins { Keeps (O.taken out.old) (O.taken out.new)
         ⊎ IfSome (asked_kind (map (λ w. w.items) words.now)) (λ kind.
         IfSome (P.rest problem.old) (λ text. IfSome (L.rest listing.old) (λ lines.

@@ -1,5 +1,5 @@
 //! What is told where no problem was read.
-ghost use Rattle.std.specs.Prelude.{◌≡◌, ◌++◌, codes, decimal};
+ghost use Rattle.std.specs.Prelude.{◌≡◌, ◌++◌, OnErr, IsTrue, codes, decimal};
 ghost use Rattle.xc_list.specs.Texts.{Writes};
 ghost use Rattle.xc_tools.specs.Errors.{fault_text, input_error_text};
 ghost use Rattle.xc_tools.specs.Judges.{listing_fault_text};
@@ -33,9 +33,10 @@ fn fault_text(kind: FaultKind) -> &'static [u8]
 }
 
 fn write_fault<S: Sink>(line: u64, kind: FaultKind, sink: &mut S) -> Result<(), SinkFault>
-    ensures { Writes (S.failures sink.old, S.taken sink.old)
+    ensures text { Writes (S.failures sink.old, S.taken sink.old)
         (S.failures sink.new, S.taken sink.new)
         result (codes "Line " ++ decimal line ++ codes ": " ++ fault_text kind ++ codes ".\n") }
+    ensures stops { OnErr result (IsTrue (S.failed sink.new)) }
 {
     write_all(sink, b"Line ")?;
     write_number(sink, line)?;
@@ -46,8 +47,9 @@ fn write_fault<S: Sink>(line: u64, kind: FaultKind, sink: &mut S) -> Result<(), 
 
 /// Writes why no problem was read.
 pub fn input_error<S: Sink>(error: &InputError, sink: &mut S) -> Result<(), SinkFault>
-    ensures { Writes (S.failures sink.old, S.taken sink.old)
+    ensures text { Writes (S.failures sink.old, S.taken sink.old)
         (S.failures sink.new, S.taken sink.new) result (input_error_text error.now) }
+    ensures stops { OnErr result (IsTrue (S.failed sink.new)) }
 {
     match *error {
         InputError::Fault { line, kind } => write_fault(line, kind, sink),
@@ -57,17 +59,19 @@ pub fn input_error<S: Sink>(error: &InputError, sink: &mut S) -> Result<(), Sink
 }
 
 fn write_listing_fault<S: Sink>(line: u64, text: &[u8], sink: &mut S) -> Result<(), SinkFault>
-    ensures { Writes (S.failures sink.old, S.taken sink.old)
+    ensures text { Writes (S.failures sink.old, S.taken sink.old)
         (S.failures sink.new, S.taken sink.new)
         result (codes "Listing line " ++ decimal line ++ text.now) }
+    ensures stops { OnErr result (IsTrue (S.failed sink.new)) }
 {
     write_numbered(sink, b"Listing line ", line, text)
 }
 
 /// Writes why a listing gets no verdicts.
 pub fn listing_fault<S: Sink>(fault: &ListingFault, sink: &mut S) -> Result<(), SinkFault>
-    ensures { Writes (S.failures sink.old, S.taken sink.old)
+    ensures text { Writes (S.failures sink.old, S.taken sink.old)
         (S.failures sink.new, S.taken sink.new) result (listing_fault_text fault.now) }
+    ensures stops { OnErr result (IsTrue (S.failed sink.new)) }
 {
     match *fault {
         ListingFault::BadLine(line) => write_listing_fault(line, b": bad line.\n", sink),

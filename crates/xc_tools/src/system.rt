@@ -1,9 +1,11 @@
 //! The system's streams and files as sources and sinks.
-ghost use Rattle.std.specs.Prelude.{◌≡◌, ◌≤◌, None, is_err};
+ghost use Rattle.std.specs.Prelude.{◌≡◌, ◌+◌, ◌-◌, ◌^◌, ◌<◌, ◌≤◌, true, None, length, nat_eq, is_err, option_map, IfOk, IsErr, IsTrue, OnErr, OnOk, [], ◌∷◌, ◌++◌, take, drop, slice_range};
+ghost use Rattle.std.specs.Io.KnownBytes.{append_known, Appends, Keeps, ReadConsumes};
 ghost use Rattle.xc_input.specs.Calls.{counted};
+ghost use Rattle.xc_tools.specs.Streams.{left_of};
 
 use std::io::{Read, Write};
-use xc_input::{ReadFailed, Source};
+use xc_input::{Given, ReadFailed, Source};
 use xc_list::{Sink, WriteFailed};
 
 /// How many bytes a sink holds back.
@@ -15,15 +17,21 @@ pub struct Incoming<R: Read + Drop> {
     reader: Option<R>,
     left: u64,
     failures: u64,
+    given: Given,
 }
 
 impl<R: Read + Drop> Incoming<R> {
     /// A reader, or `None` for what could not be opened: that fails at the first read.
-    pub fn new(reader: Option<R>) -> Incoming<R> {
+    pub fn new(reader: Option<R>) -> Incoming<R>
+        ensures reader { result.reader ≡ reader }
+        ensures left { result.left ≡ 2 ^ 64 - 1 }
+        ensures failures { result.failures ≡ 0 }
+    {
         Incoming {
             reader,
             left: u64::MAX,
             failures: 0,
+            given: Given::new(),
         }
     }
 }
@@ -33,9 +41,26 @@ impl<R: Read + Drop> Source for Incoming<R> {
 
     ghost limit = { λ s. s.left };
 
-    ghost rest = { λ s. None };
+    ghost rest = { λ s. left_of (option_map R.remaining s.reader) };
 
-    fn read(&mut self, buf: &mut [u8]) -> Result<usize, ReadFailed> {
+    ghost given = { λ s. s.given.lines };
+
+    fn read(&mut self, buf: &mut [u8]) -> Result<usize, ReadFailed>
+        requires { 0 < length buf.old }
+        ensures bound { IfOk result (λ n. n ≤ length buf.new) }
+        ensures limit { IfOk result (λ n. self.new.left + n ≡ self.old.left) }
+        ensures limit_kept { OnErr result (self.new.left ≡ self.old.left) }
+        ensures failures { self.new.failures ≡ counted (is_err result) self.old.failures }
+        ensures bytes { ReadConsumes (left_of (option_map R.remaining self.old.reader))
+            (left_of (option_map R.remaining self.new.reader)) result buf.new }
+        ensures given { IfOk result (λ n.
+            self.new.given.lines ≡ self.old.given.lines ++ take n buf.new ∷ []) }
+        ensures given_kept { OnErr result (self.new.given.lines ≡ self.old.given.lines) }
+
+        // What was not opened fails, and so does a reader that gave all that may be given.
+        ensures missing { self.old.reader ≡ None → IsErr result }
+        ensures spent { self.old.left ≡ 0 → IsErr result }
+    {
         if self.left == 0 {
             self.failures = self.failures.saturating_add(1);
             return Err(ReadFailed);
@@ -53,6 +78,7 @@ impl<R: Read + Drop> Source for Incoming<R> {
         match read {
             Ok(n) => {
                 self.left -= n as u64;
+                self.given = Given::after(&self.given, &buf[..n]);
                 Ok(n)
             }
             Err(_) => {
@@ -63,76 +89,136 @@ impl<R: Read + Drop> Source for Incoming<R> {
     }
 }
 
-/// A writer of the system as a sink that holds some bytes back until it is flushed.
+/// A writer of the system as a sink that holds some bytes back until it is flushed. It keeps what it
+/// could not pass on.
 #[derive(Drop)]
 pub struct Outgoing<W: Write + Drop> {
     writer: W,
     held: [u8; HELD],
-    len: usize,
+    start: usize,
+    end: usize,
     failures: u64,
-    ghost within: { len ≤ 65536 },
+    failed: bool,
+    ghost ordered: { start ≤ end },
+    ghost within: { end ≤ 65536 },
 }
 
-/// Writes all bytes, and says whether that went well. A failed write isn't tried again.
-fn pass_on<W: Write>(writer: &mut W, bytes: &[u8]) -> bool {
-    let mut rest = bytes;
-    while !rest.is_empty() {
-        match writer.write(rest) {
-            Ok(n) if n > 0 => rest = &rest[n..],
-            _ => return false,
+/// Passes on the bytes from a place on, and says up to which place that went. A failed write isn't
+/// tried again.
+fn pass_on<W: Write>(writer: &mut W, bytes: &[u8], from: usize) -> usize
+    requires { from ≤ length bytes.now }
+    ensures within { (from ≤ result) × (result ≤ length bytes.now) }
+    ensures passed { Appends (W.contents writer.old) (W.contents writer.new)
+        (slice_range bytes.now from result) }
+{
+    let mut place = from;
+    while place < bytes.len() {
+        match writer.write(&bytes[place..]) {
+            Ok(n) if n > 0 => place += n,
+            _ => return place,
         }
     }
-    true
+    place
 }
 
 impl<W: Write + Drop> Outgoing<W> {
     /// A sink with nothing held back.
-    pub fn new(writer: W) -> Outgoing<W> {
+    pub fn new(writer: W) -> Outgoing<W>
+        ensures writer { result.writer ≡ writer }
+        ensures start { result.start ≡ 0 }
+        ensures end { result.end ≡ 0 }
+        ensures failures { result.failures ≡ 0 }
+    {
         Outgoing {
             writer,
             held: [0; HELD],
-            len: 0,
+            start: 0,
+            end: 0,
             failures: 0,
+            failed: false,
         }
     }
 
-    /// Passes on what is held back, and forgets it.
-    fn pass_held(&mut self) -> Result<(), WriteFailed>
-        ensures emptied { self.new.len ≡ 0 }
-        ensures failures { self.new.failures ≡ counted (is_err result) self.old.failures }
+    /// Counts a failure.
+    fn fail(&mut self) -> WriteFailed
+        ensures writer { self.new.writer ≡ self.old.writer }
+        ensures held { self.new.held ≡ self.old.held }
+        ensures start { self.new.start ≡ self.old.start }
+        ensures end { self.new.end ≡ self.old.end }
+        ensures failures { self.new.failures ≡ counted true self.old.failures }
+        ensures failed { IsTrue self.new.failed }
     {
-        let n = self.len;
-        self.len = 0;
-        if pass_on(&mut self.writer, &self.held[..n]) {
-            Ok(())
-        } else {
-            self.failures = self.failures.saturating_add(1);
-            Err(WriteFailed)
-        }
+        self.failures = self.failures.saturating_add(1);
+        self.failed = true;
+        WriteFailed
     }
+
+    /// Passes on what is held back.
+    fn pass_held(&mut self) -> Result<(), WriteFailed>
+        ensures emptied { OnOk result ((self.new.start ≡ 0) × (self.new.end ≡ 0)) }
+        ensures failures { self.new.failures ≡ counted (is_err result) self.old.failures }
+        ensures failed { OnErr result (IsTrue self.new.failed) }
+        ensures bytes { Keeps
+            (append_known (W.contents self.old.writer) (slice_range self.old.held self.old.start self.old.end))
+            (append_known (W.contents self.new.writer) (slice_range self.new.held self.new.start self.new.end)) }
+    {
+        self.start = pass_on(&mut self.writer, &self.held[..self.end], self.start);
+        if self.start < self.end {
+            return Err(self.fail());
+        }
+        self.start = 0;
+        self.end = 0;
+        Ok(())
+    }
+
+    /// Passes on what is held back where there is no room for more.
+    fn make_room(&mut self) -> Result<(), WriteFailed>
+        ensures room { OnOk result (self.new.end < 65536) }
+        ensures failures { self.new.failures ≡ counted (is_err result) self.old.failures }
+        ensures failed { OnErr result (IsTrue self.new.failed) }
+        ensures bytes { Keeps
+            (append_known (W.contents self.old.writer) (slice_range self.old.held self.old.start self.old.end))
+            (append_known (W.contents self.new.writer) (slice_range self.new.held self.new.start self.new.end)) }
+    {
+        if self.end < HELD {
+            return Ok(());
+        }
+        self.pass_held()
+    }
+}
+
+/// Puts bytes in the place of others.
+fn put(held: &mut [u8], at: usize, bytes: &[u8])
+    requires { at + length bytes.now ≤ length held.old }
+    ensures { held.new ≡ take at held.old ++ bytes.now ++ drop (at + length bytes.now) held.old }
+{
+    held[at..at + bytes.len()].copy_from_slice(bytes);
 }
 
 impl<W: Write + Drop> Sink for Outgoing<W> {
     ghost failures = { λ s. s.failures };
 
-    ghost taken = { λ s. None };
+    ghost failed = { λ s. s.failed };
+
+    ghost taken = { λ s. append_known (W.contents s.writer) (slice_range s.held s.start s.end) };
+
+    ghost settled = { λ s. nat_eq s.start s.end };
 
     fn write(&mut self, bytes: &[u8]) -> Result<usize, WriteFailed> {
-        if self.len == HELD {
-            self.pass_held()?;
-        }
-        let n = bytes.len().min(HELD - self.len);
-        self.held[self.len..self.len + n].copy_from_slice(&bytes[..n]);
-        self.len += n;
+        self.make_room()?;
+        let n = bytes.len().min(HELD - self.end);
+        put(&mut self.held, self.end, &bytes[..n]);
+        self.end += n;
+        self.failed = false;
         Ok(n)
     }
 
     fn flush(&mut self) -> Result<(), WriteFailed> {
         self.pass_held()?;
         if self.writer.flush().is_err() {
-            self.failures = self.failures.saturating_add(1);
-            return Err(WriteFailed);
+            return Err(self.fail());
         }
+        self.failed = false;
         Ok(())
     }
 }
@@ -142,40 +228,58 @@ impl<W: Write + Drop> Sink for Outgoing<W> {
 pub struct Direct<W: Write + Drop> {
     writer: W,
     failures: u64,
+    failed: bool,
 }
 
 impl<W: Write + Drop> Direct<W> {
     /// A sink over the writer.
-    pub fn new(writer: W) -> Direct<W> {
+    pub fn new(writer: W) -> Direct<W>
+        ensures writer { result.writer ≡ writer }
+        ensures failures { result.failures ≡ 0 }
+    {
         Direct {
             writer,
             failures: 0,
+            failed: false,
         }
+    }
+
+    /// Counts a failure.
+    fn fail(&mut self) -> WriteFailed
+        ensures writer { self.new.writer ≡ self.old.writer }
+        ensures failures { self.new.failures ≡ counted true self.old.failures }
+        ensures failed { IsTrue self.new.failed }
+    {
+        self.failures = self.failures.saturating_add(1);
+        self.failed = true;
+        WriteFailed
     }
 }
 
 impl<W: Write + Drop> Sink for Direct<W> {
     ghost failures = { λ s. s.failures };
 
-    ghost taken = { λ s. None };
+    ghost failed = { λ s. s.failed };
+
+    ghost taken = { λ s. W.contents s.writer };
+
+    ghost settled = { λ s. true };
 
     fn write(&mut self, bytes: &[u8]) -> Result<usize, WriteFailed> {
         match self.writer.write(bytes) {
-            Ok(n) if n > 0 || bytes.is_empty() => Ok(n),
-            _ => {
-                self.failures = self.failures.saturating_add(1);
-                Err(WriteFailed)
+            Ok(n) if n > 0 || bytes.is_empty() => {
+                self.failed = false;
+                Ok(n)
             }
+            _ => Err(self.fail()),
         }
     }
 
     fn flush(&mut self) -> Result<(), WriteFailed> {
-        match self.writer.flush() {
-            Ok(()) => Ok(()),
-            Err(_) => {
-                self.failures = self.failures.saturating_add(1);
-                Err(WriteFailed)
-            }
+        if self.writer.flush().is_err() {
+            return Err(self.fail());
         }
+        self.failed = false;
+        Ok(())
     }
 }

@@ -1,6 +1,7 @@
 //! Reads a whole text.
 ghost use Rattle.std.specs.Prelude.{◌≡◌, length, IfOk, IfSome, MatchResult};
 ghost use Rattle.xc_input.specs.Calls.{Rose};
+ghost use Rattle.xc_input.specs.Pieces.{GaveAll};
 ghost use Rattle.xc_tools.specs.WholeTexts.{IsCounted};
 
 use std::alloc::{AllocError, Global};
@@ -19,6 +20,7 @@ pub(crate) enum TextError {
 /// All that a source gives.
 pub(crate) fn read_text<S: Source>(alloc: Global, source: &mut S) -> Result<Vec<u8>, TextError>
     ensures text { IfSome (S.rest source.old) (λ bytes. IfOk result (λ text. text.items ≡ bytes)) }
+    ensures whole { IfOk result (λ text. GaveAll (S.given source.old) (S.given source.new) text.items) }
     ensures counted { IsCounted (S.failures source.old) (S.failures source.new) result }
 {
     let mut text = Vec::new(alloc);
