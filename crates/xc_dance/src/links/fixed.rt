@@ -71,28 +71,28 @@ impl Fixed {
     }
 
     /// How many items there are.
-    #[inline]
+    #[inline(always)]
     pub(crate) fn items(&self) -> u32
         ensures { result ≡ item_count self.now }
     {
         self.items
     }
 
-    #[inline]
+    #[inline(always)]
     pub(crate) fn is_item(&self, item: u32) -> bool
         ensures { IsTrue result ↔ IsItem self.now item }
     {
         1 <= item && item <= self.items
     }
 
-    #[inline]
+    #[inline(always)]
     pub(crate) fn is_primary(&self, item: u32) -> bool
         ensures { IsTrue result ↔ IsPrimary self.now item }
     {
         1 <= item && item <= self.primary
     }
 
-    #[inline]
+    #[inline(always)]
     pub(crate) fn is_secondary(&self, item: u32) -> bool
         ensures { IsTrue result ↔ IsSecondary self.now item }
     {
@@ -107,7 +107,7 @@ impl Fixed {
     }
 
     /// Where the option of each node stands; an empty span for what is no use.
-    #[inline]
+    #[inline(always)]
     pub(crate) fn spans(&self) -> &[Span]
         ensures { result.now ≡ spans_of self.now }
     {
@@ -115,7 +115,7 @@ impl Fixed {
     }
 
     /// The option of the node at a place; 0 for what is no use.
-    #[inline]
+    #[inline(always)]
     pub(crate) fn option(&self, place: u32) -> u32
         requires { place < length (layout self.now) }
         ensures { result ≡ slice_index (options_of self.now) place }
@@ -124,7 +124,7 @@ impl Fixed {
     }
 
     /// Where the nodes of an option start.
-    #[inline]
+    #[inline(always)]
     pub(crate) fn start(&self, option: u32) -> u32
         requires { (1 ≤ option) × (option ≤ option_count self.now) }
         ensures { result ≡ start_at self.now (option - 1) }
