@@ -21,6 +21,7 @@ pub mod Fits
 pub mod LeftChoice
 pub mod Members
 pub mod MoveSteps
+pub mod Newest
 pub mod NextOption
 pub mod Numbering
 pub mod Once

@@ -9,6 +9,7 @@ use xc_input::Problem;
 /// The number of branches of item `i`, an open primary item of the dance's problem: one for each
 /// option of its list, less what the item still has to be held beyond one, and one more for the
 /// branch of none where it need not be held. With both bounds 1 it is the length of the list.
+#[inline(always)]
 pub fn branches<D: Dance>(dance: &D, problem: &Problem, i: u32) -> u32
     requires same { D.problem dance.now ≡ problem.now.puzzle }
     requires open { IsOpenPrimary problem.now.puzzle (D.trail dance.now) i }

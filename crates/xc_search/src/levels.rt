@@ -1,5 +1,5 @@
 //! The levels of the search.
-ghost use Rattle.std.specs.Prelude.{◌≡◌, ◌<◌, ◌≤◌, length, [], ◌∷◌, true, false};
+ghost use Rattle.std.specs.Prelude.{◌≡◌, ◌<◌, ◌≤◌, length, [], ◌∷◌, drop, true, false};
 ghost use Rattle.xc_search.specs.Room.{room_for, level_limit};
 ghost use Rattle.xc_search.specs.Stack.{AreStacked, IsStanding, coming};
 ghost use Rattle.xc_search.specs.Ahead.{IsReached, IsDeepened, IsTurned};
@@ -12,6 +12,7 @@ use xc_dance::Dance;
 use xc_input::Problem;
 
 /// Begins a level where what is left wasn't searched yet. False: no item is left, and the choices of the levels are a solution.
+#[inline(always)]
 fn deepen<D: Dance>(dance: &mut D, problem: &Problem, stack: &mut Stack, down: bool) -> bool
     requires same { D.problem dance.old ≡ problem.now.puzzle }
     requires standing { IsStanding problem.now.puzzle (D.trail dance.old) stack.old.levels down }
@@ -34,24 +35,26 @@ fn deepen<D: Dance>(dance: &mut D, problem: &Problem, stack: &mut Stack, down: b
     true
 }
 
-/// Begins the next branch of a level, or ends it. The answer says whether a branch was begun.
+/// Begins the next branch of the newest level, or ends it. The answer says whether a branch was begun.
+#[inline(always)]
 fn turn<D: Dance>(dance: &mut D, problem: &Problem, stack: &mut Stack, level: Level) -> bool
     requires same { D.problem dance.old ≡ problem.now.puzzle }
-    requires stacked { AreStacked problem.now.puzzle (D.trail dance.old) (level ∷ stack.old.levels) }
+    requires top { stack.old.levels ≡ level ∷ drop 1 stack.old.levels }
+    requires stacked { AreStacked problem.now.puzzle (D.trail dance.old) (level ∷ drop 1 stack.old.levels) }
     requires room { room_for problem.now.puzzle ≤ D.limit dance.old }
-    requires levels_fit { length stack.old.levels < stack.old.room }
     ensures problem { D.problem dance.new ≡ D.problem dance.old }
     ensures limit { D.limit dance.new ≡ D.limit dance.old }
     ensures stack_room { stack.new.room ≡ stack.old.room }
-    ensures turned { IsTurned problem.now.puzzle (D.trail dance.old) level stack.old.levels (D.trail dance.new) stack.new.levels result }
+    ensures turned { IsTurned problem.now.puzzle (D.trail dance.old) level (drop 1 stack.old.levels) (D.trail dance.new) stack.new.levels result }
 {
     undo_to(dance, level.base);
     if level.begun >= level.count {
         close_level(dance, level.tweaks, level.mark);
+        stack.pop();
         return false;
     }
     let next = begin(dance, problem, level);
-    stack.push(next);
+    stack.replace_top(next);
     true
 }
 
@@ -72,7 +75,7 @@ pub fn advance<D: Dance>(dance: &mut D, problem: &Problem, stack: &mut Stack, do
         if !deepen(dance, problem, stack, descends) {
             return true;
         }
-        let Some(level) = stack.pop() else {
+        let Some(level) = stack.top() else {
             return false;
         };
         descends = turn(dance, problem, stack, level);
@@ -86,9 +89,10 @@ pub fn unwind<D: Dance>(dance: &mut D, mut stack: Stack)
     ensures limit { D.limit dance.new ≡ D.limit dance.old }
     ensures none { D.trail dance.new ≡ [] }
 {
-    while let Some(level) = stack.pop() {
+    while let Some(level) = stack.top() {
         undo_to(dance, level.base);
         close_level(dance, level.tweaks, level.mark);
+        stack.pop();
     }
     undo_to(dance, 0);
 }

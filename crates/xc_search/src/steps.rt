@@ -9,6 +9,7 @@ use xc_dance::{Dance, Move};
 use xc_input::{Problem, Use};
 
 /// Undoes moves until only the oldest `mark` stand.
+#[inline(always)]
 pub fn undo_to<D: Dance>(dance: &mut D, mark: usize)
     requires { mark ≤ length (D.trail dance.old) }
     ensures problem { D.problem dance.new ≡ D.problem dance.old }
@@ -21,6 +22,7 @@ pub fn undo_to<D: Dance>(dance: &mut D, mark: usize)
 }
 
 /// Makes a move that is legal and has room.
+#[inline(always)]
 pub fn make<D: Dance>(dance: &mut D, m: Move)
     requires legal { IsLegal (D.problem dance.old) (D.trail dance.old) m }
     requires room { length (D.trail dance.old) < D.limit dance.old }
@@ -32,6 +34,7 @@ pub fn make<D: Dance>(dance: &mut D, m: Move)
 }
 
 /// Spends an item, and covers it where its bound is then used up.
+#[inline(always)]
 pub fn open_level<D: Dance>(dance: &mut D, i: u32)
     requires legal { AreLegal (D.problem dance.old) (opened (D.problem dance.old) i (D.trail dance.old)) }
     requires room { length (opened (D.problem dance.old) i (D.trail dance.old)) ≤ D.limit dance.old }
@@ -46,6 +49,7 @@ pub fn open_level<D: Dance>(dance: &mut D, i: u32)
 }
 
 /// Commits a use of a taken option.
+#[inline(always)]
 pub fn commit_use<D: Dance>(dance: &mut D, problem: &Problem, u: Use)
     requires same { D.problem dance.old ≡ problem.now.puzzle }
     requires item { IsItem problem.now.puzzle u.item }
