@@ -1,11 +1,14 @@
 -- The branch item by a walk over the open items.
-use Rattle.std.proofs.Common.{ℕ, ◌≡◌, Bool, false, cond, ltb, nat_lt, List, [], ◌∷◌, map, filter, Some, None, refl, sym, ap, ◌∙◌, arith, le-ltb}
+use Rattle.std.proofs.Common.{ℕ, ◌≡◌, ◌-◌, Bool, false, cond, ltb, nat_lt, List, [], ◌∷◌, map, filter, Some, None, refl, sym, ap, ◌∙◌, arith, le-ltb}
 use Rattle.std.specs.Prelude.{option_map}
 use Rattle.std.specs.List.{range_with_len, best_of}
 use Rattle.xc_dance.specs.declared.dance.Move.{Move}
-use Rattle.xc_input.specs.Problem.{Puzzle, primary_count}
+use Rattle.xc_input.specs.Problem.{Puzzle, primary_count, low_at}
 use Rattle.xc_search.specs.Listing.{Wanted, first_least}
-use Rattle.xc_dance.specs.Moves.{next_above, is_open, open_items, IsOpenPrimary}
+use Rattle.xc_search.specs.Room.{IsOnce}
+use Rattle.xc_search.specs.Stack.{AreAllWanted}
+use Rattle.xc_search.proofs.ReadyLeft.{has_left}
+use Rattle.xc_dance.specs.Moves.{next_above, is_open, open_items, spends, IsOpenPrimary}
 use Rattle.xc_search.specs.Residuals.{wanted_at, wanted_after, branches_after, choice_after}
 use Rattle.xc_dance.specs.Rising.{Rises}
 use Rattle.xc_dance.proofs.MoveLemmas.ListLemmas.{Rises-range, Rises-filter, above_all, next_above-split, next_above-none, found_open}
@@ -65,3 +68,9 @@ pub choice_done : (p : Puzzle) (t : List Move) (i n count : ℕ) →
     count ≡ branches_after p t (wanted_at p t i) → best_from p t (wanted_at p t i) (filter (λ j. ltb n j) (open_items p t)) ≡ wanted_at p t i → Some (i, count) ≡ choice_after p t
 choice_done p t i n count best counted stays =
     ap (λ c. Some (i, c)) counted ∙ sym (ap (λ o. option_map (λ w. (w.item, branches_after p t w)) o) (best ∙ ap Some stays))
+
+-- where each is to be held once, an open item is to be held once more
+pub once_more : (p : Puzzle) (t : List Move) (i : ℕ) → IsOnce p × AreAllWanted (wanted_after p t) → IsOpenPrimary p t i → low_at p i - spends i t ≡ 1
+once_more p t i h o =
+    let bounds = h.0 i o.0 in
+    omega (arith, bounds.0, bounds.1, has_left p t i h.1 o.0 o.1)

@@ -1,7 +1,10 @@
 //! The branch item: the open primary item with the fewest branches.
-ghost use Rattle.std.specs.Prelude.{◌≡◌};
-ghost use Rattle.xc_dance.specs.Moves.{IsOpenPrimary};
-ghost use Rattle.xc_search.specs.Residuals.{branches_after, wanted_at, choice_after};
+ghost use Rattle.std.specs.Prelude.{◌≡◌, ◌-◌, true};
+ghost use Rattle.xc_input.specs.Problem.{low_at};
+ghost use Rattle.xc_dance.specs.Moves.{IsOpenPrimary, spends};
+ghost use Rattle.xc_search.specs.Residuals.{branches_after, wanted_at, wanted_after, choice_after};
+ghost use Rattle.xc_search.specs.Room.{IsOnce};
+ghost use Rattle.xc_search.specs.Stack.{AreAllWanted};
 
 use xc_dance::Dance;
 use xc_input::Problem;
@@ -33,19 +36,58 @@ pub fn choose<D: Dance>(dance: &D, problem: &Problem) -> Option<(u32, u32)>
     requires same { D.problem dance.now ≡ problem.now.puzzle }
     ensures { result ≡ choice_after problem.now.puzzle (D.trail dance.now) }
 {
+    choose_by(dance, problem, false)
+}
+
+/// Does what `choose` does. `once`: each primary item is to be held exactly once, and those that are
+/// open aren't held yet. Then the pass over the items reads no bounds.
+#[inline(always)]
+pub fn choose_next<D: Dance>(dance: &D, problem: &Problem, once: bool) -> Option<(u32, u32)>
+    requires same { D.problem dance.now ≡ problem.now.puzzle }
+    requires once { once ≡ true → IsOnce problem.now.puzzle × AreAllWanted (wanted_after problem.now.puzzle (D.trail dance.now)) }
+    ensures { result ≡ choice_after problem.now.puzzle (D.trail dance.now) }
+{
+    if once {
+        choose_by(dance, problem, true)
+    } else {
+        choose_by(dance, problem, false)
+    }
+}
+
+/// The number of branches of an open item; if `once`, it is to be held exactly once more.
+#[inline(always)]
+fn count<D: Dance>(dance: &D, problem: &Problem, i: u32, once: bool) -> u32
+    requires same { D.problem dance.now ≡ problem.now.puzzle }
+    requires open { IsOpenPrimary problem.now.puzzle (D.trail dance.now) i }
+    requires once { once ≡ true → low_at problem.now.puzzle i - spends i (D.trail dance.now) ≡ 1 }
+    ensures { result ≡ branches_after problem.now.puzzle (D.trail dance.now) (wanted_at problem.now.puzzle (D.trail dance.now) i) }
+{
+    if once {
+        dance.len(i)
+    } else {
+        branches(dance, problem, i)
+    }
+}
+
+#[inline(always)]
+fn choose_by<D: Dance>(dance: &D, problem: &Problem, once: bool) -> Option<(u32, u32)>
+    requires same { D.problem dance.now ≡ problem.now.puzzle }
+    requires once { once ≡ true → IsOnce problem.now.puzzle × AreAllWanted (wanted_after problem.now.puzzle (D.trail dance.now)) }
+    ensures { result ≡ choice_after problem.now.puzzle (D.trail dance.now) }
+{
     let mut item = dance.open_after(0)?;
-    let mut count = branches(dance, problem, item);
+    let mut fewest = count(dance, problem, item, once);
     let mut at = item;
-    while count > 0 {
+    while fewest > 0 {
         let Some(next) = dance.open_after(at) else {
-            return Some((item, count));
+            return Some((item, fewest));
         };
-        let n = branches(dance, problem, next);
-        if n < count {
+        let n = count(dance, problem, next, once);
+        if n < fewest {
             item = next;
-            count = n;
+            fewest = n;
         }
         at = next;
     }
-    Some((item, count))
+    Some((item, fewest))
 }

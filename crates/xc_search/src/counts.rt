@@ -1,6 +1,6 @@
 //! How many moves and levels a search has at most.
-ghost use Rattle.std.specs.Prelude.{◌≡◌, ◌≤◌};
-ghost use Rattle.xc_search.specs.Room.{room_for, use_count, high_total, level_limit};
+ghost use Rattle.std.specs.Prelude.{◌≡◌, ◌≤◌, true};
+ghost use Rattle.xc_search.specs.Room.{room_for, use_count, high_total, level_limit, IsOnce};
 
 use xc_input::Problem;
 
@@ -44,4 +44,18 @@ pub fn most_levels(problem: &Problem) -> usize
     let _items = problem.items();
     let by_size = problem.options() as usize + problem.primary() as usize;
     by_size.min(count_spends(problem))
+}
+
+/// Whether each primary item is to be held exactly once.
+pub fn is_once(problem: &Problem) -> bool
+    ensures { result ≡ true → IsOnce problem.now.puzzle }
+{
+    let _items = problem.items();
+    for i in 0..problem.primary() {
+        let item = problem.item(i + 1);
+        if item.low != 1 || item.high != 1 {
+            return false;
+        }
+    }
+    true
 }

@@ -1,10 +1,10 @@
 //! The levels of the search.
 ghost use Rattle.std.specs.Prelude.{◌≡◌, ◌<◌, ◌≤◌, length, [], ◌∷◌, drop, true, false};
-ghost use Rattle.xc_search.specs.Room.{room_for, level_limit};
+ghost use Rattle.xc_search.specs.Room.{room_for, level_limit, IsOnce};
 ghost use Rattle.xc_search.specs.Stack.{AreStacked, IsStanding, coming};
 ghost use Rattle.xc_search.specs.Ahead.{IsReached, IsDeepened, IsTurned};
 
-use crate::branch_item::choose;
+use crate::branch_item::choose_next;
 use crate::level::{Level, begin, descend};
 use crate::stack::Stack;
 use crate::steps::{close_level, undo_to};
@@ -13,8 +13,15 @@ use xc_input::Problem;
 
 /// Begins a level where what is left wasn't searched yet. False: no item is left, and the choices of the levels are a solution.
 #[inline(always)]
-fn deepen<D: Dance>(dance: &mut D, problem: &Problem, stack: &mut Stack, down: bool) -> bool
+fn deepen<D: Dance>(
+    dance: &mut D,
+    problem: &Problem,
+    stack: &mut Stack,
+    down: bool,
+    once: bool,
+) -> bool
     requires same { D.problem dance.old ≡ problem.now.puzzle }
+    requires once { once ≡ true → IsOnce problem.now.puzzle }
     requires standing { IsStanding problem.now.puzzle (D.trail dance.old) stack.old.levels down }
     requires room { room_for problem.now.puzzle ≤ D.limit dance.old }
     requires levels_fit { level_limit problem.now.puzzle ≤ stack.old.room }
@@ -27,7 +34,7 @@ fn deepen<D: Dance>(dance: &mut D, problem: &Problem, stack: &mut Stack, down: b
     if !down {
         return true;
     }
-    let Some((item, count)) = choose(dance, problem) else {
+    let Some((item, count)) = choose_next(dance, problem, once) else {
         return false;
     };
     let level = descend(dance, problem, item, count);
@@ -58,9 +65,17 @@ fn turn<D: Dance>(dance: &mut D, problem: &Problem, stack: &mut Stack, level: Le
     true
 }
 
-/// Goes on to the next solution, or to the end.
-pub fn advance<D: Dance>(dance: &mut D, problem: &Problem, stack: &mut Stack, down: bool) -> bool
+/// Goes on to the next solution, or to the end. `once` says that each primary item is to be held
+/// exactly once.
+pub fn advance<D: Dance>(
+    dance: &mut D,
+    problem: &Problem,
+    stack: &mut Stack,
+    down: bool,
+    once: bool,
+) -> bool
     requires same { D.problem dance.old ≡ problem.now.puzzle }
+    requires once { once ≡ true → IsOnce problem.now.puzzle }
     requires standing { IsStanding problem.now.puzzle (D.trail dance.old) stack.old.levels down }
     requires room { room_for problem.now.puzzle ≤ D.limit dance.old }
     requires levels_fit { level_limit problem.now.puzzle ≤ stack.old.room }
@@ -72,7 +87,7 @@ pub fn advance<D: Dance>(dance: &mut D, problem: &Problem, stack: &mut Stack, do
 {
     let mut descends = down;
     loop {
-        if !deepen(dance, problem, stack, descends) {
+        if !deepen(dance, problem, stack, descends, once) {
             return true;
         }
         let Some(level) = stack.top() else {

@@ -4,7 +4,7 @@ ghost use Rattle.xc_search.specs.Room.{room_for};
 ghost use Rattle.xc_search.specs.Cover.{members, EachMemberCovers, EachCoverIsListedOnce};
 
 use crate::choice::Choice;
-use crate::counts::most_levels;
+use crate::counts::{is_once, most_levels};
 use crate::levels::{advance, unwind};
 use crate::stack::Stack;
 use std::alloc::Global;
@@ -29,12 +29,14 @@ pub struct Search<'a, D: Dance> {
     stack: Stack,
     /// What is left wasn't searched yet.
     down: bool,
+    /// Each primary item is to be held exactly once.
+    once: bool,
 }
 
 impl<'a, D: Dance> Model for Search<'a, D> {
-    ghost use Rattle.std.specs.Prelude.{◌≡◌, ◌≤◌};
+    ghost use Rattle.std.specs.Prelude.{◌≡◌, ◌≤◌, true};
     ghost use Rattle.xc_search.specs.Outlook.{Outlook};
-    ghost use Rattle.xc_search.specs.Room.{room_for, level_limit};
+    ghost use Rattle.xc_search.specs.Room.{room_for, level_limit, IsOnce};
     ghost use Rattle.xc_search.specs.Stack.{choices_of, coming, IsStanding};
 
     ghost Value = { Outlook };
@@ -51,6 +53,7 @@ impl<'a, D: Dance> Model for Search<'a, D> {
       standing : IsStanding s.problem.now.puzzle (D.trail s.dance) s.stack.levels s.down;
       moves_fit : room_for s.problem.now.puzzle ≤ D.limit s.dance;
       levels_fit : level_limit s.problem.now.puzzle ≤ s.stack.room;
+      once : s.once ≡ true → IsOnce s.problem.now.puzzle;
     } };
 }
 
@@ -79,6 +82,7 @@ impl<'a, D: Dance> Search<'a, D> {
             problem,
             stack,
             down: true,
+            once: is_once(problem),
         })
     }
 
@@ -99,7 +103,13 @@ impl<'a, D: Dance> Search<'a, D> {
     {
         let down = self.down;
         self.down = false;
-        if advance(&mut self.dance, self.problem, &mut self.stack, down) {
+        if advance(
+            &mut self.dance,
+            self.problem,
+            &mut self.stack,
+            down,
+            self.once,
+        ) {
             Step::Solution
         } else {
             Step::Done
@@ -117,6 +127,7 @@ impl<'a, D: Dance> Search<'a, D> {
             problem: _,
             stack,
             down: _,
+            once: _,
         } = self;
         unwind(&mut dance, stack);
         dance

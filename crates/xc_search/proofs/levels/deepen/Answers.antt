@@ -11,7 +11,7 @@ returns-in_default-clause-reached g c _ =
     let p = c.args.problem.now.puzzle in
     let t = g.D.Dance.trail c.args.dance.now in
     let ls = c.args.stack.now.levels in
-    let e : choice_after p t ≡ None = cc (c.choose.ensures, c.in_default.is) in
+    let e : choice_after p t ≡ None = cc (c.choose_next.ensures, c.in_default.is) in
     record {
       members = finds p t ls c.args.down c.requires.standing c.if-not-down.false e;
       stacked = c.requires.standing.stacked;
@@ -21,7 +21,7 @@ pub descend-level-requires-clause-node : goal.descend-level-requires-clause-node
 descend-level-requires-clause-node g c =
     let p = c.args.problem.now.puzzle in
     let t = g.D.Dance.trail c.args.dance.now in
-    let e : choice_after p t ≡ Some (c.in-Some.item, c.in-Some.count) = cc (c.choose.ensures, c.in-Some.is) in
+    let e : choice_after p t ≡ Some (c.in-Some.item, c.in-Some.count) = cc (c.choose_next.ensures, c.in-Some.is) in
     node_at p t c.args.stack.now.levels c.args.down c.in-Some.item c.in-Some.count c.requires.standing c.if-not-down.false e
 
 pub returns-clause-deeper : goal.returns-clause-deeper
@@ -29,7 +29,7 @@ returns-clause-deeper g c _ =
     let p = c.args.problem.now.puzzle in
     let t = g.D.Dance.trail c.args.dance.now in
     let ls = c.args.stack.now.levels in
-    let e : choice_after p t ≡ Some (c.in-Some.item, c.in-Some.count) = cc (c.choose.ensures, c.in-Some.is) in
+    let e : choice_after p t ≡ Some (c.in-Some.item, c.in-Some.count) = cc (c.choose_next.ensures, c.in-Some.is) in
     deepens p t ls c.args.down c.in-Some.item c.in-Some.count (g.D.Dance.trail c.descend-level.new.dance) c.descend-level.result c.push.new.self.levels
     c.requires.standing c.if-not-down.false e c.descend-level.ensures.trail c.descend-level.ensures.level (ap (λ (s : Levels). s.levels) c.push.ensures)
 
@@ -37,7 +37,7 @@ pub descend-level-requires-clause-branch : goal.descend-level-requires-clause-br
 descend-level-requires-clause-branch g c =
     let p = c.args.problem.now.puzzle in
     let t = g.D.Dance.trail c.args.dance.now in
-    let e : choice_after p t ≡ Some (c.in-Some.item, c.in-Some.count) = cc (c.choose.ensures, c.in-Some.is) in
+    let e : choice_after p t ≡ Some (c.in-Some.item, c.in-Some.count) = cc (c.choose_next.ensures, c.in-Some.is) in
     (chosen_item p t c.in-Some.item c.in-Some.count (c.requires.standing.legal c.if-not-down.false) e).branch
 
 pub push-requires : goal.push-requires
@@ -46,7 +46,7 @@ push-requires g c =
     let t = g.D.Dance.trail c.args.dance.now in
     let ls = c.args.stack.now.levels in
     let i = c.in-Some.item in
-    let e : choice_after p t ≡ Some (i, c.in-Some.count) = cc (c.choose.ensures, c.in-Some.is) in
+    let e : choice_after p t ≡ Some (i, c.in-Some.count) = cc (c.choose_next.ensures, c.in-Some.is) in
     let node = node_at p t ls c.args.down i c.in-Some.count c.requires.standing c.if-not-down.false e in
     let chosen = chosen_item p t i c.in-Some.count (c.requires.standing.legal c.if-not-down.false) e in
     omega (arith, c.requires.levels_fit, depth_at p t ls i c.requires.standing.stacked (c.requires.standing.shallow c.if-not-down.false) node chosen.branch)

@@ -11,6 +11,7 @@ invariant_of-result g c = record {
   standing = starts_standing c.args.problem.now.puzzle (g.D.Dance.trail c.args.dance) c.in-Ok.stack.levels c.items-items.ensures.valid c.requires.none (ap (λ (s : Levels). s.levels) c.in-Ok.ensures);
   moves_fit = c.requires.room;
   levels_fit = omega (arith, c.most_levels-most.ensures, ap (λ (s : Levels). s.room) c.in-Ok.ensures);
+  once = c.is_once.ensures;
 }
 
 pub returns-clause-members : goal.returns-clause-members

@@ -23,5 +23,5 @@ returns c =
     let new = c.set_level.new.place in
     let some : 0 < length items = omega (arith, c.requires, ap (λ (v : Levels). length v.levels) c.self.view_is, length-reverse items) in
     let turned : reverse (set items (c.len-top.result - 1) new) ≡ c.args.level ∷ drop 1 (reverse items) =
-        ap (λ n. reverse (set items (n - 1) new)) (c.len-top.ensures ∙ items-length c.self.inside.levels) ∙ newest_set items new some ∙ ap (λ l. l ∷ drop 1 (reverse items)) c.set_level.ensures in
+    ap (λ n. reverse (set items (n - 1) new)) (c.len-top.ensures ∙ items-length c.self.inside.levels) ∙ newest_set items new some ∙ ap (λ l. l ∷ drop 1 (reverse items)) c.set_level.ensures in
     ap (λ (ls : List Level). record { levels = ls; room = c.self.inside.room }) turned ∙ ap (λ (v : Levels). record { levels = c.args.level ∷ drop 1 v.levels; room = v.room }) c.self.view_is
