@@ -1,23 +1,32 @@
--- A list whose last element is replaced, turned round.
-use Rattle.std.proofs.Common.{ℕ, ◌≡◌, ◌-◌, ◌<◌, List, [], ◌∷◌, ◌++◌, length, drop, reverse, sym, ap, ◌∙◌, arith, subst}
-use Rattle.std.proofs.Math.ListN.{set}
-use Rattle.std.proofs.Math.Seq.{set-append_seam}
+-- A list whose last element is changed, turned round.
+use Rattle.std.proofs.Common.{ℕ, ◌≡◌, ◌-◌, ◌<◌, List, [], ◌∷◌, ◌++◌, length, reverse, sym, ap, ap₂, ◌∙◌, arith, subst}
+use Rattle.std.proofs.Math.ListN.{set, get_or}
+use Rattle.std.proofs.Math.Seq.{set-append_seam, get_or-append_seam}
 use Rattle.std.proofs.lemmas.List.{reverse-append, reverse-reverse, length-reverse}
 
-replaced : {X : Type 0} (rs : List X) (r z : X) (n : ℕ) → n ≡ length rs → set (reverse (r ∷ rs)) n z ≡ reverse (z ∷ rs)
-replaced rs r z n h =
-    ap (λ l. set l n z) (reverse-append (r ∷ []) rs)
-    ∙ ap (λ k. set (reverse rs ++ r ∷ []) k z) (h ∙ sym (length-reverse rs))
-    ∙ set-append_seam (reverse rs) r [] z
-    ∙ sym (reverse-append (z ∷ []) rs)
+-- the first of a list is changed
+abbrev pub first_changed : {X : Type 0} → (X → X) → List X → List X
+first_changed f [] = []
+first_changed f (x ∷ xs) = f x ∷ xs
 
-turned : {X : Type 0} (rs : List X) (z : X) → 0 < length rs → reverse (set (reverse rs) (length (reverse rs) - 1) z) ≡ z ∷ drop 1 (reverse (reverse rs))
-turned [] z h = absurd (omega (arith, h))
-turned (r ∷ rs) z h =
-    ap reverse (replaced rs r z _ (omega (arith, length-reverse (r ∷ rs))))
-    ∙ reverse-reverse (z ∷ rs)
-    ∙ sym (ap (λ l. z ∷ drop 1 l) (reverse-reverse (r ∷ rs)))
+last_changed : {X : Type 0} (f : X → X) (rs : List X) (r d : X) (n : ℕ) → n ≡ length rs → set (reverse (r ∷ rs)) n (f (get_or (reverse (r ∷ rs)) n d)) ≡ reverse (f r ∷ rs)
+last_changed f rs r d n h =
+    let seam : n ≡ length (reverse rs) = h ∙ sym (length-reverse rs) in
+    let turned : reverse (r ∷ rs) ≡ reverse rs ++ r ∷ [] = reverse-append (r ∷ []) rs in
+    let last : get_or (reverse (r ∷ rs)) n d ≡ r = ap₂ (λ l k. get_or l k d) turned seam ∙ get_or-append_seam (reverse rs) r [] d in
+    ap₂ (λ l k. set l k (f (get_or (reverse (r ∷ rs)) n d))) turned seam
+    ∙ ap (λ x. set (reverse rs ++ r ∷ []) (length (reverse rs)) (f x)) last
+    ∙ set-append_seam (reverse rs) r [] (f r)
+    ∙ sym (reverse-append (f r ∷ []) rs)
 
-pub newest_set : {X : Type 0} (xs : List X) (z : X) → 0 < length xs → reverse (set xs (length xs - 1) z) ≡ z ∷ drop 1 (reverse xs)
-newest_set xs z h =
-    subst (λ ys. reverse (set ys (length ys - 1) z) ≡ z ∷ drop 1 (reverse ys)) (reverse-reverse xs) (turned (reverse xs) z (omega (arith, h, length-reverse xs)))
+turned_changed : {X : Type 0} (f : X → X) (rs : List X) (d : X) → 0 < length rs →
+    reverse (set (reverse rs) (length (reverse rs) - 1) (f (get_or (reverse rs) (length (reverse rs) - 1) d))) ≡ first_changed f rs
+turned_changed f [] d h = absurd (omega (arith, h))
+turned_changed f (r ∷ rs) d h = ap reverse (last_changed f rs r d _ (omega (arith, length-reverse (r ∷ rs)))) ∙ reverse-reverse (f r ∷ rs)
+
+-- the last element of a list is the first of the list turned round
+pub newest_changed : {X : Type 0} (f : X → X) (xs : List X) (d : X) → 0 < length xs →
+    reverse (set xs (length xs - 1) (f (get_or xs (length xs - 1) d))) ≡ first_changed f (reverse xs)
+newest_changed f xs d h =
+    subst (λ ys. reverse (set ys (length ys - 1) (f (get_or ys (length ys - 1) d))) ≡ first_changed f (reverse xs)) (reverse-reverse xs)
+    (turned_changed f (reverse xs) d (omega (arith, h, length-reverse xs)))

@@ -1,14 +1,15 @@
 -- The steps of the search's loop.
-use Rattle.std.proofs.Common.{ℕ, ◌≡◌, ◌+◌, ◌<◌, ◌≤◌, Bool, true, false, List, ◌∷◌, length, Some, None, sym, ap, ◌∙◌, arith, subst}
+use Rattle.std.proofs.Common.{ℕ, ◌≡◌, ◌+◌, ◌<◌, ◌≤◌, Bool, true, false, List, ◌∷◌, length, drop, refl, Some, None, sym, ap, ◌∙◌, arith, subst}
 use Rattle.xc_dance.specs.declared.dance.Move.{Move}
 use Rattle.xc_search.specs.declared.level.Level.{Level}
+use Rattle.xc_search.specs.declared.level.Begun.{Begun}
 use Rattle.xc_input.specs.Problem.{Puzzle}
 use Rattle.xc_dance.specs.Moves.{AreTweaks}
 use Rattle.xc_search.specs.Residuals.{choice_after}
 use Rattle.xc_search.specs.Commits.{opened, oldest}
-use Rattle.xc_search.specs.Stack.{IsNode, IsLevel, AreStacked, choices_of, to_give, coming, IsStanding, first_level, IsBegun}
+use Rattle.xc_search.specs.Stack.{IsNode, IsLevel, AreStacked, choices_of, to_give, coming, IsStanding, first_level, IsBegun, begun_level, newest_begun}
 use Rattle.xc_search.specs.Ahead.{ahead, IsDeepened, IsTurned}
-use Rattle.xc_search.proofs.Stacks.{solution, descended, chosen_item}
+use Rattle.xc_search.proofs.Stacks.{solution, descended, chosen_item, oldest-oldest}
 use Rattle.xc_search.proofs.Returns.{returned, finished, closing}
 use Rattle.xc_search.proofs.Coming.{begun_coming}
 use Rattle.xc_search.proofs.Depth.{shallower}
@@ -64,3 +65,17 @@ back_at p t r l ls stacked er =
     let u = oldest l.base t in
     let close = closing p u l back.0.0 back.3 in
     subst (λ r. IsLevel p r l × (l.base ≡ length r) × (0 < l.tweaks → AreTweaks l.tweaks r) × (l.mark + l.tweaks ≤ length r)) (sym er) (back.0.0, back.3, close.0, close.1)
+
+-- the newest of the levels vs goes on with a branch
+pub goes_on : (p : Puzzle) (t s : List Move) (l : Level) (b : Begun) (vs ks : List Level) → AreStacked p t vs → vs ≡ l ∷ drop 1 vs →
+    IsBegun p (oldest l.base t) l s (begun_level b l) → ks ≡ newest_begun b vs → IsTurned p t l (drop 1 vs) s ks true
+goes_on p t s l b vs ks stacked top begun e =
+    turns_next p t s (oldest l.base t) l (begun_level b l) (drop 1 vs) ks (subst (AreStacked p t) top stacked) refl begun (e ∙ ap (newest_begun b) top)
+
+-- it ends
+pub goes_back : (p : Puzzle) (t s : List Move) (l : Level) (vs ks : List Level) → AreStacked p t vs → vs ≡ l ∷ drop 1 vs →
+    l.count ≤ l.begun → s ≡ oldest l.mark t → ks ≡ drop 1 vs → IsTurned p t l (drop 1 vs) s ks false
+goes_back p t s l vs ks stacked top h es e =
+    let here = subst (AreStacked p t) top stacked in
+    let under = oldest-oldest l.mark l.base t here.0.within.0 here.0.within.1 in
+    subst (λ ks. IsTurned p t l (drop 1 vs) s ks false) (sym e) (turns_end p t s (oldest l.base t) l (drop 1 vs) here refl h (es ∙ sym under))

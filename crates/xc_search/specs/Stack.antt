@@ -4,6 +4,7 @@ use Rattle.std.specs.List.{AllByRecursion}
 use Rattle.xc_search.specs.declared.choice.Choice.{Choice}
 use Rattle.xc_dance.specs.declared.dance.Move.{Move}
 use Rattle.xc_search.specs.declared.level.Level.{Level}
+use Rattle.xc_search.specs.declared.level.Begun.{Begun}
 use Rattle.xc_input.specs.Problem.{Puzzle, Numbered, IsPrimary, numbered_get, holding, option_count, primary_count}
 use Rattle.xc_search.specs.Listing.{Wanted, Branch, branch_item, branch_count, branches_of, size_of, listing}
 use Rattle.xc_dance.specs.Moves.{is_open, AreLegal}
@@ -102,6 +103,18 @@ pub record IsStanding (p : Puzzle) (t : List Move) (ls : List Level) (down : Boo
 -- a level with no branch begun
 abbrev pub first_level : Puzzle → List Move → ℕ → ℕ → Level
 first_level p t i n = record { mark = length t; base = length (opened p i t); item = i; option = None; begun = 0; count = n; tweaks = 0; walks = walks p t i }
+
+-- a level on whose moves a branch was begun
+abbrev pub begun_level : Begun → Level → Level
+begun_level b l = record l { base = b.base; option = b.option; begun = b.begun; tweaks = b.tweaks }
+
+abbrev pub begun_choice : Begun → Choice → Choice
+begun_choice b c = record c { option = b.option; k = b.begun }
+
+-- the newest of these levels began a branch
+abbrev pub newest_begun : Begun → List Level → List Level
+newest_begun b [] = []
+newest_begun b (l ∷ ls) = begun_level b l ∷ ls
 
 -- The moves of a level stand alone, and a branch wasn't begun yet.
 pub record MayBegin (p : Puzzle) (t : List Move) (l : Level) : Type 0 where

@@ -1,11 +1,12 @@
 //! The levels of the search.
-ghost use Rattle.std.specs.Prelude.{◌≡◌, ◌<◌, ◌≤◌, length, [], ◌∷◌, drop, true, false};
+ghost use Rattle.std.specs.Prelude.{◌≡◌, ◌<◌, ◌≤◌, length, List, [], ◌∷◌, true, false, IfSome, IsNone};
 ghost use Rattle.xc_search.specs.Room.{room_for, level_limit, IsOnce};
-ghost use Rattle.xc_search.specs.Stack.{AreStacked, IsStanding, coming};
-ghost use Rattle.xc_search.specs.Ahead.{IsReached, IsDeepened, IsTurned};
+ghost use Rattle.xc_search.specs.Stack.{AreStacked, IsStanding, IsBegun, coming, begun_level};
+ghost use Rattle.xc_search.specs.Commits.{oldest};
+ghost use Rattle.xc_search.specs.Ahead.{IsReached, IsDeepened};
 
 use crate::branch_item::choose_next;
-use crate::level::{Level, begin, descend};
+use crate::level::{Begun, Level, begin, descend};
 use crate::stack::Stack;
 use crate::steps::{close_level, undo_to};
 use xc_dance::Dance;
@@ -42,27 +43,23 @@ fn deepen<D: Dance>(
     true
 }
 
-/// Begins the next branch of the newest level, or ends it. The answer says whether a branch was begun.
+/// Begins the next branch of a level, the newest one, or ends the level: then there is none.
 #[inline(always)]
-fn turn<D: Dance>(dance: &mut D, problem: &Problem, stack: &mut Stack, level: Level) -> bool
+fn turn<D: Dance>(dance: &mut D, problem: &Problem, level: &Level) -> Option<Begun>
     requires same { D.problem dance.old ≡ problem.now.puzzle }
-    requires top { stack.old.levels ≡ level ∷ drop 1 stack.old.levels }
-    requires stacked { AreStacked problem.now.puzzle (D.trail dance.old) (level ∷ drop 1 stack.old.levels) }
+    requires stacked { (ls : List Level) × AreStacked problem.now.puzzle (D.trail dance.old) (level.now ∷ ls) }
     requires room { room_for problem.now.puzzle ≤ D.limit dance.old }
     ensures problem { D.problem dance.new ≡ D.problem dance.old }
     ensures limit { D.limit dance.new ≡ D.limit dance.old }
-    ensures stack_room { stack.new.room ≡ stack.old.room }
-    ensures turned { IsTurned problem.now.puzzle (D.trail dance.old) level (drop 1 stack.old.levels) (D.trail dance.new) stack.new.levels result }
+    ensures begun { IfSome result (λ b. IsBegun problem.now.puzzle (oldest level.now.base (D.trail dance.old)) level.now (D.trail dance.new) (begun_level b level.now)) }
+    ensures ended { IsNone result → (level.now.count ≤ level.now.begun) × (D.trail dance.new ≡ oldest level.now.mark (D.trail dance.old)) }
 {
     undo_to(dance, level.base);
     if level.begun >= level.count {
         close_level(dance, level.tweaks, level.mark);
-        stack.pop();
-        return false;
+        return None;
     }
-    let next = begin(dance, problem, level);
-    stack.replace_top(next);
-    true
+    Some(begin(dance, problem, level))
 }
 
 /// Goes on to the next solution, or to the end. `once` says that each primary item is to be held
@@ -93,7 +90,16 @@ pub fn advance<D: Dance>(
         let Some(level) = stack.top() else {
             return false;
         };
-        descends = turn(dance, problem, stack, level);
+        match turn(dance, problem, level) {
+            Some(branch) => {
+                stack.begin(branch);
+                descends = true;
+            }
+            None => {
+                stack.pop();
+                descends = false;
+            }
+        }
     }
 }
 

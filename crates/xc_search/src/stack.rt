@@ -1,9 +1,9 @@
 //! The stack of the search's levels, and their choices beside it.
-ghost use Rattle.std.specs.Prelude.{◌≡◌, ◌<◌, ◌≤◌, [], ◌∷◌, ◌++◌, length, drop, option_to_list, IfOk, IsNone};
-ghost use Rattle.xc_search.specs.Stack.{chosen, choices_of};
+ghost use Rattle.std.specs.Prelude.{◌≡◌, ◌<◌, ◌≤◌, [], ◌∷◌, ◌++◌, length, drop, IfSome, IfOk, IsNone};
+ghost use Rattle.xc_search.specs.Stack.{chosen, choices_of, begun_level, begun_choice, newest_begun};
 
 use crate::choice::Choice;
-use crate::level::Level;
+use crate::level::{Begun, Level};
 use std::alloc::{AllocError, Global};
 use std::marker::Model;
 
@@ -58,24 +58,22 @@ impl Stack {
 
     /// The newest level, if there is one.
     #[inline(always)]
-    pub fn top(&self) -> Option<Level>
-        ensures levels { self.now.levels ≡ option_to_list result ++ drop 1 self.now.levels }
+    pub fn top(&self) -> Option<&Level>
+        ensures some { IfSome result (λ l. self.now.levels ≡ l.now ∷ drop 1 self.now.levels) }
         ensures none { IsNone result → self.now.levels ≡ [] }
-        ensures few { length self.now.levels ≤ self.now.room }
     {
-        self.levels.last().copied()
+        self.levels.last()
     }
 
-    /// Puts a level in the place of the newest one. Each field is written where it stands: a copy of
-    /// the whole level would go through memory twice.
+    /// Notes the branch that the newest level began, where the level stands.
     #[inline(always)]
-    pub fn replace_top(&mut self, level: Level)
+    pub fn begin(&mut self, branch: Begun)
         requires { 0 < length self.old.levels }
-        ensures { self.new ≡ record self.old { levels = level ∷ drop 1 self.old.levels } }
+        ensures { self.new ≡ record self.old { levels = newest_begun branch self.old.levels } }
     {
         let top = self.levels.len() - 1;
-        set_level(&mut self.levels[top], level);
-        set_choice(&mut self.choices[top], level);
+        begin_level(&mut self.levels[top], branch);
+        begin_choice(&mut self.choices[top], branch);
     }
 
     /// Takes the newest level off, if there is one.
@@ -95,30 +93,22 @@ impl Stack {
     }
 }
 
-/// Writes the fields of a level.
 #[inline(always)]
-fn set_level(place: &mut Level, level: Level)
-    ensures { place.new ≡ level }
+fn begin_level(level: &mut Level, branch: Begun)
+    ensures { level.new ≡ begun_level branch level.old }
 {
-    place.mark = level.mark;
-    place.base = level.base;
-    place.item = level.item;
-    place.option = level.option;
-    place.begun = level.begun;
-    place.count = level.count;
-    place.tweaks = level.tweaks;
-    place.walks = level.walks;
+    level.base = branch.base;
+    level.option = branch.option;
+    level.begun = branch.begun;
+    level.tweaks = branch.tweaks;
 }
 
-/// Writes the fields of a level's choice.
 #[inline(always)]
-fn set_choice(place: &mut Choice, level: Level)
-    ensures { place.new ≡ chosen level }
+fn begin_choice(choice: &mut Choice, branch: Begun)
+    ensures { choice.new ≡ begun_choice branch choice.old }
 {
-    place.item = level.item;
-    place.option = level.option;
-    place.k = level.begun;
-    place.n = level.count;
+    choice.option = branch.option;
+    choice.k = branch.begun;
 }
 
 /// The level's newest branch.

@@ -6,7 +6,7 @@ use Rattle.xc_search.proofs.level.take_option.Goals as goal
 pub tweak-tweaks-requires-clause-option : goal.tweak-tweaks-requires-clause-option
 tweak-tweaks-requires-clause-option g c =
     let t = g.D.Dance.trail c.args.dance.now in
-    (c.args.o, ap (λ p. next_number p t c.args.level) c.requires.same ∙ c.requires.option)
+    (c.args.o, ap (λ p. next_number p t c.args.level.now) c.requires.same ∙ c.requires.option)
 
 pub commit_others-requires-clause-known : goal.commit_others-requires-clause-known
 commit_others-requires-clause-known g c =
