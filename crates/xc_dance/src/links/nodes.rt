@@ -173,7 +173,7 @@ impl Nodes {
 
     /// Goes down the list of item i: its nodes of the colour kept are marked, the others are hidden.
     #[inline(always)]
-    pub(crate) fn hide_list(
+    fn hide_list(
         &mut self,
         spans: &[Span],
         i: u32,
@@ -205,7 +205,7 @@ impl Nodes {
 
     /// Undoes `hide_list`, from bottom to top.
     #[inline(always)]
-    pub(crate) fn unhide_list(
+    fn unhide_list(
         &mut self,
         spans: &[Span],
         i: u32,
@@ -235,7 +235,80 @@ impl Nodes {
         )
     }
 
+    /// Hides all nodes of item i's list.
+    #[inline(always)]
+    pub(crate) fn cover(&mut self, spans: &[Span], i: u32, marks: bool, writes: &mut Writes) -> u64
+        requires small { length spans.now < 2 ^ 31 }
+        requires ends { All (λ s. s.end < 2 ^ 31) spans.now }
+        requires can { CanHideList spans.now None self.old i }
+        requires unmarked { marks ≡ false → IsUnmarked spans.now self.old.color }
+        ensures done { self.new ≡ fold (left_node spans.now None) self.old (list_of self.old i) }
+        ensures cost { result ≡ walk_costs spans.now None self.old (list_of self.old i) }
+        ensures few_writes { result ≤ 3 * 2 ^ 62 }
+        ensures counted { writes.new.count ≡ writes.old.count + result }
+    {
+        if marks {
+            self.cover_among_marks(spans, i, writes)
+        } else {
+            self.hide_list(spans, i, None, false, writes)
+        }
+    }
+
+    /// The same with the test for marks, out of line: callers stay small.
+    #[inline(never)]
+    fn cover_among_marks(&mut self, spans: &[Span], i: u32, writes: &mut Writes) -> u64
+        requires small { length spans.now < 2 ^ 31 }
+        requires ends { All (λ s. s.end < 2 ^ 31) spans.now }
+        requires can { CanHideList spans.now None self.old i }
+        ensures done { self.new ≡ fold (left_node spans.now None) self.old (list_of self.old i) }
+        ensures cost { result ≡ walk_costs spans.now None self.old (list_of self.old i) }
+        ensures few_writes { result ≤ 3 * 2 ^ 62 }
+        ensures counted { writes.new.count ≡ writes.old.count + result }
+    {
+        self.hide_list(spans, i, None, true, writes)
+    }
+
+    /// Undoes `cover`, from bottom to top.
+    #[inline(always)]
+    pub(crate) fn uncover(
+        &mut self,
+        spans: &[Span],
+        i: u32,
+        marks: bool,
+        writes: &mut Writes,
+    ) -> u64
+        requires small { length spans.now < 2 ^ 31 }
+        requires ends { All (λ s. s.end < 2 ^ 31) spans.now }
+        requires can { CanShowList spans.now None self.old i }
+        requires unmarked { marks ≡ false → IsUnmarked spans.now self.old.color }
+        ensures done { self.new ≡ fold (back_node spans.now None) self.old (list_back self.old i) }
+        ensures cost { result ≡ back_costs spans.now None self.old (list_back self.old i) }
+        ensures few_writes { result ≤ 3 * 2 ^ 62 }
+        ensures counted { writes.new.count ≡ writes.old.count + result }
+    {
+        if marks {
+            self.uncover_among_marks(spans, i, writes)
+        } else {
+            self.unhide_list(spans, i, None, false, writes)
+        }
+    }
+
+    /// The same with the test for marks.
+    #[inline(never)]
+    fn uncover_among_marks(&mut self, spans: &[Span], i: u32, writes: &mut Writes) -> u64
+        requires small { length spans.now < 2 ^ 31 }
+        requires ends { All (λ s. s.end < 2 ^ 31) spans.now }
+        requires can { CanShowList spans.now None self.old i }
+        ensures done { self.new ≡ fold (back_node spans.now None) self.old (list_back self.old i) }
+        ensures cost { result ≡ back_costs spans.now None self.old (list_back self.old i) }
+        ensures few_writes { result ≤ 3 * 2 ^ 62 }
+        ensures counted { writes.new.count ≡ writes.old.count + result }
+    {
+        self.unhide_list(spans, i, None, true, writes)
+    }
+
     /// Purifies item i with the colour c.
+    #[inline(never)]
     pub(crate) fn purify(&mut self, spans: &[Span], i: u32, c: u32, writes: &mut Writes) -> u64
         requires small { length spans.now < 2 ^ 31 }
         requires ends { All (λ s. s.end < 2 ^ 31) spans.now }
@@ -249,6 +322,7 @@ impl Nodes {
     }
 
     /// Undoes `purify`.
+    #[inline(never)]
     pub(crate) fn unpurify(&mut self, spans: &[Span], i: u32, c: u32, writes: &mut Writes) -> u64
         requires small { length spans.now < 2 ^ 31 }
         requires ends { All (λ s. s.end < 2 ^ 31) spans.now }
@@ -263,6 +337,7 @@ impl Nodes {
     }
 
     /// Takes the first node off the list of item i, and hides its option unless i is covered.
+    #[inline(never)]
     pub(crate) fn tweak(
         &mut self,
         spans: &[Span],
@@ -295,6 +370,7 @@ impl Nodes {
     }
 
     /// Puts node x, which a Tweak took off, back.
+    #[inline(never)]
     pub(crate) fn untweak(
         &mut self,
         spans: &[Span],
@@ -326,6 +402,7 @@ impl Nodes {
     }
 
     /// Undoes k Tweaks of item i, x being the first node that they took off.
+    #[inline(never)]
     pub(crate) fn untweak_all(
         &mut self,
         spans: &[Span],

@@ -36,7 +36,11 @@ pub(crate) fn hide_unless(
         return 0;
     }
     let span = spans[x as usize];
-    hide(top, links, color, x, span.first, span.end, marks, writes)
+    if marks {
+        hide(top, links, color, x, span.first, span.end, true, writes)
+    } else {
+        hide(top, links, color, x, span.first, span.end, false, writes)
+    }
 }
 
 /// Undoes `hide_unless`.
@@ -64,7 +68,11 @@ pub(crate) fn show_unless(
         return 0;
     }
     let span = spans[x as usize];
-    unhide(top, links, color, x, span.first, span.end, marks, writes)
+    if marks {
+        unhide(top, links, color, x, span.first, span.end, true, writes)
+    } else {
+        unhide(top, links, color, x, span.first, span.end, false, writes)
+    }
 }
 
 /// One step down nodes that come back: the option of node p is put back, unless its item is covered, and what
