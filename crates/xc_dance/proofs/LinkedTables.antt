@@ -28,6 +28,7 @@ pub mod MetOptions
 pub mod Leaving
 pub mod TakenOut
 pub mod MarkedColours
+pub mod UnmarkedNodes
 pub mod HideStep
 pub mod ListLinks
 pub mod Answering

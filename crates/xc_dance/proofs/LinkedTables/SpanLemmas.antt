@@ -13,7 +13,7 @@ use Rattle.xc_dance.specs.Links.Steps.{others, others_of}
 use Rattle.xc_dance.specs.Links.Laid.{IsFit}
 use Rattle.xc_dance.specs.Links.Others.{before_use, behind_use, other_items, HasSpans}
 use Rattle.xc_dance.specs.Links.OptionPlaces.{place_at}
-use Rattle.xc_dance.specs.Links.OptionSpans.{no_span, span_of, spans_of}
+use Rattle.xc_dance.specs.Links.OptionSpans.{span_of, spans_of}
 use Rattle.xc_dance.proofs.LinkedTables.PlaceLemmas.{use_here, place_next}
 use Rattle.xc_dance.proofs.LinkedTables.SpacerPlaces.{use_at, spacer_at}
 use Rattle.xc_dance.proofs.LinkedTables.OptionReach.{get_behind}
@@ -114,7 +114,7 @@ leads p o i us fit e is some =
     let lt : o < option_count p = slice_get_within p.options o us e in
     let use_get : slice_get us k ≡ Some r.use_of = ap (λ l. slice_get l k) r.is ∙ get_behind r.before (r.use_of ∷ r.behind) k 0 (omega arith) in
     let place : link_place p i (o + 1) ≡ place_at p o + 1 + k = ap (λ j. link_place p j (o + 1)) (sym r.item) ∙ use_at p o k us r.use_of fit e use_get in
-    let d : Span = no_span in
+    let d : Span = record { first = 0; end = 0 } in
     record {
       others = ap (others_of (spans_of p)) place
           ∙ ap (λ (s : Span). others (place_at p o + 1 + k) s.first s.end) (span_here p o k us r.use_of lt e use_get d)

@@ -11,10 +11,10 @@ abbrev pub unmarked_costs : List ℕ → List ℕ → ℕ
 unmarked_costs color [] = 0
 unmarked_costs color (q ∷ qs) = cond (eqb (get_or color q 0) 4294967295) 0 3 + unmarked_costs color qs
 
-hidden_color : (t : Nodes) (q : ℕ) → (hidden t q).color ≡ t.color
+pub hidden_color : (t : Nodes) (q : ℕ) → (hidden t q).color ≡ t.color
 hidden_color t q = elim (eqb (get_or t.color q 0) 4294967295) as (λ b. (cond b t (unlinked t q)).color ≡ t.color) [ true ↦ refl | false ↦ refl ]
 
-shown_color : (t : Nodes) (q : ℕ) → (shown t q).color ≡ t.color
+pub shown_color : (t : Nodes) (q : ℕ) → (shown t q).color ≡ t.color
 shown_color t q = elim (eqb (get_or t.color q 0) 4294967295) as (λ b. (cond b t (relinked t q)).color ≡ t.color) [ true ↦ refl | false ↦ refl ]
 
 pub hide_costs-are : (t : Nodes) (qs : List ℕ) → hide_costs t qs ≡ unmarked_costs t.color qs

@@ -4,8 +4,9 @@ use Rattle.xc_dance.specs.declared.links.nodes.Span.{Span}
 use Rattle.xc_input.specs.Problem.{Puzzle}
 use Rattle.xc_dance.specs.Fields.{Node, unused, own, spacer, used, layout, spacer_place}
 
+-- an empty one, which starts behind every place
 abbrev pub no_span : Span
-no_span = record { first = 0; end = 0 }
+no_span = record { first = 2147483647; end = 0 }
 
 -- from behind one spacer to the next, for a use
 abbrev pub span_of : Puzzle → Node → Span

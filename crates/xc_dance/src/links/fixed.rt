@@ -1,11 +1,12 @@
 //! What no move changes: the counts of the items, and where the nodes of the options stand.
-ghost use Rattle.std.specs.Prelude.{◌≡◌, ◌-◌, ◌<◌, ◌≤◌, ◌↔◌, length, slice_index, IsTrue, IfOk};
+ghost use Rattle.std.specs.Prelude.{◌≡◌, false, ◌-◌, ◌<◌, ◌≤◌, ◌↔◌, length, slice_index, IsTrue, IfOk};
 ghost use Rattle.xc_input.specs.Problem.{IsValid, IsWithinLimits, IsItem, IsPrimary, IsSecondary, item_count, option_count};
 ghost use Rattle.xc_dance.specs.Fields.{layout};
 ghost use Rattle.xc_dance.specs.Links.Laid.{IsFit};
 ghost use Rattle.xc_dance.specs.Links.OptionPlaces.{start_at};
 ghost use Rattle.xc_dance.specs.Links.OptionSpans.{spans_of};
 ghost use Rattle.xc_dance.specs.Links.NodeOptions.{options_of};
+ghost use Rattle.xc_dance.specs.Links.Unmarked.{IsPlain};
 
 use crate::links::known::Known;
 use crate::links::nodes::Span;
@@ -21,6 +22,8 @@ pub(crate) struct Fixed {
     known: Known,
     items: u32,
     primary: u32,
+    /// Whether a use may have a colour.
+    coloured: bool,
     /// Where the option of each node stands.
     spans: Vec<Span>,
     /// The option of each node.
@@ -30,11 +33,12 @@ pub(crate) struct Fixed {
 }
 
 impl Model for Fixed {
-    ghost use Rattle.std.specs.Prelude.{◌≡◌};
+    ghost use Rattle.std.specs.Prelude.{◌≡◌, false};
     ghost use Rattle.xc_input.specs.Problem.{Puzzle, item_count, primary_count};
     ghost use Rattle.xc_dance.specs.Links.OptionPlaces.{starts_of};
     ghost use Rattle.xc_dance.specs.Links.OptionSpans.{spans_of};
     ghost use Rattle.xc_dance.specs.Links.NodeOptions.{options_of};
+    ghost use Rattle.xc_dance.specs.Links.Unmarked.{IsPlain};
 
     ghost Value = { Puzzle };
 
@@ -43,6 +47,7 @@ impl Model for Fixed {
     ghost invariant = { λ a. record {
       items : a.items ≡ item_count a.known.puzzle;
       primary : a.primary ≡ primary_count a.known.puzzle;
+      coloured : a.coloured ≡ false → IsPlain a.known.puzzle;
       spans : a.spans.items ≡ spans_of a.known.puzzle;
       options : a.options.items ≡ options_of a.known.puzzle;
       starts : a.starts.items ≡ starts_of a.known.puzzle;
@@ -64,6 +69,7 @@ impl Fixed {
             known: Known::of(problem),
             items,
             primary: problem.primary(),
+            coloured: problem.colours() > 0,
             spans,
             options,
             starts,
@@ -97,6 +103,14 @@ impl Fixed {
         ensures { IsTrue result ↔ IsSecondary self.now item }
     {
         self.primary < item && item <= self.items
+    }
+
+    /// Whether a use may have a colour.
+    #[inline(always)]
+    pub(crate) fn coloured(&self) -> bool
+        ensures { result ≡ false → IsPlain self.now }
+    {
+        self.coloured
     }
 
     /// How many nodes there are.

@@ -1,5 +1,5 @@
 //! The node table.
-ghost use Rattle.std.specs.Prelude.{◌≡◌, ℕ, ◌+◌, ◌-◌, ◌*◌, ◌<◌, ◌≤◌, ◌^◌, length, slice_index, slice_get, fold, All, Some, false, if◌then◌else◌, replicate, IfOk, IsTrue, ◌↔◌};
+ghost use Rattle.std.specs.Prelude.{◌≡◌, ℕ, ◌+◌, ◌-◌, ◌*◌, ◌<◌, ◌≤◌, ◌^◌, length, slice_index, slice_get, fold, All, None, Some, false, if◌then◌else◌, replicate, IfOk, IsTrue, ◌↔◌};
 
 use crate::links::cells::{
     Cell, Link, down, get, read, read_down, read_up, same_cells, same_links, set, set_down, set_up,
@@ -52,6 +52,7 @@ impl Nodes {
     ghost use Rattle.xc_dance.specs.Links.FirstNodes.{with_row, entered};
     ghost use Rattle.xc_dance.specs.Links.Steps.{HasSize, list_of, list_back};
     ghost use Rattle.xc_dance.specs.Links.ListWalks.{left_node, back_node, walk_costs, back_costs, CanHideList, CanShowList, with_colour};
+    ghost use Rattle.xc_dance.specs.Links.Unmarked.{IsUnmarked};
     ghost use Rattle.xc_dance.specs.Links.Purifying.{purified_list, unpurified_list, CanPurify, CanUnpurify};
     ghost use Rattle.xc_dance.specs.Links.Tweaking.{tweaked, untweaked, tweak_cost, untweak_cost, CanTweak, CanUntweak};
     ghost use Rattle.xc_dance.specs.Links.TweaksBack.{untweaked_all, untweak_all_cost, CanUntweakAll};
@@ -172,16 +173,19 @@ impl Nodes {
 
     /// Goes down the list of item i: its nodes of the colour kept are marked, the others are hidden.
     #[inline(always)]
-    pub(crate) fn hide_list(
+    fn hide_list(
         &mut self,
         spans: &[Span],
         i: u32,
         keep: Option<u32>,
+        marks: bool,
         writes: &mut Writes,
     ) -> u64
         requires small { length spans.now < 2 ^ 31 }
         requires ends { All (λ s. s.end < 2 ^ 31) spans.now }
         requires can { CanHideList spans.now keep self.old i }
+        requires unmarked { marks ≡ false → IsUnmarked spans.now self.old.color }
+        requires none { marks ≡ false → keep ≡ None }
         ensures done { self.new ≡ fold (left_node spans.now keep) self.old (list_of self.old i) }
         ensures cost { result ≡ walk_costs spans.now keep self.old (list_of self.old i) }
         ensures few_writes { result ≤ 3 * 2 ^ 62 }
@@ -194,22 +198,26 @@ impl Nodes {
             spans,
             i,
             keep,
+            marks,
             writes,
         )
     }
 
     /// Undoes `hide_list`, from bottom to top.
     #[inline(always)]
-    pub(crate) fn unhide_list(
+    fn unhide_list(
         &mut self,
         spans: &[Span],
         i: u32,
         keep: Option<u32>,
+        marks: bool,
         writes: &mut Writes,
     ) -> u64
         requires small { length spans.now < 2 ^ 31 }
         requires ends { All (λ s. s.end < 2 ^ 31) spans.now }
         requires can { CanShowList spans.now keep self.old i }
+        requires unmarked { marks ≡ false → IsUnmarked spans.now self.old.color }
+        requires none { marks ≡ false → keep ≡ None }
         ensures done { self.new ≡ fold (back_node spans.now keep) self.old (list_back self.old i) }
         ensures cost { result ≡ back_costs spans.now keep self.old (list_back self.old i) }
         ensures few_writes { result ≤ 3 * 2 ^ 62 }
@@ -222,11 +230,85 @@ impl Nodes {
             spans,
             i,
             keep,
+            marks,
             writes,
         )
     }
 
+    /// Hides all nodes of item i's list.
+    #[inline(always)]
+    pub(crate) fn cover(&mut self, spans: &[Span], i: u32, marks: bool, writes: &mut Writes) -> u64
+        requires small { length spans.now < 2 ^ 31 }
+        requires ends { All (λ s. s.end < 2 ^ 31) spans.now }
+        requires can { CanHideList spans.now None self.old i }
+        requires unmarked { marks ≡ false → IsUnmarked spans.now self.old.color }
+        ensures done { self.new ≡ fold (left_node spans.now None) self.old (list_of self.old i) }
+        ensures cost { result ≡ walk_costs spans.now None self.old (list_of self.old i) }
+        ensures few_writes { result ≤ 3 * 2 ^ 62 }
+        ensures counted { writes.new.count ≡ writes.old.count + result }
+    {
+        if marks {
+            self.cover_among_marks(spans, i, writes)
+        } else {
+            self.hide_list(spans, i, None, false, writes)
+        }
+    }
+
+    /// The same with the test for marks, out of line: callers stay small.
+    #[inline(never)]
+    fn cover_among_marks(&mut self, spans: &[Span], i: u32, writes: &mut Writes) -> u64
+        requires small { length spans.now < 2 ^ 31 }
+        requires ends { All (λ s. s.end < 2 ^ 31) spans.now }
+        requires can { CanHideList spans.now None self.old i }
+        ensures done { self.new ≡ fold (left_node spans.now None) self.old (list_of self.old i) }
+        ensures cost { result ≡ walk_costs spans.now None self.old (list_of self.old i) }
+        ensures few_writes { result ≤ 3 * 2 ^ 62 }
+        ensures counted { writes.new.count ≡ writes.old.count + result }
+    {
+        self.hide_list(spans, i, None, true, writes)
+    }
+
+    /// Undoes `cover`, from bottom to top.
+    #[inline(always)]
+    pub(crate) fn uncover(
+        &mut self,
+        spans: &[Span],
+        i: u32,
+        marks: bool,
+        writes: &mut Writes,
+    ) -> u64
+        requires small { length spans.now < 2 ^ 31 }
+        requires ends { All (λ s. s.end < 2 ^ 31) spans.now }
+        requires can { CanShowList spans.now None self.old i }
+        requires unmarked { marks ≡ false → IsUnmarked spans.now self.old.color }
+        ensures done { self.new ≡ fold (back_node spans.now None) self.old (list_back self.old i) }
+        ensures cost { result ≡ back_costs spans.now None self.old (list_back self.old i) }
+        ensures few_writes { result ≤ 3 * 2 ^ 62 }
+        ensures counted { writes.new.count ≡ writes.old.count + result }
+    {
+        if marks {
+            self.uncover_among_marks(spans, i, writes)
+        } else {
+            self.unhide_list(spans, i, None, false, writes)
+        }
+    }
+
+    /// The same with the test for marks.
+    #[inline(never)]
+    fn uncover_among_marks(&mut self, spans: &[Span], i: u32, writes: &mut Writes) -> u64
+        requires small { length spans.now < 2 ^ 31 }
+        requires ends { All (λ s. s.end < 2 ^ 31) spans.now }
+        requires can { CanShowList spans.now None self.old i }
+        ensures done { self.new ≡ fold (back_node spans.now None) self.old (list_back self.old i) }
+        ensures cost { result ≡ back_costs spans.now None self.old (list_back self.old i) }
+        ensures few_writes { result ≤ 3 * 2 ^ 62 }
+        ensures counted { writes.new.count ≡ writes.old.count + result }
+    {
+        self.unhide_list(spans, i, None, true, writes)
+    }
+
     /// Purifies item i with the colour c.
+    #[inline(never)]
     pub(crate) fn purify(&mut self, spans: &[Span], i: u32, c: u32, writes: &mut Writes) -> u64
         requires small { length spans.now < 2 ^ 31 }
         requires ends { All (λ s. s.end < 2 ^ 31) spans.now }
@@ -236,10 +318,11 @@ impl Nodes {
         ensures counted { writes.new.count ≡ writes.old.count + result }
     {
         set(&mut self.color, i, c, writes);
-        self.hide_list(spans, i, Some(c), writes) + 1
+        self.hide_list(spans, i, Some(c), true, writes) + 1
     }
 
     /// Undoes `purify`.
+    #[inline(never)]
     pub(crate) fn unpurify(&mut self, spans: &[Span], i: u32, c: u32, writes: &mut Writes) -> u64
         requires small { length spans.now < 2 ^ 31 }
         requires ends { All (λ s. s.end < 2 ^ 31) spans.now }
@@ -248,22 +331,25 @@ impl Nodes {
         ensures cost { result ≡ back_costs spans.now (Some c) self.old (list_back self.old i) + 1 }
         ensures counted { writes.new.count ≡ writes.old.count + result }
     {
-        let count = self.unhide_list(spans, i, Some(c), writes);
+        let count = self.unhide_list(spans, i, Some(c), true, writes);
         set(&mut self.color, i, 0, writes);
         count + 1
     }
 
     /// Takes the first node off the list of item i, and hides its option unless i is covered.
+    #[inline(never)]
     pub(crate) fn tweak(
         &mut self,
         spans: &[Span],
         covered: bool,
         i: u32,
+        marks: bool,
         writes: &mut Writes,
     ) -> u64
         requires small { length spans.now < 2 ^ 31 }
         requires ends { All (λ s. s.end < 2 ^ 31) spans.now }
         requires can { CanTweak spans.now covered self.old i }
+        requires unmarked { marks ≡ false → IsUnmarked spans.now self.old.color }
         ensures done { self.new ≡ tweaked spans.now covered self.old i }
         ensures cost { result ≡ tweak_cost spans.now covered self.old i }
         ensures counted { writes.new.count ≡ writes.old.count + result }
@@ -276,6 +362,7 @@ impl Nodes {
             spans,
             covered,
             x,
+            marks,
             writes,
         );
         unlink(&mut self.top, &mut self.links, &self.color, x, writes);
@@ -283,16 +370,19 @@ impl Nodes {
     }
 
     /// Puts node x, which a Tweak took off, back.
+    #[inline(never)]
     pub(crate) fn untweak(
         &mut self,
         spans: &[Span],
         covered: bool,
         x: u32,
+        marks: bool,
         writes: &mut Writes,
     ) -> u64
         requires small { length spans.now < 2 ^ 31 }
         requires ends { All (λ s. s.end < 2 ^ 31) spans.now }
         requires can { CanUntweak spans.now covered self.old x }
+        requires unmarked { marks ≡ false → IsUnmarked spans.now self.old.color }
         ensures done { self.new ≡ untweaked spans.now covered self.old x }
         ensures cost { result ≡ untweak_cost spans.now covered self.old x }
         ensures counted { writes.new.count ≡ writes.old.count + result }
@@ -305,12 +395,14 @@ impl Nodes {
             spans,
             covered,
             x,
+            marks,
             writes,
         );
         count + 3
     }
 
     /// Undoes k Tweaks of item i, x being the first node that they took off.
+    #[inline(never)]
     pub(crate) fn untweak_all(
         &mut self,
         spans: &[Span],
@@ -318,11 +410,13 @@ impl Nodes {
         i: u32,
         x: u32,
         k: u32,
+        marks: bool,
         writes: &mut Writes,
     ) -> u64
         requires small { length spans.now < 2 ^ 31 }
         requires ends { All (λ s. s.end < 2 ^ 31) spans.now }
         requires can { CanUntweakAll spans.now covered self.old i x k }
+        requires unmarked { marks ≡ false → IsUnmarked spans.now self.old.color }
         ensures done { self.new ≡ untweaked_all spans.now covered self.old i x k }
         ensures cost { result ≡ untweak_all_cost spans.now covered self.old i x k }
         ensures counted { writes.new.count ≡ writes.old.count + result }
@@ -336,6 +430,7 @@ impl Nodes {
             covered,
             x,
             k,
+            marks,
             writes,
         );
         let len = self.top(i);

@@ -8,6 +8,12 @@ use crate::links::nodes::Span;
 use std::alloc::{AllocError, Global};
 use xc_input::Problem;
 
+/// The span of what is no use: from no place that there is, neither up nor down.
+const NO_SPAN: Span = Span {
+    first: 0x7fff_ffff,
+    end: 0,
+};
+
 /// Where the option of each node stands; an empty span for what is no use.
 pub(crate) fn option_spans(alloc: Global, problem: &Problem) -> Result<Vec<Span>, AllocError>
     requires { IsWithinLimits problem.now.puzzle }
@@ -26,7 +32,7 @@ fn item_spans(alloc: Global, problem: &Problem) -> Result<Vec<Span>, AllocError>
 {
     let mut spans = Vec::new(alloc);
     for _ in 0..problem.items() + 2 {
-        spans.push(Span { first: 0, end: 0 })?;
+        spans.push(NO_SPAN)?;
     }
     Ok(spans)
 }
@@ -43,6 +49,6 @@ fn add_option(spans: &mut Vec<Span>, problem: &Problem, o: u32) -> Result<(), Al
     for _ in first..end {
         spans.push(Span { first, end })?;
     }
-    spans.push(Span { first: 0, end: 0 })?;
+    spans.push(NO_SPAN)?;
     Ok(())
 }

@@ -1,8 +1,9 @@
 //! Steps over the nodes of one option: hide and unhide. The walks take the tables as slices, so that their bases stay in
 //! registers: behind a vector each would be loaded anew after every write.
-ghost use Rattle.std.specs.Prelude.{◌≡◌, ℕ, ◌+◌, ◌-◌, ◌*◌, ◌<◌, ◌≤◌, ◌^◌, length, slice_index, fold, reverse};
-ghost use Rattle.xc_dance.specs.Links.Columns.{columns};
+ghost use Rattle.std.specs.Prelude.{◌≡◌, ◌≢◌, false, ℕ, ◌+◌, ◌-◌, ◌*◌, ◌<◌, ◌≤◌, ◌^◌, length, slice_index, fold, reverse};
+ghost use Rattle.xc_dance.specs.Links.Columns.{values, columns};
 ghost use Rattle.xc_dance.specs.Links.Steps.{HasSize, NamesPlaces, unlinked, relinked, hidden, hide_cost, hide_costs, CanHide, CanHideAll, places, others, shown, CanShow, CanShowAll, show_costs};
+ghost use Rattle.xc_dance.specs.Links.Unmarked.{AreUnmarked};
 
 use crate::links::cells::{Cell, Link, down, get, set, set_down, set_up, up};
 use crate::links::nodes::MARK;
@@ -56,21 +57,24 @@ pub(crate) fn relink(
     set(top, i, count + 1, writes);
 }
 
-/// A step of hide.
+/// A step of hide. `marks` tells whether any node of an option may be marked; it is a constant at each call, and no test is
+/// made for it.
 #[inline(always)]
 fn hide_one(
     top: &mut [Cell],
     links: &mut [Link],
     color: &[Cell],
     q: u32,
+    marks: bool,
     writes: &mut Writes,
 ) -> u64
-    requires { CanHide (columns top.old links.old color.now) q }
+    requires can { CanHide (columns top.old links.old color.now) q }
+    requires unmarked { marks ≡ false → slice_index (values color.now) q ≢ 4294967295 }
     ensures done { columns top.new links.new color.now ≡ hidden (columns top.old links.old color.now) q }
     ensures cost { result ≡ hide_cost (columns top.old links.old color.now) q }
     ensures counted { writes.new.count ≡ writes.old.count + result }
 {
-    if get(color, q) == MARK {
+    if marks && get(color, q) == MARK {
         0
     } else {
         unlink(top, links, color, q, writes);
@@ -86,9 +90,11 @@ fn hide_range(
     color: &[Cell],
     a: u32,
     b: u32,
+    marks: bool,
     writes: &mut Writes,
 ) -> u64
-    requires { CanHideAll (columns top.old links.old color.now) (places a b) }
+    requires can { CanHideAll (columns top.old links.old color.now) (places a b) }
+    requires unmarked { marks ≡ false → AreUnmarked (values color.now) a b }
     ensures done { columns top.new links.new color.now ≡ fold hidden (columns top.old links.old color.now) (places a b) }
     ensures cost { result ≡ hide_costs (columns top.old links.old color.now) (places a b) }
     ensures counted { writes.new.count ≡ writes.old.count + result }
@@ -96,7 +102,7 @@ fn hide_range(
 {
     let mut count = 0u64;
     for q in a..b {
-        count += hide_one(top, links, color, q, writes);
+        count += hide_one(top, links, color, q, marks, writes);
     }
     count
 }
@@ -110,17 +116,20 @@ pub(crate) fn hide(
     p: u32,
     first: u32,
     end: u32,
+    marks: bool,
     writes: &mut Writes,
 ) -> u64
     requires near { p < 2 ^ 31 }
     requires can { CanHideAll (columns top.old links.old color.now) (others p first end) }
+    requires above { marks ≡ false → AreUnmarked (values color.now) (p + 1) end }
+    requires below { marks ≡ false → AreUnmarked (values color.now) first p }
     ensures done { columns top.new links.new color.now ≡ fold hidden (columns top.old links.old color.now) (others p first end) }
     ensures cost { result ≡ hide_costs (columns top.old links.old color.now) (others p first end) }
     ensures few { result ≤ 3 * (end + p) }
     ensures counted { writes.new.count ≡ writes.old.count + result }
 {
-    let above = hide_range(top, links, color, p + 1, end, writes);
-    let below = hide_range(top, links, color, first, p, writes);
+    let above = hide_range(top, links, color, p + 1, end, marks, writes);
+    let below = hide_range(top, links, color, first, p, marks, writes);
     above + below
 }
 
@@ -131,14 +140,16 @@ fn show_one(
     links: &mut [Link],
     color: &[Cell],
     q: u32,
+    marks: bool,
     writes: &mut Writes,
 ) -> u64
-    requires { CanShow (columns top.old links.old color.now) q }
+    requires can { CanShow (columns top.old links.old color.now) q }
+    requires unmarked { marks ≡ false → slice_index (values color.now) q ≢ 4294967295 }
     ensures done { columns top.new links.new color.now ≡ shown (columns top.old links.old color.now) q }
     ensures cost { result ≡ hide_cost (columns top.old links.old color.now) q }
     ensures counted { writes.new.count ≡ writes.old.count + result }
 {
-    if get(color, q) == MARK {
+    if marks && get(color, q) == MARK {
         0
     } else {
         relink(top, links, color, q, writes);
@@ -154,9 +165,11 @@ fn show_range(
     color: &[Cell],
     a: u32,
     b: u32,
+    marks: bool,
     writes: &mut Writes,
 ) -> u64
-    requires { CanShowAll (columns top.old links.old color.now) (reverse (places a b)) }
+    requires can { CanShowAll (columns top.old links.old color.now) (reverse (places a b)) }
+    requires unmarked { marks ≡ false → AreUnmarked (values color.now) a b }
     ensures done { columns top.new links.new color.now ≡ fold shown (columns top.old links.old color.now) (reverse (places a b)) }
     ensures cost { result ≡ show_costs (columns top.old links.old color.now) (reverse (places a b)) }
     ensures counted { writes.new.count ≡ writes.old.count + result }
@@ -164,7 +177,7 @@ fn show_range(
 {
     let mut count = 0u64;
     for q in (a..b).rev() {
-        count += show_one(top, links, color, q, writes);
+        count += show_one(top, links, color, q, marks, writes);
     }
     count
 }
@@ -178,16 +191,19 @@ pub(crate) fn unhide(
     p: u32,
     first: u32,
     end: u32,
+    marks: bool,
     writes: &mut Writes,
 ) -> u64
     requires near { p < 2 ^ 31 }
     requires can { CanShowAll (columns top.old links.old color.now) (reverse (others p first end)) }
+    requires above { marks ≡ false → AreUnmarked (values color.now) (p + 1) end }
+    requires below { marks ≡ false → AreUnmarked (values color.now) first p }
     ensures done { columns top.new links.new color.now ≡ fold shown (columns top.old links.old color.now) (reverse (others p first end)) }
     ensures cost { result ≡ show_costs (columns top.old links.old color.now) (reverse (others p first end)) }
     ensures few { result ≤ 3 * (end + p) }
     ensures counted { writes.new.count ≡ writes.old.count + result }
 {
-    let below = show_range(top, links, color, first, p, writes);
-    let above = show_range(top, links, color, p + 1, end, writes);
+    let below = show_range(top, links, color, first, p, marks, writes);
+    let above = show_range(top, links, color, p + 1, end, marks, writes);
     below + above
 }

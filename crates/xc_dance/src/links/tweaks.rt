@@ -1,9 +1,10 @@
 //! Tweaks: the option of a first node is hidden and comes back, alone or with those that were tweaked off behind it.
 ghost use Rattle.std.specs.Prelude.{◌≡◌, ℕ, ◌+◌, ◌*◌, ◌<◌, ◌≤◌, ◌^◌, length, fold, reverse, All, false, if◌then◌else◌};
-ghost use Rattle.xc_dance.specs.Links.Columns.{columns};
+ghost use Rattle.xc_dance.specs.Links.Columns.{values, columns};
 ghost use Rattle.xc_dance.specs.Links.Steps.{hide_costs, CanHideAll, CanShowAll, show_costs, others_of, followed};
 ghost use Rattle.xc_dance.specs.Links.Tweaking.{hidden_unless, shown_unless};
 ghost use Rattle.xc_dance.specs.Links.TweaksBack.{climbed, climb_cost, CanClimb, IsClimb, climb_costs};
+ghost use Rattle.xc_dance.specs.Links.Unmarked.{IsUnmarked};
 
 use crate::links::cells::{Cell, Link, down, set_up};
 use crate::links::nodes::Span;
@@ -19,11 +20,13 @@ pub(crate) fn hide_unless(
     spans: &[Span],
     covered: bool,
     x: u32,
+    marks: bool,
     writes: &mut Writes,
 ) -> u64
     requires small { length spans.now < 2 ^ 31 }
     requires ends { All (λ s. s.end < 2 ^ 31) spans.now }
     requires can { covered ≡ false → (x < length spans.now) × CanHideAll (columns top.old links.old color.now) (others_of spans.now x) }
+    requires unmarked { marks ≡ false → IsUnmarked spans.now (values color.now) }
     ensures done { columns top.new links.new color.now ≡ hidden_unless spans.now covered (columns top.old links.old color.now) x }
     ensures cost { result ≡ (if covered then 0 else hide_costs (columns top.old links.old color.now) (others_of spans.now x)) }
     ensures few { result ≤ 3 * 2 ^ 32 }
@@ -33,7 +36,11 @@ pub(crate) fn hide_unless(
         return 0;
     }
     let span = spans[x as usize];
-    hide(top, links, color, x, span.first, span.end, writes)
+    if marks {
+        hide(top, links, color, x, span.first, span.end, true, writes)
+    } else {
+        hide(top, links, color, x, span.first, span.end, false, writes)
+    }
 }
 
 /// Undoes `hide_unless`.
@@ -45,11 +52,13 @@ pub(crate) fn show_unless(
     spans: &[Span],
     covered: bool,
     x: u32,
+    marks: bool,
     writes: &mut Writes,
 ) -> u64
     requires small { length spans.now < 2 ^ 31 }
     requires ends { All (λ s. s.end < 2 ^ 31) spans.now }
     requires can { covered ≡ false → (x < length spans.now) × CanShowAll (columns top.old links.old color.now) (reverse (others_of spans.now x)) }
+    requires unmarked { marks ≡ false → IsUnmarked spans.now (values color.now) }
     ensures done { columns top.new links.new color.now ≡ shown_unless spans.now covered (columns top.old links.old color.now) x }
     ensures cost { result ≡ (if covered then 0 else show_costs (columns top.old links.old color.now) (reverse (others_of spans.now x))) }
     ensures few { result ≤ 3 * 2 ^ 32 }
@@ -59,7 +68,11 @@ pub(crate) fn show_unless(
         return 0;
     }
     let span = spans[x as usize];
-    unhide(top, links, color, x, span.first, span.end, writes)
+    if marks {
+        unhide(top, links, color, x, span.first, span.end, true, writes)
+    } else {
+        unhide(top, links, color, x, span.first, span.end, false, writes)
+    }
 }
 
 /// One step down nodes that come back: the option of node p is put back, unless its item is covered, and what
@@ -72,17 +85,19 @@ fn climb_one(
     spans: &[Span],
     covered: bool,
     p: u32,
+    marks: bool,
     writes: &mut Writes,
 ) -> u64
     requires small { length spans.now < 2 ^ 31 }
     requires ends { All (λ s. s.end < 2 ^ 31) spans.now }
     requires can { CanClimb spans.now covered (columns top.old links.old color.now) p }
+    requires unmarked { marks ≡ false → IsUnmarked spans.now (values color.now) }
     ensures done { columns top.new links.new color.now ≡ climbed spans.now covered (columns top.old links.old color.now) p }
     ensures cost { result ≡ climb_cost spans.now covered (columns top.old links.old color.now) p }
     ensures few { result ≤ 3 * 2 ^ 32 + 1 }
     ensures counted { writes.new.count ≡ writes.old.count + result }
 {
-    let count = show_unless(top, links, color, spans, covered, p, writes);
+    let count = show_unless(top, links, color, spans, covered, p, marks, writes);
     let d = down(links, p);
     set_up(links, d, p, writes);
     count + 1
@@ -98,12 +113,14 @@ pub(crate) fn climb(
     covered: bool,
     x: u32,
     k: u32,
+    marks: bool,
     writes: &mut Writes,
 ) -> u64
     requires small { length spans.now < 2 ^ 31 }
     requires ends { All (λ s. s.end < 2 ^ 31) spans.now }
     requires many { k < 2 ^ 30 }
     requires can { IsClimb spans.now covered (columns top.old links.old color.now) x (followed (columns top.old links.old color.now).dlink k x) }
+    requires unmarked { marks ≡ false → IsUnmarked spans.now (values color.now) }
     ensures done { columns top.new links.new color.now ≡ fold (climbed spans.now covered) (columns top.old links.old color.now) (followed (columns top.old links.old color.now).dlink k x) }
     ensures cost { result ≡ climb_costs spans.now covered (columns top.old links.old color.now) (followed (columns top.old links.old color.now).dlink k x) }
     ensures few_writes { result ≤ 3 * 2 ^ 62 + 2 ^ 30 }
@@ -112,7 +129,7 @@ pub(crate) fn climb(
     let mut count = 0u64;
     let mut p = x;
     for _ in 0..k {
-        count += climb_one(top, links, color, spans, covered, p, writes);
+        count += climb_one(top, links, color, spans, covered, p, marks, writes);
         p = down(links, p);
     }
     count

@@ -1,9 +1,10 @@
 //! Walks down the list of an item and back up. The nodes of a colour that is kept are marked on the way, the options of the
 //! others hidden.
-ghost use Rattle.std.specs.Prelude.{◌≡◌, ℕ, ◌+◌, ◌-◌, ◌*◌, ◌<◌, ◌≤◌, ◌^◌, length, slice_index, fold, All};
+ghost use Rattle.std.specs.Prelude.{◌≡◌, ℕ, ◌+◌, ◌-◌, ◌*◌, ◌<◌, ◌≤◌, ◌^◌, length, slice_index, fold, All, None, false};
 ghost use Rattle.xc_dance.specs.Links.Columns.{values, columns};
 ghost use Rattle.xc_dance.specs.Links.Steps.{list_of, list_back};
 ghost use Rattle.xc_dance.specs.Links.ListWalks.{is_kept_colour, left_node, leave_cost, back_node, back_cost, CanLeave, CanReturn, walk_costs, back_costs, CanHideList, CanShowList};
+ghost use Rattle.xc_dance.specs.Links.Unmarked.{IsUnmarked};
 
 use crate::links::cells::{Cell, Link, down, get, set, up};
 use crate::links::nodes::{MARK, Span};
@@ -31,11 +32,13 @@ fn leave(
     spans: &[Span],
     p: u32,
     keep: Option<u32>,
+    marks: bool,
     writes: &mut Writes,
 ) -> u64
     requires small { length spans.now < 2 ^ 31 }
     requires ends { All (λ s. s.end < 2 ^ 31) spans.now }
     requires can { CanLeave spans.now keep (columns top.old links.old color.old) p }
+    requires unmarked { marks ≡ false → IsUnmarked spans.now (values color.old) }
     ensures done { columns top.new links.new color.new ≡ left_node spans.now keep (columns top.old links.old color.old) p }
     ensures cost { result ≡ leave_cost spans.now keep (columns top.old links.old color.old) p }
     ensures few { result ≤ 3 * 2 ^ 32 }
@@ -46,7 +49,7 @@ fn leave(
         return 1;
     }
     let span = spans[p as usize];
-    hide(top, links, color, p, span.first, span.end, writes)
+    hide(top, links, color, p, span.first, span.end, marks, writes)
 }
 
 /// A step up a list at node p: a marked node gets the colour kept back, the option of any other one is put back.
@@ -58,11 +61,13 @@ fn come_back(
     spans: &[Span],
     p: u32,
     keep: Option<u32>,
+    marks: bool,
     writes: &mut Writes,
 ) -> u64
     requires small { length spans.now < 2 ^ 31 }
     requires ends { All (λ s. s.end < 2 ^ 31) spans.now }
     requires can { CanReturn spans.now keep (columns top.old links.old color.old) p }
+    requires unmarked { marks ≡ false → IsUnmarked spans.now (values color.old) }
     ensures done { columns top.new links.new color.new ≡ back_node spans.now keep (columns top.old links.old color.old) p }
     ensures cost { result ≡ back_cost spans.now keep (columns top.old links.old color.old) p }
     ensures few { result ≤ 3 * 2 ^ 32 }
@@ -75,7 +80,7 @@ fn come_back(
         }
     }
     let span = spans[p as usize];
-    unhide(top, links, color, p, span.first, span.end, writes)
+    unhide(top, links, color, p, span.first, span.end, marks, writes)
 }
 
 /// Goes down the list of item i: its nodes of the colour kept are marked, the others are hidden.
@@ -87,11 +92,14 @@ pub(crate) fn hide_list(
     spans: &[Span],
     i: u32,
     keep: Option<u32>,
+    marks: bool,
     writes: &mut Writes,
 ) -> u64
     requires small { length spans.now < 2 ^ 31 }
     requires ends { All (λ s. s.end < 2 ^ 31) spans.now }
     requires can { CanHideList spans.now keep (columns top.old links.old color.old) i }
+    requires unmarked { marks ≡ false → IsUnmarked spans.now (values color.old) }
+    requires none { marks ≡ false → keep ≡ None }
     ensures done { columns top.new links.new color.new ≡ fold (left_node spans.now keep) (columns top.old links.old color.old) (list_of (columns top.old links.old color.old) i) }
     ensures cost { result ≡ walk_costs spans.now keep (columns top.old links.old color.old) (list_of (columns top.old links.old color.old) i) }
     ensures few_writes { result ≤ 3 * 2 ^ 62 }
@@ -100,7 +108,7 @@ pub(crate) fn hide_list(
     let mut count = 0u64;
     let mut p = down(links, i);
     for _ in 0..get(top, i) {
-        count += leave(top, links, color, spans, p, keep, writes);
+        count += leave(top, links, color, spans, p, keep, marks, writes);
         p = down(links, p);
     }
     count
@@ -115,11 +123,14 @@ pub(crate) fn unhide_list(
     spans: &[Span],
     i: u32,
     keep: Option<u32>,
+    marks: bool,
     writes: &mut Writes,
 ) -> u64
     requires small { length spans.now < 2 ^ 31 }
     requires ends { All (λ s. s.end < 2 ^ 31) spans.now }
     requires can { CanShowList spans.now keep (columns top.old links.old color.old) i }
+    requires unmarked { marks ≡ false → IsUnmarked spans.now (values color.old) }
+    requires none { marks ≡ false → keep ≡ None }
     ensures done { columns top.new links.new color.new ≡ fold (back_node spans.now keep) (columns top.old links.old color.old) (list_back (columns top.old links.old color.old) i) }
     ensures cost { result ≡ back_costs spans.now keep (columns top.old links.old color.old) (list_back (columns top.old links.old color.old) i) }
     ensures few_writes { result ≤ 3 * 2 ^ 62 }
@@ -128,7 +139,7 @@ pub(crate) fn unhide_list(
     let mut count = 0u64;
     let mut p = up(links, i);
     for _ in 0..get(top, i) {
-        count += come_back(top, links, color, spans, p, keep, writes);
+        count += come_back(top, links, color, spans, p, keep, marks, writes);
         p = up(links, p);
     }
     count

@@ -4,8 +4,8 @@ use Rattle.xc_dance.specs.Links.Steps.{hidden, hide_cost, hide_costs, CanHideAll
 use Rattle.xc_dance.proofs.LinkedTables.Places.{places_more}
 use Rattle.xc_dance.proofs.links.steps.hide_range.Goals as goal
 
-pub hide_one-count-requires : goal.hide_one-count-requires
-hide_one-count-requires c =
+pub hide_one-count-requires-clause-can : goal.hide_one-count-requires-clause-can
+hide_one-count-requires-clause-can c =
     let q = c.loop-q.q in
     let can : CanHideAll (columns c.loop-q.top c.loop-q.links c.args.color.now) (q ∷ places (q + 1) c.args.b) =
     subst (CanHideAll (columns c.loop-q.top c.loop-q.links c.args.color.now)) (places_more q c.args.b c.loop-q-test.true) c.loop-q.invariant.can in can.0

@@ -11,8 +11,8 @@ last_first a q h =
     let le : a ≤ q - 1 = omega arith in
     ap (λ k. reverse (places a k)) (sym e) ∙ reverse-places a (q - 1) le
 
-pub show_one-count-requires : goal.show_one-count-requires
-show_one-count-requires c =
+pub show_one-count-requires-clause-can : goal.show_one-count-requires-clause-can
+show_one-count-requires-clause-can c =
     let q = c.loop-q.q in
     let can : CanShowAll (columns c.loop-q.top c.loop-q.links c.args.color.now) ((q - 1) ∷ reverse (places c.args.a (q - 1))) =
     subst (CanShowAll (columns c.loop-q.top c.loop-q.links c.args.color.now)) (last_first c.args.a q c.loop-q-test.true) c.loop-q.invariant.can in can.0

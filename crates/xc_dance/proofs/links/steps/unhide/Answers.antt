@@ -13,11 +13,11 @@ parts p first end = reverse-append (places (p + 1) end) (places first p)
 both : (t : Nodes) (p first end : ℕ) → CanShowAll t (reverse (others p first end)) → CanShowAll t (reverse (places first p)) × CanShowAll (fold shown t (reverse (places first p))) (reverse (places (p + 1) end))
 both t p first end h = CanShowAll-append t (reverse (places first p)) (reverse (places (p + 1) end)) (subst (CanShowAll t) (parts p first end) h)
 
-pub show_range-below-requires : goal.show_range-below-requires
-show_range-below-requires c = (both (columns c.args.top.now c.args.links.now c.args.color.now) c.args.p c.args.first c.args.end c.requires.can).0
+pub show_range-below-requires-clause-can : goal.show_range-below-requires-clause-can
+show_range-below-requires-clause-can c = (both (columns c.args.top.now c.args.links.now c.args.color.now) c.args.p c.args.first c.args.end c.requires.can).0
 
-pub show_range-above-requires : goal.show_range-above-requires
-show_range-above-requires c =
+pub show_range-above-requires-clause-can : goal.show_range-above-requires-clause-can
+show_range-above-requires-clause-can c =
     subst (λ (t : Nodes). CanShowAll t (reverse (places (c.args.p + 1) c.args.end))) (sym c.show_range-below.ensures.done)
     (both (columns c.args.top.now c.args.links.now c.args.color.now) c.args.p c.args.first c.args.end c.requires.can).1
 

@@ -5,6 +5,7 @@ use Rattle.xc_dance.specs.declared.links.nodes.Nodes.{Nodes}
 use Rattle.xc_dance.specs.Links.ListWalks.{left_node, leave_cost, IsWalk, walk_costs}
 use Rattle.xc_dance.specs.Links.Steps.{list_of}
 use Rattle.xc_dance.proofs.LinkedTables.Walks.{length-followed, walk_more}
+use Rattle.xc_dance.proofs.LinkedTables.UnmarkedNodes.{left_unmarked}
 use Rattle.xc_dance.proofs.links.walks.hide_list.Goals as goal
 use Rattle.xc_dance.proofs.links.walks.hide_list.Goals.{In-loop}
 
@@ -19,6 +20,9 @@ first c =
 -- the walk from there
 here : (c : In-loop) → IsWalk c.args.spans.now c.args.keep (columns c.loop.top c.loop.links c.loop.color) c.loop.p (c.loop.p ∷ drop (c.loop.counter + 1) (list_of (columns c.args.top.now c.args.links.now c.args.color.now) c.args.i))
 here c = subst (IsWalk c.args.spans.now c.args.keep (columns c.loop.top c.loop.links c.loop.color) c.loop.p) (first c) c.loop.invariant.walk
+
+pub leave-count-requires-clause-unmarked : goal.leave-count-requires-clause-unmarked
+leave-count-requires-clause-unmarked c = c.loop.invariant.unmarked
 
 pub leave-count-requires-clause-can : goal.leave-count-requires-clause-can
 leave-count-requires-clause-can c = (here (goal.at.leave-count-requires-clause-can c).In-loop).1
@@ -44,6 +48,7 @@ loop-preserved c =
       walk = subst (λ (u : Nodes). IsWalk spans keep u c.down-p-in-loop.result rest) (sym done) (subst (λ p. IsWalk spans keep (left_node spans keep t c.loop.p) p rest) (sym next) walk.3);
       done = ap (λ (u : Nodes). fold (left_node spans keep) u rest) done ∙ sym (ap (fold (left_node spans keep) t) (first at)) ∙ c.loop.invariant.done;
       cost = omega (arith, cost, left, c.leave-count.ensures.cost);
+      unmarked = left_unmarked spans c.args.marks keep t (columns c.leave-count.new.top c.leave-count.new.links c.leave-count.new.color) c.loop.p done c.requires.none c.loop.invariant.unmarked;
       counted = omega arith;
       few = omega (arith, c.leave-count.ensures.few);
     }

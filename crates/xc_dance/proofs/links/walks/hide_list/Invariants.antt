@@ -1,6 +1,7 @@
-use Rattle.std.proofs.Common.{◌≡◌, ◌+◌, ◌*◌, ◌^◌, ◌≤◌, drop, fold}
-use Rattle.xc_dance.specs.Links.Columns.{columns}
+use Rattle.std.proofs.Common.{◌≡◌, false, ◌+◌, ◌*◌, ◌^◌, ◌≤◌, drop, fold}
+use Rattle.xc_dance.specs.Links.Columns.{values, columns}
 use Rattle.xc_dance.specs.Links.ListWalks.{left_node, IsWalk, walk_costs}
+use Rattle.xc_dance.specs.Links.Unmarked.{IsUnmarked}
 use Rattle.xc_dance.specs.Links.Steps.{list_of}
 use Rattle.xc_dance.proofs.links.walks.hide_list.Given as goal
 
@@ -12,6 +13,7 @@ invariant-loop l =
       walk : IsWalk l.spans l.keep (columns l.top l.links l.color) l.p (drop l.counter xs);
       done : fold (left_node l.spans l.keep) (columns l.top l.links l.color) (drop l.counter xs) ≡ fold (left_node l.spans l.keep) (columns l.initial.top l.initial.links l.initial.color) xs;
       cost : l.count + walk_costs l.spans l.keep (columns l.top l.links l.color) (drop l.counter xs) ≡ walk_costs l.spans l.keep (columns l.initial.top l.initial.links l.initial.color) xs;
+      unmarked : l.marks ≡ false → IsUnmarked l.spans (values l.color);
       counted : l.writes.count ≡ l.initial.writes.count + l.count;
       few : l.count ≤ 3 * 2 ^ 32 * l.counter;
     }

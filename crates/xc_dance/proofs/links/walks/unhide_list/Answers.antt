@@ -5,6 +5,7 @@ use Rattle.xc_dance.specs.declared.links.nodes.Nodes.{Nodes}
 use Rattle.xc_dance.specs.Links.ListWalks.{back_node, back_cost, IsWalkBack, back_costs}
 use Rattle.xc_dance.specs.Links.Steps.{list_back}
 use Rattle.xc_dance.proofs.LinkedTables.Walks.{length-followed, walk_back_more}
+use Rattle.xc_dance.proofs.LinkedTables.UnmarkedNodes.{back_unmarked}
 use Rattle.xc_dance.proofs.links.walks.unhide_list.Goals as goal
 use Rattle.xc_dance.proofs.links.walks.unhide_list.Goals.{In-loop}
 
@@ -19,6 +20,9 @@ first c =
 -- the walk from there
 here : (c : In-loop) → IsWalkBack c.args.spans.now c.args.keep (columns c.loop.top c.loop.links c.loop.color) c.loop.p (c.loop.p ∷ drop (c.loop.counter + 1) (list_back (columns c.args.top.now c.args.links.now c.args.color.now) c.args.i))
 here c = subst (IsWalkBack c.args.spans.now c.args.keep (columns c.loop.top c.loop.links c.loop.color) c.loop.p) (first c) c.loop.invariant.walk
+
+pub come_back-count-requires-clause-unmarked : goal.come_back-count-requires-clause-unmarked
+come_back-count-requires-clause-unmarked c = c.loop.invariant.unmarked
 
 pub come_back-count-requires-clause-can : goal.come_back-count-requires-clause-can
 come_back-count-requires-clause-can c = (here (goal.at.come_back-count-requires-clause-can c).In-loop).1
@@ -44,6 +48,7 @@ loop-preserved c =
       walk = subst (λ (u : Nodes). IsWalkBack spans keep u c.up-p-in-loop.result rest) (sym done) (subst (λ p. IsWalkBack spans keep (back_node spans keep t c.loop.p) p rest) (sym next) walk.3);
       done = ap (λ (u : Nodes). fold (back_node spans keep) u rest) done ∙ sym (ap (fold (back_node spans keep) t) (first at)) ∙ c.loop.invariant.done;
       cost = omega (arith, cost, left, c.come_back-count.ensures.cost);
+      unmarked = back_unmarked spans c.args.marks keep t (columns c.come_back-count.new.top c.come_back-count.new.links c.come_back-count.new.color) c.loop.p done c.requires.none c.loop.invariant.unmarked;
       counted = omega arith;
       few = omega (arith, c.come_back-count.ensures.few);
     }

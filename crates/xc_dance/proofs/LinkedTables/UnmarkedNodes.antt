@@ -1,0 +1,182 @@
+-- Where no use has a colour no node of an option is marked, and no walk marks one.
+use Rattle.std.proofs.Common.{◌≡◌, ◌≢◌, ℕ, zero, suc, ◌-◌, ◌<◌, ◌≤◌, Bool, true, false, cond, ◌&&◌, eqb, ltb, List, [], ◌∷◌, length, map, fold, reverse, get_or, Option, Some, None, refl, ap, sym, subst, ◌∙◌, arith, ltb-true, ltb-false, eqb-true, ne_eqb}
+use Rattle.std.specs.Prelude.{slice_get, is_some, All}
+use Rattle.std.specs.List.{AllByRecursion}
+use Rattle.std.proofs.lemmas.Bool.{eqb-false}
+use Rattle.std.proofs.lemmas.List.{length-map}
+use Rattle.std.proofs.lemmas.List.Elements.{recursion_from_All}
+use Rattle.std.proofs.lemmas.Option.{slice_get_within}
+use Rattle.xc_input.specs.declared.problem.Use.{Use}
+use Rattle.xc_input.specs.Problem.{Puzzle, colour_in, uses_of, item_count, option_count}
+use Rattle.xc_input.specs.Named.{AreColoursKnown}
+use Rattle.xc_dance.specs.declared.dance.Move.{Move}
+use Rattle.xc_dance.specs.declared.dance.Move.TheVariants.{Cover, Purify, Tweak, Spend}
+use Rattle.xc_dance.specs.declared.links.nodes.Nodes.{Nodes}
+use Rattle.xc_dance.specs.declared.links.nodes.Span.{Span}
+use Rattle.xc_dance.specs.Moves.{AreLegal, listed_numbers}
+use Rattle.xc_dance.specs.Fields.{Node, unused, own, spacer, used, layout, spacer_place, is_in, is_marked}
+use Rattle.xc_dance.specs.Links.Cells.{color_in, nodes_after}
+use Rattle.xc_dance.specs.Links.Laid.{IsLaid}
+use Rattle.xc_dance.specs.Links.Made.{IsFitted}
+use Rattle.xc_dance.specs.Links.OptionPlaces.{place_at}
+use Rattle.xc_dance.specs.Links.OptionSpans.{span_of, spans_of}
+use Rattle.xc_dance.specs.Links.Steps.{hidden, shown, others_of}
+use Rattle.xc_dance.specs.Links.ListWalks.{left_node, back_node}
+use Rattle.xc_dance.specs.Links.Unmarked.{IsPlain, HasUnmarked, IsUnmarked}
+use Rattle.xc_dance.proofs.LinkedTables.FitLemmas.{at_option, each_one}
+use Rattle.xc_dance.proofs.LinkedTables.Mapped.{get_map}
+use Rattle.xc_dance.proofs.LinkedTables.PlaceLemmas.{get_there}
+use Rattle.xc_dance.proofs.LinkedTables.SpacerPlaces.{spacer_at}
+use Rattle.xc_dance.proofs.LinkedTables.SpanLemmas.{there}
+use Rattle.xc_dance.proofs.LinkedTables.UnmarkedCosts.{hidden_color, shown_color}
+
+-- ---- the problem
+
+-- where there is no colour no use has one
+pub is_plain : (colours : List (List ℕ)) (p : Puzzle) → AreColoursKnown colours p.options → length colours ≡ 0 → IsPlain p
+is_plain colours p known none = λ o.
+    at_option (λ us. AllByRecursion (λ u. u.colour ≡ 0) us) p o tt
+    (each_one (λ us. AllByRecursion (λ u. u.colour ≤ length colours) us) (λ us. AllByRecursion (λ u. u.colour ≡ 0) us) p.options
+    (λ us h. each_one (λ u. u.colour ≤ length colours) (λ u. u.colour ≡ 0) us (λ u le. omega (arith, le, none)) h)
+    (each_one (λ us. All (λ u. u.colour ≤ length colours) us) (λ us. AllByRecursion (λ u. u.colour ≤ length colours) us) p.options (λ us h. recursion_from_All (λ u. u.colour ≤ length colours) us h)
+    (recursion_from_All (λ us. All (λ u. u.colour ≤ length colours) us) p.options known)))
+
+some_number : (a b : ℕ) → Some a ≡ Some b → a ≡ b
+some_number a b e = cc
+
+no_colour : (us : List Use) (j c : ℕ) → AllByRecursion (λ u. u.colour ≡ 0) us → colour_in us j ≡ Some c → c ≡ 0
+no_colour [] j c a e = cc
+no_colour (u ∷ us) j c a e =
+    elim (eqb u.item j) as (λ b. cond b (Some u.colour) (colour_in us j) ≡ Some c → c ≡ 0) [
+      | true ↦ λ f. sym (some_number u.colour c f) ∙ a.0
+      | false ↦ λ f. no_colour us j c a.1 f
+    ] e
+
+-- ---- the colours of its nodes
+
+-- a Purify marks with a colour
+never_marked : (p : Puzzle) (t : List Move) (i o : ℕ) → AreLegal p t → is_marked p t i o 0 ≡ false
+never_marked p [] i o legal = refl
+never_marked p (Cover j ∷ t) i o legal = never_marked p t i o legal.1
+never_marked p (Purify j d ∷ t) i o legal =
+    let rest = never_marked p t i o legal.1 in
+    let some = legal.0.2 in
+    ap (λ b. cond ((eqb j i && b) && is_in o (listed_numbers p t i)) true (is_marked p t i o 0)) (ne_eqb d 0 (λ e. omega (arith, e, some)))
+    ∙ elim (eqb j i) as (λ a. cond ((a && false) && is_in o (listed_numbers p t i)) true (is_marked p t i o 0) ≡ false) [ true ↦ rest | false ↦ rest ]
+never_marked p (Tweak j ∷ t) i o legal = never_marked p t i o legal.1
+never_marked p (Spend j ∷ t) i o legal = never_marked p t i o legal.1
+
+no_color : (p : Puzzle) (t : List Move) (q : ℕ) (n : Node) → IsLaid p → AreLegal p t → IsPlain p → item_count p < q → slice_get (layout p) q ≡ Some n → color_in p t n ≡ 0
+no_color p t q unused laid legal plain gt e = refl
+no_color p t q (own i) laid legal plain gt e =
+    let at : i ≡ q = laid.unique q (own i) i 0 e refl in
+    let r = laid.ranged q (own i) i 0 e refl in
+    absurd (omega (arith, at, r.1, gt))
+no_color p t q (spacer n) laid legal plain gt e = refl
+no_color p t q (used o u) laid legal plain gt e =
+    let none : u.colour ≡ 0 = no_colour (uses_of p o) u.item u.colour (plain o) (laid.coloured q o u e) in
+    ap (λ c. cond (is_marked p t u.item o c) 4294967295 c) none
+    ∙ ap (λ b. cond b 4294967295 0) (never_marked p t u.item o legal)
+
+past_end : (f : Node → ℕ) (ns : List Node) (q : ℕ) → length ns ≤ q → get_or (map f ns) q 0 ≡ 0
+past_end f [] q le = refl
+past_end f (n ∷ ns) zero le = absurd (omega (arith, le))
+past_end f (n ∷ ns) (suc q) le = past_end f ns q (omega (arith, le))
+
+-- behind the items none is marked
+unmarked_behind : (p : Puzzle) (t : List Move) (q : ℕ) → IsLaid p → AreLegal p t → IsPlain p → item_count p < q → get_or (nodes_after p t).color q 0 ≢ 4294967295
+unmarked_behind p t q laid legal plain gt =
+    let zeroed : get_or (nodes_after p t).color q 0 ≡ 0 =
+    elim (ltb q (length (layout p))) as (λ b. ltb q (length (layout p)) ≡ b → get_or (nodes_after p t).color q 0 ≡ 0) [
+      | true ↦ λ e.
+          let n = get_or (layout p) q unused in
+          let here = get_there (layout p) q unused (ltb-true q (length (layout p)) e) in
+          get_map (color_in p t) (layout p) q n here ∙ no_color p t q n laid legal plain gt here
+      | false ↦ λ e. past_end (color_in p t) (layout p) q (ltb-false q (length (layout p)) e)
+    ] refl in
+    λ e. omega (arith, e, zeroed)
+
+-- ---- the spans
+
+pub used_behind : (p : Puzzle) (x o : ℕ) (u : Use) → IsLaid p → slice_get (layout p) x ≡ Some (used o u) → item_count p < x
+used_behind p x o u laid e =
+    elim (ltb (item_count p) x) as (λ b. ltb (item_count p) x ≡ b → item_count p < x) [
+      | true ↦ λ f. ltb-true (item_count p) x f
+      | false ↦ λ f.
+          elim (eqb x 0) as (λ b. eqb x 0 ≡ b → item_count p < x) [
+            | true ↦ λ g. (let z : Some unused ≡ Some (used o u) = ap (slice_get (layout p)) (sym (eqb-true x 0 g)) ∙ e in cc)
+            | false ↦ λ g. (let z : Some (own x) ≡ Some (used o u) = sym (laid.head x (omega (arith, eqb-false x 0 g)) (ltb-false (item_count p) x f)) ∙ e in cc)
+          ] refl
+    ] refl
+
+pub starts_behind : (p : Puzzle) (o i : ℕ) → 0 < o → is_some (colour_in (uses_of p o) i) ≡ true → item_count p < spacer_place p (o - 1)
+starts_behind p zero i pos e = absurd (omega (arith, pos))
+starts_behind p (suc o) i pos e =
+    let lt : o < option_count p = slice_get_within p.options o _ (there p.options o i e) in
+    let z : suc o - 1 ≡ o = omega arith in
+    let at : spacer_place p (suc o - 1) ≡ place_at p o = ap (spacer_place p) z ∙ spacer_at p o (omega (arith, lt)) in
+    let low : item_count p < place_at p o = omega arith in
+    omega (arith, at, low)
+
+by_node : (p : Puzzle) (t : List Move) (x : ℕ) (n : Node) → IsLaid p → AreLegal p t → IsPlain p → x < 2147483648 → slice_get (layout p) x ≡ Some n → HasUnmarked (nodes_after p t).color (span_of p n) x
+by_node p t x unused laid legal plain small e = (λ q from below. absurd (omega (arith, below)), λ q from below. absurd (omega (arith, small, from, below)))
+by_node p t x (own i) laid legal plain small e = (λ q from below. absurd (omega (arith, below)), λ q from below. absurd (omega (arith, small, from, below)))
+by_node p t x (spacer n) laid legal plain small e = (λ q from below. absurd (omega (arith, below)), λ q from below. absurd (omega (arith, small, from, below)))
+by_node p t x (used o u) laid legal plain small e =
+    let here = used_behind p x o u laid e in
+    let start = starts_behind p o u.item (laid.numbered x o u e) (ap is_some (laid.coloured x o u e)) in (
+      (λ q from below. unmarked_behind p t q laid legal plain (omega (arith, here, from))),
+      (λ q from below. unmarked_behind p t q laid legal plain (omega (arith, start, from))),
+    )
+
+-- no node of an option is marked
+pub plain_unmarked : (p : Puzzle) (t : List Move) → AreLegal p t → IsFitted p (spans_of p) → IsPlain p → IsUnmarked (spans_of p) (nodes_after p t).color
+plain_unmarked p t legal fitted plain = λ x lt.
+    let size = length-map (layout p) (span_of p) in
+    let here = get_there (layout p) x unused (omega (arith, lt, size)) in
+    let small = fitted.near.small in
+    let d : Span = record { first = 0; end = 0 } in
+    subst (λ (s : Span). HasUnmarked (nodes_after p t).color s x) (sym (span_at (layout p) (span_of p) x (get_or (layout p) x unused) d here))
+    (by_node p t x (get_or (layout p) x unused) fitted.laid legal plain (omega (arith, lt, small)) here)
+  where
+    span_at : (ns : List Node) (f : Node → Span) (k : ℕ) (n : Node) (d : Span) → slice_get ns k ≡ Some n → get_or (map f ns) k d ≡ f n
+    span_at [] f k n d e = cc
+    span_at (m ∷ ns) f zero n d e = ap f (same_node m n e)
+      where
+        same_node : (a b : Node) → Some a ≡ Some b → a ≡ b
+        same_node a b e = cc
+    span_at (m ∷ ns) f (suc k) n d e = span_at ns f k n d e
+
+-- the same for the tables of a keeper
+pub kept_unmarked : (p : Puzzle) (t : List Move) (coloured : Bool) (spans : List Span) (nodes : Nodes) → AreLegal p t → IsFitted p (spans_of p) → spans ≡ spans_of p → nodes ≡ nodes_after p t → (coloured ≡ false → IsPlain p) →
+    coloured ≡ false → IsUnmarked spans nodes.color
+kept_unmarked p t coloured spans nodes legal fitted a b plain none =
+    subst (λ (x : List Span). IsUnmarked x nodes.color) (sym a) (subst (λ (x : Nodes). IsUnmarked (spans_of p) x.color) (sym b) (plain_unmarked p t legal fitted (plain none)))
+
+-- ---- the walks
+
+hidden_colors : (t : Nodes) (qs : List ℕ) → (fold hidden t qs).color ≡ t.color
+hidden_colors t [] = refl
+hidden_colors t (q ∷ qs) = hidden_colors (hidden t q) qs ∙ hidden_color t q
+
+shown_colors : (t : Nodes) (qs : List ℕ) → (fold shown t qs).color ≡ t.color
+shown_colors t [] = refl
+shown_colors t (q ∷ qs) = shown_colors (shown t q) qs ∙ shown_color t q
+
+-- a step down that keeps no colour marks none
+pub left_unmarked : (spans : List Span) (marks : Bool) (keep : Option ℕ) (t u : Nodes) (x : ℕ) → u ≡ left_node spans keep t x → (marks ≡ false → keep ≡ None) → (marks ≡ false → IsUnmarked spans t.color) →
+    marks ≡ false → IsUnmarked spans u.color
+left_unmarked spans marks keep t u x done none h m =
+    let plain : u ≡ fold hidden t (others_of spans x) = done ∙ ap (λ k. left_node spans k t x) (none m) in
+    subst (IsUnmarked spans) (sym (ap (λ (v : Nodes). v.color) plain ∙ hidden_colors t (others_of spans x))) (h m)
+
+-- nor does a step up
+pub back_unmarked : (spans : List Span) (marks : Bool) (keep : Option ℕ) (t u : Nodes) (x : ℕ) → u ≡ back_node spans keep t x → (marks ≡ false → keep ≡ None) → (marks ≡ false → IsUnmarked spans t.color) →
+    marks ≡ false → IsUnmarked spans u.color
+back_unmarked spans marks keep t u x done none h m =
+    let plain : u ≡ fold shown t (reverse (others_of spans x)) = done ∙ ap (λ k. back_node spans k t x) (none m) in
+    subst (IsUnmarked spans) (sym (ap (λ (v : Nodes). v.color) plain ∙ shown_colors t (reverse (others_of spans x)))) (h m)
+
+-- the colours are these
+pub same_unmarked : (spans : List Span) (marks : Bool) (color now : List ℕ) → now ≡ color → (marks ≡ false → IsUnmarked spans color) → marks ≡ false → IsUnmarked spans now
+same_unmarked spans marks color now e h m = subst (IsUnmarked spans) (sym e) (h m)

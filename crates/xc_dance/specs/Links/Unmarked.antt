@@ -1,0 +1,22 @@
+-- Where no node of an option is marked.
+use Rattle.std.specs.Prelude.{ℕ, ◌+◌, ◌<◌, ◌≤◌, ◌≡◌, ◌≢◌, List, length, slice_index}
+use Rattle.std.proofs.Common.{get_or}
+use Rattle.std.specs.List.{AllByRecursion}
+use Rattle.xc_input.specs.Problem.{Puzzle, uses_of}
+use Rattle.xc_dance.specs.declared.links.nodes.Span.{Span}
+
+-- no use has a colour
+abbrev pub IsPlain : Puzzle → Type 0
+IsPlain p = (o : ℕ) → AllByRecursion (λ u. u.colour ≡ 0) (uses_of p o)
+
+-- no node from a to below b is marked
+abbrev pub AreUnmarked : List ℕ → ℕ → ℕ → Type 0
+AreUnmarked color a b = (q : ℕ) → a ≤ q → q < b → slice_index color q ≢ 4294967295
+
+-- no other node of node x's option is marked
+abbrev pub HasUnmarked : List ℕ → Span → ℕ → Type 0
+HasUnmarked color s x = AreUnmarked color (x + 1) s.end × AreUnmarked color s.first x
+
+-- whichever node x is
+abbrev pub IsUnmarked : List Span → List ℕ → Type 0
+IsUnmarked spans color = (x : ℕ) → x < length spans → HasUnmarked color (get_or spans x (record { first = 0; end = 0 })) x
