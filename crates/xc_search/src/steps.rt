@@ -74,6 +74,7 @@ pub fn commit_use<D: Dance>(dance: &mut D, problem: &Problem, u: Use)
 }
 
 /// Commits uses of a taken option in turn.
+#[inline(always)]
 pub fn commit_uses<D: Dance>(dance: &mut D, problem: &Problem, uses: &[Use])
     requires same { D.problem dance.old ≡ problem.now.puzzle }
     requires items { AllByRecursion (λ (u : Use). IsItem problem.now.puzzle u.item) uses.now }
@@ -89,6 +90,7 @@ pub fn commit_uses<D: Dance>(dance: &mut D, problem: &Problem, uses: &[Use])
 }
 
 /// Where item `i` stands among uses.
+#[inline(always)]
 pub fn place_of(uses: &[Use], i: u32) -> usize
     ensures { result ≡ place_in i uses.now }
 {
@@ -101,6 +103,7 @@ pub fn place_of(uses: &[Use], i: u32) -> usize
 }
 
 /// Commits the uses of option `o` cyclically after that of item `i`.
+#[inline(always)]
 pub fn commit_others<D: Dance>(dance: &mut D, problem: &Problem, o: u32, i: u32)
     requires same { D.problem dance.old ≡ problem.now.puzzle }
     requires known { (1 ≤ o) × (o ≤ option_count problem.now.puzzle) }
