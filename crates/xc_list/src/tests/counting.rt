@@ -8,7 +8,7 @@ use std::alloc::Global;
 use std::test::Fail;
 use xc_dance::{Count, Dance, Full, Links, Move};
 use xc_input::{Kind, Problem};
-use xc_search::most_moves;
+use xc_search::{Search, most_moves};
 
 /// A keeper that passes every call on to linked tables, and counts the moves that are made.
 #[derive(Drop)]
@@ -94,5 +94,28 @@ fn moves_made(alloc: Global) -> Result<u64, Fail> {
 #[test]
 fn a_run_moves_the_dance_that_it_is_given(rt: HostRuntime) -> Result<(), Fail> {
     assert!(rt; moves_made(rt.alloc())? >= 8);
+    Ok(())
+}
+
+/// How many moves a search over the colours makes that is asked so often for its next solution. It
+/// has one.
+fn moves_of_steps(alloc: Global, problem: &Problem, steps: usize) -> Result<u64, Fail> {
+    let links = Links::new(alloc, problem, most_moves(problem))?;
+    let counting = Counting { links, made: 0 };
+    let Ok(mut search) = Search::new(alloc, counting, problem) else {
+        return Err(Fail::new("no memory"));
+    };
+    for _step in 0..steps {
+        let _ = search.next();
+    }
+    Ok(search.close().made)
+}
+
+// A move that is undone leaves nothing that a contract sees.
+#[test]
+fn a_search_that_is_done_makes_no_move(rt: HostRuntime) -> Result<(), Fail> {
+    let problem = problem_of(rt.alloc(), Kind::Colours, COLOURS)?;
+    let made = moves_of_steps(rt.alloc(), &problem, 2)?;
+    assert!(rt; made >= 8 && moves_of_steps(rt.alloc(), &problem, 5)? == made);
     Ok(())
 }
