@@ -33,6 +33,12 @@ IsRun a spacing limit old new (Done n) = (n ≡ length (members a.puzzle)) × (n
 IsRun a spacing limit old new (Limit n) = (n ≡ limit) × (limit ≤ length (members a.puzzle)) × Took old new (output a spacing limit)
 IsRun a spacing limit old new (WriteFailed t) = StoppedAt a spacing limit t old new
 
+-- This holds if the run ended at a failed write.
+abbrev pub OnWriteFailed : End → Type 0 → Type 0
+OnWriteFailed (Done n) P = Unit
+OnWriteFailed (Limit n) P = Unit
+OnWriteFailed (WriteFailed t) P = P
+
 -- What a run answers: its end, with what was written up to it; or, where there was no memory for the search, nothing was written.
 abbrev pub AnswersRun : Named → ℕ → ℕ → ℕ × Option (List ℕ) → ℕ × Option (List ℕ) → Result End Memory → Type 0
 AnswersRun a spacing limit old new r = MatchResult r (IsRun a spacing limit old new) (λ _. IsUntouched old new)
