@@ -5,7 +5,7 @@ ghost use Rattle.xc_search.specs.Cover.{members, EachMemberCovers, EachCoverIsLi
 ghost use Rattle.xc_search.specs.Room.{room_for};
 ghost use Rattle.xc_list.specs.Output.{is_printed};
 ghost use Rattle.xc_list.specs.Known.{IsKnownChoice};
-ghost use Rattle.xc_list.specs.Runs.{printed_text, IsRun, AnswersRun, OnWriteFailed};
+ghost use Rattle.xc_list.specs.Runs.{printed_text, IsRun, AnswersRun, OnWriteFailed, WentTo};
 ghost use Rattle.xc_list.specs.Built.{AreAsBuilt};
 
 use crate::print::write_solution;
@@ -67,6 +67,7 @@ fn write_members<'a, D: Dance, S: Sink>(
     requires all { search.old.to_come ≡ members problem.now.puzzle }
     ensures puzzle { search.new.puzzle ≡ search.old.puzzle }
     ensures room { search.new.room ≡ search.old.room }
+    ensures went { WentTo (members problem.now.puzzle) search.new result }
     ensures run { IsRun problem.now words.now.spacing words.now.limit
         (S.failures sink.old, S.taken sink.old) (S.failures sink.new, S.taken sink.new) result }
     ensures stops { OnWriteFailed result (IsTrue (S.failed sink.new)) }
