@@ -52,7 +52,7 @@ pub record IsFaultGiven (kind : Kind) (in_old in_new : List (List ℕ)) (err_old
 abbrev pub WasToldBehind : List ℕ → ℕ × Option (List ℕ) → ℕ × Option (List ℕ) → List ℕ → Type 0
 WasToldBehind first old new text = (between : ℕ × Option (List ℕ)) × Took old between first × WasTold between new text
 
--- The output failed at a solution or at the flush, behind which it was called no more and which was told, or the last line could not be told. Whether the last call of the output failed is out_failed.
+-- The output failed at a solution or at the flush, and by its last call, which was told; or the last line could not be told.
 abbrev pub IsFailedSearch : ℕ × Option (List ℕ) → ℕ × Option (List ℕ) → Bool → ℕ × Option (List ℕ) → ℕ × Option (List ℕ) → Type 0
 IsFailedSearch out_old out_new out_failed err_old err_new =
     (Rose out_old.0 out_new.0 × IsTrue out_failed × (n : ℕ) × WasTold err_old err_new (failed_text n))
