@@ -1,5 +1,5 @@
 -- What a run writes, and its end.
-use Rattle.std.specs.Prelude.{ℕ, ◌-◌, ◌<◌, ◌≤◌, ◌≡◌, true, List, [], ◌++◌, length, take, Option, Some, Result, MatchResult, if◌then◌else◌, nat_lt}
+use Rattle.std.specs.Prelude.{ℕ, ◌-◌, ◌<◌, ◌≤◌, ◌≡◌, true, List, [], ◌++◌, length, take, drop, Option, Some, Result, MatchResult, if◌then◌else◌, nat_lt}
 use Rattle.std.specs.Io.KnownBytes.{Appends}
 use Rattle.xc_input.specs.Calls.{Rose}
 use Rattle.xc_list.specs.Texts.{Took, IsUntouched}
@@ -7,6 +7,7 @@ use Rattle.xc_dance.specs.declared.dance.Memory.{Memory}
 use Rattle.xc_search.specs.declared.choice.Choice.{Choice}
 use Rattle.xc_input.specs.Problem.{numbered_get}
 use Rattle.xc_search.specs.Cover.{members}
+use Rattle.xc_search.specs.Outlook.{Outlook}
 use Rattle.xc_input.specs.Named.{Named}
 use Rattle.xc_list.specs.Output.{member_text, is_printed, output}
 use Rattle.xc_list.specs.declared.runs.End.{End}
@@ -32,6 +33,22 @@ abbrev pub IsRun : Named → ℕ → ℕ → ℕ × Option (List ℕ) → ℕ ×
 IsRun a spacing limit old new (Done n) = (n ≡ length (members a.puzzle)) × (n < limit) × Took old new (output a spacing limit)
 IsRun a spacing limit old new (Limit n) = (n ≡ limit) × (limit ≤ length (members a.puzzle)) × Took old new (output a spacing limit)
 IsRun a spacing limit old new (WriteFailed t) = StoppedAt a spacing limit t old new
+
+-- This holds if the run ended at a failed write.
+abbrev pub OnWriteFailed : End → Type 0 → Type 0
+OnWriteFailed (Done n) P = Unit
+OnWriteFailed (Limit n) P = Unit
+OnWriteFailed (WriteFailed t) P = P
+
+-- A search stands at the member with this number: that is the one it shows, and those behind it are to come.
+abbrev pub StandsAt : List (List Choice) → ℕ → Outlook → Type 0
+StandsAt ms n s = (1 ≤ n → numbered_get ms n ≡ Some s.shown) × (s.to_come ≡ drop n ms)
+
+-- How far a search went that ended so: past the last member, or to the one with the end's number and no further
+abbrev pub WentTo : List (List Choice) → Outlook → End → Type 0
+WentTo ms s (Done n) = (s.shown ≡ []) × (s.to_come ≡ [])
+WentTo ms s (Limit n) = StandsAt ms n s
+WentTo ms s (WriteFailed t) = StandsAt ms t s
 
 -- What a run answers: its end, with what was written up to it; or, where there was no memory for the search, nothing was written.
 abbrev pub AnswersRun : Named → ℕ → ℕ → ℕ × Option (List ℕ) → ℕ × Option (List ℕ) → Result End Memory → Type 0

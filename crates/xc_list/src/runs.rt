@@ -1,11 +1,11 @@
 //! A run over a search.
-ghost use Rattle.std.specs.Prelude.{◌≡◌, ℕ, ◌+◌, ◌-◌, ◌<◌, ◌≤◌, [], All, IfOk, MatchResult};
+ghost use Rattle.std.specs.Prelude.{◌≡◌, ℕ, ◌+◌, ◌-◌, ◌<◌, ◌≤◌, [], All, IfOk, IsTrue, MatchResult, OnErr};
 ghost use Rattle.xc_list.specs.Texts.{Writes, IsUntouched};
 ghost use Rattle.xc_search.specs.Cover.{members, EachMemberCovers, EachCoverIsListedOnce};
 ghost use Rattle.xc_search.specs.Room.{room_for};
 ghost use Rattle.xc_list.specs.Output.{is_printed};
 ghost use Rattle.xc_list.specs.Known.{IsKnownChoice};
-ghost use Rattle.xc_list.specs.Runs.{printed_text, IsRun, AnswersRun};
+ghost use Rattle.xc_list.specs.Runs.{printed_text, IsRun, AnswersRun, OnWriteFailed, WentTo};
 ghost use Rattle.xc_list.specs.Built.{AreAsBuilt};
 
 use crate::print::write_solution;
@@ -44,9 +44,10 @@ fn write_printed<S: Sink>(
     sink: &mut S,
 ) -> Result<(), SinkFault>
     requires { All (IsKnownChoice problem.now.puzzle) choices.now }
-    ensures { Writes (S.failures sink.old, S.taken sink.old)
+    ensures text { Writes (S.failures sink.old, S.taken sink.old)
         (S.failures sink.new, S.taken sink.new)
         result (printed_text problem.now spacing (number, choices.now)) }
+    ensures stops { OnErr result (IsTrue (S.failed sink.new)) }
 {
     if is_printed(spacing, number) {
         write_solution(number, choices, problem, sink)
@@ -66,8 +67,10 @@ fn write_members<'a, D: Dance, S: Sink>(
     requires all { search.old.to_come ≡ members problem.now.puzzle }
     ensures puzzle { search.new.puzzle ≡ search.old.puzzle }
     ensures room { search.new.room ≡ search.old.room }
+    ensures went { WentTo (members problem.now.puzzle) search.new result }
     ensures run { IsRun problem.now words.now.spacing words.now.limit
         (S.failures sink.old, S.taken sink.old) (S.failures sink.new, S.taken sink.new) result }
+    ensures stops { OnWriteFailed result (IsTrue (S.failed sink.new)) }
 {
     for found in 0..words.limit {
         match search.next() {
@@ -101,6 +104,7 @@ pub fn run_over<D: Dance, S: Sink>(
     ensures room { D.limit result.0 ≡ D.limit dance }
     ensures run { AnswersRun problem.now words.spacing words.limit
         (S.failures sink.old, S.taken sink.old) (S.failures sink.new, S.taken sink.new) result.1 }
+    ensures stops { IfOk result.1 (λ end. OnWriteFailed end (IsTrue (S.failed sink.new))) }
     ensures right { EachMemberCovers problem.now.puzzle }
     ensures complete { EachCoverIsListedOnce problem.now.puzzle }
 {
@@ -130,6 +134,8 @@ pub fn run_over_links<S: Sink>(
         (S.failures sink.old, S.taken sink.old) (S.failures sink.new, S.taken sink.new) back.1)
         (λ _. IsUntouched
         (S.failures sink.old, S.taken sink.old) (S.failures sink.new, S.taken sink.new)) }
+    ensures stops { IfOk result (λ back. IfOk back.1 (λ end.
+        OnWriteFailed end (IsTrue (S.failed sink.new)))) }
     ensures right { EachMemberCovers problem.now.puzzle }
     ensures complete { EachCoverIsListedOnce problem.now.puzzle }
 {
@@ -148,6 +154,7 @@ pub fn run<S: Sink>(
 ) -> Result<End, Memory>
     ensures run { AnswersRun problem.now words.spacing words.limit
         (S.failures sink.old, S.taken sink.old) (S.failures sink.new, S.taken sink.new) result }
+    ensures stops { IfOk result (λ end. OnWriteFailed end (IsTrue (S.failed sink.new))) }
     ensures right { EachMemberCovers problem.now.puzzle }
     ensures complete { EachCoverIsListedOnce problem.now.puzzle }
 {

@@ -66,6 +66,7 @@ impl Tray {
         ensures zero { IfOk result (λ t. t.zero ≡ zero) }
         ensures taken { IfOk result (λ t. ⟦<Tray as Sink>⟧.taken t ≡ Some []) }
         ensures failures { IfOk result (λ t. ⟦<Tray as Sink>⟧.failures t ≡ 0) }
+        ensures failed { IfOk result (λ t. ⟦<Tray as Sink>⟧.failed t ≡ false) }
     {
         let Ok(bytes) = Vec::with_capacity(alloc, room) else {
             return Err(Memory);

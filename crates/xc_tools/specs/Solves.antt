@@ -1,5 +1,5 @@
 -- What a whole run does.
-use Rattle.std.specs.Prelude.{◌≡◌, ◌⊎◌, ℕ, List, ◌++◌, Option, codes, flat_map}
+use Rattle.std.specs.Prelude.{◌≡◌, ◌⊎◌, ℕ, List, ◌++◌, Bool, IsTrue, Option, codes, flat_map}
 use Rattle.xc_input.specs.Calls.{Rose}
 use Rattle.xc_input.specs.declared.Kind.{Kind}
 use Rattle.xc_input.specs.Named.{Named}
@@ -52,24 +52,24 @@ pub record IsFaultGiven (kind : Kind) (in_old in_new : List (List ℕ)) (err_old
 abbrev pub WasToldBehind : List ℕ → ℕ × Option (List ℕ) → ℕ × Option (List ℕ) → List ℕ → Type 0
 WasToldBehind first old new text = (between : ℕ × Option (List ℕ)) × Took old between first × WasTold between new text
 
--- The output failed at a solution or at the flush, which was told, or the last line could not be told.
-abbrev pub IsFailedSearch : ℕ × Option (List ℕ) → ℕ × Option (List ℕ) → ℕ × Option (List ℕ) → ℕ × Option (List ℕ) → Type 0
-IsFailedSearch out_old out_new err_old err_new =
-    (Rose out_old.0 out_new.0 × (n : ℕ) × WasTold err_old err_new (failed_text n))
-    ⊎ (Rose out_old.0 out_new.0 × WasTold err_old err_new (codes "Write failed.\n"))
+-- The output failed at a solution or at the flush, and by its last call, which was told; or the last line could not be told.
+abbrev pub IsFailedSearch : ℕ × Option (List ℕ) → ℕ × Option (List ℕ) → Bool → ℕ × Option (List ℕ) → ℕ × Option (List ℕ) → Type 0
+IsFailedSearch out_old out_new out_failed err_old err_new =
+    (Rose out_old.0 out_new.0 × IsTrue out_failed × (n : ℕ) × WasTold err_old err_new (failed_text n))
+    ⊎ (Rose out_old.0 out_new.0 × IsTrue out_failed × WasTold err_old err_new (codes "Write failed.\n"))
     ⊎ ((out_new.0 ≡ out_old.0) × (end : End) × BrokeOff err_old err_new (summary_text end))
 
 -- A warning could not be told, and nothing was written; or all were, and the search failed.
-abbrev pub IsFailedSolving : List ℕ → ℕ × Option (List ℕ) → ℕ × Option (List ℕ) → ℕ × Option (List ℕ) → ℕ × Option (List ℕ) → Type 0
-IsFailedSolving ignored out_old out_new err_old err_new =
+abbrev pub IsFailedSolving : List ℕ → ℕ × Option (List ℕ) → ℕ × Option (List ℕ) → Bool → ℕ × Option (List ℕ) → ℕ × Option (List ℕ) → Type 0
+IsFailedSolving ignored out_old out_new out_failed err_old err_new =
     (BrokeOff err_old err_new (flat_map warning_text ignored) × IsUntouched out_old out_new)
-    ⊎ ((between : ℕ × Option (List ℕ)) × Took err_old between (flat_map warning_text ignored) × IsFailedSearch out_old out_new between err_new)
+    ⊎ ((between : ℕ × Option (List ℕ)) × Took err_old between (flat_map warning_text ignored) × IsFailedSearch out_old out_new out_failed between err_new)
 
 -- A read failed, which was told, and nothing was written; or none did, and solving failed behind some warnings.
-abbrev pub IsFailedRun : ℕ → ℕ → ℕ × Option (List ℕ) → ℕ × Option (List ℕ) → ℕ × Option (List ℕ) → ℕ × Option (List ℕ) → Type 0
-IsFailedRun in_old in_new out_old out_new err_old err_new =
+abbrev pub IsFailedRun : ℕ → ℕ → ℕ × Option (List ℕ) → ℕ × Option (List ℕ) → Bool → ℕ × Option (List ℕ) → ℕ × Option (List ℕ) → Type 0
+IsFailedRun in_old in_new out_old out_new out_failed err_old err_new =
     (Rose in_old in_new × IsUntouched out_old out_new × WasTold err_old err_new (codes "Read failed.\n"))
-    ⊎ ((in_new ≡ in_old) × (ignored : List ℕ) × IsFailedSolving ignored out_old out_new err_old err_new)
+    ⊎ ((in_new ≡ in_old) × (ignored : List ℕ) × IsFailedSolving ignored out_old out_new out_failed err_old err_new)
 
 -- Nothing was written, and behind some warnings it was told that memory is out.
 abbrev pub RanOut : ℕ × Option (List ℕ) → ℕ × Option (List ℕ) → ℕ × Option (List ℕ) → ℕ × Option (List ℕ) → Type 0

@@ -1,4 +1,6 @@
 //! What the programs take from the command line.
+ghost use Rattle.std.specs.Prelude.{◌≡◌, [], None};
+
 use crate::system::Incoming;
 use std::alloc::{AllocError, AllocGlobal};
 use std::env::{self, Env};
@@ -19,7 +21,9 @@ pub fn words<R: Env + AllocGlobal>(rt: &R) -> Result<Vec<Vec<u8>>, AllocError> {
 
 /// The file that the first word names, as a source. Without a word, and where there is no such file
 /// to read, it fails at the first read.
-pub fn named_file<R: Files>(rt: &R, words: &[Vec<u8>]) -> Incoming<R::File> {
+pub fn named_file<R: Files>(rt: &R, words: &[Vec<u8>]) -> Incoming<R::File>
+    ensures missing { words.now ≡ [] → result.reader ≡ None }
+{
     let path = words.first().and_then(|word| str::from_utf8(word).ok());
     Incoming::new(path.and_then(|path| fs::open(rt, path).ok()))
 }

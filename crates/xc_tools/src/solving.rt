@@ -27,7 +27,7 @@ fn finish<O: Sink, E: Sink>(end: &End, out: &mut O, err: &mut E) -> u8
     ensures told { result ≡ 0 → Took
         (E.failures err.old, E.taken err.old) (E.failures err.new, E.taken err.new)
         (summary_text end.now) }
-    ensures failed { result ≡ 3 → (Rose (O.failures out.old) (O.failures out.new)
+    ensures failed { result ≡ 3 → (Rose (O.failures out.old) (O.failures out.new) × IsTrue (O.failed out.new)
         × WasTold (E.failures err.old, E.taken err.old) (E.failures err.new, E.taken err.new)
         (codes "Write failed.\n"))
         ⊎ ((O.failures out.new ≡ O.failures out.old)
@@ -63,7 +63,7 @@ fn solve_problem<O: Sink, E: Sink>(
         (E.failures err.old, E.taken err.old) (E.failures err.new, E.taken err.new)
         (summary_text (end_of problem.now words.limit)) }
     ensures failed { result ≡ 3 → IsFailedSearch
-        (O.failures out.old, O.taken out.old) (O.failures out.new, O.taken out.new)
+        (O.failures out.old, O.taken out.old) (O.failures out.new, O.taken out.new) (O.failed out.new)
         (E.failures err.old, E.taken err.old) (E.failures err.new, E.taken err.new) }
     ensures memory { result ≡ 4 → IsUntouched
         (O.failures out.old, O.taken out.old) (O.failures out.new, O.taken out.new)
@@ -98,7 +98,7 @@ fn solve_read<O: Sink, E: Sink>(
         (O.failures out.old, O.taken out.old) (O.failures out.new, O.taken out.new)
         (E.failures err.old, E.taken err.old) (E.failures err.new, E.taken err.new) }
     ensures failed { result ≡ 3 → IsFailedSolving read.now.ignored.items
-        (O.failures out.old, O.taken out.old) (O.failures out.new, O.taken out.new)
+        (O.failures out.old, O.taken out.old) (O.failures out.new, O.taken out.new) (O.failed out.new)
         (E.failures err.old, E.taken err.old) (E.failures err.new, E.taken err.new) }
     ensures memory { result ≡ 4 → IsUntouched
         (O.failures out.old, O.taken out.old) (O.failures out.new, O.taken out.new)
@@ -145,7 +145,7 @@ fn solve_words<S: Source, O: Sink, E: Sink>(
     ensures fault_given { result ≡ 2 → IsFaultGiven kind (S.given input.old) (S.given input.new)
         (E.failures err.old, E.taken err.old) (E.failures err.new, E.taken err.new) }
     ensures failed { result ≡ 3 → IsFailedRun (S.failures input.old) (S.failures input.new)
-        (O.failures out.old, O.taken out.old) (O.failures out.new, O.taken out.new)
+        (O.failures out.old, O.taken out.old) (O.failures out.new, O.taken out.new) (O.failed out.new)
         (E.failures err.old, E.taken err.old) (E.failures err.new, E.taken err.new) }
     ensures memory { result ≡ 4 → RanOut
         (O.failures out.old, O.taken out.old) (O.failures out.new, O.taken out.new)
@@ -218,7 +218,7 @@ pub fn solve<S: Source, O: Sink, E: Sink>(
         (E.failures err.old, E.taken err.old) (E.failures err.new, E.taken err.new) }
 
     ensures failed { result ≡ 3 → IsFailedRun (S.failures input.old) (S.failures input.new)
-        (O.failures out.old, O.taken out.old) (O.failures out.new, O.taken out.new)
+        (O.failures out.old, O.taken out.old) (O.failures out.new, O.taken out.new) (O.failed out.new)
         (E.failures err.old, E.taken err.old) (E.failures err.new, E.taken err.new) }
     ensures memory { result ≡ 4 → RanOut
         (O.failures out.old, O.taken out.old) (O.failures out.new, O.taken out.new)

@@ -1,5 +1,5 @@
 //! The system's streams and files as sources and sinks.
-ghost use Rattle.std.specs.Prelude.{◌≡◌, ◌+◌, ◌-◌, ◌^◌, ◌<◌, ◌≤◌, true, None, length, nat_eq, is_err, option_map, IfOk, IsErr, IsTrue, OnErr, OnOk, [], ◌∷◌, ◌++◌, take, drop, slice_range};
+ghost use Rattle.std.specs.Prelude.{◌≡◌, ◌+◌, ◌-◌, ◌^◌, ◌<◌, ◌≤◌, true, false, None, length, nat_eq, is_err, option_map, IfOk, IsErr, IsTrue, OnErr, OnOk, [], ◌∷◌, ◌++◌, take, drop, slice_range};
 ghost use Rattle.std.specs.Io.KnownBytes.{append_known, Appends, Keeps, ReadConsumes};
 ghost use Rattle.xc_input.specs.Calls.{counted};
 ghost use Rattle.xc_tools.specs.Streams.{left_of};
@@ -26,6 +26,7 @@ impl<R: Read + Drop> Incoming<R> {
         ensures reader { result.reader ≡ reader }
         ensures left { result.left ≡ 2 ^ 64 - 1 }
         ensures failures { result.failures ≡ 0 }
+        ensures given { result.given.lines ≡ [] }
     {
         Incoming {
             reader,
@@ -128,6 +129,7 @@ impl<W: Write + Drop> Outgoing<W> {
         ensures start { result.start ≡ 0 }
         ensures end { result.end ≡ 0 }
         ensures failures { result.failures ≡ 0 }
+        ensures failed { result.failed ≡ false }
     {
         Outgoing {
             writer,
@@ -236,6 +238,7 @@ impl<W: Write + Drop> Direct<W> {
     pub fn new(writer: W) -> Direct<W>
         ensures writer { result.writer ≡ writer }
         ensures failures { result.failures ≡ 0 }
+        ensures failed { result.failed ≡ false }
     {
         Direct {
             writer,

@@ -1,6 +1,7 @@
 ghost use Rattle.std.specs.Prelude.{◌<◌};
 
 mod judged;
+mod streams;
 
 use crate::solve;
 use std::alloc::Global;

@@ -6,7 +6,7 @@ use Rattle.xc_list.specs.Output.{output}
 use Rattle.xc_list.proofs.TextLemmas.{appends_more}
 use Rattle.xc_list.specs.Known.{IsKnownChoice}
 use Rattle.xc_list.specs.Runs.{printed_text}
-use Rattle.xc_list.proofs.Outputs.{known_next, stopped, output_next, rest_next, within_next, all_done, output_all}
+use Rattle.xc_list.proofs.Outputs.{known_next, at_next, stopped, output_next, rest_next, within_next, all_done, output_all}
 use Rattle.xc_list.proofs.runs.write_members.Goals as goal
 
 pub write_printed-requires : goal.write_printed-requires
@@ -19,7 +19,12 @@ returns-in-Err-clause-run g c =
     let e : drop c.loop-found.found (members c.args.problem.now.puzzle) ≡ c.choices.result.now ∷ c.next.new.self.to_come =
     sym c.loop-found.invariant.come ∙ c.next.ensures.solution c.in-Solution.is ∙ ap (λ m. m ∷ c.next.new.self.to_come) (sym c.choices.ensures) in
     stopped c.args.problem.now c.args.words.now.spacing c.args.words.now.limit c.loop-found.found c.choices.result.now c.next.new.self.to_come _ _ _ _ _ _ e c.loop-found-test.true
-    c.loop-found.invariant.good c.loop-found.invariant.taken c.in-Err.ensures
+    c.loop-found.invariant.good c.loop-found.invariant.taken c.in-Err.ensures.text
+
+pub returns-in-Err-clause-went : goal.returns-in-Err-clause-went
+returns-in-Err-clause-went g c =
+    let e : drop c.loop-found.found (members c.args.problem.now.puzzle) ≡ c.next.new.self.shown ∷ c.next.new.self.to_come = sym c.loop-found.invariant.come ∙ c.next.ensures.solution c.in-Solution.is in
+    (λ _. at_next (members c.args.problem.now.puzzle) c.loop-found.found _ _ e, rest_next (members c.args.problem.now.puzzle) c.loop-found.found _ _ e)
 
 pub returns-in-Done-clause-run : goal.returns-in-Done-clause-run
 returns-in-Done-clause-run g c =
@@ -41,9 +46,10 @@ loop-found-preserved g c =
     record {
       puzzle = c.next.ensures.puzzle ∙ c.loop-found.invariant.puzzle;
       room = c.next.ensures.room ∙ c.loop-found.invariant.room;
+      shown = λ _. at_next (members c.args.problem.now.puzzle) c.loop-found.found _ _ (sym c.loop-found.invariant.come ∙ c.next.ensures.solution c.in-Solution.is);
       come = rest_next (members c.args.problem.now.puzzle) c.loop-found.found _ _ e;
       within = omega (arith, within_next (members c.args.problem.now.puzzle) c.loop-found.found _ _ e);
-      good = c.in-Ok.ensures.0 ∙ c.loop-found.invariant.good;
+      good = c.in-Ok.ensures.text.0 ∙ c.loop-found.invariant.good;
       taken = subst (Appends (g.S.Sink.taken c.args.sink.now) (g.S.Sink.taken c.write_printed.new.sink)) (sym (output_next c.args.problem.now c.args.words.now.spacing c.loop-found.found c.choices.result.now _ e))
-          (appends_more _ _ _ (output c.args.problem.now c.args.words.now.spacing c.loop-found.found) (printed_text c.args.problem.now c.args.words.now.spacing (c.loop-found.found + 1, c.choices.result.now)) c.loop-found.invariant.taken c.in-Ok.ensures.1);
+          (appends_more _ _ _ (output c.args.problem.now c.args.words.now.spacing c.loop-found.found) (printed_text c.args.problem.now c.args.words.now.spacing (c.loop-found.found + 1, c.choices.result.now)) c.loop-found.invariant.taken c.in-Ok.ensures.text.1);
     }

@@ -1,5 +1,6 @@
-use Rattle.std.proofs.Common.{◌≡◌, ◌≤◌, drop, length}
+use Rattle.std.proofs.Common.{◌≡◌, ◌≤◌, Some, drop, length}
 use Rattle.std.specs.Io.KnownBytes.{Appends}
+use Rattle.xc_input.specs.Problem.{numbered_get}
 use Rattle.xc_search.specs.Cover.{members}
 use Rattle.xc_list.specs.Output.{output}
 use Rattle.xc_list.proofs.runs.write_members.Given as goal
@@ -9,6 +10,7 @@ abbrev pub invariant-loop-found : goal.invariant-loop-found
 invariant-loop-found g l = record {
   puzzle : l.search.puzzle ≡ l.fn.search.puzzle;
   room : l.search.room ≡ l.fn.search.room;
+  shown : 1 ≤ l.found → numbered_get (members l.problem.puzzle) l.found ≡ Some l.search.shown;
   come : l.search.to_come ≡ drop l.found (members l.problem.puzzle);
   within : l.found ≤ length (members l.problem.puzzle);
   good : g.S.Sink.failures l.sink ≡ g.S.Sink.failures l.fn.sink;

@@ -1,0 +1,152 @@
+//! Outputs whose flush fails, and the adapters over a writer that takes few bytes at a call.
+ghost use Rattle.std.specs.Prelude.{None, false};
+
+use super::{SEVEN, gathered};
+use crate::{Direct, Outgoing, judge, solve};
+use std::alloc::Global;
+use std::io::Write;
+use std::test::Fail;
+use xc_input::{Feed, Kind};
+use xc_list::{Sink, Tray, WriteFailed, write_all};
+
+const SEVEN_LISTING: &[u8] = b"1:\n a d f (2 of 2)\n b g (1 of 1)\n c e (1 of 1)\n";
+
+/// Takes all bytes, and fails at each flush.
+#[derive(Drop)]
+struct Unflushed {
+    bytes: Vec<u8>,
+    failures: u64,
+    failed: bool,
+}
+
+impl Unflushed {
+    fn new(alloc: Global) -> Unflushed {
+        Unflushed {
+            bytes: Vec::new(alloc),
+            failures: 0,
+            failed: false,
+        }
+    }
+}
+
+impl Sink for Unflushed {
+    ghost failures = { λ s. s.failures };
+
+    ghost failed = { λ s. s.failed };
+
+    ghost taken = { λ _. None };
+
+    ghost settled = { λ _. false };
+
+    fn write(&mut self, bytes: &[u8]) -> Result<usize, WriteFailed> {
+        self.failed = self.bytes.extend_from_slice(bytes).is_err();
+        if self.failed {
+            self.failures = self.failures.saturating_add(1);
+            return Err(WriteFailed);
+        }
+        Ok(bytes.len())
+    }
+
+    fn flush(&mut self) -> Result<(), WriteFailed> {
+        self.failed = true;
+        self.failures = self.failures.saturating_add(1);
+        Err(WriteFailed)
+    }
+}
+
+#[test]
+fn a_flush_that_fails(rt: HostRuntime) -> Result<(), Fail> {
+    let alloc = rt.alloc();
+    let words = gathered(alloc, &[b"m1"])?;
+    let mut input = Feed::new(SEVEN, 1000, None);
+    let mut out = Unflushed::new(alloc);
+    let mut err = Tray::new(alloc, 1, 100, false)?;
+    assert!(rt; solve(alloc, Kind::Plain, &words, &mut input, &mut out, &mut err) == 3);
+    assert!(rt; out.bytes.as_slice() == SEVEN_LISTING);
+    assert!(rt; out.failures == 1 && out.failed);
+    assert!(rt; err.bytes() == b"Write failed.\n".as_slice());
+    Ok(())
+}
+
+#[test]
+fn a_flush_of_verdicts_that_fails(rt: HostRuntime) -> Result<(), Fail> {
+    let alloc = rt.alloc();
+    let words = gathered(alloc, &[b"PROBLEM", b"1"])?;
+    let mut problem = Feed::new(SEVEN, 1000, None);
+    let mut listing = Feed::new(SEVEN_LISTING, 1000, None);
+    let mut out = Unflushed::new(alloc);
+    let mut err = Tray::new(alloc, 1, 100, false)?;
+    let status = judge(
+        alloc,
+        &words,
+        &mut problem,
+        &mut listing,
+        &mut out,
+        &mut err,
+    );
+    assert!(rt; status == 3);
+    assert!(rt; out.bytes.as_slice() == b"1: cover\n".as_slice());
+    assert!(rt; out.failures == 1 && out.failed);
+    assert!(rt; err.bytes() == b"Write failed.\n".as_slice());
+    Ok(())
+}
+
+/// Takes at most 3000 bytes at a call, and counts its flushes.
+#[derive(Drop)]
+struct Narrow {
+    bytes: Vec<u8>,
+    flushes: u64,
+}
+
+impl Narrow {
+    fn new(alloc: Global) -> Narrow {
+        Narrow {
+            bytes: Vec::new(alloc),
+            flushes: 0,
+        }
+    }
+}
+
+impl Write for Narrow {
+    fn write(&mut self, buf: &[u8]) -> std::io::Result<usize> {
+        let n = buf.len().min(3000);
+        self.bytes.extend_from_slice(&buf[..n])?;
+        Ok(n)
+    }
+
+    fn flush(&mut self) -> std::io::Result<()> {
+        self.flushes = self.flushes.saturating_add(1);
+        Ok(())
+    }
+}
+
+/// More than twice what a sink holds back, no 65536 bytes of which are like the next.
+fn long_text(alloc: Global) -> Result<Vec<u8>, Fail> {
+    let mut text = Vec::new(alloc);
+    for i in 0..150_000u32 {
+        text.push((i % 251) as u8)?;
+    }
+    Ok(text)
+}
+
+fn write_and_flush<S: Sink>(sink: &mut S, text: &[u8]) -> Result<(), Fail> {
+    write_all(sink, text)?;
+    sink.flush()?;
+    Ok(())
+}
+
+#[test]
+fn short_writes_of_a_long_text(rt: HostRuntime) -> Result<(), Fail> {
+    let text = long_text(rt.alloc())?;
+
+    let mut held = Narrow::new(rt.alloc());
+    write_and_flush(&mut Outgoing::new(&mut held), &text)?;
+    assert!(rt; held.bytes == text);
+    assert!(rt; held.flushes == 1);
+
+    let mut direct = Narrow::new(rt.alloc());
+    write_and_flush(&mut Direct::new(&mut direct), &text)?;
+    assert!(rt; direct.bytes == text);
+    assert!(rt; direct.flushes == 1);
+    Ok(())
+}
