@@ -1,5 +1,5 @@
 -- The problem of a sheet is sound.
-use Rattle.std.proofs.Common.{◌≡◌, ◌≢◌, ℕ, zero, suc, ◌+◌, ◌-◌, ◌<◌, ◌≤◌, List, [], ◌∷◌, ◌++◌, None, Bool, true, false, nat_eq, is_none, true≢false, length, map, take, get_or, All, AllPairs, refl, ap, ◌∙◌, sym, subst, arith, if◌then◌else◌, inl, inr, append_assoc}
+use Rattle.std.proofs.Common.{◌≡◌, ◌≢◌, ℕ, zero, suc, ◌+◌, ◌-◌, ◌<◌, ◌≤◌, List, [], ◌∷◌, ◌++◌, None, Bool, true, false, nat_eq, is_none, true≢false, length, map, take, drop, get_or, All, AllPairs, refl, ap, ◌∙◌, sym, subst, arith, if◌then◌else◌, inl, inr, append_assoc}
 use Rattle.std.proofs.lemmas.Bool.Decides.{nat_tests}
 use Rattle.std.proofs.lemmas.List.{append-nil, length-map, map-append}
 use Rattle.std.proofs.lemmas.List.Elements.{All-nil, All-cons, All-append}
@@ -13,7 +13,7 @@ use Rattle.xc_input.specs.declared.Kind.{Kind}
 use Rattle.xc_input.specs.declared.problem.Item.{Item}
 use Rattle.xc_input.specs.declared.problem.Use.{Use}
 use Rattle.xc_input.specs.Problem.{Puzzle, item_count, primary_count, AreSoundBounds, IsSoundUse, IsSoundOption}
-use Rattle.xc_input.specs.Flat.{bounds_of}
+use Rattle.xc_input.specs.Flat.{bounds_of, IsOptional}
 use Rattle.xc_input.specs.Named.{IsName, IsColour, IsSound}
 use Rattle.xc_input.specs.Words.{place}
 use Rattle.xc_input.specs.Tokens.{tokens}
@@ -204,3 +204,10 @@ named-is items primary options colours = λ i. record {
   colours = colours;
   puzzle = record { bounds = item-bounds primary items i; secondary = length-map items entry_of i - primary; options = options };
 }
+
+-- the items behind the primary ones
+pub behind-bounds : (n : ℕ) (items : List Item) → HaveBounds n (map entry_of items) → All IsOptional (drop n items)
+behind-bounds zero [] h = All-nil IsOptional
+behind-bounds zero (x ∷ items) h = All-cons IsOptional x items (λ i. record { low = h.0 i; high = h.1 i }) (behind-bounds zero items h.2)
+behind-bounds (suc n) [] h = absurd h
+behind-bounds (suc n) (x ∷ items) h = behind-bounds n items h.3
