@@ -15,7 +15,7 @@ use Rattle.std.specs.Str.{bytes_eq}
 use Rattle.xc_input.specs.declared.FaultKind.{FaultKind}
 use Rattle.xc_input.specs.declared.Kind.{Kind}
 use Rattle.xc_input.specs.Words.{place, after}
-use Rattle.xc_input.specs.Tokens.{is_space, word}
+use Rattle.xc_input.specs.Tokens.{is_space, word, AtWhite}
 use Rattle.xc_input.specs.Sheets.{Entry}
 use Rattle.xc_input.specs.Drafts.{AreNames}
 use Rattle.xc_input.specs.Stored.{key_names}
@@ -70,10 +70,6 @@ known-place names name k all e =
     ap (λ t. if t then Some (position_or_len (bytes_eq name) names) else None) low ∙ ap Some at
 
 -- FRONTS OF A LINE
-abbrev pub AtWhite : List ℕ → Type 0
-AtWhite [] = Unit {0}
-AtWhite (b ∷ bs) = is_space b ≡ true
-
 word-front : (name back : List ℕ) → list_any is_space name ≡ false → AtWhite back → word (name ++ back) ≡ name
 word-front [] [] h w = refl
 word-front [] (b ∷ bs) h w = ap (λ t. if t then [] else b ∷ word bs) w
