@@ -56,24 +56,21 @@ fn word_len(line: &[u8]) -> usize
     n
 }
 
-/// The length of the name at a place, where a text begins with it and white space or the end follows.
+/// Whether a text begins with the name of this place and length, and white space or the end follows.
 #[inline]
-fn known_len(names: &NameSet, at: usize, text: &[u8]) -> Option<usize>
+fn begins_with(names: &NameSet, at: usize, n: usize, text: &[u8]) -> bool
     requires { AreNames (key_names names.now.keys) }
-    ensures { IfSome result (λ n. (n ≤ length text.now) × (length (word text.now) ≡ n) × (place (key_names names.now.keys) (take n text.now) ≡ Some at)) }
+    ensures { IsTrue result → (n ≤ length text.now) × (length (word text.now) ≡ n) × (place (key_names names.now.keys) (take n text.now) ≡ Some at) }
 {
     let name = match names.get_index(at) {
         Some(name) => name.as_slice(),
-        None => return None,
+        None => return false,
     };
-    if text.len() < name.len() {
-        return None;
+    if name.len() != n || text.len() < n {
+        return false;
     }
-    let (front, back) = text.split_at(name.len());
-    if front != name || !is_at_white(back) {
-        return None;
-    }
-    Some(name.len())
+    let (front, back) = text.split_at(n);
+    front == name && is_at_white(back)
 }
 
 /// Whether a text is empty or begins with white space.
@@ -100,10 +97,10 @@ pub fn next_token<'a>(
     if rest.is_empty() {
         return None;
     }
-    let guess = guesses.place(rest);
-    if let Some(n) = known_len(names, guess, rest) {
+    let (at, n) = guesses.guess(rest);
+    if begins_with(names, at, n, rest) {
         let (token, others) = rest.split_at(n);
-        return Some((token, Some(guess), others));
+        return Some((token, Some(at), others));
     }
     let (token, others) = rest.split_at(word_len(rest));
     Some((token, place_of(names, token), others))

@@ -1,5 +1,7 @@
 //! Guesses at the name that a text begins with. They may be wrong: whoever takes one looks at it.
 
+ghost use Rattle.std.specs.Prelude.{◌≤◌};
+
 use crate::names::NameSet;
 use std::alloc::{AllocError, Global};
 
@@ -20,10 +22,10 @@ impl Guesses {
     /// For these names.
     pub fn new(alloc: Global, names: &NameSet) -> Result<Guesses, AllocError> {
         let few = names.len().min(100_000);
-        let mut places = vec![in alloc; 0; (few * 4).next_power_of_two()]?;
+        let mut places = vec![in alloc; 0; few * 4]?;
         for i in 0..few {
             if let Some(name) = names.get_index(i) {
-                let number = number(name.as_slice(), places.len());
+                let number = number(word(name.as_slice()).0, places.len());
                 if let Some(place) = places.get_mut(number) {
                     *place = i as u32;
                 }
@@ -32,35 +34,40 @@ impl Guesses {
         Ok(Guesses { places })
     }
 
-    /// The place of the name that a text may begin with.
-    pub fn place(&self, text: &[u8]) -> usize {
-        match self.places.get(number(text, self.places.len())) {
+    /// The place and the length of the name that a text may begin with.
+    #[inline]
+    pub fn guess(&self, text: &[u8]) -> (usize, usize) {
+        let (bytes, len) = word(text);
+        let place = match self.places.get(number(bytes, self.places.len())) {
             Some(place) => *place as usize,
             None => 0,
-        }
+        };
+        (place, len)
     }
 }
 
-/// A number for the word at the front of a text, below the size of a table if that is a power of two.
+/// A number below the size, for the bytes of a word.
 #[inline]
-fn number(text: &[u8], size: usize) -> usize {
-    let product = word_bytes(text).wrapping_mul(0x9e37_79b9_7f4a_7c15);
-    (product >> 32) as usize & size.wrapping_sub(1)
+fn number(bytes: u64, size: usize) -> usize {
+    let product = bytes.wrapping_mul(0x9e37_79b9_7f4a_7c15);
+    ((product >> 32).wrapping_mul(size as u64) >> 32) as usize
 }
 
-/// The first bytes of a text up to its first white space, as a number.
+/// The bytes at the front of a text up to its first white space, as a number, and how many they are.
 #[inline]
-fn word_bytes(text: &[u8]) -> u64 {
+fn word(text: &[u8]) -> (u64, usize) {
     let first = first_bytes(text);
     let white = white_bits(first);
     if white != 0 {
-        return first & bits_below(white);
+        return (first & bits_below(white), bytes_below(white));
     }
     if text.len() <= 8 {
-        return first;
+        return (first, 8);
     }
     let second = first_bytes(&text[8..]);
-    first ^ (second & bits_below(white_bits(second))).wrapping_mul(0xff51_afd7_ed55_8ccd)
+    let white = white_bits(second);
+    let more = (second & bits_below(white)).wrapping_mul(0xff51_afd7_ed55_8ccd);
+    (first ^ more, 8 + bytes_below(white))
 }
 
 /// The first eight bytes of a text, as a number.
@@ -86,4 +93,12 @@ fn white_bits(word: u64) -> u64 {
 #[inline]
 fn bits_below(bits: u64) -> u64 {
     (bits ^ bits.wrapping_sub(1)) >> 8
+}
+
+/// How many bytes stand below that of the lowest bit; eight where there is none.
+#[inline]
+fn bytes_below(bits: u64) -> usize
+    ensures { result ≤ 8 }
+{
+    bits.trailing_zeros() as usize / 8
 }
