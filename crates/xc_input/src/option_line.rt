@@ -10,8 +10,8 @@ ghost use Rattle.xc_input.specs.Drafts.{AreNames, Judged, written_of, items_of, 
 ghost use Rattle.xc_input.specs.Stored.{key_names};
 
 use crate::cut::{cut_at, next_token, place_of};
-use crate::guess::Guesses;
 use crate::draft::LineError;
+use crate::guess::Guesses;
 use crate::item_line::name_fault;
 use crate::names::NameSet;
 use crate::{FaultKind, Kind};

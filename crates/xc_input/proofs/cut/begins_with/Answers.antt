@@ -1,4 +1,4 @@
-use Rattle.std.proofs.Common.{◌≡◌, length, take, drop, ap, ap₂, sym, ◌∙◌, ◌++◌, arith}
+use Rattle.std.proofs.Common.{◌≡◌, length, ap, ap₂, sym, ◌∙◌, ◌++◌, arith}
 use Rattle.std.proofs.lemmas.List.{take-append-drop}
 use Rattle.std.proofs.lemmas.Slice.Eq.{bytes_eq-Decides}
 use Rattle.xc_input.proofs.NameLemmas.{known-front}
