@@ -133,7 +133,7 @@ pub fn option_line<'a>(
     ensures unmarked { OnOk result (AreMarks marks.new []) }
 {
     // Most lines have no more uses than that.
-    let room = (line.len() / 4).min(256);
+    let room = (line.len() / 3 + 1).min(256);
     let Ok(mut parts) = Vec::with_capacity(alloc, room) else {
         return Err(LineError::Memory);
     };
