@@ -1,5 +1,5 @@
 -- Steps of a draft.
-use Rattle.std.proofs.Common.{◌≡◌, ℕ, suc, ◌+◌, ◌<◌, ◌≤◌, List, [], ◌∷◌, ◌++◌, None, Some, Bool, true, false, ◌||◌, ◌&&◌, not, nat_lt, unwrap_or, length, map, position, refl, ap, ◌∙◌, sym, subst, arith, if◌then◌else◌, Vec, Global, length-append, All}
+use Rattle.std.proofs.Common.{◌≡◌, ℕ, suc, ◌+◌, ◌<◌, ◌≤◌, List, [], ◌∷◌, ◌++◌, None, Some, Bool, true, false, ◌||◌, ◌&&◌, not, nat_lt, unwrap_or, length, map, position, refl, ap, ◌∙◌, sym, subst, arith, if◌then◌else◌, Vec, Global, length-append}
 use Rattle.std.proofs.lemmas.Bool.Decides.{nat_tests}
 use Rattle.std.proofs.lemmas.Slice.Eq.{bytes_eq-Decides}
 use Rattle.std.specs.List.{list_any, position_or_len}
@@ -10,12 +10,11 @@ use Rattle.xc_input.specs.declared.problem.Use.{Use}
 use Rattle.xc_input.specs.declared.option_line.Part.{Part}
 use Rattle.xc_input.specs.declared.draft.Draft.{Draft}
 use Rattle.xc_input.specs.Words.{place}
-use Rattle.xc_input.specs.Named.{IsName}
 use Rattle.xc_input.specs.Tokens.{tokens, parts}
 use Rattle.xc_input.specs.Sheets.{Written, names_of, colour_number, use_count, number_uses, with_uses, with_colour}
 use Rattle.xc_input.specs.Faults.{first, option_checks, all_written, has_primary, most_uses, most_items, row_checks, no_row}
 use Rattle.xc_input.specs.Stages.{content_checks, with_option, written_by}
-use Rattle.xc_input.specs.Drafts.{AreMarks, IsDraft, stage_of_draft, sheet_of_draft, written_of, entry_of}
+use Rattle.xc_input.specs.Drafts.{AreMarks, AreNames, IsDraft, stage_of_draft, sheet_of_draft, written_of, entry_of}
 use Rattle.xc_input.specs.Stored.{key_names}
 use Rattle.xc_input.specs.Flat.{pieces, AreStarts}
 use Rattle.xc_input.proofs.FlatParts.{pieces-snoc, pieces-total}
@@ -121,7 +120,7 @@ module _ (kind : Kind) (d : Draft) (line : List ℕ) (s : IsDraft d) (t : d.star
       taken = (
         record {
           names = subst (λ k. key_names k.keys ≡ names_of (map entry_of d'.items.items)) (sym same.1) (subst (λ k. key_names d.names.keys ≡ names_of (map entry_of k.items)) (sym same.2) s.names);
-          named = subst (λ k. All IsName (key_names k.keys)) (sym same.1) s.named;
+          named = subst (λ k. AreNames (key_names k.keys)) (sym same.1) s.named;
           few_items = subst (λ k. length k.items ≤ most_items) (sym same.2) s.few_items;
           ends = subst (λ es. AreStarts (0 ∷ es) (length d'.uses.items)) (sym ends) (subst (λ us. AreStarts (0 ∷ d.ends.items ++ length d'.uses.items ∷ []) (length us)) (sym uses) cut.0);
           few_uses = let n : length d'.uses.items ≡ length d.uses.items + length ps = new-length in omega arith;

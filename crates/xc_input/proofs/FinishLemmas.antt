@@ -1,5 +1,5 @@
 -- The answer at the end of a text.
-use Rattle.std.proofs.Common.{◌≡◌, ◌≤◌, ℕ, List, ◌∷◌, Option, None, Some, Bool, true, false, length, ap, ◌∙◌, sym, subst, arith, MatchOption}
+use Rattle.std.proofs.Common.{◌≡◌, ◌≤◌, ℕ, List, ◌∷◌, Option, None, Some, Bool, true, false, length, drop, All, ap, ◌∙◌, sym, subst, arith, MatchOption}
 use Rattle.std.proofs.lemmas.List.{length-map}
 use Rattle.xc_input.specs.declared.Kind.{Kind}
 use Rattle.xc_input.specs.declared.InputError.{InputError}
@@ -10,12 +10,13 @@ use Rattle.xc_input.specs.Stages.{Stage, first_fault, stage_of, end_fault}
 use Rattle.xc_input.specs.Text.{IsSheetOf, StandsFor}
 use Rattle.xc_input.specs.Named.{Named, IsSound}
 use Rattle.xc_input.specs.Stored.{named_from, key_names}
-use Rattle.xc_input.specs.Flat.{pieces, AreStarts}
+use Rattle.xc_input.specs.Flat.{pieces, AreStarts, IsOptional}
 use Rattle.xc_input.specs.Drafts.{IsDraft, stage_of_draft, sheet_of_draft, entry_of}
 use Rattle.xc_input.specs.Lines.{AreWhole}
 use Rattle.xc_input.specs.Readings.{Reading, IsStateOf, IsEndOf, IsFault}
 use Rattle.xc_input.proofs.ReadLemmas.{ends-at, end-is}
-use Rattle.xc_input.proofs.SoundLemmas.{sheet-sound, primaries-within, named-is}
+use Rattle.xc_input.proofs.SoundLemmas.{sheet-sound, primaries-within, named-is, behind-bounds}
+use Rattle.xc_input.proofs.ValidLemmas.{valid}
 use Rattle.xc_input.proofs.LawLemmas.{stands, stands-only}
 
 pub refutes : (kind : Kind) (lines : List (List ℕ)) (e : InputError) → IsEndOf kind lines e → IsFault e → (p : Named) (ig : List ℕ) → StandsFor kind lines p ig → ⊥
@@ -61,6 +62,9 @@ module _ (v : Reading) (kind : Kind) (lines : List (List ℕ)) (o : Option Input
 
     pub primary-within : d.started ≡ true → d.primary ≤ length d.items.items
     primary-within g = omega (arith, primaries-within kind lines (sheet_of_draft d) d.ignored.items (written g), length-map d.items.items entry_of)
+
+    pub optional-behind : d.started ≡ true → All IsOptional (drop d.primary d.items.items)
+    optional-behind g = behind-bounds d.primary d.items.items (valid kind lines (sheet_of_draft d) d.ignored.items (written g)).bounds
 
     pub starts-are : AreStarts (0 ∷ d.ends.items) (length d.uses.items)
     starts-are = whole.0.ends

@@ -1,6 +1,6 @@
 -- Options kept flat.
-use Rattle.std.proofs.Common.{ℕ, zero, suc, ◌≡◌, ◌+◌, ◌-◌, ◌<◌, ◌≤◌, List, [], ◌∷◌, ◌++◌, length, map, take, drop, get_or, sum_by, Some, refl, sym, ap, ap₂, ◌∙◌, arith, length-append, length-drop}
-use Rattle.std.proofs.lemmas.List.{take-append-le, drop-append-le, length-take-le}
+use Rattle.std.proofs.Common.{ℕ, zero, suc, ◌≡◌, ◌+◌, ◌-◌, ◌<◌, ◌≤◌, List, [], ◌∷◌, ◌++◌, length, map, take, drop, get_or, sum_by, All, Some, refl, sym, subst, ap, ap₂, ◌∙◌, arith, length-append, length-drop}
+use Rattle.std.proofs.lemmas.List.{take-append-le, drop-append-le, length-take-le, get_or-drop}
 use Rattle.std.proofs.lemmas.List.Sums.{sum_by-cons}
 use Rattle.std.proofs.Math.Seq.{drop-append_seam, take-length}
 use Rattle.std.proofs.lemmas.Grind.{get_or_default_zero}
@@ -110,3 +110,10 @@ slice_get-map-some f (y ∷ xs) (suc i) x e = slice_get-map-some f xs i x e
 pub end_part : {X : Type 0} (ends : List ℕ) (us : List X) (o a b : ℕ) → AreStarts (0 ∷ ends) (length us) → (1 ≤ o) × (o ≤ length ends) → a ≡ get_or (0 ∷ ends) (o - 1) a → b ≡ get_or (0 ∷ ends) o b →
     (a ≤ b) × (b ≤ length us) × (numbered_get (pieces (0 ∷ ends) us) o ≡ Some (slice_range us a b))
 end_part ends us o a b h known e f = option_part (0 ∷ ends) us o a b h known.0 (omega (arith, known.1)) e f
+
+-- what holds of the elements behind the first n
+pub behind-at : {X : Type 0} (P : X → Type 0) (n : ℕ) (xs : List X) (i : ℕ) (d : X) → All P (drop n xs) → n ≤ i → i < length xs → P (get_or xs i d)
+behind-at P n xs i d all low high =
+    let place : n + (i - n) ≡ i = omega (arith, low) in
+    let within : i - n < length (drop n xs) = omega (arith, length-drop n xs, low, high) in
+    subst P (get_or-drop n xs (i - n) d ∙ ap (λ k. get_or xs k d) place) (all (i - n) d within)

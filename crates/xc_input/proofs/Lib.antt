@@ -20,3 +20,4 @@ pub mod SourceLemmas
 pub mod EachElement
 pub mod ListFilters
 pub mod BooleanTests
+pub mod KindLemmas

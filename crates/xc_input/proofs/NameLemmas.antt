@@ -1,20 +1,92 @@
--- Names of a table have no fault.
-use Rattle.std.proofs.Common.{◌≡◌, ℕ, List, [], ◌∷◌, ◌++◌, Option, None, Some, All, ◌∙◌, sym, subst}
-use Rattle.std.proofs.lemmas.List.Elements.{All-nil, All-cons, All-append, All-get_or}
-use Rattle.std.proofs.lemmas.List.Quantifiers.{position-Some}
+-- Names of a table: they have no fault, each has one place, and what a line begins with may be one of them.
+use Rattle.std.proofs.Common.{◌≡◌, ◌≢◌, ℕ, ◌+◌, ◌<◌, ◌≤◌, List, [], ◌∷◌, ◌++◌, Option, None, Some, Bool, true, false, nat_eq, nat_lt, All, length, take, refl, ap, ap₂, ◌∙◌, sym, subst, arith, true≢false, length-append, if◌then◌else◌, Vec, Global}
+use Rattle.std.proofs.lemmas.List.Elements.{All-nil, All-cons, All-append, All-push, All-get_or}
+use Rattle.std.proofs.lemmas.List.Quantifiers.{position-Some, all_pairs_push}
+use Rattle.std.proofs.lemmas.List.Folds.{list_any_at}
+use Rattle.std.proofs.lemmas.List.Sums.{position_or_len_is}
+use Rattle.std.proofs.lemmas.Option.{slice_get_within, get_or_from_slice_get}
+use Rattle.std.proofs.lemmas.Bool.Decides.{nat_tests}
+use Rattle.std.proofs.Math.Seq.{take-append_seam}
+use Rattle.std.specs.Prelude.{slice_get}
+use Rattle.std.specs.List.{list_any, position_or_len}
 use Rattle.std.proofs.lemmas.Slice.Eq.{bytes_eq-Decides}
 use Rattle.std.proofs.Common.{get_or}
 use Rattle.std.specs.Str.{bytes_eq}
 use Rattle.xc_input.specs.declared.FaultKind.{FaultKind}
-use Rattle.xc_input.specs.Words.{place}
-use Rattle.xc_input.specs.Faults.{first, name_checks}
+use Rattle.xc_input.specs.declared.Kind.{Kind}
+use Rattle.xc_input.specs.Words.{place, after}
+use Rattle.xc_input.specs.Tokens.{is_space, word, AtWhite}
+use Rattle.xc_input.specs.Sheets.{Entry}
+use Rattle.xc_input.specs.Drafts.{AreNames}
+use Rattle.xc_input.specs.Stored.{key_names}
+use Rattle.xc_input.specs.Faults.{first, name_checks, has_prefix, entry}
 use Rattle.xc_input.specs.Named.{IsName}
-use Rattle.xc_input.proofs.GrammarLemmas.{name-good}
+use Rattle.xc_input.proofs.GrammarLemmas.{name-good, or-false}
+use Rattle.xc_input.proofs.FaultLemmas.{no-place}
+use Rattle.xc_input.proofs.TokenLemmas.{not_false}
+use Rattle.xc_input.proofs.FlatParts.{slice_get-map-some}
+use Rattle.xc_input.proofs.Known.{at_place}
 
 pub stored-name : (names : List (List ℕ)) (name : List ℕ) (k : ℕ) → All IsName names → place names name ≡ Some k → IsName name
 stored-name names name k all e =
     let found = position-Some (bytes_eq name) names k [] e in
     subst IsName (sym ((bytes_eq-Decides name (get_or names k [])).0 found.1)) (All-get_or IsName names k [] found.0 all)
 
-pub names-more : (old new : List (List ℕ)) (name : List ℕ) (fault : Option FaultKind) → All IsName old → new ≡ old ++ name ∷ [] → fault ≡ first (name_checks name) → fault ≡ None → All IsName new
-names-more old new name fault all e f g = subst (All IsName) (sym e) (All-append IsName old (name ∷ []) all (All-cons IsName name [] (name-good name (sym f ∙ g)) (All-nil IsName)))
+pub apart : (earlier : List (List ℕ)) (x : List ℕ) → place earlier x ≡ None → (k : ℕ) (d : List ℕ) → k < length earlier → get_or earlier k d ≢ x
+apart earlier x none k d within same =
+    let missing : list_any (bytes_eq x) earlier ≡ false = no-place (bytes_eq x) earlier none in
+    let found : list_any (bytes_eq x) earlier ≡ true = list_any_at (bytes_eq x) earlier k d within (ap (bytes_eq x) same ∙ (bytes_eq-Decides x x).1 refl) in
+    true≢false (sym found ∙ missing)
+
+pub names-more : (old new : List (List ℕ)) (name : List ℕ) (fault : Option FaultKind) → AreNames old → new ≡ old ++ name ∷ [] → fault ≡ first (name_checks name) → fault ≡ None → place old name ≡ None → list_any is_space name ≡ false → AreNames new
+names-more old new name fault all e f g none solid = subst AreNames (sym e) (record {
+  named = All-append IsName old (name ∷ []) all.named (All-cons IsName name [] (name-good name (sym f ∙ g)) (All-nil IsName));
+  solid = All-push (λ n. list_any is_space n ≡ false) old name all.solid solid;
+  distinct = all_pairs_push (λ x y. x ≢ y) old name all.distinct (apart old name none);
+})
+
+after-solid : (b : ℕ) (xs : List ℕ) → list_any is_space xs ≡ false → list_any is_space (after b xs) ≡ false
+after-solid b [] h = h
+after-solid b (x ∷ xs) h =
+    let back = (or-false (is_space x) (list_any is_space xs) h).1 in
+    let P : Bool → Type 0 = λ t. list_any is_space (if t then xs else after b xs) ≡ false in
+    (elim (nat_eq x b) as P [ true ↦ back | false ↦ after-solid b xs back ])
+
+-- the name of a token
+pub name-solid : (kind : Kind) (secondary : Bool) (token name : List ℕ) (low high : ℕ) → record { name = name; low = low; high = high } ≡ entry kind secondary token → list_any is_space token ≡ false → list_any is_space name ≡ false
+name-solid kind secondary token name low high e h =
+    let P : Bool → Type 0 = λ t. list_any is_space (if t then after 124 token else token) ≡ false in
+    let g : P (has_prefix kind token) = (elim (has_prefix kind token) as P [ true ↦ after-solid 124 token h | false ↦ h ]) in
+    ap (λ (x : Entry). list_any is_space x.name) e ∙ g
+
+-- a name that was met at a place has no other
+pub known-place : (names : List (List ℕ)) (name : List ℕ) (k : ℕ) → AreNames names → slice_get names k ≡ Some name → place names name ≡ Some k
+known-place names name k all e =
+    let within : k < length names = slice_get_within names k name e in
+    let here : get_or names k name ≡ name = get_or_from_slice_get names k name name e in
+    let earlier : (j : ℕ) → j < k → bytes_eq name (get_or names j name) ≡ false = λ j less. not_false (bytes_eq name (get_or names j name)) (λ same. all.distinct j k name less within (sym ((bytes_eq-Decides name (get_or names j name)).0 same) ∙ sym here)) in
+    let at : position_or_len (bytes_eq name) names ≡ k = position_or_len_is (bytes_eq name) names k name (omega (arith, within)) earlier (λ w. (bytes_eq-Decides name (get_or names k name)).1 (sym here)) in
+    let low : nat_lt (position_or_len (bytes_eq name) names) (length names) ≡ true = grind (arith, nat_tests) in
+    ap (λ t. if t then Some (position_or_len (bytes_eq name) names) else None) low ∙ ap Some at
+
+-- FRONTS OF A LINE
+word-front : (name back : List ℕ) → list_any is_space name ≡ false → AtWhite back → word (name ++ back) ≡ name
+word-front [] [] h w = refl
+word-front [] (b ∷ bs) h w = ap (λ t. if t then [] else b ∷ word bs) w
+word-front (x ∷ xs) back h w =
+    let apart = or-false (is_space x) (list_any is_space xs) h in
+    ap (λ t. if t then [] else x ∷ word (xs ++ back)) apart.0 ∙ ap (λ ys. x ∷ ys) (word-front xs back apart.1 w)
+
+-- a known name at the front of a text, before white space or the end, is its first word
+pub known-front : (keys : List (Vec ℕ Global)) (text front back : List ℕ) (v : Vec ℕ Global) (k n : ℕ) → AreNames (key_names keys) → slice_get keys k ≡ Some v → n ≡ length v.items → text ≡ front ++ back → front ≡ v.items → AtWhite back
+    → (n ≤ length text) × (length (word text) ≡ n) × (place (key_names keys) (take n text) ≡ Some k)
+known-front keys text front back v k n all e m cut same w =
+    let at : slice_get (key_names keys) k ≡ Some v.items = slice_get-map-some (λ (x : Vec ℕ Global). x.items) keys k v (sym e) in
+    let whole : text ≡ v.items ++ back = cut ∙ ap (λ f. f ++ back) same in
+    let solid : list_any is_space v.items ≡ false = at_place (λ x. list_any is_space x ≡ false) (key_names keys) k v.items all.solid at in
+    let total : length text ≡ length v.items + length back = ap length whole ∙ length-append v.items back in
+    let taken : take n text ≡ v.items = ap₂ take m whole ∙ take-append_seam v.items back in (
+      omega (arith, total, m),
+      ap (λ t. length (word t)) whole ∙ ap length (word-front v.items back solid w) ∙ sym m,
+      ap (place (key_names keys)) taken ∙ known-place (key_names keys) v.items k all at,
+    )

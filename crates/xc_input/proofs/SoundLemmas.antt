@@ -1,19 +1,16 @@
 -- The problem of a sheet is sound.
-use Rattle.std.proofs.Common.{◌≡◌, ◌≢◌, ℕ, zero, suc, ◌+◌, ◌-◌, ◌<◌, ◌≤◌, List, [], ◌∷◌, ◌++◌, None, Bool, true, false, nat_eq, is_none, true≢false, length, map, take, get_or, All, AllPairs, refl, ap, ◌∙◌, sym, subst, arith, if◌then◌else◌, inl, inr, append_assoc}
+use Rattle.std.proofs.Common.{◌≡◌, ◌≢◌, ℕ, zero, suc, ◌+◌, ◌-◌, ◌<◌, ◌≤◌, List, [], ◌∷◌, ◌++◌, Bool, true, false, nat_eq, is_none, true≢false, length, map, take, drop, get_or, All, AllPairs, refl, ap, ◌∙◌, sym, subst, arith, if◌then◌else◌, inl, inr, append_assoc}
 use Rattle.std.proofs.lemmas.Bool.Decides.{nat_tests}
 use Rattle.std.proofs.lemmas.List.{append-nil, length-map, map-append}
 use Rattle.std.proofs.lemmas.List.Elements.{All-nil, All-cons, All-append}
-use Rattle.std.proofs.lemmas.List.Folds.{list_any_at}
 use Rattle.std.proofs.lemmas.List.Quantifiers.{all_pairs_push}
 use Rattle.std.proofs.lemmas.List.Sums.{sum_by-cons}
-use Rattle.std.proofs.lemmas.Slice.Eq.{bytes_eq-Decides}
 use Rattle.std.specs.List.{list_any, Any}
-use Rattle.std.specs.Str.{bytes_eq}
 use Rattle.xc_input.specs.declared.Kind.{Kind}
 use Rattle.xc_input.specs.declared.problem.Item.{Item}
 use Rattle.xc_input.specs.declared.problem.Use.{Use}
 use Rattle.xc_input.specs.Problem.{Puzzle, item_count, primary_count, AreSoundBounds, IsSoundUse, IsSoundOption}
-use Rattle.xc_input.specs.Flat.{bounds_of}
+use Rattle.xc_input.specs.Flat.{bounds_of, IsOptional}
 use Rattle.xc_input.specs.Named.{IsName, IsColour, IsSound}
 use Rattle.xc_input.specs.Words.{place}
 use Rattle.xc_input.specs.Tokens.{tokens}
@@ -21,19 +18,14 @@ use Rattle.xc_input.specs.Sheets.{Entry, Sheet, Written, names_of, named_of, ent
 use Rattle.xc_input.specs.Drafts.{entry_of}
 use Rattle.xc_input.specs.Text.{IsUse, AreUses, AreOptions, IsSheetFrom, IsSheetOf}
 use Rattle.xc_input.proofs.SheetValidity.{AllNew, HaveBounds, AreWithin, AreFresh, UsesPrimary, AreValid, HaveNames}
-use Rattle.xc_input.proofs.FaultLemmas.{no-place, names_of-length}
+use Rattle.xc_input.proofs.FaultLemmas.{names_of-length}
 use Rattle.xc_input.proofs.GrammarLemmas.{or-false}
 use Rattle.xc_input.specs.Lines.{AreWhole}
 use Rattle.xc_input.proofs.UnbrokenLemmas.{unbroken}
 use Rattle.xc_input.proofs.ValidLemmas.{valid}
+use Rattle.xc_input.proofs.NameLemmas.{apart}
 
 -- DISTINCT
-apart : (earlier : List (List ℕ)) (x : List ℕ) → place earlier x ≡ None → (k : ℕ) (d : List ℕ) → k < length earlier → get_or earlier k d ≢ x
-apart earlier x none k d within same =
-    let missing : list_any (bytes_eq x) earlier ≡ false = no-place (bytes_eq x) earlier none in
-    let found : list_any (bytes_eq x) earlier ≡ true = list_any_at (bytes_eq x) earlier k d within (ap (bytes_eq x) same ∙ (bytes_eq-Decides x x).1 refl) in
-    true≢false (sym found ∙ missing)
-
 new-distinct : (earlier xs : List (List ℕ)) → AllNew earlier xs → AllPairs (λ x y. x ≢ y) earlier → AllPairs (λ x y. x ≢ y) (earlier ++ xs)
 new-distinct earlier [] h p = subst (AllPairs (λ x y. x ≢ y)) (sym (append-nil earlier)) p
 new-distinct earlier (x ∷ xs) h p =
@@ -204,3 +196,10 @@ named-is items primary options colours = λ i. record {
   colours = colours;
   puzzle = record { bounds = item-bounds primary items i; secondary = length-map items entry_of i - primary; options = options };
 }
+
+-- the items behind the primary ones
+pub behind-bounds : (n : ℕ) (items : List Item) → HaveBounds n (map entry_of items) → All IsOptional (drop n items)
+behind-bounds zero [] h = All-nil IsOptional
+behind-bounds zero (x ∷ items) h = All-cons IsOptional x items (λ i. record { low = h.0 i; high = h.1 i }) (behind-bounds zero items h.2)
+behind-bounds (suc n) [] h = absurd h
+behind-bounds (suc n) (x ∷ items) h = behind-bounds n items h.3

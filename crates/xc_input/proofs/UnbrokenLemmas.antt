@@ -66,6 +66,10 @@ lack-all : (p : ℕ → Bool) (ts : List (List ℕ)) → AllLack p ts → AllLac
 lack-all p [] h = tt
 lack-all p (t ∷ ts) h = AllLack-append p (split_bars t) (split_all ts) (lack-bars p t h.0) (lack-all p ts h.1)
 
+-- a part of a line
+pub part-solid : (line part : List ℕ) (others : List (List ℕ)) → parts line ≡ part ∷ others → list_any is_space part ≡ false
+part-solid line part others e = (subst (AllLack is_space) e (lack-all is_space (tokens line) (lack-spaces line))).0
+
 -- A TEXT WHOSE TOKENS LACK A BYTE
 module _ (p : ℕ → Bool) (lacks : (line : List ℕ) → has 0 line ≡ false → has 10 line ≡ false → AllLack p (tokens line)) where
   lack-entry : (kind : Kind) (secondary : Bool) (token : List ℕ) (e : Entry) → IsEntry kind secondary token e → list_any p token ≡ false → list_any p e.name ≡ false

@@ -1,5 +1,5 @@
 -- What the parts of the reader hold, in the words of the grammar.
-use Rattle.std.specs.Prelude.{◌≡◌, ℕ, ◌+◌, ◌<◌, ◌≤◌, Bool, false, nat_eq, List, [], ◌∷◌, Option, None, Some, Result, Ok, Err, All, map, length, get_or}
+use Rattle.std.specs.Prelude.{◌≡◌, ◌≢◌, ℕ, ◌+◌, ◌<◌, ◌≤◌, Bool, false, nat_eq, List, [], ◌∷◌, Option, None, Some, Result, Ok, Err, All, AllPairs, map, length, get_or}
 use Rattle.std.specs.List.{list_any}
 use Rattle.xc_input.specs.declared.problem.Item.{Item}
 use Rattle.xc_input.specs.declared.FaultKind.{FaultKind}
@@ -9,6 +9,7 @@ use Rattle.xc_input.specs.declared.draft.LineError.TheVariants.{Fault, Memory}
 use Rattle.xc_input.specs.declared.option_line.Part.{Part}
 use Rattle.xc_input.specs.declared.draft.Draft.{Draft}
 use Rattle.xc_input.specs.Named.{IsName}
+use Rattle.xc_input.specs.Tokens.{is_space}
 use Rattle.xc_input.specs.Flat.{pieces, AreStarts}
 use Rattle.xc_input.specs.Stored.{key_names}
 use Rattle.xc_input.specs.Stages.{Stage}
@@ -27,9 +28,15 @@ entry_of item = record { name = item.name.items; low = item.low; high = item.hig
 abbrev pub row_of_items : Items → Row
 row_of_items i = record { entries = map entry_of i.items.items; bar = i.bar }
 
+-- names without white space, no two of which are the same
+pub record AreNames (names : List (List ℕ)) : Type 0 where
+  pub named : All IsName names
+  pub solid : All (λ name. list_any is_space name ≡ false) names
+  pub distinct : AllPairs (λ x y. x ≢ y) names
+
 -- the table of names has the names of the items
 abbrev pub IsItemTable : Items → Type 0
-IsItemTable i = (key_names i.names.keys ≡ names_of (map entry_of i.items.items)) × (length i.items.items ≤ most_items) × All IsName (key_names i.names.keys)
+IsItemTable i = (key_names i.names.keys ≡ names_of (map entry_of i.items.items)) × (length i.items.items ≤ most_items) × AreNames (key_names i.names.keys)
 
 abbrev pub written_of : Part → Written
 written_of p = record { item = p.item; colour = p.colour.now }
@@ -55,7 +62,7 @@ stage_of_draft d = record { started = d.started; sheet = sheet_of_draft d; ignor
 -- the tables of a draft agree
 pub record IsDraft (d : Draft) : Type 0 where
   pub names : key_names d.names.keys ≡ names_of (map entry_of d.items.items)
-  pub named : All IsName (key_names d.names.keys)
+  pub named : AreNames (key_names d.names.keys)
   pub few_items : length d.items.items ≤ most_items
   pub ends : AreStarts (0 ∷ d.ends.items) (length d.uses.items)
   pub few_uses : length d.uses.items ≤ most_uses

@@ -1,4 +1,4 @@
--- Each list of lines has a first fault or stands for one problem.
+-- Each list of lines has a first fault or stands for one problem; and what stands for one stands for it as each kind that allows more.
 use Rattle.std.specs.Prelude.{◌≡◌, ℕ, List, None}
 use Rattle.xc_input.specs.declared.Kind.{Kind}
 use Rattle.xc_input.specs.Named.{Named}
@@ -17,3 +17,7 @@ StandingAreFaultless = (kind : Kind) (lines : List (List ℕ)) (named : Named) (
 abbrev pub StandForOne : Type 0
 StandForOne =
     (kind : Kind) (lines : List (List ℕ)) (a b : Named) (is js : List ℕ) → StandsFor kind lines a is → StandsFor kind lines b js → (a ≡ b) × (is ≡ js)
+
+-- lines that stand for a problem as one kind stand for the same problem as another
+abbrev pub StandAlso : Kind → Kind → Type 0
+StandAlso kind other = (lines : List (List ℕ)) (named : Named) (ignored : List ℕ) → StandsFor kind lines named ignored → StandsFor other lines named ignored

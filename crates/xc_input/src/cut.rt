@@ -1,11 +1,13 @@
 //! Cuts lines into tokens, and tokens into their parts.
 
-ghost use Rattle.std.specs.Prelude.{◌≡◌, ◌++◌, ◌∷◌, ◌<◌, ◌≤◌, [], length, MatchOption, map, false, true, None, OnOk, IfOk};
-ghost use Rattle.xc_input.specs.Tokens.{is_space, tokens, parts, drop_white, word, is_skipped};
+ghost use Rattle.std.specs.Prelude.{◌≡◌, ◌++◌, ◌∷◌, ◌<◌, ◌≤◌, [], length, take, MatchOption, map, false, true, None, Some, OnOk, IfOk, IfSome, IsTrue};
+ghost use Rattle.xc_input.specs.Tokens.{is_space, tokens, parts, drop_white, word, is_skipped, AtWhite};
 ghost use Rattle.xc_input.specs.Words.{has, before, after, place, is_number, number};
-ghost use Rattle.xc_input.specs.Drafts.{Judged};
+ghost use Rattle.xc_input.specs.Drafts.{AreNames, Judged};
+ghost use Rattle.xc_input.specs.Stored.{key_names};
 
 use crate::draft::LineError;
+use crate::guess::Guesses;
 use crate::names::NameSet;
 use bstr::ByteSlice;
 use std::alloc::Global;
@@ -54,15 +56,54 @@ fn word_len(line: &[u8]) -> usize
     n
 }
 
-/// The first token, and what is left behind it.
-pub fn next_token(line: &[u8]) -> Option<(&[u8], &[u8])>
-    ensures { MatchOption result (tokens line.now ≡ []) (λ p. (tokens line.now ≡ p.0.now ∷ tokens p.1.now) × (length p.1.now < length line.now)) }
+/// Whether a text begins with the name of this place and length, and white space or the end follows.
+#[inline]
+fn begins_with(names: &NameSet, at: usize, n: usize, text: &[u8]) -> bool
+    requires { AreNames (key_names names.now.keys) }
+    ensures { IsTrue result → (n ≤ length text.now) × (length (word text.now) ≡ n) × (place (key_names names.now.keys) (take n text.now) ≡ Some at) }
+{
+    let name = match names.get_index(at) {
+        Some(name) => name.as_slice(),
+        None => return false,
+    };
+    if name.len() != n || text.len() < n {
+        return false;
+    }
+    let (front, back) = text.split_at(n);
+    front == name && is_at_white(back)
+}
+
+/// Whether a text is empty or begins with white space.
+#[inline]
+fn is_at_white(text: &[u8]) -> bool
+    ensures { IsTrue result → AtWhite text.now }
+{
+    match text {
+        [] => true,
+        [first, ..] => is_white(*first),
+    }
+}
+
+/// The first token, its place among the names, and what is left behind it.
+pub fn next_token<'a>(
+    names: &NameSet,
+    guesses: &Guesses,
+    line: &'a [u8],
+) -> Option<(&'a [u8], Option<usize>, &'a [u8])>
+    requires { AreNames (key_names names.now.keys) }
+    ensures { MatchOption result (tokens line.now ≡ []) (λ p. (tokens line.now ≡ p.0.now ∷ tokens p.2.now) × (length p.2.now < length line.now) × (p.1 ≡ place (key_names names.now.keys) p.0.now)) }
 {
     let rest = skip_white(line);
     if rest.is_empty() {
         return None;
     }
-    Some(rest.split_at(word_len(rest)))
+    let (at, n) = guesses.guess(rest);
+    if begins_with(names, at, n, rest) {
+        let (token, others) = rest.split_at(n);
+        return Some((token, Some(at), others));
+    }
+    let (token, others) = rest.split_at(word_len(rest));
+    Some((token, place_of(names, token), others))
 }
 
 /// The first part of an item line, a bar or another token, and what is left behind it.

@@ -9,6 +9,7 @@ ghost use Rattle.xc_input.specs.Drafts.{Judged, IsDraft, AreMarks, stage_of_draf
 ghost use Rattle.xc_input.specs.Stored.{key_names};
 
 use crate::cut::{add_name, has_byte, is_skipped_line, place_of};
+use crate::guess::Guesses;
 use crate::item_line::{Items, item_line};
 use crate::names::{NameSet, no_names};
 use crate::option_line::{Part, option_line};
@@ -28,6 +29,7 @@ pub enum LineError {
 pub struct Draft {
     pub started: bool,
     pub names: NameSet,
+    pub guesses: Guesses,
     pub items: Vec<Item>,
     pub primary: u32,
     pub marks: Vec<bool>,
@@ -45,6 +47,7 @@ impl Draft {
         Draft {
             started: false,
             names: no_names(alloc),
+            guesses: Guesses::none(alloc),
             items: Vec::new(alloc),
             primary: 0,
             marks: Vec::new(alloc),
@@ -90,8 +93,12 @@ impl Draft {
         let Ok(marks) = no_marks(alloc, items.len()) else {
             return Err(LineError::Memory);
         };
+        let Ok(guesses) = Guesses::new(alloc, &names) else {
+            return Err(LineError::Memory);
+        };
         self.primary = bar.unwrap_or(items.len() as u32);
         self.names = names;
+        self.guesses = guesses;
         self.items = items;
         self.marks = marks;
         self.started = true;
@@ -115,6 +122,7 @@ impl Draft {
             alloc,
             kind,
             &self.names,
+            &self.guesses,
             self.primary,
             &mut self.marks,
             line,

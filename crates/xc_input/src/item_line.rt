@@ -1,7 +1,8 @@
 //! Reads the item line.
 
-ghost use Rattle.std.specs.Prelude.{◌≡◌, ◌++◌, ◌∷◌, [], None, Some, OnOk, IfOk, MatchResult, map, is_some};
-ghost use Rattle.xc_input.specs.Tokens.{parts};
+ghost use Rattle.std.specs.Prelude.{◌≡◌, ◌++◌, ◌∷◌, [], None, Some, OnOk, IfOk, MatchResult, map, is_some, false};
+ghost use Rattle.std.specs.List.{list_any};
+ghost use Rattle.xc_input.specs.Tokens.{parts, is_space};
 ghost use Rattle.xc_input.specs.Words.{number};
 ghost use Rattle.xc_input.specs.Faults.{first, name_checks, is_bounds, prefix_checks, bound_checks, low_text, high_text, entry, part_checks, with_part, row_checks, row_of, no_row, item_checks};
 ghost use Rattle.xc_input.specs.Sheets.{names_of};
@@ -117,7 +118,8 @@ fn split_token(kind: Kind, secondary: bool, token: &[u8]) -> Result<Token<'_>, F
 impl Items {
     /// Takes a bar or another token of the line.
     fn add(&mut self, alloc: Global, kind: Kind, part: &[u8]) -> Result<(), LineError>
-        requires { IsItemTable self.old }
+        requires table { IsItemTable self.old }
+        requires solid { list_any is_space part.now ≡ false }
         ensures judged { Judged (first (part_checks kind (row_of_items self.old) part.now)) result }
         ensures added { OnOk result (IsItemTable self.new × (row_of_items self.new ≡ with_part kind (row_of_items self.old) part.now)) }
     {
@@ -133,7 +135,8 @@ impl Items {
 
     /// Takes a token that is no bar.
     fn add_item(&mut self, alloc: Global, kind: Kind, token: &[u8]) -> Result<(), LineError>
-        requires { IsItemTable self.old }
+        requires table { IsItemTable self.old }
+        requires solid { list_any is_space token.now ≡ false }
         ensures judged { Judged (first (item_checks kind (names_of (map entry_of self.old.items.items)) (is_some self.old.bar) token.now)) result }
         ensures added { OnOk result (IsItemTable self.new × (map entry_of self.new.items.items ≡ map entry_of self.old.items.items ++ entry kind (is_some self.old.bar) token.now ∷ []) × (self.new.bar ≡ self.old.bar)) }
     {

@@ -1,10 +1,19 @@
 //! What holds of every text.
 
-ghost use Rattle.xc_input.specs.Law.{FaultlessStand, StandingAreFaultless, StandForOne};
+ghost use Rattle.xc_input.specs.Law.{FaultlessStand, StandingAreFaultless, StandForOne, StandAlso};
+ghost use Rattle.xc_input.specs.declared.Kind.TheVariants.{Plain, Colours, Bounds};
 
 /// A text has a first fault or stands for one problem, and never both.
 pub fn fault_or_problem()
     ensures stands { FaultlessStand }
     ensures faultless { StandingAreFaultless }
     ensures one { StandForOne }
+{}
+
+/// A text that stands for a problem as one kind stands for the same problem, with the same ignored
+/// lines, as each kind that allows more.
+pub fn kinds_that_allow_more()
+    ensures plain_as_colours { StandAlso Plain Colours }
+    ensures plain_as_bounds { StandAlso Plain Bounds }
+    ensures colours_as_bounds { StandAlso Colours Bounds }
 {}

@@ -4,6 +4,7 @@
 mod cut;
 mod draft;
 mod given;
+mod guess;
 mod item_line;
 pub mod law;
 mod names;

@@ -6,11 +6,12 @@ ghost use Rattle.xc_input.specs.Faults.{first, is_plain, is_bad_colour, name_che
 ghost use Rattle.xc_input.specs.declared.FaultKind.TheVariants.{UnknownItem};
 ghost use Rattle.xc_input.specs.Words.{place};
 ghost use Rattle.xc_input.specs.Named.{IsName};
-ghost use Rattle.xc_input.specs.Drafts.{Judged, written_of, items_of, AreMarks, IsMarkable};
+ghost use Rattle.xc_input.specs.Drafts.{AreNames, Judged, written_of, items_of, AreMarks, IsMarkable};
 ghost use Rattle.xc_input.specs.Stored.{key_names};
 
 use crate::cut::{cut_at, next_token, place_of};
 use crate::draft::LineError;
+use crate::guess::Guesses;
 use crate::item_line::name_fault;
 use crate::names::NameSet;
 use crate::{FaultKind, Kind};
@@ -48,22 +49,24 @@ fn fault_of_unknown(name: &[u8]) -> FaultKind
     name_fault(name).unwrap_or(FaultKind::UnknownItem)
 }
 
-/// The use of a token behind uses of the marked items, or its first fault.
+/// The use of a token at this place among the names, behind uses of the marked items, or its first fault.
 fn use_of<'a>(
     kind: Kind,
     names: &NameSet,
     primary: u32,
     marks: &[bool],
     token: &'a [u8],
+    known: Option<usize>,
 ) -> Result<Part<'a>, FaultKind>
     requires few { length names.now.keys ≤ most_items }
     requires named { All IsName (key_names names.now.keys) }
     requires marks { length marks.now ≡ length names.now.keys }
+    requires known { known ≡ place (key_names names.now.keys) token.now }
     ensures judged { (seen : List ℕ) → AreMarks marks.now seen → MatchResult result (λ p. (first (token_checks kind (key_names names.now.keys) primary seen token.now) ≡ None) × (written_of p ≡ written (key_names names.now.keys) token.now)) (λ fault. first (token_checks kind (key_names names.now.keys) primary seen token.now) ≡ Some fault) }
     ensures within { IfOk result (λ p. IsMarkable (length marks.now) p) }
 {
     // A name has no colon, so a token that is a name has no colour.
-    match place_of(names, token) {
+    match known {
         Some(place) if marks[place] => Err(FaultKind::RepeatedInOption),
         Some(place) => Ok(Part {
             item: place as u32 + 1,
@@ -116,12 +119,13 @@ pub fn option_line<'a>(
     alloc: Global,
     kind: Kind,
     names: &NameSet,
+    guesses: &Guesses,
     primary: u32,
     marks: &mut [bool],
     line: &'a [u8],
 ) -> Result<Vec<Part<'a>>, LineError>
     requires few { length names.now.keys ≤ most_items }
-    requires named { All IsName (key_names names.now.keys) }
+    requires named { AreNames (key_names names.now.keys) }
     requires marks { length marks.old ≡ length names.now.keys }
     requires unmarked { AreMarks marks.old [] }
     ensures judged { Judged (first (option_checks kind (key_names names.now.keys) primary [] (tokens line.now))) result }
@@ -129,13 +133,13 @@ pub fn option_line<'a>(
     ensures unmarked { OnOk result (AreMarks marks.new []) }
 {
     // Most lines have no more uses than that.
-    let room = (line.len() / 4).min(256);
+    let room = (line.len() / 3 + 1).min(256);
     let Ok(mut parts) = Vec::with_capacity(alloc, room) else {
         return Err(LineError::Memory);
     };
     let mut rest = line;
-    while let Some((token, others)) = next_token(rest) {
-        let part = match use_of(kind, names, primary, marks, token) {
+    while let Some((token, known, others)) = next_token(names, guesses, rest) {
+        let part = match use_of(kind, names, primary, marks, token, known) {
             Ok(part) => part,
             Err(fault) => return Err(LineError::Fault(fault)),
         };

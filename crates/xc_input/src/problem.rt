@@ -1,8 +1,8 @@
 //! A problem as it was read.
 
-ghost use Rattle.std.specs.Prelude.{◌≡◌, ◌-◌, ◌<◌, ◌≤◌, ◌∷◌, length, get_or, Some, All};
-ghost use Rattle.xc_input.specs.Problem.{IsValid, IsWithinLimits, primary_count, item_count, option_count, IsItem, numbered_get, bounds_at, IsPrimary};
-ghost use Rattle.xc_input.specs.Flat.{bounds_of, pieces, AreStarts};
+ghost use Rattle.std.specs.Prelude.{◌≡◌, ◌-◌, ◌<◌, ◌≤◌, ◌∷◌, length, drop, get_or, Some, All};
+ghost use Rattle.xc_input.specs.Problem.{IsValid, IsWithinLimits, primary_count, item_count, option_count, IsItem, numbered_get, bounds_at, IsPrimary, IsSecondary};
+ghost use Rattle.xc_input.specs.Flat.{bounds_of, secondary_bounds, IsOptional, pieces, AreStarts};
 ghost use Rattle.xc_input.specs.Named.{Named, AreColoursKnown, IsKnownUse, IsWellNamed, IsSound};
 ghost use Rattle.xc_input.specs.Stored.{named_from};
 
@@ -35,9 +35,9 @@ pub struct Problem {
 }
 
 impl Model for Problem {
-    ghost use Rattle.std.specs.Prelude.{◌≤◌, ◌∷◌, length};
+    ghost use Rattle.std.specs.Prelude.{◌≤◌, ◌∷◌, length, drop, All};
     ghost use Rattle.xc_input.specs.Named.{Named, IsSound};
-    ghost use Rattle.xc_input.specs.Flat.{AreStarts};
+    ghost use Rattle.xc_input.specs.Flat.{AreStarts, IsOptional};
     ghost use Rattle.xc_input.specs.Stored.{named_from};
 
     ghost Value = { Named };
@@ -46,6 +46,7 @@ impl Model for Problem {
 
     ghost invariant = { λ p. record {
       primary : p.primary ≤ length p.items.items;
+      secondary : All IsOptional (drop p.primary p.items.items);
       starts : AreStarts (0 ∷ p.ends.items) (length p.uses.items);
       sound : IsSound (named_from p.items.items p.primary p.uses.items p.ends.items p.colours.keys);
     } };
@@ -60,6 +61,7 @@ impl Problem {
         colours: NameSet,
     ) -> Problem
         requires primary { primary ≤ length items.items }
+        requires secondary { All IsOptional (drop primary items.items) }
         requires starts { AreStarts (0 ∷ ends.items) (length uses.items) }
         requires sound { IsSound (named_from items.items primary uses.items ends.items colours.keys) }
         ensures { result ≡ named_from items.items primary uses.items ends.items colours.keys }
@@ -97,6 +99,7 @@ impl Problem {
         requires { IsItem self.now.puzzle i }
         ensures name { numbered_get self.now.names i ≡ Some result.now.name.items }
         ensures bounds { IsPrimary self.now.puzzle i → bounds_at self.now.puzzle i ≡ Some (bounds_of result.now) }
+        ensures secondary { IsSecondary self.now.puzzle i → bounds_of result.now ≡ secondary_bounds }
     {
         &self.items[i as usize - 1]
     }

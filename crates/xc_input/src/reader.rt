@@ -116,6 +116,7 @@ impl Reader {
         let Draft {
             started: _,
             names: _,
+            guesses: _,
             items,
             primary,
             marks: _,

@@ -148,6 +148,7 @@ fn colours_by_first_kept_use(rt: HostRuntime) {
         let problem = &read.problem;
         assert!(rt; problem.items() == 3 && problem.primary() == 2 && problem.options() == 3);
         assert!(rt; read.ignored.as_slice() == [2].as_slice());
+        assert!(rt; has_item(problem, 2, b"B", 1, 1) && has_item(problem, 3, b"x", 0, 1));
         assert!(rt; has_option(problem, 1, &[(1, 0), (3, 1)]));
         assert!(rt; has_option(problem, 2, &[(2, 0), (3, 2)]));
         assert!(rt; has_option(problem, 3, &[(2, 0), (3, 1), (1, 0)]));

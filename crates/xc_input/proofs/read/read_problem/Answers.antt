@@ -7,7 +7,7 @@ use Rattle.xc_input.proofs.SourceLemmas.{consumes_more, consumes_zero, consumes_
 use Rattle.xc_input.specs.Pieces.{Gave, GaveAll}
 use Rattle.xc_input.proofs.PieceLemmas.{gave_more, gave_end, whole-last, part-last, part-spoiled}
 use Rattle.std.proofs.lemmas.Grind.{common_steps}
-use Rattle.xc_input.proofs.read.read_problem.Goals.{After-drop-carry-2, After-drop-reader-inside-in-Err-feed-14}
+use Rattle.xc_input.proofs.read.read_problem.Goals.{After-drop-carry-2, After-drop-reader-inside-in-Err-feed-15}
 use Rattle.xc_input.proofs.read.read_problem.Goals as goal
 
 pub returns-in-Err-clause-cut : goal.returns-in-Err-clause-cut
@@ -22,7 +22,7 @@ returns-in-Err-clause-cut g c =
     )
 
 -- a piece brought the error
-spoilt : (g : _) (c : After-drop-reader-inside-in-Err-feed-14 g)
+spoilt : (g : _) (c : After-drop-reader-inside-in-Err-feed-15 g)
     → Says c.args.kind (g.S.Source.rest c.args.source.now) (g.S.Source.rest c.read.new.self) (g.S.Source.failures c.args.source.now) (g.S.Source.failures c.read.new.self) (Err c.in-Err-feed.e)
 spoilt g c =
     let bytes = fed c.reading.reader c.reading.carry.items ++ take c.in-Ok-read.n c.read.new.buf in

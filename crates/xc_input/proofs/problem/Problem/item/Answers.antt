@@ -1,8 +1,8 @@
-use Rattle.std.proofs.Common.{arith, ◌≡◌, ◌+◌, ◌-◌, ◌<◌, ap, sym, ◌∙◌, Some, length, map, take}
+use Rattle.std.proofs.Common.{arith, ◌≡◌, ◌+◌, ◌-◌, ◌<◌, ◌≤◌, ap, sym, subst, ◌∙◌, Some, length, map, take}
 use Rattle.xc_input.specs.Problem.{numbered_get, bounds_at, item_count, primary_count}
-use Rattle.xc_input.specs.Flat.{bounds_of}
+use Rattle.xc_input.specs.Flat.{bounds_of, IsOptional}
 use Rattle.xc_input.specs.Named.{Named}
-use Rattle.xc_input.proofs.FlatParts.{numbered_get-at, slice_get-map, slice_get-map-take, length-map-take}
+use Rattle.xc_input.proofs.FlatParts.{numbered_get-at, slice_get-map, slice_get-map-take, length-map-take, behind-at}
 use Rattle.xc_input.proofs.problem.Problem.item.Goals as goal
 
 pub returns-clause-name : goal.returns-clause-name
@@ -31,3 +31,14 @@ returns-clause-bounds c = λ primary.
     ∙ numbered_get-at (map bounds_of (take c.self.inside.primary items)) i (i - 1) at
     ∙ slice_get-map-take bounds_of c.self.inside.primary items (i - 1) c.index.result.now in_front in_range
     ∙ ap (λ x. Some (bounds_of x)) (sym c.index.ensures)
+
+pub returns-clause-secondary : goal.returns-clause-secondary
+returns-clause-secondary c = λ secondary.
+    let i = c.args.i in
+    let items = c.self.inside.items.items in
+    let front = length-map-take bounds_of c.self.inside.primary items c.self.invariant.primary in
+    let primaries = ap (λ (v : Named). primary_count v.puzzle) c.self.view_is in
+    let count = ap (λ (v : Named). item_count v.puzzle) c.self.view_is in
+    let behind : c.self.inside.primary ≤ i - 1 = omega (arith, primaries, front, secondary.0) in
+    let in_range : i - 1 < length items = omega (arith, count, front, c.requires.0, c.requires.1, c.self.invariant.primary) in
+    subst IsOptional (sym c.index.ensures) (behind-at IsOptional c.self.inside.primary items (i - 1) c.index.result.now c.self.invariant.secondary behind in_range)

@@ -2,7 +2,7 @@ use Rattle.std.proofs.Common.{◌∙◌, sym, subst}
 use Rattle.xc_input.specs.Named.{IsSound}
 use Rattle.xc_input.specs.Text.{StandsFor}
 use Rattle.xc_input.proofs.GrammarLemmas.{not-true, not-false}
-use Rattle.xc_input.proofs.FinishLemmas.{refuses, unstarted, accepts, alone, is-sound, primary-within, starts-are}
+use Rattle.xc_input.proofs.FinishLemmas.{refuses, unstarted, accepts, alone, is-sound, primary-within, optional-behind, starts-are}
 use Rattle.xc_input.proofs.reader.Reader.finish.Goals as goal
 
 pub returns-in-Some-clause-refused : goal.returns-in-Some-clause-refused
@@ -13,6 +13,9 @@ returns-then-not-draft-clause-refused c = λ u. unstarted _ c.self.inside.kind c
 
 pub new-requires-clause-primary : goal.new-requires-clause-primary
 new-requires-clause-primary c = primary-within _ c.self.inside.kind c.self.inside.given.lines c.self.inside.error (sym c.self.view_is) c.self.invariant.1 c.in_default.is c.self.inside.draft c.self.invariant.2 (not-false _ c.if-not-draft.false)
+
+pub new-requires-clause-secondary : goal.new-requires-clause-secondary
+new-requires-clause-secondary c = optional-behind _ c.self.inside.kind c.self.inside.given.lines c.self.inside.error (sym c.self.view_is) c.self.invariant.1 c.in_default.is c.self.inside.draft c.self.invariant.2 (not-false _ c.if-not-draft.false)
 
 pub new-requires-clause-starts : goal.new-requires-clause-starts
 new-requires-clause-starts c = starts-are _ c.self.inside.kind c.self.inside.given.lines c.self.inside.error (sym c.self.view_is) c.self.invariant.1 c.in_default.is c.self.inside.draft c.self.invariant.2

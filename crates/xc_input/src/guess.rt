@@ -1,0 +1,104 @@
+//! Guesses at the name that a text begins with. They may be wrong: whoever takes one looks at it.
+
+ghost use Rattle.std.specs.Prelude.{◌≤◌};
+
+use crate::names::NameSet;
+use std::alloc::{AllocError, Global};
+
+/// A place of a name for each number of a table.
+#[derive(Drop)]
+pub struct Guesses {
+    places: Vec<u32>,
+}
+
+impl Guesses {
+    /// For no names.
+    pub fn none(alloc: Global) -> Guesses {
+        Guesses {
+            places: Vec::new(alloc),
+        }
+    }
+
+    /// For these names.
+    pub fn new(alloc: Global, names: &NameSet) -> Result<Guesses, AllocError> {
+        let few = names.len().min(100_000);
+        let mut places = vec![in alloc; 0; (few * 16).min(1 << 20)]?;
+        for i in 0..few {
+            if let Some(name) = names.get_index(i) {
+                let number = number(word(name.as_slice()).0, places.len());
+                if let Some(place) = places.get_mut(number) {
+                    *place = i as u32;
+                }
+            }
+        }
+        Ok(Guesses { places })
+    }
+
+    /// The place and the length of the name that a text may begin with.
+    #[inline]
+    pub fn guess(&self, text: &[u8]) -> (usize, usize) {
+        let (bytes, len) = word(text);
+        let place = match self.places.get(number(bytes, self.places.len())) {
+            Some(place) => *place as usize,
+            None => 0,
+        };
+        (place, len)
+    }
+}
+
+/// A number below the size, for the bytes of a word.
+#[inline]
+fn number(bytes: u64, size: usize) -> usize {
+    let product = bytes.wrapping_mul(0x9e37_79b9_7f4a_7c15);
+    ((product >> 32).wrapping_mul(size as u64) >> 32) as usize
+}
+
+/// The bytes at the front of a text up to its first white space, as a number, and how many they are.
+#[inline]
+fn word(text: &[u8]) -> (u64, usize) {
+    let first = first_bytes(text);
+    let white = white_bits(first);
+    if white != 0 {
+        return (first & bits_below(white), bytes_below(white));
+    }
+    if text.len() <= 8 {
+        return (first, 8);
+    }
+    let second = first_bytes(&text[8..]);
+    let white = white_bits(second);
+    let more = (second & bits_below(white)).wrapping_mul(0xff51_afd7_ed55_8ccd);
+    (first ^ more, 8 + bytes_below(white))
+}
+
+/// The first eight bytes of a text, as a number.
+#[inline]
+fn first_bytes(text: &[u8]) -> u64 {
+    if let [a, b, c, d, e, f, g, h, ..] = text {
+        return u64::from_le_bytes([*a, *b, *c, *d, *e, *f, *g, *h]);
+    }
+    let mut number = 0u64;
+    for b in text.iter().rev() {
+        number = number.wrapping_mul(256).wrapping_add(u64::from(*b));
+    }
+    number
+}
+
+/// The lowest bit that is set stands at the first byte of a word that is at most a space.
+#[inline]
+fn white_bits(word: u64) -> u64 {
+    word.wrapping_sub(0x2121_2121_2121_2121) & !word & 0x8080_8080_8080_8080
+}
+
+/// The bits of the bytes below the byte of the lowest bit; those of seven bytes where there is none.
+#[inline]
+fn bits_below(bits: u64) -> u64 {
+    (bits ^ bits.wrapping_sub(1)) >> 8
+}
+
+/// How many bytes stand below that of the lowest bit; eight where there is none.
+#[inline]
+fn bytes_below(bits: u64) -> usize
+    ensures { result ≤ 8 }
+{
+    bits.trailing_zeros() as usize / 8
+}
