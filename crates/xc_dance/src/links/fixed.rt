@@ -10,7 +10,7 @@ ghost use Rattle.xc_dance.specs.Links.Unmarked.{IsPlain};
 
 use crate::links::known::Known;
 use crate::links::nodes::Span;
-use crate::links::options::{node_options, option_starts};
+use crate::links::options::{node_count, node_options, option_starts};
 use crate::links::spans::option_spans;
 use std::alloc::{AllocError, Global};
 use std::marker::Model;
@@ -62,8 +62,9 @@ impl Fixed {
         ensures fit { IfOk result (λ _. IsFit problem.now.puzzle) }
     {
         let items = problem.items();
-        let spans = option_spans(alloc, problem)?;
-        let options = node_options(alloc, problem)?;
+        let count = node_count(problem);
+        let spans = option_spans(alloc, problem, count)?;
+        let options = node_options(alloc, problem, count)?;
         let starts = option_starts(alloc, problem)?;
         Ok(Fixed {
             known: Known::of(problem),

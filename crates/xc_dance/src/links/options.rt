@@ -1,5 +1,6 @@
 //! Which option each node is of, and where the nodes of each option start.
-ghost use Rattle.std.specs.Prelude.{◌≡◌, ◌+◌, ◌<◌, IfOk};
+ghost use Rattle.std.specs.Prelude.{◌≡◌, ◌+◌, ◌<◌, length, IfOk};
+ghost use Rattle.xc_dance.specs.Fields.{layout};
 ghost use Rattle.xc_input.specs.Problem.{IsWithinLimits, item_count, option_count};
 ghost use Rattle.xc_dance.specs.Links.OptionPlaces.{start_at, starts_of};
 ghost use Rattle.xc_dance.specs.Links.NodeOptions.{options_of, options_to};
@@ -7,12 +8,28 @@ ghost use Rattle.xc_dance.specs.Links.NodeOptions.{options_of, options_to};
 use std::alloc::{AllocError, Global};
 use xc_input::Problem;
 
-/// The option of each node; 0 for what is no use.
-pub(crate) fn node_options(alloc: Global, problem: &Problem) -> Result<Vec<u32>, AllocError>
+/// How many nodes there are.
+pub(crate) fn node_count(problem: &Problem) -> u32
+    requires { IsWithinLimits problem.now.puzzle }
+    ensures { result ≡ length (layout problem.now.puzzle) }
+{
+    let mut count = problem.items() + 2;
+    for o in 0..problem.options() {
+        count += problem.option(o + 1).len() as u32 + 1;
+    }
+    count
+}
+
+/// The option of each node; 0 for what is no use. It has room for `count` from the start.
+pub(crate) fn node_options(
+    alloc: Global,
+    problem: &Problem,
+    count: u32,
+) -> Result<Vec<u32>, AllocError>
     requires { IsWithinLimits problem.now.puzzle }
     ensures { IfOk result (λ v. v.items ≡ options_of problem.now.puzzle) }
 {
-    let mut options = no_options(alloc, problem)?;
+    let mut options = no_options(alloc, problem, count)?;
     for o in 0..problem.options() {
         add_uses(&mut options, problem, o)?;
     }
@@ -20,10 +37,10 @@ pub(crate) fn node_options(alloc: Global, problem: &Problem) -> Result<Vec<u32>,
 }
 
 /// Those of the unused node, of the items' own nodes and of the first spacer.
-fn no_options(alloc: Global, problem: &Problem) -> Result<Vec<u32>, AllocError>
+fn no_options(alloc: Global, problem: &Problem, count: u32) -> Result<Vec<u32>, AllocError>
     ensures { IfOk result (λ v. v.items ≡ options_to problem.now.puzzle (item_count problem.now.puzzle + 2)) }
 {
-    let mut options = Vec::new(alloc);
+    let mut options = Vec::with_capacity(alloc, count as usize)?;
     for _ in 0..problem.items() + 2 {
         options.push(0)?;
     }

@@ -14,12 +14,17 @@ const NO_SPAN: Span = Span {
     end: 0,
 };
 
-/// Where the option of each node stands; an empty span for what is no use.
-pub(crate) fn option_spans(alloc: Global, problem: &Problem) -> Result<Vec<Span>, AllocError>
+/// Where the option of each node stands; an empty span for what is no use. It has room for `count`
+/// from the start.
+pub(crate) fn option_spans(
+    alloc: Global,
+    problem: &Problem,
+    count: u32,
+) -> Result<Vec<Span>, AllocError>
     requires { IsWithinLimits problem.now.puzzle }
     ensures { IfOk result (λ v. v.items ≡ spans_of problem.now.puzzle) }
 {
-    let mut spans = item_spans(alloc, problem)?;
+    let mut spans = item_spans(alloc, problem, count)?;
     for o in 0..problem.options() {
         add_option(&mut spans, problem, o)?;
     }
@@ -27,10 +32,10 @@ pub(crate) fn option_spans(alloc: Global, problem: &Problem) -> Result<Vec<Span>
 }
 
 /// The spans of the unused node, of the items' own nodes and of the first spacer.
-fn item_spans(alloc: Global, problem: &Problem) -> Result<Vec<Span>, AllocError>
+fn item_spans(alloc: Global, problem: &Problem, count: u32) -> Result<Vec<Span>, AllocError>
     ensures { IfOk result (λ v. v.items ≡ spans_to problem.now.puzzle (item_count problem.now.puzzle + 2)) }
 {
-    let mut spans = Vec::new(alloc);
+    let mut spans = Vec::with_capacity(alloc, count as usize)?;
     for _ in 0..problem.items() + 2 {
         spans.push(NO_SPAN)?;
     }

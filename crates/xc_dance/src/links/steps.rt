@@ -88,7 +88,7 @@ fn hide_range(
     top: &mut [Cell],
     links: &mut [Link],
     color: &[Cell],
-    a: u32,
+    a: usize,
     b: u32,
     marks: bool,
     writes: &mut Writes,
@@ -101,8 +101,8 @@ fn hide_range(
     ensures few { result ≤ 3 * (b - a) }
 {
     let mut count = 0u64;
-    for q in a..b {
-        count += hide_one(top, links, color, q, marks, writes);
+    for q in a..b as usize {
+        count += hide_one(top, links, color, q as u32, marks, writes);
     }
     count
 }
@@ -128,8 +128,8 @@ pub(crate) fn hide(
     ensures few { result ≤ 3 * (end + p) }
     ensures counted { writes.new.count ≡ writes.old.count + result }
 {
-    let above = hide_range(top, links, color, p + 1, end, marks, writes);
-    let below = hide_range(top, links, color, first, p, marks, writes);
+    let above = hide_range(top, links, color, p as usize + 1, end, marks, writes);
+    let below = hide_range(top, links, color, first as usize, p, marks, writes);
     above + below
 }
 
@@ -163,7 +163,7 @@ fn show_range(
     top: &mut [Cell],
     links: &mut [Link],
     color: &[Cell],
-    a: u32,
+    a: usize,
     b: u32,
     marks: bool,
     writes: &mut Writes,
@@ -176,8 +176,8 @@ fn show_range(
     ensures few { result ≤ 3 * (b - a) }
 {
     let mut count = 0u64;
-    for q in (a..b).rev() {
-        count += show_one(top, links, color, q, marks, writes);
+    for q in (a..b as usize).rev() {
+        count += show_one(top, links, color, q as u32, marks, writes);
     }
     count
 }
@@ -203,7 +203,7 @@ pub(crate) fn unhide(
     ensures few { result ≤ 3 * (end + p) }
     ensures counted { writes.new.count ≡ writes.old.count + result }
 {
-    let below = show_range(top, links, color, first, p, marks, writes);
-    let above = show_range(top, links, color, p + 1, end, marks, writes);
+    let below = show_range(top, links, color, first as usize, p, marks, writes);
+    let above = show_range(top, links, color, p as usize + 1, end, marks, writes);
     below + above
 }

@@ -1,0 +1,36 @@
+use Rattle.std.proofs.Common.{arith, ◌≡◌, ◌+◌, ◌<◌, ◌∙◌, ap, sym}
+use Rattle.xc_input.specs.Problem.{option_count}
+use Rattle.xc_dance.specs.Links.OptionPlaces.{start_at}
+use Rattle.xc_dance.proofs.LinkedTables.OptionReach.{uses_here}
+use Rattle.xc_dance.proofs.LinkedTables.PlaceLemmas.{OptionFits, option_fits, place_first, layout_len}
+use Rattle.xc_dance.proofs.links.options.node_count.Goals as goal
+use Rattle.xc_dance.proofs.links.options.node_count.Goals.{After-option}
+
+fits : (c : After-option) → OptionFits c.args.problem.now.puzzle c.loop-o.o c.option.result.now
+fits c =
+    let p = c.args.problem.now.puzzle in
+    let lt : c.loop-o.o < option_count p = omega (arith, c.loop-o-test.true, c.options-o-end.ensures) in
+    option_fits p c.loop-o.o c.option.result.now c.requires lt (uses_here p (c.loop-o.o + 1) c.option.result.now c.option.ensures.value)
+
+pub loop-o-init : goal.loop-o-init
+loop-o-init c = let first = place_first c.args.problem.now.puzzle in omega (arith, first, c.items-count.ensures.value)
+
+pub overflow_cast-count : goal.overflow_cast-count
+overflow_cast-count c = let f = fits c in omega (arith, f.next, f.within, f.small)
+
+pub overflow_add-count-in-loop-o : goal.overflow_add-count-in-loop-o
+overflow_add-count-in-loop-o c = let f = fits (goal.at.overflow_add-count-in-loop-o c).After-option in omega (arith, f.next, f.within, f.small)
+
+pub overflow_add-count-in-loop-o-2 : goal.overflow_add-count-in-loop-o-2
+overflow_add-count-in-loop-o-2 c = let f = fits (goal.at.overflow_add-count-in-loop-o-2 c).After-option in omega (arith, f.next, f.within, f.small, c.loop-o.invariant)
+
+pub loop-o-preserved : goal.loop-o-preserved
+loop-o-preserved c = let f = fits (goal.at.loop-o-preserved c).After-option in let next = f.next in omega (arith, next, c.loop-o.invariant)
+
+pub returns : goal.returns
+returns c =
+    let p = c.args.problem.now.puzzle in
+    let whole = layout_len p in
+    let last : c.loop-o.o ≡ option_count p = omega (arith, c.loop-o-test.false, c.options-o-end.ensures, c.loop-o.auto.o-end) in
+    let end : c.loop-o.count ≡ start_at p (option_count p) = c.loop-o.invariant ∙ ap (start_at p) last in
+    omega (arith, whole, end)
