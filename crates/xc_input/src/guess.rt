@@ -22,7 +22,7 @@ impl Guesses {
     /// For these names.
     pub fn new(alloc: Global, names: &NameSet) -> Result<Guesses, AllocError> {
         let few = names.len().min(100_000);
-        let mut places = vec![in alloc; 0; (few * 16).min(1 << 20)]?;
+        let mut places = vec![in alloc; 0; (few * 16).min(1 << 18)]?;
         for i in 0..few {
             if let Some(name) = names.get_index(i) {
                 let number = number(word(name.as_slice()).0, places.len());
