@@ -1,4 +1,7 @@
 //! Guesses at the name that a text begins with. They may be wrong: whoever takes one looks at it.
+//!
+//! The bytes of a name are taken as a number eight at a time, where a hash takes one at a time; the
+//! names of a problem are short and few beside their uses, so most guesses are right.
 
 ghost use Rattle.std.specs.Prelude.{◌≤◌};
 
@@ -46,7 +49,8 @@ impl Guesses {
     }
 }
 
-/// A number below the size, for the bytes of a word.
+/// A number below the size, for the bytes of a word: the high bits of a product with an odd number
+/// of mixed bits, scaled to the size.
 #[inline]
 fn number(bytes: u64, size: usize) -> usize {
     let product = bytes.wrapping_mul(0x9e37_79b9_7f4a_7c15);
