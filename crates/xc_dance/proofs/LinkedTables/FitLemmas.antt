@@ -25,11 +25,11 @@ at_place P [] k nil a = nil
 at_place P (us ∷ os) zero nil a = a.0
 at_place P (us ∷ os) (suc k) nil a = at_place P os k nil a.1
 
-pub at_option : (P : List Use → Type 0) (p : Puzzle) (o : ℕ) → P [] → AllByRecursion P p.options → P (uses_of p o)
+at_option : (P : List Use → Type 0) (p : Puzzle) (o : ℕ) → P [] → AllByRecursion P p.options → P (uses_of p o)
 at_option P p zero nil a = nil
 at_option P p (suc k) nil a = at_place P p.options k nil a
 
-pub each_one : {X : Type 0} (P Q : X → Type 0) (xs : List X) → ((x : X) → P x → Q x) → AllByRecursion P xs → AllByRecursion Q xs
+each_one : {X : Type 0} (P Q : X → Type 0) (xs : List X) → ((x : X) → P x → Q x) → AllByRecursion P xs → AllByRecursion Q xs
 each_one P Q [] h a = tt
 each_one P Q (x ∷ xs) h a = (h x a.0, each_one P Q xs h a.1)
 

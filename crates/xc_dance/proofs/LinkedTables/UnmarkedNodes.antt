@@ -1,14 +1,12 @@
 -- Where no use has a colour no node of an option is marked, and no walk marks one.
 use Rattle.std.proofs.Common.{◌≡◌, ◌≢◌, ℕ, zero, suc, ◌-◌, ◌<◌, ◌≤◌, Bool, true, false, cond, ◌&&◌, eqb, ltb, List, [], ◌∷◌, length, map, fold, reverse, get_or, Option, Some, None, refl, ap, sym, subst, ◌∙◌, arith, ltb-true, ltb-false, eqb-true, ne_eqb}
-use Rattle.std.specs.Prelude.{slice_get, is_some, All}
+use Rattle.std.specs.Prelude.{slice_get, is_some}
 use Rattle.std.specs.List.{AllByRecursion}
 use Rattle.std.proofs.lemmas.Bool.{eqb-false}
 use Rattle.std.proofs.lemmas.List.{length-map}
-use Rattle.std.proofs.lemmas.List.Elements.{recursion_from_All}
 use Rattle.std.proofs.lemmas.Option.{slice_get_within}
 use Rattle.xc_input.specs.declared.problem.Use.{Use}
 use Rattle.xc_input.specs.Problem.{Puzzle, colour_in, uses_of, item_count, option_count}
-use Rattle.xc_input.specs.Named.{AreColoursKnown}
 use Rattle.xc_dance.specs.declared.dance.Move.{Move}
 use Rattle.xc_dance.specs.declared.dance.Move.TheVariants.{Cover, Purify, Tweak, Spend}
 use Rattle.xc_dance.specs.declared.links.nodes.Nodes.{Nodes}
@@ -23,23 +21,11 @@ use Rattle.xc_dance.specs.Links.OptionSpans.{span_of, spans_of}
 use Rattle.xc_dance.specs.Links.Steps.{hidden, shown, others_of}
 use Rattle.xc_dance.specs.Links.ListWalks.{left_node, back_node}
 use Rattle.xc_dance.specs.Links.Unmarked.{IsPlain, HasUnmarked, IsUnmarked}
-use Rattle.xc_dance.proofs.LinkedTables.FitLemmas.{at_option, each_one}
 use Rattle.xc_dance.proofs.LinkedTables.Mapped.{get_map}
 use Rattle.xc_dance.proofs.LinkedTables.PlaceLemmas.{get_there}
 use Rattle.xc_dance.proofs.LinkedTables.SpacerPlaces.{spacer_at}
 use Rattle.xc_dance.proofs.LinkedTables.SpanLemmas.{there}
 use Rattle.xc_dance.proofs.LinkedTables.UnmarkedCosts.{hidden_color, shown_color}
-
--- ---- the problem
-
--- where there is no colour no use has one
-pub is_plain : (colours : List (List ℕ)) (p : Puzzle) → AreColoursKnown colours p.options → length colours ≡ 0 → IsPlain p
-is_plain colours p known none = λ o.
-    at_option (λ us. AllByRecursion (λ u. u.colour ≡ 0) us) p o tt
-    (each_one (λ us. AllByRecursion (λ u. u.colour ≤ length colours) us) (λ us. AllByRecursion (λ u. u.colour ≡ 0) us) p.options
-    (λ us h. each_one (λ u. u.colour ≤ length colours) (λ u. u.colour ≡ 0) us (λ u le. omega (arith, le, none)) h)
-    (each_one (λ us. All (λ u. u.colour ≤ length colours) us) (λ us. AllByRecursion (λ u. u.colour ≤ length colours) us) p.options (λ us h. recursion_from_All (λ u. u.colour ≤ length colours) us h)
-    (recursion_from_All (λ us. All (λ u. u.colour ≤ length colours) us) p.options known)))
 
 some_number : (a b : ℕ) → Some a ≡ Some b → a ≡ b
 some_number a b e = cc

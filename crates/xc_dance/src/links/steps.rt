@@ -57,8 +57,8 @@ pub(crate) fn relink(
     set(top, i, count + 1, writes);
 }
 
-/// A step of hide. `marks` tells whether any node of an option may be marked; it is a constant at each call, and no test is
-/// made for it.
+/// A step of hide. `marks` tells whether a node of an option may be marked. It is a constant where this is inlined, so that two
+/// loops stand, one without the test.
 #[inline(always)]
 fn hide_one(
     top: &mut [Cell],
