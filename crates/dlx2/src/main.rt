@@ -5,19 +5,18 @@ use std::process::ExitCode;
 use xc_input::Kind;
 use xc_tools::{Direct, Incoming, Outgoing, out_of_memory, solve, words};
 
+#[cfg(test)]
+mod tests;
+
+/// What the program reads.
+const KIND: Kind = Kind::Colours;
+
 fn main(rt: HostRuntime) -> ExitCode {
     let mut input = Incoming::new(Some(rt.stdin()));
     let mut out = Outgoing::new(rt.stdout());
     let mut err = Direct::new(rt.stderr());
     ExitCode::from(match words(&rt) {
-        Ok(words) => solve(
-            rt.alloc(),
-            Kind::Colours,
-            &words,
-            &mut input,
-            &mut out,
-            &mut err,
-        ),
+        Ok(words) => solve(rt.alloc(), KIND, &words, &mut input, &mut out, &mut err),
         Err(_) => out_of_memory(&mut err),
     })
 }

@@ -4,6 +4,9 @@
 use std::process::ExitCode;
 use xc_tools::{Direct, Incoming, Outgoing, judge, named_file, out_of_memory, words};
 
+#[cfg(test)]
+mod tests;
+
 fn main(rt: HostRuntime) -> ExitCode {
     let mut listing = Incoming::new(Some(rt.stdin()));
     let mut out = Outgoing::new(rt.stdout());

@@ -1,0 +1,15 @@
+use crate::KIND;
+use std::test::Fail;
+use xc_input::Feed;
+use xc_tools::{Direct, Outgoing, solve};
+
+// A problem without colours is one of every kind: only a refused text tells them apart.
+#[test]
+fn a_colour_is_refused(rt: HostRuntime) -> Result<(), Fail> {
+    let mut input = Feed::new(b"A | x\nA x:1\n", 100, None);
+    let mut out = Outgoing::new(rt.stdout());
+    let mut err = Direct::new(rt.stderr());
+    let status = solve(rt.alloc(), KIND, &[], &mut input, &mut out, &mut err);
+    assert!(rt; status == 2);
+    Ok(())
+}
