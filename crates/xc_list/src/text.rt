@@ -14,6 +14,7 @@ pub enum SinkFault {
 }
 
 /// Writes all bytes, or a beginning of them where the sink fails.
+#[inline(always)]
 pub fn write_all<S: Sink>(sink: &mut S, bytes: &[u8]) -> Result<(), SinkFault>
     ensures text { Writes (S.failures sink.old, S.taken sink.old)
         (S.failures sink.new, S.taken sink.new) result bytes.now }
@@ -31,6 +32,7 @@ pub fn write_all<S: Sink>(sink: &mut S, bytes: &[u8]) -> Result<(), SinkFault>
 }
 
 /// Writes a number in decimal.
+#[inline]
 pub fn write_number<S: Sink>(sink: &mut S, n: u64) -> Result<(), SinkFault>
     ensures text { Writes (S.failures sink.old, S.taken sink.old)
         (S.failures sink.new, S.taken sink.new) result (decimal n) }

@@ -156,6 +156,7 @@ impl<W: Write + Drop> Outgoing<W> {
     }
 
     /// Passes on what is held back.
+    #[inline(never)]
     fn pass_held(&mut self) -> Result<(), WriteFailed>
         ensures emptied { OnOk result ((self.new.start ≡ 0) × (self.new.end ≡ 0)) }
         ensures failures { self.new.failures ≡ counted (is_err result) self.old.failures }
@@ -174,6 +175,7 @@ impl<W: Write + Drop> Outgoing<W> {
     }
 
     /// Passes on what is held back where there is no room for more.
+    #[inline(always)]
     fn make_room(&mut self) -> Result<(), WriteFailed>
         ensures room { OnOk result (self.new.end < 65536) }
         ensures failures { self.new.failures ≡ counted (is_err result) self.old.failures }
@@ -190,6 +192,7 @@ impl<W: Write + Drop> Outgoing<W> {
 }
 
 /// Puts bytes in the place of others.
+#[inline(always)]
 fn put(held: &mut [u8], at: usize, bytes: &[u8])
     requires { at + length bytes.now ≤ length held.old }
     ensures { held.new ≡ take at held.old ++ bytes.now ++ drop (at + length bytes.now) held.old }
@@ -206,6 +209,7 @@ impl<W: Write + Drop> Sink for Outgoing<W> {
 
     ghost settled = { λ s. nat_eq s.start s.end };
 
+    #[inline(always)]
     fn write(&mut self, bytes: &[u8]) -> Result<usize, WriteFailed> {
         self.make_room()?;
         let n = bytes.len().min(HELD - self.end);
