@@ -1,6 +1,6 @@
 //! Texts on a sink.
-ghost use Rattle.std.specs.Prelude.{◌++◌, OnErr, IsTrue, decimal, codes};
-ghost use Rattle.xc_list.specs.Texts.{Writes};
+ghost use Rattle.std.specs.Prelude.{◌++◌, ◌<◌, ◌≤◌, length, take, IfOk, OnErr, IsTrue, MatchResult, decimal, codes};
+ghost use Rattle.xc_list.specs.Texts.{Writes, Took, BrokeOff};
 
 use crate::sink::Sink;
 use itoa::Buffer;
@@ -13,22 +13,56 @@ pub enum SinkFault {
     Failed,
 }
 
-/// Writes all bytes, or a beginning of them where the sink fails.
+/// Writes bytes from the front, at least one, and says how many.
 #[inline(always)]
-pub fn write_all<S: Sink>(sink: &mut S, bytes: &[u8]) -> Result<(), SinkFault>
+fn write_some<S: Sink>(sink: &mut S, bytes: &[u8]) -> Result<usize, SinkFault>
+    requires { 0 < length bytes.now }
+    ensures some { IfOk result (λ n. (0 < n) × (n ≤ length bytes.now)) }
+    ensures text { MatchResult result
+        (λ n. Took (S.failures sink.old, S.taken sink.old)
+        (S.failures sink.new, S.taken sink.new) (take n bytes.now))
+        (λ _. BrokeOff (S.failures sink.old, S.taken sink.old)
+        (S.failures sink.new, S.taken sink.new) bytes.now) }
+    ensures stops { OnErr result (IsTrue (S.failed sink.new)) }
+{
+    match sink.write(bytes) {
+        Ok(0) => Err(SinkFault::Failed),
+        Ok(n) => Ok(n),
+        Err(_) => Err(SinkFault::Failed),
+    }
+}
+
+/// Writes what is left of a text.
+#[inline(never)]
+fn write_rest<S: Sink>(sink: &mut S, bytes: &[u8]) -> Result<(), SinkFault>
     ensures text { Writes (S.failures sink.old, S.taken sink.old)
         (S.failures sink.new, S.taken sink.new) result bytes.now }
     ensures stops { OnErr result (IsTrue (S.failed sink.new)) }
 {
     let mut rest = bytes;
     while !rest.is_empty() {
-        match sink.write(rest) {
-            Ok(0) => return Err(SinkFault::Failed),
-            Ok(n) => rest = &rest[n..],
-            Err(_) => return Err(SinkFault::Failed),
-        }
+        let n = write_some(sink, rest)?;
+        rest = &rest[n..];
     }
     Ok(())
+}
+
+/// Writes all bytes, or a beginning of them where the sink fails. Most texts are taken by the first
+/// write.
+#[inline(always)]
+pub fn write_all<S: Sink>(sink: &mut S, bytes: &[u8]) -> Result<(), SinkFault>
+    ensures text { Writes (S.failures sink.old, S.taken sink.old)
+        (S.failures sink.new, S.taken sink.new) result bytes.now }
+    ensures stops { OnErr result (IsTrue (S.failed sink.new)) }
+{
+    if bytes.is_empty() {
+        return Ok(());
+    }
+    let n = write_some(sink, bytes)?;
+    if n == bytes.len() {
+        return Ok(());
+    }
+    write_rest(sink, &bytes[n..])
 }
 
 /// Writes a number in decimal.

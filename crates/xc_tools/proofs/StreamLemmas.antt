@@ -1,5 +1,5 @@
 -- What a writer holds, and what is held back from it.
-use Rattle.std.proofs.Common.{◌≡◌, ℕ, ◌+◌, ◌-◌, ◌≤◌, List, [], ◌++◌, Option, None, Some, length, take, drop, sym, ap, ◌∙◌, append_assoc, arith}
+use Rattle.std.proofs.Common.{◌≡◌, ℕ, ◌+◌, ◌-◌, ◌≤◌, List, [], ◌++◌, Option, None, Some, length, take, drop, refl, sym, ap, ◌∙◌, append_assoc, arith}
 use Rattle.std.specs.Prelude.{slice_range}
 use Rattle.std.proofs.lemmas.Grind.{common_steps}
 use Rattle.std.proofs.Math.Seq.{take-add}
@@ -82,3 +82,7 @@ held_more (Some x) (Some y) held now xs start end n a b e f p =
     let here : slice_range now start (end + n) ≡ slice_range held start end ++ xs =
     rw f (rw (← e) (part_put held xs start end a (rw e b))) in
     ap (λ l. y ++ l) here ∙ sym (append_assoc y (slice_range held start end) xs) ∙ ap (λ l. l ++ xs) p
+
+pub keeps_self : (o : Option (List ℕ)) → Keeps o o
+keeps_self None = tt
+keeps_self (Some x) = refl

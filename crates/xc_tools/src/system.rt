@@ -1,7 +1,7 @@
 //! The system's streams and files as sources and sinks.
 ghost use Rattle.std.specs.Prelude.{◌≡◌, ◌+◌, ◌-◌, ◌^◌, ◌<◌, ◌≤◌, true, false, None, length, nat_eq, is_err, option_map, IfOk, IsErr, IsTrue, OnErr, OnOk, [], ◌∷◌, ◌++◌, take, drop, slice_range};
-ghost use Rattle.std.specs.Io.KnownBytes.{append_known, Appends, Keeps, ReadConsumes};
-ghost use Rattle.xc_input.specs.Calls.{counted};
+ghost use Rattle.std.specs.Io.KnownBytes.{append_known, Appends, Keeps, ReadConsumes, WriteAppends};
+ghost use Rattle.xc_input.specs.Calls.{counted, is_failed_write};
 ghost use Rattle.xc_tools.specs.Streams.{left_of};
 
 use std::io::{Read, Write};
@@ -175,7 +175,6 @@ impl<W: Write + Drop> Outgoing<W> {
     }
 
     /// Passes on what is held back where there is no room for more.
-    #[inline(always)]
     fn make_room(&mut self) -> Result<(), WriteFailed>
         ensures room { OnOk result (self.new.end < 65536) }
         ensures failures { self.new.failures ≡ counted (is_err result) self.old.failures }
@@ -188,6 +187,39 @@ impl<W: Write + Drop> Outgoing<W> {
             return Ok(());
         }
         self.pass_held()
+    }
+
+    /// Holds back bytes for which there is room.
+    #[inline(always)]
+    fn hold(&mut self, bytes: &[u8])
+        requires { self.old.end + length bytes.now ≤ 65536 }
+        ensures failures { self.new.failures ≡ self.old.failures }
+        ensures failed { self.new.failed ≡ false }
+        ensures bytes { Appends
+            (append_known (W.contents self.old.writer) (slice_range self.old.held self.old.start self.old.end))
+            (append_known (W.contents self.new.writer) (slice_range self.new.held self.new.start self.new.end))
+            bytes.now }
+    {
+        put(&mut self.held, self.end, bytes);
+        self.end += bytes.len();
+        self.failed = false;
+    }
+
+    /// Holds back as many of the bytes as there is room for, and makes room where there is none.
+    #[inline(never)]
+    fn hold_part(&mut self, bytes: &[u8]) -> Result<usize, WriteFailed>
+        ensures bound { IfOk result (λ n. n ≤ length bytes.now) }
+        ensures failures { self.new.failures ≡ counted (is_failed_write result bytes.now) self.old.failures }
+        ensures failed { self.new.failed ≡ is_failed_write result bytes.now }
+        ensures bytes { WriteAppends
+            (append_known (W.contents self.old.writer) (slice_range self.old.held self.old.start self.old.end))
+            (append_known (W.contents self.new.writer) (slice_range self.new.held self.new.start self.new.end))
+            result bytes.now }
+    {
+        self.make_room()?;
+        let n = bytes.len().min(HELD - self.end);
+        self.hold(&bytes[..n]);
+        Ok(n)
     }
 }
 
@@ -211,12 +243,11 @@ impl<W: Write + Drop> Sink for Outgoing<W> {
 
     #[inline(always)]
     fn write(&mut self, bytes: &[u8]) -> Result<usize, WriteFailed> {
-        self.make_room()?;
-        let n = bytes.len().min(HELD - self.end);
-        put(&mut self.held, self.end, &bytes[..n]);
-        self.end += n;
-        self.failed = false;
-        Ok(n)
+        if bytes.len() <= HELD - self.end {
+            self.hold(bytes);
+            return Ok(bytes.len());
+        }
+        self.hold_part(bytes)
     }
 
     fn flush(&mut self) -> Result<(), WriteFailed> {

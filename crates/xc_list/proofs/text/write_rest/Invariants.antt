@@ -1,6 +1,6 @@
 use Rattle.std.proofs.Common.{◌++◌, ◌≡◌, ℕ, List, length}
 use Rattle.std.specs.Io.KnownBytes.{Appends}
-use Rattle.xc_list.proofs.text.write_all.Given as goal
+use Rattle.xc_list.proofs.text.write_rest.Given as goal
 
 -- what was written so far is a beginning, no failure came, and the rest is left
 abbrev pub invariant-loop-rest : goal.invariant-loop-rest
