@@ -3,3 +3,4 @@ run:
 	cd crates/dlx1 && rt run -- m1 < ../../examples/seven.dlx
 test:
 	rt ci
+	@sh tests/statuses.sh
