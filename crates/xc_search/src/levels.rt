@@ -12,35 +12,44 @@ use crate::steps::{close_level, undo_to};
 use xc_dance::Dance;
 use xc_input::Problem;
 
-/// Begins a level where what is left wasn't searched yet. False: no item is left, and the choices of the levels are a solution.
+/// Begins a level, since what is left wasn't searched yet. False: no item is left, and the choices of the levels are a solution.
 #[inline(always)]
-fn deepen<D: Dance>(
-    dance: &mut D,
-    problem: &Problem,
-    stack: &mut Stack,
-    down: bool,
-    once: bool,
-) -> bool
+fn deepen<D: Dance>(dance: &mut D, problem: &Problem, stack: &mut Stack, once: bool) -> bool
     requires same { D.problem dance.old ≡ problem.now.puzzle }
     requires once { once ≡ true → IsOnce problem.now.puzzle }
-    requires standing { IsStanding problem.now.puzzle (D.trail dance.old) stack.old.levels down }
+    requires standing { IsStanding problem.now.puzzle (D.trail dance.old) stack.old.levels true }
     requires room { room_for problem.now.puzzle ≤ D.limit dance.old }
     requires levels_fit { level_limit problem.now.puzzle ≤ stack.old.room }
     ensures problem { D.problem dance.new ≡ D.problem dance.old }
     ensures limit { D.limit dance.new ≡ D.limit dance.old }
     ensures stack_room { stack.new.room ≡ stack.old.room }
-    ensures reached { result ≡ false → IsReached problem.now.puzzle (D.trail dance.old) stack.old.levels down (D.trail dance.new) stack.new.levels }
-    ensures deeper { result ≡ true → IsDeepened problem.now.puzzle (D.trail dance.old) stack.old.levels down (D.trail dance.new) stack.new.levels }
+    ensures reached { result ≡ false → IsReached problem.now.puzzle (D.trail dance.old) stack.old.levels true (D.trail dance.new) stack.new.levels }
+    ensures deeper { result ≡ true → IsDeepened problem.now.puzzle (D.trail dance.old) stack.old.levels true (D.trail dance.new) stack.new.levels }
 {
-    if !down {
-        return true;
-    }
     let Some((item, count)) = choose_next(dance, problem, once) else {
         return false;
     };
     let level = descend(dance, problem, item, count);
     stack.push(level);
     true
+}
+
+/// Does what `deepen` does, before a search has levels. It stands apart, so that the loop of the
+/// search holds the one copy of `deepen`.
+#[inline(never)]
+fn start<D: Dance>(dance: &mut D, problem: &Problem, stack: &mut Stack, once: bool) -> bool
+    requires same { D.problem dance.old ≡ problem.now.puzzle }
+    requires once { once ≡ true → IsOnce problem.now.puzzle }
+    requires standing { IsStanding problem.now.puzzle (D.trail dance.old) stack.old.levels true }
+    requires room { room_for problem.now.puzzle ≤ D.limit dance.old }
+    requires levels_fit { level_limit problem.now.puzzle ≤ stack.old.room }
+    ensures problem { D.problem dance.new ≡ D.problem dance.old }
+    ensures limit { D.limit dance.new ≡ D.limit dance.old }
+    ensures stack_room { stack.new.room ≡ stack.old.room }
+    ensures reached { result ≡ false → IsReached problem.now.puzzle (D.trail dance.old) stack.old.levels true (D.trail dance.new) stack.new.levels }
+    ensures deeper { result ≡ true → IsDeepened problem.now.puzzle (D.trail dance.old) stack.old.levels true (D.trail dance.new) stack.new.levels }
+{
+    deepen(dance, problem, stack, once)
 }
 
 /// Begins the next branch of a level, the newest one, or ends the level: then there is none.
@@ -82,25 +91,21 @@ pub fn advance<D: Dance>(
     ensures reached { result ≡ true → IsReached problem.now.puzzle (D.trail dance.old) stack.old.levels down (D.trail dance.new) stack.new.levels }
     ensures done { result ≡ false → (coming problem.now.puzzle (D.trail dance.old) stack.old.levels down ≡ []) × (stack.new.levels ≡ []) }
 {
-    let mut descends = down;
-    loop {
-        if !deepen(dance, problem, stack, descends, once) {
-            return true;
-        }
-        let Some(level) = stack.top() else {
-            return false;
-        };
+    if down && !start(dance, problem, stack, once) {
+        return true;
+    }
+    while let Some(level) = stack.top() {
         match turn(dance, problem, level) {
             Some(branch) => {
                 stack.begin(branch);
-                descends = true;
+                if !deepen(dance, problem, stack, once) {
+                    return true;
+                }
             }
-            None => {
-                stack.pop();
-                descends = false;
-            }
+            None => stack.pop(),
         }
     }
+    false
 }
 
 /// Ends every level, the newest first, and undoes what still stands.

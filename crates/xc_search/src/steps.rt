@@ -1,7 +1,7 @@
 //! Steps of the search on the dance.
 ghost use Rattle.std.specs.Prelude.{◌≡◌, ◌+◌, ◌<◌, ◌≤◌, length, ◌∷◌};
 ghost use Rattle.std.specs.List.{AllByRecursion};
-ghost use Rattle.xc_input.specs.Problem.{IsItem, uses_of, option_count};
+ghost use Rattle.xc_input.specs.Problem.{IsItem, IsSecondary, uses_of, option_count};
 ghost use Rattle.xc_dance.specs.Moves.{IsLegal, AreLegal, AreTweaks};
 ghost use Rattle.xc_search.specs.Commits.{oldest, opened, after_use, after_uses, place_in, others, closed};
 
@@ -61,8 +61,22 @@ pub fn commit_use<D: Dance>(dance: &mut D, problem: &Problem, u: Use)
 {
     if u.item <= problem.primary() {
         open_level(dance, u.item);
-        return;
+    } else {
+        commit_secondary(dance, u);
     }
+}
+
+/// Commits a use of a secondary item. It stands apart, so that what is left of `commit_use` is small
+/// enough to be inlined.
+#[inline(never)]
+fn commit_secondary<D: Dance>(dance: &mut D, u: Use)
+    requires item { IsSecondary (D.problem dance.old) u.item }
+    requires legal { AreLegal (D.problem dance.old) (after_use (D.problem dance.old) u (D.trail dance.old)) }
+    requires room { length (after_use (D.problem dance.old) u (D.trail dance.old)) ≤ D.limit dance.old }
+    ensures problem { D.problem dance.new ≡ D.problem dance.old }
+    ensures limit { D.limit dance.new ≡ D.limit dance.old }
+    ensures trail { D.trail dance.new ≡ after_use (D.problem dance.old) u (D.trail dance.old) }
+{
     if u.colour == 0 {
         make(dance, Move::Cover(u.item));
         return;
@@ -136,6 +150,7 @@ pub fn close_item<D: Dance>(dance: &mut D, i: u32)
 }
 
 /// Undoes the newest `tweaks` moves, tweaks of one item, and then those above `mark`.
+#[inline(always)]
 pub fn close_level<D: Dance>(dance: &mut D, tweaks: usize, mark: usize)
     requires tweaks { 0 < tweaks → AreTweaks tweaks (D.trail dance.old) }
     requires mark { mark + tweaks ≤ length (D.trail dance.old) }
