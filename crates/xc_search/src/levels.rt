@@ -1,5 +1,6 @@
 //! The levels of the search.
 ghost use Rattle.std.specs.Prelude.{◌≡◌, ◌<◌, ◌≤◌, length, List, [], ◌∷◌, true, false, IfSome, IsNone};
+ghost use Rattle.xc_input.specs.Problem.{Puzzle};
 ghost use Rattle.xc_search.specs.Room.{room_for, level_limit, IsOnce};
 ghost use Rattle.xc_search.specs.Stack.{AreStacked, IsStanding, IsBegun, coming, begun_level};
 ghost use Rattle.xc_search.specs.Commits.{oldest};
@@ -52,6 +53,19 @@ fn start<D: Dance>(dance: &mut D, problem: &Problem, stack: &mut Stack, once: bo
     deepen(dance, problem, stack, once)
 }
 
+/// Ends a level, the newest one, whose item was tweaked. It stands apart, so that the loop of the
+/// search holds one copy of `undo_to`.
+#[inline(never)]
+fn end_tweaked<D: Dance>(dance: &mut D, level: &Level)
+    requires stacked { (p : Puzzle) × (ls : List Level) × AreStacked p (D.trail dance.old) (level.now ∷ ls) }
+    ensures problem { D.problem dance.new ≡ D.problem dance.old }
+    ensures limit { D.limit dance.new ≡ D.limit dance.old }
+    ensures trail { D.trail dance.new ≡ oldest level.now.mark (oldest level.now.base (D.trail dance.old)) }
+{
+    undo_to(dance, level.base);
+    close_level(dance, level.tweaks, level.mark);
+}
+
 /// Begins the next branch of a level, the newest one, or ends the level: then there is none.
 #[inline(always)]
 fn turn<D: Dance>(dance: &mut D, problem: &Problem, level: &Level) -> Option<Begun>
@@ -63,9 +77,13 @@ fn turn<D: Dance>(dance: &mut D, problem: &Problem, level: &Level) -> Option<Beg
     ensures begun { IfSome result (λ b. IsBegun problem.now.puzzle (oldest level.now.base (D.trail dance.old)) level.now (D.trail dance.new) (begun_level b level.now)) }
     ensures ended { IsNone result → (level.now.count ≤ level.now.begun) × (D.trail dance.new ≡ oldest level.now.mark (D.trail dance.old)) }
 {
-    undo_to(dance, level.base);
-    if level.begun >= level.count {
-        close_level(dance, level.tweaks, level.mark);
+    let ends = level.begun >= level.count;
+    if ends && level.tweaks > 0 {
+        end_tweaked(dance, level);
+        return None;
+    }
+    undo_to(dance, if ends { level.mark } else { level.base });
+    if ends {
         return None;
     }
     Some(begin(dance, problem, level))

@@ -103,6 +103,21 @@ pub fn commit_uses<D: Dance>(dance: &mut D, problem: &Problem, uses: &[Use])
     }
 }
 
+/// Does what `commit_uses` does, for the uses before that of the branch item: most often there are
+/// none. It stands apart, so that the loop of the search holds one copy of `commit_uses`.
+#[inline(never)]
+fn commit_front<D: Dance>(dance: &mut D, problem: &Problem, uses: &[Use])
+    requires same { D.problem dance.old ≡ problem.now.puzzle }
+    requires items { AllByRecursion (λ (u : Use). IsItem problem.now.puzzle u.item) uses.now }
+    requires legal { AreLegal problem.now.puzzle (after_uses problem.now.puzzle uses.now (D.trail dance.old)) }
+    requires room { length (after_uses problem.now.puzzle uses.now (D.trail dance.old)) ≤ D.limit dance.old }
+    ensures problem { D.problem dance.new ≡ D.problem dance.old }
+    ensures limit { D.limit dance.new ≡ D.limit dance.old }
+    ensures trail { D.trail dance.new ≡ after_uses problem.now.puzzle uses.now (D.trail dance.old) }
+{
+    commit_uses(dance, problem, uses);
+}
+
 /// Where item `i` stands among uses.
 #[inline(always)]
 pub fn place_of(uses: &[Use], i: u32) -> usize
@@ -132,7 +147,9 @@ pub fn commit_others<D: Dance>(dance: &mut D, problem: &Problem, o: u32, i: u32)
     let uses = problem.option(o);
     let at = place_of(uses, i);
     commit_uses(dance, problem, &uses[at + 1..]);
-    commit_uses(dance, problem, &uses[..at]);
+    if at > 0 {
+        commit_front(dance, problem, &uses[..at]);
+    }
 }
 
 /// Covers an item where it is open.
