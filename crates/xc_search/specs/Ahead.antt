@@ -53,3 +53,9 @@ pub record IsTurned (p : Puzzle) (t : List Move) (l : Level) (ls : List Level) (
   pub standing : IsStanding p s ks down
   pub members : coming p s ks down ≡ to_give p t (l ∷ ls)
   pub less : ahead p s ks down < visits p t (l ∷ ls)
+
+-- A search that stood at levels ls on moves t began a branch, and stands at levels ks on moves s, with nothing lost.
+pub record IsResumed (p : Puzzle) (t : List Move) (ls : List Level) (s : List Move) (ks : List Level) : Type 0 where
+  pub standing : IsStanding p s ks true
+  pub members : coming p s ks true ≡ to_give p t ls
+  pub less : ahead p s ks true < visits p t ls

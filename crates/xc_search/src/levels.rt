@@ -2,9 +2,9 @@
 ghost use Rattle.std.specs.Prelude.{◌≡◌, ◌<◌, ◌≤◌, length, List, [], ◌∷◌, true, false, IfSome, IsNone};
 ghost use Rattle.xc_input.specs.Problem.{Puzzle};
 ghost use Rattle.xc_search.specs.Room.{room_for, level_limit, IsOnce};
-ghost use Rattle.xc_search.specs.Stack.{AreStacked, IsStanding, IsBegun, coming, begun_level};
+ghost use Rattle.xc_search.specs.Stack.{AreStacked, IsStanding, IsBegun, coming, to_give, begun_level};
 ghost use Rattle.xc_search.specs.Commits.{oldest};
-ghost use Rattle.xc_search.specs.Ahead.{IsReached, IsDeepened};
+ghost use Rattle.xc_search.specs.Ahead.{IsReached, IsDeepened, IsResumed};
 
 use crate::branch_item::choose_next;
 use crate::level::{Begun, Level, begin, descend};
@@ -33,24 +33,6 @@ fn deepen<D: Dance>(dance: &mut D, problem: &Problem, stack: &mut Stack, once: b
     let level = descend(dance, problem, item, count);
     stack.push(level);
     true
-}
-
-/// Does what `deepen` does, before a search has levels. It stands apart, so that the loop of the
-/// search holds the one copy of `deepen`.
-#[inline(never)]
-fn start<D: Dance>(dance: &mut D, problem: &Problem, stack: &mut Stack, once: bool) -> bool
-    requires same { D.problem dance.old ≡ problem.now.puzzle }
-    requires once { once ≡ true → IsOnce problem.now.puzzle }
-    requires standing { IsStanding problem.now.puzzle (D.trail dance.old) stack.old.levels true }
-    requires room { room_for problem.now.puzzle ≤ D.limit dance.old }
-    requires levels_fit { level_limit problem.now.puzzle ≤ stack.old.room }
-    ensures problem { D.problem dance.new ≡ D.problem dance.old }
-    ensures limit { D.limit dance.new ≡ D.limit dance.old }
-    ensures stack_room { stack.new.room ≡ stack.old.room }
-    ensures reached { result ≡ false → IsReached problem.now.puzzle (D.trail dance.old) stack.old.levels true (D.trail dance.new) stack.new.levels }
-    ensures deeper { result ≡ true → IsDeepened problem.now.puzzle (D.trail dance.old) stack.old.levels true (D.trail dance.new) stack.new.levels }
-{
-    deepen(dance, problem, stack, once)
 }
 
 /// Ends a level, the newest one, whose item was tweaked. It stands apart, so that the loop of the
@@ -89,6 +71,31 @@ fn turn<D: Dance>(dance: &mut D, problem: &Problem, level: &Level) -> Option<Beg
     Some(begin(dance, problem, level))
 }
 
+/// Begins the next branch of the newest level that has one, and ends the levels above it. False: no
+/// level has one, and all have ended.
+#[inline(always)]
+fn resume<D: Dance>(dance: &mut D, problem: &Problem, stack: &mut Stack) -> bool
+    requires same { D.problem dance.old ≡ problem.now.puzzle }
+    requires stacked { AreStacked problem.now.puzzle (D.trail dance.old) stack.old.levels }
+    requires room { room_for problem.now.puzzle ≤ D.limit dance.old }
+    ensures problem { D.problem dance.new ≡ D.problem dance.old }
+    ensures limit { D.limit dance.new ≡ D.limit dance.old }
+    ensures stack_room { stack.new.room ≡ stack.old.room }
+    ensures resumed { result ≡ true → IsResumed problem.now.puzzle (D.trail dance.old) stack.old.levels (D.trail dance.new) stack.new.levels }
+    ensures ended { result ≡ false → (to_give problem.now.puzzle (D.trail dance.old) stack.old.levels ≡ []) × (stack.new.levels ≡ []) }
+{
+    while let Some(level) = stack.top() {
+        match turn(dance, problem, level) {
+            Some(branch) => {
+                stack.begin(branch);
+                return true;
+            }
+            None => stack.pop(),
+        }
+    }
+    false
+}
+
 /// Goes on to the next solution, or to the end. `once` says that each primary item is to be held
 /// exactly once.
 pub fn advance<D: Dance>(
@@ -109,21 +116,16 @@ pub fn advance<D: Dance>(
     ensures reached { result ≡ true → IsReached problem.now.puzzle (D.trail dance.old) stack.old.levels down (D.trail dance.new) stack.new.levels }
     ensures done { result ≡ false → (coming problem.now.puzzle (D.trail dance.old) stack.old.levels down ≡ []) × (stack.new.levels ≡ []) }
 {
-    if down && !start(dance, problem, stack, once) {
-        return true;
-    }
-    while let Some(level) = stack.top() {
-        match turn(dance, problem, level) {
-            Some(branch) => {
-                stack.begin(branch);
-                if !deepen(dance, problem, stack, once) {
-                    return true;
-                }
-            }
-            None => stack.pop(),
+    let mut descends = down;
+    loop {
+        if descends && !deepen(dance, problem, stack, once) {
+            return true;
         }
+        if !resume(dance, problem, stack) {
+            return false;
+        }
+        descends = true;
     }
-    false
 }
 
 /// Ends every level, the newest first, and undoes what still stands.

@@ -1,19 +1,18 @@
 use Rattle.std.proofs.Common.{◌≡◌}
-use Rattle.xc_search.specs.Stack.{AreStacked, coming, to_give}
-use Rattle.xc_search.specs.Ahead.{visits}
+use Rattle.xc_search.specs.Stack.{coming, IsStanding}
+use Rattle.xc_search.specs.Ahead.{ahead}
 use Rattle.xc_search.proofs.levels.advance.Given as goal
 
--- what the levels have still to give is all that was to come
-abbrev pub invariant-loop-level : goal.invariant-loop-level
-invariant-loop-level g l =
+abbrev pub invariant-loop-descends : goal.invariant-loop-descends
+invariant-loop-descends g l =
     let p = l.problem.puzzle in
     record {
-      problem : g.D.Dance.problem l.dance ≡ g.D.Dance.problem l.fn.dance;
-      limit : g.D.Dance.limit l.dance ≡ g.D.Dance.limit l.fn.dance;
-      room : l.stack.room ≡ l.fn.stack.room;
-      stacked : AreStacked p (g.D.Dance.trail l.dance) l.stack.levels;
-      members : to_give p (g.D.Dance.trail l.dance) l.stack.levels ≡ coming p (g.D.Dance.trail l.fn.dance) l.fn.stack.levels l.fn.down;
+      problem : g.D.Dance.problem l.dance ≡ g.D.Dance.problem l.initial.dance;
+      limit : g.D.Dance.limit l.dance ≡ g.D.Dance.limit l.initial.dance;
+      room : l.stack.room ≡ l.initial.stack.room;
+      standing : IsStanding p (g.D.Dance.trail l.dance) l.stack.levels l.descends;
+      members : coming p (g.D.Dance.trail l.dance) l.stack.levels l.descends ≡ coming p (g.D.Dance.trail l.initial.dance) l.initial.stack.levels l.initial.descends;
     }
 
-abbrev pub decreases-loop-level : goal.decreases-loop-level
-decreases-loop-level g l = visits l.problem.puzzle (g.D.Dance.trail l.dance) l.stack.levels
+abbrev pub decreases-loop-descends : goal.decreases-loop-descends
+decreases-loop-descends g l = ahead l.problem.puzzle (g.D.Dance.trail l.dance) l.stack.levels l.descends
