@@ -52,8 +52,8 @@ pub mod OptionReach
 pub mod PlaceLemmas
 pub mod SpacerPlaces
 pub mod SpanLemmas
-pub mod FilledSpans
-pub mod FilledOptions
+pub mod Spacers
+pub mod SpacerWalks
 pub mod FittedLemmas
 pub mod FilledColumns
 pub mod LaidNodes

@@ -6,19 +6,19 @@ use Rattle.std.proofs.lemmas.List.{length-map, reverse-append}
 use Rattle.std.proofs.lemmas.List.{map-append}
 use Rattle.xc_dance.specs.declared.dance.Move.{Move}
 use Rattle.xc_dance.specs.declared.links.nodes.Nodes.{Nodes}
-use Rattle.xc_dance.specs.declared.links.nodes.Span.{Span}
+use Rattle.xc_dance.specs.Links.Span.{Span}
 use Rattle.xc_input.specs.Problem.{Puzzle, item_count, uses_of}
 use Rattle.xc_dance.specs.Moves.{is_open, AreLegal, listed_numbers}
 use Rattle.xc_dance.specs.Fields.{Node, unused, own, spacer, used, layout, link_place, is_in}
 use Rattle.xc_dance.specs.Links.Lines.{Line, put_at, mended}
-use Rattle.xc_dance.specs.Links.Steps.{shown, CanShowAll, others_of, show_costs}
+use Rattle.xc_dance.specs.Links.Steps.{shown, CanShowAll, CanShowNode, others_of, show_costs}
 use Rattle.xc_dance.specs.Links.Tweaking.{shown_unless}
 use Rattle.xc_dance.specs.Links.TweaksBack.{with_ulink, climbed, climb_cost, CanClimb}
 use Rattle.xc_dance.proofs.LinkedTables.OtherItems.{out_of}
 use Rattle.xc_dance.proofs.LinkedTables.UnmarkedCosts.{show_costs-are, unmarked-reverse, unmarked_items}
 use Rattle.xc_dance.proofs.LinkedTables.OneList.{gone_count}
 use Rattle.xc_dance.specs.Links.Cells.{slot_of, link_at, fixed_up, fixed_down, top_in, ulink_in, dlink_in, color_in, nodes_from, line_of, with_line}
-use Rattle.xc_dance.specs.Links.Others.{other_items}
+use Rattle.xc_dance.specs.Links.Others.{before_use, behind_use, other_items}
 use Rattle.xc_dance.specs.Links.Laid.{IsName, Placed, IsLaid}
 use Rattle.xc_dance.specs.Links.Made.{IsFitted}
 use Rattle.xc_dance.proofs.LinkedTables.Mapped.{map_same, get_within}
@@ -37,7 +37,8 @@ use Rattle.xc_dance.proofs.LinkedTables.LineSteps.{numbers_rise}
 use Rattle.xc_dance.proofs.LinkedTables.MarkedNodes.{stands_in}
 use Rattle.xc_dance.proofs.LinkedTables.MetOptions.{met_at, split_and}
 use Rattle.xc_dance.proofs.LinkedTables.Regained.{Regaining, NextBack, next_back}
-use Rattle.xc_dance.proofs.LinkedTables.OneReturn.{shown_walk, back_all, back_at}
+use Rattle.xc_dance.proofs.LinkedTables.OneReturn.{Returning, shown_walk, back_all, back_at}
+use Rattle.xc_dance.proofs.LinkedTables.Spacers.{others_are, can_show_node}
 use Rattle.xc_dance.proofs.LinkedTables.TweakStep.{line_here, line_there}
 
 -- ---- lists turned round
@@ -138,7 +139,7 @@ back_writes p col covered i o = cond covered 0 (3 * gone_count p col i o)
 -- the lines when the option is back in the lists of its other items
 pub record Opened (p : Puzzle) (t : List Move) (spans : List Span) (covered : Bool) (i : ℕ) (ln : ℕ → Line) (o : ℕ) (os : List ℕ) : Type 0 where
   pub ln1 : ℕ → Line
-  pub can : covered ≡ false → (link_place p i o < length spans) × CanShowAll (nodes_from p ln (color_in p t)) (reverse (others_of spans (link_place p i o)))
+  pub can : covered ≡ false → (link_place p i o < length spans) × CanShowNode spans (nodes_from p ln (color_in p t)) (link_place p i o)
   pub done : shown_unless spans covered (nodes_from p ln (color_in p t)) (link_place p i o) ≡ nodes_from p ln1 (color_in p t)
   pub own : ln1 i ≡ ln i
   pub cost : cond covered 0 (show_costs (nodes_from p ln (color_in p t)) (reverse (others_of spans (link_place p i o)))) ≡ back_writes p (color_in p t) covered i o
@@ -156,6 +157,14 @@ opened_covered p t spans i ln o os h = record {
   few = h.few;
 }
 
+apart_behind : (js ks : List ℕ) → AllApart (js ++ ks) → AllApart ks
+apart_behind [] ks h = h
+apart_behind (j ∷ js) ks h = apart_behind js ks h.1
+
+in_behind : (j : ℕ) (js ks : List ℕ) → is_in j ks ≡ true → is_in j (js ++ ks) ≡ true
+in_behind j [] ks e = e
+in_behind j (i ∷ js) ks e = ap (λ b. eqb i j || b) (in_behind j js ks e) ∙ elim (eqb i j) as (λ b. (b || true) ≡ true) [ true ↦ refl | false ↦ refl ]
+
 opened_open : (p : Puzzle) (t : List Move) (spans : List Span) (i : ℕ) (ln : ℕ → Line) (o : ℕ) (os : List ℕ) → AreLegal p t → IsFitted p spans → is_open i t ≡ true → 0 < o → Named p i o → is_in o (listed_numbers p t i) ≡ true
     → Climbing p t false i ln (o ∷ os) → Opened p t spans false i ln o os
 opened_open p t spans i ln o os legal fit opened o_pos named within h =
@@ -169,8 +178,7 @@ opened_open p t spans i ln o os legal fit opened o_pos named within h =
     let comes : (j : ℕ) → leaves p col i j o ≡ true → 0 < j → j ≤ item_count p → j ≢ i → NextBack (line_of p t j) (ln j) o (filter (leaves p col i j) os) = λ j e pos le ne.
     next_back (line_of p t j) (ln j) o (filter (leaves p col i j) os)
     (subst (Regaining (line_of p t j) (ln j)) (ap (λ b. cond b (o ∷ filter (leaves p col i j) os) (filter (leaves p col i j) os)) e) (h.others j pos le ne)) in
-    let w = shown_walk p col ln o back laid o_pos apart (λ j e.
-    let in_js : is_in j js ≡ true = sym (in_reverse j js) ∙ e in
+    let returning : (j : ℕ) → is_in j js ≡ true → Returning p col ln o j = λ j in_js.
     let both = split_and _ _ (sym (in_others p o i j (fit.fit.distinct o)) ∙ in_js) in
     let j_named : Named p j o = both.1 in
     let r = item_range p (uses_of p o) j (fit.fit.items o) j_named in
@@ -196,18 +204,27 @@ opened_open p t spans i ln o os legal fit opened o_pos named within h =
             below = subst (IsName p j) (sym nb.down) m.below;
             few = omega (arith, count, all, most);
           };
-    }) in
+    } in
+    let w = shown_walk p col ln o back laid o_pos apart (λ j e. returning j (sym (in_reverse j js) ∙ e)) in
+    let before = before_use i (uses_of p o) in
+    let mid = shown_walk p col ln o (reverse before) laid o_pos (apart_reverse before (apart_behind (behind_use i (uses_of p o)) before (others_apart p o i fit.fit)))
+    (λ j e. returning j (in_behind j (behind_use i (uses_of p o)) before (sym (in_reverse j before) ∙ e))) in
+    let place : ℕ → ℕ = λ j. link_place p j o in
     let ln1 : ℕ → Line = back_all p col o ln back in
     let at : (j : ℕ) → ln1 j ≡ cond (leaves p col i j o) (mended (ln j) o) (ln j) = λ j.
     back_at p col o ln back j apart ∙ ap (λ b. cond (b && not (is_mark p col o j)) (mended (ln j) o) (ln j)) (in_reverse j js) in
-    let nodes : reverse (others_of spans x) ≡ map (λ j. link_place p j o) back = ap reverse (fit.spanned.others o i o_pos named) ∙ map_reverse (λ j. link_place p j o) js in
+    let nodes : reverse (others_of spans x) ≡ map (λ j. link_place p j o) back = ap reverse (others_are p spans o i fit.spanned o_pos named) ∙ map_reverse (λ j. link_place p j o) js in
     record {
       ln1 = ln1;
-      can = λ e. (fit.spanned.within o i o_pos named, subst (CanShowAll t0) (sym nodes) w.can);
+      can = λ e. (
+        fit.spanned.within o i o_pos named,
+        can_show_node p (back_all p col o ln (reverse before)) col t0 spans o i fit.spanned o_pos named
+            (subst (CanShowAll t0) (sym (map_reverse place js)) w.can) (ap (fold shown t0) (map_reverse place before) ∙ mid.done),
+      );
       done = ap (fold shown t0) nodes ∙ w.done;
       own = at i ∙ ap (λ b. cond (b && not (is_mark p col o i)) (mended (ln i) o) (ln i)) (out_of i js (own_apart p i o fit.fit));
       cost =
-          ap (λ ks. show_costs t0 (reverse ks)) (fit.spanned.others o i o_pos named) ∙ show_costs-are t0 (reverse (map (λ j. link_place p j o) js))
+          ap (λ ks. show_costs t0 (reverse ks)) (others_are p spans o i fit.spanned o_pos named) ∙ show_costs-are t0 (reverse (map (λ j. link_place p j o) js))
           ∙ unmarked-reverse (map col (layout p)) (map (λ j. link_place p j o) js) ∙ unmarked_items p col o js;
       others = λ j pos le ne.
           elim (leaves p col i j o) as (λ b. leaves p col i j o ≡ b → Regaining (line_of p t j) (ln1 j) (filter (leaves p col i j) os)) [

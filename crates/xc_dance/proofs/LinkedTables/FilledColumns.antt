@@ -1,10 +1,8 @@
 -- Columns that are filled from the first cell on; what isn't filled yet is 0.
-use Rattle.std.proofs.Common.{◌≡◌, ℕ, zero, suc, ◌+◌, ◌<◌, ◌≤◌, List, [], ◌∷◌, ◌++◌, length, map, set, take, replicate, Some, refl, ap, ap₂, sym, ◌∙◌, arith}
+use Rattle.std.proofs.Common.{◌≡◌, ℕ, zero, suc, ◌+◌, ◌<◌, ◌≤◌, List, [], ◌∷◌, length, map, set, replicate, Some, refl, ap, sym, ◌∙◌, arith}
 use Rattle.std.specs.Prelude.{slice_get}
 use Rattle.std.specs.List.{range_with_len}
-use Rattle.std.proofs.lemmas.List.{map-append}
 use Rattle.xc_dance.specs.Links.FirstNodes.{filled}
-use Rattle.xc_dance.proofs.Copied.{take_more-get}
 
 pub filled_none : {X : Type 0} (f : X → ℕ) (ns : List X) → replicate (length ns) 0 ≡ filled f ns 0
 filled_none f [] = refl
@@ -33,11 +31,6 @@ pub filled_more : {X : Type 0} (f : X → ℕ) (ns : List X) (k : ℕ) (n : X) (
 filled_more f ns k n v e is =
     let s : suc k ≡ k + 1 = omega arith in
     ap (set (filled f ns k) k) is ∙ set_suc f ns k n e ∙ ap (filled f ns) s
-
--- a list that grows with what its nodes have
-pub pushed : {X Y : Type 0} (f : X → Y) (ns : List X) (k : ℕ) (n : X) (ys : List Y) (y : Y) → slice_get ns k ≡ Some n → y ≡ f n → ys ≡ map f (take k ns) → ys ++ y ∷ [] ≡ map f (take (k + 1) ns)
-pushed f ns k n ys y e is h =
-    ap₂ (λ l v. l ++ v ∷ []) h is ∙ sym (ap (map f) (take_more-get ns k n e) ∙ map-append f (take k ns) (n ∷ []))
 
 pub range_get : (a n k : ℕ) → k < n → slice_get (range_with_len a n) k ≡ Some (a + k)
 range_get a zero k lt = absurd (omega (arith, lt))

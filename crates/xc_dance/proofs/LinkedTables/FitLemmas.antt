@@ -40,8 +40,8 @@ sound_items : (p : Puzzle) (us : List Use) → IsSoundOption p us → AllByRecur
 sound_items p us s = each_one (IsSoundUse p) (InRange p) us (λ u h. (let a = h.0.0 in omega (arith, a), h.0.1)) (recursion_from_All (IsSoundUse p) us s.sound)
 
 -- the rules of a problem say nothing of the colours: they are to be below the mark
-pub is_fit : (p : Puzzle) → IsValid p → All (λ us. All (λ u. u.colour < 4294967295) us) p.options → length p.options < 2 ^ 30 → IsFit p
-is_fit p valid colours few =
+pub is_fit : (p : Puzzle) → IsValid p → All (λ us. All (λ u. u.colour < 4294967295) us) p.options → length p.options < 2 ^ 30 → item_count p < 2 ^ 31 → IsFit p
+is_fit p valid colours few small =
     let sound : AllByRecursion (IsSoundOption p) p.options = recursion_from_All (IsSoundOption p) p.options valid.options in
     record {
       distinct = λ o. at_option AreDistinct p o tt (each_one (IsSoundOption p) AreDistinct p.options (λ us s. distinct_from us s.distinct) sound);
@@ -50,4 +50,5 @@ is_fit p valid colours few =
           (each_one (λ us. All (λ u. u.colour < 4294967295) us) (λ us. AllByRecursion (λ u. u.colour < 4294967295) us) p.options (λ us h. recursion_from_All (λ u. u.colour < 4294967295) us h)
           (recursion_from_All (λ us. All (λ u. u.colour < 4294967295) us) p.options colours));
       few = few;
+      small = small;
     }

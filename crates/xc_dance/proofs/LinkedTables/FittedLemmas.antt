@@ -6,7 +6,7 @@ use Rattle.std.proofs.lemmas.List.{length-map, get_or-map}
 use Rattle.std.proofs.lemmas.List.Elements.{recursion_from_All}
 use Rattle.xc_input.specs.Problem.{Puzzle, Bounds, high_at, IsValid, IsWithinLimits}
 use Rattle.xc_input.specs.Named.{AreColoursKnown}
-use Rattle.xc_dance.specs.declared.links.nodes.Span.{Span}
+use Rattle.xc_dance.specs.Links.Span.{Span}
 use Rattle.xc_dance.specs.Fields.{Node, unused, own, spacer, used, layout, is_spacer}
 use Rattle.xc_dance.specs.Links.Laid.{IsFit}
 use Rattle.xc_dance.specs.Links.Made.{AreNear, IsFitted}
@@ -18,7 +18,7 @@ use Rattle.xc_dance.proofs.LinkedTables.SpanLemmas.{has_spans}
 
 pub known_fit : (colours : List (List ℕ)) (p : Puzzle) → IsValid p → IsWithinLimits p → AreColoursKnown colours p.options → length colours ≤ 10000000 → IsFit p
 known_fit colours p valid limits known few =
-    is_fit p valid (λ k us lt. λ j u within. (let h = known k us lt j u within in omega (arith, h, few))) (let n = limits.options in omega (arith, n))
+    is_fit p valid (λ k us lt. λ j u within. (let h = known k us lt j u within in omega (arith, h, few))) (let n = limits.options in omega (arith, n)) (let n = limits.items in omega (arith, n))
 
 prefix_most : (f : Node → Bool) (ns : List Node) → prefix_len f ns ≤ length ns
 prefix_most f [] = omega arith
@@ -60,5 +60,4 @@ fitted p spans limits fit is =
       fit = fit;
       near = near p limits;
       bounds = λ i. high_small p i limits;
-      items = let n = limits.items in omega (arith, n);
     })

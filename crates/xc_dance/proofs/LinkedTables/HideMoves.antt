@@ -5,7 +5,7 @@ use Rattle.std.proofs.lemmas.List.{length-map}
 use Rattle.xc_dance.specs.declared.dance.Move.{Move}
 use Rattle.xc_dance.specs.declared.dance.Move.TheVariants.{Cover, Purify}
 use Rattle.xc_dance.specs.declared.links.nodes.Nodes.{Nodes}
-use Rattle.xc_dance.specs.declared.links.nodes.Span.{Span}
+use Rattle.xc_dance.specs.Links.Span.{Span}
 use Rattle.xc_input.specs.Problem.{Puzzle, Numbered, item_count, colour_in, colour_at}
 use Rattle.xc_dance.specs.Moves.{listed, is_other_colour, is_open, AreLegal, listed_numbers}
 use Rattle.xc_dance.specs.Fields.{Node, own, layout, link_place, last_of}

@@ -4,7 +4,7 @@ use Rattle.std.specs.Prelude.{slice_get}
 use Rattle.std.proofs.lemmas.Bool.{eqb-false}
 use Rattle.xc_dance.specs.declared.dance.Move.{Move}
 use Rattle.xc_dance.specs.declared.links.nodes.Nodes.{Nodes}
-use Rattle.xc_dance.specs.declared.links.nodes.Span.{Span}
+use Rattle.xc_dance.specs.Links.Span.{Span}
 use Rattle.xc_input.specs.Problem.{Puzzle, item_count}
 use Rattle.xc_dance.specs.Moves.{is_open, AreLegal, listed_numbers}
 use Rattle.xc_dance.specs.Lists.Losing.{is_kept}

@@ -295,4 +295,5 @@ is_laid p fit = record {
   ranged = λ k n j x e f. slot_range p n j x (each_get (NodeOk p) (layout p) k n (layout_ok p fit) e) f;
   numbered = λ k o u e. (each_get (NodeOk p) (layout p) k (used o u) (layout_ok p fit) e).0;
   coloured = λ k o u e. (each_get (NodeOk p) (layout p) k (used o u) (layout_ok p fit) e).2;
+  small = fit.small;
 }

@@ -1,17 +1,17 @@
--- The option of a node, the node by which an option uses an item, and the links downwards by option numbers.
-use Rattle.std.proofs.Common.{◌≡◌, ◌≢◌, ◌⊎◌, inl, inr, ℕ, zero, suc, ◌+◌, ◌-◌, ◌<◌, ◌≤◌, Bool, true, false, cond, ◌||◌, eqb, ltb, List, [], ◌∷◌, length, get_or, Some, None, Option, refl, ap, ap₂, sym, subst, ◌∙◌, arith, eq-eqb, ne_eqb, le-leb}
+-- The node by which an option uses an item, the option of a node, and the links downwards by option numbers.
+use Rattle.std.proofs.Common.{◌≡◌, ◌≢◌, ◌⊎◌, inl, inr, ℕ, zero, suc, ◌+◌, ◌-◌, ◌<◌, ◌≤◌, Bool, true, false, cond, ◌||◌, eqb, ltb, List, [], ◌∷◌, length, get_or, Some, None, Option, refl, ap, ap₂, sym, subst, ◌∙◌, arith, eq-eqb, ne_eqb, le-leb, ltb-true, ltb-false}
 use Rattle.std.specs.Prelude.{is_some, unwrap_or, slice_get, Contains}
 use Rattle.std.specs.List.{range_with_len, AllByRecursion}
 use Rattle.xc_input.specs.declared.problem.Use.{Use}
 use Rattle.xc_dance.specs.declared.dance.Move.{Move}
 use Rattle.xc_input.specs.Problem.{Puzzle, primary_count, item_count, uses_of, colour_in}
 use Rattle.xc_dance.specs.Moves.{is_open, AreLegal, listed_numbers, next_above, open_items, IsOpenPrimary}
-use Rattle.xc_dance.specs.Fields.{Node, unused, own, spacer, used, layout, first_above, first_of, is_in, ring_of, right_of, below_of, link_place}
+use Rattle.xc_dance.specs.Fields.{own, spacer, used, layout, spacer_place, first_above, first_of, is_in, ring_of, right_of, below_of, link_place}
 use Rattle.xc_dance.specs.Links.Cells.{slot_of, link_at, fixed_down, top_in, dlink_in, line_of, nodes_after}
 use Rattle.xc_dance.specs.Links.ItemCells.{items_after, rlink_at}
 use Rattle.xc_dance.specs.Links.Laid.{IsName, IsLaid, IsFit}
-use Rattle.xc_dance.specs.Links.OptionPlaces.{start_at}
-use Rattle.xc_dance.specs.Links.NodeOptions.{option_of, options_of}
+use Rattle.xc_dance.specs.Links.Answered.{IsNodeOf, named}
+use Rattle.xc_dance.specs.Links.OptionPlaces.{start_at, place_at}
 use Rattle.xc_dance.proofs.LinkedTables.Answering.{ring_open}
 use Rattle.xc_dance.proofs.LinkedTables.LaidLemmas.{placed, head_is}
 use Rattle.xc_dance.proofs.LinkedTables.Goods.{Named}
@@ -19,15 +19,15 @@ use Rattle.xc_dance.proofs.LinkedTables.GoodLines.{numbers_named}
 use Rattle.xc_dance.proofs.MoveLemmas.ListLemmas.{next_above-gt, Rises-filter, Rises-range}
 use Rattle.xc_dance.proofs.MoveLemmas.Shortened.{rises_listed}
 use Rattle.xc_dance.proofs.LinkedTables.Mapped.{get_map, get_within}
-use Rattle.xc_dance.proofs.LinkedTables.PlaceLemmas.{use_here, get_there}
+use Rattle.xc_dance.proofs.LinkedTables.PlaceLemmas.{use_here, get_there, spacer_here, place_next}
 use Rattle.xc_dance.proofs.LinkedTables.OptionReach.{get_behind, same_some}
 use Rattle.xc_dance.proofs.LinkedTables.SpanLemmas.{parted, there}
-use Rattle.xc_dance.proofs.LinkedTables.SpacerPlaces.{use_at}
+use Rattle.xc_dance.proofs.LinkedTables.SpacerPlaces.{use_at, spacer_at}
 use Rattle.xc_dance.proofs.LinkedTables.RingStep.{row_get, row_len, right_now}
 use Rattle.xc_dance.proofs.LinkedTables.Sweep.{first_above-first}
 use Rattle.xc_dance.proofs.LinkedTables.Turned.{open_uncovered}
 
--- ---- which option a node is of
+-- ---- an item's own node
 
 abbrev slot_member : Option (ℕ × ℕ) → ℕ
 slot_member None = 0
@@ -41,18 +41,6 @@ at_own p i x pos le name at =
     let same : own i ≡ q.node = cc in
     let slots : Some (i, 0) ≡ Some (i, x) = ap slot_of same ∙ q.slot in
     sym (ap slot_member slots)
-
--- what the options' table says of a node
-pub option_read : (p : Puzzle) (i place x : ℕ) → IsLaid p → 0 < i → i ≤ item_count p → IsName p i x → place ≡ link_place p i x → get_or (options_of p) place 0 ≡ x
-option_read p i place x laid pos le name at =
-    let q = laid.there i x pos le name in
-    get_map option_of (layout p) place q.node (ap (slice_get (layout p)) at ∙ q.at) ∙ by_node q.node q.slot
-  where
-    by_node : (m : Node) → slot_of m ≡ Some (i, x) → option_of m ≡ x
-    by_node unused e = cc
-    by_node (spacer s) e = cc
-    by_node (own j) e = ap slot_member e
-    by_node (used o u) e = ap slot_member e
 
 -- ---- the node of an option
 
@@ -122,6 +110,89 @@ on_the_way p t i (suc m) q laid fit pos held from to =
       within = get_within (layout p) q (used (m + 1) u) node;
       found = λ e. sym (here (sym top ∙ e));
       next = λ ne. (let other : q ≢ link_place p i (suc m) = λ e. ne (top ∙ its_item e) in omega (arith, to, other));
+    }
+
+-- ---- which option a node is of
+
+-- one of the places from a node of option o on, up to the spacer behind the option
+record ToSpacer (p : Puzzle) (t : List Move) (o q : ℕ) : Type 0 where
+  within : q < length (layout p)
+  next : get_or (nodes_after p t).top q 0 < 2147483648 → q + 1 ≤ spacer_place p o
+  number : 2147483648 ≤ get_or (nodes_after p t).top q 0 → get_or (nodes_after p t).top q 0 ≡ 2147483648 + o
+
+-- where an option's nodes end
+spacer_behind : (p : Puzzle) (i m : ℕ) (w : UsePlace p i m) → spacer_place p (suc m) ≡ start_at p m + length w.uses
+spacer_behind p i m w =
+    let s : m + 1 ≡ suc m = omega arith in
+    let some = get_within p.options m w.uses w.uses_are in
+    let next = place_next p m w.uses w.uses_are in
+    let at = spacer_at p (m + 1) (omega (arith, some)) in
+    ap (spacer_place p) (sym s) ∙ omega (arith, at, next)
+
+to_spacer : (p : Puzzle) (t : List Move) (i o q : ℕ) → IsLaid p → IsFit p → 0 < o → is_some (colour_in (uses_of p o) i) ≡ true → link_place p i o ≤ q → q ≤ spacer_place p o → ToSpacer p t o q
+to_spacer p t i zero q laid fit pos held from to = absurd (omega (arith, pos))
+to_spacer p t i (suc m) q laid fit pos held from to =
+    let w = use_place p i m fit held in
+    let place = w.place in
+    let end = spacer_behind p i m w in
+    elim (ltb q (start_at p m + length w.uses)) as (λ b. ltb q (start_at p m + length w.uses) ≡ b → ToSpacer p t (suc m) q) [
+      | true ↦ λ e.
+          let lt = ltb-true q (start_at p m + length w.uses) e in
+          let k = q - start_at p m in
+          let d : Use = record { item = 0; colour = 0 } in
+          let u = get_or w.uses k d in
+          let use_is : slice_get w.uses k ≡ Some u = get_there w.uses k d (omega (arith, from, lt, place)) in
+          let node : slice_get (layout p) q ≡ Some (used (m + 1) u) = use_here p m k q w.uses u w.uses_are use_is (omega (arith, from, place)) in
+          let top : get_or (nodes_after p t).top q 0 ≡ u.item = get_map (top_in (line_of p t)) (layout p) q (used (m + 1) u) node in
+          let most = (laid.ranged q (used (m + 1) u) u.item (m + 1) node refl).1 in
+          let small = laid.small in
+          record { within = get_within (layout p) q (used (m + 1) u) node; next = λ h. omega (arith, lt, end); number = λ h. absurd (omega (arith, h, top, most, small)) }
+      | false ↦ λ e.
+          let ge = ltb-false q (start_at p m + length w.uses) e in
+          let some = get_within p.options m w.uses w.uses_are in
+          let next = place_next p m w.uses w.uses_are in
+          let at : q ≡ place_at p (m + 1) = omega (arith, ge, to, end, next) in
+          let node : slice_get (layout p) q ≡ Some (spacer (m + 1)) = ap (slice_get (layout p)) at ∙ spacer_here p (m + 1) (omega (arith, some)) in
+          let top : get_or (nodes_after p t).top q 0 ≡ 2147483648 + (m + 1) = get_map (top_in (line_of p t)) (layout p) q (spacer (m + 1)) node in
+          record { within = get_within (layout p) q (spacer (m + 1)) node; next = λ h. absurd (omega (arith, h, top)); number = λ h. omega (arith, top) }
+    ] refl
+
+-- a node that isn't the item's own is of an option
+name_used : (p : Puzzle) (i place x : ℕ) → IsName p i x → place ≡ link_place p i x → place ≢ i → (0 < x) × (is_some (colour_in (uses_of p x) i) ≡ true)
+name_used p i place x (inl z) at other = absurd (other (at ∙ ap (link_place p i) z))
+name_used p i place x (inr h) at other = h
+
+pub before_spacer : (p : Puzzle) (i place x : ℕ) → IsFit p → place ≢ i → IsName p i x → place ≡ link_place p i x → place ≤ spacer_place p x
+before_spacer p i place x fit other name at = by_number x (name_used p i place x name at other) at
+  where
+    by_number : (o : ℕ) → (0 < o) × (is_some (colour_in (uses_of p o) i) ≡ true) → place ≡ link_place p i o → place ≤ spacer_place p o
+    by_number zero h e = absurd (let pos = h.0 in omega (arith, pos))
+    by_number (suc m) h e =
+        let w = use_place p i m fit h.1 in
+        let here = w.place in
+        let end = spacer_behind p i m w in
+        let long = get_within w.uses w.index w.use_of w.use_is in
+        omega (arith, e, here, end, long)
+
+-- what TOP tells at q, which is not past the spacer behind the node at the place
+pub record Seeks (p : Puzzle) (i place : ℕ) (top : List ℕ) (q : ℕ) : Type 0 where
+  pub within : q < length (layout p)
+  pub low : get_or top q 0 < 2147483648 → (x : ℕ) → IsName p i x → place ≡ link_place p i x → q + 1 ≤ spacer_place p x
+  pub high : 2147483648 ≤ get_or top q 0 → (x : ℕ) → IsName p i x → place ≡ link_place p i x → Some (get_or top q 0 - 2147483648) ≡ named x
+
+pub seeks : (p : Puzzle) (t : List Move) (i place q : ℕ) → IsLaid p → IsFit p → IsNodeOf p i place → place ≢ i → place ≤ q → ((x : ℕ) → IsName p i x → place ≡ link_place p i x → q ≤ spacer_place p x) →
+    Seeks p i place (nodes_after p t).top q
+seeks p t i place q laid fit node other from to =
+    let tells : (x : ℕ) → IsName p i x → place ≡ link_place p i x → ToSpacer p t x q = λ x name at.
+    let is = name_used p i place x name at other in
+    to_spacer p t i x q laid fit is.0 is.1 (omega (arith, from, at)) (to x name at) in
+    record {
+      within = (tells node.number node.name node.at).within;
+      low = λ h x name at. (tells x name at).next h;
+      high = λ h x name at.
+          let is = (tells x name at).number h in
+          let pos = (name_used p i place x name at other).0 in
+          ap Some (omega (arith, is)) ∙ sym (ap (λ b. cond b None (Some x)) (ne_eqb x 0 (λ z. omega (arith, z, pos))));
     }
 
 -- ---- links downwards, by option numbers

@@ -4,15 +4,15 @@ use Rattle.std.proofs.lemmas.Bool.{false≢true}
 use Rattle.std.proofs.lemmas.List.{length-map, reverse-append}
 use Rattle.std.proofs.lemmas.List.Sums.{fold-append}
 use Rattle.xc_dance.specs.declared.links.nodes.Nodes.{Nodes}
-use Rattle.xc_dance.specs.declared.links.nodes.Span.{Span}
-use Rattle.xc_input.specs.Problem.{Puzzle, item_count}
+use Rattle.xc_dance.specs.Links.Span.{Span}
+use Rattle.xc_input.specs.Problem.{Puzzle, item_count, uses_of}
 use Rattle.xc_dance.specs.Lists.Losing.{is_kept}
 use Rattle.xc_dance.specs.Fields.{Node, layout, link_place, is_in}
 use Rattle.xc_dance.specs.Links.Lines.{Line, cut, IsLinkedFrom}
-use Rattle.xc_dance.specs.Links.Steps.{hidden, shown, CanHideAll, CanShowAll, others_of, hidden_node, shown_node, hide_costs, show_costs}
+use Rattle.xc_dance.specs.Links.Steps.{hidden, shown, others_of, hidden_node, shown_node, hide_costs, show_costs}
 use Rattle.xc_dance.specs.Links.ListWalks.{with_colour, is_kept_colour, is_kept_mark, kept_colour, left_node, back_node, leave_cost, back_cost, walk_costs, back_costs, CanLeave, CanReturn, IsWalk, IsWalkBack}
 use Rattle.xc_dance.specs.Links.Cells.{nodes_from, ulink_in, dlink_in, with_line, with_color}
-use Rattle.xc_dance.specs.Links.Others.{other_items, HasSpans}
+use Rattle.xc_dance.specs.Links.Others.{before_use, behind_use, other_items, HasSpans}
 use Rattle.xc_dance.specs.Links.Laid.{Placed, IsLaid}
 use Rattle.xc_dance.proofs.LinkedTables.Mapped.{get_within}
 use Rattle.xc_dance.proofs.LinkedTables.Undo.{fold-shown-reverse, written_back, same_nodes}
@@ -22,7 +22,8 @@ use Rattle.xc_dance.proofs.LinkedTables.Goods.{Named, AllGood}
 use Rattle.xc_dance.proofs.LinkedTables.Sweep.{in_more, Rises, in_above}
 use Rattle.xc_dance.proofs.LinkedTables.UnmarkedCosts.{hide_costs-are, show_costs-are, unmarked-reverse, unmarked_items}
 use Rattle.xc_dance.proofs.LinkedTables.Colours.{coloured_is, color_here, color_other}
-use Rattle.xc_dance.proofs.LinkedTables.OneOption.{is_mark, left_one, left_all, IsApart, AreReady, Walked, walked}
+use Rattle.xc_dance.proofs.LinkedTables.OneOption.{is_mark, left_one, left_all, IsApart, AreReady, Walked, walked, ready_front}
+use Rattle.xc_dance.proofs.LinkedTables.Spacers.{others_are, Turns, turns}
 
 -- ---- lines of other items
 
@@ -171,9 +172,9 @@ no_mark (Some c) v e = e
 
 -- any other one is hidden, and comes back
 hide_step : (p : Puzzle) (now : Node → ℕ) (spans : List Span) (keep : Option ℕ) (ln : ℕ → Line) (lists : ℕ → List ℕ) (i o : ℕ) → HasSpans p spans → Placed p i o → 0 < o → Named p i o
-    → is_kept_colour keep (own_color p now i o) ≡ false → eqb (own_color p now i o) 4294967295 ≡ false → Walked p now ln lists o (other_items p o i) →
+    → is_kept_colour keep (own_color p now i o) ≡ false → eqb (own_color p now i o) 4294967295 ≡ false → Walked p now ln lists o (other_items p o i) → Turns p ln now spans o i →
     OneStep spans keep (nodes_from p ln now) (nodes_from p (left_all p now o ln (other_items p o i)) now) (link_place p i o) (3 * gone_count p now i o)
-hide_step p now spans keep ln lists i o spanned h pos named other unmarked w =
+hide_step p now spans keep ln lists i o spanned h pos named other unmarked w turns =
     let x = link_place p i o in
     let js = other_items p o i in
     let qs = map (λ j. link_place p j o) js in
@@ -181,15 +182,15 @@ hide_step p now spans keep ln lists i o spanned h pos named other unmarked w =
     let u : Nodes = nodes_from p (left_all p now o ln js) now in
     let within = get_within (layout p) x h.node h.at in
     let long : length (map now (layout p)) ≡ length (layout p) = length-map (layout p) now in
-    let others : others_of spans x ≡ qs = spanned.others o i pos named in
+    let others : others_of spans x ≡ qs = others_are p spans o i spanned pos named in
     let not_marked : is_kept_mark keep (get_or u.color x 0) ≡ false = no_mark keep (own_color p now i o) unmarked in
     record {
-      can = record { span = spanned.within o i pos named; place = omega (arith, long, within); hide = λ f. subst (CanHideAll t) (sym others) w.rest.can };
+      can = record { span = spanned.within o i pos named; place = omega (arith, long, within); hide = λ f. turns.hide };
       done = ap (λ b. cond b (with_colour t x 4294967295) (hidden_node spans t x)) other ∙ ap (fold hidden t) others ∙ w.done;
       back = record {
         span = spanned.within o i pos named;
         place = omega (arith, long, within);
-        show = λ f. subst (λ ks. CanShowAll u (reverse ks)) (sym others) (subst (λ (v : Nodes). CanShowAll v (reverse qs)) w.done w.rest.back);
+        show = λ f. turns.show;
       };
       undone =
           ap (λ b. cond b (with_colour u x (kept_colour keep)) (shown_node spans u x)) not_marked
@@ -246,8 +247,10 @@ turn p col now spans i keep ln lists o xs laid spanned pos le o_pos good ready r
       }
       | false ↦ λ e.
           let js = other_items p o i in
-          let w = walked p now ln lists o js laid o_pos good (ready_same p i col now (o ∷ xs) lists o js o_pos passed ready.2 ready.1) in
-          let s = hide_step p now spans keep ln lists i o spanned here o_pos ready.0 (test ∙ e) unmarked w in
+          let all_ready = ready_same p i col now (o ∷ xs) lists o js o_pos passed ready.2 ready.1 in
+          let w = walked p now ln lists o js laid o_pos good all_ready in
+          let mid = walked p now ln lists o (behind_use i (uses_of p o)) laid o_pos good (ready_front p now lists o (behind_use i (uses_of p o)) (before_use i (uses_of p o)) all_ready) in
+          let s = hide_step p now spans keep ln lists i o spanned here o_pos ready.0 (test ∙ e) unmarked w (turns p ln now lists spans o i spanned o_pos ready.0 w mid) in
           record {
             ln' = left_all p now o ln js;
             now' = now;

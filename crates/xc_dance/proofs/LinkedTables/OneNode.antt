@@ -119,22 +119,22 @@ step_open p col ln j o laid m few color =
     let is_i : get_or tops q 0 ≡ j = get_item p ln j o here m.pos in
     let count : get_or tops (get_or tops q 0) 0 ≡ (ln j).len = ap (λ k. get_or tops k 0) is_i ∙ get_len p ln j laid m.item.0 m.item.1 in
     record {
-      can = record { size = size; place = names.place; places = λ ne. names; some = λ ne. linked.some };
+      can = record { size = size; place = names.place; use_of = omega (arith, is_i, m.item.1, laid.small); places = λ ne. names; some = λ ne. linked.some };
       undone = shown-hidden tb q (λ e. linked);
-      back = subst (λ (u : Nodes). CanShow u q) (sym is) (CanShow-unlinked tb q size names linked (omega (arith, count, few)));
+      back = subst (λ (u : Nodes). CanShow u q) (sym is) (CanShow-unlinked tb q size names linked (omega (arith, is_i, m.item.1, laid.small)) (omega (arith, count, few)));
       done = is ∙ unlinked-is p col ln j o laid m;
     }
 
-pub step_marked : (p : Puzzle) (col : Node → ℕ) (ln : ℕ → Line) (q : ℕ) → q < length (layout p) → eqb (get_or (map (col) (layout p)) q 0) 4294967295 ≡ true → Step (nodes_from p ln col) (nodes_from p ln col) q
-step_marked p col ln q within color =
+pub step_marked : (p : Puzzle) (col : Node → ℕ) (ln : ℕ → Line) (q : ℕ) → q < length (layout p) → get_or (map (top_in ln) (layout p)) q 0 < 2147483648 → eqb (get_or (map (col) (layout p)) q 0) 4294967295 ≡ true → Step (nodes_from p ln col) (nodes_from p ln col) q
+step_marked p col ln q within use_of color =
     let tb : Nodes = nodes_from p ln col in
     let size = size_from p ln col in
     let long : length (map (top_in ln) (layout p)) ≡ length (layout p) = length-map (layout p) (top_in ln) in
     let is : hidden tb q ≡ tb = hidden-marked tb q color in
     let bad : get_or (map (col) (layout p)) q 0 ≢ 4294967295 → ⊥ = λ ne. ne (eqb-true _ 4294967295 color) in
     record {
-      can = record { size = size; place = omega (arith, long, within); places = λ ne. absurd (bad ne); some = λ ne. absurd (bad ne) };
+      can = record { size = size; place = omega (arith, long, within); use_of = use_of; places = λ ne. absurd (bad ne); some = λ ne. absurd (bad ne) };
       undone = ap (λ (u : Nodes). shown u q) is ∙ shown-marked tb q color;
-      back = subst (λ (u : Nodes). CanShow u q) (sym is) (record { size = size; place = omega (arith, long, within); places = λ ne. absurd (bad ne); few = λ ne. absurd (bad ne) });
+      back = subst (λ (u : Nodes). CanShow u q) (sym is) (record { size = size; place = omega (arith, long, within); use_of = use_of; places = λ ne. absurd (bad ne); few = λ ne. absurd (bad ne) });
       done = is;
     }

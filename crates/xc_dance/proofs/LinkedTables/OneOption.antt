@@ -9,6 +9,7 @@ use Rattle.xc_dance.specs.Links.Cells.{nodes_from, with_line}
 use Rattle.xc_dance.specs.Links.Laid.{IsName, IsLaid}
 use Rattle.xc_dance.proofs.LinkedTables.Mapped.{get_within}
 use Rattle.xc_dance.proofs.LinkedTables.ReadyLemmas.{Stands, Stands-without, Rest, back_more}
+use Rattle.xc_dance.proofs.LinkedTables.LinkColumns.{get_item}
 use Rattle.xc_dance.proofs.LinkedTables.OneNode.{Step, step_open, step_marked}
 use Rattle.xc_dance.proofs.LinkedTables.Goods.{Named, IsGood, AllGood, member, all_good_cut, with_list}
 
@@ -34,6 +35,15 @@ abbrev pub AreReady : Puzzle → (Node → ℕ) → (ℕ → List ℕ) → ℕ �
 AreReady p col lists o [] = Unit {0}
 AreReady p col lists o (j ∷ js) =
     (0 < j) × (j ≤ item_count p) × Named p j o × (is_mark p col o j ≡ false → Stands (lists j) o) × IsApart j js × AreReady p col lists o js
+
+apart_front : (j : ℕ) (js ks : List ℕ) → IsApart j (js ++ ks) → IsApart j js
+apart_front j [] ks h = tt
+apart_front j (i ∷ js) ks h = (h.0, apart_front j js ks h.1)
+
+-- the first of them are ready too
+pub ready_front : (p : Puzzle) (col : Node → ℕ) (lists : ℕ → List ℕ) (o : ℕ) (js ks : List ℕ) → AreReady p col lists o (js ++ ks) → AreReady p col lists o js
+ready_front p col lists o [] ks h = tt
+ready_front p col lists o (j ∷ js) ks h = (h.0, h.1, h.2, h.3, apart_front j js ks h.4, ready_front p col lists o js ks h.5)
 
 ready_other : (p : Puzzle) (col : Node → ℕ) (lists : ℕ → List ℕ) (o j : ℕ) (xs : List ℕ) (js : List ℕ) → IsApart j js → AreReady p col lists o js → AreReady p col (with_list lists j xs) o js
 ready_other p col lists o j xs [] apart h = tt
@@ -87,7 +97,7 @@ walked p col ln lists o (j ∷ js) laid pos good ready =
     Rest tb (q ∷ qs) × (fold hidden (hidden tb q) qs ≡ nodes_from p (left_all p col o (cond b ln (with_line ln j (cut (ln j) o))) js) col)
     × Gone p lists (left_all p col o (cond b ln (with_line ln j (cut (ln j) o))) js) o (j ∷ js)) [
       | true ↦ λ e.
-          let s = step_marked p col ln q (get_within (layout p) q here.node here.at) e in
+          let s = step_marked p col ln q (get_within (layout p) q here.node here.at) (omega (arith, get_item p ln j o here pos, ready.1, laid.small)) e in
           let w = walked p col ln lists o js laid pos good ready.5 in (
             step_more tb tb q qs s w.rest,
             ap (λ (u : Nodes). fold hidden u qs) s.done ∙ w.done,

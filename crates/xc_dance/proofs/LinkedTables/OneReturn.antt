@@ -54,6 +54,7 @@ show_open p col ln j o laid pos le o_pos m unmarked =
       can = record {
         size = size_from p ln col;
         place = omega (arith, long, q_in);
+        use_of = omega (arith, is_i, le, laid.small);
         places = λ _. record { place = omega (arith, long, q_in); top = omega (arith, long, at_head, is_i); above = omega (arith, long, u_in, is_u); below = omega (arith, long, d_in, is_d) };
         few = λ _. omega (arith, count', few);
       };
@@ -64,8 +65,8 @@ show_open p col ln j o laid pos le o_pos m unmarked =
           refl;
     }
 
-pub show_marked : (p : Puzzle) (col : Node → ℕ) (ln : ℕ → Line) (j o : ℕ) → IsLaid p → 0 < j → j ≤ item_count p → IsName p j o → is_mark p col o j ≡ true → Shown (nodes_from p ln col) (nodes_from p ln col) (link_place p j o)
-show_marked p col ln j o laid pos le name marked =
+pub show_marked : (p : Puzzle) (col : Node → ℕ) (ln : ℕ → Line) (j o : ℕ) → IsLaid p → 0 < j → j ≤ item_count p → 0 < o → IsName p j o → is_mark p col o j ≡ true → Shown (nodes_from p ln col) (nodes_from p ln col) (link_place p j o)
+show_marked p col ln j o laid pos le o_pos name marked =
     let here = laid.there j o pos le name in
     let q = link_place p j o in
     let t : Nodes = nodes_from p ln col in
@@ -73,7 +74,7 @@ show_marked p col ln j o laid pos le name marked =
     let long : length (map (top_in ln) (layout p)) ≡ length (layout p) = length-map (layout p) (top_in ln) in
     let bad : get_or (map col (layout p)) q 0 ≢ 4294967295 → ⊥ = λ ne. ne (eqb-true (get_or (map col (layout p)) q 0) 4294967295 marked) in
     record {
-      can = record { size = size_from p ln col; place = omega (arith, long, q_in); places = λ ne. absurd (bad ne); few = λ ne. absurd (bad ne) };
+      can = record { size = size_from p ln col; place = omega (arith, long, q_in); use_of = omega (arith, get_item p ln j o here o_pos, le, laid.small); places = λ ne. absurd (bad ne); few = λ ne. absurd (bad ne) };
       done = shown-marked t q marked;
     }
 
@@ -149,7 +150,7 @@ shown_walk p col ln o (j ∷ js) laid pos apart h =
     let here = h j (ap (λ b. b || is_in j js) (eq-eqb j j refl)) in
     let first : Shown t (nodes_from p (back_one p col o ln j) col) q =
     elim (is_mark p col o j) as (λ b. is_mark p col o j ≡ b → Shown t (nodes_from p (cond b ln (with_line ln j (mended (ln j) o))) col) q) [
-      | true ↦ λ e. show_marked p col ln j o laid here.pos here.le here.name e
+      | true ↦ λ e. show_marked p col ln j o laid here.pos here.le pos here.name e
       | false ↦ λ e. show_open p col ln j o laid here.pos here.le pos (here.returner e) e
     ] refl in
     let rest = shown_walk p col (back_one p col o ln j) o js laid pos apart.1 (λ k e.

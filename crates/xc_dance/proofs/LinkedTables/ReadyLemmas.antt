@@ -67,10 +67,12 @@ CanRelink-unlinked t q size names linked few =
     }
 
 -- so a step of unhide may be made there
-pub CanShow-unlinked : (t : Nodes) (q : ℕ) → HasSize t (length t.top) → NamesPlaces t q → IsLinked t q → get_or t.top (get_or t.top q 0) 0 < 2 ^ 31 → CanShow (unlinked t q) q
-CanShow-unlinked t q size names linked few =
+pub CanShow-unlinked : (t : Nodes) (q : ℕ) → HasSize t (length t.top) → NamesPlaces t q → IsLinked t q → get_or t.top q 0 < 2147483648 → get_or t.top (get_or t.top q 0) 0 < 2 ^ 31 → CanShow (unlinked t q) q
+CanShow-unlinked t q size names linked use_of few =
     let r = CanRelink-unlinked t q size names linked few in
-    record { size = r.size; place = r.names.place; places = λ _. r.names; few = λ _. r.few }
+    let i = get_or t.top q 0 in
+    let same : get_or (unlinked t q).top q 0 ≡ i = get_or-set_other t.top i q (get_or t.top i 0 - 1) 0 (λ e. linked.other (sym e)) in
+    record { size = r.size; place = r.names.place; use_of = omega (arith, same, use_of); places = λ _. r.names; few = λ _. r.few }
 
 -- one place more at the end of a walk
 CanShowAll-push : (t : Nodes) (ps : List ℕ) (q : ℕ) → CanShowAll t ps → CanShow (fold shown t ps) q → CanShowAll t (ps ++ q ∷ [])

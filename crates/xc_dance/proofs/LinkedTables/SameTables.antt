@@ -5,7 +5,7 @@ use Rattle.xc_input.specs.Problem.{Puzzle}
 use Rattle.xc_dance.specs.declared.dance.Move.{Move}
 use Rattle.xc_dance.specs.declared.links.nodes.Nodes.{Nodes}
 use Rattle.xc_dance.specs.declared.links.items.Items.{Items}
-use Rattle.xc_dance.specs.declared.links.nodes.Span.{Span}
+use Rattle.xc_dance.specs.Links.Span.{Span}
 use Rattle.xc_dance.specs.Links.Made.{IsFitted}
 use Rattle.xc_dance.specs.Links.Taken.{taken_nodes}
 use Rattle.xc_dance.specs.Same.{IsSame}
@@ -20,7 +20,7 @@ abbrev pub AreEqual : Items → Items → Nodes → Nodes → List Move → List
 AreEqual i j n m xs ys ms ns = (((i ≡ j) × (n ≡ m)) × (xs ≡ ys)) × (ms ≡ ns)
 
 pub sound : (p : Puzzle) (spans : List Span) → IsFitted p spans → IsSound p
-sound p spans f = record { laid = f.laid; fit = f.fit; items = f.items }
+sound p spans f = record { laid = f.laid; fit = f.fit; items = f.laid.small }
 
 pub forwards : {X : Type 0} (xs ys : List X) → reverse xs ≡ reverse ys → xs ≡ ys
 forwards xs ys e = sym (reverse-reverse xs) ∙ ap reverse e ∙ reverse-reverse ys

@@ -1,20 +1,21 @@
--- The spans lead from each node of an option to its other nodes.
-use Rattle.std.proofs.Common.{◌≡◌, ℕ, zero, suc, ◌+◌, ◌-◌, ◌<◌, true, false, cond, eqb, List, [], ◌∷◌, ◌++◌, length, map, get_or, Some, refl, ap, ap₂, sym, subst, ◌∙◌, arith, eqb-true}
+-- Each node of an option has the option's span.
+use Rattle.std.proofs.Common.{◌≡◌, ℕ, zero, suc, ◌+◌, ◌-◌, ◌<◌, true, false, cond, eqb, List, [], ◌∷◌, ◌++◌, length, map, get_or, Some, refl, ap, ap₂, sym, subst, ◌∙◌, arith, eqb-true, lt-ltb}
 use Rattle.std.specs.Prelude.{slice_get, is_some, unwrap_or, option_map}
 use Rattle.std.specs.List.{range_with_len}
 use Rattle.std.proofs.lemmas.Bool.{false≢true}
 use Rattle.std.proofs.lemmas.Option.{slice_get-map, slice_get_within, get_or_from_slice_get}
-use Rattle.std.proofs.lemmas.List.{length-map, map-append, length-take-le, take_all}
+use Rattle.std.proofs.lemmas.List.{length-map, length-append}
 use Rattle.xc_input.specs.declared.problem.Use.{Use}
 use Rattle.xc_input.specs.Problem.{Puzzle, colour_in, uses_of, option_count}
-use Rattle.xc_dance.specs.declared.links.nodes.Span.{Span}
-use Rattle.xc_dance.specs.Fields.{used, layout, spacer_place, link_place}
-use Rattle.xc_dance.specs.Links.Steps.{others, others_of}
+use Rattle.xc_dance.specs.Links.Span.{Span}
+use Rattle.xc_dance.specs.Fields.{spacer, used, layout, spacer_place, link_place}
+use Rattle.xc_dance.specs.Links.Steps.{places, span_at}
+use Rattle.xc_dance.specs.Links.Cells.{fixed_up, fixed_down}
 use Rattle.xc_dance.specs.Links.Laid.{IsFit}
-use Rattle.xc_dance.specs.Links.Others.{before_use, behind_use, other_items, HasSpans}
+use Rattle.xc_dance.specs.Links.Others.{before_use, behind_use, IsSpanOf, HasSpans}
 use Rattle.xc_dance.specs.Links.OptionPlaces.{place_at}
 use Rattle.xc_dance.specs.Links.OptionSpans.{span_of, spans_of}
-use Rattle.xc_dance.proofs.LinkedTables.PlaceLemmas.{use_here, place_next}
+use Rattle.xc_dance.proofs.LinkedTables.PlaceLemmas.{spacer_here, use_here, place_next}
 use Rattle.xc_dance.proofs.LinkedTables.SpacerPlaces.{use_at, spacer_at}
 use Rattle.xc_dance.proofs.LinkedTables.OptionReach.{get_behind}
 
@@ -81,21 +82,22 @@ span_here p o k us u lt e f d =
     get_or_from_slice_get (spans_of p) (place_at p o + 1 + k) (span_of p (used (o + 1) u)) d (slice_get-map (span_of p) (layout p) (place_at p o + 1 + k) ∙ ap (option_map (span_of p)) at)
     ∙ ap₂ span first end
 
--- the places of an option's nodes but that behind those of some uses
-pub around : (p : Puzzle) (o : ℕ) (before behind us : List Use) (u : Use) → IsFit p → slice_get p.options o ≡ Some us → us ≡ before ++ u ∷ behind →
-    others (place_at p o + 1 + length before) (place_at p o + 1) (place_at p o + 1 + length us)
-    ≡ map (λ j. link_place p j (o + 1)) (map (λ v. v.item) behind ++ map (λ v. v.item) before)
-around p o before behind us u fit e is =
+-- the places behind the node of a use, and those before it
+behind_all : (p : Puzzle) (o x : ℕ) (before behind us : List Use) (u : Use) → IsFit p → slice_get p.options o ≡ Some us → us ≡ before ++ u ∷ behind → x ≡ place_at p o + 1 + length before →
+    places (x + 1) (place_at p o + 1 + length us) ≡ map (λ j. link_place p j (o + 1)) (map (λ v. v.item) behind)
+behind_all p o x before behind us u fit e is at =
     let a = place_at p o + 1 in
-    let size = ap length is ∙ Rattle.std.proofs.lemmas.List.length-append before (u ∷ behind) in
-    let behind_all : range_with_len (a + length before + 1) (a + length us - (a + length before + 1)) ≡ map (λ j. link_place p j (o + 1)) (map (λ v. v.item) behind) =
-    row p (o + 1) (a + length before + 1) (a + length us - (a + length before + 1)) behind (omega (arith, size))
-    (λ k v f. (let n : a + (length before + suc k) ≡ a + length before + 1 + k = omega arith in
-    use_at p o (length before + suc k) us v fit e (ap (λ l. slice_get l (length before + suc k)) is ∙ get_behind before (u ∷ behind) (length before + suc k) (suc k) refl ∙ f) ∙ n)) in
-    let before_all : range_with_len a (a + length before - a) ≡ map (λ j. link_place p j (o + 1)) (map (λ v. v.item) before) =
-    row p (o + 1) a (a + length before - a) before (omega arith)
-    (λ k v f. use_at p o k us v fit e (ap (λ l. slice_get l k) is ∙ get_within before (u ∷ behind) k v f)) in
-    ap₂ (λ l m. l ++ m) behind_all before_all ∙ sym (map-append (λ j. link_place p j (o + 1)) (map (λ v. v.item) behind) (map (λ v. v.item) before))
+    let size = ap length is ∙ length-append before (u ∷ behind) in
+    row p (o + 1) (x + 1) (a + length us - (x + 1)) behind (omega (arith, size, at))
+    (λ k v f. (let n : a + (length before + suc k) ≡ x + 1 + k = omega (arith, at) in
+    use_at p o (length before + suc k) us v fit e (ap (λ l. slice_get l (length before + suc k)) is ∙ get_behind before (u ∷ behind) (length before + suc k) (suc k) refl ∙ f) ∙ n))
+
+before_all : (p : Puzzle) (o x : ℕ) (before behind us : List Use) (u : Use) → IsFit p → slice_get p.options o ≡ Some us → us ≡ before ++ u ∷ behind → x ≡ place_at p o + 1 + length before →
+    places (place_at p o + 1) x ≡ map (λ j. link_place p j (o + 1)) (map (λ v. v.item) before)
+before_all p o x before behind us u fit e is at =
+    let a = place_at p o + 1 in
+    row p (o + 1) a (x - a) before (omega (arith, at))
+    (λ k v f. use_at p o k us v fit e (ap (λ l. slice_get l k) is ∙ get_within before (u ∷ behind) k v f))
 
 -- an option that holds an item is there
 pub there : (os : List (List Use)) (k i : ℕ) → is_some (colour_in (unwrap_or (slice_get os k) []) i) ≡ true → slice_get os k ≡ Some (unwrap_or (slice_get os k) [])
@@ -104,8 +106,33 @@ there (us ∷ os) zero i e = refl
 there (us ∷ os) (suc k) i e = there os k i e
 
 pub record SpanOf (p : Puzzle) (o i : ℕ) : Type 0 where
-  pub others : others_of (spans_of p) (link_place p i o) ≡ map (λ j. link_place p j o) (other_items p o i)
+  pub span : IsSpanOf p o i (span_at (spans_of p) (link_place p i o))
   pub within : link_place p i o < length (spans_of p)
+
+-- an option stands from behind the spacer before it to that behind it
+between : (p : Puzzle) (o i : ℕ) (us : List Use) → IsFit p → slice_get p.options o ≡ Some us → uses_of p (o + 1) ≡ us → (r : Parted us i) → link_place p i (o + 1) ≡ place_at p o + 1 + length r.before →
+    IsSpanOf p (o + 1) i (let s : Span = record { first = place_at p o + 1; end = place_at p o + 1 + length us } in s)
+between p o i us fit e is r place =
+    let a = place_at p o + 1 in
+    let x = link_place p i (o + 1) in
+    let lt : o < option_count p = slice_get_within p.options o us e in
+    let size = ap length r.is ∙ length-append r.before (r.use_of ∷ r.behind) in
+    let next = place_next p o us e in
+    let same : o + 1 - 1 ≡ o = omega arith in
+    let s : o + 1 ≡ suc o = omega arith in
+    let start : a - 1 ≡ place_at p o = omega arith in
+    let at_next = spacer_at p (o + 1) (omega (arith, lt)) in
+    record {
+      from = omega (arith, place);
+      below = omega (arith, place, size);
+      before = before_all p o x r.before r.behind us r.use_of fit e r.is place ∙ ap (map (λ j. link_place p j (o + 1))) (sym r.items_before ∙ ap (before_use i) (sym is));
+      behind = behind_all p o x r.before r.behind us r.use_of fit e r.is place ∙ ap (map (λ j. link_place p j (o + 1))) (sym r.items_behind ∙ ap (behind_use i) (sym is));
+      some = omega arith;
+      first = ap (slice_get (layout p)) start ∙ spacer_here p o (omega (arith, lt)) ∙ ap (λ n. Some (spacer n)) (sym same);
+      down = ap (λ n. fixed_down p (spacer n) + 1) same ∙ ap (λ b. cond b (spacer_place p (o + 1) - 1) 0 + 1) (lt-ltb o (option_count p) lt) ∙ omega (arith, at_next, next);
+      last = ap (slice_get (layout p)) (sym next) ∙ spacer_here p (o + 1) (omega (arith, lt));
+      up = ap (λ n. fixed_up p (spacer n)) s ∙ ap (λ n. n + 1) (spacer_at p o (omega (arith, lt)));
+    }
 
 pub leads : (p : Puzzle) (o i : ℕ) (us : List Use) → IsFit p → slice_get p.options o ≡ Some us → uses_of p (o + 1) ≡ us → is_some (colour_in us i) ≡ true → SpanOf p (o + 1) i
 leads p o i us fit e is some =
@@ -116,10 +143,7 @@ leads p o i us fit e is some =
     let place : link_place p i (o + 1) ≡ place_at p o + 1 + k = ap (λ j. link_place p j (o + 1)) (sym r.item) ∙ use_at p o k us r.use_of fit e use_get in
     let d : Span = record { first = 0; end = 0 } in
     record {
-      others = ap (others_of (spans_of p)) place
-          ∙ ap (λ (s : Span). others (place_at p o + 1 + k) s.first s.end) (span_here p o k us r.use_of lt e use_get d)
-          ∙ around p o r.before r.behind us r.use_of fit e r.is
-          ∙ ap (map (λ j. link_place p j (o + 1))) (ap₂ (λ l m. l ++ m) (sym r.items_behind) (sym r.items_before) ∙ ap (λ l. behind_use i l ++ before_use i l) (sym is));
+      span = subst (IsSpanOf p (o + 1) i) (sym (ap (span_at (spans_of p)) place ∙ span_here p o k us r.use_of lt e use_get d)) (between p o i us fit e is r place);
       within = let here = slice_get_within (layout p) (place_at p o + 1 + k) (used (o + 1) r.use_of) (use_here p o k (place_at p o + 1 + k) us r.use_of e use_get refl) in
           let size = length-map (layout p) (span_of p) in omega (arith, here, size, place);
     }
@@ -134,6 +158,6 @@ span_is p (suc o) i fit pos e =
 
 pub has_spans : (p : Puzzle) → IsFit p → HasSpans p (spans_of p)
 has_spans p fit = record {
-  others = λ o i pos e. (span_is p o i fit pos e).others;
+  span = λ o i pos e. (span_is p o i fit pos e).span;
   within = λ o i pos e. (span_is p o i fit pos e).within;
 }

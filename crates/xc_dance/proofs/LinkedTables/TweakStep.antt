@@ -6,15 +6,15 @@ use Rattle.std.proofs.lemmas.List.{length-map}
 use Rattle.xc_dance.specs.declared.dance.Move.{Move}
 use Rattle.xc_dance.specs.declared.dance.Move.TheVariants.{Tweak}
 use Rattle.xc_dance.specs.declared.links.nodes.Nodes.{Nodes}
-use Rattle.xc_dance.specs.declared.links.nodes.Span.{Span}
-use Rattle.xc_input.specs.Problem.{Puzzle, item_count}
+use Rattle.xc_dance.specs.Links.Span.{Span}
+use Rattle.xc_input.specs.Problem.{Puzzle, item_count, uses_of}
 use Rattle.xc_dance.specs.Moves.{listed, is_open, AreLegal, listed_numbers}
 use Rattle.xc_dance.specs.Fields.{Node, unused, own, spacer, used, layout, link_place, first_of, is_in}
 use Rattle.xc_dance.specs.Links.Lines.{Line, cut}
-use Rattle.xc_dance.specs.Links.Steps.{HasSize, NamesPlaces, unlinked, relinked, hidden, shown, others_of, CanHideAll, CanShowAll, hide_costs, show_costs}
+use Rattle.xc_dance.specs.Links.Steps.{HasSize, NamesPlaces, unlinked, relinked, hidden, shown, others_of, CanHideNode, CanShowNode, hide_costs, show_costs}
 use Rattle.xc_dance.specs.Links.Tweaking.{hidden_unless, shown_unless, tweaked, untweaked, CanTweak, CanTweakAt, CanUntweak, tweak_cost, untweak_cost}
 use Rattle.xc_dance.specs.Links.Cells.{color_in, dlink_in, nodes_from, nodes_after, line_of, with_line}
-use Rattle.xc_dance.specs.Links.Others.{other_items}
+use Rattle.xc_dance.specs.Links.Others.{before_use, behind_use, other_items}
 use Rattle.xc_dance.specs.Links.Made.{IsFitted}
 use Rattle.xc_dance.proofs.LinkedTables.Mapped.{get_within}
 use Rattle.xc_dance.proofs.LinkedTables.Undo.{relinked-unlinked, fold-shown-reverse}
@@ -23,7 +23,8 @@ use Rattle.xc_dance.proofs.LinkedTables.OneNode.{IsMember, unlinked-is, linked-i
 use Rattle.xc_dance.proofs.LinkedTables.LinkColumns.{get_down, get_item, get_len, size_from}
 use Rattle.xc_dance.proofs.LinkedTables.Sweep.{Rises, stay, cuts, is_in-first}
 use Rattle.xc_dance.proofs.LinkedTables.Goods.{Named, IsGood, AllGood, member}
-use Rattle.xc_dance.proofs.LinkedTables.OneOption.{left_all, walked}
+use Rattle.xc_dance.proofs.LinkedTables.OneOption.{left_all, walked, ready_front}
+use Rattle.xc_dance.proofs.LinkedTables.Spacers.{others_are, turns}
 use Rattle.xc_dance.proofs.LinkedTables.OneList.{all_other}
 use Rattle.xc_dance.proofs.LinkedTables.OtherItems.{leaves, list_at}
 use Rattle.xc_dance.proofs.LinkedTables.OthersApart.{each_apart, own_apart}
@@ -116,9 +117,9 @@ pub record Mid (p : Puzzle) (t : List Move) (spans : List Span) (covered : Bool)
   pub none : ks i ≡ []
   pub cut : (j : ℕ) → (0 < j) × (j ≤ item_count p) → j ≢ i → SameCut p t (Tweak i) j (ks j)
   pub line : (j : ℕ) → ln j ≡ cuts (line_of p t j) (ks j)
-  pub hide : covered ≡ false → (link_place p i o < length spans) × CanHideAll (nodes_after p t) (others_of spans (link_place p i o))
+  pub hide : covered ≡ false → (link_place p i o < length spans) × CanHideNode spans (nodes_after p t) (link_place p i o)
   pub done : hidden_unless spans covered (nodes_after p t) (link_place p i o) ≡ nodes_from p ln (color_in p t)
-  pub show : covered ≡ false → (link_place p i o < length spans) × CanShowAll (nodes_from p ln (color_in p t)) (reverse (others_of spans (link_place p i o)))
+  pub show : covered ≡ false → (link_place p i o < length spans) × CanShowNode spans (nodes_from p ln (color_in p t)) (link_place p i o)
   pub undone : shown_unless spans covered (nodes_from p ln (color_in p t)) (link_place p i o) ≡ nodes_after p t
   pub cost : cond covered 0 (hide_costs (nodes_after p t) (others_of spans (link_place p i o))) ≡ 3 * total (λ j. length (ks j)) 1 (item_count p)
   pub cost_back : cond covered 0 (show_costs (nodes_from p ln (color_in p t)) (reverse (others_of spans (link_place p i o)))) ≡ 3 * total (λ j. length (ks j)) 1 (item_count p)
@@ -154,11 +155,14 @@ mid_open p t spans i legal fit opened pos le f =
     let r : Rises 0 (o ∷ f.os) = subst (Rises 0) f.is (numbers_rise p t i) in
     let within : is_in o (listed_numbers p t i) ≡ true = subst (λ ks. is_in o ks ≡ true) (sym f.is) (is_in-first o f.os) in
     let named : Named p i o = (subst (λ ks. AllByRecursion (Named p i) ks) f.is (numbers_named p t i)).0 in
-    let w = walked p col (line_of p t) (listed_numbers p t) o js laid r.0 (all_good p t fit.fit) (ready_at p t i o legal laid fit.fit opened within) in
+    let ready = ready_at p t i o legal laid fit.fit opened within in
+    let w = walked p col (line_of p t) (listed_numbers p t) o js laid r.0 (all_good p t fit.fit) ready in
+    let mid = walked p col (line_of p t) (listed_numbers p t) o (behind_use i (uses_of p o)) laid r.0 (all_good p t fit.fit) (ready_front p col (listed_numbers p t) o (behind_use i (uses_of p o)) (before_use i (uses_of p o)) ready) in
+    let both = turns p (line_of p t) col (listed_numbers p t) spans o i spanned r.0 named w mid in
     let apart = own_apart p i o fit.fit in
     let t0 : Nodes = nodes_after p t in
     let t1 : Nodes = nodes_from p (left_all p col o (line_of p t) js) col in
-    let others : others_of spans x ≡ qs = spanned.others o i r.0 named in
+    let others : others_of spans x ≡ qs = others_are p spans o i spanned r.0 named in
     let of = first_of-list p t i f in
     let one : first_alone (listed_numbers p t i) ≡ o ∷ [] = ap first_alone f.is in
     let counted = exchanged p col i (o ∷ []) fit.fit in
@@ -175,9 +179,9 @@ mid_open p t spans i legal fit opened pos le f =
           cut_others p t (Tweak i) i j (first_alone (listed_numbers p t i)) legal laid fit.fit opened rj of (takes_tweak p t i opened) ne in
           subst (λ ks. SameCut p t (Tweak i) j (filter (leaves p col i j) ks)) one cut_j;
       line = λ j. list_at p col i (line_of p t) (o ∷ []) j (each_apart p i (o ∷ []) fit.fit);
-      hide = λ e. (spanned.within o i r.0 named, subst (CanHideAll t0) (sym others) w.rest.can);
+      hide = λ e. (spanned.within o i r.0 named, both.hide);
       done = ap (fold hidden t0) others ∙ w.done;
-      show = λ e. (spanned.within o i r.0 named, subst (λ ks. CanShowAll t1 (reverse ks)) (sym others) (subst (λ (v : Nodes). CanShowAll v (reverse qs)) w.done w.rest.back));
+      show = λ e. (spanned.within o i r.0 named, both.show);
       undone = ap (λ ks. fold shown t1 (reverse ks)) others ∙ ap (λ (v : Nodes). fold shown v (reverse qs)) (sym w.done) ∙ fold-shown-reverse t0 qs w.rest.undone;
       cost = let a = ap (hide_costs t0) others ∙ hide_costs-are t0 qs ∙ unmarked_items p col o js in omega (arith, a, counted);
       cost_back = let a = ap (λ ks. show_costs t1 (reverse ks)) others ∙ show_costs-are t1 (reverse qs) ∙ unmarked-reverse (map col (layout p)) qs ∙ unmarked_items p col o js in omega (arith, a, counted);
@@ -273,7 +277,7 @@ by_mid p t spans covered i fit pos le f mid =
         size = subst (λ (v : Nodes). HasSize v (length v.top)) same back.size;
         names = subst (λ (v : Nodes). NamesPlaces v x) same back.names;
         few = subst (λ (v : Nodes). get_or v.top (get_or v.top x 0) 0 < 2 ^ 31) same back.few;
-        show = subst (λ (v : Nodes). covered ≡ false → (x < length spans) × CanShowAll v (reverse (others_of spans x))) (sym again) mid.show;
+        show = subst (λ (v : Nodes). covered ≡ false → (x < length spans) × CanShowNode spans v x) (sym again) mid.show;
       });
       undone = ap (untweaked spans covered next) taken ∙ ap (λ (v : Nodes). shown_unless spans covered v x) again ∙ mid.undone;
       cost = let a = ap (λ k. cond covered 0 (hide_costs t0 (others_of spans k))) first in let b = mid.cost in omega (arith, a, b, gone);

@@ -5,7 +5,7 @@ use Rattle.std.proofs.lemmas.List.Sums.{fold-append}
 use Rattle.std.proofs.lemmas.List.{map-append}
 use Rattle.xc_dance.specs.declared.dance.Move.{Move}
 use Rattle.xc_dance.specs.declared.dance.Move.TheVariants.{Tweak}
-use Rattle.xc_dance.specs.declared.links.nodes.Span.{Span}
+use Rattle.xc_dance.specs.Links.Span.{Span}
 use Rattle.xc_input.specs.Problem.{Puzzle, item_count}
 use Rattle.xc_dance.specs.Moves.{is_open, AreLegal, IsLegal, listed_numbers}
 use Rattle.xc_dance.specs.Fields.{Node, layout, link_place, is_in, first_of}
@@ -20,6 +20,7 @@ use Rattle.xc_dance.proofs.LinkedTables.OtherItems.{leaves}
 use Rattle.xc_dance.proofs.LinkedTables.SameLines.{SameCut, SameLine, line_after}
 use Rattle.xc_dance.proofs.LinkedTables.Leaving.{cut_others}
 use Rattle.xc_dance.proofs.LinkedTables.TakenOut.{first_alone, takes_tweak, tweak_own}
+use Rattle.xc_dance.proofs.LinkedTables.Spacers.{others_are}
 use Rattle.xc_dance.proofs.LinkedTables.TweakStep.{tweak_made, HasFirst, has_first, tweak_cut, tweak_shut, tweak_colours, first_of-list}
 use Rattle.xc_dance.proofs.LinkedTables.Climb.{to_come, back_writes}
 use Rattle.xc_dance.specs.declared.links.nodes.Nodes.{Nodes}
@@ -136,7 +137,7 @@ one_writes p s spans false i legal fit may opened f =
     let first : get_or t0.dlink i 0 ≡ link_place p i o = get_down p (line_of p s) i 0 (own_placed p i fit.laid pos le) ∙ ap (λ ks. link_place p i (first_of 0 ks)) f.is in
     let made = (tweak_made p s spans false i legal fit pos le may.2 opened).cost in
     let hides : hide_costs t0 (others_of spans (get_or t0.dlink i 0)) ≡ 3 * gone_count p col i o =
-    ap (λ q. hide_costs t0 (others_of spans q)) first ∙ ap (hide_costs t0) (fit.spanned.others o i o_pos named)
+    ap (λ q. hide_costs t0 (others_of spans q)) first ∙ ap (hide_costs t0) (others_are p spans o i fit.spanned o_pos named)
     ∙ hide_costs-are t0 (map (λ j. link_place p j o) js) ∙ unmarked_items p col o js in
     omega (arith, made, hides)
 

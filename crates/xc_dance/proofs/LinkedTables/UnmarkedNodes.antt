@@ -10,7 +10,7 @@ use Rattle.xc_input.specs.Problem.{Puzzle, colour_in, uses_of, item_count, optio
 use Rattle.xc_dance.specs.declared.dance.Move.{Move}
 use Rattle.xc_dance.specs.declared.dance.Move.TheVariants.{Cover, Purify, Tweak, Spend}
 use Rattle.xc_dance.specs.declared.links.nodes.Nodes.{Nodes}
-use Rattle.xc_dance.specs.declared.links.nodes.Span.{Span}
+use Rattle.xc_dance.specs.Links.Span.{Span}
 use Rattle.xc_dance.specs.Moves.{AreLegal, listed_numbers}
 use Rattle.xc_dance.specs.Fields.{Node, unused, own, spacer, used, layout, spacer_place, is_in, is_marked}
 use Rattle.xc_dance.specs.Links.Cells.{color_in, nodes_after}

@@ -2,7 +2,7 @@
 use Rattle.std.proofs.Common.{Option, Bool, ◌≡◌, ℕ, zero, suc, ◌+◌, ◌<◌, List, ◌∷◌, length, get_or, drop, refl, ap, sym, subst, ◌∙◌}
 use Rattle.std.proofs.lemmas.List.{drop_more}
 use Rattle.xc_dance.specs.declared.links.nodes.Nodes.{Nodes}
-use Rattle.xc_dance.specs.declared.links.nodes.Span.{Span}
+use Rattle.xc_dance.specs.Links.Span.{Span}
 use Rattle.xc_dance.specs.Links.Steps.{followed}
 use Rattle.xc_dance.specs.Links.ListWalks.{IsWalk, IsWalkBack}
 use Rattle.xc_dance.specs.Links.TweaksBack.{IsClimb}

@@ -27,6 +27,8 @@ pub record IsLaid (p : Puzzle) : Type 0 where
   pub numbered : (k o : ℕ) (u : Use) → slice_get (layout p) k ≡ Some (used o u) → 0 < o
   -- a node has its use's colour
   pub coloured : (k o : ℕ) (u : Use) → slice_get (layout p) k ≡ Some (used o u) → colour_in (uses_of p o) u.item ≡ Some u.colour
+  -- items' numbers are below those of spacers
+  pub small : item_count p < 2 ^ 31
 
 abbrev pub AreDistinct : List Use → Type 0
 AreDistinct [] = Unit {0}
@@ -38,3 +40,4 @@ pub record IsFit (p : Puzzle) : Type 0 where
   pub items : (o : ℕ) → AllByRecursion (λ u. (0 < u.item) × (u.item ≤ item_count p)) (uses_of p o)
   pub colours : (o : ℕ) → AllByRecursion (λ u. u.colour < 4294967295) (uses_of p o)
   pub few : length p.options < 2 ^ 30
+  pub small : item_count p < 2 ^ 31

@@ -1,8 +1,8 @@
 -- A walk over a list, which may keep the nodes of one colour.
 use Rattle.std.specs.Prelude.{Bool, false, Option, Some, None, ℕ, ◌+◌, ◌<◌, ◌≡◌, ◌==◌, List, [], ◌∷◌, length, slice_index, slice_set, if◌then◌else◌, ◌^◌, reverse}
 use Rattle.xc_dance.specs.declared.links.nodes.Nodes.{Nodes}
-use Rattle.xc_dance.specs.declared.links.nodes.Span.{Span}
-use Rattle.xc_dance.specs.Links.Steps.{HasSize, hide_costs, CanHideAll, CanShowAll, show_costs, others_of, hidden_node, list_of, shown_node, list_back}
+use Rattle.xc_dance.specs.Links.Span.{Span}
+use Rattle.xc_dance.specs.Links.Steps.{HasSize, hide_costs, CanHideNode, CanShowNode, show_costs, others_of, hidden_node, list_of, shown_node, list_back}
 
 -- node q has this colour now
 abbrev pub with_colour : Nodes → ℕ → ℕ → Nodes
@@ -40,13 +40,13 @@ back_cost spans keep t p = if is_kept_mark keep (slice_index t.color p) then 1 e
 pub record CanLeave (spans : List Span) (keep : Option ℕ) (t : Nodes) (p : ℕ) : Type 0 where
   pub span : p < length spans
   pub place : p < length t.color
-  pub hide : is_kept_colour keep (slice_index t.color p) ≡ false → CanHideAll t (others_of spans p)
+  pub hide : is_kept_colour keep (slice_index t.color p) ≡ false → CanHideNode spans t p
 
 -- a step up may be made at p
 pub record CanReturn (spans : List Span) (keep : Option ℕ) (t : Nodes) (p : ℕ) : Type 0 where
   pub span : p < length spans
   pub place : p < length t.color
-  pub show : is_kept_mark keep (slice_index t.color p) ≡ false → CanShowAll t (reverse (others_of spans p))
+  pub show : is_kept_mark keep (slice_index t.color p) ≡ false → CanShowNode spans t p
 
 -- steps down can be made at the nodes ps one after another, and each is where the one before leads to
 abbrev pub IsWalk : List Span → Option ℕ → Nodes → ℕ → List ℕ → Type 0

@@ -3,9 +3,9 @@ use Rattle.std.specs.Prelude.{None, Some, ℕ, ◌+◌, ◌-◌, ◌<◌, ◌^�
 use Rattle.xc_dance.specs.declared.dance.Move.{Move}
 use Rattle.xc_dance.specs.declared.dance.Move.TheVariants.{Cover, Purify, Tweak, Spend}
 use Rattle.xc_dance.specs.declared.links.nodes.Nodes.{Nodes}
-use Rattle.xc_dance.specs.declared.links.nodes.Span.{Span}
+use Rattle.xc_dance.specs.Links.Span.{Span}
 use Rattle.xc_dance.specs.declared.links.items.Items.{Items}
-use Rattle.xc_input.specs.Problem.{Puzzle, item_count, high_at}
+use Rattle.xc_input.specs.Problem.{Puzzle, high_at}
 use Rattle.xc_dance.specs.Links.ListWalks.{left_node, back_node, CanHideList, CanShowList, with_colour, walk_costs, back_costs}
 use Rattle.xc_dance.specs.Links.Steps.{list_of, list_back}
 use Rattle.xc_dance.specs.Links.Purifying.{purified_list, unpurified_list, CanPurify, CanUnpurify}
@@ -90,4 +90,3 @@ pub record IsFitted (p : Puzzle) (spans : List Span) : Type 0 where
   pub fit : IsFit p
   pub near : AreNear spans
   pub bounds : (i : ℕ) → high_at p i < 2 ^ 31
-  pub items : item_count p < 2 ^ 31

@@ -1,6 +1,6 @@
 -- Where the option of each node stands in the node table.
-use Rattle.std.specs.Prelude.{ℕ, ◌+◌, ◌-◌, List, map, take}
-use Rattle.xc_dance.specs.declared.links.nodes.Span.{Span}
+use Rattle.std.specs.Prelude.{◌+◌, ◌-◌, List, map}
+use Rattle.xc_dance.specs.Links.Span.{Span}
 use Rattle.xc_input.specs.Problem.{Puzzle}
 use Rattle.xc_dance.specs.Fields.{Node, unused, own, spacer, used, layout, spacer_place}
 
@@ -17,7 +17,3 @@ span_of p (used o u) = record { first = spacer_place p (o - 1) + 1; end = spacer
 
 abbrev pub spans_of : Puzzle → List Span
 spans_of p = map (span_of p) (layout p)
-
--- those of the first k nodes
-abbrev pub spans_to : Puzzle → ℕ → List Span
-spans_to p k = map (span_of p) (take k (layout p))

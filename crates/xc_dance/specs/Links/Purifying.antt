@@ -1,7 +1,7 @@
 -- Purify on the node table.
 use Rattle.std.specs.Prelude.{Some, ℕ, ◌<◌, List, length, fold}
 use Rattle.xc_dance.specs.declared.links.nodes.Nodes.{Nodes}
-use Rattle.xc_dance.specs.declared.links.nodes.Span.{Span}
+use Rattle.xc_dance.specs.Links.Span.{Span}
 use Rattle.xc_dance.specs.Links.Steps.{list_of, list_back}
 use Rattle.xc_dance.specs.Links.ListWalks.{with_colour, left_node, back_node, CanHideList, CanShowList}
 

@@ -1,9 +1,9 @@
 -- One step of a walk over the node table, and the walk round one option.
-use Rattle.std.specs.Prelude.{ℕ, ◌+◌, ◌-◌, ◌<◌, ◌≡◌, ◌≢◌, ◌==◌, List, [], ◌∷◌, ◌++◌, length, slice_index, slice_set, if◌then◌else◌, fold, ◌^◌, reverse}
+use Rattle.std.specs.Prelude.{ℕ, ◌+◌, ◌-◌, ◌<◌, ◌≤◌, ◌≡◌, ◌≢◌, ◌==◌, List, [], ◌∷◌, ◌++◌, length, slice_index, slice_set, if◌then◌else◌, fold, ◌^◌, reverse}
 use Rattle.std.proofs.Common.{zero, suc, get_or}
 use Rattle.std.specs.List.{range_with_len}
 use Rattle.xc_dance.specs.declared.links.nodes.Nodes.{Nodes}
-use Rattle.xc_dance.specs.declared.links.nodes.Span.{Span}
+use Rattle.xc_dance.specs.Links.Span.{Span}
 
 -- all columns have n cells
 pub record HasSize (t : Nodes) (n : ℕ) : Type 0 where
@@ -44,10 +44,11 @@ abbrev pub hide_costs : Nodes → List ℕ → ℕ
 hide_costs t [] = 0
 hide_costs t (q ∷ qs) = hide_cost t q + hide_costs (hidden t q) qs
 
--- a step of hide may be made at q
+-- a step of hide may be made at q, which is no spacer
 pub record CanHide (t : Nodes) (q : ℕ) : Type 0 where
   pub size : HasSize t (length t.top)
   pub place : q < length t.top
+  pub use_of : slice_index t.top q < 2147483648
   pub places : slice_index t.color q ≢ 4294967295 → NamesPlaces t q
   pub some : slice_index t.color q ≢ 4294967295 → 0 < slice_index t.top (slice_index t.top q)
 
@@ -76,10 +77,11 @@ pub record IsLinked (t : Nodes) (q : ℕ) : Type 0 where
   pub other : slice_index t.top q ≢ q
   pub some : 0 < slice_index t.top (slice_index t.top q)
 
--- a step of unhide may be made at q
+-- a step of unhide may be made at q, which is no spacer
 pub record CanShow (t : Nodes) (q : ℕ) : Type 0 where
   pub size : HasSize t (length t.top)
   pub place : q < length t.top
+  pub use_of : slice_index t.top q < 2147483648
   pub places : slice_index t.color q ≢ 4294967295 → NamesPlaces t q
   pub few : slice_index t.color q ≢ 4294967295 → slice_index t.top (slice_index t.top q) < 2 ^ 31
 
@@ -93,13 +95,30 @@ abbrev pub show_costs : Nodes → List ℕ → ℕ
 show_costs t [] = 0
 show_costs t (q ∷ qs) = hide_cost t q + show_costs (shown t q) qs
 
+-- where the option of node p stands
+abbrev pub span_at : List Span → ℕ → Span
+span_at spans p = get_or spans p (record { first = 0; end = 0 })
+
 -- the other nodes of p's option
 abbrev pub others_of : List Span → ℕ → List ℕ
-others_of spans p = let s = get_or spans p (record { first = 0; end = 0 }) in others p s.first s.end
+others_of spans p = others p (span_at spans p).first (span_at spans p).end
 
 -- hide(p)
 abbrev pub hidden_node : List Span → Nodes → ℕ → Nodes
 hidden_node spans t p = fold hidden t (others_of spans p)
+
+-- a spacer stands at z
+pub record IsSpacer (t : Nodes) (z : ℕ) : Type 0 where
+  pub size : HasSize t (length t.top)
+  pub place : z < length t.top
+  pub top : 2147483648 ≤ slice_index t.top z
+
+-- hide(p) may be made: once the nodes behind p are hidden, the spacer behind them leads to the option's first node
+pub record CanHideNode (spans : List Span) (t : Nodes) (p : ℕ) : Type 0 where
+  pub steps : CanHideAll t (others_of spans p)
+  pub within : p < (span_at spans p).end
+  pub spacer : IsSpacer (fold hidden t (places (p + 1) (span_at spans p).end)) (span_at spans p).end
+  pub first : slice_index (fold hidden t (places (p + 1) (span_at spans p).end)).ulink (span_at spans p).end ≡ (span_at spans p).first
 
 -- n nodes from p downwards
 abbrev pub followed : List ℕ → ℕ → ℕ → List ℕ
@@ -113,6 +132,14 @@ list_of t i = followed t.dlink (slice_index t.top i) (slice_index t.dlink i)
 -- unhide(p)
 abbrev pub shown_node : List Span → Nodes → ℕ → Nodes
 shown_node spans t p = fold shown t (reverse (others_of spans p))
+
+-- unhide(p) may be made: once the nodes before p are back, the spacer before them leads to the option's last node
+pub record CanShowNode (spans : List Span) (t : Nodes) (p : ℕ) : Type 0 where
+  pub steps : CanShowAll t (reverse (others_of spans p))
+  pub from : 0 < (span_at spans p).first
+  pub within : (span_at spans p).first ≤ p
+  pub spacer : IsSpacer (fold shown t (reverse (places (span_at spans p).first p))) ((span_at spans p).first - 1)
+  pub last : slice_index (fold shown t (reverse (places (span_at spans p).first p))).dlink ((span_at spans p).first - 1) + 1 ≡ (span_at spans p).end
 
 -- the nodes of i's list from bottom to top, by its links and its length
 abbrev pub list_back : Nodes → ℕ → List ℕ

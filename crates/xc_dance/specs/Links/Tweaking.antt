@@ -1,8 +1,8 @@
 -- Tweak on the node table.
 use Rattle.std.specs.Prelude.{Bool, false, ℕ, ◌+◌, ◌<◌, ◌≡◌, List, length, slice_index, if◌then◌else◌, ◌^◌, reverse}
 use Rattle.xc_dance.specs.declared.links.nodes.Nodes.{Nodes}
-use Rattle.xc_dance.specs.declared.links.nodes.Span.{Span}
-use Rattle.xc_dance.specs.Links.Steps.{HasSize, NamesPlaces, unlinked, relinked, hide_costs, CanHideAll, CanShowAll, show_costs, others_of, hidden_node, shown_node}
+use Rattle.xc_dance.specs.Links.Span.{Span}
+use Rattle.xc_dance.specs.Links.Steps.{HasSize, NamesPlaces, unlinked, relinked, hide_costs, CanHideNode, CanShowNode, show_costs, others_of, hidden_node, shown_node}
 
 -- where item i isn't covered, the option of node x is hidden first
 abbrev pub hidden_unless : List Span → Bool → Nodes → ℕ → Nodes
@@ -28,7 +28,7 @@ untweak_cost spans covered t x = 3 + (if covered then 0 else show_costs (relinke
 -- it may, node x being the first
 pub record CanTweakAt (spans : List Span) (covered : Bool) (t : Nodes) (i x : ℕ) : Type 0 where
   pub place : i < length t.dlink
-  pub hide : covered ≡ false → (x < length spans) × CanHideAll t (others_of spans x)
+  pub hide : covered ≡ false → (x < length spans) × CanHideNode spans t x
   pub size : HasSize (hidden_unless spans covered t x) (length (hidden_unless spans covered t x).top)
   pub names : NamesPlaces (hidden_unless spans covered t x) x
   pub some : 0 < slice_index (hidden_unless spans covered t x).top (slice_index (hidden_unless spans covered t x).top x)
@@ -40,4 +40,4 @@ pub record CanUntweak (spans : List Span) (covered : Bool) (t : Nodes) (x : ℕ)
   pub size : HasSize t (length t.top)
   pub names : NamesPlaces t x
   pub few : slice_index t.top (slice_index t.top x) < 2 ^ 31
-  pub show : covered ≡ false → (x < length spans) × CanShowAll (relinked t x) (reverse (others_of spans x))
+  pub show : covered ≡ false → (x < length spans) × CanShowNode spans (relinked t x) x

@@ -1,8 +1,8 @@
 -- Many Tweaks undone at once, downwards.
 use Rattle.std.specs.Prelude.{Bool, false, ℕ, ◌+◌, ◌<◌, ◌≡◌, List, [], ◌∷◌, length, slice_index, slice_set, if◌then◌else◌, fold, ◌^◌, reverse}
 use Rattle.xc_dance.specs.declared.links.nodes.Nodes.{Nodes}
-use Rattle.xc_dance.specs.declared.links.nodes.Span.{Span}
-use Rattle.xc_dance.specs.Links.Steps.{CanShowAll, show_costs, others_of, followed}
+use Rattle.xc_dance.specs.Links.Span.{Span}
+use Rattle.xc_dance.specs.Links.Steps.{CanShowNode, show_costs, others_of, followed}
 use Rattle.xc_dance.specs.Links.Tweaking.{shown_unless}
 
 abbrev pub with_ulink : Nodes → ℕ → ℕ → Nodes
@@ -22,7 +22,7 @@ abbrev pub climb_cost : List Span → Bool → Nodes → ℕ → ℕ
 climb_cost spans covered t p = 1 + (if covered then 0 else show_costs t (reverse (others_of spans p)))
 
 pub record CanClimb (spans : List Span) (covered : Bool) (t : Nodes) (p : ℕ) : Type 0 where
-  pub show : covered ≡ false → (p < length spans) × CanShowAll t (reverse (others_of spans p))
+  pub show : covered ≡ false → (p < length spans) × CanShowNode spans t p
   pub place : p < length (shown_unless spans covered t p).dlink
   pub below : slice_index (shown_unless spans covered t p).dlink p < length (shown_unless spans covered t p).ulink
 

@@ -1,9 +1,9 @@
 -- Where no node of an option is marked.
 use Rattle.std.specs.Prelude.{ℕ, ◌+◌, ◌<◌, ◌≤◌, ◌≡◌, ◌≢◌, List, length, slice_index}
-use Rattle.std.proofs.Common.{get_or}
 use Rattle.std.specs.List.{AllByRecursion}
 use Rattle.xc_input.specs.Problem.{Puzzle, uses_of}
-use Rattle.xc_dance.specs.declared.links.nodes.Span.{Span}
+use Rattle.xc_dance.specs.Links.Span.{Span}
+use Rattle.xc_dance.specs.Links.Steps.{span_at}
 
 -- no use has a colour
 abbrev pub IsPlain : Puzzle → Type 0
@@ -19,4 +19,4 @@ HasUnmarked color s x = AreUnmarked color (x + 1) s.end × AreUnmarked color s.f
 
 -- whichever node x is
 abbrev pub IsUnmarked : List Span → List ℕ → Type 0
-IsUnmarked spans color = (x : ℕ) → x < length spans → HasUnmarked color (get_or spans x (record { first = 0; end = 0 })) x
+IsUnmarked spans color = (x : ℕ) → x < length spans → HasUnmarked color (span_at spans x) x

@@ -7,30 +7,27 @@ ghost use Rattle.xc_dance.specs.Links.Cells.{fixed_up, fixed_down, nodes_from, n
 ghost use Rattle.xc_dance.specs.Links.OptionPlaces.{place_at};
 ghost use Rattle.xc_dance.specs.Links.FirstNodes.{laid_to, blanks};
 
-use crate::links::nodes::{Nodes, Row};
+use crate::links::nodes::{Nodes, Row, SPACER};
+use crate::links::options::node_count;
 use crate::links::writes::Writes;
 use std::alloc::{AllocError, Global};
 use xc_input::Problem;
 
-/// The number that a spacer's TOP is kept behind.
-const SPACER: u32 = 0x8000_0000;
-
-/// The node table before any move, of so many nodes.
+/// The node table before any move.
 pub(crate) fn first_nodes(
     alloc: Global,
     problem: &Problem,
-    count: usize,
     writes: &mut Writes,
 ) -> Result<Nodes, AllocError>
     requires limits { IsWithinLimits problem.now.puzzle }
     requires fit { IsFit problem.now.puzzle }
-    requires count { count ≡ length (layout problem.now.puzzle) }
     ensures { IfOk result (λ t. t ≡ nodes_after problem.now.puzzle []) }
 {
-    let mut nodes = Nodes::new(alloc, count)?;
+    let count = node_count(problem);
+    let mut nodes = Nodes::new(alloc, count as usize)?;
     lay_items(&mut nodes, problem, writes);
     lay_options(&mut nodes, problem, writes);
-    link_uses(&mut nodes, problem, count as u32, writes);
+    link_uses(&mut nodes, problem, count, writes);
     Ok(nodes)
 }
 

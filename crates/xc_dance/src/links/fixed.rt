@@ -1,17 +1,14 @@
 //! What no move changes: the counts of the items, and where the nodes of the options stand.
-ghost use Rattle.std.specs.Prelude.{◌≡◌, false, ◌-◌, ◌<◌, ◌≤◌, ◌↔◌, length, slice_index, IsTrue, IfOk};
+ghost use Rattle.std.specs.Prelude.{◌≡◌, false, ◌-◌, ◌≤◌, ◌↔◌, IsTrue, IfOk};
 ghost use Rattle.xc_input.specs.Problem.{IsValid, IsWithinLimits, IsItem, IsPrimary, IsSecondary, item_count, option_count};
-ghost use Rattle.xc_dance.specs.Fields.{layout};
 ghost use Rattle.xc_dance.specs.Links.Laid.{IsFit};
 ghost use Rattle.xc_dance.specs.Links.OptionPlaces.{start_at};
 ghost use Rattle.xc_dance.specs.Links.OptionSpans.{spans_of};
-ghost use Rattle.xc_dance.specs.Links.NodeOptions.{options_of};
 ghost use Rattle.xc_dance.specs.Links.Unmarked.{IsPlain};
 
 use crate::links::known::Known;
-use crate::links::nodes::Span;
-use crate::links::options::{node_count, node_options, option_starts};
-use crate::links::spans::option_spans;
+use crate::links::options::option_starts;
+use crate::links::spans::Spans;
 use std::alloc::{AllocError, Global};
 use std::marker::Model;
 use xc_input::Problem;
@@ -20,14 +17,11 @@ use xc_input::Problem;
 #[derive(Drop)]
 pub(crate) struct Fixed {
     known: Known,
+    spans: Spans,
     items: u32,
     primary: u32,
     /// Whether a use may have a colour.
     coloured: bool,
-    /// Where the option of each node stands.
-    spans: Vec<Span>,
-    /// The option of each node.
-    options: Vec<u32>,
     /// Where the nodes of each option start.
     starts: Vec<u32>,
 }
@@ -37,7 +31,6 @@ impl Model for Fixed {
     ghost use Rattle.xc_input.specs.Problem.{Puzzle, item_count, primary_count};
     ghost use Rattle.xc_dance.specs.Links.OptionPlaces.{starts_of};
     ghost use Rattle.xc_dance.specs.Links.OptionSpans.{spans_of};
-    ghost use Rattle.xc_dance.specs.Links.NodeOptions.{options_of};
     ghost use Rattle.xc_dance.specs.Links.Unmarked.{IsPlain};
 
     ghost Value = { Puzzle };
@@ -45,11 +38,10 @@ impl Model for Fixed {
     ghost view = { λ a. a.known.puzzle };
 
     ghost invariant = { λ a. record {
+      spans : a.spans ≡ spans_of a.known.puzzle;
       items : a.items ≡ item_count a.known.puzzle;
       primary : a.primary ≡ primary_count a.known.puzzle;
       coloured : a.coloured ≡ false → IsPlain a.known.puzzle;
-      spans : a.spans.items ≡ spans_of a.known.puzzle;
-      options : a.options.items ≡ options_of a.known.puzzle;
       starts : a.starts.items ≡ starts_of a.known.puzzle;
     } };
 }
@@ -62,17 +54,13 @@ impl Fixed {
         ensures fit { IfOk result (λ _. IsFit problem.now.puzzle) }
     {
         let items = problem.items();
-        let count = node_count(problem);
-        let spans = option_spans(alloc, problem, count)?;
-        let options = node_options(alloc, problem, count)?;
         let starts = option_starts(alloc, problem)?;
         Ok(Fixed {
             known: Known::of(problem),
+            spans: Spans::of(problem),
             items,
             primary: problem.primary(),
             coloured: problem.colours() > 0,
-            spans,
-            options,
             starts,
         })
     }
@@ -114,28 +102,12 @@ impl Fixed {
         self.coloured
     }
 
-    /// How many nodes there are.
-    pub(crate) fn nodes(&self) -> usize
-        ensures { result ≡ length (layout self.now) }
-    {
-        self.spans.len()
-    }
-
     /// Where the option of each node stands; an empty span for what is no use.
     #[inline(always)]
-    pub(crate) fn spans(&self) -> &[Span]
+    pub(crate) fn spans(&self) -> &Spans
         ensures { result.now ≡ spans_of self.now }
     {
-        self.spans.as_slice()
-    }
-
-    /// The option of the node at a place; 0 for what is no use.
-    #[inline(always)]
-    pub(crate) fn option(&self, place: u32) -> u32
-        requires { place < length (layout self.now) }
-        ensures { result ≡ slice_index (options_of self.now) place }
-    {
-        self.options[place as usize]
+        &self.spans
     }
 
     /// Where the nodes of an option start.

@@ -5,6 +5,7 @@ use crate::links::cells::{
     Cell, Link, down, get, read, read_down, read_up, same_cells, same_links, set, set_down, set_up,
     up, zero_links, zeros,
 };
+use crate::links::spans::Spans;
 use crate::links::steps::{relink, unlink};
 use crate::links::tweaks::{climb, hide_unless, show_unless};
 use crate::links::walks::{hide_list, unhide_list};
@@ -15,12 +16,8 @@ use std::marker::Model;
 /// The colour of a marked node.
 pub(crate) const MARK: u32 = 0xffff_ffff;
 
-/// Where the option of a node stands: from `first` to below `end`.
-#[derive(Clone, Copy, Drop)]
-pub(crate) struct Span {
-    pub(crate) first: u32,
-    pub(crate) end: u32,
-}
+/// The number that a spacer's TOP is kept behind. TOP of every other node is below it.
+pub(crate) const SPACER: u32 = 0x8000_0000;
 
 /// The nodes. Their links lie in pairs, since each step reads both; TOP and COLOR lie apart, since a
 /// walk down a list reads neither. Contracts see four columns.
@@ -175,7 +172,7 @@ impl Nodes {
     #[inline(always)]
     fn hide_list(
         &mut self,
-        spans: &[Span],
+        spans: &Spans,
         i: u32,
         keep: Option<u32>,
         marks: bool,
@@ -207,7 +204,7 @@ impl Nodes {
     #[inline(always)]
     fn unhide_list(
         &mut self,
-        spans: &[Span],
+        spans: &Spans,
         i: u32,
         keep: Option<u32>,
         marks: bool,
@@ -237,7 +234,7 @@ impl Nodes {
 
     /// Hides all nodes of item i's list.
     #[inline(always)]
-    pub(crate) fn cover(&mut self, spans: &[Span], i: u32, marks: bool, writes: &mut Writes) -> u64
+    pub(crate) fn cover(&mut self, spans: &Spans, i: u32, marks: bool, writes: &mut Writes) -> u64
         requires small { length spans.now < 2 ^ 31 }
         requires ends { All (λ s. s.end < 2 ^ 31) spans.now }
         requires can { CanHideList spans.now None self.old i }
@@ -256,7 +253,7 @@ impl Nodes {
 
     /// The same with the test for marks, out of line: callers stay small.
     #[inline(never)]
-    fn cover_among_marks(&mut self, spans: &[Span], i: u32, writes: &mut Writes) -> u64
+    fn cover_among_marks(&mut self, spans: &Spans, i: u32, writes: &mut Writes) -> u64
         requires small { length spans.now < 2 ^ 31 }
         requires ends { All (λ s. s.end < 2 ^ 31) spans.now }
         requires can { CanHideList spans.now None self.old i }
@@ -270,13 +267,7 @@ impl Nodes {
 
     /// Undoes `cover`, from bottom to top.
     #[inline(always)]
-    pub(crate) fn uncover(
-        &mut self,
-        spans: &[Span],
-        i: u32,
-        marks: bool,
-        writes: &mut Writes,
-    ) -> u64
+    pub(crate) fn uncover(&mut self, spans: &Spans, i: u32, marks: bool, writes: &mut Writes) -> u64
         requires small { length spans.now < 2 ^ 31 }
         requires ends { All (λ s. s.end < 2 ^ 31) spans.now }
         requires can { CanShowList spans.now None self.old i }
@@ -295,7 +286,7 @@ impl Nodes {
 
     /// The same with the test for marks.
     #[inline(never)]
-    fn uncover_among_marks(&mut self, spans: &[Span], i: u32, writes: &mut Writes) -> u64
+    fn uncover_among_marks(&mut self, spans: &Spans, i: u32, writes: &mut Writes) -> u64
         requires small { length spans.now < 2 ^ 31 }
         requires ends { All (λ s. s.end < 2 ^ 31) spans.now }
         requires can { CanShowList spans.now None self.old i }
@@ -309,7 +300,7 @@ impl Nodes {
 
     /// Purifies item i with the colour c.
     #[inline(never)]
-    pub(crate) fn purify(&mut self, spans: &[Span], i: u32, c: u32, writes: &mut Writes) -> u64
+    pub(crate) fn purify(&mut self, spans: &Spans, i: u32, c: u32, writes: &mut Writes) -> u64
         requires small { length spans.now < 2 ^ 31 }
         requires ends { All (λ s. s.end < 2 ^ 31) spans.now }
         requires can { CanPurify spans.now c self.old i }
@@ -323,7 +314,7 @@ impl Nodes {
 
     /// Undoes `purify`.
     #[inline(never)]
-    pub(crate) fn unpurify(&mut self, spans: &[Span], i: u32, c: u32, writes: &mut Writes) -> u64
+    pub(crate) fn unpurify(&mut self, spans: &Spans, i: u32, c: u32, writes: &mut Writes) -> u64
         requires small { length spans.now < 2 ^ 31 }
         requires ends { All (λ s. s.end < 2 ^ 31) spans.now }
         requires can { CanUnpurify spans.now c self.old i }
@@ -340,7 +331,7 @@ impl Nodes {
     #[inline(never)]
     pub(crate) fn tweak(
         &mut self,
-        spans: &[Span],
+        spans: &Spans,
         covered: bool,
         i: u32,
         marks: bool,
@@ -373,7 +364,7 @@ impl Nodes {
     #[inline(never)]
     pub(crate) fn untweak(
         &mut self,
-        spans: &[Span],
+        spans: &Spans,
         covered: bool,
         x: u32,
         marks: bool,
@@ -405,7 +396,7 @@ impl Nodes {
     #[inline(never)]
     pub(crate) fn untweak_all(
         &mut self,
-        spans: &[Span],
+        spans: &Spans,
         covered: bool,
         i: u32,
         x: u32,

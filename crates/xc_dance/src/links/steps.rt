@@ -1,12 +1,13 @@
 //! Steps over the nodes of one option: hide and unhide. The walks take the tables as slices, so that their bases stay in
 //! registers: behind a vector each would be loaded anew after every write.
-ghost use Rattle.std.specs.Prelude.{◌≡◌, ◌≢◌, false, ℕ, ◌+◌, ◌-◌, ◌*◌, ◌<◌, ◌≤◌, ◌^◌, length, slice_index, fold, reverse};
+ghost use Rattle.std.specs.Prelude.{◌≡◌, ◌≢◌, false, ℕ, ◌+◌, ◌-◌, ◌*◌, ◌<◌, ◌≤◌, ◌^◌, length, slice_index, fold, reverse, All};
 ghost use Rattle.xc_dance.specs.Links.Columns.{values, columns};
-ghost use Rattle.xc_dance.specs.Links.Steps.{HasSize, NamesPlaces, unlinked, relinked, hidden, hide_cost, hide_costs, CanHide, CanHideAll, places, others, shown, CanShow, CanShowAll, show_costs};
-ghost use Rattle.xc_dance.specs.Links.Unmarked.{AreUnmarked};
+ghost use Rattle.xc_dance.specs.Links.Steps.{HasSize, NamesPlaces, unlinked, relinked, hidden, hide_cost, hide_costs, CanHide, CanHideAll, places, shown, CanShow, CanShowAll, show_costs, span_at, others_of, hidden_node, shown_node, CanHideNode, CanShowNode};
+ghost use Rattle.xc_dance.specs.Links.Unmarked.{AreUnmarked, HasUnmarked};
 
 use crate::links::cells::{Cell, Link, down, get, set, set_down, set_up, up};
-use crate::links::nodes::MARK;
+use crate::links::nodes::{MARK, SPACER};
+use crate::links::spans::Spans;
 use crate::links::writes::Writes;
 
 /// Takes node q out of its list.
@@ -107,28 +108,35 @@ fn hide_range(
     count
 }
 
-/// Hides the other nodes of the option of node p, which stands from `first` to below `end`.
+/// Hides the other nodes of the option of node p: from behind p to the spacer, which leads to the option's first node, and from there
+/// to before p.
 #[inline(always)]
 pub(crate) fn hide(
     top: &mut [Cell],
     links: &mut [Link],
     color: &[Cell],
+    spans: &Spans,
     p: u32,
-    first: u32,
-    end: u32,
     marks: bool,
     writes: &mut Writes,
 ) -> u64
-    requires near { p < 2 ^ 31 }
-    requires can { CanHideAll (columns top.old links.old color.now) (others p first end) }
-    requires above { marks ≡ false → AreUnmarked (values color.now) (p + 1) end }
-    requires below { marks ≡ false → AreUnmarked (values color.now) first p }
-    ensures done { columns top.new links.new color.now ≡ fold hidden (columns top.old links.old color.now) (others p first end) }
-    ensures cost { result ≡ hide_costs (columns top.old links.old color.now) (others p first end) }
-    ensures few { result ≤ 3 * (end + p) }
+    requires small { length spans.now < 2 ^ 31 }
+    requires ends { All (λ s. s.end < 2 ^ 31) spans.now }
+    requires span { p < length spans.now }
+    requires can { CanHideNode spans.now (columns top.old links.old color.now) p }
+    requires unmarked { marks ≡ false → HasUnmarked (values color.now) (span_at spans.now p) p }
+    ensures done { columns top.new links.new color.now ≡ hidden_node spans.now (columns top.old links.old color.now) p }
+    ensures cost { result ≡ hide_costs (columns top.old links.old color.now) (others_of spans.now p) }
+    ensures few { result ≤ 3 * 2 ^ 32 }
     ensures counted { writes.new.count ≡ writes.old.count + result }
 {
-    let above = hide_range(top, links, color, p as usize + 1, end, marks, writes);
+    let mut above = 0u64;
+    let mut q = p + 1;
+    while get(top, q) < SPACER {
+        above += hide_one(top, links, color, q, marks, writes);
+        q += 1;
+    }
+    let first = up(links, q);
     let below = hide_range(top, links, color, first as usize, p, marks, writes);
     above + below
 }
@@ -182,28 +190,34 @@ fn show_range(
     count
 }
 
-/// Puts back what `hide` took out, from the last back.
+/// Puts back what `hide` took out, from the last back: the spacer before the option leads to its last node.
 #[inline(always)]
 pub(crate) fn unhide(
     top: &mut [Cell],
     links: &mut [Link],
     color: &[Cell],
+    spans: &Spans,
     p: u32,
-    first: u32,
-    end: u32,
     marks: bool,
     writes: &mut Writes,
 ) -> u64
-    requires near { p < 2 ^ 31 }
-    requires can { CanShowAll (columns top.old links.old color.now) (reverse (others p first end)) }
-    requires above { marks ≡ false → AreUnmarked (values color.now) (p + 1) end }
-    requires below { marks ≡ false → AreUnmarked (values color.now) first p }
-    ensures done { columns top.new links.new color.now ≡ fold shown (columns top.old links.old color.now) (reverse (others p first end)) }
-    ensures cost { result ≡ show_costs (columns top.old links.old color.now) (reverse (others p first end)) }
-    ensures few { result ≤ 3 * (end + p) }
+    requires small { length spans.now < 2 ^ 31 }
+    requires ends { All (λ s. s.end < 2 ^ 31) spans.now }
+    requires span { p < length spans.now }
+    requires can { CanShowNode spans.now (columns top.old links.old color.now) p }
+    requires unmarked { marks ≡ false → HasUnmarked (values color.now) (span_at spans.now p) p }
+    ensures done { columns top.new links.new color.now ≡ shown_node spans.now (columns top.old links.old color.now) p }
+    ensures cost { result ≡ show_costs (columns top.old links.old color.now) (reverse (others_of spans.now p)) }
+    ensures few { result ≤ 3 * 2 ^ 32 }
     ensures counted { writes.new.count ≡ writes.old.count + result }
 {
-    let below = show_range(top, links, color, first as usize, p, marks, writes);
+    let mut below = 0u64;
+    let mut q = p - 1;
+    while get(top, q) < SPACER {
+        below += show_one(top, links, color, q, marks, writes);
+        q -= 1;
+    }
+    let end = down(links, q) + 1;
     let above = show_range(top, links, color, p as usize + 1, end, marks, writes);
     below + above
 }

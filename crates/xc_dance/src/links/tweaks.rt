@@ -1,13 +1,13 @@
 //! Tweaks: the option of a first node is hidden and comes back, alone or with those that were tweaked off behind it.
 ghost use Rattle.std.specs.Prelude.{◌≡◌, ℕ, ◌+◌, ◌*◌, ◌<◌, ◌≤◌, ◌^◌, length, fold, reverse, All, false, if◌then◌else◌};
 ghost use Rattle.xc_dance.specs.Links.Columns.{values, columns};
-ghost use Rattle.xc_dance.specs.Links.Steps.{hide_costs, CanHideAll, CanShowAll, show_costs, others_of, followed};
+ghost use Rattle.xc_dance.specs.Links.Steps.{hide_costs, CanHideNode, CanShowNode, show_costs, others_of, followed};
 ghost use Rattle.xc_dance.specs.Links.Tweaking.{hidden_unless, shown_unless};
 ghost use Rattle.xc_dance.specs.Links.TweaksBack.{climbed, climb_cost, CanClimb, IsClimb, climb_costs};
 ghost use Rattle.xc_dance.specs.Links.Unmarked.{IsUnmarked};
 
 use crate::links::cells::{Cell, Link, down, set_up};
-use crate::links::nodes::Span;
+use crate::links::spans::Spans;
 use crate::links::steps::{hide, unhide};
 use crate::links::writes::Writes;
 
@@ -17,7 +17,7 @@ pub(crate) fn hide_unless(
     top: &mut [Cell],
     links: &mut [Link],
     color: &[Cell],
-    spans: &[Span],
+    spans: &Spans,
     covered: bool,
     x: u32,
     marks: bool,
@@ -25,7 +25,7 @@ pub(crate) fn hide_unless(
 ) -> u64
     requires small { length spans.now < 2 ^ 31 }
     requires ends { All (λ s. s.end < 2 ^ 31) spans.now }
-    requires can { covered ≡ false → (x < length spans.now) × CanHideAll (columns top.old links.old color.now) (others_of spans.now x) }
+    requires can { covered ≡ false → (x < length spans.now) × CanHideNode spans.now (columns top.old links.old color.now) x }
     requires unmarked { marks ≡ false → IsUnmarked spans.now (values color.now) }
     ensures done { columns top.new links.new color.now ≡ hidden_unless spans.now covered (columns top.old links.old color.now) x }
     ensures cost { result ≡ (if covered then 0 else hide_costs (columns top.old links.old color.now) (others_of spans.now x)) }
@@ -35,11 +35,10 @@ pub(crate) fn hide_unless(
     if covered {
         return 0;
     }
-    let span = spans[x as usize];
     if marks {
-        hide(top, links, color, x, span.first, span.end, true, writes)
+        hide(top, links, color, spans, x, true, writes)
     } else {
-        hide(top, links, color, x, span.first, span.end, false, writes)
+        hide(top, links, color, spans, x, false, writes)
     }
 }
 
@@ -49,7 +48,7 @@ pub(crate) fn show_unless(
     top: &mut [Cell],
     links: &mut [Link],
     color: &[Cell],
-    spans: &[Span],
+    spans: &Spans,
     covered: bool,
     x: u32,
     marks: bool,
@@ -57,7 +56,7 @@ pub(crate) fn show_unless(
 ) -> u64
     requires small { length spans.now < 2 ^ 31 }
     requires ends { All (λ s. s.end < 2 ^ 31) spans.now }
-    requires can { covered ≡ false → (x < length spans.now) × CanShowAll (columns top.old links.old color.now) (reverse (others_of spans.now x)) }
+    requires can { covered ≡ false → (x < length spans.now) × CanShowNode spans.now (columns top.old links.old color.now) x }
     requires unmarked { marks ≡ false → IsUnmarked spans.now (values color.now) }
     ensures done { columns top.new links.new color.now ≡ shown_unless spans.now covered (columns top.old links.old color.now) x }
     ensures cost { result ≡ (if covered then 0 else show_costs (columns top.old links.old color.now) (reverse (others_of spans.now x))) }
@@ -67,11 +66,10 @@ pub(crate) fn show_unless(
     if covered {
         return 0;
     }
-    let span = spans[x as usize];
     if marks {
-        unhide(top, links, color, x, span.first, span.end, true, writes)
+        unhide(top, links, color, spans, x, true, writes)
     } else {
-        unhide(top, links, color, x, span.first, span.end, false, writes)
+        unhide(top, links, color, spans, x, false, writes)
     }
 }
 
@@ -82,7 +80,7 @@ fn climb_one(
     top: &mut [Cell],
     links: &mut [Link],
     color: &[Cell],
-    spans: &[Span],
+    spans: &Spans,
     covered: bool,
     p: u32,
     marks: bool,
@@ -109,7 +107,7 @@ pub(crate) fn climb(
     top: &mut [Cell],
     links: &mut [Link],
     color: &[Cell],
-    spans: &[Span],
+    spans: &Spans,
     covered: bool,
     x: u32,
     k: u32,

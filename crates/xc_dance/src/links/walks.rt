@@ -7,7 +7,8 @@ ghost use Rattle.xc_dance.specs.Links.ListWalks.{is_kept_colour, left_node, leav
 ghost use Rattle.xc_dance.specs.Links.Unmarked.{IsUnmarked};
 
 use crate::links::cells::{Cell, Link, down, get, set, up};
-use crate::links::nodes::{MARK, Span};
+use crate::links::nodes::MARK;
+use crate::links::spans::Spans;
 use crate::links::steps::{hide, unhide};
 use crate::links::writes::Writes;
 
@@ -29,7 +30,7 @@ fn leave(
     top: &mut [Cell],
     links: &mut [Link],
     color: &mut [Cell],
-    spans: &[Span],
+    spans: &Spans,
     p: u32,
     keep: Option<u32>,
     marks: bool,
@@ -48,8 +49,7 @@ fn leave(
         set(color, p, MARK, writes);
         return 1;
     }
-    let span = spans[p as usize];
-    hide(top, links, color, p, span.first, span.end, marks, writes)
+    hide(top, links, color, spans, p, marks, writes)
 }
 
 /// A step up a list at node p: a marked node gets the colour kept back, the option of any other one is put back.
@@ -58,7 +58,7 @@ fn come_back(
     top: &mut [Cell],
     links: &mut [Link],
     color: &mut [Cell],
-    spans: &[Span],
+    spans: &Spans,
     p: u32,
     keep: Option<u32>,
     marks: bool,
@@ -79,8 +79,7 @@ fn come_back(
             return 1;
         }
     }
-    let span = spans[p as usize];
-    unhide(top, links, color, p, span.first, span.end, marks, writes)
+    unhide(top, links, color, spans, p, marks, writes)
 }
 
 /// Goes down the list of item i: its nodes of the colour kept are marked, the others are hidden.
@@ -89,7 +88,7 @@ pub(crate) fn hide_list(
     top: &mut [Cell],
     links: &mut [Link],
     color: &mut [Cell],
-    spans: &[Span],
+    spans: &Spans,
     i: u32,
     keep: Option<u32>,
     marks: bool,
@@ -120,7 +119,7 @@ pub(crate) fn unhide_list(
     top: &mut [Cell],
     links: &mut [Link],
     color: &mut [Cell],
-    spans: &[Span],
+    spans: &Spans,
     i: u32,
     keep: Option<u32>,
     marks: bool,

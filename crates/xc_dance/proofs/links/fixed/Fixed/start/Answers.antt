@@ -1,14 +1,13 @@
 use Rattle.std.proofs.Common.{arith, ◌-◌, ◌<◌, ap, ◌∙◌, length, get_or}
-use Rattle.std.proofs.lemmas.List.FromFn.{get_or-map-range_with_len}
+use Rattle.std.proofs.lemmas.List.FromFn.{get_or-map-range_with_len, length-map-range_with_len}
 use Rattle.xc_input.specs.Problem.{Puzzle, option_count}
 use Rattle.xc_dance.specs.Links.OptionPlaces.{start_at}
-use Rattle.xc_dance.proofs.LinkedTables.FilledOptions.{length-starts}
 use Rattle.xc_dance.proofs.links.fixed.Fixed.start.Goals as goal
 
 pub index-requires : goal.index-requires
 index-requires c =
     let p = c.self.inside.known.puzzle in
-    let long = ap length c.self.invariant.starts ∙ length-starts p in
+    let long = ap length c.self.invariant.starts ∙ length-map-range_with_len (start_at p) 0 (option_count p) in
     let count = ap (λ (v : Puzzle). option_count v) c.self.view_is in
     let first = c.requires.0 in
     let last = c.requires.1 in

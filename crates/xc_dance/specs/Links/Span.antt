@@ -1,0 +1,7 @@
+-- Where the nodes of an option stand.
+use Rattle.std.specs.Prelude.{ℕ}
+
+-- from first to below end
+pub record Span : Type 0 where
+  pub first : ℕ
+  pub end : ℕ
