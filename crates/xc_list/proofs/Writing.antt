@@ -1,6 +1,7 @@
 -- What a sink has taken, text after text.
-use Rattle.std.proofs.Common.{◌≡◌, ℕ, ◌+◌, ◌<◌, ◌≤◌, List, [], ◌∷◌, ◌++◌, Option, Result, Ok, Err, length, take, drop, get_or, sym, ap, ◌∙◌, append-nil, append_assoc, arith, subst, zero, suc, inl, inr}
-use Rattle.std.specs.Prelude.{flat_map, IsErr, codes, ◌==◌}
+use Rattle.std.proofs.Common.{◌≡◌, ℕ, ◌+◌, ◌/◌, ◌%◌, ◌^◌, ◌<◌, ◌≤◌, List, [], ◌∷◌, ◌++◌, Option, Result, Ok, Err, length, take, drop, get_or, sym, ap, ◌∙◌, append-nil, append_assoc, arith, subst, zero, suc, inl, inr}
+use Rattle.std.specs.Prelude.{flat_map, IsErr, codes, decimal, ◌==◌}
+use Rattle.std.proofs.lemmas.Fmt.{decimal_digit, decimal_step}
 use Rattle.xc_list.specs.Output.{colour_text, bytes_at, from_item}
 use Rattle.std.proofs.lemmas.Grind.{common_steps}
 use Rattle.std.proofs.lemmas.Bool.Decides.{nat_tests}
@@ -88,3 +89,9 @@ was_told old new (Err e) text w = inr w
 -- five texts behind a first are one behind it
 pub five_apart : (first a b c d e : List ℕ) → first ++ a ++ b ++ c ++ d ++ e ≡ first ++ (a ++ b ++ c ++ d ++ e)
 five_apart first a b c d e = simp append_assoc
+
+pub decimal_two : (n : ℕ) → (10 ≤ n) × (n < 100) → decimal n ≡ (48 + n / 10) ∷ (48 + n % 10) ∷ []
+decimal_two n h =
+    let small : n < 2 ^ 64 = omega (arith, h.1) in
+    let tens : n / 10 < 10 = omega (arith, h.1) in
+    decimal_step n h.0 small ∙ ap (λ ds. ds ++ (48 + n % 10) ∷ []) (decimal_digit (n / 10) tens)

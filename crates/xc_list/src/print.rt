@@ -1,5 +1,5 @@
 //! Solutions as text.
-ghost use Rattle.std.specs.Prelude.{◌≡◌, ◌<◌, ◌++◌, All, flat_map, OnErr, IsTrue, codes, decimal};
+ghost use Rattle.std.specs.Prelude.{◌≡◌, ◌<◌, ◌≤◌, ◌++◌, All, flat_map, OnErr, IsTrue, codes, decimal};
 ghost use Rattle.xc_list.specs.Texts.{Writes};
 ghost use Rattle.xc_input.specs.Problem.{IsItem};
 ghost use Rattle.xc_list.specs.Output.{bytes_at, body_text, choice_text, member_text};
@@ -37,8 +37,9 @@ fn write_body<S: Sink>(bodies: &Bodies, choice: &Choice, sink: &mut S) -> Result
     }
 }
 
-/// The branch and the number of branches of a choice where each has one digit, to the end of the line.
-fn short_branch(k: u8, n: u8) -> [u8; 10]
+/// The end of a line: branch and number of branches, of one digit each.
+#[inline(always)]
+fn digit_of_digit(k: u8, n: u8) -> [u8; 10]
     requires { (k < 10) × (n < 10) }
     ensures { result ≡ codes " (" ++ decimal k ++ codes " of " ++ decimal n ++ codes ")\n" }
 {
@@ -56,9 +57,51 @@ fn short_branch(k: u8, n: u8) -> [u8; 10]
     ]
 }
 
-/// Writes the branch and the number of branches of a choice piece by piece, to the end of the line.
-#[inline(never)]
-fn write_long_branch<S: Sink>(k: u32, n: u32, sink: &mut S) -> Result<(), SinkFault>
+/// The end of a line where the branch has one digit and the number of branches two.
+fn digit_of_two_digits(k: u8, n: u8) -> [u8; 11]
+    requires branch { k < 10 }
+    requires branches { (10 ≤ n) × (n < 100) }
+    ensures { result ≡ codes " (" ++ decimal k ++ codes " of " ++ decimal n ++ codes ")\n" }
+{
+    [
+        b' ',
+        b'(',
+        b'0' + k,
+        b' ',
+        b'o',
+        b'f',
+        b' ',
+        b'0' + n / 10,
+        b'0' + n % 10,
+        b')',
+        b'\n',
+    ]
+}
+
+/// The end of a line where both have two digits.
+fn two_digits_of_two_digits(k: u8, n: u8) -> [u8; 12]
+    requires branch { (10 ≤ k) × (k < 100) }
+    requires branches { (10 ≤ n) × (n < 100) }
+    ensures { result ≡ codes " (" ++ decimal k ++ codes " of " ++ decimal n ++ codes ")\n" }
+{
+    [
+        b' ',
+        b'(',
+        b'0' + k / 10,
+        b'0' + k % 10,
+        b' ',
+        b'o',
+        b'f',
+        b' ',
+        b'0' + n / 10,
+        b'0' + n % 10,
+        b')',
+        b'\n',
+    ]
+}
+
+/// Writes branch and number of branches piece by piece, to the end of the line.
+fn write_branch_in_pieces<S: Sink>(k: u32, n: u32, sink: &mut S) -> Result<(), SinkFault>
     ensures text { Writes (S.failures sink.old, S.taken sink.old)
         (S.failures sink.new, S.taken sink.new)
         result (codes " (" ++ decimal k ++ codes " of " ++ decimal n ++ codes ")\n") }
@@ -69,7 +112,26 @@ fn write_long_branch<S: Sink>(k: u32, n: u32, sink: &mut S) -> Result<(), SinkFa
     write_all(sink, b")\n")
 }
 
-/// Writes the branch and the number of branches of a choice, to the end of the line.
+/// Writes branch and number of branches where these are some more, to the end of the line.
+#[inline(never)]
+fn write_long_branch<S: Sink>(k: u32, n: u32, sink: &mut S) -> Result<(), SinkFault>
+    ensures text { Writes (S.failures sink.old, S.taken sink.old)
+        (S.failures sink.new, S.taken sink.new)
+        result (codes " (" ++ decimal k ++ codes " of " ++ decimal n ++ codes ")\n") }
+    ensures stops { OnErr result (IsTrue (S.failed sink.new)) }
+{
+    if 10 <= n && n < 100 {
+        if k < 10 {
+            return write_all(sink, &digit_of_two_digits(k as u8, n as u8));
+        }
+        if k < 100 {
+            return write_all(sink, &two_digits_of_two_digits(k as u8, n as u8));
+        }
+    }
+    write_branch_in_pieces(k, n, sink)
+}
+
+/// Writes branch and number of branches, to the end of the line.
 #[inline(always)]
 fn write_branch<S: Sink>(k: u32, n: u32, sink: &mut S) -> Result<(), SinkFault>
     ensures text { Writes (S.failures sink.old, S.taken sink.old)
@@ -78,7 +140,7 @@ fn write_branch<S: Sink>(k: u32, n: u32, sink: &mut S) -> Result<(), SinkFault>
     ensures stops { OnErr result (IsTrue (S.failed sink.new)) }
 {
     if k < 10 && n < 10 {
-        return write_all(sink, &short_branch(k as u8, n as u8));
+        return write_all(sink, &digit_of_digit(k as u8, n as u8));
     }
     write_long_branch(k, n, sink)
 }
