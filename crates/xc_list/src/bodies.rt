@@ -53,7 +53,8 @@ fn place_in_text(problem: &Problem, uses: &[Use], item: u32) -> usize
     place
 }
 
-/// How long the texts of all options are.
+/// How long the texts of all options are. Nothing rests on it but the room that is taken for them: in
+/// too small a room they are not laid out.
 fn total_length(problem: &Problem) -> usize {
     let mut total = 0usize;
     for o in 0..problem.options() {

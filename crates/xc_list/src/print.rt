@@ -106,7 +106,7 @@ fn write_branch_in_pieces<S: Sink>(k: u32, n: u32, sink: &mut S) -> Result<(), S
     write_all(sink, b")\n")
 }
 
-/// Writes branch and number of branches where these are some more, to the end of the line.
+/// Writes branch and number of branches where one has some digits, to the end of the line.
 #[inline(never)]
 fn write_long_branch<S: Sink>(k: u32, n: u32, sink: &mut S) -> Result<(), SinkFault>
     ensures text { Writes (S.failures sink.old, S.taken sink.old)
@@ -150,8 +150,6 @@ fn write_choice<S: Sink>(bodies: &Bodies, choice: &Choice, sink: &mut S) -> Resu
     write_branch(choice.k, choice.n, sink)
 }
 
-/// Writes a line for each choice. It stands alone, so that its loop has the registers to itself.
-#[inline(never)]
 fn write_choices<S: Sink>(
     bodies: &Bodies,
     choices: &[Choice],
