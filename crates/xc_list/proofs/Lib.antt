@@ -10,6 +10,7 @@ pub mod HoldLemmas
 pub mod JudgeLemmas
 pub mod KindLemmas
 pub mod KnownMembers
+pub mod LaidLemmas
 pub mod LineLemmas
 pub mod Lookups
 pub mod NameLemmas

@@ -1,6 +1,7 @@
 -- What a sink has taken, text after text.
-use Rattle.std.proofs.Common.{◌≡◌, ℕ, ◌+◌, ◌<◌, ◌≤◌, List, [], ◌∷◌, ◌++◌, Option, Result, Ok, Err, length, take, drop, get_or, sym, ap, ◌∙◌, append-nil, arith, subst, zero, suc, inl, inr}
-use Rattle.std.specs.Prelude.{flat_map, IsErr, codes, ◌==◌}
+use Rattle.std.proofs.Common.{◌≡◌, ℕ, ◌+◌, ◌/◌, ◌%◌, ◌^◌, ◌<◌, ◌≤◌, List, [], ◌∷◌, ◌++◌, Option, Result, Ok, Err, length, take, drop, get_or, sym, ap, ◌∙◌, append-nil, append_assoc, arith, subst, zero, suc, inl, inr}
+use Rattle.std.specs.Prelude.{flat_map, IsErr, codes, decimal, ◌==◌}
+use Rattle.std.proofs.lemmas.Fmt.{decimal_digit, decimal_step}
 use Rattle.xc_list.specs.Output.{colour_text, bytes_at, from_item}
 use Rattle.std.proofs.lemmas.Grind.{common_steps}
 use Rattle.std.proofs.lemmas.Bool.Decides.{nat_tests}
@@ -34,7 +35,7 @@ flat_map-take-more f xs i d h =
     let more : take (i + 1) xs ≡ take i xs ++ (get_or xs i d ∷ []) = grind (arith, common_steps) in
     ap (flat_map f) more ∙ flat_map-append f (take i xs) (get_or xs i d ∷ []) ∙ ap (λ l. flat_map f (take i xs) ++ l) (append-nil (f (get_or xs i d)))
 
-flat_map-parts : {X : Type 0} (f : X → List ℕ) (xs : List X) (i : ℕ) (d : X) → i < length xs → flat_map f xs ≡ flat_map f (take i xs) ++ f (get_or xs i d) ++ flat_map f (drop (i + 1) xs)
+pub flat_map-parts : {X : Type 0} (f : X → List ℕ) (xs : List X) (i : ℕ) (d : X) → i < length xs → flat_map f xs ≡ flat_map f (take i xs) ++ f (get_or xs i d) ++ flat_map f (drop (i + 1) xs)
 flat_map-parts f xs i d h =
     let all : xs ≡ take (i + 1) xs ++ drop (i + 1) xs = grind (arith, common_steps) in
     ap (flat_map f) all ∙ flat_map-append f (take (i + 1) xs) (drop (i + 1) xs) ∙ ap (λ l. l ++ flat_map f (drop (i + 1) xs)) (flat_map-take-more f xs i d h)
@@ -84,3 +85,13 @@ loop_more f xs i d x y z h p q = subst (Appends x z) (sym (flat_map-take-more f 
 pub was_told : {E : Type 0} (old new : ℕ × Option (List ℕ)) (r : Result (Unit {0}) E) (text : List ℕ) → Writes old new r text → WasTold old new text
 was_told old new (Ok u) text w = inl w
 was_told old new (Err e) text w = inr w
+
+-- five texts behind a first are one behind it
+pub five_apart : (first a b c d e : List ℕ) → first ++ a ++ b ++ c ++ d ++ e ≡ first ++ (a ++ b ++ c ++ d ++ e)
+five_apart first a b c d e = simp append_assoc
+
+pub decimal_two : (n : ℕ) → (10 ≤ n) × (n < 100) → decimal n ≡ (48 + n / 10) ∷ (48 + n % 10) ∷ []
+decimal_two n h =
+    let small : n < 2 ^ 64 = omega (arith, h.1) in
+    let tens : n / 10 < 10 = omega (arith, h.1) in
+    decimal_step n h.0 small ∙ ap (λ ds. ds ++ (48 + n % 10) ∷ []) (decimal_digit (n / 10) tens)

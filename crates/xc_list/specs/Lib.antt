@@ -3,6 +3,7 @@ pub mod Built
 pub mod Judging
 pub mod Kinds
 pub mod Known
+pub mod Laid
 pub mod Listed
 pub mod ListingLines
 pub mod Messages

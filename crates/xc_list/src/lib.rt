@@ -1,6 +1,7 @@
 //! Listings of exact cover problems: words, texts and runs.
 #![tactic(auto)]
 
+mod bodies;
 mod book;
 mod judge;
 mod kinds;
@@ -13,6 +14,7 @@ mod sink;
 mod solution;
 mod tally;
 mod text;
+mod uses;
 mod words;
 
 pub use judge::{ListingFault, Verdict, check};

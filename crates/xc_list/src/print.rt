@@ -1,115 +1,16 @@
 //! Solutions as text.
-ghost use Rattle.std.specs.Prelude.{◌≡◌, ℕ, ◌+◌, ◌-◌, ◌<◌, ◌≤◌, ◌++◌, ◌==◌, true, length, All, flat_map, drop, take, is_some, OnErr, IsTrue, codes, decimal};
-ghost use Rattle.std.specs.List.{position_or_len};
+ghost use Rattle.std.specs.Prelude.{◌≡◌, ◌<◌, ◌≤◌, ◌++◌, All, flat_map, OnErr, IsTrue, codes, decimal};
 ghost use Rattle.xc_list.specs.Texts.{Writes};
-ghost use Rattle.xc_input.specs.Problem.{IsItem, IsPrimary, option_count, uses_of, colour_in};
-ghost use Rattle.xc_input.specs.Named.{IsKnownUse};
-ghost use Rattle.xc_list.specs.Output.{bytes_at, colour_text, use_text, from_item, body_text, choice_text, member_text};
+ghost use Rattle.xc_input.specs.Problem.{IsItem};
+ghost use Rattle.xc_list.specs.Output.{bytes_at, body_text, choice_text, member_text};
 ghost use Rattle.xc_list.specs.Known.{IsKnownChoice};
 
+use crate::bodies::Bodies;
 use crate::sink::Sink;
-use crate::text::{SinkFault, write_all, write_number};
-use xc_input::{Problem, Use};
+use crate::text::{SinkFault, write_all, write_number, write_numbered};
+use crate::uses::write_name;
+use xc_input::Problem;
 use xc_search::Choice;
-
-fn name_of<'a>(problem: &'a Problem, i: u32) -> &'a [u8]
-    requires { IsItem problem.now.puzzle i }
-    ensures { result.now ≡ bytes_at problem.now.names i }
-{
-    problem.item(i).name.as_slice()
-}
-
-fn colour_of<'a>(problem: &'a Problem, c: u32) -> &'a [u8]
-    requires { (1 ≤ c) × (c ≤ length problem.now.colours) }
-    ensures { result.now ≡ bytes_at problem.now.colours c }
-{
-    problem.colour(c)
-}
-
-fn uses_at<'a>(problem: &'a Problem, o: u32) -> &'a [Use]
-    requires { (1 ≤ o) × (o ≤ option_count problem.now.puzzle) }
-    ensures value { result.now ≡ uses_of problem.now.puzzle o }
-    ensures known { All (IsKnownUse problem.now) result.now }
-{
-    problem.option(o)
-}
-
-fn write_name<S: Sink>(problem: &Problem, i: u32, sink: &mut S) -> Result<(), SinkFault>
-    requires { IsItem problem.now.puzzle i }
-    ensures text { Writes (S.failures sink.old, S.taken sink.old)
-        (S.failures sink.new, S.taken sink.new) result (bytes_at problem.now.names i) }
-    ensures stops { OnErr result (IsTrue (S.failed sink.new)) }
-{
-    write_all(sink, name_of(problem, i))
-}
-
-fn write_colour<S: Sink>(problem: &Problem, c: u32, sink: &mut S) -> Result<(), SinkFault>
-    requires { c ≤ length problem.now.colours }
-    ensures text { Writes (S.failures sink.old, S.taken sink.old)
-        (S.failures sink.new, S.taken sink.new) result (colour_text problem.now.colours c) }
-    ensures stops { OnErr result (IsTrue (S.failed sink.new)) }
-{
-    if c == 0 {
-        return Ok(());
-    }
-    write_all(sink, b":")?;
-    write_all(sink, colour_of(problem, c))
-}
-
-fn write_use<S: Sink>(problem: &Problem, u: &Use, sink: &mut S) -> Result<(), SinkFault>
-    requires { IsKnownUse problem.now u.now }
-    ensures text { Writes (S.failures sink.old, S.taken sink.old)
-        (S.failures sink.new, S.taken sink.new) result (use_text problem.now u.now) }
-    ensures stops { OnErr result (IsTrue (S.failed sink.new)) }
-{
-    write_all(sink, b" ")?;
-    write_name(problem, u.item, sink)?;
-    write_colour(problem, u.colour, sink)
-}
-
-fn write_uses<S: Sink>(problem: &Problem, uses: &[Use], sink: &mut S) -> Result<(), SinkFault>
-    requires { All (IsKnownUse problem.now) uses.now }
-    ensures text { Writes (S.failures sink.old, S.taken sink.old)
-        (S.failures sink.new, S.taken sink.new) result (flat_map (use_text problem.now) uses.now) }
-    ensures stops { OnErr result (IsTrue (S.failed sink.new)) }
-{
-    for u in uses {
-        write_use(problem, u, sink)?;
-    }
-    Ok(())
-}
-
-/// The place of an item's use.
-fn place_of(uses: &[Use], item: u32) -> usize
-    ensures place { result ≡ position_or_len (λ u. u.item == item) uses.now }
-    ensures within { result ≤ length uses.now }
-{
-    for (place, u) in uses.iter().enumerate() {
-        if u.item == item {
-            return place;
-        }
-    }
-    uses.len()
-}
-
-/// Writes an option's uses, cyclically from an item's.
-fn write_option<S: Sink>(
-    problem: &Problem,
-    item: u32,
-    o: u32,
-    sink: &mut S,
-) -> Result<(), SinkFault>
-    requires { (1 ≤ o) × (o ≤ option_count problem.now.puzzle) }
-    ensures text { Writes (S.failures sink.old, S.taken sink.old)
-        (S.failures sink.new, S.taken sink.new)
-        result (flat_map (use_text problem.now) (from_item item (uses_of problem.now.puzzle o))) }
-    ensures stops { OnErr result (IsTrue (S.failed sink.new)) }
-{
-    let uses = uses_at(problem, o);
-    let (before, after) = uses.split_at(place_of(uses, item));
-    write_uses(problem, after, sink)?;
-    write_uses(problem, before, sink)
-}
 
 /// Writes that no option is taken.
 fn write_none<S: Sink>(problem: &Problem, item: u32, sink: &mut S) -> Result<(), SinkFault>
@@ -123,48 +24,165 @@ fn write_none<S: Sink>(problem: &Problem, item: u32, sink: &mut S) -> Result<(),
     write_name(problem, item, sink)
 }
 
-fn write_body<S: Sink>(problem: &Problem, choice: &Choice, sink: &mut S) -> Result<(), SinkFault>
-    requires { IsKnownChoice problem.now.puzzle choice.now }
+fn write_body<S: Sink>(bodies: &Bodies, choice: &Choice, sink: &mut S) -> Result<(), SinkFault>
+    requires { IsKnownChoice bodies.now.puzzle choice.now }
     ensures text { Writes (S.failures sink.old, S.taken sink.old)
         (S.failures sink.new, S.taken sink.new)
-        result (body_text problem.now choice.now.item choice.now.option) }
+        result (body_text bodies.now choice.now.item choice.now.option) }
     ensures stops { OnErr result (IsTrue (S.failed sink.new)) }
 {
     match choice.option {
-        Some(o) => write_option(problem, choice.item, o, sink),
-        None => write_none(problem, choice.item, sink),
+        Some(o) => bodies.write_option(choice.item, o, sink),
+        None => write_none(bodies.problem(), choice.item, sink),
     }
 }
 
-fn write_choice<S: Sink>(problem: &Problem, choice: &Choice, sink: &mut S) -> Result<(), SinkFault>
-    requires { IsKnownChoice problem.now.puzzle choice.now }
+/// The end of a line: branch and number of branches, of one digit each. Eight of its bytes are made
+/// at once, so that they can be copied at once.
+#[inline(always)]
+fn digit_of_digit(k: u8, n: u8) -> [u8; 10]
+    requires { (k < 10) × (n < 10) }
+    ensures { result ≡ codes " (" ++ decimal k ++ codes " of " ++ decimal n ++ codes ")\n" }
+{
+    let zeros = u64::from_le_bytes(*b" (0 of 0");
+    let front = zeros + k as u64 * 0x1_0000 + n as u64 * 0x100_0000_0000_0000;
+    let mut text = *b" (0 of 0)\n";
+    text[..8].copy_from_slice(&front.to_le_bytes());
+    text
+}
+
+/// The end of a line where the branch has one digit and the number of branches two.
+fn digit_of_two_digits(k: u8, n: u8) -> [u8; 11]
+    requires branch { k < 10 }
+    requires branches { (10 ≤ n) × (n < 100) }
+    ensures { result ≡ codes " (" ++ decimal k ++ codes " of " ++ decimal n ++ codes ")\n" }
+{
+    [
+        b' ',
+        b'(',
+        b'0' + k,
+        b' ',
+        b'o',
+        b'f',
+        b' ',
+        b'0' + n / 10,
+        b'0' + n % 10,
+        b')',
+        b'\n',
+    ]
+}
+
+/// The end of a line where both have two digits.
+fn two_digits_of_two_digits(k: u8, n: u8) -> [u8; 12]
+    requires branch { (10 ≤ k) × (k < 100) }
+    requires branches { (10 ≤ n) × (n < 100) }
+    ensures { result ≡ codes " (" ++ decimal k ++ codes " of " ++ decimal n ++ codes ")\n" }
+{
+    [
+        b' ',
+        b'(',
+        b'0' + k / 10,
+        b'0' + k % 10,
+        b' ',
+        b'o',
+        b'f',
+        b' ',
+        b'0' + n / 10,
+        b'0' + n % 10,
+        b')',
+        b'\n',
+    ]
+}
+
+/// Writes branch and number of branches piece by piece, to the end of the line.
+fn write_branch_in_pieces<S: Sink>(k: u32, n: u32, sink: &mut S) -> Result<(), SinkFault>
     ensures text { Writes (S.failures sink.old, S.taken sink.old)
-        (S.failures sink.new, S.taken sink.new) result (choice_text problem.now choice.now) }
+        (S.failures sink.new, S.taken sink.new)
+        result (codes " (" ++ decimal k ++ codes " of " ++ decimal n ++ codes ")\n") }
     ensures stops { OnErr result (IsTrue (S.failed sink.new)) }
 {
-    write_body(problem, choice, sink)?;
-    write_all(sink, b" (")?;
-    write_number(sink, choice.k as u64)?;
-    write_all(sink, b" of ")?;
-    write_number(sink, choice.n as u64)?;
+    write_numbered(sink, b" (", k as u64, b" of ")?;
+    write_number(sink, n as u64)?;
     write_all(sink, b")\n")
 }
 
+/// Writes branch and number of branches where one has some digits, to the end of the line.
+#[inline(never)]
+fn write_long_branch<S: Sink>(k: u32, n: u32, sink: &mut S) -> Result<(), SinkFault>
+    ensures text { Writes (S.failures sink.old, S.taken sink.old)
+        (S.failures sink.new, S.taken sink.new)
+        result (codes " (" ++ decimal k ++ codes " of " ++ decimal n ++ codes ")\n") }
+    ensures stops { OnErr result (IsTrue (S.failed sink.new)) }
+{
+    if 10 <= n && n < 100 {
+        if k < 10 {
+            return write_all(sink, &digit_of_two_digits(k as u8, n as u8));
+        }
+        if k < 100 {
+            return write_all(sink, &two_digits_of_two_digits(k as u8, n as u8));
+        }
+    }
+    write_branch_in_pieces(k, n, sink)
+}
+
+/// Writes branch and number of branches, to the end of the line.
+#[inline(always)]
+fn write_branch<S: Sink>(k: u32, n: u32, sink: &mut S) -> Result<(), SinkFault>
+    ensures text { Writes (S.failures sink.old, S.taken sink.old)
+        (S.failures sink.new, S.taken sink.new)
+        result (codes " (" ++ decimal k ++ codes " of " ++ decimal n ++ codes ")\n") }
+    ensures stops { OnErr result (IsTrue (S.failed sink.new)) }
+{
+    if k < 10 && n < 10 {
+        return write_all(sink, &digit_of_digit(k as u8, n as u8));
+    }
+    write_long_branch(k, n, sink)
+}
+
+#[inline]
+fn write_choice<S: Sink>(bodies: &Bodies, choice: &Choice, sink: &mut S) -> Result<(), SinkFault>
+    requires { IsKnownChoice bodies.now.puzzle choice.now }
+    ensures text { Writes (S.failures sink.old, S.taken sink.old)
+        (S.failures sink.new, S.taken sink.new) result (choice_text bodies.now choice.now) }
+    ensures stops { OnErr result (IsTrue (S.failed sink.new)) }
+{
+    write_body(bodies, choice, sink)?;
+    write_branch(choice.k, choice.n, sink)
+}
+
 fn write_choices<S: Sink>(
-    problem: &Problem,
+    bodies: &Bodies,
     choices: &[Choice],
     sink: &mut S,
 ) -> Result<(), SinkFault>
-    requires { All (IsKnownChoice problem.now.puzzle) choices.now }
+    requires { All (IsKnownChoice bodies.now.puzzle) choices.now }
     ensures text { Writes (S.failures sink.old, S.taken sink.old)
         (S.failures sink.new, S.taken sink.new)
-        result (flat_map (choice_text problem.now) choices.now) }
+        result (flat_map (choice_text bodies.now) choices.now) }
     ensures stops { OnErr result (IsTrue (S.failed sink.new)) }
 {
     for choice in choices {
-        write_choice(problem, choice, sink)?;
+        write_choice(bodies, choice, sink)?;
     }
     Ok(())
+}
+
+/// Writes a solution: its number, and a line for each choice.
+pub fn write_member<S: Sink>(
+    number: u64,
+    choices: &[Choice],
+    bodies: &Bodies,
+    sink: &mut S,
+) -> Result<(), SinkFault>
+    requires { All (IsKnownChoice bodies.now.puzzle) choices.now }
+    ensures text { Writes (S.failures sink.old, S.taken sink.old)
+        (S.failures sink.new, S.taken sink.new)
+        result (member_text bodies.now (number, choices.now)) }
+    ensures stops { OnErr result (IsTrue (S.failed sink.new)) }
+{
+    write_number(sink, number)?;
+    write_all(sink, b":\n")?;
+    write_choices(bodies, choices, sink)
 }
 
 /// Writes a solution: its number, and a line for each choice.
@@ -180,7 +198,5 @@ pub fn write_solution<S: Sink>(
         result (member_text problem.now (number, choices.now)) }
     ensures stops { OnErr result (IsTrue (S.failed sink.new)) }
 {
-    write_number(sink, number)?;
-    write_all(sink, b":\n")?;
-    write_choices(problem, choices, sink)
+    write_member(number, choices, &Bodies::plain(problem), sink)
 }

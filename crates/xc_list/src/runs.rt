@@ -8,7 +8,8 @@ ghost use Rattle.xc_list.specs.Known.{IsKnownChoice};
 ghost use Rattle.xc_list.specs.Runs.{printed_text, IsRun, AnswersRun, OnWriteFailed, WentTo};
 ghost use Rattle.xc_list.specs.Built.{AreAsBuilt};
 
-use crate::print::write_solution;
+use crate::bodies::Bodies;
+use crate::print::write_member;
 use crate::sink::Sink;
 use crate::text::SinkFault;
 use crate::words::Words;
@@ -40,17 +41,17 @@ fn write_printed<S: Sink>(
     spacing: u64,
     number: u64,
     choices: &[Choice],
-    problem: &Problem,
+    bodies: &Bodies,
     sink: &mut S,
 ) -> Result<(), SinkFault>
-    requires { All (IsKnownChoice problem.now.puzzle) choices.now }
+    requires { All (IsKnownChoice bodies.now.puzzle) choices.now }
     ensures text { Writes (S.failures sink.old, S.taken sink.old)
         (S.failures sink.new, S.taken sink.new)
-        result (printed_text problem.now spacing (number, choices.now)) }
+        result (printed_text bodies.now spacing (number, choices.now)) }
     ensures stops { OnErr result (IsTrue (S.failed sink.new)) }
 {
     if is_printed(spacing, number) {
-        write_solution(number, choices, problem, sink)
+        write_member(number, choices, bodies, sink)
     } else {
         Ok(())
     }
@@ -59,16 +60,16 @@ fn write_printed<S: Sink>(
 /// Writes what a search has to come, up to the limit.
 fn write_members<'a, D: Dance, S: Sink>(
     search: &mut Search<'a, D>,
-    problem: &Problem,
+    bodies: &Bodies,
     words: &Words,
     sink: &mut S,
 ) -> End
-    requires puzzle { search.old.puzzle ≡ problem.now.puzzle }
-    requires all { search.old.to_come ≡ members problem.now.puzzle }
+    requires puzzle { search.old.puzzle ≡ bodies.now.puzzle }
+    requires all { search.old.to_come ≡ members bodies.now.puzzle }
     ensures puzzle { search.new.puzzle ≡ search.old.puzzle }
     ensures room { search.new.room ≡ search.old.room }
-    ensures went { WentTo (members problem.now.puzzle) search.new result }
-    ensures run { IsRun problem.now words.now.spacing words.now.limit
+    ensures went { WentTo (members bodies.now.puzzle) search.new result }
+    ensures run { IsRun bodies.now words.now.spacing words.now.limit
         (S.failures sink.old, S.taken sink.old) (S.failures sink.new, S.taken sink.new) result }
     ensures stops { OnWriteFailed result (IsTrue (S.failed sink.new)) }
 {
@@ -76,7 +77,7 @@ fn write_members<'a, D: Dance, S: Sink>(
         match search.next() {
             Step::Solution => {
                 let number = found + 1;
-                match write_printed(words.spacing, number, search.choices(), problem, sink) {
+                match write_printed(words.spacing, number, search.choices(), bodies, sink) {
                     Ok(()) => {}
                     Err(_) => return End::WriteFailed(number),
                 }
@@ -85,6 +86,16 @@ fn write_members<'a, D: Dance, S: Sink>(
         }
     }
     End::Limit(words.limit)
+}
+
+/// The options of a problem, laid out if any are printed.
+fn bodies_for<'a>(alloc: Global, problem: &'a Problem, words: &Words) -> Bodies<'a>
+    ensures { result ≡ problem.now }
+{
+    if words.spacing == 0 {
+        return Bodies::plain(problem);
+    }
+    Bodies::laid_out(alloc, problem)
 }
 
 /// Searches for the solutions, writes the listing as far as the words ask for it, unwinds, and
@@ -111,7 +122,8 @@ pub fn run_over<D: Dance, S: Sink>(
     let _items = problem.items();
     match Search::new(alloc, dance, problem) {
         Ok(mut search) => {
-            let end = write_members(&mut search, problem, &words, sink);
+            let bodies = bodies_for(alloc, problem, &words);
+            let end = write_members(&mut search, &bodies, &words, sink);
             (search.close(), Ok(end))
         }
         Err((dance, memory)) => (dance, Err(memory)),

@@ -87,6 +87,13 @@ impl Tray {
     {
         self.bytes.as_slice()
     }
+
+    /// The bytes that it took, on their own.
+    pub(crate) fn into_bytes(self) -> Vec<u8>
+        ensures { ⟦<Tray as Sink>⟧.taken self ≡ Some result.items }
+    {
+        self.bytes
+    }
 }
 
 impl Sink for Tray {

@@ -58,11 +58,11 @@ pub fn write_all<S: Sink>(sink: &mut S, bytes: &[u8]) -> Result<(), SinkFault>
     if bytes.is_empty() {
         return Ok(());
     }
-    let n = write_some(sink, bytes)?;
-    if n == bytes.len() {
-        return Ok(());
+    match sink.write(bytes) {
+        Ok(n) if n == bytes.len() => Ok(()),
+        Ok(n) if n > 0 => write_rest(sink, &bytes[n..]),
+        _ => Err(SinkFault::Failed),
     }
-    write_rest(sink, &bytes[n..])
 }
 
 /// Writes a number in decimal.

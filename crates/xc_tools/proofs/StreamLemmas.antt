@@ -1,11 +1,13 @@
 -- What a writer holds, and what is held back from it.
-use Rattle.std.proofs.Common.{◌≡◌, ℕ, ◌+◌, ◌-◌, ◌≤◌, List, [], ◌++◌, Option, None, Some, length, take, drop, refl, sym, ap, ◌∙◌, append_assoc, arith}
+use Rattle.std.proofs.Common.{◌≡◌, ℕ, suc, ◌+◌, ◌-◌, ◌≤◌, List, [], ◌∷◌, ◌++◌, Option, None, Some, length, take, drop, refl, sym, ap, ap₂, ◌∙◌, append_assoc, arith}
 use Rattle.std.specs.Prelude.{slice_range}
 use Rattle.std.proofs.lemmas.Grind.{common_steps}
 use Rattle.std.proofs.Math.Seq.{take-add}
-use Rattle.std.proofs.lemmas.List.{drop-take, drop-append-le}
+use Rattle.std.proofs.lemmas.List.{drop-take, drop-append-le, length-drop, length-take-le, take_all}
+use Rattle.std.proofs.lemmas.Slice.{drop-put_mid}
 use Rattle.std.specs.Io.KnownBytes.{append_known, Appends, Keeps}
 use Rattle.xc_list.proofs.TextLemmas.{appends_more}
+use borrow.Rule.Slice.PartMut.{put_mid}
 
 -- a part, and then what follows it
 part_more : (bytes : List ℕ) (from place n : ℕ) → from ≤ place → place + n ≤ length bytes → slice_range bytes from (place + n) ≡ slice_range bytes from place ++ take n (drop place bytes)
@@ -86,3 +88,38 @@ held_more (Some x) (Some y) held now xs start end n a b e f p =
 pub keeps_self : (o : Option (List ℕ)) → Keeps o o
 keeps_self None = tt
 keeps_self (Some x) = refl
+
+take-behind : (xs ys : List ℕ) (l : ℕ) → take (length xs + l) (xs ++ ys) ≡ xs ++ take l ys
+take-behind [] ys l = let e : 0 + l ≡ l = omega arith in ap (λ k. take k ys) e
+take-behind (x ∷ xs) ys l = let e : length (x ∷ xs) + l ≡ suc (length xs + l) = omega arith in ap (λ k. take k (x ∷ xs ++ ys)) e ∙ ap (λ r. x ∷ r) (take-behind xs ys l)
+
+take-within : (xs ys : List ℕ) (l size : ℕ) → l ≤ size → size ≤ length xs → take l (take size xs ++ ys) ≡ take l xs
+take-within xs ys l size h k = grind (arith, common_steps)
+
+drop-twice : (xs : List ℕ) (a b : ℕ) → drop b (drop a xs) ≡ drop (a + b) xs
+drop-twice xs a b = grind (arith, common_steps)
+
+front-back : (xs : List ℕ) (l : ℕ) → take l xs ++ drop l xs ≡ xs
+front-back xs l = grind (arith, common_steps)
+
+-- bytes that were put in the place of others by their first and their last piece
+pub two_ends : (held bytes first last : List ℕ) (at size m n place w : ℕ) → at + length bytes ≤ length held → size ≤ length bytes → length bytes ≤ size + size
+    → first ≡ take size bytes → last ≡ take w (drop (length bytes - size) bytes) → m ≡ size → n ≡ size → place ≡ at + (length bytes - size) → w ≡ size
+    → put_mid place n (put_mid at m held first) last ≡ take at held ++ bytes ++ drop (at + length bytes) held
+two_ends held bytes first last at size m n place w room few enough f l em en ep ew =
+    let back : ℕ = length bytes - size in
+    let once : List ℕ = put_mid at m held first in
+    let start : length (take at held) ≡ at = length-take-le at held (omega (arith, room)) in
+    let less : back ≤ size = omega (arith, enough) in
+    let piece : length first ≡ m = ap length f ∙ length-take-le size bytes few ∙ sym em in
+    let from : place ≡ length (take at held) + back = omega (arith, ep, start) in
+    let front : take place once ≡ take at held ++ take back bytes =
+    ap (λ k. take k once) from ∙ take-behind (take at held) (first ++ drop m (drop at held)) back
+    ∙ ap (λ x. take at held ++ take back (x ++ drop m (drop at held))) f ∙ ap (λ x. take at held ++ x) (take-within bytes (drop m (drop at held)) back size less few) in
+    let to : place + n ≡ at + length bytes = omega (arith, ep, en, few) in
+    let behind : drop n (drop place once) ≡ drop (at + length bytes) held =
+    drop-twice once place n ∙ drop-put_mid at m held first (place + n) (omega (arith, ep, em, en)) (omega (arith, room)) piece ∙ ap (λ k. drop k held) to in
+    let last_is : last ≡ drop back bytes = l ∙ take_all w (drop back bytes) (omega (arith, length-drop back bytes, ew, few)) in
+    let whole : (take at held ++ take back bytes) ++ drop back bytes ≡ take at held ++ bytes = append_assoc (take at held) (take back bytes) (drop back bytes) ∙ ap (λ x. take at held ++ x) (front-back bytes back) in
+    ap₂ (λ x y. x ++ (last ++ y)) front behind ∙ sym (append_assoc (take at held ++ take back bytes) last (drop (at + length bytes) held))
+    ∙ ap (λ x. take at held ++ take back bytes ++ x ++ drop (at + length bytes) held) last_is ∙ ap (λ x. x ++ drop (at + length bytes) held) whole

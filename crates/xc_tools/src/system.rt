@@ -223,13 +223,30 @@ impl<W: Write + Drop> Outgoing<W> {
     }
 }
 
-/// Puts bytes in the place of others.
+/// Puts bytes in the place of others by two pieces of this size, the first and the last, which may
+/// overlap.
+#[inline(always)]
+fn put_ends(held: &mut [u8], at: usize, bytes: &[u8], size: usize)
+    requires room { at + length bytes.now ≤ length held.old }
+    requires pieces { (size ≤ length bytes.now) × (length bytes.now ≤ size + size) }
+    ensures { held.new ≡ take at held.old ++ bytes.now ++ drop (at + length bytes.now) held.old }
+{
+    let last = bytes.len() - size;
+    held[at..at + size].copy_from_slice(&bytes[..size]);
+    held[at + last..at + last + size].copy_from_slice(&bytes[last..]);
+}
+
+/// Puts bytes in the place of others. Pieces of a fixed size need no call.
 #[inline(always)]
 fn put(held: &mut [u8], at: usize, bytes: &[u8])
     requires { at + length bytes.now ≤ length held.old }
     ensures { held.new ≡ take at held.old ++ bytes.now ++ drop (at + length bytes.now) held.old }
 {
-    held[at..at + bytes.len()].copy_from_slice(bytes);
+    match bytes.len() {
+        4..=7 => put_ends(held, at, bytes, 4),
+        8..=16 => put_ends(held, at, bytes, 8),
+        n => held[at..at + n].copy_from_slice(bytes),
+    }
 }
 
 impl<W: Write + Drop> Sink for Outgoing<W> {

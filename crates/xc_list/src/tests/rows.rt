@@ -168,3 +168,85 @@ fn both_options(rt: HostRuntime) -> Result<(), Fail> {
     assert!(rt; all(rt.alloc(), Kind::Bounds, b"2|A\nA\nA\n", listing, 1)?);
     Ok(())
 }
+
+/// An option whose primary item stands last, and eleven that colour an item which stands first.
+fn long_names(alloc: Global) -> Result<Vec<u8>, Fail> {
+    let mut text = Vec::from_slice(alloc, b"a_rather_long_name z | its_colour y\ny:b z\n")?;
+    for colour in b"abcdefghijk" {
+        text.extend_from_slice(b"its_colour:")?;
+        text.push(*colour)?;
+        text.extend_from_slice(b" a_rather_long_name\n")?;
+    }
+    Ok(text)
+}
+
+/// Whether the runs list all solutions alike into trays of small and of large steps.
+fn alike_by_each_step(alloc: Global, kind: Kind, text: &[u8]) -> Result<bool, Fail> {
+    let problem = problem_of(alloc, kind, text)?;
+    let mut small = Tray::new(alloc, 1, 1000, false)?;
+    let mut large = Tray::new(alloc, 1000, 1000, false)?;
+    let _end = end_over_links(alloc, &problem, ALL, &mut small)?;
+    let _end = end_over_links(alloc, &problem, ALL, &mut large)?;
+    Ok(small.bytes() == large.bytes())
+}
+
+#[test]
+fn two_digits(rt: HostRuntime) -> Result<(), Fail> {
+    let text = long_names(rt.alloc())?;
+    assert!(rt; alike_by_each_step(rt.alloc(), Kind::Colours, &text)?);
+    let words = Words {
+        spacing: 9,
+        limit: 10,
+    };
+    let ninth = b"9:\n z y:b (1 of 1)\n a_rather_long_name its_colour:i (9 of 11)\n";
+    assert!(rt;
+        asked(
+            rt.alloc(),
+            Kind::Colours,
+            &text,
+            words,
+            ninth,
+            End::Limit(10)
+        )?
+    );
+    let tenth = b"10:\n z y:b (1 of 1)\n a_rather_long_name its_colour:j (10 of 11)\n";
+    let words = Words {
+        spacing: 10,
+        limit: u64::MAX,
+    };
+    assert!(rt;
+        asked(
+            rt.alloc(),
+            Kind::Colours,
+            &text,
+            words,
+            tenth,
+            End::Done(11)
+        )?
+    );
+    Ok(())
+}
+
+#[test]
+fn three_digits(rt: HostRuntime) -> Result<(), Fail> {
+    let mut text = Vec::from_slice(rt.alloc(), b"A\n")?;
+    for _ in 0..101 {
+        text.extend_from_slice(b"A\n")?;
+    }
+    let words = Words {
+        spacing: 50,
+        limit: u64::MAX,
+    };
+    let listing = b"50:\n A (50 of 101)\n100:\n A (100 of 101)\n";
+    assert!(rt;
+        asked(
+            rt.alloc(),
+            Kind::Plain,
+            &text,
+            words,
+            listing,
+            End::Done(101)
+        )?
+    );
+    Ok(())
+}

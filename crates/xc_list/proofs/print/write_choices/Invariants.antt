@@ -8,5 +8,5 @@ use Rattle.xc_list.proofs.print.write_choices.Given as goal
 abbrev pub invariant-loop-choice : goal.invariant-loop-choice
 invariant-loop-choice g l = record {
   good : g.S.Sink.failures l.sink ≡ g.S.Sink.failures l.fn.sink;
-  taken : Appends (g.S.Sink.taken l.fn.sink) (g.S.Sink.taken l.sink) (flat_map (choice_text l.problem) (take l.choice-index l.choices));
+  taken : Appends (g.S.Sink.taken l.fn.sink) (g.S.Sink.taken l.sink) (flat_map (choice_text l.bodies) (take l.choice-index l.choices));
 }

@@ -11,45 +11,45 @@ use Rattle.xc_list.proofs.runs.write_members.Goals as goal
 
 pub write_printed-requires : goal.write_printed-requires
 write_printed-requires g c =
-    let e : drop c.loop-found.found (members c.args.problem.now.puzzle) ≡ c.next.new.self.shown ∷ c.next.new.self.to_come = sym c.loop-found.invariant.come ∙ c.next.ensures.solution c.in-Solution.is in
-    All-same (IsKnownChoice c.args.problem.now.puzzle) c.choices.result.now c.next.new.self.shown c.choices.ensures (known_next c.args.problem.now.puzzle c.loop-found.found _ _ e)
+    let e : drop c.loop-found.found (members c.args.bodies.now.puzzle) ≡ c.next.new.self.shown ∷ c.next.new.self.to_come = sym c.loop-found.invariant.come ∙ c.next.ensures.solution c.in-Solution.is in
+    All-same (IsKnownChoice c.args.bodies.now.puzzle) c.choices.result.now c.next.new.self.shown c.choices.ensures (known_next c.args.bodies.now.puzzle c.loop-found.found _ _ e)
 
 pub returns-in-Err-clause-run : goal.returns-in-Err-clause-run
 returns-in-Err-clause-run g c =
-    let e : drop c.loop-found.found (members c.args.problem.now.puzzle) ≡ c.choices.result.now ∷ c.next.new.self.to_come =
+    let e : drop c.loop-found.found (members c.args.bodies.now.puzzle) ≡ c.choices.result.now ∷ c.next.new.self.to_come =
     sym c.loop-found.invariant.come ∙ c.next.ensures.solution c.in-Solution.is ∙ ap (λ m. m ∷ c.next.new.self.to_come) (sym c.choices.ensures) in
-    stopped c.args.problem.now c.args.words.now.spacing c.args.words.now.limit c.loop-found.found c.choices.result.now c.next.new.self.to_come _ _ _ _ _ _ e c.loop-found-test.true
+    stopped c.args.bodies.now c.args.words.now.spacing c.args.words.now.limit c.loop-found.found c.choices.result.now c.next.new.self.to_come _ _ _ _ _ _ e c.loop-found-test.true
     c.loop-found.invariant.good c.loop-found.invariant.taken c.in-Err.ensures.text
 
 pub returns-in-Err-clause-went : goal.returns-in-Err-clause-went
 returns-in-Err-clause-went g c =
-    let e : drop c.loop-found.found (members c.args.problem.now.puzzle) ≡ c.next.new.self.shown ∷ c.next.new.self.to_come = sym c.loop-found.invariant.come ∙ c.next.ensures.solution c.in-Solution.is in
-    (λ _. at_next (members c.args.problem.now.puzzle) c.loop-found.found _ _ e, rest_next (members c.args.problem.now.puzzle) c.loop-found.found _ _ e)
+    let e : drop c.loop-found.found (members c.args.bodies.now.puzzle) ≡ c.next.new.self.shown ∷ c.next.new.self.to_come = sym c.loop-found.invariant.come ∙ c.next.ensures.solution c.in-Solution.is in
+    (λ _. at_next (members c.args.bodies.now.puzzle) c.loop-found.found _ _ e, rest_next (members c.args.bodies.now.puzzle) c.loop-found.found _ _ e)
 
 pub returns-in-Done-clause-run : goal.returns-in-Done-clause-run
 returns-in-Done-clause-run g c =
     let none = c.next.ensures.done c.in-Done.is in
-    let all = all_done (members c.args.problem.now.puzzle) c.loop-found.found (sym c.loop-found.invariant.come ∙ none.0) c.loop-found.invariant.within in (
+    let all = all_done (members c.args.bodies.now.puzzle) c.loop-found.found (sym c.loop-found.invariant.come ∙ none.0) c.loop-found.invariant.within in (
       all,
       c.loop-found-test.true,
       (
         c.loop-found.invariant.good,
         subst (Appends (g.S.Sink.taken c.args.sink.now) (g.S.Sink.taken c.loop-found.sink))
-            (sym (output_all c.args.problem.now c.args.words.now.spacing c.loop-found.found c.args.words.now.limit all (omega (arith, c.loop-found-test.true)))) c.loop-found.invariant.taken,
+            (sym (output_all c.args.bodies.now c.args.words.now.spacing c.loop-found.found c.args.words.now.limit all (omega (arith, c.loop-found-test.true)))) c.loop-found.invariant.taken,
       ),
     )
 
 pub loop-found-preserved : goal.loop-found-preserved
 loop-found-preserved g c =
-    let e : drop c.loop-found.found (members c.args.problem.now.puzzle) ≡ c.choices.result.now ∷ c.next.new.self.to_come =
+    let e : drop c.loop-found.found (members c.args.bodies.now.puzzle) ≡ c.choices.result.now ∷ c.next.new.self.to_come =
     sym c.loop-found.invariant.come ∙ c.next.ensures.solution c.in-Solution.is ∙ ap (λ m. m ∷ c.next.new.self.to_come) (sym c.choices.ensures) in
     record {
       puzzle = c.next.ensures.puzzle ∙ c.loop-found.invariant.puzzle;
       room = c.next.ensures.room ∙ c.loop-found.invariant.room;
-      shown = λ _. at_next (members c.args.problem.now.puzzle) c.loop-found.found _ _ (sym c.loop-found.invariant.come ∙ c.next.ensures.solution c.in-Solution.is);
-      come = rest_next (members c.args.problem.now.puzzle) c.loop-found.found _ _ e;
-      within = omega (arith, within_next (members c.args.problem.now.puzzle) c.loop-found.found _ _ e);
+      shown = λ _. at_next (members c.args.bodies.now.puzzle) c.loop-found.found _ _ (sym c.loop-found.invariant.come ∙ c.next.ensures.solution c.in-Solution.is);
+      come = rest_next (members c.args.bodies.now.puzzle) c.loop-found.found _ _ e;
+      within = omega (arith, within_next (members c.args.bodies.now.puzzle) c.loop-found.found _ _ e);
       good = c.in-Ok.ensures.text.0 ∙ c.loop-found.invariant.good;
-      taken = subst (Appends (g.S.Sink.taken c.args.sink.now) (g.S.Sink.taken c.write_printed.new.sink)) (sym (output_next c.args.problem.now c.args.words.now.spacing c.loop-found.found c.choices.result.now _ e))
-          (appends_more _ _ _ (output c.args.problem.now c.args.words.now.spacing c.loop-found.found) (printed_text c.args.problem.now c.args.words.now.spacing (c.loop-found.found + 1, c.choices.result.now)) c.loop-found.invariant.taken c.in-Ok.ensures.text.1);
+      taken = subst (Appends (g.S.Sink.taken c.args.sink.now) (g.S.Sink.taken c.write_printed.new.sink)) (sym (output_next c.args.bodies.now c.args.words.now.spacing c.loop-found.found c.choices.result.now _ e))
+          (appends_more _ _ _ (output c.args.bodies.now c.args.words.now.spacing c.loop-found.found) (printed_text c.args.bodies.now c.args.words.now.spacing (c.loop-found.found + 1, c.choices.result.now)) c.loop-found.invariant.taken c.in-Ok.ensures.text.1);
     }

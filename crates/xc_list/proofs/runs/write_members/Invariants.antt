@@ -10,9 +10,9 @@ abbrev pub invariant-loop-found : goal.invariant-loop-found
 invariant-loop-found g l = record {
   puzzle : l.search.puzzle ≡ l.fn.search.puzzle;
   room : l.search.room ≡ l.fn.search.room;
-  shown : 1 ≤ l.found → numbered_get (members l.problem.puzzle) l.found ≡ Some l.search.shown;
-  come : l.search.to_come ≡ drop l.found (members l.problem.puzzle);
-  within : l.found ≤ length (members l.problem.puzzle);
+  shown : 1 ≤ l.found → numbered_get (members l.bodies.puzzle) l.found ≡ Some l.search.shown;
+  come : l.search.to_come ≡ drop l.found (members l.bodies.puzzle);
+  within : l.found ≤ length (members l.bodies.puzzle);
   good : g.S.Sink.failures l.sink ≡ g.S.Sink.failures l.fn.sink;
-  taken : Appends (g.S.Sink.taken l.fn.sink) (g.S.Sink.taken l.sink) (output l.problem l.words.spacing l.found);
+  taken : Appends (g.S.Sink.taken l.fn.sink) (g.S.Sink.taken l.sink) (output l.bodies l.words.spacing l.found);
 }

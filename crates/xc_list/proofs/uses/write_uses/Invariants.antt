@@ -2,7 +2,7 @@ use Rattle.std.proofs.Common.{◌≡◌, take}
 use Rattle.std.specs.Prelude.{flat_map}
 use Rattle.std.specs.Io.KnownBytes.{Appends}
 use Rattle.xc_list.specs.Output.{use_text}
-use Rattle.xc_list.proofs.print.write_uses.Given as goal
+use Rattle.xc_list.proofs.uses.write_uses.Given as goal
 
 -- the texts so far were taken, and no failure came
 abbrev pub invariant-loop-u : goal.invariant-loop-u

@@ -1,5 +1,5 @@
 use Rattle.xc_list.proofs.Writing.{then_good, then_bad, bad_more, then_writes, failed}
-use Rattle.xc_list.proofs.print.write_use.Goals as goal
+use Rattle.xc_list.proofs.uses.write_use.Goals as goal
 
 pub returns-in_err-write_name-clause-text : goal.returns-in_err-write_name-clause-text
 returns-in_err-write_name-clause-text g c = (failed _ _ _ _ _ c.from_residual-in_err-write_name.result c.from_residual-in_err-write_name.ensures.0 (bad_more _ _ _ _ _ _ (then_bad _ _ _ _ _ _ _ _ (c.in_ok-write_all.ensures.text) c.in_err-write_name.ensures.text)))

@@ -1,7 +1,7 @@
 use Rattle.std.proofs.Common.{arith, ◌≡◌, sym, length, eq-eqb}
 use Rattle.std.specs.Prelude.{◌==◌}
 use Rattle.std.proofs.lemmas.List.Sums.{position_or_len_is}
-use Rattle.xc_list.proofs.print.place_of.Goals as goal
+use Rattle.xc_list.proofs.uses.place_of.Goals as goal
 
 pub returns-then-u-item-clause-place : goal.returns-then-u-item-clause-place
 returns-then-u-item-clause-place c =

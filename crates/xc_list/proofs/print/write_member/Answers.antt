@@ -1,5 +1,5 @@
 use Rattle.xc_list.proofs.Writing.{then_good, then_bad, bad_more, then_writes, failed}
-use Rattle.xc_list.proofs.print.write_solution.Goals as goal
+use Rattle.xc_list.proofs.print.write_member.Goals as goal
 
 pub returns-in_err-write_number-clause-text : goal.returns-in_err-write_number-clause-text
 returns-in_err-write_number-clause-text g c = (failed _ _ _ _ _ c.from_residual.result c.from_residual.ensures.0 (bad_more _ _ _ _ _ _ (bad_more _ _ _ _ _ _ (c.in_err-write_number.ensures.text))))

@@ -1,6 +1,6 @@
 use Rattle.std.proofs.Common.{◌≡◌, ◌<◌, ◌≤◌, ℕ, get_or, length, false}
 use Rattle.std.specs.Prelude.{◌==◌}
-use Rattle.xc_list.proofs.print.place_of.Given as goal
+use Rattle.xc_list.proofs.uses.place_of.Given as goal
 
 -- no use so far is of the item
 abbrev pub invariant-loop-place : goal.invariant-loop-place

@@ -1,6 +1,6 @@
 use Rattle.xc_list.specs.Output.{use_text}
 use Rattle.xc_list.proofs.Writing.{failed, loop_begun}
-use Rattle.xc_list.proofs.print.write_uses.Goals as goal
+use Rattle.xc_list.proofs.uses.write_uses.Goals as goal
 
 pub returns-in_err-write_use-clause-text : goal.returns-in_err-write_use-clause-text
 returns-in_err-write_use-clause-text g c =

@@ -1,0 +1,5 @@
+use Rattle.xc_list.proofs.Writing.{decimal_two}
+use Rattle.xc_list.proofs.print.two_digits_of_two_digits.Goals as goal
+
+pub returns : goal.returns
+returns c = rw (decimal_two c.args.k c.requires.branch, decimal_two c.args.n c.requires.branches)

@@ -1,0 +1,196 @@
+//! Options as they are printed, laid out before the search.
+ghost use Rattle.std.specs.Prelude.{◌≡◌, ◌<◌, ◌≤◌, ◌^◌, [], ◌∷◌, ◌++◌, ◌==◌, length, take, All, IfSome, IfOk, OnOk, OnErr, IsTrue, flat_map};
+ghost use Rattle.std.specs.List.{position_or_len};
+ghost use Rattle.xc_input.specs.Problem.{option_count, uses_of};
+ghost use Rattle.xc_input.specs.Named.{IsKnownUse};
+ghost use Rattle.xc_list.specs.Texts.{Writes};
+ghost use Rattle.xc_list.specs.Output.{use_text, from_item};
+ghost use Rattle.xc_list.specs.Laid.{AreLaid, uses_text};
+
+use crate::sink::{Sink, Tray};
+use crate::text::{SinkFault, write_all};
+use crate::uses::{colour_of, name_of, uses_at, write_option, write_uses};
+use std::alloc::Global;
+use std::marker::Model;
+use xc_dance::Memory;
+use xc_input::{Problem, Use};
+
+/// The texts of options one behind another, with the places where they start and at last the length.
+#[derive(Drop)]
+struct Layout {
+    texts: Vec<u8>,
+    starts: Vec<u32>,
+}
+
+/// How long the text of a use is.
+#[inline(always)]
+fn use_length(problem: &Problem, u: &Use) -> usize
+    requires { IsKnownUse problem.now u.now }
+    ensures { result ≡ length (use_text problem.now u.now) }
+{
+    let _items = problem.items();
+    let name = 1 + name_of(problem, u.item).len();
+    if u.colour == 0 {
+        return name;
+    }
+    name + 1 + colour_of(problem, u.colour).len()
+}
+
+/// Where the text of an item's use starts in the text of an option.
+#[inline(always)]
+fn place_in_text(problem: &Problem, uses: &[Use], item: u32) -> usize
+    requires known { All (IsKnownUse problem.now) uses.now }
+    requires fits { length (uses_text problem.now uses.now) < 2 ^ 64 }
+    ensures { result ≡ length (uses_text problem.now (take (position_or_len (λ u. u.item == item) uses.now) uses.now)) }
+{
+    let mut place = 0;
+    for u in uses {
+        if u.item == item {
+            return place;
+        }
+        place += use_length(problem, u);
+    }
+    place
+}
+
+/// How long the texts of all options are. Nothing rests on it but the room that is taken for them: in
+/// too small a room they are not laid out.
+fn total_length(problem: &Problem) -> usize {
+    let mut total = 0usize;
+    for o in 0..problem.options() {
+        for u in problem.option(o + 1) {
+            total = total.saturating_add(use_length(problem, u));
+        }
+    }
+    total
+}
+
+/// Lays out one option more.
+fn add_option(
+    problem: &Problem,
+    uses: &[Use],
+    texts: &mut Tray,
+    starts: &mut Vec<u32>,
+) -> Result<(), Memory>
+    requires { All (IsKnownUse problem.now) uses.now }
+    ensures { OnOk result ((os : _) → AreLaid problem.now os texts.old.bytes.items starts.old.items
+        → AreLaid problem.now (os ++ uses.now ∷ []) texts.new.bytes.items starts.new.items) }
+{
+    let Ok(()) = write_uses(problem, uses, texts) else {
+        return Err(Memory);
+    };
+    let Ok(end) = u32::try_from(texts.bytes().len()) else {
+        return Err(Memory);
+    };
+    match starts.push(end) {
+        Ok(()) => Ok(()),
+        Err(_) => Err(Memory),
+    }
+}
+
+/// The texts of a problem's options, if there is memory for them.
+fn lay_out(alloc: Global, problem: &Problem) -> Result<Layout, Memory>
+    ensures { IfOk result (λ l. AreLaid problem.now problem.now.puzzle.options l.texts.items l.starts.items) }
+{
+    let mut texts = Tray::new(alloc, usize::MAX, total_length(problem), false)?;
+    let mut starts = Vec::with_capacity(alloc, problem.options() as usize + 1)?;
+    let Ok(()) = starts.push(0) else {
+        return Err(Memory);
+    };
+    for o in 0..problem.options() {
+        add_option(problem, problem.option(o + 1), &mut texts, &mut starts)?;
+    }
+    Ok(Layout {
+        texts: texts.into_bytes(),
+        starts,
+    })
+}
+
+/// The text of an option.
+#[inline(always)]
+fn text_of<'a>(problem: &Problem, layout: &'a Layout, o: u32) -> &'a [u8]
+    requires laid { AreLaid problem.now problem.now.puzzle.options layout.now.texts.items layout.now.starts.items }
+    requires known { (1 ≤ o) × (o ≤ option_count problem.now.puzzle) }
+    ensures { result.now ≡ uses_text problem.now (uses_of problem.now.puzzle o) }
+{
+    let from = layout.starts[o as usize - 1] as usize;
+    let to = layout.starts[o as usize] as usize;
+    &layout.texts[from..to]
+}
+
+/// The text of an option, cut before an item's use.
+#[inline(always)]
+fn cut_text<'a>(problem: &Problem, layout: &'a Layout, item: u32, o: u32) -> (&'a [u8], &'a [u8])
+    requires laid { AreLaid problem.now problem.now.puzzle.options layout.now.texts.items layout.now.starts.items }
+    requires known { (1 ≤ o) × (o ≤ option_count problem.now.puzzle) }
+    ensures { flat_map (use_text problem.now) (from_item item (uses_of problem.now.puzzle o)) ≡ result.1.now ++ result.0.now }
+{
+    let text = text_of(problem, layout, o);
+    text.split_at(place_in_text(problem, uses_at(problem, o), item))
+}
+
+/// A problem whose options can be written. If they are laid out, an option is written by two slices,
+/// else use by use.
+#[derive(Drop)]
+pub struct Bodies<'a> {
+    problem: &'a Problem,
+    layout: Option<Layout>,
+}
+
+impl<'a> Model for Bodies<'a> {
+    ghost use Rattle.std.specs.Prelude.{IfSome};
+    ghost use Rattle.xc_input.specs.Named.{Named};
+    ghost use Rattle.xc_list.specs.Laid.{AreLaid};
+
+    ghost Value = { Named };
+
+    ghost view = { λ b. b.problem.now };
+
+    ghost invariant = { λ b. IfSome b.layout (λ l.
+        AreLaid b.problem.now b.problem.now.puzzle.options l.texts.items l.starts.items) };
+}
+
+impl<'a> Bodies<'a> {
+    /// Options that are written use by use.
+    pub fn plain(problem: &'a Problem) -> Bodies<'a>
+        ensures { result ≡ problem.now }
+    {
+        Bodies {
+            problem,
+            layout: None,
+        }
+    }
+
+    /// Options that are laid out if there is memory for it.
+    pub fn laid_out(alloc: Global, problem: &'a Problem) -> Bodies<'a>
+        ensures { result ≡ problem.now }
+    {
+        Bodies {
+            problem,
+            layout: lay_out(alloc, problem).ok(),
+        }
+    }
+
+    pub fn problem(&self) -> &'a Problem
+        ensures { result.now ≡ self.now }
+    {
+        self.problem
+    }
+
+    /// Writes an option's uses, cyclically from an item's.
+    #[inline(always)]
+    pub fn write_option<S: Sink>(&self, item: u32, o: u32, sink: &mut S) -> Result<(), SinkFault>
+        requires { (1 ≤ o) × (o ≤ option_count self.now.puzzle) }
+        ensures text { Writes (S.failures sink.old, S.taken sink.old)
+            (S.failures sink.new, S.taken sink.new)
+            result (flat_map (use_text self.now) (from_item item (uses_of self.now.puzzle o))) }
+        ensures stops { OnErr result (IsTrue (S.failed sink.new)) }
+    {
+        let Some(layout) = &self.layout else {
+            return write_option(self.problem, item, o, sink);
+        };
+        let (before, after) = cut_text(self.problem, layout, item, o);
+        write_all(sink, after)?;
+        write_all(sink, before)
+    }
+}
