@@ -34,6 +34,12 @@ goes c low = (tells c).low (let e = c.get.ensures in omega (arith, e, low))
 pub loop-top-init : goal.loop-top-init
 loop-top-init c = record { can = (parts c.args.spans.now (columns c.args.top.now c.args.links.now c.args.color.now) c.args.p c.requires.can).0; done = refl; cost = omega arith; behind = omega arith; to = let h = c.requires.can.within in omega (arith, h); counted = omega arith; few = omega arith }
 
+pub get-requires : goal.get-requires
+get-requires c =
+    let end = (span_at c.args.spans.now c.args.p).end in
+    let t : Nodes = columns c.args.top.now c.args.links.now c.args.color.now in
+    (upwards (columns c.loop-top.top c.loop-top.links c.args.color.now) (fold hidden t (places (c.args.p + 1) end)) c.loop-top.q end c.requires.can.spacer c.loop-top.invariant.can c.loop-top.invariant.done c.loop-top.invariant.to).within
+
 -- the step, and those behind it
 can_go : (c : After-get) → c.get.result < 2147483648 → (let end = (span_at c.args.spans.now c.args.p).end in
     CanHideAll (columns c.loop-top.top c.loop-top.links c.args.color.now) (c.loop-top.q ∷ places (c.loop-top.q + 1) end))
