@@ -2,5 +2,5 @@
 run:
 	cd crates/dlx1 && rt run -- m1 < ../../examples/seven.dlx
 test:
-	rt ci
+	RT_JOBS=$$(nproc) rt ci
 	@sh tests/statuses.sh

@@ -69,6 +69,9 @@ fn count<D: Dance>(dance: &D, problem: &Problem, i: u32, once: bool) -> u32
     }
 }
 
+// Over the linked tables, where each item is held once, a turn of the loop is ten instructions with
+// two loads: the next open item and its length. No bounds check is left, and the lesser of two
+// lengths is taken without a jump.
 #[inline(always)]
 fn choose_by<D: Dance>(dance: &D, problem: &Problem, once: bool) -> Option<(u32, u32)>
     requires same { D.problem dance.now ≡ problem.now.puzzle }
