@@ -19,6 +19,9 @@ use std::marker::Model;
 use thiserror::Error;
 use xc_input::Problem;
 
+/// How many choice lines are noted at most.
+const MOST_PLACES: usize = 65536;
+
 /// The verdict on a listed solution.
 #[derive(Clone, Copy, Debug, PartialEq, Eq)]
 pub struct Verdict {
@@ -172,11 +175,15 @@ impl<'a> Judge<'a> {
         }
     }
 
-    /// The kind of a choice line that was met.
+    /// The kind of a choice line that was met. No other line begins with a space, and none is
+    /// looked for.
     fn seen_kind(&self, line: &[u8]) -> Option<usize>
         ensures { IfSome result (IsKindOfLine self.now.book line.now) }
     {
-        self.seen.kind_of(line)
+        match line {
+            [b' ', ..] => self.seen.kind_of(line),
+            _ => None,
+        }
     }
 
     /// Takes the line with this number.
@@ -211,7 +218,7 @@ pub fn check(alloc: Global, problem: &Problem, listing: &[u8]) -> Result<Vec<Ver
         → listing.now ≡ output problem.now spacing limit
         → MatchResult result (λ vs. All (λ v. IsTrue v.cover) vs.items) (λ e. e ≡ Memory) }
 {
-    let Ok(mut judge) = Judge::new(alloc, problem, (listing.len() / 64).min(65536)) else {
+    let Ok(mut judge) = Judge::new(alloc, problem, (listing.len() / 64).min(MOST_PLACES)) else {
         return Err(ListingFault::Memory);
     };
     let mut lines: u64 = 0;
