@@ -21,6 +21,7 @@ pub mod OutputWords
 pub mod Outputs
 pub mod Places
 pub mod ReadingLemmas
+pub mod SeenLemmas
 pub mod ShortLemmas
 pub mod SolutionLemmas
 pub mod Standing

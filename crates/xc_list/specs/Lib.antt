@@ -9,6 +9,7 @@ pub mod ListingLines
 pub mod Messages
 pub mod Output
 pub mod Runs
+pub mod Seen
 pub mod Settings
 pub mod Tallies
 pub mod Texts

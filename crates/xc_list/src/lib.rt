@@ -10,6 +10,7 @@ mod listing_lines;
 mod messages;
 mod print;
 mod runs;
+mod seen;
 mod sink;
 mod solution;
 mod tally;
