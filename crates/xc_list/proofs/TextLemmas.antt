@@ -1,7 +1,7 @@
 -- What follows when a sink takes one text after another.
-use Rattle.std.proofs.Common.{◌≡◌, ◌≢◌, ℕ, ◌<◌, ◌≤◌, ◌-◌, List, ◌++◌, Option, None, Some, Ok, length, take, drop, sym, ap, ◌∙◌, append_assoc, append-nil, arith, subst}
+use Rattle.std.proofs.Common.{◌≡◌, ◌≢◌, ℕ, ◌<◌, ◌≤◌, ◌-◌, List, ◌++◌, Option, None, Some, Ok, length, take, drop, sym, ap, ◌∙◌, append_assoc, arith, subst}
 use Rattle.std.proofs.lemmas.Bool.Decides.{nat_tests}
-use Rattle.xc_input.specs.Calls.{Rose, counted, is_failed_write}
+use Rattle.xc_input.specs.Calls.{counted, is_failed_write}
 use Rattle.std.proofs.lemmas.Grind.{common_steps}
 use Rattle.std.specs.Io.KnownBytes.{Appends, Keeps}
 use Rattle.xc_list.specs.Texts.{TookBeginning}
@@ -27,14 +27,6 @@ front_more written rest n h = grind (arith, common_steps)
 pub begun : (a b : Option (List ℕ)) (text written rest : List ℕ) → text ≡ written ++ rest → 0 < length rest → Appends a b written → TookBeginning a b text
 begun a b text written rest e h p =
     (length written, grind (arith, common_steps), (let f : take (length written) text ≡ written = grind (arith, common_steps) in subst (Appends a b) (sym f) p))
-
-pub appends_zero : (a b c : Option (List ℕ)) (xs rest : List ℕ) (n : ℕ) → n ≡ 0 → Appends a b xs → Appends b c (take n rest) → Appends a c xs
-appends_zero a b c xs rest n e p q =
-    let f : xs ++ take n rest ≡ xs = ap (λ k. xs ++ take k rest) e ∙ append-nil xs in
-    subst (Appends a c) f (appends_more a b c xs (take n rest) p q)
-
-pub failed_write-Rose : (a b n : ℕ) (bytes : List ℕ) → n ≡ 0 → 0 < length bytes → b ≡ counted (is_failed_write {E = ℕ} (Ok n) bytes) a → Rose a b
-failed_write-Rose a b n bytes e h p = grind (arith, nat_tests)
 
 pub good_write-counts : (a b n : ℕ) (bytes : List ℕ) → n ≢ 0 → b ≡ counted (is_failed_write {E = ℕ} (Ok n) bytes) a → b ≡ a
 good_write-counts a b n bytes e p = grind (arith, nat_tests)
