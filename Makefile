@@ -1,6 +1,8 @@
-.PHONY: run test
+.PHONY: run test test-hostile
 run:
 	cd crates/dlx1 && rt run -- m1 < ../../examples/seven.dlx
 test:
 	RT_JOBS=$$(nproc) rt ci
 	@sh tests/statuses.sh
+test-hostile:
+	@python3 scripts/hostile/hostile.py

@@ -1,0 +1,192 @@
+#!/usr/bin/env python3
+"""hostile.py [DIR]: tries the built programs on want of memory, on streams that fail and on input made to hurt.
+
+DIR holds dlx1, dlx2, dlx3 and dlxcheck; without it they are taken from where `make test` leaves them. Each try that
+goes wrong is told in a line. The last line is `N passed, M failed`. Needs cc for the parts that refuse memory.
+"""
+import os
+import subprocess
+import sys
+import tempfile
+
+HERE = os.path.dirname(os.path.abspath(__file__))
+TOP = os.path.dirname(os.path.dirname(HERE))
+PROGRAMS = sys.argv[1] if len(sys.argv) > 1 else None
+tried = {"passed": 0, "failed": 0}
+
+
+def path(program):
+    return os.path.join(PROGRAMS, program) if PROGRAMS else f"{TOP}/crates/{program}/out/{program}"
+
+
+def tell(is_well, what):
+    tried["passed" if is_well else "failed"] += 1
+    if not is_well:
+        print(what, flush=True)
+
+
+def run(words, text=b"", **how):
+    """Returns the status, standard output and standard error of a run."""
+    done = subprocess.run([path(words[0]), *words[1:]], input=text, capture_output=True, **how)
+    return done.returncode, done.stdout, done.stderr
+
+
+def expect(what, words, text, status, out=None, err=None, **how):
+    said = run(words, text, **how)
+    wanted = (status, said[1] if out is None else out, said[2] if err is None else err)
+    tell(said == wanted, f"{what}: {said[0]}, {said[1][:80]!r}, {said[2][:80]!r}, and not {status}, {(out or b'')[:80]!r}, {(err or b'')[:80]!r}")
+
+
+# ---- want of memory
+
+ROW_2 = b"p q r | x y\np q x y:A\np r x:A y\np x:B\nq x:A\nr y:B\n"
+ROW_3 = b"1:2|A B\nA\nA B\nB\n"
+ROW_11 = b"| test\r\n\r\nA | x\r\nx\r\nA x"
+
+
+def thousand():
+    """A problem of a thousand options, with colours in every second one."""
+    names = [f"item{i}" for i in range(100)]
+    lines = [" ".join(names[:50]) + " | " + " ".join(names[50:])]
+    for o in range(1000):
+        lines.append(f"item{o % 50} item{50 + o * 7 % 50}" + (f":c{o % 11}" if o % 2 else ""))
+    return ("\n".join(lines) + "\n").encode()
+
+
+def is_out_of_memory(said, usual):
+    """Says whether this is the answer where memory is wanting: warnings may have been told before, and nothing is printed."""
+    status, out, err = said
+    told = err.removesuffix(b"Out of memory.\n")
+    return status == 4 and out == b"" and told != err and usual[2].startswith(told)
+
+
+def refused_in_turn(what, shim, words, text):
+    """Refuses each growth in turn, until there is none to refuse."""
+    usual = run(words, text)
+    n, was_refused = 0, True
+    while was_refused:
+        n += 1
+        with tempfile.TemporaryFile() as told:
+            number = told.fileno()
+            env = {**os.environ, "LD_PRELOAD": shim, "REFUSE": str(n), "REFUSE_FD": str(number)}
+            said = run(words, text, env=env, pass_fds=[number])
+            was_refused = os.fstat(number).st_size > 0
+        tell(said == usual or is_out_of_memory(said, usual), f"{what}, growth {n} refused: {said[0]}, {said[1][:80]!r}, {said[2][:80]!r}")
+    tell(said == usual and n > 3, f"{what}: the run without a refusal, number {n}, differs")
+
+
+def want_of_memory(folder):
+    shim = f"{folder}/refuse.so"
+    subprocess.run(["cc", "-O1", "-shared", "-fPIC", "-o", shim, f"{HERE}/refuse.c"], check=True)
+    refused_in_turn("colours", shim, ["dlx2", "m1"], ROW_2)
+    refused_in_turn("bounds", shim, ["dlx3", "m1"], ROW_3)
+    refused_in_turn("an ignored option", shim, ["dlx1", "m1"], ROW_11)
+    refused_in_turn("a thousand options", shim, ["dlx2", "m1", "t3"], thousand())
+    for name, words, text in (("colours", ["dlx2", "m1"], ROW_2), ("a thousand options", ["dlx2", "m1", "t3"], thousand())):
+        file = f"{folder}/problem.dlx"
+        with open(file, "wb") as it:
+            it.write(text)
+        listing = run(words, text)[1]
+        refused_in_turn(f"the judge on {name}", shim, ["dlxcheck", file, "2"], listing)
+
+
+# ---- input made to hurt
+
+def items(count):
+    return b" ".join(b"n%d" % i for i in range(count))
+
+
+def large_inputs():
+    expect("100,000 items", ["dlx1"], items(100000) + b"\n", 0, b"", b"Altogether 0 solutions.\n")
+    expect("100,001 items", ["dlx1"], items(100001) + b"\n", 2, b"", b"Line 1: too many items.\n")
+    full = b"A | x y\n" + b"A x y\n" * 3333333 + b"A\n"
+    expect("10,000,000 uses", ["dlx1", "t1"], full, 0, b"", b"Altogether 1 solution (limit).\n")
+    expect("one use more", ["dlx1", "t1"], full + b"A\n", 2, b"", b"Line 3333336: too many uses.\n")
+    told = b"Option ignored (no primary items): line 3333336\nAltogether 1 solution (limit).\n"
+    expect("an ignored option behind them", ["dlx1", "t1"], full + b"x y\n", 0, b"", told)
+    expect("a comment of 100 MB", ["dlx1", "m1"], b"|" + b"x" * 100000000 + b"\nA\nA\n", 0, b"1:\n A (1 of 1)\n", b"Altogether 1 solution.\n")
+    expect("100 MB without a line feed", ["dlx1"], b"A " + b" " * 100000000, 0, b"", b"Altogether 0 solutions.\n")
+    expect("a name of 100 MB", ["dlx1"], b"A" * 100000000, 2, b"", b"Line 1: name too long.\n")
+    expect("a line of 100,000 spaces", ["dlx1"], b" " * 100000 + b"\nA\nA\n", 0, b"", b"Altogether 1 solution.\n")
+    own = items(2000)
+    expect("2,000 items with an option each", ["dlx1"], own + b"\n" + own.replace(b" ", b"\n") + b"\n", 0, b"", b"Altogether 1 solution.\n")
+
+
+def long_tokens():
+    """A token of 1,000 bytes in every place where one may stand, a NUL byte and bytes past ASCII."""
+    long = b"x" * 1000
+    for what, program, text, line, fault in (
+        ("a primary item", "dlx1", long + b"\n", 1, "name too long"),
+        ("a secondary item", "dlx1", b"A | " + long + b"\n", 1, "name too long"),
+        ("a bound", "dlx3", b"1" * 1000 + b"|A\n", 1, "bad bound"),
+        ("a bounded name", "dlx3", b"1|" + long + b"\n", 1, "name too long"),
+        ("a use", "dlx1", b"A\n" + long + b"\n", 2, "name too long"),
+        ("a coloured use", "dlx2", b"A | b\nA " + long + b":c\n", 2, "name too long"),
+        ("a colour", "dlx2", b"A | b\nA b:" + long + b"\n", 2, "bad colour"),
+        ("a NUL byte in a comment", "dlx1", b"| \0\nA\nA\n", 1, "NUL byte"),
+    ):
+        expect(f"1,000 bytes as {what}", [program], text, 2, b"", f"Line {line}: {fault}.\n".encode())
+    expect("bytes past ASCII", ["dlx2", "m1"], b"\xff\xfe | \x80\n\xff\xfe \x80:\xf0\x9f\n", 0, b"1:\n \xff\xfe \x80:\xf0\x9f (1 of 1)\n", b"Altogether 1 solution.\n")
+
+
+def cut_at_each_byte():
+    """Each beginning of a problem is accepted or refused, and nothing else."""
+    for n in range(len(ROW_2) + 1):
+        status, out, err = run(["dlx2", "m1"], ROW_2[:n])
+        tell(status in (0, 2) and (status == 0 or (out == b"" and err.startswith(b"Line "))), f"a problem cut at byte {n}: {status}, {err[:80]!r}")
+
+
+def deep(folder):
+    """A search of 50,000 levels, and its listing judged, on a small stack: what is read and written goes through 64 KB of it."""
+    names = [b"n%d" % i for i in range(50000)]
+    text = b" ".join(names) + b"\n" + b"\n".join(names) + b"\n"
+    file = f"{folder}/deep.dlx"
+    with open(file, "wb") as it:
+        it.write(text)
+    small = lambda words: ["sh", "-c", 'ulimit -s 128; exec "$@"', "sh", path(words[0]), *words[1:]]
+    done = subprocess.run(small(["dlx1", "m1"]), input=text, capture_output=True)
+    tell(done.returncode == 0 and done.stdout.count(b"\n") == 50001, f"50,000 levels on a small stack: {done.returncode}")
+    done = subprocess.run(small(["dlxcheck", file]), input=done.stdout, capture_output=True)
+    tell((done.returncode, done.stdout) == (0, b"1: cover\n"), f"50,000 lines judged on a small stack: {done.returncode}, {done.stdout[:80]!r}")
+
+
+# ---- streams as they are
+
+def streams(folder):
+    text = b"A\nA\n"
+    file = f"{folder}/small.dlx"
+    with open(file, "wb") as it:
+        it.write(text)
+
+    def shell(what, command, status, err):
+        done = subprocess.run(["sh", "-c", command], input=text, capture_output=True)
+        tell((done.returncode, done.stderr) == (status, err), f"{what}: {done.returncode}, {done.stderr[:80]!r}")
+
+    dlx1, judge = path("dlx1"), path("dlxcheck")
+    shell("standard output full", f"{dlx1} m1 >/dev/full", 3, b"Write failed.\n")
+    shell("standard output full, nothing printed", f"{dlx1} >/dev/full", 0, b"Altogether 1 solution.\n")
+    shell("standard output closed", f"{dlx1} m1 >&-", 3, b"Write failed.\n")
+    shell("standard error full", f"{dlx1} 2>/dev/full", 3, b"")
+    shell("standard input a folder", f"{dlx1} <{folder}", 3, b"Read failed.\n")
+    shell("standard input closed", f"{dlx1} <&-", 3, b"Read failed.\n")
+    shell("a reader that goes away", f"(sleep 0.2; {dlx1} m1; echo $? >&2) | :", 0, b"Write failed.\n3\n")
+    shell("the judge's problem missing", f"{judge} {folder}/missing", 3, b"Read failed.\n")
+    shell("the judge's problem a folder", f"{judge} {folder}", 3, b"Read failed.\n")
+    shell("the judge's listing a folder", f"{judge} {file} <{folder}", 3, b"Read failed.\n")
+    shell("the judge's output full", f"printf '1:\\n A (1 of 1)\\n' | {judge} {file} >/dev/full", 3, b"Write failed.\n")
+    os.mkfifo(f"{folder}/pipe")
+    shell("the judge's problem a pipe", f"(cat {file} >{folder}/pipe &) ; printf '1:\\n A (1 of 1)\\n' | {judge} {folder}/pipe", 0, b"")
+
+
+def main():
+    with tempfile.TemporaryDirectory(prefix="hostile-") as folder:
+        for part in (want_of_memory, deep, streams):
+            part(folder)
+        for part in (large_inputs, long_tokens, cut_at_each_byte):
+            part()
+    print(f"{tried['passed']} passed, {tried['failed']} failed")
+    return 1 if tried["failed"] else 0
+
+
+if __name__ == "__main__":
+    sys.exit(main())
