@@ -4,5 +4,6 @@ run:
 test:
 	RT_JOBS=$$(nproc) rt ci
 	@sh tests/statuses.sh
+	@sh tests/guide.sh docs/GUIDE.md
 test-hostile:
 	@python3 scripts/hostile/hostile.py
