@@ -1,4 +1,5 @@
 -- The linked tables after moves.
+pub mod LineChanges
 pub mod Sweep
 pub mod Mapped
 pub mod OneNode
@@ -53,7 +54,6 @@ pub mod PlaceLemmas
 pub mod SpacerPlaces
 pub mod SpanLemmas
 pub mod Spacers
-pub mod SpacerWalks
 pub mod FittedLemmas
 pub mod FilledColumns
 pub mod LaidNodes

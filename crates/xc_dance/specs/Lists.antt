@@ -3,4 +3,3 @@ pub mod Taking
 pub mod Versions
 pub mod Losing
 pub mod States
-pub mod Spans

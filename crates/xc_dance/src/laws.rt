@@ -8,7 +8,7 @@ use crate::{Count, Dance, Full, Links, Move};
 /// Makes a legal move and undoes it. Each field of the tables is then what it was, those of nodes
 /// that no list shows included, and both wrote as many cells. The same where the trail was full.
 pub fn there_and_back(links: &mut Links, m: Move) -> Result<(Count, Count), Full>
-    requires { IsLegal links.old.problem links.old.trail m }
+    requires { IsLegal links.old.puzzle links.old.trail m }
     ensures same { AreAsBefore links.old links.new }
     ensures cost { IfOk result (λ counts. counts.0 ≡ counts.1) }
 {

@@ -68,8 +68,8 @@ pub fn after<D: Dance + Drop>(made: Option<D>, moves: &[Move]) -> Option<D> {
 
 /// Makes the move and answers its cost; None where it is illegal or there is no room.
 pub fn make<D: Dance>(dance: &mut D, m: Move) -> Option<u64>
-    ensures made { IsSome result → D.trail dance.new ≡ m ∷ D.trail dance.old }
-    ensures problem { D.problem dance.new ≡ D.problem dance.old }
+    ensures made { IsSome result → (D.state dance.new).trail ≡ m ∷ (D.state dance.old).trail }
+    ensures problem { (D.state dance.new).puzzle ≡ (D.state dance.old).puzzle }
 {
     if !dance.can(&m) {
         return None;
@@ -82,7 +82,7 @@ pub fn make<D: Dance>(dance: &mut D, m: Move) -> Option<u64>
 
 /// Undoes the newest move and answers its cost; None where no move stands.
 pub fn undo<D: Dance>(dance: &mut D) -> Option<u64>
-    ensures { D.problem dance.new ≡ D.problem dance.old }
+    ensures { (D.state dance.new).puzzle ≡ (D.state dance.old).puzzle }
 {
     if dance.moves().is_empty() {
         return None;
@@ -92,7 +92,7 @@ pub fn undo<D: Dance>(dance: &mut D) -> Option<u64>
 
 /// Makes two tweaks of the item and undoes them at once. Answers the three costs.
 pub fn two_tweaks_at_once<D: Dance>(dance: &mut D, i: u32) -> Option<[u64; 3]>
-    ensures { D.problem dance.new ≡ D.problem dance.old }
+    ensures { (D.state dance.new).puzzle ≡ (D.state dance.old).puzzle }
 {
     let first = make(dance, Move::Tweak(i))?;
     let second = make(dance, Move::Tweak(i))?;
@@ -115,7 +115,7 @@ pub fn refuses<D: Dance>(dance: &D, moves: &[Move]) -> bool {
 
 /// Whether the item's list is this one, from top to bottom.
 fn is_list<D: Dance>(dance: &D, i: u32, wanted: &[u32]) -> bool
-    requires { IsItem (D.problem dance.now) i }
+    requires { IsItem (D.state dance.now).puzzle i }
 {
     let mut at = dance.first(i);
     for o in wanted {
@@ -129,7 +129,7 @@ fn is_list<D: Dance>(dance: &D, i: u32, wanted: &[u32]) -> bool
 
 /// Whether the items up to the last have these lists.
 pub fn are_lists<D: Dance>(dance: &D, last: u32, wanted: &[&[u32]]) -> bool
-    requires { IsItem (D.problem dance.now) last }
+    requires { IsItem (D.state dance.now).puzzle last }
 {
     for (before, list) in wanted.iter().enumerate() {
         let i = u32::try_from(before + 1).unwrap_or(0);
@@ -241,15 +241,15 @@ fn cost_of(step: &Step, counts: bool) -> Option<u64> {
 
 /// Whether the lists of items 1 to `last` and the open items are those of the step.
 fn is_at<D: Dance>(dance: &D, last: u32, step: &Step) -> bool
-    requires { IsItem (D.problem dance.now) last }
+    requires { IsItem (D.state dance.now).puzzle last }
 {
     are_lists(dance, last, step.lists) && are_open(dance, step.open)
 }
 
 /// Makes the moves of the steps, and looks at what stands after each.
 fn forth<D: Dance>(dance: &mut D, last: u32, steps: &[Step], counts: bool) -> bool
-    requires { IsItem (D.problem dance.old) last }
-    ensures { D.problem dance.new ≡ D.problem dance.old }
+    requires { IsItem (D.state dance.old).puzzle last }
+    ensures { (D.state dance.new).puzzle ≡ (D.state dance.old).puzzle }
 {
     for step in steps {
         if make(dance, step.made) != cost_of(step, counts) || !is_at(dance, last, step) {
@@ -261,8 +261,8 @@ fn forth<D: Dance>(dance: &mut D, last: u32, steps: &[Step], counts: bool) -> bo
 
 /// Undoes the moves of the steps, and looks at what stands before each undoing.
 fn back<D: Dance>(dance: &mut D, last: u32, steps: &[Step], counts: bool) -> bool
-    requires { IsItem (D.problem dance.old) last }
-    ensures { D.problem dance.new ≡ D.problem dance.old }
+    requires { IsItem (D.state dance.old).puzzle last }
+    ensures { (D.state dance.new).puzzle ≡ (D.state dance.old).puzzle }
 {
     for step in steps.iter().rev() {
         if !is_at(dance, last, step) || undo(dance) != cost_of(step, counts) {

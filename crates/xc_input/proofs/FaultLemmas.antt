@@ -1,22 +1,22 @@
 -- Checks in their order.
-use Rattle.std.proofs.Common.{◌≡◌, ℕ, suc, ◌+◌, ◌<◌, ◌≤◌, List, [], ◌∷◌, ◌++◌, Option, None, Some, Bool, true, false, ◌||◌, not, nat_lt, is_none, is_some, length, map, position, refl, ap, ◌∙◌, sym, subst, arith, if◌then◌else◌, Result, Ok, Err, Vec, Global}
+use Rattle.std.proofs.Common.{◌≡◌, ℕ, suc, ◌+◌, ◌<◌, ◌≤◌, List, [], ◌∷◌, ◌++◌, Option, None, Some, Bool, true, false, ◌||◌, not, nat_lt, is_none, is_some, length, map, position, refl, ap, ◌∙◌, sym, subst, arith, if◌then◌else◌, Result, Ok, Err, Vec, Global, vec_len}
 use Rattle.std.proofs.lemmas.Bool.Decides.{nat_tests}
 use Rattle.std.specs.List.{list_any, position_or_len}
 use Rattle.std.specs.Str.{bytes_eq}
 use Rattle.std.specs.Result.{OnOk, IsErrAnd}
-use Rattle.xc_input.specs.declared.Kind.{Kind}
-use Rattle.xc_input.specs.declared.FaultKind.{FaultKind}
-use Rattle.xc_input.specs.declared.FaultKind.TheVariants.{RepeatedName, TooManyItems}
-use Rattle.xc_input.specs.declared.draft.LineError.{LineError}
-use Rattle.xc_input.specs.declared.draft.LineError.TheVariants.{Fault, Memory}
+use Rattle.xc_input.specs.declared.kind.Kind.{Kind}
+use Rattle.xc_input.specs.declared.fault.FaultKind.{FaultKind}
+use Rattle.xc_input.specs.declared.fault.FaultKind.TheVariants.{RepeatedName, TooManyItems}
+use Rattle.xc_input.specs.declared.line_error.LineError.{LineError}
+use Rattle.xc_input.specs.declared.line_error.LineError.TheVariants.{Fault, Memory}
 use Rattle.xc_input.specs.Words.{place}
 use Rattle.xc_input.specs.Sheets.{Entry, names_of}
-use Rattle.xc_input.specs.Faults.{first, name_of, name_checks, bound_checks, item_checks, entry, most_items, Row, row_checks, row_of, part_checks, with_part}
+use Rattle.xc_input.specs.Faults.{first, name_of, name_checks, bound_checks, item_checks, entry, Row, row_checks, row_of, part_checks, with_part}
+use Rattle.xc_input.specs.Limits.{most_items}
 use Rattle.xc_input.specs.declared.problem.Item.{Item}
-use Rattle.xc_input.specs.Drafts.{Judged, entry_of}
+use Rattle.xc_input.specs.inner.Builders.{Judged, entry_of}
 use Rattle.xc_input.specs.Stored.{key_names}
 use Rattle.std.proofs.lemmas.Grind.{common_steps}
-use Rattle.std.proofs.Common.{vec_len}
 use Rattle.xc_input.proofs.TokenLemmas.{not_false, position-map}
 
 -- a check that holds among the first ones
@@ -39,6 +39,10 @@ first-all a b e f = first-back a b e ∙ f
 pub none-is : {A : Type 0} (o : Option A) → is_some o ≡ false → o ≡ None
 none-is None e = refl
 none-is (Some x) e = absurd (cc)
+
+pub some-is : {A : Type 0} (o : Option A) → is_none o ≡ false → (x : A) × (o ≡ Some x)
+some-is None e = absurd (cc)
+some-is (Some x) e = (x, refl)
 
 -- the answer that a caller hands on
 pub hands-on : (S T : Type 0) (a : Option FaultKind) (p q : List (FaultKind × Bool)) (e : LineError) → a ≡ first (p ++ q) → Judged {T = S} (first p) (Err e) → Judged {T = T} a (Err e)

@@ -1,21 +1,24 @@
 -- The answer at the end of a text.
-use Rattle.std.proofs.Common.{◌≡◌, ◌≤◌, ℕ, List, ◌∷◌, Option, None, Some, Bool, true, false, length, drop, All, ap, ◌∙◌, sym, subst, arith, MatchOption}
+use Rattle.std.proofs.Common.{◌≡◌, ◌≤◌, ℕ, List, ◌∷◌, Option, None, Some, Bool, true, false, length, map, drop, All, ap, ◌∙◌, sym, subst, arith, MatchOption}
 use Rattle.std.proofs.lemmas.List.{length-map}
-use Rattle.xc_input.specs.declared.Kind.{Kind}
-use Rattle.xc_input.specs.declared.InputError.{InputError}
-use Rattle.xc_input.specs.declared.InputError.TheVariants.{Fault, Device, Memory}
-use Rattle.xc_input.specs.declared.draft.Draft.{Draft}
+use Rattle.xc_input.specs.declared.kind.Kind.{Kind}
+use Rattle.xc_input.specs.declared.fault.InputError.{InputError}
+use Rattle.xc_input.specs.declared.fault.InputError.TheVariants.{Fault, Device, Memory}
+use Rattle.xc_input.specs.declared.builder.ProblemBuilder.{ProblemBuilder}
 use Rattle.xc_input.specs.Sheets.{named_of}
 use Rattle.xc_input.specs.Stages.{Stage, first_fault, stage_of, end_fault}
-use Rattle.xc_input.specs.Text.{IsSheetOf, StandsFor}
+use Rattle.xc_input.proofs.SheetValidity.{IsSheetOf}
+use Rattle.xc_input.specs.Text.{StandsFor}
 use Rattle.xc_input.specs.Named.{Named, IsSound}
-use Rattle.xc_input.specs.Stored.{named_from, key_names}
-use Rattle.xc_input.specs.Flat.{pieces, AreStarts, IsOptional}
-use Rattle.xc_input.specs.Drafts.{IsDraft, stage_of_draft, sheet_of_draft, entry_of}
+use Rattle.xc_input.specs.inner.Vectors.{named_from, IsOptional}
+use Rattle.xc_input.specs.Stored.{key_names}
+use Rattle.xc_input.specs.Flat.{pieces, AreStarts}
+use Rattle.xc_input.specs.inner.Builders.{IsBuilder, stage_of_builder, sheet_of_builder, entry_of}
 use Rattle.xc_input.specs.Lines.{AreWhole}
-use Rattle.xc_input.specs.Readings.{Reading, IsStateOf, IsEndOf, IsFault}
+use Rattle.xc_input.specs.Readings.{Reading, IsStateOf, IsFault}
+use Rattle.xc_input.specs.inner.Feeding.{IsEndOf}
 use Rattle.xc_input.proofs.ReadLemmas.{ends-at, end-is}
-use Rattle.xc_input.proofs.SoundLemmas.{sheet-sound, primaries-within, named-is, behind-bounds}
+use Rattle.xc_input.proofs.SoundLemmas.{sheet-sound, primaries-within, item-names, named-is, behind-bounds}
 use Rattle.xc_input.proofs.ValidLemmas.{valid}
 use Rattle.xc_input.proofs.LawLemmas.{stands, stands-only}
 
@@ -25,19 +28,19 @@ refutes kind lines Device h f p ig s = f
 refutes kind lines Memory h f p ig s = f
 
 -- the problem that a draft holds
-abbrev pub named_by : Draft → Named
+abbrev pub named_by : ProblemBuilder → Named
 named_by d = named_from d.items.items d.primary d.uses.items d.ends.items d.colours.keys
 
-by-draft : (d : Draft) → named_of (sheet_of_draft d) ≡ named_by d
-by-draft d = named-is d.items.items d.primary (pieces (0 ∷ d.ends.items) d.uses.items) (key_names d.colours.keys)
+by-builder : (d : ProblemBuilder) → named_of (sheet_of_builder d) ≡ named_by d
+by-builder d = named-is d.items.items d.primary (pieces (0 ∷ d.ends.items) d.uses.items) (key_names d.colours.keys)
 
 module _ (v : Reading) (kind : Kind) (lines : List (List ℕ)) (o : Option InputError) (is : v ≡ record { kind = kind; lines = lines; error = o }) (h : IsStateOf kind lines o) where
   pub refuses : (e : InputError) → o ≡ Some e → IsFault e → (p : Named) (ig : List ℕ) → StandsFor v.kind v.lines p ig → ⊥
   refuses e f w p ig s = refutes kind lines e (ends-at kind lines o e f h) w p ig (subst (λ (r : Reading). StandsFor r.kind r.lines p ig) is s)
 
-  module _ (f : o ≡ None) (d : Draft) (m : MatchOption o (IsDraft d × (stage_of_draft d ≡ stage_of kind lines)) (λ _. Unit {0})) where
-    whole : IsDraft d × (stage_of_draft d ≡ stage_of kind lines)
-    whole = subst (λ q. MatchOption q (IsDraft d × (stage_of_draft d ≡ stage_of kind lines)) (λ _. Unit {0})) f m
+  module _ (f : o ≡ None) (d : ProblemBuilder) (m : MatchOption o (IsBuilder d × (stage_of_builder d ≡ stage_of kind lines)) (λ _. Unit {0})) where
+    whole : IsBuilder d × (stage_of_builder d ≡ stage_of kind lines)
+    whole = subst (λ q. MatchOption q (IsBuilder d × (stage_of_builder d ≡ stage_of kind lines)) (λ _. Unit {0})) f m
 
     ended : (b : Bool) → d.started ≡ b → first_fault kind lines ≡ end_fault (length lines) b
     ended b g = end-is kind lines b o f h (sym g ∙ ap (λ (st : Stage). st.started) whole.1)
@@ -48,23 +51,26 @@ module _ (v : Reading) (kind : Kind) (lines : List (List ℕ)) (o : Option Input
         let t : StandsFor kind lines p ig = subst (λ (r : Reading). StandsFor r.kind r.lines p ig) is s in
         let b : first_fault kind lines ≡ None = (stands-only kind lines t.0 ig t.2).0 in absurd (cc)
 
-    written : d.started ≡ true → IsSheetOf kind lines (sheet_of_draft d) d.ignored.items
+    written : d.started ≡ true → IsSheetOf kind lines (sheet_of_builder d) d.ignored.items
     written g = subst (λ (st : Stage). IsSheetOf kind lines st.sheet st.ignored) (sym whole.1) (stands kind lines (ended true g))
 
     pub accepts : d.started ≡ true → StandsFor v.kind v.lines (named_by d) d.ignored.items
-    accepts g = subst (λ (r : Reading). StandsFor r.kind r.lines (named_by d) d.ignored.items) (sym is) (sheet_of_draft d, sym (by-draft d), written g)
+    accepts g = subst (λ (r : Reading). StandsFor r.kind r.lines (named_by d) d.ignored.items) (sym is) (sheet_of_builder d, sym (by-builder d), written g)
 
     pub alone : (p : Named) (ig : List ℕ) → StandsFor v.kind v.lines p ig → (p ≡ named_by d) × (ig ≡ d.ignored.items)
     alone p ig s =
         let t : StandsFor kind lines p ig = subst (λ (r : Reading). StandsFor r.kind r.lines p ig) is s in
         let q = stands-only kind lines t.0 ig t.2 in
-        (t.1 ∙ ap named_of (q.1 ∙ ap (λ (st : Stage). st.sheet) (sym whole.1)) ∙ by-draft d, q.2 ∙ ap (λ (st : Stage). st.ignored) (sym whole.1))
+        (t.1 ∙ ap named_of (q.1 ∙ ap (λ (st : Stage). st.sheet) (sym whole.1)) ∙ by-builder d, q.2 ∙ ap (λ (st : Stage). st.ignored) (sym whole.1))
+
+    pub table-names : key_names d.names.keys ≡ map (λ x. x.name.items) d.items.items
+    table-names = whole.0.names ∙ item-names d.items.items
 
     pub primary-within : d.started ≡ true → d.primary ≤ length d.items.items
-    primary-within g = omega (arith, primaries-within kind lines (sheet_of_draft d) d.ignored.items (written g), length-map d.items.items entry_of)
+    primary-within g = omega (arith, primaries-within kind lines (sheet_of_builder d) d.ignored.items (written g), length-map d.items.items entry_of)
 
     pub optional-behind : d.started ≡ true → All IsOptional (drop d.primary d.items.items)
-    optional-behind g = behind-bounds d.primary d.items.items (valid kind lines (sheet_of_draft d) d.ignored.items (written g)).bounds
+    optional-behind g = behind-bounds d.primary d.items.items (valid kind lines (sheet_of_builder d) d.ignored.items (written g)).bounds
 
     pub starts-are : AreStarts (0 ∷ d.ends.items) (length d.uses.items)
     starts-are = whole.0.ends
@@ -72,4 +78,4 @@ module _ (v : Reading) (kind : Kind) (lines : List (List ℕ)) (o : Option Input
     pub is-sound : AreWhole lines → d.started ≡ true → IsSound (named_by d)
     is-sound w g =
         let few : length (key_names d.colours.keys) ≤ 10000000 = omega (arith, whole.0.few_colours, whole.0.few_uses) in
-        subst IsSound (by-draft d) (sheet-sound kind lines (sheet_of_draft d) d.ignored.items (written g) w few)
+        subst IsSound (by-builder d) (sheet-sound kind lines (sheet_of_builder d) d.ignored.items (written g) w few)

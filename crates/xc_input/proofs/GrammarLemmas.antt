@@ -1,17 +1,18 @@
 -- Checks that don't hold, and what they say of a token.
-use Rattle.std.proofs.Common.{◌≡◌, ℕ, ◌<◌, ◌≤◌, List, [], ◌∷◌, ◌++◌, Option, None, Some, Bool, true, false, ◌||◌, ◌&&◌, not, nat_lt, nat_eq, is_none, length, refl, ap, ◌∙◌, sym, subst, arith, if◌then◌else◌}
+use Rattle.std.proofs.Common.{◌≡◌, ℕ, ◌<◌, ◌≤◌, List, [], ◌∷◌, ◌++◌, Option, None, Some, Bool, true, false, ◌||◌, ◌&&◌, not, nat_lt, nat_le, nat_eq, is_none, length, refl, ap, ◌∙◌, sym, subst, arith, if◌then◌else◌, inl, inr, ◌⊎◌}
 use Rattle.std.proofs.lemmas.Bool.Decides.{nat_tests}
 use Rattle.std.proofs.lemmas.Bool.{eqb-true}
-use Rattle.std.proofs.Common.{inl, inr, ◌⊎◌}
-use Rattle.xc_input.specs.declared.Kind.{Kind}
-use Rattle.xc_input.specs.declared.FaultKind.{FaultKind}
-use Rattle.xc_input.specs.declared.FaultKind.TheVariants.{EmptyName, NameTooLong, BadByteInName, RepeatedName, BadBound, BoundOrder, BoundOnSecondary, TooManyItems}
-use Rattle.xc_input.specs.Words.{has, before, after, place, is_digit, all_digits, is_number, number}
+use Rattle.xc_input.specs.declared.kind.Kind.{Kind}
+use Rattle.xc_input.specs.declared.fault.FaultKind.{FaultKind}
+use Rattle.xc_input.specs.declared.fault.FaultKind.TheVariants.{EmptyName, NameTooLong, BadByteInName, RepeatedName, BadBound, BoundOrder, BoundOnSecondary, TooManyItems}
+use Rattle.xc_input.specs.Words.{has, before, after, place, is_digit, is_number, number}
 use Rattle.xc_input.specs.Sheets.{Entry}
-use Rattle.xc_input.specs.Faults.{first, is_bounds, name_checks, has_prefix, name_of, low_text, high_text, prefix_checks, bound_checks, item_checks, entry, most_items}
+use Rattle.xc_input.specs.Faults.{first, is_bounds, name_checks, has_prefix, name_of, low_text, high_text, prefix_checks, bound_checks, item_checks, entry}
+use Rattle.xc_input.specs.Limits.{most_items}
 use Rattle.xc_input.specs.Named.{IsName}
 use Rattle.xc_input.specs.Text.{AreBounds, IsBare, IsBounded, IsEntry}
 use Rattle.xc_input.proofs.FaultLemmas.{first-back}
+use Rattle.std.specs.List.{list_all}
 
 -- of checks none of which holds
 pub split : {A : Type 0} (a b : List (A × Bool)) → first (a ++ b) ≡ None → (first a ≡ None) × (first b ≡ None)
@@ -104,16 +105,15 @@ cut-at b (x ∷ p) q e =
 
 -- NUMBERS
 digit-no-colon : (x : ℕ) → is_digit x ≡ true → nat_eq x 58 ≡ false
-digit-no-colon x e = let a = and-true (not (nat_lt x 48)) (nat_lt x 58) e in let b : nat_lt x 58 ≡ true = a.1 in grind (arith, nat_tests)
+digit-no-colon x e = let a = and-true (nat_le 48 x) (nat_le x 57) e in let b : nat_le x 57 ≡ true = a.1 in grind (arith, nat_tests)
 
-digits-no-colon : (xs : List ℕ) → all_digits xs ≡ true → has 58 xs ≡ false
+digits-no-colon : (xs : List ℕ) → list_all is_digit xs ≡ true → has 58 xs ≡ false
 digits-no-colon [] e = refl
 digits-no-colon (x ∷ xs) e =
-    let P : Bool → Type 0 = λ t. is_digit x ≡ t → (if t then all_digits xs else false) ≡ true → (nat_eq x 58 || has 58 xs) ≡ false in
-    let h : P (is_digit x) = (elim (is_digit x) as P [ true ↦ λ f g. or-both (nat_eq x 58) (has 58 xs) (digit-no-colon x f) (digits-no-colon xs g) | false ↦ λ f g. absurd (cc) ]) in h refl e
+    let a = and-true (is_digit x) (list_all is_digit xs) e in or-both (nat_eq x 58) (has 58 xs) (digit-no-colon x a.0) (digits-no-colon xs a.1)
 
 pub number-no-colon : (text : List ℕ) → is_number text ≡ true → has 58 text ≡ false
-number-no-colon text e = digits-no-colon text (and-true (not (nat_lt (length text) 1) && not (nat_lt 9 (length text))) (all_digits text) e).1
+number-no-colon text e = digits-no-colon text (and-true (nat_le 1 (length text) && nat_le (length text) 9) (list_all is_digit text) e).1
 
 -- BOUNDS
 texts : (prefix : List ℕ) → is_number (low_text prefix) ≡ true → is_number (high_text prefix) ≡ true → AreBounds prefix (number (low_text prefix)) (number (high_text prefix))

@@ -1,23 +1,27 @@
 -- The grammar relates lines to a problem exactly where they have no fault, and then to the one that the lines give.
-use Rattle.std.proofs.Common.{◌≡◌, ℕ, suc, ◌+◌, ◌<◌, ◌≤◌, List, [], ◌∷◌, ◌++◌, Option, None, Some, Bool, true, false, ◌&&◌, not, nat_lt, nat_eq, is_none, is_some, unwrap_or, length, refl, ap, ◌∙◌, sym, subst, arith, if◌then◌else◌, inl, inr, ◌⊎◌, append_assoc}
+use Rattle.std.proofs.Common.{◌≡◌, ℕ, suc, ◌+◌, ◌<◌, ◌≤◌, List, [], ◌∷◌, ◌++◌, Option, None, Some, Bool, true, false, ◌&&◌, not, nat_lt, nat_eq, is_none, is_some, unwrap_or, length, refl, ap, ◌∙◌, sym, subst, arith, if◌then◌else◌, inl, inr, ◌⊎◌, append_assoc, map}
 use Rattle.std.proofs.lemmas.Bool.Decides.{nat_tests}
-use Rattle.std.proofs.lemmas.List.{append-nil}
+use Rattle.std.proofs.lemmas.List.{append-nil, length-map}
 use Rattle.std.specs.List.{list_any}
-use Rattle.xc_input.specs.declared.Kind.{Kind}
-use Rattle.xc_input.specs.declared.FaultKind.{FaultKind}
-use Rattle.xc_input.specs.declared.FaultKind.TheVariants.{NulByte, TwoBars, UnknownItem, RepeatedInOption, ColourOnPrimary, BadColour, ColourNotHere, TooManyUses}
+use Rattle.xc_input.specs.declared.kind.Kind.{Kind}
+use Rattle.xc_input.specs.declared.fault.FaultKind.{FaultKind}
+use Rattle.xc_input.specs.declared.fault.FaultKind.TheVariants.{NulByte, TwoBars, UnknownItem, RepeatedInOption, ColourOnPrimary, BadColour, ColourNotHere, TooManyUses}
 use Rattle.xc_input.specs.declared.problem.Use.{Use}
 use Rattle.xc_input.specs.Words.{has, before, after, place}
 use Rattle.xc_input.specs.Tokens.{tokens, parts, is_bar, is_skipped}
 use Rattle.std.proofs.lemmas.List.Sums.{sum_by-append}
 use Rattle.xc_input.specs.Sheets.{Entry, Sheet, Written, names_of, number_uses, with_uses, with_colour, use_count}
-use Rattle.xc_input.specs.Faults.{first, is_plain, name_checks, item_checks, entry, Row, no_row, part_checks, with_part, row_checks, row_of, most_uses, item_number, is_bad_colour, token_checks, option_checks, written, all_written, has_primary}
-use Rattle.xc_input.specs.Stages.{Stage, Place, no_stage, content_checks, line_checks, with_option, with_line, line_number, fault_or, fault_from, stage_from, stage_of, line_fault, first_fault, end_fault, or_else}
-use Rattle.xc_input.specs.Named.{IsName}
-use Rattle.xc_input.specs.Text.{AreItems, IsUse, AreUses, HasPrimary, HasNone, AreOptions, IsSheetFrom, IsSheetOf}
-use Rattle.xc_input.proofs.FaultLemmas.{first-all, names_of-snoc, names_of-length}
+use Rattle.xc_input.specs.Faults.{first, is_plain, name_checks, item_checks, entry, Row, no_row, part_checks, with_part, row_checks, row_of, item_number, is_bad_colour, token_checks, option_checks, written, has_primary, context}
+use Rattle.xc_input.specs.Limits.{most_uses}
+use Rattle.xc_input.specs.Stages.{Stage, Place, no_stage, content_checks, line_checks, with_option, with_line, line_number, fault_from, stage_from, stage_of, line_fault, first_fault, end_fault}
+use Rattle.xc_input.proofs.ReadLemmas.{fault_or}
+use Rattle.xc_input.specs.Named.{IsName, IsColour}
+use Rattle.xc_input.specs.Text.{AreItems, IsUse, AreUses, AreOptions, IsSheetFrom}
+use Rattle.xc_input.proofs.SheetValidity.{number_uses-length, IsSheetOf, so_far}
+use Rattle.xc_input.proofs.FaultLemmas.{some-is, first-all, names_of-snoc, names_of-length}
 use Rattle.xc_input.proofs.GrammarLemmas.{split, head, cons, or-false, or-both, and-false, not-false, name-good, good-name, cut-is, no-cut, cut-at, item-good, good-item}
 use Rattle.xc_input.proofs.OptionLemmas.{none-after}
+use Rattle.std.specs.Option.{option_or}
 
 -- a step at a bar, and at another part
 abbrev R : List Entry → Option ℕ → Row
@@ -97,10 +101,6 @@ good-row kind entries bar (p ∷ ps) es n (inr h) =
     )
 
 -- AN OPTION LINE
-is-some-place : (o : Option ℕ) → is_none o ≡ false → (i : ℕ) × (o ≡ Some i)
-is-some-place None e = absurd (cc)
-is-some-place (Some i) e = (i, refl)
-
 plain-off : (b : Bool) → (b && true) ≡ false → b ≡ false
 plain-off true e = absurd (cc)
 plain-off false e = refl
@@ -114,7 +114,7 @@ module _ (kind : Kind) (names : List (List ℕ)) (primaries : ℕ) (seen token :
 
   use-form : (t : Bool) → has 58 token ≡ t → (is_plain kind && has 58 token) ≡ false → (has 58 token && not (nat_lt primaries (item_number names (before 58 token)))) ≡ false → (has 58 token && is_bad_colour (after 58 token)) ≡ false
       → ((token ≡ before 58 token) × (after 58 token ≡ []))
-      ⊎ ((token ≡ before 58 token ++ 58 ∷ after 58 token) × (is_plain kind ≡ false) × (primaries < item_number names (before 58 token)) × (1 ≤ length (after 58 token)) × (length (after 58 token) ≤ 8))
+      ⊎ ((token ≡ before 58 token ++ 58 ∷ after 58 token) × (is_plain kind ≡ false) × (primaries < item_number names (before 58 token)) × IsColour (after 58 token))
   use-form false f a b c = inl (sym (no-cut 58 token f), none-after 58 token f)
   use-form true f a b c =
       let p : (is_plain kind && true) ≡ false = ap (λ t. is_plain kind && t) (sym f) ∙ a in
@@ -124,9 +124,9 @@ module _ (kind : Kind) (names : List (List ℕ)) (primaries : ℕ) (seen token :
       let o = or-false (nat_lt (length (after 58 token)) 1) (nat_lt 8 (length (after 58 token))) d in
       let o0 : nat_lt (length (after 58 token)) 1 ≡ false = o.0 in
       let o1 : nat_lt 8 (length (after 58 token)) ≡ false = o.1 in
-      inr ((cut-is 58 token f).0, plain-off (is_plain kind) p, grind (arith, nat_tests), grind (arith, nat_tests), grind (arith, nat_tests))
+      inr ((cut-is 58 token f).0, plain-off (is_plain kind) p, grind (arith, nat_tests), (grind (arith, nat_tests), grind (arith, nat_tests)))
 
-  pub use-good : first (token_checks kind names primaries seen token) ≡ None → IsUse kind names primaries token (written names token) × (list_any (λ i. nat_eq i (item_number names (before 58 token))) seen ≡ false)
+  pub use-good : first (token_checks (context kind names primaries) seen token) ≡ None → IsUse (context kind names primaries) token (written names token) × (list_any (λ i. nat_eq i (item_number names (before 58 token))) seen ≡ false)
   use-good e =
       let name : List ℕ = before 58 token in
       let a = head ColourNotHere (is_plain kind && has 58 token) (name_checks (before 58 token) ++ tail (before 58 token)) e in
@@ -135,12 +135,12 @@ module _ (kind : Kind) (names : List (List ℕ)) (primaries : ℕ) (seen token :
       let d = head RepeatedInOption (list_any (λ i. nat_eq i (item_number names (before 58 token))) seen) ((ColourOnPrimary, has 58 token && not (nat_lt primaries (item_number names (before 58 token)))) ∷ (BadColour, has 58 token && is_bad_colour (after 58 token)) ∷ []) c.1 in
       let f = head ColourOnPrimary (has 58 token && not (nat_lt primaries (item_number names (before 58 token)))) ((BadColour, has 58 token && is_bad_colour (after 58 token)) ∷ []) d.1 in
       let g = head BadColour (has 58 token && is_bad_colour (after 58 token)) [] f.1 in
-      let i = is-some-place (place names (before 58 token)) c.0 in
+      let i = some-is (place names (before 58 token)) c.0 in
       ((before 58 token, i.0, name-good (before 58 token) b.0, i.1, ap (λ o. unwrap_or o 0 + 1) i.1, use-form (has 58 token) refl a.0 f.0 g.0), d.0)
 
   use-parts : (name : List ℕ) (i : ℕ) (u : Written) → IsName name → place names name ≡ Some i → u.item ≡ i + 1 → before 58 token ≡ name → after 58 token ≡ u.colour → list_any (λ j. nat_eq j u.item) seen ≡ false
       → (is_plain kind && has 58 token) ≡ false → (has 58 token && not (nat_lt primaries (item_number names (before 58 token)))) ≡ false → (has 58 token && is_bad_colour (after 58 token)) ≡ false
-      → (u ≡ written names token) × (first (token_checks kind names primaries seen token) ≡ None)
+      → (u ≡ written names token) × (first (token_checks (context kind names primaries) seen token) ≡ None)
   use-parts name i u n p q bf af once a b c =
       let it : item_number names (before 58 token) ≡ u.item = ap (λ x. unwrap_or (place names x) 0 + 1) bf ∙ ap (λ o. unwrap_or o 0 + 1) p ∙ sym q in (
         (λ j. record { item = sym it j; colour = sym af j }),
@@ -154,7 +154,7 @@ module _ (kind : Kind) (names : List (List ℕ)) (primaries : ℕ) (seen token :
             (cons BadColour (has 58 token && is_bad_colour (after 58 token)) [] c refl))))),
       )
 
-  pub good-use : (u : Written) → IsUse kind names primaries token u → list_any (λ j. nat_eq j u.item) seen ≡ false → (u ≡ written names token) × (first (token_checks kind names primaries seen token) ≡ None)
+  pub good-use : (u : Written) → IsUse (context kind names primaries) token u → list_any (λ j. nat_eq j u.item) seen ≡ false → (u ≡ written names token) × (first (token_checks (context kind names primaries) seen token) ≡ None)
   good-use u (name, i, n, p, q, inl h) once =
       let no : has 58 token ≡ false = ap (has 58) h.0 ∙ n.no_colon in
       use-parts name i u n p q (no-cut 58 token no ∙ h.0) (none-after 58 token no ∙ sym h.1) once
@@ -165,8 +165,8 @@ module _ (kind : Kind) (names : List (List ℕ)) (primaries : ℕ) (seen token :
       let af : after 58 token ≡ u.colour = ap (after 58) h.0 ∙ c.1 in
       let it : item_number names (before 58 token) ≡ u.item = ap (λ x. unwrap_or (place names x) 0 + 1) bf ∙ ap (λ o. unwrap_or o 0 + 1) p ∙ sym q in
       let lt : primaries < u.item = h.2 in
-      let s : 1 ≤ length u.colour = h.3 in
-      let l : length u.colour ≤ 8 = h.4 in
+      let s : 1 ≤ length u.colour = h.3.0 in
+      let l : length u.colour ≤ 8 = h.3.1 in
       let x : nat_lt primaries u.item ≡ true = grind (arith, nat_tests) in
       let y : nat_lt (length u.colour) 1 ≡ false = grind (arith, nat_tests) in
       let z : nat_lt 8 (length u.colour) ≡ false = grind (arith, nat_tests) in
@@ -175,19 +175,19 @@ module _ (kind : Kind) (names : List (List ℕ)) (primaries : ℕ) (seen token :
       (ap (λ k. has 58 token && is_bad_colour k) af ∙ ap (λ t. has 58 token && t) (or-both (nat_lt (length u.colour) 1) (nat_lt 8 (length u.colour)) y z) ∙ and-false (has 58 token))
 
 -- tokens with no fault are uses
-pub uses-good : (kind : Kind) (names : List (List ℕ)) (primaries : ℕ) (seen : List ℕ) (ts : List (List ℕ)) → first (option_checks kind names primaries seen ts) ≡ None → AreUses kind names primaries seen ts (all_written names ts)
+pub uses-good : (kind : Kind) (names : List (List ℕ)) (primaries : ℕ) (seen : List ℕ) (ts : List (List ℕ)) → first (option_checks (context kind names primaries) seen ts) ≡ None → AreUses (context kind names primaries) seen ts (map (written names) ts)
 uses-good kind names primaries seen [] e = refl
 uses-good kind names primaries seen (t ∷ ts) e =
-    let a = split (token_checks kind names primaries seen t) (option_checks kind names primaries (seen ++ item_number names (before 58 t) ∷ []) ts) e in
+    let a = split (token_checks (context kind names primaries) seen t) (option_checks (context kind names primaries) (seen ++ item_number names (before 58 t) ∷ []) ts) e in
     let g = use-good kind names primaries seen t a.0 in
-    (written names t, all_written names ts, refl, g.0, g.1, uses-good kind names primaries (seen ++ item_number names (before 58 t) ∷ []) ts a.1)
+    (written names t, map (written names) ts, refl, g.0, g.1, uses-good kind names primaries (seen ++ item_number names (before 58 t) ∷ []) ts a.1)
 
-pub good-uses : (kind : Kind) (names : List (List ℕ)) (primaries : ℕ) (seen : List ℕ) (ts : List (List ℕ)) (us : List Written) → AreUses kind names primaries seen ts us → (us ≡ all_written names ts) × (first (option_checks kind names primaries seen ts) ≡ None)
+pub good-uses : (kind : Kind) (names : List (List ℕ)) (primaries : ℕ) (seen : List ℕ) (ts : List (List ℕ)) (us : List Written) → AreUses (context kind names primaries) seen ts us → (us ≡ map (written names) ts) × (first (option_checks (context kind names primaries) seen ts) ≡ None)
 good-uses kind names primaries seen [] us h = (h, refl)
 good-uses kind names primaries seen (t ∷ ts) us h =
     let g = good-use kind names primaries seen t h.0 h.3 h.4 in
-    let r = good-uses kind names primaries (seen ++ item_number names (before 58 t) ∷ []) ts h.1 (subst (λ i. AreUses kind names primaries (seen ++ i ∷ []) ts h.1) (ap (λ u. u.item) g.0) h.5) in
-    (h.2 ∙ (λ i. g.0 i ∷ r.0 i), first-all (token_checks kind names primaries seen t) (option_checks kind names primaries (seen ++ item_number names (before 58 t) ∷ []) ts) g.1 r.1)
+    let r = good-uses kind names primaries (seen ++ item_number names (before 58 t) ∷ []) ts h.1 (subst (λ i. AreUses (context kind names primaries) (seen ++ i ∷ []) ts h.1) (ap (λ u. u.item) g.0) h.5) in
+    (h.2 ∙ (λ i. g.0 i ∷ r.0 i), first-all (token_checks (context kind names primaries) seen t) (option_checks (context kind names primaries) (seen ++ item_number names (before 58 t) ∷ []) ts) g.1 r.1)
 
 -- THE LINES
 abbrev S : List Entry → ℕ → List (List Use) → List (List ℕ) → List ℕ → Stage
@@ -200,41 +200,8 @@ both-none n (Some k) later e = absurd (cc)
 none-both : (n : ℕ) (k : Option FaultKind) (later : Option Place) → k ≡ None → later ≡ None → fault_or n k later ≡ None
 none-both n k later e f = ap (λ q. fault_or n q later) e ∙ f
 
-written-length : (names : List (List ℕ)) (ts : List (List ℕ)) → length (all_written names ts) ≡ length ts
-written-length names [] = refl
-written-length names (t ∷ ts) = ap suc (written-length names ts)
-
 count-snoc : (os : List (List Use)) (o : List Use) → use_count (os ++ o ∷ []) ≡ use_count os + length o
 count-snoc os o = let split : use_count (os ++ o ∷ []) ≡ use_count os + (0 + length o) = sum_by-append (λ us. length us) os (o ∷ []) in omega (arith, split)
-
-numbered-length : (cs : List (List ℕ)) (us : List Written) → length (number_uses cs us) ≡ length us
-numbered-length cs [] = refl
-numbered-length cs (u ∷ us) = ap suc (numbered-length (with_colour cs u.colour) us)
-
-is-primary : (primaries : ℕ) (us : List Written) → has_primary primaries us ≡ true → HasPrimary primaries us
-is-primary primaries [] e = absurd (cc)
-is-primary primaries (u ∷ us) e =
-    let P : Bool → Type 0 = λ t. nat_lt primaries u.item ≡ t → (if t then has_primary primaries us else true) ≡ true → (u.item ≤ primaries) ⊎ HasPrimary primaries us in
-    let h : P (nat_lt primaries u.item) = (elim (nat_lt primaries u.item) as P [ true ↦ λ f g. inr (is-primary primaries us g) | false ↦ λ f g. inl (grind (arith, nat_tests)) ]) in h refl e
-
-is-none-primary : (primaries : ℕ) (us : List Written) → has_primary primaries us ≡ false → HasNone primaries us
-is-none-primary primaries [] e = tt
-is-none-primary primaries (u ∷ us) e =
-    let P : Bool → Type 0 = λ t. nat_lt primaries u.item ≡ t → (if t then has_primary primaries us else true) ≡ false → (primaries < u.item) × HasNone primaries us in
-    let h : P (nat_lt primaries u.item) = (elim (nat_lt primaries u.item) as P [ true ↦ λ f g. (grind (arith, nat_tests), is-none-primary primaries us g) | false ↦ λ f g. absurd (cc) ]) in h refl e
-
-either : (a b : Bool) → b ≡ true → (if a then b else true) ≡ true
-either true b e = e
-either false b e = refl
-
-primary-is : (primaries : ℕ) (us : List Written) → HasPrimary primaries us → has_primary primaries us ≡ true
-primary-is primaries [] h = absurd h
-primary-is primaries (u ∷ us) (inl h) = let z : nat_lt primaries u.item ≡ false = grind (arith, nat_tests) in ap (λ t. if t then has_primary primaries us else true) z
-primary-is primaries (u ∷ us) (inr h) = either (nat_lt primaries u.item) (has_primary primaries us) (primary-is primaries us h)
-
-none-primary-is : (primaries : ℕ) (us : List Written) → HasNone primaries us → has_primary primaries us ≡ false
-none-primary-is primaries [] h = refl
-none-primary-is primaries (u ∷ us) h = let l : primaries < u.item = h.0 in let z : nat_lt primaries u.item ≡ true = grind (arith, nat_tests) in ap (λ t. if t then has_primary primaries us else true) z ∙ none-primary-is primaries us h.1
 
 -- a line with no fault
 abbrev IsClear : Kind → Stage → List ℕ → Type 0
@@ -257,7 +224,7 @@ module _ (kind : Kind) (entries : List Entry) (primaries : ℕ) where
   names = names_of entries
 
   abbrev lineuses : List ℕ → List Written
-  lineuses line = all_written names (tokens line)
+  lineuses line = map (written names) (tokens line)
 
   abbrev whole : List (List Use) → List ℕ → List (FaultKind × Bool)
   whole options line = (TooManyUses, has_primary primaries (lineuses line) && nat_lt most_uses (use_count options + length (tokens line))) ∷ []
@@ -277,21 +244,21 @@ module _ (kind : Kind) (entries : List Entry) (primaries : ℕ) where
 
   abbrev IsRest : List (List Use) → List (List ℕ) → List ℕ → ℕ → List (List ℕ) → Stage → Type 0
   IsRest options colours ignored n lines stage =
-      (os : List (List Use)) × (ig : List ℕ) × (cs : List (List ℕ)) × (stage ≡ S entries primaries (options ++ os) cs (ignored ++ ig)) × AreOptions kind names primaries n (use_count options) colours lines os ig cs
+      (os : List (List Use)) × (ig : List ℕ) × (cs : List (List ℕ)) × (stage ≡ S entries primaries (options ++ os) cs (ignored ++ ig)) × AreOptions (context kind names primaries) (so_far n (use_count options) colours) lines os ig cs
 
   room-of : (options : List (List Use)) (line : List ℕ) → has_primary primaries (lineuses line) ≡ true → (has_primary primaries (lineuses line) && nat_lt most_uses (use_count options + length (tokens line))) ≡ false → use_count options + length (lineuses line) ≤ most_uses
   room-of options line e f =
       let g : nat_lt most_uses (use_count options + length (tokens line)) ≡ false = ap (λ t. t && nat_lt most_uses (use_count options + length (tokens line))) (sym e) ∙ f in
-      let l : length (lineuses line) ≡ length (tokens line) = written-length names (tokens line) in grind (arith, nat_tests)
+      let l : length (lineuses line) ≡ length (tokens line) = length-map (tokens line) (written names) in grind (arith, nat_tests)
 
   no-room : (options : List (List Use)) (line : List ℕ) → use_count options + length (lineuses line) ≤ most_uses → (has_primary primaries (lineuses line) && nat_lt most_uses (use_count options + length (tokens line))) ≡ false
   no-room options line h =
-      let l : length (lineuses line) ≡ length (tokens line) = written-length names (tokens line) in
+      let l : length (lineuses line) ≡ length (tokens line) = length-map (tokens line) (written names) in
       let g : nat_lt most_uses (use_count options + length (tokens line)) ≡ false = grind (arith, nat_tests) in
       ap (λ t. has_primary primaries (lineuses line) && t) g ∙ and-false (has_primary primaries (lineuses line))
 
   count-next : (options : List (List Use)) (colours : List (List ℕ)) (line : List ℕ) → use_count (options ++ number_uses colours (lineuses line) ∷ []) ≡ use_count options + length (lineuses line)
-  count-next options colours line = count-snoc options (number_uses colours (lineuses line)) ∙ ap (λ n. use_count options + n) (numbered-length colours (lineuses line))
+  count-next options colours line = count-snoc options (number_uses colours (lineuses line)) ∙ ap (λ n. use_count options + n) (number_uses-length colours (lineuses line))
 
   -- one line behind the item line, before others with no fault
   after-skip : (options : List (List Use)) (colours : List (List ℕ)) (ignored : List ℕ) (n : ℕ) (line : List ℕ) (lines : List (List ℕ)) → has 0 line ≡ false → is_skipped line ≡ true
@@ -300,7 +267,7 @@ module _ (kind : Kind) (entries : List Entry) (primaries : ℕ) where
   after-skip options colours ignored n line lines z f r =
       (r.0, r.1, r.2, ap (λ st. stage_from kind (n + 1) st lines) (skips (line_number (n + 1)) options colours ignored line f) ∙ r.3, (z, inl (f, r.4)))
 
-  after-drop : (options : List (List Use)) (colours : List (List ℕ)) (ignored : List ℕ) (n : ℕ) (line : List ℕ) (lines : List (List ℕ)) → has 0 line ≡ false → is_skipped line ≡ false → AreUses kind names primaries [] (tokens line) (lineuses line)
+  after-drop : (options : List (List Use)) (colours : List (List ℕ)) (ignored : List ℕ) (n : ℕ) (line : List ℕ) (lines : List (List ℕ)) → has 0 line ≡ false → is_skipped line ≡ false → AreUses (context kind names primaries) [] (tokens line) (lineuses line)
       → has_primary primaries (lineuses line) ≡ false
       → IsRest options colours (ignored ++ line_number (n + 1) ∷ []) (n + 1) lines (stage_from kind (n + 1) (S entries primaries options colours (ignored ++ line_number (n + 1) ∷ [])) lines)
       → IsRest options colours ignored n (line ∷ lines) (stage_from kind (n + 1) (with_line kind (line_number (n + 1)) (S entries primaries options colours ignored) line) lines)
@@ -309,10 +276,10 @@ module _ (kind : Kind) (entries : List Entry) (primaries : ℕ) where
     line_number (n + 1) ∷ r.1,
     r.2,
     ap (λ st. stage_from kind (n + 1) st lines) (drops (line_number (n + 1)) options colours ignored line f g) ∙ r.3 ∙ ap (λ ig. S entries primaries (options ++ r.0) r.2 ig) (append_assoc ignored (line_number (n + 1) ∷ []) r.1),
-    (z, inr (lineuses line, f, u, inl (r.1, is-none-primary primaries (lineuses line) g, refl, r.4))),
+    (z, inr (lineuses line, f, u, inl (r.1, g, refl, r.4))),
   )
 
-  after-keep : (options : List (List Use)) (colours : List (List ℕ)) (ignored : List ℕ) (n : ℕ) (line : List ℕ) (lines : List (List ℕ)) → has 0 line ≡ false → is_skipped line ≡ false → AreUses kind names primaries [] (tokens line) (lineuses line)
+  after-keep : (options : List (List Use)) (colours : List (List ℕ)) (ignored : List ℕ) (n : ℕ) (line : List ℕ) (lines : List (List ℕ)) → has 0 line ≡ false → is_skipped line ≡ false → AreUses (context kind names primaries) [] (tokens line) (lineuses line)
       → has_primary primaries (lineuses line) ≡ true → use_count options + length (lineuses line) ≤ most_uses
       → IsRest (options ++ number_uses colours (lineuses line) ∷ []) (with_uses colours (lineuses line)) ignored (n + 1) lines (stage_from kind (n + 1) (S entries primaries (options ++ number_uses colours (lineuses line) ∷ []) (with_uses colours (lineuses line)) ignored) lines)
       → IsRest options colours ignored n (line ∷ lines) (stage_from kind (n + 1) (with_line kind (line_number (n + 1)) (S entries primaries options colours ignored) line) lines)
@@ -329,10 +296,10 @@ module _ (kind : Kind) (entries : List Entry) (primaries : ℕ) where
         u,
         inr (
           r.0,
-          is-primary primaries (lineuses line) g,
+          g,
           room,
           refl,
-          subst (λ c. AreOptions kind names primaries (n + 1) c (with_uses colours (lineuses line)) lines r.0 r.1 r.2) (count-next options colours line) r.4,
+          subst (λ c. AreOptions (context kind names primaries) (so_far (n + 1) c (with_uses colours (lineuses line))) lines r.0 r.1 r.2) (count-next options colours line) r.4,
         ),
       ),
     ),
@@ -347,16 +314,16 @@ module _ (kind : Kind) (entries : List Entry) (primaries : ℕ) where
       let b = clear kind (S entries primaries options colours ignored) line a.0 in
       let skip : is_skipped line ≡ true → IsRest options colours ignored n (line ∷ lines) (stage_from kind (n + 1) (with_line kind (line_number (n + 1)) (S entries primaries options colours ignored) line) lines) = λ f.
       after-skip options colours ignored n line lines b.0 f (options-good options colours ignored (n + 1) lines (ap (λ st. fault_from kind (n + 1) st lines) (sym (skips (line_number (n + 1)) options colours ignored line f)) ∙ a.1)) in
-      let P : Bool → Type 0 = λ t. has_primary primaries (lineuses line) ≡ t → is_skipped line ≡ false → first (option_checks kind names primaries [] (tokens line) ++ whole options line) ≡ None
+      let P : Bool → Type 0 = λ t. has_primary primaries (lineuses line) ≡ t → is_skipped line ≡ false → first (option_checks (context kind names primaries) [] (tokens line) ++ whole options line) ≡ None
       → IsRest options colours ignored n (line ∷ lines) (stage_from kind (n + 1) (with_line kind (line_number (n + 1)) (S entries primaries options colours ignored) line) lines) in
       let goes : P (has_primary primaries (lineuses line)) = (elim (has_primary primaries (lineuses line)) as P [
         | true ↦ λ g f k.
-            let s = split (option_checks kind names primaries [] (tokens line)) (whole options line) k in
+            let s = split (option_checks (context kind names primaries) [] (tokens line)) (whole options line) k in
             let w = head TooManyUses (has_primary primaries (lineuses line) && nat_lt most_uses (use_count options + length (tokens line))) [] s.1 in
             after-keep options colours ignored n line lines b.0 f (uses-good kind names primaries [] (tokens line) s.0) g (room-of options line g w.0)
             (options-good (options ++ number_uses colours (lineuses line) ∷ []) (with_uses colours (lineuses line)) ignored (n + 1) lines (ap (λ st. fault_from kind (n + 1) st lines) (sym (keeps (line_number (n + 1)) options colours ignored line f g)) ∙ a.1))
         | false ↦ λ g f k.
-            let s = split (option_checks kind names primaries [] (tokens line)) (whole options line) k in
+            let s = split (option_checks (context kind names primaries) [] (tokens line)) (whole options line) k in
             after-drop options colours ignored n line lines b.0 f (uses-good kind names primaries [] (tokens line) s.0) g
             (options-good options colours (ignored ++ line_number (n + 1) ∷ []) (n + 1) lines (ap (λ st. fault_from kind (n + 1) st lines) (sym (drops (line_number (n + 1)) options colours ignored line f g)) ∙ a.1))
       ]) in
@@ -367,7 +334,7 @@ module _ (kind : Kind) (entries : List Entry) (primaries : ℕ) where
   IsGiven options colours ignored n lines os ig cs =
       (fault_from kind n (S entries primaries options colours ignored) lines ≡ None) × (stage_from kind n (S entries primaries options colours ignored) lines ≡ S entries primaries (options ++ os) cs (ignored ++ ig))
 
-  pub good-options : (options : List (List Use)) (colours : List (List ℕ)) (ignored : List ℕ) (n : ℕ) (lines : List (List ℕ)) (os : List (List Use)) (ig : List ℕ) (cs : List (List ℕ)) → AreOptions kind names primaries n (use_count options) colours lines os ig cs
+  pub good-options : (options : List (List Use)) (colours : List (List ℕ)) (ignored : List ℕ) (n : ℕ) (lines : List (List ℕ)) (os : List (List Use)) (ig : List ℕ) (cs : List (List ℕ)) → AreOptions (context kind names primaries) (so_far n (use_count options) colours) lines os ig cs
       → IsGiven options colours ignored n lines os ig cs
   good-options options colours ignored n [] os ig cs h =
       (refl, λ i. S entries primaries ((sym (append-nil options) ∙ ap (λ x. options ++ x) (sym h.0)) i) (sym h.2 i) ((sym (append-nil ignored) ∙ ap (λ x. ignored ++ x) (sym h.1)) i))
@@ -380,25 +347,25 @@ module _ (kind : Kind) (entries : List Entry) (primaries : ℕ) where
       )
   good-options options colours ignored n (line ∷ lines) os ig cs (z, inr (us, f, u, inl (others, none, i, r))) =
       let v = good-uses kind names primaries [] (tokens line) us u in
-      let g : has_primary primaries (lineuses line) ≡ false = ap (has_primary primaries) (sym v.0) ∙ none-primary-is primaries us none in
+      let g : has_primary primaries (lineuses line) ≡ false = ap (has_primary primaries) (sym v.0) ∙ none in
       let q = good-options options colours (ignored ++ line_number (n + 1) ∷ []) (n + 1) lines os others cs r in
       let w = drops (line_number (n + 1)) options colours ignored line f g in (
         none-both (n + 1) (first (line_checks kind (S entries primaries options colours ignored) line)) (fault_from kind (n + 1) (with_line kind (line_number (n + 1)) (S entries primaries options colours ignored) line) lines)
-            (content-clear kind (S entries primaries options colours ignored) line z f (first-all (option_checks kind names primaries [] (tokens line)) (whole options line) v.1
+            (content-clear kind (S entries primaries options colours ignored) line z f (first-all (option_checks (context kind names primaries) [] (tokens line)) (whole options line) v.1
             (cons TooManyUses (has_primary primaries (lineuses line) && nat_lt most_uses (use_count options + length (tokens line))) [] (ap (λ t. t && nat_lt most_uses (use_count options + length (tokens line))) g) refl)))
             (ap (λ st. fault_from kind (n + 1) st lines) w ∙ q.0),
         ap (λ st. stage_from kind (n + 1) st lines) w ∙ q.1 ∙ ap (S entries primaries (options ++ os) cs) (append_assoc ignored (line_number (n + 1) ∷ []) others ∙ ap (λ x. ignored ++ x) (sym i)),
       )
   good-options options colours ignored n (line ∷ lines) os ig cs (z, inr (us, f, u, inr (others, prim, room, o, r))) =
       let v = good-uses kind names primaries [] (tokens line) us u in
-      let g : has_primary primaries (lineuses line) ≡ true = ap (has_primary primaries) (sym v.0) ∙ primary-is primaries us prim in
-      let r' : AreOptions kind names primaries (n + 1) (use_count (options ++ number_uses colours (lineuses line) ∷ [])) (with_uses colours (lineuses line)) lines others ig cs =
-      subst (λ c. AreOptions kind names primaries (n + 1) c (with_uses colours (lineuses line)) lines others ig cs) (sym (count-next options colours line))
-      (subst (λ x. AreOptions kind names primaries (n + 1) (use_count options + length x) (with_uses colours x) lines others ig cs) v.0 r) in
+      let g : has_primary primaries (lineuses line) ≡ true = ap (has_primary primaries) (sym v.0) ∙ prim in
+      let r' : AreOptions (context kind names primaries) (so_far (n + 1) (use_count (options ++ number_uses colours (lineuses line) ∷ [])) (with_uses colours (lineuses line))) lines others ig cs =
+      subst (λ c. AreOptions (context kind names primaries) (so_far (n + 1) c (with_uses colours (lineuses line))) lines others ig cs) (sym (count-next options colours line))
+      (subst (λ x. AreOptions (context kind names primaries) (so_far (n + 1) (use_count options + length x) (with_uses colours x)) lines others ig cs) v.0 r) in
       let q = good-options (options ++ number_uses colours (lineuses line) ∷ []) (with_uses colours (lineuses line)) ignored (n + 1) lines others ig cs r' in
       let w = keeps (line_number (n + 1)) options colours ignored line f g in (
         none-both (n + 1) (first (line_checks kind (S entries primaries options colours ignored) line)) (fault_from kind (n + 1) (with_line kind (line_number (n + 1)) (S entries primaries options colours ignored) line) lines)
-            (content-clear kind (S entries primaries options colours ignored) line z f (first-all (option_checks kind names primaries [] (tokens line)) (whole options line) v.1
+            (content-clear kind (S entries primaries options colours ignored) line z f (first-all (option_checks (context kind names primaries) [] (tokens line)) (whole options line) v.1
             (cons TooManyUses (has_primary primaries (lineuses line) && nat_lt most_uses (use_count options + length (tokens line))) [] (no-room options line (subst (λ x. use_count options + length x ≤ most_uses) v.0 room)) refl)))
             (ap (λ st. fault_from kind (n + 1) st lines) w ∙ q.0),
         ap (λ st. stage_from kind (n + 1) st lines) w ∙ q.1 ∙ ap (λ x. S entries primaries x cs (ignored ++ ig)) (append_assoc options (number_uses colours (lineuses line) ∷ []) others ∙ ap (λ x. options ++ number_uses colours x ∷ others) (sym v.0) ∙ ap (λ x. options ++ x) (sym o)),
@@ -455,7 +422,7 @@ end-none : (n : ℕ) (b : Bool) → end_fault n b ≡ None → b ≡ true
 end-none n true e = refl
 end-none n false e = absurd (cc)
 
-or-none : (o p : Option Place) → or_else o p ≡ None → (o ≡ None) × (p ≡ None)
+or-none : (o p : Option Place) → option_or o p ≡ None → (o ≡ None) × (p ≡ None)
 or-none None p e = (refl, e)
 or-none (Some q) p e = absurd (cc)
 
@@ -470,7 +437,7 @@ pub stands-only : (kind : Kind) (lines : List (List ℕ)) (sheet : Sheet) (ignor
     → (first_fault kind lines ≡ None) × (sheet ≡ (stage_of kind lines).sheet) × (ignored ≡ (stage_of kind lines).ignored)
 stands-only kind lines sheet ignored h =
     let g = good-lines kind 0 lines sheet ignored h in (
-      ap (λ o. or_else o (end_fault (length lines) (stage_of kind lines).started)) g.0 ∙ ap (end_fault (length lines)) (ap (λ (st : Stage). st.started) g.1),
+      ap (λ o. option_or o (end_fault (length lines) (stage_of kind lines).started)) g.0 ∙ ap (end_fault (length lines)) (ap (λ (st : Stage). st.started) g.1),
       sym (ap (λ (st : Stage). st.sheet) g.1),
       sym (ap (λ (st : Stage). st.ignored) g.1),
     )

@@ -5,7 +5,7 @@ pub mod TokenLemmas
 pub mod FaultLemmas
 pub mod OptionLemmas
 pub mod NameLemmas
-pub mod DraftLemmas
+pub mod BuilderLemmas
 pub mod PieceLemmas
 pub mod ReadLemmas
 pub mod GrammarLemmas

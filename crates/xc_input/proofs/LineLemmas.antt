@@ -2,21 +2,17 @@
 use Rattle.std.proofs.Common.{◌≡◌, ℕ, ◌<◌, List, [], ◌∷◌, ◌++◌, true, false, nat_eq, if◌then◌else◌, Result, Ok, Err, OnOk, IfErr, length, refl, sym, ap, ◌∙◌, subst, append_assoc, append-nil, arith, is_ok, is_err}
 use Rattle.std.proofs.lemmas.List.Folds.{list_any-append}
 use Rattle.std.specs.Result.{result_err}
-use Rattle.xc_input.specs.declared.Kind.{Kind}
-use Rattle.xc_input.specs.declared.InputError.{InputError}
-use Rattle.xc_input.specs.declared.InputError.TheVariants.{Fault, Device, Memory}
+use Rattle.xc_input.specs.declared.kind.Kind.{Kind}
+use Rattle.xc_input.specs.declared.fault.InputError.{InputError}
+use Rattle.xc_input.specs.declared.fault.InputError.TheVariants.{Fault, Device, Memory}
 use Rattle.xc_input.specs.Words.{has, before, after}
 use Rattle.xc_input.specs.Tokens.{at_front}
 use Rattle.xc_input.specs.Stages.{no_stage}
-use Rattle.xc_input.specs.Readings.{Reading, IsErrorOf, IsStateOf}
+use Rattle.xc_input.specs.Readings.{Reading, IsStateOf}
+use Rattle.xc_input.specs.inner.Feeding.{IsErrorOf, fed, IsBetween, Spoils}
 use Rattle.xc_input.specs.Lines.{lines_of, ended, AreWhole}
-use Rattle.xc_input.specs.Feeding.{fed, IsBetween, Spoils}
 use Rattle.xc_input.proofs.GrammarLemmas.{or-false, or-both, cut-is}
 use Rattle.xc_input.proofs.ReadLemmas.{fault-stays}
-
-pub length_none : (xs : List ℕ) → length xs ≡ 0 → xs ≡ []
-length_none [] e = refl
-length_none (x ∷ xs) e = absurd (omega arith)
 
 pub lacks-append : (b : ℕ) (xs ys : List ℕ) → has b xs ≡ false → has b ys ≡ false → has b (xs ++ ys) ≡ false
 lacks-append b xs ys p q = list_any-append (λ x. nat_eq x b) xs ys ∙ or-both (has b xs) (has b ys) p q

@@ -1,23 +1,25 @@
 -- Names of a table: they have no fault, each has one place, and what a line begins with may be one of them.
-use Rattle.std.proofs.Common.{◌≡◌, ◌≢◌, ℕ, ◌+◌, ◌<◌, ◌≤◌, List, [], ◌∷◌, ◌++◌, Option, None, Some, Bool, true, false, nat_eq, nat_lt, All, length, take, refl, ap, ap₂, ◌∙◌, sym, subst, arith, true≢false, length-append, if◌then◌else◌, Vec, Global}
+use Rattle.std.proofs.Common.{◌≡◌, ◌≢◌, ℕ, zero, suc, ◌+◌, ◌<◌, ◌≤◌, List, [], ◌∷◌, ◌++◌, Option, None, Some, Bool, true, false, nat_eq, nat_lt, All, length, take, refl, ap, ap₂, ◌∙◌, sym, subst, arith, true≢false, length-append, if◌then◌else◌, Vec, Global, get_or}
 use Rattle.std.proofs.lemmas.List.Elements.{All-nil, All-cons, All-append, All-push, All-get_or}
 use Rattle.std.proofs.lemmas.List.Quantifiers.{position-Some, all_pairs_push}
 use Rattle.std.proofs.lemmas.List.Folds.{list_any_at}
 use Rattle.std.proofs.lemmas.List.Sums.{position_or_len_is}
-use Rattle.std.proofs.lemmas.Option.{slice_get_within, get_or_from_slice_get}
+use Rattle.std.proofs.lemmas.Option.{slice_get_within, slice_get-get_or, get_or_from_slice_get}
 use Rattle.std.proofs.lemmas.Bool.Decides.{nat_tests}
 use Rattle.std.proofs.Math.Seq.{take-append_seam}
-use Rattle.std.specs.Prelude.{slice_get}
+use Rattle.std.specs.Prelude.{slice_get, IfSome, IfNone}
+use Rattle.std.specs.Option.{option_map}
+use Rattle.xc_input.specs.Problem.{numbered_get}
 use Rattle.std.specs.List.{list_any, position_or_len}
 use Rattle.std.proofs.lemmas.Slice.Eq.{bytes_eq-Decides}
-use Rattle.std.proofs.Common.{get_or}
 use Rattle.std.specs.Str.{bytes_eq}
-use Rattle.xc_input.specs.declared.FaultKind.{FaultKind}
-use Rattle.xc_input.specs.declared.Kind.{Kind}
-use Rattle.xc_input.specs.Words.{place, after}
-use Rattle.xc_input.specs.Tokens.{is_space, word, AtWhite}
+use Rattle.xc_input.specs.declared.fault.FaultKind.{FaultKind}
+use Rattle.xc_input.specs.declared.kind.Kind.{Kind}
+use Rattle.xc_input.specs.Words.{place, number_in, after}
+use Rattle.xc_input.specs.Tokens.{is_space}
+use Rattle.xc_input.specs.inner.Fronts.{word, AtWhite}
 use Rattle.xc_input.specs.Sheets.{Entry}
-use Rattle.xc_input.specs.Drafts.{AreNames}
+use Rattle.xc_input.specs.inner.Builders.{AreNames}
 use Rattle.xc_input.specs.Stored.{key_names}
 use Rattle.xc_input.specs.Faults.{first, name_checks, has_prefix, entry}
 use Rattle.xc_input.specs.Named.{IsName}
@@ -90,3 +92,26 @@ known-front keys text front back v k n all e m cut same w =
       ap (λ t. length (word t)) whole ∙ ap length (word-front v.items back solid w) ∙ sym m,
       ap (place (key_names keys)) taken ∙ known-place (key_names keys) v.items k all at,
     )
+
+-- NUMBERS OF NAMES
+found : (names : List (List ℕ)) (name : List ℕ) (at : Option ℕ) → place names name ≡ at → IfSome (option_map suc at) (λ i. numbered_get names i ≡ Some name)
+found names name None e = tt
+found names name (Some k) e =
+    let h = position-Some (bytes_eq name) names k [] e in
+    slice_get-get_or names k [] h.0 ∙ ap Some (sym ((bytes_eq-Decides name (get_or names k [])).0 h.1))
+
+-- the item of the number has the name
+pub number_in-found : (names : List (List ℕ)) (name : List ℕ) (o : Option ℕ) → o ≡ number_in names name → IfSome o (λ i. numbered_get names i ≡ Some name)
+number_in-found names name o e = subst (λ r. IfSome r (λ i. numbered_get names i ≡ Some name)) (sym e) (found names name (place names name) refl)
+
+absent : (names : List (List ℕ)) (name : List ℕ) → place names name ≡ None → (i : ℕ) → numbered_get names i ≢ Some name
+absent names name e zero same = absurd (cc)
+absent names name e (suc k) same = apart names name e k name (slice_get_within names k name same) (get_or_from_slice_get names k name name same)
+
+none : (names : List (List ℕ)) (name : List ℕ) (at : Option ℕ) → place names name ≡ at → IfNone (option_map suc at) ((i : ℕ) → numbered_get names i ≢ Some name)
+none names name None e = absent names name e
+none names name (Some k) e = tt
+
+-- where there is no number no item has the name
+pub number_in-none : (names : List (List ℕ)) (name : List ℕ) (o : Option ℕ) → o ≡ number_in names name → IfNone o ((i : ℕ) → numbered_get names i ≢ Some name)
+number_in-none names name o e = subst (λ r. IfNone r ((i : ℕ) → numbered_get names i ≢ Some name)) (sym e) (none names name (place names name) refl)

@@ -2,14 +2,14 @@
 use Rattle.std.proofs.Common.{arith, ◌<◌, ◌≤◌, ◌≡◌, ℕ, ◌+◌, List, [], ◌∷◌, ◌++◌, Option, None, Some, Bool, true, false, ◌||◌, ◌&&◌, not, nat_lt, nat_eq, is_none, unwrap_or, map, refl, ap, ◌∙◌, sym, subst, if◌then◌else◌, MatchOption, Result, Ok, Err, append_assoc, is_ok, is_err}
 use Rattle.std.proofs.lemmas.Bool.Decides.{nat_tests}
 use Rattle.std.specs.List.{list_any}
-use Rattle.xc_input.specs.declared.Kind.{Kind}
-use Rattle.xc_input.specs.declared.FaultKind.{FaultKind}
-use Rattle.xc_input.specs.declared.FaultKind.TheVariants.{UnknownItem, RepeatedInOption, ColourOnPrimary, BadColour, ColourNotHere}
-use Rattle.xc_input.specs.declared.option_line.Part.{Part}
+use Rattle.xc_input.specs.declared.kind.Kind.{Kind}
+use Rattle.xc_input.specs.declared.fault.FaultKind.{FaultKind}
+use Rattle.xc_input.specs.declared.fault.FaultKind.TheVariants.{UnknownItem, RepeatedInOption, ColourOnPrimary, BadColour, ColourNotHere}
+use Rattle.xc_input.specs.declared.option_line.WrittenUse.{WrittenUse}
 use Rattle.xc_input.specs.Words.{has, before, after, place}
 use Rattle.xc_input.specs.Sheets.{Written}
-use Rattle.xc_input.specs.Faults.{first, is_plain, is_bad_colour, name_checks, token_checks, option_checks, item_number, written, all_written}
-use Rattle.xc_input.specs.Drafts.{written_of, items_of}
+use Rattle.xc_input.specs.Faults.{first, is_plain, is_bad_colour, name_checks, token_checks, option_checks, item_number, written, context}
+use Rattle.xc_input.specs.inner.Builders.{written_of, items_of}
 use Rattle.xc_input.specs.Named.{IsName}
 use Rattle.xc_input.proofs.FaultLemmas.{first-front, first-back, map-snoc}
 use Rattle.xc_input.proofs.GrammarLemmas.{good-name}
@@ -38,74 +38,74 @@ module _ (kind : Kind) (names : List (List ℕ)) (primary : ℕ) (seen : List �
       (BadColour, has 58 token && is_bad_colour (after 58 token)) ∷ []
 
   module _ (allowed : (is_plain kind && has 58 token) ≡ false) (name : List ℕ) (is : name ≡ before 58 token) where
-    here : first (token_checks kind names primary seen token) ≡ first (name_checks name ++ (UnknownItem, is_none (place names name)) ∷ others name)
+    here : first (token_checks (context kind names primary) seen token) ≡ first (name_checks name ++ (UnknownItem, is_none (place names name)) ∷ others name)
     here = ap (λ t. if t then Some ColourNotHere else first (name_checks (before 58 token) ++ (UnknownItem, is_none (place names (before 58 token))) ∷ others (before 58 token))) allowed
         ∙ ap (λ n. first (name_checks n ++ (UnknownItem, is_none (place names n)) ∷ others n)) (sym is)
 
     -- no item has the name
-    pub unknown : (fault : FaultKind) → place names name ≡ None → first (name_checks name ++ (UnknownItem, true) ∷ []) ≡ Some fault → first (token_checks kind names primary seen token) ≡ Some fault
+    pub unknown : (fault : FaultKind) → place names name ≡ None → first (name_checks name ++ (UnknownItem, true) ∷ []) ≡ Some fault → first (token_checks (context kind names primary) seen token) ≡ Some fault
     unknown fault e f = here ∙ ap (λ p. first (name_checks name ++ (UnknownItem, is_none p) ∷ others name)) e ∙ first-known (name_checks name) UnknownItem (others name) ∙ f
 
     -- the item at place k has it, and is marked or not
     module _ (good : IsName name) (k : ℕ) (at : place names name ≡ Some k) (marked : Bool) (m : marked ≡ list_any (λ i. nat_eq i (k + 1)) seen) where
-      known : first (token_checks kind names primary seen token)
+      known : first (token_checks (context kind names primary) seen token)
           ≡ (if marked then Some RepeatedInOption else (if has 58 token && not (nat_lt primary (k + 1)) then Some ColourOnPrimary else (if has 58 token && is_bad_colour (after 58 token) then Some BadColour else None)))
       known = here ∙ first-back (name_checks name) ((UnknownItem, is_none (place names name)) ∷ others name) (good-name name good) ∙ ap (λ p. later primary seen p (has 58 token) (after 58 token)) at
           ∙ ap (λ t. if t then Some RepeatedInOption else (if has 58 token && not (nat_lt primary (k + 1)) then Some ColourOnPrimary else (if has 58 token && is_bad_colour (after 58 token) then Some BadColour else None))) (sym m)
 
-      pub repeated : marked ≡ true → first (token_checks kind names primary seen token) ≡ Some RepeatedInOption
+      pub repeated : marked ≡ true → first (token_checks (context kind names primary) seen token) ≡ Some RepeatedInOption
       repeated e = known ∙ ap (λ t. if t then Some RepeatedInOption else (if has 58 token && not (nat_lt primary (k + 1)) then Some ColourOnPrimary else (if has 58 token && is_bad_colour (after 58 token) then Some BadColour else None))) e
 
       module _ (n : marked ≡ false) where
-        once : first (token_checks kind names primary seen token) ≡ (if has 58 token && not (nat_lt primary (k + 1)) then Some ColourOnPrimary else (if has 58 token && is_bad_colour (after 58 token) then Some BadColour else None))
+        once : first (token_checks (context kind names primary) seen token) ≡ (if has 58 token && not (nat_lt primary (k + 1)) then Some ColourOnPrimary else (if has 58 token && is_bad_colour (after 58 token) then Some BadColour else None))
         once = known ∙ ap (λ t. if t then Some RepeatedInOption else (if has 58 token && not (nat_lt primary (k + 1)) then Some ColourOnPrimary else (if has 58 token && is_bad_colour (after 58 token) then Some BadColour else None))) n
 
         item-is : item_number names (before 58 token) ≡ k + 1
         item-is = ap (λ x. item_number names x) (sym is) ∙ ap (λ p. unwrap_or p 0 + 1) at
 
-        pub bare : has 58 token ≡ false → (first (token_checks kind names primary seen token) ≡ None) × (record { item = k + 1; colour = [] } ≡ written names token)
+        pub bare : has 58 token ≡ false → (first (token_checks (context kind names primary) seen token) ≡ None) × (record { item = k + 1; colour = [] } ≡ written names token)
         bare q = (
           once ∙ ap (λ c. if c && not (nat_lt primary (k + 1)) then Some ColourOnPrimary else (if c && is_bad_colour (after 58 token) then Some BadColour else None)) q,
           λ x. record { item = sym item-is x; colour = sym (none-after 58 token q) x },
         )
 
         module _ (q : has 58 token ≡ true) (colour : List ℕ) (c : colour ≡ after 58 token) where
-          judged : first (token_checks kind names primary seen token) ≡ (if not (nat_lt primary (k + 1)) then Some ColourOnPrimary else (if is_bad_colour colour then Some BadColour else None))
+          judged : first (token_checks (context kind names primary) seen token) ≡ (if not (nat_lt primary (k + 1)) then Some ColourOnPrimary else (if is_bad_colour colour then Some BadColour else None))
           judged = once ∙ ap (λ t. if t && not (nat_lt primary (k + 1)) then Some ColourOnPrimary else (if t && is_bad_colour (after 58 token) then Some BadColour else None)) q
               ∙ ap (λ xs. if not (nat_lt primary (k + 1)) then Some ColourOnPrimary else (if is_bad_colour xs then Some BadColour else None)) (sym c)
 
-          pub on-primary : k + 1 ≤ primary → first (token_checks kind names primary seen token) ≡ Some ColourOnPrimary
+          pub on-primary : k + 1 ≤ primary → first (token_checks (context kind names primary) seen token) ≡ Some ColourOnPrimary
           on-primary h = judged ∙ (let z : nat_lt primary (k + 1) ≡ false = grind (arith, nat_tests) in ap (λ t. if not t then Some ColourOnPrimary else (if is_bad_colour colour then Some BadColour else None)) z)
 
           module _ (h : primary < k + 1) where
-            on-secondary : first (token_checks kind names primary seen token) ≡ (if is_bad_colour colour then Some BadColour else None)
+            on-secondary : first (token_checks (context kind names primary) seen token) ≡ (if is_bad_colour colour then Some BadColour else None)
             on-secondary = judged ∙ (let z : nat_lt primary (k + 1) ≡ true = grind (arith, nat_tests) in ap (λ t. if not t then Some ColourOnPrimary else (if is_bad_colour colour then Some BadColour else None)) z)
 
-            pub misfit : is_bad_colour colour ≡ true → first (token_checks kind names primary seen token) ≡ Some BadColour
+            pub misfit : is_bad_colour colour ≡ true → first (token_checks (context kind names primary) seen token) ≡ Some BadColour
             misfit e = on-secondary ∙ ap (λ t. if t then Some BadColour else None) e
 
-            pub coloured : is_bad_colour colour ≡ false → (first (token_checks kind names primary seen token) ≡ None) × (record { item = k + 1; colour = colour } ≡ written names token)
+            pub coloured : is_bad_colour colour ≡ false → (first (token_checks (context kind names primary) seen token) ≡ None) × (record { item = k + 1; colour = colour } ≡ written names token)
             coloured e = (on-secondary ∙ ap (λ t. if t then Some BadColour else None) e, λ x. record { item = sym item-is x; colour = c x })
 
 -- a step of the loop over the tokens
-pub token-stop : (kind : Kind) (names : List (List ℕ)) (primary : ℕ) (seen token : List ℕ) (line others : List (List ℕ)) (a : Option FaultKind) (k : FaultKind) → a ≡ first (option_checks kind names primary seen line) → line ≡ token ∷ others
-    → first (token_checks kind names primary seen token) ≡ Some k → a ≡ Some k
+pub token-stop : (kind : Kind) (names : List (List ℕ)) (primary : ℕ) (seen token : List ℕ) (line others : List (List ℕ)) (a : Option FaultKind) (k : FaultKind) → a ≡ first (option_checks (context kind names primary) seen line) → line ≡ token ∷ others
+    → first (token_checks (context kind names primary) seen token) ≡ Some k → a ≡ Some k
 token-stop kind names primary seen token line others a k e l f =
-    e ∙ ap (λ ts. first (option_checks kind names primary seen ts)) l ∙ first-front (token_checks kind names primary seen token) (option_checks kind names primary (seen ++ item_number names (before 58 token) ∷ []) others) k f
+    e ∙ ap (λ ts. first (option_checks (context kind names primary) seen ts)) l ∙ first-front (token_checks (context kind names primary) seen token) (option_checks (context kind names primary) (seen ++ item_number names (before 58 token) ∷ []) others) k f
 
-pub token-step : (kind : Kind) (names : List (List ℕ)) (primary : ℕ) (parts more : List Part) (token : List ℕ) (line others : List (List ℕ)) (a : Option FaultKind) (all : List Written) (part : Part) → a ≡ first (option_checks kind names primary (items_of (map written_of parts)) line) → all ≡ map written_of parts ++ all_written names line
-    → line ≡ token ∷ others → (first (token_checks kind names primary (items_of (map written_of parts)) token) ≡ None) × (written_of part ≡ written names token) → more ≡ parts ++ part ∷ []
-    → (a ≡ first (option_checks kind names primary (items_of (map written_of more)) others)) × (all ≡ map written_of more ++ all_written names others)
+pub token-step : (kind : Kind) (names : List (List ℕ)) (primary : ℕ) (parts more : List WrittenUse) (token : List ℕ) (line others : List (List ℕ)) (a : Option FaultKind) (all : List Written) (part : WrittenUse) → a ≡ first (option_checks (context kind names primary) (items_of (map written_of parts)) line) → all ≡ map written_of parts ++ map (written names) line
+    → line ≡ token ∷ others → (first (token_checks (context kind names primary) (items_of (map written_of parts)) token) ≡ None) × (written_of part ≡ written names token) → more ≡ parts ++ part ∷ []
+    → (a ≡ first (option_checks (context kind names primary) (items_of (map written_of more)) others)) × (all ≡ map written_of more ++ map (written names) others)
 token-step kind names primary parts more token line others a all part e f l g h =
     let us : map written_of more ≡ map written_of parts ++ written names token ∷ [] = ap (map written_of) h ∙ map-snoc written_of parts part ∙ ap (λ u. map written_of parts ++ u ∷ []) g.1 in
     let is : items_of (map written_of more) ≡ items_of (map written_of parts) ++ item_number names (before 58 token) ∷ [] = ap items_of us ∙ map-snoc (λ (u : Written). u.item) (map written_of parts) (written names token) in (
-      e ∙ ap (λ ts. first (option_checks kind names primary (items_of (map written_of parts)) ts)) l
-          ∙ first-back (token_checks kind names primary (items_of (map written_of parts)) token) (option_checks kind names primary (items_of (map written_of parts) ++ item_number names (before 58 token) ∷ []) others) g.0
-          ∙ ap (λ s. first (option_checks kind names primary s others)) (sym is),
-      f ∙ ap (λ ts. map written_of parts ++ all_written names ts) l ∙ sym (append_assoc (map written_of parts) (written names token ∷ []) (all_written names others)) ∙ ap (λ us. us ++ all_written names others) (sym us),
+      e ∙ ap (λ ts. first (option_checks (context kind names primary) (items_of (map written_of parts)) ts)) l
+          ∙ first-back (token_checks (context kind names primary) (items_of (map written_of parts)) token) (option_checks (context kind names primary) (items_of (map written_of parts) ++ item_number names (before 58 token) ∷ []) others) g.0
+          ∙ ap (λ s. first (option_checks (context kind names primary) s others)) (sym is),
+      f ∙ ap (λ ts. map written_of parts ++ map (written names) ts) l ∙ sym (append_assoc (map written_of parts) (written names token ∷ []) (map (written names) others)) ∙ ap (λ us. us ++ map (written names) others) (sym us),
     )
 
-pub pushed : {A E : Type 0} (r : Result (Unit {0}) E) (old new : List A) (x : A) → is_err r ≡ false → new ≡ (if is_ok r then old ++ x ∷ [] else old) → new ≡ old ++ x ∷ []
+pub pushed : {A E : Type 0} (r : Result (Unit {0}) E) (old new : List A) (x : A) → is_ok r ≡ true → new ≡ (if is_ok r then old ++ x ∷ [] else old) → new ≡ old ++ x ∷ []
 pushed (Ok y) old new x e f = f
 pushed (Err y) old new x e f = absurd (cc)
 

@@ -3,18 +3,14 @@ use Rattle.std.proofs.Common.{◌≡◌, ℕ, ◌<◌, List, [], ◌∷◌, ◌+
 use Rattle.std.specs.Prelude.{All}
 use Rattle.std.proofs.lemmas.Grind.{common_steps, flat_map-append}
 use Rattle.std.proofs.lemmas.List.Elements.{All-append}
-use Rattle.xc_input.specs.declared.Kind.{Kind}
-use Rattle.xc_input.specs.declared.InputError.{InputError}
-use Rattle.xc_input.specs.declared.InputError.TheVariants.{Fault, Device, Memory}
+use Rattle.xc_input.specs.declared.kind.Kind.{Kind}
+use Rattle.xc_input.specs.declared.fault.InputError.{InputError}
+use Rattle.xc_input.specs.declared.fault.InputError.TheVariants.{Fault, Device, Memory}
 use Rattle.xc_input.specs.declared.reader.Read.{Read}
-use Rattle.xc_input.specs.Feeding.{Spoils}
+use Rattle.xc_input.specs.inner.Feeding.{Spoils}
 use Rattle.xc_input.specs.Lines.{lines_of}
 use Rattle.xc_input.specs.Pieces.{Gave, GaveAll, IsWhole, IsPart}
 use Rattle.xc_input.proofs.SourceLemmas.{EndsAs, error-ends}
-
--- no read gave anything
-pub gave_none : (a : List (List ℕ)) → Gave a a []
-gave_none a = record { pieces = []; some = grind (arith, common_steps); added = sym (append-nil a); whole = refl }
 
 -- one read more gave some bytes
 pub gave_more : (a b c : List (List ℕ)) (bytes piece : List ℕ) → Gave a b bytes → 0 < length piece → c ≡ b ++ piece ∷ [] → Gave a c (bytes ++ piece)

@@ -1,17 +1,23 @@
 -- The first fault of lines and one more.
 use Rattle.std.proofs.Common.{◌≡◌, ℕ, ◌+◌, ◌-◌, ◌^◌, List, [], ◌∷◌, ◌++◌, Option, None, Some, Err, Bool, length, refl, ap, ◌∙◌, sym, subst, arith, min, MatchOption}
 use Rattle.std.proofs.lemmas.Grind.{common_steps}
-use Rattle.xc_input.specs.declared.Kind.{Kind}
-use Rattle.xc_input.specs.declared.FaultKind.{FaultKind}
-use Rattle.xc_input.specs.declared.InputError.{InputError}
-use Rattle.xc_input.specs.declared.InputError.TheVariants.{Fault, Device, Memory}
-use Rattle.xc_input.specs.declared.draft.LineError.{LineError}
-use Rattle.xc_input.specs.declared.draft.LineError.TheVariants.{Fault as Bad, Memory as NoMemory}
-use Rattle.xc_input.specs.declared.draft.Draft.{Draft}
+use Rattle.xc_input.specs.declared.kind.Kind.{Kind}
+use Rattle.xc_input.specs.declared.fault.FaultKind.{FaultKind}
+use Rattle.xc_input.specs.declared.fault.InputError.{InputError}
+use Rattle.xc_input.specs.declared.fault.InputError.TheVariants.{Fault, Device, Memory}
+use Rattle.xc_input.specs.declared.line_error.LineError.{LineError}
+use Rattle.xc_input.specs.declared.line_error.LineError.TheVariants.{Fault as Bad, Memory as NoMemory}
+use Rattle.xc_input.specs.declared.builder.ProblemBuilder.{ProblemBuilder}
 use Rattle.xc_input.specs.Faults.{first}
-use Rattle.xc_input.specs.Stages.{Stage, Place, line_checks, with_line, line_number, fault_or, fault_from, stage_from, line_fault, stage_of, no_stage, first_fault, or_else, end_fault}
-use Rattle.xc_input.specs.Drafts.{Judged, IsDraft, stage_of_draft}
-use Rattle.xc_input.specs.Readings.{IsErrorOf, IsStateOf, IsEndOf, error_at}
+use Rattle.xc_input.specs.Stages.{Stage, Place, line_checks, with_line, line_number, fault_from, stage_from, line_fault, stage_of, no_stage, first_fault, end_fault}
+use Rattle.xc_input.specs.inner.Builders.{Judged, IsBuilder, stage_of_builder, error_at}
+use Rattle.xc_input.specs.Readings.{IsStateOf}
+use Rattle.xc_input.specs.inner.Feeding.{IsErrorOf, IsEndOf}
+use Rattle.std.specs.Option.{option_map, option_or}
+
+-- the fault of line n, or else the later one
+abbrev pub fault_or : ℕ → Option FaultKind → Option Place → Option Place
+fault_or n fault later = option_or (option_map (λ k. (line_number n, k)) fault) later
 
 -- a fault stays the first one, whatever follows
 fault_or-stays : (n : ℕ) (k : Option FaultKind) (a b : Option Place) (p : Place) → (a ≡ Some p → b ≡ Some p) → fault_or n k a ≡ Some p → fault_or n k b ≡ Some p
@@ -59,37 +65,37 @@ counts old new line count next f g h =
     let e : length new ≡ length old + 1 = ap length f ∙ grind (arith, common_steps) in omega arith
 
 -- one line more, with no error so far
-module _ (kind : Kind) (old new : List (List ℕ)) (line : List ℕ) (f : new ≡ old ++ line ∷ []) (o : Option InputError) (g : o ≡ None) (h : IsStateOf kind old o) (d : Draft)
-    (s : MatchOption o (IsDraft d × (stage_of_draft d ≡ stage_of kind old)) (λ _. Unit {0})) where
-  pub sound : IsDraft d × (stage_of_draft d ≡ stage_of kind old)
-  sound = subst (λ q. MatchOption q (IsDraft d × (stage_of_draft d ≡ stage_of kind old)) (λ _. Unit {0})) g s
+module _ (kind : Kind) (old new : List (List ℕ)) (line : List ℕ) (f : new ≡ old ++ line ∷ []) (o : Option InputError) (g : o ≡ None) (h : IsStateOf kind old o) (d : ProblemBuilder)
+    (s : MatchOption o (IsBuilder d × (stage_of_builder d ≡ stage_of kind old)) (λ _. Unit {0})) where
+  pub sound : IsBuilder d × (stage_of_builder d ≡ stage_of kind old)
+  sound = subst (λ q. MatchOption q (IsBuilder d × (stage_of_builder d ≡ stage_of kind old)) (λ _. Unit {0})) g s
 
-  fault-is : line_fault kind new ≡ fault_or (length new) (first (line_checks kind (stage_of_draft d) line)) None
+  fault-is : line_fault kind new ≡ fault_or (length new) (first (line_checks kind (stage_of_builder d) line)) None
   fault-is =
       let num : 0 + length (old ++ line ∷ []) ≡ length new = omega (arith, ap length f) in
       ap (line_fault kind) f ∙ next-fault kind 0 no_stage old line (subst (IsStateOf kind old) g h)
       ∙ ap (λ m. fault_or m (first (line_checks kind (stage_of kind old) line)) None) num ∙ ap (λ st. fault_or (length new) (first (line_checks kind st line)) None) (sym sound.1)
 
-  pub fails : (count : ℕ) (e : LineError) (T : Type 0) → count ≡ line_number (length new) → Judged {T = T} (first (line_checks kind (stage_of_draft d) line)) (Err e) → IsErrorOf kind new (error_at count e)
+  pub fails : (count : ℕ) (e : LineError) (T : Type 0) → count ≡ line_number (length new) → Judged {T = T} (first (line_checks kind (stage_of_builder d) line)) (Err e) → IsErrorOf kind new (error_at count e)
   fails count (Bad k) T c j = fault-is ∙ ap (λ q. fault_or (length new) q None) j ∙ ap (λ m. Some (m, k)) (sym c)
   fails count NoMemory T c j = tt
 
-  pub goes : first (line_checks kind (stage_of_draft d) line) ≡ None → line_fault kind new ≡ None
+  pub goes : first (line_checks kind (stage_of_builder d) line) ≡ None → line_fault kind new ≡ None
   goes j = fault-is ∙ ap (λ q. fault_or (length new) q None) j
 
-  pub stage-is : (count : ℕ) (d' : Draft) → count ≡ line_number (length new) → IsDraft d' × (stage_of_draft d' ≡ with_line kind count (stage_of_draft d) line) → IsDraft d' × (stage_of_draft d' ≡ stage_of kind new)
+  pub stage-is : (count : ℕ) (d' : ProblemBuilder) → count ≡ line_number (length new) → IsBuilder d' × (stage_of_builder d' ≡ with_line kind count (stage_of_builder d) line) → IsBuilder d' × (stage_of_builder d' ≡ stage_of kind new)
   stage-is count d' c t =
       let num : 0 + length (old ++ line ∷ []) ≡ length new = omega (arith, ap length f) in (
         t.0,
-        t.1 ∙ ap (λ m. with_line kind m (stage_of_draft d) line) c ∙ ap (λ st. with_line kind (line_number (length new)) st line) sound.1
+        t.1 ∙ ap (λ m. with_line kind m (stage_of_builder d) line) c ∙ ap (λ st. with_line kind (line_number (length new)) st line) sound.1
             ∙ ap (λ m. with_line kind (line_number m) (stage_of kind old) line) (sym num) ∙ sym (stage-snoc kind 0 no_stage old line) ∙ ap (stage_of kind) (sym f),
       )
 
 -- the end of the text
 pub ends-at : (kind : Kind) (lines : List (List ℕ)) (o : Option InputError) (e : InputError) → o ≡ Some e → IsStateOf kind lines o → IsEndOf kind lines e
-ends-at kind lines o (Fault n k) f h = let g : line_fault kind lines ≡ Some (n, k) = subst (IsStateOf kind lines) f h in ap (λ q. or_else q (end_fault (length lines) (stage_of kind lines).started)) g
+ends-at kind lines o (Fault n k) f h = let g : line_fault kind lines ≡ Some (n, k) = subst (IsStateOf kind lines) f h in ap (λ q. option_or q (end_fault (length lines) (stage_of kind lines).started)) g
 ends-at kind lines o Device f h = subst (IsStateOf kind lines) f h
 ends-at kind lines o Memory f h = tt
 
 pub end-is : (kind : Kind) (lines : List (List ℕ)) (b : Bool) (o : Option InputError) → o ≡ None → IsStateOf kind lines o → b ≡ (stage_of kind lines).started → first_fault kind lines ≡ end_fault (length lines) b
-end-is kind lines b o f h s = let g : line_fault kind lines ≡ None = subst (IsStateOf kind lines) f h in ap (λ q. or_else q (end_fault (length lines) (stage_of kind lines).started)) g ∙ ap (end_fault (length lines)) (sym s)
+end-is kind lines b o f h s = let g : line_fault kind lines ≡ None = subst (IsStateOf kind lines) f h in ap (λ q. option_or q (end_fault (length lines) (stage_of kind lines).started)) g ∙ ap (end_fault (length lines)) (sym s)

@@ -1,14 +1,22 @@
 -- A sheet that is valid and within the limits.
 use Rattle.std.specs.Prelude.{◌≡◌, ℕ, zero, suc, ◌≤◌, length, List, [], ◌∷◌, ◌++◌, false, None, ◌⊎◌, nat_eq}
+use Rattle.std.proofs.Common.{refl, ap}
 use Rattle.std.specs.List.{list_any}
+use Rattle.xc_input.specs.declared.kind.Kind.{Kind}
 use Rattle.xc_input.specs.declared.problem.Use.{Use}
+use Rattle.xc_input.specs.Text.{SoFar, IsSheetFrom}
 use Rattle.xc_input.specs.Words.{place}
-use Rattle.xc_input.specs.Sheets.{Entry, Sheet, names_of, use_count}
+use Rattle.xc_input.specs.Sheets.{Entry, Sheet, Written, names_of, with_colour, number_uses, use_count}
 use Rattle.xc_input.specs.Named.{IsName}
-use Rattle.xc_input.specs.Faults.{most_items, most_uses}
+use Rattle.xc_input.specs.Limits.{most_items, most_uses, greatest_bound}
 
-abbrev pub most_bound : ℕ
-most_bound = 999999999
+-- what was read before a line
+abbrev pub so_far : ℕ → ℕ → List (List ℕ) → SoFar
+so_far n used colours = record { lines = n; uses = used; colours = colours }
+
+-- lines stand for a sheet and ignored lines
+abbrev pub IsSheetOf : Kind → List (List ℕ) → Sheet → List ℕ → Type 0
+IsSheetOf kind lines sheet ignored = IsSheetFrom kind 0 lines sheet ignored
 
 -- each is another than those before
 abbrev pub AllNew : List (List ℕ) → List (List ℕ) → Type 0
@@ -20,7 +28,7 @@ abbrev pub HaveBounds : ℕ → List Entry → Type 0
 HaveBounds zero [] = Unit {0}
 HaveBounds (suc n) [] = ⊥
 HaveBounds zero (e ∷ es) = (e.low ≡ 0) × (e.high ≡ 1) × HaveBounds zero es
-HaveBounds (suc n) (e ∷ es) = (e.low ≤ e.high) × (1 ≤ e.high) × (e.high ≤ most_bound) × HaveBounds n es
+HaveBounds (suc n) (e ∷ es) = (e.low ≤ e.high) × (1 ≤ e.high) × (e.high ≤ greatest_bound) × HaveBounds n es
 
 -- a use, among so many items, primary items and colours
 abbrev pub IsWithin : ℕ → ℕ → ℕ → Use → Type 0
@@ -57,3 +65,8 @@ pub record IsSoundSheet (p : Sheet) : Type 0 where
   pub options : AreValid (length p.entries) p.primaries (length p.colours) p.options
   pub few_uses : use_count p.options ≤ most_uses
   pub colours : AllNew [] p.colours
+
+-- an option keeps its number of uses
+pub number_uses-length : (colours : List (List ℕ)) (us : List Written) → length (number_uses colours us) ≡ length us
+number_uses-length colours [] = refl
+number_uses-length colours (u ∷ us) = ap suc (number_uses-length (with_colour colours u.colour) us)

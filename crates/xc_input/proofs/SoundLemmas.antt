@@ -6,24 +6,26 @@ use Rattle.std.proofs.lemmas.List.Elements.{All-nil, All-cons, All-append}
 use Rattle.std.proofs.lemmas.List.Quantifiers.{all_pairs_push}
 use Rattle.std.proofs.lemmas.List.Sums.{sum_by-cons}
 use Rattle.std.specs.List.{list_any, Any}
-use Rattle.xc_input.specs.declared.Kind.{Kind}
+use Rattle.xc_input.specs.declared.kind.Kind.{Kind}
 use Rattle.xc_input.specs.declared.problem.Item.{Item}
 use Rattle.xc_input.specs.declared.problem.Use.{Use}
 use Rattle.xc_input.specs.Problem.{Puzzle, item_count, primary_count, AreSoundBounds, IsSoundUse, IsSoundOption}
-use Rattle.xc_input.specs.Flat.{bounds_of, IsOptional}
+use Rattle.xc_input.specs.Flat.{bounds_of}
+use Rattle.xc_input.specs.inner.Vectors.{IsOptional}
 use Rattle.xc_input.specs.Named.{IsName, IsColour, IsSound}
 use Rattle.xc_input.specs.Words.{place}
 use Rattle.xc_input.specs.Tokens.{tokens}
 use Rattle.xc_input.specs.Sheets.{Entry, Sheet, Written, names_of, named_of, entry_bounds, with_colour, with_uses, use_count}
-use Rattle.xc_input.specs.Drafts.{entry_of}
-use Rattle.xc_input.specs.Text.{IsUse, AreUses, AreOptions, IsSheetFrom, IsSheetOf}
-use Rattle.xc_input.proofs.SheetValidity.{AllNew, HaveBounds, AreWithin, AreFresh, UsesPrimary, AreValid, HaveNames}
+use Rattle.xc_input.specs.inner.Builders.{entry_of}
+use Rattle.xc_input.specs.Text.{IsUse, AreUses, AreOptions, IsSheetFrom}
+use Rattle.xc_input.proofs.SheetValidity.{IsSheetOf, AllNew, HaveBounds, AreWithin, AreFresh, UsesPrimary, AreValid, HaveNames, so_far}
 use Rattle.xc_input.proofs.FaultLemmas.{names_of-length}
 use Rattle.xc_input.proofs.GrammarLemmas.{or-false}
 use Rattle.xc_input.specs.Lines.{AreWhole}
 use Rattle.xc_input.proofs.UnbrokenLemmas.{unbroken}
 use Rattle.xc_input.proofs.ValidLemmas.{valid}
 use Rattle.xc_input.proofs.NameLemmas.{apart}
+use Rattle.xc_input.specs.Faults.{context}
 
 -- DISTINCT
 new-distinct : (earlier xs : List (List ℕ)) → AllNew earlier xs → AllPairs (λ x y. x ≢ y) earlier → AllPairs (λ x y. x ≢ y) (earlier ++ xs)
@@ -114,18 +116,18 @@ add-colour cs (b ∷ bs) good h =
     let P : Bool → Type 0 = λ t. All IsColour (if t then cs ++ (b ∷ bs) ∷ [] else cs) in
     (elim (is_none (place cs (b ∷ bs))) as P [ true ↦ All-append IsColour cs ((b ∷ bs) ∷ []) h (All-cons IsColour (b ∷ bs) [] (good (omega arith)) (All-nil IsColour)) | false ↦ h ])
 
-use-colour : (kind : Kind) (names : List (List ℕ)) (primaries : ℕ) (token : List ℕ) (u : Written) → IsUse kind names primaries token u → 0 < length u.colour → IsColour u.colour
+use-colour : (kind : Kind) (names : List (List ℕ)) (primaries : ℕ) (token : List ℕ) (u : Written) → IsUse (context kind names primaries) token u → 0 < length u.colour → IsColour u.colour
 use-colour kind names primaries token u (name, i, n, p, q, inl h) some = absurd (omega (arith, some, ap length h.1))
-use-colour kind names primaries token u (name, i, n, p, q, inr h) some = (h.3, h.4)
+use-colour kind names primaries token u (name, i, n, p, q, inr h) some = h.3
 
-add-uses : (kind : Kind) (names : List (List ℕ)) (primaries : ℕ) (seen : List ℕ) (ts : List (List ℕ)) (us : List Written) (cs : List (List ℕ)) → AreUses kind names primaries seen ts us → All IsColour cs → All IsColour (with_uses cs us)
+add-uses : (kind : Kind) (names : List (List ℕ)) (primaries : ℕ) (seen : List ℕ) (ts : List (List ℕ)) (us : List Written) (cs : List (List ℕ)) → AreUses (context kind names primaries) seen ts us → All IsColour cs → All IsColour (with_uses cs us)
 add-uses kind names primaries seen [] us cs h all = subst (λ us. All IsColour (with_uses cs us)) (sym h) all
 add-uses kind names primaries seen (t ∷ ts) us cs h all =
     subst (λ us. All IsColour (with_uses cs us)) (sym h.2)
     (add-uses kind names primaries (seen ++ h.0.item ∷ []) ts h.1 (with_colour cs h.0.colour) h.5 (add-colour cs h.0.colour (use-colour kind names primaries t h.0 h.3) all))
 
 option-colours : (kind : Kind) (names : List (List ℕ)) (primaries n used : ℕ) (cs : List (List ℕ)) (lines : List (List ℕ)) (os : List (List Use)) (ig : List ℕ) (last : List (List ℕ))
-    → AreOptions kind names primaries n used cs lines os ig last → All IsColour cs → All IsColour last
+    → AreOptions (context kind names primaries) (so_far n used cs) lines os ig last → All IsColour cs → All IsColour last
 option-colours kind names primaries n used cs [] os ig last h all = subst (All IsColour) (sym h.2) all
 option-colours kind names primaries n used cs (line ∷ lines) os ig last (z, inl (f, r)) all = option-colours kind names primaries (n + 1) used cs lines os ig last r all
 option-colours kind names primaries n used cs (line ∷ lines) os ig last (z, inr (us, f, u, inl (others, none, i, r))) all = option-colours kind names primaries (n + 1) used cs lines os others last r all
@@ -179,7 +181,7 @@ sheet-sound kind lines sheet ignored h w few =
     }
 
 -- THE PROBLEM THAT VECTORS HOLD
-item-names : (items : List Item) → names_of (map entry_of items) ≡ map (λ x. x.name.items) items
+pub item-names : (items : List Item) → names_of (map entry_of items) ≡ map (λ x. x.name.items) items
 item-names [] = refl
 item-names (x ∷ items) = ap (λ ns. x.name.items ∷ ns) (item-names items)
 

@@ -1,19 +1,21 @@
 -- What the end of a source says of its text.
 use Rattle.std.proofs.Common.{◌≡◌, ℕ, ◌<◌, List, [], ◌∷◌, ◌++◌, Option, None, Some, Result, Ok, Err, IfSome, IfOk, IfErr, length, sym, ap, ◌∙◌, subst, append_assoc, append-nil, take}
 use Rattle.std.specs.Io.KnownBytes.{Consumes, IsAtEnd, Keeps}
-use Rattle.xc_input.specs.declared.Kind.{Kind}
-use Rattle.xc_input.specs.declared.InputError.{InputError}
-use Rattle.xc_input.specs.declared.InputError.TheVariants.{Fault, Device, Memory}
+use Rattle.xc_input.specs.declared.kind.Kind.{Kind}
+use Rattle.xc_input.specs.declared.fault.InputError.{InputError}
+use Rattle.xc_input.specs.declared.fault.InputError.TheVariants.{Fault, Device, Memory}
 use Rattle.xc_input.specs.declared.reader.Read.{Read}
 use Rattle.xc_input.specs.Named.{Named}
-use Rattle.xc_input.specs.Stages.{stage_of, or_else, end_fault}
+use Rattle.xc_input.specs.Stages.{stage_of, end_fault}
 use Rattle.xc_input.specs.Text.{StandsFor}
-use Rattle.xc_input.specs.Readings.{Reading, IsErrorOf, IsEndOf, IsFault}
+use Rattle.xc_input.specs.Readings.{Reading, IsFault}
+use Rattle.xc_input.specs.inner.Feeding.{IsErrorOf, IsEndOf, fed, IsBetween, Spoils}
 use Rattle.xc_input.specs.Lines.{lines_of, IsTextOf}
-use Rattle.xc_input.specs.Feeding.{fed, IsBetween, Spoils}
 use Rattle.xc_input.specs.Inputs.{IsFaultOf, Counts, IsCut}
 use Rattle.xc_input.proofs.FinishLemmas.{refutes}
-use Rattle.xc_input.proofs.LineLemmas.{length_none, lines_of-ended, lines_of-part}
+use Rattle.xc_input.proofs.LineLemmas.{lines_of-ended, lines_of-part}
+use Rattle.std.specs.Option.{option_or}
+use Rattle.std.proofs.lemmas.List.{nil_from_length}
 
 -- what an answer says of lines
 pub record EndsAs (kind : Kind) (lines : List (List ℕ)) (r : Result Read InputError) : Type 0 where
@@ -27,7 +29,7 @@ ends-as kind now lines told r e f h = subst (λ k. EndsAs k lines r) e (subst (�
 
 -- the error of a line is that of the text
 pub error-ends : (kind : Kind) (lines : List (List ℕ)) (e : InputError) → IsErrorOf kind lines e → IsEndOf kind lines e
-error-ends kind lines (Fault n k) h = ap (λ q. or_else q (end_fault (length lines) (stage_of kind lines).started)) h
+error-ends kind lines (Fault n k) h = ap (λ q. option_or q (end_fault (length lines) (stage_of kind lines).started)) h
 error-ends kind lines Device h = h
 error-ends kind lines Memory h = tt
 
@@ -37,7 +39,7 @@ line-ends kind lines e h = record { accepted = tt; only = tt; first = error-ends
 -- the lines of what was fed
 pub no-part : (reading : Reading) (carry : List ℕ) → IsBetween reading carry → length carry ≡ 0 → reading.lines ≡ lines_of (fed reading carry)
 no-part reading carry between none =
-    sym (lines_of-ended reading.lines carry between.whole ∙ ap (λ xs. reading.lines ++ lines_of xs) (length_none carry none) ∙ append-nil reading.lines)
+    sym (lines_of-ended reading.lines carry between.whole ∙ ap (λ xs. reading.lines ++ lines_of xs) (nil_from_length carry none) ∙ append-nil reading.lines)
 
 pub last-part : (reading : Reading) (carry : List ℕ) (after : List (List ℕ)) → IsBetween reading carry → 0 < length carry → after ≡ reading.lines ++ carry ∷ [] → after ≡ lines_of (fed reading carry)
 last-part reading carry after between some e =

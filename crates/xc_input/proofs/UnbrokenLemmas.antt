@@ -4,15 +4,18 @@ use Rattle.std.proofs.lemmas.Bool.{eqb-true}
 use Rattle.std.proofs.lemmas.List.Elements.{All-nil, All-cons}
 use Rattle.std.proofs.lemmas.List.Folds.{list_any-append}
 use Rattle.std.specs.List.{list_any}
-use Rattle.xc_input.specs.declared.Kind.{Kind}
+use Rattle.xc_input.specs.declared.kind.Kind.{Kind}
 use Rattle.xc_input.specs.declared.problem.Use.{Use}
 use Rattle.xc_input.specs.Words.{has, place}
-use Rattle.xc_input.specs.Tokens.{is_space, at_front, onto, tokens, split_bars, split_all, parts}
+use Rattle.xc_input.specs.Tokens.{is_space, at_front, onto, tokens, split_bars, parts}
 use Rattle.xc_input.specs.Named.{IsUnbroken}
 use Rattle.xc_input.specs.Sheets.{Entry, Sheet, Written, names_of, with_colour, with_uses}
-use Rattle.xc_input.specs.Text.{IsEntry, AreItems, IsUse, AreUses, AreOptions, IsSheetFrom, IsSheetOf}
+use Rattle.xc_input.specs.Text.{IsEntry, AreItems, IsUse, AreUses, AreOptions, IsSheetFrom}
+use Rattle.xc_input.proofs.SheetValidity.{IsSheetOf, so_far}
 use Rattle.xc_input.specs.Lines.{AreWhole}
 use Rattle.xc_input.proofs.GrammarLemmas.{or-false, or-both}
+use Rattle.xc_input.specs.Faults.{context}
+use Rattle.std.specs.Prelude.{flat_map}
 
 -- no byte of these passes the test
 abbrev AllLack : (ℕ → Bool) → List (List ℕ) → Type 0
@@ -62,9 +65,9 @@ lack-bars p (b ∷ bs) h =
       | false ↦ λ e. (h, tt)
     ]) in g refl
 
-lack-all : (p : ℕ → Bool) (ts : List (List ℕ)) → AllLack p ts → AllLack p (split_all ts)
+lack-all : (p : ℕ → Bool) (ts : List (List ℕ)) → AllLack p ts → AllLack p (flat_map split_bars ts)
 lack-all p [] h = tt
-lack-all p (t ∷ ts) h = AllLack-append p (split_bars t) (split_all ts) (lack-bars p t h.0) (lack-all p ts h.1)
+lack-all p (t ∷ ts) h = AllLack-append p (split_bars t) (flat_map split_bars ts) (lack-bars p t h.0) (lack-all p ts h.1)
 
 -- a part of a line
 pub part-solid : (line part : List ℕ) (others : List (List ℕ)) → parts line ≡ part ∷ others → list_any is_space part ≡ false
@@ -82,7 +85,7 @@ module _ (p : ℕ → Bool) (lacks : (line : List ℕ) → has 0 line ≡ false 
   lack-items kind names bar (part ∷ ps) es n (inr h) l =
       subst (λ es. AllLack p (names_of es)) (sym h.2) (lack-entry kind _ part h.0 h.4 l.0, lack-items kind (names ++ h.0.name ∷ []) bar ps h.1 n h.7 l.1)
 
-  lack-use : (kind : Kind) (names : List (List ℕ)) (primaries : ℕ) (token : List ℕ) (u : Written) → IsUse kind names primaries token u → list_any p token ≡ false → list_any p u.colour ≡ false
+  lack-use : (kind : Kind) (names : List (List ℕ)) (primaries : ℕ) (token : List ℕ) (u : Written) → IsUse (context kind names primaries) token u → list_any p token ≡ false → list_any p u.colour ≡ false
   lack-use kind names primaries token u (name, i, n, q, r, inl h) l = ap (list_any p) h.1
   lack-use kind names primaries token u (name, i, n, q, r, inr h) l = lacks-behind p name 58 u.colour (subst (λ xs. list_any p xs ≡ false) h.0 l)
 
@@ -92,7 +95,7 @@ module _ (p : ℕ → Bool) (lacks : (line : List ℕ) → has 0 line ≡ false 
       let P : Bool → Type 0 = λ t. AllLack p (if t then cs ++ (b ∷ bs) ∷ [] else cs) in
       (elim (is_none (place cs (b ∷ bs))) as P [ true ↦ AllLack-append p cs ((b ∷ bs) ∷ []) h (e, tt) | false ↦ h ])
 
-  lack-uses : (kind : Kind) (names : List (List ℕ)) (primaries : ℕ) (seen : List ℕ) (ts : List (List ℕ)) (us : List Written) (cs : List (List ℕ)) → AreUses kind names primaries seen ts us → AllLack p ts → AllLack p cs
+  lack-uses : (kind : Kind) (names : List (List ℕ)) (primaries : ℕ) (seen : List ℕ) (ts : List (List ℕ)) (us : List Written) (cs : List (List ℕ)) → AreUses (context kind names primaries) seen ts us → AllLack p ts → AllLack p cs
       → AllLack p (with_uses cs us)
   lack-uses kind names primaries seen [] us cs h l all = subst (λ us. AllLack p (with_uses cs us)) (sym h) all
   lack-uses kind names primaries seen (t ∷ ts) us cs h l all =
@@ -100,7 +103,7 @@ module _ (p : ℕ → Bool) (lacks : (line : List ℕ) → has 0 line ≡ false 
       (lack-uses kind names primaries (seen ++ h.0.item ∷ []) ts h.1 (with_colour cs h.0.colour) h.5 l.1 (lack-colour cs h.0.colour (lack-use kind names primaries t h.0 h.3 l.0) all))
 
   lack-options : (kind : Kind) (names : List (List ℕ)) (primaries n used : ℕ) (cs : List (List ℕ)) (lines : List (List ℕ)) (os : List (List Use)) (ig : List ℕ) (last : List (List ℕ))
-      → AreOptions kind names primaries n used cs lines os ig last → AreWhole lines → AllLack p cs → AllLack p last
+      → AreOptions (context kind names primaries) (so_far n used cs) lines os ig last → AreWhole lines → AllLack p cs → AllLack p last
   lack-options kind names primaries n used cs [] os ig last h w all = subst (AllLack p) (sym h.2) all
   lack-options kind names primaries n used cs (line ∷ lines) os ig last (z, inl (f, r)) w all = lack-options kind names primaries (n + 1) used cs lines os ig last r w.1 all
   lack-options kind names primaries n used cs (line ∷ lines) os ig last (z, inr (us, f, u, inl (others, none, i, r))) w all = lack-options kind names primaries (n + 1) used cs lines os others last r w.1 all

@@ -1,46 +1,43 @@
 -- What stands for a text is valid.
-use Rattle.std.proofs.Common.{◌≡◌, ℕ, suc, ◌+◌, ◌*◌, ◌-◌, ◌^◌, ◌<◌, ◌≤◌, List, [], ◌∷◌, ◌++◌, Option, None, Some, Bool, true, false, ◌&&◌, not, nat_lt, nat_eq, is_none, unwrap_or, length, position, refl, ap, ◌∙◌, sym, subst, arith, if◌then◌else◌, inl, inr, append_assoc, length-append}
+use Rattle.std.proofs.Common.{◌≡◌, ℕ, suc, ◌+◌, ◌*◌, ◌-◌, ◌^◌, ◌<◌, ◌≤◌, List, [], ◌∷◌, ◌++◌, Option, None, Some, Bool, true, false, ◌&&◌, nat_lt, nat_le, nat_eq, ◌||◌, ◌⊎◌, is_none, unwrap_or, length, position, refl, ap, ◌∙◌, sym, subst, arith, if◌then◌else◌, inl, inr, append_assoc, length-append}
 use Rattle.std.proofs.lemmas.Bool.Decides.{nat_tests}
 use Rattle.std.proofs.lemmas.Grind.{pow_more}
 use Rattle.std.proofs.lemmas.List.{append-nil}
 use Rattle.std.proofs.Math.Nat.{pow-le-pow_right}
-use Rattle.std.specs.List.{position_or_len}
-use Rattle.xc_input.specs.declared.Kind.{Kind}
+use Rattle.std.specs.List.{position_or_len, list_all}
+use Rattle.xc_input.specs.declared.kind.Kind.{Kind}
 use Rattle.xc_input.specs.declared.problem.Use.{Use}
-use Rattle.xc_input.specs.Words.{place, is_digit, all_digits, is_number, number, value_from}
-use Rattle.xc_input.specs.Tokens.{tokens, parts, is_bar, is_skipped, drop_white, word, behind, split_bars, split_all, is_space, starts_nothing}
+use Rattle.xc_input.specs.Words.{place, is_digit, is_number, number, value_from}
+use Rattle.xc_input.specs.Tokens.{tokens, parts, is_bar, is_skipped, split_bars, is_space}
+use Rattle.xc_input.specs.inner.Fronts.{drop_white, word}
+use Rattle.xc_input.proofs.TokenLemmas.{skipped-front, behind, tokens-drop_white, tokens-first, drop_white-first}
 use Rattle.std.proofs.lemmas.List.Sums.{sum_by-cons}
 use Rattle.xc_input.specs.Sheets.{Entry, Sheet, Written, names_of, number_uses, with_uses, with_colour, colour_number, use_count}
-use Rattle.xc_input.specs.Faults.{most_items, most_uses}
-use Rattle.xc_input.specs.Text.{IsEntry, AreBounds, AreItems, IsUse, AreUses, HasPrimary, AreOptions, IsSheetFrom, IsSheetOf}
-use Rattle.xc_input.proofs.SheetValidity.{AllNew, HaveBounds, IsWithin, AreWithin, AreFresh, UsesPrimary, AreValid, HaveNames, IsSoundSheet, most_bound}
+use Rattle.xc_input.specs.Limits.{most_items, most_uses, greatest_bound}
+use Rattle.xc_input.specs.Text.{IsEntry, AreBounds, AreItems, IsUse, AreUses, AreOptions, IsSheetFrom}
+use Rattle.xc_input.proofs.SheetValidity.{number_uses-length, IsSheetOf, AllNew, HaveBounds, IsWithin, AreWithin, AreFresh, UsesPrimary, AreValid, HaveNames, IsSoundSheet, so_far}
 use Rattle.std.specs.Str.{bytes_eq}
-use Rattle.xc_input.proofs.FaultLemmas.{names_of-length}
+use Rattle.xc_input.proofs.FaultLemmas.{some-is, names_of-length}
 use Rattle.xc_input.proofs.GrammarLemmas.{and-true}
-use Rattle.xc_input.proofs.TokenLemmas.{tokens-drop_white, tokens-first, drop_white-first}
+use Rattle.std.specs.Prelude.{flat_map}
+use Rattle.xc_input.specs.Faults.{context, has_primary}
 
 -- NUMBERS
-value-below : (n i : ℕ) (xs : List ℕ) → n < 10 ^ i → all_digits xs ≡ true → value_from n xs < 10 ^ (i + length xs)
+value-below : (n i : ℕ) (xs : List ℕ) → n < 10 ^ i → list_all is_digit xs ≡ true → value_from n xs < 10 ^ (i + length xs)
 value-below n i [] h e = let z : i + 0 ≡ i = omega arith in subst (λ k. n < 10 ^ k) (sym z) h
 value-below n i (x ∷ xs) h e =
-    let P : Bool → Type 0 = λ t. is_digit x ≡ t → (if t then all_digits xs else false) ≡ true → value_from (n * 10 + (x - 48)) xs < 10 ^ (i + length (x ∷ xs)) in
-    let g : P (is_digit x) = (elim (is_digit x) as P [
-      | true ↦ λ f k.
-          let a = and-true (not (nat_lt x 48)) (nat_lt x 58) f in
-          let b : nat_lt x 58 ≡ true = a.1 in
-          let c : x < 58 = grind (arith, nat_tests) in
-          let p : 10 ^ (i + 1) ≡ 10 ^ i * 10 = pow_more 10 i in
-          let q : n * 10 + (x - 48) < 10 ^ (i + 1) = omega arith in
-          let z : i + 1 + length xs ≡ i + length (x ∷ xs) = omega arith in
-          subst (λ m. value_from (n * 10 + (x - 48)) xs < 10 ^ m) z (value-below (n * 10 + (x - 48)) (i + 1) xs q k)
-      | false ↦ λ f k. absurd (cc)
-    ]) in g refl e
+    let a = and-true (is_digit x) (list_all is_digit xs) e in
+    let b : nat_le x 57 ≡ true = (and-true (nat_le 48 x) (nat_le x 57) a.0).1 in
+    let c : x < 58 = grind (arith, nat_tests) in
+    let p : 10 ^ (i + 1) ≡ 10 ^ i * 10 = pow_more 10 i in
+    let q : n * 10 + (x - 48) < 10 ^ (i + 1) = omega arith in
+    let z : i + 1 + length xs ≡ i + length (x ∷ xs) = omega arith in
+    subst (λ m. value_from (n * 10 + (x - 48)) xs < 10 ^ m) z (value-below (n * 10 + (x - 48)) (i + 1) xs q a.1)
 
-number-below : (text : List ℕ) → is_number text ≡ true → number text ≤ most_bound
+number-below : (text : List ℕ) → is_number text ≡ true → number text ≤ greatest_bound
 number-below text e =
-    let a = and-true (not (nat_lt (length text) 1) && not (nat_lt 9 (length text))) (all_digits text) e in
-    let b = and-true (not (nat_lt (length text) 1)) (not (nat_lt 9 (length text))) a.0 in
-    let c : not (nat_lt 9 (length text)) ≡ true = b.1 in
+    let a = and-true (nat_le 1 (length text) && nat_le (length text) 9) (list_all is_digit text) e in
+    let c : nat_le (length text) 9 ≡ true = (and-true (nat_le 1 (length text)) (nat_le (length text) 9) a.0).1 in
     let l : length text ≤ 9 = grind (arith, nat_tests) in
     let v : number text < 10 ^ (0 + length text) = value-below 0 0 text (omega arith) a.1 in
     let le : 0 + length text ≤ 9 = omega arith in
@@ -48,16 +45,16 @@ number-below text e =
     let m : number text < 1000000000 = omega arith in
     omega arith
 
-high-below : (prefix : List ℕ) (low high : ℕ) → AreBounds prefix low high → high ≤ most_bound
-high-below prefix low high (inl h) = subst (λ n. n ≤ most_bound) h.2 (number-below prefix h.0)
-high-below prefix low high (inr h) = subst (λ n. n ≤ most_bound) h.6 (number-below h.1 h.4)
+high-below : (prefix : List ℕ) (low high : ℕ) → AreBounds prefix low high → high ≤ greatest_bound
+high-below prefix low high (inl h) = subst (λ n. n ≤ greatest_bound) h.2 (number-below prefix h.0)
+high-below prefix low high (inr h) = subst (λ n. n ≤ greatest_bound) h.6 (number-below h.1 h.4)
 
 -- ITEMS
 secondary-good : (kind : Kind) (token : List ℕ) (e : Entry) → IsEntry kind true token e → (e.low ≡ 0) × (e.high ≡ 1)
 secondary-good kind token e (n, inl h) = (h.1, h.2)
 secondary-good kind token e (n, inr h) = let f : true ≡ false = h.2 in absurd (cc)
 
-primary-good : (kind : Kind) (token : List ℕ) (e : Entry) → IsEntry kind false token e → (e.low ≤ e.high) × (1 ≤ e.high) × (e.high ≤ most_bound)
+primary-good : (kind : Kind) (token : List ℕ) (e : Entry) → IsEntry kind false token e → (e.low ≤ e.high) × (1 ≤ e.high) × (e.high ≤ greatest_bound)
 primary-good kind token e (n, inl h) = let l : e.low ≡ 1 = h.1 in let k : e.high ≡ 1 = h.2 in (omega arith, omega arith, omega arith)
 primary-good kind token e (n, inr h) = (h.7, h.6, high-below h.0 e.low e.high h.5)
 
@@ -93,12 +90,12 @@ first-part : (xs : List ℕ) (b : ℕ) (bs : List ℕ) → drop_white xs ≡ b �
 first-part xs b bs e f =
     let dark : is_space b ≡ false = drop_white-first xs b bs e in
     let t : tokens xs ≡ (b ∷ word bs) ∷ tokens (behind bs) = sym (tokens-drop_white xs) ∙ ap tokens e ∙ tokens-first b bs dark in
-    (split_all (tokens (behind bs)), ap split_all t ∙ ap (λ c. (if c then (124 ∷ []) ∷ split_bars (word bs) else (b ∷ word bs) ∷ []) ++ split_all (tokens (behind bs))) f)
+    (flat_map split_bars (tokens (behind bs)), ap (flat_map split_bars) t ∙ ap (λ c. (if c then (124 ∷ []) ∷ split_bars (word bs) else (b ∷ word bs) ∷ []) ++ flat_map split_bars (tokens (behind bs))) f)
 
 starts : (xs ys : List ℕ) → drop_white xs ≡ ys → is_skipped xs ≡ false → (p : List ℕ) × (ps : List (List ℕ)) × (parts xs ≡ p ∷ ps) × (is_bar p ≡ false)
-starts xs [] e f = let g : is_skipped xs ≡ true = ap starts_nothing e in absurd (cc)
+starts xs [] e f = let g : is_skipped xs ≡ true = sym (skipped-front xs [] (sym e)) in absurd (cc)
 starts xs (b ∷ bs) e f =
-    let g : nat_eq b 124 ≡ false = sym (ap starts_nothing e) ∙ f in
+    let g : nat_eq b 124 ≡ false = skipped-front xs (b ∷ bs) (sym e) ∙ f in
     let r = first-part xs b bs e g in (b ∷ word bs, r.0, r.1, g)
 
 from-first : (kind : Kind) (p : List ℕ) (ps : List (List ℕ)) (es : List Entry) (n : ℕ) → is_bar p ≡ false → AreItems kind [] None (p ∷ ps) es n → 1 ≤ n
@@ -128,10 +125,6 @@ in-range p xs i e =
       | false ↦ λ f g. absurd (cc)
     ]) in h refl e
 
-at-place : (o : Option ℕ) → is_none o ≡ false → (i : ℕ) × (o ≡ Some i)
-at-place None e = absurd (cc)
-at-place (Some i) e = (i, refl)
-
 colour-grows : (cs : List (List ℕ)) (c : List ℕ) → length cs ≤ length (with_colour cs c)
 colour-grows cs [] = omega arith
 colour-grows cs (b ∷ bs) =
@@ -151,7 +144,7 @@ some-colour cs b bs =
     let l : length (cs ++ (b ∷ bs) ∷ []) ≡ length cs + 1 = length-append cs ((b ∷ bs) ∷ []) in
     let h : P (is_none (place cs (b ∷ bs))) = (elim (is_none (place cs (b ∷ bs))) as P [
       | true ↦ λ f. omega arith
-      | false ↦ λ f. let i = at-place (place cs (b ∷ bs)) f in let k : i.0 < length cs = in-range (bytes_eq (b ∷ bs)) cs i.0 i.1 in omega arith
+      | false ↦ λ f. let i = some-is (place cs (b ∷ bs)) f in let k : i.0 < length cs = in-range (bytes_eq (b ∷ bs)) cs i.0 i.1 in omega arith
     ]) in h refl
 
 number-of : (o : Option ℕ) (n : ℕ) → ((i : ℕ) → o ≡ Some i → i < n) → 1 ≤ n → unwrap_or o 0 + 1 ≤ n
@@ -181,7 +174,7 @@ colours-new cs [] h = h
 colours-new cs (u ∷ us) h = colours-new (with_colour cs u.colour) us (colour-new cs u.colour h)
 
 -- USES
-use-within : (kind : Kind) (names : List (List ℕ)) (primaries : ℕ) (token : List ℕ) (u : Written) (cs : List (List ℕ)) (k : ℕ) → IsUse kind names primaries token u → colour_number cs u.colour ≤ k
+use-within : (kind : Kind) (names : List (List ℕ)) (primaries : ℕ) (token : List ℕ) (u : Written) (cs : List (List ℕ)) (k : ℕ) → IsUse (context kind names primaries) token u → colour_number cs u.colour ≤ k
     → IsWithin (length names) primaries k (record { item = u.item; colour = colour_number cs u.colour })
 use-within kind names primaries token u cs k (name, i, n, p, q, inl h) l =
     let r : i < length names = in-range (bytes_eq name) names i p in
@@ -193,7 +186,7 @@ use-within kind names primaries token u cs k (name, i, n, p, q, inr h) l =
     let o : primaries < u.item = h.2 in
     (omega arith, omega arith, (λ w. absurd (omega arith)), l)
 
-uses-valid : (kind : Kind) (names : List (List ℕ)) (primaries : ℕ) (seen : List ℕ) (ts : List (List ℕ)) (us : List Written) (cs : List (List ℕ)) (k : ℕ) → AreUses kind names primaries seen ts us → length (with_uses cs us) ≤ k
+uses-valid : (kind : Kind) (names : List (List ℕ)) (primaries : ℕ) (seen : List ℕ) (ts : List (List ℕ)) (us : List Written) (cs : List (List ℕ)) (k : ℕ) → AreUses (context kind names primaries) seen ts us → length (with_uses cs us) ≤ k
     → AreWithin (length names) primaries k (number_uses cs us) × AreFresh seen (number_uses cs us)
 uses-valid kind names primaries seen [] us cs k h l = (subst (λ x. AreWithin (length names) primaries k (number_uses cs x)) (sym h) tt, subst (λ x. AreFresh seen (number_uses cs x)) (sym h) tt)
 uses-valid kind names primaries seen (t ∷ ts) us cs k h l =
@@ -206,16 +199,13 @@ uses-valid kind names primaries seen (t ∷ ts) us cs k h l =
       subst (λ x. AreFresh seen (number_uses cs x)) (sym h.2) (h.4, r.1),
     )
 
-primary-kept : (primaries : ℕ) (us : List Written) (cs : List (List ℕ)) → HasPrimary primaries us → UsesPrimary primaries (number_uses cs us)
-primary-kept primaries [] cs h = absurd h
-primary-kept primaries (u ∷ us) cs (inl h) = inl h
-primary-kept primaries (u ∷ us) cs (inr h) = inr (primary-kept primaries us (with_colour cs u.colour) h)
+primary-kept : (primaries : ℕ) (us : List Written) (cs : List (List ℕ)) → has_primary primaries us ≡ true → UsesPrimary primaries (number_uses cs us)
+primary-kept primaries [] cs h = absurd (cc)
+primary-kept primaries (u ∷ us) cs h =
+    let P : Bool → Type 0 = λ t. nat_le u.item primaries ≡ t → (t || has_primary primaries us) ≡ true → (u.item ≤ primaries) ⊎ UsesPrimary primaries (number_uses (with_colour cs u.colour) us) in
+    let g : P (nat_le u.item primaries) = (elim (nat_le u.item primaries) as P [ true ↦ λ e f. inl (grind (arith, nat_tests)) | false ↦ λ e f. inr (primary-kept primaries us (with_colour cs u.colour) f) ]) in g refl h
 
-uses-length : (cs : List (List ℕ)) (us : List Written) → length (number_uses cs us) ≡ length us
-uses-length cs [] = refl
-uses-length cs (u ∷ us) = ap suc (uses-length (with_colour cs u.colour) us)
-
-options-valid : (kind : Kind) (names : List (List ℕ)) (primaries n used : ℕ) (cs : List (List ℕ)) (lines : List (List ℕ)) (os : List (List Use)) (ig : List ℕ) (last : List (List ℕ)) → AreOptions kind names primaries n used cs lines os ig last
+options-valid : (kind : Kind) (names : List (List ℕ)) (primaries n used : ℕ) (cs : List (List ℕ)) (lines : List (List ℕ)) (os : List (List Use)) (ig : List ℕ) (last : List (List ℕ)) → AreOptions (context kind names primaries) (so_far n used cs) lines os ig last
     → used ≤ most_uses → AllNew [] cs → (length cs ≤ length last) × AllNew [] last × (used + use_count os ≤ most_uses) × AreValid (length names) primaries (length last) os
 options-valid kind names primaries n used cs [] os ig last h m a =
     let z : use_count os ≡ 0 = ap use_count h.0 in
@@ -228,7 +218,7 @@ options-valid kind names primaries n used cs (line ∷ lines) os ig last (z, inr
     let g : length cs ≤ length (with_uses cs us) = colours-grow cs us in
     let l : length (with_uses cs us) ≤ length last = q.0 in
     let v = uses-valid kind names primaries [] (tokens line) us cs (length last) u l in
-    let c : use_count os ≡ length us + use_count others = ap use_count o ∙ sum_by-cons (λ us. length us) (number_uses cs us) others ∙ ap (λ k. k + use_count others) (uses-length cs us) in
+    let c : use_count os ≡ length us + use_count others = ap use_count o ∙ sum_by-cons (λ us. length us) (number_uses cs us) others ∙ ap (λ k. k + use_count others) (number_uses-length cs us) in
     let d : used + length us + use_count others ≤ most_uses = q.2 in
     (omega arith, q.1, omega arith, subst (AreValid (length names) primaries (length last)) (sym o) (v.0, v.1, primary-kept primaries us cs prim, q.3))
 

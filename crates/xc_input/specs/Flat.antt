@@ -15,12 +15,10 @@ AreStarts [] n = ⊥
 AreStarts (a ∷ []) n = a ≡ n
 AreStarts (a ∷ b ∷ starts) n = (a ≤ b) × AreStarts (b ∷ starts) n
 
+-- the bounds of an item
 abbrev pub bounds_of : Item → Bounds
 bounds_of x = record { low = x.low; high = x.high }
 
 -- a secondary item may be left out, and is held at most once
 abbrev pub secondary_bounds : Bounds
 secondary_bounds = record { low = 0; high = 1 }
-
-abbrev pub IsOptional : Item → Type 0
-IsOptional x = bounds_of x ≡ secondary_bounds

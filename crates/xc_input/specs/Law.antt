@@ -1,23 +1,31 @@
--- Each list of lines has a first fault or stands for one problem; and what stands for one stands for it as each kind that allows more.
+-- Each list of lines has a first fault or stands for one problem.
+-- What stands for one stands for it as each kind that allows more.
 use Rattle.std.specs.Prelude.{◌≡◌, ℕ, List, None}
-use Rattle.xc_input.specs.declared.Kind.{Kind}
+use Rattle.xc_input.specs.declared.kind.Kind.{Kind}
 use Rattle.xc_input.specs.Named.{Named}
 use Rattle.xc_input.specs.Stages.{first_fault}
 use Rattle.xc_input.specs.Text.{StandsFor}
 
 -- lines without a fault stand for a problem
 abbrev pub FaultlessStand : Type 0
-FaultlessStand = (kind : Kind) (lines : List (List ℕ)) → first_fault kind lines ≡ None → (named : Named) × (ignored : List ℕ) × StandsFor kind lines named ignored
+FaultlessStand =
+    (kind : Kind) (lines : List (List ℕ)) → first_fault kind lines ≡ None
+    → (named : Named) × (ignored : List ℕ) × StandsFor kind lines named ignored
 
 -- lines that stand for a problem have no fault
 abbrev pub StandingAreFaultless : Type 0
-StandingAreFaultless = (kind : Kind) (lines : List (List ℕ)) (named : Named) (ignored : List ℕ) → StandsFor kind lines named ignored → first_fault kind lines ≡ None
+StandingAreFaultless =
+    (kind : Kind) (lines : List (List ℕ)) (named : Named) (ignored : List ℕ) → StandsFor kind lines named ignored
+    → first_fault kind lines ≡ None
 
 -- and they stand for no other
 abbrev pub StandForOne : Type 0
 StandForOne =
-    (kind : Kind) (lines : List (List ℕ)) (a b : Named) (is js : List ℕ) → StandsFor kind lines a is → StandsFor kind lines b js → (a ≡ b) × (is ≡ js)
+    (kind : Kind) (lines : List (List ℕ)) (a b : Named) (is js : List ℕ) → StandsFor kind lines a is → StandsFor kind lines b js
+    → (a ≡ b) × (is ≡ js)
 
 -- lines that stand for a problem as one kind stand for the same problem as another
 abbrev pub StandAlso : Kind → Kind → Type 0
-StandAlso kind other = (lines : List (List ℕ)) (named : Named) (ignored : List ℕ) → StandsFor kind lines named ignored → StandsFor other lines named ignored
+StandAlso kind other =
+    (lines : List (List ℕ)) (named : Named) (ignored : List ℕ) → StandsFor kind lines named ignored
+    → StandsFor other lines named ignored

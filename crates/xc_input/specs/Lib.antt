@@ -1,3 +1,4 @@
+pub mod Limits
 pub mod Problem
 pub mod Named
 pub mod Flat
@@ -6,15 +7,14 @@ pub mod Sheets
 pub mod Tokens
 pub mod Words
 pub mod Faults
+pub mod FaultTexts
 pub mod Stages
 pub mod Text
 pub mod Lines
 pub mod Calls
 pub mod Readings
-pub mod Drafts
-pub mod Feeding
 pub mod Inputs
 pub mod Pieces
 pub mod Law
 pub mod Worked
-pub mod Hashing
+pub mod inner

@@ -5,7 +5,10 @@ use Rattle.xc_input.specs.Problem.{Puzzle, IsItem, item_count, IsValid, IsWithin
 use Rattle.std.specs.List.{list_any}
 use Rattle.xc_input.specs.Tokens.{is_space}
 use Rattle.xc_input.specs.Words.{has}
+use Rattle.xc_input.specs.Limits.{longest_name, longest_colour, most_uses}
+use Prim.Native.Char.{code}
 
+-- a problem, the names of its items by their numbers, and its colours by theirs, from 1
 pub record Named : Type 0 where
   pub names : List (List ℕ)
   pub colours : List (List ℕ)
@@ -19,16 +22,16 @@ AreColoursKnown colours options = All (λ us. All (λ u. u.colour ≤ length col
 abbrev pub IsKnownUse : Named → Use → Type 0
 IsKnownUse a u = IsItem a.puzzle u.item × (u.colour ≤ length a.colours)
 
--- 1 to 32 bytes without a colon or a bar
+-- bytes, not too many, without a colon or a bar
 pub record IsName (name : List ℕ) : Type 0 where
   pub some : 1 ≤ length name
-  pub short : length name ≤ 32
-  pub no_colon : has 58 name ≡ false
-  pub no_bar : has 124 name ≡ false
+  pub short : length name ≤ longest_name
+  pub no_colon : has (code ":") name ≡ false
+  pub no_bar : has (code "|") name ≡ false
 
--- 1 to 8 bytes
+-- bytes, not too many
 abbrev pub IsColour : List ℕ → Type 0
-IsColour colour = (1 ≤ length colour) × (length colour ≤ 8)
+IsColour colour = (1 ≤ length colour) × (length colour ≤ longest_colour)
 
 -- bytes that no white space, NUL byte or line feed breaks
 pub record IsUnbroken (bytes : List ℕ) : Type 0 where
@@ -51,5 +54,5 @@ pub record IsSound (a : Named) : Type 0 where
   pub valid : IsValid a.puzzle
   pub limits : IsWithinLimits a.puzzle
   pub coloured : AreColoursKnown a.colours a.puzzle.options
-  pub few_colours : length a.colours ≤ 10000000
+  pub few_colours : length a.colours ≤ most_uses
   pub named : IsWellNamed a

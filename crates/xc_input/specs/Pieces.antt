@@ -1,8 +1,8 @@
 -- What a source gave, in the pieces that its reads gave it in.
 use Rattle.std.specs.Prelude.{◌≡◌, ◌⊎◌, ℕ, ◌<◌, List, [], ◌∷◌, ◌++◌, length, All, flat_map}
-use Rattle.xc_input.specs.declared.Kind.{Kind}
-use Rattle.xc_input.specs.declared.InputError.{InputError}
-use Rattle.xc_input.specs.declared.InputError.TheVariants.{Fault, Device, Memory}
+use Rattle.xc_input.specs.declared.kind.Kind.{Kind}
+use Rattle.xc_input.specs.declared.fault.InputError.{InputError}
+use Rattle.xc_input.specs.declared.fault.InputError.TheVariants.{Fault, Device, Memory}
 use Rattle.xc_input.specs.Named.{Named}
 use Rattle.xc_input.specs.Lines.{IsTextOf, IsFirstFault}
 

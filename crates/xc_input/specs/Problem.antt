@@ -1,33 +1,41 @@
 -- Exact cover problems. Items and options are numbered from 1.
 use Rattle.std.specs.Prelude.{ℕ, zero, suc, ◌+◌, ◌<◌, ◌≤◌, ◌≡◌, ◌≢◌, Bool, ◌==◌, List, [], ◌∷◌, length, Option, Some, None, is_some, unwrap_or, slice_get, All, AllPairs, Any, sum_by, filter, if◌then◌else◌}
+use Rattle.xc_input.specs.declared.problem.Bounds.{Bounds as ItemBounds}
 use Rattle.xc_input.specs.declared.problem.Use.{Use}
+use Rattle.xc_input.specs.Limits.{most_items, most_uses, greatest_bound}
 
--- how often a primary item is to be held: at least low and at most high times
-pub record Bounds : Type 0 where
-  pub low : ℕ
-  pub high : ℕ
+-- how often an item is to be held: at least low and at most high times
+abbrev pub Bounds : Type 0
+Bounds = ItemBounds
 
--- The bounds of the primary items in order, how many secondary items stand behind them, and the options in file order, each a list of uses in file order.
+-- the bounds of the primary items in order, how many secondary items stand behind them, and the options in file order,
+-- each a list of uses in file order
 pub record Puzzle : Type 0 where
   pub bounds : List Bounds
   pub secondary : ℕ
   pub options : List (List Use)
 
+-- how many items are primary
 abbrev pub primary_count : Puzzle → ℕ
 primary_count p = length p.bounds
 
+-- how many items there are
 abbrev pub item_count : Puzzle → ℕ
 item_count p = length p.bounds + p.secondary
 
+-- how many options there are
 abbrev pub option_count : Puzzle → ℕ
 option_count p = length p.options
 
+-- i is the number of a primary item: they come first
 abbrev pub IsPrimary : Puzzle → ℕ → Type 0
 IsPrimary p i = (1 ≤ i) × (i ≤ primary_count p)
 
+-- i is the number of a secondary item
 abbrev pub IsSecondary : Puzzle → ℕ → Type 0
 IsSecondary p i = (primary_count p < i) × (i ≤ item_count p)
 
+-- i is the number of an item
 abbrev pub IsItem : Puzzle → ℕ → Type 0
 IsItem p i = (1 ≤ i) × (i ≤ item_count p)
 
@@ -40,9 +48,11 @@ numbered_get xs (suc k) = slice_get xs k
 abbrev pub bounds_at : Puzzle → ℕ → Option Bounds
 bounds_at p i = numbered_get p.bounds i
 
+-- how often item i is held at least; 0 where it is not primary
 abbrev pub low_at : Puzzle → ℕ → ℕ
 low_at p i = (unwrap_or (bounds_at p i) (record { low = 0; high = 0 })).low
 
+-- how often item i is held at most; 0 where it is not primary
 abbrev pub high_at : Puzzle → ℕ → ℕ
 high_at p i = (unwrap_or (bounds_at p i) (record { low = 0; high = 0 })).high
 
@@ -60,10 +70,12 @@ pub record Numbered : Type 0 where
   pub number : ℕ
   pub uses : List Use
 
+-- options with the numbers from n on
 abbrev pub numbered_from : ℕ → List (List Use) → List Numbered
 numbered_from n [] = []
 numbered_from n (us ∷ options) = record { number = n; uses = us } ∷ numbered_from (n + 1) options
 
+-- the options with their numbers, from 1
 abbrev pub numbered_options : Puzzle → List Numbered
 numbered_options p = numbered_from 1 p.options
 
@@ -71,6 +83,7 @@ numbered_options p = numbered_from 1 p.options
 abbrev pub colour_at : Numbered → ℕ → Option ℕ
 colour_at o i = colour_in o.uses i
 
+-- whether an option holds item i
 abbrev pub holds : Numbered → ℕ → Bool
 holds o i = is_some (colour_at o i)
 
@@ -88,9 +101,11 @@ pub record IsSoundOption (p : Puzzle) (us : List Use) : Type 0 where
   pub distinct : AllPairs (λ u v. u.item ≢ v.item) us
   pub one_primary : Any (λ u. u.item ≤ primary_count p) us
 
+-- bounds that some number of options meets, and not none alone
 abbrev pub AreSoundBounds : Bounds → Type 0
 AreSoundBounds b = (b.low ≤ b.high) × (1 ≤ b.high)
 
+-- a problem has a primary item, and its bounds and options are sound
 pub record IsValid (p : Puzzle) : Type 0 where
   pub one_primary : 1 ≤ primary_count p
   pub bounds : All AreSoundBounds p.bounds
@@ -98,7 +113,7 @@ pub record IsValid (p : Puzzle) : Type 0 where
 
 -- what the reader lets in
 pub record IsWithinLimits (p : Puzzle) : Type 0 where
-  pub items : item_count p ≤ 100000
-  pub uses : sum_by (λ us. length us) p.options ≤ 10000000
-  pub options : option_count p ≤ 10000000
-  pub bounds : All (λ b. b.high ≤ 999999999) p.bounds
+  pub items : item_count p ≤ most_items
+  pub uses : sum_by (λ us. length us) p.options ≤ most_uses
+  pub options : option_count p ≤ most_uses
+  pub bounds : All (λ b. b.high ≤ greatest_bound) p.bounds

@@ -1,5 +1,5 @@
 -- What a text writes down, and the problem that it is.
-use Rattle.std.specs.Prelude.{ℕ, ◌+◌, ◌-◌, length, List, [], ◌∷◌, ◌++◌, is_none, unwrap_or, if◌then◌else◌, map, take, sum_by}
+use Rattle.std.specs.Prelude.{ℕ, ◌+◌, ◌-◌, length, List, [], ◌∷◌, ◌++◌, is_none, unwrap_or, if◌then◌else◌, map, take, sum_by, fold}
 use Rattle.xc_input.specs.declared.problem.Use.{Use}
 use Rattle.xc_input.specs.Words.{place}
 use Rattle.xc_input.specs.Problem.{Bounds}
@@ -23,10 +23,11 @@ pub record Written : Type 0 where
   pub item : ℕ
   pub colour : List ℕ
 
+-- the names of items
 abbrev pub names_of : List Entry → List (List ℕ)
-names_of [] = []
-names_of (e ∷ es) = e.name ∷ names_of es
+names_of entries = map (λ e. e.name) entries
 
+-- the bounds of an item
 abbrev pub entry_bounds : Entry → Bounds
 entry_bounds e = record { low = e.low; high = e.high }
 
@@ -35,7 +36,11 @@ abbrev pub named_of : Sheet → Named
 named_of s = record {
   names = names_of s.entries;
   colours = s.colours;
-  puzzle = record { bounds = map entry_bounds (take s.primaries s.entries); secondary = length s.entries - s.primaries; options = s.options };
+  puzzle = record {
+    bounds = map entry_bounds (take s.primaries s.entries);
+    secondary = length s.entries - s.primaries;
+    options = s.options;
+  };
 }
 
 -- the colours so far and this one, where it is a new one
@@ -48,18 +53,17 @@ abbrev pub colour_number : List (List ℕ) → List ℕ → ℕ
 colour_number colours [] = 0
 colour_number colours (b ∷ bs) = unwrap_or (place colours (b ∷ bs)) 0 + 1
 
-abbrev pub numbered : List (List ℕ) → Written → Use
-numbered colours u = record { item = u.item; colour = colour_number colours u.colour }
-
 -- the uses of an option that is kept, behind options that used these colours
 abbrev pub number_uses : List (List ℕ) → List Written → List Use
 number_uses colours [] = []
-number_uses colours (u ∷ us) = numbered (with_colour colours u.colour) u ∷ number_uses (with_colour colours u.colour) us
+number_uses colours (u ∷ us) =
+    record { item = u.item; colour = colour_number (with_colour colours u.colour) u.colour } ∷
+    number_uses (with_colour colours u.colour) us
 
 -- the colours so far and those of the option
 abbrev pub with_uses : List (List ℕ) → List Written → List (List ℕ)
-with_uses colours [] = colours
-with_uses colours (u ∷ us) = with_uses (with_colour colours u.colour) us
+with_uses colours us = fold (λ cs u. with_colour cs u.colour) colours us
 
+-- how many uses options have
 abbrev pub use_count : List (List Use) → ℕ
 use_count options = sum_by (λ us. length us) options

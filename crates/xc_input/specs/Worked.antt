@@ -1,9 +1,9 @@
 -- Worked texts, and what the definitions say of them.
 use Rattle.std.specs.Prelude.{◌≡◌, ℕ, List, [], ◌∷◌, ◌++◌, None, Some, codes}
-use Rattle.xc_input.specs.declared.Kind.{Kind}
-use Rattle.xc_input.specs.declared.Kind.TheVariants.{Plain, Colours, Bounds}
-use Rattle.xc_input.specs.declared.FaultKind.{FaultKind}
-use Rattle.xc_input.specs.declared.FaultKind.TheVariants.{NoItems, NulByte, EmptyName, NameTooLong, BadByteInName, RepeatedName, TwoBars, BadBound, BoundOrder, BoundOnSecondary, UnknownItem, RepeatedInOption, ColourOnPrimary, BadColour, ColourNotHere}
+use Rattle.xc_input.specs.declared.kind.Kind.{Kind}
+use Rattle.xc_input.specs.declared.kind.Kind.TheVariants.{Plain, Colours, Bounds}
+use Rattle.xc_input.specs.declared.fault.FaultKind.{FaultKind}
+use Rattle.xc_input.specs.declared.fault.FaultKind.TheVariants.{NoItems, NulByte, EmptyName, NameTooLong, BadByteInName, RepeatedName, TwoBars, BadBound, BoundOrder, BoundOnSecondary, UnknownItem, RepeatedInOption, ColourOnPrimary, BadColour, ColourNotHere}
 use Rattle.xc_input.specs.declared.problem.Use.{Use}
 use Rattle.xc_input.specs.Problem.{Bounds as ItemBounds}
 use Rattle.xc_input.specs.Named.{Named}

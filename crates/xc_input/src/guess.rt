@@ -5,6 +5,7 @@
 
 ghost use Rattle.std.specs.Prelude.{◌≤◌};
 
+use crate::limits::MOST_ITEMS;
 use crate::names::NameSet;
 use std::alloc::{AllocError, Global};
 
@@ -24,7 +25,7 @@ impl Guesses {
 
     /// For these names.
     pub fn new(alloc: Global, names: &NameSet) -> Result<Guesses, AllocError> {
-        let few = names.len().min(100_000);
+        let few = names.len().min(MOST_ITEMS);
         let mut places = vec![in alloc; 0; (few * 16).min(1 << 18)]?;
         for i in 0..few {
             if let Some(name) = names.get_index(i) {

@@ -6,18 +6,20 @@ ghost use Rattle.xc_input.specs.Tokens.{parts, is_space};
 ghost use Rattle.xc_input.specs.Words.{number};
 ghost use Rattle.xc_input.specs.Faults.{first, name_checks, is_bounds, prefix_checks, bound_checks, low_text, high_text, entry, part_checks, with_part, row_checks, row_of, no_row, item_checks};
 ghost use Rattle.xc_input.specs.Sheets.{names_of};
-ghost use Rattle.xc_input.specs.Drafts.{Judged, IsItemTable, row_of_items, entry_of};
+ghost use Rattle.xc_input.specs.inner.Builders.{Judged, IsItemTable, row_of_line, entry_of};
 
-use crate::cut::{add_name, cut_at, next_part, number_of, place_of};
-use crate::draft::LineError;
-use crate::names::{NameSet, no_names};
-use crate::problem::Item;
+use crate::digits::number_of;
+use crate::limits::{LONGEST_NAME, MOST_ITEMS};
+use crate::line_error::LineError;
+use crate::names::{NameSet, add_name, no_names, place_of};
+use crate::problem::{Bounds, Item};
+use crate::tokens::{cut_at, next_part};
 use crate::{FaultKind, Kind};
 use std::alloc::Global;
 
 /// The items of a line, and how many stand before its bar.
 #[derive(Drop)]
-pub struct Items {
+pub struct ItemLine {
     pub names: NameSet,
     pub items: Vec<Item>,
     pub bar: Option<u32>,
@@ -30,7 +32,7 @@ pub fn name_fault(name: &[u8]) -> Option<FaultKind>
     if name.is_empty() {
         return Some(FaultKind::EmptyName);
     }
-    if name.len() > 32 {
+    if name.len() > LONGEST_NAME {
         return Some(FaultKind::NameTooLong);
     }
     if name.contains(&b':') {
@@ -54,8 +56,8 @@ fn has_bounds(kind: Kind) -> bool
 }
 
 /// The bounds of a prefix, or its first fault.
-fn bounds_of(prefix: &[u8], secondary: bool) -> Result<(u32, u32), FaultKind>
-    ensures { MatchResult result (λ b. (first (prefix_checks prefix.now secondary) ≡ None) × (b.0 ≡ number (low_text prefix.now)) × (b.1 ≡ number (high_text prefix.now))) (λ fault. first (prefix_checks prefix.now secondary) ≡ Some fault) }
+fn bounds_of(prefix: &[u8], secondary: bool) -> Result<Bounds, FaultKind>
+    ensures { MatchResult result (λ b. (first (prefix_checks prefix.now secondary) ≡ None) × (b.low ≡ number (low_text prefix.now)) × (b.high ≡ number (high_text prefix.now))) (λ fault. first (prefix_checks prefix.now secondary) ≡ Some fault) }
 {
     let (low_text, high_text) = halves(prefix);
     let Some(low) = number_of(low_text) else {
@@ -73,7 +75,7 @@ fn bounds_of(prefix: &[u8], secondary: bool) -> Result<(u32, u32), FaultKind>
     if secondary {
         return Err(FaultKind::BoundOnSecondary);
     }
-    Ok((low, high))
+    Ok(Bounds { low, high })
 }
 
 /// The texts of the two bounds of a prefix.
@@ -89,39 +91,37 @@ fn halves(prefix: &[u8]) -> (&[u8], &[u8])
 }
 
 /// A token of the item line.
-struct Token<'a> {
+struct ItemToken<'a> {
     name: &'a [u8],
     low: u32,
     high: u32,
 }
 
 /// The name and the bounds of a token, or the first fault of its prefix.
-fn split_token(kind: Kind, secondary: bool, token: &[u8]) -> Result<Token<'_>, FaultKind>
+fn split_token(kind: Kind, secondary: bool, token: &[u8]) -> Result<ItemToken<'_>, FaultKind>
     ensures { MatchResult result (λ t. (first (bound_checks kind secondary token.now) ≡ None) × (record { name = t.name.now; low = t.low; high = t.high } ≡ entry kind secondary token.now)) (λ fault. first (bound_checks kind secondary token.now) ≡ Some fault) }
 {
     if has_bounds(kind) {
         let (prefix, name) = cut_at(token, b'|');
         if let Some(name) = name {
-            return match bounds_of(prefix, secondary) {
-                Ok((low, high)) => Ok(Token { name, low, high }),
-                Err(fault) => Err(fault),
-            };
+            let Bounds { low, high } = bounds_of(prefix, secondary)?;
+            return Ok(ItemToken { name, low, high });
         }
     }
-    Ok(Token {
+    Ok(ItemToken {
         name: token,
         low: if secondary { 0 } else { 1 },
         high: 1,
     })
 }
 
-impl Items {
+impl ItemLine {
     /// Takes a bar or another token of the line.
     fn add(&mut self, alloc: Global, kind: Kind, part: &[u8]) -> Result<(), LineError>
         requires table { IsItemTable self.old }
         requires solid { list_any is_space part.now ≡ false }
-        ensures judged { Judged (first (part_checks kind (row_of_items self.old) part.now)) result }
-        ensures added { OnOk result (IsItemTable self.new × (row_of_items self.new ≡ with_part kind (row_of_items self.old) part.now)) }
+        ensures judged { Judged (first (part_checks kind (row_of_line self.old) part.now)) result }
+        ensures added { OnOk result (IsItemTable self.new × (row_of_line self.new ≡ with_part kind (row_of_line self.old) part.now)) }
     {
         if let [b'|', ..] = part {
             if self.bar.is_some() {
@@ -140,17 +140,15 @@ impl Items {
         ensures judged { Judged (first (item_checks kind (names_of (map entry_of self.old.items.items)) (is_some self.old.bar) token.now)) result }
         ensures added { OnOk result (IsItemTable self.new × (map entry_of self.new.items.items ≡ map entry_of self.old.items.items ++ entry kind (is_some self.old.bar) token.now ∷ []) × (self.new.bar ≡ self.old.bar)) }
     {
-        let Token { name, low, high } = match split_token(kind, self.bar.is_some(), token) {
-            Ok(token) => token,
-            Err(fault) => return Err(LineError::Fault(fault)),
-        };
+        let token = split_token(kind, self.bar.is_some(), token)?;
+        let ItemToken { name, low, high } = token;
         if let Some(fault) = name_fault(name) {
             return Err(LineError::Fault(fault));
         }
         if place_of(&self.names, name).is_some() {
             return Err(LineError::Fault(FaultKind::RepeatedName));
         }
-        if self.items.len() >= 100_000 {
+        if self.items.len() >= MOST_ITEMS {
             return Err(LineError::Fault(FaultKind::TooManyItems));
         }
         add_name(alloc, &mut self.names, name)?;
@@ -169,21 +167,17 @@ fn push_item(
     ensures judged { Judged None result }
     ensures added { OnOk result (map entry_of items.new.items ≡ map entry_of items.old.items ++ record { name = name.now; low = low; high = high } ∷ []) }
 {
-    let Ok(name) = Vec::from_slice(alloc, name) else {
-        return Err(LineError::Memory);
-    };
-    if items.push(Item { name, low, high }).is_err() {
-        return Err(LineError::Memory);
-    }
+    let name = Vec::from_slice(alloc, name)?;
+    items.push(Item { name, low, high })?;
     Ok(())
 }
 
 /// The items of the item line, or its first fault.
-pub fn item_line(alloc: Global, kind: Kind, line: &[u8]) -> Result<Items, LineError>
+pub fn item_line(alloc: Global, kind: Kind, line: &[u8]) -> Result<ItemLine, LineError>
     ensures judged { Judged (first (row_checks kind no_row (parts line.now))) result }
-    ensures row { IfOk result (λ i. IsItemTable i × (row_of_items i ≡ row_of kind no_row (parts line.now))) }
+    ensures row { IfOk result (λ i. IsItemTable i × (row_of_line i ≡ row_of kind no_row (parts line.now))) }
 {
-    let mut items = Items {
+    let mut items = ItemLine {
         names: no_names(alloc),
         items: Vec::new(alloc),
         bar: None,

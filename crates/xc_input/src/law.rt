@@ -1,7 +1,7 @@
 //! What holds of every text.
 
 ghost use Rattle.xc_input.specs.Law.{FaultlessStand, StandingAreFaultless, StandForOne, StandAlso};
-ghost use Rattle.xc_input.specs.declared.Kind.TheVariants.{Plain, Colours, Bounds};
+ghost use Rattle.xc_input.specs.declared.kind.Kind.TheVariants.{Plain, Colours, Bounds};
 
 /// A text has a first fault or stands for one problem, and never both.
 pub fn fault_or_problem()

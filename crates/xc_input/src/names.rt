@@ -1,8 +1,13 @@
-//! Sets of names, and how they are hashed.
+//! Sets of names, look-ups in them, and how they are hashed.
 
-ghost use Rattle.std.specs.Prelude.{◌≡◌, []};
-ghost use Rattle.xc_input.specs.Hashing.{hashed, mixed};
+ghost use Rattle.std.specs.Prelude.{◌≡◌, ◌≤◌, ◌++◌, ◌∷◌, [], length, map, None, OnOk, IfOk};
+ghost use Rattle.xc_input.specs.Limits.{most_uses};
+ghost use Rattle.xc_input.specs.Words.{place, number_in};
+ghost use Rattle.xc_input.specs.Stored.{key_names};
+ghost use Rattle.xc_input.specs.inner.Builders.{Judged};
+ghost use Rattle.xc_input.specs.inner.Hashing.{hashed, mixed};
 
+use crate::line_error::LineError;
 use indexmap::IndexSet;
 use std::alloc::Global;
 use std::hash::{BuildHasherDefault, Hasher};
@@ -41,4 +46,32 @@ impl Hasher for NameHasher {
             self.state = self.state.wrapping_mul(257).wrapping_add(u64::from(*first));
         }
     }
+}
+
+/// The place of a name, from 0.
+pub fn place_of(names: &NameSet, name: &[u8]) -> Option<usize>
+    ensures { result ≡ place (map (λ v. v.items) names.now.keys) name.now }
+{
+    names.get_index_of(name)
+}
+
+/// The number of a name, from 1.
+pub fn number_of_name(names: &NameSet, name: &[u8]) -> Option<u32>
+    requires { length names.now.keys ≤ most_uses }
+    ensures { result ≡ number_in (key_names names.now.keys) name.now }
+{
+    let place = place_of(names, name)?;
+    Some(place as u32 + 1)
+}
+
+/// Adds a new name, and gives its place.
+pub fn add_name(alloc: Global, names: &mut NameSet, name: &[u8]) -> Result<usize, LineError>
+    requires { place (map (λ v. v.items) names.old.keys) name.now ≡ None }
+    ensures judged { Judged None result }
+    ensures added { OnOk result (map (λ v. v.items) names.new.keys ≡ map (λ v. v.items) names.old.keys ++ name.now ∷ []) }
+    ensures place { IfOk result (λ n. n ≡ length names.old.keys) }
+{
+    let key = Vec::from_slice(alloc, name)?;
+    let (n, _) = names.insert_full(key)?;
+    Ok(n)
 }

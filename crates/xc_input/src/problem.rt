@@ -1,13 +1,23 @@
 //! A problem as it was read.
 
-ghost use Rattle.std.specs.Prelude.{◌≡◌, ◌-◌, ◌<◌, ◌≤◌, ◌∷◌, length, drop, get_or, Some, All};
-ghost use Rattle.xc_input.specs.Problem.{IsValid, IsWithinLimits, primary_count, item_count, option_count, IsItem, numbered_get, bounds_at, IsPrimary, IsSecondary};
-ghost use Rattle.xc_input.specs.Flat.{bounds_of, secondary_bounds, IsOptional, pieces, AreStarts};
-ghost use Rattle.xc_input.specs.Named.{Named, AreColoursKnown, IsKnownUse, IsWellNamed, IsSound};
-ghost use Rattle.xc_input.specs.Stored.{named_from};
+ghost use Rattle.std.specs.Prelude.{◌≡◌, ◌≢◌, ◌<◌, ◌≤◌, ◌∷◌, ℕ, length, map, drop, get_or, sum_by, Some, All, IfSome, IfNone};
+ghost use Rattle.xc_input.specs.Problem.{IsValid, IsWithinLimits, IsSoundOption, AreSoundBounds, primary_count, item_count, option_count, IsItem, numbered_get, bounds_at, IsPrimary, IsSecondary};
+ghost use Rattle.xc_input.specs.Limits.{greatest_bound, most_uses};
+ghost use Rattle.xc_input.specs.Flat.{bounds_of, secondary_bounds, pieces, AreStarts};
+ghost use Rattle.xc_input.specs.inner.Vectors.{IsOptional, named_from};
+ghost use Rattle.xc_input.specs.Named.{Named, AreColoursKnown, IsKnownUse, IsWellNamed, IsName, IsColour, IsSound};
+ghost use Rattle.xc_input.specs.Words.{number_in};
+ghost use Rattle.xc_input.specs.Stored.{key_names};
 
-use crate::names::NameSet;
+use crate::names::{NameSet, number_of_name};
 use std::marker::Model;
+
+/// How often an item is to be held: at least `low` and at most `high` times.
+#[derive(Clone, Copy, Debug, PartialEq, Eq)]
+pub struct Bounds {
+    pub low: u32,
+    pub high: u32,
+}
 
 /// An item: its name, and how many options of a cover hold it.
 #[derive(Debug, Drop)]
@@ -17,6 +27,18 @@ pub struct Item {
     pub high: u32,
 }
 
+impl Item {
+    /// How often the item is to be held.
+    pub fn bounds(&self) -> Bounds
+        ensures { result ≡ bounds_of self.now }
+    {
+        Bounds {
+            low: self.low,
+            high: self.high,
+        }
+    }
+}
+
 /// A use of an item by an option: its number, and its colour, 0 for none.
 #[derive(Clone, Copy, Debug, PartialEq, Eq, Hash)]
 pub struct Use {
@@ -24,9 +46,11 @@ pub struct Use {
     pub colour: u32,
 }
 
-/// A problem. Items, options and colours have numbers from 1.
+/// A problem. Items, options and colours have numbers from 1. Its calls tell beside their answer that
+/// the whole problem is sound (`whole`).
 #[derive(Drop)]
 pub struct Problem {
+    names: NameSet,
     items: Vec<Item>,
     primary: u32,
     uses: Vec<Use>,
@@ -35,16 +59,19 @@ pub struct Problem {
 }
 
 impl Model for Problem {
-    ghost use Rattle.std.specs.Prelude.{◌≤◌, ◌∷◌, length, drop, All};
+    ghost use Rattle.std.specs.Prelude.{◌≡◌, ◌≤◌, ◌∷◌, length, map, drop, All};
     ghost use Rattle.xc_input.specs.Named.{Named, IsSound};
-    ghost use Rattle.xc_input.specs.Flat.{AreStarts, IsOptional};
-    ghost use Rattle.xc_input.specs.Stored.{named_from};
+    ghost use Rattle.xc_input.specs.Flat.{AreStarts};
+    ghost use Rattle.xc_input.specs.inner.Vectors.{IsOptional};
+    ghost use Rattle.xc_input.specs.inner.Vectors.{named_from};
+    ghost use Rattle.xc_input.specs.Stored.{key_names};
 
     ghost Value = { Named };
 
     ghost view = { λ p. named_from p.items.items p.primary p.uses.items p.ends.items p.colours.keys };
 
     ghost invariant = { λ p. record {
+      names : key_names p.names.keys ≡ map (λ x. x.name.items) p.items.items;
       primary : p.primary ≤ length p.items.items;
       secondary : All IsOptional (drop p.primary p.items.items);
       starts : AreStarts (0 ∷ p.ends.items) (length p.uses.items);
@@ -54,12 +81,14 @@ impl Model for Problem {
 
 impl Problem {
     pub(crate) fn new(
+        names: NameSet,
         items: Vec<Item>,
         primary: u32,
         uses: Vec<Use>,
         ends: Vec<u32>,
         colours: NameSet,
     ) -> Problem
+        requires names { key_names names.keys ≡ map (λ x. x.name.items) items.items }
         requires primary { primary ≤ length items.items }
         requires secondary { All IsOptional (drop primary items.items) }
         requires starts { AreStarts (0 ∷ ends.items) (length uses.items) }
@@ -67,6 +96,7 @@ impl Problem {
         ensures { result ≡ named_from items.items primary uses.items ends.items colours.keys }
     {
         Problem {
+            names,
             items,
             primary,
             uses,
@@ -78,18 +108,15 @@ impl Problem {
     /// How many items there are.
     pub fn items(&self) -> u32
         ensures value { result ≡ item_count self.now.puzzle }
-        ensures valid { IsValid self.now.puzzle }
-        ensures limits { IsWithinLimits self.now.puzzle }
-        ensures coloured { AreColoursKnown self.now.colours self.now.puzzle.options }
-        ensures few_colours { length self.now.colours ≤ 10000000 }
-        ensures named { IsWellNamed self.now }
+        ensures whole { IsSound self.now }
     {
         self.items.len() as u32
     }
 
     /// How many items are primary. They come first.
     pub fn primary(&self) -> u32
-        ensures { result ≡ primary_count self.now.puzzle }
+        ensures value { result ≡ primary_count self.now.puzzle }
+        ensures whole { IsSound self.now }
     {
         self.primary
     }
@@ -100,13 +127,24 @@ impl Problem {
         ensures name { numbered_get self.now.names i ≡ Some result.now.name.items }
         ensures bounds { IsPrimary self.now.puzzle i → bounds_at self.now.puzzle i ≡ Some (bounds_of result.now) }
         ensures secondary { IsSecondary self.now.puzzle i → bounds_of result.now ≡ secondary_bounds }
+        ensures whole { IsSound self.now }
     {
         &self.items[i as usize - 1]
     }
 
+    /// The number of the item with this name.
+    pub fn find(&self, name: &[u8]) -> Option<u32>
+        ensures value { result ≡ number_in self.now.names name.now }
+        ensures found { IfSome result (λ i. numbered_get self.now.names i ≡ Some name.now) }
+        ensures none { IfNone result ((i : ℕ) → numbered_get self.now.names i ≢ Some name.now) }
+    {
+        number_of_name(&self.names, name)
+    }
+
     /// How many colours there are.
     pub fn colours(&self) -> u32
-        ensures { result ≡ length self.now.colours }
+        ensures value { result ≡ length self.now.colours }
+        ensures whole { IsSound self.now }
     {
         self.colours.len() as u32
     }
@@ -122,9 +160,19 @@ impl Problem {
         }
     }
 
+    /// The number of the colour with these bytes.
+    pub fn find_colour(&self, bytes: &[u8]) -> Option<u32>
+        ensures value { result ≡ number_in self.now.colours bytes.now }
+        ensures found { IfSome result (λ c. numbered_get self.now.colours c ≡ Some bytes.now) }
+        ensures none { IfNone result ((c : ℕ) → numbered_get self.now.colours c ≢ Some bytes.now) }
+    {
+        number_of_name(&self.colours, bytes)
+    }
+
     /// How many options there are.
     pub fn options(&self) -> u32
-        ensures { result ≡ option_count self.now.puzzle }
+        ensures value { result ≡ option_count self.now.puzzle }
+        ensures whole { IsSound self.now }
     {
         self.ends.len() as u32
     }
@@ -134,8 +182,17 @@ impl Problem {
         requires known { (1 ≤ o) × (o ≤ option_count self.now.puzzle) }
         ensures value { numbered_get self.now.puzzle.options o ≡ Some result.now }
         ensures known { All (IsKnownUse self.now) result.now }
+        ensures whole { IsSound self.now }
     {
         piece(&self.uses, &self.ends, o as usize)
+    }
+
+    /// How many uses all options have.
+    pub fn uses(&self) -> usize
+        ensures value { result ≡ sum_by (λ us. length us) self.now.puzzle.options }
+        ensures whole { IsSound self.now }
+    {
+        self.uses.len()
     }
 }
 

@@ -3,15 +3,15 @@
 ghost use Rattle.std.specs.Prelude.{◌≡◌, ◌++◌, ◌∷◌, [], ℕ, List, false, length, OnOk, IfErr, IfOk, IfSome, MatchOption};
 ghost use Rattle.xc_input.specs.Words.{has};
 ghost use Rattle.xc_input.specs.Named.{Named, IsSound};
-ghost use Rattle.xc_input.specs.Readings.{IsFault, IsEndOf};
+ghost use Rattle.xc_input.specs.Readings.{IsFault};
+ghost use Rattle.xc_input.specs.inner.Feeding.{IsEndOf, fed, IsBetween, Spoils};
 ghost use Rattle.xc_input.specs.Lines.{IsTextOf, lines_of};
-ghost use Rattle.xc_input.specs.Feeding.{fed, IsBetween, Spoils};
 ghost use Rattle.xc_input.specs.Inputs.{IsFaultOf, Counts, IsCut};
 ghost use Rattle.xc_input.specs.Pieces.{IsWhole, IsPart};
 
-use crate::cut::cut_at;
 use crate::reader::{Read, Reader};
 use crate::source::Source;
+use crate::tokens::cut_at;
 use crate::{InputError, Kind};
 use std::alloc::{AllocError, Global};
 

@@ -2,13 +2,16 @@
 
 ghost use Rattle.std.specs.Prelude.{◌≡◌, IfOk, IfErr, ℕ, List, ◌++◌, [], ◌∷◌, None, Some, IfSome, false};
 ghost use Rattle.std.specs.Result.{result_err};
-ghost use Rattle.xc_input.specs.Readings.{IsStateOf, IsEndOf, IsFault, error_at};
+ghost use Rattle.xc_input.specs.Readings.{IsErrorFor, IsStateOf, IsFault};
+ghost use Rattle.xc_input.specs.Stages.{first_fault};
+ghost use Rattle.xc_input.specs.inner.Builders.{error_at};
 ghost use Rattle.xc_input.specs.Named.{Named, IsSound};
 ghost use Rattle.xc_input.specs.Words.{has};
 ghost use Rattle.xc_input.specs.Text.{StandsFor};
 
-use crate::draft::{Draft, LineError};
+use crate::builder::ProblemBuilder;
 use crate::given::Given;
+use crate::line_error::LineError;
 use crate::problem::Problem;
 use crate::{FaultKind, InputError, Kind};
 use std::alloc::Global;
@@ -28,14 +31,14 @@ pub struct Reader {
     alloc: Global,
     kind: Kind,
     count: u64,
-    draft: Draft,
+    builder: ProblemBuilder,
     error: Option<InputError>,
 }
 
 impl Model for Reader {
     ghost use Rattle.xc_input.specs.Readings.{Reading, IsStateOf};
     ghost use Rattle.xc_input.specs.Stages.{line_number, stage_of};
-    ghost use Rattle.xc_input.specs.Drafts.{IsDraft, stage_of_draft};
+    ghost use Rattle.xc_input.specs.inner.Builders.{IsBuilder, stage_of_builder};
     ghost use Rattle.xc_input.specs.Lines.{AreWhole};
     ghost use Rattle.std.specs.Prelude.{◌≡◌, length, MatchOption};
 
@@ -44,7 +47,7 @@ impl Model for Reader {
     ghost view = { λ r. record { kind = r.kind; lines = r.given.lines; error = r.error } };
 
     ghost invariant = { λ r. (r.count ≡ line_number (length r.given.lines)) × IsStateOf r.kind r.given.lines r.error
-        × MatchOption r.error (IsDraft r.draft × (stage_of_draft r.draft ≡ stage_of r.kind r.given.lines)) (λ _. Unit {0})
+        × MatchOption r.error (IsBuilder r.builder × (stage_of_builder r.builder ≡ stage_of r.kind r.given.lines)) (λ _. Unit {0})
         × AreWhole r.given.lines };
 }
 
@@ -59,7 +62,7 @@ impl Reader {
             alloc,
             kind,
             count: 0,
-            draft: Draft::new(alloc),
+            builder: ProblemBuilder::new(alloc),
             error: None,
         }
     }
@@ -78,7 +81,7 @@ impl Reader {
         if let Some(e) = self.error {
             return Err(e);
         }
-        if let Err(e) = self.draft.take(self.alloc, self.kind, self.count, line) {
+        if let Err(e) = self.builder.take(self.alloc, self.kind, self.count, line) {
             let error = at_line(self.count, e);
             self.error = Some(error);
             return Err(error);
@@ -91,7 +94,7 @@ impl Reader {
         ensures accepted { IfOk result (λ r. StandsFor self.kind self.lines r.problem r.ignored.items) }
         ensures only { IfOk result (λ r. (p : Named) (ignored : List ℕ) → StandsFor self.kind self.lines p ignored → (p ≡ r.problem) × (ignored ≡ r.ignored.items)) }
         ensures valid { IfOk result (λ r. IsSound r.problem) }
-        ensures first { IfErr result (λ e. IsEndOf self.kind self.lines e) }
+        ensures first { IfErr result (IsErrorFor (first_fault self.kind self.lines)) }
         ensures refused { IfErr result (λ e. IsFault e → (p : Named) (ignored : List ℕ) → StandsFor self.kind self.lines p ignored → ⊥) }
         ensures no_memory { result_err result ≡ Some InputError.Memory → self.error ≡ Some InputError.Memory }
         ensures same { IfSome self.error (λ e. result_err result ≡ Some e) }
@@ -101,21 +104,21 @@ impl Reader {
             alloc: _,
             kind: _,
             count,
-            draft,
+            builder,
             error,
         } = self;
         if let Some(e) = error {
             return Err(e);
         }
-        if !draft.started {
+        if !builder.started {
             return Err(InputError::Fault {
                 line: count.saturating_add(1),
                 kind: FaultKind::NoItems,
             });
         }
-        let Draft {
+        let ProblemBuilder {
             started: _,
-            names: _,
+            names,
             guesses: _,
             items,
             primary,
@@ -124,9 +127,9 @@ impl Reader {
             uses,
             ends,
             ignored,
-        } = draft;
+        } = builder;
         Ok(Read {
-            problem: Problem::new(items, primary, uses, ends, colours),
+            problem: Problem::new(names, items, primary, uses, ends, colours),
             ignored,
         })
     }

@@ -1,4 +1,6 @@
-use crate::{FaultKind, Feed, InputError, Kind, Problem, Read, Reader, Source, Use, read_problem};
+use crate::{
+    Bounds, FaultKind, Feed, InputError, Kind, Problem, Read, Reader, Source, Use, read_problem,
+};
 use std::alloc::Global;
 
 /// What a text gives, in pieces of so many bytes.
@@ -154,6 +156,11 @@ fn colours_by_first_kept_use(rt: HostRuntime) {
         assert!(rt; has_option(problem, 3, &[(2, 0), (3, 1), (1, 0)]));
         assert!(rt; problem.colours() == 2);
         assert!(rt; has_colour(problem, 1, b"red") && has_colour(problem, 2, b"12345678"));
+        assert!(rt; problem.find(b"x") == Some(3) && problem.find(b"red").is_none());
+        assert!(rt;
+            problem.find_colour(b"red") == Some(1) && problem.find_colour(b"lost").is_none()
+        );
+        assert!(rt; problem.uses() == 7);
     }
 }
 
@@ -182,6 +189,7 @@ fn bars_and_bounds(rt: HostRuntime) {
         let problem = &read.problem;
         assert!(rt; problem.items() == 5 && problem.primary() == 3 && problem.options() == 2);
         assert!(rt; has_item(problem, 1, b"A", 2, 2) && has_item(problem, 2, b"B", 0, 1));
+        assert!(rt; problem.item(2).bounds() == Bounds { low: 0, high: 1 });
         let long = b"12345678901234567890123456789012";
         assert!(rt; has_item(problem, 3, long, 999999999, 999999999));
         assert!(rt; has_item(problem, 4, b"x", 0, 1) && has_item(problem, 5, b"y", 0, 1));

@@ -1,5 +1,6 @@
 -- The output grows member by member.
-use Rattle.std.proofs.Common.{◌≡◌, ℕ, zero, suc, ◌+◌, ◌<◌, ◌≤◌, ◌-◌, Bool, true, false, cond, List, [], ◌∷◌, ◌++◌, Option, Some, length, take, drop, filter, refl, sym, ap, ◌∙◌, append-nil, arith, subst, nat_lt, lt-ltb, le-ltb}
+use Rattle.std.proofs.Common.{◌≡◌, ℕ, zero, suc, ◌+◌, ◌<◌, ◌≤◌, ◌-◌, Bool, true, false, cond, List, [], ◌∷◌, ◌++◌, Some, length, take, drop, filter, refl, sym, ap, ◌∙◌, append-nil, arith, subst, nat_lt, lt-ltb, le-ltb}
+use Rattle.std.proofs.Math.Seq.{take-append_seam}
 use Rattle.std.specs.Prelude.{flat_map, slice_get, if◌then◌else◌}
 use Rattle.std.specs.List.{enumerate_from}
 use Rattle.std.proofs.lemmas.Grind.{common_steps}
@@ -12,16 +13,16 @@ use Rattle.xc_search.specs.Cover.{members}
 use Rattle.xc_list.specs.Output.{text_of, output, is_printed, member_text}
 use Rattle.xc_list.specs.declared.runs.End.TheVariants.{Done, Limit}
 use Rattle.xc_list.specs.Runs.{printed_text, StoppedAt, end_of}
-use Rattle.std.specs.Io.KnownBytes.{Appends}
+use Rattle.std.specs.Io.KnownBytes.{Appends, Keeps}
 use Rattle.xc_list.specs.Texts.{Begins}
 use Rattle.std.specs.Prelude.{All}
 use Rattle.std.proofs.lemmas.List.Elements.{All-head, All-drop}
 use Rattle.xc_input.specs.Calls.{Rose}
-use Rattle.xc_list.specs.Texts.{TookBeginning}
-use Rattle.xc_list.proofs.TextLemmas.{appends_more}
+use Rattle.xc_list.specs.Texts.{SinkState, Took, BrokeOff}
+use Rattle.xc_list.proofs.TextLemmas.{appends_more, appends_kept}
 use Rattle.xc_input.specs.Problem.{Puzzle}
 use Rattle.xc_list.specs.Known.{IsKnownChoice}
-use Rattle.xc_list.proofs.KnownMembers.{members_known}
+use Rattle.xc_list.proofs.OutputLemmas.KnownMembers.{members_known}
 
 pub take_next : {X : Type 0} (ms : List X) (k : ℕ) (m : X) (rest : List X) → drop k ms ≡ m ∷ rest → take (k + 1) ms ≡ take k ms ++ m ∷ []
 take_next [] zero m rest e = absurd (cc e)
@@ -82,11 +83,11 @@ output_all a spacing k limit e h =
     let same : take limit (members a.puzzle) ≡ take k (members a.puzzle) = grind (arith, common_steps) in
     ap (text_of a spacing) same
 
-pub stopped : (a : Named) (spacing limit k : ℕ) (m : List Choice) (rest : List (List Choice)) (f g h : ℕ) (x y z : Option (List ℕ)) → drop k (members a.puzzle) ≡ m ∷ rest → k < limit
-    → g ≡ f → Appends x y (output a spacing k) → Rose g h × TookBeginning y z (printed_text a spacing (k + 1, m)) → StoppedAt a spacing limit (k + 1) (f, x) (h, z)
-stopped a spacing limit k m rest f g h x y z e below same so_far stop = by_case (is_printed spacing (k + 1)) refl stop.1
+pub stopped : (a : Named) (spacing limit k : ℕ) (m : List Choice) (rest : List (List Choice)) {x y z : SinkState} → drop k (members a.puzzle) ≡ m ∷ rest → k < limit
+    → Took x y (output a spacing k) → BrokeOff y z (printed_text a spacing (k + 1, m)) → StoppedAt a spacing limit (k + 1) x z
+stopped a spacing limit k m rest {x = x} {y = y} {z = z} e below so_far stop = by_case (is_printed spacing (k + 1)) refl stop
   where
-    by_case : (b : Bool) → is_printed spacing (k + 1) ≡ b → TookBeginning y z (if b then member_text a (k + 1, m) else []) → StoppedAt a spacing limit (k + 1) (f, x) (h, z)
+    by_case : (b : Bool) → is_printed spacing (k + 1) ≡ b → BrokeOff y z (if b then member_text a (k + 1, m) else []) → StoppedAt a spacing limit (k + 1) x z
     by_case true p t =
         let back : k ≡ (k + 1) - 1 = omega arith in
         record {
@@ -94,12 +95,14 @@ stopped a spacing limit k m rest f g h x y z e below same so_far stop = by_case 
           member = m;
           is_member = at_next (members a.puzzle) k m rest e;
           printed = p;
-          failed = subst (λ n. Rose n h) same stop.0;
-          part = t.0;
-          proper = t.1;
-          taken = subst (λ n. Appends x z (output a spacing n ++ take t.0 (member_text a (k + 1, m)))) back (appends_more x y z (output a spacing k) (take t.0 (member_text a (k + 1, m))) so_far t.2);
+          failure = subst (λ n. Rose n z.failures) so_far.no_failure t.failure;
+          last = t.last;
+          part = t.many;
+          proper = t.part;
+          taken = subst (λ n. Appends x.taken z.taken (output a spacing n ++ take t.many (member_text a (k + 1, m)))) back
+              (appends_more x.taken y.taken z.taken (output a spacing k) (take t.many (member_text a (k + 1, m))) so_far.whole t.begun);
         }
-    by_case false p t = absurd (omega (arith, t.1))
+    by_case false p t = absurd (omega (arith, t.part))
 
 pub known_next : (p : Puzzle) (k : ℕ) (m : List Choice) (rest : List (List Choice)) → drop k (members p) ≡ m ∷ rest → All (IsKnownChoice p) m
 known_next p k m rest e =
@@ -134,14 +137,11 @@ output_behind a spacing k limit h =
     let split : take limit (members a.puzzle) ≡ take k (members a.puzzle) ++ drop k (take limit (members a.puzzle)) = take_split (members a.puzzle) k limit h in
     (behind.0, ap (text_of a spacing) split ∙ behind.1)
 
-take-front : (xs ys : List ℕ) → take (length xs) (xs ++ ys) ≡ xs
-take-front xs ys = grind (arith, common_steps)
+pub begins_front : (x y : SinkState) (text front tail : List ℕ) → text ≡ front ++ tail → Appends x.taken y.taken front → Begins x y text
+begins_front x y text front tail e p = (length front, subst (Appends x.taken y.taken) (sym (ap (take (length front)) e ∙ take-append_seam front tail)) p)
 
-pub begins_front : (x y : Option (List ℕ)) (text front tail : List ℕ) → text ≡ front ++ tail → Appends x y front → Begins x y text
-begins_front x y text front tail e p = (length front, subst (Appends x y) (sym (ap (take (length front)) e ∙ take-front front tail)) p)
-
-pub begins_whole : (x y : Option (List ℕ)) (text : List ℕ) → Appends x y text → Begins x y text
-begins_whole x y text p = begins_front x y text text [] (sym (append-nil text)) p
+pub took_begins : {x y : SinkState} {text : List ℕ} (z : SinkState) → Took x y text → Keeps y.taken z.taken → Begins x z text
+took_begins {x = x} {y = y} {text = text} z p k = begins_front x z text text [] (sym (append-nil text)) (appends_kept x.taken y.taken z.taken text p.whole k)
 
 drop_at : {X : Type 0} (ms : List X) (k : ℕ) (m : X) → slice_get ms k ≡ Some m → drop k ms ≡ m ∷ drop (k + 1) ms
 drop_at [] k m e = absurd (cc e)
@@ -152,8 +152,8 @@ drop_before : {X : Type 0} (ms : List X) (t : ℕ) (m : X) → numbered_get ms t
 drop_before ms zero m e = absurd (cc e)
 drop_before ms (suc k) m e = let h : k ≡ suc k - 1 = omega arith in ap (λ n. drop n ms) (sym h) ∙ drop_at ms k m e ∙ ap (λ n. m ∷ drop (n + 1) ms) h
 
-pub stopped_begins : (a : Named) (spacing limit t f h : ℕ) (x z : Option (List ℕ)) → StoppedAt a spacing limit t (f, x) (h, z) → Begins x z (output a spacing limit)
-stopped_begins a spacing limit t f h x z s =
+pub stopped_begins : (a : Named) (spacing limit t : ℕ) (x z : SinkState) → StoppedAt a spacing limit t x z → Begins x z (output a spacing limit)
+stopped_begins a spacing limit t x z s =
     let text : List ℕ = member_text a (t, s.member) in
     let again : (t - 1) + 1 ≡ t = omega (arith, s.within.0) in
     let next : output a spacing ((t - 1) + 1) ≡ output a spacing (t - 1) ++ printed_text a spacing ((t - 1) + 1, s.member) =

@@ -1,10 +1,9 @@
 -- What follows when a sink takes one text after another.
-use Rattle.std.proofs.Common.{◌≡◌, ◌≢◌, ℕ, ◌<◌, ◌≤◌, ◌-◌, List, ◌++◌, Option, None, Some, Ok, length, take, drop, sym, ap, ◌∙◌, append_assoc, arith, subst}
+use Rattle.std.proofs.Common.{◌≡◌, ◌≢◌, ℕ, ◌≤◌, ◌-◌, List, ◌++◌, Option, None, Some, Ok, length, take, drop, ap, ◌∙◌, append_assoc, arith}
 use Rattle.std.proofs.lemmas.Bool.Decides.{nat_tests}
 use Rattle.xc_input.specs.Calls.{counted, is_failed_write}
 use Rattle.std.proofs.lemmas.Grind.{common_steps}
 use Rattle.std.specs.Io.KnownBytes.{Appends, Keeps}
-use Rattle.xc_list.specs.Texts.{TookBeginning}
 
 pub appends_more : (a b c : Option (List ℕ)) (xs ys : List ℕ) → Appends a b xs → Appends b c ys → Appends a c (xs ++ ys)
 appends_more None b c xs ys p q = tt
@@ -22,11 +21,6 @@ appends_kept (Some x) (Some y) (Some z) xs p q = q ∙ p
 pub front_more : (written rest : List ℕ) (n : ℕ) → n ≤ length rest
     → written ++ rest ≡ (written ++ take n rest) ++ take (length rest - n) (drop n rest)
 front_more written rest n h = grind (arith, common_steps)
-
--- a text of which some is left was not taken whole
-pub begun : (a b : Option (List ℕ)) (text written rest : List ℕ) → text ≡ written ++ rest → 0 < length rest → Appends a b written → TookBeginning a b text
-begun a b text written rest e h p =
-    (length written, grind (arith, common_steps), (let f : take (length written) text ≡ written = grind (arith, common_steps) in subst (Appends a b) (sym f) p))
 
 pub good_write-counts : (a b n : ℕ) (bytes : List ℕ) → n ≢ 0 → b ≡ counted (is_failed_write {E = ℕ} (Ok n) bytes) a → b ≡ a
 good_write-counts a b n bytes e p = grind (arith, nat_tests)

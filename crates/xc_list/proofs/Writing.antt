@@ -1,5 +1,5 @@
 -- What a sink has taken, text after text.
-use Rattle.std.proofs.Common.{◌≡◌, ℕ, ◌+◌, ◌/◌, ◌%◌, ◌^◌, ◌<◌, ◌≤◌, List, [], ◌∷◌, ◌++◌, Option, Result, Ok, Err, length, take, drop, get_or, sym, ap, ◌∙◌, append-nil, append_assoc, arith, subst, zero, suc, inl, inr}
+use Rattle.std.proofs.Common.{◌≡◌, ℕ, ◌+◌, ◌/◌, ◌%◌, ◌^◌, ◌<◌, ◌≤◌, List, [], ◌∷◌, ◌++◌, Result, Ok, Err, length, take, drop, get_or, sym, ap, ◌∙◌, append-nil, append_assoc, arith, subst, zero, suc, inl, inr}
 use Rattle.std.specs.Prelude.{flat_map, IsErr, codes, decimal, ◌==◌}
 use Rattle.std.proofs.lemmas.Fmt.{decimal_digit, decimal_step}
 use Rattle.xc_list.specs.Output.{colour_text, bytes_at, from_item}
@@ -8,27 +8,12 @@ use Rattle.std.proofs.lemmas.Bool.Decides.{nat_tests}
 use Rattle.xc_input.specs.declared.problem.Use.{Use}
 use Rattle.std.specs.List.{position_or_len}
 use Rattle.std.proofs.lemmas.List.Concat.{flat_map-append}
+use Rattle.std.proofs.Math.Seq.{take-append-add}
+use Rattle.std.proofs.lemmas.List.{take-append-le}
 use Rattle.std.specs.Io.KnownBytes.{Appends}
-use Rattle.xc_list.specs.Texts.{TookBeginning, Writes, WasTold}
+use Rattle.xc_list.specs.Texts.{SinkState, Took, BrokeOff, Writes, WasTold}
 use Rattle.xc_input.specs.Calls.{Rose}
 use Rattle.xc_list.proofs.TextLemmas.{appends_more}
-
-take-within : (xs ys : List ℕ) (n : ℕ) → n ≤ length xs → take n (xs ++ ys) ≡ take n xs
-take-within xs ys n h = grind (arith, common_steps)
-
-take-after : (xs ys : List ℕ) (n : ℕ) → take (length xs + n) (xs ++ ys) ≡ xs ++ take n ys
-take-after [] ys n = let e : 0 + n ≡ n = omega arith in ap (λ k. take k ys) e
-take-after (x ∷ xs) ys n = let e : length (x ∷ xs) + n ≡ suc (length xs + n) = omega arith in ap (λ k. take k (x ∷ xs ++ ys)) e ∙ ap (λ l. x ∷ l) (take-after xs ys n)
-
--- the first text was begun
-pub begun_first : (a b : Option (List ℕ)) (xs ys : List ℕ) → TookBeginning a b xs → TookBeginning a b (xs ++ ys)
-begun_first a b xs ys t =
-    (t.0, grind (arith, common_steps, t.1), subst (Appends a b) (sym (take-within xs ys t.0 (grind (arith, common_steps, t.1)))) t.2)
-
--- the first text was taken, and the second begun
-pub begun_second : (a b c : Option (List ℕ)) (xs ys : List ℕ) → Appends a b xs → TookBeginning b c ys → TookBeginning a c (xs ++ ys)
-begun_second a b c xs ys p t =
-    (length xs + t.0, grind (arith, common_steps, t.1), subst (Appends a c) (sym (take-after xs ys t.0)) (appends_more a b c xs (take t.0 ys) p t.2))
 
 flat_map-take-more : {X : Type 0} (f : X → List ℕ) (xs : List X) (i : ℕ) (d : X) → i < length xs → flat_map f (take (i + 1) xs) ≡ flat_map f (take i xs) ++ f (get_or xs i d)
 flat_map-take-more f xs i d h =
@@ -40,35 +25,48 @@ flat_map-parts f xs i d h =
     let all : xs ≡ take (i + 1) xs ++ drop (i + 1) xs = grind (arith, common_steps) in
     ap (flat_map f) all ∙ flat_map-append f (take (i + 1) xs) (drop (i + 1) xs) ∙ ap (λ l. l ++ flat_map f (drop (i + 1) xs)) (flat_map-take-more f xs i d h)
 
--- The same with the counts of failures.
-pub then_good : (a b c : ℕ) (x y z : Option (List ℕ)) (s t : List ℕ) → (b ≡ a) × Appends x y s → (c ≡ b) × Appends y z t → (c ≡ a) × Appends x z (s ++ t)
-then_good a b c x y z s t p q = (q.0 ∙ p.0, appends_more x y z s t p.1 q.1)
+pub then_took : {a b c : SinkState} {s t : List ℕ} → Took a b s → Took b c t → Took a c (s ++ t)
+then_took {a = a} {b = b} {c = c} {s = s} {t = t} p q = record {
+  no_failure = q.no_failure ∙ p.no_failure;
+  whole = appends_more a.taken b.taken c.taken s t p.whole q.whole;
+}
 
-pub then_bad : (a b c : ℕ) (x y z : Option (List ℕ)) (s t : List ℕ) → (b ≡ a) × Appends x y s → Rose b c × TookBeginning y z t → Rose a c × TookBeginning x z (s ++ t)
-then_bad a b c x y z s t p q = (subst (λ n. Rose n c) p.0 q.0, begun_second x y z s t p.1 q.1)
+-- it broke off behind a text that it took
+pub then_broke : {a b c : SinkState} {s t : List ℕ} → Took a b s → BrokeOff b c t → BrokeOff a c (s ++ t)
+then_broke {a = a} {b = b} {c = c} {s = s} {t = t} p q = record {
+  failure = subst (λ n. Rose n c.failures) p.no_failure q.failure;
+  last = q.last;
+  many = length s + q.many;
+  part = grind (arith, common_steps, q.part);
+  begun = subst (Appends a.taken c.taken) (sym (take-append-add s t q.many)) (appends_more a.taken b.taken c.taken s (take q.many t) p.whole q.begun);
+}
 
-pub bad_more : (a b : ℕ) (x y : Option (List ℕ)) (s t : List ℕ) → Rose a b × TookBeginning x y s → Rose a b × TookBeginning x y (s ++ t)
-bad_more a b x y s t p = (p.0, begun_first x y s t p.1)
+-- it broke off before a text
+pub broke_before : {a b : SinkState} {s : List ℕ} (t : List ℕ) → BrokeOff a b s → BrokeOff a b (s ++ t)
+broke_before {a = a} {b = b} {s = s} t p = record {
+  failure = p.failure;
+  last = p.last;
+  many = p.many;
+  part = grind (arith, common_steps, p.part);
+  begun = subst (Appends a.taken b.taken) (sym (take-append-le p.many s t (grind (arith, common_steps, p.part)))) p.begun;
+}
 
-pub then_writes : {E : Type 0} (a b c : ℕ) (x y z : Option (List ℕ)) (s t : List ℕ) (r : Result (Unit {0}) E) → (b ≡ a) × Appends x y s → Writes (b, y) (c, z) r t → Writes (a, x) (c, z) r (s ++ t)
-then_writes a b c x y z s t (Ok u) p q = then_good a b c x y z s t p q
-then_writes a b c x y z s t (Err e) p q = then_bad a b c x y z s t p q
+pub then_writes : {E : Type 0} {a b : SinkState} {s : List ℕ} (c : SinkState) (t : List ℕ) (r : Result (Unit {0}) E) → Took a b s → Writes b c r t → Writes a c r (s ++ t)
+then_writes c t (Ok u) p q = then_took p q
+then_writes c t (Err e) p q = then_broke p q
 
-pub failed : {E : Type 0} (a b : ℕ) (x y : Option (List ℕ)) (s : List ℕ) (r : Result (Unit {0}) E) → IsErr r → Rose a b × TookBeginning x y s → Writes (a, x) (b, y) r s
-failed a b x y s (Ok u) is p = absurd (cc is)
-failed a b x y s (Err e) is p = p
+pub failed : {E : Type 0} {a b : SinkState} {s : List ℕ} (r : Result (Unit {0}) E) → IsErr r → BrokeOff a b s → Writes a b r s
+failed (Ok u) is p = absurd (cc is)
+failed (Err e) is p = p
 
 pub colour_text-some : (cs : List (List ℕ)) (c : ℕ) → 0 < c → colour_text cs c ≡ codes ":" ++ bytes_at cs c
 colour_text-some cs zero h = absurd (omega (arith, h))
 colour_text-some cs (suc c) h = grind (arith, nat_tests)
 
-pub loop_begun : {X : Type 0} (f : X → List ℕ) (xs : List X) (i : ℕ) (d : X) (a b c : ℕ) (x y z : Option (List ℕ)) → i < length xs
-    → (b ≡ a) → Appends x y (flat_map f (take i xs)) → Rose b c × TookBeginning y z (f (get_or xs i d)) → Rose a c × TookBeginning x z (flat_map f xs)
-loop_begun f xs i d a b c x y z h e p q = (
-  subst (λ n. Rose n c) e q.0,
-  subst (TookBeginning x z) (sym (flat_map-parts f xs i d h))
-      (begun_first x z (flat_map f (take i xs) ++ f (get_or xs i d)) (flat_map f (drop (i + 1) xs)) (begun_second x y z (flat_map f (take i xs)) (f (get_or xs i d)) p q.1)),
-)
+pub loop_broke : {X : Type 0} {a b c : SinkState} (f : X → List ℕ) (xs : List X) (i : ℕ) (d : X) → i < length xs
+    → Took a b (flat_map f (take i xs)) → BrokeOff b c (f (get_or xs i d)) → BrokeOff a c (flat_map f xs)
+loop_broke {a = a} {c = c} f xs i d h p q =
+    subst (BrokeOff a c) (sym (flat_map-parts f xs i d h)) (broke_before (flat_map f (drop (i + 1) xs)) (then_broke p q))
 
 pub option_texts : (f : Use → List ℕ) (item : ℕ) (all us before after : List Use) (p : ℕ) → us ≡ all → p ≡ position_or_len (λ u. u.item == item) us
     → before ≡ take p us → after ≡ drop p us → flat_map f (from_item item all) ≡ flat_map f after ++ flat_map f before
@@ -78,13 +76,13 @@ option_texts f item all us before after p e at b a =
     let front : before ≡ take (position_or_len (λ u. u.item == item) all) all = cc (b, here, e) in
     rw back (rw front (flat_map-append f (drop (position_or_len (λ u. u.item == item) all) all) (take (position_or_len (λ u. u.item == item) all) all)))
 
-pub loop_more : {X : Type 0} (f : X → List ℕ) (xs : List X) (i : ℕ) (d : X) (x y z : Option (List ℕ)) → i < length xs
-    → Appends x y (flat_map f (take i xs)) → Appends y z (f (get_or xs i d)) → Appends x z (flat_map f (take (i + 1) xs))
-loop_more f xs i d x y z h p q = subst (Appends x z) (sym (flat_map-take-more f xs i d h)) (appends_more x y z (flat_map f (take i xs)) (f (get_or xs i d)) p q)
+pub loop_took : {X : Type 0} {a b c : SinkState} (f : X → List ℕ) (xs : List X) (i : ℕ) (d : X) → i < length xs
+    → Took a b (flat_map f (take i xs)) → Took b c (f (get_or xs i d)) → Took a c (flat_map f (take (i + 1) xs))
+loop_took {a = a} {c = c} f xs i d h p q = subst (Took a c) (sym (flat_map-take-more f xs i d h)) (then_took p q)
 
-pub was_told : {E : Type 0} (old new : ℕ × Option (List ℕ)) (r : Result (Unit {0}) E) (text : List ℕ) → Writes old new r text → WasTold old new text
-was_told old new (Ok u) text w = inl w
-was_told old new (Err e) text w = inr w
+pub was_told : {E : Type 0} {old new : SinkState} {text : List ℕ} (r : Result (Unit {0}) E) → Writes old new r text → WasTold old new text
+was_told (Ok u) w = inl w
+was_told (Err e) w = inr w
 
 -- five texts behind a first are one behind it
 pub five_apart : (first a b c d e : List ℕ) → first ++ a ++ b ++ c ++ d ++ e ≡ first ++ (a ++ b ++ c ++ d ++ e)

@@ -6,4 +6,4 @@ use Rattle.xc_dance.specs.Same.{IsSame}
 
 -- no move stands, and each field is what it was when the tables were built from the problem
 abbrev pub AreAsBuilt : Puzzle → Linked → Type 0
-AreAsBuilt p tables = IsSame tables.problem tables.trail p []
+AreAsBuilt p tables = IsSame tables.puzzle tables.trail p []

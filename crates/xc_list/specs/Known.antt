@@ -6,4 +6,5 @@ use Rattle.xc_input.specs.Problem.{Puzzle, IsPrimary, option_count, uses_of, col
 -- the choice's item is primary, and its option, if any, is one of the problem and holds the item
 abbrev pub IsKnownChoice : Puzzle → Choice → Type 0
 IsKnownChoice p c = IsPrimary p c.item
-    × MatchOption c.option (Unit {0}) (λ o. (1 ≤ o) × (o ≤ option_count p) × (is_some (colour_in (uses_of p o) c.item) ≡ true))
+    × MatchOption c.option (Unit {0})
+    (λ o. (1 ≤ o) × (o ≤ option_count p) × (is_some (colour_in (uses_of p o) c.item) ≡ true))

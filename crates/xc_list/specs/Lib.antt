@@ -1,16 +1,11 @@
-pub mod Books
 pub mod Built
-pub mod Judging
-pub mod Kinds
 pub mod Known
-pub mod Laid
 pub mod Listed
 pub mod ListingLines
 pub mod Messages
 pub mod Output
 pub mod Runs
-pub mod Seen
 pub mod Settings
-pub mod Tallies
 pub mod Texts
 pub mod Worked
+pub mod inner

@@ -1,13 +1,15 @@
 -- The lines of a listing: headers, and choice lines with their bodies.
-use Rattle.std.specs.Prelude.{ℕ, ◌-◌, ◌^◌, Bool, false, not, ◌&&◌, ◌==◌, nat_le, nat_lt, List, [], ◌∷◌, length, take, drop, Option, Some, None, if◌then◌else◌}
+use Rattle.std.specs.Prelude.{ℕ, ◌-◌, Bool, false, not, ◌&&◌, ◌==◌, nat_le, List, [], ◌∷◌, codes, length, take, drop, Option, Some, None, if◌then◌else◌}
 use Rattle.std.specs.List.{list_all, list_any}
+use Rattle.std.specs.Str.{byte, bytes_eq}
 use Rattle.xc_input.specs.Tokens.{at_front, is_space}
-use Rattle.xc_list.specs.Settings.{is_digit, value_from}
+use Rattle.xc_input.specs.Words.{is_digit}
+use Rattle.xc_list.specs.Settings.{number_in}
 
 -- the words of a text that single spaces part
 abbrev pub words_in : List ℕ → List (List ℕ)
 words_in [] = [] ∷ []
-words_in (b ∷ text) = if b == 32 then [] ∷ words_in text else at_front b (words_in text)
+words_in (b ∷ text) = if b == byte " " then [] ∷ words_in text else at_front b (words_in text)
 
 -- one digit or more, at most this many
 abbrev pub are_digits : ℕ → List ℕ → Bool
@@ -21,11 +23,11 @@ before_last b (x ∷ y ∷ text) = elim (before_last b (y ∷ text)) [ None ↦ 
 
 -- the number of one to twenty digits, where it fits
 abbrev pub solution_number : List ℕ → Option ℕ
-solution_number text = if are_digits 20 text && nat_lt (value_from 0 text) (2 ^ 64) then Some (value_from 0 text) else None
+solution_number text = if nat_le (length text) 20 then number_in text else None
 
 -- a header's number: digits and a colon, and nothing else
 abbrev pub header_number : List ℕ → Option ℕ
-header_number line = elim (before_last 58 line) [ None ↦ None | Some text ↦ solution_number text ]
+header_number line = elim (before_last (byte ":") line) [ None ↦ None | Some text ↦ solution_number text ]
 
 -- one byte or more, and no white space
 abbrev pub is_word : List ℕ → Bool
@@ -34,15 +36,15 @@ is_word word = not (length word == 0) && not (list_any is_space word)
 -- `(` and one to ten digits
 abbrev pub is_opening : List ℕ → Bool
 is_opening [] = false
-is_opening (b ∷ text) = b == 40 && are_digits 10 text
+is_opening (b ∷ text) = b == byte "(" && are_digits 10 text
 
+-- `of`
 abbrev pub is_of : List ℕ → Bool
-is_of (a ∷ b ∷ []) = a == 111 && b == 102
-is_of _ = false
+is_of word = bytes_eq word (codes "of")
 
 -- one to ten digits and `)`
 abbrev pub is_closing : List ℕ → Bool
-is_closing text = elim (before_last 41 text) [ None ↦ false | Some digits ↦ are_digits 10 digits ]
+is_closing text = elim (before_last (byte ")") text) [ None ↦ false | Some digits ↦ are_digits 10 digits ]
 
 -- `(k`, `of`, `n)`
 abbrev pub is_ending : List (List ℕ) → Bool
@@ -58,7 +60,7 @@ body_of_words words =
 -- A choice line is a space and at least four words that single spaces part; its body.
 abbrev pub body_of : List ℕ → Option (List (List ℕ))
 body_of [] = None
-body_of (b ∷ line) = if b == 32 then body_of_words (words_in line) else None
+body_of (b ∷ line) = if b == byte " " then body_of_words (words_in line) else None
 
 -- what a line is: a header with its number, a choice line with its body, or neither
 pub data Line : Type 0 where

@@ -5,26 +5,33 @@ use Rattle.xc_list.specs.declared.words.WordFault.{WordFault}
 use Rattle.xc_list.specs.declared.words.WordFault.TheVariants.{Unknown, BadNumber, ZeroLimit}
 use Rattle.xc_list.specs.declared.runs.End.TheVariants.{Done, Limit, WriteFailed}
 
+-- the noun behind a number of solutions
 abbrev pub plural : ℕ → List ℕ
 plural n = if n == 1 then codes " solution" else codes " solutions"
 
+-- how many solutions there are, and a tail
 abbrev pub total_text : ℕ → List ℕ → List ℕ
 total_text n tail = codes "Altogether " ++ decimal n ++ plural n ++ tail
 
+-- the solution whose write failed
 abbrev pub failed_text : ℕ → List ℕ
 failed_text n = codes "Write failed at solution " ++ decimal n ++ codes ".\n"
 
+-- the last line of a run
 abbrev pub summary_text : End → List ℕ
 summary_text (Done n) = total_text n (codes ".\n")
 summary_text (Limit n) = total_text n (codes " (limit).\n")
 summary_text (WriteFailed n) = failed_text n
 
+-- the line for an ignored option, which stood on line n
 abbrev pub warning_text : ℕ → List ℕ
 warning_text n = codes "Option ignored (no primary items): line " ++ decimal n ++ codes "\n"
 
+-- the place of a word, and a tail
 abbrev pub word_text : ℕ → List ℕ → List ℕ
 word_text n tail = codes "Word " ++ decimal n ++ tail
 
+-- what is wrong with a word
 abbrev pub word_fault_text : WordFault → List ℕ
 word_fault_text (Unknown n) = word_text n (codes ": unknown.\n")
 word_fault_text (BadNumber n) = word_text n (codes ": bad number.\n")

@@ -11,9 +11,13 @@ use Rattle.xc_search.specs.Cover.{members}
 abbrev pub bytes_at : List (List ℕ) → ℕ → List ℕ
 bytes_at texts i = unwrap_or (numbered_get texts i) []
 
--- the uses of an option, cyclically from item i's
+-- a list cyclically from place k on
+abbrev pub rotated_at : {X : Type 0} → ℕ → List X → List X
+rotated_at k xs = drop k xs ++ take k xs
+
+-- uses cyclically from item i's on
 abbrev pub from_item : ℕ → List Use → List Use
-from_item i us = drop (position_or_len (λ u. u.item == i) us) us ++ take (position_or_len (λ u. u.item == i) us) us
+from_item i us = rotated_at (position_or_len (λ u. u.item == i) us) us
 
 -- a colour behind a colon; nothing for colour 0
 abbrev pub colour_text : List (List ℕ) → ℕ → List ℕ
@@ -23,10 +27,12 @@ colour_text colours c = if c == 0 then [] else codes ":" ++ bytes_at colours c
 abbrev pub use_text : Named → Use → List ℕ
 use_text a u = codes " " ++ bytes_at a.names u.item ++ colour_text a.colours u.colour
 
+-- the body of a choice line: the uses of its option from the item's on, or that no option is taken
 abbrev pub body_text : Named → ℕ → Option ℕ → List ℕ
 body_text a i (Some o) = flat_map (use_text a) (from_item i (uses_of a.puzzle o))
 body_text a i None = codes " null " ++ bytes_at a.names i
 
+-- the line of a choice: its body, its branch and the number of branches
 abbrev pub choice_text : Named → Choice → List ℕ
 choice_text a c =
     body_text a c.item c.option ++ codes " (" ++ decimal c.k ++ codes " of " ++ decimal c.n ++ codes ")\n"

@@ -1,8 +1,8 @@
 -- What a run writes, and its end.
-use Rattle.std.specs.Prelude.{ℕ, ◌-◌, ◌<◌, ◌≤◌, ◌≡◌, true, List, [], ◌++◌, length, take, drop, Option, Some, Result, MatchResult, if◌then◌else◌, nat_lt}
+use Rattle.std.specs.Prelude.{ℕ, ◌-◌, ◌<◌, ◌≤◌, ◌≡◌, true, List, [], ◌++◌, length, take, drop, Some, IsTrue, Result, MatchResult, if◌then◌else◌, nat_lt}
 use Rattle.std.specs.Io.KnownBytes.{Appends}
 use Rattle.xc_input.specs.Calls.{Rose}
-use Rattle.xc_list.specs.Texts.{Took, IsUntouched}
+use Rattle.xc_list.specs.Texts.{SinkState, Took, IsUntouched}
 use Rattle.xc_dance.specs.declared.dance.Memory.{Memory}
 use Rattle.xc_search.specs.declared.choice.Choice.{Choice}
 use Rattle.xc_input.specs.Problem.{numbered_get}
@@ -17,28 +17,26 @@ use Rattle.xc_list.specs.declared.runs.End.TheVariants.{Done, Limit, WriteFailed
 abbrev pub printed_text : Named → ℕ → ℕ × List Choice → List ℕ
 printed_text a spacing nm = if is_printed spacing nm.0 then member_text a nm else []
 
--- The sink failed at a member that is printed: it took the texts of those printed before whole, and a proper beginning of this one's.
-pub record StoppedAt (a : Named) (spacing limit t : ℕ) (old new : ℕ × Option (List ℕ)) : Type 0 where
+-- The sink failed, at its last call, at a member that is printed: it took the texts of those printed before whole, and
+-- a proper beginning of this one's.
+pub record StoppedAt (a : Named) (spacing limit t : ℕ) (old new : SinkState) : Type 0 where
   pub within : (1 ≤ t) × (t ≤ limit)
   pub member : List Choice
   pub is_member : numbered_get (members a.puzzle) t ≡ Some member
   pub printed : is_printed spacing t ≡ true
-  pub failed : Rose old.0 new.0
+  pub failure : Rose old.failures new.failures
+  pub last : IsTrue new.failed
   pub part : ℕ
   pub proper : part < length (member_text a (t, member))
-  pub taken : Appends old.1 new.1 (output a spacing (t - 1) ++ take part (member_text a (t, member)))
+  pub taken : Appends old.taken new.taken (output a spacing (t - 1) ++ take part (member_text a (t, member)))
 
 -- What was written up to this end, from one state of the sink to another
-abbrev pub IsRun : Named → ℕ → ℕ → ℕ × Option (List ℕ) → ℕ × Option (List ℕ) → End → Type 0
-IsRun a spacing limit old new (Done n) = (n ≡ length (members a.puzzle)) × (n < limit) × Took old new (output a spacing limit)
-IsRun a spacing limit old new (Limit n) = (n ≡ limit) × (limit ≤ length (members a.puzzle)) × Took old new (output a spacing limit)
+abbrev pub IsRun : Named → ℕ → ℕ → SinkState → SinkState → End → Type 0
+IsRun a spacing limit old new (Done n) =
+    (n ≡ length (members a.puzzle)) × (n < limit) × Took old new (output a spacing limit)
+IsRun a spacing limit old new (Limit n) =
+    (n ≡ limit) × (limit ≤ length (members a.puzzle)) × Took old new (output a spacing limit)
 IsRun a spacing limit old new (WriteFailed t) = StoppedAt a spacing limit t old new
-
--- This holds if the run ended at a failed write.
-abbrev pub OnWriteFailed : End → Type 0 → Type 0
-OnWriteFailed (Done n) P = Unit
-OnWriteFailed (Limit n) P = Unit
-OnWriteFailed (WriteFailed t) P = P
 
 -- A search stands at the member with this number: that is the one it shows, and those behind it are to come.
 abbrev pub StandsAt : List (List Choice) → ℕ → Outlook → Type 0
@@ -50,8 +48,9 @@ WentTo ms s (Done n) = (s.shown ≡ []) × (s.to_come ≡ [])
 WentTo ms s (Limit n) = StandsAt ms n s
 WentTo ms s (WriteFailed t) = StandsAt ms t s
 
--- What a run answers: its end, with what was written up to it; or, where there was no memory for the search, nothing was written.
-abbrev pub AnswersRun : Named → ℕ → ℕ → ℕ × Option (List ℕ) → ℕ × Option (List ℕ) → Result End Memory → Type 0
+-- What a run answers: its end, with what was written up to it; or, where there was no memory for the search, nothing
+-- was written.
+abbrev pub AnswersRun : Named → ℕ → ℕ → SinkState → SinkState → Result End Memory → Type 0
 AnswersRun a spacing limit old new r = MatchResult r (IsRun a spacing limit old new) (λ _. IsUntouched old new)
 
 -- How a run ends where no write fails: by the limit where there are as many members, else after the last one

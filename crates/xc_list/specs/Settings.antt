@@ -1,30 +1,23 @@
 -- What the words of a command line ask for.
-use Rattle.std.specs.Prelude.{ℕ, ◌+◌, ◌-◌, ◌*◌, ◌^◌, List, [], ◌∷◌, Bool, ◌&&◌, ◌==◌, nat_le, nat_lt, Option, Some, None, Result, Ok, Err, if◌then◌else◌}
+use Rattle.std.specs.Prelude.{ℕ, ◌+◌, ◌-◌, ◌^◌, List, [], ◌∷◌, ◌&&◌, ◌==◌, nat_lt, Option, Some, None, Result, Ok, Err, if◌then◌else◌}
 use Rattle.std.specs.List.{list_all}
+use Rattle.std.specs.Str.{byte}
+use Rattle.xc_input.specs.Words.{is_digit, number}
 use Rattle.xc_list.specs.declared.words.Words.{Words}
 use Rattle.xc_list.specs.declared.words.WordFault.{WordFault}
 use Rattle.xc_list.specs.declared.words.WordFault.TheVariants.{Unknown, BadNumber, ZeroLimit}
 
-abbrev pub is_digit : ℕ → Bool
-is_digit b = nat_le 48 b && nat_le b 57
-
--- the value of digits behind those of a value
-abbrev pub value_from : ℕ → List ℕ → ℕ
-value_from v [] = v
-value_from v (b ∷ bs) = value_from (v * 10 + (b - 48)) bs
-
--- one or more digits, of a value that fits
-abbrev pub digits_in : ℕ → List ℕ → Option ℕ
-digits_in v bs = if list_all is_digit bs && nat_lt (value_from v bs) (2 ^ 64) then Some (value_from v bs) else None
-
+-- the number that one or more digits stand for, where it fits
 abbrev pub number_in : List ℕ → Option ℕ
 number_in [] = None
-number_in (b ∷ bs) = digits_in 0 (b ∷ bs)
+number_in bs = if list_all is_digit bs && nat_lt (number bs) (2 ^ 64) then Some (number bs) else None
 
+-- what a word for the spacing makes of the words before it
 abbrev pub spacing_word : ℕ → Words → Option ℕ → Result Words WordFault
 spacing_word place w None = Err (BadNumber place)
 spacing_word place w (Some n) = Ok (record { spacing = n; limit = w.limit })
 
+-- what a word for the limit makes of the words before it
 abbrev pub limit_word : ℕ → Words → Option ℕ → Result Words WordFault
 limit_word place w None = Err (BadNumber place)
 limit_word place w (Some n) = if n == 0 then Err (ZeroLimit place) else Ok (record { spacing = w.spacing; limit = n })
@@ -33,8 +26,8 @@ limit_word place w (Some n) = if n == 0 then Err (ZeroLimit place) else Ok (reco
 abbrev pub read_word : ℕ → Words → List ℕ → Result Words WordFault
 read_word place w [] = Err (Unknown place)
 read_word place w (b ∷ bs) =
-    if b == 109 then spacing_word place w (number_in bs)
-    else if b == 116 then limit_word place w (number_in bs)
+    if b == byte "m" then spacing_word place w (number_in bs)
+    else if b == byte "t" then limit_word place w (number_in bs)
     else Err (Unknown place)
 
 -- what words make of those before them; the first faulty one ends it

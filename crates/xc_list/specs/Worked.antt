@@ -4,10 +4,18 @@ use Rattle.xc_input.specs.Named.{Named}
 use Rattle.xc_search.specs.Worked.{seven_items, two_colours, equal_options}
 
 abbrev pub seven : Named
-seven = record { names = codes "a" ∷ codes "b" ∷ codes "c" ∷ codes "d" ∷ codes "e" ∷ codes "f" ∷ codes "g" ∷ []; colours = []; puzzle = seven_items }
+seven = record {
+  names = codes "a" ∷ codes "b" ∷ codes "c" ∷ codes "d" ∷ codes "e" ∷ codes "f" ∷ codes "g" ∷ [];
+  colours = [];
+  puzzle = seven_items;
+}
 
 abbrev pub colours : Named
-colours = record { names = codes "p" ∷ codes "q" ∷ codes "r" ∷ codes "x" ∷ codes "y" ∷ []; colours = codes "A" ∷ codes "B" ∷ []; puzzle = two_colours }
+colours = record {
+  names = codes "p" ∷ codes "q" ∷ codes "r" ∷ codes "x" ∷ codes "y" ∷ [];
+  colours = codes "A" ∷ codes "B" ∷ [];
+  puzzle = two_colours;
+}
 
 abbrev pub alike : Named
 alike = record { names = codes "A" ∷ []; colours = []; puzzle = equal_options }

@@ -5,11 +5,11 @@ ghost use Rattle.xc_input.specs.Problem.{option_count, uses_of};
 ghost use Rattle.xc_input.specs.Named.{IsKnownUse};
 ghost use Rattle.xc_list.specs.Texts.{Writes};
 ghost use Rattle.xc_list.specs.Output.{use_text, from_item};
-ghost use Rattle.xc_list.specs.Laid.{AreLaid, uses_text};
+ghost use Rattle.xc_list.specs.inner.Layout.{AreLaid, uses_text};
 
 use crate::sink::{Sink, Tray};
-use crate::text::{SinkFault, write_all};
 use crate::uses::{colour_of, name_of, uses_at, write_option, write_uses};
+use crate::write::{SinkFault, write_all};
 use std::alloc::Global;
 use std::marker::Model;
 use xc_dance::Memory;
@@ -28,7 +28,6 @@ fn use_length(problem: &Problem, u: &Use) -> usize
     requires { IsKnownUse problem.now u.now }
     ensures { result ≡ length (use_text problem.now u.now) }
 {
-    let _items = problem.items();
     let name = 1 + name_of(problem, u.item).len();
     if u.colour == 0 {
         return name;
@@ -140,7 +139,7 @@ pub struct Bodies<'a> {
 impl<'a> Model for Bodies<'a> {
     ghost use Rattle.std.specs.Prelude.{IfSome};
     ghost use Rattle.xc_input.specs.Named.{Named};
-    ghost use Rattle.xc_list.specs.Laid.{AreLaid};
+    ghost use Rattle.xc_list.specs.inner.Layout.{AreLaid};
 
     ghost Value = { Named };
 
@@ -181,10 +180,8 @@ impl<'a> Bodies<'a> {
     #[inline(always)]
     pub fn write_option<S: Sink>(&self, item: u32, o: u32, sink: &mut S) -> Result<(), SinkFault>
         requires { (1 ≤ o) × (o ≤ option_count self.now.puzzle) }
-        ensures text { Writes (S.failures sink.old, S.taken sink.old)
-            (S.failures sink.new, S.taken sink.new)
+        ensures { Writes (S.state sink.old) (S.state sink.new)
             result (flat_map (use_text self.now) (from_item item (uses_of self.now.puzzle o))) }
-        ensures stops { OnErr result (IsTrue (S.failed sink.new)) }
     {
         let Some(layout) = &self.layout else {
             return write_option(self.problem, item, o, sink);

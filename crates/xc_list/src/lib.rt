@@ -1,30 +1,34 @@
-//! Listings of exact cover problems: words, texts and runs.
+//! Listings of exact cover problems: words, texts, runs, and the checker of listings.
+//!
+//! ```text
+//! let words = Words { spacing: 1, limit: 10 };
+//! let end = run(alloc, &problem, words, &mut listing)?;
+//! summary(&end, &mut messages)?;
+//!
+//! for verdict in check(alloc, &problem, text)? {
+//!     let right = verdict.cover;
+//! }
+//! ```
 #![tactic(auto)]
 
 mod bodies;
-mod book;
-mod judge;
-mod kinds;
+mod checker;
 pub mod laws;
-mod listing_lines;
 mod messages;
 mod print;
 mod runs;
-mod seen;
 mod sink;
-mod solution;
-mod tally;
-mod text;
 mod uses;
 mod words;
+mod write;
 
-pub use judge::{ListingFault, Verdict, check};
+pub use checker::{ListingFault, Verdict, check};
 pub use messages::{summary, warnings, word_fault};
 pub use print::write_solution;
 pub use runs::{End, run, run_over, run_over_links};
 pub use sink::{Sink, Tray, WriteFailed};
-pub use text::{SinkFault, write_all, write_number, write_numbered};
 pub use words::{WordFault, Words};
+pub use write::{SinkFault, write_all, write_number, write_numbered};
 
 #[cfg(test)]
 mod tests;

@@ -5,14 +5,12 @@ ghost use Rattle.xc_list.specs.Messages.{plural, total_text, failed_text, summar
 
 use crate::runs::End;
 use crate::sink::Sink;
-use crate::text::{SinkFault, write_all, write_number, write_numbered};
 use crate::words::WordFault;
+use crate::write::{SinkFault, write_all, write_number, write_numbered};
 use xc_input::Read;
 
 fn write_plural<S: Sink>(n: u64, sink: &mut S) -> Result<(), SinkFault>
-    ensures text { Writes (S.failures sink.old, S.taken sink.old)
-        (S.failures sink.new, S.taken sink.new) result (plural n) }
-    ensures stops { OnErr result (IsTrue (S.failed sink.new)) }
+    ensures { Writes (S.state sink.old) (S.state sink.new) result (plural n) }
 {
     if n == 1 {
         write_all(sink, b" solution")
@@ -22,9 +20,7 @@ fn write_plural<S: Sink>(n: u64, sink: &mut S) -> Result<(), SinkFault>
 }
 
 fn write_total<S: Sink>(n: u64, tail: &[u8], sink: &mut S) -> Result<(), SinkFault>
-    ensures text { Writes (S.failures sink.old, S.taken sink.old)
-        (S.failures sink.new, S.taken sink.new) result (total_text n tail.now) }
-    ensures stops { OnErr result (IsTrue (S.failed sink.new)) }
+    ensures { Writes (S.state sink.old) (S.state sink.new) result (total_text n tail.now) }
 {
     write_all(sink, b"Altogether ")?;
     write_number(sink, n)?;
@@ -33,18 +29,14 @@ fn write_total<S: Sink>(n: u64, tail: &[u8], sink: &mut S) -> Result<(), SinkFau
 }
 
 fn write_failed<S: Sink>(n: u64, sink: &mut S) -> Result<(), SinkFault>
-    ensures text { Writes (S.failures sink.old, S.taken sink.old)
-        (S.failures sink.new, S.taken sink.new) result (failed_text n) }
-    ensures stops { OnErr result (IsTrue (S.failed sink.new)) }
+    ensures { Writes (S.state sink.old) (S.state sink.new) result (failed_text n) }
 {
     write_numbered(sink, b"Write failed at solution ", n, b".\n")
 }
 
 /// Writes how a run ended.
 pub fn summary<S: Sink>(end: &End, sink: &mut S) -> Result<(), SinkFault>
-    ensures text { Writes (S.failures sink.old, S.taken sink.old)
-        (S.failures sink.new, S.taken sink.new) result (summary_text end.now) }
-    ensures stops { OnErr result (IsTrue (S.failed sink.new)) }
+    ensures { Writes (S.state sink.old) (S.state sink.new) result (summary_text end.now) }
 {
     match *end {
         End::Done(n) => write_total(n, b".\n", sink),
@@ -54,9 +46,7 @@ pub fn summary<S: Sink>(end: &End, sink: &mut S) -> Result<(), SinkFault>
 }
 
 fn write_warning<S: Sink>(line: u64, sink: &mut S) -> Result<(), SinkFault>
-    ensures text { Writes (S.failures sink.old, S.taken sink.old)
-        (S.failures sink.new, S.taken sink.new) result (warning_text line) }
-    ensures stops { OnErr result (IsTrue (S.failed sink.new)) }
+    ensures { Writes (S.state sink.old) (S.state sink.new) result (warning_text line) }
 {
     write_numbered(
         sink,
@@ -67,9 +57,7 @@ fn write_warning<S: Sink>(line: u64, sink: &mut S) -> Result<(), SinkFault>
 }
 
 fn write_warnings<S: Sink>(lines: &[u64], sink: &mut S) -> Result<(), SinkFault>
-    ensures text { Writes (S.failures sink.old, S.taken sink.old) (S.failures sink.new, S.taken sink.new)
-        result (flat_map warning_text lines.now) }
-    ensures stops { OnErr result (IsTrue (S.failed sink.new)) }
+    ensures { Writes (S.state sink.old) (S.state sink.new) result (flat_map warning_text lines.now) }
 {
     for line in lines {
         write_warning(*line, sink)?;
@@ -79,26 +67,21 @@ fn write_warnings<S: Sink>(lines: &[u64], sink: &mut S) -> Result<(), SinkFault>
 
 /// Writes a line for each option that was ignored, in order.
 pub fn warnings<S: Sink>(read: &Read, sink: &mut S) -> Result<(), SinkFault>
-    ensures text { Writes (S.failures sink.old, S.taken sink.old) (S.failures sink.new, S.taken sink.new)
+    ensures { Writes (S.state sink.old) (S.state sink.new)
         result (flat_map warning_text read.now.ignored.items) }
-    ensures stops { OnErr result (IsTrue (S.failed sink.new)) }
 {
     write_warnings(&read.ignored, sink)
 }
 
 fn write_word<S: Sink>(place: usize, tail: &[u8], sink: &mut S) -> Result<(), SinkFault>
-    ensures text { Writes (S.failures sink.old, S.taken sink.old)
-        (S.failures sink.new, S.taken sink.new) result (word_text place tail.now) }
-    ensures stops { OnErr result (IsTrue (S.failed sink.new)) }
+    ensures { Writes (S.state sink.old) (S.state sink.new) result (word_text place tail.now) }
 {
     write_numbered(sink, b"Word ", place as u64, tail)
 }
 
 /// Writes which word is faulty.
 pub fn word_fault<S: Sink>(fault: &WordFault, sink: &mut S) -> Result<(), SinkFault>
-    ensures text { Writes (S.failures sink.old, S.taken sink.old)
-        (S.failures sink.new, S.taken sink.new) result (word_fault_text fault.now) }
-    ensures stops { OnErr result (IsTrue (S.failed sink.new)) }
+    ensures { Writes (S.state sink.old) (S.state sink.new) result (word_fault_text fault.now) }
 {
     match *fault {
         WordFault::Unknown(n) => write_word(n, b": unknown.\n", sink),

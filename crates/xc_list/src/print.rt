@@ -7,18 +7,16 @@ ghost use Rattle.xc_list.specs.Known.{IsKnownChoice};
 
 use crate::bodies::Bodies;
 use crate::sink::Sink;
-use crate::text::{SinkFault, write_all, write_number, write_numbered};
 use crate::uses::write_name;
+use crate::write::{SinkFault, write_all, write_number, write_numbered};
 use xc_input::Problem;
 use xc_search::Choice;
 
 /// Writes that no option is taken.
 fn write_none<S: Sink>(problem: &Problem, item: u32, sink: &mut S) -> Result<(), SinkFault>
     requires { IsItem problem.now.puzzle item }
-    ensures text { Writes (S.failures sink.old, S.taken sink.old)
-        (S.failures sink.new, S.taken sink.new)
+    ensures { Writes (S.state sink.old) (S.state sink.new)
         result (codes " null " ++ bytes_at problem.now.names item) }
-    ensures stops { OnErr result (IsTrue (S.failed sink.new)) }
 {
     write_all(sink, b" null ")?;
     write_name(problem, item, sink)
@@ -26,10 +24,8 @@ fn write_none<S: Sink>(problem: &Problem, item: u32, sink: &mut S) -> Result<(),
 
 fn write_body<S: Sink>(bodies: &Bodies, choice: &Choice, sink: &mut S) -> Result<(), SinkFault>
     requires { IsKnownChoice bodies.now.puzzle choice.now }
-    ensures text { Writes (S.failures sink.old, S.taken sink.old)
-        (S.failures sink.new, S.taken sink.new)
+    ensures { Writes (S.state sink.old) (S.state sink.new)
         result (body_text bodies.now choice.now.item choice.now.option) }
-    ensures stops { OnErr result (IsTrue (S.failed sink.new)) }
 {
     match choice.option {
         Some(o) => bodies.write_option(choice.item, o, sink),
@@ -96,10 +92,8 @@ fn two_digits_of_two_digits(k: u8, n: u8) -> [u8; 12]
 
 /// Writes branch and number of branches piece by piece, to the end of the line.
 fn write_branch_in_pieces<S: Sink>(k: u32, n: u32, sink: &mut S) -> Result<(), SinkFault>
-    ensures text { Writes (S.failures sink.old, S.taken sink.old)
-        (S.failures sink.new, S.taken sink.new)
+    ensures { Writes (S.state sink.old) (S.state sink.new)
         result (codes " (" ++ decimal k ++ codes " of " ++ decimal n ++ codes ")\n") }
-    ensures stops { OnErr result (IsTrue (S.failed sink.new)) }
 {
     write_numbered(sink, b" (", k as u64, b" of ")?;
     write_number(sink, n as u64)?;
@@ -109,10 +103,8 @@ fn write_branch_in_pieces<S: Sink>(k: u32, n: u32, sink: &mut S) -> Result<(), S
 /// Writes branch and number of branches where one has some digits, to the end of the line.
 #[inline(never)]
 fn write_long_branch<S: Sink>(k: u32, n: u32, sink: &mut S) -> Result<(), SinkFault>
-    ensures text { Writes (S.failures sink.old, S.taken sink.old)
-        (S.failures sink.new, S.taken sink.new)
+    ensures { Writes (S.state sink.old) (S.state sink.new)
         result (codes " (" ++ decimal k ++ codes " of " ++ decimal n ++ codes ")\n") }
-    ensures stops { OnErr result (IsTrue (S.failed sink.new)) }
 {
     if 10 <= n && n < 100 {
         if k < 10 {
@@ -128,10 +120,8 @@ fn write_long_branch<S: Sink>(k: u32, n: u32, sink: &mut S) -> Result<(), SinkFa
 /// Writes branch and number of branches, to the end of the line.
 #[inline(always)]
 fn write_branch<S: Sink>(k: u32, n: u32, sink: &mut S) -> Result<(), SinkFault>
-    ensures text { Writes (S.failures sink.old, S.taken sink.old)
-        (S.failures sink.new, S.taken sink.new)
+    ensures { Writes (S.state sink.old) (S.state sink.new)
         result (codes " (" ++ decimal k ++ codes " of " ++ decimal n ++ codes ")\n") }
-    ensures stops { OnErr result (IsTrue (S.failed sink.new)) }
 {
     if k < 10 && n < 10 {
         return write_all(sink, &digit_of_digit(k as u8, n as u8));
@@ -142,9 +132,7 @@ fn write_branch<S: Sink>(k: u32, n: u32, sink: &mut S) -> Result<(), SinkFault>
 #[inline]
 fn write_choice<S: Sink>(bodies: &Bodies, choice: &Choice, sink: &mut S) -> Result<(), SinkFault>
     requires { IsKnownChoice bodies.now.puzzle choice.now }
-    ensures text { Writes (S.failures sink.old, S.taken sink.old)
-        (S.failures sink.new, S.taken sink.new) result (choice_text bodies.now choice.now) }
-    ensures stops { OnErr result (IsTrue (S.failed sink.new)) }
+    ensures { Writes (S.state sink.old) (S.state sink.new) result (choice_text bodies.now choice.now) }
 {
     write_body(bodies, choice, sink)?;
     write_branch(choice.k, choice.n, sink)
@@ -156,10 +144,8 @@ fn write_choices<S: Sink>(
     sink: &mut S,
 ) -> Result<(), SinkFault>
     requires { All (IsKnownChoice bodies.now.puzzle) choices.now }
-    ensures text { Writes (S.failures sink.old, S.taken sink.old)
-        (S.failures sink.new, S.taken sink.new)
+    ensures { Writes (S.state sink.old) (S.state sink.new)
         result (flat_map (choice_text bodies.now) choices.now) }
-    ensures stops { OnErr result (IsTrue (S.failed sink.new)) }
 {
     for choice in choices {
         write_choice(bodies, choice, sink)?;
@@ -175,10 +161,8 @@ pub fn write_member<S: Sink>(
     sink: &mut S,
 ) -> Result<(), SinkFault>
     requires { All (IsKnownChoice bodies.now.puzzle) choices.now }
-    ensures text { Writes (S.failures sink.old, S.taken sink.old)
-        (S.failures sink.new, S.taken sink.new)
+    ensures { Writes (S.state sink.old) (S.state sink.new)
         result (member_text bodies.now (number, choices.now)) }
-    ensures stops { OnErr result (IsTrue (S.failed sink.new)) }
 {
     write_number(sink, number)?;
     write_all(sink, b":\n")?;
@@ -193,10 +177,8 @@ pub fn write_solution<S: Sink>(
     sink: &mut S,
 ) -> Result<(), SinkFault>
     requires { All (IsKnownChoice problem.now.puzzle) choices.now }
-    ensures text { Writes (S.failures sink.old, S.taken sink.old)
-        (S.failures sink.new, S.taken sink.new)
+    ensures { Writes (S.state sink.old) (S.state sink.new)
         result (member_text problem.now (number, choices.now)) }
-    ensures stops { OnErr result (IsTrue (S.failed sink.new)) }
 {
     write_member(number, choices, &Bodies::plain(problem), sink)
 }

@@ -5,14 +5,14 @@ ghost use Rattle.xc_search.specs.Cover.{members, EachMemberCovers, EachCoverIsLi
 ghost use Rattle.xc_search.specs.Room.{room_for};
 ghost use Rattle.xc_list.specs.Output.{is_printed};
 ghost use Rattle.xc_list.specs.Known.{IsKnownChoice};
-ghost use Rattle.xc_list.specs.Runs.{printed_text, IsRun, AnswersRun, OnWriteFailed, WentTo};
+ghost use Rattle.xc_list.specs.Runs.{printed_text, IsRun, AnswersRun, WentTo};
 ghost use Rattle.xc_list.specs.Built.{AreAsBuilt};
 
 use crate::bodies::Bodies;
 use crate::print::write_member;
 use crate::sink::Sink;
-use crate::text::SinkFault;
 use crate::words::Words;
+use crate::write::SinkFault;
 use std::alloc::Global;
 use xc_dance::{Dance, Links, Memory};
 use xc_input::Problem;
@@ -45,10 +45,8 @@ fn write_printed<S: Sink>(
     sink: &mut S,
 ) -> Result<(), SinkFault>
     requires { All (IsKnownChoice bodies.now.puzzle) choices.now }
-    ensures text { Writes (S.failures sink.old, S.taken sink.old)
-        (S.failures sink.new, S.taken sink.new)
+    ensures { Writes (S.state sink.old) (S.state sink.new)
         result (printed_text bodies.now spacing (number, choices.now)) }
-    ensures stops { OnErr result (IsTrue (S.failed sink.new)) }
 {
     if is_printed(spacing, number) {
         write_member(number, choices, bodies, sink)
@@ -66,12 +64,10 @@ fn write_members<'a, D: Dance, S: Sink>(
 ) -> End
     requires puzzle { search.old.puzzle ≡ bodies.now.puzzle }
     requires all { search.old.to_come ≡ members bodies.now.puzzle }
-    ensures puzzle { search.new.puzzle ≡ search.old.puzzle }
-    ensures room { search.new.room ≡ search.old.room }
+    ensures still { search.new ≡ record search.old { to_come = search.new.to_come; shown = search.new.shown } }
     ensures went { WentTo (members bodies.now.puzzle) search.new result }
     ensures run { IsRun bodies.now words.now.spacing words.now.limit
-        (S.failures sink.old, S.taken sink.old) (S.failures sink.new, S.taken sink.new) result }
-    ensures stops { OnWriteFailed result (IsTrue (S.failed sink.new)) }
+        (S.state sink.old) (S.state sink.new) result }
 {
     for found in 0..words.limit {
         match search.next() {
@@ -108,18 +104,15 @@ pub fn run_over<D: Dance, S: Sink>(
     words: Words,
     sink: &mut S,
 ) -> (D, Result<End, Memory>)
-    requires same { D.problem dance ≡ problem.now.puzzle }
-    requires none { D.trail dance ≡ [] }
-    requires room { room_for problem.now.puzzle ≤ D.limit dance }
-    ensures dance { (D.problem result.0 ≡ problem.now.puzzle) × (D.trail result.0 ≡ []) }
-    ensures room { D.limit result.0 ≡ D.limit dance }
+    requires same { (D.state dance).puzzle ≡ problem.now.puzzle }
+    requires none { (D.state dance).trail ≡ [] }
+    requires room { room_for problem.now.puzzle ≤ (D.state dance).room }
+    ensures dance { D.state result.0 ≡ D.state dance }
     ensures run { AnswersRun problem.now words.spacing words.limit
-        (S.failures sink.old, S.taken sink.old) (S.failures sink.new, S.taken sink.new) result.1 }
-    ensures stops { IfOk result.1 (λ end. OnWriteFailed end (IsTrue (S.failed sink.new))) }
+        (S.state sink.old) (S.state sink.new) result.1 }
     ensures right { EachMemberCovers problem.now.puzzle }
     ensures complete { EachCoverIsListedOnce problem.now.puzzle }
 {
-    let _items = problem.items();
     match Search::new(alloc, dance, problem) {
         Ok(mut search) => {
             let bodies = bodies_for(alloc, problem, &words);
@@ -141,17 +134,11 @@ pub fn run_over_links<S: Sink>(
     sink: &mut S,
 ) -> Result<(Links, Result<End, Memory>), Memory>
     ensures built { IfOk result (λ back. AreAsBuilt problem.now.puzzle back.0) }
-    ensures run { MatchResult result
-        (λ back. AnswersRun problem.now words.spacing words.limit
-        (S.failures sink.old, S.taken sink.old) (S.failures sink.new, S.taken sink.new) back.1)
-        (λ _. IsUntouched
-        (S.failures sink.old, S.taken sink.old) (S.failures sink.new, S.taken sink.new)) }
-    ensures stops { IfOk result (λ back. IfOk back.1 (λ end.
-        OnWriteFailed end (IsTrue (S.failed sink.new)))) }
+    ensures run { MatchResult result (λ back. AnswersRun problem.now words.spacing words.limit
+        (S.state sink.old) (S.state sink.new) back.1) (λ _. IsUntouched (S.state sink.old) (S.state sink.new)) }
     ensures right { EachMemberCovers problem.now.puzzle }
     ensures complete { EachCoverIsListedOnce problem.now.puzzle }
 {
-    let _items = problem.items();
     let links = Links::new(alloc, problem, most_moves(problem))?;
     Ok(run_over(alloc, links, problem, words, sink))
 }
@@ -165,8 +152,7 @@ pub fn run<S: Sink>(
     sink: &mut S,
 ) -> Result<End, Memory>
     ensures run { AnswersRun problem.now words.spacing words.limit
-        (S.failures sink.old, S.taken sink.old) (S.failures sink.new, S.taken sink.new) result }
-    ensures stops { IfOk result (λ end. OnWriteFailed end (IsTrue (S.failed sink.new))) }
+        (S.state sink.old) (S.state sink.new) result }
     ensures right { EachMemberCovers problem.now.puzzle }
     ensures complete { EachCoverIsListedOnce problem.now.puzzle }
 {

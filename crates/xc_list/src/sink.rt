@@ -1,6 +1,7 @@
 //! Where bytes go.
 ghost use Rattle.std.specs.Prelude.{◌≡◌, ◌+◌, ◌-◌, ◌^◌, ◌<◌, ◌≤◌, ◌↔◌, ℕ, Bool, true, false, List, [], Option, Some, length, min, IfOk, IfErr, IsErr, IsOk, IsTrue, OnErr, is_err, OnOk, vec_capacity};
 ghost use Rattle.std.specs.Io.KnownBytes.{WriteAppends, Keeps};
+ghost use Rattle.xc_list.specs.Texts.{SinkState};
 ghost use Rattle.xc_input.specs.Calls.{counted, is_failed_write};
 
 use std::alloc::Global;
@@ -14,33 +15,24 @@ pub struct WriteFailed;
 
 /// Where bytes go.
 pub trait Sink {
-    /// How many writes and flushes failed so far. The count stays at its last value.
-    ghost failures: { Self → ℕ };
-
-    /// Whether its last call failed.
-    ghost failed: { Self → Bool };
-
-    /// The bytes that it took, where it tells them.
-    ghost taken: { Self → Option (List ℕ) };
-
-    /// Whether nothing that it took is held back.
-    ghost settled: { Self → Bool };
+    /// What is known of it: its failures and the bytes that it took.
+    ghost state: { Self → SinkState };
 
     /// Takes bytes from the front, and says how many. To take none of at least one is a failure
     /// too.
     fn write(&mut self, bytes: &[u8]) -> Result<usize, WriteFailed>
         ensures bound { IfOk result (λ n. n ≤ length bytes.now) }
-        ensures failures { failures self.new
-            ≡ counted (is_failed_write result bytes.now) (failures self.old) }
-        ensures failed { failed self.new ≡ is_failed_write result bytes.now }
-        ensures bytes { WriteAppends (taken self.old) (taken self.new) result bytes.now };
+        ensures failures { (state self.new).failures
+            ≡ counted (is_failed_write result bytes.now) (state self.old).failures }
+        ensures failed { (state self.new).failed ≡ is_failed_write result bytes.now }
+        ensures bytes { WriteAppends (state self.old).taken (state self.new).taken result bytes.now };
 
     /// Passes on what the sink holds back. It takes no bytes.
     fn flush(&mut self) -> Result<(), WriteFailed>
-        ensures failures { failures self.new ≡ counted (is_err result) (failures self.old) }
-        ensures failed { failed self.new ≡ is_err result }
-        ensures bytes { Keeps (taken self.old) (taken self.new) }
-        ensures settled { OnOk result (IsTrue (settled self.new)) };
+        ensures failures { (state self.new).failures ≡ counted (is_err result) (state self.old).failures }
+        ensures failed { (state self.new).failed ≡ is_err result }
+        ensures bytes { Keeps (state self.old).taken (state self.new).taken }
+        ensures settled { OnOk result (IsTrue (state self.new).settled) };
 }
 
 /// A sink over memory. It tells the bytes that it took.
@@ -64,9 +56,9 @@ impl Tray {
         ensures step { IfOk result (λ t. t.step ≡ step) }
         ensures room { IfOk result (λ t. t.room ≡ room) }
         ensures zero { IfOk result (λ t. t.zero ≡ zero) }
-        ensures taken { IfOk result (λ t. ⟦<Tray as Sink>⟧.taken t ≡ Some []) }
-        ensures failures { IfOk result (λ t. ⟦<Tray as Sink>⟧.failures t ≡ 0) }
-        ensures failed { IfOk result (λ t. ⟦<Tray as Sink>⟧.failed t ≡ false) }
+        ensures taken { IfOk result (λ t. (⟦<Tray as Sink>⟧.state t).taken ≡ Some []) }
+        ensures failures { IfOk result (λ t. (⟦<Tray as Sink>⟧.state t).failures ≡ 0) }
+        ensures failed { IfOk result (λ t. (⟦<Tray as Sink>⟧.state t).failed ≡ false) }
     {
         let Ok(bytes) = Vec::with_capacity(alloc, room) else {
             return Err(Memory);
@@ -83,35 +75,32 @@ impl Tray {
 
     /// The bytes that it took.
     pub fn bytes(&self) -> &[u8]
-        ensures { ⟦<Tray as Sink>⟧.taken self.now ≡ Some result.now }
+        ensures { (⟦<Tray as Sink>⟧.state self.now).taken ≡ Some result.now }
     {
         self.bytes.as_slice()
     }
 
     /// The bytes that it took, on their own.
     pub(crate) fn into_bytes(self) -> Vec<u8>
-        ensures { ⟦<Tray as Sink>⟧.taken self ≡ Some result.items }
+        ensures { (⟦<Tray as Sink>⟧.state self).taken ≡ Some result.items }
     {
         self.bytes
     }
 }
 
 impl Sink for Tray {
-    ghost failures = { λ s. s.failures };
-
-    ghost failed = { λ s. s.failed };
-
-    ghost taken = { λ s. Some s.bytes.items };
-
-    ghost settled = { λ s. true };
+    ghost state = { λ s. record {
+      failures = s.failures;
+      failed = s.failed;
+      taken = Some s.bytes.items;
+      settled = true;
+    } };
 
     fn write(&mut self, bytes: &[u8]) -> Result<usize, WriteFailed>
         ensures bound { IfOk result (λ n. n ≤ length bytes.now) }
-        ensures failures { self.new.failures
-            ≡ counted (is_failed_write result bytes.now) self.old.failures }
+        ensures failures { self.new.failures ≡ counted (is_failed_write result bytes.now) self.old.failures }
         ensures failed { self.new.failed ≡ is_failed_write result bytes.now }
-        ensures bytes { WriteAppends (Some self.old.bytes.items) (Some self.new.bytes.items)
-            result bytes.now }
+        ensures bytes { WriteAppends (Some self.old.bytes.items) (Some self.new.bytes.items) result bytes.now }
 
         // It takes as much as it may, and fails only where it may take nothing.
         ensures takes { IfOk result (λ n.

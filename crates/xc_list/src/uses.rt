@@ -3,16 +3,17 @@ ghost use Rattle.std.specs.Prelude.{◌≡◌, ◌≤◌, ◌==◌, length, All,
 ghost use Rattle.std.specs.List.{position_or_len};
 ghost use Rattle.xc_list.specs.Texts.{Writes};
 ghost use Rattle.xc_input.specs.Problem.{IsItem, option_count, uses_of};
-ghost use Rattle.xc_input.specs.Named.{IsKnownUse};
+ghost use Rattle.xc_input.specs.Named.{IsKnownUse, IsSound};
 ghost use Rattle.xc_list.specs.Output.{bytes_at, colour_text, use_text, from_item};
 
 use crate::sink::Sink;
-use crate::text::{SinkFault, write_all};
+use crate::write::{SinkFault, write_all};
 use xc_input::{Problem, Use};
 
 pub fn name_of<'a>(problem: &'a Problem, i: u32) -> &'a [u8]
     requires { IsItem problem.now.puzzle i }
-    ensures { result.now ≡ bytes_at problem.now.names i }
+    ensures value { result.now ≡ bytes_at problem.now.names i }
+    ensures whole { IsSound problem.now }
 {
     problem.item(i).name.as_slice()
 }
@@ -34,18 +35,14 @@ pub fn uses_at<'a>(problem: &'a Problem, o: u32) -> &'a [Use]
 
 pub fn write_name<S: Sink>(problem: &Problem, i: u32, sink: &mut S) -> Result<(), SinkFault>
     requires { IsItem problem.now.puzzle i }
-    ensures text { Writes (S.failures sink.old, S.taken sink.old)
-        (S.failures sink.new, S.taken sink.new) result (bytes_at problem.now.names i) }
-    ensures stops { OnErr result (IsTrue (S.failed sink.new)) }
+    ensures { Writes (S.state sink.old) (S.state sink.new) result (bytes_at problem.now.names i) }
 {
     write_all(sink, name_of(problem, i))
 }
 
 fn write_colour<S: Sink>(problem: &Problem, c: u32, sink: &mut S) -> Result<(), SinkFault>
     requires { c ≤ length problem.now.colours }
-    ensures text { Writes (S.failures sink.old, S.taken sink.old)
-        (S.failures sink.new, S.taken sink.new) result (colour_text problem.now.colours c) }
-    ensures stops { OnErr result (IsTrue (S.failed sink.new)) }
+    ensures { Writes (S.state sink.old) (S.state sink.new) result (colour_text problem.now.colours c) }
 {
     if c == 0 {
         return Ok(());
@@ -56,9 +53,7 @@ fn write_colour<S: Sink>(problem: &Problem, c: u32, sink: &mut S) -> Result<(), 
 
 fn write_use<S: Sink>(problem: &Problem, u: &Use, sink: &mut S) -> Result<(), SinkFault>
     requires { IsKnownUse problem.now u.now }
-    ensures text { Writes (S.failures sink.old, S.taken sink.old)
-        (S.failures sink.new, S.taken sink.new) result (use_text problem.now u.now) }
-    ensures stops { OnErr result (IsTrue (S.failed sink.new)) }
+    ensures { Writes (S.state sink.old) (S.state sink.new) result (use_text problem.now u.now) }
 {
     write_all(sink, b" ")?;
     write_name(problem, u.item, sink)?;
@@ -67,9 +62,7 @@ fn write_use<S: Sink>(problem: &Problem, u: &Use, sink: &mut S) -> Result<(), Si
 
 pub fn write_uses<S: Sink>(problem: &Problem, uses: &[Use], sink: &mut S) -> Result<(), SinkFault>
     requires { All (IsKnownUse problem.now) uses.now }
-    ensures text { Writes (S.failures sink.old, S.taken sink.old)
-        (S.failures sink.new, S.taken sink.new) result (flat_map (use_text problem.now) uses.now) }
-    ensures stops { OnErr result (IsTrue (S.failed sink.new)) }
+    ensures { Writes (S.state sink.old) (S.state sink.new) result (flat_map (use_text problem.now) uses.now) }
 {
     for u in uses {
         write_use(problem, u, sink)?;
@@ -78,7 +71,7 @@ pub fn write_uses<S: Sink>(problem: &Problem, uses: &[Use], sink: &mut S) -> Res
 }
 
 /// The place of an item's use.
-fn place_of(uses: &[Use], item: u32) -> usize
+pub fn place_of(uses: &[Use], item: u32) -> usize
     ensures place { result ≡ position_or_len (λ u. u.item == item) uses.now }
     ensures within { result ≤ length uses.now }
 {
@@ -98,10 +91,8 @@ pub fn write_option<S: Sink>(
     sink: &mut S,
 ) -> Result<(), SinkFault>
     requires { (1 ≤ o) × (o ≤ option_count problem.now.puzzle) }
-    ensures text { Writes (S.failures sink.old, S.taken sink.old)
-        (S.failures sink.new, S.taken sink.new)
+    ensures { Writes (S.state sink.old) (S.state sink.new)
         result (flat_map (use_text problem.now) (from_item item (uses_of problem.now.puzzle o))) }
-    ensures stops { OnErr result (IsTrue (S.failed sink.new)) }
 {
     let uses = uses_at(problem, o);
     let (before, after) = uses.split_at(place_of(uses, item));

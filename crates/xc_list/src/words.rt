@@ -78,10 +78,7 @@ impl Words {
             limit: u64::MAX,
         };
         for (before, word) in words.iter().enumerate() {
-            match read_word(before + 1, asked, word.as_slice()) {
-                Ok(next) => asked = next,
-                Err(fault) => return Err(fault),
-            }
+            asked = read_word(before + 1, asked, word.as_slice())?;
         }
         Ok(asked)
     }

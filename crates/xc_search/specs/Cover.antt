@@ -13,9 +13,11 @@ pub record IsCover (p : Puzzle) (s : List ℕ) : Type 0 where
   pub known : All (λ o. (1 ≤ o) × (o ≤ option_count p)) s
   pub distinct : AllPairs (λ a b. a ≢ b) s
   -- each primary item is held as often as its bounds say
-  pub within : (i : ℕ) (b : Bounds) → bounds_at p i ≡ Some b → (b.low ≤ times_held p i s) × (times_held p i s ≤ b.high)
+  pub within : (i : ℕ) (b : Bounds) → bounds_at p i ≡ Some b →
+      (b.low ≤ times_held p i s) × (times_held p i s ≤ b.high)
   -- two options that hold the same secondary item give it the same colour, which isn't 0
-  pub agree : (a b i c d : ℕ) → Contains s a → Contains s b → a ≢ b → IsSecondary p i → colour_in (uses_of p a) i ≡ Some c → colour_in (uses_of p b) i ≡ Some d → (c ≡ d) × (0 < c)
+  pub agree : (a b i c d : ℕ) → Contains s a → Contains s b → a ≢ b → IsSecondary p i →
+      colour_in (uses_of p a) i ≡ Some c → colour_in (uses_of p b) i ≡ Some d → (c ≡ d) × (0 < c)
 
 -- the options of a member, in the order of its choices
 abbrev pub options_of : List Choice → List ℕ
@@ -35,11 +37,15 @@ EachMemberCovers p = All (λ m. IsCover p (options_of m)) (members p)
 
 -- each cover is the set of a member
 abbrev pub EachCoverIsListed : Puzzle → Type 0
-EachCoverIsListed p = (s : List ℕ) → IsCover p s → (k : ℕ) × (m : List Choice) × (slice_get (members p) k ≡ Some m) × SameSet s (options_of m)
+EachCoverIsListed p =
+    (s : List ℕ) → IsCover p s →
+    (k : ℕ) × (m : List Choice) × (slice_get (members p) k ≡ Some m) × SameSet s (options_of m)
 
 -- members at two places have different sets
 abbrev pub NoSetTwice : Puzzle → Type 0
-NoSetTwice p = (j k : ℕ) (l m : List Choice) → slice_get (members p) j ≡ Some l → slice_get (members p) k ≡ Some m → SameSet (options_of l) (options_of m) → j ≡ k
+NoSetTwice p =
+    (j k : ℕ) (l m : List Choice) → slice_get (members p) j ≡ Some l → slice_get (members p) k ≡ Some m →
+    SameSet (options_of l) (options_of m) → j ≡ k
 
 -- each cover is the set of exactly one member
 abbrev pub EachCoverIsListedOnce : Puzzle → Type 0

@@ -1,10 +1,7 @@
 pub mod Listing
 pub mod Cover
 pub mod Residuals
-pub mod Commits
-pub mod Stack
-pub mod Ahead
 pub mod Room
-pub mod Sparing
 pub mod Outlook
 pub mod Worked
+pub mod inner

@@ -51,7 +51,8 @@ less_one w = record { item = w.item; low = w.low - 1; high = w.high - 1 }
 abbrev pub spend_one : Numbered → Wanted → Wanted
 spend_one x w = if holds x w.item then less_one w else w
 
--- Whether an option may stay where an option with this use is taken. It may not hold a primary item that is used up by it, and has to agree on a secondary one. (The primary items of an option that is left are left.)
+-- Whether an option may stay where an option with this use is taken. It may not hold a primary item that is used up
+-- by it, and has to agree on a secondary one. (The primary items of an option that is left are left.)
 abbrev pub may_stay : Option Wanted → Use → Numbered → Bool
 may_stay (Some w) u o = nat_lt 1 w.high || not (holds o u.item)
 may_stay None u o = agrees u.colour (colour_at o u.item)
@@ -85,7 +86,10 @@ pub record Branch : Type 0 where
 
 -- the branch that takes the k-th option of an item, of n branches
 abbrev pub take_branch : Residual → ℕ → ℕ → ℕ × Numbered → Branch
-take_branch r i n kx = record { choice = record { item = i; option = Some kx.1.number; k = kx.0; n = n }; next = pick r i kx.1 }
+take_branch r i n kx = record {
+  choice = record { item = i; option = Some kx.1.number; k = kx.0; n = n };
+  next = pick r i kx.1;
+}
 
 -- the branch that takes none
 abbrev pub none_branch : Residual → ℕ → ℕ → Branch
@@ -99,7 +103,8 @@ branches_of r w =
     map (take_branch r w.item n) (enumerate_from 1 (take n options))
     ++ (if w.low == 0 then none_branch r w.item n ∷ [] else [])
 
--- One level of the listing, over the listings of what is left: with no primary item left, one member with no choice; else each branch's choice before each member of its listing
+-- One level of the listing, over the listings of what is left: with no primary item left, one member with no choice;
+-- else each branch's choice before each member of its listing
 abbrev pub level : (Residual → List (List Choice)) → Option Wanted → Residual → List (List Choice)
 level rest None r = [] ∷ []
 level rest (Some w) r = flat_map (λ b. map (λ m. b.choice ∷ m) (rest b.next)) (branches_of r w)

@@ -3,6 +3,7 @@ use Rattle.std.specs.Prelude.{ℕ, List}
 use Rattle.xc_search.specs.declared.choice.Choice.{Choice}
 use Rattle.xc_input.specs.Problem.{Puzzle}
 
+-- a search of this problem: what it shows, what is to come, and the room of its trail
 pub record Outlook : Type 0 where
   pub puzzle : Puzzle
   -- the members still to come

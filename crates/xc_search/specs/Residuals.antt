@@ -2,9 +2,8 @@
 use Rattle.std.specs.Prelude.{ℕ, ◌-◌, List, length, map, Option, option_map}
 use Rattle.xc_dance.specs.declared.dance.Move.{Move}
 use Rattle.xc_input.specs.Problem.{Puzzle, low_at, high_at}
-use Rattle.xc_search.specs.Listing.{Wanted, Residual, count_of, first_least}
+use Rattle.xc_search.specs.Listing.{Wanted, count_of, first_least}
 use Rattle.xc_dance.specs.Moves.{listed, spends, open_items}
-use Rattle.xc_dance.specs.Left.{left}
 
 -- a primary item with what the Spends leave of its bounds
 abbrev pub wanted_at : Puzzle → List Move → ℕ → Wanted
@@ -20,8 +19,5 @@ branches_after p t w = count_of (length (listed p t w.item)) w.low
 
 -- the branch item and its number of branches
 abbrev pub choice_after : Puzzle → List Move → Option (ℕ × ℕ)
-choice_after p t = option_map (λ w. (w.item, branches_after p t w)) (first_least (branches_after p t) (wanted_after p t))
-
--- the open primary items with what the Spends leave, and the options left
-abbrev pub residual_of : Puzzle → List Move → Residual
-residual_of p t = record { items = wanted_after p t; options = left p t }
+choice_after p t =
+    option_map (λ w. (w.item, branches_after p t w)) (first_least (branches_after p t) (wanted_after p t))

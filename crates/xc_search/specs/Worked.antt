@@ -22,19 +22,40 @@ choice i o k n = record { item = i; option = o; k = k; n = n }
 
 -- a b c d e f g: c e / a d g / b c f / a d f / b g / d e g
 abbrev pub seven_items : Puzzle
-seven_items = record { bounds = within 1 1 ∷ within 1 1 ∷ within 1 1 ∷ within 1 1 ∷ within 1 1 ∷ within 1 1 ∷ within 1 1 ∷ []; secondary = 0; options = (plain 3 ∷ plain 5 ∷ []) ∷ (plain 1 ∷ plain 4 ∷ plain 7 ∷ []) ∷ (plain 2 ∷ plain 3 ∷ plain 6 ∷ []) ∷ (plain 1 ∷ plain 4 ∷ plain 6 ∷ []) ∷ (plain 2 ∷ plain 7 ∷ []) ∷ (plain 4 ∷ plain 5 ∷ plain 7 ∷ []) ∷ [] }
+seven_items = record {
+  bounds = within 1 1 ∷ within 1 1 ∷ within 1 1 ∷ within 1 1 ∷ within 1 1 ∷ within 1 1 ∷ within 1 1 ∷ [];
+  secondary = 0;
+  options =
+      (plain 3 ∷ plain 5 ∷ []) ∷ (plain 1 ∷ plain 4 ∷ plain 7 ∷ []) ∷ (plain 2 ∷ plain 3 ∷ plain 6 ∷ [])
+      ∷ (plain 1 ∷ plain 4 ∷ plain 6 ∷ []) ∷ (plain 2 ∷ plain 7 ∷ []) ∷ (plain 4 ∷ plain 5 ∷ plain 7 ∷ [])
+      ∷ [];
+}
 
 -- p q r | x y: p q x y:A / p r x:A y / p x:B / q x:A / r y:B
 abbrev pub two_colours : Puzzle
-two_colours = record { bounds = within 1 1 ∷ within 1 1 ∷ within 1 1 ∷ []; secondary = 2; options = (plain 1 ∷ plain 2 ∷ plain 4 ∷ coloured 5 1 ∷ []) ∷ (plain 1 ∷ plain 3 ∷ coloured 4 1 ∷ plain 5 ∷ []) ∷ (plain 1 ∷ coloured 4 2 ∷ []) ∷ (plain 2 ∷ coloured 4 1 ∷ []) ∷ (plain 3 ∷ coloured 5 2 ∷ []) ∷ [] }
+two_colours = record {
+  bounds = within 1 1 ∷ within 1 1 ∷ within 1 1 ∷ [];
+  secondary = 2;
+  options =
+      (plain 1 ∷ plain 2 ∷ plain 4 ∷ coloured 5 1 ∷ []) ∷ (plain 1 ∷ plain 3 ∷ coloured 4 1 ∷ plain 5 ∷ [])
+      ∷ (plain 1 ∷ coloured 4 2 ∷ []) ∷ (plain 2 ∷ coloured 4 1 ∷ []) ∷ (plain 3 ∷ coloured 5 2 ∷ []) ∷ [];
+}
 
 -- 1:2|A B: A / A B / B
 abbrev pub once_or_twice : Puzzle
-once_or_twice = record { bounds = within 1 2 ∷ within 1 1 ∷ []; secondary = 0; options = (plain 1 ∷ []) ∷ (plain 1 ∷ plain 2 ∷ []) ∷ (plain 2 ∷ []) ∷ [] }
+once_or_twice = record {
+  bounds = within 1 2 ∷ within 1 1 ∷ [];
+  secondary = 0;
+  options = (plain 1 ∷ []) ∷ (plain 1 ∷ plain 2 ∷ []) ∷ (plain 2 ∷ []) ∷ [];
+}
 
 -- A: A / A / A
 abbrev pub equal_options : Puzzle
-equal_options = record { bounds = within 1 1 ∷ []; secondary = 0; options = (plain 1 ∷ []) ∷ (plain 1 ∷ []) ∷ (plain 1 ∷ []) ∷ [] }
+equal_options = record {
+  bounds = within 1 1 ∷ [];
+  secondary = 0;
+  options = (plain 1 ∷ []) ∷ (plain 1 ∷ []) ∷ (plain 1 ∷ []) ∷ [];
+}
 
 -- A B: A
 abbrev pub missing_item : Puzzle
@@ -42,7 +63,13 @@ missing_item = record { bounds = within 1 1 ∷ within 1 1 ∷ []; secondary = 0
 
 -- A B | x: A x:1 / B x:1 / B x:2 / B x
 abbrev pub one_colour : Puzzle
-one_colour = record { bounds = within 1 1 ∷ within 1 1 ∷ []; secondary = 1; options = (plain 1 ∷ coloured 3 1 ∷ []) ∷ (plain 2 ∷ coloured 3 1 ∷ []) ∷ (plain 2 ∷ coloured 3 2 ∷ []) ∷ (plain 2 ∷ plain 3 ∷ []) ∷ [] }
+one_colour = record {
+  bounds = within 1 1 ∷ within 1 1 ∷ [];
+  secondary = 1;
+  options =
+      (plain 1 ∷ coloured 3 1 ∷ []) ∷ (plain 2 ∷ coloured 3 1 ∷ []) ∷ (plain 2 ∷ coloured 3 2 ∷ [])
+      ∷ (plain 2 ∷ plain 3 ∷ []) ∷ [];
+}
 
 -- 0:2|A: A / A
 abbrev pub up_to_twice : Puzzle
@@ -62,12 +89,28 @@ both_options = record { bounds = within 2 2 ∷ []; secondary = 0; options = (pl
 
 -- A B | x y: A x / A y / B x / B y / B
 abbrev pub blank_secondary : Puzzle
-blank_secondary = record { bounds = within 1 1 ∷ within 1 1 ∷ []; secondary = 2; options = (plain 1 ∷ plain 3 ∷ []) ∷ (plain 1 ∷ plain 4 ∷ []) ∷ (plain 2 ∷ plain 3 ∷ []) ∷ (plain 2 ∷ plain 4 ∷ []) ∷ (plain 2 ∷ []) ∷ [] }
+blank_secondary = record {
+  bounds = within 1 1 ∷ within 1 1 ∷ [];
+  secondary = 2;
+  options =
+      (plain 1 ∷ plain 3 ∷ []) ∷ (plain 1 ∷ plain 4 ∷ []) ∷ (plain 2 ∷ plain 3 ∷ [])
+      ∷ (plain 2 ∷ plain 4 ∷ []) ∷ (plain 2 ∷ []) ∷ [];
+}
 
 -- 2|A 0:1|B | x: A B / A x:1 / A x:2 / B
 abbrev pub bounds_and_colours : Puzzle
-bounds_and_colours = record { bounds = within 2 2 ∷ within 0 1 ∷ []; secondary = 1; options = (plain 1 ∷ plain 2 ∷ []) ∷ (plain 1 ∷ coloured 3 1 ∷ []) ∷ (plain 1 ∷ coloured 3 2 ∷ []) ∷ (plain 2 ∷ []) ∷ [] }
+bounds_and_colours = record {
+  bounds = within 2 2 ∷ within 0 1 ∷ [];
+  secondary = 1;
+  options =
+      (plain 1 ∷ plain 2 ∷ []) ∷ (plain 1 ∷ coloured 3 1 ∷ []) ∷ (plain 1 ∷ coloured 3 2 ∷ [])
+      ∷ (plain 2 ∷ []) ∷ [];
+}
 
 -- 0:2|A B: A B / A
 abbrev pub bound_beside_one : Puzzle
-bound_beside_one = record { bounds = within 0 2 ∷ within 1 1 ∷ []; secondary = 0; options = (plain 1 ∷ plain 2 ∷ []) ∷ (plain 1 ∷ []) ∷ [] }
+bound_beside_one = record {
+  bounds = within 0 2 ∷ within 1 1 ∷ [];
+  secondary = 0;
+  options = (plain 1 ∷ plain 2 ∷ []) ∷ (plain 1 ∷ []) ∷ [];
+}

@@ -3,8 +3,8 @@ ghost use Rattle.std.specs.Prelude.{◌≡◌, ◌-◌, true};
 ghost use Rattle.xc_input.specs.Problem.{low_at};
 ghost use Rattle.xc_dance.specs.Moves.{IsOpenPrimary, spends};
 ghost use Rattle.xc_search.specs.Residuals.{branches_after, wanted_at, wanted_after, choice_after};
-ghost use Rattle.xc_search.specs.Room.{IsOnce};
-ghost use Rattle.xc_search.specs.Stack.{AreAllWanted};
+ghost use Rattle.xc_search.specs.inner.MostLevels.{IsOnce};
+ghost use Rattle.xc_search.specs.inner.Levels.{AreAllWanted};
 
 use xc_dance::Dance;
 use xc_input::Problem;
@@ -14,11 +14,11 @@ use xc_input::Problem;
 /// branch of none where it need not be held. With both bounds 1 it is the length of the list.
 #[inline(always)]
 pub fn branches<D: Dance>(dance: &D, problem: &Problem, i: u32) -> u32
-    requires same { D.problem dance.now ≡ problem.now.puzzle }
-    requires open { IsOpenPrimary problem.now.puzzle (D.trail dance.now) i }
-    ensures { result ≡ branches_after problem.now.puzzle (D.trail dance.now) (wanted_at problem.now.puzzle (D.trail dance.now) i) }
+    requires same { (D.state dance.now).puzzle ≡ problem.now.puzzle }
+    requires open { IsOpenPrimary problem.now.puzzle (D.state dance.now).trail i }
+    ensures { result ≡ branches_after problem.now.puzzle (D.state dance.now).trail
+        (wanted_at problem.now.puzzle (D.state dance.now).trail i) }
 {
-    let _items = problem.items();
     let item = problem.item(i);
     let spent = item.high - dance.bound(i);
     let low = item.low.saturating_sub(spent);
@@ -33,8 +33,8 @@ pub fn branches<D: Dance>(dance: &D, problem: &Problem, i: u32) -> u32
 /// The branch item and its number of branches. Of equals it is the first in the order of the items;
 /// none where no primary item is open. It looks no further than an item without branches.
 pub fn choose<D: Dance>(dance: &D, problem: &Problem) -> Option<(u32, u32)>
-    requires same { D.problem dance.now ≡ problem.now.puzzle }
-    ensures { result ≡ choice_after problem.now.puzzle (D.trail dance.now) }
+    requires same { (D.state dance.now).puzzle ≡ problem.now.puzzle }
+    ensures { result ≡ choice_after problem.now.puzzle (D.state dance.now).trail }
 {
     choose_by(dance, problem, false)
 }
@@ -43,9 +43,10 @@ pub fn choose<D: Dance>(dance: &D, problem: &Problem) -> Option<(u32, u32)>
 /// open aren't held yet. Then the pass over the items reads no bounds.
 #[inline(always)]
 pub fn choose_next<D: Dance>(dance: &D, problem: &Problem, once: bool) -> Option<(u32, u32)>
-    requires same { D.problem dance.now ≡ problem.now.puzzle }
-    requires once { once ≡ true → IsOnce problem.now.puzzle × AreAllWanted (wanted_after problem.now.puzzle (D.trail dance.now)) }
-    ensures { result ≡ choice_after problem.now.puzzle (D.trail dance.now) }
+    requires same { (D.state dance.now).puzzle ≡ problem.now.puzzle }
+    requires once { once ≡ true → IsOnce problem.now.puzzle
+        × AreAllWanted (wanted_after problem.now.puzzle (D.state dance.now).trail) }
+    ensures { result ≡ choice_after problem.now.puzzle (D.state dance.now).trail }
 {
     if once {
         choose_by(dance, problem, true)
@@ -57,10 +58,11 @@ pub fn choose_next<D: Dance>(dance: &D, problem: &Problem, once: bool) -> Option
 /// The number of branches of an open item; if `once`, it is to be held exactly once more.
 #[inline(always)]
 fn count<D: Dance>(dance: &D, problem: &Problem, i: u32, once: bool) -> u32
-    requires same { D.problem dance.now ≡ problem.now.puzzle }
-    requires open { IsOpenPrimary problem.now.puzzle (D.trail dance.now) i }
-    requires once { once ≡ true → low_at problem.now.puzzle i - spends i (D.trail dance.now) ≡ 1 }
-    ensures { result ≡ branches_after problem.now.puzzle (D.trail dance.now) (wanted_at problem.now.puzzle (D.trail dance.now) i) }
+    requires same { (D.state dance.now).puzzle ≡ problem.now.puzzle }
+    requires open { IsOpenPrimary problem.now.puzzle (D.state dance.now).trail i }
+    requires once { once ≡ true → low_at problem.now.puzzle i - spends i (D.state dance.now).trail ≡ 1 }
+    ensures { result ≡ branches_after problem.now.puzzle (D.state dance.now).trail
+        (wanted_at problem.now.puzzle (D.state dance.now).trail i) }
 {
     if once {
         dance.len(i)
@@ -74,9 +76,10 @@ fn count<D: Dance>(dance: &D, problem: &Problem, i: u32, once: bool) -> u32
 // lengths is taken without a jump.
 #[inline(always)]
 fn choose_by<D: Dance>(dance: &D, problem: &Problem, once: bool) -> Option<(u32, u32)>
-    requires same { D.problem dance.now ≡ problem.now.puzzle }
-    requires once { once ≡ true → IsOnce problem.now.puzzle × AreAllWanted (wanted_after problem.now.puzzle (D.trail dance.now)) }
-    ensures { result ≡ choice_after problem.now.puzzle (D.trail dance.now) }
+    requires same { (D.state dance.now).puzzle ≡ problem.now.puzzle }
+    requires once { once ≡ true → IsOnce problem.now.puzzle
+        × AreAllWanted (wanted_after problem.now.puzzle (D.state dance.now).trail) }
+    ensures { result ≡ choice_after problem.now.puzzle (D.state dance.now).trail }
 {
     let mut item = dance.open_after(0)?;
     let mut fewest = count(dance, problem, item, once);

@@ -1,27 +1,23 @@
 //! How many moves and levels a search has at most.
-ghost use Rattle.std.specs.Prelude.{◌≡◌, ◌≤◌, true};
-ghost use Rattle.xc_search.specs.Room.{room_for, use_count, high_total, level_limit, IsOnce};
+ghost use Rattle.std.specs.Prelude.{◌≡◌, true};
+ghost use Rattle.xc_input.specs.Problem.{IsValid};
+ghost use Rattle.xc_search.specs.Room.{room_for};
+ghost use Rattle.xc_search.specs.inner.MostLevels.{high_total, most_levels, IsOnce};
 
 use xc_input::Problem;
 
-/// How many uses the options have.
-fn count_uses(problem: &Problem) -> usize
-    ensures value { result ≡ use_count problem.now.puzzle }
-    ensures limit { result ≤ 10000000 }
+/// How many moves a search of the problem has on its trail at most: twice the items and twice the uses.
+pub fn most_moves(problem: &Problem) -> usize
+    ensures value { result ≡ room_for problem.now.puzzle }
+    ensures valid { IsValid problem.now.puzzle }
 {
-    let _items = problem.items();
-    let mut uses = 0;
-    for o in 0..problem.options() {
-        uses += problem.option(o + 1).len();
-    }
-    uses
+    2 * problem.items() as usize + 2 * problem.uses()
 }
 
 /// How often the primary items can be spent in all.
 fn count_spends(problem: &Problem) -> usize
     ensures { result ≡ high_total problem.now.puzzle }
 {
-    let _items = problem.items();
     let mut spends = 0;
     for i in 0..problem.primary() {
         spends += problem.item(i + 1).high as usize;
@@ -29,19 +25,12 @@ fn count_spends(problem: &Problem) -> usize
     spends
 }
 
-/// How many moves a search of the problem has on its trail at most: twice the items and twice the uses.
-pub fn most_moves(problem: &Problem) -> usize
-    ensures { result ≡ room_for problem.now.puzzle }
-{
-    2 * problem.items() as usize + 2 * count_uses(problem)
-}
-
 /// How many levels a search of the problem has at most: each but the last takes an option or a
 /// primary item away, and each has a Spend of its own.
 pub fn most_levels(problem: &Problem) -> usize
-    ensures { result ≡ level_limit problem.now.puzzle }
+    ensures value { result ≡ most_levels problem.now.puzzle }
+    ensures valid { IsValid problem.now.puzzle }
 {
-    let _items = problem.items();
     let by_size = problem.options() as usize + problem.primary() as usize;
     by_size.min(count_spends(problem))
 }
@@ -50,7 +39,6 @@ pub fn most_levels(problem: &Problem) -> usize
 pub fn is_once(problem: &Problem) -> bool
     ensures { result ≡ true → IsOnce problem.now.puzzle }
 {
-    let _items = problem.items();
     for i in 0..problem.primary() {
         let item = problem.item(i + 1);
         if item.low != 1 || item.high != 1 {

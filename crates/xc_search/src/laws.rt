@@ -32,17 +32,32 @@ pub fn each_cover_is_listed_once()
 
 /// The listings of worked problems, computed by the definitions.
 pub fn worked_listings()
-    ensures seven_items { members seven_items ≡ (choice 1 (Some 4) 2 2 ∷ choice 2 (Some 5) 1 1 ∷ choice 3 (Some 1) 1 1 ∷ []) ∷ [] }
+    ensures seven_items { members seven_items
+        ≡ (choice 1 (Some 4) 2 2 ∷ choice 2 (Some 5) 1 1 ∷ choice 3 (Some 1) 1 1 ∷ []) ∷ [] }
     ensures two_colours { members two_colours ≡ (choice 2 (Some 4) 2 2 ∷ choice 1 (Some 2) 1 1 ∷ []) ∷ [] }
-    ensures once_or_twice { members once_or_twice ≡ (choice 1 (Some 1) 1 2 ∷ choice 1 (Some 2) 1 2 ∷ []) ∷ (choice 1 (Some 1) 1 2 ∷ choice 1 None 2 2 ∷ choice 2 (Some 3) 1 1 ∷ []) ∷ (choice 1 (Some 2) 2 2 ∷ choice 1 None 1 1 ∷ []) ∷ [] }
-    ensures equal_options { members equal_options ≡ (choice 1 (Some 1) 1 3 ∷ []) ∷ (choice 1 (Some 2) 2 3 ∷ []) ∷ (choice 1 (Some 3) 3 3 ∷ []) ∷ [] }
+    ensures once_or_twice { members once_or_twice
+        ≡ (choice 1 (Some 1) 1 2 ∷ choice 1 (Some 2) 1 2 ∷ [])
+        ∷ (choice 1 (Some 1) 1 2 ∷ choice 1 None 2 2 ∷ choice 2 (Some 3) 1 1 ∷ [])
+        ∷ (choice 1 (Some 2) 2 2 ∷ choice 1 None 1 1 ∷ []) ∷ [] }
+    ensures equal_options { members equal_options
+        ≡ (choice 1 (Some 1) 1 3 ∷ []) ∷ (choice 1 (Some 2) 2 3 ∷ []) ∷ (choice 1 (Some 3) 3 3 ∷ []) ∷ [] }
     ensures missing_item { members missing_item ≡ [] }
     ensures one_colour { members one_colour ≡ (choice 1 (Some 1) 1 1 ∷ choice 2 (Some 2) 1 1 ∷ []) ∷ [] }
-    ensures up_to_twice { members up_to_twice ≡ (choice 1 (Some 1) 1 3 ∷ choice 1 (Some 2) 1 2 ∷ []) ∷ (choice 1 (Some 1) 1 3 ∷ choice 1 None 2 2 ∷ []) ∷ (choice 1 (Some 2) 2 3 ∷ choice 1 None 1 1 ∷ []) ∷ (choice 1 None 3 3 ∷ []) ∷ [] }
+    ensures up_to_twice { members up_to_twice
+        ≡ (choice 1 (Some 1) 1 3 ∷ choice 1 (Some 2) 1 2 ∷ []) ∷ (choice 1 (Some 1) 1 3 ∷ choice 1 None 2 2 ∷ [])
+        ∷ (choice 1 (Some 2) 2 3 ∷ choice 1 None 1 1 ∷ []) ∷ (choice 1 None 3 3 ∷ []) ∷ [] }
     ensures no_options { members no_options ≡ (choice 1 None 1 1 ∷ []) ∷ [] }
     ensures largest_bound { members largest_bound ≡ [] }
     ensures both_options { members both_options ≡ (choice 1 (Some 1) 1 1 ∷ choice 1 (Some 2) 1 1 ∷ []) ∷ [] }
-    ensures blank_secondary { members blank_secondary ≡ (choice 1 (Some 1) 1 2 ∷ choice 2 (Some 4) 1 2 ∷ []) ∷ (choice 1 (Some 1) 1 2 ∷ choice 2 (Some 5) 2 2 ∷ []) ∷ (choice 1 (Some 2) 2 2 ∷ choice 2 (Some 3) 1 2 ∷ []) ∷ (choice 1 (Some 2) 2 2 ∷ choice 2 (Some 5) 2 2 ∷ []) ∷ [] }
-    ensures bounds_and_colours { members bounds_and_colours ≡ (choice 1 (Some 1) 1 2 ∷ choice 1 (Some 2) 1 2 ∷ []) ∷ (choice 1 (Some 1) 1 2 ∷ choice 1 (Some 3) 2 2 ∷ []) ∷ [] }
-    ensures bound_beside_one { members bound_beside_one ≡ (choice 2 (Some 1) 1 1 ∷ choice 1 (Some 2) 1 2 ∷ []) ∷ (choice 2 (Some 1) 1 1 ∷ choice 1 None 2 2 ∷ []) ∷ [] }
+    ensures blank_secondary { members blank_secondary
+        ≡ (choice 1 (Some 1) 1 2 ∷ choice 2 (Some 4) 1 2 ∷ [])
+        ∷ (choice 1 (Some 1) 1 2 ∷ choice 2 (Some 5) 2 2 ∷ [])
+        ∷ (choice 1 (Some 2) 2 2 ∷ choice 2 (Some 3) 1 2 ∷ [])
+        ∷ (choice 1 (Some 2) 2 2 ∷ choice 2 (Some 5) 2 2 ∷ []) ∷ [] }
+    ensures bounds_and_colours { members bounds_and_colours
+        ≡ (choice 1 (Some 1) 1 2 ∷ choice 1 (Some 2) 1 2 ∷ [])
+        ∷ (choice 1 (Some 1) 1 2 ∷ choice 1 (Some 3) 2 2 ∷ []) ∷ [] }
+    ensures bound_beside_one { members bound_beside_one
+        ≡ (choice 2 (Some 1) 1 1 ∷ choice 1 (Some 2) 1 2 ∷ []) ∷ (choice 2 (Some 1) 1 1 ∷ choice 1 None 2 2 ∷ [])
+        ∷ [] }
 {}

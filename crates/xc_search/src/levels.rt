@@ -1,144 +1,138 @@
 //! The levels of the search.
-ghost use Rattle.std.specs.Prelude.{◌≡◌, ◌<◌, ◌≤◌, length, List, [], ◌∷◌, true, false, IfSome, IsNone};
+ghost use Rattle.std.specs.Prelude.{◌≡◌, ◌<◌, ◌≤◌, List, [], ◌∷◌, true, false, IfSome, IsNone};
 ghost use Rattle.xc_input.specs.Problem.{Puzzle};
-ghost use Rattle.xc_search.specs.Room.{room_for, level_limit, IsOnce};
-ghost use Rattle.xc_search.specs.Stack.{AreStacked, IsStanding, IsBegun, coming, to_give, begun_level};
-ghost use Rattle.xc_search.specs.Commits.{oldest};
-ghost use Rattle.xc_search.specs.Ahead.{IsReached, IsDeepened, IsResumed};
+ghost use Rattle.xc_search.specs.inner.MostLevels.{most_levels};
+ghost use Rattle.xc_search.specs.inner.Levels.{AreStacked, IsStanding, IsBegun, begun_level};
+ghost use Rattle.xc_search.specs.inner.Commits.{oldest};
+ghost use Rattle.xc_search.specs.inner.Ahead.{work_left, GoesOn, IsReached, IsDone};
 
-use crate::branch_item::choose_next;
-use crate::level::{Begun, Level, begin, descend};
+use crate::level::{Begun, Level};
+use crate::position::Position;
+use crate::search::Step;
 use crate::stack::Stack;
-use crate::steps::{close_level, undo_to};
 use xc_dance::Dance;
-use xc_input::Problem;
 
-/// Begins a level, since what is left wasn't searched yet. False: no item is left, and the choices of the levels are a solution.
+/// What stands below the levels.
+#[derive(Clone, Copy)]
+enum Below {
+    /// Another level, which was begun.
+    Level,
+    /// Nothing: no item is left, and the choices of the levels are a solution.
+    Solution,
+}
+
+/// Where a search goes on.
+#[derive(Clone, Copy)]
+enum Resumed {
+    /// In a branch, which was begun.
+    Branch,
+    /// Nowhere: no level has another branch, and all have ended.
+    Nowhere,
+}
+
+/// Begins a level, since what is left wasn't searched yet.
 #[inline(always)]
-fn deepen<D: Dance>(dance: &mut D, problem: &Problem, stack: &mut Stack, once: bool) -> bool
-    requires same { D.problem dance.old ≡ problem.now.puzzle }
-    requires once { once ≡ true → IsOnce problem.now.puzzle }
-    requires standing { IsStanding problem.now.puzzle (D.trail dance.old) stack.old.levels true }
-    requires room { room_for problem.now.puzzle ≤ D.limit dance.old }
-    requires levels_fit { level_limit problem.now.puzzle ≤ stack.old.room }
-    ensures problem { D.problem dance.new ≡ D.problem dance.old }
-    ensures limit { D.limit dance.new ≡ D.limit dance.old }
-    ensures stack_room { stack.new.room ≡ stack.old.room }
-    ensures reached { result ≡ false → IsReached problem.now.puzzle (D.trail dance.old) stack.old.levels true (D.trail dance.new) stack.new.levels }
-    ensures deeper { result ≡ true → IsDeepened problem.now.puzzle (D.trail dance.old) stack.old.levels true (D.trail dance.new) stack.new.levels }
+fn deepen<D: Dance>(position: &mut Position<D>, stack: &mut Stack) -> Below
+    requires standing { IsStanding position.old.puzzle position.old.trail stack.old.levels true }
+    requires levels_fit { most_levels position.old.puzzle ≤ stack.old.room }
+    ensures reached { result ≡ Below.Solution → IsReached position.old stack.old true position.new stack.new }
+    ensures deeper { result ≡ Below.Level → GoesOn position.old stack.old true position.new stack.new false }
+    ensures less { result ≡ Below.Level →
+        work_left position.new stack.new false < work_left position.old stack.old true }
 {
-    let Some((item, count)) = choose_next(dance, problem, once) else {
-        return false;
+    let Some((item, count)) = position.choose() else {
+        return Below::Solution;
     };
-    let level = descend(dance, problem, item, count);
+    let level = position.descend(item, count);
     stack.push(level);
-    true
+    Below::Level
 }
 
 /// Ends a level, the newest one, whose item was tweaked. It stands apart, so that the loop of the
 /// search holds one copy of `undo_to`.
 #[inline(never)]
-fn end_tweaked<D: Dance>(dance: &mut D, level: &Level)
-    requires stacked { (p : Puzzle) × (ls : List Level) × AreStacked p (D.trail dance.old) (level.now ∷ ls) }
-    ensures problem { D.problem dance.new ≡ D.problem dance.old }
-    ensures limit { D.limit dance.new ≡ D.limit dance.old }
-    ensures trail { D.trail dance.new ≡ oldest level.now.mark (oldest level.now.base (D.trail dance.old)) }
+fn end_tweaked<D: Dance>(position: &mut Position<D>, level: &Level)
+    requires stacked { (p : Puzzle) × (ls : List Level) × AreStacked p position.old.trail (level.now ∷ ls) }
+    ensures { position.new ≡ record position.old
+        { trail = oldest level.now.mark (oldest level.now.base position.old.trail) } }
 {
-    undo_to(dance, level.base);
-    close_level(dance, level.tweaks, level.mark);
+    position.undo_to(level.base);
+    position.close_level(level.tweaks, level.mark);
 }
 
 /// Begins the next branch of a level, the newest one, or ends the level: then there is none.
 #[inline(always)]
-fn turn<D: Dance>(dance: &mut D, problem: &Problem, level: &Level) -> Option<Begun>
-    requires same { D.problem dance.old ≡ problem.now.puzzle }
-    requires stacked { (ls : List Level) × AreStacked problem.now.puzzle (D.trail dance.old) (level.now ∷ ls) }
-    requires room { room_for problem.now.puzzle ≤ D.limit dance.old }
-    ensures problem { D.problem dance.new ≡ D.problem dance.old }
-    ensures limit { D.limit dance.new ≡ D.limit dance.old }
-    ensures begun { IfSome result (λ b. IsBegun problem.now.puzzle (oldest level.now.base (D.trail dance.old)) level.now (D.trail dance.new) (begun_level b level.now)) }
-    ensures ended { IsNone result → (level.now.count ≤ level.now.begun) × (D.trail dance.new ≡ oldest level.now.mark (D.trail dance.old)) }
+fn turn<D: Dance>(position: &mut Position<D>, level: &Level) -> Option<Begun>
+    requires stacked { (ls : List Level) × AreStacked position.old.puzzle position.old.trail (level.now ∷ ls) }
+    ensures still { position.new ≡ record position.old { trail = position.new.trail } }
+    ensures begun { IfSome result (λ b. IsBegun position.old.puzzle (oldest level.now.base position.old.trail)
+        level.now position.new.trail (begun_level b level.now)) }
+    ensures ended { IsNone result → (level.now.count ≤ level.now.begun)
+        × (position.new ≡ record position.old { trail = oldest level.now.mark position.old.trail }) }
 {
     let ends = level.begun >= level.count;
     if ends && level.tweaks > 0 {
-        end_tweaked(dance, level);
+        end_tweaked(position, level);
         return None;
     }
-    undo_to(dance, if ends { level.mark } else { level.base });
+    position.undo_to(if ends { level.mark } else { level.base });
     if ends {
         return None;
     }
-    Some(begin(dance, problem, level))
+    Some(position.begin(level))
 }
 
-/// Begins the next branch of the newest level that has one, and ends the levels above it. False: no
-/// level has one, and all have ended.
+/// Begins the next branch of the newest level that has one, and ends the levels above it.
 #[inline(always)]
-fn resume<D: Dance>(dance: &mut D, problem: &Problem, stack: &mut Stack) -> bool
-    requires same { D.problem dance.old ≡ problem.now.puzzle }
-    requires stacked { AreStacked problem.now.puzzle (D.trail dance.old) stack.old.levels }
-    requires room { room_for problem.now.puzzle ≤ D.limit dance.old }
-    ensures problem { D.problem dance.new ≡ D.problem dance.old }
-    ensures limit { D.limit dance.new ≡ D.limit dance.old }
-    ensures stack_room { stack.new.room ≡ stack.old.room }
-    ensures resumed { result ≡ true → IsResumed problem.now.puzzle (D.trail dance.old) stack.old.levels (D.trail dance.new) stack.new.levels }
-    ensures ended { result ≡ false → (to_give problem.now.puzzle (D.trail dance.old) stack.old.levels ≡ []) × (stack.new.levels ≡ []) }
+fn resume<D: Dance>(position: &mut Position<D>, stack: &mut Stack) -> Resumed
+    requires standing { IsStanding position.old.puzzle position.old.trail stack.old.levels false }
+    ensures resumed { result ≡ Resumed.Branch → GoesOn position.old stack.old false position.new stack.new true }
+    ensures less { result ≡ Resumed.Branch →
+        work_left position.new stack.new true < work_left position.old stack.old false }
+    ensures done { result ≡ Resumed.Nowhere → IsDone position.old stack.old false position.new stack.new }
 {
     while let Some(level) = stack.top() {
-        match turn(dance, problem, level) {
+        match turn(position, level) {
             Some(branch) => {
                 stack.begin(branch);
-                return true;
+                return Resumed::Branch;
             }
             None => stack.pop(),
         }
     }
-    false
+    Resumed::Nowhere
 }
 
-/// Goes on to the next solution, or to the end. `once` says that each primary item is to be held
-/// exactly once.
-pub fn advance<D: Dance>(
-    dance: &mut D,
-    problem: &Problem,
-    stack: &mut Stack,
-    down: bool,
-    once: bool,
-) -> bool
-    requires same { D.problem dance.old ≡ problem.now.puzzle }
-    requires once { once ≡ true → IsOnce problem.now.puzzle }
-    requires standing { IsStanding problem.now.puzzle (D.trail dance.old) stack.old.levels down }
-    requires room { room_for problem.now.puzzle ≤ D.limit dance.old }
-    requires levels_fit { level_limit problem.now.puzzle ≤ stack.old.room }
-    ensures problem { D.problem dance.new ≡ D.problem dance.old }
-    ensures limit { D.limit dance.new ≡ D.limit dance.old }
-    ensures stack_room { stack.new.room ≡ stack.old.room }
-    ensures reached { result ≡ true → IsReached problem.now.puzzle (D.trail dance.old) stack.old.levels down (D.trail dance.new) stack.new.levels }
-    ensures done { result ≡ false → (coming problem.now.puzzle (D.trail dance.old) stack.old.levels down ≡ []) × (stack.new.levels ≡ []) }
+/// Goes on to the next solution, or to the end. `down`: what is left wasn't searched yet.
+pub fn advance<D: Dance>(position: &mut Position<D>, stack: &mut Stack, down: bool) -> Step
+    requires standing { IsStanding position.old.puzzle position.old.trail stack.old.levels down }
+    requires levels_fit { most_levels position.old.puzzle ≤ stack.old.room }
+    ensures reached { result ≡ Step.Solution → IsReached position.old stack.old down position.new stack.new }
+    ensures done { result ≡ Step.Done → IsDone position.old stack.old down position.new stack.new }
 {
     let mut descends = down;
     loop {
-        if descends && !deepen(dance, problem, stack, once) {
-            return true;
+        if descends {
+            if let Below::Solution = deepen(position, stack) {
+                return Step::Solution;
+            }
         }
-        if !resume(dance, problem, stack) {
-            return false;
+        if let Resumed::Nowhere = resume(position, stack) {
+            return Step::Done;
         }
         descends = true;
     }
 }
 
 /// Ends every level, the newest first, and undoes what still stands.
-pub fn unwind<D: Dance>(dance: &mut D, mut stack: Stack)
-    requires stacked { AreStacked (D.problem dance.old) (D.trail dance.old) stack.levels }
-    ensures problem { D.problem dance.new ≡ D.problem dance.old }
-    ensures limit { D.limit dance.new ≡ D.limit dance.old }
-    ensures none { D.trail dance.new ≡ [] }
+pub fn unwind<D: Dance>(position: &mut Position<D>, mut stack: Stack)
+    requires stacked { AreStacked position.old.puzzle position.old.trail stack.levels }
+    ensures { position.new ≡ record position.old { trail = [] } }
 {
     while let Some(level) = stack.top() {
-        undo_to(dance, level.base);
-        close_level(dance, level.tweaks, level.mark);
+        position.undo_to(level.base);
+        position.close_level(level.tweaks, level.mark);
         stack.pop();
     }
-    undo_to(dance, 0);
+    position.undo_to(0);
 }

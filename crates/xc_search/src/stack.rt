@@ -1,6 +1,6 @@
 //! The stack of the search's levels, and their choices beside it.
 ghost use Rattle.std.specs.Prelude.{◌≡◌, ◌<◌, ◌≤◌, [], ◌∷◌, ◌++◌, length, drop, IfSome, IfOk, IsNone};
-ghost use Rattle.xc_search.specs.Stack.{chosen, choices_of, begun_level, begun_choice, newest_begun};
+ghost use Rattle.xc_search.specs.inner.Levels.{chosen, choices_of, begun_level, begun_choice, newest_begun};
 
 use crate::choice::Choice;
 use crate::level::{Begun, Level};
@@ -18,7 +18,7 @@ pub struct Stack {
 
 impl Model for Stack {
     ghost use Rattle.std.specs.Prelude.{◌≡◌, ◌≤◌, length, map, reverse, vec_capacity};
-    ghost use Rattle.xc_search.specs.Stack.{Levels, chosen};
+    ghost use Rattle.xc_search.specs.inner.Levels.{Levels, chosen};
 
     ghost Value = { Levels };
 

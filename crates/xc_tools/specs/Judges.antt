@@ -1,15 +1,15 @@
 -- What a whole run of the judge does.
 use Rattle.std.specs.Prelude.{ℕ, ◌≡◌, List, [], ◌∷◌, ◌++◌, Option, None, Some, codes, decimal, flat_map, if◌then◌else◌}
 use Rattle.std.specs.Str.{bytes_eq}
-use Rattle.xc_input.specs.declared.Kind.{Kind}
-use Rattle.xc_input.specs.declared.Kind.TheVariants.{Plain, Colours, Bounds}
+use Rattle.xc_input.specs.declared.kind.Kind.{Kind}
+use Rattle.xc_input.specs.declared.kind.Kind.TheVariants.{Plain, Colours, Bounds}
 use Rattle.xc_input.specs.Named.{Named}
 use Rattle.xc_input.specs.Lines.{IsTextOf, lines_of}
 use Rattle.xc_list.specs.Listed.{first_fault, AreVerdicts}
-use Rattle.xc_list.specs.Texts.{Took, WasTold, Begins}
-use Rattle.xc_list.specs.declared.judge.Verdict.{Verdict}
-use Rattle.xc_list.specs.declared.judge.ListingFault.{ListingFault}
-use Rattle.xc_list.specs.declared.judge.ListingFault.TheVariants.{BadLine, UnknownOption, Memory}
+use Rattle.xc_list.specs.Texts.{SinkState, Took, WasTold, Begins}
+use Rattle.xc_list.specs.declared.checker.Verdict.{Verdict}
+use Rattle.xc_list.specs.declared.checker.ListingFault.{ListingFault}
+use Rattle.xc_list.specs.declared.checker.ListingFault.TheVariants.{BadLine, UnknownOption, Memory}
 
 -- the kind of problem that a number stands for
 abbrev pub numbered_kind : List ℕ → Option Kind
@@ -25,14 +25,17 @@ asked_kind (file ∷ []) = Some Bounds
 asked_kind (file ∷ number ∷ []) = numbered_kind number
 asked_kind _ = None
 
+-- what is told of wrong words
 abbrev pub usage_text : List ℕ
 usage_text = codes "Usage: dlxcheck PROBLEM [1|2|3]\n"
 
+-- what is told of a listing that gets no verdicts
 abbrev pub listing_fault_text : ListingFault → List ℕ
 listing_fault_text (BadLine n) = codes "Listing line " ++ decimal n ++ codes ": bad line.\n"
 listing_fault_text (UnknownOption n) = codes "Listing line " ++ decimal n ++ codes ": unknown option.\n"
 listing_fault_text Memory = codes "Out of memory.\n"
 
+-- a verdict as a line
 abbrev pub verdict_text : Verdict → List ℕ
 verdict_text v = decimal v.number ++ (if v.cover then codes ": cover\n" else codes ": not a cover\n")
 
@@ -47,27 +50,20 @@ pub record AreVerdictsOn (a : Named) (listing : List ℕ) (vs : List Verdict) : 
   pub verdicts : AreVerdicts a (lines_of listing) vs
 
 -- A listing was judged: a sink took the verdicts, and the status is theirs.
-pub record IsJudged (a : Named) (status : ℕ) (old new : ℕ × Option (List ℕ)) (listing : List ℕ) : Type 0 where
+pub record IsJudged (a : Named) (status : ℕ) (old new : SinkState) (listing : List ℕ) : Type 0 where
   pub verdicts : List Verdict
   pub right : AreVerdictsOn a listing verdicts
   pub is_status : judged_status verdicts ≡ status
   pub taken : Took old new (flat_map verdict_text verdicts)
 
 -- A listing has verdicts, and a sink took a beginning of them.
-pub record IsBegun (a : Named) (old new : Option (List ℕ)) (listing : List ℕ) : Type 0 where
+pub record IsBegun (a : Named) (old new : SinkState) (listing : List ℕ) : Type 0 where
   pub verdicts : List Verdict
   pub right : AreVerdictsOn a listing verdicts
   pub begun : Begins old new (flat_map verdict_text verdicts)
 
 -- A listing has a first fault, and a sink was told it.
-pub record IsFaulty (a : Named) (old new : ℕ × Option (List ℕ)) (listing : List ℕ) : Type 0 where
+pub record IsFaulty (a : Named) (old new : SinkState) (listing : List ℕ) : Type 0 where
   pub fault : ListingFault
   pub first : first_fault a (lines_of listing) ≡ Some fault
   pub told : WasTold old new (listing_fault_text fault)
-
--- the bytes stand for a problem of which this holds
-pub record StandsForOne (kind : Kind) (says : Named → Type 0) (bytes : List ℕ) : Type 0 where
-  pub named : Named
-  pub ignored : List ℕ
-  pub text : IsTextOf kind bytes named ignored
-  pub said : says named

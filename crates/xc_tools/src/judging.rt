@@ -3,9 +3,11 @@ ghost use Rattle.std.specs.Prelude.{◌≡◌, ◌≢◌, ℕ, ◌≤◌, ◌⊎
 ghost use Rattle.std.specs.Io.KnownBytes.{Keeps};
 ghost use Rattle.xc_input.specs.Calls.{Rose};
 ghost use Rattle.xc_list.specs.Texts.{Took, WasTold, Writes, Begins};
-ghost use Rattle.xc_input.specs.Pieces.{GaveAll};
-ghost use Rattle.xc_tools.specs.Solves.{IsFaultyText, IsFaultGiven};
-ghost use Rattle.xc_tools.specs.Judges.{asked_kind, numbered_kind, usage_text, verdict_text, judged_status, IsJudged, IsBegun, IsFaulty, StandsForOne};
+ghost use Rattle.xc_input.specs.Lines.{IsFirstFault};
+ghost use Rattle.xc_input.specs.Pieces.{GaveAll, IsPart};
+ghost use Rattle.xc_input.specs.declared.fault.InputError.TheVariants.{Fault};
+ghost use Rattle.xc_tools.specs.Solves.{FailedLast, StandsForOne, WasToldFault};
+ghost use Rattle.xc_tools.specs.Judges.{asked_kind, numbered_kind, usage_text, verdict_text, judged_status, IsJudged, IsBegun, IsFaulty};
 
 use crate::messages::{input_error, listing_fault};
 use crate::status::{
@@ -40,9 +42,7 @@ fn asked_kind(words: &[Vec<u8>]) -> Option<Kind>
 }
 
 fn write_verdict<S: Sink>(verdict: &Verdict, sink: &mut S) -> Result<(), SinkFault>
-    ensures text { Writes (S.failures sink.old, S.taken sink.old)
-        (S.failures sink.new, S.taken sink.new) result (verdict_text verdict.now) }
-    ensures stops { OnErr result (IsTrue (S.failed sink.new)) }
+    ensures { Writes (S.state sink.old) (S.state sink.new) result (verdict_text verdict.now) }
 {
     write_number(sink, verdict.number)?;
     if verdict.cover {
@@ -53,9 +53,7 @@ fn write_verdict<S: Sink>(verdict: &Verdict, sink: &mut S) -> Result<(), SinkFau
 }
 
 fn write_verdicts<S: Sink>(verdicts: &[Verdict], sink: &mut S) -> Result<(), SinkFault>
-    ensures text { Writes (S.failures sink.old, S.taken sink.old)
-        (S.failures sink.new, S.taken sink.new) result (flat_map verdict_text verdicts.now) }
-    ensures stops { OnErr result (IsTrue (S.failed sink.new)) }
+    ensures { Writes (S.state sink.old) (S.state sink.new) result (flat_map verdict_text verdicts.now) }
 {
     for verdict in verdicts {
         write_verdict(verdict, sink)?;
@@ -79,16 +77,14 @@ fn judged_status(verdicts: &[Verdict]) -> u8
 /// Writes and flushes the verdicts.
 fn tell_verdicts<O: Sink, E: Sink>(verdicts: &[Verdict], out: &mut O, err: &mut E) -> u8
     ensures only { (result ≡ 0) ⊎ (result ≡ 3) ⊎ (result ≡ 5) }
-    ensures settled { (result ≡ 0) ⊎ (result ≡ 5) → IsTrue (O.settled out.new) }
+    ensures settled { (result ≡ 0) ⊎ (result ≡ 5) → IsTrue (O.state out.new).settled }
     ensures quiet { (result ≡ 0) ⊎ (result ≡ 5) → err.new ≡ err.old }
-    ensures failing { O.failures out.new ≢ O.failures out.old → result ≡ 3 }
+    ensures failing { (O.state out.new).failures ≢ (O.state out.old).failures → result ≡ 3 }
     ensures told { (result ≡ 0) ⊎ (result ≡ 5) → (judged_status verdicts.now ≡ result) × Took
-        (O.failures out.old, O.taken out.old) (O.failures out.new, O.taken out.new)
-        (flat_map verdict_text verdicts.now) }
-    ensures failed { result ≡ 3 → Rose (O.failures out.old) (O.failures out.new)
-        × IsTrue (O.failed out.new) × WasTold (E.failures err.old, E.taken err.old) (E.failures err.new, E.taken err.new)
+        (O.state out.old) (O.state out.new) (flat_map verdict_text verdicts.now) }
+    ensures failed { result ≡ 3 → FailedLast (O.state out.old) (O.state out.new) × WasTold (E.state err.old) (E.state err.new)
         (codes "Write failed.\n") }
-    ensures begins { Begins (O.taken out.old) (O.taken out.new) (flat_map verdict_text verdicts.now) }
+    ensures begins { Begins (O.state out.old) (O.state out.new) (flat_map verdict_text verdicts.now) }
 {
     match write_verdicts(verdicts, out) {
         Ok(()) => {}
@@ -109,35 +105,31 @@ fn judge_listing<L: Source, O: Sink, E: Sink>(
     err: &mut E,
 ) -> u8
     ensures only { (result ≡ 0) ⊎ (result ≡ 2) ⊎ (result ≡ 3) ⊎ (result ≡ 4) ⊎ (result ≡ 5) }
-    ensures settled { (result ≡ 0) ⊎ (result ≡ 5) → IsTrue (O.settled out.new) }
+    ensures settled { (result ≡ 0) ⊎ (result ≡ 5) → IsTrue (O.state out.new).settled }
     ensures quiet { (result ≡ 0) ⊎ (result ≡ 5) → err.new ≡ err.old }
     ensures judged_given { (result ≡ 0) ⊎ (result ≡ 5) → (lines : List ℕ)
         × GaveAll (L.given listing.old) (L.given listing.new) lines
-        × IsJudged problem.now result (O.failures out.old, O.taken out.old) (O.failures out.new, O.taken out.new) lines }
+        × IsJudged problem.now result (O.state out.old) (O.state out.new) lines }
     ensures fault_given { result ≡ 2 → (lines : List ℕ)
         × GaveAll (L.given listing.old) (L.given listing.new) lines
-        × IsFaulty problem.now (E.failures err.old, E.taken err.old) (E.failures err.new, E.taken err.new) lines }
+        × IsFaulty problem.now (E.state err.old) (E.state err.new) lines }
     ensures failing { (L.failures listing.new ≢ L.failures listing.old)
-        ⊎ (O.failures out.new ≢ O.failures out.old) → result ≡ 3 }
+        ⊎ ((O.state out.new).failures ≢ (O.state out.old).failures) → result ≡ 3 }
     ensures clean { (result ≡ 0) ⊎ (result ≡ 5) → (L.failures listing.new ≡ L.failures listing.old)
-        × (O.failures out.new ≡ O.failures out.old) }
+        × ((O.state out.new).failures ≡ (O.state out.old).failures) }
     ensures judged { (result ≡ 0) ⊎ (result ≡ 5) → IfSome (L.rest listing.old) (IsJudged problem.now result
-        (O.failures out.old, O.taken out.old) (O.failures out.new, O.taken out.new)) }
+        (O.state out.old) (O.state out.new)) }
     ensures fault { result ≡ 2 → IfSome (L.rest listing.old) (IsFaulty problem.now
-        (E.failures err.old, E.taken err.old) (E.failures err.new, E.taken err.new)) }
-    ensures failed { result ≡ 3 →
-        (Rose (L.failures listing.old) (L.failures listing.new) × (out.new ≡ out.old)
-        × WasTold (E.failures err.old, E.taken err.old) (E.failures err.new, E.taken err.new)
-        (codes "Read failed.\n"))
-        ⊎ (Rose (O.failures out.old) (O.failures out.new) × IsTrue (O.failed out.new)
-        × WasTold (E.failures err.old, E.taken err.old) (E.failures err.new, E.taken err.new)
-        (codes "Write failed.\n")) }
+        (E.state err.old) (E.state err.new)) }
+    ensures failed { result ≡ 3 → (Rose (L.failures listing.old) (L.failures listing.new) × (out.new ≡ out.old)
+        × WasTold (E.state err.old) (E.state err.new) (codes "Read failed.\n"))
+        ⊎ (FailedLast (O.state out.old) (O.state out.new)
+        × WasTold (E.state err.old) (E.state err.new) (codes "Write failed.\n")) }
     ensures memory { result ≡ 4 → (out.new ≡ out.old)
-        × WasTold (E.failures err.old, E.taken err.old) (E.failures err.new, E.taken err.new)
-        (codes "Out of memory.\n") }
+        × WasTold (E.state err.old) (E.state err.new) (codes "Out of memory.\n") }
     ensures unread { (L.failures listing.new ≢ L.failures listing.old) ⊎ (result ≡ 2) → out.new ≡ out.old }
-    ensures begins { Keeps (O.taken out.old) (O.taken out.new)
-        ⊎ IfSome (L.rest listing.old) (IsBegun problem.now (O.taken out.old) (O.taken out.new)) }
+    ensures begins { Keeps (O.state out.old).taken (O.state out.new).taken
+        ⊎ IfSome (L.rest listing.old) (IsBegun problem.now (O.state out.old) (O.state out.new)) }
 {
     let text = match read_text(alloc, listing) {
         Ok(text) => text,
@@ -166,53 +158,46 @@ fn judge_kind<P: Source, L: Source, O: Sink, E: Sink>(
     err: &mut E,
 ) -> u8
     ensures only { (result ≡ 0) ⊎ (result ≡ 2) ⊎ (result ≡ 3) ⊎ (result ≡ 4) ⊎ (result ≡ 5) }
-    ensures settled { (result ≡ 0) ⊎ (result ≡ 5) → IsTrue (O.settled out.new) }
+    ensures settled { (result ≡ 0) ⊎ (result ≡ 5) → IsTrue (O.state out.new).settled }
     ensures quiet { (result ≡ 0) ⊎ (result ≡ 5) → err.new ≡ err.old }
     ensures judged_given { (result ≡ 0) ⊎ (result ≡ 5) → (text : List ℕ) × (lines : List ℕ)
         × GaveAll (P.given problem.old) (P.given problem.new) text
         × GaveAll (L.given listing.old) (L.given listing.new) lines
-        × StandsForOne kind (λ a. IsJudged a result
-        (O.failures out.old, O.taken out.old) (O.failures out.new, O.taken out.new) lines) text }
-    ensures fault_given { result ≡ 2 → IsFaultGiven kind (P.given problem.old) (P.given problem.new)
-        (E.failures err.old, E.taken err.old) (E.failures err.new, E.taken err.new)
+        × StandsForOne kind (λ a _. IsJudged a result (O.state out.old) (O.state out.new) lines) text }
+    ensures fault_given { result ≡ 2 → WasToldFault
+        (λ line fault. IsPart kind (P.given problem.old) (P.given problem.new) (Fault line fault))
+        (E.state err.old) (E.state err.new)
         ⊎ ((text : List ℕ) × (lines : List ℕ)
         × GaveAll (P.given problem.old) (P.given problem.new) text
         × GaveAll (L.given listing.old) (L.given listing.new) lines
-        × StandsForOne kind (λ a. IsFaulty a
-        (E.failures err.old, E.taken err.old) (E.failures err.new, E.taken err.new) lines) text) }
+        × StandsForOne kind (λ a _. IsFaulty a (E.state err.old) (E.state err.new) lines) text) }
     ensures failing { (P.failures problem.new ≢ P.failures problem.old)
         ⊎ (L.failures listing.new ≢ L.failures listing.old)
-        ⊎ (O.failures out.new ≢ O.failures out.old) → result ≡ 3 }
+        ⊎ ((O.state out.new).failures ≢ (O.state out.old).failures) → result ≡ 3 }
     ensures first { P.failures problem.new ≢ P.failures problem.old → (listing.new ≡ listing.old) × (out.new ≡ out.old) }
     ensures clean { (result ≡ 0) ⊎ (result ≡ 5) → (P.failures problem.new ≡ P.failures problem.old)
         × (L.failures listing.new ≡ L.failures listing.old)
-        × (O.failures out.new ≡ O.failures out.old) }
+        × ((O.state out.new).failures ≡ (O.state out.old).failures) }
     ensures judged { (result ≡ 0) ⊎ (result ≡ 5) → IfSome (P.rest problem.old) (λ text. IfSome (L.rest listing.old) (λ lines.
-        StandsForOne kind (λ a. IsJudged a result
-        (O.failures out.old, O.taken out.old) (O.failures out.new, O.taken out.new) lines) text)) }
+        StandsForOne kind (λ a _. IsJudged a result (O.state out.old) (O.state out.new) lines) text)) }
     ensures fault { result ≡ 2 → IfSome (P.rest problem.old) (λ text.
-        (IsFaultyText kind (E.failures err.old, E.taken err.old) (E.failures err.new, E.taken err.new) text
+        (WasToldFault (IsFirstFault kind text) (E.state err.old) (E.state err.new)
         × (listing.new ≡ listing.old))
-        ⊎ IfSome (L.rest listing.old) (λ lines. StandsForOne kind (λ a. IsFaulty a
-        (E.failures err.old, E.taken err.old) (E.failures err.new, E.taken err.new) lines) text)) }
-    ensures failed { result ≡ 3 →
-        (Rose (P.failures problem.old) (P.failures problem.new)
+        ⊎ IfSome (L.rest listing.old) (λ lines. StandsForOne kind (λ a _. IsFaulty a
+        (E.state err.old) (E.state err.new) lines) text)) }
+    ensures failed { result ≡ 3 → (Rose (P.failures problem.old) (P.failures problem.new)
         × (listing.new ≡ listing.old) × (out.new ≡ out.old)
-        × WasTold (E.failures err.old, E.taken err.old) (E.failures err.new, E.taken err.new)
-        (codes "Read failed.\n"))
+        × WasTold (E.state err.old) (E.state err.new) (codes "Read failed.\n"))
         ⊎ (Rose (L.failures listing.old) (L.failures listing.new) × (out.new ≡ out.old)
-        × WasTold (E.failures err.old, E.taken err.old) (E.failures err.new, E.taken err.new)
-        (codes "Read failed.\n"))
-        ⊎ (Rose (O.failures out.old) (O.failures out.new) × IsTrue (O.failed out.new)
-        × WasTold (E.failures err.old, E.taken err.old) (E.failures err.new, E.taken err.new)
-        (codes "Write failed.\n")) }
+        × WasTold (E.state err.old) (E.state err.new) (codes "Read failed.\n"))
+        ⊎ (FailedLast (O.state out.old) (O.state out.new)
+        × WasTold (E.state err.old) (E.state err.new) (codes "Write failed.\n")) }
     ensures memory { result ≡ 4 → (out.new ≡ out.old)
-        × WasTold (E.failures err.old, E.taken err.old) (E.failures err.new, E.taken err.new)
-        (codes "Out of memory.\n") }
+        × WasTold (E.state err.old) (E.state err.new) (codes "Out of memory.\n") }
     ensures unread { (L.failures listing.new ≢ L.failures listing.old) ⊎ (result ≡ 2) → out.new ≡ out.old }
-    ensures begins { Keeps (O.taken out.old) (O.taken out.new)
+    ensures begins { Keeps (O.state out.old).taken (O.state out.new).taken
         ⊎ IfSome (P.rest problem.old) (λ text. IfSome (L.rest listing.old) (λ lines.
-        StandsForOne kind (λ a. IsBegun a (O.taken out.old) (O.taken out.new) lines) text)) }
+        StandsForOne kind (λ a _. IsBegun a (O.state out.old) (O.state out.new) lines) text)) }
 {
     match read_problem(alloc, kind, problem) {
         Ok(read) => judge_listing(alloc, &read.problem, listing, out, err),
@@ -245,69 +230,59 @@ pub fn judge<P: Source, L: Source, O: Sink, E: Sink>(
 
     // The words are judged before anything else is touched.
     ensures refused { result ≡ 1 ↔ asked_kind (map (λ w. w.items) words.now) ≡ None }
-    ensures refused_told { result ≡ 1 → WasTold
-        (E.failures err.old, E.taken err.old) (E.failures err.new, E.taken err.new) usage_text }
+    ensures refused_told { result ≡ 1 → WasTold (E.state err.old) (E.state err.new) usage_text }
     ensures refused_kept { result ≡ 1 → (problem.new ≡ problem.old) × (listing.new ≡ listing.old)
         × (out.new ≡ out.old) }
 
     // The verdicts were taken whole and flushed, and nothing else was told.
-    ensures settled { (result ≡ 0) ⊎ (result ≡ 5) → IsTrue (O.settled out.new) }
+    ensures settled { (result ≡ 0) ⊎ (result ≡ 5) → IsTrue (O.state out.new).settled }
     ensures quiet { (result ≡ 0) ⊎ (result ≡ 5) → err.new ≡ err.old }
     ensures clean { (result ≡ 0) ⊎ (result ≡ 5) → (P.failures problem.new ≡ P.failures problem.old)
         × (L.failures listing.new ≡ L.failures listing.old)
-        × (O.failures out.new ≡ O.failures out.old) }
+        × ((O.state out.new).failures ≡ (O.state out.old).failures) }
     ensures judged { (result ≡ 0) ⊎ (result ≡ 5) → IfSome (asked_kind (map (λ w. w.items) words.now)) (λ kind.
         IfSome (P.rest problem.old) (λ text. IfSome (L.rest listing.old) (λ lines.
-        StandsForOne kind (λ a. IsJudged a result
-        (O.failures out.old, O.taken out.old) (O.failures out.new, O.taken out.new) lines) text))) }
+        StandsForOne kind (λ a _. IsJudged a result (O.state out.old) (O.state out.new) lines) text))) }
 
     ensures fault { result ≡ 2 → IfSome (asked_kind (map (λ w. w.items) words.now)) (λ kind.
-        IfSome (P.rest problem.old) (λ text.
-        (IsFaultyText kind (E.failures err.old, E.taken err.old) (E.failures err.new, E.taken err.new) text
+        IfSome (P.rest problem.old) (λ text. (WasToldFault (IsFirstFault kind text) (E.state err.old) (E.state err.new)
         × (listing.new ≡ listing.old))
-        ⊎ IfSome (L.rest listing.old) (λ lines. StandsForOne kind (λ a. IsFaulty a
-        (E.failures err.old, E.taken err.old) (E.failures err.new, E.taken err.new) lines) text))) }
+        ⊎ IfSome (L.rest listing.old) (λ lines. StandsForOne kind (λ a _. IsFaulty a
+        (E.state err.old) (E.state err.new) lines) text))) }
 
     // Whatever fails gives 3 and is told; the problem comes first, and then the listing.
     ensures judged_given { (result ≡ 0) ⊎ (result ≡ 5) → IfSome (asked_kind (map (λ w. w.items) words.now)) (λ kind.
         (text : List ℕ) × (lines : List ℕ)
         × GaveAll (P.given problem.old) (P.given problem.new) text
         × GaveAll (L.given listing.old) (L.given listing.new) lines
-        × StandsForOne kind (λ a. IsJudged a result
-        (O.failures out.old, O.taken out.old) (O.failures out.new, O.taken out.new) lines) text) }
+        × StandsForOne kind (λ a _. IsJudged a result (O.state out.old) (O.state out.new) lines) text) }
     ensures fault_given { result ≡ 2 → IfSome (asked_kind (map (λ w. w.items) words.now)) (λ kind.
-        IsFaultGiven kind (P.given problem.old) (P.given problem.new)
-        (E.failures err.old, E.taken err.old) (E.failures err.new, E.taken err.new)
+        WasToldFault (λ line fault. IsPart kind (P.given problem.old) (P.given problem.new) (Fault line fault))
+        (E.state err.old) (E.state err.new)
         ⊎ ((text : List ℕ) × (lines : List ℕ)
         × GaveAll (P.given problem.old) (P.given problem.new) text
         × GaveAll (L.given listing.old) (L.given listing.new) lines
-        × StandsForOne kind (λ a. IsFaulty a
-        (E.failures err.old, E.taken err.old) (E.failures err.new, E.taken err.new) lines) text)) }
+        × StandsForOne kind (λ a _. IsFaulty a (E.state err.old) (E.state err.new) lines) text)) }
     ensures failing { (P.failures problem.new ≢ P.failures problem.old)
         ⊎ (L.failures listing.new ≢ L.failures listing.old)
-        ⊎ (O.failures out.new ≢ O.failures out.old) → result ≡ 3 }
-    ensures failed { result ≡ 3 →
-        (Rose (P.failures problem.old) (P.failures problem.new)
+        ⊎ ((O.state out.new).failures ≢ (O.state out.old).failures) → result ≡ 3 }
+    ensures failed { result ≡ 3 → (Rose (P.failures problem.old) (P.failures problem.new)
         × (listing.new ≡ listing.old) × (out.new ≡ out.old)
-        × WasTold (E.failures err.old, E.taken err.old) (E.failures err.new, E.taken err.new)
-        (codes "Read failed.\n"))
+        × WasTold (E.state err.old) (E.state err.new) (codes "Read failed.\n"))
         ⊎ (Rose (L.failures listing.old) (L.failures listing.new) × (out.new ≡ out.old)
-        × WasTold (E.failures err.old, E.taken err.old) (E.failures err.new, E.taken err.new)
-        (codes "Read failed.\n"))
-        ⊎ (Rose (O.failures out.old) (O.failures out.new) × IsTrue (O.failed out.new)
-        × WasTold (E.failures err.old, E.taken err.old) (E.failures err.new, E.taken err.new)
-        (codes "Write failed.\n")) }
+        × WasTold (E.state err.old) (E.state err.new) (codes "Read failed.\n"))
+        ⊎ (FailedLast (O.state out.old) (O.state out.new)
+        × WasTold (E.state err.old) (E.state err.new) (codes "Write failed.\n")) }
     ensures memory { result ≡ 4 → (out.new ≡ out.old)
-        × WasTold (E.failures err.old, E.taken err.old) (E.failures err.new, E.taken err.new)
-        (codes "Out of memory.\n") }
+        × WasTold (E.state err.old) (E.state err.new) (codes "Out of memory.\n") }
     ensures first { P.failures problem.new ≢ P.failures problem.old → (listing.new ≡ listing.old) × (out.new ≡ out.old) }
 
     // Nothing was written without verdicts, and else a beginning of them.
     ensures unread { (L.failures listing.new ≢ L.failures listing.old) ⊎ (result ≡ 2) → out.new ≡ out.old }
-    ensures begins { Keeps (O.taken out.old) (O.taken out.new)
+    ensures begins { Keeps (O.state out.old).taken (O.state out.new).taken
         ⊎ IfSome (asked_kind (map (λ w. w.items) words.now)) (λ kind.
         IfSome (P.rest problem.old) (λ text. IfSome (L.rest listing.old) (λ lines.
-        StandsForOne kind (λ a. IsBegun a (O.taken out.old) (O.taken out.new) lines) text))) }
+        StandsForOne kind (λ a _. IsBegun a (O.state out.old) (O.state out.new) lines) text))) }
 {
     match asked_kind(words) {
         Some(kind) => judge_kind(alloc, kind, problem, listing, out, err),

@@ -1,4 +1,11 @@
 //! Whole runs of the programs, and the system's streams as sources and sinks.
+//!
+//! ```text
+//! let mut input = Incoming::new(Some(rt.stdin()));
+//! let mut out = Outgoing::new(rt.stdout());
+//! let mut err = Direct::new(rt.stderr());
+//! let status = solve(rt.alloc(), Kind::Plain, &words(&rt)?, &mut input, &mut out, &mut err);
+//! ```
 #![tactic(auto)]
 
 mod arguments;

@@ -20,8 +20,7 @@ pub(crate) const NOT_ALL_COVERS: u8 = 5;
 /// Writes a line in place of the last one, as far as that goes, and gives its status.
 pub(crate) fn refuse<E: Sink>(status: u8, text: &[u8], err: &mut E) -> u8
     ensures status { result ≡ status }
-    ensures told { WasTold
-        (E.failures err.old, E.taken err.old) (E.failures err.new, E.taken err.new) text.now }
+    ensures told { WasTold (E.state err.old) (E.state err.new) text.now }
 {
     let _ = write_all(err, text);
     status
@@ -30,9 +29,7 @@ pub(crate) fn refuse<E: Sink>(status: u8, text: &[u8], err: &mut E) -> u8
 /// Tells that memory is out, and gives the status of that: 4.
 pub fn out_of_memory<E: Sink>(err: &mut E) -> u8
     ensures status { result ≡ 4 }
-    ensures told { WasTold
-        (E.failures err.old, E.taken err.old) (E.failures err.new, E.taken err.new)
-        (codes "Out of memory.\n") }
+    ensures told { WasTold (E.state err.old) (E.state err.new) (codes "Out of memory.\n") }
 {
     refuse(NO_MEMORY, b"Out of memory.\n", err)
 }

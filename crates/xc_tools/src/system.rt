@@ -54,8 +54,7 @@ impl<R: Read + Drop> Source for Incoming<R> {
         ensures failures { self.new.failures ≡ counted (is_err result) self.old.failures }
         ensures bytes { ReadConsumes (left_of (option_map R.remaining self.old.reader))
             (left_of (option_map R.remaining self.new.reader)) result buf.new }
-        ensures given { IfOk result (λ n.
-            self.new.given.lines ≡ self.old.given.lines ++ take n buf.new ∷ []) }
+        ensures given { IfOk result (λ n. self.new.given.lines ≡ self.old.given.lines ++ take n buf.new ∷ []) }
         ensures given_kept { OnErr result (self.new.given.lines ≡ self.old.given.lines) }
 
         // What was not opened fails, and so does a reader that gave all that may be given.
@@ -250,13 +249,12 @@ fn put(held: &mut [u8], at: usize, bytes: &[u8])
 }
 
 impl<W: Write + Drop> Sink for Outgoing<W> {
-    ghost failures = { λ s. s.failures };
-
-    ghost failed = { λ s. s.failed };
-
-    ghost taken = { λ s. append_known (W.contents s.writer) (slice_range s.held s.start s.end) };
-
-    ghost settled = { λ s. nat_eq s.start s.end };
+    ghost state = { λ s. record {
+      failures = s.failures;
+      failed = s.failed;
+      taken = append_known (W.contents s.writer) (slice_range s.held s.start s.end);
+      settled = nat_eq s.start s.end;
+    } };
 
     #[inline(always)]
     fn write(&mut self, bytes: &[u8]) -> Result<usize, WriteFailed> {
@@ -312,13 +310,12 @@ impl<W: Write + Drop> Direct<W> {
 }
 
 impl<W: Write + Drop> Sink for Direct<W> {
-    ghost failures = { λ s. s.failures };
-
-    ghost failed = { λ s. s.failed };
-
-    ghost taken = { λ s. W.contents s.writer };
-
-    ghost settled = { λ s. true };
+    ghost state = { λ s. record {
+      failures = s.failures;
+      failed = s.failed;
+      taken = W.contents s.writer;
+      settled = true;
+    } };
 
     fn write(&mut self, bytes: &[u8]) -> Result<usize, WriteFailed> {
         match self.writer.write(bytes) {

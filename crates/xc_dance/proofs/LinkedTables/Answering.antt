@@ -12,10 +12,12 @@ use Rattle.xc_dance.specs.Links.ItemCells.{items_after, bound_at}
 use Rattle.xc_dance.specs.Links.Laid.{IsLaid}
 use Rattle.xc_dance.specs.Links.Answered.{named}
 use Rattle.xc_dance.proofs.MoveLemmas.ListLemmas.{next_above-gt}
-use Rattle.xc_dance.proofs.LinkedTables.Mapped.{get_map, get_within}
+use Rattle.xc_dance.proofs.LinkedTables.Mapped.{get_map}
 use Rattle.xc_dance.proofs.LinkedTables.RingStep.{row_get, row_len}
 use Rattle.xc_dance.proofs.LinkedTables.Covered.{open_or_covered}
 use Rattle.xc_dance.proofs.MoveLemmas.StateLemmas.{open_unpurified}
+use Rattle.std.proofs.lemmas.Option.{slice_get_within}
+use Rattle.std.proofs.Math.Bool.{and-false, and-true}
 
 -- ---- bounds
 
@@ -42,7 +44,7 @@ bound_place p t i is = let long = row_len (bound_at p t) (primary_count p + 1) i
 -- ---- own nodes
 
 pub own_place : (p : Puzzle) (i : ℕ) → IsLaid p → 0 < i → i ≤ item_count p → i < length (layout p)
-own_place p i laid pos le = get_within (layout p) i (own i) (laid.head i pos le)
+own_place p i laid pos le = slice_get_within (layout p) i (own i) (laid.head i pos le)
 
 pub own_top : (p : Puzzle) (t : List Move) (i : ℕ) → IsLaid p → 0 < i → i ≤ item_count p → get_or (nodes_after p t).top i 0 ≡ length (listed p t i)
 own_top p t i laid pos le = get_map (top_in (line_of p t)) (layout p) i (own i) (laid.head i pos le)
@@ -73,17 +75,9 @@ purified_read p t i legal = by_colour (purified i t) refl
 pub open_is : (t : List Move) (i : ℕ) → (not (is_covered i t) && not (is_some (purified i t))) ≡ is_open i t
 open_is t i = by_colour (purified i t) refl
   where
-    and_no : (a : Bool) → (a && false) ≡ false
-    and_no true = refl
-    and_no false = refl
-
-    and_yes : (a : Bool) → (a && true) ≡ a
-    and_yes true = refl
-    and_yes false = refl
-
     by_colour : (o : Option ℕ) → purified i t ≡ o → (not (is_covered i t) && not (is_some o)) ≡ is_open i t
-    by_colour None e = and_yes (not (is_covered i t)) ∙ sym (open_or_covered i t e)
-    by_colour (Some c) e = and_no (not (is_covered i t)) ∙ elim (is_open i t) as (λ b. is_open i t ≡ b → false ≡ b) [
+    by_colour None e = and-true (not (is_covered i t)) ∙ sym (open_or_covered i t e)
+    by_colour (Some c) e = and-false (not (is_covered i t)) ∙ elim (is_open i t) as (λ b. is_open i t ≡ b → false ≡ b) [
       | true ↦ λ f. (let g = open_unpurified i t f in cc)
       | false ↦ λ f. refl
     ] refl

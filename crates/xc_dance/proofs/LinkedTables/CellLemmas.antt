@@ -1,8 +1,8 @@
 -- A cell that is read is the field.
-use Rattle.std.proofs.Common.{◌≡◌, ◌≢◌, ◌⊎◌, inl, inr, ℕ, zero, suc, ◌+◌, ◌-◌, ◌<◌, ◌≤◌, ◌^◌, true, false, cond, ◌&&◌, eqb, leb, ltb, List, length, map, Option, Some, None, refl, ap, sym, ◌∙◌, arith, eqb-true, ne_eqb, le-leb, leb-true, lt-ltb, le-ltb, ltb-true, ltb-false}
-use Rattle.std.specs.Prelude.{ℤ, pos, neg_ℤ, slice_get, option_map, nat_le, nat_lt}
+use Rattle.std.proofs.Common.{◌≡◌, ◌≢◌, ◌⊎◌, inl, inr, ℕ, zero, suc, ◌+◌, ◌-◌, ◌<◌, ◌≤◌, ◌^◌, true, false, cond, ◌&&◌, eqb, leb, ltb, List, length, map, Option, Some, None, refl, ap, sym, ◌∙◌, arith, eqb-true, ne_eqb, leb-true, lt-ltb, le-ltb, ltb-true, ltb-false}
+use Rattle.std.specs.Prelude.{ℤ, pos, neg_ℤ, slice_get, option_map, nat_lt}
 use Rattle.std.specs.List.{range_with_len}
-use Rattle.std.proofs.lemmas.Bool.{eqb-false, false≢true}
+use Rattle.std.proofs.lemmas.Bool.{eqb-false, leb-false}
 use Rattle.std.proofs.lemmas.Option.{slice_get-map}
 use Rattle.std.proofs.lemmas.List.{length-map}
 use Rattle.xc_dance.specs.declared.dance.Move.{Move}
@@ -16,6 +16,7 @@ use Rattle.xc_dance.specs.Links.Laid.{IsLaid, IsFit}
 use Rattle.xc_dance.specs.Links.Read.{minus, color_read, top_read}
 use Rattle.xc_dance.proofs.LinkedTables.MarkedNodes.{colour_small}
 use Rattle.xc_dance.proofs.LinkedTables.GoodLines.{numbers_few}
+use Rattle.xc_dance.proofs.LinkedTables.ReadNumbers.{natural, read_small, read_large}
 
 row_read : (f : ℕ → ℕ) (a n q : ℕ) → slice_get (map f (range_with_len a n)) q ≡ cond (ltb q n) (Some (f (a + q))) None
 row_read f a zero q = ap (λ b. cond b (Some (f (a + q))) None) (sym (le-ltb q 0 (omega arith)))
@@ -33,9 +34,6 @@ row_read f a (suc n) (suc q) =
 row_at_zero : (f : ℕ → ℕ) (n q : ℕ) → slice_get (map f (range_with_len 0 n)) q ≡ cond (ltb q n) (Some (f q)) None
 row_at_zero f n q = let z : 0 + q ≡ q = omega arith in row_read f 0 n q ∙ ap (λ k. cond (ltb q n) (Some (f k)) None) z
 
-abbrev natural : ℕ → ℤ
-natural v = pos v
-
 -- the columns from 0 to the items and one more
 item_row : (p : Puzzle) (inner : ℕ → ℕ) (first last q : ℕ) →
     option_map natural (slice_get (map (λ k. cond (eqb k 0) first (cond (leb k (item_count p)) (inner k) last)) (range_with_len 0 (item_count p + 2))) q) ≡ item_cell p q inner first last
@@ -49,7 +47,7 @@ item_row p inner first last q =
           | true ↦ λ g. let h = eqb-true q (item_count p + 1) g in rw (lt-ltb q (item_count p + 2) (omega (arith, h))) refl
           | false ↦ λ g.
               let ne = eqb-false q (item_count p + 1) g in
-              let gt : item_count p < q = elim (ltb (item_count p) q) as (λ d. ltb (item_count p) q ≡ d → item_count p < q) [ true ↦ λ t. ltb-true (item_count p) q t | false ↦ λ t. let le = ltb-false (item_count p) q t in absurd (false≢true (sym f ∙ le-leb q (item_count p) (omega (arith, le)))) ] refl in
+              let gt = leb-false q (item_count p) f in
               rw (le-ltb q (item_count p + 2) (omega (arith, ne, gt))) refl
         ] refl
       ] refl
@@ -67,16 +65,8 @@ minus_is : (n : ℕ) → minus n ≡ neg_ℤ (pos n)
 minus_is zero = refl
 minus_is (suc n) = refl
 
-small_top : (v : ℕ) → v < 2147483648 → top_read v ≡ pos v
-small_top v h =
-    let no' : nat_le 2147483648 v ≡ false = elim (leb 2147483648 v) as (λ b. leb 2147483648 v ≡ b → b ≡ false) [ true ↦ λ e. let le = leb-true 2147483648 v e in absurd (omega (arith, h, le)) | false ↦ λ e. refl ] refl in
-    rw no' refl
-
 spacer_top : (n : ℕ) → top_read (2147483648 + n) ≡ neg_ℤ (pos n)
-spacer_top n =
-    let is : nat_le 2147483648 (2147483648 + n) ≡ true = le-leb 2147483648 (2147483648 + n) (omega arith) in
-    let rest : 2147483648 + n - 2147483648 ≡ n = omega arith in
-    rw is (ap minus rest ∙ minus_is n)
+spacer_top n = let rest : 2147483648 + n - 2147483648 ≡ n = omega arith in read_large (2147483648 + n) (omega arith) ∙ ap minus rest ∙ minus_is n
 
 map_at : {X Y : Type 0} (f g : X → Y) (o : Option X) → ((x : X) → o ≡ Some x → f x ≡ g x) → option_map f o ≡ option_map g o
 map_at f g None h = refl
@@ -98,9 +88,9 @@ top_cell p t q laid fit few = node_read p (top_in (line_of p t)) top_read (top_o
         let long = length-map (listed p t i) (λ o. o.number) in
         let a = numbers_few p t i in
         let b = fit.few in
-        small_top (length (listed p t i)) (omega (arith, long, a, b))
+        read_small (length (listed p t i)) (omega (arith, long, a, b))
     by_node (spacer n) e = spacer_top n
-    by_node (used o u) e = let r = laid.ranged q (used o u) u.item o e refl in small_top u.item (omega (arith, r.1, few))
+    by_node (used o u) e = let r = laid.ranged q (used o u) u.item o e refl in read_small u.item (omega (arith, r.1, few))
 
 pub ulink_cell : (p : Puzzle) (t : List Move) (q : ℕ) → IsLaid p → option_map natural (slice_get (nodes_after p t).ulink q) ≡ field_of p t Ulink q
 ulink_cell p t q laid = node_read p (ulink_in p (line_of p t)) natural (λ n. pos (ulink_of p t n)) q by_node
@@ -167,7 +157,7 @@ bound_row p f q ne =
     ∙ elim (leb q (primary_count p)) as (λ b. leb q (primary_count p) ≡ b → option_map natural (cond (ltb q (primary_count p + 1)) (Some (f q)) None) ≡ cond (true && b) (Some (pos (f q))) None) [
       | true ↦ λ e. let h = leb-true q (primary_count p) e in rw (lt-ltb q (primary_count p + 1) (omega (arith, h))) refl
       | false ↦ λ e.
-          let over : primary_count p < q = elim (ltb (primary_count p) q) as (λ d. ltb (primary_count p) q ≡ d → primary_count p < q) [ true ↦ λ t. ltb-true (primary_count p) q t | false ↦ λ t. let le = ltb-false (primary_count p) q t in absurd (false≢true (sym e ∙ le-leb q (primary_count p) (omega (arith, le)))) ] refl in
+          let over = leb-false q (primary_count p) e in
           rw (le-ltb q (primary_count p + 1) (omega (arith, over))) refl
     ] refl
     ∙ ap (λ b. cond (b && leb q (primary_count p)) (Some (pos (f q))) None) (sym gt)

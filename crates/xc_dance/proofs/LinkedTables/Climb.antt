@@ -1,56 +1,50 @@
 -- Down the nodes that Tweaks of one item took off: each option comes back into the lists of its other items, and under the node above it into its own.
 use Rattle.std.proofs.Common.{◌≡◌, ◌≢◌, ℕ, ◌+◌, ◌*◌, ◌<◌, ◌≤◌, ◌^◌, inr, Bool, true, false, not, cond, ◌&&◌, ◌||◌, eqb, List, [], ◌∷◌, ◌++◌, length, map, fold, filter, reverse, get_or, Option, Some, None, refl, ap, ap₂, sym, subst, ◌∙◌, arith, eqb-true, eq-eqb, ne_eqb}
 use Rattle.std.specs.List.{list_any}
-use Rattle.std.proofs.lemmas.Bool.{eqb-false, false≢true}
-use Rattle.std.proofs.lemmas.List.{length-map, reverse-append}
-use Rattle.std.proofs.lemmas.List.{map-append}
+use Rattle.std.proofs.lemmas.Bool.{eqb-false, false≢true, and_parts}
+use Rattle.std.proofs.lemmas.List.{length-map, reverse-append, map-append}
 use Rattle.xc_dance.specs.declared.dance.Move.{Move}
 use Rattle.xc_dance.specs.declared.links.nodes.Nodes.{Nodes}
 use Rattle.xc_dance.specs.Links.Span.{Span}
 use Rattle.xc_input.specs.Problem.{Puzzle, item_count, uses_of}
 use Rattle.xc_dance.specs.Moves.{is_open, AreLegal, listed_numbers}
 use Rattle.xc_dance.specs.Fields.{Node, unused, own, spacer, used, layout, link_place, is_in}
-use Rattle.xc_dance.specs.Links.Lines.{Line, put_at, mended}
+use Rattle.xc_dance.specs.Links.Lines.{Line}
 use Rattle.xc_dance.specs.Links.Steps.{shown, CanShowAll, CanShowNode, others_of, show_costs}
 use Rattle.xc_dance.specs.Links.Tweaking.{shown_unless}
 use Rattle.xc_dance.specs.Links.TweaksBack.{with_ulink, climbed, climb_cost, CanClimb}
-use Rattle.xc_dance.proofs.LinkedTables.OtherItems.{out_of}
-use Rattle.xc_dance.proofs.LinkedTables.UnmarkedCosts.{show_costs-are, unmarked-reverse, unmarked_items}
-use Rattle.xc_dance.proofs.LinkedTables.OneList.{gone_count}
-use Rattle.xc_dance.specs.Links.Cells.{slot_of, link_at, fixed_up, fixed_down, top_in, ulink_in, dlink_in, color_in, nodes_from, line_of, with_line}
-use Rattle.xc_dance.specs.Links.Others.{before_use, behind_use, other_items}
+use Rattle.xc_dance.proofs.LinkedTables.OtherItems.{out_of, or_swap, leaves, in_others}
+use Rattle.xc_dance.proofs.LinkedTables.UnmarkedCosts.{costs-are, shown_color, unmarked-reverse, unmarked_items}
+use Rattle.xc_dance.proofs.LinkedTables.OneOption.{gone_count, is_mark, IsApart, AllApart, all_at, line_here, line_there}
+use Rattle.xc_dance.specs.Links.Cells.{slot_of, link_at, fixed_up, fixed_down, top_in, ulink_in, dlink_in, color_in, nodes_from, line_of}
+use Rattle.xc_dance.specs.Links.Others.{before_use, behind_use}
 use Rattle.xc_dance.specs.Links.Laid.{IsName, Placed, IsLaid}
 use Rattle.xc_dance.specs.Links.Made.{IsFitted}
-use Rattle.xc_dance.proofs.LinkedTables.Mapped.{map_same, get_within}
+use Rattle.xc_dance.proofs.LinkedTables.Mapped.{map_same}
 use Rattle.xc_dance.proofs.LinkedTables.Undo.{same_nodes}
 use Rattle.xc_dance.proofs.LinkedTables.ReadyLemmas.{Stands}
 use Rattle.xc_dance.proofs.LinkedTables.OneNode.{IsMember}
 use Rattle.xc_dance.proofs.LinkedTables.LinkColumns.{set_link, get_down}
 use Rattle.xc_dance.proofs.LinkedTables.Sweep.{in_above, by_first, put_at-same, put_at-other}
 use Rattle.xc_dance.proofs.LinkedTables.Goods.{Named, IsGood, member}
-use Rattle.xc_dance.proofs.LinkedTables.OneOption.{is_mark, IsApart}
-use Rattle.xc_dance.proofs.LinkedTables.OtherItems.{leaves, AllApart, in_others}
 use Rattle.xc_dance.proofs.LinkedTables.OthersApart.{others_apart, own_apart, item_range}
 use Rattle.xc_dance.proofs.LinkedTables.GoodLines.{all_good, numbers_named}
 use Rattle.xc_dance.proofs.MoveLemmas.Members.{element_of}
-use Rattle.xc_dance.proofs.LinkedTables.LineSteps.{numbers_rise}
+use Rattle.xc_dance.proofs.MoveLemmas.Shortened.{rises_listed}
 use Rattle.xc_dance.proofs.LinkedTables.MarkedNodes.{stands_in}
-use Rattle.xc_dance.proofs.LinkedTables.MetOptions.{met_at, split_and}
+use Rattle.xc_dance.proofs.LinkedTables.MetOptions.{met_at}
 use Rattle.xc_dance.proofs.LinkedTables.Regained.{Regaining, NextBack, next_back}
-use Rattle.xc_dance.proofs.LinkedTables.OneReturn.{Returning, shown_walk, back_all, back_at}
+use Rattle.xc_dance.proofs.LinkedTables.OneReturn.{Returning, shown_walk, back_all}
 use Rattle.xc_dance.proofs.LinkedTables.Spacers.{others_are, can_show_node}
-use Rattle.xc_dance.proofs.LinkedTables.TweakStep.{line_here, line_there}
+use Rattle.std.proofs.lemmas.Option.{slice_get_within}
+use Rattle.std.proofs.Math.Bool.{or-true}
+use Rattle.xc_dance.proofs.LinkedTables.LineChanges.{put_at, mended, with_line, other_items}
 
 -- ---- lists turned round
 
 in_push : (k x : ℕ) (xs : List ℕ) → is_in k (xs ++ x ∷ []) ≡ (is_in k (x ∷ xs))
 in_push k x [] = refl
-in_push k x (y ∷ ys) = ap (λ b. eqb y k || b) (in_push k x ys) ∙ swap (eqb y k) (eqb x k) (is_in k ys)
-  where
-    swap : (a b c : Bool) → (a || (b || c)) ≡ (b || (a || c))
-    swap true true c = refl
-    swap true false c = refl
-    swap false b c = refl
+in_push k x (y ∷ ys) = ap (λ b. eqb y k || b) (in_push k x ys) ∙ or_swap (eqb y k) (eqb x k) (is_in k ys)
 
 pub in_reverse : (k : ℕ) (xs : List ℕ) → is_in k (reverse xs) ≡ is_in k xs
 in_reverse k [] = refl
@@ -163,7 +157,7 @@ apart_behind (j ∷ js) ks h = apart_behind js ks h.1
 
 in_behind : (j : ℕ) (js ks : List ℕ) → is_in j ks ≡ true → is_in j (js ++ ks) ≡ true
 in_behind j [] ks e = e
-in_behind j (i ∷ js) ks e = ap (λ b. eqb i j || b) (in_behind j js ks e) ∙ elim (eqb i j) as (λ b. (b || true) ≡ true) [ true ↦ refl | false ↦ refl ]
+in_behind j (i ∷ js) ks e = ap (λ b. eqb i j || b) (in_behind j js ks e) ∙ or-true (eqb i j)
 
 opened_open : (p : Puzzle) (t : List Move) (spans : List Span) (i : ℕ) (ln : ℕ → Line) (o : ℕ) (os : List ℕ) → AreLegal p t → IsFitted p spans → is_open i t ≡ true → 0 < o → Named p i o → is_in o (listed_numbers p t i) ≡ true
     → Climbing p t false i ln (o ∷ os) → Opened p t spans false i ln o os
@@ -179,7 +173,7 @@ opened_open p t spans i ln o os legal fit opened o_pos named within h =
     next_back (line_of p t j) (ln j) o (filter (leaves p col i j) os)
     (subst (Regaining (line_of p t j) (ln j)) (ap (λ b. cond b (o ∷ filter (leaves p col i j) os) (filter (leaves p col i j) os)) e) (h.others j pos le ne)) in
     let returning : (j : ℕ) → is_in j js ≡ true → Returning p col ln o j = λ j in_js.
-    let both = split_and _ _ (sym (in_others p o i j (fit.fit.distinct o)) ∙ in_js) in
+    let both = and_parts _ _ (sym (in_others p o i j (fit.fit.distinct o)) ∙ in_js) in
     let j_named : Named p j o = both.1 in
     let r = item_range p (uses_of p o) j (fit.fit.items o) j_named in
     let ne : j ≢ i = λ s. false≢true (sym (ap not (eq-eqb j i s)) ∙ both.0) in
@@ -212,7 +206,7 @@ opened_open p t spans i ln o os legal fit opened o_pos named within h =
     let place : ℕ → ℕ = λ j. link_place p j o in
     let ln1 : ℕ → Line = back_all p col o ln back in
     let at : (j : ℕ) → ln1 j ≡ cond (leaves p col i j o) (mended (ln j) o) (ln j) = λ j.
-    back_at p col o ln back j apart ∙ ap (λ b. cond (b && not (is_mark p col o j)) (mended (ln j) o) (ln j)) (in_reverse j js) in
+    all_at mended p col o ln back j apart ∙ ap (λ b. cond (b && not (is_mark p col o j)) (mended (ln j) o) (ln j)) (in_reverse j js) in
     let nodes : reverse (others_of spans x) ≡ map (λ j. link_place p j o) back = ap reverse (others_are p spans o i fit.spanned o_pos named) ∙ map_reverse (λ j. link_place p j o) js in
     record {
       ln1 = ln1;
@@ -224,7 +218,7 @@ opened_open p t spans i ln o os legal fit opened o_pos named within h =
       done = ap (fold shown t0) nodes ∙ w.done;
       own = at i ∙ ap (λ b. cond (b && not (is_mark p col o i)) (mended (ln i) o) (ln i)) (out_of i js (own_apart p i o fit.fit));
       cost =
-          ap (λ ks. show_costs t0 (reverse ks)) (others_are p spans o i fit.spanned o_pos named) ∙ show_costs-are t0 (reverse (map (λ j. link_place p j o) js))
+          ap (λ ks. show_costs t0 (reverse ks)) (others_are p spans o i fit.spanned o_pos named) ∙ costs-are shown shown_color t0 (reverse (map (λ j. link_place p j o) js))
           ∙ unmarked-reverse (map col (layout p)) (map (λ j. link_place p j o) js) ∙ unmarked_items p col o js;
       others = λ j pos le ne.
           elim (leaves p col i j o) as (λ b. leaves p col i j o ≡ b → Regaining (line_of p t j) (ln1 j) (filter (leaves p col i j) os)) [
@@ -274,8 +268,8 @@ by_opened p t spans covered i ln o os fit pos le within h m1 =
     let w : Line = raised (ln1 i) o in
     let ln' : ℕ → Line = with_line ln1 i w in
     let at_i : ln' i ≡ w = line_here ln1 i w in
-    let x_in = get_within (layout p) x here.node here.at in
-    let d_in = get_within (layout p) (link_place p i ((ln1 i).down o)) below.node below.at in
+    let x_in = slice_get_within (layout p) x here.node here.at in
+    let d_in = slice_get_within (layout p) (link_place p i ((ln1 i).down o)) below.node below.at in
     let down_long : length t1.dlink ≡ length (layout p) = length-map (layout p) (dlink_in p ln1) in
     let up_long : length t1.ulink ≡ length (layout p) = length-map (layout p) (ulink_in p ln1) in
     let leads : get_or t1.dlink x 0 ≡ link_place p i ((ln1 i).down o) = get_down p ln1 i o here in
@@ -309,5 +303,5 @@ pub climb_step : (p : Puzzle) (t : List Move) (spans : List Span) (covered : Boo
 climb_step p t spans true i ln o os legal fit pos le shut within h = by_opened p t spans true i ln o os fit pos le within h (opened_covered p t spans i ln o os h)
 climb_step p t spans false i ln o os legal fit pos le opened within h =
     let named : Named p i o = element_of (Named p i) o (listed_numbers p t i) (numbers_named p t i) within in
-    let o_pos : 0 < o = in_above 0 o (listed_numbers p t i) (numbers_rise p t i) within in
+    let o_pos : 0 < o = in_above 0 o (listed_numbers p t i) (rises_listed p t i) within in
     by_opened p t spans false i ln o os fit pos le within h (opened_open p t spans i ln o os legal fit opened o_pos named within h)

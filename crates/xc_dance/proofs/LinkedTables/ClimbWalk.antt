@@ -7,19 +7,20 @@ use Rattle.xc_dance.specs.Links.Span.{Span}
 use Rattle.xc_input.specs.Problem.{Puzzle, item_count}
 use Rattle.xc_dance.specs.Moves.{is_open, AreLegal, listed_numbers}
 use Rattle.xc_dance.specs.Fields.{Node, layout, link_place, is_in}
-use Rattle.xc_dance.specs.Links.Lines.{Line, IsLinkedFrom}
+use Rattle.xc_dance.specs.Links.Lines.{Line}
 use Rattle.xc_dance.specs.Links.TweaksBack.{climbed, IsClimb, climb_costs}
 use Rattle.xc_dance.specs.Links.Steps.{followed}
 use Rattle.xc_dance.specs.Links.Cells.{color_in, dlink_in, nodes_from, line_of}
 use Rattle.xc_dance.specs.Links.Made.{IsFitted}
-use Rattle.xc_dance.proofs.LinkedTables.Mapped.{get_within}
+use Rattle.std.proofs.lemmas.Option.{slice_get_within}
 use Rattle.xc_dance.proofs.LinkedTables.LinkColumns.{get_down}
 use Rattle.xc_dance.proofs.LinkedTables.Goods.{Named}
 use Rattle.xc_dance.proofs.LinkedTables.GoodLines.{numbers_named}
 use Rattle.xc_dance.proofs.MoveLemmas.Members.{element_of}
-use Rattle.xc_dance.proofs.LinkedTables.LineSteps.{numbers_rise}
+use Rattle.xc_dance.proofs.MoveLemmas.Shortened.{rises_listed}
 use Rattle.xc_dance.proofs.LinkedTables.Sweep.{in_above}
 use Rattle.xc_dance.proofs.LinkedTables.Climb.{Climbing, climb_step, back_writes}
+use Rattle.xc_dance.proofs.LinkedTables.LineChanges.{IsLinkedFrom}
 
 -- what the steps write
 abbrev pub climb_writes : Puzzle → (Node → ℕ) → Bool → ℕ → List ℕ → ℕ
@@ -49,13 +50,13 @@ climb_walk p t spans covered i ln a (o ∷ os) rest legal fit pos le opened amon
     let x = link_place p i o in
     let within : is_in o (listed_numbers p t i) ≡ true = among o (ap (λ b. b || is_in o os) (eq-eqb o o refl)) in
     let named : Named p i o = element_of (Named p i) o (listed_numbers p t i) (numbers_named p t i) within in
-    let o_pos : 0 < o = in_above 0 o (listed_numbers p t i) (numbers_rise p t i) within in
+    let o_pos : 0 < o = in_above 0 o (listed_numbers p t i) (rises_listed p t i) within in
     let here = fit.laid.there i o pos le (inr (o_pos, named)) in
     let s = climb_step p t spans covered i ln o os legal fit pos le opened within h in
     let t0 : Nodes = nodes_from p ln col in
     let t1 : Nodes = nodes_from p s.ln' col in
     let rest' = climb_walk p t spans covered i s.ln' o os rest legal fit pos le opened (λ z e. among z (elim (eqb o z) as (λ b. (b || is_in z os) ≡ true) [ true ↦ refl | false ↦ e ])) linked.3 s.climbing in
-    let x_in = get_within (layout p) x here.node here.at in
+    let x_in = slice_get_within (layout p) x here.node here.at in
     let long : length t1.dlink ≡ length (layout p) = length-map (layout p) (dlink_in p s.ln') in
     let next : get_or t1.dlink x 0 ≡ link_place p i ((line_of p t i).down o) = get_down p s.ln' i o here ∙ ap (link_place p i) (s.climbing.own_down o) in
     let places = map (link_place p i) os in
@@ -83,7 +84,7 @@ climb_follow p t spans i ln a (o ∷ os) rest fit pos le among linked down =
     let t0 : Nodes = nodes_from p ln (color_in p t) in
     let within : is_in o (listed_numbers p t i) ≡ true = among o (ap (λ b. b || is_in o os) (eq-eqb o o refl)) in
     let named : Named p i o = element_of (Named p i) o (listed_numbers p t i) (numbers_named p t i) within in
-    let o_pos : 0 < o = in_above 0 o (listed_numbers p t i) (numbers_rise p t i) within in
+    let o_pos : 0 < o = in_above 0 o (listed_numbers p t i) (rises_listed p t i) within in
     let here = fit.laid.there i o pos le (inr (o_pos, named)) in
     let first : link_place p i ((line_of p t i).down a) ≡ link_place p i o = ap (link_place p i) linked.1 in
     let next : get_or t0.dlink (link_place p i o) 0 ≡ link_place p i ((line_of p t i).down o) = get_down p ln i o here ∙ ap (link_place p i) (down o) in

@@ -6,10 +6,11 @@ use Rattle.xc_input.specs.Problem.{Puzzle}
 use Rattle.xc_dance.specs.Fields.{Node, layout, link_place}
 use Rattle.xc_dance.specs.Links.Lines.{Line}
 use Rattle.xc_dance.specs.Links.ListWalks.{with_colour}
-use Rattle.xc_dance.specs.Links.Cells.{slot_of, nodes_from, is_slot, with_color}
+use Rattle.xc_dance.specs.Links.Cells.{slot_of, nodes_from}
 use Rattle.xc_dance.specs.Links.Laid.{Placed, IsLaid}
 use Rattle.xc_dance.proofs.LinkedTables.Mapped.{get_map, map_put}
 use Rattle.xc_dance.proofs.LinkedTables.Undo.{same_nodes}
+use Rattle.xc_dance.proofs.LinkedTables.LineChanges.{is_slot, with_color}
 
 slot_here : (j x : ℕ) (s : Option (ℕ × ℕ)) → s ≡ Some (j, x) → is_slot j x s ≡ true
 slot_here j x s e = ap (is_slot j x) e ∙ ap₂ (λ a b. a && b) (eq-eqb j j refl) (eq-eqb x x refl)

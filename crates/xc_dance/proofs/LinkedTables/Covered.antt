@@ -8,8 +8,7 @@ use Rattle.xc_dance.specs.Moves.{is_open, is_covered, purified, AreLegal}
 use Rattle.xc_dance.specs.Fields.{left_of, right_of, last_below, ring_head, ring_of}
 use Rattle.xc_dance.specs.Links.ItemCells.{items_after, llink_at, rlink_at}
 use Rattle.xc_dance.specs.Links.Rings.{is_off}
-use Rattle.xc_dance.proofs.LinkedTables.RingStep.{row_get, row_len, spent_rlink, spent_left}
-use Rattle.xc_dance.proofs.LinkedTables.StillItems.{IsStill, still_rlink, still_left}
+use Rattle.xc_dance.proofs.LinkedTables.RingStep.{row_get, row_len, still_left, still_rlink}
 use Rattle.xc_dance.proofs.LinkedTables.Turned.{side, rlink_next, right_beside, left_beside, beside_place, beside_covered, open_uncovered, rlink_back, llink_item}
 
 -- what leads past a covered item
@@ -26,12 +25,10 @@ still_past p t m i l r h = record {
 pub past_covered : (p : Puzzle) (t : List Move) (i : ℕ) → AreLegal p t → 0 < i → i ≤ item_count p → is_covered i t ≡ true → IsPast p t i
 past_covered p [] i legal pos le e = absurd (false≢true e)
 past_covered p (Purify j c ∷ t) i legal pos le e =
-    let still : IsStill t (Purify j c) = record { covered = λ q. refl; spent = λ q. refl } in
-    still_past p t (Purify j c) i (still_left p t (Purify j c) i still) (λ q. still_rlink p t (Purify j c) q still) (past_covered p t i legal.1 pos le e)
+    still_past p t (Purify j c) i (still_left p t (Purify j c) i (λ q. refl)) (λ q. still_rlink p t (Purify j c) q (λ q. refl)) (past_covered p t i legal.1 pos le e)
 past_covered p (Tweak j ∷ t) i legal pos le e =
-    let still : IsStill t (Tweak j) = record { covered = λ q. refl; spent = λ q. refl } in
-    still_past p t (Tweak j) i (still_left p t (Tweak j) i still) (λ q. still_rlink p t (Tweak j) q still) (past_covered p t i legal.1 pos le e)
-past_covered p (Spend j ∷ t) i legal pos le e = still_past p t (Spend j) i (spent_left p t j i) (λ q. spent_rlink p t j q) (past_covered p t i legal.1 pos le e)
+    still_past p t (Tweak j) i (still_left p t (Tweak j) i (λ q. refl)) (λ q. still_rlink p t (Tweak j) q (λ q. refl)) (past_covered p t i legal.1 pos le e)
+past_covered p (Spend j ∷ t) i legal pos le e = still_past p t (Spend j) i (still_left p t (Spend j) i (λ q. refl)) (λ q. still_rlink p t (Spend j) q (λ q. refl)) (past_covered p t i legal.1 pos le e)
 past_covered p (Cover k ∷ t) i legal pos le e =
     let k_pos : 0 < k = let h = legal.0.0.0 in omega (arith, h) in
     let k_le : k ≤ item_count p = legal.0.0.1 in

@@ -3,40 +3,32 @@ use Rattle.std.proofs.Common.{◌≡◌, ℕ, zero, suc, ◌+◌, ◌-◌, ◌<�
 use Rattle.std.specs.Prelude.{slice_get, slice_index, is_some, flat_map}
 use Rattle.std.specs.List.{AllByRecursion}
 use Rattle.std.proofs.lemmas.Bool.{eqb-false}
-use Rattle.std.proofs.lemmas.List.{length-map, length-take-le}
+use Rattle.std.proofs.lemmas.List.{length-map, length-take-le, append-nil}
 use Rattle.std.proofs.lemmas.Option.{slice_get_within}
 use Rattle.xc_input.specs.declared.problem.Use.{Use}
 use Rattle.xc_input.specs.Problem.{Puzzle, Numbered, numbered_options, item_count, colour_in, uses_of, IsWithinLimits}
 use Rattle.xc_dance.specs.declared.links.nodes.Nodes.{Nodes}
 use Rattle.xc_dance.specs.Fields.{Node, unused, own, spacer, used, layout, nodes_of, link_place}
-use Rattle.xc_dance.specs.Links.Lines.{Line, put_at}
+use Rattle.xc_dance.specs.Links.Lines.{Line}
 use Rattle.xc_dance.specs.Links.Laid.{IsName, Placed, IsLaid, IsFit}
-use Rattle.xc_dance.specs.Links.Cells.{top_in, color_in, fixed_up, fixed_down, nodes_from, with_line}
+use Rattle.xc_dance.specs.Links.Cells.{top_in, color_in, fixed_up, fixed_down, nodes_from}
 use Rattle.xc_dance.specs.Links.FirstNodes.{entered}
-use Rattle.xc_dance.proofs.LinkedTables.Mapped.{get_map, get_within, map_same}
-use Rattle.xc_dance.proofs.LinkedTables.LaidLemmas.{NodeOk, layout_ok, each_get, each_append, is_laid}
+use Rattle.xc_dance.proofs.LinkedTables.Mapped.{get_map}
+use Rattle.xc_dance.proofs.LinkedTables.LaidLemmas.{NodeOk, layout_ok, is_laid}
 use Rattle.xc_dance.proofs.LinkedTables.PlaceLemmas.{front, length_front, layout_small}
 use Rattle.xc_dance.proofs.LinkedTables.OptionReach.{tail_from, get_behind}
-use Rattle.xc_dance.proofs.LinkedTables.LaidNodes.{same_columns}
+use Rattle.xc_dance.proofs.LinkedTables.Undo.{same_nodes}
 use Rattle.xc_dance.proofs.LinkedTables.LinkColumns.{column, put_link, column_same, get_link, set_link, set_top, get_len}
 use Rattle.xc_dance.proofs.LinkedTables.GrownLines.{grown, grown_all, grown_more, grown_last}
 use Rattle.xc_dance.proofs.LinkedTables.HeldOptions.{held, held_more, held_each, lines_of, lines_few}
+use Rattle.xc_input.proofs.EachElement.{each-append, each_at}
+use Rattle.std.proofs.Math.Path.{fun_ext}
+use Rattle.xc_dance.proofs.LinkedTables.LineChanges.{put_at, with_line}
 
 -- ---- tables of lines that are the same
 
-top_same : (ln lm : ℕ → Line) → ((j : ℕ) → ln j ≡ lm j) → (n : Node) → top_in ln n ≡ top_in lm n
-top_same ln lm h unused = refl
-top_same ln lm h (own i) = ap (λ (l : Line). l.len) (h i)
-top_same ln lm h (spacer n) = refl
-top_same ln lm h (used o u) = refl
-
 pub nodes_same : (p : Puzzle) (ln lm : ℕ → Line) (col : Node → ℕ) → ((j : ℕ) → ln j ≡ lm j) → nodes_from p ln col ≡ nodes_from p lm col
-nodes_same p ln lm col h =
-    same_columns (nodes_from p ln col) (nodes_from p lm col)
-    (map_same (top_in lm) (top_in ln) (layout p) (λ q n e. top_same ln lm h n))
-    (column_same p (λ j x. (lm j).up x) (λ j x. (ln j).up x) (fixed_up p) (λ j x. ap (λ (l : Line). l.up x) (h j)))
-    (column_same p (λ j x. (lm j).down x) (λ j x. (ln j).down x) (fixed_down p) (λ j x. ap (λ (l : Line). l.down x) (h j)))
-    refl
+nodes_same p ln lm col h = ap (λ (lines : ℕ → Line). nodes_from p lines col) (fun_ext h)
 
 -- ---- one node enters
 
@@ -67,7 +59,7 @@ entered-is p ln col q o u laid e here head last item =
     let count : get_or tops j 0 ≡ (ln j).len = get_len p ln j laid item.0 item.1 in
     let more = grown (ln j) o in
     let once = put_link up j (put_at (up j) o v) in
-    same_columns (entered (nodes_from p ln col) q) (nodes_from p (with_line ln j more) col)
+    same_nodes (entered (nodes_from p ln col) q) (nodes_from p (with_line ln j more) col)
     (ap (λ k. set tops k (get_or tops k 0 + 1)) is_i ∙ ap (λ n. set tops j (n + 1)) count ∙ sym (set_top p ln j more laid item.0 item.1))
     (ap (λ k. set (set ups q (get_or ups i 0)) k q) is_i
     ∙ ap (λ w. set (set ups q w) j q) is_u
@@ -86,13 +78,9 @@ take_get (suc k) i [] x e = cc
 take_get (suc k) zero (y ∷ xs) x e = e
 take_get (suc k) (suc i) (y ∷ xs) x e = take_get k i xs x e
 
-append_none : {X : Type 0} (xs : List X) → xs ++ [] ≡ xs
-append_none [] = refl
-append_none (x ∷ xs) = ap (λ l. x ∷ l) (append_none xs)
-
 use_name : (p : Puzzle) (k o j : ℕ) (u : Use) → IsFit p → slice_get (layout p) k ≡ Some (used o u) → u.item ≡ j → IsName p j o
 use_name p k o j u fit e same =
-    let ok : NodeOk p (used o u) = each_get (NodeOk p) (layout p) k (used o u) (layout_ok p fit) e in
+    let ok : NodeOk p (used o u) = each_at (NodeOk p) (layout p) k (used o u) (layout_ok p fit) e in
     inr (ok.0, ap (λ i. is_some (colour_in (uses_of p o) i)) (sym same) ∙ ap is_some ok.2)
 
 -- an item's line once one node more is entered
@@ -113,7 +101,7 @@ line_then p q o u e k =
           ∙ ap (λ b. grown_all (held k ns ++ cond b (o ∷ []) [])) (sym self) ∙ ap grown_all (sym next)
       | false ↦ λ f.
           let other : eqb j k ≡ false = ne_eqb j k (λ g. eqb-false k j f (sym g)) in
-          ap make f ∙ ap grown_all (sym (append_none (held k ns))) ∙ ap (λ b. grown_all (held k ns ++ cond b (o ∷ []) [])) (sym other) ∙ ap grown_all (sym next)
+          ap make f ∙ ap grown_all (sym (append-nil (held k ns))) ∙ ap (λ b. grown_all (held k ns ++ cond b (o ∷ []) [])) (sym other) ∙ ap grown_all (sym next)
     ] refl
 
 -- what entering the node at q asks, and what it gives
@@ -141,8 +129,8 @@ use_step p q o u fit limits e =
     let name : IsName p j ((ln j).up 0) = grown_last (IsName p j) (held j ns) (inl refl) (held_each (IsName p j) j ns (λ k x v f same. use_name p k x j v fit (take_get q k (layout p) (used x v) f) same)) in
     let last = laid.there j ((ln j).up 0) range.0 range.1 name in
     let is_i : get_or tops q 0 ≡ j = get_map (top_in ln) (layout p) q (used o u) e in
-    let at_head = get_within (layout p) j (own j) (laid.head j range.0 range.1) in
-    let at_last = get_within (layout p) (link_place p j ((ln j).up 0)) last.node last.at in
+    let at_head = slice_get_within (layout p) j (own j) (laid.head j range.0 range.1) in
+    let at_last = slice_get_within (layout p) (link_place p j ((ln j).up 0)) last.node last.at in
     let is_u : get_or ups (get_or tops q 0) 0 ≡ link_place p j ((ln j).up 0) = ap (λ k. get_or ups k 0) is_i ∙ get_link p (λ k x. (ln k).up x) (fixed_up p) j 0 head in
     let count : get_or tops (get_or tops q 0) 0 ≡ (ln j).len = ap (λ k. get_or tops k 0) is_i ∙ get_len p ln j laid range.0 range.1 in
     let within = slice_get_within (layout p) q (used o u) e in
@@ -164,7 +152,7 @@ pub spacer_step : (p : Puzzle) (q n : ℕ) → slice_get (layout p) q ≡ Some (
     nodes_from p (lines_of (take q (layout p))) (color_in p []) ≡ nodes_from p (lines_of (take (q + 1) (layout p))) (color_in p [])
 spacer_step p q n e =
     nodes_same p (lines_of (take q (layout p))) (lines_of (take (q + 1) (layout p))) (color_in p [])
-    (λ k. ap grown_all (sym (held_more k q (layout p) (spacer n) e ∙ append_none (held k (take q (layout p))))))
+    (λ k. ap grown_all (sym (held_more k q (layout p) (spacer n) e ∙ append-nil (held k (take q (layout p))))))
 
 pub spacer_top : (p : Puzzle) (ln : ℕ → Line) (col : Node → ℕ) (q n : ℕ) → slice_get (layout p) q ≡ Some (spacer n) → slice_index (nodes_from p ln col).top q ≡ 2147483648 + n
 spacer_top p ln col q n e = get_map (top_in ln) (layout p) q (spacer n) e
@@ -183,10 +171,10 @@ all_used o (u ∷ us) = (tt, all_used o us)
 
 all_behind : (os : List Numbered) → AllByRecursion IsUseOrSpacer (flat_map nodes_of os)
 all_behind [] = tt
-all_behind (x ∷ os) = each_append IsUseOrSpacer (nodes_of x) (flat_map nodes_of os) (each_append IsUseOrSpacer (map (used x.number) x.uses) (spacer x.number ∷ []) (all_used x.number x.uses) (tt, tt)) (all_behind os)
+all_behind (x ∷ os) = each-append IsUseOrSpacer (nodes_of x) (flat_map nodes_of os) (each-append IsUseOrSpacer (map (used x.number) x.uses) (spacer x.number ∷ []) (all_used x.number x.uses) (tt, tt)) (all_behind os)
 
 pub behind_items : (p : Puzzle) (q : ℕ) (n : Node) → item_count p + 1 ≤ q → slice_get (layout p) q ≡ Some n → IsUseOrSpacer n
 behind_items p q n le e =
     let size = length_front p in
-    each_get IsUseOrSpacer (tail_from 0 p.options) (q - (item_count p + 1)) n (tt, all_behind (numbered_options p))
+    each_at IsUseOrSpacer (tail_from 0 p.options) (q - (item_count p + 1)) n (tt, all_behind (numbered_options p))
     (sym (get_behind (front p) (tail_from 0 p.options) q (q - (item_count p + 1)) (omega (arith, size, le))) ∙ e)

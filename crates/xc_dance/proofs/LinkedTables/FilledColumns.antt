@@ -3,6 +3,7 @@ use Rattle.std.proofs.Common.{◌≡◌, ℕ, zero, suc, ◌+◌, ◌<◌, ◌�
 use Rattle.std.specs.Prelude.{slice_get}
 use Rattle.std.specs.List.{range_with_len}
 use Rattle.xc_dance.specs.Links.FirstNodes.{filled}
+use Rattle.std.proofs.lemmas.Option.{same_Some}
 
 pub filled_none : {X : Type 0} (f : X → ℕ) (ns : List X) → replicate (length ns) 0 ≡ filled f ns 0
 filled_none f [] = refl
@@ -18,12 +19,9 @@ length-filled f [] k = refl
 length-filled f (n ∷ ns) zero = ap suc (length-filled f ns zero)
 length-filled f (n ∷ ns) (suc k) = ap suc (length-filled f ns k)
 
-some_same : {X : Type 0} (x y : X) → Some x ≡ Some y → x ≡ y
-some_same x y e = cc
-
 set_suc : {X : Type 0} (f : X → ℕ) (ns : List X) (k : ℕ) (n : X) → slice_get ns k ≡ Some n → set (filled f ns k) k (f n) ≡ filled f ns (suc k)
 set_suc f [] k n e = cc
-set_suc f (m ∷ ns) zero n e = ap (λ v. v ∷ filled f ns 0) (ap f (sym (some_same m n e)))
+set_suc f (m ∷ ns) zero n e = ap (λ v. v ∷ filled f ns 0) (ap f (sym (same_Some m n e)))
 set_suc f (m ∷ ns) (suc k) n e = ap (λ l. f m ∷ l) (set_suc f ns k n e)
 
 -- one cell more

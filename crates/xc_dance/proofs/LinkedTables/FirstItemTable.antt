@@ -4,20 +4,12 @@ use Rattle.std.specs.Prelude.{slice_get, unwrap_or}
 use Rattle.std.specs.List.{range_with_len, AllByRecursion}
 use Rattle.std.proofs.lemmas.List.FromFn.{length-range_with_len}
 use Rattle.std.proofs.lemmas.List.Elements.{recursion_from_All}
-use Rattle.xc_dance.specs.declared.links.items.Items.{Items}
 use Rattle.xc_input.specs.Problem.{Puzzle, Bounds, primary_count, item_count, high_at, low_at, IsValid, AreSoundBounds}
 use Rattle.xc_dance.specs.Links.ItemCells.{llink_at, rlink_at, bound_at, slack_at, items_after}
 use Rattle.xc_dance.specs.Links.FirstNodes.{filled}
 use Rattle.xc_dance.specs.Links.FirstItems.{linked_to, bound_to}
 use Rattle.xc_dance.proofs.LinkedTables.FilledColumns.{filled_none, filled_all, length-filled, filled_more, range_get}
-
-make : List ℕ → List ℕ → List ℕ → List ℕ → Items
-make a b c d = record { llink = a; rlink = b; bound = c; slack = d }
-
-pub same_items : (s t : Items) → s.llink ≡ t.llink → s.rlink ≡ t.rlink → s.bound ≡ t.bound → s.slack ≡ t.slack → s ≡ t
-unfolding make
-same_items s t a b c d =
-    ap (λ w. make w s.rlink s.bound s.slack) a ∙ ap (λ x. make t.llink x s.bound s.slack) b ∙ ap (λ y. make t.llink t.rlink y s.slack) c ∙ ap (make t.llink t.rlink t.bound) d
+use Rattle.xc_dance.proofs.LinkedTables.RingStep.{same_items}
 
 abbrev zeros : ℕ → List ℕ
 zeros n = replicate n 0

@@ -1,5 +1,5 @@
 -- The rings of items before any move: who stands beside whom.
-use Rattle.std.proofs.Common.{◌≡◌, ◌≢◌, ℕ, zero, suc, ◌+◌, ◌-◌, ◌<◌, ◌≤◌, true, false, not, cond, ltb, leb, nat_lt, List, [], ◌∷◌, filter, find, Some, refl, ap, sym, ◌∙◌, arith, ne_eqb, le-ltb, ltb-true, ltb-false, le-leb, leb-true}
+use Rattle.std.proofs.Common.{◌≡◌, ◌≢◌, ℕ, zero, suc, ◌+◌, ◌-◌, ◌<◌, ◌≤◌, true, false, not, cond, ltb, nat_lt, List, [], ◌∷◌, filter, find, Some, refl, ap, sym, ◌∙◌, arith, ne_eqb, le-ltb, ltb-true, ltb-false, le-leb}
 use Rattle.std.specs.Prelude.{unwrap_or, nat_le}
 use Rattle.std.specs.List.{range_with_len}
 use Rattle.xc_input.specs.Problem.{Puzzle, primary_count, item_count}
@@ -7,6 +7,7 @@ use Rattle.xc_dance.specs.Moves.{is_covered}
 use Rattle.xc_dance.specs.Fields.{last_below, first_above, first_of, last_of, ring_of, ring_head, left_of, right_of}
 use Rattle.xc_dance.specs.Links.ItemCells.{llink_at, rlink_at}
 use Rattle.xc_dance.proofs.LinkedTables.Sweep.{last_below-more, last_of-more}
+use Rattle.std.proofs.lemmas.Bool.{lt-leb}
 
 -- ---- neighbours in a row of numbers
 
@@ -49,7 +50,7 @@ low_test : (i n : ℕ) → i ≤ n → nat_le i n ≡ true
 low_test i n le = le-leb i n le
 
 high_test : (i n : ℕ) → n < i → nat_le i n ≡ false
-high_test i n lt = elim (leb i n) as (λ b. leb i n ≡ b → b ≡ false) [ true ↦ λ e. let le = leb-true i n e in absurd (omega (arith, lt, le)) | false ↦ λ e. refl ] refl
+high_test i n lt = lt-leb i n lt
 
 low_ring : (p : Puzzle) (i : ℕ) → i ≤ primary_count p → ring_of p [] i ≡ range_with_len 1 (primary_count p)
 low_ring p i le = keep (cond (nat_le i (primary_count p)) (range_with_len 1 (primary_count p)) (range_with_len (primary_count p + 1) p.secondary)) ∙ ap (λ b. cond b (range_with_len 1 (primary_count p)) (range_with_len (primary_count p + 1) p.secondary)) (low_test i (primary_count p) le)

@@ -6,6 +6,7 @@ use Rattle.std.proofs.lemmas.List.Elements.{recursion_from_All}
 use Rattle.xc_input.specs.declared.problem.Use.{Use}
 use Rattle.xc_input.specs.Problem.{Puzzle, colour_in, uses_of, item_count, IsValid, IsSoundOption, IsSoundUse}
 use Rattle.xc_dance.specs.Links.Laid.{AreDistinct, IsFit}
+use Rattle.xc_input.proofs.EachElement.{each_weaker}
 
 absent : (us : List Use) (i : ℕ) (d : Use) → ((j : ℕ) → j < length us → i ≢ (get_or us j d).item) → is_some (colour_in us i) ≡ false
 absent [] i d h = refl
@@ -29,25 +30,21 @@ at_option : (P : List Use → Type 0) (p : Puzzle) (o : ℕ) → P [] → AllByR
 at_option P p zero nil a = nil
 at_option P p (suc k) nil a = at_place P p.options k nil a
 
-each_one : {X : Type 0} (P Q : X → Type 0) (xs : List X) → ((x : X) → P x → Q x) → AllByRecursion P xs → AllByRecursion Q xs
-each_one P Q [] h a = tt
-each_one P Q (x ∷ xs) h a = (h x a.0, each_one P Q xs h a.1)
-
 abbrev InRange : Puzzle → Use → Type 0
 InRange p u = (0 < u.item) × (u.item ≤ item_count p)
 
 sound_items : (p : Puzzle) (us : List Use) → IsSoundOption p us → AllByRecursion (InRange p) us
-sound_items p us s = each_one (IsSoundUse p) (InRange p) us (λ u h. (let a = h.0.0 in omega (arith, a), h.0.1)) (recursion_from_All (IsSoundUse p) us s.sound)
+sound_items p us s = each_weaker (IsSoundUse p) (InRange p) us (λ u h. (let a = h.0.0 in omega (arith, a), h.0.1)) (recursion_from_All (IsSoundUse p) us s.sound)
 
 -- the rules of a problem say nothing of the colours: they are to be below the mark
 pub is_fit : (p : Puzzle) → IsValid p → All (λ us. All (λ u. u.colour < 4294967295) us) p.options → length p.options < 2 ^ 30 → item_count p < 2 ^ 31 → IsFit p
 is_fit p valid colours few small =
     let sound : AllByRecursion (IsSoundOption p) p.options = recursion_from_All (IsSoundOption p) p.options valid.options in
     record {
-      distinct = λ o. at_option AreDistinct p o tt (each_one (IsSoundOption p) AreDistinct p.options (λ us s. distinct_from us s.distinct) sound);
-      items = λ o. at_option (λ us. AllByRecursion (InRange p) us) p o tt (each_one (IsSoundOption p) (λ us. AllByRecursion (InRange p) us) p.options (sound_items p) sound);
+      distinct = λ o. at_option AreDistinct p o tt (each_weaker (IsSoundOption p) AreDistinct p.options (λ us s. distinct_from us s.distinct) sound);
+      items = λ o. at_option (λ us. AllByRecursion (InRange p) us) p o tt (each_weaker (IsSoundOption p) (λ us. AllByRecursion (InRange p) us) p.options (sound_items p) sound);
       colours = λ o. at_option (λ us. AllByRecursion (λ u. u.colour < 4294967295) us) p o tt
-          (each_one (λ us. All (λ u. u.colour < 4294967295) us) (λ us. AllByRecursion (λ u. u.colour < 4294967295) us) p.options (λ us h. recursion_from_All (λ u. u.colour < 4294967295) us h)
+          (each_weaker (λ us. All (λ u. u.colour < 4294967295) us) (λ us. AllByRecursion (λ u. u.colour < 4294967295) us) p.options (λ us h. recursion_from_All (λ u. u.colour < 4294967295) us h)
           (recursion_from_All (λ us. All (λ u. u.colour < 4294967295) us) p.options colours));
       few = few;
       small = small;

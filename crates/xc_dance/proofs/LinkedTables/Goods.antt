@@ -3,8 +3,8 @@ use Rattle.std.proofs.Common.{◌≡◌, ℕ, ◌+◌, ◌<◌, ◌≤◌, ◌^�
 use Rattle.std.specs.Prelude.{is_some}
 use Rattle.std.specs.List.{AllByRecursion}
 use Rattle.xc_input.specs.Problem.{Puzzle, item_count, colour_in, uses_of}
-use Rattle.xc_dance.specs.Links.Lines.{Line, cut, IsLinkedFrom}
-use Rattle.xc_dance.specs.Links.Cells.{with_line}
+use Rattle.xc_dance.specs.Links.Lines.{Line}
+use Rattle.xc_dance.proofs.LinkedTables.LineChanges.{with_line, cut, IsLinkedFrom}
 use Rattle.xc_dance.specs.Links.Laid.{IsName}
 use Rattle.xc_dance.proofs.LinkedTables.Sweep.{put_at-other, cut-linked}
 use Rattle.xc_dance.proofs.LinkedTables.OneNode.{IsMember}

@@ -1,11 +1,13 @@
 -- A line to which members come one by one, each as the last.
-use Rattle.std.proofs.Common.{◌≡◌, ℕ, ◌+◌, ◌<◌, ◌≤◌, List, [], ◌∷◌, ◌++◌, length, fold, refl, ap, sym, subst, ◌∙◌, arith}
+use Rattle.std.proofs.Common.{◌≡◌, ℕ, ◌+◌, ◌<◌, ◌≤◌, List, [], ◌∷◌, ◌++◌, length, fold, refl, sym, subst, ◌∙◌, arith}
 use Rattle.std.specs.List.{AllByRecursion}
 use Rattle.std.proofs.lemmas.List.Sums.{fold-append}
 use Rattle.xc_dance.specs.Rising.{Rises}
-use Rattle.xc_dance.specs.Links.Lines.{Line, put_at, IsLinkedFrom}
+use Rattle.xc_dance.specs.Links.Lines.{Line}
 use Rattle.xc_dance.specs.Links.FirstNodes.{blank}
 use Rattle.xc_dance.proofs.LinkedTables.Sweep.{put_at-same, put_at-other}
+use Rattle.std.proofs.lemmas.List.{append-nil, append_assoc}
+use Rattle.xc_dance.proofs.LinkedTables.LineChanges.{put_at, IsLinkedFrom}
 
 -- member o comes last
 abbrev pub grown : Line → ℕ → Line
@@ -58,21 +60,13 @@ linked_more l a o (x ∷ xs) h lt none =
       linked_more l x o xs h.3 lt none,
     )
 
-pub append_one : {X : Type 0} (xs : List X) (y : X) (ys : List X) → (xs ++ y ∷ []) ++ ys ≡ xs ++ y ∷ ys
-append_one [] y ys = refl
-append_one (x ∷ xs) y ys = ap (λ l. x ∷ l) (append_one xs y ys)
-
-pub append_none : {X : Type 0} (xs : List X) → xs ++ [] ≡ xs
-append_none [] = refl
-append_none (x ∷ xs) = ap (λ l. x ∷ l) (append_none xs)
-
 pub linked_from : (l : Line) (xs ys : List ℕ) → IsLinkedFrom l 0 xs → Rises 0 (xs ++ ys) → ((x : ℕ) → l.up 0 < x → l.down x ≡ 0) → IsLinkedFrom (fold grown l ys) 0 (xs ++ ys)
-linked_from l xs [] h r none = subst (IsLinkedFrom l 0) (sym (append_none xs)) h
+linked_from l xs [] h r none = subst (IsLinkedFrom l 0) (sym (append-nil xs)) h
 linked_from l xs (y ∷ ys) h r none =
     let lt = last_low l 0 y xs ys h r in
     let last : (grown l y).up 0 ≡ y = put_at-same (put_at l.up y (l.up 0)) 0 y 0 refl in
-    subst (IsLinkedFrom (fold grown (grown l y) ys) 0) (append_one xs y ys)
-    (linked_from (grown l y) (xs ++ y ∷ []) ys (linked_more l 0 y xs h lt (none y lt)) (subst (Rises 0) (sym (append_one xs y ys)) r)
+    subst (IsLinkedFrom (fold grown (grown l y) ys) 0) (append_assoc xs (y ∷ []) ys)
+    (linked_from (grown l y) (xs ++ y ∷ []) ys (linked_more l 0 y xs h lt (none y lt)) (subst (Rises 0) (sym (append_assoc xs (y ∷ []) ys)) r)
     (λ x high. put_at-other l.down (l.up 0) y x (λ e. omega (arith, e, lt, last, high)) ∙ none x (omega (arith, lt, last, high))))
 
 pub grown_linked : (xs : List ℕ) → Rises 0 xs → IsLinkedFrom (grown_all xs) 0 xs

@@ -1,21 +1,22 @@
 -- The options whose nodes of an item are among the first nodes.
-use Rattle.std.proofs.Common.{◌≡◌, ℕ, zero, suc, ◌+◌, ◌≤◌, Bool, true, false, cond, ◌||◌, eqb, List, [], ◌∷◌, ◌++◌, length, map, take, Some, refl, ap, sym, ◌∙◌, arith, eqb-true, eq-eqb}
+use Rattle.std.proofs.Common.{◌≡◌, ℕ, zero, suc, ◌+◌, ◌≤◌, true, false, cond, ◌||◌, eqb, List, [], ◌∷◌, ◌++◌, length, map, take, Some, refl, ap, sym, ◌∙◌, arith, eqb-true, eq-eqb}
 use Rattle.std.specs.Prelude.{slice_get, is_some, flat_map}
 use Rattle.std.specs.List.{AllByRecursion, range_with_len}
 use Rattle.std.proofs.lemmas.Bool.{false≢true}
 use Rattle.xc_input.specs.declared.problem.Use.{Use}
-use Rattle.xc_input.specs.Problem.{Puzzle, Numbered, numbered_options, holding, holds, colour_in, item_count}
+use Rattle.xc_input.specs.Problem.{Puzzle, Numbered, numbered_options, holding, colour_in, item_count}
 use Rattle.xc_dance.specs.Moves.{listed_numbers}
-use Rattle.xc_dance.specs.Rising.{Rises}
 use Rattle.xc_dance.specs.Fields.{Node, unused, own, spacer, used, layout, nodes_of, is_in}
 use Rattle.xc_dance.specs.Links.Laid.{IsFit, AreDistinct}
 use Rattle.xc_dance.specs.Links.Lines.{Line}
 use Rattle.xc_dance.proofs.Copied.{take_more-get}
 use Rattle.xc_dance.proofs.LinkedTables.LaidLemmas.{distinct_options}
-use Rattle.xc_dance.proofs.LinkedTables.OptionNumbers.{numbers_rise_from, filtered_rise}
 use Rattle.xc_dance.proofs.LinkedTables.PlaceLemmas.{length_front}
 use Rattle.xc_dance.proofs.LinkedTables.OptionReach.{tail_from}
-use Rattle.xc_dance.proofs.LinkedTables.GrownLines.{grown_all, grown_len, append_none}
+use Rattle.xc_dance.proofs.LinkedTables.GrownLines.{grown_all, grown_len}
+use Rattle.std.proofs.lemmas.Option.{same_Some}
+use Rattle.std.proofs.lemmas.List.{append-nil}
+use Rattle.std.proofs.Math.Bool.{or-true}
 
 -- ---- the lists of all items
 
@@ -67,27 +68,20 @@ held_each P j (used o u ∷ ns) h =
       | false ↦ λ f. held_each P j ns (λ k o u e f. h (suc k) o u e f)
     ] refl
 
-pub some_node : (m n : Node) → Some m ≡ Some n → m ≡ n
-some_node m n e = cc
-
 -- each use's option is in its item's list
 pub held_in : (ns : List Node) (k o : ℕ) (u : Use) → slice_get ns k ≡ Some (used o u) → is_in o (held u.item ns) ≡ true
 held_in [] k o u e = cc
 held_in (n ∷ ns) zero o u e =
-    let same = some_node n (used o u) e in
+    let same = same_Some n (used o u) e in
     ap (λ m. is_in o (held u.item (m ∷ ns))) same ∙ (let self = eq-eqb u.item u.item refl in let here = eq-eqb o o refl in rw (self, here) refl)
 held_in (unused ∷ ns) (suc k) o u e = held_in ns k o u e
 held_in (own i ∷ ns) (suc k) o u e = held_in ns k o u e
 held_in (spacer n ∷ ns) (suc k) o u e = held_in ns k o u e
 held_in (used m v ∷ ns) (suc k) o u e =
     elim (eqb v.item u.item) as (λ b. is_in o (cond b (m ∷ held u.item ns) (held u.item ns)) ≡ true) [
-      | true ↦ ap (λ b. eqb m o || b) (held_in ns k o u e) ∙ or_true (eqb m o)
+      | true ↦ ap (λ b. eqb m o || b) (held_in ns k o u e) ∙ or-true (eqb m o)
       | false ↦ held_in ns k o u e
     ]
-  where
-    or_true : (a : Bool) → (a || true) ≡ true
-    or_true true = refl
-    or_true false = refl
 
 -- ---- before the first option, and behind the last
 
@@ -124,7 +118,7 @@ pub options_hold : (j : ℕ) (os : List Numbered) → AllByRecursion (λ (x : Nu
 options_hold j [] d = refl
 options_hold j (x ∷ os) d =
     held-append j (nodes_of x) (flat_map nodes_of os)
-    ∙ ap (λ l. l ++ held j (flat_map nodes_of os)) (held-append j (map (used x.number) x.uses) (spacer x.number ∷ []) ∙ append_none (held j (map (used x.number) x.uses)) ∙ one_use j x.number x.uses d.0)
+    ∙ ap (λ l. l ++ held j (flat_map nodes_of os)) (held-append j (map (used x.number) x.uses) (spacer x.number ∷ []) ∙ append-nil (held j (map (used x.number) x.uses)) ∙ one_use j x.number x.uses d.0)
     ∙ elim (is_some (colour_in x.uses j)) as (λ b. cond b (x.number ∷ []) [] ++ held j (flat_map nodes_of os) ≡ map (λ (o : Numbered). o.number) (cond b (x ∷ holding j os) (holding j os))) [
       | true ↦ ap (λ l. x.number ∷ l) (options_hold j os d.1)
       | false ↦ options_hold j os d.1
@@ -137,6 +131,3 @@ owns_none j (i ∷ js) ns = owns_none j js ns
 -- in the end each item's list is that of all options
 pub held_all : (p : Puzzle) (j : ℕ) → IsFit p → held j (layout p) ≡ listed_numbers p [] j
 held_all p j fit = owns_none j (range_with_len 1 (item_count p)) (tail_from 0 p.options) ∙ options_hold j (numbered_options p) (distinct_options p fit)
-
-pub first_numbers_rise : (p : Puzzle) (j : ℕ) → Rises 0 (listed_numbers p [] j)
-first_numbers_rise p j = filtered_rise (λ o. holds o j) 0 (numbered_options p) (numbers_rise_from 0 p.options)

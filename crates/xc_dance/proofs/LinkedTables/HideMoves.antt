@@ -16,11 +16,11 @@ use Rattle.xc_dance.specs.Links.Cells.{color_in, nodes_from, nodes_after, line_o
 use Rattle.xc_dance.specs.Links.Laid.{IsLaid}
 use Rattle.xc_dance.specs.Links.Made.{IsFitted}
 use Rattle.xc_dance.proofs.MoveLemmas.StateLemmas.{open_unpurified}
-use Rattle.xc_dance.proofs.LinkedTables.Mapped.{get_map, get_within}
+use Rattle.xc_dance.proofs.LinkedTables.Mapped.{get_map}
 use Rattle.xc_dance.proofs.LinkedTables.Undo.{same_nodes, written_back}
 use Rattle.xc_dance.proofs.LinkedTables.LinkColumns.{get_up, get_down, size_from}
 use Rattle.xc_dance.proofs.LinkedTables.Sweep.{in_above}
-use Rattle.xc_dance.proofs.LinkedTables.LineSteps.{numbers_rise, filter_numbers, leave_none}
+use Rattle.xc_dance.proofs.LinkedTables.LineSteps.{filter_numbers, leave_none}
 use Rattle.xc_dance.proofs.LinkedTables.Colours.{coloured_is, color_other}
 use Rattle.xc_dance.proofs.LinkedTables.OneList.{Passed}
 use Rattle.xc_dance.proofs.LinkedTables.GoodLines.{numbers_named}
@@ -33,7 +33,10 @@ use Rattle.xc_dance.proofs.LinkedTables.HideStep.{Hides, hide_step, hide_writes}
 use Rattle.xc_dance.specs.Cost.{cost_of, marking}
 use Rattle.xc_dance.specs.Lists.Losing.{is_kept}
 use Rattle.xc_input.proofs.ListFilters.{filter_same}
-use Rattle.xc_dance.proofs.LinkedTables.MarkedNodes.{each_one, IsOption}
+use Rattle.xc_dance.proofs.LinkedTables.OptionNumbers.{IsOption}
+use Rattle.xc_input.proofs.EachElement.{each_weaker}
+use Rattle.std.proofs.lemmas.Option.{slice_get_within}
+use Rattle.xc_dance.proofs.MoveLemmas.Shortened.{rises_listed}
 
 -- ---- what the two moves hide
 
@@ -49,7 +52,7 @@ purify_passed : (p : Puzzle) (t : List Move) (i c : ℕ) → IsLaid p → 0 < i 
 purify_passed p t i c laid pos le = record {
   others = λ j o ne jpos jle opos named. color_other p (color_in p t) i 0 c j o (laid.there j o jpos jle (inr (opos, named))) (ap (λ b. b && eqb o 0) (ne_eqb j i ne));
   own = λ o e.
-      let gt : 0 < o = in_above 0 o (listed_numbers p t i) (numbers_rise p t i) e in
+      let gt : 0 < o = in_above 0 o (listed_numbers p t i) (rises_listed p t i) e in
       let named : Named p i o = element_of (Named p i) o (listed_numbers p t i) (numbers_named p t i) e in
       color_other p (color_in p t) i 0 c i o (laid.there i o pos le (inr (gt, named))) (ap₂ (λ a b. a && b) (eq-eqb i i refl) (ne_eqb o 0 (λ f. omega (arith, f, gt))));
 }
@@ -121,7 +124,7 @@ kept_marked p t i c legal opened =
     ap length (sym (filter_numbers (is_kept p i (Some c)) os))
     ∙ length-map kept (λ o. o.number)
     ∙ ap length (filter_same (λ o. is_kept p i (Some c) o.number) (λ o. not (is_other_colour c (colour_at o i))) os
-    (each_one (IsOption p) (λ o. is_kept p i (Some c) o.number ≡ not (is_other_colour c (colour_at o i))) os (λ o is. ap (λ us. not (is_other_colour c (colour_in us i))) is.1) (listed_options p t i legal opened)))
+    (each_weaker (IsOption p) (λ o. is_kept p i (Some c) o.number ≡ not (is_other_colour c (colour_at o i))) os (λ o is. ap (λ us. not (is_other_colour c (colour_in us i))) is.1) (listed_options p t i legal opened)))
 
 -- a Cover keeps none
 pub cover_writes : (p : Puzzle) (t : List Move) (i : ℕ) → hide_writes p t (Cover i) i None + 2 ≡ cost_of p t (Cover i)
@@ -135,7 +138,7 @@ purify_made p t spans i c legal f pos le opened =
     let t1 : Nodes = nodes_from p (line_of p t) (purify_start p t i c) in
     let next : Nodes = nodes_after p (Purify i c ∷ t) in
     let start : with_colour t0 i c ≡ t1 = coloured_is p (color_in p t) (line_of p t) i 0 c laid (own_placed p i laid pos le) in
-    let within : i < length (layout p) = get_within (layout p) i (own i) (laid.head i pos le) in
+    let within : i < length (layout p) = slice_get_within (layout p) i (own i) (laid.head i pos le) in
     let long : length (map (color_in p t) (layout p)) ≡ length (layout p) = length-map (layout p) (color_in p t) in
     let long' : length (map (purify_start p t i c) (layout p)) ≡ length (layout p) = length-map (layout p) (purify_start p t i c) in
     let marked = kept_marked p t i c legal opened in

@@ -1,7 +1,7 @@
 -- A walk down an open item's list leads from the node table after moves to that after one move more, and the walk back up from there to the one before.
 use Rattle.std.proofs.Common.{◌≡◌, ℕ, ◌+◌, ◌*◌, ◌<◌, ◌≤◌, Bool, true, false, not, eqb, List, ◌∷◌, length, map, fold, filter, reverse, Option, Some, refl, ap, sym, subst, ◌∙◌, arith, eqb-true}
 use Rattle.std.specs.Prelude.{slice_get}
-use Rattle.std.proofs.lemmas.Bool.{eqb-false}
+use Rattle.std.proofs.lemmas.Bool.{eqb-false, and_parts}
 use Rattle.xc_dance.specs.declared.dance.Move.{Move}
 use Rattle.xc_dance.specs.declared.links.nodes.Nodes.{Nodes}
 use Rattle.xc_dance.specs.Links.Span.{Span}
@@ -9,7 +9,6 @@ use Rattle.xc_input.specs.Problem.{Puzzle, item_count}
 use Rattle.xc_dance.specs.Moves.{is_open, AreLegal, listed_numbers}
 use Rattle.xc_dance.specs.Lists.Losing.{is_kept}
 use Rattle.xc_dance.specs.Fields.{Node, layout, link_place}
-use Rattle.xc_dance.specs.Links.Lines.{Line}
 use Rattle.xc_dance.specs.Links.ListWalks.{left_node, back_node, IsWalk, IsWalkBack, walk_costs, back_costs}
 use Rattle.xc_dance.specs.Links.Cells.{color_in, nodes_from, nodes_after, line_of}
 use Rattle.xc_dance.specs.Links.Others.{HasSpans}
@@ -20,12 +19,13 @@ use Rattle.xc_dance.proofs.LinkedTables.OtherItems.{leaves, list_at}
 use Rattle.xc_dance.specs.Cost.{leaving}
 use Rattle.xc_dance.proofs.LinkedTables.LeavingCosts.{exchanged, costs_split, leaving_is}
 use Rattle.xc_dance.proofs.LinkedTables.OthersApart.{each_apart}
-use Rattle.xc_dance.proofs.LinkedTables.LineSteps.{stands, numbers_rise}
+use Rattle.xc_dance.proofs.LinkedTables.LineSteps.{stands}
 use Rattle.xc_dance.proofs.LinkedTables.GoodLines.{all_good}
-use Rattle.xc_dance.proofs.LinkedTables.SameLines.{SameCut, SameLine, line_after, tables_same}
+use Rattle.xc_dance.proofs.LinkedTables.SameLines.{SameCut, line_after, tables_same}
 use Rattle.xc_dance.proofs.MoveLemmas.Members.{in_filter}
-use Rattle.xc_dance.proofs.LinkedTables.MetOptions.{split_and, each_ready}
+use Rattle.xc_dance.proofs.LinkedTables.MetOptions.{each_ready}
 use Rattle.xc_dance.proofs.LinkedTables.Leaving.{AreOf, TakesOut, cut_others, cut_own}
+use Rattle.xc_dance.proofs.MoveLemmas.Shortened.{rises_listed}
 
 -- from these colours on, the move m hides the options of item i's list but those that are kept, and marks these
 pub record Hides (p : Puzzle) (t : List Move) (m : Move) (i : ℕ) (keep : Option ℕ) (start : Node → ℕ) : Type 0 where
@@ -38,8 +38,8 @@ pub leavers_of : (p : Puzzle) (t : List Move) (i : ℕ) (keep : Option ℕ) → 
 leavers_of p t i keep =
     let f : ℕ → Bool = λ o. not (is_kept p i keep o) in
     record {
-      rise = Rises-filter f 0 (listed_numbers p t i) (numbers_rise p t i);
-      among = λ x e. (split_and (f x) _ (sym (in_filter f x (listed_numbers p t i)) ∙ e)).1;
+      rise = Rises-filter f 0 (listed_numbers p t i) (rises_listed p t i);
+      among = λ x e. (and_parts (f x) _ (sym (in_filter f x (listed_numbers p t i)) ∙ e)).1;
     }
 
 -- what leaves each line is what the move takes from it
@@ -58,8 +58,7 @@ hides_table : (p : Puzzle) (t : List Move) (m : Move) (i : ℕ) (keep : Option �
 hides_table p t m i keep start legal laid fit opened h =
     let gs = leavers p i keep (listed_numbers p t i) in
     tables_same p (left_list p (color_in p t) i (line_of p t) gs) (line_of p (m ∷ t)) (marked_list p i keep start (listed_numbers p t i)) (color_in p (m ∷ t)) laid
-    (λ j r. subst (λ (l : Line). SameLine l (line_of p (m ∷ t) j)) (sym (list_at p (color_in p t) i (line_of p t) gs j (each_apart p i gs fit)))
-    (line_after p t m j (filter (leaves p (color_in p t) i j) gs) (hides_cut p t m i keep start j legal laid fit opened h r)))
+    (λ j r. line_after p t m j (filter (leaves p (color_in p t) i j) gs) (hides_cut p t m i keep start j legal laid fit opened h r) ∙ sym (list_at p (color_in p t) i (line_of p t) gs j (each_apart p i gs fit)))
     h.colours
 
 -- what the walk writes: a cell for each option that is kept, three for each node that leaves
@@ -90,7 +89,7 @@ pub hide_step : (p : Puzzle) (t : List Move) (spans : List Span) (m : Move) (i :
 hide_step p t spans m i keep start legal laid spanned fit pos le opened h =
     let xs = listed_numbers p t i in
     let w = listed_walk p (color_in p t) start spans i keep (line_of p t) (listed_numbers p t) 0 xs laid spanned pos le (all_good p t fit) (stands p t i)
-    (each_ready p t i keep xs legal laid fit opened pos le (λ x e. e)) (numbers_rise p t i) h.passed in
+    (each_ready p t i keep xs legal laid fit opened pos le (λ x e. e)) (rises_listed p t i) h.passed in
     let end = hides_table p t m i keep start legal laid fit opened h in
     let cost = hides_cost p t m i keep start legal laid fit opened h in
     let q = link_place p i ((line_of p t i).up 0) in

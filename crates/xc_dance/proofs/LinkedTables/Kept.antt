@@ -9,14 +9,14 @@ use Rattle.xc_dance.specs.declared.links.items.Items.{Items}
 use Rattle.xc_input.specs.Problem.{Puzzle}
 use Rattle.xc_dance.specs.Moves.{IsLegal, listed_numbers}
 use Rattle.xc_dance.specs.Fields.{link_place, first_of}
-use Rattle.xc_dance.specs.Links.Taken.{taken_nodes, IsTakenOff, noted, CanRecall, IsRecalled}
+use Rattle.xc_dance.specs.Links.Taken.{taken_nodes, noted, CanRecall, IsRecalled}
 use Rattle.xc_dance.specs.Links.Cells.{nodes_after, line_of}
 use Rattle.xc_dance.specs.Links.ItemCells.{items_after}
 use Rattle.xc_dance.specs.Links.Made.{CanMake, CanUnmake, nodes_made, items_made, nodes_unmade, items_unmade, made_cost, unmade_cost, IsFitted}
 use Rattle.xc_dance.specs.Cost.{cost_of, cost_of_newest}
 use Rattle.xc_dance.proofs.LinkedTables.LinkColumns.{get_down}
 use Rattle.xc_dance.proofs.LinkedTables.ListLinks.{own_placed}
-use Rattle.xc_dance.proofs.LinkedTables.MoveStep.{MoveStep}
+use Rattle.xc_dance.proofs.LinkedTables.MoveStep.{MoveStep, IsTakenOff}
 
 -- what a move needs
 pub can_make : (p : Puzzle) (t : List Move) (spans spans' : List Span) (nodes : Nodes) (items : Items) (m : Move) → spans' ≡ spans → nodes ≡ nodes_after p t → items ≡ items_after p t → MoveStep p t spans m → CanMake spans' nodes items m

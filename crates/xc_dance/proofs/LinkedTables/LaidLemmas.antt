@@ -1,5 +1,5 @@
 -- The places of the node table: each slot stands at one place.
-use Rattle.std.proofs.Common.{◌≡◌, ◌≢◌, ℕ, zero, suc, ◌+◌, ◌<◌, ◌≤◌, inl, inr, Bool, true, false, not, cond, ◌&&◌, ◌||◌, eqb, List, [], ◌∷◌, ◌++◌, map, Option, Some, None, refl, ap, ap₂, sym, subst, ◌∙◌, arith, eqb-true, eq-eqb, ne_eqb}
+use Rattle.std.proofs.Common.{◌≡◌, ◌≢◌, ℕ, zero, suc, ◌+◌, ◌<◌, ◌≤◌, inl, inr, Bool, true, false, not, cond, ◌&&◌, ◌||◌, eqb, List, [], ◌∷◌, ◌++◌, map, Some, refl, ap, ap₂, sym, subst, ◌∙◌, arith, eqb-true, eq-eqb, ne_eqb}
 use Rattle.std.specs.Prelude.{is_some, slice_get, flat_map, unwrap_or}
 use Rattle.std.specs.List.{AllByRecursion, list_any, range_with_len, position_or_len, prefix_len}
 use Rattle.std.proofs.lemmas.Bool.{eqb-false, false≢true}
@@ -9,21 +9,15 @@ use Rattle.xc_input.specs.Problem.{Puzzle, Numbered, numbered_options, numbered_
 use Rattle.xc_dance.specs.Fields.{Node, unused, own, spacer, used, layout, nodes_of, is_use_of, place_of, link_place}
 use Rattle.xc_dance.specs.Links.Cells.{slot_of}
 use Rattle.xc_dance.specs.Links.Laid.{IsName, Placed, IsLaid, IsFit, AreDistinct}
-use Rattle.xc_dance.proofs.LinkedTables.OptionNumbers.{NumbersRise, numbers_rise_from, and_left, and_right, IsOption, options_numbered, each_one}
+use Rattle.xc_dance.proofs.LinkedTables.OptionNumbers.{IsOption, options_numbered}
+use Rattle.std.proofs.lemmas.Option.{same_Some}
+use Rattle.xc_input.proofs.EachElement.{each_weaker, each-append, each_at}
+use Rattle.xc_input.proofs.BooleanTests.{and_left, and_right}
+use Rattle.xc_dance.proofs.MoveLemmas.OptionsRise.{NumbersRise, NumbersRise-from}
+use Rattle.std.proofs.Math.Bool.{or-true}
+use Rattle.xc_dance.proofs.LinkedTables.LinkColumns.{item_of, member_of}
 
 -- ---- lists
-
-some_node : (m n : Node) → Some m ≡ Some n → m ≡ n
-some_node m n e = cc
-
-pub each_append : {X : Type 0} (P : X → Type 0) (xs ys : List X) → AllByRecursion P xs → AllByRecursion P ys → AllByRecursion P (xs ++ ys)
-each_append P [] ys a b = b
-each_append P (x ∷ xs) ys a b = (a.0, each_append P xs ys a.1 b)
-
-pub each_get : (P : Node → Type 0) (ns : List Node) (k : ℕ) (n : Node) → AllByRecursion P ns → slice_get ns k ≡ Some n → P n
-each_get P [] k n a e = cc
-each_get P (m ∷ ns) zero n a e = subst P (some_node m n e) a.0
-each_get P (m ∷ ns) (suc k) n a e = each_get P ns k n a.1 e
 
 -- at most one passes
 abbrev pub NonePass : (Node → Bool) → List Node → Type 0
@@ -36,7 +30,7 @@ OnePasses f (n ∷ ns) = (f n ≡ true → NonePass f ns) × OnePasses f ns
 pub one_left : (f : Node → Bool) (xs ys : List Node) → OnePasses f xs → NonePass f ys → OnePasses f (xs ++ ys)
 one_left f [] [] a b = tt
 one_left f [] (y ∷ ys) a b = ((λ e. absurd (false≢true (sym b.0 ∙ e))), one_left f [] ys tt b.1)
-one_left f (x ∷ xs) ys a b = ((λ e. each_append (λ n. f n ≡ false) xs ys (a.0 e) b), one_left f xs ys a.1 b)
+one_left f (x ∷ xs) ys a b = ((λ e. each-append (λ n. f n ≡ false) xs ys (a.0 e) b), one_left f xs ys a.1 b)
 
 pub one_right : (f : Node → Bool) (xs ys : List Node) → NonePass f xs → OnePasses f ys → OnePasses f (xs ++ ys)
 one_right f [] ys a b = b
@@ -44,10 +38,10 @@ one_right f (x ∷ xs) ys a b = ((λ e. absurd (false≢true (sym a.0 ∙ e))), 
 
 pub position_at : (f : Node → Bool) (ns : List Node) (k : ℕ) (n : Node) → OnePasses f ns → slice_get ns k ≡ Some n → f n ≡ true → position_or_len f ns ≡ k
 position_at f [] k n o e t = cc
-position_at f (m ∷ ns) zero n o e t = let here : f m ≡ true = ap f (some_node m n e) ∙ t in rw here refl
+position_at f (m ∷ ns) zero n o e t = let here : f m ≡ true = ap f (same_Some m n e) ∙ t in rw here refl
 position_at f (m ∷ ns) (suc k) n o e t =
     elim (f m) as (λ b. f m ≡ b → prefix_len (λ x. not (f x)) (m ∷ ns) ≡ suc k) [
-      | true ↦ λ g. absurd (false≢true (sym (each_get (λ x. f x ≡ false) ns k n (o.0 g) e) ∙ t))
+      | true ↦ λ g. absurd (false≢true (sym (each_at (λ x. f x ≡ false) ns k n (o.0 g) e) ∙ t))
       | false ↦ λ g. rw g (let rest = position_at f ns k n o.1 e t in omega (arith, rest))
     ] refl
 
@@ -84,8 +78,8 @@ uses_one o i k (u ∷ us) d =
 flat_none : (o i n : ℕ) (os : List Numbered) → o ≤ n → NumbersRise n os → NonePass (is_use_of o i) (flat_map nodes_of os)
 flat_none o i n [] le r = tt
 flat_none o i n (x ∷ os) le r =
-    each_append (λ m. is_use_of o i m ≡ false) (nodes_of x) (flat_map nodes_of os)
-    (each_append (λ m. is_use_of o i m ≡ false) (map (used x.number) x.uses) (spacer x.number ∷ []) (uses_none o i x.number x.uses (λ e. omega (arith, e, le, r.0))) (refl, tt))
+    each-append (λ m. is_use_of o i m ≡ false) (nodes_of x) (flat_map nodes_of os)
+    (each-append (λ m. is_use_of o i m ≡ false) (map (used x.number) x.uses) (spacer x.number ∷ []) (uses_none o i x.number x.uses (λ e. omega (arith, e, le, r.0))) (refl, tt))
     (flat_none o i x.number os (omega (arith, le, r.0)) r.1)
 
 flat_one : (o i n : ℕ) (os : List Numbered) → NumbersRise n os → AllByRecursion (λ x. AreDistinct x.uses) os → OnePasses (is_use_of o i) (flat_map nodes_of os)
@@ -96,7 +90,7 @@ flat_one o i n (x ∷ os) r d =
           (one_left (is_use_of o i) (map (used x.number) x.uses) (spacer x.number ∷ []) (uses_one o i x.number x.uses d.0) (refl, tt))
           (flat_none o i x.number os (let same = eqb-true x.number o e in omega (arith, same)) r.1)
       | false ↦ λ e. one_right (is_use_of o i) (nodes_of x) (flat_map nodes_of os)
-          (each_append (λ m. is_use_of o i m ≡ false) (map (used x.number) x.uses) (spacer x.number ∷ []) (uses_none o i x.number x.uses (eqb-false x.number o e)) (refl, tt))
+          (each-append (λ m. is_use_of o i m ≡ false) (map (used x.number) x.uses) (spacer x.number ∷ []) (uses_none o i x.number x.uses (eqb-false x.number o e)) (refl, tt))
           (flat_one o i x.number os r.1 d.1)
     ] refl
 
@@ -105,14 +99,14 @@ own_none o i [] = tt
 own_none o i (j ∷ js) = (refl, own_none o i js)
 
 pub distinct_options : (p : Puzzle) → IsFit p → AllByRecursion (λ (x : Numbered). AreDistinct x.uses) (numbered_options p)
-distinct_options p fit = each_one (IsOption p) (λ x. AreDistinct x.uses) (numbered_options p) (λ x is. subst AreDistinct is.1 (fit.distinct x.number)) (options_numbered p)
+distinct_options p fit = each_weaker (IsOption p) (λ x. AreDistinct x.uses) (numbered_options p) (λ x is. subst AreDistinct is.1 (fit.distinct x.number)) (options_numbered p)
 
 -- at most one node is of option o and item i
 pub layout_one : (p : Puzzle) (o i : ℕ) → IsFit p → OnePasses (is_use_of o i) (layout p)
 layout_one p o i fit = (
   (λ e. absurd (false≢true e)),
   one_right (is_use_of o i) (map own (range_with_len 1 (item_count p))) (spacer 0 ∷ flat_map nodes_of (numbered_options p)) (own_none o i (range_with_len 1 (item_count p)))
-      ((λ e. absurd (false≢true e)), flat_one o i 0 (numbered_options p) (numbers_rise_from 0 p.options) (distinct_options p fit)),
+      ((λ e. absurd (false≢true e)), flat_one o i 0 (numbered_options p) (NumbersRise-from 0 p.options) (distinct_options p fit)),
 )
 
 -- so its place is where it stands
@@ -143,7 +137,7 @@ use_later v us u d e =
 
 uses_ok : (us : List Use) → AreDistinct us → AllByRecursion (IsUseOf us) us
 uses_ok [] d = tt
-uses_ok (v ∷ us) d = (ap (λ b. cond b (Some v.colour) (colour_in us v.item)) (eq-eqb v.item v.item refl), each_one (IsUseOf us) (IsUseOf (v ∷ us)) us (λ u e. use_later v us u d.0 e) (uses_ok us d.1))
+uses_ok (v ∷ us) d = (ap (λ b. cond b (Some v.colour) (colour_in us v.item)) (eq-eqb v.item v.item refl), each_weaker (IsUseOf us) (IsUseOf (v ∷ us)) us (λ u e. use_later v us u d.0 e) (uses_ok us d.1))
 
 map_used : (p : Puzzle) (o : ℕ) (us all : List Use) → 0 < o → uses_of p o ≡ all → AllByRecursion (λ u. (0 < u.item) × (u.item ≤ item_count p)) us → AllByRecursion (IsUseOf all) us → AllByRecursion (NodeOk p) (map (used o) us)
 map_used p o [] all pos is a b = tt
@@ -152,14 +146,14 @@ map_used p o (u ∷ us) all pos is a b = ((pos, a.0, ap (λ vs. colour_in vs u.i
 flat_ok : (p : Puzzle) (os : List Numbered) → IsFit p → AllByRecursion (IsOption p) os → AllByRecursion (NodeOk p) (flat_map nodes_of os)
 flat_ok p [] fit a = tt
 flat_ok p (x ∷ os) fit a =
-    each_append (NodeOk p) (nodes_of x) (flat_map nodes_of os)
-    (each_append (NodeOk p) (map (used x.number) x.uses) (spacer x.number ∷ [])
+    each-append (NodeOk p) (nodes_of x) (flat_map nodes_of os)
+    (each-append (NodeOk p) (map (used x.number) x.uses) (spacer x.number ∷ [])
     (map_used p x.number x.uses x.uses a.0.0 a.0.1 (subst (AllByRecursion (λ u. (0 < u.item) × (u.item ≤ item_count p))) a.0.1 (fit.items x.number)) (uses_ok x.uses (subst AreDistinct a.0.1 (fit.distinct x.number))))
     (tt, tt))
     (flat_ok p os fit a.1)
 
 pub layout_ok : (p : Puzzle) → IsFit p → AllByRecursion (NodeOk p) (layout p)
-layout_ok p fit = (tt, each_append (NodeOk p) (map own (range_with_len 1 (item_count p))) (spacer 0 ∷ flat_map nodes_of (numbered_options p)) (owns_ok p 1 (item_count p) (omega arith) (omega arith)) (tt, flat_ok p (numbered_options p) fit (options_numbered p)))
+layout_ok p fit = (tt, each-append (NodeOk p) (map own (range_with_len 1 (item_count p))) (spacer 0 ∷ flat_map nodes_of (numbered_options p)) (owns_ok p 1 (item_count p) (omega arith) (omega arith)) (tt, flat_ok p (numbered_options p) fit (options_numbered p)))
 
 -- ---- the items' own nodes
 
@@ -192,14 +186,14 @@ used_no_own j o (u ∷ us) = (refl, used_no_own j o us)
 
 flat_no_own : (j : ℕ) (os : List Numbered) → NonePass (is_own j) (flat_map nodes_of os)
 flat_no_own j [] = tt
-flat_no_own j (x ∷ os) = each_append (λ m. is_own j m ≡ false) (nodes_of x) (flat_map nodes_of os) (each_append (λ m. is_own j m ≡ false) (map (used x.number) x.uses) (spacer x.number ∷ []) (used_no_own j x.number x.uses) (refl, tt)) (flat_no_own j os)
+flat_no_own j (x ∷ os) = each-append (λ m. is_own j m ≡ false) (nodes_of x) (flat_map nodes_of os) (each-append (λ m. is_own j m ≡ false) (map (used x.number) x.uses) (spacer x.number ∷ []) (used_no_own j x.number x.uses) (refl, tt)) (flat_no_own j os)
 
 own_one : (p : Puzzle) (j : ℕ) → OnePasses (is_own j) (layout p)
 own_one p j = ((λ e. absurd (false≢true e)), one_left (is_own j) (map own (range_with_len 1 (item_count p))) (spacer 0 ∷ flat_map nodes_of (numbered_options p)) (owns_one j 1 (item_count p)) (refl, flat_no_own j (numbered_options p)))
 
 pub own_is : (p : Puzzle) (k j : ℕ) → IsFit p → slice_get (layout p) k ≡ Some (own j) → j ≡ k
 own_is p k j fit e =
-    let ok : NodeOk p (own j) = each_get (NodeOk p) (layout p) k (own j) (layout_ok p fit) e in
+    let ok : NodeOk p (own j) = each_at (NodeOk p) (layout p) k (own j) (layout_ok p fit) e in
     let self : is_own j (own j) ≡ true = eq-eqb j j refl in
     sym (position_at (is_own j) (layout p) j (own j) (own_one p j) (head_is p j ok.0 ok.1) self) ∙ position_at (is_own j) (layout p) k (own j) (own_one p j) e self
 
@@ -213,15 +207,11 @@ any_used o j (u ∷ us) e =
       | false ↦ λ f. rw (eq-eqb o o refl) (any_used o j us f)
     ] e
 
-or_true : (a : Bool) → (a || true) ≡ true
-or_true true = refl
-or_true false = refl
-
 any_here : (f : Node → Bool) (xs ys : List Node) → list_any f xs ≡ true → list_any f (xs ++ ys) ≡ true
 any_here f xs ys e = list_any-append f xs ys ∙ ap (λ b. b || list_any f ys) e
 
 any_there : (f : Node → Bool) (xs ys : List Node) → list_any f ys ≡ true → list_any f (xs ++ ys) ≡ true
-any_there f xs ys e = list_any-append f xs ys ∙ ap (λ b. list_any f xs || b) e ∙ or_true (list_any f xs)
+any_there f xs ys e = list_any-append f xs ys ∙ ap (λ b. list_any f xs || b) e ∙ or-true (list_any f xs)
 
 any_option : (j n m : ℕ) (os : List (List Use)) → is_some (colour_in (unwrap_or (slice_get os m) []) j) ≡ true → list_any (is_use_of (n + m) j) (flat_map nodes_of (numbered_from n os)) ≡ true
 any_option j n m [] e = absurd (false≢true e)
@@ -258,33 +248,25 @@ placed p j zero pos le name = record { node = own j; at = head_is p j pos le; sl
 placed p j (suc m) pos le (inl z) = absurd (omega (arith, z))
 placed p j (suc m) pos le (inr h) = placed_used p j m h.1
 
-abbrev slot_item : Option (ℕ × ℕ) → ℕ
-slot_item None = 0
-slot_item (Some s) = s.0
-
-abbrev slot_member : Option (ℕ × ℕ) → ℕ
-slot_member None = 0
-slot_member (Some s) = s.1
-
 slot_place : (p : Puzzle) (k : ℕ) (n : Node) (j x : ℕ) → IsFit p → slice_get (layout p) k ≡ Some n → slot_of n ≡ Some (j, x) → link_place p j x ≡ k
 slot_place p k unused j x fit e f = cc
 slot_place p k (spacer n) j x fit e f = cc
 slot_place p k (own i) j x fit e f =
-    let a : i ≡ j = ap slot_item f in
-    let b : 0 ≡ x = ap slot_member f in
+    let a : i ≡ j = ap item_of f in
+    let b : 0 ≡ x = ap member_of f in
     ap (link_place p j) (sym b) ∙ sym a ∙ own_is p k i fit e
 slot_place p k (used zero u) j x fit e f =
-    let ok : NodeOk p (used zero u) = each_get (NodeOk p) (layout p) k (used zero u) (layout_ok p fit) e in absurd (let h = ok.0 in omega (arith, h))
+    let ok : NodeOk p (used zero u) = each_at (NodeOk p) (layout p) k (used zero u) (layout_ok p fit) e in absurd (let h = ok.0 in omega (arith, h))
 slot_place p k (used (suc o) u) j x fit e f =
-    let a : u.item ≡ j = ap slot_item f in
-    let b : suc o ≡ x = ap slot_member f in
+    let a : u.item ≡ j = ap item_of f in
+    let b : suc o ≡ x = ap member_of f in
     ap₂ (link_place p) (sym a) (sym b) ∙ place_is p k (suc o) u fit e
 
 slot_range : (p : Puzzle) (n : Node) (j x : ℕ) → NodeOk p n → slot_of n ≡ Some (j, x) → (0 < j) × (j ≤ item_count p)
 slot_range p unused j x ok f = cc
 slot_range p (spacer n) j x ok f = cc
-slot_range p (own i) j x ok f = let a : i ≡ j = ap slot_item f in (omega (arith, a, ok.0), omega (arith, a, ok.1))
-slot_range p (used o u) j x ok f = let a : u.item ≡ j = ap slot_item f in (omega (arith, a, ok.1.0), omega (arith, a, ok.1.1))
+slot_range p (own i) j x ok f = let a : i ≡ j = ap item_of f in (omega (arith, a, ok.0), omega (arith, a, ok.1))
+slot_range p (used o u) j x ok f = let a : u.item ≡ j = ap item_of f in (omega (arith, a, ok.1.0), omega (arith, a, ok.1.1))
 
 -- the places of a fit problem
 pub is_laid : (p : Puzzle) → IsFit p → IsLaid p
@@ -292,8 +274,8 @@ is_laid p fit = record {
   unique = λ k n j x e f. slot_place p k n j x fit e f;
   there = placed p;
   head = head_is p;
-  ranged = λ k n j x e f. slot_range p n j x (each_get (NodeOk p) (layout p) k n (layout_ok p fit) e) f;
-  numbered = λ k o u e. (each_get (NodeOk p) (layout p) k (used o u) (layout_ok p fit) e).0;
-  coloured = λ k o u e. (each_get (NodeOk p) (layout p) k (used o u) (layout_ok p fit) e).2;
+  ranged = λ k n j x e f. slot_range p n j x (each_at (NodeOk p) (layout p) k n (layout_ok p fit) e) f;
+  numbered = λ k o u e. (each_at (NodeOk p) (layout p) k (used o u) (layout_ok p fit) e).0;
+  coloured = λ k o u e. (each_at (NodeOk p) (layout p) k (used o u) (layout_ok p fit) e).2;
   small = fit.small;
 }

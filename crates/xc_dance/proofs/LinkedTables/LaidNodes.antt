@@ -1,5 +1,5 @@
 -- The node table as it is laid node by node.
-use Rattle.std.proofs.Common.{◌≡◌, ℕ, zero, suc, ◌+◌, ◌-◌, ◌<◌, ◌≤◌, Bool, true, false, cond, List, [], ◌∷◌, ◌++◌, length, map, Option, Some, None, refl, ap, ap₂, sym, ◌∙◌, arith, lt-ltb, le-ltb}
+use Rattle.std.proofs.Common.{◌≡◌, ℕ, zero, suc, ◌+◌, ◌-◌, ◌<◌, ◌≤◌, List, [], length, Some, refl, ap, ap₂, sym, ◌∙◌, arith, lt-ltb}
 use Rattle.std.specs.Prelude.{slice_get}
 use Rattle.xc_input.specs.declared.problem.Use.{Use}
 use Rattle.xc_input.specs.Problem.{Puzzle, item_count, option_count}
@@ -9,25 +9,21 @@ use Rattle.xc_dance.specs.Links.Steps.{HasSize}
 use Rattle.xc_dance.specs.Fields.{Node, unused, own, spacer, layout, spacer_place}
 use Rattle.xc_dance.specs.Links.Cells.{top_in, ulink_in, dlink_in, color_in, fixed_up, fixed_down, nodes_from}
 use Rattle.xc_dance.specs.Links.OptionPlaces.{place_at}
-use Rattle.xc_dance.specs.Links.FirstNodes.{blanks, row_of, laid_to, with_row}
+use Rattle.xc_dance.specs.Links.FirstNodes.{blanks, laid_to, with_row}
 use Rattle.xc_dance.proofs.LinkedTables.FilledColumns.{filled_none, filled_all, length-filled, filled_more}
 use Rattle.xc_dance.proofs.LinkedTables.LaidLemmas.{head_is}
 use Rattle.xc_dance.proofs.LinkedTables.SpacerPlaces.{spacer_at}
 use Rattle.xc_dance.proofs.LinkedTables.PlaceLemmas.{place_next}
+use Rattle.xc_dance.proofs.LinkedTables.Undo.{same_nodes}
 
-make : List ℕ → List ℕ → List ℕ → List ℕ → Nodes
-make a b c d = record { top = a; ulink = b; dlink = c; color = d }
-
--- tables with the same columns are the same
-pub same_columns : (s t : Nodes) → s.top ≡ t.top → s.ulink ≡ t.ulink → s.dlink ≡ t.dlink → s.color ≡ t.color → s ≡ t
-unfolding make
-same_columns s t a b c d =
-    ap (λ w. make w s.ulink s.dlink s.color) a ∙ ap (λ x. make t.top x s.dlink s.color) b ∙ ap (λ y. make t.top t.ulink y s.color) c ∙ ap (make t.top t.ulink t.dlink) d
+-- what stands in a node's cells where all lists are empty
+abbrev pub row_of : Puzzle → Node → Row
+row_of p n = record { top = top_in blanks n; ulink = ulink_in p blanks n; dlink = dlink_in p blanks n; color = color_in p [] n }
 
 -- one node more
 pub laid_more : (p : Puzzle) (k : ℕ) (n : Node) (r : Row) → slice_get (layout p) k ≡ Some n → r ≡ row_of p n → with_row (laid_to p k) k r ≡ laid_to p (k + 1)
 laid_more p k n r e is =
-    same_columns (with_row (laid_to p k) k r) (laid_to p (k + 1))
+    same_nodes (with_row (laid_to p k) k r) (laid_to p (k + 1))
     (filled_more (top_in blanks) (layout p) k n r.top e (ap (λ (x : Row). x.top) is))
     (filled_more (ulink_in p blanks) (layout p) k n r.ulink e (ap (λ (x : Row). x.ulink) is))
     (filled_more (dlink_in p blanks) (layout p) k n r.dlink e (ap (λ (x : Row). x.dlink) is))
@@ -37,13 +33,13 @@ pub laid_none : (p : Puzzle) (t : Nodes) (c : ℕ) → c ≡ length (layout p) �
     (let zeros = Rattle.std.proofs.Common.replicate {A = ℕ} c 0 in let z : Nodes = record { top = zeros; ulink = zeros; dlink = zeros; color = zeros } in t ≡ z) → t ≡ laid_to p 0
 laid_none p t c e h =
     h ∙ ap (λ n. (let zeros = Rattle.std.proofs.Common.replicate {A = ℕ} n 0 in let z : Nodes = record { top = zeros; ulink = zeros; dlink = zeros; color = zeros } in z)) e
-    ∙ same_columns (let zeros = Rattle.std.proofs.Common.replicate {A = ℕ} (length (layout p)) 0 in record { top = zeros; ulink = zeros; dlink = zeros; color = zeros }) (laid_to p 0)
+    ∙ same_nodes (let zeros = Rattle.std.proofs.Common.replicate {A = ℕ} (length (layout p)) 0 in record { top = zeros; ulink = zeros; dlink = zeros; color = zeros }) (laid_to p 0)
     (filled_none (top_in blanks) (layout p)) (filled_none (ulink_in p blanks) (layout p)) (filled_none (dlink_in p blanks) (layout p)) (filled_none (color_in p []) (layout p))
 
 pub laid_all : (p : Puzzle) → laid_to p (length (layout p)) ≡ nodes_from p blanks (color_in p [])
 laid_all p =
     let n = length (layout p) in
-    same_columns (laid_to p n) (nodes_from p blanks (color_in p []))
+    same_nodes (laid_to p n) (nodes_from p blanks (color_in p []))
     (filled_all (top_in blanks) (layout p) n (omega arith)) (filled_all (ulink_in p blanks) (layout p) n (omega arith)) (filled_all (dlink_in p blanks) (layout p) n (omega arith)) (filled_all (color_in p []) (layout p) n (omega arith))
 
 pub laid_len : (p : Puzzle) (k : ℕ) → length (laid_to p k).top ≡ length (layout p)
@@ -74,9 +70,6 @@ down_next p o us lt e =
     let next = place_next p o us e in
     let is : place_at p o + length us ≡ spacer_place p (o + 1) - 1 = omega (arith, here, next) in
     rw (lt-ltb o (option_count p) lt) is
-
-pub down_none : (p : Puzzle) (o : ℕ) → option_count p ≤ o → 0 ≡ fixed_down p (spacer o)
-down_none p o le = rw (le-ltb o (option_count p) le) refl
 
 -- ---- the rows
 

@@ -13,11 +13,12 @@ use Rattle.xc_dance.proofs.LinkedTables.Sweep.{Rises, Rises-filter, stay}
 use Rattle.xc_dance.proofs.LinkedTables.Goods.{Named}
 use Rattle.xc_dance.proofs.LinkedTables.OneOption.{is_mark}
 use Rattle.xc_dance.proofs.LinkedTables.OtherItems.{in_others, leaves}
-use Rattle.xc_dance.proofs.LinkedTables.LineSteps.{numbers_rise, stay_all, leave_none}
+use Rattle.xc_dance.proofs.LinkedTables.LineSteps.{stay_all, leave_none}
 use Rattle.xc_dance.proofs.LinkedTables.GoodLines.{numbers_named}
 use Rattle.xc_dance.proofs.LinkedTables.SameLines.{SameCut}
 use Rattle.xc_dance.proofs.MoveLemmas.Members.{element_of, in_filter, same_members, none_in}
 use Rattle.xc_dance.proofs.LinkedTables.MetOptions.{met_at}
+use Rattle.xc_dance.proofs.MoveLemmas.Shortened.{rises_listed}
 
 -- options of item i's list, in order
 pub record AreOf (p : Puzzle) (t : List Move) (i : ℕ) (gs : List ℕ) : Type 0 where
@@ -54,7 +55,7 @@ leaves_own p t i gs fit rise =
 pub leaves_open : (p : Puzzle) (t : List Move) (i j : ℕ) (gs : List ℕ) → AreLegal p t → IsLaid p → IsFit p → is_open i t ≡ true → InRange p j → AreOf p t i gs → j ≢ i → is_open j t ≡ true →
     filter (leaves p (color_in p t) i j) gs ≡ filter (λ x. is_in x gs) (listed_numbers p t j)
 leaves_open p t i j gs legal laid fit opened r of ne j_open =
-    same_members 0 _ _ (Rises-filter (leaves p (color_in p t) i j) 0 gs of.rise) (Rises-filter (λ x. is_in x gs) 0 (listed_numbers p t j) (numbers_rise p t j))
+    same_members 0 _ _ (Rises-filter (leaves p (color_in p t) i j) 0 gs of.rise) (Rises-filter (λ x. is_in x gs) 0 (listed_numbers p t j) (rises_listed p t j))
     (λ x.
     in_filter (leaves p (color_in p t) i j) x gs
     ∙ elim (is_in x gs) as (λ b. is_in x gs ≡ b → (leaves p (color_in p t) i j x && b) ≡ (b && is_in x (listed_numbers p t j))) [

@@ -8,15 +8,16 @@ use Rattle.xc_dance.specs.Moves.{listed, listed_numbers}
 use Rattle.xc_dance.specs.Lists.Losing.{is_kept}
 use Rattle.xc_dance.specs.Cost.{leaving}
 use Rattle.xc_dance.specs.Fields.{Node, is_in}
-use Rattle.xc_dance.specs.Links.Others.{other_items}
+use Rattle.xc_dance.proofs.LinkedTables.LineChanges.{other_items}
 use Rattle.xc_dance.specs.Links.Laid.{IsFit}
-use Rattle.xc_dance.proofs.LinkedTables.OneOption.{is_mark}
-use Rattle.xc_dance.proofs.LinkedTables.OneList.{leavers, gone_count, step_costs}
-use Rattle.xc_dance.proofs.LinkedTables.OtherItems.{out_of, in_others, AllApart, leaves}
+use Rattle.xc_dance.proofs.LinkedTables.OneOption.{is_mark, AllApart, gone_count}
+use Rattle.xc_dance.proofs.LinkedTables.OneList.{leavers, step_costs}
+use Rattle.xc_dance.proofs.LinkedTables.OtherItems.{out_of, in_others, leaves}
 use Rattle.xc_dance.proofs.LinkedTables.OthersApart.{others_apart, item_range}
-use Rattle.xc_dance.proofs.LinkedTables.MetOptions.{split_and}
+use Rattle.std.proofs.lemmas.Bool.{and_parts}
 use Rattle.xc_dance.proofs.LinkedTables.SameLines.{SameCut}
 use Rattle.xc_dance.proofs.LinkedTables.Totals.{total, sum_is_total, total_same, total_plus, total_zero, total_point, parts}
+use Rattle.std.proofs.Math.Bool.{or-true}
 
 -- ---- one option
 
@@ -31,7 +32,7 @@ length_one false x xs = omega arith
 pub counted_over : (n : ℕ) (f : ℕ → Bool) (js : List ℕ) → AllApart js → ((k : ℕ) → is_in k js ≡ true → (1 ≤ k) × (k < 1 + n)) → length (filter f js) ≡ total (λ j. one_if (is_in j js && f j)) 1 n
 counted_over n f [] apart within = sym (total_zero 1 n)
 counted_over n f (j ∷ js) apart within =
-    let rest = counted_over n f js apart.1 (λ k e. within k (ap (λ b. eqb j k || b) e ∙ elim (eqb j k) as (λ b. (b || true) ≡ true) [ true ↦ refl | false ↦ refl ])) in
+    let rest = counted_over n f js apart.1 (λ k e. within k (ap (λ b. eqb j k || b) e ∙ or-true (eqb j k))) in
     let here = within j (ap (λ b. b || is_in j js) (eq-eqb j j refl)) in
     let point = total_point j (one_if (f j)) 1 n here.0 here.1 in
     let sum = total_plus (λ k. cond (eqb j k) (one_if (f j)) 0) (λ k. one_if (is_in k js && f k)) 1 n in
@@ -63,7 +64,7 @@ exchanged p col i (o ∷ os) fit =
     let here : gone_count p col i o ≡ total (λ j. cond (leaves p col i j o) 1 0) 1 n =
     counted_over n (λ j. not (is_mark p col o j)) (other_items p o i) (others_apart p o i fit)
     (λ k e.
-    let named : is_some (colour_in (uses_of p o) k) ≡ true = (split_and _ _ (sym (in_others p o i k (fit.distinct o)) ∙ e)).1 in
+    let named : is_some (colour_in (uses_of p o) k) ≡ true = (and_parts _ _ (sym (in_others p o i k (fit.distinct o)) ∙ e)).1 in
     let r = item_range p (uses_of p o) k (fit.items o) named in
     (omega (arith, r.0), omega (arith, r.1))) in
     let rest = exchanged p col i os fit in

@@ -3,14 +3,15 @@ use Rattle.std.proofs.Common.{◌≡◌, ◌≢◌, ℕ, zero, suc, ◌<◌, ◌
 use Rattle.std.specs.List.{list_any}
 use Rattle.xc_dance.specs.declared.dance.Move.{Move}
 use Rattle.xc_dance.specs.declared.dance.Move.TheVariants.{Cover, Purify, Tweak, Spend}
-use Rattle.xc_input.specs.Problem.{Puzzle, Numbered, numbered_options, holds, holding}
+use Rattle.xc_input.specs.Problem.{Puzzle, Numbered}
 use Rattle.xc_dance.specs.Moves.{listed, is_open, without, other_colours, listed_numbers}
 use Rattle.xc_dance.specs.Fields.{above, below_of, last_below, first_above, first_of, last_of, is_in}
-use Rattle.xc_dance.specs.Links.Lines.{Line, IsLinkedFrom}
+use Rattle.xc_dance.specs.Links.Lines.{Line}
 use Rattle.xc_dance.specs.Links.Cells.{line_of, up_of, down_of}
-use Rattle.xc_dance.proofs.MoveLemmas.OpenLists.{left_rises}
-use Rattle.xc_dance.proofs.MoveLemmas.OptionsRise.{NumbersRise, NumbersRise-filter}
-use Rattle.xc_dance.proofs.LinkedTables.Sweep.{Rises, Rises-filter, Swept, swept, stay, cuts, in_above, is_in-first, is_in-other, last_below-self, last_below-more, first_above-first, first_above-more, last_of-more}
+use Rattle.xc_dance.proofs.LinkedTables.Sweep.{Rises, Swept, swept, stay, cuts, in_above, is_in-first, is_in-other, last_below-self, last_below-more, first_above-first, first_above-more, last_of-more}
+use Rattle.xc_input.proofs.ListFilters.{filter-map}
+use Rattle.xc_dance.proofs.LinkedTables.LineChanges.{IsLinkedFrom}
+use Rattle.xc_dance.proofs.MoveLemmas.Shortened.{rises_listed}
 
 -- ---- a line that is given by its list
 
@@ -36,25 +37,14 @@ linked_by l a (y ∷ ys) r up down first last =
 abbrev numbers_of : List Numbered → List ℕ
 numbers_of os = map (λ o. o.number) os
 
-pub rises_numbers : (n : ℕ) (os : List Numbered) → NumbersRise n os → Rises n (numbers_of os)
-rises_numbers n [] r = tt
-rises_numbers n (o ∷ os) r = (r.0, rises_numbers o.number os r.1)
-
 pub filter_numbers : (g : ℕ → Bool) (os : List Numbered) → numbers_of (filter (λ o. g o.number) os) ≡ filter g (numbers_of os)
-filter_numbers g [] = refl
-filter_numbers g (o ∷ os) = elim (g o.number) as (λ b. numbers_of (cond b (o ∷ filter (λ o. g o.number) os) (filter (λ o. g o.number) os)) ≡ cond b (o.number ∷ filter g (numbers_of os)) (filter g (numbers_of os))) [
-  | true ↦ ap (λ ks. o.number ∷ ks) (filter_numbers g os)
-  | false ↦ filter_numbers g os
-]
+filter_numbers g os = sym (filter-map g (λ o. o.number) os)
 
 abbrev pub goes : List Numbered → ℕ → Bool
 goes gone x = list_any (λ y. eqb y.number x) gone
 
 pub without_numbers : (gone os : List Numbered) → numbers_of (without gone os) ≡ stay (goes gone) (numbers_of os)
 without_numbers gone os = filter_numbers (λ x. not (goes gone x)) os
-
-abbrev none : ℕ → Bool
-none x = false
 
 pub stay_all : (xs : List ℕ) → stay (λ x. false) xs ≡ xs
 stay_all [] = refl
@@ -83,7 +73,7 @@ by_case : (b : Bool) (os gone : List Numbered) → Shrinks (numbers_of os) (numb
 by_case true os gone = record { test = goes gone; is = without_numbers gone os }
 by_case false os gone = same_list (numbers_of os)
 
-drop_numbers : (os : List Numbered) → numbers_of (drop 1 os) ≡ drop 1 (numbers_of os)
+pub drop_numbers : (os : List Numbered) → numbers_of (drop 1 os) ≡ drop 1 (numbers_of os)
 drop_numbers [] = refl
 drop_numbers (o ∷ os) = refl
 
@@ -99,13 +89,6 @@ shrinks p t (Tweak j) i r =
       | false ↦ λ e. by_case (is_open j t && is_open i t) (listed p t i) (take 1 (listed p t j))
     ] refl
 shrinks p t (Spend j) i r = same_list (listed_numbers p t i)
-
-pub numbers_rise : (p : Puzzle) (t : List Move) (i : ℕ) → Rises 0 (listed_numbers p t i)
-numbers_rise p [] i = rises_numbers 0 (holding i (numbered_options p)) (NumbersRise-filter (λ o. holds o i) 0 (numbered_options p) (left_rises p []))
-numbers_rise p (m ∷ t) i =
-    let r = numbers_rise p t i in
-    let s = shrinks p t m i r in
-    subst (Rises 0) (sym s.is) (Rises-filter (λ x. not (s.test x)) 0 (listed_numbers p t i) r)
 
 -- ---- the line after a move
 
@@ -132,7 +115,7 @@ linked_same l m a (x ∷ xs) up down h = (h.0, down a ∙ h.1, up x ∙ h.2, lin
 built : (p : Puzzle) (j : ℕ) → IsLinkedFrom (line_of p [] j) 0 (listed_numbers p [] j)
 built p j =
     let xs = listed_numbers p [] j in
-    let r = numbers_rise p [] j in
+    let r = rises_listed p [] j in
     linked_by (line_of p [] j) 0 xs r
     (λ x e. up_at x (in_above 0 x xs r e))
     (λ x e. down_at x (in_above 0 x xs r e))
@@ -151,7 +134,7 @@ pub stands : (p : Puzzle) (t : List Move) (j : ℕ) → IsLinkedFrom (line_of p 
 stands p [] j = built p j
 stands p (m ∷ t) j =
     let xs = listed_numbers p t j in
-    let sh = shrinks p t m j (numbers_rise p t j) in
+    let sh = shrinks p t m j (rises_listed p t j) in
     let l : Line = cuts (line_of p t j) (filter sh.test xs) in
     let s : Swept (line_of p t j) l 0 xs (listed_numbers p (m ∷ t) j) = subst (Swept (line_of p t j) l 0 xs) (sym sh.is) (swept (line_of p t j) 0 xs sh.test (stands p t j)) in
     linked_same l (line_of p (m ∷ t) j) 0 (listed_numbers p (m ∷ t) j) (up_after p t m j l s) (down_after p t m j l s) s.linked

@@ -4,12 +4,15 @@ use Rattle.std.specs.Prelude.{slice_get}
 use Rattle.std.proofs.lemmas.List.{length-map}
 use Rattle.xc_input.specs.Problem.{Puzzle, item_count}
 use Rattle.xc_dance.specs.Fields.{Node, unused, own, spacer, used, layout, link_place}
-use Rattle.xc_dance.specs.Links.Lines.{Line, put_at}
-use Rattle.xc_dance.specs.Links.Steps.{HasSize}
-use Rattle.xc_dance.specs.Links.Cells.{slot_of, link_at, fixed_up, fixed_down, top_in, ulink_in, dlink_in, nodes_from, with_line}
-use Rattle.xc_dance.specs.Links.Laid.{Placed, IsLaid}
-use Rattle.xc_dance.proofs.LinkedTables.Mapped.{get_map, map_put, map_same}
+use Rattle.xc_dance.specs.Links.Lines.{Line}
+use Rattle.xc_dance.specs.Links.Steps.{HasSize, NamesPlaces}
+use Rattle.xc_dance.specs.Links.Cells.{slot_of, link_at, fixed_up, fixed_down, top_in, ulink_in, dlink_in, nodes_from}
+use Rattle.xc_dance.specs.Links.Laid.{Placed, IsLaid, IsName}
+use Rattle.xc_dance.proofs.LinkedTables.Mapped.{get_map, map_put}
 use Rattle.xc_dance.proofs.LinkedTables.Sweep.{put_at-same, put_at-other}
+use Rattle.std.proofs.Math.Path.{fun_ext}
+use Rattle.std.proofs.lemmas.Option.{slice_get_within}
+use Rattle.xc_dance.proofs.LinkedTables.LineChanges.{put_at, with_line}
 
 pub same_at : {X : Type 0} (ns : List X) (k : ℕ) (m n : X) → slice_get ns k ≡ Some m → slice_get ns k ≡ Some n → m ≡ n
 same_at ns k m n a b = let e : Some m ≡ Some n = sym a ∙ b in cc
@@ -78,7 +81,7 @@ set_top p ln j l laid pos le =
 pub get_len : (p : Puzzle) (ln : ℕ → Line) (j : ℕ) → IsLaid p → 0 < j → j ≤ item_count p → get_or (map (top_in ln) (layout p)) j 0 ≡ (ln j).len
 get_len p ln j laid pos le = get_map (top_in ln) (layout p) j (own j) (laid.head j pos le)
 
-abbrev item_of : Option (ℕ × ℕ) → ℕ
+abbrev pub item_of : Option (ℕ × ℕ) → ℕ
 item_of None = 0
 item_of (Some s) = s.0
 
@@ -106,10 +109,40 @@ size_from p ln col =
       color = length-map (layout p) col ∙ sym long;
     }
 
+-- what stands in the cells of member o's node in item j's list, where the members beside it have nodes too
+pub record NodeCells (p : Puzzle) (ln : ℕ → Line) (col : Node → ℕ) (j o : ℕ) : Type 0 where
+  pub above : Placed p j ((ln j).up o)
+  pub below : Placed p j ((ln j).down o)
+  pub up : get_or (nodes_from p ln col).ulink (link_place p j o) 0 ≡ link_place p j ((ln j).up o)
+  pub down : get_or (nodes_from p ln col).dlink (link_place p j o) 0 ≡ link_place p j ((ln j).down o)
+  pub item : get_or (nodes_from p ln col).top (link_place p j o) 0 ≡ j
+  pub len : get_or (nodes_from p ln col).top j 0 ≡ (ln j).len
+  pub names : NamesPlaces (nodes_from p ln col) (link_place p j o)
+
+pub node_cells : (p : Puzzle) (ln : ℕ → Line) (col : Node → ℕ) (j o : ℕ) → IsLaid p → 0 < j → j ≤ item_count p → 0 < o → IsName p j o → IsName p j ((ln j).up o) → IsName p j ((ln j).down o) → NodeCells p ln col j o
+node_cells p ln col j o laid pos le o_pos name name_up name_down =
+    let q = link_place p j o in
+    let here = laid.there j o pos le name in
+    let above = laid.there j ((ln j).up o) pos le name_up in
+    let below = laid.there j ((ln j).down o) pos le name_down in
+    let long : length (map (top_in ln) (layout p)) ≡ length (layout p) = length-map (layout p) (top_in ln) in
+    let up = get_up p ln j o here in
+    let down = get_down p ln j o here in
+    let item = get_item p ln j o here o_pos in
+    let q_in = slice_get_within (layout p) q here.node here.at in
+    let u_in = slice_get_within (layout p) (link_place p j ((ln j).up o)) above.node above.at in
+    let d_in = slice_get_within (layout p) (link_place p j ((ln j).down o)) below.node below.at in
+    let j_in = slice_get_within (layout p) j (own j) (laid.head j pos le) in
+    record {
+      above = above;
+      below = below;
+      up = up;
+      down = down;
+      item = item;
+      len = get_len p ln j laid pos le;
+      names = record { place = omega (arith, long, q_in); top = omega (arith, long, j_in, item); above = omega (arith, long, u_in, up); below = omega (arith, long, d_in, down) };
+    }
+
 -- columns of links that lead the same way
 pub column_same : (p : Puzzle) (f g : ℕ → ℕ → ℕ) (fixed : Node → ℕ) → ((j x : ℕ) → g j x ≡ f j x) → column p g fixed ≡ column p f fixed
-column_same p f g fixed h = map_same (λ n. link_at p f (fixed n) (slot_of n)) (λ n. link_at p g (fixed n) (slot_of n)) (layout p) (λ q n e. slot_same (fixed n) (slot_of n))
-  where
-    slot_same : (k : ℕ) (s : Option (ℕ × ℕ)) → link_at p g k s ≡ link_at p f k s
-    slot_same k None = refl
-    slot_same k (Some s) = ap (link_place p s.0) (h s.0 s.1)
+column_same p f g fixed h = ap (λ k. column p k fixed) (fun_ext (λ j. fun_ext (h j)))

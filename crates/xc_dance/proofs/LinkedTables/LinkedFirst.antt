@@ -1,5 +1,5 @@
 -- Once every node is entered, the table is that of no moves.
-use Rattle.std.proofs.Common.{◌≡◌, ℕ, zero, suc, ◌+◌, ◌<◌, ◌≤◌, true, false, List, [], ◌∷◌, length, take, filter, Some, refl, ap, sym, subst, ◌∙◌, arith}
+use Rattle.std.proofs.Common.{◌≡◌, ℕ, zero, suc, ◌+◌, ◌<◌, ◌≤◌, true, false, List, [], length, take, filter, Some, refl, ap, sym, subst, ◌∙◌, arith}
 use Rattle.std.specs.Prelude.{slice_get}
 use Rattle.std.proofs.lemmas.List.{length-map, take_all}
 use Rattle.xc_input.specs.declared.problem.Use.{Use}
@@ -12,20 +12,15 @@ use Rattle.xc_dance.specs.Links.Lines.{Line}
 use Rattle.xc_dance.specs.Links.Cells.{top_in, ulink_in, dlink_in, color_in, line_of, up_of, down_of, nodes_from, nodes_after}
 use Rattle.xc_dance.specs.Links.FirstNodes.{blanks}
 use Rattle.xc_dance.proofs.LinkedTables.Mapped.{map_same}
-use Rattle.xc_dance.proofs.LinkedTables.LaidLemmas.{NodeOk, layout_ok, each_get}
-use Rattle.xc_dance.proofs.LinkedTables.LaidNodes.{same_columns}
+use Rattle.xc_dance.proofs.LinkedTables.LaidLemmas.{NodeOk, layout_ok}
+use Rattle.xc_dance.proofs.LinkedTables.Undo.{same_nodes}
 use Rattle.xc_dance.proofs.LinkedTables.Sweep.{Swept, swept, stay, cuts}
 use Rattle.xc_dance.proofs.LinkedTables.GrownLines.{grown_all, grown_len, grown_linked}
-use Rattle.xc_dance.proofs.LinkedTables.HeldOptions.{held_none, held_all, held_in, lines_of, first_numbers_rise}
+use Rattle.xc_dance.proofs.LinkedTables.HeldOptions.{held_none, held_all, held_in, lines_of}
 use Rattle.xc_dance.proofs.LinkedTables.EnteredNodes.{nodes_same}
-
-stay_all : (xs : List ℕ) → stay (λ x. false) xs ≡ xs
-stay_all [] = refl
-stay_all (x ∷ xs) = ap (λ ys. x ∷ ys) (stay_all xs)
-
-leave_none : (xs : List ℕ) → filter (λ (x : ℕ). false) xs ≡ []
-leave_none [] = refl
-leave_none (x ∷ xs) = leave_none xs
+use Rattle.xc_input.proofs.EachElement.{each_at}
+use Rattle.xc_dance.proofs.MoveLemmas.Shortened.{rises_listed}
+use Rattle.xc_dance.proofs.LinkedTables.LineSteps.{stay_all, leave_none}
 
 -- where the links of a line along a list lead
 along : (xs : List ℕ) → Rises 0 xs → Swept (grown_all xs) (grown_all xs) 0 xs xs
@@ -43,11 +38,11 @@ whole p j = grown_all (listed_numbers p [] j)
 
 up_is : (p : Puzzle) (j o : ℕ) → is_in o (listed_numbers p [] j) ≡ true → 0 < o → (whole p j).up o ≡ up_of p [] j o
 up_is p j zero e pos = absurd (omega (arith, pos))
-up_is p j (suc o) e pos = (along (listed_numbers p [] j) (first_numbers_rise p j)).up_in (suc o) e
+up_is p j (suc o) e pos = (along (listed_numbers p [] j) (rises_listed p [] j)).up_in (suc o) e
 
 down_is : (p : Puzzle) (j o : ℕ) → is_in o (listed_numbers p [] j) ≡ true → 0 < o → (whole p j).down o ≡ down_of p [] j o
 down_is p j zero e pos = absurd (omega (arith, pos))
-down_is p j (suc o) e pos = (along (listed_numbers p [] j) (first_numbers_rise p j)).down_in (suc o) (λ z. omega (arith, z)) e
+down_is p j (suc o) e pos = (along (listed_numbers p [] j) (rises_listed p [] j)).down_in (suc o) (λ z. omega (arith, z)) e
 
 in_list : (p : Puzzle) (q o : ℕ) (u : Use) → IsFit p → slice_get (layout p) q ≡ Some (used o u) → is_in o (listed_numbers p [] u.item) ≡ true
 in_list p q o u fit e = ap (is_in o) (sym (held_all p u.item fit)) ∙ held_in (layout p) q o u e
@@ -60,24 +55,24 @@ top_is p (used o u) = refl
 
 ulink_is : (p : Puzzle) (q : ℕ) (n : Node) → IsFit p → slice_get (layout p) q ≡ Some n → ulink_in p (whole p) n ≡ ulink_in p (line_of p []) n
 ulink_is p q unused fit e = refl
-ulink_is p q (own i) fit e = ap (link_place p i) (along (listed_numbers p [] i) (first_numbers_rise p i)).last
+ulink_is p q (own i) fit e = ap (link_place p i) (along (listed_numbers p [] i) (rises_listed p [] i)).last
 ulink_is p q (spacer n) fit e = refl
 ulink_is p q (used o u) fit e =
-    let ok : NodeOk p (used o u) = each_get (NodeOk p) (layout p) q (used o u) (layout_ok p fit) e in
+    let ok : NodeOk p (used o u) = each_at (NodeOk p) (layout p) q (used o u) (layout_ok p fit) e in
     ap (link_place p u.item) (up_is p u.item o (in_list p q o u fit e) ok.0)
 
 dlink_is : (p : Puzzle) (q : ℕ) (n : Node) → IsFit p → slice_get (layout p) q ≡ Some n → dlink_in p (whole p) n ≡ dlink_in p (line_of p []) n
 dlink_is p q unused fit e = refl
-dlink_is p q (own i) fit e = ap (link_place p i) (along (listed_numbers p [] i) (first_numbers_rise p i)).first
+dlink_is p q (own i) fit e = ap (link_place p i) (along (listed_numbers p [] i) (rises_listed p [] i)).first
 dlink_is p q (spacer n) fit e = refl
 dlink_is p q (used o u) fit e =
-    let ok : NodeOk p (used o u) = each_get (NodeOk p) (layout p) q (used o u) (layout_ok p fit) e in
+    let ok : NodeOk p (used o u) = each_at (NodeOk p) (layout p) q (used o u) (layout_ok p fit) e in
     ap (link_place p u.item) (down_is p u.item o (in_list p q o u fit e) ok.0)
 
 pub all_entered : (p : Puzzle) (n : ℕ) → IsFit p → length (layout p) ≤ n → nodes_from p (lines_of (take n (layout p))) (color_in p []) ≡ nodes_after p []
 all_entered p n fit le =
     nodes_same p (lines_of (take n (layout p))) (whole p) (color_in p []) (λ j. ap (λ ns. lines_of ns j) (take_all n (layout p) le) ∙ ap grown_all (held_all p j fit))
-    ∙ same_columns (nodes_from p (whole p) (color_in p [])) (nodes_after p [])
+    ∙ same_nodes (nodes_from p (whole p) (color_in p [])) (nodes_after p [])
     (map_same (top_in (line_of p [])) (top_in (whole p)) (layout p) (λ q m e. top_is p m))
     (map_same (ulink_in p (line_of p [])) (ulink_in p (whole p)) (layout p) (λ q m e. ulink_is p q m fit e))
     (map_same (dlink_in p (line_of p [])) (dlink_in p (whole p)) (layout p) (λ q m e. dlink_is p q m fit e))

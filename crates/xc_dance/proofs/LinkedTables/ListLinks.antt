@@ -6,15 +6,16 @@ use Rattle.xc_dance.specs.declared.dance.Move.{Move}
 use Rattle.xc_input.specs.Problem.{Puzzle, item_count}
 use Rattle.xc_dance.specs.Moves.{listed, listed_numbers}
 use Rattle.xc_dance.specs.Fields.{layout, link_place, own}
-use Rattle.xc_dance.specs.Links.Lines.{Line, IsLinkedFrom}
+use Rattle.xc_dance.specs.Links.Lines.{Line}
 use Rattle.xc_dance.specs.Links.Steps.{followed, list_of, list_back}
 use Rattle.xc_dance.specs.Links.Cells.{top_in, ulink_in, dlink_in, nodes_after, line_of}
 use Rattle.xc_dance.specs.Links.Laid.{Placed, IsLaid, IsFit}
-use Rattle.xc_dance.proofs.LinkedTables.Mapped.{get_within}
+use Rattle.std.proofs.lemmas.Option.{slice_get_within}
 use Rattle.xc_dance.proofs.LinkedTables.LinkColumns.{get_up, get_down, get_len}
 use Rattle.xc_dance.proofs.LinkedTables.Goods.{Named}
 use Rattle.xc_dance.proofs.LinkedTables.LineSteps.{stands}
 use Rattle.xc_dance.proofs.LinkedTables.GoodLines.{numbers_few, numbers_named}
+use Rattle.xc_dance.proofs.LinkedTables.LineChanges.{IsLinkedFrom}
 
 above_zero : (l : Line) (a : ℕ) (xs : List ℕ) (x : ℕ) → IsLinkedFrom l a (x ∷ xs) → 0 < x
 above_zero l a xs x h = let lt : a < x = h.0 in omega arith
@@ -73,7 +74,7 @@ back_is p t i laid pos le =
 
 pub in_table : (p : Puzzle) (t : List Move) (i : ℕ) → IsLaid p → 0 < i → i ≤ item_count p → i < length (nodes_after p t).top
 in_table p t i laid pos le =
-    let h = get_within (layout p) i (own i) (laid.head i pos le) in
+    let h = slice_get_within (layout p) i (own i) (laid.head i pos le) in
     let long : length (map (top_in (line_of p t)) (layout p)) ≡ length (layout p) = length-map (layout p) (top_in (line_of p t)) in
     omega (arith, h, long)
 

@@ -9,11 +9,12 @@ use Rattle.xc_input.specs.Problem.{Puzzle, colour_in, uses_of}
 use Rattle.xc_dance.specs.Moves.{listed_numbers, purified, is_other_colour}
 use Rattle.xc_dance.specs.Lists.Losing.{is_kept}
 use Rattle.xc_dance.specs.Fields.{Node, unused, own, spacer, used, layout, is_in, is_marked}
-use Rattle.xc_dance.specs.Links.Cells.{slot_of, color_in, is_slot, with_color}
+use Rattle.xc_dance.specs.Links.Cells.{slot_of, color_in}
 use Rattle.xc_dance.specs.Links.Laid.{IsLaid}
 use Rattle.xc_dance.proofs.LinkedTables.Sweep.{not_in}
 use Rattle.xc_dance.proofs.LinkedTables.OneList.{marked_list}
-use Rattle.xc_dance.proofs.LinkedTables.LineSteps.{numbers_rise}
+use Rattle.xc_dance.proofs.MoveLemmas.Shortened.{rises_listed}
+use Rattle.xc_dance.proofs.LinkedTables.LineChanges.{is_slot, with_color}
 
 -- a walk that keeps no colour marks none
 pub marked_none : (p : Puzzle) (i : ℕ) (now : Node → ℕ) (xs : List ℕ) → marked_list p i None now xs ≡ now
@@ -90,7 +91,7 @@ purify_colours p t i c laid k unused at = sym (marked_at p i (Some c) (purify_st
 purify_colours p t i c laid k (spacer m) at = sym (marked_at p i (Some c) (purify_start p t i c) (listed_numbers p t i) (spacer m))
 purify_colours p t i c laid k (own j) at =
     elim (eqb j i) as (λ b. unwrap_or (cond b (Some c) (purified j t)) 0 ≡ cond (b && (is_in 0 (listed_numbers p t i) && is_kept p i (Some c) 0)) 4294967295 (cond (b && eqb 0 0) c (unwrap_or (purified j t) 0))) [
-      | true ↦ ap (λ b. cond (b && is_kept p i (Some c) 0) 4294967295 c) (sym (not_in 0 0 (listed_numbers p t i) (omega arith) (numbers_rise p t i)))
+      | true ↦ ap (λ b. cond (b && is_kept p i (Some c) 0) 4294967295 c) (sym (not_in 0 0 (listed_numbers p t i) (omega arith) (rises_listed p t i)))
       | false ↦ refl
     ]
     ∙ sym (marked_at p i (Some c) (purify_start p t i c) (listed_numbers p t i) (own j))

@@ -1,12 +1,12 @@
 -- The other uses of an option in an open item's list: each is in its own item's list, or marked.
-use Rattle.std.proofs.Common.{◌≡◌, ℕ, zero, suc, ◌+◌, ◌<◌, ◌≤◌, ◌⊎◌, inl, inr, Bool, true, false, not, cond, ◌&&◌, ◌||◌, eqb, List, [], ◌∷◌, map, get_or, Option, Some, None, refl, ap, ap₂, sym, subst, ◌∙◌, arith, eqb-true, eq-eqb, ne_eqb}
-use Rattle.std.specs.Prelude.{is_some, slice_get, unwrap_or, nat_lt}
+use Rattle.std.proofs.Common.{◌≡◌, ℕ, ◌<◌, ◌≤◌, ◌⊎◌, inl, inr, Bool, true, false, not, cond, ◌&&◌, ◌||◌, eqb, List, [], ◌∷◌, map, get_or, Some, None, refl, ap, ap₂, sym, subst, ◌∙◌, arith, eqb-true, eq-eqb, ne_eqb}
+use Rattle.std.specs.Prelude.{is_some, slice_get, nat_lt}
 use Rattle.std.specs.List.{AllByRecursion}
 use Rattle.std.proofs.lemmas.Bool.{false≢true}
 use Rattle.xc_input.specs.declared.problem.Use.{Use}
 use Rattle.xc_dance.specs.declared.dance.Move.{Move}
 use Rattle.xc_dance.specs.declared.dance.Move.TheVariants.{Cover, Purify, Tweak, Spend}
-use Rattle.xc_input.specs.Problem.{Puzzle, Numbered, numbered_options, numbered_from, numbered_get, item_count, colour_in, colour_at, uses_of, holds, holding}
+use Rattle.xc_input.specs.Problem.{Puzzle, Numbered, numbered_options, item_count, colour_in, colour_at, uses_of, holds, holding}
 use Rattle.xc_dance.specs.Moves.{listed, is_open, is_covered, purified, AreLegal, listed_numbers}
 use Rattle.xc_dance.specs.Fields.{Node, unused, own, spacer, used, layout, link_place, is_in, is_marked}
 use Rattle.xc_dance.specs.Left.{left, agrees}
@@ -20,41 +20,20 @@ use Rattle.xc_dance.proofs.MoveLemmas.LeftOptions.{left_free, left_agrees, kept}
 use Rattle.xc_dance.proofs.LinkedTables.Sweep.{is_in-first}
 use Rattle.xc_dance.proofs.LinkedTables.Goods.{Named}
 use Rattle.xc_dance.proofs.LinkedTables.OneOption.{is_mark}
+use Rattle.std.proofs.lemmas.Option.{same_Some}
+use Rattle.xc_input.proofs.EachElement.{each_weaker, each_both}
+use Rattle.xc_dance.proofs.LinkedTables.OptionNumbers.{IsOption, options_numbered}
+use Rattle.xc_dance.proofs.LinkedTables.LinkColumns.{item_of, member_of}
 
 -- ---- facts of each option left
-
-pub each_and : {X : Type 0} (P Q R : X → Type 0) (xs : List X) → ((x : X) → P x → Q x → R x) → AllByRecursion P xs → AllByRecursion Q xs → AllByRecursion R xs
-each_and P Q R [] h a b = tt
-each_and P Q R (x ∷ xs) h a b = (h x a.0 b.0, each_and P Q R xs h a.1 b.1)
-
-pub each_one : {X : Type 0} (P Q : X → Type 0) (xs : List X) → ((x : X) → P x → Q x) → AllByRecursion P xs → AllByRecursion Q xs
-each_one P Q [] h a = tt
-each_one P Q (x ∷ xs) h a = (h x a.0, each_one P Q xs h a.1)
 
 -- a fact of all options is one of those left
 pub all_left : (P : Numbered → Type 0) (p : Puzzle) (t : List Move) → AllByRecursion P (numbered_options p) → AllByRecursion P (left p t)
 all_left P p [] a = a
 all_left P p (m ∷ t) a = kept P p t m (all_left P p t a)
 
-numbered_at : (all : List (List Use)) (i k : ℕ) → i ≡ k + 1 → numbered_get all i ≡ slice_get all k
-numbered_at all zero k e = absurd (omega (arith, e))
-numbered_at all (suc i) k e = let same : i ≡ k = omega (arith, e) in ap (slice_get all) same
-
-uses_from : (all os : List (List Use)) (n : ℕ) → ((j : ℕ) → slice_get all (n + j) ≡ slice_get os j) → AllByRecursion (λ o. (0 < o.number) × (unwrap_or (numbered_get all o.number) [] ≡ o.uses)) (numbered_from (n + 1) os)
-uses_from all [] n h = tt
-uses_from all (us ∷ os) n h =
-    let z : n ≡ n + 0 = omega arith in
-    let here : numbered_get all (n + 1) ≡ Some us = numbered_at all (n + 1) n refl ∙ ap (slice_get all) z ∙ h 0 in (
-      (omega arith, ap (λ o. unwrap_or o []) here),
-      uses_from all os (n + 1) (λ j. let s : (n + 1) + j ≡ n + suc j = omega arith in ap (slice_get all) s ∙ h (suc j)),
-    )
-
--- the option of this number has these uses
-abbrev pub IsOption : Puzzle → Numbered → Type 0
-IsOption p o = (0 < o.number) × (uses_of p o.number ≡ o.uses)
-
 pub options_left : (p : Puzzle) (t : List Move) → AllByRecursion (IsOption p) (left p t)
-options_left p t = all_left (IsOption p) p t (uses_from p.options p.options 0 (λ j. let s : 0 + j ≡ j = omega arith in ap (slice_get p.options) s))
+options_left p t = all_left (IsOption p) p t (options_numbered p)
 
 -- ---- membership
 
@@ -64,7 +43,7 @@ holding_in j (x ∷ os) =
     elim (holds x j) as (λ b. holds x j ≡ b → AllByRecursion (λ o. holds o j ≡ true → is_in o.number (map (λ x. x.number) (cond b (x ∷ holding j os) (holding j os))) ≡ true) (x ∷ os)) [
       | true ↦ λ e. (
         (λ h. is_in-first x.number _),
-        each_one (λ o. holds o j ≡ true → is_in o.number (map (λ x. x.number) (holding j os)) ≡ true) (λ o. holds o j ≡ true → is_in o.number (map (λ x. x.number) (x ∷ holding j os)) ≡ true) os
+        each_weaker (λ o. holds o j ≡ true → is_in o.number (map (λ x. x.number) (holding j os)) ≡ true) (λ o. holds o j ≡ true → is_in o.number (map (λ x. x.number) (x ∷ holding j os)) ≡ true) os
             (λ o f h. elim (eqb x.number o.number) as (λ b. (b || is_in o.number (map (λ x. x.number) (holding j os))) ≡ true) [ true ↦ refl | false ↦ f h ]) (holding_in j os),
       )
       | false ↦ λ e. ((λ h. absurd (false≢true (sym e ∙ h))), holding_in j os)
@@ -98,9 +77,6 @@ open_unmarked p (Purify k d ∷ t) j o c e =
 open_unmarked p (Tweak k ∷ t) j o c e = open_unmarked p t j o c e
 open_unmarked p (Spend k ∷ t) j o c e = open_unmarked p t j o c e
 
-some_number : (a b : ℕ) → Some a ≡ Some b → a ≡ b
-some_number a b e = cc
-
 true_either : (b : Bool) → cond b true true ≡ true
 true_either true = refl
 true_either false = refl
@@ -114,14 +90,14 @@ purified_marked p (Purify k d ∷ t) j c legal e =
       | true ↦ λ f g.
           let same : j ≡ k = eqb-true j k f in
           let item : eqb k j ≡ true = eq-eqb k j (sym same) in
-          let colour : eqb d c ≡ true = eq-eqb d c (some_number d c g) in
+          let colour : eqb d c ≡ true = eq-eqb d c (same_Some d c g) in
           let opened : is_open j t ≡ true = ap (λ i. is_open i t) same ∙ legal.0.1 in
           kept (λ o. holds o j ≡ true → is_marked p (Purify k d ∷ t) j o.number c ≡ true) p t (Purify k d)
-          (each_one (λ o. holds o j ≡ true → is_in o.number (listed_numbers p t j) ≡ true) (λ o. holds o j ≡ true → is_marked p (Purify k d ∷ t) j o.number c ≡ true) (left p t)
+          (each_weaker (λ o. holds o j ≡ true → is_in o.number (listed_numbers p t j) ≡ true) (λ o. holds o j ≡ true → is_marked p (Purify k d ∷ t) j o.number c ≡ true) (left p t)
           (λ o h held. rw (item, colour, h held) refl) (in_open p t j legal.1 opened))
       | false ↦ λ f g.
           kept (λ o. holds o j ≡ true → is_marked p (Purify k d ∷ t) j o.number c ≡ true) p t (Purify k d)
-          (each_one (λ o. holds o j ≡ true → is_marked p t j o.number c ≡ true) (λ o. holds o j ≡ true → is_marked p (Purify k d ∷ t) j o.number c ≡ true) (left p t)
+          (each_weaker (λ o. holds o j ≡ true → is_marked p t j o.number c ≡ true) (λ o. holds o j ≡ true → is_marked p (Purify k d ∷ t) j o.number c ≡ true) (left p t)
           (λ o h held. ap (cond ((eqb k j && eqb d c) && is_in o.number (listed_numbers p t j)) true) (h held) ∙ true_either _) (purified_marked p t j c legal.1 g))
     ] refl e
 purified_marked p (Tweak k ∷ t) j c legal e = kept (λ o. holds o j ≡ true → is_marked p t j o.number c ≡ true) p t (Tweak k) (purified_marked p t j c legal.1 e)
@@ -129,27 +105,13 @@ purified_marked p (Spend k ∷ t) j c legal e = purified_marked p t j c legal.1 
 
 -- ---- a node's colour cell
 
-abbrev slot_item : Option (ℕ × ℕ) → ℕ
-slot_item None = 0
-slot_item (Some s) = s.0
-
-abbrev slot_member : Option (ℕ × ℕ) → ℕ
-slot_member None = 0
-slot_member (Some s) = s.1
-
--- the node of a member stands for a use of it
-pub record Used (p : Puzzle) (j o : ℕ) : Type 0 where
-  pub use_of : Use
-  pub at : slice_get (layout p) (link_place p j o) ≡ Some (used o use_of)
-  pub item : use_of.item ≡ j
-
 used_by : (p : Puzzle) (j o k : ℕ) (n : Node) → 0 < o → slice_get (layout p) k ≡ Some n → slot_of n ≡ Some (j, o) → (u : Use) × (slice_get (layout p) k ≡ Some (used o u)) × (u.item ≡ j)
 used_by p j o k unused pos at e = cc
 used_by p j o k (spacer n) pos at e = cc
-used_by p j o k (own i) pos at e = let z : 0 ≡ o = ap slot_member e in absurd (omega arith)
+used_by p j o k (own i) pos at e = let z : 0 ≡ o = ap member_of e in absurd (omega arith)
 used_by p j o k (used m u) pos at e =
-    let same : m ≡ o = ap slot_member e in
-    (u, subst (λ i. slice_get (layout p) k ≡ Some (used i u)) same at, ap slot_item e)
+    let same : m ≡ o = ap member_of e in
+    (u, subst (λ i. slice_get (layout p) k ≡ Some (used i u)) same at, ap item_of e)
 
 -- what stands in the colour cell of an option's node in item j's list
 pub color_is : (p : Puzzle) (t : List Move) (o j c : ℕ) → IsLaid p → 0 < j → j ≤ item_count p → 0 < o → Named p j o → colour_in (uses_of p o) j ≡ Some c →
@@ -158,7 +120,7 @@ color_is p t o j c laid jpos jle pos named has =
     let h = laid.there j o jpos jle (inr (pos, named)) in
     let u = used_by p j o (link_place p j o) h.node pos h.at h.slot in
     let colour : colour_in (uses_of p o) u.0.item ≡ Some u.0.colour = laid.coloured (link_place p j o) o u.0 u.1 in
-    let same : u.0.colour ≡ c = some_number u.0.colour c (sym colour ∙ ap (colour_in (uses_of p o)) u.2 ∙ has) in
+    let same : u.0.colour ≡ c = same_Some u.0.colour c (sym colour ∙ ap (colour_in (uses_of p o)) u.2 ∙ has) in
     get_map (color_in p t) (layout p) (link_place p j o) (used o u.0) u.1
     ∙ ap₂ (λ i d. cond (is_marked p t i o d) 4294967295 d) u.2 same
 
@@ -167,10 +129,6 @@ pub mark_is : (p : Puzzle) (t : List Move) (o j c : ℕ) → IsLaid p → 0 < j 
 mark_is p t o j c laid jpos jle pos named has = ap (λ v. eqb v 4294967295) (color_is p t o j c laid jpos jle pos named has)
 
 -- ---- closed items
-
-or_right : (a b : Bool) → a ≡ false → (a || b) ≡ true → b ≡ true
-or_right true b e f = cc
-or_right false b e f = f
 
 pub closed : (j : ℕ) (t : List Move) → is_open j t ≡ false → (is_covered j t ≡ true) ⊎ ((c : ℕ) × (purified j t ≡ Some c))
 closed j [] e = cc
@@ -202,7 +160,7 @@ pub colour_small : (us : List Use) (j c : ℕ) → AllByRecursion (λ u. u.colou
 colour_small [] j c a e = cc
 colour_small (u ∷ us) j c a e =
     elim (eqb u.item j) as (λ b. cond b (Some u.colour) (colour_in us j) ≡ Some c → c < 4294967295) [
-      | true ↦ λ f. let same : u.colour ≡ c = some_number u.colour c f in omega (arith, a.0, same)
+      | true ↦ λ f. let same : u.colour ≡ c = same_Some u.colour c f in omega (arith, a.0, same)
       | false ↦ λ f. colour_small us j c a.1 f
     ] e
 
@@ -210,7 +168,7 @@ pub each_met : (p : Puzzle) (t : List Move) (j : ℕ) → AreLegal p t → IsLai
 each_met p t j legal laid fit jpos jle =
     elim (is_open j t) as (λ b. is_open j t ≡ b → AllByRecursion (λ o. holds o j ≡ true → Met p t o.number j) (left p t)) [
       | true ↦ λ e.
-          each_and (IsOption p) (λ o. holds o j ≡ true → is_in o.number (listed_numbers p t j) ≡ true) (λ o. holds o j ≡ true → Met p t o.number j) (left p t)
+          each_both (IsOption p) (λ o. holds o j ≡ true → is_in o.number (listed_numbers p t j) ≡ true) (λ o. holds o j ≡ true → Met p t o.number j) (left p t)
           (λ o is h held.
           let named : Named p j o.number = ap (λ us. is_some (colour_in us j)) is.1 ∙ held in
           let c = colour_some (uses_of p o.number) j named in
@@ -223,9 +181,9 @@ each_met p t j legal laid fit jpos jle =
           (options_left p t) (in_open p t j legal e)
       | false ↦ λ e.
           elim (closed j t e) [
-            | inl covered ↦ each_one (λ o. holds o j ≡ false) (λ o. holds o j ≡ true → Met p t o.number j) (left p t) (λ o no held. absurd (false≢true (sym no ∙ held))) (left_free p t j covered)
+            | inl covered ↦ each_weaker (λ o. holds o j ≡ false) (λ o. holds o j ≡ true → Met p t o.number j) (left p t) (λ o no held. absurd (false≢true (sym no ∙ held))) (left_free p t j covered)
             | inr has ↦
-                each_and (IsOption p) (λ o. (holds o j ≡ true → is_marked p t j o.number has.0 ≡ true) × (agrees has.0 (colour_at o j) ≡ true)) (λ o. holds o j ≡ true → Met p t o.number j) (left p t)
+                each_both (IsOption p) (λ o. (holds o j ≡ true → is_marked p t j o.number has.0 ≡ true) × (agrees has.0 (colour_at o j) ≡ true)) (λ o. holds o j ≡ true → Met p t o.number j) (left p t)
                 (λ o is h held.
                 let named : Named p j o.number = ap (λ us. is_some (colour_in us j)) is.1 ∙ held in
                 let c = colour_some (uses_of p o.number) j named in
@@ -236,6 +194,6 @@ each_met p t j legal laid fit jpos jle =
                 ∙ ap (λ b. eqb (cond b 4294967295 c.0) 4294967295) (ap (is_marked p t j o.number) same ∙ h.0 held) in
                 record { opened = λ f. absurd (false≢true (sym e ∙ f)); shut = λ _. m })
                 (options_left p t)
-                (each_and (λ o. holds o j ≡ true → is_marked p t j o.number has.0 ≡ true) (λ o. agrees has.0 (colour_at o j) ≡ true) _ (left p t) (λ o a b. (a, b)) (purified_marked p t j has.0 legal has.1) (left_agrees p t j has.0 has.1))
+                (each_both (λ o. holds o j ≡ true → is_marked p t j o.number has.0 ≡ true) (λ o. agrees has.0 (colour_at o j) ≡ true) _ (left p t) (λ o a b. (a, b)) (purified_marked p t j has.0 legal has.1) (left_agrees p t j has.0 has.1))
           ]
     ] refl

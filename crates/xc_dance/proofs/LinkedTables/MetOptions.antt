@@ -1,9 +1,9 @@
 -- The options of an open item's list are met: their other uses stand in their lists or are marked, so they are ready to leave.
-use Rattle.std.proofs.Common.{◌≡◌, ℕ, ◌<◌, ◌≤◌, Bool, true, false, not, cond, ◌&&◌, ◌||◌, eqb, List, [], ◌∷◌, map, Option, Some, None, refl, ap, sym, subst, ◌∙◌, arith, eqb-true, eq-eqb, ne_eqb}
+use Rattle.std.proofs.Common.{◌≡◌, ℕ, ◌<◌, ◌≤◌, true, false, not, cond, ◌||◌, eqb, List, [], ◌∷◌, map, Option, Some, None, refl, ap, sym, subst, ◌∙◌, arith, eqb-true, eq-eqb, ne_eqb}
 use Rattle.std.specs.Prelude.{is_some}
 use Rattle.std.specs.List.{AllByRecursion}
-use Rattle.std.proofs.lemmas.Bool.{eqb-false, false≢true}
-use Rattle.std.proofs.Math.Bool.{not-not}
+use Rattle.std.proofs.lemmas.Bool.{eqb-false, false≢true, and_parts}
+use Rattle.std.proofs.Math.Bool.{not-not, or-true}
 use Rattle.xc_dance.specs.declared.dance.Move.{Move}
 use Rattle.xc_input.specs.Problem.{Puzzle, Numbered, item_count, colour_in, uses_of, holds, holding}
 use Rattle.xc_dance.specs.Moves.{listed, is_open, AreLegal, listed_numbers, is_other_colour}
@@ -12,31 +12,32 @@ use Rattle.xc_dance.specs.Fields.{Node, is_in}
 use Rattle.xc_dance.specs.Left.{left}
 use Rattle.xc_dance.specs.Links.ListWalks.{is_kept_colour}
 use Rattle.xc_dance.specs.Links.Cells.{color_in}
-use Rattle.xc_dance.specs.Links.Others.{other_items}
+use Rattle.xc_dance.proofs.LinkedTables.LineChanges.{other_items}
 use Rattle.xc_dance.specs.Links.Laid.{IsLaid, IsFit}
 use Rattle.xc_dance.proofs.LinkedTables.ReadyLemmas.{Stands}
 use Rattle.xc_dance.proofs.MoveLemmas.OpenLists.{listed_open}
-use Rattle.xc_input.proofs.EachElement.{each-filter}
+use Rattle.xc_input.proofs.EachElement.{each-filter, each_both, each-map}
 use Rattle.xc_dance.proofs.LinkedTables.Sweep.{in_above}
 use Rattle.xc_dance.proofs.LinkedTables.Goods.{Named}
-use Rattle.xc_dance.proofs.LinkedTables.OneOption.{is_mark, AreReady}
+use Rattle.xc_dance.proofs.LinkedTables.OneOption.{is_mark, AreReady, AllApart}
 use Rattle.xc_dance.proofs.LinkedTables.OneList.{own_color, OwnReady, EachReady}
-use Rattle.xc_dance.proofs.LinkedTables.OtherItems.{in_others, AllApart}
+use Rattle.xc_dance.proofs.LinkedTables.OtherItems.{in_others}
 use Rattle.xc_dance.proofs.LinkedTables.OthersApart.{others_apart, item_range, own_apart}
-use Rattle.xc_dance.proofs.LinkedTables.LineSteps.{numbers_rise}
-use Rattle.xc_dance.proofs.LinkedTables.GoodLines.{numbers_named, each_number}
+use Rattle.xc_dance.proofs.MoveLemmas.Shortened.{rises_listed}
+use Rattle.xc_dance.proofs.LinkedTables.GoodLines.{numbers_named}
 use Rattle.xc_dance.proofs.MoveLemmas.Members.{element_of}
-use Rattle.xc_dance.proofs.LinkedTables.MarkedNodes.{each_and, IsOption, options_left, Met, each_met, stands_in, open_unmarked, color_is, colour_some, colour_small}
+use Rattle.xc_dance.proofs.LinkedTables.MarkedNodes.{options_left, Met, each_met, stands_in, open_unmarked, color_is, colour_some, colour_small}
+use Rattle.xc_dance.proofs.LinkedTables.OptionNumbers.{IsOption}
 
 -- an option of an open item's list, and another item that it holds
 pub met_at : (p : Puzzle) (t : List Move) (i j x : ℕ) → AreLegal p t → IsLaid p → IsFit p → is_open i t ≡ true → 0 < j → j ≤ item_count p → is_in x (listed_numbers p t i) ≡ true → Named p j x → Met p t x j
 met_at p t i j x legal laid fit opened pos le within named =
     let list : listed p t i ≡ holding i (left p t) = listed_open p t legal i opened in
     let each : AllByRecursion (λ o. Named p j o.number → Met p t o.number j) (left p t) =
-    each_and (IsOption p) (λ o. holds o j ≡ true → Met p t o.number j) (λ o. Named p j o.number → Met p t o.number j) (left p t)
+    each_both (IsOption p) (λ o. holds o j ≡ true → Met p t o.number j) (λ o. Named p j o.number → Met p t o.number j) (left p t)
     (λ o is h n. h (ap (λ us. is_some (colour_in us j)) (sym is.1) ∙ n)) (options_left p t) (each_met p t j legal laid fit pos le) in
     let listed_each : AllByRecursion (λ x. Named p j x → Met p t x j) (map (λ o. o.number) (holding i (left p t))) =
-    each_number (λ x. Named p j x → Met p t x j) (holding i (left p t)) (each-filter (λ o. Named p j o.number → Met p t o.number j) (λ o. holds o i) (left p t) each) in
+    each-map (λ x. Named p j x → Met p t x j) (λ o. o.number) (holding i (left p t)) (each-filter (λ o. Named p j o.number → Met p t o.number j) (λ o. holds o i) (left p t) each) in
     element_of (λ x. Named p j x → Met p t x j) x (listed_numbers p t i)
     (subst (λ (os : List Numbered). AllByRecursion (λ x. Named p j x → Met p t x j) (map (λ o. o.number) os)) (sym list) listed_each) within named
 
@@ -50,20 +51,15 @@ ready_by p col lists o (j ∷ js) h apart =
       here.2,
       here.3,
       apart.0,
-      ready_by p col lists o js (λ k e. h k (ap (λ b. eqb j k || b) e ∙ elim (eqb j k) as (λ b. (b || true) ≡ true) [ true ↦ refl | false ↦ refl ])) apart.1,
+      ready_by p col lists o js (λ k e. h k (ap (λ b. eqb j k || b) e ∙ or-true (eqb j k))) apart.1,
     )
-
-pub split_and : (a b : Bool) → (a && b) ≡ true → (a ≡ true) × (b ≡ true)
-split_and true true e = (refl, refl)
-split_and true false e = cc
-split_and false b e = cc
 
 -- its other uses are ready to leave
 pub ready_at : (p : Puzzle) (t : List Move) (i x : ℕ) → AreLegal p t → IsLaid p → IsFit p → is_open i t ≡ true → is_in x (listed_numbers p t i) ≡ true → AreReady p (color_in p t) (listed_numbers p t) x (other_items p x i)
 ready_at p t i x legal laid fit opened within =
     ready_by p (color_in p t) (listed_numbers p t) x (other_items p x i)
     (λ j e.
-    let named : Named p j x = (split_and _ _ (sym (in_others p x i j (fit.distinct x)) ∙ e)).1 in
+    let named : Named p j x = (and_parts _ _ (sym (in_others p x i j (fit.distinct x)) ∙ e)).1 in
     let r = item_range p (uses_of p x) j (fit.items x) named in
     let m = met_at p t i j x legal laid fit opened r.0 r.1 within named in (
       r.0,
@@ -89,7 +85,7 @@ test_is p i (Some d) x c e = eqb_turn c d ∙ sym (not-not (eqb d c)) ∙ sym (a
 -- its own node isn't marked, and tells whether it is kept
 pub own_ready : (p : Puzzle) (t : List Move) (i : ℕ) (keep : Option ℕ) (x : ℕ) → IsLaid p → IsFit p → is_open i t ≡ true → 0 < i → i ≤ item_count p → is_in x (listed_numbers p t i) ≡ true → OwnReady p (color_in p t) i keep x
 own_ready p t i keep x laid fit opened pos le within =
-    let x_pos : 0 < x = in_above 0 x (listed_numbers p t i) (numbers_rise p t i) within in
+    let x_pos : 0 < x = in_above 0 x (listed_numbers p t i) (rises_listed p t i) within in
     let named : Named p i x = element_of (Named p i) x (listed_numbers p t i) (numbers_named p t i) within in
     let c = colour_some (uses_of p x) i named in
     let small : c.0 < 4294967295 = colour_small (uses_of p x) i c.0 (fit.colours x) c.1 in

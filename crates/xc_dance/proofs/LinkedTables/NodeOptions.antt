@@ -18,20 +18,18 @@ use Rattle.xc_dance.proofs.LinkedTables.Goods.{Named}
 use Rattle.xc_dance.proofs.LinkedTables.GoodLines.{numbers_named}
 use Rattle.xc_dance.proofs.MoveLemmas.ListLemmas.{next_above-gt, Rises-filter, Rises-range}
 use Rattle.xc_dance.proofs.MoveLemmas.Shortened.{rises_listed}
-use Rattle.xc_dance.proofs.LinkedTables.Mapped.{get_map, get_within}
-use Rattle.xc_dance.proofs.LinkedTables.PlaceLemmas.{use_here, get_there, spacer_here, place_next}
-use Rattle.xc_dance.proofs.LinkedTables.OptionReach.{get_behind, same_some}
+use Rattle.xc_dance.proofs.LinkedTables.Mapped.{get_map}
+use Rattle.xc_dance.proofs.LinkedTables.PlaceLemmas.{use_here, spacer_here, place_next}
+use Rattle.xc_dance.proofs.LinkedTables.OptionReach.{get_behind}
 use Rattle.xc_dance.proofs.LinkedTables.SpanLemmas.{parted, there}
 use Rattle.xc_dance.proofs.LinkedTables.SpacerPlaces.{use_at, spacer_at}
 use Rattle.xc_dance.proofs.LinkedTables.RingStep.{row_get, row_len, right_now}
 use Rattle.xc_dance.proofs.LinkedTables.Sweep.{first_above-first}
 use Rattle.xc_dance.proofs.LinkedTables.Turned.{open_uncovered}
+use Rattle.std.proofs.lemmas.Option.{same_Some, slice_get_within, slice_get-get_or}
+use Rattle.xc_dance.proofs.LinkedTables.LinkColumns.{member_of}
 
 -- ---- an item's own node
-
-abbrev slot_member : Option (ℕ × ℕ) → ℕ
-slot_member None = 0
-slot_member (Some s) = s.1
 
 -- an own node is of no option
 pub at_own : (p : Puzzle) (i x : ℕ) → 0 < i → i ≤ item_count p → IsName p i x → i ≡ link_place p i x → x ≡ 0
@@ -40,7 +38,7 @@ at_own p i x pos le name at =
     let two : Some (own i) ≡ Some q.node = sym (head_is p i pos le) ∙ ap (slice_get (layout p)) at ∙ q.at in
     let same : own i ≡ q.node = cc in
     let slots : Some (i, 0) ≡ Some (i, x) = ap slot_of same ∙ q.slot in
-    sym (ap slot_member slots)
+    sym (ap member_of slots)
 
 -- ---- the node of an option
 
@@ -94,20 +92,20 @@ on_the_way p t i (suc m) q laid fit pos held from to =
     let same : suc m - 1 ≡ m = omega arith in
     let s : m + 1 ≡ suc m = omega arith in
     let first : start_at p m ≤ q = subst (λ n. start_at p n ≤ q) same from in
-    let long = get_within w.uses w.index w.use_of w.use_is in
+    let long = slice_get_within w.uses w.index w.use_of w.use_is in
     let k = q - start_at p m in
     let d : Use = record { item = 0; colour = 0 } in
     let u = get_or w.uses k d in
-    let use_is : slice_get w.uses k ≡ Some u = get_there w.uses k d (omega (arith, first, to, place, long)) in
+    let use_is : slice_get w.uses k ≡ Some u = slice_get-get_or w.uses k d (omega (arith, first, to, place, long)) in
     let node : slice_get (layout p) q ≡ Some (used (m + 1) u) = use_here p m k q w.uses u w.uses_are use_is (omega (arith, first)) in
     let top : get_or (nodes_after p t).top q 0 ≡ u.item = get_map (top_in (line_of p t)) (layout p) q (used (m + 1) u) node in
     let here : u.item ≡ i → link_place p i (suc m) ≡ q = λ e. laid.unique q (used (m + 1) u) i (suc m) node (ap₂ (λ a b. Some (a, b)) e s) in
     let its_item : q ≡ link_place p i (suc m) → u.item ≡ i = λ e.
     let at : k ≡ w.index = omega (arith, e, place) in
     let one : Some u ≡ Some w.use_of = sym use_is ∙ ap (slice_get w.uses) at ∙ w.use_is in
-    ap (λ (v : Use). v.item) (same_some u w.use_of one) ∙ w.item in
+    ap (λ (v : Use). v.item) (same_Some u w.use_of one) ∙ w.item in
     record {
-      within = get_within (layout p) q (used (m + 1) u) node;
+      within = slice_get_within (layout p) q (used (m + 1) u) node;
       found = λ e. sym (here (sym top ∙ e));
       next = λ ne. (let other : q ≢ link_place p i (suc m) = λ e. ne (top ∙ its_item e) in omega (arith, to, other));
     }
@@ -124,7 +122,7 @@ record ToSpacer (p : Puzzle) (t : List Move) (o q : ℕ) : Type 0 where
 spacer_behind : (p : Puzzle) (i m : ℕ) (w : UsePlace p i m) → spacer_place p (suc m) ≡ start_at p m + length w.uses
 spacer_behind p i m w =
     let s : m + 1 ≡ suc m = omega arith in
-    let some = get_within p.options m w.uses w.uses_are in
+    let some = slice_get_within p.options m w.uses w.uses_are in
     let next = place_next p m w.uses w.uses_are in
     let at = spacer_at p (m + 1) (omega (arith, some)) in
     ap (spacer_place p) (sym s) ∙ omega (arith, at, next)
@@ -141,20 +139,20 @@ to_spacer p t i (suc m) q laid fit pos held from to =
           let k = q - start_at p m in
           let d : Use = record { item = 0; colour = 0 } in
           let u = get_or w.uses k d in
-          let use_is : slice_get w.uses k ≡ Some u = get_there w.uses k d (omega (arith, from, lt, place)) in
+          let use_is : slice_get w.uses k ≡ Some u = slice_get-get_or w.uses k d (omega (arith, from, lt, place)) in
           let node : slice_get (layout p) q ≡ Some (used (m + 1) u) = use_here p m k q w.uses u w.uses_are use_is (omega (arith, from, place)) in
           let top : get_or (nodes_after p t).top q 0 ≡ u.item = get_map (top_in (line_of p t)) (layout p) q (used (m + 1) u) node in
           let most = (laid.ranged q (used (m + 1) u) u.item (m + 1) node refl).1 in
           let small = laid.small in
-          record { within = get_within (layout p) q (used (m + 1) u) node; next = λ h. omega (arith, lt, end); number = λ h. absurd (omega (arith, h, top, most, small)) }
+          record { within = slice_get_within (layout p) q (used (m + 1) u) node; next = λ h. omega (arith, lt, end); number = λ h. absurd (omega (arith, h, top, most, small)) }
       | false ↦ λ e.
           let ge = ltb-false q (start_at p m + length w.uses) e in
-          let some = get_within p.options m w.uses w.uses_are in
+          let some = slice_get_within p.options m w.uses w.uses_are in
           let next = place_next p m w.uses w.uses_are in
           let at : q ≡ place_at p (m + 1) = omega (arith, ge, to, end, next) in
           let node : slice_get (layout p) q ≡ Some (spacer (m + 1)) = ap (slice_get (layout p)) at ∙ spacer_here p (m + 1) (omega (arith, some)) in
           let top : get_or (nodes_after p t).top q 0 ≡ 2147483648 + (m + 1) = get_map (top_in (line_of p t)) (layout p) q (spacer (m + 1)) node in
-          record { within = get_within (layout p) q (spacer (m + 1)) node; next = λ h. absurd (omega (arith, h, top)); number = λ h. omega (arith, top) }
+          record { within = slice_get_within (layout p) q (spacer (m + 1)) node; next = λ h. absurd (omega (arith, h, top)); number = λ h. omega (arith, top) }
     ] refl
 
 -- a node that isn't the item's own is of an option
@@ -171,7 +169,7 @@ before_spacer p i place x fit other name at = by_number x (name_used p i place x
         let w = use_place p i m fit h.1 in
         let here = w.place in
         let end = spacer_behind p i m w in
-        let long = get_within w.uses w.index w.use_of w.use_is in
+        let long = slice_get_within w.uses w.index w.use_of w.use_is in
         omega (arith, e, here, end, long)
 
 -- what TOP tells at q, which is not past the spacer behind the node at the place
@@ -246,7 +244,7 @@ use_down p t i (suc m) laid pos le some held e =
     ∙ ap (link_place p i) (below_now p t i (suc m) e)
 
 pub node_within : (p : Puzzle) (i o : ℕ) → IsLaid p → 0 < i → i ≤ item_count p → IsName p i o → link_place p i o < length (layout p)
-node_within p i o laid pos le name = let q = laid.there i o pos le name in get_within (layout p) (link_place p i o) q.node q.at
+node_within p i o laid pos le name = let q = laid.there i o pos le name in slice_get_within (layout p) (link_place p i o) q.node q.at
 
 -- ---- the ring of primary items
 

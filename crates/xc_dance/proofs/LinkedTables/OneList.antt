@@ -8,37 +8,23 @@ use Rattle.xc_dance.specs.Links.Span.{Span}
 use Rattle.xc_input.specs.Problem.{Puzzle, item_count, uses_of}
 use Rattle.xc_dance.specs.Lists.Losing.{is_kept}
 use Rattle.xc_dance.specs.Fields.{Node, layout, link_place, is_in}
-use Rattle.xc_dance.specs.Links.Lines.{Line, cut, IsLinkedFrom}
-use Rattle.xc_dance.specs.Links.Steps.{hidden, shown, others_of, hidden_node, shown_node, hide_costs, show_costs}
+use Rattle.xc_dance.specs.Links.Lines.{Line}
+use Rattle.xc_dance.specs.Links.Steps.{others_of, hidden_node, shown_node, hide_costs, show_costs}
 use Rattle.xc_dance.specs.Links.ListWalks.{with_colour, is_kept_colour, is_kept_mark, kept_colour, left_node, back_node, leave_cost, back_cost, walk_costs, back_costs, CanLeave, CanReturn, IsWalk, IsWalkBack}
-use Rattle.xc_dance.specs.Links.Cells.{nodes_from, ulink_in, dlink_in, with_line, with_color}
-use Rattle.xc_dance.specs.Links.Others.{before_use, behind_use, other_items, HasSpans}
+use Rattle.xc_dance.specs.Links.Cells.{nodes_from, ulink_in, dlink_in}
+use Rattle.xc_dance.specs.Links.Others.{before_use, behind_use, HasSpans}
 use Rattle.xc_dance.specs.Links.Laid.{Placed, IsLaid}
-use Rattle.xc_dance.proofs.LinkedTables.Mapped.{get_within}
-use Rattle.xc_dance.proofs.LinkedTables.Undo.{fold-shown-reverse, written_back, same_nodes}
+use Rattle.std.proofs.lemmas.Option.{slice_get_within}
+use Rattle.xc_dance.proofs.LinkedTables.Undo.{written_back, same_nodes}
 use Rattle.xc_dance.proofs.LinkedTables.ReadyLemmas.{Stands}
 use Rattle.xc_dance.proofs.LinkedTables.LinkColumns.{get_up, get_down}
 use Rattle.xc_dance.proofs.LinkedTables.Goods.{Named, AllGood}
 use Rattle.xc_dance.proofs.LinkedTables.Sweep.{in_more, Rises, in_above}
-use Rattle.xc_dance.proofs.LinkedTables.UnmarkedCosts.{hide_costs-are, show_costs-are, unmarked-reverse, unmarked_items}
 use Rattle.xc_dance.proofs.LinkedTables.Colours.{coloured_is, color_here, color_other}
-use Rattle.xc_dance.proofs.LinkedTables.OneOption.{is_mark, left_one, left_all, IsApart, AreReady, Walked, walked, ready_front}
-use Rattle.xc_dance.proofs.LinkedTables.Spacers.{others_are, Turns, turns}
-
--- ---- lines of other items
-
-pub one_other : (p : Puzzle) (col : Node → ℕ) (o : ℕ) (ln : ℕ → Line) (j k : ℕ) → j ≢ k → left_one p col o ln j k ≡ ln k
-one_other p col o ln j k ne =
-    let l : Line = cut (ln j) o in
-    let make : Bool → Line = λ b. record { len = cond b l.len (ln k).len; up = λ x. cond b (l.up x) ((ln k).up x); down = λ x. cond b (l.down x) ((ln k).down x) } in
-    elim (is_mark p col o j) as (λ b. cond b ln (with_line ln j l) k ≡ ln k) [
-      | true ↦ refl
-      | false ↦ ap make (ne_eqb k j (λ e. ne (sym e)))
-    ]
-
-pub all_other : (p : Puzzle) (col : Node → ℕ) (o : ℕ) (ln : ℕ → Line) (js : List ℕ) (k : ℕ) → IsApart k js → left_all p col o ln js k ≡ ln k
-all_other p col o ln [] k apart = refl
-all_other p col o ln (j ∷ js) k apart = all_other p col o (left_one p col o ln j) js k apart.1 ∙ one_other p col o ln j k apart.0
+use Rattle.xc_dance.proofs.LinkedTables.OneOption.{is_mark, left_one, left_all, IsApart, AreReady, walked, ready_front, all_other, gone_count}
+use Rattle.xc_dance.proofs.LinkedTables.Spacers.{Turns, turns}
+use Rattle.xc_dance.proofs.LinkedTables.Walks.{costs-append}
+use Rattle.xc_dance.proofs.LinkedTables.LineChanges.{cut, IsLinkedFrom, with_line, with_color, other_items}
 
 -- ---- what the walk leaves
 
@@ -55,10 +41,6 @@ abbrev pub marked_list : Puzzle → ℕ → Option ℕ → (Node → ℕ) → Li
 marked_list p i keep now xs = fold (λ now o. cond (is_kept p i keep o) (with_color now i o 4294967295) now) now xs
 
 -- ---- what the walk writes
-
--- how many of option o's other nodes leave their lists
-abbrev pub gone_count : Puzzle → (Node → ℕ) → ℕ → ℕ → ℕ
-gone_count p col i o = length (filter (λ j. not (is_mark p col o j)) (other_items p o i))
 
 abbrev pub step_cost : Puzzle → (Node → ℕ) → ℕ → Option ℕ → ℕ → ℕ
 step_cost p col i keep o = cond (is_kept p i keep o) 1 (3 * gone_count p col i o)
@@ -148,7 +130,7 @@ mark_step p now spans (Some c) ln i o laid h near e =
     let x = link_place p i o in
     let t : Nodes = nodes_from p ln now in
     let u : Nodes = nodes_from p ln (with_color now i o 4294967295) in
-    let within = get_within (layout p) x h.node h.at in
+    let within = slice_get_within (layout p) x h.node h.at in
     let long : length t.color ≡ length (layout p) = length-map (layout p) now in
     let long' : length u.color ≡ length (layout p) = length-map (layout p) (with_color now i o 4294967295) in
     let is : with_colour t x 4294967295 ≡ u = coloured_is p now ln i o 4294967295 laid h in
@@ -171,34 +153,23 @@ no_mark None v e = refl
 no_mark (Some c) v e = e
 
 -- any other one is hidden, and comes back
-hide_step : (p : Puzzle) (now : Node → ℕ) (spans : List Span) (keep : Option ℕ) (ln : ℕ → Line) (lists : ℕ → List ℕ) (i o : ℕ) → HasSpans p spans → Placed p i o → 0 < o → Named p i o
-    → is_kept_colour keep (own_color p now i o) ≡ false → eqb (own_color p now i o) 4294967295 ≡ false → Walked p now ln lists o (other_items p o i) → Turns p ln now spans o i →
+hide_step : (p : Puzzle) (now : Node → ℕ) (spans : List Span) (keep : Option ℕ) (ln : ℕ → Line) (i o : ℕ) → HasSpans p spans → Placed p i o → 0 < o → Named p i o
+    → is_kept_colour keep (own_color p now i o) ≡ false → eqb (own_color p now i o) 4294967295 ≡ false → Turns p ln now spans o i →
     OneStep spans keep (nodes_from p ln now) (nodes_from p (left_all p now o ln (other_items p o i)) now) (link_place p i o) (3 * gone_count p now i o)
-hide_step p now spans keep ln lists i o spanned h pos named other unmarked w turns =
+hide_step p now spans keep ln i o spanned h pos named other unmarked turns =
     let x = link_place p i o in
-    let js = other_items p o i in
-    let qs = map (λ j. link_place p j o) js in
     let t : Nodes = nodes_from p ln now in
-    let u : Nodes = nodes_from p (left_all p now o ln js) now in
-    let within = get_within (layout p) x h.node h.at in
+    let u : Nodes = nodes_from p (left_all p now o ln (other_items p o i)) now in
+    let within = slice_get_within (layout p) x h.node h.at in
     let long : length (map now (layout p)) ≡ length (layout p) = length-map (layout p) now in
-    let others : others_of spans x ≡ qs = others_are p spans o i spanned pos named in
     let not_marked : is_kept_mark keep (get_or u.color x 0) ≡ false = no_mark keep (own_color p now i o) unmarked in
     record {
       can = record { span = spanned.within o i pos named; place = omega (arith, long, within); hide = λ f. turns.hide };
-      done = ap (λ b. cond b (with_colour t x 4294967295) (hidden_node spans t x)) other ∙ ap (fold hidden t) others ∙ w.done;
-      back = record {
-        span = spanned.within o i pos named;
-        place = omega (arith, long, within);
-        show = λ f. turns.show;
-      };
-      undone =
-          ap (λ b. cond b (with_colour u x (kept_colour keep)) (shown_node spans u x)) not_marked
-          ∙ ap (λ ks. fold shown u (reverse ks)) others ∙ ap (λ (v : Nodes). fold shown v (reverse qs)) (sym w.done) ∙ fold-shown-reverse t qs w.rest.undone;
-      cost = ap (λ b. cond b 1 (hide_costs t (others_of spans x))) other ∙ ap (hide_costs t) others ∙ hide_costs-are t qs ∙ unmarked_items p now o js;
-      cost_back =
-          ap (λ b. cond b 1 (show_costs u (reverse (others_of spans x)))) not_marked
-          ∙ ap (λ ks. show_costs u (reverse ks)) others ∙ show_costs-are u (reverse qs) ∙ unmarked-reverse (map now (layout p)) qs ∙ unmarked_items p now o js;
+      done = ap (λ b. cond b (with_colour t x 4294967295) (hidden_node spans t x)) other ∙ turns.done;
+      back = record { span = spanned.within o i pos named; place = omega (arith, long, within); show = λ f. turns.show };
+      undone = ap (λ b. cond b (with_colour u x (kept_colour keep)) (shown_node spans u x)) not_marked ∙ turns.undone;
+      cost = ap (λ b. cond b 1 (hide_costs t (others_of spans x))) other ∙ turns.cost;
+      cost_back = ap (λ b. cond b 1 (show_costs u (reverse (others_of spans x)))) not_marked ∙ turns.cost_back;
     }
 
 -- the first step, and what is then asked of the rest
@@ -250,14 +221,14 @@ turn p col now spans i keep ln lists o xs laid spanned pos le o_pos good ready r
           let all_ready = ready_same p i col now (o ∷ xs) lists o js o_pos passed ready.2 ready.1 in
           let w = walked p now ln lists o js laid o_pos good all_ready in
           let mid = walked p now ln lists o (behind_use i (uses_of p o)) laid o_pos good (ready_front p now lists o (behind_use i (uses_of p o)) (before_use i (uses_of p o)) all_ready) in
-          let s = hide_step p now spans keep ln lists i o spanned here o_pos ready.0 (test ∙ e) unmarked w (turns p ln now lists spans o i spanned o_pos ready.0 w mid) in
+          let s = hide_step p now spans keep ln i o spanned here o_pos ready.0 (test ∙ e) unmarked (turns p ln now lists spans o i spanned o_pos ready.0 w mid) in
           record {
             ln' = left_all p now o ln js;
             now' = now;
             lists' = w.gone.lists';
             step = subst (OneStep spans keep (nodes_from p ln now) (nodes_from p (left_all p now o ln js) now) (link_place p i o))
                 (ap (λ ks. 3 * length ks) (gone_same p i col now (o ∷ xs) lists o js o_pos passed ready.2 ready.1) ∙ sym (ap (λ b. cond b 1 (3 * gone_count p col i o)) e)) s;
-            own = all_other p now o ln js i ready.2;
+            own = all_other cut p now o ln js i ready.2;
             good = w.gone.good;
             ready = each_kept p col lists w.gone.lists' i keep o o xs (omega arith) r w.gone.kept ready.4;
             passed = record { others = passed.others; own = λ x f. passed.own x (in_more o x xs f) };
@@ -294,10 +265,6 @@ back_push spans keep t u v q (y ∷ ys) x w done at next within can =
 leads_push : (spans : List Span) (keep : Option ℕ) (t u v : Nodes) (q : ℕ) (xs : List ℕ) (x : ℕ) → fold (back_node spans keep) t xs ≡ u → back_node spans keep u x ≡ v → leads spans keep t q (xs ++ x ∷ []) ≡ get_or v.ulink x 0
 leads_push spans keep t u v q [] x done next = ap (λ (s : Nodes). get_or (back_node spans keep s x).ulink x 0) done ∙ ap (λ (s : Nodes). get_or s.ulink x 0) next
 leads_push spans keep t u v q (y ∷ ys) x done next = leads_push spans keep (back_node spans keep t y) u v (get_or (back_node spans keep t y).ulink y 0) ys x done next
-
-costs_push : (spans : List Span) (keep : Option ℕ) (t : Nodes) (xs : List ℕ) (x : ℕ) → back_costs spans keep t (xs ++ x ∷ []) ≡ back_costs spans keep t xs + back_cost spans keep (fold (back_node spans keep) t xs) x
-costs_push spans keep t [] x = omega arith
-costs_push spans keep t (y ∷ ys) x = let r = costs_push spans keep (back_node spans keep t y) ys x in omega (arith, r)
 
 -- the table that the walk leads to
 abbrev pub walked_table : Puzzle → (Node → ℕ) → (Node → ℕ) → ℕ → Option ℕ → (ℕ → Line) → List ℕ → Nodes
@@ -338,7 +305,7 @@ listed_walk p col now spans i keep ln lists a (o ∷ xs) laid spanned pos le goo
     let ends_same : end ≡ end' = ap₂ (λ m c. nodes_from p m c) tn.lines tn.colours in
     let rest = listed_walk p col tn.now' spans i keep tn.ln' tn.lists' o xs laid spanned pos le tn.good (IsLinkedFrom-by (ln i) (tn.ln' i) o xs tn.own linked.3) tn.ready r.1 tn.passed in
     let here = laid.there i o pos le (inr (o_pos, ready.0)) in
-    let x_in = get_within (layout p) x here.node here.at in
+    let x_in = slice_get_within (layout p) x here.node here.at in
     let down_long : length t1.dlink ≡ length (layout p) = length-map (layout p) (dlink_in p tn.ln') in
     let up_long : length t0.ulink ≡ length (layout p) = length-map (layout p) (ulink_in p ln) in
     let down_at : get_or t1.dlink x 0 ≡ link_place p i ((tn.ln' i).down o) = get_down p tn.ln' i o here in
@@ -368,7 +335,7 @@ listed_walk p col now spans i keep ln lists a (o ∷ xs) laid spanned pos le goo
           ∙ ap (leads spans keep end' q0) turned ∙ leads_push spans keep end' t1 t0 q0 (reverse places) x rest.undone s.undone ∙ up_at ∙ ap (link_place p i) linked.2;
       costs = ap₂ (λ a b. a + b) s.cost (ap (λ (u : Nodes). walk_costs spans keep u places) s.done ∙ rest.costs);
       costs_back =
-          let turn_back = ap (λ (u : Nodes). back_costs spans keep u (reverse (x ∷ places))) ends_same ∙ ap (back_costs spans keep end') turned ∙ costs_push spans keep end' (reverse places) x in
+          let turn_back = ap (λ (u : Nodes). back_costs spans keep u (reverse (x ∷ places))) ends_same ∙ ap (back_costs spans keep end') turned ∙ costs-append (back_node spans keep) (back_cost spans keep) end' (reverse places) (x ∷ []) in
           let last : back_cost spans keep (fold (back_node spans keep) end' (reverse places)) x ≡ step_cost p col i keep o = ap (λ (u : Nodes). back_cost spans keep u x) rest.undone ∙ s.cost_back in
           let before = rest.costs_back in
           omega (arith, turn_back, last, before);

@@ -5,14 +5,14 @@ use Rattle.std.proofs.lemmas.List.{length-map}
 use Rattle.xc_dance.specs.declared.links.nodes.Nodes.{Nodes}
 use Rattle.xc_input.specs.Problem.{Puzzle, item_count}
 use Rattle.xc_dance.specs.Fields.{Node, own, layout, link_place}
-use Rattle.xc_dance.specs.Links.Lines.{Line, cut}
-use Rattle.xc_dance.specs.Links.Steps.{unlinked, NamesPlaces, IsLinked, CanHide, CanShow, hidden, shown}
-use Rattle.xc_dance.specs.Links.Cells.{slot_of, fixed_up, fixed_down, top_in, nodes_from, with_line}
+use Rattle.xc_dance.specs.Links.Lines.{Line}
+use Rattle.xc_dance.specs.Links.Steps.{unlinked, CanHide, CanShow, hidden, shown}
+use Rattle.xc_dance.specs.Links.Cells.{slot_of, fixed_up, fixed_down, top_in, nodes_from}
 use Rattle.xc_dance.specs.Links.Laid.{IsName, IsLaid}
-use Rattle.xc_dance.proofs.LinkedTables.LinkColumns.{member_of, same_at, column, get_link, set_link, set_top, get_len, get_item, size_from}
-use Rattle.xc_dance.proofs.LinkedTables.Mapped.{get_within}
+use Rattle.xc_dance.proofs.LinkedTables.LinkColumns.{member_of, same_at, set_link, set_top, size_from, NodeCells, node_cells, get_up, get_down}
 use Rattle.xc_dance.proofs.LinkedTables.ReadyLemmas.{CanShow-unlinked}
-use Rattle.xc_dance.proofs.LinkedTables.Undo.{same_nodes, hidden-open, hidden-marked, shown-marked, shown-hidden}
+use Rattle.xc_dance.proofs.LinkedTables.Undo.{same_nodes, hidden-open, hidden-marked, shown-marked, shown-hidden, IsLinked}
+use Rattle.xc_dance.proofs.LinkedTables.LineChanges.{cut, with_line}
 
 -- ---- one step
 
@@ -27,73 +27,37 @@ pub record IsMember (p : Puzzle) (j : ℕ) (l : Line) (o : ℕ) : Type 0 where
   pub down_back : l.up (l.down o) ≡ o
   pub some : 0 < l.len
 
+pub member_cells : (p : Puzzle) (col : Node → ℕ) (ln : ℕ → Line) (j o : ℕ) → IsLaid p → IsMember p j (ln j) o → NodeCells p ln col j o
+member_cells p col ln j o laid m = node_cells p ln col j o laid m.item.0 m.item.1 m.pos m.name m.above m.below
+
 pub unlinked-is : (p : Puzzle) (col : Node → ℕ) (ln : ℕ → Line) (j o : ℕ) → IsLaid p → IsMember p j (ln j) o →
     unlinked (nodes_from p ln col) (link_place p j o) ≡ nodes_from p (with_line ln j (cut (ln j) o)) col
 unlinked-is p col ln j o laid m =
-    let up : ℕ → ℕ → ℕ = λ k x. (ln k).up x in
-    let down : ℕ → ℕ → ℕ = λ k x. (ln k).down x in
-    let here = laid.there j o m.item.0 m.item.1 m.name in
-    let above = laid.there j (up j o) m.item.0 m.item.1 m.above in
-    let below = laid.there j (down j o) m.item.0 m.item.1 m.below in
-    let q = link_place p j o in
-    let is_u : get_or (column p up (fixed_up p)) q 0 ≡ link_place p j (up j o) = get_link p up (fixed_up p) j o here in
-    let is_d : get_or (column p down (fixed_down p)) q 0 ≡ link_place p j (down j o) = get_link p down (fixed_down p) j o here in
-    let is_i : get_or (map (top_in ln) (layout p)) q 0 ≡ j = get_item p ln j o here m.pos in
-    let count : get_or (map (top_in ln) (layout p)) j 0 ≡ (ln j).len = get_len p ln j laid m.item.0 m.item.1 in
-    same_nodes (unlinked (nodes_from p ln col) q) (nodes_from p (with_line ln j (cut (ln j) o)) col)
-    (ap (λ i. set (map (top_in ln) (layout p)) i (get_or (map (top_in ln) (layout p)) i 0 - 1)) is_i
-    ∙ ap (λ n. set (map (top_in ln) (layout p)) j (n - 1)) count
-    ∙ sym (set_top p ln j (cut (ln j) o) laid m.item.0 m.item.1))
-    (ap₂ (set (column p up (fixed_up p))) is_d is_u ∙ sym (set_link p up (fixed_up p) j (down j o) (up j o) laid below))
-    (ap₂ (set (column p down (fixed_down p))) is_u is_d ∙ sym (set_link p down (fixed_down p) j (up j o) (down j o) laid above))
+    let c = member_cells p col ln j o laid m in
+    let t : Nodes = nodes_from p ln col in
+    same_nodes (unlinked t (link_place p j o)) (nodes_from p (with_line ln j (cut (ln j) o)) col)
+    (ap (λ i. set t.top i (get_or t.top i 0 - 1)) c.item ∙ ap (λ n. set t.top j (n - 1)) c.len ∙ sym (set_top p ln j (cut (ln j) o) laid m.item.0 m.item.1))
+    (ap₂ (set t.ulink) c.down c.up ∙ sym (set_link p (λ k x. (ln k).up x) (fixed_up p) j ((ln j).down o) ((ln j).up o) laid c.below))
+    (ap₂ (set t.dlink) c.up c.down ∙ sym (set_link p (λ k x. (ln k).down x) (fixed_down p) j ((ln j).up o) ((ln j).down o) laid c.above))
     refl
 
 pub linked-is : (p : Puzzle) (col : Node → ℕ) (ln : ℕ → Line) (j o : ℕ) → IsLaid p → IsMember p j (ln j) o → IsLinked (nodes_from p ln col) (link_place p j o)
 linked-is p col ln j o laid m =
-    let up : ℕ → ℕ → ℕ = λ k x. (ln k).up x in
-    let down : ℕ → ℕ → ℕ = λ k x. (ln k).down x in
-    let here = laid.there j o m.item.0 m.item.1 m.name in
-    let above = laid.there j (up j o) m.item.0 m.item.1 m.above in
-    let below = laid.there j (down j o) m.item.0 m.item.1 m.below in
+    let c = member_cells p col ln j o laid m in
+    let t : Nodes = nodes_from p ln col in
     let q = link_place p j o in
-    let ups = column p up (fixed_up p) in
-    let downs = column p down (fixed_down p) in
-    let tops = map (top_in ln) (layout p) in
-    let is_u : get_or ups q 0 ≡ link_place p j (up j o) = get_link p up (fixed_up p) j o here in
-    let is_d : get_or downs q 0 ≡ link_place p j (down j o) = get_link p down (fixed_down p) j o here in
-    let is_i : get_or tops q 0 ≡ j = get_item p ln j o here m.pos in
-    let count : get_or tops j 0 ≡ (ln j).len = get_len p ln j laid m.item.0 m.item.1 in
-    let long : length tops ≡ length (layout p) = length-map (layout p) (top_in ln) in
-    let at_head : j < length (layout p) = get_within (layout p) j (own j) (laid.head j m.item.0 m.item.1) in
+    let here = laid.there j o m.item.0 m.item.1 m.name in
     let pos : 0 < o = m.pos in
     let some : 0 < (ln j).len = m.some in
     let not_head : j ≢ q = λ e.
     let same : own j ≡ here.node = same_at (layout p) q (own j) here.node (subst (λ k. slice_get (layout p) k ≡ Some (own j)) e (laid.head j m.item.0 m.item.1)) here.at in
     let z : 0 ≡ o = ap member_of (ap slot_of same ∙ here.slot) in absurd (omega arith) in
     record {
-      above = ap (λ k. get_or downs k 0) is_u ∙ get_link p down (fixed_down p) j (up j o) above ∙ ap (link_place p j) m.up_back;
-      below = ap (λ k. get_or ups k 0) is_d ∙ get_link p up (fixed_up p) j (down j o) below ∙ ap (link_place p j) m.down_back;
-      top = omega (arith, is_i, long, at_head);
-      other = λ e. not_head (sym is_i ∙ e);
-      some = let e : get_or tops (get_or tops q 0) 0 ≡ (ln j).len = ap (λ k. get_or tops k 0) is_i ∙ count in omega (arith, e);
-    }
-
-pub names-is : (p : Puzzle) (col : Node → ℕ) (ln : ℕ → Line) (j o : ℕ) → IsLaid p → IsMember p j (ln j) o → NamesPlaces (nodes_from p ln col) (link_place p j o)
-names-is p col ln j o laid m =
-    let up : ℕ → ℕ → ℕ = λ k x. (ln k).up x in
-    let down : ℕ → ℕ → ℕ = λ k x. (ln k).down x in
-    let here = laid.there j o m.item.0 m.item.1 m.name in
-    let above = laid.there j (up j o) m.item.0 m.item.1 m.above in
-    let below = laid.there j (down j o) m.item.0 m.item.1 m.below in
-    let q = link_place p j o in
-    let long : length (map (top_in ln) (layout p)) ≡ length (layout p) = length-map (layout p) (top_in ln) in
-    let is_u : get_or (column p up (fixed_up p)) q 0 ≡ link_place p j (up j o) = get_link p up (fixed_up p) j o here in
-    let is_d : get_or (column p down (fixed_down p)) q 0 ≡ link_place p j (down j o) = get_link p down (fixed_down p) j o here in
-    record {
-      place = let h = get_within (layout p) q here.node here.at in omega (arith, long, h);
-      top = (linked-is p col ln j o laid m).top;
-      above = let h = get_within (layout p) (link_place p j (up j o)) above.node above.at in omega (arith, long, h, is_u);
-      below = let h = get_within (layout p) (link_place p j (down j o)) below.node below.at in omega (arith, long, h, is_d);
+      above = ap (λ k. get_or t.dlink k 0) c.up ∙ get_down p ln j ((ln j).up o) c.above ∙ ap (link_place p j) m.up_back;
+      below = ap (λ k. get_or t.ulink k 0) c.down ∙ get_up p ln j ((ln j).down o) c.below ∙ ap (link_place p j) m.down_back;
+      top = c.names.top;
+      other = λ e. not_head (sym c.item ∙ e);
+      some = let e : get_or t.top (get_or t.top q 0) 0 ≡ (ln j).len = ap (λ k. get_or t.top k 0) c.item ∙ c.len in omega (arith, e);
     }
 
 -- ---- a step of hide
@@ -110,18 +74,16 @@ pub step_open : (p : Puzzle) (col : Node → ℕ) (ln : ℕ → Line) (j o : ℕ
 step_open p col ln j o laid m few color =
     let q = link_place p j o in
     let tb : Nodes = nodes_from p ln col in
+    let c = member_cells p col ln j o laid m in
     let linked = linked-is p col ln j o laid m in
-    let names = names-is p col ln j o laid m in
     let size = size_from p ln col in
-    let here = laid.there j o m.item.0 m.item.1 m.name in
-    let tops = map (top_in ln) (layout p) in
     let is : hidden tb q ≡ unlinked tb q = hidden-open tb q color in
-    let is_i : get_or tops q 0 ≡ j = get_item p ln j o here m.pos in
-    let count : get_or tops (get_or tops q 0) 0 ≡ (ln j).len = ap (λ k. get_or tops k 0) is_i ∙ get_len p ln j laid m.item.0 m.item.1 in
+    let item = c.item in
+    let count : get_or tb.top (get_or tb.top q 0) 0 ≡ (ln j).len = ap (λ k. get_or tb.top k 0) c.item ∙ c.len in
     record {
-      can = record { size = size; place = names.place; use_of = omega (arith, is_i, m.item.1, laid.small); places = λ ne. names; some = λ ne. linked.some };
+      can = record { size = size; place = c.names.place; use_of = omega (arith, item, m.item.1, laid.small); places = λ ne. c.names; some = λ ne. linked.some };
       undone = shown-hidden tb q (λ e. linked);
-      back = subst (λ (u : Nodes). CanShow u q) (sym is) (CanShow-unlinked tb q size names linked (omega (arith, is_i, m.item.1, laid.small)) (omega (arith, count, few)));
+      back = subst (λ (u : Nodes). CanShow u q) (sym is) (CanShow-unlinked tb q size c.names linked (omega (arith, item, m.item.1, laid.small)) (omega (arith, count, few)));
       done = is ∙ unlinked-is p col ln j o laid m;
     }
 

@@ -1,34 +1,87 @@
 -- An option leaves the lists of some of its items, one after another.
-use Rattle.std.proofs.Common.{◌≡◌, ◌≢◌, ℕ, ◌<◌, ◌≤◌, ◌^◌, inr, Bool, true, false, cond, eqb, List, [], ◌∷◌, ◌++◌, length, map, fold, get_or, refl, ap, sym, subst, ◌∙◌, arith, eqb-true, ne_eqb}
+use Rattle.std.proofs.Common.{◌≡◌, ◌≢◌, ℕ, ◌<◌, ◌≤◌, ◌^◌, inr, Bool, true, false, cond, eqb, List, [], ◌∷◌, ◌++◌, length, map, fold, get_or, refl, ap, sym, subst, ◌∙◌, arith, eqb-true, ne_eqb, not, ◌&&◌, ◌||◌, eq-eqb, filter}
 use Rattle.xc_dance.specs.declared.links.nodes.Nodes.{Nodes}
 use Rattle.xc_input.specs.Problem.{Puzzle, item_count}
-use Rattle.xc_dance.specs.Fields.{Node, layout, link_place}
-use Rattle.xc_dance.specs.Links.Lines.{Line, cut}
+use Rattle.xc_dance.specs.Fields.{Node, layout, link_place, is_in}
+use Rattle.xc_dance.specs.Links.Lines.{Line}
 use Rattle.xc_dance.specs.Links.Steps.{hidden}
-use Rattle.xc_dance.specs.Links.Cells.{nodes_from, with_line}
+use Rattle.xc_dance.specs.Links.Cells.{nodes_from}
 use Rattle.xc_dance.specs.Links.Laid.{IsName, IsLaid}
-use Rattle.xc_dance.proofs.LinkedTables.Mapped.{get_within}
+use Rattle.std.proofs.lemmas.Option.{slice_get_within}
 use Rattle.xc_dance.proofs.LinkedTables.ReadyLemmas.{Stands, Stands-without, Rest, back_more}
 use Rattle.xc_dance.proofs.LinkedTables.LinkColumns.{get_item}
 use Rattle.xc_dance.proofs.LinkedTables.OneNode.{Step, step_open, step_marked}
 use Rattle.xc_dance.proofs.LinkedTables.Goods.{Named, IsGood, AllGood, member, all_good_cut, with_list}
+use Rattle.std.proofs.lemmas.Bool.{eqb-false}
+use Rattle.xc_dance.proofs.LinkedTables.LineChanges.{other_items, cut, with_line}
+
+line_by : (ln : ℕ → Line) (i j : ℕ) (l : Line) (b : Bool) → eqb j i ≡ b → with_line ln i l j ≡ cond b l (ln j)
+line_by ln i j l b e =
+    let make : Bool → Line = λ b. record { len = cond b l.len (ln j).len; up = λ x. cond b (l.up x) ((ln j).up x); down = λ x. cond b (l.down x) ((ln j).down x) } in
+    ap make e ∙ elim b as (λ b. make b ≡ cond b l (ln j)) [ true ↦ refl | false ↦ refl ]
 
 -- the node of option o in item j's list is marked
 abbrev pub is_mark : Puzzle → (Node → ℕ) → ℕ → ℕ → Bool
 is_mark p col o j = eqb (get_or (map (col) (layout p)) (link_place p j o) 0) 4294967295
 
--- option o leaves item j's list, unless it is marked there
-abbrev pub left_one : Puzzle → (Node → ℕ) → ℕ → (ℕ → Line) → ℕ → ℕ → Line
-left_one p col o ln j = cond (is_mark p col o j) ln (with_line ln j (cut (ln j) o))
+pub line_here : (ln : ℕ → Line) (i : ℕ) (l : Line) → with_line ln i l i ≡ l
+line_here ln i l = line_by ln i i l true (eq-eqb i i refl)
+
+pub line_there : (ln : ℕ → Line) (i j : ℕ) (l : Line) → j ≢ i → with_line ln i l j ≡ ln j
+line_there ln i j l ne = line_by ln i j l false (ne_eqb j i ne)
+
+-- option o leaves item j's list or comes back, by what this makes of its line, unless it is marked there
+abbrev pub changed_one : (Line → ℕ → Line) → Puzzle → (Node → ℕ) → ℕ → (ℕ → Line) → ℕ → ℕ → Line
+changed_one change p col o ln j = cond (is_mark p col o j) ln (with_line ln j (change (ln j) o))
 
 -- the same for some items in turn
+abbrev pub changed_all : (Line → ℕ → Line) → Puzzle → (Node → ℕ) → ℕ → (ℕ → Line) → List ℕ → ℕ → Line
+changed_all change p col o ln js = fold (changed_one change p col o) ln js
+
+abbrev pub left_one : Puzzle → (Node → ℕ) → ℕ → (ℕ → Line) → ℕ → ℕ → Line
+left_one = changed_one cut
+
 abbrev pub left_all : Puzzle → (Node → ℕ) → ℕ → (ℕ → Line) → List ℕ → ℕ → Line
-left_all p col o ln js = fold (left_one p col o) ln js
+left_all = changed_all cut
+
+-- how many of option o's other nodes leave their lists
+abbrev pub gone_count : Puzzle → (Node → ℕ) → ℕ → ℕ → ℕ
+gone_count p col i o = length (filter (λ j. not (is_mark p col o j)) (other_items p o i))
 
 -- j isn't one of them
 abbrev pub IsApart : ℕ → List ℕ → Type 0
 IsApart j [] = Unit {0}
 IsApart j (k ∷ ks) = (k ≢ j) × IsApart j ks
+
+pub one_other : (change : Line → ℕ → Line) (p : Puzzle) (col : Node → ℕ) (o : ℕ) (ln : ℕ → Line) (j k : ℕ) → j ≢ k → changed_one change p col o ln j k ≡ ln k
+one_other change p col o ln j k ne =
+    elim (is_mark p col o j) as (λ b. cond b ln (with_line ln j (change (ln j) o)) k ≡ ln k) [ true ↦ refl | false ↦ line_there ln j k (change (ln j) o) (λ e. ne (sym e)) ]
+
+pub all_other : (change : Line → ℕ → Line) (p : Puzzle) (col : Node → ℕ) (o : ℕ) (ln : ℕ → Line) (js : List ℕ) (k : ℕ) → IsApart k js → changed_all change p col o ln js k ≡ ln k
+all_other change p col o ln [] k apart = refl
+all_other change p col o ln (j ∷ js) k apart = all_other change p col o (changed_one change p col o ln j) js k apart.1 ∙ one_other change p col o ln j k apart.0
+
+abbrev pub AllApart : List ℕ → Type 0
+AllApart [] = Unit {0}
+AllApart (j ∷ js) = IsApart j js × AllApart js
+
+one_here : (change : Line → ℕ → Line) (p : Puzzle) (col : Node → ℕ) (o : ℕ) (ln : ℕ → Line) (k : ℕ) → changed_one change p col o ln k k ≡ cond (not (is_mark p col o k)) (change (ln k) o) (ln k)
+one_here change p col o ln k =
+    elim (is_mark p col o k) as (λ b. cond b ln (with_line ln k (change (ln k) o)) k ≡ cond (not b) (change (ln k) o) (ln k)) [ true ↦ refl | false ↦ line_here ln k (change (ln k) o) ]
+
+-- the line of item k after all of them
+pub all_at : (change : Line → ℕ → Line) (p : Puzzle) (col : Node → ℕ) (o : ℕ) (ln : ℕ → Line) (js : List ℕ) (k : ℕ) → AllApart js → changed_all change p col o ln js k ≡ cond (is_in k js && not (is_mark p col o k)) (change (ln k) o) (ln k)
+all_at change p col o ln [] k apart = refl
+all_at change p col o ln (j ∷ js) k apart =
+    elim (eqb j k) as (λ b. eqb j k ≡ b → changed_all change p col o (changed_one change p col o ln j) js k ≡ cond ((b || is_in k js) && not (is_mark p col o k)) (change (ln k) o) (ln k)) [
+      | true ↦ λ e.
+          let same : j ≡ k = eqb-true j k e in
+          all_other change p col o (changed_one change p col o ln j) js k (subst (λ i. IsApart i js) same apart.0)
+          ∙ ap (λ i. changed_one change p col o ln i k) same ∙ one_here change p col o ln k
+      | false ↦ λ e.
+          all_at change p col o (changed_one change p col o ln j) js k apart.1
+          ∙ ap (λ (l : Line). cond (is_in k js && not (is_mark p col o k)) (change l o) l) (one_other change p col o ln j k (eqb-false j k e))
+    ] refl
 
 -- the option stands in the list of each of them in which it isn't marked
 abbrev pub AreReady : Puzzle → (Node → ℕ) → (ℕ → List ℕ) → ℕ → List ℕ → Type 0
@@ -97,7 +150,7 @@ walked p col ln lists o (j ∷ js) laid pos good ready =
     Rest tb (q ∷ qs) × (fold hidden (hidden tb q) qs ≡ nodes_from p (left_all p col o (cond b ln (with_line ln j (cut (ln j) o))) js) col)
     × Gone p lists (left_all p col o (cond b ln (with_line ln j (cut (ln j) o))) js) o (j ∷ js)) [
       | true ↦ λ e.
-          let s = step_marked p col ln q (get_within (layout p) q here.node here.at) (omega (arith, get_item p ln j o here pos, ready.1, laid.small)) e in
+          let s = step_marked p col ln q (slice_get_within (layout p) q here.node here.at) (omega (arith, get_item p ln j o here pos, ready.1, laid.small)) e in
           let w = walked p col ln lists o js laid pos good ready.5 in (
             step_more tb tb q qs s w.rest,
             ap (λ (u : Nodes). fold hidden u qs) s.done ∙ w.done,

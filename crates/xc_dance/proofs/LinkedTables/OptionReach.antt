@@ -1,8 +1,8 @@
 -- Where the nodes of each option stand behind the first spacer.
 use Rattle.std.proofs.Common.{◌≡◌, ℕ, zero, suc, ◌+◌, ◌≤◌, List, [], ◌∷◌, ◌++◌, length, map, Some, refl, ap, sym, ◌∙◌, arith}
 use Rattle.std.specs.Prelude.{slice_get, flat_map, option_map, sum_by, unwrap_or}
-use Rattle.std.proofs.lemmas.Option.{slice_get-map}
-use Rattle.std.proofs.lemmas.List.{length-map, length-append}
+use Rattle.std.proofs.lemmas.Option.{slice_get-map, same_Some}
+use Rattle.std.proofs.lemmas.List.{length-map, length-append, append_assoc}
 use Rattle.std.proofs.lemmas.List.Sums.{sum_by-cons}
 use Rattle.xc_input.specs.declared.problem.Use.{Use}
 use Rattle.xc_input.specs.Problem.{Puzzle, numbered_from, numbered_get, uses_of}
@@ -23,10 +23,6 @@ get_behind (a ∷ xs) ys (suc n) k e = get_behind xs ys n k (omega (arith, e))
 
 pub get_used : (o : ℕ) (us : List Use) (k : ℕ) (u : Use) → slice_get us k ≡ Some u → slice_get (map (used o) us) k ≡ Some (used o u)
 get_used o us k u e = slice_get-map (used o) us k ∙ ap (option_map (used o)) e
-
-pub append_assoc : {X : Type 0} (xs ys zs : List X) → (xs ++ ys) ++ zs ≡ xs ++ (ys ++ zs)
-append_assoc [] ys zs = refl
-append_assoc (x ∷ xs) ys zs = ap (λ l. x ∷ l) (append_assoc xs ys zs)
 
 -- ---- the part from the first spacer on
 
@@ -49,9 +45,6 @@ spacer_get n (suc o) (us ∷ os) le =
     ∙ get_behind (map (used (n + 1)) us) (tail_from (n + 1) os) (length us + reach os o) (reach os o) (omega (arith, length-map us (used (n + 1))))
     ∙ spacer_get (n + 1) o os (omega (arith, le)) ∙ ap (λ k. Some (spacer k)) s
 
-pub same_some : {X : Type 0} (x y : X) → Some x ≡ Some y → x ≡ y
-same_some x y e = cc
-
 pub use_get : (n o k : ℕ) (os : List (List Use)) (us : List Use) (u : Use) → slice_get os o ≡ Some us → slice_get us k ≡ Some u →
     slice_get (tail_from n os) (reach os o + 1 + k) ≡ Some (used (n + o + 1) u)
 use_get n o k [] us u e f = cc
@@ -60,7 +53,7 @@ use_get n zero k (vs ∷ os) us u e f =
     let s : n + 1 ≡ n + 0 + 1 = omega arith in
     ap (slice_get (tail_from n (vs ∷ os))) at
     ∙ ap (λ l. slice_get l k) (next_tail n vs os)
-    ∙ get_front (map (used (n + 1)) vs) (tail_from (n + 1) os) k (used (n + 1) u) (get_used (n + 1) vs k u (ap (λ l. slice_get l k) (same_some vs us e) ∙ f))
+    ∙ get_front (map (used (n + 1)) vs) (tail_from (n + 1) os) k (used (n + 1) u) (get_used (n + 1) vs k u (ap (λ l. slice_get l k) (same_Some vs us e) ∙ f))
     ∙ ap (λ j. Some (used j u)) s
 use_get n (suc o) k (vs ∷ os) us u e f =
     let at : length vs + 1 + reach os o + 1 + k ≡ suc (length vs + (reach os o + 1 + k)) = omega arith in
@@ -84,7 +77,7 @@ reach_next [] o us e = cc
 reach_next (vs ∷ os) zero us e =
     let one : reach (vs ∷ os) (0 + 1) ≡ length vs + 1 + reach os 0 = refl in
     let nothing : reach os 0 ≡ 0 = reach_zero os in
-    let same = ap length (same_some vs us e) in omega (arith, one, nothing, same)
+    let same = ap length (same_Some vs us e) in omega (arith, one, nothing, same)
   where
     reach_zero : (os : List (List Use)) → reach os 0 ≡ 0
     reach_zero [] = refl

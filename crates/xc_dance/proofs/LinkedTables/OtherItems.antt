@@ -1,27 +1,24 @@
 -- The other items of an option, and what its leaving does to the line of one item.
-use Rattle.std.proofs.Common.{◌≡◌, ℕ, Bool, true, false, not, cond, ◌&&◌, ◌||◌, eqb, List, [], ◌∷◌, map, filter, Some, refl, ap, sym, subst, ◌∙◌, eqb-true, eq-eqb, ne_eqb}
+use Rattle.std.proofs.Common.{◌≡◌, ℕ, Bool, true, false, not, cond, ◌&&◌, ◌||◌, eqb, List, [], ◌∷◌, map, filter, Some, refl, ap, sym, ◌∙◌, eqb-true, eq-eqb, ne_eqb}
 use Rattle.std.specs.Prelude.{is_some}
 use Rattle.std.proofs.lemmas.Bool.{eqb-false, false≢true}
 use Rattle.std.proofs.lemmas.List.Folds.{list_any-append}
 use Rattle.xc_input.specs.declared.problem.Use.{Use}
 use Rattle.xc_input.specs.Problem.{Puzzle, colour_in, uses_of}
 use Rattle.xc_dance.specs.Fields.{Node, is_in}
-use Rattle.xc_dance.specs.Links.Lines.{Line, cut}
-use Rattle.xc_dance.specs.Links.Cells.{with_line}
-use Rattle.xc_dance.specs.Links.Others.{before_use, behind_use, other_items}
+use Rattle.xc_dance.specs.Links.Lines.{Line}
+use Rattle.xc_dance.specs.Links.Others.{before_use, behind_use}
 use Rattle.xc_dance.specs.Links.Laid.{AreDistinct}
 use Rattle.xc_dance.proofs.LinkedTables.Sweep.{cuts}
-use Rattle.xc_dance.proofs.LinkedTables.OneOption.{is_mark, left_one, left_all, IsApart}
-use Rattle.xc_dance.proofs.LinkedTables.OneList.{one_other, all_other, left_list}
+use Rattle.xc_dance.proofs.LinkedTables.OneOption.{is_mark, left_all, IsApart, all_at, AllApart}
+use Rattle.xc_dance.proofs.LinkedTables.OneList.{left_list}
+use Rattle.std.proofs.Math.Bool.{or-false}
+use Rattle.xc_dance.proofs.LinkedTables.LineChanges.{cut, other_items}
 
-or_assoc : (a b c : Bool) → (a || (b || c)) ≡ (b || (a || c))
-or_assoc true true c = refl
-or_assoc true false c = refl
-or_assoc false b c = refl
-
-or_false : (a : Bool) → (a || false) ≡ a
-or_false true = refl
-or_false false = refl
+pub or_swap : (a b c : Bool) → (a || (b || c)) ≡ (b || (a || c))
+or_swap true true c = refl
+or_swap true false c = refl
+or_swap false b c = refl
 
 pub items_of : (us : List Use) (k : ℕ) → is_in k (map (λ u. u.item) us) ≡ is_some (colour_in us k)
 items_of [] k = refl
@@ -37,7 +34,7 @@ others_by (u ∷ us) i k d =
     elim (eqb u.item i) as (λ b. eqb u.item i ≡ b → (is_in k (cond b (map (λ v. v.item) us) (behind_use i us)) || is_in k (cond b [] (u.item ∷ before_use i us))) ≡ (not (eqb k i) && is_some (cond (eqb u.item k) (Some u.colour) (colour_in us k)))) [
       | true ↦ λ e.
           let at_i : u.item ≡ i = eqb-true u.item i e in
-          or_false (is_in k (map (λ v. v.item) us)) ∙ items_of us k
+          or-false (is_in k (map (λ v. v.item) us)) ∙ items_of us k
           ∙ elim (eqb u.item k) as (λ c. eqb u.item k ≡ c → is_some (colour_in us k) ≡ (not (eqb k i) && is_some (cond c (Some u.colour) (colour_in us k)))) [
             | true ↦ λ f.
                 let at_k : u.item ≡ k = eqb-true u.item k f in
@@ -48,7 +45,7 @@ others_by (u ∷ us) i k d =
                 rw ne refl
           ] refl
       | false ↦ λ e.
-          or_assoc (is_in k (behind_use i us)) (eqb u.item k) (is_in k (before_use i us))
+          or_swap (is_in k (behind_use i us)) (eqb u.item k) (is_in k (before_use i us))
           ∙ elim (eqb u.item k) as (λ c. eqb u.item k ≡ c → (c || (is_in k (behind_use i us) || is_in k (before_use i us))) ≡ (not (eqb k i) && is_some (cond c (Some u.colour) (colour_in us k)))) [
             | true ↦ λ f.
                 let at_k : u.item ≡ k = eqb-true u.item k f in
@@ -75,35 +72,6 @@ apart_from k (j ∷ js) e =
       | false ↦ λ f g. (eqb-false j k f, apart_from k js g)
     ] refl e
 
-abbrev pub AllApart : List ℕ → Type 0
-AllApart [] = Unit {0}
-AllApart (j ∷ js) = IsApart j js × AllApart js
-
--- ---- one line
-
-cut_here : (p : Puzzle) (col : Node → ℕ) (o : ℕ) (ln : ℕ → Line) (k : ℕ) → left_one p col o ln k k ≡ cond (not (is_mark p col o k)) (cut (ln k) o) (ln k)
-cut_here p col o ln k =
-    let l : Line = cut (ln k) o in
-    let make : Bool → Line = λ b. record { len = cond b l.len (ln k).len; up = λ x. cond b (l.up x) ((ln k).up x); down = λ x. cond b (l.down x) ((ln k).down x) } in
-    elim (is_mark p col o k) as (λ b. cond b ln (with_line ln k l) k ≡ cond (not b) l (ln k)) [
-      | true ↦ refl
-      | false ↦ ap make (eq-eqb k k refl)
-    ]
-
-pub all_at : (p : Puzzle) (col : Node → ℕ) (o : ℕ) (ln : ℕ → Line) (js : List ℕ) (k : ℕ) → AllApart js → left_all p col o ln js k ≡ cond (is_in k js && not (is_mark p col o k)) (cut (ln k) o) (ln k)
-all_at p col o ln [] k apart = refl
-all_at p col o ln (j ∷ js) k apart =
-    elim (eqb j k) as (λ b. eqb j k ≡ b → left_all p col o (left_one p col o ln j) js k ≡ cond ((b || is_in k js) && not (is_mark p col o k)) (cut (ln k) o) (ln k)) [
-      | true ↦ λ e.
-          let same : j ≡ k = eqb-true j k e in
-          all_other p col o (left_one p col o ln j) js k (subst (λ i. IsApart i js) same apart.0)
-          ∙ ap (λ i. left_one p col o ln i k) same ∙ cut_here p col o ln k
-      | false ↦ λ e.
-          let own : left_one p col o ln j k ≡ ln k = one_other p col o ln j k (eqb-false j k e) in
-          all_at p col o (left_one p col o ln j) js k apart.1
-          ∙ ap (λ (l : Line). cond (is_in k js && not (is_mark p col o k)) (cut l o) l) own
-    ] refl
-
 -- whether option o leaves item k's list by a walk down i's
 abbrev pub leaves : Puzzle → (Node → ℕ) → ℕ → ℕ → ℕ → Bool
 leaves p col i k o = is_in k (other_items p o i) && not (is_mark p col o k)
@@ -115,7 +83,7 @@ EachApart p i (o ∷ os) = AllApart (other_items p o i) × EachApart p i os
 pub list_at : (p : Puzzle) (col : Node → ℕ) (i : ℕ) (ln : ℕ → Line) (os : List ℕ) (k : ℕ) → EachApart p i os → left_list p col i ln os k ≡ cuts (ln k) (filter (leaves p col i k) os)
 list_at p col i ln [] k apart = refl
 list_at p col i ln (o ∷ os) k apart =
-    let here : left_all p col o ln (other_items p o i) k ≡ cond (leaves p col i k o) (cut (ln k) o) (ln k) = all_at p col o ln (other_items p o i) k apart.0 in
+    let here : left_all p col o ln (other_items p o i) k ≡ cond (leaves p col i k o) (cut (ln k) o) (ln k) = all_at cut p col o ln (other_items p o i) k apart.0 in
     list_at p col i (left_all p col o ln (other_items p o i)) os k apart.1
     ∙ ap (λ (l : Line). cuts l (filter (leaves p col i k) os)) here
     ∙ elim (leaves p col i k o) as (λ b. cuts (cond b (cut (ln k) o) (ln k)) (filter (leaves p col i k) os) ≡ cuts (ln k) (cond b (o ∷ filter (leaves p col i k) os) (filter (leaves p col i k) os))) [

@@ -6,10 +6,11 @@ use Rattle.std.proofs.lemmas.Bool.{eqb-false, false≢true}
 use Rattle.xc_input.specs.declared.problem.Use.{Use}
 use Rattle.xc_input.specs.Problem.{Puzzle, item_count, colour_in, uses_of}
 use Rattle.xc_dance.specs.Fields.{is_in}
-use Rattle.xc_dance.specs.Links.Others.{other_items, behind_use, before_use}
+use Rattle.xc_dance.specs.Links.Others.{behind_use, before_use}
 use Rattle.xc_dance.specs.Links.Laid.{IsFit, AreDistinct}
-use Rattle.xc_dance.proofs.LinkedTables.OneOption.{IsApart}
-use Rattle.xc_dance.proofs.LinkedTables.OtherItems.{items_of, others_by, in_others, apart_from, AllApart, EachApart}
+use Rattle.xc_dance.proofs.LinkedTables.OneOption.{IsApart, AllApart}
+use Rattle.xc_dance.proofs.LinkedTables.OtherItems.{items_of, others_by, in_others, apart_from, EachApart}
+use Rattle.xc_dance.proofs.LinkedTables.LineChanges.{other_items}
 
 apart_insert : (x k : ℕ) (xs ys : List ℕ) → k ≢ x → IsApart x (xs ++ ys) → IsApart x (xs ++ k ∷ ys)
 apart_insert x k [] ys ne h = (ne, h)

@@ -10,6 +10,7 @@ use Rattle.xc_dance.specs.Fields.{Node, unused, own, spacer, used, layout}
 use Rattle.xc_dance.specs.Links.OptionPlaces.{reach, place_at}
 use Rattle.xc_dance.proofs.LinkedTables.OptionNumbers.{uses_at}
 use Rattle.xc_dance.proofs.LinkedTables.OptionReach.{get_behind, tail_from, spacer_get, use_get, length_tail, reach_next, reach_most}
+use Rattle.std.proofs.lemmas.Option.{slice_get-get_or}
 
 -- ---- the whole table
 
@@ -50,14 +51,9 @@ layout_len p =
 
 -- ---- an option that there is
 
-pub get_there : {X : Type 0} (xs : List X) (k : ℕ) (d : X) → k < length xs → slice_get xs k ≡ Some (get_or xs k d)
-get_there [] k d lt = absurd (omega (arith, lt))
-get_there (x ∷ xs) zero d lt = refl
-get_there (x ∷ xs) (suc k) d lt = get_there xs k d (omega (arith, lt))
-
 pub option_get : (p : Puzzle) (o : ℕ) (us : List Use) → o < option_count p → us ≡ uses_of p (o + 1) → slice_get p.options o ≡ Some us
 option_get p o us lt is =
-    let e = get_there p.options o [] lt in
+    let e = slice_get-get_or p.options o [] lt in
     e ∙ ap Some (sym (is ∙ uses_at p o (get_or p.options o []) e))
 
 pub reach_grows : (os : List (List Use)) (o n : ℕ) → o ≤ n → n ≤ length os → reach os o ≤ reach os n

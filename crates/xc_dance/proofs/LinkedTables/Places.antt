@@ -1,9 +1,11 @@
 -- Places in a row, one by one.
-use Rattle.std.proofs.Common.{◌≡◌, ℕ, zero, suc, ◌+◌, ◌-◌, ◌<◌, ◌≤◌, List, [], ◌∷◌, ◌++◌, reverse, ap, ◌∙◌, fold, arith}
+use Rattle.std.proofs.Common.{◌≡◌, ℕ, zero, suc, ◌+◌, ◌-◌, ◌<◌, ◌≤◌, [], ◌∷◌, ◌++◌, reverse, ap, ◌∙◌, arith, sym}
 use Rattle.std.proofs.lemmas.List.{reverse-append}
 use Rattle.std.specs.List.{range_with_len}
-use Rattle.xc_dance.specs.declared.links.nodes.Nodes.{Nodes}
-use Rattle.xc_dance.specs.Links.Steps.{places, hidden, shown, hide_costs, show_costs, CanHideAll, CanShowAll}
+use Rattle.xc_dance.specs.Links.Steps.{places}
+
+pub places_none : (a b : ℕ) → b ≤ a → places a b ≡ []
+places_none a b le = let z : b - a ≡ 0 = omega (arith, le) in ap (range_with_len a) z
 
 -- the first of the places comes before the others
 pub places_more : (a b : ℕ) → a < b → places a b ≡ a ∷ places (a + 1) b
@@ -26,19 +28,9 @@ places_push a b h =
 pub reverse-places : (a b : ℕ) → a ≤ b → reverse (places a (b + 1)) ≡ b ∷ reverse (places a b)
 reverse-places a b h = ap reverse (places_push a b h) ∙ reverse-append (places a b) (b ∷ [])
 
--- a walk in two parts
-pub CanHideAll-append : (t : Nodes) (ps qs : List ℕ) → CanHideAll t (ps ++ qs) → CanHideAll t ps × CanHideAll (fold hidden t ps) qs
-CanHideAll-append t [] qs h = (tt, h)
-CanHideAll-append t (p ∷ ps) qs h = let r = CanHideAll-append (hidden t p) ps qs h.1 in ((h.0, r.0), r.1)
-
-pub hide_costs-append : (t : Nodes) (ps qs : List ℕ) → hide_costs t (ps ++ qs) ≡ hide_costs t ps + hide_costs (fold hidden t ps) qs
-hide_costs-append t [] qs = omega arith
-hide_costs-append t (p ∷ ps) qs = let e = hide_costs-append (hidden t p) ps qs in omega (arith, e)
-
-pub CanShowAll-append : (t : Nodes) (ps qs : List ℕ) → CanShowAll t (ps ++ qs) → CanShowAll t ps × CanShowAll (fold shown t ps) qs
-CanShowAll-append t [] qs h = (tt, h)
-CanShowAll-append t (p ∷ ps) qs h = let r = CanShowAll-append (shown t p) ps qs h.1 in ((h.0, r.0), r.1)
-
-pub show_costs-append : (t : Nodes) (ps qs : List ℕ) → show_costs t (ps ++ qs) ≡ show_costs t ps + show_costs (fold shown t ps) qs
-show_costs-append t [] qs = omega arith
-show_costs-append t (p ∷ ps) qs = let e = show_costs-append (shown t p) ps qs in omega (arith, e)
+-- the places up to q, from the last back
+pub last_first : (a q : ℕ) → a < q → reverse (places a q) ≡ (q - 1) ∷ reverse (places a (q - 1))
+last_first a q h =
+    let e : q - 1 + 1 ≡ q = omega arith in
+    let le : a ≤ q - 1 = omega arith in
+    ap (λ k. reverse (places a k)) (sym e) ∙ reverse-places a (q - 1) le

@@ -2,8 +2,8 @@
 use Rattle.std.proofs.Common.{◌≡◌, ◌≢◌, ℕ, ◌-◌, ◌<◌, ◌^◌, reverse, List, [], ◌∷◌, ◌++◌, length, get_or, set, fold, refl, ap, sym, subst, ◌∙◌, arith}
 use Rattle.std.proofs.lemmas.List.{length-set, get_or-set_same, get_or-set_other, reverse-append}
 use Rattle.xc_dance.specs.declared.links.nodes.Nodes.{Nodes}
-use Rattle.xc_dance.specs.Links.Steps.{HasSize, NamesPlaces, unlinked, hidden, shown, CanHideAll, CanShow, CanShowAll, IsLinked}
-use Rattle.xc_dance.proofs.LinkedTables.Undo.{IsUndone, fold-shown-reverse, get_or-set_kept}
+use Rattle.xc_dance.specs.Links.Steps.{HasSize, NamesPlaces, unlinked, hidden, shown, CanHideAll, CanShow, CanShowAll}
+use Rattle.xc_dance.proofs.LinkedTables.Undo.{IsUndone, fold-shown-reverse, get_or-set_kept, IsLinked}
 
 -- the list has q between ys and zs
 pub record Stands (xs : List ℕ) (q : ℕ) : Type 0 where

@@ -1,21 +1,18 @@
 -- Neighbours in a list that rises, after one member has left.
-use Rattle.std.proofs.Common.{◌≡◌, ◌≢◌, ℕ, ◌<◌, ◌⊎◌, inl, inr, true, false, not, cond, ◌||◌, eqb, List, [], ◌∷◌, refl, ap, ap₂, sym, subst, ◌∙◌, arith, eq-eqb, ne_eqb}
+use Rattle.std.proofs.Common.{◌≡◌, ◌≢◌, ℕ, ◌<◌, ◌⊎◌, inl, inr, true, false, not, cond, eqb, List, [], ◌∷◌, refl, ap, ap₂, sym, subst, ◌∙◌, arith, eq-eqb, ne_eqb}
 use Rattle.std.proofs.lemmas.Bool.{false≢true}
 use Rattle.xc_dance.specs.Fields.{last_below, first_above, first_of, last_of, is_in}
-use Rattle.xc_dance.proofs.LinkedTables.Sweep.{Rises, Rises-filter, stay, not_in, in_above, is_in-first, is_in-other, last_below-self, last_below-more, first_above-first, first_above-more, last_of-more, by_first, in_rest, out_rest}
+use Rattle.xc_dance.proofs.LinkedTables.Sweep.{Rises, Rises-filter, stay, not_in, in_above, is_in-first, is_in-other, last_below-self, last_below-more, first_above-first, first_above-more, last_of-more, by_first, in_rest, out_rest, in_more}
 use Rattle.xc_dance.proofs.LinkedTables.LineSteps.{others_stay}
 
 abbrev pub less : ℕ → List ℕ → List ℕ
 less i xs = stay (λ x. eqb x i) xs
 
-pub later : (y k : ℕ) (ys : List ℕ) → is_in k ys ≡ true → is_in k (y ∷ ys) ≡ true
-later y k ys e = ap (λ b. eqb y k || b) e ∙ elim (eqb y k) as (λ b. (b || true) ≡ true) [ true ↦ refl | false ↦ refl ]
-
 next_one : (h y : ℕ) (ys : List ℕ) → Rises y ys → (first_above h y (y ∷ ys) ≡ h) ⊎ ((is_in (first_above h y (y ∷ ys)) (y ∷ ys) ≡ true) × (y < first_above h y (y ∷ ys)))
 next_one h y [] r = inl (first_above-more h y y [] (omega arith))
 next_one h y (z ∷ zs) r =
     let at : first_above h y (y ∷ z ∷ zs) ≡ z = first_above-more h y y (z ∷ zs) (omega arith) ∙ first_above-first h y y (z ∷ zs) (omega arith) r in
-    inr (ap (λ k. is_in k (y ∷ z ∷ zs)) at ∙ later y z (z ∷ zs) (is_in-first z zs), omega (arith, at, r.0))
+    inr (ap (λ k. is_in k (y ∷ z ∷ zs)) at ∙ in_more y z (z ∷ zs) (is_in-first z zs), omega (arith, at, r.0))
 
 -- the first above a member is the other, or a member above it
 pub first_above-in : (h i n : ℕ) (xs : List ℕ) → Rises n xs → is_in i xs ≡ true → (first_above h i xs ≡ h) ⊎ ((is_in (first_above h i xs) xs ≡ true) × (i < first_above h i xs))
@@ -29,7 +26,7 @@ first_above-in h i n (y ∷ ys) r e =
     let is = first_above-more h i y ys (omega (arith, lt)) in
     elim (first_above-in h i y ys r.1 within) [
       | inl f ↦ inl (is ∙ f)
-      | inr f ↦ inr (ap (λ k. is_in k (y ∷ ys)) is ∙ later y (first_above h i ys) ys f.0, omega (arith, is, f.1))
+      | inr f ↦ inr (ap (λ k. is_in k (y ∷ ys)) is ∙ in_more y (first_above h i ys) ys f.0, omega (arith, is, f.1))
     ])
 
 -- the last below a member is the other, or a member below it
@@ -44,7 +41,7 @@ last_below-in a i n (y ∷ ys) r e =
     let is = last_below-more a i y ys lt in
     elim (last_below-in y i y ys r.1 within) [
       | inl f ↦ let at = is ∙ f in inr (ap (λ k. is_in k (y ∷ ys)) at ∙ is_in-first y ys, omega (arith, at, lt))
-      | inr f ↦ inr (ap (λ k. is_in k (y ∷ ys)) is ∙ later y (last_below y i ys) ys f.0, omega (arith, is, f.1))
+      | inr f ↦ inr (ap (λ k. is_in k (y ∷ ys)) is ∙ in_more y (last_below y i ys) ys f.0, omega (arith, is, f.1))
     ])
 
 less_first : (i : ℕ) (ys : List ℕ) → Rises i ys → less i (i ∷ ys) ≡ ys
@@ -111,7 +108,7 @@ first_without h a i n (y ∷ ys) r e out =
     let is = last_below-more a i y ys lt in
     let apart : a ≢ last_below a i (y ∷ ys) = λ s. elim (last_below-in y i y ys r.1 i_in) [
       | inl g ↦ out_rest y a ys out (sym (s ∙ is ∙ g))
-      | inr g ↦ false≢true (sym out ∙ ap (λ k. is_in k (y ∷ ys)) (s ∙ is) ∙ later y (last_below y i ys) ys g.0)
+      | inr g ↦ false≢true (sym out ∙ ap (λ k. is_in k (y ∷ ys)) (s ∙ is) ∙ in_more y (last_below y i ys) ys g.0)
     ] in
     rw (ne_eqb a (last_below a i (y ∷ ys)) apart) (ap (first_of h) (less_more i y ys other)))
 
@@ -184,7 +181,7 @@ link_behind h a i n (y ∷ ys) r e out =
     let rest = link_behind h y i y ys r.1 i_in (not_in y y ys (omega arith) r.1) in
     let apart : last_below a i (y ∷ ys) ≢ a = λ s. elim (last_below-in y i y ys r.1 i_in) [
       | inl g ↦ out_rest y a ys out (sym g ∙ sym is ∙ s)
-      | inr g ↦ false≢true (sym out ∙ ap (λ k. is_in k (y ∷ ys)) (sym s ∙ is) ∙ later y (last_below y i ys) ys g.0)
+      | inr g ↦ false≢true (sym out ∙ ap (λ k. is_in k (y ∷ ys)) (sym s ∙ is) ∙ in_more y (last_below y i ys) ys g.0)
     ] in
     rw (ne_eqb (last_below a i (y ∷ ys)) a apart)
     (ap (λ k. first_above h k (y ∷ ys)) is

@@ -1,21 +1,20 @@
 -- Cover and Spend on the item table.
-use Rattle.std.proofs.Common.{◌≡◌, ◌≢◌, ℕ, zero, suc, ◌+◌, ◌-◌, ◌<◌, ◌^◌, List, [], ◌∷◌, length, map, get_or, set, refl, ap, sym, ◌∙◌, arith, cond, eqb, true, false, eq-eqb, ne_eqb, leb, Some}
+use Rattle.std.proofs.Common.{◌≡◌, ◌≢◌, ℕ, zero, suc, ◌+◌, ◌-◌, ◌<◌, ◌^◌, List, [], ◌∷◌, length, map, get_or, set, refl, ap, sym, ◌∙◌, arith, cond, eqb, true, false, eq-eqb, ne_eqb, leb, Some, not, ap₂}
 use Rattle.std.specs.List.{range_with_len}
-use Rattle.std.specs.Prelude.{slice_get}
+use Rattle.std.specs.Prelude.{slice_get, nat_le}
 use Rattle.std.proofs.lemmas.List.{length-map}
-use Rattle.std.proofs.lemmas.List.FromFn.{get_or-map-range_with_len}
+use Rattle.std.proofs.lemmas.List.FromFn.{get_or-map-range_with_len, length-range_with_len}
 use Rattle.xc_dance.specs.declared.links.items.Items.{Items}
 use Rattle.xc_dance.specs.Fields.{ring_of, ring_head, left_of, right_of, first_of, last_of, last_below, first_above}
-use Rattle.xc_dance.proofs.LinkedTables.Mapped.{get_within, map_put, map_same}
+use Rattle.xc_dance.proofs.LinkedTables.Mapped.{map_put, map_same}
 use Rattle.xc_dance.specs.declared.dance.Move.{Move}
 use Rattle.xc_dance.specs.declared.dance.Move.TheVariants.{Spend}
 use Rattle.xc_input.specs.Problem.{Puzzle, primary_count, item_count, high_at}
 use Rattle.xc_dance.specs.Moves.{IsLegal, spends, is_covered}
 use Rattle.xc_dance.specs.Links.ItemCells.{items_after, llink_at, rlink_at, bound_at}
 use Rattle.xc_dance.specs.Links.Rings.{with_bound}
-
-some_is : (a b : ℕ) → Some a ≡ Some b → a ≡ b
-some_is a b e = cc
+use Rattle.std.proofs.lemmas.Option.{same_Some, slice_get_within}
+use Rattle.std.proofs.lemmas.List.Elements.{filter_agree}
 
 pub record SpendStep (p : Puzzle) (t : List Move) (i : ℕ) : Type 0 where
   pub can : (i < length (items_after p t).bound) × (0 < get_or (items_after p t).bound i 0)
@@ -27,15 +26,11 @@ pub record SpendStep (p : Puzzle) (t : List Move) (i : ℕ) : Type 0 where
 
 range_get : (a n q m : ℕ) → slice_get (range_with_len a n) q ≡ Some m → m ≡ a + q
 range_get a zero q m e = cc
-range_get a (suc n) zero m e = let same : a ≡ m = some_is a m e in omega (arith, same)
+range_get a (suc n) zero m e = let same : a ≡ m = same_Some a m e in omega (arith, same)
 range_get a (suc n) (suc q) m e = let r = range_get (a + 1) n q m e in omega (arith, r)
 
-length-range : (a n : ℕ) → length (range_with_len a n) ≡ n
-length-range a zero = refl
-length-range a (suc n) = ap suc (length-range (a + 1) n)
-
 pub row_len : (f : ℕ → ℕ) (n : ℕ) → length (map f (range_with_len 0 n)) ≡ n
-row_len f n = length-map (range_with_len 0 n) f ∙ length-range 0 n
+row_len f n = length-map (range_with_len 0 n) f ∙ length-range_with_len 0 n
 
 pub row_get : (f : ℕ → ℕ) (n q : ℕ) → q < n → get_or (map f (range_with_len 0 n)) q 0 ≡ f q
 row_get f n q h = get_or-map-range_with_len f 0 n q q 0 h (omega arith)
@@ -46,14 +41,14 @@ row_at n q m e = let r = range_get 0 n q m e in omega (arith, r)
 pub row_put : (f g : ℕ → ℕ) (n k v : ℕ) → ((q : ℕ) → q < n → q ≢ k → g q ≡ f q) → g k ≡ v → map g (range_with_len 0 n) ≡ set (map f (range_with_len 0 n)) k v
 row_put f g n k v rest here =
     map_put f g (range_with_len 0 n) k v
-    (λ q m e ne. let same : m ≡ q = row_at n q m e in let within = get_within (range_with_len 0 n) q m e in let long = length-range 0 n in ap g same ∙ rest q (omega (arith, within, long)) ne ∙ ap f (sym same))
+    (λ q m e ne. let same : m ≡ q = row_at n q m e in let within = slice_get_within (range_with_len 0 n) q m e in let long = length-range_with_len 0 n in ap g same ∙ rest q (omega (arith, within, long)) ne ∙ ap f (sym same))
     (λ m e. ap g (row_at n k m e) ∙ here)
 
 pub row_same : (f g : ℕ → ℕ) (n : ℕ) → ((q : ℕ) → q < n → g q ≡ f q) → map g (range_with_len 0 n) ≡ map f (range_with_len 0 n)
 row_same f g n h =
-    map_same f g (range_with_len 0 n) (λ q m e. let same : m ≡ q = row_at n q m e in let within = get_within (range_with_len 0 n) q m e in let long = length-range 0 n in ap g same ∙ h q (omega (arith, within, long)) ∙ ap f (sym same))
+    map_same f g (range_with_len 0 n) (λ q m e. let same : m ≡ q = row_at n q m e in let within = slice_get_within (range_with_len 0 n) q m e in let long = length-range_with_len 0 n in ap g same ∙ h q (omega (arith, within, long)) ∙ ap f (sym same))
 
--- ---- Spend
+-- ---- rings
 
 pub left_now : (p : Puzzle) (t : List Move) (q : ℕ) → is_covered q t ≡ false → left_of p t q ≡ last_below (ring_head p q) q (ring_of p t q)
 left_now p [] q e = refl
@@ -63,28 +58,44 @@ pub right_now : (p : Puzzle) (t : List Move) (q : ℕ) → is_covered q t ≡ fa
 right_now p [] q e = refl
 right_now p (m ∷ t) q e = ap (λ b. cond b (right_of p t q) (first_above (ring_head p q) q (ring_of p (m ∷ t) q))) e
 
-pub spent_left : (p : Puzzle) (t : List Move) (i q : ℕ) → left_of p (Spend i ∷ t) q ≡ left_of p t q
-spent_left p t i q = elim (is_covered q t) as (λ b. is_covered q t ≡ b → cond b (left_of p t q) (last_below (ring_head p q) q (ring_of p t q)) ≡ left_of p t q) [
-  | true ↦ λ e. refl
-  | false ↦ λ e. sym (left_now p t q e)
-] refl
+-- a move that covers no item
+still_ring : (p : Puzzle) (t : List Move) (m : Move) (i : ℕ) → ((q : ℕ) → is_covered q (m ∷ t) ≡ is_covered q t) → ring_of p (m ∷ t) i ≡ ring_of p t i
+still_ring p t m i s =
+    filter_agree (λ j. not (is_covered j (m ∷ t))) (λ j. not (is_covered j t)) (λ j. ap not (s j))
+    (cond (nat_le i (primary_count p)) (range_with_len 1 (primary_count p)) (range_with_len (primary_count p + 1) p.secondary))
 
-spent_right : (p : Puzzle) (t : List Move) (i q : ℕ) → right_of p (Spend i ∷ t) q ≡ right_of p t q
-spent_right p t i q = elim (is_covered q t) as (λ b. is_covered q t ≡ b → cond b (right_of p t q) (first_above (ring_head p q) q (ring_of p t q)) ≡ right_of p t q) [
-  | true ↦ λ e. refl
-  | false ↦ λ e. sym (right_now p t q e)
-] refl
+pub still_left : (p : Puzzle) (t : List Move) (m : Move) (q : ℕ) → ((q : ℕ) → is_covered q (m ∷ t) ≡ is_covered q t) → left_of p (m ∷ t) q ≡ left_of p t q
+still_left p t m q s =
+    ap₂ (λ b ks. cond b (left_of p t q) (last_below (ring_head p q) q ks)) (s q) (still_ring p t m q s)
+    ∙ elim (is_covered q t) as (λ b. is_covered q t ≡ b → cond b (left_of p t q) (last_below (ring_head p q) q (ring_of p t q)) ≡ left_of p t q) [
+      | true ↦ λ e. refl
+      | false ↦ λ e. sym (left_now p t q e)
+    ] refl
+
+pub still_right : (p : Puzzle) (t : List Move) (m : Move) (q : ℕ) → ((q : ℕ) → is_covered q (m ∷ t) ≡ is_covered q t) → right_of p (m ∷ t) q ≡ right_of p t q
+still_right p t m q s =
+    ap₂ (λ b ks. cond b (right_of p t q) (first_above (ring_head p q) q ks)) (s q) (still_ring p t m q s)
+    ∙ elim (is_covered q t) as (λ b. is_covered q t ≡ b → cond b (right_of p t q) (first_above (ring_head p q) q (ring_of p t q)) ≡ right_of p t q) [
+      | true ↦ λ e. refl
+      | false ↦ λ e. sym (right_now p t q e)
+    ] refl
+
+pub still_llink : (p : Puzzle) (t : List Move) (m : Move) (q : ℕ) → ((q : ℕ) → is_covered q (m ∷ t) ≡ is_covered q t) → llink_at p (m ∷ t) q ≡ llink_at p t q
+still_llink p t m q s =
+    ap (λ ks. cond (eqb q 0) (last_of 0 ks) (cond (leb q (item_count p)) (left_of p (m ∷ t) q) (last_of (item_count p + 1) (ring_of p (m ∷ t) (primary_count p + 1))))) (still_ring p t m 0 s)
+    ∙ ap₂ (λ v ks. cond (eqb q 0) (last_of 0 (ring_of p t 0)) (cond (leb q (item_count p)) v (last_of (item_count p + 1) ks))) (still_left p t m q s) (still_ring p t m (primary_count p + 1) s)
+
+pub still_rlink : (p : Puzzle) (t : List Move) (m : Move) (q : ℕ) → ((q : ℕ) → is_covered q (m ∷ t) ≡ is_covered q t) → rlink_at p (m ∷ t) q ≡ rlink_at p t q
+still_rlink p t m q s =
+    ap (λ ks. cond (eqb q 0) (first_of 0 ks) (cond (leb q (item_count p)) (right_of p (m ∷ t) q) (first_of (item_count p + 1) (ring_of p (m ∷ t) (primary_count p + 1))))) (still_ring p t m 0 s)
+    ∙ ap₂ (λ v ks. cond (eqb q 0) (first_of 0 (ring_of p t 0)) (cond (leb q (item_count p)) v (first_of (item_count p + 1) ks))) (still_right p t m q s) (still_ring p t m (primary_count p + 1) s)
 
 pub same_items : (s t : Items) → s.llink ≡ t.llink → s.rlink ≡ t.rlink → s.bound ≡ t.bound → s.slack ≡ t.slack → s ≡ t
 same_items s t a b c d =
     let made : List ℕ → List ℕ → List ℕ → List ℕ → Items = λ w x y z. record { llink = w; rlink = x; bound = y; slack = z } in
     ap (λ w. made w s.rlink s.bound s.slack) a ∙ ap (λ x. made t.llink x s.bound s.slack) b ∙ ap (λ y. made t.llink t.rlink y s.slack) c ∙ ap (made t.llink t.rlink t.bound) d
 
-spent_llink : (p : Puzzle) (t : List Move) (i q : ℕ) → llink_at p (Spend i ∷ t) q ≡ llink_at p t q
-spent_llink p t i q = ap (λ v. cond (eqb q 0) (last_of 0 (ring_of p t 0)) (cond (leb q (item_count p)) v (last_of (item_count p + 1) (ring_of p t (primary_count p + 1))))) (spent_left p t i q)
-
-pub spent_rlink : (p : Puzzle) (t : List Move) (i q : ℕ) → rlink_at p (Spend i ∷ t) q ≡ rlink_at p t q
-spent_rlink p t i q = ap (λ v. cond (eqb q 0) (first_of 0 (ring_of p t 0)) (cond (leb q (item_count p)) v (first_of (item_count p + 1) (ring_of p t (primary_count p + 1))))) (spent_right p t i q)
+-- ---- Spend
 
 bound_own : (p : Puzzle) (t : List Move) (i : ℕ) → 0 < i → bound_at p t i ≡ high_at p i - spends i t
 bound_own p t i pos = rw (ne_eqb i 0 (λ e. omega (arith, e, pos))) refl
@@ -104,8 +115,8 @@ spend_step p t i may few =
     let next = Spend i ∷ t in
     let before : get_or (items_after p t).bound i 0 ≡ high_at p i - spends i t = row_get (bound_at p t) n i within ∙ bound_own p t i pos in
     let after : get_or (items_after p next).bound i 0 ≡ high_at p i - (1 + spends i t) = row_get (bound_at p next) n i within ∙ bound_own p next i pos ∙ ap (λ k. high_at p i - k) (spends_own t i) in
-    let llinks : (items_after p next).llink ≡ (items_after p t).llink = row_same (llink_at p t) (llink_at p next) (item_count p + 2) (λ q h. spent_llink p t i q) in
-    let rlinks : (items_after p next).rlink ≡ (items_after p t).rlink = row_same (rlink_at p t) (rlink_at p next) (item_count p + 2) (λ q h. spent_rlink p t i q) in
+    let llinks : (items_after p next).llink ≡ (items_after p t).llink = row_same (llink_at p t) (llink_at p next) (item_count p + 2) (λ q h. still_llink p t (Spend i) q (λ k. refl)) in
+    let rlinks : (items_after p next).rlink ≡ (items_after p t).rlink = row_same (rlink_at p t) (rlink_at p next) (item_count p + 2) (λ q h. still_rlink p t (Spend i) q (λ k. refl)) in
     let down : bound_at p next i ≡ get_or (items_after p t).bound i 0 - 1 = bound_own p next i pos ∙ ap (λ k. high_at p i - k) (spends_own t i) ∙ omega (arith, before) in
     let up : bound_at p t i ≡ get_or (items_after p next).bound i 0 + 1 = bound_own p t i pos ∙ omega (arith, after, lt) in
     let bounds : (items_after p next).bound ≡ set (items_after p t).bound i (get_or (items_after p t).bound i 0 - 1) = row_put (bound_at p t) (bound_at p next) n i _ (λ q h ne. bound_other p t i q ne) down in

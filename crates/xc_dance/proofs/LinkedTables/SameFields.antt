@@ -17,6 +17,8 @@ use Rattle.xc_dance.specs.Links.Read.{color_read, top_read}
 use Rattle.xc_dance.proofs.LinkedTables.CellLemmas.{llink_read, rlink_read, bound_read, slack_read, top_cell, ulink_cell, dlink_cell, color_own, color_use}
 use Rattle.xc_dance.proofs.LinkedTables.ReadNumbers.{natural, color_same, read_same, natural_same, same_list}
 use Rattle.xc_dance.proofs.LinkedTables.TopCells.{IsSound, top_cells}
+use Rattle.xc_dance.proofs.LinkedTables.Undo.{same_nodes}
+use Rattle.xc_dance.proofs.LinkedTables.RingStep.{same_items}
 
 abbrev pub FieldsSame : Puzzle → List Move → Puzzle → List Move → Type 0
 FieldsSame p t q s = (f : Field) (k : ℕ) → field_of p t f k ≡ field_of q s f k
@@ -28,21 +30,13 @@ by_zero P z h k = elim (eqb k 0) as (λ b. eqb k 0 ≡ b → P k) [ true ↦ λ 
 pub row_first : (f : ℕ → ℕ) (n : ℕ) → slice_get (map f (range_with_len 0 (n + 1))) 0 ≡ Some (f 0)
 row_first f n = let s : n + 1 ≡ suc n = omega arith in ap (λ m. slice_get (map f (range_with_len 0 m)) 0) s
 
-pub make_items : List ℕ → List ℕ → List ℕ → List ℕ → Items
-make_items a b c d = record { llink = a; rlink = b; bound = c; slack = d }
-
-pub same_item_columns : (x y : Items) → x.llink ≡ y.llink → x.rlink ≡ y.rlink → x.bound ≡ y.bound → x.slack ≡ y.slack → x ≡ y
-unfolding make_items
-same_item_columns x y a b c d =
-    ap (λ w. make_items w x.rlink x.bound x.slack) a ∙ ap (λ v. make_items y.llink v x.bound x.slack) b ∙ ap (λ v. make_items y.llink y.rlink v x.slack) c ∙ ap (make_items y.llink y.rlink y.bound) d
-
 pub llinks : (p q : Puzzle) (t s : List Move) → FieldsSame p t q s → (items_after p t).llink ≡ (items_after q s).llink
 llinks p q t s h = same_list (items_after p t).llink (items_after q s).llink
     (λ k. natural_same (slice_get (items_after p t).llink k) (slice_get (items_after q s).llink k) (llink_read p t k ∙ h Llink k ∙ sym (llink_read q s k)))
 
 pub items_from : (p q : Puzzle) (t s : List Move) → FieldsSame p t q s → items_after p t ≡ items_after q s
 items_from p q t s h =
-    same_item_columns (items_after p t) (items_after q s)
+    same_items (items_after p t) (items_after q s)
     (llinks p q t s h)
     (same_list (items_after p t).rlink (items_after q s).rlink (λ k. natural_same (slice_get (items_after p t).rlink k) (slice_get (items_after q s).rlink k) (rlink_read p t k ∙ h Rlink k ∙ sym (rlink_read q s k))))
     (same_list (items_after p t).bound (items_after q s).bound
@@ -61,14 +55,6 @@ items_many p q t s e =
     let b = length-map-range_with_len (llink_at q s) 0 (item_count q + 2) in
     omega (arith, a, b, ap length e)
 
-pub make_nodes : List ℕ → List ℕ → List ℕ → List ℕ → Nodes
-make_nodes a b c d = record { top = a; ulink = b; dlink = c; color = d }
-
-pub same_node_columns : (x y : Nodes) → x.top ≡ y.top → x.ulink ≡ y.ulink → x.dlink ≡ y.dlink → x.color ≡ y.color → x ≡ y
-unfolding make_nodes
-same_node_columns x y a b c d =
-    ap (λ w. make_nodes w x.ulink x.dlink x.color) a ∙ ap (λ v. make_nodes y.top v x.dlink x.color) b ∙ ap (λ v. make_nodes y.top y.ulink v x.color) c ∙ ap (make_nodes y.top y.ulink y.dlink) d
-
 pub color_cells : (p q : Puzzle) (t s : List Move) (k : ℕ) → IsSound p → IsSound q → item_count p ≡ item_count q → field_of p t Color k ≡ field_of q s Color k →
     slice_get (nodes_after p t).color k ≡ slice_get (nodes_after q s).color k
 color_cells p q t s k a b items h =
@@ -84,7 +70,7 @@ color_cells p q t s k a b items h =
 pub nodes_from_fields : (p q : Puzzle) (t s : List Move) → IsSound p → IsSound q → FieldsSame p t q s → nodes_after p t ≡ nodes_after q s
 nodes_from_fields p q t s a b h =
     let items = items_many p q t s (llinks p q t s h) in
-    same_node_columns (nodes_after p t) (nodes_after q s)
+    same_nodes (nodes_after p t) (nodes_after q s)
     (same_list (nodes_after p t).top (nodes_after q s).top (λ k. top_cells p q t s k a b items (top_cell p t k a.laid a.fit a.items ∙ h Top k ∙ sym (top_cell q s k b.laid b.fit b.items))))
     (same_list (nodes_after p t).ulink (nodes_after q s).ulink (λ k. natural_same (slice_get (nodes_after p t).ulink k) (slice_get (nodes_after q s).ulink k) (ulink_cell p t k a.laid ∙ h Ulink k ∙ sym (ulink_cell q s k b.laid))))
     (same_list (nodes_after p t).dlink (nodes_after q s).dlink (λ k. natural_same (slice_get (nodes_after p t).dlink k) (slice_get (nodes_after q s).dlink k) (dlink_cell p t k a.laid ∙ h Dlink k ∙ sym (dlink_cell q s k b.laid))))

@@ -8,10 +8,12 @@ use Rattle.xc_input.specs.Problem.{Puzzle, Numbered, numbered_options, item_coun
 use Rattle.xc_dance.specs.Fields.{own, spacer, used, layout, nodes_of, is_spacer, spacer_place, link_place}
 use Rattle.xc_dance.specs.Links.OptionPlaces.{place_at}
 use Rattle.xc_dance.specs.Links.Laid.{IsFit}
-use Rattle.xc_dance.proofs.LinkedTables.OptionNumbers.{NumbersRise, numbers_rise_from}
-use Rattle.xc_dance.proofs.LinkedTables.LaidLemmas.{NonePass, OnePasses, one_right, position_at, each_append, place_is}
-use Rattle.xc_dance.proofs.LinkedTables.OptionReach.{append_assoc, tail_from}
+use Rattle.xc_dance.proofs.MoveLemmas.OptionsRise.{NumbersRise-from, NumbersRise}
+use Rattle.xc_dance.proofs.LinkedTables.LaidLemmas.{NonePass, OnePasses, one_right, position_at, place_is}
+use Rattle.xc_dance.proofs.LinkedTables.OptionReach.{tail_from}
 use Rattle.xc_dance.proofs.LinkedTables.PlaceLemmas.{spacer_here, use_here}
+use Rattle.xc_input.proofs.EachElement.{each-append}
+use Rattle.std.proofs.lemmas.List.{append_assoc}
 
 used_no_spacer : (s o : ℕ) (us : List Use) → NonePass (is_spacer s) (map (used o) us)
 used_no_spacer s o [] = tt
@@ -21,19 +23,11 @@ pub own_no_spacer : (s : ℕ) (js : List ℕ) → NonePass (is_spacer s) (map ow
 own_no_spacer s [] = tt
 own_no_spacer s (j ∷ js) = (refl, own_no_spacer s js)
 
-used_one_spacer : (s o : ℕ) (us : List Use) → OnePasses (is_spacer s) (map (used o) us)
-used_one_spacer s o [] = tt
-used_one_spacer s o (u ∷ us) = ((λ e. absurd (false≢true e)), used_one_spacer s o us)
-
-pub own_one_spacer : (s : ℕ) (js : List ℕ) → OnePasses (is_spacer s) (map own js)
-own_one_spacer s [] = tt
-own_one_spacer s (j ∷ js) = ((λ e. absurd (false≢true e)), own_one_spacer s js)
-
 pub flat_no_spacer : (s n : ℕ) (os : List Numbered) → s ≤ n → NumbersRise n os → NonePass (is_spacer s) (flat_map nodes_of os)
 flat_no_spacer s n [] le r = tt
 flat_no_spacer s n (x ∷ os) le r =
-    each_append (λ m. is_spacer s m ≡ false) (nodes_of x) (flat_map nodes_of os)
-    (each_append (λ m. is_spacer s m ≡ false) (map (used x.number) x.uses) (spacer x.number ∷ []) (used_no_spacer s x.number x.uses) (ne_eqb x.number s (λ e. omega (arith, e, le, r.0)), tt))
+    each-append (λ m. is_spacer s m ≡ false) (nodes_of x) (flat_map nodes_of os)
+    (each-append (λ m. is_spacer s m ≡ false) (map (used x.number) x.uses) (spacer x.number ∷ []) (used_no_spacer s x.number x.uses) (ne_eqb x.number s (λ e. omega (arith, e, le, r.0)), tt))
     (flat_no_spacer s x.number os (omega (arith, le, r.0)) r.1)
 
 pub flat_one_spacer : (s n : ℕ) (os : List Numbered) → NumbersRise n os → OnePasses (is_spacer s) (flat_map nodes_of os)
@@ -47,7 +41,7 @@ pub spacer_one : (p : Puzzle) (s : ℕ) → OnePasses (is_spacer s) (layout p)
 spacer_one p s = (
   (λ e. absurd (false≢true e)),
   one_right (is_spacer s) (map own (range_with_len 1 (item_count p))) (tail_from 0 p.options) (own_no_spacer s (range_with_len 1 (item_count p)))
-      ((λ e. let same = eqb-true 0 s e in flat_no_spacer s 0 (numbered_options p) (omega (arith, same)) (numbers_rise_from 0 p.options)), flat_one_spacer s 0 (numbered_options p) (numbers_rise_from 0 p.options)),
+      ((λ e. let same = eqb-true 0 s e in flat_no_spacer s 0 (numbered_options p) (omega (arith, same)) (NumbersRise-from 0 p.options)), flat_one_spacer s 0 (numbered_options p) (NumbersRise-from 0 p.options)),
 )
 
 -- where a spacer stands is its place

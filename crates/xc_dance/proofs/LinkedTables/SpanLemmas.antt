@@ -17,7 +17,7 @@ use Rattle.xc_dance.specs.Links.OptionPlaces.{place_at}
 use Rattle.xc_dance.specs.Links.OptionSpans.{span_of, spans_of}
 use Rattle.xc_dance.proofs.LinkedTables.PlaceLemmas.{spacer_here, use_here, place_next}
 use Rattle.xc_dance.proofs.LinkedTables.SpacerPlaces.{use_at, spacer_at}
-use Rattle.xc_dance.proofs.LinkedTables.OptionReach.{get_behind}
+use Rattle.xc_dance.proofs.LinkedTables.OptionReach.{get_behind, get_front}
 
 -- ---- an item's use
 
@@ -61,15 +61,7 @@ row p o a (suc n) (u ∷ us) e at =
     ap₂ (λ x xs. x ∷ xs) (sym (at 0 u refl ∙ z))
     (row p o (a + 1) n us (omega (arith, e)) (λ k v f. (let s : a + suc k ≡ a + 1 + k = omega arith in at (suc k) v f ∙ s)))
 
-pub get_within : {X : Type 0} (xs ys : List X) (k : ℕ) (x : X) → slice_get xs k ≡ Some x → slice_get (xs ++ ys) k ≡ Some x
-get_within [] ys k x e = cc
-get_within (a ∷ xs) ys zero x e = e
-get_within (a ∷ xs) ys (suc k) x e = get_within xs ys k x e
-
 -- ---- one option
-
-pub some_same : {X : Type 0} (x y : X) → Some x ≡ Some y → x ≡ y
-some_same x y e = cc
 
 -- the span of a use's node
 pub span_here : (p : Puzzle) (o k : ℕ) (us : List Use) (u : Use) → o < option_count p → slice_get p.options o ≡ Some us → slice_get us k ≡ Some u → (d : Span) →
@@ -97,7 +89,7 @@ before_all : (p : Puzzle) (o x : ℕ) (before behind us : List Use) (u : Use) �
 before_all p o x before behind us u fit e is at =
     let a = place_at p o + 1 in
     row p (o + 1) a (x - a) before (omega (arith, at))
-    (λ k v f. use_at p o k us v fit e (ap (λ l. slice_get l k) is ∙ get_within before (u ∷ behind) k v f))
+    (λ k v f. use_at p o k us v fit e (ap (λ l. slice_get l k) is ∙ get_front before (u ∷ behind) k v f))
 
 -- an option that holds an item is there
 pub there : (os : List (List Use)) (k i : ℕ) → is_some (colour_in (unwrap_or (slice_get os k) []) i) ≡ true → slice_get os k ≡ Some (unwrap_or (slice_get os k) [])

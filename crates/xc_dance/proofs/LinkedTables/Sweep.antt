@@ -5,8 +5,9 @@ use Rattle.std.specs.List.{last_or}
 use Rattle.std.proofs.lemmas.Bool.{eqb-false, false≢true}
 pub use Rattle.xc_dance.specs.Rising.{Rises}
 pub use Rattle.xc_dance.proofs.MoveLemmas.ListLemmas.{Rises-weaker, Rises-filter}
-use Rattle.xc_dance.specs.Links.Lines.{Line, put_at, cut, IsLinkedFrom}
+use Rattle.xc_dance.specs.Links.Lines.{Line}
 use Rattle.xc_dance.specs.Fields.{last_below, first_above, first_of, last_of, is_in}
+use Rattle.xc_dance.proofs.LinkedTables.LineChanges.{put_at, cut, IsLinkedFrom}
 
 pub put_at-same : (f : ℕ → ℕ) (k v x : ℕ) → x ≡ k → put_at f k v x ≡ v
 put_at-same f k v x e = rw (eq-eqb x k e) refl

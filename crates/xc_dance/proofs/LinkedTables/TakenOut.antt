@@ -12,12 +12,13 @@ use Rattle.xc_dance.specs.Fields.{is_in}
 use Rattle.xc_dance.specs.Left.{left}
 use Rattle.xc_dance.proofs.MoveLemmas.OpenLists.{listed_open}
 use Rattle.xc_input.proofs.ListFilters.{filter_same}
-use Rattle.xc_input.proofs.EachElement.{each-filter}
+use Rattle.xc_input.proofs.EachElement.{each-filter, each_weaker}
 use Rattle.xc_dance.proofs.LinkedTables.Sweep.{stay}
 use Rattle.xc_dance.proofs.LinkedTables.OneList.{leavers}
-use Rattle.xc_dance.proofs.LinkedTables.LineSteps.{goes, without_numbers, filter_numbers, stay_all}
-use Rattle.xc_dance.proofs.LinkedTables.MarkedNodes.{each_one, IsOption, options_left}
+use Rattle.xc_dance.proofs.LinkedTables.LineSteps.{goes, without_numbers, filter_numbers, stay_all, drop_numbers}
+use Rattle.xc_dance.proofs.LinkedTables.MarkedNodes.{options_left}
 use Rattle.xc_dance.proofs.LinkedTables.Leaving.{TakesOut}
+use Rattle.xc_dance.proofs.LinkedTables.OptionNumbers.{IsOption}
 
 goes_is : (gone : List Numbered) (x : ℕ) → goes gone x ≡ is_in x (map (λ o. o.number) gone)
 goes_is [] x = refl
@@ -59,7 +60,7 @@ others_numbers : (p : Puzzle) (i c : ℕ) (os : List Numbered) → AllByRecursio
 others_numbers p i c os a =
     let f : ℕ → Bool = λ x. not (is_kept p i (Some c) x) in
     ap (map (λ o. o.number)) (filter_same (λ o. is_other_colour c (colour_at o i)) (λ o. f o.number) os
-    (each_one (IsOption p) (λ o. is_other_colour c (colour_at o i) ≡ f o.number) os
+    (each_weaker (IsOption p) (λ o. is_other_colour c (colour_at o i) ≡ f o.number) os
     (λ o is. sym (not-not (is_other_colour c (colour_in (uses_of p o.number) i)) ∙ ap (λ us. is_other_colour c (colour_in us i)) is.1)) a))
     ∙ filter_numbers f os
 
@@ -94,10 +95,6 @@ pub tweak_others : (p : Puzzle) (t : List Move) (i j : ℕ) → is_open i t ≡ 
 tweak_others p t i j shut ne =
     ap (λ b. map (λ o. o.number) (cond b (drop 1 (listed p t i)) (cond (is_open i t && is_open j t) (without (take 1 (listed p t i)) (listed p t j)) (listed p t j)))) (ne_eqb j i ne)
     ∙ ap (λ b. map (λ o. o.number) (cond (b && is_open j t) (without (take 1 (listed p t i)) (listed p t j)) (listed p t j))) shut
-
-drop_numbers : (os : List Numbered) → map (λ o. o.number) (drop 1 os) ≡ drop 1 (map (λ o. o.number) os)
-drop_numbers [] = refl
-drop_numbers (o ∷ os) = refl
 
 pub tweak_own : (p : Puzzle) (t : List Move) (i : ℕ) → listed_numbers p (Tweak i ∷ t) i ≡ drop 1 (listed_numbers p t i)
 tweak_own p t i =

@@ -1,7 +1,7 @@
 -- TOP, where 0 can be a length or the number of the first spacer, reads differently for different cells.
-use Rattle.std.proofs.Common.{◌≡◌, ◌⊎◌, inl, inr, ℕ, zero, suc, ◌+◌, ◌-◌, ◌<◌, ◌≤◌, ◌^◌, true, false, cond, leb, ltb, List, map, Some, None, refl, ap, sym, ◌∙◌, arith, le-leb, leb-true, ltb-true, ltb-false}
+use Rattle.std.proofs.Common.{◌≡◌, ◌⊎◌, inl, inr, ℕ, zero, suc, ◌+◌, ◌-◌, ◌<◌, ◌^◌, true, false, ltb, List, map, Some, None, refl, ap, sym, ◌∙◌, arith, ltb-true, ltb-false}
 use Rattle.std.specs.Prelude.{pos, negsuc, slice_get, option_map}
-use Rattle.std.proofs.lemmas.Option.{slice_get-map}
+use Rattle.std.proofs.lemmas.Option.{slice_get-map, same_Some}
 use Rattle.xc_input.specs.Problem.{Puzzle, item_count}
 use Rattle.xc_dance.specs.declared.dance.Move.{Move}
 use Rattle.xc_dance.specs.Fields.{Node, unused, own, spacer, used, layout}
@@ -11,7 +11,7 @@ use Rattle.xc_dance.specs.Links.Read.{minus, top_read}
 use Rattle.xc_dance.proofs.MoveLemmas.ListLemmas.{length-listed}
 use Rattle.xc_dance.proofs.LinkedTables.PlaceLemmas.{spacer_here, place_first}
 use Rattle.xc_dance.proofs.LinkedTables.SpacerPlaces.{spacer_is, spacer_at}
-use Rattle.xc_dance.proofs.LinkedTables.ReadNumbers.{pos_same, negsuc_same, some_same, read_same}
+use Rattle.xc_dance.proofs.LinkedTables.ReadNumbers.{pos_same, negsuc_same, read_same, read_small, read_large}
 
 pub minus_same : (v w : ℕ) → minus v ≡ minus w → v ≡ w
 minus_same zero zero e = refl
@@ -22,16 +22,6 @@ minus_same (suc v) (suc w) e = ap suc (negsuc_same v w e)
 pub minus_pos : (v w : ℕ) → pos v ≡ minus w → w ≡ 0
 minus_pos v zero e = refl
 minus_pos v (suc w) e = let f : pos v ≡ negsuc w = e in cc
-
-pub read_small : (v : ℕ) → v < 2147483648 → top_read v ≡ pos v
-read_small v h =
-    elim (leb 2147483648 v) as (λ b. leb 2147483648 v ≡ b → cond b (minus (v - 2147483648)) (pos v) ≡ pos v) [
-      | true ↦ λ e. let le = leb-true 2147483648 v e in absurd (omega (arith, h, le))
-      | false ↦ λ e. refl
-    ] refl
-
-pub read_large : (v : ℕ) → 2147483648 ≤ v → top_read v ≡ minus (v - 2147483648)
-read_large v h = let yes = le-leb 2147483648 v h in rw yes refl
 
 -- a number that reads as 0 may be one of two
 pub top_same : (v w : ℕ) → top_read v ≡ top_read w → (v ≡ w) ⊎ ((v ≡ 2147483648) ⊎ (w ≡ 2147483648))
@@ -72,13 +62,13 @@ pub top_at_first : (p : Puzzle) (t : List Move) (v : ℕ) → slice_get (nodes_a
 top_at_first p t v e =
     let here : slice_get (layout p) (item_count p + 1) ≡ Some (spacer 0) = ap (slice_get (layout p)) (sym (place_first p)) ∙ spacer_here p 0 (omega arith) in
     let is : slice_get (nodes_after p t).top (item_count p + 1) ≡ Some 2147483648 = slice_get-map (top_in (line_of p t)) (layout p) (item_count p + 1) ∙ ap (option_map (top_in (line_of p t))) here in
-    some_same v 2147483648 (sym e ∙ is)
+    same_Some v 2147483648 (sym e ∙ is)
 
 pub node_at : (p : Puzzle) (f : Node → ℕ) (q v : ℕ) → slice_get (map f (layout p)) q ≡ Some v → (n : Node) × (slice_get (layout p) q ≡ Some n) × (f n ≡ v)
 node_at p f q v e =
     elim (slice_get (layout p) q) as (λ o. option_map f o ≡ Some v → (n : Node) × (o ≡ Some n) × (f n ≡ v)) [
       | None ↦ λ g. cc
-      | Some n ↦ λ g. (n, refl, some_same (f n) v g)
+      | Some n ↦ λ g. (n, refl, same_Some (f n) v g)
     ] (sym (slice_get-map f (layout p) q) ∙ e)
 
 pub top_cells : (p q : Puzzle) (t s : List Move) (k : ℕ) → IsSound p → IsSound q → item_count p ≡ item_count q →

@@ -1,7 +1,7 @@
 -- Cover on the item table: an item leaves its ring and comes back.
-use Rattle.std.proofs.Common.{◌≡◌, ◌≢◌, ℕ, zero, suc, ◌+◌, ◌<◌, ◌≤◌, ◌⊎◌, inl, inr, Bool, true, false, not, cond, ◌&&◌, ◌||◌, eqb, leb, ltb, List, [], ◌∷◌, filter, get_or, set, refl, ap, ap₂, sym, subst, ◌∙◌, arith, eq-eqb, ne_eqb, le-leb, leb-true, ltb-true, ltb-false}
+use Rattle.std.proofs.Common.{◌≡◌, ◌≢◌, ℕ, zero, suc, ◌+◌, ◌<◌, ◌≤◌, ◌⊎◌, inl, inr, Bool, true, false, not, cond, ◌&&◌, ◌||◌, eqb, leb, List, [], ◌∷◌, filter, get_or, set, refl, ap, ap₂, sym, subst, ◌∙◌, arith, eq-eqb, ne_eqb, le-leb, leb-true}
 use Rattle.std.specs.List.{range_with_len}
-use Rattle.std.proofs.lemmas.Bool.{false≢true}
+use Rattle.std.proofs.lemmas.Bool.{false≢true, not-true, and_parts, lt-leb, leb-false}
 use Rattle.std.proofs.lemmas.List.Elements.{filter_agree}
 use Rattle.xc_dance.specs.declared.dance.Move.{Move}
 use Rattle.xc_dance.specs.declared.dance.Move.TheVariants.{Cover, Purify, Tweak, Spend}
@@ -10,12 +10,14 @@ use Rattle.xc_dance.specs.Moves.{IsLegal, is_open, is_covered}
 use Rattle.xc_dance.specs.Fields.{ring_of, ring_head, left_of, right_of, first_of, last_of, last_below, first_above, is_in}
 use Rattle.xc_dance.specs.Links.ItemCells.{items_after, llink_at, rlink_at}
 use Rattle.xc_dance.specs.Links.Rings.{left_ring, back_in_ring}
-use Rattle.xc_dance.specs.Links.RingSteps.{RingStep}
 use Rattle.xc_dance.proofs.LinkedTables.Undo.{written_back}
 use Rattle.xc_input.proofs.ListFilters.{filter_both}
-use Rattle.xc_dance.proofs.LinkedTables.Sweep.{Rises, Rises-filter, Rises-weaker, is_in-first, by_first, in_rest, stay_same}
-use Rattle.xc_dance.proofs.LinkedTables.RingLemmas.{less, later, first_above-in, last_below-in, prev_without, next_without, first_without, last_without, link_behind, link_before}
+use Rattle.xc_dance.proofs.LinkedTables.Sweep.{Rises, Rises-filter, Rises-weaker, is_in-first, by_first, in_rest, stay_same, in_more}
+use Rattle.xc_dance.proofs.LinkedTables.RingLemmas.{less, first_above-in, last_below-in, prev_without, next_without, first_without, last_without, link_behind, link_before}
 use Rattle.xc_dance.proofs.LinkedTables.RingStep.{row_put, row_get, row_len, same_items, left_now, right_now}
+use Rattle.xc_dance.proofs.MoveLemmas.ListLemmas.{Rises-range}
+use Rattle.xc_dance.proofs.MoveLemmas.Members.{in_filter}
+use Rattle.xc_dance.specs.Links.Made.{CanTurn}
 
 abbrev pub base : Puzzle → Bool → List ℕ
 base p b = cond b (range_with_len 1 (primary_count p)) (range_with_len (primary_count p + 1) p.secondary)
@@ -29,13 +31,9 @@ hd p b = cond b 0 (item_count p + 1)
 abbrev pub side : Puzzle → ℕ → Bool
 side p q = leb q (primary_count p)
 
-rises_range : (a n : ℕ) → Rises a (range_with_len (a + 1) n)
-rises_range a zero = tt
-rises_range a (suc n) = (omega arith, rises_range (a + 1) n)
-
 ring_rises : (p : Puzzle) (t : List Move) (b : Bool) → Rises 0 (ring p t b)
-ring_rises p t true = Rises-filter (λ j. not (is_covered j t)) 0 (base p true) (rises_range 0 (primary_count p))
-ring_rises p t false = Rises-filter (λ j. not (is_covered j t)) 0 (base p false) (Rises-weaker 0 (primary_count p) (base p false) (omega arith) (rises_range (primary_count p) p.secondary))
+ring_rises p t true = Rises-filter (λ j. not (is_covered j t)) 0 (base p true) (Rises-range 0 (primary_count p))
+ring_rises p t false = Rises-filter (λ j. not (is_covered j t)) 0 (base p false) (Rises-weaker 0 (primary_count p) (base p false) (omega arith) (Rises-range (primary_count p) p.secondary))
 
 not_or : (a b : Bool) → not (a || b) ≡ (not b && not a)
 not_or true true = refl
@@ -50,29 +48,12 @@ ring_next p t i b =
 
 -- ---- members
 
-in_filter : (f : ℕ → Bool) (q : ℕ) (xs : List ℕ) → f q ≡ true → is_in q xs ≡ true → is_in q (filter f xs) ≡ true
-in_filter f q [] g e = e
-in_filter f q (y ∷ ys) g e =
-    by_first (is_in q (filter f (y ∷ ys)) ≡ true) y q
-    (λ same. let fy : f y ≡ true = ap f same ∙ g in rw fy (ap (λ k. is_in k (y ∷ filter f ys)) (sym same) ∙ is_in-first y (filter f ys)))
-    (λ ne. let rest = in_filter f q ys g (in_rest y q ys ne e) in elim (f y) as (λ b. is_in q (cond b (y ∷ filter f ys) (filter f ys)) ≡ true) [ true ↦ later y q (filter f ys) rest | false ↦ rest ])
-
-filter_in : (f : ℕ → Bool) (q : ℕ) (xs : List ℕ) → is_in q (filter f xs) ≡ true → (f q ≡ true) × (is_in q xs ≡ true)
-filter_in f q [] e = absurd (false≢true e)
-filter_in f q (y ∷ ys) e =
-    elim (f y) as (λ b. f y ≡ b → is_in q (cond b (y ∷ filter f ys) (filter f ys)) ≡ true → (f q ≡ true) × (is_in q (y ∷ ys) ≡ true)) [
-      | true ↦ λ fy g. by_first ((f q ≡ true) × (is_in q (y ∷ ys) ≡ true)) y q
-          (λ same. (ap f (sym same) ∙ fy, ap (λ k. is_in k (y ∷ ys)) (sym same) ∙ is_in-first y ys))
-          (λ ne. let r = filter_in f q ys (in_rest y q (filter f ys) ne g) in (r.0, later y q ys r.1))
-      | false ↦ λ fy g. let r = filter_in f q ys g in (r.0, later y q ys r.1)
-    ] refl e
-
 in_range : (a n q : ℕ) → a ≤ q → q < a + n → is_in q (range_with_len a n) ≡ true
 in_range a zero q le lt = absurd (omega arith)
 in_range a (suc n) q le lt =
     by_first (is_in q (a ∷ range_with_len (a + 1) n) ≡ true) a q
     (λ same. ap (λ k. is_in k (a ∷ range_with_len (a + 1) n)) (sym same) ∙ is_in-first a (range_with_len (a + 1) n))
-    (λ ne. later a q (range_with_len (a + 1) n) (in_range (a + 1) n q (omega arith) (omega arith)))
+    (λ ne. in_more a q (range_with_len (a + 1) n) (in_range (a + 1) n q (omega arith) (omega arith)))
 
 range_in : (a n q : ℕ) → is_in q (range_with_len a n) ≡ true → (a ≤ q) × (q < a + n)
 range_in a zero q e = absurd (false≢true e)
@@ -85,7 +66,7 @@ side_true : (p : Puzzle) (q : ℕ) → q ≤ primary_count p → side p q ≡ tr
 side_true p q h = le-leb q (primary_count p) h
 
 side_false : (p : Puzzle) (q : ℕ) → primary_count p < q → side p q ≡ false
-side_false p q h = elim (side p q) as (λ b. side p q ≡ b → side p q ≡ false) [ true ↦ λ e. let le = leb-true q (primary_count p) e in absurd (omega (arith, h, le)) | false ↦ λ e. e ] refl
+side_false p q h = lt-leb q (primary_count p) h
 
 base_in : (p : Puzzle) (b : Bool) (q : ℕ) → is_in q (base p b) ≡ true → (0 < q) × (q ≤ item_count p) × (side p q ≡ b)
 base_in p true q e = let r = range_in 1 (primary_count p) q e in (omega (arith, r.0), omega (arith, r.1), side_true p q (omega (arith, r.1)))
@@ -95,25 +76,15 @@ in_base : (p : Puzzle) (q : ℕ) → 0 < q → q ≤ item_count p → is_in q (b
 in_base p q pos le =
     elim (side p q) as (λ b. side p q ≡ b → is_in q (base p b) ≡ true) [
       | true ↦ λ e. let h = leb-true q (primary_count p) e in in_range 1 (primary_count p) q (omega (arith, pos)) (omega (arith, h))
-      | false ↦ λ e. in_range (primary_count p + 1) p.secondary q (behind q e) (omega (arith, le))
+      | false ↦ λ e. let h = leb-false q (primary_count p) e in in_range (primary_count p + 1) p.secondary q (omega (arith, h)) (omega (arith, le))
     ] refl
-  where
-    behind : (q : ℕ) → side p q ≡ false → primary_count p + 1 ≤ q
-    behind q e = elim (ltb (primary_count p) q) as (λ b. ltb (primary_count p) q ≡ b → primary_count p + 1 ≤ q) [
-      | true ↦ λ f. let h = ltb-true (primary_count p) q f in omega (arith, h)
-      | false ↦ λ f. let h = ltb-false (primary_count p) q f in absurd (false≢true (sym e ∙ le-leb q (primary_count p) (omega (arith, h))))
-    ] refl
-
-not_true : (b : Bool) → not b ≡ true → b ≡ false
-not_true true e = sym e
-not_true false e = refl
 
 -- a member of a ring
 ring_in : (p : Puzzle) (t : List Move) (b : Bool) (q : ℕ) → is_in q (ring p t b) ≡ true → (is_covered q t ≡ false) × ((0 < q) × (q ≤ item_count p) × (side p q ≡ b))
-ring_in p t b q e = let r = filter_in (λ j. not (is_covered j t)) q (base p b) e in (not_true (is_covered q t) r.0, base_in p b q r.1)
+ring_in p t b q e = let r = and_parts _ _ (sym (in_filter (λ j. not (is_covered j t)) q (base p b)) ∙ e) in (not-true (is_covered q t) r.0, base_in p b q r.1)
 
 in_ring : (p : Puzzle) (t : List Move) (q : ℕ) → 0 < q → q ≤ item_count p → is_covered q t ≡ false → is_in q (ring p t (side p q)) ≡ true
-in_ring p t q pos le un = in_filter (λ j. not (is_covered j t)) q (base p (side p q)) (ap not un) (in_base p q pos le)
+in_ring p t q pos le un = in_filter (λ j. not (is_covered j t)) q (base p (side p q)) ∙ ap₂ (λ a b. a && b) (ap not un) (in_base p q pos le)
 
 head_item : (p : Puzzle) (b : Bool) (q : ℕ) → 0 < q → q ≤ item_count p → hd p b ≢ q
 head_item p true q pos le = λ e. omega (arith, e, pos)
@@ -174,55 +145,94 @@ by_side P false false same other = same refl
 by_side P true false same other = other (λ e. false≢true (sym e))
 by_side P false true same other = other (λ e. false≢true e)
 
-rlink_head : (p : Puzzle) (t : List Move) (b : Bool) → rlink_at p t (hd p b) ≡ first_of (hd p b) (ring p t b)
-rlink_head p t true = ap (λ c. first_of 0 (ring p t c)) (side_zero p)
-rlink_head p t false =
-    let last : side p (primary_count p + 1) ≡ false = side_false p (primary_count p + 1) (omega arith) in
-    let past : leb (item_count p + 1) (item_count p) ≡ false = elim (leb (item_count p + 1) (item_count p)) as (λ b. leb (item_count p + 1) (item_count p) ≡ b → leb (item_count p + 1) (item_count p) ≡ false) [
-      | true ↦ λ e. let h = leb-true (item_count p + 1) (item_count p) e in absurd (omega (arith, h))
-      | false ↦ λ e. e
-    ] refl in
-    let some : eqb (item_count p + 1) 0 ≡ false = ne_eqb (item_count p + 1) 0 (λ e. omega (arith, e)) in
-    ap₂ (λ u v. cond u (first_of 0 (ring_of p t 0)) (cond v (right_of p t (item_count p + 1)) (first_of (item_count p + 1) (ring_of p t (primary_count p + 1))))) some past
-    ∙ ap (λ c. first_of (item_count p + 1) (ring p t c)) last
+-- what stands at the head of a ring in a column of links, and at an item
+head_cell : (p : Puzzle) (t : List Move) (b : Bool) (f : ℕ → List ℕ → ℕ) (g : ℕ → ℕ) →
+    cond (eqb (hd p b) 0) (f 0 (ring_of p t 0)) (cond (leb (hd p b) (item_count p)) (g (hd p b)) (f (item_count p + 1) (ring_of p t (primary_count p + 1)))) ≡ f (hd p b) (ring p t b)
+head_cell p t true f g = ap (λ c. f 0 (ring p t c)) (side_zero p)
+head_cell p t false f g =
+    let n = item_count p + 1 in
+    ap₂ (λ u v. cond u (f 0 (ring_of p t 0)) (cond v (g n) (f n (ring_of p t (primary_count p + 1))))) (ne_eqb n 0 (λ e. omega (arith, e))) (lt-leb n (item_count p) (omega arith))
+    ∙ ap (λ c. f n (ring p t c)) (side_false p (primary_count p + 1) (omega arith))
 
-rlink_item : (p : Puzzle) (t : List Move) (q : ℕ) → 0 < q → q ≤ item_count p → rlink_at p t q ≡ right_of p t q
-rlink_item p t q pos le =
-    ap₂ (λ u v. cond u (first_of 0 (ring_of p t 0)) (cond v (right_of p t q) (first_of (item_count p + 1) (ring_of p t (primary_count p + 1))))) (ne_eqb q 0 (λ e. omega (arith, e, pos))) (le-leb q (item_count p) le)
+item_cell : (p : Puzzle) (q first inner last : ℕ) → 0 < q → q ≤ item_count p → cond (eqb q 0) first (cond (leb q (item_count p)) inner last) ≡ inner
+item_cell p q first inner last pos le = ap₂ (λ u v. cond u first (cond v inner last)) (ne_eqb q 0 (λ e. omega (arith, e, pos))) (le-leb q (item_count p) le)
+
+-- One way round the rings, by the cells, the neighbour of an item and what it is in the list. What is `before` is the same the other way.
+record Way (p : Puzzle) : Type 0 where
+  cell : List Move → ℕ → ℕ
+  beside : List Move → ℕ → ℕ
+  before : List Move → ℕ → ℕ
+  end : ℕ → List ℕ → ℕ
+  next : ℕ → ℕ → List ℕ → ℕ
+  last : ℕ → ℕ → List ℕ → ℕ
+  at_head : (t : List Move) (b : Bool) → cell t (hd p b) ≡ end (hd p b) (ring p t b)
+  at_item : (t : List Move) (q : ℕ) → 0 < q → q ≤ item_count p → cell t q ≡ beside t q
+  now : (t : List Move) (q : ℕ) → is_covered q t ≡ false → beside t q ≡ next (hd p (side p q)) q (ring p t (side p q))
+  now_before : (t : List Move) (q : ℕ) → is_covered q t ≡ false → before t q ≡ last (hd p (side p q)) q (ring p t (side p q))
+  gone : (t : List Move) (m : Move) (q : ℕ) → is_covered q (m ∷ t) ≡ true → beside (m ∷ t) q ≡ beside t q
+  end_without : (h i : ℕ) (xs : List ℕ) → Rises 0 xs → is_in i xs ≡ true → is_in h xs ≡ false → end h (less i xs) ≡ cond (eqb h (last h i xs)) (next h i xs) (end h xs)
+  next_without : (h i q : ℕ) (xs : List ℕ) → Rises 0 xs → is_in i xs ≡ true → is_in q xs ≡ true → q ≢ i → h ≢ q → next h q (less i xs) ≡ cond (eqb q (last h i xs)) (next h i xs) (next h q xs)
+  round : (h i : ℕ) (xs : List ℕ) → Rises 0 xs → is_in i xs ≡ true → is_in h xs ≡ false → cond (eqb (last h i xs) h) (end h xs) (next h (last h i xs) xs) ≡ i
+  last_in : (h i : ℕ) (xs : List ℕ) → Rises 0 xs → is_in i xs ≡ true → (last h i xs ≡ h) ⊎ ((is_in (last h i xs) xs ≡ true) × (last h i xs ≢ i))
+
+abbrev rightwards : (p : Puzzle) → Way p
+rightwards p = record {
+  cell = rlink_at p;
+  beside = right_of p;
+  before = left_of p;
+  end = first_of;
+  next = first_above;
+  last = last_below;
+  at_head = λ t b. head_cell p t b first_of (right_of p t);
+  at_item = λ t q. item_cell p q (first_of 0 (ring_of p t 0)) (right_of p t q) (first_of (item_count p + 1) (ring_of p t (primary_count p + 1)));
+  now = right_now p;
+  now_before = left_now p;
+  gone = λ t m q e. ap (λ v. cond v (right_of p t q) (first_above (ring_head p q) q (ring_of p (m ∷ t) q))) e;
+  end_without = λ h i xs. first_without h h i 0 xs;
+  next_without = λ h i q xs. next_without h h i q 0 xs;
+  round = λ h i xs. link_behind h h i 0 xs;
+  last_in = λ h i xs r e. elim (last_below-in h i 0 xs r e) [ inl f ↦ inl f | inr f ↦ let lt = f.1 in inr (f.0, λ s. omega (arith, s, lt)) ];
+}
+
+abbrev leftwards : (p : Puzzle) → Way p
+leftwards p = record {
+  cell = llink_at p;
+  beside = left_of p;
+  before = right_of p;
+  end = last_of;
+  next = last_below;
+  last = first_above;
+  at_head = λ t b. head_cell p t b last_of (left_of p t);
+  at_item = λ t q. item_cell p q (last_of 0 (ring_of p t 0)) (left_of p t q) (last_of (item_count p + 1) (ring_of p t (primary_count p + 1)));
+  now = left_now p;
+  now_before = right_now p;
+  gone = λ t m q e. ap (λ v. cond v (left_of p t q) (last_below (ring_head p q) q (ring_of p (m ∷ t) q))) e;
+  end_without = λ h i xs. last_without h h i 0 xs;
+  next_without = λ h i q xs. prev_without h h i q 0 xs;
+  round = λ h i xs. link_before h h i 0 xs;
+  last_in = λ h i xs r e. elim (first_above-in h i 0 xs r e) [ inl f ↦ inl f | inr f ↦ let lt = f.1 in inr (f.0, λ s. omega (arith, s, lt)) ];
+}
+
+way_beside : (p : Puzzle) (w : Way p) (t : List Move) (i : ℕ) → 0 < i → i ≤ item_count p → is_covered i t ≡ false → IsBeside p t (side p i) (w.before t i) × (w.before t i ≢ i)
+way_beside p w t i pos le un =
+    let b = side p i in
+    let is = w.now_before t i un in
+    elim (w.last_in (hd p b) i (ring p t b) (ring_rises p t b) (in_ring p t i pos le un)) [
+      | inl h ↦ (inl (is ∙ h), λ e. head_item p b i pos le (sym h ∙ sym is ∙ e))
+      | inr h ↦ (inr (ap (λ k. is_in k (ring p t b)) is ∙ h.0), λ e. h.1 (sym is ∙ e))
+    ]
 
 pub right_beside : (p : Puzzle) (t : List Move) (i : ℕ) → 0 < i → i ≤ item_count p → is_covered i t ≡ false → IsBeside p t (side p i) (right_of p t i) × (right_of p t i ≢ i)
-right_beside p t i pos le un =
-    let b = side p i in
-    let is = right_now p t i un in
-    elim (first_above-in (hd p b) i 0 (ring p t b) (ring_rises p t b) (in_ring p t i pos le un)) [
-      | inl h ↦ (inl (is ∙ h), λ e. head_item p b i pos le (sym h ∙ sym is ∙ e))
-      | inr h ↦ (inr (ap (λ k. is_in k (ring p t b)) is ∙ h.0), λ e. let gt = h.1 in omega (arith, e, is, gt))
-    ]
-
-llink_head : (p : Puzzle) (t : List Move) (b : Bool) → llink_at p t (hd p b) ≡ last_of (hd p b) (ring p t b)
-llink_head p t true = ap (λ c. last_of 0 (ring p t c)) (side_zero p)
-llink_head p t false =
-    let last : side p (primary_count p + 1) ≡ false = side_false p (primary_count p + 1) (omega arith) in
-    let past : leb (item_count p + 1) (item_count p) ≡ false = elim (leb (item_count p + 1) (item_count p)) as (λ b. leb (item_count p + 1) (item_count p) ≡ b → leb (item_count p + 1) (item_count p) ≡ false) [
-      | true ↦ λ e. let h = leb-true (item_count p + 1) (item_count p) e in absurd (omega (arith, h))
-      | false ↦ λ e. e
-    ] refl in
-    let some : eqb (item_count p + 1) 0 ≡ false = ne_eqb (item_count p + 1) 0 (λ e. omega (arith, e)) in
-    ap₂ (λ u v. cond u (last_of 0 (ring_of p t 0)) (cond v (left_of p t (item_count p + 1)) (last_of (item_count p + 1) (ring_of p t (primary_count p + 1))))) some past
-    ∙ ap (λ c. last_of (item_count p + 1) (ring p t c)) last
-
-pub llink_item : (p : Puzzle) (t : List Move) (q : ℕ) → 0 < q → q ≤ item_count p → llink_at p t q ≡ left_of p t q
-llink_item p t q pos le =
-    ap₂ (λ u v. cond u (last_of 0 (ring_of p t 0)) (cond v (left_of p t q) (last_of (item_count p + 1) (ring_of p t (primary_count p + 1))))) (ne_eqb q 0 (λ e. omega (arith, e, pos))) (le-leb q (item_count p) le)
+right_beside p = way_beside p (leftwards p)
 
 pub left_beside : (p : Puzzle) (t : List Move) (i : ℕ) → 0 < i → i ≤ item_count p → is_covered i t ≡ false → IsBeside p t (side p i) (left_of p t i) × (left_of p t i ≢ i)
-left_beside p t i pos le un =
-    let b = side p i in
-    let is = left_now p t i un in
-    elim (last_below-in (hd p b) i 0 (ring p t b) (ring_rises p t b) (in_ring p t i pos le un)) [
-      | inl h ↦ (inl (is ∙ h), λ e. head_item p b i pos le (sym h ∙ sym is ∙ e))
-      | inr h ↦ (inr (ap (λ k. is_in k (ring p t b)) is ∙ h.0), λ e. let gt = h.1 in omega (arith, e, is, gt))
-    ]
+left_beside p = way_beside p (rightwards p)
+
+pub llink_item : (p : Puzzle) (t : List Move) (q : ℕ) → 0 < q → q ≤ item_count p → llink_at p t q ≡ left_of p t q
+llink_item p = (leftwards p).at_item
+
+rlink_item : (p : Puzzle) (t : List Move) (q : ℕ) → 0 < q → q ≤ item_count p → rlink_at p t q ≡ right_of p t q
+rlink_item p = (rightwards p).at_item
 
 place_case : (p : Puzzle) (q : ℕ) → q < item_count p + 2 → ((b : Bool) × (q ≡ hd p b)) ⊎ ((0 < q) × (q ≤ item_count p))
 place_case p q lt =
@@ -232,143 +242,94 @@ place_case p q lt =
     (λ e. inl (false, e))
     (λ ne. inr (omega (arith, nz), omega (arith, lt, ne))))
 
-pub rlink_next : (p : Puzzle) (t : List Move) (i : ℕ) → 0 < i → i ≤ item_count p → is_covered i t ≡ false → (q : ℕ) → q < item_count p + 2 →
-    rlink_at p (Cover i ∷ t) q ≡ cond (eqb q (left_of p t i)) (right_of p t i) (rlink_at p t q)
-rlink_next p t i pos le un q lt =
+-- a Cover changes one cell each way, that of the neighbour before
+way_next : (p : Puzzle) (w : Way p) (t : List Move) (i : ℕ) → 0 < i → i ≤ item_count p → is_covered i t ≡ false → (q : ℕ) → q < item_count p + 2 →
+    w.cell (Cover i ∷ t) q ≡ cond (eqb q (w.before t i)) (w.beside t i) (w.cell t q)
+way_next p w t i pos le un q lt =
     let b = side p i in
-    let l = left_of p t i in
-    let r = right_of p t i in
-    let beside = left_beside p t i pos le un in
+    let l = w.before t i in
+    let r = w.beside t i in
+    let beside = way_beside p w t i pos le un in
     let i_in = in_ring p t i pos le un in
-    let is_l : l ≡ last_below (hd p b) i (ring p t b) = left_now p t i un in
-    let is_r : r ≡ first_above (hd p b) i (ring p t b) = right_now p t i un in
+    let is_l = w.now_before t i un in
+    let is_r = w.now t i un in
     let next = Cover i ∷ t in
-    let at_head : (c : Bool) → rlink_at p next (hd p c) ≡ cond (eqb (hd p c) l) r (rlink_at p t (hd p c)) = λ c.
-    rlink_head p next c
-    ∙ by_side (first_of (hd p c) (ring p next c) ≡ cond (eqb (hd p c) l) r (first_of (hd p c) (ring p t c))) c b
-    (λ same. subst (λ d. first_of (hd p d) (ring p next d) ≡ cond (eqb (hd p d) l) r (first_of (hd p d) (ring p t d))) (sym same)
-    (ap (first_of (hd p b)) (ring_next p t i b) ∙ first_without (hd p b) (hd p b) i 0 (ring p t b) (ring_rises p t b) i_in (head_out p t b b)
-    ∙ ap₂ (λ k v. cond (eqb (hd p b) k) v (first_of (hd p b) (ring p t b))) (sym is_l) (sym is_r)))
-    (λ ne. ap (first_of (hd p c)) (other_ring p t i c ne) ∙ sym (ap (λ v. cond v r (first_of (hd p c) (ring p t c))) (ne_eqb (hd p c) l (beside_head p t b c l beside.0 ne))))
-    ∙ ap (cond (eqb (hd p c) l) r) (sym (rlink_head p t c)) in
-    let at_item : 0 < q → q ≤ item_count p → rlink_at p next q ≡ cond (eqb q l) r (rlink_at p t q) = λ q_pos q_le.
-    rlink_item p next q q_pos q_le
-    ∙ by_first (right_of p next q ≡ cond (eqb q l) r (right_of p t q)) q i
-    (λ same.
-    let gone : is_covered q next ≡ true = ap (λ v. v || is_covered q t) (eq-eqb q i same) in
-    ap (λ v. cond v (right_of p t q) (first_above (ring_head p q) q (ring_of p next q))) gone
-    ∙ sym (ap (λ v. cond v r (right_of p t q)) (ne_eqb q l (λ e. beside.1 (sym e ∙ same)))))
+    let at_head : (c : Bool) → w.cell next (hd p c) ≡ cond (eqb (hd p c) l) r (w.cell t (hd p c)) = λ c.
+    w.at_head next c
+    ∙ by_side (w.end (hd p c) (ring p next c) ≡ cond (eqb (hd p c) l) r (w.end (hd p c) (ring p t c))) c b
+    (λ same. subst (λ d. w.end (hd p d) (ring p next d) ≡ cond (eqb (hd p d) l) r (w.end (hd p d) (ring p t d))) (sym same)
+    (ap (w.end (hd p b)) (ring_next p t i b) ∙ w.end_without (hd p b) i (ring p t b) (ring_rises p t b) i_in (head_out p t b b)
+    ∙ ap₂ (λ k v. cond (eqb (hd p b) k) v (w.end (hd p b) (ring p t b))) (sym is_l) (sym is_r)))
+    (λ ne. ap (w.end (hd p c)) (other_ring p t i c ne) ∙ sym (ap (λ v. cond v r (w.end (hd p c) (ring p t c))) (ne_eqb (hd p c) l (beside_head p t b c l beside.0 ne))))
+    ∙ ap (cond (eqb (hd p c) l) r) (sym (w.at_head t c)) in
+    let at_item : 0 < q → q ≤ item_count p → w.cell next q ≡ cond (eqb q l) r (w.cell t q) = λ q_pos q_le.
+    w.at_item next q q_pos q_le
+    ∙ by_first (w.beside next q ≡ cond (eqb q l) r (w.beside t q)) q i
+    (λ same. w.gone t (Cover i) q (ap (λ v. v || is_covered q t) (eq-eqb q i same)) ∙ sym (ap (λ v. cond v r (w.beside t q)) (ne_eqb q l (λ e. beside.1 (sym e ∙ same)))))
     (λ other.
     let as_before : is_covered q next ≡ is_covered q t = ap (λ v. v || is_covered q t) (ne_eqb q i other) in
-    elim (is_covered q t) as (λ v. is_covered q t ≡ v → right_of p next q ≡ cond (eqb q l) r (right_of p t q)) [
-      | true ↦ λ c.
-          ap (λ v. cond v (right_of p t q) (first_above (ring_head p q) q (ring_of p next q))) (as_before ∙ c)
-          ∙ sym (ap (λ v. cond v r (right_of p t q)) (ne_eqb q l (beside_covered p t b l q beside.0 q_pos q_le c)))
+    elim (is_covered q t) as (λ v. is_covered q t ≡ v → w.beside next q ≡ cond (eqb q l) r (w.beside t q)) [
+      | true ↦ λ c. w.gone t (Cover i) q (as_before ∙ c) ∙ sym (ap (λ v. cond v r (w.beside t q)) (ne_eqb q l (beside_covered p t b l q beside.0 q_pos q_le c)))
       | false ↦ λ c.
           let s = side p q in
-          right_now p next q (as_before ∙ c)
-          ∙ by_side (first_above (hd p s) q (ring p next s) ≡ cond (eqb q l) r (first_above (hd p s) q (ring p t s))) s b
+          w.now next q (as_before ∙ c)
+          ∙ by_side (w.next (hd p s) q (ring p next s) ≡ cond (eqb q l) r (w.next (hd p s) q (ring p t s))) s b
           (λ same.
           let q_in : is_in q (ring p t b) ≡ true = ap (λ d. is_in q (ring p t d)) (sym same) ∙ in_ring p t q q_pos q_le c in
-          subst (λ d. first_above (hd p d) q (ring p next d) ≡ cond (eqb q l) r (first_above (hd p d) q (ring p t d))) (sym same)
-          (ap (first_above (hd p b) q) (ring_next p t i b) ∙ next_without (hd p b) (hd p b) i q 0 (ring p t b) (ring_rises p t b) i_in q_in other (head_item p b q q_pos q_le)
-          ∙ ap₂ (λ k v. cond (eqb q k) v (first_above (hd p b) q (ring p t b))) (sym is_l) (sym is_r)))
-          (λ ne. ap (first_above (hd p s) q) (other_ring p t i s ne) ∙ sym (ap (λ v. cond v r (first_above (hd p s) q (ring p t s))) (ne_eqb q l (beside_other p t b s l q beside.0 q_pos q_le refl ne))))
-          ∙ ap (cond (eqb q l) r) (sym (right_now p t q c))
+          subst (λ d. w.next (hd p d) q (ring p next d) ≡ cond (eqb q l) r (w.next (hd p d) q (ring p t d))) (sym same)
+          (ap (w.next (hd p b) q) (ring_next p t i b) ∙ w.next_without (hd p b) i q (ring p t b) (ring_rises p t b) i_in q_in other (head_item p b q q_pos q_le)
+          ∙ ap₂ (λ k v. cond (eqb q k) v (w.next (hd p b) q (ring p t b))) (sym is_l) (sym is_r)))
+          (λ ne. ap (w.next (hd p s) q) (other_ring p t i s ne) ∙ sym (ap (λ v. cond v r (w.next (hd p s) q (ring p t s))) (ne_eqb q l (beside_other p t b s l q beside.0 q_pos q_le refl ne))))
+          ∙ ap (cond (eqb q l) r) (sym (w.now t q c))
     ] refl)
-    ∙ ap (cond (eqb q l) r) (sym (rlink_item p t q q_pos q_le)) in
+    ∙ ap (cond (eqb q l) r) (sym (w.at_item t q q_pos q_le)) in
     elim (place_case p q lt) [
-      | inl c ↦ subst (λ k. rlink_at p next k ≡ cond (eqb k l) r (rlink_at p t k)) (sym c.1) (at_head c.0)
+      | inl c ↦ subst (λ k. w.cell next k ≡ cond (eqb k l) r (w.cell t k)) (sym c.1) (at_head c.0)
       | inr h ↦ at_item h.0 h.1
     ]
+
+pub rlink_next : (p : Puzzle) (t : List Move) (i : ℕ) → 0 < i → i ≤ item_count p → is_covered i t ≡ false → (q : ℕ) → q < item_count p + 2 →
+    rlink_at p (Cover i ∷ t) q ≡ cond (eqb q (left_of p t i)) (right_of p t i) (rlink_at p t q)
+rlink_next p = way_next p (rightwards p)
 
 llink_next : (p : Puzzle) (t : List Move) (i : ℕ) → 0 < i → i ≤ item_count p → is_covered i t ≡ false → (q : ℕ) → q < item_count p + 2 →
     llink_at p (Cover i ∷ t) q ≡ cond (eqb q (right_of p t i)) (left_of p t i) (llink_at p t q)
-llink_next p t i pos le un q lt =
+llink_next p = way_next p (leftwards p)
+
+-- from the neighbour back to i
+way_back : (p : Puzzle) (w : Way p) (t : List Move) (i : ℕ) → 0 < i → i ≤ item_count p → is_covered i t ≡ false → w.cell t (w.before t i) ≡ i
+way_back p w t i pos le un =
     let b = side p i in
-    let l = right_of p t i in
-    let r = left_of p t i in
-    let beside = right_beside p t i pos le un in
+    let h = hd p b in
+    let xs = ring p t b in
     let i_in = in_ring p t i pos le un in
-    let is_l : l ≡ first_above (hd p b) i (ring p t b) = right_now p t i un in
-    let is_r : r ≡ last_below (hd p b) i (ring p t b) = left_now p t i un in
-    let next = Cover i ∷ t in
-    let at_head : (c : Bool) → llink_at p next (hd p c) ≡ cond (eqb (hd p c) l) r (llink_at p t (hd p c)) = λ c.
-    llink_head p next c
-    ∙ by_side (last_of (hd p c) (ring p next c) ≡ cond (eqb (hd p c) l) r (last_of (hd p c) (ring p t c))) c b
-    (λ same. subst (λ d. last_of (hd p d) (ring p next d) ≡ cond (eqb (hd p d) l) r (last_of (hd p d) (ring p t d))) (sym same)
-    (ap (last_of (hd p b)) (ring_next p t i b) ∙ last_without (hd p b) (hd p b) i 0 (ring p t b) (ring_rises p t b) i_in (head_out p t b b)
-    ∙ ap₂ (λ k v. cond (eqb (hd p b) k) v (last_of (hd p b) (ring p t b))) (sym is_l) (sym is_r)))
-    (λ ne. ap (last_of (hd p c)) (other_ring p t i c ne) ∙ sym (ap (λ v. cond v r (last_of (hd p c) (ring p t c))) (ne_eqb (hd p c) l (beside_head p t b c l beside.0 ne))))
-    ∙ ap (cond (eqb (hd p c) l) r) (sym (llink_head p t c)) in
-    let at_item : 0 < q → q ≤ item_count p → llink_at p next q ≡ cond (eqb q l) r (llink_at p t q) = λ q_pos q_le.
-    llink_item p next q q_pos q_le
-    ∙ by_first (left_of p next q ≡ cond (eqb q l) r (left_of p t q)) q i
-    (λ same.
-    let gone : is_covered q next ≡ true = ap (λ v. v || is_covered q t) (eq-eqb q i same) in
-    ap (λ v. cond v (left_of p t q) (last_below (ring_head p q) q (ring_of p next q))) gone
-    ∙ sym (ap (λ v. cond v r (left_of p t q)) (ne_eqb q l (λ e. beside.1 (sym e ∙ same)))))
-    (λ other.
-    let as_before : is_covered q next ≡ is_covered q t = ap (λ v. v || is_covered q t) (ne_eqb q i other) in
-    elim (is_covered q t) as (λ v. is_covered q t ≡ v → left_of p next q ≡ cond (eqb q l) r (left_of p t q)) [
-      | true ↦ λ c.
-          ap (λ v. cond v (left_of p t q) (last_below (ring_head p q) q (ring_of p next q))) (as_before ∙ c)
-          ∙ sym (ap (λ v. cond v r (left_of p t q)) (ne_eqb q l (beside_covered p t b l q beside.0 q_pos q_le c)))
-      | false ↦ λ c.
-          let s = side p q in
-          left_now p next q (as_before ∙ c)
-          ∙ by_side (last_below (hd p s) q (ring p next s) ≡ cond (eqb q l) r (last_below (hd p s) q (ring p t s))) s b
-          (λ same.
-          let q_in : is_in q (ring p t b) ≡ true = ap (λ d. is_in q (ring p t d)) (sym same) ∙ in_ring p t q q_pos q_le c in
-          subst (λ d. last_below (hd p d) q (ring p next d) ≡ cond (eqb q l) r (last_below (hd p d) q (ring p t d))) (sym same)
-          (ap (last_below (hd p b) q) (ring_next p t i b) ∙ prev_without (hd p b) (hd p b) i q 0 (ring p t b) (ring_rises p t b) i_in q_in other (head_item p b q q_pos q_le)
-          ∙ ap₂ (λ k v. cond (eqb q k) v (last_below (hd p b) q (ring p t b))) (sym is_l) (sym is_r)))
-          (λ ne. ap (last_below (hd p s) q) (other_ring p t i s ne) ∙ sym (ap (λ v. cond v r (last_below (hd p s) q (ring p t s))) (ne_eqb q l (beside_other p t b s l q beside.0 q_pos q_le refl ne))))
-          ∙ ap (cond (eqb q l) r) (sym (left_now p t q c))
-    ] refl)
-    ∙ ap (cond (eqb q l) r) (sym (llink_item p t q q_pos q_le)) in
-    elim (place_case p q lt) [
-      | inl c ↦ subst (λ k. llink_at p next k ≡ cond (eqb k l) r (llink_at p t k)) (sym c.1) (at_head c.0)
-      | inr h ↦ at_item h.0 h.1
-    ]
+    let all = w.round h i xs (ring_rises p t b) i_in (head_out p t b b) in
+    let k = w.last h i xs in
+    ap (w.cell t) (w.now_before t i un)
+    ∙ by_first (w.cell t k ≡ i) k h
+    (λ same. ap (w.cell t) same ∙ w.at_head t b ∙ sym (ap (λ v. cond v (w.end h xs) (w.next h k xs)) (eq-eqb k h same)) ∙ all)
+    (λ ne. elim (w.last_in h i xs (ring_rises p t b) i_in) [
+      | inl e ↦ absurd (ne e)
+      | inr e ↦
+          let m = ring_in p t b k e.0 in
+          w.at_item t k m.1.0 m.1.1 ∙ w.now t k m.0 ∙ ap (λ d. w.next (hd p d) k (ring p t d)) m.1.2
+          ∙ sym (ap (λ v. cond v (w.end h xs) (w.next h k xs)) (ne_eqb k h ne)) ∙ all
+    ])
 
--- from the neighbour back to i
 pub rlink_back : (p : Puzzle) (t : List Move) (i : ℕ) → 0 < i → i ≤ item_count p → is_covered i t ≡ false → rlink_at p t (left_of p t i) ≡ i
-rlink_back p t i pos le un =
-    let b = side p i in
-    let is_l : left_of p t i ≡ last_below (hd p b) i (ring p t b) = left_now p t i un in
-    let all = link_behind (hd p b) (hd p b) i 0 (ring p t b) (ring_rises p t b) (in_ring p t i pos le un) (head_out p t b b) in
-    let k = last_below (hd p b) i (ring p t b) in
-    ap (rlink_at p t) is_l
-    ∙ by_first (rlink_at p t k ≡ i) k (hd p b)
-    (λ same. ap (rlink_at p t) same ∙ rlink_head p t b ∙ sym (ap (λ v. cond v (first_of (hd p b) (ring p t b)) (first_above (hd p b) k (ring p t b))) (eq-eqb k (hd p b) same)) ∙ all)
-    (λ ne. elim (last_below-in (hd p b) i 0 (ring p t b) (ring_rises p t b) (in_ring p t i pos le un)) [
-      | inl h ↦ absurd (ne h)
-      | inr h ↦
-          let m = ring_in p t b k h.0 in
-          rlink_item p t k m.1.0 m.1.1 ∙ right_now p t k m.0 ∙ ap (λ d. first_above (hd p d) k (ring p t d)) m.1.2
-          ∙ sym (ap (λ v. cond v (first_of (hd p b) (ring p t b)) (first_above (hd p b) k (ring p t b))) (ne_eqb k (hd p b) ne)) ∙ all
-    ])
+rlink_back p = way_back p (rightwards p)
 
--- from the neighbour back to i
 llink_back : (p : Puzzle) (t : List Move) (i : ℕ) → 0 < i → i ≤ item_count p → is_covered i t ≡ false → llink_at p t (right_of p t i) ≡ i
-llink_back p t i pos le un =
-    let b = side p i in
-    let is_l : right_of p t i ≡ first_above (hd p b) i (ring p t b) = right_now p t i un in
-    let all = link_before (hd p b) (hd p b) i 0 (ring p t b) (ring_rises p t b) (in_ring p t i pos le un) (head_out p t b b) in
-    let k = first_above (hd p b) i (ring p t b) in
-    ap (llink_at p t) is_l
-    ∙ by_first (llink_at p t k ≡ i) k (hd p b)
-    (λ same. ap (llink_at p t) same ∙ llink_head p t b ∙ sym (ap (λ v. cond v (last_of (hd p b) (ring p t b)) (last_below (hd p b) k (ring p t b))) (eq-eqb k (hd p b) same)) ∙ all)
-    (λ ne. elim (first_above-in (hd p b) i 0 (ring p t b) (ring_rises p t b) (in_ring p t i pos le un)) [
-      | inl h ↦ absurd (ne h)
-      | inr h ↦
-          let m = ring_in p t b k h.0 in
-          llink_item p t k m.1.0 m.1.1 ∙ left_now p t k m.0 ∙ ap (λ d. last_below (hd p d) k (ring p t d)) m.1.2
-          ∙ sym (ap (λ v. cond v (last_of (hd p b) (ring p t b)) (last_below (hd p b) k (ring p t b))) (ne_eqb k (hd p b) ne)) ∙ all
-    ])
+llink_back p = way_back p (leftwards p)
 
 -- ---- both ways
+
+-- Cover(i) and its undoing may be made on the item table, and lead from moves to one move more and back
+pub record RingStep (p : Puzzle) (t : List Move) (i : ℕ) : Type 0 where
+  pub can : CanTurn (items_after p t) i
+  pub done : left_ring (items_after p t) i ≡ items_after p (Cover i ∷ t)
+  pub can_back : CanTurn (items_after p (Cover i ∷ t)) i
+  pub undone : back_in_ring (items_after p (Cover i ∷ t)) i ≡ items_after p t
 
 pub ring_step : (p : Puzzle) (t : List Move) (i : ℕ) → IsLegal p t (Cover i) → RingStep p t i
 ring_step p t i may =

@@ -1,5 +1,5 @@
 -- Tweak: from the node table after moves to that after one move more, and back.
-use Rattle.std.proofs.Common.{◌≡◌, ◌≢◌, ℕ, ◌+◌, ◌*◌, ◌<◌, ◌≤◌, ◌^◌, Bool, true, false, not, cond, ◌||◌, eqb, List, [], ◌∷◌, length, map, fold, filter, get_or, reverse, refl, ap, sym, subst, ◌∙◌, arith, eqb-true, eq-eqb, ne_eqb}
+use Rattle.std.proofs.Common.{◌≡◌, ◌≢◌, ℕ, ◌+◌, ◌*◌, ◌<◌, ◌≤◌, ◌^◌, Bool, true, false, not, cond, ◌||◌, eqb, List, [], ◌∷◌, length, filter, get_or, reverse, refl, ap, sym, subst, ◌∙◌, arith, eqb-true, eq-eqb, ne_eqb}
 use Rattle.std.specs.List.{AllByRecursion}
 use Rattle.std.proofs.lemmas.Bool.{eqb-false, false≢true}
 use Rattle.std.proofs.lemmas.List.{length-map}
@@ -10,35 +10,35 @@ use Rattle.xc_dance.specs.Links.Span.{Span}
 use Rattle.xc_input.specs.Problem.{Puzzle, item_count, uses_of}
 use Rattle.xc_dance.specs.Moves.{listed, is_open, AreLegal, listed_numbers}
 use Rattle.xc_dance.specs.Fields.{Node, unused, own, spacer, used, layout, link_place, first_of, is_in}
-use Rattle.xc_dance.specs.Links.Lines.{Line, cut}
-use Rattle.xc_dance.specs.Links.Steps.{HasSize, NamesPlaces, unlinked, relinked, hidden, shown, others_of, CanHideNode, CanShowNode, hide_costs, show_costs}
+use Rattle.xc_dance.specs.Links.Lines.{Line}
+use Rattle.xc_dance.specs.Links.Steps.{HasSize, NamesPlaces, unlinked, relinked, others_of, CanHideNode, CanShowNode, hide_costs, show_costs}
 use Rattle.xc_dance.specs.Links.Tweaking.{hidden_unless, shown_unless, tweaked, untweaked, CanTweak, CanTweakAt, CanUntweak, tweak_cost, untweak_cost}
-use Rattle.xc_dance.specs.Links.Cells.{color_in, dlink_in, nodes_from, nodes_after, line_of, with_line}
-use Rattle.xc_dance.specs.Links.Others.{before_use, behind_use, other_items}
+use Rattle.xc_dance.specs.Links.Cells.{color_in, dlink_in, nodes_from, nodes_after, line_of}
+use Rattle.xc_dance.specs.Links.Others.{before_use, behind_use}
 use Rattle.xc_dance.specs.Links.Made.{IsFitted}
-use Rattle.xc_dance.proofs.LinkedTables.Mapped.{get_within}
-use Rattle.xc_dance.proofs.LinkedTables.Undo.{relinked-unlinked, fold-shown-reverse}
+use Rattle.std.proofs.lemmas.Option.{slice_get_within}
+use Rattle.xc_dance.proofs.LinkedTables.Undo.{relinked-unlinked}
 use Rattle.xc_dance.proofs.LinkedTables.ReadyLemmas.{CanRelink-unlinked}
-use Rattle.xc_dance.proofs.LinkedTables.OneNode.{IsMember, unlinked-is, linked-is, names-is}
-use Rattle.xc_dance.proofs.LinkedTables.LinkColumns.{get_down, get_item, get_len, size_from}
+use Rattle.xc_dance.proofs.LinkedTables.OneNode.{IsMember, unlinked-is, linked-is, member_cells}
+use Rattle.xc_dance.proofs.LinkedTables.LinkColumns.{get_down, size_from}
 use Rattle.xc_dance.proofs.LinkedTables.Sweep.{Rises, stay, cuts, is_in-first}
 use Rattle.xc_dance.proofs.LinkedTables.Goods.{Named, IsGood, AllGood, member}
-use Rattle.xc_dance.proofs.LinkedTables.OneOption.{left_all, walked, ready_front}
-use Rattle.xc_dance.proofs.LinkedTables.Spacers.{others_are, turns}
-use Rattle.xc_dance.proofs.LinkedTables.OneList.{all_other}
+use Rattle.xc_dance.proofs.LinkedTables.OneOption.{left_all, walked, ready_front, all_other, line_here, line_there}
+use Rattle.xc_dance.proofs.LinkedTables.Spacers.{turns}
 use Rattle.xc_dance.proofs.LinkedTables.OtherItems.{leaves, list_at}
 use Rattle.xc_dance.proofs.LinkedTables.OthersApart.{each_apart, own_apart}
-use Rattle.xc_dance.proofs.LinkedTables.LineSteps.{numbers_rise, drop_first, stay_all, leave_none}
+use Rattle.xc_dance.proofs.LinkedTables.LineSteps.{drop_first, stay_all, leave_none}
 use Rattle.xc_dance.proofs.LinkedTables.GoodLines.{all_good, numbers_named}
-use Rattle.xc_dance.proofs.LinkedTables.SameLines.{SameCut, SameLine, line_after, tables_same}
+use Rattle.xc_dance.proofs.LinkedTables.SameLines.{SameCut, line_after, tables_same}
 use Rattle.xc_dance.proofs.LinkedTables.MetOptions.{ready_at}
 use Rattle.xc_dance.proofs.LinkedTables.Leaving.{AreOf, cut_others, leaves_own}
 use Rattle.xc_dance.specs.Cost.{cost_of, leaving}
 use Rattle.xc_dance.proofs.LinkedTables.Totals.{total, total_same, total_plus, total_zero, total_point}
-use Rattle.xc_dance.proofs.LinkedTables.UnmarkedCosts.{hide_costs-are, show_costs-are, unmarked-reverse, unmarked_items}
 use Rattle.xc_dance.proofs.LinkedTables.LeavingCosts.{exchanged, leaving_is}
 use Rattle.xc_dance.proofs.LinkedTables.TakenOut.{first_alone, takes_tweak, tweak_others, tweak_own}
 use Rattle.xc_dance.proofs.LinkedTables.ListLinks.{own_placed}
+use Rattle.xc_dance.proofs.LinkedTables.LineChanges.{cut, with_line, other_items}
+use Rattle.xc_dance.proofs.MoveLemmas.Shortened.{rises_listed}
 
 -- the first of item i's list
 pub record HasFirst (p : Puzzle) (t : List Move) (i : ℕ) : Type 0 where
@@ -71,7 +71,7 @@ one_only o n (x ∷ xs) le r = let ne : eqb x o ≡ false = ne_eqb x o (λ e. om
 -- its own line loses the first
 pub tweak_cut : (p : Puzzle) (t : List Move) (i : ℕ) (f : HasFirst p t i) → SameCut p t (Tweak i) i (f.o ∷ [])
 tweak_cut p t i f =
-    let r : Rises 0 (f.o ∷ f.os) = subst (Rises 0) f.is (numbers_rise p t i) in
+    let r : Rises 0 (f.o ∷ f.os) = subst (Rises 0) f.is (rises_listed p t i) in
     record {
       test = λ x. eqb x f.o;
       cut_is =
@@ -79,7 +79,7 @@ tweak_cut p t i f =
           ∙ ap (λ b. cond b (f.o ∷ filter (λ x. eqb x f.o) f.os) (filter (λ x. eqb x f.o) f.os)) (sym (eq-eqb f.o f.o refl))
           ∙ ap (filter (λ x. eqb x f.o)) (sym f.is);
       stay_is =
-          tweak_own p t i ∙ drop_first 0 (listed_numbers p t i) (numbers_rise p t i)
+          tweak_own p t i ∙ drop_first 0 (listed_numbers p t i) (rises_listed p t i)
           ∙ ap (λ ks. stay (λ x. eqb x (first_of 0 ks)) (listed_numbers p t i)) f.is;
     }
 
@@ -93,7 +93,7 @@ tweak_shut p t i j shut ne = record {
 
 pub first_of-list : (p : Puzzle) (t : List Move) (i : ℕ) → HasFirst p t i → AreOf p t i (first_alone (listed_numbers p t i))
 first_of-list p t i f =
-    let r : Rises 0 (f.o ∷ f.os) = subst (Rises 0) f.is (numbers_rise p t i) in
+    let r : Rises 0 (f.o ∷ f.os) = subst (Rises 0) f.is (rises_listed p t i) in
     subst (λ ks. AreOf p t i (first_alone ks)) (sym f.is) (record {
       rise = (r.0, tt);
       among = λ x e. subst (λ ks. is_in x ks ≡ true) (sym f.is)
@@ -150,9 +150,8 @@ mid_open p t spans i legal fit opened pos le f =
     let spanned = fit.spanned in
     let col = color_in p t in
     let js = other_items p o i in
-    let qs = map (λ j. link_place p j o) js in
     let x = link_place p i o in
-    let r : Rises 0 (o ∷ f.os) = subst (Rises 0) f.is (numbers_rise p t i) in
+    let r : Rises 0 (o ∷ f.os) = subst (Rises 0) f.is (rises_listed p t i) in
     let within : is_in o (listed_numbers p t i) ≡ true = subst (λ ks. is_in o ks ≡ true) (sym f.is) (is_in-first o f.os) in
     let named : Named p i o = (subst (λ ks. AllByRecursion (Named p i) ks) f.is (numbers_named p t i)).0 in
     let ready = ready_at p t i o legal laid fit.fit opened within in
@@ -160,9 +159,6 @@ mid_open p t spans i legal fit opened pos le f =
     let mid = walked p col (line_of p t) (listed_numbers p t) o (behind_use i (uses_of p o)) laid r.0 (all_good p t fit.fit) (ready_front p col (listed_numbers p t) o (behind_use i (uses_of p o)) (before_use i (uses_of p o)) ready) in
     let both = turns p (line_of p t) col (listed_numbers p t) spans o i spanned r.0 named w mid in
     let apart = own_apart p i o fit.fit in
-    let t0 : Nodes = nodes_after p t in
-    let t1 : Nodes = nodes_from p (left_all p col o (line_of p t) js) col in
-    let others : others_of spans x ≡ qs = others_are p spans o i spanned r.0 named in
     let of = first_of-list p t i f in
     let one : first_alone (listed_numbers p t i) ≡ o ∷ [] = ap first_alone f.is in
     let counted = exchanged p col i (o ∷ []) fit.fit in
@@ -170,7 +166,7 @@ mid_open p t spans i legal fit opened pos le f =
       ln = left_all p col o (line_of p t) js;
       lists = w.gone.lists';
       good = w.gone.good;
-      own = all_other p col o (line_of p t) js i apart;
+      own = all_other cut p col o (line_of p t) js i apart;
       list = w.gone.other i apart;
       ks = λ j. filter (leaves p col i j) (o ∷ []);
       none = leaves_own p t i (o ∷ []) fit.fit (r.0, tt);
@@ -180,11 +176,11 @@ mid_open p t spans i legal fit opened pos le f =
           subst (λ ks. SameCut p t (Tweak i) j (filter (leaves p col i j) ks)) one cut_j;
       line = λ j. list_at p col i (line_of p t) (o ∷ []) j (each_apart p i (o ∷ []) fit.fit);
       hide = λ e. (spanned.within o i r.0 named, both.hide);
-      done = ap (fold hidden t0) others ∙ w.done;
+      done = both.done;
       show = λ e. (spanned.within o i r.0 named, both.show);
-      undone = ap (λ ks. fold shown t1 (reverse ks)) others ∙ ap (λ (v : Nodes). fold shown v (reverse qs)) (sym w.done) ∙ fold-shown-reverse t0 qs w.rest.undone;
-      cost = let a = ap (hide_costs t0) others ∙ hide_costs-are t0 qs ∙ unmarked_items p col o js in omega (arith, a, counted);
-      cost_back = let a = ap (λ ks. show_costs t1 (reverse ks)) others ∙ show_costs-are t1 (reverse qs) ∙ unmarked-reverse (map col (layout p)) qs ∙ unmarked_items p col o js in omega (arith, a, counted);
+      undone = both.undone;
+      cost = let a = both.cost in omega (arith, a, counted);
+      cost_back = let a = both.cost_back in omega (arith, a, counted);
     }
 
 -- ---- the whole move
@@ -196,16 +192,6 @@ pub record TweakMade (p : Puzzle) (t : List Move) (spans : List Span) (covered :
   pub undone : untweaked spans covered (nodes_after p (Tweak i ∷ t)) (link_place p i (first_of 0 (listed_numbers p t i))) ≡ nodes_after p t
   pub cost : tweak_cost spans covered (nodes_after p t) i ≡ cost_of p t (Tweak i)
   pub cost_back : untweak_cost spans covered (nodes_after p (Tweak i ∷ t)) (link_place p i (first_of 0 (listed_numbers p t i))) ≡ cost_of p t (Tweak i)
-
-pub line_here : (ln : ℕ → Line) (i : ℕ) (l : Line) → with_line ln i l i ≡ l
-line_here ln i l =
-    let make : Bool → Line = λ b. record { len = cond b l.len (ln i).len; up = λ x. cond b (l.up x) ((ln i).up x); down = λ x. cond b (l.down x) ((ln i).down x) } in
-    ap make (eq-eqb i i refl)
-
-pub line_there : (ln : ℕ → Line) (i j : ℕ) (l : Line) → j ≢ i → with_line ln i l j ≡ ln j
-line_there ln i j l ne =
-    let make : Bool → Line = λ b. record { len = cond b l.len (ln j).len; up = λ x. cond b (l.up x) ((ln j).up x); down = λ x. cond b (l.down x) ((ln j).down x) } in
-    ap make (ne_eqb j i ne)
 
 -- one node leaves i's list, and those of the other lines
 leaving_tweak : (p : Puzzle) (t : List Move) (spans : List Span) (covered : Bool) (i : ℕ) → 0 < i → i ≤ item_count p → (f : HasFirst p t i) → (mid : Mid p t spans covered i f.o) → leaving p t (Tweak i) ≡ 1 + total (λ j. length (mid.ks j)) 1 (item_count p)
@@ -241,26 +227,23 @@ by_mid p t spans covered i fit pos le f mid =
     let m : IsMember p i (mid.ln i) o = member p i (mid.ln i) [] o f.os pos le good in
     let few : (mid.ln i).len < 2 ^ 31 = let a : (mid.ln i).len ≡ length (o ∷ f.os) = good.len in let b : length (o ∷ f.os) < 2 ^ 31 = good.few in omega arith in
     let linked = linked-is p col mid.ln i o laid m in
-    let names = names-is p col mid.ln i o laid m in
+    let cells = member_cells p col mid.ln i o laid m in
+    let names = cells.names in
     let size = size_from p mid.ln col in
-    let here = laid.there i o pos le m.name in
-    let count : get_or u.top (get_or u.top x 0) 0 ≡ (mid.ln i).len = ap (λ k. get_or u.top k 0) (get_item p mid.ln i o here m.pos) ∙ get_len p mid.ln i laid pos le in
+    let count : get_or u.top (get_or u.top x 0) 0 ≡ (mid.ln i).len = ap (λ k. get_or u.top k 0) cells.item ∙ cells.len in
     let out : unlinked u x ≡ nodes_from p (with_line mid.ln i l) col = unlinked-is p col mid.ln i o laid m in
     let end : next ≡ nodes_from p (with_line mid.ln i l) col =
     tables_same p (with_line mid.ln i l) (line_of p (Tweak i ∷ t)) col (color_in p (Tweak i ∷ t)) laid
-    (λ j r. elim (eqb j i) as (λ b. eqb j i ≡ b → SameLine (with_line mid.ln i l j) (line_of p (Tweak i ∷ t) j)) [
-      | true ↦ λ e.
-          subst (λ k. SameLine (with_line mid.ln i l k) (line_of p (Tweak i ∷ t) k)) (sym (eqb-true j i e))
-          (subst (λ (k : Line). SameLine k (line_of p (Tweak i ∷ t) i)) (sym (line_here mid.ln i l ∙ ap (λ (k : Line). cut k o) mid.own)) (line_after p t (Tweak i) i (o ∷ []) (tweak_cut p t i f)))
-      | false ↦ λ e.
-          let ne : j ≢ i = eqb-false j i e in
-          subst (λ (k : Line). SameLine k (line_of p (Tweak i ∷ t) j)) (sym (line_there mid.ln i j l ne ∙ mid.line j)) (line_after p t (Tweak i) j (mid.ks j) (mid.cut j r ne))
+    (λ j r. elim (eqb j i) as (λ b. eqb j i ≡ b → line_of p (Tweak i ∷ t) j ≡ with_line mid.ln i l j) [
+      | true ↦ λ e. subst (λ k. line_of p (Tweak i ∷ t) k ≡ with_line mid.ln i l k) (sym (eqb-true j i e))
+          (line_after p t (Tweak i) i (o ∷ []) (tweak_cut p t i f) ∙ sym (line_here mid.ln i l ∙ ap (λ (k : Line). cut k o) mid.own))
+      | false ↦ λ e. let ne : j ≢ i = eqb-false j i e in line_after p t (Tweak i) j (mid.ks j) (mid.cut j r ne) ∙ sym (line_there mid.ln i j l ne ∙ mid.line j)
     ] refl)
     (λ k n at. tweak_colours p t i n) in
     let first : get_or t0.dlink i 0 ≡ x = get_down p (line_of p t) i 0 (own_placed p i laid pos le) ∙ ap (λ ks. link_place p i (first_of 0 ks)) f.is in
     let taken : link_place p i (first_of 0 (listed_numbers p t i)) ≡ x = ap (λ ks. link_place p i (first_of 0 ks)) f.is in
     let down_long : length t0.dlink ≡ length (layout p) = length-map (layout p) (dlink_in p (line_of p t)) in
-    let i_in = get_within (layout p) i (own i) (laid.head i pos le) in
+    let i_in = slice_get_within (layout p) i (own i) (laid.head i pos le) in
     let back = CanRelink-unlinked u x size names linked (omega (arith, count, few)) in
     let same : unlinked u x ≡ next = out ∙ sym end in
     let again : relinked next x ≡ u = ap (λ (v : Nodes). relinked v x) (sym same) ∙ relinked-unlinked u x linked in

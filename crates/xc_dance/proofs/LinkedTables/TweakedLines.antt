@@ -1,23 +1,22 @@
 -- The lines after some Tweaks of one item, from those before.
-use Rattle.std.proofs.Common.{◌≡◌, ◌≢◌, ℕ, zero, suc, ◌+◌, ◌*◌, ◌-◌, ◌<◌, ◌≤◌, Bool, true, false, not, cond, ◌&&◌, eqb, List, [], ◌∷◌, ◌++◌, length, map, filter, drop, reverse, get_or, refl, ap, ap₂, sym, subst, ◌∙◌, arith}
-use Rattle.std.proofs.lemmas.List.{reverse-append}
+use Rattle.std.proofs.Common.{◌≡◌, ◌≢◌, ℕ, zero, suc, ◌+◌, ◌*◌, ◌-◌, ◌<◌, ◌≤◌, Bool, true, false, not, cond, ◌&&◌, eqb, List, [], ◌∷◌, ◌++◌, length, map, filter, drop, reverse, get_or, refl, ap, ap₂, sym, subst, ◌∙◌, arith, length-append}
+use Rattle.std.proofs.lemmas.List.{reverse-append, append_assoc, map-append}
 use Rattle.std.proofs.lemmas.List.Sums.{fold-append}
-use Rattle.std.proofs.lemmas.List.{map-append}
 use Rattle.xc_dance.specs.declared.dance.Move.{Move}
 use Rattle.xc_dance.specs.declared.dance.Move.TheVariants.{Tweak}
 use Rattle.xc_dance.specs.Links.Span.{Span}
 use Rattle.xc_input.specs.Problem.{Puzzle, item_count}
 use Rattle.xc_dance.specs.Moves.{is_open, AreLegal, IsLegal, listed_numbers}
 use Rattle.xc_dance.specs.Fields.{Node, layout, link_place, is_in, first_of}
-use Rattle.xc_dance.specs.Links.Lines.{Line, cut}
+use Rattle.xc_dance.specs.Links.Lines.{Line}
 use Rattle.xc_dance.specs.Links.Taken.{taken_nodes}
 use Rattle.xc_dance.specs.Links.Cells.{color_in, line_of, nodes_after}
-use Rattle.xc_dance.specs.Links.Others.{other_items}
+use Rattle.xc_dance.proofs.LinkedTables.LineChanges.{other_items, cut}
 use Rattle.xc_dance.specs.Links.Made.{IsFitted}
 use Rattle.xc_dance.proofs.LinkedTables.Mapped.{map_same}
 use Rattle.xc_dance.proofs.LinkedTables.Sweep.{cuts, is_in-first, in_above}
 use Rattle.xc_dance.proofs.LinkedTables.OtherItems.{leaves}
-use Rattle.xc_dance.proofs.LinkedTables.SameLines.{SameCut, SameLine, line_after}
+use Rattle.xc_dance.proofs.LinkedTables.SameLines.{SameCut, line_after}
 use Rattle.xc_dance.proofs.LinkedTables.Leaving.{cut_others}
 use Rattle.xc_dance.proofs.LinkedTables.TakenOut.{first_alone, takes_tweak, tweak_own}
 use Rattle.xc_dance.proofs.LinkedTables.Spacers.{others_are}
@@ -25,43 +24,17 @@ use Rattle.xc_dance.proofs.LinkedTables.TweakStep.{tweak_made, HasFirst, has_fir
 use Rattle.xc_dance.proofs.LinkedTables.Climb.{to_come, back_writes}
 use Rattle.xc_dance.specs.declared.links.nodes.Nodes.{Nodes}
 use Rattle.xc_dance.specs.Cost.{cost_of, cost_of_newest}
-use Rattle.xc_dance.specs.Links.Steps.{hide_costs, others_of}
-use Rattle.xc_dance.proofs.LinkedTables.OneList.{gone_count}
+use Rattle.xc_dance.specs.Links.Steps.{hide_costs, others_of, hidden}
+use Rattle.xc_dance.proofs.LinkedTables.OneOption.{gone_count}
 use Rattle.xc_dance.proofs.LinkedTables.LinkColumns.{get_down}
 use Rattle.xc_dance.proofs.LinkedTables.ListLinks.{own_placed}
 use Rattle.xc_dance.proofs.LinkedTables.Goods.{Named}
 use Rattle.xc_dance.proofs.LinkedTables.GoodLines.{numbers_named}
-use Rattle.xc_dance.proofs.LinkedTables.LineSteps.{numbers_rise}
+use Rattle.xc_dance.proofs.MoveLemmas.Shortened.{rises_listed}
 use Rattle.xc_dance.proofs.MoveLemmas.Members.{element_of}
-use Rattle.xc_dance.proofs.LinkedTables.UnmarkedCosts.{hide_costs-are, unmarked_items}
+use Rattle.xc_dance.proofs.LinkedTables.UnmarkedCosts.{costs-are, hidden_color, unmarked_items}
 use Rattle.xc_dance.proofs.LinkedTables.Kept.{none_newest}
-
--- ---- lines that are the same
-
-pub same_after : (l m n : Line) → SameLine l m → SameLine m n → SameLine l n
-same_after l m n a b = record { len = b.len ∙ a.len; up = λ x. b.up x ∙ a.up x; down = λ x. b.down x ∙ a.down x }
-
-cut_same : (l m : Line) (o : ℕ) → SameLine l m → SameLine (cut l o) (cut m o)
-cut_same l m o s = record {
-  len = ap (λ n. n - 1) s.len;
-  up = λ x. ap (λ k. cond (eqb x k) (m.up o) (m.up x)) (s.down o) ∙ ap₂ (λ v w. cond (eqb x (l.down o)) v w) (s.up o) (s.up x);
-  down = λ x. ap (λ k. cond (eqb x k) (m.down o) (m.down x)) (s.up o) ∙ ap₂ (λ v w. cond (eqb x (l.up o)) v w) (s.down o) (s.down x);
-}
-
-pub cuts_same : (l m : Line) (ks : List ℕ) → SameLine l m → SameLine (cuts l ks) (cuts m ks)
-cuts_same l m [] s = s
-cuts_same l m (k ∷ ks) s = cuts_same (cut l k) (cut m k) ks (cut_same l m k s)
-
-filter_append : (f : ℕ → Bool) (xs ys : List ℕ) → filter f (xs ++ ys) ≡ filter f xs ++ filter f ys
-filter_append f [] ys = refl
-filter_append f (x ∷ xs) ys = elim (f x) as (λ b. cond b (x ∷ filter f (xs ++ ys)) (filter f (xs ++ ys)) ≡ cond b (x ∷ filter f xs) (filter f xs) ++ filter f ys) [
-  | true ↦ ap (λ ks. x ∷ ks) (filter_append f xs ys)
-  | false ↦ filter_append f xs ys
-]
-
-append_one : (xs : List ℕ) (y : ℕ) (ys : List ℕ) → xs ++ y ∷ ys ≡ (xs ++ y ∷ []) ++ ys
-append_one [] y ys = refl
-append_one (x ∷ xs) y ys = ap (λ ks. x ∷ ks) (append_one xs y ys)
+use Rattle.std.proofs.lemmas.List.Elements.{filter-append}
 
 -- ---- k Tweaks
 
@@ -72,8 +45,8 @@ tweaks (suc k) i t = Tweak i ∷ tweaks k i t
 -- the moves s are t and Tweaks of item i, which took off these options
 pub record TweakedLines (p : Puzzle) (t s : List Move) (covered : Bool) (i : ℕ) (os : List ℕ) : Type 0 where
   pub list : listed_numbers p t i ≡ os ++ listed_numbers p s i
-  pub own : SameLine (cuts (line_of p t i) os) (line_of p s i)
-  pub others : (j : ℕ) → 0 < j → j ≤ item_count p → j ≢ i → SameLine (cuts (line_of p t j) (to_come p t covered i j os)) (line_of p s j)
+  pub own : line_of p s i ≡ cuts (line_of p t i) os
+  pub others : (j : ℕ) → 0 < j → j ≤ item_count p → j ≢ i → line_of p s j ≡ cuts (line_of p t j) (to_come p t covered i j os)
   pub colours : (n : Node) → color_in p s n ≡ color_in p t n
   pub opened : is_open i s ≡ is_open i t
   pub taken : taken_nodes p s ≡ reverse (map (link_place p i) os) ++ taken_nodes p t
@@ -82,9 +55,6 @@ pub none_yet : (p : Puzzle) (t : List Move) (covered : Bool) (i j : ℕ) → to_
 none_yet p t true i j = refl
 none_yet p t false i j = refl
 
-pub same_line : (l : Line) → SameLine l l
-same_line l = record { len = refl; up = λ x. refl; down = λ x. refl }
-
 tweak_open : (p : Puzzle) (t : List Move) (spans : List Span) (i j : ℕ) → AreLegal p t → IsFitted p spans → is_open i t ≡ true → (f : HasFirst p t i) → 0 < j → j ≤ item_count p → j ≢ i → SameCut p t (Tweak i) j (filter (leaves p (color_in p t) i j) (f.o ∷ []))
 tweak_open p t spans i j legal fit opened f pos le ne =
     subst (λ ks. SameCut p t (Tweak i) j (filter (leaves p (color_in p t) i j) ks)) (ap first_alone f.is)
@@ -92,9 +62,9 @@ tweak_open p t spans i j legal fit opened f pos le ne =
 
 -- one Tweak more
 more_others : (p : Puzzle) (t s : List Move) (spans : List Span) (covered : Bool) (i : ℕ) (os : List ℕ) → AreLegal p s → IsFitted p spans → is_open i t ≡ not covered → (f : HasFirst p s i) → TweakedLines p t s covered i os
-    → (j : ℕ) → 0 < j → j ≤ item_count p → j ≢ i → SameLine (cuts (line_of p t j) (to_come p t covered i j (os ++ f.o ∷ []))) (line_of p (Tweak i ∷ s) j)
+    → (j : ℕ) → 0 < j → j ≤ item_count p → j ≢ i → line_of p (Tweak i ∷ s) j ≡ cuts (line_of p t j) (to_come p t covered i j (os ++ f.o ∷ []))
 more_others p t s spans true i os legal fit shut f h j pos le ne =
-    same_after (line_of p t j) (line_of p s j) (line_of p (Tweak i ∷ s) j) (h.others j pos le ne) (line_after p s (Tweak i) j [] (tweak_shut p s i j (h.opened ∙ shut) ne))
+    line_after p s (Tweak i) j [] (tweak_shut p s i j (h.opened ∙ shut) ne) ∙ h.others j pos le ne
 more_others p t s spans false i os legal fit opened f h j pos le ne =
     let col = color_in p t in
     let o = f.o in
@@ -105,9 +75,8 @@ more_others p t s spans false i os legal fit opened f h j pos le ne =
     let before = filter (leaves p col i j) os in
     let one = filter (leaves p col i j) (o ∷ []) in
     let cut_one : SameCut p s (Tweak i) j one = subst (SameCut p s (Tweak i) j) test (tweak_open p s spans i j legal fit (h.opened ∙ opened) f pos le ne) in
-    let all : cuts l (filter (leaves p col i j) (os ++ o ∷ [])) ≡ cuts (cuts l before) one = ap (cuts l) (filter_append (leaves p col i j) os (o ∷ [])) ∙ fold-append cut l before one in
-    subst (λ (m : Line). SameLine m (line_of p (Tweak i ∷ s) j)) (sym all)
-    (same_after (cuts (cuts l before) one) (cuts (line_of p s j) one) (line_of p (Tweak i ∷ s) j) (cuts_same (cuts l before) (line_of p s j) one (h.others j pos le ne)) (line_after p s (Tweak i) j one cut_one))
+    let all : cuts l (filter (leaves p col i j) (os ++ o ∷ [])) ≡ cuts (cuts l before) one = ap (cuts l) (filter-append (leaves p col i j) os (o ∷ [])) ∙ fold-append cut l before one in
+    line_after p s (Tweak i) j one cut_one ∙ ap (λ (m : Line). cuts m one) (h.others j pos le ne) ∙ sym all
 
 -- ---- what the Tweaks wrote
 
@@ -133,12 +102,12 @@ one_writes p s spans false i legal fit may opened f =
     let js = other_items p o i in
     let within : is_in o (listed_numbers p s i) ≡ true = subst (λ ks. is_in o ks ≡ true) (sym f.is) (is_in-first o f.os) in
     let named : Named p i o = element_of (Named p i) o (listed_numbers p s i) (numbers_named p s i) within in
-    let o_pos : 0 < o = in_above 0 o (listed_numbers p s i) (numbers_rise p s i) within in
+    let o_pos : 0 < o = in_above 0 o (listed_numbers p s i) (rises_listed p s i) within in
     let first : get_or t0.dlink i 0 ≡ link_place p i o = get_down p (line_of p s) i 0 (own_placed p i fit.laid pos le) ∙ ap (λ ks. link_place p i (first_of 0 ks)) f.is in
     let made = (tweak_made p s spans false i legal fit pos le may.2 opened).cost in
     let hides : hide_costs t0 (others_of spans (get_or t0.dlink i 0)) ≡ 3 * gone_count p col i o =
     ap (λ q. hide_costs t0 (others_of spans q)) first ∙ ap (hide_costs t0) (others_are p spans o i fit.spanned o_pos named)
-    ∙ hide_costs-are t0 (map (λ j. link_place p j o) js) ∙ unmarked_items p col o js in
+    ∙ costs-are hidden hidden_color t0 (map (λ j. link_place p j o) js) ∙ unmarked_items p col o js in
     omega (arith, made, hides)
 
 gone_alike : (p : Puzzle) (col now : Node → ℕ) (i o : ℕ) → map now (layout p) ≡ map col (layout p) → gone_count p now i o ≡ gone_count p col i o
@@ -150,18 +119,14 @@ pub record Tweaked (p : Puzzle) (t : List Move) (covered : Bool) (i k : ℕ) : T
   pub lines : TweakedLines p t (tweaks k i t) covered i os
   pub costs : cost_of_newest k p (tweaks k i t) ≡ tweak_writes p (color_in p t) covered i os
 
-length_one_more : (xs : List ℕ) (y : ℕ) → length (xs ++ y ∷ []) ≡ length xs + 1
-length_one_more [] y = refl
-length_one_more (x ∷ xs) y = let r = length_one_more xs y in omega (arith, r)
-
 pub tweaked_lines : (p : Puzzle) (t : List Move) (spans : List Span) (covered : Bool) (i k : ℕ) → AreLegal p (tweaks k i t) → IsFitted p spans → is_open i t ≡ not covered → Tweaked p t covered i k
 tweaked_lines p t spans covered i zero legal fit opened = record {
   os = [];
   count = refl;
   lines = record {
     list = refl;
-    own = same_line (line_of p t i);
-    others = λ j pos le ne. subst (λ ks. SameLine (cuts (line_of p t j) ks) (line_of p t j)) (sym (none_yet p t covered i j)) (same_line (line_of p t j));
+    own = refl;
+    others = λ j pos le ne. sym (ap (cuts (line_of p t j)) (none_yet p t covered i j));
     colours = λ n. refl;
     opened = refl;
     taken = refl;
@@ -179,7 +144,7 @@ tweaked_lines p t spans covered i (suc k) legal fit opened =
     let x = link_place p i o in
     record {
       os = os ++ o ∷ [];
-      count = let a = length_one_more os o in let b = before.count in omega (arith, a, b);
+      count = let a = length-append os (o ∷ []) in let b = before.count in omega (arith, a, b);
       costs =
           let one = one_writes p s spans covered i legal.1 fit legal.0 (h.opened ∙ opened) f in
           let same : map (color_in p s) (layout p) ≡ map (color_in p t) (layout p) = map_same (color_in p t) (color_in p s) (layout p) (λ m n e. h.colours n) in
@@ -188,9 +153,8 @@ tweaked_lines p t spans covered i (suc k) legal fit opened =
           let sum = tweak_writes-append p (color_in p t) covered i os o in
           omega (arith, one, alike, rest, sum);
       lines = record {
-        list = h.list ∙ ap (λ ks. os ++ ks) f.is ∙ append_one os o f.os ∙ ap (λ ks. (os ++ o ∷ []) ++ ks) (sym rest);
-        own = subst (λ (m : Line). SameLine m (line_of p (Tweak i ∷ s) i)) (sym (fold-append cut (line_of p t i) os (o ∷ [])))
-            (same_after (cut (cuts (line_of p t i) os) o) (cut (line_of p s i) o) (line_of p (Tweak i ∷ s) i) (cut_same (cuts (line_of p t i) os) (line_of p s i) o h.own) (line_after p s (Tweak i) i (o ∷ []) (tweak_cut p s i f)));
+        list = h.list ∙ ap (λ ks. os ++ ks) f.is ∙ sym (append_assoc os (o ∷ []) f.os) ∙ ap (λ ks. (os ++ o ∷ []) ++ ks) (sym rest);
+        own = line_after p s (Tweak i) i (o ∷ []) (tweak_cut p s i f) ∙ ap (λ (m : Line). cut m o) h.own ∙ sym (fold-append cut (line_of p t i) os (o ∷ []));
         others = more_others p t s spans covered i os legal.1 fit opened f h;
         colours = λ n. tweak_colours p s i n ∙ h.colours n;
         opened = h.opened;

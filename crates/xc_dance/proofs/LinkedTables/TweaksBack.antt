@@ -1,6 +1,6 @@
 -- Some Tweaks of one item undone at once: from the node table after them to that before.
-use Rattle.std.proofs.Common.{◌≡◌, ◌≢◌, ℕ, ◌+◌, ◌*◌, ◌<◌, ◌≤◌, ◌^◌, inl, inr, Bool, true, false, not, cond, ◌||◌, eqb, List, [], ◌∷◌, ◌++◌, length, map, fold, filter, get_or, Option, Some, None, refl, ap, ap₂, sym, subst, ◌∙◌, arith, eqb-true, eq-eqb, length-append}
-use Rattle.std.proofs.lemmas.Bool.{eqb-false, false≢true}
+use Rattle.std.proofs.Common.{◌≡◌, ◌≢◌, ℕ, ◌+◌, ◌*◌, ◌<◌, ◌≤◌, ◌^◌, Bool, true, false, not, cond, ◌||◌, eqb, List, [], ◌∷◌, ◌++◌, length, map, fold, filter, get_or, Option, Some, None, refl, ap, ap₂, sym, subst, ◌∙◌, arith, eqb-true, eq-eqb, length-append}
+use Rattle.std.proofs.lemmas.Bool.{eqb-false, false≢true, or_parts}
 use Rattle.std.proofs.lemmas.List.{length-map}
 use Rattle.std.proofs.lemmas.List.Folds.{list_any-append}
 use Rattle.xc_dance.specs.declared.dance.Move.{Move}
@@ -9,47 +9,33 @@ use Rattle.xc_dance.specs.Links.Span.{Span}
 use Rattle.xc_input.specs.Problem.{Puzzle, item_count}
 use Rattle.xc_dance.specs.Moves.{is_open, AreLegal, listed, listed_numbers}
 use Rattle.xc_dance.specs.Fields.{Node, own, layout, link_place, is_in, first_of}
-use Rattle.xc_dance.specs.Links.Lines.{Line, put_at, cut, IsLinkedFrom}
+use Rattle.xc_dance.specs.Links.Lines.{Line}
 use Rattle.xc_dance.specs.Links.TweaksBack.{climbed, IsClimb, with_top, with_dlink, climb_costs, untweaked_all, untweak_all_cost, CanUntweakAll}
 use Rattle.xc_dance.specs.Links.Steps.{followed}
 use Rattle.xc_dance.specs.Cost.{cost_of_newest, undo_tweaks_cost}
-use Rattle.xc_dance.specs.Links.Cells.{slot_of, link_at, fixed_up, fixed_down, top_in, ulink_in, dlink_in, color_in, nodes_from, nodes_after, line_of, with_line}
+use Rattle.xc_dance.specs.Links.Cells.{slot_of, link_at, fixed_up, fixed_down, top_in, ulink_in, dlink_in, color_in, nodes_from, nodes_after, line_of}
 use Rattle.xc_dance.specs.Links.Laid.{IsLaid}
 use Rattle.xc_dance.specs.Links.Made.{IsFitted}
-use Rattle.xc_dance.proofs.LinkedTables.Mapped.{map_same, get_within}
+use Rattle.xc_dance.proofs.LinkedTables.Mapped.{map_same}
 use Rattle.xc_dance.proofs.LinkedTables.Undo.{same_nodes}
 use Rattle.xc_dance.proofs.LinkedTables.LinkColumns.{set_link, set_top, get_len}
 use Rattle.xc_dance.proofs.LinkedTables.Sweep.{Rises, cuts, rises, by_first, put_at-same, put_at-other, cut-linked}
 use Rattle.xc_dance.proofs.LinkedTables.OtherItems.{leaves}
 use Rattle.xc_dance.proofs.LinkedTables.LineSteps.{stands, leave_none}
 use Rattle.xc_dance.proofs.LinkedTables.GoodLines.{numbers_few}
-use Rattle.xc_dance.proofs.LinkedTables.SameLines.{SameLine, tables_same}
+use Rattle.xc_dance.proofs.LinkedTables.SameLines.{tables_same, line_is}
 use Rattle.xc_dance.proofs.LinkedTables.Leaving.{AreOf, leaves_open, leaves_shut}
 use Rattle.xc_dance.proofs.LinkedTables.ListLinks.{own_placed}
-use Rattle.xc_dance.proofs.LinkedTables.Regained.{Held, Regaining, regaining, regained}
-use Rattle.xc_dance.proofs.LinkedTables.TweakStep.{line_here, line_there}
+use Rattle.xc_dance.proofs.LinkedTables.Regained.{Regaining, regaining, regained}
+use Rattle.xc_dance.proofs.LinkedTables.OneOption.{line_there, line_here}
 use Rattle.xc_dance.proofs.LinkedTables.Climb.{Climbing, to_come, is_below, top_kept, down_kept}
 use Rattle.xc_input.proofs.ListFilters.{length-filter-le}
 use Rattle.xc_dance.proofs.LinkedTables.ClimbWalk.{climb_walk, climb_follow, climb_writes}
 use Rattle.xc_dance.proofs.LinkedTables.TweakedLines.{TweakedLines, tweaks, tweaked_lines, none_yet, tweak_writes}
+use Rattle.std.proofs.lemmas.Option.{slice_get_within}
+use Rattle.xc_dance.proofs.LinkedTables.LineChanges.{put_at, cut, IsLinkedFrom, with_line}
 
 -- ---- the lines of other items are being regained
-
-held_same : (l m n : Line) (a b : ℕ) (xs : List ℕ) (g : ℕ → Bool) → ((x : ℕ) → n.up x ≡ m.up x) → ((x : ℕ) → n.down x ≡ m.down x) → Held l m a b xs g → Held l n a b xs g
-held_same l m n a b xs g up down h = record {
-  le = h.le;
-  up_first = up (first_of 0 xs) ∙ h.up_first;
-  up_in = λ x e ne. up x ∙ h.up_in x e ne;
-  up_last = λ nz. up 0 ∙ h.up_last nz;
-  up_out = λ x nz e. up x ∙ h.up_out x nz e;
-  down_in = λ x e s. down x ∙ h.down_in x e s;
-  down_gone = λ x e s. down x ∙ h.down_gone x e s;
-  down_out = λ x ne e. down x ∙ h.down_out x ne e;
-  down_at = elim h.down_at [ inl k ↦ inl (down a ∙ k) | inr k ↦ inr (down a ∙ k) ];
-}
-
-regaining_same : (l m n : Line) (ks : List ℕ) → SameLine m n → Regaining l m ks → Regaining l n ks
-regaining_same l m n ks s r = record { a = r.a; b = r.b; xs = r.xs; g = r.g; linked = r.linked; held = held_same l m n r.a r.b r.xs r.g s.up s.down r.held; left = r.left }
 
 -- what comes back to item j's list is in it
 start_other : (p : Puzzle) (t : List Move) (spans : List Span) (covered : Bool) (i j : ℕ) (os : List ℕ) → AreLegal p t → IsFitted p spans → is_open i t ≡ not covered → AreOf p t i os → 0 < j → j ≤ item_count p → j ≢ i →
@@ -80,10 +66,6 @@ below_same : (l c : Line) (x n : ℕ) (os : List ℕ) → Rises n os → ((y : �
 below_same l c x n [] r h = refl
 below_same l c x n (o ∷ os) r h = ap₂ (λ d b. eqb d x || b) (h o (λ z. omega (arith, z, r.0))) (below_same l c x o os r.1 h)
 
-or_false : (a b : Bool) → (a || b) ≡ false → (a ≡ false) × (b ≡ false)
-or_false true b e = absurd (false≢true (sym e))
-or_false false b e = (refl, e)
-
 own_cuts : (l : Line) (os rest : List ℕ) → IsLinkedFrom l 0 (os ++ rest) → ((x : ℕ) → x ≢ 0 → (cuts l os).down x ≡ l.down x) × ((x : ℕ) → is_below l x os ≡ false → (cuts l os).up x ≡ l.up x)
 own_cuts l [] rest linked = ((λ x nz. refl), (λ x e. refl))
 own_cuts l (o ∷ os) rest linked =
@@ -94,7 +76,7 @@ own_cuts l (o ∷ os) rest linked =
     let rise : Rises o os = rises_part o os rest (rises l 0 (o ∷ (os ++ rest)) linked).1 in (
       (λ x nz. r.0 x nz ∙ down_c x nz),
       (λ x e.
-          let split = or_false (eqb (l.down o) x) (is_below l x os) e in
+          let split = or_parts (eqb (l.down o) x) (is_below l x os) e in
           r.1 x (below_same l c x o os rise down_c ∙ split.1)
           ∙ put_at-other l.up (l.down o) (l.up o) x (λ s. false≢true (sym split.0 ∙ eq-eqb (l.down o) x (sym s)))),
     )
@@ -193,17 +175,16 @@ by_lines p t spans covered i k o os legal fit pos le opened count costs h =
     ap (λ (m : Line). m.down y) at_i
     ∙ by_first (put_at (lnS i).down 0 o y ≡ l.down y) 0 y
     (λ z. put_at-same (lnS i).down 0 o y (sym z) ∙ sym linked.1 ∙ ap l.down z)
-    (λ nz. put_at-other (lnS i).down 0 o y (λ z. nz (sym z)) ∙ h.own.down y ∙ lost_own.0 y (λ z. nz (sym z))) in
+    (λ nz. put_at-other (lnS i).down 0 o y (λ z. nz (sym z)) ∙ ap (λ (m : Line). m.down y) h.own ∙ lost_own.0 y (λ z. nz (sym z))) in
     let climbing : Climbing p t covered i ln0 all = record {
-      others = λ j jpos jle ne. subst (λ (m : Line). Regaining (line_of p t j) m (to_come p t covered i j all)) (sym (line_there lnS i j w ne))
-          (regaining_same (line_of p t j) (cuts (line_of p t j) (to_come p t covered i j all)) (lnS j) (to_come p t covered i j all) (h.others j jpos jle ne) (start_other p t spans covered i j all legal fit opened of jpos jle ne));
+      others = λ j jpos jle ne. subst (λ (m : Line). Regaining (line_of p t j) m (to_come p t covered i j all)) (sym (line_there lnS i j w ne ∙ h.others j jpos jle ne)) (start_other p t spans covered i j all legal fit opened of jpos jle ne);
       few = λ j jpos jle ne.
           let a = cuts_len (line_of p t j) (to_come p t covered i j all) (come_few p t spans covered i j all legal fit opened of jpos jle ne) in
-          let b = (h.others j jpos jle ne).len in
+          let b = ap (λ (m : Line). m.len) (h.others j jpos jle ne) in
           let c = ap (λ (m : Line). m.len) (line_there lnS i j w ne) in
           omega (arith, a, b, c);
       own_down = down0;
-      own_up = λ y e. ap (λ (m : Line). m.up y) at_i ∙ h.own.up y ∙ lost_own.1 y e;
+      own_up = λ y e. ap (λ (m : Line). m.up y) at_i ∙ ap (λ (m : Line). m.up y) h.own ∙ lost_own.1 y e;
     } in
     let cw = climb_walk p t spans covered i ln0 0 all rest legal fit pos le opened among linked climbing in
     let lead : link_place p i (l.down 0) ≡ x = ap (link_place p i) linked.1 in
@@ -212,7 +193,7 @@ by_lines p t spans covered i k o os legal fit pos le opened count costs h =
     let follow' : followed (with_dlink T i x).dlink k x ≡ map (link_place p i) all = ap (λ (u : Nodes). followed u.dlink k x) start ∙ follow in
     let fold_is : fold (climbed spans covered) (with_dlink T i x) (followed (with_dlink T i x).dlink k x) ≡ nodes_from p cw.end col =
     ap₂ (λ (u : Nodes) qs. fold (climbed spans covered) u qs) start follow' ∙ cw.done in
-    let within : i < length (layout p) = get_within (layout p) i (own i) (laid.head i pos le) in
+    let within : i < length (layout p) = slice_get_within (layout p) i (own i) (laid.head i pos le) in
     let top_long : length (map (top_in cw.end) (layout p)) ≡ length (layout p) = length-map (layout p) (top_in cw.end) in
     let down_long : length T.dlink ≡ length (layout p) = length-map (layout p) (dlink_in p lnS) in
     let len_end : get_or (nodes_from p cw.end col).top i 0 ≡ (cw.end i).len = get_len p cw.end i laid pos le in
@@ -220,23 +201,22 @@ by_lines p t spans covered i k o os legal fit pos le opened count costs h =
     let long_list : length (listed_numbers p t i) ≡ length all + length rest = ap length h.list ∙ length-append all rest in
     let lost : (cuts l all).len + length all ≡ l.len = cuts_len l all (omega (arith, long_l, long_list)) in
     let end_len : (cw.end i).len ≡ (lnS i).len = cw.len ∙ ap (λ (m : Line). m.len) at_i in
-    let own_len : (lnS i).len ≡ (cuts l all).len = h.own.len in
+    let own_len : (lnS i).len ≡ (cuts l all).len = ap (λ (m : Line). m.len) h.own in
     let most = numbers_few p t i in
     let fit_few = fit.fit.few in
     let n = get_or (nodes_from p cw.end col).top i 0 + k in
     let end : with_top (nodes_from p cw.end col) i n ≡ nodes_after p t =
     longer_is p col cw.end i n laid pos le
     ∙ tables_same p (line_of p t) (with_line cw.end i (longer (cw.end i) n)) col col laid
-    (λ j r. elim (eqb j i) as (λ b. eqb j i ≡ b → SameLine (line_of p t j) (with_line cw.end i (longer (cw.end i) n) j)) [
-      | true ↦ λ e. subst (λ m. SameLine (line_of p t m) (with_line cw.end i (longer (cw.end i) n) m)) (sym (eqb-true j i e))
-          (subst (λ (m : Line). SameLine l m) (sym (line_here cw.end i (longer (cw.end i) n)))
-          (record { len = omega (arith, len_end, end_len, own_len, lost, count); up = λ y. cw.climbing.own_up y refl; down = cw.climbing.own_down }))
+    (λ j r. elim (eqb j i) as (λ b. eqb j i ≡ b → with_line cw.end i (longer (cw.end i) n) j ≡ line_of p t j) [
+      | true ↦ λ e. subst (λ m. with_line cw.end i (longer (cw.end i) n) m ≡ line_of p t m) (sym (eqb-true j i e))
+          (line_here cw.end i (longer (cw.end i) n) ∙ line_is l (longer (cw.end i) n) (omega (arith, len_end, end_len, own_len, lost, count)) (λ y. cw.climbing.own_up y refl) cw.climbing.own_down)
       | false ↦ λ e.
           let ne : j ≢ i = eqb-false j i e in
           let back = regained (line_of p t j) (cw.end j) (subst (Regaining (line_of p t j) (cw.end j)) (none_yet p t covered i j) (cw.climbing.others j r.0 r.1 ne)) in
           let few = cw.climbing.few j r.0 r.1 ne in
           let none = ap length (none_yet p t covered i j) in
-          subst (λ (m : Line). SameLine (line_of p t j) m) (sym (line_there cw.end i j (longer (cw.end i) n) ne)) (record { len = omega (arith, few, none); up = back.up; down = back.down })
+          line_there cw.end i j (longer (cw.end i) n) ne ∙ line_is (line_of p t j) (cw.end j) (omega (arith, few, none)) back.up back.down
     ] refl)
     (λ m k e. refl) in
     record {

@@ -1,9 +1,9 @@
 -- Hide and unhide undo one another.
-use Rattle.std.proofs.Common.{◌≡◌, ◌≢◌, ℕ, zero, suc, ◌+◌, ◌-◌, ◌<◌, Bool, true, false, cond, eqb, List, [], ◌∷◌, get_or, set, reverse, fold, refl, ap, sym, ◌∙◌, arith}
+use Rattle.std.proofs.Common.{◌≡◌, ◌≢◌, ℕ, zero, suc, ◌+◌, ◌-◌, ◌<◌, Bool, true, false, cond, eqb, List, [], ◌∷◌, get_or, set, reverse, fold, refl, ap, sym, ◌∙◌, arith, length}
 use Rattle.std.proofs.lemmas.List.{get_or-set_same, get_or-set_other, set-set, set-get_or, reverse-append}
 use Rattle.std.proofs.lemmas.List.Sums.{fold-append}
 use Rattle.xc_dance.specs.declared.links.nodes.Nodes.{Nodes}
-use Rattle.xc_dance.specs.Links.Steps.{unlinked, relinked, hidden, shown, IsLinked}
+use Rattle.xc_dance.specs.Links.Steps.{unlinked, relinked, hidden, shown}
 
 -- where a list has v at k, it has v there after v is written anywhere
 pub get_or-set_kept : (xs : List ℕ) (i k v : ℕ) → get_or xs k 0 ≡ v → get_or (set xs i v) k 0 ≡ v
@@ -23,6 +23,14 @@ pub same_nodes : (s t : Nodes) → s.top ≡ t.top → s.ulink ≡ t.ulink → s
 same_nodes s t a b c d =
     let made : List ℕ → List ℕ → List ℕ → List ℕ → Nodes = λ w x y z. record { top = w; ulink = x; dlink = y; color = z } in
     ap (λ w. made w s.ulink s.dlink s.color) a ∙ ap (λ x. made t.top x s.dlink s.color) b ∙ ap (λ y. made t.top t.ulink y s.color) c ∙ ap (made t.top t.ulink t.dlink) d
+
+-- node q stands in its list: its neighbours name it, and its list counts it
+pub record IsLinked (t : Nodes) (q : ℕ) : Type 0 where
+  pub above : get_or t.dlink (get_or t.ulink q 0) 0 ≡ q
+  pub below : get_or t.ulink (get_or t.dlink q 0) 0 ≡ q
+  pub top : get_or t.top q 0 < length t.top
+  pub other : get_or t.top q 0 ≢ q
+  pub some : 0 < get_or t.top (get_or t.top q 0) 0
 
 -- a node that left its list goes back to where it was
 pub relinked-unlinked : (t : Nodes) (q : ℕ) → IsLinked t q → relinked (unlinked t q) q ≡ t

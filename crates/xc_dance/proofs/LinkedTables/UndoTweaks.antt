@@ -17,12 +17,12 @@ use Rattle.xc_dance.specs.Links.Cells.{top_in, line_of, nodes_after}
 use Rattle.xc_dance.specs.Links.ItemCells.{items_after}
 use Rattle.xc_dance.specs.Links.Laid.{IsLaid}
 use Rattle.xc_dance.specs.Links.Made.{IsFitted, CanTell}
-use Rattle.xc_dance.proofs.LinkedTables.Mapped.{get_within}
+use Rattle.std.proofs.lemmas.Option.{slice_get_within}
 use Rattle.xc_dance.proofs.LinkedTables.LinkColumns.{get_item}
 use Rattle.xc_dance.proofs.LinkedTables.Sweep.{in_above, is_in-first}
 use Rattle.xc_dance.proofs.LinkedTables.Goods.{Named}
 use Rattle.xc_dance.proofs.LinkedTables.GoodLines.{numbers_named}
-use Rattle.xc_dance.proofs.LinkedTables.LineSteps.{numbers_rise}
+use Rattle.xc_dance.proofs.MoveLemmas.Shortened.{rises_listed}
 use Rattle.xc_dance.proofs.MoveLemmas.Members.{element_of}
 use Rattle.xc_dance.proofs.LinkedTables.StillItems.{still_items}
 use Rattle.xc_dance.proofs.LinkedTables.Covered.{off_is, open_or_covered}
@@ -113,10 +113,10 @@ first_node p s t i [] rest laid pos le some l = absurd (omega (arith, some))
 first_node p s t i (o ∷ os) rest laid pos le some l =
     let is : first_of 0 (listed_numbers p t i) ≡ o = ap (first_of 0) l in
     let in_list = subst (λ ks. is_in o ks ≡ true) (sym l) (is_in-first o (os ++ rest)) in
-    let o_pos : 0 < o = in_above 0 o (listed_numbers p t i) (numbers_rise p t i) in_list in
+    let o_pos : 0 < o = in_above 0 o (listed_numbers p t i) (rises_listed p t i) in_list in
     let named : Named p i o = element_of (Named p i) o (listed_numbers p t i) (numbers_named p t i) in_list in
     let here = laid.there i o pos le (inr (o_pos, named)) in
-    let at = get_within (layout p) (link_place p i o) here.node here.at in
+    let at = slice_get_within (layout p) (link_place p i o) here.node here.at in
     let long : length (map (top_in (line_of p s)) (layout p)) ≡ length (layout p) = length-map (layout p) (top_in (line_of p s)) in
     record {
       within = subst (λ n. link_place p i n < length (nodes_after p s).top) (sym is) (omega (arith, at, long));

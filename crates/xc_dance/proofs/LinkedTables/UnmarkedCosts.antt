@@ -1,11 +1,12 @@
 -- What steps of hide and unhide write: 3 at each node that isn't marked.
-use Rattle.std.proofs.Common.{◌≡◌, ℕ, ◌+◌, ◌*◌, true, false, not, cond, eqb, List, [], ◌∷◌, ◌++◌, length, map, filter, get_or, reverse, refl, ap, ◌∙◌, arith}
+use Rattle.std.proofs.Common.{◌≡◌, ℕ, ◌+◌, ◌*◌, true, false, not, cond, eqb, List, [], ◌∷◌, ◌++◌, length, map, filter, get_or, reverse, refl, ap, ◌∙◌, arith, fold}
 use Rattle.std.proofs.lemmas.List.{reverse-append}
 use Rattle.xc_dance.specs.declared.links.nodes.Nodes.{Nodes}
 use Rattle.xc_input.specs.Problem.{Puzzle}
 use Rattle.xc_dance.specs.Fields.{Node, layout, link_place}
-use Rattle.xc_dance.specs.Links.Steps.{unlinked, relinked, hidden, shown, hide_cost, hide_costs, show_costs}
+use Rattle.xc_dance.specs.Links.Steps.{unlinked, relinked, hidden, shown, hide_cost}
 use Rattle.xc_dance.proofs.LinkedTables.OneOption.{is_mark}
+use Rattle.xc_dance.specs.Links.Walks.{costs}
 
 abbrev pub unmarked_costs : List ℕ → List ℕ → ℕ
 unmarked_costs color [] = 0
@@ -17,13 +18,14 @@ hidden_color t q = elim (eqb (get_or t.color q 0) 4294967295) as (λ b. (cond b 
 pub shown_color : (t : Nodes) (q : ℕ) → (shown t q).color ≡ t.color
 shown_color t q = elim (eqb (get_or t.color q 0) 4294967295) as (λ b. (cond b t (relinked t q)).color ≡ t.color) [ true ↦ refl | false ↦ refl ]
 
-pub hide_costs-are : (t : Nodes) (qs : List ℕ) → hide_costs t qs ≡ unmarked_costs t.color qs
-hide_costs-are t [] = refl
-hide_costs-are t (q ∷ qs) = ap (λ n. hide_cost t q + n) (hide_costs-are (hidden t q) qs ∙ ap (λ c. unmarked_costs c qs) (hidden_color t q))
+-- steps that leave the colours as they are
+pub costs-are : (step : Nodes → ℕ → Nodes) → ((t : Nodes) (q : ℕ) → (step t q).color ≡ t.color) → (t : Nodes) (qs : List ℕ) → costs step hide_cost t qs ≡ unmarked_costs t.color qs
+costs-are step same t [] = refl
+costs-are step same t (q ∷ qs) = ap (λ n. hide_cost t q + n) (costs-are step same (step t q) qs ∙ ap (λ c. unmarked_costs c qs) (same t q))
 
-pub show_costs-are : (t : Nodes) (qs : List ℕ) → show_costs t qs ≡ unmarked_costs t.color qs
-show_costs-are t [] = refl
-show_costs-are t (q ∷ qs) = ap (λ n. hide_cost t q + n) (show_costs-are (shown t q) qs ∙ ap (λ c. unmarked_costs c qs) (shown_color t q))
+pub colors-are : (step : Nodes → ℕ → Nodes) → ((t : Nodes) (q : ℕ) → (step t q).color ≡ t.color) → (t : Nodes) (qs : List ℕ) → (fold step t qs).color ≡ t.color
+colors-are step same t [] = refl
+colors-are step same t (q ∷ qs) = colors-are step same (step t q) qs ∙ same t q
 
 unmarked-append : (color ps qs : List ℕ) → unmarked_costs color (ps ++ qs) ≡ unmarked_costs color ps + unmarked_costs color qs
 unmarked-append color [] qs = omega arith

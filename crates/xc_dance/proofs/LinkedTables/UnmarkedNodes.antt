@@ -4,7 +4,7 @@ use Rattle.std.specs.Prelude.{slice_get, is_some}
 use Rattle.std.specs.List.{AllByRecursion}
 use Rattle.std.proofs.lemmas.Bool.{eqb-false}
 use Rattle.std.proofs.lemmas.List.{length-map}
-use Rattle.std.proofs.lemmas.Option.{slice_get_within}
+use Rattle.std.proofs.lemmas.Option.{slice_get_within, slice_get-get_or, same_Some}
 use Rattle.xc_input.specs.declared.problem.Use.{Use}
 use Rattle.xc_input.specs.Problem.{Puzzle, colour_in, uses_of, item_count, option_count}
 use Rattle.xc_dance.specs.declared.dance.Move.{Move}
@@ -22,19 +22,15 @@ use Rattle.xc_dance.specs.Links.Steps.{hidden, shown, others_of}
 use Rattle.xc_dance.specs.Links.ListWalks.{left_node, back_node}
 use Rattle.xc_dance.specs.Links.Unmarked.{IsPlain, HasUnmarked, IsUnmarked}
 use Rattle.xc_dance.proofs.LinkedTables.Mapped.{get_map}
-use Rattle.xc_dance.proofs.LinkedTables.PlaceLemmas.{get_there}
 use Rattle.xc_dance.proofs.LinkedTables.SpacerPlaces.{spacer_at}
 use Rattle.xc_dance.proofs.LinkedTables.SpanLemmas.{there}
-use Rattle.xc_dance.proofs.LinkedTables.UnmarkedCosts.{hidden_color, shown_color}
-
-some_number : (a b : ℕ) → Some a ≡ Some b → a ≡ b
-some_number a b e = cc
+use Rattle.xc_dance.proofs.LinkedTables.UnmarkedCosts.{hidden_color, shown_color, colors-are}
 
 no_colour : (us : List Use) (j c : ℕ) → AllByRecursion (λ u. u.colour ≡ 0) us → colour_in us j ≡ Some c → c ≡ 0
 no_colour [] j c a e = cc
 no_colour (u ∷ us) j c a e =
     elim (eqb u.item j) as (λ b. cond b (Some u.colour) (colour_in us j) ≡ Some c → c ≡ 0) [
-      | true ↦ λ f. sym (some_number u.colour c f) ∙ a.0
+      | true ↦ λ f. sym (same_Some u.colour c f) ∙ a.0
       | false ↦ λ f. no_colour us j c a.1 f
     ] e
 
@@ -76,7 +72,7 @@ unmarked_behind p t q laid legal plain gt =
     elim (ltb q (length (layout p))) as (λ b. ltb q (length (layout p)) ≡ b → get_or (nodes_after p t).color q 0 ≡ 0) [
       | true ↦ λ e.
           let n = get_or (layout p) q unused in
-          let here = get_there (layout p) q unused (ltb-true q (length (layout p)) e) in
+          let here = slice_get-get_or (layout p) q unused (ltb-true q (length (layout p)) e) in
           get_map (color_in p t) (layout p) q n here ∙ no_color p t q n laid legal plain gt here
       | false ↦ λ e. past_end (color_in p t) (layout p) q (ltb-false q (length (layout p)) e)
     ] refl in
@@ -119,7 +115,7 @@ by_node p t x (used o u) laid legal plain small e =
 pub plain_unmarked : (p : Puzzle) (t : List Move) → AreLegal p t → IsFitted p (spans_of p) → IsPlain p → IsUnmarked (spans_of p) (nodes_after p t).color
 plain_unmarked p t legal fitted plain = λ x lt.
     let size = length-map (layout p) (span_of p) in
-    let here = get_there (layout p) x unused (omega (arith, lt, size)) in
+    let here = slice_get-get_or (layout p) x unused (omega (arith, lt, size)) in
     let small = fitted.near.small in
     let d : Span = record { first = 0; end = 0 } in
     subst (λ (s : Span). HasUnmarked (nodes_after p t).color s x) (sym (span_at (layout p) (span_of p) x (get_or (layout p) x unused) d here))
@@ -141,27 +137,19 @@ kept_unmarked p t coloured spans nodes legal fitted a b plain none =
 
 -- ---- the walks
 
-hidden_colors : (t : Nodes) (qs : List ℕ) → (fold hidden t qs).color ≡ t.color
-hidden_colors t [] = refl
-hidden_colors t (q ∷ qs) = hidden_colors (hidden t q) qs ∙ hidden_color t q
-
-shown_colors : (t : Nodes) (qs : List ℕ) → (fold shown t qs).color ≡ t.color
-shown_colors t [] = refl
-shown_colors t (q ∷ qs) = shown_colors (shown t q) qs ∙ shown_color t q
-
 -- a step down that keeps no colour marks none
 pub left_unmarked : (spans : List Span) (marks : Bool) (keep : Option ℕ) (t u : Nodes) (x : ℕ) → u ≡ left_node spans keep t x → (marks ≡ false → keep ≡ None) → (marks ≡ false → IsUnmarked spans t.color) →
     marks ≡ false → IsUnmarked spans u.color
 left_unmarked spans marks keep t u x done none h m =
     let plain : u ≡ fold hidden t (others_of spans x) = done ∙ ap (λ k. left_node spans k t x) (none m) in
-    subst (IsUnmarked spans) (sym (ap (λ (v : Nodes). v.color) plain ∙ hidden_colors t (others_of spans x))) (h m)
+    subst (IsUnmarked spans) (sym (ap (λ (v : Nodes). v.color) plain ∙ colors-are hidden hidden_color t (others_of spans x))) (h m)
 
 -- nor does a step up
 pub back_unmarked : (spans : List Span) (marks : Bool) (keep : Option ℕ) (t u : Nodes) (x : ℕ) → u ≡ back_node spans keep t x → (marks ≡ false → keep ≡ None) → (marks ≡ false → IsUnmarked spans t.color) →
     marks ≡ false → IsUnmarked spans u.color
 back_unmarked spans marks keep t u x done none h m =
     let plain : u ≡ fold shown t (reverse (others_of spans x)) = done ∙ ap (λ k. back_node spans k t x) (none m) in
-    subst (IsUnmarked spans) (sym (ap (λ (v : Nodes). v.color) plain ∙ shown_colors t (reverse (others_of spans x)))) (h m)
+    subst (IsUnmarked spans) (sym (ap (λ (v : Nodes). v.color) plain ∙ colors-are shown shown_color t (reverse (others_of spans x)))) (h m)
 
 -- the colours are these
 pub same_unmarked : (spans : List Span) (marks : Bool) (color now : List ℕ) → now ≡ color → (marks ≡ false → IsUnmarked spans color) → marks ≡ false → IsUnmarked spans now

@@ -1,33 +1,134 @@
--- A walk down a list, one node on.
-use Rattle.std.proofs.Common.{Option, Bool, ◌≡◌, ℕ, zero, suc, ◌+◌, ◌<◌, List, ◌∷◌, length, get_or, drop, refl, ap, sym, subst, ◌∙◌}
-use Rattle.std.proofs.lemmas.List.{drop_more}
+-- Walks over nodes, under way and at their end: for hide and unhide, down a list and up, and down nodes that come back.
+use Rattle.std.proofs.Common.{◌≡◌, ◌≢◌, ℕ, zero, suc, ◌+◌, ◌<◌, ◌≤◌, true, false, eqb, List, [], ◌∷◌, ◌++◌, length, get_or, drop, fold, refl, ap, sym, subst, ◌∙◌, arith, eqb-true}
+use Rattle.std.proofs.lemmas.Bool.{eqb-false}
+use Rattle.std.proofs.lemmas.List.{drop_more, drop_all}
+use Rattle.std.proofs.lemmas.List.Sums.{fold-append}
 use Rattle.xc_dance.specs.declared.links.nodes.Nodes.{Nodes}
-use Rattle.xc_dance.specs.Links.Span.{Span}
-use Rattle.xc_dance.specs.Links.Steps.{followed}
-use Rattle.xc_dance.specs.Links.ListWalks.{IsWalk, IsWalkBack}
-use Rattle.xc_dance.specs.Links.TweaksBack.{IsClimb}
+use Rattle.xc_dance.specs.Links.Steps.{followed, IsSpacer}
+use Rattle.xc_dance.specs.Links.Walks.{costs, CanAll, CanFollow}
 
-pub length-followed : (dlink : List ℕ) (n p : ℕ) → length (followed dlink n p) ≡ n
-length-followed dlink zero p = refl
-length-followed dlink (suc n) p = ap suc (length-followed dlink n (get_or dlink p 0))
+-- ---- steps at the places of a list
 
--- the node that the walk is at comes first
-pub walk_more : (spans : List Span) (keep : Option ℕ) (t : Nodes) (p k : ℕ) (xs : List ℕ) → k < length xs → IsWalk spans keep t p (drop k xs) → drop k xs ≡ p ∷ drop (k + 1) xs
-walk_more spans keep t p k xs h walk =
-    let first : drop k xs ≡ get_or xs k 0 ∷ drop (k + 1) xs = drop_more xs k 0 h in
-    let w : IsWalk spans keep t p (get_or xs k 0 ∷ drop (k + 1) xs) = subst (IsWalk spans keep t p) first walk in
-    first ∙ ap (λ x. x ∷ drop (k + 1) xs) (sym w.0)
+-- a walk in two parts
+pub CanAll-append : (step : Nodes → ℕ → Nodes) (Can : Nodes → ℕ → Type 0) (t : Nodes) (ps qs : List ℕ) → CanAll step Can t (ps ++ qs) → CanAll step Can t ps × CanAll step Can (fold step t ps) qs
+CanAll-append step Can t [] qs h = (tt, h)
+CanAll-append step Can t (p ∷ ps) qs h = let r = CanAll-append step Can (step t p) ps qs h.1 in ((h.0, r.0), r.1)
 
--- the same upwards
-pub walk_back_more : (spans : List Span) (keep : Option ℕ) (t : Nodes) (p k : ℕ) (xs : List ℕ) → k < length xs → IsWalkBack spans keep t p (drop k xs) → drop k xs ≡ p ∷ drop (k + 1) xs
-walk_back_more spans keep t p k xs h walk =
-    let first : drop k xs ≡ get_or xs k 0 ∷ drop (k + 1) xs = drop_more xs k 0 h in
-    let w : IsWalkBack spans keep t p (get_or xs k 0 ∷ drop (k + 1) xs) = subst (IsWalkBack spans keep t p) first walk in
-    first ∙ ap (λ x. x ∷ drop (k + 1) xs) (sym w.0)
+pub costs-append : (step : Nodes → ℕ → Nodes) (writes : Nodes → ℕ → ℕ) (t : Nodes) (ps qs : List ℕ) → costs step writes t (ps ++ qs) ≡ costs step writes t ps + costs step writes (fold step t ps) qs
+costs-append step writes t [] qs = omega arith
+costs-append step writes t (p ∷ ps) qs = let e = costs-append step writes (step t p) ps qs in omega (arith, e)
 
--- and down nodes that come back
-pub climb_more : (spans : List Span) (covered : Bool) (t : Nodes) (p k : ℕ) (xs : List ℕ) → k < length xs → IsClimb spans covered t p (drop k xs) → drop k xs ≡ p ∷ drop (k + 1) xs
-climb_more spans covered t p k xs h walk =
-    let first : drop k xs ≡ get_or xs k 0 ∷ drop (k + 1) xs = drop_more xs k 0 h in
-    let w : IsClimb spans covered t p (get_or xs k 0 ∷ drop (k + 1) xs) = subst (IsClimb spans covered t p) first walk in
-    first ∙ ap (λ x. x ∷ drop (k + 1) xs) (sym w.0)
+-- n cells were written on the way from table t0 to t, and the steps that are left lead to the end of all
+pub record Underway (step : Nodes → ℕ → Nodes) (writes : Nodes → ℕ → ℕ) (Can : Nodes → ℕ → Type 0) (t0 : Nodes) (all : List ℕ) (t : Nodes) (left : List ℕ) (n : ℕ) : Type 0 where
+  pub can : CanAll step Can t left
+  pub done : fold step t left ≡ fold step t0 all
+  pub cost : n + costs step writes t left ≡ costs step writes t0 all
+
+-- the table that was reached, and what was written
+pub record Reached (step : Nodes → ℕ → Nodes) (writes : Nodes → ℕ → ℕ) (t0 : Nodes) (all : List ℕ) (t : Nodes) (n : ℕ) : Type 0 where
+  pub done : t ≡ fold step t0 all
+  pub cost : n ≡ costs step writes t0 all
+
+pub underway : {step : Nodes → ℕ → Nodes} {Can : Nodes → ℕ → Type 0} (writes : Nodes → ℕ → ℕ) (t0 : Nodes) (all left : List ℕ) → left ≡ all → CanAll step Can t0 all → Underway step writes Can t0 all t0 left 0
+underway {step} {Can} writes t0 all left e can = subst (λ qs. Underway step writes Can t0 all t0 qs 0) (sym e) (record { can = can; done = refl; cost = omega arith })
+
+-- the first step of those that are left
+pub step_can : {step : Nodes → ℕ → Nodes} {writes : Nodes → ℕ → ℕ} {Can : Nodes → ℕ → Type 0} {t0 : Nodes} {all : List ℕ} {t : Nodes} {left : List ℕ} {n : ℕ} (q : ℕ) (more : List ℕ) → left ≡ q ∷ more → Underway step writes Can t0 all t left n → Can t q
+step_can {step} {writes} {Can} {t0} {all} {t} {left} {n} q more e h = (subst (CanAll step Can t) e h.can).0
+
+pub step_on : {step : Nodes → ℕ → Nodes} {writes : Nodes → ℕ → ℕ} {Can : Nodes → ℕ → Type 0} {t0 : Nodes} {all : List ℕ} {t : Nodes} {left : List ℕ} {n : ℕ} (q : ℕ) (more : List ℕ) (u : Nodes) (m : ℕ)
+    → left ≡ q ∷ more → u ≡ step t q → m ≡ writes t q → Underway step writes Can t0 all t left n → Underway step writes Can t0 all u more (n + m)
+step_on {step} {writes} {Can} {t0} {all} {t} {left} {n} q more u m e is paid h =
+    let whole : costs step writes t left ≡ writes t q + costs step writes (step t q) more = ap (costs step writes t) e in
+    let cost = h.cost in
+    subst (λ (v : Nodes). Underway step writes Can t0 all v more (n + m)) (sym is)
+    (record { can = (subst (CanAll step Can t) e h.can).1; done = sym (ap (fold step t) e) ∙ h.done; cost = omega (arith, whole, cost, paid) })
+
+pub steps_end : {step : Nodes → ℕ → Nodes} {writes : Nodes → ℕ → ℕ} {Can : Nodes → ℕ → Type 0} {t0 : Nodes} {all : List ℕ} {t : Nodes} {left : List ℕ} {n : ℕ} → left ≡ [] → Underway step writes Can t0 all t left n → Reached step writes t0 all t n
+steps_end {step} {writes} {Can} {t0} {all} {t} {left} {n} e h =
+    let none = ap (costs step writes t) e in
+    let cost = h.cost in
+    record { done = sym (ap (fold step t) e) ∙ h.done; cost = omega (arith, none, cost) }
+
+-- one walk behind another
+pub both_reached : {step : Nodes → ℕ → Nodes} {writes : Nodes → ℕ → ℕ} {t0 : Nodes} {ps : List ℕ} {t : Nodes} {n : ℕ} (qs rs : List ℕ) (u : Nodes) (m : ℕ) → Reached step writes t0 ps t n → rs ≡ qs → u ≡ fold step t rs → m ≡ costs step writes t rs
+    → Reached step writes t0 (ps ++ qs) u (n + m)
+both_reached {step} {writes} {t0} {ps} {t} {n} qs rs u m h same is paid =
+    let whole = costs-append step writes t0 ps qs in
+    let rest : m ≡ costs step writes (fold step t0 ps) qs = paid ∙ ap (costs step writes t) same ∙ ap (λ (v : Nodes). costs step writes v qs) h.done in
+    let cost = h.cost in
+    record { done = is ∙ ap (fold step t) same ∙ ap (λ (v : Nodes). fold step v qs) h.done ∙ sym (fold-append step t0 ps qs); cost = omega (arith, whole, rest, cost) }
+
+-- ---- up to a spacer
+
+-- what TOP tells at q: the spacer z, where nothing is left, or the next place before it
+pub record Tells (t u : Nodes) (q z : ℕ) (left : List ℕ) : Type 0 where
+  pub within : q < length t.top
+  pub low : get_or t.top q 0 < 2147483648 → q ≢ z
+  pub at : 2147483648 ≤ get_or t.top q 0 → q ≡ z
+  pub none : 2147483648 ≤ get_or t.top q 0 → left ≡ []
+  pub is : 2147483648 ≤ get_or t.top q 0 → t ≡ u
+
+pub tells : {step : Nodes → ℕ → Nodes} {writes : Nodes → ℕ → ℕ} {Can : Nodes → ℕ → Type 0} {t0 : Nodes} {all : List ℕ} {t : Nodes} {left : List ℕ} {n : ℕ} (q z : ℕ) → ((v : Nodes) (x : ℕ) → Can v x → (x < length v.top) × (get_or v.top x 0 < 2147483648))
+    → (q ≡ z → left ≡ []) → (q ≢ z → (more : List ℕ) × (left ≡ q ∷ more)) → IsSpacer (fold step t0 all) z → Underway step writes Can t0 all t left n → Tells t (fold step t0 all) q z left
+tells {step} {writes} {Can} {t0} {all} {t} {left} {n} q z knows met on spacer h =
+    let u : Nodes = fold step t0 all in
+    elim (eqb q z) as (λ b. eqb q z ≡ b → Tells t u q z left) [
+      | true ↦ λ e.
+          let same = eqb-true q z e in
+          let none = met same in
+          let is : t ≡ u = (steps_end none h).done in
+          let here : IsSpacer t q = subst (IsSpacer t) (sym same) (subst (λ (v : Nodes). IsSpacer v z) (sym is) spacer) in
+          record { within = here.place; low = λ l. absurd (omega (arith, l, here.top)); at = λ l. same; none = λ l. none; is = λ l. is }
+      | false ↦ λ e.
+          let next = on (eqb-false q z e) in
+          let can = knows t q (step_can q next.0 next.1 h) in
+          record { within = can.0; low = λ l. eqb-false q z e; at = λ l. absurd (omega (arith, l, can.1)); none = λ l. absurd (omega (arith, l, can.1)); is = λ l. absurd (omega (arith, l, can.1)) }
+    ] refl
+
+-- ---- along links
+
+pub length-followed : (links : List ℕ) (n p : ℕ) → length (followed links n p) ≡ n
+length-followed links zero p = refl
+length-followed links (suc n) p = ap suc (length-followed links n (get_or links p 0))
+
+-- the same of a walk that is at node p, k nodes on
+pub record Following (step : Nodes → ℕ → Nodes) (writes : Nodes → ℕ → ℕ) (Can : Nodes → ℕ → Type 0) (links : Nodes → List ℕ) (t0 : Nodes) (all : List ℕ) (t : Nodes) (p k n : ℕ) : Type 0 where
+  pub walk : CanFollow step Can links t p (drop k all)
+  pub done : fold step t (drop k all) ≡ fold step t0 all
+  pub cost : n + costs step writes t (drop k all) ≡ costs step writes t0 all
+
+pub following : {step : Nodes → ℕ → Nodes} {Can : Nodes → ℕ → Type 0} {links : Nodes → List ℕ} {t : Nodes} {all : List ℕ} {q p : ℕ} (writes : Nodes → ℕ → ℕ) → q ≡ p → CanFollow step Can links t p all → Following step writes Can links t all t q 0 0
+following {step} {Can} {links} {t} {all} {q} {p} writes e walk = record { walk = subst (λ x. CanFollow step Can links t x all) (sym e) walk; done = refl; cost = omega arith }
+
+-- the node that it is at comes first of those that are left
+pub record Here (step : Nodes → ℕ → Nodes) (Can : Nodes → ℕ → Type 0) (links : Nodes → List ℕ) (all : List ℕ) (t : Nodes) (p k : ℕ) : Type 0 where
+  pub first : drop k all ≡ p ∷ drop (k + 1) all
+  pub can : Can t p
+  pub within : p < length (links (step t p))
+  pub next : CanFollow step Can links (step t p) (get_or (links (step t p)) p 0) (drop (k + 1) all)
+
+pub follow_here : {step : Nodes → ℕ → Nodes} {writes : Nodes → ℕ → ℕ} {Can : Nodes → ℕ → Type 0} {links : Nodes → List ℕ} {t0 : Nodes} {all : List ℕ} {t : Nodes} {p k n : ℕ} → k < length all → Following step writes Can links t0 all t p k n → Here step Can links all t p k
+follow_here {step} {writes} {Can} {links} {t0} {all} {t} {p} {k} {n} lt h =
+    let at : drop k all ≡ get_or all k 0 ∷ drop (k + 1) all = drop_more all k 0 lt in
+    let first : drop k all ≡ p ∷ drop (k + 1) all = at ∙ ap (λ x. x ∷ drop (k + 1) all) (sym (subst (CanFollow step Can links t p) at h.walk).0) in
+    let w : CanFollow step Can links t p (p ∷ drop (k + 1) all) = subst (CanFollow step Can links t p) first h.walk in
+    record { first = first; can = w.1; within = w.2; next = w.3 }
+
+pub follow_on : {step : Nodes → ℕ → Nodes} {writes : Nodes → ℕ → ℕ} {Can : Nodes → ℕ → Type 0} {links : Nodes → List ℕ} {t0 : Nodes} {all : List ℕ} {t : Nodes} {p k n : ℕ} (u : Nodes) (q m : ℕ) → k < length all → u ≡ step t p → q ≡ get_or (links u) p 0 → m ≡ writes t p
+    → Following step writes Can links t0 all t p k n → Following step writes Can links t0 all u q (k + 1) (n + m)
+follow_on {step} {writes} {Can} {links} {t0} {all} {t} {p} {k} {n} u q m lt is to paid h =
+    let here = follow_here lt h in
+    let rest : List ℕ = drop (k + 1) all in
+    let next : q ≡ get_or (links (step t p)) p 0 = to ∙ ap (λ (v : Nodes). get_or (links v) p 0) is in
+    let whole : costs step writes t (drop k all) ≡ writes t p + costs step writes (step t p) rest = ap (costs step writes t) here.first in
+    let cost = h.cost in
+    subst (λ (v : Nodes). Following step writes Can links t0 all v q (k + 1) (n + m)) (sym is)
+    (record { walk = subst (λ x. CanFollow step Can links (step t p) x rest) (sym next) here.next; done = sym (ap (fold step t) here.first) ∙ h.done; cost = omega (arith, whole, cost, paid) })
+
+pub follow_end : {step : Nodes → ℕ → Nodes} {writes : Nodes → ℕ → ℕ} {Can : Nodes → ℕ → Type 0} {links : Nodes → List ℕ} {t0 : Nodes} {all : List ℕ} {t : Nodes} {p k n : ℕ} → length all ≤ k → Following step writes Can links t0 all t p k n → Reached step writes t0 all t n
+follow_end {step} {writes} {Can} {links} {t0} {all} {t} {p} {k} {n} le h =
+    let nil : drop k all ≡ [] = drop_all k all le in
+    let none = ap (costs step writes t) nil in
+    let cost = h.cost in
+    record { done = sym (ap (fold step t) nil) ∙ h.done; cost = omega (arith, none, cost) }

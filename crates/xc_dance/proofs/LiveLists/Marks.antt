@@ -1,25 +1,25 @@
 -- Going back to a mark.
 use Rattle.std.proofs.Common.{ℕ, suc, ◌≡◌, ◌≤◌, true, false, cond, leb, List, [], ◌∷◌, length, refl, ap, ap₂, ◌∙◌, arith, le-leb}
 use Rattle.std.proofs.lemmas.Bool.{lt-leb, leb-true, leb-false}
-use Rattle.xc_dance.specs.declared.lists.undo_log.Taken.{Taken}
+use Rattle.xc_dance.specs.declared.lists.undo_log.Removed.{Removed}
 use Rattle.xc_dance.specs.Lists.Versions.{Versions}
 use Rattle.xc_dance.specs.Lists.Taking.{restored, still_taken, lists_at_marks, AreMarks, IsPutBack}
 
 -- nothing above the mark
-pub restored_at : (k : ℕ) (es : List Taken) (ls : List (List ℕ)) → length es ≤ k → (restored k es ls ≡ ls) × (still_taken k es ≡ es)
+pub restored_at : (k : ℕ) (es : List Removed) (ls : List (List ℕ)) → length es ≤ k → (restored k es ls ≡ ls) × (still_taken k es ≡ es)
 restored_at k [] ls le = (refl, refl)
 restored_at k (e ∷ es) ls le =
     let past : leb k (length es) ≡ false = lt-leb k (length es) (omega (arith, le)) in
     (rw past refl, rw past refl)
 
 -- what is taken after the mark doesn't count
-pub restored_more : (rooms : List ℕ) (k : ℕ) (e : Taken) (es : List Taken) (new old : List (List ℕ)) → k ≤ length es → IsPutBack rooms e new old → (restored k (e ∷ es) new ≡ restored k es old) × (still_taken k (e ∷ es) ≡ still_taken k es)
+pub restored_more : (rooms : List ℕ) (k : ℕ) (e : Removed) (es : List Removed) (new old : List (List ℕ)) → k ≤ length es → IsPutBack rooms e new old → (restored k (e ∷ es) new ≡ restored k es old) × (still_taken k (e ∷ es) ≡ still_taken k es)
 restored_more rooms k e es new old le back =
     let within : leb k (length es) ≡ true = le-leb k (length es) le in
     (rw within (ap (λ ls. restored k es ls) back.1), rw within refl)
 
 -- how much is still taken
-pub length-still_taken : (k : ℕ) (es : List Taken) → k ≤ length es → length (still_taken k es) ≡ k
+pub length-still_taken : (k : ℕ) (es : List Removed) → k ≤ length es → length (still_taken k es) ≡ k
 length-still_taken k [] le = omega (arith, le)
 length-still_taken k (e ∷ es) le =
     elim (leb k (length es)) as (λ b. leb k (length es) ≡ b → length (cond b (still_taken k es) (e ∷ es)) ≡ k) [
@@ -28,7 +28,7 @@ length-still_taken k (e ∷ es) le =
     ] refl
 
 -- the lists at the marks stay where a number is taken
-pub marks_more : (rooms : List ℕ) (ks : List ℕ) (e : Taken) (es : List Taken) (new old : List (List ℕ)) → AreMarks ks (length es) → IsPutBack rooms e new old → lists_at_marks ks (e ∷ es) new ≡ lists_at_marks ks es old
+pub marks_more : (rooms : List ℕ) (ks : List ℕ) (e : Removed) (es : List Removed) (new old : List (List ℕ)) → AreMarks ks (length es) → IsPutBack rooms e new old → lists_at_marks ks (e ∷ es) new ≡ lists_at_marks ks es old
 marks_more rooms [] e es new old marks back = refl
 marks_more rooms (k ∷ ks) e es new old marks back =
     let more = restored_more rooms k e es new old marks.0 back in
@@ -38,12 +38,12 @@ pub marks_weaker : (ks : List ℕ) (m n : ℕ) → m ≤ n → AreMarks ks m →
 marks_weaker [] m n le marks = tt
 marks_weaker (k ∷ ks) m n le marks = (omega (arith, le, marks.0), marks.1)
 
-pub length-lists_at_marks : (ks : List ℕ) (es : List Taken) (ls : List (List ℕ)) → length (lists_at_marks ks es ls) ≡ length ks
+pub length-lists_at_marks : (ks : List ℕ) (es : List Removed) (ls : List (List ℕ)) → length (lists_at_marks ks es ls) ≡ length ks
 length-lists_at_marks [] es ls = refl
 length-lists_at_marks (k ∷ ks) es ls = ap suc (length-lists_at_marks ks (still_taken k es) (restored k es ls))
 
 -- a mark that was just made
-pub marks_new : (k : ℕ) (ks : List ℕ) (es : List Taken) (ls : List (List ℕ)) → length es ≤ k → lists_at_marks (k ∷ ks) es ls ≡ ls ∷ lists_at_marks ks es ls
+pub marks_new : (k : ℕ) (ks : List ℕ) (es : List Removed) (ls : List (List ℕ)) → length es ≤ k → lists_at_marks (k ∷ ks) es ls ≡ ls ∷ lists_at_marks ks es ls
 marks_new k ks es ls le = let at = restored_at k es ls le in rw (at.0, at.1) refl
 
 versions : List (List ℕ) → List (List (List ℕ)) → ℕ → Versions

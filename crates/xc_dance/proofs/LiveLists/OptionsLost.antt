@@ -1,12 +1,12 @@
 -- Lists that lose an option use by use, and options one by one.
-use Rattle.std.proofs.Common.{ℕ, zero, suc, ◌≡◌, ◌≢◌, ◌+◌, ◌-◌, ◌<◌, ◌≤◌, Bool, true, false, not, cond, eqb, ◌&&◌, ◌||◌, List, [], ◌∷◌, ◌++◌, length, get_or, set, filter, Option, Some, None, refl, ap, ap₂, sym, ◌∙◌, arith, subst, eq-eqb, eqb-true}
+use Rattle.std.proofs.Common.{ℕ, zero, suc, ◌≡◌, ◌≢◌, ◌+◌, ◌-◌, ◌<◌, ◌≤◌, Bool, true, false, not, cond, eqb, ◌&&◌, ◌||◌, List, [], ◌∷◌, ◌++◌, length, get_or, set, Option, Some, None, refl, ap, ap₂, sym, ◌∙◌, arith, subst, eq-eqb, eqb-true}
 use Rattle.std.specs.Prelude.{IsTrue, unwrap_or}
 use Rattle.std.specs.List.{list_any}
 use Rattle.std.proofs.lemmas.Bool.{ne_eqb}
 use Rattle.std.proofs.lemmas.List.Folds.{list_any-append}
-use Rattle.std.proofs.lemmas.List.Elements.{All-filter}
+use Rattle.std.proofs.lemmas.List.Elements.{All-filter, filter_agree}
 use Rattle.std.proofs.lemmas.Option.{slice_get_within}
-use Rattle.std.proofs.Math.Bool.{and-false}
+use Rattle.std.proofs.Math.Bool.{and-false, or-false, or-true, and_self}
 use Rattle.xc_input.specs.declared.problem.Use.{Use}
 use Rattle.xc_input.specs.Problem.{Puzzle, uses_of, numbered_get, option_count}
 use Rattle.xc_dance.specs.declared.dance.Move.{Move}
@@ -15,32 +15,13 @@ use Rattle.xc_dance.specs.Lists.Taking.{less, list_at}
 use Rattle.xc_dance.specs.Lists.Losing.{lose_from, has_use, IsListOf, AreListsFrom}
 use Rattle.xc_dance.proofs.MoveLemmas.ListLemmas.{Rises-filter}
 use Rattle.xc_dance.proofs.LiveLists.Removal.{less-absent}
+use Rattle.xc_input.proofs.ListFilters.{filter_both}
 
 -- ---- one list
-
-filter_filter : {X : Type 0} (p q r : X → Bool) (xs : List X) → ((x : X) → r x ≡ (p x && q x)) → filter q (filter p xs) ≡ filter r xs
-filter_filter p q r [] h = refl
-filter_filter p q r (x ∷ xs) h =
-    let rest = filter_filter p q r xs h in
-    rw (h x) (elim (p x) as (λ b. filter q (cond b (x ∷ filter p xs) (filter p xs)) ≡ cond (b && q x) (x ∷ filter r xs) (filter r xs)) [
-      | true ↦ elim (q x) as (λ b. cond b (x ∷ filter q (filter p xs)) (filter q (filter p xs)) ≡ cond b (x ∷ filter r xs) (filter r xs)) [
-        | true ↦ ap (λ l. x ∷ l) rest
-        | false ↦ rest
-      ]
-      | false ↦ rest
-    ])
 
 not_or : (a b : Bool) → not (a || b) ≡ (not a && not b)
 not_or true b = refl
 not_or false b = refl
-
-or_false : (a : Bool) → (a || false) ≡ a
-or_false true = refl
-or_false false = refl
-
-and_same : (a : Bool) → a ≡ (a && a)
-and_same true = refl
-and_same false = refl
 
 pub less_none : (l : List ℕ) → less [] l ≡ l
 less_none [] = refl
@@ -48,10 +29,10 @@ less_none (x ∷ l) = ap (λ k. x ∷ k) (less_none l)
 
 -- one option more is gone
 pub less_more : (gone : List ℕ) (o : ℕ) (l : List ℕ) → less (o ∷ []) (less gone l) ≡ less (gone ++ o ∷ []) l
-less_more gone o l = filter_filter _ _ _ l (λ n. ap not (list_any-append (λ g. eqb g n) gone (o ∷ [])) ∙ not_or (list_any (λ g. eqb g n) gone) (list_any (λ g. eqb g n) (o ∷ [])))
+less_more gone o l = filter_both _ _ l ∙ filter_agree _ _ (λ n. sym (ap not (list_any-append (λ g. eqb g n) gone (o ∷ [])) ∙ not_or (list_any (λ g. eqb g n) gone) (list_any (λ g. eqb g n) (o ∷ [])))) l
 
 pub less_less : (o : ℕ) (l : List ℕ) → less (o ∷ []) (less (o ∷ []) l) ≡ less (o ∷ []) l
-less_less o l = filter_filter _ _ _ l (λ n. and_same (not (eqb o n || false)))
+less_less o l = filter_both _ _ l ∙ filter_agree _ _ (λ n. and_self (not (eqb o n || false))) l
 
 pub is_list_of-less : (p : Puzzle) (i : ℕ) (gone l : List ℕ) → IsListOf p i l → IsListOf p i (less gone l)
 is_list_of-less p i gone l h = (Rises-filter _ 0 l h.0, All-filter _ (λ o. IsTrue (has_use (uses_of p o) i)) l h.1)
@@ -142,17 +123,13 @@ hidden_none t j o n (l ∷ ls) =
     ap₂ (λ k ks. k ∷ ks) (ap (λ b. cond b (less (o ∷ []) l) l) (and-false (not (eqb n j) && is_open n t))) (hidden_none t j o (n + 1) ls)
 
 has_use_more : (us : List Use) (u : Use) (i : ℕ) → has_use (us ++ u ∷ []) i ≡ (has_use us i || eqb u.item i)
-has_use_more us u i = list_any-append (λ v. eqb v.item i) us (u ∷ []) ∙ ap (λ b. has_use us i || b) (or_false (eqb u.item i))
+has_use_more us u i = list_any-append (λ v. eqb v.item i) us (u ∷ []) ∙ ap (λ b. has_use us i || b) (or-false (eqb u.item i))
 
 pub has_use_other : (us : List Use) (u : Use) (i : ℕ) → u.item ≢ i → has_use (us ++ u ∷ []) i ≡ has_use us i
-has_use_other us u i other = has_use_more us u i ∙ ap (λ b. has_use us i || b) (ne_eqb u.item i other) ∙ or_false (has_use us i)
-
-or_true : (a : Bool) → (a || true) ≡ true
-or_true true = refl
-or_true false = refl
+has_use_other us u i other = has_use_more us u i ∙ ap (λ b. has_use us i || b) (ne_eqb u.item i other) ∙ or-false (has_use us i)
 
 pub has_use_here : (us : List Use) (u : Use) (i : ℕ) → u.item ≡ i → has_use (us ++ u ∷ []) i ≡ true
-has_use_here us u i e = has_use_more us u i ∙ ap (λ b. has_use us i || b) (eq-eqb u.item i e) ∙ or_true (has_use us i)
+has_use_here us u i e = has_use_more us u i ∙ ap (λ b. has_use us i || b) (eq-eqb u.item i e) ∙ or-true (has_use us i)
 
 hidden_above : (t : List Move) (j : ℕ) (us : List Use) (u : Use) (o n : ℕ) (ls : List (List ℕ)) → u.item < n → hidden_from t j us o n ls ≡ hidden_from t j (us ++ u ∷ []) o n ls
 hidden_above t j us u o n [] lt = refl

@@ -2,11 +2,11 @@
 use Rattle.std.proofs.Common.{ℕ, zero, suc, ◌≡◌, ◌≢◌, ◌+◌, ◌<◌, ◌≤◌, Bool, true, false, eqb, ltb, ltb-true, ltb-false, List, [], ◌∷◌, length, get_or, set, refl, ap, ap₂, sym, ◌∙◌, arith, subst, eq-eqb, ne_eqb, vec_capacity, sum_by}
 use Rattle.std.specs.List.{insert, remove}
 use Rattle.std.specs.Global.{Vec}
-use Rattle.std.proofs.lemmas.List.{map-set, get_or-map, get_or-set_same, set-get_or, length-set, length-map}
+use Rattle.std.proofs.lemmas.List.{map-set, get_or-map, get_or-set_same, set-get_or, length-set, length-map, set-set}
 use Rattle.std.proofs.Math.Seq.{map-set_same}
 use Rattle.std.proofs.lemmas.List.Edits.{length-insert, length-remove}
 use Rattle.std.proofs.lemmas.List.Sums.{sum_by-set}
-use Rattle.xc_dance.specs.declared.lists.undo_log.Taken.{Taken}
+use Rattle.xc_dance.specs.declared.lists.undo_log.Removed.{Removed}
 use Rattle.xc_dance.specs.Rising.{Rises}
 use Rattle.xc_dance.specs.Lists.Taking.{numbers_of, rooms_of, list_at, less, put_back, HasRoom, IsPutBack}
 
@@ -77,11 +77,6 @@ room_at ls k d lt = get_or-map (λ (l : Vec ℕ). vec_capacity l) ls k d 0 lt
 
 -- ---- a list among lists
 
-set_set : {X : Type 0} (xs : List X) (k : ℕ) (a b : X) → set (set xs k a) k b ≡ set xs k b
-set_set [] k a b = refl
-set_set (x ∷ xs) zero a b = refl
-set_set (x ∷ xs) (suc k) a b = ap (λ l. x ∷ l) (set_set xs k a b)
-
 -- a number that was removed from its list can be put back
 pub removed : (rooms : List ℕ) (ls : List (List ℕ)) (list place number : ℕ) → list < length ls → place < length (list_at ls list) →
     get_or (list_at ls list) place 0 ≡ number → length (list_at ls list) ≤ get_or rooms list 0 →
@@ -95,7 +90,7 @@ removed rooms ls list place number lt within is fits =
     let read_length = ap (λ (l : List ℕ). length l) read in
     let back : insert (list_at new list) place number ≡ row = ap₂ (λ (l : List ℕ) n. insert l place n) read (sym is) ∙ insert-remove row place 0 within in
     let whole : set new list (insert (list_at new list) place number) ≡ ls =
-    ap (λ (l : List ℕ). set new list l) back ∙ set_set ls list (remove row place) row ∙ set-get_or ls list [] in
+    ap (λ (l : List ℕ). set new list l) back ∙ set-set ls list (remove row place) row ∙ set-get_or ls list [] in
     ((omega (arith, lt, size), omega (arith, within, shorter, read_length), omega (arith, within, shorter, read_length, fits)), whole)
 
 -- as a vector's row is changed
@@ -113,7 +108,7 @@ row_removed ls new list place number row lt is_row within is gone fits =
     subst P (sym same) back
 
 -- there is one number more after one was put back
-pub sum-put_back : (rooms : List ℕ) (e : Taken) (ls : List (List ℕ)) → HasRoom rooms e ls → sum_by length (put_back e ls) ≡ sum_by length ls + 1
+pub sum-put_back : (rooms : List ℕ) (e : Removed) (ls : List (List ℕ)) → HasRoom rooms e ls → sum_by length (put_back e ls) ≡ sum_by length ls + 1
 sum-put_back rooms e ls h =
     let row = list_at ls e.list in
     let longer = length-insert row e.place e.number h.1 in

@@ -8,6 +8,7 @@ use Rattle.xc_dance.specs.declared.dance.Move.{Move}
 use Rattle.xc_dance.specs.declared.dance.Move.TheVariants.{Cover, Purify, Tweak, Spend}
 use Rattle.xc_dance.specs.Moves.{is_open, is_covered, purified, without}
 use Rattle.xc_dance.specs.Left.{agrees, left}
+use Rattle.std.proofs.lemmas.Option.{same_Some}
 
 -- a fact of all options left is kept by a move
 pub kept : (P : Numbered → Type 0) (p : Puzzle) (t : List Move) (m : Move) → AllByRecursion P (left p t) → AllByRecursion P (left p (m ∷ t))
@@ -29,16 +30,13 @@ left_free p (Purify k c ∷ t) j e = kept (λ o. holds o j ≡ false) p t (Purif
 left_free p (Tweak k ∷ t) j e = kept (λ o. holds o j ≡ false) p t (Tweak k) (left_free p t j e)
 left_free p (Spend k ∷ t) j e = left_free p t j e
 
-some_colour : (a b : ℕ) → Some a ≡ Some b → a ≡ b
-some_colour a b e = cc
-
 -- each option left agrees with a purified item
 pub left_agrees : (p : Puzzle) (t : List Move) (j d : ℕ) → purified j t ≡ Some d → AllByRecursion (λ o. agrees d (colour_at o j) ≡ true) (left p t)
 left_agrees p [] j d e = cc
 left_agrees p (Purify k c ∷ t) j d e =
     elim (eqb j k) as (λ b. eqb j k ≡ b → cond b (Some c) (purified j t) ≡ Some d → AllByRecursion (λ o. agrees d (colour_at o j) ≡ true) (left p (Purify k c ∷ t))) [
       | true ↦ λ i f. subst (λ n. AllByRecursion (λ o. agrees d (colour_at o n) ≡ true) (left p (Purify k c ∷ t))) (sym (eqb-true j k i))
-          (subst (λ n. AllByRecursion (λ o. agrees n (colour_at o k) ≡ true) (left p (Purify k c ∷ t))) (some_colour c d f) (each_passes (λ o. agrees c (colour_at o k)) (left p t)))
+          (subst (λ n. AllByRecursion (λ o. agrees n (colour_at o k) ≡ true) (left p (Purify k c ∷ t))) (same_Some c d f) (each_passes (λ o. agrees c (colour_at o k)) (left p t)))
       | false ↦ λ i f. kept (λ o. agrees d (colour_at o j) ≡ true) p t (Purify k c) (left_agrees p t j d f)
     ] refl e
 left_agrees p (Cover k ∷ t) j d e = kept (λ o. agrees d (colour_at o j) ≡ true) p t (Cover k) (left_agrees p t j d e)

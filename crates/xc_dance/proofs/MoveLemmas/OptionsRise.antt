@@ -18,7 +18,7 @@ NumbersRise-filter p n (o ∷ os) r = elim (p o) as (λ b. NumbersRise n (cond b
   | false ↦ NumbersRise-filter p n os (NumbersRise-weaker n o.number os (omega (arith, r.0)) r.1)
 ]
 
-NumbersRise-from : (n : ℕ) (os : List (List Use)) → NumbersRise n (numbered_from (n + 1) os)
+pub NumbersRise-from : (n : ℕ) (os : List (List Use)) → NumbersRise n (numbered_from (n + 1) os)
 NumbersRise-from n [] = tt
 NumbersRise-from n (us ∷ os) = (omega arith, NumbersRise-from (n + 1) os)
 

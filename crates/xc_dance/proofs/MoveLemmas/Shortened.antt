@@ -6,7 +6,6 @@ use Rattle.std.proofs.lemmas.Bool.{ne_eqb}
 use Rattle.std.proofs.Math.Bool.{not-not}
 use Rattle.std.proofs.lemmas.List.FromFn.{length-map-range_with_len, get_or-map-range_with_len}
 use Rattle.std.proofs.lemmas.List.Elements.{All-nil, All-cons}
-use Rattle.std.proofs.Math.Bool.{not-not}
 use Rattle.xc_input.specs.declared.problem.Use.{Use}
 use Rattle.xc_input.specs.Problem.{Puzzle, Numbered, uses_of, numbered_from, numbered_options, item_count, holds, colour_in}
 use Rattle.xc_input.proofs.EachElement.{each-filter}
@@ -73,9 +72,6 @@ holders p (Tweak j ∷ t) i = by_item (holders p t i) (eqb i j) refl
 holders p (Spend j ∷ t) i = holders p t i
 
 -- ---- the numbers rise
-
-numbers : List Numbered → List ℕ
-numbers xs = map (λ o. o.number) xs
 
 rises_filter : (q : Numbered → Bool) (n : ℕ) (xs : List Numbered) → Rises n (map (λ o. o.number) xs) → Rises n (map (λ o. o.number) (filter q xs))
 rises_filter q n [] h = tt

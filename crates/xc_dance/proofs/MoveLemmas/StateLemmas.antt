@@ -6,8 +6,8 @@ use Rattle.std.specs.List.{range_with_len}
 use Rattle.std.proofs.lemmas.Bool.{lt-ltb, le-ltb}
 use Rattle.xc_dance.specs.declared.dance.Move.{Move}
 use Rattle.xc_dance.specs.declared.dance.Move.TheVariants.{Cover, Purify, Tweak, Spend}
-use Rattle.xc_dance.specs.declared.lists.standing.State.{State}
-use Rattle.xc_dance.specs.declared.lists.standing.State.TheVariants.{Open, Covered, Purified}
+use Rattle.xc_dance.specs.declared.lists.item_states.ItemState.{ItemState}
+use Rattle.xc_dance.specs.declared.lists.item_states.ItemState.TheVariants.{Open, Covered, Purified}
 use Rattle.xc_input.specs.Problem.{Puzzle, Bounds, item_count, high_at, numbered_get, IsWithinLimits}
 use Rattle.xc_input.proofs.Known.{at_number}
 use Rattle.xc_dance.specs.Moves.{is_open, purified, next_above, AreLegal}
@@ -54,7 +54,7 @@ open_unpurified i (Tweak j ∷ t) e = open_unpurified i t e
 open_unpurified i (Spend j ∷ t) e = open_unpurified i t e
 
 -- one item gets another state
-pub set_state : (p : Puzzle) (t u : List Move) (states : List State) (i : ℕ) (s : State) → AreStates p t states → 1 ≤ i → i ≤ item_count p →
+pub set_state : (p : Puzzle) (t u : List Move) (states : List ItemState) (i : ℕ) (s : ItemState) → AreStates p t states → 1 ≤ i → i ≤ item_count p →
     ((k : ℕ) → k + 1 ≢ i → state_of (k + 1) t ≡ state_of (k + 1) u) → state_of i u ≡ s → AreStates p u (set states (i - 1) s)
 set_state p t u states i s are low high others here = record {
   count = length-set states (i - 1) s ∙ are.count;
@@ -73,46 +73,46 @@ set_state p t u states i s are low high others here = record {
         get_or-set_other states (i - 1) k s Open at ∙ are.each k lt ∙ others k other
 
 -- what was read at the item's place is its state
-pub state_at : (p : Puzzle) (t : List Move) (states : List State) (i : ℕ) (r : State) → AreStates p t states → 1 ≤ i → i ≤ item_count p → r ≡ get_or states (i - 1) r → state_of i t ≡ r
+pub state_at : (p : Puzzle) (t : List Move) (states : List ItemState) (i : ℕ) (r : ItemState) → AreStates p t states → 1 ≤ i → i ≤ item_count p → r ≡ get_or states (i - 1) r → state_of i t ≡ r
 state_at p t states i r are low high read =
     let lt : i - 1 < item_count p = omega (arith, low, high) in
     let at : (i - 1) + 1 ≡ i = omega (arith, low) in
     let within : i - 1 < length states = omega (arith, lt, are.count) in
     ap (λ n. state_of n t) (sym at) ∙ sym (are.each (i - 1) lt) ∙ get_or_default states (i - 1) Open r within ∙ sym read
 
-abbrev pub is_purified_state : State → Bool
+abbrev pub is_purified_state : ItemState → Bool
 is_purified_state Open = false
 is_purified_state Covered = false
 is_purified_state Purified = true
 
-abbrev pub is_open_state : State → Bool
+abbrev pub is_open_state : ItemState → Bool
 is_open_state Open = true
 is_open_state Covered = false
 is_open_state Purified = false
 
-no_state : (s : State) → Open ≡ s → is_open_state s ≡ false → ⊥
+no_state : (s : ItemState) → Open ≡ s → is_open_state s ≡ false → ⊥
 no_state Open e f = cc f
 no_state Covered e f = cc e
 no_state Purified e f = cc e
 
-not_open : (i : ℕ) (t : List Move) (s : State) → state_of i t ≡ s → is_open_state s ≡ false → is_open i t ≡ false
+not_open : (i : ℕ) (t : List Move) (s : ItemState) → state_of i t ≡ s → is_open_state s ≡ false → is_open i t ≡ false
 not_open i t s e f = by_case (is_open i t) refl
   where
     by_case : (b : Bool) → is_open i t ≡ b → is_open i t ≡ false
     by_case true q = let o = open_state i t q in let same : Open ≡ s = sym o ∙ e in absurd (no_state s same f)
     by_case false q = q
 
-pub open_by_state : (i : ℕ) (t : List Move) (s : State) → state_of i t ≡ s → is_open i t ≡ is_open_state s
+pub open_by_state : (i : ℕ) (t : List Move) (s : ItemState) → state_of i t ≡ s → is_open i t ≡ is_open_state s
 open_by_state i t Open e = state_open i t e
 open_by_state i t Covered e = not_open i t Covered e refl
 open_by_state i t Purified e = not_open i t Purified e refl
 
-pub closed_state : (s : State) → (s ≡ Open → ⊥) → is_open_state s ≡ false
+pub closed_state : (s : ItemState) → (s ≡ Open → ⊥) → is_open_state s ≡ false
 closed_state Open h = absurd (h refl)
 closed_state Covered h = refl
 closed_state Purified h = refl
 
-pub unpurified_state : (s : State) → (s ≡ Purified → ⊥) → is_purified_state s ≡ false
+pub unpurified_state : (s : ItemState) → (s ≡ Purified → ⊥) → is_purified_state s ≡ false
 unpurified_state Open h = refl
 unpurified_state Covered h = refl
 unpurified_state Purified h = absurd (h refl)

@@ -1,9 +1,10 @@
--- What the linked tables answer by option numbers, with 0 for none.
+-- No public clause cites this module. What the linked tables answer by option numbers, with 0 for none.
 use Rattle.std.specs.Prelude.{ℕ, ◌≡◌, ◌==◌, Option, Some, None, if◌then◌else◌}
 use Rattle.xc_input.specs.Problem.{Puzzle}
 use Rattle.xc_dance.specs.Fields.{link_place}
 use Rattle.xc_dance.specs.Links.Laid.{IsName}
 
+-- an option number as it is answered
 abbrev pub named : ℕ → Option ℕ
 named x = if x == 0 then None else Some x
 

@@ -1,5 +1,5 @@
--- The node table by the lines of all items.
-use Rattle.std.specs.Prelude.{ℕ, zero, suc, ◌+◌, ◌-◌, Bool, false, ◌&&◌, ◌==◌, nat_lt, List, length, map, Option, Some, None, unwrap_or, if◌then◌else◌}
+-- No public clause cites this module. The node table by the lines of all items.
+use Rattle.std.specs.Prelude.{ℕ, zero, suc, ◌+◌, ◌-◌, nat_lt, List, length, map, Option, Some, None, unwrap_or, if◌then◌else◌}
 use Rattle.xc_dance.specs.declared.dance.Move.{Move}
 use Rattle.xc_dance.specs.declared.links.nodes.Nodes.{Nodes}
 use Rattle.xc_input.specs.Problem.{Puzzle, option_count}
@@ -20,7 +20,7 @@ abbrev pub link_at : Puzzle → (ℕ → ℕ → ℕ) → ℕ → Option (ℕ ×
 link_at p f fixed None = fixed
 link_at p f fixed (Some s) = link_place p s.0 (f s.0 s.1)
 
--- the links of spacers
+-- where ULINK of a spacer leads, always
 abbrev pub fixed_up : Puzzle → Node → ℕ
 fixed_up p (spacer (suc n)) = spacer_place p n + 1
 fixed_up p (spacer zero) = 0
@@ -28,27 +28,32 @@ fixed_up p unused = 0
 fixed_up p (own i) = 0
 fixed_up p (used o u) = 0
 
+-- where DLINK of a spacer leads, always
 abbrev pub fixed_down : Puzzle → Node → ℕ
 fixed_down p (spacer n) = if nat_lt n (option_count p) then spacer_place p (n + 1) - 1 else 0
 fixed_down p unused = 0
 fixed_down p (own i) = 0
 fixed_down p (used o u) = 0
 
+-- the number in the TOP cell of a node, a spacer's lying behind all others
 abbrev pub top_in : (ℕ → Line) → Node → ℕ
 top_in ln unused = 0
 top_in ln (own i) = (ln i).len
 top_in ln (spacer n) = 2147483648 + n
 top_in ln (used o u) = u.item
 
+-- the number in the COLOR cell of a node, a mark being the greatest
 abbrev pub color_in : Puzzle → List Move → Node → ℕ
 color_in p t unused = 0
 color_in p t (own i) = unwrap_or (purified i t) 0
 color_in p t (spacer n) = 0
 color_in p t (used o u) = if is_marked p t u.item o u.colour then 4294967295 else u.colour
 
+-- the number in the ULINK cell of a node, by the lines
 abbrev pub ulink_in : Puzzle → (ℕ → Line) → Node → ℕ
 ulink_in p ln n = link_at p (λ j x. (ln j).up x) (fixed_up p n) (slot_of n)
 
+-- the number in the DLINK cell of a node, by the lines
 abbrev pub dlink_in : Puzzle → (ℕ → Line) → Node → ℕ
 dlink_in p ln n = link_at p (λ j x. (ln j).down x) (fixed_down p n) (slot_of n)
 
@@ -61,10 +66,12 @@ nodes_from p ln col = record {
   color = map col (layout p);
 }
 
+-- what stands above member o of item j's list, and last of it for 0
 abbrev pub up_of : Puzzle → List Move → ℕ → ℕ → ℕ
 up_of p t j zero = last_of 0 (listed_numbers p t j)
 up_of p t j (suc o) = above p t j (suc o)
 
+-- what stands below member o of item j's list, and first of it for 0
 abbrev pub down_of : Puzzle → List Move → ℕ → ℕ → ℕ
 down_of p t j zero = first_of 0 (listed_numbers p t j)
 down_of p t j (suc o) = below_of p t j (suc o)
@@ -76,20 +83,3 @@ line_of p t j = record { len = length (listed p t j); up = up_of p t j; down = d
 -- the node table after moves
 abbrev pub nodes_after : Puzzle → List Move → Nodes
 nodes_after p t = nodes_from p (line_of p t) (color_in p t)
-
--- item j's line is l now
-abbrev pub with_line : (ℕ → Line) → ℕ → Line → ℕ → Line
-with_line ln j l k = record {
-  len = if k == j then l.len else (ln k).len;
-  up = λ x. if k == j then l.up x else (ln k).up x;
-  down = λ x. if k == j then l.down x else (ln k).down x;
-}
-
--- the slot is that of member x of item j
-abbrev pub is_slot : ℕ → ℕ → Option (ℕ × ℕ) → Bool
-is_slot j x None = false
-is_slot j x (Some s) = s.0 == j && s.1 == x
-
--- the node of member x of item j has the colour v now
-abbrev pub with_color : (Node → ℕ) → ℕ → ℕ → ℕ → Node → ℕ
-with_color col j x v n = if is_slot j x (slot_of n) then v else col n

@@ -1,8 +1,9 @@
--- The node table as contracts see it: column by column, however its cells lie in memory.
+-- No public clause cites this module. The node table as contracts see it: column by column, however its cells lie in memory.
 use Rattle.std.specs.Prelude.{ℕ, List, map}
 use Rattle.xc_dance.specs.declared.links.cells.Cell.{Cell}
 use Rattle.xc_dance.specs.declared.links.cells.Link.{Link}
 
+-- the four columns of the node table, a number for each place
 pub record Columns : Type 0 where
   -- TOP of a use's node and of a spacer, LEN of an item's own
   pub top : List ℕ

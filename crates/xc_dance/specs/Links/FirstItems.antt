@@ -1,4 +1,4 @@
--- The item table before any move, as it is filled.
+-- No public clause cites this module. The item table before any move, as it is filled.
 use Rattle.std.specs.Prelude.{ℕ, ◌+◌, [], map}
 use Rattle.std.specs.List.{range_with_len}
 use Rattle.xc_dance.specs.declared.links.items.Items.{Items}

@@ -1,9 +1,9 @@
--- The node table before any move, filled in two turns: first every node by itself, with empty lists, and then node by node into the lists.
+-- No public clause cites this module. The node table before any move, filled in two turns: first every node by itself, with empty lists, and then node by node into the lists.
 use Rattle.std.specs.Prelude.{ℕ, zero, suc, ◌+◌, List, [], ◌∷◌, slice_index, slice_set}
 use Rattle.xc_dance.specs.declared.links.nodes.Nodes.{Nodes}
 use Rattle.xc_dance.specs.declared.links.nodes.Row.{Row}
 use Rattle.xc_input.specs.Problem.{Puzzle}
-use Rattle.xc_dance.specs.Fields.{Node, layout}
+use Rattle.xc_dance.specs.Fields.{layout}
 use Rattle.xc_dance.specs.Links.Lines.{Line}
 use Rattle.xc_dance.specs.Links.Cells.{top_in, ulink_in, dlink_in, color_in}
 
@@ -17,12 +17,9 @@ filled f (n ∷ ns) (suc k) = f n ∷ filled f ns k
 abbrev pub blank : Line
 blank = record { len = 0; up = λ x. 0; down = λ x. 0 }
 
+-- every line is blank
 abbrev pub blanks : ℕ → Line
 blanks j = blank
-
--- what stands in a node's cells where all lists are empty
-abbrev pub row_of : Puzzle → Node → Row
-row_of p n = record { top = top_in blanks n; ulink = ulink_in p blanks n; dlink = dlink_in p blanks n; color = color_in p [] n }
 
 -- the table with its first k nodes laid
 abbrev pub laid_to : Puzzle → ℕ → Nodes

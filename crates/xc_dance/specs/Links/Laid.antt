@@ -1,4 +1,4 @@
--- What the walks need of the places of the node table.
+-- No public clause cites this module. What the walks need of the places of the node table.
 use Rattle.std.specs.Prelude.{ℕ, ◌<◌, ◌≤◌, ◌^◌, ◌≡◌, ◌⊎◌, true, false, List, [], ◌∷◌, length, Some, is_some, slice_get}
 use Rattle.xc_input.specs.Problem.{Puzzle, item_count, colour_in, uses_of}
 use Rattle.std.specs.List.{AllByRecursion}
@@ -10,11 +10,13 @@ use Rattle.xc_dance.specs.Links.Cells.{slot_of}
 abbrev pub IsName : Puzzle → ℕ → ℕ → Type 0
 IsName p j x = (x ≡ 0) ⊎ ((0 < x) × (is_some (colour_in (uses_of p x) j) ≡ true))
 
+-- member x of item j's list has a node in the table
 pub record Placed (p : Puzzle) (j x : ℕ) : Type 0 where
   pub node : Node
   pub at : slice_get (layout p) (link_place p j x) ≡ Some node
   pub slot : slot_of node ≡ Some (j, x)
 
+-- each slot stands where its links say, and nothing else stands there
 pub record IsLaid (p : Puzzle) : Type 0 where
   -- a slot stands at one place
   pub unique : (k : ℕ) (n : Node) (j x : ℕ) → slice_get (layout p) k ≡ Some n → slot_of n ≡ Some (j, x) → link_place p j x ≡ k
@@ -30,6 +32,7 @@ pub record IsLaid (p : Puzzle) : Type 0 where
   -- items' numbers are below those of spacers
   pub small : item_count p < 2 ^ 31
 
+-- no two of the uses are of one item
 abbrev pub AreDistinct : List Use → Type 0
 AreDistinct [] = Unit {0}
 AreDistinct (u ∷ us) = (is_some (colour_in us u.item) ≡ false) × AreDistinct us

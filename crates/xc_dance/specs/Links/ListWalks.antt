@@ -1,8 +1,9 @@
--- A walk over a list, which may keep the nodes of one colour.
-use Rattle.std.specs.Prelude.{Bool, false, Option, Some, None, ℕ, ◌+◌, ◌<◌, ◌≡◌, ◌==◌, List, [], ◌∷◌, length, slice_index, slice_set, if◌then◌else◌, ◌^◌, reverse}
+-- No public clause cites this module. A walk over a list, which may keep the nodes of one colour.
+use Rattle.std.specs.Prelude.{Bool, false, Option, Some, None, ℕ, ◌<◌, ◌≡◌, ◌==◌, List, length, slice_index, slice_set, if◌then◌else◌, ◌^◌, reverse}
 use Rattle.xc_dance.specs.declared.links.nodes.Nodes.{Nodes}
 use Rattle.xc_dance.specs.Links.Span.{Span}
 use Rattle.xc_dance.specs.Links.Steps.{HasSize, hide_costs, CanHideNode, CanShowNode, show_costs, others_of, hidden_node, list_of, shown_node, list_back}
+use Rattle.xc_dance.specs.Links.Walks.{costs, CanFollow}
 
 -- node q has this colour now
 abbrev pub with_colour : Nodes → ℕ → ℕ → Nodes
@@ -18,6 +19,7 @@ abbrev pub is_kept_mark : Option ℕ → ℕ → Bool
 is_kept_mark None v = false
 is_kept_mark (Some c) v = v == 4294967295
 
+-- the colour that a marked node gets back
 abbrev pub kept_colour : Option ℕ → ℕ
 kept_colour None = 0
 kept_colour (Some c) = c
@@ -26,6 +28,7 @@ kept_colour (Some c) = c
 abbrev pub left_node : List Span → Option ℕ → Nodes → ℕ → Nodes
 left_node spans keep t p = if is_kept_colour keep (slice_index t.color p) then with_colour t p 4294967295 else hidden_node spans t p
 
+-- what one step down writes
 abbrev pub leave_cost : List Span → Option ℕ → Nodes → ℕ → ℕ
 leave_cost spans keep t p = if is_kept_colour keep (slice_index t.color p) then 1 else hide_costs t (others_of spans p)
 
@@ -33,6 +36,7 @@ leave_cost spans keep t p = if is_kept_colour keep (slice_index t.color p) then 
 abbrev pub back_node : List Span → Option ℕ → Nodes → ℕ → Nodes
 back_node spans keep t p = if is_kept_mark keep (slice_index t.color p) then with_colour t p (kept_colour keep) else shown_node spans t p
 
+-- what one step up writes
 abbrev pub back_cost : List Span → Option ℕ → Nodes → ℕ → ℕ
 back_cost spans keep t p = if is_kept_mark keep (slice_index t.color p) then 1 else show_costs t (reverse (others_of spans p))
 
@@ -50,27 +54,19 @@ pub record CanReturn (spans : List Span) (keep : Option ℕ) (t : Nodes) (p : �
 
 -- steps down can be made at the nodes ps one after another, and each is where the one before leads to
 abbrev pub IsWalk : List Span → Option ℕ → Nodes → ℕ → List ℕ → Type 0
-IsWalk spans keep t p [] = Unit {0}
-IsWalk spans keep t p (x ∷ xs) =
-    (p ≡ x) × CanLeave spans keep t x × (x < length (left_node spans keep t x).dlink)
-    × IsWalk spans keep (left_node spans keep t x) (slice_index (left_node spans keep t x).dlink x) xs
+IsWalk spans keep = CanFollow (left_node spans keep) (CanLeave spans keep) (λ (t : Nodes). t.dlink)
 
 -- what that writes
 abbrev pub walk_costs : List Span → Option ℕ → Nodes → List ℕ → ℕ
-walk_costs spans keep t [] = 0
-walk_costs spans keep t (x ∷ xs) = leave_cost spans keep t x + walk_costs spans keep (left_node spans keep t x) xs
+walk_costs spans keep = costs (left_node spans keep) (leave_cost spans keep)
 
 -- steps up can be made at the nodes ps one after another, and each is where the one before leads to
 abbrev pub IsWalkBack : List Span → Option ℕ → Nodes → ℕ → List ℕ → Type 0
-IsWalkBack spans keep t p [] = Unit {0}
-IsWalkBack spans keep t p (x ∷ xs) =
-    (p ≡ x) × CanReturn spans keep t x × (x < length (back_node spans keep t x).ulink)
-    × IsWalkBack spans keep (back_node spans keep t x) (slice_index (back_node spans keep t x).ulink x) xs
+IsWalkBack spans keep = CanFollow (back_node spans keep) (CanReturn spans keep) (λ (t : Nodes). t.ulink)
 
 -- what that writes
 abbrev pub back_costs : List Span → Option ℕ → Nodes → List ℕ → ℕ
-back_costs spans keep t [] = 0
-back_costs spans keep t (x ∷ xs) = back_cost spans keep t x + back_costs spans keep (back_node spans keep t x) xs
+back_costs spans keep = costs (back_node spans keep) (back_cost spans keep)
 
 -- a walk down item i's list may be made
 pub record CanHideList (spans : List Span) (keep : Option ℕ) (t : Nodes) (i : ℕ) : Type 0 where

@@ -1,4 +1,4 @@
--- What one move does to the tables, when it can be made, and what it writes.
+-- No public clause cites this module. What one move does to the tables, when it can be made, and what it writes.
 use Rattle.std.specs.Prelude.{None, Some, ℕ, ◌+◌, ◌-◌, ◌<◌, ◌^◌, List, length, slice_index, fold, All}
 use Rattle.xc_dance.specs.declared.dance.Move.{Move}
 use Rattle.xc_dance.specs.declared.dance.Move.TheVariants.{Cover, Purify, Tweak, Spend}
@@ -57,12 +57,14 @@ pub record AreNear (spans : List Span) : Type 0 where
 abbrev pub CanTell : Items → ℕ → Type 0
 CanTell s i = (i < length s.llink) × (slice_index s.llink i < length s.rlink)
 
+-- the move may be made on these tables
 abbrev pub CanMake : List Span → Nodes → Items → Move → Type 0
 CanMake spans t s (Cover i) = CanHideList spans None t i × CanTurn s i
 CanMake spans t s (Purify i c) = CanPurify spans c t i
 CanMake spans t s (Tweak i) = CanTell s i × CanTweak spans (is_off s i) t i
 CanMake spans t s (Spend i) = (i < length s.bound) × (0 < slice_index s.bound i)
 
+-- it may be undone on these tables, x being the node that it took off
 abbrev pub CanUnmake : List Span → Nodes → Items → Move → ℕ → Type 0
 CanUnmake spans t s (Cover i) x = CanShowList spans None t i × CanTurn s i
 CanUnmake spans t s (Purify i c) x = CanUnpurify spans c t i

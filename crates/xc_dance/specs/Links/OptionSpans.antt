@@ -1,4 +1,4 @@
--- Where the option of each node stands in the node table.
+-- No public clause cites this module. Where the option of each node stands in the node table.
 use Rattle.std.specs.Prelude.{◌+◌, ◌-◌, List, map}
 use Rattle.xc_dance.specs.Links.Span.{Span}
 use Rattle.xc_input.specs.Problem.{Puzzle}
@@ -15,5 +15,6 @@ span_of p (own i) = no_span
 span_of p (spacer n) = no_span
 span_of p (used o u) = record { first = spacer_place p (o - 1) + 1; end = spacer_place p o }
 
+-- for each place the span of its node's option
 abbrev pub spans_of : Puzzle → List Span
 spans_of p = map (span_of p) (layout p)

@@ -1,5 +1,5 @@
--- The other items of an option, cyclically from behind one of them, and the spans in which their nodes stand.
-use Rattle.std.specs.Prelude.{ℕ, ◌+◌, ◌-◌, ◌<◌, ◌≤◌, ◌≡◌, ◌==◌, true, Some, List, [], ◌∷◌, ◌++◌, length, map, is_some, slice_get, if◌then◌else◌}
+-- No public clause cites this module. The other items of an option, cyclically from behind one of them, and the spans in which their nodes stand.
+use Rattle.std.specs.Prelude.{ℕ, ◌+◌, ◌-◌, ◌<◌, ◌≤◌, ◌≡◌, ◌==◌, true, Some, List, [], ◌∷◌, length, map, is_some, slice_get, if◌then◌else◌}
 use Rattle.xc_input.specs.declared.problem.Use.{Use}
 use Rattle.xc_dance.specs.Links.Span.{Span}
 use Rattle.xc_input.specs.Problem.{Puzzle, colour_in, uses_of}
@@ -7,16 +7,15 @@ use Rattle.xc_dance.specs.Fields.{spacer, layout, link_place}
 use Rattle.xc_dance.specs.Links.Cells.{fixed_up, fixed_down}
 use Rattle.xc_dance.specs.Links.Steps.{places, span_at}
 
+-- the items of the uses before that of item i
 abbrev pub before_use : ℕ → List Use → List ℕ
 before_use i [] = []
 before_use i (u ∷ us) = if u.item == i then [] else u.item ∷ before_use i us
 
+-- the items of the uses behind it
 abbrev pub behind_use : ℕ → List Use → List ℕ
 behind_use i [] = []
 behind_use i (u ∷ us) = if u.item == i then map (λ v. v.item) us else behind_use i us
-
-abbrev pub other_items : Puzzle → ℕ → ℕ → List ℕ
-other_items p o i = behind_use i (uses_of p o) ++ before_use i (uses_of p o)
 
 -- option o stands in this span, between two spacers that lead to its ends, with the nodes of its other items round that of item i
 pub record IsSpanOf (p : Puzzle) (o i : ℕ) (s : Span) : Type 0 where

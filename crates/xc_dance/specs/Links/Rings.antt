@@ -1,4 +1,4 @@
--- One step on the rings of items.
+-- No public clause cites this module. One step on the rings of items.
 use Rattle.std.specs.Prelude.{Bool, not, ◌==◌, ℕ, slice_index, slice_set}
 use Rattle.xc_dance.specs.declared.links.items.Items.{Items}
 

@@ -1,9 +1,10 @@
--- One step of a walk over the node table, and the walk round one option.
+-- No public clause cites this module. One step of a walk over the node table, and the walk round one option.
 use Rattle.std.specs.Prelude.{ℕ, ◌+◌, ◌-◌, ◌<◌, ◌≤◌, ◌≡◌, ◌≢◌, ◌==◌, List, [], ◌∷◌, ◌++◌, length, slice_index, slice_set, if◌then◌else◌, fold, ◌^◌, reverse}
 use Rattle.std.proofs.Common.{zero, suc, get_or}
 use Rattle.std.specs.List.{range_with_len}
 use Rattle.xc_dance.specs.declared.links.nodes.Nodes.{Nodes}
 use Rattle.xc_dance.specs.Links.Span.{Span}
+use Rattle.xc_dance.specs.Links.Walks.{costs, CanAll}
 
 -- all columns have n cells
 pub record HasSize (t : Nodes) (n : ℕ) : Type 0 where
@@ -41,8 +42,7 @@ hide_cost t q = if slice_index t.color q == 4294967295 then 0 else 3
 
 -- what a walk of hide writes
 abbrev pub hide_costs : Nodes → List ℕ → ℕ
-hide_costs t [] = 0
-hide_costs t (q ∷ qs) = hide_cost t q + hide_costs (hidden t q) qs
+hide_costs = costs hidden hide_cost
 
 -- a step of hide may be made at q, which is no spacer
 pub record CanHide (t : Nodes) (q : ℕ) : Type 0 where
@@ -54,8 +54,7 @@ pub record CanHide (t : Nodes) (q : ℕ) : Type 0 where
 
 -- a walk of hide may be made, each step at what the one before left
 abbrev pub CanHideAll : Nodes → List ℕ → Type 0
-CanHideAll t [] = Unit {0}
-CanHideAll t (q ∷ qs) = CanHide t q × CanHideAll (hidden t q) qs
+CanHideAll = CanAll hidden CanHide
 
 -- the places from a to below b
 abbrev pub places : ℕ → ℕ → List ℕ
@@ -69,14 +68,6 @@ others p first end = places (p + 1) end ++ places first p
 abbrev pub shown : Nodes → ℕ → Nodes
 shown t q = if slice_index t.color q == 4294967295 then t else relinked t q
 
--- node q stands in its list: its neighbours name it, and its list counts it
-pub record IsLinked (t : Nodes) (q : ℕ) : Type 0 where
-  pub above : slice_index t.dlink (slice_index t.ulink q) ≡ q
-  pub below : slice_index t.ulink (slice_index t.dlink q) ≡ q
-  pub top : slice_index t.top q < length t.top
-  pub other : slice_index t.top q ≢ q
-  pub some : 0 < slice_index t.top (slice_index t.top q)
-
 -- a step of unhide may be made at q, which is no spacer
 pub record CanShow (t : Nodes) (q : ℕ) : Type 0 where
   pub size : HasSize t (length t.top)
@@ -87,13 +78,11 @@ pub record CanShow (t : Nodes) (q : ℕ) : Type 0 where
 
 -- a walk of unhide may be made, each step at what the one before left
 abbrev pub CanShowAll : Nodes → List ℕ → Type 0
-CanShowAll t [] = Unit {0}
-CanShowAll t (q ∷ qs) = CanShow t q × CanShowAll (shown t q) qs
+CanShowAll = CanAll shown CanShow
 
 -- what a walk of unhide writes
 abbrev pub show_costs : Nodes → List ℕ → ℕ
-show_costs t [] = 0
-show_costs t (q ∷ qs) = hide_cost t q + show_costs (shown t q) qs
+show_costs = costs shown hide_cost
 
 -- where the option of node p stands
 abbrev pub span_at : List Span → ℕ → Span

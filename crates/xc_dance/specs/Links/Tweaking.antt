@@ -1,4 +1,4 @@
--- Tweak on the node table.
+-- No public clause cites this module. Tweak on the node table.
 use Rattle.std.specs.Prelude.{Bool, false, ℕ, ◌+◌, ◌<◌, ◌≡◌, List, length, slice_index, if◌then◌else◌, ◌^◌, reverse}
 use Rattle.xc_dance.specs.declared.links.nodes.Nodes.{Nodes}
 use Rattle.xc_dance.specs.Links.Span.{Span}
@@ -8,6 +8,7 @@ use Rattle.xc_dance.specs.Links.Steps.{HasSize, NamesPlaces, unlinked, relinked,
 abbrev pub hidden_unless : List Span → Bool → Nodes → ℕ → Nodes
 hidden_unless spans covered t x = if covered then t else hidden_node spans t x
 
+-- where item i isn't covered, the option of node x is unhidden
 abbrev pub shown_unless : List Span → Bool → Nodes → ℕ → Nodes
 shown_unless spans covered t x = if covered then t else shown_node spans t x
 
@@ -19,9 +20,11 @@ tweaked spans covered t i = unlinked (hidden_unless spans covered t (slice_index
 abbrev pub untweaked : List Span → Bool → Nodes → ℕ → Nodes
 untweaked spans covered t x = shown_unless spans covered (relinked t x) x
 
+-- what that writes
 abbrev pub tweak_cost : List Span → Bool → Nodes → ℕ → ℕ
 tweak_cost spans covered t i = 3 + (if covered then 0 else hide_costs t (others_of spans (slice_index t.dlink i)))
 
+-- what its coming back writes
 abbrev pub untweak_cost : List Span → Bool → Nodes → ℕ → ℕ
 untweak_cost spans covered t x = 3 + (if covered then 0 else show_costs (relinked t x) (reverse (others_of spans x)))
 
@@ -33,9 +36,11 @@ pub record CanTweakAt (spans : List Span) (covered : Bool) (t : Nodes) (i x : �
   pub names : NamesPlaces (hidden_unless spans covered t x) x
   pub some : 0 < slice_index (hidden_unless spans covered t x).top (slice_index (hidden_unless spans covered t x).top x)
 
+-- the first node of item i's list may leave it
 abbrev pub CanTweak : List Span → Bool → Nodes → ℕ → Type 0
 CanTweak spans covered t i = CanTweakAt spans covered t i (slice_index t.dlink i)
 
+-- node x may come back
 pub record CanUntweak (spans : List Span) (covered : Bool) (t : Nodes) (x : ℕ) : Type 0 where
   pub size : HasSize t (length t.top)
   pub names : NamesPlaces t x

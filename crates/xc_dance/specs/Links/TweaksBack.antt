@@ -1,16 +1,20 @@
--- Many Tweaks undone at once, downwards.
-use Rattle.std.specs.Prelude.{Bool, false, ℕ, ◌+◌, ◌<◌, ◌≡◌, List, [], ◌∷◌, length, slice_index, slice_set, if◌then◌else◌, fold, ◌^◌, reverse}
+-- No public clause cites this module. Many Tweaks undone at once, downwards.
+use Rattle.std.specs.Prelude.{Bool, false, ℕ, ◌+◌, ◌<◌, ◌≡◌, List, length, slice_index, slice_set, if◌then◌else◌, fold, ◌^◌, reverse}
 use Rattle.xc_dance.specs.declared.links.nodes.Nodes.{Nodes}
 use Rattle.xc_dance.specs.Links.Span.{Span}
 use Rattle.xc_dance.specs.Links.Steps.{CanShowNode, show_costs, others_of, followed}
 use Rattle.xc_dance.specs.Links.Tweaking.{shown_unless}
+use Rattle.xc_dance.specs.Links.Walks.{costs, CanFollow}
 
+-- node q has this ULINK now
 abbrev pub with_ulink : Nodes → ℕ → ℕ → Nodes
 with_ulink t q v = record { top = t.top; ulink = slice_set t.ulink q v; dlink = t.dlink; color = t.color }
 
+-- node q has this DLINK now
 abbrev pub with_dlink : Nodes → ℕ → ℕ → Nodes
 with_dlink t q v = record { top = t.top; ulink = t.ulink; dlink = slice_set t.dlink q v; color = t.color }
 
+-- node q has this TOP now
 abbrev pub with_top : Nodes → ℕ → ℕ → Nodes
 with_top t q v = record { top = slice_set t.top q v; ulink = t.ulink; dlink = t.dlink; color = t.color }
 
@@ -18,9 +22,11 @@ with_top t q v = record { top = slice_set t.top q v; ulink = t.ulink; dlink = t.
 abbrev pub climbed : List Span → Bool → Nodes → ℕ → Nodes
 climbed spans covered t p = with_ulink (shown_unless spans covered t p) (slice_index (shown_unless spans covered t p).dlink p) p
 
+-- what that writes
 abbrev pub climb_cost : List Span → Bool → Nodes → ℕ → ℕ
 climb_cost spans covered t p = 1 + (if covered then 0 else show_costs t (reverse (others_of spans p)))
 
+-- such a step may be made at p
 pub record CanClimb (spans : List Span) (covered : Bool) (t : Nodes) (p : ℕ) : Type 0 where
   pub show : covered ≡ false → (p < length spans) × CanShowNode spans t p
   pub place : p < length (shown_unless spans covered t p).dlink
@@ -28,15 +34,11 @@ pub record CanClimb (spans : List Span) (covered : Bool) (t : Nodes) (p : ℕ) :
 
 -- steps can be made at the nodes ps one after another, and each is where the one before leads to
 abbrev pub IsClimb : List Span → Bool → Nodes → ℕ → List ℕ → Type 0
-IsClimb spans covered t p [] = Unit {0}
-IsClimb spans covered t p (x ∷ xs) =
-    (p ≡ x) × CanClimb spans covered t x × (x < length (climbed spans covered t x).dlink)
-    × IsClimb spans covered (climbed spans covered t x) (slice_index (climbed spans covered t x).dlink x) xs
+IsClimb spans covered = CanFollow (climbed spans covered) (CanClimb spans covered) (λ (t : Nodes). t.dlink)
 
 -- what that writes
 abbrev pub climb_costs : List Span → Bool → Nodes → List ℕ → ℕ
-climb_costs spans covered t [] = 0
-climb_costs spans covered t (x ∷ xs) = climb_cost spans covered t x + climb_costs spans covered (climbed spans covered t x) xs
+climb_costs spans covered = costs (climbed spans covered) (climb_cost spans covered)
 
 -- the k nodes from x downwards are the first of item i's list again
 abbrev pub untweaked_all : List Span → Bool → Nodes → ℕ → ℕ → ℕ → Nodes
@@ -44,9 +46,11 @@ untweaked_all spans covered t i x k =
     let u = fold (climbed spans covered) (with_dlink t i x) (followed (with_dlink t i x).dlink k x) in
     with_top u i (slice_index u.top i + k)
 
+-- what that writes
 abbrev pub untweak_all_cost : List Span → Bool → Nodes → ℕ → ℕ → ℕ → ℕ
 untweak_all_cost spans covered t i x k = climb_costs spans covered (with_dlink t i x) (followed (with_dlink t i x).dlink k x) + 2
 
+-- that may be done
 pub record CanUntweakAll (spans : List Span) (covered : Bool) (t : Nodes) (i x k : ℕ) : Type 0 where
   pub place : i < length t.dlink
   pub climb : IsClimb spans covered (with_dlink t i x) x (followed (with_dlink t i x).dlink k x)

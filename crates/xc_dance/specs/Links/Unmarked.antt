@@ -1,4 +1,4 @@
--- Where no node of an option is marked.
+-- No public clause cites this module. Where no node of an option is marked.
 use Rattle.std.specs.Prelude.{ℕ, ◌+◌, ◌<◌, ◌≤◌, ◌≡◌, ◌≢◌, List, length, slice_index}
 use Rattle.std.specs.List.{AllByRecursion}
 use Rattle.xc_input.specs.Problem.{Puzzle, uses_of}

@@ -1,4 +1,4 @@
--- Lists of option numbers, one for each item, from item 1 on, that lose options.
+-- No public clause cites this module. Lists of option numbers, one for each item, from item 1 on, that lose options.
 use Rattle.std.specs.Prelude.{ℕ, ◌+◌, ◌≡◌, Bool, false, not, ◌&&◌, ◌==◌, List, [], ◌∷◌, ◌++◌, map, Option, Some, None, if◌then◌else◌, All, length, IsTrue, ⊤}
 use Rattle.std.specs.List.{list_any, range_with_len}
 use Rattle.xc_input.specs.declared.problem.Use.{Use}
@@ -48,6 +48,7 @@ abbrev pub AreListsFrom : Puzzle → ℕ → List (List ℕ) → Type 0
 AreListsFrom p i [] = ⊤
 AreListsFrom p i (l ∷ ls) = IsListOf p i l × AreListsFrom p (i + 1) ls
 
+-- these are lists of the items in order, one for each
 abbrev pub AreLists : Puzzle → List (List ℕ) → Type 0
 AreLists p ls = (length ls ≡ item_count p) × AreListsFrom p 1 ls
 

@@ -1,14 +1,14 @@
--- What stands of an item after moves.
+-- No public clause cites this module. What stands of an item after moves.
 use Rattle.std.specs.Prelude.{ℕ, ◌+◌, ◌<◌, ◌≡◌, ◌==◌, List, [], ◌∷◌, length, slice_index_or, if◌then◌else◌}
 use Rattle.xc_input.specs.Problem.{Puzzle, item_count, primary_count, high_at}
 use Rattle.xc_dance.specs.declared.dance.Move.{Move}
 use Rattle.xc_dance.specs.declared.dance.Move.TheVariants.{Cover, Purify, Tweak, Spend}
-use Rattle.xc_dance.specs.declared.lists.standing.State.{State}
-use Rattle.xc_dance.specs.declared.lists.standing.State.TheVariants.{Open, Covered, Purified}
+use Rattle.xc_dance.specs.declared.lists.item_states.ItemState.{ItemState}
+use Rattle.xc_dance.specs.declared.lists.item_states.ItemState.TheVariants.{Open, Covered, Purified}
 use Rattle.xc_dance.specs.Moves.{spends}
 
 -- by the newest Cover or Purify of the item that stands
-abbrev pub state_of : ℕ → List Move → State
+abbrev pub state_of : ℕ → List Move → ItemState
 state_of i [] = Open
 state_of i (Cover j ∷ t) = if i == j then Covered else state_of i t
 state_of i (Purify j c ∷ t) = if i == j then Purified else state_of i t
@@ -16,7 +16,7 @@ state_of i (Tweak j ∷ t) = state_of i t
 state_of i (Spend j ∷ t) = state_of i t
 
 -- the states of the items in order
-pub record AreStates (p : Puzzle) (t : List Move) (states : List State) : Type 0 where
+pub record AreStates (p : Puzzle) (t : List Move) (states : List ItemState) : Type 0 where
   pub count : length states ≡ item_count p
   pub each : (k : ℕ) → k < item_count p → slice_index_or states k Open ≡ state_of (k + 1) t
 

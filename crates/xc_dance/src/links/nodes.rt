@@ -1,4 +1,4 @@
-//! The node table.
+//! The node table. Names and numbers of steps are those of section 7.2.2.1 of The Art of Computer Programming, Volume 4B.
 ghost use Rattle.std.specs.Prelude.{◌≡◌, ℕ, ◌+◌, ◌-◌, ◌*◌, ◌<◌, ◌≤◌, ◌^◌, length, slice_index, slice_get, fold, All, None, Some, false, if◌then◌else◌, replicate, IfOk, IsTrue, ◌↔◌};
 
 use crate::links::cells::{
@@ -19,8 +19,9 @@ pub(crate) const MARK: u32 = 0xffff_ffff;
 /// The number that a spacer's TOP is kept behind. TOP of every other node is below it.
 pub(crate) const SPACER: u32 = 0x8000_0000;
 
-/// The nodes. Their links lie in pairs, since each step reads both; TOP and COLOR lie apart, since a
-/// walk down a list reads neither. Contracts see four columns.
+/// The nodes, of sixteen bytes each: four cells of 32 bits, so that more of them stay near the processor. Their links lie in
+/// pairs, since each step reads both; TOP and COLOR lie apart, since a walk down a list reads neither. Contracts see four
+/// columns.
 #[derive(Drop)]
 pub(crate) struct Nodes {
     top: Vec<Cell>,
@@ -232,7 +233,7 @@ impl Nodes {
         )
     }
 
-    /// Hides all nodes of item i's list.
+    /// Hides all nodes of item i's list, as cover, (12), does from top to bottom.
     #[inline(always)]
     pub(crate) fn cover(&mut self, spans: &Spans, i: u32, marks: bool, writes: &mut Writes) -> u64
         requires small { length spans.now < 2 ^ 31 }
@@ -265,7 +266,7 @@ impl Nodes {
         self.hide_list(spans, i, None, true, writes)
     }
 
-    /// Undoes `cover`, from bottom to top.
+    /// Undoes `cover`, as uncover, (14), does from bottom to top, so that each node finds its neighbours of before.
     #[inline(always)]
     pub(crate) fn uncover(&mut self, spans: &Spans, i: u32, marks: bool, writes: &mut Writes) -> u64
         requires small { length spans.now < 2 ^ 31 }
@@ -298,7 +299,8 @@ impl Nodes {
         self.unhide_list(spans, i, None, true, writes)
     }
 
-    /// Purifies item i with the colour c.
+    /// Purifies item i with the colour c, as Algorithm C does. The colour stands at the item's own node, so that it can be read
+    /// whether an item is purified.
     #[inline(never)]
     pub(crate) fn purify(&mut self, spans: &Spans, i: u32, c: u32, writes: &mut Writes) -> u64
         requires small { length spans.now < 2 ^ 31 }
@@ -312,7 +314,7 @@ impl Nodes {
         self.hide_list(spans, i, Some(c), true, writes) + 1
     }
 
-    /// Undoes `purify`.
+    /// Undoes `purify`, as unpurify does from bottom to top.
     #[inline(never)]
     pub(crate) fn unpurify(&mut self, spans: &Spans, i: u32, c: u32, writes: &mut Writes) -> u64
         requires small { length spans.now < 2 ^ 31 }
@@ -327,7 +329,8 @@ impl Nodes {
         count + 1
     }
 
-    /// Takes the first node off the list of item i, and hides its option unless i is covered.
+    /// Takes the first node off the list of item i, and hides its option unless i is covered: tweak of Algorithm M, and tweak'
+    /// where i is covered. The node keeps its links.
     #[inline(never)]
     pub(crate) fn tweak(
         &mut self,
@@ -392,7 +395,8 @@ impl Nodes {
         count + 3
     }
 
-    /// Undoes k Tweaks of item i, x being the first node that they took off.
+    /// Undoes k Tweaks of item i, x being the first node that they took off. It is untweak of Algorithm M: DLINK of each node
+    /// still leads to the next that was taken off, so one walk down brings all of them back.
     #[inline(never)]
     pub(crate) fn untweak_all(
         &mut self,

@@ -109,8 +109,8 @@ fn hide_range(
     count
 }
 
-/// Hides the other nodes of the option of node p: from behind p to the spacer, which leads to the option's first node, and from there
-/// to before p.
+/// Hides the other nodes of the option of node p, as hide, (13), does, and hide' of Algorithm C, which passes over marked nodes:
+/// from behind p to the spacer, which leads to the option's first node, and from there to before p.
 #[inline(always)]
 pub(crate) fn hide(
     top: &mut [Cell],
@@ -191,7 +191,7 @@ fn show_range(
     count
 }
 
-/// Puts back what `hide` took out, from the last back: the spacer before the option leads to its last node.
+/// Puts back what `hide` took out, as unhide, (15), does, from the last back, so that each node finds its neighbours of before: the spacer before the option leads to its last node.
 #[inline(always)]
 pub(crate) fn unhide(
     top: &mut [Cell],

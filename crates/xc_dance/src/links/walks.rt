@@ -82,7 +82,8 @@ fn come_back(
     unhide(top, links, color, spans, p, marks, writes)
 }
 
-/// Goes down the list of item i: its nodes of the colour kept are marked, the others are hidden.
+/// Goes down the list of item i: its nodes of the colour kept are marked, the others are hidden. It is the loop of cover where no
+/// colour is kept, and of purify where one is.
 #[inline(always)]
 pub(crate) fn hide_list(
     top: &mut [Cell],

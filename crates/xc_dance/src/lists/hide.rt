@@ -6,31 +6,31 @@ ghost use Rattle.xc_dance.specs.Lists.Taking.{list_at};
 ghost use Rattle.xc_dance.specs.Lists.Losing.{lose, is_kept, AreLists, lists_after};
 
 use crate::Move;
-use crate::lists::standing::Standing;
 use crate::lists::table::Table;
-use crate::lists::undo_log::Live;
+use crate::lists::trail::Trail;
+use crate::lists::undo_log::OptionLists;
 use xc_input::Use;
 
-/// Takes out of the lists what the move takes out.
-pub(crate) fn shorten(standing: &Standing, live: &mut Live, m: Move)
-    requires legal { IsLegal standing.now.problem standing.now.trail m }
-    requires lists { live.old.lists ≡ lists_after standing.now.problem standing.now.trail }
-    ensures { live.new ≡ record live.old { lists = lists_after standing.now.problem (m ∷ standing.now.trail) } }
+/// Takes out of the lists what the move takes out: its options are hidden in the lists of their other items.
+pub(crate) fn hide_for(standing: &Trail, live: &mut OptionLists, m: Move)
+    requires legal { IsLegal standing.now.puzzle standing.now.trail m }
+    requires lists { live.old.lists ≡ lists_after standing.now.puzzle standing.now.trail }
+    ensures { live.new ≡ record live.old { lists = lists_after standing.now.puzzle (m ∷ standing.now.trail) } }
 {
     match m {
-        Move::Cover(item) => hide_list(standing, live, item, None),
-        Move::Purify(item, colour) => hide_list(standing, live, item, Some(colour)),
+        Move::Cover(item) => hide_options(standing, live, item, None),
+        Move::Purify(item, colour) => hide_options(standing, live, item, Some(colour)),
         Move::Tweak(item) => tweak(standing, live, item),
         Move::Spend(_) => {}
     }
 }
 
 /// Takes off the first option of the item's list.
-fn tweak(standing: &Standing, live: &mut Live, item: u32)
-    requires item { IsItem standing.now.problem item }
-    requires lists { live.old.lists ≡ lists_after standing.now.problem standing.now.trail }
+fn tweak(standing: &Trail, live: &mut OptionLists, item: u32)
+    requires item { IsItem standing.now.puzzle item }
+    requires lists { live.old.lists ≡ lists_after standing.now.puzzle standing.now.trail }
     requires option { 0 < length (list_at live.old.lists (item - 1)) }
-    ensures { live.new ≡ record live.old { lists = lists_after standing.now.problem (Move.Tweak item ∷ standing.now.trail) } }
+    ensures { live.new ≡ record live.old { lists = lists_after standing.now.puzzle (Move.Tweak item ∷ standing.now.trail) } }
 {
     let first = live.list(item - 1)[0];
     hide_if_open(standing, live, item, first);
@@ -39,10 +39,10 @@ fn tweak(standing: &Standing, live: &mut Live, item: u32)
 
 /// Every open item but `item` loses the options of `item`'s list, but those that give it the
 /// colour kept.
-fn hide_list(standing: &Standing, live: &mut Live, item: u32, kept: Option<u32>)
-    requires item { IsItem standing.now.problem item }
-    requires lists { AreLists standing.now.problem live.old.lists }
-    ensures { live.new ≡ record live.old { lists = lose standing.now.trail item (filter (λ o. not (is_kept standing.now.problem item kept o)) (list_at live.old.lists (item - 1))) live.old.lists } }
+fn hide_options(standing: &Trail, live: &mut OptionLists, item: u32, kept: Option<u32>)
+    requires item { IsItem standing.now.puzzle item }
+    requires lists { AreLists standing.now.puzzle live.old.lists }
+    ensures { live.new ≡ record live.old { lists = lose standing.now.trail item (filter (λ o. not (is_kept standing.now.puzzle item kept o)) (list_at live.old.lists (item - 1))) live.old.lists } }
 {
     for at in 0..live.list(item - 1).len() {
         let option = live.list(item - 1)[at];
@@ -53,9 +53,9 @@ fn hide_list(standing: &Standing, live: &mut Live, item: u32, kept: Option<u32>)
 }
 
 /// Every open item but `item` loses the option.
-fn hide(standing: &Standing, live: &mut Live, item: u32, option: u32)
-    requires option { (1 ≤ option) × (option ≤ option_count standing.now.problem) }
-    requires lists { AreLists standing.now.problem live.old.lists }
+fn hide(standing: &Trail, live: &mut OptionLists, item: u32, option: u32)
+    requires option { (1 ≤ option) × (option ≤ option_count standing.now.puzzle) }
+    requires lists { AreLists standing.now.puzzle live.old.lists }
     ensures { live.new ≡ record live.old { lists = lose standing.now.trail item (option ∷ []) live.old.lists } }
 {
     for u in standing.table().uses(option) {
@@ -66,10 +66,10 @@ fn hide(standing: &Standing, live: &mut Live, item: u32, option: u32)
 }
 
 /// Every other open item loses the option, if `item` is open.
-fn hide_if_open(standing: &Standing, live: &mut Live, item: u32, option: u32)
-    requires item { IsItem standing.now.problem item }
-    requires option { (1 ≤ option) × (option ≤ option_count standing.now.problem) }
-    requires lists { AreLists standing.now.problem live.old.lists }
+fn hide_if_open(standing: &Trail, live: &mut OptionLists, item: u32, option: u32)
+    requires item { IsItem standing.now.puzzle item }
+    requires option { (1 ≤ option) × (option ≤ option_count standing.now.puzzle) }
+    requires lists { AreLists standing.now.puzzle live.old.lists }
     ensures { live.new ≡ record live.old { lists = if is_open item standing.now.trail then lose standing.now.trail item (option ∷ []) live.old.lists else live.old.lists } }
 {
     if standing.is_open(item) {
@@ -78,8 +78,8 @@ fn hide_if_open(standing: &Standing, live: &mut Live, item: u32, option: u32)
 }
 
 /// Whether the item loses the options that are hidden from `hider` on.
-fn loses(standing: &Standing, item: u32, hider: u32) -> bool
-    requires { IsItem standing.now.problem item }
+fn loses(standing: &Trail, item: u32, hider: u32) -> bool
+    requires { IsItem standing.now.puzzle item }
     ensures { result ≡ (not (item == hider) && is_open item standing.now.trail) }
 {
     item != hider && standing.is_open(item)

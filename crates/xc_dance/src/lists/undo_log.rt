@@ -8,7 +8,7 @@ use std::marker::Model;
 
 /// A number that was taken out of a list, and the place where it stood.
 #[derive(Clone, Copy)]
-struct Taken {
+struct Removed {
     place: usize,
     list: u32,
     number: u32,
@@ -17,16 +17,16 @@ struct Taken {
 /// Lists of option numbers, which are told by their places from 0 on. They lose numbers, and can
 /// go back to how they were at each mark.
 #[derive(Drop)]
-pub(crate) struct Live {
+pub(crate) struct OptionLists {
     lists: Vec<Vec<u32>>,
     /// What was taken out, the newest last.
-    taken: Vec<Taken>,
-    /// How much was taken out at each mark.
-    marks: Vec<usize>,
+    taken: Vec<Removed>,
+    /// How much was taken out when each mark was made.
+    starts: Vec<usize>,
     room: usize,
 }
 
-impl Model for Live {
+impl Model for OptionLists {
     ghost use Rattle.std.specs.Prelude.{◌≤◌, ◌+◌, length, reverse, sum_by, vec_capacity};
     ghost use Rattle.xc_dance.specs.Lists.Versions.{Versions};
     ghost use Rattle.xc_dance.specs.Lists.Taking.{lists_at_marks, Fits, AreMarks, numbers_of, rooms_of};
@@ -35,31 +35,35 @@ impl Model for Live {
 
     ghost view = { λ a. record {
       lists = numbers_of a.lists.items;
-      marked = lists_at_marks (reverse a.marks.items) (reverse a.taken.items) (numbers_of a.lists.items);
+      marked = lists_at_marks (reverse a.starts.items) (reverse a.taken.items) (numbers_of a.lists.items);
       room = a.room;
     } };
 
     ghost invariant = { λ a. record {
       fits : Fits (rooms_of a.lists.items) (reverse a.taken.items) (numbers_of a.lists.items);
-      marks : AreMarks (reverse a.marks.items) (length a.taken.items);
-      few : length a.marks.items ≤ a.room;
-      room_to_mark : a.room ≤ vec_capacity a.marks;
+      starts : AreMarks (reverse a.starts.items) (length a.taken.items);
+      few : length a.starts.items ≤ a.room;
+      room_to_mark : a.room ≤ vec_capacity a.starts;
       room_to_take : length a.taken.items + sum_by length (numbers_of a.lists.items) ≤ vec_capacity a.taken;
     } };
 }
 
-impl Live {
+impl OptionLists {
     /// These lists, with no mark and room for `room` marks. No later call takes memory.
-    pub(crate) fn new(alloc: Global, lists: Vec<Vec<u32>>, room: usize) -> Result<Live, AllocError>
+    pub(crate) fn new(
+        alloc: Global,
+        lists: Vec<Vec<u32>>,
+        room: usize,
+    ) -> Result<OptionLists, AllocError>
         ensures { IfOk result (λ v. v ≡ record { lists = numbers_of lists.items; marked = []; room = room }) }
     {
         let numbers = total(&lists).ok_or(AllocError)?;
         let taken = Vec::with_capacity(alloc, numbers)?;
-        let marks = Vec::with_capacity(alloc, room)?;
-        Ok(Live {
+        let starts = Vec::with_capacity(alloc, room)?;
+        Ok(OptionLists {
             lists,
             taken,
-            marks,
+            starts,
             room,
         })
     }
@@ -76,7 +80,7 @@ impl Live {
         requires { length self.old.marked < self.old.room }
         ensures { self.new ≡ record self.old { marked = self.old.lists ∷ self.old.marked } }
     {
-        self.marks.push_reserved(self.taken.len());
+        self.starts.push_reserved(self.taken.len());
     }
 
     /// Takes the number out of the list, if it is there.
@@ -86,7 +90,7 @@ impl Live {
         ensures { self.new ≡ record self.old { lists = slice_set self.old.lists list (less (number ∷ []) (list_at self.old.lists list)) } }
     {
         if let Some(place) = remove(&mut self.lists, list, number) {
-            self.taken.push_reserved(Taken {
+            self.taken.push_reserved(Removed {
                 place,
                 list,
                 number,
@@ -100,7 +104,7 @@ impl Live {
         ensures lists { self.old.marked ≡ self.new.lists ∷ self.new.marked }
         ensures room { self.new.room ≡ self.old.room }
     {
-        if let Some(mark) = self.marks.pop() {
+        if let Some(mark) = self.starts.pop() {
             restore(&mut self.lists, &mut self.taken, mark);
         }
     }
@@ -144,7 +148,7 @@ fn place_of(numbers: &[u32], number: u32) -> Option<usize>
 }
 
 /// Puts the number back into its list.
-fn insert(lists: &mut Vec<Vec<u32>>, entry: Taken)
+fn insert(lists: &mut Vec<Vec<u32>>, entry: Removed)
     requires { HasRoom (rooms_of lists.old.items) entry (numbers_of lists.old.items) }
     ensures lists { numbers_of lists.new.items ≡ put_back entry (numbers_of lists.old.items) }
     ensures rooms { rooms_of lists.new.items ≡ rooms_of lists.old.items }
@@ -154,7 +158,7 @@ fn insert(lists: &mut Vec<Vec<u32>>, entry: Taken)
 }
 
 /// Puts back all but the oldest `mark` numbers, the newest first.
-fn restore(lists: &mut Vec<Vec<u32>>, taken: &mut Vec<Taken>, mark: usize)
+fn restore(lists: &mut Vec<Vec<u32>>, taken: &mut Vec<Removed>, mark: usize)
     requires { Fits (rooms_of lists.old.items) (reverse taken.old.items) (numbers_of lists.old.items) }
     ensures lists { numbers_of lists.new.items ≡ restored mark (reverse taken.old.items) (numbers_of lists.old.items) }
     ensures taken { reverse taken.new.items ≡ still_taken mark (reverse taken.old.items) }

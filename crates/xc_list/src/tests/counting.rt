@@ -18,11 +18,9 @@ struct Counting {
 }
 
 impl Dance for Counting {
-    ghost problem = { λ s. s.links.problem };
+    ghost use Rattle.xc_dance.specs.Linked.{dancing_of};
 
-    ghost trail = { λ s. s.links.trail };
-
-    ghost limit = { λ s. s.links.limit };
+    ghost state = { λ s. dancing_of s.links };
 
     fn can(&self, m: &Move) -> bool {
         self.links.can(m)

@@ -30,13 +30,12 @@ impl Unflushed {
 }
 
 impl Sink for Unflushed {
-    ghost failures = { λ s. s.failures };
-
-    ghost failed = { λ s. s.failed };
-
-    ghost taken = { λ _. None };
-
-    ghost settled = { λ _. false };
+    ghost state = { λ s. record {
+      failures = s.failures;
+      failed = s.failed;
+      taken = None;
+      settled = false;
+    } };
 
     fn write(&mut self, bytes: &[u8]) -> Result<usize, WriteFailed> {
         self.failed = self.bytes.extend_from_slice(bytes).is_err();

@@ -5,4 +5,4 @@ use Rattle.xc_dance.proofs.tests.is_list.Given as goal
 
 abbrev pub invariant-loop-o : goal.invariant-loop-o
 invariant-loop-o g l =
-    (x : ℕ) → l.at ≡ Some x → Contains (listed_numbers (g.D.Dance.problem l.dance) (g.D.Dance.trail l.dance) l.i) x
+    (x : ℕ) → l.at ≡ Some x → Contains (listed_numbers (g.D.Dance.state l.dance).puzzle (g.D.Dance.state l.dance).trail l.i) x

@@ -1,5 +1,5 @@
 use Rattle.std.proofs.Common.{refl}
-use Rattle.xc_input.specs.declared.Kind.TheVariants.{Plain, Colours, Bounds}
+use Rattle.xc_input.specs.declared.kind.Kind.TheVariants.{Plain, Colours, Bounds}
 use Rattle.xc_input.proofs.KindLemmas.{stands-also}
 use Rattle.xc_input.proofs.law.kinds_that_allow_more.Goals as goal
 

@@ -3,5 +3,5 @@ use Rattle.xc_input.proofs.MarkLemmas.{AreAmong}
 use Rattle.xc_input.proofs.option_line.clear.Given as goal
 
 -- only items of the uses that are left are marked
-abbrev pub invariant-loop-part : goal.invariant-loop-part
-invariant-loop-part l = (length l.marks ≡ length l.fn.marks) × AreAmong l.marks (drop l.part-index l.parts)
+abbrev pub invariant-loop-u : goal.invariant-loop-u
+invariant-loop-u l = (length l.marks ≡ length l.fn.marks) × AreAmong l.marks (drop l.u-index l.written)

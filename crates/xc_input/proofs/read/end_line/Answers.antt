@@ -1,14 +1,15 @@
 use Rattle.std.proofs.Common.{◌≡◌, ◌++◌, [], length, arith, sym, ap, ◌∙◌}
 use Rattle.std.proofs.lemmas.Bool.Decides.{nat_tests}
+use Rattle.std.proofs.lemmas.List.{nil_from_length}
 use Rattle.xc_input.specs.Words.{has}
-use Rattle.xc_input.proofs.LineLemmas.{Ended, ends, length_none, grown, lacks-append}
+use Rattle.xc_input.proofs.LineLemmas.{Ended, ends, grown, lacks-append}
 use Rattle.xc_input.proofs.read.end_line.Goals.{After-line, After-clear}
 use Rattle.xc_input.proofs.read.end_line.Goals as goal
 
 at_once : (c : After-line) → Ended c.args.reader.now c.line.new.self c.args.carry.now.items c.args.end.now c.args.carry.now.items c.line.result
 at_once c =
     let len : length c.args.carry.now.items ≡ 0 = grind (arith, nat_tests, c.args.carry.now.ok.0) in
-    let none : c.args.carry.now.items ≡ [] = length_none _ len in
+    let none : c.args.carry.now.items ≡ [] = nil_from_length _ len in
     ends _ _ _ _ _ _ _ c.requires.state c.requires.piece (sym (ap (λ xs. xs ++ c.args.end.now) none)) c.line.ensures.kind c.line.ensures.given c.line.ensures.error c.line.ensures.state none
 
 pub returns-then-is_empty-clause-fed : goal.returns-then-is_empty-clause-fed

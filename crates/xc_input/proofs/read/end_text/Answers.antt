@@ -1,7 +1,7 @@
 use Rattle.std.proofs.Common.{◌≡◌, ◌<◌, length, arith, refl, Err}
 use Rattle.std.proofs.lemmas.Bool.Decides.{nat_tests}
 use Rattle.xc_input.specs.Lines.{lines_of}
-use Rattle.xc_input.specs.Feeding.{fed}
+use Rattle.xc_input.specs.inner.Feeding.{fed}
 use Rattle.xc_input.proofs.SourceLemmas.{EndsAs, ends-as, line-ends, no-part, last-part}
 use Rattle.xc_input.proofs.read.end_text.Goals.{After-finish, After-finish-2}
 use Rattle.xc_input.proofs.read.end_text.Goals as goal

@@ -1,6 +1,6 @@
 use Rattle.std.proofs.Common.{◌≡◌, ◌++◌, ◌∷◌, [], sym, ap, ◌∙◌, subst, arith}
 use Rattle.std.proofs.lemmas.Grind.{common_steps}
-use Rattle.xc_input.specs.Feeding.{fed, Spoils}
+use Rattle.xc_input.specs.inner.Feeding.{fed, Spoils}
 use Rattle.xc_input.proofs.LineLemmas.{Spoils-more, between-more, grown}
 use Rattle.xc_input.proofs.read.feed.Goals as goal
 

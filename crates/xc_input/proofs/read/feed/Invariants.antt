@@ -1,5 +1,5 @@
 use Rattle.std.proofs.Common.{◌≡◌, ◌++◌, length}
-use Rattle.xc_input.specs.Feeding.{fed, IsBetween}
+use Rattle.xc_input.specs.inner.Feeding.{fed, IsBetween}
 use Rattle.xc_input.proofs.read.feed.Given as goal
 
 -- what was handed on and carried, and the rest, is all that there is

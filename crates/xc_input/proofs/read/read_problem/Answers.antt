@@ -2,7 +2,7 @@ use Rattle.std.proofs.Common.{◌≡◌, ◌++◌, ◌∙◌, ◌<◌, None, Err
 use Rattle.std.specs.Io.KnownBytes.{Consumes}
 use Rattle.xc_input.specs.Stages.{line_fault}
 use Rattle.xc_input.specs.Lines.{lines_of}
-use Rattle.xc_input.specs.Feeding.{fed, Spoils}
+use Rattle.xc_input.specs.inner.Feeding.{fed, Spoils}
 use Rattle.xc_input.proofs.SourceLemmas.{consumes_more, consumes_zero, consumes_kept, EndsAs, Says, ends-as, spoiled, at-last}
 use Rattle.xc_input.specs.Pieces.{Gave, GaveAll}
 use Rattle.xc_input.proofs.PieceLemmas.{gave_more, gave_end, whole-last, part-last, part-spoiled}

@@ -1,6 +1,6 @@
 use Rattle.std.proofs.Common.{◌≡◌}
 use Rattle.std.specs.Io.KnownBytes.{Consumes}
-use Rattle.xc_input.specs.Feeding.{fed, IsBetween}
+use Rattle.xc_input.specs.inner.Feeding.{fed, IsBetween}
 use Rattle.xc_input.specs.Pieces.{Gave}
 use Rattle.xc_input.proofs.read.read_problem.Given as goal
 

@@ -1,4 +1,4 @@
-use Rattle.xc_list.proofs.LaidLemmas.{cut_within, cut_gives}
+use Rattle.xc_list.proofs.OutputLemmas.LaidOptions.{cut_within, cut_gives}
 use Rattle.xc_list.proofs.bodies.cut_text.Goals as goal
 
 pub split_at-requires : goal.split_at-requires

@@ -1,8 +1,8 @@
 use Rattle.std.proofs.Common.{arith, ◌≡◌, sym, ap, ◌∙◌, length, take, eq-eqb}
 use Rattle.std.specs.Prelude.{◌==◌}
 use Rattle.std.proofs.lemmas.List.Sums.{position_or_len_is}
-use Rattle.xc_list.specs.Laid.{uses_text}
-use Rattle.xc_list.proofs.LaidLemmas.{length-more}
+use Rattle.xc_list.specs.inner.Layout.{uses_text}
+use Rattle.xc_list.proofs.OutputLemmas.LaidOptions.{length-more}
 use Rattle.xc_list.proofs.bodies.place_in_text.Goals as goal
 
 pub returns-then-u-item : goal.returns-then-u-item

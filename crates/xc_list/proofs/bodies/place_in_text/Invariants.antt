@@ -1,6 +1,6 @@
 use Rattle.std.proofs.Common.{◌≡◌, ◌<◌, ℕ, get_or, length, take, false}
 use Rattle.std.specs.Prelude.{◌==◌}
-use Rattle.xc_list.specs.Laid.{uses_text}
+use Rattle.xc_list.specs.inner.Layout.{uses_text}
 use Rattle.xc_list.proofs.bodies.place_in_text.Given as goal
 
 -- no use so far is of the item, and their texts are counted

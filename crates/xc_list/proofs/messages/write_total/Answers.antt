@@ -1,16 +1,16 @@
 use Rattle.std.specs.Prelude.{decimal}
-use Rattle.xc_list.proofs.Writing.{then_good, then_bad, bad_more, then_writes, failed}
+use Rattle.xc_list.proofs.Writing.{then_took, then_broke, broke_before, then_writes, failed}
 use Rattle.xc_list.specs.Messages.{plural}
 use Rattle.xc_list.proofs.messages.write_total.Goals as goal
 
-pub returns-in_err-write_all-clause-text : goal.returns-in_err-write_all-clause-text
-returns-in_err-write_all-clause-text g c = failed _ _ _ _ _ c.from_residual.result c.from_residual.ensures.0 (bad_more _ _ _ _ _ c.args.tail.now (bad_more _ _ _ _ _ (plural c.args.n) (bad_more _ _ _ _ _ (decimal c.args.n) (c.in_err-write_all.ensures.text))))
+pub returns-in_err-write_all : goal.returns-in_err-write_all
+returns-in_err-write_all g c = failed c.from_residual.result c.from_residual.ensures.0 (broke_before c.args.tail.now (broke_before (plural c.args.n) (broke_before (decimal c.args.n) (c.in_err-write_all.ensures))))
 
-pub returns-in_err-write_number-clause-text : goal.returns-in_err-write_number-clause-text
-returns-in_err-write_number-clause-text g c = failed _ _ _ _ _ c.from_residual-in_err-write_number.result c.from_residual-in_err-write_number.ensures.0 (bad_more _ _ _ _ _ c.args.tail.now (bad_more _ _ _ _ _ (plural c.args.n) (then_bad _ _ _ _ _ _ _ _ (c.in_ok-write_all.ensures.text) c.in_err-write_number.ensures.text)))
+pub returns-in_err-write_number : goal.returns-in_err-write_number
+returns-in_err-write_number g c = failed c.from_residual-in_err-write_number.result c.from_residual-in_err-write_number.ensures.0 (broke_before c.args.tail.now (broke_before (plural c.args.n) (then_broke (c.in_ok-write_all.ensures) c.in_err-write_number.ensures)))
 
-pub returns-in_err-write_plural-clause-text : goal.returns-in_err-write_plural-clause-text
-returns-in_err-write_plural-clause-text g c = failed _ _ _ _ _ c.from_residual-in_err-write_plural.result c.from_residual-in_err-write_plural.ensures.0 (bad_more _ _ _ _ _ c.args.tail.now (then_bad _ _ _ _ _ _ _ _ (then_good _ _ _ _ _ _ _ _ (c.in_ok-write_all.ensures.text) c.in_ok-write_number.ensures.text) c.in_err-write_plural.ensures.text))
+pub returns-in_err-write_plural : goal.returns-in_err-write_plural
+returns-in_err-write_plural g c = failed c.from_residual-in_err-write_plural.result c.from_residual-in_err-write_plural.ensures.0 (broke_before c.args.tail.now (then_broke (then_took (c.in_ok-write_all.ensures) c.in_ok-write_number.ensures) c.in_err-write_plural.ensures))
 
-pub returns-clause-text : goal.returns-clause-text
-returns-clause-text g c = then_writes _ _ _ _ _ _ _ _ c.write_all-2.result (then_good _ _ _ _ _ _ _ _ (then_good _ _ _ _ _ _ _ _ (c.in_ok-write_all.ensures.text) c.in_ok-write_number.ensures.text) c.in_ok-write_plural.ensures.text) c.write_all-2.ensures.text
+pub returns : goal.returns
+returns g c = then_writes _ _ c.write_all-2.result (then_took (then_took (c.in_ok-write_all.ensures) c.in_ok-write_number.ensures) c.in_ok-write_plural.ensures) c.write_all-2.ensures

@@ -1,8 +1,8 @@
-use Rattle.xc_list.proofs.Writing.{bad_more, then_writes, failed}
+use Rattle.xc_list.proofs.Writing.{broke_before, then_writes, failed}
 use Rattle.xc_list.proofs.print.write_none.Goals as goal
 
-pub returns-in_err-write_all-clause-text : goal.returns-in_err-write_all-clause-text
-returns-in_err-write_all-clause-text g c = (failed _ _ _ _ _ c.from_residual.result c.from_residual.ensures.0 (bad_more _ _ _ _ _ _ (c.in_err-write_all.ensures.text)))
+pub returns-in_err-write_all : goal.returns-in_err-write_all
+returns-in_err-write_all g c = (failed c.from_residual.result c.from_residual.ensures.0 (broke_before _ (c.in_err-write_all.ensures)))
 
-pub returns-clause-text : goal.returns-clause-text
-returns-clause-text g c = (then_writes _ _ _ _ _ _ _ _ c.write_name.result (c.in_ok-write_all.ensures.text) c.write_name.ensures.text)
+pub returns : goal.returns
+returns g c = (then_writes _ _ c.write_name.result (c.in_ok-write_all.ensures) c.write_name.ensures)

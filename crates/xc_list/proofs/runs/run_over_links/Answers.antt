@@ -3,7 +3,7 @@ use Rattle.xc_search.proofs.Exactly.{each_cover_is_listed_once}
 use Rattle.xc_list.proofs.runs.run_over_links.Goals as goal
 
 pub returns-in_err-links-clause-right : goal.returns-in_err-links-clause-right
-returns-in_err-links-clause-right g c = each_member_covers c.args.problem.now.puzzle c.items-items.ensures.valid
+returns-in_err-links-clause-right g c = each_member_covers c.args.problem.now.puzzle c.most_moves.ensures.valid
 
 pub returns-in_err-links-clause-complete : goal.returns-in_err-links-clause-complete
-returns-in_err-links-clause-complete g c = each_cover_is_listed_once c.args.problem.now.puzzle c.items-items.ensures.valid
+returns-in_err-links-clause-complete g c = each_cover_is_listed_once c.args.problem.now.puzzle c.most_moves.ensures.valid

@@ -1,5 +1,5 @@
 use Rattle.std.proofs.Common.{◌≡◌, ◌<◌, ◌^◌, drop}
-use Rattle.xc_list.specs.Settings.{digits_in}
+use Rattle.xc_list.proofs.Digits.{digits_in}
 use Rattle.xc_list.proofs.words.number_in.Given as goal
 
 -- the digits so far have this value

@@ -1,35 +1,35 @@
 use Rattle.std.proofs.Common.{arith, ◌≡◌, sym, ◌∙◌, true, false, lt-ltb, le-ltb, Some, None, filter, ltb}
 use Rattle.xc_dance.specs.Moves.{next_above, open_items}
 use Rattle.xc_search.specs.Residuals.{branches_after, wanted_at}
-use Rattle.xc_search.proofs.Choosing.{next_open, choice_first, choice_none, choice_next, choice_last, choice_settled, choice_done, fewer, once_more}
+use Rattle.xc_search.proofs.residual.FirstFewest.{next_open, choice_first, choice_none, choice_next, choice_last, choice_settled, choice_done, fewer, once_more}
 use Rattle.xc_dance.proofs.MoveLemmas.ListLemmas.{next_above-gt}
 use Rattle.xc_search.proofs.branch_item.choose_by.Goals as goal
 
 pub returns-in_err-item : goal.returns-in_err-item
 returns-in_err-item g c =
     let p = c.args.problem.now.puzzle in
-    let t = g.D.Dance.trail c.args.dance.now in
+    let t = (g.D.Dance.state c.args.dance.now).trail in
     let e : next_above 0 (open_items p t) ≡ None = cc (c.in_err-item.ensures) in
     c.from_residual.ensures ∙ sym (choice_none p t e)
 
 pub count-fewest-requires-clause-open : goal.count-fewest-requires-clause-open
 count-fewest-requires-clause-open g c =
     let p = c.args.problem.now.puzzle in
-    let t = g.D.Dance.trail c.args.dance.now in
+    let t = (g.D.Dance.state c.args.dance.now).trail in
     let e : next_above 0 (open_items p t) ≡ Some c.in_ok-item.item = cc (c.in_ok-item.ensures) in
     next_open p t 0 c.in_ok-item.item e
 
 pub count-fewest-requires-clause-once : goal.count-fewest-requires-clause-once
 count-fewest-requires-clause-once g c h =
     let p = c.args.problem.now.puzzle in
-    let t = g.D.Dance.trail c.args.dance.now in
+    let t = (g.D.Dance.state c.args.dance.now).trail in
     let e : next_above 0 (open_items p t) ≡ Some c.in_ok-item.item = cc (c.in_ok-item.ensures) in
     once_more p t c.in_ok-item.item (c.requires.once h) (next_open p t 0 c.in_ok-item.item e)
 
 pub loop-fewest-init : goal.loop-fewest-init
 loop-fewest-init g c =
     let p = c.args.problem.now.puzzle in
-    let t = g.D.Dance.trail c.args.dance.now in
+    let t = (g.D.Dance.state c.args.dance.now).trail in
     let e : next_above 0 (open_items p t) ≡ Some c.in_ok-item.item = cc (c.in_ok-item.ensures) in
     record {
       at_open = next_open p t 0 c.in_ok-item.item e;
@@ -40,21 +40,21 @@ loop-fewest-init g c =
 pub count-n-requires-clause-open : goal.count-n-requires-clause-open
 count-n-requires-clause-open g c =
     let p = c.args.problem.now.puzzle in
-    let t = g.D.Dance.trail c.args.dance.now in
+    let t = (g.D.Dance.state c.args.dance.now).trail in
     let e : next_above c.loop-fewest.at (open_items p t) ≡ Some c.in-Some.next = cc (c.in-Some.ensures) in
     next_open p t c.loop-fewest.at c.in-Some.next e
 
 pub count-n-requires-clause-once : goal.count-n-requires-clause-once
 count-n-requires-clause-once g c h =
     let p = c.args.problem.now.puzzle in
-    let t = g.D.Dance.trail c.args.dance.now in
+    let t = (g.D.Dance.state c.args.dance.now).trail in
     let e : next_above c.loop-fewest.at (open_items p t) ≡ Some c.in-Some.next = cc (c.in-Some.ensures) in
     once_more p t c.in-Some.next (c.requires.once h) (next_open p t c.loop-fewest.at c.in-Some.next e)
 
 pub loop-fewest-smaller-then-n-fewest : goal.loop-fewest-smaller-then-n-fewest
 loop-fewest-smaller-then-n-fewest g c =
     let p = c.args.problem.now.puzzle in
-    let t = g.D.Dance.trail c.args.dance.now in
+    let t = (g.D.Dance.state c.args.dance.now).trail in
     let e : next_above c.loop-fewest.at (open_items p t) ≡ Some c.in-Some.next = cc (c.in-Some.ensures) in
     let above = next_above-gt c.loop-fewest.at c.in-Some.next (open_items p t) e in
     let in_range = next_open p t c.loop-fewest.at c.in-Some.next e in
@@ -63,7 +63,7 @@ loop-fewest-smaller-then-n-fewest g c =
 pub loop-fewest-preserved-then-n-fewest : goal.loop-fewest-preserved-then-n-fewest
 loop-fewest-preserved-then-n-fewest g c =
     let p = c.args.problem.now.puzzle in
-    let t = g.D.Dance.trail c.args.dance.now in
+    let t = (g.D.Dance.state c.args.dance.now).trail in
     let e : next_above c.loop-fewest.at (open_items p t) ≡ Some c.in-Some.next = cc (c.in-Some.ensures) in
     let better : fewer p t c.in-Some.next c.loop-fewest.item ≡ true = lt-ltb _ _ (omega (arith, c.count-n.ensures, c.loop-fewest.invariant.counted)) in
     record {
@@ -75,7 +75,7 @@ loop-fewest-preserved-then-n-fewest g c =
 pub loop-fewest-smaller : goal.loop-fewest-smaller
 loop-fewest-smaller g c =
     let p = c.args.problem.now.puzzle in
-    let t = g.D.Dance.trail c.args.dance.now in
+    let t = (g.D.Dance.state c.args.dance.now).trail in
     let e : next_above c.loop-fewest.at (open_items p t) ≡ Some c.in-Some.next = cc (c.in-Some.ensures) in
     let above = next_above-gt c.loop-fewest.at c.in-Some.next (open_items p t) e in
     let in_range = next_open p t c.loop-fewest.at c.in-Some.next e in
@@ -84,7 +84,7 @@ loop-fewest-smaller g c =
 pub loop-fewest-preserved : goal.loop-fewest-preserved
 loop-fewest-preserved g c =
     let p = c.args.problem.now.puzzle in
-    let t = g.D.Dance.trail c.args.dance.now in
+    let t = (g.D.Dance.state c.args.dance.now).trail in
     let e : next_above c.loop-fewest.at (open_items p t) ≡ Some c.in-Some.next = cc (c.in-Some.ensures) in
     let not_better : fewer p t c.in-Some.next c.loop-fewest.item ≡ false = le-ltb _ _ (omega (arith, c.count-n.ensures, c.loop-fewest.invariant.counted)) in
     record {
@@ -96,7 +96,7 @@ loop-fewest-preserved g c =
 pub returns-in_default : goal.returns-in_default
 returns-in_default g c =
     let p = c.args.problem.now.puzzle in
-    let t = g.D.Dance.trail c.args.dance.now in
+    let t = (g.D.Dance.state c.args.dance.now).trail in
     let i = c.loop-fewest.item in
     let e : next_above c.loop-fewest.at (open_items p t) ≡ None = cc (c.in_default.ensures) in
     choice_done p t i c.loop-fewest.at c.loop-fewest.fewest c.loop-fewest.invariant.best c.loop-fewest.invariant.counted (choice_last p t i c.loop-fewest.at e)
@@ -104,7 +104,7 @@ returns-in_default g c =
 pub returns : goal.returns
 returns g c =
     let p = c.args.problem.now.puzzle in
-    let t = g.D.Dance.trail c.args.dance.now in
+    let t = (g.D.Dance.state c.args.dance.now).trail in
     let i = c.loop-fewest.item in
     let none : branches_after p t (wanted_at p t i) ≡ 0 = omega (arith, c.loop-fewest-test.false, c.loop-fewest.invariant.counted) in
     choice_done p t i c.loop-fewest.at c.loop-fewest.fewest c.loop-fewest.invariant.best c.loop-fewest.invariant.counted (choice_settled p t i (filter (λ j. ltb c.loop-fewest.at j) (open_items p t)) none)

@@ -1,5 +1,5 @@
 use Rattle.std.proofs.Common.{◌≡◌, ◌-◌, Some, filter, ltb}
-use Rattle.xc_search.proofs.Choosing.{best_from}
+use Rattle.xc_search.proofs.residual.FirstFewest.{best_from}
 use Rattle.xc_input.specs.Problem.{primary_count}
 use Rattle.xc_search.specs.Listing.{first_least}
 use Rattle.xc_dance.specs.Moves.{IsOpenPrimary, open_items}
@@ -9,7 +9,7 @@ use Rattle.xc_search.proofs.branch_item.choose_by.Given as goal
 abbrev pub invariant-loop-fewest : goal.invariant-loop-fewest
 invariant-loop-fewest g l =
     let p = l.problem.puzzle in
-    let t = g.D.Dance.trail l.dance in
+    let t = (g.D.Dance.state l.dance).trail in
     record {
       at_open : IsOpenPrimary p t l.at;
       counted : l.fewest ≡ branches_after p t (wanted_at p t l.item);

@@ -1,4 +1,4 @@
-use Rattle.xc_search.proofs.Unrolled.{listing_unrolled}
+use Rattle.xc_search.proofs.listing.Unrolled.{listing_unrolled}
 use Rattle.xc_search.proofs.laws.listing_unrolls.Goals as goal
 
 pub returns : goal.returns

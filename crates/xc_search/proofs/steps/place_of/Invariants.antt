@@ -1,5 +1,5 @@
 use Rattle.std.proofs.Common.{◌≡◌, ◌+◌, drop}
-use Rattle.xc_search.specs.Commits.{place_in}
+use Rattle.xc_search.specs.inner.Commits.{place_in}
 use Rattle.xc_search.proofs.steps.place_of.Given as goal
 
 abbrev pub invariant-loop-k : goal.invariant-loop-k

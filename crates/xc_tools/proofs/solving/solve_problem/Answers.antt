@@ -1,14 +1,12 @@
 use Rattle.std.proofs.Common.{ap}
 use Rattle.xc_list.specs.Messages.{summary_text}
-use Rattle.xc_list.specs.Output.{output}
-use Rattle.xc_list.proofs.TextLemmas.{appends_kept}
-use Rattle.xc_list.proofs.Outputs.{begins_whole, stopped_begins, done_end, limit_end}
+use Rattle.xc_list.proofs.Outputs.{took_begins, stopped_begins, done_end, limit_end}
 use Rattle.xc_tools.proofs.solving.solve_problem.Goals as goal
 
 pub returns-in-Ok-WriteFailed-clause-begins : goal.returns-in-Ok-WriteFailed-clause-begins
 returns-in-Ok-WriteFailed-clause-begins g c =
     let stop = rw c.in-Ok-WriteFailed.field-0-is at c.in-Ok-WriteFailed.ensures.run in
-    stopped_begins c.args.problem.now c.args.words.spacing c.args.words.limit c.in-Ok-WriteFailed.n _ _ _ _ stop
+    stopped_begins c.args.problem.now c.args.words.spacing c.args.words.limit c.in-Ok-WriteFailed.n _ _ stop
 
 pub returns-in-Ok-Done-clause-told : goal.returns-in-Ok-Done-clause-told
 returns-in-Ok-Done-clause-told g c =
@@ -18,7 +16,7 @@ returns-in-Ok-Done-clause-told g c =
 pub returns-in-Ok-Done-clause-begins : goal.returns-in-Ok-Done-clause-begins
 returns-in-Ok-Done-clause-begins g c =
     let run = rw c.in-Ok-Done.field-0-is at c.in-Ok-Done.ensures.run in
-    begins_whole _ _ (output c.args.problem.now c.args.words.spacing c.args.words.limit) (appends_kept _ _ _ _ run.2.1 c.finish.ensures.kept)
+    took_begins (g.O.Sink.state c.finish.new.out) run.2 c.finish.ensures.kept
 
 pub returns-in-Ok-Limit-clause-told : goal.returns-in-Ok-Limit-clause-told
 returns-in-Ok-Limit-clause-told g c =
@@ -28,4 +26,4 @@ returns-in-Ok-Limit-clause-told g c =
 pub returns-in-Ok-Limit-clause-begins : goal.returns-in-Ok-Limit-clause-begins
 returns-in-Ok-Limit-clause-begins g c =
     let run = rw c.in-Ok-Limit.field-0-is at c.in-Ok-Limit.ensures.run in
-    begins_whole _ _ (output c.args.problem.now c.args.words.spacing c.args.words.limit) (appends_kept _ _ _ _ run.2.1 c.finish-in-Ok-Limit.ensures.kept)
+    took_begins (g.O.Sink.state c.finish-in-Ok-Limit.new.out) run.2 c.finish-in-Ok-Limit.ensures.kept

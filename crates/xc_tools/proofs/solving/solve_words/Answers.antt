@@ -2,21 +2,22 @@ use Rattle.std.proofs.Common.{ℕ, ◌≡◌, List, [], Option, None, Some, refl
 use Rattle.std.specs.Prelude.{IfSome}
 use Rattle.std.specs.Io.KnownBytes.{Appends, Keeps}
 use Rattle.xc_input.specs.Inputs.{IsFaultOf}
-use Rattle.xc_input.specs.declared.Kind.{Kind}
-use Rattle.xc_input.specs.declared.FaultKind.{FaultKind}
-use Rattle.xc_input.specs.declared.InputError.{InputError}
-use Rattle.xc_input.specs.declared.InputError.TheVariants.{Fault, Memory}
-use Rattle.xc_list.specs.Texts.{WasTold}
+use Rattle.xc_input.specs.Lines.{IsFirstFault}
+use Rattle.xc_input.specs.declared.kind.Kind.{Kind}
+use Rattle.xc_input.specs.declared.fault.FaultKind.{FaultKind}
+use Rattle.xc_input.specs.declared.fault.InputError.{InputError}
+use Rattle.xc_input.specs.declared.fault.InputError.TheVariants.{Fault, Memory}
+use Rattle.xc_list.specs.Texts.{SinkState, WasTold}
 use Rattle.xc_list.proofs.Writing.{was_told}
 use Rattle.xc_tools.specs.Errors.{input_error_text}
-use Rattle.xc_tools.specs.Solves.{IsFaultyText, RanOut}
+use Rattle.xc_tools.specs.Solves.{RanOut, WasToldFault}
 use Rattle.xc_tools.proofs.solving.solve_words.Goals as goal
 
 -- the first fault of bytes that are known
-faulty : (r : Option (List ℕ)) (kind : Kind) (old new : ℕ × Option (List ℕ)) (e : InputError) (line : ℕ) (fault : FaultKind) → e ≡ Fault line fault
-    → WasTold old new (input_error_text e) → IfSome r (λ b. IsFaultOf kind b e) → IfSome r (IsFaultyText kind old new)
+faulty : (r : Option (List ℕ)) (kind : Kind) (old new : SinkState) (e : InputError) (line : ℕ) (fault : FaultKind) → e ≡ Fault line fault
+    → WasTold old new (input_error_text e) → IfSome r (λ b. IsFaultOf kind b e) → IfSome r (λ b. WasToldFault (IsFirstFault kind b) old new)
 faulty None kind old new e line fault is told h = tt
-faulty (Some b) kind old new e line fault is told h = record { line = line; fault = fault; first = rw is at h; told = rw is at told }
+faulty (Some b) kind old new e line fault is told h = record { line = line; fault = fault; said = rw is at h; told = rw is at told }
 
 keeps_same : (a : Option (List ℕ)) → Keeps a a
 keeps_same None = tt
@@ -27,30 +28,34 @@ appends_none None = tt
 appends_none (Some b) = sym (append-nil b)
 
 -- memory ran out before a warning was told
-ran_out : (out old new : ℕ × Option (List ℕ)) (e : InputError) → e ≡ Memory → WasTold old new (input_error_text e) → RanOut out out old new
-ran_out out old new e is told = ((refl, keeps_same out.1), [], (old, (refl, appends_none old.1), rw is at told))
+ran_out : (out old new : SinkState) (e : InputError) → e ≡ Memory → WasTold old new (input_error_text e) → RanOut out out old new
+ran_out out old new e is told = (
+  record { no_failure = refl; none = keeps_same out.taken },
+  [],
+  (old, record { no_failure = refl; whole = appends_none old.taken }, rw is at told),
+)
 
 pub returns-in-Fault-clause-fault : goal.returns-in-Fault-clause-fault
 returns-in-Fault-clause-fault g c = λ _.
-    let told = was_told _ _ c.input_error.result (input_error_text c.in-Err.error) c.input_error.ensures.text in
-    (faulty _ _ _ _ c.in-Err.error c.in-Fault.line c.in-Fault.kind c.in-Fault.is told c.in-Err.ensures.first, keeps_same _)
+    let told = was_told c.input_error.result c.input_error.ensures in
+    faulty _ _ _ _ c.in-Err.error c.in-Fault.line c.in-Fault.kind c.in-Fault.is told c.in-Err.ensures.first
 
 pub returns-in-Memory-clause-memory : goal.returns-in-Memory-clause-memory
 returns-in-Memory-clause-memory g c = λ _.
-    ran_out _ _ _ c.in-Err.error c.in-Memory.is (was_told _ _ c.input_error.result (input_error_text c.in-Err.error) c.input_error.ensures.text)
+    ran_out _ _ _ c.in-Err.error c.in-Memory.is (was_told c.input_error.result c.input_error.ensures)
 
 pub returns-in-Ok-clause-solved_given : goal.returns-in-Ok-clause-solved_given
 returns-in-Ok-clause-solved_given g c = λ done. (
   c.in-Ok.ensures.whole.0,
   c.in-Ok.ensures.whole.1,
-  record { named = c.in-Ok.read.problem; ignored = c.in-Ok.read.ignored.items; text = c.in-Ok.ensures.whole.2; solved = c.solve_read.ensures.solved done },
+  record { named = c.in-Ok.read.problem; ignored = c.in-Ok.read.ignored.items; text = c.in-Ok.ensures.whole.2; said = c.solve_read.ensures.solved done },
 )
 
 pub returns-in-Fault-clause-fault_given : goal.returns-in-Fault-clause-fault_given
 returns-in-Fault-clause-fault_given g c = λ _.
-    let told = was_told _ _ c.input_error.result (input_error_text c.in-Err.error) c.input_error.ensures.text in record {
+    let told = was_told c.input_error.result c.input_error.ensures in record {
       line = c.in-Fault.line;
       fault = c.in-Fault.kind;
-      first = rw c.in-Fault.is at c.in-Err.ensures.part;
+      said = rw c.in-Fault.is at c.in-Err.ensures.part;
       told = rw c.in-Fault.is at told;
     }

@@ -3,8 +3,9 @@ use Rattle.xc_input.specs.Problem.{item_count}
 use Rattle.xc_dance.specs.declared.links.items.Items.{Items}
 use Rattle.xc_dance.specs.Links.ItemCells.{llink_at, rlink_at}
 use Rattle.xc_dance.specs.Links.FirstItems.{linked_to}
-use Rattle.xc_dance.proofs.LinkedTables.FirstItemTable.{column_len, column_more, same_items}
+use Rattle.xc_dance.proofs.LinkedTables.FirstItemTable.{column_len, column_more}
 use Rattle.xc_dance.proofs.links.first_items.link_rings.Goals as goal
+use Rattle.xc_dance.proofs.LinkedTables.RingStep.{same_items}
 
 pub set-requires : goal.set-requires
 set-requires c =

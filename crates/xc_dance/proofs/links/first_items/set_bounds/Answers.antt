@@ -5,18 +5,19 @@ use Rattle.std.specs.Prelude.{Option, Some, unwrap_or}
 use Rattle.xc_dance.specs.declared.links.items.Items.{Items}
 use Rattle.xc_dance.specs.Links.ItemCells.{bound_at, slack_at}
 use Rattle.xc_dance.specs.Links.FirstItems.{bound_to}
-use Rattle.xc_dance.proofs.LinkedTables.FirstItemTable.{column_len, column_more, same_items, bound_is, slack_is, bounds_set, low_most}
+use Rattle.xc_dance.proofs.LinkedTables.FirstItemTable.{column_len, column_more, bound_is, slack_is, bounds_set, low_most}
 use Rattle.xc_dance.proofs.links.first_items.set_bounds.Goals as goal
 use Rattle.xc_dance.proofs.links.first_items.set_bounds.Goals.{After-item-item}
+use Rattle.xc_dance.proofs.LinkedTables.RingStep.{same_items}
 
 pub set-requires : goal.set-requires
 set-requires c =
     let p = c.args.problem.now.puzzle in
-    omega (arith, column_len (bound_at p []) (primary_count p + 1) (c.loop-i.i + 1), ap (λ (t : Items). length t.bound) c.loop-i.invariant, c.loop-i-test.true, c.primary-i-end.ensures)
+    omega (arith, column_len (bound_at p []) (primary_count p + 1) (c.loop-i.i + 1), ap (λ (t : Items). length t.bound) c.loop-i.invariant, c.loop-i-test.true, c.primary-i-end.ensures.value)
 
 -- the item has the bounds of its number
 bounds_here : (c : After-item-item) → bounds_at c.args.problem.now.puzzle (c.loop-i.i + 1) ≡ Some (bounds_of c.item-item.result.now)
-bounds_here c = c.item-item.ensures.bounds (omega arith, omega (arith, c.loop-i-test.true, c.primary-i-end.ensures))
+bounds_here c = c.item-item.ensures.bounds (omega arith, omega (arith, c.loop-i-test.true, c.primary-i-end.ensures.value))
 
 high_here : (c : After-item-item) → c.item-item.result.now.high ≡ high_at c.args.problem.now.puzzle (c.loop-i.i + 1)
 high_here c = sym (ap (λ (b : Option Bounds). (unwrap_or b (record { low = 0; high = 0 })).high) (bounds_here c))
@@ -32,13 +33,13 @@ overflow_sub-item c =
 pub set-requires-in-loop-i : goal.set-requires-in-loop-i
 set-requires-in-loop-i c =
     let p = c.args.problem.now.puzzle in
-    omega (arith, column_len (slack_at p) (primary_count p + 1) (c.loop-i.i + 1), ap (λ (t : Items). length t.slack) c.loop-i.invariant, c.loop-i-test.true, c.primary-i-end.ensures)
+    omega (arith, column_len (slack_at p) (primary_count p + 1) (c.loop-i.i + 1), ap (λ (t : Items). length t.slack) c.loop-i.invariant, c.loop-i-test.true, c.primary-i-end.ensures.value)
 
 pub loop-i-preserved : goal.loop-i-preserved
 loop-i-preserved c =
     let p = c.args.problem.now.puzzle in
     let i = c.loop-i.i + 1 in
-    let lt : i < primary_count p + 1 = omega (arith, c.loop-i-test.true, c.primary-i-end.ensures) in
+    let lt : i < primary_count p + 1 = omega (arith, c.loop-i-test.true, c.primary-i-end.ensures.value) in
     let at = (goal.at.loop-i-preserved c).After-item-item in
     let high = c.item-item.result.now.high in
     let slack = high - c.item-item.result.now.low in
@@ -52,4 +53,4 @@ loop-i-preserved c =
 pub returns : goal.returns
 returns c =
     let p = c.args.problem.now.puzzle in
-    c.loop-i.invariant ∙ bounds_set p (c.loop-i.i + 1) (omega (arith, c.loop-i-test.false, c.primary-i-end.ensures))
+    c.loop-i.invariant ∙ bounds_set p (c.loop-i.i + 1) (omega (arith, c.loop-i-test.false, c.primary-i-end.ensures.value))

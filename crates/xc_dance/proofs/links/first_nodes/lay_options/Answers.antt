@@ -21,26 +21,26 @@ loop-o-init c =
 pub overflow_add-place-in-loop-o : goal.overflow_add-place-in-loop-o
 overflow_add-place-in-loop-o c =
     let p = c.args.problem.now.puzzle in
-    let le : c.loop-o.o ≤ option_count p = omega (arith, c.loop-o-test.true, c.options-o-end.ensures) in
+    let le : c.loop-o.o ≤ option_count p = omega (arith, c.loop-o-test.true, c.options-o-end.ensures.value) in
     omega (arith, place_within p c.loop-o.o le, layout_small p c.requires.limits, c.loop-o.invariant.place)
 
 pub overflow_add-above : goal.overflow_add-above
 overflow_add-above c =
     let p = c.args.problem.now.puzzle in
-    let le : c.loop-o.o ≤ option_count p = omega (arith, c.loop-o-test.true, c.options-o-end.ensures) in
+    let le : c.loop-o.o ≤ option_count p = omega (arith, c.loop-o-test.true, c.options-o-end.ensures.value) in
     omega (arith, place_within p c.loop-o.o le, layout_small p c.requires.limits, c.loop-o.invariant.place)
 
 pub overflow_cast-place : goal.overflow_cast-place
 overflow_cast-place c =
     let p = c.args.problem.now.puzzle in
-    let lt : c.loop-o.o < option_count p = omega (arith, c.loop-o-test.true, c.options-o-end.ensures) in
+    let lt : c.loop-o.o < option_count p = omega (arith, c.loop-o-test.true, c.options-o-end.ensures.value) in
     let fits = option_fits p c.loop-o.o c.option.result.now c.requires.limits lt (uses_here p (c.loop-o.o + 1) c.option.result.now c.option.ensures.value) in
     omega (arith, fits.next, fits.within, fits.small)
 
 pub overflow_add-place-in-loop-o-2 : goal.overflow_add-place-in-loop-o-2
 overflow_add-place-in-loop-o-2 c =
     let p = c.args.problem.now.puzzle in
-    let lt : c.loop-o.o < option_count p = omega (arith, c.loop-o-test.true, c.options-o-end.ensures) in
+    let lt : c.loop-o.o < option_count p = omega (arith, c.loop-o-test.true, c.options-o-end.ensures.value) in
     let fits = option_fits p c.loop-o.o c.option.result.now c.requires.limits lt (uses_here p (c.loop-o.o + 1) c.option.result.now c.option.ensures.value) in
     omega (arith, fits.next, fits.within, fits.small, c.loop-o.invariant.place)
 
@@ -49,7 +49,7 @@ loop-o-preserved c =
     let p = c.args.problem.now.puzzle in
     let o = c.loop-o.o in
     let us = c.option.result.now in
-    let lt : o < option_count p = omega (arith, c.loop-o-test.true, c.options-o-end.ensures) in
+    let lt : o < option_count p = omega (arith, c.loop-o-test.true, c.options-o-end.ensures.value) in
     let fits = option_fits p o us c.requires.limits lt (uses_here p (c.loop-o.o + 1) c.option.result.now c.option.ensures.value) in
     let next : place_at p (o + 1) ≡ c.loop-o.place + 1 + length us = omega (arith, fits.next, c.loop-o.invariant.place) in
     record {
@@ -61,7 +61,7 @@ loop-o-preserved c =
 pub returns : goal.returns
 returns c =
     let p = c.args.problem.now.puzzle in
-    let last : c.loop-o.o ≡ option_count p = omega (arith, c.loop-o-test.false, c.options-o-end.ensures, c.loop-o.auto.o-end) in
+    let last : c.loop-o.o ≡ option_count p = omega (arith, c.loop-o-test.false, c.options-o-end.ensures.value, c.loop-o.auto.o-end) in
     let at = ap (place_at p) last in
     let whole = layout_len p in
     let end : c.loop-o.place + 1 ≡ length (layout p) = omega (arith, at, whole, c.loop-o.invariant.place) in

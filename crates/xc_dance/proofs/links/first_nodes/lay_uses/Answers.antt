@@ -6,9 +6,10 @@ use Rattle.xc_dance.specs.declared.links.nodes.Row.{Row}
 use Rattle.xc_dance.specs.Links.Steps.{HasSize}
 use Rattle.xc_dance.specs.Links.FirstNodes.{with_row, laid_to}
 use Rattle.xc_dance.proofs.LinkedTables.OptionReach.{uses_here}
-use Rattle.xc_dance.proofs.LinkedTables.PlaceLemmas.{use_here, option_fits, get_there}
+use Rattle.xc_dance.proofs.LinkedTables.PlaceLemmas.{use_here, option_fits}
 use Rattle.xc_dance.proofs.LinkedTables.LaidNodes.{laid_size, laid_len, laid_more}
 use Rattle.xc_dance.proofs.links.first_nodes.lay_uses.Goals as goal
+use Rattle.std.proofs.lemmas.Option.{slice_get-get_or}
 
 pub put-requires-clause-size : goal.put-requires-clause-size
 put-requires-clause-size c = subst (λ (t : Nodes). HasSize t (length t.top)) (sym c.loop-u.invariant.nodes) (laid_size c.args.problem.now.puzzle c.loop-u.place)
@@ -35,7 +36,7 @@ loop-u-preserved c =
     let u = get_or us k d in
     let row : Row = record { top = u.item; ulink = u.item; dlink = u.item; color = u.colour } in
     let fits = option_fits p c.args.o us c.requires.limits c.requires.option (uses_here p (c.args.o + 1) c.option-u-items.result.now c.option-u-items.ensures.value) in
-    let at = use_here p c.args.o k q us u fits.at (get_there us k d c.loop-u-test.true) (omega (arith, c.loop-u.invariant.place, c.requires.first)) in
+    let at = use_here p c.args.o k q us u fits.at (slice_get-get_or us k d c.loop-u-test.true) (omega (arith, c.loop-u.invariant.place, c.requires.first)) in
     record {
       nodes = c.put.ensures ∙ ap (λ (t : Nodes). with_row t q row) c.loop-u.invariant.nodes ∙ laid_more p q (used (c.args.o + 1) u) row at refl;
       place = omega (arith, c.loop-u.invariant.place);

@@ -7,7 +7,7 @@ use Rattle.xc_dance.specs.Fields.{Node, unused, own, spacer, used, layout}
 use Rattle.xc_dance.specs.Links.Laid.{IsFit}
 use Rattle.xc_dance.specs.Links.Cells.{nodes_from, color_in}
 use Rattle.xc_dance.specs.Links.FirstNodes.{entered}
-use Rattle.xc_dance.proofs.LinkedTables.PlaceLemmas.{get_there}
+use Rattle.std.proofs.lemmas.Option.{slice_get-get_or}
 use Rattle.xc_dance.proofs.LinkedTables.HeldOptions.{lines_of}
 use Rattle.xc_dance.proofs.LinkedTables.EnteredNodes.{UseStep, use_step, spacer_step, spacer_top, behind_items}
 use Rattle.xc_dance.proofs.LinkedTables.LinkedFirst.{none_entered, all_entered}
@@ -42,7 +42,7 @@ enter-requires-clause-item c =
     let p = c.args.problem.now.puzzle in
     let q = c.loop-q.q in
     let n = get_or (layout p) q unused in
-    let at : slice_get (layout p) q ≡ Some n = get_there (layout p) q unused (omega (arith, c.loop-q-test.true, c.requires.count)) in
+    let at : slice_get (layout p) q ≡ Some n = slice_get-get_or (layout p) q unused (omega (arith, c.loop-q-test.true, c.requires.count)) in
     let top = ap (λ (t : Nodes). slice_index t.top q) c.loop-q.invariant in
     let s = is_use p q n c.requires.fit c.requires.limits (omega (arith, c.loop-q.auto.q, c.items-q.ensures.value)) at (omega (arith, top, c.top.ensures, c.if-top-lt-SPACER.true)) in
     subst (λ (t : Nodes). slice_index t.top q < length t.top) (sym c.loop-q.invariant) s.2.item
@@ -52,7 +52,7 @@ enter-requires-clause-last c =
     let p = c.args.problem.now.puzzle in
     let q = c.loop-q.q in
     let n = get_or (layout p) q unused in
-    let at : slice_get (layout p) q ≡ Some n = get_there (layout p) q unused (omega (arith, c.loop-q-test.true, c.requires.count)) in
+    let at : slice_get (layout p) q ≡ Some n = slice_get-get_or (layout p) q unused (omega (arith, c.loop-q-test.true, c.requires.count)) in
     let top = ap (λ (t : Nodes). slice_index t.top q) c.loop-q.invariant in
     let s = is_use p q n c.requires.fit c.requires.limits (omega (arith, c.loop-q.auto.q, c.items-q.ensures.value)) at (omega (arith, top, c.top.ensures, c.if-top-lt-SPACER.true)) in
     subst (λ (t : Nodes). slice_index t.ulink (slice_index t.top q) < length t.top) (sym c.loop-q.invariant) s.2.last
@@ -62,7 +62,7 @@ enter-requires-clause-few c =
     let p = c.args.problem.now.puzzle in
     let q = c.loop-q.q in
     let n = get_or (layout p) q unused in
-    let at : slice_get (layout p) q ≡ Some n = get_there (layout p) q unused (omega (arith, c.loop-q-test.true, c.requires.count)) in
+    let at : slice_get (layout p) q ≡ Some n = slice_get-get_or (layout p) q unused (omega (arith, c.loop-q-test.true, c.requires.count)) in
     let top = ap (λ (t : Nodes). slice_index t.top q) c.loop-q.invariant in
     let s = is_use p q n c.requires.fit c.requires.limits (omega (arith, c.loop-q.auto.q, c.items-q.ensures.value)) at (omega (arith, top, c.top.ensures, c.if-top-lt-SPACER.true)) in
     subst (λ (t : Nodes). slice_index t.top (slice_index t.top q) < 2147483648) (sym c.loop-q.invariant) s.2.few
@@ -72,7 +72,7 @@ loop-q-preserved c =
     let p = c.args.problem.now.puzzle in
     let q = c.loop-q.q in
     let n = get_or (layout p) q unused in
-    let at : slice_get (layout p) q ≡ Some n = get_there (layout p) q unused (omega (arith, c.loop-q-test.true, c.requires.count)) in
+    let at : slice_get (layout p) q ≡ Some n = slice_get-get_or (layout p) q unused (omega (arith, c.loop-q-test.true, c.requires.count)) in
     let from : item_count p + 1 ≤ q = omega (arith, c.loop-q.auto.q, c.items-q.ensures.value) in
     let top = ap (λ (t : Nodes). slice_index t.top q) c.loop-q.invariant in
     elim c.if-top-lt-SPACER.branch [

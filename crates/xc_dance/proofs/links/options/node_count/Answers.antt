@@ -9,7 +9,7 @@ use Rattle.xc_dance.proofs.links.options.node_count.Goals.{After-option}
 fits : (c : After-option) → OptionFits c.args.problem.now.puzzle c.loop-o.o c.option.result.now
 fits c =
     let p = c.args.problem.now.puzzle in
-    let lt : c.loop-o.o < option_count p = omega (arith, c.loop-o-test.true, c.options-o-end.ensures) in
+    let lt : c.loop-o.o < option_count p = omega (arith, c.loop-o-test.true, c.options-o-end.ensures.value) in
     option_fits p c.loop-o.o c.option.result.now c.requires lt (uses_here p (c.loop-o.o + 1) c.option.result.now c.option.ensures.value)
 
 pub loop-o-init : goal.loop-o-init
@@ -31,6 +31,6 @@ pub returns : goal.returns
 returns c =
     let p = c.args.problem.now.puzzle in
     let whole = layout_len p in
-    let last : c.loop-o.o ≡ option_count p = omega (arith, c.loop-o-test.false, c.options-o-end.ensures, c.loop-o.auto.o-end) in
+    let last : c.loop-o.o ≡ option_count p = omega (arith, c.loop-o-test.false, c.options-o-end.ensures.value, c.loop-o.auto.o-end) in
     let end : c.loop-o.count ≡ start_at p (option_count p) = c.loop-o.invariant ∙ ap (start_at p) last in
     omega (arith, whole, end)

@@ -1,36 +1,28 @@
-use Rattle.std.proofs.Common.{◌≡◌, ℕ, ◌+◌, ◌-◌, ◌≤◌, ◌<◌, List, ◌∷◌, fold, reverse, ap, sym, subst, ◌∙◌, arith}
+use Rattle.std.proofs.Common.{◌-◌, ap, reverse, refl, arith}
 use Rattle.xc_dance.specs.Links.Columns.{columns}
-use Rattle.xc_dance.specs.Links.Steps.{shown, hide_cost, show_costs, CanShowAll, places}
-use Rattle.xc_dance.proofs.LinkedTables.Places.{reverse-places}
+use Rattle.xc_dance.specs.Links.Steps.{hide_cost, places}
+use Rattle.xc_dance.proofs.LinkedTables.Places.{places_none, last_first}
+use Rattle.xc_dance.proofs.LinkedTables.Walks.{underway, step_can, step_on, steps_end}
 use Rattle.xc_dance.proofs.links.steps.show_range.Goals as goal
 
--- the places up to q, from the last back
-last_first : (a q : ℕ) → a < q → reverse (places a q) ≡ (q - 1) ∷ reverse (places a (q - 1))
-last_first a q h =
-    let e : q - 1 + 1 ≡ q = omega arith in
-    let le : a ≤ q - 1 = omega arith in
-    ap (λ k. reverse (places a k)) (sym e) ∙ reverse-places a (q - 1) le
+pub loop-q-init : goal.loop-q-init
+loop-q-init c = record { walk = underway hide_cost (columns c.args.top.now c.args.links.now c.args.color.now) (reverse (places c.args.a c.args.b)) (reverse (places c.args.a c.args.b)) refl c.requires.can; counted = omega arith; few = omega arith }
 
 pub show_one-count-requires-clause-can : goal.show_one-count-requires-clause-can
-show_one-count-requires-clause-can c =
-    let q = c.loop-q.q in
-    let can : CanShowAll (columns c.loop-q.top c.loop-q.links c.args.color.now) ((q - 1) ∷ reverse (places c.args.a (q - 1))) =
-    subst (CanShowAll (columns c.loop-q.top c.loop-q.links c.args.color.now)) (last_first c.args.a q c.loop-q-test.true) c.loop-q.invariant.can in can.0
+show_one-count-requires-clause-can c = let q = c.loop-q.q in step_can (q - 1) (reverse (places c.args.a (q - 1))) (last_first c.args.a q c.loop-q-test.true) c.loop-q.invariant.walk
 
 pub loop-q-preserved : goal.loop-q-preserved
 loop-q-preserved c =
     let q = c.loop-q.q in
-    let t = (columns c.loop-q.top c.loop-q.links c.args.color.now) in
-    let rest : List ℕ = reverse (places c.args.a (q - 1)) in
-    let first : reverse (places c.args.a q) ≡ (q - 1) ∷ rest = last_first c.args.a q c.loop-q-test.true in
-    let can : CanShowAll t ((q - 1) ∷ rest) = subst (CanShowAll t) first c.loop-q.invariant.can in
-    let done = c.show_one-count.ensures.done in
-    let cost : show_costs t (reverse (places c.args.a q)) ≡ hide_cost t (q - 1) + show_costs (shown t (q - 1)) rest = ap (show_costs t) first in
-    let left : show_costs (columns c.show_one-count.new.top c.show_one-count.new.links c.args.color.now) rest ≡ show_costs (shown t (q - 1)) rest = ap (λ u. show_costs u rest) done in
+    let made = c.show_one-count.ensures in
     record {
-      can = subst (λ u. CanShowAll u rest) (sym done) can.1;
-      done = ap (λ u. fold shown u rest) done ∙ sym (ap (fold shown t) first) ∙ c.loop-q.invariant.done;
-      cost = omega (arith, cost, left);
+      walk = step_on (q - 1) (reverse (places c.args.a (q - 1))) (columns c.show_one-count.new.top c.show_one-count.new.links c.args.color.now) c.show_one-count.result (last_first c.args.a q c.loop-q-test.true) made.done made.cost c.loop-q.invariant.walk;
       counted = omega arith;
       few = grind arith;
     }
+
+pub returns-clause-done : goal.returns-clause-done
+returns-clause-done c = (steps_end (ap reverse (places_none c.args.a c.loop-q.q c.loop-q-test.false)) c.loop-q.invariant.walk).done
+
+pub returns-clause-cost : goal.returns-clause-cost
+returns-clause-cost c = (steps_end (ap reverse (places_none c.args.a c.loop-q.q c.loop-q-test.false)) c.loop-q.invariant.walk).cost

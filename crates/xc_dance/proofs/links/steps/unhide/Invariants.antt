@@ -1,16 +1,15 @@
-use Rattle.std.proofs.Common.{◌≡◌, ◌+◌, ◌*◌, ◌<◌, ◌≤◌, fold, reverse}
+use Rattle.std.proofs.Common.{◌≡◌, ◌+◌, ◌*◌, ◌<◌, ◌≤◌, reverse}
 use Rattle.xc_dance.specs.Links.Columns.{columns}
-use Rattle.xc_dance.specs.Links.Steps.{shown, show_costs, CanShowAll, places, span_at}
+use Rattle.xc_dance.specs.Links.Steps.{shown, hide_cost, CanShow, places, span_at}
+use Rattle.xc_dance.proofs.LinkedTables.Walks.{Underway}
 use Rattle.xc_dance.proofs.links.steps.unhide.Given as goal
 
--- what is left behind the spacer leads to the same end
+-- what is left stands behind the spacer
 abbrev pub invariant-loop-top : goal.invariant-loop-top
 invariant-loop-top l =
     let first = (span_at l.spans l.p).first in
     record {
-      can : CanShowAll (columns l.top l.links l.color) (reverse (places first (l.q + 1)));
-      done : fold shown (columns l.top l.links l.color) (reverse (places first (l.q + 1))) ≡ fold shown (columns l.initial.top l.initial.links l.color) (reverse (places first l.p));
-      cost : l.below + show_costs (columns l.top l.links l.color) (reverse (places first (l.q + 1))) ≡ show_costs (columns l.initial.top l.initial.links l.color) (reverse (places first l.p));
+      walk : Underway shown hide_cost CanShow (columns l.initial.top l.initial.links l.color) (reverse (places first l.p)) (columns l.top l.links l.color) (reverse (places first (l.q + 1))) l.below;
       before : l.q < l.p;
       from : first ≤ l.q + 1;
       counted : l.writes.count ≡ l.initial.writes.count + l.below;

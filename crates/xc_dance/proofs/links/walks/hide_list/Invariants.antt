@@ -1,18 +1,17 @@
-use Rattle.std.proofs.Common.{◌≡◌, false, ◌+◌, ◌*◌, ◌^◌, ◌≤◌, drop, fold}
+use Rattle.std.proofs.Common.{◌≡◌, false, ◌+◌, ◌*◌, ◌^◌, ◌≤◌}
+use Rattle.xc_dance.specs.declared.links.nodes.Nodes.{Nodes}
 use Rattle.xc_dance.specs.Links.Columns.{values, columns}
-use Rattle.xc_dance.specs.Links.ListWalks.{left_node, IsWalk, walk_costs}
+use Rattle.xc_dance.specs.Links.ListWalks.{left_node, leave_cost, CanLeave}
 use Rattle.xc_dance.specs.Links.Unmarked.{IsUnmarked}
 use Rattle.xc_dance.specs.Links.Steps.{list_of}
+use Rattle.xc_dance.proofs.LinkedTables.Walks.{Following}
 use Rattle.xc_dance.proofs.links.walks.hide_list.Given as goal
 
--- what is left of the list leads to the same end
 abbrev pub invariant-loop : goal.invariant-loop
 invariant-loop l =
-    let xs = list_of (columns l.fn.top l.fn.links l.fn.color) l.i in
+    let old : Nodes = columns l.fn.top l.fn.links l.fn.color in
     record {
-      walk : IsWalk l.spans l.keep (columns l.top l.links l.color) l.p (drop l.counter xs);
-      done : fold (left_node l.spans l.keep) (columns l.top l.links l.color) (drop l.counter xs) ≡ fold (left_node l.spans l.keep) (columns l.initial.top l.initial.links l.initial.color) xs;
-      cost : l.count + walk_costs l.spans l.keep (columns l.top l.links l.color) (drop l.counter xs) ≡ walk_costs l.spans l.keep (columns l.initial.top l.initial.links l.initial.color) xs;
+      walk : Following (left_node l.spans l.keep) (leave_cost l.spans l.keep) (CanLeave l.spans l.keep) (λ (t : Nodes). t.dlink) old (list_of old l.i) (columns l.top l.links l.color) l.p l.counter l.count;
       unmarked : l.marks ≡ false → IsUnmarked l.spans (values l.color);
       counted : l.writes.count ≡ l.initial.writes.count + l.count;
       few : l.count ≤ 3 * 2 ^ 32 * l.counter;

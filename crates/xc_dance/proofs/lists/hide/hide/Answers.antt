@@ -29,7 +29,7 @@ take_out-requires-clause-list c =
 
 pub take_out-requires-clause-rises : goal.take_out-requires-clause-rises
 take_out-requires-clause-rises c =
-    let p = c.args.standing.now.problem in
+    let p = c.args.standing.now.puzzle in
     let t = c.args.standing.now.trail in
     let us = c.uses-u-items.result.now in
     let i = c.loop-u.u-index in
@@ -74,7 +74,7 @@ loop-u-preserved c =
 
 pub returns : goal.returns
 returns c =
-    let p = c.args.standing.now.problem in
+    let p = c.args.standing.now.puzzle in
     let t = c.args.standing.now.trail in
     let us = c.uses-u-items.result.now in
     let o = c.args.option in

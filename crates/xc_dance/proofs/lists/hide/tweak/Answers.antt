@@ -11,7 +11,7 @@ use Rattle.xc_dance.proofs.lists.hide.tweak.Goals as goal
 
 pub hide_if_open-requires-clause-option : goal.hide_if_open-requires-clause-option
 hide_if_open-requires-clause-option c =
-    let p = c.args.standing.now.problem in
+    let p = c.args.standing.now.puzzle in
     let t = c.args.standing.now.trail in
     let i = c.args.item in
     let are = lists_hold p t in
@@ -22,13 +22,13 @@ hide_if_open-requires-clause-option c =
 
 pub hide_if_open-requires-clause-lists : goal.hide_if_open-requires-clause-lists
 hide_if_open-requires-clause-lists c =
-    let p = c.args.standing.now.problem in
+    let p = c.args.standing.now.puzzle in
     let P : List (List ℕ) → Type 0 = λ l. AreLists p l in
     subst P (sym c.requires.lists) (lists_hold p c.args.standing.now.trail)
 
 pub take_out-requires-clause-list : goal.take_out-requires-clause-list
 take_out-requires-clause-list c =
-    let p = c.args.standing.now.problem in
+    let p = c.args.standing.now.puzzle in
     let t = c.args.standing.now.trail in
     let now = ap (λ (v : Versions). v.lists) c.hide_if_open.ensures ∙ ap (λ l. first_hidden t c.args.item (get_or c.list.result.now 0 0) l) c.requires.lists in
     let are = first_hidden_lists p t c.args.item (get_or c.list.result.now 0 0) (lists_after p t) (lists_hold p t) in
@@ -36,7 +36,7 @@ take_out-requires-clause-list c =
 
 pub take_out-requires-clause-rises : goal.take_out-requires-clause-rises
 take_out-requires-clause-rises c =
-    let p = c.args.standing.now.problem in
+    let p = c.args.standing.now.puzzle in
     let t = c.args.standing.now.trail in
     let i = c.args.item in
     let now = ap (λ (v : Versions). v.lists) c.hide_if_open.ensures ∙ ap (λ l. first_hidden t i (get_or c.list.result.now 0 0) l) c.requires.lists in
@@ -46,7 +46,7 @@ take_out-requires-clause-rises c =
 
 pub returns : goal.returns
 returns c =
-    let p = c.args.standing.now.problem in
+    let p = c.args.standing.now.puzzle in
     let t = c.args.standing.now.trail in
     let i = c.args.item in
     let x = get_or c.list.result.now 0 0 in

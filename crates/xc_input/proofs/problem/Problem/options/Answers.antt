@@ -10,8 +10,8 @@ overflow_cast-result c =
     let parts = length-pieces (0 ∷ c.self.inside.ends.items) c.self.inside.uses.items c.self.invariant.starts in
     omega (arith, parts, c.len.ensures, items-length c.self.inside.ends, c.self.invariant.sound.limits.options)
 
-pub returns : goal.returns
-returns c =
+pub returns-clause-value : goal.returns-clause-value
+returns-clause-value c =
     let parts = length-pieces (0 ∷ c.self.inside.ends.items) c.self.inside.uses.items c.self.invariant.starts in
     let count = ap (λ (v : Named). option_count v.puzzle) c.self.view_is in
     omega (arith, parts, c.len.ensures, items-length c.self.inside.ends, count)

@@ -1,0 +1,55 @@
+use Rattle.std.proofs.Common.{arith, ◌∙◌, ap, sym, subst, length, not, filter, List, ℕ, None, Some, ◌∷◌, ◌-◌}
+use Rattle.xc_dance.specs.declared.dance.Move.{Move}
+use Rattle.xc_dance.specs.Lists.Versions.{Versions}
+use Rattle.xc_dance.specs.Moves.{IsLegal, listed}
+use Rattle.xc_dance.specs.Lists.Taking.{list_at}
+use Rattle.xc_dance.specs.Lists.Losing.{lose, is_kept, AreLists, lists_after}
+use Rattle.xc_dance.proofs.LiveLists.Marks.{same_versions}
+use Rattle.xc_dance.proofs.MoveLemmas.Shortened.{lists_hold, list_after, length_numbers, lists_covered, lists_purified}
+use Rattle.xc_dance.proofs.lists.hide.hide_for.Goals as goal
+
+pub hide_options-requires-clause-lists : goal.hide_options-requires-clause-lists
+hide_options-requires-clause-lists c =
+    let p = c.args.standing.now.puzzle in
+    let P : List (List ℕ) → Type 0 = λ l. AreLists p l in
+    subst P (sym c.requires.lists) (lists_hold p c.args.standing.now.trail)
+
+pub hide_options-requires-in-Purify-clause-lists : goal.hide_options-requires-in-Purify-clause-lists
+hide_options-requires-in-Purify-clause-lists c =
+    let p = c.args.standing.now.puzzle in
+    let P : List (List ℕ) → Type 0 = λ l. AreLists p l in
+    subst P (sym c.requires.lists) (lists_hold p c.args.standing.now.trail)
+
+pub tweak-requires-clause-option : goal.tweak-requires-clause-option
+tweak-requires-clause-option c =
+    let p = c.args.standing.now.puzzle in
+    let t = c.args.standing.now.trail in
+    let i = c.in-Tweak.item in
+    let P : Move → Type 0 = λ m. IsLegal p t m in
+    let legal = subst P c.in-Tweak.is c.requires.legal in
+    let list = ap (λ l. list_at l (i - 1)) c.requires.lists ∙ list_after p t i legal.0.0 legal.0.1 in
+    omega (arith, ap (λ l. length l) list, length_numbers (listed p t i), legal.2)
+
+pub returns-in-Cover : goal.returns-in-Cover
+returns-in-Cover c =
+    let p = c.args.standing.now.puzzle in
+    let t = c.args.standing.now.trail in
+    let i = c.in-Cover.item in
+    let P : Move → Type 0 = λ m. IsLegal p t m in
+    let legal = subst P c.in-Cover.is c.requires.legal in
+    let lists = ap (λ (v : Versions). v.lists) c.hide_options.ensures
+    ∙ ap (λ l. lose t i (filter (λ o. not (is_kept p i None o)) (list_at l (i - 1))) l) c.requires.lists
+    ∙ lists_covered p t i legal.0.0 legal.0.1 ∙ ap (λ m. lists_after p (m ∷ t)) (sym c.in-Cover.is) in
+    same_versions lists (ap (λ (v : Versions). v.marked) c.hide_options.ensures) (ap (λ (v : Versions). v.room) c.hide_options.ensures)
+
+pub returns-in-Purify : goal.returns-in-Purify
+returns-in-Purify c =
+    let p = c.args.standing.now.puzzle in
+    let t = c.args.standing.now.trail in
+    let i = c.in-Purify.item in
+    let P : Move → Type 0 = λ m. IsLegal p t m in
+    let legal = subst P c.in-Purify.is c.requires.legal in
+    let lists = ap (λ (v : Versions). v.lists) c.hide_options-in-Purify.ensures
+    ∙ ap (λ l. lose t i (filter (λ o. not (is_kept p i (Some c.in-Purify.colour) o)) (list_at l (i - 1))) l) c.requires.lists
+    ∙ lists_purified p t i c.in-Purify.colour (omega (arith, legal.0.0)) legal.0.1 ∙ ap (λ m. lists_after p (m ∷ t)) (sym c.in-Purify.is) in
+    same_versions lists (ap (λ (v : Versions). v.marked) c.hide_options-in-Purify.ensures) (ap (λ (v : Versions). v.room) c.hide_options-in-Purify.ensures)

@@ -1,0 +1,156 @@
+-- Steps of a draft.
+use Rattle.std.proofs.Common.{◌≡◌, ℕ, suc, ◌+◌, ◌<◌, ◌≤◌, List, [], ◌∷◌, ◌++◌, None, Some, Bool, true, false, ◌||◌, ◌&&◌, not, nat_lt, unwrap_or, length, map, position, refl, ap, ◌∙◌, sym, subst, arith, if◌then◌else◌, Vec, Global, length-append}
+use Rattle.std.proofs.lemmas.Bool.Decides.{nat_tests}
+use Rattle.std.proofs.lemmas.Slice.Eq.{bytes_eq-Decides}
+use Rattle.std.specs.List.{list_any, position_or_len}
+use Rattle.std.specs.Str.{bytes_eq}
+use Rattle.xc_input.specs.declared.kind.Kind.{Kind}
+use Rattle.xc_input.specs.declared.fault.FaultKind.TheVariants.{TooManyUses}
+use Rattle.xc_input.specs.declared.problem.Use.{Use}
+use Rattle.xc_input.specs.declared.option_line.WrittenUse.{WrittenUse}
+use Rattle.xc_input.specs.declared.builder.ProblemBuilder.{ProblemBuilder}
+use Rattle.xc_input.specs.Words.{place}
+use Rattle.xc_input.specs.Tokens.{tokens, parts}
+use Rattle.xc_input.specs.Sheets.{Written, names_of, colour_number, use_count, number_uses, with_uses, with_colour}
+use Rattle.xc_input.specs.Faults.{first, option_checks, has_primary, row_checks, no_row, context, written}
+use Rattle.xc_input.specs.Limits.{most_uses, most_items}
+use Rattle.xc_input.specs.Stages.{content_checks, with_option, written_by}
+use Rattle.xc_input.specs.inner.Builders.{AreMarks, AreNames, IsBuilder, stage_of_builder, sheet_of_builder, written_of, entry_of}
+use Rattle.xc_input.specs.Stored.{key_names}
+use Rattle.xc_input.specs.Flat.{pieces, AreStarts}
+use Rattle.std.proofs.lemmas.List.{length-map}
+use Rattle.xc_input.proofs.SheetValidity.{number_uses-length}
+use Rattle.xc_input.proofs.FlatParts.{pieces-snoc, pieces-total}
+use Rattle.xc_input.proofs.FaultLemmas.{first-back, no-place, map-length, names_of-length}
+
+-- the number of a colour that was added last
+last-or-len : {A : Type 0} (p : A → Bool) (xs : List A) (x : A) → list_any p xs ≡ false → p x ≡ true → position_or_len p (xs ++ x ∷ []) ≡ length xs
+last-or-len p [] x e f = ap (λ t. if not t then 1 + 0 else 0) f
+last-or-len p (y ∷ ys) x e f =
+    let P : Bool → Type 0 = λ t. (t || list_any p ys) ≡ false → (if not t then 1 + position_or_len p (ys ++ x ∷ []) else 0) ≡ suc (length ys) in
+    let h : P (p y) = (elim (p y) as P [ true ↦ λ g. absurd (cc) | false ↦ λ g. let r : position_or_len p (ys ++ x ∷ []) ≡ length ys = last-or-len p ys x g f in omega arith ]) in h e
+
+last-position : {A : Type 0} (p : A → Bool) (xs : List A) (x : A) → position p xs ≡ None → p x ≡ true → position p (xs ++ x ∷ []) ≡ Some (length xs)
+last-position p xs x e f =
+    let at : position_or_len p (xs ++ x ∷ []) ≡ length xs = last-or-len p xs x (no-place p xs e) f in
+    let all : length (xs ++ x ∷ []) ≡ length xs + 1 = length-append xs (x ∷ []) in
+    let t : nat_lt (position_or_len p (xs ++ x ∷ [])) (length (xs ++ x ∷ [])) ≡ true = grind (arith, nat_tests) in
+    ap (λ b. if b then Some (position_or_len p (xs ++ x ∷ [])) else None) t ∙ ap Some at
+
+pub new-number : (old new : List (List ℕ)) (colour : List ℕ) (n : ℕ) → 0 < length colour → place old colour ≡ None → new ≡ old ++ colour ∷ [] → n ≡ length old → n + 1 ≡ colour_number new colour
+new-number old new [] n h e f g = absurd (omega arith)
+new-number old new (b ∷ bs) n h e f g =
+    let is : place new (b ∷ bs) ≡ Some (length old) = ap (λ cs. place cs (b ∷ bs)) f ∙ last-position (bytes_eq (b ∷ bs)) old (b ∷ bs) e ((bytes_eq-Decides (b ∷ bs) (b ∷ bs)).1 refl) in
+    ap (λ m. m + 1) g ∙ ap (λ o. unwrap_or o 0 + 1) (sym is)
+
+pub keys-count : (d : ProblemBuilder) → IsBuilder d → length d.marks.items ≡ length d.names.keys
+keys-count d s =
+    let a : length (key_names d.names.keys) ≡ length d.names.keys = map-length (λ (v : Vec ℕ Global). v.items) d.names.keys in
+    let b : length (key_names d.names.keys) ≡ length (names_of (map entry_of d.items.items)) = ap length s.names in
+    let e : length (names_of (map entry_of d.items.items)) ≡ length (map entry_of d.items.items) = names_of-length (map entry_of d.items.items) in
+    let g : length (map entry_of d.items.items) ≡ length d.items.items = map-length entry_of d.items.items in
+    let m : length d.marks.items ≡ length d.items.items = s.marks in omega arith
+
+pub keys-few : (d : ProblemBuilder) → IsBuilder d → length d.names.keys ≤ most_items
+keys-few d s =
+    let a : length (key_names d.names.keys) ≡ length d.names.keys = map-length (λ (v : Vec ℕ Global). v.items) d.names.keys in
+    let b : length (key_names d.names.keys) ≡ length (names_of (map entry_of d.items.items)) = ap length s.names in
+    let e : length (names_of (map entry_of d.items.items)) ≡ length (map entry_of d.items.items) = names_of-length (map entry_of d.items.items) in
+    let g : length (map entry_of d.items.items) ≡ length d.items.items = map-length entry_of d.items.items in
+    let m : length d.items.items ≤ most_items = s.few_items in omega arith
+
+pub uses-length : (old new : List Use) (cs : List (List ℕ)) (ps : List WrittenUse) → new ≡ old ++ number_uses cs (map written_of ps) → length new ≡ length old + length ps
+uses-length old new cs ps e =
+    let f : length (number_uses cs (map written_of ps)) ≡ length ps = number_uses-length cs (map written_of ps) ∙ map-length written_of ps in
+    ap length e ∙ length-append old (number_uses cs (map written_of ps)) ∙ ap (λ n. length old + n) f
+
+no-and : (b : Bool) → (if b && false then Some TooManyUses else None) ≡ None
+no-and true = refl
+no-and false = refl
+
+module _ (kind : Kind) (d : ProblemBuilder) (line : List ℕ) (s : IsBuilder d) (t : d.started ≡ true) where
+  uses-counted : use_count (pieces (0 ∷ d.ends.items) d.uses.items) ≡ length d.uses.items
+  uses-counted = let total = pieces-total 0 d.ends.items d.uses.items s.ends in omega (arith, total)
+
+  -- the checks of the tokens, and then that of the whole line
+  pub content-is : first (content_checks kind (stage_of_builder d) line)
+      ≡ first (option_checks (context kind (key_names d.names.keys) d.primary) [] (tokens line) ++ (TooManyUses, has_primary d.primary (written_by (sheet_of_builder d) line) && nat_lt most_uses (use_count (pieces (0 ∷ d.ends.items) d.uses.items) + length (tokens line))) ∷ [])
+  content-is =
+      ap (λ b. first (if b then option_checks (context kind (names_of (map entry_of d.items.items)) d.primary) [] (tokens line) ++ (TooManyUses, has_primary d.primary (written_by (sheet_of_builder d) line) && nat_lt most_uses (use_count (pieces (0 ∷ d.ends.items) d.uses.items) + length (tokens line))) ∷ [] else row_checks kind no_row (parts line))) t
+      ∙ ap (λ ns. first (option_checks (context kind ns d.primary) [] (tokens line) ++ (TooManyUses, has_primary d.primary (written_by (sheet_of_builder d) line) && nat_lt most_uses (use_count (pieces (0 ∷ d.ends.items) d.uses.items) + length (tokens line))) ∷ [])) (sym s.names)
+
+  module _ (ps : List WrittenUse) (us : map written_of ps ≡ map (written (key_names d.names.keys)) (tokens line)) where
+    pub by-parts : written_by (sheet_of_builder d) line ≡ map written_of ps
+    by-parts = ap (λ ns. map (written ns) (tokens line)) (sym s.names) ∙ sym us
+
+    module _ (ok : first (option_checks (context kind (key_names d.names.keys) d.primary) [] (tokens line)) ≡ None) (b : Bool) (p : b ≡ has_primary d.primary (map written_of ps)) where
+      whole-line : first (content_checks kind (stage_of_builder d) line) ≡ (if b && nat_lt most_uses (length d.uses.items + length ps) then Some TooManyUses else None)
+      whole-line =
+          let n : length (tokens line) ≡ length ps = sym (length-map (tokens line) (written (key_names d.names.keys))) ∙ ap length (sym us) ∙ map-length written_of ps in
+          content-is ∙ first-back (option_checks (context kind (key_names d.names.keys) d.primary) [] (tokens line)) ((TooManyUses, has_primary d.primary (written_by (sheet_of_builder d) line) && nat_lt most_uses (use_count (pieces (0 ∷ d.ends.items) d.uses.items) + length (tokens line))) ∷ []) ok
+          ∙ (λ i. if (ap (has_primary d.primary) by-parts ∙ sym p) i && nat_lt most_uses (uses-counted i + n i) then Some TooManyUses else None)
+
+      pub no-primary : b ≡ false → first (content_checks kind (stage_of_builder d) line) ≡ None
+      no-primary e = whole-line ∙ ap (λ c. if c && nat_lt most_uses (length d.uses.items + length ps) then Some TooManyUses else None) e
+
+      pub too-long : b ≡ true → most_uses < length d.uses.items + length ps → first (content_checks kind (stage_of_builder d) line) ≡ Some TooManyUses
+      too-long e h = whole-line ∙ (let z : nat_lt most_uses (length d.uses.items + length ps) ≡ true = grind (arith, nat_tests) in λ i. if e i && z i then Some TooManyUses else None)
+
+      pub fits : length d.uses.items + length ps ≤ most_uses → first (content_checks kind (stage_of_builder d) line) ≡ None
+      fits h = whole-line ∙ (let z : nat_lt most_uses (length d.uses.items + length ps) ≡ false = grind (arith, nat_tests) in ap (λ c. if b && c then Some TooManyUses else None) z ∙ no-and b)
+
+    module _ (b : Bool) (p : b ≡ has_primary d.primary (map written_of ps)) (e : b ≡ true) (count : ℕ) (d' : ProblemBuilder) (same : (d'.started ≡ d.started) × (d'.names ≡ d.names) × (d'.items ≡ d.items) × (d'.primary ≡ d.primary) × (d'.ignored ≡ d.ignored))
+        (uses : d'.uses.items ≡ d.uses.items ++ number_uses (key_names d.colours.keys) (map written_of ps)) (colours : key_names d'.colours.keys ≡ with_uses (key_names d.colours.keys) (map written_of ps))
+        (marks : length d'.marks.items ≡ length d'.items.items) (unmarked : AreMarks d'.marks.items []) (few : length (key_names d'.colours.keys) ≤ length d'.uses.items) (ends : d'.ends.items ≡ d.ends.items ++ length d'.uses.items ∷ []) (room : length d.uses.items + length ps ≤ most_uses) where
+      new-length : length d'.uses.items ≡ length d.uses.items + length ps
+      new-length = uses-length d.uses.items d'.uses.items (key_names d.colours.keys) ps uses
+
+      cut : AreStarts (0 ∷ d.ends.items ++ length d'.uses.items ∷ []) (length (d.uses.items ++ number_uses (key_names d.colours.keys) (map written_of ps)))
+          × (pieces (0 ∷ d.ends.items ++ length d'.uses.items ∷ []) (d.uses.items ++ number_uses (key_names d.colours.keys) (map written_of ps)) ≡ pieces (0 ∷ d.ends.items) d.uses.items ++ number_uses (key_names d.colours.keys) (map written_of ps) ∷ [])
+      cut =
+          let f : length (number_uses (key_names d.colours.keys) (map written_of ps)) ≡ length ps = number_uses-length (key_names d.colours.keys) (map written_of ps) ∙ map-length written_of ps in
+          pieces-snoc 0 d.ends.items d.uses.items (number_uses (key_names d.colours.keys) (map written_of ps)) (length d'.uses.items) s.ends (let n : length d'.uses.items ≡ length d.uses.items + length ps = new-length in omega arith)
+
+      pub taken : IsBuilder d' × (stage_of_builder d' ≡ with_option count (stage_of_builder d) (written_by (sheet_of_builder d) line))
+      taken = (
+        record {
+          names = subst (λ k. key_names k.keys ≡ names_of (map entry_of d'.items.items)) (sym same.1) (subst (λ k. key_names d.names.keys ≡ names_of (map entry_of k.items)) (sym same.2) s.names);
+          named = subst (λ k. AreNames (key_names k.keys)) (sym same.1) s.named;
+          few_items = subst (λ k. length k.items ≤ most_items) (sym same.2) s.few_items;
+          ends = subst (λ es. AreStarts (0 ∷ es) (length d'.uses.items)) (sym ends) (subst (λ us. AreStarts (0 ∷ d.ends.items ++ length d'.uses.items ∷ []) (length us)) (sym uses) cut.0);
+          few_uses = let n : length d'.uses.items ≡ length d.uses.items + length ps = new-length in omega arith;
+          marks = marks;
+          unmarked = unmarked;
+          few_colours = few;
+        },
+        (λ i. record {
+          started = (same.0 ∙ t) i;
+          sheet = record {
+            entries = map entry_of (same.2 i).items;
+            primaries = same.3 i;
+            options = ((λ j. pieces (0 ∷ ends j) (uses j)) ∙ cut.1) i;
+            colours = colours i;
+          };
+          ignored = (same.4 i).items;
+        })
+            ∙ ap (λ us. record {
+              started = true;
+              sheet = record {
+                entries = map entry_of d.items.items;
+                primaries = d.primary;
+                options = pieces (0 ∷ d.ends.items) d.uses.items ++ number_uses (key_names d.colours.keys) us ∷ [];
+                colours = with_uses (key_names d.colours.keys) us;
+              };
+              ignored = d.ignored.items;
+            }) (sym by-parts)
+            ∙ sym (ap (λ c. if c then record {
+              started = true;
+              sheet = record {
+                entries = map entry_of d.items.items;
+                primaries = d.primary;
+                options = pieces (0 ∷ d.ends.items) d.uses.items ++ number_uses (key_names d.colours.keys) (written_by (sheet_of_builder d) line) ∷ [];
+                colours = with_uses (key_names d.colours.keys) (written_by (sheet_of_builder d) line);
+              };
+              ignored = d.ignored.items;
+            } else record { started = true; sheet = sheet_of_builder d; ignored = d.ignored.items ++ count ∷ [] }) (ap (has_primary d.primary) by-parts ∙ sym p ∙ e)),
+      )

@@ -1,0 +1,12 @@
+use Rattle.std.proofs.Common.{◌∙◌, ◌<◌, sym, length, arith}
+use Rattle.std.proofs.lemmas.Bool.Decides.{nat_tests}
+use Rattle.xc_input.specs.Stored.{key_names}
+use Rattle.xc_input.proofs.FaultLemmas.{map-length}
+use Rattle.xc_input.proofs.BuilderLemmas.{new-number}
+use Rattle.xc_input.proofs.builder.number_colour.Goals as goal
+
+pub returns-clause-number : goal.returns-clause-number
+returns-clause-number c =
+    let some : 0 < length c.args.colour.now = grind (arith, nat_tests) in
+    new-number (key_names c.args.colours.now.keys) (key_names c.add_name.new.names.keys) c.args.colour.now _ some (sym c.place_of.ensures ∙ c.in_default.is) c.in_ok-place.ensures.added
+    (c.in_ok-place.ensures.place ∙ sym (map-length (λ v. v.items) c.args.colours.now.keys))

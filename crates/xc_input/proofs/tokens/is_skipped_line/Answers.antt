@@ -1,0 +1,12 @@
+use Rattle.std.proofs.Common.{◌≡◌, ◌∙◌, [], length, arith, sym}
+use Rattle.std.proofs.lemmas.List.{nil_from_length}
+use Rattle.xc_input.proofs.TokenLemmas.{skipped-front, skipped-first}
+use Rattle.xc_input.proofs.tokens.is_skipped_line.Goals as goal
+
+pub returns-in-empty : goal.returns-in-empty
+returns-in-empty c =
+    let none : length c.skip_white.result.now ≡ 0 = omega (arith, c.in-empty.len_below) in
+    skipped-front c.args.line.now [] (sym (nil_from_length c.skip_white.result.now none) ∙ c.skip_white.ensures)
+
+pub returns-in-len1-up : goal.returns-in-len1-up
+returns-in-len1-up c = skipped-first c.args.line.now c.skip_white.result.now c.skip_white.ensures c.in-len1-up.len_at_least

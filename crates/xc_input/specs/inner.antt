@@ -1,0 +1,5 @@
+pub mod Vectors
+pub mod Fronts
+pub mod Builders
+pub mod Feeding
+pub mod Hashing

@@ -1,0 +1,91 @@
+-- No public clause cites this module. What the parts of the reader hold, in the words of the grammar.
+use Rattle.std.specs.Prelude.{◌≡◌, ◌≢◌, ℕ, ◌+◌, ◌<◌, ◌≤◌, Bool, false, nat_eq, List, [], ◌∷◌, Option, None, Some, Result, Ok, Err, All, AllPairs, map, length, get_or}
+use Rattle.std.specs.List.{list_any}
+use Rattle.xc_input.specs.declared.problem.Item.{Item}
+use Rattle.xc_input.specs.declared.fault.FaultKind.{FaultKind}
+use Rattle.xc_input.specs.declared.fault.InputError.{InputError}
+use Rattle.xc_input.specs.declared.fault.InputError.TheVariants.{Fault as BadLine, Memory as NoMemory}
+use Rattle.xc_input.specs.declared.item_line.ItemLine.{ItemLine}
+use Rattle.xc_input.specs.declared.line_error.LineError.{LineError}
+use Rattle.xc_input.specs.declared.line_error.LineError.TheVariants.{Fault, Memory}
+use Rattle.xc_input.specs.declared.option_line.WrittenUse.{WrittenUse}
+use Rattle.xc_input.specs.declared.builder.ProblemBuilder.{ProblemBuilder}
+use Rattle.xc_input.specs.Named.{IsName}
+use Rattle.xc_input.specs.Tokens.{is_space}
+use Rattle.xc_input.specs.Flat.{pieces, AreStarts}
+use Rattle.xc_input.specs.Stored.{key_names}
+use Rattle.xc_input.specs.Stages.{Stage}
+use Rattle.xc_input.specs.Sheets.{Entry, Sheet, Written, names_of}
+use Rattle.xc_input.specs.Faults.{Row}
+use Rattle.xc_input.specs.Limits.{most_items, most_uses}
+
+-- the answer to what has this first fault
+abbrev pub Judged : {T : Type 0} → Option FaultKind → Result T LineError → Type 0
+Judged fault (Ok x) = fault ≡ None
+Judged fault (Err (Fault kind)) = fault ≡ Some kind
+Judged fault (Err Memory) = Unit {0}
+
+-- an item as the grammar has it
+abbrev pub entry_of : Item → Entry
+entry_of item = record { name = item.name.items; low = item.low; high = item.high }
+
+-- the items of the item line, as the grammar has them
+abbrev pub row_of_line : ItemLine → Row
+row_of_line i = record { entries = map entry_of i.items.items; bar = i.bar }
+
+-- names without white space, no two of which are the same
+pub record AreNames (names : List (List ℕ)) : Type 0 where
+  pub named : All IsName names
+  pub solid : All (λ name. list_any is_space name ≡ false) names
+  pub distinct : AllPairs (λ x y. x ≢ y) names
+
+-- the table of names has the names of the items
+abbrev pub IsItemTable : ItemLine → Type 0
+IsItemTable i =
+    (key_names i.names.keys ≡ names_of (map entry_of i.items.items))
+    × (length i.items.items ≤ most_items) × AreNames (key_names i.names.keys)
+
+-- a use as the grammar has it
+abbrev pub written_of : WrittenUse → Written
+written_of p = record { item = p.item; colour = p.colour.now }
+
+-- the items of uses
+abbrev pub items_of : List Written → List ℕ
+items_of us = map (λ u. u.item) us
+
+-- of the items 1 to the length, these are marked
+abbrev pub AreMarks : List Bool → List ℕ → Type 0
+AreMarks marks seen = (k : ℕ) → k < length marks → get_or marks k false ≡ list_any (λ i. nat_eq i (k + 1)) seen
+
+-- a use of one of so many items
+abbrev pub IsMarkable : ℕ → WrittenUse → Type 0
+IsMarkable n p = (1 ≤ p.item) × (p.item ≤ n)
+
+-- what the lines so far wrote down
+abbrev pub sheet_of_builder : ProblemBuilder → Sheet
+sheet_of_builder d = record {
+  entries = map entry_of d.items.items;
+  primaries = d.primary;
+  options = pieces (0 ∷ d.ends.items) d.uses.items;
+  colours = key_names d.colours.keys;
+}
+
+-- what the lines so far gave
+abbrev pub stage_of_builder : ProblemBuilder → Stage
+stage_of_builder d = record { started = d.started; sheet = sheet_of_builder d; ignored = d.ignored.items }
+
+-- the tables of a draft agree
+pub record IsBuilder (d : ProblemBuilder) : Type 0 where
+  pub names : key_names d.names.keys ≡ names_of (map entry_of d.items.items)
+  pub named : AreNames (key_names d.names.keys)
+  pub few_items : length d.items.items ≤ most_items
+  pub ends : AreStarts (0 ∷ d.ends.items) (length d.uses.items)
+  pub few_uses : length d.uses.items ≤ most_uses
+  pub marks : length d.marks.items ≡ length d.items.items
+  pub unmarked : AreMarks d.marks.items []
+  pub few_colours : length (key_names d.colours.keys) ≤ length d.uses.items
+
+-- the error of the line of this number
+abbrev pub error_at : ℕ → LineError → InputError
+error_at line (Fault fault) = BadLine line fault
+error_at line Memory = NoMemory

@@ -1,0 +1,26 @@
+-- No public clause cites this module.
+-- The problem that vectors hold: the items, how many of them are primary, the uses of all
+-- options, where each option ends, and the colours.
+use Rattle.std.specs.Prelude.{◌≡◌, ℕ, ◌-◌, List, ◌∷◌, Vec, map, take, length}
+use Rattle.std.specs.declared.alloc.Global.{Global}
+use Rattle.xc_input.specs.declared.problem.Item.{Item}
+use Rattle.xc_input.specs.declared.problem.Use.{Use}
+use Rattle.xc_input.specs.Flat.{pieces, bounds_of, secondary_bounds}
+use Rattle.xc_input.specs.Named.{Named}
+use Rattle.xc_input.specs.Stored.{key_names}
+
+-- an item that may be left out, and is held at most once
+abbrev pub IsOptional : Item → Type 0
+IsOptional x = bounds_of x ≡ secondary_bounds
+
+-- the problem of such vectors
+abbrev pub named_from : List Item → ℕ → List Use → List ℕ → List (Vec ℕ Global) → Named
+named_from items primary uses ends keys = record {
+  names = map (λ x. x.name.items) items;
+  colours = key_names keys;
+  puzzle = record {
+    bounds = map bounds_of (take primary items);
+    secondary = length items - primary;
+    options = pieces (0 ∷ ends) uses;
+  };
+}

@@ -1,0 +1,188 @@
+//! The problem while it is read.
+
+ghost use Rattle.std.specs.Prelude.{◌≡◌, true, ◌≤◌, ◌<◌, ◌+◌, ◌++◌, [], None, Some, OnOk, IfOk, length, map};
+ghost use Rattle.xc_input.specs.Sheets.{with_colour, colour_number, number_uses, with_uses};
+ghost use Rattle.xc_input.specs.Faults.{first, has_primary, row_checks, no_row, row_of, written};
+ghost use Rattle.xc_input.specs.Limits.{most_uses};
+ghost use Rattle.xc_input.specs.Tokens.{parts};
+ghost use Rattle.xc_input.specs.Stages.{line_checks, content_checks, with_line, with_option, written_by, no_stage, with_row};
+ghost use Rattle.xc_input.specs.inner.Builders.{Judged, IsBuilder, AreMarks, stage_of_builder, sheet_of_builder, written_of};
+ghost use Rattle.xc_input.specs.Stored.{key_names};
+
+use crate::guess::Guesses;
+use crate::item_line::{ItemLine, item_line};
+use crate::limits::MOST_USES;
+use crate::line_error::LineError;
+use crate::names::{NameSet, add_name, no_names, place_of};
+use crate::option_line::{WrittenUse, option_line};
+use crate::problem::{Item, Use};
+use crate::tokens::{has_byte, is_skipped_line};
+use crate::{FaultKind, Kind};
+use std::alloc::{AllocError, Global};
+
+/// What the lines so far gave.
+#[derive(Drop)]
+pub struct ProblemBuilder {
+    pub started: bool,
+    pub names: NameSet,
+    pub guesses: Guesses,
+    pub items: Vec<Item>,
+    pub primary: u32,
+    pub marks: Vec<bool>,
+    pub colours: NameSet,
+    pub uses: Vec<Use>,
+    pub ends: Vec<u32>,
+    pub ignored: Vec<u64>,
+}
+
+impl ProblemBuilder {
+    /// Nothing is read yet.
+    pub fn new(alloc: Global) -> ProblemBuilder
+        ensures sound { IsBuilder result }
+        ensures stage { stage_of_builder result ≡ no_stage }
+    {
+        ProblemBuilder {
+            started: false,
+            names: no_names(alloc),
+            guesses: Guesses::none(alloc),
+            items: Vec::new(alloc),
+            primary: 0,
+            marks: Vec::new(alloc),
+            colours: no_names(alloc),
+            uses: Vec::new(alloc),
+            ends: Vec::new(alloc),
+            ignored: Vec::new(alloc),
+        }
+    }
+
+    /// Takes the line of this number.
+    pub fn take(
+        &mut self,
+        alloc: Global,
+        kind: Kind,
+        count: u64,
+        line: &[u8],
+    ) -> Result<(), LineError>
+        requires { IsBuilder self.old }
+        ensures judged { Judged (first (line_checks kind (stage_of_builder self.old) line.now)) result }
+        ensures taken { OnOk result (IsBuilder self.new × (stage_of_builder self.new ≡ with_line kind count (stage_of_builder self.old) line.now)) }
+    {
+        if has_byte(line, 0) {
+            return Err(LineError::Fault(FaultKind::NulByte));
+        }
+        if is_skipped_line(line) {
+            return Ok(());
+        }
+        if self.started {
+            self.take_option(alloc, kind, count, line)
+        } else {
+            self.take_items(alloc, kind, line)
+        }
+    }
+
+    /// Takes the item line.
+    fn take_items(&mut self, alloc: Global, kind: Kind, line: &[u8]) -> Result<(), LineError>
+        requires { IsBuilder self.old }
+        ensures judged { Judged (first (row_checks kind no_row (parts line.now))) result }
+        ensures taken { OnOk result (IsBuilder self.new × (stage_of_builder self.new ≡ record { started = true; sheet = with_row (sheet_of_builder self.old) (row_of kind no_row (parts line.now)); ignored = self.old.ignored.items })) }
+    {
+        let ItemLine { names, items, bar } = item_line(alloc, kind, line)?;
+        let marks = no_marks(alloc, items.len())?;
+        let guesses = Guesses::new(alloc, &names)?;
+        self.primary = bar.unwrap_or(items.len() as u32);
+        self.names = names;
+        self.guesses = guesses;
+        self.items = items;
+        self.marks = marks;
+        self.started = true;
+        Ok(())
+    }
+
+    /// Takes an option line.
+    fn take_option(
+        &mut self,
+        alloc: Global,
+        kind: Kind,
+        count: u64,
+        line: &[u8],
+    ) -> Result<(), LineError>
+        requires sound { IsBuilder self.old }
+        requires started { self.old.started ≡ true }
+        ensures judged { Judged (first (content_checks kind (stage_of_builder self.old) line.now)) result }
+        ensures taken { OnOk result (IsBuilder self.new × (stage_of_builder self.new ≡ with_option count (stage_of_builder self.old) (written_by (sheet_of_builder self.old) line.now))) }
+    {
+        let uses = option_line(
+            alloc,
+            kind,
+            &self.names,
+            &self.guesses,
+            self.primary,
+            &mut self.marks,
+            line,
+        )?;
+        if !has_primary_use(uses.as_slice(), self.primary) {
+            self.ignored.push(count)?;
+            return Ok(());
+        }
+        if uses.len() > MOST_USES - self.uses.len() {
+            return Err(LineError::Fault(FaultKind::TooManyUses));
+        }
+        add_uses(alloc, &mut self.colours, &mut self.uses, uses.as_slice())?;
+        self.ends.push(self.uses.len() as u32)?;
+        Ok(())
+    }
+}
+
+/// So many items, none of them marked.
+fn no_marks(alloc: Global, count: usize) -> Result<Vec<bool>, AllocError>
+    ensures count { IfOk result (λ v. length v.items ≡ count) }
+    ensures unmarked { IfOk result (λ v. AreMarks v.items []) }
+{
+    vec![in alloc; false; count]
+}
+
+/// Whether a use is of a primary item.
+fn has_primary_use(written: &[WrittenUse], primary: u32) -> bool
+    ensures { result ≡ has_primary primary (map written_of written.now) }
+{
+    written.iter().any(|u| u.item <= primary)
+}
+
+/// The number of a colour, which is a new one where it wasn't met yet.
+fn number_colour(alloc: Global, colours: &mut NameSet, colour: &[u8]) -> Result<u32, LineError>
+    requires { length (key_names colours.old.keys) < most_uses }
+    ensures judged { Judged None result }
+    ensures colours { OnOk result (key_names colours.new.keys ≡ with_colour (key_names colours.old.keys) colour.now) }
+    ensures number { IfOk result (λ n. n ≡ colour_number (key_names colours.new.keys) colour.now) }
+{
+    if colour.is_empty() {
+        return Ok(0);
+    }
+    if let Some(place) = place_of(colours, colour) {
+        return Ok(place as u32 + 1);
+    }
+    let place = add_name(alloc, colours, colour)?;
+    Ok(place as u32 + 1)
+}
+
+/// Adds the uses of an option that is kept.
+fn add_uses(
+    alloc: Global,
+    colours: &mut NameSet,
+    uses: &mut Vec<Use>,
+    written: &[WrittenUse],
+) -> Result<(), LineError>
+    requires room { length uses.old.items + length written.now ≤ most_uses }
+    requires few { length (key_names colours.old.keys) ≤ length uses.old.items }
+    ensures judged { Judged None result }
+    ensures uses { OnOk result (uses.new.items ≡ uses.old.items ++ number_uses (key_names colours.old.keys) (map written_of written.now)) }
+    ensures colours { OnOk result (key_names colours.new.keys ≡ with_uses (key_names colours.old.keys) (map written_of written.now)) }
+    ensures few { OnOk result (length (key_names colours.new.keys) ≤ length uses.new.items) }
+{
+    for u in written {
+        let item = u.item;
+        let colour = number_colour(alloc, colours, u.colour)?;
+        uses.push(Use { item, colour })?;
+    }
+    Ok(())
+}

@@ -1,0 +1,75 @@
+//! What is wrong with a text, and why no problem was read.
+
+ghost use Rattle.std.specs.Prelude.{◌≡◌};
+ghost use Rattle.xc_input.specs.FaultTexts.{fault_text};
+
+use std::fmt;
+use thiserror::Error;
+
+/// What is wrong with a line.
+#[derive(Clone, Copy, Debug, PartialEq, Eq)]
+pub enum FaultKind {
+    NoItems,
+    NulByte,
+    EmptyName,
+    NameTooLong,
+    BadByteInName,
+    RepeatedName,
+    TwoBars,
+    BadBound,
+    BoundOrder,
+    BoundOnSecondary,
+    UnknownItem,
+    RepeatedInOption,
+    ColourOnPrimary,
+    BadColour,
+    ColourNotHere,
+    TooManyItems,
+    TooManyUses,
+}
+
+impl FaultKind {
+    /// The fault in words.
+    pub fn text(self) -> &'static str
+        ensures { result.now ≡ fault_text self }
+    {
+        match self {
+            FaultKind::NoItems => "no items",
+            FaultKind::NulByte => "NUL byte",
+            FaultKind::EmptyName => "empty name",
+            FaultKind::NameTooLong => "name too long",
+            FaultKind::BadByteInName => "bad byte in name",
+            FaultKind::RepeatedName => "name repeated",
+            FaultKind::TwoBars => "second bar",
+            FaultKind::BadBound => "bad bound",
+            FaultKind::BoundOrder => "bound order",
+            FaultKind::BoundOnSecondary => "bound on a secondary item",
+            FaultKind::UnknownItem => "unknown item",
+            FaultKind::RepeatedInOption => "item repeated in option",
+            FaultKind::ColourOnPrimary => "colour on a primary item",
+            FaultKind::BadColour => "bad colour",
+            FaultKind::ColourNotHere => "colour not allowed here",
+            FaultKind::TooManyItems => "too many items",
+            FaultKind::TooManyUses => "too many uses",
+        }
+    }
+}
+
+impl fmt::Display for FaultKind {
+    fn fmt<W: fmt::Write>(&self, f: &mut fmt::Formatter<W>) -> fmt::Result {
+        f.write_str(self.text())
+    }
+}
+
+impl std::error::Error for FaultKind {}
+
+/// Why no problem was read.
+#[derive(Clone, Copy, Debug, PartialEq, Eq, Error)]
+pub enum InputError {
+    #[error("line {line}: {kind}")]
+    Fault { line: u64, kind: FaultKind },
+    #[error("a read failed")]
+    Device,
+    #[error("out of memory")]
+    Memory,
+}

@@ -1,0 +1,20 @@
+-- What helps to prove the checker of listings.
+pub mod AskedClasses
+pub mod BodiesOfClasses
+pub mod CheckedLines
+pub mod ClassUses
+pub mod ClassesSoFar
+pub mod CountedClasses
+pub mod CountedCovers
+pub mod CutBodies
+pub mod CutLines
+pub mod DecidedByClasses
+pub mod DifferentOptions
+pub mod FoundClasses
+pub mod HeldItems
+pub mod LastColours
+pub mod NotedLines
+pub mod NumberedTexts
+pub mod ReadUses
+pub mod Rotations
+pub mod ShortItems

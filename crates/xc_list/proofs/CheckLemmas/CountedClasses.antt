@@ -1,0 +1,253 @@
+-- What classes add to the counts, and that the counts are 0 again once they were cleared.
+use Rattle.std.proofs.Common.{ℕ, zero, suc, ◌≡◌, ◌≢◌, ◌+◌, ◌-◌, ◌<◌, ◌≤◌, ◌⊎◌, inl, inr, drop, ltb, ltb-true, ltb-false, Bool, true, false, cond, ◌==◌, List, [], ◌∷◌, ◌++◌, length, get_or, set, take, replicate, Some, refl, sym, ap, ◌∙◌, arith, subst, eqb-true, eq-eqb}
+use Rattle.std.specs.Prelude.{slice_get}
+use Rattle.std.specs.List.{AllByRecursion}
+use Rattle.std.proofs.lemmas.List.{append-nil, append_assoc, get_or-set_same, get_or-set_other, length-set, length-take-le, length-replicate, get_or-replicate, get_or_past, ext_get_or, take_more}
+use Rattle.std.proofs.lemmas.List.Elements.{recursion_from_All}
+use Rattle.xc_input.specs.declared.problem.Use.{Use}
+use Rattle.xc_input.specs.Problem.{item_count, uses_of, IsSoundUse}
+use Rattle.xc_input.specs.Named.{IsSound}
+use Rattle.xc_search.proofs.EachTwo.{EachTwo-append}
+use Rattle.xc_input.proofs.EachElement.{each_weaker, each-append, each_turned}
+use Rattle.xc_list.specs.Output.{rotated_at}
+use Rattle.xc_list.specs.inner.Classes.{Classes, AreClasses, class_of}
+use Rattle.xc_list.specs.inner.CoverCounts.{added, coloured, cleared, raised, lowered, uses_at, uses_in}
+use Rattle.xc_list.proofs.CheckLemmas.DifferentOptions.{counted}
+use Rattle.xc_list.proofs.CheckLemmas.Rotations.{DifferInItems, EachTwo-between, class-place, halves}
+use Rattle.xc_list.proofs.CheckLemmas.DecidedByClasses.{option-sound, option-differs}
+use Rattle.xc_list.proofs.CheckLemmas.HeldItems.{AreItems, held, added-at, added-append, coloured-append, cleared-append, length-added, length-cleared, held_once, each_take}
+
+-- ---- the uses of a class
+
+-- the uses of each class are of different items of the n
+abbrev pub AreUsable : ℕ → List (List Use) → Type 0
+AreUsable n classes = (k : ℕ) → k < length classes → AreItems n (uses_at classes k) × DifferInItems (uses_at classes k)
+
+pub slice_get-at : {X : Type 0} (xs : List X) (k : ℕ) (x d : X) → slice_get xs k ≡ Some x → get_or xs k d ≡ x
+slice_get-at [] k x d e = cc
+slice_get-at (y ∷ xs) zero x d e = cc
+slice_get-at (y ∷ xs) (suc k) x d e = slice_get-at xs k x d e
+
+pub at-slice_get : {X : Type 0} (xs : List X) (k : ℕ) (d : X) → k < length xs → slice_get xs k ≡ Some (get_or xs k d)
+at-slice_get [] k d l = absurd (omega (arith, l))
+at-slice_get (y ∷ xs) zero d l = refl
+at-slice_get (y ∷ xs) (suc k) d l = at-slice_get xs k d (omega (arith, l))
+
+differ_back : (a b : List Use) → DifferInItems (a ++ b) → DifferInItems b
+differ_back [] b d = d
+differ_back (u ∷ a) b d = differ_back a b d.1
+
+differ_front : (a b : List Use) → DifferInItems (a ++ b) → DifferInItems a
+differ_front [] b d = tt
+differ_front (u ∷ a) b d = (front a b d.0, differ_front a b d.1)
+  where
+    front : (xs ys : List Use) → AllByRecursion (λ v. u.item ≢ v.item) (xs ++ ys) → AllByRecursion (λ v. u.item ≢ v.item) xs
+    front [] ys h = tt
+    front (x ∷ xs) ys h = (h.0, front xs ys h.1)
+
+differ_turned : (a b : List Use) → DifferInItems (a ++ b) → DifferInItems (b ++ a)
+differ_turned a b d =
+    EachTwo-append (λ u v. u.item ≢ v.item) b a (differ_back a b d) (differ_front a b d) (λ u v h k e. EachTwo-between a b v u d k h (sym e))
+
+pub class-differs : (us : List Use) → DifferInItems us → DifferInItems (class_of us)
+class-differs us d =
+    let turn = class-place us in
+    let whole : DifferInItems (take turn.0 us ++ drop turn.0 us) = subst DifferInItems (sym (halves turn.0 us)) d in
+    subst DifferInItems (sym turn.1) (differ_turned (take turn.0 us) (drop turn.0 us) whole)
+
+pub classes_usable : (b : Classes) → IsSound b.problem → AreClasses b.problem.puzzle b.classes → AreUsable (item_count b.problem.puzzle) b.classes
+classes_usable b s are k l =
+    let p = b.problem.puzzle in
+    let n = item_count p in
+    let one = are.used k (uses_at b.classes k) (at-slice_get b.classes k [] l) in
+    let us = uses_of p one.0 in
+    let turn = class-place us in
+    let is : rotated_at turn.0 us ≡ uses_at b.classes k = sym turn.1 ∙ one.2 in
+    let sound = option-sound p s.valid one.0 one.1 in
+    let items : AreItems n us = each_weaker (IsSoundUse p) (λ u. (1 ≤ u.item) × (u.item ≤ n)) us (λ u h. h.0) (recursion_from_All (IsSoundUse p) us sound.sound) in
+    let whole : AreItems n (take turn.0 us ++ drop turn.0 us) = subst (AreItems n) (sym (halves turn.0 us)) items in (
+      subst (AreItems n) is (each_turned (λ u. (1 ≤ u.item) × (u.item ≤ n)) (take turn.0 us) (drop turn.0 us) whole),
+      subst DifferInItems one.2 (class-differs us (option-differs p s.valid one.0 one.1)),
+    )
+
+-- ---- the uses of classes
+
+pub uses_in-more : (classes : List (List Use)) (ks : List ℕ) (k : ℕ) → uses_in classes (ks ++ k ∷ []) ≡ uses_in classes ks ++ uses_at classes k
+uses_in-more classes [] k = append-nil (uses_at classes k)
+uses_in-more classes (j ∷ ks) k = ap (λ us. uses_at classes j ++ us) (uses_in-more classes ks k) ∙ sym (append_assoc (uses_at classes j) (uses_in classes ks) (uses_at classes k))
+
+uses_in-take : (classes : List (List Use)) (ks : List ℕ) (i : ℕ) → i < length ks → uses_in classes (take (i + 1) ks) ≡ uses_in classes (take i ks) ++ uses_at classes (get_or ks i 0)
+uses_in-take classes ks i l = ap (uses_in classes) (take_more ks i 0 l) ∙ uses_in-more classes (take i ks) (get_or ks i 0)
+
+pub added_class_more : (classes : List (List Use)) (ks : List ℕ) (i : ℕ) (ts : List ℕ) → i < length ks →
+    added (uses_in classes (take (i + 1) ks)) ts ≡ added (uses_at classes (get_or ks i 0)) (added (uses_in classes (take i ks)) ts)
+added_class_more classes ks i ts l = ap (λ us. added us ts) (uses_in-take classes ks i l) ∙ added-append (uses_in classes (take i ks)) (uses_at classes (get_or ks i 0)) ts
+
+pub coloured_class_more : (classes : List (List Use)) (ks : List ℕ) (i : ℕ) (cs : List ℕ) → i < length ks →
+    coloured (uses_in classes (take (i + 1) ks)) cs ≡ coloured (uses_at classes (get_or ks i 0)) (coloured (uses_in classes (take i ks)) cs)
+coloured_class_more classes ks i cs l = ap (λ us. coloured us cs) (uses_in-take classes ks i l) ∙ coloured-append (uses_in classes (take i ks)) (uses_at classes (get_or ks i 0)) cs
+
+pub cleared_class_more : (classes : List (List Use)) (ks : List ℕ) (i : ℕ) (ts : List ℕ) → i < length ks →
+    cleared (uses_in classes (take (i + 1) ks)) ts ≡ cleared (uses_at classes (get_or ks i 0)) (cleared (uses_in classes (take i ks)) ts)
+cleared_class_more classes ks i ts l = ap (λ us. cleared us ts) (uses_in-take classes ks i l) ∙ cleared-append (uses_in classes (take i ks)) (uses_at classes (get_or ks i 0)) ts
+
+abbrev pub AreBelow : ℕ → List ℕ → Type 0
+AreBelow n ks = AllByRecursion (λ k. k < n) ks
+
+pub items_in : (n : ℕ) (classes : List (List Use)) (ks : List ℕ) → AreUsable n classes → AreBelow (length classes) ks → AreItems n (uses_in classes ks)
+items_in n classes [] h a = tt
+items_in n classes (k ∷ ks) h a = each-append (λ u. (1 ≤ u.item) × (u.item ≤ n)) (uses_at classes k) (uses_in classes ks) (h k a.0).0 (items_in n classes ks h a.1)
+
+pub held-append : (i : ℕ) (us vs : List Use) → held i (us ++ vs) ≡ held i us + held i vs
+held-append i [] vs = omega arith
+held-append i (u ∷ us) vs = omega (arith, held-append i us vs)
+
+-- no item is held more often than there are classes
+held_few : (n i : ℕ) (classes : List (List Use)) (ks : List ℕ) → AreUsable n classes → AreBelow (length classes) ks → held i (uses_in classes ks) ≤ length ks
+held_few n i classes [] h a = omega arith
+held_few n i classes (k ∷ ks) h a =
+    omega (arith, held-append i (uses_at classes k) (uses_in classes ks), held_once i (uses_at classes k) (h k a.0).1, held_few n i classes ks h a.1)
+
+pub added_few : (n : ℕ) (classes : List (List Use)) (ks : List ℕ) (i k : ℕ) → AreUsable n classes → AreBelow (length classes) ks → i ≤ length ks → get_or (added (uses_in classes (take i ks)) (replicate n 0)) k 0 ≤ i
+added_few n classes ks i k h a l = by_case (ltb k n) refl
+  where
+    before : AreBelow (length classes) (take i ks)
+    before = each_take (λ j. j < length classes) i ks a
+
+    by_case : (v : Bool) → ltb k n ≡ v → get_or (added (uses_in classes (take i ks)) (replicate n 0)) k 0 ≤ i
+    by_case true q =
+        let below : k < n = ltb-true k n q in
+        omega (
+          arith,
+          added-at n (uses_in classes (take i ks)) (replicate n 0) k (items_in n classes (take i ks) h before) (sym (length-replicate {A = ℕ} n 0)) below,
+          get_or-replicate {A = ℕ} n k 0 0 below,
+          held_few n (suc k) classes (take i ks) h before,
+          length-take-le i ks l,
+        )
+    by_case false q =
+        omega (
+          arith,
+          get_or_past (added (uses_in classes (take i ks)) (replicate n 0)) k 0
+              (omega (arith, ltb-false k n q, length-added (uses_in classes (take i ks)) (replicate n 0), length-replicate {A = ℕ} n 0)),
+        )
+
+-- ---- how often classes are asked
+
+pub raised-append : (js ks ns : List ℕ) → raised (js ++ ks) ns ≡ raised ks (raised js ns)
+raised-append [] ks ns = refl
+raised-append (j ∷ js) ks ns = raised-append js ks (set ns j (get_or ns j 0 + 1))
+
+pub lowered-append : (js ks ns : List ℕ) → lowered (js ++ ks) ns ≡ lowered ks (lowered js ns)
+lowered-append [] ks ns = refl
+lowered-append (j ∷ js) ks ns = lowered-append js ks (set ns j 0)
+
+pub raised_more : (ks : List ℕ) (i : ℕ) (ns : List ℕ) → i < length ks → raised (take (i + 1) ks) ns ≡ raised (get_or ks i 0 ∷ []) (raised (take i ks) ns)
+raised_more ks i ns l = ap (λ js. raised js ns) (take_more ks i 0 l) ∙ raised-append (take i ks) (get_or ks i 0 ∷ []) ns
+
+pub lowered_more : (ks : List ℕ) (i : ℕ) (ns : List ℕ) → i < length ks → lowered (take (i + 1) ks) ns ≡ lowered (get_or ks i 0 ∷ []) (lowered (take i ks) ns)
+lowered_more ks i ns l = ap (λ js. lowered js ns) (take_more ks i 0 l) ∙ lowered-append (take i ks) (get_or ks i 0 ∷ []) ns
+
+pub length-raised : (ks ns : List ℕ) → length (raised ks ns) ≡ length ns
+length-raised [] ns = refl
+length-raised (k ∷ ks) ns = length-raised ks (set ns k (get_or ns k 0 + 1)) ∙ length-set ns k (get_or ns k 0 + 1)
+
+pub length-lowered : (ks ns : List ℕ) → length (lowered ks ns) ≡ length ns
+length-lowered [] ns = refl
+length-lowered (k ∷ ks) ns = length-lowered ks (set ns k 0) ∙ length-set ns k 0
+
+pub raised-at : (ks ns : List ℕ) (k : ℕ) → k < length ns → get_or (raised ks ns) k 0 ≡ get_or ns k 0 + counted (λ j. j == k) ks
+raised-at [] ns k l = omega arith
+raised-at (j ∷ ks) ns k l =
+    let later = raised-at ks (set ns j (get_or ns j 0 + 1)) k (omega (arith, l, length-set ns j (get_or ns j 0 + 1))) in
+    omega (arith, later, here (j == k) refl)
+  where
+    here : (v : Bool) → (j == k) ≡ v → get_or (set ns j (get_or ns j 0 + 1)) k 0 ≡ get_or ns k 0 + cond (j == k) 1 0
+    here true q =
+        let at : j ≡ k = eqb-true j k q in
+        let value : get_or (set ns k (get_or ns k 0 + 1)) k 0 ≡ get_or ns k 0 + 1 = get_or-set_same ns k (get_or ns k 0 + 1) 0 l in
+        rw q (subst (λ i. get_or (set ns i (get_or ns i 0 + 1)) k 0 ≡ get_or ns k 0 + 1) (sym at) value)
+    here false q =
+        let apart : k ≢ j = λ z. (let t = eq-eqb j k (sym z) in cc) in
+        rw q (omega (arith, get_or-set_other ns j k (get_or ns j 0 + 1) 0 apart))
+
+counted-le : (p : ℕ → Bool) (xs : List ℕ) → counted p xs ≤ length xs
+counted-le p [] = omega arith
+counted-le p (x ∷ xs) = elim (p x) as (λ b. cond b 1 0 + counted p xs ≤ suc (length xs)) [
+  | true ↦ omega (arith, counted-le p xs)
+  | false ↦ omega (arith, counted-le p xs)
+]
+
+pub raised_few : (n : ℕ) (ks : List ℕ) (i k : ℕ) → k < n → i ≤ length ks → get_or (raised (take i ks) (replicate n 0)) k 0 ≤ i
+raised_few n ks i k l m =
+    omega (arith, raised-at (take i ks) (replicate n 0) k (omega (arith, l, length-replicate {A = ℕ} n 0)), get_or-replicate {A = ℕ} n k 0 0 l, counted-le (λ j. j == k) (take i ks), length-take-le i ks m)
+
+-- ---- all 0 again
+
+cleared-at : (n : ℕ) (us : List Use) (ts : List ℕ) (k : ℕ) → AreItems n us → n ≡ length ts → k < n → (get_or ts k 0 ≡ 0) ⊎ (0 < held (suc k) us) → get_or (cleared us ts) k 0 ≡ 0
+cleared-at n [] ts k a e l (inl h) = h
+cleared-at n [] ts k a e l (inr h) = absurd (omega (arith, h))
+cleared-at n (u ∷ us) ts k a e l h =
+    cleared-at n us (set ts (u.item - 1) 0) k a.1 (e ∙ sym (length-set ts (u.item - 1) 0)) l (here (u.item == suc k) refl h)
+  where
+    here : (v : Bool) → (u.item == suc k) ≡ v → (get_or ts k 0 ≡ 0) ⊎ (0 < cond (u.item == suc k) 1 0 + held (suc k) us) → (get_or (set ts (u.item - 1) 0) k 0 ≡ 0) ⊎ (0 < held (suc k) us)
+    here true q _ =
+        let at : u.item - 1 ≡ k = omega (arith, eqb-true u.item (suc k) q) in
+        inl (subst (λ i. get_or (set ts i 0) k 0 ≡ 0) (sym at) (get_or-set_same ts k 0 0 (omega (arith, l, e))))
+    here false q h =
+        let ne : u.item ≢ suc k = λ z. (let t = eq-eqb u.item (suc k) z in cc) in
+        let apart : k ≢ u.item - 1 = λ z. ne (omega (arith, z, a.0.0)) in
+        let same = get_or-set_other ts (u.item - 1) k 0 0 apart in
+        elim (subst (λ b. (get_or ts k 0 ≡ 0) ⊎ (0 < cond b 1 0 + held (suc k) us)) q h) [ inl z ↦ inl (same ∙ z) | inr z ↦ inr (omega (arith, z)) ]
+
+lowered-at : (ks ns : List ℕ) (k : ℕ) → k < length ns → (get_or ns k 0 ≡ 0) ⊎ (0 < counted (λ j. j == k) ks) → get_or (lowered ks ns) k 0 ≡ 0
+lowered-at [] ns k l (inl h) = h
+lowered-at [] ns k l (inr h) = absurd (omega (arith, h))
+lowered-at (j ∷ ks) ns k l h =
+    lowered-at ks (set ns j 0) k (omega (arith, l, length-set ns j 0)) (here (j == k) refl h)
+  where
+    here : (v : Bool) → (j == k) ≡ v → (get_or ns k 0 ≡ 0) ⊎ (0 < cond (j == k) 1 0 + counted (λ j. j == k) ks) → (get_or (set ns j 0) k 0 ≡ 0) ⊎ (0 < counted (λ j. j == k) ks)
+    here true q _ = inl (subst (λ i. get_or (set ns i 0) k 0 ≡ 0) (sym (eqb-true j k q)) (get_or-set_same ns k 0 0 l))
+    here false q h =
+        let apart : k ≢ j = λ z. (let t = eq-eqb j k (sym z) in cc) in
+        let same = get_or-set_other ns j k 0 0 apart in
+        elim (subst (λ b. (get_or ns k 0 ≡ 0) ⊎ (0 < cond b 1 0 + counted (λ j. j == k) ks)) q h) [ inl z ↦ inl (same ∙ z) | inr z ↦ inr (omega (arith, z)) ]
+
+zero_or : (m n : ℕ) → m ≡ 0 + n → (m ≡ 0) ⊎ (0 < n)
+zero_or m zero e = inl (omega (arith, e))
+zero_or m (suc n) e = inr (omega arith)
+
+cleared_again : (n : ℕ) (us : List Use) → AreItems n us → cleared us (added us (replicate n 0)) ≡ replicate n 0
+cleared_again n us a =
+    ext_get_or 0 (cleared us ts) (replicate n 0) (length-cleared us ts ∙ length-added us (replicate n 0))
+    (λ k l. let below : k < n = omega (arith, l, size) in
+    cleared-at n us ts k a (sym (length-added us (replicate n 0) ∙ length-replicate {A = ℕ} n 0)) below
+    (zero_or (get_or ts k 0) (held (suc k) us) (omega (arith, added-at n us (replicate n 0) k a (sym (length-replicate {A = ℕ} n 0)) below, get_or-replicate {A = ℕ} n k 0 0 below)))
+    ∙ sym (get_or-replicate {A = ℕ} n k 0 0 below))
+  where
+    ts : List ℕ
+    ts = added us (replicate n 0)
+
+    size : length (cleared us (added us (replicate n 0))) ≡ n
+    size = length-cleared us (added us (replicate n 0)) ∙ length-added us (replicate n 0) ∙ length-replicate {A = ℕ} n 0
+
+lowered_again : (n : ℕ) (ks : List ℕ) → lowered ks (raised ks (replicate n 0)) ≡ replicate n 0
+lowered_again n ks =
+    ext_get_or 0 (lowered ks ns) (replicate n 0) (length-lowered ks ns ∙ length-raised ks (replicate n 0))
+    (λ k l. let below : k < n = omega (arith, l, size) in
+    lowered-at ks ns k (omega (arith, below, length-raised ks (replicate n 0), length-replicate {A = ℕ} n 0))
+    (zero_or (get_or ns k 0) (counted (λ j. j == k) ks) (omega (arith, raised-at ks (replicate n 0) k (omega (arith, below, length-replicate {A = ℕ} n 0)), get_or-replicate {A = ℕ} n k 0 0 below)))
+    ∙ sym (get_or-replicate {A = ℕ} n k 0 0 below))
+  where
+    ns : List ℕ
+    ns = raised ks (replicate n 0)
+
+    size : length (lowered ks (raised ks (replicate n 0))) ≡ n
+    size = length-lowered ks (raised ks (replicate n 0)) ∙ length-raised ks (replicate n 0) ∙ length-replicate {A = ℕ} n 0
+
+-- ---- between solutions
+
+pub times_again : (n : ℕ) (classes : List (List Use)) (ks ts : List ℕ) → AreUsable n classes → AreBelow (length classes) ks → ts ≡ replicate n 0 → cleared (uses_in classes ks) (added (uses_in classes ks) ts) ≡ ts
+times_again n classes ks ts h a e = subst (λ l. cleared (uses_in classes ks) (added (uses_in classes ks) l) ≡ l) (sym e) (cleared_again n (uses_in classes ks) (items_in n classes ks h a))
+
+pub asked_again : (n : ℕ) (ks ns : List ℕ) → ns ≡ replicate n 0 → lowered ks (raised ks ns) ≡ ns
+asked_again n ks ns e = subst (λ l. lowered ks (raised ks l) ≡ l) (sym e) (lowered_again n ks)

@@ -1,0 +1,231 @@
+-- A listed solution is a cover exactly where its classes are, by counting.
+use Rattle.std.specs.List.{AllZip}
+use Rattle.std.proofs.Common.{ℕ, zero, suc, ◌≡◌, ◌≢◌, ◌+◌, ◌<◌, ◌≤◌, Bool, true, false, cond, ◌==◌, List, [], ◌∷◌, ◌++◌, length, filter, Some, refl, sym, ap₂, ◌∙◌, arith, subst, inl, inr, eqb-true, eq-eqb, ltb, ltb-true, ltb-false}
+use Rattle.std.specs.Prelude.{slice_get, unwrap_or, is_some, All, IsTrue, ◌↔◌}
+use Rattle.std.proofs.lemmas.List.Elements.{recursion_from_All, All-from_recursion}
+use Rattle.xc_input.specs.declared.problem.Use.{Use}
+use Rattle.xc_input.specs.Problem.{Puzzle, IsSoundOption, IsSoundUse, IsValid, IsSecondary, option_count, uses_of, colour_in}
+use Rattle.xc_search.specs.Cover.{IsCover, times_held}
+use Rattle.xc_input.specs.Named.{Named, IsSound}
+use Rattle.xc_search.proofs.Members.{IsIn, each_in, each_from, in-slice_get, slice_get-in, in-append, append-in_left, append-in_right, in-map, map-in, in-contains, contains-in}
+use Rattle.xc_search.proofs.EachTwo.{EachTwo, EachTwo-append, EachTwo-map, EachTwo-at, each_two_from_AllPairs, AllPairs-from_each_two}
+use Rattle.xc_list.specs.Listed.{below, is_known, IsListedCover, stands_for}
+use Rattle.xc_list.specs.inner.Classes.{alike, numbers, class_of, same_uses, IsCoverOfClasses, IsOption}
+use Rattle.xc_list.proofs.CheckLemmas.DifferentOptions.{counted, is_counted, IsLikeness, AreAlike, AreApart, asked_within, give, IsGiving}
+use Rattle.xc_list.proofs.CheckLemmas.Rotations.{DifferInItems, colour-alike}
+use Rattle.xc_list.proofs.CheckLemmas.BodiesOfClasses.{AreTold, AreApartTexts, body-alike, body-class, same_uses-are, same_uses-itself}
+
+pub in-below : (n k : ℕ) → IsIn (below n) k → k < n
+in-below zero k h = absurd h
+in-below (suc n) k h = elim (in-append (below n) (n ∷ []) k h) [
+  | inl q ↦ let l = in-below n k q in omega (arith, l)
+  | inr q ↦ elim q [ inl e ↦ omega (arith, e) | inr z ↦ absurd z ]
+]
+
+pub below-in : (n k : ℕ) → k < n → IsIn (below n) k
+below-in zero k l = absurd (omega (arith, l))
+below-in (suc n) k l = elim (k == n) as (λ t. (k == n) ≡ t → IsIn (below n ++ n ∷ []) k) [
+  | true ↦ λ e. append-in_right (below n) (n ∷ []) k (inl (sym (eqb-true k n e)))
+  | false ↦ λ e. append-in_left (below n) (n ∷ []) k (below-in n k (let ne : k ≢ n = λ q. (let z = eq-eqb k n q in cc) in omega (arith, ne, l)))
+] refl
+
+pub below-apart : (n : ℕ) → EachTwo (λ a b. suc a ≢ suc b) (below n)
+below-apart zero = tt
+below-apart (suc n) = EachTwo-append (λ a b. suc a ≢ suc b) (below n) (n ∷ []) (below-apart n) (tt, tt)
+    (λ x y j k e. let l = in-below n x j in elim k [ inl q ↦ omega (arith, l, q, e) | inr z ↦ absurd z ])
+
+pub numbers-apart : (p : Puzzle) → AreApart (numbers p)
+numbers-apart p = EachTwo-map (λ a b. a ≢ b) suc (below (option_count p)) (below-apart (option_count p))
+
+pub in-numbers : (p : Puzzle) (o : ℕ) → IsIn (numbers p) o → IsOption p o
+in-numbers p o h = let from = in-map suc (below (option_count p)) o h in let l = in-below (option_count p) from.0 from.1 in let e = from.2 in (omega (arith, e), omega (arith, l, e))
+
+pub numbers-in : (p : Puzzle) (o : ℕ) → IsOption p o → IsIn (numbers p) o
+numbers-in p zero h = absurd (omega (arith, h.0))
+numbers-in p (suc o) h = map-in suc (below (option_count p)) o (below-in (option_count p) o (omega (arith, h.1)))
+
+slice_get_some : (xs : List (List Use)) (k : ℕ) → k < length xs → slice_get xs k ≡ Some (unwrap_or (slice_get xs k) [])
+slice_get_some [] k l = absurd (omega (arith, l))
+slice_get_some (x ∷ xs) zero l = refl
+slice_get_some (x ∷ xs) (suc k) l = slice_get_some xs k (omega (arith, l))
+
+-- the uses of an option are among those of the problem
+pub uses-in : (p : Puzzle) (o : ℕ) → IsOption p o → IsIn p.options (uses_of p o)
+uses-in p zero h = absurd (omega (arith, h.0))
+uses-in p (suc k) h = in-slice_get p.options k (unwrap_or (slice_get p.options k) []) (slice_get_some p.options k (omega (arith, h.1)))
+
+pub option-sound : (p : Puzzle) → IsValid p → (o : ℕ) → IsOption p o → IsSoundOption p (uses_of p o)
+option-sound p v o h = each_in (λ us. IsSoundOption p us) p.options (uses_of p o) (recursion_from_All (λ us. IsSoundOption p us) p.options v.options) (uses-in p o h)
+
+pub option-differs : (p : Puzzle) → IsValid p → (o : ℕ) → IsOption p o → DifferInItems (uses_of p o)
+option-differs p v o h = let s = option-sound p v o h in each_two_from_AllPairs (λ (u v : Use). u.item ≢ v.item) (uses_of p o) s.distinct
+
+pub option-told : (p : Named) → IsSound p → (o : ℕ) → IsOption p.puzzle o → AreTold p (uses_of p.puzzle o)
+option-told p r o h u k =
+    let us = uses_of p.puzzle o in
+    let s = option-sound p.puzzle r.valid o h in
+    let fit = each_in (IsSoundUse p.puzzle) us u (recursion_from_All (IsSoundUse p.puzzle) us s.sound) k in
+    let coloured = each_in (λ (us : List Use). All (λ (u : Use). u.colour ≤ length p.colours) us) p.puzzle.options us (recursion_from_All (λ (us : List Use). All (λ (u : Use). u.colour ≤ length p.colours) us) p.puzzle.options r.coloured) (uses-in p.puzzle o h) in
+    (fit.0.0, omega (arith, fit.0.1, r.named.count), each_in (λ (u : Use). u.colour ≤ length p.colours) us u (recursion_from_All (λ (u : Use). u.colour ≤ length p.colours) us coloured) k)
+
+pub texts-apart : (p : Named) → IsSound p → AreApartTexts p
+texts-apart p r = (each_two_from_AllPairs (λ (x y : List ℕ). x ≢ y) p.names r.named.distinct, each_two_from_AllPairs (λ (x y : List ℕ). x ≢ y) p.colours r.named.distinct_colours)
+
+pub alike-classes : (p : Puzzle) → IsLikeness (alike p)
+alike-classes p = record {
+  itself = λ a. same_uses-itself (class a);
+  back = λ a b h. subst (λ v. same_uses v (class a) ≡ true) (same_uses-are (class a) (class b) h) (same_uses-itself (class a));
+  on = λ a b c h k. subst (λ v. same_uses (class a) v ≡ true) (same_uses-are (class b) (class c) k) h;
+}
+  where
+    class : ℕ → List Use
+    class o = class_of (uses_of p o)
+
+abbrev AreKnown : Puzzle → List ℕ → Type 0
+AreKnown p s = (o : ℕ) → IsIn s o → IsOption p o
+
+-- what stands for the same bodies is alike
+-- options of the problem for bodies, for each one that it stands for
+abbrev pub StandFor : Named → List (List (List ℕ)) → List ℕ → Type 0
+StandFor p bodies s = AllZip (λ words o. IsTrue (stands_for p words o)) bodies s
+
+pub alike-bodies : (p : Named) → IsSound p → (bodies : List (List (List ℕ))) (reps s : List ℕ) → AreKnown p.puzzle reps → AreKnown p.puzzle s → StandFor p bodies reps → StandFor p bodies s → AreAlike (alike p.puzzle) reps s
+alike-bodies p r [] [] [] a b h k = tt
+alike-bodies p r [] [] (o ∷ s) a b h k = absurd k
+alike-bodies p r [] (q ∷ reps) s a b h k = absurd h
+alike-bodies p r (w ∷ bodies) [] s a b h k = absurd h
+alike-bodies p r (w ∷ bodies) (q ∷ reps) [] a b h k = absurd k
+alike-bodies p r (w ∷ bodies) (q ∷ reps) (o ∷ s) a b h k =
+    let x = a q (inl refl) in
+    let y = b o (inl refl) in
+    let class = body-class p w (texts-apart p r) (uses_of p.puzzle q) (uses_of p.puzzle o) (option-told p r q x) (option-told p r o y) (option-differs p.puzzle r.valid q x) (option-differs p.puzzle r.valid o y) (is h.0) (is k.0) in
+    (subst (λ v. same_uses (class_of (uses_of p.puzzle q)) v ≡ true) class (same_uses-itself (class_of (uses_of p.puzzle q))), alike-bodies p r bodies reps s (λ z j. a z (inr j)) (λ z j. b z (inr j)) h.1 k.1)
+  where
+    is : {b : Bool} → IsTrue b → b ≡ true
+    is h = h
+
+-- what is alike stands for the same bodies
+pub bodies-alike : (p : Named) → IsSound p → (bodies : List (List (List ℕ))) (reps s : List ℕ) → AreKnown p.puzzle reps → AreKnown p.puzzle s → StandFor p bodies reps → AreAlike (alike p.puzzle) reps s → StandFor p bodies s
+bodies-alike p r [] [] [] a b h z = tt
+bodies-alike p r [] [] (o ∷ s) a b h z = absurd z
+bodies-alike p r [] (q ∷ reps) s a b h z = absurd h
+bodies-alike p r (w ∷ bodies) [] s a b h z = absurd h
+bodies-alike p r (w ∷ bodies) (q ∷ reps) [] a b h z = absurd z
+bodies-alike p r (w ∷ bodies) (q ∷ reps) (o ∷ s) a b h z =
+    let x = a q (inl refl) in
+    let y = b o (inl refl) in (
+      body-alike p w (uses_of p.puzzle q) (uses_of p.puzzle o) (option-differs p.puzzle r.valid q x) (option-differs p.puzzle r.valid o y) (same_uses-are (class_of (uses_of p.puzzle q)) (class_of (uses_of p.puzzle o)) z.0) h.0,
+      bodies-alike p r bodies reps s (λ v j. a v (inr j)) (λ v j. b v (inr j)) h.1 z.1,
+    )
+
+-- alike options give each item the same colour
+pub colours-alike : (p : Puzzle) → IsValid p → (q o i : ℕ) → IsOption p q → IsOption p o → alike p q o ≡ true → colour_in (uses_of p q) i ≡ colour_in (uses_of p o) i
+colours-alike p v q o i x y e = colour-alike (uses_of p q) (uses_of p o) i (option-differs p v q x) (option-differs p v o y) (same_uses-are (class_of (uses_of p q)) (class_of (uses_of p o)) e)
+
+counted-alike : (p : Puzzle) → IsValid p → (i : ℕ) (reps s : List ℕ) → AreKnown p reps → AreKnown p s → AreAlike (alike p) reps s →
+    counted (λ o. is_some (colour_in (uses_of p o) i)) reps ≡ counted (λ o. is_some (colour_in (uses_of p o) i)) s
+counted-alike p v i [] [] a b z = refl
+counted-alike p v i [] (o ∷ s) a b z = absurd z
+counted-alike p v i (q ∷ reps) [] a b z = absurd z
+counted-alike p v i (q ∷ reps) (o ∷ s) a b z =
+    ap₂ (λ c n. cond (is_some c) 1 0 + n) (colours-alike p v q o i (a q (inl refl)) (b o (inl refl)) z.0) (counted-alike p v i reps s (λ x j. a x (inr j)) (λ x j. b x (inr j)) z.1)
+
+-- Alike options hold each item equally often.
+pub held-alike : (p : Puzzle) → IsValid p → (i : ℕ) (reps s : List ℕ) → AreKnown p reps → AreKnown p s → AreAlike (alike p) reps s → times_held p i reps ≡ times_held p i s
+held-alike p v i reps s a b z =
+    is_counted (λ o. is_some (colour_in (uses_of p o) i)) reps ∙ counted-alike p v i reps s a b z ∙ sym (is_counted (λ o. is_some (colour_in (uses_of p o) i)) s)
+
+-- the one at the same place
+alike-right : (same : ℕ → ℕ → Bool) (reps s : List ℕ) (k q : ℕ) → AreAlike same reps s → slice_get reps k ≡ Some q → (o : ℕ) × (slice_get s k ≡ Some o) × (same q o ≡ true)
+alike-right same [] [] k q z e = cc
+alike-right same [] (o ∷ s) k q z e = absurd z
+alike-right same (x ∷ reps) [] k q z e = absurd z
+alike-right same (x ∷ reps) (o ∷ s) zero q z e = let here : x ≡ q = cc in (o, refl, subst (λ v. same v o ≡ true) here z.0)
+alike-right same (x ∷ reps) (o ∷ s) (suc k) q z e = alike-right same reps s k q z.1 e
+
+alike-left : (same : ℕ → ℕ → Bool) (reps s : List ℕ) (k o : ℕ) → AreAlike same reps s → slice_get s k ≡ Some o → (q : ℕ) × (slice_get reps k ≡ Some q) × (same q o ≡ true)
+alike-left same [] [] k o z e = cc
+alike-left same [] (x ∷ s) k o z e = absurd z
+alike-left same (x ∷ reps) [] k o z e = absurd z
+alike-left same (q ∷ reps) (x ∷ s) zero o z e = let here : x ≡ o = cc in (q, refl, subst (λ v. same q v ≡ true) here z.0)
+alike-left same (q ∷ reps) (x ∷ s) (suc k) o z e = alike-left same reps s k o z.1 e
+
+pub classes_of_cover : (p : Puzzle) → IsValid p → (reps s : List ℕ) → AreKnown p reps → AreAlike (alike p) reps s → IsCover p s → IsCoverOfClasses p reps
+classes_of_cover p v reps s a z c = record {
+  asked = λ r. omega (arith, asked_within (alike p) (alike-classes p) (numbers p) reps s z apart (λ o k. numbers-in p o (known o k)) r, is_counted (alike p r) reps, is_counted (alike p r) (numbers p));
+  within = λ i b e. (let w = c.within i b e in let h = held-alike p v i reps s a known z in (omega (arith, w.0, h), omega (arith, w.1, h)));
+  agree = λ j k q r i x y l e f second g h. (
+      let o = alike-right (alike p) reps s j q z e in
+      let u = alike-right (alike p) reps s k r z f in
+      let in_o = in-slice_get s j o.0 o.1 in
+      let in_u = in-slice_get s k u.0 u.1 in
+      c.agree o.0 u.0 i x y (contains-in s o.0 in_o) (contains-in s u.0 in_u) (EachTwo-at (λ a b. a ≢ b) s j k o.0 u.0 apart l o.1 u.1) second
+      (sym (colours-alike p v q o.0 i (a q (in-slice_get reps j q e)) (known o.0 in_o) o.2) ∙ g)
+      (sym (colours-alike p v r u.0 i (a r (in-slice_get reps k r f)) (known u.0 in_u) u.2) ∙ h)
+      );
+}
+  where
+    apart : AreApart s
+    apart = each_two_from_AllPairs (λ (a b : ℕ). a ≢ b) s c.distinct
+
+    known : AreKnown p s
+    known o k = each_in (IsOption p) s o (recursion_from_All (IsOption p) s c.known) k
+
+pub cover_of_classes : (p : Puzzle) → IsValid p → (reps s : List ℕ) → AreKnown p reps → IsGiving (alike p) (numbers p) reps s → IsCoverOfClasses p reps → IsCover p s
+cover_of_classes p v reps s a g c = record {
+  known = All-from_recursion (IsOption p) s (each_from (IsOption p) s known);
+  distinct = AllPairs-from_each_two (λ (a b : ℕ). a ≢ b) s g.apart;
+  within = λ i b e. (let w = c.within i b e in let h = held-alike p v i reps s a known g.alike in (omega (arith, w.0, h), omega (arith, w.1, h)));
+  agree = λ o u i x y in_o in_u ne second e f. (
+      let j = slice_get-in s o (in-contains s o in_o) in
+      let k = slice_get-in s u (in-contains s u in_u) in
+      at o u i x y ne second e f j.0 k.0 j.1 k.1
+      );
+}
+  where
+    known : AreKnown p s
+    known o k = in-numbers p o (g.known o k)
+
+    colour : (q o i x : ℕ) (k : ℕ) → slice_get reps k ≡ Some q → slice_get s k ≡ Some o → alike p q o ≡ true → colour_in (uses_of p o) i ≡ Some x → colour_in (uses_of p q) i ≡ Some x
+    colour q o i x k e f z h = colours-alike p v q o i (a q (in-slice_get reps k q e)) (known o (in-slice_get s k o f)) z ∙ h
+
+    ordered : (o u i x y : ℕ) → IsSecondary p i → colour_in (uses_of p o) i ≡ Some x → colour_in (uses_of p u) i ≡ Some y → (j k : ℕ) → j < k → slice_get s j ≡ Some o → slice_get s k ≡ Some u → (x ≡ y) × (0 < x)
+    ordered o u i x y second e f j k l m n =
+        let q = alike-left (alike p) reps s j o g.alike m in
+        let r = alike-left (alike p) reps s k u g.alike n in
+        c.agree j k q.0 r.0 i x y l q.1 r.1 second (colour q.0 o i x j q.1 m q.2 e) (colour r.0 u i y k r.1 n r.2 f)
+
+    at : (o u i x y : ℕ) → o ≢ u → IsSecondary p i → colour_in (uses_of p o) i ≡ Some x → colour_in (uses_of p u) i ≡ Some y → (j k : ℕ) → slice_get s j ≡ Some o → slice_get s k ≡ Some u → (x ≡ y) × (0 < x)
+    at o u i x y ne second e f j k m n = by_order (ltb j k) refl
+      where
+        by_order : (t : Bool) → ltb j k ≡ t → (x ≡ y) × (0 < x)
+        by_order true l = ordered o u i x y second e f j k (ltb-true j k l) m n
+        by_order false l = by_same (j == k) refl
+          where
+            by_same : (t : Bool) → (j == k) ≡ t → (x ≡ y) × (0 < x)
+            by_same true q = absurd (ne (let same = eqb-true j k q in let w : slice_get s k ≡ Some o = subst (λ z. slice_get s z ≡ Some o) same m in cc))
+            by_same false q =
+                let apart : j ≢ k = λ z. (let w = eq-eqb j k z in cc) in
+                let le = ltb-false j k l in
+                let r = ordered u o i y x second f e k j (omega (arith, le, apart)) n m in
+                let same = r.0 in
+                (sym r.0, omega (arith, r.1, same))
+
+-- Whatever options are taken for the bodies, different ones can be given to them so that their set is a cover exactly
+-- where those taken are a cover of their classes.
+pub classes_decide : (p : Named) (bodies : List (List (List ℕ))) (reps : List ℕ) → IsSound p → All (IsOption p.puzzle) reps → StandFor p (filter (is_known p) bodies) reps →
+    IsListedCover p bodies ↔ IsCoverOfClasses p.puzzle reps
+classes_decide p bodies reps r all h = (
+  λ (g : IsListedCover p bodies). classes_of_cover p.puzzle r.valid reps g.0 a (alike-bodies p r known_bodies reps g.0 a (known g.0 g.2) h g.1) g.2,
+  λ c. (let g = give (alike p.puzzle) (alike-classes p.puzzle) (numbers p.puzzle) (numbers-apart p.puzzle) reps (λ q k. omega (arith, c.asked q, is_counted (alike p.puzzle q) reps, is_counted (alike p.puzzle q) (numbers p.puzzle))) in
+      (g.0, bodies-alike p r known_bodies reps g.0 a (λ o k. in-numbers p.puzzle o (g.1.known o k)) h g.1.alike, cover_of_classes p.puzzle r.valid reps g.0 a g.1 c)),
+)
+  where
+    known_bodies : List (List (List ℕ))
+    known_bodies = filter (is_known p) bodies
+
+    a : AreKnown p.puzzle reps
+    a o k = each_in (IsOption p.puzzle) reps o (recursion_from_All (IsOption p.puzzle) reps all) k
+
+    known : (s : List ℕ) → IsCover p.puzzle s → AreKnown p.puzzle s
+    known s c o k = each_in (IsOption p.puzzle) s o (recursion_from_All (IsOption p.puzzle) s c.known) k

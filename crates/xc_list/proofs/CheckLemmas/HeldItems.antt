@@ -1,0 +1,101 @@
+-- What uses add to the counts of their items.
+use Rattle.std.proofs.Common.{ℕ, zero, suc, ◌≡◌, ◌≢◌, ◌+◌, ◌-◌, ◌<◌, ◌≤◌, Bool, true, false, cond, ◌==◌, List, [], ◌∷◌, ◌++◌, length, get_or, set, take, refl, sym, ap, ◌∙◌, arith, subst, eqb-true, ne_eqb, eq-eqb}
+use Rattle.std.specs.List.{AllByRecursion}
+use Rattle.std.proofs.lemmas.List.{get_or-set_same, get_or-set_other, length-set, take_more}
+use Rattle.xc_input.specs.declared.problem.Use.{Use}
+use Rattle.xc_list.specs.inner.CoverCounts.{added, coloured, cleared}
+use Rattle.xc_list.proofs.CheckLemmas.Rotations.{DifferInItems}
+
+-- how many of these uses are of item i
+abbrev pub held : ℕ → List Use → ℕ
+held i [] = 0
+held i (u ∷ us) = cond (u.item == i) 1 0 + held i us
+
+abbrev pub AreItems : ℕ → List Use → Type 0
+AreItems n us = AllByRecursion (λ u. (1 ≤ u.item) × (u.item ≤ n)) us
+
+pub added-append : (us vs : List Use) (ts : List ℕ) → added (us ++ vs) ts ≡ added vs (added us ts)
+added-append [] vs ts = refl
+added-append (u ∷ us) vs ts = added-append us vs (set ts (u.item - 1) (get_or ts (u.item - 1) 0 + 1))
+
+pub coloured-append : (us vs : List Use) (cs : List ℕ) → coloured (us ++ vs) cs ≡ coloured vs (coloured us cs)
+coloured-append [] vs cs = refl
+coloured-append (u ∷ us) vs cs = coloured-append us vs (set cs (u.item - 1) u.colour)
+
+pub cleared-append : (us vs : List Use) (ts : List ℕ) → cleared (us ++ vs) ts ≡ cleared vs (cleared us ts)
+cleared-append [] vs ts = refl
+cleared-append (u ∷ us) vs ts = cleared-append us vs (set ts (u.item - 1) 0)
+
+pub length-added : (us : List Use) (ts : List ℕ) → length (added us ts) ≡ length ts
+length-added [] ts = refl
+length-added (u ∷ us) ts = length-added us (set ts (u.item - 1) (get_or ts (u.item - 1) 0 + 1)) ∙ length-set ts (u.item - 1) (get_or ts (u.item - 1) 0 + 1)
+
+pub length-coloured : (us : List Use) (cs : List ℕ) → length (coloured us cs) ≡ length cs
+length-coloured [] cs = refl
+length-coloured (u ∷ us) cs = length-coloured us (set cs (u.item - 1) u.colour) ∙ length-set cs (u.item - 1) u.colour
+
+pub length-cleared : (us : List Use) (ts : List ℕ) → length (cleared us ts) ≡ length ts
+length-cleared [] ts = refl
+length-cleared (u ∷ us) ts = length-cleared us (set ts (u.item - 1) 0) ∙ length-set ts (u.item - 1) 0
+
+-- at the place of each item
+pub added-at : (n : ℕ) (us : List Use) (ts : List ℕ) (k : ℕ) → AreItems n us → n ≡ length ts → k < n → get_or (added us ts) k 0 ≡ get_or ts k 0 + held (suc k) us
+added-at n [] ts k a e l = omega arith
+added-at n (u ∷ us) ts k a e l =
+    let next = set ts (u.item - 1) (get_or ts (u.item - 1) 0 + 1) in
+    let later = added-at n us next k a.1 (e ∙ sym (length-set ts (u.item - 1) (get_or ts (u.item - 1) 0 + 1))) l in
+    omega (arith, later, here (u.item == suc k) refl)
+  where
+    here : (v : Bool) → (u.item == suc k) ≡ v → get_or (set ts (u.item - 1) (get_or ts (u.item - 1) 0 + 1)) k 0 ≡ get_or ts k 0 + cond (u.item == suc k) 1 0
+    here true q =
+        let at : u.item - 1 ≡ k = omega (arith, eqb-true u.item (suc k) q) in
+        let value : get_or (set ts k (get_or ts k 0 + 1)) k 0 ≡ get_or ts k 0 + 1 = get_or-set_same ts k (get_or ts k 0 + 1) 0 (omega (arith, l, e)) in
+        rw (at, q) value
+    here false q =
+        let ne : u.item ≢ suc k = λ z. (let t = eq-eqb u.item (suc k) z in cc) in
+        let apart : k ≢ u.item - 1 = λ z. ne (omega (arith, z, a.0.0)) in
+        rw q (omega (arith, get_or-set_other ts (u.item - 1) k (get_or ts (u.item - 1) 0 + 1) 0 apart))
+
+-- ---- different items
+
+pub held_none : (i : ℕ) (us : List Use) → AllByRecursion (λ u. i ≢ u.item) us → held i us ≡ 0
+held_none i [] a = refl
+held_none i (u ∷ us) a =
+    let no : (u.item == i) ≡ false = ne_eqb u.item i (λ z. a.0 (sym z)) in
+    rw no (omega (arith, held_none i us a.1))
+
+pub held_once : (i : ℕ) (us : List Use) → DifferInItems us → held i us ≤ 1
+held_once i [] d = omega arith
+held_once i (u ∷ us) d = by_case (held_once i us d.1) (u.item == i) refl
+  where
+    by_case : held i us ≤ 1 → (v : Bool) → (u.item == i) ≡ v → cond (u.item == i) 1 0 + held i us ≤ 1
+    by_case later true q =
+        let none = held_none i us (subst (λ j. AllByRecursion (λ v. j ≢ v.item) us) (eqb-true u.item i q) d.0) in
+        rw q (omega (arith, none))
+    by_case later false q = rw q (omega (arith, later))
+
+-- the item of a use isn't held by those before it
+pub not_before : (us : List Use) (k : ℕ) (d : Use) → DifferInItems us → k < length us → held (get_or us k d).item (take k us) ≡ 0
+not_before [] k d a l = absurd (omega (arith, l))
+not_before (u ∷ us) zero d a l = refl
+not_before (u ∷ us) (suc k) d a l =
+    let other : u.item ≢ (get_or us k d).item = at (λ v. u.item ≢ v.item) us k a.0 (omega (arith, l)) in
+    let no : (u.item == (get_or us k d).item) ≡ false = ne_eqb _ _ other in
+    rw no (omega (arith, not_before us k d a.1 (omega (arith, l))))
+  where
+    at : (P : Use → Type 0) (vs : List Use) (j : ℕ) → AllByRecursion P vs → j < length vs → P (get_or vs j d)
+    at P [] j h m = absurd (omega (arith, m))
+    at P (v ∷ vs) zero h m = h.0
+    at P (v ∷ vs) (suc j) h m = at P vs j h.1 (omega (arith, m))
+
+pub each_take : {X : Type 0} (P : X → Type 0) (n : ℕ) (xs : List X) → AllByRecursion P xs → AllByRecursion P (take n xs)
+each_take P zero xs a = tt
+each_take P (suc n) [] a = tt
+each_take P (suc n) (x ∷ xs) a = (a.0, each_take P n xs a.1)
+
+-- one use more
+pub added_more : (us : List Use) (k : ℕ) (d : Use) (ts : List ℕ) → k < length us → added (take (k + 1) us) ts ≡ added (get_or us k d ∷ []) (added (take k us) ts)
+added_more us k d ts l = ap (λ vs. added vs ts) (take_more us k d l) ∙ added-append (take k us) (get_or us k d ∷ []) ts
+
+pub coloured_more : (us : List Use) (k : ℕ) (d : Use) (cs : List ℕ) → k < length us → coloured (take (k + 1) us) cs ≡ coloured (get_or us k d ∷ []) (coloured (take k us) cs)
+coloured_more us k d cs l = ap (λ vs. coloured vs cs) (take_more us k d l) ∙ coloured-append (take k us) (get_or us k d ∷ []) cs

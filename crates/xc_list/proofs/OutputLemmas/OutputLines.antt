@@ -1,0 +1,103 @@
+-- The lines of an output.
+use Rattle.std.proofs.Common.{◌≡◌, ℕ, false, ◌^◌, ◌<◌, ◌≤◌, List, [], ◌∷◌, ◌++◌, Option, None, Some, length, map, refl, sym, ap, ◌∙◌, append_assoc, append-nil}
+use Rattle.std.specs.Prelude.{All, codes, decimal, flat_map}
+use Rattle.std.proofs.lemmas.List.Elements.{All-head, All-tail}
+use Rattle.xc_input.specs.declared.problem.Use.{Use}
+use Rattle.xc_input.specs.Problem.{uses_of}
+use Rattle.xc_input.specs.Named.{Named}
+use Rattle.xc_input.specs.Words.{has}
+use Rattle.xc_input.specs.Lines.{lines_of, ended, AreWhole}
+use Rattle.xc_input.proofs.LineLemmas.{lines_of-ended}
+use Rattle.xc_search.specs.declared.choice.Choice.{Choice}
+use Rattle.xc_list.specs.Output.{bytes_at, from_item, colour_text, use_text, body_text, choice_text, member_text}
+use Rattle.xc_list.specs.ListingLines.{Header, Body, read}
+use Rattle.xc_list.proofs.OutputLemmas.ReadLines.{IsPlain, spaced, ending_words, read-header, no_feed-header, read-choice}
+
+-- a use's name and colour
+abbrev pub use_bytes : Named → Use → List ℕ
+use_bytes p u = bytes_at p.names u.item ++ colour_text p.colours u.colour
+
+-- the words of a choice before its counts
+abbrev pub body_words : Named → ℕ → Option ℕ → List (List ℕ)
+body_words p i (Some o) = map (use_bytes p) (from_item i (uses_of p.puzzle o))
+body_words p i None = codes "null" ∷ bytes_at p.names i ∷ []
+
+abbrev pub choice_words : Named → Choice → List (List ℕ)
+choice_words p c = body_words p c.item c.option
+
+abbrev pub choice_line : Named → Choice → List ℕ
+choice_line p c = spaced (choice_words p c ++ ending_words c.k c.n)
+
+abbrev pub header_line : ℕ → List ℕ
+header_line n = decimal n ++ codes ":"
+
+abbrev pub member_lines : Named → ℕ × List Choice → List (List ℕ)
+member_lines p nm = header_line nm.0 ∷ map (choice_line p) nm.1
+
+abbrev pub output_lines : Named → List (ℕ × List Choice) → List (List ℕ)
+output_lines p nms = flat_map (member_lines p) nms
+
+-- a choice whose line is read as its words
+pub record IsPrintable (p : Named) (c : Choice) : Type 0 where
+  pub some : 1 ≤ length (choice_words p c)
+  pub plain : All IsPlain (choice_words p c)
+  pub k : c.k < 10 ^ 10
+  pub n : c.n < 10 ^ 10
+
+-- a member with its number
+pub record IsPrintableMember (p : Named) (nm : ℕ × List Choice) : Type 0 where
+  pub number : nm.0 < 2 ^ 64
+  pub choices : All (IsPrintable p) nm.1
+
+spaced-append : (a b : List (List ℕ)) → spaced (a ++ b) ≡ spaced a ++ spaced b
+spaced-append [] b = refl
+spaced-append (w ∷ a) b = ap (λ t. 32 ∷ w ++ t) (spaced-append a b) ∙ ap (λ t. 32 ∷ t) (sym (append_assoc w (spaced a) (spaced b)))
+
+uses-spaced : (p : Named) (us : List Use) → flat_map (use_text p) us ≡ spaced (map (use_bytes p) us)
+uses-spaced p [] = refl
+uses-spaced p (u ∷ us) = ap (λ t. 32 ∷ use_bytes p u ++ t) (uses-spaced p us)
+
+body-spaced : (p : Named) (i : ℕ) (o : Option ℕ) → body_text p i o ≡ spaced (body_words p i o)
+body-spaced p i (Some o) = uses-spaced p (from_item i (uses_of p.puzzle o))
+body-spaced p i None = ap (λ t. codes " null " ++ t) (sym (append-nil (bytes_at p.names i)))
+
+regroup : (body ks ns : List ℕ) → body ++ codes " (" ++ ks ++ codes " of " ++ ns ++ codes ")\n"
+    ≡ (body ++ (32 ∷ 40 ∷ (ks ++ 32 ∷ 111 ∷ 102 ∷ 32 ∷ ((ns ++ 41 ∷ []) ++ [])))) ++ 10 ∷ []
+regroup body ks ns = simp (append_assoc {A = ℕ}, append-nil {A = ℕ})
+
+choice-ended : (p : Named) (c : Choice) → choice_text p c ≡ choice_line p c ++ 10 ∷ []
+choice-ended p c =
+    ap (λ t. t ++ codes " (" ++ decimal c.k ++ codes " of " ++ decimal c.n ++ codes ")\n") (body-spaced p c.item c.option)
+    ∙ regroup (spaced (choice_words p c)) (decimal c.k) (decimal c.n)
+    ∙ ap (λ t. t ++ 10 ∷ []) (sym (spaced-append (choice_words p c) (ending_words c.k c.n)))
+
+choices-ended : (p : Named) (m : List Choice) → flat_map (choice_text p) m ≡ ended (map (choice_line p) m)
+choices-ended p [] = refl
+choices-ended p (c ∷ m) =
+    ap (λ t. t ++ flat_map (choice_text p) m) (choice-ended p c)
+    ∙ append_assoc (choice_line p c) (10 ∷ []) (flat_map (choice_text p) m)
+    ∙ ap (λ t. choice_line p c ++ 10 ∷ t) (choices-ended p m)
+
+member-ended : (p : Named) (nm : ℕ × List Choice) → member_text p nm ≡ ended (member_lines p nm)
+member-ended p nm =
+    append_assoc (decimal nm.0) (codes ":\n") (flat_map (choice_text p) nm.1)
+    ∙ sym (append_assoc (decimal nm.0) (codes ":") (10 ∷ flat_map (choice_text p) nm.1))
+    ∙ ap (λ t. (decimal nm.0 ++ codes ":") ++ 10 ∷ t) (choices-ended p nm.1)
+
+pub read-choice_line : (p : Named) (c : Choice) → IsPrintable p c → (read (choice_line p c) ≡ Body (choice_words p c)) × (has 10 (choice_line p c) ≡ false)
+read-choice_line p c h = read-choice (choice_words p c) c.k c.n h.some h.plain h.k h.n
+
+pub read-header_line : (n : ℕ) → n < 2 ^ 64 → read (header_line n) ≡ Header n
+read-header_line n h = read-header n h
+
+choices-whole : (p : Named) (m : List Choice) → All (IsPrintable p) m → AreWhole (map (choice_line p) m)
+choices-whole p [] all = tt
+choices-whole p (c ∷ m) all = ((read-choice_line p c (All-head (IsPrintable p) c m all)).1, choices-whole p m (All-tail (IsPrintable p) c m all))
+
+pub lines_of-members : (p : Named) (nms : List (ℕ × List Choice)) → All (IsPrintableMember p) nms → lines_of (flat_map (member_text p) nms) ≡ output_lines p nms
+lines_of-members p [] all = refl
+lines_of-members p (nm ∷ nms) all =
+    let first : IsPrintableMember p nm = All-head (IsPrintableMember p) nm nms all in
+    ap (λ t. lines_of (t ++ flat_map (member_text p) nms)) (member-ended p nm)
+    ∙ lines_of-ended (member_lines p nm) (flat_map (member_text p) nms) (no_feed-header nm.0 first.number, choices-whole p nm.1 first.choices)
+    ∙ ap (λ ls. member_lines p nm ++ ls) (lines_of-members p nms (All-tail (IsPrintableMember p) nm nms all))

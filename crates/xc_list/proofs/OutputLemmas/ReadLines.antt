@@ -1,0 +1,227 @@
+-- What the lines of an output are read as.
+use Rattle.std.proofs.Common.{◌≡◌, ℕ, ◌+◌, ◌-◌, ◌*◌, ◌/◌, ◌%◌, ◌^◌, ◌<◌, ◌≤◌, Bool, true, false, not, ◌&&◌, nat_lt, nat_eq, List, [], ◌∷◌, ◌++◌, Option, None, Some, length, take, drop, refl, ap, ◌∙◌, arith, length-append, lt-ltb}
+use Rattle.std.specs.Prelude.{All, codes, decimal, nat_le, ◌==◌, if◌then◌else◌}
+use Rattle.std.specs.List.{list_all, list_any}
+use Rattle.std.proofs.lemmas.Bool.Decides.{nat_tests}
+use Rattle.std.proofs.lemmas.Fmt.{decimal_by_steps, length-decimal-le}
+use Rattle.std.proofs.lemmas.List.Elements.{All-nil, All-cons, All-head, All-tail, All-append}
+use Rattle.std.proofs.lemmas.List.Folds.{list_all-append, list_any-append}
+use Rattle.std.proofs.Math.Seq.{drop-append_seam, take-append_seam}
+use Rattle.xc_input.specs.Words.{has}
+use Rattle.xc_input.specs.Tokens.{at_front, is_space}
+use Rattle.xc_input.proofs.GrammarLemmas.{or-false, or-both, and-true, and-both}
+use Rattle.xc_input.specs.Words.{is_digit, value_from}
+use Rattle.xc_list.specs.Settings.{number_in}
+use Rattle.xc_list.proofs.Digits.{some_digits}
+use Rattle.xc_list.specs.ListingLines.{words_in, are_digits, before_last, solution_number, header_number, is_word, is_closing, is_ending, body_of_words, body_of, Line, Header, Body, Other, read}
+
+-- ---- digits
+
+-- digits that stand for n
+record AreDigitsOf (n : ℕ) (ds : List ℕ) : Type 0 where
+  pub some : 1 ≤ length ds
+  pub digits : list_all is_digit ds ≡ true
+  pub value : value_from 0 ds ≡ n
+
+value_from-append : (v : ℕ) (xs ys : List ℕ) → value_from v (xs ++ ys) ≡ value_from (value_from v xs) ys
+value_from-append v [] ys = refl
+value_from-append v (x ∷ xs) ys = value_from-append (v * 10 + (x - 48)) xs ys
+
+digit_of : (d : ℕ) → d < 10 → is_digit (48 + d) ≡ true
+digit_of d h = grind (arith, nat_tests)
+
+one_digit : (n : ℕ) → n < 10 → AreDigitsOf n ((48 + n) ∷ [])
+one_digit n h = record { some = omega arith; digits = and-both (is_digit (48 + n)) true (digit_of n h) refl; value = omega arith }
+
+one_more : (n : ℕ) (ds : List ℕ) → 10 ≤ n → AreDigitsOf (n / 10) ds → AreDigitsOf n (ds ++ (48 + n % 10) ∷ [])
+one_more n ds h known =
+    let last : n % 10 < 10 = omega arith in
+    let end : list_all is_digit ((48 + n % 10) ∷ []) ≡ true = and-both (is_digit (48 + n % 10)) true (digit_of (n % 10) last) refl in
+    let front = known.value in
+    record {
+      some = omega (arith, length-append ds ((48 + n % 10) ∷ []), known.some);
+      digits = list_all-append is_digit ds ((48 + n % 10) ∷ []) ∙ and-both (list_all is_digit ds) (list_all is_digit ((48 + n % 10) ∷ [])) known.digits end;
+      value = value_from-append 0 ds ((48 + n % 10) ∷ []) ∙ ap (λ v. v * 10 + ((48 + n % 10) - 48)) front ∙ back n;
+    }
+  where
+    back : (n : ℕ) → (n / 10) * 10 + ((48 + n % 10) - 48) ≡ n
+    back n = omega arith
+
+decimal_digits : (n : ℕ) → n < 2 ^ 64 → AreDigitsOf n (decimal n)
+decimal_digits n h = decimal_by_steps AreDigitsOf one_digit one_more n h
+
+are_digits-is : (most : ℕ) (text : List ℕ) → 1 ≤ length text → length text ≤ most → list_all is_digit text ≡ true → are_digits most text ≡ true
+are_digits-is most text h k e =
+    let a : nat_le 1 (length text) ≡ true = grind (arith, nat_tests) in
+    let b : nat_le (length text) most ≡ true = grind (arith, nat_tests) in
+    and-both (nat_le 1 (length text) && nat_le (length text) most) (list_all is_digit text) (and-both (nat_le 1 (length text)) (nat_le (length text) most) a b) e
+
+-- a number below 10 ^ k has at most k digits
+are_digits-decimal : (k n : ℕ) → 0 < k → n < 10 ^ k → n < 2 ^ 64 → are_digits k (decimal n) ≡ true
+are_digits-decimal k n h l m = let known = decimal_digits n m in are_digits-is k (decimal n) known.some (length-decimal-le k n h l m) known.digits
+
+lacks : (p q : ℕ → Bool) → ((b : ℕ) → p b ≡ true → q b ≡ false) → (bs : List ℕ) → list_all p bs ≡ true → list_any q bs ≡ false
+lacks p q apart [] h = refl
+lacks p q apart (b ∷ bs) h = let both = and-true (p b) (list_all p bs) h in or-both (q b) (list_any q bs) (apart b both.0) (lacks p q apart bs both.1)
+
+digit-no_space : (b : ℕ) → is_digit b ≡ true → is_space b ≡ false
+digit-no_space b h = grind (arith, nat_tests)
+
+digit-no_feed : (b : ℕ) → is_digit b ≡ true → nat_eq b 10 ≡ false
+digit-no_feed b h = grind (arith, nat_tests)
+
+-- ---- headers
+
+same : (b : ℕ) → (b == b) ≡ true
+same b = grind (arith, nat_tests)
+
+before_last-last : (b : ℕ) (front : List ℕ) → before_last b (front ++ b ∷ []) ≡ Some front
+before_last-last b [] = ap (λ t. if t then Some [] else None) (same b)
+before_last-last b (x ∷ []) = ap (λ o. elim o as (λ _. Option (List ℕ)) [ None ↦ None | Some front ↦ Some (x ∷ front) ]) (before_last-last b [])
+before_last-last b (x ∷ y ∷ front) = ap (λ o. elim o as (λ _. Option (List ℕ)) [ None ↦ None | Some front ↦ Some (x ∷ front) ]) (before_last-last b (y ∷ front))
+
+solution_number-decimal : (n : ℕ) → n < 2 ^ 64 → solution_number (decimal n) ≡ Some n
+solution_number-decimal n h =
+    let known = decimal_digits n h in
+    let short : nat_le (length (decimal n)) 20 ≡ true = (let l = length-decimal-le 20 n (omega arith) (omega (arith, h)) h in grind (arith, nat_tests)) in
+    let test : (list_all is_digit (decimal n) && nat_lt (value_from 0 (decimal n)) (2 ^ 64)) ≡ true =
+    and-both (list_all is_digit (decimal n)) (nat_lt (value_from 0 (decimal n)) (2 ^ 64)) known.digits
+    (ap (λ v. nat_lt v (2 ^ 64)) known.value ∙ lt-ltb n (2 ^ 64) h) in
+    ap (λ t. if t then number_in (decimal n) else None) short ∙ some_digits (decimal n) known.some
+    ∙ ap (λ t. if t then Some (value_from 0 (decimal n)) else None) test ∙ ap Some known.value
+
+pub read-header : (n : ℕ) → n < 2 ^ 64 → read (decimal n ++ codes ":") ≡ Header n
+read-header n h =
+    let number : header_number (decimal n ++ 58 ∷ []) ≡ Some n =
+    ap (λ o. elim o as (λ _. Option ℕ) [ None ↦ None | Some text ↦ solution_number text ]) (before_last-last 58 (decimal n)) ∙ solution_number-decimal n h in
+    ap (λ o. elim o as (λ _. Line) [ Some m ↦ Header m | None ↦ elim (body_of (decimal n ++ 58 ∷ [])) as (λ _. Line) [ Some words ↦ Body words | None ↦ Other ] ]) number
+
+-- ---- words
+
+-- a word that no white space and no line feed breaks
+pub record IsPlain (w : List ℕ) : Type 0 where
+  pub some : 1 ≤ length w
+  pub no_space : list_any is_space w ≡ false
+  pub no_feed : has 10 w ≡ false
+
+is_word-plain : (w : List ℕ) → IsPlain w → is_word w ≡ true
+is_word-plain w plain =
+    let more : 1 ≤ length w = plain.some in
+    let a : not (length w == 0) ≡ true = grind (arith, nat_tests) in
+    and-both (not (length w == 0)) (not (list_any is_space w)) a (ap not plain.no_space)
+
+are_words : (ws : List (List ℕ)) → All IsPlain ws → list_all is_word ws ≡ true
+are_words [] plain = refl
+are_words (w ∷ ws) plain = and-both (is_word w) (list_all is_word ws) (is_word-plain w (All-head IsPlain w ws plain)) (are_words ws (All-tail IsPlain w ws plain))
+
+-- words with a space before each
+abbrev pub spaced : List (List ℕ) → List ℕ
+spaced [] = []
+spaced (w ∷ ws) = 32 ∷ w ++ spaced ws
+
+no_space-not_32 : (b : ℕ) → is_space b ≡ false → (b == 32) ≡ false
+no_space-not_32 b h = grind (arith, nat_tests)
+
+-- a word at the front, before other words
+words_in-front : (w rest : List ℕ) → list_any is_space w ≡ false → words_in (w ++ 32 ∷ rest) ≡ w ∷ words_in rest
+words_in-front [] rest h = refl
+words_in-front (b ∷ w) rest h =
+    let both = or-false (is_space b) (list_any is_space w) h in
+    ap (λ t. if t then [] ∷ words_in (w ++ 32 ∷ rest) else at_front b (words_in (w ++ 32 ∷ rest))) (no_space-not_32 b both.0) ∙ ap (at_front b) (words_in-front w rest both.1)
+
+words_in-last : (w : List ℕ) → list_any is_space w ≡ false → words_in (w ++ []) ≡ w ∷ []
+words_in-last [] h = refl
+words_in-last (b ∷ w) h =
+    let both = or-false (is_space b) (list_any is_space w) h in
+    ap (λ t. if t then [] ∷ words_in (w ++ []) else at_front b (words_in (w ++ []))) (no_space-not_32 b both.0) ∙ ap (at_front b) (words_in-last w both.1)
+
+words_in-spaced : (w : List ℕ) (ws : List (List ℕ)) → IsPlain w → All IsPlain ws → words_in (w ++ spaced ws) ≡ w ∷ ws
+words_in-spaced w [] plain others = words_in-last w plain.no_space
+words_in-spaced w (v ∷ ws) plain others =
+    words_in-front w (v ++ spaced ws) plain.no_space ∙ ap (λ vs. w ∷ vs) (words_in-spaced v ws (All-head IsPlain v ws others) (All-tail IsPlain v ws others))
+
+no_feed-spaced : (ws : List (List ℕ)) → All IsPlain ws → has 10 (spaced ws) ≡ false
+no_feed-spaced [] plain = refl
+no_feed-spaced (w ∷ ws) plain =
+    let first : IsPlain w = All-head IsPlain w ws plain in
+    list_any-append (λ x. nat_eq x 10) w (spaced ws) ∙ or-both (has 10 w) (has 10 (spaced ws)) first.no_feed (no_feed-spaced ws (All-tail IsPlain w ws plain))
+
+body_of_words-is : (body ending : List (List ℕ)) → 1 ≤ length body → length ending ≡ 3 → list_all is_word (body ++ ending) ≡ true → is_ending ending ≡ true → body_of_words (body ++ ending) ≡ Some body
+body_of_words-is body ending some three words ends =
+    let k : length (body ++ ending) - 3 ≡ length body = omega (arith, length-append body ending, three) in
+    let a : nat_le 1 (length body) ≡ true = grind (arith, nat_tests) in
+    let test : (nat_le 1 (length body) && list_all is_word (body ++ ending) && is_ending (drop (length body) (body ++ ending))) ≡ true =
+    and-both (nat_le 1 (length body) && list_all is_word (body ++ ending)) (is_ending (drop (length body) (body ++ ending)))
+    (and-both (nat_le 1 (length body)) (list_all is_word (body ++ ending)) a words)
+    (ap is_ending (drop-append_seam body ending) ∙ ends) in
+    ap (λ k. if nat_le 1 k && list_all is_word (body ++ ending) && is_ending (drop k (body ++ ending)) then Some (take k (body ++ ending)) else None) k
+    ∙ ap (λ t. if t then Some (take (length body) (body ++ ending)) else None) test
+    ∙ ap Some (take-append_seam body ending)
+
+-- ---- choice lines
+
+-- the last three words of a choice line
+abbrev pub ending_words : ℕ → ℕ → List (List ℕ)
+ending_words k n = (codes "(" ++ decimal k) ∷ codes "of" ∷ (decimal n ++ codes ")") ∷ []
+
+plain-digits : (ds : List ℕ) → 1 ≤ length ds → list_all is_digit ds ≡ true → IsPlain ds
+plain-digits ds some digits = record { some = some; no_space = lacks is_digit is_space digit-no_space ds digits; no_feed = lacks is_digit (λ x. nat_eq x 10) digit-no_feed ds digits }
+
+plain-append : (v w : List ℕ) → IsPlain v → list_any is_space w ≡ false → has 10 w ≡ false → IsPlain (v ++ w)
+plain-append v w plain space feed = record {
+  some = omega (arith, length-append v w, plain.some);
+  no_space = list_any-append is_space v w ∙ or-both (list_any is_space v) (list_any is_space w) plain.no_space space;
+  no_feed = list_any-append (λ x. nat_eq x 10) v w ∙ or-both (has 10 v) (has 10 w) plain.no_feed feed;
+}
+
+plain-ending : (k n : ℕ) → k < 2 ^ 64 → n < 2 ^ 64 → All IsPlain (ending_words k n)
+plain-ending k n h l =
+    let first = decimal_digits k h in
+    let last = decimal_digits n l in
+    let ks : IsPlain (decimal k) = plain-digits (decimal k) first.some first.digits in
+    let ns : IsPlain (decimal n) = plain-digits (decimal n) last.some last.digits in
+    let opening : IsPlain (codes "(" ++ decimal k) = plain-append (codes "(") (decimal k) (record { some = omega arith; no_space = refl; no_feed = refl }) ks.no_space ks.no_feed in
+    let middle : IsPlain (codes "of") = record { some = omega arith; no_space = refl; no_feed = refl } in
+    let closing : IsPlain (decimal n ++ codes ")") = plain-append (decimal n) (codes ")") ns refl refl in
+    All-cons IsPlain (codes "(" ++ decimal k) (codes "of" ∷ (decimal n ++ codes ")") ∷ []) opening
+    (All-cons IsPlain (codes "of") ((decimal n ++ codes ")") ∷ []) middle (All-cons IsPlain (decimal n ++ codes ")") [] closing (All-nil IsPlain)))
+
+is_ending-words : (k n : ℕ) → k < 10 ^ 10 → n < 10 ^ 10 → is_ending (ending_words k n) ≡ true
+is_ending-words k n h l =
+    let ks : are_digits 10 (decimal k) ≡ true = are_digits-decimal 10 k (omega arith) h (omega (arith, h)) in
+    let ns : are_digits 10 (decimal n) ≡ true = are_digits-decimal 10 n (omega arith) l (omega (arith, l)) in
+    let closing : is_closing (decimal n ++ 41 ∷ []) ≡ true = ap (λ o. elim o as (λ _. Bool) [ None ↦ false | Some digits ↦ are_digits 10 digits ]) (before_last-last 41 (decimal n)) ∙ ns in
+    and-both (are_digits 10 (decimal k) && true) (is_closing (decimal n ++ 41 ∷ [])) (and-both (are_digits 10 (decimal k)) true ks refl) closing
+
+-- no header begins with a space
+no_header : (line : List ℕ) → header_number (32 ∷ line) ≡ None
+no_header [] = refl
+no_header (b ∷ line) = by_case (before_last 58 (b ∷ line))
+  where
+    not_digits : (front : List ℕ) → solution_number (32 ∷ front) ≡ None
+    not_digits front = elim (nat_le (length (32 ∷ front)) 20) as (λ t. (if t then number_in (32 ∷ front) else None) ≡ None) [ true ↦ refl | false ↦ refl ]
+
+    by_case : (o : Option (List ℕ)) → (elim (elim o as (λ _. Option (List ℕ)) [ None ↦ None | Some front ↦ Some (32 ∷ front) ]) as (λ _. Option ℕ) [ None ↦ None | Some text ↦ solution_number text ]) ≡ None
+    by_case None = refl
+    by_case (Some front) = not_digits front
+
+pub read-choice : (body : List (List ℕ)) (k n : ℕ) → 1 ≤ length body → All IsPlain body → k < 10 ^ 10 → n < 10 ^ 10
+    → (read (spaced (body ++ ending_words k n)) ≡ Body body) × (has 10 (spaced (body ++ ending_words k n)) ≡ false)
+read-choice [] k n some plain h l = absurd (omega (arith, some))
+read-choice (w ∷ body) k n some plain h l =
+    let ends : All IsPlain (ending_words k n) = plain-ending k n (omega (arith, h)) (omega (arith, l)) in
+    let all : All IsPlain ((w ∷ body) ++ ending_words k n) = All-append IsPlain (w ∷ body) (ending_words k n) plain ends in
+    let cut : words_in (w ++ spaced (body ++ ending_words k n)) ≡ w ∷ (body ++ ending_words k n) =
+    words_in-spaced w (body ++ ending_words k n) (All-head IsPlain w (body ++ ending_words k n) all) (All-tail IsPlain w (body ++ ending_words k n) all) in
+    let is : body_of_words (words_in (w ++ spaced (body ++ ending_words k n))) ≡ Some (w ∷ body) =
+    ap body_of_words cut ∙ body_of_words-is (w ∷ body) (ending_words k n) (omega arith) refl (are_words ((w ∷ body) ++ ending_words k n) all) (is_ending-words k n h l) in (
+      ap (λ o. elim o as (λ _. Line) [ Some m ↦ Header m | None ↦ elim (body_of (spaced ((w ∷ body) ++ ending_words k n))) as (λ _. Line) [ Some words ↦ Body words | None ↦ Other ] ]) (no_header (w ++ spaced (body ++ ending_words k n)))
+          ∙ ap (λ o. elim o as (λ _. Line) [ Some words ↦ Body words | None ↦ Other ]) is,
+      no_feed-spaced ((w ∷ body) ++ ending_words k n) all,
+    )
+
+pub no_feed-header : (n : ℕ) → n < 2 ^ 64 → has 10 (decimal n ++ codes ":") ≡ false
+no_feed-header n h =
+    let known = decimal_digits n h in
+    let ns : IsPlain (decimal n) = plain-digits (decimal n) known.some known.digits in
+    list_any-append (λ x. nat_eq x 10) (decimal n) (codes ":") ∙ or-both (has 10 (decimal n)) (has 10 (codes ":")) ns.no_feed refl

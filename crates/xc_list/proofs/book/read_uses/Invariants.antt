@@ -1,9 +1,0 @@
-use Rattle.std.proofs.Common.{length}
-use Rattle.xc_list.proofs.ReadingLemmas.{AreRead}
-use Rattle.xc_list.proofs.book.read_uses.Given as goal
-
-abbrev pub invariant-loop-u : goal.invariant-loop-u
-invariant-loop-u l = AreRead l.texts l.body l.text l.uses.items
-
-abbrev pub decreases-loop-u : goal.decreases-loop-u
-decreases-loop-u l = length l.text

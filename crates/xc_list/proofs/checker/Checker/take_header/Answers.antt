@@ -1,0 +1,12 @@
+use Rattle.std.proofs.Common.{refl, sym, ap, ◌∙◌}
+use Rattle.xc_list.specs.ListingLines.{Header}
+use Rattle.xc_list.specs.inner.Checking.{Progress}
+use Rattle.xc_list.proofs.CheckLemmas.CheckedLines.{header_taken, moved}
+use Rattle.xc_list.proofs.checker.Checker.take_header.Goals as goal
+
+pub returns-clause-takes : goal.returns-clause-takes
+returns-clause-takes c =
+    let n = c.args.number in
+    let v = c.self.view_is in
+    moved (Header n) c.args.self.now _ _ (header_taken c.args.self.now c.end_solution.new.self n c.in_ok-end_solution.ensures.closes)
+    (sym c.end_solution.ensures.options ∙ sym (ap (λ (t : Progress). t.options) v)) refl (sym c.clear.ensures.items) (sym (ap (λ (t : Progress). t.verdicts) v))

@@ -1,0 +1,20 @@
+use Rattle.std.proofs.Common.{◌∙◌, ◌≤◌, length, sym, subst}
+use Rattle.xc_list.specs.Texts.{BrokeOff}
+use Rattle.xc_list.proofs.TextLemmas.{front_more}
+use Rattle.xc_list.proofs.Writing.{then_broke, then_took, failed}
+use Rattle.xc_list.proofs.write.write_rest.Goals as goal
+
+pub returns-in_err-n : goal.returns-in_err-n
+returns-in_err-n g c =
+    let inv = c.loop-rest.invariant in
+    failed c.from_residual.result c.from_residual.ensures.0
+    (subst (BrokeOff _ _) (sym inv.1) (then_broke inv.2 c.in_err-n.ensures.text))
+
+pub loop-rest-preserved : goal.loop-rest-preserved
+loop-rest-preserved g c =
+    let inv = c.loop-rest.invariant in
+    let within : c.in_ok-n.n ≤ length c.loop-rest.rest.now = c.in_ok-n.ensures.some.1 in (
+      _,
+      inv.1 ∙ front_more _ _ _ within,
+      then_took inv.2 c.in_ok-n.ensures.text,
+    )

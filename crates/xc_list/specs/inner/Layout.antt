@@ -1,0 +1,15 @@
+-- No public clause cites this module. The texts of options laid out one behind another.
+use Rattle.std.specs.Prelude.{ℕ, ◌≡◌, List, length, map, flat_map}
+use Rattle.xc_input.specs.declared.problem.Use.{Use}
+use Rattle.xc_input.specs.Flat.{pieces, AreStarts}
+use Rattle.xc_input.specs.Named.{Named}
+use Rattle.xc_list.specs.Output.{use_text}
+
+-- the text of an option's uses in file order
+abbrev pub uses_text : Named → List Use → List ℕ
+uses_text a us = flat_map (use_text a) us
+
+-- the texts of options one behind another, with the places where they start and at last the length
+pub record AreLaid (a : Named) (options : List (List Use)) (texts starts : List ℕ) : Type 0 where
+  pub rising : AreStarts starts (length texts)
+  pub parts : pieces starts texts ≡ map (uses_text a) options

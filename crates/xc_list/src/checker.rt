@@ -1,0 +1,243 @@
+//! Listings judged.
+ghost use Rattle.std.specs.Prelude.{◌≡◌, ◌≢◌, ◌<◌, ◌^◌, ℕ, List, [], codes, length, is_some, true, Some, All, IsTrue, OnOk, IfOk, IfErr, IfSome, MatchResult};
+ghost use Rattle.xc_input.specs.Named.{IsSound};
+ghost use Rattle.xc_input.specs.Lines.{lines_of};
+ghost use Rattle.xc_list.specs.ListingLines.{read, words_in, Header, Body};
+ghost use Rattle.xc_list.specs.inner.Classes.{IsClassOfBody};
+ghost use Rattle.xc_list.specs.inner.SeenLines.{IsClassOfLine};
+ghost use Rattle.xc_list.specs.Listed.{first_fault, AreVerdicts, IsFirstFault};
+ghost use Rattle.xc_list.specs.inner.Checking.{IsProgress, Closes, Takes, Refuses};
+ghost use Rattle.xc_list.specs.Output.{output};
+ghost use Rattle.xc_list.specs.declared.checker.ListingFault.TheVariants.{Memory};
+
+mod counts;
+mod cover_counter;
+mod listing_lines;
+mod option_index;
+mod rotation;
+mod seen_lines;
+
+use crate::checker::cover_counter::CoverCounter;
+use crate::checker::listing_lines::{ListingLine, cut_line, read_line};
+use crate::checker::option_index::OptionIndex;
+use crate::checker::seen_lines::SeenLines;
+use std::alloc::{AllocError, Global};
+use std::marker::Model;
+use thiserror::Error;
+use xc_input::Problem;
+
+/// How many choice lines are noted at most.
+const MOST_PLACES: usize = 65536;
+
+/// The verdict on a listed solution.
+#[derive(Clone, Copy, Debug, PartialEq, Eq)]
+pub struct Verdict {
+    /// The number of its header.
+    pub number: u64,
+    /// Whether it is a cover.
+    pub cover: bool,
+}
+
+/// Why a listing gets no verdicts. Lines are counted from 1.
+#[derive(Clone, Copy, Debug, PartialEq, Eq, Error)]
+pub enum ListingFault {
+    /// A line that is neither a header nor a choice line, or a choice line before the first header.
+    #[error("listing line {0}: bad line")]
+    BadLine(u64),
+    /// A choice line whose body stands for no option.
+    #[error("listing line {0}: unknown option")]
+    UnknownOption(u64),
+    /// Memory is out.
+    #[error("out of memory")]
+    Memory,
+}
+
+impl From<AllocError> for ListingFault {
+    ghost from_gives = { λ _ e. e ≡ Memory };
+
+    fn from(_: AllocError) -> ListingFault {
+        ListingFault::Memory
+    }
+}
+
+/// A listing judged up to some line.
+#[derive(Drop)]
+struct Checker<'a> {
+    options: OptionIndex<'a>,
+    counter: CoverCounter,
+    /// The number of the solution that is open.
+    open_number: Option<u64>,
+    /// The classes of its choice lines.
+    chosen: Vec<usize>,
+    /// The verdicts on the solutions before it.
+    verdicts: Vec<Verdict>,
+    /// Choice lines that were met.
+    seen: SeenLines,
+}
+
+impl<'a> Model for Checker<'a> {
+    ghost use Rattle.std.specs.Prelude.{◌≡◌, ◌<◌, length, All};
+    ghost use Rattle.xc_list.specs.inner.Classes.{IsIndexed};
+    ghost use Rattle.xc_list.specs.inner.CoverCounts.{places_of};
+    ghost use Rattle.xc_list.specs.inner.Checking.{Progress};
+    ghost use Rattle.xc_list.specs.inner.SeenLines.{IsRightly};
+
+    ghost Value = { Progress };
+
+    ghost view = { λ s. record {
+      options = s.options;
+      open_number = s.open_number;
+      chosen = s.chosen.items;
+      verdicts = s.verdicts.items;
+    } };
+
+    ghost invariant = { λ s. record {
+      places : s.counter ≡ places_of s.options;
+      indexed : IsIndexed s.options;
+      known : All (λ k. k < length s.options.classes) s.chosen.items;
+      seen : All (IsRightly s.options) s.seen.lines.items;
+    } };
+}
+
+impl<'a> Checker<'a> {
+    /// No line of any listing is judged.
+    fn new(alloc: Global, problem: &'a Problem, places: usize) -> Result<Checker<'a>, AllocError>
+        ensures problem { IfOk result (λ s. s.options.problem ≡ problem.now) }
+        ensures sound { IfOk result (λ s. IsSound s.options.problem) }
+        ensures begun { IfOk result (λ s. (all : List (List ℕ)) → IsProgress all 0 all s) }
+    {
+        let options = OptionIndex::new(alloc, problem)?;
+        let counter = CoverCounter::new(alloc, problem, options.classes())?;
+        Ok(Checker {
+            options,
+            counter,
+            open_number: None,
+            chosen: Vec::new(alloc),
+            verdicts: Vec::new(alloc),
+            seen: SeenLines::new(alloc, places)?,
+        })
+    }
+
+    /// Judges the solution that is open.
+    fn end_solution(&mut self) -> Result<(), AllocError>
+        ensures options { self.new.options ≡ self.old.options }
+        ensures closes { OnOk result (Closes self.old self.new) }
+    {
+        if let Some(number) = self.open_number {
+            let cover = self.counter.is_cover(&self.options, self.chosen.as_slice());
+            self.verdicts.push(Verdict { number, cover })?;
+        }
+        Ok(())
+    }
+
+    fn take_header(&mut self, number: u64) -> Result<(), AllocError>
+        ensures options { self.new.options ≡ self.old.options }
+        ensures takes { OnOk result (Takes (Header number) self.old self.new) }
+    {
+        self.end_solution()?;
+        self.chosen.clear();
+        self.open_number = Some(number);
+        Ok(())
+    }
+
+    /// Takes a choice line whose body stands for this class.
+    fn take_class(&mut self, class: usize) -> Result<(), AllocError>
+        requires open { is_some self.old.open_number ≡ true }
+        requires known { class < length self.old.options.classes }
+        ensures options { self.new.options ≡ self.old.options }
+        ensures takes { OnOk result ((words : List (List ℕ)) → IsClassOfBody self.old.options words (Some class) → Takes (Body words) self.old self.new) }
+    {
+        self.chosen.push(class)?;
+        Ok(())
+    }
+
+    /// Takes the choice line with this number, and its body.
+    fn take_body(&mut self, number: u64, line: &[u8], body: &[u8]) -> Result<(), ListingFault>
+        requires { read line.now ≡ Body (words_in body.now) }
+        ensures options { self.new.options ≡ self.old.options }
+        ensures takes { OnOk result (Takes (Body (words_in body.now)) self.old self.new) }
+        ensures fault { IfErr result (Refuses number (Body (words_in body.now)) self.old) }
+    {
+        if self.open_number.is_none() {
+            return Err(ListingFault::BadLine(number));
+        }
+        match self.options.class_of(body) {
+            Err(fault) => Err(fault.into()),
+            Ok(Some(class)) => {
+                self.seen.note(line, class);
+                Ok(self.take_class(class)?)
+            }
+            Ok(None) if self.options.is_none(body) => Ok(()),
+            Ok(None) => Err(ListingFault::UnknownOption(number)),
+        }
+    }
+
+    /// Takes the line with this number, word by word.
+    fn take_new_line(&mut self, number: u64, line: &[u8]) -> Result<(), ListingFault>
+        ensures options { self.new.options ≡ self.old.options }
+        ensures takes { OnOk result (Takes (read line.now) self.old self.new) }
+        ensures fault { IfErr result (Refuses number (read line.now) self.old) }
+    {
+        match read_line(line) {
+            ListingLine::Header(solution) => Ok(self.take_header(solution)?),
+            ListingLine::Body(body) => self.take_body(number, line, body),
+            ListingLine::Other => Err(ListingFault::BadLine(number)),
+        }
+    }
+
+    /// The class of a choice line that was met. No other line begins with a space, and none is
+    /// looked for.
+    fn seen_class(&self, line: &[u8]) -> Option<usize>
+        ensures { IfSome result (IsClassOfLine self.now.options line.now) }
+    {
+        match line {
+            [b' ', ..] => self.seen.class_of(line),
+            _ => None,
+        }
+    }
+
+    /// Takes the line with this number.
+    fn take_line(&mut self, number: u64, line: &[u8]) -> Result<(), ListingFault>
+        ensures options { self.new.options ≡ self.old.options }
+        ensures takes { OnOk result (Takes (read line.now) self.old self.new) }
+        ensures fault { IfErr result (Refuses number (read line.now) self.old) }
+    {
+        match self.seen_class(line) {
+            Some(class) if self.open_number.is_some() => Ok(self.take_class(class)?),
+            _ => self.take_new_line(number, line),
+        }
+    }
+
+    /// The verdicts, once all lines are judged.
+    fn finish(mut self) -> Result<Vec<Verdict>, AllocError>
+        ensures { IfOk result (λ vs. (all : List (List ℕ)) (done : ℕ) → IsProgress all done [] self.entry → AreVerdicts self.entry.options.problem all vs.items) }
+    {
+        self.end_solution()?;
+        Ok(self.verdicts)
+    }
+}
+
+/// The verdicts on the solutions of a listing, or its first fault.
+pub fn check(alloc: Global, problem: &Problem, listing: &[u8]) -> Result<Vec<Verdict>, ListingFault>
+    ensures accepted { IfOk result (λ vs. first_fault problem.now (lines_of listing.now) ≡ None) }
+    ensures verdicts { IfOk result (λ vs. AreVerdicts problem.now (lines_of listing.now) vs.items) }
+    ensures fault { IfErr result (IsFirstFault problem.now (lines_of listing.now)) }
+
+    // What is printed for the problem is a listing of covers, unless an item is named `null`.
+    ensures outputs { (spacing limit : ℕ) → limit < 2 ^ 64 → All (λ name. name ≢ codes "null") problem.now.names
+        → listing.now ≡ output problem.now spacing limit
+        → MatchResult result (λ vs. All (λ v. IsTrue v.cover) vs.items) (λ e. e ≡ Memory) }
+{
+    let mut checker = Checker::new(alloc, problem, (listing.len() / 64).min(MOST_PLACES))?;
+    let mut lines: u64 = 0;
+    let mut rest = listing;
+    while !rest.is_empty() {
+        let (line, others) = cut_line(rest);
+        lines = lines.saturating_add(1);
+        if let Err(fault) = checker.take_line(lines, line) {
+            return Err(fault);
+        }
+        rest = others;
+    }
+    Ok(checker.finish()?)
+}

@@ -1,0 +1,27 @@
+//! The class of an option: its uses cyclically from the least item's.
+ghost use Rattle.std.specs.Prelude.{◌≡◌, map, min, OnOk};
+ghost use Rattle.std.specs.List.{reduce};
+ghost use Rattle.xc_list.specs.inner.Classes.{class_of};
+
+use crate::uses::place_of;
+use std::alloc::AllocError;
+use xc_input::Use;
+
+/// The least item of uses, if there are any.
+fn least_item(uses: &[Use]) -> Option<u32>
+    ensures { result ≡ reduce min (map (λ u. u.item) uses.now) }
+{
+    uses.iter().map(|u| u.item).min()
+}
+
+/// Puts the uses from the least item's on, cyclically, in place of what a list holds.
+pub(crate) fn rotate(uses: &[Use], rotated: &mut Vec<Use>) -> Result<(), AllocError>
+    ensures { OnOk result (rotated.new.items ≡ class_of uses.now) }
+{
+    let place = place_of(uses, least_item(uses).unwrap_or(0));
+    let (before, after) = uses.split_at(place);
+    rotated.clear();
+    rotated.extend_from_slice(after)?;
+    rotated.extend_from_slice(before)?;
+    Ok(())
+}

@@ -1,0 +1,6 @@
+pub mod Complete
+pub mod Once
+pub mod Passing
+pub mod Proper
+pub mod Solved
+pub mod Whole

@@ -1,0 +1,148 @@
+-- Selections that solve what is left: one branch back.
+use Rattle.std.proofs.Common.{ℕ, suc, ◌≡◌, ◌≢◌, ◌-◌, ◌<◌, ◌≤◌, Bool, true, false, cond, not, ◌&&◌, ◌||◌, eqb, List, [], ◌∷◌, length, map, filter, Some, None, refl, sym, ap, ap₂, ◌∙◌, arith, subst, eqb-true, lt-ltb, le-ltb, ltb-false, le-leb}
+use Rattle.std.specs.Prelude.{nat_lt, nat_le, is_some}
+use Rattle.std.specs.List.{AllByRecursion, list_all}
+use Rattle.xc_input.specs.declared.problem.Use.{Use}
+use Rattle.xc_input.specs.Problem.{Numbered, colour_in, holds, colour_at, holding}
+use Rattle.xc_search.specs.Listing.{Wanted, Residual, less_one, spend_one, may_stay, item_left, stays, pick, none}
+use Rattle.xc_dance.specs.Left.{agrees}
+use Rattle.xc_search.proofs.Members.{IsIn, in-filter}
+use Rattle.xc_search.proofs.residual.NumberedOnce.{same_number}
+use Rattle.xc_dance.proofs.MoveLemmas.OptionsRise.{NumbersRise}
+use Rattle.xc_input.proofs.EachElement.{each_weaker}
+use Rattle.std.proofs.Math.Bool.{or-true}
+use Rattle.std.proofs.lemmas.Bool.{not-true}
+use Rattle.xc_input.proofs.BooleanTests.{and_left, and_right}
+
+-- how many of the selection hold item j
+abbrev pub count : ℕ → List Numbered → ℕ
+count j s = length (holding j s)
+
+-- two options agree on the items above n
+abbrev pub beside : ℕ → Numbered → Numbered → Bool
+beside n x y = list_all (λ u. nat_le u.item n || agrees u.colour (colour_at y u.item)) x.uses
+
+abbrev pub AreBeside : ℕ → List Numbered → Type 0
+AreBeside n [] = Unit {0}
+AreBeside n (x ∷ s) = AllByRecursion (λ y. (x.number ≢ y.number) × (beside n x y ≡ true)) s × AreBeside n s
+
+abbrev pub IsMet : List Numbered → Wanted → Type 0
+IsMet s w = (w.low ≤ count w.item s) × (count w.item s ≤ w.high)
+
+-- the selection is of options left, meets each item's bounds, and agrees on the items above n
+pub record Solves (n : ℕ) (r : Residual) (s : List Numbered) : Type 0 where
+  pub chosen : AllByRecursion (IsIn r.options) s
+  pub met : AllByRecursion (IsMet s) r.items
+  pub agreed : AreBeside n s
+
+-- an item that is left is of the first n, stands once, and can be met
+abbrev pub IsSound : ℕ → Residual → Wanted → Type 0
+IsSound n r w = (w.item ≤ n) × (w.low ≤ w.high) × (0 < w.high) × (item_left r w.item ≡ Some w)
+
+-- ---- the use of an item
+
+pub use_passes : (f : Use → Bool) (us : List Use) (j : ℕ) → list_all f us ≡ true → is_some (colour_in us j) ≡ true → (u : Use) × (u.item ≡ j) × (f u ≡ true)
+use_passes f [] j all held = cc
+use_passes f (u ∷ us) j all held =
+    elim (eqb u.item j) as (λ b. eqb u.item j ≡ b → is_some (cond b (Some u.colour) (colour_in us j)) ≡ true → (u : Use) × (u.item ≡ j) × (f u ≡ true)) [
+      | true ↦ λ e k. (u, eqb-true _ _ e, and_left _ _ all)
+      | false ↦ λ e k. use_passes f us j (and_right _ _ all) k
+    ] refl held
+
+-- an item that x uses up is held by no option that stays
+pub used_up : (r : Residual) (x y : Numbered) (w : Wanted) → stays r x y ≡ true → holds x w.item ≡ true → item_left r w.item ≡ Some w → nat_lt 1 w.high ≡ false → holds y w.item ≡ false
+used_up r x y w stay held left full =
+    let passed = use_passes (λ u. may_stay (item_left r u.item) u y) x.uses w.item stay held in
+    let u = passed.0 in
+    let at : may_stay (item_left r w.item) u y ≡ true = subst (λ j. may_stay (item_left r j) u y ≡ true) passed.1 passed.2 in
+    let at_w : may_stay (Some w) u y ≡ true = subst (λ o. may_stay o u y ≡ true) left at in
+    let free : not (holds y u.item) ≡ true = subst (λ b. (b || not (holds y u.item)) ≡ true) full at_w in
+    let free_w : not (holds y w.item) ≡ true = subst (λ j. not (holds y j) ≡ true) passed.1 free in
+    elim (holds y w.item) as (λ b. not b ≡ true → b ≡ false) [ true ↦ λ e. sym e | false ↦ λ e. refl ] free_w
+
+-- whoever stays agrees above n
+stays_beside : (n : ℕ) (r : Residual) (y : Numbered) (us : List Use) → ((j : ℕ) (w : Wanted) → item_left r j ≡ Some w → j ≤ n) →
+    list_all (λ u. may_stay (item_left r u.item) u y) us ≡ true → list_all (λ u. nat_le u.item n || agrees u.colour (colour_at y u.item)) us ≡ true
+stays_beside n r y [] low e = refl
+stays_beside n r y (u ∷ us) low e =
+    ap₂ (λ a b. a && b)
+    (elim (item_left r u.item) as (λ o. item_left r u.item ≡ o → may_stay o u y ≡ true → (nat_le u.item n || agrees u.colour (colour_at y u.item)) ≡ true) [
+      | Some w ↦ λ i k. rw (le-leb u.item n (low u.item w i)) refl
+      | None ↦ λ i k. rw k (or-true (nat_le u.item n))
+    ] refl (and_left _ _ e))
+    (stays_beside n r y us low (and_right _ _ e))
+
+none_hold : (j : ℕ) (s : List Numbered) → AllByRecursion (λ y. holds y j ≡ false) s → holding j s ≡ []
+none_hold j [] a = refl
+none_hold j (y ∷ s) a = rw a.0 (none_hold j s a.1)
+
+-- ---- one branch back
+
+met_back : (x : Numbered) (s : List Numbered) (ws : List Wanted) →
+    AllByRecursion (λ w. (w.low ≤ w.high) × (0 < w.high) × (holds x w.item ≡ true → nat_lt 1 w.high ≡ false → count w.item s ≡ 0)) ws →
+    AllByRecursion (IsMet s) (filter (λ w. nat_lt 0 w.high) (map (spend_one x) ws)) → AllByRecursion (IsMet (x ∷ s)) ws
+met_back x s [] a m = tt
+met_back x s (w ∷ ws) a m =
+    let pos : Wanted → Bool = λ v. nat_lt 0 v.high in
+    let c = count w.item s in
+    let one = elim (holds x w.item) as (λ b. holds x w.item ≡ b → AllByRecursion (IsMet s) (filter (λ v. nat_lt 0 v.high) (cond b (less_one w) w ∷ map (spend_one x) ws)) →
+    (w.low ≤ length (cond b (x ∷ holding w.item s) (holding w.item s))) × (length (cond b (x ∷ holding w.item s) (holding w.item s)) ≤ w.high) × AllByRecursion (IsMet s) (filter (λ v. nat_lt 0 v.high) (map (spend_one x) ws))) [
+      | true ↦ λ h k. elim (nat_lt 0 (w.high - 1)) as (λ d. nat_lt 0 (w.high - 1) ≡ d → AllByRecursion (IsMet s) (cond d (less_one w ∷ filter (λ v. nat_lt 0 v.high) (map (spend_one x) ws)) (filter (λ v. nat_lt 0 v.high) (map (spend_one x) ws))) →
+          (w.low ≤ suc (length (holding w.item s))) × (suc (length (holding w.item s)) ≤ w.high) × AllByRecursion (IsMet s) (filter (λ v. nat_lt 0 v.high) (map (spend_one x) ws))) [
+            | true ↦ λ e q. (omega (arith, q.0.0), omega (arith, q.0.1, a.0.1), q.1)
+            | false ↦ λ e q.
+                let small = ltb-false 0 (w.high - 1) e in
+                let full : nat_lt 1 w.high ≡ false = le-ltb 1 w.high (omega (arith, small)) in
+                let zero_more = a.0.2 h full in
+                (omega (arith, zero_more, small, a.0.0), omega (arith, zero_more, a.0.1), q)
+          ] refl k
+      | false ↦ λ h k. let q = rw (lt-ltb 0 w.high a.0.1) at k in (q.0.0, q.0.1, q.1)
+    ] refl m in
+    ((one.0, one.1), met_back x s ws a.1 one.2)
+
+-- A selection that solves what is left by taking x solves with x what was left before.
+pub solves_pick : (n i : ℕ) (r : Residual) (x : Numbered) (s : List Numbered) → NumbersRise 0 r.options → AllByRecursion (IsSound n r) r.items → ((j : ℕ) (w : Wanted) → item_left r j ≡ Some w → j ≤ n) →
+    IsIn r.options x → holds x i ≡ true → Solves n (pick r i x) s → Solves n r (x ∷ s)
+solves_pick n i r x s rising sound low in_x at solved =
+    let passes : AllByRecursion (λ y. IsIn r.options y × ((not (holds y i && nat_le y.number x.number) && stays r x y) ≡ true)) s =
+    each_weaker (IsIn (pick r i x).options) (λ y. IsIn r.options y × ((not (holds y i && nat_le y.number x.number) && stays r x y) ≡ true)) s
+    (λ y k. in-filter (λ y. not (holds y i && nat_le y.number x.number) && stays r x y) r.options y k) solved.chosen in
+    record {
+      chosen = (in_x, each_weaker _ (IsIn r.options) s (λ y k. k.0) passes);
+      met = met_back x s r.items
+          (each_weaker (IsSound n r) _ r.items
+          (λ w k. (k.1, k.2, λ h full. ap length (none_hold w.item s (each_weaker _ (λ y. holds y w.item ≡ false) s (λ y q. used_up r x y w (and_right _ _ q.1) h k.3 full) passes)))) sound)
+          solved.met;
+      agreed = (each_weaker _ (λ y. (x.number ≢ y.number) × (beside n x y ≡ true)) s (λ y q. (apart y q.0 (and_left _ _ q.1), stays_beside n r y x.uses low (and_right _ _ q.1))) passes, solved.agreed);
+    }
+  where
+    apart : (y : Numbered) → IsIn r.options y → not (holds y i && nat_le y.number x.number) ≡ true → x.number ≢ y.number
+    apart y k e same =
+        let it : x ≡ y = same_number 0 r.options x y rising in_x k same in
+        let here : holds y i ≡ true = subst (λ z. holds z i ≡ true) it at in
+        let not_above : nat_le y.number x.number ≡ true = le-leb y.number x.number (omega (arith, same)) in
+        let clash : not (true && true) ≡ true = rw (here, not_above) at e in
+        cc
+
+none_back : (i : ℕ) (s : List Numbered) (ws : List Wanted) → count i s ≡ 0 → AllByRecursion (λ w. eqb w.item i ≡ true → w.low ≡ 0) ws →
+    AllByRecursion (IsMet s) (filter (λ w. not (eqb w.item i)) ws) → AllByRecursion (IsMet s) ws
+none_back i s [] z free m = tt
+none_back i s (w ∷ ws) z free m =
+    elim (eqb w.item i) as (λ b. eqb w.item i ≡ b → AllByRecursion (IsMet s) (cond (not b) (w ∷ filter (λ w. not (eqb w.item i)) ws) (filter (λ w. not (eqb w.item i)) ws)) → AllByRecursion (IsMet s) (w ∷ ws)) [
+      | true ↦ λ e q.
+          let zero_here : count w.item s ≡ 0 = ap (λ j. count j s) (eqb-true _ _ e) ∙ z in
+          let zero_low = free.0 e in
+          ((omega (arith, zero_low), omega (arith, zero_here)), none_back i s ws z free.1 q)
+      | false ↦ λ e q. (q.0, none_back i s ws z free.1 q.1)
+    ] refl m
+
+-- A selection that solves what is left without item i solves what was left before, where i need not be held.
+pub solves_none : (n i : ℕ) (r : Residual) (s : List Numbered) → AllByRecursion (λ w. eqb w.item i ≡ true → w.low ≡ 0) r.items → Solves n (none r i) s → Solves n r s
+solves_none n i r s free solved =
+    let passes : AllByRecursion (λ y. IsIn r.options y × (not (holds y i) ≡ true)) s =
+    each_weaker (IsIn (none r i).options) (λ y. IsIn r.options y × (not (holds y i) ≡ true)) s (λ y k. in-filter (λ o. not (holds o i)) r.options y k) solved.chosen in
+    record {
+      chosen = each_weaker _ (IsIn r.options) s (λ y k. k.0) passes;
+      met = none_back i s r.items (ap length (none_hold i s (each_weaker _ (λ y. holds y i ≡ false) s (λ y k. not-true (holds y i) k.1) passes))) free solved.met;
+      agreed = solved.agreed;
+    }

@@ -1,0 +1,4 @@
+pub mod BranchMoves
+pub mod LegalCommits
+pub mod LegalTweaks
+pub mod OldestMoves

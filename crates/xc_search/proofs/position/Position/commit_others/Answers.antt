@@ -1,0 +1,86 @@
+use Rattle.std.proofs.Common.{arith, [], Some, ◌≡◌, ◌+◌, ◌-◌, ◌≤◌, sym, ap, ◌∙◌, subst, drop, take, length}
+use Rattle.xc_dance.specs.Dancing.{Dancing}
+use Rattle.xc_dance.specs.Moves.{AreLegal}
+use Rattle.xc_search.specs.inner.Commits.{after_uses, others}
+use Rattle.xc_search.specs.Room.{room_for}
+use Rattle.std.specs.Prelude.{All, unwrap_or}
+use Rattle.std.proofs.lemmas.List.Elements.{All-take, All-drop}
+use Rattle.xc_input.specs.declared.problem.Use.{Use}
+use Rattle.xc_input.specs.Problem.{Puzzle, IsItem, numbered_get, uses_of}
+use Rattle.xc_search.proofs.moves.LegalCommits.{legal_after_uses, other_uses, committed}
+use Rattle.xc_search.proofs.room.BranchFits.{fits_uses}
+use Rattle.xc_search.proofs.position.Position.commit_others.Goals as goal
+use Rattle.xc_search.proofs.position.Position.commit_others.Goals.{After-place_of-at}
+
+-- the state in the end is that after the uses behind, and then those before
+whole : (g : _) (c : After-place_of-at g) →
+    committed (others c.args.i (uses_of c.args.self.now.puzzle c.args.o)) c.args.self.now
+    ≡ committed (take c.place_of-at.result c.option-uses.result.now) (committed (take (length c.option-uses.result.now - (c.place_of-at.result + 1)) (drop (c.place_of-at.result + 1) c.option-uses.result.now)) c.args.self.now)
+whole g c =
+    let s = c.args.self.now in
+    let at = subst (λ (q : Puzzle). numbered_get q.options c.args.o ≡ Some c.option-uses.result.now) c.problem.ensures c.option-uses.ensures.value in
+    ap (λ t. record s { trail = t }) (other_uses s.puzzle c.args.i c.args.o _ _ s.trail at c.place_of-at.ensures)
+
+found : (g : _) (c : After-place_of-at g) → uses_of c.args.self.now.puzzle c.args.o ≡ c.option-uses.result.now
+found g c = ap (λ (q : Puzzle). uses_of q c.args.o) (sym c.problem.ensures) ∙ ap (λ us. unwrap_or us []) c.option-uses.ensures.value
+
+items : (g : _) (c : After-place_of-at g) → All (λ (u : Use). IsItem c.args.self.now.puzzle u.item) c.option-uses.result.now
+items g c = subst (λ us. All (λ (u : Use). IsItem c.args.self.now.puzzle u.item) us) (found g c) c.requires.items
+
+pub commit_uses-requires-clause-items : goal.commit_uses-requires-clause-items
+commit_uses-requires-clause-items g c =
+    let us = c.option-uses.result.now in
+    let k = c.place_of-at.result in
+    let is : Use → Type 0 = λ u. IsItem c.args.self.now.puzzle u.item in
+    All-take is (length us - (k + 1)) (drop (k + 1) us) (All-drop is (k + 1) us (items g (goal.at.commit_uses-requires-clause-items g c).After-place_of-at))
+
+pub commit_front-requires-clause-items : goal.commit_front-requires-clause-items
+commit_front-requires-clause-items g c =
+    let us = c.option-uses.result.now in
+    let k = c.place_of-at.result in
+    let is : Use → Type 0 = λ u. IsItem c.args.self.now.puzzle u.item in
+    subst (λ (s : Dancing). All (λ (u : Use). IsItem s.puzzle u.item) (take k us)) (sym c.commit_uses.ensures)
+    (All-take is k us (items g (goal.at.commit_front-requires-clause-items g c).After-place_of-at))
+
+pub commit_uses-requires-clause-legal : goal.commit_uses-requires-clause-legal
+commit_uses-requires-clause-legal g c =
+    let s = c.args.self.now in
+    legal_after_uses s.puzzle (take c.place_of-at.result c.option-uses.result.now) _
+    (subst (λ (s : Dancing). AreLegal s.puzzle s.trail) (whole g (goal.at.commit_uses-requires-clause-legal g c).After-place_of-at) c.requires.legal)
+
+pub commit_uses-requires-clause-room : goal.commit_uses-requires-clause-room
+commit_uses-requires-clause-room g c =
+    let s = c.args.self.now in
+    let vs = c.option-uses.result.now in
+    let k = c.place_of-at.result in
+    omega (
+      arith,
+      c.requires.room,
+      ap (λ (s : Dancing). length s.trail) (whole g (goal.at.commit_uses-requires-clause-room g c).After-place_of-at),
+      fits_uses s.puzzle (take k vs) (after_uses s.puzzle (take (length vs - (k + 1)) (drop (k + 1) vs)) s.trail),
+    )
+
+-- once the uses behind were committed, those before it lead to the end
+pub commit_front-requires-clause-legal : goal.commit_front-requires-clause-legal
+commit_front-requires-clause-legal g c =
+    subst (λ (s : Dancing). AreLegal s.puzzle s.trail)
+    (whole g (goal.at.commit_front-requires-clause-legal g c).After-place_of-at ∙ ap (committed (take c.place_of-at.result c.option-uses.result.now)) (sym c.commit_uses.ensures)) c.requires.legal
+
+pub commit_front-requires-clause-room : goal.commit_front-requires-clause-room
+commit_front-requires-clause-room g c =
+    subst (λ (s : Dancing). length s.trail ≤ room_for s.puzzle)
+    (whole g (goal.at.commit_front-requires-clause-room g c).After-place_of-at ∙ ap (committed (take c.place_of-at.result c.option-uses.result.now)) (sym c.commit_uses.ensures)) c.requires.room
+
+pub returns-then-at-gt0 : goal.returns-then-at-gt0
+returns-then-at-gt0 g c =
+    c.commit_front.ensures
+    ∙ ap (committed (take c.place_of-at.result c.option-uses.result.now)) c.commit_uses.ensures
+    ∙ sym (whole g (goal.at.returns-then-at-gt0 g c).After-place_of-at)
+
+-- nothing stands before the branch item's use
+pub returns-else-at-gt0 : goal.returns-else-at-gt0
+returns-else-at-gt0 g c =
+    let first : c.place_of-at.result ≡ 0 = omega (arith, c.if-at-gt0.false) in
+    ap (λ k. committed (take k c.option-uses.result.now) c.commit_uses.new.self) (sym first)
+    ∙ ap (committed (take c.place_of-at.result c.option-uses.result.now)) c.commit_uses.ensures
+    ∙ sym (whole g (goal.at.returns-else-at-gt0 g c).After-place_of-at)

@@ -1,0 +1,9 @@
+pub mod BranchItemLeft
+pub mod CyclicUses
+pub mod EachMove
+pub mod FirstFewest
+pub mod LeftAreReady
+pub mod NumberedOnce
+pub mod OptionUses
+pub mod PickedByUses
+pub mod ReadyUses

@@ -1,0 +1,114 @@
+-- Taking an option: its branch item's use first, the others cyclically after it.
+use Rattle.std.proofs.Common.{ℕ, suc, ◌≡◌, ◌+◌, ◌<◌, Bool, true, false, cond, not, ◌&&◌, ◌||◌, eqb, List, [], ◌∷◌, ◌++◌, length, filter, take, drop, Some, refl, sym, ap, ◌∙◌, arith, eqb-true, eq-eqb, ne_eqb}
+use Rattle.std.proofs.lemmas.List.Elements.{filter_agree}
+use Rattle.std.specs.Prelude.{nat_le, is_some}
+use Rattle.std.specs.List.{AllByRecursion, list_all}
+use Rattle.xc_input.specs.declared.problem.Use.{Use}
+use Rattle.xc_input.specs.Problem.{Numbered, colour_in, holds}
+use Rattle.xc_search.specs.Listing.{Residual, less_one, may_stay, item_left, pick, spend_one}
+use Rattle.xc_search.specs.inner.Commits.{place_in}
+use Rattle.xc_search.proofs.residual.PickedByUses.{is_wanted, spend_uses, all_stay, committed, as_residual}
+use Rattle.xc_input.proofs.EachElement.{each-append, each_front}
+use Rattle.xc_input.proofs.ListFilters.{filter_both, map-same}
+use Rattle.std.proofs.Math.Bool.{and_comm, or_comm}
+use Rattle.std.proofs.lemmas.List.Folds.{list_all-append}
+use Rattle.xc_search.proofs.residual.OptionUses.{AreApart}
+
+-- ---- where the item stands
+
+pub record Placed (i : ℕ) (us : List Use) : Type 0 where
+  pub use_of : Use
+  pub at : use_of.item ≡ i
+  pub whole : us ≡ take (place_in i us) us ++ use_of ∷ drop (place_in i us + 1) us
+  pub within : place_in i us < length us
+
+pub placed : (i : ℕ) (us : List Use) → is_some (colour_in us i) ≡ true → Placed i us
+placed i [] h = cc
+placed i (u ∷ us) h = by_case (eqb u.item i) refl (λ l. placed i us l)
+  where
+    by_case : (b : Bool) → eqb u.item i ≡ b → (is_some (colour_in us i) ≡ true → Placed i us) → Placed i (u ∷ us)
+    by_case true e later =
+        let here : place_in i (u ∷ us) ≡ 0 = rw e refl in
+        record {
+          use_of = u;
+          at = eqb-true u.item i e;
+          whole = rw e refl;
+          within = omega (arith, here);
+        }
+    by_case false e later =
+        let held : is_some (colour_in us i) ≡ true = (rw e at h) in
+        let rest = later held in
+        let there : place_in i (u ∷ us) ≡ suc (place_in i us) = rw e refl in
+        let next : suc (place_in i us) + 1 ≡ suc (place_in i us + 1) = omega arith in
+        record {
+          use_of = rest.use_of;
+          at = rest.at;
+          whole = rw (there, next) (ap (λ vs. u ∷ vs) rest.whole);
+          within = omega (arith, there, rest.within);
+        }
+
+-- ---- the order of the uses doesn't matter
+
+held_append : (us vs : List Use) (j : ℕ) → is_some (colour_in (us ++ vs) j) ≡ (is_some (colour_in us j) || is_some (colour_in vs j))
+held_append [] vs j = refl
+held_append (u ∷ us) vs j = elim (eqb u.item j) as (λ b. is_some (cond b (Some u.colour) (colour_in (us ++ vs) j)) ≡ (is_some (cond b (Some u.colour) (colour_in us j)) || is_some (colour_in vs j))) [ true ↦ refl | false ↦ held_append us vs j ]
+
+held_turned : (us vs : List Use) (j : ℕ) → is_some (colour_in (us ++ vs) j) ≡ is_some (colour_in (vs ++ us) j)
+held_turned us vs j = held_append us vs j ∙ or_comm (is_some (colour_in us j)) (is_some (colour_in vs j)) ∙ sym (held_append vs us j)
+
+all_turned : {X : Type 0} (f : X → Bool) (us vs : List X) → list_all f (us ++ vs) ≡ list_all f (vs ++ us)
+all_turned f us vs = list_all-append f us vs ∙ and_comm (list_all f us) (list_all f vs) ∙ sym (list_all-append f vs us)
+
+abbrev Apart : Use → Use → Type 0
+Apart u v = eqb u.item v.item ≡ false
+
+-- every one of the second is apart from all of the first
+abbrev AreCross : List Use → List Use → Type 0
+AreCross us vs = AllByRecursion (λ u. AllByRecursion (λ v. Apart u v) vs) us
+
+apart_front : (us vs : List Use) → AreApart (us ++ vs) → AreApart us
+apart_front [] vs a = tt
+apart_front (u ∷ us) vs a = ((each_front (Apart u) us vs a.0).0, apart_front us vs a.1)
+
+apart_back : (us vs : List Use) → AreApart (us ++ vs) → AreApart vs
+apart_back [] vs a = a
+apart_back (u ∷ us) vs a = apart_back us vs a.1
+
+cross : (us vs : List Use) → AreApart (us ++ vs) → AreCross us vs
+cross [] vs a = tt
+cross (u ∷ us) vs a = ((each_front (Apart u) us vs a.0).1, cross us vs a.1)
+
+join : (us vs : List Use) → AreApart us → AreApart vs → AreCross us vs → AreApart (us ++ vs)
+join [] vs a b c = b
+join (u ∷ us) vs a b c = (each-append (Apart u) us vs a.0 c.0, join us vs a.1 b c.1)
+
+apart_sym : (u v : Use) → Apart u v → Apart v u
+apart_sym u v e = ne_eqb v.item u.item (λ i. let same : eqb u.item v.item ≡ true = eq-eqb u.item v.item (sym i) in cc (e, same))
+
+cross_empty : (vs : List Use) → AreCross vs []
+cross_empty [] = tt
+cross_empty (v ∷ vs) = (tt, cross_empty vs)
+
+cross_more : (u : Use) (us vs : List Use) → AllByRecursion (λ v. Apart u v) vs → AreCross vs us → AreCross vs (u ∷ us)
+cross_more u us [] a c = tt
+cross_more u us (v ∷ vs) a c = ((apart_sym u v a.0, c.0), cross_more u us vs a.1 c.1)
+
+cross_sym : (us vs : List Use) → AreCross us vs → AreCross vs us
+cross_sym [] vs c = cross_empty vs
+cross_sym (u ∷ us) vs c = cross_more u us vs c.0 (cross_sym us vs c.1)
+
+pub apart_turned : (us vs : List Use) → AreApart (us ++ vs) → AreApart (vs ++ us)
+apart_turned us vs a = join vs us (apart_back us vs a) (apart_front us vs a) (cross_sym us vs (cross us vs a))
+
+-- ---- picking
+
+-- the options that go before option x is committed
+abbrev pub cut : Residual → ℕ → ℕ → Residual
+cut r i n = record { items = r.items; options = filter (λ o. not (holds o i && nat_le o.number n)) r.options }
+
+pub committed_picks : (r : Residual) (i : ℕ) (x : Numbered) (us vs : List Use) → x.uses ≡ us ++ vs → committed (vs ++ us) (cut r i x.number) ≡ pick r i x
+committed_picks r i x us vs e = as_residual _ _ _ _
+    (ap (filter is_wanted) (map-same (spend_uses (vs ++ us)) (spend_one x) r.items
+    (λ w. ap (λ b. cond b (less_one w) w) (held_turned vs us w.item ∙ ap (λ ws. is_some (colour_in ws w.item)) (sym e)))))
+    (filter_both (all_stay (cut r i x.number) (vs ++ us)) (λ o. not (holds o i && nat_le o.number x.number)) r.options
+    ∙ filter_agree _ _ (λ o. ap (λ b. not (holds o i && nat_le o.number x.number) && b) (all_turned (λ u. may_stay (item_left r u.item) u o) vs us ∙ ap (λ ws. list_all (λ u. may_stay (item_left r u.item) u o) ws) (sym e))) r.options)

@@ -1,0 +1,10 @@
+pub mod BackAtLevel
+pub mod BegunComesFirst
+pub mod Depth
+pub mod LoopSteps
+pub mod NextBranch
+pub mod NextLevel
+pub mod NextOption
+pub mod Start
+pub mod TakenOption
+pub mod WorkUnrolled

@@ -1,0 +1,68 @@
+-- Each level has its own Spend, and takes an option or a primary item away.
+use Rattle.std.proofs.Common.{ℕ, ◌≡◌, ◌-◌, ◌<◌, ◌≤◌, List, [], ◌∷◌, ◌++◌, length, take, Some, sym, ap, ◌∙◌, arith}
+use Rattle.xc_dance.specs.declared.dance.Move.{Move}
+use Rattle.xc_dance.specs.declared.dance.Move.TheVariants.{Cover, Purify, Tweak, Spend}
+use Rattle.xc_search.specs.declared.level.Level.{Level}
+use Rattle.xc_input.specs.Problem.{Puzzle, primary_count}
+use Rattle.xc_search.specs.Listing.{branch_item, branch_count, branches_of, size_of}
+use Rattle.xc_search.specs.Residuals.{wanted_at, wanted_after}
+use Rattle.xc_search.specs.inner.Residual.{residual_of}
+use Rattle.xc_search.specs.inner.Commits.{opened, oldest}
+use Rattle.xc_search.specs.inner.MostLevels.{most_levels}
+use Rattle.xc_search.specs.inner.Sparing.{spendings}
+use Rattle.xc_search.specs.inner.Levels.{IsShallow, AreStacked, IsNode, IsBegun}
+use Rattle.xc_search.proofs.room.SparingMoves.{spent_opened, spent_tweaked}
+use Rattle.xc_search.proofs.listing.BranchesLess.{branches_less, less_items, least_is_one}
+use Rattle.xc_input.proofs.EachElement.{each_at}
+use Rattle.xc_search.proofs.stacked.NextLevel.{branches_here}
+use Rattle.xc_dance.proofs.MoveLemmas.ListLemmas.{length-numbered_from}
+use Rattle.xc_input.proofs.ListFilters.{length-filter-le}
+use Rattle.std.proofs.lemmas.List.{length-map, take-append-drop}
+use Rattle.std.proofs.lemmas.List.FromFn.{length-range_with_len}
+use Rattle.std.specs.Prelude.{slice_get}
+use Rattle.std.specs.List.{range_with_len}
+use Rattle.xc_dance.specs.Moves.{is_open, open_items}
+use Rattle.xc_search.proofs.room.FewSpends.{few_spendings}
+use Rattle.xc_search.proofs.moves.LegalTweaks.{legal_node}
+
+spent_above : (ms t : List Move) → spendings t ≤ spendings (ms ++ t)
+spent_above [] t = omega arith
+spent_above (Cover j ∷ ms) t = spent_above ms t
+spent_above (Purify j c ∷ ms) t = spent_above ms t
+spent_above (Tweak j ∷ ms) t = spent_above ms t
+spent_above (Spend j ∷ ms) t = omega (arith, spent_above ms t)
+
+spent_oldest : (n : ℕ) (t : List Move) → spendings (oldest n t) ≤ spendings t
+spent_oldest n t = omega (arith, spent_above (take (length t - n) t) (oldest n t), ap spendings (take-append-drop (length t - n) t))
+
+pub depth : (p : Puzzle) (t : List Move) (ls : List Level) → AreStacked p t ls → length ls ≤ spendings t
+depth p t [] s = omega arith
+depth p t (l ∷ ls) s =
+    let u = oldest l.mark t in
+    omega (arith, depth p u ls s.2, spent_oldest l.base t, ap spendings s.0.base, spent_tweaked l.tweaks l.item (opened p l.item u), spent_opened p l.item u)
+
+pub shallow_first : (p : Puzzle) → IsShallow p [] []
+shallow_first p =
+    omega (
+      arith,
+      length-map (open_items p []) (wanted_at p []),
+      length-filter-le (λ i. is_open i []) (range_with_len 1 (primary_count p)),
+      length-range_with_len 1 (primary_count p),
+      length-numbered_from 1 p.options,
+    )
+
+-- a branch leaves less than there was at its level
+pub shallower : (p : Puzzle) (t s : List Move) (l k : Level) (ls : List Level) → AreStacked p t (l ∷ ls) → IsBegun p t l s k → IsShallow p s (k ∷ ls)
+shallower p t s l k ls stacked b =
+    let r = residual_of p (oldest l.mark t) in
+    let w = wanted_at p (oldest l.mark t) l.item in
+    let there = sym (ap (λ bs. slice_get bs l.begun) (branches_here p (oldest l.mark t) w stacked.0.branch)) ∙ b.at in
+    omega (arith, stacked.1, each_at (λ b. size_of b.next < size_of r) (branches_of r w) l.begun b.branch (branches_less r w stacked.0.branch) there, ap size_of b.next)
+
+-- what has a branch item isn't empty
+some_left : (p : Puzzle) (t : List Move) (i : ℕ) → branch_item (residual_of p t) ≡ Some (wanted_at p t i) → 0 < size_of (residual_of p t)
+some_left p t i b = omega (arith, less_items (wanted_at p t i) (wanted_after p t) (least_is_one (branch_count (residual_of p t)) (wanted_after p t) (wanted_at p t i) b))
+
+-- before another level is begun there is room for it
+pub depth_at : (p : Puzzle) (t : List Move) (ls : List Level) (i : ℕ) → AreStacked p t ls → IsShallow p t ls → IsNode p t i → branch_item (residual_of p t) ≡ Some (wanted_at p t i) → length ls < most_levels p
+depth_at p t ls i s h n b = omega (arith, h, some_left p t i b, depth p t ls s, spent_opened p i t, few_spendings p (opened p i t) (legal_node p i t n))

@@ -1,0 +1,106 @@
+-- The steps of the search's loop.
+use Rattle.std.proofs.Common.{ℕ, ◌≡◌, ◌+◌, ◌<◌, ◌≤◌, Bool, true, false, List, ◌∷◌, length, drop, refl, Some, None, sym, ap, ◌∙◌, arith, subst}
+use Rattle.xc_dance.specs.declared.dance.Move.{Move}
+use Rattle.xc_search.specs.declared.level.Level.{Level}
+use Rattle.xc_search.specs.declared.level.Begun.{Begun}
+use Rattle.xc_input.specs.Problem.{Puzzle}
+use Rattle.xc_dance.specs.Dancing.{Dancing}
+use Rattle.xc_dance.specs.Moves.{AreTweaks}
+use Rattle.xc_search.specs.Residuals.{choice_after}
+use Rattle.xc_search.specs.inner.Commits.{opened, oldest}
+use Rattle.xc_search.specs.inner.Levels.{Levels, IsNode, IsLevel, AreStacked, to_give, IsStanding, first_level, IsBegun, begun_level, newest_begun}
+use Rattle.xc_search.specs.inner.Ahead.{visits, ahead, GoesOn, IsReached}
+use Rattle.xc_search.proofs.stacked.NextLevel.{solution, descended, chosen_item, oldest-oldest}
+use Rattle.xc_search.proofs.stacked.BackAtLevel.{returned, finished, closing}
+use Rattle.xc_search.proofs.stacked.BegunComesFirst.{begun_coming}
+use Rattle.xc_search.proofs.stacked.Depth.{shallower}
+
+pub GoesOn-refl : (d : Dancing) (ls : Levels) (down : Bool) → IsStanding d.puzzle d.trail ls.levels down → GoesOn d ls down d ls down
+GoesOn-refl d ls down s = record { still = (refl, refl); standing = s; members = refl }
+
+pub GoesOn-trans : (d e f : Dancing) (ls ks js : Levels) (x y z : Bool) → GoesOn d ls x e ks y → GoesOn e ks y f js z → GoesOn d ls x f js z
+GoesOn-trans d e f ls ks js x y z a b = record {
+  still = (b.still.0 ∙ ap (λ (s : Dancing). record s { trail = f.trail }) a.still.0, b.still.1 ∙ ap (λ (s : Levels). record s { levels = js.levels }) a.still.1);
+  standing = b.standing;
+  members = a.members ∙ b.members;
+}
+
+pub finds : (d : Dancing) (ls : Levels) → IsStanding d.puzzle d.trail ls.levels true → choice_after d.puzzle d.trail ≡ None → IsReached d ls true d ls
+finds d ls s e = record { still = (refl, refl); stacked = s.stacked; members = solution d.puzzle d.trail ls.levels (s.searchable refl).legal e }
+
+pub node_at : (p : Puzzle) (t : List Move) (ls : List Level) (i n : ℕ) → IsStanding p t ls true → choice_after p t ≡ Some (i, n) → IsNode p t i
+node_at p t ls i n s e =
+    let c = chosen_item p t i n (s.searchable refl).legal e in
+    record { searchable = s.searchable refl; item = c.item; is_open = c.is_open }
+
+pub deepens : (d e : Dancing) (ls ks : Levels) (i n : ℕ) (l : Level) → IsStanding d.puzzle d.trail ls.levels true → choice_after d.puzzle d.trail ≡ Some (i, n) →
+    e ≡ record d { trail = opened d.puzzle i d.trail } → l ≡ first_level d.puzzle d.trail i n → ks ≡ record ls { levels = l ∷ ls.levels } →
+    GoesOn d ls true e ks false × (visits e.puzzle e.trail ks.levels < ahead d.puzzle d.trail ls.levels true)
+deepens d e ls ks i n l s h ed el ek =
+    let p = d.puzzle in
+    let t = d.trail in
+    let all = descended p t ls.levels i n (s.searchable refl) (s.shallow refl) (chosen_item p t i n (s.searchable refl).legal h) s.stacked in
+    subst (λ (f : Dancing). GoesOn d ls true f ks false × (visits f.puzzle f.trail ks.levels < ahead p t ls.levels true)) (sym ed)
+    (subst (λ (js : Levels). GoesOn d ls true (record d { trail = opened p i t }) js false × (visits p (opened p i t) js.levels < ahead p t ls.levels true)) (sym (ek ∙ ap (λ l. record ls { levels = l ∷ ls.levels }) el)) (
+      record {
+        still = (refl, refl);
+        standing = record { stacked = all.0; searchable = λ e. cc; shallow = λ e. cc };
+        members = all.1;
+      },
+      all.2,
+    ))
+
+-- the newest of the levels ended
+pub goes_back : (d e : Dancing) (l : Level) (vs ks : Levels) → AreStacked d.puzzle d.trail vs.levels → vs.levels ≡ l ∷ drop 1 vs.levels →
+    l.count ≤ l.begun → e ≡ record d { trail = oldest l.mark d.trail } → ks ≡ record vs { levels = drop 1 vs.levels } →
+    GoesOn d vs false e ks false × (visits e.puzzle e.trail ks.levels < visits d.puzzle d.trail vs.levels)
+goes_back d e l vs ks stacked top h ed ek =
+    let p = d.puzzle in
+    let t = d.trail in
+    let ls = drop 1 vs.levels in
+    let u = oldest l.base t in
+    let here = subst (AreStacked p t) top stacked in
+    let back = returned p t l ls here in
+    let done = finished p u l ls back.0 h in
+    let under = oldest-oldest l.mark l.base t here.0.within.0 here.0.within.1 in
+    subst (λ (f : Dancing). GoesOn d vs false f ks false × (visits f.puzzle f.trail ks.levels < visits p t vs.levels)) (sym ed)
+    (subst (λ (js : Levels). GoesOn d vs false (record d { trail = oldest l.mark t }) js false × (visits p (oldest l.mark t) js.levels < visits p t vs.levels)) (sym ek) (
+      record {
+        still = (refl, refl);
+        standing = record { stacked = here.2; searchable = λ e. cc; shallow = λ e. cc };
+        members = ap (to_give p t) top ∙ sym back.1 ∙ done.0 ∙ ap (λ v. to_give p v ls) under;
+      },
+      omega (arith, done.1, back.2, ap (visits p t) top, ap (λ v. visits p v ls) under),
+    ))
+
+-- the newest of the levels goes on with a branch
+pub goes_to : (d e : Dancing) (l : Level) (b : Begun) (vs ks : Levels) → AreStacked d.puzzle d.trail vs.levels → vs.levels ≡ l ∷ drop 1 vs.levels →
+    e ≡ record d { trail = e.trail } → IsBegun d.puzzle (oldest l.base d.trail) l e.trail (begun_level b l) → ks ≡ record vs { levels = newest_begun b vs.levels } →
+    GoesOn d vs false e ks true × (ahead e.puzzle e.trail ks.levels true < visits d.puzzle d.trail vs.levels)
+goes_to d e l b vs ks stacked top ed begun ek =
+    let p = d.puzzle in
+    let t = d.trail in
+    let s = e.trail in
+    let k = begun_level b l in
+    let ls = drop 1 vs.levels in
+    let u = oldest l.base t in
+    let back = returned p t l ls (subst (AreStacked p t) top stacked) in
+    let all = begun_coming p u s l k ls back.0 begun in
+    subst (λ (f : Dancing). GoesOn d vs false f ks true × (ahead f.puzzle f.trail ks.levels true < visits p t vs.levels)) (sym ed)
+    (subst (λ (js : Levels). GoesOn d vs false (record d { trail = s }) js true × (ahead p s js.levels true < visits p t vs.levels)) (sym (ek ∙ ap (λ ls. record vs { levels = newest_begun b ls }) top)) (
+      record {
+        still = (refl, refl);
+        standing = record { stacked = all.1; searchable = λ e. begun.searchable; shallow = λ e. shallower p u s l k ls back.0 begun };
+        members = ap (to_give p t) top ∙ sym back.1 ∙ sym all.0;
+      },
+      omega (arith, all.2, back.2, ap (visits p t) top),
+    ))
+
+-- what is asked back at a level
+pub back_at : (p : Puzzle) (t r : List Move) (l : Level) (ls : List Level) → AreStacked p t (l ∷ ls) → r ≡ oldest l.base t →
+    IsLevel p r l × (l.base ≡ length r) × (0 < l.tweaks → AreTweaks l.tweaks r) × (l.mark + l.tweaks ≤ length r)
+back_at p t r l ls stacked er =
+    let back = returned p t l ls stacked in
+    let u = oldest l.base t in
+    let close = closing p u l back.0.0 back.3 in
+    subst (λ r. IsLevel p r l × (l.base ≡ length r) × (0 < l.tweaks → AreTweaks l.tweaks r) × (l.mark + l.tweaks ≤ length r)) (sym er) (back.0.0, back.3, close.0, close.1)

@@ -1,0 +1,163 @@
+-- The next branch of a level.
+use Rattle.std.proofs.Common.{ℕ, suc, ◌≡◌, ◌≢◌, ◌+◌, ◌-◌, ◌<◌, ◌≤◌, Bool, true, false, cond, eqb, List, ◌∷◌, length, min, Some, None, refl, sym, ap, ap₂, ◌∙◌, arith, subst, eqb-true}
+use Rattle.std.proofs.lemmas.Option.{slice_get_within}
+use Rattle.std.specs.Prelude.{slice_get, option_map, replicate}
+use Rattle.xc_search.specs.declared.choice.Choice.{Choice}
+use Rattle.xc_dance.specs.declared.dance.Move.{Move}
+use Rattle.xc_dance.specs.declared.dance.Move.TheVariants.{Tweak, Spend}
+use Rattle.xc_search.specs.declared.level.Level.{Level}
+use Rattle.xc_input.specs.Problem.{Puzzle, Numbered, high_at, IsItem}
+use Rattle.xc_search.specs.Listing.{branch_count, take_branch, none_branch}
+use Rattle.xc_dance.specs.Moves.{spends, AreLegal}
+use Rattle.xc_search.specs.Residuals.{wanted_at}
+use Rattle.xc_search.specs.inner.Residual.{residual_of}
+use Rattle.xc_search.specs.inner.Levels.{AreAllWanted, options_at, IsLevelAt, IsLevel, chosen, IsBegun}
+use Rattle.xc_search.specs.inner.Commits.{opened, oldest, tweaked, after_uses, others, closed, walks}
+use Rattle.xc_search.specs.inner.Sparing.{IsSparing}
+use Rattle.xc_search.proofs.room.SparingMoves.{sparing_taken, sparing_none}
+use Rattle.xc_input.proofs.FlatParts.{numbered_get-at}
+use Rattle.xc_search.proofs.moves.OldestMoves.{oldest_all}
+use Rattle.xc_search.proofs.listing.BranchLists.{branch_takes, branch_none}
+use Rattle.xc_search.proofs.moves.BranchMoves.{taken, none_taken, legal_closed, none_wanted}
+use Rattle.xc_search.proofs.moves.LegalTweaks.{legal_branch}
+use Rattle.xc_search.proofs.stacked.NextLevel.{Extends, ext_trans, ext_opened, ext_uses, ext_closed, ext_oldest, ext_whole, ext_longer, length-oldest, branches_here}
+
+ext_tweaked : (m i : ℕ) (s : List Move) → Extends (tweaked m i s) s
+ext_tweaked m i s = (replicate m (Tweak i), refl)
+
+pub covered_walks : (p : Puzzle) (u : List Move) (i : ℕ) → walks p u i ≡ true → high_at p i - spends i (Spend i ∷ u) ≡ 0
+covered_walks p u i e = by_case (eqb (high_at p i - spends i (Spend i ∷ u)) 0) refl
+  where
+    by_case : (b : Bool) → eqb (high_at p i - spends i (Spend i ∷ u)) 0 ≡ b → high_at p i - spends i (Spend i ∷ u) ≡ 0
+    by_case true c = eqb-true _ _ c
+    by_case false c = let not_so : walks p u i ≡ false = rw c refl in cc (not_so, e)
+
+-- the level after an option was taken, with m tweaks, where n moves stand before the branch
+abbrev pub with_option : ℕ → Level → ℕ → ℕ → Level
+with_option n l m o = record { mark = l.mark; base = n; item = l.item; option = Some o; begun = l.begun + 1; count = l.count; tweaks = m; walks = l.walks }
+
+pub begins_take : (p : Puzzle) (t : List Move) (l : Level) (x : Numbered) (m : ℕ) → IsLevel p t l → l.begun < l.count →
+    slice_get (options_at p (oldest l.mark t) l.item) l.begun ≡ Some x → m ≡ cond l.walks l.tweaks (l.tweaks + 1) →
+    IsBegun p t l (after_uses p (others l.item x.uses) (tweaked m l.item (opened p l.item (oldest l.mark t)))) (with_option (length (tweaked m l.item (opened p l.item (oldest l.mark t)))) l m x.number)
+begins_take p t l x m is_level more e hm = by_case l.walks refl
+  where
+    begins : (m ≤ suc l.begun) → (high_at p l.item - spends l.item (Spend l.item ∷ oldest l.mark t) ≢ 0 → m ≡ suc l.begun) →
+        m ≡ cond l.walks 0 (min (l.begun + 1) (length (options_at p (oldest l.mark t) l.item))) →
+        IsBegun p t l (after_uses p (others l.item x.uses) (tweaked m l.item (opened p l.item (oldest l.mark t)))) (with_option (length (tweaked m l.item (opened p l.item (oldest l.mark t)))) l m x.number)
+    begins le h tw =
+        let u = oldest l.mark t in
+        let r = residual_of p u in
+        let w = wanted_at p u l.item in
+        let ground = tweaked m l.item (opened p l.item u) in
+        let s = after_uses p (others l.item x.uses) ground in
+        let took = taken p u l.item l.begun m x is_level.node e h le in
+        let ext_ground : Extends ground u = ext_trans ground (opened p l.item u) u (ext_tweaked m l.item (opened p l.item u)) (ext_opened p l.item u) in
+        let ext_s : Extends s ground = ext_uses p (others l.item x.uses) ground in
+        let mark_is : length u ≡ l.mark = length-oldest l.mark t (omega (arith, is_level.within)) in
+        let under : oldest l.mark s ≡ u = ap (λ n. oldest n s) (sym mark_is) ∙ ext_whole s u (ext_trans s ground u ext_s ext_ground) in
+        let b = take_branch r l.item (branch_count r w) (1 + l.begun, x) in
+        let next : 1 + l.begun ≡ l.begun + 1 = omega arith in
+        let n_is : l.count ≡ branch_count r w = is_level.count in
+        let k = with_option (length ground) l m x.number in
+        let it_is : chosen k ≡ b.choice = ap₂ (λ a c. let choice : Choice = record { item = l.item; option = Some x.number; k = a; n = c } in choice) (sym next) n_is in
+        record {
+          branch = b;
+          at = ap (λ bs. slice_get bs l.begun) (branches_here p u w is_level.branch) ∙ branch_takes r w l.begun x (omega (arith, more, n_is)) e;
+          next = took.residual;
+          choice = it_is;
+          begun = omega arith;
+          mark = refl;
+          below = under;
+          level = subst (λ u'. IsLevelAt p u' s k) (sym under) (record {
+            within = (omega (arith, ext_longer ground u ext_ground, mark_is), ext_longer s ground ext_s);
+            node = is_level.node;
+            branch = is_level.branch;
+            count = is_level.count;
+            begun = omega (arith, more);
+            walking = is_level.walking;
+            tweaks = tw;
+            option = sym (ap (option_map (λ o. o.number)) (numbered_get-at (options_at p u l.item) (l.begun + 1) l.begun refl ∙ e));
+            base = ext_whole s ground ext_s;
+          });
+          searchable = record {
+            valid = is_level.node.searchable.valid;
+            legal = took.legal;
+            wanted = took.wanted;
+            sparing = sparing_taken p u l.item l.begun m x is_level.node.searchable.sparing e took.held took.within took.residual;
+          };
+        }
+
+    by_case : (b : Bool) → l.walks ≡ b → IsBegun p t l (after_uses p (others l.item x.uses) (tweaked m l.item (opened p l.item (oldest l.mark t)))) (with_option (length (tweaked m l.item (opened p l.item (oldest l.mark t)))) l m x.number)
+    by_case true c =
+        let stood : l.tweaks ≡ 0 = is_level.tweaks ∙ rw c refl in
+        let m_is : m ≡ 0 = hm ∙ rw c stood in
+        let used_up = covered_walks p (oldest l.mark t) l.item (sym is_level.walking ∙ c) in
+        begins (omega (arith, m_is)) (λ h. absurd (h used_up)) (m_is ∙ rw c refl)
+    by_case false c =
+        let within = slice_get_within (options_at p (oldest l.mark t) l.item) l.begun x e in
+        let stood : l.tweaks ≡ min l.begun (length (options_at p (oldest l.mark t) l.item)) = is_level.tweaks ∙ rw c refl in
+        let m_is : m ≡ l.tweaks + 1 = hm ∙ rw c refl in
+        let all : m ≡ l.begun + 1 = omega (arith, m_is, stood, within) in
+        begins (omega (arith, all)) (λ h. omega (arith, all)) (rw c (omega (arith, all, within)))
+
+pub few_tweaks : (p : Puzzle) (u t : List Move) (l : Level) → IsLevelAt p u t l → l.tweaks ≤ length (options_at p u l.item)
+few_tweaks p u t l is_level = by_case l.walks refl
+  where
+    by_case : (b : Bool) → l.walks ≡ b → l.tweaks ≤ length (options_at p u l.item)
+    by_case true c = let stood : l.tweaks ≡ 0 = is_level.tweaks ∙ rw c refl in omega (arith, stood)
+    by_case false c = let stood : l.tweaks ≡ min l.begun (length (options_at p u l.item)) = is_level.tweaks ∙ rw c refl in omega (arith, stood)
+
+same_tweaks : (b : Bool) (k n : ℕ) → k ≡ n → cond b 0 (min k n) ≡ cond b 0 (min (k + 1) n)
+same_tweaks true k n e = refl
+same_tweaks false k n e = omega (arith, e)
+
+-- the level after its branch of none was begun
+abbrev pub with_none : Level → Level
+with_none l = record { mark = l.mark; base = l.base; item = l.item; option = None; begun = l.begun + 1; count = l.count; tweaks = l.tweaks; walks = l.walks }
+
+pub begins_none : (p : Puzzle) (t : List Move) (l : Level) → IsLevel p t l → l.base ≡ length t → l.begun < l.count →
+    slice_get (options_at p (oldest l.mark t) l.item) l.begun ≡ None →
+    IsBegun p t l (closed l.item t) (with_none l)
+begins_none p t l is_level whole more e =
+    let u = oldest l.mark t in
+    let r = residual_of p u in
+    let w = wanted_at p u l.item in
+    let s = closed l.item t in
+    let ground = tweaked l.tweaks l.item (opened p l.item u) in
+    let t_is : t ≡ ground = sym (ap (λ n. oldest n t) whole ∙ oldest_all t) ∙ is_level.base in
+    let last = branch_none r w l.begun (omega (arith, more, is_level.count)) e in
+    let few : l.tweaks ≤ length (options_at p u l.item) = few_tweaks p u t l is_level in
+    let ext_s : Extends s t = ext_closed l.item t in
+    let under : oldest l.mark s ≡ u = ext_oldest l.mark s t ext_s (omega (arith, is_level.within)) in
+    let b = none_branch r l.item (branch_count r w) in
+    let left_is : residual_of p s ≡ b.next = ap (λ t. residual_of p (closed l.item t)) t_is ∙ none_taken p u l.item l.tweaks is_level.node few in
+    let item : IsItem p l.item = (is_level.node.item.0, omega (arith, is_level.node.item.1)) in
+    let legal_t : AreLegal p t = subst (AreLegal p) (sym t_is) (legal_branch p l.tweaks l.item u is_level.node few) in
+    let k = with_none l in
+    let it_is : chosen k ≡ b.choice = ap₂ (λ a c. let choice : Choice = record { item = l.item; option = None; k = a; n = c } in choice) (omega (arith, last.2)) is_level.count in
+    record {
+      branch = b;
+      at = ap (λ bs. slice_get bs l.begun) (branches_here p u w is_level.branch) ∙ last.0;
+      next = left_is;
+      choice = it_is;
+      begun = omega arith;
+      mark = refl;
+      below = under;
+      level = subst (λ u'. IsLevelAt p u' s k) (sym under) (record {
+        within = (is_level.within.0, omega (arith, ext_longer s t ext_s, whole));
+        node = is_level.node;
+        branch = is_level.branch;
+        count = is_level.count;
+        begun = omega (arith, more);
+        walking = is_level.walking;
+        tweaks = is_level.tweaks ∙ same_tweaks l.walks l.begun (length (options_at p u l.item)) last.1;
+        option = sym (ap (option_map (λ o. o.number)) (numbered_get-at (options_at p u l.item) (l.begun + 1) l.begun refl ∙ e));
+        base = ext_oldest l.base s t ext_s (omega (arith, whole)) ∙ is_level.base;
+      });
+      searchable = record {
+        valid = is_level.node.searchable.valid;
+        legal = legal_closed p l.item t item legal_t;
+        wanted = subst (λ r. AreAllWanted r.items) (sym left_is) (none_wanted r l.item is_level.node.searchable.wanted);
+        sparing = subst (λ t. IsSparing p (closed l.item t)) (sym t_is) (sparing_none p u l.item l.tweaks is_level.node.searchable.sparing is_level.branch (none_taken p u l.item l.tweaks is_level.node few));
+      };
+    }

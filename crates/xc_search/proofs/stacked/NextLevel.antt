@@ -1,0 +1,186 @@
+-- What one step of the search does to the levels.
+use Rattle.std.proofs.Common.{ℕ, zero, suc, ◌≡◌, ◌+◌, ◌-◌, ◌<◌, ◌≤◌, true, false, cond, eqb, leb, List, [], ◌∷◌, ◌++◌, length, map, take, drop, min, Option, Some, None, refl, sym, ap, ap₂, ◌∙◌, arith, subst, append_assoc, append-nil, length-append, length-drop}
+use Rattle.std.specs.Prelude.{option_map, flat_map}
+use Rattle.std.specs.List.{AllByRecursion, range_with_len}
+use Rattle.xc_input.specs.declared.problem.Use.{Use}
+use Rattle.xc_search.specs.declared.choice.Choice.{Choice}
+use Rattle.xc_dance.specs.declared.dance.Move.{Move}
+use Rattle.xc_dance.specs.declared.dance.Move.TheVariants.{Cover, Purify, Spend}
+use Rattle.xc_search.specs.declared.level.Level.{Level}
+use Rattle.xc_input.specs.Problem.{Puzzle, primary_count, high_at, IsPrimary}
+use Rattle.xc_search.specs.Listing.{Wanted, Branch, branches_of, branch_count, branch_item, listing, level}
+use Rattle.xc_dance.specs.Moves.{is_open, spends, open_items, AreLegal}
+use Rattle.xc_search.specs.Residuals.{wanted_at, wanted_after, choice_after}
+use Rattle.xc_search.specs.inner.Residual.{residual_of}
+use Rattle.xc_search.specs.inner.Levels.{branches_at, members_of, IsSearchable, IsNode, options_at, IsLevelAt, IsShallow, AreStacked, choices_of, to_give, coming, first_level}
+use Rattle.xc_search.specs.inner.Commits.{opened, oldest, after_use, after_uses, closed, walks}
+use Rattle.xc_search.specs.inner.Ahead.{cost, work, work_level, visits, ahead}
+use Rattle.xc_search.proofs.Members.{each_in}
+use Rattle.xc_search.proofs.listing.Unrolled.{listing_unrolled}
+use Rattle.xc_search.proofs.listing.BranchesLess.{least_is_one}
+use Rattle.xc_search.proofs.residual.EachMove.{in_range}
+use Rattle.xc_search.proofs.residual.ReadyUses.{as_spent}
+use Rattle.xc_search.proofs.residual.BranchItemLeft.{choice_is_branch_item, choice_of}
+use Rattle.xc_search.proofs.moves.OldestMoves.{oldest_all}
+use Rattle.xc_search.proofs.stacked.WorkUnrolled.{work_unrolled}
+use Rattle.xc_input.proofs.EachElement.{each_weaker, each-map, each-filter, each_passes, each_both}
+use Rattle.xc_input.proofs.ListFilters.{map-map}
+use Rattle.std.proofs.lemmas.List.{map-append, take-append-drop}
+
+-- ---- the oldest moves
+
+pub length-oldest : (n : ℕ) (t : List Move) → n ≤ length t → length (oldest n t) ≡ n
+length-oldest n t h = omega (arith, length-drop (length t - n) t, h)
+
+pub oldest-append : (n : ℕ) (ms t : List Move) → n ≤ length t → oldest n (ms ++ t) ≡ oldest n t
+oldest-append n [] t h = refl
+oldest-append n (m ∷ ms) t h =
+    let one_more : suc (length (ms ++ t)) - n ≡ suc (length (ms ++ t) - n) = omega (arith, length-append ms t, h) in
+    ap (λ k. drop k (m ∷ ms ++ t)) one_more ∙ oldest-append n ms t h
+
+pub oldest-oldest : (m n : ℕ) (t : List Move) → m ≤ n → n ≤ length t → oldest m (oldest n t) ≡ oldest m t
+oldest-oldest m n t h k =
+    sym (ap (oldest m) (sym (take-append-drop (length t - n) t)) ∙ oldest-append m (take (length t - n) t) (oldest n t) (omega (arith, length-oldest n t k, h)))
+
+-- ---- moves on top
+
+abbrev pub Extends : List Move → List Move → Type 0
+Extends s t = (ms : List Move) × (s ≡ ms ++ t)
+
+pub ext_trans : (r s t : List Move) → Extends r s → Extends s t → Extends r t
+ext_trans r s t a b = (a.0 ++ b.0, a.1 ∙ ap (λ x. a.0 ++ x) b.1 ∙ sym (append_assoc a.0 b.0 t))
+
+pub ext_opened : (p : Puzzle) (i : ℕ) (t : List Move) → Extends (opened p i t) t
+ext_opened p i t = elim (eqb (high_at p i - spends i (Spend i ∷ t)) 0) as (λ b. Extends (cond b (Cover i ∷ Spend i ∷ t) (Spend i ∷ t)) t) [
+  | true ↦ (Cover i ∷ Spend i ∷ [], refl)
+  | false ↦ (Spend i ∷ [], refl)
+]
+
+ext_use : (p : Puzzle) (u : Use) (t : List Move) → Extends (after_use p u t) t
+ext_use p u t =
+    elim (leb u.item (primary_count p)) as (λ x. Extends (cond x (opened p u.item t) (cond (eqb u.colour 0) (Cover u.item ∷ t) (cond (is_open u.item t) (Purify u.item u.colour ∷ t) t))) t) [
+      | true ↦ ext_opened p u.item t
+      | false ↦ elim (eqb u.colour 0) as (λ x. Extends (cond x (Cover u.item ∷ t) (cond (is_open u.item t) (Purify u.item u.colour ∷ t) t)) t) [
+        | true ↦ (Cover u.item ∷ [], refl)
+        | false ↦ elim (is_open u.item t) as (λ x. Extends (cond x (Purify u.item u.colour ∷ t) t) t) [
+          | true ↦ (Purify u.item u.colour ∷ [], refl)
+          | false ↦ ([], refl)
+        ]
+      ]
+    ]
+
+pub ext_uses : (p : Puzzle) (us : List Use) (t : List Move) → Extends (after_uses p us t) t
+ext_uses p [] t = ([], refl)
+ext_uses p (u ∷ us) t = ext_trans (after_uses p us (after_use p u t)) (after_use p u t) t (ext_uses p us (after_use p u t)) (ext_use p u t)
+
+pub ext_closed : (i : ℕ) (t : List Move) → Extends (closed i t) t
+ext_closed i t = elim (is_open i t) as (λ x. Extends (cond x (Cover i ∷ t) t) t) [ true ↦ (Cover i ∷ [], refl) | false ↦ ([], refl) ]
+
+pub ext_oldest : (n : ℕ) (s t : List Move) → Extends s t → n ≤ length t → oldest n s ≡ oldest n t
+ext_oldest n s t e h = ap (oldest n) e.1 ∙ oldest-append n e.0 t h
+
+pub ext_whole : (s t : List Move) → Extends s t → oldest (length t) s ≡ t
+ext_whole s t e = ext_oldest (length t) s t e (omega arith) ∙ oldest_all t
+
+pub ext_longer : (s t : List Move) → Extends s t → length t ≤ length s
+ext_longer s t e = omega (arith, ap length e.1, length-append e.0 t)
+
+-- ---- the item of a level
+
+range_from : (a n : ℕ) → AllByRecursion (λ i. a ≤ i) (range_with_len a n)
+range_from a zero = tt
+range_from a (suc n) = (omega arith, each_weaker (λ i. a + 1 ≤ i) (λ i. a ≤ i) (range_with_len (a + 1) n) (λ i h. omega (arith, h)) (range_from (a + 1) n))
+
+all_primary : (p : Puzzle) (t : List Move) → AllByRecursion (λ w. IsPrimary p w.item × (is_open w.item t ≡ true)) (wanted_after p t)
+all_primary p t =
+    let is = range_with_len 1 (primary_count p) in
+    each-map (λ w. IsPrimary p w.item × (is_open w.item t ≡ true)) (wanted_at p t) (open_items p t)
+    (each_both (λ i. IsPrimary p i) (λ i. is_open i t ≡ true) (λ i. IsPrimary p i × (is_open i t ≡ true)) (open_items p t) (λ i a b. (a, b))
+    (each-filter (λ i. IsPrimary p i) (λ i. is_open i t) is (each_both (λ i. 1 ≤ i) (λ i. i < 1 + primary_count p) (λ i. IsPrimary p i) is (λ i a b. (a, omega (arith, b))) (range_from 1 (primary_count p)) (in_range 1 (primary_count p))))
+    (each_passes (λ i. is_open i t) is))
+
+pub record Chosen (p : Puzzle) (t : List Move) (i n : ℕ) : Type 0 where
+  pub branch : branch_item (residual_of p t) ≡ Some (wanted_at p t i)
+  pub count : n ≡ branch_count (residual_of p t) (wanted_at p t i)
+  pub item : IsPrimary p i
+  pub is_open : is_open i t ≡ true
+
+first_of_pair : (a b : ℕ × ℕ) → Some a ≡ Some b → (a.0 ≡ b.0) × (a.1 ≡ b.1)
+first_of_pair a b e = let same : a ≡ b = cc in (ap (λ (x : ℕ × ℕ). x.0) same, ap (λ (x : ℕ × ℕ). x.1) same)
+
+pub chosen_item : (p : Puzzle) (t : List Move) (i n : ℕ) → AreLegal p t → choice_after p t ≡ Some (i, n) → Chosen p t i n
+chosen_item p t i n l e = by_case (branch_item (residual_of p t)) refl (sym (choice_is_branch_item p t l) ∙ e)
+  where
+    by_case : (o : Option Wanted) → branch_item (residual_of p t) ≡ o → choice_of (residual_of p t) ≡ Some (i, n) → Chosen p t i n
+    by_case None b c = let none : choice_of (residual_of p t) ≡ None = ap (option_map (λ w. (w.item, branch_count (residual_of p t) w))) b in cc (none, c)
+    by_case (Some w) b c =
+        let some : choice_of (residual_of p t) ≡ Some (w.item, branch_count (residual_of p t) w) = ap (option_map (λ w. (w.item, branch_count (residual_of p t) w))) b in
+        let parts = first_of_pair (w.item, branch_count (residual_of p t) w) (i, n) (sym some ∙ c) in
+        let one = least_is_one (branch_count (residual_of p t)) (wanted_after p t) w b in
+        let here = each_in (λ w. IsPrimary p w.item × (is_open w.item t ≡ true)) (wanted_after p t) w (all_primary p t) one in
+        let as_is : w ≡ wanted_at p t i = each_in (λ w. w ≡ wanted_at p t w.item) (wanted_after p t) w (as_spent p t) one ∙ ap (wanted_at p t) parts.0 in
+        record {
+          branch = b ∙ ap Some as_is;
+          count = sym parts.1 ∙ ap (branch_count (residual_of p t)) as_is;
+          item = subst (IsPrimary p) parts.0 here.0;
+          is_open = ap (λ i. is_open i t) (sym parts.0) ∙ here.1;
+        }
+
+pub chosen_none : (p : Puzzle) (t : List Move) → AreLegal p t → choice_after p t ≡ None → branch_item (residual_of p t) ≡ None
+chosen_none p t l e = by_case (branch_item (residual_of p t)) refl (sym (choice_is_branch_item p t l) ∙ e)
+  where
+    by_case : (o : Option Wanted) → branch_item (residual_of p t) ≡ o → choice_of (residual_of p t) ≡ None → branch_item (residual_of p t) ≡ None
+    by_case None b c = b
+    by_case (Some w) b c =
+        let some : choice_of (residual_of p t) ≡ Some (w.item, branch_count (residual_of p t) w) = ap (option_map (λ w. (w.item, branch_count (residual_of p t) w))) b in cc (some, c)
+
+-- ---- what is left is searched
+
+pub branches_here : (p : Puzzle) (t : List Move) (w : Wanted) → branch_item (residual_of p t) ≡ Some w → branches_at p t ≡ branches_of (residual_of p t) w
+branches_here p t w e = rw e refl
+
+-- no primary item is left: one member, with no more choices
+pub solution : (p : Puzzle) (t : List Move) (ls : List Level) → AreLegal p t → choice_after p t ≡ None → coming p t ls true ≡ choices_of ls ∷ to_give p t ls
+solution p t ls l e =
+    let one : listing (residual_of p t) ≡ [] ∷ [] = listing_unrolled (residual_of p t) ∙ ap (λ o. level listing o (residual_of p t)) (chosen_none p t l e) in
+    ap (λ ms. map (λ m. choices_of ls ++ m) ms ++ to_give p t ls) one
+    ∙ ap (λ m. m ∷ to_give p t ls) (append-nil (choices_of ls))
+
+members_all : (before : List Choice) (bs : List Branch) → map (λ m. before ++ m) (flat_map (λ b. map (λ m. b.choice ∷ m) (listing b.next)) bs) ≡ members_of before bs
+members_all before [] = refl
+members_all before (b ∷ bs) =
+    map-append (λ m. before ++ m) (map (λ m. b.choice ∷ m) (listing b.next)) (flat_map (λ b. map (λ m. b.choice ∷ m) (listing b.next)) bs)
+    ∙ ap₂ (λ x y. x ++ y) (map-map (λ m. b.choice ∷ m) (λ m. before ++ m) (listing b.next)) (members_all before bs)
+
+-- a level is begun
+pub descended : (p : Puzzle) (t : List Move) (ls : List Level) (i n : ℕ) → IsSearchable p t → IsShallow p t ls → Chosen p t i n → AreStacked p t ls →
+    AreStacked p (opened p i t) (first_level p t i n ∷ ls)
+    × (coming p t ls true ≡ to_give p (opened p i t) (first_level p t i n ∷ ls))
+    × (visits p (opened p i t) (first_level p t i n ∷ ls) < ahead p t ls true)
+descended p t ls i n here sh c stacked =
+    let f = first_level p t i n in
+    let s = opened p i t in
+    let ext = ext_opened p i t in
+    let under : oldest (length t) s ≡ t = ext_whole s t ext in
+    let node : IsNode p t i = record { searchable = here; item = c.item; is_open = c.is_open } in
+    let no_tweaks : 0 ≡ cond (walks p t i) 0 (min 0 (length (options_at p t i))) = elim (walks p t i) as (λ b. 0 ≡ cond b 0 (min 0 (length (options_at p t i)))) [ true ↦ refl | false ↦ omega arith ] in
+    let is_level : IsLevelAt p t s f = record {
+      within = (ext_longer s t ext, omega arith);
+      node = node;
+      branch = c.branch;
+      count = c.count;
+      begun = omega arith;
+      walking = refl;
+      tweaks = no_tweaks;
+      option = refl;
+      base = oldest_all s;
+    } in
+    let unrolled : listing (residual_of p t) ≡ flat_map (λ b. map (λ m. b.choice ∷ m) (listing b.next)) (branches_at p t) =
+    listing_unrolled (residual_of p t) ∙ ap (λ o. level listing o (residual_of p t)) c.branch ∙ ap (flat_map (λ b. map (λ m. b.choice ∷ m) (listing b.next))) (sym (branches_here p t (wanted_at p t i) c.branch)) in
+    let worked : work (residual_of p t) ≡ suc (suc (cost work (branches_at p t))) =
+    work_unrolled (residual_of p t) ∙ ap (λ o. work_level work o (residual_of p t)) c.branch ∙ ap (λ bs. suc (suc (cost work bs))) (sym (branches_here p t (wanted_at p t i) c.branch)) in (
+      (subst (λ u. IsLevelAt p u s f) (sym under) is_level, subst (λ u. IsShallow p u ls) (sym under) sh, subst (λ u. AreStacked p u ls) (sym under) stacked),
+      ap (λ ms. map (λ m. choices_of ls ++ m) ms ++ to_give p t ls) unrolled ∙ ap (λ ms. ms ++ to_give p t ls) (members_all (choices_of ls) (branches_at p t))
+          ∙ ap (λ u. members_of (choices_of ls) (branches_at p u) ++ to_give p u ls) (sym under),
+      omega (arith, worked, ap (λ u. cost work (branches_at p u)) under, ap (λ u. visits p u ls) under),
+    )

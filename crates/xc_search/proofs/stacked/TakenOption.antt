@@ -1,0 +1,117 @@
+-- What the code of a branch asks and gives.
+use Rattle.std.proofs.Common.{ℕ, suc, ◌≡◌, ◌≢◌, ◌+◌, ◌-◌, ◌<◌, ◌≤◌, Bool, true, false, cond, List, ◌∷◌, length, min, Option, Some, None, refl, sym, ap, ◌∙◌, arith, subst}
+use Rattle.std.proofs.lemmas.Option.{slice_get_within}
+use Rattle.std.proofs.lemmas.List.Elements.{All-from_recursion}
+use Rattle.std.specs.Prelude.{All, slice_get, option_map}
+use Rattle.std.specs.List.{AllByRecursion}
+use Rattle.xc_input.specs.declared.problem.Use.{Use}
+use Rattle.xc_dance.specs.declared.dance.Move.{Move}
+use Rattle.xc_dance.specs.declared.dance.Move.TheVariants.{Tweak, Spend}
+use Rattle.xc_search.specs.declared.level.Level.{Level}
+use Rattle.xc_input.specs.Problem.{Puzzle, Numbered, high_at, IsItem, option_count, uses_of}
+use Rattle.xc_dance.specs.Dancing.{Dancing}
+use Rattle.xc_dance.specs.Moves.{spends, AreLegal, IsLegal}
+use Rattle.xc_search.specs.inner.Levels.{options_at, IsLevel, IsBegun, next_number}
+use Rattle.xc_search.specs.inner.Commits.{opened, oldest, tweaked, after_uses, others, closed, place_in}
+use Rattle.xc_search.proofs.moves.OldestMoves.{oldest_all}
+use Rattle.xc_search.proofs.moves.BranchMoves.{taken}
+use Rattle.xc_search.proofs.moves.LegalTweaks.{legal_branch}
+use Rattle.xc_search.proofs.room.TrailFits.{has_room}
+use Rattle.xc_search.specs.Room.{room_for}
+use Rattle.xc_search.proofs.stacked.NextBranch.{covered_walks, with_option, begins_take, with_none, begins_none}
+
+record Taking (p : Puzzle) (t : List Move) (l : Level) (o m : ℕ) : Type 0 where
+  pub known : (1 ≤ o) × (o ≤ option_count p)
+  pub holds : place_in l.item (uses_of p o) < length (uses_of p o)
+  pub items : AllByRecursion (λ (u : Use). IsItem p u.item) (uses_of p o)
+  pub legal : AreLegal p (after_uses p (others l.item (uses_of p o)) (tweaked m l.item (opened p l.item (oldest l.mark t))))
+  pub begun : IsBegun p t l (after_uses p (others l.item (uses_of p o)) (tweaked m l.item (opened p l.item (oldest l.mark t)))) (with_option (length (tweaked m l.item (opened p l.item (oldest l.mark t)))) l m o)
+
+taking_at : (p : Puzzle) (t : List Move) (l : Level) (x : Numbered) (m : ℕ) → IsLevel p t l → l.begun < l.count →
+    slice_get (options_at p (oldest l.mark t) l.item) l.begun ≡ Some x → m ≡ cond l.walks l.tweaks (l.tweaks + 1) → Taking p t l x.number m
+taking_at p t l x m is_level more e hm = by_case l.walks refl
+  where
+    made : (m ≤ suc l.begun) → (high_at p l.item - spends l.item (Spend l.item ∷ oldest l.mark t) ≢ 0 → m ≡ suc l.begun) → Taking p t l x.number m
+    made le h =
+        let u = oldest l.mark t in
+        let took = taken p u l.item l.begun m x is_level.node e h le in
+        let own : x.uses ≡ uses_of p x.number = sym took.option.uses in
+        record {
+          known = took.option.known;
+          holds = subst (λ (us : List Use). place_in l.item us < length us) own took.within;
+          items = subst (λ us. AllByRecursion (λ (u : Use). IsItem p u.item) us) own took.items;
+          legal = subst (λ us. AreLegal p (after_uses p (others l.item us) (tweaked m l.item (opened p l.item u)))) own took.legal;
+          begun = subst (λ us. IsBegun p t l (after_uses p (others l.item us) (tweaked m l.item (opened p l.item u))) (with_option (length (tweaked m l.item (opened p l.item u))) l m x.number)) own (begins_take p t l x m is_level more e hm);
+        }
+
+    by_case : (b : Bool) → l.walks ≡ b → Taking p t l x.number m
+    by_case true c =
+        let stood : l.tweaks ≡ 0 = is_level.tweaks ∙ rw c refl in
+        let m_is : m ≡ 0 = hm ∙ rw c stood in
+        let used_up = covered_walks p (oldest l.mark t) l.item (sym is_level.walking ∙ c) in
+        made (omega (arith, m_is)) (λ h. absurd (h used_up))
+    by_case false c =
+        let within = slice_get_within (options_at p (oldest l.mark t) l.item) l.begun x e in
+        let stood : l.tweaks ≡ min l.begun (length (options_at p (oldest l.mark t) l.item)) = is_level.tweaks ∙ rw c refl in
+        let m_is : m ≡ l.tweaks + 1 = hm ∙ rw c refl in
+        let all : m ≡ l.begun + 1 = omega (arith, m_is, stood, within) in
+        made (omega (arith, all)) (λ h. omega (arith, all))
+
+some_option : (o : Option Numbered) (n : ℕ) → option_map (λ (x : Numbered). x.number) o ≡ Some n → (x : Numbered) × (o ≡ Some x) × (x.number ≡ n)
+some_option None n e = cc
+some_option (Some x) n e = let same : x.number ≡ n = cc in (x, refl, same)
+
+no_option : (o : Option Numbered) → option_map (λ (x : Numbered). x.number) o ≡ None → o ≡ None
+no_option None e = refl
+no_option (Some x) e = cc
+
+taking : (p : Puzzle) (t : List Move) (l : Level) (o m : ℕ) → IsLevel p t l → l.begun < l.count → next_number p t l ≡ Some o → m ≡ cond l.walks l.tweaks (l.tweaks + 1) → Taking p t l o m
+taking p t l o m is_level more e hm =
+    let found = some_option (slice_get (options_at p (oldest l.mark t) l.item) l.begun) o e in
+    subst (λ n. Taking p t l n m) found.2 (taking_at p t l found.0 m is_level more found.1 hm)
+
+-- What is asked and given in state e, after the tweaks of the branch.
+pub record TakingOn (d : Dancing) (l : Level) (o m : ℕ) (e : Dancing) : Type 0 where
+  pub known : (1 ≤ o) × (o ≤ option_count e.puzzle)
+  pub holds : place_in l.item (uses_of e.puzzle o) < length (uses_of e.puzzle o)
+  pub items : All (λ (u : Use). IsItem e.puzzle u.item) (uses_of e.puzzle o)
+  pub legal : AreLegal e.puzzle (after_uses e.puzzle (others l.item (uses_of e.puzzle o)) e.trail)
+  pub fits : length (after_uses e.puzzle (others l.item (uses_of e.puzzle o)) e.trail) ≤ room_for e.puzzle
+  pub begun : (f : Dancing) (n : ℕ) → f ≡ record e { trail = after_uses e.puzzle (others l.item (uses_of e.puzzle o)) e.trail } → n ≡ length e.trail →
+      (f ≡ record d { trail = f.trail }) × IsBegun d.puzzle d.trail l f.trail (with_option n l m o)
+
+pub taking_on : (d e : Dancing) (l : Level) (o m : ℕ) → IsLevel d.puzzle d.trail l → l.begun < l.count → next_number d.puzzle d.trail l ≡ Some o → m ≡ cond l.walks l.tweaks (l.tweaks + 1) →
+    e ≡ record d { trail = tweaked m l.item (opened d.puzzle l.item (oldest l.mark d.trail)) } → TakingOn d l o m e
+taking_on d e l o m is_level more next hm stands =
+    let p = d.puzzle in
+    let t = d.trail in
+    let all = taking p t l o m is_level more next hm in
+    let s = after_uses p (others l.item (uses_of p o)) (tweaked m l.item (opened p l.item (oldest l.mark t))) in
+    subst (TakingOn d l o m) (sym stands) (record {
+      known = all.known;
+      holds = all.holds;
+      items = All-from_recursion (λ (u : Use). IsItem p u.item) (uses_of p o) all.items;
+      legal = all.legal;
+      fits = has_room p s all.begun.searchable.legal (omega (arith, all.begun.searchable.sparing));
+      begun = λ f n ef en.
+          subst (λ (f : Dancing). (f ≡ record d { trail = f.trail }) × IsBegun p t l f.trail (with_option n l m o)) (sym ef)
+          (refl, subst (λ n. IsBegun p t l s (with_option n l m o)) (sym en) all.begun);
+    })
+
+pub passing : (p : Puzzle) (t : List Move) (l : Level) → IsLevel p t l → l.base ≡ length t → l.begun < l.count → next_number p t l ≡ None → IsBegun p t l (closed l.item t) (with_none l)
+passing p t l is_level whole more e = begins_none p t l is_level whole more (no_option (slice_get (options_at p (oldest l.mark t) l.item) l.begun) e)
+
+-- the ground of a level
+pub ground_is : (p : Puzzle) (t : List Move) (l : Level) → IsLevel p t l → l.base ≡ length t → t ≡ tweaked l.tweaks l.item (opened p l.item (oldest l.mark t))
+ground_is p t l is_level whole = sym (ap (λ n. oldest n t) whole ∙ oldest_all t) ∙ is_level.base
+
+-- another tweak may be made where an option is left
+pub may_tweak : (p : Puzzle) (t : List Move) (l : Level) (o : ℕ) → IsLevel p t l → l.base ≡ length t → l.begun < l.count → l.walks ≡ false → next_number p t l ≡ Some o → IsLegal p t (Tweak l.item) × (l.tweaks ≡ l.begun)
+may_tweak p t l o is_level whole more c e =
+    let u = oldest l.mark t in
+    let found = some_option (slice_get (options_at p u l.item) l.begun) o e in
+    let within = slice_get_within (options_at p u l.item) l.begun found.0 found.1 in
+    let stood : l.tweaks ≡ min l.begun (length (options_at p u l.item)) = is_level.tweaks ∙ rw c refl in
+    let all : l.tweaks ≡ l.begun = omega (arith, stood, within) in
+    let legal = legal_branch p (suc l.tweaks) l.item u is_level.node (omega (arith, all, within)) in
+    (subst (λ t. IsLegal p t (Tweak l.item)) (sym (ground_is p t l is_level whole)) legal.0, all)

@@ -1,0 +1,6 @@
+pub mod Ahead
+pub mod Commits
+pub mod Levels
+pub mod MostLevels
+pub mod Residual
+pub mod Sparing

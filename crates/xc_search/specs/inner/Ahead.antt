@@ -1,0 +1,62 @@
+-- No public clause cites this module. How much work a search has ahead, and what a step of its loop does.
+use Rattle.std.specs.Prelude.{ℕ, zero, suc, ◌+◌, ◌≡◌, Bool, true, false, List, [], ◌∷◌, drop, Option, Some, None}
+use Rattle.xc_dance.specs.declared.dance.Move.{Move}
+use Rattle.xc_search.specs.declared.level.Level.{Level}
+use Rattle.xc_input.specs.Problem.{Puzzle}
+use Rattle.xc_search.specs.Listing.{Wanted, Residual, Branch, branch_item, branches_of, size_of}
+use Rattle.xc_search.specs.inner.Residual.{residual_of}
+use Rattle.xc_dance.specs.Dancing.{Dancing}
+use Rattle.xc_search.specs.inner.Commits.{oldest}
+use Rattle.xc_search.specs.inner.Levels.{Levels, AreStacked, IsStanding, coming, choices_of, to_give, branches_at}
+
+-- the work of these branches, each by the work of what it leaves
+abbrev pub cost : (Residual → ℕ) → List Branch → ℕ
+cost f [] = 0
+cost f (b ∷ bs) = suc (f b.next + cost f bs)
+
+-- one level of work, over the work of what is left
+abbrev pub work_level : (Residual → ℕ) → Option Wanted → Residual → ℕ
+work_level f None r = 2
+work_level f (Some w) r = suc (suc (cost f (branches_of r w)))
+
+-- the work, by levels to a depth
+unfoldable pub work_to : ℕ → Residual → ℕ
+work_to zero r = 2
+work_to (suc d) r = work_level (work_to d) (branch_item r) r
+
+-- nodes and levels to be visited
+unfoldable pub work : Residual → ℕ
+work r = work_to (size_of r) r
+
+-- what the levels have still to visit by the branches that weren't begun
+abbrev pub visits : Puzzle → List Move → List Level → ℕ
+visits p t [] = 0
+visits p t (l ∷ ls) = suc (cost work (drop l.begun (branches_at p (oldest l.mark t)))) + visits p (oldest l.mark t) ls
+
+-- and before that, where what is left wasn't searched yet, what that takes
+abbrev pub ahead : Puzzle → List Move → List Level → Bool → ℕ
+ahead p t ls true = work (residual_of p t) + visits p t ls
+ahead p t ls false = visits p t ls
+
+-- the same of a state and a stack
+abbrev pub work_left : Dancing → Levels → Bool → ℕ
+work_left d ls down = ahead d.puzzle d.trail ls.levels down
+
+-- From levels ls in state d a search goes on at levels ks in state e, with nothing lost.
+pub record GoesOn (d : Dancing) (ls : Levels) (down : Bool) (e : Dancing) (ks : Levels) (below : Bool) : Type 0 where
+  -- only the moves and the levels changed
+  pub still : (e ≡ record d { trail = e.trail }) × (ks ≡ record ls { levels = ks.levels })
+  pub standing : IsStanding e.puzzle e.trail ks.levels below
+  pub members : coming d.puzzle d.trail ls.levels down ≡ coming e.puzzle e.trail ks.levels below
+
+-- It reached a solution: the choices of ks are the next member.
+pub record IsReached (d : Dancing) (ls : Levels) (down : Bool) (e : Dancing) (ks : Levels) : Type 0 where
+  pub still : (e ≡ record d { trail = e.trail }) × (ks ≡ record ls { levels = ks.levels })
+  pub stacked : AreStacked e.puzzle e.trail ks.levels
+  pub members : coming d.puzzle d.trail ls.levels down ≡ choices_of ks.levels ∷ to_give e.puzzle e.trail ks.levels
+
+-- It reached its end: nothing was left.
+pub record IsDone (d : Dancing) (ls : Levels) (down : Bool) (e : Dancing) (ks : Levels) : Type 0 where
+  pub still : (e ≡ record d { trail = e.trail }) × (ks ≡ record ls { levels = ks.levels })
+  pub ended : ks.levels ≡ []
+  pub members : coming d.puzzle d.trail ls.levels down ≡ []

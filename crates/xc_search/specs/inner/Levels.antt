@@ -1,0 +1,154 @@
+-- No public clause cites this module. The levels of a search.
+use Rattle.std.specs.Prelude.{◌<◌, ℕ, suc, ◌+◌, ◌≤◌, ◌≡◌, Bool, true, false, nat_lt, min, List, [], ◌∷◌, ◌++◌, length, map, drop, reverse, Option, Some, None, option_map, slice_get, flat_map, if◌then◌else◌}
+use Rattle.std.specs.List.{AllByRecursion}
+use Rattle.xc_search.specs.declared.choice.Choice.{Choice}
+use Rattle.xc_dance.specs.declared.dance.Move.{Move}
+use Rattle.xc_search.specs.declared.level.Level.{Level}
+use Rattle.xc_search.specs.declared.level.Begun.{Begun}
+use Rattle.xc_input.specs.Problem.{Puzzle, Numbered, IsValid, IsPrimary, numbered_get, holding, option_count, primary_count}
+use Rattle.xc_search.specs.Listing.{Wanted, Branch, branch_item, branch_count, branches_of, size_of, listing}
+use Rattle.xc_dance.specs.Moves.{is_open, AreLegal}
+use Rattle.xc_search.specs.Residuals.{wanted_at, wanted_after}
+use Rattle.xc_search.specs.inner.Residual.{residual_of}
+use Rattle.xc_dance.specs.Left.{left}
+use Rattle.xc_search.specs.inner.Commits.{opened, oldest, tweaked, walks}
+use Rattle.xc_search.specs.inner.Sparing.{IsSparing}
+
+-- What a stack stands for.
+pub record Levels : Type 0 where
+  -- the newest first
+  pub levels : List Level
+  -- how many levels there is room for
+  pub room : ℕ
+
+-- something is left of each bound
+abbrev pub AreAllWanted : List Wanted → Type 0
+AreAllWanted ws = AllByRecursion (λ w. nat_lt 0 w.high ≡ true) ws
+
+-- what these moves leave can be searched
+pub record IsSearchable (p : Puzzle) (t : List Move) : Type 0 where
+  pub valid : IsValid p
+  pub legal : AreLegal p t
+  pub wanted : AreAllWanted (wanted_after p t)
+  pub sparing : IsSparing p t
+
+-- and item i may be spent
+pub record IsNode (p : Puzzle) (t : List Move) (i : ℕ) : Type 0 where
+  pub searchable : IsSearchable p t
+  pub item : IsPrimary p i
+  pub is_open : is_open i t ≡ true
+
+-- the options left that hold item i
+abbrev pub options_at : Puzzle → List Move → ℕ → List Numbered
+options_at p t i = holding i (left p t)
+
+-- A level that was begun on the moves u, below the moves t.
+pub record IsLevelAt (p : Puzzle) (u t : List Move) (l : Level) : Type 0 where
+  pub within : (l.mark ≤ l.base) × (l.base ≤ length t)
+  pub node : IsNode p u l.item
+  pub branch : branch_item (residual_of p u) ≡ Some (wanted_at p u l.item)
+  pub count : l.count ≡ branch_count (residual_of p u) (wanted_at p u l.item)
+  pub begun : l.begun ≤ l.count
+  pub walking : l.walks ≡ walks p u l.item
+  pub tweaks : l.tweaks ≡ (if l.walks then 0 else min l.begun (length (options_at p u l.item)))
+  pub option : l.option ≡ option_map (λ o. o.number) (numbered_get (options_at p u l.item) l.begun)
+  -- what stands before a branch
+  pub base : oldest l.base t ≡ tweaked l.tweaks l.item (opened p l.item u)
+
+-- a level of the newest moves
+abbrev pub IsLevel : Puzzle → List Move → Level → Type 0
+IsLevel p t l = IsLevelAt p (oldest l.mark t) t l
+
+-- Each of the levels took an option or a primary item away: with what moves leave they are no more than there are.
+abbrev pub IsShallow : Puzzle → List Move → List Level → Type 0
+IsShallow p t ls = length ls + size_of (residual_of p t) ≤ option_count p + primary_count p
+
+-- the levels, the newest first
+abbrev pub AreStacked : Puzzle → List Move → List Level → Type 0
+AreStacked p t [] = Unit {0}
+AreStacked p t (l ∷ ls) = IsLevel p t l × IsShallow p (oldest l.mark t) ls × AreStacked p (oldest l.mark t) ls
+
+-- the level's newest branch
+abbrev pub chosen : Level → Choice
+chosen l = record { item = l.item; option = l.option; k = l.begun; n = l.count }
+
+-- the choices of levels, the newest first, in the order of the levels
+abbrev pub choices_of : List Level → List Choice
+choices_of ls = map chosen (reverse ls)
+
+-- the branches of what moves leave
+abbrev pub branches_at : Puzzle → List Move → List Branch
+branches_at p t = branches_from (branch_item (residual_of p t))
+  where
+    branches_from : Option Wanted → List Branch
+    branches_from None = []
+    branches_from (Some w) = branches_of (residual_of p t) w
+
+-- the members of these branches, behind the choices before them
+abbrev pub members_of : List Choice → List Branch → List (List Choice)
+members_of before bs = flat_map (λ b. map (λ m. before ++ b.choice ∷ m) (listing b.next)) bs
+
+-- what the levels have still to give by the branches that weren't begun
+abbrev pub to_give : Puzzle → List Move → List Level → List (List Choice)
+to_give p t [] = []
+to_give p t (l ∷ ls) =
+    members_of (choices_of ls) (drop l.begun (branches_at p (oldest l.mark t))) ++ to_give p (oldest l.mark t) ls
+
+-- and before that, where what is left wasn't searched yet, what that gives
+abbrev pub coming : Puzzle → List Move → List Level → Bool → List (List Choice)
+coming p t ls true = map (λ m. choices_of ls ++ m) (listing (residual_of p t)) ++ to_give p t ls
+coming p t ls false = to_give p t ls
+
+-- the levels stand, and what is left can be searched
+pub record IsStanding (p : Puzzle) (t : List Move) (ls : List Level) (down : Bool) : Type 0 where
+  pub stacked : AreStacked p t ls
+  pub searchable : down ≡ true → IsSearchable p t
+  pub shallow : down ≡ true → IsShallow p t ls
+
+-- a level with no branch begun
+abbrev pub first_level : Puzzle → List Move → ℕ → ℕ → Level
+first_level p t i n = record {
+  mark = length t;
+  base = length (opened p i t);
+  item = i;
+  option = None;
+  begun = 0;
+  count = n;
+  tweaks = 0;
+  walks = walks p t i;
+}
+
+-- a level on whose moves a branch was begun
+abbrev pub begun_level : Begun → Level → Level
+begun_level b l = record l { base = b.base; option = b.option; begun = b.begun; tweaks = b.tweaks }
+
+-- the choice of such a level
+abbrev pub begun_choice : Begun → Choice → Choice
+begun_choice b c = record c { option = b.option; k = b.begun }
+
+-- the newest of these levels began a branch
+abbrev pub newest_begun : Begun → List Level → List Level
+newest_begun b [] = []
+newest_begun b (l ∷ ls) = begun_level b l ∷ ls
+
+-- The moves of a level stand alone, and a branch wasn't begun yet.
+pub record MayBegin (p : Puzzle) (t : List Move) (l : Level) : Type 0 where
+  pub level : IsLevel p t l
+  pub whole : l.base ≡ length t
+  pub more : l.begun < l.count
+
+-- From level l on moves t a branch was begun, and level k stands on moves s.
+pub record IsBegun (p : Puzzle) (t : List Move) (l : Level) (s : List Move) (k : Level) : Type 0 where
+  pub branch : Branch
+  pub at : slice_get (branches_at p (oldest l.mark t)) l.begun ≡ Some branch
+  pub next : residual_of p s ≡ branch.next
+  pub choice : chosen k ≡ branch.choice
+  pub begun : k.begun ≡ suc l.begun
+  pub mark : k.mark ≡ l.mark
+  pub below : oldest l.mark s ≡ oldest l.mark t
+  pub level : IsLevel p s k
+  pub searchable : IsSearchable p s
+
+-- the number of the option that a level's next branch takes
+abbrev pub next_number : Puzzle → List Move → Level → Option ℕ
+next_number p t l = option_map (λ o. o.number) (slice_get (options_at p (oldest l.mark t) l.item) l.begun)

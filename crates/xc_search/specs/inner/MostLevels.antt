@@ -1,0 +1,16 @@
+-- No public clause cites this module. How many levels a search has at most, and whether its bounds are all 1.
+use Rattle.std.specs.Prelude.{ℕ, ◌+◌, ◌≡◌, min, sum_by}
+use Rattle.xc_input.specs.Problem.{Puzzle, primary_count, option_count, IsPrimary, low_at, high_at}
+
+-- how often the primary items can be spent in all
+abbrev pub high_total : Puzzle → ℕ
+high_total p = sum_by (λ b. b.high) p.bounds
+
+-- The most levels that a search has: each but the last takes an option or a primary item away, and each has a Spend
+-- of its own.
+abbrev pub most_levels : Puzzle → ℕ
+most_levels p = min (option_count p + primary_count p) (high_total p)
+
+-- each primary item is to be held exactly once
+abbrev pub IsOnce : Puzzle → Type 0
+IsOnce p = (i : ℕ) → IsPrimary p i → (low_at p i ≡ 1) × (high_at p i ≡ 1)

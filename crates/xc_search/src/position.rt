@@ -1,0 +1,126 @@
+//! A dance of a problem, as the search goes over it.
+ghost use Rattle.std.specs.Prelude.{◌≡◌, ◌<◌, ◌≤◌, ◌∷◌, length, drop};
+ghost use Rattle.xc_dance.specs.Moves.{IsLegal, AreTweaks};
+ghost use Rattle.xc_search.specs.Residuals.{wanted_after, choice_after};
+ghost use Rattle.xc_search.specs.Room.{room_for};
+ghost use Rattle.xc_search.specs.inner.Levels.{AreAllWanted};
+
+use crate::branch_item::choose_next;
+use crate::counts::is_once;
+use std::marker::Model;
+use xc_dance::{Dance, Move};
+use xc_input::Problem;
+
+/// A dance with the problem that it is of. Its trail has room for each search of the problem.
+pub struct Position<'a, D: Dance> {
+    dance: D,
+    problem: &'a Problem,
+    /// Each primary item is to be held exactly once.
+    once: bool,
+}
+
+impl<'a, D: Dance> Model for Position<'a, D> {
+    ghost use Rattle.std.specs.Prelude.{◌≡◌, ◌≤◌, true};
+    ghost use Rattle.xc_dance.specs.Dancing.{Dancing};
+    ghost use Rattle.xc_search.specs.Room.{room_for};
+    ghost use Rattle.xc_search.specs.inner.MostLevels.{IsOnce};
+
+    ghost Value = { Dancing };
+
+    ghost view = { λ a. D.state a.dance };
+
+    ghost invariant = { λ a. record {
+      same : (D.state a.dance).puzzle ≡ a.problem.now.puzzle;
+      moves_fit : room_for a.problem.now.puzzle ≤ (D.state a.dance).room;
+      once : a.once ≡ true → IsOnce a.problem.now.puzzle;
+    } };
+}
+
+impl<'a, D: Dance> Position<'a, D> {
+    /// The dance's position.
+    pub fn new(dance: D, problem: &'a Problem) -> Position<'a, D>
+        requires same { (D.state dance).puzzle ≡ problem.now.puzzle }
+        requires room { room_for problem.now.puzzle ≤ (D.state dance).room }
+        ensures { result ≡ D.state dance }
+    {
+        let once = is_once(problem);
+        Position {
+            dance,
+            problem,
+            once,
+        }
+    }
+
+    /// The dance, for what it answers.
+    #[inline(always)]
+    pub fn dance(&self) -> &D
+        ensures { D.state result.now ≡ self.now }
+    {
+        &self.dance
+    }
+
+    /// The dance back.
+    pub fn into_dance(self) -> D
+        ensures { D.state result ≡ self.entry }
+    {
+        let Position {
+            dance,
+            problem: _,
+            once: _,
+        } = self;
+        dance
+    }
+
+    /// The problem.
+    #[inline(always)]
+    pub fn problem(&self) -> &'a Problem
+        ensures { result.now.puzzle ≡ self.now.puzzle }
+    {
+        self.problem
+    }
+
+    /// The branch item and its number of branches, where no open item is held as often as it may be.
+    #[inline(always)]
+    pub fn choose(&self) -> Option<(u32, u32)>
+        requires { AreAllWanted (wanted_after self.now.puzzle self.now.trail) }
+        ensures { result ≡ choice_after self.now.puzzle self.now.trail }
+    {
+        choose_next(&self.dance, self.problem, self.once)
+    }
+
+    /// How many moves stand.
+    #[inline(always)]
+    pub fn height(&self) -> usize
+        ensures { result ≡ length self.now.trail }
+    {
+        self.dance.moves().len()
+    }
+
+    /// Makes a move that is legal and that a search of the problem has room for.
+    #[inline(always)]
+    pub fn make(&mut self, m: Move)
+        requires legal { IsLegal self.old.puzzle self.old.trail m }
+        requires room { length self.old.trail < room_for self.old.puzzle }
+        ensures { self.new ≡ record self.old { trail = m ∷ self.old.trail } }
+    {
+        self.dance.apply(m).unwrap();
+    }
+
+    /// Undoes the newest move. There must be one.
+    #[inline(always)]
+    pub fn undo(&mut self)
+        requires { 0 < length self.old.trail }
+        ensures { self.new ≡ record self.old { trail = drop 1 self.old.trail } }
+    {
+        self.dance.undo();
+    }
+
+    /// Undoes the newest `k` moves, tweaks of one item.
+    #[inline(always)]
+    pub fn undo_tweaks(&mut self, k: usize)
+        requires { AreTweaks k self.old.trail }
+        ensures { self.new ≡ record self.old { trail = drop k self.old.trail } }
+    {
+        self.dance.undo_tweaks(k);
+    }
+}
