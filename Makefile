@@ -1,4 +1,8 @@
-.PHONY: run test test-hostile
+PREFIX = /usr/local
+PROGRAMS = dlx1 dlx2 dlx3 dlxcheck
+DIST = helgrothy
+
+.PHONY: run test test-hostile test-docs all install dist
 run:
 	cd crates/dlx1 && rt run -- m1 < ../../examples/seven.dlx
 test:
@@ -7,3 +11,24 @@ test:
 	@sh tests/guide.sh docs/GUIDE.md
 test-hostile:
 	@python3 scripts/hostile/hostile.py
+test-docs:
+	@sh tests/guide.sh docs/GUIDE.md
+	@sh tests/guide.sh docs/FAQ.md
+	@PATH=$$PWD/crates/dlx1/out:$$PWD/crates/dlx2/out:$$PWD/crates/dlx3/out:$$PWD/crates/dlxcheck/out:$$PATH scripts/split/trial.py 300 1
+
+# A program is built by running it once; `dlxcheck` without words ends with status 1.
+all:
+	for program in $(PROGRAMS); do (cd crates/$$program && rt run </dev/null; test -x out/$$program) || exit 1; done
+
+# These two take the programs as `make all` built them, and need no toolchain.
+install:
+	mkdir -p $(DESTDIR)$(PREFIX)/bin $(DESTDIR)$(PREFIX)/share/man/man1
+	for program in $(PROGRAMS); do cp crates/$$program/out/$$program $(DESTDIR)$(PREFIX)/bin/ || exit 1; done
+	cp man/*.1 $(DESTDIR)$(PREFIX)/share/man/man1/
+
+dist:
+	rm -rf $(DIST) && mkdir $(DIST)
+	$(MAKE) install DESTDIR=$(DIST) PREFIX=
+	cp -rL examples README.md CHANGELOG.md docs $(DIST)/
+	cd $(DIST) && find . -type f ! -name SHA256SUMS | LC_ALL=C sort | xargs sha256sum > SHA256SUMS
+	tar -czf $(DIST).tar.gz $(DIST)
