@@ -2,7 +2,9 @@
 #![tactic(auto)]
 
 use std::process::ExitCode;
-use xc_tools::{Direct, Incoming, Outgoing, judge, named_file, out_of_memory, words};
+use xc_tools::{
+    Direct, Incoming, Outgoing, closed_stream, judge, named_file, out_of_memory, words,
+};
 
 #[cfg(test)]
 mod tests;
@@ -11,6 +13,9 @@ fn main(rt: HostRuntime) -> ExitCode {
     let mut listing = Incoming::new(Some(rt.stdin()));
     let mut out = Outgoing::new(rt.stdout());
     let mut err = Direct::new(rt.stderr());
+    if let Some(status) = closed_stream(&rt.stdin(), &rt.stdout(), &rt.stderr(), &mut err) {
+        return ExitCode::from(status);
+    }
     ExitCode::from(match words(&rt) {
         Ok(words) => {
             let mut problem = named_file(&rt, &words);

@@ -9,6 +9,7 @@
 #![tactic(auto)]
 
 mod arguments;
+mod closed_streams;
 mod judging;
 mod messages;
 mod solving;
@@ -17,6 +18,7 @@ mod system;
 mod whole_text;
 
 pub use arguments::{named_file, words};
+pub use closed_streams::closed_stream;
 pub use judging::judge;
 pub use messages::{input_error, listing_fault};
 pub use solving::solve;

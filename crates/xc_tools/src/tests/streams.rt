@@ -2,7 +2,7 @@
 ghost use Rattle.std.specs.Prelude.{None, false};
 
 use super::{SEVEN, gathered};
-use crate::{Direct, Outgoing, judge, solve};
+use crate::{Direct, Outgoing, closed_stream, judge, solve};
 use std::alloc::Global;
 use std::io::Write;
 use std::test::Fail;
@@ -147,5 +147,29 @@ fn short_writes_of_a_long_text(rt: HostRuntime) -> Result<(), Fail> {
     write_and_flush(&mut Direct::new(&mut direct), &text)?;
     assert!(rt; direct.bytes == text);
     assert!(rt; direct.flushes == 1);
+    Ok(())
+}
+
+#[test]
+fn streams_that_are_open(rt: HostRuntime) -> Result<(), Fail> {
+    let mut err = Tray::new(rt.alloc(), 100, 100, false)?;
+    let open = rt.stdout();
+    assert!(rt; closed_stream(&open, &open, &open, &mut err).is_none());
+    assert!(rt; err.bytes().is_empty());
+    Ok(())
+}
+
+#[test]
+fn messages_that_nobody_takes(rt: HostRuntime) -> Result<(), Fail> {
+    let alloc = rt.alloc();
+    let words = gathered(alloc, &[b"m1"])?;
+    let rows: [(&[u8], u8); 2] = [(SEVEN, 3), (b"A B\nA B A\n", 2)];
+    for &(text, status) in &rows {
+        let mut out = Tray::new(alloc, 1, 100, false)?;
+        let mut err = Tray::new(alloc, 1, 0, false)?;
+        let mut input = Feed::new(text, 1, None);
+        assert!(rt; solve(alloc, Kind::Plain, &words, &mut input, &mut out, &mut err) == status);
+        assert!(rt; err.bytes().is_empty());
+    }
     Ok(())
 }
