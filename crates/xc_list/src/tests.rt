@@ -1,9 +1,10 @@
 ghost use Rattle.std.specs.Prelude.{◌<◌};
 
 mod counting;
+mod failing_calls;
 mod rows;
 
-use crate::{End, Tray, Words, run, run_over};
+use crate::{End, Tray, Words, run, run_over, write_line};
 use std::alloc::Global;
 use std::test::Fail;
 use xc_dance::{Links, Lists};
@@ -74,5 +75,18 @@ fn a_run_of_its_own(rt: HostRuntime) -> Result<(), Fail> {
     assert!(rt; run(rt.alloc(), &problem, ALL, &mut tray) == Ok(End::Done(1)));
     let listing = b"1:\n a d f (2 of 2)\n b g (1 of 1)\n c e (1 of 1)\n";
     assert!(rt; tray.bytes() == listing.as_slice());
+    Ok(())
+}
+
+#[test]
+fn lines_short_and_long(rt: HostRuntime) -> Result<(), Fail> {
+    let mut tray = Tray::new(rt.alloc(), 1000, 1000, false)?;
+    write_line(&mut tray, b"Line ", 12, &[b": ", b"no items", b".\n"])?;
+    assert!(rt; tray.bytes() == b"Line 12: no items.\n".as_slice());
+
+    let dots: &[u8] = &[b'.'; 200];
+    let mut tray = Tray::new(rt.alloc(), 1000, 1000, false)?;
+    write_line(&mut tray, b"Line ", 7, &[dots, b"\n"])?;
+    assert!(rt; tray.bytes().starts_with(b"Line 7....") && tray.bytes().len() == 207);
     Ok(())
 }
