@@ -14,6 +14,7 @@
 mod bodies;
 mod checker;
 pub mod laws;
+mod line;
 mod messages;
 mod print;
 mod runs;
@@ -23,12 +24,13 @@ mod words;
 mod write;
 
 pub use checker::{ListingFault, Verdict, check};
+pub use line::write_line;
 pub use messages::{summary, warnings, word_fault};
 pub use print::write_solution;
 pub use runs::{End, run, run_over, run_over_links};
 pub use sink::{Sink, Tray, WriteFailed};
 pub use words::{WordFault, Words};
-pub use write::{SinkFault, write_all, write_number, write_numbered};
+pub use write::{SinkFault, write_all, write_number};
 
 #[cfg(test)]
 mod tests;

@@ -3,35 +3,29 @@ ghost use Rattle.std.specs.Prelude.{◌≡◌, ℕ, ◌+◌, ◌-◌, ◌<◌, �
 ghost use Rattle.xc_list.specs.Texts.{Writes};
 ghost use Rattle.xc_list.specs.Messages.{plural, total_text, failed_text, summary_text, warning_text, word_text, word_fault_text};
 
+use crate::line::write_line;
 use crate::runs::End;
 use crate::sink::Sink;
 use crate::words::WordFault;
-use crate::write::{SinkFault, write_all, write_number, write_numbered};
+use crate::write::SinkFault;
 use xc_input::Read;
 
-fn write_plural<S: Sink>(n: u64, sink: &mut S) -> Result<(), SinkFault>
-    ensures { Writes (S.state sink.old) (S.state sink.new) result (plural n) }
+fn plural<'a>(n: u64) -> &'a [u8]
+    ensures { result.now ≡ plural n }
 {
-    if n == 1 {
-        write_all(sink, b" solution")
-    } else {
-        write_all(sink, b" solutions")
-    }
+    if n == 1 { b" solution" } else { b" solutions" }
 }
 
-fn write_total<S: Sink>(n: u64, tail: &[u8], sink: &mut S) -> Result<(), SinkFault>
+fn write_total<'a, S: Sink>(n: u64, tail: &'a [u8], sink: &mut S) -> Result<(), SinkFault>
     ensures { Writes (S.state sink.old) (S.state sink.new) result (total_text n tail.now) }
 {
-    write_all(sink, b"Altogether ")?;
-    write_number(sink, n)?;
-    write_plural(n, sink)?;
-    write_all(sink, tail)
+    write_line(sink, b"Altogether ", n, &[plural(n), tail])
 }
 
 fn write_failed<S: Sink>(n: u64, sink: &mut S) -> Result<(), SinkFault>
     ensures { Writes (S.state sink.old) (S.state sink.new) result (failed_text n) }
 {
-    write_numbered(sink, b"Write failed at solution ", n, b".\n")
+    write_line(sink, b"Write failed at solution ", n, &[b".\n"])
 }
 
 /// Writes how a run ended.
@@ -48,11 +42,11 @@ pub fn summary<S: Sink>(end: &End, sink: &mut S) -> Result<(), SinkFault>
 fn write_warning<S: Sink>(line: u64, sink: &mut S) -> Result<(), SinkFault>
     ensures { Writes (S.state sink.old) (S.state sink.new) result (warning_text line) }
 {
-    write_numbered(
+    write_line(
         sink,
         b"Option ignored (no primary items): line ",
         line,
-        b"\n",
+        &[b"\n"],
     )
 }
 
@@ -76,7 +70,7 @@ pub fn warnings<S: Sink>(read: &Read, sink: &mut S) -> Result<(), SinkFault>
 fn write_word<S: Sink>(place: usize, tail: &[u8], sink: &mut S) -> Result<(), SinkFault>
     ensures { Writes (S.state sink.old) (S.state sink.new) result (word_text place tail.now) }
 {
-    write_numbered(sink, b"Word ", place as u64, tail)
+    write_line(sink, b"Word ", place as u64, &[tail])
 }
 
 /// Writes which word is faulty.

@@ -6,17 +6,14 @@ ghost use Rattle.xc_tools.specs.Errors.{input_error_text};
 ghost use Rattle.xc_tools.specs.Judges.{listing_fault_text};
 
 use xc_input::{FaultKind, InputError};
-use xc_list::{ListingFault, Sink, SinkFault, write_all, write_number, write_numbered};
+use xc_list::{ListingFault, Sink, SinkFault, write_all, write_line};
 
 fn write_fault<S: Sink>(line: u64, kind: FaultKind, sink: &mut S) -> Result<(), SinkFault>
     ensures { Writes (S.state sink.old) (S.state sink.new)
         result (codes "Line " ++ decimal line ++ codes ": " ++ fault_text kind ++ codes ".\n") }
 {
-    write_all(sink, b"Line ")?;
-    write_number(sink, line)?;
-    write_all(sink, b": ")?;
-    write_all(sink, kind.text().as_bytes())?;
-    write_all(sink, b".\n")
+    let text = kind.text().as_bytes();
+    write_line(sink, b"Line ", line, &[b": ", text, b".\n"])
 }
 
 /// Writes why no problem was read.
@@ -34,7 +31,7 @@ fn write_listing_fault<S: Sink>(line: u64, text: &[u8], sink: &mut S) -> Result<
     ensures { Writes (S.state sink.old) (S.state sink.new)
         result (codes "Listing line " ++ decimal line ++ text.now) }
 {
-    write_numbered(sink, b"Listing line ", line, text)
+    write_line(sink, b"Listing line ", line, &[text])
 }
 
 /// Writes why a listing gets no verdicts.
