@@ -5,6 +5,7 @@ DIR holds dlx1, dlx2, dlx3 and dlxcheck; without it they are taken from where `m
 goes wrong is told in a line. The last line is `N passed, M failed`. Needs cc for the parts that refuse memory.
 """
 import os
+import socket
 import subprocess
 import sys
 import tempfile
@@ -174,15 +175,43 @@ def streams(folder):
     shell("the judge's problem a folder", f"{judge} {folder}", 3, b"Read failed.\n")
     shell("the judge's listing a folder", f"{judge} {file} <{folder}", 3, b"Read failed.\n")
     shell("the judge's output full", f"printf '1:\\n A (1 of 1)\\n' | {judge} {file} >/dev/full", 3, b"Write failed.\n")
+    listing = f"printf '1:\\n A (1 of 1)\\n' |"
+    shell("the judge's listing closed", f"{judge} {file} 1 <&-", 3, b"Read failed.\n")
+    shell("the judge's output closed", f"{listing} {judge} {file} 1 >&-", 3, b"Write failed.\n")
+    shell("the judge's messages closed", f"{listing} {judge} {file} 1 2>&-", 3, b"")
+    shell("the judge's problem not to be read", f"chmod 0 {file}; {judge} {file} 1 </dev/null; s=$?; chmod 644 {file}; exit $s", *unreadable(file))
+    shell("a file size limit, its signal ignored", f"trap '' XFSZ; ulimit -f 0; {dlx1} m1 >{folder}/limited", 3, b"Write failed.\n")
+    shell("an argument that isn't UTF-8", f"{dlx1} $(printf '\\377')", 4, b"Out of memory.\n")
     os.mkfifo(f"{folder}/pipe")
     shell("the judge's problem a pipe", f"(cat {file} >{folder}/pipe &) ; printf '1:\\n A (1 of 1)\\n' | {judge} {folder}/pipe", 0, b"")
+
+
+def unreadable(file):
+    """Status and message for a file without permissions, which the superuser reads all the same."""
+    return (0, b"") if os.geteuid() == 0 else (3, b"Read failed.\n")
+
+
+def lines_in_one_write():
+    """Each line of the messages comes by one write: a socket that keeps packets apart tells."""
+    for what, words, text, lines in (
+        ("an end", ["dlx1"], b"A\nA\n", [b"Altogether 1 solution.\n"]),
+        ("warnings", ["dlx1"], b"A | x\nx\nA\nx\n", [b"Option ignored (no primary items): line %d\n" % n for n in (2, 4)] + [b"Altogether 1 solution.\n"]),
+        ("a fault", ["dlx1"], b"A\nB\n", [b"Line 2: unknown item.\n"]),
+        ("a word", ["dlx1", "x"], b"", [b"Word 1: unknown.\n"]),
+    ):
+        ours, theirs = socket.socketpair(socket.AF_UNIX, socket.SOCK_SEQPACKET)
+        with ours:
+            with theirs:
+                subprocess.run([path(words[0]), *words[1:]], input=text, stdout=subprocess.DEVNULL, stderr=theirs)
+            packets = list(iter(lambda: ours.recv(1000), b""))
+        tell(packets == lines, f"{what} in one write a line: {packets}")
 
 
 def main():
     with tempfile.TemporaryDirectory(prefix="hostile-") as folder:
         for part in (want_of_memory, deep, streams):
             part(folder)
-        for part in (large_inputs, long_tokens, cut_at_each_byte):
+        for part in (lines_in_one_write, large_inputs, long_tokens, cut_at_each_byte):
             part()
     print(f"{tried['passed']} passed, {tried['failed']} failed")
     return 1 if tried["failed"] else 0
