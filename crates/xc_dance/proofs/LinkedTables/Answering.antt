@@ -29,9 +29,7 @@ spent_within p (Spend j ∷ t) i legal =
       | true ↦ λ e. let lt : spends i t < high_at p i = subst (λ k. spends k t < high_at p k) (sym (eqb-true i j e)) legal.0.1 in omega (arith, lt)
       | false ↦ λ e. omega (arith, rest)
     ] refl
-spent_within p (Cover j ∷ t) i legal = spent_within p t i legal.1
-spent_within p (Purify j c ∷ t) i legal = spent_within p t i legal.1
-spent_within p (Tweak j ∷ t) i legal = spent_within p t i legal.1
+spent_within p (_ ∷ t) i legal = spent_within p t i legal.1
 
 pub bound_here : (p : Puzzle) (t : List Move) (i : ℕ) → IsPrimary p i → get_or (items_after p t).bound i 0 ≡ high_at p i - spends i t
 bound_here p t i is =
@@ -61,9 +59,7 @@ purified_above p (Purify j d ∷ t) i c legal e =
       | true ↦ λ f. (let same : d ≡ c = cc in subst (λ k. 0 < k) same legal.0.2)
       | false ↦ λ f. purified_above p t i c legal.1 f
     ] e
-purified_above p (Cover j ∷ t) i c legal e = purified_above p t i c legal.1 e
-purified_above p (Tweak j ∷ t) i c legal e = purified_above p t i c legal.1 e
-purified_above p (Spend j ∷ t) i c legal e = purified_above p t i c legal.1 e
+purified_above p (_ ∷ t) i c legal e = purified_above p t i c legal.1 e
 
 pub purified_read : (p : Puzzle) (t : List Move) (i : ℕ) → AreLegal p t → not (eqb (unwrap_or (purified i t) 0) 0) ≡ is_some (purified i t)
 purified_read p t i legal = by_colour (purified i t) refl
@@ -98,9 +94,7 @@ primary_unpurified p [] i legal le = refl
 primary_unpurified p (Purify j c ∷ t) i legal le =
     let gt : primary_count p < j = legal.0.0.0 in
     ap (λ b. cond b (Some c) (purified i t)) (ne_eqb i j (λ e. omega (arith, e, gt, le))) ∙ primary_unpurified p t i legal.1 le
-primary_unpurified p (Cover j ∷ t) i legal le = primary_unpurified p t i legal.1 le
-primary_unpurified p (Tweak j ∷ t) i legal le = primary_unpurified p t i legal.1 le
-primary_unpurified p (Spend j ∷ t) i legal le = primary_unpurified p t i legal.1 le
+primary_unpurified p (_ ∷ t) i legal le = primary_unpurified p t i legal.1 le
 
 same_filter : (f g : ℕ → Bool) (a n : ℕ) → ((k : ℕ) → k < a + n → f k ≡ g k) → filter f (range_with_len a n) ≡ filter g (range_with_len a n)
 same_filter f g a zero h = refl

@@ -99,5 +99,4 @@ open_or_covered i (Purify j c ∷ t) e =
       | true ↦ λ f. cc
       | false ↦ λ f. open_or_covered i t f
     ] e
-open_or_covered i (Tweak j ∷ t) e = open_or_covered i t e
-open_or_covered i (Spend j ∷ t) e = open_or_covered i t e
+open_or_covered i (_ ∷ t) e = open_or_covered i t e

@@ -160,10 +160,9 @@ spacer_top p ln col q n e = get_map (top_in ln) (layout p) q (spacer n) e
 -- ---- behind the items' own nodes stand uses and spacers alone
 
 abbrev pub IsUseOrSpacer : Node → Type 0
-IsUseOrSpacer unused = ⊥
-IsUseOrSpacer (own i) = ⊥
 IsUseOrSpacer (spacer n) = Unit {0}
 IsUseOrSpacer (used o u) = Unit {0}
+IsUseOrSpacer _ = ⊥
 
 all_used : (o : ℕ) (us : List Use) → AllByRecursion IsUseOrSpacer (map (used o) us)
 all_used o [] = tt

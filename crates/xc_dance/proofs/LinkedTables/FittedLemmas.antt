@@ -25,10 +25,8 @@ prefix_most f [] = omega arith
 prefix_most f (n ∷ ns) = let rest = prefix_most f ns in elim (f n) as (λ b. f n ≡ b → prefix_len f (n ∷ ns) ≤ suc (length ns)) [ true ↦ λ e. rw e (omega (arith, rest)) | false ↦ λ e. rw e (omega arith) ] refl
 
 end_most : (p : Puzzle) (n : Node) → (span_of p n).end ≤ length (layout p)
-end_most p unused = omega arith
-end_most p (own i) = omega arith
-end_most p (spacer n) = omega arith
 end_most p (used o u) = prefix_most (λ n. not (is_spacer o n)) (layout p)
+end_most p _ = omega arith
 
 near : (p : Puzzle) → IsWithinLimits p → AreNear (spans_of p)
 near p limits =

@@ -61,22 +61,16 @@ one_more_move old new m e = ap reverse e ∙ reverse-append old (m ∷ [])
 -- where the first node's link leads, before a Tweak
 abbrev pub FirstLed : Puzzle → List Move → Move → Type 0
 FirstLed p t (Tweak i) = get_or (nodes_after p t).dlink i 0 ≡ link_place p i (first_of 0 (listed_numbers p t i))
-FirstLed p t (Cover i) = Unit {0}
-FirstLed p t (Purify i c) = Unit {0}
-FirstLed p t (Spend i) = Unit {0}
+FirstLed p t _ = Unit {0}
 
 pub first_led : (p : Puzzle) (t : List Move) (spans : List Span) (m : Move) → IsLegal p t m → IsFitted p spans → FirstLed p t m
 first_led p t spans (Tweak i) may f = let pos : 0 < i = let h = may.0.0 in omega (arith, h) in get_down p (line_of p t) i 0 (own_placed p i f.laid pos may.0.1)
-first_led p t spans (Cover i) may f = tt
-first_led p t spans (Purify i c) may f = tt
-first_led p t spans (Spend i) may f = tt
+first_led p t spans _ may f = tt
 
 pub taken_few : (p : Puzzle) (t : List Move) → length (taken_nodes p t) ≤ length t
 taken_few p [] = omega arith
 taken_few p (Tweak i ∷ t) = omega (arith, taken_few p t)
-taken_few p (Cover i ∷ t) = omega (arith, taken_few p t)
-taken_few p (Purify i c ∷ t) = omega (arith, taken_few p t)
-taken_few p (Spend i ∷ t) = omega (arith, taken_few p t)
+taken_few p (_ ∷ t) = omega (arith, taken_few p t)
 
 pub taken_short : (p : Puzzle) (xs : List ℕ) (moves : List Move) → reverse xs ≡ taken_nodes p (reverse moves) → length xs ≤ length moves
 taken_short p xs moves e =
@@ -91,15 +85,11 @@ pub taken_then : (p : Puzzle) (t : List Move) (nodes : Nodes) (old new : List �
 taken_then p t nodes old new (Tweak i) led a b e =
     ap reverse e ∙ reverse-append old (get_or nodes.dlink i 0 ∷ [])
     ∙ ap₂ (λ x xs. x ∷ xs) (ap (λ (u : Nodes). get_or u.dlink i 0) a ∙ led) b
-taken_then p t nodes old new (Cover i) led a b e = ap reverse e ∙ b
-taken_then p t nodes old new (Purify i c) led a b e = ap reverse e ∙ b
-taken_then p t nodes old new (Spend i) led a b e = ap reverse e ∙ b
+taken_then p t nodes old new _ led a b e = ap reverse e ∙ b
 
 pub can_recall : (p : Puzzle) (t : List Move) (xs : List ℕ) (m : Move) → reverse xs ≡ taken_nodes p (m ∷ t) → CanRecall xs m
 can_recall p t xs (Tweak i) e = let a : length (reverse xs) ≡ suc (length (taken_nodes p t)) = ap length e in let b = length-reverse xs in omega (arith, a, b)
-can_recall p t xs (Cover i) e = tt
-can_recall p t xs (Purify i c) e = tt
-can_recall p t xs (Spend i) e = tt
+can_recall p t xs _ e = tt
 
 pub record Recalled (p : Puzzle) (t : List Move) (m : Move) (new : List ℕ) (x : ℕ) : Type 0 where
   pub off : IsTakenOff p t m x
@@ -109,6 +99,4 @@ pub recalled : (p : Puzzle) (t : List Move) (m : Move) (old new : List ℕ) (x :
 recalled p t (Tweak i) old new x a e =
     let both : x ∷ reverse new ≡ link_place p i (first_of 0 (listed_numbers p t i)) ∷ taken_nodes p t = sym (ap reverse e ∙ reverse-append new (x ∷ [])) ∙ a in
     record { off = cc; taken = cc }
-recalled p t (Cover i) old new x a e = record { off = tt; taken = ap reverse e ∙ a }
-recalled p t (Purify i c) old new x a e = record { off = tt; taken = ap reverse e ∙ a }
-recalled p t (Spend i) old new x a e = record { off = tt; taken = ap reverse e ∙ a }
+recalled p t _ old new x a e = record { off = tt; taken = ap reverse e ∙ a }

@@ -72,9 +72,7 @@ marked_at p i keep now (o ∷ xs) n =
 
 pub cover_colours : (p : Puzzle) (t : List Move) (i : ℕ) (n : Node) → color_in p (Cover i ∷ t) n ≡ color_in p t n
 cover_colours p t i unused = refl
-cover_colours p t i (own j) = refl
-cover_colours p t i (spacer m) = refl
-cover_colours p t i (used o u) = refl
+cover_colours p t i _ = refl
 
 -- the colours with which the walk of Purify starts
 abbrev pub purify_start : Puzzle → List Move → ℕ → ℕ → Node → ℕ

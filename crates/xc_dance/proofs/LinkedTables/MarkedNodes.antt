@@ -74,8 +74,7 @@ open_unmarked p (Purify k d ∷ t) j o c e =
       | true ↦ λ f. let same : eqb j k ≡ true = eq-eqb j k (sym (eqb-true k j f)) in absurd (false≢true (sym (ap not same) ∙ and_left (not (eqb j k)) (is_open j t) e))
       | false ↦ λ f. open_unmarked p t j o c (and_right _ _ e)
     ] refl
-open_unmarked p (Tweak k ∷ t) j o c e = open_unmarked p t j o c e
-open_unmarked p (Spend k ∷ t) j o c e = open_unmarked p t j o c e
+open_unmarked p (_ ∷ t) j o c e = open_unmarked p t j o c e
 
 true_either : (b : Bool) → cond b true true ≡ true
 true_either true = refl
@@ -142,8 +141,7 @@ closed j (Purify k d ∷ t) e =
       | true ↦ λ f. inr (d, refl)
       | false ↦ λ f. closed j t f
     ] e
-closed j (Tweak k ∷ t) e = closed j t e
-closed j (Spend k ∷ t) e = closed j t e
+closed j (_ ∷ t) e = closed j t e
 
 pub colour_some : (us : List Use) (j : ℕ) → is_some (colour_in us j) ≡ true → (c : ℕ) × (colour_in us j ≡ Some c)
 colour_some us j e = elim (colour_in us j) as (λ o. is_some o ≡ true → (c : ℕ) × (o ≡ Some c)) [ None ↦ λ f. absurd (false≢true f) | Some c ↦ λ f. (c, refl) ] e

@@ -25,9 +25,7 @@ use Rattle.xc_dance.proofs.LinkedTables.HideMoves.{cover_hides, cover_writes, wa
 -- node x is the one that the move takes off, if it takes one
 abbrev pub IsTakenOff : Puzzle → List Move → Move → ℕ → Type 0
 IsTakenOff p t (Tweak i) x = x ≡ link_place p i (first_of 0 (listed_numbers p t i))
-IsTakenOff p t (Cover i) x = Unit {0}
-IsTakenOff p t (Purify i c) x = Unit {0}
-IsTakenOff p t (Spend i) x = Unit {0}
+IsTakenOff p t _ x = Unit {0}
 
 pub record MoveStep (p : Puzzle) (t : List Move) (spans : List Span) (m : Move) : Type 0 where
   pub can : CanMake spans (nodes_after p t) (items_after p t) m
@@ -77,9 +75,7 @@ purified_step p t spans i c legal may f =
 -- a Spend changes no list
 spent_colours : (p : Puzzle) (t : List Move) (i : ℕ) (n : Node) → color_in p (Spend i ∷ t) n ≡ color_in p t n
 spent_colours p t i unused = refl
-spent_colours p t i (own j) = refl
-spent_colours p t i (spacer m) = refl
-spent_colours p t i (used o u) = refl
+spent_colours p t i _ = refl
 
 spent_cut : (p : Puzzle) (t : List Move) (i j : ℕ) → SameCut p t (Spend i) j []
 spent_cut p t i j = record { test = λ x. false; cut_is = sym (leave_none (listed_numbers p t j)); stay_is = sym (stay_all (listed_numbers p t j)) }

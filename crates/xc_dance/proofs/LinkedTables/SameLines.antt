@@ -46,10 +46,8 @@ link_same p f g fixed None h = refl
 link_same p f g fixed (Some s) h = ap (link_place p s.0) (h s.0 s.1 refl)
 
 top_same : (p : Puzzle) (ln rn : ℕ → Line) (k : ℕ) (n : Node) → ((j x : ℕ) → slot_of n ≡ Some (j, x) → rn j ≡ ln j) → top_in rn n ≡ top_in ln n
-top_same p ln rn k unused h = refl
-top_same p ln rn k (spacer m) h = refl
 top_same p ln rn k (own i) h = ap (λ (l : Line). l.len) (h i 0 refl)
-top_same p ln rn k (used o u) h = refl
+top_same p ln rn k _ h = refl
 
 pub tables_same : (p : Puzzle) (ln rn : ℕ → Line) (col now : Node → ℕ) → IsLaid p → ((j : ℕ) → (0 < j) × (j ≤ item_count p) → rn j ≡ ln j) → ((k : ℕ) (n : Node) → slice_get (layout p) k ≡ Some n → now n ≡ col n) → nodes_from p rn now ≡ nodes_from p ln col
 tables_same p ln rn col now laid h colours =

@@ -131,8 +131,7 @@ pub open_uncovered : (i : ℕ) (t : List Move) → is_open i t ≡ true → is_c
 open_uncovered i [] e = refl
 open_uncovered i (Cover j ∷ t) e = elim (eqb i j) as (λ b. (not b && is_open i t) ≡ true → (b || is_covered i t) ≡ false) [ true ↦ λ f. absurd (false≢true f) | false ↦ λ f. open_uncovered i t f ] e
 open_uncovered i (Purify j c ∷ t) e = elim (eqb i j) as (λ b. (not b && is_open i t) ≡ true → is_covered i t ≡ false) [ true ↦ λ f. absurd (false≢true f) | false ↦ λ f. open_uncovered i t f ] e
-open_uncovered i (Tweak j ∷ t) e = open_uncovered i t e
-open_uncovered i (Spend j ∷ t) e = open_uncovered i t e
+open_uncovered i (_ ∷ t) e = open_uncovered i t e
 
 -- ---- cells of the table
 

@@ -60,9 +60,7 @@ has_first p t i h =
 
 pub tweak_colours : (p : Puzzle) (t : List Move) (i : ℕ) (n : Node) → color_in p (Tweak i ∷ t) n ≡ color_in p t n
 tweak_colours p t i unused = refl
-tweak_colours p t i (own j) = refl
-tweak_colours p t i (spacer m) = refl
-tweak_colours p t i (used o u) = refl
+tweak_colours p t i _ = refl
 
 one_only : (o n : ℕ) (os : List ℕ) → o ≤ n → Rises n os → filter (λ x. eqb x o) os ≡ []
 one_only o n [] le r = refl

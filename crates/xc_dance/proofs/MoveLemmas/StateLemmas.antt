@@ -81,19 +81,16 @@ state_at p t states i r are low high read =
     ap (λ n. state_of n t) (sym at) ∙ sym (are.each (i - 1) lt) ∙ get_or_default states (i - 1) Open r within ∙ sym read
 
 abbrev pub is_purified_state : ItemState → Bool
-is_purified_state Open = false
-is_purified_state Covered = false
 is_purified_state Purified = true
+is_purified_state _ = false
 
 abbrev pub is_open_state : ItemState → Bool
 is_open_state Open = true
-is_open_state Covered = false
-is_open_state Purified = false
+is_open_state _ = false
 
 no_state : (s : ItemState) → Open ≡ s → is_open_state s ≡ false → ⊥
 no_state Open e f = cc f
-no_state Covered e f = cc e
-no_state Purified e f = cc e
+no_state _ e f = cc e
 
 not_open : (i : ℕ) (t : List Move) (s : ItemState) → state_of i t ≡ s → is_open_state s ≡ false → is_open i t ≡ false
 not_open i t s e f = by_case (is_open i t) refl
@@ -109,13 +106,11 @@ open_by_state i t Purified e = not_open i t Purified e refl
 
 pub closed_state : (s : ItemState) → (s ≡ Open → ⊥) → is_open_state s ≡ false
 closed_state Open h = absurd (h refl)
-closed_state Covered h = refl
-closed_state Purified h = refl
+closed_state _ h = refl
 
 pub unpurified_state : (s : ItemState) → (s ≡ Purified → ⊥) → is_purified_state s ≡ false
-unpurified_state Open h = refl
-unpurified_state Covered h = refl
 unpurified_state Purified h = absurd (h refl)
+unpurified_state _ h = refl
 
 pub purified_by_state : (p : Puzzle) (i : ℕ) (t : List Move) → AreLegal p t → is_some (purified i t) ≡ is_purified_state (state_of i t)
 purified_by_state p i [] legal = refl
@@ -132,8 +127,7 @@ purified_by_state p i (Purify j c ∷ t) legal =
       | true ↦ refl
       | false ↦ purified_by_state p i t legal.1
     ]
-purified_by_state p i (Tweak j ∷ t) legal = purified_by_state p i t legal.1
-purified_by_state p i (Spend j ∷ t) legal = purified_by_state p i t legal.1
+purified_by_state p i (_ ∷ t) legal = purified_by_state p i t legal.1
 
 -- ---- the next open item
 

@@ -8,16 +8,6 @@ use Rattle.xc_dance.proofs.LinkedTables.PlaceLemmas.{place_first, place_within, 
 use Rattle.xc_dance.proofs.LinkedTables.LaidNodes.{up_next}
 use Rattle.xc_dance.proofs.links.first_nodes.lay_options.Goals as goal
 
-pub loop-o-init : goal.loop-o-init
-loop-o-init c =
-    let p = c.args.problem.now.puzzle in
-    let first : c.items-place.result + 1 ≡ place_at p 0 = omega (arith, place_first p, c.items-place.ensures.value) in
-    record {
-      nodes = c.requires.before ∙ ap (λ n. laid_to p (n + 1)) (sym c.items-place.ensures.value);
-      place = first;
-      above = Rattle.std.proofs.Common.refl;
-    }
-
 pub overflow_add-place-in-loop-o : goal.overflow_add-place-in-loop-o
 overflow_add-place-in-loop-o c =
     let p = c.args.problem.now.puzzle in

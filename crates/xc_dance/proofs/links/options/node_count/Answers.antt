@@ -12,9 +12,6 @@ fits c =
     let lt : c.loop-o.o < option_count p = omega (arith, c.loop-o-test.true, c.options-o-end.ensures.value) in
     option_fits p c.loop-o.o c.option.result.now c.requires lt (uses_here p (c.loop-o.o + 1) c.option.result.now c.option.ensures.value)
 
-pub loop-o-init : goal.loop-o-init
-loop-o-init c = let first = place_first c.args.problem.now.puzzle in omega (arith, first, c.items-count.ensures.value)
-
 pub overflow_cast-count : goal.overflow_cast-count
 overflow_cast-count c = let f = fits c in omega (arith, f.next, f.within, f.small)
 

@@ -13,9 +13,6 @@ fits c =
     let lt : c.loop-o.o < option_count p = omega (arith, c.loop-o-test.true, c.options-o-end.ensures.value) in
     option_fits p c.loop-o.o c.option.result.now c.requires lt (uses_here p (c.loop-o.o + 1) c.option.result.now c.option.ensures.value)
 
-pub loop-o-init : goal.loop-o-init
-loop-o-init c = let first = place_first c.args.problem.now.puzzle in record { starts = c.in_ok-starts.ensures.items; start = omega (arith, first, c.items-start.ensures.value) }
-
 pub overflow_cast-start : goal.overflow_cast-start
 overflow_cast-start c = let f = fits c in omega (arith, f.next, f.within, f.small)
 
@@ -36,9 +33,3 @@ loop-o-preserved c =
           ∙ sym (map-range_with_len_more (start_at p) 0 o o (omega arith));
       start = omega (arith, next, c.loop-o.invariant.start);
     }
-
-pub returns : goal.returns
-returns c =
-    let p = c.args.problem.now.puzzle in
-    let last : c.loop-o.o ≡ option_count p = omega (arith, c.loop-o-test.false, c.options-o-end.ensures.value, c.loop-o.auto.o-end) in
-    c.loop-o.invariant.starts ∙ ap (starts_to p) last

@@ -48,10 +48,6 @@ hide_one-above-requires-clause-can c =
     let end = (span_at c.args.spans.now c.args.p).end in
     step_can q (places (q + 1) end) (places_more q end (goes (goal.at.hide_one-above-requires-clause-can c).After-get c.loop-top-test.true)) c.loop-top.invariant.walk
 
-pub hide_one-above-requires-clause-unmarked : goal.hide_one-above-requires-clause-unmarked
-hide_one-above-requires-clause-unmarked c = λ m.
-    (c.requires.unmarked m).0 c.loop-top.q (let h = c.loop-top.invariant.behind in omega (arith, h)) (goes (goal.at.hide_one-above-requires-clause-unmarked c).After-get c.loop-top-test.true)
-
 pub loop-top-preserved : goal.loop-top-preserved
 loop-top-preserved c =
     let q = c.loop-top.q in

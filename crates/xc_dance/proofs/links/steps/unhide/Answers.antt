@@ -74,9 +74,6 @@ show_one-below-requires-clause-can c =
 pub show_one-below-requires-clause-unmarked : goal.show_one-below-requires-clause-unmarked
 show_one-below-requires-clause-unmarked c = λ m. (c.requires.unmarked m).1 c.loop-top.q (goes (goal.at.show_one-below-requires-clause-unmarked c).After-get c.loop-top-test.true) c.loop-top.invariant.before
 
-pub overflow_sub-q-in-loop-top : goal.overflow_sub-q-in-loop-top
-overflow_sub-q-in-loop-top c = let le = goes (goal.at.overflow_sub-q-in-loop-top c).After-get c.loop-top-test.true in let from = c.requires.can.from in omega (arith, le, from)
-
 pub loop-top-preserved : goal.loop-top-preserved
 loop-top-preserved c =
     let q = c.loop-top.q in

@@ -7,9 +7,6 @@ use Rattle.xc_dance.proofs.LinkedTables.Walks.{length-followed, following, follo
 use Rattle.xc_dance.proofs.links.tweaks.climb.Goals as goal
 use Rattle.xc_dance.proofs.links.tweaks.climb.Goals.{In-loop}
 
-pub loop-init : goal.loop-init
-loop-init c = record { walk = following (climb_cost c.args.spans.now c.args.covered) refl c.requires.can; counted = omega arith; few = omega arith }
-
 -- a node is left
 within : (c : In-loop) → c.loop.counter < length (followed (columns c.args.top.now c.args.links.now c.args.color.now).dlink c.args.k c.args.x)
 within c = let long = length-followed (columns c.args.top.now c.args.links.now c.args.color.now).dlink c.args.k c.args.x in omega (arith, long, c.loop-test.true)
