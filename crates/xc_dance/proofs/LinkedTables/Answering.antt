@@ -24,10 +24,9 @@ use Rattle.std.proofs.Math.Bool.{and-false, and-true}
 pub spent_within : (p : Puzzle) (t : List Move) (i : ℕ) → AreLegal p t → spends i t ≤ high_at p i
 spent_within p [] i legal = omega arith
 spent_within p (Spend j ∷ t) i legal =
-    let rest = spent_within p t i legal.1 in
     elim (eqb i j) as (λ b. eqb i j ≡ b → cond b 1 0 + spends i t ≤ high_at p i) [
       | true ↦ λ e. let lt : spends i t < high_at p i = subst (λ k. spends k t < high_at p k) (sym (eqb-true i j e)) legal.0.1 in omega (arith, lt)
-      | false ↦ λ e. omega (arith, rest)
+      | false ↦ λ e. omega (arith, spent_within p t i legal.1)
     ] refl
 spent_within p (_ ∷ t) i legal = spent_within p t i legal.1
 

@@ -47,8 +47,7 @@ item_row p inner first last q =
           | true ↦ λ g. let h = eqb-true q (item_count p + 1) g in rw (lt-ltb q (item_count p + 2) (omega (arith, h))) refl
           | false ↦ λ g.
               let ne = eqb-false q (item_count p + 1) g in
-              let gt = leb-false q (item_count p) f in
-              rw (le-ltb q (item_count p + 2) (omega (arith, ne, gt))) refl
+              rw (le-ltb q (item_count p + 2) (omega (arith, ne, leb-false q (item_count p) f))) refl
         ] refl
       ] refl
     ] refl
@@ -86,9 +85,7 @@ top_cell p t q laid fit few = node_read p (top_in (line_of p t)) top_read (top_o
     by_node unused e = refl
     by_node (own i) e =
         let long = length-map (listed p t i) (λ o. o.number) in
-        let a = numbers_few p t i in
-        let b = fit.few in
-        read_small (length (listed p t i)) (omega (arith, long, a, b))
+        read_small (length (listed p t i)) (omega (arith, long, numbers_few p t i, fit.few))
     by_node (spacer n) e = spacer_top n
     by_node (used o u) e = let r = laid.ranged q (used o u) u.item o e refl in read_small u.item (omega (arith, r.1, few))
 
@@ -157,8 +154,7 @@ bound_row p f q ne =
     ∙ elim (leb q (primary_count p)) as (λ b. leb q (primary_count p) ≡ b → option_map natural (cond (ltb q (primary_count p + 1)) (Some (f q)) None) ≡ cond (true && b) (Some (pos (f q))) None) [
       | true ↦ λ e. let h = leb-true q (primary_count p) e in rw (lt-ltb q (primary_count p + 1) (omega (arith, h))) refl
       | false ↦ λ e.
-          let over = leb-false q (primary_count p) e in
-          rw (le-ltb q (primary_count p + 1) (omega (arith, over))) refl
+          rw (le-ltb q (primary_count p + 1) (omega (arith, leb-false q (primary_count p) e))) refl
     ] refl
     ∙ ap (λ b. cond (b && leb q (primary_count p)) (Some (pos (f q))) None) (sym gt)
 

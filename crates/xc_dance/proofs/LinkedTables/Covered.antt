@@ -71,8 +71,6 @@ pub off_is : (p : Puzzle) (t : List Move) (i : ℕ) → AreLegal p t → 0 < i �
 off_is p t i legal pos le =
     let n = item_count p + 2 in
     let l = left_of p t i in
-    let long_l = row_len (llink_at p t) n in
-    let long_r = row_len (rlink_at p t) n in
     let get_l : get_or (items_after p t).llink i 0 ≡ l = row_get (llink_at p t) n i (omega (arith, le)) ∙ llink_item p t i pos le in
     let both : (l < n) × (eqb (rlink_at p t l) i ≡ not (is_covered i t)) =
     elim (is_covered i t) as (λ b. is_covered i t ≡ b → (l < n) × (eqb (rlink_at p t l) i ≡ not b)) [
@@ -81,8 +79,8 @@ off_is p t i legal pos le =
     ] refl in
     let get_r : get_or (items_after p t).rlink (get_or (items_after p t).llink i 0) 0 ≡ rlink_at p t l = ap (λ k. get_or (items_after p t).rlink k 0) get_l ∙ row_get (rlink_at p t) n l both.0 in
     record {
-      place = omega (arith, long_l, le);
-      left = omega (arith, get_l, both.0, long_r);
+      place = omega (arith, row_len (llink_at p t) n, le);
+      left = omega (arith, get_l, both.0, row_len (rlink_at p t) n);
       is = ap (λ k. not (eqb k i)) get_r ∙ ap not both.1 ∙ elim (is_covered i t) as (λ b. not (not b) ≡ b) [ true ↦ refl | false ↦ refl ];
     }
 

@@ -36,8 +36,7 @@ near p limits =
       small = omega (arith, few, size);
       ends = λ k d lt. (let most = end_most p (get_or (layout p) k unused) in
           let is = get_or-map (span_of p) (layout p) k unused d (omega (arith, lt, size)) in
-          let same = ap (λ (s : Span). s.end) is in
-          omega (arith, most, few, same));
+          omega (arith, most, few, ap (λ (s : Span). s.end) is));
     }
 
 high_most : (bs : List Bounds) (k : ℕ) → AllByRecursion (λ (b : Bounds). b.high ≤ 999999999) bs → (unwrap_or (slice_get bs k) (record { low = 0; high = 0 })).high ≤ 999999999

@@ -70,9 +70,7 @@ hides_cost : (p : Puzzle) (t : List Move) (m : Move) (i : ℕ) (keep : Option �
 hides_cost p t m i keep start legal laid fit opened h =
     let gs = leavers p i keep (listed_numbers p t i) in
     let all = leaving_is p t m (λ j. filter (leaves p (color_in p t) i j) gs) (λ j r. hides_cut p t m i keep start j legal laid fit opened h r) in
-    let same = exchanged p (color_in p t) i gs fit in
-    let split = costs_split p (color_in p t) i keep (listed_numbers p t i) in
-    omega (arith, all, same, split)
+    omega (arith, all, exchanged p (color_in p t) i gs fit, costs_split p (color_in p t) i keep (listed_numbers p t i))
 
 pub record HideStep (p : Puzzle) (t : List Move) (spans : List Span) (m : Move) (i : ℕ) (keep : Option ℕ) (start : Node → ℕ) : Type 0 where
   -- down i's list, from its first node

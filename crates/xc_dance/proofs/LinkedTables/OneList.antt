@@ -337,6 +337,5 @@ listed_walk p col now spans i keep ln lists a (o ∷ xs) laid spanned pos le goo
       costs_back =
           let turn_back = ap (λ (u : Nodes). back_costs spans keep u (reverse (x ∷ places))) ends_same ∙ ap (back_costs spans keep end') turned ∙ costs-append (back_node spans keep) (back_cost spans keep) end' (reverse places) (x ∷ []) in
           let last : back_cost spans keep (fold (back_node spans keep) end' (reverse places)) x ≡ step_cost p col i keep o = ap (λ (u : Nodes). back_cost spans keep u x) rest.undone ∙ s.cost_back in
-          let before = rest.costs_back in
-          omega (arith, turn_back, last, before);
+          omega (arith, turn_back, last, rest.costs_back);
     }

@@ -44,10 +44,7 @@ place_first p = let h = zero_of p.options in omega (arith, h)
 
 pub layout_len : (p : Puzzle) → length (layout p) ≡ place_at p (option_count p) + 1
 layout_len p =
-    let a = length-append (front p) (tail_from 0 p.options) in
-    let b = length_front p in
-    let c = length_tail 0 p.options in
-    omega (arith, a, b, c)
+    omega (arith, length-append (front p) (tail_from 0 p.options), length_front p, length_tail 0 p.options)
 
 -- ---- an option that there is
 
@@ -65,15 +62,12 @@ reach_grows (us ∷ os) (suc o) (suc n) le most = let rest = reach_grows os o n 
 pub layout_small : (p : Puzzle) → IsWithinLimits p → length (layout p) ≤ 20100002
 layout_small p limits =
     let a = layout_len p in
-    let b = reach_most p.options in
-    omega (arith, a, b, limits.items, limits.uses, limits.options)
+    omega (arith, a, reach_most p.options, limits.items, limits.uses, limits.options)
 
 -- a spacer's place is among them
 pub place_within : (p : Puzzle) (o : ℕ) → o ≤ option_count p → place_at p o < length (layout p)
 place_within p o le =
-    let a = layout_len p in
-    let b = reach_grows p.options o (option_count p) le (omega arith) in
-    omega (arith, a, b)
+    omega (arith, layout_len p, reach_grows p.options o (option_count p) le (omega arith))
 
 -- where the nodes of an option end
 pub record OptionFits (p : Puzzle) (o : ℕ) (us : List Use) : Type 0 where

@@ -126,8 +126,7 @@ come_few p t spans false i j os legal fit opened of pos le ne =
     elim (is_open j t) as (λ b. is_open j t ≡ b → length (filter (leaves p (color_in p t) i j) os) ≤ (line_of p t j).len) [
       | true ↦ λ e.
           let a = ap length (leaves_open p t i j os legal fit.laid fit.fit opened (pos, le) of ne e) in
-          let b = length-filter-le (λ x. is_in x os) (listed_numbers p t j) in
-          omega (arith, a, b, long)
+          omega (arith, a, length-filter-le (λ x. is_in x os) (listed_numbers p t j), long)
       | false ↦ λ e. let a = ap length (leaves_shut p t i j os legal fit.laid fit.fit opened (pos, le) of e) in omega (arith, a)
     ] refl
 
@@ -188,8 +187,7 @@ by_lines p t spans covered i k o os legal fit pos le opened count costs h =
       few = λ j jpos jle ne.
           let a = cuts_len (line_of p t j) (to_come p t covered i j all) (come_few p t spans covered i j all legal fit opened of jpos jle ne) in
           let b = ap (λ (m : Line). m.len) (h.others j jpos jle ne) in
-          let c = ap (λ (m : Line). m.len) (line_there lnS i j w ne) in
-          omega (arith, a, b, c);
+          omega (arith, a, b, ap (λ (m : Line). m.len) (line_there lnS i j w ne));
       own_down = down0;
       own_up = λ y e. ap (λ (m : Line). m.up y) at_i ∙ ap (λ (m : Line). m.up y) h.own ∙ lost_own.1 y e;
     } in
@@ -238,8 +236,7 @@ by_lines p t spans covered i k o os legal fit pos le opened count costs h =
       done = ap (λ (u : Nodes). with_top u i (get_or u.top i 0 + k)) fold_is ∙ end;
       paid =
           let walk = ap₂ (λ (u : Nodes) qs. climb_costs spans covered u qs) start follow' ∙ cw.costs in
-          let less = fewer p col covered i all in
-          omega (arith, walk, less, costs, count);
+          omega (arith, walk, fewer p col covered i all, costs, count);
     })
 
 pub tweaks_back : (p : Puzzle) (t : List Move) (spans : List Span) (covered : Bool) (i k : ℕ) → AreLegal p (tweaks k i t) → AreLegal p t → IsFitted p spans → 0 < i → i ≤ item_count p → is_open i t ≡ not covered → 0 < k → TweaksBack p t spans covered i k

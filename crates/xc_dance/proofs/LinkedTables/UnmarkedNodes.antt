@@ -99,9 +99,8 @@ starts_behind p (suc o) i pos e =
 
 by_node : (p : Puzzle) (t : List Move) (x : ℕ) (n : Node) → IsLaid p → AreLegal p t → IsPlain p → x < 2147483648 → slice_get (layout p) x ≡ Some n → HasUnmarked (nodes_after p t).color (span_of p n) x
 by_node p t x (used o u) laid legal plain small e =
-    let here = used_behind p x o u laid e in
     let start = starts_behind p o u.item (laid.numbered x o u e) (ap is_some (laid.coloured x o u e)) in (
-      (λ q from below. unmarked_behind p t q laid legal plain (omega (arith, here, from))),
+      (λ q from below. unmarked_behind p t q laid legal plain (omega (arith, used_behind p x o u laid e, from))),
       (λ q from below. unmarked_behind p t q laid legal plain (omega (arith, start, from))),
     )
 by_node p t x _ laid legal plain small e = (λ q from below. absurd (omega (arith, below)), λ q from below. absurd (omega (arith, small, from, below)))
@@ -109,12 +108,10 @@ by_node p t x _ laid legal plain small e = (λ q from below. absurd (omega (arit
 -- no node of an option is marked
 pub plain_unmarked : (p : Puzzle) (t : List Move) → AreLegal p t → IsFitted p (spans_of p) → IsPlain p → IsUnmarked (spans_of p) (nodes_after p t).color
 plain_unmarked p t legal fitted plain = λ x lt.
-    let size = length-map (layout p) (span_of p) in
-    let here = slice_get-get_or (layout p) x unused (omega (arith, lt, size)) in
-    let small = fitted.near.small in
+    let here = slice_get-get_or (layout p) x unused (omega (arith, lt, length-map (layout p) (span_of p))) in
     let d : Span = record { first = 0; end = 0 } in
     subst (λ (s : Span). HasUnmarked (nodes_after p t).color s x) (sym (span_at (layout p) (span_of p) x (get_or (layout p) x unused) d here))
-    (by_node p t x (get_or (layout p) x unused) fitted.laid legal plain (omega (arith, lt, small)) here)
+    (by_node p t x (get_or (layout p) x unused) fitted.laid legal plain (omega (arith, lt, fitted.near.small)) here)
   where
     span_at : (ns : List Node) (f : Node → Span) (k : ℕ) (n : Node) (d : Span) → slice_get ns k ≡ Some n → get_or (map f ns) k d ≡ f n
     span_at [] f k n d e = cc

@@ -53,6 +53,5 @@ returns c =
     let p = c.args.problem.now.puzzle in
     let last : c.loop-o.o ≡ option_count p = omega (arith, c.loop-o-test.false, c.options-o-end.ensures.value, c.loop-o.auto.o-end) in
     let at = ap (place_at p) last in
-    let whole = layout_len p in
-    let end : c.loop-o.place + 1 ≡ length (layout p) = omega (arith, at, whole, c.loop-o.invariant.place) in
+    let end : c.loop-o.place + 1 ≡ length (layout p) = omega (arith, at, layout_len p, c.loop-o.invariant.place) in
     c.lay_spacer-2.ensures ∙ ap (laid_to p) end

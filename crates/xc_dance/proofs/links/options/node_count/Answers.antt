@@ -27,7 +27,6 @@ loop-o-preserved c = let f = fits (goal.at.loop-o-preserved c).After-option in l
 pub returns : goal.returns
 returns c =
     let p = c.args.problem.now.puzzle in
-    let whole = layout_len p in
     let last : c.loop-o.o ≡ option_count p = omega (arith, c.loop-o-test.false, c.options-o-end.ensures.value, c.loop-o.auto.o-end) in
     let end : c.loop-o.count ≡ start_at p (option_count p) = c.loop-o.invariant ∙ ap (start_at p) last in
-    omega (arith, whole, end)
+    omega (arith, layout_len p, end)

@@ -27,9 +27,8 @@ loop-o-preserved c =
     let p = c.args.problem.now.puzzle in
     let o = c.loop-o.o in
     let f = fits (goal.at.loop-o-preserved c).After-option in
-    let next = f.next in
     record {
       starts = c.in_ok-push.ensures.items ∙ ap (λ l. l ++ c.loop-o.start ∷ []) c.loop-o.invariant.starts ∙ ap (λ v. starts_to p o ++ v ∷ []) c.loop-o.invariant.start
           ∙ sym (map-range_with_len_more (start_at p) 0 o o (omega arith));
-      start = omega (arith, next, c.loop-o.invariant.start);
+      start = omega (arith, f.next, c.loop-o.invariant.start);
     }

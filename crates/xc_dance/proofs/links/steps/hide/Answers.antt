@@ -70,8 +70,7 @@ up-first-requires c =
     let met = high at c.loop-top-test.false in
     let is = t.at met in
     let spacer : IsSpacer (columns c.loop-top.top c.loop-top.links c.args.color.now) end = subst (λ (u : Nodes). IsSpacer u end) (sym (t.is met)) c.requires.can.spacer in
-    let size = spacer.size.ulink in
-    omega (arith, is, spacer.place, size)
+    omega (arith, is, spacer.place, spacer.size.ulink)
 
 -- the spacer leads to the first node
 leads : (c : After-get) → 2147483648 ≤ c.get.result → (first : ℕ) → first ≡ get_or (columns c.loop-top.top c.loop-top.links c.args.color.now).ulink c.loop-top.q 0 → first ≡ (span_at c.args.spans.now c.args.p).first
