@@ -14,8 +14,7 @@ use Rattle.xc_dance.specs.Links.Answered.{named}
 use Rattle.xc_dance.proofs.MoveLemmas.ListLemmas.{next_above-gt}
 use Rattle.xc_dance.proofs.LinkedTables.Mapped.{get_map}
 use Rattle.xc_dance.proofs.LinkedTables.RingStep.{row_get, row_len}
-use Rattle.xc_dance.proofs.LinkedTables.Covered.{open_or_covered}
-use Rattle.xc_dance.proofs.MoveLemmas.StateLemmas.{open_unpurified}
+use Rattle.xc_dance.proofs.MoveLemmas.StateLemmas.{open_or_covered}
 use Rattle.std.proofs.lemmas.Option.{slice_get_within}
 use Rattle.std.proofs.Math.Bool.{and-false, and-true}
 
@@ -66,16 +65,6 @@ purified_read p t i legal = by_colour (purified i t) refl
     by_colour : (o : Option ℕ) → purified i t ≡ o → not (eqb (unwrap_or o 0) 0) ≡ is_some o
     by_colour None e = refl
     by_colour (Some c) e = let pos = purified_above p t i c legal e in ap not (ne_eqb c 0 (λ z. omega (arith, z, pos)))
-
-pub open_is : (t : List Move) (i : ℕ) → (not (is_covered i t) && not (is_some (purified i t))) ≡ is_open i t
-open_is t i = by_colour (purified i t) refl
-  where
-    by_colour : (o : Option ℕ) → purified i t ≡ o → (not (is_covered i t) && not (is_some o)) ≡ is_open i t
-    by_colour None e = and-true (not (is_covered i t)) ∙ sym (open_or_covered i t e)
-    by_colour (Some c) e = and-false (not (is_covered i t)) ∙ elim (is_open i t) as (λ b. is_open i t ≡ b → false ≡ b) [
-      | true ↦ λ f. (let g = open_unpurified i t f in cc)
-      | false ↦ λ f. refl
-    ] refl
 
 -- ---- the number above, with 0 for none
 

@@ -267,8 +267,10 @@ is_laid p fit = record {
   unique = λ k n j x e f. slot_place p k n j x fit e f;
   there = placed p;
   head = head_is p;
-  ranged = λ k n j x e f. slot_range p n j x (each_at (NodeOk p) (layout p) k n (layout_ok p fit) e) f;
-  numbered = λ k o u e. (each_at (NodeOk p) (layout p) k (used o u) (layout_ok p fit) e).0;
-  coloured = λ k o u e. (each_at (NodeOk p) (layout p) k (used o u) (layout_ok p fit) e).2;
+  nodes = record {
+    ranged = λ k n j x e f. slot_range p n j x (each_at (NodeOk p) (layout p) k n (layout_ok p fit) e) f;
+    numbered = λ k o u e. (each_at (NodeOk p) (layout p) k (used o u) (layout_ok p fit) e).0;
+    coloured = λ k o u e. (each_at (NodeOk p) (layout p) k (used o u) (layout_ok p fit) e).2;
+  };
   small = fit.small;
 }

@@ -94,9 +94,9 @@ purify_colours p t i c laid k (own j) at =
     ]
     ∙ sym (marked_at p i (Some c) (purify_start p t i c) (listed_numbers p t i) (own j))
 purify_colours p t i c laid k (used o u) at =
-    let pos : 0 < o = laid.numbered k o u at in
+    let pos : 0 < o = laid.nodes.numbered k o u at in
     let v = color_in p t (used o u) in
-    let colour : colour_in (uses_of p o) u.item ≡ Some u.colour = laid.coloured k o u at in
+    let colour : colour_in (uses_of p o) u.item ≡ Some u.colour = laid.nodes.coloured k o u at in
     let at_zero : eqb o 0 ≡ false = ne_eqb o 0 (λ e. omega (arith, e, pos)) in
     elim (eqb u.item i) as (λ b. eqb u.item i ≡ b → color_in p (Purify i c ∷ t) (used o u) ≡ cond (b && (is_in o (listed_numbers p t i) && is_kept p i (Some c) o)) 4294967295 (cond (b && eqb o 0) c v)) [
       | true ↦ λ e.

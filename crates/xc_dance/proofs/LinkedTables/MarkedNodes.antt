@@ -118,7 +118,7 @@ pub color_is : (p : Puzzle) (t : List Move) (o j c : ℕ) → IsLaid p → 0 < j
 color_is p t o j c laid jpos jle pos named has =
     let h = laid.there j o jpos jle (inr (pos, named)) in
     let u = used_by p j o (link_place p j o) h.node pos h.at h.slot in
-    let colour : colour_in (uses_of p o) u.0.item ≡ Some u.0.colour = laid.coloured (link_place p j o) o u.0 u.1 in
+    let colour : colour_in (uses_of p o) u.0.item ≡ Some u.0.colour = laid.nodes.coloured (link_place p j o) o u.0 u.1 in
     let same : u.0.colour ≡ c = same_Some u.0.colour c (sym colour ∙ ap (colour_in (uses_of p o)) u.2 ∙ has) in
     get_map (color_in p t) (layout p) (link_place p j o) (used o u.0) u.1
     ∙ ap₂ (λ i d. cond (is_marked p t i o d) 4294967295 d) u.2 same

@@ -18,7 +18,8 @@ use Rattle.xc_dance.proofs.LinkedTables.StillItems.{still_items}
 use Rattle.xc_dance.proofs.LinkedTables.Turned.{ring_step}
 use Rattle.xc_dance.specs.Links.Taken.{CanNote}
 use Rattle.xc_dance.specs.Links.Tweaking.{tweaked, untweaked, tweak_cost, untweak_cost, CanTweak, CanUntweak}
-use Rattle.xc_dance.proofs.LinkedTables.Covered.{off_is, open_or_covered}
+use Rattle.xc_dance.proofs.LinkedTables.Covered.{off_is}
+use Rattle.xc_dance.proofs.MoveLemmas.StateLemmas.{open_or_covered}
 use Rattle.xc_dance.proofs.LinkedTables.TweakStep.{tweak_made}
 use Rattle.xc_dance.proofs.LinkedTables.HideMoves.{cover_hides, cover_writes, walk_made, purify_made}
 

@@ -25,7 +25,7 @@ use Rattle.xc_dance.proofs.LinkedTables.SpanLemmas.{parted, there}
 use Rattle.xc_dance.proofs.LinkedTables.SpacerPlaces.{use_at, spacer_at}
 use Rattle.xc_dance.proofs.LinkedTables.RingStep.{row_get, row_len, right_now}
 use Rattle.xc_dance.proofs.LinkedTables.Sweep.{first_above-first}
-use Rattle.xc_dance.proofs.LinkedTables.Turned.{open_uncovered}
+use Rattle.xc_dance.proofs.MoveLemmas.StateLemmas.{open_uncovered}
 use Rattle.std.proofs.lemmas.Option.{same_Some, slice_get_within, slice_get-get_or}
 use Rattle.xc_dance.proofs.LinkedTables.LinkColumns.{member_of}
 
@@ -140,7 +140,7 @@ to_spacer p t i (suc m) q laid fit pos held from to =
           let use_is : slice_get w.uses k ≡ Some u = slice_get-get_or w.uses k d (omega (arith, from, lt, place)) in
           let node : slice_get (layout p) q ≡ Some (used (m + 1) u) = use_here p m k q w.uses u w.uses_are use_is (omega (arith, from, place)) in
           let top : get_or (nodes_after p t).top q 0 ≡ u.item = get_map (top_in (line_of p t)) (layout p) q (used (m + 1) u) node in
-          let most = (laid.ranged q (used (m + 1) u) u.item (m + 1) node refl).1 in
+          let most = (laid.nodes.ranged q (used (m + 1) u) u.item (m + 1) node refl).1 in
           let small = laid.small in
           record { within = slice_get_within (layout p) q (used (m + 1) u) node; next = λ h. omega (arith, lt, end); number = λ h. absurd (omega (arith, h, top, most, small)) }
       | false ↦ λ e.

@@ -7,10 +7,14 @@ use Rattle.std.proofs.lemmas.List.FromFn.{length-map-range_with_len}
 use Rattle.xc_input.specs.declared.problem.Use.{Use}
 use Rattle.xc_input.specs.Problem.{Puzzle, item_count, option_count, uses_of, IsWithinLimits}
 use Rattle.xc_dance.specs.Fields.{Node, unused, own, spacer, used, layout}
-use Rattle.xc_dance.specs.Links.OptionPlaces.{reach, place_at}
+use Rattle.xc_dance.specs.Links.OptionPlaces.{reach, place_at, start_at}
 use Rattle.xc_dance.proofs.LinkedTables.OptionNumbers.{uses_at}
 use Rattle.xc_dance.proofs.LinkedTables.OptionReach.{get_behind, tail_from, spacer_get, use_get, length_tail, reach_next, reach_most}
 use Rattle.std.proofs.lemmas.Option.{slice_get-get_or}
+
+-- where the nodes of the first k options start
+abbrev pub starts_to : Puzzle → ℕ → List ℕ
+starts_to p k = map (start_at p) (range_with_len 0 k)
 
 -- ---- the whole table
 

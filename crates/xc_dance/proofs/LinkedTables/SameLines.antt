@@ -51,7 +51,7 @@ top_same p ln rn k _ h = refl
 
 pub tables_same : (p : Puzzle) (ln rn : ℕ → Line) (col now : Node → ℕ) → IsLaid p → ((j : ℕ) → (0 < j) × (j ≤ item_count p) → rn j ≡ ln j) → ((k : ℕ) (n : Node) → slice_get (layout p) k ≡ Some n → now n ≡ col n) → nodes_from p rn now ≡ nodes_from p ln col
 tables_same p ln rn col now laid h colours =
-    let at : (k : ℕ) (n : Node) → slice_get (layout p) k ≡ Some n → (j x : ℕ) → slot_of n ≡ Some (j, x) → rn j ≡ ln j = λ k n e j x f. h j (laid.ranged k n j x e f) in
+    let at : (k : ℕ) (n : Node) → slice_get (layout p) k ≡ Some n → (j x : ℕ) → slot_of n ≡ Some (j, x) → rn j ≡ ln j = λ k n e j x f. h j (laid.nodes.ranged k n j x e f) in
     same_nodes (nodes_from p rn now) (nodes_from p ln col)
     (map_same (top_in ln) (top_in rn) (layout p) (λ k n e. top_same p ln rn k n (at k n e)))
     (map_same (ulink_in p ln) (ulink_in p rn) (layout p) (λ k n e. link_same p (λ j x. (ln j).up x) (λ j x. (rn j).up x) (fixed_up p n) (slot_of n) (λ j x f. ap (λ (l : Line). l.up x) (at k n e j x f))))

@@ -53,7 +53,7 @@ first_spacer p t q (spacer n) s e f =
     let z : n ≡ 0 = omega (arith, f) in
     sym (spacer_is p q 0 (e ∙ ap (λ k. Some (spacer k)) z)) ∙ spacer_at p 0 (omega arith) ∙ place_first p
 first_spacer p t q (used o u) s e f =
-    let r = s.laid.ranged q (used o u) u.item o e refl in
+    let r = s.laid.nodes.ranged q (used o u) u.item o e refl in
     absurd (omega (arith, f, r.1, s.items))
 
 pub top_at_first : (p : Puzzle) (t : List Move) (v : ℕ) → slice_get (nodes_after p t).top (item_count p + 1) ≡ Some v → v ≡ 2147483648

@@ -26,7 +26,8 @@ use Rattle.xc_dance.proofs.LinkedTables.GoodLines.{numbers_named}
 use Rattle.xc_dance.proofs.MoveLemmas.Shortened.{rises_listed}
 use Rattle.xc_dance.proofs.MoveLemmas.Members.{element_of}
 use Rattle.xc_dance.proofs.LinkedTables.StillItems.{still_items}
-use Rattle.xc_dance.proofs.LinkedTables.Covered.{off_is, open_or_covered}
+use Rattle.xc_dance.proofs.LinkedTables.Covered.{off_is}
+use Rattle.xc_dance.proofs.MoveLemmas.StateLemmas.{open_or_covered}
 use Rattle.xc_dance.proofs.LinkedTables.TweakedLines.{tweaks, Tweaked, tweaked_lines}
 use Rattle.xc_dance.proofs.LinkedTables.TweaksBack.{Undoes, first_place, tweaks_back}
 

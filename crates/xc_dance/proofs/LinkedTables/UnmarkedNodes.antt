@@ -49,10 +49,10 @@ never_marked p (_ ∷ t) i o legal = never_marked p t i o legal.1
 no_color : (p : Puzzle) (t : List Move) (q : ℕ) (n : Node) → IsLaid p → AreLegal p t → IsPlain p → item_count p < q → slice_get (layout p) q ≡ Some n → color_in p t n ≡ 0
 no_color p t q (own i) laid legal plain gt e =
     let at : i ≡ q = laid.unique q (own i) i 0 e refl in
-    let r = laid.ranged q (own i) i 0 e refl in
+    let r = laid.nodes.ranged q (own i) i 0 e refl in
     absurd (omega (arith, at, r.1, gt))
 no_color p t q (used o u) laid legal plain gt e =
-    let none : u.colour ≡ 0 = no_colour (uses_of p o) u.item u.colour (plain o) (laid.coloured q o u e) in
+    let none : u.colour ≡ 0 = no_colour (uses_of p o) u.item u.colour (plain o) (laid.nodes.coloured q o u e) in
     ap (λ c. cond (is_marked p t u.item o c) 4294967295 c) none
     ∙ ap (λ b. cond b 4294967295 0) (never_marked p t u.item o legal)
 no_color p t q _ laid legal plain gt e = refl
@@ -99,7 +99,7 @@ starts_behind p (suc o) i pos e =
 
 by_node : (p : Puzzle) (t : List Move) (x : ℕ) (n : Node) → IsLaid p → AreLegal p t → IsPlain p → x < 2147483648 → slice_get (layout p) x ≡ Some n → HasUnmarked (nodes_after p t).color (span_of p n) x
 by_node p t x (used o u) laid legal plain small e =
-    let start = starts_behind p o u.item (laid.numbered x o u e) (ap is_some (laid.coloured x o u e)) in (
+    let start = starts_behind p o u.item (laid.nodes.numbered x o u e) (ap is_some (laid.nodes.coloured x o u e)) in (
       (λ q from below. unmarked_behind p t q laid legal plain (omega (arith, used_behind p x o u laid e, from))),
       (λ q from below. unmarked_behind p t q laid legal plain (omega (arith, start, from))),
     )
