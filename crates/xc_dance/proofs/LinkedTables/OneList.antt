@@ -1,6 +1,6 @@
 -- Down one list and back up: the options of its nodes leave the lists of their other items, but for those of a colour that is kept, whose nodes are marked.
 use Rattle.std.proofs.Common.{◌≡◌, ◌≢◌, ℕ, ◌+◌, ◌*◌, ◌<◌, ◌≤◌, inr, Bool, true, false, not, cond, ◌&&◌, ◌||◌, eqb, List, [], ◌∷◌, ◌++◌, length, map, fold, filter, reverse, get_or, Option, Some, None, refl, ap, ap₂, sym, subst, ◌∙◌, arith, eqb-true, eq-eqb, ne_eqb}
-use Rattle.std.proofs.lemmas.Bool.{false≢true}
+use Rattle.std.proofs.lemmas.Bool.{false≢true, and_right}
 use Rattle.std.proofs.lemmas.List.{length-map, reverse-append}
 use Rattle.std.proofs.lemmas.List.Sums.{fold-append}
 use Rattle.xc_dance.specs.declared.links.nodes.Nodes.{Nodes}
@@ -185,10 +185,6 @@ pub record Turn (p : Puzzle) (col now : Node → ℕ) (spans : List Span) (i : �
   pub lines : left_list p col i ln (leavers p i keep (o ∷ xs)) ≡ left_list p col i ln' (leavers p i keep xs)
   pub colours : marked_list p i keep now (o ∷ xs) ≡ marked_list p i keep now' xs
 
-and_false : (a b : Bool) → b ≡ false → (a && b) ≡ false
-and_false true b e = e
-and_false false b e = refl
-
 turn : (p : Puzzle) (col now : Node → ℕ) (spans : List Span) (i : ℕ) (keep : Option ℕ) (ln : ℕ → Line) (lists : ℕ → List ℕ) (o : ℕ) (xs : List ℕ) → IsLaid p → HasSpans p spans → 0 < i → i ≤ item_count p → 0 < o
     → AllGood p ln lists → EachReady p col lists i keep (o ∷ xs) → Rises o xs → Passed p i col now (o ∷ xs) → Turn p col now spans i keep ln o xs
 turn p col now spans i keep ln lists o xs laid spanned pos le o_pos good ready r passed =
@@ -211,7 +207,7 @@ turn p col now spans i keep ln lists o xs laid spanned pos le o_pos good ready r
           others = λ j x ne jpos jle xpos named. color_other p now i o 4294967295 j x (laid.there j x jpos jle (inr (xpos, named))) (ap (λ b. b && eqb x o) (ne_eqb j i ne)) ∙ passed.others j x ne jpos jle xpos named;
           own = λ x f.
               let gt : o < x = in_above o x xs r f in
-              color_other p now i o 4294967295 i x (laid.there i x pos le (inr (omega (arith, gt), named_in x xs ready.4 f))) (and_false (eqb i i) (eqb x o) (ne_eqb x o (λ g. omega (arith, gt, g)))) ∙ passed.own x (in_more o x xs f);
+              color_other p now i o 4294967295 i x (laid.there i x pos le (inr (omega (arith, gt), named_in x xs ready.4 f))) (and_right (eqb i i) (eqb x o) (ne_eqb x o (λ g. omega (arith, gt, g)))) ∙ passed.own x (in_more o x xs f);
         };
         lines = ap (λ b. left_list p col i ln (cond (not b) (o ∷ leavers p i keep xs) (leavers p i keep xs))) e;
         colours = ap (λ b. marked_list p i keep (cond b (with_color now i o 4294967295) now) xs) e;

@@ -9,7 +9,7 @@ use Rattle.xc_input.specs.Problem.{Puzzle, item_count, option_count, uses_of, Is
 use Rattle.xc_dance.specs.Fields.{Node, unused, own, spacer, used, layout}
 use Rattle.xc_dance.specs.Links.OptionPlaces.{reach, place_at, start_at}
 use Rattle.xc_dance.proofs.LinkedTables.OptionNumbers.{uses_at}
-use Rattle.xc_dance.proofs.LinkedTables.OptionReach.{get_behind, tail_from, spacer_get, use_get, length_tail, reach_next, reach_most}
+use Rattle.xc_dance.proofs.LinkedTables.OptionReach.{get_behind, tail_from, spacer_get, use_get, length_tail, reach_zero, reach_next, reach_most}
 use Rattle.std.proofs.lemmas.Option.{slice_get-get_or}
 
 -- where the nodes of the first k options start
@@ -40,11 +40,7 @@ pub place_next : (p : Puzzle) (o : ℕ) (us : List Use) → slice_get p.options 
 place_next p o us e = let h = reach_next p.options o us e in omega (arith, h)
 
 pub place_first : (p : Puzzle) → place_at p 0 ≡ item_count p + 1
-place_first p = let h = zero_of p.options in omega (arith, h)
-  where
-    zero_of : (os : List (List Use)) → reach os 0 ≡ 0
-    zero_of [] = refl
-    zero_of (us ∷ os) = refl
+place_first p = let h = reach_zero p.options in omega (arith, h)
 
 pub layout_len : (p : Puzzle) → length (layout p) ≡ place_at p (option_count p) + 1
 layout_len p =
