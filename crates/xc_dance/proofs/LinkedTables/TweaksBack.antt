@@ -37,20 +37,21 @@ use Rattle.xc_dance.proofs.LinkedTables.LineChanges.{put_at, cut, IsLinkedFrom, 
 
 -- ---- the lines of other items are being regained
 
--- what comes back to item j's list is in it
+-- what comes back to item j's list, by a test of its members
+come_is : (p : Puzzle) (t : List Move) (spans : List Span) (covered : Bool) (i j : ℕ) (os : List ℕ) → AreLegal p t → IsFitted p spans → is_open i t ≡ not covered → AreOf p t i os → 0 < j → j ≤ item_count p → j ≢ i →
+    (f : ℕ → Bool) × (to_come p t covered i j os ≡ filter f (listed_numbers p t j))
+come_is p t spans true i j os legal fit shut of pos le ne = (λ x. false, sym (leave_none (listed_numbers p t j)))
+come_is p t spans false i j os legal fit opened of pos le ne =
+    elim (is_open j t) as (λ b. is_open j t ≡ b → (f : ℕ → Bool) × (filter (leaves p (color_in p t) i j) os ≡ filter f (listed_numbers p t j))) [
+      | true ↦ λ e. (λ x. is_in x os, leaves_open p t i j os legal fit.laid fit.fit opened (pos, le) of ne e)
+      | false ↦ λ e. (λ x. false, leaves_shut p t i j os legal fit.laid fit.fit opened (pos, le) of e ∙ sym (leave_none (listed_numbers p t j)))
+    ] refl
+
 start_other : (p : Puzzle) (t : List Move) (spans : List Span) (covered : Bool) (i j : ℕ) (os : List ℕ) → AreLegal p t → IsFitted p spans → is_open i t ≡ not covered → AreOf p t i os → 0 < j → j ≤ item_count p → j ≢ i →
     Regaining (line_of p t j) (cuts (line_of p t j) (to_come p t covered i j os)) (to_come p t covered i j os)
-start_other p t spans true i j os legal fit shut of pos le ne =
-    subst (λ ks. Regaining (line_of p t j) (cuts (line_of p t j) ks) ks) (leave_none (listed_numbers p t j)) (regaining (line_of p t j) (listed_numbers p t j) (λ x. false) (stands p t j))
-start_other p t spans false i j os legal fit opened of pos le ne =
-    elim (is_open j t) as (λ b. is_open j t ≡ b → Regaining (line_of p t j) (cuts (line_of p t j) (filter (leaves p (color_in p t) i j) os)) (filter (leaves p (color_in p t) i j) os)) [
-      | true ↦ λ e.
-          subst (λ ks. Regaining (line_of p t j) (cuts (line_of p t j) ks) ks) (sym (leaves_open p t i j os legal fit.laid fit.fit opened (pos, le) of ne e))
-          (regaining (line_of p t j) (listed_numbers p t j) (λ x. is_in x os) (stands p t j))
-      | false ↦ λ e.
-          subst (λ ks. Regaining (line_of p t j) (cuts (line_of p t j) ks) ks) (leave_none (listed_numbers p t j) ∙ sym (leaves_shut p t i j os legal fit.laid fit.fit opened (pos, le) of e))
-          (regaining (line_of p t j) (listed_numbers p t j) (λ x. false) (stands p t j))
-    ] refl
+start_other p t spans covered i j os legal fit opened of pos le ne =
+    let come = come_is p t spans covered i j os legal fit opened of pos le ne in
+    subst (λ ks. Regaining (line_of p t j) (cuts (line_of p t j) ks) ks) (sym come.1) (regaining (line_of p t j) (listed_numbers p t j) come.0 (stands p t j))
 
 cuts_len : (l : Line) (ks : List ℕ) → length ks ≤ l.len → (cuts l ks).len + length ks ≡ l.len
 cuts_len l [] h = omega arith
@@ -120,15 +121,10 @@ longer_is p col ln i n laid pos le =
 
 come_few : (p : Puzzle) (t : List Move) (spans : List Span) (covered : Bool) (i j : ℕ) (os : List ℕ) → AreLegal p t → IsFitted p spans → is_open i t ≡ not covered → AreOf p t i os → 0 < j → j ≤ item_count p → j ≢ i →
     length (to_come p t covered i j os) ≤ (line_of p t j).len
-come_few p t spans true i j os legal fit shut of pos le ne = omega arith
-come_few p t spans false i j os legal fit opened of pos le ne =
+come_few p t spans covered i j os legal fit opened of pos le ne =
+    let come = come_is p t spans covered i j os legal fit opened of pos le ne in
     let long : length (listed_numbers p t j) ≡ (line_of p t j).len = length-map (listed p t j) (λ o. o.number) in
-    elim (is_open j t) as (λ b. is_open j t ≡ b → length (filter (leaves p (color_in p t) i j) os) ≤ (line_of p t j).len) [
-      | true ↦ λ e.
-          let a = ap length (leaves_open p t i j os legal fit.laid fit.fit opened (pos, le) of ne e) in
-          omega (arith, a, length-filter-le (λ x. is_in x os) (listed_numbers p t j), long)
-      | false ↦ λ e. let a = ap length (leaves_shut p t i j os legal fit.laid fit.fit opened (pos, le) of e) in omega (arith, a)
-    ] refl
+    omega (arith, ap length come.1, length-filter-le come.0 (listed_numbers p t j), long)
 
 -- where the first node stands that Tweaks of item i after the moves t take off
 abbrev pub first_place : Puzzle → List Move → ℕ → ℕ
