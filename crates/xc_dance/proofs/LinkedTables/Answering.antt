@@ -1,9 +1,9 @@
 -- What the tables answer, against what the moves make of the lists.
-use Rattle.std.proofs.Common.{◌≡◌, ℕ, zero, suc, ◌+◌, ◌-◌, ◌<◌, ◌≤◌, Bool, true, false, not, cond, ◌&&◌, eqb, List, [], ◌∷◌, length, get_or, Some, None, Option, filter, refl, ap, ap₂, sym, subst, ◌∙◌, arith, eqb-true, ne_eqb, le-leb}
+use Rattle.std.proofs.Common.{◌≡◌, ℕ, zero, suc, ◌+◌, ◌-◌, ◌<◌, ◌≤◌, Bool, true, false, not, cond, eqb, List, [], ◌∷◌, length, get_or, Some, None, Option, filter, refl, ap, ap₂, sym, subst, ◌∙◌, arith, eqb-true, ne_eqb, le-leb}
 use Rattle.std.specs.Prelude.{is_some, unwrap_or}
 use Rattle.std.specs.List.{range_with_len}
 use Rattle.xc_dance.specs.declared.dance.Move.{Move}
-use Rattle.xc_dance.specs.declared.dance.Move.TheVariants.{Cover, Purify, Tweak, Spend}
+use Rattle.xc_dance.specs.declared.dance.Move.TheVariants.{Purify, Spend}
 use Rattle.xc_input.specs.Problem.{Puzzle, primary_count, item_count, high_at, IsPrimary}
 use Rattle.xc_dance.specs.Moves.{is_open, is_covered, purified, spends, AreLegal, listed, next_above, open_items}
 use Rattle.xc_dance.specs.Fields.{own, layout, first_above, ring_of}
@@ -16,7 +16,6 @@ use Rattle.xc_dance.proofs.LinkedTables.Mapped.{get_map}
 use Rattle.xc_dance.proofs.LinkedTables.RingStep.{row_get, row_len}
 use Rattle.xc_dance.proofs.MoveLemmas.StateLemmas.{open_or_covered}
 use Rattle.std.proofs.lemmas.Option.{slice_get_within}
-use Rattle.std.proofs.Math.Bool.{and-false, and-true}
 
 -- ---- bounds
 

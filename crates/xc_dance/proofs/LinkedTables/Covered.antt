@@ -1,10 +1,10 @@
 -- Whether an item is covered, read from its ring.
-use Rattle.std.proofs.Common.{◌≡◌, ◌≢◌, ℕ, ◌+◌, ◌<◌, ◌≤◌, Bool, true, false, not, cond, ◌&&◌, ◌||◌, eqb, List, [], ◌∷◌, length, get_or, Some, None, refl, ap, sym, subst, ◌∙◌, arith, eqb-true, eq-eqb, ne_eqb}
+use Rattle.std.proofs.Common.{◌≡◌, ◌≢◌, ℕ, ◌+◌, ◌<◌, ◌≤◌, Bool, true, false, not, cond, ◌||◌, eqb, List, [], ◌∷◌, length, get_or, refl, ap, sym, subst, ◌∙◌, arith, eqb-true, eq-eqb, ne_eqb}
 use Rattle.std.proofs.lemmas.Bool.{false≢true}
 use Rattle.xc_dance.specs.declared.dance.Move.{Move}
 use Rattle.xc_dance.specs.declared.dance.Move.TheVariants.{Cover, Purify, Tweak, Spend}
 use Rattle.xc_input.specs.Problem.{Puzzle, item_count}
-use Rattle.xc_dance.specs.Moves.{is_open, is_covered, purified, AreLegal}
+use Rattle.xc_dance.specs.Moves.{is_covered, AreLegal}
 use Rattle.xc_dance.specs.Fields.{left_of, right_of, last_below, ring_head, ring_of}
 use Rattle.xc_dance.specs.Links.ItemCells.{items_after, llink_at, rlink_at}
 use Rattle.xc_dance.specs.Links.Rings.{is_off}

@@ -8,7 +8,7 @@ use Rattle.std.proofs.lemmas.Option.{slice_get_within}
 use Rattle.xc_input.specs.declared.problem.Use.{Use}
 use Rattle.xc_input.specs.Problem.{Puzzle, Numbered, numbered_options, item_count, colour_in, uses_of, IsWithinLimits}
 use Rattle.xc_dance.specs.declared.links.nodes.Nodes.{Nodes}
-use Rattle.xc_dance.specs.Fields.{Node, unused, own, spacer, used, layout, nodes_of, link_place}
+use Rattle.xc_dance.specs.Fields.{Node, own, spacer, used, layout, nodes_of, link_place}
 use Rattle.xc_dance.specs.Links.Lines.{Line}
 use Rattle.xc_dance.specs.Links.Laid.{IsName, Placed, IsLaid, IsFit}
 use Rattle.xc_dance.specs.Links.Cells.{top_in, color_in, fixed_up, fixed_down, nodes_from}

@@ -7,7 +7,7 @@ use Rattle.std.proofs.lemmas.List.Elements.{recursion_from_All}
 use Rattle.xc_input.specs.Problem.{Puzzle, Bounds, high_at, IsValid, IsWithinLimits}
 use Rattle.xc_input.specs.Named.{AreColoursKnown}
 use Rattle.xc_dance.specs.Links.Span.{Span}
-use Rattle.xc_dance.specs.Fields.{Node, unused, own, spacer, used, layout, is_spacer}
+use Rattle.xc_dance.specs.Fields.{Node, unused, used, layout, is_spacer}
 use Rattle.xc_dance.specs.Links.Laid.{IsFit}
 use Rattle.xc_dance.specs.Links.Made.{AreNear, IsFitted}
 use Rattle.xc_dance.specs.Links.OptionSpans.{span_of, spans_of}

@@ -6,7 +6,7 @@ use Rattle.std.proofs.lemmas.Bool.{false≢true}
 use Rattle.xc_input.specs.declared.problem.Use.{Use}
 use Rattle.xc_input.specs.Problem.{Puzzle, Numbered, numbered_options, holding, colour_in, item_count}
 use Rattle.xc_dance.specs.Moves.{listed_numbers}
-use Rattle.xc_dance.specs.Fields.{Node, unused, own, spacer, used, layout, nodes_of, is_in}
+use Rattle.xc_dance.specs.Fields.{Node, own, spacer, used, layout, nodes_of, is_in}
 use Rattle.xc_dance.specs.Links.Laid.{IsFit, AreDistinct}
 use Rattle.xc_dance.specs.Links.Lines.{Line}
 use Rattle.xc_dance.proofs.Copied.{take_more-get}

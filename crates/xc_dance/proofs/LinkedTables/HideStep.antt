@@ -1,5 +1,5 @@
 -- A walk down an open item's list leads from the node table after moves to that after one move more, and the walk back up from there to the one before.
-use Rattle.std.proofs.Common.{◌≡◌, ℕ, ◌+◌, ◌*◌, ◌<◌, ◌≤◌, Bool, true, false, not, eqb, List, ◌∷◌, length, map, fold, filter, reverse, Option, Some, refl, ap, sym, subst, ◌∙◌, arith, eqb-true}
+use Rattle.std.proofs.Common.{◌≡◌, ℕ, ◌+◌, ◌*◌, ◌<◌, ◌≤◌, Bool, true, false, not, eqb, List, ◌∷◌, length, filter, Option, Some, refl, sym, subst, ◌∙◌, arith, eqb-true}
 use Rattle.std.specs.Prelude.{slice_get}
 use Rattle.std.proofs.lemmas.Bool.{eqb-false, and_parts}
 use Rattle.xc_dance.specs.declared.dance.Move.{Move}
@@ -8,9 +8,8 @@ use Rattle.xc_dance.specs.Links.Span.{Span}
 use Rattle.xc_input.specs.Problem.{Puzzle, item_count}
 use Rattle.xc_dance.specs.Moves.{is_open, AreLegal, listed_numbers}
 use Rattle.xc_dance.specs.Lists.Losing.{is_kept}
-use Rattle.xc_dance.specs.Fields.{Node, layout, link_place}
-use Rattle.xc_dance.specs.Links.ListWalks.{left_node, back_node, IsWalk, IsWalkBack, walk_costs, back_costs}
-use Rattle.xc_dance.specs.Links.Cells.{color_in, nodes_from, nodes_after, line_of}
+use Rattle.xc_dance.specs.Fields.{Node, layout}
+use Rattle.xc_dance.specs.Links.Cells.{color_in, nodes_after, line_of}
 use Rattle.xc_dance.specs.Links.Others.{HasSpans}
 use Rattle.xc_dance.specs.Links.Laid.{IsLaid, IsFit}
 use Rattle.xc_dance.proofs.LinkedTables.Sweep.{Rises-filter}

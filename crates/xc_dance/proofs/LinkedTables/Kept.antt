@@ -1,15 +1,15 @@
 -- The tables of a keeper from one move to the next.
-use Rattle.std.proofs.Common.{◌≡◌, ℕ, ◌<◌, ◌≤◌, List, [], ◌∷◌, ◌++◌, length, reverse, get_or, suc, refl, ap, ap₂, sym, subst, ◌∙◌, arith}
+use Rattle.std.proofs.Common.{◌≡◌, ℕ, ◌<◌, ◌≤◌, List, [], ◌∷◌, ◌++◌, length, reverse, get_or, refl, ap, ap₂, sym, subst, ◌∙◌, arith}
 use Rattle.std.proofs.lemmas.List.{reverse-append, length-reverse}
 use Rattle.xc_dance.specs.declared.dance.Move.{Move}
-use Rattle.xc_dance.specs.declared.dance.Move.TheVariants.{Cover, Purify, Tweak, Spend}
+use Rattle.xc_dance.specs.declared.dance.Move.TheVariants.{Tweak}
 use Rattle.xc_dance.specs.declared.links.nodes.Nodes.{Nodes}
 use Rattle.xc_dance.specs.Links.Span.{Span}
 use Rattle.xc_dance.specs.declared.links.items.Items.{Items}
 use Rattle.xc_input.specs.Problem.{Puzzle}
 use Rattle.xc_dance.specs.Moves.{IsLegal, listed_numbers}
 use Rattle.xc_dance.specs.Fields.{link_place, first_of}
-use Rattle.xc_dance.specs.Links.Taken.{taken_nodes, noted, CanRecall, IsRecalled}
+use Rattle.xc_dance.specs.Links.Taken.{taken_nodes, noted, IsRecalled}
 use Rattle.xc_dance.specs.Links.Cells.{nodes_after, line_of}
 use Rattle.xc_dance.specs.Links.ItemCells.{items_after}
 use Rattle.xc_dance.specs.Links.Made.{CanMake, CanUnmake, nodes_made, items_made, nodes_unmade, items_unmade, made_cost, unmade_cost, IsFitted}

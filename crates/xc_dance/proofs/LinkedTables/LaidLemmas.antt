@@ -6,7 +6,7 @@ use Rattle.std.proofs.lemmas.Bool.{eqb-false, false≢true}
 use Rattle.std.proofs.lemmas.List.Folds.{list_any-append}
 use Rattle.xc_input.specs.declared.problem.Use.{Use}
 use Rattle.xc_input.specs.Problem.{Puzzle, Numbered, numbered_options, numbered_from, item_count, colour_in, uses_of}
-use Rattle.xc_dance.specs.Fields.{Node, unused, own, spacer, used, layout, nodes_of, is_use_of, place_of, link_place}
+use Rattle.xc_dance.specs.Fields.{Node, own, spacer, used, layout, nodes_of, is_use_of, place_of, link_place}
 use Rattle.xc_dance.specs.Links.Cells.{slot_of}
 use Rattle.xc_dance.specs.Links.Laid.{IsName, Placed, IsLaid, IsFit, AreDistinct}
 use Rattle.xc_dance.proofs.LinkedTables.OptionNumbers.{IsOption, options_numbered}

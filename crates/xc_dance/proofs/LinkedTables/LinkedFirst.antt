@@ -6,7 +6,7 @@ use Rattle.xc_input.specs.declared.problem.Use.{Use}
 use Rattle.xc_input.specs.Problem.{Puzzle, item_count}
 use Rattle.xc_dance.specs.Moves.{listed, listed_numbers}
 use Rattle.xc_dance.specs.Rising.{Rises}
-use Rattle.xc_dance.specs.Fields.{Node, unused, own, spacer, used, layout, link_place, is_in}
+use Rattle.xc_dance.specs.Fields.{Node, own, used, layout, link_place, is_in}
 use Rattle.xc_dance.specs.Links.Laid.{IsFit}
 use Rattle.xc_dance.specs.Links.Lines.{Line}
 use Rattle.xc_dance.specs.Links.Cells.{top_in, ulink_in, dlink_in, color_in, line_of, up_of, down_of, nodes_from, nodes_after}

@@ -5,7 +5,7 @@ use Rattle.xc_dance.specs.declared.dance.Move.TheVariants.{Cover, Purify, Tweak,
 use Rattle.xc_dance.specs.Links.Span.{Span}
 use Rattle.xc_input.specs.Problem.{Puzzle, item_count}
 use Rattle.xc_dance.specs.Moves.{is_covered, AreLegal, IsLegal, listed_numbers}
-use Rattle.xc_dance.specs.Fields.{Node, unused, own, spacer, used, link_place, first_of}
+use Rattle.xc_dance.specs.Fields.{Node, unused, link_place, first_of}
 use Rattle.xc_dance.specs.Links.Cells.{color_in, nodes_after, line_of}
 use Rattle.xc_dance.specs.Links.ItemCells.{items_after}
 use Rattle.xc_dance.specs.Links.Laid.{IsLaid}

@@ -1,12 +1,12 @@
 -- Cover on the item table: an item leaves its ring and comes back.
-use Rattle.std.proofs.Common.{◌≡◌, ◌≢◌, ℕ, zero, suc, ◌+◌, ◌<◌, ◌≤◌, ◌⊎◌, inl, inr, Bool, true, false, not, cond, ◌&&◌, ◌||◌, eqb, leb, List, [], ◌∷◌, length, map, filter, get_or, set, refl, ap, ap₂, sym, subst, ◌∙◌, arith, eq-eqb, ne_eqb, le-leb, leb-true}
+use Rattle.std.proofs.Common.{◌≡◌, ◌≢◌, ℕ, zero, suc, ◌+◌, ◌<◌, ◌≤◌, ◌⊎◌, inl, inr, Bool, true, false, not, cond, ◌&&◌, ◌||◌, eqb, leb, List, ◌∷◌, length, map, filter, get_or, set, refl, ap, ap₂, sym, subst, ◌∙◌, arith, eq-eqb, ne_eqb, le-leb, leb-true}
 use Rattle.std.specs.List.{range_with_len}
 use Rattle.std.proofs.lemmas.Bool.{false≢true, not-true, and_parts, lt-leb, leb-false}
 use Rattle.std.proofs.lemmas.List.Elements.{filter_agree}
 use Rattle.xc_dance.specs.declared.dance.Move.{Move}
-use Rattle.xc_dance.specs.declared.dance.Move.TheVariants.{Cover, Purify, Tweak, Spend}
+use Rattle.xc_dance.specs.declared.dance.Move.TheVariants.{Cover}
 use Rattle.xc_input.specs.Problem.{Puzzle, primary_count, item_count}
-use Rattle.xc_dance.specs.Moves.{IsLegal, is_open, is_covered}
+use Rattle.xc_dance.specs.Moves.{IsLegal, is_covered}
 use Rattle.xc_dance.specs.Fields.{ring_of, ring_head, left_of, right_of, first_of, last_of, last_below, first_above, is_in}
 use Rattle.xc_dance.specs.Links.ItemCells.{items_after, llink_at, rlink_at}
 use Rattle.xc_dance.specs.Links.Rings.{left_ring, back_in_ring}

@@ -9,7 +9,7 @@ use Rattle.xc_dance.specs.declared.links.nodes.Nodes.{Nodes}
 use Rattle.xc_dance.specs.Links.Span.{Span}
 use Rattle.xc_input.specs.Problem.{Puzzle, item_count, uses_of}
 use Rattle.xc_dance.specs.Moves.{listed, is_open, AreLegal, listed_numbers}
-use Rattle.xc_dance.specs.Fields.{Node, unused, own, spacer, used, layout, link_place, first_of, is_in}
+use Rattle.xc_dance.specs.Fields.{Node, unused, own, layout, link_place, first_of, is_in}
 use Rattle.xc_dance.specs.Links.Lines.{Line}
 use Rattle.xc_dance.specs.Links.Steps.{HasSize, NamesPlaces, unlinked, relinked, others_of, CanHideNode, CanShowNode, hide_costs, show_costs}
 use Rattle.xc_dance.specs.Links.Tweaking.{hidden_unless, shown_unless, tweaked, untweaked, CanTweak, CanTweakAt, CanUntweak, tweak_cost, untweak_cost}

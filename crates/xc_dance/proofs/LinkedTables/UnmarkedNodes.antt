@@ -8,11 +8,11 @@ use Rattle.std.proofs.lemmas.Option.{slice_get_within, slice_get-get_or, same_So
 use Rattle.xc_input.specs.declared.problem.Use.{Use}
 use Rattle.xc_input.specs.Problem.{Puzzle, colour_in, uses_of, item_count, option_count}
 use Rattle.xc_dance.specs.declared.dance.Move.{Move}
-use Rattle.xc_dance.specs.declared.dance.Move.TheVariants.{Cover, Purify, Tweak, Spend}
+use Rattle.xc_dance.specs.declared.dance.Move.TheVariants.{Purify}
 use Rattle.xc_dance.specs.declared.links.nodes.Nodes.{Nodes}
 use Rattle.xc_dance.specs.Links.Span.{Span}
 use Rattle.xc_dance.specs.Moves.{AreLegal, listed_numbers}
-use Rattle.xc_dance.specs.Fields.{Node, unused, own, spacer, used, layout, spacer_place, is_in, is_marked}
+use Rattle.xc_dance.specs.Fields.{Node, unused, own, used, layout, spacer_place, is_in, is_marked}
 use Rattle.xc_dance.specs.Links.Cells.{color_in, nodes_after}
 use Rattle.xc_dance.specs.Links.Laid.{IsLaid}
 use Rattle.xc_dance.specs.Links.Made.{IsFitted}

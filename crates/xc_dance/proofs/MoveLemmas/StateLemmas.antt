@@ -6,7 +6,7 @@ use Rattle.std.specs.List.{range_with_len}
 use Rattle.std.proofs.lemmas.Bool.{lt-ltb, le-ltb, and_parts, not-true}
 use Rattle.std.proofs.Math.Bool.{and-true, and-false}
 use Rattle.xc_dance.specs.declared.dance.Move.{Move}
-use Rattle.xc_dance.specs.declared.dance.Move.TheVariants.{Cover, Purify, Tweak, Spend}
+use Rattle.xc_dance.specs.declared.dance.Move.TheVariants.{Cover, Purify}
 use Rattle.xc_dance.specs.declared.lists.item_states.ItemState.{ItemState}
 use Rattle.xc_dance.specs.declared.lists.item_states.ItemState.TheVariants.{Open, Covered, Purified}
 use Rattle.xc_input.specs.Problem.{Puzzle, Bounds, item_count, high_at, numbered_get, IsWithinLimits}

@@ -4,7 +4,7 @@ use Rattle.xc_dance.specs.Fields.{layout}
 use Rattle.xc_dance.specs.Links.OptionPlaces.{place_at}
 use Rattle.xc_dance.specs.Links.FirstNodes.{laid_to}
 use Rattle.xc_dance.proofs.LinkedTables.OptionReach.{uses_here}
-use Rattle.xc_dance.proofs.LinkedTables.PlaceLemmas.{place_first, place_within, layout_small, layout_len, option_fits}
+use Rattle.xc_dance.proofs.LinkedTables.PlaceLemmas.{place_within, layout_small, layout_len, option_fits}
 use Rattle.xc_dance.proofs.LinkedTables.LaidNodes.{up_next}
 use Rattle.xc_dance.proofs.links.first_nodes.lay_options.Goals as goal
 

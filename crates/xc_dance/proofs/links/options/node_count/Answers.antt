@@ -2,7 +2,7 @@ use Rattle.std.proofs.Common.{arith, ◌≡◌, ◌+◌, ◌<◌, ◌∙◌, ap}
 use Rattle.xc_input.specs.Problem.{option_count}
 use Rattle.xc_dance.specs.Links.OptionPlaces.{start_at}
 use Rattle.xc_dance.proofs.LinkedTables.OptionReach.{uses_here}
-use Rattle.xc_dance.proofs.LinkedTables.PlaceLemmas.{OptionFits, option_fits, place_first, layout_len}
+use Rattle.xc_dance.proofs.LinkedTables.PlaceLemmas.{OptionFits, option_fits, layout_len}
 use Rattle.xc_dance.proofs.links.options.node_count.Goals as goal
 use Rattle.xc_dance.proofs.links.options.node_count.Goals.{After-option}
 

@@ -1,8 +1,8 @@
-use Rattle.std.proofs.Common.{◌+◌, ◌-◌, refl, arith}
+use Rattle.std.proofs.Common.{◌+◌, arith}
 use Rattle.xc_dance.specs.Links.Columns.{columns}
-use Rattle.xc_dance.specs.Links.Steps.{hide_cost, places}
-use Rattle.xc_dance.proofs.LinkedTables.Places.{places_none, places_more}
-use Rattle.xc_dance.proofs.LinkedTables.Walks.{underway, step_can, step_on, steps_end}
+use Rattle.xc_dance.specs.Links.Steps.{places}
+use Rattle.xc_dance.proofs.LinkedTables.Places.{places_more}
+use Rattle.xc_dance.proofs.LinkedTables.Walks.{step_can, step_on}
 use Rattle.xc_dance.proofs.links.steps.hide_range.Goals as goal
 
 pub hide_one-count-requires-clause-can : goal.hide_one-count-requires-clause-can

@@ -1,8 +1,8 @@
-use Rattle.std.proofs.Common.{◌-◌, ap, reverse, refl, arith}
+use Rattle.std.proofs.Common.{◌-◌, reverse, arith}
 use Rattle.xc_dance.specs.Links.Columns.{columns}
-use Rattle.xc_dance.specs.Links.Steps.{hide_cost, places}
-use Rattle.xc_dance.proofs.LinkedTables.Places.{places_none, last_first}
-use Rattle.xc_dance.proofs.LinkedTables.Walks.{underway, step_can, step_on, steps_end}
+use Rattle.xc_dance.specs.Links.Steps.{places}
+use Rattle.xc_dance.proofs.LinkedTables.Places.{last_first}
+use Rattle.xc_dance.proofs.LinkedTables.Walks.{step_can, step_on}
 use Rattle.xc_dance.proofs.links.steps.show_range.Goals as goal
 
 pub show_one-count-requires-clause-can : goal.show_one-count-requires-clause-can

@@ -2,8 +2,7 @@ use Rattle.std.proofs.Common.{◌<◌, length, get_or, sym, subst, arith}
 use Rattle.xc_dance.specs.Links.Columns.{columns}
 use Rattle.xc_dance.specs.declared.links.nodes.Nodes.{Nodes}
 use Rattle.xc_dance.specs.Links.Steps.{list_of}
-use Rattle.xc_dance.specs.Links.ListWalks.{leave_cost}
-use Rattle.xc_dance.proofs.LinkedTables.Walks.{length-followed, following, follow_here, follow_on, follow_end}
+use Rattle.xc_dance.proofs.LinkedTables.Walks.{length-followed, follow_here, follow_on, follow_end}
 use Rattle.xc_dance.proofs.LinkedTables.UnmarkedNodes.{left_unmarked}
 use Rattle.xc_dance.proofs.links.walks.hide_list.Goals as goal
 use Rattle.xc_dance.proofs.links.walks.hide_list.Goals.{In-loop}
