@@ -1,9 +1,9 @@
 -- What the tables answer, against what the moves make of the lists.
-use Rattle.std.proofs.Common.{◌≡◌, ℕ, zero, suc, ◌+◌, ◌-◌, ◌<◌, ◌≤◌, Bool, true, false, not, cond, ◌&&◌, eqb, List, [], ◌∷◌, length, get_or, Some, None, Option, filter, refl, ap, ap₂, sym, subst, ◌∙◌, arith, eqb-true, ne_eqb, le-leb}
+use Rattle.std.proofs.Common.{◌≡◌, ℕ, zero, suc, ◌+◌, ◌-◌, ◌<◌, ◌≤◌, Bool, true, false, not, cond, eqb, List, [], ◌∷◌, length, get_or, Some, None, Option, filter, refl, ap, ap₂, sym, subst, ◌∙◌, arith, eqb-true, ne_eqb, le-leb}
 use Rattle.std.specs.Prelude.{is_some, unwrap_or}
 use Rattle.std.specs.List.{range_with_len}
 use Rattle.xc_dance.specs.declared.dance.Move.{Move}
-use Rattle.xc_dance.specs.declared.dance.Move.TheVariants.{Cover, Purify, Tweak, Spend}
+use Rattle.xc_dance.specs.declared.dance.Move.TheVariants.{Purify, Spend}
 use Rattle.xc_input.specs.Problem.{Puzzle, primary_count, item_count, high_at, IsPrimary}
 use Rattle.xc_dance.specs.Moves.{is_open, is_covered, purified, spends, AreLegal, listed, next_above, open_items}
 use Rattle.xc_dance.specs.Fields.{own, layout, first_above, ring_of}
@@ -14,24 +14,19 @@ use Rattle.xc_dance.specs.Links.Answered.{named}
 use Rattle.xc_dance.proofs.MoveLemmas.ListLemmas.{next_above-gt}
 use Rattle.xc_dance.proofs.LinkedTables.Mapped.{get_map}
 use Rattle.xc_dance.proofs.LinkedTables.RingStep.{row_get, row_len}
-use Rattle.xc_dance.proofs.LinkedTables.Covered.{open_or_covered}
-use Rattle.xc_dance.proofs.MoveLemmas.StateLemmas.{open_unpurified}
+use Rattle.xc_dance.proofs.MoveLemmas.StateLemmas.{open_or_covered}
 use Rattle.std.proofs.lemmas.Option.{slice_get_within}
-use Rattle.std.proofs.Math.Bool.{and-false, and-true}
 
 -- ---- bounds
 
 pub spent_within : (p : Puzzle) (t : List Move) (i : ℕ) → AreLegal p t → spends i t ≤ high_at p i
 spent_within p [] i legal = omega arith
 spent_within p (Spend j ∷ t) i legal =
-    let rest = spent_within p t i legal.1 in
     elim (eqb i j) as (λ b. eqb i j ≡ b → cond b 1 0 + spends i t ≤ high_at p i) [
       | true ↦ λ e. let lt : spends i t < high_at p i = subst (λ k. spends k t < high_at p k) (sym (eqb-true i j e)) legal.0.1 in omega (arith, lt)
-      | false ↦ λ e. omega (arith, rest)
+      | false ↦ λ e. omega (arith, spent_within p t i legal.1)
     ] refl
-spent_within p (Cover j ∷ t) i legal = spent_within p t i legal.1
-spent_within p (Purify j c ∷ t) i legal = spent_within p t i legal.1
-spent_within p (Tweak j ∷ t) i legal = spent_within p t i legal.1
+spent_within p (_ ∷ t) i legal = spent_within p t i legal.1
 
 pub bound_here : (p : Puzzle) (t : List Move) (i : ℕ) → IsPrimary p i → get_or (items_after p t).bound i 0 ≡ high_at p i - spends i t
 bound_here p t i is =
@@ -61,9 +56,7 @@ purified_above p (Purify j d ∷ t) i c legal e =
       | true ↦ λ f. (let same : d ≡ c = cc in subst (λ k. 0 < k) same legal.0.2)
       | false ↦ λ f. purified_above p t i c legal.1 f
     ] e
-purified_above p (Cover j ∷ t) i c legal e = purified_above p t i c legal.1 e
-purified_above p (Tweak j ∷ t) i c legal e = purified_above p t i c legal.1 e
-purified_above p (Spend j ∷ t) i c legal e = purified_above p t i c legal.1 e
+purified_above p (_ ∷ t) i c legal e = purified_above p t i c legal.1 e
 
 pub purified_read : (p : Puzzle) (t : List Move) (i : ℕ) → AreLegal p t → not (eqb (unwrap_or (purified i t) 0) 0) ≡ is_some (purified i t)
 purified_read p t i legal = by_colour (purified i t) refl
@@ -71,16 +64,6 @@ purified_read p t i legal = by_colour (purified i t) refl
     by_colour : (o : Option ℕ) → purified i t ≡ o → not (eqb (unwrap_or o 0) 0) ≡ is_some o
     by_colour None e = refl
     by_colour (Some c) e = let pos = purified_above p t i c legal e in ap not (ne_eqb c 0 (λ z. omega (arith, z, pos)))
-
-pub open_is : (t : List Move) (i : ℕ) → (not (is_covered i t) && not (is_some (purified i t))) ≡ is_open i t
-open_is t i = by_colour (purified i t) refl
-  where
-    by_colour : (o : Option ℕ) → purified i t ≡ o → (not (is_covered i t) && not (is_some o)) ≡ is_open i t
-    by_colour None e = and-true (not (is_covered i t)) ∙ sym (open_or_covered i t e)
-    by_colour (Some c) e = and-false (not (is_covered i t)) ∙ elim (is_open i t) as (λ b. is_open i t ≡ b → false ≡ b) [
-      | true ↦ λ f. (let g = open_unpurified i t f in cc)
-      | false ↦ λ f. refl
-    ] refl
 
 -- ---- the number above, with 0 for none
 
@@ -98,9 +81,7 @@ primary_unpurified p [] i legal le = refl
 primary_unpurified p (Purify j c ∷ t) i legal le =
     let gt : primary_count p < j = legal.0.0.0 in
     ap (λ b. cond b (Some c) (purified i t)) (ne_eqb i j (λ e. omega (arith, e, gt, le))) ∙ primary_unpurified p t i legal.1 le
-primary_unpurified p (Cover j ∷ t) i legal le = primary_unpurified p t i legal.1 le
-primary_unpurified p (Tweak j ∷ t) i legal le = primary_unpurified p t i legal.1 le
-primary_unpurified p (Spend j ∷ t) i legal le = primary_unpurified p t i legal.1 le
+primary_unpurified p (_ ∷ t) i legal le = primary_unpurified p t i legal.1 le
 
 same_filter : (f g : ℕ → Bool) (a n : ℕ) → ((k : ℕ) → k < a + n → f k ≡ g k) → filter f (range_with_len a n) ≡ filter g (range_with_len a n)
 same_filter f g a zero h = refl

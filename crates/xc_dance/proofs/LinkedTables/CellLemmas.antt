@@ -47,8 +47,7 @@ item_row p inner first last q =
           | true ↦ λ g. let h = eqb-true q (item_count p + 1) g in rw (lt-ltb q (item_count p + 2) (omega (arith, h))) refl
           | false ↦ λ g.
               let ne = eqb-false q (item_count p + 1) g in
-              let gt = leb-false q (item_count p) f in
-              rw (le-ltb q (item_count p + 2) (omega (arith, ne, gt))) refl
+              rw (le-ltb q (item_count p + 2) (omega (arith, ne, leb-false q (item_count p) f))) refl
         ] refl
       ] refl
     ] refl
@@ -86,11 +85,9 @@ top_cell p t q laid fit few = node_read p (top_in (line_of p t)) top_read (top_o
     by_node unused e = refl
     by_node (own i) e =
         let long = length-map (listed p t i) (λ o. o.number) in
-        let a = numbers_few p t i in
-        let b = fit.few in
-        read_small (length (listed p t i)) (omega (arith, long, a, b))
+        read_small (length (listed p t i)) (omega (arith, long, numbers_few p t i, fit.few))
     by_node (spacer n) e = spacer_top n
-    by_node (used o u) e = let r = laid.ranged q (used o u) u.item o e refl in read_small u.item (omega (arith, r.1, few))
+    by_node (used o u) e = let r = laid.nodes.ranged q (used o u) u.item o e refl in read_small u.item (omega (arith, r.1, few))
 
 pub ulink_cell : (p : Puzzle) (t : List Move) (q : ℕ) → IsLaid p → option_map natural (slice_get (nodes_after p t).ulink q) ≡ field_of p t Ulink q
 ulink_cell p t q laid = node_read p (ulink_in p (line_of p t)) natural (λ n. pos (ulink_of p t n)) q by_node
@@ -100,7 +97,7 @@ ulink_cell p t q laid = node_read p (ulink_in p (line_of p t)) natural (λ n. po
     by_node (own i) e = refl
     by_node (spacer zero) e = refl
     by_node (spacer (suc n)) e = refl
-    by_node (used zero u) e = let h = laid.numbered q 0 u e in absurd (omega (arith, h))
+    by_node (used zero u) e = let h = laid.nodes.numbered q 0 u e in absurd (omega (arith, h))
     by_node (used (suc o) u) e = refl
 
 pub dlink_cell : (p : Puzzle) (t : List Move) (q : ℕ) → IsLaid p → option_map natural (slice_get (nodes_after p t).dlink q) ≡ field_of p t Dlink q
@@ -110,7 +107,7 @@ dlink_cell p t q laid = node_read p (dlink_in p (line_of p t)) natural (λ n. po
     by_node unused e = refl
     by_node (own i) e = refl
     by_node (spacer n) e = refl
-    by_node (used zero u) e = let h = laid.numbered q 0 u e in absurd (omega (arith, h))
+    by_node (used zero u) e = let h = laid.nodes.numbered q 0 u e in absurd (omega (arith, h))
     by_node (used (suc o) u) e = refl
 
 small_color : (v : ℕ) → v < 4294967295 → color_read v ≡ pos v
@@ -140,11 +137,11 @@ color_use p t q laid fit gt = node_read p (color_in p t) color_read (color_of p 
     by_node unused e = refl
     by_node (own i) e =
         let at : i ≡ q = laid.unique q (own i) i 0 e refl in
-        let r = laid.ranged q (own i) i 0 e refl in
+        let r = laid.nodes.ranged q (own i) i 0 e refl in
         absurd (omega (arith, at, r.1, gt))
     by_node (spacer n) e = refl
     by_node (used o u) e =
-        let small = colour_small (uses_of p o) u.item u.colour (fit.colours o) (laid.coloured q o u e) in
+        let small = colour_small (uses_of p o) u.item u.colour (fit.colours o) (laid.nodes.coloured q o u e) in
         elim (is_marked p t u.item o u.colour) as (λ b. color_read (cond b 4294967295 u.colour) ≡ cond b (neg_ℤ (pos 1)) (pos u.colour)) [ true ↦ refl | false ↦ small_color u.colour small ]
 
 -- ---- bounds
@@ -157,8 +154,7 @@ bound_row p f q ne =
     ∙ elim (leb q (primary_count p)) as (λ b. leb q (primary_count p) ≡ b → option_map natural (cond (ltb q (primary_count p + 1)) (Some (f q)) None) ≡ cond (true && b) (Some (pos (f q))) None) [
       | true ↦ λ e. let h = leb-true q (primary_count p) e in rw (lt-ltb q (primary_count p + 1) (omega (arith, h))) refl
       | false ↦ λ e.
-          let over = leb-false q (primary_count p) e in
-          rw (le-ltb q (primary_count p + 1) (omega (arith, over))) refl
+          rw (le-ltb q (primary_count p + 1) (omega (arith, leb-false q (primary_count p) e))) refl
     ] refl
     ∙ ap (λ b. cond (b && leb q (primary_count p)) (Some (pos (f q))) None) (sym gt)
 

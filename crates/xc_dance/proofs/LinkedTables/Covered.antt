@@ -1,15 +1,16 @@
 -- Whether an item is covered, read from its ring.
-use Rattle.std.proofs.Common.{◌≡◌, ◌≢◌, ℕ, ◌+◌, ◌<◌, ◌≤◌, Bool, true, false, not, cond, ◌&&◌, ◌||◌, eqb, List, [], ◌∷◌, length, get_or, Some, None, refl, ap, sym, subst, ◌∙◌, arith, eqb-true, eq-eqb, ne_eqb}
+use Rattle.std.proofs.Common.{◌≡◌, ◌≢◌, ℕ, ◌+◌, ◌<◌, ◌≤◌, Bool, true, false, not, cond, ◌||◌, eqb, List, [], ◌∷◌, length, get_or, refl, ap, sym, subst, ◌∙◌, arith, eqb-true, eq-eqb, ne_eqb}
 use Rattle.std.proofs.lemmas.Bool.{false≢true}
 use Rattle.xc_dance.specs.declared.dance.Move.{Move}
 use Rattle.xc_dance.specs.declared.dance.Move.TheVariants.{Cover, Purify, Tweak, Spend}
 use Rattle.xc_input.specs.Problem.{Puzzle, item_count}
-use Rattle.xc_dance.specs.Moves.{is_open, is_covered, purified, AreLegal}
+use Rattle.xc_dance.specs.Moves.{is_covered, AreLegal}
 use Rattle.xc_dance.specs.Fields.{left_of, right_of, last_below, ring_head, ring_of}
 use Rattle.xc_dance.specs.Links.ItemCells.{items_after, llink_at, rlink_at}
 use Rattle.xc_dance.specs.Links.Rings.{is_off}
 use Rattle.xc_dance.proofs.LinkedTables.RingStep.{row_get, row_len, still_left, still_rlink}
-use Rattle.xc_dance.proofs.LinkedTables.Turned.{side, rlink_next, right_beside, left_beside, beside_place, beside_covered, open_uncovered, rlink_back, llink_item}
+use Rattle.xc_dance.proofs.LinkedTables.Turned.{side, leftwards, rightwards, way_beside, way_next, way_back, beside_place, beside_covered}
+use Rattle.xc_dance.proofs.MoveLemmas.StateLemmas.{open_uncovered}
 
 -- what leads past a covered item
 pub record IsPast (p : Puzzle) (t : List Move) (i : ℕ) : Type 0 where
@@ -40,17 +41,17 @@ past_covered p (Cover k ∷ t) i legal pos le e =
       | true ↦ λ f g.
           let same : i ≡ k = eqb-true i k f in
           let un_i : is_covered i t ≡ false = ap (λ j. is_covered j t) same ∙ un in
-          let l_in : l < item_count p + 2 = beside_place p t (side p i) l (left_beside p t i pos le un_i).0 in
-          let leads : rlink_at p (Cover i ∷ t) l ≡ right_of p t i = rlink_next p t i pos le un_i l l_in ∙ ap (λ v. cond v (right_of p t i) (rlink_at p t l)) (eq-eqb l l refl) in
+          let l_in : l < item_count p + 2 = beside_place p t (side p i) l (way_beside p (rightwards p) t i pos le un_i).0 in
+          let leads : rlink_at p (Cover i ∷ t) l ≡ right_of p t i = way_next p (rightwards p) t i pos le un_i l l_in ∙ ap (λ v. cond v (right_of p t i) (rlink_at p t l)) (eq-eqb l l refl) in
           record {
             place = subst (λ j. j < item_count p + 2) (sym same_l) l_in;
-            past = λ h. (right_beside p t i pos le un_i).1 (sym leads ∙ ap (λ j. rlink_at p (Cover j ∷ t) l) same ∙ ap (rlink_at p next) (sym same_l) ∙ h);
+            past = λ h. (way_beside p (leftwards p) t i pos le un_i).1 (sym leads ∙ ap (λ j. rlink_at p (Cover j ∷ t) l) same ∙ ap (rlink_at p next) (sym same_l) ∙ h);
           }
       | false ↦ λ f g.
           let before = past_covered p t i legal.1 pos le g in
           let r = right_of p t k in
-          let r_ne : i ≢ r = beside_covered p t (side p k) r i (right_beside p t k k_pos k_le un).0 pos le g in
-          let leads : rlink_at p next l ≡ cond (eqb l (left_of p t k)) r (rlink_at p t l) = rlink_next p t k k_pos k_le un l before.place in
+          let r_ne : i ≢ r = beside_covered p t (side p k) r i (way_beside p (leftwards p) t k k_pos k_le un).0 pos le g in
+          let leads : rlink_at p next l ≡ cond (eqb l (left_of p t k)) r (rlink_at p t l) = way_next p (rightwards p) t k k_pos k_le un l before.place in
           let no : (v : Bool) → cond v r (rlink_at p t l) ≢ i = λ v. elim v as (λ v. cond v r (rlink_at p t l) ≢ i) [
             | true ↦ λ h. r_ne (sym h)
             | false ↦ before.past
@@ -71,33 +72,15 @@ pub off_is : (p : Puzzle) (t : List Move) (i : ℕ) → AreLegal p t → 0 < i �
 off_is p t i legal pos le =
     let n = item_count p + 2 in
     let l = left_of p t i in
-    let long_l = row_len (llink_at p t) n in
-    let long_r = row_len (rlink_at p t) n in
-    let get_l : get_or (items_after p t).llink i 0 ≡ l = row_get (llink_at p t) n i (omega (arith, le)) ∙ llink_item p t i pos le in
+    let get_l : get_or (items_after p t).llink i 0 ≡ l = row_get (llink_at p t) n i (omega (arith, le)) ∙ (leftwards p).at_item t i pos le in
     let both : (l < n) × (eqb (rlink_at p t l) i ≡ not (is_covered i t)) =
     elim (is_covered i t) as (λ b. is_covered i t ≡ b → (l < n) × (eqb (rlink_at p t l) i ≡ not b)) [
       | true ↦ λ e. let h = past_covered p t i legal pos le e in (h.place, ne_eqb (rlink_at p t l) i h.past)
-      | false ↦ λ e. (beside_place p t (side p i) l (left_beside p t i pos le e).0, eq-eqb (rlink_at p t l) i (rlink_back p t i pos le e))
+      | false ↦ λ e. (beside_place p t (side p i) l (way_beside p (rightwards p) t i pos le e).0, eq-eqb (rlink_at p t l) i (way_back p (rightwards p) t i pos le e))
     ] refl in
     let get_r : get_or (items_after p t).rlink (get_or (items_after p t).llink i 0) 0 ≡ rlink_at p t l = ap (λ k. get_or (items_after p t).rlink k 0) get_l ∙ row_get (rlink_at p t) n l both.0 in
     record {
-      place = omega (arith, long_l, le);
-      left = omega (arith, get_l, both.0, long_r);
+      place = omega (arith, row_len (llink_at p t) n, le);
+      left = omega (arith, get_l, both.0, row_len (rlink_at p t) n);
       is = ap (λ k. not (eqb k i)) get_r ∙ ap not both.1 ∙ elim (is_covered i t) as (λ b. not (not b) ≡ b) [ true ↦ refl | false ↦ refl ];
     }
-
--- an item that isn't purified is open where it isn't covered
-pub open_or_covered : (i : ℕ) (t : List Move) → purified i t ≡ None → is_open i t ≡ not (is_covered i t)
-open_or_covered i [] e = refl
-open_or_covered i (Cover j ∷ t) e =
-    elim (eqb i j) as (λ b. (not b && is_open i t) ≡ not (b || is_covered i t)) [
-      | true ↦ refl
-      | false ↦ open_or_covered i t e
-    ]
-open_or_covered i (Purify j c ∷ t) e =
-    elim (eqb i j) as (λ b. cond b (Some c) (purified i t) ≡ None → (not b && is_open i t) ≡ not (is_covered i t)) [
-      | true ↦ λ f. cc
-      | false ↦ λ f. open_or_covered i t f
-    ] e
-open_or_covered i (Tweak j ∷ t) e = open_or_covered i t e
-open_or_covered i (Spend j ∷ t) e = open_or_covered i t e

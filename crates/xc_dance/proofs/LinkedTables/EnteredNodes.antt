@@ -8,7 +8,7 @@ use Rattle.std.proofs.lemmas.Option.{slice_get_within}
 use Rattle.xc_input.specs.declared.problem.Use.{Use}
 use Rattle.xc_input.specs.Problem.{Puzzle, Numbered, numbered_options, item_count, colour_in, uses_of, IsWithinLimits}
 use Rattle.xc_dance.specs.declared.links.nodes.Nodes.{Nodes}
-use Rattle.xc_dance.specs.Fields.{Node, unused, own, spacer, used, layout, nodes_of, link_place}
+use Rattle.xc_dance.specs.Fields.{Node, own, spacer, used, layout, nodes_of, link_place}
 use Rattle.xc_dance.specs.Links.Lines.{Line}
 use Rattle.xc_dance.specs.Links.Laid.{IsName, Placed, IsLaid, IsFit}
 use Rattle.xc_dance.specs.Links.Cells.{top_in, color_in, fixed_up, fixed_down, nodes_from}
@@ -120,7 +120,7 @@ use_step p q o u fit limits e =
     let ns = take q (layout p) in
     let ln = lines_of ns in
     let laid = is_laid p fit in
-    let range = laid.ranged q (used o u) j o e refl in
+    let range = laid.nodes.ranged q (used o u) j o e refl in
     let tops = map (top_in ln) (layout p) in
     let ups = column p (λ k x. (ln k).up x) (fixed_up p) in
     let long : length tops ≡ length (layout p) = length-map (layout p) (top_in ln) in
@@ -129,20 +129,17 @@ use_step p q o u fit limits e =
     let name : IsName p j ((ln j).up 0) = grown_last (IsName p j) (held j ns) (inl refl) (held_each (IsName p j) j ns (λ k x v f same. use_name p k x j v fit (take_get q k (layout p) (used x v) f) same)) in
     let last = laid.there j ((ln j).up 0) range.0 range.1 name in
     let is_i : get_or tops q 0 ≡ j = get_map (top_in ln) (layout p) q (used o u) e in
-    let at_head = slice_get_within (layout p) j (own j) (laid.head j range.0 range.1) in
-    let at_last = slice_get_within (layout p) (link_place p j ((ln j).up 0)) last.node last.at in
     let is_u : get_or ups (get_or tops q 0) 0 ≡ link_place p j ((ln j).up 0) = ap (λ k. get_or ups k 0) is_i ∙ get_link p (λ k x. (ln k).up x) (fixed_up p) j 0 head in
     let count : get_or tops (get_or tops q 0) 0 ≡ (ln j).len = ap (λ k. get_or tops k 0) is_i ∙ get_len p ln j laid range.0 range.1 in
     let within = slice_get_within (layout p) q (used o u) e in
     let size = length-take-le q (layout p) (omega (arith, within)) in
     let few = lines_few j ns in
-    let small = layout_small p limits in
     record {
       is_item = is_i;
       item_small = omega (arith, range.1, limits.items);
-      item = omega (arith, is_i, long, at_head);
-      last = omega (arith, is_u, long, at_last);
-      few = omega (arith, count, few, size, small, within);
+      item = omega (arith, is_i, long, slice_get_within (layout p) j (own j) (laid.head j range.0 range.1));
+      last = omega (arith, is_u, long, slice_get_within (layout p) (link_place p j ((ln j).up 0)) last.node last.at);
+      few = omega (arith, count, few, size, layout_small p limits, within);
       done = entered-is p ln (color_in p []) q o u laid e here head last range
           ∙ nodes_same p (with_line ln j (grown (ln j) o)) (lines_of (take (q + 1) (layout p))) (color_in p []) (line_then p q o u e);
     }
@@ -160,10 +157,9 @@ spacer_top p ln col q n e = get_map (top_in ln) (layout p) q (spacer n) e
 -- ---- behind the items' own nodes stand uses and spacers alone
 
 abbrev pub IsUseOrSpacer : Node → Type 0
-IsUseOrSpacer unused = ⊥
-IsUseOrSpacer (own i) = ⊥
 IsUseOrSpacer (spacer n) = Unit {0}
 IsUseOrSpacer (used o u) = Unit {0}
+IsUseOrSpacer _ = ⊥
 
 all_used : (o : ℕ) (us : List Use) → AllByRecursion IsUseOrSpacer (map (used o) us)
 all_used o [] = tt

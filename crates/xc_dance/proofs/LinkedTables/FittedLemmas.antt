@@ -7,7 +7,7 @@ use Rattle.std.proofs.lemmas.List.Elements.{recursion_from_All}
 use Rattle.xc_input.specs.Problem.{Puzzle, Bounds, high_at, IsValid, IsWithinLimits}
 use Rattle.xc_input.specs.Named.{AreColoursKnown}
 use Rattle.xc_dance.specs.Links.Span.{Span}
-use Rattle.xc_dance.specs.Fields.{Node, unused, own, spacer, used, layout, is_spacer}
+use Rattle.xc_dance.specs.Fields.{Node, unused, used, layout, is_spacer}
 use Rattle.xc_dance.specs.Links.Laid.{IsFit}
 use Rattle.xc_dance.specs.Links.Made.{AreNear, IsFitted}
 use Rattle.xc_dance.specs.Links.OptionSpans.{span_of, spans_of}
@@ -25,10 +25,8 @@ prefix_most f [] = omega arith
 prefix_most f (n ∷ ns) = let rest = prefix_most f ns in elim (f n) as (λ b. f n ≡ b → prefix_len f (n ∷ ns) ≤ suc (length ns)) [ true ↦ λ e. rw e (omega (arith, rest)) | false ↦ λ e. rw e (omega arith) ] refl
 
 end_most : (p : Puzzle) (n : Node) → (span_of p n).end ≤ length (layout p)
-end_most p unused = omega arith
-end_most p (own i) = omega arith
-end_most p (spacer n) = omega arith
 end_most p (used o u) = prefix_most (λ n. not (is_spacer o n)) (layout p)
+end_most p _ = omega arith
 
 near : (p : Puzzle) → IsWithinLimits p → AreNear (spans_of p)
 near p limits =
@@ -38,8 +36,7 @@ near p limits =
       small = omega (arith, few, size);
       ends = λ k d lt. (let most = end_most p (get_or (layout p) k unused) in
           let is = get_or-map (span_of p) (layout p) k unused d (omega (arith, lt, size)) in
-          let same = ap (λ (s : Span). s.end) is in
-          omega (arith, most, few, same));
+          omega (arith, most, few, ap (λ (s : Span). s.end) is));
     }
 
 high_most : (bs : List Bounds) (k : ℕ) → AllByRecursion (λ (b : Bounds). b.high ≤ 999999999) bs → (unwrap_or (slice_get bs k) (record { low = 0; high = 0 })).high ≤ 999999999

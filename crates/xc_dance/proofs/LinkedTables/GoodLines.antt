@@ -17,8 +17,7 @@ use Rattle.xc_dance.proofs.MoveLemmas.Shortened.{IsHolder, holds_use, holders}
 pub numbers_few : (p : Puzzle) (t : List Move) (j : ℕ) → length (listed_numbers p t j) ≤ length p.options
 numbers_few p t j =
     let a : length (listed_numbers p t j) ≡ length (listed p t j) = length-map (listed p t j) (λ o. o.number) in
-    let b = length-listed p t j in
-    omega (arith, a, b)
+    omega (arith, a, length-listed p t j)
 
 pub numbers_named : (p : Puzzle) (t : List Move) (j : ℕ) → AllByRecursion (Named p j) (listed_numbers p t j)
 numbers_named p t j =

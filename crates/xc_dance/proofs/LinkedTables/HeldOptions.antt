@@ -6,7 +6,7 @@ use Rattle.std.proofs.lemmas.Bool.{false≢true}
 use Rattle.xc_input.specs.declared.problem.Use.{Use}
 use Rattle.xc_input.specs.Problem.{Puzzle, Numbered, numbered_options, holding, colour_in, item_count}
 use Rattle.xc_dance.specs.Moves.{listed_numbers}
-use Rattle.xc_dance.specs.Fields.{Node, unused, own, spacer, used, layout, nodes_of, is_in}
+use Rattle.xc_dance.specs.Fields.{Node, own, spacer, used, layout, nodes_of, is_in}
 use Rattle.xc_dance.specs.Links.Laid.{IsFit, AreDistinct}
 use Rattle.xc_dance.specs.Links.Lines.{Line}
 use Rattle.xc_dance.proofs.Copied.{take_more-get}
@@ -23,34 +23,28 @@ use Rattle.std.proofs.Math.Bool.{or-true}
 -- the options whose nodes of item j are among these
 abbrev pub held : ℕ → List Node → List ℕ
 held j [] = []
-held j (unused ∷ ns) = held j ns
-held j (own i ∷ ns) = held j ns
-held j (spacer n ∷ ns) = held j ns
 held j (used o u ∷ ns) = cond (eqb u.item j) (o ∷ held j ns) (held j ns)
+held j (_ ∷ ns) = held j ns
 
 abbrev pub lines_of : List Node → ℕ → Line
 lines_of ns j = grown_all (held j ns)
 
 pub length-held : (j : ℕ) (ns : List Node) → length (held j ns) ≤ length ns
 length-held j [] = omega arith
-length-held j (unused ∷ ns) = let h = length-held j ns in omega (arith, h)
-length-held j (own i ∷ ns) = let h = length-held j ns in omega (arith, h)
-length-held j (spacer n ∷ ns) = let h = length-held j ns in omega (arith, h)
 length-held j (used o u ∷ ns) = let h = length-held j ns in elim (eqb u.item j) as (λ b. length (cond b (o ∷ held j ns) (held j ns)) ≤ suc (length ns)) [ true ↦ omega (arith, h) | false ↦ omega (arith, h) ]
+length-held j (_ ∷ ns) = let h = length-held j ns in omega (arith, h)
 
 pub lines_few : (j : ℕ) (ns : List Node) → (lines_of ns j).len ≤ length ns
 lines_few j ns = let a = grown_len (held j ns) in let b = length-held j ns in omega (arith, a, b)
 
 pub held-append : (j : ℕ) (ms ns : List Node) → held j (ms ++ ns) ≡ held j ms ++ held j ns
 held-append j [] ns = refl
-held-append j (unused ∷ ms) ns = held-append j ms ns
-held-append j (own i ∷ ms) ns = held-append j ms ns
-held-append j (spacer n ∷ ms) ns = held-append j ms ns
 held-append j (used o u ∷ ms) ns =
     elim (eqb u.item j) as (λ b. cond b (o ∷ held j (ms ++ ns)) (held j (ms ++ ns)) ≡ cond b (o ∷ held j ms) (held j ms) ++ held j ns) [
       | true ↦ ap (λ l. o ∷ l) (held-append j ms ns)
       | false ↦ held-append j ms ns
     ]
+held-append j (_ ∷ ms) ns = held-append j ms ns
 
 -- what one node more adds
 pub held_more : (j k : ℕ) (ns : List Node) (n : Node) → slice_get ns k ≡ Some n → held j (take (k + 1) ns) ≡ held j (take k ns) ++ held j (n ∷ [])
@@ -59,14 +53,12 @@ held_more j k ns n e = ap (held j) (take_more-get ns k n e) ∙ held-append j (t
 -- a fact of each option by its node
 pub held_each : (P : ℕ → Type 0) (j : ℕ) (ns : List Node) → ((k o : ℕ) (u : Use) → slice_get ns k ≡ Some (used o u) → u.item ≡ j → P o) → AllByRecursion P (held j ns)
 held_each P j [] h = tt
-held_each P j (unused ∷ ns) h = held_each P j ns (λ k o u e f. h (suc k) o u e f)
-held_each P j (own i ∷ ns) h = held_each P j ns (λ k o u e f. h (suc k) o u e f)
-held_each P j (spacer n ∷ ns) h = held_each P j ns (λ k o u e f. h (suc k) o u e f)
 held_each P j (used o u ∷ ns) h =
     elim (eqb u.item j) as (λ b. eqb u.item j ≡ b → AllByRecursion P (cond b (o ∷ held j ns) (held j ns))) [
       | true ↦ λ f. (h 0 o u refl (eqb-true u.item j f), held_each P j ns (λ k o u e f. h (suc k) o u e f))
       | false ↦ λ f. held_each P j ns (λ k o u e f. h (suc k) o u e f)
     ] refl
+held_each P j (_ ∷ ns) h = held_each P j ns (λ k o u e f. h (suc k) o u e f)
 
 -- each use's option is in its item's list
 pub held_in : (ns : List Node) (k o : ℕ) (u : Use) → slice_get ns k ≡ Some (used o u) → is_in o (held u.item ns) ≡ true
@@ -74,14 +66,12 @@ held_in [] k o u e = cc
 held_in (n ∷ ns) zero o u e =
     let same = same_Some n (used o u) e in
     ap (λ m. is_in o (held u.item (m ∷ ns))) same ∙ (let self = eq-eqb u.item u.item refl in let here = eq-eqb o o refl in rw (self, here) refl)
-held_in (unused ∷ ns) (suc k) o u e = held_in ns k o u e
-held_in (own i ∷ ns) (suc k) o u e = held_in ns k o u e
-held_in (spacer n ∷ ns) (suc k) o u e = held_in ns k o u e
 held_in (used m v ∷ ns) (suc k) o u e =
     elim (eqb v.item u.item) as (λ b. is_in o (cond b (m ∷ held u.item ns) (held u.item ns)) ≡ true) [
       | true ↦ ap (λ b. eqb m o || b) (held_in ns k o u e) ∙ or-true (eqb m o)
       | false ↦ held_in ns k o u e
     ]
+held_in (_ ∷ ns) (suc k) o u e = held_in ns k o u e
 
 -- ---- before the first option, and behind the last
 

@@ -142,8 +142,6 @@ purify_made p t spans i c legal f pos le opened =
     let long : length (map (color_in p t) (layout p)) ≡ length (layout p) = length-map (layout p) (color_in p t) in
     let long' : length (map (purify_start p t i c) (layout p)) ≡ length (layout p) = length-map (layout p) (purify_start p t i c) in
     let marked = kept_marked p t i c legal opened in
-    let costs = ap (λ (u : Nodes). walk_costs spans (Some c) u (list_of t0 i)) start ∙ w.costs in
-    let costs_back = w.costs_back in
     let none : get_or t0.color i 0 ≡ 0 = get_map (color_in p t) (layout p) i (own i) (laid.head i pos le) ∙ ap (λ o. unwrap_or o 0) (open_unpurified i t opened) in
     let back : fold (back_node spans (Some c)) next (list_back next i) ≡ t1 = w.undone in
     record {
@@ -153,6 +151,6 @@ purify_made p t spans i c legal f pos le opened =
       undone =
           ap (λ (u : Nodes). with_colour u i 0) (back ∙ sym start)
           ∙ same_nodes (with_colour (with_colour t0 i c) i 0) t0 refl refl refl (written_back t0.color i i c 0 refl none);
-      cost = omega (arith, costs, marked);
-      cost_back = omega (arith, costs_back, marked);
+      cost = omega (arith, ap (λ (u : Nodes). walk_costs spans (Some c) u (list_of t0 i)) start ∙ w.costs, marked);
+      cost_back = omega (arith, w.costs_back, marked);
     }

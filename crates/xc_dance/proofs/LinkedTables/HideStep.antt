@@ -1,5 +1,5 @@
 -- A walk down an open item's list leads from the node table after moves to that after one move more, and the walk back up from there to the one before.
-use Rattle.std.proofs.Common.{◌≡◌, ℕ, ◌+◌, ◌*◌, ◌<◌, ◌≤◌, Bool, true, false, not, eqb, List, ◌∷◌, length, map, fold, filter, reverse, Option, Some, refl, ap, sym, subst, ◌∙◌, arith, eqb-true}
+use Rattle.std.proofs.Common.{◌≡◌, ℕ, ◌+◌, ◌*◌, ◌<◌, ◌≤◌, Bool, true, false, not, eqb, List, ◌∷◌, length, filter, Option, Some, refl, sym, subst, ◌∙◌, arith, eqb-true}
 use Rattle.std.specs.Prelude.{slice_get}
 use Rattle.std.proofs.lemmas.Bool.{eqb-false, and_parts}
 use Rattle.xc_dance.specs.declared.dance.Move.{Move}
@@ -8,13 +8,12 @@ use Rattle.xc_dance.specs.Links.Span.{Span}
 use Rattle.xc_input.specs.Problem.{Puzzle, item_count}
 use Rattle.xc_dance.specs.Moves.{is_open, AreLegal, listed_numbers}
 use Rattle.xc_dance.specs.Lists.Losing.{is_kept}
-use Rattle.xc_dance.specs.Fields.{Node, layout, link_place}
-use Rattle.xc_dance.specs.Links.ListWalks.{left_node, back_node, IsWalk, IsWalkBack, walk_costs, back_costs}
-use Rattle.xc_dance.specs.Links.Cells.{color_in, nodes_from, nodes_after, line_of}
+use Rattle.xc_dance.specs.Fields.{Node, layout}
+use Rattle.xc_dance.specs.Links.Cells.{color_in, nodes_after, line_of}
 use Rattle.xc_dance.specs.Links.Others.{HasSpans}
 use Rattle.xc_dance.specs.Links.Laid.{IsLaid, IsFit}
 use Rattle.xc_dance.proofs.LinkedTables.Sweep.{Rises-filter}
-use Rattle.xc_dance.proofs.LinkedTables.OneList.{step_costs, left_list, leavers, marked_list, Passed, walked_table, listed_walk}
+use Rattle.xc_dance.proofs.LinkedTables.OneList.{Listed, step_costs, left_list, leavers, marked_list, Passed, walked_table, listed_walk}
 use Rattle.xc_dance.proofs.LinkedTables.OtherItems.{leaves, list_at}
 use Rattle.xc_dance.specs.Cost.{leaving}
 use Rattle.xc_dance.proofs.LinkedTables.LeavingCosts.{exchanged, costs_split, leaving_is}
@@ -70,19 +69,11 @@ hides_cost : (p : Puzzle) (t : List Move) (m : Move) (i : ℕ) (keep : Option �
 hides_cost p t m i keep start legal laid fit opened h =
     let gs = leavers p i keep (listed_numbers p t i) in
     let all = leaving_is p t m (λ j. filter (leaves p (color_in p t) i j) gs) (λ j r. hides_cut p t m i keep start j legal laid fit opened h r) in
-    let same = exchanged p (color_in p t) i gs fit in
-    let split = costs_split p (color_in p t) i keep (listed_numbers p t i) in
-    omega (arith, all, same, split)
+    omega (arith, all, exchanged p (color_in p t) i gs fit, costs_split p (color_in p t) i keep (listed_numbers p t i))
 
-pub record HideStep (p : Puzzle) (t : List Move) (spans : List Span) (m : Move) (i : ℕ) (keep : Option ℕ) (start : Node → ℕ) : Type 0 where
-  -- down i's list, from its first node
-  pub walk : IsWalk spans keep (nodes_from p (line_of p t) start) (link_place p i ((line_of p t i).down 0)) (map (link_place p i) (listed_numbers p t i))
-  pub done : fold (left_node spans keep) (nodes_from p (line_of p t) start) (map (link_place p i) (listed_numbers p t i)) ≡ nodes_after p (m ∷ t)
-  -- up again, from its last node
-  pub back : IsWalkBack spans keep (nodes_after p (m ∷ t)) (link_place p i ((line_of p t i).up 0)) (reverse (map (link_place p i) (listed_numbers p t i)))
-  pub undone : fold (back_node spans keep) (nodes_after p (m ∷ t)) (reverse (map (link_place p i) (listed_numbers p t i))) ≡ nodes_from p (line_of p t) start
-  pub costs : walk_costs spans keep (nodes_from p (line_of p t) start) (map (link_place p i) (listed_numbers p t i)) ≡ hide_writes p t m i keep
-  pub costs_back : back_costs spans keep (nodes_after p (m ∷ t)) (reverse (map (link_place p i) (listed_numbers p t i))) ≡ hide_writes p t m i keep
+-- the walk down i's list and the walk back, where they lead to the tables after the move m
+abbrev pub HideStep : Puzzle → List Move → List Span → Move → ℕ → Option ℕ → (Node → ℕ) → Type 0
+HideStep p t spans m i keep start = Listed p (color_in p t) start spans i keep (line_of p t) 0 (listed_numbers p t i) (nodes_after p (m ∷ t)) (hide_writes p t m i keep)
 
 pub hide_step : (p : Puzzle) (t : List Move) (spans : List Span) (m : Move) (i : ℕ) (keep : Option ℕ) (start : Node → ℕ) → AreLegal p t → IsLaid p → HasSpans p spans → IsFit p → 0 < i → i ≤ item_count p → is_open i t ≡ true
     → Hides p t m i keep start → HideStep p t spans m i keep start
@@ -90,15 +81,5 @@ hide_step p t spans m i keep start legal laid spanned fit pos le opened h =
     let xs = listed_numbers p t i in
     let w = listed_walk p (color_in p t) start spans i keep (line_of p t) (listed_numbers p t) 0 xs laid spanned pos le (all_good p t fit) (stands p t i)
     (each_ready p t i keep xs legal laid fit opened pos le (λ x e. e)) (rises_listed p t i) h.passed in
-    let end = hides_table p t m i keep start legal laid fit opened h in
-    let cost = hides_cost p t m i keep start legal laid fit opened h in
-    let q = link_place p i ((line_of p t i).up 0) in
-    let places = reverse (map (link_place p i) xs) in
-    record {
-      walk = w.walk;
-      done = w.done ∙ sym end;
-      back = subst (λ (u : Nodes). IsWalkBack spans keep u q places) (sym end) w.back;
-      undone = ap (λ (u : Nodes). fold (back_node spans keep) u places) end ∙ w.undone;
-      costs = w.costs ∙ cost;
-      costs_back = ap (λ (u : Nodes). back_costs spans keep u places) end ∙ w.costs_back ∙ cost;
-    }
+    let L : Nodes → ℕ → Type 0 = Listed p (color_in p t) start spans i keep (line_of p t) 0 xs in
+    subst (λ u. L u (hide_writes p t m i keep)) (sym (hides_table p t m i keep start legal laid fit opened h)) (subst (L (walked_table p (color_in p t) start i keep (line_of p t) xs)) (hides_cost p t m i keep start legal laid fit opened h) w)

@@ -6,7 +6,7 @@ use Rattle.std.proofs.lemmas.Bool.{eqb-false, false≢true}
 use Rattle.std.proofs.lemmas.List.Folds.{list_any-append}
 use Rattle.xc_input.specs.declared.problem.Use.{Use}
 use Rattle.xc_input.specs.Problem.{Puzzle, Numbered, numbered_options, numbered_from, item_count, colour_in, uses_of}
-use Rattle.xc_dance.specs.Fields.{Node, unused, own, spacer, used, layout, nodes_of, is_use_of, place_of, link_place}
+use Rattle.xc_dance.specs.Fields.{Node, own, spacer, used, layout, nodes_of, is_use_of, place_of, link_place}
 use Rattle.xc_dance.specs.Links.Cells.{slot_of}
 use Rattle.xc_dance.specs.Links.Laid.{IsName, Placed, IsLaid, IsFit, AreDistinct}
 use Rattle.xc_dance.proofs.LinkedTables.OptionNumbers.{IsOption, options_numbered}
@@ -116,10 +116,9 @@ place_is p k o u fit e = position_at (is_use_of o u.item) (layout p) k (used o u
 -- ---- what each node is
 
 abbrev pub NodeOk : Puzzle → Node → Type 0
-NodeOk p unused = Unit {0}
 NodeOk p (own i) = (0 < i) × (i ≤ item_count p)
-NodeOk p (spacer n) = Unit {0}
 NodeOk p (used o u) = (0 < o) × ((0 < u.item) × (u.item ≤ item_count p)) × (colour_in (uses_of p o) u.item ≡ Some u.colour)
+NodeOk p _ = Unit {0}
 
 owns_ok : (p : Puzzle) (a n : ℕ) → 0 < a → a + n ≤ item_count p + 1 → AllByRecursion (NodeOk p) (map own (range_with_len a n))
 owns_ok p a zero pos le = tt
@@ -167,10 +166,8 @@ head_is p zero pos le = absurd (omega arith)
 head_is p (suc k) pos le = let s : 1 + k ≡ suc k = omega arith in heads_at 1 (item_count p) (spacer 0 ∷ flat_map nodes_of (numbered_options p)) k (omega arith) ∙ ap (λ j. Some (own j)) s
 
 abbrev is_own : ℕ → Node → Bool
-is_own j unused = false
 is_own j (own i) = eqb i j
-is_own j (spacer n) = false
-is_own j (used o u) = false
+is_own j _ = false
 
 owns_none : (j a n : ℕ) → j < a → NonePass (is_own j) (map own (range_with_len a n))
 owns_none j a zero h = tt
@@ -233,10 +230,8 @@ any_node p (suc m) j pos e =
     (subst (λ k. list_any (is_use_of k j) (flat_map nodes_of (numbered_options p)) ≡ true) s (any_option j 1 m p.options e))
 
 slot_used : (x j : ℕ) (n : Node) → is_use_of x j n ≡ true → slot_of n ≡ Some (j, x)
-slot_used x j unused e = absurd (false≢true e)
-slot_used x j (own i) e = absurd (false≢true e)
-slot_used x j (spacer n) e = absurd (false≢true e)
 slot_used x j (used o u) e = ap₂ (λ a b. let r : ℕ × ℕ = (a, b) in Some r) (eqb-true u.item j (and_right (eqb o x) (eqb u.item j) e)) (eqb-true o x (and_left (eqb o x) (eqb u.item j) e))
+slot_used x j _ e = absurd (false≢true e)
 
 placed_used : (p : Puzzle) (j m : ℕ) → is_some (colour_in (uses_of p (suc m)) j) ≡ true → Placed p j (suc m)
 placed_used p j m e =
@@ -249,8 +244,6 @@ placed p j (suc m) pos le (inl z) = absurd (omega (arith, z))
 placed p j (suc m) pos le (inr h) = placed_used p j m h.1
 
 slot_place : (p : Puzzle) (k : ℕ) (n : Node) (j x : ℕ) → IsFit p → slice_get (layout p) k ≡ Some n → slot_of n ≡ Some (j, x) → link_place p j x ≡ k
-slot_place p k unused j x fit e f = cc
-slot_place p k (spacer n) j x fit e f = cc
 slot_place p k (own i) j x fit e f =
     let a : i ≡ j = ap item_of f in
     let b : 0 ≡ x = ap member_of f in
@@ -261,12 +254,12 @@ slot_place p k (used (suc o) u) j x fit e f =
     let a : u.item ≡ j = ap item_of f in
     let b : suc o ≡ x = ap member_of f in
     ap₂ (link_place p) (sym a) (sym b) ∙ place_is p k (suc o) u fit e
+slot_place p k _ j x fit e f = cc
 
 slot_range : (p : Puzzle) (n : Node) (j x : ℕ) → NodeOk p n → slot_of n ≡ Some (j, x) → (0 < j) × (j ≤ item_count p)
-slot_range p unused j x ok f = cc
-slot_range p (spacer n) j x ok f = cc
 slot_range p (own i) j x ok f = let a : i ≡ j = ap item_of f in (omega (arith, a, ok.0), omega (arith, a, ok.1))
 slot_range p (used o u) j x ok f = let a : u.item ≡ j = ap item_of f in (omega (arith, a, ok.1.0), omega (arith, a, ok.1.1))
+slot_range p _ j x ok f = cc
 
 -- the places of a fit problem
 pub is_laid : (p : Puzzle) → IsFit p → IsLaid p
@@ -274,8 +267,10 @@ is_laid p fit = record {
   unique = λ k n j x e f. slot_place p k n j x fit e f;
   there = placed p;
   head = head_is p;
-  ranged = λ k n j x e f. slot_range p n j x (each_at (NodeOk p) (layout p) k n (layout_ok p fit) e) f;
-  numbered = λ k o u e. (each_at (NodeOk p) (layout p) k (used o u) (layout_ok p fit) e).0;
-  coloured = λ k o u e. (each_at (NodeOk p) (layout p) k (used o u) (layout_ok p fit) e).2;
+  nodes = record {
+    ranged = λ k n j x e f. slot_range p n j x (each_at (NodeOk p) (layout p) k n (layout_ok p fit) e) f;
+    numbered = λ k o u e. (each_at (NodeOk p) (layout p) k (used o u) (layout_ok p fit) e).0;
+    coloured = λ k o u e. (each_at (NodeOk p) (layout p) k (used o u) (layout_ok p fit) e).2;
+  };
   small = fit.small;
 }

@@ -60,15 +60,13 @@ laid_size p k =
 pub up_next : (p : Puzzle) (o : ℕ) → o ≤ option_count p → place_at p o + 1 ≡ fixed_up p (spacer (o + 1))
 up_next p o le =
     let s : suc o ≡ o + 1 = omega arith in
-    let here = spacer_at p o le in
-    let is : place_at p o + 1 ≡ fixed_up p (spacer (suc o)) = omega (arith, here) in
+    let is : place_at p o + 1 ≡ fixed_up p (spacer (suc o)) = omega (arith, spacer_at p o le) in
     is ∙ ap (λ n. fixed_up p (spacer n)) s
 
 pub down_next : (p : Puzzle) (o : ℕ) (us : List Use) → o < option_count p → slice_get p.options o ≡ Some us → place_at p o + length us ≡ fixed_down p (spacer o)
 down_next p o us lt e =
     let here = spacer_at p (o + 1) (omega (arith, lt)) in
-    let next = place_next p o us e in
-    let is : place_at p o + length us ≡ spacer_place p (o + 1) - 1 = omega (arith, here, next) in
+    let is : place_at p o + length us ≡ spacer_place p (o + 1) - 1 = omega (arith, here, place_next p o us e) in
     rw (lt-ltb o (option_count p) lt) is
 
 -- ---- the rows

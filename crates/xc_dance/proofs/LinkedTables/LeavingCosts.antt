@@ -34,7 +34,6 @@ counted_over n f [] apart within = sym (total_zero 1 n)
 counted_over n f (j ∷ js) apart within =
     let rest = counted_over n f js apart.1 (λ k e. within k (ap (λ b. eqb j k || b) e ∙ or-true (eqb j k))) in
     let here = within j (ap (λ b. b || is_in j js) (eq-eqb j j refl)) in
-    let point = total_point j (one_if (f j)) 1 n here.0 here.1 in
     let sum = total_plus (λ k. cond (eqb j k) (one_if (f j)) 0) (λ k. one_if (is_in k js && f k)) 1 n in
     let same : total (λ k. one_if ((eqb j k || is_in k js) && f k)) 1 n ≡ total (λ k. cond (eqb j k) (one_if (f j)) 0 + one_if (is_in k js && f k)) 1 n =
     total_same _ _ 1 n (λ k u v.
@@ -47,8 +46,7 @@ counted_over n f (j ∷ js) apart within =
           omega (arith, fs, no)
       | false ↦ λ e. omega arith
     ] refl) in
-    let first = length_one (f j) j (filter f js) in
-    omega (arith, rest, point, sum, same, first)
+    omega (arith, rest, total_point j (one_if (f j)) 1 n here.0 here.1, sum, same, length_one (f j) j (filter f js))
 
 -- ---- some options
 
@@ -67,11 +65,10 @@ exchanged p col i (o ∷ os) fit =
     let named : is_some (colour_in (uses_of p o) k) ≡ true = (and_parts _ _ (sym (in_others p o i k (fit.distinct o)) ∙ e)).1 in
     let r = item_range p (uses_of p o) k (fit.items o) named in
     (omega (arith, r.0), omega (arith, r.1))) in
-    let rest = exchanged p col i os fit in
     let sum = total_plus (λ j. cond (leaves p col i j o) 1 0) (λ j. length (filter (leaves p col i j) os)) 1 n in
     let same : total (λ j. length (cond (leaves p col i j o) (o ∷ filter (leaves p col i j) os) (filter (leaves p col i j) os))) 1 n ≡ total (λ j. cond (leaves p col i j o) 1 0 + length (filter (leaves p col i j) os)) 1 n =
     total_same _ _ 1 n (λ j u v. length_one (leaves p col i j o) o (filter (leaves p col i j) os)) in
-    omega (arith, here, rest, sum, same)
+    omega (arith, here, exchanged p col i os fit, sum, same)
 
 -- the walk's costs: 1 for each option kept, 3 for each node that leaves
 pub costs_split : (p : Puzzle) (col : Node → ℕ) (i : ℕ) (keep : Option ℕ) (xs : List ℕ) → step_costs p col i keep xs ≡ length (filter (is_kept p i keep) xs) + 3 * total_gone p col i (leavers p i keep xs)
@@ -95,5 +92,4 @@ leaving_is p t m k cuts =
     let b : length (listed_numbers p (m ∷ t) j) ≡ length (listed p (m ∷ t) j) = length-map (listed p (m ∷ t) j) (λ o. o.number) in
     let gone : length (k j) ≡ length (filter c.test (listed_numbers p t j)) = ap length c.cut_is in
     let left : length (listed_numbers p (m ∷ t) j) ≡ length (filter (λ x. not (c.test x)) (listed_numbers p t j)) = ap length c.stay_is in
-    let all = parts c.test (listed_numbers p t j) in
-    omega (arith, a, b, gone, left, all))
+    omega (arith, a, b, gone, left, parts c.test (listed_numbers p t j)))

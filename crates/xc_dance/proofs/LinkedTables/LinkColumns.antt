@@ -3,7 +3,7 @@ use Rattle.std.proofs.Common.{◌≡◌, ◌≢◌, ℕ, ◌<◌, ◌≤◌, tru
 use Rattle.std.specs.Prelude.{slice_get}
 use Rattle.std.proofs.lemmas.List.{length-map}
 use Rattle.xc_input.specs.Problem.{Puzzle, item_count}
-use Rattle.xc_dance.specs.Fields.{Node, unused, own, spacer, used, layout, link_place}
+use Rattle.xc_dance.specs.Fields.{Node, own, used, layout, link_place}
 use Rattle.xc_dance.specs.Links.Lines.{Line}
 use Rattle.xc_dance.specs.Links.Steps.{HasSize, NamesPlaces}
 use Rattle.xc_dance.specs.Links.Cells.{slot_of, link_at, fixed_up, fixed_down, top_in, ulink_in, dlink_in, nodes_from}
@@ -65,10 +65,8 @@ own_slot : (n : Node) (j : ℕ) → n ≡ own j → slot_of n ≡ Some (j, 0)
 own_slot n j e = ap slot_of e
 
 top_other : (ln : ℕ → Line) (j : ℕ) (l : Line) (n : Node) → (n ≡ own j → ⊥) → top_in (with_line ln j l) n ≡ top_in ln n
-top_other ln j l unused ne = refl
-top_other ln j l (spacer n) ne = refl
-top_other ln j l (used o u) ne = refl
 top_other ln j l (own i) ne = let no : eqb i j ≡ false = ne_eqb i j (λ e. ne (ap own e)) in rw no refl
+top_other ln j l _ ne = refl
 
 pub set_top : (p : Puzzle) (ln : ℕ → Line) (j : ℕ) (l : Line) → IsLaid p → 0 < j → j ≤ item_count p → map (top_in (with_line ln j l)) (layout p) ≡ set (map (top_in ln) (layout p)) j l.len
 set_top p ln j l laid pos le =
@@ -91,10 +89,9 @@ member_of (Some s) = s.1
 
 -- the item of a node
 item_at : (ln : ℕ → Line) (n : Node) (j o : ℕ) → slot_of n ≡ Some (j, o) → 0 < o → top_in ln n ≡ j
-item_at ln unused j o e pos = cc
-item_at ln (spacer n) j o e pos = cc
 item_at ln (own i) j o e pos = let z : 0 ≡ o = ap member_of e in absurd (omega arith)
 item_at ln (used k u) j o e pos = ap item_of e
+item_at ln _ j o e pos = cc
 
 pub get_item : (p : Puzzle) (ln : ℕ → Line) (j o : ℕ) → Placed p j o → 0 < o → get_or (map (top_in ln) (layout p)) (link_place p j o) 0 ≡ j
 get_item p ln j o h pos = get_map (top_in ln) (layout p) (link_place p j o) h.node h.at ∙ item_at ln h.node j o h.slot pos

@@ -6,7 +6,7 @@ use Rattle.xc_input.specs.declared.problem.Use.{Use}
 use Rattle.xc_input.specs.Problem.{Puzzle, item_count}
 use Rattle.xc_dance.specs.Moves.{listed, listed_numbers}
 use Rattle.xc_dance.specs.Rising.{Rises}
-use Rattle.xc_dance.specs.Fields.{Node, unused, own, spacer, used, layout, link_place, is_in}
+use Rattle.xc_dance.specs.Fields.{Node, own, used, layout, link_place, is_in}
 use Rattle.xc_dance.specs.Links.Laid.{IsFit}
 use Rattle.xc_dance.specs.Links.Lines.{Line}
 use Rattle.xc_dance.specs.Links.Cells.{top_in, ulink_in, dlink_in, color_in, line_of, up_of, down_of, nodes_from, nodes_after}
@@ -48,26 +48,22 @@ in_list : (p : Puzzle) (q o : ℕ) (u : Use) → IsFit p → slice_get (layout p
 in_list p q o u fit e = ap (is_in o) (sym (held_all p u.item fit)) ∙ held_in (layout p) q o u e
 
 top_is : (p : Puzzle) (n : Node) → top_in (whole p) n ≡ top_in (line_of p []) n
-top_is p unused = refl
 top_is p (own i) = grown_len (listed_numbers p [] i) ∙ length-map (listed p [] i) (λ o. o.number)
-top_is p (spacer n) = refl
-top_is p (used o u) = refl
+top_is p _ = refl
 
 ulink_is : (p : Puzzle) (q : ℕ) (n : Node) → IsFit p → slice_get (layout p) q ≡ Some n → ulink_in p (whole p) n ≡ ulink_in p (line_of p []) n
-ulink_is p q unused fit e = refl
 ulink_is p q (own i) fit e = ap (link_place p i) (along (listed_numbers p [] i) (rises_listed p [] i)).last
-ulink_is p q (spacer n) fit e = refl
 ulink_is p q (used o u) fit e =
     let ok : NodeOk p (used o u) = each_at (NodeOk p) (layout p) q (used o u) (layout_ok p fit) e in
     ap (link_place p u.item) (up_is p u.item o (in_list p q o u fit e) ok.0)
+ulink_is p q _ fit e = refl
 
 dlink_is : (p : Puzzle) (q : ℕ) (n : Node) → IsFit p → slice_get (layout p) q ≡ Some n → dlink_in p (whole p) n ≡ dlink_in p (line_of p []) n
-dlink_is p q unused fit e = refl
 dlink_is p q (own i) fit e = ap (link_place p i) (along (listed_numbers p [] i) (rises_listed p [] i)).first
-dlink_is p q (spacer n) fit e = refl
 dlink_is p q (used o u) fit e =
     let ok : NodeOk p (used o u) = each_at (NodeOk p) (layout p) q (used o u) (layout_ok p fit) e in
     ap (link_place p u.item) (down_is p u.item o (in_list p q o u fit e) ok.0)
+dlink_is p q _ fit e = refl
 
 pub all_entered : (p : Puzzle) (n : ℕ) → IsFit p → length (layout p) ≤ n → nodes_from p (lines_of (take n (layout p))) (color_in p []) ≡ nodes_after p []
 all_entered p n fit le =

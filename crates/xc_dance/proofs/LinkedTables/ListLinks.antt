@@ -74,13 +74,9 @@ back_is p t i laid pos le =
 
 pub in_table : (p : Puzzle) (t : List Move) (i : ℕ) → IsLaid p → 0 < i → i ≤ item_count p → i < length (nodes_after p t).top
 in_table p t i laid pos le =
-    let h = slice_get_within (layout p) i (own i) (laid.head i pos le) in
     let long : length (map (top_in (line_of p t)) (layout p)) ≡ length (layout p) = length-map (layout p) (top_in (line_of p t)) in
-    omega (arith, h, long)
+    omega (arith, slice_get_within (layout p) i (own i) (laid.head i pos le), long)
 
 pub few_in : (p : Puzzle) (t : List Move) (i : ℕ) → IsLaid p → IsFit p → 0 < i → i ≤ item_count p → get_or (nodes_after p t).top i 0 < 2 ^ 30
 few_in p t i laid fit pos le =
-    let a = long_is p t i laid pos le in
-    let b = numbers_few p t i in
-    let c = fit.few in
-    omega (arith, a, b, c)
+    omega (arith, long_is p t i laid pos le, numbers_few p t i, fit.few)

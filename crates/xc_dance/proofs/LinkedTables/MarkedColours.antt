@@ -72,9 +72,7 @@ marked_at p i keep now (o ∷ xs) n =
 
 pub cover_colours : (p : Puzzle) (t : List Move) (i : ℕ) (n : Node) → color_in p (Cover i ∷ t) n ≡ color_in p t n
 cover_colours p t i unused = refl
-cover_colours p t i (own j) = refl
-cover_colours p t i (spacer m) = refl
-cover_colours p t i (used o u) = refl
+cover_colours p t i _ = refl
 
 -- the colours with which the walk of Purify starts
 abbrev pub purify_start : Puzzle → List Move → ℕ → ℕ → Node → ℕ
@@ -96,9 +94,9 @@ purify_colours p t i c laid k (own j) at =
     ]
     ∙ sym (marked_at p i (Some c) (purify_start p t i c) (listed_numbers p t i) (own j))
 purify_colours p t i c laid k (used o u) at =
-    let pos : 0 < o = laid.numbered k o u at in
+    let pos : 0 < o = laid.nodes.numbered k o u at in
     let v = color_in p t (used o u) in
-    let colour : colour_in (uses_of p o) u.item ≡ Some u.colour = laid.coloured k o u at in
+    let colour : colour_in (uses_of p o) u.item ≡ Some u.colour = laid.nodes.coloured k o u at in
     let at_zero : eqb o 0 ≡ false = ne_eqb o 0 (λ e. omega (arith, e, pos)) in
     elim (eqb u.item i) as (λ b. eqb u.item i ≡ b → color_in p (Purify i c ∷ t) (used o u) ≡ cond (b && (is_in o (listed_numbers p t i) && is_kept p i (Some c) o)) 4294967295 (cond (b && eqb o 0) c v)) [
       | true ↦ λ e.

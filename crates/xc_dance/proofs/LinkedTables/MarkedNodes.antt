@@ -74,8 +74,7 @@ open_unmarked p (Purify k d ∷ t) j o c e =
       | true ↦ λ f. let same : eqb j k ≡ true = eq-eqb j k (sym (eqb-true k j f)) in absurd (false≢true (sym (ap not same) ∙ and_left (not (eqb j k)) (is_open j t) e))
       | false ↦ λ f. open_unmarked p t j o c (and_right _ _ e)
     ] refl
-open_unmarked p (Tweak k ∷ t) j o c e = open_unmarked p t j o c e
-open_unmarked p (Spend k ∷ t) j o c e = open_unmarked p t j o c e
+open_unmarked p (_ ∷ t) j o c e = open_unmarked p t j o c e
 
 true_either : (b : Bool) → cond b true true ≡ true
 true_either true = refl
@@ -119,7 +118,7 @@ pub color_is : (p : Puzzle) (t : List Move) (o j c : ℕ) → IsLaid p → 0 < j
 color_is p t o j c laid jpos jle pos named has =
     let h = laid.there j o jpos jle (inr (pos, named)) in
     let u = used_by p j o (link_place p j o) h.node pos h.at h.slot in
-    let colour : colour_in (uses_of p o) u.0.item ≡ Some u.0.colour = laid.coloured (link_place p j o) o u.0 u.1 in
+    let colour : colour_in (uses_of p o) u.0.item ≡ Some u.0.colour = laid.nodes.coloured (link_place p j o) o u.0 u.1 in
     let same : u.0.colour ≡ c = same_Some u.0.colour c (sym colour ∙ ap (colour_in (uses_of p o)) u.2 ∙ has) in
     get_map (color_in p t) (layout p) (link_place p j o) (used o u.0) u.1
     ∙ ap₂ (λ i d. cond (is_marked p t i o d) 4294967295 d) u.2 same
@@ -142,8 +141,7 @@ closed j (Purify k d ∷ t) e =
       | true ↦ λ f. inr (d, refl)
       | false ↦ λ f. closed j t f
     ] e
-closed j (Tweak k ∷ t) e = closed j t e
-closed j (Spend k ∷ t) e = closed j t e
+closed j (_ ∷ t) e = closed j t e
 
 pub colour_some : (us : List Use) (j : ℕ) → is_some (colour_in us j) ≡ true → (c : ℕ) × (colour_in us j ≡ Some c)
 colour_some us j e = elim (colour_in us j) as (λ o. is_some o ≡ true → (c : ℕ) × (o ≡ Some c)) [ None ↦ λ f. absurd (false≢true f) | Some c ↦ λ f. (c, refl) ] e

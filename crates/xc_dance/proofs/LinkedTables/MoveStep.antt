@@ -5,7 +5,7 @@ use Rattle.xc_dance.specs.declared.dance.Move.TheVariants.{Cover, Purify, Tweak,
 use Rattle.xc_dance.specs.Links.Span.{Span}
 use Rattle.xc_input.specs.Problem.{Puzzle, item_count}
 use Rattle.xc_dance.specs.Moves.{is_covered, AreLegal, IsLegal, listed_numbers}
-use Rattle.xc_dance.specs.Fields.{Node, unused, own, spacer, used, link_place, first_of}
+use Rattle.xc_dance.specs.Fields.{Node, unused, link_place, first_of}
 use Rattle.xc_dance.specs.Links.Cells.{color_in, nodes_after, line_of}
 use Rattle.xc_dance.specs.Links.ItemCells.{items_after}
 use Rattle.xc_dance.specs.Links.Laid.{IsLaid}
@@ -18,16 +18,15 @@ use Rattle.xc_dance.proofs.LinkedTables.StillItems.{still_items}
 use Rattle.xc_dance.proofs.LinkedTables.Turned.{ring_step}
 use Rattle.xc_dance.specs.Links.Taken.{CanNote}
 use Rattle.xc_dance.specs.Links.Tweaking.{tweaked, untweaked, tweak_cost, untweak_cost, CanTweak, CanUntweak}
-use Rattle.xc_dance.proofs.LinkedTables.Covered.{off_is, open_or_covered}
+use Rattle.xc_dance.proofs.LinkedTables.Covered.{off_is}
+use Rattle.xc_dance.proofs.MoveLemmas.StateLemmas.{open_or_covered}
 use Rattle.xc_dance.proofs.LinkedTables.TweakStep.{tweak_made}
 use Rattle.xc_dance.proofs.LinkedTables.HideMoves.{cover_hides, cover_writes, walk_made, purify_made}
 
 -- node x is the one that the move takes off, if it takes one
 abbrev pub IsTakenOff : Puzzle → List Move → Move → ℕ → Type 0
 IsTakenOff p t (Tweak i) x = x ≡ link_place p i (first_of 0 (listed_numbers p t i))
-IsTakenOff p t (Cover i) x = Unit {0}
-IsTakenOff p t (Purify i c) x = Unit {0}
-IsTakenOff p t (Spend i) x = Unit {0}
+IsTakenOff p t _ x = Unit {0}
 
 pub record MoveStep (p : Puzzle) (t : List Move) (spans : List Span) (m : Move) : Type 0 where
   pub can : CanMake spans (nodes_after p t) (items_after p t) m
@@ -77,9 +76,7 @@ purified_step p t spans i c legal may f =
 -- a Spend changes no list
 spent_colours : (p : Puzzle) (t : List Move) (i : ℕ) (n : Node) → color_in p (Spend i ∷ t) n ≡ color_in p t n
 spent_colours p t i unused = refl
-spent_colours p t i (own j) = refl
-spent_colours p t i (spacer m) = refl
-spent_colours p t i (used o u) = refl
+spent_colours p t i _ = refl
 
 spent_cut : (p : Puzzle) (t : List Move) (i j : ℕ) → SameCut p t (Spend i) j []
 spent_cut p t i j = record { test = λ x. false; cut_is = sym (leave_none (listed_numbers p t j)); stay_is = sym (stay_all (listed_numbers p t j)) }

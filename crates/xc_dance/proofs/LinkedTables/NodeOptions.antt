@@ -25,7 +25,7 @@ use Rattle.xc_dance.proofs.LinkedTables.SpanLemmas.{parted, there}
 use Rattle.xc_dance.proofs.LinkedTables.SpacerPlaces.{use_at, spacer_at}
 use Rattle.xc_dance.proofs.LinkedTables.RingStep.{row_get, row_len, right_now}
 use Rattle.xc_dance.proofs.LinkedTables.Sweep.{first_above-first}
-use Rattle.xc_dance.proofs.LinkedTables.Turned.{open_uncovered}
+use Rattle.xc_dance.proofs.MoveLemmas.StateLemmas.{open_uncovered}
 use Rattle.std.proofs.lemmas.Option.{same_Some, slice_get_within, slice_get-get_or}
 use Rattle.xc_dance.proofs.LinkedTables.LinkColumns.{member_of}
 
@@ -80,9 +80,8 @@ pub starts_below : (p : Puzzle) (i o : ℕ) → IsFit p → 0 < o → is_some (c
 starts_below p i zero fit pos held = absurd (omega (arith, pos))
 starts_below p i (suc m) fit pos held =
     let w = use_place p i m fit held in
-    let place = w.place in
     let same : suc m - 1 ≡ m = omega arith in
-    subst (λ n. start_at p n ≤ link_place p i (suc m)) (sym same) (omega (arith, place))
+    subst (λ n. start_at p n ≤ link_place p i (suc m)) (sym same) (omega (arith, w.place))
 
 pub on_the_way : (p : Puzzle) (t : List Move) (i o q : ℕ) → IsLaid p → IsFit p → 0 < o → is_some (colour_in (uses_of p o) i) ≡ true → start_at p (o - 1) ≤ q → q ≤ link_place p i o → OnTheWay p t i o q
 on_the_way p t i zero q laid fit pos held from to = absurd (omega (arith, pos))
@@ -124,8 +123,7 @@ spacer_behind p i m w =
     let s : m + 1 ≡ suc m = omega arith in
     let some = slice_get_within p.options m w.uses w.uses_are in
     let next = place_next p m w.uses w.uses_are in
-    let at = spacer_at p (m + 1) (omega (arith, some)) in
-    ap (spacer_place p) (sym s) ∙ omega (arith, at, next)
+    ap (spacer_place p) (sym s) ∙ omega (arith, spacer_at p (m + 1) (omega (arith, some)), next)
 
 to_spacer : (p : Puzzle) (t : List Move) (i o q : ℕ) → IsLaid p → IsFit p → 0 < o → is_some (colour_in (uses_of p o) i) ≡ true → link_place p i o ≤ q → q ≤ spacer_place p o → ToSpacer p t o q
 to_spacer p t i zero q laid fit pos held from to = absurd (omega (arith, pos))
@@ -142,7 +140,7 @@ to_spacer p t i (suc m) q laid fit pos held from to =
           let use_is : slice_get w.uses k ≡ Some u = slice_get-get_or w.uses k d (omega (arith, from, lt, place)) in
           let node : slice_get (layout p) q ≡ Some (used (m + 1) u) = use_here p m k q w.uses u w.uses_are use_is (omega (arith, from, place)) in
           let top : get_or (nodes_after p t).top q 0 ≡ u.item = get_map (top_in (line_of p t)) (layout p) q (used (m + 1) u) node in
-          let most = (laid.ranged q (used (m + 1) u) u.item (m + 1) node refl).1 in
+          let most = (laid.nodes.ranged q (used (m + 1) u) u.item (m + 1) node refl).1 in
           let small = laid.small in
           record { within = slice_get_within (layout p) q (used (m + 1) u) node; next = λ h. omega (arith, lt, end); number = λ h. absurd (omega (arith, h, top, most, small)) }
       | false ↦ λ e.
@@ -167,10 +165,7 @@ before_spacer p i place x fit other name at = by_number x (name_used p i place x
     by_number zero h e = absurd (let pos = h.0 in omega (arith, pos))
     by_number (suc m) h e =
         let w = use_place p i m fit h.1 in
-        let here = w.place in
-        let end = spacer_behind p i m w in
-        let long = slice_get_within w.uses w.index w.use_of w.use_is in
-        omega (arith, e, here, end, long)
+        omega (arith, e, w.place, spacer_behind p i m w, slice_get_within w.uses w.index w.use_of w.use_is)
 
 -- what TOP tells at q, which is not past the spacer behind the node at the place
 pub record Seeks (p : Puzzle) (i place : ℕ) (top : List ℕ) (q : ℕ) : Type 0 where

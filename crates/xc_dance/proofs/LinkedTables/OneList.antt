@@ -1,6 +1,6 @@
 -- Down one list and back up: the options of its nodes leave the lists of their other items, but for those of a colour that is kept, whose nodes are marked.
-use Rattle.std.proofs.Common.{◌≡◌, ◌≢◌, ℕ, ◌+◌, ◌*◌, ◌<◌, ◌≤◌, inr, Bool, true, false, not, cond, ◌&&◌, ◌||◌, eqb, List, [], ◌∷◌, ◌++◌, length, map, fold, filter, reverse, get_or, Option, Some, None, refl, ap, ap₂, sym, subst, ◌∙◌, arith, eqb-true, eq-eqb, ne_eqb}
-use Rattle.std.proofs.lemmas.Bool.{false≢true}
+use Rattle.std.proofs.Common.{◌≡◌, ◌≢◌, ℕ, ◌+◌, ◌*◌, ◌<◌, ◌≤◌, inr, true, false, not, cond, ◌&&◌, ◌||◌, eqb, List, [], ◌∷◌, ◌++◌, length, map, fold, filter, reverse, get_or, Option, Some, None, refl, ap, ap₂, sym, subst, ◌∙◌, arith, eqb-true, eq-eqb, ne_eqb}
+use Rattle.std.proofs.lemmas.Bool.{false≢true, and_right}
 use Rattle.std.proofs.lemmas.List.{length-map, reverse-append}
 use Rattle.std.proofs.lemmas.List.Sums.{fold-append}
 use Rattle.xc_dance.specs.declared.links.nodes.Nodes.{Nodes}
@@ -185,10 +185,6 @@ pub record Turn (p : Puzzle) (col now : Node → ℕ) (spans : List Span) (i : �
   pub lines : left_list p col i ln (leavers p i keep (o ∷ xs)) ≡ left_list p col i ln' (leavers p i keep xs)
   pub colours : marked_list p i keep now (o ∷ xs) ≡ marked_list p i keep now' xs
 
-and_false : (a b : Bool) → b ≡ false → (a && b) ≡ false
-and_false true b e = e
-and_false false b e = refl
-
 turn : (p : Puzzle) (col now : Node → ℕ) (spans : List Span) (i : ℕ) (keep : Option ℕ) (ln : ℕ → Line) (lists : ℕ → List ℕ) (o : ℕ) (xs : List ℕ) → IsLaid p → HasSpans p spans → 0 < i → i ≤ item_count p → 0 < o
     → AllGood p ln lists → EachReady p col lists i keep (o ∷ xs) → Rises o xs → Passed p i col now (o ∷ xs) → Turn p col now spans i keep ln o xs
 turn p col now spans i keep ln lists o xs laid spanned pos le o_pos good ready r passed =
@@ -211,7 +207,7 @@ turn p col now spans i keep ln lists o xs laid spanned pos le o_pos good ready r
           others = λ j x ne jpos jle xpos named. color_other p now i o 4294967295 j x (laid.there j x jpos jle (inr (xpos, named))) (ap (λ b. b && eqb x o) (ne_eqb j i ne)) ∙ passed.others j x ne jpos jle xpos named;
           own = λ x f.
               let gt : o < x = in_above o x xs r f in
-              color_other p now i o 4294967295 i x (laid.there i x pos le (inr (omega (arith, gt), named_in x xs ready.4 f))) (and_false (eqb i i) (eqb x o) (ne_eqb x o (λ g. omega (arith, gt, g)))) ∙ passed.own x (in_more o x xs f);
+              color_other p now i o 4294967295 i x (laid.there i x pos le (inr (omega (arith, gt), named_in x xs ready.4 f))) (and_right (eqb i i) (eqb x o) (ne_eqb x o (λ g. omega (arith, gt, g)))) ∙ passed.own x (in_more o x xs f);
         };
         lines = ap (λ b. left_list p col i ln (cond (not b) (o ∷ leavers p i keep xs) (leavers p i keep xs))) e;
         colours = ap (λ b. marked_list p i keep (cond b (with_color now i o 4294967295) now) xs) e;
@@ -271,20 +267,20 @@ abbrev pub walked_table : Puzzle → (Node → ℕ) → (Node → ℕ) → ℕ �
 walked_table p col now i keep ln xs = nodes_from p (left_list p col i ln (leavers p i keep xs)) (marked_list p i keep now xs)
 
 -- what a walk down the list of item i does, from below a on, and the walk back
-pub record Listed (p : Puzzle) (col now : Node → ℕ) (spans : List Span) (i : ℕ) (keep : Option ℕ) (ln : ℕ → Line) (a : ℕ) (xs : List ℕ) : Type 0 where
+pub record Listed (p : Puzzle) (col now : Node → ℕ) (spans : List Span) (i : ℕ) (keep : Option ℕ) (ln : ℕ → Line) (a : ℕ) (xs : List ℕ) (end : Nodes) (n : ℕ) : Type 0 where
   pub walk : IsWalk spans keep (nodes_from p ln now) (link_place p i ((ln i).down a)) (map (link_place p i) xs)
-  pub done : fold (left_node spans keep) (nodes_from p ln now) (map (link_place p i) xs) ≡ walked_table p col now i keep ln xs
-  pub back : IsWalkBack spans keep (walked_table p col now i keep ln xs) (link_place p i ((ln i).up 0)) (reverse (map (link_place p i) xs))
-  pub undone : fold (back_node spans keep) (walked_table p col now i keep ln xs) (reverse (map (link_place p i) xs)) ≡ nodes_from p ln now
-  pub ends : leads spans keep (walked_table p col now i keep ln xs) (link_place p i ((ln i).up 0)) (reverse (map (link_place p i) xs)) ≡ link_place p i a
-  pub costs : walk_costs spans keep (nodes_from p ln now) (map (link_place p i) xs) ≡ step_costs p col i keep xs
-  pub costs_back : back_costs spans keep (walked_table p col now i keep ln xs) (reverse (map (link_place p i) xs)) ≡ step_costs p col i keep xs
+  pub done : fold (left_node spans keep) (nodes_from p ln now) (map (link_place p i) xs) ≡ end
+  pub back : IsWalkBack spans keep end (link_place p i ((ln i).up 0)) (reverse (map (link_place p i) xs))
+  pub undone : fold (back_node spans keep) end (reverse (map (link_place p i) xs)) ≡ nodes_from p ln now
+  pub ends : leads spans keep end (link_place p i ((ln i).up 0)) (reverse (map (link_place p i) xs)) ≡ link_place p i a
+  pub costs : walk_costs spans keep (nodes_from p ln now) (map (link_place p i) xs) ≡ n
+  pub costs_back : back_costs spans keep end (reverse (map (link_place p i) xs)) ≡ n
 
 IsLinkedFrom-by : (l m : Line) (a : ℕ) (xs : List ℕ) → m ≡ l → IsLinkedFrom l a xs → IsLinkedFrom m a xs
 IsLinkedFrom-by l m a xs e h = subst (λ (k : Line). IsLinkedFrom k a xs) (sym e) h
 
 pub listed_walk : (p : Puzzle) (col now : Node → ℕ) (spans : List Span) (i : ℕ) (keep : Option ℕ) (ln : ℕ → Line) (lists : ℕ → List ℕ) (a : ℕ) (xs : List ℕ) → IsLaid p → HasSpans p spans → 0 < i → i ≤ item_count p
-    → AllGood p ln lists → IsLinkedFrom (ln i) a xs → EachReady p col lists i keep xs → Rises a xs → Passed p i col now xs → Listed p col now spans i keep ln a xs
+    → AllGood p ln lists → IsLinkedFrom (ln i) a xs → EachReady p col lists i keep xs → Rises a xs → Passed p i col now xs → Listed p col now spans i keep ln a xs (walked_table p col now i keep ln xs) (step_costs p col i keep xs)
 listed_walk p col now spans i keep ln lists a [] laid spanned pos le good linked ready r passed = record {
   walk = tt;
   done = refl;
@@ -317,26 +313,21 @@ listed_walk p col now spans i keep ln lists a (o ∷ xs) laid spanned pos le goo
     let back : IsWalkBack spans keep end' q0 (reverse places) = subst (λ q. IsWalkBack spans keep end' q (reverse places)) same_q rest.back in
     let ends : leads spans keep end' q0 (reverse places) ≡ x = subst (λ q. leads spans keep end' q (reverse places) ≡ x) same_q rest.ends in
     let s = tn.step in
-    record {
+    subst (λ (u : Nodes). Listed p col now spans i keep ln a (o ∷ xs) u (step_costs p col i keep (o ∷ xs))) (sym ends_same) (record {
       walk = (
         ap (link_place p i) linked.1,
         s.can,
         subst (λ (u : Nodes). x < length u.dlink) (sym s.done) (omega (arith, down_long, x_in)),
         subst (λ (u : Nodes). IsWalk spans keep u (get_or u.dlink x 0) places) (sym s.done) (subst (λ q. IsWalk spans keep t1 q places) (sym down_at) rest.walk),
       );
-      done = ap (λ (u : Nodes). fold (left_node spans keep) u places) s.done ∙ rest.done ∙ sym ends_same;
-      back = subst (λ (u : Nodes). IsWalkBack spans keep u q0 (reverse (x ∷ places))) (sym ends_same)
-          (subst (IsWalkBack spans keep end' q0) (sym turned) (back_push spans keep end' t1 t0 q0 (reverse places) x back rest.undone ends s.undone (omega (arith, up_long, x_in)) s.back));
+      done = ap (λ (u : Nodes). fold (left_node spans keep) u places) s.done ∙ rest.done;
+      back = subst (IsWalkBack spans keep end' q0) (sym turned) (back_push spans keep end' t1 t0 q0 (reverse places) x back rest.undone ends s.undone (omega (arith, up_long, x_in)) s.back);
       undone =
-          ap (λ (u : Nodes). fold (back_node spans keep) u (reverse (x ∷ places))) ends_same
-          ∙ ap (fold (back_node spans keep) end') turned ∙ fold-append (back_node spans keep) end' (reverse places) (x ∷ []) ∙ ap (λ (u : Nodes). back_node spans keep u x) rest.undone ∙ s.undone;
-      ends =
-          ap (λ (u : Nodes). leads spans keep u q0 (reverse (x ∷ places))) ends_same
-          ∙ ap (leads spans keep end' q0) turned ∙ leads_push spans keep end' t1 t0 q0 (reverse places) x rest.undone s.undone ∙ up_at ∙ ap (link_place p i) linked.2;
+          ap (fold (back_node spans keep) end') turned ∙ fold-append (back_node spans keep) end' (reverse places) (x ∷ []) ∙ ap (λ (u : Nodes). back_node spans keep u x) rest.undone ∙ s.undone;
+      ends = ap (leads spans keep end' q0) turned ∙ leads_push spans keep end' t1 t0 q0 (reverse places) x rest.undone s.undone ∙ up_at ∙ ap (link_place p i) linked.2;
       costs = ap₂ (λ a b. a + b) s.cost (ap (λ (u : Nodes). walk_costs spans keep u places) s.done ∙ rest.costs);
       costs_back =
-          let turn_back = ap (λ (u : Nodes). back_costs spans keep u (reverse (x ∷ places))) ends_same ∙ ap (back_costs spans keep end') turned ∙ costs-append (back_node spans keep) (back_cost spans keep) end' (reverse places) (x ∷ []) in
+          let turn_back = ap (back_costs spans keep end') turned ∙ costs-append (back_node spans keep) (back_cost spans keep) end' (reverse places) (x ∷ []) in
           let last : back_cost spans keep (fold (back_node spans keep) end' (reverse places)) x ≡ step_cost p col i keep o = ap (λ (u : Nodes). back_cost spans keep u x) rest.undone ∙ s.cost_back in
-          let before = rest.costs_back in
-          omega (arith, turn_back, last, before);
-    }
+          omega (arith, turn_back, last, rest.costs_back);
+    })

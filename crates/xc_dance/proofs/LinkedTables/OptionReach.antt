@@ -66,11 +66,12 @@ use_get n (suc o) k (vs ∷ os) us u e f =
 pub length_tail : (n : ℕ) (os : List (List Use)) → length (tail_from n os) ≡ reach os (length os) + 1
 length_tail n [] = refl
 length_tail n (us ∷ os) =
-    let rest = length_tail (n + 1) os in
     let front = length-append (map (used (n + 1)) us) (tail_from (n + 1) os) in
-    let used_all = length-map us (used (n + 1)) in
-    let whole = ap length (next_tail n us os) in
-    omega (arith, rest, front, used_all, whole)
+    omega (arith, length_tail (n + 1) os, front, length-map us (used (n + 1)), ap length (next_tail n us os))
+
+pub reach_zero : (os : List (List Use)) → reach os 0 ≡ 0
+reach_zero [] = refl
+reach_zero (us ∷ os) = refl
 
 pub reach_next : (os : List (List Use)) (o : ℕ) (us : List Use) → slice_get os o ≡ Some us → reach os (o + 1) ≡ reach os o + length us + 1
 reach_next [] o us e = cc
@@ -78,14 +79,9 @@ reach_next (vs ∷ os) zero us e =
     let one : reach (vs ∷ os) (0 + 1) ≡ length vs + 1 + reach os 0 = refl in
     let nothing : reach os 0 ≡ 0 = reach_zero os in
     let same = ap length (same_Some vs us e) in omega (arith, one, nothing, same)
-  where
-    reach_zero : (os : List (List Use)) → reach os 0 ≡ 0
-    reach_zero [] = refl
-    reach_zero (vs ∷ os) = refl
 reach_next (vs ∷ os) (suc o) us e =
     let s : suc o + 1 ≡ suc (o + 1) = omega arith in
-    let rest = reach_next os o us e in
-    ap (reach (vs ∷ os)) s ∙ omega (arith, rest)
+    ap (reach (vs ∷ os)) s ∙ omega (arith, reach_next os o us e)
 
 pub reach_most : (os : List (List Use)) → reach os (length os) ≡ sum_by (λ us. length us) os + length os
 reach_most [] = refl

@@ -1,5 +1,5 @@
 -- Where the nodes of each option stand in the node table.
-use Rattle.std.proofs.Common.{◌≡◌, ℕ, zero, suc, ◌+◌, ◌<◌, ◌≤◌, List, [], ◌∷◌, length, map, get_or, Some, refl, ap, sym, ◌∙◌, arith}
+use Rattle.std.proofs.Common.{◌≡◌, ℕ, zero, suc, ◌+◌, ◌<◌, ◌≤◌, List, [], ◌∷◌, length, map, get_or, Some, ap, sym, ◌∙◌, arith}
 use Rattle.std.specs.Prelude.{slice_get}
 use Rattle.std.specs.List.{range_with_len}
 use Rattle.std.proofs.lemmas.List.{length-append}
@@ -7,10 +7,14 @@ use Rattle.std.proofs.lemmas.List.FromFn.{length-map-range_with_len}
 use Rattle.xc_input.specs.declared.problem.Use.{Use}
 use Rattle.xc_input.specs.Problem.{Puzzle, item_count, option_count, uses_of, IsWithinLimits}
 use Rattle.xc_dance.specs.Fields.{Node, unused, own, spacer, used, layout}
-use Rattle.xc_dance.specs.Links.OptionPlaces.{reach, place_at}
+use Rattle.xc_dance.specs.Links.OptionPlaces.{reach, place_at, start_at}
 use Rattle.xc_dance.proofs.LinkedTables.OptionNumbers.{uses_at}
-use Rattle.xc_dance.proofs.LinkedTables.OptionReach.{get_behind, tail_from, spacer_get, use_get, length_tail, reach_next, reach_most}
+use Rattle.xc_dance.proofs.LinkedTables.OptionReach.{get_behind, tail_from, spacer_get, use_get, length_tail, reach_zero, reach_next, reach_most}
 use Rattle.std.proofs.lemmas.Option.{slice_get-get_or}
+
+-- where the nodes of the first k options start
+abbrev pub starts_to : Puzzle → ℕ → List ℕ
+starts_to p k = map (start_at p) (range_with_len 0 k)
 
 -- ---- the whole table
 
@@ -36,18 +40,11 @@ pub place_next : (p : Puzzle) (o : ℕ) (us : List Use) → slice_get p.options 
 place_next p o us e = let h = reach_next p.options o us e in omega (arith, h)
 
 pub place_first : (p : Puzzle) → place_at p 0 ≡ item_count p + 1
-place_first p = let h = zero_of p.options in omega (arith, h)
-  where
-    zero_of : (os : List (List Use)) → reach os 0 ≡ 0
-    zero_of [] = refl
-    zero_of (us ∷ os) = refl
+place_first p = let h = reach_zero p.options in omega (arith, h)
 
 pub layout_len : (p : Puzzle) → length (layout p) ≡ place_at p (option_count p) + 1
 layout_len p =
-    let a = length-append (front p) (tail_from 0 p.options) in
-    let b = length_front p in
-    let c = length_tail 0 p.options in
-    omega (arith, a, b, c)
+    omega (arith, length-append (front p) (tail_from 0 p.options), length_front p, length_tail 0 p.options)
 
 -- ---- an option that there is
 
@@ -65,15 +62,12 @@ reach_grows (us ∷ os) (suc o) (suc n) le most = let rest = reach_grows os o n 
 pub layout_small : (p : Puzzle) → IsWithinLimits p → length (layout p) ≤ 20100002
 layout_small p limits =
     let a = layout_len p in
-    let b = reach_most p.options in
-    omega (arith, a, b, limits.items, limits.uses, limits.options)
+    omega (arith, a, reach_most p.options, limits.items, limits.uses, limits.options)
 
 -- a spacer's place is among them
 pub place_within : (p : Puzzle) (o : ℕ) → o ≤ option_count p → place_at p o < length (layout p)
 place_within p o le =
-    let a = layout_len p in
-    let b = reach_grows p.options o (option_count p) le (omega arith) in
-    omega (arith, a, b)
+    omega (arith, layout_len p, reach_grows p.options o (option_count p) le (omega arith))
 
 -- where the nodes of an option end
 pub record OptionFits (p : Puzzle) (o : ℕ) (us : List Use) : Type 0 where

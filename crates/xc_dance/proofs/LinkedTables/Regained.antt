@@ -116,8 +116,7 @@ come_back l m a b y ys g linked e h =
           let gt = in_above y x ys r f in
           kept_down x (λ s. omega (arith, s, gt, lt)) ∙ h.down_in x (in_more y x ys f) stays ∙ ap (first_above 0 x) is;
       down_gone = λ x f gone.
-          let gt = in_above y x ys r f in
-          kept_down x (λ s. omega (arith, s, gt, lt)) ∙ h.down_gone x (in_more y x ys f) gone;
+          kept_down x (λ s. omega (arith, s, in_above y x ys r f, lt)) ∙ h.down_gone x (in_more y x ys f) gone;
       down_out = λ x ne f. by_first (put_at m.down (m.up y) y x ≡ l.down x) a x
           (λ s. ap (put_at m.down (m.up y) y) (sym s) ∙ a_down ∙ ap l.down s)
           (λ na. kept_down x (λ s. na (sym s)) ∙ h.down_out x (λ s. na (sym s)) (is_in-other y x ys (λ s. ne (sym s)) ∙ f));

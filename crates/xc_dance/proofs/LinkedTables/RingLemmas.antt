@@ -22,8 +22,7 @@ first_above-in h i n (y ∷ ys) r e =
     (λ same. subst (λ k. (first_above h k (y ∷ ys) ≡ h) ⊎ ((is_in (first_above h k (y ∷ ys)) (y ∷ ys) ≡ true) × (k < first_above h k (y ∷ ys)))) same (next_one h y ys r.1))
     (λ ne.
     let within = in_rest y i ys ne e in
-    let lt = in_above y i ys r.1 within in
-    let is = first_above-more h i y ys (omega (arith, lt)) in
+    let is = first_above-more h i y ys (omega (arith, in_above y i ys r.1 within)) in
     elim (first_above-in h i y ys r.1 within) [
       | inl f ↦ inl (is ∙ f)
       | inr f ↦ inr (ap (λ k. is_in k (y ∷ ys)) is ∙ in_more y (first_above h i ys) ys f.0, omega (arith, is, f.1))

@@ -121,11 +121,9 @@ spend_step p t i may few =
     let up : bound_at p t i ≡ get_or (items_after p next).bound i 0 + 1 = bound_own p t i pos ∙ omega (arith, after, lt) in
     let bounds : (items_after p next).bound ≡ set (items_after p t).bound i (get_or (items_after p t).bound i 0 - 1) = row_put (bound_at p t) (bound_at p next) n i _ (λ q h ne. bound_other p t i q ne) down in
     let back : (items_after p t).bound ≡ set (items_after p next).bound i (get_or (items_after p next).bound i 0 + 1) = row_put (bound_at p next) (bound_at p t) n i _ (λ q h ne. sym (bound_other p t i q ne)) up in
-    let long = row_len (bound_at p t) n in
-    let long' = row_len (bound_at p next) n in
     record {
-      can = (omega (arith, long, within), omega (arith, before, lt));
+      can = (omega (arith, row_len (bound_at p t) n, within), omega (arith, before, lt));
       done = same_items (with_bound (items_after p t) i (get_or (items_after p t).bound i 0 - 1)) (items_after p next) (sym llinks) (sym rlinks) (sym bounds) refl;
-      can_back = (omega (arith, long', within), omega (arith, after, few));
+      can_back = (omega (arith, row_len (bound_at p next) n, within), omega (arith, after, few));
       undone = same_items (with_bound (items_after p next) i (get_or (items_after p next).bound i 0 + 1)) (items_after p t) llinks rlinks (sym back) refl;
     }

@@ -52,8 +52,7 @@ items_from p q t s h =
 pub items_many : (p q : Puzzle) (t s : List Move) → (items_after p t).llink ≡ (items_after q s).llink → item_count p ≡ item_count q
 items_many p q t s e =
     let a = length-map-range_with_len (llink_at p t) 0 (item_count p + 2) in
-    let b = length-map-range_with_len (llink_at q s) 0 (item_count q + 2) in
-    omega (arith, a, b, ap length e)
+    omega (arith, a, length-map-range_with_len (llink_at q s) 0 (item_count q + 2), ap length e)
 
 pub color_cells : (p q : Puzzle) (t s : List Move) (k : ℕ) → IsSound p → IsSound q → item_count p ≡ item_count q → field_of p t Color k ≡ field_of q s Color k →
     slice_get (nodes_after p t).color k ≡ slice_get (nodes_after q s).color k

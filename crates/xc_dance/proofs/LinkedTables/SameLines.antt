@@ -5,7 +5,7 @@ use Rattle.std.proofs.lemmas.List.{length-map}
 use Rattle.xc_dance.specs.declared.dance.Move.{Move}
 use Rattle.xc_input.specs.Problem.{Puzzle, item_count}
 use Rattle.xc_dance.specs.Moves.{listed, listed_numbers}
-use Rattle.xc_dance.specs.Fields.{Node, unused, own, spacer, used, layout, link_place}
+use Rattle.xc_dance.specs.Fields.{Node, own, layout, link_place}
 use Rattle.xc_dance.specs.Links.Lines.{Line}
 use Rattle.xc_dance.specs.Links.Cells.{slot_of, link_at, fixed_up, fixed_down, top_in, ulink_in, dlink_in, nodes_from, line_of}
 use Rattle.xc_dance.specs.Links.Laid.{IsLaid}
@@ -46,14 +46,12 @@ link_same p f g fixed None h = refl
 link_same p f g fixed (Some s) h = ap (link_place p s.0) (h s.0 s.1 refl)
 
 top_same : (p : Puzzle) (ln rn : ℕ → Line) (k : ℕ) (n : Node) → ((j x : ℕ) → slot_of n ≡ Some (j, x) → rn j ≡ ln j) → top_in rn n ≡ top_in ln n
-top_same p ln rn k unused h = refl
-top_same p ln rn k (spacer m) h = refl
 top_same p ln rn k (own i) h = ap (λ (l : Line). l.len) (h i 0 refl)
-top_same p ln rn k (used o u) h = refl
+top_same p ln rn k _ h = refl
 
 pub tables_same : (p : Puzzle) (ln rn : ℕ → Line) (col now : Node → ℕ) → IsLaid p → ((j : ℕ) → (0 < j) × (j ≤ item_count p) → rn j ≡ ln j) → ((k : ℕ) (n : Node) → slice_get (layout p) k ≡ Some n → now n ≡ col n) → nodes_from p rn now ≡ nodes_from p ln col
 tables_same p ln rn col now laid h colours =
-    let at : (k : ℕ) (n : Node) → slice_get (layout p) k ≡ Some n → (j x : ℕ) → slot_of n ≡ Some (j, x) → rn j ≡ ln j = λ k n e j x f. h j (laid.ranged k n j x e f) in
+    let at : (k : ℕ) (n : Node) → slice_get (layout p) k ≡ Some n → (j x : ℕ) → slot_of n ≡ Some (j, x) → rn j ≡ ln j = λ k n e j x f. h j (laid.nodes.ranged k n j x e f) in
     same_nodes (nodes_from p rn now) (nodes_from p ln col)
     (map_same (top_in ln) (top_in rn) (layout p) (λ k n e. top_same p ln rn k n (at k n e)))
     (map_same (ulink_in p ln) (ulink_in p rn) (layout p) (λ k n e. link_same p (λ j x. (ln j).up x) (λ j x. (rn j).up x) (fixed_up p n) (slot_of n) (λ j x f. ap (λ (l : Line). l.up x) (at k n e j x f))))

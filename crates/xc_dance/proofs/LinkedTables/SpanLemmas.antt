@@ -108,7 +108,6 @@ between p o i us fit e is r place =
     let a = place_at p o + 1 in
     let x = link_place p i (o + 1) in
     let lt : o < option_count p = slice_get_within p.options o us e in
-    let size = ap length r.is ∙ length-append r.before (r.use_of ∷ r.behind) in
     let next = place_next p o us e in
     let same : o + 1 - 1 ≡ o = omega arith in
     let s : o + 1 ≡ suc o = omega arith in
@@ -116,7 +115,7 @@ between p o i us fit e is r place =
     let at_next = spacer_at p (o + 1) (omega (arith, lt)) in
     record {
       from = omega (arith, place);
-      below = omega (arith, place, size);
+      below = omega (arith, place, ap length r.is ∙ length-append r.before (r.use_of ∷ r.behind));
       before = before_all p o x r.before r.behind us r.use_of fit e r.is place ∙ ap (map (λ j. link_place p j (o + 1))) (sym r.items_before ∙ ap (before_use i) (sym is));
       behind = behind_all p o x r.before r.behind us r.use_of fit e r.is place ∙ ap (map (λ j. link_place p j (o + 1))) (sym r.items_behind ∙ ap (behind_use i) (sym is));
       some = omega arith;

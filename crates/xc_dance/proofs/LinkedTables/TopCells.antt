@@ -48,15 +48,13 @@ pub first_spacer : (p : Puzzle) (t : List Move) (q : ℕ) (n : Node) → IsSound
 first_spacer p t q unused s e f = absurd (omega (arith, f))
 first_spacer p t q (own i) s e f =
     let few = length-listed p t i in
-    let most = s.fit.few in
-    absurd (omega (arith, f, few, most))
+    absurd (omega (arith, f, few, s.fit.few))
 first_spacer p t q (spacer n) s e f =
     let z : n ≡ 0 = omega (arith, f) in
     sym (spacer_is p q 0 (e ∙ ap (λ k. Some (spacer k)) z)) ∙ spacer_at p 0 (omega arith) ∙ place_first p
 first_spacer p t q (used o u) s e f =
-    let r = s.laid.ranged q (used o u) u.item o e refl in
-    let small = s.items in
-    absurd (omega (arith, f, r.1, small))
+    let r = s.laid.nodes.ranged q (used o u) u.item o e refl in
+    absurd (omega (arith, f, r.1, s.items))
 
 pub top_at_first : (p : Puzzle) (t : List Move) (v : ℕ) → slice_get (nodes_after p t).top (item_count p + 1) ≡ Some v → v ≡ 2147483648
 top_at_first p t v e =

@@ -1,12 +1,12 @@
 -- Cover on the item table: an item leaves its ring and comes back.
-use Rattle.std.proofs.Common.{◌≡◌, ◌≢◌, ℕ, zero, suc, ◌+◌, ◌<◌, ◌≤◌, ◌⊎◌, inl, inr, Bool, true, false, not, cond, ◌&&◌, ◌||◌, eqb, leb, List, [], ◌∷◌, filter, get_or, set, refl, ap, ap₂, sym, subst, ◌∙◌, arith, eq-eqb, ne_eqb, le-leb, leb-true}
+use Rattle.std.proofs.Common.{◌≡◌, ◌≢◌, ℕ, zero, suc, ◌+◌, ◌<◌, ◌≤◌, ◌⊎◌, inl, inr, Bool, true, false, not, cond, ◌&&◌, ◌||◌, eqb, leb, List, ◌∷◌, length, map, filter, get_or, set, refl, ap, ap₂, sym, subst, ◌∙◌, arith, eq-eqb, ne_eqb, le-leb, leb-true}
 use Rattle.std.specs.List.{range_with_len}
 use Rattle.std.proofs.lemmas.Bool.{false≢true, not-true, and_parts, lt-leb, leb-false}
 use Rattle.std.proofs.lemmas.List.Elements.{filter_agree}
 use Rattle.xc_dance.specs.declared.dance.Move.{Move}
-use Rattle.xc_dance.specs.declared.dance.Move.TheVariants.{Cover, Purify, Tweak, Spend}
+use Rattle.xc_dance.specs.declared.dance.Move.TheVariants.{Cover}
 use Rattle.xc_input.specs.Problem.{Puzzle, primary_count, item_count}
-use Rattle.xc_dance.specs.Moves.{IsLegal, is_open, is_covered}
+use Rattle.xc_dance.specs.Moves.{IsLegal, is_covered}
 use Rattle.xc_dance.specs.Fields.{ring_of, ring_head, left_of, right_of, first_of, last_of, last_below, first_above, is_in}
 use Rattle.xc_dance.specs.Links.ItemCells.{items_after, llink_at, rlink_at}
 use Rattle.xc_dance.specs.Links.Rings.{left_ring, back_in_ring}
@@ -17,6 +17,7 @@ use Rattle.xc_dance.proofs.LinkedTables.RingLemmas.{less, first_above-in, last_b
 use Rattle.xc_dance.proofs.LinkedTables.RingStep.{row_put, row_get, row_len, same_items, left_now, right_now}
 use Rattle.xc_dance.proofs.MoveLemmas.ListLemmas.{Rises-range}
 use Rattle.xc_dance.proofs.MoveLemmas.Members.{in_filter}
+use Rattle.xc_dance.proofs.MoveLemmas.StateLemmas.{open_uncovered}
 use Rattle.xc_dance.specs.Links.Made.{CanTurn}
 
 abbrev pub base : Puzzle → Bool → List ℕ
@@ -127,13 +128,6 @@ beside_place p t b k (inr h) = let r = ring_in p t b k h in omega (arith, r.1.1)
 other_ring : (p : Puzzle) (t : List Move) (i : ℕ) (b : Bool) → (b ≡ side p i → ⊥) → ring p (Cover i ∷ t) b ≡ ring p t b
 other_ring p t i b ne = ring_next p t i b ∙ stay_same i (ring p t b) (λ e. ne (sym (ring_in p t b i e).1.2))
 
-pub open_uncovered : (i : ℕ) (t : List Move) → is_open i t ≡ true → is_covered i t ≡ false
-open_uncovered i [] e = refl
-open_uncovered i (Cover j ∷ t) e = elim (eqb i j) as (λ b. (not b && is_open i t) ≡ true → (b || is_covered i t) ≡ false) [ true ↦ λ f. absurd (false≢true f) | false ↦ λ f. open_uncovered i t f ] e
-open_uncovered i (Purify j c ∷ t) e = elim (eqb i j) as (λ b. (not b && is_open i t) ≡ true → is_covered i t ≡ false) [ true ↦ λ f. absurd (false≢true f) | false ↦ λ f. open_uncovered i t f ] e
-open_uncovered i (Tweak j ∷ t) e = open_uncovered i t e
-open_uncovered i (Spend j ∷ t) e = open_uncovered i t e
-
 -- ---- cells of the table
 
 side_zero : (p : Puzzle) → side p 0 ≡ true
@@ -146,7 +140,7 @@ by_side P true false same other = other (λ e. false≢true (sym e))
 by_side P false true same other = other (λ e. false≢true e)
 
 -- what stands at the head of a ring in a column of links, and at an item
-head_cell : (p : Puzzle) (t : List Move) (b : Bool) (f : ℕ → List ℕ → ℕ) (g : ℕ → ℕ) →
+pub head_cell : (p : Puzzle) (t : List Move) (b : Bool) (f : ℕ → List ℕ → ℕ) (g : ℕ → ℕ) →
     cond (eqb (hd p b) 0) (f 0 (ring_of p t 0)) (cond (leb (hd p b) (item_count p)) (g (hd p b)) (f (item_count p + 1) (ring_of p t (primary_count p + 1)))) ≡ f (hd p b) (ring p t b)
 head_cell p t true f g = ap (λ c. f 0 (ring p t c)) (side_zero p)
 head_cell p t false f g =
@@ -154,28 +148,31 @@ head_cell p t false f g =
     ap₂ (λ u v. cond u (f 0 (ring_of p t 0)) (cond v (g n) (f n (ring_of p t (primary_count p + 1))))) (ne_eqb n 0 (λ e. omega (arith, e))) (lt-leb n (item_count p) (omega arith))
     ∙ ap (λ c. f n (ring p t c)) (side_false p (primary_count p + 1) (omega arith))
 
-item_cell : (p : Puzzle) (q first inner last : ℕ) → 0 < q → q ≤ item_count p → cond (eqb q 0) first (cond (leb q (item_count p)) inner last) ≡ inner
+pub item_cell : (p : Puzzle) (q first inner last : ℕ) → 0 < q → q ≤ item_count p → cond (eqb q 0) first (cond (leb q (item_count p)) inner last) ≡ inner
 item_cell p q first inner last pos le = ap₂ (λ u v. cond u first (cond v inner last)) (ne_eqb q 0 (λ e. omega (arith, e, pos))) (le-leb q (item_count p) le)
 
 -- One way round the rings, by the cells, the neighbour of an item and what it is in the list. What is `before` is the same the other way.
-record Way (p : Puzzle) : Type 0 where
-  cell : List Move → ℕ → ℕ
-  beside : List Move → ℕ → ℕ
-  before : List Move → ℕ → ℕ
-  end : ℕ → List ℕ → ℕ
-  next : ℕ → ℕ → List ℕ → ℕ
-  last : ℕ → ℕ → List ℕ → ℕ
-  at_head : (t : List Move) (b : Bool) → cell t (hd p b) ≡ end (hd p b) (ring p t b)
-  at_item : (t : List Move) (q : ℕ) → 0 < q → q ≤ item_count p → cell t q ≡ beside t q
-  now : (t : List Move) (q : ℕ) → is_covered q t ≡ false → beside t q ≡ next (hd p (side p q)) q (ring p t (side p q))
-  now_before : (t : List Move) (q : ℕ) → is_covered q t ≡ false → before t q ≡ last (hd p (side p q)) q (ring p t (side p q))
-  gone : (t : List Move) (m : Move) (q : ℕ) → is_covered q (m ∷ t) ≡ true → beside (m ∷ t) q ≡ beside t q
-  end_without : (h i : ℕ) (xs : List ℕ) → Rises 0 xs → is_in i xs ≡ true → is_in h xs ≡ false → end h (less i xs) ≡ cond (eqb h (last h i xs)) (next h i xs) (end h xs)
-  next_without : (h i q : ℕ) (xs : List ℕ) → Rises 0 xs → is_in i xs ≡ true → is_in q xs ≡ true → q ≢ i → h ≢ q → next h q (less i xs) ≡ cond (eqb q (last h i xs)) (next h i xs) (next h q xs)
-  round : (h i : ℕ) (xs : List ℕ) → Rises 0 xs → is_in i xs ≡ true → is_in h xs ≡ false → cond (eqb (last h i xs) h) (end h xs) (next h (last h i xs) xs) ≡ i
-  last_in : (h i : ℕ) (xs : List ℕ) → Rises 0 xs → is_in i xs ≡ true → (last h i xs ≡ h) ⊎ ((is_in (last h i xs) xs ≡ true) × (last h i xs ≢ i))
+pub record Way (p : Puzzle) : Type 0 where
+  pub cell : List Move → ℕ → ℕ
+  pub beside : List Move → ℕ → ℕ
+  pub before : List Move → ℕ → ℕ
+  pub end : ℕ → List ℕ → ℕ
+  pub next : ℕ → ℕ → List ℕ → ℕ
+  pub last : ℕ → ℕ → List ℕ → ℕ
+  pub at_head : (t : List Move) (b : Bool) → cell t (hd p b) ≡ end (hd p b) (ring p t b)
+  pub at_item : (t : List Move) (q : ℕ) → 0 < q → q ≤ item_count p → cell t q ≡ beside t q
+  pub now : (t : List Move) (q : ℕ) → is_covered q t ≡ false → beside t q ≡ next (hd p (side p q)) q (ring p t (side p q))
+  pub now_before : (t : List Move) (q : ℕ) → is_covered q t ≡ false → before t q ≡ last (hd p (side p q)) q (ring p t (side p q))
+  pub gone : (t : List Move) (m : Move) (q : ℕ) → is_covered q (m ∷ t) ≡ true → beside (m ∷ t) q ≡ beside t q
+  pub end_without : (h i : ℕ) (xs : List ℕ) → Rises 0 xs → is_in i xs ≡ true → is_in h xs ≡ false → end h (less i xs) ≡ cond (eqb h (last h i xs)) (next h i xs) (end h xs)
+  pub next_without : (h i q : ℕ) (xs : List ℕ) → Rises 0 xs → is_in i xs ≡ true → is_in q xs ≡ true → q ≢ i → h ≢ q → next h q (less i xs) ≡ cond (eqb q (last h i xs)) (next h i xs) (next h q xs)
+  pub round : (h i : ℕ) (xs : List ℕ) → Rises 0 xs → is_in i xs ≡ true → is_in h xs ≡ false → cond (eqb (last h i xs) h) (end h xs) (next h (last h i xs) xs) ≡ i
+  pub last_in : (h i : ℕ) (xs : List ℕ) → Rises 0 xs → is_in i xs ≡ true → (last h i xs ≡ h) ⊎ ((is_in (last h i xs) xs ≡ true) × (last h i xs ≢ i))
 
-abbrev rightwards : (p : Puzzle) → Way p
+abbrev way_column : (p : Puzzle) → Way p → List Move → List ℕ
+way_column p w t = map (w.cell t) (range_with_len 0 (item_count p + 2))
+
+abbrev pub rightwards : (p : Puzzle) → Way p
 rightwards p = record {
   cell = rlink_at p;
   beside = right_of p;
@@ -194,7 +191,7 @@ rightwards p = record {
   last_in = λ h i xs r e. elim (last_below-in h i 0 xs r e) [ inl f ↦ inl f | inr f ↦ let lt = f.1 in inr (f.0, λ s. omega (arith, s, lt)) ];
 }
 
-abbrev leftwards : (p : Puzzle) → Way p
+abbrev pub leftwards : (p : Puzzle) → Way p
 leftwards p = record {
   cell = llink_at p;
   beside = left_of p;
@@ -213,7 +210,7 @@ leftwards p = record {
   last_in = λ h i xs r e. elim (first_above-in h i 0 xs r e) [ inl f ↦ inl f | inr f ↦ let lt = f.1 in inr (f.0, λ s. omega (arith, s, lt)) ];
 }
 
-way_beside : (p : Puzzle) (w : Way p) (t : List Move) (i : ℕ) → 0 < i → i ≤ item_count p → is_covered i t ≡ false → IsBeside p t (side p i) (w.before t i) × (w.before t i ≢ i)
+pub way_beside : (p : Puzzle) (w : Way p) (t : List Move) (i : ℕ) → 0 < i → i ≤ item_count p → is_covered i t ≡ false → IsBeside p t (side p i) (w.before t i) × (w.before t i ≢ i)
 way_beside p w t i pos le un =
     let b = side p i in
     let is = w.now_before t i un in
@@ -221,18 +218,6 @@ way_beside p w t i pos le un =
       | inl h ↦ (inl (is ∙ h), λ e. head_item p b i pos le (sym h ∙ sym is ∙ e))
       | inr h ↦ (inr (ap (λ k. is_in k (ring p t b)) is ∙ h.0), λ e. h.1 (sym is ∙ e))
     ]
-
-pub right_beside : (p : Puzzle) (t : List Move) (i : ℕ) → 0 < i → i ≤ item_count p → is_covered i t ≡ false → IsBeside p t (side p i) (right_of p t i) × (right_of p t i ≢ i)
-right_beside p = way_beside p (leftwards p)
-
-pub left_beside : (p : Puzzle) (t : List Move) (i : ℕ) → 0 < i → i ≤ item_count p → is_covered i t ≡ false → IsBeside p t (side p i) (left_of p t i) × (left_of p t i ≢ i)
-left_beside p = way_beside p (rightwards p)
-
-pub llink_item : (p : Puzzle) (t : List Move) (q : ℕ) → 0 < q → q ≤ item_count p → llink_at p t q ≡ left_of p t q
-llink_item p = (leftwards p).at_item
-
-rlink_item : (p : Puzzle) (t : List Move) (q : ℕ) → 0 < q → q ≤ item_count p → rlink_at p t q ≡ right_of p t q
-rlink_item p = (rightwards p).at_item
 
 place_case : (p : Puzzle) (q : ℕ) → q < item_count p + 2 → ((b : Bool) × (q ≡ hd p b)) ⊎ ((0 < q) × (q ≤ item_count p))
 place_case p q lt =
@@ -243,7 +228,7 @@ place_case p q lt =
     (λ ne. inr (omega (arith, nz), omega (arith, lt, ne))))
 
 -- a Cover changes one cell each way, that of the neighbour before
-way_next : (p : Puzzle) (w : Way p) (t : List Move) (i : ℕ) → 0 < i → i ≤ item_count p → is_covered i t ≡ false → (q : ℕ) → q < item_count p + 2 →
+pub way_next : (p : Puzzle) (w : Way p) (t : List Move) (i : ℕ) → 0 < i → i ≤ item_count p → is_covered i t ≡ false → (q : ℕ) → q < item_count p + 2 →
     w.cell (Cover i ∷ t) q ≡ cond (eqb q (w.before t i)) (w.beside t i) (w.cell t q)
 way_next p w t i pos le un q lt =
     let b = side p i in
@@ -288,16 +273,8 @@ way_next p w t i pos le un q lt =
       | inr h ↦ at_item h.0 h.1
     ]
 
-pub rlink_next : (p : Puzzle) (t : List Move) (i : ℕ) → 0 < i → i ≤ item_count p → is_covered i t ≡ false → (q : ℕ) → q < item_count p + 2 →
-    rlink_at p (Cover i ∷ t) q ≡ cond (eqb q (left_of p t i)) (right_of p t i) (rlink_at p t q)
-rlink_next p = way_next p (rightwards p)
-
-llink_next : (p : Puzzle) (t : List Move) (i : ℕ) → 0 < i → i ≤ item_count p → is_covered i t ≡ false → (q : ℕ) → q < item_count p + 2 →
-    llink_at p (Cover i ∷ t) q ≡ cond (eqb q (right_of p t i)) (left_of p t i) (llink_at p t q)
-llink_next p = way_next p (leftwards p)
-
 -- from the neighbour back to i
-way_back : (p : Puzzle) (w : Way p) (t : List Move) (i : ℕ) → 0 < i → i ≤ item_count p → is_covered i t ≡ false → w.cell t (w.before t i) ≡ i
+pub way_back : (p : Puzzle) (w : Way p) (t : List Move) (i : ℕ) → 0 < i → i ≤ item_count p → is_covered i t ≡ false → w.cell t (w.before t i) ≡ i
 way_back p w t i pos le un =
     let b = side p i in
     let h = hd p b in
@@ -316,12 +293,6 @@ way_back p w t i pos le un =
           ∙ sym (ap (λ v. cond v (w.end h xs) (w.next h k xs)) (ne_eqb k h ne)) ∙ all
     ])
 
-pub rlink_back : (p : Puzzle) (t : List Move) (i : ℕ) → 0 < i → i ≤ item_count p → is_covered i t ≡ false → rlink_at p t (left_of p t i) ≡ i
-rlink_back p = way_back p (rightwards p)
-
-llink_back : (p : Puzzle) (t : List Move) (i : ℕ) → 0 < i → i ≤ item_count p → is_covered i t ≡ false → llink_at p t (right_of p t i) ≡ i
-llink_back p = way_back p (leftwards p)
-
 -- ---- both ways
 
 -- Cover(i) and its undoing may be made on the item table, and lead from moves to one move more and back
@@ -331,46 +302,50 @@ pub record RingStep (p : Puzzle) (t : List Move) (i : ℕ) : Type 0 where
   pub can_back : CanTurn (items_after p (Cover i ∷ t)) i
   pub undone : back_in_ring (items_after p (Cover i ∷ t)) i ≡ items_after p t
 
+-- a column of links before a Cover and after it
+record WayStep (p : Puzzle) (w : Way p) (t : List Move) (i : ℕ) : Type 0 where
+  beside : w.before t i < item_count p + 2
+  long : length (way_column p w t) ≡ item_count p + 2
+  long' : length (way_column p w (Cover i ∷ t)) ≡ item_count p + 2
+  get : get_or (way_column p w t) i 0 ≡ w.beside t i
+  get' : get_or (way_column p w (Cover i ∷ t)) i 0 ≡ w.beside t i
+  put : way_column p w (Cover i ∷ t) ≡ set (way_column p w t) (w.before t i) (w.beside t i)
+  back : set (way_column p w (Cover i ∷ t)) (w.before t i) i ≡ way_column p w t
+
+way_step : (p : Puzzle) (w : Way p) (t : List Move) (i : ℕ) → 0 < i → i ≤ item_count p → is_covered i t ≡ false → WayStep p w t i
+way_step p w t i pos le un =
+    let n = item_count p + 2 in
+    let next = Cover i ∷ t in
+    let l = w.before t i in
+    let r = w.beside t i in
+    let within : i < n = omega (arith, le) in
+    let l_in : l < n = beside_place p t (side p i) l (way_beside p w t i pos le un).0 in
+    let put : way_column p w next ≡ set (way_column p w t) l r =
+    row_put (w.cell t) (w.cell next) n l r
+    (λ q lt ne. way_next p w t i pos le un q lt ∙ ap (λ v. cond v r (w.cell t q)) (ne_eqb q l ne))
+    (way_next p w t i pos le un l l_in ∙ ap (λ v. cond v r (w.cell t l)) (eq-eqb l l refl)) in
+    record {
+      beside = l_in;
+      long = row_len (w.cell t) n;
+      long' = row_len (w.cell next) n;
+      get = row_get (w.cell t) n i within ∙ w.at_item t i pos le;
+      get' = row_get (w.cell next) n i within ∙ w.at_item next i pos le ∙ w.gone t (Cover i) i (ap (λ v. v || is_covered i t) (eq-eqb i i refl));
+      put = put;
+      back = ap (λ xs. set xs l i) put ∙ written_back (way_column p w t) l l r i refl (row_get (w.cell t) n l l_in ∙ way_back p w t i pos le un);
+    }
+
 pub ring_step : (p : Puzzle) (t : List Move) (i : ℕ) → IsLegal p t (Cover i) → RingStep p t i
 ring_step p t i may =
     let pos : 0 < i = let h = may.0.0 in omega (arith, h) in
     let le : i ≤ item_count p = may.0.1 in
     let un : is_covered i t ≡ false = open_uncovered i t may.1 in
-    let n = item_count p + 2 in
-    let next = Cover i ∷ t in
-    let l = left_of p t i in
-    let r = right_of p t i in
-    let within : i < n = omega (arith, le) in
-    let l_in : l < n = beside_place p t (side p i) l (left_beside p t i pos le un).0 in
-    let r_in : r < n = beside_place p t (side p i) r (right_beside p t i pos le un).0 in
-    let gone : is_covered i next ≡ true = ap (λ v. v || is_covered i t) (eq-eqb i i refl) in
-    let l_next : left_of p next i ≡ l = ap (λ v. cond v (left_of p t i) (last_below (ring_head p i) i (ring_of p next i))) gone in
-    let r_next : right_of p next i ≡ r = ap (λ v. cond v (right_of p t i) (first_above (ring_head p i) i (ring_of p next i))) gone in
-    let get_l : get_or (items_after p t).llink i 0 ≡ l = row_get (llink_at p t) n i within ∙ llink_item p t i pos le in
-    let get_r : get_or (items_after p t).rlink i 0 ≡ r = row_get (rlink_at p t) n i within ∙ rlink_item p t i pos le in
-    let get_l' : get_or (items_after p next).llink i 0 ≡ l = row_get (llink_at p next) n i within ∙ llink_item p next i pos le ∙ l_next in
-    let get_r' : get_or (items_after p next).rlink i 0 ≡ r = row_get (rlink_at p next) n i within ∙ rlink_item p next i pos le ∙ r_next in
-    let rlinks : (items_after p next).rlink ≡ set (items_after p t).rlink l r =
-    row_put (rlink_at p t) (rlink_at p next) n l r
-    (λ q lt ne. rlink_next p t i pos le un q lt ∙ ap (λ v. cond v r (rlink_at p t q)) (ne_eqb q l ne))
-    (rlink_next p t i pos le un l l_in ∙ ap (λ v. cond v r (rlink_at p t l)) (eq-eqb l l refl)) in
-    let llinks : (items_after p next).llink ≡ set (items_after p t).llink r l =
-    row_put (llink_at p t) (llink_at p next) n r l
-    (λ q lt ne. llink_next p t i pos le un q lt ∙ ap (λ v. cond v l (llink_at p t q)) (ne_eqb q r ne))
-    (llink_next p t i pos le un r r_in ∙ ap (λ v. cond v l (llink_at p t r)) (eq-eqb r r refl)) in
-    let long_l = row_len (llink_at p t) n in
-    let long_r = row_len (rlink_at p t) n in
-    let long_l' = row_len (llink_at p next) n in
-    let long_r' = row_len (rlink_at p next) n in
-    let back_r : set (items_after p next).rlink l i ≡ (items_after p t).rlink =
-    ap (λ xs. set xs l i) rlinks ∙ written_back (items_after p t).rlink l l r i refl (row_get (rlink_at p t) n l l_in ∙ rlink_back p t i pos le un) in
-    let back_l : set (items_after p next).llink r i ≡ (items_after p t).llink =
-    ap (λ xs. set xs r i) llinks ∙ written_back (items_after p t).llink r r l i refl (row_get (llink_at p t) n r r_in ∙ llink_back p t i pos le un) in
+    let now = items_after p t in
+    let next = items_after p (Cover i ∷ t) in
+    let a = way_step p (rightwards p) t i pos le un in
+    let b = way_step p (leftwards p) t i pos le un in
     record {
-      can = record { place = (omega (arith, long_l, within), omega (arith, long_r, within)); left = omega (arith, get_l, l_in, long_r); right = omega (arith, get_r, r_in, long_l) };
-      done = same_items (left_ring (items_after p t) i) (items_after p next)
-          (ap₂ (set (items_after p t).llink) get_r get_l ∙ sym llinks) (ap₂ (set (items_after p t).rlink) get_l get_r ∙ sym rlinks) refl refl;
-      can_back = record { place = (omega (arith, long_l', within), omega (arith, long_r', within)); left = omega (arith, get_l', l_in, long_r'); right = omega (arith, get_r', r_in, long_l') };
-      undone = same_items (back_in_ring (items_after p next) i) (items_after p t)
-          (ap (λ k. set (items_after p next).llink k i) get_r' ∙ back_l) (ap (λ k. set (items_after p next).rlink k i) get_l' ∙ back_r) refl refl;
+      can = record { place = (omega (arith, b.long, le), omega (arith, a.long, le)); left = omega (arith, b.get, a.beside, a.long); right = omega (arith, a.get, b.beside, b.long) };
+      done = same_items (left_ring now i) next (ap₂ (set now.llink) a.get b.get ∙ sym b.put) (ap₂ (set now.rlink) b.get a.get ∙ sym a.put) refl refl;
+      can_back = record { place = (omega (arith, b.long', le), omega (arith, a.long', le)); left = omega (arith, b.get', a.beside, a.long'); right = omega (arith, a.get', b.beside, b.long') };
+      undone = same_items (back_in_ring next i) now (ap (λ k. set next.llink k i) a.get' ∙ b.back) (ap (λ k. set next.rlink k i) b.get' ∙ a.back) refl refl;
     }

@@ -9,7 +9,7 @@ use Rattle.xc_dance.specs.declared.links.nodes.Nodes.{Nodes}
 use Rattle.xc_dance.specs.Links.Span.{Span}
 use Rattle.xc_input.specs.Problem.{Puzzle, item_count, uses_of}
 use Rattle.xc_dance.specs.Moves.{listed, is_open, AreLegal, listed_numbers}
-use Rattle.xc_dance.specs.Fields.{Node, unused, own, spacer, used, layout, link_place, first_of, is_in}
+use Rattle.xc_dance.specs.Fields.{Node, unused, own, layout, link_place, first_of, is_in}
 use Rattle.xc_dance.specs.Links.Lines.{Line}
 use Rattle.xc_dance.specs.Links.Steps.{HasSize, NamesPlaces, unlinked, relinked, others_of, CanHideNode, CanShowNode, hide_costs, show_costs}
 use Rattle.xc_dance.specs.Links.Tweaking.{hidden_unless, shown_unless, tweaked, untweaked, CanTweak, CanTweakAt, CanUntweak, tweak_cost, untweak_cost}
@@ -60,9 +60,7 @@ has_first p t i h =
 
 pub tweak_colours : (p : Puzzle) (t : List Move) (i : ℕ) (n : Node) → color_in p (Tweak i ∷ t) n ≡ color_in p t n
 tweak_colours p t i unused = refl
-tweak_colours p t i (own j) = refl
-tweak_colours p t i (spacer m) = refl
-tweak_colours p t i (used o u) = refl
+tweak_colours p t i _ = refl
 
 one_only : (o n : ℕ) (os : List ℕ) → o ≤ n → Rises n os → filter (λ x. eqb x o) os ≡ []
 one_only o n [] le r = refl
@@ -209,8 +207,7 @@ leaving_tweak p t spans covered i pos le f mid =
       | false ↦ λ e. omega arith
     ] refl) in
     let sum = total_plus (λ j. cond (eqb i j) 1 0) (λ j. length (mid.ks j)) 1 n in
-    let point = total_point i 1 1 n (omega (arith, pos)) (omega (arith, le)) in
-    omega (arith, all, split, sum, point)
+    omega (arith, all, split, sum, total_point i 1 1 n (omega (arith, pos)) (omega (arith, le)))
 
 by_mid : (p : Puzzle) (t : List Move) (spans : List Span) (covered : Bool) (i : ℕ) → IsFitted p spans → 0 < i → i ≤ item_count p → (f : HasFirst p t i) → Mid p t spans covered i f.o → TweakMade p t spans covered i
 by_mid p t spans covered i fit pos le f mid =
@@ -243,13 +240,12 @@ by_mid p t spans covered i fit pos le f mid =
     let first : get_or t0.dlink i 0 ≡ x = get_down p (line_of p t) i 0 (own_placed p i laid pos le) ∙ ap (λ ks. link_place p i (first_of 0 ks)) f.is in
     let taken : link_place p i (first_of 0 (listed_numbers p t i)) ≡ x = ap (λ ks. link_place p i (first_of 0 ks)) f.is in
     let down_long : length t0.dlink ≡ length (layout p) = length-map (layout p) (dlink_in p (line_of p t)) in
-    let i_in = slice_get_within (layout p) i (own i) (laid.head i pos le) in
     let back = CanRelink-unlinked u x size names linked (omega (arith, count, few)) in
     let same : unlinked u x ≡ next = out ∙ sym end in
     let again : relinked next x ≡ u = ap (λ (v : Nodes). relinked v x) (sym same) ∙ relinked-unlinked u x linked in
     record {
       can = subst (λ k. CanTweakAt spans covered t0 i k) (sym first) (record {
-        place = omega (arith, i_in, down_long);
+        place = omega (arith, slice_get_within (layout p) i (own i) (laid.head i pos le), down_long);
         hide = mid.hide;
         size = subst (λ (v : Nodes). HasSize v (length v.top)) (sym mid.done) size;
         names = subst (λ (v : Nodes). NamesPlaces v x) (sym mid.done) names;

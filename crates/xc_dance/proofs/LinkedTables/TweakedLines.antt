@@ -1,5 +1,5 @@
 -- The lines after some Tweaks of one item, from those before.
-use Rattle.std.proofs.Common.{◌≡◌, ◌≢◌, ℕ, zero, suc, ◌+◌, ◌*◌, ◌-◌, ◌<◌, ◌≤◌, Bool, true, false, not, cond, ◌&&◌, eqb, List, [], ◌∷◌, ◌++◌, length, map, filter, drop, reverse, get_or, refl, ap, ap₂, sym, subst, ◌∙◌, arith, length-append}
+use Rattle.std.proofs.Common.{◌≡◌, ◌≢◌, ℕ, zero, suc, ◌+◌, ◌*◌, ◌<◌, ◌≤◌, Bool, true, false, not, cond, ◌&&◌, eqb, List, [], ◌∷◌, ◌++◌, length, map, filter, drop, reverse, get_or, refl, ap, ap₂, sym, subst, ◌∙◌, arith, length-append}
 use Rattle.std.proofs.lemmas.List.{reverse-append, append_assoc, map-append}
 use Rattle.std.proofs.lemmas.List.Sums.{fold-append}
 use Rattle.xc_dance.specs.declared.dance.Move.{Move}
@@ -104,11 +104,10 @@ one_writes p s spans false i legal fit may opened f =
     let named : Named p i o = element_of (Named p i) o (listed_numbers p s i) (numbers_named p s i) within in
     let o_pos : 0 < o = in_above 0 o (listed_numbers p s i) (rises_listed p s i) within in
     let first : get_or t0.dlink i 0 ≡ link_place p i o = get_down p (line_of p s) i 0 (own_placed p i fit.laid pos le) ∙ ap (λ ks. link_place p i (first_of 0 ks)) f.is in
-    let made = (tweak_made p s spans false i legal fit pos le may.2 opened).cost in
     let hides : hide_costs t0 (others_of spans (get_or t0.dlink i 0)) ≡ 3 * gone_count p col i o =
     ap (λ q. hide_costs t0 (others_of spans q)) first ∙ ap (hide_costs t0) (others_are p spans o i fit.spanned o_pos named)
     ∙ costs-are hidden hidden_color t0 (map (λ j. link_place p j o) js) ∙ unmarked_items p col o js in
-    omega (arith, made, hides)
+    omega (arith, (tweak_made p s spans false i legal fit pos le may.2 opened).cost, hides)
 
 gone_alike : (p : Puzzle) (col now : Node → ℕ) (i o : ℕ) → map now (layout p) ≡ map col (layout p) → gone_count p now i o ≡ gone_count p col i o
 gone_alike p col now i o e = ap (λ (cs : List ℕ). length (filter (λ j. not (eqb (get_or cs (link_place p j o) 0) 4294967295)) (other_items p o i))) e
@@ -150,8 +149,7 @@ tweaked_lines p t spans covered i (suc k) legal fit opened =
           let same : map (color_in p s) (layout p) ≡ map (color_in p t) (layout p) = map_same (color_in p t) (color_in p s) (layout p) (λ m n e. h.colours n) in
           let alike : back_writes p (color_in p s) covered i o ≡ back_writes p (color_in p t) covered i o = ap (λ n. cond covered 0 (3 * n)) (gone_alike p (color_in p t) (color_in p s) i o same) in
           let rest = before.costs in
-          let sum = tweak_writes-append p (color_in p t) covered i os o in
-          omega (arith, one, alike, rest, sum);
+          omega (arith, one, alike, rest, tweak_writes-append p (color_in p t) covered i os o);
       lines = record {
         list = h.list ∙ ap (λ ks. os ++ ks) f.is ∙ sym (append_assoc os (o ∷ []) f.os) ∙ ap (λ ks. (os ++ o ∷ []) ++ ks) (sym rest);
         own = line_after p s (Tweak i) i (o ∷ []) (tweak_cut p s i f) ∙ ap (λ (m : Line). cut m o) h.own ∙ sym (fold-append cut (line_of p t i) os (o ∷ []));

@@ -37,20 +37,21 @@ use Rattle.xc_dance.proofs.LinkedTables.LineChanges.{put_at, cut, IsLinkedFrom, 
 
 -- ---- the lines of other items are being regained
 
--- what comes back to item j's list is in it
+-- what comes back to item j's list, by a test of its members
+come_is : (p : Puzzle) (t : List Move) (spans : List Span) (covered : Bool) (i j : ℕ) (os : List ℕ) → AreLegal p t → IsFitted p spans → is_open i t ≡ not covered → AreOf p t i os → 0 < j → j ≤ item_count p → j ≢ i →
+    (f : ℕ → Bool) × (to_come p t covered i j os ≡ filter f (listed_numbers p t j))
+come_is p t spans true i j os legal fit shut of pos le ne = (λ x. false, sym (leave_none (listed_numbers p t j)))
+come_is p t spans false i j os legal fit opened of pos le ne =
+    elim (is_open j t) as (λ b. is_open j t ≡ b → (f : ℕ → Bool) × (filter (leaves p (color_in p t) i j) os ≡ filter f (listed_numbers p t j))) [
+      | true ↦ λ e. (λ x. is_in x os, leaves_open p t i j os legal fit.laid fit.fit opened (pos, le) of ne e)
+      | false ↦ λ e. (λ x. false, leaves_shut p t i j os legal fit.laid fit.fit opened (pos, le) of e ∙ sym (leave_none (listed_numbers p t j)))
+    ] refl
+
 start_other : (p : Puzzle) (t : List Move) (spans : List Span) (covered : Bool) (i j : ℕ) (os : List ℕ) → AreLegal p t → IsFitted p spans → is_open i t ≡ not covered → AreOf p t i os → 0 < j → j ≤ item_count p → j ≢ i →
     Regaining (line_of p t j) (cuts (line_of p t j) (to_come p t covered i j os)) (to_come p t covered i j os)
-start_other p t spans true i j os legal fit shut of pos le ne =
-    subst (λ ks. Regaining (line_of p t j) (cuts (line_of p t j) ks) ks) (leave_none (listed_numbers p t j)) (regaining (line_of p t j) (listed_numbers p t j) (λ x. false) (stands p t j))
-start_other p t spans false i j os legal fit opened of pos le ne =
-    elim (is_open j t) as (λ b. is_open j t ≡ b → Regaining (line_of p t j) (cuts (line_of p t j) (filter (leaves p (color_in p t) i j) os)) (filter (leaves p (color_in p t) i j) os)) [
-      | true ↦ λ e.
-          subst (λ ks. Regaining (line_of p t j) (cuts (line_of p t j) ks) ks) (sym (leaves_open p t i j os legal fit.laid fit.fit opened (pos, le) of ne e))
-          (regaining (line_of p t j) (listed_numbers p t j) (λ x. is_in x os) (stands p t j))
-      | false ↦ λ e.
-          subst (λ ks. Regaining (line_of p t j) (cuts (line_of p t j) ks) ks) (leave_none (listed_numbers p t j) ∙ sym (leaves_shut p t i j os legal fit.laid fit.fit opened (pos, le) of e))
-          (regaining (line_of p t j) (listed_numbers p t j) (λ x. false) (stands p t j))
-    ] refl
+start_other p t spans covered i j os legal fit opened of pos le ne =
+    let come = come_is p t spans covered i j os legal fit opened of pos le ne in
+    subst (λ ks. Regaining (line_of p t j) (cuts (line_of p t j) ks) ks) (sym come.1) (regaining (line_of p t j) (listed_numbers p t j) come.0 (stands p t j))
 
 cuts_len : (l : Line) (ks : List ℕ) → length ks ≤ l.len → (cuts l ks).len + length ks ≡ l.len
 cuts_len l [] h = omega arith
@@ -120,21 +121,23 @@ longer_is p col ln i n laid pos le =
 
 come_few : (p : Puzzle) (t : List Move) (spans : List Span) (covered : Bool) (i j : ℕ) (os : List ℕ) → AreLegal p t → IsFitted p spans → is_open i t ≡ not covered → AreOf p t i os → 0 < j → j ≤ item_count p → j ≢ i →
     length (to_come p t covered i j os) ≤ (line_of p t j).len
-come_few p t spans true i j os legal fit shut of pos le ne = omega arith
-come_few p t spans false i j os legal fit opened of pos le ne =
+come_few p t spans covered i j os legal fit opened of pos le ne =
+    let come = come_is p t spans covered i j os legal fit opened of pos le ne in
     let long : length (listed_numbers p t j) ≡ (line_of p t j).len = length-map (listed p t j) (λ o. o.number) in
-    elim (is_open j t) as (λ b. is_open j t ≡ b → length (filter (leaves p (color_in p t) i j) os) ≤ (line_of p t j).len) [
-      | true ↦ λ e.
-          let a = ap length (leaves_open p t i j os legal fit.laid fit.fit opened (pos, le) of ne e) in
-          let b = length-filter-le (λ x. is_in x os) (listed_numbers p t j) in
-          omega (arith, a, b, long)
-      | false ↦ λ e. let a = ap length (leaves_shut p t i j os legal fit.laid fit.fit opened (pos, le) of e) in omega (arith, a)
-    ] refl
+    omega (arith, ap length come.1, length-filter-le come.0 (listed_numbers p t j), long)
 
-pub record TweaksBack (p : Puzzle) (t : List Move) (spans : List Span) (covered : Bool) (i k : ℕ) : Type 0 where
-  pub can : CanUntweakAll spans covered (nodes_after p (tweaks k i t)) i (link_place p i (first_of 0 (listed_numbers p t i))) k
-  pub done : untweaked_all spans covered (nodes_after p (tweaks k i t)) i (link_place p i (first_of 0 (listed_numbers p t i))) k ≡ nodes_after p t
-  pub cost : untweak_all_cost spans covered (nodes_after p (tweaks k i t)) i (link_place p i (first_of 0 (listed_numbers p t i))) k ≡ undo_tweaks_cost k p (tweaks k i t)
+-- where the first node stands that Tweaks of item i after the moves t take off
+abbrev pub first_place : Puzzle → List Move → ℕ → ℕ
+first_place p t i = link_place p i (first_of 0 (listed_numbers p t i))
+
+-- k Tweaks of item i, x being the first node that they took off, can be undone at once
+pub record Undoes (spans : List Span) (covered : Bool) (nodes : Nodes) (i x k : ℕ) (after : Nodes) (cost : ℕ) : Type 0 where
+  pub can : CanUntweakAll spans covered nodes i x k
+  pub done : untweaked_all spans covered nodes i x k ≡ after
+  pub paid : untweak_all_cost spans covered nodes i x k ≡ cost
+
+abbrev pub TweaksBack : Puzzle → List Move → List Span → Bool → ℕ → ℕ → Type 0
+TweaksBack p t spans covered i k = Undoes spans covered (nodes_after p (tweaks k i t)) i (first_place p t i) k (nodes_after p t) (undo_tweaks_cost k p (tweaks k i t))
 
 -- each step writes two cells less than the Tweak did
 fewer : (p : Puzzle) (col : Node → ℕ) (covered : Bool) (i : ℕ) (os : List ℕ) → climb_writes p col covered i os + 2 * length os ≡ tweak_writes p col covered i os
@@ -165,7 +168,6 @@ by_lines p t spans covered i k o os legal fit pos le opened count costs h =
     let ln0 : ℕ → Line = with_line lnS i w in
     let at_i : ln0 i ≡ w = line_here lnS i w in
     let first : listed_numbers p t i ≡ o ∷ (os ++ rest) = h.list in
-    let xp : link_place p i (first_of 0 (listed_numbers p t i)) ≡ link_place p i o = ap (λ ks. link_place p i (first_of 0 ks)) first in
     let x = link_place p i o in
     let T : Nodes = nodes_after p s in
     let t0 : Nodes = nodes_from p ln0 col in
@@ -181,8 +183,7 @@ by_lines p t spans covered i k o os legal fit pos le opened count costs h =
       few = λ j jpos jle ne.
           let a = cuts_len (line_of p t j) (to_come p t covered i j all) (come_few p t spans covered i j all legal fit opened of jpos jle ne) in
           let b = ap (λ (m : Line). m.len) (h.others j jpos jle ne) in
-          let c = ap (λ (m : Line). m.len) (line_there lnS i j w ne) in
-          omega (arith, a, b, c);
+          omega (arith, a, b, ap (λ (m : Line). m.len) (line_there lnS i j w ne));
       own_down = down0;
       own_up = λ y e. ap (λ (m : Line). m.up y) at_i ∙ ap (λ (m : Line). m.up y) h.own ∙ lost_own.1 y e;
     } in
@@ -219,22 +220,20 @@ by_lines p t spans covered i k o os legal fit pos le opened count costs h =
           line_there cw.end i j (longer (cw.end i) n) ne ∙ line_is (line_of p t j) (cw.end j) (omega (arith, few, none)) back.up back.down
     ] refl)
     (λ m k e. refl) in
-    record {
-      can = subst (λ y. CanUntweakAll spans covered T i y k) (sym xp) (record {
+    subst (λ y. Undoes spans covered T i y k (nodes_after p t) (undo_tweaks_cost k p s)) (sym (ap (λ ks. link_place p i (first_of 0 ks)) first)) (record {
+      can = record {
         place = omega (arith, within, down_long);
         climb = subst (λ (u : Nodes). IsClimb spans covered u x (followed (with_dlink T i x).dlink k x)) (sym start)
             (subst (λ qs. IsClimb spans covered t0 x qs) (sym follow') (subst (λ q. IsClimb spans covered t0 q (map (link_place p i) all)) lead cw.walk));
         many = omega (arith, count, long_list, most, fit_few);
         top = subst (λ (u : Nodes). i < length u.top) (sym fold_is) (omega (arith, within, top_long));
         few = subst (λ (u : Nodes). get_or u.top i 0 < 2 ^ 31) (sym fold_is) (omega (arith, len_end, end_len, own_len, lost, long_l, most, fit_few));
-      });
-      done = ap (λ y. untweaked_all spans covered T i y k) xp ∙ ap (λ (u : Nodes). with_top u i (get_or u.top i 0 + k)) fold_is ∙ end;
-      cost =
-          let at = ap (λ y. untweak_all_cost spans covered T i y k) xp in
+      };
+      done = ap (λ (u : Nodes). with_top u i (get_or u.top i 0 + k)) fold_is ∙ end;
+      paid =
           let walk = ap₂ (λ (u : Nodes) qs. climb_costs spans covered u qs) start follow' ∙ cw.costs in
-          let less = fewer p col covered i all in
-          omega (arith, at, walk, less, costs, count);
-    }
+          omega (arith, walk, fewer p col covered i all, costs, count);
+    })
 
 pub tweaks_back : (p : Puzzle) (t : List Move) (spans : List Span) (covered : Bool) (i k : ℕ) → AreLegal p (tweaks k i t) → AreLegal p t → IsFitted p spans → 0 < i → i ≤ item_count p → is_open i t ≡ not covered → 0 < k → TweaksBack p t spans covered i k
 tweaks_back p t spans covered i k legal before fit pos le opened some =

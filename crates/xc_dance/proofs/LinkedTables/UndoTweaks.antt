@@ -1,7 +1,7 @@
 -- The newest moves are Tweaks of one item: what their undoing at once finds, and what it leaves.
 use Rattle.std.proofs.Common.{◌≡◌, ℕ, zero, suc, ◌+◌, ◌-◌, ◌<◌, ◌≤◌, inr, Bool, true, not, List, [], ◌∷◌, ◌++◌, length, map, drop, take, reverse, get_or, refl, ap, ap₂, sym, subst, ◌∙◌, arith, length-append}
 use Rattle.std.specs.Prelude.{replicate}
-use Rattle.std.proofs.lemmas.List.{reverse-append, reverse-reverse, length-reverse, length-drop, length-map, take-append-drop, get_or-append-add}
+use Rattle.std.proofs.lemmas.List.{reverse-append, reverse-reverse, length-reverse, length-drop, length-map, get_or_default, take-append-drop, get_or-append-add}
 use Rattle.std.proofs.Math.Seq.{drop-append_seam, take-append_seam}
 use Rattle.xc_dance.specs.declared.dance.Move.{Move}
 use Rattle.xc_dance.specs.declared.dance.Move.TheVariants.{Tweak}
@@ -10,7 +10,8 @@ use Rattle.xc_input.specs.Problem.{Puzzle, item_count}
 use Rattle.xc_dance.specs.Moves.{AreTweaks, AreLegal, is_covered, is_open, purified, listed_numbers}
 use Rattle.xc_dance.specs.Fields.{layout, link_place, first_of, is_in}
 use Rattle.xc_dance.specs.declared.links.nodes.Nodes.{Nodes}
-use Rattle.xc_dance.specs.Links.TweaksBack.{CanUntweakAll, untweaked_all, untweak_all_cost}
+use Rattle.xc_dance.specs.Cost.{undo_tweaks_cost}
+use Rattle.xc_dance.specs.declared.links.items.Items.{Items}
 use Rattle.xc_dance.specs.Links.Rings.{is_off}
 use Rattle.xc_dance.specs.Links.Taken.{taken_nodes}
 use Rattle.xc_dance.specs.Links.Cells.{top_in, line_of, nodes_after}
@@ -25,9 +26,10 @@ use Rattle.xc_dance.proofs.LinkedTables.GoodLines.{numbers_named}
 use Rattle.xc_dance.proofs.MoveLemmas.Shortened.{rises_listed}
 use Rattle.xc_dance.proofs.MoveLemmas.Members.{element_of}
 use Rattle.xc_dance.proofs.LinkedTables.StillItems.{still_items}
-use Rattle.xc_dance.proofs.LinkedTables.Covered.{off_is, open_or_covered}
+use Rattle.xc_dance.proofs.LinkedTables.Covered.{off_is}
+use Rattle.xc_dance.proofs.MoveLemmas.StateLemmas.{open_or_covered}
 use Rattle.xc_dance.proofs.LinkedTables.TweakedLines.{tweaks, Tweaked, tweaked_lines}
-use Rattle.xc_dance.proofs.LinkedTables.TweaksBack.{TweaksBack, tweaks_back}
+use Rattle.xc_dance.proofs.LinkedTables.TweaksBack.{Undoes, first_place, tweaks_back}
 
 pub tweaks_are : (k i : ℕ) (s : List Move) → k ≤ length s → take k s ≡ replicate k (Tweak i) → s ≡ tweaks k i (drop k s)
 tweaks_are zero i s h e = refl
@@ -66,7 +68,7 @@ turned_drop xs k h =
 -- the nodes that they took off stand last
 pub record TakenLast (p : Puzzle) (t : List Move) (i k : ℕ) (xs : List ℕ) : Type 0 where
   pub enough : k ≤ length xs
-  pub first : get_or xs (length xs - k) 0 ≡ link_place p i (first_of 0 (listed_numbers p t i))
+  pub first : get_or xs (length xs - k) 0 ≡ first_place p t i
   pub rest : reverse (take (length xs - k) xs) ≡ taken_nodes p t
 
 taken_last : (p : Puzzle) (t : List Move) (covered : Bool) (i k : ℕ) (xs : List ℕ) → 0 < k → Tweaked p t covered i k → reverse xs ≡ taken_nodes p (tweaks k i t) → TakenLast p t i k xs
@@ -91,22 +93,10 @@ taken_last p t covered i k xs some tw e =
     first_place [] c l = absurd (omega (arith, c, some))
     first_place (o ∷ os) c l = ap (λ ks. link_place p i (first_of 0 ks)) (sym l)
 
-pub record TweaksFound (p : Puzzle) (s : List Move) (spans : List Span) (k : ℕ) (xs : List ℕ) : Type 0 where
-  pub i : ℕ
-  pub is : s ≡ tweaks k i (drop k s)
-  pub legal : AreLegal p (drop k s)
-  pub taken : TakenLast p (drop k s) i k xs
-  pub within : link_place p i (first_of 0 (listed_numbers p (drop k s) i)) < length (nodes_after p s).top
-  pub item : get_or (nodes_after p s).top (link_place p i (first_of 0 (listed_numbers p (drop k s) i))) 0 ≡ i
-  pub tell : CanTell (items_after p s) i
-  pub off : is_off (items_after p s) i ≡ is_covered i (drop k s)
-  pub back : TweaksBack p (drop k s) spans (is_covered i (drop k s)) i k
-  pub items : items_after p s ≡ items_after p (drop k s)
-
 -- the first node that they took off is of the item
 pub record FirstNode (p : Puzzle) (s t : List Move) (i : ℕ) : Type 0 where
-  pub within : link_place p i (first_of 0 (listed_numbers p t i)) < length (nodes_after p s).top
-  pub item : get_or (nodes_after p s).top (link_place p i (first_of 0 (listed_numbers p t i))) 0 ≡ i
+  pub within : first_place p t i < length (nodes_after p s).top
+  pub item : get_or (nodes_after p s).top (first_place p t i) 0 ≡ i
 
 first_node : (p : Puzzle) (s t : List Move) (i : ℕ) (os rest : List ℕ) → IsLaid p → 0 < i → i ≤ item_count p → 0 < length os → listed_numbers p t i ≡ os ++ rest → FirstNode p s t i
 first_node p s t i [] rest laid pos le some l = absurd (omega (arith, some))
@@ -123,14 +113,17 @@ first_node p s t i (o ∷ os) rest laid pos le some l =
       item = ap (λ n. get_or (nodes_after p s).top (link_place p i n) 0) is ∙ get_item p (line_of p s) i o here o_pos;
     }
 
-pub record FoundBy (p : Puzzle) (t : List Move) (spans : List Span) (i k : ℕ) (xs : List ℕ) : Type 0 where
+-- the moves s are t and k Tweaks of item i
+pub record Found (p : Puzzle) (s t : List Move) (spans : List Span) (i k : ℕ) (xs : List ℕ) : Type 0 where
+  pub legal : AreLegal p t
   pub taken : TakenLast p t i k xs
-  pub node : FirstNode p (tweaks k i t) t i
-  pub tell : CanTell (items_after p (tweaks k i t)) i
-  pub off : is_off (items_after p (tweaks k i t)) i ≡ is_covered i t
-  pub back : TweaksBack p t spans (is_covered i t) i k
+  pub node : FirstNode p s t i
+  pub tell : CanTell (items_after p s) i
+  pub off : is_off (items_after p s) i ≡ is_covered i t
+  pub back : Undoes spans (is_covered i t) (nodes_after p s) i (first_place p t i) k (nodes_after p t) (undo_tweaks_cost k p s)
+  pub items : items_after p s ≡ items_after p t
 
-found_by : (p : Puzzle) (t : List Move) (spans : List Span) (i k : ℕ) (xs : List ℕ) → AreLegal p (tweaks (suc k) i t) → IsFitted p spans → reverse xs ≡ taken_nodes p (tweaks (suc k) i t) → FoundBy p t spans i (suc k) xs
+found_by : (p : Puzzle) (t : List Move) (spans : List Span) (i k : ℕ) (xs : List ℕ) → AreLegal p (tweaks (suc k) i t) → IsFitted p spans → reverse xs ≡ taken_nodes p (tweaks (suc k) i t) → Found p (tweaks (suc k) i t) t spans i (suc k) xs
 found_by p t spans i k xs legal fit e =
     let s = tweaks (suc k) i t in
     let may = legal.0 in
@@ -143,73 +136,52 @@ found_by p t spans i k xs legal fit e =
     let off = off_is p s i legal pos le in
     let some : 0 < suc k = omega arith in
     record {
+      legal = before;
       taken = taken_last p t covered i (suc k) xs some tw e;
       node = first_node p s t i tw.os (listed_numbers p s i) fit.laid pos le (let c = tw.count in omega (arith, c)) tw.lines.list;
       tell = (off.place, off.left);
       off = off.is ∙ covered_same (suc k) i i t;
       back = tweaks_back p t spans covered i (suc k) legal before fit pos le opened some;
+      items = items_same p (suc k) i t;
     }
 
-pub tweaks_found : (p : Puzzle) (s : List Move) (spans : List Span) (k : ℕ) (xs : List ℕ) → AreTweaks k s → AreLegal p s → IsFitted p spans → reverse xs ≡ taken_nodes p s → TweaksFound p s spans k xs
+pub tweaks_found : (p : Puzzle) (s : List Move) (spans : List Span) (k : ℕ) (xs : List ℕ) → AreTweaks k s → AreLegal p s → IsFitted p spans → reverse xs ≡ taken_nodes p s → (1 ≤ k) × ((i : ℕ) × Found p s (drop k s) spans i k xs)
 tweaks_found p s spans zero xs are legal fit e = absurd (let h = are.0 in omega (arith, h))
 tweaks_found p s spans (suc k) xs are legal fit e =
     let i = are.2.0 in
     let t = drop (suc k) s in
     let is : s ≡ tweaks (suc k) i t = tweaks_are (suc k) i s are.1 are.2.1 in
-    let f = found_by p t spans i k xs (subst (AreLegal p) is legal) fit (e ∙ ap (taken_nodes p) is) in
-    record {
-      i = i;
-      is = is;
-      legal = legal_rest p (suc k) i t (subst (AreLegal p) is legal);
-      taken = f.taken;
-      within = subst (λ r. link_place p i (first_of 0 (listed_numbers p t i)) < length (nodes_after p r).top) (sym is) f.node.within;
-      item = ap (λ r. get_or (nodes_after p r).top (link_place p i (first_of 0 (listed_numbers p t i))) 0) is ∙ f.node.item;
-      tell = subst (λ r. CanTell (items_after p r) i) (sym is) f.tell;
-      off = ap (λ r. is_off (items_after p r) i) is ∙ f.off;
-      back = f.back;
-      items = ap (items_after p) is ∙ items_same p (suc k) i t;
-    }
+    (are.0, (i, subst (λ r. Found p r t spans i (suc k) xs) (sym is) (found_by p t spans i k xs (subst (AreLegal p) is legal) fit (e ∙ ap (taken_nodes p) is))))
 
 -- ---- as the code reads them
 
-any_default : {X : Type 0} (xs : List X) (n : ℕ) (d e : X) → n < length xs → get_or xs n d ≡ get_or xs n e
-any_default [] n d e h = absurd (omega (arith, h))
-any_default (x ∷ xs) zero d e h = refl
-any_default (x ∷ xs) (suc n) d e h = any_default xs n d e (omega (arith, h))
+pub node_is : {p : Puzzle} {s t : List Move} {spans : List Span} {i k n x : ℕ} {xs : List ℕ} → Found p s t spans i k xs → 1 ≤ k → x ≡ get_or xs (n - k) x → n ≡ length xs → x ≡ first_place p t i
+node_is {k = k} {x = x} {xs = xs} f some read long =
+    let enough = f.taken.enough in read ∙ ap (λ m. get_or xs (m - k) x) long ∙ get_or_default xs (length xs - k) x 0 (omega (arith, some, enough)) ∙ f.taken.first
 
-pub read_first : (xs : List ℕ) (n k r v : ℕ) → n ≡ length xs → 1 ≤ k → k ≤ length xs → r ≡ get_or xs (n - k) r → get_or xs (length xs - k) 0 ≡ v → r ≡ v
-read_first xs n k r v long some enough read is = read ∙ ap (λ m. get_or xs (m - k) r) long ∙ any_default xs (length xs - k) r 0 (omega (arith, some, enough)) ∙ is
+-- the first node that they took off, and its item, as they were read from the tables
+pub record IsRead (p : Puzzle) (s t : List Move) (spans : List Span) (i k : ℕ) (xs : List ℕ) (nodes : Nodes) (items : Items) (x j : ℕ) : Type 0 where
+  pub found : Found p s t spans i k xs
+  pub node : x ≡ first_place p t i
+  pub item : j ≡ i
+  pub nodes_are : nodes ≡ nodes_after p s
+  pub items_are : items ≡ items_after p s
+  pub tell : CanTell items j
 
-pub can_all : (spans spans' : List Span) (covered covered' : Bool) (t u : Nodes) (i i' x x' k : ℕ) → spans' ≡ spans → covered' ≡ covered → u ≡ t → i' ≡ i → x' ≡ x → CanUntweakAll spans covered t i x k → CanUntweakAll spans' covered' u i' x' k
-can_all spans spans' covered covered' t u i i' x x' k a b c d e h =
-    subst (λ (y : List Span). CanUntweakAll y covered' u i' x' k) (sym a)
-    (subst (λ y. CanUntweakAll spans y u i' x' k) (sym b)
-    (subst (λ (y : Nodes). CanUntweakAll spans covered y i' x' k) (sym c)
-    (subst (λ y. CanUntweakAll spans covered t y x' k) (sym d)
-    (subst (λ y. CanUntweakAll spans covered t i y k) (sym e) h))))
+pub read : {p : Puzzle} {s t : List Move} {spans : List Span} {i k : ℕ} {xs : List ℕ} {nodes : Nodes} {items : Items} {x j : ℕ} → Found p s t spans i k xs → x ≡ first_place p t i → nodes ≡ nodes_after p s → items ≡ items_after p s → j ≡ get_or nodes.top x 0
+    → IsRead p s t spans i k xs nodes items x j
+read {p = p} {s = s} {j = j} f node nodes_are items_are at =
+    let item = at ∙ ap₂ (λ (u : Nodes) q. get_or u.top q 0) nodes_are node ∙ f.node.item in
+    record { found = f; node = node; item = item; nodes_are = nodes_are; items_are = items_are; tell = subst (λ (u : Items). CanTell u j) (sym items_are) (subst (CanTell (items_after p s)) (sym item) f.tell) }
 
-pub done_all : (spans spans' : List Span) (covered covered' : Bool) (t u : Nodes) (i i' x x' k : ℕ) → spans' ≡ spans → covered' ≡ covered → u ≡ t → i' ≡ i → x' ≡ x → untweaked_all spans' covered' u i' x' k ≡ untweaked_all spans covered t i x k
-done_all spans spans' covered covered' t u i i' x x' k a b c d e =
-    ap (λ (y : List Span). untweaked_all y covered' u i' x' k) a
-    ∙ ap₂ (λ y (z : Nodes). untweaked_all spans y z i' x' k) b c
-    ∙ ap₂ (λ y z. untweaked_all spans covered t y z k) d e
+-- so the code may undo them at once
+pub undoes : {p : Puzzle} {s t : List Move} {spans spans' : List Span} {i k : ℕ} {xs : List ℕ} {nodes : Nodes} {items : Items} {x j : ℕ} {covered : Bool} → IsRead p s t spans i k xs nodes items x j → spans' ≡ spans → covered ≡ is_off items j
+    → Undoes spans' covered nodes j x k (nodes_after p t) (undo_tweaks_cost k p s)
+undoes {p} {s} {t} {spans} {spans'} {i} {k} {xs} {nodes} {items} {x} {j} {covered} r a b =
+    let U : List Span → Bool → Nodes → ℕ → ℕ → Type 0 = λ y c u m q. Undoes y c u m q k (nodes_after p t) (undo_tweaks_cost k p s) in
+    let off : covered ≡ is_covered i t = b ∙ ap₂ is_off r.items_are r.item ∙ r.found.off in
+    subst (λ y. U y covered nodes j x) (sym a) (subst (λ c. U spans c nodes j x) (sym off) (subst (λ u. U spans (is_covered i t) u j x) (sym r.nodes_are)
+    (subst (λ m. U spans (is_covered i t) (nodes_after p s) m x) (sym r.item) (subst (U spans (is_covered i t) (nodes_after p s) i) (sym r.node) r.found.back))))
 
-pub cost_all : (spans spans' : List Span) (covered covered' : Bool) (t u : Nodes) (i i' x x' k : ℕ) → spans' ≡ spans → covered' ≡ covered → u ≡ t → i' ≡ i → x' ≡ x → untweak_all_cost spans' covered' u i' x' k ≡ untweak_all_cost spans covered t i x k
-cost_all spans spans' covered covered' t u i i' x x' k a b c d e =
-    ap (λ (y : List Span). untweak_all_cost y covered' u i' x' k) a
-    ∙ ap₂ (λ y (z : Nodes). untweak_all_cost spans y z i' x' k) b c
-    ∙ ap₂ (λ y z. untweak_all_cost spans covered t y z k) d e
-
-pub still_short : (xs ys : List Move) (k : ℕ) → reverse ys ≡ drop k (reverse xs) → length ys ≤ length xs
-still_short xs ys k e =
-    let a = ap length e in
-    let b = length-reverse ys in
-    let c = length-drop k (reverse xs) in
-    let d = length-reverse xs in
-    omega (arith, a, b, c, d)
-
-pub trail_left : (xs ys : List Move) (n k : ℕ) → n ≡ length xs → k ≤ length (reverse xs) → ys ≡ take (n - k) xs → reverse ys ≡ drop k (reverse xs)
-trail_left xs ys n k long h e = ap reverse (e ∙ ap (λ m. take (m - k) xs) long) ∙ turned_drop xs k (let d = length-reverse xs in omega (arith, h, d))
-
-pub taken_left : (xs ys : List ℕ) (n k : ℕ) → n ≡ length xs → ys ≡ take (n - k) xs → reverse ys ≡ reverse (take (length xs - k) xs)
-taken_left xs ys n k long e = ap reverse (e ∙ ap (λ m. take (m - k) xs) long)
+pub trail_left : (xs ys : List Move) (n k : ℕ) → ys ≡ take (n - k) xs → n ≡ length xs → k ≤ length (reverse xs) → reverse ys ≡ drop k (reverse xs)
+trail_left xs ys n k e long h = ap reverse (e ∙ ap (λ m. take (m - k) xs) long) ∙ turned_drop xs k (let d = length-reverse xs in omega (arith, h, d))

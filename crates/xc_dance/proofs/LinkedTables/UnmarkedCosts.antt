@@ -36,9 +36,7 @@ pub unmarked-reverse : (color qs : List ℕ) → unmarked_costs color (reverse q
 unmarked-reverse color [] = refl
 unmarked-reverse color (q ∷ qs) =
     let turned = ap (unmarked_costs color) (reverse-append (q ∷ []) qs) in
-    let both = unmarked-append color (reverse qs) (q ∷ []) in
-    let rest = unmarked-reverse color qs in
-    omega (arith, turned, both, rest)
+    omega (arith, turned, unmarked-append color (reverse qs) (q ∷ []), unmarked-reverse color qs)
 
 -- for option o's nodes in the lists of the items js
 pub unmarked_items : (p : Puzzle) (col : Node → ℕ) (o : ℕ) (js : List ℕ) → unmarked_costs (map col (layout p)) (map (λ j. link_place p j o) js) ≡ 3 * length (filter (λ j. not (is_mark p col o j)) js)

@@ -8,11 +8,11 @@ use Rattle.std.proofs.lemmas.Option.{slice_get_within, slice_get-get_or, same_So
 use Rattle.xc_input.specs.declared.problem.Use.{Use}
 use Rattle.xc_input.specs.Problem.{Puzzle, colour_in, uses_of, item_count, option_count}
 use Rattle.xc_dance.specs.declared.dance.Move.{Move}
-use Rattle.xc_dance.specs.declared.dance.Move.TheVariants.{Cover, Purify, Tweak, Spend}
+use Rattle.xc_dance.specs.declared.dance.Move.TheVariants.{Purify}
 use Rattle.xc_dance.specs.declared.links.nodes.Nodes.{Nodes}
 use Rattle.xc_dance.specs.Links.Span.{Span}
 use Rattle.xc_dance.specs.Moves.{AreLegal, listed_numbers}
-use Rattle.xc_dance.specs.Fields.{Node, unused, own, spacer, used, layout, spacer_place, is_in, is_marked}
+use Rattle.xc_dance.specs.Fields.{Node, unused, own, used, layout, spacer_place, is_in, is_marked}
 use Rattle.xc_dance.specs.Links.Cells.{color_in, nodes_after}
 use Rattle.xc_dance.specs.Links.Laid.{IsLaid}
 use Rattle.xc_dance.specs.Links.Made.{IsFitted}
@@ -39,26 +39,23 @@ no_colour (u ∷ us) j c a e =
 -- a Purify marks with a colour
 never_marked : (p : Puzzle) (t : List Move) (i o : ℕ) → AreLegal p t → is_marked p t i o 0 ≡ false
 never_marked p [] i o legal = refl
-never_marked p (Cover j ∷ t) i o legal = never_marked p t i o legal.1
 never_marked p (Purify j d ∷ t) i o legal =
     let rest = never_marked p t i o legal.1 in
     let some = legal.0.2 in
     ap (λ b. cond ((eqb j i && b) && is_in o (listed_numbers p t i)) true (is_marked p t i o 0)) (ne_eqb d 0 (λ e. omega (arith, e, some)))
     ∙ elim (eqb j i) as (λ a. cond ((a && false) && is_in o (listed_numbers p t i)) true (is_marked p t i o 0) ≡ false) [ true ↦ rest | false ↦ rest ]
-never_marked p (Tweak j ∷ t) i o legal = never_marked p t i o legal.1
-never_marked p (Spend j ∷ t) i o legal = never_marked p t i o legal.1
+never_marked p (_ ∷ t) i o legal = never_marked p t i o legal.1
 
 no_color : (p : Puzzle) (t : List Move) (q : ℕ) (n : Node) → IsLaid p → AreLegal p t → IsPlain p → item_count p < q → slice_get (layout p) q ≡ Some n → color_in p t n ≡ 0
-no_color p t q unused laid legal plain gt e = refl
 no_color p t q (own i) laid legal plain gt e =
     let at : i ≡ q = laid.unique q (own i) i 0 e refl in
-    let r = laid.ranged q (own i) i 0 e refl in
+    let r = laid.nodes.ranged q (own i) i 0 e refl in
     absurd (omega (arith, at, r.1, gt))
-no_color p t q (spacer n) laid legal plain gt e = refl
 no_color p t q (used o u) laid legal plain gt e =
-    let none : u.colour ≡ 0 = no_colour (uses_of p o) u.item u.colour (plain o) (laid.coloured q o u e) in
+    let none : u.colour ≡ 0 = no_colour (uses_of p o) u.item u.colour (plain o) (laid.nodes.coloured q o u e) in
     ap (λ c. cond (is_marked p t u.item o c) 4294967295 c) none
     ∙ ap (λ b. cond b 4294967295 0) (never_marked p t u.item o legal)
+no_color p t q _ laid legal plain gt e = refl
 
 past_end : (f : Node → ℕ) (ns : List Node) (q : ℕ) → length ns ≤ q → get_or (map f ns) q 0 ≡ 0
 past_end f [] q le = refl
@@ -101,25 +98,20 @@ starts_behind p (suc o) i pos e =
     omega (arith, at, low)
 
 by_node : (p : Puzzle) (t : List Move) (x : ℕ) (n : Node) → IsLaid p → AreLegal p t → IsPlain p → x < 2147483648 → slice_get (layout p) x ≡ Some n → HasUnmarked (nodes_after p t).color (span_of p n) x
-by_node p t x unused laid legal plain small e = (λ q from below. absurd (omega (arith, below)), λ q from below. absurd (omega (arith, small, from, below)))
-by_node p t x (own i) laid legal plain small e = (λ q from below. absurd (omega (arith, below)), λ q from below. absurd (omega (arith, small, from, below)))
-by_node p t x (spacer n) laid legal plain small e = (λ q from below. absurd (omega (arith, below)), λ q from below. absurd (omega (arith, small, from, below)))
 by_node p t x (used o u) laid legal plain small e =
-    let here = used_behind p x o u laid e in
-    let start = starts_behind p o u.item (laid.numbered x o u e) (ap is_some (laid.coloured x o u e)) in (
-      (λ q from below. unmarked_behind p t q laid legal plain (omega (arith, here, from))),
+    let start = starts_behind p o u.item (laid.nodes.numbered x o u e) (ap is_some (laid.nodes.coloured x o u e)) in (
+      (λ q from below. unmarked_behind p t q laid legal plain (omega (arith, used_behind p x o u laid e, from))),
       (λ q from below. unmarked_behind p t q laid legal plain (omega (arith, start, from))),
     )
+by_node p t x _ laid legal plain small e = (λ q from below. absurd (omega (arith, below)), λ q from below. absurd (omega (arith, small, from, below)))
 
 -- no node of an option is marked
 pub plain_unmarked : (p : Puzzle) (t : List Move) → AreLegal p t → IsFitted p (spans_of p) → IsPlain p → IsUnmarked (spans_of p) (nodes_after p t).color
 plain_unmarked p t legal fitted plain = λ x lt.
-    let size = length-map (layout p) (span_of p) in
-    let here = slice_get-get_or (layout p) x unused (omega (arith, lt, size)) in
-    let small = fitted.near.small in
+    let here = slice_get-get_or (layout p) x unused (omega (arith, lt, length-map (layout p) (span_of p))) in
     let d : Span = record { first = 0; end = 0 } in
     subst (λ (s : Span). HasUnmarked (nodes_after p t).color s x) (sym (span_at (layout p) (span_of p) x (get_or (layout p) x unused) d here))
-    (by_node p t x (get_or (layout p) x unused) fitted.laid legal plain (omega (arith, lt, small)) here)
+    (by_node p t x (get_or (layout p) x unused) fitted.laid legal plain (omega (arith, lt, fitted.near.small)) here)
   where
     span_at : (ns : List Node) (f : Node → Span) (k : ℕ) (n : Node) (d : Span) → slice_get ns k ≡ Some n → get_or (map f ns) k d ≡ f n
     span_at [] f k n d e = cc

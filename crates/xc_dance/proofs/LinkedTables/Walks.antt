@@ -46,9 +46,8 @@ step_on {step} {writes} {Can} {t0} {all} {t} {left} {n} q more u m e is paid h =
 
 pub steps_end : {step : Nodes → ℕ → Nodes} {writes : Nodes → ℕ → ℕ} {Can : Nodes → ℕ → Type 0} {t0 : Nodes} {all : List ℕ} {t : Nodes} {left : List ℕ} {n : ℕ} → left ≡ [] → Underway step writes Can t0 all t left n → Reached step writes t0 all t n
 steps_end {step} {writes} {Can} {t0} {all} {t} {left} {n} e h =
-    let none = ap (costs step writes t) e in
     let cost = h.cost in
-    record { done = sym (ap (fold step t) e) ∙ h.done; cost = omega (arith, none, cost) }
+    record { done = sym (ap (fold step t) e) ∙ h.done; cost = omega (arith, ap (costs step writes t) e, cost) }
 
 -- one walk behind another
 pub both_reached : {step : Nodes → ℕ → Nodes} {writes : Nodes → ℕ → ℕ} {t0 : Nodes} {ps : List ℕ} {t : Nodes} {n : ℕ} (qs rs : List ℕ) (u : Nodes) (m : ℕ) → Reached step writes t0 ps t n → rs ≡ qs → u ≡ fold step t rs → m ≡ costs step writes t rs
@@ -129,6 +128,5 @@ follow_on {step} {writes} {Can} {links} {t0} {all} {t} {p} {k} {n} u q m lt is t
 pub follow_end : {step : Nodes → ℕ → Nodes} {writes : Nodes → ℕ → ℕ} {Can : Nodes → ℕ → Type 0} {links : Nodes → List ℕ} {t0 : Nodes} {all : List ℕ} {t : Nodes} {p k n : ℕ} → length all ≤ k → Following step writes Can links t0 all t p k n → Reached step writes t0 all t n
 follow_end {step} {writes} {Can} {links} {t0} {all} {t} {p} {k} {n} le h =
     let nil : drop k all ≡ [] = drop_all k all le in
-    let none = ap (costs step writes t) nil in
     let cost = h.cost in
-    record { done = sym (ap (fold step t) nil) ∙ h.done; cost = omega (arith, none, cost) }
+    record { done = sym (ap (fold step t) nil) ∙ h.done; cost = omega (arith, ap (costs step writes t) nil, cost) }

@@ -42,9 +42,8 @@ enlisted_more us u o n (suc k) (l ∷ ls) e new lt =
 -- the uses before one are of other items
 pub new_use : (us : List Use) (k : ℕ) (u0 : Use) → AllPairs (λ u v. u.item ≢ v.item) us → k < length us → has_use (take k us) (get_or us k u0).item ≡ false
 new_use us k u0 distinct lt =
-    let size = length-take-le k us (omega (arith, lt)) in
     list_any_none (λ v. eqb v.item (get_or us k u0).item) (take k us)
-    (λ m d within. (let front : m < k = omega (arith, within, size) in
+    (λ m d within. (let front : m < k = omega (arith, within, length-take-le k us (omega (arith, lt))) in
     let same = get_or-take k us m d front in
     rw same (ne_eqb (get_or us m d).item (get_or us k u0).item (λ e. distinct_at m d front e))))
   where

@@ -112,5 +112,4 @@ pub sum-put_back : (rooms : List ℕ) (e : Removed) (ls : List (List ℕ)) → H
 sum-put_back rooms e ls h =
     let row = list_at ls e.list in
     let longer = length-insert row e.place e.number h.1 in
-    let total = sum_by-set (λ (l : List ℕ). length l) ls e.list (insert row e.place e.number) [] h.0 in
-    omega (arith, longer, total)
+    omega (arith, longer, sum_by-set (λ (l : List ℕ). length l) ls e.list (insert row e.place e.number) [] h.0)

@@ -12,10 +12,9 @@ use Rattle.std.proofs.lemmas.Option.{same_Some}
 
 -- a fact of all options left is kept by a move
 pub kept : (P : Numbered → Type 0) (p : Puzzle) (t : List Move) (m : Move) → AllByRecursion P (left p t) → AllByRecursion P (left p (m ∷ t))
-kept P p t (Cover j) a = each-filter P _ (left p t) a
-kept P p t (Purify j c) a = each-filter P _ (left p t) a
 kept P p t (Tweak j) a = elim (is_open j t) as (λ b. AllByRecursion P (cond b (without (take 1 (holding j (left p t))) (left p t)) (left p t))) [ true ↦ each-filter P _ (left p t) a | false ↦ a ]
 kept P p t (Spend j) a = a
+kept P p t _ a = each-filter P _ (left p t) a
 
 -- no option left holds a covered item
 pub left_free : (p : Puzzle) (t : List Move) (j : ℕ) → is_covered j t ≡ true → AllByRecursion (λ o. holds o j ≡ false) (left p t)

@@ -1,57 +1,67 @@
 -- The states of items after moves.
-use Rattle.std.proofs.Common.{ℕ, zero, suc, ◌≡◌, ◌≢◌, ◌+◌, ◌-◌, ◌<◌, ◌≤◌, Bool, true, false, not, cond, ◌&&◌, eqb, List, [], ◌∷◌, length, Some, None, refl, ap, sym, set, get_or, ltb, ltb-true, ltb-false, ◌∙◌, arith, eqb-true, eq-eqb}
+use Rattle.std.proofs.Common.{ℕ, zero, suc, ◌≡◌, ◌≢◌, ◌+◌, ◌-◌, ◌<◌, ◌≤◌, Bool, true, false, not, cond, ◌&&◌, ◌||◌, eqb, List, [], ◌∷◌, length, Some, None, refl, ap, sym, set, get_or, ltb, ltb-true, ltb-false, ◌∙◌, arith, eqb-true, eq-eqb}
 use Rattle.std.proofs.lemmas.List.{length-set, get_or-set_same, get_or-set_other, get_or_default}
 use Rattle.std.specs.Prelude.{Option, is_some, unwrap_or, filter}
 use Rattle.std.specs.List.{range_with_len}
-use Rattle.std.proofs.lemmas.Bool.{lt-ltb, le-ltb}
+use Rattle.std.proofs.lemmas.Bool.{lt-ltb, le-ltb, and_parts, not-true}
+use Rattle.std.proofs.Math.Bool.{and-true, and-false}
 use Rattle.xc_dance.specs.declared.dance.Move.{Move}
-use Rattle.xc_dance.specs.declared.dance.Move.TheVariants.{Cover, Purify, Tweak, Spend}
+use Rattle.xc_dance.specs.declared.dance.Move.TheVariants.{Cover, Purify}
 use Rattle.xc_dance.specs.declared.lists.item_states.ItemState.{ItemState}
 use Rattle.xc_dance.specs.declared.lists.item_states.ItemState.TheVariants.{Open, Covered, Purified}
 use Rattle.xc_input.specs.Problem.{Puzzle, Bounds, item_count, high_at, numbered_get, IsWithinLimits}
 use Rattle.xc_input.proofs.Known.{at_number}
-use Rattle.xc_dance.specs.Moves.{is_open, purified, next_above, AreLegal}
+use Rattle.xc_dance.specs.Moves.{is_open, is_covered, purified, next_above, AreLegal}
 use Rattle.xc_dance.specs.Lists.States.{state_of, AreStates}
 
+abbrev pub is_purified_state : ItemState → Bool
+is_purified_state Purified = true
+is_purified_state _ = false
+
+abbrev pub is_open_state : ItemState → Bool
+is_open_state Open = true
+is_open_state _ = false
+
+pub open_by_state : (i : ℕ) (t : List Move) (s : ItemState) → state_of i t ≡ s → is_open i t ≡ is_open_state s
+open_by_state i t s e = told t ∙ ap (λ s. is_open_state s) e
+  where
+    told : (t : List Move) → is_open i t ≡ is_open_state (state_of i t)
+    told [] = refl
+    told (Cover j ∷ t) = elim (eqb i j) as (λ b. (not b && is_open i t) ≡ is_open_state (cond b Covered (state_of i t))) [ true ↦ refl | false ↦ told t ]
+    told (Purify j c ∷ t) = elim (eqb i j) as (λ b. (not b && is_open i t) ≡ is_open_state (cond b Purified (state_of i t))) [ true ↦ refl | false ↦ told t ]
+    told (_ ∷ t) = told t
+
 pub open_state : (i : ℕ) (t : List Move) → is_open i t ≡ true → state_of i t ≡ Open
-open_state i [] e = refl
-open_state i (Cover j ∷ t) e = elim (eqb i j) as (λ b. not b && is_open i t ≡ true → cond b Covered (state_of i t) ≡ Open) [
-  | true ↦ λ h. absurd (cc h)
-  | false ↦ λ h. open_state i t h
-] e
-open_state i (Purify j c ∷ t) e = elim (eqb i j) as (λ b. not b && is_open i t ≡ true → cond b Purified (state_of i t) ≡ Open) [
-  | true ↦ λ h. absurd (cc h)
-  | false ↦ λ h. open_state i t h
-] e
-open_state i (Tweak j ∷ t) e = open_state i t e
-open_state i (Spend j ∷ t) e = open_state i t e
+open_state i t e = by_state (state_of i t) (sym (open_by_state i t (state_of i t) refl) ∙ e)
+  where
+    by_state : (s : ItemState) → is_open_state s ≡ true → s ≡ Open
+    by_state Open h = refl
+    by_state _ h = cc
 
-pub state_open : (i : ℕ) (t : List Move) → state_of i t ≡ Open → is_open i t ≡ true
-state_open i [] e = refl
-state_open i (Cover j ∷ t) e = elim (eqb i j) as (λ b. cond b Covered (state_of i t) ≡ Open → not b && is_open i t ≡ true) [
-  | true ↦ λ h. absurd (cc h)
-  | false ↦ λ h. state_open i t h
-] e
-state_open i (Purify j c ∷ t) e = elim (eqb i j) as (λ b. cond b Purified (state_of i t) ≡ Open → not b && is_open i t ≡ true) [
-  | true ↦ λ h. absurd (cc h)
-  | false ↦ λ h. state_open i t h
-] e
-state_open i (Tweak j ∷ t) e = state_open i t e
-state_open i (Spend j ∷ t) e = state_open i t e
+-- an item is open where it is neither covered nor purified
+pub open_is : (t : List Move) (i : ℕ) → (not (is_covered i t) && not (is_some (purified i t))) ≡ is_open i t
+open_is [] i = refl
+open_is (Cover j ∷ t) i =
+    elim (eqb i j) as (λ b. (not (b || is_covered i t) && not (is_some (purified i t))) ≡ (not b && is_open i t)) [ true ↦ refl | false ↦ open_is t i ]
+open_is (Purify j c ∷ t) i =
+    elim (eqb i j) as (λ b. (not (is_covered i t) && not (is_some (cond b (Some c) (purified i t)))) ≡ (not b && is_open i t)) [
+      | true ↦ and-false (not (is_covered i t))
+      | false ↦ open_is t i
+    ]
+open_is (_ ∷ t) i = open_is t i
 
--- an open item isn't purified
+pub open_uncovered : (i : ℕ) (t : List Move) → is_open i t ≡ true → is_covered i t ≡ false
+open_uncovered i t e = not-true (is_covered i t) (and_parts _ _ (open_is t i ∙ e)).0
+
 pub open_unpurified : (i : ℕ) (t : List Move) → is_open i t ≡ true → purified i t ≡ None
-open_unpurified i [] e = refl
-open_unpurified i (Cover j ∷ t) e = elim (eqb i j) as (λ b. not b && is_open i t ≡ true → purified i t ≡ None) [
-  | true ↦ λ h. absurd (cc h)
-  | false ↦ λ h. open_unpurified i t h
-] e
-open_unpurified i (Purify j c ∷ t) e = elim (eqb i j) as (λ b. not b && is_open i t ≡ true → cond b (Some c) (purified i t) ≡ None) [
-  | true ↦ λ h. absurd (cc h)
-  | false ↦ λ h. open_unpurified i t h
-] e
-open_unpurified i (Tweak j ∷ t) e = open_unpurified i t e
-open_unpurified i (Spend j ∷ t) e = open_unpurified i t e
+open_unpurified i t e = none (purified i t) (and_parts _ _ (open_is t i ∙ e)).1
+  where
+    none : (o : Option ℕ) → not (is_some o) ≡ true → o ≡ None
+    none None h = refl
+    none (Some c) h = cc
+
+pub open_or_covered : (i : ℕ) (t : List Move) → purified i t ≡ None → is_open i t ≡ not (is_covered i t)
+open_or_covered i t e = sym (open_is t i) ∙ ap (λ o. not (is_covered i t) && not (is_some o)) e ∙ and-true (not (is_covered i t))
 
 -- one item gets another state
 pub set_state : (p : Puzzle) (t u : List Move) (states : List ItemState) (i : ℕ) (s : ItemState) → AreStates p t states → 1 ≤ i → i ≤ item_count p →
@@ -80,42 +90,13 @@ state_at p t states i r are low high read =
     let within : i - 1 < length states = omega (arith, lt, are.count) in
     ap (λ n. state_of n t) (sym at) ∙ sym (are.each (i - 1) lt) ∙ get_or_default states (i - 1) Open r within ∙ sym read
 
-abbrev pub is_purified_state : ItemState → Bool
-is_purified_state Open = false
-is_purified_state Covered = false
-is_purified_state Purified = true
-
-abbrev pub is_open_state : ItemState → Bool
-is_open_state Open = true
-is_open_state Covered = false
-is_open_state Purified = false
-
-no_state : (s : ItemState) → Open ≡ s → is_open_state s ≡ false → ⊥
-no_state Open e f = cc f
-no_state Covered e f = cc e
-no_state Purified e f = cc e
-
-not_open : (i : ℕ) (t : List Move) (s : ItemState) → state_of i t ≡ s → is_open_state s ≡ false → is_open i t ≡ false
-not_open i t s e f = by_case (is_open i t) refl
-  where
-    by_case : (b : Bool) → is_open i t ≡ b → is_open i t ≡ false
-    by_case true q = let o = open_state i t q in let same : Open ≡ s = sym o ∙ e in absurd (no_state s same f)
-    by_case false q = q
-
-pub open_by_state : (i : ℕ) (t : List Move) (s : ItemState) → state_of i t ≡ s → is_open i t ≡ is_open_state s
-open_by_state i t Open e = state_open i t e
-open_by_state i t Covered e = not_open i t Covered e refl
-open_by_state i t Purified e = not_open i t Purified e refl
-
 pub closed_state : (s : ItemState) → (s ≡ Open → ⊥) → is_open_state s ≡ false
 closed_state Open h = absurd (h refl)
-closed_state Covered h = refl
-closed_state Purified h = refl
+closed_state _ h = refl
 
 pub unpurified_state : (s : ItemState) → (s ≡ Purified → ⊥) → is_purified_state s ≡ false
-unpurified_state Open h = refl
-unpurified_state Covered h = refl
 unpurified_state Purified h = absurd (h refl)
+unpurified_state _ h = refl
 
 pub purified_by_state : (p : Puzzle) (i : ℕ) (t : List Move) → AreLegal p t → is_some (purified i t) ≡ is_purified_state (state_of i t)
 purified_by_state p i [] legal = refl
@@ -132,8 +113,7 @@ purified_by_state p i (Purify j c ∷ t) legal =
       | true ↦ refl
       | false ↦ purified_by_state p i t legal.1
     ]
-purified_by_state p i (Tweak j ∷ t) legal = purified_by_state p i t legal.1
-purified_by_state p i (Spend j ∷ t) legal = purified_by_state p i t legal.1
+purified_by_state p i (_ ∷ t) legal = purified_by_state p i t legal.1
 
 -- ---- the next open item
 

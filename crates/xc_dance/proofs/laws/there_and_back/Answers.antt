@@ -11,8 +11,7 @@ returns-clause-cost c =
     let t = c.args.links.now.trail in
     let undone : c.undo-undone.result.0 ≡ cost_of p t c.args.m + cost_of_newest 0 p t =
     c.undo-undone.ensures.cost ∙ ap (λ (s : Linked). cost_of_newest 1 s.puzzle s.trail) c.in_ok-made.ensures.ok in
-    let none = none_newest p t in
     let made : c.in_ok-made.made.0 ≡ cost_of p t c.args.m = c.in_ok-made.ensures.cost in
-    let same : c.in_ok-made.made.0 ≡ c.undo-undone.result.0 = omega (arith, undone, none, made) in
+    let same : c.in_ok-made.made.0 ≡ c.undo-undone.result.0 = omega (arith, undone, none_newest p t, made) in
     let count : ℕ → Count = λ n. record { 0 = n } in
     ap count same

@@ -4,19 +4,9 @@ use Rattle.xc_dance.specs.Fields.{layout}
 use Rattle.xc_dance.specs.Links.OptionPlaces.{place_at}
 use Rattle.xc_dance.specs.Links.FirstNodes.{laid_to}
 use Rattle.xc_dance.proofs.LinkedTables.OptionReach.{uses_here}
-use Rattle.xc_dance.proofs.LinkedTables.PlaceLemmas.{place_first, place_within, layout_small, layout_len, option_fits}
+use Rattle.xc_dance.proofs.LinkedTables.PlaceLemmas.{place_within, layout_small, layout_len, option_fits}
 use Rattle.xc_dance.proofs.LinkedTables.LaidNodes.{up_next}
 use Rattle.xc_dance.proofs.links.first_nodes.lay_options.Goals as goal
-
-pub loop-o-init : goal.loop-o-init
-loop-o-init c =
-    let p = c.args.problem.now.puzzle in
-    let first : c.items-place.result + 1 ≡ place_at p 0 = omega (arith, place_first p, c.items-place.ensures.value) in
-    record {
-      nodes = c.requires.before ∙ ap (λ n. laid_to p (n + 1)) (sym c.items-place.ensures.value);
-      place = first;
-      above = Rattle.std.proofs.Common.refl;
-    }
 
 pub overflow_add-place-in-loop-o : goal.overflow_add-place-in-loop-o
 overflow_add-place-in-loop-o c =
@@ -63,6 +53,5 @@ returns c =
     let p = c.args.problem.now.puzzle in
     let last : c.loop-o.o ≡ option_count p = omega (arith, c.loop-o-test.false, c.options-o-end.ensures.value, c.loop-o.auto.o-end) in
     let at = ap (place_at p) last in
-    let whole = layout_len p in
-    let end : c.loop-o.place + 1 ≡ length (layout p) = omega (arith, at, whole, c.loop-o.invariant.place) in
+    let end : c.loop-o.place + 1 ≡ length (layout p) = omega (arith, at, layout_len p, c.loop-o.invariant.place) in
     c.lay_spacer-2.ensures ∙ ap (laid_to p) end

@@ -1,4 +1,4 @@
-use Rattle.std.proofs.Common.{arith, ◌≡◌, ◌≤◌, ◌<◌, ◌∙◌, ◌+◌, ap, sym, subst, length, take, get_or, Some, [], ℕ}
+use Rattle.std.proofs.Common.{arith, ◌≡◌, ◌≤◌, ◌<◌, ◌∙◌, ◌+◌, ap, sym, subst, take, get_or, Some, [], ℕ}
 use Rattle.std.specs.Prelude.{slice_get, slice_index}
 use Rattle.xc_input.specs.declared.problem.Use.{Use}
 use Rattle.xc_input.specs.Problem.{Puzzle, item_count, IsWithinLimits}
@@ -12,7 +12,7 @@ use Rattle.xc_dance.proofs.LinkedTables.HeldOptions.{lines_of}
 use Rattle.xc_dance.proofs.LinkedTables.EnteredNodes.{UseStep, use_step, spacer_step, spacer_top, behind_items}
 use Rattle.xc_dance.proofs.LinkedTables.LinkedFirst.{none_entered, all_entered}
 use Rattle.xc_dance.proofs.links.first_nodes.link_uses.Goals as goal
-use Rattle.xc_dance.proofs.links.first_nodes.link_uses.Goals.{then-top-lt-SPACER, else-top-lt-SPACER}
+use Rattle.xc_dance.proofs.links.first_nodes.link_uses.Goals.{Then-top-lt-SPACER, then-top-lt-SPACER, else-top-lt-SPACER}
 
 abbrev so_far : Puzzle → ℕ → Nodes
 so_far p q = nodes_from p (lines_of (take q (layout p))) (color_in p [])
@@ -37,35 +37,24 @@ loop-q-init c =
     let p = c.args.problem.now.puzzle in
     c.requires.before ∙ none_entered p ∙ ap (λ k. so_far p (k + 1)) (sym c.items-q.ensures.value)
 
-pub enter-requires-clause-item : goal.enter-requires-clause-item
-enter-requires-clause-item c =
+-- a use may be entered
+use_here : (c : Then-top-lt-SPACER) → (o : ℕ) × (u : Use) × UseStep c.args.problem.now.puzzle c.loop-q.nodes c.loop-q.q o u
+use_here c =
     let p = c.args.problem.now.puzzle in
     let q = c.loop-q.q in
-    let n = get_or (layout p) q unused in
-    let at : slice_get (layout p) q ≡ Some n = slice_get-get_or (layout p) q unused (omega (arith, c.loop-q-test.true, c.requires.count)) in
+    let at = slice_get-get_or (layout p) q unused (omega (arith, c.loop-q-test.true, c.requires.count)) in
     let top = ap (λ (t : Nodes). slice_index t.top q) c.loop-q.invariant in
-    let s = is_use p q n c.requires.fit c.requires.limits (omega (arith, c.loop-q.auto.q, c.items-q.ensures.value)) at (omega (arith, top, c.top.ensures, c.if-top-lt-SPACER.true)) in
-    subst (λ (t : Nodes). slice_index t.top q < length t.top) (sym c.loop-q.invariant) s.2.item
+    let s = is_use p q _ c.requires.fit c.requires.limits (omega (arith, c.loop-q.auto.q, c.items-q.ensures.value)) at (omega (arith, top, c.top.ensures, c.if-top-lt-SPACER.true)) in
+    (s.0, s.1, subst (λ (t : Nodes). UseStep p t q s.0 s.1) (sym c.loop-q.invariant) s.2)
+
+pub enter-requires-clause-item : goal.enter-requires-clause-item
+enter-requires-clause-item c = (use_here (goal.at.enter-requires-clause-item c).Then-top-lt-SPACER).2.item
 
 pub enter-requires-clause-last : goal.enter-requires-clause-last
-enter-requires-clause-last c =
-    let p = c.args.problem.now.puzzle in
-    let q = c.loop-q.q in
-    let n = get_or (layout p) q unused in
-    let at : slice_get (layout p) q ≡ Some n = slice_get-get_or (layout p) q unused (omega (arith, c.loop-q-test.true, c.requires.count)) in
-    let top = ap (λ (t : Nodes). slice_index t.top q) c.loop-q.invariant in
-    let s = is_use p q n c.requires.fit c.requires.limits (omega (arith, c.loop-q.auto.q, c.items-q.ensures.value)) at (omega (arith, top, c.top.ensures, c.if-top-lt-SPACER.true)) in
-    subst (λ (t : Nodes). slice_index t.ulink (slice_index t.top q) < length t.top) (sym c.loop-q.invariant) s.2.last
+enter-requires-clause-last c = (use_here (goal.at.enter-requires-clause-last c).Then-top-lt-SPACER).2.last
 
 pub enter-requires-clause-few : goal.enter-requires-clause-few
-enter-requires-clause-few c =
-    let p = c.args.problem.now.puzzle in
-    let q = c.loop-q.q in
-    let n = get_or (layout p) q unused in
-    let at : slice_get (layout p) q ≡ Some n = slice_get-get_or (layout p) q unused (omega (arith, c.loop-q-test.true, c.requires.count)) in
-    let top = ap (λ (t : Nodes). slice_index t.top q) c.loop-q.invariant in
-    let s = is_use p q n c.requires.fit c.requires.limits (omega (arith, c.loop-q.auto.q, c.items-q.ensures.value)) at (omega (arith, top, c.top.ensures, c.if-top-lt-SPACER.true)) in
-    subst (λ (t : Nodes). slice_index t.top (slice_index t.top q) < 2147483648) (sym c.loop-q.invariant) s.2.few
+enter-requires-clause-few c = (use_here (goal.at.enter-requires-clause-few c).Then-top-lt-SPACER).2.few
 
 pub loop-q-preserved : goal.loop-q-preserved
 loop-q-preserved c =

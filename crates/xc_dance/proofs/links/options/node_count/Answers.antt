@@ -2,7 +2,7 @@ use Rattle.std.proofs.Common.{arith, ◌≡◌, ◌+◌, ◌<◌, ◌∙◌, ap}
 use Rattle.xc_input.specs.Problem.{option_count}
 use Rattle.xc_dance.specs.Links.OptionPlaces.{start_at}
 use Rattle.xc_dance.proofs.LinkedTables.OptionReach.{uses_here}
-use Rattle.xc_dance.proofs.LinkedTables.PlaceLemmas.{OptionFits, option_fits, place_first, layout_len}
+use Rattle.xc_dance.proofs.LinkedTables.PlaceLemmas.{OptionFits, option_fits, layout_len}
 use Rattle.xc_dance.proofs.links.options.node_count.Goals as goal
 use Rattle.xc_dance.proofs.links.options.node_count.Goals.{After-option}
 
@@ -11,9 +11,6 @@ fits c =
     let p = c.args.problem.now.puzzle in
     let lt : c.loop-o.o < option_count p = omega (arith, c.loop-o-test.true, c.options-o-end.ensures.value) in
     option_fits p c.loop-o.o c.option.result.now c.requires lt (uses_here p (c.loop-o.o + 1) c.option.result.now c.option.ensures.value)
-
-pub loop-o-init : goal.loop-o-init
-loop-o-init c = let first = place_first c.args.problem.now.puzzle in omega (arith, first, c.items-count.ensures.value)
 
 pub overflow_cast-count : goal.overflow_cast-count
 overflow_cast-count c = let f = fits c in omega (arith, f.next, f.within, f.small)
@@ -30,7 +27,6 @@ loop-o-preserved c = let f = fits (goal.at.loop-o-preserved c).After-option in l
 pub returns : goal.returns
 returns c =
     let p = c.args.problem.now.puzzle in
-    let whole = layout_len p in
     let last : c.loop-o.o ≡ option_count p = omega (arith, c.loop-o-test.false, c.options-o-end.ensures.value, c.loop-o.auto.o-end) in
     let end : c.loop-o.count ≡ start_at p (option_count p) = c.loop-o.invariant ∙ ap (start_at p) last in
-    omega (arith, whole, end)
+    omega (arith, layout_len p, end)

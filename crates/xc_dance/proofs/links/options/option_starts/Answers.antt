@@ -1,9 +1,9 @@
-use Rattle.std.proofs.Common.{arith, ◌≡◌, ◌+◌, ◌<◌, ◌++◌, [], ◌∷◌, ◌∙◌, ap, sym}
+use Rattle.std.proofs.Common.{arith, ◌+◌, ◌<◌, ◌++◌, [], ◌∷◌, ◌∙◌, ap, sym}
 use Rattle.std.proofs.lemmas.List.FromFn.{map-range_with_len_more}
 use Rattle.xc_input.specs.Problem.{option_count}
-use Rattle.xc_dance.specs.Links.OptionPlaces.{start_at, starts_to}
+use Rattle.xc_dance.specs.Links.OptionPlaces.{start_at}
 use Rattle.xc_dance.proofs.LinkedTables.OptionReach.{uses_here}
-use Rattle.xc_dance.proofs.LinkedTables.PlaceLemmas.{OptionFits, option_fits, place_first}
+use Rattle.xc_dance.proofs.LinkedTables.PlaceLemmas.{starts_to, OptionFits, option_fits}
 use Rattle.xc_dance.proofs.links.options.option_starts.Goals as goal
 use Rattle.xc_dance.proofs.links.options.option_starts.Goals.{After-option}
 
@@ -12,9 +12,6 @@ fits c =
     let p = c.args.problem.now.puzzle in
     let lt : c.loop-o.o < option_count p = omega (arith, c.loop-o-test.true, c.options-o-end.ensures.value) in
     option_fits p c.loop-o.o c.option.result.now c.requires lt (uses_here p (c.loop-o.o + 1) c.option.result.now c.option.ensures.value)
-
-pub loop-o-init : goal.loop-o-init
-loop-o-init c = let first = place_first c.args.problem.now.puzzle in record { starts = c.in_ok-starts.ensures.items; start = omega (arith, first, c.items-start.ensures.value) }
 
 pub overflow_cast-start : goal.overflow_cast-start
 overflow_cast-start c = let f = fits c in omega (arith, f.next, f.within, f.small)
@@ -30,15 +27,8 @@ loop-o-preserved c =
     let p = c.args.problem.now.puzzle in
     let o = c.loop-o.o in
     let f = fits (goal.at.loop-o-preserved c).After-option in
-    let next = f.next in
     record {
       starts = c.in_ok-push.ensures.items ∙ ap (λ l. l ++ c.loop-o.start ∷ []) c.loop-o.invariant.starts ∙ ap (λ v. starts_to p o ++ v ∷ []) c.loop-o.invariant.start
           ∙ sym (map-range_with_len_more (start_at p) 0 o o (omega arith));
-      start = omega (arith, next, c.loop-o.invariant.start);
+      start = omega (arith, f.next, c.loop-o.invariant.start);
     }
-
-pub returns : goal.returns
-returns c =
-    let p = c.args.problem.now.puzzle in
-    let last : c.loop-o.o ≡ option_count p = omega (arith, c.loop-o-test.false, c.options-o-end.ensures.value, c.loop-o.auto.o-end) in
-    c.loop-o.invariant.starts ∙ ap (starts_to p) last

@@ -48,10 +48,6 @@ hide_one-above-requires-clause-can c =
     let end = (span_at c.args.spans.now c.args.p).end in
     step_can q (places (q + 1) end) (places_more q end (goes (goal.at.hide_one-above-requires-clause-can c).After-get c.loop-top-test.true)) c.loop-top.invariant.walk
 
-pub hide_one-above-requires-clause-unmarked : goal.hide_one-above-requires-clause-unmarked
-hide_one-above-requires-clause-unmarked c = λ m.
-    (c.requires.unmarked m).0 c.loop-top.q (let h = c.loop-top.invariant.behind in omega (arith, h)) (goes (goal.at.hide_one-above-requires-clause-unmarked c).After-get c.loop-top-test.true)
-
 pub loop-top-preserved : goal.loop-top-preserved
 loop-top-preserved c =
     let q = c.loop-top.q in
@@ -74,8 +70,7 @@ up-first-requires c =
     let met = high at c.loop-top-test.false in
     let is = t.at met in
     let spacer : IsSpacer (columns c.loop-top.top c.loop-top.links c.args.color.now) end = subst (λ (u : Nodes). IsSpacer u end) (sym (t.is met)) c.requires.can.spacer in
-    let size = spacer.size.ulink in
-    omega (arith, is, spacer.place, size)
+    omega (arith, is, spacer.place, spacer.size.ulink)
 
 -- the spacer leads to the first node
 leads : (c : After-get) → 2147483648 ≤ c.get.result → (first : ℕ) → first ≡ get_or (columns c.loop-top.top c.loop-top.links c.args.color.now).ulink c.loop-top.q 0 → first ≡ (span_at c.args.spans.now c.args.p).first

@@ -1,12 +1,9 @@
-use Rattle.std.proofs.Common.{◌+◌, ◌-◌, refl, arith}
+use Rattle.std.proofs.Common.{◌+◌, arith}
 use Rattle.xc_dance.specs.Links.Columns.{columns}
-use Rattle.xc_dance.specs.Links.Steps.{hide_cost, places}
-use Rattle.xc_dance.proofs.LinkedTables.Places.{places_none, places_more}
-use Rattle.xc_dance.proofs.LinkedTables.Walks.{underway, step_can, step_on, steps_end}
+use Rattle.xc_dance.specs.Links.Steps.{places}
+use Rattle.xc_dance.proofs.LinkedTables.Places.{places_more}
+use Rattle.xc_dance.proofs.LinkedTables.Walks.{step_can, step_on}
 use Rattle.xc_dance.proofs.links.steps.hide_range.Goals as goal
-
-pub loop-q-init : goal.loop-q-init
-loop-q-init c = record { walk = underway hide_cost (columns c.args.top.now c.args.links.now c.args.color.now) (places c.args.a c.args.b) (places c.args.a c.args.b) refl c.requires.can; counted = omega arith; few = omega arith }
 
 pub hide_one-count-requires-clause-can : goal.hide_one-count-requires-clause-can
 hide_one-count-requires-clause-can c = let q = c.loop-q.q in step_can q (places (q + 1) c.args.b) (places_more q c.args.b c.loop-q-test.true) c.loop-q.invariant.walk
@@ -20,9 +17,3 @@ loop-q-preserved c =
       counted = omega arith;
       few = grind arith;
     }
-
-pub returns-clause-done : goal.returns-clause-done
-returns-clause-done c = (steps_end (places_none c.loop-q.q c.args.b c.loop-q-test.false) c.loop-q.invariant.walk).done
-
-pub returns-clause-cost : goal.returns-clause-cost
-returns-clause-cost c = (steps_end (places_none c.loop-q.q c.args.b c.loop-q-test.false) c.loop-q.invariant.walk).cost

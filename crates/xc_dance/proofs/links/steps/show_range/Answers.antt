@@ -1,12 +1,9 @@
-use Rattle.std.proofs.Common.{◌-◌, ap, reverse, refl, arith}
+use Rattle.std.proofs.Common.{◌-◌, reverse, arith}
 use Rattle.xc_dance.specs.Links.Columns.{columns}
-use Rattle.xc_dance.specs.Links.Steps.{hide_cost, places}
-use Rattle.xc_dance.proofs.LinkedTables.Places.{places_none, last_first}
-use Rattle.xc_dance.proofs.LinkedTables.Walks.{underway, step_can, step_on, steps_end}
+use Rattle.xc_dance.specs.Links.Steps.{places}
+use Rattle.xc_dance.proofs.LinkedTables.Places.{last_first}
+use Rattle.xc_dance.proofs.LinkedTables.Walks.{step_can, step_on}
 use Rattle.xc_dance.proofs.links.steps.show_range.Goals as goal
-
-pub loop-q-init : goal.loop-q-init
-loop-q-init c = record { walk = underway hide_cost (columns c.args.top.now c.args.links.now c.args.color.now) (reverse (places c.args.a c.args.b)) (reverse (places c.args.a c.args.b)) refl c.requires.can; counted = omega arith; few = omega arith }
 
 pub show_one-count-requires-clause-can : goal.show_one-count-requires-clause-can
 show_one-count-requires-clause-can c = let q = c.loop-q.q in step_can (q - 1) (reverse (places c.args.a (q - 1))) (last_first c.args.a q c.loop-q-test.true) c.loop-q.invariant.walk
@@ -20,9 +17,3 @@ loop-q-preserved c =
       counted = omega arith;
       few = grind arith;
     }
-
-pub returns-clause-done : goal.returns-clause-done
-returns-clause-done c = (steps_end (ap reverse (places_none c.args.a c.loop-q.q c.loop-q-test.false)) c.loop-q.invariant.walk).done
-
-pub returns-clause-cost : goal.returns-clause-cost
-returns-clause-cost c = (steps_end (ap reverse (places_none c.args.a c.loop-q.q c.loop-q-test.false)) c.loop-q.invariant.walk).cost

@@ -74,9 +74,6 @@ show_one-below-requires-clause-can c =
 pub show_one-below-requires-clause-unmarked : goal.show_one-below-requires-clause-unmarked
 show_one-below-requires-clause-unmarked c = λ m. (c.requires.unmarked m).1 c.loop-top.q (goes (goal.at.show_one-below-requires-clause-unmarked c).After-get c.loop-top-test.true) c.loop-top.invariant.before
 
-pub overflow_sub-q-in-loop-top : goal.overflow_sub-q-in-loop-top
-overflow_sub-q-in-loop-top c = let le = goes (goal.at.overflow_sub-q-in-loop-top c).After-get c.loop-top-test.true in let from = c.requires.can.from in omega (arith, le, from)
-
 pub loop-top-preserved : goal.loop-top-preserved
 loop-top-preserved c =
     let q = c.loop-top.q in
@@ -100,8 +97,7 @@ down-end-requires c =
     let met = high at c.loop-top-test.false in
     let is = t.at met in
     let spacer : IsSpacer (columns c.loop-top.top c.loop-top.links c.args.color.now) before = subst (λ (u : Nodes). IsSpacer u before) (sym (t.is met)) c.requires.can.spacer in
-    let size = spacer.size.dlink in
-    omega (arith, is, spacer.place, size)
+    omega (arith, is, spacer.place, spacer.size.dlink)
 
 -- the spacer leads to the last node
 leads : (c : After-get) → 2147483648 ≤ c.get.result → (last : ℕ) → last ≡ get_or (columns c.loop-top.top c.loop-top.links c.args.color.now).dlink c.loop-top.q 0 → last + 1 ≡ (span_at c.args.spans.now c.args.p).end
@@ -113,8 +109,7 @@ leads c met last is =
 pub overflow_add-end : goal.overflow_add-end
 overflow_add-end c =
     let end = leads (goal.at.overflow_add-end c).After-get c.loop-top-test.false c.down-end.result c.down-end.ensures in
-    let small = c.requires.ends c.args.p (record { first = 0; end = 0 }) c.requires.span in
-    omega (arith, end, small)
+    omega (arith, end, c.requires.ends c.args.p (record { first = 0; end = 0 }) c.requires.span)
 
 pub show_range-above-requires-clause-can : goal.show_range-above-requires-clause-can
 show_range-above-requires-clause-can c =

@@ -1,14 +1,10 @@
-use Rattle.std.proofs.Common.{◌<◌, length, refl, sym, subst, arith}
+use Rattle.std.proofs.Common.{◌<◌, length, sym, subst, arith}
 use Rattle.xc_dance.specs.Links.Columns.{columns}
 use Rattle.xc_dance.specs.declared.links.nodes.Nodes.{Nodes}
 use Rattle.xc_dance.specs.Links.Steps.{followed}
-use Rattle.xc_dance.specs.Links.TweaksBack.{climb_cost}
-use Rattle.xc_dance.proofs.LinkedTables.Walks.{length-followed, following, follow_here, follow_on, follow_end}
+use Rattle.xc_dance.proofs.LinkedTables.Walks.{length-followed, follow_here, follow_on, follow_end}
 use Rattle.xc_dance.proofs.links.tweaks.climb.Goals as goal
 use Rattle.xc_dance.proofs.links.tweaks.climb.Goals.{In-loop}
-
-pub loop-init : goal.loop-init
-loop-init c = record { walk = following (climb_cost c.args.spans.now c.args.covered) refl c.requires.can; counted = omega arith; few = omega arith }
 
 -- a node is left
 within : (c : In-loop) → c.loop.counter < length (followed (columns c.args.top.now c.args.links.now c.args.color.now).dlink c.args.k c.args.x)

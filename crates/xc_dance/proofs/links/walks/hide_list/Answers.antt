@@ -2,19 +2,10 @@ use Rattle.std.proofs.Common.{◌<◌, length, get_or, sym, subst, arith}
 use Rattle.xc_dance.specs.Links.Columns.{columns}
 use Rattle.xc_dance.specs.declared.links.nodes.Nodes.{Nodes}
 use Rattle.xc_dance.specs.Links.Steps.{list_of}
-use Rattle.xc_dance.specs.Links.ListWalks.{leave_cost}
-use Rattle.xc_dance.proofs.LinkedTables.Walks.{length-followed, following, follow_here, follow_on, follow_end}
+use Rattle.xc_dance.proofs.LinkedTables.Walks.{length-followed, follow_here, follow_on, follow_end}
 use Rattle.xc_dance.proofs.LinkedTables.UnmarkedNodes.{left_unmarked}
 use Rattle.xc_dance.proofs.links.walks.hide_list.Goals as goal
 use Rattle.xc_dance.proofs.links.walks.hide_list.Goals.{In-loop}
-
-pub loop-init : goal.loop-init
-loop-init c = record {
-  walk = following (leave_cost c.args.spans.now c.args.keep) c.down-p.ensures c.requires.can.walk;
-  unmarked = c.requires.unmarked;
-  counted = omega arith;
-  few = omega arith;
-}
 
 -- a node of the list is left
 within : (c : In-loop) → c.loop.counter < length (list_of (columns c.args.top.now c.args.links.now c.args.color.now) c.args.i)
@@ -22,9 +13,6 @@ within c =
     let t : Nodes = columns c.args.top.now c.args.links.now c.args.color.now in
     let long = length-followed t.dlink (get_or t.top c.args.i 0) (get_or t.dlink c.args.i 0) in
     omega (arith, long, c.loop-test.true, c.get-end.ensures)
-
-pub leave-count-requires-clause-unmarked : goal.leave-count-requires-clause-unmarked
-leave-count-requires-clause-unmarked c = c.loop.invariant.unmarked
 
 pub leave-count-requires-clause-can : goal.leave-count-requires-clause-can
 leave-count-requires-clause-can c = (follow_here (within (goal.at.leave-count-requires-clause-can c).In-loop) c.loop.invariant.walk).can

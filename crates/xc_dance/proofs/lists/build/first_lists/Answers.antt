@@ -1,7 +1,7 @@
 use Rattle.std.proofs.Common.{arith, ◌≡◌, ◌≤◌, ◌<◌, ◌+◌, ◌∙◌, ap, sym, length, get_or, take, replicate, [], ◌∷◌, ◌++◌, ℕ}
 use Rattle.std.specs.Prelude.{unwrap_or}
 use Rattle.std.specs.Global.{Vec}
-use Rattle.std.proofs.lemmas.List.{length-map, take_more, take_all, length-take-le}
+use Rattle.std.proofs.lemmas.List.{length-map, take_more, length-take-le}
 use Rattle.std.proofs.lemmas.List.FromFn.{length-map-range_with_len}
 use Rattle.std.proofs.lemmas.Option.{unwrap_or-slice_get}
 use Rattle.xc_input.proofs.FlatParts.{numbered_get-at}
@@ -32,8 +32,3 @@ loop-o-preserved c =
     c.in_ok-enlist.ensures ∙ ap (λ l. enlisted us (o + 1) l) c.loop-o.invariant
     ∙ lists_more p (take o p.options) us (o + 1) count
     ∙ ap (λ l. lists_of p l) (ap (λ v. take o p.options ++ v ∷ []) is ∙ sym (take_more p.options o [] lt))
-
-pub returns : goal.returns
-returns c =
-    let p = c.args.table.now in
-    c.loop-o.invariant ∙ ap (λ l. lists_of p l) (take_all c.loop-o.o p.options (omega (arith, c.loop-o-test.false, c.options-o-end.ensures)))

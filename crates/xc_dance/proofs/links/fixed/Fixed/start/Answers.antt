@@ -8,10 +8,7 @@ pub index-requires : goal.index-requires
 index-requires c =
     let p = c.self.inside.known.puzzle in
     let long = ap length c.self.invariant.starts ∙ length-map-range_with_len (start_at p) 0 (option_count p) in
-    let count = ap (λ (v : Puzzle). option_count v) c.self.view_is in
-    let first = c.requires.0 in
-    let last = c.requires.1 in
-    omega (arith, long, count, first, last)
+    omega (arith, long, ap (λ (v : Puzzle). option_count v) c.self.view_is, c.requires.0, c.requires.1)
 
 pub returns : goal.returns
 returns c =
