@@ -1,21 +1,22 @@
 -- Which bodies stand for which uses, by classes.
 use Rattle.std.proofs.lemmas.Bool.{and_parts}
+use Rattle.std.proofs.lemmas.Bool.Decides.{nat_tests}
+use Rattle.std.proofs.lemmas.List.Elements.{All-head, All-tail, All-append, All-drop, All-take}
+use Rattle.std.proofs.lemmas.Option.{same_Some}
 use Rattle.std.proofs.Common.{ℕ, zero, suc, ◌≡◌, ◌≢◌, ◌<◌, ◌≤◌, Bool, true, false, cond, ◌==◌, ◌||◌, ◌&&◌, List, [], ◌∷◌, ◌++◌, length, map, take, drop, Some, None, refl, sym, ap, ap₂, ◌∙◌, arith, subst, inl, inr, eqb-true, eq-eqb, ltb, ltb-true, ltb-false}
-use Rattle.std.specs.Prelude.{Option, slice_get, unwrap_or}
+use Rattle.std.specs.Prelude.{Option, All}
 use Rattle.std.specs.List.{list_any}
 use Rattle.std.specs.Str.{bytes_eq}
 use Rattle.std.proofs.lemmas.Slice.Eq.{bytes_eq-Decides}
 use Rattle.xc_input.specs.declared.problem.Use.{Use}
-use Rattle.xc_input.specs.Named.{Named}
-use Rattle.xc_search.proofs.Members.{IsIn, in-append, append-in_left, append-in_right}
-use Rattle.xc_search.proofs.EachTwo.{EachTwo, EachTwo-at}
+use Rattle.xc_input.specs.Named.{Named, IsKnownUse, IsSound}
 use Rattle.std.specs.Option.{option_eq}
 use Rattle.std.specs.Cmp.Lexicographic.{pointwise}
 use Rattle.xc_list.specs.Listed.{Word, word_of, use_word, same_word, below, is_body}
 use Rattle.xc_list.specs.inner.Classes.{class_of, same_uses}
 use Rattle.xc_list.specs.Output.{rotated_at, bytes_at}
-use Rattle.xc_list.specs.inner.OptionIndex.{Spellings, IsTold}
-use Rattle.xc_list.proofs.CheckLemmas.Rotations.{DifferInItems, class-turned, turned-alike, halves}
+use Rattle.xc_list.proofs.CheckLemmas.Rotations.{DifferInItems, class-turned, turned-alike}
+use Rattle.xc_list.proofs.CheckLemmas.NumberedTexts.{one_text}
 
 pub any_below : (p : ℕ → Bool) (n : ℕ) → list_any p (below n) ≡ true → (k : ℕ) × (k < n) × (p k ≡ true)
 any_below p zero h = cc
@@ -94,98 +95,50 @@ body-alike p words us vs d e q h =
     let j = turned-alike us vs k.0 d e q k.1 in
     is-body p words vs j.0 j.1 (ap (map (use_word p)) (sym j.2) ∙ k.2)
 
--- the names and colours of a problem
-abbrev pub spellings : Named → Spellings
-spellings p = record { names = p.names; colours = p.colours }
-
--- uses that can be told
-abbrev pub AreTold : Named → List Use → Type 0
-AreTold p us = (u : Use) → IsIn us u → IsTold (spellings p) u
-
--- no name and no colour stands twice
-abbrev pub AreApartTexts : Named → Type 0
-AreApartTexts p = EachTwo (λ a b. a ≢ b) p.names × EachTwo (λ a b. a ≢ b) p.colours
-
-slice_get_or : (xs : List (List ℕ)) (k : ℕ) → k < length xs → slice_get xs k ≡ Some (unwrap_or (slice_get xs k) [])
-slice_get_or [] k l = absurd (omega (arith, l))
-slice_get_or (x ∷ xs) zero l = refl
-slice_get_or (x ∷ xs) (suc k) l = slice_get_or xs k (omega (arith, l))
-
--- numbers of one text are one
-pub one_text : (texts : List (List ℕ)) → EachTwo (λ a b. a ≢ b) texts → (i j : ℕ) → 1 ≤ i → i ≤ length texts → 1 ≤ j → j ≤ length texts → bytes_at texts i ≡ bytes_at texts j → i ≡ j
-one_text texts d zero j a b f g e = absurd (omega (arith, a))
-one_text texts d (suc i) zero a b f g e = absurd (omega (arith, f))
-one_text texts d (suc i) (suc j) a b f g e =
-    let x = slice_get_or texts i (omega (arith, b)) in
-    let y = slice_get_or texts j (omega (arith, g)) in
-    let at : slice_get texts j ≡ Some (unwrap_or (slice_get texts i) []) = y ∙ ap (λ z. Some z) (sym e) in
-    elim (i == j) as (λ t. (i == j) ≡ t → suc i ≡ suc j) [
-      | true ↦ λ q. ap suc (eqb-true i j q)
-      | false ↦ λ q. absurd (apart x at (λ z. (let w = eq-eqb i j z in cc)))
-    ] refl
-  where
-    text : List ℕ
-    text = unwrap_or (slice_get texts i) []
-
-    apart : slice_get texts i ≡ Some text → slice_get texts j ≡ Some text → i ≢ j → ⊥
-    apart x y ne = by_order (ltb i j) refl
-      where
-        by_order : (t : Bool) → ltb i j ≡ t → ⊥
-        by_order true e = EachTwo-at (λ a b. a ≢ b) texts i j text text d (ltb-true i j e) x y refl
-        by_order false e = EachTwo-at (λ a b. a ≢ b) texts j i text text d (let le = ltb-false i j e in omega (arith, le, ne)) y x refl
-
 -- the bytes of a colour; none for colour 0
 abbrev colour_bytes : Named → ℕ → Option (List ℕ)
 colour_bytes p c = cond (c == 0) None (Some (bytes_at p.colours c))
 
-one_colour : (p : Named) → EachTwo (λ a b. a ≢ b) p.colours → (a b : ℕ) → a ≤ length p.colours → b ≤ length p.colours → colour_bytes p a ≡ colour_bytes p b → a ≡ b
-one_colour p d a b l m e = by_case (a == 0) (b == 0) refl refl e
+one_colour : (p : Named) → IsSound p → (a b : ℕ) → a ≤ length p.colours → b ≤ length p.colours → colour_bytes p a ≡ colour_bytes p b → a ≡ b
+one_colour p s a b l m e = by_case (a == 0) (b == 0) refl refl e
   where
-    by_case : (s t : Bool) → (a == 0) ≡ s → (b == 0) ≡ t → cond s None (Some (bytes_at p.colours a)) ≡ cond t None (Some (bytes_at p.colours b)) → a ≡ b
+    by_case : (v t : Bool) → (a == 0) ≡ v → (b == 0) ≡ t → cond v None (Some (bytes_at p.colours a)) ≡ cond t None (Some (bytes_at p.colours b)) → a ≡ b
     by_case true true f g e = eqb-true a 0 f ∙ sym (eqb-true b 0 g)
     by_case true false f g e = cc
     by_case false true f g e = cc
     by_case false false f g e =
-        let x : a ≢ 0 = λ q. (let z = eq-eqb a 0 q in cc) in
-        let y : b ≢ 0 = λ q. (let z = eq-eqb b 0 q in cc) in
-        let same : bytes_at p.colours a ≡ bytes_at p.colours b = cc in
-        one_text p.colours d a b (omega (arith, x)) l (omega (arith, y)) m same
+        let x : 1 ≤ a = grind (arith, nat_tests) in
+        let y : 1 ≤ b = grind (arith, nat_tests) in
+        one_text p.colours s.named.distinct_colours a b x l y m (same_Some _ _ e)
 
 -- uses with one word are one
-pub one_word : (p : Named) → AreApartTexts p → (u v : Use) → IsTold (spellings p) u → IsTold (spellings p) v → use_word p u ≡ use_word p v → u ≡ v
-one_word p d u v a b e =
-    let item = one_text p.names d.0 u.item v.item a.0 a.1 b.0 b.1 (ap (λ (w : Word). w.name) e) in
-    let colour = one_colour p d.1 u.colour v.colour a.2 b.2 (ap (λ (w : Word). w.colour) e) in
+one_word : (p : Named) → IsSound p → (u v : Use) → IsKnownUse p u → IsKnownUse p v → use_word p u ≡ use_word p v → u ≡ v
+one_word p s u v a b e =
+    let n = s.named.count in
+    let item = one_text p.names s.named.distinct u.item v.item a.0.0 (omega (arith, a.0.1, n)) b.0.0 (omega (arith, b.0.1, n)) (ap (λ (w : Word). w.name) e) in
+    let colour = one_colour p s u.colour v.colour a.1 b.1 (ap (λ (w : Word). w.colour) e) in
     ap₂ (λ i c. let r : Use = record { item = i; colour = c } in r) item colour
 
-pub same_uses_by_words : (p : Named) → AreApartTexts p → (us vs : List Use) → AreTold p us → AreTold p vs → map (use_word p) us ≡ map (use_word p) vs → us ≡ vs
-same_uses_by_words p d [] [] a b e = refl
-same_uses_by_words p d [] (v ∷ vs) a b e = cc
-same_uses_by_words p d (u ∷ us) [] a b e = cc
-same_uses_by_words p d (u ∷ us) (v ∷ vs) a b e =
+pub same_uses_by_words : (p : Named) → IsSound p → (us vs : List Use) → All (IsKnownUse p) us → All (IsKnownUse p) vs → map (use_word p) us ≡ map (use_word p) vs → us ≡ vs
+same_uses_by_words p s [] [] a b e = refl
+same_uses_by_words p s [] (v ∷ vs) a b e = cc
+same_uses_by_words p s (u ∷ us) [] a b e = cc
+same_uses_by_words p s (u ∷ us) (v ∷ vs) a b e =
     let here : use_word p u ≡ use_word p v = cc in
     let rest : map (use_word p) us ≡ map (use_word p) vs = cc in
-    ap₂ (λ x xs. x ∷ xs) (one_word p d u v (a u (inl refl)) (b v (inl refl)) here) (same_uses_by_words p d us vs (λ w k. a w (inr k)) (λ w k. b w (inr k)) rest)
+    ap₂ (λ x xs. x ∷ xs) (one_word p s u v (All-head (IsKnownUse p) u us a) (All-head (IsKnownUse p) v vs b) here)
+    (same_uses_by_words p s us vs (All-tail (IsKnownUse p) u us a) (All-tail (IsKnownUse p) v vs b) rest)
 
-pub told-turned : (p : Named) (k : ℕ) (us : List Use) → AreTold p us → AreTold p (rotated_at k us)
-told-turned p k us a u h = a u (back h)
-  where
-    whole : (u : Use) → IsIn (take k us ++ drop k us) u → IsIn us u
-    whole u h = subst (λ v. IsIn v u) (halves k us) h
-
-    back : IsIn (rotated_at k us) u → IsIn us u
-    back h = elim (in-append (drop k us) (take k us) u h) [
-      | inl q ↦ whole u (append-in_right (take k us) (drop k us) u q)
-      | inr q ↦ whole u (append-in_left (take k us) (drop k us) u q)
-    ]
+pub All-turned : {X : Type 0} (P : X → Type 0) (k : ℕ) (xs : List X) → All P xs → All P (rotated_at k xs)
+All-turned P k xs all = All-append P (drop k xs) (take k xs) (All-drop P k xs all) (All-take P k xs all)
 
 -- What one body stands for is of one class.
-pub body-class : (p : Named) (words : List (List ℕ)) → AreApartTexts p → (us vs : List Use) → AreTold p us → AreTold p vs → DifferInItems us → DifferInItems vs →
+pub body-class : (p : Named) (words : List (List ℕ)) → IsSound p → (us vs : List Use) → All (IsKnownUse p) us → All (IsKnownUse p) vs → DifferInItems us → DifferInItems vs →
     is_body p words us ≡ true → is_body p words vs ≡ true → class_of us ≡ class_of vs
-body-class p words n us vs a b d e h k =
+body-class p words s us vs a b d e h k =
     let i = body-is p words us h in
     let j = body-is p words vs k in
-    let same = same_uses_by_words p n (rotated_at i.0 us) (rotated_at j.0 vs) (told-turned p i.0 us a) (told-turned p j.0 vs b) (i.2 ∙ sym j.2) in
+    let same = same_uses_by_words p s (rotated_at i.0 us) (rotated_at j.0 vs) (All-turned (IsKnownUse p) i.0 us a) (All-turned (IsKnownUse p) j.0 vs b) (i.2 ∙ sym j.2) in
     sym (class-turned i.0 us d) ∙ ap class_of same ∙ class-turned j.0 vs e
 
 pub same_uses-are : (us vs : List Use) → same_uses us vs ≡ true → us ≡ vs

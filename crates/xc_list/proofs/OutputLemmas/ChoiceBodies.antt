@@ -1,6 +1,7 @@
 -- What the words of a choice stand for.
 use Rattle.xc_input.proofs.TokenLemmas.{not_false}
-use Rattle.xc_list.proofs.CheckLemmas.BodiesOfClasses.{word_is, same_words-itself}
+use Rattle.xc_list.proofs.CheckLemmas.BodiesOfClasses.{All-turned, word_is, same_words-itself, is-body}
+use Rattle.xc_list.proofs.CheckLemmas.NumberedTexts.{numbered_some}
 use Rattle.std.proofs.Common.{◌≡◌, ◌≢◌, ℕ, zero, suc, ◌+◌, ◌<◌, ◌≤◌, Bool, true, false, not, ◌&&◌, ◌||◌, nat_eq, List, [], ◌∷◌, ◌++◌, Option, None, Some, length, map, take, drop, get_or, refl, sym, ap, ap₂, ◌∙◌, arith, length-append, append-nil, eqb-true}
 use Rattle.std.specs.Prelude.{All, codes, is_some, slice_get, unwrap_or, MatchOption, ◌==◌, if◌then◌else◌}
 use Rattle.std.specs.List.{list_any, position_or_len}
@@ -10,6 +11,7 @@ use Rattle.std.proofs.lemmas.List.{length-map, take-append-drop}
 use Rattle.std.proofs.lemmas.List.Elements.{All-nil, All-cons, All-head, All-tail, All-append, All-drop, All-take, All-map, All-weaker, All-from_get_or}
 use Rattle.std.proofs.lemmas.List.Folds.{list_any-append, list_any_none}
 use Rattle.std.proofs.lemmas.Slice.Eq.{bytes_eq-Decides}
+use Rattle.std.proofs.lemmas.Option.{slice_get-get_or}
 use Rattle.xc_input.specs.declared.problem.Use.{Use}
 use Rattle.xc_input.specs.Problem.{IsPrimary, IsItem, numbered_get, uses_of, option_count, primary_count, colour_in}
 use Rattle.xc_input.specs.Named.{Named, IsKnownUse, IsSound, IsName, IsColour, IsUnbroken}
@@ -29,12 +31,6 @@ use Rattle.xc_list.proofs.OutputLemmas.ReadLines.{IsPlain}
 use Rattle.xc_list.proofs.OutputLemmas.OutputLines.{use_bytes, body_words}
 
 -- ---- bytes
-
-numbered_some : {X : Type 0} (xs : List X) (i : ℕ) (d : X) → 1 ≤ i → i ≤ length xs → numbered_get xs i ≡ Some (unwrap_or (numbered_get xs i) d)
-numbered_some xs zero d h l = absurd (omega (arith, h))
-numbered_some [] (suc i) d h l = absurd (omega (arith, l))
-numbered_some (x ∷ xs) (suc zero) d h l = refl
-numbered_some (x ∷ xs) (suc (suc i)) d h l = numbered_some xs (suc i) d (omega arith) (omega (arith, l))
 
 -- what holds of all names holds of an item's
 at_bytes : (P : List ℕ → Type 0) (texts : List (List ℕ)) (i : ℕ) → 1 ≤ i → i ≤ length texts → All P texts → P (bytes_at texts i)
@@ -98,9 +94,6 @@ place-within i (u ∷ us) h =
 length-turned : {X : Type 0} (k : ℕ) (xs : List X) → length (rotated_at k xs) ≡ length xs
 length-turned k xs = omega (arith, length-append (drop k xs) (take k xs), length-append (take k xs) (drop k xs), ap length (take-append-drop k xs))
 
-All-turned : {X : Type 0} (P : X → Type 0) (k : ℕ) (xs : List X) → All P xs → All P (rotated_at k xs)
-All-turned P k xs all = All-append P (drop k xs) (take k xs) (All-drop P k xs all) (All-take P k xs all)
-
 -- ---- tests
 
 or-left : (a b : Bool) → a ≡ true → (a || b) ≡ true
@@ -118,25 +111,6 @@ any_at q (y ∷ xs) (suc k) x e h = or-right (q y) (list_any q xs) (any_at q xs 
 any_numbered : {X : Type 0} (q : X → Bool) (xs : List X) (i : ℕ) (x : X) → numbered_get xs i ≡ Some x → q x ≡ true → list_any q xs ≡ true
 any_numbered q xs zero x e h = absurd (cc e)
 any_numbered q xs (suc k) x e h = any_at q xs k x e h
-
-any_below : (q : ℕ → Bool) (n k : ℕ) → k < n → q k ≡ true → list_any q (below n) ≡ true
-any_below q zero k l h = absurd (omega (arith, l))
-any_below q (suc n) k l h =
-    let parts : list_any q (below n ++ n ∷ []) ≡ (list_any q (below n) || (q n || false)) = list_any-append q (below n) (n ∷ []) in
-    let P : Bool → Type 0 = λ t. (k == n) ≡ t → (list_any q (below n) || (q n || false)) ≡ true in
-    let step : P (k == n) = (elim (k == n) as P [
-      | true ↦ λ e. or-right (list_any q (below n)) (q n || false) (or-left (q n) false (ap q (sym (eqb-true k n e)) ∙ h))
-      | false ↦ λ e. or-left (list_any q (below n)) (q n || false) (any_below q n k (apart n k l e) h)
-    ]) in
-    parts ∙ step refl
-  where
-    apart : (n k : ℕ) → k < suc n → (k == n) ≡ false → k < n
-    apart n k l e = grind (arith, nat_tests)
-
-body-stands : (p : Named) (words : List (List ℕ)) (us : List Use) (k : ℕ) → k < length us → map word_of words ≡ map (use_word p) (rotated_at k us) → is_body p words us ≡ true
-body-stands p words us k l e =
-    any_below (λ k. pointwise same_word (map (use_word p) (rotated_at k us)) (map word_of words)) (length us) k l
-    (ap (λ ws. pointwise same_word (map (use_word p) (rotated_at k us)) ws) e ∙ same_words-itself (map (use_word p) (rotated_at k us)))
 
 -- ---- choices
 
@@ -174,15 +148,10 @@ told-option p sound i o h l held = record {
     all = All-turned (IsKnownUse p) k us (known_option p.puzzle p.colours o us sound.valid sound.coloured at)
 
     stands : is_body p words us ≡ true
-    stands = body-stands p words us k within (words_of-uses p sound (rotated_at k us) all)
+    stands = is-body p words us k within (sym (words_of-uses p sound (rotated_at k us) all))
 
     known : is_known p words ≡ true
     known = any_numbered (is_body p words) p.puzzle.options o us at stands
-
-slice_at : (options : List (List Use)) (j : ℕ) → j < length options → slice_get options j ≡ Some (get_or options j [])
-slice_at [] j h = absurd (omega (arith, h))
-slice_at (us ∷ options) zero h = refl
-slice_at (us ∷ options) (suc j) h = slice_at options j (omega (arith, h))
 
 -- no use has the word null
 not_null : (p : Named) → IsSound p → All (λ n. n ≢ codes "null") p.names → (us : List Use) → All (IsKnownUse p) us → (w : List ℕ) → pointwise same_word (map (use_word p) us) (map word_of (codes "null" ∷ w ∷ [])) ≡ false
@@ -205,7 +174,7 @@ not_known p sound none w = list_any_none (is_body p (codes "null" ∷ w ∷ []))
         (λ j d h. not_null p sound none (rotated_at (get_or (below (length us)) j d) us) (All-turned (IsKnownUse p) (get_or (below (length us)) j d) us all) w)
 
     each : All (λ us. is_body p (codes "null" ∷ w ∷ []) us ≡ false) p.puzzle.options
-    each = All-from_get_or (λ us. is_body p (codes "null" ∷ w ∷ []) us ≡ false) p.puzzle.options [] (λ j h. known (get_or p.puzzle.options j []) (suc j) (slice_at p.puzzle.options j h))
+    each = All-from_get_or (λ us. is_body p (codes "null" ∷ w ∷ []) us ≡ false) p.puzzle.options [] (λ j h. known (get_or p.puzzle.options j []) (suc j) (slice_get-get_or p.puzzle.options j [] h))
 
 told-none : (p : Named) → IsSound p → All (λ n. n ≢ codes "null") p.names → (i : ℕ) → IsPrimary p.puzzle i → IsTold p i None
 told-none p sound none zero primary = absurd (omega (arith, primary.0))
