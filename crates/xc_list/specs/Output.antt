@@ -23,9 +23,13 @@ from_item i us = rotated_at (position_or_len (λ u. u.item == i) us) us
 abbrev pub colour_text : List (List ℕ) → ℕ → List ℕ
 colour_text colours c = if c == 0 then [] else codes ":" ++ bytes_at colours c
 
--- a space and a name, and a coloured use's colour
+-- the word of a use: its item's name, and its colour behind a colon
+abbrev pub use_word : Named → Use → List ℕ
+use_word a u = bytes_at a.names u.item ++ colour_text a.colours u.colour
+
+-- a space and the word of a use
 abbrev pub use_text : Named → Use → List ℕ
-use_text a u = codes " " ++ bytes_at a.names u.item ++ colour_text a.colours u.colour
+use_text a u = codes " " ++ use_word a u
 
 -- the body of a choice line: the uses of its option from the item's on, or that no option is taken
 abbrev pub body_text : Named → ℕ → Option ℕ → List ℕ

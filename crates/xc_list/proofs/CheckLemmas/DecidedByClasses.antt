@@ -1,50 +1,30 @@
 -- A listed solution is a cover exactly where its classes are, by counting.
 use Rattle.std.specs.List.{AllZip}
-use Rattle.std.proofs.Common.{ℕ, zero, suc, ◌≡◌, ◌≢◌, ◌+◌, ◌<◌, ◌≤◌, Bool, true, false, cond, ◌==◌, List, [], ◌∷◌, ◌++◌, length, filter, Some, refl, sym, ap₂, ◌∙◌, arith, subst, inl, inr, eqb-true, eq-eqb, ltb, ltb-true, ltb-false}
-use Rattle.std.specs.Prelude.{slice_get, unwrap_or, is_some, All, IsTrue, ◌↔◌}
+use Rattle.std.proofs.Common.{ℕ, zero, suc, ◌≡◌, ◌≢◌, ◌+◌, ◌<◌, Bool, true, false, cond, ◌==◌, List, [], ◌∷◌, filter, Some, refl, sym, ap₂, ◌∙◌, arith, subst, inl, inr, eqb-true, eq-eqb, ltb, ltb-true, ltb-false}
+use Rattle.std.specs.Prelude.{slice_get, is_some, All, IsTrue, ◌↔◌}
 use Rattle.std.proofs.lemmas.List.Elements.{recursion_from_All, All-from_recursion}
 use Rattle.xc_input.specs.declared.problem.Use.{Use}
 use Rattle.xc_input.specs.Problem.{Puzzle, IsSoundOption, IsValid, IsSecondary, option_count, uses_of, colour_in}
 use Rattle.xc_search.specs.Cover.{IsCover, times_held}
 use Rattle.xc_input.specs.Named.{Named, IsKnownUse, IsSound}
 use Rattle.xc_input.proofs.Known.{known_option}
-use Rattle.xc_search.proofs.Members.{IsIn, each_in, each_from, in-slice_get, slice_get-in, in-append, append-in_left, append-in_right, in-map, map-in, in-contains, contains-in}
-use Rattle.xc_search.proofs.EachTwo.{EachTwo, EachTwo-append, EachTwo-map, EachTwo-at, each_two_from_AllPairs, AllPairs-from_each_two}
-use Rattle.xc_list.specs.Listed.{below, is_known, IsListedCover, stands_for}
+use Rattle.xc_search.proofs.Members.{IsIn, each_in, each_from, in-slice_get, slice_get-in, in-contains, contains-in}
+use Rattle.xc_search.proofs.EachTwo.{EachTwo-at, each_two_from_AllPairs, AllPairs-from_each_two}
+use Rattle.xc_list.specs.Listed.{is_known, IsListedCover, stands_for}
 use Rattle.xc_list.specs.inner.Classes.{alike, numbers, class_of, same_uses, IsCoverOfClasses, IsOption}
 use Rattle.xc_list.proofs.CheckLemmas.DifferentOptions.{counted, is_counted, IsLikeness, AreAlike, AreApart, asked_within, give, IsGiving}
 use Rattle.xc_list.proofs.CheckLemmas.Rotations.{DifferInItems, colour-alike}
-use Rattle.xc_list.proofs.CheckLemmas.NumberedTexts.{numbered_some}
+use Rattle.xc_list.proofs.CheckLemmas.ListedNumbers.{in-range, range-in, range-apart, numbered_some}
 use Rattle.xc_list.proofs.CheckLemmas.BodiesOfClasses.{body-alike, body-class, same_uses-are, same_uses-itself}
 
-pub in-below : (n k : ℕ) → IsIn (below n) k → k < n
-in-below zero k h = absurd h
-in-below (suc n) k h = elim (in-append (below n) (n ∷ []) k h) [
-  | inl q ↦ let l = in-below n k q in omega (arith, l)
-  | inr q ↦ elim q [ inl e ↦ omega (arith, e) | inr z ↦ absurd z ]
-]
-
-pub below-in : (n k : ℕ) → k < n → IsIn (below n) k
-below-in zero k l = absurd (omega (arith, l))
-below-in (suc n) k l = elim (k == n) as (λ t. (k == n) ≡ t → IsIn (below n ++ n ∷ []) k) [
-  | true ↦ λ e. append-in_right (below n) (n ∷ []) k (inl (sym (eqb-true k n e)))
-  | false ↦ λ e. append-in_left (below n) (n ∷ []) k (below-in n k (let ne : k ≢ n = λ q. (let z = eq-eqb k n q in cc) in omega (arith, ne, l)))
-] refl
-
-pub below-apart : (n : ℕ) → EachTwo (λ a b. suc a ≢ suc b) (below n)
-below-apart zero = tt
-below-apart (suc n) = EachTwo-append (λ a b. suc a ≢ suc b) (below n) (n ∷ []) (below-apart n) (tt, tt)
-    (λ x y j k e. let l = in-below n x j in elim k [ inl q ↦ omega (arith, l, q, e) | inr z ↦ absurd z ])
-
 pub numbers-apart : (p : Puzzle) → AreApart (numbers p)
-numbers-apart p = EachTwo-map (λ a b. a ≢ b) suc (below (option_count p)) (below-apart (option_count p))
+numbers-apart p = range-apart 1 (option_count p)
 
 pub in-numbers : (p : Puzzle) (o : ℕ) → IsIn (numbers p) o → IsOption p o
-in-numbers p o h = let from = in-map suc (below (option_count p)) o h in let l = in-below (option_count p) from.0 from.1 in let e = from.2 in (omega (arith, e), omega (arith, l, e))
+in-numbers p o h = let l = in-range 1 (option_count p) o h in (l.0, omega (arith, l.1))
 
 pub numbers-in : (p : Puzzle) (o : ℕ) → IsOption p o → IsIn (numbers p) o
-numbers-in p zero h = absurd (omega (arith, h.0))
-numbers-in p (suc o) h = map-in suc (below (option_count p)) o (below-in (option_count p) o (omega (arith, h.1)))
+numbers-in p o h = range-in 1 (option_count p) o h.0 (omega (arith, h.1))
 
 -- the uses of an option are among those of the problem
 pub uses-in : (p : Puzzle) (o : ℕ) → IsOption p o → IsIn p.options (uses_of p o)

@@ -1,5 +1,5 @@
 -- Classes found by their uses.
-use Rattle.std.proofs.Common.{ℕ, suc, ◌≡◌, ◌≢◌, ◌<◌, if◌then◌else◌, Option, Bool, true, false, ◌&&◌, ◌||◌, ◌==◌, List, [], ◌∷◌, ◌++◌, length, map, get_or, take, drop, position, Some, None, refl, sym, ap, ap₂, ◌∙◌, arith, subst, inl, inr, eqb-true, eq-eqb}
+use Rattle.std.proofs.Common.{ℕ, suc, ◌≡◌, ◌≢◌, ◌<◌, if◌then◌else◌, Option, Bool, true, false, List, [], ◌∷◌, ◌++◌, length, map, get_or, take, drop, position, Some, None, refl, sym, ap, ◌∙◌, arith, subst}
 use Rattle.std.specs.Prelude.{Vec, IsTrue, slice_get, unwrap_or}
 use Rattle.std.specs.Bool.{Decides}
 use Rattle.std.specs.Cmp.Lexicographic.{pointwise}
@@ -18,40 +18,15 @@ use Rattle.xc_search.proofs.Members.{IsIn, in-contains, slice_get-in}
 use Rattle.xc_input.proofs.EachElement.{each_front}
 use Rattle.xc_search.proofs.EachTwo.{EachTwo-append}
 use Rattle.xc_list.specs.ListingLines.{words_in}
-use Rattle.xc_list.specs.Output.{rotated_at}
-use Rattle.xc_list.specs.Listed.{word_of, use_word, is_body, is_known, stands_for}
+use Rattle.xc_list.specs.Output.{rotated_at, use_word}
+use Rattle.xc_list.specs.Listed.{is_body, is_known, stands_for}
 use Rattle.xc_list.specs.inner.Classes.{IsOption, IsOfClass, IsClassOfBody, class_of, class_at}
 use Rattle.xc_list.specs.inner.OptionIndex.{HaveWords, IsReading, IsOptionIndex, key_uses}
 use Rattle.xc_list.proofs.CheckLemmas.Rotations.{DifferInItems, EachTwo-between, DifferInItems-halves, halves, class-place, class-turned, turned-alike}
 use Rattle.xc_list.proofs.CheckLemmas.BodiesOfClasses.{All-turned, body-is, is-body, same_uses_by_words}
+use Rattle.xc_list.proofs.CheckLemmas.ListedNumbers.{any-in, in-any}
 use Rattle.xc_list.proofs.CheckLemmas.DecidedByClasses.{option-differs, option-known}
 use Rattle.xc_list.proofs.CheckLemmas.NumberedTexts.{words-some}
-
--- `==` on uses
-pub use-decides : (a b : Use) → Decides (a.item == b.item && a.colour == b.colour) (a ≡ b)
-use-decides a b = (both (a.item == b.item) (a.colour == b.colour) refl refl, λ e. subst (λ (z : Use). (a.item == z.item && a.colour == z.colour) ≡ true) e itself)
-  where
-    both : (s t : Bool) → (a.item == b.item) ≡ s → (a.colour == b.colour) ≡ t → (s && t) ≡ true → a ≡ b
-    both true true x y h = ap₂ (λ i c. let r : Use = record { item = i; colour = c } in r) (eqb-true a.item b.item x) (eqb-true a.colour b.colour y)
-    both true false x y h = cc
-    both false t x y h = cc
-
-    itself : (a.item == a.item && a.colour == a.colour) ≡ true
-    itself = let x = eq-eqb a.item a.item refl in let y = eq-eqb a.colour a.colour refl in rw (x, y) refl
-
-any-in : {X : Type 0} (p : X → Bool) (xs : List X) (x : X) → IsIn xs x → p x ≡ true → list_any p xs ≡ true
-any-in p [] x h e = absurd h
-any-in p (y ∷ ys) x (inl q) e = let f : p y ≡ true = ap p q ∙ e in ap (λ t. t || list_any p ys) f
-any-in p (y ∷ ys) x (inr h) e = let later = any-in p ys x h e in elim (p y) as (λ t. (t || list_any p ys) ≡ true) [ true ↦ refl | false ↦ later ]
-
-in-any : {X : Type 0} (p : X → Bool) (xs : List X) → list_any p xs ≡ true → (x : X) × IsIn xs x × (p x ≡ true)
-in-any p [] h = cc
-in-any {X} p (x ∷ xs) h =
-    let later : list_any p xs ≡ true → (y : X) × IsIn xs y × (p y ≡ true) = in-any p xs in
-    elim (p x) as (λ t. p x ≡ t → (t || list_any p xs) ≡ true → (y : X) × IsIn (x ∷ xs) y × (p y ≡ true)) [
-      | true ↦ λ e k. (x, inl refl, e)
-      | false ↦ λ e k. let y = later k in (y.0, inr y.1, y.2)
-    ] refl h
 
 module _ (E : Use → Use → Bool) (decides : (a b : Use) → Decides (E a b) (a ≡ b)) where
   same-uses : (us vs : List Use) → Decides (pointwise E us vs) (us ≡ vs)
@@ -147,7 +122,7 @@ module _ (p : Named) (keys : List (Vec Use Global)) (counts : List ℕ) (b : IsO
 
 -- a text's words are some
 pub some-uses : (p : Named) (text : List ℕ) (us : List Use) → HaveWords p (words_in text) us → 0 < length us
-some-uses p text [] h = (let w = words-some text in let e : [] ≡ map word_of (words_in text) = h.words_so in let f : map word_of (words_in text) ≡ word_of w.0 ∷ map word_of w.1 = ap (map word_of) w.2 in cc)
+some-uses p text [] h = (let w = words-some text in let e : [] ≡ words_in text = h.words_so in cc)
 some-uses p text (u ∷ us) h = omega arith
 
 -- what was read or wasn't

@@ -1,43 +1,14 @@
 -- Names and colours by their texts.
-use Rattle.std.proofs.Common.{ℕ, zero, suc, ◌≡◌, ◌≢◌, ◌⊎◌, ◌<◌, ◌≤◌, ◌==◌, Bool, true, false, ◌||◌, List, [], ◌∷◌, length, take, get_or, position, Option, Some, None, refl, sym, ap, ◌∙◌, arith, inl, inr, nat_lt, ltb-true, ltb-false, if◌then◌else◌}
-use Rattle.std.specs.Prelude.{slice_get, unwrap_or, nat_le, AllPairs}
+use Rattle.std.proofs.Common.{ℕ, zero, suc, ◌≡◌, ◌<◌, ◌==◌, Bool, true, false, ◌||◌, List, [], ◌∷◌, length, take, get_or, position, Option, Some, None, refl, sym, ap, ◌∙◌, arith, nat_lt, ltb-true, ltb-false, if◌then◌else◌}
+use Rattle.std.specs.Prelude.{nat_le}
 use Rattle.std.specs.List.{list_any}
 use Rattle.std.specs.Option.{option_map}
-use Rattle.std.proofs.lemmas.Bool.{cases_lt}
 use Rattle.std.proofs.lemmas.List.Quantifiers.{position-Some}
-use Rattle.std.proofs.lemmas.Option.{unwrap_or-slice_get, slice_get_within, slice_get-get_or, get_or_from_slice_get}
-use Rattle.std.specs.Str.{bytes_eq}
 use Rattle.xc_input.specs.Tokens.{at_front}
-use Rattle.xc_input.specs.Problem.{numbered_get}
 use Rattle.xc_input.specs.Named.{Named}
 use Rattle.xc_input.proofs.FaultLemmas.{no-place}
 use Rattle.xc_list.specs.ListingLines.{words_in}
 use Rattle.xc_list.specs.Listed.{is_none}
-use Rattle.xc_list.specs.Output.{bytes_at}
-
--- an element at a number
-pub numbered_some : {X : Type 0} (xs : List X) (i : ℕ) (d : X) → 1 ≤ i → i ≤ length xs → numbered_get xs i ≡ Some (unwrap_or (numbered_get xs i) d)
-numbered_some xs zero d h l = absurd (omega (arith, h))
-numbered_some xs (suc k) d h l = slice_get-get_or xs k d (omega (arith, l)) ∙ ap (λ x. Some x) (sym (unwrap_or-slice_get xs k d))
-
--- an element stands at one place where none stands twice
-pub one_place : {X : Type 0} (xs : List X) (j k : ℕ) (x : X) → AllPairs (λ a b. a ≢ b) xs → slice_get xs j ≡ Some x → slice_get xs k ≡ Some x → j ≡ k
-one_place xs j k x apart e f = by_order (cases_lt j k) (cases_lt k j)
-  where
-    at : (i : ℕ) → slice_get xs i ≡ Some x → get_or xs i x ≡ x
-    at i g = get_or_from_slice_get xs i x x g
-
-    by_order : (j < k) ⊎ (k ≤ j) → (k < j) ⊎ (j ≤ k) → j ≡ k
-    by_order (inl l) m = absurd (apart j k x l (slice_get_within xs k x f) (at j e ∙ sym (at k f)))
-    by_order (inr l) (inl m) = absurd (apart k j x m (slice_get_within xs j x e) (at k f ∙ sym (at j e)))
-    by_order (inr l) (inr m) = omega (arith, l, m)
-
--- numbers of one text are one
-pub one_text : (texts : List (List ℕ)) → AllPairs (λ a b. a ≢ b) texts → (i j : ℕ) → 1 ≤ i → i ≤ length texts → 1 ≤ j → j ≤ length texts → bytes_at texts i ≡ bytes_at texts j → i ≡ j
-one_text texts d zero j a b f g e = absurd (omega (arith, a))
-one_text texts d (suc i) zero a b f g e = absurd (omega (arith, f))
-one_text texts d (suc i) (suc j) a b f g e =
-    ap suc (one_place texts i j (bytes_at texts (suc j)) d (numbered_some texts (suc i) [] a b ∙ ap (λ t. Some t) e) (numbered_some texts (suc j) [] f g))
 
 any-true : (p : List ℕ → Bool) (xs : List (List ℕ)) (i n : ℕ) → i < length xs → i < n → p (get_or xs i []) ≡ true → true ≡ list_any p (take n xs)
 any-true p [] i n l m e = absurd (omega (arith, l))

@@ -1,21 +1,22 @@
 -- No public clause cites this module. What an index of options stores, and how it finds uses by words.
-use Rattle.std.specs.Prelude.{ℕ, suc, ◌≤◌, ◌≡◌, ◌≢◌, List, Vec, map, count_by, slice_get, Bool, true, false, Option, None, Some, All, AllPairs, Contains}
+use Rattle.std.specs.Prelude.{ℕ, ◌≤◌, ◌≡◌, ◌≢◌, List, Vec, map, count_by, slice_get, Bool, true, false, Option, None, Some, All, AllPairs, Contains}
 use Rattle.std.specs.declared.alloc.Global.{Global}
 use Rattle.xc_input.specs.declared.problem.Use.{Use}
 use Rattle.xc_input.specs.Problem.{Puzzle, option_count}
 use Rattle.xc_input.specs.Named.{Named, IsKnownUse, IsSound}
-use Rattle.xc_list.specs.Listed.{word_of, use_word, below}
+use Rattle.std.specs.List.{range_with_len}
+use Rattle.xc_list.specs.Output.{use_word}
 use Rattle.xc_list.specs.inner.Classes.{class_at, same_uses}
 
 -- a use that has this word, if one has it
 abbrev pub IsUseOfWord : Named → List ℕ → Option Use → Type 0
-IsUseOfWord p word None = (u : Use) → IsKnownUse p u → use_word p u ≢ word_of word
-IsUseOfWord p word (Some u) = IsKnownUse p u × (use_word p u ≡ word_of word)
+IsUseOfWord p word None = (u : Use) → IsKnownUse p u → use_word p u ≢ word
+IsUseOfWord p word (Some u) = IsKnownUse p u × (use_word p u ≡ word)
 
 -- these uses have these words
 pub record HaveWords (p : Named) (words : List (List ℕ)) (us : List Use) : Type 0 where
   pub known : All (IsKnownUse p) us
-  pub words_so : map (use_word p) us ≡ map word_of words
+  pub words_so : map (use_word p) us ≡ words
 
 -- the uses that have these words, if any have
 abbrev pub IsReading : Named → List (List ℕ) → Bool → List Use → Type 0
@@ -28,7 +29,7 @@ key_uses keys = map (λ v. v.items) keys
 
 -- how many of the first n options are of a class
 abbrev pub class_size_to : Puzzle → ℕ → List Use → ℕ
-class_size_to p n class = count_by (λ o. same_uses class (class_at p o)) (map suc (below n))
+class_size_to p n class = count_by (λ o. same_uses class (class_at p o)) (range_with_len 1 n)
 
 -- these are the classes of the first n options, each once, and how many of them are of each class
 pub record AreClassesTo (p : Puzzle) (n : ℕ) (classes : List (List Use)) (counts : List ℕ) : Type 0 where

@@ -19,7 +19,7 @@ pub enum ListingLine<'a> {
 }
 
 /// A text cut at its first such byte.
-fn cut_first(text: &[u8], byte: u8) -> Option<(&[u8], &[u8])>
+pub fn cut_first(text: &[u8], byte: u8) -> Option<(&[u8], &[u8])>
     ensures { MatchOption result (has byte text.now ≡ false) (λ p. (has byte p.0.now ≡ false) × (text.now ≡ p.0.now ++ byte ∷ p.1.now)) }
 {
     match text.find_byte(byte) {

@@ -1,46 +1,37 @@
 //! The options of a problem by their bodies.
 ghost use Rattle.std.specs.Prelude.{◌≡◌, ◌<◌, ◌+◌, length, slice_get, take, All, None, Some, IfOk, OnOk};
 ghost use Rattle.std.specs.List.{list_any};
-ghost use Rattle.std.specs.Option.{option_map};
 ghost use Rattle.std.specs.Str.{bytes_eq};
 ghost use Rattle.xc_input.specs.Problem.{primary_count, option_count, IsValid, IsWithinLimits};
 ghost use Rattle.xc_input.specs.Named.{IsKnownUse, IsSound};
 ghost use Rattle.xc_list.specs.ListingLines.{words_in};
-ghost use Rattle.xc_list.specs.Listed.{word_of, is_none};
+ghost use Rattle.xc_list.specs.Listed.{is_none};
 ghost use Rattle.xc_list.specs.inner.Classes.{IsIndexed, IsClassOfBody, class_size};
 ghost use Rattle.xc_list.specs.inner.OptionIndex.{IsUseOfWord, IsReading, AreClassesTo, key_uses};
 
-use crate::checker::listing_lines::cut_word;
+use crate::checker::listing_lines::{cut_first, cut_word};
 use crate::checker::rotation::rotate;
-use bstr::ByteSlice;
 use indexmap::IndexSet;
 use std::alloc::{AllocError, Global};
 use std::marker::Model;
 use xc_input::{Problem, Use};
-
-/// A word's name, and its colour behind the first colon.
-fn cut_colour(word: &[u8]) -> (&[u8], Option<&[u8]>)
-    ensures name { result.0.now ≡ (word_of word.now).name }
-    ensures colour { option_map (λ c. c.now) result.1 ≡ (word_of word.now).colour }
-{
-    match word.find_byte(b':') {
-        None => (word, None),
-        Some(k) => (&word[..k], Some(&word[k + 1..])),
-    }
-}
 
 /// The use whose word this is.
 fn use_of(problem: &Problem, word: &[u8]) -> Option<Use>
     requires { IsSound problem.now }
     ensures { IsUseOfWord problem.now word.now result }
 {
-    let (name, colour) = cut_colour(word);
-    let item = problem.find(name)?;
-    let colour = match colour {
-        None => 0,
-        Some(colour) => problem.find_colour(colour)?,
-    };
-    Some(Use { item, colour })
+    match cut_first(word, b':') {
+        None => {
+            let item = problem.find(word)?;
+            Some(Use { item, colour: 0 })
+        }
+        Some((name, colour)) => {
+            let item = problem.find(name)?;
+            let colour = problem.find_colour(colour)?;
+            Some(Use { item, colour })
+        }
+    }
 }
 
 /// Puts the uses that have a body's words into a list, in place of what it holds, if there are
