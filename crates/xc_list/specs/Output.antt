@@ -1,5 +1,5 @@
 -- The listing as text.
-use Rattle.std.specs.Prelude.{ℕ, zero, suc, ◌%◌, Bool, false, ◌==◌, List, [], ◌++◌, filter, take, drop, flat_map, decimal, codes, Option, Some, None, if◌then◌else◌, unwrap_or}
+use Rattle.std.specs.Prelude.{ℕ, ◌%◌, Bool, not, ◌&&◌, ◌==◌, List, [], ◌++◌, filter, take, drop, flat_map, decimal, codes, Option, Some, None, if◌then◌else◌, unwrap_or}
 use Rattle.std.specs.List.{position_or_len, enumerate_from}
 use Rattle.xc_input.specs.declared.problem.Use.{Use}
 use Rattle.xc_search.specs.declared.choice.Choice.{Choice}
@@ -47,8 +47,7 @@ member_text a nm = decimal nm.0 ++ codes ":\n" ++ flat_map (choice_text a) nm.1
 
 -- whether the member with this number is printed: its number is a multiple of the spacing; none is where that is 0
 abbrev pub is_printed : ℕ → ℕ → Bool
-is_printed zero n = false
-is_printed (suc s) n = n % suc s == 0
+is_printed spacing n = not (spacing == 0) && n % spacing == 0
 
 -- the text of these members, numbered from 1, as far as they are printed
 abbrev pub text_of : Named → ℕ → List (List Choice) → List ℕ

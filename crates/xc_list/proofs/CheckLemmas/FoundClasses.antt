@@ -1,5 +1,5 @@
 -- Classes found by their uses.
-use Rattle.std.proofs.Common.{ℕ, suc, ◌≡◌, ◌≢◌, ◌<◌, if◌then◌else◌, Option, Bool, true, false, List, [], ◌∷◌, ◌++◌, length, map, get_or, take, drop, position, Some, None, refl, sym, ap, ◌∙◌, arith, subst}
+use Rattle.std.proofs.Common.{ℕ, suc, ◌≡◌, ◌<◌, if◌then◌else◌, Option, Bool, true, false, List, [], ◌∷◌, ◌++◌, length, map, get_or, position, Some, None, refl, sym, ap, ◌∙◌, arith, subst}
 use Rattle.std.specs.Prelude.{Vec, IsTrue, slice_get, unwrap_or}
 use Rattle.std.specs.Bool.{Decides}
 use Rattle.std.specs.Cmp.Lexicographic.{pointwise}
@@ -15,14 +15,12 @@ use Rattle.xc_input.specs.Named.{Named, IsKnownUse, IsSound}
 use Rattle.xc_input.proofs.FaultLemmas.{no-place, map-snoc}
 use Rattle.xc_input.proofs.TokenLemmas.{position-map, not_false}
 use Rattle.xc_search.proofs.Members.{IsIn, in-contains, slice_get-in}
-use Rattle.xc_input.proofs.EachElement.{each_front}
-use Rattle.xc_search.proofs.EachTwo.{EachTwo-append}
 use Rattle.xc_list.specs.ListingLines.{words_in}
 use Rattle.xc_list.specs.Output.{rotated_at, use_word}
 use Rattle.xc_list.specs.Listed.{is_body, is_known, stands_for}
 use Rattle.xc_list.specs.inner.Classes.{IsOption, IsOfClass, IsClassOfBody, class_of, class_at}
 use Rattle.xc_list.specs.inner.OptionIndex.{HaveWords, IsReading, IsOptionIndex, key_uses}
-use Rattle.xc_list.proofs.CheckLemmas.Rotations.{DifferInItems, EachTwo-between, DifferInItems-halves, halves, class-place, class-turned, turned-alike}
+use Rattle.xc_list.proofs.CheckLemmas.Rotations.{DifferInItems, class-place, class-turned, turned-alike, differ-turned, turned-differ}
 use Rattle.xc_list.proofs.CheckLemmas.BodiesOfClasses.{All-turned, body-is, is-body, same_uses_by_words}
 use Rattle.xc_list.proofs.CheckLemmas.ListedNumbers.{any-in, in-any}
 use Rattle.xc_list.proofs.CheckLemmas.DecidedByClasses.{option-differs, option-known}
@@ -52,20 +50,6 @@ module _ (E : Use → Use → Bool) (decides : (a b : Use) → Decides (E a b) (
       let out = no-place (λ v. pointwise E us v.items) keys e in
       let here : list_any (λ v. pointwise E k.items v.items) keys ≡ false = ap (λ n. list_any (λ (v : Vec Use Global). pointwise E n v.items) keys) f ∙ out in
       ap key_uses (g ∙ ap (λ b. if b then keys else keys ++ k ∷ []) here) ∙ map-snoc (λ (v : Vec Use Global). v.items) keys k ∙ ap (λ n. key_uses keys ++ n ∷ []) f
-
-two_front : (us vs : List Use) → DifferInItems (us ++ vs) → DifferInItems us × DifferInItems vs
-two_front [] vs d = (tt, d)
-two_front (u ∷ us) vs d = let later = two_front us vs d.1 in let first = each_front (λ v. u.item ≢ v.item) us vs d.0 in ((first.0, later.0), later.1)
-
-differ-swapped : (us vs : List Use) → DifferInItems (us ++ vs) → DifferInItems (vs ++ us)
-differ-swapped us vs d = let two = two_front us vs d in EachTwo-append (λ u v. u.item ≢ v.item) vs us two.1 two.0 (λ x y j k e. EachTwo-between us vs y x d k j (sym e))
-
--- the uses of a rotation differ exactly where those of the other do
-differ-turned : (k : ℕ) (us : List Use) → DifferInItems us → DifferInItems (rotated_at k us)
-differ-turned k us d = differ-swapped (take k us) (drop k us) (DifferInItems-halves k us d)
-
-turned-differ : (k : ℕ) (us : List Use) → DifferInItems (rotated_at k us) → DifferInItems us
-turned-differ k us d = subst (λ v. DifferInItems v) (halves k us) (differ-swapped (drop k us) (take k us) d)
 
 -- an option that a body stands for
 known-as : (p : Named) → IsSound p → (words : List (List ℕ)) → is_known p words ≡ true → (o : ℕ) × IsOption p.puzzle o × (k : ℕ) × HaveWords p words (rotated_at k (uses_of p.puzzle o))
