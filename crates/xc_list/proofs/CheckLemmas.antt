@@ -13,6 +13,7 @@ pub mod DifferentOptions
 pub mod FoundClasses
 pub mod HeldItems
 pub mod LastColours
+pub mod ListedNumbers
 pub mod NotedLines
 pub mod NumberedTexts
 pub mod ReadUses

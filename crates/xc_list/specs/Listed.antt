@@ -1,52 +1,23 @@
 -- What the lines of a listing stand for, its first fault, and when a listed solution is a cover.
-use Rattle.std.specs.Prelude.{ℕ, zero, suc, ◌+◌, ◌-◌, ◌^◌, ◌≡◌, ◌↔◌, Bool, false, not, ◌&&◌, ◌||◌, ◌==◌, min, List, [], ◌∷◌, ◌++◌, codes, length, map, filter, take, Option, Some, None, IsTrue, if◌then◌else◌}
-use Rattle.std.specs.Option.{option_eq, option_or}
+use Rattle.std.specs.Prelude.{ℕ, ◌+◌, ◌-◌, ◌^◌, ◌≡◌, ◌↔◌, Bool, false, not, ◌&&◌, ◌||◌, ◌==◌, min, List, [], ◌∷◌, codes, length, map, filter, take, Option, Some, None, IsTrue, if◌then◌else◌}
+use Rattle.std.specs.Option.{option_or}
 use Rattle.std.specs.Cmp.Lexicographic.{pointwise}
-use Rattle.std.specs.List.{list_any, AllZip}
-use Rattle.std.specs.Str.{byte, bytes_eq}
+use Rattle.std.specs.List.{list_any, range_with_len, AllZip}
+use Rattle.std.specs.Str.{bytes_eq}
 use Rattle.xc_input.specs.declared.problem.Use.{Use}
 use Rattle.xc_input.specs.Problem.{primary_count, uses_of}
 use Rattle.xc_input.specs.Named.{Named}
-use Rattle.xc_input.specs.Words.{has, before, after}
 use Rattle.xc_search.specs.Cover.{IsCover}
-use Rattle.xc_list.specs.Output.{bytes_at, rotated_at}
+use Rattle.xc_list.specs.Output.{rotated_at, use_word}
 use Rattle.xc_list.specs.ListingLines.{Line, Header, Body, Other, read}
 use Rattle.xc_list.specs.declared.checker.Verdict.{Verdict}
 use Rattle.xc_list.specs.declared.checker.ListingFault.{ListingFault}
 use Rattle.xc_list.specs.declared.checker.ListingFault.TheVariants.{BadLine, UnknownOption, Memory}
 
--- a word cut at its first colon
-pub record Word : Type 0 where
-  pub name : List ℕ
-  pub colour : Option (List ℕ)
-
--- a text as a word
-abbrev pub word_of : List ℕ → Word
-word_of text = record {
-  name = before (byte ":") text;
-  colour = if has (byte ":") text then Some (after (byte ":") text) else None;
-}
-
--- the word of a use: its item's name, and its colour's bytes
-abbrev pub use_word : Named → Use → Word
-use_word p u = record {
-  name = bytes_at p.names u.item;
-  colour = if u.colour == 0 then None else Some (bytes_at p.colours u.colour);
-}
-
--- whether two words have the same name and the same colour, or both none
-abbrev pub same_word : Word → Word → Bool
-same_word v w = bytes_eq v.name w.name && option_eq bytes_eq v.colour w.colour
-
--- the numbers below n
-abbrev pub below : ℕ → List ℕ
-below zero = []
-below (suc n) = below n ++ n ∷ []
-
--- whether uses, in some rotation, have the names and colours of a body's words in this order
+-- whether the words of uses are, in some rotation, those of a body in this order
 abbrev pub is_body : Named → List (List ℕ) → List Use → Bool
 is_body p words us =
-    list_any (λ k. pointwise same_word (map (use_word p) (rotated_at k us)) (map word_of words)) (below (length us))
+    list_any (λ k. pointwise bytes_eq (map (use_word p) (rotated_at k us)) words) (range_with_len 0 (length us))
 
 -- a body stands for option o
 abbrev pub stands_for : Named → List (List ℕ) → ℕ → Bool

@@ -38,17 +38,13 @@ abbrev pub is_opening : List ℕ → Bool
 is_opening [] = false
 is_opening (b ∷ text) = b == byte "(" && are_digits 10 text
 
--- `of`
-abbrev pub is_of : List ℕ → Bool
-is_of word = bytes_eq word (codes "of")
-
 -- one to ten digits and `)`
 abbrev pub is_closing : List ℕ → Bool
 is_closing text = elim (before_last (byte ")") text) [ None ↦ false | Some digits ↦ are_digits 10 digits ]
 
 -- `(k`, `of`, `n)`
 abbrev pub is_ending : List (List ℕ) → Bool
-is_ending (a ∷ b ∷ c ∷ []) = is_opening a && is_of b && is_closing c
+is_ending (a ∷ b ∷ c ∷ []) = is_opening a && bytes_eq b (codes "of") && is_closing c
 is_ending _ = false
 
 -- the body of these words: those before the last three

@@ -1,5 +1,5 @@
 -- The listing as text.
-use Rattle.std.specs.Prelude.{ℕ, zero, suc, ◌%◌, Bool, false, ◌==◌, List, [], ◌++◌, filter, take, drop, flat_map, decimal, codes, Option, Some, None, if◌then◌else◌, unwrap_or}
+use Rattle.std.specs.Prelude.{ℕ, ◌%◌, Bool, not, ◌&&◌, ◌==◌, List, [], ◌++◌, filter, take, drop, flat_map, decimal, codes, Option, Some, None, if◌then◌else◌, unwrap_or}
 use Rattle.std.specs.List.{position_or_len, enumerate_from}
 use Rattle.xc_input.specs.declared.problem.Use.{Use}
 use Rattle.xc_search.specs.declared.choice.Choice.{Choice}
@@ -23,9 +23,13 @@ from_item i us = rotated_at (position_or_len (λ u. u.item == i) us) us
 abbrev pub colour_text : List (List ℕ) → ℕ → List ℕ
 colour_text colours c = if c == 0 then [] else codes ":" ++ bytes_at colours c
 
--- a space and a name, and a coloured use's colour
+-- the word of a use: its item's name, and its colour behind a colon
+abbrev pub use_word : Named → Use → List ℕ
+use_word a u = bytes_at a.names u.item ++ colour_text a.colours u.colour
+
+-- a space and the word of a use
 abbrev pub use_text : Named → Use → List ℕ
-use_text a u = codes " " ++ bytes_at a.names u.item ++ colour_text a.colours u.colour
+use_text a u = codes " " ++ use_word a u
 
 -- the body of a choice line: the uses of its option from the item's on, or that no option is taken
 abbrev pub body_text : Named → ℕ → Option ℕ → List ℕ
@@ -43,8 +47,7 @@ member_text a nm = decimal nm.0 ++ codes ":\n" ++ flat_map (choice_text a) nm.1
 
 -- whether the member with this number is printed: its number is a multiple of the spacing; none is where that is 0
 abbrev pub is_printed : ℕ → ℕ → Bool
-is_printed zero n = false
-is_printed (suc s) n = n % suc s == 0
+is_printed spacing n = not (spacing == 0) && n % spacing == 0
 
 -- the text of these members, numbered from 1, as far as they are printed
 abbrev pub text_of : Named → ℕ → List (List Choice) → List ℕ

@@ -12,22 +12,16 @@ abbrev pub number_in : List ℕ → Option ℕ
 number_in [] = None
 number_in bs = if list_all is_digit bs && nat_lt (number bs) (2 ^ 64) then Some (number bs) else None
 
--- what a word for the spacing makes of the words before it
-abbrev pub spacing_word : ℕ → Words → Option ℕ → Result Words WordFault
-spacing_word place w None = Err (BadNumber place)
-spacing_word place w (Some n) = Ok (record { spacing = n; limit = w.limit })
-
--- what a word for the limit makes of the words before it
-abbrev pub limit_word : ℕ → Words → Option ℕ → Result Words WordFault
-limit_word place w None = Err (BadNumber place)
-limit_word place w (Some n) = if n == 0 then Err (ZeroLimit place) else Ok (record { spacing = w.spacing; limit = n })
+-- what is made of the number behind a word's letter; a bad one is a fault
+abbrev pub read_number : ℕ → List ℕ → (ℕ → Result Words WordFault) → Result Words WordFault
+read_number place bs made = elim (number_in bs) [ None ↦ Err (BadNumber place) | Some n ↦ made n ]
 
 -- what one word makes of the words before it
 abbrev pub read_word : ℕ → Words → List ℕ → Result Words WordFault
 read_word place w [] = Err (Unknown place)
 read_word place w (b ∷ bs) =
-    if b == byte "m" then spacing_word place w (number_in bs)
-    else if b == byte "t" then limit_word place w (number_in bs)
+    if b == byte "m" then read_number place bs (λ n. Ok (record w { spacing = n }))
+    else if b == byte "t" then read_number place bs (λ n. if n == 0 then Err (ZeroLimit place) else Ok (record w { limit = n }))
     else Err (Unknown place)
 
 -- what words make of those before them; the first faulty one ends it

@@ -234,9 +234,7 @@ pub fn check(alloc: Global, problem: &Problem, listing: &[u8]) -> Result<Vec<Ver
     while !rest.is_empty() {
         let (line, others) = cut_line(rest);
         lines = lines.saturating_add(1);
-        if let Err(fault) = checker.take_line(lines, line) {
-            return Err(fault);
-        }
+        checker.take_line(lines, line)?;
         rest = others;
     }
     Ok(checker.finish()?)

@@ -1,30 +1,17 @@
 -- How often classes are asked, by numbers of classes and by options.
 use Rattle.std.proofs.lemmas.Option.{slice_get_within}
-use Rattle.std.proofs.Common.{ℕ, zero, suc, ◌≡◌, ◌≢◌, ◌+◌, ◌<◌, ◌≤◌, Bool, true, false, cond, ◌==◌, List, [], ◌∷◌, length, get_or, replicate, Some, refl, sym, ap, ap₂, ◌∙◌, arith, subst, ltb, ltb-true, ltb-false, eqb-true, eq-eqb}
+use Rattle.std.proofs.Common.{ℕ, zero, suc, ◌≡◌, ◌+◌, ◌<◌, ◌≤◌, Bool, true, false, cond, ◌==◌, List, [], ◌∷◌, length, get_or, replicate, Some, refl, sym, ap, ap₂, ◌∙◌, arith, subst, eqb-true, eq-eqb}
 use Rattle.std.specs.Prelude.{slice_get, nat_le, count_by}
 use Rattle.std.specs.List.{AllByRecursion, AllZip}
 use Rattle.std.proofs.lemmas.Bool.{leb-true, le-leb}
 use Rattle.std.proofs.lemmas.List.{length-replicate, get_or-replicate}
-use Rattle.xc_input.specs.declared.problem.Use.{Use}
-use Rattle.xc_search.proofs.EachTwo.{EachTwo, EachTwo-at, each_two_from_AllPairs}
 use Rattle.xc_list.specs.inner.Classes.{Classes, AreClasses, IsOfClass, class_at, same_uses, alike, numbers, class_size}
 use Rattle.xc_list.specs.inner.CoverCounts.{raised, uses_at}
+use Rattle.xc_list.proofs.CheckLemmas.ListedNumbers.{one_place}
 use Rattle.xc_list.proofs.CheckLemmas.DifferentOptions.{counted, is_counted, count_same, one_class}
 use Rattle.xc_list.proofs.CheckLemmas.BodiesOfClasses.{same_uses-are, same_uses-itself}
 use Rattle.xc_list.proofs.CheckLemmas.DecidedByClasses.{alike-classes}
 use Rattle.xc_list.proofs.CheckLemmas.CountedClasses.{slice_get-at, raised-at}
-
--- one class stands at one place
-one_place : (classes : List (List Use)) (j k : ℕ) (us : List Use) → EachTwo (λ a b. a ≢ b) classes → slice_get classes j ≡ Some us → slice_get classes k ≡ Some us → j ≡ k
-one_place classes j k us d e f = by_order (ltb j k) refl
-  where
-    by_order : (v : Bool) → ltb j k ≡ v → j ≡ k
-    by_order true q = absurd (EachTwo-at (λ a b. a ≢ b) classes j k us us d (ltb-true j k q) e f refl)
-    by_order false q = other (ltb k j) refl
-      where
-        other : (w : Bool) → ltb k j ≡ w → j ≡ k
-        other true r = absurd (EachTwo-at (λ a b. a ≢ b) classes k j us us d (ltb-true k j r) f e refl)
-        other false r = omega (arith, ltb-false j k q, ltb-false k j r)
 
 same_class : (b : Classes) → AreClasses b.problem.puzzle b.classes → (j k q o : ℕ) → IsOfClass b j q → IsOfClass b k o → (j == k) ≡ alike b.problem.puzzle o q
 same_class b are j k q o h g = by_place (j == k) refl
@@ -39,7 +26,7 @@ same_class b are j k q o h g = by_place (j == k) refl
         by_uses : (w : Bool) → alike b.problem.puzzle o q ≡ w → false ≡ w
         by_uses true f =
             let class = same_uses-are (class_at b.problem.puzzle o) (class_at b.problem.puzzle q) f in
-            let place = one_place b.classes j k (class_at b.problem.puzzle q) (each_two_from_AllPairs (λ x y. x ≢ y) b.classes are.distinct) h.1 (g.1 ∙ ap (λ us. Some us) class) in
+            let place = one_place b.classes j k (class_at b.problem.puzzle q) are.distinct h.1 (g.1 ∙ ap (λ us. Some us) class) in
             absurd (let t = eq-eqb j k place in cc)
         by_uses false f = refl
 

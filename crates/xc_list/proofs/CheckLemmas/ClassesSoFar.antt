@@ -1,43 +1,36 @@
 -- One option more among the classes.
-use Rattle.std.proofs.Common.{ℕ, zero, suc, ◌≡◌, ◌≢◌, ◌+◌, ◌≤◌, Bool, true, false, cond, List, [], ◌∷◌, ◌++◌, length, map, get_or, Some, ◌⊎◌, refl, sym, ap, ap₂, ◌∙◌, arith, subst, inl, inr, ◌==◌, eqb-true, eq-eqb}
+use Rattle.std.proofs.Common.{ℕ, zero, suc, ◌≡◌, ◌≢◌, ◌+◌, ◌≤◌, Bool, true, false, cond, List, [], ◌∷◌, ◌++◌, map, get_or, Some, ◌⊎◌, refl, sym, ap, ap₂, ◌∙◌, arith, subst, inl, inr, ◌==◌, eqb-true, eq-eqb}
 use Rattle.std.specs.Prelude.{slice_get, Contains}
 use Rattle.std.proofs.Math.ListN.{set}
-use Rattle.std.proofs.lemmas.List.{map-append}
 use Rattle.std.proofs.lemmas.List.Elements.{Contains-append_left, Contains-push}
 use Rattle.std.proofs.lemmas.List.Sums.{count_by-le-length}
 use Rattle.xc_input.specs.declared.problem.Use.{Use}
 use Rattle.xc_input.specs.Problem.{Puzzle}
-use Rattle.xc_input.proofs.FaultLemmas.{map-length, map-snoc}
+use Rattle.xc_input.proofs.FaultLemmas.{map-snoc}
 use Rattle.xc_input.proofs.TokenLemmas.{not_false}
-use Rattle.xc_search.proofs.Members.{IsIn, each_in, in-map, in-append, in-contains, contains-in, in-slice_get, slice_get-in}
+use Rattle.xc_search.proofs.Members.{IsIn, each_in, in-append, in-contains, contains-in, in-slice_get, slice_get-in}
 use Rattle.xc_search.proofs.EachTwo.{EachTwo, EachTwo-append, each_two_from_AllPairs, AllPairs-from_each_two}
-use Rattle.xc_list.specs.Listed.{below}
+use Rattle.std.specs.List.{range_with_len}
 use Rattle.xc_list.specs.inner.Classes.{class_at, same_uses}
 use Rattle.xc_list.specs.inner.OptionIndex.{AreClassesTo, class_size_to}
 use Rattle.xc_list.proofs.CheckLemmas.DifferentOptions.{counted, is_counted}
 use Rattle.xc_list.proofs.CheckLemmas.BodiesOfClasses.{same_uses-are, same_uses-itself}
-use Rattle.xc_list.proofs.CheckLemmas.DecidedByClasses.{in-below}
+use Rattle.xc_list.proofs.CheckLemmas.ListedNumbers.{in-range, range-more, length-range}
 
 counted-append : (p : ℕ → Bool) (xs ys : List ℕ) → counted p (xs ++ ys) ≡ counted p xs + counted p ys
 counted-append p [] ys = omega arith
 counted-append p (x ∷ xs) ys = omega (arith, counted-append p xs ys)
 
-length-below : (n : ℕ) → length (below n) ≡ n
-length-below zero = refl
-length-below (suc n) = (let e : length (below n ++ n ∷ []) ≡ suc (length (below n)) = length-snoc (below n) n in omega (arith, e, length-below n))
-  where
-    length-snoc : (xs : List ℕ) (x : ℕ) → length (xs ++ x ∷ []) ≡ suc (length xs)
-    length-snoc [] x = refl
-    length-snoc (y ∷ xs) x = ap suc (length-snoc xs x)
-
 -- no more of the first n options are of a class than there are
 pub members-few : (p : Puzzle) (n : ℕ) (us : List Use) → class_size_to p n us ≤ n
-members-few p n us = omega (arith, count_by-le-length (λ o. same_uses us (class_at p o)) (map suc (below n)), map-length suc (below n), length-below n)
+members-few p n us = omega (arith, count_by-le-length (λ o. same_uses us (class_at p o)) (range_with_len 1 n), length-range 1 n)
 
 members-suc : (p : Puzzle) (n : ℕ) (us : List Use) → class_size_to p (suc n) us ≡ class_size_to p n us + cond (same_uses us (class_at p (suc n))) 1 0
 members-suc p n us =
-    let more : counted test (map suc (below n ++ n ∷ [])) ≡ counted test (map suc (below n)) + counted test (suc n ∷ []) = ap (counted test) (map-append suc (below n) (n ∷ [])) ∙ counted-append test (map suc (below n)) (suc n ∷ []) in
-    omega (arith, is_counted test (map suc (below n ++ n ∷ [])), is_counted test (map suc (below n)), more)
+    let last : 1 + n ≡ suc n = omega arith in
+    let more : counted test (range_with_len 1 (suc n)) ≡ counted test (range_with_len 1 n) + counted test (suc n ∷ []) =
+    ap (counted test) (range-more 1 n ∙ ap (λ k. range_with_len 1 n ++ k ∷ []) last) ∙ counted-append test (range_with_len 1 n) (suc n ∷ []) in
+    omega (arith, is_counted test (range_with_len 1 (suc n)), is_counted test (range_with_len 1 n), more)
   where
     test : ℕ → Bool
     test o = same_uses us (class_at p o)
@@ -101,7 +94,7 @@ module _ (p : Puzzle) (n : ℕ) where
   }
 
   no-members : (classes : List (List Use)) (counts : List ℕ) → AreClassesTo p n classes counts → (IsIn classes added → ⊥) → class_size_to p n added ≡ 0
-  no-members classes counts a h = is_counted test (map suc (below n)) ∙ none (map suc (below n)) other
+  no-members classes counts a h = is_counted test (range_with_len 1 n) ∙ none (range_with_len 1 n) other
     where
       test : ℕ → Bool
       test o = same_uses added (class_at p o)
@@ -110,12 +103,10 @@ module _ (p : Puzzle) (n : ℕ) where
       none [] f = refl
       none (o ∷ xs) f = let later = none xs (λ q k. f q (inr k)) in let rest : cond false 1 0 + counted test xs ≡ 0 = omega (arith, later) in subst (λ t. cond t 1 0 + counted test xs ≡ 0) (sym (f o (inl refl))) rest
 
-      other : (o : ℕ) → IsIn (map suc (below n)) o → test o ≡ false
+      other : (o : ℕ) → IsIn (range_with_len 1 n) o → test o ≡ false
       other o k = not_false (test o) (λ q.
-          let from = in-map suc (below n) o k in
-          let l = in-below n from.0 from.1 in
-          let m = from.2 in
-          h (in-contains classes added (subst (Contains classes) (sym (same_uses-are added (class_at p o) q)) (a.whole o (omega (arith, m)) (omega (arith, l, m))))))
+          let l = in-range 1 n o k in
+          h (in-contains classes added (subst (Contains classes) (sym (same_uses-are added (class_at p o) q)) (a.whole o l.0 (omega (arith, l.1))))))
 
   -- an option of a new class
   pub classes-new : (classes all : List (List Use)) (counts more : List ℕ) → AreClassesTo p n classes counts → (IsIn classes added → ⊥) → all ≡ classes ++ added ∷ [] → more ≡ counts ++ 1 ∷ [] → AreClassesTo p (suc n) all more

@@ -4,16 +4,16 @@ use Rattle.std.specs.Prelude.{slice_get}
 use Rattle.std.specs.List.{AllByRecursion}
 use Rattle.std.proofs.lemmas.List.{append-nil, append_assoc, get_or-set_same, get_or-set_other, length-set, length-take-le, length-replicate, get_or-replicate, get_or_past, ext_get_or, take_more}
 use Rattle.std.proofs.lemmas.List.Elements.{recursion_from_All}
+use Rattle.std.proofs.lemmas.Option.{slice_get-get_or}
 use Rattle.xc_input.specs.declared.problem.Use.{Use}
 use Rattle.xc_input.specs.Problem.{item_count, uses_of, IsSoundUse}
 use Rattle.xc_input.specs.Named.{IsSound}
-use Rattle.xc_search.proofs.EachTwo.{EachTwo-append}
 use Rattle.xc_input.proofs.EachElement.{each_weaker, each-append, each_turned}
 use Rattle.xc_list.specs.Output.{rotated_at}
 use Rattle.xc_list.specs.inner.Classes.{Classes, AreClasses, class_of}
 use Rattle.xc_list.specs.inner.CoverCounts.{added, coloured, cleared, raised, lowered, uses_at, uses_in}
 use Rattle.xc_list.proofs.CheckLemmas.DifferentOptions.{counted}
-use Rattle.xc_list.proofs.CheckLemmas.Rotations.{DifferInItems, EachTwo-between, class-place, halves}
+use Rattle.xc_list.proofs.CheckLemmas.Rotations.{DifferInItems, differ-turned, class-place, halves}
 use Rattle.xc_list.proofs.CheckLemmas.DecidedByClasses.{option-sound, option-differs}
 use Rattle.xc_list.proofs.CheckLemmas.HeldItems.{AreItems, held, added-at, added-append, coloured-append, cleared-append, length-added, length-cleared, held_once, each_take}
 
@@ -28,38 +28,16 @@ slice_get-at [] k x d e = cc
 slice_get-at (y ∷ xs) zero x d e = cc
 slice_get-at (y ∷ xs) (suc k) x d e = slice_get-at xs k x d e
 
-pub at-slice_get : {X : Type 0} (xs : List X) (k : ℕ) (d : X) → k < length xs → slice_get xs k ≡ Some (get_or xs k d)
-at-slice_get [] k d l = absurd (omega (arith, l))
-at-slice_get (y ∷ xs) zero d l = refl
-at-slice_get (y ∷ xs) (suc k) d l = at-slice_get xs k d (omega (arith, l))
-
-differ_back : (a b : List Use) → DifferInItems (a ++ b) → DifferInItems b
-differ_back [] b d = d
-differ_back (u ∷ a) b d = differ_back a b d.1
-
-differ_front : (a b : List Use) → DifferInItems (a ++ b) → DifferInItems a
-differ_front [] b d = tt
-differ_front (u ∷ a) b d = (front a b d.0, differ_front a b d.1)
-  where
-    front : (xs ys : List Use) → AllByRecursion (λ v. u.item ≢ v.item) (xs ++ ys) → AllByRecursion (λ v. u.item ≢ v.item) xs
-    front [] ys h = tt
-    front (x ∷ xs) ys h = (h.0, front xs ys h.1)
-
-differ_turned : (a b : List Use) → DifferInItems (a ++ b) → DifferInItems (b ++ a)
-differ_turned a b d =
-    EachTwo-append (λ u v. u.item ≢ v.item) b a (differ_back a b d) (differ_front a b d) (λ u v h k e. EachTwo-between a b v u d k h (sym e))
-
 pub class-differs : (us : List Use) → DifferInItems us → DifferInItems (class_of us)
 class-differs us d =
     let turn = class-place us in
-    let whole : DifferInItems (take turn.0 us ++ drop turn.0 us) = subst DifferInItems (sym (halves turn.0 us)) d in
-    subst DifferInItems (sym turn.1) (differ_turned (take turn.0 us) (drop turn.0 us) whole)
+    subst DifferInItems (sym turn.1) (differ-turned turn.0 us d)
 
 pub classes_usable : (b : Classes) → IsSound b.problem → AreClasses b.problem.puzzle b.classes → AreUsable (item_count b.problem.puzzle) b.classes
 classes_usable b s are k l =
     let p = b.problem.puzzle in
     let n = item_count p in
-    let one = are.used k (uses_at b.classes k) (at-slice_get b.classes k [] l) in
+    let one = are.used k (uses_at b.classes k) (slice_get-get_or b.classes k [] l) in
     let us = uses_of p one.0 in
     let turn = class-place us in
     let is : rotated_at turn.0 us ≡ uses_at b.classes k = sym turn.1 ∙ one.2 in

@@ -1,58 +1,35 @@
 -- A listed solution is a cover exactly where its classes are, by counting.
 use Rattle.std.specs.List.{AllZip}
-use Rattle.std.proofs.Common.{ℕ, zero, suc, ◌≡◌, ◌≢◌, ◌+◌, ◌<◌, ◌≤◌, Bool, true, false, cond, ◌==◌, List, [], ◌∷◌, ◌++◌, length, filter, Some, refl, sym, ap₂, ◌∙◌, arith, subst, inl, inr, eqb-true, eq-eqb, ltb, ltb-true, ltb-false}
-use Rattle.std.specs.Prelude.{slice_get, unwrap_or, is_some, All, IsTrue, ◌↔◌}
+use Rattle.std.proofs.Common.{ℕ, zero, suc, ◌≡◌, ◌≢◌, ◌+◌, ◌<◌, Bool, true, false, cond, ◌==◌, List, [], ◌∷◌, filter, Some, refl, sym, ap₂, ◌∙◌, arith, subst, inl, inr, eqb-true, eq-eqb, ltb, ltb-true, ltb-false}
+use Rattle.std.specs.Prelude.{slice_get, is_some, All, IsTrue, ◌↔◌}
 use Rattle.std.proofs.lemmas.List.Elements.{recursion_from_All, All-from_recursion}
 use Rattle.xc_input.specs.declared.problem.Use.{Use}
-use Rattle.xc_input.specs.Problem.{Puzzle, IsSoundOption, IsSoundUse, IsValid, IsSecondary, option_count, uses_of, colour_in}
+use Rattle.xc_input.specs.Problem.{Puzzle, IsSoundOption, IsValid, IsSecondary, option_count, uses_of, colour_in}
 use Rattle.xc_search.specs.Cover.{IsCover, times_held}
-use Rattle.xc_input.specs.Named.{Named, IsSound}
-use Rattle.xc_search.proofs.Members.{IsIn, each_in, each_from, in-slice_get, slice_get-in, in-append, append-in_left, append-in_right, in-map, map-in, in-contains, contains-in}
-use Rattle.xc_search.proofs.EachTwo.{EachTwo, EachTwo-append, EachTwo-map, EachTwo-at, each_two_from_AllPairs, AllPairs-from_each_two}
-use Rattle.xc_list.specs.Listed.{below, is_known, IsListedCover, stands_for}
+use Rattle.xc_input.specs.Named.{Named, IsKnownUse, IsSound}
+use Rattle.xc_input.proofs.Known.{known_option}
+use Rattle.xc_search.proofs.Members.{IsIn, each_in, each_from, in-slice_get, slice_get-in, in-contains, contains-in}
+use Rattle.xc_search.proofs.EachTwo.{EachTwo-at, each_two_from_AllPairs, AllPairs-from_each_two}
+use Rattle.xc_list.specs.Listed.{is_known, IsListedCover, stands_for}
 use Rattle.xc_list.specs.inner.Classes.{alike, numbers, class_of, same_uses, IsCoverOfClasses, IsOption}
 use Rattle.xc_list.proofs.CheckLemmas.DifferentOptions.{counted, is_counted, IsLikeness, AreAlike, AreApart, asked_within, give, IsGiving}
 use Rattle.xc_list.proofs.CheckLemmas.Rotations.{DifferInItems, colour-alike}
-use Rattle.xc_list.proofs.CheckLemmas.BodiesOfClasses.{AreTold, AreApartTexts, body-alike, body-class, same_uses-are, same_uses-itself}
-
-pub in-below : (n k : ℕ) → IsIn (below n) k → k < n
-in-below zero k h = absurd h
-in-below (suc n) k h = elim (in-append (below n) (n ∷ []) k h) [
-  | inl q ↦ let l = in-below n k q in omega (arith, l)
-  | inr q ↦ elim q [ inl e ↦ omega (arith, e) | inr z ↦ absurd z ]
-]
-
-pub below-in : (n k : ℕ) → k < n → IsIn (below n) k
-below-in zero k l = absurd (omega (arith, l))
-below-in (suc n) k l = elim (k == n) as (λ t. (k == n) ≡ t → IsIn (below n ++ n ∷ []) k) [
-  | true ↦ λ e. append-in_right (below n) (n ∷ []) k (inl (sym (eqb-true k n e)))
-  | false ↦ λ e. append-in_left (below n) (n ∷ []) k (below-in n k (let ne : k ≢ n = λ q. (let z = eq-eqb k n q in cc) in omega (arith, ne, l)))
-] refl
-
-pub below-apart : (n : ℕ) → EachTwo (λ a b. suc a ≢ suc b) (below n)
-below-apart zero = tt
-below-apart (suc n) = EachTwo-append (λ a b. suc a ≢ suc b) (below n) (n ∷ []) (below-apart n) (tt, tt)
-    (λ x y j k e. let l = in-below n x j in elim k [ inl q ↦ omega (arith, l, q, e) | inr z ↦ absurd z ])
+use Rattle.xc_list.proofs.CheckLemmas.ListedNumbers.{in-range, range-in, range-apart, numbered_some}
+use Rattle.xc_list.proofs.CheckLemmas.BodiesOfClasses.{body-alike, body-class, same_uses-are, same_uses-itself}
 
 pub numbers-apart : (p : Puzzle) → AreApart (numbers p)
-numbers-apart p = EachTwo-map (λ a b. a ≢ b) suc (below (option_count p)) (below-apart (option_count p))
+numbers-apart p = range-apart 1 (option_count p)
 
 pub in-numbers : (p : Puzzle) (o : ℕ) → IsIn (numbers p) o → IsOption p o
-in-numbers p o h = let from = in-map suc (below (option_count p)) o h in let l = in-below (option_count p) from.0 from.1 in let e = from.2 in (omega (arith, e), omega (arith, l, e))
+in-numbers p o h = let l = in-range 1 (option_count p) o h in (l.0, omega (arith, l.1))
 
 pub numbers-in : (p : Puzzle) (o : ℕ) → IsOption p o → IsIn (numbers p) o
-numbers-in p zero h = absurd (omega (arith, h.0))
-numbers-in p (suc o) h = map-in suc (below (option_count p)) o (below-in (option_count p) o (omega (arith, h.1)))
-
-slice_get_some : (xs : List (List Use)) (k : ℕ) → k < length xs → slice_get xs k ≡ Some (unwrap_or (slice_get xs k) [])
-slice_get_some [] k l = absurd (omega (arith, l))
-slice_get_some (x ∷ xs) zero l = refl
-slice_get_some (x ∷ xs) (suc k) l = slice_get_some xs k (omega (arith, l))
+numbers-in p o h = range-in 1 (option_count p) o h.0 (omega (arith, h.1))
 
 -- the uses of an option are among those of the problem
 pub uses-in : (p : Puzzle) (o : ℕ) → IsOption p o → IsIn p.options (uses_of p o)
 uses-in p zero h = absurd (omega (arith, h.0))
-uses-in p (suc k) h = in-slice_get p.options k (unwrap_or (slice_get p.options k) []) (slice_get_some p.options k (omega (arith, h.1)))
+uses-in p (suc k) h = in-slice_get p.options k (uses_of p (suc k)) (numbered_some p.options (suc k) [] h.0 h.1)
 
 pub option-sound : (p : Puzzle) → IsValid p → (o : ℕ) → IsOption p o → IsSoundOption p (uses_of p o)
 option-sound p v o h = each_in (λ us. IsSoundOption p us) p.options (uses_of p o) (recursion_from_All (λ us. IsSoundOption p us) p.options v.options) (uses-in p o h)
@@ -60,16 +37,9 @@ option-sound p v o h = each_in (λ us. IsSoundOption p us) p.options (uses_of p 
 pub option-differs : (p : Puzzle) → IsValid p → (o : ℕ) → IsOption p o → DifferInItems (uses_of p o)
 option-differs p v o h = let s = option-sound p v o h in each_two_from_AllPairs (λ (u v : Use). u.item ≢ v.item) (uses_of p o) s.distinct
 
-pub option-told : (p : Named) → IsSound p → (o : ℕ) → IsOption p.puzzle o → AreTold p (uses_of p.puzzle o)
-option-told p r o h u k =
-    let us = uses_of p.puzzle o in
-    let s = option-sound p.puzzle r.valid o h in
-    let fit = each_in (IsSoundUse p.puzzle) us u (recursion_from_All (IsSoundUse p.puzzle) us s.sound) k in
-    let coloured = each_in (λ (us : List Use). All (λ (u : Use). u.colour ≤ length p.colours) us) p.puzzle.options us (recursion_from_All (λ (us : List Use). All (λ (u : Use). u.colour ≤ length p.colours) us) p.puzzle.options r.coloured) (uses-in p.puzzle o h) in
-    (fit.0.0, omega (arith, fit.0.1, r.named.count), each_in (λ (u : Use). u.colour ≤ length p.colours) us u (recursion_from_All (λ (u : Use). u.colour ≤ length p.colours) us coloured) k)
-
-pub texts-apart : (p : Named) → IsSound p → AreApartTexts p
-texts-apart p r = (each_two_from_AllPairs (λ (x y : List ℕ). x ≢ y) p.names r.named.distinct, each_two_from_AllPairs (λ (x y : List ℕ). x ≢ y) p.colours r.named.distinct_colours)
+-- the uses of an option can be told
+pub option-known : (p : Named) → IsSound p → (o : ℕ) → IsOption p.puzzle o → All (IsKnownUse p) (uses_of p.puzzle o)
+option-known p r o h = known_option p.puzzle p.colours o (uses_of p.puzzle o) r.valid r.coloured (numbered_some p.puzzle.options o [] h.0 h.1)
 
 pub alike-classes : (p : Puzzle) → IsLikeness (alike p)
 alike-classes p = record {
@@ -98,7 +68,7 @@ alike-bodies p r (w ∷ bodies) (q ∷ reps) [] a b h k = absurd k
 alike-bodies p r (w ∷ bodies) (q ∷ reps) (o ∷ s) a b h k =
     let x = a q (inl refl) in
     let y = b o (inl refl) in
-    let class = body-class p w (texts-apart p r) (uses_of p.puzzle q) (uses_of p.puzzle o) (option-told p r q x) (option-told p r o y) (option-differs p.puzzle r.valid q x) (option-differs p.puzzle r.valid o y) (is h.0) (is k.0) in
+    let class = body-class p w r (uses_of p.puzzle q) (uses_of p.puzzle o) (option-known p r q x) (option-known p r o y) (option-differs p.puzzle r.valid q x) (option-differs p.puzzle r.valid o y) (is h.0) (is k.0) in
     (subst (λ v. same_uses (class_of (uses_of p.puzzle q)) v ≡ true) class (same_uses-itself (class_of (uses_of p.puzzle q))), alike-bodies p r bodies reps s (λ z j. a z (inr j)) (λ z j. b z (inr j)) h.1 k.1)
   where
     is : {b : Bool} → IsTrue b → b ≡ true

@@ -1,58 +1,30 @@
 -- Classes found by their uses.
-use Rattle.std.proofs.Common.{ℕ, suc, ◌≡◌, ◌≢◌, ◌<◌, if◌then◌else◌, Option, Bool, true, false, ◌&&◌, ◌||◌, ◌==◌, List, [], ◌∷◌, ◌++◌, length, map, get_or, take, drop, position, Some, None, refl, sym, ap, ap₂, ◌∙◌, arith, subst, inl, inr, eqb-true, eq-eqb}
+use Rattle.std.proofs.Common.{ℕ, suc, ◌≡◌, ◌<◌, if◌then◌else◌, Option, Bool, true, false, List, [], ◌∷◌, ◌++◌, length, map, get_or, position, Some, None, refl, sym, ap, ◌∙◌, arith, subst}
 use Rattle.std.specs.Prelude.{Vec, IsTrue, slice_get, unwrap_or}
 use Rattle.std.specs.Bool.{Decides}
 use Rattle.std.specs.Cmp.Lexicographic.{pointwise}
 use Rattle.std.specs.List.{list_any}
 use Rattle.std.specs.declared.alloc.Global.{Global}
 use Rattle.std.proofs.lemmas.List.{append-nil}
-use Rattle.std.proofs.lemmas.List.Elements.{All-from_recursion, recursion_from_All}
 use Rattle.std.proofs.lemmas.List.Quantifiers.{position-Some}
 use Rattle.std.proofs.lemmas.Option.{slice_get-get_or, slice_get_within}
 use Rattle.std.proofs.lemmas.Slice.Eq.{slice_eq-Decides}
 use Rattle.xc_input.specs.declared.problem.Use.{Use}
 use Rattle.xc_input.specs.Problem.{uses_of}
-use Rattle.xc_input.specs.Named.{Named, IsSound}
+use Rattle.xc_input.specs.Named.{Named, IsKnownUse, IsSound}
 use Rattle.xc_input.proofs.FaultLemmas.{no-place, map-snoc}
 use Rattle.xc_input.proofs.TokenLemmas.{position-map, not_false}
-use Rattle.xc_search.proofs.Members.{IsIn, each_in, each_from, in-contains, slice_get-in}
-use Rattle.xc_input.proofs.EachElement.{each_front}
-use Rattle.xc_search.proofs.EachTwo.{EachTwo-append}
+use Rattle.xc_search.proofs.Members.{IsIn, in-contains, slice_get-in}
 use Rattle.xc_list.specs.ListingLines.{words_in}
-use Rattle.xc_list.specs.Output.{rotated_at}
-use Rattle.xc_list.specs.Listed.{word_of, use_word, is_body, is_known, stands_for}
+use Rattle.xc_list.specs.Output.{rotated_at, use_word}
+use Rattle.xc_list.specs.Listed.{is_body, is_known, stands_for}
 use Rattle.xc_list.specs.inner.Classes.{IsOption, IsOfClass, IsClassOfBody, class_of, class_at}
-use Rattle.xc_list.specs.inner.OptionIndex.{Spellings, IsTold, HaveWords, IsReading, IsOptionIndex, key_uses}
-use Rattle.xc_list.proofs.CheckLemmas.Rotations.{DifferInItems, EachTwo-between, DifferInItems-halves, halves, class-place, class-turned, turned-alike}
-use Rattle.xc_list.proofs.CheckLemmas.BodiesOfClasses.{spellings, AreTold, told-turned, body-is, is-body, same_uses_by_words}
-use Rattle.xc_list.proofs.CheckLemmas.DecidedByClasses.{option-differs, option-told, texts-apart}
+use Rattle.xc_list.specs.inner.OptionIndex.{HaveWords, IsReading, IsOptionIndex, key_uses}
+use Rattle.xc_list.proofs.CheckLemmas.Rotations.{DifferInItems, class-place, class-turned, turned-alike, differ-turned, turned-differ}
+use Rattle.xc_list.proofs.CheckLemmas.BodiesOfClasses.{All-turned, body-is, is-body, same_uses_by_words}
+use Rattle.xc_list.proofs.CheckLemmas.ListedNumbers.{any-in, in-any}
+use Rattle.xc_list.proofs.CheckLemmas.DecidedByClasses.{option-differs, option-known}
 use Rattle.xc_list.proofs.CheckLemmas.NumberedTexts.{words-some}
-
--- `==` on uses
-pub use-decides : (a b : Use) → Decides (a.item == b.item && a.colour == b.colour) (a ≡ b)
-use-decides a b = (both (a.item == b.item) (a.colour == b.colour) refl refl, λ e. subst (λ (z : Use). (a.item == z.item && a.colour == z.colour) ≡ true) e itself)
-  where
-    both : (s t : Bool) → (a.item == b.item) ≡ s → (a.colour == b.colour) ≡ t → (s && t) ≡ true → a ≡ b
-    both true true x y h = ap₂ (λ i c. let r : Use = record { item = i; colour = c } in r) (eqb-true a.item b.item x) (eqb-true a.colour b.colour y)
-    both true false x y h = cc
-    both false t x y h = cc
-
-    itself : (a.item == a.item && a.colour == a.colour) ≡ true
-    itself = let x = eq-eqb a.item a.item refl in let y = eq-eqb a.colour a.colour refl in rw (x, y) refl
-
-any-in : {X : Type 0} (p : X → Bool) (xs : List X) (x : X) → IsIn xs x → p x ≡ true → list_any p xs ≡ true
-any-in p [] x h e = absurd h
-any-in p (y ∷ ys) x (inl q) e = let f : p y ≡ true = ap p q ∙ e in ap (λ t. t || list_any p ys) f
-any-in p (y ∷ ys) x (inr h) e = let later = any-in p ys x h e in elim (p y) as (λ t. (t || list_any p ys) ≡ true) [ true ↦ refl | false ↦ later ]
-
-in-any : {X : Type 0} (p : X → Bool) (xs : List X) → list_any p xs ≡ true → (x : X) × IsIn xs x × (p x ≡ true)
-in-any p [] h = cc
-in-any {X} p (x ∷ xs) h =
-    let later : list_any p xs ≡ true → (y : X) × IsIn xs y × (p y ≡ true) = in-any p xs in
-    elim (p x) as (λ t. p x ≡ t → (t || list_any p xs) ≡ true → (y : X) × IsIn (x ∷ xs) y × (p y ≡ true)) [
-      | true ↦ λ e k. (x, inl refl, e)
-      | false ↦ λ e k. let y = later k in (y.0, inr y.1, y.2)
-    ] refl h
 
 module _ (E : Use → Use → Bool) (decides : (a b : Use) → Decides (E a b) (a ≡ b)) where
   same-uses : (us vs : List Use) → Decides (pointwise E us vs) (us ≡ vs)
@@ -79,25 +51,8 @@ module _ (E : Use → Use → Bool) (decides : (a b : Use) → Decides (E a b) (
       let here : list_any (λ v. pointwise E k.items v.items) keys ≡ false = ap (λ n. list_any (λ (v : Vec Use Global). pointwise E n v.items) keys) f ∙ out in
       ap key_uses (g ∙ ap (λ b. if b then keys else keys ++ k ∷ []) here) ∙ map-snoc (λ (v : Vec Use Global). v.items) keys k ∙ ap (λ n. key_uses keys ++ n ∷ []) f
 
-two_front : (us vs : List Use) → DifferInItems (us ++ vs) → DifferInItems us × DifferInItems vs
-two_front [] vs d = (tt, d)
-two_front (u ∷ us) vs d = let later = two_front us vs d.1 in let first = each_front (λ v. u.item ≢ v.item) us vs d.0 in ((first.0, later.0), later.1)
-
-differ-swapped : (us vs : List Use) → DifferInItems (us ++ vs) → DifferInItems (vs ++ us)
-differ-swapped us vs d = let two = two_front us vs d in EachTwo-append (λ u v. u.item ≢ v.item) vs us two.1 two.0 (λ x y j k e. EachTwo-between us vs y x d k j (sym e))
-
--- the uses of a rotation differ exactly where those of the other do
-differ-turned : (k : ℕ) (us : List Use) → DifferInItems us → DifferInItems (rotated_at k us)
-differ-turned k us d = differ-swapped (take k us) (drop k us) (DifferInItems-halves k us d)
-
-turned-differ : (k : ℕ) (us : List Use) → DifferInItems (rotated_at k us) → DifferInItems us
-turned-differ k us d = subst (λ v. DifferInItems v) (halves k us) (differ-swapped (drop k us) (take k us) d)
-
-have_told : (p : Named) (words : List (List ℕ)) (us : List Use) → HaveWords (spellings p) words us → AreTold p us
-have_told p words us h u k = each_in (IsTold (spellings p)) us u (recursion_from_All (IsTold (spellings p)) us h.told) k
-
 -- an option that a body stands for
-known-as : (p : Named) → IsSound p → (words : List (List ℕ)) → is_known p words ≡ true → (o : ℕ) × IsOption p.puzzle o × (k : ℕ) × HaveWords (spellings p) words (rotated_at k (uses_of p.puzzle o))
+known-as : (p : Named) → IsSound p → (words : List (List ℕ)) → is_known p words ≡ true → (o : ℕ) × IsOption p.puzzle o × (k : ℕ) × HaveWords p words (rotated_at k (uses_of p.puzzle o))
 known-as p s words h =
     let x = in-any (is_body p words) p.puzzle.options h in
     let at = slice_get-in p.puzzle.options x.0 x.1 in
@@ -107,64 +62,58 @@ known-as p s words h =
     let known : IsOption p.puzzle o = (omega arith, omega (arith, within)) in
     let body : is_body p words (uses_of p.puzzle o) ≡ true = ap (is_body p words) uses ∙ x.2 in
     let k = body-is p words (uses_of p.puzzle o) body in
-    let us = rotated_at k.0 (uses_of p.puzzle o) in
-    (o, known, k.0, record { told = All-from_recursion (IsTold (spellings p)) us (each_from (IsTold (spellings p)) us (told-turned p k.0 (uses_of p.puzzle o) (option-told p s o known))); spelled_so = k.2 })
+    (o, known, k.0, record { known = All-turned (IsKnownUse p) k.0 (uses_of p.puzzle o) (option-known p s o known); words_so = k.2 })
 
 one_value : (o : Option (List Use)) (a b : List Use) → o ≡ Some a → o ≡ Some b → a ≡ b
 one_value o a b e f = let both : Some a ≡ Some b = sym e ∙ f in cc
 
-module _ (p : Named) (texts : Spellings) (keys : List (Vec Use Global)) (counts : List ℕ) (b : IsOptionIndex p texts keys counts) where
-  own : texts ≡ spellings p
-  own = λ i. record { names = b.named i; colours = b.coloured i }
-
+module _ (p : Named) (keys : List (Vec Use Global)) (counts : List ℕ) (b : IsOptionIndex p keys counts) where
   -- a body that no uses have the words of
-  pub no-uses : (words : List (List ℕ)) → ((us : List Use) → HaveWords texts words us → ⊥) → is_known p words ≡ false
-  no-uses words none = not_false (is_known p words) (λ h. let o = known-as p b.sound words h in none (rotated_at o.2 (uses_of p.puzzle o.0)) (subst (λ t. HaveWords t words (rotated_at o.2 (uses_of p.puzzle o.0))) (sym own) o.3))
+  pub no-uses : (words : List (List ℕ)) → ((us : List Use) → HaveWords p words us → ⊥) → is_known p words ≡ false
+  no-uses words none = not_false (is_known p words) (λ h. let o = known-as p b.sound words h in none (rotated_at o.2 (uses_of p.puzzle o.0)) o.3)
 
   -- a body of uses that are of no class
-  pub no-class : (words : List (List ℕ)) (us : List Use) → HaveWords texts words us → (IsIn (key_uses keys) (class_of us) → ⊥) → is_known p words ≡ false
+  pub no-class : (words : List (List ℕ)) (us : List Use) → HaveWords p words us → (IsIn (key_uses keys) (class_of us) → ⊥) → is_known p words ≡ false
   no-class words us have none = not_false (is_known p words) (λ h.
       let o = known-as p b.sound words h in
       let vs = uses_of p.puzzle o.0 in
-      let mine : HaveWords (spellings p) words us = subst (λ t. HaveWords t words us) own have in
-      let same : rotated_at o.2 vs ≡ us = same_uses_by_words p (texts-apart p b.sound) (rotated_at o.2 vs) us (have_told p words (rotated_at o.2 vs) o.3) (have_told p words us mine) (o.3.spelled_so ∙ sym mine.spelled_so) in
+      let same : rotated_at o.2 vs ≡ us = same_uses_by_words p b.sound (rotated_at o.2 vs) us o.3.known have.known (o.3.words_so ∙ sym have.words_so) in
       let class : class_at p.puzzle o.0 ≡ class_of us = sym (class-turned o.2 vs (option-differs p.puzzle b.sound.valid o.0 o.1)) ∙ ap class_of same in
       none (subst (IsIn (key_uses keys)) class (in-contains (key_uses keys) (class_at p.puzzle o.0) (b.complete.whole o.0 o.1.0 o.1.1))))
 
   -- a body of uses of this class
-  pub its-class : (words : List (List ℕ)) (us : List Use) (k : ℕ) → HaveWords texts words us → 0 < length us → (k < length (key_uses keys)) × (slice_get (key_uses keys) k ≡ Some (class_of us))
+  pub its-class : (words : List (List ℕ)) (us : List Use) (k : ℕ) → HaveWords p words us → 0 < length us → (k < length (key_uses keys)) × (slice_get (key_uses keys) k ≡ Some (class_of us))
       → IsClassOfBody (record { problem = p; classes = key_uses keys }) words (Some k)
   its-class words us k have l at = (at.0, λ o h. of_option o h)
     where
       of_option : (o : ℕ) → IsOfClass (record { problem = p; classes = key_uses keys }) k o → IsTrue (stands_for p words o)
       of_option o h =
           let vs = uses_of p.puzzle o in
-          let mine : HaveWords (spellings p) words us = subst (λ t. HaveWords t words us) own have in
           let differ = option-differs p.puzzle b.sound.valid o h.0 in
           let class = one_value (slice_get (key_uses keys) k) (class_of us) (class_of vs) at.1 h.1 in
           let x = class-place us in
           let y = class-place vs in
           let own_differ : DifferInItems us = turned-differ x.0 us (subst (λ v. DifferInItems v) (sym y.1 ∙ sym class ∙ x.1) (differ-turned y.0 vs differ)) in
           let j = turned-alike us vs 0 own_differ differ class l in
-          is-body p words vs j.0 j.1 (ap (map (use_word p)) (sym j.2 ∙ append-nil us) ∙ mine.spelled_so)
+          is-body p words vs j.0 j.1 (ap (map (use_word p)) (sym j.2 ∙ append-nil us) ∙ have.words_so)
 
   -- what a look-up of the class of a body's uses says
-  pub class-found : (E : Use → Use → Bool) → ((a b : Use) → Decides (E a b) (a ≡ b)) → (words : List (List ℕ)) (us class : List Use) (r : Option ℕ) → HaveWords texts words us → 0 < length us → class ≡ class_of us
+  pub class-found : (E : Use → Use → Bool) → ((a b : Use) → Decides (E a b) (a ≡ b)) → (words : List (List ℕ)) (us class : List Use) (r : Option ℕ) → HaveWords p words us → 0 < length us → class ≡ class_of us
       → r ≡ position (λ v. pointwise E class v.items) keys → IsClassOfBody (record { problem = p; classes = key_uses keys }) words r
   class-found E decides words us class None have l e f = no-class words us have (λ h. lost-key E decides class keys (sym f) (subst (IsIn (key_uses keys)) (sym e) h))
   class-found E decides words us class (Some k) have l e f =
       let at = found-key E decides class keys k (sym f) in its-class words us k have l (at.0, at.1 ∙ ap (λ x. Some x) e)
 
 -- a text's words are some
-pub some-uses : (t : Spellings) (text : List ℕ) (us : List Use) → HaveWords t (words_in text) us → 0 < length us
-some-uses t text [] h = (let w = words-some text in let e : [] ≡ map word_of (words_in text) = h.spelled_so in let f : map word_of (words_in text) ≡ word_of w.0 ∷ map word_of w.1 = ap (map word_of) w.2 in cc)
-some-uses t text (u ∷ us) h = omega arith
+pub some-uses : (p : Named) (text : List ℕ) (us : List Use) → HaveWords p (words_in text) us → 0 < length us
+some-uses p text [] h = (let w = words-some text in let e : [] ≡ words_in text = h.words_so in cc)
+some-uses p text (u ∷ us) h = omega arith
 
 -- what was read or wasn't
-pub was_read : (t : Spellings) (words : List (List ℕ)) (r : Bool) (us : List Use) → r ≡ true → IsReading t words r us → HaveWords t words us
-was_read t words true us e h = h
-was_read t words false us e h = cc
+pub was_read : (p : Named) (words : List (List ℕ)) (r : Bool) (us : List Use) → r ≡ true → IsReading p words r us → HaveWords p words us
+was_read p words true us e h = h
+was_read p words false us e h = cc
 
-pub not_read : (t : Spellings) (words : List (List ℕ)) (r : Bool) (us : List Use) → r ≡ false → IsReading t words r us → (vs : List Use) → HaveWords t words vs → ⊥
-not_read t words true us e h = cc
-not_read t words false us e h = h
+pub not_read : (p : Named) (words : List (List ℕ)) (r : Bool) (us : List Use) → r ≡ false → IsReading p words r us → (vs : List Use) → HaveWords p words vs → ⊥
+not_read p words true us e h = cc
+not_read p words false us e h = h

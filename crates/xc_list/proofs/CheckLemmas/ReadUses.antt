@@ -1,26 +1,91 @@
 -- The uses that have a body's words.
-use Rattle.std.proofs.Common.{ℕ, ◌≡◌, ◌<◌, List, [], ◌∷◌, ◌++◌, length, map, Option, MatchOption, Bor, Some, None, sym, ap, ◌∙◌}
+use Rattle.std.proofs.Common.{ℕ, zero, suc, ◌≡◌, ◌⊎◌, ◌<◌, ◌≤◌, Bool, true, false, List, [], ◌∷◌, ◌++◌, length, map, Option, MatchOption, Bor, Some, None, refl, sym, ap, ap₂, ◌∙◌, arith, append-nil, inl, inr}
 use Rattle.std.specs.Prelude.{All}
 use Rattle.std.proofs.lemmas.List.Elements.{All-head, All-tail}
 use Rattle.xc_input.specs.declared.problem.Use.{Use}
+use Rattle.xc_input.specs.Problem.{numbered_get}
+use Rattle.xc_input.specs.Named.{Named, IsName, IsKnownUse, IsSound}
+use Rattle.xc_input.specs.Words.{has, before, after}
+use Rattle.xc_input.proofs.GrammarLemmas.{cut-at, cut-is}
 use Rattle.xc_list.specs.ListingLines.{words_in}
-use Rattle.xc_list.specs.Listed.{Word, word_of}
-use Rattle.xc_list.specs.inner.OptionIndex.{Spellings, spelled, IsTold, IsUseOfWord, HaveWords}
+use Rattle.xc_list.specs.Output.{bytes_at, colour_text, use_word}
+use Rattle.xc_list.specs.inner.OptionIndex.{IsUseOfWord, HaveWords}
+use Rattle.xc_list.proofs.Writing.{colour_text-some}
+use Rattle.xc_list.proofs.CheckLemmas.ListedNumbers.{numbered_some, at_bytes, one_number}
+
+-- ---- the word of one use
+
+-- a name, and a colour's text behind it
+coloured : (colours : List (List ℕ)) (name : List ℕ) (c : ℕ) → has 58 name ≡ false → c ≤ length colours
+    → ((c ≡ 0) × (name ++ colour_text colours c ≡ name) × (has 58 (name ++ colour_text colours c) ≡ false))
+    ⊎ ((numbered_get colours c ≡ Some (bytes_at colours c)) × (name ++ colour_text colours c ≡ name ++ 58 ∷ bytes_at colours c))
+coloured colours name zero h l = inl (refl, append-nil name, ap (has 58) (append-nil name) ∙ h)
+coloured colours name (suc c) h l =
+    inr (numbered_some colours (suc c) [] (omega arith) l, ap (λ t. name ++ t) (colour_text-some colours (suc c) (omega arith)))
+
+module _ (p : Named) (s : IsSound p) (u : Use) (known : IsKnownUse p u) where
+  within : u.item ≤ length p.names
+  within = omega (arith, known.0.1, s.named.count)
+
+  named : numbered_get p.names u.item ≡ Some (bytes_at p.names u.item)
+  named = numbered_some p.names u.item [] known.0.0 within
+
+  no_colon : has 58 (bytes_at p.names u.item) ≡ false
+  no_colon = (at_bytes IsName p.names u.item known.0.0 within s.named.names).no_colon
+
+  -- a word without a colon is its item's name
+  pub plain-word : has 58 (use_word p u) ≡ false → (numbered_get p.names u.item ≡ Some (use_word p u)) × (u.colour ≡ 0)
+  plain-word h = elim (coloured p.colours (bytes_at p.names u.item) u.colour no_colon known.1) [
+    | inl q ↦ (named ∙ ap (λ t. Some t) (sym q.1), q.0)
+    | inr q ↦ absurd (let cut = cut-at 58 (bytes_at p.names u.item) (bytes_at p.colours u.colour) no_colon in let e : true ≡ false = sym cut.2 ∙ ap (has 58) (sym q.1) ∙ h in cc)
+  ]
+
+  -- what stands before and behind the first colon of a word
+  pub cut-word : (front back : List ℕ) → has 58 front ≡ false → use_word p u ≡ front ++ 58 ∷ back → (numbered_get p.names u.item ≡ Some front) × (numbered_get p.colours u.colour ≡ Some back)
+  cut-word front back h e = elim (coloured p.colours (bytes_at p.names u.item) u.colour no_colon known.1) [
+    | inl q ↦ absurd (let cut = cut-at 58 front back h in let f : true ≡ false = sym cut.2 ∙ ap (has 58) (sym e) ∙ q.2 in cc)
+    | inr q ↦
+        let own = cut-at 58 (bytes_at p.names u.item) (bytes_at p.colours u.colour) no_colon in
+        let cut = cut-at 58 front back h in
+        let same : bytes_at p.names u.item ++ 58 ∷ bytes_at p.colours u.colour ≡ front ++ 58 ∷ back = sym q.1 ∙ e in
+        (named ∙ ap (λ t. Some t) (sym own.0 ∙ ap (before 58) same ∙ cut.0), q.0 ∙ ap (λ t. Some t) (sym own.1 ∙ ap (after 58) same ∙ cut.1))
+  ]
+
+-- uses with one word are one
+pub one_word : (p : Named) → IsSound p → (u v : Use) → IsKnownUse p u → IsKnownUse p v → use_word p u ≡ use_word p v → u ≡ v
+one_word p s u v a b e = by_colon (has 58 (use_word p u)) refl
+  where
+    same : u.item ≡ v.item → u.colour ≡ v.colour → u ≡ v
+    same i c = ap₂ (λ i c. let r : Use = record { item = i; colour = c } in r) i c
+
+    by_colon : (t : Bool) → has 58 (use_word p u) ≡ t → u ≡ v
+    by_colon false h =
+        let x = plain-word p s u a h in
+        let y = plain-word p s v b (ap (has 58) (sym e) ∙ h) in
+        same (one_number p.names u.item v.item (use_word p v) s.named.distinct (x.0 ∙ ap (λ t. Some t) e) y.0) (x.1 ∙ sym y.1)
+    by_colon true h =
+        let cut = cut-is 58 (use_word p u) h in
+        let x = cut-word p s u a (before 58 (use_word p u)) (after 58 (use_word p u)) cut.1 cut.0 in
+        let y = cut-word p s v b (before 58 (use_word p u)) (after 58 (use_word p u)) cut.1 (sym e ∙ cut.0) in
+        same (one_number p.names u.item v.item (before 58 (use_word p u)) s.named.distinct x.0 y.0)
+        (one_number p.colours u.colour v.colour (after 58 (use_word p u)) s.named.distinct_colours x.1 y.1)
+
+-- ---- the words of a body
 
 -- uses for the words of a body before those of a text
-abbrev pub AreRead : Spellings → List ℕ → List ℕ → List Use → Type 0
-AreRead t body text us = All (IsTold t) us × (map (spelled t) us ++ map word_of (words_in text) ≡ map word_of (words_in body))
+abbrev pub AreRead : Named → List ℕ → List ℕ → List Use → Type 0
+AreRead p body text us = All (IsKnownUse p) us × (map (use_word p) us ++ words_in text ≡ words_in body)
 
-spelled-at : (t : Spellings) (vs : List Use) (a : List Word) (w : Word) (b : List Word) → All (IsTold t) vs → map (spelled t) vs ≡ a ++ w ∷ b → (u : Use) × IsTold t u × (spelled t u ≡ w)
-spelled-at t [] [] w b all e = cc
-spelled-at t [] (v ∷ a) w b all e = cc
-spelled-at t (u ∷ vs) [] w b all e = (u, All-head (IsTold t) u vs all, cc)
-spelled-at t (u ∷ vs) (v ∷ a) w b all e = spelled-at t vs a w b (All-tail (IsTold t) u vs all) cc
+word-at : (p : Named) (vs : List Use) (a : List (List ℕ)) (w : List ℕ) (b : List (List ℕ)) → All (IsKnownUse p) vs → map (use_word p) vs ≡ a ++ w ∷ b → (u : Use) × IsKnownUse p u × (use_word p u ≡ w)
+word-at p [] [] w b all e = cc
+word-at p [] (v ∷ a) w b all e = cc
+word-at p (u ∷ vs) [] w b all e = (u, All-head (IsKnownUse p) u vs all, cc)
+word-at p (u ∷ vs) (v ∷ a) w b all e = word-at p vs a w b (All-tail (IsKnownUse p) u vs all) cc
 
 -- no uses have the words of the body where none has a word of it
-pub read-none : (t : Spellings) (body text word : List ℕ) (words : List (List ℕ)) (us : List Use) → AreRead t body text us → words_in text ≡ word ∷ words → IsUseOfWord t word None → (vs : List Use) → HaveWords t (words_in body) vs → ⊥
-read-none t body text word words us r e h vs have =
-    let u = spelled-at t vs (map (spelled t) us) (word_of word) (map word_of words) have.told (have.spelled_so ∙ sym r.1 ∙ ap (λ ws. map (spelled t) us ++ map word_of ws) e) in
+pub read-none : (p : Named) (body text word : List ℕ) (words : List (List ℕ)) (us : List Use) → AreRead p body text us → words_in text ≡ word ∷ words → IsUseOfWord p word None → (vs : List Use) → HaveWords p (words_in body) vs → ⊥
+read-none p body text word words us r e h vs have =
+    let u = word-at p vs (map (use_word p) us) word words have.known (have.words_so ∙ sym r.1 ∙ ap (λ ws. map (use_word p) us ++ ws) e) in
     h u.0 u.1 u.2
 
 -- a cut gives a first word

@@ -8,7 +8,8 @@ use Rattle.xc_list.specs.Output.{rotated_at, from_item}
 use Rattle.xc_list.specs.inner.Classes.{least_of, class_of}
 use Rattle.std.proofs.lemmas.List.{append-nil, take-append-drop, length-append, length-drop}
 use Rattle.xc_search.proofs.Members.{IsIn, each_in}
-use Rattle.xc_search.proofs.EachTwo.{EachTwo}
+use Rattle.xc_search.proofs.EachTwo.{EachTwo, EachTwo-append}
+use Rattle.xc_input.proofs.EachElement.{each_front}
 
 -- the uses before item i's, and those from it on
 abbrev pub before_item : ℕ → List Use → List Use
@@ -206,6 +207,20 @@ halves k us = take-append-drop k us
 
 pub DifferInItems-halves : (k : ℕ) (us : List Use) → DifferInItems us → DifferInItems (take k us ++ drop k us)
 DifferInItems-halves k us d = subst (λ v. DifferInItems v) (sym (halves k us)) d
+
+two_front : (us vs : List Use) → DifferInItems (us ++ vs) → DifferInItems us × DifferInItems vs
+two_front [] vs d = (tt, d)
+two_front (u ∷ us) vs d = let later = two_front us vs d.1 in let first = each_front (λ v. u.item ≢ v.item) us vs d.0 in ((first.0, later.0), later.1)
+
+differ-swapped : (us vs : List Use) → DifferInItems (us ++ vs) → DifferInItems (vs ++ us)
+differ-swapped us vs d = let two = two_front us vs d in EachTwo-append (λ u v. u.item ≢ v.item) vs us two.1 two.0 (λ x y j k e. EachTwo-between us vs y x d k j (sym e))
+
+-- the uses of a rotation differ exactly where those of the other do
+pub differ-turned : (k : ℕ) (us : List Use) → DifferInItems us → DifferInItems (rotated_at k us)
+differ-turned k us d = differ-swapped (take k us) (drop k us) (DifferInItems-halves k us d)
+
+pub turned-differ : (k : ℕ) (us : List Use) → DifferInItems (rotated_at k us) → DifferInItems us
+turned-differ k us d = subst (λ v. DifferInItems v) (halves k us) (differ-swapped (drop k us) (take k us) d)
 
 pub class-turned : (k : ℕ) (us : List Use) → DifferInItems us → class_of (rotated_at k us) ≡ class_of us
 class-turned k us d = class-rotated (take k us) (drop k us) (DifferInItems-halves k us d) ∙ ap class_of (halves k us)

@@ -6,7 +6,7 @@ use Rattle.xc_input.specs.Problem.{Bounds}
 use Rattle.xc_list.specs.inner.CoverCounts.{short_of}
 
 -- an item reaches its lower bound
-pub short_reached : (bs : List Bounds) (ts : List ℕ) (k t : ℕ) (d : Bounds) → k < length ts → t ≡ get_or ts k 0 → k < length bs → t + 1 ≡ (get_or bs k d).low →
+pub short_reached : (bs : List Bounds) (ts : List ℕ) (k t : ℕ) (d : Bounds) → k < length ts → t ≡ get_or ts k t → k < length bs → t + 1 ≡ (get_or bs k d).low →
     short_of bs (set ts k (t + 1)) + 1 ≡ short_of bs ts
 short_reached [] ts k t d l e m r = absurd (omega (arith, m))
 short_reached (b ∷ bs) [] k t d l e m r = absurd (omega (arith, l))
@@ -17,7 +17,7 @@ short_reached (b ∷ bs) (x ∷ ts) zero t d l e m r =
 short_reached (b ∷ bs) (x ∷ ts) (suc k) t d l e m r = omega (arith, short_reached bs ts k t d (omega (arith, l)) e (omega (arith, m)) r)
 
 -- an item is held once more and doesn't reach it
-pub short_kept : (bs : List Bounds) (ts : List ℕ) (k t : ℕ) (d : Bounds) → k < length ts → t ≡ get_or ts k 0 → (k < length bs → t + 1 ≢ (get_or bs k d).low) →
+pub short_kept : (bs : List Bounds) (ts : List ℕ) (k t : ℕ) (d : Bounds) → k < length ts → t ≡ get_or ts k t → (k < length bs → t + 1 ≢ (get_or bs k d).low) →
     short_of bs (set ts k (t + 1)) ≡ short_of bs ts
 short_kept [] ts k t d l e r = refl
 short_kept (b ∷ bs) [] k t d l e r = absurd (omega (arith, l))

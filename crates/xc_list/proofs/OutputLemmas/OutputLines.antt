@@ -9,17 +9,13 @@ use Rattle.xc_input.specs.Words.{has}
 use Rattle.xc_input.specs.Lines.{lines_of, ended, AreWhole}
 use Rattle.xc_input.proofs.LineLemmas.{lines_of-ended}
 use Rattle.xc_search.specs.declared.choice.Choice.{Choice}
-use Rattle.xc_list.specs.Output.{bytes_at, from_item, colour_text, use_text, body_text, choice_text, member_text}
+use Rattle.xc_list.specs.Output.{bytes_at, from_item, use_word, use_text, body_text, choice_text, member_text}
 use Rattle.xc_list.specs.ListingLines.{Header, Body, read}
 use Rattle.xc_list.proofs.OutputLemmas.ReadLines.{IsPlain, spaced, ending_words, read-header, no_feed-header, read-choice}
 
--- a use's name and colour
-abbrev pub use_bytes : Named → Use → List ℕ
-use_bytes p u = bytes_at p.names u.item ++ colour_text p.colours u.colour
-
 -- the words of a choice before its counts
 abbrev pub body_words : Named → ℕ → Option ℕ → List (List ℕ)
-body_words p i (Some o) = map (use_bytes p) (from_item i (uses_of p.puzzle o))
+body_words p i (Some o) = map (use_word p) (from_item i (uses_of p.puzzle o))
 body_words p i None = codes "null" ∷ bytes_at p.names i ∷ []
 
 abbrev pub choice_words : Named → Choice → List (List ℕ)
@@ -53,9 +49,9 @@ spaced-append : (a b : List (List ℕ)) → spaced (a ++ b) ≡ spaced a ++ spac
 spaced-append [] b = refl
 spaced-append (w ∷ a) b = ap (λ t. 32 ∷ w ++ t) (spaced-append a b) ∙ ap (λ t. 32 ∷ t) (sym (append_assoc w (spaced a) (spaced b)))
 
-uses-spaced : (p : Named) (us : List Use) → flat_map (use_text p) us ≡ spaced (map (use_bytes p) us)
+uses-spaced : (p : Named) (us : List Use) → flat_map (use_text p) us ≡ spaced (map (use_word p) us)
 uses-spaced p [] = refl
-uses-spaced p (u ∷ us) = ap (λ t. 32 ∷ use_bytes p u ++ t) (uses-spaced p us)
+uses-spaced p (u ∷ us) = ap (λ t. 32 ∷ use_word p u ++ t) (uses-spaced p us)
 
 body-spaced : (p : Named) (i : ℕ) (o : Option ℕ) → body_text p i o ≡ spaced (body_words p i o)
 body-spaced p i (Some o) = uses-spaced p (from_item i (uses_of p.puzzle o))

@@ -1,14 +1,14 @@
 -- No public clause cites this module. Options whose uses are rotations of each other are of one class. When options, of
 -- which some may be of one class, can be replaced by different ones of their classes that are a cover: by counting.
-use Rattle.std.specs.Prelude.{ℕ, suc, ◌<◌, ◌≤◌, ◌≡◌, ◌≢◌, ◌↔◌, Bool, false, ◌&&◌, ◌==◌, min, All, AllPairs, Contains, IsTrue, List, length, map, filter, count_by, slice_get, Option, Some, None, unwrap_or}
+use Rattle.std.specs.Prelude.{ℕ, ◌<◌, ◌≤◌, ◌≡◌, ◌≢◌, Bool, false, ◌&&◌, ◌==◌, min, AllPairs, Contains, IsTrue, List, length, map, count_by, slice_get, Option, Some, None, unwrap_or}
 use Rattle.std.specs.Cmp.Lexicographic.{pointwise}
-use Rattle.std.specs.List.{AllZip, reduce}
+use Rattle.std.specs.List.{reduce, range_with_len}
 use Rattle.xc_input.specs.declared.problem.Use.{Use}
 use Rattle.xc_input.specs.Problem.{Puzzle, Bounds, option_count, bounds_at, uses_of, colour_in, IsSecondary}
 use Rattle.xc_input.specs.Named.{Named, IsSound}
 use Rattle.xc_search.specs.Cover.{times_held}
 use Rattle.xc_list.specs.Output.{from_item}
-use Rattle.xc_list.specs.Listed.{below, stands_for, is_known, IsListedCover}
+use Rattle.xc_list.specs.Listed.{stands_for, is_known}
 
 -- the least item
 abbrev pub least_of : List Use → ℕ
@@ -32,7 +32,7 @@ alike p a b = same_uses (class_at p a) (class_at p b)
 
 -- the numbers of all options
 abbrev pub numbers : Puzzle → List ℕ
-numbers p = map suc (below (option_count p))
+numbers p = range_with_len 1 (option_count p)
 
 -- an option's number
 abbrev pub IsOption : Puzzle → ℕ → Type 0

@@ -1,10 +1,11 @@
 //! The lines of a listing.
-ghost use Rattle.std.specs.Prelude.{◌≡◌, ◌<◌, ◌++◌, ◌∷◌, [], false, length, MatchOption, IfSome, option_map};
+ghost use Rattle.std.specs.Prelude.{◌≡◌, ◌<◌, ◌++◌, ◌∷◌, [], false, length, MatchOption, IfSome, option_map, codes};
+ghost use Rattle.std.specs.Str.{bytes_eq};
 ghost use Rattle.std.specs.List.{list_all};
 ghost use Rattle.xc_input.specs.Words.{has, is_digit};
 ghost use Rattle.xc_input.specs.Lines.{lines_of};
 ghost use Rattle.xc_input.specs.Tokens.{is_space};
-ghost use Rattle.xc_list.specs.ListingLines.{words_in, are_digits, before_last, solution_number, header_number, is_word, is_opening, is_of, is_closing, is_ending, body_of_words, body_of, read};
+ghost use Rattle.xc_list.specs.ListingLines.{words_in, are_digits, before_last, solution_number, header_number, is_word, is_opening, is_closing, is_ending, body_of_words, body_of, read};
 ghost use Rattle.xc_list.specs.inner.Checking.{line_said};
 
 use crate::words::number_in;
@@ -19,7 +20,7 @@ pub enum ListingLine<'a> {
 }
 
 /// A text cut at its first such byte.
-fn cut_first(text: &[u8], byte: u8) -> Option<(&[u8], &[u8])>
+pub fn cut_first(text: &[u8], byte: u8) -> Option<(&[u8], &[u8])>
     ensures { MatchOption result (has byte text.now ≡ false) (λ p. (has byte p.0.now ≡ false) × (text.now ≡ p.0.now ++ byte ∷ p.1.now)) }
 {
     match text.find_byte(byte) {
@@ -112,7 +113,7 @@ fn is_opening(word: &[u8]) -> bool
 }
 
 fn is_of(word: &[u8]) -> bool
-    ensures { result ≡ is_of word.now }
+    ensures { result ≡ bytes_eq word.now (codes "of") }
 {
     word == b"of".as_slice()
 }

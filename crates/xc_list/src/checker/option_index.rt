@@ -1,127 +1,50 @@
 //! The options of a problem by their bodies.
-ghost use Rattle.std.specs.Prelude.{◌≡◌, ◌<◌, ◌+◌, ◌^◌, ◌++◌, [], ◌∷◌, length, slice_get, take, All, None, Some, IfOk, OnOk};
+ghost use Rattle.std.specs.Prelude.{◌≡◌, ◌<◌, ◌+◌, length, slice_get, take, All, None, Some, IfOk, OnOk};
 ghost use Rattle.std.specs.List.{list_any};
-ghost use Rattle.std.specs.Option.{option_map};
 ghost use Rattle.std.specs.Str.{bytes_eq};
 ghost use Rattle.xc_input.specs.Problem.{primary_count, option_count, IsValid, IsWithinLimits};
-ghost use Rattle.xc_input.specs.Named.{IsKnownUse};
-ghost use Rattle.xc_input.specs.Stored.{key_names};
-ghost use Rattle.xc_input.specs.Words.{place};
+ghost use Rattle.xc_input.specs.Named.{IsKnownUse, IsSound};
 ghost use Rattle.xc_list.specs.ListingLines.{words_in};
-ghost use Rattle.xc_list.specs.Listed.{word_of, is_none};
+ghost use Rattle.xc_list.specs.Listed.{is_none};
 ghost use Rattle.xc_list.specs.inner.Classes.{IsIndexed, IsClassOfBody, class_size};
-ghost use Rattle.xc_list.specs.inner.OptionIndex.{IsNumberOf, IsUseOfWord, IsReading, AreClassesTo, key_uses};
+ghost use Rattle.xc_list.specs.inner.OptionIndex.{IsUseOfWord, IsReading, AreClassesTo, key_uses};
 
-use crate::checker::listing_lines::cut_word;
+use crate::checker::listing_lines::{cut_first, cut_word};
 use crate::checker::rotation::rotate;
-use bstr::ByteSlice;
 use indexmap::IndexSet;
 use std::alloc::{AllocError, Global};
 use std::marker::Model;
 use xc_input::{Problem, Use};
 
-/// The names of items and the bytes of colours, each with its number from 1.
-#[derive(Drop)]
-struct WordIndex {
-    names: IndexSet<Vec<u8>>,
-    colours: IndexSet<Vec<u8>>,
-}
-
-impl Model for WordIndex {
-    ghost use Rattle.std.specs.Prelude.{◌<◌, ◌^◌, length};
-    ghost use Rattle.xc_input.specs.Stored.{key_names};
-    ghost use Rattle.xc_list.specs.inner.OptionIndex.{Spellings};
-
-    ghost Value = { Spellings };
-
-    ghost view = { λ t. record { names = key_names t.names.keys; colours = key_names t.colours.keys } };
-
-    ghost invariant = { λ t. (length t.names.keys < 2 ^ 32) × (length t.colours.keys < 2 ^ 32) };
-}
-
-impl WordIndex {
-    /// The names and colours of a problem.
-    fn new(alloc: Global, problem: &Problem) -> Result<WordIndex, AllocError>
-        ensures { IfOk result (λ t. t ≡ record { names = problem.now.names; colours = problem.now.colours }) }
-    {
-        let mut names = IndexSet::new(alloc);
-        for i in 0..problem.items() {
-            add_text(alloc, &mut names, problem.item(i + 1).name.as_slice())?;
+/// The use whose word this is.
+fn use_of(problem: &Problem, word: &[u8]) -> Option<Use>
+    requires { IsSound problem.now }
+    ensures { IsUseOfWord problem.now word.now result }
+{
+    match cut_first(word, b':') {
+        None => {
+            let item = problem.find(word)?;
+            Some(Use { item, colour: 0 })
         }
-        let mut colours = IndexSet::new(alloc);
-        for c in 0..problem.colours() {
-            add_text(alloc, &mut colours, problem.colour(c + 1))?;
+        Some((name, colour)) => {
+            let item = problem.find(name)?;
+            let colour = problem.find_colour(colour)?;
+            Some(Use { item, colour })
         }
-        Ok(WordIndex { names, colours })
-    }
-
-    /// The place of a name, from 0.
-    fn place_of(&self, name: &[u8]) -> Option<usize>
-        ensures { result ≡ place self.now.names name.now }
-    {
-        place_in(&self.names, name)
-    }
-
-    /// The use whose word this is.
-    fn use_of(&self, word: &[u8]) -> Option<Use>
-        ensures { IsUseOfWord self.now word.now result }
-    {
-        let (name, colour) = cut_colour(word);
-        let item = number_of(&self.names, name)?;
-        let colour = match colour {
-            None => 0,
-            Some(colour) => number_of(&self.colours, colour)?,
-        };
-        Some(Use { item, colour })
-    }
-}
-
-/// Adds a new text to a table.
-fn add_text(alloc: Global, texts: &mut IndexSet<Vec<u8>>, text: &[u8]) -> Result<(), AllocError>
-    requires { place (key_names texts.old.keys) text.now ≡ None }
-    ensures { OnOk result (key_names texts.new.keys ≡ key_names texts.old.keys ++ text.now ∷ []) }
-{
-    texts.insert(Vec::from_slice(alloc, text)?)?;
-    Ok(())
-}
-
-/// The place of a text in a table, from 0.
-fn place_in(texts: &IndexSet<Vec<u8>>, text: &[u8]) -> Option<usize>
-    ensures { result ≡ place (key_names texts.now.keys) text.now }
-{
-    texts.get_index_of(text)
-}
-
-/// The number of a text in a table, from 1.
-fn number_of(texts: &IndexSet<Vec<u8>>, text: &[u8]) -> Option<u32>
-    requires { length texts.now.keys < 2 ^ 32 }
-    ensures { IsNumberOf (key_names texts.now.keys) text.now result }
-{
-    let place = place_in(texts, text)?;
-    Some(place as u32 + 1)
-}
-
-/// A word's name, and its colour behind the first colon.
-fn cut_colour(word: &[u8]) -> (&[u8], Option<&[u8]>)
-    ensures name { result.0.now ≡ (word_of word.now).name }
-    ensures colour { option_map (λ c. c.now) result.1 ≡ (word_of word.now).colour }
-{
-    match word.find_byte(b':') {
-        None => (word, None),
-        Some(k) => (&word[..k], Some(&word[k + 1..])),
     }
 }
 
 /// Puts the uses that have a body's words into a list, in place of what it holds, if there are
 /// such uses.
-fn read_uses(words: &WordIndex, body: &[u8], uses: &mut Vec<Use>) -> Result<bool, AllocError>
-    ensures { IfOk result (λ read. IsReading words.now (words_in body.now) read uses.new.items) }
+fn read_uses(problem: &Problem, body: &[u8], uses: &mut Vec<Use>) -> Result<bool, AllocError>
+    requires { IsSound problem.now }
+    ensures { IfOk result (λ read. IsReading problem.now (words_in body.now) read uses.new.items) }
 {
     uses.clear();
     let mut text = body;
     loop {
         let (word, more) = cut_word(text);
-        match words.use_of(word) {
+        match use_of(problem, word) {
             Some(u) => uses.push(u)?,
             None => return Ok(false),
         }
@@ -164,7 +87,6 @@ fn add_option(
 #[derive(Drop)]
 pub struct OptionIndex<'a> {
     problem: &'a Problem,
-    words: WordIndex,
     classes: IndexSet<Vec<Use>>,
     sizes: Vec<usize>,
     read: Vec<Use>,
@@ -179,7 +101,7 @@ impl<'a> Model for OptionIndex<'a> {
 
     ghost view = { λ b. record { problem = b.problem.now; classes = key_uses b.classes.keys } };
 
-    ghost invariant = { λ b. IsOptionIndex b.problem.now b.words b.classes.keys b.sizes.items };
+    ghost invariant = { λ b. IsOptionIndex b.problem.now b.classes.keys b.sizes.items };
 }
 
 impl<'a> OptionIndex<'a> {
@@ -188,7 +110,6 @@ impl<'a> OptionIndex<'a> {
         ensures problem { IfOk result (λ b. b.problem ≡ problem.now) }
         ensures indexed { IfOk result IsIndexed }
     {
-        let words = WordIndex::new(alloc, problem)?;
         let mut classes = IndexSet::new(alloc);
         let mut sizes = Vec::new(alloc);
         let mut rotated = Vec::new(alloc);
@@ -197,7 +118,6 @@ impl<'a> OptionIndex<'a> {
         }
         Ok(OptionIndex {
             problem,
-            words,
             classes,
             sizes,
             read: Vec::new(alloc),
@@ -237,7 +157,7 @@ impl<'a> OptionIndex<'a> {
         ensures same { self.new ≡ self.old }
         ensures class { IfOk result (λ class. IsClassOfBody self.old (words_in body.now) class) }
     {
-        if !read_uses(&self.words, body, &mut self.read)? {
+        if !read_uses(self.problem, body, &mut self.read)? {
             return Ok(None);
         }
         rotate(&self.read, &mut self.rotated)?;
@@ -261,8 +181,8 @@ impl<'a> OptionIndex<'a> {
     fn is_primary(&self, name: &[u8]) -> bool
         ensures { result ≡ list_any (bytes_eq name.now) (take (primary_count self.now.problem.puzzle) self.now.problem.names) }
     {
-        match self.words.place_of(name) {
-            Some(place) => place < self.problem.primary() as usize,
+        match self.problem.find(name) {
+            Some(item) => item <= self.problem.primary(),
             None => false,
         }
     }

@@ -1,12 +1,7 @@
 use Rattle.std.specs.Prelude.{codes, decimal}
 use Rattle.xc_list.specs.Output.{body_text}
-use Rattle.xc_list.proofs.Writing.{broke_before, then_writes, failed, five_apart}
+use Rattle.xc_list.proofs.Writing.{then_writes, five_apart}
 use Rattle.xc_list.proofs.print.write_choice.Goals as goal
-
-pub returns-in_err-write_body : goal.returns-in_err-write_body
-returns-in_err-write_body g c =
-    failed c.from_residual.result c.from_residual.ensures.0
-    (broke_before _ (broke_before _ (broke_before _ (broke_before _ (broke_before _ c.in_err-write_body.ensures)))))
 
 pub returns : goal.returns
 returns g c =

@@ -1,9 +1,5 @@
-use Rattle.std.specs.Prelude.{decimal}
 use Rattle.xc_list.proofs.Writing.{then_took, then_broke, broke_before, then_writes, failed}
 use Rattle.xc_list.proofs.write.write_numbered.Goals as goal
-
-pub returns-in_err-write_all : goal.returns-in_err-write_all
-returns-in_err-write_all g c = failed c.from_residual.result c.from_residual.ensures.0 (broke_before c.args.behind.now (broke_before (decimal c.args.n) (c.in_err-write_all.ensures)))
 
 pub returns-in_err-write_number : goal.returns-in_err-write_number
 returns-in_err-write_number g c = failed c.from_residual-in_err-write_number.result c.from_residual-in_err-write_number.ensures.0 (broke_before c.args.behind.now (then_broke (c.in_ok-write_all.ensures) c.in_err-write_number.ensures))

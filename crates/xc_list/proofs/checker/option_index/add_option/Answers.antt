@@ -6,7 +6,8 @@ use Rattle.xc_search.proofs.Members.{IsIn}
 use Rattle.xc_list.specs.inner.Classes.{class_of, class_at}
 use Rattle.xc_list.specs.inner.OptionIndex.{AreClassesTo, key_uses}
 use Rattle.xc_list.proofs.CheckLemmas.ClassesSoFar.{members-few, members_at, classes-found, classes-new}
-use Rattle.xc_list.proofs.CheckLemmas.FoundClasses.{found-key, lost-key, new-uses, use-decides}
+use Rattle.xc_list.proofs.CheckLemmas.BodiesOfClasses.{use-decides}
+use Rattle.xc_list.proofs.CheckLemmas.FoundClasses.{found-key, lost-key, new-uses}
 use Rattle.xc_list.proofs.checker.option_index.add_option.Goals as goal
 
 next : (o : ℕ) → suc o ≡ o + 1

@@ -1,5 +1,4 @@
-use Rattle.std.proofs.Common.{arith, ◌≡◌, ◌≢◌, ◌+◌, ◌-◌, ◌<◌, length, get_or, sym, ◌∙◌}
-use Rattle.std.proofs.lemmas.List.{get_or_default}
+use Rattle.std.proofs.Common.{arith, ◌≢◌, ◌+◌, ◌-◌, ◌<◌, length, get_or, sym, ◌∙◌}
 use Rattle.xc_input.specs.Problem.{Bounds}
 use Rattle.xc_list.proofs.CheckLemmas.ShortItems.{short_reached, short_kept}
 use Rattle.xc_list.proofs.checker.counts.Counts.hold.Goals as goal
@@ -7,32 +6,21 @@ use Rattle.xc_list.proofs.checker.counts.Counts.hold.Goals.{else-place-bounds-vi
 
 pub overflow_sub-self : goal.overflow_sub-self
 overflow_sub-self c =
-    let k = c.args.u.item - 1 in
-    let ts = c.args.self.now.times.items in
-    let l : k < length ts = omega (arith, c.requires.item) in
     let blank : Bounds = record { low = 0; high = 0 } in
-    let e : c.index.result.now ≡ get_or ts k 0 = c.index.ensures ∙ get_or_default ts k c.index.result.now 0 l in
-    omega (arith, c.requires.short, short_reached c.args.bounds.now ts k c.index.result.now blank l e c.if-place-bounds.true c.if-times-bounds.true)
+    omega (arith, c.requires.short, short_reached c.args.bounds.now c.args.self.now.times.items (c.args.u.item - 1) c.index.result.now blank (omega (arith, c.requires.item)) c.index.ensures c.if-place-bounds.true c.if-times-bounds.true)
 
 pub returns-then-times-bounds-clause-short : goal.returns-then-times-bounds-clause-short
 returns-then-times-bounds-clause-short c =
-    let k = c.args.u.item - 1 in
-    let ts = c.args.self.now.times.items in
-    let l : k < length ts = omega (arith, c.requires.item) in
     let blank : Bounds = record { low = 0; high = 0 } in
-    let e : c.index.result.now ≡ get_or ts k 0 = c.index.ensures ∙ get_or_default ts k c.index.result.now 0 l in
-    omega (arith, c.requires.short, short_reached c.args.bounds.now ts k c.index.result.now blank l e c.if-place-bounds.true c.if-times-bounds.true)
+    omega (arith, c.requires.short, short_reached c.args.bounds.now c.args.self.now.times.items (c.args.u.item - 1) c.index.result.now blank (omega (arith, c.requires.item)) c.index.ensures c.if-place-bounds.true c.if-times-bounds.true)
 
 pub returns-else-place-bounds-clause-short : goal.returns-else-place-bounds-clause-short
 returns-else-place-bounds-clause-short c =
     let k = c.args.u.item - 1 in
-    let ts = c.args.self.now.times.items in
-    let l : k < length ts = omega (arith, c.requires.item) in
     let blank : Bounds = record { low = 0; high = 0 } in
-    let e : c.index.result.now ≡ get_or ts k 0 = c.index.ensures ∙ get_or_default ts k c.index.result.now 0 l in
     let kept : k < length c.args.bounds.now → c.index.result.now + 1 ≢ (get_or c.args.bounds.now k blank).low =
     λ m. elim c.else-place-bounds.branch [
       | else-place-bounds-via-then-place-bounds+else-times-bounds w ↦ λ q. w.if-times-bounds.false q
       | else-place-bounds-via-else-place-bounds w ↦ λ q. absurd (omega (arith, w.if-place-bounds.false, m))
     ]
-    in c.requires.short ∙ sym (short_kept c.args.bounds.now ts k c.index.result.now blank l e kept)
+    in c.requires.short ∙ sym (short_kept c.args.bounds.now c.args.self.now.times.items k c.index.result.now blank (omega (arith, c.requires.item)) c.index.ensures kept)

@@ -1,6 +1,6 @@
-use Rattle.std.proofs.Common.{◌≡◌, ap, arith, subst}
+use Rattle.std.proofs.Common.{◌≡◌, arith, subst}
 use Rattle.xc_input.specs.Problem.{option_count}
-use Rattle.xc_list.specs.inner.OptionIndex.{Spellings, AreClassesTo, key_uses}
+use Rattle.xc_list.specs.inner.OptionIndex.{AreClassesTo, key_uses}
 use Rattle.xc_list.proofs.CheckLemmas.ClassUses.{classes-whole}
 use Rattle.xc_list.proofs.checker.option_index.OptionIndex.new.Goals as goal
 
@@ -10,8 +10,6 @@ invariant_of-result c =
     let all : c.loop-o.o ≡ option_count p.puzzle = omega (arith, c.loop-o-test.false, c.loop-o.auto.o-end, c.options-o-end.ensures.value) in
     record {
       sound = c.options-o-end.ensures.whole;
-      named = ap (λ (t : Spellings). t.names) c.in_ok-words.ensures;
-      coloured = ap (λ (t : Spellings). t.colours) c.in_ok-words.ensures;
       complete = subst (λ n. AreClassesTo p.puzzle n (key_uses c.loop-o.classes.keys) c.loop-o.sizes.items) all c.loop-o.invariant;
     }
 
