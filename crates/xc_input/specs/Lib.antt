@@ -3,6 +3,7 @@ pub mod Problem
 pub mod Named
 pub mod Flat
 pub mod Stored
+pub mod Hashing
 pub mod Sheets
 pub mod Tokens
 pub mod Words

@@ -2,4 +2,3 @@ pub mod Vectors
 pub mod Fronts
 pub mod Builders
 pub mod Feeding
-pub mod Hashing

@@ -16,6 +16,7 @@ use crate::line_error::LineError;
 use crate::names::{NameSet, add_name, no_names, place_of};
 use crate::option_line::{WrittenUse, option_line};
 use crate::problem::{Item, Use};
+use crate::seed::Seed;
 use crate::tokens::{has_byte, is_skipped_line};
 use crate::{FaultKind, Kind};
 use std::alloc::{AllocError, Global};
@@ -37,18 +38,18 @@ pub struct ProblemBuilder {
 
 impl ProblemBuilder {
     /// Nothing is read yet.
-    pub fn new(alloc: Global) -> ProblemBuilder
+    pub fn new(alloc: Global, seed: Seed) -> ProblemBuilder
         ensures sound { IsBuilder result }
         ensures stage { stage_of_builder result ≡ no_stage }
     {
         ProblemBuilder {
             started: false,
-            names: no_names(alloc),
+            names: no_names(alloc, seed),
             guesses: Guesses::none(alloc),
             items: Vec::new(alloc),
             primary: 0,
             marks: Vec::new(alloc),
-            colours: no_names(alloc),
+            colours: no_names(alloc, seed),
             uses: Vec::new(alloc),
             ends: Vec::new(alloc),
             ignored: Vec::new(alloc),
@@ -86,7 +87,7 @@ impl ProblemBuilder {
         ensures judged { Judged (first (row_checks kind no_row (parts line.now))) result }
         ensures taken { OnOk result (IsBuilder self.new × (stage_of_builder self.new ≡ record { started = true; sheet = with_row (sheet_of_builder self.old) (row_of kind no_row (parts line.now)); ignored = self.old.ignored.items })) }
     {
-        let ItemLine { names, items, bar } = item_line(alloc, kind, line)?;
+        let ItemLine { names, items, bar } = item_line(alloc, *self.names.hasher(), kind, line)?;
         let marks = no_marks(alloc, items.len())?;
         let guesses = Guesses::new(alloc, &names)?;
         self.primary = bar.unwrap_or(items.len() as u32);

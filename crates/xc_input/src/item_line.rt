@@ -13,6 +13,7 @@ use crate::limits::{LONGEST_NAME, MOST_ITEMS};
 use crate::line_error::LineError;
 use crate::names::{NameSet, add_name, no_names, place_of};
 use crate::problem::{Bounds, Item};
+use crate::seed::Seed;
 use crate::tokens::{cut_at, next_part};
 use crate::{FaultKind, Kind};
 use std::alloc::Global;
@@ -172,13 +173,13 @@ fn push_item(
     Ok(())
 }
 
-/// The items of the item line, or its first fault.
-pub fn item_line(alloc: Global, kind: Kind, line: &[u8]) -> Result<ItemLine, LineError>
+/// The items of the item line, in a table by this seed, or its first fault.
+pub fn item_line(alloc: Global, seed: Seed, kind: Kind, line: &[u8]) -> Result<ItemLine, LineError>
     ensures judged { Judged (first (row_checks kind no_row (parts line.now))) result }
     ensures row { IfOk result (λ i. IsItemTable i × (row_of_line i ≡ row_of kind no_row (parts line.now))) }
 {
     let mut items = ItemLine {
-        names: no_names(alloc),
+        names: no_names(alloc, seed),
         items: Vec::new(alloc),
         bar: None,
     };

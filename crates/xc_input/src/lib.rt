@@ -29,6 +29,7 @@ mod option_line;
 mod problem;
 mod read;
 mod reader;
+mod seed;
 mod source;
 mod tokens;
 pub mod worked;
@@ -37,8 +38,9 @@ pub use fault::{FaultKind, InputError};
 pub use given::Given;
 pub use kind::Kind;
 pub use problem::{Bounds, Item, Problem, Use};
-pub use read::read_problem;
+pub use read::{read_problem, read_problem_with_seed};
 pub use reader::{Read, Reader};
+pub use seed::{FoldingHasher, Seed};
 pub use source::{Feed, ReadFailed, Source};
 
 #[cfg(test)]

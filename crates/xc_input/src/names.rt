@@ -1,51 +1,26 @@
-//! Sets of names, look-ups in them, and how they are hashed.
+//! Sets of names, and look-ups in them.
 
 ghost use Rattle.std.specs.Prelude.{◌≡◌, ◌≤◌, ◌++◌, ◌∷◌, [], length, map, None, OnOk, IfOk};
 ghost use Rattle.xc_input.specs.Limits.{most_uses};
 ghost use Rattle.xc_input.specs.Words.{place, number_in};
 ghost use Rattle.xc_input.specs.Stored.{key_names};
 ghost use Rattle.xc_input.specs.inner.Builders.{Judged};
-ghost use Rattle.xc_input.specs.inner.Hashing.{hashed, mixed};
+ghost use Rattle.indexmap.specs.IndexSet.{hasher_of};
 
 use crate::line_error::LineError;
+use crate::seed::Seed;
 use indexmap::IndexSet;
 use std::alloc::Global;
-use std::hash::{BuildHasherDefault, Hasher};
 
 /// Names or colours, numbered from 0 in the order in which they were met.
-pub type NameSet = IndexSet<Vec<u8>, BuildHasherDefault<NameHasher>>;
+pub type NameSet = IndexSet<Vec<u8>, Seed>;
 
-/// A set of no names.
-pub fn no_names(alloc: Global) -> NameSet
-    ensures { result.keys ≡ [] }
+/// A set of no names, which hashes by this seed.
+pub fn no_names(alloc: Global, seed: Seed) -> NameSet
+    ensures empty { result.keys ≡ [] }
+    ensures seed { hasher_of result ≡ seed }
 {
-    IndexSet::with_hasher(alloc, BuildHasherDefault::new())
-}
-
-/// Hashes names, as numbers in base 257. A name writes its length and then each of its bytes alone,
-/// so the first byte of a write is enough. Names are short, and this is faster than the usual hasher.
-#[derive(Clone, Copy, Default)]
-pub struct NameHasher {
-    state: u64,
-}
-
-impl Hasher for NameHasher {
-    ghost write = { λ h bytes. record { state = hashed h.state bytes } };
-
-    ghost finish = { λ h. mixed h.state };
-
-    #[inline(always)]
-    fn finish(&self) -> u64 {
-        let product = u128::from(self.state) * 0x9e37_79b9_7f4a_7c15;
-        (product & 0xffff_ffff_ffff_ffff) as u64 ^ (product >> 64) as u64
-    }
-
-    #[inline(always)]
-    fn write(&mut self, bytes: &[u8]) {
-        if let [first, ..] = bytes {
-            self.state = self.state.wrapping_mul(257).wrapping_add(u64::from(*first));
-        }
-    }
+    IndexSet::with_hasher(alloc, seed)
 }
 
 /// The place of a name, from 0.

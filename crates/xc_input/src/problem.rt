@@ -10,6 +10,7 @@ ghost use Rattle.xc_input.specs.Words.{number_in};
 ghost use Rattle.xc_input.specs.Stored.{key_names};
 
 use crate::names::{NameSet, number_of_name};
+use crate::seed::Seed;
 use std::marker::Model;
 
 /// How often an item is to be held: at least `low` and at most `high` times.
@@ -103,6 +104,13 @@ impl Problem {
             ends,
             colours,
         }
+    }
+
+    /// The seed by which its tables hash.
+    pub fn seed(&self) -> Seed
+        ensures { IsSound self.now }
+    {
+        *self.names.hasher()
     }
 
     /// How many items there are.

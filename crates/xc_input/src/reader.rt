@@ -13,6 +13,7 @@ use crate::builder::ProblemBuilder;
 use crate::given::Given;
 use crate::line_error::LineError;
 use crate::problem::Problem;
+use crate::seed::Seed;
 use crate::{FaultKind, InputError, Kind};
 use std::alloc::Global;
 use std::marker::Model;
@@ -52,7 +53,17 @@ impl Model for Reader {
 }
 
 impl Reader {
+    /// A reader whose tables hash by the fixed seed.
     pub fn new(alloc: Global, kind: Kind) -> Reader
+        ensures kind { result.kind ≡ kind }
+        ensures lines { result.lines ≡ [] }
+        ensures error { result.error ≡ None }
+    {
+        Reader::with_seed(alloc, kind, Seed::FIXED)
+    }
+
+    /// A reader whose tables hash by this seed. What it reads is the same by each seed.
+    pub fn with_seed(alloc: Global, kind: Kind, seed: Seed) -> Reader
         ensures kind { result.kind ≡ kind }
         ensures lines { result.lines ≡ [] }
         ensures error { result.error ≡ None }
@@ -62,7 +73,7 @@ impl Reader {
             alloc,
             kind,
             count: 0,
-            builder: ProblemBuilder::new(alloc),
+            builder: ProblemBuilder::new(alloc, seed),
             error: None,
         }
     }

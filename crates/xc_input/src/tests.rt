@@ -1,5 +1,6 @@
 use crate::{
-    Bounds, FaultKind, Feed, InputError, Kind, Problem, Read, Reader, Source, Use, read_problem,
+    Bounds, FaultKind, Feed, InputError, Kind, Problem, Read, Reader, Seed, Source, Use,
+    read_problem, read_problem_with_seed,
 };
 use std::alloc::Global;
 
@@ -343,4 +344,61 @@ fn texts_of_faults(rt: HostRuntime) {
         };
         assert!(rt; text.as_str() == *wanted);
     }
+}
+
+/// Names of one hash in base 257 modulo 2^64, and an option of each.
+const ONE_HASH: [&[u8]; 3] = [
+    b"\x94\x96\x9e\x96\x8e\x98\x8d\x90\xaf\x93\x89\xb2\x7f\x80\xc3v\x8a\xcch\x92\xc4p\x9b\xac{\x9b\xa1\x8e\x97\x98\x95\x96",
+    b"\x94\x96\x9e\x96\x8e\x99\x8c\x8c\xb3\x97\x85\xb2\x7f\x84\xbdt\x96\xb0t\xb6\xa0}\xaa\x80\x8b\xab\x91\x9a\x9b\x8e\x95\x98",
+    b"\x94\x96\x9e\x96\x8e\x99\x8e\x88\xab\xab\x8b\x92\x90\x86\x9c\xa2\x9e\x88\x90\xb6\x82\x81\xb2\x88\x93\xaf\x87\x8a\xa0\x98\x94\x96",
+];
+
+#[test]
+fn names_of_one_hash(rt: HostRuntime) {
+    let mut text = Vec::new(rt.alloc());
+    for separator in [b" ", b"\n"] {
+        for name in &ONE_HASH {
+            assert!(rt; text.extend_from_slice(*name).is_ok());
+            assert!(rt; text.extend_from_slice(separator).is_ok());
+        }
+        assert!(rt; text.push(b'\n').is_ok());
+    }
+    let Ok(read) = read(rt.alloc(), Kind::Plain, text.as_slice(), 65536) else {
+        return assert!(rt; false);
+    };
+    let problem = &read.problem;
+    assert!(rt; problem.items() == 3 && problem.options() == 3);
+    for i in 1..4u32 {
+        assert!(rt; problem.find(ONE_HASH[i as usize - 1]) == Some(i));
+        assert!(rt; has_option(problem, i, &[(i, 0)]));
+    }
+}
+
+#[test]
+fn each_seed_reads_the_same(rt: HostRuntime) {
+    let text = b"a b | x y\na x:red\nb y:green x:red\n";
+    let other = Seed::new(0x0123_4567_89ab_cdef_fedc_ba98_7654_3210);
+    assert!(rt; other != Seed::FIXED);
+    for seed in [Seed::FIXED, other, Seed::new(0)] {
+        let mut source = Feed::new(text, 65536, None);
+        let Ok(read) = read_problem_with_seed(rt.alloc(), Kind::Colours, seed, &mut source) else {
+            return assert!(rt; false);
+        };
+        let problem = &read.problem;
+        assert!(rt; problem.seed() == seed);
+        assert!(rt; problem.find(b"y") == Some(4) && problem.find_colour(b"green") == Some(2));
+        assert!(rt; has_option(problem, 1, &[(1, 0), (3, 1)]));
+        assert!(rt; has_option(problem, 2, &[(2, 0), (4, 2), (3, 1)]));
+    }
+}
+
+#[test]
+fn lines_by_a_seed(rt: HostRuntime) {
+    let seed = Seed::new(7);
+    let mut reader = Reader::with_seed(rt.alloc(), Kind::Plain, seed);
+    assert!(rt; reader.line(b"a b").is_ok() && reader.line(b"b a").is_ok());
+    let Ok(read) = reader.finish() else {
+        return assert!(rt; false);
+    };
+    assert!(rt; read.problem.seed() == seed && has_option(&read.problem, 1, &[(2, 0), (1, 0)]));
 }
