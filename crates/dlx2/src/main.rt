@@ -1,6 +1,7 @@
 //! Solves exact cover problems with colours: `dlx2 [mN] [tN] < PROBLEM`.
 #![tactic(auto)]
 
+use std::io::IsTerminal;
 use std::process::ExitCode;
 use xc_input::Kind;
 use xc_tools::{Direct, Incoming, Outgoing, out_of_memory, solve, words};
@@ -13,7 +14,7 @@ const KIND: Kind = Kind::Colours;
 
 fn main(rt: HostRuntime) -> ExitCode {
     let mut input = Incoming::new(Some(rt.stdin()));
-    let mut out = Outgoing::new(rt.stdout());
+    let mut out = Outgoing::new(rt.stdout(), rt.stdout().is_terminal());
     let mut err = Direct::new(rt.stderr());
     ExitCode::from(match words(&rt) {
         Ok(words) => solve(rt.alloc(), KIND, &words, &mut input, &mut out, &mut err),

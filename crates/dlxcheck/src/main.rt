@@ -1,6 +1,7 @@
 //! Judges a listing of a problem's solutions: `dlxcheck PROBLEM [1|2|3] < LISTING`.
 #![tactic(auto)]
 
+use std::io::IsTerminal;
 use std::process::ExitCode;
 use xc_tools::{
     Direct, Incoming, Outgoing, closed_stream, judge, named_file, out_of_memory, words,
@@ -11,7 +12,7 @@ mod tests;
 
 fn main(rt: HostRuntime) -> ExitCode {
     let mut listing = Incoming::new(Some(rt.stdin()));
-    let mut out = Outgoing::new(rt.stdout());
+    let mut out = Outgoing::new(rt.stdout(), rt.stdout().is_terminal());
     let mut err = Direct::new(rt.stderr());
     if let Some(status) = closed_stream(&rt.stdin(), &rt.stdout(), &rt.stderr(), &mut err) {
         return ExitCode::from(status);

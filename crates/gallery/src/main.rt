@@ -2,6 +2,7 @@
 #![tactic(auto)]
 
 use std::fs;
+use std::io::IsTerminal;
 use std::process::ExitCode;
 use xc_input::Kind;
 use xc_list::{Sink, write_all};
@@ -20,7 +21,7 @@ const PROBLEMS: [(&str, Kind); 9] = [
 ];
 
 fn main(rt: HostRuntime) -> ExitCode {
-    let mut listing = Outgoing::new(rt.stdout());
+    let mut listing = Outgoing::new(rt.stdout(), rt.stdout().is_terminal());
     let mut messages = Direct::new(rt.stdout());
     let mut worst = 0;
     for (name, kind) in &PROBLEMS {

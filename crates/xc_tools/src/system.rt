@@ -1,5 +1,5 @@
 //! The system's streams and files as sources and sinks.
-ghost use Rattle.std.specs.Prelude.{◌≡◌, ◌+◌, ◌-◌, ◌^◌, ◌<◌, ◌≤◌, true, false, None, length, nat_eq, is_err, option_map, IfOk, IsErr, IsTrue, OnErr, OnOk, [], ◌∷◌, ◌++◌, take, drop, slice_range};
+ghost use Rattle.std.specs.Prelude.{◌≡◌, ◌+◌, ◌-◌, ◌^◌, ◌<◌, ◌≤◌, ◌⊎◌, ◌↔◌, true, false, None, length, nat_eq, is_err, option_map, IfOk, IsErr, IsTrue, OnErr, OnOk, [], ◌∷◌, ◌++◌, take, drop, slice_range};
 ghost use Rattle.std.specs.Io.KnownBytes.{append_known, Appends, Keeps, ReadConsumes, WriteAppends};
 ghost use Rattle.xc_input.specs.Calls.{counted, is_failed_write};
 ghost use Rattle.xc_tools.specs.Streams.{left_of};
@@ -91,12 +91,23 @@ impl<R: Read + Drop> Source for Incoming<R> {
 
 /// A writer of the system as a sink that holds some bytes back until it is flushed. It keeps what it
 /// could not pass on.
+///
+/// A line that ends is passed on at once, with all that is held back, where that is at least an eighth
+/// of what was passed on before. So the first lines of a slow run appear when they are written, and a
+/// fast run soon makes one call for each 65,536 bytes. By lines, every line is passed on at its end.
 #[derive(Drop)]
 pub struct Outgoing<W: Write + Drop> {
     writer: W,
+    by_line: bool,
     held: [u8; HELD],
     start: usize,
     end: usize,
+    /// How many bytes were passed on.
+    passed: usize,
+    /// How many bytes have to be held back for a line's end to pass them on.
+    early: usize,
+    /// The last line's end could not be passed on.
+    stuck: bool,
     failures: u64,
     failed: bool,
     ghost ordered: { start ≤ end },
@@ -121,10 +132,17 @@ fn pass_on<W: Write>(writer: &mut W, bytes: &[u8], from: usize) -> usize
     place
 }
 
+/// How many bytes have to be held back for a line's end to pass them on, where so many were passed on
+/// before.
+fn early(by_line: bool, passed: usize) -> usize {
+    if by_line { 0 } else { HELD.min(passed / 8) }
+}
+
 impl<W: Write + Drop> Outgoing<W> {
-    /// A sink with nothing held back.
-    pub fn new(writer: W) -> Outgoing<W>
+    /// A sink with nothing held back, and whether it goes by lines, as for a terminal.
+    pub fn new(writer: W, by_line: bool) -> Outgoing<W>
         ensures writer { result.writer ≡ writer }
+        ensures by_line { result.by_line ≡ by_line }
         ensures start { result.start ≡ 0 }
         ensures end { result.end ≡ 0 }
         ensures failures { result.failures ≡ 0 }
@@ -132,9 +150,13 @@ impl<W: Write + Drop> Outgoing<W> {
     {
         Outgoing {
             writer,
+            by_line,
             held: [0; HELD],
             start: 0,
             end: 0,
+            passed: 0,
+            early: 0,
+            stuck: false,
             failures: 0,
             failed: false,
         }
@@ -154,8 +176,29 @@ impl<W: Write + Drop> Outgoing<W> {
         WriteFailed
     }
 
-    /// Passes on what is held back.
+    /// Passes on what is held back, as far as that goes.
     #[inline(never)]
+    fn pass(&mut self)
+        ensures emptied { (self.new.start < self.new.end) ⊎ ((self.new.start ≡ 0) × (self.new.end ≡ 0)) }
+        ensures stuck { IsTrue self.new.stuck ↔ (self.new.start < self.new.end) }
+        ensures failures { self.new.failures ≡ self.old.failures }
+        ensures failed { self.new.failed ≡ self.old.failed }
+        ensures bytes { Keeps
+            (append_known (W.contents self.old.writer) (slice_range self.old.held self.old.start self.old.end))
+            (append_known (W.contents self.new.writer) (slice_range self.new.held self.new.start self.new.end)) }
+    {
+        let place = pass_on(&mut self.writer, &self.held[..self.end], self.start);
+        self.passed = self.passed.saturating_add(place - self.start);
+        self.early = early(self.by_line, self.passed);
+        self.stuck = place < self.end;
+        self.start = place;
+        if !self.stuck {
+            self.start = 0;
+            self.end = 0;
+        }
+    }
+
+    /// Passes on what is held back, or fails.
     fn pass_held(&mut self) -> Result<(), WriteFailed>
         ensures emptied { OnOk result ((self.new.start ≡ 0) × (self.new.end ≡ 0)) }
         ensures failures { self.new.failures ≡ counted (is_err result) self.old.failures }
@@ -164,16 +207,15 @@ impl<W: Write + Drop> Outgoing<W> {
             (append_known (W.contents self.old.writer) (slice_range self.old.held self.old.start self.old.end))
             (append_known (W.contents self.new.writer) (slice_range self.new.held self.new.start self.new.end)) }
     {
-        self.start = pass_on(&mut self.writer, &self.held[..self.end], self.start);
-        if self.start < self.end {
+        self.pass();
+        if self.stuck {
             return Err(self.fail());
         }
-        self.start = 0;
-        self.end = 0;
         Ok(())
     }
 
-    /// Passes on what is held back where there is no room for more.
+    /// Passes on what is held back where there is no room for more, and where the last line's end
+    /// could not be passed on.
     fn make_room(&mut self) -> Result<(), WriteFailed>
         ensures room { OnOk result (self.new.end < 65536) }
         ensures failures { self.new.failures ≡ counted (is_err result) self.old.failures }
@@ -182,7 +224,7 @@ impl<W: Write + Drop> Outgoing<W> {
             (append_known (W.contents self.old.writer) (slice_range self.old.held self.old.start self.old.end))
             (append_known (W.contents self.new.writer) (slice_range self.new.held self.new.start self.new.end)) }
     {
-        if self.end < HELD {
+        if self.end < HELD && !self.stuck {
             return Ok(());
         }
         self.pass_held()
@@ -258,11 +300,14 @@ impl<W: Write + Drop> Sink for Outgoing<W> {
 
     #[inline(always)]
     fn write(&mut self, bytes: &[u8]) -> Result<usize, WriteFailed> {
-        if bytes.len() <= HELD - self.end {
-            self.hold(bytes);
-            return Ok(bytes.len());
+        if self.stuck || bytes.len() > HELD - self.end {
+            return self.hold_part(bytes);
         }
-        self.hold_part(bytes)
+        self.hold(bytes);
+        if self.end >= self.early && bytes.ends_with(b"\n") {
+            self.pass();
+        }
+        Ok(bytes.len())
     }
 
     fn flush(&mut self) -> Result<(), WriteFailed> {

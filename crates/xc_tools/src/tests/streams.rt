@@ -139,7 +139,7 @@ fn short_writes_of_a_long_text(rt: HostRuntime) -> Result<(), Fail> {
     let text = long_text(rt.alloc())?;
 
     let mut held = Narrow::new(rt.alloc());
-    write_and_flush(&mut Outgoing::new(&mut held), &text)?;
+    write_and_flush(&mut Outgoing::new(&mut held, false), &text)?;
     assert!(rt; held.bytes == text);
     assert!(rt; held.flushes == 1);
 
@@ -147,6 +147,32 @@ fn short_writes_of_a_long_text(rt: HostRuntime) -> Result<(), Fail> {
     write_and_flush(&mut Direct::new(&mut direct), &text)?;
     assert!(rt; direct.bytes == text);
     assert!(rt; direct.flushes == 1);
+    Ok(())
+}
+
+/// What a writer gets of lines of ten bytes and a beginning of one, without a flush.
+fn passed_on(alloc: Global, by_line: bool, lines: usize) -> Result<usize, Fail> {
+    let mut writer = Narrow::new(alloc);
+    {
+        let mut out = Outgoing::new(&mut writer, by_line);
+        for _ in 0..lines {
+            write_all(&mut out, b" A (1 of ")?;
+            write_all(&mut out, b"\n")?;
+        }
+        write_all(&mut out, b" A (")?;
+    }
+    Ok(writer.bytes.len())
+}
+
+#[test]
+fn lines_appear_when_they_end(rt: HostRuntime) -> Result<(), Fail> {
+    // For a terminal all of them; else all but a ninth, in few calls, and at most 65,536 bytes.
+    for lines in [0, 1, 2, 10, 1000] {
+        assert!(rt; passed_on(rt.alloc(), true, lines)? == 10 * lines);
+        let passed = passed_on(rt.alloc(), false, lines)?;
+        assert!(rt; passed <= 10 * lines && 10 * lines - passed <= 10 + passed / 8);
+    }
+    assert!(rt; 2_000_000 - passed_on(rt.alloc(), false, 200_000)? <= 65_536);
     Ok(())
 }
 
