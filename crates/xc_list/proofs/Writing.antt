@@ -15,7 +15,7 @@ use Rattle.xc_list.specs.Texts.{SinkState, Took, BrokeOff, Writes, WasTold}
 use Rattle.xc_input.specs.Calls.{Rose}
 use Rattle.xc_list.proofs.TextLemmas.{appends_more}
 
-flat_map-take-more : {X : Type 0} (f : X → List ℕ) (xs : List X) (i : ℕ) (d : X) → i < length xs → flat_map f (take (i + 1) xs) ≡ flat_map f (take i xs) ++ f (get_or xs i d)
+pub flat_map-take-more : {X : Type 0} (f : X → List ℕ) (xs : List X) (i : ℕ) (d : X) → i < length xs → flat_map f (take (i + 1) xs) ≡ flat_map f (take i xs) ++ f (get_or xs i d)
 flat_map-take-more f xs i d h =
     let more : take (i + 1) xs ≡ take i xs ++ (get_or xs i d ∷ []) = grind (arith, common_steps) in
     ap (flat_map f) more ∙ flat_map-append f (take i xs) (get_or xs i d ∷ []) ∙ ap (λ l. flat_map f (take i xs) ++ l) (append-nil (f (get_or xs i d)))

@@ -1,5 +1,5 @@
 //! Options as they are printed, laid out before the search.
-ghost use Rattle.std.specs.Prelude.{◌≡◌, ◌<◌, ◌≤◌, ◌^◌, [], ◌∷◌, ◌++◌, ◌==◌, length, take, All, IfSome, IfOk, OnOk, OnErr, IsTrue, flat_map};
+ghost use Rattle.std.specs.Prelude.{◌≡◌, ◌<◌, ◌≤◌, ◌^◌, [], ◌∷◌, ◌++◌, ◌-◌, ◌==◌, min, length, take, All, IfSome, IfOk, OnOk, OnErr, IsTrue, flat_map};
 ghost use Rattle.std.specs.List.{position_or_len};
 ghost use Rattle.xc_input.specs.Problem.{option_count, uses_of};
 ghost use Rattle.xc_input.specs.Named.{IsKnownUse};
@@ -52,14 +52,25 @@ fn place_in_text(problem: &Problem, uses: &[Use], item: u32) -> usize
     place
 }
 
-/// How long the texts of all options are. Nothing rests on it but the room that is taken for them: in
-/// too small a room they are not laid out.
-fn total_length(problem: &Problem) -> usize {
+/// How long the text of an option's uses is, or the largest number where it is longer.
+fn option_length(problem: &Problem, uses: &[Use]) -> usize
+    requires { All (IsKnownUse problem.now) uses.now }
+    ensures { result ≡ min (length (uses_text problem.now uses.now)) (2 ^ 64 - 1) }
+{
+    let mut total = 0usize;
+    for u in uses {
+        total = total.saturating_add(use_length(problem, u));
+    }
+    total
+}
+
+/// How long the texts of all options are, or the largest number where they are longer.
+fn total_length(problem: &Problem) -> usize
+    ensures { result ≡ min (length (flat_map (uses_text problem.now) problem.now.puzzle.options)) (2 ^ 64 - 1) }
+{
     let mut total = 0usize;
     for o in 0..problem.options() {
-        for u in problem.option(o + 1) {
-            total = total.saturating_add(use_length(problem, u));
-        }
+        total = total.saturating_add(option_length(problem, problem.option(o + 1)));
     }
     total
 }

@@ -11,7 +11,8 @@ use Rattle.xc_list.proofs.CheckLemmas.ListedNumbers.{one_place}
 use Rattle.xc_list.proofs.CheckLemmas.DifferentOptions.{counted, is_counted, count_same, one_class}
 use Rattle.xc_list.proofs.CheckLemmas.BodiesOfClasses.{same_uses-are, same_uses-itself}
 use Rattle.xc_list.proofs.CheckLemmas.DecidedByClasses.{alike-classes}
-use Rattle.xc_list.proofs.CheckLemmas.CountedClasses.{slice_get-at, raised-at}
+use Rattle.xc_list.proofs.CheckLemmas.CountedClasses.{slice_get-at}
+use Rattle.xc_list.proofs.CheckLemmas.HeldItems.{raised-at}
 
 same_class : (b : Classes) → AreClasses b.problem.puzzle b.classes → (j k q o : ℕ) → IsOfClass b j q → IsOfClass b k o → (j == k) ≡ alike b.problem.puzzle o q
 same_class b are j k q o h g = by_place (j == k) refl

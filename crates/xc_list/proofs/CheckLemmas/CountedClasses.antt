@@ -1,5 +1,5 @@
 -- What classes add to the counts, and that the counts are 0 again once they were cleared.
-use Rattle.std.proofs.Common.{ℕ, zero, suc, ◌≡◌, ◌≢◌, ◌+◌, ◌-◌, ◌<◌, ◌≤◌, ◌⊎◌, inl, inr, drop, ltb, ltb-true, ltb-false, Bool, true, false, cond, ◌==◌, List, [], ◌∷◌, ◌++◌, length, get_or, set, take, replicate, Some, refl, sym, ap, ◌∙◌, arith, subst, eqb-true, eq-eqb}
+use Rattle.std.proofs.Common.{ℕ, zero, suc, ◌≡◌, ◌≢◌, ◌+◌, ◌<◌, ◌≤◌, ◌⊎◌, inl, inr, drop, ltb, ltb-true, ltb-false, Bool, true, false, cond, ◌==◌, List, [], ◌∷◌, ◌++◌, length, get_or, set, take, replicate, Some, refl, sym, ap, ◌∙◌, arith, subst, eqb-true, eq-eqb}
 use Rattle.std.specs.Prelude.{slice_get}
 use Rattle.std.specs.List.{AllByRecursion}
 use Rattle.std.proofs.lemmas.List.{append-nil, append_assoc, get_or-set_same, get_or-set_other, length-set, length-take-le, length-replicate, get_or-replicate, get_or_past, ext_get_or, take_more}
@@ -15,7 +15,7 @@ use Rattle.xc_list.specs.inner.CoverCounts.{added, coloured, cleared, raised, lo
 use Rattle.xc_list.proofs.CheckLemmas.DifferentOptions.{counted}
 use Rattle.xc_list.proofs.CheckLemmas.Rotations.{DifferInItems, differ-turned, class-place, halves}
 use Rattle.xc_list.proofs.CheckLemmas.DecidedByClasses.{option-sound, option-differs}
-use Rattle.xc_list.proofs.CheckLemmas.HeldItems.{AreItems, held, added-at, added-append, coloured-append, cleared-append, length-added, length-cleared, held_once, each_take}
+use Rattle.xc_list.proofs.CheckLemmas.HeldItems.{AreItems, held, added-at, added-append, coloured-append, cleared-append, raised-append, lowered-append, raised-at, length-raised, length-lowered, length-added, held_once, each_take}
 
 -- ---- the uses of a class
 
@@ -111,42 +111,11 @@ added_few n classes ks i k h a l = by_case (ltb k n) refl
 
 -- ---- how often classes are asked
 
-pub raised-append : (js ks ns : List ℕ) → raised (js ++ ks) ns ≡ raised ks (raised js ns)
-raised-append [] ks ns = refl
-raised-append (j ∷ js) ks ns = raised-append js ks (set ns j (get_or ns j 0 + 1))
-
-pub lowered-append : (js ks ns : List ℕ) → lowered (js ++ ks) ns ≡ lowered ks (lowered js ns)
-lowered-append [] ks ns = refl
-lowered-append (j ∷ js) ks ns = lowered-append js ks (set ns j 0)
-
 pub raised_more : (ks : List ℕ) (i : ℕ) (ns : List ℕ) → i < length ks → raised (take (i + 1) ks) ns ≡ raised (get_or ks i 0 ∷ []) (raised (take i ks) ns)
 raised_more ks i ns l = ap (λ js. raised js ns) (take_more ks i 0 l) ∙ raised-append (take i ks) (get_or ks i 0 ∷ []) ns
 
 pub lowered_more : (ks : List ℕ) (i : ℕ) (ns : List ℕ) → i < length ks → lowered (take (i + 1) ks) ns ≡ lowered (get_or ks i 0 ∷ []) (lowered (take i ks) ns)
 lowered_more ks i ns l = ap (λ js. lowered js ns) (take_more ks i 0 l) ∙ lowered-append (take i ks) (get_or ks i 0 ∷ []) ns
-
-pub length-raised : (ks ns : List ℕ) → length (raised ks ns) ≡ length ns
-length-raised [] ns = refl
-length-raised (k ∷ ks) ns = length-raised ks (set ns k (get_or ns k 0 + 1)) ∙ length-set ns k (get_or ns k 0 + 1)
-
-pub length-lowered : (ks ns : List ℕ) → length (lowered ks ns) ≡ length ns
-length-lowered [] ns = refl
-length-lowered (k ∷ ks) ns = length-lowered ks (set ns k 0) ∙ length-set ns k 0
-
-pub raised-at : (ks ns : List ℕ) (k : ℕ) → k < length ns → get_or (raised ks ns) k 0 ≡ get_or ns k 0 + counted (λ j. j == k) ks
-raised-at [] ns k l = omega arith
-raised-at (j ∷ ks) ns k l =
-    let later = raised-at ks (set ns j (get_or ns j 0 + 1)) k (omega (arith, l, length-set ns j (get_or ns j 0 + 1))) in
-    omega (arith, later, here (j == k) refl)
-  where
-    here : (v : Bool) → (j == k) ≡ v → get_or (set ns j (get_or ns j 0 + 1)) k 0 ≡ get_or ns k 0 + cond (j == k) 1 0
-    here true q =
-        let at : j ≡ k = eqb-true j k q in
-        let value : get_or (set ns k (get_or ns k 0 + 1)) k 0 ≡ get_or ns k 0 + 1 = get_or-set_same ns k (get_or ns k 0 + 1) 0 l in
-        rw q (subst (λ i. get_or (set ns i (get_or ns i 0 + 1)) k 0 ≡ get_or ns k 0 + 1) (sym at) value)
-    here false q =
-        let apart : k ≢ j = λ z. (let t = eq-eqb j k (sym z) in cc) in
-        rw q (omega (arith, get_or-set_other ns j k (get_or ns j 0 + 1) 0 apart))
 
 counted-le : (p : ℕ → Bool) (xs : List ℕ) → counted p xs ≤ length xs
 counted-le p [] = omega arith
@@ -160,22 +129,6 @@ raised_few n ks i k l m =
     omega (arith, raised-at (take i ks) (replicate n 0) k (omega (arith, l, length-replicate {A = ℕ} n 0)), get_or-replicate {A = ℕ} n k 0 0 l, counted-le (λ j. j == k) (take i ks), length-take-le i ks m)
 
 -- ---- all 0 again
-
-cleared-at : (n : ℕ) (us : List Use) (ts : List ℕ) (k : ℕ) → AreItems n us → n ≡ length ts → k < n → (get_or ts k 0 ≡ 0) ⊎ (0 < held (suc k) us) → get_or (cleared us ts) k 0 ≡ 0
-cleared-at n [] ts k a e l (inl h) = h
-cleared-at n [] ts k a e l (inr h) = absurd (omega (arith, h))
-cleared-at n (u ∷ us) ts k a e l h =
-    cleared-at n us (set ts (u.item - 1) 0) k a.1 (e ∙ sym (length-set ts (u.item - 1) 0)) l (here (u.item == suc k) refl h)
-  where
-    here : (v : Bool) → (u.item == suc k) ≡ v → (get_or ts k 0 ≡ 0) ⊎ (0 < cond (u.item == suc k) 1 0 + held (suc k) us) → (get_or (set ts (u.item - 1) 0) k 0 ≡ 0) ⊎ (0 < held (suc k) us)
-    here true q _ =
-        let at : u.item - 1 ≡ k = omega (arith, eqb-true u.item (suc k) q) in
-        inl (subst (λ i. get_or (set ts i 0) k 0 ≡ 0) (sym at) (get_or-set_same ts k 0 0 (omega (arith, l, e))))
-    here false q h =
-        let ne : u.item ≢ suc k = λ z. (let t = eq-eqb u.item (suc k) z in cc) in
-        let apart : k ≢ u.item - 1 = λ z. ne (omega (arith, z, a.0.0)) in
-        let same = get_or-set_other ts (u.item - 1) k 0 0 apart in
-        elim (subst (λ b. (get_or ts k 0 ≡ 0) ⊎ (0 < cond b 1 0 + held (suc k) us)) q h) [ inl z ↦ inl (same ∙ z) | inr z ↦ inr (omega (arith, z)) ]
 
 lowered-at : (ks ns : List ℕ) (k : ℕ) → k < length ns → (get_or ns k 0 ≡ 0) ⊎ (0 < counted (λ j. j == k) ks) → get_or (lowered ks ns) k 0 ≡ 0
 lowered-at [] ns k l (inl h) = h
@@ -194,20 +147,6 @@ zero_or : (m n : ℕ) → m ≡ 0 + n → (m ≡ 0) ⊎ (0 < n)
 zero_or m zero e = inl (omega (arith, e))
 zero_or m (suc n) e = inr (omega arith)
 
-cleared_again : (n : ℕ) (us : List Use) → AreItems n us → cleared us (added us (replicate n 0)) ≡ replicate n 0
-cleared_again n us a =
-    ext_get_or 0 (cleared us ts) (replicate n 0) (length-cleared us ts ∙ length-added us (replicate n 0))
-    (λ k l. let below : k < n = omega (arith, l, size) in
-    cleared-at n us ts k a (sym (length-added us (replicate n 0) ∙ length-replicate {A = ℕ} n 0)) below
-    (zero_or (get_or ts k 0) (held (suc k) us) (omega (arith, added-at n us (replicate n 0) k a (sym (length-replicate {A = ℕ} n 0)) below, get_or-replicate {A = ℕ} n k 0 0 below)))
-    ∙ sym (get_or-replicate {A = ℕ} n k 0 0 below))
-  where
-    ts : List ℕ
-    ts = added us (replicate n 0)
-
-    size : length (cleared us (added us (replicate n 0))) ≡ n
-    size = length-cleared us (added us (replicate n 0)) ∙ length-added us (replicate n 0) ∙ length-replicate {A = ℕ} n 0
-
 lowered_again : (n : ℕ) (ks : List ℕ) → lowered ks (raised ks (replicate n 0)) ≡ replicate n 0
 lowered_again n ks =
     ext_get_or 0 (lowered ks ns) (replicate n 0) (length-lowered ks ns ∙ length-raised ks (replicate n 0))
@@ -224,8 +163,5 @@ lowered_again n ks =
 
 -- ---- between solutions
 
-pub times_again : (n : ℕ) (classes : List (List Use)) (ks ts : List ℕ) → AreUsable n classes → AreBelow (length classes) ks → ts ≡ replicate n 0 → cleared (uses_in classes ks) (added (uses_in classes ks) ts) ≡ ts
-times_again n classes ks ts h a e = subst (λ l. cleared (uses_in classes ks) (added (uses_in classes ks) l) ≡ l) (sym e) (cleared_again n (uses_in classes ks) (items_in n classes ks h a))
-
-pub asked_again : (n : ℕ) (ks ns : List ℕ) → ns ≡ replicate n 0 → lowered ks (raised ks ns) ≡ ns
-asked_again n ks ns e = subst (λ l. lowered ks (raised ks l) ≡ l) (sym e) (lowered_again n ks)
+pub lowered_back : (n : ℕ) (ks ns : List ℕ) → ns ≡ replicate n 0 → lowered ks (raised ks ns) ≡ ns
+lowered_back n ks ns e = subst (λ l. lowered ks (raised ks l) ≡ l) (sym e) (lowered_again n ks)

@@ -1,9 +1,12 @@
 -- What uses add to the counts of their items.
-use Rattle.std.proofs.Common.{ℕ, zero, suc, ◌≡◌, ◌≢◌, ◌+◌, ◌-◌, ◌<◌, ◌≤◌, Bool, true, false, cond, ◌==◌, List, [], ◌∷◌, ◌++◌, length, get_or, set, take, refl, sym, ap, ◌∙◌, arith, subst, eqb-true, ne_eqb, eq-eqb}
+use Rattle.std.proofs.Common.{ℕ, zero, suc, ◌≡◌, ◌≢◌, ◌+◌, ◌-◌, ◌<◌, ◌≤◌, Bool, true, false, cond, ◌==◌, List, [], ◌∷◌, ◌++◌, length, get_or, set, take, refl, sym, ap, ap₂, ◌∙◌, arith, subst, eqb-true, ne_eqb, eq-eqb}
 use Rattle.std.specs.List.{AllByRecursion}
 use Rattle.std.proofs.lemmas.List.{get_or-set_same, get_or-set_other, length-set, take_more}
 use Rattle.xc_input.specs.declared.problem.Use.{Use}
-use Rattle.xc_list.specs.inner.CoverCounts.{added, coloured, cleared}
+use Rattle.xc_list.specs.inner.CoverCounts.{raised, lowered, item_places, added, coloured, cleared}
+use Rattle.std.proofs.lemmas.List.{map-append}
+use Rattle.std.proofs.lemmas.Bool.Decides.{nat_tests}
+use Rattle.xc_list.proofs.CheckLemmas.DifferentOptions.{counted}
 use Rattle.xc_list.proofs.CheckLemmas.Rotations.{DifferInItems}
 
 -- how many of these uses are of item i
@@ -14,47 +17,71 @@ held i (u ∷ us) = cond (u.item == i) 1 0 + held i us
 abbrev pub AreItems : ℕ → List Use → Type 0
 AreItems n us = AllByRecursion (λ u. (1 ≤ u.item) × (u.item ≤ n)) us
 
+-- ---- places
+
+pub raised-append : (js ks ns : List ℕ) → raised (js ++ ks) ns ≡ raised ks (raised js ns)
+raised-append [] ks ns = refl
+raised-append (j ∷ js) ks ns = raised-append js ks (set ns j (get_or ns j 0 + 1))
+
+pub lowered-append : (js ks ns : List ℕ) → lowered (js ++ ks) ns ≡ lowered ks (lowered js ns)
+lowered-append [] ks ns = refl
+lowered-append (j ∷ js) ks ns = lowered-append js ks (set ns j 0)
+
+pub length-raised : (ks ns : List ℕ) → length (raised ks ns) ≡ length ns
+length-raised [] ns = refl
+length-raised (k ∷ ks) ns = length-raised ks (set ns k (get_or ns k 0 + 1)) ∙ length-set ns k (get_or ns k 0 + 1)
+
+pub length-lowered : (ks ns : List ℕ) → length (lowered ks ns) ≡ length ns
+length-lowered [] ns = refl
+length-lowered (k ∷ ks) ns = length-lowered ks (set ns k 0) ∙ length-set ns k 0
+
+pub raised-at : (ks ns : List ℕ) (k : ℕ) → k < length ns → get_or (raised ks ns) k 0 ≡ get_or ns k 0 + counted (λ j. j == k) ks
+raised-at [] ns k l = omega arith
+raised-at (j ∷ ks) ns k l =
+    let later = raised-at ks (set ns j (get_or ns j 0 + 1)) k (omega (arith, l, length-set ns j (get_or ns j 0 + 1))) in
+    omega (arith, later, here (j == k) refl)
+  where
+    here : (v : Bool) → (j == k) ≡ v → get_or (set ns j (get_or ns j 0 + 1)) k 0 ≡ get_or ns k 0 + cond (j == k) 1 0
+    here true q =
+        let at : j ≡ k = eqb-true j k q in
+        let value : get_or (set ns k (get_or ns k 0 + 1)) k 0 ≡ get_or ns k 0 + 1 = get_or-set_same ns k (get_or ns k 0 + 1) 0 l in
+        rw q (subst (λ i. get_or (set ns i (get_or ns i 0 + 1)) k 0 ≡ get_or ns k 0 + 1) (sym at) value)
+    here false q =
+        let apart : k ≢ j = λ z. (let t = eq-eqb j k (sym z) in cc) in
+        rw q (omega (arith, get_or-set_other ns j k (get_or ns j 0 + 1) 0 apart))
+
+-- ---- uses
+
 pub added-append : (us vs : List Use) (ts : List ℕ) → added (us ++ vs) ts ≡ added vs (added us ts)
-added-append [] vs ts = refl
-added-append (u ∷ us) vs ts = added-append us vs (set ts (u.item - 1) (get_or ts (u.item - 1) 0 + 1))
+added-append us vs ts = ap (λ ks. raised ks ts) (map-append (λ u. u.item - 1) us vs) ∙ raised-append (item_places us) (item_places vs) ts
 
 pub coloured-append : (us vs : List Use) (cs : List ℕ) → coloured (us ++ vs) cs ≡ coloured vs (coloured us cs)
 coloured-append [] vs cs = refl
 coloured-append (u ∷ us) vs cs = coloured-append us vs (set cs (u.item - 1) u.colour)
 
 pub cleared-append : (us vs : List Use) (ts : List ℕ) → cleared (us ++ vs) ts ≡ cleared vs (cleared us ts)
-cleared-append [] vs ts = refl
-cleared-append (u ∷ us) vs ts = cleared-append us vs (set ts (u.item - 1) 0)
+cleared-append us vs ts = ap (λ ks. lowered ks ts) (map-append (λ u. u.item - 1) us vs) ∙ lowered-append (item_places us) (item_places vs) ts
 
 pub length-added : (us : List Use) (ts : List ℕ) → length (added us ts) ≡ length ts
-length-added [] ts = refl
-length-added (u ∷ us) ts = length-added us (set ts (u.item - 1) (get_or ts (u.item - 1) 0 + 1)) ∙ length-set ts (u.item - 1) (get_or ts (u.item - 1) 0 + 1)
+length-added us ts = length-raised (item_places us) ts
 
 pub length-coloured : (us : List Use) (cs : List ℕ) → length (coloured us cs) ≡ length cs
 length-coloured [] cs = refl
 length-coloured (u ∷ us) cs = length-coloured us (set cs (u.item - 1) u.colour) ∙ length-set cs (u.item - 1) u.colour
 
 pub length-cleared : (us : List Use) (ts : List ℕ) → length (cleared us ts) ≡ length ts
-length-cleared [] ts = refl
-length-cleared (u ∷ us) ts = length-cleared us (set ts (u.item - 1) 0) ∙ length-set ts (u.item - 1) 0
+length-cleared us ts = length-lowered (item_places us) ts
+
+held-places : (n : ℕ) (us : List Use) (k : ℕ) → AreItems n us → counted (λ j. j == k) (item_places us) ≡ held (suc k) us
+held-places n [] k a = refl
+held-places n (u ∷ us) k a =
+    let some : 1 ≤ u.item = a.0.0 in
+    let same : (u.item - 1 == k) ≡ (u.item == suc k) = grind (arith, nat_tests) in
+    ap₂ (λ t m. cond t 1 0 + m) same (held-places n us k a.1)
 
 -- at the place of each item
 pub added-at : (n : ℕ) (us : List Use) (ts : List ℕ) (k : ℕ) → AreItems n us → n ≡ length ts → k < n → get_or (added us ts) k 0 ≡ get_or ts k 0 + held (suc k) us
-added-at n [] ts k a e l = omega arith
-added-at n (u ∷ us) ts k a e l =
-    let next = set ts (u.item - 1) (get_or ts (u.item - 1) 0 + 1) in
-    let later = added-at n us next k a.1 (e ∙ sym (length-set ts (u.item - 1) (get_or ts (u.item - 1) 0 + 1))) l in
-    omega (arith, later, here (u.item == suc k) refl)
-  where
-    here : (v : Bool) → (u.item == suc k) ≡ v → get_or (set ts (u.item - 1) (get_or ts (u.item - 1) 0 + 1)) k 0 ≡ get_or ts k 0 + cond (u.item == suc k) 1 0
-    here true q =
-        let at : u.item - 1 ≡ k = omega (arith, eqb-true u.item (suc k) q) in
-        let value : get_or (set ts k (get_or ts k 0 + 1)) k 0 ≡ get_or ts k 0 + 1 = get_or-set_same ts k (get_or ts k 0 + 1) 0 (omega (arith, l, e)) in
-        rw (at, q) value
-    here false q =
-        let ne : u.item ≢ suc k = λ z. (let t = eq-eqb u.item (suc k) z in cc) in
-        let apart : k ≢ u.item - 1 = λ z. ne (omega (arith, z, a.0.0)) in
-        rw q (omega (arith, get_or-set_other ts (u.item - 1) k (get_or ts (u.item - 1) 0 + 1) 0 apart))
+added-at n us ts k a e l = raised-at (item_places us) ts k (omega (arith, e, l)) ∙ ap (λ m. get_or ts k 0 + m) (held-places n us k a)
 
 -- ---- different items
 

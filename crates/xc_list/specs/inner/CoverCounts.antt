@@ -1,5 +1,5 @@
 -- No public clause cites this module. Counts over a listed solution. The item i stands at place i - 1.
-use Rattle.std.specs.Prelude.{ℕ, ◌+◌, ◌-◌, Bool, ◌&&◌, ◌||◌, ◌==◌, not, nat_le, nat_lt, List, [], ◌∷◌, length, flat_map, Option, Some, None, slice_get, slice_set, slice_index, slice_index_or, if◌then◌else◌}
+use Rattle.std.specs.Prelude.{ℕ, ◌+◌, ◌-◌, Bool, ◌&&◌, ◌||◌, ◌==◌, not, nat_le, nat_lt, List, [], ◌∷◌, length, map, flat_map, Option, Some, None, slice_get, slice_set, slice_index, slice_index_or, if◌then◌else◌}
 use Rattle.std.specs.List.{list_all}
 use Rattle.xc_input.specs.declared.problem.Use.{Use}
 use Rattle.xc_input.specs.Problem.{Bounds, item_count}
@@ -16,22 +16,7 @@ abbrev pub places_of : Classes → Places
 places_of b =
     record { bounds = b.problem.puzzle.bounds; items = item_count b.problem.puzzle; classes = length b.classes }
 
--- one more at its item's place for each use
-abbrev pub added : List Use → List ℕ → List ℕ
-added [] ts = ts
-added (u ∷ us) ts = added us (slice_set ts (u.item - 1) (slice_index ts (u.item - 1) + 1))
-
--- each use's colour at its item's place
-abbrev pub coloured : List Use → List ℕ → List ℕ
-coloured [] cs = cs
-coloured (u ∷ us) cs = coloured us (slice_set cs (u.item - 1) u.colour)
-
--- 0 at the place of each use's item
-abbrev pub cleared : List Use → List ℕ → List ℕ
-cleared [] ts = ts
-cleared (u ∷ us) ts = cleared us (slice_set ts (u.item - 1) 0)
-
--- one more for each of these numbers
+-- one more at each of these places
 abbrev pub raised : List ℕ → List ℕ → List ℕ
 raised [] ns = ns
 raised (k ∷ ks) ns = raised ks (slice_set ns k (slice_index ns k + 1))
@@ -40,6 +25,23 @@ raised (k ∷ ks) ns = raised ks (slice_set ns k (slice_index ns k + 1))
 abbrev pub lowered : List ℕ → List ℕ → List ℕ
 lowered [] ns = ns
 lowered (k ∷ ks) ns = lowered ks (slice_set ns k 0)
+
+-- the places of the items of uses
+abbrev pub item_places : List Use → List ℕ
+item_places us = map (λ u. u.item - 1) us
+
+-- one more at its item's place for each use
+abbrev pub added : List Use → List ℕ → List ℕ
+added us ts = raised (item_places us) ts
+
+-- 0 at the place of each use's item
+abbrev pub cleared : List Use → List ℕ → List ℕ
+cleared us ts = lowered (item_places us) ts
+
+-- each use's colour at its item's place
+abbrev pub coloured : List Use → List ℕ → List ℕ
+coloured [] cs = cs
+coloured (u ∷ us) cs = coloured us (slice_set cs (u.item - 1) u.colour)
 
 -- the uses of the class with this number
 abbrev pub uses_at : List (List Use) → ℕ → List Use

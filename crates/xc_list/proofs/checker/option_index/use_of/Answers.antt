@@ -1,4 +1,5 @@
-use Rattle.std.proofs.Common.{sym, ap, ◌∙◌, subst, Some}
+use Rattle.std.proofs.Common.{◌≡◌, sym, ap, ◌∙◌, subst, None, Some}
+use Rattle.std.proofs.lemmas.Option.{MatchOption-at_none}
 use Rattle.xc_input.specs.Words.{has}
 use Rattle.xc_list.specs.inner.OptionIndex.{IsUseOfWord}
 use Rattle.xc_list.proofs.CheckLemmas.ReadUses.{plain-word, cut-word}
@@ -16,5 +17,7 @@ returns-in_err-item-in-Some c =
 
 pub returns-in_err-colour-in-Some : goal.returns-in_err-colour-in-Some
 returns-in_err-colour-in-Some c =
+    let gone : c.find_colour.result ≡ None = cc in
+    let other = MatchOption-at_none _ _ gone c.find_colour.ensures.none in
     subst (IsUseOfWord c.args.problem.now c.args.word.now) (sym c.from_residual-in_err-colour-in-Some.ensures) (λ u known e.
-    c.in_err-colour-in-Some.ensures.none u.colour (cut-word c.args.problem.now c.requires u known c.in-Some.name.now c.in-Some.colour.now c.in-Some.ensures.0 (e ∙ c.in-Some.ensures.1)).1)
+    other u.colour (cut-word c.args.problem.now c.requires u known c.in-Some.name.now c.in-Some.colour.now c.in-Some.ensures.0 (e ∙ c.in-Some.ensures.1)).1)

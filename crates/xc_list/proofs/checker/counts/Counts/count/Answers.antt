@@ -5,9 +5,9 @@ use Rattle.xc_input.specs.declared.problem.Use.{Use}
 use Rattle.xc_input.specs.Problem.{item_count}
 use Rattle.xc_search.proofs.EachTwo.{AllPairs-from_each_two}
 use Rattle.xc_list.specs.inner.CoverCounts.{added, coloured, raised, uses_at, uses_in}
-use Rattle.xc_list.proofs.CheckLemmas.HeldItems.{AreItems, length-added, length-coloured}
+use Rattle.xc_list.proofs.CheckLemmas.HeldItems.{AreItems, length-raised, length-added, length-coloured}
 use Rattle.xc_list.proofs.CheckLemmas.Rotations.{DifferInItems}
-use Rattle.xc_list.proofs.CheckLemmas.CountedClasses.{AreBelow, classes_usable, slice_get-at, added_few, added_class_more, coloured_class_more, raised_few, raised_more, length-raised}
+use Rattle.xc_list.proofs.CheckLemmas.CountedClasses.{AreBelow, classes_usable, slice_get-at, added_few, added_class_more, coloured_class_more, raised_few, raised_more}
 use Rattle.xc_list.proofs.checker.counts.Counts.count.Goals as goal
 
 pub index_mut-requires : goal.index_mut-requires

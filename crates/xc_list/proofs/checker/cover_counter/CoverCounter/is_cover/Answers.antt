@@ -1,10 +1,9 @@
-use Rattle.std.proofs.Common.{ℕ, ◌≡◌, ◌∙◌, ◌<◌, ◌==◌, ◌&&◌, length, replicate, sym, ap, ap₂, subst}
+use Rattle.std.proofs.Common.{ℕ, ◌≡◌, ◌∙◌, ◌==◌, ◌&&◌, length, replicate, sym, ap, ap₂, subst}
 use Rattle.std.specs.List.{list_all}
-use Rattle.std.proofs.lemmas.List.Elements.{recursion_from_All}
 use Rattle.xc_input.specs.Problem.{item_count}
-use Rattle.xc_list.specs.inner.CoverCounts.{Places, uses_in, added, raised, cleared, lowered, short_of, is_class_met}
-use Rattle.xc_list.proofs.CheckLemmas.HeldItems.{length-added, length-coloured}
-use Rattle.xc_list.proofs.CheckLemmas.CountedClasses.{AreBelow, classes_usable, length-raised, times_again, asked_again}
+use Rattle.xc_list.specs.inner.CoverCounts.{Places, item_places, uses_in, added, raised, cleared, lowered, short_of, is_class_met}
+use Rattle.xc_list.proofs.CheckLemmas.HeldItems.{length-raised, length-added, length-coloured}
+use Rattle.xc_list.proofs.CheckLemmas.CountedClasses.{lowered_back}
 use Rattle.xc_list.proofs.CheckLemmas.CountedCovers.{IsSolution, times_after, colours_after, asked_after, is_counted_cover, counted-cover, cover-counted}
 use Rattle.xc_list.proofs.checker.cover_counter.CoverCounter.is_cover.Goals as goal
 
@@ -49,12 +48,10 @@ invariant_of-self c =
     let us = uses_in b.classes ks in
     let old = c.self.inside.counts in
     let places = c.self.view_is ∙ c.requires.places in
-    let below : AreBelow (length b.classes) ks = recursion_from_All (λ k. k < length b.classes) ks c.requires.known in
-    let usable = classes_usable b c.requires.indexed.sound c.requires.indexed.classes in
     let zeros : old.times.items ≡ replicate n 0 = c.self.invariant.times ∙ ap (λ (v : Places). replicate v.items 0) places in
     let nones : old.asked.items ≡ replicate (length b.classes) 0 = c.self.invariant.asked ∙ ap (λ (v : Places). replicate v.classes 0) places in
-    let times : c.clear.new.self.times.items ≡ old.times.items = c.clear.ensures.times ∙ ap (cleared us) c.count.ensures.times ∙ times_again n b.classes ks old.times.items usable below zeros in
-    let asked : c.clear.new.self.asked.items ≡ old.asked.items = c.clear.ensures.asked ∙ ap (lowered ks) c.count.ensures.asked ∙ asked_again (length b.classes) ks old.asked.items nones in
+    let times : c.clear.new.self.times.items ≡ old.times.items = c.clear.ensures.times ∙ ap (cleared us) c.count.ensures.times ∙ lowered_back n (item_places us) old.times.items zeros in
+    let asked : c.clear.new.self.asked.items ≡ old.asked.items = c.clear.ensures.asked ∙ ap (lowered ks) c.count.ensures.asked ∙ lowered_back (length b.classes) ks old.asked.items nones in
     record {
       times = subst (λ ts. ts ≡ replicate {A = ℕ} (length ts) 0) (sym times) c.self.invariant.times;
       colours = ap (λ v. length v.items) c.clear.ensures.colours ∙ ap length c.count.ensures.colours ∙ length-coloured us old.colours.items ∙ c.self.invariant.colours ∙ sym (ap length times);
@@ -71,12 +68,10 @@ returns-clause-same c =
     let old = c.self.inside.counts in
     let stored = c.self.inside.bounds.items in
     let places = c.self.view_is ∙ c.requires.places in
-    let below : AreBelow (length b.classes) ks = recursion_from_All (λ k. k < length b.classes) ks c.requires.known in
-    let usable = classes_usable b c.requires.indexed.sound c.requires.indexed.classes in
     let zeros : old.times.items ≡ replicate n 0 = c.self.invariant.times ∙ ap (λ (v : Places). replicate v.items 0) places in
     let nones : old.asked.items ≡ replicate (length b.classes) 0 = c.self.invariant.asked ∙ ap (λ (v : Places). replicate v.classes 0) places in
-    let times : c.clear.new.self.times.items ≡ old.times.items = c.clear.ensures.times ∙ ap (cleared us) c.count.ensures.times ∙ times_again n b.classes ks old.times.items usable below zeros in
-    let asked : c.clear.new.self.asked.items ≡ old.asked.items = c.clear.ensures.asked ∙ ap (lowered ks) c.count.ensures.asked ∙ asked_again (length b.classes) ks old.asked.items nones in
+    let times : c.clear.new.self.times.items ≡ old.times.items = c.clear.ensures.times ∙ ap (cleared us) c.count.ensures.times ∙ lowered_back n (item_places us) old.times.items zeros in
+    let asked : c.clear.new.self.asked.items ≡ old.asked.items = c.clear.ensures.asked ∙ ap (lowered ks) c.count.ensures.asked ∙ lowered_back (length b.classes) ks old.asked.items nones in
     ap₂ (λ i k. let v : Places = record { bounds = stored; items = i; classes = k } in v) (ap length times) (ap length asked) ∙ c.self.view_is
 
 pub returns-clause-decided : goal.returns-clause-decided

@@ -1,0 +1,32 @@
+use Rattle.std.proofs.Common.{arith, ◌≡◌, ◌+◌, ◌-◌, ◌^◌, ◌++◌, length, min, take, [], ◌∷◌, ap, sym, ◌∙◌, subst, length-append, append-nil, Some}
+use Rattle.std.specs.Prelude.{slice_get, flat_map}
+use Rattle.std.proofs.lemmas.Grind.{common_steps}
+use Rattle.std.proofs.lemmas.List.Concat.{flat_map-append}
+use Rattle.xc_input.proofs.FlatParts.{numbered_get-at}
+use Rattle.xc_dance.proofs.Copied.{take_more-get}
+use Rattle.xc_list.specs.inner.Layout.{uses_text}
+use Rattle.xc_list.proofs.bodies.total_length.Goals as goal
+
+pub loop-o-preserved : goal.loop-o-preserved
+loop-o-preserved c =
+    let p = c.args.problem.now in
+    let options = p.puzzle.options in
+    let o = c.loop-o.o in
+    let us = c.option.result.now in
+    let here : slice_get options o ≡ Some us = sym (numbered_get-at options (o + 1) o (omega arith)) ∙ c.option.ensures.value in
+    let more : flat_map (uses_text p) (take (o + 1) options) ≡ flat_map (uses_text p) (take o options) ++ uses_text p us =
+    ap (flat_map (uses_text p)) (take_more-get options o us here) ∙ flat_map-append (uses_text p) (take o options) (us ∷ []) ∙ ap (λ t. flat_map (uses_text p) (take o options) ++ t) (append-nil (uses_text p us)) in
+    omega (
+      arith,
+      c.loop-o.invariant,
+      c.option_length.ensures,
+      c.saturating_add-total.ensures,
+      ap length more,
+      length-append (flat_map (uses_text p) (take o options)) (uses_text p us),
+    )
+
+pub returns : goal.returns
+returns c =
+    let options = c.args.problem.now.puzzle.options in
+    let all : take c.loop-o.o options ≡ options = grind (arith, common_steps) in
+    subst (λ os. c.loop-o.total ≡ min (length (flat_map (uses_text c.args.problem.now) os)) (2 ^ 64 - 1)) all c.loop-o.invariant
