@@ -1,6 +1,7 @@
 -- The other uses of an option in an open item's list: each is in its own item's list, or marked.
 use Rattle.std.proofs.Common.{◌≡◌, ℕ, ◌<◌, ◌≤◌, ◌⊎◌, inl, inr, Bool, true, false, not, cond, ◌&&◌, ◌||◌, eqb, List, [], ◌∷◌, map, get_or, Some, None, refl, ap, ap₂, sym, subst, ◌∙◌, arith, eqb-true, eq-eqb, ne_eqb}
-use Rattle.std.specs.Prelude.{is_some, slice_get, nat_lt}
+use Rattle.std.specs.Prelude.{Option, is_some, slice_get, nat_lt}
+use Rattle.xc_dance.proofs.MoveLemmas.StateLemmas.{open_is}
 use Rattle.std.specs.List.{AllByRecursion}
 use Rattle.std.proofs.lemmas.Bool.{false≢true}
 use Rattle.xc_input.specs.declared.problem.Use.{Use}
@@ -130,18 +131,12 @@ mark_is p t o j c laid jpos jle pos named has = ap (λ v. eqb v 4294967295) (col
 -- ---- closed items
 
 pub closed : (j : ℕ) (t : List Move) → is_open j t ≡ false → (is_covered j t ≡ true) ⊎ ((c : ℕ) × (purified j t ≡ Some c))
-closed j [] e = cc
-closed j (Cover k ∷ t) e =
-    elim (eqb j k) as (λ b. (not b && is_open j t) ≡ false → ((b || is_covered j t) ≡ true) ⊎ ((c : ℕ) × (purified j t ≡ Some c))) [
-      | true ↦ λ f. inl refl
-      | false ↦ λ f. closed j t f
-    ] e
-closed j (Purify k d ∷ t) e =
-    elim (eqb j k) as (λ b. (not b && is_open j t) ≡ false → (is_covered j t ≡ true) ⊎ ((c : ℕ) × (cond b (Some d) (purified j t) ≡ Some c))) [
-      | true ↦ λ f. inr (d, refl)
-      | false ↦ λ f. closed j t f
-    ] e
-closed j (_ ∷ t) e = closed j t e
+closed j t e = by (is_covered j t) (purified j t) refl refl
+  where
+    by : (b : Bool) (o : Option ℕ) → is_covered j t ≡ b → purified j t ≡ o → (is_covered j t ≡ true) ⊎ ((c : ℕ) × (purified j t ≡ Some c))
+    by true o f g = inl f
+    by false (Some c) f g = inr (c, g)
+    by false None f g = absurd (false≢true (sym (open_is t j ∙ e) ∙ ap₂ (λ b o. not b && not (is_some o)) f g))
 
 pub colour_some : (us : List Use) (j : ℕ) → is_some (colour_in us j) ≡ true → (c : ℕ) × (colour_in us j ≡ Some c)
 colour_some us j e = elim (colour_in us j) as (λ o. is_some o ≡ true → (c : ℕ) × (o ≡ Some c)) [ None ↦ λ f. absurd (false≢true f) | Some c ↦ λ f. (c, refl) ] e
