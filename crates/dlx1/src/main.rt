@@ -3,7 +3,7 @@
 
 use std::process::ExitCode;
 use xc_input::Kind;
-use xc_tools::{Direct, Incoming, Outgoing, out_of_memory, solve, words};
+use xc_tools::{Direct, Incoming, Outgoing, out_of_memory, random_seed, solve_with_seed, words};
 
 #[cfg(test)]
 mod tests;
@@ -16,7 +16,15 @@ fn main(rt: HostRuntime) -> ExitCode {
     let mut out = Outgoing::new(rt.stdout());
     let mut err = Direct::new(rt.stderr());
     ExitCode::from(match words(&rt) {
-        Ok(words) => solve(rt.alloc(), KIND, &words, &mut input, &mut out, &mut err),
+        Ok(words) => solve_with_seed(
+            rt.alloc(),
+            KIND,
+            random_seed(&rt),
+            &words,
+            &mut input,
+            &mut out,
+            &mut err,
+        ),
         Err(_) => out_of_memory(&mut err),
     })
 }

@@ -2,7 +2,9 @@
 #![tactic(auto)]
 
 use std::process::ExitCode;
-use xc_tools::{Direct, Incoming, Outgoing, judge, named_file, out_of_memory, words};
+use xc_tools::{
+    Direct, Incoming, Outgoing, judge_with_seed, named_file, out_of_memory, random_seed, words,
+};
 
 #[cfg(test)]
 mod tests;
@@ -14,8 +16,9 @@ fn main(rt: HostRuntime) -> ExitCode {
     ExitCode::from(match words(&rt) {
         Ok(words) => {
             let mut problem = named_file(&rt, &words);
-            judge(
+            judge_with_seed(
                 rt.alloc(),
+                random_seed(&rt),
                 &words,
                 &mut problem,
                 &mut listing,
