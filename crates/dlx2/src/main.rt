@@ -4,7 +4,7 @@
 use std::io::IsTerminal;
 use std::process::ExitCode;
 use xc_input::Kind;
-use xc_tools::{Direct, Incoming, Outgoing, out_of_memory, solve, words};
+use xc_tools::{Direct, Incoming, Outgoing, out_of_memory, random_seed, solve_with_seed, words};
 
 #[cfg(test)]
 mod tests;
@@ -17,7 +17,15 @@ fn main(rt: HostRuntime) -> ExitCode {
     let mut out = Outgoing::new(rt.stdout(), rt.stdout().is_terminal());
     let mut err = Direct::new(rt.stderr());
     ExitCode::from(match words(&rt) {
-        Ok(words) => solve(rt.alloc(), KIND, &words, &mut input, &mut out, &mut err),
+        Ok(words) => solve_with_seed(
+            rt.alloc(),
+            KIND,
+            random_seed(&rt),
+            &words,
+            &mut input,
+            &mut out,
+            &mut err,
+        ),
         Err(_) => out_of_memory(&mut err),
     })
 }

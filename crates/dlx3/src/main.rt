@@ -4,16 +4,17 @@
 use std::io::IsTerminal;
 use std::process::ExitCode;
 use xc_input::Kind;
-use xc_tools::{Direct, Incoming, Outgoing, out_of_memory, solve, words};
+use xc_tools::{Direct, Incoming, Outgoing, out_of_memory, random_seed, solve_with_seed, words};
 
 fn main(rt: HostRuntime) -> ExitCode {
     let mut input = Incoming::new(Some(rt.stdin()));
     let mut out = Outgoing::new(rt.stdout(), rt.stdout().is_terminal());
     let mut err = Direct::new(rt.stderr());
     ExitCode::from(match words(&rt) {
-        Ok(words) => solve(
+        Ok(words) => solve_with_seed(
             rt.alloc(),
             Kind::Bounds,
+            random_seed(&rt),
             &words,
             &mut input,
             &mut out,

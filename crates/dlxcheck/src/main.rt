@@ -4,7 +4,8 @@
 use std::io::IsTerminal;
 use std::process::ExitCode;
 use xc_tools::{
-    Direct, Incoming, Outgoing, closed_stream, judge, named_file, out_of_memory, words,
+    Direct, Incoming, Outgoing, closed_stream, judge_with_seed, named_file, out_of_memory,
+    random_seed, words,
 };
 
 #[cfg(test)]
@@ -20,8 +21,9 @@ fn main(rt: HostRuntime) -> ExitCode {
     ExitCode::from(match words(&rt) {
         Ok(words) => {
             let mut problem = named_file(&rt, &words);
-            judge(
+            judge_with_seed(
                 rt.alloc(),
+                random_seed(&rt),
                 &words,
                 &mut problem,
                 &mut listing,

@@ -12,6 +12,7 @@ mod arguments;
 mod closed_streams;
 mod judging;
 mod messages;
+mod seeding;
 mod solving;
 mod status;
 mod system;
@@ -19,9 +20,10 @@ mod whole_text;
 
 pub use arguments::{named_file, words};
 pub use closed_streams::closed_stream;
-pub use judging::judge;
+pub use judging::{judge, judge_with_seed};
 pub use messages::{input_error, listing_fault};
-pub use solving::solve;
+pub use seeding::random_seed;
+pub use solving::{solve, solve_with_seed};
 pub use status::out_of_memory;
 pub use system::{Direct, Incoming, Outgoing};
 
