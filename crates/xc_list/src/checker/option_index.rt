@@ -14,7 +14,7 @@ use crate::checker::rotation::rotate;
 use indexmap::IndexSet;
 use std::alloc::{AllocError, Global};
 use std::marker::Model;
-use xc_input::{Problem, Use};
+use xc_input::{Problem, Seed, Use};
 
 /// The use whose word this is.
 fn use_of(problem: &Problem, word: &[u8]) -> Option<Use>
@@ -61,7 +61,7 @@ fn add_option(
     problem: &Problem,
     o: u32,
     rotated: &mut Vec<Use>,
-    classes: &mut IndexSet<Vec<Use>>,
+    classes: &mut IndexSet<Vec<Use>, Seed>,
     sizes: &mut Vec<usize>,
 ) -> Result<(), AllocError>
     requires option { o < option_count problem.now.puzzle }
@@ -87,7 +87,7 @@ fn add_option(
 #[derive(Drop)]
 pub struct OptionIndex<'a> {
     problem: &'a Problem,
-    classes: IndexSet<Vec<Use>>,
+    classes: IndexSet<Vec<Use>, Seed>,
     sizes: Vec<usize>,
     read: Vec<Use>,
     rotated: Vec<Use>,
@@ -110,7 +110,7 @@ impl<'a> OptionIndex<'a> {
         ensures problem { IfOk result (λ b. b.problem ≡ problem.now) }
         ensures indexed { IfOk result IsIndexed }
     {
-        let mut classes = IndexSet::new(alloc);
+        let mut classes = IndexSet::with_hasher(alloc, problem.seed());
         let mut sizes = Vec::new(alloc);
         let mut rotated = Vec::new(alloc);
         for o in 0..problem.options() {
