@@ -2,10 +2,10 @@
 ghost use Rattle.std.specs.Prelude.{◌<◌};
 
 use super::{Told, gathered};
-use crate::judge;
+use crate::{judge, judge_with_seed};
 use std::alloc::Global;
 use std::test::Fail;
-use xc_input::{Feed, Kind};
+use xc_input::{Feed, Kind, Seed};
 use xc_list::Tray;
 
 /// Coloured items, as they stand in the listing below.
@@ -58,6 +58,29 @@ pub(super) fn status_of(
 ) -> Result<u8, Fail> {
     let words: [&[u8]; 2] = [b"PROBLEM", number_of(kind)];
     Ok(run_by_words(alloc, &words, problem, listing, 4096)?.status)
+}
+
+/// The status of the judge of plain problems on this listing, by a seed.
+pub(super) fn status_by(
+    alloc: Global,
+    seed: Seed,
+    problem: &[u8],
+    listing: &[u8],
+) -> Result<u8, Fail> {
+    let words = gathered(alloc, &[b"PROBLEM", b"1"])?;
+    let mut problem = Feed::new(problem, 100, None);
+    let mut listing = Feed::new(listing, 100, None);
+    let mut out = Tray::new(alloc, 100, 100, false)?;
+    let mut err = Tray::new(alloc, 100, 100, false)?;
+    Ok(judge_with_seed(
+        alloc,
+        seed,
+        &words,
+        &mut problem,
+        &mut listing,
+        &mut out,
+        &mut err,
+    ))
 }
 
 /// Whether `judge` tells this, by steps of one byte as by large ones.
