@@ -172,6 +172,17 @@ def cut_at_each_byte():
         tell(status in (0, 2) and (status == 0 or (out == b"" and err.startswith(b"Line "))), f"a problem cut at byte {n}: {status}, {err[:80]!r}")
 
 
+def listing_cut_at_each_byte(folder):
+    """Each beginning of a listing is judged or refused, with nothing printed where it is refused."""
+    file = f"{folder}/cut.dlx"
+    with open(file, "wb") as it:
+        it.write(ROW_2)
+    listing = run(["dlx2", "m1"], ROW_2)[1]
+    for n in range(len(listing) + 1):
+        status, out, err = run(["dlxcheck", file, "2"], listing[:n])
+        tell((status in (0, 5) and err == b"") or (status == 2 and out == b"" and err.startswith(b"Listing line ")), f"a listing cut at byte {n}: {status}, {out[:80]!r}, {err[:80]!r}")
+
+
 def deep(folder):
     """A search of 50,000 levels, and its listing judged, on a small stack: what is read and written goes through 64 KB of it."""
     names = [b"n%d" % i for i in range(50000)]
@@ -244,7 +255,7 @@ def lines_in_one_write():
 
 def main():
     with tempfile.TemporaryDirectory(prefix="hostile-") as folder:
-        for part in (want_of_memory, deep, streams):
+        for part in (want_of_memory, listing_cut_at_each_byte, deep, streams):
             part(folder)
         for part in (lines_in_one_write, chosen_names, large_inputs, long_tokens, cut_at_each_byte):
             part()
