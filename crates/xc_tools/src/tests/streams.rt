@@ -172,7 +172,8 @@ fn lines_appear_when_they_end(rt: HostRuntime) -> Result<(), Fail> {
         let passed = passed_on(rt.alloc(), false, lines)?;
         assert!(rt; passed <= 10 * lines && 10 * lines - passed <= 10 + passed / 8);
     }
-    assert!(rt; 2_000_000 - passed_on(rt.alloc(), false, 200_000)? <= 65_536);
+    let passed = passed_on(rt.alloc(), false, 200_000)?;
+    assert!(rt; passed <= 2_000_000 && 2_000_000 - passed <= 65_536);
     Ok(())
 }
 
