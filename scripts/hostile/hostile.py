@@ -6,6 +6,7 @@ goes wrong is told in a line. The last line is `N passed, M failed`. Needs cc fo
 """
 import os
 import random
+import select
 import socket
 import subprocess
 import sys
@@ -130,6 +131,27 @@ def long_tokens():
     ):
         expect(f"1,000 bytes as {what}", [program], text, 2, b"", f"Line {line}: {fault}.\n".encode())
     expect("bytes past ASCII", ["dlx2", "m1"], b"\xff\xfe | \x80\n\xff\xfe \x80:\xf0\x9f\n", 0, b"1:\n \xff\xfe \x80:\xf0\x9f (1 of 1)\n", b"Altogether 1 solution.\n")
+
+
+def seen_at_once():
+    """A solution is seen before a long search behind it, in a pipe as on a terminal."""
+    pigeons, holes = [f"p{i}" for i in range(14)], [f"h{i}" for i in range(13)]
+    lines = [f"s {' '.join(pigeons)} | {' '.join(holes)}", f"s {' '.join(pigeons)}", "s"]
+    text = "\n".join(lines + [f"{p} {h}" for p in pigeons for h in holes]).encode()
+    solution = f"1:\n s {' '.join(pigeons)} (1 of 2)\n".encode()
+    for what, (ours, theirs) in (("a pipe", os.pipe()), ("a terminal", os.openpty())):
+        with subprocess.Popen([path("dlx1"), "m1"], stdin=subprocess.PIPE, stdout=theirs) as search:
+            os.close(theirs)
+            search.stdin.write(text)
+            search.stdin.close()
+            seen, till = b"", time.monotonic() + 5
+            while len(seen) < len(solution) and time.monotonic() < till:
+                if select.select([ours], [], [], 0.1)[0]:
+                    seen += os.read(ours, 1000).replace(b"\r", b"")
+            is_searching = search.poll() is None
+            search.kill()
+        os.close(ours)
+        tell(seen == solution and is_searching, f"a solution before a long search, into {what}: {seen[:80]!r}")
 
 
 def alike_in_base_257(count):
@@ -257,7 +279,7 @@ def main():
     with tempfile.TemporaryDirectory(prefix="hostile-") as folder:
         for part in (want_of_memory, listing_cut_at_each_byte, deep, streams):
             part(folder)
-        for part in (lines_in_one_write, chosen_names, large_inputs, long_tokens, cut_at_each_byte):
+        for part in (lines_in_one_write, seen_at_once, chosen_names, large_inputs, long_tokens, cut_at_each_byte):
             part()
     print(f"{tried['passed']} passed, {tried['failed']} failed")
     return 1 if tried["failed"] else 0
