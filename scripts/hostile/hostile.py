@@ -206,13 +206,13 @@ def listing_cut_at_each_byte(folder):
 
 
 def deep(folder):
-    """A search of 50,000 levels, and its listing judged, on a small stack: what is read and written goes through 64 KB of it."""
+    """A search of 50,000 levels, and its listing judged, on a stack of 64 KB."""
     names = [b"n%d" % i for i in range(50000)]
     text = b" ".join(names) + b"\n" + b"\n".join(names) + b"\n"
     file = f"{folder}/deep.dlx"
     with open(file, "wb") as it:
         it.write(text)
-    small = lambda words: ["sh", "-c", 'ulimit -s 128; exec "$@"', "sh", path(words[0]), *words[1:]]
+    small = lambda words: ["sh", "-c", 'ulimit -s 64; exec "$@"', "sh", path(words[0]), *words[1:]]
     done = subprocess.run(small(["dlx1", "m1"]), input=text, capture_output=True)
     tell(done.returncode == 0 and done.stdout.count(b"\n") == 50001, f"50,000 levels on a small stack: {done.returncode}")
     done = subprocess.run(small(["dlxcheck", file]), input=done.stdout, capture_output=True)

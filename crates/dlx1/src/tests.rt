@@ -7,7 +7,7 @@ use xc_tools::{Direct, Outgoing, solve};
 #[test]
 fn a_colour_is_refused(rt: HostRuntime) -> Result<(), Fail> {
     let mut input = Feed::new(b"A | x\nA x:1\n", 100, None);
-    let mut out = Outgoing::new(rt.stdout(), false);
+    let mut out = Outgoing::new(rt.alloc(), rt.stdout(), false)?;
     let mut err = Direct::new(rt.stderr());
     let status = solve(rt.alloc(), KIND, &[], &mut input, &mut out, &mut err);
     assert!(rt; status == 2);

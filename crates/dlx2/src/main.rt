@@ -1,6 +1,7 @@
 //! Solves exact cover problems with colours: `dlx2 [mN] [tN] < PROBLEM`.
 #![tactic(auto)]
 
+use std::alloc::AllocError;
 use std::io::IsTerminal;
 use std::process::ExitCode;
 use xc_input::Kind;
@@ -13,19 +14,22 @@ mod tests;
 const KIND: Kind = Kind::Colours;
 
 fn main(rt: HostRuntime) -> ExitCode {
+    ExitCode::from(run(&rt).unwrap_or_else(|_| out_of_memory(&mut Direct::new(rt.stderr()))))
+}
+
+/// Solves what comes on standard input, and gives the status.
+fn run(rt: &HostRuntime) -> Result<u8, AllocError> {
     let mut input = Incoming::new(Some(rt.stdin()));
-    let mut out = Outgoing::new(rt.stdout(), rt.stdout().is_terminal());
+    let mut out = Outgoing::new(rt.alloc(), rt.stdout(), rt.stdout().is_terminal())?;
     let mut err = Direct::new(rt.stderr());
-    ExitCode::from(match words(&rt) {
-        Ok(words) => solve_with_seed(
-            rt.alloc(),
-            KIND,
-            random_seed(&rt),
-            &words,
-            &mut input,
-            &mut out,
-            &mut err,
-        ),
-        Err(_) => out_of_memory(&mut err),
-    })
+    let words = words(rt)?;
+    Ok(solve_with_seed(
+        rt.alloc(),
+        KIND,
+        random_seed(rt),
+        &words,
+        &mut input,
+        &mut out,
+        &mut err,
+    ))
 }

@@ -1,6 +1,7 @@
 //! Judges a listing of a problem's solutions: `dlxcheck PROBLEM [1|2|3] < LISTING`.
 #![tactic(auto)]
 
+use std::alloc::AllocError;
 use std::io::IsTerminal;
 use std::process::ExitCode;
 use xc_tools::{
@@ -12,25 +13,26 @@ use xc_tools::{
 mod tests;
 
 fn main(rt: HostRuntime) -> ExitCode {
-    let mut listing = Incoming::new(Some(rt.stdin()));
-    let mut out = Outgoing::new(rt.stdout(), rt.stdout().is_terminal());
+    ExitCode::from(run(&rt).unwrap_or_else(|_| out_of_memory(&mut Direct::new(rt.stderr()))))
+}
+
+/// Judges the listing on standard input, and gives the status.
+fn run(rt: &HostRuntime) -> Result<u8, AllocError> {
     let mut err = Direct::new(rt.stderr());
     if let Some(status) = closed_stream(&rt.stdin(), &rt.stdout(), &rt.stderr(), &mut err) {
-        return ExitCode::from(status);
+        return Ok(status);
     }
-    ExitCode::from(match words(&rt) {
-        Ok(words) => {
-            let mut problem = named_file(&rt, &words);
-            judge_with_seed(
-                rt.alloc(),
-                random_seed(&rt),
-                &words,
-                &mut problem,
-                &mut listing,
-                &mut out,
-                &mut err,
-            )
-        }
-        Err(_) => out_of_memory(&mut err),
-    })
+    let mut listing = Incoming::new(Some(rt.stdin()));
+    let mut out = Outgoing::new(rt.alloc(), rt.stdout(), rt.stdout().is_terminal())?;
+    let words = words(rt)?;
+    let mut problem = named_file(rt, &words);
+    Ok(judge_with_seed(
+        rt.alloc(),
+        random_seed(rt),
+        &words,
+        &mut problem,
+        &mut listing,
+        &mut out,
+        &mut err,
+    ))
 }

@@ -8,7 +8,7 @@ fn a_missing_file_fails_at_its_first_read(rt: HostRuntime) -> Result<(), Fail> {
     words.push(b"data/missing.dlx".to_vec(rt.alloc())?)?;
     let mut problem = named_file(&rt, &words);
     let mut listing = Feed::new(b"", 1, None);
-    let mut out = Outgoing::new(rt.stdout(), false);
+    let mut out = Outgoing::new(rt.alloc(), rt.stdout(), false)?;
     let mut err = Direct::new(rt.stderr());
     let status = judge(
         rt.alloc(),

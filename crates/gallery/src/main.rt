@@ -2,11 +2,10 @@
 #![tactic(auto)]
 
 use std::fs;
-use std::io::IsTerminal;
 use std::process::ExitCode;
 use xc_input::Kind;
 use xc_list::{Sink, write_all};
-use xc_tools::{Direct, Incoming, Outgoing, solve};
+use xc_tools::{Direct, Incoming, solve};
 
 const PROBLEMS: [(&str, Kind); 9] = [
     ("seven.dlx", Kind::Plain),
@@ -21,7 +20,7 @@ const PROBLEMS: [(&str, Kind); 9] = [
 ];
 
 fn main(rt: HostRuntime) -> ExitCode {
-    let mut listing = Outgoing::new(rt.stdout(), rt.stdout().is_terminal());
+    let mut listing = Direct::new(rt.stdout());
     let mut messages = Direct::new(rt.stdout());
     let mut worst = 0;
     for (name, kind) in &PROBLEMS {

@@ -2,7 +2,7 @@
 //!
 //! ```text
 //! let mut input = Incoming::new(Some(rt.stdin()));
-//! let mut out = Outgoing::new(rt.stdout(), rt.stdout().is_terminal());
+//! let mut out = Outgoing::new(rt.alloc(), rt.stdout(), rt.stdout().is_terminal())?;
 //! let mut err = Direct::new(rt.stderr());
 //! let status = solve(rt.alloc(), Kind::Plain, &words(&rt)?, &mut input, &mut out, &mut err);
 //! ```

@@ -4,6 +4,7 @@ ghost use Rattle.std.specs.Io.KnownBytes.{append_known, Appends, Keeps, ReadCons
 ghost use Rattle.xc_input.specs.Calls.{counted, is_failed_write};
 ghost use Rattle.xc_tools.specs.Streams.{left_of};
 
+use std::alloc::{AllocError, Global};
 use std::io::{Read, Write};
 use xc_input::{Given, ReadFailed, Source};
 use xc_list::{Sink, WriteFailed};
@@ -99,7 +100,7 @@ impl<R: Read + Drop> Source for Incoming<R> {
 pub struct Outgoing<W: Write + Drop> {
     writer: W,
     by_line: bool,
-    held: [u8; HELD],
+    held: Vec<u8>,
     start: usize,
     end: usize,
     /// How many bytes were passed on.
@@ -112,6 +113,7 @@ pub struct Outgoing<W: Write + Drop> {
     failed: bool,
     ghost ordered: { start ≤ end },
     ghost within: { end ≤ 65536 },
+    ghost room: { length held.items ≡ 65536 },
 }
 
 /// Passes on the bytes from a place on, and says up to which place that went. A failed write isn't
@@ -140,18 +142,18 @@ fn early(by_line: bool, passed: usize) -> usize {
 
 impl<W: Write + Drop> Outgoing<W> {
     /// A sink with nothing held back, and whether it goes by lines, as for a terminal.
-    pub fn new(writer: W, by_line: bool) -> Outgoing<W>
-        ensures writer { result.writer ≡ writer }
-        ensures by_line { result.by_line ≡ by_line }
-        ensures start { result.start ≡ 0 }
-        ensures end { result.end ≡ 0 }
-        ensures failures { result.failures ≡ 0 }
-        ensures failed { result.failed ≡ false }
+    pub fn new(alloc: Global, writer: W, by_line: bool) -> Result<Outgoing<W>, AllocError>
+        ensures writer { IfOk result (λ s. s.writer ≡ writer) }
+        ensures by_line { IfOk result (λ s. s.by_line ≡ by_line) }
+        ensures start { IfOk result (λ s. s.start ≡ 0) }
+        ensures end { IfOk result (λ s. s.end ≡ 0) }
+        ensures failures { IfOk result (λ s. s.failures ≡ 0) }
+        ensures failed { IfOk result (λ s. s.failed ≡ false) }
     {
-        Outgoing {
+        Ok(Outgoing {
             writer,
             by_line,
-            held: [0; HELD],
+            held: vec![in alloc; 0; HELD]?,
             start: 0,
             end: 0,
             passed: 0,
@@ -159,7 +161,7 @@ impl<W: Write + Drop> Outgoing<W> {
             stuck: false,
             failures: 0,
             failed: false,
-        }
+        })
     }
 
     /// Counts a failure.
@@ -184,8 +186,8 @@ impl<W: Write + Drop> Outgoing<W> {
         ensures failures { self.new.failures ≡ self.old.failures }
         ensures failed { self.new.failed ≡ self.old.failed }
         ensures bytes { Keeps
-            (append_known (W.contents self.old.writer) (slice_range self.old.held self.old.start self.old.end))
-            (append_known (W.contents self.new.writer) (slice_range self.new.held self.new.start self.new.end)) }
+            (append_known (W.contents self.old.writer) (slice_range self.old.held.items self.old.start self.old.end))
+            (append_known (W.contents self.new.writer) (slice_range self.new.held.items self.new.start self.new.end)) }
     {
         let place = pass_on(&mut self.writer, &self.held[..self.end], self.start);
         self.passed = self.passed.saturating_add(place - self.start);
@@ -204,8 +206,8 @@ impl<W: Write + Drop> Outgoing<W> {
         ensures failures { self.new.failures ≡ counted (is_err result) self.old.failures }
         ensures failed { OnErr result (IsTrue self.new.failed) }
         ensures bytes { Keeps
-            (append_known (W.contents self.old.writer) (slice_range self.old.held self.old.start self.old.end))
-            (append_known (W.contents self.new.writer) (slice_range self.new.held self.new.start self.new.end)) }
+            (append_known (W.contents self.old.writer) (slice_range self.old.held.items self.old.start self.old.end))
+            (append_known (W.contents self.new.writer) (slice_range self.new.held.items self.new.start self.new.end)) }
     {
         self.pass();
         if self.stuck {
@@ -221,8 +223,8 @@ impl<W: Write + Drop> Outgoing<W> {
         ensures failures { self.new.failures ≡ counted (is_err result) self.old.failures }
         ensures failed { OnErr result (IsTrue self.new.failed) }
         ensures bytes { Keeps
-            (append_known (W.contents self.old.writer) (slice_range self.old.held self.old.start self.old.end))
-            (append_known (W.contents self.new.writer) (slice_range self.new.held self.new.start self.new.end)) }
+            (append_known (W.contents self.old.writer) (slice_range self.old.held.items self.old.start self.old.end))
+            (append_known (W.contents self.new.writer) (slice_range self.new.held.items self.new.start self.new.end)) }
     {
         if self.end < HELD && !self.stuck {
             return Ok(());
@@ -237,8 +239,8 @@ impl<W: Write + Drop> Outgoing<W> {
         ensures failures { self.new.failures ≡ self.old.failures }
         ensures failed { self.new.failed ≡ false }
         ensures bytes { Appends
-            (append_known (W.contents self.old.writer) (slice_range self.old.held self.old.start self.old.end))
-            (append_known (W.contents self.new.writer) (slice_range self.new.held self.new.start self.new.end))
+            (append_known (W.contents self.old.writer) (slice_range self.old.held.items self.old.start self.old.end))
+            (append_known (W.contents self.new.writer) (slice_range self.new.held.items self.new.start self.new.end))
             bytes.now }
     {
         put(&mut self.held, self.end, bytes);
@@ -253,8 +255,8 @@ impl<W: Write + Drop> Outgoing<W> {
         ensures failures { self.new.failures ≡ counted (is_failed_write result bytes.now) self.old.failures }
         ensures failed { self.new.failed ≡ is_failed_write result bytes.now }
         ensures bytes { WriteAppends
-            (append_known (W.contents self.old.writer) (slice_range self.old.held self.old.start self.old.end))
-            (append_known (W.contents self.new.writer) (slice_range self.new.held self.new.start self.new.end))
+            (append_known (W.contents self.old.writer) (slice_range self.old.held.items self.old.start self.old.end))
+            (append_known (W.contents self.new.writer) (slice_range self.new.held.items self.new.start self.new.end))
             result bytes.now }
     {
         self.make_room()?;
@@ -294,7 +296,7 @@ impl<W: Write + Drop> Sink for Outgoing<W> {
     ghost state = { λ s. record {
       failures = s.failures;
       failed = s.failed;
-      taken = append_known (W.contents s.writer) (slice_range s.held s.start s.end);
+      taken = append_known (W.contents s.writer) (slice_range s.held.items s.start s.end);
       settled = nat_eq s.start s.end;
     } };
 

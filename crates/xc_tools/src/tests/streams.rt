@@ -139,7 +139,7 @@ fn short_writes_of_a_long_text(rt: HostRuntime) -> Result<(), Fail> {
     let text = long_text(rt.alloc())?;
 
     let mut held = Narrow::new(rt.alloc());
-    write_and_flush(&mut Outgoing::new(&mut held, false), &text)?;
+    write_and_flush(&mut Outgoing::new(rt.alloc(), &mut held, false)?, &text)?;
     assert!(rt; held.bytes == text);
     assert!(rt; held.flushes == 1);
 
@@ -154,7 +154,7 @@ fn short_writes_of_a_long_text(rt: HostRuntime) -> Result<(), Fail> {
 fn passed_on(alloc: Global, by_line: bool, lines: usize) -> Result<usize, Fail> {
     let mut writer = Narrow::new(alloc);
     {
-        let mut out = Outgoing::new(&mut writer, by_line);
+        let mut out = Outgoing::new(alloc, &mut writer, by_line)?;
         for _ in 0..lines {
             write_all(&mut out, b" A (1 of ")?;
             write_all(&mut out, b"\n")?;

@@ -5,8 +5,8 @@ use Rattle.xc_tools.proofs.system.Outgoing.pass.Goals as goal
 
 pub returns-then-not-self-clause-bytes : goal.returns-then-not-self-clause-bytes
 returns-then-not-self-clause-bytes g c =
-    kept_all _ _ c.args.self.now.held c.args.self.now.start c.pass_on-place.result c.args.self.now.end c.pass_on-place.ensures.within.0 c.pass_on-place.ensures.within.1 (grind (arith, common_steps)) (grind (arith, common_steps, c.if-not-self.true)) c.pass_on-place.ensures.passed
+    kept_all _ _ c.args.self.now.held.items c.args.self.now.start c.pass_on-place.result c.args.self.now.end c.pass_on-place.ensures.within.0 (rw c.deref.ensures.value at c.pass_on-place.ensures.within.1) (grind (arith, common_steps)) (grind (arith, common_steps, c.if-not-self.true)) (rw c.deref.ensures.value at c.pass_on-place.ensures.passed)
 
 pub returns-else-not-self-clause-bytes : goal.returns-else-not-self-clause-bytes
 returns-else-not-self-clause-bytes g c =
-    kept_part _ _ c.args.self.now.held c.args.self.now.start c.pass_on-place.result c.args.self.now.end c.pass_on-place.ensures.within.0 c.pass_on-place.ensures.within.1 (grind (arith, common_steps)) c.pass_on-place.ensures.passed
+    kept_part _ _ c.args.self.now.held.items c.args.self.now.start c.pass_on-place.result c.args.self.now.end c.pass_on-place.ensures.within.0 (rw c.deref.ensures.value at c.pass_on-place.ensures.within.1) (grind (arith, common_steps)) (rw c.deref.ensures.value at c.pass_on-place.ensures.passed)
