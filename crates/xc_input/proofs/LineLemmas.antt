@@ -9,7 +9,7 @@ use Rattle.xc_input.specs.Words.{has, before, after}
 use Rattle.xc_input.specs.Tokens.{at_front}
 use Rattle.xc_input.specs.Stages.{no_stage}
 use Rattle.xc_input.specs.Readings.{Reading, IsStateOf}
-use Rattle.xc_input.specs.inner.Feeding.{IsErrorOf, fed, IsBetween, Spoils}
+use Rattle.xc_input.specs.inner.Feeding.{IsErrorOf, fed, IsBetween, Spoils, Ended}
 use Rattle.xc_input.specs.Lines.{lines_of, ended, AreWhole}
 use Rattle.xc_input.proofs.GrammarLemmas.{or-false, or-both, cut-is}
 use Rattle.xc_input.proofs.ReadLemmas.{fault-stays}
@@ -67,11 +67,6 @@ pub Spoils-more : (kind : Kind) (bytes more all : List ℕ) (e : InputError) →
 Spoils-more kind bytes more all e f h = λ others. subst (λ bs. IsErrorOf kind (lines_of bs) e) (sym (ap (λ bs. bs ++ others) f ∙ append_assoc bytes more others)) (h (more ++ others))
 
 -- the answer to a line that ends
-pub record Ended (old new : Reading) (carry end left : List ℕ) (r : Result (Unit {0}) InputError) : Type 0 where
-  pub bytes : OnOk r (fed new left ≡ (fed old carry ++ end) ++ 10 ∷ [])
-  pub state : OnOk r (IsBetween new left)
-  pub err : IfErr r (Spoils old.kind ((fed old carry ++ end) ++ 10 ∷ []))
-
 bytes-are : (old new : Reading) (carry end whole : List ℕ) → whole ≡ carry ++ end → new.lines ≡ old.lines ++ whole ∷ [] → (fed old carry ++ end) ++ 10 ∷ [] ≡ ended new.lines
 bytes-are old new carry end whole f g =
     let a : (fed old carry ++ end) ++ 10 ∷ [] ≡ (ended old.lines ++ (carry ++ end)) ++ 10 ∷ [] = ap (λ bs. bs ++ 10 ∷ []) (append_assoc (ended old.lines) carry end) in
@@ -92,10 +87,6 @@ ends old new carry end whole left (Err x) b l f k g e s n =
     let lack : has 10 whole ≡ false = ap (has 10) f ∙ lacks-append 10 carry end b.partial l in
     let w : AreWhole new.lines = whole-more old.lines new.lines whole g b.whole lack in
     record { bytes = tt; state = tt; err = subst (λ kind. Spoils kind ((fed old carry ++ end) ++ 10 ∷ []) x) k (Spoils-ended new.kind new.lines x _ w (bytes-are old new carry end whole f g) s) }
-
-pub grown : {E : Type 0} (r : Result (Unit {0}) E) (old new more : List ℕ) → is_err r ≡ false → new ≡ (if is_ok r then old ++ more else old) → new ≡ old ++ more
-grown (Ok x) old new more e f = f
-grown (Err x) old new more e f = absurd (cc)
 
 -- a piece of a line is carried on
 pub between-more : (reading : Reading) (carry rest new : List ℕ) → IsBetween reading carry → has 10 rest ≡ false → new ≡ carry ++ rest → IsBetween reading new

@@ -7,10 +7,10 @@ use Rattle.xc_input.specs.declared.kind.Kind.{Kind}
 use Rattle.xc_input.specs.declared.fault.InputError.{InputError}
 use Rattle.xc_input.specs.declared.fault.InputError.TheVariants.{Fault, Device, Memory}
 use Rattle.xc_input.specs.declared.reader.Read.{Read}
-use Rattle.xc_input.specs.inner.Feeding.{Spoils}
+use Rattle.xc_input.specs.inner.Feeding.{Spoils, EndsAs}
 use Rattle.xc_input.specs.Lines.{lines_of}
 use Rattle.xc_input.specs.Pieces.{Gave, GaveAll, IsWhole, IsPart}
-use Rattle.xc_input.proofs.SourceLemmas.{EndsAs, error-ends}
+use Rattle.xc_input.proofs.SourceLemmas.{error-ends}
 
 -- one read more gave some bytes
 pub gave_more : (a b c : List (List ℕ)) (bytes piece : List ℕ) → Gave a b bytes → 0 < length piece → c ≡ b ++ piece ∷ [] → Gave a c (bytes ++ piece)

@@ -9,20 +9,13 @@ use Rattle.xc_input.specs.Named.{Named}
 use Rattle.xc_input.specs.Stages.{stage_of, end_fault}
 use Rattle.xc_input.specs.Text.{StandsFor}
 use Rattle.xc_input.specs.Readings.{Reading, IsFault}
-use Rattle.xc_input.specs.inner.Feeding.{IsErrorOf, IsEndOf, fed, IsBetween, Spoils}
+use Rattle.xc_input.specs.inner.Feeding.{IsErrorOf, IsEndOf, fed, IsBetween, Spoils, EndsAs}
 use Rattle.xc_input.specs.Lines.{lines_of, IsTextOf}
 use Rattle.xc_input.specs.Inputs.{IsFaultOf, Counts, IsCut}
 use Rattle.xc_input.proofs.FinishLemmas.{refutes}
 use Rattle.xc_input.proofs.LineLemmas.{lines_of-ended, lines_of-part}
 use Rattle.std.specs.Option.{option_or}
 use Rattle.std.proofs.lemmas.List.{nil_from_length}
-
--- what an answer says of lines
-pub record EndsAs (kind : Kind) (lines : List (List ℕ)) (r : Result Read InputError) : Type 0 where
-  pub accepted : IfOk r (λ x. StandsFor kind lines x.problem x.ignored.items)
-  pub only : IfOk r (λ x. (p : Named) (ignored : List ℕ) → StandsFor kind lines p ignored → (p ≡ x.problem) × (ignored ≡ x.ignored.items))
-  pub first : IfErr r (λ e. IsEndOf kind lines e)
-  pub refused : IfErr r (λ e. IsFault e → (p : Named) (ignored : List ℕ) → StandsFor kind lines p ignored → ⊥)
 
 pub ends-as : (kind now : Kind) (lines told : List (List ℕ)) (r : Result Read InputError) → now ≡ kind → told ≡ lines → EndsAs now told r → EndsAs kind lines r
 ends-as kind now lines told r e f h = subst (λ k. EndsAs k lines r) e (subst (λ ls. EndsAs now ls r) f h)

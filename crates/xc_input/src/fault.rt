@@ -2,7 +2,10 @@
 
 ghost use Rattle.std.specs.Prelude.{◌≡◌};
 ghost use Rattle.xc_input.specs.FaultTexts.{fault_text};
+ghost use Rattle.xc_input.specs.declared.fault.InputError.TheVariants.{Device, Memory};
 
+use crate::source::ReadFailed;
+use std::alloc::AllocError;
 use std::fmt;
 use thiserror::Error;
 
@@ -72,4 +75,20 @@ pub enum InputError {
     Device,
     #[error("out of memory")]
     Memory,
+}
+
+impl From<ReadFailed> for InputError {
+    ghost from_gives = { λ _ e. e ≡ Device };
+
+    fn from(_: ReadFailed) -> InputError {
+        InputError::Device
+    }
+}
+
+impl From<AllocError> for InputError {
+    ghost from_gives = { λ _ e. e ≡ Memory };
+
+    fn from(_: AllocError) -> InputError {
+        InputError::Memory
+    }
 }

@@ -4,7 +4,7 @@ ghost use Rattle.std.specs.Prelude.{◌≡◌, ◌++◌, ◌∷◌, [], ℕ, Lis
 ghost use Rattle.xc_input.specs.Words.{has};
 ghost use Rattle.xc_input.specs.Named.{Named, IsSound};
 ghost use Rattle.xc_input.specs.Readings.{IsFault};
-ghost use Rattle.xc_input.specs.inner.Feeding.{IsEndOf, fed, IsBetween, Spoils};
+ghost use Rattle.xc_input.specs.inner.Feeding.{fed, IsBetween, Spoils, Ended, EndsAs};
 ghost use Rattle.xc_input.specs.Lines.{IsTextOf, lines_of};
 ghost use Rattle.xc_input.specs.Inputs.{IsFaultOf, Counts, IsCut};
 ghost use Rattle.xc_input.specs.Pieces.{IsWhole, IsPart};
@@ -15,6 +15,9 @@ use crate::source::Source;
 use crate::tokens::cut_at;
 use crate::{InputError, Kind};
 use std::alloc::{AllocError, Global};
+
+/// How many bytes are asked of a source at once.
+const PIECE: usize = 65536;
 
 /// Reads the source to its end, or to the first error, by the fixed seed.
 pub fn read_problem<S: Source>(
@@ -55,29 +58,23 @@ pub fn read_problem_with_seed<S: Source>(
 {
     let mut reader = Reader::with_seed(alloc, kind, seed);
     let mut carry = Vec::new(alloc);
-    let Ok(mut store) = buffer(alloc, 65536) else {
-        return Err(InputError::Memory);
-    };
+    let mut store = buffer(alloc)?;
     let buf = store.as_mut_slice();
     'reading: loop {
-        match source.read(buf) {
-            Err(_) => return Err(InputError::Device),
-            Ok(0) => break,
-            Ok(n) => {
-                if let Err(e) = feed(&mut reader, &mut carry, &buf[..n]) {
-                    return Err(e);
-                }
-            }
+        let n = source.read(buf)?;
+        if n == 0 {
+            break;
         }
+        feed(&mut reader, &mut carry, &buf[..n])?;
     }
     end_text(reader, carry.as_slice())
 }
 
 /// A buffer of zeros.
-fn buffer(alloc: Global, n: usize) -> Result<Vec<u8>, AllocError>
-    ensures { IfOk result (λ v. length v.items ≡ n) }
+fn buffer(alloc: Global) -> Result<Vec<u8>, AllocError>
+    ensures { IfOk result (λ v. length v.items ≡ 65536) }
 {
-    vec![in alloc; 0; n]
+    vec![in alloc; 0; PIECE]
 }
 
 /// Hands on the lines that end in a piece, and carries on the rest.
@@ -90,14 +87,10 @@ fn feed(reader: &mut Reader, carry: &mut Vec<u8>, piece: &[u8]) -> Result<(), In
 {
     let mut rest = piece;
     while let Some((end, others)) = next_line(rest) {
-        if let Err(e) = end_line(reader, carry, end) {
-            return Err(e);
-        }
+        end_line(reader, carry, end)?;
         rest = others;
     }
-    if carry.extend_from_slice(rest).is_err() {
-        return Err(InputError::Memory);
-    }
+    carry.extend_from_slice(rest)?;
     Ok(())
 }
 
@@ -117,16 +110,12 @@ fn end_line(reader: &mut Reader, carry: &mut Vec<u8>, end: &[u8]) -> Result<(), 
     requires state { IsBetween reader.old carry.old.items }
     requires piece { has 10 end.now ≡ false }
     ensures kind { reader.new.kind ≡ reader.old.kind }
-    ensures fed { OnOk result (fed reader.new carry.new.items ≡ fed reader.old carry.old.items ++ end.now ++ 10 ∷ []) }
-    ensures state { OnOk result (IsBetween reader.new carry.new.items) }
-    ensures err { IfErr result (Spoils reader.old.kind (fed reader.old carry.old.items ++ end.now ++ 10 ∷ [])) }
+    ensures ended { Ended reader.old reader.new carry.old.items end.now carry.new.items result }
 {
     if carry.is_empty() {
         return reader.line(end);
     }
-    if carry.extend_from_slice(end).is_err() {
-        return Err(InputError::Memory);
-    }
+    carry.extend_from_slice(end)?;
     let outcome = reader.line(carry.as_slice());
     carry.clear();
     outcome
@@ -135,17 +124,12 @@ fn end_line(reader: &mut Reader, carry: &mut Vec<u8>, end: &[u8]) -> Result<(), 
 /// Takes the last line, where the text doesn't end behind a line feed.
 fn end_text(mut reader: Reader, carry: &[u8]) -> Result<Read, InputError>
     requires { IsBetween reader carry.now }
-    ensures accepted { IfOk result (λ r. IsTextOf reader.kind (fed reader carry.now) r.problem r.ignored.items) }
-    ensures only { IfOk result (λ r. (p : Named) (ignored : List ℕ) → IsTextOf reader.kind (fed reader carry.now) p ignored → (p ≡ r.problem) × (ignored ≡ r.ignored.items)) }
     ensures valid { IfOk result (λ r. IsSound r.problem) }
-    ensures first { IfErr result (λ e. IsEndOf reader.kind (lines_of (fed reader carry.now)) e) }
-    ensures refused { IfErr result (λ e. IsFault e → (p : Named) (ignored : List ℕ) → IsTextOf reader.kind (fed reader carry.now) p ignored → ⊥) }
+    ensures answer { EndsAs reader.kind (lines_of (fed reader carry.now)) result }
 {
     if carry.is_empty() {
         return reader.finish();
     }
-    if let Err(e) = reader.line(carry) {
-        return Err(e);
-    }
+    reader.line(carry)?;
     reader.finish()
 }

@@ -1,11 +1,11 @@
 //! Reads a whole text.
-ghost use Rattle.std.specs.Prelude.{◌≡◌, length, IfOk, IfSome, MatchResult};
-ghost use Rattle.xc_input.specs.Calls.{Rose};
+ghost use Rattle.std.specs.Prelude.{◌≡◌, length, IfOk, IfSome};
 ghost use Rattle.xc_input.specs.Pieces.{GaveAll};
 ghost use Rattle.xc_tools.specs.WholeTexts.{IsCounted};
+ghost use Rattle.xc_tools.specs.declared.whole_text.TextError.TheVariants.{Device, Memory};
 
 use std::alloc::{AllocError, Global};
-use xc_input::Source;
+use xc_input::{ReadFailed, Source};
 
 /// How many bytes are asked of a source at once.
 const PIECE: usize = 65536;
@@ -17,6 +17,22 @@ pub(crate) enum TextError {
     Memory,
 }
 
+impl From<ReadFailed> for TextError {
+    ghost from_gives = { λ _ e. e ≡ Device };
+
+    fn from(_: ReadFailed) -> TextError {
+        TextError::Device
+    }
+}
+
+impl From<AllocError> for TextError {
+    ghost from_gives = { λ _ e. e ≡ Memory };
+
+    fn from(_: AllocError) -> TextError {
+        TextError::Memory
+    }
+}
+
 /// All that a source gives.
 pub(crate) fn read_text<S: Source>(alloc: Global, source: &mut S) -> Result<Vec<u8>, TextError>
     ensures text { IfSome (S.rest source.old) (λ bytes. IfOk result (λ text. text.items ≡ bytes)) }
@@ -24,22 +40,15 @@ pub(crate) fn read_text<S: Source>(alloc: Global, source: &mut S) -> Result<Vec<
     ensures counted { IsCounted (S.failures source.old) (S.failures source.new) result }
 {
     let mut text = Vec::new(alloc);
-    let Ok(mut store) = buffer(alloc) else {
-        return Err(TextError::Memory);
-    };
+    let mut store = buffer(alloc)?;
     let buf = store.as_mut_slice();
     'reading: loop {
-        match source.read(buf) {
-            Err(_) => return Err(TextError::Device),
-            Ok(0) => break,
-            Ok(n) => {
-                if text.extend_from_slice(&buf[..n]).is_err() {
-                    return Err(TextError::Memory);
-                }
-            }
+        let n = source.read(buf)?;
+        if n == 0 {
+            return Ok(text);
         }
+        text.extend_from_slice(&buf[..n])?;
     }
-    Ok(text)
 }
 
 /// A buffer of zeros.

@@ -1,10 +1,13 @@
 -- No public clause cites this module. A reader that is fed a text in pieces.
-use Rattle.std.specs.Prelude.{◌≡◌, ℕ, List, ◌++◌, false, None}
+use Rattle.std.specs.Prelude.{◌≡◌, ℕ, List, [], ◌∷◌, ◌++◌, false, None, Result, OnOk, IfOk, IfErr}
 use Rattle.xc_input.specs.declared.kind.Kind.{Kind}
 use Rattle.xc_input.specs.declared.fault.InputError.{InputError}
+use Rattle.xc_input.specs.declared.reader.Read.{Read}
 use Rattle.xc_input.specs.Words.{has}
+use Rattle.xc_input.specs.Named.{Named}
+use Rattle.xc_input.specs.Text.{StandsFor}
 use Rattle.xc_input.specs.Stages.{line_fault, first_fault}
-use Rattle.xc_input.specs.Readings.{Reading, IsErrorFor}
+use Rattle.xc_input.specs.Readings.{Reading, IsErrorFor, IsFault}
 use Rattle.xc_input.specs.Lines.{lines_of, ended, AreWhole}
 
 -- an error of the lines so far
@@ -29,3 +32,17 @@ pub record IsBetween (reading : Reading) (carry : List ℕ) : Type 0 where
 -- however the text goes on, this is its error
 abbrev pub Spoils : Kind → List ℕ → InputError → Type 0
 Spoils kind bytes e = (more : List ℕ) → IsErrorOf kind (lines_of (bytes ++ more)) e
+
+-- What an answer to a line that ends says. It stood behind what is carried on, and now this is left.
+pub record Ended (old new : Reading) (carry end left : List ℕ) (r : Result (Unit {0}) InputError) : Type 0 where
+  pub bytes : OnOk r (fed new left ≡ (fed old carry ++ end) ++ 10 ∷ [])
+  pub state : OnOk r (IsBetween new left)
+  pub err : IfErr r (Spoils old.kind ((fed old carry ++ end) ++ 10 ∷ []))
+
+-- What an answer says of the lines of a text: the problem that they stand for, and no other, or their first fault.
+pub record EndsAs (kind : Kind) (lines : List (List ℕ)) (r : Result Read InputError) : Type 0 where
+  pub accepted : IfOk r (λ x. StandsFor kind lines x.problem x.ignored.items)
+  pub only : IfOk r (λ x. (p : Named) (ignored : List ℕ) → StandsFor kind lines p ignored
+      → (p ≡ x.problem) × (ignored ≡ x.ignored.items))
+  pub first : IfErr r (λ e. IsEndOf kind lines e)
+  pub refused : IfErr r (λ e. IsFault e → (p : Named) (ignored : List ℕ) → StandsFor kind lines p ignored → ⊥)
