@@ -28,6 +28,8 @@ install:
 dist:
 	rm -rf $(DIST) && mkdir $(DIST)
 	$(MAKE) install DESTDIR=$(DIST) PREFIX=
+	mkdir -p $(DIST)/scripts/split
 	cp -rL examples README.md CHANGELOG.md docs $(DIST)/
+	cp scripts/split/split scripts/split/run scripts/split/join $(DIST)/scripts/split/
 	cd $(DIST) && find . -type f ! -name SHA256SUMS | LC_ALL=C sort | xargs sha256sum > SHA256SUMS
 	tar -czf $(DIST).tar.gz $(DIST)
