@@ -6,22 +6,27 @@ use anyhow::{Result, bail};
 use std::io;
 use xc_dance::Links;
 use xc_input::{Kind, read_problem};
-use xc_search::{Search, Step, most_moves};
+use xc_search::{Choice, Search, Step, most_moves};
 use xc_tools::Incoming;
 
-/// Prints a line for each cover that the search has to come.
+/// Prints the numbers of a solution's options, to the end of the line.
+fn print_options(rt: &impl Print, choices: &[Choice]) -> io::Result<()> {
+    for choice in choices {
+        if let Some(option) = choice.option {
+            print!(rt; " {option}")?;
+        }
+    }
+    println!(rt)
+}
+
+/// Prints a line for each solution that the search has to come.
 fn print_covers(rt: &impl Print, search: &mut Search<Links>) -> io::Result<()> {
     for number in 1..u64::MAX {
         if search.next() == Step::Done {
             break;
         }
         print!(rt; "{number}:")?;
-        for choice in search.choices() {
-            if let Some(option) = choice.option {
-                print!(rt; " {option}")?;
-            }
-        }
-        println!(rt)?;
+        print_options(rt, search.choices())?;
     }
     Ok(())
 }
