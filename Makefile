@@ -12,8 +12,7 @@ test:
 test-hostile:
 	@python3 scripts/hostile/hostile.py
 test-docs:
-	@sh tests/guide.sh docs/GUIDE.md
-	@sh tests/guide.sh docs/FAQ.md
+	@for page in README.md docs/GUIDE.md docs/FAQ.md man/*.1; do sh tests/guide.sh $$page || exit 1; done
 	@PATH=$$PWD/crates/dlx1/out:$$PWD/crates/dlx2/out:$$PWD/crates/dlx3/out:$$PWD/crates/dlxcheck/out:$$PATH scripts/split/trial.py 300 1
 
 # A program is built by running it once; `dlxcheck` without words ends with status 1.
@@ -29,6 +28,8 @@ install:
 dist:
 	rm -rf $(DIST) && mkdir $(DIST)
 	$(MAKE) install DESTDIR=$(DIST) PREFIX=
+	mkdir -p $(DIST)/scripts/split
 	cp -rL examples README.md CHANGELOG.md docs $(DIST)/
+	cp scripts/split/split scripts/split/run scripts/split/join $(DIST)/scripts/split/
 	cd $(DIST) && find . -type f ! -name SHA256SUMS | LC_ALL=C sort | xargs sha256sum > SHA256SUMS
 	tar -czf $(DIST).tar.gz $(DIST)

@@ -1,7 +1,8 @@
 #!/bin/sh
 # sh tests/guide.sh docs/GUIDE.md, in the repository's top folder: pastes each `sh` block of the page, in order,
 # into one shell, and compares what comes, standard error included, with the block behind it, or with nothing where
-# none is. So too each command of its two tables, with the row's message or status. Prints what differs, and nothing else.
+# none is. So too each command of its two tables, with the row's message or status. Of a manual page it runs the
+# examples, each line behind `$`, with the programs on the path. Prints what differs, and nothing else.
 [ $# = 1 ] && [ -r "$1" ] || { echo "Usage: sh guide.sh PAGE" >&2; exit 2; }
 folder=$(mktemp -d) || exit 2
 trap 'rm -rf "$folder"' EXIT
@@ -11,6 +12,10 @@ mkdir "$folder/got" "$folder/want" "$folder/tmp"
 # One script of all blocks, each with its output in a file of its own; the page's outputs beside it.
 # A file's name is the line of the page on which the block or row stands.
 awk -v folder="$folder" '
+function plain(line) {
+    sub(/^    /, "", line); gsub(/\\\\/, "\001", line); gsub(/\\-/, "-", line); gsub("\001", "\\", line)
+    return line
+}
 function begin() { print "{" > script; at = sprintf("%05d", NR); want = folder "/want/" at; printf "" > want }
 function end() { print "} >\"" folder "/got/" at "\" 2>&1 </dev/null" > script }
 function code(text) {
@@ -18,6 +23,17 @@ function code(text) {
     return substr(text, 2, length(text) - 2)
 }
 BEGIN { script = folder "/all.sh"; printf "" > script }
+FILENAME ~ /[.]1$/ {
+    if ($0 == ".nf") inside = "man"
+    else if ($0 == ".fi") inside = ""
+    else if (inside == "man" && /^    [$] /) {
+        if (want == "") print "cd \"$TMPDIR\"" > script
+        close(want); begin(); print substr(plain($0), 3) > script; end()
+    }
+    else if (inside == "man" && want == "") { print "line " NR ": output of no command"; bad = 1 }
+    else if (inside == "man") print plain($0) > want
+    next
+}
 inside == "sh" && $0 == "```" { end(); inside = ""; close(want); fresh = 1; next }
 inside == "sh" { print > script; next }
 inside == "text" && $0 == "```" { inside = ""; close(want); fresh = 0; next }
@@ -41,6 +57,7 @@ $0 == "```" { if (fresh == 0) { print "line " NR ": output of no command"; bad =
 END { close(script); if (want == "") { print "no commands"; bad = 1 }; exit bad }
 ' "$1" || exit 1
 
+case $1 in *.1) for program in crates/*/out; do PATH=$PWD/$program:$PATH; done ;; esac
 TMPDIR="$folder/tmp" sh "$folder/all.sh" || :
 differ=0
 for want in "$folder"/want/*; do

@@ -2,11 +2,12 @@
 """bench.py FOLDER [--c FOLDER]... [--c-alone] [--repeat K] [--only NAME,..] [--most SECONDS]
 
 Counts the solutions of the problems that problems.py wrote into FOLDER, by the programs that `make all` built and,
-beside them, by other solvers: C programs dlx1, dlx2 and dlx3 in each folder given by --c, and clasp and Gecode
-(fzn-gecode) where they are installed, as 0-1 problems that are made from the same texts. All take turns. Told are
-ratios of CPU time, ours to theirs, the median of K runs (3): below 1 ours is faster. A run of theirs may take so many
-seconds (60); where it takes longer, the ratio is at most the one told. --c-alone leaves clasp and Gecode out. Then come the ratios of the most memory held, and
-how time and memory grow with the problem. Each run has to end with the problem's number of solutions.
+beside them, by other solvers: C programs dlx1, dlx2 and dlx3 in each folder given by --c, and, where they are
+installed, clasp and Gecode (fzn-gecode), as 0-1 problems that are made from the same texts, and Sage's dancing links
+(sage), for problems of kind 1. All take turns. Told are ratios of CPU time, ours to theirs, the median of K runs (3):
+below 1 ours is faster. A run of theirs may take so many seconds (60); where it takes longer, the ratio is at most the
+one told. --c-alone leaves all but C out. Then come the ratios of the most memory held, and how time and memory grow
+with the problem. Each run has to end with the problem's number of solutions.
 """
 
 import argparse
@@ -22,7 +23,8 @@ from collections import defaultdict
 
 import problems
 
-TOP = os.path.dirname(os.path.dirname(os.path.dirname(os.path.abspath(__file__))))
+HERE = os.path.dirname(os.path.abspath(__file__))
+TOP = os.path.dirname(os.path.dirname(HERE))
 
 
 class Run:
@@ -47,6 +49,8 @@ def limits(most):
 
 class Exact:
     """A program that reads the problem as it stands."""
+
+    kinds = (1, 2, 3)
 
     def __init__(self, name, folder):
         self.name, self.folder = name, folder
@@ -94,7 +98,7 @@ def linear(text):
 
 
 class Clasp:
-    name = "clasp"
+    name, kinds = "clasp", (1, 2, 3)
 
     def run(self, problem, text, most):
         count, sums = linear(text)
@@ -109,7 +113,7 @@ class Clasp:
 
 
 class Gecode:
-    name = "Gecode"
+    name, kinds = "Gecode", (1, 2, 3)
 
     def run(self, problem, text, most):
         count, sums = linear(text)
@@ -127,6 +131,19 @@ class Gecode:
             file.flush()
             done = Run(["fzn-gecode", "-n", "0", "-s", file.name], most)
         return done, re.search(r"^%%%mzn-stat: solutions=(\d+)", done.output, re.M)
+
+
+class Sage:
+    """Sage's start is long, so its script tells the time behind it."""
+
+    name, kinds = "Sage", (1,)
+
+    def run(self, problem, text, most):
+        done = Run(["sage", "-python", os.path.join(HERE, "sage_count.py"), text], most)
+        told = re.search(r"^Seconds: ([0-9.]+)$", done.output, re.M)
+        if done.seconds is not None and told:
+            done.seconds = float(told.group(1))
+        return done, re.search(r"^Solutions: (\d+)$", done.output, re.M)
 
 
 def measured(solver, problem, text, most, times, memory):
@@ -159,12 +176,15 @@ def compare(folder, solvers, only, repeat, most):
         for _ in range(repeat):
             for solver in solvers:
                 limit = 3600 if solver is ours else most
-                if solver.name not in late:
+                if solver.name not in late and problem.kind in solver.kinds:
                     if not measured(solver, problem, text, limit, times[solver.name], memory[solver.name]):
                         late.add(solver.name)
         own = statistics.median(times[ours.name])
         cells = []
         for other in others:
+            if problem.kind not in other.kinds:
+                cells.append("")
+                continue
             if other.name in late:
                 cells.append(f"< {own / most:.3f}")
                 continue
@@ -211,7 +231,8 @@ def main():
     given = parser.parse_args()
     ours = Exact("ours", os.path.join(TOP, "crates", "dlx{0}", "out"))
     in_c = [Exact(os.path.basename(os.path.abspath(folder)), os.path.abspath(folder)) for folder in given.c]
-    others = [solver for solver, program in ((Clasp(), "clasp"), (Gecode(), "fzn-gecode")) if shutil.which(program)]
+    installed = (Clasp(), "clasp"), (Gecode(), "fzn-gecode"), (Sage(), "sage")
+    others = [solver for solver, program in installed if shutil.which(program)]
     others = [] if given.c_alone else others
     compare(given.folder, [ours] + in_c + others, set(filter(None, given.only.split(","))), given.repeat, given.most)
     grow([ours] + in_c, given.most)

@@ -7,16 +7,19 @@ use xc_input::Kind;
 use xc_list::{Sink, write_all};
 use xc_tools::{Direct, Incoming, solve};
 
-const PROBLEMS: [(&str, Kind); 9] = [
+const PROBLEMS: [(&str, Kind); 12] = [
     ("seven.dlx", Kind::Plain),
     ("queens.dlx", Kind::Plain),
     ("langford.dlx", Kind::Plain),
     ("pentominoes.dlx", Kind::Plain),
     ("sudoku.dlx", Kind::Plain),
+    ("soma.dlx", Kind::Plain),
     ("words.dlx", Kind::Colours),
     ("squares.dlx", Kind::Colours),
+    ("wheel.dlx", Kind::Colours),
     ("covering.dlx", Kind::Bounds),
     ("timetable.dlx", Kind::Bounds),
+    ("guards.dlx", Kind::Bounds),
 ];
 
 fn main(rt: HostRuntime) -> ExitCode {
