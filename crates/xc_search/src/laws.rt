@@ -1,9 +1,10 @@
 //! Laws of the listing: its members are the covers, each once.
-ghost use Rattle.std.specs.Prelude.{◌≡◌, [], ◌∷◌, Some, None};
-ghost use Rattle.xc_input.specs.Problem.{Puzzle, IsValid};
+ghost use Rattle.std.specs.Prelude.{ℕ, ◌≡◌, [], ◌∷◌, map, Some, None};
+ghost use Rattle.xc_input.specs.Problem.{Puzzle, IsValid, numbered_options, holding};
 ghost use Rattle.xc_search.specs.Listing.{Residual, branch_item, level, listing};
 ghost use Rattle.xc_search.specs.Worked.{choice, seven_items, two_colours, once_or_twice, equal_options, missing_item, one_colour, up_to_twice, no_options, largest_bound, both_options, blank_secondary, bounds_and_colours, bound_beside_one};
-ghost use Rattle.xc_search.specs.Cover.{members, EachMemberCovers, EachCoverIsListed, EachCoverIsListedOnce, NoSetTwice};
+ghost use Rattle.xc_search.specs.Cover.{options_of, members, EachMemberCovers, EachCoverIsListed, EachCoverIsListedOnce, NoSetTwice};
+ghost use Rattle.xc_search.specs.Parts.{IsHeldOnce, part, in_problem, PartsJoin, PartsAreApart};
 
 /// The listing is one level over itself.
 pub fn listing_unrolls()
@@ -28,6 +29,16 @@ pub fn no_set_twice()
 /// Each cover of a valid problem is the set of options of exactly one member of its listing.
 pub fn each_cover_is_listed_once()
     ensures { (p : Puzzle) → IsValid p → EachCoverIsListedOnce p }
+{}
+
+/// The covers of a problem are those of its parts by an item that is to be held exactly once.
+pub fn parts_join()
+    ensures { (p : Puzzle) → IsValid p → (i : ℕ) → IsHeldOnce p i → PartsJoin p i }
+{}
+
+/// No cover of one such part is one of another.
+pub fn parts_are_apart()
+    ensures { (p : Puzzle) → IsValid p → (i : ℕ) → IsHeldOnce p i → PartsAreApart p i }
 {}
 
 /// The listings of worked problems, computed by the definitions.
@@ -60,4 +71,11 @@ pub fn worked_listings()
     ensures bound_beside_one { members bound_beside_one
         ≡ (choice 2 (Some 1) 1 1 ∷ choice 1 (Some 2) 1 2 ∷ []) ∷ (choice 2 (Some 1) 1 1 ∷ choice 1 None 2 2 ∷ [])
         ∷ [] }
+{}
+
+/// The covers of a worked problem's parts by its first item, computed by the definitions.
+pub fn worked_parts()
+    ensures { map (λ x. map (λ m. in_problem seven_items 1 x (options_of m)) (members (part seven_items 1 x)))
+        (holding 1 (numbered_options seven_items))
+        ≡ [] ∷ ((4 ∷ 5 ∷ 1 ∷ []) ∷ []) ∷ [] }
 {}

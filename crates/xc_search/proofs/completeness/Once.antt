@@ -102,7 +102,7 @@ rise_behind r w b rise (inl t) = subst (λ (z : Residual). NumbersRise 0 z.optio
 rise_behind r w b rise (inr t) = subst (λ (z : Residual). NumbersRise 0 z.options) (sym t.next) (NumbersRise-filter (λ o. not (holds o w.item)) 0 r.options rise)
 
 -- numbers that rise, two by two
-two_rise : (n : ℕ) (os : List Numbered) → NumbersRise n os → EachTwo (λ x y. x.number < y.number) os
+pub two_rise : (n : ℕ) (os : List Numbered) → NumbersRise n os → EachTwo (λ x y. x.number < y.number) os
 two_rise n [] r = tt
 two_rise n (o ∷ os) r = (each_from (λ y. o.number < y.number) os (λ y k. above_in o.number os y r.1 k), two_rise o.number os r.1)
 

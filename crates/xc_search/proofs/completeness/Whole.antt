@@ -24,14 +24,14 @@ use Rattle.xc_search.proofs.residual.OptionUses.{own_colours, apart_from_pairs}
 abbrev pub is_listed : List ℕ → ℕ → Bool
 is_listed s k = list_any (λ a. eqb a k) s
 
-listed_in : (s : List ℕ) (k : ℕ) → is_listed s k ≡ true → IsIn s k
+pub listed_in : (s : List ℕ) (k : ℕ) → is_listed s k ≡ true → IsIn s k
 listed_in [] k e = cc
 listed_in (a ∷ s) k e = elim (eqb a k) as (λ b. eqb a k ≡ b → (b || is_listed s k) ≡ true → IsIn (a ∷ s) k) [
   | true ↦ λ q h. inl (eqb-true a k q)
   | false ↦ λ q h. inr (listed_in s k h)
 ] refl e
 
-in_listed : (s : List ℕ) (k : ℕ) → IsIn s k → is_listed s k ≡ true
+pub in_listed : (s : List ℕ) (k : ℕ) → IsIn s k → is_listed s k ≡ true
 in_listed [] k h = absurd h
 in_listed (a ∷ s) k (inl q) = let same : eqb a k ≡ true = eq-eqb a k q in rw same refl
 in_listed (a ∷ s) k (inr q) = rw (in_listed s k q) (or-true (eqb a k))
@@ -74,7 +74,7 @@ one_more p i a s x h e out =
     ] refl
 
 -- the option of a number
-option_of : (p : Puzzle) (a : ℕ) → 1 ≤ a → a ≤ option_count p → (x : Numbered) × IsIn (numbered_options p) x × (x.number ≡ a)
+pub option_of : (p : Puzzle) (a : ℕ) → 1 ≤ a → a ≤ option_count p → (x : Numbered) × IsIn (numbered_options p) x × (x.number ≡ a)
 option_of p a h k = let at = at_number 0 p.options (a - 1) (omega (arith, h, k)) in (at.0, at.1, omega (arith, at.2, h))
 
 held_times : (p : Puzzle) (i : ℕ) (s : List ℕ) → EachTwo (λ a b. a ≢ b) s → AllByRecursion (λ o. (1 ≤ o) × (o ≤ option_count p)) s →
