@@ -1,2 +1,4 @@
 pub mod Covers
+pub mod InOrder
 pub mod Numbers
+pub mod OneBranch

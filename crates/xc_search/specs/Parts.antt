@@ -1,7 +1,10 @@
 -- A search split into parts: by the options of an item that is to be held exactly once.
-use Rattle.std.specs.Prelude.{ℕ, ◌≡◌, ◌↔◌, Bool, not, ◌||◌, ◌==◌, List, map, filter, Some, unwrap_or, option_map, Contains}
+use Rattle.std.specs.Prelude.{ℕ, ◌≡◌, ◌↔◌, Bool, not, ◌||◌, ◌==◌, List, [], ◌∷◌, length, map, filter, flat_map, Some, unwrap_or, option_map, Contains}
+use Rattle.std.specs.List.{enumerate_from}
+use Rattle.xc_search.specs.declared.choice.Choice.{Choice}
 use Rattle.xc_input.specs.Problem.{Puzzle, Numbered, bounds_at, numbered_get, numbered_options, holds, holding}
-use Rattle.xc_search.specs.Cover.{IsCover, SameSet}
+use Rattle.xc_search.specs.Listing.{Wanted, Residual, whole, listing}
+use Rattle.xc_search.specs.Cover.{IsCover, SameSet, members}
 
 -- item i is primary, and is to be held exactly once
 abbrev pub IsHeldOnce : Puzzle → ℕ → Type 0
@@ -25,7 +28,8 @@ part p i x = record {
 
 -- the number that option k of the part has in the problem; 0 where there is no such option
 abbrev pub number_in_problem : Puzzle → ℕ → Numbered → ℕ → ℕ
-number_in_problem p i x k = unwrap_or (option_map (λ o. o.number) (numbered_get (part_options p i x) k)) 0
+number_in_problem p i x k =
+    unwrap_or (option_map (λ o. o.number) (numbered_get (part_options p i x) k)) 0
 
 -- options of the part, as options of the problem
 abbrev pub in_problem : Puzzle → ℕ → Numbered → List ℕ → List ℕ
@@ -41,6 +45,29 @@ PartsJoin p i =
 -- covers of two parts are different sets
 abbrev pub PartsAreApart : Puzzle → ℕ → Type 0
 PartsAreApart p i =
-    (x y : Numbered) → Contains (holding i (numbered_options p)) x → Contains (holding i (numbered_options p)) y →
+    (x y : Numbered) →
+    Contains (holding i (numbered_options p)) x → Contains (holding i (numbered_options p)) y →
     (t u : List ℕ) → IsCover (part p i x) t → IsCover (part p i y) u →
     SameSet (in_problem p i x t) (in_problem p i y u) → x ≡ y
+
+-- what is to be searched of the part where w is its first item; its options keep their numbers
+abbrev pub part_in_front : Puzzle → Wanted → Numbered → Residual
+part_in_front p w x = record {
+  items = w ∷ filter (λ v. not (v.item == w.item)) (whole p).items;
+  options = part_options p w.item x;
+}
+
+-- a member whose first choice is the k-th of n
+abbrev pub first_as : ℕ → ℕ → List Choice → List Choice
+first_as k n [] = []
+first_as k n (c ∷ m) = record { item = c.item; option = c.option; k = k; n = n } ∷ m
+
+-- the members of the part of the k-th of n options, as members of the problem
+abbrev pub part_members : Puzzle → Wanted → ℕ → ℕ × Numbered → List (List Choice)
+part_members p w n kx = map (first_as kx.0 n) (listing (part_in_front p w kx.1))
+
+-- the members of the problem are those of the parts in turn
+abbrev pub PartsInOrder : Puzzle → Wanted → Type 0
+PartsInOrder p w =
+    let options = holding w.item (numbered_options p) in
+    members p ≡ flat_map (part_members p w (length options)) (enumerate_from 1 options)

@@ -2,6 +2,10 @@ use Rattle.std.proofs.Common.{refl}
 use Rattle.xc_search.specs.Listing.{listing, listing_to}
 use Rattle.xc_search.proofs.laws.worked_parts.Goals as goal
 
-pub returns : goal.returns
+pub returns-clause-covers : goal.returns-clause-covers
 unfolding listing listing_to
-returns c = refl
+returns-clause-covers c = refl
+
+pub returns-clause-in_front : goal.returns-clause-in_front
+unfolding listing listing_to
+returns-clause-in_front c = refl
