@@ -2,3 +2,4 @@ pub mod Covers
 pub mod InOrder
 pub mod Numbers
 pub mod OneBranch
+pub mod Renumbered

@@ -1,6 +1,7 @@
 -- A search split into parts: by the options of an item that is to be held exactly once.
-use Rattle.std.specs.Prelude.{ℕ, ◌≡◌, ◌↔◌, Bool, not, ◌||◌, ◌==◌, List, [], ◌∷◌, length, map, filter, flat_map, Some, unwrap_or, option_map, Contains}
+use Rattle.std.specs.Prelude.{ℕ, ◌<◌, ◌≡◌, ◌↔◌, Bool, not, ◌||◌, ◌==◌, List, [], ◌∷◌, length, map, filter, flat_map, Some, unwrap_or, option_map, Contains}
 use Rattle.std.specs.List.{enumerate_from}
+use Rattle.xc_input.specs.declared.problem.Use.{Use}
 use Rattle.xc_search.specs.declared.choice.Choice.{Choice}
 use Rattle.xc_input.specs.Problem.{Puzzle, Numbered, bounds_at, numbered_get, numbered_options, holds, holding}
 use Rattle.xc_search.specs.Listing.{Wanted, Residual, whole, listing}
@@ -71,3 +72,41 @@ abbrev pub PartsInOrder : Puzzle → Wanted → Type 0
 PartsInOrder p w =
     let options = holding w.item (numbered_options p) in
     members p ≡ flat_map (part_members p w (length options)) (enumerate_from 1 options)
+
+-- ---- the same under other numbers: f those of items, g those of options
+
+-- a use
+abbrev pub renumber_use : (ℕ → ℕ) → Use → Use
+renumber_use f u = record { item = f u.item; colour = u.colour }
+
+-- an option
+abbrev pub renumber_option : (ℕ → ℕ) → (ℕ → ℕ) → Numbered → Numbered
+renumber_option f g o = record { number = g o.number; uses = map (renumber_use f) o.uses }
+
+-- an item
+abbrev pub renumber_item : (ℕ → ℕ) → Wanted → Wanted
+renumber_item f w = record { item = f w.item; low = w.low; high = w.high }
+
+-- what is left
+abbrev pub renumber : (ℕ → ℕ) → (ℕ → ℕ) → Residual → Residual
+renumber f g r = record {
+  items = map (renumber_item f) r.items;
+  options = map (renumber_option f g) r.options;
+}
+
+-- a choice
+abbrev pub renumber_choice : (ℕ → ℕ) → (ℕ → ℕ) → Choice → Choice
+renumber_choice f g c = record { item = f c.item; option = option_map g c.option; k = c.k; n = c.n }
+
+-- two items have two numbers
+abbrev pub AreKeptApart : (ℕ → ℕ) → Type 0
+AreKeptApart f = (i j : ℕ) → f i ≡ f j → i ≡ j
+
+-- the options stay in order
+abbrev pub AreKeptInOrder : (ℕ → ℕ) → List Numbered → Type 0
+AreKeptInOrder g os =
+    (x y : Numbered) → Contains os x → Contains os y → x.number < y.number → g x.number < g y.number
+
+-- the listing is the same but for its numbers
+abbrev pub ListsAlike : (ℕ → ℕ) → (ℕ → ℕ) → Residual → Type 0
+ListsAlike f g r = listing (renumber f g r) ≡ map (map (renumber_choice f g)) (listing r)

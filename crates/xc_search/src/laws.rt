@@ -4,7 +4,7 @@ ghost use Rattle.xc_input.specs.Problem.{Puzzle, IsValid, numbered_options, hold
 ghost use Rattle.xc_search.specs.Listing.{Wanted, Residual, whole, branch_item, level, listing};
 ghost use Rattle.xc_search.specs.Worked.{choice, seven_items, two_colours, once_or_twice, equal_options, missing_item, one_colour, up_to_twice, no_options, largest_bound, both_options, blank_secondary, bounds_and_colours, bound_beside_one};
 ghost use Rattle.xc_search.specs.Cover.{options_of, members, EachMemberCovers, EachCoverIsListed, EachCoverIsListedOnce, NoSetTwice};
-ghost use Rattle.xc_search.specs.Parts.{IsHeldOnce, part, in_problem, part_in_front, PartsJoin, PartsAreApart, PartsInOrder};
+ghost use Rattle.xc_search.specs.Parts.{IsHeldOnce, part, in_problem, part_in_front, PartsJoin, PartsAreApart, PartsInOrder, AreKeptApart, AreKeptInOrder, ListsAlike};
 
 /// The listing is one level over itself.
 pub fn listing_unrolls()
@@ -45,6 +45,11 @@ pub fn parts_are_apart()
 pub fn parts_in_order()
     ensures { (p : Puzzle) → IsValid p → (w : Wanted) → branch_item (whole p) ≡ Some w →
         IsHeldOnce p w.item → PartsInOrder p w }
+{}
+
+/// The listing is the same under other numbers that keep items apart and options in order.
+pub fn listing_renumbered()
+    ensures { (f g : ℕ → ℕ) → AreKeptApart f → (r : Residual) → AreKeptInOrder g r.options → ListsAlike f g r }
 {}
 
 /// The listings of worked problems, computed by the definitions.
