@@ -1,4 +1,5 @@
 pub mod Covers
+pub mod Fronts
 pub mod InOrder
 pub mod Numbers
 pub mod OneBranch

@@ -1,5 +1,5 @@
 -- A search split into parts: by the options of an item that is to be held exactly once.
-use Rattle.std.specs.Prelude.{ℕ, ◌<◌, ◌≡◌, ◌↔◌, Bool, not, ◌||◌, ◌==◌, List, [], ◌∷◌, length, map, filter, flat_map, Some, unwrap_or, option_map, Contains}
+use Rattle.std.specs.Prelude.{ℕ, ◌+◌, ◌-◌, ◌<◌, ◌≡◌, ◌↔◌, Bool, not, ◌||◌, ◌==◌, nat_lt, nat_le, List, [], ◌∷◌, length, map, filter, flat_map, Some, unwrap_or, option_map, if◌then◌else◌, Contains}
 use Rattle.std.specs.List.{enumerate_from}
 use Rattle.xc_input.specs.declared.problem.Use.{Use}
 use Rattle.xc_search.specs.declared.choice.Choice.{Choice}
@@ -105,8 +105,36 @@ AreKeptApart f = (i j : ℕ) → f i ≡ f j → i ≡ j
 -- the options stay in order
 abbrev pub AreKeptInOrder : (ℕ → ℕ) → List Numbered → Type 0
 AreKeptInOrder g os =
-    (x y : Numbered) → Contains os x → Contains os y → x.number < y.number → g x.number < g y.number
+    (x y : Numbered) → Contains os x → Contains os y →
+    x.number < y.number → g x.number < g y.number
 
 -- the listing is the same but for its numbers
 abbrev pub ListsAlike : (ℕ → ℕ) → (ℕ → ℕ) → Residual → Type 0
 ListsAlike f g r = listing (renumber f g r) ≡ map (map (renumber_choice f g)) (listing r)
+
+-- ---- a part as a problem of its own, whose first item is that of the parts
+
+-- the number of item j where item i stands in front
+abbrev pub front_number : ℕ → ℕ → ℕ
+front_number i j = if j == i then 1 else (if nat_lt j i then j + 1 else j)
+
+-- the item of number j there
+abbrev pub front_item : ℕ → ℕ → ℕ
+front_item i j = if j == 1 then i else (if nat_le j i then j - 1 else j)
+
+-- the part of option x of item w, where w stands in front
+abbrev pub front_part : Puzzle → Wanted → Numbered → Puzzle
+front_part p w x = record {
+  bounds = map (λ v. record { low = v.low; high = v.high }) (part_in_front p w x).items;
+  secondary = p.secondary;
+  options = map (λ o. map (renumber_use (front_number w.item)) o.uses) (part_options p w.item x);
+}
+
+-- a choice of it, as one of the problem
+abbrev pub choice_in_problem : Puzzle → Wanted → Numbered → Choice → Choice
+choice_in_problem p w x c = renumber_choice (front_item w.item) (number_in_problem p w.item x) c
+
+-- its members are those of the part in the problem, but for the numbers
+abbrev pub ListsPart : Puzzle → Wanted → Numbered → Type 0
+ListsPart p w x =
+    listing (part_in_front p w x) ≡ map (map (choice_in_problem p w x)) (members (front_part p w x))

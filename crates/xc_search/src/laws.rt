@@ -1,10 +1,10 @@
 //! Laws of the listing: its members are the covers, each once, and those of the parts that a search is split into.
-ghost use Rattle.std.specs.Prelude.{ℕ, ◌≡◌, [], ◌∷◌, map, Some, None};
-ghost use Rattle.xc_input.specs.Problem.{Puzzle, IsValid, numbered_options, holding};
+ghost use Rattle.std.specs.Prelude.{ℕ, ◌≡◌, [], ◌∷◌, map, Some, None, Contains};
+ghost use Rattle.xc_input.specs.Problem.{Puzzle, Numbered, IsValid, numbered_options, holding};
 ghost use Rattle.xc_search.specs.Listing.{Wanted, Residual, whole, branch_item, level, listing};
-ghost use Rattle.xc_search.specs.Worked.{choice, seven_items, two_colours, once_or_twice, equal_options, missing_item, one_colour, up_to_twice, no_options, largest_bound, both_options, blank_secondary, bounds_and_colours, bound_beside_one};
+ghost use Rattle.xc_search.specs.Worked.{choice, seven_items, item_b, two_colours, once_or_twice, equal_options, missing_item, one_colour, up_to_twice, no_options, largest_bound, both_options, blank_secondary, bounds_and_colours, bound_beside_one};
 ghost use Rattle.xc_search.specs.Cover.{options_of, members, EachMemberCovers, EachCoverIsListed, EachCoverIsListedOnce, NoSetTwice};
-ghost use Rattle.xc_search.specs.Parts.{IsHeldOnce, part, in_problem, part_in_front, PartsJoin, PartsAreApart, PartsInOrder, AreKeptApart, AreKeptInOrder, ListsAlike};
+ghost use Rattle.xc_search.specs.Parts.{IsHeldOnce, part, in_problem, part_in_front, front_part, PartsJoin, PartsAreApart, PartsInOrder, AreKeptApart, AreKeptInOrder, ListsAlike, ListsPart};
 
 /// The listing is one level over itself.
 pub fn listing_unrolls()
@@ -52,6 +52,11 @@ pub fn listing_renumbered()
     ensures { (f g : ℕ → ℕ) → AreKeptApart f → (r : Residual) → AreKeptInOrder g r.options → ListsAlike f g r }
 {}
 
+/// What such a part lists is what it lists as a problem of its own.
+pub fn parts_are_listed()
+    ensures { (p : Puzzle) → IsValid p → (w : Wanted) → Contains (whole p).items w → (x : Numbered) → ListsPart p w x }
+{}
+
 /// The listings of worked problems, computed by the definitions.
 pub fn worked_listings()
     ensures seven_items { members seven_items
@@ -84,12 +89,13 @@ pub fn worked_listings()
         ∷ [] }
 {}
 
-/// The parts of a worked problem by its first item, computed by the definitions.
+/// The parts of a worked problem by its second item, computed by the definitions.
 pub fn worked_parts()
-    ensures covers { map (λ x. map (λ m. in_problem seven_items 1 x (options_of m)) (members (part seven_items 1 x)))
-        (holding 1 (numbered_options seven_items))
-        ≡ [] ∷ ((4 ∷ 5 ∷ 1 ∷ []) ∷ []) ∷ [] }
-    ensures in_front { map (λ x. listing (part_in_front seven_items (record { item = 1; low = 1; high = 1 }) x))
-        (holding 1 (numbered_options seven_items))
-        ≡ [] ∷ ((choice 1 (Some 4) 1 1 ∷ choice 2 (Some 5) 1 1 ∷ choice 3 (Some 1) 1 1 ∷ []) ∷ []) ∷ [] }
+    ensures covers { map (λ x. map (λ m. in_problem seven_items 2 x (options_of m)) (members (part seven_items 2 x)))
+        (holding 2 (numbered_options seven_items))
+        ≡ [] ∷ ((5 ∷ 4 ∷ 1 ∷ []) ∷ []) ∷ [] }
+    ensures in_front { map (λ x. listing (part_in_front seven_items item_b x)) (holding 2 (numbered_options seven_items))
+        ≡ [] ∷ ((choice 2 (Some 5) 1 1 ∷ choice 1 (Some 4) 1 1 ∷ choice 3 (Some 1) 1 1 ∷ []) ∷ []) ∷ [] }
+    ensures alone { map (λ x. members (front_part seven_items item_b x)) (holding 2 (numbered_options seven_items))
+        ≡ [] ∷ ((choice 1 (Some 4) 1 1 ∷ choice 2 (Some 3) 1 1 ∷ choice 3 (Some 1) 1 1 ∷ []) ∷ []) ∷ [] }
 {}

@@ -52,17 +52,19 @@ number_of_option p i x o h =
     let at = slice_get-in os o h in
     (suc at.0, (omega arith, omega (arith, slice_get_within os at.0 o at.1, length-map os (λ (o : Numbered). o.uses))), ap (λ g. unwrap_or (option_map (λ (o : Numbered). o.number) g) 0) at.1)
 
--- two options of one number are one
-same_place : (p : Puzzle) (i : ℕ) (x : Numbered) (j k : ℕ) → IsNumber (part p i x) j → IsNumber (part p i x) k → number_in_problem p i x j ≡ number_in_problem p i x k → j ≡ k
-same_place p i x j k a b e =
+-- the numbers rise as in the problem
+pub numbers_rise : (p : Puzzle) (i : ℕ) (x : Numbered) (j k : ℕ) → IsNumber (part p i x) j → IsNumber (part p i x) k → j < k → number_in_problem p i x j < number_in_problem p i x k
+numbers_rise p i x j k a b less =
     let os = part_options p i x in
     let at = at_place p i x j a in
     let to = at_place p i x k b in
     let rise = two_rise 0 os (NumbersRise-filter (is_in_part i x) 0 (numbered_options p) (options_rise p)) in
-    let up : at.0 < to.0 → at.1.number < to.1.number = λ less. EachTwo-at (λ (y z : Numbered). y.number < z.number) os at.0 to.0 at.1 to.1 rise less at.3 to.3 in
-    let down : to.0 < at.0 → to.1.number < at.1.number = λ less. EachTwo-at (λ (y z : Numbered). y.number < z.number) os to.0 at.0 to.1 at.1 rise less to.3 at.3 in
-    let same : at.0 ≡ to.0 = grind (arith, e, up, down, at.4, to.4) in
-    omega (arith, same, at.2, to.2)
+    let above = EachTwo-at (λ (y z : Numbered). y.number < z.number) os at.0 to.0 at.1 to.1 rise (omega (arith, less, at.2, to.2)) at.3 to.3 in
+    omega (arith, above, at.4, to.4)
+
+-- two options of one number are one
+same_place : (p : Puzzle) (i : ℕ) (x : Numbered) (j k : ℕ) → IsNumber (part p i x) j → IsNumber (part p i x) k → number_in_problem p i x j ≡ number_in_problem p i x k → j ≡ k
+same_place p i x j k a b e = grind (arith, e, numbers_rise p i x j k a b, numbers_rise p i x k j b a)
 
 -- ---- covers
 

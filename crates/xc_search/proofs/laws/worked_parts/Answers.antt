@@ -9,3 +9,7 @@ returns-clause-covers c = refl
 pub returns-clause-in_front : goal.returns-clause-in_front
 unfolding listing listing_to
 returns-clause-in_front c = refl
+
+pub returns-clause-alone : goal.returns-clause-alone
+unfolding listing listing_to
+returns-clause-alone c = refl
