@@ -39,13 +39,10 @@ the_one p i s v once c =
         known = found.0;
         at = and_left _ _ found.1;
         taken = listed_in s x.0.number (and_right _ _ found.1);
-        only = λ y h at taken. elim (eqb y.number x.0.number) as (λ b. eqb y.number x.0.number ≡ b → y.number ≡ x.0.number) [
-          | true ↦ λ e. eqb-true _ _ e
-          | false ↦ λ e.
-              let held : is_held (is_listed s) i y ≡ true = rw (at, in_listed s y.number taken) refl in
-              let apart : y.number ≢ x.0.number = λ q. let same : eqb y.number x.0.number ≡ true = eq-eqb _ _ q in cc in
-              absurd (omega (arith, two_pass (is_held (is_listed s) i) (numbered_options p) y x.0 h found.0 held found.1 apart, met.1, times, w.4))
-        ] refl;
+        only = λ y h at taken.
+            let held : is_held (is_listed s) i y ≡ true = rw (at, in_listed s y.number taken) refl in
+            let twice : y.number ≢ x.0.number → 2 ≤ passing (is_held (is_listed s) i) (numbered_options p) = λ apart. two_pass (is_held (is_listed s) i) (numbered_options p) y x.0 h found.0 held found.1 apart in
+            grind (arith, twice, met.1, times, w.4);
       },
     )
 

@@ -1,5 +1,5 @@
 -- A part lists the same where it is a problem of its own, with its item in front.
-use Rattle.std.proofs.Common.{ℕ, zero, suc, ◌≡◌, ◌≢◌, ◌+◌, ◌<◌, ◌≤◌, Bool, true, false, cond, not, eqb, List, [], ◌∷◌, map, filter, Some, refl, sym, ap, ap₂, ◌∙◌, arith, eqb-true, eq-eqb, ne_eqb}
+use Rattle.std.proofs.Common.{ℕ, zero, suc, ◌≡◌, ◌≢◌, ◌+◌, ◌<◌, ◌≤◌, true, false, cond, not, eqb, List, [], ◌∷◌, map, filter, Some, refl, sym, ap, ap₂, ◌∙◌, arith, eqb-true, ne_eqb}
 use Rattle.std.specs.Prelude.{slice_get, option_map, unwrap_or, Contains}
 use Rattle.std.specs.List.{AllByRecursion}
 use Rattle.std.proofs.lemmas.Bool.Decides.{nat_tests}
@@ -12,6 +12,7 @@ use Rattle.xc_search.specs.Parts.{part, part_options, part_in_front, number_in_p
 use Rattle.xc_input.proofs.EachElement.{each_weaker}
 use Rattle.xc_search.proofs.Members.{each_in, each_from, in-contains}
 use Rattle.xc_search.proofs.listing.Numbering.{numbered_at, IsOption, all_options, with_bounds}
+use Rattle.xc_search.proofs.parts.InOrder.{is_other}
 use Rattle.xc_search.proofs.parts.Numbers.{IsNumber, in_whole, numbers_rise}
 use Rattle.xc_search.proofs.parts.Renumbered.{listing_renumbered}
 use Rattle.xc_search.proofs.residual.PickedByUses.{as_residual}
@@ -32,9 +33,6 @@ item_before i n h k = grind (arith, nat_tests)
 
 -- ---- items
 
-abbrev is_other : ℕ → Wanted → Bool
-is_other i v = not (eqb v.item i)
-
 abbrev bounds_of : Wanted → Bounds
 bounds_of v = record { low = v.low; high = v.high }
 
@@ -52,7 +50,7 @@ items_before i n (b ∷ bs) h k =
     elim (eqb n i) as (λ c. eqb n i ≡ c → map (renumber_item (front_item i)) (wanted_from (n + 1) (map bounds_of (cond (not c) (here ∷ rest) rest))) ≡ cond (not c) (here ∷ rest) rest) [
       | true ↦ λ e. items_behind i (n + 1) bs (omega (arith, h, k)) (omega (arith, eqb-true n i e))
       | false ↦ λ e.
-          let apart : n ≢ i = λ q. let same : eqb n i ≡ true = eq-eqb n i q in cc in
+          let apart : n ≢ i = grind (arith, nat_tests, e) in
           ap₂ (λ j vs. let v : Wanted = record { item = j; low = b.low; high = b.high } in v ∷ vs) (item_before i n h (omega (arith, k, apart))) (items_before i (n + 1) bs (omega arith) (omega (arith, k, apart)))
     ] refl
 

@@ -44,15 +44,18 @@ holding_once p i x h =
 
 -- ---- what is left behind an option is the same by the part
 
-find_other : (i j : ℕ) (ws : List Wanted) → eqb i j ≡ false → find (λ v. eqb v.item j) (filter (λ v. not (eqb v.item i)) ws) ≡ find (λ v. eqb v.item j) ws
+abbrev pub is_other : ℕ → Wanted → Bool
+is_other i v = not (eqb v.item i)
+
+find_other : (i j : ℕ) (ws : List Wanted) → eqb i j ≡ false → find (λ v. eqb v.item j) (filter (is_other i) ws) ≡ find (λ v. eqb v.item j) ws
 find_other i j [] e = refl
-find_other i j (v ∷ ws) e = elim (eqb v.item i) as (λ b. eqb v.item i ≡ b → find (λ v. eqb v.item j) (cond (not b) (v ∷ filter (λ v. not (eqb v.item i)) ws) (filter (λ v. not (eqb v.item i)) ws)) ≡ cond (eqb v.item j) (Some v) (find (λ v. eqb v.item j) ws)) [
+find_other i j (v ∷ ws) e = elim (eqb v.item i) as (λ b. eqb v.item i ≡ b → find (λ v. eqb v.item j) (cond (not b) (v ∷ filter (is_other i) ws) (filter (is_other i) ws)) ≡ cond (eqb v.item j) (Some v) (find (λ v. eqb v.item j) ws)) [
   | true ↦ λ q. let other : eqb v.item j ≡ false = ap (λ n. eqb n j) (eqb-true v.item i q) ∙ e in rw other (find_other i j ws e)
   | false ↦ λ q. ap (cond (eqb v.item j) (Some v)) (find_other i j ws e)
 ] refl
 
 same_left : (p : Puzzle) (w : Wanted) (x : Numbered) (j : ℕ) → IsProper (primary_count p) (whole p) → IsIn (whole p).items w → item_left (part_in_front p w x) j ≡ item_left (whole p) j
-same_left p w x j proper h = elim (eqb w.item j) as (λ b. eqb w.item j ≡ b → cond b (Some w) (find (λ v. eqb v.item j) (filter (λ v. not (eqb v.item w.item)) (whole p).items)) ≡ item_left (whole p) j) [
+same_left p w x j proper h = elim (eqb w.item j) as (λ b. eqb w.item j ≡ b → cond b (Some w) (find (λ v. eqb v.item j) (filter (is_other w.item) (whole p).items)) ≡ item_left (whole p) j) [
   | true ↦ λ e. sym (ap (item_left (whole p)) (sym (eqb-true w.item j e)) ∙ find-in 0 (whole p).items w proper.items_rise h)
   | false ↦ λ e. find_other w.item j (whole p).items e
 ] refl
@@ -64,20 +67,17 @@ record IsSplit (p : Puzzle) (w : Wanted) (x : Numbered) : Type 0 where
   once : w.high ≡ 1
   at : holds x w.item ≡ true
 
-abbrev is_other : Wanted → Wanted → Bool
-is_other w v = not (eqb v.item w.item)
-
 same_items : (p : Puzzle) (w : Wanted) (x : Numbered) → IsSplit p w x → (pick (part_in_front p w x) w.item x).items ≡ (pick (whole p) w.item x).items
 same_items p w x c =
-    rw gone (filter-map is_wanted (spend_one x) (filter (is_other w) (whole p).items)
-    ∙ ap (map (spend_one x)) (filter_both (λ v. is_wanted (spend_one x v)) (is_other w) (whole p).items
-    ∙ filter_same (λ v. is_other w v && is_wanted (spend_one x v)) (λ v. is_wanted (spend_one x v)) (whole p).items (each_from _ (whole p).items kept))
+    rw gone (filter-map is_wanted (spend_one x) (filter (is_other w.item) (whole p).items)
+    ∙ ap (map (spend_one x)) (filter_both (λ v. is_wanted (spend_one x v)) (is_other w.item) (whole p).items
+    ∙ filter_same (λ v. is_other w.item v && is_wanted (spend_one x v)) (λ v. is_wanted (spend_one x v)) (whole p).items (each_from _ (whole p).items kept))
     ∙ sym (filter-map is_wanted (spend_one x) (whole p).items))
   where
     gone : is_wanted (spend_one x w) ≡ false
     gone = rw c.at (le-ltb 0 (w.high - 1) (omega (arith, c.once)))
 
-    kept : (v : Wanted) → IsIn (whole p).items v → (is_other w v && is_wanted (spend_one x v)) ≡ is_wanted (spend_one x v)
+    kept : (v : Wanted) → IsIn (whole p).items v → (is_other w.item v && is_wanted (spend_one x v)) ≡ is_wanted (spend_one x v)
     kept v h = elim (eqb v.item w.item) as (λ b. eqb v.item w.item ≡ b → (not b && is_wanted (spend_one x v)) ≡ is_wanted (spend_one x v)) [
       | true ↦ λ e.
           let one = find-in 0 (whole p).items w c.proper.items_rise c.wanted in
@@ -118,7 +118,7 @@ part_listed p w x k n c low h =
   where
     in_front : (v : Wanted) → IsIn (part_in_front p w x).items v → IsIn (whole p).items v
     in_front v (inl q) = subst (IsIn (whole p).items) q c.wanted
-    in_front v (inr q) = (in-filter (λ v. not (eqb v.item w.item)) (whole p).items v q).0
+    in_front v (inr q) = (in-filter (is_other w.item) (whole p).items v q).0
 
 -- the bounds of an item that is to be held once
 held_once : (p : Puzzle) (w : Wanted) → IsIn (whole p).items w → IsHeldOnce p w.item → (w.low ≡ 1) × (w.high ≡ 1)

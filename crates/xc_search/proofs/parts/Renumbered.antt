@@ -1,7 +1,8 @@
 -- The listing is the same under other numbers, level by level.
-use Rattle.std.proofs.Common.{ℕ, zero, suc, ◌≡◌, ◌+◌, ◌<◌, ◌≤◌, Bool, true, false, cond, not, ◌&&◌, ◌||◌, eqb, List, [], ◌∷◌, ◌++◌, length, map, filter, find, take, Option, Some, None, refl, sym, ap, ap₂, ◌∙◌, arith, subst, ◌⊎◌, inl, inr, eqb-true, eq-eqb, leb-true, le-leb}
+use Rattle.std.proofs.Common.{ℕ, zero, suc, ◌≡◌, ◌+◌, true, false, cond, not, ◌&&◌, ◌||◌, eqb, List, [], ◌∷◌, ◌++◌, length, map, filter, find, take, Option, Some, None, refl, sym, ap, ap₂, ◌∙◌, arith, subst, ◌⊎◌, inl, inr}
 use Rattle.std.specs.Prelude.{nat_lt, nat_le, is_some, flat_map, option_map}
 use Rattle.std.specs.List.{best_of, enumerate_from, list_all}
+use Rattle.std.proofs.lemmas.Bool.Decides.{nat_tests}
 use Rattle.std.proofs.lemmas.List.{length-map, take-map, map-append}
 use Rattle.std.proofs.lemmas.List.Elements.{filter_agree}
 use Rattle.xc_input.specs.declared.problem.Use.{Use}
@@ -16,15 +17,11 @@ use Rattle.xc_search.proofs.completeness.Proper.{goes_on}
 use Rattle.xc_search.proofs.listing.EachBranch.{IsTaken, IsNone, takes, nones, behind, in-branches}
 use Rattle.xc_search.proofs.residual.PickedByUses.{as_residual, is_wanted}
 
--- a test of numbers is decided as one of others
-same_decided : (a b : Bool) → (a ≡ true → b ≡ true) → (b ≡ true → a ≡ true) → a ≡ b
-same_decided true b h k = sym (h refl)
-same_decided false true h k = k refl
-same_decided false false h k = refl
-
 module _ (f g : ℕ → ℕ) (apart : AreKeptApart f) where
   same_item : (i j : ℕ) → eqb (f i) (f j) ≡ eqb i j
-  same_item i j = same_decided _ _ (λ e. eq-eqb i j (apart i j (eqb-true (f i) (f j) e))) (λ e. eq-eqb (f i) (f j) (ap f (eqb-true i j e)))
+  same_item i j =
+      let same : i ≡ j → f i ≡ f j = λ e. ap f e in
+      grind (arith, nat_tests, apart i j, same)
 
   -- ---- options and items
 
@@ -157,12 +154,6 @@ module _ (f g : ℕ → ℕ) (apart : AreKeptApart f) where
             same_listing d b.next (λ x y j k. order x y (was_left r w b x kind j) (was_left r w b y kind k)))
       ]
 
-kept_le : (a b c d : ℕ) → (a < b → c < d) → (a ≡ b → c ≡ d) → a ≤ b → c ≤ d
-kept_le a b c d less same h = grind arith
-
-kept_back : (a b c d : ℕ) → (b < a → d < c) → c ≤ d → a ≤ b
-kept_back a b c d less h = grind arith
-
 pub listing_renumbered : (f g : ℕ → ℕ) → AreKeptApart f → (r : Residual) → AreKeptInOrder g r.options → ListsAlike f g r
 unfolding listing
 listing_renumbered f g apart r order =
@@ -173,6 +164,5 @@ listing_renumbered f g apart r order =
     in_order x y h k =
         let up = order x y (contains-in r.options x h) (contains-in r.options y k) in
         let down = order y x (contains-in r.options y k) (contains-in r.options x h) in
-        same_decided _ _
-        (λ e. le-leb x.number y.number (kept_back x.number y.number (g x.number) (g y.number) down (leb-true (g x.number) (g y.number) e)))
-        (λ e. le-leb (g x.number) (g y.number) (kept_le x.number y.number (g x.number) (g y.number) up (ap g) (leb-true x.number y.number e)))
+        let same : x.number ≡ y.number → g x.number ≡ g y.number = λ e. ap g e in
+        grind (arith, nat_tests, up, down, same)
