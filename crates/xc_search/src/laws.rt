@@ -31,6 +31,11 @@ pub fn each_cover_is_listed_once()
     ensures { (p : Puzzle) → IsValid p → EachCoverIsListedOnce p }
 {}
 
+/// Parts are problems for which the other laws hold too.
+pub fn parts_are_valid()
+    ensures { (p : Puzzle) → IsValid p → (i : ℕ) (x : Numbered) → IsValid (part p i x) }
+{}
+
 /// The covers of a problem are those of its parts by an item that is to be held exactly once.
 pub fn parts_join()
     ensures { (p : Puzzle) → IsValid p → (i : ℕ) → IsHeldOnce p i → PartsJoin p i }

@@ -6,7 +6,7 @@ use Rattle.std.proofs.lemmas.List.{length-map}
 use Rattle.std.proofs.lemmas.Option.{slice_get-map, slice_get_within}
 use Rattle.std.proofs.lemmas.List.Elements.{All-from_recursion, recursion_from_All}
 use Rattle.std.proofs.lemmas.List.Sums.{sum_by-cons}
-use Rattle.xc_input.specs.Problem.{Puzzle, Numbered, numbered_options, option_count, colour_in, uses_of}
+use Rattle.xc_input.specs.Problem.{Puzzle, Numbered, numbered_options, option_count, colour_in, uses_of, IsSoundOption, IsValid}
 use Rattle.xc_search.specs.Cover.{IsCover, times_held}
 use Rattle.xc_search.specs.Parts.{is_in_part, part_options, part, number_in_problem, in_problem}
 use Rattle.xc_dance.proofs.MoveLemmas.OptionsRise.{NumbersRise-filter, options_rise}
@@ -15,11 +15,19 @@ use Rattle.xc_search.proofs.EachTwo.{EachTwo, EachTwo-map, EachTwo-at, EachTwo-w
 use Rattle.xc_search.proofs.Members.{IsIn, in-filter, in-map, map-in, in-slice_get, slice_get-in, each_in, each_from, in-contains, contains-in}
 use Rattle.xc_search.proofs.Places.{not_some}
 use Rattle.xc_search.proofs.completeness.Once.{two_rise}
-use Rattle.xc_search.proofs.listing.Numbering.{numbered_at, uses_known}
+use Rattle.xc_search.proofs.listing.Numbering.{numbered_at, uses_known, IsOption, all_options}
 
 -- an option of a part is one of the problem
 pub in_whole : (p : Puzzle) (i : ℕ) (x o : Numbered) → IsIn (part_options p i x) o → IsIn (numbered_options p) o
 in_whole p i x o h = (in-filter (is_in_part i x) (numbered_options p) o h).0
+
+pub parts_are_valid : (p : Puzzle) → IsValid p → (i : ℕ) (x : Numbered) → IsValid (part p i x)
+parts_are_valid p v i x = record { one_primary = v.one_primary; bounds = v.bounds; options = All-from_recursion (IsSoundOption (part p i x)) _ (each-map (IsSoundOption (part p i x)) (λ o. o.uses) (part_options p i x) each) }
+  where
+    each : AllByRecursion (λ o. IsSoundOption (part p i x) o.uses) (part_options p i x)
+    each = each_from _ (part_options p i x) (λ o h.
+        let s = (each_in (IsOption p) (numbered_options p) o (all_options p v) (in_whole p i x o h)).sound in
+        record { sound = s.sound; distinct = s.distinct; one_primary = s.one_primary })
 
 -- its uses are the same under both numbers
 pub same_uses : (p : Puzzle) (i : ℕ) (x : Numbered) (k : ℕ) → uses_of (part p i x) k ≡ uses_of p (number_in_problem p i x k)
