@@ -1,11 +1,11 @@
 -- A search split into parts: by the options of an item that is to be held exactly once.
-use Rattle.std.specs.Prelude.{ℕ, ◌+◌, ◌-◌, ◌<◌, ◌≡◌, ◌↔◌, Bool, not, ◌||◌, ◌==◌, nat_lt, nat_le, List, [], ◌∷◌, length, map, filter, flat_map, Some, unwrap_or, option_map, if◌then◌else◌, Contains}
+use Rattle.std.specs.Prelude.{ℕ, ◌+◌, ◌-◌, ◌<◌, ◌≡◌, ◌↔◌, Bool, not, ◌||◌, ◌==◌, nat_lt, nat_le, List, [], ◌∷◌, length, map, filter, flat_map, Some, unwrap_or, option_map, slice_get, if◌then◌else◌, Contains}
 use Rattle.std.specs.List.{enumerate_from}
 use Rattle.xc_input.specs.declared.problem.Use.{Use}
 use Rattle.xc_search.specs.declared.choice.Choice.{Choice}
 use Rattle.xc_input.specs.Problem.{Puzzle, Numbered, bounds_at, numbered_get, numbered_options, holds, holding}
 use Rattle.xc_search.specs.Listing.{Wanted, Residual, whole, listing}
-use Rattle.xc_search.specs.Cover.{IsCover, SameSet, members}
+use Rattle.xc_search.specs.Cover.{IsCover, SameSet, members, options_of}
 
 -- item i is primary, and is to be held exactly once
 abbrev pub IsHeldOnce : Puzzle → ℕ → Type 0
@@ -72,6 +72,28 @@ abbrev pub PartsInOrder : Puzzle → Wanted → Type 0
 PartsInOrder p w =
     let options = holding w.item (numbered_options p) in
     members p ≡ flat_map (part_members p w (length options)) (enumerate_from 1 options)
+
+-- x is an option of w, and m the member at place k of its part
+abbrev pub IsPartMember : Puzzle → Wanted → Numbered → ℕ → List Choice → Type 0
+IsPartMember p w x k m =
+    Contains (holding w.item (numbered_options p)) x × (slice_get (listing (part_in_front p w x)) k ≡ Some m)
+
+-- the members of the parts are covers
+abbrev pub PartsCover : Puzzle → Wanted → Type 0
+PartsCover p w =
+    (x : Numbered) (k : ℕ) (m : List Choice) → IsPartMember p w x k m → IsCover p (options_of m)
+
+-- each cover is the set of a member of a part
+abbrev pub PartsListCovers : Puzzle → Wanted → Type 0
+PartsListCovers p w =
+    (s : List ℕ) → IsCover p s →
+    (x : Numbered) × (k : ℕ) × (m : List Choice) × IsPartMember p w x k m × SameSet s (options_of m)
+
+-- two members of parts have different sets
+abbrev pub PartsListOnce : Puzzle → Wanted → Type 0
+PartsListOnce p w =
+    (x y : Numbered) (j k : ℕ) (l m : List Choice) → IsPartMember p w x j l → IsPartMember p w y k m →
+    SameSet (options_of l) (options_of m) → (x ≡ y) × (j ≡ k)
 
 -- ---- the same under other numbers: f those of items, g those of options
 

@@ -4,7 +4,7 @@ ghost use Rattle.xc_input.specs.Problem.{Puzzle, Numbered, IsValid, numbered_opt
 ghost use Rattle.xc_search.specs.Listing.{Wanted, Residual, whole, branch_item, level, listing};
 ghost use Rattle.xc_search.specs.Worked.{choice, seven_items, item_b, two_colours, once_or_twice, equal_options, missing_item, one_colour, up_to_twice, no_options, largest_bound, both_options, blank_secondary, bounds_and_colours, bound_beside_one};
 ghost use Rattle.xc_search.specs.Cover.{options_of, members, EachMemberCovers, EachCoverIsListed, EachCoverIsListedOnce, NoSetTwice};
-ghost use Rattle.xc_search.specs.Parts.{IsHeldOnce, part, in_problem, part_in_front, front_part, PartsJoin, PartsAreApart, PartsInOrder, AreKeptApart, AreKeptInOrder, ListsAlike, ListsPart};
+ghost use Rattle.xc_search.specs.Parts.{IsHeldOnce, part, in_problem, part_in_front, front_part, PartsJoin, PartsAreApart, PartsInOrder, PartsCover, PartsListCovers, PartsListOnce, AreKeptApart, AreKeptInOrder, ListsAlike, ListsPart};
 
 /// The listing is one level over itself.
 pub fn listing_unrolls()
@@ -50,6 +50,13 @@ pub fn parts_are_apart()
 pub fn parts_in_order()
     ensures { (p : Puzzle) → IsValid p → (w : Wanted) → branch_item (whole p) ≡ Some w →
         IsHeldOnce p w.item → PartsInOrder p w }
+{}
+
+/// The parts that have such an item in front list the covers, each once, whichever item the search branches on first.
+pub fn parts_list_covers()
+    ensures covers { (p : Puzzle) → IsValid p → (w : Wanted) → Contains (whole p).items w → IsHeldOnce p w.item → PartsCover p w }
+    ensures listed { (p : Puzzle) → IsValid p → (w : Wanted) → Contains (whole p).items w → IsHeldOnce p w.item → PartsListCovers p w }
+    ensures once { (p : Puzzle) → IsValid p → (w : Wanted) → Contains (whole p).items w → IsHeldOnce p w.item → PartsListOnce p w }
 {}
 
 /// The listing is the same under other numbers that keep items apart and options in order.

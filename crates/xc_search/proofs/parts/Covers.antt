@@ -17,17 +17,17 @@ use Rattle.xc_search.proofs.residual.NumberedOnce.{same_number}
 use Rattle.xc_input.proofs.BooleanTests.{and_left, and_right, or_other}
 
 -- an option of the cover holds the item, and no other does
-record IsOne (p : Puzzle) (i : ℕ) (s : List ℕ) (x : Numbered) : Type 0 where
-  known : IsIn (numbered_options p) x
-  at : holds x i ≡ true
-  taken : IsIn s x.number
-  only : (y : Numbered) → IsIn (numbered_options p) y → holds y i ≡ true → IsIn s y.number → y.number ≡ x.number
+pub record IsOne (p : Puzzle) (i : ℕ) (s : List ℕ) (x : Numbered) : Type 0 where
+  pub known : IsIn (numbered_options p) x
+  pub at : holds x i ≡ true
+  pub taken : IsIn s x.number
+  pub only : (y : Numbered) → IsIn (numbered_options p) y → holds y i ≡ true → IsIn s y.number → y.number ≡ x.number
 
 one_of : (xs : List Numbered) → 1 ≤ length xs → (x : Numbered) × IsIn xs x
 one_of [] h = absurd (omega (arith, h))
 one_of (x ∷ xs) h = (x, inl refl)
 
-the_one : (p : Puzzle) (i : ℕ) (s : List ℕ) → IsValid p → IsHeldOnce p i → IsCover p s → (x : Numbered) × IsOne p i s x
+pub the_one : (p : Puzzle) (i : ℕ) (s : List ℕ) → IsValid p → IsHeldOnce p i → IsCover p s → (x : Numbered) × IsOne p i s x
 the_one p i s v once c =
     let w = bounded p i (record { low = 1; high = 1 }) once in
     let met = (covers_whole p s v c).met w.0 w.1 in

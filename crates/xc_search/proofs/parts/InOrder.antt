@@ -61,11 +61,11 @@ same_left p w x j proper h = elim (eqb w.item j) as (λ b. eqb w.item j ≡ b �
 ] refl
 
 -- w is an item of the problem, to be held once, and x an option that holds it
-record IsSplit (p : Puzzle) (w : Wanted) (x : Numbered) : Type 0 where
-  proper : IsProper (primary_count p) (whole p)
-  wanted : IsIn (whole p).items w
-  once : w.high ≡ 1
-  at : holds x w.item ≡ true
+pub record IsSplit (p : Puzzle) (w : Wanted) (x : Numbered) : Type 0 where
+  pub proper : IsProper (primary_count p) (whole p)
+  pub wanted : IsIn (whole p).items w
+  pub once : w.high ≡ 1
+  pub at : holds x w.item ≡ true
 
 same_items : (p : Puzzle) (w : Wanted) (x : Numbered) → IsSplit p w x → (pick (part_in_front p w x) w.item x).items ≡ (pick (whole p) w.item x).items
 same_items p w x c =
@@ -108,20 +108,24 @@ same_pick p w x c = as_residual _ _ _ _ (same_items p w x c) (same_options p w x
 
 -- ---- the members
 
-part_listed : (p : Puzzle) (w : Wanted) (x : Numbered) (k n : ℕ) → IsSplit p w x → w.low ≡ 1 → IsIn (holding w.item (numbered_options p)) x →
-    behind listing (take_branch (whole p) w.item n (k, x)) ≡ map (first_as k n) (listing (part_in_front p w x))
-part_listed p w x k n c low h =
+-- a part has one branch
+pub part_branch : (p : Puzzle) (w : Wanted) (x : Numbered) → IsSplit p w x → w.low ≡ 1 → IsIn (holding w.item (numbered_options p)) x →
+    listing (part_in_front p w x) ≡ map (λ m. only_choice w.item x ∷ m) (listing (pick (whole p) w.item x))
+part_branch p w x c low h =
     let sound : (v : Wanted) → IsIn (part_in_front p w x).items v → v.low ≤ v.high = λ v j. (c.proper.sound v (in_front v j)).1 in
-    sym (ap (map (first_as k n)) (one_branch (part_in_front p w x) w _ x refl low (holding_once p w.item x h) sound)
-    ∙ map-map (λ m. only_choice w.item x ∷ m) (first_as k n) (listing (pick (part_in_front p w x) w.item x))
-    ∙ ap (λ r. map (λ m. (take_branch (whole p) w.item n (k, x)).choice ∷ m) (listing r)) (same_pick p w x c))
+    one_branch (part_in_front p w x) w _ x refl low (holding_once p w.item x h) sound
+    ∙ ap (λ r. map (λ m. only_choice w.item x ∷ m) (listing r)) (same_pick p w x c)
   where
     in_front : (v : Wanted) → IsIn (part_in_front p w x).items v → IsIn (whole p).items v
     in_front v (inl q) = subst (IsIn (whole p).items) q c.wanted
     in_front v (inr q) = (in-filter (is_other w.item) (whole p).items v q).0
 
+part_listed : (p : Puzzle) (w : Wanted) (x : Numbered) (k n : ℕ) → IsSplit p w x → w.low ≡ 1 → IsIn (holding w.item (numbered_options p)) x →
+    behind listing (take_branch (whole p) w.item n (k, x)) ≡ map (first_as k n) (listing (part_in_front p w x))
+part_listed p w x k n c low h = sym (ap (map (first_as k n)) (part_branch p w x c low h) ∙ map-map (λ m. only_choice w.item x ∷ m) (first_as k n) (listing (pick (whole p) w.item x)))
+
 -- the bounds of an item that is to be held once
-held_once : (p : Puzzle) (w : Wanted) → IsIn (whole p).items w → IsHeldOnce p w.item → (w.low ≡ 1) × (w.high ≡ 1)
+pub held_once : (p : Puzzle) (w : Wanted) → IsIn (whole p).items w → IsHeldOnce p w.item → (w.low ≡ 1) × (w.high ≡ 1)
 held_once p w h once =
     let at = with_bounds 0 p.bounds w h in
     let item : w.item ≡ suc at.0 = omega (arith, at.2) in
