@@ -116,7 +116,7 @@ agreed_colours c d e = (eqb-true c d (and_right _ _ e), ltb-true 0 c (and_left _
 colour_of : (p : Puzzle) (a i c : ℕ) (o : Numbered) → IsIn (numbered_options p) o → o.number ≡ a → colour_in (uses_of p a) i ≡ Some c → colour_at o i ≡ Some c
 colour_of p a i c o h e k = subst (λ us. colour_in us i ≡ Some c) (ap (uses_of p) (sym e) ∙ uses_known p o h) k
 
-bounded : (p : Puzzle) (i : ℕ) (b : Bounds) → bounds_at p i ≡ Some b → (w : Wanted) × IsIn (whole p).items w × (w.item ≡ i) × (w.low ≡ b.low) × (w.high ≡ b.high)
+pub bounded : (p : Puzzle) (i : ℕ) (b : Bounds) → bounds_at p i ≡ Some b → (w : Wanted) × IsIn (whole p).items w × (w.item ≡ i) × (w.low ≡ b.low) × (w.high ≡ b.high)
 bounded p zero b e = cc
 bounded p (suc j) b e = let at = at_item 0 p.bounds j b e in (at.0, at.1, omega (arith, at.2), at.3, at.4)
 

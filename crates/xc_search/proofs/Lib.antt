@@ -7,6 +7,7 @@ pub mod completeness
 pub mod listing
 pub mod lists
 pub mod moves
+pub mod parts
 pub mod residual
 pub mod room
 pub mod stacked

@@ -1,9 +1,10 @@
-//! Laws of the listing: its members are the covers, each once.
-ghost use Rattle.std.specs.Prelude.{◌≡◌, [], ◌∷◌, Some, None};
-ghost use Rattle.xc_input.specs.Problem.{Puzzle, IsValid};
-ghost use Rattle.xc_search.specs.Listing.{Residual, branch_item, level, listing};
-ghost use Rattle.xc_search.specs.Worked.{choice, seven_items, two_colours, once_or_twice, equal_options, missing_item, one_colour, up_to_twice, no_options, largest_bound, both_options, blank_secondary, bounds_and_colours, bound_beside_one};
-ghost use Rattle.xc_search.specs.Cover.{members, EachMemberCovers, EachCoverIsListed, EachCoverIsListedOnce, NoSetTwice};
+//! Laws of the listing: its members are the covers, each once, and those of the parts that a search is split into.
+ghost use Rattle.std.specs.Prelude.{ℕ, ◌≡◌, [], ◌∷◌, map, Some, None, Contains};
+ghost use Rattle.xc_input.specs.Problem.{Puzzle, Numbered, IsValid, numbered_options, holding};
+ghost use Rattle.xc_search.specs.Listing.{Wanted, Residual, whole, branch_item, level, listing};
+ghost use Rattle.xc_search.specs.Worked.{choice, seven_items, item_b, two_colours, once_or_twice, equal_options, missing_item, one_colour, up_to_twice, no_options, largest_bound, both_options, blank_secondary, bounds_and_colours, bound_beside_one};
+ghost use Rattle.xc_search.specs.Cover.{options_of, members, EachMemberCovers, EachCoverIsListed, EachCoverIsListedOnce, NoSetTwice};
+ghost use Rattle.xc_search.specs.Parts.{IsHeldOnce, part, in_problem, part_in_front, front_part, PartsJoin, PartsAreApart, PartsInOrder, PartsCover, PartsListCovers, PartsListOnce, AreKeptApart, AreKeptInOrder, ListsAlike, ListsPart};
 
 /// The listing is one level over itself.
 pub fn listing_unrolls()
@@ -28,6 +29,44 @@ pub fn no_set_twice()
 /// Each cover of a valid problem is the set of options of exactly one member of its listing.
 pub fn each_cover_is_listed_once()
     ensures { (p : Puzzle) → IsValid p → EachCoverIsListedOnce p }
+{}
+
+/// Parts are problems for which the other laws hold too.
+pub fn parts_are_valid()
+    ensures { (p : Puzzle) → IsValid p → (i : ℕ) (x : Numbered) → IsValid (part p i x) }
+{}
+
+/// The covers of a problem are those of its parts by an item that is to be held exactly once.
+pub fn parts_join()
+    ensures { (p : Puzzle) → IsValid p → (i : ℕ) → IsHeldOnce p i → PartsJoin p i }
+{}
+
+/// No cover of one such part is one of another.
+pub fn parts_are_apart()
+    ensures { (p : Puzzle) → IsValid p → (i : ℕ) → IsHeldOnce p i → PartsAreApart p i }
+{}
+
+/// Where the search branches on such an item first, the parts that have it in front list the members in order.
+pub fn parts_in_order()
+    ensures { (p : Puzzle) → IsValid p → (w : Wanted) → branch_item (whole p) ≡ Some w →
+        IsHeldOnce p w.item → PartsInOrder p w }
+{}
+
+/// The parts that have such an item in front list the covers, each once, whichever item the search branches on first.
+pub fn parts_list_covers()
+    ensures covers { (p : Puzzle) → IsValid p → (w : Wanted) → Contains (whole p).items w → IsHeldOnce p w.item → PartsCover p w }
+    ensures listed { (p : Puzzle) → IsValid p → (w : Wanted) → Contains (whole p).items w → IsHeldOnce p w.item → PartsListCovers p w }
+    ensures once { (p : Puzzle) → IsValid p → (w : Wanted) → Contains (whole p).items w → IsHeldOnce p w.item → PartsListOnce p w }
+{}
+
+/// The listing is the same under other numbers that keep items apart and options in order.
+pub fn listing_renumbered()
+    ensures { (f g : ℕ → ℕ) → AreKeptApart f → (r : Residual) → AreKeptInOrder g r.options → ListsAlike f g r }
+{}
+
+/// What such a part lists is what it lists as a problem of its own.
+pub fn parts_are_listed()
+    ensures { (p : Puzzle) → IsValid p → (w : Wanted) → Contains (whole p).items w → (x : Numbered) → ListsPart p w x }
 {}
 
 /// The listings of worked problems, computed by the definitions.
@@ -60,4 +99,15 @@ pub fn worked_listings()
     ensures bound_beside_one { members bound_beside_one
         ≡ (choice 2 (Some 1) 1 1 ∷ choice 1 (Some 2) 1 2 ∷ []) ∷ (choice 2 (Some 1) 1 1 ∷ choice 1 None 2 2 ∷ [])
         ∷ [] }
+{}
+
+/// The parts of a worked problem by its second item, computed by the definitions.
+pub fn worked_parts()
+    ensures covers { map (λ x. map (λ m. in_problem seven_items 2 x (options_of m)) (members (part seven_items 2 x)))
+        (holding 2 (numbered_options seven_items))
+        ≡ [] ∷ ((5 ∷ 4 ∷ 1 ∷ []) ∷ []) ∷ [] }
+    ensures in_front { map (λ x. listing (part_in_front seven_items item_b x)) (holding 2 (numbered_options seven_items))
+        ≡ [] ∷ ((choice 2 (Some 5) 1 1 ∷ choice 1 (Some 4) 1 1 ∷ choice 3 (Some 1) 1 1 ∷ []) ∷ []) ∷ [] }
+    ensures alone { map (λ x. members (front_part seven_items item_b x)) (holding 2 (numbered_options seven_items))
+        ≡ [] ∷ ((choice 1 (Some 4) 1 1 ∷ choice 2 (Some 3) 1 1 ∷ choice 3 (Some 1) 1 1 ∷ []) ∷ []) ∷ [] }
 {}

@@ -82,7 +82,7 @@ stay n r chosen i x y p c f k e apart =
     ] refl)
     (list_all-each (λ u. may_stay (item_left r u.item) u y) x.uses (λ u j. may_stay_beside n r chosen x y u (item_left r u.item) p c f.known k f.taken e apart j refl))
 
-covers_pick : (n : ℕ) (r : Residual) (chosen : ℕ → Bool) (i : ℕ) (x : Numbered) → IsProper n r → Covers n r chosen → IsFirst r chosen i x → Covers n (pick r i x) chosen
+pub covers_pick : (n : ℕ) (r : Residual) (chosen : ℕ → Bool) (i : ℕ) (x : Numbered) → IsProper n r → Covers n r chosen → IsFirst r chosen i x → Covers n (pick r i x) chosen
 covers_pick n r chosen i x p c f = record {
   met = λ w k.
       let found = in-filter (λ w. nat_lt 0 w.high) (map (spend_one x) r.items) w k in
@@ -137,7 +137,7 @@ member_end n r chosen p e k = (
       absurd (subst (λ ws. IsIn ws w.0) e w.1),
 )
 
-member_pick : (n : ℕ) (r : Residual) (chosen : ℕ → Bool) (i : ℕ) (x : Numbered) (c : Choice) (m : List Choice) → IsProper n r → Covers n r chosen → IsFirst r chosen i x → c.option ≡ Some x.number →
+pub member_pick : (n : ℕ) (r : Residual) (chosen : ℕ → Bool) (i : ℕ) (x : Numbered) (c : Choice) (m : List Choice) → IsProper n r → Covers n r chosen → IsFirst r chosen i x → c.option ≡ Some x.number →
     IsMemberOf (pick r i x) chosen m → IsMemberOf r chosen (c ∷ m)
 member_pick n r chosen i x c m p covers f e h k = (λ j. there (subst (λ o. IsIn (cons_option o (options_of m)) k) e j), λ j. subst (λ o. IsIn (cons_option o (options_of m)) k) (sym e) (back j))
   where

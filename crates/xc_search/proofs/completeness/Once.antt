@@ -1,6 +1,6 @@
 -- Members at two places have different sets of options.
-use Rattle.std.proofs.Common.{ℕ, zero, suc, ◌≡◌, ◌<◌, ◌≤◌, true, false, cond, not, ◌&&◌, eqb, ltb, List, [], ◌∷◌, take, Option, Some, None, refl, sym, arith, subst, ◌⊎◌, inl, inr, le-leb, ltb-true, ltb-false}
-use Rattle.std.specs.Prelude.{nat_le}
+use Rattle.std.proofs.Common.{ℕ, zero, suc, ◌≡◌, ◌<◌, ◌≤◌, true, false, cond, not, ◌&&◌, eqb, List, [], ◌∷◌, take, Option, Some, None, refl, sym, arith, subst, ◌⊎◌, inl, inr, le-leb}
+use Rattle.std.specs.Prelude.{nat_le, slice_get}
 use Rattle.std.specs.List.{cons_option, enumerate_from}
 use Rattle.xc_search.specs.declared.choice.Choice.{Choice}
 use Rattle.xc_input.specs.Problem.{Puzzle, Numbered, holds, IsValid, holding}
@@ -102,7 +102,7 @@ rise_behind r w b rise (inl t) = subst (λ (z : Residual). NumbersRise 0 z.optio
 rise_behind r w b rise (inr t) = subst (λ (z : Residual). NumbersRise 0 z.options) (sym t.next) (NumbersRise-filter (λ o. not (holds o w.item)) 0 r.options rise)
 
 -- numbers that rise, two by two
-two_rise : (n : ℕ) (os : List Numbered) → NumbersRise n os → EachTwo (λ x y. x.number < y.number) os
+pub two_rise : (n : ℕ) (os : List Numbered) → NumbersRise n os → EachTwo (λ x y. x.number < y.number) os
 two_rise n [] r = tt
 two_rise n (o ∷ os) r = (each_from (λ y. o.number < y.number) os (λ y k. above_in o.number os y r.1 k), two_rise o.number os r.1)
 
@@ -175,16 +175,13 @@ by_members : (l m : List Choice) → SameSet (options_of l) (options_of m) → (
 by_members l m same k =
     (λ h. in-contains (options_of m) k ((same k).0 (contains-in (options_of l) k h)), λ h. in-contains (options_of l) k ((same k).1 (contains-in (options_of m) k h)))
 
+-- members that differ stand at one place where they have one set
+pub one_place : (ms : List (List Choice)) → EachTwo Differ ms → (j k : ℕ) (l m : List Choice) → slice_get ms j ≡ Some l → slice_get ms k ≡ Some m → SameSet (options_of l) (options_of m) → j ≡ k
+one_place ms all j k l m e f same =
+    let one : j < k → ⊥ = λ less. EachTwo-at Differ ms j k l m all less e f (by_members l m same) in
+    let two : k < j → ⊥ = λ less. EachTwo-at Differ ms k j m l all less f e (λ i. let s = by_members l m same i in (s.1, s.0)) in
+    grind (arith, one, two)
+
 pub no_set_twice : (p : Puzzle) → IsValid p → NoSetTwice p
 unfolding listing
-no_set_twice p v j k l m e f same =
-    let all : EachTwo Differ (members p) = all_differ (size_of (whole p)) (whole p) (options_rise p) in
-    let one : j < k → ⊥ = λ less. EachTwo-at Differ (members p) j k l m all less e f (by_members l m same) in
-    let two : k < j → ⊥ = λ less. EachTwo-at Differ (members p) k j m l all less f e (λ i. let s = by_members l m same i in (s.1, s.0)) in
-    elim (ltb j k) as (λ b. ltb j k ≡ b → j ≡ k) [
-      | true ↦ λ t. absurd (one (ltb-true j k t))
-      | false ↦ λ t. elim (ltb k j) as (λ b. ltb k j ≡ b → j ≡ k) [
-        | true ↦ λ u. absurd (two (ltb-true k j u))
-        | false ↦ λ u. omega (arith, ltb-false j k t, ltb-false k j u)
-      ] refl
-    ] refl
+no_set_twice p v = one_place (members p) (all_differ (size_of (whole p)) (whole p) (options_rise p))

@@ -5,15 +5,16 @@ use Rattle.std.specs.List.{AllByRecursion, list_any}
 use Rattle.std.proofs.lemmas.List.Elements.{recursion_from_All}
 use Rattle.std.proofs.lemmas.List.Sums.{sum_by-cons}
 use Rattle.xc_input.specs.declared.problem.Use.{Use}
+use Rattle.xc_search.specs.declared.choice.Choice.{Choice}
 use Rattle.xc_input.specs.Problem.{Puzzle, Numbered, numbered_options, primary_count, option_count, colour_in, colour_at, holds, uses_of, bounds_at, IsSoundUse, IsSoundOption, IsValid}
 use Rattle.xc_search.specs.Listing.{whole, listing, size_of}
 use Rattle.xc_dance.specs.Left.{agrees}
-use Rattle.xc_search.specs.Cover.{IsCover, times_held, options_of, members, EachCoverIsListed}
+use Rattle.xc_search.specs.Cover.{IsCover, SameSet, times_held, options_of, members, EachCoverIsListed}
 use Rattle.xc_search.proofs.Members.{IsIn, in-contains, contains-in, slice_get-in, each_in, each_from}
 use Rattle.xc_dance.proofs.MoveLemmas.OptionsRise.{options_rise}
 use Rattle.xc_search.proofs.completeness.Proper.{proper_whole}
 use Rattle.xc_search.proofs.completeness.Passing.{passing, none_pass, passing_without, list_all-each}
-use Rattle.xc_search.proofs.completeness.Complete.{is_held, Covers, listed_for}
+use Rattle.xc_search.proofs.completeness.Complete.{is_held, Covers, IsMemberOf, listed_for}
 use Rattle.xc_search.proofs.EachTwo.{EachTwo, each_two_from_AllPairs}
 use Rattle.xc_input.proofs.ListFilters.{filter_same, filter_both}
 use Rattle.std.proofs.Math.Bool.{or-true, and-false}
@@ -24,14 +25,14 @@ use Rattle.xc_search.proofs.residual.OptionUses.{own_colours, apart_from_pairs}
 abbrev pub is_listed : List ℕ → ℕ → Bool
 is_listed s k = list_any (λ a. eqb a k) s
 
-listed_in : (s : List ℕ) (k : ℕ) → is_listed s k ≡ true → IsIn s k
+pub listed_in : (s : List ℕ) (k : ℕ) → is_listed s k ≡ true → IsIn s k
 listed_in [] k e = cc
 listed_in (a ∷ s) k e = elim (eqb a k) as (λ b. eqb a k ≡ b → (b || is_listed s k) ≡ true → IsIn (a ∷ s) k) [
   | true ↦ λ q h. inl (eqb-true a k q)
   | false ↦ λ q h. inr (listed_in s k h)
 ] refl e
 
-in_listed : (s : List ℕ) (k : ℕ) → IsIn s k → is_listed s k ≡ true
+pub in_listed : (s : List ℕ) (k : ℕ) → IsIn s k → is_listed s k ≡ true
 in_listed [] k h = absurd h
 in_listed (a ∷ s) k (inl q) = let same : eqb a k ≡ true = eq-eqb a k q in rw same refl
 in_listed (a ∷ s) k (inr q) = rw (in_listed s k q) (or-true (eqb a k))
@@ -74,7 +75,7 @@ one_more p i a s x h e out =
     ] refl
 
 -- the option of a number
-option_of : (p : Puzzle) (a : ℕ) → 1 ≤ a → a ≤ option_count p → (x : Numbered) × IsIn (numbered_options p) x × (x.number ≡ a)
+pub option_of : (p : Puzzle) (a : ℕ) → 1 ≤ a → a ≤ option_count p → (x : Numbered) × IsIn (numbered_options p) x × (x.number ≡ a)
 option_of p a h k = let at = at_number 0 p.options (a - 1) (omega (arith, h, k)) in (at.0, at.1, omega (arith, at.2, h))
 
 held_times : (p : Puzzle) (i : ℕ) (s : List ℕ) → EachTwo (λ a b. a ≢ b) s → AllByRecursion (λ o. (1 ≤ o) × (o ≤ option_count p)) s →
@@ -120,22 +121,21 @@ covers_whole p s v c = record {
           ] refl
         ] refl
 
+pub same_set : (p : Puzzle) (s : List ℕ) (m : List Choice) → IsCover p s → IsMemberOf (whole p) (is_listed s) m → SameSet s (options_of m)
+same_set p s m c h o = (
+  λ k. contains-in (options_of m) o ((h o).1 (chosen_option (in-contains s o k))),
+  λ k. let x = (h o).0 (in-contains (options_of m) o k) in contains-in s o (subst (IsIn s) x.3 (listed_in s x.0.number x.2)),
+)
+  where
+    chosen_option : IsIn s o → (x : Numbered) × IsIn (numbered_options p) x × (is_listed s x.number ≡ true) × (x.number ≡ o)
+    chosen_option k =
+        let known = each_in (λ o. (1 ≤ o) × (o ≤ option_count p)) s o (recursion_from_All (λ o. (1 ≤ o) × (o ≤ option_count p)) s c.known) k in
+        let x = option_of p o known.0 known.1 in
+        (x.0, x.1, subst (λ j. is_listed s j ≡ true) (sym x.2) (in_listed s o k), x.2)
+
 pub each_cover_is_listed : (p : Puzzle) → IsValid p → EachCoverIsListed p
 unfolding listing
 each_cover_is_listed p v s c =
     let m = listed_for (primary_count p) (size_of (whole p)) (whole p) (is_listed s) (proper_whole p v) (covers_whole p s v c) (omega arith) in
-    let at = slice_get-in (members p) m.0 m.1 in (
-      at.0,
-      m.0,
-      at.1,
-      λ o. (
-        λ h. contains-in (options_of m.0) o ((m.2 o).1 (chosen_option o (in-contains s o h))),
-        λ h. let x = (m.2 o).0 (in-contains (options_of m.0) o h) in contains-in s o (subst (IsIn s) x.3 (listed_in s x.0.number x.2)),
-      ),
-    )
-  where
-    chosen_option : (o : ℕ) → IsIn s o → (x : Numbered) × IsIn (numbered_options p) x × (is_listed s x.number ≡ true) × (x.number ≡ o)
-    chosen_option o h =
-        let known = each_in (λ o. (1 ≤ o) × (o ≤ option_count p)) s o (recursion_from_All (λ o. (1 ≤ o) × (o ≤ option_count p)) s c.known) h in
-        let x = option_of p o known.0 known.1 in
-        (x.0, x.1, subst (λ k. is_listed s k ≡ true) (sym x.2) (in_listed s o h), x.2)
+    let at = slice_get-in (members p) m.0 m.1 in
+    (at.0, m.0, at.1, same_set p s m.0 c m.2)

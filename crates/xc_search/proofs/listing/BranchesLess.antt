@@ -10,7 +10,7 @@ use Rattle.xc_input.proofs.EachElement.{each_weaker, each-append, each-map, each
 use Rattle.std.proofs.lemmas.List.{length-map}
 
 -- a test that each option of item i fails for itself leaves one out
-less_options : (i : ℕ) (q : Numbered → Numbered → Bool) → ((x : Numbered) → holds x i ≡ true → q x x ≡ false) → (os : List Numbered) → AllByRecursion (λ x. length (filter (q x) os) < length os) (holding i os)
+pub less_options : (i : ℕ) (q : Numbered → Numbered → Bool) → ((x : Numbered) → holds x i ≡ true → q x x ≡ false) → (os : List Numbered) → AllByRecursion (λ x. length (filter (q x) os) < length os) (holding i os)
 less_options i q fails [] = tt
 less_options i q fails (o ∷ os) =
     let later : AllByRecursion (λ x. length (filter (q x) (o ∷ os)) < suc (length os)) (holding i os) =
