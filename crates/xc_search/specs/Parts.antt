@@ -76,7 +76,8 @@ PartsInOrder p w =
 -- x is an option of w, and m the member at place k of its part
 abbrev pub IsPartMember : Puzzle → Wanted → Numbered → ℕ → List Choice → Type 0
 IsPartMember p w x k m =
-    Contains (holding w.item (numbered_options p)) x × (slice_get (listing (part_in_front p w x)) k ≡ Some m)
+    Contains (holding w.item (numbered_options p)) x
+    × (slice_get (listing (part_in_front p w x)) k ≡ Some m)
 
 -- the members of the parts are covers
 abbrev pub PartsCover : Puzzle → Wanted → Type 0
