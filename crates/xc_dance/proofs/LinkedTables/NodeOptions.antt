@@ -158,15 +158,6 @@ name_used : (p : Puzzle) (i place x : ℕ) → IsName p i x → place ≡ link_p
 name_used p i place x (inl z) at other = absurd (other (at ∙ ap (link_place p i) z))
 name_used p i place x (inr h) at other = h
 
-pub before_spacer : (p : Puzzle) (i place x : ℕ) → IsFit p → place ≢ i → IsName p i x → place ≡ link_place p i x → place ≤ spacer_place p x
-before_spacer p i place x fit other name at = by_number x (name_used p i place x name at other) at
-  where
-    by_number : (o : ℕ) → (0 < o) × (is_some (colour_in (uses_of p o) i) ≡ true) → place ≡ link_place p i o → place ≤ spacer_place p o
-    by_number zero h e = absurd (let pos = h.0 in omega (arith, pos))
-    by_number (suc m) h e =
-        let w = use_place p i m fit h.1 in
-        omega (arith, e, w.place, spacer_behind p i m w, slice_get_within w.uses w.index w.use_of w.use_is)
-
 -- what TOP tells at q, which is not past the spacer behind the node at the place
 pub record Seeks (p : Puzzle) (i place : ℕ) (top : List ℕ) (q : ℕ) : Type 0 where
   pub within : q < length (layout p)

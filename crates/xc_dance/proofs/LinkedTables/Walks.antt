@@ -97,9 +97,6 @@ pub record Following (step : Nodes → ℕ → Nodes) (writes : Nodes → ℕ �
   pub done : fold step t (drop k all) ≡ fold step t0 all
   pub cost : n + costs step writes t (drop k all) ≡ costs step writes t0 all
 
-pub following : {step : Nodes → ℕ → Nodes} {Can : Nodes → ℕ → Type 0} {links : Nodes → List ℕ} {t : Nodes} {all : List ℕ} {q p : ℕ} (writes : Nodes → ℕ → ℕ) → q ≡ p → CanFollow step Can links t p all → Following step writes Can links t all t q 0 0
-following {step} {Can} {links} {t} {all} {q} {p} writes e walk = record { walk = subst (λ x. CanFollow step Can links t x all) (sym e) walk; done = refl; cost = omega arith }
-
 -- the node that it is at comes first of those that are left
 pub record Here (step : Nodes → ℕ → Nodes) (Can : Nodes → ℕ → Type 0) (links : Nodes → List ℕ) (all : List ℕ) (t : Nodes) (p k : ℕ) : Type 0 where
   pub first : drop k all ≡ p ∷ drop (k + 1) all
