@@ -1,5 +1,6 @@
 -- A cell that is read is the field.
 use Rattle.std.proofs.Common.{◌≡◌, ◌≢◌, ◌⊎◌, inl, inr, ℕ, zero, suc, ◌+◌, ◌-◌, ◌<◌, ◌≤◌, ◌^◌, true, false, cond, ◌&&◌, eqb, leb, ltb, List, length, map, Option, Some, None, refl, ap, sym, ◌∙◌, arith, eqb-true, ne_eqb, leb-true, lt-ltb, le-ltb, ltb-true, ltb-false}
+use Rattle.std.proofs.lemmas.Grind.{common_steps}
 use Rattle.std.specs.Prelude.{ℤ, pos, neg_ℤ, slice_get, option_map, nat_lt}
 use Rattle.std.specs.List.{range_with_len}
 use Rattle.std.proofs.lemmas.Bool.{eqb-false, leb-false}
@@ -19,17 +20,9 @@ use Rattle.xc_dance.proofs.LinkedTables.GoodLines.{numbers_few}
 use Rattle.xc_dance.proofs.LinkedTables.ReadNumbers.{natural, read_small, read_large}
 
 row_read : (f : ℕ → ℕ) (a n q : ℕ) → slice_get (map f (range_with_len a n)) q ≡ cond (ltb q n) (Some (f (a + q))) None
-row_read f a zero q = ap (λ b. cond b (Some (f (a + q))) None) (sym (le-ltb q 0 (omega arith)))
-row_read f a (suc n) zero = let z : a ≡ a + 0 = omega arith in ap (λ k. Some (f k)) z ∙ ap (λ b. cond b (Some (f (a + 0))) None) (sym (lt-ltb 0 (suc n) (omega arith)))
-row_read f a (suc n) (suc q) =
-    let s : a + 1 + q ≡ a + suc q = omega arith in
-    row_read f (a + 1) n q ∙ ap (λ k. cond (ltb q n) (Some (f k)) None) s ∙ ap (λ b. cond b (Some (f (a + suc q))) None) (same q n)
-  where
-    same : (q n : ℕ) → ltb q n ≡ ltb (suc q) (suc n)
-    same q n = elim (ltb q n) as (λ b. ltb q n ≡ b → b ≡ ltb (suc q) (suc n)) [
-      | true ↦ λ e. let h = ltb-true q n e in sym (lt-ltb (suc q) (suc n) (omega (arith, h)))
-      | false ↦ λ e. let h = ltb-false q n e in sym (le-ltb (suc q) (suc n) (omega (arith, h)))
-    ] refl
+row_read f a zero q = grind (arith, common_steps, le-ltb, lt-ltb, ltb-false, ltb-true, ℕ)
+row_read f a (suc n) zero = grind (arith, common_steps, le-ltb, lt-ltb, ltb-false, ltb-true, ℕ)
+row_read f a (suc n) (suc q) = grind (arith, common_steps, le-ltb, lt-ltb, ltb-false, ltb-true, ℕ, row_read f (a + 1) n q)
 
 row_at_zero : (f : ℕ → ℕ) (n q : ℕ) → slice_get (map f (range_with_len 0 n)) q ≡ cond (ltb q n) (Some (f q)) None
 row_at_zero f n q = let z : 0 + q ≡ q = omega arith in row_read f 0 n q ∙ ap (λ k. cond (ltb q n) (Some (f k)) None) z
@@ -37,20 +30,7 @@ row_at_zero f n q = let z : 0 + q ≡ q = omega arith in row_read f 0 n q ∙ ap
 -- the columns from 0 to the items and one more
 item_row : (p : Puzzle) (inner : ℕ → ℕ) (first last q : ℕ) →
     option_map natural (slice_get (map (λ k. cond (eqb k 0) first (cond (leb k (item_count p)) (inner k) last)) (range_with_len 0 (item_count p + 2))) q) ≡ item_cell p q inner first last
-item_row p inner first last q =
-    ap (option_map natural) (row_at_zero (λ k. cond (eqb k 0) first (cond (leb k (item_count p)) (inner k) last)) (item_count p + 2) q)
-    ∙ elim (eqb q 0) as (λ a. eqb q 0 ≡ a → option_map natural (cond (ltb q (item_count p + 2)) (Some (cond a first (cond (leb q (item_count p)) (inner q) last))) None) ≡ cond a (Some (pos first)) (cond (leb q (item_count p)) (Some (pos (inner q))) (cond (eqb q (item_count p + 1)) (Some (pos last)) None))) [
-      | true ↦ λ e. let z = eqb-true q 0 e in rw (lt-ltb q (item_count p + 2) (omega (arith, z))) refl
-      | false ↦ λ e. elim (leb q (item_count p)) as (λ b. leb q (item_count p) ≡ b → option_map natural (cond (ltb q (item_count p + 2)) (Some (cond b (inner q) last)) None) ≡ cond b (Some (pos (inner q))) (cond (eqb q (item_count p + 1)) (Some (pos last)) None)) [
-        | true ↦ λ f. let h = leb-true q (item_count p) f in rw (lt-ltb q (item_count p + 2) (omega (arith, h))) refl
-        | false ↦ λ f. elim (eqb q (item_count p + 1)) as (λ c. eqb q (item_count p + 1) ≡ c → option_map natural (cond (ltb q (item_count p + 2)) (Some last) None) ≡ cond c (Some (pos last)) None) [
-          | true ↦ λ g. let h = eqb-true q (item_count p + 1) g in rw (lt-ltb q (item_count p + 2) (omega (arith, h))) refl
-          | false ↦ λ g.
-              let ne = eqb-false q (item_count p + 1) g in
-              rw (le-ltb q (item_count p + 2) (omega (arith, ne, leb-false q (item_count p) f))) refl
-        ] refl
-      ] refl
-    ] refl
+item_row p inner first last q = grind (arith, common_steps, eqb-false, eqb-true, le-ltb, leb-false, leb-true, lt-ltb, row_at_zero)
 
 pub llink_read : (p : Puzzle) (t : List Move) (q : ℕ) → option_map natural (slice_get (items_after p t).llink q) ≡ field_of p t Llink q
 llink_read p t q = item_row p (left_of p t) (last_of 0 (ring_of p t 0)) (last_of (item_count p + 1) (ring_of p t (primary_count p + 1))) q
@@ -90,45 +70,17 @@ top_cell p t q laid fit few = node_read p (top_in (line_of p t)) top_read (top_o
     by_node (used o u) e = let r = laid.nodes.ranged q (used o u) u.item o e refl in read_small u.item (omega (arith, r.1, few))
 
 pub ulink_cell : (p : Puzzle) (t : List Move) (q : ℕ) → IsLaid p → option_map natural (slice_get (nodes_after p t).ulink q) ≡ field_of p t Ulink q
-ulink_cell p t q laid = node_read p (ulink_in p (line_of p t)) natural (λ n. pos (ulink_of p t n)) q by_node
-  where
-    by_node : (n : Node) → slice_get (layout p) q ≡ Some n → pos (ulink_in p (line_of p t) n) ≡ pos (ulink_of p t n)
-    by_node unused e = refl
-    by_node (own i) e = refl
-    by_node (spacer zero) e = refl
-    by_node (spacer (suc n)) e = refl
-    by_node (used zero u) e = let h = laid.nodes.numbered q 0 u e in absurd (omega (arith, h))
-    by_node (used (suc o) u) e = refl
+ulink_cell p t q laid = grind (arith, common_steps, node_read)
 
 pub dlink_cell : (p : Puzzle) (t : List Move) (q : ℕ) → IsLaid p → option_map natural (slice_get (nodes_after p t).dlink q) ≡ field_of p t Dlink q
-dlink_cell p t q laid = node_read p (dlink_in p (line_of p t)) natural (λ n. pos (dlink_of p t n)) q by_node
-  where
-    by_node : (n : Node) → slice_get (layout p) q ≡ Some n → pos (dlink_in p (line_of p t) n) ≡ pos (dlink_of p t n)
-    by_node unused e = refl
-    by_node (own i) e = refl
-    by_node (spacer n) e = refl
-    by_node (used zero u) e = let h = laid.nodes.numbered q 0 u e in absurd (omega (arith, h))
-    by_node (used (suc o) u) e = refl
+dlink_cell p t q laid = grind (arith, common_steps, node_read)
 
 small_color : (v : ℕ) → v < 4294967295 → color_read v ≡ pos v
 small_color v h = rw (ne_eqb v 4294967295 (λ e. omega (arith, e, h))) refl
 
 -- the items' own nodes are never read as marked
 pub color_own : (p : Puzzle) (t : List Move) (q : ℕ) → IsLaid p → q ≤ item_count p → option_map natural (slice_get (nodes_after p t).color q) ≡ field_of p t Color q
-color_own p t q laid le = node_read p (color_in p t) natural (color_of p t) q by_node
-  where
-    at_head : (n : Node) → slice_get (layout p) q ≡ Some n → (n ≡ unused) ⊎ (n ≡ own q)
-    at_head n e =
-        elim (eqb q 0) as (λ b. eqb q 0 ≡ b → (n ≡ unused) ⊎ (n ≡ own q)) [
-          | true ↦ λ f. inl (let z : Some unused ≡ Some n = ap (slice_get (layout p)) (sym (eqb-true q 0 f)) ∙ e in cc)
-          | false ↦ λ f. inr (let h : slice_get (layout p) q ≡ Some (own q) = laid.head q (omega (arith, eqb-false q 0 f)) le in let z : Some (own q) ≡ Some n = sym h ∙ e in cc)
-        ] refl
-
-    by_node : (n : Node) → slice_get (layout p) q ≡ Some n → natural (color_in p t n) ≡ color_of p t n
-    by_node n e = elim (at_head n e) [
-      | inl a ↦ ap (λ m. natural (color_in p t m)) a ∙ sym (ap (color_of p t) a)
-      | inr a ↦ ap (λ m. natural (color_in p t m)) a ∙ sym (ap (color_of p t) a)
-    ]
+color_own p t q laid le = grind (arith, common_steps, eqb-false, eqb-true, node_read)
 
 pub color_use : (p : Puzzle) (t : List Move) (q : ℕ) → IsLaid p → IsFit p → item_count p < q → option_map color_read (slice_get (nodes_after p t).color q) ≡ field_of p t Color q
 color_use p t q laid fit gt = node_read p (color_in p t) color_read (color_of p t) q by_node
@@ -147,16 +99,7 @@ color_use p t q laid fit gt = node_read p (color_in p t) color_read (color_of p 
 -- ---- bounds
 
 bound_row : (p : Puzzle) (f : ℕ → ℕ) (q : ℕ) → q ≢ 0 → option_map natural (slice_get (map (λ k. cond (eqb k 0) 0 (f k)) (range_with_len 0 (primary_count p + 1))) q) ≡ primary_cell p q (f q)
-bound_row p f q ne =
-    let gt : nat_lt 0 q ≡ true = lt-ltb 0 q (omega (arith, ne)) in
-    ap (option_map natural) (row_at_zero (λ k. cond (eqb k 0) 0 (f k)) (primary_count p + 1) q)
-    ∙ ap (λ b. option_map natural (cond (ltb q (primary_count p + 1)) (Some (cond b 0 (f q))) None)) (ne_eqb q 0 ne)
-    ∙ elim (leb q (primary_count p)) as (λ b. leb q (primary_count p) ≡ b → option_map natural (cond (ltb q (primary_count p + 1)) (Some (f q)) None) ≡ cond (true && b) (Some (pos (f q))) None) [
-      | true ↦ λ e. let h = leb-true q (primary_count p) e in rw (lt-ltb q (primary_count p + 1) (omega (arith, h))) refl
-      | false ↦ λ e.
-          rw (le-ltb q (primary_count p + 1) (omega (arith, leb-false q (primary_count p) e))) refl
-    ] refl
-    ∙ ap (λ b. cond (b && leb q (primary_count p)) (Some (pos (f q))) None) (sym gt)
+bound_row p f q ne = grind (arith, common_steps, le-ltb, leb-false, leb-true, lt-ltb, ne_eqb, row_at_zero)
 
 pub bound_read : (p : Puzzle) (t : List Move) (q : ℕ) → q ≢ 0 → option_map natural (slice_get (items_after p t).bound q) ≡ field_of p t Bound q
 bound_read p t q ne = bound_row p (λ k. high_at p k - spends k t) q ne

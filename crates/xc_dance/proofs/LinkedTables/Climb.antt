@@ -1,5 +1,6 @@
 -- Down the nodes that Tweaks of one item took off: each option comes back into the lists of its other items, and under the node above it into its own.
 use Rattle.std.proofs.Common.{◌≡◌, ◌≢◌, ℕ, ◌+◌, ◌*◌, ◌<◌, ◌≤◌, ◌^◌, inr, Bool, true, false, not, cond, ◌&&◌, ◌||◌, eqb, List, [], ◌∷◌, ◌++◌, length, map, fold, filter, reverse, get_or, Option, Some, None, refl, ap, ap₂, sym, subst, ◌∙◌, arith, eqb-true, eq-eqb, ne_eqb}
+use Rattle.std.proofs.lemmas.Grind.{common_steps}
 use Rattle.std.specs.List.{list_any}
 use Rattle.std.proofs.lemmas.Bool.{eqb-false, false≢true, and_parts}
 use Rattle.std.proofs.lemmas.List.{length-map, reverse-append, map-append}
@@ -88,26 +89,16 @@ abbrev pub raised : Line → ℕ → Line
 raised l o = record { len = l.len; up = put_at l.up (l.down o) o; down = l.down }
 
 pub top_kept : (ln : ℕ → Line) (i : ℕ) (l : Line) (n : Node) → l.len ≡ (ln i).len → top_in (with_line ln i l) n ≡ top_in ln n
-top_kept ln i l unused e = refl
-top_kept ln i l (spacer m) e = refl
-top_kept ln i l (used o u) e = refl
-top_kept ln i l (own k) e = elim (eqb k i) as (λ b. eqb k i ≡ b → cond b l.len (ln k).len ≡ (ln k).len) [
-  | true ↦ λ f. e ∙ ap (λ j. (ln j).len) (sym (eqb-true k i f))
-  | false ↦ λ f. refl
-] refl
+top_kept ln i l unused e = grind (arith, common_steps, eqb-true)
+top_kept ln i l (spacer m) e = grind (arith, common_steps, eqb-true)
+top_kept ln i l (used o u) e = grind (arith, common_steps, eqb-true)
+top_kept ln i l (own k) e = grind (arith, common_steps, eqb-true)
 
 abbrev pub link_to : Puzzle → (ℕ → Line) → ℕ → Option (ℕ × ℕ) → ℕ
 link_to p ln fixed s = link_at p (λ j x. (ln j).down x) fixed s
 
 pub down_kept : (p : Puzzle) (ln : ℕ → Line) (i : ℕ) (l : Line) (n : Node) → ((x : ℕ) → l.down x ≡ (ln i).down x) → dlink_in p (with_line ln i l) n ≡ dlink_in p ln n
-down_kept p ln i l n h = by_slot (slot_of n)
-  where
-    by_slot : (s : Option (ℕ × ℕ)) → link_to p (with_line ln i l) (fixed_down p n) s ≡ link_to p ln (fixed_down p n) s
-    by_slot None = refl
-    by_slot (Some s) = ap (link_place p s.0) (elim (eqb s.0 i) as (λ b. eqb s.0 i ≡ b → cond b (l.down s.1) ((ln s.0).down s.1) ≡ (ln s.0).down s.1) [
-      | true ↦ λ f. h s.1 ∙ ap (λ j. (ln j).down s.1) (sym (eqb-true s.0 i f))
-      | false ↦ λ f. refl
-    ] refl)
+down_kept p ln i l n h = grind (arith, common_steps, eqb-true, ℕ)
 
 raised_is : (p : Puzzle) (col : Node → ℕ) (ln : ℕ → Line) (i o : ℕ) → IsLaid p → Placed p i ((ln i).down o) →
     with_ulink (nodes_from p ln col) (link_place p i ((ln i).down o)) (link_place p i o) ≡ nodes_from p (with_line ln i (raised (ln i) o)) col
@@ -121,10 +112,8 @@ raised_is p col ln i o laid h =
 -- ---- one step
 
 pub map_reverse : (f : ℕ → ℕ) (xs : List ℕ) → reverse (map f xs) ≡ map f (reverse xs)
-map_reverse f [] = refl
-map_reverse f (x ∷ xs) =
-    reverse-append (f x ∷ []) (map f xs) ∙ ap (λ ks. ks ++ f x ∷ []) (map_reverse f xs)
-    ∙ sym (map-append f (reverse xs) (x ∷ [])) ∙ ap (map f) (sym (reverse-append (x ∷ []) xs))
+map_reverse f [] = grind (arith, common_steps, map-append, reverse-append)
+map_reverse f (x ∷ xs) = grind (arith, common_steps, map-append, reverse-append, map_reverse f xs)
 
 -- what a step writes for option o
 abbrev pub back_writes : Puzzle → (Node → ℕ) → Bool → ℕ → ℕ → ℕ
@@ -141,15 +130,7 @@ pub record Opened (p : Puzzle) (t : List Move) (spans : List Span) (covered : Bo
   pub few : (j : ℕ) → 0 < j → j ≤ item_count p → j ≢ i → (ln1 j).len + length (to_come p t covered i j os) ≡ (line_of p t j).len
 
 opened_covered : (p : Puzzle) (t : List Move) (spans : List Span) (i : ℕ) (ln : ℕ → Line) (o : ℕ) (os : List ℕ) → Climbing p t true i ln (o ∷ os) → Opened p t spans true i ln o os
-opened_covered p t spans i ln o os h = record {
-  ln1 = ln;
-  can = λ e. absurd (false≢true (sym e));
-  done = refl;
-  own = refl;
-  cost = refl;
-  others = h.others;
-  few = h.few;
-}
+opened_covered p t spans i ln o os h = grind (arith, common_steps, false≢true)
 
 apart_behind : (js ks : List ℕ) → AllApart (js ++ ks) → AllApart ks
 apart_behind [] ks h = h
@@ -300,8 +281,5 @@ by_opened p t spans covered i ln o os fit pos le within h m1 =
 
 pub climb_step : (p : Puzzle) (t : List Move) (spans : List Span) (covered : Bool) (i : ℕ) (ln : ℕ → Line) (o : ℕ) (os : List ℕ) → AreLegal p t → IsFitted p spans → 0 < i → i ≤ item_count p → is_open i t ≡ not covered → is_in o (listed_numbers p t i) ≡ true
     → Climbing p t covered i ln (o ∷ os) → ClimbStep p t spans covered i ln o os
-climb_step p t spans true i ln o os legal fit pos le shut within h = by_opened p t spans true i ln o os fit pos le within h (opened_covered p t spans i ln o os h)
-climb_step p t spans false i ln o os legal fit pos le opened within h =
-    let named : Named p i o = element_of (Named p i) o (listed_numbers p t i) (numbers_named p t i) within in
-    let o_pos : 0 < o = in_above 0 o (listed_numbers p t i) (rises_listed p t i) within in
-    by_opened p t spans false i ln o os fit pos le within h (opened_open p t spans i ln o os legal fit opened o_pos named within h)
+climb_step p t spans true i ln o os legal fit pos le shut within h = grind (arith, common_steps, by_opened, element_of, in_above, numbers_named, opened_covered, opened_open, rises_listed)
+climb_step p t spans false i ln o os legal fit pos le opened within h = grind (arith, common_steps, by_opened, element_of, in_above, numbers_named, opened_covered, opened_open, rises_listed)

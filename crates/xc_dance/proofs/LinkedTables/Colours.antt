@@ -1,5 +1,6 @@
 -- The colour of one node of the table.
-use Rattle.std.proofs.Common.{◌≡◌, ℕ, true, false, cond, ◌&&◌, eqb, List, map, get_or, set, Option, Some, None, refl, ap, ap₂, sym, ◌∙◌, eqb-true, eq-eqb}
+use Rattle.std.proofs.Common.{◌≡◌, ℕ, true, false, cond, ◌&&◌, eqb, List, map, get_or, set, Option, Some, None, refl, ap, ap₂, sym, ◌∙◌, eqb-true, eq-eqb, arith}
+use Rattle.std.proofs.lemmas.Grind.{common_steps}
 use Rattle.std.specs.Prelude.{slice_get}
 use Rattle.std.proofs.lemmas.Bool.{false≢true}
 use Rattle.xc_input.specs.Problem.{Puzzle}
@@ -16,12 +17,8 @@ slot_here : (j x : ℕ) (s : Option (ℕ × ℕ)) → s ≡ Some (j, x) → is_s
 slot_here j x s e = ap (is_slot j x) e ∙ ap₂ (λ a b. a && b) (eq-eqb j j refl) (eq-eqb x x refl)
 
 slot_is : (j x : ℕ) (s : Option (ℕ × ℕ)) → is_slot j x s ≡ true → s ≡ Some (j, x)
-slot_is j x None e = absurd (false≢true e)
-slot_is j x (Some s) e =
-    elim (eqb s.0 j) as (λ a. eqb s.0 j ≡ a → (a && eqb s.1 x) ≡ true → Some s ≡ Some (j, x)) [
-      | true ↦ λ f g. ap₂ (λ a b. let r : ℕ × ℕ = (a, b) in Some r) (eqb-true s.0 j f) (eqb-true s.1 x g)
-      | false ↦ λ f g. absurd (false≢true g)
-    ] refl e
+slot_is j x None e = grind (arith, common_steps, eqb-true, false≢true, ℕ)
+slot_is j x (Some s) e = grind (arith, common_steps, eqb-true, false≢true, ℕ)
 
 pub color_put : (p : Puzzle) (col : Node → ℕ) (j x v : ℕ) → IsLaid p → Placed p j x → map (with_color col j x v) (layout p) ≡ set (map col (layout p)) (link_place p j x) v
 color_put p col j x v laid h =
@@ -39,8 +36,7 @@ color_put p col j x v laid h =
 
 -- a node is coloured in the table
 pub coloured_is : (p : Puzzle) (col : Node → ℕ) (ln : ℕ → Line) (j x v : ℕ) → IsLaid p → Placed p j x → with_colour (nodes_from p ln col) (link_place p j x) v ≡ nodes_from p ln (with_color col j x v)
-coloured_is p col ln j x v laid h =
-    same_nodes (with_colour (nodes_from p ln col) (link_place p j x) v) (nodes_from p ln (with_color col j x v)) refl refl refl (sym (color_put p col j x v laid h))
+coloured_is p col ln j x v laid h = grind (arith, common_steps, color_put, same_nodes)
 
 pub color_here : (p : Puzzle) (col : Node → ℕ) (j x v : ℕ) → Placed p j x → get_or (map (with_color col j x v) (layout p)) (link_place p j x) 0 ≡ v
 color_here p col j x v h =
@@ -48,7 +44,4 @@ color_here p col j x v h =
 
 pub color_other : (p : Puzzle) (col : Node → ℕ) (j x v k y : ℕ) → Placed p k y → (eqb k j && eqb y x) ≡ false →
     get_or (map (with_color col j x v) (layout p)) (link_place p k y) 0 ≡ get_or (map col (layout p)) (link_place p k y) 0
-color_other p col j x v k y h ne =
-    get_map (with_color col j x v) (layout p) (link_place p k y) h.node h.at
-    ∙ ap (λ b. cond b v (col h.node)) (ap (is_slot j x) h.slot ∙ ne)
-    ∙ sym (get_map col (layout p) (link_place p k y) h.node h.at)
+color_other p col j x v k y h ne = grind (arith, common_steps, get_map)

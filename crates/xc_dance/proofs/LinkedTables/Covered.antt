@@ -1,5 +1,6 @@
 -- Whether an item is covered, read from its ring.
 use Rattle.std.proofs.Common.{◌≡◌, ◌≢◌, ℕ, ◌+◌, ◌<◌, ◌≤◌, Bool, true, false, not, cond, ◌||◌, eqb, List, [], ◌∷◌, length, get_or, refl, ap, sym, subst, ◌∙◌, arith, eqb-true, eq-eqb, ne_eqb}
+use Rattle.std.proofs.lemmas.Grind.{common_steps}
 use Rattle.std.proofs.lemmas.Bool.{false≢true}
 use Rattle.xc_dance.specs.declared.dance.Move.{Move}
 use Rattle.xc_dance.specs.declared.dance.Move.TheVariants.{Cover, Purify, Tweak, Spend}
@@ -18,10 +19,7 @@ pub record IsPast (p : Puzzle) (t : List Move) (i : ℕ) : Type 0 where
   pub past : rlink_at p t (left_of p t i) ≢ i
 
 still_past : (p : Puzzle) (t : List Move) (m : Move) (i : ℕ) → left_of p (m ∷ t) i ≡ left_of p t i → ((q : ℕ) → rlink_at p (m ∷ t) q ≡ rlink_at p t q) → IsPast p t i → IsPast p (m ∷ t) i
-still_past p t m i l r h = record {
-  place = subst (λ k. k < item_count p + 2) (sym l) h.place;
-  past = λ e. h.past (sym (r (left_of p t i)) ∙ ap (rlink_at p (m ∷ t)) (sym l) ∙ e);
-}
+still_past p t m i l r h = grind (arith, common_steps)
 
 pub past_covered : (p : Puzzle) (t : List Move) (i : ℕ) → AreLegal p t → 0 < i → i ≤ item_count p → is_covered i t ≡ true → IsPast p t i
 past_covered p [] i legal pos le e = absurd (false≢true e)

@@ -1,5 +1,6 @@
 -- A use's node enters its item's list: so does its option the item's line.
 use Rattle.std.proofs.Common.{◌≡◌, ℕ, zero, suc, ◌+◌, ◌-◌, ◌<◌, ◌≤◌, inl, inr, Bool, true, false, cond, eqb, List, [], ◌∷◌, ◌++◌, length, map, take, get_or, set, Some, refl, ap, sym, ◌∙◌, arith, eqb-true, eq-eqb, ne_eqb}
+use Rattle.std.proofs.lemmas.Grind.{common_steps}
 use Rattle.std.specs.Prelude.{slice_get, slice_index, is_some, flat_map}
 use Rattle.std.specs.List.{AllByRecursion}
 use Rattle.std.proofs.lemmas.Bool.{eqb-false}
@@ -35,12 +36,7 @@ nodes_same p ln lm col h = ap (λ (lines : ℕ → Line). nodes_from p lines col
 -- two writes to the links of one item
 written_twice : (f : ℕ → ℕ → ℕ) (j : ℕ) (g : ℕ → ℕ) (o : ℕ) (k x : ℕ) →
     put_link (put_link f j g) j (put_at (put_link f j g j) 0 o) k x ≡ put_link f j (put_at g 0 o) k x
-written_twice f j g o k x =
-    let self : eqb j j ≡ true = eq-eqb j j refl in
-    elim (eqb k j) as (λ b. cond b (cond (eqb x 0) o (cond (eqb j j) (g x) (f j x))) (cond b (g x) (f k x)) ≡ cond b (cond (eqb x 0) o (g x)) (f k x)) [
-      | true ↦ ap (λ c. cond (eqb x 0) o (cond c (g x) (f j x))) self
-      | false ↦ refl
-    ]
+written_twice f j g o k x = grind (arith, common_steps, eq-eqb)
 
 entered-is : (p : Puzzle) (ln : ℕ → Line) (col : Node → ℕ) (q o : ℕ) (u : Use) → IsLaid p → slice_get (layout p) q ≡ Some (used o u) → Placed p u.item o → Placed p u.item 0 → Placed p u.item ((ln u.item).up 0) → (0 < u.item) × (u.item ≤ item_count p) →
     entered (nodes_from p ln col) q ≡ nodes_from p (with_line ln u.item (grown (ln u.item) o)) col
@@ -79,9 +75,7 @@ take_get (suc k) zero (y ∷ xs) x e = e
 take_get (suc k) (suc i) (y ∷ xs) x e = take_get k i xs x e
 
 use_name : (p : Puzzle) (k o j : ℕ) (u : Use) → IsFit p → slice_get (layout p) k ≡ Some (used o u) → u.item ≡ j → IsName p j o
-use_name p k o j u fit e same =
-    let ok : NodeOk p (used o u) = each_at (NodeOk p) (layout p) k (used o u) (layout_ok p fit) e in
-    inr (ok.0, ap (λ i. is_some (colour_in (uses_of p o) i)) (sym same) ∙ ap is_some ok.2)
+use_name p k o j u fit e same = grind (arith, common_steps, each_at, layout_ok)
 
 -- an item's line once one node more is entered
 line_then : (p : Puzzle) (q o : ℕ) (u : Use) → slice_get (layout p) q ≡ Some (used o u) → (k : ℕ) →

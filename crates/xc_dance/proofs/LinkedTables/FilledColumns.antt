@@ -1,5 +1,6 @@
 -- Columns that are filled from the first cell on; what isn't filled yet is 0.
 use Rattle.std.proofs.Common.{◌≡◌, ℕ, zero, suc, ◌+◌, ◌<◌, ◌≤◌, List, [], ◌∷◌, length, map, set, replicate, Some, refl, ap, sym, ◌∙◌, arith}
+use Rattle.std.proofs.lemmas.Grind.{common_steps}
 use Rattle.std.specs.Prelude.{slice_get}
 use Rattle.std.specs.List.{range_with_len}
 use Rattle.xc_dance.specs.Links.FirstNodes.{filled}
@@ -26,9 +27,7 @@ set_suc f (m ∷ ns) (suc k) n e = ap (λ l. f m ∷ l) (set_suc f ns k n e)
 
 -- one cell more
 pub filled_more : {X : Type 0} (f : X → ℕ) (ns : List X) (k : ℕ) (n : X) (v : ℕ) → slice_get ns k ≡ Some n → v ≡ f n → set (filled f ns k) k v ≡ filled f ns (k + 1)
-filled_more f ns k n v e is =
-    let s : suc k ≡ k + 1 = omega arith in
-    ap (set (filled f ns k) k) is ∙ set_suc f ns k n e ∙ ap (filled f ns) s
+filled_more f ns k n v e is = grind (arith, common_steps, set_suc)
 
 pub range_get : (a n k : ℕ) → k < n → slice_get (range_with_len a n) k ≡ Some (a + k)
 range_get a zero k lt = absurd (omega (arith, lt))

@@ -1,5 +1,6 @@
 -- The item table as it is filled place by place.
 use Rattle.std.proofs.Common.{◌≡◌, ℕ, zero, suc, ◌+◌, ◌-◌, ◌<◌, ◌≤◌, List, [], ◌∷◌, length, map, set, replicate, Some, refl, ap, sym, ◌∙◌, arith, ne_eqb}
+use Rattle.std.proofs.lemmas.Grind.{common_steps}
 use Rattle.std.specs.Prelude.{slice_get, unwrap_or}
 use Rattle.std.specs.List.{range_with_len, AllByRecursion}
 use Rattle.std.proofs.lemmas.List.FromFn.{length-range_with_len}
@@ -28,20 +29,13 @@ column_all f n k le = let size = length-range_with_len 0 n in filled_all f (rang
 
 -- place 0 has no bounds
 first_place : (f : ℕ → ℕ) (n : ℕ) → f 0 ≡ 0 → filled f (range_with_len 0 (n + 1)) 0 ≡ filled f (range_with_len 0 (n + 1)) 1
-first_place f n z =
-    let s : n + 1 ≡ suc n = omega arith in
-    ap (λ k. filled f (range_with_len 0 k) 0) s ∙ ap (λ v. v ∷ filled f (range_with_len 1 n) 0) (sym z) ∙ sym (ap (λ k. filled f (range_with_len 0 k) 1) s)
+first_place f n z = grind (arith, common_steps)
 
 pub rings_linked : (p : Puzzle) (k : ℕ) → item_count p + 2 ≤ k → linked_to p k ≡ bound_to p 1
-rings_linked p k le =
-    same_items (linked_to p k) (bound_to p 1)
-    (column_all (llink_at p []) (item_count p + 2) k le) (column_all (rlink_at p []) (item_count p + 2) k le)
-    (first_place (bound_at p []) (primary_count p) refl) (first_place (slack_at p) (primary_count p) refl)
+rings_linked p k le = grind (arith, common_steps, column_all, same_items)
 
 pub bounds_set : (p : Puzzle) (k : ℕ) → primary_count p + 1 ≤ k → bound_to p k ≡ items_after p []
-bounds_set p k le =
-    same_items (bound_to p k) (items_after p []) refl refl
-    (column_all (bound_at p []) (primary_count p + 1) k le) (column_all (slack_at p) (primary_count p + 1) k le)
+bounds_set p k le = grind (arith, common_steps, column_all, same_items)
 
 pub bound_is : (p : Puzzle) (i : ℕ) → high_at p (i + 1) ≡ bound_at p [] (i + 1)
 bound_is p i = rw (ne_eqb (i + 1) 0 (λ z. omega (arith, z))) (omega arith)

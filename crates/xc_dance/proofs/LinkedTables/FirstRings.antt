@@ -1,5 +1,6 @@
 -- The rings of items before any move: who stands beside whom.
 use Rattle.std.proofs.Common.{◌≡◌, ◌≢◌, ℕ, zero, suc, ◌+◌, ◌-◌, ◌<◌, ◌≤◌, true, false, not, cond, ltb, nat_lt, List, [], ◌∷◌, filter, find, Some, refl, ap, sym, ◌∙◌, arith, ne_eqb, le-ltb, ltb-true, ltb-false, le-leb}
+use Rattle.std.proofs.lemmas.Grind.{common_steps}
 use Rattle.std.specs.Prelude.{unwrap_or, nat_le}
 use Rattle.std.specs.List.{range_with_len}
 use Rattle.xc_input.specs.Problem.{Puzzle, primary_count, item_count}
@@ -107,29 +108,13 @@ left_head p i e = sym (ap (llink_at p []) e ∙ ap (last_of 0) (low_ring p 0 (om
 
 -- the first secondary item, or the head of the secondary items where there is none
 pub left_first : (p : Puzzle) (i : ℕ) → i ≡ primary_count p + 1 → item_count p + 1 ≡ llink_at p [] i
-left_first p i e =
-    by_size (item_count p + 1 ≡ llink_at p [] i) i (item_count p)
-    (λ le. sym (inner_left p i (λ z. omega (arith, z, e)) le ∙ high_left p i (omega (arith, e)) ∙ none_below (item_count p + 1) i (primary_count p + 1) p.secondary (omega (arith, e))))
-    (λ lt. let none : p.secondary ≡ 0 = omega (arith, e, lt) in sym (end_left p i lt ∙ ap (λ n. last_of (item_count p + 1) (range_with_len (primary_count p + 1) n)) none))
+left_first p i e = grind (arith, common_steps, by_size, end_left, high_left, inner_left, none_below)
 
 pub left_inner : (p : Puzzle) (i : ℕ) → i ≢ 0 → i ≢ primary_count p + 1 → i ≤ item_count p + 1 → i - 1 ≡ llink_at p [] i
-left_inner p i nz ne le =
-    by_size (i - 1 ≡ llink_at p [] i) i (item_count p)
-    (λ within. by_size (i - 1 ≡ llink_at p [] i) i (primary_count p)
-    (λ low. by_size (i - 1 ≡ llink_at p [] i) i 1
-    (λ one. sym (inner_left p i nz within ∙ low_left p i low ∙ none_below 0 i 1 (primary_count p) one ∙ omega (arith, one)))
-    (λ more. sym (inner_left p i nz within ∙ low_left p i low ∙ below_in 0 i 1 (primary_count p) more (omega (arith, low)))))
-    (λ high. sym (inner_left p i nz within ∙ high_left p i high ∙ below_in (item_count p + 1) i (primary_count p + 1) p.secondary (omega (arith, high, ne)) (omega (arith, within)))))
-    (λ beyond. let some : p.secondary ≢ 0 = λ z. ne (omega (arith, z, beyond, le)) in
-    sym (end_left p i beyond ∙ last_secondary (item_count p + 1) (primary_count p + 1) p.secondary some ∙ omega (arith, beyond, le)))
+left_inner p i nz ne le = grind (arith, common_steps, below_in, by_size, end_left, high_left, inner_left, last_secondary, low_left, none_below)
 
 pub right_last : (p : Puzzle) (i : ℕ) → i ≡ primary_count p → 0 ≡ rlink_at p [] i
-right_last p i e =
-    by_size (0 ≡ rlink_at p [] i) i 0
-    (λ none. let z : i ≡ 0 = omega (arith, none) in
-    let empty : primary_count p ≡ 0 = omega (arith, none, e) in
-    sym (ap (rlink_at p []) z ∙ ap (first_of 0) (low_ring p 0 (omega arith)) ∙ ap (λ n. first_of 0 (range_with_len 1 n)) empty))
-    (λ some. sym (inner_right p i (λ z. omega (arith, z, some)) (omega (arith, e)) ∙ low_right p i (omega (arith, e)) ∙ none_above 0 i 1 (primary_count p) (omega (arith, e))))
+right_last p i e = grind (arith, common_steps, by_size, inner_right, low_right, low_ring, none_above)
 
 first_secondary : (a n : ℕ) → first_of (a + n) (range_with_len a n) ≡ a
 first_secondary a zero = omega arith
@@ -145,14 +130,4 @@ first_primary zero ne = absurd (ne refl)
 first_primary (suc n) ne = refl
 
 pub right_inner : (p : Puzzle) (i : ℕ) → i ≢ primary_count p → i ≢ item_count p + 1 → i ≤ item_count p + 1 → i + 1 ≡ rlink_at p [] i
-right_inner p i ne nl le =
-    by_size (i + 1 ≡ rlink_at p [] i) i 0
-    (λ none. let z : i ≡ 0 = omega (arith, none) in
-    sym (ap (rlink_at p []) z ∙ ap (first_of 0) (low_ring p 0 (omega arith)) ∙ first_primary (primary_count p) (λ f. ne (omega (arith, f, z))) ∙ omega (arith, z)))
-    (λ some. let nz : i ≢ 0 = λ z. omega (arith, z, some) in
-    let within : i ≤ item_count p = omega (arith, le, nl) in
-    by_size (i + 1 ≡ rlink_at p [] i) i (primary_count p)
-    (λ low. sym (inner_right p i nz within ∙ low_right p i low ∙ above_in 0 i 1 (primary_count p) (omega arith) (omega (arith, low, ne))))
-    (λ high. by_size (i + 1 ≡ rlink_at p [] i) (item_count p) i
-    (λ last. sym (inner_right p i nz within ∙ high_right p i high ∙ none_above (item_count p + 1) i (primary_count p + 1) p.secondary (omega (arith, last)) ∙ omega (arith, last, within)))
-    (λ more. sym (inner_right p i nz within ∙ high_right p i high ∙ above_in (item_count p + 1) i (primary_count p + 1) p.secondary (omega (arith, high)) (omega (arith, more))))))
+right_inner p i ne nl le = grind (arith, common_steps, above_in, by_size, first_primary, high_right, inner_right, low_right, low_ring, none_above)

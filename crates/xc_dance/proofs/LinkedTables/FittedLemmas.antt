@@ -1,5 +1,6 @@
 -- A problem that was read fits into the tables.
 use Rattle.std.proofs.Common.{◌≡◌, ℕ, zero, suc, ◌<◌, ◌≤◌, ◌^◌, Bool, true, false, not, List, [], ◌∷◌, length, get_or, refl, ap, sym, subst, arith}
+use Rattle.std.proofs.lemmas.Grind.{common_steps}
 use Rattle.std.specs.Prelude.{slice_get, unwrap_or}
 use Rattle.std.specs.List.{AllByRecursion, prefix_len}
 use Rattle.std.proofs.lemmas.List.{length-map, get_or-map}
@@ -17,8 +18,7 @@ use Rattle.xc_dance.proofs.LinkedTables.PlaceLemmas.{layout_small}
 use Rattle.xc_dance.proofs.LinkedTables.SpanLemmas.{has_spans}
 
 pub known_fit : (colours : List (List ℕ)) (p : Puzzle) → IsValid p → IsWithinLimits p → AreColoursKnown colours p.options → length colours ≤ 10000000 → IsFit p
-known_fit colours p valid limits known few =
-    is_fit p valid (λ k us lt. λ j u within. (let h = known k us lt j u within in omega (arith, h, few))) (let n = limits.options in omega (arith, n)) (let n = limits.items in omega (arith, n))
+known_fit colours p valid limits known few = grind (arith, common_steps, is_fit)
 
 prefix_most : (f : Node → Bool) (ns : List Node) → prefix_len f ns ≤ length ns
 prefix_most f [] = omega arith

@@ -1,5 +1,6 @@
 -- The lines after moves are good: each stands for its list, of options that hold the item.
 use Rattle.std.proofs.Common.{◌≡◌, ℕ, ◌<◌, ◌≤◌, ◌^◌, List, length, ap, sym, ◌∙◌, arith}
+use Rattle.std.proofs.lemmas.Grind.{common_steps}
 use Rattle.std.specs.Prelude.{is_some}
 use Rattle.std.specs.List.{AllByRecursion}
 use Rattle.std.proofs.lemmas.List.{length-map}
@@ -15,22 +16,10 @@ use Rattle.xc_dance.proofs.LinkedTables.LineSteps.{stands}
 use Rattle.xc_dance.proofs.MoveLemmas.Shortened.{IsHolder, holds_use, holders}
 
 pub numbers_few : (p : Puzzle) (t : List Move) (j : ℕ) → length (listed_numbers p t j) ≤ length p.options
-numbers_few p t j =
-    let a : length (listed_numbers p t j) ≡ length (listed p t j) = length-map (listed p t j) (λ o. o.number) in
-    omega (arith, a, length-listed p t j)
+numbers_few p t j = grind (arith, common_steps, length-listed, length-map)
 
 pub numbers_named : (p : Puzzle) (t : List Move) (j : ℕ) → AllByRecursion (Named p j) (listed_numbers p t j)
-numbers_named p t j =
-    each-map (Named p j) (λ o. o.number) (listed p t j)
-    (each_weaker (IsHolder p j) (λ o. Named p j o.number) (listed p t j) (λ o h. ap (λ us. is_some (colour_in us j)) h.0 ∙ holds_use o.uses j ∙ h.1) (holders p t j))
+numbers_named p t j = grind (arith, common_steps, each-map, each_weaker, holders, holds_use)
 
 pub all_good : (p : Puzzle) (t : List Move) → IsFit p → AllGood p (line_of p t) (listed_numbers p t)
-all_good p t fit j jpos jle =
-    let few : length (listed_numbers p t j) ≤ length p.options = numbers_few p t j in
-    let most : length p.options < 2 ^ 30 = fit.few in
-    record {
-      linked = stands p t j;
-      named = numbers_named p t j;
-      len = sym (length-map (listed p t j) (λ o. o.number));
-      few = omega arith;
-    }
+all_good p t fit j jpos jle = grind (arith, common_steps, length-map, numbers_few, numbers_named, stands)

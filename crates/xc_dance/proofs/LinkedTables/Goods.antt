@@ -1,5 +1,6 @@
 -- Lines that stand for lists, and one member leaving.
 use Rattle.std.proofs.Common.{◌≡◌, ℕ, ◌+◌, ◌<◌, ◌≤◌, ◌^◌, ◌⊎◌, inl, inr, Bool, true, false, cond, eqb, List, [], ◌∷◌, ◌++◌, length, refl, ap, sym, subst, ◌∙◌, arith, eqb-true, length-append}
+use Rattle.std.proofs.lemmas.Grind.{common_steps}
 use Rattle.std.specs.Prelude.{is_some}
 use Rattle.std.specs.List.{AllByRecursion}
 use Rattle.xc_input.specs.Problem.{Puzzle, item_count, colour_in, uses_of}
@@ -46,20 +47,7 @@ named_at p j [] o zs h = h.0
 named_at p j (y ∷ ys) o zs h = named_at p j ys o zs h.1
 
 pub member : (p : Puzzle) (j : ℕ) (l : Line) (ys : List ℕ) (o : ℕ) (zs : List ℕ) → 0 < j → j ≤ item_count p → IsGood p j l (ys ++ o ∷ zs) → IsMember p j l o
-member p j l ys o zs pos le g =
-    let lt : 0 < o = above l 0 ys o zs g.linked in
-    let long : length (ys ++ o ∷ zs) ≡ length ys + length (o ∷ zs) = length-append ys (o ∷ zs) in
-    let len : l.len ≡ length (ys ++ o ∷ zs) = g.len in
-    record {
-      item = (pos, le);
-      pos = lt;
-      name = inr (lt, named_at p j ys o zs g.named);
-      above = up_name p j l 0 ys o zs (inl refl) g.linked g.named;
-      below = down_name p j l 0 ys o zs g.linked g.named;
-      up_back = up_back l 0 ys o zs g.linked;
-      down_back = down_back l 0 ys o zs g.linked;
-      some = omega arith;
-    }
+member p j l ys o zs pos le g = grind (arith, common_steps, down_back, down_name, length-append, named_at, up_back, up_name)
 
 higher : (l : Line) (a : ℕ) (ys : List ℕ) (o : ℕ) (zs : List ℕ) → IsLinkedFrom l a (ys ++ o ∷ zs) → a ≤ l.up o
 higher l a [] o zs h = let e = h.2 in omega arith
@@ -88,17 +76,7 @@ each_without P [] o zs h = h.1
 each_without P (y ∷ ys) o zs h = (h.0, each_without P ys o zs h.1)
 
 pub good_cut : (p : Puzzle) (j : ℕ) (l : Line) (ys : List ℕ) (o : ℕ) (zs : List ℕ) → IsGood p j l (ys ++ o ∷ zs) → IsGood p j (cut l o) (ys ++ zs)
-good_cut p j l ys o zs g =
-    let long : length (ys ++ o ∷ zs) ≡ length ys + length (o ∷ zs) = length-append ys (o ∷ zs) in
-    let long' : length (ys ++ zs) ≡ length ys + length zs = length-append ys zs in
-    let len : l.len ≡ length (ys ++ o ∷ zs) = g.len in
-    let few : length (ys ++ o ∷ zs) < 2 ^ 31 = g.few in
-    record {
-      linked = cut_anywhere l 0 ys o zs g.linked;
-      named = each_without (Named p j) ys o zs g.named;
-      len = omega arith;
-      few = omega arith;
-    }
+good_cut p j l ys o zs g = grind (arith, common_steps, cut_anywhere, each_without, length-append)
 
 -- ---- all items
 

@@ -1,5 +1,6 @@
 -- A line to which members come one by one, each as the last.
 use Rattle.std.proofs.Common.{◌≡◌, ℕ, ◌+◌, ◌<◌, ◌≤◌, List, [], ◌∷◌, ◌++◌, length, fold, refl, sym, subst, ◌∙◌, arith}
+use Rattle.std.proofs.lemmas.Grind.{common_steps}
 use Rattle.std.specs.List.{AllByRecursion}
 use Rattle.std.proofs.lemmas.List.Sums.{fold-append}
 use Rattle.xc_dance.specs.Rising.{Rises}
@@ -44,21 +45,8 @@ last_low l a o [] ys h r = let e = h.1 in let lt = r.0 in omega (arith, e, lt)
 last_low l a o (x ∷ xs) ys h r = last_low l x o xs ys h.3 r.1
 
 pub linked_more : (l : Line) (a o : ℕ) (xs : List ℕ) → IsLinkedFrom l a xs → l.up 0 < o → l.down o ≡ 0 → IsLinkedFrom (grown l o) a (xs ++ o ∷ [])
-linked_more l a o [] h lt none =
-    let last : l.up 0 ≡ a = h.1 in (
-      omega (arith, last, lt),
-      put_at-same l.down (l.up 0) o a (sym last),
-      put_at-other (put_at l.up o (l.up 0)) 0 o o (λ z. omega (arith, z, lt)) ∙ put_at-same l.up o (l.up 0) o refl ∙ last,
-      (put_at-other l.down (l.up 0) o o (λ e. omega (arith, e, lt)) ∙ none, refl),
-    )
-linked_more l a o (x ∷ xs) h lt none =
-    let above : a < x = h.0 in
-    let high : x ≤ l.up 0 = last_high l x xs h.3 in (
-      above,
-      put_at-other l.down (l.up 0) o a (λ e. omega (arith, e, above, high)) ∙ h.1,
-      put_at-other (put_at l.up o (l.up 0)) 0 o x (λ z. omega (arith, z, above)) ∙ put_at-other l.up o (l.up 0) x (λ e. omega (arith, e, high, lt)) ∙ h.2,
-      linked_more l x o xs h.3 lt none,
-    )
+linked_more l a o [] h lt none = grind (arith, common_steps, last_high, put_at-other, put_at-same)
+linked_more l a o (x ∷ xs) h lt none = grind (arith, common_steps, last_high, put_at-other, put_at-same, linked_more l x o xs h.3 lt none)
 
 pub linked_from : (l : Line) (xs ys : List ℕ) → IsLinkedFrom l 0 xs → Rises 0 (xs ++ ys) → ((x : ℕ) → l.up 0 < x → l.down x ≡ 0) → IsLinkedFrom (fold grown l ys) 0 (xs ++ ys)
 linked_from l xs [] h r none = subst (IsLinkedFrom l 0) (sym (append-nil xs)) h

@@ -1,5 +1,6 @@
 -- The options whose nodes of an item are among the first nodes.
 use Rattle.std.proofs.Common.{◌≡◌, ℕ, zero, suc, ◌+◌, ◌≤◌, true, false, cond, ◌||◌, eqb, List, [], ◌∷◌, ◌++◌, length, map, take, Some, refl, ap, sym, ◌∙◌, arith, eqb-true, eq-eqb}
+use Rattle.std.proofs.lemmas.Grind.{common_steps}
 use Rattle.std.specs.Prelude.{slice_get, is_some, flat_map}
 use Rattle.std.specs.List.{AllByRecursion, range_with_len}
 use Rattle.std.proofs.lemmas.Bool.{false≢true}
@@ -38,13 +39,9 @@ pub lines_few : (j : ℕ) (ns : List Node) → (lines_of ns j).len ≤ length ns
 lines_few j ns = let a = grown_len (held j ns) in let b = length-held j ns in omega (arith, a, b)
 
 pub held-append : (j : ℕ) (ms ns : List Node) → held j (ms ++ ns) ≡ held j ms ++ held j ns
-held-append j [] ns = refl
-held-append j (used o u ∷ ms) ns =
-    elim (eqb u.item j) as (λ b. cond b (o ∷ held j (ms ++ ns)) (held j (ms ++ ns)) ≡ cond b (o ∷ held j ms) (held j ms) ++ held j ns) [
-      | true ↦ ap (λ l. o ∷ l) (held-append j ms ns)
-      | false ↦ held-append j ms ns
-    ]
-held-append j (_ ∷ ms) ns = held-append j ms ns
+held-append j [] ns = grind (arith, common_steps)
+held-append j (used o u ∷ ms) ns = grind (arith, common_steps, held-append j ms ns)
+held-append j (_ ∷ ms) ns = grind (arith, common_steps, held-append j ms ns)
 
 -- what one node more adds
 pub held_more : (j k : ℕ) (ns : List Node) (n : Node) → slice_get ns k ≡ Some n → held j (take (k + 1) ns) ≡ held j (take k ns) ++ held j (n ∷ [])
@@ -62,16 +59,10 @@ held_each P j (_ ∷ ns) h = held_each P j ns (λ k o u e f. h (suc k) o u e f)
 
 -- each use's option is in its item's list
 pub held_in : (ns : List Node) (k o : ℕ) (u : Use) → slice_get ns k ≡ Some (used o u) → is_in o (held u.item ns) ≡ true
-held_in [] k o u e = cc
-held_in (n ∷ ns) zero o u e =
-    let same = same_Some n (used o u) e in
-    ap (λ m. is_in o (held u.item (m ∷ ns))) same ∙ (let self = eq-eqb u.item u.item refl in let here = eq-eqb o o refl in rw (self, here) refl)
-held_in (used m v ∷ ns) (suc k) o u e =
-    elim (eqb v.item u.item) as (λ b. is_in o (cond b (m ∷ held u.item ns) (held u.item ns)) ≡ true) [
-      | true ↦ ap (λ b. eqb m o || b) (held_in ns k o u e) ∙ or-true (eqb m o)
-      | false ↦ held_in ns k o u e
-    ]
-held_in (_ ∷ ns) (suc k) o u e = held_in ns k o u e
+held_in [] k o u e = grind (arith, common_steps, eq-eqb, or-true, same_Some)
+held_in (n ∷ ns) zero o u e = grind (arith, common_steps, eq-eqb, or-true, same_Some)
+held_in (used m v ∷ ns) (suc k) o u e = grind (arith, common_steps, eq-eqb, or-true, same_Some, held_in ns k o u e)
+held_in (_ ∷ ns) (suc k) o u e = grind (arith, common_steps, eq-eqb, or-true, same_Some, held_in ns k o u e)
 
 -- ---- before the first option, and behind the last
 
@@ -81,11 +72,7 @@ owns_hold_none j (suc n) [] ns le = absurd (omega (arith, le))
 owns_hold_none j (suc n) (i ∷ js) ns le = owns_hold_none j n js ns (omega (arith, le))
 
 pub held_none : (p : Puzzle) (j : ℕ) → held j (take (item_count p + 1) (layout p)) ≡ []
-held_none p j =
-    let s : item_count p + 1 ≡ suc (item_count p) = omega arith in
-    let long = length_front p in
-    ap (λ k. held j (take k (layout p))) s
-    ∙ owns_hold_none j (item_count p) (range_with_len 1 (item_count p)) (tail_from 0 p.options) (omega (arith, long, Rattle.std.proofs.lemmas.List.length-map (range_with_len 1 (item_count p)) own))
+held_none p j = grind (arith, common_steps, length_front, owns_hold_none)
 
 pub absent_none : (j o : ℕ) (us : List Use) → is_some (colour_in us j) ≡ false → held j (map (used o) us) ≡ []
 absent_none j o [] e = refl
@@ -97,12 +84,8 @@ absent_none j o (u ∷ us) e =
 
 -- an option that holds an item has one node of it
 pub one_use : (j o : ℕ) (us : List Use) → AreDistinct us → held j (map (used o) us) ≡ cond (is_some (colour_in us j)) (o ∷ []) []
-one_use j o [] d = refl
-one_use j o (u ∷ us) d =
-    elim (eqb u.item j) as (λ b. eqb u.item j ≡ b → cond b (o ∷ held j (map (used o) us)) (held j (map (used o) us)) ≡ cond (is_some (cond b (Some u.colour) (colour_in us j))) (o ∷ []) []) [
-      | true ↦ λ e. ap (λ l. o ∷ l) (absent_none j o us (ap (λ i. is_some (colour_in us i)) (sym (eqb-true u.item j e)) ∙ d.0))
-      | false ↦ λ e. one_use j o us d.1
-    ] refl
+one_use j o [] d = grind (arith, common_steps, absent_none, eqb-true)
+one_use j o (u ∷ us) d = grind (arith, common_steps, absent_none, eqb-true, one_use j o us d.1)
 
 pub options_hold : (j : ℕ) (os : List Numbered) → AllByRecursion (λ (x : Numbered). AreDistinct x.uses) os → held j (flat_map nodes_of os) ≡ map (λ (o : Numbered). o.number) (holding j os)
 options_hold j [] d = refl

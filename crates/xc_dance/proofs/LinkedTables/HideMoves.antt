@@ -1,5 +1,6 @@
 -- Cover and Purify: from the node table after moves to that after one move more, and back.
 use Rattle.std.proofs.Common.{◌≡◌, ℕ, ◌+◌, ◌<◌, ◌≤◌, true, not, ◌&&◌, eqb, List, ◌∷◌, length, map, filter, fold, get_or, reverse, Option, Some, None, refl, ap, ap₂, sym, subst, ◌∙◌, arith, eq-eqb, ne_eqb, inr}
+use Rattle.std.proofs.lemmas.Grind.{common_steps}
 use Rattle.std.specs.Prelude.{unwrap_or}
 use Rattle.std.proofs.lemmas.List.{length-map}
 use Rattle.xc_dance.specs.declared.dance.Move.{Move}
@@ -41,21 +42,10 @@ use Rattle.xc_dance.proofs.MoveLemmas.Shortened.{rises_listed}
 -- ---- what the two moves hide
 
 pub cover_hides : (p : Puzzle) (t : List Move) (i : ℕ) → Hides p t (Cover i) i None (color_in p t)
-cover_hides p t i = record {
-  passed = record { others = λ j o ne pos le xpos named. refl; own = λ o e. refl };
-  takes = takes_cover p t i;
-  own = own_cover p t i;
-  colours = λ k n at. cover_colours p t i n ∙ ap (λ (f : Node → ℕ). f n) (sym (marked_none p i (color_in p t) (listed_numbers p t i)));
-}
+cover_hides p t i = grind (arith, common_steps, cover_colours, marked_none, own_cover, takes_cover, ℕ)
 
 purify_passed : (p : Puzzle) (t : List Move) (i c : ℕ) → IsLaid p → 0 < i → i ≤ item_count p → Passed p i (color_in p t) (purify_start p t i c) (listed_numbers p t i)
-purify_passed p t i c laid pos le = record {
-  others = λ j o ne jpos jle opos named. color_other p (color_in p t) i 0 c j o (laid.there j o jpos jle (inr (opos, named))) (ap (λ b. b && eqb o 0) (ne_eqb j i ne));
-  own = λ o e.
-      let gt : 0 < o = in_above 0 o (listed_numbers p t i) (rises_listed p t i) e in
-      let named : Named p i o = element_of (Named p i) o (listed_numbers p t i) (numbers_named p t i) e in
-      color_other p (color_in p t) i 0 c i o (laid.there i o pos le (inr (gt, named))) (ap₂ (λ a b. a && b) (eq-eqb i i refl) (ne_eqb o 0 (λ f. omega (arith, f, gt))));
-}
+purify_passed p t i c laid pos le = grind (arith, common_steps, color_other, element_of, eq-eqb, in_above, ne_eqb, numbers_named, rises_listed)
 
 pub purify_hides : (p : Puzzle) (t : List Move) (i c : ℕ) → AreLegal p t → IsLaid p → 0 < i → i ≤ item_count p → is_open i t ≡ true → Hides p t (Purify i c) i (Some c) (purify_start p t i c)
 purify_hides p t i c legal laid pos le opened = record {

@@ -1,5 +1,6 @@
 -- The tables of a keeper from one move to the next.
 use Rattle.std.proofs.Common.{◌≡◌, ℕ, ◌<◌, ◌≤◌, List, [], ◌∷◌, ◌++◌, length, reverse, get_or, refl, ap, ap₂, sym, subst, ◌∙◌, arith}
+use Rattle.std.proofs.lemmas.Grind.{common_steps}
 use Rattle.std.proofs.lemmas.List.{reverse-append, length-reverse}
 use Rattle.xc_dance.specs.declared.dance.Move.{Move}
 use Rattle.xc_dance.specs.declared.dance.Move.TheVariants.{Tweak}
@@ -26,9 +27,7 @@ pub record Makes (p : Puzzle) (t : List Move) (m : Move) (spans : List Span) (ol
   pub cost : made_cost spans old ring m ≡ cost_of p t m
 
 pub makes : {p : Puzzle} {t : List Move} {spans spans' : List Span} {nodes : Nodes} {items : Items} {m : Move} → spans' ≡ spans → nodes ≡ nodes_after p t → items ≡ items_after p t → MoveStep p t spans m → Makes p t m spans' nodes items
-makes {p} {t} {spans} {spans'} {nodes} {items} {m} a b c s =
-    subst (λ x. Makes p t m x nodes items) (sym a) (subst (λ x. Makes p t m spans x items) (sym b)
-    (subst (Makes p t m spans (nodes_after p t)) (sym c) (record { can = s.can; nodes = s.nodes; items = s.items; cost = s.cost })))
+makes {p} {t} {spans} {spans'} {nodes} {items} {m} a b c s = grind (arith, common_steps)
 
 -- what its undoing makes of them, k being the node that it took off
 pub record Unmakes (p : Puzzle) (t : List Move) (m : Move) (k : ℕ) (spans : List Span) (old : Nodes) (ring : Items) : Type 0 where
@@ -39,9 +38,7 @@ pub record Unmakes (p : Puzzle) (t : List Move) (m : Move) (k : ℕ) (spans : Li
 
 pub unmakes : {p : Puzzle} {t : List Move} {spans spans' : List Span} {nodes : Nodes} {items : Items} {m : Move} (k : ℕ) → spans' ≡ spans → nodes ≡ nodes_after p (m ∷ t) → items ≡ items_after p (m ∷ t) → IsTakenOff p t m k → MoveStep p t spans m
     → Unmakes p t m k spans' nodes items
-unmakes {p} {t} {spans} {spans'} {nodes} {items} {m} k a b c off s =
-    subst (λ x. Unmakes p t m k x nodes items) (sym a) (subst (λ x. Unmakes p t m k spans x items) (sym b)
-    (subst (Unmakes p t m k spans (nodes_after p (m ∷ t))) (sym c) (record { can = s.can_back k off; nodes = s.nodes_back k off; items = s.items_back; cost = s.cost_back k off })))
+unmakes {p} {t} {spans} {spans'} {nodes} {items} {m} k a b c off s = grind (arith, common_steps)
 
 pub none_newest : (p : Puzzle) (t : List Move) → cost_of_newest 0 p t ≡ 0
 none_newest p [] = refl
@@ -71,23 +68,17 @@ taken_few p (Tweak i ∷ t) = omega (arith, taken_few p t)
 taken_few p (_ ∷ t) = omega (arith, taken_few p t)
 
 pub taken_short : (p : Puzzle) (xs : List ℕ) (moves : List Move) → reverse xs ≡ taken_nodes p (reverse moves) → length xs ≤ length moves
-taken_short p xs moves e =
-    let a : length (reverse xs) ≡ length (taken_nodes p (reverse moves)) = ap length e in
-    omega (arith, a, taken_few p (reverse moves), length-reverse xs, length-reverse moves)
+taken_short p xs moves e = grind (arith, common_steps, length-reverse, taken_few)
 
 -- the node is the first that item i's own node leads to
 pub taken_then : (p : Puzzle) (t : List Move) (nodes : Nodes) (old new : List ℕ) (m : Move) → FirstLed p t m → nodes ≡ nodes_after p t → reverse old ≡ taken_nodes p t → new ≡ noted old nodes m → reverse new ≡ taken_nodes p (m ∷ t)
-taken_then p t nodes old new (Tweak i) led a b e =
-    ap reverse e ∙ reverse-append old (get_or nodes.dlink i 0 ∷ [])
-    ∙ ap₂ (λ x xs. x ∷ xs) (ap (λ (u : Nodes). get_or u.dlink i 0) a ∙ led) b
-taken_then p t nodes old new _ led a b e = ap reverse e ∙ b
+taken_then p t nodes old new (Tweak i) led a b e = grind (arith, common_steps, reverse-append)
+taken_then p t nodes old new _ led a b e = grind (arith, common_steps, reverse-append)
 
 pub record Recalled (p : Puzzle) (t : List Move) (m : Move) (new : List ℕ) (x : ℕ) : Type 0 where
   pub off : IsTakenOff p t m x
   pub taken : reverse new ≡ taken_nodes p t
 
 pub recalled : (p : Puzzle) (t : List Move) (m : Move) (old new : List ℕ) (x : ℕ) → reverse old ≡ taken_nodes p (m ∷ t) → IsRecalled old new m x → Recalled p t m new x
-recalled p t (Tweak i) old new x a e =
-    let both : x ∷ reverse new ≡ link_place p i (first_of 0 (listed_numbers p t i)) ∷ taken_nodes p t = sym (ap reverse e ∙ reverse-append new (x ∷ [])) ∙ a in
-    record { off = cc; taken = cc }
-recalled p t _ old new x a e = record { off = tt; taken = ap reverse e ∙ a }
+recalled p t (Tweak i) old new x a e = grind (arith, common_steps, reverse-append)
+recalled p t _ old new x a e = grind (arith, common_steps, reverse-append)

@@ -1,5 +1,6 @@
 -- The places of the node table: each slot stands at one place.
 use Rattle.std.proofs.Common.{◌≡◌, ◌≢◌, ℕ, zero, suc, ◌+◌, ◌<◌, ◌≤◌, inl, inr, Bool, true, false, not, cond, ◌&&◌, ◌||◌, eqb, List, [], ◌∷◌, ◌++◌, map, Some, refl, ap, ap₂, sym, subst, ◌∙◌, arith, eqb-true, eq-eqb, ne_eqb}
+use Rattle.std.proofs.lemmas.Grind.{common_steps}
 use Rattle.std.specs.Prelude.{is_some, slice_get, flat_map, unwrap_or}
 use Rattle.std.specs.List.{AllByRecursion, list_any, range_with_len, position_or_len, prefix_len}
 use Rattle.std.proofs.lemmas.Bool.{eqb-false, false≢true}
@@ -37,13 +38,9 @@ one_right f [] ys a b = b
 one_right f (x ∷ xs) ys a b = ((λ e. absurd (false≢true (sym a.0 ∙ e))), one_right f xs ys a.1 b)
 
 pub position_at : (f : Node → Bool) (ns : List Node) (k : ℕ) (n : Node) → OnePasses f ns → slice_get ns k ≡ Some n → f n ≡ true → position_or_len f ns ≡ k
-position_at f [] k n o e t = cc
-position_at f (m ∷ ns) zero n o e t = let here : f m ≡ true = ap f (same_Some m n e) ∙ t in rw here refl
-position_at f (m ∷ ns) (suc k) n o e t =
-    elim (f m) as (λ b. f m ≡ b → prefix_len (λ x. not (f x)) (m ∷ ns) ≡ suc k) [
-      | true ↦ λ g. absurd (false≢true (sym (each_at (λ x. f x ≡ false) ns k n (o.0 g) e) ∙ t))
-      | false ↦ λ g. rw g (let rest = position_at f ns k n o.1 e t in omega (arith, rest))
-    ] refl
+position_at f [] k n o e t = grind (arith, common_steps, each_at, false≢true, same_Some)
+position_at f (m ∷ ns) zero n o e t = grind (arith, common_steps, each_at, false≢true, same_Some)
+position_at f (m ∷ ns) (suc k) n o e t = grind (arith, common_steps, each_at, false≢true, same_Some, position_at f ns k n o.1 e t)
 
 position_more : (f : Node → Bool) (m : Node) (ns : List Node) → f m ≡ false → position_or_len f (m ∷ ns) ≡ suc (position_or_len f ns)
 position_more f m ns g = rw g (omega arith)
@@ -128,11 +125,7 @@ abbrev IsUseOf : List Use → Use → Type 0
 IsUseOf us u = colour_in us u.item ≡ Some u.colour
 
 use_later : (v : Use) (us : List Use) (u : Use) → is_some (colour_in us v.item) ≡ false → IsUseOf us u → IsUseOf (v ∷ us) u
-use_later v us u d e =
-    elim (eqb v.item u.item) as (λ b. eqb v.item u.item ≡ b → cond b (Some v.colour) (colour_in us u.item) ≡ Some u.colour) [
-      | true ↦ λ f. absurd (false≢true (sym d ∙ ap (λ i. is_some (colour_in us i)) (eqb-true v.item u.item f) ∙ ap is_some e))
-      | false ↦ λ f. e
-    ] refl
+use_later v us u d e = grind (arith, common_steps, eqb-true, false≢true)
 
 uses_ok : (us : List Use) → AreDistinct us → AllByRecursion (IsUseOf us) us
 uses_ok [] d = tt
@@ -223,11 +216,8 @@ any_option j n (suc m) (us ∷ os) e =
     (subst (λ k. list_any (is_use_of k j) (flat_map nodes_of (numbered_from (n + 1) os)) ≡ true) s (any_option j (n + 1) m os e))
 
 any_node : (p : Puzzle) (x j : ℕ) → 0 < x → is_some (colour_in (uses_of p x) j) ≡ true → list_any (is_use_of x j) (layout p) ≡ true
-any_node p zero j pos e = absurd (omega arith)
-any_node p (suc m) j pos e =
-    let s : 1 + m ≡ suc m = omega arith in
-    any_there (is_use_of (suc m) j) (map own (range_with_len 1 (item_count p))) (spacer 0 ∷ flat_map nodes_of (numbered_options p))
-    (subst (λ k. list_any (is_use_of k j) (flat_map nodes_of (numbered_options p)) ≡ true) s (any_option j 1 m p.options e))
+any_node p zero j pos e = grind (arith, common_steps, any_option, any_there)
+any_node p (suc m) j pos e = grind (arith, common_steps, any_option, any_there)
 
 slot_used : (x j : ℕ) (n : Node) → is_use_of x j n ≡ true → slot_of n ≡ Some (j, x)
 slot_used x j (used o u) e = ap₂ (λ a b. let r : ℕ × ℕ = (a, b) in Some r) (eqb-true u.item j (and_right (eqb o x) (eqb u.item j) e)) (eqb-true o x (and_left (eqb o x) (eqb u.item j) e))
@@ -263,14 +253,4 @@ slot_range p _ j x ok f = cc
 
 -- the places of a fit problem
 pub is_laid : (p : Puzzle) → IsFit p → IsLaid p
-is_laid p fit = record {
-  unique = λ k n j x e f. slot_place p k n j x fit e f;
-  there = placed p;
-  head = head_is p;
-  nodes = record {
-    ranged = λ k n j x e f. slot_range p n j x (each_at (NodeOk p) (layout p) k n (layout_ok p fit) e) f;
-    numbered = λ k o u e. (each_at (NodeOk p) (layout p) k (used o u) (layout_ok p fit) e).0;
-    coloured = λ k o u e. (each_at (NodeOk p) (layout p) k (used o u) (layout_ok p fit) e).2;
-  };
-  small = fit.small;
-}
+is_laid p fit = grind (arith, common_steps, each_at, head_is, layout_ok, placed, slot_place, slot_range)

@@ -1,5 +1,6 @@
 -- The node table as it is laid node by node.
 use Rattle.std.proofs.Common.{◌≡◌, ℕ, zero, suc, ◌+◌, ◌-◌, ◌<◌, ◌≤◌, List, [], length, Some, refl, ap, ap₂, sym, ◌∙◌, arith, lt-ltb}
+use Rattle.std.proofs.lemmas.Grind.{common_steps}
 use Rattle.std.specs.Prelude.{slice_get}
 use Rattle.xc_input.specs.declared.problem.Use.{Use}
 use Rattle.xc_input.specs.Problem.{Puzzle, item_count, option_count}
@@ -22,38 +23,20 @@ row_of p n = record { top = top_in blanks n; ulink = ulink_in p blanks n; dlink 
 
 -- one node more
 pub laid_more : (p : Puzzle) (k : ℕ) (n : Node) (r : Row) → slice_get (layout p) k ≡ Some n → r ≡ row_of p n → with_row (laid_to p k) k r ≡ laid_to p (k + 1)
-laid_more p k n r e is =
-    same_nodes (with_row (laid_to p k) k r) (laid_to p (k + 1))
-    (filled_more (top_in blanks) (layout p) k n r.top e (ap (λ (x : Row). x.top) is))
-    (filled_more (ulink_in p blanks) (layout p) k n r.ulink e (ap (λ (x : Row). x.ulink) is))
-    (filled_more (dlink_in p blanks) (layout p) k n r.dlink e (ap (λ (x : Row). x.dlink) is))
-    (filled_more (color_in p []) (layout p) k n r.color e (ap (λ (x : Row). x.color) is))
+laid_more p k n r e is = grind (arith, common_steps, filled_more, same_nodes)
 
 pub laid_none : (p : Puzzle) (t : Nodes) (c : ℕ) → c ≡ length (layout p) →
     (let zeros = Rattle.std.proofs.Common.replicate {A = ℕ} c 0 in let z : Nodes = record { top = zeros; ulink = zeros; dlink = zeros; color = zeros } in t ≡ z) → t ≡ laid_to p 0
-laid_none p t c e h =
-    h ∙ ap (λ n. (let zeros = Rattle.std.proofs.Common.replicate {A = ℕ} n 0 in let z : Nodes = record { top = zeros; ulink = zeros; dlink = zeros; color = zeros } in z)) e
-    ∙ same_nodes (let zeros = Rattle.std.proofs.Common.replicate {A = ℕ} (length (layout p)) 0 in record { top = zeros; ulink = zeros; dlink = zeros; color = zeros }) (laid_to p 0)
-    (filled_none (top_in blanks) (layout p)) (filled_none (ulink_in p blanks) (layout p)) (filled_none (dlink_in p blanks) (layout p)) (filled_none (color_in p []) (layout p))
+laid_none p t c e h = grind (arith, common_steps, filled_none, same_nodes, ℕ)
 
 pub laid_all : (p : Puzzle) → laid_to p (length (layout p)) ≡ nodes_from p blanks (color_in p [])
-laid_all p =
-    let n = length (layout p) in
-    same_nodes (laid_to p n) (nodes_from p blanks (color_in p []))
-    (filled_all (top_in blanks) (layout p) n (omega arith)) (filled_all (ulink_in p blanks) (layout p) n (omega arith)) (filled_all (dlink_in p blanks) (layout p) n (omega arith)) (filled_all (color_in p []) (layout p) n (omega arith))
+laid_all p = grind (arith, common_steps, filled_all, same_nodes)
 
 pub laid_len : (p : Puzzle) (k : ℕ) → length (laid_to p k).top ≡ length (layout p)
 laid_len p k = length-filled (top_in blanks) (layout p) k
 
 pub laid_size : (p : Puzzle) (k : ℕ) → HasSize (laid_to p k) (length (laid_to p k).top)
-laid_size p k =
-    let top = sym (laid_len p k) in
-    record {
-      top = refl;
-      ulink = length-filled (ulink_in p blanks) (layout p) k ∙ top;
-      dlink = length-filled (dlink_in p blanks) (layout p) k ∙ top;
-      color = length-filled (color_in p []) (layout p) k ∙ top;
-    }
+laid_size p k = grind (arith, common_steps, laid_len, length-filled)
 
 -- ---- what a spacer leads to
 

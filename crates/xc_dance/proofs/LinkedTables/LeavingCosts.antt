@@ -1,5 +1,6 @@
 -- How many nodes leave the lists of an option's other items, counted option by option and item by item.
 use Rattle.std.proofs.Common.{◌≡◌, ℕ, ◌+◌, ◌-◌, ◌*◌, ◌<◌, ◌≤◌, Bool, true, false, not, cond, ◌&&◌, ◌||◌, eqb, List, [], ◌∷◌, length, filter, Option, refl, ap, sym, ◌∙◌, arith, eqb-true, eq-eqb}
+use Rattle.std.proofs.lemmas.Grind.{common_steps}
 use Rattle.std.specs.Prelude.{is_some}
 use Rattle.std.proofs.lemmas.List.{length-map}
 use Rattle.xc_dance.specs.declared.dance.Move.{Move}
@@ -72,13 +73,8 @@ exchanged p col i (o ∷ os) fit =
 
 -- the walk's costs: 1 for each option kept, 3 for each node that leaves
 pub costs_split : (p : Puzzle) (col : Node → ℕ) (i : ℕ) (keep : Option ℕ) (xs : List ℕ) → step_costs p col i keep xs ≡ length (filter (is_kept p i keep) xs) + 3 * total_gone p col i (leavers p i keep xs)
-costs_split p col i keep [] = refl
-costs_split p col i keep (o ∷ xs) =
-    let r = costs_split p col i keep xs in
-    elim (is_kept p i keep o) as (λ b. cond b 1 (3 * gone_count p col i o) + step_costs p col i keep xs ≡ length (cond b (o ∷ filter (is_kept p i keep) xs) (filter (is_kept p i keep) xs)) + 3 * total_gone p col i (cond (not b) (o ∷ leavers p i keep xs) (leavers p i keep xs))) [
-      | true ↦ omega (arith, r)
-      | false ↦ omega (arith, r)
-    ]
+costs_split p col i keep [] = grind (arith, common_steps)
+costs_split p col i keep (o ∷ xs) = grind (arith, common_steps, costs_split p col i keep xs)
 
 -- ---- what a move takes from all lists
 

@@ -1,5 +1,6 @@
 -- The line that stands for an item's list, move by move.
 use Rattle.std.proofs.Common.{◌≡◌, ◌≢◌, ℕ, zero, suc, ◌<◌, ◌≤◌, Bool, true, false, not, cond, ◌&&◌, eqb, List, [], ◌∷◌, map, filter, drop, take, refl, ap, sym, subst, ◌∙◌, arith, eqb-true, eq-eqb, ne_eqb}
+use Rattle.std.proofs.lemmas.Grind.{common_steps}
 use Rattle.std.specs.List.{list_any}
 use Rattle.xc_dance.specs.declared.dance.Move.{Move}
 use Rattle.xc_dance.specs.declared.dance.Move.TheVariants.{Cover, Purify, Tweak, Spend}
@@ -78,35 +79,20 @@ drop_numbers [] = refl
 drop_numbers (o ∷ os) = refl
 
 pub shrinks : (p : Puzzle) (t : List Move) (m : Move) (i : ℕ) → Rises 0 (listed_numbers p t i) → Shrinks (listed_numbers p t i) (listed_numbers p (m ∷ t) i)
-shrinks p t (Cover j) i r = by_case (not (eqb i j) && is_open i t) (listed p t i) (listed p t j)
-shrinks p t (Purify j c) i r = by_case (not (eqb i j) && is_open i t) (listed p t i) (other_colours j c (listed p t j))
-shrinks p t (Tweak j) i r =
-    elim (eqb i j) as (λ b. eqb i j ≡ b → Shrinks (listed_numbers p t i) (numbers_of (cond b (drop 1 (listed p t j)) (cond (is_open j t && is_open i t) (without (take 1 (listed p t j)) (listed p t i)) (listed p t i))))) [
-      | true ↦ λ e. record {
-        test = λ x. eqb x (first_of 0 (listed_numbers p t i));
-        is = ap (λ k. numbers_of (drop 1 (listed p t k))) (sym (eqb-true i j e)) ∙ drop_numbers (listed p t i) ∙ drop_first 0 (listed_numbers p t i) r;
-      }
-      | false ↦ λ e. by_case (is_open j t && is_open i t) (listed p t i) (take 1 (listed p t j))
-    ] refl
-shrinks p t (Spend j) i r = same_list (listed_numbers p t i)
+shrinks p t (Cover j) i r = grind (arith, common_steps, by_case, drop_first, drop_numbers, eqb-true, same_list)
+shrinks p t (Purify j c) i r = grind (arith, common_steps, by_case, drop_first, drop_numbers, eqb-true, same_list)
+shrinks p t (Tweak j) i r = grind (arith, common_steps, by_case, drop_first, drop_numbers, eqb-true, same_list)
+shrinks p t (Spend j) i r = grind (arith, common_steps, by_case, drop_first, drop_numbers, eqb-true, same_list)
 
 -- ---- the line after a move
 
 pub up_after : (p : Puzzle) (t : List Move) (m : Move) (j : ℕ) (l : Line) → Swept (line_of p t j) l 0 (listed_numbers p t j) (listed_numbers p (m ∷ t) j) → (x : ℕ) → up_of p (m ∷ t) j x ≡ l.up x
-up_after p t m j l s zero = sym s.last
-up_after p t m j l s (suc x) =
-    elim (is_in (suc x) (listed_numbers p t j)) as (λ b. is_in (suc x) (listed_numbers p t j) ≡ b → cond b (last_below 0 (suc x) (listed_numbers p (m ∷ t) j)) (above p t j (suc x)) ≡ l.up (suc x)) [
-      | true ↦ λ e. sym (s.up_in (suc x) e)
-      | false ↦ λ e. sym (s.up_out (suc x) (λ z. omega (arith, z)) e)
-    ] refl
+up_after p t m j l s zero = grind (arith, common_steps)
+up_after p t m j l s (suc x) = grind (arith, common_steps)
 
 pub down_after : (p : Puzzle) (t : List Move) (m : Move) (j : ℕ) (l : Line) → Swept (line_of p t j) l 0 (listed_numbers p t j) (listed_numbers p (m ∷ t) j) → (x : ℕ) → down_of p (m ∷ t) j x ≡ l.down x
-down_after p t m j l s zero = sym s.first
-down_after p t m j l s (suc x) =
-    elim (is_in (suc x) (listed_numbers p (m ∷ t) j)) as (λ b. is_in (suc x) (listed_numbers p (m ∷ t) j) ≡ b → cond b (first_above 0 (suc x) (listed_numbers p (m ∷ t) j)) (below_of p t j (suc x)) ≡ l.down (suc x)) [
-      | true ↦ λ e. sym (s.down_in (suc x) (λ z. omega (arith, z)) e)
-      | false ↦ λ e. sym (s.down_out (suc x) (λ z. omega (arith, z)) e)
-    ] refl
+down_after p t m j l s zero = grind (arith, common_steps)
+down_after p t m j l s (suc x) = grind (arith, common_steps)
 
 linked_same : (l m : Line) (a : ℕ) (xs : List ℕ) → ((x : ℕ) → m.up x ≡ l.up x) → ((x : ℕ) → m.down x ≡ l.down x) → IsLinkedFrom l a xs → IsLinkedFrom m a xs
 linked_same l m a [] up down h = (down a ∙ h.0, up 0 ∙ h.1)

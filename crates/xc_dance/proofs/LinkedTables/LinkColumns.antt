@@ -1,5 +1,6 @@
 -- The columns of links and counts of a table of lines, and one write to them.
 use Rattle.std.proofs.Common.{◌≡◌, ◌≢◌, ℕ, ◌<◌, ◌≤◌, true, false, cond, eqb, List, length, map, get_or, set, Option, Some, None, refl, ap, ap₂, sym, ◌∙◌, arith, eqb-true, eq-eqb, ne_eqb}
+use Rattle.std.proofs.lemmas.Grind.{common_steps}
 use Rattle.std.specs.Prelude.{slice_get}
 use Rattle.std.proofs.lemmas.List.{length-map}
 use Rattle.xc_input.specs.Problem.{Puzzle, item_count}
@@ -39,15 +40,8 @@ get_down p ln j x h = get_link p (λ k y. (ln k).down y) (fixed_down p) j x h
 
 other_slot : (p : Puzzle) (f : ℕ → ℕ → ℕ) (j x v : ℕ) (fixed : ℕ) (s : Option (ℕ × ℕ)) → (s ≡ Some (j, x) → ⊥) →
     link_at p (put_link f j (put_at (f j) x v)) fixed s ≡ link_at p f fixed s
-other_slot p f j x v fixed None ne = refl
-other_slot p f j x v fixed (Some s) ne =
-    elim (eqb s.0 j) as (λ b. eqb s.0 j ≡ b → link_place p s.0 (cond b (put_at (f j) x v s.1) (f s.0 s.1)) ≡ link_place p s.0 (f s.0 s.1)) [
-      | true ↦ λ e.
-          let same : s.0 ≡ j = eqb-true s.0 j e in
-          let no : s.1 ≢ x = λ g. ne (ap₂ (λ a b. let r : ℕ × ℕ = (a, b) in Some r) same g) in
-          ap (link_place p s.0) (put_at-other (f j) x v s.1 no ∙ ap (λ k. f k s.1) (sym same))
-      | false ↦ λ e. refl
-    ] refl
+other_slot p f j x v fixed None ne = grind (arith, common_steps, eqb-true, put_at-other, ℕ)
+other_slot p f j x v fixed (Some s) ne = grind (arith, common_steps, eqb-true, put_at-other, ℕ)
 
 pub set_link : (p : Puzzle) (f : ℕ → ℕ → ℕ) (fixed : Node → ℕ) (j x v : ℕ) → IsLaid p → Placed p j x →
     column p (put_link f j (put_at (f j) x v)) fixed ≡ set (column p f fixed) (link_place p j x) (link_place p j v)
@@ -97,14 +91,7 @@ pub get_item : (p : Puzzle) (ln : ℕ → Line) (j o : ℕ) → Placed p j o →
 get_item p ln j o h pos = get_map (top_in ln) (layout p) (link_place p j o) h.node h.at ∙ item_at ln h.node j o h.slot pos
 
 pub size_from : (p : Puzzle) (ln : ℕ → Line) (col : Node → ℕ) → HasSize (nodes_from p ln col) (length (nodes_from p ln col).top)
-size_from p ln col =
-    let long : length (map (top_in ln) (layout p)) ≡ length (layout p) = length-map (layout p) (top_in ln) in
-    record {
-      top = refl;
-      ulink = length-map (layout p) (ulink_in p ln) ∙ sym long;
-      dlink = length-map (layout p) (dlink_in p ln) ∙ sym long;
-      color = length-map (layout p) col ∙ sym long;
-    }
+size_from p ln col = grind (arith, common_steps, length-map)
 
 -- what stands in the cells of member o's node in item j's list, where the members beside it have nodes too
 pub record NodeCells (p : Puzzle) (ln : ℕ → Line) (col : Node → ℕ) (j o : ℕ) : Type 0 where

@@ -1,5 +1,6 @@
 -- A list as the links and LEN of the node table lead to it.
 use Rattle.std.proofs.Common.{◌≡◌, ℕ, zero, suc, ◌<◌, ◌≤◌, ◌^◌, List, [], ◌∷◌, ◌++◌, length, map, get_or, reverse, refl, ap, ap₂, sym, ◌∙◌, arith, inl, inr}
+use Rattle.std.proofs.lemmas.Grind.{common_steps}
 use Rattle.std.specs.List.{AllByRecursion}
 use Rattle.std.proofs.lemmas.List.{length-map, reverse-append}
 use Rattle.xc_dance.specs.declared.dance.Move.{Move}
@@ -22,13 +23,8 @@ above_zero l a xs x h = let lt : a < x = h.0 in omega arith
 
 follow_down : (p : Puzzle) (ln : ℕ → Line) (i a : ℕ) (xs : List ℕ) → IsLaid p → 0 < i → i ≤ item_count p → AllByRecursion (Named p i) xs → IsLinkedFrom (ln i) a xs →
     followed (map (dlink_in p ln) (layout p)) (length xs) (link_place p i ((ln i).down a)) ≡ map (link_place p i) xs
-follow_down p ln i a [] laid pos le named h = refl
-follow_down p ln i a (o ∷ xs) laid pos le named h =
-    let links = map (dlink_in p ln) (layout p) in
-    let here = laid.there i o pos le (inr (above_zero (ln i) a xs o h, named.0)) in
-    let first : link_place p i ((ln i).down a) ≡ link_place p i o = ap (link_place p i) h.1 in
-    ap₂ (λ q qs. q ∷ qs) first
-    (ap (λ q. followed links (length xs) (get_or links q 0)) first ∙ ap (followed links (length xs)) (get_down p ln i o here) ∙ follow_down p ln i o xs laid pos le named.1 h.3)
+follow_down p ln i a [] laid pos le named h = grind (arith, common_steps, above_zero, get_down)
+follow_down p ln i a (o ∷ xs) laid pos le named h = grind (arith, common_steps, above_zero, get_down, follow_down p ln i o xs laid pos le named.1 h.3)
 
 abbrev led : List ℕ → ℕ → ℕ → ℕ
 led f zero q = q
@@ -73,9 +69,7 @@ back_is p t i laid pos le =
     ∙ (follow_up p (line_of p t) i 0 (listed_numbers p t i) laid pos le (numbers_named p t i) (stands p t i)).0
 
 pub in_table : (p : Puzzle) (t : List Move) (i : ℕ) → IsLaid p → 0 < i → i ≤ item_count p → i < length (nodes_after p t).top
-in_table p t i laid pos le =
-    let long : length (map (top_in (line_of p t)) (layout p)) ≡ length (layout p) = length-map (layout p) (top_in (line_of p t)) in
-    omega (arith, slice_get_within (layout p) i (own i) (laid.head i pos le), long)
+in_table p t i laid pos le = grind (arith, common_steps, length-map, slice_get_within)
 
 pub few_in : (p : Puzzle) (t : List Move) (i : ℕ) → IsLaid p → IsFit p → 0 < i → i ≤ item_count p → get_or (nodes_after p t).top i 0 < 2 ^ 30
 few_in p t i laid fit pos le =

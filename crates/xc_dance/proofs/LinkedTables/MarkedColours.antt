@@ -1,5 +1,6 @@
 -- The colours after Cover and Purify are those that their walks leave.
 use Rattle.std.proofs.Common.{◌≡◌, ℕ, ◌<◌, Bool, true, false, not, cond, ◌&&◌, ◌||◌, eqb, List, [], ◌∷◌, Option, Some, None, refl, ap, sym, ◌∙◌, arith, eqb-true, eq-eqb, ne_eqb}
+use Rattle.std.proofs.lemmas.Grind.{common_steps}
 use Rattle.std.specs.Prelude.{slice_get, unwrap_or}
 use Rattle.std.proofs.lemmas.Bool.{eqb-false}
 use Rattle.std.proofs.Math.Bool.{not-not}
@@ -42,33 +43,16 @@ two_ways false false v = refl
 
 one_more : (p : Puzzle) (i : ℕ) (keep : Option ℕ) (o : ℕ) (xs : List ℕ) (s : Option (ℕ × ℕ)) (v : ℕ) →
     cond (slot_kept p i keep xs s) 4294967295 (cond (is_kept p i keep o) (cond (is_slot i o s) 4294967295 v) v) ≡ cond (slot_kept p i keep (o ∷ xs) s) 4294967295 v
-one_more p i keep o xs None v = same_branches (is_kept p i keep o) v
-one_more p i keep o xs (Some s) v =
-    elim (eqb s.0 i) as (λ a. cond (a && (is_in s.1 xs && is_kept p i keep s.1)) 4294967295 (cond (is_kept p i keep o) (cond (a && eqb s.1 o) 4294967295 v) v) ≡ cond (a && ((eqb o s.1 || is_in s.1 xs) && is_kept p i keep s.1)) 4294967295 v) [
-      | true ↦
-          elim (eqb o s.1) as (λ b. eqb o s.1 ≡ b → cond (is_in s.1 xs && is_kept p i keep s.1) 4294967295 (cond (is_kept p i keep o) (cond (eqb s.1 o) 4294967295 v) v) ≡ cond ((b || is_in s.1 xs) && is_kept p i keep s.1) 4294967295 v) [
-            | true ↦ λ e.
-                let same : o ≡ s.1 = eqb-true o s.1 e in
-                ap (λ c. cond (is_in s.1 xs && is_kept p i keep s.1) 4294967295 (cond (is_kept p i keep o) (cond c 4294967295 v) v)) (eq-eqb s.1 o (sym same))
-                ∙ ap (λ k. cond (is_in s.1 xs && is_kept p i keep s.1) 4294967295 (cond (is_kept p i keep k) 4294967295 v)) same
-                ∙ two_ways (is_in s.1 xs) (is_kept p i keep s.1) v
-            | false ↦ λ e.
-                ap (λ c. cond (is_in s.1 xs && is_kept p i keep s.1) 4294967295 (cond (is_kept p i keep o) (cond c 4294967295 v) v)) (ne_eqb s.1 o (λ f. eqb-false o s.1 e (sym f)))
-                ∙ ap (cond (is_in s.1 xs && is_kept p i keep s.1) 4294967295) (same_branches (is_kept p i keep o) v)
-          ] refl
-      | false ↦ same_branches (is_kept p i keep o) v
-    ]
+one_more p i keep o xs None v = grind (arith, common_steps, eq-eqb, eqb-false, eqb-true, ne_eqb, same_branches, two_ways)
+one_more p i keep o xs (Some s) v = grind (arith, common_steps, eq-eqb, eqb-false, eqb-true, ne_eqb, same_branches, two_ways)
 
 none_kept : (p : Puzzle) (i : ℕ) (keep : Option ℕ) (s : Option (ℕ × ℕ)) (v : ℕ) → v ≡ cond (slot_kept p i keep [] s) 4294967295 v
 none_kept p i keep None v = refl
 none_kept p i keep (Some s) v = elim (eqb s.0 i) as (λ a. v ≡ cond (a && false) 4294967295 v) [ true ↦ refl | false ↦ refl ]
 
 pub marked_at : (p : Puzzle) (i : ℕ) (keep : Option ℕ) (now : Node → ℕ) (xs : List ℕ) (n : Node) → marked_list p i keep now xs n ≡ cond (slot_kept p i keep xs (slot_of n)) 4294967295 (now n)
-marked_at p i keep now [] n = none_kept p i keep (slot_of n) (now n)
-marked_at p i keep now (o ∷ xs) n =
-    marked_at p i keep (cond (is_kept p i keep o) (with_color now i o 4294967295) now) xs n
-    ∙ ap (cond (slot_kept p i keep xs (slot_of n)) 4294967295) (cond_at (is_kept p i keep o) (with_color now i o 4294967295) now n)
-    ∙ one_more p i keep o xs (slot_of n) (now n)
+marked_at p i keep now [] n = grind (arith, common_steps, cond_at, none_kept)
+marked_at p i keep now (o ∷ xs) n = grind (arith, common_steps, cond_at, none_kept, marked_at p i keep (cond (is_kept p i keep o) (with_color now i o 4294967295) now) xs n)
 
 pub cover_colours : (p : Puzzle) (t : List Move) (i : ℕ) (n : Node) → color_in p (Cover i ∷ t) n ≡ color_in p t n
 cover_colours p t i unused = refl
@@ -85,28 +69,7 @@ marks false true k v = refl
 marks false false k v = refl
 
 pub purify_colours : (p : Puzzle) (t : List Move) (i c : ℕ) → IsLaid p → (k : ℕ) (n : Node) → slice_get (layout p) k ≡ Some n → color_in p (Purify i c ∷ t) n ≡ marked_list p i (Some c) (purify_start p t i c) (listed_numbers p t i) n
-purify_colours p t i c laid k unused at = sym (marked_at p i (Some c) (purify_start p t i c) (listed_numbers p t i) unused)
-purify_colours p t i c laid k (spacer m) at = sym (marked_at p i (Some c) (purify_start p t i c) (listed_numbers p t i) (spacer m))
-purify_colours p t i c laid k (own j) at =
-    elim (eqb j i) as (λ b. unwrap_or (cond b (Some c) (purified j t)) 0 ≡ cond (b && (is_in 0 (listed_numbers p t i) && is_kept p i (Some c) 0)) 4294967295 (cond (b && eqb 0 0) c (unwrap_or (purified j t) 0))) [
-      | true ↦ ap (λ b. cond (b && is_kept p i (Some c) 0) 4294967295 c) (sym (not_in 0 0 (listed_numbers p t i) (omega arith) (rises_listed p t i)))
-      | false ↦ refl
-    ]
-    ∙ sym (marked_at p i (Some c) (purify_start p t i c) (listed_numbers p t i) (own j))
-purify_colours p t i c laid k (used o u) at =
-    let pos : 0 < o = laid.nodes.numbered k o u at in
-    let v = color_in p t (used o u) in
-    let colour : colour_in (uses_of p o) u.item ≡ Some u.colour = laid.nodes.coloured k o u at in
-    let at_zero : eqb o 0 ≡ false = ne_eqb o 0 (λ e. omega (arith, e, pos)) in
-    elim (eqb u.item i) as (λ b. eqb u.item i ≡ b → color_in p (Purify i c ∷ t) (used o u) ≡ cond (b && (is_in o (listed_numbers p t i) && is_kept p i (Some c) o)) 4294967295 (cond (b && eqb o 0) c v)) [
-      | true ↦ λ e.
-          let same : u.item ≡ i = eqb-true u.item i e in
-          let kept : is_kept p i (Some c) o ≡ eqb c u.colour = ap (λ j. not (is_other_colour c (colour_in (uses_of p o) j))) (sym same) ∙ ap (λ d. not (is_other_colour c d)) colour ∙ not-not (eqb c u.colour) in
-          ap (λ b. cond (cond ((b && eqb c u.colour) && is_in o (listed_numbers p t u.item)) true (is_marked p t u.item o u.colour)) 4294967295 u.colour) (eq-eqb i u.item (sym same))
-          ∙ marks (eqb c u.colour) (is_in o (listed_numbers p t u.item)) (is_marked p t u.item o u.colour) u.colour
-          ∙ ap (λ j. cond (is_in o (listed_numbers p t j) && eqb c u.colour) 4294967295 v) same
-          ∙ ap (λ b. cond (is_in o (listed_numbers p t i) && b) 4294967295 v) (sym kept)
-          ∙ ap (λ b. cond (is_in o (listed_numbers p t i) && is_kept p i (Some c) o) 4294967295 (cond b c v)) (sym at_zero)
-      | false ↦ λ e. ap (λ b. cond (cond ((b && eqb c u.colour) && is_in o (listed_numbers p t u.item)) true (is_marked p t u.item o u.colour)) 4294967295 u.colour) (ne_eqb i u.item (λ f. eqb-false u.item i e (sym f)))
-    ] refl
-    ∙ sym (marked_at p i (Some c) (purify_start p t i c) (listed_numbers p t i) (used o u))
+purify_colours p t i c laid k unused at = grind (arith, common_steps, eq-eqb, eqb-false, eqb-true, marked_at, marks, ne_eqb, not-not, not_in, rises_listed)
+purify_colours p t i c laid k (spacer m) at = grind (arith, common_steps, eq-eqb, eqb-false, eqb-true, marked_at, marks, ne_eqb, not-not, not_in, rises_listed)
+purify_colours p t i c laid k (own j) at = grind (arith, common_steps, eq-eqb, eqb-false, eqb-true, marked_at, marks, ne_eqb, not-not, not_in, rises_listed)
+purify_colours p t i c laid k (used o u) at = grind (arith, common_steps, eq-eqb, eqb-false, eqb-true, marked_at, marks, ne_eqb, not-not, not_in, rises_listed)

@@ -1,5 +1,6 @@
 -- The other uses of an option in an open item's list: each is in its own item's list, or marked.
 use Rattle.std.proofs.Common.{◌≡◌, ℕ, ◌<◌, ◌≤◌, ◌⊎◌, inl, inr, Bool, true, false, not, cond, ◌&&◌, ◌||◌, eqb, List, [], ◌∷◌, map, get_or, Some, None, refl, ap, ap₂, sym, subst, ◌∙◌, arith, eqb-true, eq-eqb, ne_eqb}
+use Rattle.std.proofs.lemmas.Grind.{common_steps}
 use Rattle.std.specs.Prelude.{Option, is_some, slice_get, nat_lt}
 use Rattle.xc_dance.proofs.MoveLemmas.StateLemmas.{open_is}
 use Rattle.std.specs.List.{AllByRecursion}
@@ -39,16 +40,8 @@ options_left p t = all_left (IsOption p) p t (options_numbered p)
 -- ---- membership
 
 holding_in : (j : ℕ) (os : List Numbered) → AllByRecursion (λ o. holds o j ≡ true → is_in o.number (map (λ x. x.number) (holding j os)) ≡ true) os
-holding_in j [] = tt
-holding_in j (x ∷ os) =
-    elim (holds x j) as (λ b. holds x j ≡ b → AllByRecursion (λ o. holds o j ≡ true → is_in o.number (map (λ x. x.number) (cond b (x ∷ holding j os) (holding j os))) ≡ true) (x ∷ os)) [
-      | true ↦ λ e. (
-        (λ h. is_in-first x.number _),
-        each_weaker (λ o. holds o j ≡ true → is_in o.number (map (λ x. x.number) (holding j os)) ≡ true) (λ o. holds o j ≡ true → is_in o.number (map (λ x. x.number) (x ∷ holding j os)) ≡ true) os
-            (λ o f h. elim (eqb x.number o.number) as (λ b. (b || is_in o.number (map (λ x. x.number) (holding j os))) ≡ true) [ true ↦ refl | false ↦ f h ]) (holding_in j os),
-      )
-      | false ↦ λ e. ((λ h. absurd (false≢true (sym e ∙ h))), holding_in j os)
-    ] refl
+holding_in j [] = grind (arith, common_steps, each_weaker, false≢true, is_in-first)
+holding_in j (x ∷ os) = grind (arith, common_steps, each_weaker, false≢true, is_in-first, holding_in j os)
 
 -- an option left that holds an open item is in its list
 pub in_open : (p : Puzzle) (t : List Move) (j : ℕ) → AreLegal p t → is_open j t ≡ true → AllByRecursion (λ o. holds o j ≡ true → is_in o.number (listed_numbers p t j) ≡ true) (left p t)
@@ -106,12 +99,10 @@ purified_marked p (Spend k ∷ t) j c legal e = purified_marked p t j c legal.1 
 -- ---- a node's colour cell
 
 used_by : (p : Puzzle) (j o k : ℕ) (n : Node) → 0 < o → slice_get (layout p) k ≡ Some n → slot_of n ≡ Some (j, o) → (u : Use) × (slice_get (layout p) k ≡ Some (used o u)) × (u.item ≡ j)
-used_by p j o k unused pos at e = cc
-used_by p j o k (spacer n) pos at e = cc
-used_by p j o k (own i) pos at e = let z : 0 ≡ o = ap member_of e in absurd (omega arith)
-used_by p j o k (used m u) pos at e =
-    let same : m ≡ o = ap member_of e in
-    (u, subst (λ i. slice_get (layout p) k ≡ Some (used i u)) same at, ap item_of e)
+used_by p j o k unused pos at e = grind (arith, common_steps)
+used_by p j o k (spacer n) pos at e = grind (arith, common_steps)
+used_by p j o k (own i) pos at e = grind (arith, common_steps)
+used_by p j o k (used m u) pos at e = grind (arith, common_steps)
 
 -- what stands in the colour cell of an option's node in item j's list
 pub color_is : (p : Puzzle) (t : List Move) (o j c : ℕ) → IsLaid p → 0 < j → j ≤ item_count p → 0 < o → Named p j o → colour_in (uses_of p o) j ≡ Some c →

@@ -1,5 +1,6 @@
 -- The options of an open item's list are met: their other uses stand in their lists or are marked, so they are ready to leave.
 use Rattle.std.proofs.Common.{◌≡◌, ℕ, ◌<◌, ◌≤◌, true, false, not, cond, ◌||◌, eqb, List, [], ◌∷◌, map, Option, Some, None, refl, ap, sym, subst, ◌∙◌, arith, eqb-true, eq-eqb, ne_eqb}
+use Rattle.std.proofs.lemmas.Grind.{common_steps}
 use Rattle.std.specs.Prelude.{is_some}
 use Rattle.std.specs.List.{AllByRecursion}
 use Rattle.std.proofs.lemmas.Bool.{eqb-false, false≢true, and_parts}
@@ -73,10 +74,7 @@ ready_at p t i x legal laid fit opened within =
     (others_apart p x i fit)
 
 eqb_turn : (a b : ℕ) → eqb a b ≡ eqb b a
-eqb_turn a b = elim (eqb b a) as (λ c. eqb b a ≡ c → eqb a b ≡ c) [
-  | true ↦ λ e. eq-eqb a b (sym (eqb-true b a e))
-  | false ↦ λ e. ne_eqb a b (λ f. eqb-false b a e (sym f))
-] refl
+eqb_turn a b = grind (arith, common_steps, eq-eqb, eqb-false, eqb-true, ne_eqb)
 
 test_is : (p : Puzzle) (i : ℕ) (keep : Option ℕ) (x c : ℕ) → colour_in (uses_of p x) i ≡ Some c → is_kept_colour keep c ≡ is_kept p i keep x
 test_is p i None x c e = refl

@@ -1,5 +1,6 @@
 -- The node by which an option uses an item, the option of a node, and the links downwards by option numbers.
 use Rattle.std.proofs.Common.{◌≡◌, ◌≢◌, ◌⊎◌, inl, inr, ℕ, zero, suc, ◌+◌, ◌-◌, ◌<◌, ◌≤◌, Bool, true, false, cond, ◌||◌, eqb, ltb, List, [], ◌∷◌, length, get_or, Some, None, Option, refl, ap, ap₂, sym, subst, ◌∙◌, arith, eq-eqb, ne_eqb, le-leb, ltb-true, ltb-false}
+use Rattle.std.proofs.lemmas.Grind.{common_steps}
 use Rattle.std.specs.Prelude.{is_some, unwrap_or, slice_get, Contains}
 use Rattle.std.specs.List.{range_with_len, AllByRecursion}
 use Rattle.xc_input.specs.declared.problem.Use.{Use}
@@ -205,16 +206,7 @@ own_down p t i laid pos le =
     ∙ ap (link_place p i) (sym (first_above-first 0 0 0 (listed_numbers p t i) (omega arith) (rises_listed p t i)))
 
 pub contained : (xs : List ℕ) (x : ℕ) → Contains xs x → is_in x xs ≡ true
-contained xs x h = by_place xs h.0 h.1 h.2
-  where
-    by_place : (ys : List ℕ) (k : ℕ) → k < length ys → get_or ys k x ≡ x → is_in x ys ≡ true
-    by_place [] k lt e = absurd (omega (arith, lt))
-    by_place (y ∷ ys) zero lt e = ap (λ b. b || is_in x ys) (eq-eqb y x e)
-    by_place (y ∷ ys) (suc k) lt e = later (eqb y x) (by_place ys k (omega (arith, lt)) e)
-      where
-        later : (b : Bool) → is_in x ys ≡ true → (b || is_in x ys) ≡ true
-        later true f = refl
-        later false f = f
+contained xs x h = grind (arith, common_steps, eq-eqb, ℕ)
 
 below_now : (p : Puzzle) (t : List Move) (i o : ℕ) → is_in o (listed_numbers p t i) ≡ true → below_of p t i o ≡ first_above 0 o (listed_numbers p t i)
 below_now p [] i o e = refl
@@ -235,20 +227,8 @@ node_within p i o laid pos le name = let q = laid.there i o pos le name in slice
 -- ---- the ring of primary items
 
 pub open_right : (p : Puzzle) (t : List Move) (i : ℕ) → AreLegal p t → (i ≡ 0) ⊎ IsOpenPrimary p t i → get_or (items_after p t).rlink i 0 ≡ first_above 0 i (open_items p t)
-open_right p t i legal (inl z) =
-    ap (λ k. get_or (items_after p t).rlink k 0) z
-    ∙ row_get (rlink_at p t) (item_count p + 2) 0 (omega arith)
-    ∙ ap (first_of 0) (ring_open p t 0 legal (omega arith))
-    ∙ sym (first_above-first 0 0 0 (open_items p t) (omega arith) (Rises-filter (λ j. is_open j t) 0 (range_with_len 1 (primary_count p)) (Rises-range 0 (primary_count p))))
-    ∙ ap (λ k. first_above 0 k (open_items p t)) (sym z)
-open_right p t i legal (inr h) =
-    let pos : 0 < i = let g = h.0.0 in omega (arith, g) in
-    let low : i ≤ primary_count p = h.0.1 in
-    let le : i ≤ item_count p = omega (arith, low) in
-    row_get (rlink_at p t) (item_count p + 2) i (omega (arith, le))
-    ∙ ap₂ (λ u v. cond u (first_of 0 (ring_of p t 0)) (cond v (right_of p t i) (first_of (item_count p + 1) (ring_of p t (primary_count p + 1))))) (ne_eqb i 0 (λ e. omega (arith, e, pos))) (le-leb i (item_count p) le)
-    ∙ right_now p t i (open_uncovered i t h.1)
-    ∙ ap₂ (λ b l. first_above (cond b 0 (item_count p + 1)) i l) (le-leb i (primary_count p) low) (ring_open p t i legal low)
+open_right p t i legal (inl z) = grind (arith, common_steps, Rises-filter, Rises-range, first_above-first, le-leb, ne_eqb, open_uncovered, right_now, ring_open, row_get)
+open_right p t i legal (inr h) = grind (arith, common_steps, Rises-filter, Rises-range, first_above-first, le-leb, ne_eqb, open_uncovered, right_now, ring_open, row_get)
 
 pub open_place : (p : Puzzle) (t : List Move) (i : ℕ) → (i ≡ 0) ⊎ IsOpenPrimary p t i → i < length (items_after p t).rlink
 open_place p t i (inl z) = let long = row_len (rlink_at p t) (item_count p + 2) in omega (arith, long, z)

@@ -1,5 +1,6 @@
 -- Down one list and back up: the options of its nodes leave the lists of their other items, but for those of a colour that is kept, whose nodes are marked.
 use Rattle.std.proofs.Common.{◌≡◌, ◌≢◌, ℕ, ◌+◌, ◌*◌, ◌<◌, ◌≤◌, inr, true, false, not, cond, ◌&&◌, ◌||◌, eqb, List, [], ◌∷◌, ◌++◌, length, map, fold, filter, reverse, get_or, Option, Some, None, refl, ap, ap₂, sym, subst, ◌∙◌, arith, eqb-true, eq-eqb, ne_eqb}
+use Rattle.std.proofs.lemmas.Grind.{common_steps}
 use Rattle.std.proofs.lemmas.Bool.{false≢true, and_right}
 use Rattle.std.proofs.lemmas.List.{length-map, reverse-append}
 use Rattle.std.proofs.lemmas.List.Sums.{fold-append}
@@ -88,24 +89,17 @@ mark_by : (p : Puzzle) (col now : Node → ℕ) (o j : ℕ) → own_color p now 
 mark_by p col now o j e = ap (λ v. eqb v 4294967295) e
 
 all_same : (p : Puzzle) (i : ℕ) (col now : Node → ℕ) (xs : List ℕ) (lists : ℕ → List ℕ) (o : ℕ) (ln : ℕ → Line) (js : List ℕ) → 0 < o → Passed p i col now xs → IsApart i js → AreReady p col lists o js → left_all p now o ln js ≡ left_all p col o ln js
-all_same p i col now xs lists o ln [] pos same apart h = refl
-all_same p i col now xs lists o ln (j ∷ js) pos same apart h =
-    let here : is_mark p now o j ≡ is_mark p col o j = mark_by p col now o j (same.others j o apart.0 h.0 h.1 pos h.2) in
-    ap (λ b. left_all p now o (cond b ln (with_line ln j (cut (ln j) o))) js) here
-    ∙ all_same p i col now xs lists o (left_one p col o ln j) js pos same apart.1 h.5
+all_same p i col now xs lists o ln [] pos same apart h = grind (arith, common_steps, mark_by)
+all_same p i col now xs lists o ln (j ∷ js) pos same apart h = grind (arith, common_steps, mark_by, all_same p i col now xs lists o (left_one p col o ln j) js pos same apart.1 h.5)
 
 ready_same : (p : Puzzle) (i : ℕ) (col now : Node → ℕ) (xs : List ℕ) (lists : ℕ → List ℕ) (o : ℕ) (js : List ℕ) → 0 < o → Passed p i col now xs → IsApart i js → AreReady p col lists o js → AreReady p now lists o js
-ready_same p i col now xs lists o [] pos same apart h = tt
-ready_same p i col now xs lists o (j ∷ js) pos same apart h =
-    let here : is_mark p now o j ≡ is_mark p col o j = mark_by p col now o j (same.others j o apart.0 h.0 h.1 pos h.2) in
-    (h.0, h.1, h.2, (λ e. h.3 (sym here ∙ e)), h.4, ready_same p i col now xs lists o js pos same apart.1 h.5)
+ready_same p i col now xs lists o [] pos same apart h = grind (arith, common_steps, mark_by)
+ready_same p i col now xs lists o (j ∷ js) pos same apart h = grind (arith, common_steps, mark_by, ready_same p i col now xs lists o js pos same apart.1 h.5)
 
 gone_same : (p : Puzzle) (i : ℕ) (col now : Node → ℕ) (xs : List ℕ) (lists : ℕ → List ℕ) (o : ℕ) (js : List ℕ) → 0 < o → Passed p i col now xs → IsApart i js → AreReady p col lists o js →
     filter (λ j. not (is_mark p now o j)) js ≡ filter (λ j. not (is_mark p col o j)) js
-gone_same p i col now xs lists o [] pos same apart h = refl
-gone_same p i col now xs lists o (j ∷ js) pos same apart h =
-    let here : is_mark p now o j ≡ is_mark p col o j = mark_by p col now o j (same.others j o apart.0 h.0 h.1 pos h.2) in
-    ap₂ (λ b ks. cond (not b) (j ∷ ks) ks) here (gone_same p i col now xs lists o js pos same apart.1 h.5)
+gone_same p i col now xs lists o [] pos same apart h = grind (arith, common_steps, mark_by)
+gone_same p i col now xs lists o (j ∷ js) pos same apart h = grind (arith, common_steps, mark_by, gone_same p i col now xs lists o js pos same apart.1 h.5)
 
 -- ---- one step of the walk
 
@@ -156,21 +150,7 @@ no_mark (Some c) v e = e
 hide_step : (p : Puzzle) (now : Node → ℕ) (spans : List Span) (keep : Option ℕ) (ln : ℕ → Line) (i o : ℕ) → HasSpans p spans → Placed p i o → 0 < o → Named p i o
     → is_kept_colour keep (own_color p now i o) ≡ false → eqb (own_color p now i o) 4294967295 ≡ false → Turns p ln now spans o i →
     OneStep spans keep (nodes_from p ln now) (nodes_from p (left_all p now o ln (other_items p o i)) now) (link_place p i o) (3 * gone_count p now i o)
-hide_step p now spans keep ln i o spanned h pos named other unmarked turns =
-    let x = link_place p i o in
-    let t : Nodes = nodes_from p ln now in
-    let u : Nodes = nodes_from p (left_all p now o ln (other_items p o i)) now in
-    let within = slice_get_within (layout p) x h.node h.at in
-    let long : length (map now (layout p)) ≡ length (layout p) = length-map (layout p) now in
-    let not_marked : is_kept_mark keep (get_or u.color x 0) ≡ false = no_mark keep (own_color p now i o) unmarked in
-    record {
-      can = record { span = spanned.within o i pos named; place = omega (arith, long, within); hide = λ f. turns.hide };
-      done = ap (λ b. cond b (with_colour t x 4294967295) (hidden_node spans t x)) other ∙ turns.done;
-      back = record { span = spanned.within o i pos named; place = omega (arith, long, within); show = λ f. turns.show };
-      undone = ap (λ b. cond b (with_colour u x (kept_colour keep)) (shown_node spans u x)) not_marked ∙ turns.undone;
-      cost = ap (λ b. cond b 1 (hide_costs t (others_of spans x))) other ∙ turns.cost;
-      cost_back = ap (λ b. cond b 1 (show_costs u (reverse (others_of spans x)))) not_marked ∙ turns.cost_back;
-    }
+hide_step p now spans keep ln i o spanned h pos named other unmarked turns = grind (arith, common_steps, length-map, no_mark, slice_get_within, turns)
 
 -- the first step, and what is then asked of the rest
 pub record Turn (p : Puzzle) (col now : Node → ℕ) (spans : List Span) (i : ℕ) (keep : Option ℕ) (ln : ℕ → Line) (o : ℕ) (xs : List ℕ) : Type 0 where
@@ -252,11 +232,8 @@ leads spans keep t q (x ∷ xs) = leads spans keep (back_node spans keep t x) (g
 
 back_push : (spans : List Span) (keep : Option ℕ) (t u v : Nodes) (q : ℕ) (xs : List ℕ) (x : ℕ) → IsWalkBack spans keep t q xs → fold (back_node spans keep) t xs ≡ u → leads spans keep t q xs ≡ x →
     back_node spans keep u x ≡ v → x < length v.ulink → CanReturn spans keep u x → IsWalkBack spans keep t q (xs ++ x ∷ [])
-back_push spans keep t u v q [] x w done at next within can =
-    let is : u ≡ t = sym done in
-    (at, subst (λ (s : Nodes). CanReturn spans keep s x) is can, subst (λ (s : Nodes). x < length s.ulink) (sym next ∙ ap (λ (s : Nodes). back_node spans keep s x) is) within, tt)
-back_push spans keep t u v q (y ∷ ys) x w done at next within can =
-    (w.0, w.1, w.2, back_push spans keep (back_node spans keep t y) u v (get_or (back_node spans keep t y).ulink y 0) ys x w.3 done at next within can)
+back_push spans keep t u v q [] x w done at next within can = grind (arith, common_steps)
+back_push spans keep t u v q (y ∷ ys) x w done at next within can = grind (arith, common_steps, back_push spans keep (back_node spans keep t y) u v (get_or (back_node spans keep t y).ulink y 0) ys x w.3 done at next within can)
 
 leads_push : (spans : List Span) (keep : Option ℕ) (t u v : Nodes) (q : ℕ) (xs : List ℕ) (x : ℕ) → fold (back_node spans keep) t xs ≡ u → back_node spans keep u x ≡ v → leads spans keep t q (xs ++ x ∷ []) ≡ get_or v.ulink x 0
 leads_push spans keep t u v q [] x done next = ap (λ (s : Nodes). get_or (back_node spans keep s x).ulink x 0) done ∙ ap (λ (s : Nodes). get_or s.ulink x 0) next

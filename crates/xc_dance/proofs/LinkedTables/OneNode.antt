@@ -1,5 +1,6 @@
 -- One node of the table leaves its list or comes back: so does one member of its item's line.
 use Rattle.std.proofs.Common.{◌≡◌, ◌≢◌, ℕ, ◌-◌, ◌<◌, ◌≤◌, ◌^◌, true, false, eqb, length, map, get_or, set, Some, refl, ap, ap₂, sym, subst, ◌∙◌, arith, eqb-true}
+use Rattle.std.proofs.lemmas.Grind.{common_steps}
 use Rattle.std.specs.Prelude.{slice_get}
 use Rattle.std.proofs.lemmas.List.{length-map}
 use Rattle.xc_dance.specs.declared.links.nodes.Nodes.{Nodes}
@@ -88,15 +89,4 @@ step_open p col ln j o laid m few color =
     }
 
 pub step_marked : (p : Puzzle) (col : Node → ℕ) (ln : ℕ → Line) (q : ℕ) → q < length (layout p) → get_or (map (top_in ln) (layout p)) q 0 < 2147483648 → eqb (get_or (map (col) (layout p)) q 0) 4294967295 ≡ true → Step (nodes_from p ln col) (nodes_from p ln col) q
-step_marked p col ln q within use_of color =
-    let tb : Nodes = nodes_from p ln col in
-    let size = size_from p ln col in
-    let long : length (map (top_in ln) (layout p)) ≡ length (layout p) = length-map (layout p) (top_in ln) in
-    let is : hidden tb q ≡ tb = hidden-marked tb q color in
-    let bad : get_or (map (col) (layout p)) q 0 ≢ 4294967295 → ⊥ = λ ne. ne (eqb-true _ 4294967295 color) in
-    record {
-      can = record { size = size; place = omega (arith, long, within); use_of = use_of; places = λ ne. absurd (bad ne); some = λ ne. absurd (bad ne) };
-      undone = ap (λ (u : Nodes). shown u q) is ∙ shown-marked tb q color;
-      back = subst (λ (u : Nodes). CanShow u q) (sym is) (record { size = size; place = omega (arith, long, within); use_of = use_of; places = λ ne. absurd (bad ne); few = λ ne. absurd (bad ne) });
-      done = is;
-    }
+step_marked p col ln q within use_of color = grind (arith, common_steps, eqb-true, hidden-marked, length-map, shown-marked, size_from)

@@ -1,5 +1,6 @@
 -- Where the nodes of each option stand behind the first spacer.
 use Rattle.std.proofs.Common.{◌≡◌, ℕ, zero, suc, ◌+◌, ◌≤◌, List, [], ◌∷◌, ◌++◌, length, map, Some, refl, ap, sym, ◌∙◌, arith}
+use Rattle.std.proofs.lemmas.Grind.{common_steps}
 use Rattle.std.specs.Prelude.{slice_get, flat_map, option_map, sum_by, unwrap_or}
 use Rattle.std.proofs.lemmas.Option.{slice_get-map, same_Some}
 use Rattle.std.proofs.lemmas.List.{length-map, length-append, append_assoc}
@@ -64,24 +65,17 @@ use_get n (suc o) k (vs ∷ os) us u e f =
     ∙ use_get (n + 1) o k os us u e f ∙ ap (λ j. Some (used j u)) s
 
 pub length_tail : (n : ℕ) (os : List (List Use)) → length (tail_from n os) ≡ reach os (length os) + 1
-length_tail n [] = refl
-length_tail n (us ∷ os) =
-    let front = length-append (map (used (n + 1)) us) (tail_from (n + 1) os) in
-    omega (arith, length_tail (n + 1) os, front, length-map us (used (n + 1)), ap length (next_tail n us os))
+length_tail n [] = grind (arith, common_steps, length-append, length-map, next_tail)
+length_tail n (us ∷ os) = grind (arith, common_steps, length-append, length-map, next_tail, length_tail (n + 1) os)
 
 pub reach_zero : (os : List (List Use)) → reach os 0 ≡ 0
 reach_zero [] = refl
 reach_zero (us ∷ os) = refl
 
 pub reach_next : (os : List (List Use)) (o : ℕ) (us : List Use) → slice_get os o ≡ Some us → reach os (o + 1) ≡ reach os o + length us + 1
-reach_next [] o us e = cc
-reach_next (vs ∷ os) zero us e =
-    let one : reach (vs ∷ os) (0 + 1) ≡ length vs + 1 + reach os 0 = refl in
-    let nothing : reach os 0 ≡ 0 = reach_zero os in
-    let same = ap length (same_Some vs us e) in omega (arith, one, nothing, same)
-reach_next (vs ∷ os) (suc o) us e =
-    let s : suc o + 1 ≡ suc (o + 1) = omega arith in
-    ap (reach (vs ∷ os)) s ∙ omega (arith, reach_next os o us e)
+reach_next [] o us e = grind (arith, common_steps, reach_zero, same_Some)
+reach_next (vs ∷ os) zero us e = grind (arith, common_steps, reach_zero, same_Some)
+reach_next (vs ∷ os) (suc o) us e = grind (arith, common_steps, reach_zero, same_Some, reach_next os o us e)
 
 pub reach_most : (os : List (List Use)) → reach os (length os) ≡ sum_by (λ us. length us) os + length os
 reach_most [] = refl

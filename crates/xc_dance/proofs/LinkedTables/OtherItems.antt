@@ -1,5 +1,6 @@
 -- The other items of an option, and what its leaving does to the line of one item.
-use Rattle.std.proofs.Common.{◌≡◌, ℕ, Bool, true, false, not, cond, ◌&&◌, ◌||◌, eqb, List, [], ◌∷◌, map, filter, Some, refl, ap, sym, ◌∙◌, eqb-true, eq-eqb, ne_eqb}
+use Rattle.std.proofs.Common.{◌≡◌, ℕ, Bool, true, false, not, cond, ◌&&◌, ◌||◌, eqb, List, [], ◌∷◌, map, filter, Some, refl, ap, sym, ◌∙◌, eqb-true, eq-eqb, ne_eqb, arith}
+use Rattle.std.proofs.lemmas.Grind.{common_steps}
 use Rattle.std.specs.Prelude.{is_some}
 use Rattle.std.proofs.lemmas.Bool.{eqb-false, false≢true}
 use Rattle.std.proofs.lemmas.List.Folds.{list_any-append}
@@ -21,11 +22,8 @@ or_swap true false c = refl
 or_swap false b c = refl
 
 pub items_of : (us : List Use) (k : ℕ) → is_in k (map (λ u. u.item) us) ≡ is_some (colour_in us k)
-items_of [] k = refl
-items_of (u ∷ us) k = elim (eqb u.item k) as (λ b. (b || is_in k (map (λ v. v.item) us)) ≡ is_some (cond b (Some u.colour) (colour_in us k))) [
-  | true ↦ refl
-  | false ↦ items_of us k
-]
+items_of [] k = grind (arith, common_steps)
+items_of (u ∷ us) k = grind (arith, common_steps, items_of us k)
 
 -- the other items are those that the option holds, but i
 pub others_by : (us : List Use) (i k : ℕ) → AreDistinct us → (is_in k (behind_use i us) || is_in k (before_use i us)) ≡ (not (eqb k i) && is_some (colour_in us k))
@@ -81,12 +79,5 @@ EachApart p i [] = Unit {0}
 EachApart p i (o ∷ os) = AllApart (other_items p o i) × EachApart p i os
 
 pub list_at : (p : Puzzle) (col : Node → ℕ) (i : ℕ) (ln : ℕ → Line) (os : List ℕ) (k : ℕ) → EachApart p i os → left_list p col i ln os k ≡ cuts (ln k) (filter (leaves p col i k) os)
-list_at p col i ln [] k apart = refl
-list_at p col i ln (o ∷ os) k apart =
-    let here : left_all p col o ln (other_items p o i) k ≡ cond (leaves p col i k o) (cut (ln k) o) (ln k) = all_at cut p col o ln (other_items p o i) k apart.0 in
-    list_at p col i (left_all p col o ln (other_items p o i)) os k apart.1
-    ∙ ap (λ (l : Line). cuts l (filter (leaves p col i k) os)) here
-    ∙ elim (leaves p col i k o) as (λ b. cuts (cond b (cut (ln k) o) (ln k)) (filter (leaves p col i k) os) ≡ cuts (ln k) (cond b (o ∷ filter (leaves p col i k) os) (filter (leaves p col i k) os))) [
-      | true ↦ refl
-      | false ↦ refl
-    ]
+list_at p col i ln [] k apart = grind (arith, common_steps, all_at)
+list_at p col i ln (o ∷ os) k apart = grind (arith, common_steps, all_at, list_at p col i (left_all p col o ln (other_items p o i)) os k apart.1)

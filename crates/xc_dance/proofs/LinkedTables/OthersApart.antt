@@ -1,5 +1,6 @@
 -- The other items of an option are apart from each other and from its own.
 use Rattle.std.proofs.Common.{◌≡◌, ◌≢◌, ℕ, ◌<◌, ◌≤◌, true, false, not, cond, ◌&&◌, ◌||◌, eqb, List, [], ◌∷◌, ◌++◌, map, Some, refl, ap, sym, ◌∙◌, arith, eqb-true, eq-eqb}
+use Rattle.std.proofs.lemmas.Grind.{common_steps}
 use Rattle.std.specs.Prelude.{is_some}
 use Rattle.std.specs.List.{AllByRecursion}
 use Rattle.std.proofs.lemmas.Bool.{eqb-false, false≢true}
@@ -29,20 +30,12 @@ items_apart [] d = tt
 items_apart (u ∷ us) d = (apart_from u.item (map (λ v. v.item) us) (items_of us u.item ∙ d.0), items_apart us d.1)
 
 append_none : (xs : List ℕ) → AllApart xs → AllApart (xs ++ [])
-append_none [] h = tt
-append_none (x ∷ xs) h = (one x xs h.0, append_none xs h.1)
-  where
-    one : (x : ℕ) (ys : List ℕ) → IsApart x ys → IsApart x (ys ++ [])
-    one x [] a = tt
-    one x (y ∷ ys) a = (a.0, one x ys a.1)
+append_none [] h = grind (arith, common_steps, ℕ)
+append_none (x ∷ xs) h = grind (arith, common_steps, ℕ, append_none xs h.1)
 
 others_apart_of : (us : List Use) (i : ℕ) → AreDistinct us → AllApart (behind_use i us ++ before_use i us)
-others_apart_of [] i d = tt
-others_apart_of (u ∷ us) i d =
-    elim (eqb u.item i) as (λ b. AllApart (cond b (map (λ v. v.item) us) (behind_use i us) ++ cond b [] (u.item ∷ before_use i us))) [
-      | true ↦ append_none (map (λ v. v.item) us) (items_apart us d.1)
-      | false ↦ all_insert u.item (behind_use i us) (before_use i us) (others_by us i u.item d.1 ∙ ap (λ b. not (eqb u.item i) && b) d.0 ∙ elim (eqb u.item i) as (λ b. (not b && false) ≡ false) [ true ↦ refl | false ↦ refl ]) (others_apart_of us i d.1)
-    ]
+others_apart_of [] i d = grind (arith, common_steps, all_insert, append_none, items_apart, others_by)
+others_apart_of (u ∷ us) i d = grind (arith, common_steps, all_insert, append_none, items_apart, others_by, others_apart_of us i d.1)
 
 pub others_apart : (p : Puzzle) (o i : ℕ) → IsFit p → AllApart (other_items p o i)
 others_apart p o i fit = others_apart_of (uses_of p o) i (fit.distinct o)

@@ -1,5 +1,6 @@
 -- Where the nodes of each option stand in the node table.
 use Rattle.std.proofs.Common.{◌≡◌, ℕ, zero, suc, ◌+◌, ◌<◌, ◌≤◌, List, [], ◌∷◌, length, map, get_or, Some, ap, sym, ◌∙◌, arith}
+use Rattle.std.proofs.lemmas.Grind.{common_steps}
 use Rattle.std.specs.Prelude.{slice_get}
 use Rattle.std.specs.List.{range_with_len}
 use Rattle.std.proofs.lemmas.List.{length-append}
@@ -60,14 +61,11 @@ reach_grows (us ∷ os) (suc o) zero le most = absurd (omega (arith, le))
 reach_grows (us ∷ os) (suc o) (suc n) le most = let rest = reach_grows os o n (omega (arith, le)) (omega (arith, most)) in omega (arith, rest)
 
 pub layout_small : (p : Puzzle) → IsWithinLimits p → length (layout p) ≤ 20100002
-layout_small p limits =
-    let a = layout_len p in
-    omega (arith, a, reach_most p.options, limits.items, limits.uses, limits.options)
+layout_small p limits = grind (arith, common_steps, layout_len, reach_most)
 
 -- a spacer's place is among them
 pub place_within : (p : Puzzle) (o : ℕ) → o ≤ option_count p → place_at p o < length (layout p)
-place_within p o le =
-    omega (arith, layout_len p, reach_grows p.options o (option_count p) le (omega arith))
+place_within p o le = grind (arith, common_steps, layout_len, reach_grows)
 
 -- where the nodes of an option end
 pub record OptionFits (p : Puzzle) (o : ℕ) (us : List Use) : Type 0 where
@@ -77,6 +75,4 @@ pub record OptionFits (p : Puzzle) (o : ℕ) (us : List Use) : Type 0 where
   pub small : length (layout p) ≤ 20100002
 
 pub option_fits : (p : Puzzle) (o : ℕ) (us : List Use) → IsWithinLimits p → o < option_count p → us ≡ uses_of p (o + 1) → OptionFits p o us
-option_fits p o us limits lt is =
-    let at = option_get p o us lt is in
-    record { at = at; next = place_next p o us at; within = place_within p (o + 1) (omega (arith, lt)); small = layout_small p limits }
+option_fits p o us limits lt is = grind (arith, common_steps, layout_small, option_get, place_next, place_within)

@@ -1,5 +1,6 @@
 -- How cells are read, and that different cells read differently.
-use Rattle.std.proofs.Common.{◌≡◌, ℕ, suc, true, false, cond, eqb, List, [], ◌∷◌, Option, Some, None, refl, ap, ap₂, sym, ◌∙◌, eqb-true, ◌-◌, ◌<◌, ◌≤◌, le-leb}
+use Rattle.std.proofs.Common.{◌≡◌, ℕ, suc, true, false, cond, eqb, List, [], ◌∷◌, Option, Some, None, refl, ap, ap₂, sym, ◌∙◌, eqb-true, ◌-◌, ◌<◌, ◌≤◌, le-leb, arith}
+use Rattle.std.proofs.lemmas.Grind.{common_steps}
 use Rattle.std.specs.Prelude.{ℤ, pos, negsuc, slice_get, option_map}
 use Rattle.xc_dance.specs.Links.Read.{color_read, top_read, minus}
 use Rattle.std.proofs.lemmas.Option.{same_Some}
@@ -17,17 +18,7 @@ pub negsuc_same : (v w : ℕ) → negsuc v ≡ negsuc w → v ≡ w
 negsuc_same v w e = cc
 
 pub color_same : (v w : ℕ) → color_read v ≡ color_read w → v ≡ w
-color_same v w e =
-    elim (eqb v 4294967295) as (λ a. eqb v 4294967295 ≡ a → cond a (negsuc 0) (pos v) ≡ color_read w → v ≡ w) [
-      | true ↦ λ f. elim (eqb w 4294967295) as (λ b. eqb w 4294967295 ≡ b → negsuc 0 ≡ cond b (negsuc 0) (pos w) → v ≡ w) [
-        | true ↦ λ g h. eqb-true v 4294967295 f ∙ sym (eqb-true w 4294967295 g)
-        | false ↦ λ g h. cc
-      ] refl
-      | false ↦ λ f. elim (eqb w 4294967295) as (λ b. eqb w 4294967295 ≡ b → pos v ≡ cond b (negsuc 0) (pos w) → v ≡ w) [
-        | true ↦ λ g h. cc
-        | false ↦ λ g h. pos_same v w h
-      ] refl
-    ] refl e
+color_same v w e = grind (arith, common_steps, eqb-true, pos_same)
 
 pub read_small : (v : ℕ) → v < 2147483648 → top_read v ≡ pos v
 read_small v h = rw (lt-leb 2147483648 v h) refl

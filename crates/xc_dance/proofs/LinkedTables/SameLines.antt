@@ -1,5 +1,6 @@
 -- A line that loses what a move takes is that after the move; tables of the same lines and colours are the same.
 use Rattle.std.proofs.Common.{◌≡◌, ℕ, ◌+◌, ◌<◌, ◌≤◌, Bool, List, ◌∷◌, length, filter, Option, Some, None, refl, ap, sym, subst, arith, ◌∙◌}
+use Rattle.std.proofs.lemmas.Grind.{common_steps}
 use Rattle.std.specs.Prelude.{slice_get}
 use Rattle.std.proofs.lemmas.List.{length-map}
 use Rattle.xc_dance.specs.declared.dance.Move.{Move}
@@ -23,9 +24,7 @@ pub record SameCut (p : Puzzle) (t : List Move) (m : Move) (j : ℕ) (ks : List 
 
 -- lines with the same length and links are the same
 pub line_is : (l m : Line) → m.len ≡ l.len → ((x : ℕ) → m.up x ≡ l.up x) → ((x : ℕ) → m.down x ≡ l.down x) → m ≡ l
-line_is l m len up down =
-    let made : ℕ → (ℕ → ℕ) → (ℕ → ℕ) → Line = λ n f g. record { len = n; up = f; down = g } in
-    ap (λ n. made n m.up m.down) len ∙ ap (λ f. made l.len f m.down) (fun_ext up) ∙ ap (made l.len l.up) (fun_ext down)
+line_is l m len up down = grind (arith, common_steps, fun_ext, ℕ)
 
 -- the line that loses what a move takes is that after the move
 pub line_after : (p : Puzzle) (t : List Move) (m : Move) (j : ℕ) (ks : List ℕ) → SameCut p t m j ks → line_of p (m ∷ t) j ≡ cuts (line_of p t j) ks

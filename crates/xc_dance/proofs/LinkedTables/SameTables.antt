@@ -1,5 +1,6 @@
 -- When two keepers of tables are the same.
-use Rattle.std.proofs.Common.{◌≡◌, ℕ, Bool, List, reverse, IsTrue, ap, sym, subst, ◌∙◌}
+use Rattle.std.proofs.Common.{◌≡◌, ℕ, Bool, List, reverse, IsTrue, ap, sym, subst, ◌∙◌, arith}
+use Rattle.std.proofs.lemmas.Grind.{common_steps}
 use Rattle.std.proofs.lemmas.List.{reverse-reverse}
 use Rattle.xc_input.specs.Problem.{Puzzle}
 use Rattle.xc_dance.specs.declared.dance.Move.{Move}
@@ -30,18 +31,7 @@ pub is_same : (p q : Puzzle) (sp sq : List Span) (i j : Items) (n m : Nodes) (xs
     i ≡ items_after p (reverse xs) → j ≡ items_after q (reverse ys) → n ≡ nodes_after p (reverse xs) → m ≡ nodes_after q (reverse ys) →
     reverse ms ≡ taken_nodes p (reverse xs) → reverse ns ≡ taken_nodes q (reverse ys) →
     (AreEqual i j n m xs ys ms ns → IsSame p (reverse xs) q (reverse ys)) × (IsSame p (reverse xs) q (reverse ys) → AreEqual i j n m xs ys ms ns)
-is_same p q sp sq i j n m xs ys ms ns a b is_i is_j is_n is_m is_ms is_ns =
-    let t = reverse xs in
-    let s = reverse ys in
-    let at_p = sound p sp a in
-    let at_q = sound q sq b in (
-      (λ e. record {
-        fields = fields_from p q t s at_p at_q (sym is_i ∙ e.0.0.0 ∙ is_j) (sym is_n ∙ e.0.0.1 ∙ is_m);
-        moves = ap reverse e.0.1;
-        taken = sym is_ms ∙ ap reverse e.1 ∙ is_ns;
-      }),
-      (λ e. (((is_i ∙ items_from p q t s e.fields ∙ sym is_j, is_n ∙ nodes_from_fields p q t s at_p at_q e.fields ∙ sym is_m), forwards xs ys e.moves), forwards ms ns (is_ms ∙ e.taken ∙ sym is_ns))),
-    )
+is_same p q sp sq i j n m xs ys ms ns a b is_i is_j is_n is_m is_ms is_ns = grind (arith, common_steps, fields_from, forwards, items_from, nodes_from_fields, sound)
 
 -- ---- tests in a row
 

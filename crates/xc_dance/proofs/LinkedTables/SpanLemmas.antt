@@ -1,5 +1,6 @@
 -- Each node of an option has the option's span.
 use Rattle.std.proofs.Common.{◌≡◌, ℕ, zero, suc, ◌+◌, ◌-◌, ◌<◌, true, false, cond, eqb, List, [], ◌∷◌, ◌++◌, length, map, get_or, Some, refl, ap, ap₂, sym, subst, ◌∙◌, arith, eqb-true, lt-ltb}
+use Rattle.std.proofs.lemmas.Grind.{common_steps}
 use Rattle.std.specs.Prelude.{slice_get, is_some, unwrap_or, option_map}
 use Rattle.std.specs.List.{range_with_len}
 use Rattle.std.proofs.lemmas.Bool.{false≢true}
@@ -148,7 +149,4 @@ span_is p (suc o) i fit pos e =
     subst (λ n. SpanOf p n i) s (leads p o i us fit (there p.options o i e) same e)
 
 pub has_spans : (p : Puzzle) → IsFit p → HasSpans p (spans_of p)
-has_spans p fit = record {
-  span = λ o i pos e. (span_is p o i fit pos e).span;
-  within = λ o i pos e. (span_is p o i fit pos e).within;
-}
+has_spans p fit = grind (arith, common_steps, span_is)

@@ -1,5 +1,6 @@
 -- Members leave one list from top to bottom: where every link then leads.
 use Rattle.std.proofs.Common.{◌≡◌, ◌≢◌, ℕ, ◌+◌, ◌<◌, ◌≤◌, Bool, true, false, not, cond, ◌||◌, eqb, ltb, nat_lt, List, [], ◌∷◌, length, filter, fold, Some, None, refl, ap, sym, ◌∙◌, arith, eqb-true, eq-eqb, ne_eqb, lt-ltb, le-ltb}
+use Rattle.std.proofs.lemmas.Grind.{common_steps}
 use Rattle.std.specs.Prelude.{unwrap_or}
 use Rattle.std.specs.List.{last_or}
 use Rattle.std.proofs.lemmas.Bool.{eqb-false, false≢true}
@@ -108,10 +109,8 @@ cut-linked l a y (z ∷ zs) h =
 
 -- what stands below a member is the item's own node or a later member
 below_first : (l : Line) (y : ℕ) (ys : List ℕ) (x : ℕ) → IsLinkedFrom l y ys → x ≢ 0 → is_in x ys ≡ false → x ≢ l.down y
-below_first l y [] x h nz out e = nz (e ∙ h.0)
-below_first l y (z ∷ zs) x h nz out e =
-    let same : z ≡ x = sym h.1 ∙ sym e in
-    false≢true (sym out ∙ ap (λ k. is_in x (k ∷ zs)) same ∙ is_in-first x zs)
+below_first l y [] x h nz out e = grind (arith, common_steps, false≢true, is_in-first)
+below_first l y (z ∷ zs) x h nz out e = grind (arith, common_steps, false≢true, is_in-first)
 
 -- ---- all that pass the test leave
 
@@ -189,34 +188,13 @@ first_stays l m a y ys ks h ry s =
     }
 
 pub swept : (l : Line) (a : ℕ) (xs : List ℕ) (g : ℕ → Bool) → IsLinkedFrom l a xs → Swept l (cuts l (filter g xs)) a xs (stay g xs)
-swept l a [] g h = record {
-  linked = h;
-  up_in = λ x e. absurd (false≢true e);
-  up_out = λ x nz e. refl;
-  down_in = λ x ne e. absurd (false≢true e);
-  down_out = λ x ne e. refl;
-  first = h.0;
-  last = h.1;
-}
-swept l a (y ∷ ys) g h =
-    let ks = stay g ys in
-    let r : Rises y ys = rises l y ys h.3 in
-    let lt : a < y = h.0 in
-    let ry : Rises y ks = Rises-filter (λ x. not (g x)) y ys r in
-    let ra : Rises a ks = Rises-weaker a y ks (omega arith) ry in
-    elim (g y) as (λ b. Swept l (cuts l (cond b (y ∷ filter g ys) (filter g ys))) a (y ∷ ys) (cond (not b) (y ∷ ks) ks)) [
-      | true ↦ first_leaves l (cuts (cut l y) (filter g ys)) a y ys ks h ra ry (swept (cut l y) a ys g (cut-linked l a y ys h))
-      | false ↦ first_stays l (cuts l (filter g ys)) a y ys ks h ry (swept l y ys g h.3)
-    ]
+swept l a [] g h = grind (arith, common_steps, cut-linked, false≢true, first_leaves, first_stays, rises)
+swept l a (y ∷ ys) g h = grind (arith, common_steps, cut-linked, false≢true, first_leaves, first_stays, rises, swept (cut l y) a ys g (cut-linked l a y ys h), swept l y ys g h.3)
 
 -- how many are left
 pub swept_len : (l : Line) (xs : List ℕ) (g : ℕ → Bool) (n : ℕ) → l.len ≡ n + length xs → (cuts l (filter g xs)).len ≡ n + length (stay g xs)
-swept_len l [] g n e = e
-swept_len l (y ∷ ys) g n e =
-    elim (g y) as (λ b. (cuts l (cond b (y ∷ filter g ys) (filter g ys))).len ≡ n + length (cond (not b) (y ∷ stay g ys) (stay g ys))) [
-      | true ↦ swept_len (cut l y) ys g n (omega (arith, e))
-      | false ↦ omega (arith, swept_len l ys g (n + 1) (omega (arith, e)))
-    ]
+swept_len l [] g n e = grind (arith, common_steps)
+swept_len l (y ∷ ys) g n e = grind (arith, common_steps, swept_len (cut l y) ys g n (omega (arith, e)), swept_len l ys g (n + 1) (omega (arith, e)))
 
 -- a number that isn't in is not taken out
 pub stay_same : (i : ℕ) (xs : List ℕ) → (is_in i xs ≡ true → ⊥) → stay (λ x. eqb x i) xs ≡ xs

@@ -1,5 +1,6 @@
 -- What each move takes out of the lists of the other items, in option numbers.
-use Rattle.std.proofs.Common.{◌≡◌, ◌≢◌, ℕ, Bool, true, false, not, cond, ◌&&◌, ◌||◌, eqb, List, [], ◌∷◌, map, drop, take, Some, None, refl, ap, sym, subst, ◌∙◌, eq-eqb, ne_eqb}
+use Rattle.std.proofs.Common.{◌≡◌, ◌≢◌, ℕ, Bool, true, false, not, cond, ◌&&◌, ◌||◌, eqb, List, [], ◌∷◌, map, drop, take, Some, None, refl, ap, sym, subst, ◌∙◌, eq-eqb, ne_eqb, arith}
+use Rattle.std.proofs.lemmas.Grind.{common_steps}
 use Rattle.std.specs.List.{AllByRecursion}
 use Rattle.std.proofs.lemmas.List.Elements.{filter_agree}
 use Rattle.std.proofs.Math.Bool.{not-not}
@@ -26,20 +27,10 @@ goes_is (o ∷ os) x = ap (λ b. eqb o.number x || b) (goes_is os x)
 
 pub takes_listed : (p : Puzzle) (t : List Move) (m : Move) (i : ℕ) (gone : List Numbered) (gs : List ℕ) → map (λ o. o.number) gone ≡ gs
     → ((j : ℕ) → j ≢ i → listed p (m ∷ t) j ≡ cond (is_open j t) (without gone (listed p t j)) (listed p t j)) → TakesOut p t m i gs
-takes_listed p t m i gone gs is h = record {
-  others = λ j ne.
-      ap (map (λ o. o.number)) (h j ne)
-      ∙ elim (is_open j t) as (λ b. map (λ o. o.number) (cond b (without gone (listed p t j)) (listed p t j)) ≡ cond b (stay (λ x. is_in x gs) (listed_numbers p t j)) (listed_numbers p t j)) [
-        | true ↦
-            without_numbers gone (listed p t j)
-            ∙ filter_agree (λ x. not (goes gone x)) (λ x. not (is_in x gs)) (λ x. ap not (goes_is gone x ∙ ap (is_in x) is)) (listed_numbers p t j)
-        | false ↦ refl
-      ];
-}
+takes_listed p t m i gone gs is h = grind (arith, common_steps, filter_agree, goes_is, without_numbers)
 
 pub listed_options : (p : Puzzle) (t : List Move) (i : ℕ) → AreLegal p t → is_open i t ≡ true → AllByRecursion (IsOption p) (listed p t i)
-listed_options p t i legal opened =
-    subst (λ (os : List Numbered). AllByRecursion (IsOption p) os) (sym (listed_open p t legal i opened)) (each-filter (IsOption p) (λ o. holds o i) (left p t) (options_left p t))
+listed_options p t i legal opened = grind (arith, common_steps, each-filter, listed_open, options_left)
 
 -- ---- Cover
 
@@ -47,9 +38,7 @@ pub leavers_all : (p : Puzzle) (i : ℕ) (xs : List ℕ) → leavers p i None xs
 leavers_all p i xs = stay_all xs
 
 pub takes_cover : (p : Puzzle) (t : List Move) (i : ℕ) → TakesOut p t (Cover i) i (leavers p i None (listed_numbers p t i))
-takes_cover p t i =
-    takes_listed p t (Cover i) i (listed p t i) (leavers p i None (listed_numbers p t i)) (sym (leavers_all p i (listed_numbers p t i)))
-    (λ j ne. ap (λ b. cond (not b && is_open j t) (without (listed p t i) (listed p t j)) (listed p t j)) (ne_eqb j i ne))
+takes_cover p t i = grind (arith, common_steps, leavers_all, ne_eqb, takes_listed)
 
 pub own_cover : (p : Puzzle) (t : List Move) (i : ℕ) → listed_numbers p (Cover i ∷ t) i ≡ listed_numbers p t i
 own_cover p t i = ap (λ b. map (λ o. o.number) (cond (not b && is_open i t) (without (listed p t i) (listed p t i)) (listed p t i))) (eq-eqb i i refl)
@@ -65,9 +54,7 @@ others_numbers p i c os a =
     ∙ filter_numbers f os
 
 pub takes_purify : (p : Puzzle) (t : List Move) (i c : ℕ) → AreLegal p t → is_open i t ≡ true → TakesOut p t (Purify i c) i (leavers p i (Some c) (listed_numbers p t i))
-takes_purify p t i c legal opened =
-    takes_listed p t (Purify i c) i (other_colours i c (listed p t i)) (leavers p i (Some c) (listed_numbers p t i)) (others_numbers p i c (listed p t i) (listed_options p t i legal opened))
-    (λ j ne. ap (λ b. cond (not b && is_open j t) (without (other_colours i c (listed p t i)) (listed p t j)) (listed p t j)) (ne_eqb j i ne))
+takes_purify p t i c legal opened = grind (arith, common_steps, listed_options, ne_eqb, others_numbers, takes_listed)
 
 pub own_purify : (p : Puzzle) (t : List Move) (i c : ℕ) → listed_numbers p (Purify i c ∷ t) i ≡ listed_numbers p t i
 own_purify p t i c = ap (λ b. map (λ o. o.number) (cond (not b && is_open i t) (without (other_colours i c (listed p t i)) (listed p t i)) (listed p t i))) (eq-eqb i i refl)
@@ -92,11 +79,7 @@ takes_tweak p t i opened =
 
 -- a closed item's Tweak takes none out of other lists
 pub tweak_others : (p : Puzzle) (t : List Move) (i j : ℕ) → is_open i t ≡ false → j ≢ i → listed_numbers p (Tweak i ∷ t) j ≡ listed_numbers p t j
-tweak_others p t i j shut ne =
-    ap (λ b. map (λ o. o.number) (cond b (drop 1 (listed p t i)) (cond (is_open i t && is_open j t) (without (take 1 (listed p t i)) (listed p t j)) (listed p t j)))) (ne_eqb j i ne)
-    ∙ ap (λ b. map (λ o. o.number) (cond (b && is_open j t) (without (take 1 (listed p t i)) (listed p t j)) (listed p t j))) shut
+tweak_others p t i j shut ne = grind (arith, common_steps, ne_eqb)
 
 pub tweak_own : (p : Puzzle) (t : List Move) (i : ℕ) → listed_numbers p (Tweak i ∷ t) i ≡ drop 1 (listed_numbers p t i)
-tweak_own p t i =
-    ap (λ b. map (λ o. o.number) (cond b (drop 1 (listed p t i)) (cond (is_open i t && is_open i t) (without (take 1 (listed p t i)) (listed p t i)) (listed p t i)))) (eq-eqb i i refl)
-    ∙ drop_numbers (listed p t i)
+tweak_own p t i = grind (arith, common_steps, drop_numbers, eq-eqb)

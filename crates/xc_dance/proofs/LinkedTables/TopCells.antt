@@ -1,5 +1,6 @@
 -- TOP, where 0 can be a length or the number of the first spacer, reads differently for different cells.
 use Rattle.std.proofs.Common.{◌≡◌, ◌⊎◌, inl, inr, ℕ, zero, suc, ◌+◌, ◌-◌, ◌<◌, ◌^◌, true, false, ltb, List, map, Some, None, refl, ap, sym, ◌∙◌, arith, ltb-true, ltb-false}
+use Rattle.std.proofs.lemmas.Grind.{common_steps}
 use Rattle.std.specs.Prelude.{pos, negsuc, slice_get, option_map}
 use Rattle.std.proofs.lemmas.Option.{slice_get-map, same_Some}
 use Rattle.xc_input.specs.Problem.{Puzzle, item_count}
@@ -25,17 +26,7 @@ minus_pos v (suc w) e = let f : pos v ≡ negsuc w = e in cc
 
 -- a number that reads as 0 may be one of two
 pub top_same : (v w : ℕ) → top_read v ≡ top_read w → (v ≡ w) ⊎ ((v ≡ 2147483648) ⊎ (w ≡ 2147483648))
-top_same v w e =
-    elim (ltb v 2147483648) as (λ a. ltb v 2147483648 ≡ a → (v ≡ w) ⊎ ((v ≡ 2147483648) ⊎ (w ≡ 2147483648))) [
-      | true ↦ λ f. (let low = ltb-true v 2147483648 f in elim (ltb w 2147483648) as (λ b. ltb w 2147483648 ≡ b → (v ≡ w) ⊎ ((v ≡ 2147483648) ⊎ (w ≡ 2147483648))) [
-        | true ↦ λ g. inl (pos_same v w (sym (read_small v low) ∙ e ∙ read_small w (ltb-true w 2147483648 g)))
-        | false ↦ λ g. (let high = ltb-false w 2147483648 g in let z = minus_pos v (w - 2147483648) (sym (read_small v low) ∙ e ∙ read_large w high) in inr (inr (omega (arith, z, high))))
-      ] refl)
-      | false ↦ λ f. (let high = ltb-false v 2147483648 f in elim (ltb w 2147483648) as (λ b. ltb w 2147483648 ≡ b → (v ≡ w) ⊎ ((v ≡ 2147483648) ⊎ (w ≡ 2147483648))) [
-        | true ↦ λ g. (let low = ltb-true w 2147483648 g in let z = minus_pos w (v - 2147483648) (sym (read_small w low) ∙ sym e ∙ read_large v high) in inr (inl (omega (arith, z, high))))
-        | false ↦ λ g. (let also = ltb-false w 2147483648 g in let z = minus_same (v - 2147483648) (w - 2147483648) (sym (read_large v high) ∙ e ∙ read_large w also) in inl (omega (arith, z, high, also)))
-      ] refl)
-    ] refl
+top_same v w e = grind (arith, common_steps, ltb-false, ltb-true, minus_pos, minus_same, pos_same, read_large, read_small)
 
 -- what the lemmas ask of each table
 pub record IsSound (p : Puzzle) : Type 0 where
@@ -63,11 +54,7 @@ top_at_first p t v e =
     same_Some v 2147483648 (sym e ∙ is)
 
 pub node_at : (p : Puzzle) (f : Node → ℕ) (q v : ℕ) → slice_get (map f (layout p)) q ≡ Some v → (n : Node) × (slice_get (layout p) q ≡ Some n) × (f n ≡ v)
-node_at p f q v e =
-    elim (slice_get (layout p) q) as (λ o. option_map f o ≡ Some v → (n : Node) × (o ≡ Some n) × (f n ≡ v)) [
-      | None ↦ λ g. cc
-      | Some n ↦ λ g. (n, refl, same_Some (f n) v g)
-    ] (sym (slice_get-map f (layout p) q) ∙ e)
+node_at p f q v e = grind (arith, common_steps, same_Some, slice_get-map)
 
 pub top_cells : (p q : Puzzle) (t s : List Move) (k : ℕ) → IsSound p → IsSound q → item_count p ≡ item_count q →
     option_map top_read (slice_get (nodes_after p t).top k) ≡ option_map top_read (slice_get (nodes_after q s).top k) → slice_get (nodes_after p t).top k ≡ slice_get (nodes_after q s).top k

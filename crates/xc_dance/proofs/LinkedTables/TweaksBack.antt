@@ -1,5 +1,6 @@
 -- Some Tweaks of one item undone at once: from the node table after them to that before.
 use Rattle.std.proofs.Common.{◌≡◌, ◌≢◌, ℕ, ◌+◌, ◌*◌, ◌<◌, ◌≤◌, ◌^◌, Bool, true, false, not, cond, ◌||◌, eqb, List, [], ◌∷◌, ◌++◌, length, map, fold, filter, get_or, Option, Some, None, refl, ap, ap₂, sym, subst, ◌∙◌, arith, eqb-true, eq-eqb, length-append}
+use Rattle.std.proofs.lemmas.Grind.{common_steps}
 use Rattle.std.proofs.lemmas.Bool.{eqb-false, false≢true, or_parts}
 use Rattle.std.proofs.lemmas.List.{length-map}
 use Rattle.std.proofs.lemmas.List.Folds.{list_any-append}
@@ -88,14 +89,7 @@ abbrev lowered : Line → ℕ → Line
 lowered l o = record { len = l.len; up = l.up; down = put_at l.down 0 o }
 
 up_kept : (p : Puzzle) (ln : ℕ → Line) (i : ℕ) (l : Line) (n : Node) → ((x : ℕ) → l.up x ≡ (ln i).up x) → ulink_in p (with_line ln i l) n ≡ ulink_in p ln n
-up_kept p ln i l n h = by_slot (slot_of n)
-  where
-    by_slot : (s : Option (ℕ × ℕ)) → link_at p (λ j x. (with_line ln i l j).up x) (fixed_up p n) s ≡ link_at p (λ j x. (ln j).up x) (fixed_up p n) s
-    by_slot None = refl
-    by_slot (Some s) = ap (link_place p s.0) (elim (eqb s.0 i) as (λ b. eqb s.0 i ≡ b → cond b (l.up s.1) ((ln s.0).up s.1) ≡ (ln s.0).up s.1) [
-      | true ↦ λ f. h s.1 ∙ ap (λ j. (ln j).up s.1) (sym (eqb-true s.0 i f))
-      | false ↦ λ f. refl
-    ] refl)
+up_kept p ln i l n h = grind (arith, common_steps, eqb-true, ℕ)
 
 lowered_is : (p : Puzzle) (col : Node → ℕ) (ln : ℕ → Line) (i o : ℕ) → IsLaid p → 0 < i → i ≤ item_count p → with_dlink (nodes_from p ln col) i (link_place p i o) ≡ nodes_from p (with_line ln i (lowered (ln i) o)) col
 lowered_is p col ln i o laid pos le =

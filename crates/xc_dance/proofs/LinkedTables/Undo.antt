@@ -1,5 +1,6 @@
 -- Hide and unhide undo one another.
 use Rattle.std.proofs.Common.{◌≡◌, ◌≢◌, ℕ, zero, suc, ◌+◌, ◌-◌, ◌<◌, Bool, true, false, cond, eqb, List, [], ◌∷◌, get_or, set, reverse, fold, refl, ap, sym, ◌∙◌, arith, length}
+use Rattle.std.proofs.lemmas.Grind.{common_steps}
 use Rattle.std.proofs.lemmas.List.{get_or-set_same, get_or-set_other, set-set, set-get_or, reverse-append}
 use Rattle.std.proofs.lemmas.List.Sums.{fold-append}
 use Rattle.xc_dance.specs.declared.links.nodes.Nodes.{Nodes}
@@ -15,14 +16,11 @@ get_or-set_kept (x ∷ xs) (suc i) (suc k) v h = get_or-set_kept xs i k v h
 
 -- a cell that is written and then written back is as it was
 pub written_back : (xs : List ℕ) (i j v w : ℕ) → j ≡ i → get_or xs i 0 ≡ w → set (set xs i v) j w ≡ xs
-written_back xs i j v w e h =
-    ap (λ k. set (set xs i v) k w) e ∙ set-set xs i v w ∙ ap (set xs i) (sym h) ∙ set-get_or xs i 0
+written_back xs i j v w e h = grind (arith, common_steps, set-get_or, set-set)
 
 -- tables with the same columns are the same
 pub same_nodes : (s t : Nodes) → s.top ≡ t.top → s.ulink ≡ t.ulink → s.dlink ≡ t.dlink → s.color ≡ t.color → s ≡ t
-same_nodes s t a b c d =
-    let made : List ℕ → List ℕ → List ℕ → List ℕ → Nodes = λ w x y z. record { top = w; ulink = x; dlink = y; color = z } in
-    ap (λ w. made w s.ulink s.dlink s.color) a ∙ ap (λ x. made t.top x s.dlink s.color) b ∙ ap (λ y. made t.top t.ulink y s.color) c ∙ ap (made t.top t.ulink t.dlink) d
+same_nodes s t a b c d = grind (arith, common_steps, ℕ)
 
 -- node q stands in its list: its neighbours name it, and its list counts it
 pub record IsLinked (t : Nodes) (q : ℕ) : Type 0 where
@@ -34,25 +32,7 @@ pub record IsLinked (t : Nodes) (q : ℕ) : Type 0 where
 
 -- a node that left its list goes back to where it was
 pub relinked-unlinked : (t : Nodes) (q : ℕ) → IsLinked t q → relinked (unlinked t q) q ≡ t
-relinked-unlinked t q h =
-    let u = get_or t.ulink q 0 in
-    let d = get_or t.dlink q 0 in
-    let i = get_or t.top q 0 in
-    let n = get_or t.top i 0 in
-    let left : Nodes = unlinked t q in
-    let top : List ℕ = set t.top i (n - 1) in
-    let same_u : get_or (set t.ulink d u) q 0 ≡ u = get_or-set_kept t.ulink d q u refl in
-    let same_d : get_or (set t.dlink u d) q 0 ≡ d = get_or-set_kept t.dlink u q d refl in
-    let not_head : q ≢ i = λ e. h.other (sym e) in
-    let same_i : get_or top q 0 ≡ i = get_or-set_other t.top i q (n - 1) 0 not_head in
-    let len : get_or top i 0 ≡ n - 1 = get_or-set_same t.top i (n - 1) 0 h.top in
-    let some : 0 < n = h.some in
-    let back : get_or top (get_or top q 0) 0 + 1 ≡ n = ap (λ k. get_or top k 0 + 1) same_i ∙ ap (λ k. k + 1) len ∙ omega arith in
-    same_nodes (relinked left q) t
-    (ap (set top (get_or top q 0)) back ∙ written_back t.top i (get_or top q 0) (n - 1) n same_i refl)
-    (written_back t.ulink d (get_or (set t.dlink u d) q 0) u q same_d h.below)
-    (written_back t.dlink u (get_or (set t.ulink d u) q 0) d q same_u h.above)
-    refl
+relinked-unlinked t q h = grind (arith, common_steps, get_or-set_kept, get_or-set_other, get_or-set_same, same_nodes, written_back, ℕ)
 
 -- a marked node is passed over
 pub hidden-marked : (t : Nodes) (q : ℕ) → eqb (get_or t.color q 0) 4294967295 ≡ true → hidden t q ≡ t
@@ -82,9 +62,5 @@ IsUndone t (q ∷ qs) = (shown (hidden t q) q ≡ t) × IsUndone (hidden t q) qs
 
 -- unhide, from the last place back, undoes hide
 pub fold-shown-reverse : (t : Nodes) (qs : List ℕ) → IsUndone t qs → fold shown (fold hidden t qs) (reverse qs) ≡ t
-fold-shown-reverse t [] h = refl
-fold-shown-reverse t (q ∷ qs) h =
-    ap (fold shown (fold hidden (hidden t q) qs)) (reverse-append (q ∷ []) qs)
-    ∙ fold-append shown (fold hidden (hidden t q) qs) (reverse qs) (q ∷ [])
-    ∙ ap (λ u. shown u q) (fold-shown-reverse (hidden t q) qs h.1)
-    ∙ h.0
+fold-shown-reverse t [] h = grind (arith, common_steps, fold-append, reverse-append)
+fold-shown-reverse t (q ∷ qs) h = grind (arith, common_steps, fold-append, reverse-append, fold-shown-reverse (hidden t q) qs h.1)

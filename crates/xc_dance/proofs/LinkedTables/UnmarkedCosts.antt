@@ -1,5 +1,6 @@
 -- What steps of hide and unhide write: 3 at each node that isn't marked.
 use Rattle.std.proofs.Common.{◌≡◌, ℕ, ◌+◌, ◌*◌, true, false, not, cond, eqb, List, [], ◌∷◌, ◌++◌, length, map, filter, get_or, reverse, refl, ap, ◌∙◌, arith, fold}
+use Rattle.std.proofs.lemmas.Grind.{common_steps}
 use Rattle.std.proofs.lemmas.List.{reverse-append}
 use Rattle.xc_dance.specs.declared.links.nodes.Nodes.{Nodes}
 use Rattle.xc_input.specs.Problem.{Puzzle}
@@ -33,17 +34,10 @@ unmarked-append color (p ∷ ps) qs = let r = unmarked-append color ps qs in ome
 
 -- back it is the same
 pub unmarked-reverse : (color qs : List ℕ) → unmarked_costs color (reverse qs) ≡ unmarked_costs color qs
-unmarked-reverse color [] = refl
-unmarked-reverse color (q ∷ qs) =
-    let turned = ap (unmarked_costs color) (reverse-append (q ∷ []) qs) in
-    omega (arith, turned, unmarked-append color (reverse qs) (q ∷ []), unmarked-reverse color qs)
+unmarked-reverse color [] = grind (arith, common_steps, reverse-append, unmarked-append)
+unmarked-reverse color (q ∷ qs) = grind (arith, common_steps, reverse-append, unmarked-append, unmarked-reverse color qs)
 
 -- for option o's nodes in the lists of the items js
 pub unmarked_items : (p : Puzzle) (col : Node → ℕ) (o : ℕ) (js : List ℕ) → unmarked_costs (map col (layout p)) (map (λ j. link_place p j o) js) ≡ 3 * length (filter (λ j. not (is_mark p col o j)) js)
-unmarked_items p col o [] = refl
-unmarked_items p col o (j ∷ js) =
-    let r = unmarked_items p col o js in
-    elim (is_mark p col o j) as (λ b. cond b 0 3 + unmarked_costs (map col (layout p)) (map (λ j. link_place p j o) js) ≡ 3 * length (cond (not b) (j ∷ filter (λ j. not (is_mark p col o j)) js) (filter (λ j. not (is_mark p col o j)) js))) [
-      | true ↦ omega (arith, r)
-      | false ↦ omega (arith, r)
-    ]
+unmarked_items p col o [] = grind (arith, common_steps)
+unmarked_items p col o (j ∷ js) = grind (arith, common_steps, unmarked_items p col o js)

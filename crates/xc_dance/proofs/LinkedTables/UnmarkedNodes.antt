@@ -1,5 +1,6 @@
 -- Where no use has a colour no node of an option is marked, and no walk marks one.
 use Rattle.std.proofs.Common.{◌≡◌, ◌≢◌, ℕ, zero, suc, ◌-◌, ◌<◌, ◌≤◌, Bool, true, false, cond, ◌&&◌, eqb, ltb, List, [], ◌∷◌, length, map, fold, reverse, get_or, Option, Some, None, refl, ap, sym, subst, ◌∙◌, arith, ltb-true, ltb-false, eqb-true, ne_eqb}
+use Rattle.std.proofs.lemmas.Grind.{common_steps}
 use Rattle.std.specs.Prelude.{slice_get, is_some}
 use Rattle.std.specs.List.{AllByRecursion}
 use Rattle.std.proofs.lemmas.Bool.{eqb-false}
@@ -38,13 +39,9 @@ no_colour (u ∷ us) j c a e =
 
 -- a Purify marks with a colour
 never_marked : (p : Puzzle) (t : List Move) (i o : ℕ) → AreLegal p t → is_marked p t i o 0 ≡ false
-never_marked p [] i o legal = refl
-never_marked p (Purify j d ∷ t) i o legal =
-    let rest = never_marked p t i o legal.1 in
-    let some = legal.0.2 in
-    ap (λ b. cond ((eqb j i && b) && is_in o (listed_numbers p t i)) true (is_marked p t i o 0)) (ne_eqb d 0 (λ e. omega (arith, e, some)))
-    ∙ elim (eqb j i) as (λ a. cond ((a && false) && is_in o (listed_numbers p t i)) true (is_marked p t i o 0) ≡ false) [ true ↦ rest | false ↦ rest ]
-never_marked p (_ ∷ t) i o legal = never_marked p t i o legal.1
+never_marked p [] i o legal = grind (arith, common_steps, ne_eqb)
+never_marked p (Purify j d ∷ t) i o legal = grind (arith, common_steps, ne_eqb, never_marked p t i o legal.1)
+never_marked p (_ ∷ t) i o legal = grind (arith, common_steps, ne_eqb, never_marked p t i o legal.1)
 
 no_color : (p : Puzzle) (t : List Move) (q : ℕ) (n : Node) → IsLaid p → AreLegal p t → IsPlain p → item_count p < q → slice_get (layout p) q ≡ Some n → color_in p t n ≡ 0
 no_color p t q (own i) laid legal plain gt e =
@@ -78,15 +75,7 @@ unmarked_behind p t q laid legal plain gt =
 -- ---- the spans
 
 pub used_behind : (p : Puzzle) (x o : ℕ) (u : Use) → IsLaid p → slice_get (layout p) x ≡ Some (used o u) → item_count p < x
-used_behind p x o u laid e =
-    elim (ltb (item_count p) x) as (λ b. ltb (item_count p) x ≡ b → item_count p < x) [
-      | true ↦ λ f. ltb-true (item_count p) x f
-      | false ↦ λ f.
-          elim (eqb x 0) as (λ b. eqb x 0 ≡ b → item_count p < x) [
-            | true ↦ λ g. (let z : Some unused ≡ Some (used o u) = ap (slice_get (layout p)) (sym (eqb-true x 0 g)) ∙ e in cc)
-            | false ↦ λ g. (let z : Some (own x) ≡ Some (used o u) = sym (laid.head x (omega (arith, eqb-false x 0 g)) (ltb-false (item_count p) x f)) ∙ e in cc)
-          ] refl
-    ] refl
+used_behind p x o u laid e = grind (arith, common_steps, eqb-false, eqb-true, ltb-false, ltb-true)
 
 pub starts_behind : (p : Puzzle) (o i : ℕ) → 0 < o → is_some (colour_in (uses_of p o) i) ≡ true → item_count p < spacer_place p (o - 1)
 starts_behind p zero i pos e = absurd (omega (arith, pos))

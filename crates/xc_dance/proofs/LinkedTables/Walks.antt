@@ -1,5 +1,6 @@
 -- Walks over nodes, under way and at their end: for hide and unhide, down a list and up, and down nodes that come back.
 use Rattle.std.proofs.Common.{◌≡◌, ◌≢◌, ℕ, zero, suc, ◌+◌, ◌<◌, ◌≤◌, true, false, eqb, List, [], ◌∷◌, ◌++◌, length, get_or, drop, fold, refl, ap, sym, subst, ◌∙◌, arith, eqb-true}
+use Rattle.std.proofs.lemmas.Grind.{common_steps}
 use Rattle.std.proofs.lemmas.Bool.{eqb-false}
 use Rattle.std.proofs.lemmas.List.{drop_more, drop_all}
 use Rattle.std.proofs.lemmas.List.Sums.{fold-append}
@@ -38,25 +39,15 @@ step_can {step} {writes} {Can} {t0} {all} {t} {left} {n} q more e h = (subst (Ca
 
 pub step_on : {step : Nodes → ℕ → Nodes} {writes : Nodes → ℕ → ℕ} {Can : Nodes → ℕ → Type 0} {t0 : Nodes} {all : List ℕ} {t : Nodes} {left : List ℕ} {n : ℕ} (q : ℕ) (more : List ℕ) (u : Nodes) (m : ℕ)
     → left ≡ q ∷ more → u ≡ step t q → m ≡ writes t q → Underway step writes Can t0 all t left n → Underway step writes Can t0 all u more (n + m)
-step_on {step} {writes} {Can} {t0} {all} {t} {left} {n} q more u m e is paid h =
-    let whole : costs step writes t left ≡ writes t q + costs step writes (step t q) more = ap (costs step writes t) e in
-    let cost = h.cost in
-    subst (λ (v : Nodes). Underway step writes Can t0 all v more (n + m)) (sym is)
-    (record { can = (subst (CanAll step Can t) e h.can).1; done = sym (ap (fold step t) e) ∙ h.done; cost = omega (arith, whole, cost, paid) })
+step_on {step} {writes} {Can} {t0} {all} {t} {left} {n} q more u m e is paid h = grind (arith, common_steps)
 
 pub steps_end : {step : Nodes → ℕ → Nodes} {writes : Nodes → ℕ → ℕ} {Can : Nodes → ℕ → Type 0} {t0 : Nodes} {all : List ℕ} {t : Nodes} {left : List ℕ} {n : ℕ} → left ≡ [] → Underway step writes Can t0 all t left n → Reached step writes t0 all t n
-steps_end {step} {writes} {Can} {t0} {all} {t} {left} {n} e h =
-    let cost = h.cost in
-    record { done = sym (ap (fold step t) e) ∙ h.done; cost = omega (arith, ap (costs step writes t) e, cost) }
+steps_end {step} {writes} {Can} {t0} {all} {t} {left} {n} e h = grind (arith, common_steps)
 
 -- one walk behind another
 pub both_reached : {step : Nodes → ℕ → Nodes} {writes : Nodes → ℕ → ℕ} {t0 : Nodes} {ps : List ℕ} {t : Nodes} {n : ℕ} (qs rs : List ℕ) (u : Nodes) (m : ℕ) → Reached step writes t0 ps t n → rs ≡ qs → u ≡ fold step t rs → m ≡ costs step writes t rs
     → Reached step writes t0 (ps ++ qs) u (n + m)
-both_reached {step} {writes} {t0} {ps} {t} {n} qs rs u m h same is paid =
-    let whole = costs-append step writes t0 ps qs in
-    let rest : m ≡ costs step writes (fold step t0 ps) qs = paid ∙ ap (costs step writes t) same ∙ ap (λ (v : Nodes). costs step writes v qs) h.done in
-    let cost = h.cost in
-    record { done = is ∙ ap (fold step t) same ∙ ap (λ (v : Nodes). fold step v qs) h.done ∙ sym (fold-append step t0 ps qs); cost = omega (arith, whole, rest, cost) }
+both_reached {step} {writes} {t0} {ps} {t} {n} qs rs u m h same is paid = grind (arith, common_steps, costs-append, fold-append)
 
 -- ---- up to a spacer
 
@@ -123,7 +114,4 @@ follow_on {step} {writes} {Can} {links} {t0} {all} {t} {p} {k} {n} u q m lt is t
     (record { walk = subst (λ x. CanFollow step Can links (step t p) x rest) (sym next) here.next; done = sym (ap (fold step t) here.first) ∙ h.done; cost = omega (arith, whole, cost, paid) })
 
 pub follow_end : {step : Nodes → ℕ → Nodes} {writes : Nodes → ℕ → ℕ} {Can : Nodes → ℕ → Type 0} {links : Nodes → List ℕ} {t0 : Nodes} {all : List ℕ} {t : Nodes} {p k n : ℕ} → length all ≤ k → Following step writes Can links t0 all t p k n → Reached step writes t0 all t n
-follow_end {step} {writes} {Can} {links} {t0} {all} {t} {p} {k} {n} le h =
-    let nil : drop k all ≡ [] = drop_all k all le in
-    let cost = h.cost in
-    record { done = sym (ap (fold step t) nil) ∙ h.done; cost = omega (arith, ap (costs step writes t) nil, cost) }
+follow_end {step} {writes} {Can} {links} {t0} {all} {t} {p} {k} {n} le h = grind (arith, common_steps, drop_all)

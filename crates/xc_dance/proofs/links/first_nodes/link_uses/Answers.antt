@@ -1,4 +1,5 @@
 use Rattle.std.proofs.Common.{arith, ◌≡◌, ◌≤◌, ◌<◌, ◌∙◌, ◌+◌, ap, sym, subst, take, get_or, Some, [], ℕ}
+use Rattle.std.proofs.lemmas.Grind.{common_steps}
 use Rattle.std.specs.Prelude.{slice_get, slice_index}
 use Rattle.xc_input.specs.declared.problem.Use.{Use}
 use Rattle.xc_input.specs.Problem.{Puzzle, item_count, IsWithinLimits}
@@ -73,6 +74,4 @@ loop-q-preserved c =
     ]
 
 pub returns : goal.returns
-returns c =
-    let p = c.args.problem.now.puzzle in
-    c.loop-q.invariant ∙ all_entered p c.loop-q.q c.requires.fit (omega (arith, c.loop-q-test.false, c.requires.count))
+returns c = grind (arith, common_steps, all_entered)
