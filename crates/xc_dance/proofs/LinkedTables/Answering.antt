@@ -1,12 +1,12 @@
 -- What the tables answer, against what the moves make of the lists.
-use Rattle.std.proofs.Common.{◌≡◌, ℕ, zero, suc, ◌+◌, ◌-◌, ◌<◌, ◌≤◌, Bool, true, false, not, cond, eqb, List, [], ◌∷◌, length, get_or, Some, None, Option, filter, refl, ap, ap₂, sym, subst, ◌∙◌, arith, eqb-true, ne_eqb, le-leb}
+use Rattle.std.proofs.Common.{◌≡◌, ℕ, zero, suc, ◌+◌, ◌-◌, ◌<◌, ◌≤◌, Bool, true, false, not, cond, eqb, List, [], ◌∷◌, length, get_or, Some, None, filter, refl, ap₂, subst, arith, eqb-true, ne_eqb, le-leb}
 use Rattle.std.proofs.lemmas.Grind.{common_steps}
 use Rattle.std.specs.Prelude.{is_some, unwrap_or}
 use Rattle.std.specs.List.{range_with_len}
 use Rattle.xc_dance.specs.declared.dance.Move.{Move}
 use Rattle.xc_dance.specs.declared.dance.Move.TheVariants.{Purify, Spend}
 use Rattle.xc_input.specs.Problem.{Puzzle, primary_count, item_count, high_at, IsPrimary}
-use Rattle.xc_dance.specs.Moves.{is_open, is_covered, purified, spends, AreLegal, listed, next_above, open_items}
+use Rattle.xc_dance.specs.Moves.{purified, spends, AreLegal, listed, next_above, open_items}
 use Rattle.xc_dance.specs.Fields.{own, layout, first_above, ring_of}
 use Rattle.xc_dance.specs.Links.Cells.{top_in, color_in, line_of, nodes_after}
 use Rattle.xc_dance.specs.Links.ItemCells.{items_after, bound_at}
@@ -54,12 +54,12 @@ purified_above p (Purify j d ∷ t) i c legal e =
 purified_above p (_ ∷ t) i c legal e = purified_above p t i c legal.1 e
 
 pub purified_read : (p : Puzzle) (t : List Move) (i : ℕ) → AreLegal p t → not (eqb (unwrap_or (purified i t) 0) 0) ≡ is_some (purified i t)
-purified_read p t i legal = grind (arith, common_steps, ne_eqb, purified_above, ℕ)
+purified_read p t i legal = grind (arith, common_steps, ne_eqb, purified_above)
 
 -- ---- the number above, with 0 for none
 
 pub above_named : (n : ℕ) (xs : List ℕ) → named (first_above 0 n xs) ≡ next_above n xs
-above_named n xs = grind (arith, common_steps, ne_eqb, next_above-gt, ℕ)
+above_named n xs = grind (arith, common_steps, ne_eqb, next_above-gt)
 
 -- ---- open primary items
 
@@ -75,4 +75,4 @@ same_filter f g a (suc n) h =
 
 -- the first ring's items are the open primary ones
 pub ring_open : (p : Puzzle) (t : List Move) (i : ℕ) → AreLegal p t → i ≤ primary_count p → ring_of p t i ≡ open_items p t
-ring_open p t i legal le = grind (arith, common_steps, le-leb, open_or_covered, primary_unpurified, same_filter, ℕ)
+ring_open p t i legal le = grind (arith, common_steps, le-leb, open_or_covered, primary_unpurified, same_filter)

@@ -1,7 +1,7 @@
 -- A cell that is read is the field.
-use Rattle.std.proofs.Common.{◌≡◌, ◌≢◌, ◌⊎◌, inl, inr, ℕ, zero, suc, ◌+◌, ◌-◌, ◌<◌, ◌≤◌, ◌^◌, true, false, cond, ◌&&◌, eqb, leb, ltb, List, length, map, Option, Some, None, refl, ap, sym, ◌∙◌, arith, eqb-true, ne_eqb, leb-true, lt-ltb, le-ltb, ltb-true, ltb-false}
+use Rattle.std.proofs.Common.{◌≡◌, ◌≢◌, ℕ, zero, suc, ◌+◌, ◌-◌, ◌<◌, ◌≤◌, ◌^◌, true, false, cond, eqb, leb, ltb, List, length, map, Option, Some, None, refl, ap, ◌∙◌, arith, eqb-true, ne_eqb, leb-true, lt-ltb, le-ltb, ltb-true, ltb-false}
 use Rattle.std.proofs.lemmas.Grind.{common_steps}
-use Rattle.std.specs.Prelude.{ℤ, pos, neg_ℤ, slice_get, option_map, nat_lt}
+use Rattle.std.specs.Prelude.{ℤ, pos, neg_ℤ, slice_get, option_map}
 use Rattle.std.specs.List.{range_with_len}
 use Rattle.std.proofs.lemmas.Bool.{eqb-false, leb-false}
 use Rattle.std.proofs.lemmas.Option.{slice_get-map}
@@ -10,8 +10,8 @@ use Rattle.xc_dance.specs.declared.dance.Move.{Move}
 use Rattle.xc_dance.specs.declared.links.field.Field.TheVariants.{Llink, Rlink, Bound, Slack, Top, Ulink, Dlink, Color}
 use Rattle.xc_input.specs.Problem.{Puzzle, primary_count, item_count, high_at, low_at, uses_of}
 use Rattle.xc_dance.specs.Moves.{listed, spends}
-use Rattle.xc_dance.specs.Fields.{Node, unused, own, spacer, used, layout, field_of, top_of, ulink_of, dlink_of, color_of, item_cell, primary_cell, ring_of, left_of, right_of, first_of, last_of, is_marked}
-use Rattle.xc_dance.specs.Links.Cells.{top_in, ulink_in, dlink_in, color_in, line_of, nodes_after}
+use Rattle.xc_dance.specs.Fields.{Node, unused, own, spacer, used, layout, field_of, top_of, color_of, item_cell, primary_cell, ring_of, left_of, right_of, first_of, last_of, is_marked}
+use Rattle.xc_dance.specs.Links.Cells.{top_in, color_in, line_of, nodes_after}
 use Rattle.xc_dance.specs.Links.ItemCells.{items_after}
 use Rattle.xc_dance.specs.Links.Laid.{IsLaid, IsFit}
 use Rattle.xc_dance.specs.Links.Read.{minus, color_read, top_read}
@@ -20,9 +20,9 @@ use Rattle.xc_dance.proofs.LinkedTables.GoodLines.{numbers_few}
 use Rattle.xc_dance.proofs.LinkedTables.ReadNumbers.{natural, read_small, read_large}
 
 row_read : (f : ℕ → ℕ) (a n q : ℕ) → slice_get (map f (range_with_len a n)) q ≡ cond (ltb q n) (Some (f (a + q))) None
-row_read f a zero q = grind (arith, common_steps, le-ltb, lt-ltb, ltb-false, ltb-true, ℕ)
-row_read f a (suc n) zero = grind (arith, common_steps, le-ltb, lt-ltb, ltb-false, ltb-true, ℕ)
-row_read f a (suc n) (suc q) = grind (arith, common_steps, le-ltb, lt-ltb, ltb-false, ltb-true, ℕ, row_read f (a + 1) n q)
+row_read f a zero q = grind (arith, common_steps, le-ltb, lt-ltb, ltb-false, ltb-true)
+row_read f a (suc n) zero = grind (arith, common_steps, le-ltb, lt-ltb, ltb-false, ltb-true)
+row_read f a (suc n) (suc q) = grind (arith, common_steps, le-ltb, lt-ltb, ltb-false, ltb-true, row_read f (a + 1) n q)
 
 row_at_zero : (f : ℕ → ℕ) (n q : ℕ) → slice_get (map f (range_with_len 0 n)) q ≡ cond (ltb q n) (Some (f q)) None
 row_at_zero f n q = let z : 0 + q ≡ q = omega arith in row_read f 0 n q ∙ ap (λ k. cond (ltb q n) (Some (f k)) None) z

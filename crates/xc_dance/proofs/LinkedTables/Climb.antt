@@ -1,5 +1,5 @@
 -- Down the nodes that Tweaks of one item took off: each option comes back into the lists of its other items, and under the node above it into its own.
-use Rattle.std.proofs.Common.{◌≡◌, ◌≢◌, ℕ, ◌+◌, ◌*◌, ◌<◌, ◌≤◌, ◌^◌, inr, Bool, true, false, not, cond, ◌&&◌, ◌||◌, eqb, List, [], ◌∷◌, ◌++◌, length, map, fold, filter, reverse, get_or, Option, Some, None, refl, ap, ap₂, sym, subst, ◌∙◌, arith, eqb-true, eq-eqb, ne_eqb}
+use Rattle.std.proofs.Common.{◌≡◌, ◌≢◌, ℕ, ◌+◌, ◌*◌, ◌<◌, ◌≤◌, ◌^◌, inr, Bool, true, false, not, cond, ◌&&◌, ◌||◌, eqb, List, [], ◌∷◌, ◌++◌, length, map, fold, filter, reverse, get_or, refl, ap, ap₂, sym, subst, ◌∙◌, arith, eqb-true, eq-eqb, ne_eqb}
 use Rattle.std.proofs.lemmas.Grind.{common_steps}
 use Rattle.std.specs.List.{list_any}
 use Rattle.std.proofs.lemmas.Bool.{eqb-false, false≢true, and_parts}
@@ -17,7 +17,7 @@ use Rattle.xc_dance.specs.Links.TweaksBack.{with_ulink, climbed, climb_cost, Can
 use Rattle.xc_dance.proofs.LinkedTables.OtherItems.{out_of, or_swap, leaves, in_others}
 use Rattle.xc_dance.proofs.LinkedTables.UnmarkedCosts.{costs-are, shown_color, unmarked-reverse, unmarked_items}
 use Rattle.xc_dance.proofs.LinkedTables.OneOption.{gone_count, is_mark, IsApart, AllApart, all_at, line_here, line_there}
-use Rattle.xc_dance.specs.Links.Cells.{slot_of, link_at, fixed_up, fixed_down, top_in, ulink_in, dlink_in, color_in, nodes_from, line_of}
+use Rattle.xc_dance.specs.Links.Cells.{fixed_up, top_in, ulink_in, dlink_in, color_in, nodes_from, line_of}
 use Rattle.xc_dance.specs.Links.Others.{before_use, behind_use}
 use Rattle.xc_dance.specs.Links.Laid.{IsName, Placed, IsLaid}
 use Rattle.xc_dance.specs.Links.Made.{IsFitted}
@@ -94,11 +94,8 @@ top_kept ln i l (spacer m) e = grind (arith, common_steps, eqb-true)
 top_kept ln i l (used o u) e = grind (arith, common_steps, eqb-true)
 top_kept ln i l (own k) e = grind (arith, common_steps, eqb-true)
 
-abbrev pub link_to : Puzzle → (ℕ → Line) → ℕ → Option (ℕ × ℕ) → ℕ
-link_to p ln fixed s = link_at p (λ j x. (ln j).down x) fixed s
-
 pub down_kept : (p : Puzzle) (ln : ℕ → Line) (i : ℕ) (l : Line) (n : Node) → ((x : ℕ) → l.down x ≡ (ln i).down x) → dlink_in p (with_line ln i l) n ≡ dlink_in p ln n
-down_kept p ln i l n h = grind (arith, common_steps, eqb-true, ℕ)
+down_kept p ln i l n h = grind (arith, common_steps, eqb-true)
 
 raised_is : (p : Puzzle) (col : Node → ℕ) (ln : ℕ → Line) (i o : ℕ) → IsLaid p → Placed p i ((ln i).down o) →
     with_ulink (nodes_from p ln col) (link_place p i ((ln i).down o)) (link_place p i o) ≡ nodes_from p (with_line ln i (raised (ln i) o)) col
@@ -198,27 +195,17 @@ opened_open p t spans i ln o os legal fit opened o_pos named within h =
       );
       done = ap (fold shown t0) nodes ∙ w.done;
       own = at i ∙ ap (λ b. cond (b && not (is_mark p col o i)) (mended (ln i) o) (ln i)) (out_of i js (own_apart p i o fit.fit));
-      cost =
-          ap (λ ks. show_costs t0 (reverse ks)) (others_are p spans o i fit.spanned o_pos named) ∙ costs-are shown shown_color t0 (reverse (map (λ j. link_place p j o) js))
-          ∙ unmarked-reverse (map col (layout p)) (map (λ j. link_place p j o) js) ∙ unmarked_items p col o js;
+      cost = grind (arith, common_steps, costs-are, others_are, shown_color, unmarked-reverse, unmarked_items);
       others = λ j pos le ne.
           elim (leaves p col i j o) as (λ b. leaves p col i j o ≡ b → Regaining (line_of p t j) (ln1 j) (filter (leaves p col i j) os)) [
             | true ↦ λ e. subst (λ (l : Line). Regaining (line_of p t j) l (filter (leaves p col i j) os)) (sym (at j ∙ ap (λ b. cond b (mended (ln j) o) (ln j)) e)) (comes j e pos le ne).next
-            | false ↦ λ e.
-                subst (λ (l : Line). Regaining (line_of p t j) l (filter (leaves p col i j) os)) (sym (at j ∙ ap (λ b. cond b (mended (ln j) o) (ln j)) e))
-                (subst (Regaining (line_of p t j) (ln j)) (ap (λ b. cond b (o ∷ filter (leaves p col i j) os) (filter (leaves p col i j) os)) e) (h.others j pos le ne))
+            | false ↦ λ e. grind (arith, common_steps)
           ] refl;
       few = λ j pos le ne.
           let count = h.few j pos le ne in
           elim (leaves p col i j o) as (λ b. leaves p col i j o ≡ b → (ln1 j).len + length (filter (leaves p col i j) os) ≡ (line_of p t j).len) [
-            | true ↦ λ e.
-                let is : (ln1 j).len ≡ (ln j).len + 1 = ap (λ (l : Line). l.len) (at j ∙ ap (λ b. cond b (mended (ln j) o) (ln j)) e) in
-                let long : length (filter (leaves p col i j) (o ∷ os)) ≡ 1 + length (filter (leaves p col i j) os) = ap (λ b. length (cond b (o ∷ filter (leaves p col i j) os) (filter (leaves p col i j) os))) e ∙ omega arith in
-                omega (arith, count, is, long)
-            | false ↦ λ e.
-                let is : (ln1 j).len ≡ (ln j).len = ap (λ (l : Line). l.len) (at j ∙ ap (λ b. cond b (mended (ln j) o) (ln j)) e) in
-                let long : length (filter (leaves p col i j) (o ∷ os)) ≡ length (filter (leaves p col i j) os) = ap (λ b. length (cond b (o ∷ filter (leaves p col i j) os) (filter (leaves p col i j) os))) e in
-                omega (arith, count, is, long)
+            | true ↦ λ e. grind (arith, common_steps)
+            | false ↦ λ e. grind (arith, common_steps)
           ] refl;
     }
 

@@ -1,5 +1,6 @@
 -- All the way down: the nodes that k Tweaks of one item took off come back, and the lines are then those of before the Tweaks.
-use Rattle.std.proofs.Common.{◌≡◌, ℕ, ◌+◌, ◌<◌, ◌≤◌, inr, ◌||◌, Bool, true, false, not, eqb, List, [], ◌∷◌, ◌++◌, length, map, fold, get_or, refl, ap, ap₂, sym, subst, ◌∙◌, arith, eq-eqb}
+use Rattle.std.proofs.Common.{◌≡◌, ℕ, ◌+◌, ◌<◌, ◌≤◌, inr, ◌||◌, Bool, true, false, not, eqb, List, [], ◌∷◌, ◌++◌, length, map, fold, get_or, refl, ap, ap₂, ◌∙◌, arith, eq-eqb}
+use Rattle.std.proofs.lemmas.Grind.{common_steps}
 use Rattle.std.proofs.lemmas.List.{length-map}
 use Rattle.xc_dance.specs.declared.dance.Move.{Move}
 use Rattle.xc_dance.specs.declared.links.nodes.Nodes.{Nodes}
@@ -61,19 +62,7 @@ climb_walk p t spans covered i ln a (o ∷ os) rest legal fit pos le opened amon
     let next : get_or t1.dlink x 0 ≡ link_place p i ((line_of p t i).down o) = get_down p s.ln' i o here ∙ ap (link_place p i) (s.climbing.own_down o) in
     let places = map (link_place p i) os in
     let first : link_place p i ((line_of p t i).down a) ≡ x = ap (link_place p i) linked.1 in
-    record {
-      end = rest'.end;
-      walk = (
-        first,
-        s.can,
-        subst (λ (u : Nodes). x < length u.dlink) (sym s.done) (omega (arith, long, x_in)),
-        subst (λ (u : Nodes). IsClimb spans covered u (get_or u.dlink x 0) places) (sym s.done) (subst (λ q. IsClimb spans covered t1 q places) (sym next) rest'.walk),
-      );
-      done = ap (λ (u : Nodes). fold (climbed spans covered) u places) s.done ∙ rest'.done;
-      climbing = rest'.climbing;
-      len = rest'.len ∙ s.len;
-      costs = ap₂ (λ a b. a + b) s.cost (ap (λ (u : Nodes). climb_costs spans covered u places) s.done ∙ rest'.costs);
-    }
+    grind (arith, common_steps)
 
 -- the nodes that come back, by the links of the table before
 pub climb_follow : (p : Puzzle) (t : List Move) (spans : List Span) (i : ℕ) (ln : ℕ → Line) (a : ℕ) (os rest : List ℕ) → IsFitted p spans → 0 < i → i ≤ item_count p

@@ -17,8 +17,8 @@ slot_here : (j x : ℕ) (s : Option (ℕ × ℕ)) → s ≡ Some (j, x) → is_s
 slot_here j x s e = ap (is_slot j x) e ∙ ap₂ (λ a b. a && b) (eq-eqb j j refl) (eq-eqb x x refl)
 
 slot_is : (j x : ℕ) (s : Option (ℕ × ℕ)) → is_slot j x s ≡ true → s ≡ Some (j, x)
-slot_is j x None e = grind (arith, common_steps, eqb-true, false≢true, ℕ)
-slot_is j x (Some s) e = grind (arith, common_steps, eqb-true, false≢true, ℕ)
+slot_is j x None e = grind (arith, common_steps, eqb-true, false≢true)
+slot_is j x (Some s) e = grind (arith, common_steps, eqb-true, false≢true)
 
 pub color_put : (p : Puzzle) (col : Node → ℕ) (j x v : ℕ) → IsLaid p → Placed p j x → map (with_color col j x v) (layout p) ≡ set (map col (layout p)) (link_place p j x) v
 color_put p col j x v laid h =

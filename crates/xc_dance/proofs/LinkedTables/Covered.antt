@@ -77,8 +77,4 @@ off_is p t i legal pos le =
       | false ↦ λ e. (beside_place p t (side p i) l (way_beside p (rightwards p) t i pos le e).0, eq-eqb (rlink_at p t l) i (way_back p (rightwards p) t i pos le e))
     ] refl in
     let get_r : get_or (items_after p t).rlink (get_or (items_after p t).llink i 0) 0 ≡ rlink_at p t l = ap (λ k. get_or (items_after p t).rlink k 0) get_l ∙ row_get (rlink_at p t) n l both.0 in
-    record {
-      place = omega (arith, row_len (llink_at p t) n, le);
-      left = omega (arith, get_l, both.0, row_len (rlink_at p t) n);
-      is = ap (λ k. not (eqb k i)) get_r ∙ ap not both.1 ∙ elim (is_covered i t) as (λ b. not (not b) ≡ b) [ true ↦ refl | false ↦ refl ];
-    }
+    grind (arith, common_steps, row_len)

@@ -1,13 +1,13 @@
 -- A use's node enters its item's list: so does its option the item's line.
-use Rattle.std.proofs.Common.{◌≡◌, ℕ, zero, suc, ◌+◌, ◌-◌, ◌<◌, ◌≤◌, inl, inr, Bool, true, false, cond, eqb, List, [], ◌∷◌, ◌++◌, length, map, take, get_or, set, Some, refl, ap, sym, ◌∙◌, arith, eqb-true, eq-eqb, ne_eqb}
+use Rattle.std.proofs.Common.{◌≡◌, ℕ, zero, suc, ◌+◌, ◌-◌, ◌<◌, ◌≤◌, inl, Bool, cond, eqb, List, [], ◌∷◌, ◌++◌, length, map, take, get_or, set, Some, refl, ap, sym, ◌∙◌, arith, eqb-true, eq-eqb, ne_eqb}
 use Rattle.std.proofs.lemmas.Grind.{common_steps}
-use Rattle.std.specs.Prelude.{slice_get, slice_index, is_some, flat_map}
+use Rattle.std.specs.Prelude.{slice_get, slice_index, flat_map}
 use Rattle.std.specs.List.{AllByRecursion}
 use Rattle.std.proofs.lemmas.Bool.{eqb-false}
 use Rattle.std.proofs.lemmas.List.{length-map, length-take-le, append-nil}
 use Rattle.std.proofs.lemmas.Option.{slice_get_within}
 use Rattle.xc_input.specs.declared.problem.Use.{Use}
-use Rattle.xc_input.specs.Problem.{Puzzle, Numbered, numbered_options, item_count, colour_in, uses_of, IsWithinLimits}
+use Rattle.xc_input.specs.Problem.{Puzzle, Numbered, numbered_options, item_count, IsWithinLimits}
 use Rattle.xc_dance.specs.declared.links.nodes.Nodes.{Nodes}
 use Rattle.xc_dance.specs.Fields.{Node, own, spacer, used, layout, nodes_of, link_place}
 use Rattle.xc_dance.specs.Links.Lines.{Line}
@@ -15,7 +15,7 @@ use Rattle.xc_dance.specs.Links.Laid.{IsName, Placed, IsLaid, IsFit}
 use Rattle.xc_dance.specs.Links.Cells.{top_in, color_in, fixed_up, fixed_down, nodes_from}
 use Rattle.xc_dance.specs.Links.FirstNodes.{entered}
 use Rattle.xc_dance.proofs.LinkedTables.Mapped.{get_map}
-use Rattle.xc_dance.proofs.LinkedTables.LaidLemmas.{NodeOk, layout_ok, is_laid}
+use Rattle.xc_dance.proofs.LinkedTables.LaidLemmas.{layout_ok, is_laid}
 use Rattle.xc_dance.proofs.LinkedTables.PlaceLemmas.{front, length_front, layout_small}
 use Rattle.xc_dance.proofs.LinkedTables.OptionReach.{tail_from, get_behind}
 use Rattle.xc_dance.proofs.LinkedTables.Undo.{same_nodes}
@@ -87,16 +87,7 @@ line_then p q o u e k =
     let m : Line = lines_of ns k in
     let make : Bool → Line = λ b. record { len = cond b l.len m.len; up = λ x. cond b (l.up x) (m.up x); down = λ x. cond b (l.down x) (m.down x) } in
     let next : held k (take (q + 1) (layout p)) ≡ held k ns ++ cond (eqb j k) (o ∷ []) [] = held_more k q (layout p) (used o u) e in
-    elim (eqb k j) as (λ b. eqb k j ≡ b → make (eqb k j) ≡ lines_of (take (q + 1) (layout p)) k) [
-      | true ↦ λ f.
-          let same : k ≡ j = eqb-true k j f in
-          let self : eqb j k ≡ true = eq-eqb j k (sym same) in
-          ap make f ∙ sym (grown_more (held j ns) o) ∙ ap (λ i. grown_all (held i ns ++ o ∷ [])) (sym same)
-          ∙ ap (λ b. grown_all (held k ns ++ cond b (o ∷ []) [])) (sym self) ∙ ap grown_all (sym next)
-      | false ↦ λ f.
-          let other : eqb j k ≡ false = ne_eqb j k (λ g. eqb-false k j f (sym g)) in
-          ap make f ∙ ap grown_all (sym (append-nil (held k ns))) ∙ ap (λ b. grown_all (held k ns ++ cond b (o ∷ []) [])) (sym other) ∙ ap grown_all (sym next)
-    ] refl
+    grind (arith, common_steps, append-nil, eq-eqb, eqb-false, eqb-true, grown_more, ne_eqb)
 
 -- what entering the node at q asks, and what it gives
 pub record UseStep (p : Puzzle) (t : Nodes) (q o : ℕ) (u : Use) : Type 0 where

@@ -6,7 +6,7 @@ use Rattle.std.specs.List.{range_with_len, AllByRecursion}
 use Rattle.std.proofs.lemmas.List.FromFn.{length-range_with_len}
 use Rattle.std.proofs.lemmas.List.Elements.{recursion_from_All}
 use Rattle.xc_input.specs.Problem.{Puzzle, Bounds, primary_count, item_count, high_at, low_at, IsValid, AreSoundBounds}
-use Rattle.xc_dance.specs.Links.ItemCells.{llink_at, rlink_at, bound_at, slack_at, items_after}
+use Rattle.xc_dance.specs.Links.ItemCells.{bound_at, slack_at, items_after}
 use Rattle.xc_dance.specs.Links.FirstNodes.{filled}
 use Rattle.xc_dance.specs.Links.FirstItems.{linked_to, bound_to}
 use Rattle.xc_dance.proofs.LinkedTables.FilledColumns.{filled_none, filled_all, length-filled, filled_more, range_get}
@@ -26,10 +26,6 @@ column_more f n k v lt is = let z : 0 + k ≡ k = omega arith in filled_more f (
 
 pub column_all : (f : ℕ → ℕ) (n k : ℕ) → n ≤ k → filled f (range_with_len 0 n) k ≡ map f (range_with_len 0 n)
 column_all f n k le = let size = length-range_with_len 0 n in filled_all f (range_with_len 0 n) k (omega (arith, size, le))
-
--- place 0 has no bounds
-first_place : (f : ℕ → ℕ) (n : ℕ) → f 0 ≡ 0 → filled f (range_with_len 0 (n + 1)) 0 ≡ filled f (range_with_len 0 (n + 1)) 1
-first_place f n z = grind (arith, common_steps)
 
 pub rings_linked : (p : Puzzle) (k : ℕ) → item_count p + 2 ≤ k → linked_to p k ≡ bound_to p 1
 rings_linked p k le = grind (arith, common_steps, column_all, same_items)

@@ -1,19 +1,18 @@
 -- The lines after moves are good: each stands for its list, of options that hold the item.
-use Rattle.std.proofs.Common.{◌≡◌, ℕ, ◌<◌, ◌≤◌, ◌^◌, List, length, ap, sym, ◌∙◌, arith}
+use Rattle.std.proofs.Common.{ℕ, ◌≤◌, List, length, arith}
 use Rattle.std.proofs.lemmas.Grind.{common_steps}
-use Rattle.std.specs.Prelude.{is_some}
 use Rattle.std.specs.List.{AllByRecursion}
 use Rattle.std.proofs.lemmas.List.{length-map}
 use Rattle.xc_dance.specs.declared.dance.Move.{Move}
-use Rattle.xc_input.specs.Problem.{Puzzle, colour_in}
-use Rattle.xc_dance.specs.Moves.{listed, listed_numbers}
+use Rattle.xc_input.specs.Problem.{Puzzle}
+use Rattle.xc_dance.specs.Moves.{listed_numbers}
 use Rattle.xc_dance.specs.Links.Cells.{line_of}
 use Rattle.xc_dance.specs.Links.Laid.{IsFit}
 use Rattle.xc_dance.proofs.MoveLemmas.ListLemmas.{length-listed}
 use Rattle.xc_input.proofs.EachElement.{each-map, each_weaker}
 use Rattle.xc_dance.proofs.LinkedTables.Goods.{Named, AllGood}
 use Rattle.xc_dance.proofs.LinkedTables.LineSteps.{stands}
-use Rattle.xc_dance.proofs.MoveLemmas.Shortened.{IsHolder, holds_use, holders}
+use Rattle.xc_dance.proofs.MoveLemmas.Shortened.{holds_use, holders}
 
 pub numbers_few : (p : Puzzle) (t : List Move) (j : ℕ) → length (listed_numbers p t j) ≤ length p.options
 numbers_few p t j = grind (arith, common_steps, length-listed, length-map)

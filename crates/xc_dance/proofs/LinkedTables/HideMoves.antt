@@ -1,5 +1,5 @@
 -- Cover and Purify: from the node table after moves to that after one move more, and back.
-use Rattle.std.proofs.Common.{◌≡◌, ℕ, ◌+◌, ◌<◌, ◌≤◌, true, not, ◌&&◌, eqb, List, ◌∷◌, length, map, filter, fold, get_or, reverse, Option, Some, None, refl, ap, ap₂, sym, subst, ◌∙◌, arith, eq-eqb, ne_eqb, inr}
+use Rattle.std.proofs.Common.{◌≡◌, ℕ, ◌+◌, ◌<◌, ◌≤◌, true, not, List, ◌∷◌, length, map, filter, fold, get_or, reverse, Option, Some, None, ap, sym, subst, ◌∙◌, arith, eq-eqb, ne_eqb}
 use Rattle.std.proofs.lemmas.Grind.{common_steps}
 use Rattle.std.specs.Prelude.{unwrap_or}
 use Rattle.std.proofs.lemmas.List.{length-map}
@@ -25,7 +25,6 @@ use Rattle.xc_dance.proofs.LinkedTables.LineSteps.{filter_numbers, leave_none}
 use Rattle.xc_dance.proofs.LinkedTables.Colours.{coloured_is, color_other}
 use Rattle.xc_dance.proofs.LinkedTables.OneList.{Passed}
 use Rattle.xc_dance.proofs.LinkedTables.GoodLines.{numbers_named}
-use Rattle.xc_dance.proofs.LinkedTables.Goods.{Named}
 use Rattle.xc_dance.proofs.MoveLemmas.Members.{element_of}
 use Rattle.xc_dance.proofs.LinkedTables.TakenOut.{listed_options, takes_cover, own_cover, takes_purify, own_purify}
 use Rattle.xc_dance.proofs.LinkedTables.MarkedColours.{marked_none, cover_colours, purify_start, purify_colours}
@@ -42,7 +41,7 @@ use Rattle.xc_dance.proofs.MoveLemmas.Shortened.{rises_listed}
 -- ---- what the two moves hide
 
 pub cover_hides : (p : Puzzle) (t : List Move) (i : ℕ) → Hides p t (Cover i) i None (color_in p t)
-cover_hides p t i = grind (arith, common_steps, cover_colours, marked_none, own_cover, takes_cover, ℕ)
+cover_hides p t i = grind (arith, common_steps, cover_colours, marked_none, own_cover, takes_cover)
 
 purify_passed : (p : Puzzle) (t : List Move) (i c : ℕ) → IsLaid p → 0 < i → i ≤ item_count p → Passed p i (color_in p t) (purify_start p t i c) (listed_numbers p t i)
 purify_passed p t i c laid pos le = grind (arith, common_steps, color_other, element_of, eq-eqb, in_above, ne_eqb, numbers_named, rises_listed)
@@ -134,13 +133,4 @@ purify_made p t spans i c legal f pos le opened =
     let marked = kept_marked p t i c legal opened in
     let none : get_or t0.color i 0 ≡ 0 = get_map (color_in p t) (layout p) i (own i) (laid.head i pos le) ∙ ap (λ o. unwrap_or o 0) (open_unpurified i t opened) in
     let back : fold (back_node spans (Some c)) next (list_back next i) ≡ t1 = w.undone in
-    record {
-      can = record { place = omega (arith, within, long); walk = subst (λ (u : Nodes). CanHideList spans (Some c) u i) (sym start) w.can };
-      done = ap (λ (u : Nodes). fold (left_node spans (Some c)) u (list_of t0 i)) start ∙ w.done;
-      can_back = record { walk = w.can_back; place = subst (λ (u : Nodes). i < length u.color) (sym back) (omega (arith, within, long')) };
-      undone =
-          ap (λ (u : Nodes). with_colour u i 0) (back ∙ sym start)
-          ∙ same_nodes (with_colour (with_colour t0 i c) i 0) t0 refl refl refl (written_back t0.color i i c 0 refl none);
-      cost = omega (arith, ap (λ (u : Nodes). walk_costs spans (Some c) u (list_of t0 i)) start ∙ w.costs, marked);
-      cost_back = omega (arith, w.costs_back, marked);
-    }
+    grind (arith, common_steps, same_nodes, written_back)

@@ -1,5 +1,5 @@
 -- A walk down an open item's list leads from the node table after moves to that after one move more, and the walk back up from there to the one before.
-use Rattle.std.proofs.Common.{◌≡◌, ℕ, ◌+◌, ◌*◌, ◌<◌, ◌≤◌, Bool, true, false, not, eqb, List, ◌∷◌, length, filter, Option, Some, refl, sym, subst, ◌∙◌, arith, eqb-true}
+use Rattle.std.proofs.Common.{◌≡◌, ℕ, ◌+◌, ◌*◌, ◌<◌, ◌≤◌, true, false, eqb, List, ◌∷◌, length, filter, Option, Some, refl, sym, subst, ◌∙◌, arith, eqb-true}
 use Rattle.std.proofs.lemmas.Grind.{common_steps}
 use Rattle.std.specs.Prelude.{slice_get}
 use Rattle.std.proofs.lemmas.Bool.{eqb-false, and_parts}
@@ -35,7 +35,7 @@ pub record Hides (p : Puzzle) (t : List Move) (m : Move) (i : ℕ) (keep : Optio
   pub colours : (k : ℕ) (n : Node) → slice_get (layout p) k ≡ Some n → color_in p (m ∷ t) n ≡ marked_list p i keep start (listed_numbers p t i) n
 
 pub leavers_of : (p : Puzzle) (t : List Move) (i : ℕ) (keep : Option ℕ) → AreOf p t i (leavers p i keep (listed_numbers p t i))
-leavers_of p t i keep = grind (arith, common_steps, Rises-filter, and_parts, in_filter, rises_listed, ℕ)
+leavers_of p t i keep = grind (arith, common_steps, Rises-filter, and_parts, in_filter, rises_listed)
 
 -- what leaves each line is what the move takes from it
 pub hides_cut : (p : Puzzle) (t : List Move) (m : Move) (i : ℕ) (keep : Option ℕ) (start : Node → ℕ) (j : ℕ) → AreLegal p t → IsLaid p → IsFit p → is_open i t ≡ true → Hides p t m i keep start → (0 < j) × (j ≤ item_count p) →

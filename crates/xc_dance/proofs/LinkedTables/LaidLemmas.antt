@@ -1,8 +1,8 @@
 -- The places of the node table: each slot stands at one place.
-use Rattle.std.proofs.Common.{◌≡◌, ◌≢◌, ℕ, zero, suc, ◌+◌, ◌<◌, ◌≤◌, inl, inr, Bool, true, false, not, cond, ◌&&◌, ◌||◌, eqb, List, [], ◌∷◌, ◌++◌, map, Some, refl, ap, ap₂, sym, subst, ◌∙◌, arith, eqb-true, eq-eqb, ne_eqb}
+use Rattle.std.proofs.Common.{◌≡◌, ◌≢◌, ℕ, zero, suc, ◌+◌, ◌<◌, ◌≤◌, inl, inr, Bool, true, false, cond, ◌&&◌, ◌||◌, eqb, List, [], ◌∷◌, ◌++◌, map, Some, refl, ap, ap₂, sym, subst, ◌∙◌, arith, eqb-true, eq-eqb, ne_eqb}
 use Rattle.std.proofs.lemmas.Grind.{common_steps}
 use Rattle.std.specs.Prelude.{is_some, slice_get, flat_map, unwrap_or}
-use Rattle.std.specs.List.{AllByRecursion, list_any, range_with_len, position_or_len, prefix_len}
+use Rattle.std.specs.List.{AllByRecursion, list_any, range_with_len, position_or_len}
 use Rattle.std.proofs.lemmas.Bool.{eqb-false, false≢true}
 use Rattle.std.proofs.lemmas.List.Folds.{list_any-append}
 use Rattle.xc_input.specs.declared.problem.Use.{Use}
@@ -234,12 +234,8 @@ placed p j (suc m) pos le (inl z) = absurd (omega (arith, z))
 placed p j (suc m) pos le (inr h) = placed_used p j m h.1
 
 slot_place : (p : Puzzle) (k : ℕ) (n : Node) (j x : ℕ) → IsFit p → slice_get (layout p) k ≡ Some n → slot_of n ≡ Some (j, x) → link_place p j x ≡ k
-slot_place p k (own i) j x fit e f =
-    let a : i ≡ j = ap item_of f in
-    let b : 0 ≡ x = ap member_of f in
-    ap (link_place p j) (sym b) ∙ sym a ∙ own_is p k i fit e
-slot_place p k (used zero u) j x fit e f =
-    let ok : NodeOk p (used zero u) = each_at (NodeOk p) (layout p) k (used zero u) (layout_ok p fit) e in absurd (let h = ok.0 in omega (arith, h))
+slot_place p k (own i) j x fit e f = grind (arith, common_steps, own_is)
+slot_place p k (used zero u) j x fit e f = grind (arith, common_steps, each_at, layout_ok)
 slot_place p k (used (suc o) u) j x fit e f =
     let a : u.item ≡ j = ap item_of f in
     let b : suc o ≡ x = ap member_of f in

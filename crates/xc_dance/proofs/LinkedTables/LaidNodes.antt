@@ -1,5 +1,5 @@
 -- The node table as it is laid node by node.
-use Rattle.std.proofs.Common.{◌≡◌, ℕ, zero, suc, ◌+◌, ◌-◌, ◌<◌, ◌≤◌, List, [], length, Some, refl, ap, ap₂, sym, ◌∙◌, arith, lt-ltb}
+use Rattle.std.proofs.Common.{◌≡◌, ℕ, zero, suc, ◌+◌, ◌-◌, ◌<◌, ◌≤◌, List, [], length, Some, refl, ap, ap₂, ◌∙◌, arith, lt-ltb}
 use Rattle.std.proofs.lemmas.Grind.{common_steps}
 use Rattle.std.specs.Prelude.{slice_get}
 use Rattle.xc_input.specs.declared.problem.Use.{Use}
@@ -27,7 +27,7 @@ laid_more p k n r e is = grind (arith, common_steps, filled_more, same_nodes)
 
 pub laid_none : (p : Puzzle) (t : Nodes) (c : ℕ) → c ≡ length (layout p) →
     (let zeros = Rattle.std.proofs.Common.replicate {A = ℕ} c 0 in let z : Nodes = record { top = zeros; ulink = zeros; dlink = zeros; color = zeros } in t ≡ z) → t ≡ laid_to p 0
-laid_none p t c e h = grind (arith, common_steps, filled_none, same_nodes, ℕ)
+laid_none p t c e h = grind (arith, common_steps, filled_none, same_nodes)
 
 pub laid_all : (p : Puzzle) → laid_to p (length (layout p)) ≡ nodes_from p blanks (color_in p [])
 laid_all p = grind (arith, common_steps, filled_all, same_nodes)

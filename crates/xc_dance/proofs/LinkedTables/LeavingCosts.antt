@@ -36,17 +36,7 @@ counted_over n f (j ∷ js) apart within =
     let rest = counted_over n f js apart.1 (λ k e. within k (ap (λ b. eqb j k || b) e ∙ or-true (eqb j k))) in
     let here = within j (ap (λ b. b || is_in j js) (eq-eqb j j refl)) in
     let sum = total_plus (λ k. cond (eqb j k) (one_if (f j)) 0) (λ k. one_if (is_in k js && f k)) 1 n in
-    let same : total (λ k. one_if ((eqb j k || is_in k js) && f k)) 1 n ≡ total (λ k. cond (eqb j k) (one_if (f j)) 0 + one_if (is_in k js && f k)) 1 n =
-    total_same _ _ 1 n (λ k u v.
-    elim (eqb j k) as (λ b. eqb j k ≡ b → one_if ((b || is_in k js) && f k) ≡ cond b (one_if (f j)) 0 + one_if (is_in k js && f k)) [
-      | true ↦ λ e.
-          let at : j ≡ k = eqb-true j k e in
-          let out : is_in k js ≡ false = ap (λ i. is_in i js) (sym at) ∙ out_of j js apart.0 in
-          let fs : one_if (f j) ≡ one_if (f k) = ap (λ i. one_if (f i)) at in
-          let no : one_if (is_in k js && f k) ≡ 0 = ap (λ b. one_if (b && f k)) out in
-          omega (arith, fs, no)
-      | false ↦ λ e. omega arith
-    ] refl) in
+    let same : total (λ k. one_if ((eqb j k || is_in k js) && f k)) 1 n ≡ total (λ k. cond (eqb j k) (one_if (f j)) 0 + one_if (is_in k js && f k)) 1 n = grind (arith, common_steps, eqb-true, out_of, total_same) in
     omega (arith, rest, total_point j (one_if (f j)) 1 n here.0 here.1, sum, same, length_one (f j) j (filter f js))
 
 -- ---- some options
@@ -67,8 +57,7 @@ exchanged p col i (o ∷ os) fit =
     let r = item_range p (uses_of p o) k (fit.items o) named in
     (omega (arith, r.0), omega (arith, r.1))) in
     let sum = total_plus (λ j. cond (leaves p col i j o) 1 0) (λ j. length (filter (leaves p col i j) os)) 1 n in
-    let same : total (λ j. length (cond (leaves p col i j o) (o ∷ filter (leaves p col i j) os) (filter (leaves p col i j) os))) 1 n ≡ total (λ j. cond (leaves p col i j o) 1 0 + length (filter (leaves p col i j) os)) 1 n =
-    total_same _ _ 1 n (λ j u v. length_one (leaves p col i j o) o (filter (leaves p col i j) os)) in
+    let same : total (λ j. length (cond (leaves p col i j o) (o ∷ filter (leaves p col i j) os) (filter (leaves p col i j) os))) 1 n ≡ total (λ j. cond (leaves p col i j o) 1 0 + length (filter (leaves p col i j) os)) 1 n = grind (arith, common_steps, length_one, total_same) in
     omega (arith, here, exchanged p col i os fit, sum, same)
 
 -- the walk's costs: 1 for each option kept, 3 for each node that leaves

@@ -1,12 +1,12 @@
 -- The line that stands for an item's list, move by move.
-use Rattle.std.proofs.Common.{◌≡◌, ◌≢◌, ℕ, zero, suc, ◌<◌, ◌≤◌, Bool, true, false, not, cond, ◌&&◌, eqb, List, [], ◌∷◌, map, filter, drop, take, refl, ap, sym, subst, ◌∙◌, arith, eqb-true, eq-eqb, ne_eqb}
+use Rattle.std.proofs.Common.{◌≡◌, ◌≢◌, ℕ, zero, suc, ◌≤◌, Bool, true, false, not, cond, eqb, List, [], ◌∷◌, map, filter, drop, refl, ap, sym, subst, ◌∙◌, arith, eqb-true, eq-eqb, ne_eqb}
 use Rattle.std.proofs.lemmas.Grind.{common_steps}
 use Rattle.std.specs.List.{list_any}
 use Rattle.xc_dance.specs.declared.dance.Move.{Move}
 use Rattle.xc_dance.specs.declared.dance.Move.TheVariants.{Cover, Purify, Tweak, Spend}
 use Rattle.xc_input.specs.Problem.{Puzzle, Numbered}
-use Rattle.xc_dance.specs.Moves.{listed, is_open, without, other_colours, listed_numbers}
-use Rattle.xc_dance.specs.Fields.{above, below_of, last_below, first_above, first_of, last_of, is_in}
+use Rattle.xc_dance.specs.Moves.{without, listed_numbers}
+use Rattle.xc_dance.specs.Fields.{last_below, first_above, first_of, last_of, is_in}
 use Rattle.xc_dance.specs.Links.Lines.{Line}
 use Rattle.xc_dance.specs.Links.Cells.{line_of, up_of, down_of}
 use Rattle.xc_dance.proofs.LinkedTables.Sweep.{Rises, Swept, swept, stay, cuts, in_above, is_in-first, is_in-other, last_below-self, last_below-more, first_above-first, first_above-more, last_of-more}
@@ -102,18 +102,7 @@ built : (p : Puzzle) (j : ℕ) → IsLinkedFrom (line_of p [] j) 0 (listed_numbe
 built p j =
     let xs = listed_numbers p [] j in
     let r = rises_listed p [] j in
-    linked_by (line_of p [] j) 0 xs r
-    (λ x e. up_at x (in_above 0 x xs r e))
-    (λ x e. down_at x (in_above 0 x xs r e))
-    refl refl
-  where
-    up_at : (x : ℕ) → 0 < x → up_of p [] j x ≡ last_below 0 x (listed_numbers p [] j)
-    up_at zero h = absurd (omega arith)
-    up_at (suc x) h = refl
-
-    down_at : (x : ℕ) → 0 < x → down_of p [] j x ≡ first_above 0 x (listed_numbers p [] j)
-    down_at zero h = absurd (omega arith)
-    down_at (suc x) h = refl
+    grind (arith, common_steps, in_above, linked_by)
 
 -- each item's line stands for its list
 pub stands : (p : Puzzle) (t : List Move) (j : ℕ) → IsLinkedFrom (line_of p t j) 0 (listed_numbers p t j)

@@ -1,5 +1,5 @@
 -- The columns of links and counts of a table of lines, and one write to them.
-use Rattle.std.proofs.Common.{◌≡◌, ◌≢◌, ℕ, ◌<◌, ◌≤◌, true, false, cond, eqb, List, length, map, get_or, set, Option, Some, None, refl, ap, ap₂, sym, ◌∙◌, arith, eqb-true, eq-eqb, ne_eqb}
+use Rattle.std.proofs.Common.{◌≡◌, ℕ, ◌<◌, ◌≤◌, true, false, cond, eqb, List, length, map, get_or, set, Option, Some, None, refl, ap, sym, ◌∙◌, arith, eqb-true, eq-eqb, ne_eqb}
 use Rattle.std.proofs.lemmas.Grind.{common_steps}
 use Rattle.std.specs.Prelude.{slice_get}
 use Rattle.std.proofs.lemmas.List.{length-map}
@@ -40,8 +40,8 @@ get_down p ln j x h = get_link p (λ k y. (ln k).down y) (fixed_down p) j x h
 
 other_slot : (p : Puzzle) (f : ℕ → ℕ → ℕ) (j x v : ℕ) (fixed : ℕ) (s : Option (ℕ × ℕ)) → (s ≡ Some (j, x) → ⊥) →
     link_at p (put_link f j (put_at (f j) x v)) fixed s ≡ link_at p f fixed s
-other_slot p f j x v fixed None ne = grind (arith, common_steps, eqb-true, put_at-other, ℕ)
-other_slot p f j x v fixed (Some s) ne = grind (arith, common_steps, eqb-true, put_at-other, ℕ)
+other_slot p f j x v fixed None ne = grind (arith, common_steps, eqb-true, put_at-other)
+other_slot p f j x v fixed (Some s) ne = grind (arith, common_steps, eqb-true, put_at-other)
 
 pub set_link : (p : Puzzle) (f : ℕ → ℕ → ℕ) (fixed : Node → ℕ) (j x v : ℕ) → IsLaid p → Placed p j x →
     column p (put_link f j (put_at (f j) x v)) fixed ≡ set (column p f fixed) (link_place p j x) (link_place p j v)

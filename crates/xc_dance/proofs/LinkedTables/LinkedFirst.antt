@@ -1,5 +1,6 @@
 -- Once every node is entered, the table is that of no moves.
 use Rattle.std.proofs.Common.{◌≡◌, ℕ, zero, suc, ◌+◌, ◌<◌, ◌≤◌, true, false, List, [], length, take, filter, Some, refl, ap, sym, subst, ◌∙◌, arith}
+use Rattle.std.proofs.lemmas.Grind.{common_steps}
 use Rattle.std.specs.Prelude.{slice_get}
 use Rattle.std.proofs.lemmas.List.{length-map, take_all}
 use Rattle.xc_input.specs.declared.problem.Use.{Use}
@@ -12,7 +13,7 @@ use Rattle.xc_dance.specs.Links.Lines.{Line}
 use Rattle.xc_dance.specs.Links.Cells.{top_in, ulink_in, dlink_in, color_in, line_of, up_of, down_of, nodes_from, nodes_after}
 use Rattle.xc_dance.specs.Links.FirstNodes.{blanks}
 use Rattle.xc_dance.proofs.LinkedTables.Mapped.{map_same}
-use Rattle.xc_dance.proofs.LinkedTables.LaidLemmas.{NodeOk, layout_ok}
+use Rattle.xc_dance.proofs.LinkedTables.LaidLemmas.{layout_ok}
 use Rattle.xc_dance.proofs.LinkedTables.Undo.{same_nodes}
 use Rattle.xc_dance.proofs.LinkedTables.Sweep.{Swept, swept, stay, cuts}
 use Rattle.xc_dance.proofs.LinkedTables.GrownLines.{grown_all, grown_len, grown_linked}
@@ -53,16 +54,12 @@ top_is p _ = refl
 
 ulink_is : (p : Puzzle) (q : ℕ) (n : Node) → IsFit p → slice_get (layout p) q ≡ Some n → ulink_in p (whole p) n ≡ ulink_in p (line_of p []) n
 ulink_is p q (own i) fit e = ap (link_place p i) (along (listed_numbers p [] i) (rises_listed p [] i)).last
-ulink_is p q (used o u) fit e =
-    let ok : NodeOk p (used o u) = each_at (NodeOk p) (layout p) q (used o u) (layout_ok p fit) e in
-    ap (link_place p u.item) (up_is p u.item o (in_list p q o u fit e) ok.0)
+ulink_is p q (used o u) fit e = grind (arith, common_steps, each_at, in_list, layout_ok, up_is)
 ulink_is p q _ fit e = refl
 
 dlink_is : (p : Puzzle) (q : ℕ) (n : Node) → IsFit p → slice_get (layout p) q ≡ Some n → dlink_in p (whole p) n ≡ dlink_in p (line_of p []) n
 dlink_is p q (own i) fit e = ap (link_place p i) (along (listed_numbers p [] i) (rises_listed p [] i)).first
-dlink_is p q (used o u) fit e =
-    let ok : NodeOk p (used o u) = each_at (NodeOk p) (layout p) q (used o u) (layout_ok p fit) e in
-    ap (link_place p u.item) (down_is p u.item o (in_list p q o u fit e) ok.0)
+dlink_is p q (used o u) fit e = grind (arith, common_steps, down_is, each_at, in_list, layout_ok)
 dlink_is p q _ fit e = refl
 
 pub all_entered : (p : Puzzle) (n : ℕ) → IsFit p → length (layout p) ≤ n → nodes_from p (lines_of (take n (layout p))) (color_in p []) ≡ nodes_after p []

@@ -6,10 +6,10 @@ use Rattle.std.proofs.lemmas.List.{length-map, reverse-append}
 use Rattle.xc_dance.specs.declared.dance.Move.{Move}
 use Rattle.xc_input.specs.Problem.{Puzzle, item_count}
 use Rattle.xc_dance.specs.Moves.{listed, listed_numbers}
-use Rattle.xc_dance.specs.Fields.{layout, link_place, own}
+use Rattle.xc_dance.specs.Fields.{layout, link_place}
 use Rattle.xc_dance.specs.Links.Lines.{Line}
 use Rattle.xc_dance.specs.Links.Steps.{followed, list_of, list_back}
-use Rattle.xc_dance.specs.Links.Cells.{top_in, ulink_in, dlink_in, nodes_after, line_of}
+use Rattle.xc_dance.specs.Links.Cells.{ulink_in, dlink_in, nodes_after, line_of}
 use Rattle.xc_dance.specs.Links.Laid.{Placed, IsLaid, IsFit}
 use Rattle.std.proofs.lemmas.Option.{slice_get_within}
 use Rattle.xc_dance.proofs.LinkedTables.LinkColumns.{get_up, get_down, get_len}

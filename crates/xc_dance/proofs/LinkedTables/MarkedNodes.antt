@@ -25,7 +25,6 @@ use Rattle.xc_dance.proofs.LinkedTables.OneOption.{is_mark}
 use Rattle.std.proofs.lemmas.Option.{same_Some}
 use Rattle.xc_input.proofs.EachElement.{each_weaker, each_both}
 use Rattle.xc_dance.proofs.LinkedTables.OptionNumbers.{IsOption, options_numbered}
-use Rattle.xc_dance.proofs.LinkedTables.LinkColumns.{item_of, member_of}
 
 -- ---- facts of each option left
 
@@ -112,8 +111,7 @@ color_is p t o j c laid jpos jle pos named has =
     let u = used_by p j o (link_place p j o) h.node pos h.at h.slot in
     let colour : colour_in (uses_of p o) u.0.item ≡ Some u.0.colour = laid.nodes.coloured (link_place p j o) o u.0 u.1 in
     let same : u.0.colour ≡ c = same_Some u.0.colour c (sym colour ∙ ap (colour_in (uses_of p o)) u.2 ∙ has) in
-    get_map (color_in p t) (layout p) (link_place p j o) (used o u.0) u.1
-    ∙ ap₂ (λ i d. cond (is_marked p t i o d) 4294967295 d) u.2 same
+    grind (arith, common_steps, get_map)
 
 pub mark_is : (p : Puzzle) (t : List Move) (o j c : ℕ) → IsLaid p → 0 < j → j ≤ item_count p → 0 < o → Named p j o → colour_in (uses_of p o) j ≡ Some c →
     is_mark p (color_in p t) o j ≡ eqb (cond (is_marked p t j o c) 4294967295 c) 4294967295

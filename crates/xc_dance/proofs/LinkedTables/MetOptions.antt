@@ -1,12 +1,12 @@
 -- The options of an open item's list are met: their other uses stand in their lists or are marked, so they are ready to leave.
-use Rattle.std.proofs.Common.{◌≡◌, ℕ, ◌<◌, ◌≤◌, true, false, not, cond, ◌||◌, eqb, List, [], ◌∷◌, map, Option, Some, None, refl, ap, sym, subst, ◌∙◌, arith, eqb-true, eq-eqb, ne_eqb}
+use Rattle.std.proofs.Common.{◌≡◌, ℕ, ◌<◌, ◌≤◌, true, false, not, cond, ◌||◌, eqb, List, [], ◌∷◌, map, Option, Some, None, refl, ap, sym, ◌∙◌, arith, eqb-true, eq-eqb, ne_eqb}
 use Rattle.std.proofs.lemmas.Grind.{common_steps}
 use Rattle.std.specs.Prelude.{is_some}
 use Rattle.std.specs.List.{AllByRecursion}
 use Rattle.std.proofs.lemmas.Bool.{eqb-false, false≢true, and_parts}
 use Rattle.std.proofs.Math.Bool.{not-not, or-true}
 use Rattle.xc_dance.specs.declared.dance.Move.{Move}
-use Rattle.xc_input.specs.Problem.{Puzzle, Numbered, item_count, colour_in, uses_of, holds, holding}
+use Rattle.xc_input.specs.Problem.{Puzzle, item_count, colour_in, uses_of, holds, holding}
 use Rattle.xc_dance.specs.Moves.{listed, is_open, AreLegal, listed_numbers, is_other_colour}
 use Rattle.xc_dance.specs.Lists.Losing.{is_kept}
 use Rattle.xc_dance.specs.Fields.{Node, is_in}
@@ -37,10 +37,8 @@ met_at p t i j x legal laid fit opened pos le within named =
     let each : AllByRecursion (λ o. Named p j o.number → Met p t o.number j) (left p t) =
     each_both (IsOption p) (λ o. holds o j ≡ true → Met p t o.number j) (λ o. Named p j o.number → Met p t o.number j) (left p t)
     (λ o is h n. h (ap (λ us. is_some (colour_in us j)) (sym is.1) ∙ n)) (options_left p t) (each_met p t j legal laid fit pos le) in
-    let listed_each : AllByRecursion (λ x. Named p j x → Met p t x j) (map (λ o. o.number) (holding i (left p t))) =
-    each-map (λ x. Named p j x → Met p t x j) (λ o. o.number) (holding i (left p t)) (each-filter (λ o. Named p j o.number → Met p t o.number j) (λ o. holds o i) (left p t) each) in
-    element_of (λ x. Named p j x → Met p t x j) x (listed_numbers p t i)
-    (subst (λ (os : List Numbered). AllByRecursion (λ x. Named p j x → Met p t x j) (map (λ o. o.number) os)) (sym list) listed_each) within named
+    let listed_each : AllByRecursion (λ x. Named p j x → Met p t x j) (map (λ o. o.number) (holding i (left p t))) = grind (arith, common_steps, each-filter, each-map) in
+    grind (arith, common_steps, element_of)
 
 ready_by : (p : Puzzle) (col : Node → ℕ) (lists : ℕ → List ℕ) (o : ℕ) (js : List ℕ)
     → ((j : ℕ) → is_in j js ≡ true → (0 < j) × (j ≤ item_count p) × Named p j o × (is_mark p col o j ≡ false → Stands (lists j) o)) → AllApart js → AreReady p col lists o js
@@ -89,10 +87,7 @@ own_ready p t i keep x laid fit opened pos le within =
     let small : c.0 < 4294967295 = colour_small (uses_of p x) i c.0 (fit.colours x) c.1 in
     let is : own_color p (color_in p t) i x ≡ c.0 =
     color_is p t x i c.0 laid pos le x_pos named c.1 ∙ ap (λ b. cond b 4294967295 c.0) (open_unmarked p t i x c.0 opened) in
-    record {
-      unmarked = ap (λ v. eqb v 4294967295) is ∙ ne_eqb c.0 4294967295 (λ f. omega (arith, small, f));
-      test = ap (is_kept_colour keep) is ∙ test_is p i keep x c.0 c.1;
-    }
+    grind (arith, common_steps, ne_eqb, test_is)
 
 -- options of the list, one after another
 pub each_ready : (p : Puzzle) (t : List Move) (i : ℕ) (keep : Option ℕ) (xs : List ℕ) → AreLegal p t → IsLaid p → IsFit p → is_open i t ≡ true → 0 < i → i ≤ item_count p

@@ -1,5 +1,6 @@
 -- The tables after moves let the next legal move be made, and are then those after it; and back.
-use Rattle.std.proofs.Common.{◌≡◌, ℕ, ◌+◌, ◌<◌, ◌≤◌, false, List, [], ◌∷◌, None, refl, ap, ap₂, sym, subst, ◌∙◌, arith}
+use Rattle.std.proofs.Common.{◌≡◌, ℕ, ◌<◌, ◌≤◌, false, List, [], ◌∷◌, None, refl, sym, arith}
+use Rattle.std.proofs.lemmas.Grind.{common_steps}
 use Rattle.xc_dance.specs.declared.dance.Move.{Move}
 use Rattle.xc_dance.specs.declared.dance.Move.TheVariants.{Cover, Purify, Tweak, Spend}
 use Rattle.xc_dance.specs.Links.Span.{Span}
@@ -17,7 +18,6 @@ use Rattle.xc_dance.proofs.LinkedTables.RingStep.{spend_step}
 use Rattle.xc_dance.proofs.LinkedTables.StillItems.{still_items}
 use Rattle.xc_dance.proofs.LinkedTables.Turned.{ring_step}
 use Rattle.xc_dance.specs.Links.Taken.{CanNote}
-use Rattle.xc_dance.specs.Links.Tweaking.{tweaked, untweaked, tweak_cost, untweak_cost, CanTweak, CanUntweak}
 use Rattle.xc_dance.proofs.LinkedTables.Covered.{off_is}
 use Rattle.xc_dance.proofs.MoveLemmas.StateLemmas.{open_or_covered}
 use Rattle.xc_dance.proofs.LinkedTables.TweakStep.{tweak_made}
@@ -44,34 +44,14 @@ covered_step p t spans i legal may f =
     let pos : 0 < i = let h = may.0.0 in omega (arith, h) in
     let w = walk_made p t spans (Cover i) i None (color_in p t) legal f pos may.0.1 may.1 (cover_hides p t i) in
     let r = ring_step p t i may in
-    record {
-      can = (w.can, r.can);
-      nodes = w.done;
-      items = r.done;
-      can_back = λ x at. (w.can_back, r.can_back);
-      nodes_back = λ x at. w.undone;
-      items_back = r.undone;
-      can_note = tt;
-      cost = ap (λ n. n + 2) w.costs ∙ cover_writes p t i;
-      cost_back = λ x at. ap (λ n. n + 2) w.costs_back ∙ cover_writes p t i;
-    }
+    grind (arith, common_steps, cover_writes)
 
 purified_step : (p : Puzzle) (t : List Move) (spans : List Span) (i c : ℕ) → AreLegal p t → IsLegal p t (Purify i c) → IsFitted p spans → MoveStep p t spans (Purify i c)
 purified_step p t spans i c legal may f =
     let pos : 0 < i = let h = may.0.0 in omega (arith, h) in
     let w = purify_made p t spans i c legal f pos may.0.1 may.1 in
     let still = still_items p t (Purify i c) (record { covered = λ q. refl; spent = λ q. refl }) in
-    record {
-      can = w.can;
-      nodes = w.done;
-      items = sym still;
-      can_back = λ x at. w.can_back;
-      nodes_back = λ x at. w.undone;
-      items_back = still;
-      can_note = tt;
-      cost = w.cost;
-      cost_back = λ x at. w.cost_back;
-    }
+    grind (arith, common_steps)
 
 -- a Spend changes no list
 spent_colours : (p : Puzzle) (t : List Move) (i : ℕ) (n : Node) → color_in p (Spend i ∷ t) n ≡ color_in p t n
@@ -87,17 +67,7 @@ spent_nodes p t i laid = tables_same p (line_of p t) (line_of p (Spend i ∷ t))
 spent_step : (p : Puzzle) (t : List Move) (spans : List Span) (i : ℕ) → AreLegal p t → IsLegal p t (Spend i) → IsFitted p spans → MoveStep p t spans (Spend i)
 spent_step p t spans i legal may f =
     let s = spend_step p t i may (f.bounds i) in
-    record {
-      can = s.can;
-      nodes = sym (spent_nodes p t i f.laid);
-      items = s.done;
-      can_back = λ x at. s.can_back;
-      nodes_back = λ x at. spent_nodes p t i f.laid;
-      items_back = s.undone;
-      can_note = tt;
-      cost = refl;
-      cost_back = λ x at. refl;
-    }
+    grind (arith, common_steps, spent_nodes)
 
 tweaked_step : (p : Puzzle) (t : List Move) (spans : List Span) (i : ℕ) → AreLegal p t → IsLegal p t (Tweak i) → IsFitted p spans → MoveStep p t spans (Tweak i)
 tweaked_step p t spans i legal may f =
@@ -108,17 +78,7 @@ tweaked_step p t spans i legal may f =
     let off = off_is p t i legal pos le in
     let off' = off_is p next i (may, legal) pos le in
     let still = still_items p t (Tweak i) (record { covered = λ q. refl; spent = λ q. refl }) in
-    record {
-      can = ((off.place, off.left), subst (λ b. CanTweak spans b (nodes_after p t) i) (sym off.is) w.can);
-      nodes = ap (λ b. tweaked spans b (nodes_after p t) i) off.is ∙ w.done;
-      items = sym still;
-      can_back = λ x at. ((off'.place, off'.left), subst (λ b. CanUntweak spans b (nodes_after p next) x) (sym off'.is) (subst (CanUntweak spans (is_covered i t) (nodes_after p next)) (sym at) w.can_back));
-      nodes_back = λ x at. ap₂ (λ b k. untweaked spans b (nodes_after p next) k) off'.is at ∙ w.undone;
-      items_back = still;
-      can_note = w.can.place;
-      cost = ap (λ b. tweak_cost spans b (nodes_after p t) i) off.is ∙ w.cost;
-      cost_back = λ x at. ap₂ (λ b k. untweak_cost spans b (nodes_after p next) k) off'.is at ∙ w.cost_back;
-    }
+    grind (arith, common_steps)
 
 pub move_step : (p : Puzzle) (t : List Move) (spans : List Span) (m : Move) → AreLegal p t → IsLegal p t m → IsFitted p spans → MoveStep p t spans m
 move_step p t spans (Cover i) legal may f = covered_step p t spans i legal may f

@@ -1,13 +1,13 @@
 -- The node by which an option uses an item, the option of a node, and the links downwards by option numbers.
-use Rattle.std.proofs.Common.{◌≡◌, ◌≢◌, ◌⊎◌, inl, inr, ℕ, zero, suc, ◌+◌, ◌-◌, ◌<◌, ◌≤◌, Bool, true, false, cond, ◌||◌, eqb, ltb, List, [], ◌∷◌, length, get_or, Some, None, Option, refl, ap, ap₂, sym, subst, ◌∙◌, arith, eq-eqb, ne_eqb, le-leb, ltb-true, ltb-false}
+use Rattle.std.proofs.Common.{◌≡◌, ◌≢◌, ◌⊎◌, inl, inr, ℕ, zero, suc, ◌+◌, ◌-◌, ◌<◌, ◌≤◌, true, false, cond, ltb, List, [], ◌∷◌, length, get_or, Some, None, Option, refl, ap, ap₂, sym, subst, ◌∙◌, arith, eq-eqb, ne_eqb, le-leb, ltb-true, ltb-false}
 use Rattle.std.proofs.lemmas.Grind.{common_steps}
 use Rattle.std.specs.Prelude.{is_some, unwrap_or, slice_get, Contains}
-use Rattle.std.specs.List.{range_with_len, AllByRecursion}
+use Rattle.std.specs.List.{AllByRecursion}
 use Rattle.xc_input.specs.declared.problem.Use.{Use}
 use Rattle.xc_dance.specs.declared.dance.Move.{Move}
-use Rattle.xc_input.specs.Problem.{Puzzle, primary_count, item_count, uses_of, colour_in}
-use Rattle.xc_dance.specs.Moves.{is_open, AreLegal, listed_numbers, next_above, open_items, IsOpenPrimary}
-use Rattle.xc_dance.specs.Fields.{own, spacer, used, layout, spacer_place, first_above, first_of, is_in, ring_of, right_of, below_of, link_place}
+use Rattle.xc_input.specs.Problem.{Puzzle, item_count, uses_of, colour_in}
+use Rattle.xc_dance.specs.Moves.{AreLegal, listed_numbers, next_above, open_items, IsOpenPrimary}
+use Rattle.xc_dance.specs.Fields.{own, spacer, used, layout, spacer_place, first_above, is_in, below_of, link_place}
 use Rattle.xc_dance.specs.Links.Cells.{slot_of, link_at, fixed_down, top_in, dlink_in, line_of, nodes_after}
 use Rattle.xc_dance.specs.Links.ItemCells.{items_after, rlink_at}
 use Rattle.xc_dance.specs.Links.Laid.{IsName, IsLaid, IsFit}
@@ -104,11 +104,7 @@ on_the_way p t i (suc m) q laid fit pos held from to =
     let at : k ≡ w.index = omega (arith, e, place) in
     let one : Some u ≡ Some w.use_of = sym use_is ∙ ap (slice_get w.uses) at ∙ w.use_is in
     ap (λ (v : Use). v.item) (same_Some u w.use_of one) ∙ w.item in
-    record {
-      within = slice_get_within (layout p) q (used (m + 1) u) node;
-      found = λ e. sym (here (sym top ∙ e));
-      next = λ ne. (let other : q ≢ link_place p i (suc m) = λ e. ne (top ∙ its_item e) in omega (arith, to, other));
-    }
+    grind (arith, common_steps, slice_get_within)
 
 -- ---- which option a node is of
 
@@ -171,14 +167,7 @@ seeks p t i place q laid fit node other from to =
     let tells : (x : ℕ) → IsName p i x → place ≡ link_place p i x → ToSpacer p t x q = λ x name at.
     let is = name_used p i place x name at other in
     to_spacer p t i x q laid fit is.0 is.1 (omega (arith, from, at)) (to x name at) in
-    record {
-      within = (tells node.number node.name node.at).within;
-      low = λ h x name at. (tells x name at).next h;
-      high = λ h x name at.
-          let is = (tells x name at).number h in
-          let pos = (name_used p i place x name at other).0 in
-          ap Some (omega (arith, is)) ∙ sym (ap (λ b. cond b None (Some x)) (ne_eqb x 0 (λ z. omega (arith, z, pos))));
-    }
+    grind (arith, common_steps, name_used, ne_eqb)
 
 -- ---- links downwards, by option numbers
 
@@ -206,7 +195,7 @@ own_down p t i laid pos le =
     ∙ ap (link_place p i) (sym (first_above-first 0 0 0 (listed_numbers p t i) (omega arith) (rises_listed p t i)))
 
 pub contained : (xs : List ℕ) (x : ℕ) → Contains xs x → is_in x xs ≡ true
-contained xs x h = grind (arith, common_steps, eq-eqb, ℕ)
+contained xs x h = grind (arith, common_steps, eq-eqb)
 
 below_now : (p : Puzzle) (t : List Move) (i o : ℕ) → is_in o (listed_numbers p t i) ≡ true → below_of p t i o ≡ first_above 0 o (listed_numbers p t i)
 below_now p [] i o e = refl

@@ -10,8 +10,7 @@ use Rattle.xc_input.specs.Problem.{Puzzle, item_count, uses_of}
 use Rattle.xc_dance.specs.Lists.Losing.{is_kept}
 use Rattle.xc_dance.specs.Fields.{Node, layout, link_place, is_in}
 use Rattle.xc_dance.specs.Links.Lines.{Line}
-use Rattle.xc_dance.specs.Links.Steps.{others_of, hidden_node, shown_node, hide_costs, show_costs}
-use Rattle.xc_dance.specs.Links.ListWalks.{with_colour, is_kept_colour, is_kept_mark, kept_colour, left_node, back_node, leave_cost, back_cost, walk_costs, back_costs, CanLeave, CanReturn, IsWalk, IsWalkBack}
+use Rattle.xc_dance.specs.Links.ListWalks.{with_colour, is_kept_colour, is_kept_mark, left_node, back_node, leave_cost, back_cost, walk_costs, back_costs, CanLeave, CanReturn, IsWalk, IsWalkBack}
 use Rattle.xc_dance.specs.Links.Cells.{nodes_from, ulink_in, dlink_in}
 use Rattle.xc_dance.specs.Links.Others.{before_use, behind_use, HasSpans}
 use Rattle.xc_dance.specs.Links.Laid.{Placed, IsLaid}
@@ -25,7 +24,7 @@ use Rattle.xc_dance.proofs.LinkedTables.Colours.{coloured_is, color_here, color_
 use Rattle.xc_dance.proofs.LinkedTables.OneOption.{is_mark, left_one, left_all, IsApart, AreReady, walked, ready_front, all_other, gone_count}
 use Rattle.xc_dance.proofs.LinkedTables.Spacers.{Turns, turns}
 use Rattle.xc_dance.proofs.LinkedTables.Walks.{costs-append}
-use Rattle.xc_dance.proofs.LinkedTables.LineChanges.{cut, IsLinkedFrom, with_line, with_color, other_items}
+use Rattle.xc_dance.proofs.LinkedTables.LineChanges.{cut, IsLinkedFrom, with_color, other_items}
 
 -- ---- what the walk leaves
 
@@ -130,17 +129,7 @@ mark_step p now spans (Some c) ln i o laid h near e =
     let is : with_colour t x 4294967295 ≡ u = coloured_is p now ln i o 4294967295 laid h in
     let colour : own_color p now i o ≡ c = eqb-true (own_color p now i o) c e in
     let marked : is_kept_mark keep (get_or u.color x 0) ≡ true = eq-eqb (get_or u.color x 0) 4294967295 (color_here p now i o 4294967295 h) in
-    record {
-      can = record { span = near; place = omega (arith, long, within); hide = λ f. absurd (false≢true (sym f ∙ e)) };
-      done = ap (λ b. cond b (with_colour t x 4294967295) (hidden_node spans t x)) e ∙ is;
-      back = record { span = near; place = omega (arith, long', within); show = λ f. absurd (false≢true (sym f ∙ marked)) };
-      undone =
-          ap (λ b. cond b (with_colour u x c) (shown_node spans u x)) marked
-          ∙ ap (λ (s : Nodes). with_colour s x c) (sym is)
-          ∙ same_nodes (with_colour (with_colour t x 4294967295) x c) t refl refl refl (written_back t.color x x 4294967295 c refl colour);
-      cost = ap (λ b. cond b 1 (hide_costs t (others_of spans x))) e;
-      cost_back = ap (λ b. cond b 1 (show_costs u (reverse (others_of spans x)))) marked;
-    }
+    grind (arith, common_steps, false≢true, same_nodes, written_back)
 
 no_mark : (keep : Option ℕ) (v : ℕ) → eqb v 4294967295 ≡ false → is_kept_mark keep v ≡ false
 no_mark None v e = refl
@@ -208,9 +197,7 @@ turn p col now spans i keep ln lists o xs laid spanned pos le o_pos good ready r
             good = w.gone.good;
             ready = each_kept p col lists w.gone.lists' i keep o o xs (omega arith) r w.gone.kept ready.4;
             passed = record { others = passed.others; own = λ x f. passed.own x (in_more o x xs f) };
-            lines =
-                ap (λ b. left_list p col i ln (cond (not b) (o ∷ leavers p i keep xs) (leavers p i keep xs))) e
-                ∙ ap (λ m. left_list p col i m (leavers p i keep xs)) (sym (all_same p i col now (o ∷ xs) lists o ln js o_pos passed ready.2 ready.1));
+            lines = grind (arith, common_steps, all_same);
             colours = ap (λ b. marked_list p i keep (cond b (with_color now i o 4294967295) now) xs) e;
           }
     ] refl
@@ -299,12 +286,8 @@ listed_walk p col now spans i keep ln lists a (o ∷ xs) laid spanned pos le goo
       );
       done = ap (λ (u : Nodes). fold (left_node spans keep) u places) s.done ∙ rest.done;
       back = subst (IsWalkBack spans keep end' q0) (sym turned) (back_push spans keep end' t1 t0 q0 (reverse places) x back rest.undone ends s.undone (omega (arith, up_long, x_in)) s.back);
-      undone =
-          ap (fold (back_node spans keep) end') turned ∙ fold-append (back_node spans keep) end' (reverse places) (x ∷ []) ∙ ap (λ (u : Nodes). back_node spans keep u x) rest.undone ∙ s.undone;
+      undone = grind (arith, common_steps, fold-append);
       ends = ap (leads spans keep end' q0) turned ∙ leads_push spans keep end' t1 t0 q0 (reverse places) x rest.undone s.undone ∙ up_at ∙ ap (link_place p i) linked.2;
       costs = ap₂ (λ a b. a + b) s.cost (ap (λ (u : Nodes). walk_costs spans keep u places) s.done ∙ rest.costs);
-      costs_back =
-          let turn_back = ap (back_costs spans keep end') turned ∙ costs-append (back_node spans keep) (back_cost spans keep) end' (reverse places) (x ∷ []) in
-          let last : back_cost spans keep (fold (back_node spans keep) end' (reverse places)) x ≡ step_cost p col i keep o = ap (λ (u : Nodes). back_cost spans keep u x) rest.undone ∙ s.cost_back in
-          omega (arith, turn_back, last, rest.costs_back);
+      costs_back = grind (arith, common_steps, costs-append);
     })

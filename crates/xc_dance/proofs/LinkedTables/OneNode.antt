@@ -53,13 +53,7 @@ linked-is p col ln j o laid m =
     let not_head : j ≢ q = λ e.
     let same : own j ≡ here.node = same_at (layout p) q (own j) here.node (subst (λ k. slice_get (layout p) k ≡ Some (own j)) e (laid.head j m.item.0 m.item.1)) here.at in
     let z : 0 ≡ o = ap member_of (ap slot_of same ∙ here.slot) in absurd (omega arith) in
-    record {
-      above = ap (λ k. get_or t.dlink k 0) c.up ∙ get_down p ln j ((ln j).up o) c.above ∙ ap (link_place p j) m.up_back;
-      below = ap (λ k. get_or t.ulink k 0) c.down ∙ get_up p ln j ((ln j).down o) c.below ∙ ap (link_place p j) m.down_back;
-      top = c.names.top;
-      other = λ e. not_head (sym c.item ∙ e);
-      some = let e : get_or t.top (get_or t.top q 0) 0 ≡ (ln j).len = ap (λ k. get_or t.top k 0) c.item ∙ c.len in omega (arith, e);
-    }
+    grind (arith, common_steps, get_down, get_up)
 
 -- ---- a step of hide
 

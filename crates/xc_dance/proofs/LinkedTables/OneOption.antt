@@ -1,5 +1,5 @@
 -- An option leaves the lists of some of its items, one after another.
-use Rattle.std.proofs.Common.{◌≡◌, ◌≢◌, ℕ, ◌<◌, ◌≤◌, ◌^◌, inr, Bool, true, false, cond, eqb, List, [], ◌∷◌, ◌++◌, length, map, fold, get_or, refl, ap, sym, subst, ◌∙◌, arith, eqb-true, ne_eqb, not, ◌&&◌, ◌||◌, eq-eqb, filter}
+use Rattle.std.proofs.Common.{◌≡◌, ◌≢◌, ℕ, ◌<◌, ◌≤◌, ◌^◌, inr, Bool, true, false, cond, eqb, List, [], ◌∷◌, ◌++◌, length, map, fold, get_or, refl, ap, sym, subst, ◌∙◌, arith, eqb-true, ne_eqb, not, ◌&&◌, eq-eqb, filter}
 use Rattle.std.proofs.lemmas.Grind.{common_steps}
 use Rattle.xc_dance.specs.declared.links.nodes.Nodes.{Nodes}
 use Rattle.xc_input.specs.Problem.{Puzzle, item_count}

@@ -1,5 +1,6 @@
 -- An option comes back into the lists of some of its items, whatever state these lists are in: what a step of unhide does where its neighbours are named.
 use Rattle.std.proofs.Common.{◌≡◌, ◌≢◌, ℕ, ◌+◌, ◌<◌, ◌≤◌, ◌^◌, true, false, cond, ◌||◌, eqb, List, [], ◌∷◌, length, map, fold, get_or, set, refl, ap, sym, subst, ◌∙◌, arith, eqb-true, eq-eqb}
+use Rattle.std.proofs.lemmas.Grind.{common_steps}
 use Rattle.std.proofs.lemmas.Bool.{false≢true}
 use Rattle.std.proofs.lemmas.List.{length-map}
 use Rattle.xc_dance.specs.declared.links.nodes.Nodes.{Nodes}
@@ -101,7 +102,4 @@ shown_walk p col ln o (j ∷ js) laid pos apart h =
     let r = h k (ap (λ b. eqb j k || b) e ∙ or-true (eqb j k)) in
     let same : back_one p col o ln j k ≡ ln k = one_other mended p col o ln j k (apart_in j k js apart.0 e) in
     record { pos = r.pos; le = r.le; name = r.name; returner = λ u. subst (λ (l : Line). IsReturner p k l o) (sym same) (r.returner u) }) in
-    record {
-      can = (first.can, subst (λ (u : Nodes). CanShowAll u qs) (sym first.done) rest.can);
-      done = ap (λ (u : Nodes). fold shown u qs) first.done ∙ rest.done;
-    }
+    grind (arith, common_steps)

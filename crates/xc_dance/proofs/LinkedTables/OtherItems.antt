@@ -14,7 +14,7 @@ use Rattle.xc_dance.proofs.LinkedTables.Sweep.{cuts}
 use Rattle.xc_dance.proofs.LinkedTables.OneOption.{is_mark, left_all, IsApart, all_at, AllApart}
 use Rattle.xc_dance.proofs.LinkedTables.OneList.{left_list}
 use Rattle.std.proofs.Math.Bool.{or-false}
-use Rattle.xc_dance.proofs.LinkedTables.LineChanges.{cut, other_items}
+use Rattle.xc_dance.proofs.LinkedTables.LineChanges.{other_items}
 
 pub or_swap : (a b c : Bool) → (a || (b || c)) ≡ (b || (a || c))
 or_swap true true c = refl
@@ -34,21 +34,13 @@ others_by (u ∷ us) i k d =
           let at_i : u.item ≡ i = eqb-true u.item i e in
           or-false (is_in k (map (λ v. v.item) us)) ∙ items_of us k
           ∙ elim (eqb u.item k) as (λ c. eqb u.item k ≡ c → is_some (colour_in us k) ≡ (not (eqb k i) && is_some (cond c (Some u.colour) (colour_in us k)))) [
-            | true ↦ λ f.
-                let at_k : u.item ≡ k = eqb-true u.item k f in
-                let self : eqb k i ≡ true = eq-eqb k i (sym at_k ∙ at_i) in
-                rw self (ap (λ j. is_some (colour_in us j)) (sym at_k) ∙ d.0)
-            | false ↦ λ f.
-                let ne : eqb k i ≡ false = ne_eqb k i (λ g. eqb-false u.item k f (at_i ∙ sym g)) in
-                rw ne refl
+            | true ↦ λ f. grind (arith, common_steps, eq-eqb, eqb-true)
+            | false ↦ λ f. grind (arith, common_steps, eqb-false, ne_eqb)
           ] refl
       | false ↦ λ e.
           or_swap (is_in k (behind_use i us)) (eqb u.item k) (is_in k (before_use i us))
           ∙ elim (eqb u.item k) as (λ c. eqb u.item k ≡ c → (c || (is_in k (behind_use i us) || is_in k (before_use i us))) ≡ (not (eqb k i) && is_some (cond c (Some u.colour) (colour_in us k)))) [
-            | true ↦ λ f.
-                let at_k : u.item ≡ k = eqb-true u.item k f in
-                let ne : eqb k i ≡ false = ne_eqb k i (λ g. eqb-false u.item i e (at_k ∙ g)) in
-                rw ne refl
+            | true ↦ λ f. grind (arith, common_steps, eqb-false, eqb-true, ne_eqb)
             | false ↦ λ f. others_by us i k d.1
           ] refl
     ] refl

@@ -30,8 +30,8 @@ items_apart [] d = tt
 items_apart (u ∷ us) d = (apart_from u.item (map (λ v. v.item) us) (items_of us u.item ∙ d.0), items_apart us d.1)
 
 append_none : (xs : List ℕ) → AllApart xs → AllApart (xs ++ [])
-append_none [] h = grind (arith, common_steps, ℕ)
-append_none (x ∷ xs) h = grind (arith, common_steps, ℕ, append_none xs h.1)
+append_none [] h = grind (arith, common_steps)
+append_none (x ∷ xs) h = grind (arith, common_steps, append_none xs h.1)
 
 others_apart_of : (us : List Use) (i : ℕ) → AreDistinct us → AllApart (behind_use i us ++ before_use i us)
 others_apart_of [] i d = grind (arith, common_steps, all_insert, append_none, items_apart, others_by)

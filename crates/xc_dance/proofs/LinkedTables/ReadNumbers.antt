@@ -1,5 +1,5 @@
 -- How cells are read, and that different cells read differently.
-use Rattle.std.proofs.Common.{◌≡◌, ℕ, suc, true, false, cond, eqb, List, [], ◌∷◌, Option, Some, None, refl, ap, ap₂, sym, ◌∙◌, eqb-true, ◌-◌, ◌<◌, ◌≤◌, le-leb, arith}
+use Rattle.std.proofs.Common.{◌≡◌, ℕ, suc, List, [], ◌∷◌, Option, Some, None, refl, ap, ap₂, eqb-true, ◌-◌, ◌<◌, ◌≤◌, le-leb, arith}
 use Rattle.std.proofs.lemmas.Grind.{common_steps}
 use Rattle.std.specs.Prelude.{ℤ, pos, negsuc, slice_get, option_map}
 use Rattle.xc_dance.specs.Links.Read.{color_read, top_read, minus}

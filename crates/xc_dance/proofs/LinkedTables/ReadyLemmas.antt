@@ -1,5 +1,5 @@
 -- Steps of hide that can be undone, one after another.
-use Rattle.std.proofs.Common.{◌≡◌, ◌≢◌, ℕ, ◌-◌, ◌<◌, ◌^◌, reverse, List, [], ◌∷◌, ◌++◌, length, get_or, set, fold, refl, ap, sym, subst, ◌∙◌, arith}
+use Rattle.std.proofs.Common.{◌≡◌, ◌≢◌, ℕ, ◌-◌, ◌<◌, ◌^◌, reverse, List, [], ◌∷◌, ◌++◌, length, get_or, fold, ap, arith}
 use Rattle.std.proofs.lemmas.Grind.{common_steps}
 use Rattle.std.proofs.lemmas.List.{length-set, get_or-set_same, get_or-set_other, reverse-append}
 use Rattle.xc_dance.specs.declared.links.nodes.Nodes.{Nodes}

@@ -1,12 +1,12 @@
 -- Members that left one line from top to bottom come back in the same order: each finds its neighbours of before, and at the end the line is as it was.
-use Rattle.std.proofs.Common.{◌≡◌, ◌≢◌, ℕ, ◌<◌, ◌≤◌, ◌⊎◌, inl, inr, Bool, true, false, not, cond, ◌&&◌, List, [], ◌∷◌, filter, refl, ap, ap₂, sym, subst, ◌∙◌, arith}
+use Rattle.std.proofs.Common.{◌≡◌, ◌≢◌, ℕ, ◌<◌, ◌≤◌, ◌⊎◌, Bool, true, false, not, cond, ◌&&◌, List, [], ◌∷◌, filter, refl, ap, ap₂, sym, subst, ◌∙◌, arith}
 use Rattle.std.proofs.lemmas.Grind.{common_steps}
 use Rattle.std.proofs.lemmas.Bool.{false≢true}
 use Rattle.xc_dance.specs.Links.Lines.{Line}
 use Rattle.xc_dance.specs.Fields.{last_below, first_above, first_of, last_of, is_in}
 use Rattle.xc_dance.proofs.LinkedTables.Sweep.{in_more, Rises, Rises-filter, Swept, swept, stay, cuts, rises, not_in, in_above, is_in-first, is_in-other, by_first, put_at-same, put_at-other, last_below-none, last_below-self, last_below-more, last_of-more, first_above-first, first_above-more}
 use Rattle.xc_dance.proofs.MoveLemmas.Members.{in_filter}
-use Rattle.xc_dance.proofs.LinkedTables.LineChanges.{put_at, mended, IsLinkedFrom}
+use Rattle.xc_dance.proofs.LinkedTables.LineChanges.{mended, IsLinkedFrom}
 
 -- The members before xs are back, a being the last of them and b the last of them that had stayed; those of xs that pass the test are still gone.
 pub record Held (l m : Line) (a b : ℕ) (xs : List ℕ) (g : ℕ → Bool) : Type 0 where
@@ -56,7 +56,7 @@ not_next x [] nz f s = nz s
 not_next x (z ∷ zs) nz f s = false≢true (sym f ∙ ap (λ k. is_in x (k ∷ zs)) (sym s) ∙ is_in-first x zs)
 
 pub come_back : (l m : Line) (a b y : ℕ) (ys : List ℕ) (g : ℕ → Bool) → IsLinkedFrom l a (y ∷ ys) → g y ≡ true → Held l m a b (y ∷ ys) g → Held l (mended m y) y b ys g
-come_back l m a b y ys g linked e h = grind (arith, common_steps, by_first, finds, in_above, in_more, is_in-other, next_is, not_next, put_at-other, put_at-same, rises, stay_gone, ℕ)
+come_back l m a b y ys g linked e h = grind (arith, common_steps, by_first, finds, in_above, in_more, is_in-other, next_is, not_next, put_at-other, put_at-same, rises, stay_gone)
 
 -- ---- the end
 
@@ -91,25 +91,7 @@ regaining l xs g linked =
     let pass : (x : ℕ) → g x ≡ false → is_in x xs ≡ true → is_in x (stay g xs) ≡ true = λ x e f. in_filter (λ x. not (g x)) x xs ∙ ap₂ (λ c d. not c && d) e f in
     let fail : (x : ℕ) → g x ≡ true → is_in x (stay g xs) ≡ false = λ x e. in_filter (λ x. not (g x)) x xs ∙ ap (λ c. not c && is_in x xs) e in
     let absent : (x : ℕ) → is_in x xs ≡ false → is_in x (stay g xs) ≡ false = λ x f. in_filter (λ x. not (g x)) x xs ∙ ap (λ d. not (g x) && d) f ∙ elim (g x) as (λ c. (not c && false) ≡ false) [ true ↦ refl | false ↦ refl ] in
-    record {
-      a = 0;
-      b = 0;
-      xs = xs;
-      g = g;
-      linked = linked;
-      held = record {
-        le = omega arith;
-        up_first = first_up l m xs g linked s;
-        up_in = λ x e ne. s.up_in x e;
-        up_last = λ nz. s.last;
-        up_out = s.up_out;
-        down_in = λ x e stays. s.down_in x (λ z. omega (arith, z, in_above 0 x xs r e)) (pass x stays e);
-        down_gone = λ x e gone. s.down_out x (λ z. omega (arith, z, in_above 0 x xs r e)) (fail x gone);
-        down_out = λ x ne f. s.down_out x ne (absent x f);
-        down_at = inr s.first;
-      };
-      left = refl;
-    }
+    grind (arith, common_steps, first_up, in_above)
 
 -- the next that comes back is reached over those that had stayed
 pub record NextBack (l m : Line) (k : ℕ) (ks : List ℕ) : Type 0 where

@@ -202,8 +202,5 @@ link_before h a i n (y ∷ ys) r e out =
     ∙ sym (ap (λ b. cond b (last_of y ys) (last_below y (first_above h i ys) ys)) t) ∙ rest)
     (λ ne. elim (first_above-in h i y ys r.1 i_in) [
       | inl g ↦ absurd (ne g)
-      | inr g ↦
-          let t = ne_eqb (first_above h i ys) h ne in
-          ap (λ b. cond b (last_of a (y ∷ ys)) (last_below a (first_above h i ys) (y ∷ ys))) t ∙ last_below-more a (first_above h i ys) y ys (omega (arith, g.1, lt))
-          ∙ sym (ap (λ b. cond b (last_of y ys) (last_below y (first_above h i ys) ys)) t) ∙ rest
+      | inr g ↦ grind (arith, common_steps, last_below-more, ne_eqb)
     ]))

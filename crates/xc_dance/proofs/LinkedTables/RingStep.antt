@@ -1,12 +1,12 @@
 -- Cover and Spend on the item table.
-use Rattle.std.proofs.Common.{◌≡◌, ◌≢◌, ℕ, zero, suc, ◌+◌, ◌-◌, ◌<◌, ◌^◌, List, [], ◌∷◌, length, map, get_or, set, refl, ap, sym, ◌∙◌, arith, cond, eqb, true, false, eq-eqb, ne_eqb, leb, Some, not, ap₂}
+use Rattle.std.proofs.Common.{◌≡◌, ◌≢◌, ℕ, zero, suc, ◌+◌, ◌-◌, ◌<◌, ◌^◌, List, [], ◌∷◌, length, map, get_or, set, refl, ap, sym, ◌∙◌, arith, cond, eqb, false, eq-eqb, ne_eqb, Some}
 use Rattle.std.proofs.lemmas.Grind.{common_steps}
 use Rattle.std.specs.List.{range_with_len}
-use Rattle.std.specs.Prelude.{slice_get, nat_le}
+use Rattle.std.specs.Prelude.{slice_get}
 use Rattle.std.proofs.lemmas.List.{length-map}
 use Rattle.std.proofs.lemmas.List.FromFn.{get_or-map-range_with_len, length-range_with_len}
 use Rattle.xc_dance.specs.declared.links.items.Items.{Items}
-use Rattle.xc_dance.specs.Fields.{ring_of, ring_head, left_of, right_of, first_of, last_of, last_below, first_above}
+use Rattle.xc_dance.specs.Fields.{ring_of, ring_head, left_of, right_of, last_below, first_above}
 use Rattle.xc_dance.proofs.LinkedTables.Mapped.{map_put, map_same}
 use Rattle.xc_dance.specs.declared.dance.Move.{Move}
 use Rattle.xc_dance.specs.declared.dance.Move.TheVariants.{Spend}
@@ -72,7 +72,7 @@ pub still_rlink : (p : Puzzle) (t : List Move) (m : Move) (q : ℕ) → ((q : �
 still_rlink p t m q s = grind (arith, common_steps, still_right, still_ring)
 
 pub same_items : (s t : Items) → s.llink ≡ t.llink → s.rlink ≡ t.rlink → s.bound ≡ t.bound → s.slack ≡ t.slack → s ≡ t
-same_items s t a b c d = grind (arith, common_steps, ℕ)
+same_items s t a b c d = grind (arith, common_steps)
 
 -- ---- Spend
 
@@ -100,9 +100,4 @@ spend_step p t i may few =
     let up : bound_at p t i ≡ get_or (items_after p next).bound i 0 + 1 = bound_own p t i pos ∙ omega (arith, after, lt) in
     let bounds : (items_after p next).bound ≡ set (items_after p t).bound i (get_or (items_after p t).bound i 0 - 1) = row_put (bound_at p t) (bound_at p next) n i _ (λ q h ne. bound_other p t i q ne) down in
     let back : (items_after p t).bound ≡ set (items_after p next).bound i (get_or (items_after p next).bound i 0 + 1) = row_put (bound_at p next) (bound_at p t) n i _ (λ q h ne. sym (bound_other p t i q ne)) up in
-    record {
-      can = (omega (arith, row_len (bound_at p t) n, within), omega (arith, before, lt));
-      done = same_items (with_bound (items_after p t) i (get_or (items_after p t).bound i 0 - 1)) (items_after p next) (sym llinks) (sym rlinks) (sym bounds) refl;
-      can_back = (omega (arith, row_len (bound_at p next) n, within), omega (arith, after, few));
-      undone = same_items (with_bound (items_after p next) i (get_or (items_after p next).bound i 0 + 1)) (items_after p t) llinks rlinks (sym back) refl;
-    }
+    grind (arith, common_steps, row_len, same_items)

@@ -24,7 +24,7 @@ pub record SameCut (p : Puzzle) (t : List Move) (m : Move) (j : ℕ) (ks : List 
 
 -- lines with the same length and links are the same
 pub line_is : (l m : Line) → m.len ≡ l.len → ((x : ℕ) → m.up x ≡ l.up x) → ((x : ℕ) → m.down x ≡ l.down x) → m ≡ l
-line_is l m len up down = grind (arith, common_steps, fun_ext, ℕ)
+line_is l m len up down = grind (arith, common_steps, fun_ext)
 
 -- the line that loses what a move takes is that after the move
 pub line_after : (p : Puzzle) (t : List Move) (m : Move) (j : ℕ) (ks : List ℕ) → SameCut p t m j ks → line_of p (m ∷ t) j ≡ cuts (line_of p t j) ks

@@ -1,5 +1,5 @@
 -- The spacers round an option lead to its ends, whatever lists its nodes stand in.
-use Rattle.std.proofs.Common.{◌≡◌, ℕ, ◌+◌, ◌-◌, ◌<◌, List, [], ◌∷◌, ◌++◌, map, fold, reverse, get_or, Some, ap, ap₂, sym, subst, ◌∙◌, arith, ◌*◌}
+use Rattle.std.proofs.Common.{◌≡◌, ℕ, ◌+◌, ◌-◌, ◌<◌, List, [], ◌∷◌, ◌++◌, map, fold, reverse, get_or, Some, ap, sym, subst, ◌∙◌, arith, ◌*◌}
 use Rattle.std.proofs.lemmas.Grind.{common_steps}
 use Rattle.std.specs.Prelude.{slice_get}
 use Rattle.std.proofs.lemmas.List.{length-map, map-append}
@@ -9,7 +9,7 @@ use Rattle.xc_dance.specs.declared.links.nodes.Nodes.{Nodes}
 use Rattle.xc_dance.specs.Links.Span.{Span}
 use Rattle.xc_dance.specs.Fields.{Node, spacer, layout, link_place}
 use Rattle.xc_dance.specs.Links.Lines.{Line}
-use Rattle.xc_dance.specs.Links.Cells.{top_in, ulink_in, dlink_in, nodes_from}
+use Rattle.xc_dance.specs.Links.Cells.{ulink_in, dlink_in, nodes_from}
 use Rattle.xc_dance.specs.Links.Others.{behind_use, before_use, HasSpans}
 use Rattle.xc_dance.specs.Links.Steps.{hidden, shown, CanHideAll, CanShowAll, places, span_at, others_of, IsSpacer, CanHideNode, CanShowNode, hidden_node, shown_node, hide_costs, show_costs}
 use Rattle.xc_dance.proofs.LinkedTables.Goods.{Named}
@@ -75,4 +75,4 @@ pub record Turns (p : Puzzle) (ln : ℕ → Line) (col : Node → ℕ) (spans : 
 
 pub turns : (p : Puzzle) (ln : ℕ → Line) (col : Node → ℕ) (lists : ℕ → List ℕ) (spans : List Span) (o i : ℕ) → HasSpans p spans → 0 < o → Named p i o → Walked p col ln lists o (other_items p o i) →
     Walked p col ln lists o (behind_use i (uses_of p o)) → Turns p ln col spans o i
-turns p ln col lists spans o i spanned pos named w mid = grind (arith, common_steps, can_hide_node, can_show_node, costs-are, fold-append, fold-shown-reverse, hidden_color, map-append, others_are, shown_color, undone_behind, unmarked-reverse, unmarked_items, ℕ)
+turns p ln col lists spans o i spanned pos named w mid = grind (arith, common_steps, can_hide_node, can_show_node, costs-are, fold-append, fold-shown-reverse, hidden_color, map-append, others_are, shown_color, undone_behind, unmarked-reverse, unmarked_items)

@@ -1,20 +1,18 @@
 -- What each move takes out of the lists of the other items, in option numbers.
-use Rattle.std.proofs.Common.{◌≡◌, ◌≢◌, ℕ, Bool, true, false, not, cond, ◌&&◌, ◌||◌, eqb, List, [], ◌∷◌, map, drop, take, Some, None, refl, ap, sym, subst, ◌∙◌, eq-eqb, ne_eqb, arith}
+use Rattle.std.proofs.Common.{◌≡◌, ◌≢◌, ℕ, Bool, true, false, not, cond, ◌&&◌, ◌||◌, eqb, List, [], ◌∷◌, map, drop, take, Some, None, refl, ap, sym, ◌∙◌, eq-eqb, ne_eqb, arith}
 use Rattle.std.proofs.lemmas.Grind.{common_steps}
 use Rattle.std.specs.List.{AllByRecursion}
 use Rattle.std.proofs.lemmas.List.Elements.{filter_agree}
 use Rattle.std.proofs.Math.Bool.{not-not}
 use Rattle.xc_dance.specs.declared.dance.Move.{Move}
 use Rattle.xc_dance.specs.declared.dance.Move.TheVariants.{Cover, Purify, Tweak}
-use Rattle.xc_input.specs.Problem.{Puzzle, Numbered, colour_in, colour_at, uses_of, holds}
+use Rattle.xc_input.specs.Problem.{Puzzle, Numbered, colour_in, colour_at, uses_of}
 use Rattle.xc_dance.specs.Moves.{listed, listed_numbers, is_open, without, other_colours, is_other_colour, AreLegal}
 use Rattle.xc_dance.specs.Lists.Losing.{is_kept}
 use Rattle.xc_dance.specs.Fields.{is_in}
-use Rattle.xc_dance.specs.Left.{left}
 use Rattle.xc_dance.proofs.MoveLemmas.OpenLists.{listed_open}
 use Rattle.xc_input.proofs.ListFilters.{filter_same}
 use Rattle.xc_input.proofs.EachElement.{each-filter, each_weaker}
-use Rattle.xc_dance.proofs.LinkedTables.Sweep.{stay}
 use Rattle.xc_dance.proofs.LinkedTables.OneList.{leavers}
 use Rattle.xc_dance.proofs.LinkedTables.LineSteps.{goes, without_numbers, filter_numbers, stay_all, drop_numbers}
 use Rattle.xc_dance.proofs.LinkedTables.MarkedNodes.{options_left}

@@ -1,5 +1,5 @@
 -- TOP, where 0 can be a length or the number of the first spacer, reads differently for different cells.
-use Rattle.std.proofs.Common.{◌≡◌, ◌⊎◌, inl, inr, ℕ, zero, suc, ◌+◌, ◌-◌, ◌<◌, ◌^◌, true, false, ltb, List, map, Some, None, refl, ap, sym, ◌∙◌, arith, ltb-true, ltb-false}
+use Rattle.std.proofs.Common.{◌≡◌, ◌⊎◌, inl, inr, ℕ, zero, suc, ◌+◌, ◌-◌, ◌<◌, ◌^◌, List, map, Some, refl, ap, sym, ◌∙◌, arith, ltb-true, ltb-false}
 use Rattle.std.proofs.lemmas.Grind.{common_steps}
 use Rattle.std.specs.Prelude.{pos, negsuc, slice_get, option_map}
 use Rattle.std.proofs.lemmas.Option.{slice_get-map, same_Some}
@@ -37,9 +37,7 @@ pub record IsSound (p : Puzzle) : Type 0 where
 -- the first spacer alone has that number
 pub first_spacer : (p : Puzzle) (t : List Move) (q : ℕ) (n : Node) → IsSound p → slice_get (layout p) q ≡ Some n → top_in (line_of p t) n ≡ 2147483648 → q ≡ item_count p + 1
 first_spacer p t q unused s e f = absurd (omega (arith, f))
-first_spacer p t q (own i) s e f =
-    let few = length-listed p t i in
-    absurd (omega (arith, f, few, s.fit.few))
+first_spacer p t q (own i) s e f = grind (arith, common_steps, length-listed)
 first_spacer p t q (spacer n) s e f =
     let z : n ≡ 0 = omega (arith, f) in
     sym (spacer_is p q 0 (e ∙ ap (λ k. Some (spacer k)) z)) ∙ spacer_at p 0 (omega arith) ∙ place_first p

@@ -287,19 +287,8 @@ way_step p w t i pos le un =
     let r = w.beside t i in
     let within : i < n = omega (arith, le) in
     let l_in : l < n = beside_place p t (side p i) l (way_beside p w t i pos le un).0 in
-    let put : way_column p w next ≡ set (way_column p w t) l r =
-    row_put (w.cell t) (w.cell next) n l r
-    (λ q lt ne. way_next p w t i pos le un q lt ∙ ap (λ v. cond v r (w.cell t q)) (ne_eqb q l ne))
-    (way_next p w t i pos le un l l_in ∙ ap (λ v. cond v r (w.cell t l)) (eq-eqb l l refl)) in
-    record {
-      beside = l_in;
-      long = row_len (w.cell t) n;
-      long' = row_len (w.cell next) n;
-      get = row_get (w.cell t) n i within ∙ w.at_item t i pos le;
-      get' = row_get (w.cell next) n i within ∙ w.at_item next i pos le ∙ w.gone t (Cover i) i (ap (λ v. v || is_covered i t) (eq-eqb i i refl));
-      put = put;
-      back = ap (λ xs. set xs l i) put ∙ written_back (way_column p w t) l l r i refl (row_get (w.cell t) n l l_in ∙ way_back p w t i pos le un);
-    }
+    let put : way_column p w next ≡ set (way_column p w t) l r = grind (arith, common_steps, eq-eqb, ne_eqb, row_put, way_next) in
+    grind (arith, common_steps, eq-eqb, row_get, row_len, way_back, written_back)
 
 pub ring_step : (p : Puzzle) (t : List Move) (i : ℕ) → IsLegal p t (Cover i) → RingStep p t i
 ring_step p t i may =
@@ -310,9 +299,4 @@ ring_step p t i may =
     let next = items_after p (Cover i ∷ t) in
     let a = way_step p (rightwards p) t i pos le un in
     let b = way_step p (leftwards p) t i pos le un in
-    record {
-      can = record { place = (omega (arith, b.long, le), omega (arith, a.long, le)); left = omega (arith, b.get, a.beside, a.long); right = omega (arith, a.get, b.beside, b.long) };
-      done = same_items (left_ring now i) next (ap₂ (set now.llink) a.get b.get ∙ sym b.put) (ap₂ (set now.rlink) b.get a.get ∙ sym a.put) refl refl;
-      can_back = record { place = (omega (arith, b.long', le), omega (arith, a.long', le)); left = omega (arith, b.get', a.beside, a.long'); right = omega (arith, a.get', b.beside, b.long') };
-      undone = same_items (back_in_ring next i) now (ap (λ k. set next.llink k i) a.get' ∙ b.back) (ap (λ k. set next.rlink k i) b.get' ∙ a.back) refl refl;
-    }
+    grind (arith, common_steps, same_items)

@@ -1,5 +1,6 @@
 -- Tweak: from the node table after moves to that after one move more, and back.
-use Rattle.std.proofs.Common.{◌≡◌, ◌≢◌, ℕ, ◌+◌, ◌*◌, ◌<◌, ◌≤◌, ◌^◌, Bool, true, false, not, cond, ◌||◌, eqb, List, [], ◌∷◌, length, filter, get_or, reverse, refl, ap, sym, subst, ◌∙◌, arith, eqb-true, eq-eqb, ne_eqb}
+use Rattle.std.proofs.Common.{◌≡◌, ◌≢◌, ℕ, ◌+◌, ◌*◌, ◌<◌, ◌≤◌, ◌^◌, Bool, true, false, not, cond, eqb, List, [], ◌∷◌, length, filter, get_or, reverse, refl, ap, sym, subst, ◌∙◌, arith, eqb-true, eq-eqb, ne_eqb}
+use Rattle.std.proofs.lemmas.Grind.{common_steps}
 use Rattle.std.specs.List.{AllByRecursion}
 use Rattle.std.proofs.lemmas.Bool.{eqb-false, false≢true}
 use Rattle.std.proofs.lemmas.List.{length-map}
@@ -92,14 +93,7 @@ tweak_shut p t i j shut ne = record {
 pub first_of-list : (p : Puzzle) (t : List Move) (i : ℕ) → HasFirst p t i → AreOf p t i (first_alone (listed_numbers p t i))
 first_of-list p t i f =
     let r : Rises 0 (f.o ∷ f.os) = subst (Rises 0) f.is (rises_listed p t i) in
-    subst (λ ks. AreOf p t i (first_alone ks)) (sym f.is) (record {
-      rise = (r.0, tt);
-      among = λ x e. subst (λ ks. is_in x ks ≡ true) (sym f.is)
-          (elim (eqb f.o x) as (λ b. eqb f.o x ≡ b → (b || is_in x f.os) ≡ true) [
-            | true ↦ λ g. refl
-            | false ↦ λ g. absurd (false≢true (ap (λ b. b || false) (sym g) ∙ e))
-          ] refl);
-    })
+    grind (arith, common_steps, false≢true)
 
 -- ---- the option is hidden, if the item is open
 

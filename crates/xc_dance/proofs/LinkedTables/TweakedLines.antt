@@ -1,5 +1,6 @@
 -- The lines after some Tweaks of one item, from those before.
-use Rattle.std.proofs.Common.{◌≡◌, ◌≢◌, ℕ, zero, suc, ◌+◌, ◌*◌, ◌<◌, ◌≤◌, Bool, true, false, not, cond, ◌&&◌, eqb, List, [], ◌∷◌, ◌++◌, length, map, filter, drop, reverse, get_or, refl, ap, ap₂, sym, subst, ◌∙◌, arith, length-append}
+use Rattle.std.proofs.Common.{◌≡◌, ◌≢◌, ℕ, zero, suc, ◌+◌, ◌*◌, ◌<◌, ◌≤◌, Bool, true, false, not, cond, eqb, List, [], ◌∷◌, ◌++◌, length, map, filter, drop, reverse, get_or, refl, ap, sym, subst, ◌∙◌, arith, length-append}
+use Rattle.std.proofs.lemmas.Grind.{common_steps}
 use Rattle.std.proofs.lemmas.List.{reverse-append, append_assoc, map-append}
 use Rattle.std.proofs.lemmas.List.Sums.{fold-append}
 use Rattle.xc_dance.specs.declared.dance.Move.{Move}
@@ -24,7 +25,7 @@ use Rattle.xc_dance.proofs.LinkedTables.TweakStep.{tweak_made, HasFirst, has_fir
 use Rattle.xc_dance.proofs.LinkedTables.Climb.{to_come, back_writes}
 use Rattle.xc_dance.specs.declared.links.nodes.Nodes.{Nodes}
 use Rattle.xc_dance.specs.Cost.{cost_of, cost_of_newest}
-use Rattle.xc_dance.specs.Links.Steps.{hide_costs, others_of, hidden}
+use Rattle.xc_dance.specs.Links.Steps.{hide_costs, others_of}
 use Rattle.xc_dance.proofs.LinkedTables.OneOption.{gone_count}
 use Rattle.xc_dance.proofs.LinkedTables.LinkColumns.{get_down}
 use Rattle.xc_dance.proofs.LinkedTables.ListLinks.{own_placed}
@@ -69,8 +70,7 @@ more_others p t s spans false i os legal fit opened f h j pos le ne =
     let col = color_in p t in
     let o = f.o in
     let same : map (color_in p s) (layout p) ≡ map col (layout p) = map_same col (color_in p s) (layout p) (λ k n e. h.colours n) in
-    let test : filter (leaves p (color_in p s) i j) (o ∷ []) ≡ filter (leaves p col i j) (o ∷ []) =
-    ap (λ (cs : List ℕ). cond (is_in j (other_items p o i) && not (eqb (get_or cs (link_place p j o) 0) 4294967295)) (o ∷ []) []) same in
+    let test : filter (leaves p (color_in p s) i j) (o ∷ []) ≡ filter (leaves p col i j) (o ∷ []) = grind (arith, common_steps) in
     let l = line_of p t j in
     let before = filter (leaves p col i j) os in
     let one = filter (leaves p col i j) (o ∷ []) in
@@ -104,9 +104,7 @@ one_writes p s spans false i legal fit may opened f =
     let named : Named p i o = element_of (Named p i) o (listed_numbers p s i) (numbers_named p s i) within in
     let o_pos : 0 < o = in_above 0 o (listed_numbers p s i) (rises_listed p s i) within in
     let first : get_or t0.dlink i 0 ≡ link_place p i o = get_down p (line_of p s) i 0 (own_placed p i fit.laid pos le) ∙ ap (λ ks. link_place p i (first_of 0 ks)) f.is in
-    let hides : hide_costs t0 (others_of spans (get_or t0.dlink i 0)) ≡ 3 * gone_count p col i o =
-    ap (λ q. hide_costs t0 (others_of spans q)) first ∙ ap (hide_costs t0) (others_are p spans o i fit.spanned o_pos named)
-    ∙ costs-are hidden hidden_color t0 (map (λ j. link_place p j o) js) ∙ unmarked_items p col o js in
+    let hides : hide_costs t0 (others_of spans (get_or t0.dlink i 0)) ≡ 3 * gone_count p col i o = grind (arith, common_steps, costs-are, hidden_color, others_are, unmarked_items) in
     omega (arith, (tweak_made p s spans false i legal fit pos le may.2 opened).cost, hides)
 
 gone_alike : (p : Puzzle) (col now : Node → ℕ) (i o : ℕ) → map now (layout p) ≡ map col (layout p) → gone_count p now i o ≡ gone_count p col i o
@@ -156,8 +154,6 @@ tweaked_lines p t spans covered i (suc k) legal fit opened =
         others = more_others p t s spans covered i os legal.1 fit opened f h;
         colours = λ n. tweak_colours p s i n ∙ h.colours n;
         opened = h.opened;
-        taken =
-            ap₂ (λ y ys. y ∷ ys) (ap (λ ks. link_place p i (first_of 0 ks)) f.is) h.taken
-            ∙ ap (λ ys. ys ++ taken_nodes p t) (sym (ap reverse (map-append (link_place p i) os (o ∷ [])) ∙ reverse-append (map (link_place p i) os) (x ∷ [])));
+        taken = grind (arith, common_steps, map-append, reverse-append);
       };
     }

@@ -1,5 +1,5 @@
 -- Some Tweaks of one item undone at once: from the node table after them to that before.
-use Rattle.std.proofs.Common.{◌≡◌, ◌≢◌, ℕ, ◌+◌, ◌*◌, ◌<◌, ◌≤◌, ◌^◌, Bool, true, false, not, cond, ◌||◌, eqb, List, [], ◌∷◌, ◌++◌, length, map, fold, filter, get_or, Option, Some, None, refl, ap, ap₂, sym, subst, ◌∙◌, arith, eqb-true, eq-eqb, length-append}
+use Rattle.std.proofs.Common.{◌≡◌, ◌≢◌, ℕ, ◌+◌, ◌*◌, ◌<◌, ◌≤◌, ◌^◌, Bool, true, false, not, ◌||◌, eqb, List, [], ◌∷◌, ◌++◌, length, map, fold, filter, get_or, refl, ap, ap₂, sym, subst, ◌∙◌, arith, eqb-true, eq-eqb, length-append}
 use Rattle.std.proofs.lemmas.Grind.{common_steps}
 use Rattle.std.proofs.lemmas.Bool.{eqb-false, false≢true, or_parts}
 use Rattle.std.proofs.lemmas.List.{length-map}
@@ -14,7 +14,7 @@ use Rattle.xc_dance.specs.Links.Lines.{Line}
 use Rattle.xc_dance.specs.Links.TweaksBack.{climbed, IsClimb, with_top, with_dlink, climb_costs, untweaked_all, untweak_all_cost, CanUntweakAll}
 use Rattle.xc_dance.specs.Links.Steps.{followed}
 use Rattle.xc_dance.specs.Cost.{cost_of_newest, undo_tweaks_cost}
-use Rattle.xc_dance.specs.Links.Cells.{slot_of, link_at, fixed_up, fixed_down, top_in, ulink_in, dlink_in, color_in, nodes_from, nodes_after, line_of}
+use Rattle.xc_dance.specs.Links.Cells.{fixed_down, top_in, ulink_in, dlink_in, color_in, nodes_from, nodes_after, line_of}
 use Rattle.xc_dance.specs.Links.Laid.{IsLaid}
 use Rattle.xc_dance.specs.Links.Made.{IsFitted}
 use Rattle.xc_dance.proofs.LinkedTables.Mapped.{map_same}
@@ -89,7 +89,7 @@ abbrev lowered : Line → ℕ → Line
 lowered l o = record { len = l.len; up = l.up; down = put_at l.down 0 o }
 
 up_kept : (p : Puzzle) (ln : ℕ → Line) (i : ℕ) (l : Line) (n : Node) → ((x : ℕ) → l.up x ≡ (ln i).up x) → ulink_in p (with_line ln i l) n ≡ ulink_in p ln n
-up_kept p ln i l n h = grind (arith, common_steps, eqb-true, ℕ)
+up_kept p ln i l n h = grind (arith, common_steps, eqb-true)
 
 lowered_is : (p : Puzzle) (col : Node → ℕ) (ln : ℕ → Line) (i o : ℕ) → IsLaid p → 0 < i → i ≤ item_count p → with_dlink (nodes_from p ln col) i (link_place p i o) ≡ nodes_from p (with_line ln i (lowered (ln i) o)) col
 lowered_is p col ln i o laid pos le =
@@ -186,8 +186,7 @@ by_lines p t spans covered i k o os legal fit pos le opened count costs h =
     let follow : followed t0.dlink k x ≡ map (link_place p i) all =
     ap₂ (followed t0.dlink) (sym count) (sym lead) ∙ climb_follow p t spans i ln0 0 all rest fit pos le among linked down0 in
     let follow' : followed (with_dlink T i x).dlink k x ≡ map (link_place p i) all = ap (λ (u : Nodes). followed u.dlink k x) start ∙ follow in
-    let fold_is : fold (climbed spans covered) (with_dlink T i x) (followed (with_dlink T i x).dlink k x) ≡ nodes_from p cw.end col =
-    ap₂ (λ (u : Nodes) qs. fold (climbed spans covered) u qs) start follow' ∙ cw.done in
+    let fold_is : fold (climbed spans covered) (with_dlink T i x) (followed (with_dlink T i x).dlink k x) ≡ nodes_from p cw.end col = grind (arith, common_steps) in
     let within : i < length (layout p) = slice_get_within (layout p) i (own i) (laid.head i pos le) in
     let top_long : length (map (top_in cw.end) (layout p)) ≡ length (layout p) = length-map (layout p) (top_in cw.end) in
     let down_long : length T.dlink ≡ length (layout p) = length-map (layout p) (dlink_in p lnS) in

@@ -1,5 +1,5 @@
 -- Hide and unhide undo one another.
-use Rattle.std.proofs.Common.{◌≡◌, ◌≢◌, ℕ, zero, suc, ◌+◌, ◌-◌, ◌<◌, Bool, true, false, cond, eqb, List, [], ◌∷◌, get_or, set, reverse, fold, refl, ap, sym, ◌∙◌, arith, length}
+use Rattle.std.proofs.Common.{◌≡◌, ◌≢◌, ℕ, zero, suc, ◌-◌, ◌<◌, Bool, true, false, cond, eqb, List, [], ◌∷◌, get_or, set, reverse, fold, refl, ap, ◌∙◌, arith, length}
 use Rattle.std.proofs.lemmas.Grind.{common_steps}
 use Rattle.std.proofs.lemmas.List.{get_or-set_same, get_or-set_other, set-set, set-get_or, reverse-append}
 use Rattle.std.proofs.lemmas.List.Sums.{fold-append}
@@ -20,7 +20,7 @@ written_back xs i j v w e h = grind (arith, common_steps, set-get_or, set-set)
 
 -- tables with the same columns are the same
 pub same_nodes : (s t : Nodes) → s.top ≡ t.top → s.ulink ≡ t.ulink → s.dlink ≡ t.dlink → s.color ≡ t.color → s ≡ t
-same_nodes s t a b c d = grind (arith, common_steps, ℕ)
+same_nodes s t a b c d = grind (arith, common_steps)
 
 -- node q stands in its list: its neighbours name it, and its list counts it
 pub record IsLinked (t : Nodes) (q : ℕ) : Type 0 where
@@ -32,7 +32,7 @@ pub record IsLinked (t : Nodes) (q : ℕ) : Type 0 where
 
 -- a node that left its list goes back to where it was
 pub relinked-unlinked : (t : Nodes) (q : ℕ) → IsLinked t q → relinked (unlinked t q) q ≡ t
-relinked-unlinked t q h = grind (arith, common_steps, get_or-set_kept, get_or-set_other, get_or-set_same, same_nodes, written_back, ℕ)
+relinked-unlinked t q h = grind (arith, common_steps, get_or-set_kept, get_or-set_other, get_or-set_same, same_nodes, written_back)
 
 -- a marked node is passed over
 pub hidden-marked : (t : Nodes) (q : ℕ) → eqb (get_or t.color q 0) 4294967295 ≡ true → hidden t q ≡ t

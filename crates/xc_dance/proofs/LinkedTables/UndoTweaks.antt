@@ -175,7 +175,7 @@ read {p = p} {s = s} {j = j} f node nodes_are items_are at = grind (arith, commo
 -- so the code may undo them at once
 pub undoes : {p : Puzzle} {s t : List Move} {spans spans' : List Span} {i k : ℕ} {xs : List ℕ} {nodes : Nodes} {items : Items} {x j : ℕ} {covered : Bool} → IsRead p s t spans i k xs nodes items x j → spans' ≡ spans → covered ≡ is_off items j
     → Undoes spans' covered nodes j x k (nodes_after p t) (undo_tweaks_cost k p s)
-undoes {p} {s} {t} {spans} {spans'} {i} {k} {xs} {nodes} {items} {x} {j} {covered} r a b = grind (arith, common_steps, ℕ)
+undoes {p} {s} {t} {spans} {spans'} {i} {k} {xs} {nodes} {items} {x} {j} {covered} r a b = grind (arith, common_steps)
 
 pub trail_left : (xs ys : List Move) (n k : ℕ) → ys ≡ take (n - k) xs → n ≡ length xs → k ≤ length (reverse xs) → reverse ys ≡ drop k (reverse xs)
 trail_left xs ys n k e long h = ap reverse (e ∙ ap (λ m. take (m - k) xs) long) ∙ turned_drop xs k (let d = length-reverse xs in omega (arith, h, d))

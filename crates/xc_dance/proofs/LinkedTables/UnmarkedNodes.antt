@@ -1,5 +1,5 @@
 -- Where no use has a colour no node of an option is marked, and no walk marks one.
-use Rattle.std.proofs.Common.{◌≡◌, ◌≢◌, ℕ, zero, suc, ◌-◌, ◌<◌, ◌≤◌, Bool, true, false, cond, ◌&&◌, eqb, ltb, List, [], ◌∷◌, length, map, fold, reverse, get_or, Option, Some, None, refl, ap, sym, subst, ◌∙◌, arith, ltb-true, ltb-false, eqb-true, ne_eqb}
+use Rattle.std.proofs.Common.{◌≡◌, ◌≢◌, ℕ, zero, suc, ◌-◌, ◌<◌, ◌≤◌, Bool, true, false, cond, eqb, ltb, List, [], ◌∷◌, length, map, fold, reverse, get_or, Option, Some, None, refl, ap, sym, subst, ◌∙◌, arith, ltb-true, ltb-false, eqb-true, ne_eqb}
 use Rattle.std.proofs.lemmas.Grind.{common_steps}
 use Rattle.std.specs.Prelude.{slice_get, is_some}
 use Rattle.std.specs.List.{AllByRecursion}
@@ -12,8 +12,8 @@ use Rattle.xc_dance.specs.declared.dance.Move.{Move}
 use Rattle.xc_dance.specs.declared.dance.Move.TheVariants.{Purify}
 use Rattle.xc_dance.specs.declared.links.nodes.Nodes.{Nodes}
 use Rattle.xc_dance.specs.Links.Span.{Span}
-use Rattle.xc_dance.specs.Moves.{AreLegal, listed_numbers}
-use Rattle.xc_dance.specs.Fields.{Node, unused, own, used, layout, spacer_place, is_in, is_marked}
+use Rattle.xc_dance.specs.Moves.{AreLegal}
+use Rattle.xc_dance.specs.Fields.{Node, unused, own, used, layout, spacer_place, is_marked}
 use Rattle.xc_dance.specs.Links.Cells.{color_in, nodes_after}
 use Rattle.xc_dance.specs.Links.Laid.{IsLaid}
 use Rattle.xc_dance.specs.Links.Made.{IsFitted}
@@ -50,8 +50,7 @@ no_color p t q (own i) laid legal plain gt e =
     absurd (omega (arith, at, r.1, gt))
 no_color p t q (used o u) laid legal plain gt e =
     let none : u.colour ≡ 0 = no_colour (uses_of p o) u.item u.colour (plain o) (laid.nodes.coloured q o u e) in
-    ap (λ c. cond (is_marked p t u.item o c) 4294967295 c) none
-    ∙ ap (λ b. cond b 4294967295 0) (never_marked p t u.item o legal)
+    grind (arith, common_steps, never_marked)
 no_color p t q _ laid legal plain gt e = refl
 
 past_end : (f : Node → ℕ) (ns : List Node) (q : ℕ) → length ns ≤ q → get_or (map f ns) q 0 ≡ 0

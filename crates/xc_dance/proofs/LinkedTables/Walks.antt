@@ -64,16 +64,8 @@ pub tells : {step : Nodes → ℕ → Nodes} {writes : Nodes → ℕ → ℕ} {C
 tells {step} {writes} {Can} {t0} {all} {t} {left} {n} q z knows met on spacer h =
     let u : Nodes = fold step t0 all in
     elim (eqb q z) as (λ b. eqb q z ≡ b → Tells t u q z left) [
-      | true ↦ λ e.
-          let same = eqb-true q z e in
-          let none = met same in
-          let is : t ≡ u = (steps_end none h).done in
-          let here : IsSpacer t q = subst (IsSpacer t) (sym same) (subst (λ (v : Nodes). IsSpacer v z) (sym is) spacer) in
-          record { within = here.place; low = λ l. absurd (omega (arith, l, here.top)); at = λ l. same; none = λ l. none; is = λ l. is }
-      | false ↦ λ e.
-          let next = on (eqb-false q z e) in
-          let can = knows t q (step_can q next.0 next.1 h) in
-          record { within = can.0; low = λ l. eqb-false q z e; at = λ l. absurd (omega (arith, l, can.1)); none = λ l. absurd (omega (arith, l, can.1)); is = λ l. absurd (omega (arith, l, can.1)) }
+      | true ↦ λ e. grind (arith, common_steps, eqb-true, steps_end)
+      | false ↦ λ e. grind (arith, common_steps, eqb-false, step_can)
     ] refl
 
 -- ---- along links
@@ -110,8 +102,7 @@ follow_on {step} {writes} {Can} {links} {t0} {all} {t} {p} {k} {n} u q m lt is t
     let next : q ≡ get_or (links (step t p)) p 0 = to ∙ ap (λ (v : Nodes). get_or (links v) p 0) is in
     let whole : costs step writes t (drop k all) ≡ writes t p + costs step writes (step t p) rest = ap (costs step writes t) here.first in
     let cost = h.cost in
-    subst (λ (v : Nodes). Following step writes Can links t0 all v q (k + 1) (n + m)) (sym is)
-    (record { walk = subst (λ x. CanFollow step Can links (step t p) x rest) (sym next) here.next; done = sym (ap (fold step t) here.first) ∙ h.done; cost = omega (arith, whole, cost, paid) })
+    grind (arith, common_steps)
 
 pub follow_end : {step : Nodes → ℕ → Nodes} {writes : Nodes → ℕ → ℕ} {Can : Nodes → ℕ → Type 0} {links : Nodes → List ℕ} {t0 : Nodes} {all : List ℕ} {t : Nodes} {p k n : ℕ} → length all ≤ k → Following step writes Can links t0 all t p k n → Reached step writes t0 all t n
 follow_end {step} {writes} {Can} {links} {t0} {all} {t} {p} {k} {n} le h = grind (arith, common_steps, drop_all)

@@ -1,5 +1,5 @@
 -- The lists before any move, filled option by option.
-use Rattle.std.proofs.Common.{ℕ, zero, suc, ◌≡◌, ◌≢◌, ◌+◌, ◌<◌, Bool, true, false, cond, eqb, List, [], ◌∷◌, ◌++◌, length, get_or, set, map, take, replicate, refl, ap, ap₂, sym, ◌∙◌, arith, subst}
+use Rattle.std.proofs.Common.{ℕ, zero, suc, ◌≡◌, ◌≢◌, ◌+◌, ◌<◌, Bool, true, false, cond, eqb, List, [], ◌∷◌, ◌++◌, length, get_or, set, map, take, replicate, refl, ap, ap₂, sym, ◌∙◌, arith}
 use Rattle.std.proofs.lemmas.Grind.{common_steps}
 use Rattle.std.specs.Prelude.{AllPairs}
 use Rattle.std.specs.List.{range_with_len}
@@ -8,7 +8,7 @@ use Rattle.std.proofs.lemmas.List.{length-take-le, get_or-take, get_or_default, 
 use Rattle.std.proofs.lemmas.List.Folds.{list_any_none}
 use Rattle.std.proofs.lemmas.List.Elements.{filter-append}
 use Rattle.xc_input.specs.declared.problem.Use.{Use}
-use Rattle.xc_input.specs.Problem.{Puzzle, Numbered, numbered_from, item_count, holds, holding}
+use Rattle.xc_input.specs.Problem.{Puzzle, Numbered, numbered_from, item_count, holding}
 use Rattle.xc_dance.specs.Lists.Taking.{list_at}
 use Rattle.xc_dance.specs.Lists.Losing.{enlisted_from, enlisted, has_use, lists_before}
 use Rattle.xc_dance.specs.declared.dance.Move.{Move}
@@ -31,10 +31,7 @@ enlisted_above us u o n (l ∷ ls) lt = grind (arith, common_steps, has_use_othe
 pub enlisted_more : (us : List Use) (u : Use) (o n k : ℕ) (ls : List (List ℕ)) → n + k ≡ u.item → has_use us u.item ≡ false → k < length ls →
     set (enlisted_from us o n ls) k (list_at (enlisted_from us o n ls) k ++ o ∷ []) ≡ enlisted_from (us ++ u ∷ []) o n ls
 enlisted_more us u o n k [] e new lt = refl
-enlisted_more us u o n zero (l ∷ ls) e new lt =
-    let same : u.item ≡ n = omega (arith, e) in
-    let none : has_use us n ≡ false = subst (λ i. has_use us i ≡ false) same new in
-    ap₂ (λ k ks. k ∷ ks) (rw (none, has_use_here us u n same) refl) (enlisted_above us u o (n + 1) ls (omega (arith, same)))
+enlisted_more us u o n zero (l ∷ ls) e new lt = grind (arith, common_steps, enlisted_above, has_use_here)
 enlisted_more us u o n (suc k) (l ∷ ls) e new lt =
     let other : u.item ≢ n = omega (arith, e) in
     ap₂ (λ k ks. k ∷ ks) (ap (λ b. cond b (l ++ o ∷ []) l) (sym (has_use_other us u n other))) (enlisted_more us u o (n + 1) k ls (omega (arith, e)) new (omega (arith, lt)))

@@ -1,7 +1,7 @@
 -- Lists that lose an option use by use, and options one by one.
-use Rattle.std.proofs.Common.{ℕ, zero, suc, ◌≡◌, ◌≢◌, ◌+◌, ◌-◌, ◌<◌, ◌≤◌, Bool, true, false, not, cond, eqb, ◌&&◌, ◌||◌, List, [], ◌∷◌, ◌++◌, length, get_or, set, Option, Some, None, refl, ap, ap₂, sym, ◌∙◌, arith, subst, eq-eqb, eqb-true}
+use Rattle.std.proofs.Common.{ℕ, zero, suc, ◌≡◌, ◌≢◌, ◌+◌, ◌-◌, ◌<◌, ◌≤◌, Bool, true, false, not, cond, eqb, ◌&&◌, ◌||◌, List, [], ◌∷◌, ◌++◌, length, get_or, set, refl, ap, ap₂, sym, ◌∙◌, arith, eq-eqb, eqb-true}
 use Rattle.std.proofs.lemmas.Grind.{common_steps}
-use Rattle.std.specs.Prelude.{IsTrue, unwrap_or}
+use Rattle.std.specs.Prelude.{IsTrue}
 use Rattle.std.specs.List.{list_any}
 use Rattle.std.proofs.lemmas.Bool.{ne_eqb}
 use Rattle.std.proofs.lemmas.List.Folds.{list_any-append}
@@ -9,7 +9,7 @@ use Rattle.std.proofs.lemmas.List.Elements.{All-filter, filter_agree}
 use Rattle.std.proofs.lemmas.Option.{slice_get_within}
 use Rattle.std.proofs.Math.Bool.{and-false, or-false, or-true, and_self}
 use Rattle.xc_input.specs.declared.problem.Use.{Use}
-use Rattle.xc_input.specs.Problem.{Puzzle, uses_of, numbered_get, option_count}
+use Rattle.xc_input.specs.Problem.{Puzzle, uses_of, option_count}
 use Rattle.xc_dance.specs.declared.dance.Move.{Move}
 use Rattle.xc_dance.specs.Moves.{is_open}
 use Rattle.xc_dance.specs.Lists.Taking.{less, list_at}
@@ -48,7 +48,7 @@ less_unused p i o l h none = less-absent o l (λ k lt e. (let used = h.1 k 0 lt 
 
 -- an option that has a use is one of the problem
 pub known_option : (p : Puzzle) (o i : ℕ) → has_use (uses_of p o) i ≡ true → (1 ≤ o) × (o ≤ option_count p)
-known_option p o i used = grind (arith, common_steps, slice_get_within, ℕ)
+known_option p o i used = grind (arith, common_steps, slice_get_within)
 
 -- ---- all lists
 
@@ -129,12 +129,7 @@ hidden_above t j us u o n (l ∷ ls) lt = grind (arith, common_steps, has_use_ot
 pub hidden_more : (t : List Move) (j : ℕ) (us : List Use) (u : Use) (o n k : ℕ) (ls : List (List ℕ)) → n + k ≡ u.item → (not (eqb u.item j) && is_open u.item t) ≡ true →
     set (hidden_from t j us o n ls) k (less (o ∷ []) (list_at (hidden_from t j us o n ls) k)) ≡ hidden_from t j (us ++ u ∷ []) o n ls
 hidden_more t j us u o n k [] e c = refl
-hidden_more t j us u o n zero (l ∷ ls) e c =
-    let same : u.item ≡ n = omega (arith, e) in
-    let open_here : (not (eqb n j) && is_open n t) ≡ true = subst (λ i. (not (eqb i j) && is_open i t) ≡ true) same c in
-    ap₂ (λ k ks. k ∷ ks)
-    (rw (open_here, has_use_here us u n same) (elim (has_use us n) as (λ b. less (o ∷ []) (cond b (less (o ∷ []) l) l) ≡ less (o ∷ []) l) [ true ↦ less_less o l | false ↦ refl ]))
-    (hidden_above t j us u o (n + 1) ls (omega (arith, same)))
+hidden_more t j us u o n zero (l ∷ ls) e c = grind (arith, common_steps, has_use_here, hidden_above, less_less)
 hidden_more t j us u o n (suc k) (l ∷ ls) e c =
     let other : u.item ≢ n = omega (arith, e) in
     ap₂ (λ k ks. k ∷ ks) (ap (λ b. cond ((not (eqb n j) && is_open n t) && b) (less (o ∷ []) l) l) (sym (has_use_other us u n other))) (hidden_more t j us u o (n + 1) k ls (omega (arith, e)) c)

@@ -1,5 +1,5 @@
 -- A number that is taken out of a list that rises, and put back.
-use Rattle.std.proofs.Common.{ℕ, zero, suc, ◌≡◌, ◌≢◌, ◌+◌, ◌<◌, ◌≤◌, Bool, true, false, eqb, ltb, ltb-true, ltb-false, List, [], ◌∷◌, length, get_or, set, refl, ap, ap₂, sym, ◌∙◌, arith, subst, eq-eqb, ne_eqb, vec_capacity, sum_by}
+use Rattle.std.proofs.Common.{ℕ, zero, suc, ◌≡◌, ◌≢◌, ◌+◌, ◌<◌, ◌≤◌, Bool, true, false, eqb, ltb, ltb-true, ltb-false, List, [], ◌∷◌, length, get_or, set, refl, ap, sym, arith, eq-eqb, ne_eqb, vec_capacity, sum_by}
 use Rattle.std.proofs.lemmas.Grind.{common_steps}
 use Rattle.std.specs.List.{insert, remove}
 use Rattle.std.specs.Global.{Vec}
@@ -31,9 +31,7 @@ above n (y ∷ ys) (suc k) r lt = let later = above y ys k r.1 (omega (arith, lt
 -- the number goes from its place
 pub less-remove : (n : ℕ) (xs : List ℕ) (k : ℕ) → Rises n xs → k < length xs → less (get_or xs k 0 ∷ []) xs ≡ remove xs k
 less-remove n [] k r lt = absurd (omega (arith, lt))
-less-remove n (y ∷ ys) zero r lt =
-    let here : eqb y y ≡ true = eq-eqb y y refl in
-    rw here (less-below y y ys (omega arith) r.1)
+less-remove n (y ∷ ys) zero r lt = grind (arith, common_steps, eq-eqb, less-below)
 less-remove n (y ∷ ys) (suc k) r lt =
     let x = get_or ys k 0 in
     let behind : y < x = above y ys k r.1 (omega (arith, lt)) in
@@ -80,14 +78,14 @@ room_at ls k d lt = get_or-map (λ (l : Vec ℕ). vec_capacity l) ls k d 0 lt
 pub removed : (rooms : List ℕ) (ls : List (List ℕ)) (list place number : ℕ) → list < length ls → place < length (list_at ls list) →
     get_or (list_at ls list) place 0 ≡ number → length (list_at ls list) ≤ get_or rooms list 0 →
     IsPutBack rooms (record { place = place; list = list; number = number }) (set ls list (remove (list_at ls list) place)) ls
-removed rooms ls list place number lt within is fits = grind (arith, common_steps, get_or-set_same, insert-remove, length-remove, length-set, set-get_or, set-set, ℕ)
+removed rooms ls list place number lt within is fits = grind (arith, common_steps, get_or-set_same, insert-remove, length-remove, length-set, set-get_or, set-set)
 
 -- as a vector's row is changed
 pub row_removed : (ls : List (Vec ℕ)) (new : Vec ℕ) (list place number : ℕ) (row : Vec ℕ) → list < length ls → row ≡ get_or ls list row →
     place < length row.items → get_or row.items place 0 ≡ number → new.items ≡ remove row.items place → length row.items ≤ vec_capacity row →
     IsPutBack (rooms_of ls) (record { place = place; list = list; number = number }) (numbers_of (set ls list new)) (numbers_of ls)
-row_removed ls new list place number row lt is_row within is gone fits = grind (arith, common_steps, length-map, list_at-numbers_of, numbers_of-set, removed, room_at, vec_capacity, ℕ)
+row_removed ls new list place number row lt is_row within is gone fits = grind (arith, common_steps, length-map, list_at-numbers_of, numbers_of-set, removed, room_at)
 
 -- there is one number more after one was put back
 pub sum-put_back : (rooms : List ℕ) (e : Removed) (ls : List (List ℕ)) → HasRoom rooms e ls → sum_by length (put_back e ls) ≡ sum_by length ls + 1
-sum-put_back rooms e ls h = grind (arith, common_steps, length-insert, sum_by-set, ℕ)
+sum-put_back rooms e ls h = grind (arith, common_steps, length-insert, sum_by-set)

@@ -1,5 +1,5 @@
 -- Members of lists of numbers: lists that rise and have the same members are the same.
-use Rattle.std.proofs.Common.{◌≡◌, ◌≢◌, ℕ, ◌≤◌, Bool, true, false, cond, ◌&&◌, ◌||◌, eqb, List, [], ◌∷◌, filter, refl, ap, ap₂, sym, subst, ◌∙◌, arith, eqb-true}
+use Rattle.std.proofs.Common.{◌≡◌, ◌≢◌, ℕ, ◌≤◌, Bool, true, false, ◌&&◌, ◌||◌, eqb, List, [], ◌∷◌, filter, refl, ap, ap₂, sym, subst, ◌∙◌, arith, eqb-true}
 use Rattle.std.proofs.lemmas.Grind.{common_steps}
 use Rattle.std.specs.List.{AllByRecursion}
 use Rattle.std.proofs.lemmas.Bool.{eqb-false, false≢true}
@@ -42,12 +42,8 @@ same_members n (x ∷ xs) (y ∷ ys) r s h =
     ap₂ (λ k ks. k ∷ ks) same
     (same_members x xs ys r.1 (subst (λ k. Rises k ys) (sym same) s.1) (λ z.
     elim (eqb x z) as (λ b. eqb x z ≡ b → is_in z xs ≡ is_in z ys) [
-      | true ↦ λ e.
-          let at : x ≡ z = eqb-true x z e in
-          not_in x z xs (omega (arith, at)) r.1 ∙ sym (not_in y z ys (omega (arith, at, same)) s.1)
-      | false ↦ λ e.
-          let ne : x ≢ z = eqb-false x z e in
-          sym (is_in-other x z xs ne) ∙ h z ∙ is_in-other y z ys (λ f. ne (same ∙ f))
+      | true ↦ λ e. grind (arith, common_steps, eqb-true, not_in)
+      | false ↦ λ e. grind (arith, common_steps, eqb-false, is_in-other)
     ] refl))
 
 -- nothing passes

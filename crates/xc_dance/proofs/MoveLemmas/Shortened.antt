@@ -8,11 +8,11 @@ use Rattle.std.proofs.Math.Bool.{not-not}
 use Rattle.std.proofs.lemmas.List.FromFn.{length-map-range_with_len, get_or-map-range_with_len}
 use Rattle.std.proofs.lemmas.List.Elements.{All-nil, All-cons}
 use Rattle.xc_input.specs.declared.problem.Use.{Use}
-use Rattle.xc_input.specs.Problem.{Puzzle, Numbered, uses_of, numbered_from, numbered_options, item_count, holds, colour_in}
+use Rattle.xc_input.specs.Problem.{Puzzle, Numbered, uses_of, numbered_from, item_count, holds, colour_in}
 use Rattle.xc_input.proofs.EachElement.{each-filter}
 use Rattle.xc_dance.specs.declared.dance.Move.{Move}
 use Rattle.xc_dance.specs.declared.dance.Move.TheVariants.{Cover, Purify, Tweak, Spend}
-use Rattle.xc_dance.specs.Moves.{is_open, is_among, without, other_colours, is_other_colour, listed, listed_numbers}
+use Rattle.xc_dance.specs.Moves.{is_open, is_among, without, other_colours, listed, listed_numbers}
 use Rattle.xc_dance.specs.Rising.{Rises}
 use Rattle.xc_dance.specs.Lists.Taking.{less, list_at}
 use Rattle.xc_dance.specs.Lists.Losing.{lose_from, lose, has_use, is_kept, AreListsFrom, AreLists, lists_after}
@@ -51,10 +51,7 @@ first_holders p i n (us ∷ os) m e at =
     let rest = first_holders p i (n + 1) os (suc m) (omega (arith, e)) here.1 in
     let known : uses_of p n ≡ us = rw e (ap (λ o. unwrap_or o []) here.0) in
     let x : Numbered = record { number = n; uses = us } in
-    elim (holds x i) as (λ b. holds x i ≡ b → AllByRecursion (IsHolder p i) (cond b (x ∷ filter (λ o. holds o i) (numbered_from (n + 1) os)) (filter (λ o. holds o i) (numbered_from (n + 1) os)))) [
-      | true ↦ λ q. ((known, sym (holds_use us i) ∙ q), rest)
-      | false ↦ λ q. rest
-    ] refl
+    grind (arith, common_steps, holds_use)
 
 pub holders : (p : Puzzle) (t : List Move) (i : ℕ) → AllByRecursion (IsHolder p i) (listed p t i)
 holders p [] i = first_holders p i 1 p.options zero refl refl
@@ -159,9 +156,7 @@ same_range f g a (suc n) h = ap₂ (λ l ls. l ∷ ls) (h a (omega arith)) (same
 
 set_range : (f g : ℕ → List ℕ) (a n k : ℕ) (v : List ℕ) → ((i : ℕ) → i ≢ a + k → f i ≡ g i) → v ≡ g (a + k) → set (map f (range_with_len a n)) k v ≡ map g (range_with_len a n)
 set_range f g a zero k v h e = refl
-set_range f g a (suc n) zero v h e =
-    let at : a + 0 ≡ a = omega arith in
-    ap₂ (λ l ls. l ∷ ls) (e ∙ ap g at) (same_range f g (a + 1) n (λ i le. h i (omega (arith, le))))
+set_range f g a (suc n) zero v h e = grind (arith, common_steps, same_range)
 set_range f g a (suc n) (suc k) v h e =
     let at : a + suc k ≡ (a + 1) + k = omega arith in
     ap₂ (λ l ls. l ∷ ls) (h a (omega arith)) (set_range f g (a + 1) n k v (λ i ne. h i (omega (arith, ne))) (e ∙ ap g at))

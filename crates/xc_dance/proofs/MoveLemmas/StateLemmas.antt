@@ -1,5 +1,5 @@
 -- The states of items after moves.
-use Rattle.std.proofs.Common.{ℕ, zero, suc, ◌≡◌, ◌≢◌, ◌+◌, ◌-◌, ◌<◌, ◌≤◌, Bool, true, false, not, cond, ◌&&◌, ◌||◌, eqb, List, [], ◌∷◌, length, Some, None, refl, ap, sym, set, get_or, ltb, ltb-true, ltb-false, ◌∙◌, arith, eqb-true, eq-eqb}
+use Rattle.std.proofs.Common.{ℕ, zero, suc, ◌≡◌, ◌≢◌, ◌+◌, ◌-◌, ◌<◌, ◌≤◌, Bool, true, false, not, cond, ◌&&◌, eqb, List, [], ◌∷◌, Some, None, refl, ap, sym, set, get_or, ltb, ltb-true, ltb-false, ◌∙◌, arith, eqb-true, eq-eqb}
 use Rattle.std.proofs.lemmas.Grind.{common_steps}
 use Rattle.std.proofs.lemmas.List.{length-set, get_or-set_same, get_or-set_other, get_or_default}
 use Rattle.std.specs.Prelude.{Option, is_some, unwrap_or, filter}
@@ -58,7 +58,7 @@ open_or_covered i t e = sym (open_is t i) ∙ ap (λ o. not (is_covered i t) && 
 -- one item gets another state
 pub set_state : (p : Puzzle) (t u : List Move) (states : List ItemState) (i : ℕ) (s : ItemState) → AreStates p t states → 1 ≤ i → i ≤ item_count p →
     ((k : ℕ) → k + 1 ≢ i → state_of (k + 1) t ≡ state_of (k + 1) u) → state_of i u ≡ s → AreStates p u (set states (i - 1) s)
-set_state p t u states i s are low high others here = grind (arith, common_steps, eq-eqb, eqb-true, get_or-set_other, get_or-set_same, length-set, ℕ)
+set_state p t u states i s are low high others here = grind (arith, common_steps, eq-eqb, eqb-true, get_or-set_other, get_or-set_same, length-set)
 
 -- what was read at the item's place is its state
 pub state_at : (p : Puzzle) (t : List Move) (states : List ItemState) (i : ℕ) (r : ItemState) → AreStates p t states → 1 ≤ i → i ≤ item_count p → r ≡ get_or states (i - 1) r → state_of i t ≡ r

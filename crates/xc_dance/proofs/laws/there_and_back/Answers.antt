@@ -1,10 +1,7 @@
-use Rattle.std.proofs.Common.{◌≡◌, ℕ, ◌+◌, ap, ◌∙◌, arith}
+use Rattle.std.proofs.Common.{arith}
 use Rattle.std.proofs.lemmas.Grind.{common_steps}
-use Rattle.xc_dance.specs.declared.dance.Count.{Count}
-use Rattle.xc_dance.specs.Linked.{Linked}
-use Rattle.xc_dance.specs.Cost.{cost_of, cost_of_newest}
 use Rattle.xc_dance.proofs.LinkedTables.Kept.{none_newest}
 use Rattle.xc_dance.proofs.laws.there_and_back.Goals as goal
 
 pub returns-clause-cost : goal.returns-clause-cost
-returns-clause-cost c = grind (arith, common_steps, none_newest, ℕ)
+returns-clause-cost c = grind (arith, common_steps, none_newest)

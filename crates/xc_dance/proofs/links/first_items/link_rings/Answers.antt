@@ -1,9 +1,5 @@
-use Rattle.std.proofs.Common.{arith, ◌<◌, ◌+◌, ◌∙◌, ap, set, length, []}
+use Rattle.std.proofs.Common.{arith}
 use Rattle.std.proofs.lemmas.Grind.{common_steps}
-use Rattle.xc_input.specs.Problem.{item_count}
-use Rattle.xc_dance.specs.declared.links.items.Items.{Items}
-use Rattle.xc_dance.specs.Links.ItemCells.{llink_at, rlink_at}
-use Rattle.xc_dance.specs.Links.FirstItems.{linked_to}
 use Rattle.xc_dance.proofs.LinkedTables.FirstItemTable.{column_len, column_more}
 use Rattle.xc_dance.proofs.links.first_items.link_rings.Goals as goal
 use Rattle.xc_dance.proofs.LinkedTables.RingStep.{same_items}

@@ -1,11 +1,8 @@
-use Rattle.std.proofs.Common.{arith, ◌<◌, ◌+◌, ◌-◌, ◌≡◌, ◌∙◌, sym, ap, ap₂, set, length, []}
+use Rattle.std.proofs.Common.{arith, ◌+◌, ◌-◌, ◌≡◌, sym, ap}
 use Rattle.std.proofs.lemmas.Grind.{common_steps}
-use Rattle.xc_input.specs.Problem.{Bounds, primary_count, bounds_at, high_at, low_at}
+use Rattle.xc_input.specs.Problem.{Bounds, bounds_at, high_at, low_at}
 use Rattle.xc_input.specs.Flat.{bounds_of}
 use Rattle.std.specs.Prelude.{Option, Some, unwrap_or}
-use Rattle.xc_dance.specs.declared.links.items.Items.{Items}
-use Rattle.xc_dance.specs.Links.ItemCells.{bound_at, slack_at}
-use Rattle.xc_dance.specs.Links.FirstItems.{bound_to}
 use Rattle.xc_dance.proofs.LinkedTables.FirstItemTable.{column_len, column_more, bound_is, slack_is, bounds_set, low_most}
 use Rattle.xc_dance.proofs.links.first_items.set_bounds.Goals as goal
 use Rattle.xc_dance.proofs.links.first_items.set_bounds.Goals.{After-item-item}

@@ -1,6 +1,5 @@
-use Rattle.std.proofs.Common.{arith, ◌<◌, ◌+◌, ◌∙◌, ap, length}
+use Rattle.std.proofs.Common.{arith}
 use Rattle.std.proofs.lemmas.Grind.{common_steps}
-use Rattle.xc_input.specs.Problem.{option_count}
 use Rattle.xc_dance.proofs.LinkedTables.OptionReach.{uses_here}
 use Rattle.xc_dance.proofs.LinkedTables.PlaceLemmas.{option_fits}
 use Rattle.xc_dance.proofs.LinkedTables.LaidNodes.{down_next}

@@ -1,9 +1,5 @@
-use Rattle.std.proofs.Common.{arith, ◌≡◌, ◌≤◌, ◌∙◌, ◌+◌, ◌<◌, ap, sym, length}
+use Rattle.std.proofs.Common.{arith}
 use Rattle.std.proofs.lemmas.Grind.{common_steps}
-use Rattle.xc_input.specs.Problem.{option_count}
-use Rattle.xc_dance.specs.Fields.{layout}
-use Rattle.xc_dance.specs.Links.OptionPlaces.{place_at}
-use Rattle.xc_dance.specs.Links.FirstNodes.{laid_to}
 use Rattle.xc_dance.proofs.LinkedTables.OptionReach.{uses_here}
 use Rattle.xc_dance.proofs.LinkedTables.PlaceLemmas.{place_within, layout_small, layout_len, option_fits}
 use Rattle.xc_dance.proofs.LinkedTables.LaidNodes.{up_next}

@@ -5,7 +5,7 @@ use Rattle.xc_dance.specs.Fields.{used}
 use Rattle.xc_dance.specs.declared.links.nodes.Nodes.{Nodes}
 use Rattle.xc_dance.specs.declared.links.nodes.Row.{Row}
 use Rattle.xc_dance.specs.Links.Steps.{HasSize}
-use Rattle.xc_dance.specs.Links.FirstNodes.{with_row, laid_to}
+use Rattle.xc_dance.specs.Links.FirstNodes.{with_row}
 use Rattle.xc_dance.proofs.LinkedTables.OptionReach.{uses_here}
 use Rattle.xc_dance.proofs.LinkedTables.PlaceLemmas.{use_here, option_fits}
 use Rattle.xc_dance.proofs.LinkedTables.LaidNodes.{laid_size, laid_len, laid_more}

@@ -1,7 +1,6 @@
-use Rattle.std.proofs.Common.{arith, ◌+◌, ◌<◌, ◌++◌, [], ◌∷◌, ◌∙◌, ap, sym}
+use Rattle.std.proofs.Common.{arith, ◌+◌, ◌++◌, [], ◌∷◌, ◌∙◌, ap, sym}
 use Rattle.std.proofs.lemmas.Grind.{common_steps}
 use Rattle.std.proofs.lemmas.List.FromFn.{map-range_with_len_more}
-use Rattle.xc_input.specs.Problem.{option_count}
 use Rattle.xc_dance.specs.Links.OptionPlaces.{start_at}
 use Rattle.xc_dance.proofs.LinkedTables.OptionReach.{uses_here}
 use Rattle.xc_dance.proofs.LinkedTables.PlaceLemmas.{starts_to, OptionFits, option_fits}

@@ -1,6 +1,5 @@
 use Rattle.std.proofs.Common.{◌+◌, arith}
 use Rattle.std.proofs.lemmas.Grind.{common_steps}
-use Rattle.xc_dance.specs.Links.Columns.{columns}
 use Rattle.xc_dance.specs.Links.Steps.{places}
 use Rattle.xc_dance.proofs.LinkedTables.Places.{places_more}
 use Rattle.xc_dance.proofs.LinkedTables.Walks.{step_can, step_on}

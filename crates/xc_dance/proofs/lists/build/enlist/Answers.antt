@@ -1,11 +1,8 @@
-use Rattle.std.proofs.Common.{arith, ◌≡◌, ◌+◌, ◌∙◌, ap, sym, length, get_or, set, take, ℕ, ◌<◌, [], ◌∷◌, ◌++◌, ◌-◌}
+use Rattle.std.proofs.Common.{arith, sym, ◌-◌}
 use Rattle.std.proofs.lemmas.Grind.{common_steps}
-use Rattle.std.specs.Global.{Vec}
 use Rattle.std.proofs.lemmas.List.{length-map, take_more}
-use Rattle.xc_input.specs.declared.problem.Use.{Use}
-use Rattle.xc_dance.specs.Lists.Losing.{enlisted}
 use Rattle.xc_dance.proofs.LiveLists.Removal.{numbers_of-set, list_at-numbers_of}
-use Rattle.xc_dance.specs.Lists.Taking.{numbers_of, list_at}
+use Rattle.xc_dance.specs.Lists.Taking.{numbers_of}
 use Rattle.xc_dance.proofs.LiveLists.Filled.{enlisted_none, enlisted_more, new_use, length-enlisted_from}
 use Rattle.xc_dance.proofs.lists.build.enlist.Goals as goal
 
@@ -13,7 +10,7 @@ pub loop-u-init : goal.loop-u-init
 loop-u-init c = sym (enlisted_none c.args.option 1 (numbers_of c.args.lists.now.items))
 
 pub index_mut-list-requires : goal.index_mut-list-requires
-index_mut-list-requires c = grind (arith, common_steps, length-enlisted_from, length-map, ℕ)
+index_mut-list-requires c = grind (arith, common_steps, length-enlisted_from, length-map)
 
 pub loop-u-preserved : goal.loop-u-preserved
-loop-u-preserved c = grind (arith, common_steps, enlisted_more, length-enlisted_from, length-map, list_at-numbers_of, new_use, numbers_of-set, take_more, ℕ)
+loop-u-preserved c = grind (arith, common_steps, enlisted_more, length-enlisted_from, length-map, list_at-numbers_of, new_use, numbers_of-set, take_more)

@@ -1,8 +1,8 @@
-use Rattle.std.proofs.Common.{arith, ◌∙◌, ap, sym, subst, length, not, filter, List, ℕ, None, Some, ◌∷◌, ◌-◌}
+use Rattle.std.proofs.Common.{arith, ◌∙◌, ap, sym, subst, not, filter, List, ℕ, None, Some, ◌∷◌, ◌-◌}
 use Rattle.std.proofs.lemmas.Grind.{common_steps}
 use Rattle.xc_dance.specs.declared.dance.Move.{Move}
 use Rattle.xc_dance.specs.Lists.Versions.{Versions}
-use Rattle.xc_dance.specs.Moves.{IsLegal, listed}
+use Rattle.xc_dance.specs.Moves.{IsLegal}
 use Rattle.xc_dance.specs.Lists.Taking.{list_at}
 use Rattle.xc_dance.specs.Lists.Losing.{lose, is_kept, AreLists, lists_after}
 use Rattle.xc_dance.proofs.LiveLists.Marks.{same_versions}

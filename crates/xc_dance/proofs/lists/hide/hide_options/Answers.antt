@@ -1,15 +1,13 @@
-use Rattle.std.proofs.Common.{arith, ℕ, ◌≡◌, ◌+◌, ◌-◌, ◌<◌, ◌∙◌, ap, sym, subst, length, get_or, take, List, [], ◌∷◌, ◌++◌, filter, not, cond, refl, ap₂}
+use Rattle.std.proofs.Common.{arith, ℕ, ◌-◌, ◌<◌, ap, length, take, List, filter, not}
 use Rattle.std.proofs.lemmas.Grind.{common_steps}
 use Rattle.std.specs.Prelude.{Option}
-use Rattle.xc_input.specs.Problem.{Puzzle, option_count}
+use Rattle.xc_input.specs.Problem.{Puzzle}
 use Rattle.std.proofs.lemmas.List.{take_more, append-nil}
 use Rattle.std.proofs.lemmas.List.Elements.{filter-append}
-use Rattle.xc_dance.specs.Lists.Versions.{Versions}
 use Rattle.xc_dance.specs.Lists.Taking.{list_at}
-use Rattle.xc_dance.specs.Lists.Losing.{lose, is_kept, AreLists}
+use Rattle.xc_dance.specs.Lists.Losing.{is_kept}
 use Rattle.xc_dance.proofs.LiveLists.OptionsLost.{lose_none, lose_more, length-lose_from, lists-lose_from, read_option}
 use Rattle.xc_dance.proofs.lists.hide.hide_options.Goals as goal
-use Rattle.xc_dance.proofs.lists.hide.hide_options.Goals.{then-not-keeps, else-not-keeps}
 
 abbrev gone : Puzzle → ℕ → Option ℕ → List ℕ → List ℕ
 gone p i kept os = filter (λ o. not (is_kept p i kept o)) os
@@ -36,7 +34,7 @@ pub hide-requires-clause-option : goal.hide-requires-clause-option
 hide-requires-clause-option c = grind (arith, common_steps, read_option)
 
 pub hide-requires-clause-lists : goal.hide-requires-clause-lists
-hide-requires-clause-lists c = grind (arith, common_steps, length-lose_from, lists-lose_from, ℕ)
+hide-requires-clause-lists c = grind (arith, common_steps, length-lose_from, lists-lose_from)
 
 pub loop-at-preserved : goal.loop-at-preserved
 loop-at-preserved c = grind (arith, common_steps, append-nil, filter-append, lose_more, read_option, take_more)

@@ -1,10 +1,9 @@
-use Rattle.std.proofs.Common.{arith, ◌≡◌, ◌+◌, ◌∙◌, ap, sym, subst, length, get_or, set, List, ℕ, ◌<◌, [], ◌∷◌, ◌-◌}
+use Rattle.std.proofs.Common.{arith, ◌≡◌, ◌+◌, ◌∙◌, ap, sym, subst, length, get_or, List, ℕ, ◌<◌, ◌-◌}
 use Rattle.std.proofs.lemmas.Grind.{common_steps}
 use Rattle.xc_dance.specs.Lists.Versions.{Versions}
-use Rattle.xc_dance.specs.Moves.{listed}
 use Rattle.xc_dance.specs.Rising.{Rises}
-use Rattle.xc_dance.specs.Lists.Taking.{list_at, less}
-use Rattle.xc_dance.specs.Lists.Losing.{AreLists, lists_after}
+use Rattle.xc_dance.specs.Lists.Taking.{list_at}
+use Rattle.xc_dance.specs.Lists.Losing.{lists_after}
 use Rattle.xc_dance.proofs.LiveLists.Marks.{same_versions}
 use Rattle.xc_dance.proofs.LiveLists.OptionsLost.{list_of, known_option}
 use Rattle.xc_dance.proofs.MoveLemmas.Shortened.{lists_hold, list_after, length_numbers, first_hidden, first_hidden_lists, lists_tweaked}
@@ -22,7 +21,7 @@ hide_if_open-requires-clause-option c =
     rw row (known_option p (get_or (list_at (lists_after p t) (i - 1)) 0 0) (1 + (i - 1)) (list.1 0 0 some))
 
 pub hide_if_open-requires-clause-lists : goal.hide_if_open-requires-clause-lists
-hide_if_open-requires-clause-lists c = grind (arith, common_steps, lists_hold, ℕ)
+hide_if_open-requires-clause-lists c = grind (arith, common_steps, lists_hold)
 
 pub take_out-requires-clause-list : goal.take_out-requires-clause-list
 take_out-requires-clause-list c =

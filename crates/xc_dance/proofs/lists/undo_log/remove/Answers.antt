@@ -1,15 +1,14 @@
-use Rattle.std.proofs.Common.{arith, ◌≡◌, ◌<◌, ◌∙◌, ap, sym, set, length, get_or, vec_capacity, [], ◌∷◌}
+use Rattle.std.proofs.Common.{arith, ◌≡◌}
 use Rattle.std.proofs.lemmas.Grind.{common_steps}
 use Rattle.std.specs.List.{remove}
 use Rattle.xc_dance.proofs.LiveLists.Removal.{numbers_of-set, list_at-numbers_of, rooms_of-set, less-remove, row_removed}
-use Rattle.xc_dance.specs.Lists.Taking.{numbers_of, list_at, less}
 use Rattle.xc_dance.proofs.lists.undo_log.remove.Goals as goal
 
 pub returns-clause-lists : goal.returns-clause-lists
 returns-clause-lists c = grind (arith, common_steps, less-remove, list_at-numbers_of, numbers_of-set)
 
 pub returns-clause-rooms : goal.returns-clause-rooms
-returns-clause-rooms c = grind (arith, common_steps, rooms_of-set, vec_capacity)
+returns-clause-rooms c = grind (arith, common_steps, rooms_of-set)
 
 pub returns-clause-back : goal.returns-clause-back
 returns-clause-back c =

@@ -1,8 +1,7 @@
-use Rattle.std.proofs.Common.{arith, ◌≤◌, ◌∙◌, sym, length, reverse}
+use Rattle.std.proofs.Common.{arith}
 use Rattle.std.proofs.lemmas.Grind.{common_steps}
 use Rattle.std.proofs.lemmas.List.{length-reverse}
 use Rattle.xc_dance.proofs.LiveLists.Marks.{restored_at}
-use Rattle.xc_dance.specs.Lists.Taking.{numbers_of}
 use Rattle.xc_dance.proofs.lists.undo_log.restore.Goals as goal
 
 pub returns-clause-lists : goal.returns-clause-lists

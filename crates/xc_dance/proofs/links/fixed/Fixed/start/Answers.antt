@@ -1,8 +1,6 @@
-use Rattle.std.proofs.Common.{arith, ◌-◌, ◌<◌, ap, ◌∙◌, length, get_or}
+use Rattle.std.proofs.Common.{arith, ◌-◌}
 use Rattle.std.proofs.lemmas.Grind.{common_steps}
 use Rattle.std.proofs.lemmas.List.FromFn.{get_or-map-range_with_len, length-map-range_with_len}
-use Rattle.xc_input.specs.Problem.{Puzzle, option_count}
-use Rattle.xc_dance.specs.Links.OptionPlaces.{start_at}
 use Rattle.xc_dance.proofs.links.fixed.Fixed.start.Goals as goal
 
 pub index-requires : goal.index-requires

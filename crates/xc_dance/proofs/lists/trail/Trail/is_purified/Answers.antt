@@ -1,7 +1,6 @@
 use Rattle.std.proofs.Common.{arith, ◌≡◌, ◌∙◌, ap, sym, reverse}
 use Rattle.std.proofs.lemmas.Grind.{common_steps}
 use Rattle.std.specs.Prelude.{is_some}
-use Rattle.xc_input.specs.Problem.{item_count}
 use Rattle.xc_dance.specs.Dancing.{Dancing}
 use Rattle.xc_dance.specs.Moves.{purified}
 use Rattle.xc_dance.proofs.MoveLemmas.StateLemmas.{state_at, purified_by_state, unpurified_state, is_purified_state}

@@ -1,7 +1,5 @@
-use Rattle.std.proofs.Common.{arith, ◌∙◌, ap, sym}
+use Rattle.std.proofs.Common.{arith}
 use Rattle.std.proofs.lemmas.Grind.{common_steps}
-use Rattle.xc_input.specs.Problem.{primary_count}
-use Rattle.xc_dance.specs.Dancing.{Dancing}
 use Rattle.xc_dance.proofs.MoveLemmas.StateLemmas.{next_open_step, next_open_here, next_open_none}
 use Rattle.xc_dance.proofs.lists.trail.Trail.open_after.Goals as goal
 

@@ -1,11 +1,11 @@
-use Rattle.std.proofs.Common.{arith, ◌≡◌, ◌+◌, ◌∙◌, ap, subst, reverse, [], ◌∷◌, List, ◌<◌, ◌-◌, true, false, eqb, eq-eqb, refl, ◌++◌, ℕ}
+use Rattle.std.proofs.Common.{arith, ◌≡◌, ◌+◌, reverse, [], ◌∷◌, List, ◌-◌, false, eqb, eq-eqb, refl, ◌++◌, ℕ}
 use Rattle.std.proofs.lemmas.Grind.{common_steps}
 use Rattle.std.proofs.lemmas.Grind.{get_or_default_zero}
-use Rattle.xc_input.specs.Problem.{primary_count, Puzzle}
+use Rattle.xc_input.specs.Problem.{Puzzle}
 use Rattle.std.proofs.lemmas.List.{reverse-append}
 use Rattle.std.proofs.lemmas.Bool.{ne_eqb}
 use Rattle.xc_dance.specs.declared.dance.Move.{Move}
-use Rattle.xc_dance.specs.declared.dance.Move.TheVariants.{Cover, Purify, Spend}
+use Rattle.xc_dance.specs.declared.dance.Move.TheVariants.{Cover, Purify}
 use Rattle.xc_dance.specs.declared.lists.item_states.ItemState.TheVariants.{Open}
 use Rattle.xc_dance.specs.Moves.{AreLegal}
 use Rattle.xc_dance.specs.Lists.States.{AreStates, AreLeft}

@@ -1,9 +1,7 @@
-use Rattle.std.proofs.Common.{arith, ◌≡◌, ◌≤◌, ◌∙◌, ap, length, reverse, [], ◌∷◌}
+use Rattle.std.proofs.Common.{arith}
 use Rattle.std.proofs.lemmas.Grind.{common_steps}
 use Rattle.std.proofs.lemmas.List.{length-reverse, reverse-append}
 use Rattle.xc_dance.proofs.LiveLists.Marks.{length-lists_at_marks, marks_new, marks_weaker, same_versions}
-use Rattle.xc_dance.specs.Lists.Taking.{numbers_of, lists_at_marks}
-use Rattle.xc_dance.specs.Lists.Versions.{Versions}
 use Rattle.xc_dance.proofs.lists.undo_log.OptionLists.mark.Goals as goal
 
 pub push_reserved-requires : goal.push_reserved-requires

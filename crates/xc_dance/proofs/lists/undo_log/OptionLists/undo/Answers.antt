@@ -1,9 +1,8 @@
-use Rattle.std.proofs.Common.{arith, ◌≡◌, ◌∙◌, ap, sym, subst, length, reverse, [], ◌∷◌, ℕ, List}
+use Rattle.std.proofs.Common.{arith}
 use Rattle.std.proofs.lemmas.Grind.{common_steps}
 use Rattle.std.proofs.lemmas.List.{length-reverse, reverse-append}
 use Rattle.xc_dance.proofs.LiveLists.Marks.{length-still_taken}
-use Rattle.xc_dance.specs.Lists.Taking.{AreMarks}
 use Rattle.xc_dance.proofs.lists.undo_log.OptionLists.undo.Goals as goal
 
 pub invariant_of-self : goal.invariant_of-self
-invariant_of-self c = grind (arith, common_steps, length-reverse, length-still_taken, reverse-append, ℕ)
+invariant_of-self c = grind (arith, common_steps, length-reverse, length-still_taken, reverse-append)
