@@ -1,22 +1,49 @@
--- The places of the node table: each slot stands at one place.
-use Rattle.std.proofs.Common.{◌≡◌, ◌≢◌, ℕ, zero, suc, ◌+◌, ◌<◌, ◌≤◌, inl, inr, Bool, true, false, cond, ◌&&◌, ◌||◌, eqb, List, [], ◌∷◌, ◌++◌, map, Some, refl, ap, ap₂, sym, subst, ◌∙◌, arith, eqb-true, eq-eqb, ne_eqb}
-use Rattle.std.proofs.lemmas.Grind.{common_steps}
-use Rattle.std.specs.Prelude.{is_some, slice_get, flat_map, unwrap_or}
+-- The options with their numbers, and the places of the node table.
+use Rattle.std.proofs.Common.{◌≡◌, ℕ, zero, suc, ◌+◌, ◌<◌, List, [], ◌∷◌, Some, refl, ap, ◌∙◌, arith, ◌≢◌, ◌≤◌, inl, inr, Bool, true, false, cond, ◌&&◌, ◌||◌, eqb, ◌++◌, map, ap₂, sym, subst, eqb-true, eq-eqb, ne_eqb}
+use Rattle.std.specs.Prelude.{slice_get, unwrap_or, is_some, flat_map}
 use Rattle.std.specs.List.{AllByRecursion, list_any, range_with_len, position_or_len}
+use Rattle.std.proofs.lemmas.Grind.{common_steps}
 use Rattle.std.proofs.lemmas.Bool.{eqb-false, false≢true}
 use Rattle.std.proofs.lemmas.List.Folds.{list_any-append}
+use Rattle.std.proofs.lemmas.Option.{same_Some}
+use Rattle.std.proofs.Math.Bool.{or-true}
 use Rattle.xc_input.specs.declared.problem.Use.{Use}
-use Rattle.xc_input.specs.Problem.{Puzzle, Numbered, numbered_options, numbered_from, item_count, colour_in, uses_of}
+use Rattle.xc_input.specs.Problem.{Puzzle, Numbered, numbered_options, numbered_from, numbered_get, uses_of, item_count, colour_in}
 use Rattle.xc_dance.specs.Fields.{Node, own, spacer, used, layout, nodes_of, is_use_of, place_of, link_place}
 use Rattle.xc_dance.specs.Links.Cells.{slot_of}
 use Rattle.xc_dance.specs.Links.Laid.{IsName, Placed, IsLaid, IsFit, AreDistinct}
-use Rattle.xc_dance.proofs.LinkedTables.OptionNumbers.{IsOption, options_numbered}
-use Rattle.std.proofs.lemmas.Option.{same_Some}
 use Rattle.xc_input.proofs.EachElement.{each_weaker, each-append, each_at}
 use Rattle.xc_input.proofs.BooleanTests.{and_left, and_right}
 use Rattle.xc_dance.proofs.MoveLemmas.OptionsRise.{NumbersRise, NumbersRise-from}
-use Rattle.std.proofs.Math.Bool.{or-true}
 use Rattle.xc_dance.proofs.LinkedTables.LinkColumns.{item_of, member_of}
+
+-- ---- the options of a problem with their numbers, which rise from 1
+
+-- the option of this number has these uses
+abbrev pub IsOption : Puzzle → Numbered → Type 0
+IsOption p o = (0 < o.number) × (uses_of p o.number ≡ o.uses)
+
+numbered_at : (all : List (List Use)) (i k : ℕ) → i ≡ k + 1 → numbered_get all i ≡ slice_get all k
+numbered_at all zero k e = absurd (omega (arith, e))
+numbered_at all (suc i) k e = let same : i ≡ k = omega (arith, e) in ap (slice_get all) same
+
+uses_from : (all os : List (List Use)) (n : ℕ) → ((j : ℕ) → slice_get all (n + j) ≡ slice_get os j) → AllByRecursion (λ o. (0 < o.number) × (unwrap_or (numbered_get all o.number) [] ≡ o.uses)) (numbered_from (n + 1) os)
+uses_from all [] n h = tt
+uses_from all (us ∷ os) n h =
+    let z : n ≡ n + 0 = omega arith in
+    let here : numbered_get all (n + 1) ≡ Some us = numbered_at all (n + 1) n refl ∙ ap (slice_get all) z ∙ h 0 in (
+      (omega arith, ap (λ o. unwrap_or o []) here),
+      uses_from all os (n + 1) (λ j. let s : (n + 1) + j ≡ n + suc j = omega arith in ap (slice_get all) s ∙ h (suc j)),
+    )
+
+pub options_numbered : (p : Puzzle) → AllByRecursion (IsOption p) (numbered_options p)
+options_numbered p = uses_from p.options p.options 0 (λ j. let z : 0 + j ≡ j = omega arith in ap (slice_get p.options) z)
+
+-- the uses of an option by its place
+pub uses_at : (p : Puzzle) (k : ℕ) (us : List Use) → slice_get p.options k ≡ Some us → uses_of p (k + 1) ≡ us
+uses_at p k us e = ap (λ o. unwrap_or o []) (numbered_at p.options (k + 1) k refl ∙ e)
+
+-- ---- the places of the node table: each slot stands at one place
 
 -- ---- lists
 

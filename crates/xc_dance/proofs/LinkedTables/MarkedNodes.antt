@@ -1,30 +1,35 @@
--- The other uses of an option in an open item's list: each is in its own item's list, or marked.
-use Rattle.std.proofs.Common.{◌≡◌, ℕ, ◌<◌, ◌≤◌, ◌⊎◌, inl, inr, Bool, true, false, not, cond, ◌&&◌, ◌||◌, eqb, List, [], ◌∷◌, map, get_or, Some, None, refl, ap, ap₂, sym, subst, ◌∙◌, arith, eqb-true, eq-eqb, ne_eqb}
-use Rattle.std.proofs.lemmas.Grind.{common_steps}
-use Rattle.std.specs.Prelude.{Option, is_some, slice_get, nat_lt}
-use Rattle.xc_dance.proofs.MoveLemmas.StateLemmas.{open_is}
+-- Which nodes are marked, and the colours after Cover and Purify.
+use Rattle.std.proofs.Common.{◌≡◌, ℕ, ◌<◌, ◌≤◌, ◌⊎◌, inl, inr, Bool, true, false, not, cond, ◌&&◌, ◌||◌, eqb, List, [], ◌∷◌, map, get_or, Some, None, refl, ap, ap₂, sym, subst, ◌∙◌, arith, eqb-true, eq-eqb, ne_eqb, Option}
+use Rattle.std.specs.Prelude.{is_some, slice_get, nat_lt}
 use Rattle.std.specs.List.{AllByRecursion}
-use Rattle.std.proofs.lemmas.Bool.{false≢true}
+use Rattle.std.proofs.lemmas.Grind.{common_steps}
+use Rattle.std.proofs.lemmas.Bool.{false≢true, eqb-false}
+use Rattle.std.proofs.lemmas.Option.{same_Some}
+use Rattle.std.proofs.Math.Bool.{not-not}
 use Rattle.xc_input.specs.declared.problem.Use.{Use}
+use Rattle.xc_input.specs.Problem.{Puzzle, Numbered, numbered_options, item_count, colour_in, colour_at, uses_of, holds, holding}
 use Rattle.xc_dance.specs.declared.dance.Move.{Move}
 use Rattle.xc_dance.specs.declared.dance.Move.TheVariants.{Cover, Purify, Tweak, Spend}
-use Rattle.xc_input.specs.Problem.{Puzzle, Numbered, numbered_options, item_count, colour_in, colour_at, uses_of, holds, holding}
 use Rattle.xc_dance.specs.Moves.{listed, is_open, is_covered, purified, AreLegal, listed_numbers}
 use Rattle.xc_dance.specs.Fields.{Node, unused, own, spacer, used, layout, link_place, is_in, is_marked}
 use Rattle.xc_dance.specs.Left.{left, agrees}
 use Rattle.xc_dance.specs.Links.Cells.{color_in, slot_of}
 use Rattle.xc_dance.specs.Links.Laid.{IsLaid, IsFit}
-use Rattle.xc_dance.proofs.LinkedTables.Mapped.{get_map}
-use Rattle.xc_dance.proofs.LinkedTables.ReadyLemmas.{Stands}
-use Rattle.xc_dance.proofs.MoveLemmas.OpenLists.{listed_open}
+use Rattle.xc_dance.specs.Lists.Losing.{is_kept}
 use Rattle.xc_input.proofs.BooleanTests.{and_right, and_left}
-use Rattle.xc_dance.proofs.MoveLemmas.LeftOptions.{left_free, left_agrees, kept}
-use Rattle.xc_dance.proofs.LinkedTables.Sweep.{is_in-first}
-use Rattle.xc_dance.proofs.LinkedTables.Goods.{Named}
-use Rattle.xc_dance.proofs.LinkedTables.OneOption.{is_mark}
-use Rattle.std.proofs.lemmas.Option.{same_Some}
 use Rattle.xc_input.proofs.EachElement.{each_weaker, each_both}
-use Rattle.xc_dance.proofs.LinkedTables.OptionNumbers.{IsOption, options_numbered}
+use Rattle.xc_dance.proofs.MoveLemmas.StateLemmas.{open_is}
+use Rattle.xc_dance.proofs.LinkedTables.LinkColumns.{get_map, Stands}
+use Rattle.xc_dance.proofs.MoveLemmas.OpenLists.{listed_open}
+use Rattle.xc_dance.proofs.MoveLemmas.LeftOptions.{left_free, left_agrees, kept}
+use Rattle.xc_dance.proofs.LinkedTables.Sweep.{is_in-first, not_in, with_color}
+use Rattle.xc_dance.proofs.LinkedTables.GoodLines.{Named}
+use Rattle.xc_dance.proofs.LinkedTables.OneOption.{is_mark}
+use Rattle.xc_dance.proofs.LinkedTables.LaidLemmas.{IsOption, options_numbered}
+use Rattle.xc_dance.proofs.LinkedTables.OneList.{marked_list}
+use Rattle.xc_dance.proofs.MoveLemmas.Shortened.{rises_listed}
+
+-- ---- the other uses of an option in an open item's list: each is in its own item's list, or marked
 
 -- ---- facts of each option left
 
@@ -179,3 +184,47 @@ each_met p t j legal laid fit jpos jle =
                 (each_both (λ o. holds o j ≡ true → is_marked p t j o.number has.0 ≡ true) (λ o. agrees has.0 (colour_at o j) ≡ true) _ (left p t) (λ o a b. (a, b)) (purified_marked p t j has.0 legal has.1) (left_agrees p t j has.0 has.1))
           ]
     ] refl
+
+-- ---- the colours after Cover and Purify are those that their walks leave
+
+-- a walk that keeps no colour marks none
+pub marked_none : (p : Puzzle) (i : ℕ) (now : Node → ℕ) (xs : List ℕ) → marked_list p i None now xs ≡ now
+marked_none p i now [] = refl
+marked_none p i now (x ∷ xs) = marked_none p i now xs
+
+-- the slot is of item i and of one of the options that are kept
+abbrev slot_kept : Puzzle → ℕ → Option ℕ → List ℕ → Option (ℕ × ℕ) → Bool
+slot_kept p i keep xs None = false
+slot_kept p i keep xs (Some s) = eqb s.0 i && (is_in s.1 xs && is_kept p i keep s.1)
+
+cond_at : (b : Bool) (f g : Node → ℕ) (n : Node) → cond b f g n ≡ cond b (f n) (g n)
+cond_at true f g n = refl
+cond_at false f g n = refl
+
+none_kept : (p : Puzzle) (i : ℕ) (keep : Option ℕ) (s : Option (ℕ × ℕ)) (v : ℕ) → v ≡ cond (slot_kept p i keep [] s) 4294967295 v
+none_kept p i keep None v = refl
+none_kept p i keep (Some s) v = elim (eqb s.0 i) as (λ a. v ≡ cond (a && false) 4294967295 v) [ true ↦ refl | false ↦ refl ]
+
+pub marked_at : (p : Puzzle) (i : ℕ) (keep : Option ℕ) (now : Node → ℕ) (xs : List ℕ) (n : Node) → marked_list p i keep now xs n ≡ cond (slot_kept p i keep xs (slot_of n)) 4294967295 (now n)
+marked_at p i keep now [] n = grind (arith, common_steps, cond_at, none_kept)
+marked_at p i keep now (o ∷ xs) n = grind (arith, common_steps, cond_at, none_kept, marked_at p i keep (cond (is_kept p i keep o) (with_color now i o 4294967295) now) xs n)
+
+pub cover_colours : (p : Puzzle) (t : List Move) (i : ℕ) (n : Node) → color_in p (Cover i ∷ t) n ≡ color_in p t n
+cover_colours p t i unused = refl
+cover_colours p t i _ = refl
+
+-- the colours with which the walk of Purify starts
+abbrev pub purify_start : Puzzle → List Move → ℕ → ℕ → Node → ℕ
+purify_start p t i c = with_color (color_in p t) i 0 c
+
+marks : (a b k : Bool) (v : ℕ) → cond (cond (a && b) true k) 4294967295 v ≡ cond (b && a) 4294967295 (cond k 4294967295 v)
+marks true true k v = refl
+marks true false k v = refl
+marks false true k v = refl
+marks false false k v = refl
+
+pub purify_colours : (p : Puzzle) (t : List Move) (i c : ℕ) → IsLaid p → (k : ℕ) (n : Node) → slice_get (layout p) k ≡ Some n → color_in p (Purify i c ∷ t) n ≡ marked_list p i (Some c) (purify_start p t i c) (listed_numbers p t i) n
+purify_colours p t i c laid k unused at = grind (arith, common_steps, eq-eqb, eqb-false, eqb-true, marked_at, marks, ne_eqb, not-not, not_in, rises_listed)
+purify_colours p t i c laid k (spacer m) at = grind (arith, common_steps, eq-eqb, eqb-false, eqb-true, marked_at, marks, ne_eqb, not-not, not_in, rises_listed)
+purify_colours p t i c laid k (own j) at = grind (arith, common_steps, eq-eqb, eqb-false, eqb-true, marked_at, marks, ne_eqb, not-not, not_in, rises_listed)
+purify_colours p t i c laid k (used o u) at = grind (arith, common_steps, eq-eqb, eqb-false, eqb-true, marked_at, marks, ne_eqb, not-not, not_in, rises_listed)

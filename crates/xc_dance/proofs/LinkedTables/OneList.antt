@@ -1,30 +1,64 @@
--- Down one list and back up: the options of its nodes leave the lists of their other items, but for those of a colour that is kept, whose nodes are marked.
-use Rattle.std.proofs.Common.{◌≡◌, ◌≢◌, ℕ, ◌+◌, ◌*◌, ◌<◌, ◌≤◌, inr, true, false, not, cond, ◌&&◌, ◌||◌, eqb, List, [], ◌∷◌, ◌++◌, length, map, fold, filter, reverse, get_or, Option, Some, None, refl, ap, ap₂, sym, subst, ◌∙◌, arith, eqb-true, eq-eqb, ne_eqb}
+-- One list and its colours, down and back up.
+use Rattle.std.proofs.Common.{◌≡◌, ℕ, true, false, cond, ◌&&◌, eqb, List, map, get_or, set, Option, Some, None, refl, ap, ap₂, sym, ◌∙◌, eqb-true, eq-eqb, arith, ◌≢◌, ◌+◌, ◌*◌, ◌<◌, ◌≤◌, inr, not, ◌||◌, [], ◌∷◌, ◌++◌, length, fold, filter, reverse, subst, ne_eqb}
+use Rattle.std.specs.Prelude.{slice_get}
 use Rattle.std.proofs.lemmas.Grind.{common_steps}
 use Rattle.std.proofs.lemmas.Bool.{false≢true, and_right}
 use Rattle.std.proofs.lemmas.List.{length-map, reverse-append}
 use Rattle.std.proofs.lemmas.List.Sums.{fold-append}
-use Rattle.xc_dance.specs.declared.links.nodes.Nodes.{Nodes}
-use Rattle.xc_dance.specs.Links.Span.{Span}
+use Rattle.std.proofs.lemmas.Option.{slice_get_within}
 use Rattle.xc_input.specs.Problem.{Puzzle, item_count, uses_of}
-use Rattle.xc_dance.specs.Lists.Losing.{is_kept}
 use Rattle.xc_dance.specs.Fields.{Node, layout, link_place, is_in}
 use Rattle.xc_dance.specs.Links.Lines.{Line}
 use Rattle.xc_dance.specs.Links.ListWalks.{with_colour, is_kept_colour, is_kept_mark, left_node, back_node, leave_cost, back_cost, walk_costs, back_costs, CanLeave, CanReturn, IsWalk, IsWalkBack}
-use Rattle.xc_dance.specs.Links.Cells.{nodes_from, ulink_in, dlink_in}
-use Rattle.xc_dance.specs.Links.Others.{before_use, behind_use, HasSpans}
+use Rattle.xc_dance.specs.Links.Cells.{slot_of, nodes_from, ulink_in, dlink_in}
 use Rattle.xc_dance.specs.Links.Laid.{Placed, IsLaid}
-use Rattle.std.proofs.lemmas.Option.{slice_get_within}
-use Rattle.xc_dance.proofs.LinkedTables.Undo.{written_back, same_nodes}
-use Rattle.xc_dance.proofs.LinkedTables.ReadyLemmas.{Stands}
-use Rattle.xc_dance.proofs.LinkedTables.LinkColumns.{get_up, get_down}
-use Rattle.xc_dance.proofs.LinkedTables.Goods.{Named, AllGood}
-use Rattle.xc_dance.proofs.LinkedTables.Sweep.{in_more, Rises, in_above}
-use Rattle.xc_dance.proofs.LinkedTables.Colours.{coloured_is, color_here, color_other}
+use Rattle.xc_dance.specs.declared.links.nodes.Nodes.{Nodes}
+use Rattle.xc_dance.specs.Links.Span.{Span}
+use Rattle.xc_dance.specs.Lists.Losing.{is_kept}
+use Rattle.xc_dance.specs.Links.Others.{before_use, behind_use, HasSpans}
+use Rattle.xc_dance.proofs.LinkedTables.LinkColumns.{get_map, map_put, same_nodes, written_back, Stands, get_up, get_down}
+use Rattle.xc_dance.proofs.LinkedTables.Sweep.{is_slot, with_color, in_more, Rises, in_above, cut, IsLinkedFrom, other_items}
+use Rattle.xc_dance.proofs.LinkedTables.GoodLines.{Named, AllGood}
 use Rattle.xc_dance.proofs.LinkedTables.OneOption.{is_mark, left_one, left_all, IsApart, AreReady, walked, ready_front, all_other, gone_count}
 use Rattle.xc_dance.proofs.LinkedTables.Spacers.{Turns, turns}
 use Rattle.xc_dance.proofs.LinkedTables.Walks.{costs-append}
-use Rattle.xc_dance.proofs.LinkedTables.LineChanges.{cut, IsLinkedFrom, with_color, other_items}
+
+-- ---- the colour of one node of the table
+
+slot_here : (j x : ℕ) (s : Option (ℕ × ℕ)) → s ≡ Some (j, x) → is_slot j x s ≡ true
+slot_here j x s e = ap (is_slot j x) e ∙ ap₂ (λ a b. a && b) (eq-eqb j j refl) (eq-eqb x x refl)
+
+slot_is : (j x : ℕ) (s : Option (ℕ × ℕ)) → is_slot j x s ≡ true → s ≡ Some (j, x)
+slot_is j x None e = grind (arith, common_steps, eqb-true, false≢true)
+slot_is j x (Some s) e = grind (arith, common_steps, eqb-true, false≢true)
+
+pub color_put : (p : Puzzle) (col : Node → ℕ) (j x v : ℕ) → IsLaid p → Placed p j x → map (with_color col j x v) (layout p) ≡ set (map col (layout p)) (link_place p j x) v
+color_put p col j x v laid h =
+    map_put col (with_color col j x v) (layout p) (link_place p j x) v
+    (λ q n at ne. elim (is_slot j x (slot_of n)) as (λ b. is_slot j x (slot_of n) ≡ b → cond b v (col n) ≡ col n) [
+      | true ↦ λ e. absurd (ne (sym (laid.unique q n j x at (slot_is j x (slot_of n) e))))
+      | false ↦ λ e. refl
+    ] refl)
+    (λ n at.
+    let same : n ≡ h.node = same_at (layout p) (link_place p j x) n h.node at h.at in
+    ap (λ b. cond b v (col n)) (slot_here j x (slot_of n) (ap slot_of same ∙ h.slot)))
+  where
+    same_at : (ns : List Node) (k : ℕ) (m n : Node) → slice_get ns k ≡ Some m → slice_get ns k ≡ Some n → m ≡ n
+    same_at ns k m n a b = let e : Some m ≡ Some n = sym a ∙ b in cc
+
+-- a node is coloured in the table
+pub coloured_is : (p : Puzzle) (col : Node → ℕ) (ln : ℕ → Line) (j x v : ℕ) → IsLaid p → Placed p j x → with_colour (nodes_from p ln col) (link_place p j x) v ≡ nodes_from p ln (with_color col j x v)
+coloured_is p col ln j x v laid h = grind (arith, common_steps, color_put, same_nodes)
+
+pub color_here : (p : Puzzle) (col : Node → ℕ) (j x v : ℕ) → Placed p j x → get_or (map (with_color col j x v) (layout p)) (link_place p j x) 0 ≡ v
+color_here p col j x v h =
+    get_map (with_color col j x v) (layout p) (link_place p j x) h.node h.at ∙ ap (λ b. cond b v (col h.node)) (slot_here j x (slot_of h.node) h.slot)
+
+pub color_other : (p : Puzzle) (col : Node → ℕ) (j x v k y : ℕ) → Placed p k y → (eqb k j && eqb y x) ≡ false →
+    get_or (map (with_color col j x v) (layout p)) (link_place p k y) 0 ≡ get_or (map col (layout p)) (link_place p k y) 0
+color_other p col j x v k y h ne = grind (arith, common_steps, get_map)
+
+-- ---- down one list and back up: the options of its nodes leave the lists of their other items, but for those of a colour that is kept, whose nodes are marked
 
 -- ---- what the walk leaves
 

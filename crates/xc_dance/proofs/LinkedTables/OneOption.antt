@@ -9,12 +9,10 @@ use Rattle.xc_dance.specs.Links.Steps.{hidden}
 use Rattle.xc_dance.specs.Links.Cells.{nodes_from}
 use Rattle.xc_dance.specs.Links.Laid.{IsName, IsLaid}
 use Rattle.std.proofs.lemmas.Option.{slice_get_within}
-use Rattle.xc_dance.proofs.LinkedTables.ReadyLemmas.{Stands, Stands-without, Rest, back_more}
-use Rattle.xc_dance.proofs.LinkedTables.LinkColumns.{get_item}
-use Rattle.xc_dance.proofs.LinkedTables.OneNode.{Step, step_open, step_marked}
-use Rattle.xc_dance.proofs.LinkedTables.Goods.{Named, IsGood, AllGood, member, all_good_cut, with_list}
+use Rattle.xc_dance.proofs.LinkedTables.LinkColumns.{Stands, Stands-without, Rest, back_more, get_item}
+use Rattle.xc_dance.proofs.LinkedTables.GoodLines.{Step, step_open, step_marked, Named, IsGood, AllGood, member, all_good_cut, with_list}
 use Rattle.std.proofs.lemmas.Bool.{eqb-false}
-use Rattle.xc_dance.proofs.LinkedTables.LineChanges.{other_items, cut, with_line}
+use Rattle.xc_dance.proofs.LinkedTables.Sweep.{other_items, cut, with_line}
 
 line_by : (ln : ℕ → Line) (i j : ℕ) (l : Line) (b : Bool) → eqb j i ≡ b → with_line ln i l j ≡ cond b l (ln j)
 line_by ln i j l b e = grind (arith, common_steps)

@@ -3,8 +3,7 @@ use Rattle.std.proofs.Common.{◌≡◌, ◌≢◌, ℕ, ◌<◌, ◌⊎◌, inl
 use Rattle.std.proofs.lemmas.Grind.{common_steps}
 use Rattle.std.proofs.lemmas.Bool.{false≢true}
 use Rattle.xc_dance.specs.Fields.{last_below, first_above, first_of, last_of, is_in}
-use Rattle.xc_dance.proofs.LinkedTables.Sweep.{Rises, Rises-filter, stay, not_in, in_above, is_in-first, is_in-other, last_below-self, last_below-more, first_above-first, first_above-more, last_of-more, by_first, in_rest, out_rest, in_more}
-use Rattle.xc_dance.proofs.LinkedTables.LineSteps.{others_stay}
+use Rattle.xc_dance.proofs.LinkedTables.Sweep.{Rises, Rises-filter, stay, not_in, in_above, is_in-first, is_in-other, last_below-self, last_below-more, first_above-first, first_above-more, last_of-more, by_first, in_rest, out_rest, in_more, others_stay}
 
 abbrev pub less : ℕ → List ℕ → List ℕ
 less i xs = stay (λ x. eqb x i) xs

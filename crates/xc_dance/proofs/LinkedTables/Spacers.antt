@@ -12,14 +12,12 @@ use Rattle.xc_dance.specs.Links.Lines.{Line}
 use Rattle.xc_dance.specs.Links.Cells.{ulink_in, dlink_in, nodes_from}
 use Rattle.xc_dance.specs.Links.Others.{behind_use, before_use, HasSpans}
 use Rattle.xc_dance.specs.Links.Steps.{hidden, shown, CanHideAll, CanShowAll, places, span_at, others_of, IsSpacer, CanHideNode, CanShowNode, hidden_node, shown_node, hide_costs, show_costs}
-use Rattle.xc_dance.proofs.LinkedTables.Goods.{Named}
-use Rattle.xc_dance.proofs.LinkedTables.LinkColumns.{size_from}
-use Rattle.xc_dance.proofs.LinkedTables.Mapped.{get_map}
+use Rattle.xc_dance.proofs.LinkedTables.GoodLines.{Named}
+use Rattle.xc_dance.proofs.LinkedTables.LinkColumns.{size_from, get_map, IsUndone, fold-shown-reverse}
 use Rattle.xc_dance.proofs.LinkedTables.OneOption.{Walked, left_all, gone_count}
-use Rattle.xc_dance.proofs.LinkedTables.Undo.{IsUndone, fold-shown-reverse}
 use Rattle.std.proofs.lemmas.Option.{slice_get_within}
-use Rattle.xc_dance.proofs.LinkedTables.UnmarkedCosts.{costs-are, hidden_color, shown_color, unmarked-reverse, unmarked_items}
-use Rattle.xc_dance.proofs.LinkedTables.LineChanges.{other_items}
+use Rattle.xc_dance.proofs.LinkedTables.UnmarkedNodes.{costs-are, hidden_color, shown_color, unmarked-reverse, unmarked_items}
+use Rattle.xc_dance.proofs.LinkedTables.Sweep.{other_items}
 
 -- the nodes round that of item i are those of the option's other items
 pub others_are : (p : Puzzle) (spans : List Span) (o i : ℕ) → HasSpans p spans → 0 < o → Named p i o → others_of spans (link_place p i o) ≡ map (λ j. link_place p j o) (other_items p o i)

@@ -11,7 +11,7 @@ use Rattle.xc_dance.specs.Moves.{IsLegal, is_covered}
 use Rattle.xc_dance.specs.Fields.{ring_of, ring_head, left_of, right_of, first_of, last_of, last_below, first_above, is_in}
 use Rattle.xc_dance.specs.Links.ItemCells.{items_after, llink_at, rlink_at}
 use Rattle.xc_dance.specs.Links.Rings.{left_ring, back_in_ring}
-use Rattle.xc_dance.proofs.LinkedTables.Undo.{written_back}
+use Rattle.xc_dance.proofs.LinkedTables.LinkColumns.{written_back}
 use Rattle.xc_input.proofs.ListFilters.{filter_both}
 use Rattle.xc_dance.proofs.LinkedTables.Sweep.{Rises, Rises-filter, Rises-weaker, is_in-first, by_first, in_rest, stay_same, in_more}
 use Rattle.xc_dance.proofs.LinkedTables.RingLemmas.{less, first_above-in, last_below-in, prev_without, next_without, first_without, last_without, link_behind, link_before}

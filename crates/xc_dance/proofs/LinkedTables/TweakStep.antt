@@ -18,27 +18,15 @@ use Rattle.xc_dance.specs.Links.Cells.{color_in, dlink_in, nodes_from, nodes_aft
 use Rattle.xc_dance.specs.Links.Others.{before_use, behind_use}
 use Rattle.xc_dance.specs.Links.Made.{IsFitted}
 use Rattle.std.proofs.lemmas.Option.{slice_get_within}
-use Rattle.xc_dance.proofs.LinkedTables.Undo.{relinked-unlinked}
-use Rattle.xc_dance.proofs.LinkedTables.ReadyLemmas.{CanRelink-unlinked}
-use Rattle.xc_dance.proofs.LinkedTables.OneNode.{IsMember, unlinked-is, linked-is, member_cells}
-use Rattle.xc_dance.proofs.LinkedTables.LinkColumns.{get_down, size_from}
-use Rattle.xc_dance.proofs.LinkedTables.Sweep.{Rises, stay, cuts, is_in-first}
-use Rattle.xc_dance.proofs.LinkedTables.Goods.{Named, IsGood, AllGood, member}
+use Rattle.xc_dance.proofs.LinkedTables.LinkColumns.{relinked-unlinked, CanRelink-unlinked, get_down, size_from}
+use Rattle.xc_dance.proofs.LinkedTables.GoodLines.{IsMember, unlinked-is, linked-is, member_cells, Named, IsGood, AllGood, member, all_good, numbers_named, SameCut, line_after, tables_same}
+use Rattle.xc_dance.proofs.LinkedTables.Sweep.{Rises, stay, cuts, is_in-first, drop_first, stay_all, leave_none, cut, with_line, other_items}
 use Rattle.xc_dance.proofs.LinkedTables.OneOption.{left_all, walked, ready_front, all_other, line_here, line_there}
 use Rattle.xc_dance.proofs.LinkedTables.Spacers.{turns}
-use Rattle.xc_dance.proofs.LinkedTables.OtherItems.{leaves, list_at}
-use Rattle.xc_dance.proofs.LinkedTables.OthersApart.{each_apart, own_apart}
-use Rattle.xc_dance.proofs.LinkedTables.LineSteps.{drop_first, stay_all, leave_none}
-use Rattle.xc_dance.proofs.LinkedTables.GoodLines.{all_good, numbers_named}
-use Rattle.xc_dance.proofs.LinkedTables.SameLines.{SameCut, line_after, tables_same}
-use Rattle.xc_dance.proofs.LinkedTables.MetOptions.{ready_at}
-use Rattle.xc_dance.proofs.LinkedTables.Leaving.{AreOf, cut_others, leaves_own}
+use Rattle.xc_dance.proofs.LinkedTables.OtherItems.{leaves, list_at, each_apart, own_apart}
+use Rattle.xc_dance.proofs.LinkedTables.Leaving.{ready_at, AreOf, cut_others, leaves_own, total, total_same, total_plus, total_zero, total_point, exchanged, leaving_is, first_alone, takes_tweak, tweak_others, tweak_own}
 use Rattle.xc_dance.specs.Cost.{cost_of, leaving}
-use Rattle.xc_dance.proofs.LinkedTables.Totals.{total, total_same, total_plus, total_zero, total_point}
-use Rattle.xc_dance.proofs.LinkedTables.LeavingCosts.{exchanged, leaving_is}
-use Rattle.xc_dance.proofs.LinkedTables.TakenOut.{first_alone, takes_tweak, tweak_others, tweak_own}
-use Rattle.xc_dance.proofs.LinkedTables.ListLinks.{own_placed}
-use Rattle.xc_dance.proofs.LinkedTables.LineChanges.{cut, with_line, other_items}
+use Rattle.xc_dance.proofs.LinkedTables.HideMoves.{own_placed}
 use Rattle.xc_dance.proofs.MoveLemmas.Shortened.{rises_listed}
 
 -- the first of item i's list

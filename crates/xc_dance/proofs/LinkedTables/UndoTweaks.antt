@@ -22,15 +22,12 @@ use Rattle.xc_dance.specs.Links.Made.{IsFitted, CanTell}
 use Rattle.std.proofs.lemmas.Option.{slice_get_within}
 use Rattle.xc_dance.proofs.LinkedTables.LinkColumns.{get_item}
 use Rattle.xc_dance.proofs.LinkedTables.Sweep.{in_above, is_in-first}
-use Rattle.xc_dance.proofs.LinkedTables.Goods.{Named}
-use Rattle.xc_dance.proofs.LinkedTables.GoodLines.{numbers_named}
+use Rattle.xc_dance.proofs.LinkedTables.GoodLines.{Named, numbers_named}
 use Rattle.xc_dance.proofs.MoveLemmas.Shortened.{rises_listed}
 use Rattle.xc_dance.proofs.MoveLemmas.Members.{element_of}
-use Rattle.xc_dance.proofs.LinkedTables.StillItems.{still_items}
-use Rattle.xc_dance.proofs.LinkedTables.Covered.{off_is}
+use Rattle.xc_dance.proofs.LinkedTables.MoveStep.{still_items, off_is}
 use Rattle.xc_dance.proofs.MoveLemmas.StateLemmas.{open_or_covered}
-use Rattle.xc_dance.proofs.LinkedTables.TweakedLines.{tweaks, Tweaked, tweaked_lines}
-use Rattle.xc_dance.proofs.LinkedTables.TweaksBack.{Undoes, first_place, tweaks_back}
+use Rattle.xc_dance.proofs.LinkedTables.TweaksBack.{tweaks, Tweaked, tweaked_lines, Undoes, first_place, tweaks_back}
 
 pub tweaks_are : (k i : ℕ) (s : List Move) → k ≤ length s → take k s ≡ replicate k (Tweak i) → s ≡ tweaks k i (drop k s)
 tweaks_are zero i s h e = refl

@@ -1,12 +1,15 @@
--- Walks over nodes, under way and at their end: for hide and unhide, down a list and up, and down nodes that come back.
-use Rattle.std.proofs.Common.{◌≡◌, ◌≢◌, ℕ, zero, suc, ◌+◌, ◌<◌, ◌≤◌, true, false, eqb, List, [], ◌∷◌, ◌++◌, length, get_or, drop, fold, refl, ap, sym, subst, ◌∙◌, arith, eqb-true}
+-- Walks over nodes, under way and at their end, along links and over places in a row.
+use Rattle.std.proofs.Common.{◌≡◌, ◌≢◌, ℕ, zero, suc, ◌+◌, ◌<◌, ◌≤◌, true, false, eqb, List, [], ◌∷◌, ◌++◌, length, get_or, drop, fold, refl, ap, sym, subst, ◌∙◌, arith, eqb-true, ◌-◌, reverse}
+use Rattle.std.specs.List.{range_with_len}
 use Rattle.std.proofs.lemmas.Grind.{common_steps}
 use Rattle.std.proofs.lemmas.Bool.{eqb-false}
-use Rattle.std.proofs.lemmas.List.{drop_more, drop_all}
+use Rattle.std.proofs.lemmas.List.{drop_more, drop_all, reverse-append}
 use Rattle.std.proofs.lemmas.List.Sums.{fold-append}
 use Rattle.xc_dance.specs.declared.links.nodes.Nodes.{Nodes}
-use Rattle.xc_dance.specs.Links.Steps.{followed, IsSpacer}
+use Rattle.xc_dance.specs.Links.Steps.{followed, IsSpacer, places}
 use Rattle.xc_dance.specs.Links.Walks.{costs, CanAll, CanFollow}
+
+-- ---- walks over nodes, under way and at their end: for hide and unhide, down a list and up, and down nodes that come back
 
 -- ---- steps at the places of a list
 
@@ -106,3 +109,28 @@ follow_on {step} {writes} {Can} {links} {t0} {all} {t} {p} {k} {n} u q m lt is t
 
 pub follow_end : {step : Nodes → ℕ → Nodes} {writes : Nodes → ℕ → ℕ} {Can : Nodes → ℕ → Type 0} {links : Nodes → List ℕ} {t0 : Nodes} {all : List ℕ} {t : Nodes} {p k n : ℕ} → length all ≤ k → Following step writes Can links t0 all t p k n → Reached step writes t0 all t n
 follow_end {step} {writes} {Can} {links} {t0} {all} {t} {p} {k} {n} le h = grind (arith, common_steps, drop_all)
+
+-- ---- places in a row, one by one
+
+pub places_none : (a b : ℕ) → b ≤ a → places a b ≡ []
+places_none a b le = let z : b - a ≡ 0 = omega (arith, le) in ap (range_with_len a) z
+
+-- the first of the places comes before the others
+pub places_more : (a b : ℕ) → a < b → places a b ≡ a ∷ places (a + 1) b
+places_more a b h = let e : b - a ≡ suc (b - (a + 1)) = omega arith in ap (range_with_len a) e
+
+range_with_len_push : (a n : ℕ) → range_with_len a (suc n) ≡ range_with_len a n ++ (a + n) ∷ []
+range_with_len_push a zero = grind (arith, common_steps)
+range_with_len_push a (suc n) = grind (arith, common_steps, range_with_len_push (a + 1) n)
+
+-- the last of the places comes behind the others
+pub places_push : (a b : ℕ) → a ≤ b → places a (b + 1) ≡ places a b ++ b ∷ []
+places_push a b h = grind (arith, common_steps, range_with_len_push)
+
+-- from the last back
+pub reverse-places : (a b : ℕ) → a ≤ b → reverse (places a (b + 1)) ≡ b ∷ reverse (places a b)
+reverse-places a b h = ap reverse (places_push a b h) ∙ reverse-append (places a b) (b ∷ [])
+
+-- the places up to q, from the last back
+pub last_first : (a q : ℕ) → a < q → reverse (places a q) ≡ (q - 1) ∷ reverse (places a (q - 1))
+last_first a q h = grind (arith, common_steps, reverse-places)

@@ -1,6 +1,6 @@
 use Rattle.std.proofs.Common.{arith}
 use Rattle.std.proofs.lemmas.Grind.{common_steps}
-use Rattle.xc_dance.proofs.LinkedTables.FirstItemTable.{column_none, rings_linked}
+use Rattle.xc_dance.proofs.LinkedTables.FirstTables.{column_none, rings_linked}
 use Rattle.xc_dance.proofs.links.first_items.first_items.Goals as goal
 use Rattle.xc_dance.proofs.LinkedTables.RingStep.{same_items}
 

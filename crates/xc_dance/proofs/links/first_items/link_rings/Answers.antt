@@ -1,6 +1,6 @@
 use Rattle.std.proofs.Common.{arith}
 use Rattle.std.proofs.lemmas.Grind.{common_steps}
-use Rattle.xc_dance.proofs.LinkedTables.FirstItemTable.{column_len, column_more}
+use Rattle.xc_dance.proofs.LinkedTables.FirstTables.{column_len, column_more}
 use Rattle.xc_dance.proofs.links.first_items.link_rings.Goals as goal
 use Rattle.xc_dance.proofs.LinkedTables.RingStep.{same_items}
 

@@ -3,7 +3,7 @@ use Rattle.std.proofs.lemmas.Grind.{common_steps}
 use Rattle.xc_input.specs.Problem.{Bounds, bounds_at, high_at, low_at}
 use Rattle.xc_input.specs.Flat.{bounds_of}
 use Rattle.std.specs.Prelude.{Option, Some, unwrap_or}
-use Rattle.xc_dance.proofs.LinkedTables.FirstItemTable.{column_len, column_more, bound_is, slack_is, bounds_set, low_most}
+use Rattle.xc_dance.proofs.LinkedTables.FirstTables.{column_len, column_more, bound_is, slack_is, bounds_set, low_most}
 use Rattle.xc_dance.proofs.links.first_items.set_bounds.Goals as goal
 use Rattle.xc_dance.proofs.links.first_items.set_bounds.Goals.{After-item-item}
 use Rattle.xc_dance.proofs.LinkedTables.RingStep.{same_items}

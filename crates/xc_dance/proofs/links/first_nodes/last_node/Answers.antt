@@ -1,8 +1,7 @@
 use Rattle.std.proofs.Common.{arith}
 use Rattle.std.proofs.lemmas.Grind.{common_steps}
-use Rattle.xc_dance.proofs.LinkedTables.OptionReach.{uses_here}
-use Rattle.xc_dance.proofs.LinkedTables.PlaceLemmas.{option_fits}
-use Rattle.xc_dance.proofs.LinkedTables.LaidNodes.{down_next}
+use Rattle.xc_dance.proofs.LinkedTables.PlaceLemmas.{uses_here, option_fits}
+use Rattle.xc_dance.proofs.LinkedTables.FirstTables.{down_next}
 use Rattle.xc_dance.proofs.links.first_nodes.last_node.Goals as goal
 
 pub overflow_cast-result : goal.overflow_cast-result

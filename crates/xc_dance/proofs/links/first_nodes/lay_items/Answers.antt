@@ -5,7 +5,7 @@ use Rattle.xc_dance.specs.declared.links.nodes.Row.{Row}
 use Rattle.xc_dance.specs.Links.Steps.{HasSize}
 use Rattle.xc_dance.specs.Links.FirstNodes.{with_row}
 use Rattle.xc_dance.proofs.LinkedTables.PlaceLemmas.{place_within, place_first}
-use Rattle.xc_dance.proofs.LinkedTables.LaidNodes.{laid_size, laid_len, laid_more, own_row}
+use Rattle.xc_dance.proofs.LinkedTables.FirstTables.{laid_size, laid_len, laid_more, own_row}
 use Rattle.xc_dance.proofs.links.first_nodes.lay_items.Goals as goal
 
 pub put-requires-clause-size : goal.put-requires-clause-size

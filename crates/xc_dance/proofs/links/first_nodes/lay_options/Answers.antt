@@ -1,8 +1,7 @@
 use Rattle.std.proofs.Common.{arith}
 use Rattle.std.proofs.lemmas.Grind.{common_steps}
-use Rattle.xc_dance.proofs.LinkedTables.OptionReach.{uses_here}
-use Rattle.xc_dance.proofs.LinkedTables.PlaceLemmas.{place_within, layout_small, layout_len, option_fits}
-use Rattle.xc_dance.proofs.LinkedTables.LaidNodes.{up_next}
+use Rattle.xc_dance.proofs.LinkedTables.PlaceLemmas.{uses_here, place_within, layout_small, layout_len, option_fits}
+use Rattle.xc_dance.proofs.LinkedTables.FirstTables.{up_next}
 use Rattle.xc_dance.proofs.links.first_nodes.lay_options.Goals as goal
 
 pub overflow_add-place-in-loop-o : goal.overflow_add-place-in-loop-o

@@ -7,7 +7,7 @@ use Rattle.xc_dance.specs.declared.links.nodes.Row.{Row}
 use Rattle.xc_dance.specs.Links.Steps.{HasSize}
 use Rattle.xc_dance.specs.Links.FirstNodes.{with_row}
 use Rattle.xc_dance.proofs.LinkedTables.PlaceLemmas.{place_within, spacer_here}
-use Rattle.xc_dance.proofs.LinkedTables.LaidNodes.{laid_size, laid_len, laid_more, spacer_row}
+use Rattle.xc_dance.proofs.LinkedTables.FirstTables.{laid_size, laid_len, laid_more, spacer_row}
 use Rattle.xc_dance.proofs.links.first_nodes.lay_spacer.Goals as goal
 
 pub put-requires-clause-size : goal.put-requires-clause-size

@@ -6,9 +6,8 @@ use Rattle.xc_dance.specs.declared.links.nodes.Nodes.{Nodes}
 use Rattle.xc_dance.specs.declared.links.nodes.Row.{Row}
 use Rattle.xc_dance.specs.Links.Steps.{HasSize}
 use Rattle.xc_dance.specs.Links.FirstNodes.{with_row}
-use Rattle.xc_dance.proofs.LinkedTables.OptionReach.{uses_here}
-use Rattle.xc_dance.proofs.LinkedTables.PlaceLemmas.{use_here, option_fits}
-use Rattle.xc_dance.proofs.LinkedTables.LaidNodes.{laid_size, laid_len, laid_more}
+use Rattle.xc_dance.proofs.LinkedTables.PlaceLemmas.{uses_here, use_here, option_fits}
+use Rattle.xc_dance.proofs.LinkedTables.FirstTables.{laid_size, laid_len, laid_more}
 use Rattle.xc_dance.proofs.links.first_nodes.lay_uses.Goals as goal
 use Rattle.std.proofs.lemmas.Option.{slice_get-get_or}
 

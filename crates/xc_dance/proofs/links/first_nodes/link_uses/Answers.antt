@@ -9,9 +9,7 @@ use Rattle.xc_dance.specs.Links.Laid.{IsFit}
 use Rattle.xc_dance.specs.Links.Cells.{nodes_from, color_in}
 use Rattle.xc_dance.specs.Links.FirstNodes.{entered}
 use Rattle.std.proofs.lemmas.Option.{slice_get-get_or}
-use Rattle.xc_dance.proofs.LinkedTables.HeldOptions.{lines_of}
-use Rattle.xc_dance.proofs.LinkedTables.EnteredNodes.{UseStep, use_step, spacer_step, spacer_top, behind_items}
-use Rattle.xc_dance.proofs.LinkedTables.LinkedFirst.{none_entered, all_entered}
+use Rattle.xc_dance.proofs.LinkedTables.EnteredNodes.{lines_of, UseStep, use_step, spacer_step, spacer_top, behind_items, none_entered, all_entered}
 use Rattle.xc_dance.proofs.links.first_nodes.link_uses.Goals as goal
 use Rattle.xc_dance.proofs.links.first_nodes.link_uses.Goals.{Then-top-lt-SPACER, then-top-lt-SPACER, else-top-lt-SPACER}
 

@@ -1,7 +1,6 @@
 use Rattle.std.proofs.Common.{arith}
 use Rattle.std.proofs.lemmas.Grind.{common_steps}
-use Rattle.xc_dance.proofs.LinkedTables.OptionReach.{uses_here}
-use Rattle.xc_dance.proofs.LinkedTables.PlaceLemmas.{OptionFits, option_fits, layout_len}
+use Rattle.xc_dance.proofs.LinkedTables.PlaceLemmas.{uses_here, OptionFits, option_fits, layout_len}
 use Rattle.xc_dance.proofs.links.options.node_count.Goals as goal
 use Rattle.xc_dance.proofs.links.options.node_count.Goals.{After-option}
 

@@ -2,8 +2,7 @@ use Rattle.std.proofs.Common.{arith, ◌+◌, ◌++◌, [], ◌∷◌, ◌∙◌
 use Rattle.std.proofs.lemmas.Grind.{common_steps}
 use Rattle.std.proofs.lemmas.List.FromFn.{map-range_with_len_more}
 use Rattle.xc_dance.specs.Links.OptionPlaces.{start_at}
-use Rattle.xc_dance.proofs.LinkedTables.OptionReach.{uses_here}
-use Rattle.xc_dance.proofs.LinkedTables.PlaceLemmas.{starts_to, OptionFits, option_fits}
+use Rattle.xc_dance.proofs.LinkedTables.PlaceLemmas.{uses_here, starts_to, OptionFits, option_fits}
 use Rattle.xc_dance.proofs.links.options.option_starts.Goals as goal
 use Rattle.xc_dance.proofs.links.options.option_starts.Goals.{After-option}
 

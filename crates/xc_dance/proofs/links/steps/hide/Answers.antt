@@ -4,8 +4,7 @@ use Rattle.xc_dance.specs.declared.links.nodes.Nodes.{Nodes}
 use Rattle.xc_dance.specs.Links.Columns.{columns}
 use Rattle.xc_dance.specs.Links.Span.{Span}
 use Rattle.xc_dance.specs.Links.Steps.{hidden, CanHide, CanHideAll, CanHideNode, IsSpacer, places, span_at}
-use Rattle.xc_dance.proofs.LinkedTables.Places.{places_none, places_more}
-use Rattle.xc_dance.proofs.LinkedTables.Walks.{CanAll-append, underway, step_can, step_on, steps_end, both_reached, Tells, tells}
+use Rattle.xc_dance.proofs.LinkedTables.Walks.{places_none, places_more, CanAll-append, underway, step_can, step_on, steps_end, both_reached, Tells, tells}
 use Rattle.xc_dance.proofs.links.steps.hide.Goals as goal
 use Rattle.xc_dance.proofs.links.steps.hide.Goals.{After-get}
 

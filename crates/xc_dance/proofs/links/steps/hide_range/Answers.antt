@@ -1,8 +1,7 @@
 use Rattle.std.proofs.Common.{◌+◌, arith}
 use Rattle.std.proofs.lemmas.Grind.{common_steps}
 use Rattle.xc_dance.specs.Links.Steps.{places}
-use Rattle.xc_dance.proofs.LinkedTables.Places.{places_more}
-use Rattle.xc_dance.proofs.LinkedTables.Walks.{step_can, step_on}
+use Rattle.xc_dance.proofs.LinkedTables.Walks.{places_more, step_can, step_on}
 use Rattle.xc_dance.proofs.links.steps.hide_range.Goals as goal
 
 pub hide_one-count-requires-clause-can : goal.hide_one-count-requires-clause-can

@@ -1,8 +1,7 @@
 use Rattle.std.proofs.Common.{◌-◌, reverse, arith}
 use Rattle.std.proofs.lemmas.Grind.{common_steps}
 use Rattle.xc_dance.specs.Links.Steps.{places}
-use Rattle.xc_dance.proofs.LinkedTables.Places.{last_first}
-use Rattle.xc_dance.proofs.LinkedTables.Walks.{step_can, step_on}
+use Rattle.xc_dance.proofs.LinkedTables.Walks.{last_first, step_can, step_on}
 use Rattle.xc_dance.proofs.links.steps.show_range.Goals as goal
 
 pub show_one-count-requires-clause-can : goal.show_one-count-requires-clause-can

@@ -5,8 +5,7 @@ use Rattle.xc_dance.specs.declared.links.nodes.Nodes.{Nodes}
 use Rattle.xc_dance.specs.Links.Columns.{columns}
 use Rattle.xc_dance.specs.Links.Span.{Span}
 use Rattle.xc_dance.specs.Links.Steps.{shown, show_costs, CanShow, CanShowAll, CanShowNode, IsSpacer, places, others, span_at}
-use Rattle.xc_dance.proofs.LinkedTables.Places.{places_none, reverse-places}
-use Rattle.xc_dance.proofs.LinkedTables.Walks.{CanAll-append, underway, step_can, step_on, steps_end, both_reached, Tells, tells}
+use Rattle.xc_dance.proofs.LinkedTables.Walks.{places_none, reverse-places, CanAll-append, underway, step_can, step_on, steps_end, both_reached, Tells, tells}
 use Rattle.xc_dance.proofs.links.steps.unhide.Goals as goal
 use Rattle.xc_dance.proofs.links.steps.unhide.Goals.{After-get}
 
