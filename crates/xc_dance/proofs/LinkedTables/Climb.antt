@@ -1,44 +1,128 @@
--- Down the nodes that Tweaks of one item took off: each option comes back into the lists of its other items, and under the node above it into its own.
-use Rattle.std.proofs.Common.{◌≡◌, ◌≢◌, ℕ, ◌+◌, ◌*◌, ◌<◌, ◌≤◌, ◌^◌, inr, Bool, true, false, not, cond, ◌&&◌, ◌||◌, eqb, List, [], ◌∷◌, ◌++◌, length, map, fold, filter, reverse, get_or, Option, Some, None, refl, ap, ap₂, sym, subst, ◌∙◌, arith, eqb-true, eq-eqb, ne_eqb}
+-- Down the nodes that Tweaks of one item took off: each option comes back into the lists of its other items, and into its own.
+use Rattle.std.proofs.Common.{◌≡◌, ◌≢◌, ℕ, ◌+◌, ◌<◌, ◌≤◌, ◌^◌, true, false, cond, ◌||◌, eqb, List, [], ◌∷◌, length, map, fold, get_or, set, refl, ap, sym, subst, ◌∙◌, arith, eqb-true, eq-eqb, ◌*◌, inr, Bool, not, ◌&&◌, ◌++◌, filter, reverse, ap₂, ne_eqb}
 use Rattle.std.specs.List.{list_any}
-use Rattle.std.proofs.lemmas.Bool.{eqb-false, false≢true, and_parts}
+use Rattle.std.proofs.lemmas.Grind.{common_steps}
+use Rattle.std.proofs.lemmas.Bool.{false≢true, eqb-false, and_parts}
 use Rattle.std.proofs.lemmas.List.{length-map, reverse-append, map-append}
-use Rattle.xc_dance.specs.declared.dance.Move.{Move}
-use Rattle.xc_dance.specs.declared.links.nodes.Nodes.{Nodes}
-use Rattle.xc_dance.specs.Links.Span.{Span}
+use Rattle.std.proofs.lemmas.Option.{slice_get_within}
+use Rattle.std.proofs.Math.Bool.{or-true}
 use Rattle.xc_input.specs.Problem.{Puzzle, item_count, uses_of}
-use Rattle.xc_dance.specs.Moves.{is_open, AreLegal, listed_numbers}
-use Rattle.xc_dance.specs.Fields.{Node, unused, own, spacer, used, layout, link_place, is_in}
+use Rattle.xc_dance.specs.declared.links.nodes.Nodes.{Nodes}
+use Rattle.xc_dance.specs.Fields.{Node, layout, link_place, is_in, unused, own, spacer, used}
 use Rattle.xc_dance.specs.Links.Lines.{Line}
-use Rattle.xc_dance.specs.Links.Steps.{shown, CanShowAll, CanShowNode, others_of, show_costs}
+use Rattle.xc_dance.specs.Links.Steps.{relinked, shown, CanShow, CanShowAll, CanShowNode, others_of, show_costs}
+use Rattle.xc_dance.specs.Links.Cells.{fixed_up, fixed_down, top_in, nodes_from, ulink_in, dlink_in, color_in, line_of}
+use Rattle.xc_dance.specs.Links.Laid.{IsName, IsLaid, Placed}
+use Rattle.xc_dance.specs.declared.dance.Move.{Move}
+use Rattle.xc_dance.specs.Links.Span.{Span}
+use Rattle.xc_dance.specs.Moves.{is_open, AreLegal, listed_numbers}
 use Rattle.xc_dance.specs.Links.Tweaking.{shown_unless}
 use Rattle.xc_dance.specs.Links.TweaksBack.{with_ulink, climbed, climb_cost, CanClimb}
-use Rattle.xc_dance.proofs.LinkedTables.OtherItems.{out_of, or_swap, leaves, in_others}
-use Rattle.xc_dance.proofs.LinkedTables.UnmarkedCosts.{costs-are, shown_color, unmarked-reverse, unmarked_items}
-use Rattle.xc_dance.proofs.LinkedTables.OneOption.{gone_count, is_mark, IsApart, AllApart, all_at, line_here, line_there}
-use Rattle.xc_dance.specs.Links.Cells.{slot_of, link_at, fixed_up, fixed_down, top_in, ulink_in, dlink_in, color_in, nodes_from, line_of}
 use Rattle.xc_dance.specs.Links.Others.{before_use, behind_use}
-use Rattle.xc_dance.specs.Links.Laid.{IsName, Placed, IsLaid}
 use Rattle.xc_dance.specs.Links.Made.{IsFitted}
-use Rattle.xc_dance.proofs.LinkedTables.Mapped.{map_same}
-use Rattle.xc_dance.proofs.LinkedTables.Undo.{same_nodes}
-use Rattle.xc_dance.proofs.LinkedTables.ReadyLemmas.{Stands}
-use Rattle.xc_dance.proofs.LinkedTables.OneNode.{IsMember}
-use Rattle.xc_dance.proofs.LinkedTables.LinkColumns.{set_link, get_down}
-use Rattle.xc_dance.proofs.LinkedTables.Sweep.{in_above, by_first, put_at-same, put_at-other}
-use Rattle.xc_dance.proofs.LinkedTables.Goods.{Named, IsGood, member}
-use Rattle.xc_dance.proofs.LinkedTables.OthersApart.{others_apart, own_apart, item_range}
-use Rattle.xc_dance.proofs.LinkedTables.GoodLines.{all_good, numbers_named}
+use Rattle.xc_dance.proofs.LinkedTables.LinkColumns.{same_nodes, shown-open, shown-marked, set_link, set_top, get_item, size_from, node_cells, map_same, Stands, get_down}
+use Rattle.xc_dance.proofs.LinkedTables.OneOption.{is_mark, IsApart, AllApart, changed_one, changed_all, one_other, gone_count, all_at, line_here, line_there}
+use Rattle.xc_dance.proofs.LinkedTables.Sweep.{mended, with_line, in_above, by_first, put_at-same, put_at-other, put_at, other_items}
+use Rattle.xc_dance.proofs.LinkedTables.OtherItems.{out_of, or_swap, leaves, in_others, others_apart, own_apart, item_range}
+use Rattle.xc_dance.proofs.LinkedTables.UnmarkedNodes.{costs-are, shown_color, unmarked-reverse, unmarked_items}
+use Rattle.xc_dance.proofs.LinkedTables.GoodLines.{IsMember, Named, IsGood, member, all_good, numbers_named}
 use Rattle.xc_dance.proofs.MoveLemmas.Members.{element_of}
 use Rattle.xc_dance.proofs.MoveLemmas.Shortened.{rises_listed}
 use Rattle.xc_dance.proofs.LinkedTables.MarkedNodes.{stands_in}
-use Rattle.xc_dance.proofs.LinkedTables.MetOptions.{met_at}
+use Rattle.xc_dance.proofs.LinkedTables.Leaving.{met_at}
 use Rattle.xc_dance.proofs.LinkedTables.Regained.{Regaining, NextBack, next_back}
-use Rattle.xc_dance.proofs.LinkedTables.OneReturn.{Returning, shown_walk, back_all}
 use Rattle.xc_dance.proofs.LinkedTables.Spacers.{others_are, can_show_node}
-use Rattle.std.proofs.lemmas.Option.{slice_get_within}
-use Rattle.std.proofs.Math.Bool.{or-true}
-use Rattle.xc_dance.proofs.LinkedTables.LineChanges.{put_at, mended, with_line, other_items}
+
+-- ---- an option comes back into the lists of some of its items, whatever state these lists are in: what a step of unhide does where its neighbours are named
+
+-- what a step needs of option o, which comes back into item j's line
+pub record IsReturner (p : Puzzle) (j : ℕ) (l : Line) (o : ℕ) : Type 0 where
+  pub name : IsName p j o
+  pub above : IsName p j (l.up o)
+  pub below : IsName p j (l.down o)
+  pub few : l.len < 2 ^ 31
+
+pub record Shown (t u : Nodes) (q : ℕ) : Type 0 where
+  pub can : CanShow t q
+  pub done : shown t q ≡ u
+
+pub show_open : (p : Puzzle) (col : Node → ℕ) (ln : ℕ → Line) (j o : ℕ) → IsLaid p → 0 < j → j ≤ item_count p → 0 < o → IsReturner p j (ln j) o → is_mark p col o j ≡ false →
+    Shown (nodes_from p ln col) (nodes_from p (with_line ln j (mended (ln j) o)) col) (link_place p j o)
+show_open p col ln j o laid pos le o_pos m unmarked =
+    let q = link_place p j o in
+    let t : Nodes = nodes_from p ln col in
+    let c = node_cells p ln col j o laid pos le o_pos m.name m.above m.below in
+    let item = c.item in
+    let few : (ln j).len < 2 ^ 31 = m.few in
+    let count : get_or t.top (get_or t.top q 0) 0 ≡ (ln j).len = ap (λ k. get_or t.top k 0) c.item ∙ c.len in
+    record {
+      can = record { size = size_from p ln col; place = c.names.place; use_of = omega (arith, item, le, laid.small); places = λ _. c.names; few = λ _. omega (arith, count, few) };
+      done = shown-open t q unmarked ∙ same_nodes (relinked t q) (nodes_from p (with_line ln j (mended (ln j) o)) col)
+          (ap (λ i. set t.top i (get_or t.top i 0 + 1)) c.item ∙ ap (λ n. set t.top j (n + 1)) c.len ∙ sym (set_top p ln j (mended (ln j) o) laid pos le))
+          (ap (λ k. set t.ulink k q) c.down ∙ sym (set_link p (λ k x. (ln k).up x) (fixed_up p) j ((ln j).down o) o laid c.below))
+          (ap (λ k. set t.dlink k q) c.up ∙ sym (set_link p (λ k x. (ln k).down x) (fixed_down p) j ((ln j).up o) o laid c.above))
+          refl;
+    }
+
+pub show_marked : (p : Puzzle) (col : Node → ℕ) (ln : ℕ → Line) (j o : ℕ) → IsLaid p → 0 < j → j ≤ item_count p → 0 < o → IsName p j o → is_mark p col o j ≡ true → Shown (nodes_from p ln col) (nodes_from p ln col) (link_place p j o)
+show_marked p col ln j o laid pos le o_pos name marked =
+    let here = laid.there j o pos le name in
+    let q = link_place p j o in
+    let t : Nodes = nodes_from p ln col in
+    let q_in : q < length (layout p) = slice_get_within (layout p) q here.node here.at in
+    let long : length (map (top_in ln) (layout p)) ≡ length (layout p) = length-map (layout p) (top_in ln) in
+    let bad : get_or (map col (layout p)) q 0 ≢ 4294967295 → ⊥ = λ ne. ne (eqb-true (get_or (map col (layout p)) q 0) 4294967295 marked) in
+    record {
+      can = record { size = size_from p ln col; place = omega (arith, long, q_in); use_of = omega (arith, get_item p ln j o here o_pos, le, laid.small); places = λ ne. absurd (bad ne); few = λ ne. absurd (bad ne) };
+      done = shown-marked t q marked;
+    }
+
+-- ---- some items in turn
+
+abbrev pub back_one : Puzzle → (Node → ℕ) → ℕ → (ℕ → Line) → ℕ → ℕ → Line
+back_one = changed_one mended
+
+abbrev pub back_all : Puzzle → (Node → ℕ) → ℕ → (ℕ → Line) → List ℕ → ℕ → Line
+back_all = changed_all mended
+
+pub record Returning (p : Puzzle) (col : Node → ℕ) (ln : ℕ → Line) (o j : ℕ) : Type 0 where
+  pub pos : 0 < j
+  pub le : j ≤ item_count p
+  pub name : IsName p j o
+  pub returner : is_mark p col o j ≡ false → IsReturner p j (ln j) o
+
+apart_in : (j k : ℕ) (js : List ℕ) → IsApart j js → is_in k js ≡ true → j ≢ k
+apart_in j k [] apart e = absurd (false≢true e)
+apart_in j k (i ∷ is) apart e =
+    elim (eqb i k) as (λ b. eqb i k ≡ b → (b || is_in k is) ≡ true → j ≢ k) [
+      | true ↦ λ f g h. apart.0 (eqb-true i k f ∙ sym h)
+      | false ↦ λ f g. apart_in j k is apart.1 g
+    ] refl e
+
+pub record ShownAll (t u : Nodes) (qs : List ℕ) : Type 0 where
+  pub can : CanShowAll t qs
+  pub done : fold shown t qs ≡ u
+
+pub shown_walk : (p : Puzzle) (col : Node → ℕ) (ln : ℕ → Line) (o : ℕ) (js : List ℕ) → IsLaid p → 0 < o → AllApart js → ((j : ℕ) → is_in j js ≡ true → Returning p col ln o j) →
+    ShownAll (nodes_from p ln col) (nodes_from p (back_all p col o ln js) col) (map (λ j. link_place p j o) js)
+shown_walk p col ln o [] laid pos apart h = record { can = tt; done = refl }
+shown_walk p col ln o (j ∷ js) laid pos apart h =
+    let q = link_place p j o in
+    let qs = map (λ j. link_place p j o) js in
+    let t : Nodes = nodes_from p ln col in
+    let here = h j (ap (λ b. b || is_in j js) (eq-eqb j j refl)) in
+    let first : Shown t (nodes_from p (back_one p col o ln j) col) q =
+    elim (is_mark p col o j) as (λ b. is_mark p col o j ≡ b → Shown t (nodes_from p (cond b ln (with_line ln j (mended (ln j) o))) col) q) [
+      | true ↦ λ e. show_marked p col ln j o laid here.pos here.le pos here.name e
+      | false ↦ λ e. show_open p col ln j o laid here.pos here.le pos (here.returner e) e
+    ] refl in
+    let rest = shown_walk p col (back_one p col o ln j) o js laid pos apart.1 (λ k e.
+    let r = h k (ap (λ b. eqb j k || b) e ∙ or-true (eqb j k)) in
+    let same : back_one p col o ln j k ≡ ln k = one_other mended p col o ln j k (apart_in j k js apart.0 e) in
+    record { pos = r.pos; le = r.le; name = r.name; returner = λ u. subst (λ (l : Line). IsReturner p k l o) (sym same) (r.returner u) }) in
+    grind (arith, common_steps)
+
+-- ---- down the nodes that Tweaks of one item took off: each option comes back into the lists of its other items, and under the node above it into its own
 
 -- ---- lists turned round
 
@@ -88,26 +172,13 @@ abbrev pub raised : Line → ℕ → Line
 raised l o = record { len = l.len; up = put_at l.up (l.down o) o; down = l.down }
 
 pub top_kept : (ln : ℕ → Line) (i : ℕ) (l : Line) (n : Node) → l.len ≡ (ln i).len → top_in (with_line ln i l) n ≡ top_in ln n
-top_kept ln i l unused e = refl
-top_kept ln i l (spacer m) e = refl
-top_kept ln i l (used o u) e = refl
-top_kept ln i l (own k) e = elim (eqb k i) as (λ b. eqb k i ≡ b → cond b l.len (ln k).len ≡ (ln k).len) [
-  | true ↦ λ f. e ∙ ap (λ j. (ln j).len) (sym (eqb-true k i f))
-  | false ↦ λ f. refl
-] refl
-
-abbrev pub link_to : Puzzle → (ℕ → Line) → ℕ → Option (ℕ × ℕ) → ℕ
-link_to p ln fixed s = link_at p (λ j x. (ln j).down x) fixed s
+top_kept ln i l unused e = grind (arith, common_steps, eqb-true)
+top_kept ln i l (spacer m) e = grind (arith, common_steps, eqb-true)
+top_kept ln i l (used o u) e = grind (arith, common_steps, eqb-true)
+top_kept ln i l (own k) e = grind (arith, common_steps, eqb-true)
 
 pub down_kept : (p : Puzzle) (ln : ℕ → Line) (i : ℕ) (l : Line) (n : Node) → ((x : ℕ) → l.down x ≡ (ln i).down x) → dlink_in p (with_line ln i l) n ≡ dlink_in p ln n
-down_kept p ln i l n h = by_slot (slot_of n)
-  where
-    by_slot : (s : Option (ℕ × ℕ)) → link_to p (with_line ln i l) (fixed_down p n) s ≡ link_to p ln (fixed_down p n) s
-    by_slot None = refl
-    by_slot (Some s) = ap (link_place p s.0) (elim (eqb s.0 i) as (λ b. eqb s.0 i ≡ b → cond b (l.down s.1) ((ln s.0).down s.1) ≡ (ln s.0).down s.1) [
-      | true ↦ λ f. h s.1 ∙ ap (λ j. (ln j).down s.1) (sym (eqb-true s.0 i f))
-      | false ↦ λ f. refl
-    ] refl)
+down_kept p ln i l n h = grind (arith, common_steps, eqb-true)
 
 raised_is : (p : Puzzle) (col : Node → ℕ) (ln : ℕ → Line) (i o : ℕ) → IsLaid p → Placed p i ((ln i).down o) →
     with_ulink (nodes_from p ln col) (link_place p i ((ln i).down o)) (link_place p i o) ≡ nodes_from p (with_line ln i (raised (ln i) o)) col
@@ -121,10 +192,8 @@ raised_is p col ln i o laid h =
 -- ---- one step
 
 pub map_reverse : (f : ℕ → ℕ) (xs : List ℕ) → reverse (map f xs) ≡ map f (reverse xs)
-map_reverse f [] = refl
-map_reverse f (x ∷ xs) =
-    reverse-append (f x ∷ []) (map f xs) ∙ ap (λ ks. ks ++ f x ∷ []) (map_reverse f xs)
-    ∙ sym (map-append f (reverse xs) (x ∷ [])) ∙ ap (map f) (sym (reverse-append (x ∷ []) xs))
+map_reverse f [] = grind (arith, common_steps, map-append, reverse-append)
+map_reverse f (x ∷ xs) = grind (arith, common_steps, map-append, reverse-append, map_reverse f xs)
 
 -- what a step writes for option o
 abbrev pub back_writes : Puzzle → (Node → ℕ) → Bool → ℕ → ℕ → ℕ
@@ -141,15 +210,7 @@ pub record Opened (p : Puzzle) (t : List Move) (spans : List Span) (covered : Bo
   pub few : (j : ℕ) → 0 < j → j ≤ item_count p → j ≢ i → (ln1 j).len + length (to_come p t covered i j os) ≡ (line_of p t j).len
 
 opened_covered : (p : Puzzle) (t : List Move) (spans : List Span) (i : ℕ) (ln : ℕ → Line) (o : ℕ) (os : List ℕ) → Climbing p t true i ln (o ∷ os) → Opened p t spans true i ln o os
-opened_covered p t spans i ln o os h = record {
-  ln1 = ln;
-  can = λ e. absurd (false≢true (sym e));
-  done = refl;
-  own = refl;
-  cost = refl;
-  others = h.others;
-  few = h.few;
-}
+opened_covered p t spans i ln o os h = grind (arith, common_steps, false≢true)
 
 apart_behind : (js ks : List ℕ) → AllApart (js ++ ks) → AllApart ks
 apart_behind [] ks h = h
@@ -217,27 +278,17 @@ opened_open p t spans i ln o os legal fit opened o_pos named within h =
       );
       done = ap (fold shown t0) nodes ∙ w.done;
       own = at i ∙ ap (λ b. cond (b && not (is_mark p col o i)) (mended (ln i) o) (ln i)) (out_of i js (own_apart p i o fit.fit));
-      cost =
-          ap (λ ks. show_costs t0 (reverse ks)) (others_are p spans o i fit.spanned o_pos named) ∙ costs-are shown shown_color t0 (reverse (map (λ j. link_place p j o) js))
-          ∙ unmarked-reverse (map col (layout p)) (map (λ j. link_place p j o) js) ∙ unmarked_items p col o js;
+      cost = grind (arith, common_steps, costs-are, others_are, shown_color, unmarked-reverse, unmarked_items);
       others = λ j pos le ne.
           elim (leaves p col i j o) as (λ b. leaves p col i j o ≡ b → Regaining (line_of p t j) (ln1 j) (filter (leaves p col i j) os)) [
             | true ↦ λ e. subst (λ (l : Line). Regaining (line_of p t j) l (filter (leaves p col i j) os)) (sym (at j ∙ ap (λ b. cond b (mended (ln j) o) (ln j)) e)) (comes j e pos le ne).next
-            | false ↦ λ e.
-                subst (λ (l : Line). Regaining (line_of p t j) l (filter (leaves p col i j) os)) (sym (at j ∙ ap (λ b. cond b (mended (ln j) o) (ln j)) e))
-                (subst (Regaining (line_of p t j) (ln j)) (ap (λ b. cond b (o ∷ filter (leaves p col i j) os) (filter (leaves p col i j) os)) e) (h.others j pos le ne))
+            | false ↦ λ e. grind (arith, common_steps)
           ] refl;
       few = λ j pos le ne.
           let count = h.few j pos le ne in
           elim (leaves p col i j o) as (λ b. leaves p col i j o ≡ b → (ln1 j).len + length (filter (leaves p col i j) os) ≡ (line_of p t j).len) [
-            | true ↦ λ e.
-                let is : (ln1 j).len ≡ (ln j).len + 1 = ap (λ (l : Line). l.len) (at j ∙ ap (λ b. cond b (mended (ln j) o) (ln j)) e) in
-                let long : length (filter (leaves p col i j) (o ∷ os)) ≡ 1 + length (filter (leaves p col i j) os) = ap (λ b. length (cond b (o ∷ filter (leaves p col i j) os) (filter (leaves p col i j) os))) e ∙ omega arith in
-                omega (arith, count, is, long)
-            | false ↦ λ e.
-                let is : (ln1 j).len ≡ (ln j).len = ap (λ (l : Line). l.len) (at j ∙ ap (λ b. cond b (mended (ln j) o) (ln j)) e) in
-                let long : length (filter (leaves p col i j) (o ∷ os)) ≡ length (filter (leaves p col i j) os) = ap (λ b. length (cond b (o ∷ filter (leaves p col i j) os) (filter (leaves p col i j) os))) e in
-                omega (arith, count, is, long)
+            | true ↦ λ e. grind (arith, common_steps)
+            | false ↦ λ e. grind (arith, common_steps)
           ] refl;
     }
 
@@ -300,8 +351,5 @@ by_opened p t spans covered i ln o os fit pos le within h m1 =
 
 pub climb_step : (p : Puzzle) (t : List Move) (spans : List Span) (covered : Bool) (i : ℕ) (ln : ℕ → Line) (o : ℕ) (os : List ℕ) → AreLegal p t → IsFitted p spans → 0 < i → i ≤ item_count p → is_open i t ≡ not covered → is_in o (listed_numbers p t i) ≡ true
     → Climbing p t covered i ln (o ∷ os) → ClimbStep p t spans covered i ln o os
-climb_step p t spans true i ln o os legal fit pos le shut within h = by_opened p t spans true i ln o os fit pos le within h (opened_covered p t spans i ln o os h)
-climb_step p t spans false i ln o os legal fit pos le opened within h =
-    let named : Named p i o = element_of (Named p i) o (listed_numbers p t i) (numbers_named p t i) within in
-    let o_pos : 0 < o = in_above 0 o (listed_numbers p t i) (rises_listed p t i) within in
-    by_opened p t spans false i ln o os fit pos le within h (opened_open p t spans i ln o os legal fit opened o_pos named within h)
+climb_step p t spans true i ln o os legal fit pos le shut within h = grind (arith, common_steps, by_opened, element_of, in_above, numbers_named, opened_covered, opened_open, rises_listed)
+climb_step p t spans false i ln o os legal fit pos le opened within h = grind (arith, common_steps, by_opened, element_of, in_above, numbers_named, opened_covered, opened_open, rises_listed)

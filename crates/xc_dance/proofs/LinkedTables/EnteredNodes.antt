@@ -1,29 +1,173 @@
--- A use's node enters its item's list: so does its option the item's line.
-use Rattle.std.proofs.Common.{◌≡◌, ℕ, zero, suc, ◌+◌, ◌-◌, ◌<◌, ◌≤◌, inl, inr, Bool, true, false, cond, eqb, List, [], ◌∷◌, ◌++◌, length, map, take, get_or, set, Some, refl, ap, sym, ◌∙◌, arith, eqb-true, eq-eqb, ne_eqb}
-use Rattle.std.specs.Prelude.{slice_get, slice_index, is_some, flat_map}
-use Rattle.std.specs.List.{AllByRecursion}
-use Rattle.std.proofs.lemmas.Bool.{eqb-false}
-use Rattle.std.proofs.lemmas.List.{length-map, length-take-le, append-nil}
-use Rattle.std.proofs.lemmas.Option.{slice_get_within}
-use Rattle.xc_input.specs.declared.problem.Use.{Use}
-use Rattle.xc_input.specs.Problem.{Puzzle, Numbered, numbered_options, item_count, colour_in, uses_of, IsWithinLimits}
-use Rattle.xc_dance.specs.declared.links.nodes.Nodes.{Nodes}
-use Rattle.xc_dance.specs.Fields.{Node, own, spacer, used, layout, nodes_of, link_place}
-use Rattle.xc_dance.specs.Links.Lines.{Line}
-use Rattle.xc_dance.specs.Links.Laid.{IsName, Placed, IsLaid, IsFit}
-use Rattle.xc_dance.specs.Links.Cells.{top_in, color_in, fixed_up, fixed_down, nodes_from}
-use Rattle.xc_dance.specs.Links.FirstNodes.{entered}
-use Rattle.xc_dance.proofs.LinkedTables.Mapped.{get_map}
-use Rattle.xc_dance.proofs.LinkedTables.LaidLemmas.{NodeOk, layout_ok, is_laid}
-use Rattle.xc_dance.proofs.LinkedTables.PlaceLemmas.{front, length_front, layout_small}
-use Rattle.xc_dance.proofs.LinkedTables.OptionReach.{tail_from, get_behind}
-use Rattle.xc_dance.proofs.LinkedTables.Undo.{same_nodes}
-use Rattle.xc_dance.proofs.LinkedTables.LinkColumns.{column, put_link, column_same, get_link, set_link, set_top, get_len}
-use Rattle.xc_dance.proofs.LinkedTables.GrownLines.{grown, grown_all, grown_more, grown_last}
-use Rattle.xc_dance.proofs.LinkedTables.HeldOptions.{held, held_more, held_each, lines_of, lines_few}
-use Rattle.xc_input.proofs.EachElement.{each-append, each_at}
+-- The nodes of uses enter the lists of their items one by one, until the table is that of no moves.
+use Rattle.std.proofs.Common.{◌≡◌, ℕ, ◌+◌, ◌<◌, ◌≤◌, List, [], ◌∷◌, ◌++◌, length, fold, refl, sym, subst, ◌∙◌, arith, zero, suc, true, false, cond, eqb, map, take, Some, ap, eqb-true, eq-eqb, ◌-◌, inl, Bool, get_or, set, ne_eqb, filter}
+use Rattle.std.specs.List.{AllByRecursion, range_with_len}
+use Rattle.std.specs.Prelude.{slice_get, is_some, flat_map, slice_index}
+use Rattle.std.proofs.lemmas.Grind.{common_steps}
+use Rattle.std.proofs.lemmas.List.Sums.{fold-append}
+use Rattle.std.proofs.lemmas.List.{append-nil, append_assoc, length-map, length-take-le, take_all}
+use Rattle.std.proofs.lemmas.Bool.{false≢true, eqb-false}
+use Rattle.std.proofs.lemmas.Option.{same_Some, slice_get_within}
+use Rattle.std.proofs.Math.Bool.{or-true}
 use Rattle.std.proofs.Math.Path.{fun_ext}
-use Rattle.xc_dance.proofs.LinkedTables.LineChanges.{put_at, with_line}
+use Rattle.xc_input.specs.declared.problem.Use.{Use}
+use Rattle.xc_input.specs.Problem.{Puzzle, Numbered, numbered_options, holding, colour_in, item_count, IsWithinLimits}
+use Rattle.xc_dance.specs.Rising.{Rises}
+use Rattle.xc_dance.specs.Links.Lines.{Line}
+use Rattle.xc_dance.specs.Links.FirstNodes.{blank, entered, blanks}
+use Rattle.xc_dance.specs.Moves.{listed_numbers, listed}
+use Rattle.xc_dance.specs.Fields.{Node, own, spacer, used, layout, nodes_of, is_in, link_place}
+use Rattle.xc_dance.specs.Links.Laid.{IsFit, AreDistinct, IsName, Placed, IsLaid}
+use Rattle.xc_dance.specs.declared.links.nodes.Nodes.{Nodes}
+use Rattle.xc_dance.specs.Links.Cells.{top_in, color_in, fixed_up, fixed_down, nodes_from, ulink_in, dlink_in, line_of, up_of, down_of, nodes_after}
+use Rattle.xc_input.proofs.EachElement.{each-append, each_at}
+use Rattle.xc_dance.proofs.LinkedTables.Sweep.{put_at-same, put_at-other, put_at, IsLinkedFrom, with_line, Swept, swept, stay, cuts, stay_all, leave_none}
+use Rattle.xc_dance.proofs.Copied.{take_more-get}
+use Rattle.xc_dance.proofs.LinkedTables.LaidLemmas.{distinct_options, layout_ok, is_laid}
+use Rattle.xc_dance.proofs.LinkedTables.PlaceLemmas.{length_front, tail_from, front, layout_small, get_behind}
+use Rattle.xc_dance.proofs.LinkedTables.LinkColumns.{get_map, same_nodes, column, put_link, column_same, get_link, set_link, set_top, get_len, map_same}
+use Rattle.xc_dance.proofs.MoveLemmas.Shortened.{rises_listed}
+
+-- ---- a line to which members come one by one, each as the last
+
+-- member o comes last
+abbrev pub grown : Line → ℕ → Line
+grown l o = record { len = l.len + 1; up = put_at (put_at l.up o (l.up 0)) 0 o; down = put_at l.down (l.up 0) o }
+
+abbrev pub grown_all : List ℕ → Line
+grown_all xs = fold grown blank xs
+
+pub grown_more : (xs : List ℕ) (o : ℕ) → grown_all (xs ++ o ∷ []) ≡ grown (grown_all xs) o
+grown_more xs o = fold-append grown blank xs (o ∷ [])
+
+pub len_from : (l : Line) (xs : List ℕ) → (fold grown l xs).len ≡ l.len + length xs
+len_from l [] = omega arith
+len_from l (x ∷ xs) = let rest = len_from (grown l x) xs in omega (arith, rest)
+
+pub grown_len : (xs : List ℕ) → (grown_all xs).len ≡ length xs
+grown_len xs = let h = len_from blank xs in omega (arith, h)
+
+pub last_from : (P : ℕ → Type 0) (l : Line) (xs : List ℕ) → P (l.up 0) → AllByRecursion P xs → P ((fold grown l xs).up 0)
+last_from P l [] h a = h
+last_from P l (x ∷ xs) h a = last_from P (grown l x) xs (subst P (sym (put_at-same (put_at l.up x (l.up 0)) 0 x 0 refl)) a.0) a.1
+
+-- the last member is one of them, if there is one
+pub grown_last : (P : ℕ → Type 0) (xs : List ℕ) → P 0 → AllByRecursion P xs → P ((grown_all xs).up 0)
+grown_last P xs h a = last_from P blank xs h a
+
+-- a list that rises to its last
+pub last_high : (l : Line) (a : ℕ) (xs : List ℕ) → IsLinkedFrom l a xs → a ≤ l.up 0
+last_high l a [] h = let e = h.1 in omega (arith, e)
+last_high l a (x ∷ xs) h = let lt = h.0 in let rest = last_high l x xs h.3 in omega (arith, lt, rest)
+
+pub last_low : (l : Line) (a o : ℕ) (xs ys : List ℕ) → IsLinkedFrom l a xs → Rises a (xs ++ o ∷ ys) → l.up 0 < o
+last_low l a o [] ys h r = let e = h.1 in let lt = r.0 in omega (arith, e, lt)
+last_low l a o (x ∷ xs) ys h r = last_low l x o xs ys h.3 r.1
+
+pub linked_more : (l : Line) (a o : ℕ) (xs : List ℕ) → IsLinkedFrom l a xs → l.up 0 < o → l.down o ≡ 0 → IsLinkedFrom (grown l o) a (xs ++ o ∷ [])
+linked_more l a o [] h lt none = grind (arith, common_steps, last_high, put_at-other, put_at-same)
+linked_more l a o (x ∷ xs) h lt none = grind (arith, common_steps, last_high, put_at-other, put_at-same, linked_more l x o xs h.3 lt none)
+
+pub linked_from : (l : Line) (xs ys : List ℕ) → IsLinkedFrom l 0 xs → Rises 0 (xs ++ ys) → ((x : ℕ) → l.up 0 < x → l.down x ≡ 0) → IsLinkedFrom (fold grown l ys) 0 (xs ++ ys)
+linked_from l xs [] h r none = subst (IsLinkedFrom l 0) (sym (append-nil xs)) h
+linked_from l xs (y ∷ ys) h r none =
+    let lt = last_low l 0 y xs ys h r in
+    let last : (grown l y).up 0 ≡ y = put_at-same (put_at l.up y (l.up 0)) 0 y 0 refl in
+    subst (IsLinkedFrom (fold grown (grown l y) ys) 0) (append_assoc xs (y ∷ []) ys)
+    (linked_from (grown l y) (xs ++ y ∷ []) ys (linked_more l 0 y xs h lt (none y lt)) (subst (Rises 0) (sym (append_assoc xs (y ∷ []) ys)) r)
+    (λ x high. put_at-other l.down (l.up 0) y x (λ e. omega (arith, e, lt, last, high)) ∙ none x (omega (arith, lt, last, high))))
+
+pub grown_linked : (xs : List ℕ) → Rises 0 xs → IsLinkedFrom (grown_all xs) 0 xs
+grown_linked xs r = linked_from blank [] xs (refl, refl) r (λ x h. refl)
+
+-- ---- the options whose nodes of an item are among the first nodes
+
+-- ---- the lists of all items
+
+-- the options whose nodes of item j are among these
+abbrev pub held : ℕ → List Node → List ℕ
+held j [] = []
+held j (used o u ∷ ns) = cond (eqb u.item j) (o ∷ held j ns) (held j ns)
+held j (_ ∷ ns) = held j ns
+
+abbrev pub lines_of : List Node → ℕ → Line
+lines_of ns j = grown_all (held j ns)
+
+pub length-held : (j : ℕ) (ns : List Node) → length (held j ns) ≤ length ns
+length-held j [] = omega arith
+length-held j (used o u ∷ ns) = let h = length-held j ns in elim (eqb u.item j) as (λ b. length (cond b (o ∷ held j ns) (held j ns)) ≤ suc (length ns)) [ true ↦ omega (arith, h) | false ↦ omega (arith, h) ]
+length-held j (_ ∷ ns) = let h = length-held j ns in omega (arith, h)
+
+pub lines_few : (j : ℕ) (ns : List Node) → (lines_of ns j).len ≤ length ns
+lines_few j ns = let a = grown_len (held j ns) in let b = length-held j ns in omega (arith, a, b)
+
+pub held-append : (j : ℕ) (ms ns : List Node) → held j (ms ++ ns) ≡ held j ms ++ held j ns
+held-append j [] ns = grind (arith, common_steps)
+held-append j (used o u ∷ ms) ns = grind (arith, common_steps, held-append j ms ns)
+held-append j (_ ∷ ms) ns = grind (arith, common_steps, held-append j ms ns)
+
+-- what one node more adds
+pub held_more : (j k : ℕ) (ns : List Node) (n : Node) → slice_get ns k ≡ Some n → held j (take (k + 1) ns) ≡ held j (take k ns) ++ held j (n ∷ [])
+held_more j k ns n e = ap (held j) (take_more-get ns k n e) ∙ held-append j (take k ns) (n ∷ [])
+
+-- a fact of each option by its node
+pub held_each : (P : ℕ → Type 0) (j : ℕ) (ns : List Node) → ((k o : ℕ) (u : Use) → slice_get ns k ≡ Some (used o u) → u.item ≡ j → P o) → AllByRecursion P (held j ns)
+held_each P j [] h = tt
+held_each P j (used o u ∷ ns) h =
+    elim (eqb u.item j) as (λ b. eqb u.item j ≡ b → AllByRecursion P (cond b (o ∷ held j ns) (held j ns))) [
+      | true ↦ λ f. (h 0 o u refl (eqb-true u.item j f), held_each P j ns (λ k o u e f. h (suc k) o u e f))
+      | false ↦ λ f. held_each P j ns (λ k o u e f. h (suc k) o u e f)
+    ] refl
+held_each P j (_ ∷ ns) h = held_each P j ns (λ k o u e f. h (suc k) o u e f)
+
+-- each use's option is in its item's list
+pub held_in : (ns : List Node) (k o : ℕ) (u : Use) → slice_get ns k ≡ Some (used o u) → is_in o (held u.item ns) ≡ true
+held_in [] k o u e = grind (arith, common_steps, eq-eqb, or-true, same_Some)
+held_in (n ∷ ns) zero o u e = grind (arith, common_steps, eq-eqb, or-true, same_Some)
+held_in (used m v ∷ ns) (suc k) o u e = grind (arith, common_steps, eq-eqb, or-true, same_Some, held_in ns k o u e)
+held_in (_ ∷ ns) (suc k) o u e = grind (arith, common_steps, eq-eqb, or-true, same_Some, held_in ns k o u e)
+
+-- ---- before the first option, and behind the last
+
+pub owns_hold_none : (j n : ℕ) (js : List ℕ) (ns : List Node) → n ≤ length js → held j (take n (map own js ++ ns)) ≡ []
+owns_hold_none j zero js ns le = refl
+owns_hold_none j (suc n) [] ns le = absurd (omega (arith, le))
+owns_hold_none j (suc n) (i ∷ js) ns le = owns_hold_none j n js ns (omega (arith, le))
+
+pub held_none : (p : Puzzle) (j : ℕ) → held j (take (item_count p + 1) (layout p)) ≡ []
+held_none p j = grind (arith, common_steps, length_front, owns_hold_none)
+
+pub absent_none : (j o : ℕ) (us : List Use) → is_some (colour_in us j) ≡ false → held j (map (used o) us) ≡ []
+absent_none j o [] e = refl
+absent_none j o (u ∷ us) e =
+    elim (eqb u.item j) as (λ b. is_some (cond b (Some u.colour) (colour_in us j)) ≡ false → cond b (o ∷ held j (map (used o) us)) (held j (map (used o) us)) ≡ []) [
+      | true ↦ λ f. absurd (false≢true (sym f))
+      | false ↦ λ f. absent_none j o us f
+    ] e
+
+-- an option that holds an item has one node of it
+pub one_use : (j o : ℕ) (us : List Use) → AreDistinct us → held j (map (used o) us) ≡ cond (is_some (colour_in us j)) (o ∷ []) []
+one_use j o [] d = grind (arith, common_steps, absent_none, eqb-true)
+one_use j o (u ∷ us) d = grind (arith, common_steps, absent_none, eqb-true, one_use j o us d.1)
+
+pub options_hold : (j : ℕ) (os : List Numbered) → AllByRecursion (λ (x : Numbered). AreDistinct x.uses) os → held j (flat_map nodes_of os) ≡ map (λ (o : Numbered). o.number) (holding j os)
+options_hold j [] d = refl
+options_hold j (x ∷ os) d =
+    held-append j (nodes_of x) (flat_map nodes_of os)
+    ∙ ap (λ l. l ++ held j (flat_map nodes_of os)) (held-append j (map (used x.number) x.uses) (spacer x.number ∷ []) ∙ append-nil (held j (map (used x.number) x.uses)) ∙ one_use j x.number x.uses d.0)
+    ∙ elim (is_some (colour_in x.uses j)) as (λ b. cond b (x.number ∷ []) [] ++ held j (flat_map nodes_of os) ≡ map (λ (o : Numbered). o.number) (cond b (x ∷ holding j os) (holding j os))) [
+      | true ↦ ap (λ l. x.number ∷ l) (options_hold j os d.1)
+      | false ↦ options_hold j os d.1
+    ]
+
+pub owns_none : (j : ℕ) (js : List ℕ) (ns : List Node) → held j (map own js ++ ns) ≡ held j ns
+owns_none j [] ns = refl
+owns_none j (i ∷ js) ns = owns_none j js ns
+
+-- in the end each item's list is that of all options
+pub held_all : (p : Puzzle) (j : ℕ) → IsFit p → held j (layout p) ≡ listed_numbers p [] j
+held_all p j fit = owns_none j (range_with_len 1 (item_count p)) (tail_from 0 p.options) ∙ options_hold j (numbered_options p) (distinct_options p fit)
+
+-- ---- a use's node enters its item's list: so does its option the item's line
 
 -- ---- tables of lines that are the same
 
@@ -35,12 +179,7 @@ nodes_same p ln lm col h = ap (λ (lines : ℕ → Line). nodes_from p lines col
 -- two writes to the links of one item
 written_twice : (f : ℕ → ℕ → ℕ) (j : ℕ) (g : ℕ → ℕ) (o : ℕ) (k x : ℕ) →
     put_link (put_link f j g) j (put_at (put_link f j g j) 0 o) k x ≡ put_link f j (put_at g 0 o) k x
-written_twice f j g o k x =
-    let self : eqb j j ≡ true = eq-eqb j j refl in
-    elim (eqb k j) as (λ b. cond b (cond (eqb x 0) o (cond (eqb j j) (g x) (f j x))) (cond b (g x) (f k x)) ≡ cond b (cond (eqb x 0) o (g x)) (f k x)) [
-      | true ↦ ap (λ c. cond (eqb x 0) o (cond c (g x) (f j x))) self
-      | false ↦ refl
-    ]
+written_twice f j g o k x = grind (arith, common_steps, eq-eqb)
 
 entered-is : (p : Puzzle) (ln : ℕ → Line) (col : Node → ℕ) (q o : ℕ) (u : Use) → IsLaid p → slice_get (layout p) q ≡ Some (used o u) → Placed p u.item o → Placed p u.item 0 → Placed p u.item ((ln u.item).up 0) → (0 < u.item) × (u.item ≤ item_count p) →
     entered (nodes_from p ln col) q ≡ nodes_from p (with_line ln u.item (grown (ln u.item) o)) col
@@ -79,9 +218,7 @@ take_get (suc k) zero (y ∷ xs) x e = e
 take_get (suc k) (suc i) (y ∷ xs) x e = take_get k i xs x e
 
 use_name : (p : Puzzle) (k o j : ℕ) (u : Use) → IsFit p → slice_get (layout p) k ≡ Some (used o u) → u.item ≡ j → IsName p j o
-use_name p k o j u fit e same =
-    let ok : NodeOk p (used o u) = each_at (NodeOk p) (layout p) k (used o u) (layout_ok p fit) e in
-    inr (ok.0, ap (λ i. is_some (colour_in (uses_of p o) i)) (sym same) ∙ ap is_some ok.2)
+use_name p k o j u fit e same = grind (arith, common_steps, each_at, layout_ok)
 
 -- an item's line once one node more is entered
 line_then : (p : Puzzle) (q o : ℕ) (u : Use) → slice_get (layout p) q ≡ Some (used o u) → (k : ℕ) →
@@ -93,16 +230,7 @@ line_then p q o u e k =
     let m : Line = lines_of ns k in
     let make : Bool → Line = λ b. record { len = cond b l.len m.len; up = λ x. cond b (l.up x) (m.up x); down = λ x. cond b (l.down x) (m.down x) } in
     let next : held k (take (q + 1) (layout p)) ≡ held k ns ++ cond (eqb j k) (o ∷ []) [] = held_more k q (layout p) (used o u) e in
-    elim (eqb k j) as (λ b. eqb k j ≡ b → make (eqb k j) ≡ lines_of (take (q + 1) (layout p)) k) [
-      | true ↦ λ f.
-          let same : k ≡ j = eqb-true k j f in
-          let self : eqb j k ≡ true = eq-eqb j k (sym same) in
-          ap make f ∙ sym (grown_more (held j ns) o) ∙ ap (λ i. grown_all (held i ns ++ o ∷ [])) (sym same)
-          ∙ ap (λ b. grown_all (held k ns ++ cond b (o ∷ []) [])) (sym self) ∙ ap grown_all (sym next)
-      | false ↦ λ f.
-          let other : eqb j k ≡ false = ne_eqb j k (λ g. eqb-false k j f (sym g)) in
-          ap make f ∙ ap grown_all (sym (append-nil (held k ns))) ∙ ap (λ b. grown_all (held k ns ++ cond b (o ∷ []) [])) (sym other) ∙ ap grown_all (sym next)
-    ] refl
+    grind (arith, common_steps, append-nil, eq-eqb, eqb-false, eqb-true, grown_more, ne_eqb)
 
 -- what entering the node at q asks, and what it gives
 pub record UseStep (p : Puzzle) (t : Nodes) (q o : ℕ) (u : Use) : Type 0 where
@@ -174,3 +302,53 @@ behind_items p q n le e =
     let size = length_front p in
     each_at IsUseOrSpacer (tail_from 0 p.options) (q - (item_count p + 1)) n (tt, all_behind (numbered_options p))
     (sym (get_behind (front p) (tail_from 0 p.options) q (q - (item_count p + 1)) (omega (arith, size, le))) ∙ e)
+
+-- ---- once every node is entered, the table is that of no moves
+
+-- where the links of a line along a list lead
+along : (xs : List ℕ) → Rises 0 xs → Swept (grown_all xs) (grown_all xs) 0 xs xs
+along xs r =
+    let l = grown_all xs in
+    let s : Swept l (cuts l (filter (λ x. false) xs)) 0 xs (stay (λ x. false) xs) = swept l 0 xs (λ x. false) (grown_linked xs r) in
+    subst (λ ks. Swept l l 0 xs ks) (stay_all xs) (subst (λ ys. Swept l (cuts l ys) 0 xs (stay (λ x. false) xs)) (leave_none xs) s)
+
+-- before the first use's node, all lists are empty
+pub none_entered : (p : Puzzle) → nodes_from p blanks (color_in p []) ≡ nodes_from p (lines_of (take (item_count p + 1) (layout p))) (color_in p [])
+none_entered p = nodes_same p blanks (lines_of (take (item_count p + 1) (layout p))) (color_in p []) (λ j. ap grown_all (sym (held_none p j)))
+
+abbrev whole : Puzzle → ℕ → Line
+whole p j = grown_all (listed_numbers p [] j)
+
+up_is : (p : Puzzle) (j o : ℕ) → is_in o (listed_numbers p [] j) ≡ true → 0 < o → (whole p j).up o ≡ up_of p [] j o
+up_is p j zero e pos = absurd (omega (arith, pos))
+up_is p j (suc o) e pos = (along (listed_numbers p [] j) (rises_listed p [] j)).up_in (suc o) e
+
+down_is : (p : Puzzle) (j o : ℕ) → is_in o (listed_numbers p [] j) ≡ true → 0 < o → (whole p j).down o ≡ down_of p [] j o
+down_is p j zero e pos = absurd (omega (arith, pos))
+down_is p j (suc o) e pos = (along (listed_numbers p [] j) (rises_listed p [] j)).down_in (suc o) (λ z. omega (arith, z)) e
+
+in_list : (p : Puzzle) (q o : ℕ) (u : Use) → IsFit p → slice_get (layout p) q ≡ Some (used o u) → is_in o (listed_numbers p [] u.item) ≡ true
+in_list p q o u fit e = ap (is_in o) (sym (held_all p u.item fit)) ∙ held_in (layout p) q o u e
+
+top_is : (p : Puzzle) (n : Node) → top_in (whole p) n ≡ top_in (line_of p []) n
+top_is p (own i) = grown_len (listed_numbers p [] i) ∙ length-map (listed p [] i) (λ o. o.number)
+top_is p _ = refl
+
+ulink_is : (p : Puzzle) (q : ℕ) (n : Node) → IsFit p → slice_get (layout p) q ≡ Some n → ulink_in p (whole p) n ≡ ulink_in p (line_of p []) n
+ulink_is p q (own i) fit e = ap (link_place p i) (along (listed_numbers p [] i) (rises_listed p [] i)).last
+ulink_is p q (used o u) fit e = grind (arith, common_steps, each_at, in_list, layout_ok, up_is)
+ulink_is p q _ fit e = refl
+
+dlink_is : (p : Puzzle) (q : ℕ) (n : Node) → IsFit p → slice_get (layout p) q ≡ Some n → dlink_in p (whole p) n ≡ dlink_in p (line_of p []) n
+dlink_is p q (own i) fit e = ap (link_place p i) (along (listed_numbers p [] i) (rises_listed p [] i)).first
+dlink_is p q (used o u) fit e = grind (arith, common_steps, down_is, each_at, in_list, layout_ok)
+dlink_is p q _ fit e = refl
+
+pub all_entered : (p : Puzzle) (n : ℕ) → IsFit p → length (layout p) ≤ n → nodes_from p (lines_of (take n (layout p))) (color_in p []) ≡ nodes_after p []
+all_entered p n fit le =
+    nodes_same p (lines_of (take n (layout p))) (whole p) (color_in p []) (λ j. ap (λ ns. lines_of ns j) (take_all n (layout p) le) ∙ ap grown_all (held_all p j fit))
+    ∙ same_nodes (nodes_from p (whole p) (color_in p [])) (nodes_after p [])
+    (map_same (top_in (line_of p [])) (top_in (whole p)) (layout p) (λ q m e. top_is p m))
+    (map_same (ulink_in p (line_of p [])) (ulink_in p (whole p)) (layout p) (λ q m e. ulink_is p q m fit e))
+    (map_same (dlink_in p (line_of p [])) (dlink_in p (whole p)) (layout p) (λ q m e. dlink_is p q m fit e))
+    refl

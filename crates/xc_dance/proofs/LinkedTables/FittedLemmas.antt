@@ -1,24 +1,70 @@
--- A problem that was read fits into the tables.
-use Rattle.std.proofs.Common.{◌≡◌, ℕ, zero, suc, ◌<◌, ◌≤◌, ◌^◌, Bool, true, false, not, List, [], ◌∷◌, length, get_or, refl, ap, sym, subst, arith}
-use Rattle.std.specs.Prelude.{slice_get, unwrap_or}
+-- A problem that was read is fit for the walks and fits into the tables.
+use Rattle.std.proofs.Common.{◌≡◌, ◌≢◌, ℕ, zero, suc, ◌<◌, ◌≤◌, ◌^◌, false, List, [], ◌∷◌, length, get_or, refl, sym, arith, ne_eqb, Bool, true, not, ap, subst}
+use Rattle.std.specs.Prelude.{is_some, slice_get, unwrap_or, All, AllPairs}
 use Rattle.std.specs.List.{AllByRecursion, prefix_len}
-use Rattle.std.proofs.lemmas.List.{length-map, get_or-map}
 use Rattle.std.proofs.lemmas.List.Elements.{recursion_from_All}
-use Rattle.xc_input.specs.Problem.{Puzzle, Bounds, high_at, IsValid, IsWithinLimits}
+use Rattle.std.proofs.lemmas.Grind.{common_steps}
+use Rattle.std.proofs.lemmas.List.{length-map, get_or-map}
+use Rattle.xc_input.specs.declared.problem.Use.{Use}
+use Rattle.xc_input.specs.Problem.{Puzzle, colour_in, uses_of, item_count, IsValid, IsSoundOption, IsSoundUse, Bounds, high_at, IsWithinLimits}
 use Rattle.xc_input.specs.Named.{AreColoursKnown}
+use Rattle.xc_dance.specs.Links.Laid.{AreDistinct, IsFit}
 use Rattle.xc_dance.specs.Links.Span.{Span}
 use Rattle.xc_dance.specs.Fields.{Node, unused, used, layout, is_spacer}
-use Rattle.xc_dance.specs.Links.Laid.{IsFit}
 use Rattle.xc_dance.specs.Links.Made.{AreNear, IsFitted}
 use Rattle.xc_dance.specs.Links.OptionSpans.{span_of, spans_of}
-use Rattle.xc_dance.proofs.LinkedTables.FitLemmas.{is_fit}
+use Rattle.xc_input.proofs.EachElement.{each_weaker}
 use Rattle.xc_dance.proofs.LinkedTables.LaidLemmas.{is_laid}
-use Rattle.xc_dance.proofs.LinkedTables.PlaceLemmas.{layout_small}
-use Rattle.xc_dance.proofs.LinkedTables.SpanLemmas.{has_spans}
+use Rattle.xc_dance.proofs.LinkedTables.PlaceLemmas.{layout_small, has_spans}
+
+-- ---- a valid problem is fit for the walks
+
+absent : (us : List Use) (i : ℕ) (d : Use) → ((j : ℕ) → j < length us → i ≢ (get_or us j d).item) → is_some (colour_in us i) ≡ false
+absent [] i d h = refl
+absent (u ∷ us) i d h =
+    let ne : u.item ≢ i = λ e. h 0 (omega arith) (sym e) in
+    rw (ne_eqb u.item i ne) (absent us i d (λ j lt. h (suc j) (omega (arith, lt))))
+
+pub distinct_from : (us : List Use) → AllPairs (λ u v. u.item ≢ v.item) us → AreDistinct us
+distinct_from [] h = tt
+distinct_from (u ∷ us) h = (
+  absent us u.item u (λ j lt. h 0 (suc j) u (omega arith) (omega (arith, lt))),
+  distinct_from us (λ i j d a b. h (suc i) (suc j) d (omega (arith, a)) (omega (arith, b))),
+)
+
+at_place : (P : List Use → Type 0) (os : List (List Use)) (k : ℕ) → P [] → AllByRecursion P os → P (unwrap_or (slice_get os k) [])
+at_place P [] k nil a = nil
+at_place P (us ∷ os) zero nil a = a.0
+at_place P (us ∷ os) (suc k) nil a = at_place P os k nil a.1
+
+at_option : (P : List Use → Type 0) (p : Puzzle) (o : ℕ) → P [] → AllByRecursion P p.options → P (uses_of p o)
+at_option P p zero nil a = nil
+at_option P p (suc k) nil a = at_place P p.options k nil a
+
+abbrev InRange : Puzzle → Use → Type 0
+InRange p u = (0 < u.item) × (u.item ≤ item_count p)
+
+sound_items : (p : Puzzle) (us : List Use) → IsSoundOption p us → AllByRecursion (InRange p) us
+sound_items p us s = each_weaker (IsSoundUse p) (InRange p) us (λ u h. (let a = h.0.0 in omega (arith, a), h.0.1)) (recursion_from_All (IsSoundUse p) us s.sound)
+
+-- the rules of a problem say nothing of the colours: they are to be below the mark
+pub is_fit : (p : Puzzle) → IsValid p → All (λ us. All (λ u. u.colour < 4294967295) us) p.options → length p.options < 2 ^ 30 → item_count p < 2 ^ 31 → IsFit p
+is_fit p valid colours few small =
+    let sound : AllByRecursion (IsSoundOption p) p.options = recursion_from_All (IsSoundOption p) p.options valid.options in
+    record {
+      distinct = λ o. at_option AreDistinct p o tt (each_weaker (IsSoundOption p) AreDistinct p.options (λ us s. distinct_from us s.distinct) sound);
+      items = λ o. at_option (λ us. AllByRecursion (InRange p) us) p o tt (each_weaker (IsSoundOption p) (λ us. AllByRecursion (InRange p) us) p.options (sound_items p) sound);
+      colours = λ o. at_option (λ us. AllByRecursion (λ u. u.colour < 4294967295) us) p o tt
+          (each_weaker (λ us. All (λ u. u.colour < 4294967295) us) (λ us. AllByRecursion (λ u. u.colour < 4294967295) us) p.options (λ us h. recursion_from_All (λ u. u.colour < 4294967295) us h)
+          (recursion_from_All (λ us. All (λ u. u.colour < 4294967295) us) p.options colours));
+      few = few;
+      small = small;
+    }
+
+-- ---- a problem that was read fits into the tables
 
 pub known_fit : (colours : List (List ℕ)) (p : Puzzle) → IsValid p → IsWithinLimits p → AreColoursKnown colours p.options → length colours ≤ 10000000 → IsFit p
-known_fit colours p valid limits known few =
-    is_fit p valid (λ k us lt. λ j u within. (let h = known k us lt j u within in omega (arith, h, few))) (let n = limits.options in omega (arith, n)) (let n = limits.items in omega (arith, n))
+known_fit colours p valid limits known few = grind (arith, common_steps, is_fit)
 
 prefix_most : (f : Node → Bool) (ns : List Node) → prefix_len f ns ≤ length ns
 prefix_most f [] = omega arith

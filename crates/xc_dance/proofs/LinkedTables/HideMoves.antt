@@ -1,61 +1,165 @@
--- Cover and Purify: from the node table after moves to that after one move more, and back.
-use Rattle.std.proofs.Common.{◌≡◌, ℕ, ◌+◌, ◌<◌, ◌≤◌, true, not, ◌&&◌, eqb, List, ◌∷◌, length, map, filter, fold, get_or, reverse, Option, Some, None, refl, ap, ap₂, sym, subst, ◌∙◌, arith, eq-eqb, ne_eqb, inr}
-use Rattle.std.specs.Prelude.{unwrap_or}
-use Rattle.std.proofs.lemmas.List.{length-map}
+-- Cover and Purify: a walk down an open item's list and back, from the node table after moves to that after one move more.
+use Rattle.std.proofs.Common.{◌≡◌, ℕ, zero, suc, ◌<◌, ◌≤◌, ◌^◌, List, [], ◌∷◌, ◌++◌, length, map, get_or, reverse, refl, ap, ap₂, sym, ◌∙◌, arith, inl, inr, ◌+◌, ◌*◌, true, false, eqb, filter, Option, Some, subst, eqb-true, not, fold, None, eq-eqb, ne_eqb}
+use Rattle.std.specs.List.{AllByRecursion}
+use Rattle.std.specs.Prelude.{slice_get, unwrap_or}
+use Rattle.std.proofs.lemmas.Grind.{common_steps}
+use Rattle.std.proofs.lemmas.List.{length-map, reverse-append}
+use Rattle.std.proofs.lemmas.Option.{slice_get_within}
+use Rattle.std.proofs.lemmas.Bool.{eqb-false, and_parts}
+use Rattle.xc_input.specs.Problem.{Puzzle, item_count, Numbered, colour_in, colour_at}
 use Rattle.xc_dance.specs.declared.dance.Move.{Move}
-use Rattle.xc_dance.specs.declared.dance.Move.TheVariants.{Cover, Purify}
+use Rattle.xc_dance.specs.Moves.{listed, listed_numbers, is_open, AreLegal, is_other_colour}
+use Rattle.xc_dance.specs.Fields.{layout, link_place, Node, own, last_of}
+use Rattle.xc_dance.specs.Links.Lines.{Line}
+use Rattle.xc_dance.specs.Links.Steps.{followed, list_of, list_back}
+use Rattle.xc_dance.specs.Links.Cells.{ulink_in, dlink_in, nodes_after, line_of, color_in, nodes_from}
+use Rattle.xc_dance.specs.Links.Laid.{Placed, IsLaid, IsFit}
 use Rattle.xc_dance.specs.declared.links.nodes.Nodes.{Nodes}
 use Rattle.xc_dance.specs.Links.Span.{Span}
-use Rattle.xc_input.specs.Problem.{Puzzle, Numbered, item_count, colour_in, colour_at}
-use Rattle.xc_dance.specs.Moves.{listed, is_other_colour, is_open, AreLegal, listed_numbers}
-use Rattle.xc_dance.specs.Fields.{Node, own, layout, link_place, last_of}
-use Rattle.xc_dance.specs.Links.ListWalks.{left_node, back_node, with_colour, IsWalk, IsWalkBack, CanHideList, CanShowList, walk_costs, back_costs}
-use Rattle.xc_dance.specs.Links.Steps.{list_of, list_back}
-use Rattle.xc_dance.specs.Links.Purifying.{purified_list, unpurified_list, CanPurify, CanUnpurify}
-use Rattle.xc_dance.specs.Links.Cells.{color_in, nodes_from, nodes_after, line_of}
-use Rattle.xc_dance.specs.Links.Laid.{IsLaid}
-use Rattle.xc_dance.specs.Links.Made.{IsFitted}
-use Rattle.xc_dance.proofs.MoveLemmas.StateLemmas.{open_unpurified}
-use Rattle.xc_dance.proofs.LinkedTables.Mapped.{get_map}
-use Rattle.xc_dance.proofs.LinkedTables.Undo.{same_nodes, written_back}
-use Rattle.xc_dance.proofs.LinkedTables.LinkColumns.{get_up, get_down, size_from}
-use Rattle.xc_dance.proofs.LinkedTables.Sweep.{in_above}
-use Rattle.xc_dance.proofs.LinkedTables.LineSteps.{filter_numbers, leave_none}
-use Rattle.xc_dance.proofs.LinkedTables.Colours.{coloured_is, color_other}
-use Rattle.xc_dance.proofs.LinkedTables.OneList.{Passed}
-use Rattle.xc_dance.proofs.LinkedTables.GoodLines.{numbers_named}
-use Rattle.xc_dance.proofs.LinkedTables.Goods.{Named}
-use Rattle.xc_dance.proofs.MoveLemmas.Members.{element_of}
-use Rattle.xc_dance.proofs.LinkedTables.TakenOut.{listed_options, takes_cover, own_cover, takes_purify, own_purify}
-use Rattle.xc_dance.proofs.LinkedTables.MarkedColours.{marked_none, cover_colours, purify_start, purify_colours}
-use Rattle.xc_dance.proofs.LinkedTables.ListLinks.{own_placed, list_is, back_is, in_table, few_in}
-use Rattle.xc_dance.proofs.LinkedTables.HideStep.{Hides, hide_step, hide_writes}
-use Rattle.xc_dance.specs.Cost.{cost_of, marking}
 use Rattle.xc_dance.specs.Lists.Losing.{is_kept}
+use Rattle.xc_dance.specs.Links.Others.{HasSpans}
+use Rattle.xc_dance.specs.Cost.{leaving, cost_of, marking}
+use Rattle.xc_dance.specs.declared.dance.Move.TheVariants.{Cover, Purify}
+use Rattle.xc_dance.specs.Links.ListWalks.{left_node, back_node, with_colour, IsWalk, IsWalkBack, CanHideList, CanShowList, walk_costs, back_costs}
+use Rattle.xc_dance.specs.Links.Purifying.{purified_list, unpurified_list, CanPurify, CanUnpurify}
+use Rattle.xc_dance.specs.Links.Made.{IsFitted}
 use Rattle.xc_input.proofs.ListFilters.{filter_same}
-use Rattle.xc_dance.proofs.LinkedTables.OptionNumbers.{IsOption}
 use Rattle.xc_input.proofs.EachElement.{each_weaker}
-use Rattle.std.proofs.lemmas.Option.{slice_get_within}
+use Rattle.xc_dance.proofs.LinkedTables.LinkColumns.{get_up, get_down, get_len, get_map, same_nodes, written_back, size_from}
+use Rattle.xc_dance.proofs.LinkedTables.GoodLines.{Named, numbers_few, numbers_named, all_good, SameCut, line_after, tables_same}
+use Rattle.xc_dance.proofs.LinkedTables.Sweep.{stands, IsLinkedFrom, Rises-filter, in_above, filter_numbers, leave_none}
+use Rattle.xc_dance.proofs.LinkedTables.OneList.{Listed, step_costs, left_list, leavers, marked_list, Passed, walked_table, listed_walk, coloured_is, color_other}
+use Rattle.xc_dance.proofs.LinkedTables.OtherItems.{leaves, list_at, each_apart}
+use Rattle.xc_dance.proofs.LinkedTables.Leaving.{exchanged, costs_split, leaving_is, each_ready, AreOf, TakesOut, cut_others, cut_own, listed_options, takes_cover, own_cover, takes_purify, own_purify}
+use Rattle.xc_dance.proofs.MoveLemmas.Members.{in_filter, element_of}
 use Rattle.xc_dance.proofs.MoveLemmas.Shortened.{rises_listed}
+use Rattle.xc_dance.proofs.MoveLemmas.StateLemmas.{open_unpurified}
+use Rattle.xc_dance.proofs.LinkedTables.MarkedNodes.{marked_none, cover_colours, purify_start, purify_colours}
+use Rattle.xc_dance.proofs.LinkedTables.LaidLemmas.{IsOption}
+
+-- ---- a list as the links and LEN of the node table lead to it
+
+above_zero : (l : Line) (a : ℕ) (xs : List ℕ) (x : ℕ) → IsLinkedFrom l a (x ∷ xs) → 0 < x
+above_zero l a xs x h = let lt : a < x = h.0 in omega arith
+
+follow_down : (p : Puzzle) (ln : ℕ → Line) (i a : ℕ) (xs : List ℕ) → IsLaid p → 0 < i → i ≤ item_count p → AllByRecursion (Named p i) xs → IsLinkedFrom (ln i) a xs →
+    followed (map (dlink_in p ln) (layout p)) (length xs) (link_place p i ((ln i).down a)) ≡ map (link_place p i) xs
+follow_down p ln i a [] laid pos le named h = grind (arith, common_steps, above_zero, get_down)
+follow_down p ln i a (o ∷ xs) laid pos le named h = grind (arith, common_steps, above_zero, get_down, follow_down p ln i o xs laid pos le named.1 h.3)
+
+abbrev led : List ℕ → ℕ → ℕ → ℕ
+led f zero q = q
+led f (suc n) q = led f n (get_or f q 0)
+
+led_push : (f : List ℕ) (n q : ℕ) → led f (suc n) q ≡ get_or f (led f n q) 0
+led_push f zero q = refl
+led_push f (suc n) q = led_push f n (get_or f q 0)
+
+followed_push : (f : List ℕ) (n q : ℕ) → followed f (suc n) q ≡ followed f n q ++ led f n q ∷ []
+followed_push f zero q = refl
+followed_push f (suc n) q = ap (λ qs. q ∷ qs) (followed_push f n (get_or f q 0))
+
+follow_up : (p : Puzzle) (ln : ℕ → Line) (i a : ℕ) (xs : List ℕ) → IsLaid p → 0 < i → i ≤ item_count p → AllByRecursion (Named p i) xs → IsLinkedFrom (ln i) a xs →
+    (followed (map (ulink_in p ln) (layout p)) (length xs) (link_place p i ((ln i).up 0)) ≡ reverse (map (link_place p i) xs))
+    × (led (map (ulink_in p ln) (layout p)) (length xs) (link_place p i ((ln i).up 0)) ≡ link_place p i a)
+follow_up p ln i a [] laid pos le named h = (refl, ap (link_place p i) h.1)
+follow_up p ln i a (o ∷ xs) laid pos le named h =
+    let links = map (ulink_in p ln) (layout p) in
+    let q0 = link_place p i ((ln i).up 0) in
+    let here = laid.there i o pos le (inr (above_zero (ln i) a xs o h, named.0)) in
+    let rest = follow_up p ln i o xs laid pos le named.1 h.3 in (
+      followed_push links (length xs) q0 ∙ ap₂ (λ qs q. qs ++ q ∷ []) rest.0 rest.1 ∙ sym (reverse-append (link_place p i o ∷ []) (map (link_place p i) xs)),
+      led_push links (length xs) q0 ∙ ap (λ q. get_or links q 0) rest.1 ∙ get_up p ln i o here ∙ ap (link_place p i) h.2,
+    )
+
+-- item i's own node
+pub own_placed : (p : Puzzle) (i : ℕ) → IsLaid p → 0 < i → i ≤ item_count p → Placed p i 0
+own_placed p i laid pos le = laid.there i 0 pos le (inl refl)
+
+pub long_is : (p : Puzzle) (t : List Move) (i : ℕ) → IsLaid p → 0 < i → i ≤ item_count p → get_or (nodes_after p t).top i 0 ≡ length (listed_numbers p t i)
+long_is p t i laid pos le = get_len p (line_of p t) i laid pos le ∙ sym (length-map (listed p t i) (λ o. o.number))
+
+pub list_is : (p : Puzzle) (t : List Move) (i : ℕ) → IsLaid p → 0 < i → i ≤ item_count p → list_of (nodes_after p t) i ≡ map (link_place p i) (listed_numbers p t i)
+list_is p t i laid pos le =
+    ap₂ (followed (nodes_after p t).dlink) (long_is p t i laid pos le) (get_down p (line_of p t) i 0 (own_placed p i laid pos le))
+    ∙ follow_down p (line_of p t) i 0 (listed_numbers p t i) laid pos le (numbers_named p t i) (stands p t i)
+
+pub back_is : (p : Puzzle) (t : List Move) (i : ℕ) → IsLaid p → 0 < i → i ≤ item_count p → list_back (nodes_after p t) i ≡ reverse (map (link_place p i) (listed_numbers p t i))
+back_is p t i laid pos le =
+    ap₂ (followed (nodes_after p t).ulink) (long_is p t i laid pos le) (get_up p (line_of p t) i 0 (own_placed p i laid pos le))
+    ∙ (follow_up p (line_of p t) i 0 (listed_numbers p t i) laid pos le (numbers_named p t i) (stands p t i)).0
+
+pub in_table : (p : Puzzle) (t : List Move) (i : ℕ) → IsLaid p → 0 < i → i ≤ item_count p → i < length (nodes_after p t).top
+in_table p t i laid pos le = grind (arith, common_steps, length-map, slice_get_within)
+
+pub few_in : (p : Puzzle) (t : List Move) (i : ℕ) → IsLaid p → IsFit p → 0 < i → i ≤ item_count p → get_or (nodes_after p t).top i 0 < 2 ^ 30
+few_in p t i laid fit pos le =
+    omega (arith, long_is p t i laid pos le, numbers_few p t i, fit.few)
+
+-- ---- a walk down an open item's list leads from the node table after moves to that after one move more, and the walk back up from there to the one before
+
+-- from these colours on, the move m hides the options of item i's list but those that are kept, and marks these
+pub record Hides (p : Puzzle) (t : List Move) (m : Move) (i : ℕ) (keep : Option ℕ) (start : Node → ℕ) : Type 0 where
+  pub passed : Passed p i (color_in p t) start (listed_numbers p t i)
+  pub takes : TakesOut p t m i (leavers p i keep (listed_numbers p t i))
+  pub own : listed_numbers p (m ∷ t) i ≡ listed_numbers p t i
+  pub colours : (k : ℕ) (n : Node) → slice_get (layout p) k ≡ Some n → color_in p (m ∷ t) n ≡ marked_list p i keep start (listed_numbers p t i) n
+
+pub leavers_of : (p : Puzzle) (t : List Move) (i : ℕ) (keep : Option ℕ) → AreOf p t i (leavers p i keep (listed_numbers p t i))
+leavers_of p t i keep = grind (arith, common_steps, Rises-filter, and_parts, in_filter, rises_listed)
+
+-- what leaves each line is what the move takes from it
+pub hides_cut : (p : Puzzle) (t : List Move) (m : Move) (i : ℕ) (keep : Option ℕ) (start : Node → ℕ) (j : ℕ) → AreLegal p t → IsLaid p → IsFit p → is_open i t ≡ true → Hides p t m i keep start → (0 < j) × (j ≤ item_count p) →
+    SameCut p t m j (filter (leaves p (color_in p t) i j) (leavers p i keep (listed_numbers p t i)))
+hides_cut p t m i keep start j legal laid fit opened h r =
+    let gs = leavers p i keep (listed_numbers p t i) in
+    let of = leavers_of p t i keep in
+    elim (eqb j i) as (λ b. eqb j i ≡ b → SameCut p t m j (filter (leaves p (color_in p t) i j) gs)) [
+      | true ↦ λ e. subst (λ k. SameCut p t m k (filter (leaves p (color_in p t) i k) gs)) (sym (eqb-true j i e)) (cut_own p t m i gs fit of.rise h.own)
+      | false ↦ λ e. cut_others p t m i j gs legal laid fit opened r of h.takes (eqb-false j i e)
+    ] refl
+
+hides_table : (p : Puzzle) (t : List Move) (m : Move) (i : ℕ) (keep : Option ℕ) (start : Node → ℕ) → AreLegal p t → IsLaid p → IsFit p → is_open i t ≡ true → Hides p t m i keep start →
+    nodes_after p (m ∷ t) ≡ walked_table p (color_in p t) start i keep (line_of p t) (listed_numbers p t i)
+hides_table p t m i keep start legal laid fit opened h =
+    let gs = leavers p i keep (listed_numbers p t i) in
+    tables_same p (left_list p (color_in p t) i (line_of p t) gs) (line_of p (m ∷ t)) (marked_list p i keep start (listed_numbers p t i)) (color_in p (m ∷ t)) laid
+    (λ j r. line_after p t m j (filter (leaves p (color_in p t) i j) gs) (hides_cut p t m i keep start j legal laid fit opened h r) ∙ sym (list_at p (color_in p t) i (line_of p t) gs j (each_apart p i gs fit)))
+    h.colours
+
+-- what the walk writes: a cell for each option that is kept, three for each node that leaves
+abbrev pub hide_writes : Puzzle → List Move → Move → ℕ → Option ℕ → ℕ
+hide_writes p t m i keep = length (filter (is_kept p i keep) (listed_numbers p t i)) + 3 * leaving p t m
+
+hides_cost : (p : Puzzle) (t : List Move) (m : Move) (i : ℕ) (keep : Option ℕ) (start : Node → ℕ) → AreLegal p t → IsLaid p → IsFit p → is_open i t ≡ true → Hides p t m i keep start →
+    step_costs p (color_in p t) i keep (listed_numbers p t i) ≡ hide_writes p t m i keep
+hides_cost p t m i keep start legal laid fit opened h =
+    let gs = leavers p i keep (listed_numbers p t i) in
+    let all = leaving_is p t m (λ j. filter (leaves p (color_in p t) i j) gs) (λ j r. hides_cut p t m i keep start j legal laid fit opened h r) in
+    omega (arith, all, exchanged p (color_in p t) i gs fit, costs_split p (color_in p t) i keep (listed_numbers p t i))
+
+-- the walk down i's list and the walk back, where they lead to the tables after the move m
+abbrev pub HideStep : Puzzle → List Move → List Span → Move → ℕ → Option ℕ → (Node → ℕ) → Type 0
+HideStep p t spans m i keep start = Listed p (color_in p t) start spans i keep (line_of p t) 0 (listed_numbers p t i) (nodes_after p (m ∷ t)) (hide_writes p t m i keep)
+
+pub hide_step : (p : Puzzle) (t : List Move) (spans : List Span) (m : Move) (i : ℕ) (keep : Option ℕ) (start : Node → ℕ) → AreLegal p t → IsLaid p → HasSpans p spans → IsFit p → 0 < i → i ≤ item_count p → is_open i t ≡ true
+    → Hides p t m i keep start → HideStep p t spans m i keep start
+hide_step p t spans m i keep start legal laid spanned fit pos le opened h =
+    let xs = listed_numbers p t i in
+    let w = listed_walk p (color_in p t) start spans i keep (line_of p t) (listed_numbers p t) 0 xs laid spanned pos le (all_good p t fit) (stands p t i)
+    (each_ready p t i keep xs legal laid fit opened pos le (λ x e. e)) (rises_listed p t i) h.passed in
+    let L : Nodes → ℕ → Type 0 = Listed p (color_in p t) start spans i keep (line_of p t) 0 xs in
+    subst (λ u. L u (hide_writes p t m i keep)) (sym (hides_table p t m i keep start legal laid fit opened h)) (subst (L (walked_table p (color_in p t) start i keep (line_of p t) xs)) (hides_cost p t m i keep start legal laid fit opened h) w)
+
+-- ---- cover and Purify: from the node table after moves to that after one move more, and back
 
 -- ---- what the two moves hide
 
 pub cover_hides : (p : Puzzle) (t : List Move) (i : ℕ) → Hides p t (Cover i) i None (color_in p t)
-cover_hides p t i = record {
-  passed = record { others = λ j o ne pos le xpos named. refl; own = λ o e. refl };
-  takes = takes_cover p t i;
-  own = own_cover p t i;
-  colours = λ k n at. cover_colours p t i n ∙ ap (λ (f : Node → ℕ). f n) (sym (marked_none p i (color_in p t) (listed_numbers p t i)));
-}
+cover_hides p t i = grind (arith, common_steps, cover_colours, marked_none, own_cover, takes_cover)
 
 purify_passed : (p : Puzzle) (t : List Move) (i c : ℕ) → IsLaid p → 0 < i → i ≤ item_count p → Passed p i (color_in p t) (purify_start p t i c) (listed_numbers p t i)
-purify_passed p t i c laid pos le = record {
-  others = λ j o ne jpos jle opos named. color_other p (color_in p t) i 0 c j o (laid.there j o jpos jle (inr (opos, named))) (ap (λ b. b && eqb o 0) (ne_eqb j i ne));
-  own = λ o e.
-      let gt : 0 < o = in_above 0 o (listed_numbers p t i) (rises_listed p t i) e in
-      let named : Named p i o = element_of (Named p i) o (listed_numbers p t i) (numbers_named p t i) e in
-      color_other p (color_in p t) i 0 c i o (laid.there i o pos le (inr (gt, named))) (ap₂ (λ a b. a && b) (eq-eqb i i refl) (ne_eqb o 0 (λ f. omega (arith, f, gt))));
-}
+purify_passed p t i c laid pos le = grind (arith, common_steps, color_other, element_of, eq-eqb, in_above, ne_eqb, numbers_named, rises_listed)
 
 pub purify_hides : (p : Puzzle) (t : List Move) (i c : ℕ) → AreLegal p t → IsLaid p → 0 < i → i ≤ item_count p → is_open i t ≡ true → Hides p t (Purify i c) i (Some c) (purify_start p t i c)
 purify_hides p t i c legal laid pos le opened = record {
@@ -144,13 +248,4 @@ purify_made p t spans i c legal f pos le opened =
     let marked = kept_marked p t i c legal opened in
     let none : get_or t0.color i 0 ≡ 0 = get_map (color_in p t) (layout p) i (own i) (laid.head i pos le) ∙ ap (λ o. unwrap_or o 0) (open_unpurified i t opened) in
     let back : fold (back_node spans (Some c)) next (list_back next i) ≡ t1 = w.undone in
-    record {
-      can = record { place = omega (arith, within, long); walk = subst (λ (u : Nodes). CanHideList spans (Some c) u i) (sym start) w.can };
-      done = ap (λ (u : Nodes). fold (left_node spans (Some c)) u (list_of t0 i)) start ∙ w.done;
-      can_back = record { walk = w.can_back; place = subst (λ (u : Nodes). i < length u.color) (sym back) (omega (arith, within, long')) };
-      undone =
-          ap (λ (u : Nodes). with_colour u i 0) (back ∙ sym start)
-          ∙ same_nodes (with_colour (with_colour t0 i c) i 0) t0 refl refl refl (written_back t0.color i i c 0 refl none);
-      cost = omega (arith, ap (λ (u : Nodes). walk_costs spans (Some c) u (list_of t0 i)) start ∙ w.costs, marked);
-      cost_back = omega (arith, w.costs_back, marked);
-    }
+    grind (arith, common_steps, same_nodes, written_back)

@@ -1,21 +1,49 @@
--- The places of the node table: each slot stands at one place.
-use Rattle.std.proofs.Common.{◌≡◌, ◌≢◌, ℕ, zero, suc, ◌+◌, ◌<◌, ◌≤◌, inl, inr, Bool, true, false, not, cond, ◌&&◌, ◌||◌, eqb, List, [], ◌∷◌, ◌++◌, map, Some, refl, ap, ap₂, sym, subst, ◌∙◌, arith, eqb-true, eq-eqb, ne_eqb}
-use Rattle.std.specs.Prelude.{is_some, slice_get, flat_map, unwrap_or}
-use Rattle.std.specs.List.{AllByRecursion, list_any, range_with_len, position_or_len, prefix_len}
+-- The options with their numbers, and the places of the node table.
+use Rattle.std.proofs.Common.{◌≡◌, ℕ, zero, suc, ◌+◌, ◌<◌, List, [], ◌∷◌, Some, refl, ap, ◌∙◌, arith, ◌≢◌, ◌≤◌, inl, inr, Bool, true, false, cond, ◌&&◌, ◌||◌, eqb, ◌++◌, map, ap₂, sym, subst, eqb-true, eq-eqb, ne_eqb}
+use Rattle.std.specs.Prelude.{slice_get, unwrap_or, is_some, flat_map}
+use Rattle.std.specs.List.{AllByRecursion, list_any, range_with_len, position_or_len}
+use Rattle.std.proofs.lemmas.Grind.{common_steps}
 use Rattle.std.proofs.lemmas.Bool.{eqb-false, false≢true}
 use Rattle.std.proofs.lemmas.List.Folds.{list_any-append}
+use Rattle.std.proofs.lemmas.Option.{same_Some}
+use Rattle.std.proofs.Math.Bool.{or-true}
 use Rattle.xc_input.specs.declared.problem.Use.{Use}
-use Rattle.xc_input.specs.Problem.{Puzzle, Numbered, numbered_options, numbered_from, item_count, colour_in, uses_of}
+use Rattle.xc_input.specs.Problem.{Puzzle, Numbered, numbered_options, numbered_from, numbered_get, uses_of, item_count, colour_in}
 use Rattle.xc_dance.specs.Fields.{Node, own, spacer, used, layout, nodes_of, is_use_of, place_of, link_place}
 use Rattle.xc_dance.specs.Links.Cells.{slot_of}
 use Rattle.xc_dance.specs.Links.Laid.{IsName, Placed, IsLaid, IsFit, AreDistinct}
-use Rattle.xc_dance.proofs.LinkedTables.OptionNumbers.{IsOption, options_numbered}
-use Rattle.std.proofs.lemmas.Option.{same_Some}
 use Rattle.xc_input.proofs.EachElement.{each_weaker, each-append, each_at}
 use Rattle.xc_input.proofs.BooleanTests.{and_left, and_right}
 use Rattle.xc_dance.proofs.MoveLemmas.OptionsRise.{NumbersRise, NumbersRise-from}
-use Rattle.std.proofs.Math.Bool.{or-true}
 use Rattle.xc_dance.proofs.LinkedTables.LinkColumns.{item_of, member_of}
+
+-- ---- the options of a problem with their numbers, which rise from 1
+
+-- the option of this number has these uses
+abbrev pub IsOption : Puzzle → Numbered → Type 0
+IsOption p o = (0 < o.number) × (uses_of p o.number ≡ o.uses)
+
+numbered_at : (all : List (List Use)) (i k : ℕ) → i ≡ k + 1 → numbered_get all i ≡ slice_get all k
+numbered_at all zero k e = absurd (omega (arith, e))
+numbered_at all (suc i) k e = let same : i ≡ k = omega (arith, e) in ap (slice_get all) same
+
+uses_from : (all os : List (List Use)) (n : ℕ) → ((j : ℕ) → slice_get all (n + j) ≡ slice_get os j) → AllByRecursion (λ o. (0 < o.number) × (unwrap_or (numbered_get all o.number) [] ≡ o.uses)) (numbered_from (n + 1) os)
+uses_from all [] n h = tt
+uses_from all (us ∷ os) n h =
+    let z : n ≡ n + 0 = omega arith in
+    let here : numbered_get all (n + 1) ≡ Some us = numbered_at all (n + 1) n refl ∙ ap (slice_get all) z ∙ h 0 in (
+      (omega arith, ap (λ o. unwrap_or o []) here),
+      uses_from all os (n + 1) (λ j. let s : (n + 1) + j ≡ n + suc j = omega arith in ap (slice_get all) s ∙ h (suc j)),
+    )
+
+pub options_numbered : (p : Puzzle) → AllByRecursion (IsOption p) (numbered_options p)
+options_numbered p = uses_from p.options p.options 0 (λ j. let z : 0 + j ≡ j = omega arith in ap (slice_get p.options) z)
+
+-- the uses of an option by its place
+pub uses_at : (p : Puzzle) (k : ℕ) (us : List Use) → slice_get p.options k ≡ Some us → uses_of p (k + 1) ≡ us
+uses_at p k us e = ap (λ o. unwrap_or o []) (numbered_at p.options (k + 1) k refl ∙ e)
+
+-- ---- the places of the node table: each slot stands at one place
 
 -- ---- lists
 
@@ -37,13 +65,9 @@ one_right f [] ys a b = b
 one_right f (x ∷ xs) ys a b = ((λ e. absurd (false≢true (sym a.0 ∙ e))), one_right f xs ys a.1 b)
 
 pub position_at : (f : Node → Bool) (ns : List Node) (k : ℕ) (n : Node) → OnePasses f ns → slice_get ns k ≡ Some n → f n ≡ true → position_or_len f ns ≡ k
-position_at f [] k n o e t = cc
-position_at f (m ∷ ns) zero n o e t = let here : f m ≡ true = ap f (same_Some m n e) ∙ t in rw here refl
-position_at f (m ∷ ns) (suc k) n o e t =
-    elim (f m) as (λ b. f m ≡ b → prefix_len (λ x. not (f x)) (m ∷ ns) ≡ suc k) [
-      | true ↦ λ g. absurd (false≢true (sym (each_at (λ x. f x ≡ false) ns k n (o.0 g) e) ∙ t))
-      | false ↦ λ g. rw g (let rest = position_at f ns k n o.1 e t in omega (arith, rest))
-    ] refl
+position_at f [] k n o e t = grind (arith, common_steps, each_at, false≢true, same_Some)
+position_at f (m ∷ ns) zero n o e t = grind (arith, common_steps, each_at, false≢true, same_Some)
+position_at f (m ∷ ns) (suc k) n o e t = grind (arith, common_steps, each_at, false≢true, same_Some, position_at f ns k n o.1 e t)
 
 position_more : (f : Node → Bool) (m : Node) (ns : List Node) → f m ≡ false → position_or_len f (m ∷ ns) ≡ suc (position_or_len f ns)
 position_more f m ns g = rw g (omega arith)
@@ -128,11 +152,7 @@ abbrev IsUseOf : List Use → Use → Type 0
 IsUseOf us u = colour_in us u.item ≡ Some u.colour
 
 use_later : (v : Use) (us : List Use) (u : Use) → is_some (colour_in us v.item) ≡ false → IsUseOf us u → IsUseOf (v ∷ us) u
-use_later v us u d e =
-    elim (eqb v.item u.item) as (λ b. eqb v.item u.item ≡ b → cond b (Some v.colour) (colour_in us u.item) ≡ Some u.colour) [
-      | true ↦ λ f. absurd (false≢true (sym d ∙ ap (λ i. is_some (colour_in us i)) (eqb-true v.item u.item f) ∙ ap is_some e))
-      | false ↦ λ f. e
-    ] refl
+use_later v us u d e = grind (arith, common_steps, eqb-true, false≢true)
 
 uses_ok : (us : List Use) → AreDistinct us → AllByRecursion (IsUseOf us) us
 uses_ok [] d = tt
@@ -223,11 +243,8 @@ any_option j n (suc m) (us ∷ os) e =
     (subst (λ k. list_any (is_use_of k j) (flat_map nodes_of (numbered_from (n + 1) os)) ≡ true) s (any_option j (n + 1) m os e))
 
 any_node : (p : Puzzle) (x j : ℕ) → 0 < x → is_some (colour_in (uses_of p x) j) ≡ true → list_any (is_use_of x j) (layout p) ≡ true
-any_node p zero j pos e = absurd (omega arith)
-any_node p (suc m) j pos e =
-    let s : 1 + m ≡ suc m = omega arith in
-    any_there (is_use_of (suc m) j) (map own (range_with_len 1 (item_count p))) (spacer 0 ∷ flat_map nodes_of (numbered_options p))
-    (subst (λ k. list_any (is_use_of k j) (flat_map nodes_of (numbered_options p)) ≡ true) s (any_option j 1 m p.options e))
+any_node p zero j pos e = grind (arith, common_steps, any_option, any_there)
+any_node p (suc m) j pos e = grind (arith, common_steps, any_option, any_there)
 
 slot_used : (x j : ℕ) (n : Node) → is_use_of x j n ≡ true → slot_of n ≡ Some (j, x)
 slot_used x j (used o u) e = ap₂ (λ a b. let r : ℕ × ℕ = (a, b) in Some r) (eqb-true u.item j (and_right (eqb o x) (eqb u.item j) e)) (eqb-true o x (and_left (eqb o x) (eqb u.item j) e))
@@ -244,12 +261,8 @@ placed p j (suc m) pos le (inl z) = absurd (omega (arith, z))
 placed p j (suc m) pos le (inr h) = placed_used p j m h.1
 
 slot_place : (p : Puzzle) (k : ℕ) (n : Node) (j x : ℕ) → IsFit p → slice_get (layout p) k ≡ Some n → slot_of n ≡ Some (j, x) → link_place p j x ≡ k
-slot_place p k (own i) j x fit e f =
-    let a : i ≡ j = ap item_of f in
-    let b : 0 ≡ x = ap member_of f in
-    ap (link_place p j) (sym b) ∙ sym a ∙ own_is p k i fit e
-slot_place p k (used zero u) j x fit e f =
-    let ok : NodeOk p (used zero u) = each_at (NodeOk p) (layout p) k (used zero u) (layout_ok p fit) e in absurd (let h = ok.0 in omega (arith, h))
+slot_place p k (own i) j x fit e f = grind (arith, common_steps, own_is)
+slot_place p k (used zero u) j x fit e f = grind (arith, common_steps, each_at, layout_ok)
 slot_place p k (used (suc o) u) j x fit e f =
     let a : u.item ≡ j = ap item_of f in
     let b : suc o ≡ x = ap member_of f in
@@ -263,14 +276,4 @@ slot_range p _ j x ok f = cc
 
 -- the places of a fit problem
 pub is_laid : (p : Puzzle) → IsFit p → IsLaid p
-is_laid p fit = record {
-  unique = λ k n j x e f. slot_place p k n j x fit e f;
-  there = placed p;
-  head = head_is p;
-  nodes = record {
-    ranged = λ k n j x e f. slot_range p n j x (each_at (NodeOk p) (layout p) k n (layout_ok p fit) e) f;
-    numbered = λ k o u e. (each_at (NodeOk p) (layout p) k (used o u) (layout_ok p fit) e).0;
-    coloured = λ k o u e. (each_at (NodeOk p) (layout p) k (used o u) (layout_ok p fit) e).2;
-  };
-  small = fit.small;
-}
+is_laid p fit = grind (arith, common_steps, each_at, head_is, layout_ok, placed, slot_place, slot_range)

@@ -1,24 +1,113 @@
--- Options that leave an open item's list take their other uses out of the lists of the open items, and of no others.
-use Rattle.std.proofs.Common.{◌≡◌, ◌≢◌, ℕ, ◌<◌, ◌≤◌, true, false, not, cond, ◌&&◌, eqb, List, [], ◌∷◌, filter, refl, ap, sym, ◌∙◌, eq-eqb, ne_eqb}
-use Rattle.std.specs.Prelude.{is_some}
-use Rattle.std.proofs.lemmas.Bool.{false≢true}
-use Rattle.std.proofs.Math.Bool.{and-false}
+-- Options that leave an open item's list: what they meet, what they take out of the other lists, and how many nodes leave.
+use Rattle.std.proofs.Common.{◌≡◌, ℕ, ◌<◌, ◌≤◌, true, false, not, cond, ◌||◌, eqb, List, [], ◌∷◌, map, Option, Some, None, refl, ap, sym, ◌∙◌, arith, eqb-true, eq-eqb, ne_eqb, ◌≢◌, ◌&&◌, filter, zero, suc, ◌+◌, Bool, length, ap₂, ◌-◌, ◌*◌, drop, take}
+use Rattle.std.specs.Prelude.{is_some, sum_by}
+use Rattle.std.specs.List.{AllByRecursion, range_with_len}
+use Rattle.std.proofs.lemmas.Grind.{common_steps}
+use Rattle.std.proofs.lemmas.Bool.{eqb-false, false≢true, and_parts}
+use Rattle.std.proofs.Math.Bool.{not-not, or-true, and-false}
+use Rattle.std.proofs.lemmas.List.Sums.{sum_by-cons}
+use Rattle.std.proofs.lemmas.List.{length-map}
+use Rattle.std.proofs.lemmas.List.Elements.{filter_agree}
+use Rattle.xc_input.specs.Problem.{Puzzle, item_count, colour_in, uses_of, holds, holding, Numbered, colour_at}
 use Rattle.xc_dance.specs.declared.dance.Move.{Move}
-use Rattle.xc_input.specs.Problem.{Puzzle, item_count, colour_in, uses_of}
-use Rattle.xc_dance.specs.Moves.{is_open, AreLegal, listed_numbers}
-use Rattle.xc_dance.specs.Fields.{is_in}
+use Rattle.xc_dance.specs.Moves.{listed, is_open, AreLegal, listed_numbers, is_other_colour, without, other_colours}
+use Rattle.xc_dance.specs.Lists.Losing.{is_kept}
+use Rattle.xc_dance.specs.Fields.{Node, is_in}
+use Rattle.xc_dance.specs.Left.{left}
+use Rattle.xc_dance.specs.Links.ListWalks.{is_kept_colour}
 use Rattle.xc_dance.specs.Links.Cells.{color_in}
 use Rattle.xc_dance.specs.Links.Laid.{IsLaid, IsFit}
-use Rattle.xc_dance.proofs.LinkedTables.Sweep.{Rises, Rises-filter, stay}
-use Rattle.xc_dance.proofs.LinkedTables.Goods.{Named}
-use Rattle.xc_dance.proofs.LinkedTables.OneOption.{is_mark}
-use Rattle.xc_dance.proofs.LinkedTables.OtherItems.{in_others, leaves}
-use Rattle.xc_dance.proofs.LinkedTables.LineSteps.{stay_all, leave_none}
-use Rattle.xc_dance.proofs.LinkedTables.GoodLines.{numbers_named}
-use Rattle.xc_dance.proofs.LinkedTables.SameLines.{SameCut}
-use Rattle.xc_dance.proofs.MoveLemmas.Members.{element_of, in_filter, same_members, none_in}
-use Rattle.xc_dance.proofs.LinkedTables.MetOptions.{met_at}
+use Rattle.xc_dance.specs.Cost.{leaving}
+use Rattle.xc_dance.specs.declared.dance.Move.TheVariants.{Cover, Purify, Tweak}
+use Rattle.xc_input.proofs.EachElement.{each-filter, each_both, each-map, each_weaker}
+use Rattle.xc_input.proofs.ListFilters.{filter_same}
+use Rattle.xc_dance.proofs.LinkedTables.Sweep.{other_items, in_above, Rises, Rises-filter, stay, stay_all, leave_none, goes, without_numbers, filter_numbers, drop_numbers}
+use Rattle.xc_dance.proofs.LinkedTables.LinkColumns.{Stands}
+use Rattle.xc_dance.proofs.MoveLemmas.OpenLists.{listed_open}
+use Rattle.xc_dance.proofs.LinkedTables.GoodLines.{Named, numbers_named, SameCut}
+use Rattle.xc_dance.proofs.LinkedTables.OneOption.{is_mark, AreReady, AllApart, gone_count}
+use Rattle.xc_dance.proofs.LinkedTables.OneList.{own_color, OwnReady, EachReady, leavers, step_costs}
+use Rattle.xc_dance.proofs.LinkedTables.OtherItems.{in_others, others_apart, item_range, own_apart, leaves, out_of}
 use Rattle.xc_dance.proofs.MoveLemmas.Shortened.{rises_listed}
+use Rattle.xc_dance.proofs.MoveLemmas.Members.{element_of, in_filter, same_members, none_in}
+use Rattle.xc_dance.proofs.LinkedTables.MarkedNodes.{options_left, Met, each_met, stands_in, open_unmarked, color_is, colour_some, colour_small}
+use Rattle.xc_dance.proofs.LinkedTables.LaidLemmas.{IsOption}
+
+-- ---- the options of an open item's list are met: their other uses stand in their lists or are marked, so they are ready to leave
+
+-- an option of an open item's list, and another item that it holds
+pub met_at : (p : Puzzle) (t : List Move) (i j x : ℕ) → AreLegal p t → IsLaid p → IsFit p → is_open i t ≡ true → 0 < j → j ≤ item_count p → is_in x (listed_numbers p t i) ≡ true → Named p j x → Met p t x j
+met_at p t i j x legal laid fit opened pos le within named =
+    let list : listed p t i ≡ holding i (left p t) = listed_open p t legal i opened in
+    let each : AllByRecursion (λ o. Named p j o.number → Met p t o.number j) (left p t) =
+    each_both (IsOption p) (λ o. holds o j ≡ true → Met p t o.number j) (λ o. Named p j o.number → Met p t o.number j) (left p t)
+    (λ o is h n. h (ap (λ us. is_some (colour_in us j)) (sym is.1) ∙ n)) (options_left p t) (each_met p t j legal laid fit pos le) in
+    let listed_each : AllByRecursion (λ x. Named p j x → Met p t x j) (map (λ o. o.number) (holding i (left p t))) = grind (arith, common_steps, each-filter, each-map) in
+    grind (arith, common_steps, element_of)
+
+ready_by : (p : Puzzle) (col : Node → ℕ) (lists : ℕ → List ℕ) (o : ℕ) (js : List ℕ)
+    → ((j : ℕ) → is_in j js ≡ true → (0 < j) × (j ≤ item_count p) × Named p j o × (is_mark p col o j ≡ false → Stands (lists j) o)) → AllApart js → AreReady p col lists o js
+ready_by p col lists o [] h apart = tt
+ready_by p col lists o (j ∷ js) h apart =
+    let here = h j (ap (λ b. b || is_in j js) (eq-eqb j j refl)) in (
+      here.0,
+      here.1,
+      here.2,
+      here.3,
+      apart.0,
+      ready_by p col lists o js (λ k e. h k (ap (λ b. eqb j k || b) e ∙ or-true (eqb j k))) apart.1,
+    )
+
+-- its other uses are ready to leave
+pub ready_at : (p : Puzzle) (t : List Move) (i x : ℕ) → AreLegal p t → IsLaid p → IsFit p → is_open i t ≡ true → is_in x (listed_numbers p t i) ≡ true → AreReady p (color_in p t) (listed_numbers p t) x (other_items p x i)
+ready_at p t i x legal laid fit opened within =
+    ready_by p (color_in p t) (listed_numbers p t) x (other_items p x i)
+    (λ j e.
+    let named : Named p j x = (and_parts _ _ (sym (in_others p x i j (fit.distinct x)) ∙ e)).1 in
+    let r = item_range p (uses_of p x) j (fit.items x) named in
+    let m = met_at p t i j x legal laid fit opened r.0 r.1 within named in (
+      r.0,
+      r.1,
+      named,
+      λ un. elim (is_open j t) as (λ b. is_open j t ≡ b → Stands (listed_numbers p t j) x) [
+        | true ↦ λ f. stands_in x (listed_numbers p t j) (m.opened f).1
+        | false ↦ λ f. absurd (false≢true (sym un ∙ m.shut f))
+      ] refl,
+    ))
+    (others_apart p x i fit)
+
+eqb_turn : (a b : ℕ) → eqb a b ≡ eqb b a
+eqb_turn a b = grind (arith, common_steps, eq-eqb, eqb-false, eqb-true, ne_eqb)
+
+test_is : (p : Puzzle) (i : ℕ) (keep : Option ℕ) (x c : ℕ) → colour_in (uses_of p x) i ≡ Some c → is_kept_colour keep c ≡ is_kept p i keep x
+test_is p i None x c e = refl
+test_is p i (Some d) x c e = eqb_turn c d ∙ sym (not-not (eqb d c)) ∙ sym (ap (λ o. not (is_other_colour d o)) e)
+
+-- its own node isn't marked, and tells whether it is kept
+pub own_ready : (p : Puzzle) (t : List Move) (i : ℕ) (keep : Option ℕ) (x : ℕ) → IsLaid p → IsFit p → is_open i t ≡ true → 0 < i → i ≤ item_count p → is_in x (listed_numbers p t i) ≡ true → OwnReady p (color_in p t) i keep x
+own_ready p t i keep x laid fit opened pos le within =
+    let x_pos : 0 < x = in_above 0 x (listed_numbers p t i) (rises_listed p t i) within in
+    let named : Named p i x = element_of (Named p i) x (listed_numbers p t i) (numbers_named p t i) within in
+    let c = colour_some (uses_of p x) i named in
+    let small : c.0 < 4294967295 = colour_small (uses_of p x) i c.0 (fit.colours x) c.1 in
+    let is : own_color p (color_in p t) i x ≡ c.0 =
+    color_is p t x i c.0 laid pos le x_pos named c.1 ∙ ap (λ b. cond b 4294967295 c.0) (open_unmarked p t i x c.0 opened) in
+    grind (arith, common_steps, ne_eqb, test_is)
+
+-- options of the list, one after another
+pub each_ready : (p : Puzzle) (t : List Move) (i : ℕ) (keep : Option ℕ) (xs : List ℕ) → AreLegal p t → IsLaid p → IsFit p → is_open i t ≡ true → 0 < i → i ≤ item_count p
+    → ((x : ℕ) → is_in x xs ≡ true → is_in x (listed_numbers p t i) ≡ true) → EachReady p (color_in p t) (listed_numbers p t) i keep xs
+each_ready p t i keep [] legal laid fit opened pos le h = tt
+each_ready p t i keep (x ∷ xs) legal laid fit opened pos le h =
+    let within : is_in x (listed_numbers p t i) ≡ true = h x (ap (λ b. b || is_in x xs) (eq-eqb x x refl)) in (
+      element_of (Named p i) x (listed_numbers p t i) (numbers_named p t i) within,
+      ready_at p t i x legal laid fit opened within,
+      own_apart p i x fit,
+      own_ready p t i keep x laid fit opened pos le within,
+      each_ready p t i keep xs legal laid fit opened pos le (λ z e. h z (elim (eqb x z) as (λ b. (b || is_in z xs) ≡ true) [ true ↦ refl | false ↦ e ])),
+    )
+
+-- ---- options that leave an open item's list take their other uses out of the lists of the open items, and of no others
 
 -- options of item i's list, in order
 pub record AreOf (p : Puzzle) (t : List Move) (i : ℕ) (gs : List ℕ) : Type 0 where
@@ -97,3 +186,170 @@ cut_own p t m i gs fit rise same = record {
   cut_is = leaves_own p t i gs fit rise ∙ sym (leave_none (listed_numbers p t i));
   stay_is = same ∙ sym (stay_all (listed_numbers p t i));
 }
+
+-- ---- totals over numbers in a row
+
+-- f(a) and on, n numbers
+abbrev pub total : (ℕ → ℕ) → ℕ → ℕ → ℕ
+total f a zero = 0
+total f a (suc n) = f a + total f (a + 1) n
+
+pub sum_is_total : (f : ℕ → ℕ) (a n : ℕ) → sum_by f (range_with_len a n) ≡ total f a n
+sum_is_total f a zero = refl
+sum_is_total f a (suc n) = sum_by-cons f a (range_with_len (a + 1) n) ∙ ap (λ k. f a + k) (sum_is_total f (a + 1) n)
+
+pub total_same : (f g : ℕ → ℕ) (a n : ℕ) → ((j : ℕ) → a ≤ j → j < a + n → f j ≡ g j) → total f a n ≡ total g a n
+total_same f g a zero h = refl
+total_same f g a (suc n) h = ap₂ (λ x y. x + y) (h a (omega arith) (omega arith)) (total_same f g (a + 1) n (λ j u v. h j (omega (arith, u)) (omega (arith, v))))
+
+pub total_plus : (f g : ℕ → ℕ) (a n : ℕ) → total (λ j. f j + g j) a n ≡ total f a n + total g a n
+total_plus f g a zero = refl
+total_plus f g a (suc n) = let r = total_plus f g (a + 1) n in omega (arith, r)
+
+pub total_zero : (a n : ℕ) → total (λ j. 0) a n ≡ 0
+total_zero a zero = refl
+total_zero a (suc n) = let r = total_zero (a + 1) n in omega (arith, r)
+
+total_none : (k v a n : ℕ) → k < a → total (λ j. cond (eqb k j) v 0) a n ≡ 0
+total_none k v a zero h = grind (arith, common_steps, ne_eqb)
+total_none k v a (suc n) h = grind (arith, common_steps, ne_eqb, total_none k v (a + 1) n (omega (arith, h)))
+
+-- one number alone counts
+pub total_point : (k v a n : ℕ) → a ≤ k → k < a + n → total (λ j. cond (eqb k j) v 0) a n ≡ v
+total_point k v a zero u w = absurd (omega (arith, u, w))
+total_point k v a (suc n) u w =
+    elim (eqb k a) as (λ b. eqb k a ≡ b → cond b v 0 + total (λ j. cond (eqb k j) v 0) (a + 1) n ≡ v) [
+      | true ↦ λ e. let same = eqb-true k a e in let r = total_none k v (a + 1) n (omega (arith, same)) in omega (arith, r)
+      | false ↦ λ e. let ne = eqb-false k a e in let r = total_point k v (a + 1) n (omega (arith, u, ne)) (omega (arith, w)) in omega (arith, r)
+    ] refl
+
+-- the members that pass a test and the others are all
+pub parts : (f : ℕ → Bool) (xs : List ℕ) → length (filter f xs) + length (filter (λ x. not (f x)) xs) ≡ length xs
+parts f [] = grind (arith, common_steps)
+parts f (x ∷ xs) = grind (arith, common_steps, parts f xs)
+
+-- ---- how many nodes leave the lists of an option's other items, counted option by option and item by item
+
+-- ---- one option
+
+abbrev one_if : Bool → ℕ
+one_if b = cond b 1 0
+
+length_one : {X : Type 0} (b : Bool) (x : X) (xs : List X) → length (cond b (x ∷ xs) xs) ≡ cond b 1 0 + length xs
+length_one true x xs = omega arith
+length_one false x xs = omega arith
+
+-- the items in a list, counted over all items
+pub counted_over : (n : ℕ) (f : ℕ → Bool) (js : List ℕ) → AllApart js → ((k : ℕ) → is_in k js ≡ true → (1 ≤ k) × (k < 1 + n)) → length (filter f js) ≡ total (λ j. one_if (is_in j js && f j)) 1 n
+counted_over n f [] apart within = sym (total_zero 1 n)
+counted_over n f (j ∷ js) apart within =
+    let rest = counted_over n f js apart.1 (λ k e. within k (ap (λ b. eqb j k || b) e ∙ or-true (eqb j k))) in
+    let here = within j (ap (λ b. b || is_in j js) (eq-eqb j j refl)) in
+    let sum = total_plus (λ k. cond (eqb j k) (one_if (f j)) 0) (λ k. one_if (is_in k js && f k)) 1 n in
+    let same : total (λ k. one_if ((eqb j k || is_in k js) && f k)) 1 n ≡ total (λ k. cond (eqb j k) (one_if (f j)) 0 + one_if (is_in k js && f k)) 1 n = grind (arith, common_steps, eqb-true, out_of, total_same) in
+    omega (arith, rest, total_point j (one_if (f j)) 1 n here.0 here.1, sum, same, length_one (f j) j (filter f js))
+
+-- ---- some options
+
+abbrev pub total_gone : Puzzle → (Node → ℕ) → ℕ → List ℕ → ℕ
+total_gone p col i [] = 0
+total_gone p col i (o ∷ os) = gone_count p col i o + total_gone p col i os
+
+-- option by option or item by item
+pub exchanged : (p : Puzzle) (col : Node → ℕ) (i : ℕ) (os : List ℕ) → IsFit p → total_gone p col i os ≡ total (λ j. length (filter (leaves p col i j) os)) 1 (item_count p)
+exchanged p col i [] fit = sym (total_zero 1 (item_count p))
+exchanged p col i (o ∷ os) fit =
+    let n = item_count p in
+    let here : gone_count p col i o ≡ total (λ j. cond (leaves p col i j o) 1 0) 1 n =
+    counted_over n (λ j. not (is_mark p col o j)) (other_items p o i) (others_apart p o i fit)
+    (λ k e.
+    let named : is_some (colour_in (uses_of p o) k) ≡ true = (and_parts _ _ (sym (in_others p o i k (fit.distinct o)) ∙ e)).1 in
+    let r = item_range p (uses_of p o) k (fit.items o) named in
+    (omega (arith, r.0), omega (arith, r.1))) in
+    let sum = total_plus (λ j. cond (leaves p col i j o) 1 0) (λ j. length (filter (leaves p col i j) os)) 1 n in
+    let same : total (λ j. length (cond (leaves p col i j o) (o ∷ filter (leaves p col i j) os) (filter (leaves p col i j) os))) 1 n ≡ total (λ j. cond (leaves p col i j o) 1 0 + length (filter (leaves p col i j) os)) 1 n = grind (arith, common_steps, length_one, total_same) in
+    omega (arith, here, exchanged p col i os fit, sum, same)
+
+-- the walk's costs: 1 for each option kept, 3 for each node that leaves
+pub costs_split : (p : Puzzle) (col : Node → ℕ) (i : ℕ) (keep : Option ℕ) (xs : List ℕ) → step_costs p col i keep xs ≡ length (filter (is_kept p i keep) xs) + 3 * total_gone p col i (leavers p i keep xs)
+costs_split p col i keep [] = grind (arith, common_steps)
+costs_split p col i keep (o ∷ xs) = grind (arith, common_steps, costs_split p col i keep xs)
+
+-- ---- what a move takes from all lists
+
+pub leaving_is : (p : Puzzle) (t : List Move) (m : Move) (k : ℕ → List ℕ) → ((j : ℕ) → (0 < j) × (j ≤ item_count p) → SameCut p t m j (k j)) → leaving p t m ≡ total (λ j. length (k j)) 1 (item_count p)
+leaving_is p t m k cuts =
+    sum_is_total (λ j. length (listed p t j) - length (listed p (m ∷ t) j)) 1 (item_count p)
+    ∙ total_same (λ j. length (listed p t j) - length (listed p (m ∷ t) j)) (λ j. length (k j)) 1 (item_count p)
+    (λ j u v.
+    let c = cuts j (omega (arith, u), omega (arith, v)) in
+    let a : length (listed_numbers p t j) ≡ length (listed p t j) = length-map (listed p t j) (λ o. o.number) in
+    let b : length (listed_numbers p (m ∷ t) j) ≡ length (listed p (m ∷ t) j) = length-map (listed p (m ∷ t) j) (λ o. o.number) in
+    let gone : length (k j) ≡ length (filter c.test (listed_numbers p t j)) = ap length c.cut_is in
+    let left : length (listed_numbers p (m ∷ t) j) ≡ length (filter (λ x. not (c.test x)) (listed_numbers p t j)) = ap length c.stay_is in
+    omega (arith, a, b, gone, left, parts c.test (listed_numbers p t j)))
+
+-- ---- what each move takes out of the lists of the other items, in option numbers
+
+goes_is : (gone : List Numbered) (x : ℕ) → goes gone x ≡ is_in x (map (λ o. o.number) gone)
+goes_is [] x = refl
+goes_is (o ∷ os) x = ap (λ b. eqb o.number x || b) (goes_is os x)
+
+pub takes_listed : (p : Puzzle) (t : List Move) (m : Move) (i : ℕ) (gone : List Numbered) (gs : List ℕ) → map (λ o. o.number) gone ≡ gs
+    → ((j : ℕ) → j ≢ i → listed p (m ∷ t) j ≡ cond (is_open j t) (without gone (listed p t j)) (listed p t j)) → TakesOut p t m i gs
+takes_listed p t m i gone gs is h = grind (arith, common_steps, filter_agree, goes_is, without_numbers)
+
+pub listed_options : (p : Puzzle) (t : List Move) (i : ℕ) → AreLegal p t → is_open i t ≡ true → AllByRecursion (IsOption p) (listed p t i)
+listed_options p t i legal opened = grind (arith, common_steps, each-filter, listed_open, options_left)
+
+-- ---- Cover
+
+pub leavers_all : (p : Puzzle) (i : ℕ) (xs : List ℕ) → leavers p i None xs ≡ xs
+leavers_all p i xs = stay_all xs
+
+pub takes_cover : (p : Puzzle) (t : List Move) (i : ℕ) → TakesOut p t (Cover i) i (leavers p i None (listed_numbers p t i))
+takes_cover p t i = grind (arith, common_steps, leavers_all, ne_eqb, takes_listed)
+
+pub own_cover : (p : Puzzle) (t : List Move) (i : ℕ) → listed_numbers p (Cover i ∷ t) i ≡ listed_numbers p t i
+own_cover p t i = ap (λ b. map (λ o. o.number) (cond (not b && is_open i t) (without (listed p t i) (listed p t i)) (listed p t i))) (eq-eqb i i refl)
+
+-- ---- Purify
+
+others_numbers : (p : Puzzle) (i c : ℕ) (os : List Numbered) → AllByRecursion (IsOption p) os → map (λ o. o.number) (other_colours i c os) ≡ leavers p i (Some c) (map (λ o. o.number) os)
+others_numbers p i c os a =
+    let f : ℕ → Bool = λ x. not (is_kept p i (Some c) x) in
+    ap (map (λ o. o.number)) (filter_same (λ o. is_other_colour c (colour_at o i)) (λ o. f o.number) os
+    (each_weaker (IsOption p) (λ o. is_other_colour c (colour_at o i) ≡ f o.number) os
+    (λ o is. sym (not-not (is_other_colour c (colour_in (uses_of p o.number) i)) ∙ ap (λ us. is_other_colour c (colour_in us i)) is.1)) a))
+    ∙ filter_numbers f os
+
+pub takes_purify : (p : Puzzle) (t : List Move) (i c : ℕ) → AreLegal p t → is_open i t ≡ true → TakesOut p t (Purify i c) i (leavers p i (Some c) (listed_numbers p t i))
+takes_purify p t i c legal opened = grind (arith, common_steps, listed_options, ne_eqb, others_numbers, takes_listed)
+
+pub own_purify : (p : Puzzle) (t : List Move) (i c : ℕ) → listed_numbers p (Purify i c ∷ t) i ≡ listed_numbers p t i
+own_purify p t i c = ap (λ b. map (λ o. o.number) (cond (not b && is_open i t) (without (other_colours i c (listed p t i)) (listed p t i)) (listed p t i))) (eq-eqb i i refl)
+
+-- ---- Tweak
+
+-- the first number, in a list of its own
+abbrev pub first_alone : List ℕ → List ℕ
+first_alone [] = []
+first_alone (x ∷ xs) = x ∷ []
+
+take_numbers : (os : List Numbered) → map (λ o. o.number) (take 1 os) ≡ first_alone (map (λ o. o.number) os)
+take_numbers [] = refl
+take_numbers (o ∷ os) = refl
+
+pub takes_tweak : (p : Puzzle) (t : List Move) (i : ℕ) → is_open i t ≡ true → TakesOut p t (Tweak i) i (first_alone (listed_numbers p t i))
+takes_tweak p t i opened =
+    takes_listed p t (Tweak i) i (take 1 (listed p t i)) (first_alone (listed_numbers p t i)) (take_numbers (listed p t i))
+    (λ j ne.
+    ap (λ b. cond b (drop 1 (listed p t i)) (cond (is_open i t && is_open j t) (without (take 1 (listed p t i)) (listed p t j)) (listed p t j))) (ne_eqb j i ne)
+    ∙ ap (λ b. cond (b && is_open j t) (without (take 1 (listed p t i)) (listed p t j)) (listed p t j)) opened)
+
+-- a closed item's Tweak takes none out of other lists
+pub tweak_others : (p : Puzzle) (t : List Move) (i j : ℕ) → is_open i t ≡ false → j ≢ i → listed_numbers p (Tweak i ∷ t) j ≡ listed_numbers p t j
+tweak_others p t i j shut ne = grind (arith, common_steps, ne_eqb)
+
+pub tweak_own : (p : Puzzle) (t : List Move) (i : ℕ) → listed_numbers p (Tweak i ∷ t) i ≡ drop 1 (listed_numbers p t i)
+tweak_own p t i = grind (arith, common_steps, drop_numbers, eq-eqb)

@@ -1,18 +1,104 @@
--- The columns of links and counts of a table of lines, and one write to them.
-use Rattle.std.proofs.Common.{◌≡◌, ◌≢◌, ℕ, ◌<◌, ◌≤◌, true, false, cond, eqb, List, length, map, get_or, set, Option, Some, None, refl, ap, ap₂, sym, ◌∙◌, arith, eqb-true, eq-eqb, ne_eqb}
+-- The columns of the node table, one write to them, and steps of hide that undo one another.
+use Rattle.std.proofs.Common.{◌≡◌, ◌≢◌, ℕ, zero, suc, List, [], ◌∷◌, map, get_or, set, Some, refl, ap, ap₂, arith, ◌-◌, ◌<◌, Bool, true, false, cond, eqb, reverse, fold, ◌∙◌, length, ◌≤◌, Option, None, sym, eqb-true, eq-eqb, ne_eqb, ◌^◌, ◌++◌}
 use Rattle.std.specs.Prelude.{slice_get}
-use Rattle.std.proofs.lemmas.List.{length-map}
+use Rattle.std.proofs.lemmas.Option.{same_Some, slice_get_within}
+use Rattle.std.proofs.lemmas.Grind.{common_steps}
+use Rattle.std.proofs.lemmas.List.{get_or-set_same, get_or-set_other, set-set, set-get_or, reverse-append, length-map, length-set}
+use Rattle.std.proofs.lemmas.List.Sums.{fold-append}
+use Rattle.std.proofs.Math.Path.{fun_ext}
 use Rattle.xc_input.specs.Problem.{Puzzle, item_count}
+use Rattle.xc_dance.specs.declared.links.nodes.Nodes.{Nodes}
+use Rattle.xc_dance.specs.Links.Steps.{unlinked, relinked, hidden, shown, HasSize, NamesPlaces, CanHideAll, CanShow, CanShowAll}
 use Rattle.xc_dance.specs.Fields.{Node, own, used, layout, link_place}
 use Rattle.xc_dance.specs.Links.Lines.{Line}
-use Rattle.xc_dance.specs.Links.Steps.{HasSize, NamesPlaces}
 use Rattle.xc_dance.specs.Links.Cells.{slot_of, link_at, fixed_up, fixed_down, top_in, ulink_in, dlink_in, nodes_from}
 use Rattle.xc_dance.specs.Links.Laid.{Placed, IsLaid, IsName}
-use Rattle.xc_dance.proofs.LinkedTables.Mapped.{get_map, map_put}
-use Rattle.xc_dance.proofs.LinkedTables.Sweep.{put_at-same, put_at-other}
-use Rattle.std.proofs.Math.Path.{fun_ext}
-use Rattle.std.proofs.lemmas.Option.{slice_get_within}
-use Rattle.xc_dance.proofs.LinkedTables.LineChanges.{put_at, with_line}
+use Rattle.xc_dance.proofs.LinkedTables.Sweep.{put_at-same, put_at-other, put_at, with_line}
+
+-- ---- columns that are maps of a layout, and one write to them
+
+pub get_map : {X : Type 0} (f : X → ℕ) (ns : List X) (k : ℕ) (n : X) → slice_get ns k ≡ Some n → get_or (map f ns) k 0 ≡ f n
+get_map f [] k n e = cc
+get_map f (m ∷ ns) zero n e = ap f (same_Some m n e)
+get_map f (m ∷ ns) (suc k) n e = get_map f ns k n e
+
+pub map_same : {X : Type 0} (f g : X → ℕ) (ns : List X) → ((q : ℕ) (n : X) → slice_get ns q ≡ Some n → g n ≡ f n) → map g ns ≡ map f ns
+map_same f g [] h = refl
+map_same f g (m ∷ ns) h = ap₂ (λ x xs. x ∷ xs) (h 0 m refl) (map_same f g ns (λ q n e. h (suc q) n e))
+
+pub map_put : {X : Type 0} (f g : X → ℕ) (ns : List X) (k v : ℕ)
+    → ((q : ℕ) (n : X) → slice_get ns q ≡ Some n → q ≢ k → g n ≡ f n)
+    → ((n : X) → slice_get ns k ≡ Some n → g n ≡ v)
+    → map g ns ≡ set (map f ns) k v
+map_put f g [] k v rest here = refl
+map_put f g (m ∷ ns) zero v rest here =
+    ap₂ (λ x xs. x ∷ xs) (here m refl) (map_same f g ns (λ q n e. rest (suc q) n e (λ z. omega (arith, z))))
+map_put f g (m ∷ ns) (suc k) v rest here =
+    ap₂ (λ x xs. x ∷ xs) (rest 0 m refl (λ z. omega (arith, z)))
+    (map_put f g ns k v (λ q n e ne. rest (suc q) n e (λ z. ne (omega (arith, z)))) (λ n e. here n e))
+
+-- ---- hide and unhide undo one another
+
+-- where a list has v at k, it has v there after v is written anywhere
+pub get_or-set_kept : (xs : List ℕ) (i k v : ℕ) → get_or xs k 0 ≡ v → get_or (set xs i v) k 0 ≡ v
+get_or-set_kept [] i k v h = h
+get_or-set_kept (x ∷ xs) zero zero v h = refl
+get_or-set_kept (x ∷ xs) zero (suc k) v h = h
+get_or-set_kept (x ∷ xs) (suc i) zero v h = h
+get_or-set_kept (x ∷ xs) (suc i) (suc k) v h = get_or-set_kept xs i k v h
+
+-- a cell that is written and then written back is as it was
+pub written_back : (xs : List ℕ) (i j v w : ℕ) → j ≡ i → get_or xs i 0 ≡ w → set (set xs i v) j w ≡ xs
+written_back xs i j v w e h = grind (arith, common_steps, set-get_or, set-set)
+
+-- tables with the same columns are the same
+pub same_nodes : (s t : Nodes) → s.top ≡ t.top → s.ulink ≡ t.ulink → s.dlink ≡ t.dlink → s.color ≡ t.color → s ≡ t
+same_nodes s t a b c d = grind (arith, common_steps)
+
+-- node q stands in its list: its neighbours name it, and its list counts it
+pub record IsLinked (t : Nodes) (q : ℕ) : Type 0 where
+  pub above : get_or t.dlink (get_or t.ulink q 0) 0 ≡ q
+  pub below : get_or t.ulink (get_or t.dlink q 0) 0 ≡ q
+  pub top : get_or t.top q 0 < length t.top
+  pub other : get_or t.top q 0 ≢ q
+  pub some : 0 < get_or t.top (get_or t.top q 0) 0
+
+-- a node that left its list goes back to where it was
+pub relinked-unlinked : (t : Nodes) (q : ℕ) → IsLinked t q → relinked (unlinked t q) q ≡ t
+relinked-unlinked t q h = grind (arith, common_steps, get_or-set_kept, get_or-set_other, get_or-set_same, same_nodes, written_back)
+
+-- a marked node is passed over
+pub hidden-marked : (t : Nodes) (q : ℕ) → eqb (get_or t.color q 0) 4294967295 ≡ true → hidden t q ≡ t
+hidden-marked t q e = ap (λ b. cond b t (unlinked t q)) e
+
+pub hidden-open : (t : Nodes) (q : ℕ) → eqb (get_or t.color q 0) 4294967295 ≡ false → hidden t q ≡ unlinked t q
+hidden-open t q e = ap (λ b. cond b t (unlinked t q)) e
+
+pub shown-marked : (t : Nodes) (q : ℕ) → eqb (get_or t.color q 0) 4294967295 ≡ true → shown t q ≡ t
+shown-marked t q e = ap (λ b. cond b t (relinked t q)) e
+
+pub shown-open : (t : Nodes) (q : ℕ) → eqb (get_or t.color q 0) 4294967295 ≡ false → shown t q ≡ relinked t q
+shown-open t q e = ap (λ b. cond b t (relinked t q)) e
+
+-- a step of unhide undoes that of hide
+pub shown-hidden : (t : Nodes) (q : ℕ) → (eqb (get_or t.color q 0) 4294967295 ≡ false → IsLinked t q) → shown (hidden t q) q ≡ t
+shown-hidden t q h =
+    let by : (b : Bool) → eqb (get_or t.color q 0) 4294967295 ≡ b → shown (hidden t q) q ≡ t = λ b. elim b as (λ b. eqb (get_or t.color q 0) 4294967295 ≡ b → shown (hidden t q) q ≡ t) [
+      | true ↦ (λ e. ap (λ u. shown u q) (hidden-marked t q e) ∙ shown-marked t q e)
+      | false ↦ (λ e. ap (λ u. shown u q) (hidden-open t q e) ∙ shown-open (unlinked t q) q e ∙ relinked-unlinked t q (h e))
+    ] in by (eqb (get_or t.color q 0) 4294967295) refl
+
+-- each step of a walk can be undone
+abbrev pub IsUndone : Nodes → List ℕ → Type 0
+IsUndone t [] = Unit {0}
+IsUndone t (q ∷ qs) = (shown (hidden t q) q ≡ t) × IsUndone (hidden t q) qs
+
+-- unhide, from the last place back, undoes hide
+pub fold-shown-reverse : (t : Nodes) (qs : List ℕ) → IsUndone t qs → fold shown (fold hidden t qs) (reverse qs) ≡ t
+fold-shown-reverse t [] h = grind (arith, common_steps, fold-append, reverse-append)
+fold-shown-reverse t (q ∷ qs) h = grind (arith, common_steps, fold-append, reverse-append, fold-shown-reverse (hidden t q) qs h.1)
+
+-- ---- the columns of links and counts of a table of lines, and one write to them
 
 pub same_at : {X : Type 0} (ns : List X) (k : ℕ) (m n : X) → slice_get ns k ≡ Some m → slice_get ns k ≡ Some n → m ≡ n
 same_at ns k m n a b = let e : Some m ≡ Some n = sym a ∙ b in cc
@@ -39,15 +125,8 @@ get_down p ln j x h = get_link p (λ k y. (ln k).down y) (fixed_down p) j x h
 
 other_slot : (p : Puzzle) (f : ℕ → ℕ → ℕ) (j x v : ℕ) (fixed : ℕ) (s : Option (ℕ × ℕ)) → (s ≡ Some (j, x) → ⊥) →
     link_at p (put_link f j (put_at (f j) x v)) fixed s ≡ link_at p f fixed s
-other_slot p f j x v fixed None ne = refl
-other_slot p f j x v fixed (Some s) ne =
-    elim (eqb s.0 j) as (λ b. eqb s.0 j ≡ b → link_place p s.0 (cond b (put_at (f j) x v s.1) (f s.0 s.1)) ≡ link_place p s.0 (f s.0 s.1)) [
-      | true ↦ λ e.
-          let same : s.0 ≡ j = eqb-true s.0 j e in
-          let no : s.1 ≢ x = λ g. ne (ap₂ (λ a b. let r : ℕ × ℕ = (a, b) in Some r) same g) in
-          ap (link_place p s.0) (put_at-other (f j) x v s.1 no ∙ ap (λ k. f k s.1) (sym same))
-      | false ↦ λ e. refl
-    ] refl
+other_slot p f j x v fixed None ne = grind (arith, common_steps, eqb-true, put_at-other)
+other_slot p f j x v fixed (Some s) ne = grind (arith, common_steps, eqb-true, put_at-other)
 
 pub set_link : (p : Puzzle) (f : ℕ → ℕ → ℕ) (fixed : Node → ℕ) (j x v : ℕ) → IsLaid p → Placed p j x →
     column p (put_link f j (put_at (f j) x v)) fixed ≡ set (column p f fixed) (link_place p j x) (link_place p j v)
@@ -97,14 +176,7 @@ pub get_item : (p : Puzzle) (ln : ℕ → Line) (j o : ℕ) → Placed p j o →
 get_item p ln j o h pos = get_map (top_in ln) (layout p) (link_place p j o) h.node h.at ∙ item_at ln h.node j o h.slot pos
 
 pub size_from : (p : Puzzle) (ln : ℕ → Line) (col : Node → ℕ) → HasSize (nodes_from p ln col) (length (nodes_from p ln col).top)
-size_from p ln col =
-    let long : length (map (top_in ln) (layout p)) ≡ length (layout p) = length-map (layout p) (top_in ln) in
-    record {
-      top = refl;
-      ulink = length-map (layout p) (ulink_in p ln) ∙ sym long;
-      dlink = length-map (layout p) (dlink_in p ln) ∙ sym long;
-      color = length-map (layout p) col ∙ sym long;
-    }
+size_from p ln col = grind (arith, common_steps, length-map)
 
 -- what stands in the cells of member o's node in item j's list, where the members beside it have nodes too
 pub record NodeCells (p : Puzzle) (ln : ℕ → Line) (col : Node → ℕ) (j o : ℕ) : Type 0 where
@@ -143,3 +215,56 @@ node_cells p ln col j o laid pos le o_pos name name_up name_down =
 -- columns of links that lead the same way
 pub column_same : (p : Puzzle) (f g : ℕ → ℕ → ℕ) (fixed : Node → ℕ) → ((j x : ℕ) → g j x ≡ f j x) → column p g fixed ≡ column p f fixed
 column_same p f g fixed h = ap (λ k. column p k fixed) (fun_ext (λ j. fun_ext (h j)))
+
+-- ---- steps of hide that can be undone, one after another
+
+-- the list has q between ys and zs
+pub record Stands (xs : List ℕ) (q : ℕ) : Type 0 where
+  pub ys : List ℕ
+  pub zs : List ℕ
+  pub is : xs ≡ ys ++ q ∷ zs
+
+-- another element still stands in the list
+without_at : (ys : List ℕ) (q : ℕ) (zs : List ℕ) (r : ℕ) → r ≢ q → (as' bs : List ℕ) → ys ++ q ∷ zs ≡ as' ++ r ∷ bs → Stands (ys ++ zs) r
+without_at [] q zs r ne [] bs e = let same : r ≡ q = cc in absurd (ne same)
+without_at [] q zs r ne (a ∷ as') bs e = let tail : zs ≡ as' ++ r ∷ bs = cc in record { ys = as'; zs = bs; is = tail }
+without_at (y ∷ ys) q zs r ne [] bs e = let head : y ≡ r = cc in record { ys = []; zs = ys ++ zs; is = ap (λ k. k ∷ (ys ++ zs)) head }
+without_at (y ∷ ys) q zs r ne (a ∷ as') bs e =
+    let tail : ys ++ q ∷ zs ≡ as' ++ r ∷ bs = cc in
+    let s : Stands (ys ++ zs) r = without_at ys q zs r ne as' bs tail in
+    record { ys = y ∷ s.ys; zs = s.zs; is = ap (λ l. y ∷ l) s.is }
+
+pub Stands-without : (ys : List ℕ) (q : ℕ) (zs : List ℕ) (r : ℕ) → r ≢ q → Stands (ys ++ q ∷ zs) r → Stands (ys ++ zs) r
+Stands-without ys q zs r ne s = without_at ys q zs r ne s.ys s.zs s.is
+
+HasSize-unlinked : (t : Nodes) (q : ℕ) → HasSize t (length t.top) → HasSize (unlinked t q) (length (unlinked t q).top)
+HasSize-unlinked t q h = grind (arith, common_steps, length-set)
+
+-- a node that has just left can be put back
+pub record CanRelink (t : Nodes) (q : ℕ) : Type 0 where
+  pub size : HasSize t (length t.top)
+  pub names : NamesPlaces t q
+  pub few : get_or t.top (get_or t.top q 0) 0 < 2 ^ 31
+
+pub CanRelink-unlinked : (t : Nodes) (q : ℕ) → HasSize t (length t.top) → NamesPlaces t q → IsLinked t q → get_or t.top (get_or t.top q 0) 0 < 2 ^ 31 → CanRelink (unlinked t q) q
+CanRelink-unlinked t q size names linked few = grind (arith, common_steps, HasSize-unlinked, get_or-set_kept, get_or-set_other, get_or-set_same, length-set)
+
+-- so a step of unhide may be made there
+pub CanShow-unlinked : (t : Nodes) (q : ℕ) → HasSize t (length t.top) → NamesPlaces t q → IsLinked t q → get_or t.top q 0 < 2147483648 → get_or t.top (get_or t.top q 0) 0 < 2 ^ 31 → CanShow (unlinked t q) q
+CanShow-unlinked t q size names linked use_of few = grind (arith, common_steps, CanRelink-unlinked, get_or-set_other)
+
+-- one place more at the end of a walk
+CanShowAll-push : (t : Nodes) (ps : List ℕ) (q : ℕ) → CanShowAll t ps → CanShow (fold shown t ps) q → CanShowAll t (ps ++ q ∷ [])
+CanShowAll-push t [] q h c = (c, tt)
+CanShowAll-push t (p ∷ ps) q h c = (h.0, CanShowAll-push (shown t p) ps q h.1 c)
+
+-- the walk back, one node more
+pub back_more : (t : Nodes) (q : ℕ) (qs : List ℕ) → IsUndone (hidden t q) qs → CanShowAll (fold hidden (hidden t q) qs) (reverse qs) → CanShow (hidden t q) q
+    → CanShowAll (fold hidden t (q ∷ qs)) (reverse (q ∷ qs))
+back_more t q qs undone back can = grind (arith, common_steps, CanShowAll-push, fold-shown-reverse, reverse-append)
+
+-- the nodes can be hidden one after another, each step can be undone, and the walk back can be made
+pub record Rest (t : Nodes) (qs : List ℕ) : Type 0 where
+  pub can : CanHideAll t qs
+  pub undone : IsUndone t qs
+  pub back : CanShowAll (fold hidden t qs) (reverse qs)

@@ -1,30 +1,35 @@
--- The other uses of an option in an open item's list: each is in its own item's list, or marked.
-use Rattle.std.proofs.Common.{◌≡◌, ℕ, ◌<◌, ◌≤◌, ◌⊎◌, inl, inr, Bool, true, false, not, cond, ◌&&◌, ◌||◌, eqb, List, [], ◌∷◌, map, get_or, Some, None, refl, ap, ap₂, sym, subst, ◌∙◌, arith, eqb-true, eq-eqb, ne_eqb}
-use Rattle.std.specs.Prelude.{Option, is_some, slice_get, nat_lt}
-use Rattle.xc_dance.proofs.MoveLemmas.StateLemmas.{open_is}
+-- Which nodes are marked, and the colours after Cover and Purify.
+use Rattle.std.proofs.Common.{◌≡◌, ℕ, ◌<◌, ◌≤◌, ◌⊎◌, inl, inr, Bool, true, false, not, cond, ◌&&◌, ◌||◌, eqb, List, [], ◌∷◌, map, get_or, Some, None, refl, ap, ap₂, sym, subst, ◌∙◌, arith, eqb-true, eq-eqb, ne_eqb, Option}
+use Rattle.std.specs.Prelude.{is_some, slice_get, nat_lt}
 use Rattle.std.specs.List.{AllByRecursion}
-use Rattle.std.proofs.lemmas.Bool.{false≢true}
+use Rattle.std.proofs.lemmas.Grind.{common_steps}
+use Rattle.std.proofs.lemmas.Bool.{false≢true, eqb-false}
+use Rattle.std.proofs.lemmas.Option.{same_Some}
+use Rattle.std.proofs.Math.Bool.{not-not}
 use Rattle.xc_input.specs.declared.problem.Use.{Use}
+use Rattle.xc_input.specs.Problem.{Puzzle, Numbered, numbered_options, item_count, colour_in, colour_at, uses_of, holds, holding}
 use Rattle.xc_dance.specs.declared.dance.Move.{Move}
 use Rattle.xc_dance.specs.declared.dance.Move.TheVariants.{Cover, Purify, Tweak, Spend}
-use Rattle.xc_input.specs.Problem.{Puzzle, Numbered, numbered_options, item_count, colour_in, colour_at, uses_of, holds, holding}
 use Rattle.xc_dance.specs.Moves.{listed, is_open, is_covered, purified, AreLegal, listed_numbers}
 use Rattle.xc_dance.specs.Fields.{Node, unused, own, spacer, used, layout, link_place, is_in, is_marked}
 use Rattle.xc_dance.specs.Left.{left, agrees}
 use Rattle.xc_dance.specs.Links.Cells.{color_in, slot_of}
 use Rattle.xc_dance.specs.Links.Laid.{IsLaid, IsFit}
-use Rattle.xc_dance.proofs.LinkedTables.Mapped.{get_map}
-use Rattle.xc_dance.proofs.LinkedTables.ReadyLemmas.{Stands}
-use Rattle.xc_dance.proofs.MoveLemmas.OpenLists.{listed_open}
+use Rattle.xc_dance.specs.Lists.Losing.{is_kept}
 use Rattle.xc_input.proofs.BooleanTests.{and_right, and_left}
-use Rattle.xc_dance.proofs.MoveLemmas.LeftOptions.{left_free, left_agrees, kept}
-use Rattle.xc_dance.proofs.LinkedTables.Sweep.{is_in-first}
-use Rattle.xc_dance.proofs.LinkedTables.Goods.{Named}
-use Rattle.xc_dance.proofs.LinkedTables.OneOption.{is_mark}
-use Rattle.std.proofs.lemmas.Option.{same_Some}
 use Rattle.xc_input.proofs.EachElement.{each_weaker, each_both}
-use Rattle.xc_dance.proofs.LinkedTables.OptionNumbers.{IsOption, options_numbered}
-use Rattle.xc_dance.proofs.LinkedTables.LinkColumns.{item_of, member_of}
+use Rattle.xc_dance.proofs.MoveLemmas.StateLemmas.{open_is}
+use Rattle.xc_dance.proofs.LinkedTables.LinkColumns.{get_map, Stands}
+use Rattle.xc_dance.proofs.MoveLemmas.OpenLists.{listed_open}
+use Rattle.xc_dance.proofs.MoveLemmas.LeftOptions.{left_free, left_agrees, kept}
+use Rattle.xc_dance.proofs.LinkedTables.Sweep.{is_in-first, not_in, with_color}
+use Rattle.xc_dance.proofs.LinkedTables.GoodLines.{Named}
+use Rattle.xc_dance.proofs.LinkedTables.OneOption.{is_mark}
+use Rattle.xc_dance.proofs.LinkedTables.LaidLemmas.{IsOption, options_numbered}
+use Rattle.xc_dance.proofs.LinkedTables.OneList.{marked_list}
+use Rattle.xc_dance.proofs.MoveLemmas.Shortened.{rises_listed}
+
+-- ---- the other uses of an option in an open item's list: each is in its own item's list, or marked
 
 -- ---- facts of each option left
 
@@ -39,16 +44,8 @@ options_left p t = all_left (IsOption p) p t (options_numbered p)
 -- ---- membership
 
 holding_in : (j : ℕ) (os : List Numbered) → AllByRecursion (λ o. holds o j ≡ true → is_in o.number (map (λ x. x.number) (holding j os)) ≡ true) os
-holding_in j [] = tt
-holding_in j (x ∷ os) =
-    elim (holds x j) as (λ b. holds x j ≡ b → AllByRecursion (λ o. holds o j ≡ true → is_in o.number (map (λ x. x.number) (cond b (x ∷ holding j os) (holding j os))) ≡ true) (x ∷ os)) [
-      | true ↦ λ e. (
-        (λ h. is_in-first x.number _),
-        each_weaker (λ o. holds o j ≡ true → is_in o.number (map (λ x. x.number) (holding j os)) ≡ true) (λ o. holds o j ≡ true → is_in o.number (map (λ x. x.number) (x ∷ holding j os)) ≡ true) os
-            (λ o f h. elim (eqb x.number o.number) as (λ b. (b || is_in o.number (map (λ x. x.number) (holding j os))) ≡ true) [ true ↦ refl | false ↦ f h ]) (holding_in j os),
-      )
-      | false ↦ λ e. ((λ h. absurd (false≢true (sym e ∙ h))), holding_in j os)
-    ] refl
+holding_in j [] = grind (arith, common_steps, each_weaker, false≢true, is_in-first)
+holding_in j (x ∷ os) = grind (arith, common_steps, each_weaker, false≢true, is_in-first, holding_in j os)
 
 -- an option left that holds an open item is in its list
 pub in_open : (p : Puzzle) (t : List Move) (j : ℕ) → AreLegal p t → is_open j t ≡ true → AllByRecursion (λ o. holds o j ≡ true → is_in o.number (listed_numbers p t j) ≡ true) (left p t)
@@ -106,12 +103,10 @@ purified_marked p (Spend k ∷ t) j c legal e = purified_marked p t j c legal.1 
 -- ---- a node's colour cell
 
 used_by : (p : Puzzle) (j o k : ℕ) (n : Node) → 0 < o → slice_get (layout p) k ≡ Some n → slot_of n ≡ Some (j, o) → (u : Use) × (slice_get (layout p) k ≡ Some (used o u)) × (u.item ≡ j)
-used_by p j o k unused pos at e = cc
-used_by p j o k (spacer n) pos at e = cc
-used_by p j o k (own i) pos at e = let z : 0 ≡ o = ap member_of e in absurd (omega arith)
-used_by p j o k (used m u) pos at e =
-    let same : m ≡ o = ap member_of e in
-    (u, subst (λ i. slice_get (layout p) k ≡ Some (used i u)) same at, ap item_of e)
+used_by p j o k unused pos at e = grind (arith, common_steps)
+used_by p j o k (spacer n) pos at e = grind (arith, common_steps)
+used_by p j o k (own i) pos at e = grind (arith, common_steps)
+used_by p j o k (used m u) pos at e = grind (arith, common_steps)
 
 -- what stands in the colour cell of an option's node in item j's list
 pub color_is : (p : Puzzle) (t : List Move) (o j c : ℕ) → IsLaid p → 0 < j → j ≤ item_count p → 0 < o → Named p j o → colour_in (uses_of p o) j ≡ Some c →
@@ -121,8 +116,7 @@ color_is p t o j c laid jpos jle pos named has =
     let u = used_by p j o (link_place p j o) h.node pos h.at h.slot in
     let colour : colour_in (uses_of p o) u.0.item ≡ Some u.0.colour = laid.nodes.coloured (link_place p j o) o u.0 u.1 in
     let same : u.0.colour ≡ c = same_Some u.0.colour c (sym colour ∙ ap (colour_in (uses_of p o)) u.2 ∙ has) in
-    get_map (color_in p t) (layout p) (link_place p j o) (used o u.0) u.1
-    ∙ ap₂ (λ i d. cond (is_marked p t i o d) 4294967295 d) u.2 same
+    grind (arith, common_steps, get_map)
 
 pub mark_is : (p : Puzzle) (t : List Move) (o j c : ℕ) → IsLaid p → 0 < j → j ≤ item_count p → 0 < o → Named p j o → colour_in (uses_of p o) j ≡ Some c →
     is_mark p (color_in p t) o j ≡ eqb (cond (is_marked p t j o c) 4294967295 c) 4294967295
@@ -190,3 +184,47 @@ each_met p t j legal laid fit jpos jle =
                 (each_both (λ o. holds o j ≡ true → is_marked p t j o.number has.0 ≡ true) (λ o. agrees has.0 (colour_at o j) ≡ true) _ (left p t) (λ o a b. (a, b)) (purified_marked p t j has.0 legal has.1) (left_agrees p t j has.0 has.1))
           ]
     ] refl
+
+-- ---- the colours after Cover and Purify are those that their walks leave
+
+-- a walk that keeps no colour marks none
+pub marked_none : (p : Puzzle) (i : ℕ) (now : Node → ℕ) (xs : List ℕ) → marked_list p i None now xs ≡ now
+marked_none p i now [] = refl
+marked_none p i now (x ∷ xs) = marked_none p i now xs
+
+-- the slot is of item i and of one of the options that are kept
+abbrev slot_kept : Puzzle → ℕ → Option ℕ → List ℕ → Option (ℕ × ℕ) → Bool
+slot_kept p i keep xs None = false
+slot_kept p i keep xs (Some s) = eqb s.0 i && (is_in s.1 xs && is_kept p i keep s.1)
+
+cond_at : (b : Bool) (f g : Node → ℕ) (n : Node) → cond b f g n ≡ cond b (f n) (g n)
+cond_at true f g n = refl
+cond_at false f g n = refl
+
+none_kept : (p : Puzzle) (i : ℕ) (keep : Option ℕ) (s : Option (ℕ × ℕ)) (v : ℕ) → v ≡ cond (slot_kept p i keep [] s) 4294967295 v
+none_kept p i keep None v = refl
+none_kept p i keep (Some s) v = elim (eqb s.0 i) as (λ a. v ≡ cond (a && false) 4294967295 v) [ true ↦ refl | false ↦ refl ]
+
+pub marked_at : (p : Puzzle) (i : ℕ) (keep : Option ℕ) (now : Node → ℕ) (xs : List ℕ) (n : Node) → marked_list p i keep now xs n ≡ cond (slot_kept p i keep xs (slot_of n)) 4294967295 (now n)
+marked_at p i keep now [] n = grind (arith, common_steps, cond_at, none_kept)
+marked_at p i keep now (o ∷ xs) n = grind (arith, common_steps, cond_at, none_kept, marked_at p i keep (cond (is_kept p i keep o) (with_color now i o 4294967295) now) xs n)
+
+pub cover_colours : (p : Puzzle) (t : List Move) (i : ℕ) (n : Node) → color_in p (Cover i ∷ t) n ≡ color_in p t n
+cover_colours p t i unused = refl
+cover_colours p t i _ = refl
+
+-- the colours with which the walk of Purify starts
+abbrev pub purify_start : Puzzle → List Move → ℕ → ℕ → Node → ℕ
+purify_start p t i c = with_color (color_in p t) i 0 c
+
+marks : (a b k : Bool) (v : ℕ) → cond (cond (a && b) true k) 4294967295 v ≡ cond (b && a) 4294967295 (cond k 4294967295 v)
+marks true true k v = refl
+marks true false k v = refl
+marks false true k v = refl
+marks false false k v = refl
+
+pub purify_colours : (p : Puzzle) (t : List Move) (i c : ℕ) → IsLaid p → (k : ℕ) (n : Node) → slice_get (layout p) k ≡ Some n → color_in p (Purify i c ∷ t) n ≡ marked_list p i (Some c) (purify_start p t i c) (listed_numbers p t i) n
+purify_colours p t i c laid k unused at = grind (arith, common_steps, eq-eqb, eqb-false, eqb-true, marked_at, marks, ne_eqb, not-not, not_in, rises_listed)
+purify_colours p t i c laid k (spacer m) at = grind (arith, common_steps, eq-eqb, eqb-false, eqb-true, marked_at, marks, ne_eqb, not-not, not_in, rises_listed)
+purify_colours p t i c laid k (own j) at = grind (arith, common_steps, eq-eqb, eqb-false, eqb-true, marked_at, marks, ne_eqb, not-not, not_in, rises_listed)
+purify_colours p t i c laid k (used o u) at = grind (arith, common_steps, eq-eqb, eqb-false, eqb-true, marked_at, marks, ne_eqb, not-not, not_in, rises_listed)

@@ -1,27 +1,116 @@
--- The tables after moves let the next legal move be made, and are then those after it; and back.
-use Rattle.std.proofs.Common.{◌≡◌, ℕ, ◌+◌, ◌<◌, ◌≤◌, false, List, [], ◌∷◌, None, refl, ap, ap₂, sym, subst, ◌∙◌, arith}
+-- From one move to the next: the tables after moves let the next legal move be made, and are then those after it; and back.
+use Rattle.std.proofs.Common.{◌≡◌, ℕ, ◌+◌, ◌-◌, cond, eqb, List, ◌∷◌, refl, ap, ◌≢◌, ◌<◌, ◌≤◌, Bool, true, false, not, ◌||◌, [], length, get_or, sym, subst, ◌∙◌, arith, eqb-true, eq-eqb, ne_eqb, None, ◌++◌, reverse}
+use Rattle.std.proofs.lemmas.Grind.{common_steps}
+use Rattle.std.proofs.lemmas.Bool.{false≢true}
+use Rattle.std.proofs.lemmas.List.{reverse-append, length-reverse}
+use Rattle.xc_input.specs.Problem.{Puzzle, primary_count, item_count, high_at}
 use Rattle.xc_dance.specs.declared.dance.Move.{Move}
+use Rattle.xc_dance.specs.Moves.{spends, is_covered, AreLegal, IsLegal, listed_numbers}
+use Rattle.xc_dance.specs.Links.ItemCells.{items_after, llink_at, rlink_at, bound_at}
 use Rattle.xc_dance.specs.declared.dance.Move.TheVariants.{Cover, Purify, Tweak, Spend}
+use Rattle.xc_dance.specs.Fields.{left_of, right_of, last_below, ring_head, ring_of, Node, unused, link_place, first_of}
+use Rattle.xc_dance.specs.Links.Rings.{is_off}
 use Rattle.xc_dance.specs.Links.Span.{Span}
-use Rattle.xc_input.specs.Problem.{Puzzle, item_count}
-use Rattle.xc_dance.specs.Moves.{is_covered, AreLegal, IsLegal, listed_numbers}
-use Rattle.xc_dance.specs.Fields.{Node, unused, link_place, first_of}
 use Rattle.xc_dance.specs.Links.Cells.{color_in, nodes_after, line_of}
-use Rattle.xc_dance.specs.Links.ItemCells.{items_after}
 use Rattle.xc_dance.specs.Links.Laid.{IsLaid}
 use Rattle.xc_dance.specs.Links.Made.{nodes_made, items_made, nodes_unmade, items_unmade, CanMake, CanUnmake, made_cost, unmade_cost, IsFitted}
-use Rattle.xc_dance.specs.Cost.{cost_of}
-use Rattle.xc_dance.proofs.LinkedTables.LineSteps.{leave_none, stay_all}
-use Rattle.xc_dance.proofs.LinkedTables.SameLines.{SameCut, line_after, tables_same}
-use Rattle.xc_dance.proofs.LinkedTables.RingStep.{spend_step}
-use Rattle.xc_dance.proofs.LinkedTables.StillItems.{still_items}
-use Rattle.xc_dance.proofs.LinkedTables.Turned.{ring_step}
-use Rattle.xc_dance.specs.Links.Taken.{CanNote}
-use Rattle.xc_dance.specs.Links.Tweaking.{tweaked, untweaked, tweak_cost, untweak_cost, CanTweak, CanUntweak}
-use Rattle.xc_dance.proofs.LinkedTables.Covered.{off_is}
-use Rattle.xc_dance.proofs.MoveLemmas.StateLemmas.{open_or_covered}
+use Rattle.xc_dance.specs.Cost.{cost_of, cost_of_newest}
+use Rattle.xc_dance.specs.Links.Taken.{CanNote, taken_nodes, noted, IsRecalled}
+use Rattle.xc_dance.specs.declared.links.nodes.Nodes.{Nodes}
+use Rattle.xc_dance.specs.declared.links.items.Items.{Items}
+use Rattle.xc_dance.proofs.LinkedTables.RingStep.{same_items, row_same, still_llink, still_rlink, row_get, row_len, still_left, spend_step}
+use Rattle.xc_dance.proofs.LinkedTables.Turned.{side, leftwards, rightwards, way_beside, way_next, way_back, beside_place, beside_covered, ring_step}
+use Rattle.xc_dance.proofs.MoveLemmas.StateLemmas.{open_uncovered, open_or_covered}
+use Rattle.xc_dance.proofs.LinkedTables.Sweep.{leave_none, stay_all}
+use Rattle.xc_dance.proofs.LinkedTables.GoodLines.{SameCut, line_after, tables_same}
 use Rattle.xc_dance.proofs.LinkedTables.TweakStep.{tweak_made}
-use Rattle.xc_dance.proofs.LinkedTables.HideMoves.{cover_hides, cover_writes, walk_made, purify_made}
+use Rattle.xc_dance.proofs.LinkedTables.HideMoves.{cover_hides, cover_writes, walk_made, purify_made, own_placed}
+use Rattle.xc_dance.proofs.LinkedTables.LinkColumns.{get_down}
+
+-- ---- a move that neither covers nor spends leaves the item table as it is
+
+-- the move covers no item and spends none
+pub record IsStill (t : List Move) (m : Move) : Type 0 where
+  pub covered : (q : ℕ) → is_covered q (m ∷ t) ≡ is_covered q t
+  pub spent : (q : ℕ) → spends q (m ∷ t) ≡ spends q t
+
+pub still_items : (p : Puzzle) (t : List Move) (m : Move) → IsStill t m → items_after p (m ∷ t) ≡ items_after p t
+still_items p t m s =
+    same_items (items_after p (m ∷ t)) (items_after p t)
+    (row_same (llink_at p t) (llink_at p (m ∷ t)) (item_count p + 2) (λ q h. still_llink p t m q s.covered))
+    (row_same (rlink_at p t) (rlink_at p (m ∷ t)) (item_count p + 2) (λ q h. still_rlink p t m q s.covered))
+    (row_same (bound_at p t) (bound_at p (m ∷ t)) (primary_count p + 1) (λ q h. ap (λ n. cond (eqb q 0) 0 (high_at p q - n)) (s.spent q)))
+    refl
+
+-- ---- whether an item is covered, read from its ring
+
+-- what leads past a covered item
+pub record IsPast (p : Puzzle) (t : List Move) (i : ℕ) : Type 0 where
+  pub place : left_of p t i < item_count p + 2
+  pub past : rlink_at p t (left_of p t i) ≢ i
+
+still_past : (p : Puzzle) (t : List Move) (m : Move) (i : ℕ) → left_of p (m ∷ t) i ≡ left_of p t i → ((q : ℕ) → rlink_at p (m ∷ t) q ≡ rlink_at p t q) → IsPast p t i → IsPast p (m ∷ t) i
+still_past p t m i l r h = grind (arith, common_steps)
+
+pub past_covered : (p : Puzzle) (t : List Move) (i : ℕ) → AreLegal p t → 0 < i → i ≤ item_count p → is_covered i t ≡ true → IsPast p t i
+past_covered p [] i legal pos le e = absurd (false≢true e)
+past_covered p (Purify j c ∷ t) i legal pos le e =
+    still_past p t (Purify j c) i (still_left p t (Purify j c) i (λ q. refl)) (λ q. still_rlink p t (Purify j c) q (λ q. refl)) (past_covered p t i legal.1 pos le e)
+past_covered p (Tweak j ∷ t) i legal pos le e =
+    still_past p t (Tweak j) i (still_left p t (Tweak j) i (λ q. refl)) (λ q. still_rlink p t (Tweak j) q (λ q. refl)) (past_covered p t i legal.1 pos le e)
+past_covered p (Spend j ∷ t) i legal pos le e = still_past p t (Spend j) i (still_left p t (Spend j) i (λ q. refl)) (λ q. still_rlink p t (Spend j) q (λ q. refl)) (past_covered p t i legal.1 pos le e)
+past_covered p (Cover k ∷ t) i legal pos le e =
+    let k_pos : 0 < k = let h = legal.0.0.0 in omega (arith, h) in
+    let k_le : k ≤ item_count p = legal.0.0.1 in
+    let un : is_covered k t ≡ false = open_uncovered k t legal.0.1 in
+    let next = Cover k ∷ t in
+    let l = left_of p t i in
+    let same_l : left_of p next i ≡ l = ap (λ v. cond v l (last_below (ring_head p i) i (ring_of p next i))) e in
+    elim (eqb i k) as (λ b. eqb i k ≡ b → (b || is_covered i t) ≡ true → IsPast p next i) [
+      | true ↦ λ f g.
+          let same : i ≡ k = eqb-true i k f in
+          let un_i : is_covered i t ≡ false = ap (λ j. is_covered j t) same ∙ un in
+          let l_in : l < item_count p + 2 = beside_place p t (side p i) l (way_beside p (rightwards p) t i pos le un_i).0 in
+          let leads : rlink_at p (Cover i ∷ t) l ≡ right_of p t i = way_next p (rightwards p) t i pos le un_i l l_in ∙ ap (λ v. cond v (right_of p t i) (rlink_at p t l)) (eq-eqb l l refl) in
+          record {
+            place = subst (λ j. j < item_count p + 2) (sym same_l) l_in;
+            past = λ h. (way_beside p (leftwards p) t i pos le un_i).1 (sym leads ∙ ap (λ j. rlink_at p (Cover j ∷ t) l) same ∙ ap (rlink_at p next) (sym same_l) ∙ h);
+          }
+      | false ↦ λ f g.
+          let before = past_covered p t i legal.1 pos le g in
+          let r = right_of p t k in
+          let r_ne : i ≢ r = beside_covered p t (side p k) r i (way_beside p (leftwards p) t k k_pos k_le un).0 pos le g in
+          let leads : rlink_at p next l ≡ cond (eqb l (left_of p t k)) r (rlink_at p t l) = way_next p (rightwards p) t k k_pos k_le un l before.place in
+          let no : (v : Bool) → cond v r (rlink_at p t l) ≢ i = λ v. elim v as (λ v. cond v r (rlink_at p t l) ≢ i) [
+            | true ↦ λ h. r_ne (sym h)
+            | false ↦ before.past
+          ] in
+          record {
+            place = subst (λ j. j < item_count p + 2) (sym same_l) before.place;
+            past = λ h. no (eqb l (left_of p t k)) (sym leads ∙ ap (rlink_at p next) (sym same_l) ∙ h);
+          }
+    ] refl e
+
+-- the ring tells whether an item is covered
+pub record OffStep (p : Puzzle) (t : List Move) (i : ℕ) : Type 0 where
+  pub place : i < length (items_after p t).llink
+  pub left : get_or (items_after p t).llink i 0 < length (items_after p t).rlink
+  pub is : is_off (items_after p t) i ≡ is_covered i t
+
+pub off_is : (p : Puzzle) (t : List Move) (i : ℕ) → AreLegal p t → 0 < i → i ≤ item_count p → OffStep p t i
+off_is p t i legal pos le =
+    let n = item_count p + 2 in
+    let l = left_of p t i in
+    let get_l : get_or (items_after p t).llink i 0 ≡ l = row_get (llink_at p t) n i (omega (arith, le)) ∙ (leftwards p).at_item t i pos le in
+    let both : (l < n) × (eqb (rlink_at p t l) i ≡ not (is_covered i t)) =
+    elim (is_covered i t) as (λ b. is_covered i t ≡ b → (l < n) × (eqb (rlink_at p t l) i ≡ not b)) [
+      | true ↦ λ e. let h = past_covered p t i legal pos le e in (h.place, ne_eqb (rlink_at p t l) i h.past)
+      | false ↦ λ e. (beside_place p t (side p i) l (way_beside p (rightwards p) t i pos le e).0, eq-eqb (rlink_at p t l) i (way_back p (rightwards p) t i pos le e))
+    ] refl in
+    let get_r : get_or (items_after p t).rlink (get_or (items_after p t).llink i 0) 0 ≡ rlink_at p t l = ap (λ k. get_or (items_after p t).rlink k 0) get_l ∙ row_get (rlink_at p t) n l both.0 in
+    grind (arith, common_steps, row_len)
+
+-- ---- the tables after moves let the next legal move be made, and are then those after it; and back
 
 -- node x is the one that the move takes off, if it takes one
 abbrev pub IsTakenOff : Puzzle → List Move → Move → ℕ → Type 0
@@ -44,34 +133,14 @@ covered_step p t spans i legal may f =
     let pos : 0 < i = let h = may.0.0 in omega (arith, h) in
     let w = walk_made p t spans (Cover i) i None (color_in p t) legal f pos may.0.1 may.1 (cover_hides p t i) in
     let r = ring_step p t i may in
-    record {
-      can = (w.can, r.can);
-      nodes = w.done;
-      items = r.done;
-      can_back = λ x at. (w.can_back, r.can_back);
-      nodes_back = λ x at. w.undone;
-      items_back = r.undone;
-      can_note = tt;
-      cost = ap (λ n. n + 2) w.costs ∙ cover_writes p t i;
-      cost_back = λ x at. ap (λ n. n + 2) w.costs_back ∙ cover_writes p t i;
-    }
+    grind (arith, common_steps, cover_writes)
 
 purified_step : (p : Puzzle) (t : List Move) (spans : List Span) (i c : ℕ) → AreLegal p t → IsLegal p t (Purify i c) → IsFitted p spans → MoveStep p t spans (Purify i c)
 purified_step p t spans i c legal may f =
     let pos : 0 < i = let h = may.0.0 in omega (arith, h) in
     let w = purify_made p t spans i c legal f pos may.0.1 may.1 in
     let still = still_items p t (Purify i c) (record { covered = λ q. refl; spent = λ q. refl }) in
-    record {
-      can = w.can;
-      nodes = w.done;
-      items = sym still;
-      can_back = λ x at. w.can_back;
-      nodes_back = λ x at. w.undone;
-      items_back = still;
-      can_note = tt;
-      cost = w.cost;
-      cost_back = λ x at. w.cost_back;
-    }
+    grind (arith, common_steps)
 
 -- a Spend changes no list
 spent_colours : (p : Puzzle) (t : List Move) (i : ℕ) (n : Node) → color_in p (Spend i ∷ t) n ≡ color_in p t n
@@ -87,17 +156,7 @@ spent_nodes p t i laid = tables_same p (line_of p t) (line_of p (Spend i ∷ t))
 spent_step : (p : Puzzle) (t : List Move) (spans : List Span) (i : ℕ) → AreLegal p t → IsLegal p t (Spend i) → IsFitted p spans → MoveStep p t spans (Spend i)
 spent_step p t spans i legal may f =
     let s = spend_step p t i may (f.bounds i) in
-    record {
-      can = s.can;
-      nodes = sym (spent_nodes p t i f.laid);
-      items = s.done;
-      can_back = λ x at. s.can_back;
-      nodes_back = λ x at. spent_nodes p t i f.laid;
-      items_back = s.undone;
-      can_note = tt;
-      cost = refl;
-      cost_back = λ x at. refl;
-    }
+    grind (arith, common_steps, spent_nodes)
 
 tweaked_step : (p : Puzzle) (t : List Move) (spans : List Span) (i : ℕ) → AreLegal p t → IsLegal p t (Tweak i) → IsFitted p spans → MoveStep p t spans (Tweak i)
 tweaked_step p t spans i legal may f =
@@ -108,20 +167,76 @@ tweaked_step p t spans i legal may f =
     let off = off_is p t i legal pos le in
     let off' = off_is p next i (may, legal) pos le in
     let still = still_items p t (Tweak i) (record { covered = λ q. refl; spent = λ q. refl }) in
-    record {
-      can = ((off.place, off.left), subst (λ b. CanTweak spans b (nodes_after p t) i) (sym off.is) w.can);
-      nodes = ap (λ b. tweaked spans b (nodes_after p t) i) off.is ∙ w.done;
-      items = sym still;
-      can_back = λ x at. ((off'.place, off'.left), subst (λ b. CanUntweak spans b (nodes_after p next) x) (sym off'.is) (subst (CanUntweak spans (is_covered i t) (nodes_after p next)) (sym at) w.can_back));
-      nodes_back = λ x at. ap₂ (λ b k. untweaked spans b (nodes_after p next) k) off'.is at ∙ w.undone;
-      items_back = still;
-      can_note = w.can.place;
-      cost = ap (λ b. tweak_cost spans b (nodes_after p t) i) off.is ∙ w.cost;
-      cost_back = λ x at. ap₂ (λ b k. untweak_cost spans b (nodes_after p next) k) off'.is at ∙ w.cost_back;
-    }
+    grind (arith, common_steps)
 
 pub move_step : (p : Puzzle) (t : List Move) (spans : List Span) (m : Move) → AreLegal p t → IsLegal p t m → IsFitted p spans → MoveStep p t spans m
 move_step p t spans (Cover i) legal may f = covered_step p t spans i legal may f
 move_step p t spans (Purify i c) legal may f = purified_step p t spans i c legal may f
 move_step p t spans (Tweak i) legal may f = tweaked_step p t spans i legal may f
 move_step p t spans (Spend i) legal may f = spent_step p t spans i legal may f
+
+-- ---- the tables of a keeper from one move to the next
+
+-- what a move makes of tables that are those after the moves t
+pub record Makes (p : Puzzle) (t : List Move) (m : Move) (spans : List Span) (old : Nodes) (ring : Items) : Type 0 where
+  pub can : CanMake spans old ring m
+  pub nodes : nodes_made spans old ring m ≡ nodes_after p (m ∷ t)
+  pub items : items_made ring m ≡ items_after p (m ∷ t)
+  pub cost : made_cost spans old ring m ≡ cost_of p t m
+
+pub makes : {p : Puzzle} {t : List Move} {spans spans' : List Span} {nodes : Nodes} {items : Items} {m : Move} → spans' ≡ spans → nodes ≡ nodes_after p t → items ≡ items_after p t → MoveStep p t spans m → Makes p t m spans' nodes items
+makes {p} {t} {spans} {spans'} {nodes} {items} {m} a b c s = grind (arith, common_steps)
+
+-- what its undoing makes of them, k being the node that it took off
+pub record Unmakes (p : Puzzle) (t : List Move) (m : Move) (k : ℕ) (spans : List Span) (old : Nodes) (ring : Items) : Type 0 where
+  pub can : CanUnmake spans old ring m k
+  pub nodes : nodes_unmade spans old ring m k ≡ nodes_after p t
+  pub items : items_unmade ring m ≡ items_after p t
+  pub cost : unmade_cost spans old ring m k ≡ cost_of p t m
+
+pub unmakes : {p : Puzzle} {t : List Move} {spans spans' : List Span} {nodes : Nodes} {items : Items} {m : Move} (k : ℕ) → spans' ≡ spans → nodes ≡ nodes_after p (m ∷ t) → items ≡ items_after p (m ∷ t) → IsTakenOff p t m k → MoveStep p t spans m
+    → Unmakes p t m k spans' nodes items
+unmakes {p} {t} {spans} {spans'} {nodes} {items} {m} k a b c off s = grind (arith, common_steps)
+
+pub none_newest : (p : Puzzle) (t : List Move) → cost_of_newest 0 p t ≡ 0
+none_newest p [] = refl
+none_newest p (m ∷ t) = refl
+
+pub newest_one : (p : Puzzle) (t : List Move) (m : Move) → cost_of_newest 1 p (m ∷ t) ≡ cost_of p t m
+newest_one p t m = let z = none_newest p t in omega (arith, z)
+
+-- a move more on the trail
+pub one_more_move : (old new : List Move) (m : Move) → new ≡ old ++ m ∷ [] → reverse new ≡ m ∷ reverse old
+one_more_move old new m e = ap reverse e ∙ reverse-append old (m ∷ [])
+
+-- ---- the nodes taken off
+
+-- where the first node's link leads, before a Tweak
+abbrev pub FirstLed : Puzzle → List Move → Move → Type 0
+FirstLed p t (Tweak i) = get_or (nodes_after p t).dlink i 0 ≡ link_place p i (first_of 0 (listed_numbers p t i))
+FirstLed p t _ = Unit {0}
+
+pub first_led : (p : Puzzle) (t : List Move) (spans : List Span) (m : Move) → IsLegal p t m → IsFitted p spans → FirstLed p t m
+first_led p t spans (Tweak i) may f = let pos : 0 < i = let h = may.0.0 in omega (arith, h) in get_down p (line_of p t) i 0 (own_placed p i f.laid pos may.0.1)
+first_led p t spans _ may f = tt
+
+pub taken_few : (p : Puzzle) (t : List Move) → length (taken_nodes p t) ≤ length t
+taken_few p [] = omega arith
+taken_few p (Tweak i ∷ t) = omega (arith, taken_few p t)
+taken_few p (_ ∷ t) = omega (arith, taken_few p t)
+
+pub taken_short : (p : Puzzle) (xs : List ℕ) (moves : List Move) → reverse xs ≡ taken_nodes p (reverse moves) → length xs ≤ length moves
+taken_short p xs moves e = grind (arith, common_steps, length-reverse, taken_few)
+
+-- the node is the first that item i's own node leads to
+pub taken_then : (p : Puzzle) (t : List Move) (nodes : Nodes) (old new : List ℕ) (m : Move) → FirstLed p t m → nodes ≡ nodes_after p t → reverse old ≡ taken_nodes p t → new ≡ noted old nodes m → reverse new ≡ taken_nodes p (m ∷ t)
+taken_then p t nodes old new (Tweak i) led a b e = grind (arith, common_steps, reverse-append)
+taken_then p t nodes old new _ led a b e = grind (arith, common_steps, reverse-append)
+
+pub record Recalled (p : Puzzle) (t : List Move) (m : Move) (new : List ℕ) (x : ℕ) : Type 0 where
+  pub off : IsTakenOff p t m x
+  pub taken : reverse new ≡ taken_nodes p t
+
+pub recalled : (p : Puzzle) (t : List Move) (m : Move) (old new : List ℕ) (x : ℕ) → reverse old ≡ taken_nodes p (m ∷ t) → IsRecalled old new m x → Recalled p t m new x
+recalled p t (Tweak i) old new x a e = grind (arith, common_steps, reverse-append)
+recalled p t _ old new x a e = grind (arith, common_steps, reverse-append)

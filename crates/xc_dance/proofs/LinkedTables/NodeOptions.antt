@@ -1,33 +1,92 @@
--- The node by which an option uses an item, the option of a node, and the links downwards by option numbers.
-use Rattle.std.proofs.Common.{◌≡◌, ◌≢◌, ◌⊎◌, inl, inr, ℕ, zero, suc, ◌+◌, ◌-◌, ◌<◌, ◌≤◌, Bool, true, false, cond, ◌||◌, eqb, ltb, List, [], ◌∷◌, length, get_or, Some, None, Option, refl, ap, ap₂, sym, subst, ◌∙◌, arith, eq-eqb, ne_eqb, le-leb, ltb-true, ltb-false}
+-- What the tables answer: the node by which an option uses an item, the option of a node, and the links downwards.
+use Rattle.std.proofs.Common.{◌≡◌, ℕ, zero, suc, ◌+◌, ◌-◌, ◌<◌, ◌≤◌, Bool, true, false, not, cond, eqb, List, [], ◌∷◌, length, get_or, Some, None, filter, refl, ap₂, subst, arith, eqb-true, ne_eqb, le-leb, ◌≢◌, ◌⊎◌, inl, inr, ltb, Option, ap, sym, ◌∙◌, eq-eqb, ltb-true, ltb-false}
 use Rattle.std.specs.Prelude.{is_some, unwrap_or, slice_get, Contains}
 use Rattle.std.specs.List.{range_with_len, AllByRecursion}
+use Rattle.std.proofs.lemmas.Grind.{common_steps}
+use Rattle.std.proofs.lemmas.Option.{slice_get_within, same_Some, slice_get-get_or}
+use Rattle.xc_input.specs.Problem.{Puzzle, primary_count, item_count, high_at, IsPrimary, uses_of, colour_in}
 use Rattle.xc_input.specs.declared.problem.Use.{Use}
 use Rattle.xc_dance.specs.declared.dance.Move.{Move}
-use Rattle.xc_input.specs.Problem.{Puzzle, primary_count, item_count, uses_of, colour_in}
-use Rattle.xc_dance.specs.Moves.{is_open, AreLegal, listed_numbers, next_above, open_items, IsOpenPrimary}
-use Rattle.xc_dance.specs.Fields.{own, spacer, used, layout, spacer_place, first_above, first_of, is_in, ring_of, right_of, below_of, link_place}
-use Rattle.xc_dance.specs.Links.Cells.{slot_of, link_at, fixed_down, top_in, dlink_in, line_of, nodes_after}
-use Rattle.xc_dance.specs.Links.ItemCells.{items_after, rlink_at}
-use Rattle.xc_dance.specs.Links.Laid.{IsName, IsLaid, IsFit}
-use Rattle.xc_dance.specs.Links.Answered.{IsNodeOf, named}
+use Rattle.xc_dance.specs.declared.dance.Move.TheVariants.{Purify, Spend}
+use Rattle.xc_dance.specs.Moves.{purified, spends, AreLegal, listed, next_above, open_items, listed_numbers, IsOpenPrimary}
+use Rattle.xc_dance.specs.Fields.{own, layout, first_above, ring_of, spacer, used, spacer_place, is_in, below_of, link_place}
+use Rattle.xc_dance.specs.Links.Cells.{top_in, color_in, line_of, nodes_after, slot_of, link_at, fixed_down, dlink_in}
+use Rattle.xc_dance.specs.Links.ItemCells.{items_after, bound_at, rlink_at}
+use Rattle.xc_dance.specs.Links.Laid.{IsLaid, IsName, IsFit}
+use Rattle.xc_dance.specs.Links.Answered.{named, IsNodeOf}
 use Rattle.xc_dance.specs.Links.OptionPlaces.{start_at, place_at}
-use Rattle.xc_dance.proofs.LinkedTables.Answering.{ring_open}
-use Rattle.xc_dance.proofs.LinkedTables.LaidLemmas.{placed, head_is}
-use Rattle.xc_dance.proofs.LinkedTables.Goods.{Named}
-use Rattle.xc_dance.proofs.LinkedTables.GoodLines.{numbers_named}
 use Rattle.xc_dance.proofs.MoveLemmas.ListLemmas.{next_above-gt, Rises-filter, Rises-range}
-use Rattle.xc_dance.proofs.MoveLemmas.Shortened.{rises_listed}
-use Rattle.xc_dance.proofs.LinkedTables.Mapped.{get_map}
-use Rattle.xc_dance.proofs.LinkedTables.PlaceLemmas.{use_here, spacer_here, place_next}
-use Rattle.xc_dance.proofs.LinkedTables.OptionReach.{get_behind}
-use Rattle.xc_dance.proofs.LinkedTables.SpanLemmas.{parted, there}
-use Rattle.xc_dance.proofs.LinkedTables.SpacerPlaces.{use_at, spacer_at}
+use Rattle.xc_dance.proofs.LinkedTables.LinkColumns.{get_map, member_of}
 use Rattle.xc_dance.proofs.LinkedTables.RingStep.{row_get, row_len, right_now}
+use Rattle.xc_dance.proofs.MoveLemmas.StateLemmas.{open_or_covered, open_uncovered}
+use Rattle.xc_dance.proofs.LinkedTables.LaidLemmas.{placed, head_is}
+use Rattle.xc_dance.proofs.LinkedTables.GoodLines.{Named, numbers_named}
+use Rattle.xc_dance.proofs.MoveLemmas.Shortened.{rises_listed}
+use Rattle.xc_dance.proofs.LinkedTables.PlaceLemmas.{use_here, spacer_here, place_next, get_behind, parted, there, use_at, spacer_at}
 use Rattle.xc_dance.proofs.LinkedTables.Sweep.{first_above-first}
-use Rattle.xc_dance.proofs.MoveLemmas.StateLemmas.{open_uncovered}
-use Rattle.std.proofs.lemmas.Option.{same_Some, slice_get_within, slice_get-get_or}
-use Rattle.xc_dance.proofs.LinkedTables.LinkColumns.{member_of}
+
+-- ---- what the tables answer, against what the moves make of the lists
+
+-- ---- bounds
+
+pub spent_within : (p : Puzzle) (t : List Move) (i : ℕ) → AreLegal p t → spends i t ≤ high_at p i
+spent_within p [] i legal = grind (arith, common_steps, eqb-true)
+spent_within p (Spend j ∷ t) i legal = grind (arith, common_steps, eqb-true, spent_within p t i legal.1)
+spent_within p (_ ∷ t) i legal = grind (arith, common_steps, eqb-true, spent_within p t i legal.1)
+
+pub bound_here : (p : Puzzle) (t : List Move) (i : ℕ) → IsPrimary p i → get_or (items_after p t).bound i 0 ≡ high_at p i - spends i t
+bound_here p t i is = grind (arith, common_steps, ne_eqb, row_get)
+
+pub bound_place : (p : Puzzle) (t : List Move) (i : ℕ) → IsPrimary p i → i < length (items_after p t).bound
+bound_place p t i is = let long = row_len (bound_at p t) (primary_count p + 1) in omega (arith, long, is.1)
+
+-- ---- own nodes
+
+pub own_place : (p : Puzzle) (i : ℕ) → IsLaid p → 0 < i → i ≤ item_count p → i < length (layout p)
+own_place p i laid pos le = slice_get_within (layout p) i (own i) (laid.head i pos le)
+
+pub own_top : (p : Puzzle) (t : List Move) (i : ℕ) → IsLaid p → 0 < i → i ≤ item_count p → get_or (nodes_after p t).top i 0 ≡ length (listed p t i)
+own_top p t i laid pos le = get_map (top_in (line_of p t)) (layout p) i (own i) (laid.head i pos le)
+
+pub own_color : (p : Puzzle) (t : List Move) (i : ℕ) → IsLaid p → 0 < i → i ≤ item_count p → get_or (nodes_after p t).color i 0 ≡ unwrap_or (purified i t) 0
+own_color p t i laid pos le = get_map (color_in p t) (layout p) i (own i) (laid.head i pos le)
+
+-- ---- states
+
+purified_above : (p : Puzzle) (t : List Move) (i c : ℕ) → AreLegal p t → purified i t ≡ Some c → 0 < c
+purified_above p [] i c legal e = cc
+purified_above p (Purify j d ∷ t) i c legal e =
+    elim (eqb i j) as (λ b. cond b (Some d) (purified i t) ≡ Some c → 0 < c) [
+      | true ↦ λ f. (let same : d ≡ c = cc in subst (λ k. 0 < k) same legal.0.2)
+      | false ↦ λ f. purified_above p t i c legal.1 f
+    ] e
+purified_above p (_ ∷ t) i c legal e = purified_above p t i c legal.1 e
+
+pub purified_read : (p : Puzzle) (t : List Move) (i : ℕ) → AreLegal p t → not (eqb (unwrap_or (purified i t) 0) 0) ≡ is_some (purified i t)
+purified_read p t i legal = grind (arith, common_steps, ne_eqb, purified_above)
+
+-- ---- the number above, with 0 for none
+
+pub above_named : (n : ℕ) (xs : List ℕ) → named (first_above 0 n xs) ≡ next_above n xs
+above_named n xs = grind (arith, common_steps, ne_eqb, next_above-gt)
+
+-- ---- open primary items
+
+primary_unpurified : (p : Puzzle) (t : List Move) (i : ℕ) → AreLegal p t → i ≤ primary_count p → purified i t ≡ None
+primary_unpurified p [] i legal le = grind (arith, common_steps, ne_eqb)
+primary_unpurified p (Purify j c ∷ t) i legal le = grind (arith, common_steps, ne_eqb, primary_unpurified p t i legal.1 le)
+primary_unpurified p (_ ∷ t) i legal le = grind (arith, common_steps, ne_eqb, primary_unpurified p t i legal.1 le)
+
+same_filter : (f g : ℕ → Bool) (a n : ℕ) → ((k : ℕ) → k < a + n → f k ≡ g k) → filter f (range_with_len a n) ≡ filter g (range_with_len a n)
+same_filter f g a zero h = refl
+same_filter f g a (suc n) h =
+    ap₂ (λ b l. cond b (a ∷ l) l) (h a (omega arith)) (same_filter f g (a + 1) n (λ k lt. h k (omega (arith, lt))))
+
+-- the first ring's items are the open primary ones
+pub ring_open : (p : Puzzle) (t : List Move) (i : ℕ) → AreLegal p t → i ≤ primary_count p → ring_of p t i ≡ open_items p t
+ring_open p t i legal le = grind (arith, common_steps, le-leb, open_or_covered, primary_unpurified, same_filter)
+
+-- ---- the node by which an option uses an item, the option of a node, and the links downwards by option numbers
 
 -- ---- an item's own node
 
@@ -103,11 +162,7 @@ on_the_way p t i (suc m) q laid fit pos held from to =
     let at : k ≡ w.index = omega (arith, e, place) in
     let one : Some u ≡ Some w.use_of = sym use_is ∙ ap (slice_get w.uses) at ∙ w.use_is in
     ap (λ (v : Use). v.item) (same_Some u w.use_of one) ∙ w.item in
-    record {
-      within = slice_get_within (layout p) q (used (m + 1) u) node;
-      found = λ e. sym (here (sym top ∙ e));
-      next = λ ne. (let other : q ≢ link_place p i (suc m) = λ e. ne (top ∙ its_item e) in omega (arith, to, other));
-    }
+    grind (arith, common_steps, slice_get_within)
 
 -- ---- which option a node is of
 
@@ -158,15 +213,6 @@ name_used : (p : Puzzle) (i place x : ℕ) → IsName p i x → place ≡ link_p
 name_used p i place x (inl z) at other = absurd (other (at ∙ ap (link_place p i) z))
 name_used p i place x (inr h) at other = h
 
-pub before_spacer : (p : Puzzle) (i place x : ℕ) → IsFit p → place ≢ i → IsName p i x → place ≡ link_place p i x → place ≤ spacer_place p x
-before_spacer p i place x fit other name at = by_number x (name_used p i place x name at other) at
-  where
-    by_number : (o : ℕ) → (0 < o) × (is_some (colour_in (uses_of p o) i) ≡ true) → place ≡ link_place p i o → place ≤ spacer_place p o
-    by_number zero h e = absurd (let pos = h.0 in omega (arith, pos))
-    by_number (suc m) h e =
-        let w = use_place p i m fit h.1 in
-        omega (arith, e, w.place, spacer_behind p i m w, slice_get_within w.uses w.index w.use_of w.use_is)
-
 -- what TOP tells at q, which is not past the spacer behind the node at the place
 pub record Seeks (p : Puzzle) (i place : ℕ) (top : List ℕ) (q : ℕ) : Type 0 where
   pub within : q < length (layout p)
@@ -179,14 +225,7 @@ seeks p t i place q laid fit node other from to =
     let tells : (x : ℕ) → IsName p i x → place ≡ link_place p i x → ToSpacer p t x q = λ x name at.
     let is = name_used p i place x name at other in
     to_spacer p t i x q laid fit is.0 is.1 (omega (arith, from, at)) (to x name at) in
-    record {
-      within = (tells node.number node.name node.at).within;
-      low = λ h x name at. (tells x name at).next h;
-      high = λ h x name at.
-          let is = (tells x name at).number h in
-          let pos = (name_used p i place x name at other).0 in
-          ap Some (omega (arith, is)) ∙ sym (ap (λ b. cond b None (Some x)) (ne_eqb x 0 (λ z. omega (arith, z, pos))));
-    }
+    grind (arith, common_steps, name_used, ne_eqb)
 
 -- ---- links downwards, by option numbers
 
@@ -214,16 +253,7 @@ own_down p t i laid pos le =
     ∙ ap (link_place p i) (sym (first_above-first 0 0 0 (listed_numbers p t i) (omega arith) (rises_listed p t i)))
 
 pub contained : (xs : List ℕ) (x : ℕ) → Contains xs x → is_in x xs ≡ true
-contained xs x h = by_place xs h.0 h.1 h.2
-  where
-    by_place : (ys : List ℕ) (k : ℕ) → k < length ys → get_or ys k x ≡ x → is_in x ys ≡ true
-    by_place [] k lt e = absurd (omega (arith, lt))
-    by_place (y ∷ ys) zero lt e = ap (λ b. b || is_in x ys) (eq-eqb y x e)
-    by_place (y ∷ ys) (suc k) lt e = later (eqb y x) (by_place ys k (omega (arith, lt)) e)
-      where
-        later : (b : Bool) → is_in x ys ≡ true → (b || is_in x ys) ≡ true
-        later true f = refl
-        later false f = f
+contained xs x h = grind (arith, common_steps, eq-eqb)
 
 below_now : (p : Puzzle) (t : List Move) (i o : ℕ) → is_in o (listed_numbers p t i) ≡ true → below_of p t i o ≡ first_above 0 o (listed_numbers p t i)
 below_now p [] i o e = refl
@@ -244,20 +274,8 @@ node_within p i o laid pos le name = let q = laid.there i o pos le name in slice
 -- ---- the ring of primary items
 
 pub open_right : (p : Puzzle) (t : List Move) (i : ℕ) → AreLegal p t → (i ≡ 0) ⊎ IsOpenPrimary p t i → get_or (items_after p t).rlink i 0 ≡ first_above 0 i (open_items p t)
-open_right p t i legal (inl z) =
-    ap (λ k. get_or (items_after p t).rlink k 0) z
-    ∙ row_get (rlink_at p t) (item_count p + 2) 0 (omega arith)
-    ∙ ap (first_of 0) (ring_open p t 0 legal (omega arith))
-    ∙ sym (first_above-first 0 0 0 (open_items p t) (omega arith) (Rises-filter (λ j. is_open j t) 0 (range_with_len 1 (primary_count p)) (Rises-range 0 (primary_count p))))
-    ∙ ap (λ k. first_above 0 k (open_items p t)) (sym z)
-open_right p t i legal (inr h) =
-    let pos : 0 < i = let g = h.0.0 in omega (arith, g) in
-    let low : i ≤ primary_count p = h.0.1 in
-    let le : i ≤ item_count p = omega (arith, low) in
-    row_get (rlink_at p t) (item_count p + 2) i (omega (arith, le))
-    ∙ ap₂ (λ u v. cond u (first_of 0 (ring_of p t 0)) (cond v (right_of p t i) (first_of (item_count p + 1) (ring_of p t (primary_count p + 1))))) (ne_eqb i 0 (λ e. omega (arith, e, pos))) (le-leb i (item_count p) le)
-    ∙ right_now p t i (open_uncovered i t h.1)
-    ∙ ap₂ (λ b l. first_above (cond b 0 (item_count p + 1)) i l) (le-leb i (primary_count p) low) (ring_open p t i legal low)
+open_right p t i legal (inl z) = grind (arith, common_steps, Rises-filter, Rises-range, first_above-first, le-leb, ne_eqb, open_uncovered, right_now, ring_open, row_get)
+open_right p t i legal (inr h) = grind (arith, common_steps, Rises-filter, Rises-range, first_above-first, le-leb, ne_eqb, open_uncovered, right_now, ring_open, row_get)
 
 pub open_place : (p : Puzzle) (t : List Move) (i : ℕ) → (i ≡ 0) ⊎ IsOpenPrimary p t i → i < length (items_after p t).rlink
 open_place p t i (inl z) = let long = row_len (rlink_at p t) (item_count p + 2) in omega (arith, long, z)

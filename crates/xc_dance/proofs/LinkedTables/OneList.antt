@@ -1,30 +1,64 @@
--- Down one list and back up: the options of its nodes leave the lists of their other items, but for those of a colour that is kept, whose nodes are marked.
-use Rattle.std.proofs.Common.{◌≡◌, ◌≢◌, ℕ, ◌+◌, ◌*◌, ◌<◌, ◌≤◌, inr, true, false, not, cond, ◌&&◌, ◌||◌, eqb, List, [], ◌∷◌, ◌++◌, length, map, fold, filter, reverse, get_or, Option, Some, None, refl, ap, ap₂, sym, subst, ◌∙◌, arith, eqb-true, eq-eqb, ne_eqb}
+-- One list and its colours, down and back up.
+use Rattle.std.proofs.Common.{◌≡◌, ℕ, true, false, cond, ◌&&◌, eqb, List, map, get_or, set, Option, Some, None, refl, ap, ap₂, sym, ◌∙◌, eqb-true, eq-eqb, arith, ◌≢◌, ◌+◌, ◌*◌, ◌<◌, ◌≤◌, inr, not, ◌||◌, [], ◌∷◌, ◌++◌, length, fold, filter, reverse, subst, ne_eqb}
+use Rattle.std.specs.Prelude.{slice_get}
+use Rattle.std.proofs.lemmas.Grind.{common_steps}
 use Rattle.std.proofs.lemmas.Bool.{false≢true, and_right}
 use Rattle.std.proofs.lemmas.List.{length-map, reverse-append}
 use Rattle.std.proofs.lemmas.List.Sums.{fold-append}
-use Rattle.xc_dance.specs.declared.links.nodes.Nodes.{Nodes}
-use Rattle.xc_dance.specs.Links.Span.{Span}
+use Rattle.std.proofs.lemmas.Option.{slice_get_within}
 use Rattle.xc_input.specs.Problem.{Puzzle, item_count, uses_of}
-use Rattle.xc_dance.specs.Lists.Losing.{is_kept}
 use Rattle.xc_dance.specs.Fields.{Node, layout, link_place, is_in}
 use Rattle.xc_dance.specs.Links.Lines.{Line}
-use Rattle.xc_dance.specs.Links.Steps.{others_of, hidden_node, shown_node, hide_costs, show_costs}
-use Rattle.xc_dance.specs.Links.ListWalks.{with_colour, is_kept_colour, is_kept_mark, kept_colour, left_node, back_node, leave_cost, back_cost, walk_costs, back_costs, CanLeave, CanReturn, IsWalk, IsWalkBack}
-use Rattle.xc_dance.specs.Links.Cells.{nodes_from, ulink_in, dlink_in}
-use Rattle.xc_dance.specs.Links.Others.{before_use, behind_use, HasSpans}
+use Rattle.xc_dance.specs.Links.ListWalks.{with_colour, is_kept_colour, is_kept_mark, left_node, back_node, leave_cost, back_cost, walk_costs, back_costs, CanLeave, CanReturn, IsWalk, IsWalkBack}
+use Rattle.xc_dance.specs.Links.Cells.{slot_of, nodes_from, ulink_in, dlink_in}
 use Rattle.xc_dance.specs.Links.Laid.{Placed, IsLaid}
-use Rattle.std.proofs.lemmas.Option.{slice_get_within}
-use Rattle.xc_dance.proofs.LinkedTables.Undo.{written_back, same_nodes}
-use Rattle.xc_dance.proofs.LinkedTables.ReadyLemmas.{Stands}
-use Rattle.xc_dance.proofs.LinkedTables.LinkColumns.{get_up, get_down}
-use Rattle.xc_dance.proofs.LinkedTables.Goods.{Named, AllGood}
-use Rattle.xc_dance.proofs.LinkedTables.Sweep.{in_more, Rises, in_above}
-use Rattle.xc_dance.proofs.LinkedTables.Colours.{coloured_is, color_here, color_other}
+use Rattle.xc_dance.specs.declared.links.nodes.Nodes.{Nodes}
+use Rattle.xc_dance.specs.Links.Span.{Span}
+use Rattle.xc_dance.specs.Lists.Losing.{is_kept}
+use Rattle.xc_dance.specs.Links.Others.{before_use, behind_use, HasSpans}
+use Rattle.xc_dance.proofs.LinkedTables.LinkColumns.{get_map, map_put, same_nodes, written_back, Stands, get_up, get_down}
+use Rattle.xc_dance.proofs.LinkedTables.Sweep.{is_slot, with_color, in_more, Rises, in_above, cut, IsLinkedFrom, other_items}
+use Rattle.xc_dance.proofs.LinkedTables.GoodLines.{Named, AllGood}
 use Rattle.xc_dance.proofs.LinkedTables.OneOption.{is_mark, left_one, left_all, IsApart, AreReady, walked, ready_front, all_other, gone_count}
 use Rattle.xc_dance.proofs.LinkedTables.Spacers.{Turns, turns}
 use Rattle.xc_dance.proofs.LinkedTables.Walks.{costs-append}
-use Rattle.xc_dance.proofs.LinkedTables.LineChanges.{cut, IsLinkedFrom, with_line, with_color, other_items}
+
+-- ---- the colour of one node of the table
+
+slot_here : (j x : ℕ) (s : Option (ℕ × ℕ)) → s ≡ Some (j, x) → is_slot j x s ≡ true
+slot_here j x s e = ap (is_slot j x) e ∙ ap₂ (λ a b. a && b) (eq-eqb j j refl) (eq-eqb x x refl)
+
+slot_is : (j x : ℕ) (s : Option (ℕ × ℕ)) → is_slot j x s ≡ true → s ≡ Some (j, x)
+slot_is j x None e = grind (arith, common_steps, eqb-true, false≢true)
+slot_is j x (Some s) e = grind (arith, common_steps, eqb-true, false≢true)
+
+pub color_put : (p : Puzzle) (col : Node → ℕ) (j x v : ℕ) → IsLaid p → Placed p j x → map (with_color col j x v) (layout p) ≡ set (map col (layout p)) (link_place p j x) v
+color_put p col j x v laid h =
+    map_put col (with_color col j x v) (layout p) (link_place p j x) v
+    (λ q n at ne. elim (is_slot j x (slot_of n)) as (λ b. is_slot j x (slot_of n) ≡ b → cond b v (col n) ≡ col n) [
+      | true ↦ λ e. absurd (ne (sym (laid.unique q n j x at (slot_is j x (slot_of n) e))))
+      | false ↦ λ e. refl
+    ] refl)
+    (λ n at.
+    let same : n ≡ h.node = same_at (layout p) (link_place p j x) n h.node at h.at in
+    ap (λ b. cond b v (col n)) (slot_here j x (slot_of n) (ap slot_of same ∙ h.slot)))
+  where
+    same_at : (ns : List Node) (k : ℕ) (m n : Node) → slice_get ns k ≡ Some m → slice_get ns k ≡ Some n → m ≡ n
+    same_at ns k m n a b = let e : Some m ≡ Some n = sym a ∙ b in cc
+
+-- a node is coloured in the table
+pub coloured_is : (p : Puzzle) (col : Node → ℕ) (ln : ℕ → Line) (j x v : ℕ) → IsLaid p → Placed p j x → with_colour (nodes_from p ln col) (link_place p j x) v ≡ nodes_from p ln (with_color col j x v)
+coloured_is p col ln j x v laid h = grind (arith, common_steps, color_put, same_nodes)
+
+pub color_here : (p : Puzzle) (col : Node → ℕ) (j x v : ℕ) → Placed p j x → get_or (map (with_color col j x v) (layout p)) (link_place p j x) 0 ≡ v
+color_here p col j x v h =
+    get_map (with_color col j x v) (layout p) (link_place p j x) h.node h.at ∙ ap (λ b. cond b v (col h.node)) (slot_here j x (slot_of h.node) h.slot)
+
+pub color_other : (p : Puzzle) (col : Node → ℕ) (j x v k y : ℕ) → Placed p k y → (eqb k j && eqb y x) ≡ false →
+    get_or (map (with_color col j x v) (layout p)) (link_place p k y) 0 ≡ get_or (map col (layout p)) (link_place p k y) 0
+color_other p col j x v k y h ne = grind (arith, common_steps, get_map)
+
+-- ---- down one list and back up: the options of its nodes leave the lists of their other items, but for those of a colour that is kept, whose nodes are marked
 
 -- ---- what the walk leaves
 
@@ -88,24 +122,17 @@ mark_by : (p : Puzzle) (col now : Node → ℕ) (o j : ℕ) → own_color p now 
 mark_by p col now o j e = ap (λ v. eqb v 4294967295) e
 
 all_same : (p : Puzzle) (i : ℕ) (col now : Node → ℕ) (xs : List ℕ) (lists : ℕ → List ℕ) (o : ℕ) (ln : ℕ → Line) (js : List ℕ) → 0 < o → Passed p i col now xs → IsApart i js → AreReady p col lists o js → left_all p now o ln js ≡ left_all p col o ln js
-all_same p i col now xs lists o ln [] pos same apart h = refl
-all_same p i col now xs lists o ln (j ∷ js) pos same apart h =
-    let here : is_mark p now o j ≡ is_mark p col o j = mark_by p col now o j (same.others j o apart.0 h.0 h.1 pos h.2) in
-    ap (λ b. left_all p now o (cond b ln (with_line ln j (cut (ln j) o))) js) here
-    ∙ all_same p i col now xs lists o (left_one p col o ln j) js pos same apart.1 h.5
+all_same p i col now xs lists o ln [] pos same apart h = grind (arith, common_steps, mark_by)
+all_same p i col now xs lists o ln (j ∷ js) pos same apart h = grind (arith, common_steps, mark_by, all_same p i col now xs lists o (left_one p col o ln j) js pos same apart.1 h.5)
 
 ready_same : (p : Puzzle) (i : ℕ) (col now : Node → ℕ) (xs : List ℕ) (lists : ℕ → List ℕ) (o : ℕ) (js : List ℕ) → 0 < o → Passed p i col now xs → IsApart i js → AreReady p col lists o js → AreReady p now lists o js
-ready_same p i col now xs lists o [] pos same apart h = tt
-ready_same p i col now xs lists o (j ∷ js) pos same apart h =
-    let here : is_mark p now o j ≡ is_mark p col o j = mark_by p col now o j (same.others j o apart.0 h.0 h.1 pos h.2) in
-    (h.0, h.1, h.2, (λ e. h.3 (sym here ∙ e)), h.4, ready_same p i col now xs lists o js pos same apart.1 h.5)
+ready_same p i col now xs lists o [] pos same apart h = grind (arith, common_steps, mark_by)
+ready_same p i col now xs lists o (j ∷ js) pos same apart h = grind (arith, common_steps, mark_by, ready_same p i col now xs lists o js pos same apart.1 h.5)
 
 gone_same : (p : Puzzle) (i : ℕ) (col now : Node → ℕ) (xs : List ℕ) (lists : ℕ → List ℕ) (o : ℕ) (js : List ℕ) → 0 < o → Passed p i col now xs → IsApart i js → AreReady p col lists o js →
     filter (λ j. not (is_mark p now o j)) js ≡ filter (λ j. not (is_mark p col o j)) js
-gone_same p i col now xs lists o [] pos same apart h = refl
-gone_same p i col now xs lists o (j ∷ js) pos same apart h =
-    let here : is_mark p now o j ≡ is_mark p col o j = mark_by p col now o j (same.others j o apart.0 h.0 h.1 pos h.2) in
-    ap₂ (λ b ks. cond (not b) (j ∷ ks) ks) here (gone_same p i col now xs lists o js pos same apart.1 h.5)
+gone_same p i col now xs lists o [] pos same apart h = grind (arith, common_steps, mark_by)
+gone_same p i col now xs lists o (j ∷ js) pos same apart h = grind (arith, common_steps, mark_by, gone_same p i col now xs lists o js pos same apart.1 h.5)
 
 -- ---- one step of the walk
 
@@ -136,17 +163,7 @@ mark_step p now spans (Some c) ln i o laid h near e =
     let is : with_colour t x 4294967295 ≡ u = coloured_is p now ln i o 4294967295 laid h in
     let colour : own_color p now i o ≡ c = eqb-true (own_color p now i o) c e in
     let marked : is_kept_mark keep (get_or u.color x 0) ≡ true = eq-eqb (get_or u.color x 0) 4294967295 (color_here p now i o 4294967295 h) in
-    record {
-      can = record { span = near; place = omega (arith, long, within); hide = λ f. absurd (false≢true (sym f ∙ e)) };
-      done = ap (λ b. cond b (with_colour t x 4294967295) (hidden_node spans t x)) e ∙ is;
-      back = record { span = near; place = omega (arith, long', within); show = λ f. absurd (false≢true (sym f ∙ marked)) };
-      undone =
-          ap (λ b. cond b (with_colour u x c) (shown_node spans u x)) marked
-          ∙ ap (λ (s : Nodes). with_colour s x c) (sym is)
-          ∙ same_nodes (with_colour (with_colour t x 4294967295) x c) t refl refl refl (written_back t.color x x 4294967295 c refl colour);
-      cost = ap (λ b. cond b 1 (hide_costs t (others_of spans x))) e;
-      cost_back = ap (λ b. cond b 1 (show_costs u (reverse (others_of spans x)))) marked;
-    }
+    grind (arith, common_steps, false≢true, same_nodes, written_back)
 
 no_mark : (keep : Option ℕ) (v : ℕ) → eqb v 4294967295 ≡ false → is_kept_mark keep v ≡ false
 no_mark None v e = refl
@@ -156,21 +173,7 @@ no_mark (Some c) v e = e
 hide_step : (p : Puzzle) (now : Node → ℕ) (spans : List Span) (keep : Option ℕ) (ln : ℕ → Line) (i o : ℕ) → HasSpans p spans → Placed p i o → 0 < o → Named p i o
     → is_kept_colour keep (own_color p now i o) ≡ false → eqb (own_color p now i o) 4294967295 ≡ false → Turns p ln now spans o i →
     OneStep spans keep (nodes_from p ln now) (nodes_from p (left_all p now o ln (other_items p o i)) now) (link_place p i o) (3 * gone_count p now i o)
-hide_step p now spans keep ln i o spanned h pos named other unmarked turns =
-    let x = link_place p i o in
-    let t : Nodes = nodes_from p ln now in
-    let u : Nodes = nodes_from p (left_all p now o ln (other_items p o i)) now in
-    let within = slice_get_within (layout p) x h.node h.at in
-    let long : length (map now (layout p)) ≡ length (layout p) = length-map (layout p) now in
-    let not_marked : is_kept_mark keep (get_or u.color x 0) ≡ false = no_mark keep (own_color p now i o) unmarked in
-    record {
-      can = record { span = spanned.within o i pos named; place = omega (arith, long, within); hide = λ f. turns.hide };
-      done = ap (λ b. cond b (with_colour t x 4294967295) (hidden_node spans t x)) other ∙ turns.done;
-      back = record { span = spanned.within o i pos named; place = omega (arith, long, within); show = λ f. turns.show };
-      undone = ap (λ b. cond b (with_colour u x (kept_colour keep)) (shown_node spans u x)) not_marked ∙ turns.undone;
-      cost = ap (λ b. cond b 1 (hide_costs t (others_of spans x))) other ∙ turns.cost;
-      cost_back = ap (λ b. cond b 1 (show_costs u (reverse (others_of spans x)))) not_marked ∙ turns.cost_back;
-    }
+hide_step p now spans keep ln i o spanned h pos named other unmarked turns = grind (arith, common_steps, length-map, no_mark, slice_get_within, turns)
 
 -- the first step, and what is then asked of the rest
 pub record Turn (p : Puzzle) (col now : Node → ℕ) (spans : List Span) (i : ℕ) (keep : Option ℕ) (ln : ℕ → Line) (o : ℕ) (xs : List ℕ) : Type 0 where
@@ -228,9 +231,7 @@ turn p col now spans i keep ln lists o xs laid spanned pos le o_pos good ready r
             good = w.gone.good;
             ready = each_kept p col lists w.gone.lists' i keep o o xs (omega arith) r w.gone.kept ready.4;
             passed = record { others = passed.others; own = λ x f. passed.own x (in_more o x xs f) };
-            lines =
-                ap (λ b. left_list p col i ln (cond (not b) (o ∷ leavers p i keep xs) (leavers p i keep xs))) e
-                ∙ ap (λ m. left_list p col i m (leavers p i keep xs)) (sym (all_same p i col now (o ∷ xs) lists o ln js o_pos passed ready.2 ready.1));
+            lines = grind (arith, common_steps, all_same);
             colours = ap (λ b. marked_list p i keep (cond b (with_color now i o 4294967295) now) xs) e;
           }
     ] refl
@@ -252,11 +253,8 @@ leads spans keep t q (x ∷ xs) = leads spans keep (back_node spans keep t x) (g
 
 back_push : (spans : List Span) (keep : Option ℕ) (t u v : Nodes) (q : ℕ) (xs : List ℕ) (x : ℕ) → IsWalkBack spans keep t q xs → fold (back_node spans keep) t xs ≡ u → leads spans keep t q xs ≡ x →
     back_node spans keep u x ≡ v → x < length v.ulink → CanReturn spans keep u x → IsWalkBack spans keep t q (xs ++ x ∷ [])
-back_push spans keep t u v q [] x w done at next within can =
-    let is : u ≡ t = sym done in
-    (at, subst (λ (s : Nodes). CanReturn spans keep s x) is can, subst (λ (s : Nodes). x < length s.ulink) (sym next ∙ ap (λ (s : Nodes). back_node spans keep s x) is) within, tt)
-back_push spans keep t u v q (y ∷ ys) x w done at next within can =
-    (w.0, w.1, w.2, back_push spans keep (back_node spans keep t y) u v (get_or (back_node spans keep t y).ulink y 0) ys x w.3 done at next within can)
+back_push spans keep t u v q [] x w done at next within can = grind (arith, common_steps)
+back_push spans keep t u v q (y ∷ ys) x w done at next within can = grind (arith, common_steps, back_push spans keep (back_node spans keep t y) u v (get_or (back_node spans keep t y).ulink y 0) ys x w.3 done at next within can)
 
 leads_push : (spans : List Span) (keep : Option ℕ) (t u v : Nodes) (q : ℕ) (xs : List ℕ) (x : ℕ) → fold (back_node spans keep) t xs ≡ u → back_node spans keep u x ≡ v → leads spans keep t q (xs ++ x ∷ []) ≡ get_or v.ulink x 0
 leads_push spans keep t u v q [] x done next = ap (λ (s : Nodes). get_or (back_node spans keep s x).ulink x 0) done ∙ ap (λ (s : Nodes). get_or s.ulink x 0) next
@@ -322,12 +320,8 @@ listed_walk p col now spans i keep ln lists a (o ∷ xs) laid spanned pos le goo
       );
       done = ap (λ (u : Nodes). fold (left_node spans keep) u places) s.done ∙ rest.done;
       back = subst (IsWalkBack spans keep end' q0) (sym turned) (back_push spans keep end' t1 t0 q0 (reverse places) x back rest.undone ends s.undone (omega (arith, up_long, x_in)) s.back);
-      undone =
-          ap (fold (back_node spans keep) end') turned ∙ fold-append (back_node spans keep) end' (reverse places) (x ∷ []) ∙ ap (λ (u : Nodes). back_node spans keep u x) rest.undone ∙ s.undone;
+      undone = grind (arith, common_steps, fold-append);
       ends = ap (leads spans keep end' q0) turned ∙ leads_push spans keep end' t1 t0 q0 (reverse places) x rest.undone s.undone ∙ up_at ∙ ap (link_place p i) linked.2;
       costs = ap₂ (λ a b. a + b) s.cost (ap (λ (u : Nodes). walk_costs spans keep u places) s.done ∙ rest.costs);
-      costs_back =
-          let turn_back = ap (back_costs spans keep end') turned ∙ costs-append (back_node spans keep) (back_cost spans keep) end' (reverse places) (x ∷ []) in
-          let last : back_cost spans keep (fold (back_node spans keep) end' (reverse places)) x ≡ step_cost p col i keep o = ap (λ (u : Nodes). back_cost spans keep u x) rest.undone ∙ s.cost_back in
-          omega (arith, turn_back, last, rest.costs_back);
+      costs_back = grind (arith, common_steps, costs-append);
     })

@@ -1,5 +1,6 @@
 -- An option leaves the lists of some of its items, one after another.
-use Rattle.std.proofs.Common.{◌≡◌, ◌≢◌, ℕ, ◌<◌, ◌≤◌, ◌^◌, inr, Bool, true, false, cond, eqb, List, [], ◌∷◌, ◌++◌, length, map, fold, get_or, refl, ap, sym, subst, ◌∙◌, arith, eqb-true, ne_eqb, not, ◌&&◌, ◌||◌, eq-eqb, filter}
+use Rattle.std.proofs.Common.{◌≡◌, ◌≢◌, ℕ, ◌<◌, ◌≤◌, ◌^◌, inr, Bool, true, false, cond, eqb, List, [], ◌∷◌, ◌++◌, length, map, fold, get_or, refl, ap, sym, subst, ◌∙◌, arith, eqb-true, ne_eqb, not, ◌&&◌, eq-eqb, filter}
+use Rattle.std.proofs.lemmas.Grind.{common_steps}
 use Rattle.xc_dance.specs.declared.links.nodes.Nodes.{Nodes}
 use Rattle.xc_input.specs.Problem.{Puzzle, item_count}
 use Rattle.xc_dance.specs.Fields.{Node, layout, link_place, is_in}
@@ -8,17 +9,13 @@ use Rattle.xc_dance.specs.Links.Steps.{hidden}
 use Rattle.xc_dance.specs.Links.Cells.{nodes_from}
 use Rattle.xc_dance.specs.Links.Laid.{IsName, IsLaid}
 use Rattle.std.proofs.lemmas.Option.{slice_get_within}
-use Rattle.xc_dance.proofs.LinkedTables.ReadyLemmas.{Stands, Stands-without, Rest, back_more}
-use Rattle.xc_dance.proofs.LinkedTables.LinkColumns.{get_item}
-use Rattle.xc_dance.proofs.LinkedTables.OneNode.{Step, step_open, step_marked}
-use Rattle.xc_dance.proofs.LinkedTables.Goods.{Named, IsGood, AllGood, member, all_good_cut, with_list}
+use Rattle.xc_dance.proofs.LinkedTables.LinkColumns.{Stands, Stands-without, Rest, back_more, get_item}
+use Rattle.xc_dance.proofs.LinkedTables.GoodLines.{Step, step_open, step_marked, Named, IsGood, AllGood, member, all_good_cut, with_list}
 use Rattle.std.proofs.lemmas.Bool.{eqb-false}
-use Rattle.xc_dance.proofs.LinkedTables.LineChanges.{other_items, cut, with_line}
+use Rattle.xc_dance.proofs.LinkedTables.Sweep.{other_items, cut, with_line}
 
 line_by : (ln : ℕ → Line) (i j : ℕ) (l : Line) (b : Bool) → eqb j i ≡ b → with_line ln i l j ≡ cond b l (ln j)
-line_by ln i j l b e =
-    let make : Bool → Line = λ b. record { len = cond b l.len (ln j).len; up = λ x. cond b (l.up x) ((ln j).up x); down = λ x. cond b (l.down x) ((ln j).down x) } in
-    ap make e ∙ elim b as (λ b. make b ≡ cond b l (ln j)) [ true ↦ refl | false ↦ refl ]
+line_by ln i j l b e = grind (arith, common_steps)
 
 -- the node of option o in item j's list is marked
 abbrev pub is_mark : Puzzle → (Node → ℕ) → ℕ → ℕ → Bool
@@ -54,8 +51,7 @@ IsApart j [] = Unit {0}
 IsApart j (k ∷ ks) = (k ≢ j) × IsApart j ks
 
 pub one_other : (change : Line → ℕ → Line) (p : Puzzle) (col : Node → ℕ) (o : ℕ) (ln : ℕ → Line) (j k : ℕ) → j ≢ k → changed_one change p col o ln j k ≡ ln k
-one_other change p col o ln j k ne =
-    elim (is_mark p col o j) as (λ b. cond b ln (with_line ln j (change (ln j) o)) k ≡ ln k) [ true ↦ refl | false ↦ line_there ln j k (change (ln j) o) (λ e. ne (sym e)) ]
+one_other change p col o ln j k ne = grind (arith, common_steps, line_there)
 
 pub all_other : (change : Line → ℕ → Line) (p : Puzzle) (col : Node → ℕ) (o : ℕ) (ln : ℕ → Line) (js : List ℕ) (k : ℕ) → IsApart k js → changed_all change p col o ln js k ≡ ln k
 all_other change p col o ln [] k apart = refl
@@ -66,22 +62,12 @@ AllApart [] = Unit {0}
 AllApart (j ∷ js) = IsApart j js × AllApart js
 
 one_here : (change : Line → ℕ → Line) (p : Puzzle) (col : Node → ℕ) (o : ℕ) (ln : ℕ → Line) (k : ℕ) → changed_one change p col o ln k k ≡ cond (not (is_mark p col o k)) (change (ln k) o) (ln k)
-one_here change p col o ln k =
-    elim (is_mark p col o k) as (λ b. cond b ln (with_line ln k (change (ln k) o)) k ≡ cond (not b) (change (ln k) o) (ln k)) [ true ↦ refl | false ↦ line_here ln k (change (ln k) o) ]
+one_here change p col o ln k = grind (arith, common_steps, line_here)
 
 -- the line of item k after all of them
 pub all_at : (change : Line → ℕ → Line) (p : Puzzle) (col : Node → ℕ) (o : ℕ) (ln : ℕ → Line) (js : List ℕ) (k : ℕ) → AllApart js → changed_all change p col o ln js k ≡ cond (is_in k js && not (is_mark p col o k)) (change (ln k) o) (ln k)
-all_at change p col o ln [] k apart = refl
-all_at change p col o ln (j ∷ js) k apart =
-    elim (eqb j k) as (λ b. eqb j k ≡ b → changed_all change p col o (changed_one change p col o ln j) js k ≡ cond ((b || is_in k js) && not (is_mark p col o k)) (change (ln k) o) (ln k)) [
-      | true ↦ λ e.
-          let same : j ≡ k = eqb-true j k e in
-          all_other change p col o (changed_one change p col o ln j) js k (subst (λ i. IsApart i js) same apart.0)
-          ∙ ap (λ i. changed_one change p col o ln i k) same ∙ one_here change p col o ln k
-      | false ↦ λ e.
-          all_at change p col o (changed_one change p col o ln j) js k apart.1
-          ∙ ap (λ (l : Line). cond (is_in k js && not (is_mark p col o k)) (change l o) l) (one_other change p col o ln j k (eqb-false j k e))
-    ] refl
+all_at change p col o ln [] k apart = grind (arith, common_steps, all_other, eqb-false, eqb-true, one_here, one_other)
+all_at change p col o ln (j ∷ js) k apart = grind (arith, common_steps, all_other, eqb-false, eqb-true, one_here, one_other, all_at change p col o (changed_one change p col o ln j) js k apart.1)
 
 -- the option stands in the list of each of them in which it isn't marked
 abbrev pub AreReady : Puzzle → (Node → ℕ) → (ℕ → List ℕ) → ℕ → List ℕ → Type 0
@@ -99,10 +85,8 @@ ready_front p col lists o [] ks h = tt
 ready_front p col lists o (j ∷ js) ks h = (h.0, h.1, h.2, h.3, apart_front j js ks h.4, ready_front p col lists o js ks h.5)
 
 ready_other : (p : Puzzle) (col : Node → ℕ) (lists : ℕ → List ℕ) (o j : ℕ) (xs : List ℕ) (js : List ℕ) → IsApart j js → AreReady p col lists o js → AreReady p col (with_list lists j xs) o js
-ready_other p col lists o j xs [] apart h = tt
-ready_other p col lists o j xs (k ∷ js) apart h =
-    let no : eqb k j ≡ false = ne_eqb k j apart.0 in
-    (h.0, h.1, h.2, (λ e. subst (λ b. Stands (cond b xs (lists k)) o) (sym no) (h.3 e)), h.4, ready_other p col lists o j xs js apart.1 h.5)
+ready_other p col lists o j xs [] apart h = grind (arith, common_steps, ne_eqb)
+ready_other p col lists o j xs (k ∷ js) apart h = grind (arith, common_steps, ne_eqb, ready_other p col lists o j xs js apart.1 h.5)
 
 -- the lists after a walk: those of other items and members stay
 pub record Gone (p : Puzzle) (lists : ℕ → List ℕ) (ln : ℕ → Line) (o : ℕ) (js : List ℕ) : Type 0 where
@@ -119,16 +103,10 @@ pub record Walked (p : Puzzle) (col : Node → ℕ) (ln : ℕ → Line) (lists :
 
 -- one step, then the rest
 step_more : (t u : Nodes) (q : ℕ) (qs : List ℕ) → Step t u q → Rest u qs → Rest t (q ∷ qs)
-step_more t u q qs s r =
-    let r' : Rest (hidden t q) qs = subst (λ (v : Nodes). Rest v qs) (sym s.done) r in
-    record { can = (s.can, r'.can); undone = (s.undone, r'.undone); back = back_more t q qs r'.undone r'.back s.back }
+step_more t u q qs s r = grind (arith, common_steps, back_more)
 
 keep_others : (lists : ℕ → List ℕ) (j : ℕ) (ys : List ℕ) (o : ℕ) (zs : List ℕ) → lists j ≡ ys ++ o ∷ zs → (k r : ℕ) → r ≢ o → Stands (lists k) r → Stands (with_list lists j (ys ++ zs) k) r
-keep_others lists j ys o zs is k r ne s =
-    elim (eqb k j) as (λ b. eqb k j ≡ b → Stands (cond b (ys ++ zs) (lists k)) r) [
-      | true ↦ λ e. Stands-without ys o zs r ne (subst (λ xs. Stands xs r) (ap lists (eqb-true k j e) ∙ is) s)
-      | false ↦ λ e. s
-    ] refl
+keep_others lists j ys o zs is k r ne s = grind (arith, common_steps, Stands-without, eqb-true)
 
 apart_list : (lists : ℕ → List ℕ) (j : ℕ) (xs : List ℕ) (k : ℕ) → j ≢ k → with_list lists j xs k ≡ lists k
 apart_list lists j xs k ne = let no : eqb k j ≡ false = ne_eqb k j (λ e. ne (sym e)) in rw no refl

@@ -1,19 +1,22 @@
--- The other items of an option, and what its leaving does to the line of one item.
-use Rattle.std.proofs.Common.{◌≡◌, ℕ, Bool, true, false, not, cond, ◌&&◌, ◌||◌, eqb, List, [], ◌∷◌, map, filter, Some, refl, ap, sym, ◌∙◌, eqb-true, eq-eqb, ne_eqb}
+-- The other items of an option: what its leaving does to the line of each, and that they are apart.
+use Rattle.std.proofs.Common.{◌≡◌, ℕ, Bool, true, false, not, cond, ◌&&◌, ◌||◌, eqb, List, [], ◌∷◌, map, filter, Some, refl, ap, sym, ◌∙◌, eqb-true, eq-eqb, ne_eqb, arith, ◌≢◌, ◌<◌, ◌≤◌, ◌++◌}
 use Rattle.std.specs.Prelude.{is_some}
+use Rattle.std.specs.List.{AllByRecursion}
+use Rattle.std.proofs.lemmas.Grind.{common_steps}
 use Rattle.std.proofs.lemmas.Bool.{eqb-false, false≢true}
 use Rattle.std.proofs.lemmas.List.Folds.{list_any-append}
+use Rattle.std.proofs.Math.Bool.{or-false}
 use Rattle.xc_input.specs.declared.problem.Use.{Use}
-use Rattle.xc_input.specs.Problem.{Puzzle, colour_in, uses_of}
+use Rattle.xc_input.specs.Problem.{Puzzle, colour_in, uses_of, item_count}
 use Rattle.xc_dance.specs.Fields.{Node, is_in}
 use Rattle.xc_dance.specs.Links.Lines.{Line}
 use Rattle.xc_dance.specs.Links.Others.{before_use, behind_use}
-use Rattle.xc_dance.specs.Links.Laid.{AreDistinct}
-use Rattle.xc_dance.proofs.LinkedTables.Sweep.{cuts}
+use Rattle.xc_dance.specs.Links.Laid.{AreDistinct, IsFit}
+use Rattle.xc_dance.proofs.LinkedTables.Sweep.{cuts, other_items}
 use Rattle.xc_dance.proofs.LinkedTables.OneOption.{is_mark, left_all, IsApart, all_at, AllApart}
 use Rattle.xc_dance.proofs.LinkedTables.OneList.{left_list}
-use Rattle.std.proofs.Math.Bool.{or-false}
-use Rattle.xc_dance.proofs.LinkedTables.LineChanges.{cut, other_items}
+
+-- ---- the other items of an option, and what its leaving does to the line of one item
 
 pub or_swap : (a b c : Bool) → (a || (b || c)) ≡ (b || (a || c))
 or_swap true true c = refl
@@ -21,11 +24,8 @@ or_swap true false c = refl
 or_swap false b c = refl
 
 pub items_of : (us : List Use) (k : ℕ) → is_in k (map (λ u. u.item) us) ≡ is_some (colour_in us k)
-items_of [] k = refl
-items_of (u ∷ us) k = elim (eqb u.item k) as (λ b. (b || is_in k (map (λ v. v.item) us)) ≡ is_some (cond b (Some u.colour) (colour_in us k))) [
-  | true ↦ refl
-  | false ↦ items_of us k
-]
+items_of [] k = grind (arith, common_steps)
+items_of (u ∷ us) k = grind (arith, common_steps, items_of us k)
 
 -- the other items are those that the option holds, but i
 pub others_by : (us : List Use) (i k : ℕ) → AreDistinct us → (is_in k (behind_use i us) || is_in k (before_use i us)) ≡ (not (eqb k i) && is_some (colour_in us k))
@@ -36,21 +36,13 @@ others_by (u ∷ us) i k d =
           let at_i : u.item ≡ i = eqb-true u.item i e in
           or-false (is_in k (map (λ v. v.item) us)) ∙ items_of us k
           ∙ elim (eqb u.item k) as (λ c. eqb u.item k ≡ c → is_some (colour_in us k) ≡ (not (eqb k i) && is_some (cond c (Some u.colour) (colour_in us k)))) [
-            | true ↦ λ f.
-                let at_k : u.item ≡ k = eqb-true u.item k f in
-                let self : eqb k i ≡ true = eq-eqb k i (sym at_k ∙ at_i) in
-                rw self (ap (λ j. is_some (colour_in us j)) (sym at_k) ∙ d.0)
-            | false ↦ λ f.
-                let ne : eqb k i ≡ false = ne_eqb k i (λ g. eqb-false u.item k f (at_i ∙ sym g)) in
-                rw ne refl
+            | true ↦ λ f. grind (arith, common_steps, eq-eqb, eqb-true)
+            | false ↦ λ f. grind (arith, common_steps, eqb-false, ne_eqb)
           ] refl
       | false ↦ λ e.
           or_swap (is_in k (behind_use i us)) (eqb u.item k) (is_in k (before_use i us))
           ∙ elim (eqb u.item k) as (λ c. eqb u.item k ≡ c → (c || (is_in k (behind_use i us) || is_in k (before_use i us))) ≡ (not (eqb k i) && is_some (cond c (Some u.colour) (colour_in us k)))) [
-            | true ↦ λ f.
-                let at_k : u.item ≡ k = eqb-true u.item k f in
-                let ne : eqb k i ≡ false = ne_eqb k i (λ g. eqb-false u.item i e (at_k ∙ g)) in
-                rw ne refl
+            | true ↦ λ f. grind (arith, common_steps, eqb-false, eqb-true, ne_eqb)
             | false ↦ λ f. others_by us i k d.1
           ] refl
     ] refl
@@ -81,12 +73,50 @@ EachApart p i [] = Unit {0}
 EachApart p i (o ∷ os) = AllApart (other_items p o i) × EachApart p i os
 
 pub list_at : (p : Puzzle) (col : Node → ℕ) (i : ℕ) (ln : ℕ → Line) (os : List ℕ) (k : ℕ) → EachApart p i os → left_list p col i ln os k ≡ cuts (ln k) (filter (leaves p col i k) os)
-list_at p col i ln [] k apart = refl
-list_at p col i ln (o ∷ os) k apart =
-    let here : left_all p col o ln (other_items p o i) k ≡ cond (leaves p col i k o) (cut (ln k) o) (ln k) = all_at cut p col o ln (other_items p o i) k apart.0 in
-    list_at p col i (left_all p col o ln (other_items p o i)) os k apart.1
-    ∙ ap (λ (l : Line). cuts l (filter (leaves p col i k) os)) here
-    ∙ elim (leaves p col i k o) as (λ b. cuts (cond b (cut (ln k) o) (ln k)) (filter (leaves p col i k) os) ≡ cuts (ln k) (cond b (o ∷ filter (leaves p col i k) os) (filter (leaves p col i k) os))) [
-      | true ↦ refl
-      | false ↦ refl
-    ]
+list_at p col i ln [] k apart = grind (arith, common_steps, all_at)
+list_at p col i ln (o ∷ os) k apart = grind (arith, common_steps, all_at, list_at p col i (left_all p col o ln (other_items p o i)) os k apart.1)
+
+-- ---- the other items of an option are apart from each other and from its own
+
+apart_insert : (x k : ℕ) (xs ys : List ℕ) → k ≢ x → IsApart x (xs ++ ys) → IsApart x (xs ++ k ∷ ys)
+apart_insert x k [] ys ne h = (ne, h)
+apart_insert x k (y ∷ xs) ys ne h = (h.0, apart_insert x k xs ys ne h.1)
+
+all_insert : (k : ℕ) (xs ys : List ℕ) → (is_in k xs || is_in k ys) ≡ false → AllApart (xs ++ ys) → AllApart (xs ++ k ∷ ys)
+all_insert k [] ys e h = (apart_from k ys e, h)
+all_insert k (x ∷ xs) ys e h =
+    elim (eqb x k) as (λ b. eqb x k ≡ b → ((b || is_in k xs) || is_in k ys) ≡ false → AllApart (x ∷ (xs ++ k ∷ ys))) [
+      | true ↦ λ f g. absurd (false≢true (sym g))
+      | false ↦ λ f g. (apart_insert x k xs ys (λ s. eqb-false x k f (sym s)) h.0, all_insert k xs ys g h.1)
+    ] refl e
+
+items_apart : (us : List Use) → AreDistinct us → AllApart (map (λ u. u.item) us)
+items_apart [] d = tt
+items_apart (u ∷ us) d = (apart_from u.item (map (λ v. v.item) us) (items_of us u.item ∙ d.0), items_apart us d.1)
+
+append_none : (xs : List ℕ) → AllApart xs → AllApart (xs ++ [])
+append_none [] h = grind (arith, common_steps)
+append_none (x ∷ xs) h = grind (arith, common_steps, append_none xs h.1)
+
+others_apart_of : (us : List Use) (i : ℕ) → AreDistinct us → AllApart (behind_use i us ++ before_use i us)
+others_apart_of [] i d = grind (arith, common_steps, all_insert, append_none, items_apart, others_by)
+others_apart_of (u ∷ us) i d = grind (arith, common_steps, all_insert, append_none, items_apart, others_by, others_apart_of us i d.1)
+
+pub others_apart : (p : Puzzle) (o i : ℕ) → IsFit p → AllApart (other_items p o i)
+others_apart p o i fit = others_apart_of (uses_of p o) i (fit.distinct o)
+
+pub each_apart : (p : Puzzle) (i : ℕ) (os : List ℕ) → IsFit p → EachApart p i os
+each_apart p i [] fit = tt
+each_apart p i (o ∷ os) fit = (others_apart p o i fit, each_apart p i os fit)
+
+pub item_range : (p : Puzzle) (us : List Use) (j : ℕ) → AllByRecursion (λ u. (0 < u.item) × (u.item ≤ item_count p)) us → is_some (colour_in us j) ≡ true → (0 < j) × (j ≤ item_count p)
+item_range p [] j a e = absurd (false≢true e)
+item_range p (u ∷ us) j a e =
+    elim (eqb u.item j) as (λ b. eqb u.item j ≡ b → is_some (cond b (Some u.colour) (colour_in us j)) ≡ true → (0 < j) × (j ≤ item_count p)) [
+      | true ↦ λ f g. let same : u.item ≡ j = eqb-true u.item j f in (omega (arith, a.0.0, same), omega (arith, a.0.1, same))
+      | false ↦ λ f g. item_range p us j a.1 g
+    ] refl e
+
+-- the item itself isn't among them
+pub own_apart : (p : Puzzle) (i o : ℕ) → IsFit p → IsApart i (other_items p o i)
+own_apart p i o fit = apart_from i (other_items p o i) (in_others p o i i (fit.distinct o) ∙ ap (λ b. not b && is_some (colour_in (uses_of p o) i)) (eq-eqb i i refl))

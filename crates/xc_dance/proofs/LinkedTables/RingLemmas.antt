@@ -1,18 +1,16 @@
 -- Neighbours in a list that rises, after one member has left.
 use Rattle.std.proofs.Common.{◌≡◌, ◌≢◌, ℕ, ◌<◌, ◌⊎◌, inl, inr, true, false, not, cond, eqb, List, [], ◌∷◌, refl, ap, ap₂, sym, subst, ◌∙◌, arith, eq-eqb, ne_eqb}
+use Rattle.std.proofs.lemmas.Grind.{common_steps}
 use Rattle.std.proofs.lemmas.Bool.{false≢true}
 use Rattle.xc_dance.specs.Fields.{last_below, first_above, first_of, last_of, is_in}
-use Rattle.xc_dance.proofs.LinkedTables.Sweep.{Rises, Rises-filter, stay, not_in, in_above, is_in-first, is_in-other, last_below-self, last_below-more, first_above-first, first_above-more, last_of-more, by_first, in_rest, out_rest, in_more}
-use Rattle.xc_dance.proofs.LinkedTables.LineSteps.{others_stay}
+use Rattle.xc_dance.proofs.LinkedTables.Sweep.{Rises, Rises-filter, stay, not_in, in_above, is_in-first, is_in-other, last_below-self, last_below-more, first_above-first, first_above-more, last_of-more, by_first, in_rest, out_rest, in_more, others_stay}
 
 abbrev pub less : ℕ → List ℕ → List ℕ
 less i xs = stay (λ x. eqb x i) xs
 
 next_one : (h y : ℕ) (ys : List ℕ) → Rises y ys → (first_above h y (y ∷ ys) ≡ h) ⊎ ((is_in (first_above h y (y ∷ ys)) (y ∷ ys) ≡ true) × (y < first_above h y (y ∷ ys)))
-next_one h y [] r = inl (first_above-more h y y [] (omega arith))
-next_one h y (z ∷ zs) r =
-    let at : first_above h y (y ∷ z ∷ zs) ≡ z = first_above-more h y y (z ∷ zs) (omega arith) ∙ first_above-first h y y (z ∷ zs) (omega arith) r in
-    inr (ap (λ k. is_in k (y ∷ z ∷ zs)) at ∙ in_more y z (z ∷ zs) (is_in-first z zs), omega (arith, at, r.0))
+next_one h y [] r = grind (arith, common_steps, first_above-first, first_above-more, in_more, is_in-first)
+next_one h y (z ∷ zs) r = grind (arith, common_steps, first_above-first, first_above-more, in_more, is_in-first)
 
 -- the first above a member is the other, or a member above it
 pub first_above-in : (h i n : ℕ) (xs : List ℕ) → Rises n xs → is_in i xs ≡ true → (first_above h i xs ≡ h) ⊎ ((is_in (first_above h i xs) xs ≡ true) × (i < first_above h i xs))
@@ -50,13 +48,8 @@ less_more : (i y : ℕ) (ys : List ℕ) → y ≢ i → less i (y ∷ ys) ≡ y 
 less_more i y ys ne = rw (ne_eqb y i ne) refl
 
 prev_first : (h a y q : ℕ) (ys : List ℕ) → Rises y ys → is_in q ys ≡ true → last_below a q ys ≡ cond (eqb q (first_of h ys)) a (last_below y q ys)
-prev_first h a y q [] r e = absurd (false≢true e)
-prev_first h a y q (z ∷ zs) r e =
-    by_first (last_below a q (z ∷ zs) ≡ cond (eqb q z) a (last_below y q (z ∷ zs))) z q
-    (λ same. rw (eq-eqb q z (sym same)) (ap (λ k. last_below a k (z ∷ zs)) (sym same) ∙ last_below-self a z zs r.1))
-    (λ ne.
-    let lt = in_above z q zs r.1 (in_rest z q zs ne e) in
-    rw (ne_eqb q z (λ f. ne (sym f))) (last_below-more a q z zs lt ∙ sym (last_below-more y q z zs lt)))
+prev_first h a y q [] r e = grind (arith, common_steps, by_first, eq-eqb, false≢true, in_above, in_rest, last_below-more, last_below-self, ne_eqb)
+prev_first h a y q (z ∷ zs) r e = grind (arith, common_steps, by_first, eq-eqb, false≢true, in_above, in_rest, last_below-more, last_below-self, ne_eqb)
 
 -- what stands before q
 pub prev_without : (h a i q n : ℕ) (xs : List ℕ) → Rises n xs → is_in i xs ≡ true → is_in q xs ≡ true → q ≢ i → h ≢ q →
@@ -95,21 +88,8 @@ prev_without h a i q n (y ∷ ys) r e f ne hq =
 -- the first one
 pub first_without : (h a i n : ℕ) (xs : List ℕ) → Rises n xs → is_in i xs ≡ true → is_in a xs ≡ false →
     first_of h (less i xs) ≡ cond (eqb a (last_below a i xs)) (first_above h i xs) (first_of h xs)
-first_without h a i n [] r e out = absurd (false≢true e)
-first_without h a i n (y ∷ ys) r e out =
-    by_first (first_of h (less i (y ∷ ys)) ≡ cond (eqb a (last_below a i (y ∷ ys))) (first_above h i (y ∷ ys)) y) y i
-    (λ same. subst (λ k. first_of h (less k (y ∷ ys)) ≡ cond (eqb a (last_below a k (y ∷ ys))) (first_above h k (y ∷ ys)) y) same
-    (rw (eq-eqb a (last_below a y (y ∷ ys)) (sym (last_below-self a y ys r.1)))
-    (ap (first_of h) (less_first y ys r.1) ∙ sym (first_above-more h y y ys (omega arith) ∙ first_above-first h y y ys (omega arith) r.1))))
-    (λ other.
-    let i_in = in_rest y i ys other e in
-    let lt = in_above y i ys r.1 i_in in
-    let is = last_below-more a i y ys lt in
-    let apart : a ≢ last_below a i (y ∷ ys) = λ s. elim (last_below-in y i y ys r.1 i_in) [
-      | inl g ↦ out_rest y a ys out (sym (s ∙ is ∙ g))
-      | inr g ↦ false≢true (sym out ∙ ap (λ k. is_in k (y ∷ ys)) (s ∙ is) ∙ in_more y (last_below y i ys) ys g.0)
-    ] in
-    rw (ne_eqb a (last_below a i (y ∷ ys)) apart) (ap (first_of h) (less_more i y ys other)))
+first_without h a i n [] r e out = grind (arith, common_steps, by_first, eq-eqb, false≢true, first_above-first, first_above-more, in_above, in_more, in_rest, last_below-in, last_below-more, last_below-self, less_first, less_more, ne_eqb, out_rest)
+first_without h a i n (y ∷ ys) r e out = grind (arith, common_steps, by_first, eq-eqb, false≢true, first_above-first, first_above-more, in_above, in_more, in_rest, last_below-in, last_below-more, last_below-self, less_first, less_more, ne_eqb, out_rest)
 
 -- what stands behind q
 pub next_without : (h a i q n : ℕ) (xs : List ℕ) → Rises n xs → is_in i xs ≡ true → is_in q xs ≡ true → q ≢ i → a ≢ q →
@@ -221,8 +201,5 @@ link_before h a i n (y ∷ ys) r e out =
     ∙ sym (ap (λ b. cond b (last_of y ys) (last_below y (first_above h i ys) ys)) t) ∙ rest)
     (λ ne. elim (first_above-in h i y ys r.1 i_in) [
       | inl g ↦ absurd (ne g)
-      | inr g ↦
-          let t = ne_eqb (first_above h i ys) h ne in
-          ap (λ b. cond b (last_of a (y ∷ ys)) (last_below a (first_above h i ys) (y ∷ ys))) t ∙ last_below-more a (first_above h i ys) y ys (omega (arith, g.1, lt))
-          ∙ sym (ap (λ b. cond b (last_of y ys) (last_below y (first_above h i ys) ys)) t) ∙ rest
+      | inr g ↦ grind (arith, common_steps, last_below-more, ne_eqb)
     ]))

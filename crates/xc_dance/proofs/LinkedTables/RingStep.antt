@@ -1,12 +1,13 @@
 -- Cover and Spend on the item table.
-use Rattle.std.proofs.Common.{◌≡◌, ◌≢◌, ℕ, zero, suc, ◌+◌, ◌-◌, ◌<◌, ◌^◌, List, [], ◌∷◌, length, map, get_or, set, refl, ap, sym, ◌∙◌, arith, cond, eqb, true, false, eq-eqb, ne_eqb, leb, Some, not, ap₂}
+use Rattle.std.proofs.Common.{◌≡◌, ◌≢◌, ℕ, zero, suc, ◌+◌, ◌-◌, ◌<◌, ◌^◌, List, [], ◌∷◌, length, map, get_or, set, refl, ap, sym, ◌∙◌, arith, cond, eqb, false, eq-eqb, ne_eqb, Some}
+use Rattle.std.proofs.lemmas.Grind.{common_steps}
 use Rattle.std.specs.List.{range_with_len}
-use Rattle.std.specs.Prelude.{slice_get, nat_le}
+use Rattle.std.specs.Prelude.{slice_get}
 use Rattle.std.proofs.lemmas.List.{length-map}
 use Rattle.std.proofs.lemmas.List.FromFn.{get_or-map-range_with_len, length-range_with_len}
 use Rattle.xc_dance.specs.declared.links.items.Items.{Items}
-use Rattle.xc_dance.specs.Fields.{ring_of, ring_head, left_of, right_of, first_of, last_of, last_below, first_above}
-use Rattle.xc_dance.proofs.LinkedTables.Mapped.{map_put, map_same}
+use Rattle.xc_dance.specs.Fields.{ring_of, ring_head, left_of, right_of, last_below, first_above}
+use Rattle.xc_dance.proofs.LinkedTables.LinkColumns.{map_put, map_same}
 use Rattle.xc_dance.specs.declared.dance.Move.{Move}
 use Rattle.xc_dance.specs.declared.dance.Move.TheVariants.{Spend}
 use Rattle.xc_input.specs.Problem.{Puzzle, primary_count, item_count, high_at}
@@ -39,14 +40,10 @@ row_at : (n q m : ℕ) → slice_get (range_with_len 0 n) q ≡ Some m → m ≡
 row_at n q m e = let r = range_get 0 n q m e in omega (arith, r)
 
 pub row_put : (f g : ℕ → ℕ) (n k v : ℕ) → ((q : ℕ) → q < n → q ≢ k → g q ≡ f q) → g k ≡ v → map g (range_with_len 0 n) ≡ set (map f (range_with_len 0 n)) k v
-row_put f g n k v rest here =
-    map_put f g (range_with_len 0 n) k v
-    (λ q m e ne. let same : m ≡ q = row_at n q m e in let within = slice_get_within (range_with_len 0 n) q m e in let long = length-range_with_len 0 n in ap g same ∙ rest q (omega (arith, within, long)) ne ∙ ap f (sym same))
-    (λ m e. ap g (row_at n k m e) ∙ here)
+row_put f g n k v rest here = grind (arith, common_steps, length-range_with_len, map_put, row_at, slice_get_within)
 
 pub row_same : (f g : ℕ → ℕ) (n : ℕ) → ((q : ℕ) → q < n → g q ≡ f q) → map g (range_with_len 0 n) ≡ map f (range_with_len 0 n)
-row_same f g n h =
-    map_same f g (range_with_len 0 n) (λ q m e. let same : m ≡ q = row_at n q m e in let within = slice_get_within (range_with_len 0 n) q m e in let long = length-range_with_len 0 n in ap g same ∙ h q (omega (arith, within, long)) ∙ ap f (sym same))
+row_same f g n h = grind (arith, common_steps, length-range_with_len, map_same, row_at, slice_get_within)
 
 -- ---- rings
 
@@ -60,40 +57,22 @@ right_now p (m ∷ t) q e = ap (λ b. cond b (right_of p t q) (first_above (ring
 
 -- a move that covers no item
 still_ring : (p : Puzzle) (t : List Move) (m : Move) (i : ℕ) → ((q : ℕ) → is_covered q (m ∷ t) ≡ is_covered q t) → ring_of p (m ∷ t) i ≡ ring_of p t i
-still_ring p t m i s =
-    filter_agree (λ j. not (is_covered j (m ∷ t))) (λ j. not (is_covered j t)) (λ j. ap not (s j))
-    (cond (nat_le i (primary_count p)) (range_with_len 1 (primary_count p)) (range_with_len (primary_count p + 1) p.secondary))
+still_ring p t m i s = grind (arith, common_steps, filter_agree)
 
 pub still_left : (p : Puzzle) (t : List Move) (m : Move) (q : ℕ) → ((q : ℕ) → is_covered q (m ∷ t) ≡ is_covered q t) → left_of p (m ∷ t) q ≡ left_of p t q
-still_left p t m q s =
-    ap₂ (λ b ks. cond b (left_of p t q) (last_below (ring_head p q) q ks)) (s q) (still_ring p t m q s)
-    ∙ elim (is_covered q t) as (λ b. is_covered q t ≡ b → cond b (left_of p t q) (last_below (ring_head p q) q (ring_of p t q)) ≡ left_of p t q) [
-      | true ↦ λ e. refl
-      | false ↦ λ e. sym (left_now p t q e)
-    ] refl
+still_left p t m q s = grind (arith, common_steps, left_now, still_ring)
 
 pub still_right : (p : Puzzle) (t : List Move) (m : Move) (q : ℕ) → ((q : ℕ) → is_covered q (m ∷ t) ≡ is_covered q t) → right_of p (m ∷ t) q ≡ right_of p t q
-still_right p t m q s =
-    ap₂ (λ b ks. cond b (right_of p t q) (first_above (ring_head p q) q ks)) (s q) (still_ring p t m q s)
-    ∙ elim (is_covered q t) as (λ b. is_covered q t ≡ b → cond b (right_of p t q) (first_above (ring_head p q) q (ring_of p t q)) ≡ right_of p t q) [
-      | true ↦ λ e. refl
-      | false ↦ λ e. sym (right_now p t q e)
-    ] refl
+still_right p t m q s = grind (arith, common_steps, right_now, still_ring)
 
 pub still_llink : (p : Puzzle) (t : List Move) (m : Move) (q : ℕ) → ((q : ℕ) → is_covered q (m ∷ t) ≡ is_covered q t) → llink_at p (m ∷ t) q ≡ llink_at p t q
-still_llink p t m q s =
-    ap (λ ks. cond (eqb q 0) (last_of 0 ks) (cond (leb q (item_count p)) (left_of p (m ∷ t) q) (last_of (item_count p + 1) (ring_of p (m ∷ t) (primary_count p + 1))))) (still_ring p t m 0 s)
-    ∙ ap₂ (λ v ks. cond (eqb q 0) (last_of 0 (ring_of p t 0)) (cond (leb q (item_count p)) v (last_of (item_count p + 1) ks))) (still_left p t m q s) (still_ring p t m (primary_count p + 1) s)
+still_llink p t m q s = grind (arith, common_steps, still_left, still_ring)
 
 pub still_rlink : (p : Puzzle) (t : List Move) (m : Move) (q : ℕ) → ((q : ℕ) → is_covered q (m ∷ t) ≡ is_covered q t) → rlink_at p (m ∷ t) q ≡ rlink_at p t q
-still_rlink p t m q s =
-    ap (λ ks. cond (eqb q 0) (first_of 0 ks) (cond (leb q (item_count p)) (right_of p (m ∷ t) q) (first_of (item_count p + 1) (ring_of p (m ∷ t) (primary_count p + 1))))) (still_ring p t m 0 s)
-    ∙ ap₂ (λ v ks. cond (eqb q 0) (first_of 0 (ring_of p t 0)) (cond (leb q (item_count p)) v (first_of (item_count p + 1) ks))) (still_right p t m q s) (still_ring p t m (primary_count p + 1) s)
+still_rlink p t m q s = grind (arith, common_steps, still_right, still_ring)
 
 pub same_items : (s t : Items) → s.llink ≡ t.llink → s.rlink ≡ t.rlink → s.bound ≡ t.bound → s.slack ≡ t.slack → s ≡ t
-same_items s t a b c d =
-    let made : List ℕ → List ℕ → List ℕ → List ℕ → Items = λ w x y z. record { llink = w; rlink = x; bound = y; slack = z } in
-    ap (λ w. made w s.rlink s.bound s.slack) a ∙ ap (λ x. made t.llink x s.bound s.slack) b ∙ ap (λ y. made t.llink t.rlink y s.slack) c ∙ ap (made t.llink t.rlink t.bound) d
+same_items s t a b c d = grind (arith, common_steps)
 
 -- ---- Spend
 
@@ -121,9 +100,4 @@ spend_step p t i may few =
     let up : bound_at p t i ≡ get_or (items_after p next).bound i 0 + 1 = bound_own p t i pos ∙ omega (arith, after, lt) in
     let bounds : (items_after p next).bound ≡ set (items_after p t).bound i (get_or (items_after p t).bound i 0 - 1) = row_put (bound_at p t) (bound_at p next) n i _ (λ q h ne. bound_other p t i q ne) down in
     let back : (items_after p t).bound ≡ set (items_after p next).bound i (get_or (items_after p next).bound i 0 + 1) = row_put (bound_at p next) (bound_at p t) n i _ (λ q h ne. sym (bound_other p t i q ne)) up in
-    record {
-      can = (omega (arith, row_len (bound_at p t) n, within), omega (arith, before, lt));
-      done = same_items (with_bound (items_after p t) i (get_or (items_after p t).bound i 0 - 1)) (items_after p next) (sym llinks) (sym rlinks) (sym bounds) refl;
-      can_back = (omega (arith, row_len (bound_at p next) n, within), omega (arith, after, few));
-      undone = same_items (with_bound (items_after p next) i (get_or (items_after p next).bound i 0 + 1)) (items_after p t) llinks rlinks (sym back) refl;
-    }
+    grind (arith, common_steps, row_len, same_items)

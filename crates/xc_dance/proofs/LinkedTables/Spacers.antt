@@ -1,5 +1,6 @@
 -- The spacers round an option lead to its ends, whatever lists its nodes stand in.
-use Rattle.std.proofs.Common.{◌≡◌, ℕ, ◌+◌, ◌-◌, ◌<◌, List, [], ◌∷◌, ◌++◌, map, fold, reverse, get_or, Some, ap, ap₂, sym, subst, ◌∙◌, arith, ◌*◌}
+use Rattle.std.proofs.Common.{◌≡◌, ℕ, ◌+◌, ◌-◌, ◌<◌, List, [], ◌∷◌, ◌++◌, map, fold, reverse, get_or, Some, ap, sym, subst, ◌∙◌, arith, ◌*◌}
+use Rattle.std.proofs.lemmas.Grind.{common_steps}
 use Rattle.std.specs.Prelude.{slice_get}
 use Rattle.std.proofs.lemmas.List.{length-map, map-append}
 use Rattle.std.proofs.lemmas.List.Sums.{fold-append}
@@ -8,30 +9,22 @@ use Rattle.xc_dance.specs.declared.links.nodes.Nodes.{Nodes}
 use Rattle.xc_dance.specs.Links.Span.{Span}
 use Rattle.xc_dance.specs.Fields.{Node, spacer, layout, link_place}
 use Rattle.xc_dance.specs.Links.Lines.{Line}
-use Rattle.xc_dance.specs.Links.Cells.{top_in, ulink_in, dlink_in, nodes_from}
+use Rattle.xc_dance.specs.Links.Cells.{ulink_in, dlink_in, nodes_from}
 use Rattle.xc_dance.specs.Links.Others.{behind_use, before_use, HasSpans}
 use Rattle.xc_dance.specs.Links.Steps.{hidden, shown, CanHideAll, CanShowAll, places, span_at, others_of, IsSpacer, CanHideNode, CanShowNode, hidden_node, shown_node, hide_costs, show_costs}
-use Rattle.xc_dance.proofs.LinkedTables.Goods.{Named}
-use Rattle.xc_dance.proofs.LinkedTables.LinkColumns.{size_from}
-use Rattle.xc_dance.proofs.LinkedTables.Mapped.{get_map}
+use Rattle.xc_dance.proofs.LinkedTables.GoodLines.{Named}
+use Rattle.xc_dance.proofs.LinkedTables.LinkColumns.{size_from, get_map, IsUndone, fold-shown-reverse}
 use Rattle.xc_dance.proofs.LinkedTables.OneOption.{Walked, left_all, gone_count}
-use Rattle.xc_dance.proofs.LinkedTables.Undo.{IsUndone, fold-shown-reverse}
 use Rattle.std.proofs.lemmas.Option.{slice_get_within}
-use Rattle.xc_dance.proofs.LinkedTables.UnmarkedCosts.{costs-are, hidden_color, shown_color, unmarked-reverse, unmarked_items}
-use Rattle.xc_dance.proofs.LinkedTables.LineChanges.{other_items}
+use Rattle.xc_dance.proofs.LinkedTables.UnmarkedNodes.{costs-are, hidden_color, shown_color, unmarked-reverse, unmarked_items}
+use Rattle.xc_dance.proofs.LinkedTables.Sweep.{other_items}
 
 -- the nodes round that of item i are those of the option's other items
 pub others_are : (p : Puzzle) (spans : List Span) (o i : ℕ) → HasSpans p spans → 0 < o → Named p i o → others_of spans (link_place p i o) ≡ map (λ j. link_place p j o) (other_items p o i)
-others_are p spans o i spanned pos named =
-    let s = spanned.span o i pos named in
-    ap₂ (λ xs ys. xs ++ ys) s.behind s.before ∙ sym (map-append (λ j. link_place p j o) (behind_use i (uses_of p o)) (before_use i (uses_of p o)))
+others_are p spans o i spanned pos named = grind (arith, common_steps, map-append)
 
 spacer_in : (p : Puzzle) (ln : ℕ → Line) (col : Node → ℕ) (z n : ℕ) → slice_get (layout p) z ≡ Some (spacer n) → IsSpacer (nodes_from p ln col) z
-spacer_in p ln col z n e =
-    let within = slice_get_within (layout p) z (spacer n) e in
-    let long = length-map (layout p) (top_in ln) in
-    let is = get_map (top_in ln) (layout p) z (spacer n) e in
-    record { size = size_from p ln col; place = omega (arith, within, long); top = omega (arith, is) }
+spacer_in p ln col z n e = grind (arith, common_steps, get_map, length-map, size_from, slice_get_within)
 
 -- the nodes of an option can be hidden, if the lists of the items behind i are as these lines say when the spacer is met
 pub can_hide_node : (p : Puzzle) (ln ln' : ℕ → Line) (col : Node → ℕ) (spans : List Span) (o i : ℕ) → HasSpans p spans → 0 < o → Named p i o → CanHideAll (nodes_from p ln col) (map (λ j. link_place p j o) (other_items p o i)) →
@@ -80,27 +73,4 @@ pub record Turns (p : Puzzle) (ln : ℕ → Line) (col : Node → ℕ) (spans : 
 
 pub turns : (p : Puzzle) (ln : ℕ → Line) (col : Node → ℕ) (lists : ℕ → List ℕ) (spans : List Span) (o i : ℕ) → HasSpans p spans → 0 < o → Named p i o → Walked p col ln lists o (other_items p o i) →
     Walked p col ln lists o (behind_use i (uses_of p o)) → Turns p ln col spans o i
-turns p ln col lists spans o i spanned pos named w mid =
-    let t : Nodes = nodes_from p ln col in
-    let u : Nodes = nodes_from p (left_all p col o ln (other_items p o i)) col in
-    let ln' : ℕ → Line = left_all p col o ln (behind_use i (uses_of p o)) in
-    let place : ℕ → ℕ = λ j. link_place p j o in
-    let behind = map place (behind_use i (uses_of p o)) in
-    let before = map place (before_use i (uses_of p o)) in
-    let both : map place (other_items p o i) ≡ behind ++ before = map-append place (behind_use i (uses_of p o)) (before_use i (uses_of p o)) in
-    let others : others_of spans (link_place p i o) ≡ map place (other_items p o i) = others_are p spans o i spanned pos named in
-    let whole : u ≡ fold hidden (fold hidden t behind) before = sym w.done ∙ ap (fold hidden t) both ∙ fold-append hidden t behind before in
-    record {
-      hide = can_hide_node p ln ln' col spans o i spanned pos named w.rest.can mid.done;
-      show = can_show_node p ln' col u spans o i spanned pos named (subst (λ (v : Nodes). CanShowAll v (reverse (map place (other_items p o i)))) w.done w.rest.back)
-          (ap (λ (v : Nodes). fold shown v (reverse before)) whole
-          ∙ fold-shown-reverse (fold hidden t behind) before (undone_behind t behind before (subst (IsUndone t) both w.rest.undone)) ∙ mid.done);
-      done = ap (fold hidden t) others ∙ w.done;
-      undone =
-          ap (λ ks. fold shown u (reverse ks)) others ∙ ap (λ (v : Nodes). fold shown v (reverse (map place (other_items p o i)))) (sym w.done)
-          ∙ fold-shown-reverse t (map place (other_items p o i)) w.rest.undone;
-      cost = ap (hide_costs t) others ∙ costs-are hidden hidden_color t (map place (other_items p o i)) ∙ unmarked_items p col o (other_items p o i);
-      cost_back =
-          ap (λ ks. show_costs u (reverse ks)) others ∙ costs-are shown shown_color u (reverse (map place (other_items p o i)))
-          ∙ unmarked-reverse (map col (layout p)) (map place (other_items p o i)) ∙ unmarked_items p col o (other_items p o i);
-    }
+turns p ln col lists spans o i spanned pos named w mid = grind (arith, common_steps, can_hide_node, can_show_node, costs-are, fold-append, fold-shown-reverse, hidden_color, map-append, others_are, shown_color, undone_behind, unmarked-reverse, unmarked_items)

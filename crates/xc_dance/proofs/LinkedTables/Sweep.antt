@@ -1,13 +1,63 @@
--- Members leave one list from top to bottom: where every link then leads.
-use Rattle.std.proofs.Common.{◌≡◌, ◌≢◌, ℕ, ◌+◌, ◌<◌, ◌≤◌, Bool, true, false, not, cond, ◌||◌, eqb, ltb, nat_lt, List, [], ◌∷◌, length, filter, fold, Some, None, refl, ap, sym, ◌∙◌, arith, eqb-true, eq-eqb, ne_eqb, lt-ltb, le-ltb}
-use Rattle.std.specs.Prelude.{unwrap_or}
-use Rattle.std.specs.List.{last_or}
+-- Lines: one member leaves or comes back, many leave from top to bottom, and what a move makes of the line of a list.
+use Rattle.std.proofs.Common.{◌≡◌, ◌≢◌, ℕ, ◌+◌, ◌<◌, ◌≤◌, Bool, true, false, not, ◌||◌, eqb, ltb, nat_lt, List, [], ◌∷◌, length, filter, fold, Some, None, refl, ap, sym, ◌∙◌, arith, eqb-true, eq-eqb, ne_eqb, lt-ltb, le-ltb, zero, suc, cond, map, drop, subst}
+use Rattle.std.specs.Prelude.{◌-◌, ◌==◌, ◌&&◌, ◌++◌, Option, if◌then◌else◌, unwrap_or}
+use Rattle.std.specs.List.{last_or, list_any}
+use Rattle.std.proofs.lemmas.Grind.{common_steps}
 use Rattle.std.proofs.lemmas.Bool.{eqb-false, false≢true}
+use Rattle.xc_input.specs.Problem.{Puzzle, uses_of, Numbered}
+use Rattle.xc_dance.specs.Fields.{Node, last_below, first_above, first_of, last_of, is_in}
+use Rattle.xc_dance.specs.Links.Cells.{slot_of, line_of, up_of, down_of}
+use Rattle.xc_dance.specs.Links.Others.{before_use, behind_use}
+use Rattle.xc_dance.specs.declared.dance.Move.{Move}
+use Rattle.xc_dance.specs.declared.dance.Move.TheVariants.{Cover, Purify, Tweak, Spend}
+use Rattle.xc_dance.specs.Moves.{without, listed_numbers}
+use Rattle.xc_input.proofs.ListFilters.{filter-map}
+use Rattle.xc_dance.proofs.MoveLemmas.Shortened.{rises_listed}
+use Rattle.xc_dance.specs.Links.Lines.{Line}
 pub use Rattle.xc_dance.specs.Rising.{Rises}
 pub use Rattle.xc_dance.proofs.MoveLemmas.ListLemmas.{Rises-weaker, Rises-filter}
-use Rattle.xc_dance.specs.Links.Lines.{Line}
-use Rattle.xc_dance.specs.Fields.{last_below, first_above, first_of, last_of, is_in}
-use Rattle.xc_dance.proofs.LinkedTables.LineChanges.{put_at, cut, IsLinkedFrom}
+
+-- ---- how lines and colours change: a member leaves its item's list or comes back, one line or one colour is another
+
+-- f with the value v at k
+abbrev pub put_at : (ℕ → ℕ) → ℕ → ℕ → ℕ → ℕ
+put_at f k v x = if x == k then v else f x
+
+-- member o leaves
+abbrev pub cut : Line → ℕ → Line
+cut l o = record { len = l.len - 1; up = put_at l.up (l.down o) (l.up o); down = put_at l.down (l.up o) (l.down o) }
+
+-- member o comes back
+abbrev pub mended : Line → ℕ → Line
+mended l o = record { len = l.len + 1; up = put_at l.up (l.down o) o; down = put_at l.down (l.up o) o }
+
+-- from a through the members xs, which rise, to the item's own node, linked both ways
+abbrev pub IsLinkedFrom : Line → ℕ → List ℕ → Type 0
+IsLinkedFrom l a [] = (l.down a ≡ 0) × (l.up 0 ≡ a)
+IsLinkedFrom l a (x ∷ xs) = (a < x) × (l.down a ≡ x) × (l.up x ≡ a) × IsLinkedFrom l x xs
+
+-- item j's line is l now
+abbrev pub with_line : (ℕ → Line) → ℕ → Line → ℕ → Line
+with_line ln j l k = record {
+  len = if k == j then l.len else (ln k).len;
+  up = λ x. if k == j then l.up x else (ln k).up x;
+  down = λ x. if k == j then l.down x else (ln k).down x;
+}
+
+-- the slot is that of member x of item j
+abbrev pub is_slot : ℕ → ℕ → Option (ℕ × ℕ) → Bool
+is_slot j x None = false
+is_slot j x (Some s) = s.0 == j && s.1 == x
+
+-- the node of member x of item j has the colour v now
+abbrev pub with_color : (Node → ℕ) → ℕ → ℕ → ℕ → Node → ℕ
+with_color col j x v n = if is_slot j x (slot_of n) then v else col n
+
+-- the other items of option o, cyclically from behind item i
+abbrev pub other_items : Puzzle → ℕ → ℕ → List ℕ
+other_items p o i = behind_use i (uses_of p o) ++ before_use i (uses_of p o)
+
+-- ---- members leave one list from top to bottom: where every link then leads
 
 pub put_at-same : (f : ℕ → ℕ) (k v x : ℕ) → x ≡ k → put_at f k v x ≡ v
 put_at-same f k v x e = rw (eq-eqb x k e) refl
@@ -108,10 +158,8 @@ cut-linked l a y (z ∷ zs) h =
 
 -- what stands below a member is the item's own node or a later member
 below_first : (l : Line) (y : ℕ) (ys : List ℕ) (x : ℕ) → IsLinkedFrom l y ys → x ≢ 0 → is_in x ys ≡ false → x ≢ l.down y
-below_first l y [] x h nz out e = nz (e ∙ h.0)
-below_first l y (z ∷ zs) x h nz out e =
-    let same : z ≡ x = sym h.1 ∙ sym e in
-    false≢true (sym out ∙ ap (λ k. is_in x (k ∷ zs)) same ∙ is_in-first x zs)
+below_first l y [] x h nz out e = grind (arith, common_steps, false≢true, is_in-first)
+below_first l y (z ∷ zs) x h nz out e = grind (arith, common_steps, false≢true, is_in-first)
 
 -- ---- all that pass the test leave
 
@@ -189,34 +237,13 @@ first_stays l m a y ys ks h ry s =
     }
 
 pub swept : (l : Line) (a : ℕ) (xs : List ℕ) (g : ℕ → Bool) → IsLinkedFrom l a xs → Swept l (cuts l (filter g xs)) a xs (stay g xs)
-swept l a [] g h = record {
-  linked = h;
-  up_in = λ x e. absurd (false≢true e);
-  up_out = λ x nz e. refl;
-  down_in = λ x ne e. absurd (false≢true e);
-  down_out = λ x ne e. refl;
-  first = h.0;
-  last = h.1;
-}
-swept l a (y ∷ ys) g h =
-    let ks = stay g ys in
-    let r : Rises y ys = rises l y ys h.3 in
-    let lt : a < y = h.0 in
-    let ry : Rises y ks = Rises-filter (λ x. not (g x)) y ys r in
-    let ra : Rises a ks = Rises-weaker a y ks (omega arith) ry in
-    elim (g y) as (λ b. Swept l (cuts l (cond b (y ∷ filter g ys) (filter g ys))) a (y ∷ ys) (cond (not b) (y ∷ ks) ks)) [
-      | true ↦ first_leaves l (cuts (cut l y) (filter g ys)) a y ys ks h ra ry (swept (cut l y) a ys g (cut-linked l a y ys h))
-      | false ↦ first_stays l (cuts l (filter g ys)) a y ys ks h ry (swept l y ys g h.3)
-    ]
+swept l a [] g h = grind (arith, common_steps, cut-linked, false≢true, first_leaves, first_stays, rises)
+swept l a (y ∷ ys) g h = grind (arith, common_steps, cut-linked, false≢true, first_leaves, first_stays, rises, swept (cut l y) a ys g (cut-linked l a y ys h), swept l y ys g h.3)
 
 -- how many are left
 pub swept_len : (l : Line) (xs : List ℕ) (g : ℕ → Bool) (n : ℕ) → l.len ≡ n + length xs → (cuts l (filter g xs)).len ≡ n + length (stay g xs)
-swept_len l [] g n e = e
-swept_len l (y ∷ ys) g n e =
-    elim (g y) as (λ b. (cuts l (cond b (y ∷ filter g ys) (filter g ys))).len ≡ n + length (cond (not b) (y ∷ stay g ys) (stay g ys))) [
-      | true ↦ swept_len (cut l y) ys g n (omega (arith, e))
-      | false ↦ omega (arith, swept_len l ys g (n + 1) (omega (arith, e)))
-    ]
+swept_len l [] g n e = grind (arith, common_steps)
+swept_len l (y ∷ ys) g n e = grind (arith, common_steps, swept_len (cut l y) ys g n (omega (arith, e)), swept_len l ys g (n + 1) (omega (arith, e)))
 
 -- a number that isn't in is not taken out
 pub stay_same : (i : ℕ) (xs : List ℕ) → (is_in i xs ≡ true → ⊥) → stay (λ x. eqb x i) xs ≡ xs
@@ -225,3 +252,105 @@ stay_same i (y ∷ ys) out =
     by_first (stay (λ x. eqb x i) (y ∷ ys) ≡ y ∷ ys) y i
     (λ same. absurd (out (ap (λ k. is_in k (y ∷ ys)) (sym same) ∙ is_in-first y ys)))
     (λ ne. rw (ne_eqb y i ne) (ap (λ ks. y ∷ ks) (stay_same i ys (λ e. out (is_in-other y i ys ne ∙ e)))))
+
+-- ---- the line that stands for an item's list, move by move
+
+-- ---- a line that is given by its list
+
+pub linked_by : (l : Line) (a : ℕ) (xs : List ℕ) → Rises a xs
+    → ((x : ℕ) → is_in x xs ≡ true → l.up x ≡ last_below a x xs)
+    → ((x : ℕ) → is_in x xs ≡ true → l.down x ≡ first_above 0 x xs)
+    → l.down a ≡ first_of 0 xs → l.up 0 ≡ last_of a xs → IsLinkedFrom l a xs
+linked_by l a [] r up down first last = (first, last)
+linked_by l a (y ∷ ys) r up down first last =
+    let here = is_in-first y ys in (
+      r.0,
+      first,
+      up y here ∙ last_below-self a y ys r.1,
+      linked_by l y ys r.1
+          (λ x e. let lt = in_above y x ys r.1 e in let ne : y ≢ x = λ s. omega arith in up x (is_in-other y x ys ne ∙ e) ∙ last_below-more a x y ys lt)
+          (λ x e. let lt = in_above y x ys r.1 e in let ne : y ≢ x = λ s. omega arith in down x (is_in-other y x ys ne ∙ e) ∙ first_above-more 0 x y ys (omega arith))
+          (down y here ∙ first_above-more 0 y y ys (omega arith) ∙ first_above-first 0 y y ys (omega arith) r.1)
+          (last ∙ last_of-more a y ys),
+    )
+
+-- ---- lists shrink
+
+abbrev numbers_of : List Numbered → List ℕ
+numbers_of os = map (λ o. o.number) os
+
+pub filter_numbers : (g : ℕ → Bool) (os : List Numbered) → numbers_of (filter (λ o. g o.number) os) ≡ filter g (numbers_of os)
+filter_numbers g os = sym (filter-map g (λ o. o.number) os)
+
+abbrev pub goes : List Numbered → ℕ → Bool
+goes gone x = list_any (λ y. eqb y.number x) gone
+
+pub without_numbers : (gone os : List Numbered) → numbers_of (without gone os) ≡ stay (goes gone) (numbers_of os)
+without_numbers gone os = filter_numbers (λ x. not (goes gone x)) os
+
+pub stay_all : (xs : List ℕ) → stay (λ x. false) xs ≡ xs
+stay_all [] = refl
+stay_all (x ∷ xs) = ap (λ ys. x ∷ ys) (stay_all xs)
+
+pub leave_none : (xs : List ℕ) → filter (λ (x : ℕ). false) xs ≡ []
+leave_none [] = refl
+leave_none (x ∷ xs) = leave_none xs
+
+pub others_stay : (x n : ℕ) (ys : List ℕ) → x ≤ n → Rises n ys → stay (λ y. eqb y x) ys ≡ ys
+others_stay x n [] le r = refl
+others_stay x n (y ∷ ys) le r = rw (ne_eqb y x (λ e. omega (arith, e, r.0, le))) (ap (λ ks. y ∷ ks) (others_stay x y ys (omega (arith, r.0, le)) r.1))
+
+pub drop_first : (n : ℕ) (xs : List ℕ) → Rises n xs → drop 1 xs ≡ stay (λ x. eqb x (first_of 0 xs)) xs
+drop_first n [] r = refl
+drop_first n (x ∷ xs) r = rw (eq-eqb x x refl) (sym (others_stay x x xs (omega arith) r.1))
+
+pub record Shrinks (xs ks : List ℕ) : Type 0 where
+  pub test : ℕ → Bool
+  pub is : ks ≡ stay test xs
+
+same_list : (xs : List ℕ) → Shrinks xs xs
+same_list xs = record { test = λ x. false; is = sym (stay_all xs) }
+
+by_case : (b : Bool) (os gone : List Numbered) → Shrinks (numbers_of os) (numbers_of (cond b (without gone os) os))
+by_case true os gone = record { test = goes gone; is = without_numbers gone os }
+by_case false os gone = same_list (numbers_of os)
+
+pub drop_numbers : (os : List Numbered) → numbers_of (drop 1 os) ≡ drop 1 (numbers_of os)
+drop_numbers [] = refl
+drop_numbers (o ∷ os) = refl
+
+pub shrinks : (p : Puzzle) (t : List Move) (m : Move) (i : ℕ) → Rises 0 (listed_numbers p t i) → Shrinks (listed_numbers p t i) (listed_numbers p (m ∷ t) i)
+shrinks p t (Cover j) i r = grind (arith, common_steps, by_case, drop_first, drop_numbers, eqb-true, same_list)
+shrinks p t (Purify j c) i r = grind (arith, common_steps, by_case, drop_first, drop_numbers, eqb-true, same_list)
+shrinks p t (Tweak j) i r = grind (arith, common_steps, by_case, drop_first, drop_numbers, eqb-true, same_list)
+shrinks p t (Spend j) i r = grind (arith, common_steps, by_case, drop_first, drop_numbers, eqb-true, same_list)
+
+-- ---- the line after a move
+
+pub up_after : (p : Puzzle) (t : List Move) (m : Move) (j : ℕ) (l : Line) → Swept (line_of p t j) l 0 (listed_numbers p t j) (listed_numbers p (m ∷ t) j) → (x : ℕ) → up_of p (m ∷ t) j x ≡ l.up x
+up_after p t m j l s zero = grind (arith, common_steps)
+up_after p t m j l s (suc x) = grind (arith, common_steps)
+
+pub down_after : (p : Puzzle) (t : List Move) (m : Move) (j : ℕ) (l : Line) → Swept (line_of p t j) l 0 (listed_numbers p t j) (listed_numbers p (m ∷ t) j) → (x : ℕ) → down_of p (m ∷ t) j x ≡ l.down x
+down_after p t m j l s zero = grind (arith, common_steps)
+down_after p t m j l s (suc x) = grind (arith, common_steps)
+
+linked_same : (l m : Line) (a : ℕ) (xs : List ℕ) → ((x : ℕ) → m.up x ≡ l.up x) → ((x : ℕ) → m.down x ≡ l.down x) → IsLinkedFrom l a xs → IsLinkedFrom m a xs
+linked_same l m a [] up down h = (down a ∙ h.0, up 0 ∙ h.1)
+linked_same l m a (x ∷ xs) up down h = (h.0, down a ∙ h.1, up x ∙ h.2, linked_same l m x xs up down h.3)
+
+built : (p : Puzzle) (j : ℕ) → IsLinkedFrom (line_of p [] j) 0 (listed_numbers p [] j)
+built p j =
+    let xs = listed_numbers p [] j in
+    let r = rises_listed p [] j in
+    grind (arith, common_steps, in_above, linked_by)
+
+-- each item's line stands for its list
+pub stands : (p : Puzzle) (t : List Move) (j : ℕ) → IsLinkedFrom (line_of p t j) 0 (listed_numbers p t j)
+stands p [] j = built p j
+stands p (m ∷ t) j =
+    let xs = listed_numbers p t j in
+    let sh = shrinks p t m j (rises_listed p t j) in
+    let l : Line = cuts (line_of p t j) (filter sh.test xs) in
+    let s : Swept (line_of p t j) l 0 xs (listed_numbers p (m ∷ t) j) = subst (Swept (line_of p t j) l 0 xs) (sym sh.is) (swept (line_of p t j) 0 xs sh.test (stands p t j)) in
+    linked_same l (line_of p (m ∷ t) j) 0 (listed_numbers p (m ∷ t) j) (up_after p t m j l s) (down_after p t m j l s) s.linked

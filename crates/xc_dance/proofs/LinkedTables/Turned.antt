@@ -1,5 +1,6 @@
 -- Cover on the item table: an item leaves its ring and comes back.
 use Rattle.std.proofs.Common.{◌≡◌, ◌≢◌, ℕ, zero, suc, ◌+◌, ◌<◌, ◌≤◌, ◌⊎◌, inl, inr, Bool, true, false, not, cond, ◌&&◌, ◌||◌, eqb, leb, List, ◌∷◌, length, map, filter, get_or, set, refl, ap, ap₂, sym, subst, ◌∙◌, arith, eq-eqb, ne_eqb, le-leb, leb-true}
+use Rattle.std.proofs.lemmas.Grind.{common_steps}
 use Rattle.std.specs.List.{range_with_len}
 use Rattle.std.proofs.lemmas.Bool.{false≢true, not-true, and_parts, lt-leb, leb-false}
 use Rattle.std.proofs.lemmas.List.Elements.{filter_agree}
@@ -10,7 +11,7 @@ use Rattle.xc_dance.specs.Moves.{IsLegal, is_covered}
 use Rattle.xc_dance.specs.Fields.{ring_of, ring_head, left_of, right_of, first_of, last_of, last_below, first_above, is_in}
 use Rattle.xc_dance.specs.Links.ItemCells.{items_after, llink_at, rlink_at}
 use Rattle.xc_dance.specs.Links.Rings.{left_ring, back_in_ring}
-use Rattle.xc_dance.proofs.LinkedTables.Undo.{written_back}
+use Rattle.xc_dance.proofs.LinkedTables.LinkColumns.{written_back}
 use Rattle.xc_input.proofs.ListFilters.{filter_both}
 use Rattle.xc_dance.proofs.LinkedTables.Sweep.{Rises, Rises-filter, Rises-weaker, is_in-first, by_first, in_rest, stay_same, in_more}
 use Rattle.xc_dance.proofs.LinkedTables.RingLemmas.{less, first_above-in, last_below-in, prev_without, next_without, first_without, last_without, link_behind, link_before}
@@ -43,9 +44,7 @@ not_or false true = refl
 not_or false false = refl
 
 ring_next : (p : Puzzle) (t : List Move) (i : ℕ) (b : Bool) → ring p (Cover i ∷ t) b ≡ less i (ring p t b)
-ring_next p t i b =
-    filter_agree (λ j. not (eqb j i || is_covered j t)) (λ j. not (is_covered j t) && not (eqb j i)) (λ j. not_or (eqb j i) (is_covered j t)) (base p b)
-    ∙ sym (filter_both (λ j. not (eqb j i)) (λ j. not (is_covered j t)) (base p b))
+ring_next p t i b = grind (arith, common_steps, filter_agree, filter_both, not_or)
 
 -- ---- members
 
@@ -74,11 +73,7 @@ base_in p true q e = let r = range_in 1 (primary_count p) q e in (omega (arith, 
 base_in p false q e = let r = range_in (primary_count p + 1) p.secondary q e in (omega (arith, r.0), omega (arith, r.1), side_false p q (omega (arith, r.0)))
 
 in_base : (p : Puzzle) (q : ℕ) → 0 < q → q ≤ item_count p → is_in q (base p (side p q)) ≡ true
-in_base p q pos le =
-    elim (side p q) as (λ b. side p q ≡ b → is_in q (base p b) ≡ true) [
-      | true ↦ λ e. let h = leb-true q (primary_count p) e in in_range 1 (primary_count p) q (omega (arith, pos)) (omega (arith, h))
-      | false ↦ λ e. let h = leb-false q (primary_count p) e in in_range (primary_count p + 1) p.secondary q (omega (arith, h)) (omega (arith, le))
-    ] refl
+in_base p q pos le = grind (arith, common_steps, in_range, leb-false, leb-true)
 
 -- a member of a ring
 ring_in : (p : Puzzle) (t : List Move) (b : Bool) (q : ℕ) → is_in q (ring p t b) ≡ true → (is_covered q t ≡ false) × ((0 < q) × (q ≤ item_count p) × (side p q ≡ b))
@@ -98,10 +93,7 @@ heads_apart p true false e = absurd (omega (arith, e))
 heads_apart p false true e = absurd (omega (arith, e))
 
 head_out : (p : Puzzle) (t : List Move) (b c : Bool) → is_in (hd p b) (ring p t c) ≡ false
-head_out p t b c = elim (is_in (hd p b) (ring p t c)) as (λ v. is_in (hd p b) (ring p t c) ≡ v → is_in (hd p b) (ring p t c) ≡ false) [
-  | true ↦ λ e. let r = ring_in p t c (hd p b) e in absurd (head_item p b (hd p b) r.1.0 r.1.1 refl)
-  | false ↦ λ e. e
-] refl
+head_out p t b c = grind (arith, common_steps, head_item, ring_in)
 
 -- a place beside item i in its ring: the head, or a member that isn't covered
 abbrev pub IsBeside : Puzzle → List Move → Bool → ℕ → Type 0
@@ -142,11 +134,8 @@ by_side P false true same other = other (λ e. false≢true e)
 -- what stands at the head of a ring in a column of links, and at an item
 pub head_cell : (p : Puzzle) (t : List Move) (b : Bool) (f : ℕ → List ℕ → ℕ) (g : ℕ → ℕ) →
     cond (eqb (hd p b) 0) (f 0 (ring_of p t 0)) (cond (leb (hd p b) (item_count p)) (g (hd p b)) (f (item_count p + 1) (ring_of p t (primary_count p + 1)))) ≡ f (hd p b) (ring p t b)
-head_cell p t true f g = ap (λ c. f 0 (ring p t c)) (side_zero p)
-head_cell p t false f g =
-    let n = item_count p + 1 in
-    ap₂ (λ u v. cond u (f 0 (ring_of p t 0)) (cond v (g n) (f n (ring_of p t (primary_count p + 1))))) (ne_eqb n 0 (λ e. omega (arith, e))) (lt-leb n (item_count p) (omega arith))
-    ∙ ap (λ c. f n (ring p t c)) (side_false p (primary_count p + 1) (omega arith))
+head_cell p t true f g = grind (arith, common_steps, lt-leb, ne_eqb, side_false, side_zero)
+head_cell p t false f g = grind (arith, common_steps, lt-leb, ne_eqb, side_false, side_zero)
 
 pub item_cell : (p : Puzzle) (q first inner last : ℕ) → 0 < q → q ≤ item_count p → cond (eqb q 0) first (cond (leb q (item_count p)) inner last) ≡ inner
 item_cell p q first inner last pos le = ap₂ (λ u v. cond u first (cond v inner last)) (ne_eqb q 0 (λ e. omega (arith, e, pos))) (le-leb q (item_count p) le)
@@ -211,13 +200,7 @@ leftwards p = record {
 }
 
 pub way_beside : (p : Puzzle) (w : Way p) (t : List Move) (i : ℕ) → 0 < i → i ≤ item_count p → is_covered i t ≡ false → IsBeside p t (side p i) (w.before t i) × (w.before t i ≢ i)
-way_beside p w t i pos le un =
-    let b = side p i in
-    let is = w.now_before t i un in
-    elim (w.last_in (hd p b) i (ring p t b) (ring_rises p t b) (in_ring p t i pos le un)) [
-      | inl h ↦ (inl (is ∙ h), λ e. head_item p b i pos le (sym h ∙ sym is ∙ e))
-      | inr h ↦ (inr (ap (λ k. is_in k (ring p t b)) is ∙ h.0), λ e. h.1 (sym is ∙ e))
-    ]
+way_beside p w t i pos le un = grind (arith, common_steps, head_item, in_ring, ring_rises)
 
 place_case : (p : Puzzle) (q : ℕ) → q < item_count p + 2 → ((b : Bool) × (q ≡ hd p b)) ⊎ ((0 < q) × (q ≤ item_count p))
 place_case p q lt =
@@ -275,23 +258,7 @@ way_next p w t i pos le un q lt =
 
 -- from the neighbour back to i
 pub way_back : (p : Puzzle) (w : Way p) (t : List Move) (i : ℕ) → 0 < i → i ≤ item_count p → is_covered i t ≡ false → w.cell t (w.before t i) ≡ i
-way_back p w t i pos le un =
-    let b = side p i in
-    let h = hd p b in
-    let xs = ring p t b in
-    let i_in = in_ring p t i pos le un in
-    let all = w.round h i xs (ring_rises p t b) i_in (head_out p t b b) in
-    let k = w.last h i xs in
-    ap (w.cell t) (w.now_before t i un)
-    ∙ by_first (w.cell t k ≡ i) k h
-    (λ same. ap (w.cell t) same ∙ w.at_head t b ∙ sym (ap (λ v. cond v (w.end h xs) (w.next h k xs)) (eq-eqb k h same)) ∙ all)
-    (λ ne. elim (w.last_in h i xs (ring_rises p t b) i_in) [
-      | inl e ↦ absurd (ne e)
-      | inr e ↦
-          let m = ring_in p t b k e.0 in
-          w.at_item t k m.1.0 m.1.1 ∙ w.now t k m.0 ∙ ap (λ d. w.next (hd p d) k (ring p t d)) m.1.2
-          ∙ sym (ap (λ v. cond v (w.end h xs) (w.next h k xs)) (ne_eqb k h ne)) ∙ all
-    ])
+way_back p w t i pos le un = grind (arith, common_steps, by_first, eq-eqb, head_out, in_ring, ne_eqb, ring_in, ring_rises)
 
 -- ---- both ways
 
@@ -320,19 +287,8 @@ way_step p w t i pos le un =
     let r = w.beside t i in
     let within : i < n = omega (arith, le) in
     let l_in : l < n = beside_place p t (side p i) l (way_beside p w t i pos le un).0 in
-    let put : way_column p w next ≡ set (way_column p w t) l r =
-    row_put (w.cell t) (w.cell next) n l r
-    (λ q lt ne. way_next p w t i pos le un q lt ∙ ap (λ v. cond v r (w.cell t q)) (ne_eqb q l ne))
-    (way_next p w t i pos le un l l_in ∙ ap (λ v. cond v r (w.cell t l)) (eq-eqb l l refl)) in
-    record {
-      beside = l_in;
-      long = row_len (w.cell t) n;
-      long' = row_len (w.cell next) n;
-      get = row_get (w.cell t) n i within ∙ w.at_item t i pos le;
-      get' = row_get (w.cell next) n i within ∙ w.at_item next i pos le ∙ w.gone t (Cover i) i (ap (λ v. v || is_covered i t) (eq-eqb i i refl));
-      put = put;
-      back = ap (λ xs. set xs l i) put ∙ written_back (way_column p w t) l l r i refl (row_get (w.cell t) n l l_in ∙ way_back p w t i pos le un);
-    }
+    let put : way_column p w next ≡ set (way_column p w t) l r = grind (arith, common_steps, eq-eqb, ne_eqb, row_put, way_next) in
+    grind (arith, common_steps, eq-eqb, row_get, row_len, way_back, written_back)
 
 pub ring_step : (p : Puzzle) (t : List Move) (i : ℕ) → IsLegal p t (Cover i) → RingStep p t i
 ring_step p t i may =
@@ -343,9 +299,4 @@ ring_step p t i may =
     let next = items_after p (Cover i ∷ t) in
     let a = way_step p (rightwards p) t i pos le un in
     let b = way_step p (leftwards p) t i pos le un in
-    record {
-      can = record { place = (omega (arith, b.long, le), omega (arith, a.long, le)); left = omega (arith, b.get, a.beside, a.long); right = omega (arith, a.get, b.beside, b.long) };
-      done = same_items (left_ring now i) next (ap₂ (set now.llink) a.get b.get ∙ sym b.put) (ap₂ (set now.rlink) b.get a.get ∙ sym a.put) refl refl;
-      can_back = record { place = (omega (arith, b.long', le), omega (arith, a.long', le)); left = omega (arith, b.get', a.beside, a.long'); right = omega (arith, a.get', b.beside, b.long') };
-      undone = same_items (back_in_ring next i) now (ap (λ k. set next.llink k i) a.get' ∙ b.back) (ap (λ k. set next.rlink k i) b.get' ∙ a.back) refl refl;
-    }
+    grind (arith, common_steps, same_items)

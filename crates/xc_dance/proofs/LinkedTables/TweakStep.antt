@@ -1,5 +1,6 @@
 -- Tweak: from the node table after moves to that after one move more, and back.
-use Rattle.std.proofs.Common.{◌≡◌, ◌≢◌, ℕ, ◌+◌, ◌*◌, ◌<◌, ◌≤◌, ◌^◌, Bool, true, false, not, cond, ◌||◌, eqb, List, [], ◌∷◌, length, filter, get_or, reverse, refl, ap, sym, subst, ◌∙◌, arith, eqb-true, eq-eqb, ne_eqb}
+use Rattle.std.proofs.Common.{◌≡◌, ◌≢◌, ℕ, ◌+◌, ◌*◌, ◌<◌, ◌≤◌, ◌^◌, Bool, true, false, not, cond, eqb, List, [], ◌∷◌, length, filter, get_or, reverse, refl, ap, sym, subst, ◌∙◌, arith, eqb-true, eq-eqb, ne_eqb}
+use Rattle.std.proofs.lemmas.Grind.{common_steps}
 use Rattle.std.specs.List.{AllByRecursion}
 use Rattle.std.proofs.lemmas.Bool.{eqb-false, false≢true}
 use Rattle.std.proofs.lemmas.List.{length-map}
@@ -17,27 +18,15 @@ use Rattle.xc_dance.specs.Links.Cells.{color_in, dlink_in, nodes_from, nodes_aft
 use Rattle.xc_dance.specs.Links.Others.{before_use, behind_use}
 use Rattle.xc_dance.specs.Links.Made.{IsFitted}
 use Rattle.std.proofs.lemmas.Option.{slice_get_within}
-use Rattle.xc_dance.proofs.LinkedTables.Undo.{relinked-unlinked}
-use Rattle.xc_dance.proofs.LinkedTables.ReadyLemmas.{CanRelink-unlinked}
-use Rattle.xc_dance.proofs.LinkedTables.OneNode.{IsMember, unlinked-is, linked-is, member_cells}
-use Rattle.xc_dance.proofs.LinkedTables.LinkColumns.{get_down, size_from}
-use Rattle.xc_dance.proofs.LinkedTables.Sweep.{Rises, stay, cuts, is_in-first}
-use Rattle.xc_dance.proofs.LinkedTables.Goods.{Named, IsGood, AllGood, member}
+use Rattle.xc_dance.proofs.LinkedTables.LinkColumns.{relinked-unlinked, CanRelink-unlinked, get_down, size_from}
+use Rattle.xc_dance.proofs.LinkedTables.GoodLines.{IsMember, unlinked-is, linked-is, member_cells, Named, IsGood, AllGood, member, all_good, numbers_named, SameCut, line_after, tables_same}
+use Rattle.xc_dance.proofs.LinkedTables.Sweep.{Rises, stay, cuts, is_in-first, drop_first, stay_all, leave_none, cut, with_line, other_items}
 use Rattle.xc_dance.proofs.LinkedTables.OneOption.{left_all, walked, ready_front, all_other, line_here, line_there}
 use Rattle.xc_dance.proofs.LinkedTables.Spacers.{turns}
-use Rattle.xc_dance.proofs.LinkedTables.OtherItems.{leaves, list_at}
-use Rattle.xc_dance.proofs.LinkedTables.OthersApart.{each_apart, own_apart}
-use Rattle.xc_dance.proofs.LinkedTables.LineSteps.{drop_first, stay_all, leave_none}
-use Rattle.xc_dance.proofs.LinkedTables.GoodLines.{all_good, numbers_named}
-use Rattle.xc_dance.proofs.LinkedTables.SameLines.{SameCut, line_after, tables_same}
-use Rattle.xc_dance.proofs.LinkedTables.MetOptions.{ready_at}
-use Rattle.xc_dance.proofs.LinkedTables.Leaving.{AreOf, cut_others, leaves_own}
+use Rattle.xc_dance.proofs.LinkedTables.OtherItems.{leaves, list_at, each_apart, own_apart}
+use Rattle.xc_dance.proofs.LinkedTables.Leaving.{ready_at, AreOf, cut_others, leaves_own, total, total_same, total_plus, total_zero, total_point, exchanged, leaving_is, first_alone, takes_tweak, tweak_others, tweak_own}
 use Rattle.xc_dance.specs.Cost.{cost_of, leaving}
-use Rattle.xc_dance.proofs.LinkedTables.Totals.{total, total_same, total_plus, total_zero, total_point}
-use Rattle.xc_dance.proofs.LinkedTables.LeavingCosts.{exchanged, leaving_is}
-use Rattle.xc_dance.proofs.LinkedTables.TakenOut.{first_alone, takes_tweak, tweak_others, tweak_own}
-use Rattle.xc_dance.proofs.LinkedTables.ListLinks.{own_placed}
-use Rattle.xc_dance.proofs.LinkedTables.LineChanges.{cut, with_line, other_items}
+use Rattle.xc_dance.proofs.LinkedTables.HideMoves.{own_placed}
 use Rattle.xc_dance.proofs.MoveLemmas.Shortened.{rises_listed}
 
 -- the first of item i's list
@@ -92,14 +81,7 @@ tweak_shut p t i j shut ne = record {
 pub first_of-list : (p : Puzzle) (t : List Move) (i : ℕ) → HasFirst p t i → AreOf p t i (first_alone (listed_numbers p t i))
 first_of-list p t i f =
     let r : Rises 0 (f.o ∷ f.os) = subst (Rises 0) f.is (rises_listed p t i) in
-    subst (λ ks. AreOf p t i (first_alone ks)) (sym f.is) (record {
-      rise = (r.0, tt);
-      among = λ x e. subst (λ ks. is_in x ks ≡ true) (sym f.is)
-          (elim (eqb f.o x) as (λ b. eqb f.o x ≡ b → (b || is_in x f.os) ≡ true) [
-            | true ↦ λ g. refl
-            | false ↦ λ g. absurd (false≢true (ap (λ b. b || false) (sym g) ∙ e))
-          ] refl);
-    })
+    grind (arith, common_steps, false≢true)
 
 -- ---- the option is hidden, if the item is open
 

@@ -1,39 +1,228 @@
--- Some Tweaks of one item undone at once: from the node table after them to that before.
-use Rattle.std.proofs.Common.{◌≡◌, ◌≢◌, ℕ, ◌+◌, ◌*◌, ◌<◌, ◌≤◌, ◌^◌, Bool, true, false, not, cond, ◌||◌, eqb, List, [], ◌∷◌, ◌++◌, length, map, fold, filter, get_or, Option, Some, None, refl, ap, ap₂, sym, subst, ◌∙◌, arith, eqb-true, eq-eqb, length-append}
-use Rattle.std.proofs.lemmas.Bool.{eqb-false, false≢true, or_parts}
-use Rattle.std.proofs.lemmas.List.{length-map}
-use Rattle.std.proofs.lemmas.List.Folds.{list_any-append}
-use Rattle.xc_dance.specs.declared.dance.Move.{Move}
-use Rattle.xc_dance.specs.declared.links.nodes.Nodes.{Nodes}
-use Rattle.xc_dance.specs.Links.Span.{Span}
-use Rattle.xc_input.specs.Problem.{Puzzle, item_count}
-use Rattle.xc_dance.specs.Moves.{is_open, AreLegal, listed, listed_numbers}
-use Rattle.xc_dance.specs.Fields.{Node, own, layout, link_place, is_in, first_of}
-use Rattle.xc_dance.specs.Links.Lines.{Line}
-use Rattle.xc_dance.specs.Links.TweaksBack.{climbed, IsClimb, with_top, with_dlink, climb_costs, untweaked_all, untweak_all_cost, CanUntweakAll}
-use Rattle.xc_dance.specs.Links.Steps.{followed}
-use Rattle.xc_dance.specs.Cost.{cost_of_newest, undo_tweaks_cost}
-use Rattle.xc_dance.specs.Links.Cells.{slot_of, link_at, fixed_up, fixed_down, top_in, ulink_in, dlink_in, color_in, nodes_from, nodes_after, line_of}
-use Rattle.xc_dance.specs.Links.Laid.{IsLaid}
-use Rattle.xc_dance.specs.Links.Made.{IsFitted}
-use Rattle.xc_dance.proofs.LinkedTables.Mapped.{map_same}
-use Rattle.xc_dance.proofs.LinkedTables.Undo.{same_nodes}
-use Rattle.xc_dance.proofs.LinkedTables.LinkColumns.{set_link, set_top, get_len}
-use Rattle.xc_dance.proofs.LinkedTables.Sweep.{Rises, cuts, rises, by_first, put_at-same, put_at-other, cut-linked}
-use Rattle.xc_dance.proofs.LinkedTables.OtherItems.{leaves}
-use Rattle.xc_dance.proofs.LinkedTables.LineSteps.{stands, leave_none}
-use Rattle.xc_dance.proofs.LinkedTables.GoodLines.{numbers_few}
-use Rattle.xc_dance.proofs.LinkedTables.SameLines.{tables_same, line_is}
-use Rattle.xc_dance.proofs.LinkedTables.Leaving.{AreOf, leaves_open, leaves_shut}
-use Rattle.xc_dance.proofs.LinkedTables.ListLinks.{own_placed}
-use Rattle.xc_dance.proofs.LinkedTables.Regained.{Regaining, regaining, regained}
-use Rattle.xc_dance.proofs.LinkedTables.OneOption.{line_there, line_here}
-use Rattle.xc_dance.proofs.LinkedTables.Climb.{Climbing, to_come, is_below, top_kept, down_kept}
-use Rattle.xc_input.proofs.ListFilters.{length-filter-le}
-use Rattle.xc_dance.proofs.LinkedTables.ClimbWalk.{climb_walk, climb_follow, climb_writes}
-use Rattle.xc_dance.proofs.LinkedTables.TweakedLines.{TweakedLines, tweaks, tweaked_lines, none_yet, tweak_writes}
+-- Some Tweaks of one item undone at once: the lines before and after them, the whole way down, and the node table.
+use Rattle.std.proofs.Common.{◌≡◌, ◌≢◌, ℕ, zero, suc, ◌+◌, ◌*◌, ◌<◌, ◌≤◌, Bool, true, false, not, cond, eqb, List, [], ◌∷◌, ◌++◌, length, map, filter, drop, reverse, get_or, refl, ap, sym, subst, ◌∙◌, arith, length-append, inr, ◌||◌, fold, ap₂, eq-eqb, ◌^◌, eqb-true}
+use Rattle.std.proofs.lemmas.Grind.{common_steps}
+use Rattle.std.proofs.lemmas.List.{reverse-append, append_assoc, map-append, length-map}
+use Rattle.std.proofs.lemmas.List.Sums.{fold-append}
+use Rattle.std.proofs.lemmas.List.Elements.{filter-append}
 use Rattle.std.proofs.lemmas.Option.{slice_get_within}
-use Rattle.xc_dance.proofs.LinkedTables.LineChanges.{put_at, cut, IsLinkedFrom, with_line}
+use Rattle.std.proofs.lemmas.Bool.{eqb-false, false≢true, or_parts}
+use Rattle.std.proofs.lemmas.List.Folds.{list_any-append}
+use Rattle.xc_input.specs.Problem.{Puzzle, item_count}
+use Rattle.xc_dance.specs.declared.dance.Move.{Move}
+use Rattle.xc_dance.specs.declared.dance.Move.TheVariants.{Tweak}
+use Rattle.xc_dance.specs.Links.Span.{Span}
+use Rattle.xc_dance.specs.Moves.{is_open, AreLegal, IsLegal, listed_numbers, listed}
+use Rattle.xc_dance.specs.Fields.{Node, layout, link_place, is_in, first_of, own}
+use Rattle.xc_dance.specs.Links.Lines.{Line}
+use Rattle.xc_dance.specs.Links.Taken.{taken_nodes}
+use Rattle.xc_dance.specs.Links.Cells.{color_in, line_of, nodes_after, dlink_in, nodes_from, fixed_down, top_in, ulink_in}
+use Rattle.xc_dance.specs.Links.Made.{IsFitted}
+use Rattle.xc_dance.specs.declared.links.nodes.Nodes.{Nodes}
+use Rattle.xc_dance.specs.Cost.{cost_of, cost_of_newest, undo_tweaks_cost}
+use Rattle.xc_dance.specs.Links.Steps.{hide_costs, others_of, followed}
+use Rattle.xc_dance.specs.Links.TweaksBack.{climbed, IsClimb, climb_costs, with_top, with_dlink, untweaked_all, untweak_all_cost, CanUntweakAll}
+use Rattle.xc_dance.specs.Links.Laid.{IsLaid}
+use Rattle.xc_input.proofs.ListFilters.{length-filter-le}
+use Rattle.xc_dance.proofs.LinkedTables.Sweep.{other_items, cut, cuts, is_in-first, in_above, IsLinkedFrom, Rises, rises, by_first, put_at-same, put_at-other, cut-linked, stands, leave_none, put_at, with_line}
+use Rattle.xc_dance.proofs.LinkedTables.LinkColumns.{map_same, get_down, same_nodes, set_link, set_top, get_len}
+use Rattle.xc_dance.proofs.LinkedTables.OtherItems.{leaves}
+use Rattle.xc_dance.proofs.LinkedTables.GoodLines.{SameCut, line_after, Named, numbers_named, numbers_few, tables_same, line_is}
+use Rattle.xc_dance.proofs.LinkedTables.Leaving.{cut_others, first_alone, takes_tweak, tweak_own, AreOf, leaves_open, leaves_shut}
+use Rattle.xc_dance.proofs.LinkedTables.Spacers.{others_are}
+use Rattle.xc_dance.proofs.LinkedTables.TweakStep.{tweak_made, HasFirst, has_first, tweak_cut, tweak_shut, tweak_colours, first_of-list}
+use Rattle.xc_dance.proofs.LinkedTables.Climb.{to_come, back_writes, Climbing, climb_step, is_below, top_kept, down_kept}
+use Rattle.xc_dance.proofs.LinkedTables.OneOption.{gone_count, line_there, line_here}
+use Rattle.xc_dance.proofs.LinkedTables.HideMoves.{own_placed}
+use Rattle.xc_dance.proofs.MoveLemmas.Shortened.{rises_listed}
+use Rattle.xc_dance.proofs.MoveLemmas.Members.{element_of}
+use Rattle.xc_dance.proofs.LinkedTables.UnmarkedNodes.{costs-are, hidden_color, unmarked_items}
+use Rattle.xc_dance.proofs.LinkedTables.MoveStep.{none_newest}
+use Rattle.xc_dance.proofs.LinkedTables.Regained.{Regaining, regaining, regained}
+
+-- ---- the lines after some Tweaks of one item, from those before
+
+-- ---- k Tweaks
+
+abbrev pub tweaks : ℕ → ℕ → List Move → List Move
+tweaks zero i t = t
+tweaks (suc k) i t = Tweak i ∷ tweaks k i t
+
+-- the moves s are t and Tweaks of item i, which took off these options
+pub record TweakedLines (p : Puzzle) (t s : List Move) (covered : Bool) (i : ℕ) (os : List ℕ) : Type 0 where
+  pub list : listed_numbers p t i ≡ os ++ listed_numbers p s i
+  pub own : line_of p s i ≡ cuts (line_of p t i) os
+  pub others : (j : ℕ) → 0 < j → j ≤ item_count p → j ≢ i → line_of p s j ≡ cuts (line_of p t j) (to_come p t covered i j os)
+  pub colours : (n : Node) → color_in p s n ≡ color_in p t n
+  pub opened : is_open i s ≡ is_open i t
+  pub taken : taken_nodes p s ≡ reverse (map (link_place p i) os) ++ taken_nodes p t
+
+pub none_yet : (p : Puzzle) (t : List Move) (covered : Bool) (i j : ℕ) → to_come p t covered i j [] ≡ []
+none_yet p t true i j = refl
+none_yet p t false i j = refl
+
+tweak_open : (p : Puzzle) (t : List Move) (spans : List Span) (i j : ℕ) → AreLegal p t → IsFitted p spans → is_open i t ≡ true → (f : HasFirst p t i) → 0 < j → j ≤ item_count p → j ≢ i → SameCut p t (Tweak i) j (filter (leaves p (color_in p t) i j) (f.o ∷ []))
+tweak_open p t spans i j legal fit opened f pos le ne =
+    subst (λ ks. SameCut p t (Tweak i) j (filter (leaves p (color_in p t) i j) ks)) (ap first_alone f.is)
+    (cut_others p t (Tweak i) i j (first_alone (listed_numbers p t i)) legal fit.laid fit.fit opened (pos, le) (first_of-list p t i f) (takes_tweak p t i opened) ne)
+
+-- one Tweak more
+more_others : (p : Puzzle) (t s : List Move) (spans : List Span) (covered : Bool) (i : ℕ) (os : List ℕ) → AreLegal p s → IsFitted p spans → is_open i t ≡ not covered → (f : HasFirst p s i) → TweakedLines p t s covered i os
+    → (j : ℕ) → 0 < j → j ≤ item_count p → j ≢ i → line_of p (Tweak i ∷ s) j ≡ cuts (line_of p t j) (to_come p t covered i j (os ++ f.o ∷ []))
+more_others p t s spans true i os legal fit shut f h j pos le ne =
+    line_after p s (Tweak i) j [] (tweak_shut p s i j (h.opened ∙ shut) ne) ∙ h.others j pos le ne
+more_others p t s spans false i os legal fit opened f h j pos le ne =
+    let col = color_in p t in
+    let o = f.o in
+    let same : map (color_in p s) (layout p) ≡ map col (layout p) = map_same col (color_in p s) (layout p) (λ k n e. h.colours n) in
+    let test : filter (leaves p (color_in p s) i j) (o ∷ []) ≡ filter (leaves p col i j) (o ∷ []) = grind (arith, common_steps) in
+    let l = line_of p t j in
+    let before = filter (leaves p col i j) os in
+    let one = filter (leaves p col i j) (o ∷ []) in
+    let cut_one : SameCut p s (Tweak i) j one = subst (SameCut p s (Tweak i) j) test (tweak_open p s spans i j legal fit (h.opened ∙ opened) f pos le ne) in
+    let all : cuts l (filter (leaves p col i j) (os ++ o ∷ [])) ≡ cuts (cuts l before) one = ap (cuts l) (filter-append (leaves p col i j) os (o ∷ [])) ∙ fold-append cut l before one in
+    line_after p s (Tweak i) j one cut_one ∙ ap (λ (m : Line). cuts m one) (h.others j pos le ne) ∙ sym all
+
+-- ---- what the Tweaks wrote
+
+-- one of them
+abbrev pub tweak_writes : Puzzle → (Node → ℕ) → Bool → ℕ → List ℕ → ℕ
+tweak_writes p col covered i [] = 0
+tweak_writes p col covered i (o ∷ os) = (3 + back_writes p col covered i o) + tweak_writes p col covered i os
+
+tweak_writes-append : (p : Puzzle) (col : Node → ℕ) (covered : Bool) (i : ℕ) (os : List ℕ) (o : ℕ) → tweak_writes p col covered i (os ++ o ∷ []) ≡ (3 + back_writes p col covered i o) + tweak_writes p col covered i os
+tweak_writes-append p col covered i [] o = refl
+tweak_writes-append p col covered i (x ∷ xs) o = let r = tweak_writes-append p col covered i xs o in omega (arith, r)
+
+one_writes : (p : Puzzle) (s : List Move) (spans : List Span) (covered : Bool) (i : ℕ) → AreLegal p s → IsFitted p spans → IsLegal p s (Tweak i) → is_open i s ≡ not covered → (f : HasFirst p s i) → cost_of p s (Tweak i) ≡ 3 + back_writes p (color_in p s) covered i f.o
+one_writes p s spans true i legal fit may shut f =
+    let pos : 0 < i = let h = may.0.0 in omega (arith, h) in
+    sym (tweak_made p s spans true i legal fit pos may.0.1 may.2 shut).cost
+one_writes p s spans false i legal fit may opened f =
+    let pos : 0 < i = let h = may.0.0 in omega (arith, h) in
+    let le : i ≤ item_count p = may.0.1 in
+    let o = f.o in
+    let col = color_in p s in
+    let t0 : Nodes = nodes_after p s in
+    let js = other_items p o i in
+    let within : is_in o (listed_numbers p s i) ≡ true = subst (λ ks. is_in o ks ≡ true) (sym f.is) (is_in-first o f.os) in
+    let named : Named p i o = element_of (Named p i) o (listed_numbers p s i) (numbers_named p s i) within in
+    let o_pos : 0 < o = in_above 0 o (listed_numbers p s i) (rises_listed p s i) within in
+    let first : get_or t0.dlink i 0 ≡ link_place p i o = get_down p (line_of p s) i 0 (own_placed p i fit.laid pos le) ∙ ap (λ ks. link_place p i (first_of 0 ks)) f.is in
+    let hides : hide_costs t0 (others_of spans (get_or t0.dlink i 0)) ≡ 3 * gone_count p col i o = grind (arith, common_steps, costs-are, hidden_color, others_are, unmarked_items) in
+    omega (arith, (tweak_made p s spans false i legal fit pos le may.2 opened).cost, hides)
+
+gone_alike : (p : Puzzle) (col now : Node → ℕ) (i o : ℕ) → map now (layout p) ≡ map col (layout p) → gone_count p now i o ≡ gone_count p col i o
+gone_alike p col now i o e = ap (λ (cs : List ℕ). length (filter (λ j. not (eqb (get_or cs (link_place p j o) 0) 4294967295)) (other_items p o i))) e
+
+pub record Tweaked (p : Puzzle) (t : List Move) (covered : Bool) (i k : ℕ) : Type 0 where
+  pub os : List ℕ
+  pub count : length os ≡ k
+  pub lines : TweakedLines p t (tweaks k i t) covered i os
+  pub costs : cost_of_newest k p (tweaks k i t) ≡ tweak_writes p (color_in p t) covered i os
+
+pub tweaked_lines : (p : Puzzle) (t : List Move) (spans : List Span) (covered : Bool) (i k : ℕ) → AreLegal p (tweaks k i t) → IsFitted p spans → is_open i t ≡ not covered → Tweaked p t covered i k
+tweaked_lines p t spans covered i zero legal fit opened = record {
+  os = [];
+  count = refl;
+  lines = record {
+    list = refl;
+    own = refl;
+    others = λ j pos le ne. sym (ap (cuts (line_of p t j)) (none_yet p t covered i j));
+    colours = λ n. refl;
+    opened = refl;
+    taken = refl;
+  };
+  costs = none_newest p t;
+}
+tweaked_lines p t spans covered i (suc k) legal fit opened =
+    let s = tweaks k i t in
+    let before = tweaked_lines p t spans covered i k legal.1 fit opened in
+    let h = before.lines in
+    let os = before.os in
+    let f = has_first p s i legal.0.2 in
+    let o = f.o in
+    let rest : listed_numbers p (Tweak i ∷ s) i ≡ f.os = tweak_own p s i ∙ ap (drop 1) f.is in
+    let x = link_place p i o in
+    record {
+      os = os ++ o ∷ [];
+      count = let a = length-append os (o ∷ []) in let b = before.count in omega (arith, a, b);
+      costs =
+          let one = one_writes p s spans covered i legal.1 fit legal.0 (h.opened ∙ opened) f in
+          let same : map (color_in p s) (layout p) ≡ map (color_in p t) (layout p) = map_same (color_in p t) (color_in p s) (layout p) (λ m n e. h.colours n) in
+          let alike : back_writes p (color_in p s) covered i o ≡ back_writes p (color_in p t) covered i o = ap (λ n. cond covered 0 (3 * n)) (gone_alike p (color_in p t) (color_in p s) i o same) in
+          let rest = before.costs in
+          omega (arith, one, alike, rest, tweak_writes-append p (color_in p t) covered i os o);
+      lines = record {
+        list = h.list ∙ ap (λ ks. os ++ ks) f.is ∙ sym (append_assoc os (o ∷ []) f.os) ∙ ap (λ ks. (os ++ o ∷ []) ++ ks) (sym rest);
+        own = line_after p s (Tweak i) i (o ∷ []) (tweak_cut p s i f) ∙ ap (λ (m : Line). cut m o) h.own ∙ sym (fold-append cut (line_of p t i) os (o ∷ []));
+        others = more_others p t s spans covered i os legal.1 fit opened f h;
+        colours = λ n. tweak_colours p s i n ∙ h.colours n;
+        opened = h.opened;
+        taken = grind (arith, common_steps, map-append, reverse-append);
+      };
+    }
+
+-- ---- all the way down: the nodes that k Tweaks of one item took off come back, and the lines are then those of before the Tweaks
+
+-- what the steps write
+abbrev pub climb_writes : Puzzle → (Node → ℕ) → Bool → ℕ → List ℕ → ℕ
+climb_writes p col covered i [] = 0
+climb_writes p col covered i (o ∷ os) = (1 + back_writes p col covered i o) + climb_writes p col covered i os
+
+pub record ClimbWalk (p : Puzzle) (t : List Move) (spans : List Span) (covered : Bool) (i : ℕ) (ln : ℕ → Line) (a : ℕ) (os : List ℕ) : Type 0 where
+  pub end : ℕ → Line
+  pub walk : IsClimb spans covered (nodes_from p ln (color_in p t)) (link_place p i ((line_of p t i).down a)) (map (link_place p i) os)
+  pub done : fold (climbed spans covered) (nodes_from p ln (color_in p t)) (map (link_place p i) os) ≡ nodes_from p end (color_in p t)
+  pub climbing : Climbing p t covered i end []
+  pub len : (end i).len ≡ (ln i).len
+  pub costs : climb_costs spans covered (nodes_from p ln (color_in p t)) (map (link_place p i) os) ≡ climb_writes p (color_in p t) covered i os
+
+pub climb_walk : (p : Puzzle) (t : List Move) (spans : List Span) (covered : Bool) (i : ℕ) (ln : ℕ → Line) (a : ℕ) (os rest : List ℕ) → AreLegal p t → IsFitted p spans → 0 < i → i ≤ item_count p → is_open i t ≡ not covered
+    → ((x : ℕ) → is_in x os ≡ true → is_in x (listed_numbers p t i) ≡ true) → IsLinkedFrom (line_of p t i) a (os ++ rest) → Climbing p t covered i ln os → ClimbWalk p t spans covered i ln a os
+climb_walk p t spans covered i ln a [] rest legal fit pos le opened among linked h = record {
+  end = ln;
+  walk = tt;
+  done = refl;
+  climbing = h;
+  len = refl;
+  costs = refl;
+}
+climb_walk p t spans covered i ln a (o ∷ os) rest legal fit pos le opened among linked h =
+    let col = color_in p t in
+    let x = link_place p i o in
+    let within : is_in o (listed_numbers p t i) ≡ true = among o (ap (λ b. b || is_in o os) (eq-eqb o o refl)) in
+    let named : Named p i o = element_of (Named p i) o (listed_numbers p t i) (numbers_named p t i) within in
+    let o_pos : 0 < o = in_above 0 o (listed_numbers p t i) (rises_listed p t i) within in
+    let here = fit.laid.there i o pos le (inr (o_pos, named)) in
+    let s = climb_step p t spans covered i ln o os legal fit pos le opened within h in
+    let t0 : Nodes = nodes_from p ln col in
+    let t1 : Nodes = nodes_from p s.ln' col in
+    let rest' = climb_walk p t spans covered i s.ln' o os rest legal fit pos le opened (λ z e. among z (elim (eqb o z) as (λ b. (b || is_in z os) ≡ true) [ true ↦ refl | false ↦ e ])) linked.3 s.climbing in
+    let x_in = slice_get_within (layout p) x here.node here.at in
+    let long : length t1.dlink ≡ length (layout p) = length-map (layout p) (dlink_in p s.ln') in
+    let next : get_or t1.dlink x 0 ≡ link_place p i ((line_of p t i).down o) = get_down p s.ln' i o here ∙ ap (link_place p i) (s.climbing.own_down o) in
+    let places = map (link_place p i) os in
+    let first : link_place p i ((line_of p t i).down a) ≡ x = ap (link_place p i) linked.1 in
+    grind (arith, common_steps)
+
+-- the nodes that come back, by the links of the table before
+pub climb_follow : (p : Puzzle) (t : List Move) (spans : List Span) (i : ℕ) (ln : ℕ → Line) (a : ℕ) (os rest : List ℕ) → IsFitted p spans → 0 < i → i ≤ item_count p
+    → ((x : ℕ) → is_in x os ≡ true → is_in x (listed_numbers p t i) ≡ true) → IsLinkedFrom (line_of p t i) a (os ++ rest) → ((x : ℕ) → (ln i).down x ≡ (line_of p t i).down x)
+    → followed (nodes_from p ln (color_in p t)).dlink (length os) (link_place p i ((line_of p t i).down a)) ≡ map (link_place p i) os
+climb_follow p t spans i ln a [] rest fit pos le among linked down = refl
+climb_follow p t spans i ln a (o ∷ os) rest fit pos le among linked down =
+    let t0 : Nodes = nodes_from p ln (color_in p t) in
+    let within : is_in o (listed_numbers p t i) ≡ true = among o (ap (λ b. b || is_in o os) (eq-eqb o o refl)) in
+    let named : Named p i o = element_of (Named p i) o (listed_numbers p t i) (numbers_named p t i) within in
+    let o_pos : 0 < o = in_above 0 o (listed_numbers p t i) (rises_listed p t i) within in
+    let here = fit.laid.there i o pos le (inr (o_pos, named)) in
+    let first : link_place p i ((line_of p t i).down a) ≡ link_place p i o = ap (link_place p i) linked.1 in
+    let next : get_or t0.dlink (link_place p i o) 0 ≡ link_place p i ((line_of p t i).down o) = get_down p ln i o here ∙ ap (link_place p i) (down o) in
+    ap₂ (λ q qs. q ∷ qs) first
+    (ap (λ q. followed t0.dlink (length os) (get_or t0.dlink q 0)) first ∙ ap (followed t0.dlink (length os)) next
+    ∙ climb_follow p t spans i ln o os rest fit pos le (λ z e. among z (elim (eqb o z) as (λ b. (b || is_in z os) ≡ true) [ true ↦ refl | false ↦ e ])) linked.3 down)
+
+-- ---- some Tweaks of one item undone at once: from the node table after them to that before
 
 -- ---- the lines of other items are being regained
 
@@ -88,14 +277,7 @@ abbrev lowered : Line → ℕ → Line
 lowered l o = record { len = l.len; up = l.up; down = put_at l.down 0 o }
 
 up_kept : (p : Puzzle) (ln : ℕ → Line) (i : ℕ) (l : Line) (n : Node) → ((x : ℕ) → l.up x ≡ (ln i).up x) → ulink_in p (with_line ln i l) n ≡ ulink_in p ln n
-up_kept p ln i l n h = by_slot (slot_of n)
-  where
-    by_slot : (s : Option (ℕ × ℕ)) → link_at p (λ j x. (with_line ln i l j).up x) (fixed_up p n) s ≡ link_at p (λ j x. (ln j).up x) (fixed_up p n) s
-    by_slot None = refl
-    by_slot (Some s) = ap (link_place p s.0) (elim (eqb s.0 i) as (λ b. eqb s.0 i ≡ b → cond b (l.up s.1) ((ln s.0).up s.1) ≡ (ln s.0).up s.1) [
-      | true ↦ λ f. h s.1 ∙ ap (λ j. (ln j).up s.1) (sym (eqb-true s.0 i f))
-      | false ↦ λ f. refl
-    ] refl)
+up_kept p ln i l n h = grind (arith, common_steps, eqb-true)
 
 lowered_is : (p : Puzzle) (col : Node → ℕ) (ln : ℕ → Line) (i o : ℕ) → IsLaid p → 0 < i → i ≤ item_count p → with_dlink (nodes_from p ln col) i (link_place p i o) ≡ nodes_from p (with_line ln i (lowered (ln i) o)) col
 lowered_is p col ln i o laid pos le =
@@ -192,8 +374,7 @@ by_lines p t spans covered i k o os legal fit pos le opened count costs h =
     let follow : followed t0.dlink k x ≡ map (link_place p i) all =
     ap₂ (followed t0.dlink) (sym count) (sym lead) ∙ climb_follow p t spans i ln0 0 all rest fit pos le among linked down0 in
     let follow' : followed (with_dlink T i x).dlink k x ≡ map (link_place p i) all = ap (λ (u : Nodes). followed u.dlink k x) start ∙ follow in
-    let fold_is : fold (climbed spans covered) (with_dlink T i x) (followed (with_dlink T i x).dlink k x) ≡ nodes_from p cw.end col =
-    ap₂ (λ (u : Nodes) qs. fold (climbed spans covered) u qs) start follow' ∙ cw.done in
+    let fold_is : fold (climbed spans covered) (with_dlink T i x) (followed (with_dlink T i x).dlink k x) ≡ nodes_from p cw.end col = grind (arith, common_steps) in
     let within : i < length (layout p) = slice_get_within (layout p) i (own i) (laid.head i pos le) in
     let top_long : length (map (top_in cw.end) (layout p)) ≡ length (layout p) = length-map (layout p) (top_in cw.end) in
     let down_long : length T.dlink ≡ length (layout p) = length-map (layout p) (dlink_in p lnS) in

@@ -1,5 +1,6 @@
 -- The newest moves are Tweaks of one item: what their undoing at once finds, and what it leaves.
 use Rattle.std.proofs.Common.{◌≡◌, ℕ, zero, suc, ◌+◌, ◌-◌, ◌<◌, ◌≤◌, inr, Bool, true, not, List, [], ◌∷◌, ◌++◌, length, map, drop, take, reverse, get_or, refl, ap, ap₂, sym, subst, ◌∙◌, arith, length-append}
+use Rattle.std.proofs.lemmas.Grind.{common_steps}
 use Rattle.std.specs.Prelude.{replicate}
 use Rattle.std.proofs.lemmas.List.{reverse-append, reverse-reverse, length-reverse, length-drop, length-map, get_or_default, take-append-drop, get_or-append-add}
 use Rattle.std.proofs.Math.Seq.{drop-append_seam, take-append_seam}
@@ -21,15 +22,12 @@ use Rattle.xc_dance.specs.Links.Made.{IsFitted, CanTell}
 use Rattle.std.proofs.lemmas.Option.{slice_get_within}
 use Rattle.xc_dance.proofs.LinkedTables.LinkColumns.{get_item}
 use Rattle.xc_dance.proofs.LinkedTables.Sweep.{in_above, is_in-first}
-use Rattle.xc_dance.proofs.LinkedTables.Goods.{Named}
-use Rattle.xc_dance.proofs.LinkedTables.GoodLines.{numbers_named}
+use Rattle.xc_dance.proofs.LinkedTables.GoodLines.{Named, numbers_named}
 use Rattle.xc_dance.proofs.MoveLemmas.Shortened.{rises_listed}
 use Rattle.xc_dance.proofs.MoveLemmas.Members.{element_of}
-use Rattle.xc_dance.proofs.LinkedTables.StillItems.{still_items}
-use Rattle.xc_dance.proofs.LinkedTables.Covered.{off_is}
+use Rattle.xc_dance.proofs.LinkedTables.MoveStep.{still_items, off_is}
 use Rattle.xc_dance.proofs.MoveLemmas.StateLemmas.{open_or_covered}
-use Rattle.xc_dance.proofs.LinkedTables.TweakedLines.{tweaks, Tweaked, tweaked_lines}
-use Rattle.xc_dance.proofs.LinkedTables.TweaksBack.{Undoes, first_place, tweaks_back}
+use Rattle.xc_dance.proofs.LinkedTables.TweaksBack.{tweaks, Tweaked, tweaked_lines, Undoes, first_place, tweaks_back}
 
 pub tweaks_are : (k i : ℕ) (s : List Move) → k ≤ length s → take k s ≡ replicate k (Tweak i) → s ≡ tweaks k i (drop k s)
 tweaks_are zero i s h e = refl
@@ -156,8 +154,7 @@ tweaks_found p s spans (suc k) xs are legal fit e =
 -- ---- as the code reads them
 
 pub node_is : {p : Puzzle} {s t : List Move} {spans : List Span} {i k n x : ℕ} {xs : List ℕ} → Found p s t spans i k xs → 1 ≤ k → x ≡ get_or xs (n - k) x → n ≡ length xs → x ≡ first_place p t i
-node_is {k = k} {x = x} {xs = xs} f some read long =
-    let enough = f.taken.enough in read ∙ ap (λ m. get_or xs (m - k) x) long ∙ get_or_default xs (length xs - k) x 0 (omega (arith, some, enough)) ∙ f.taken.first
+node_is {k = k} {x = x} {xs = xs} f some read long = grind (arith, common_steps, get_or_default)
 
 -- the first node that they took off, and its item, as they were read from the tables
 pub record IsRead (p : Puzzle) (s t : List Move) (spans : List Span) (i k : ℕ) (xs : List ℕ) (nodes : Nodes) (items : Items) (x j : ℕ) : Type 0 where
@@ -170,18 +167,12 @@ pub record IsRead (p : Puzzle) (s t : List Move) (spans : List Span) (i k : ℕ)
 
 pub read : {p : Puzzle} {s t : List Move} {spans : List Span} {i k : ℕ} {xs : List ℕ} {nodes : Nodes} {items : Items} {x j : ℕ} → Found p s t spans i k xs → x ≡ first_place p t i → nodes ≡ nodes_after p s → items ≡ items_after p s → j ≡ get_or nodes.top x 0
     → IsRead p s t spans i k xs nodes items x j
-read {p = p} {s = s} {j = j} f node nodes_are items_are at =
-    let item = at ∙ ap₂ (λ (u : Nodes) q. get_or u.top q 0) nodes_are node ∙ f.node.item in
-    record { found = f; node = node; item = item; nodes_are = nodes_are; items_are = items_are; tell = subst (λ (u : Items). CanTell u j) (sym items_are) (subst (CanTell (items_after p s)) (sym item) f.tell) }
+read {p = p} {s = s} {j = j} f node nodes_are items_are at = grind (arith, common_steps)
 
 -- so the code may undo them at once
 pub undoes : {p : Puzzle} {s t : List Move} {spans spans' : List Span} {i k : ℕ} {xs : List ℕ} {nodes : Nodes} {items : Items} {x j : ℕ} {covered : Bool} → IsRead p s t spans i k xs nodes items x j → spans' ≡ spans → covered ≡ is_off items j
     → Undoes spans' covered nodes j x k (nodes_after p t) (undo_tweaks_cost k p s)
-undoes {p} {s} {t} {spans} {spans'} {i} {k} {xs} {nodes} {items} {x} {j} {covered} r a b =
-    let U : List Span → Bool → Nodes → ℕ → ℕ → Type 0 = λ y c u m q. Undoes y c u m q k (nodes_after p t) (undo_tweaks_cost k p s) in
-    let off : covered ≡ is_covered i t = b ∙ ap₂ is_off r.items_are r.item ∙ r.found.off in
-    subst (λ y. U y covered nodes j x) (sym a) (subst (λ c. U spans c nodes j x) (sym off) (subst (λ u. U spans (is_covered i t) u j x) (sym r.nodes_are)
-    (subst (λ m. U spans (is_covered i t) (nodes_after p s) m x) (sym r.item) (subst (U spans (is_covered i t) (nodes_after p s) i) (sym r.node) r.found.back))))
+undoes {p} {s} {t} {spans} {spans'} {i} {k} {xs} {nodes} {items} {x} {j} {covered} r a b = grind (arith, common_steps)
 
 pub trail_left : (xs ys : List Move) (n k : ℕ) → ys ≡ take (n - k) xs → n ≡ length xs → k ≤ length (reverse xs) → reverse ys ≡ drop k (reverse xs)
 trail_left xs ys n k e long h = ap reverse (e ∙ ap (λ m. take (m - k) xs) long) ∙ turned_drop xs k (let d = length-reverse xs in omega (arith, h, d))

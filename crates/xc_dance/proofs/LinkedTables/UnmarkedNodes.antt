@@ -1,30 +1,68 @@
--- Where no use has a colour no node of an option is marked, and no walk marks one.
-use Rattle.std.proofs.Common.{◌≡◌, ◌≢◌, ℕ, zero, suc, ◌-◌, ◌<◌, ◌≤◌, Bool, true, false, cond, ◌&&◌, eqb, ltb, List, [], ◌∷◌, length, map, fold, reverse, get_or, Option, Some, None, refl, ap, sym, subst, ◌∙◌, arith, ltb-true, ltb-false, eqb-true, ne_eqb}
+-- What steps write at nodes that aren't marked, and where no node of an option is.
+use Rattle.std.proofs.Common.{◌≡◌, ℕ, ◌+◌, ◌*◌, true, false, not, cond, eqb, List, [], ◌∷◌, ◌++◌, length, map, filter, get_or, reverse, refl, ap, ◌∙◌, arith, fold, ◌≢◌, zero, suc, ◌-◌, ◌<◌, ◌≤◌, Bool, ltb, Option, Some, None, sym, subst, ltb-true, ltb-false, eqb-true, ne_eqb}
 use Rattle.std.specs.Prelude.{slice_get, is_some}
 use Rattle.std.specs.List.{AllByRecursion}
+use Rattle.std.proofs.lemmas.Grind.{common_steps}
+use Rattle.std.proofs.lemmas.List.{reverse-append, length-map}
 use Rattle.std.proofs.lemmas.Bool.{eqb-false}
-use Rattle.std.proofs.lemmas.List.{length-map}
 use Rattle.std.proofs.lemmas.Option.{slice_get_within, slice_get-get_or, same_Some}
-use Rattle.xc_input.specs.declared.problem.Use.{Use}
 use Rattle.xc_input.specs.Problem.{Puzzle, colour_in, uses_of, item_count, option_count}
+use Rattle.xc_input.specs.declared.problem.Use.{Use}
+use Rattle.xc_dance.specs.declared.links.nodes.Nodes.{Nodes}
+use Rattle.xc_dance.specs.Fields.{Node, layout, link_place, unused, own, used, spacer_place, is_marked}
+use Rattle.xc_dance.specs.Links.Steps.{unlinked, relinked, hidden, shown, hide_cost, others_of}
+use Rattle.xc_dance.specs.Links.Walks.{costs}
 use Rattle.xc_dance.specs.declared.dance.Move.{Move}
 use Rattle.xc_dance.specs.declared.dance.Move.TheVariants.{Purify}
-use Rattle.xc_dance.specs.declared.links.nodes.Nodes.{Nodes}
 use Rattle.xc_dance.specs.Links.Span.{Span}
-use Rattle.xc_dance.specs.Moves.{AreLegal, listed_numbers}
-use Rattle.xc_dance.specs.Fields.{Node, unused, own, used, layout, spacer_place, is_in, is_marked}
+use Rattle.xc_dance.specs.Moves.{AreLegal}
 use Rattle.xc_dance.specs.Links.Cells.{color_in, nodes_after}
 use Rattle.xc_dance.specs.Links.Laid.{IsLaid}
 use Rattle.xc_dance.specs.Links.Made.{IsFitted}
 use Rattle.xc_dance.specs.Links.OptionPlaces.{place_at}
 use Rattle.xc_dance.specs.Links.OptionSpans.{span_of, spans_of}
-use Rattle.xc_dance.specs.Links.Steps.{hidden, shown, others_of}
 use Rattle.xc_dance.specs.Links.ListWalks.{left_node, back_node}
 use Rattle.xc_dance.specs.Links.Unmarked.{IsPlain, HasUnmarked, IsUnmarked}
-use Rattle.xc_dance.proofs.LinkedTables.Mapped.{get_map}
-use Rattle.xc_dance.proofs.LinkedTables.SpacerPlaces.{spacer_at}
-use Rattle.xc_dance.proofs.LinkedTables.SpanLemmas.{there}
-use Rattle.xc_dance.proofs.LinkedTables.UnmarkedCosts.{hidden_color, shown_color, colors-are}
+use Rattle.xc_dance.proofs.LinkedTables.OneOption.{is_mark}
+use Rattle.xc_dance.proofs.LinkedTables.LinkColumns.{get_map}
+use Rattle.xc_dance.proofs.LinkedTables.PlaceLemmas.{spacer_at, there}
+
+-- ---- what steps of hide and unhide write: 3 at each node that isn't marked
+
+abbrev pub unmarked_costs : List ℕ → List ℕ → ℕ
+unmarked_costs color [] = 0
+unmarked_costs color (q ∷ qs) = cond (eqb (get_or color q 0) 4294967295) 0 3 + unmarked_costs color qs
+
+pub hidden_color : (t : Nodes) (q : ℕ) → (hidden t q).color ≡ t.color
+hidden_color t q = elim (eqb (get_or t.color q 0) 4294967295) as (λ b. (cond b t (unlinked t q)).color ≡ t.color) [ true ↦ refl | false ↦ refl ]
+
+pub shown_color : (t : Nodes) (q : ℕ) → (shown t q).color ≡ t.color
+shown_color t q = elim (eqb (get_or t.color q 0) 4294967295) as (λ b. (cond b t (relinked t q)).color ≡ t.color) [ true ↦ refl | false ↦ refl ]
+
+-- steps that leave the colours as they are
+pub costs-are : (step : Nodes → ℕ → Nodes) → ((t : Nodes) (q : ℕ) → (step t q).color ≡ t.color) → (t : Nodes) (qs : List ℕ) → costs step hide_cost t qs ≡ unmarked_costs t.color qs
+costs-are step same t [] = refl
+costs-are step same t (q ∷ qs) = ap (λ n. hide_cost t q + n) (costs-are step same (step t q) qs ∙ ap (λ c. unmarked_costs c qs) (same t q))
+
+pub colors-are : (step : Nodes → ℕ → Nodes) → ((t : Nodes) (q : ℕ) → (step t q).color ≡ t.color) → (t : Nodes) (qs : List ℕ) → (fold step t qs).color ≡ t.color
+colors-are step same t [] = refl
+colors-are step same t (q ∷ qs) = colors-are step same (step t q) qs ∙ same t q
+
+unmarked-append : (color ps qs : List ℕ) → unmarked_costs color (ps ++ qs) ≡ unmarked_costs color ps + unmarked_costs color qs
+unmarked-append color [] qs = omega arith
+unmarked-append color (p ∷ ps) qs = let r = unmarked-append color ps qs in omega (arith, r)
+
+-- back it is the same
+pub unmarked-reverse : (color qs : List ℕ) → unmarked_costs color (reverse qs) ≡ unmarked_costs color qs
+unmarked-reverse color [] = grind (arith, common_steps, reverse-append, unmarked-append)
+unmarked-reverse color (q ∷ qs) = grind (arith, common_steps, reverse-append, unmarked-append, unmarked-reverse color qs)
+
+-- for option o's nodes in the lists of the items js
+pub unmarked_items : (p : Puzzle) (col : Node → ℕ) (o : ℕ) (js : List ℕ) → unmarked_costs (map col (layout p)) (map (λ j. link_place p j o) js) ≡ 3 * length (filter (λ j. not (is_mark p col o j)) js)
+unmarked_items p col o [] = grind (arith, common_steps)
+unmarked_items p col o (j ∷ js) = grind (arith, common_steps, unmarked_items p col o js)
+
+-- ---- where no use has a colour no node of an option is marked, and no walk marks one
 
 no_colour : (us : List Use) (j c : ℕ) → AllByRecursion (λ u. u.colour ≡ 0) us → colour_in us j ≡ Some c → c ≡ 0
 no_colour [] j c a e = cc
@@ -38,13 +76,9 @@ no_colour (u ∷ us) j c a e =
 
 -- a Purify marks with a colour
 never_marked : (p : Puzzle) (t : List Move) (i o : ℕ) → AreLegal p t → is_marked p t i o 0 ≡ false
-never_marked p [] i o legal = refl
-never_marked p (Purify j d ∷ t) i o legal =
-    let rest = never_marked p t i o legal.1 in
-    let some = legal.0.2 in
-    ap (λ b. cond ((eqb j i && b) && is_in o (listed_numbers p t i)) true (is_marked p t i o 0)) (ne_eqb d 0 (λ e. omega (arith, e, some)))
-    ∙ elim (eqb j i) as (λ a. cond ((a && false) && is_in o (listed_numbers p t i)) true (is_marked p t i o 0) ≡ false) [ true ↦ rest | false ↦ rest ]
-never_marked p (_ ∷ t) i o legal = never_marked p t i o legal.1
+never_marked p [] i o legal = grind (arith, common_steps, ne_eqb)
+never_marked p (Purify j d ∷ t) i o legal = grind (arith, common_steps, ne_eqb, never_marked p t i o legal.1)
+never_marked p (_ ∷ t) i o legal = grind (arith, common_steps, ne_eqb, never_marked p t i o legal.1)
 
 no_color : (p : Puzzle) (t : List Move) (q : ℕ) (n : Node) → IsLaid p → AreLegal p t → IsPlain p → item_count p < q → slice_get (layout p) q ≡ Some n → color_in p t n ≡ 0
 no_color p t q (own i) laid legal plain gt e =
@@ -53,8 +87,7 @@ no_color p t q (own i) laid legal plain gt e =
     absurd (omega (arith, at, r.1, gt))
 no_color p t q (used o u) laid legal plain gt e =
     let none : u.colour ≡ 0 = no_colour (uses_of p o) u.item u.colour (plain o) (laid.nodes.coloured q o u e) in
-    ap (λ c. cond (is_marked p t u.item o c) 4294967295 c) none
-    ∙ ap (λ b. cond b 4294967295 0) (never_marked p t u.item o legal)
+    grind (arith, common_steps, never_marked)
 no_color p t q _ laid legal plain gt e = refl
 
 past_end : (f : Node → ℕ) (ns : List Node) (q : ℕ) → length ns ≤ q → get_or (map f ns) q 0 ≡ 0
@@ -78,15 +111,7 @@ unmarked_behind p t q laid legal plain gt =
 -- ---- the spans
 
 pub used_behind : (p : Puzzle) (x o : ℕ) (u : Use) → IsLaid p → slice_get (layout p) x ≡ Some (used o u) → item_count p < x
-used_behind p x o u laid e =
-    elim (ltb (item_count p) x) as (λ b. ltb (item_count p) x ≡ b → item_count p < x) [
-      | true ↦ λ f. ltb-true (item_count p) x f
-      | false ↦ λ f.
-          elim (eqb x 0) as (λ b. eqb x 0 ≡ b → item_count p < x) [
-            | true ↦ λ g. (let z : Some unused ≡ Some (used o u) = ap (slice_get (layout p)) (sym (eqb-true x 0 g)) ∙ e in cc)
-            | false ↦ λ g. (let z : Some (own x) ≡ Some (used o u) = sym (laid.head x (omega (arith, eqb-false x 0 g)) (ltb-false (item_count p) x f)) ∙ e in cc)
-          ] refl
-    ] refl
+used_behind p x o u laid e = grind (arith, common_steps, eqb-false, eqb-true, ltb-false, ltb-true)
 
 pub starts_behind : (p : Puzzle) (o i : ℕ) → 0 < o → is_some (colour_in (uses_of p o) i) ≡ true → item_count p < spacer_place p (o - 1)
 starts_behind p zero i pos e = absurd (omega (arith, pos))

@@ -1,11 +1,15 @@
--- Walks over nodes, under way and at their end: for hide and unhide, down a list and up, and down nodes that come back.
-use Rattle.std.proofs.Common.{◌≡◌, ◌≢◌, ℕ, zero, suc, ◌+◌, ◌<◌, ◌≤◌, true, false, eqb, List, [], ◌∷◌, ◌++◌, length, get_or, drop, fold, refl, ap, sym, subst, ◌∙◌, arith, eqb-true}
+-- Walks over nodes, under way and at their end, along links and over places in a row.
+use Rattle.std.proofs.Common.{◌≡◌, ◌≢◌, ℕ, zero, suc, ◌+◌, ◌<◌, ◌≤◌, true, false, eqb, List, [], ◌∷◌, ◌++◌, length, get_or, drop, fold, refl, ap, sym, subst, ◌∙◌, arith, eqb-true, ◌-◌, reverse}
+use Rattle.std.specs.List.{range_with_len}
+use Rattle.std.proofs.lemmas.Grind.{common_steps}
 use Rattle.std.proofs.lemmas.Bool.{eqb-false}
-use Rattle.std.proofs.lemmas.List.{drop_more, drop_all}
+use Rattle.std.proofs.lemmas.List.{drop_more, drop_all, reverse-append}
 use Rattle.std.proofs.lemmas.List.Sums.{fold-append}
 use Rattle.xc_dance.specs.declared.links.nodes.Nodes.{Nodes}
-use Rattle.xc_dance.specs.Links.Steps.{followed, IsSpacer}
+use Rattle.xc_dance.specs.Links.Steps.{followed, IsSpacer, places}
 use Rattle.xc_dance.specs.Links.Walks.{costs, CanAll, CanFollow}
+
+-- ---- walks over nodes, under way and at their end: for hide and unhide, down a list and up, and down nodes that come back
 
 -- ---- steps at the places of a list
 
@@ -38,25 +42,15 @@ step_can {step} {writes} {Can} {t0} {all} {t} {left} {n} q more e h = (subst (Ca
 
 pub step_on : {step : Nodes → ℕ → Nodes} {writes : Nodes → ℕ → ℕ} {Can : Nodes → ℕ → Type 0} {t0 : Nodes} {all : List ℕ} {t : Nodes} {left : List ℕ} {n : ℕ} (q : ℕ) (more : List ℕ) (u : Nodes) (m : ℕ)
     → left ≡ q ∷ more → u ≡ step t q → m ≡ writes t q → Underway step writes Can t0 all t left n → Underway step writes Can t0 all u more (n + m)
-step_on {step} {writes} {Can} {t0} {all} {t} {left} {n} q more u m e is paid h =
-    let whole : costs step writes t left ≡ writes t q + costs step writes (step t q) more = ap (costs step writes t) e in
-    let cost = h.cost in
-    subst (λ (v : Nodes). Underway step writes Can t0 all v more (n + m)) (sym is)
-    (record { can = (subst (CanAll step Can t) e h.can).1; done = sym (ap (fold step t) e) ∙ h.done; cost = omega (arith, whole, cost, paid) })
+step_on {step} {writes} {Can} {t0} {all} {t} {left} {n} q more u m e is paid h = grind (arith, common_steps)
 
 pub steps_end : {step : Nodes → ℕ → Nodes} {writes : Nodes → ℕ → ℕ} {Can : Nodes → ℕ → Type 0} {t0 : Nodes} {all : List ℕ} {t : Nodes} {left : List ℕ} {n : ℕ} → left ≡ [] → Underway step writes Can t0 all t left n → Reached step writes t0 all t n
-steps_end {step} {writes} {Can} {t0} {all} {t} {left} {n} e h =
-    let cost = h.cost in
-    record { done = sym (ap (fold step t) e) ∙ h.done; cost = omega (arith, ap (costs step writes t) e, cost) }
+steps_end {step} {writes} {Can} {t0} {all} {t} {left} {n} e h = grind (arith, common_steps)
 
 -- one walk behind another
 pub both_reached : {step : Nodes → ℕ → Nodes} {writes : Nodes → ℕ → ℕ} {t0 : Nodes} {ps : List ℕ} {t : Nodes} {n : ℕ} (qs rs : List ℕ) (u : Nodes) (m : ℕ) → Reached step writes t0 ps t n → rs ≡ qs → u ≡ fold step t rs → m ≡ costs step writes t rs
     → Reached step writes t0 (ps ++ qs) u (n + m)
-both_reached {step} {writes} {t0} {ps} {t} {n} qs rs u m h same is paid =
-    let whole = costs-append step writes t0 ps qs in
-    let rest : m ≡ costs step writes (fold step t0 ps) qs = paid ∙ ap (costs step writes t) same ∙ ap (λ (v : Nodes). costs step writes v qs) h.done in
-    let cost = h.cost in
-    record { done = is ∙ ap (fold step t) same ∙ ap (λ (v : Nodes). fold step v qs) h.done ∙ sym (fold-append step t0 ps qs); cost = omega (arith, whole, rest, cost) }
+both_reached {step} {writes} {t0} {ps} {t} {n} qs rs u m h same is paid = grind (arith, common_steps, costs-append, fold-append)
 
 -- ---- up to a spacer
 
@@ -73,16 +67,8 @@ pub tells : {step : Nodes → ℕ → Nodes} {writes : Nodes → ℕ → ℕ} {C
 tells {step} {writes} {Can} {t0} {all} {t} {left} {n} q z knows met on spacer h =
     let u : Nodes = fold step t0 all in
     elim (eqb q z) as (λ b. eqb q z ≡ b → Tells t u q z left) [
-      | true ↦ λ e.
-          let same = eqb-true q z e in
-          let none = met same in
-          let is : t ≡ u = (steps_end none h).done in
-          let here : IsSpacer t q = subst (IsSpacer t) (sym same) (subst (λ (v : Nodes). IsSpacer v z) (sym is) spacer) in
-          record { within = here.place; low = λ l. absurd (omega (arith, l, here.top)); at = λ l. same; none = λ l. none; is = λ l. is }
-      | false ↦ λ e.
-          let next = on (eqb-false q z e) in
-          let can = knows t q (step_can q next.0 next.1 h) in
-          record { within = can.0; low = λ l. eqb-false q z e; at = λ l. absurd (omega (arith, l, can.1)); none = λ l. absurd (omega (arith, l, can.1)); is = λ l. absurd (omega (arith, l, can.1)) }
+      | true ↦ λ e. grind (arith, common_steps, eqb-true, steps_end)
+      | false ↦ λ e. grind (arith, common_steps, eqb-false, step_can)
     ] refl
 
 -- ---- along links
@@ -96,9 +82,6 @@ pub record Following (step : Nodes → ℕ → Nodes) (writes : Nodes → ℕ �
   pub walk : CanFollow step Can links t p (drop k all)
   pub done : fold step t (drop k all) ≡ fold step t0 all
   pub cost : n + costs step writes t (drop k all) ≡ costs step writes t0 all
-
-pub following : {step : Nodes → ℕ → Nodes} {Can : Nodes → ℕ → Type 0} {links : Nodes → List ℕ} {t : Nodes} {all : List ℕ} {q p : ℕ} (writes : Nodes → ℕ → ℕ) → q ≡ p → CanFollow step Can links t p all → Following step writes Can links t all t q 0 0
-following {step} {Can} {links} {t} {all} {q} {p} writes e walk = record { walk = subst (λ x. CanFollow step Can links t x all) (sym e) walk; done = refl; cost = omega arith }
 
 -- the node that it is at comes first of those that are left
 pub record Here (step : Nodes → ℕ → Nodes) (Can : Nodes → ℕ → Type 0) (links : Nodes → List ℕ) (all : List ℕ) (t : Nodes) (p k : ℕ) : Type 0 where
@@ -122,11 +105,32 @@ follow_on {step} {writes} {Can} {links} {t0} {all} {t} {p} {k} {n} u q m lt is t
     let next : q ≡ get_or (links (step t p)) p 0 = to ∙ ap (λ (v : Nodes). get_or (links v) p 0) is in
     let whole : costs step writes t (drop k all) ≡ writes t p + costs step writes (step t p) rest = ap (costs step writes t) here.first in
     let cost = h.cost in
-    subst (λ (v : Nodes). Following step writes Can links t0 all v q (k + 1) (n + m)) (sym is)
-    (record { walk = subst (λ x. CanFollow step Can links (step t p) x rest) (sym next) here.next; done = sym (ap (fold step t) here.first) ∙ h.done; cost = omega (arith, whole, cost, paid) })
+    grind (arith, common_steps)
 
 pub follow_end : {step : Nodes → ℕ → Nodes} {writes : Nodes → ℕ → ℕ} {Can : Nodes → ℕ → Type 0} {links : Nodes → List ℕ} {t0 : Nodes} {all : List ℕ} {t : Nodes} {p k n : ℕ} → length all ≤ k → Following step writes Can links t0 all t p k n → Reached step writes t0 all t n
-follow_end {step} {writes} {Can} {links} {t0} {all} {t} {p} {k} {n} le h =
-    let nil : drop k all ≡ [] = drop_all k all le in
-    let cost = h.cost in
-    record { done = sym (ap (fold step t) nil) ∙ h.done; cost = omega (arith, ap (costs step writes t) nil, cost) }
+follow_end {step} {writes} {Can} {links} {t0} {all} {t} {p} {k} {n} le h = grind (arith, common_steps, drop_all)
+
+-- ---- places in a row, one by one
+
+pub places_none : (a b : ℕ) → b ≤ a → places a b ≡ []
+places_none a b le = let z : b - a ≡ 0 = omega (arith, le) in ap (range_with_len a) z
+
+-- the first of the places comes before the others
+pub places_more : (a b : ℕ) → a < b → places a b ≡ a ∷ places (a + 1) b
+places_more a b h = let e : b - a ≡ suc (b - (a + 1)) = omega arith in ap (range_with_len a) e
+
+range_with_len_push : (a n : ℕ) → range_with_len a (suc n) ≡ range_with_len a n ++ (a + n) ∷ []
+range_with_len_push a zero = grind (arith, common_steps)
+range_with_len_push a (suc n) = grind (arith, common_steps, range_with_len_push (a + 1) n)
+
+-- the last of the places comes behind the others
+pub places_push : (a b : ℕ) → a ≤ b → places a (b + 1) ≡ places a b ++ b ∷ []
+places_push a b h = grind (arith, common_steps, range_with_len_push)
+
+-- from the last back
+pub reverse-places : (a b : ℕ) → a ≤ b → reverse (places a (b + 1)) ≡ b ∷ reverse (places a b)
+reverse-places a b h = ap reverse (places_push a b h) ∙ reverse-append (places a b) (b ∷ [])
+
+-- the places up to q, from the last back
+pub last_first : (a q : ℕ) → a < q → reverse (places a q) ≡ (q - 1) ∷ reverse (places a (q - 1))
+last_first a q h = grind (arith, common_steps, reverse-places)

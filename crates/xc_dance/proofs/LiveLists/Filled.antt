@@ -1,5 +1,6 @@
 -- The lists before any move, filled option by option.
-use Rattle.std.proofs.Common.{ℕ, zero, suc, ◌≡◌, ◌≢◌, ◌+◌, ◌<◌, Bool, true, false, cond, eqb, List, [], ◌∷◌, ◌++◌, length, get_or, set, map, take, replicate, refl, ap, ap₂, sym, ◌∙◌, arith, subst}
+use Rattle.std.proofs.Common.{ℕ, zero, suc, ◌≡◌, ◌≢◌, ◌+◌, ◌<◌, Bool, true, false, cond, eqb, List, [], ◌∷◌, ◌++◌, length, get_or, set, map, take, replicate, refl, ap, ap₂, sym, ◌∙◌, arith}
+use Rattle.std.proofs.lemmas.Grind.{common_steps}
 use Rattle.std.specs.Prelude.{AllPairs}
 use Rattle.std.specs.List.{range_with_len}
 use Rattle.std.proofs.lemmas.Bool.{ne_eqb}
@@ -7,7 +8,7 @@ use Rattle.std.proofs.lemmas.List.{length-take-le, get_or-take, get_or_default, 
 use Rattle.std.proofs.lemmas.List.Folds.{list_any_none}
 use Rattle.std.proofs.lemmas.List.Elements.{filter-append}
 use Rattle.xc_input.specs.declared.problem.Use.{Use}
-use Rattle.xc_input.specs.Problem.{Puzzle, Numbered, numbered_from, item_count, holds, holding}
+use Rattle.xc_input.specs.Problem.{Puzzle, Numbered, numbered_from, item_count, holding}
 use Rattle.xc_dance.specs.Lists.Taking.{list_at}
 use Rattle.xc_dance.specs.Lists.Losing.{enlisted_from, enlisted, has_use, lists_before}
 use Rattle.xc_dance.specs.declared.dance.Move.{Move}
@@ -23,18 +24,14 @@ enlisted_none o n [] = refl
 enlisted_none o n (l ∷ ls) = ap (λ ks. l ∷ ks) (enlisted_none o (n + 1) ls)
 
 enlisted_above : (us : List Use) (u : Use) (o n : ℕ) (ls : List (List ℕ)) → u.item < n → enlisted_from us o n ls ≡ enlisted_from (us ++ u ∷ []) o n ls
-enlisted_above us u o n [] lt = refl
-enlisted_above us u o n (l ∷ ls) lt =
-    ap₂ (λ k ks. k ∷ ks) (ap (λ b. cond b (l ++ o ∷ []) l) (sym (has_use_other us u n (omega (arith, lt))))) (enlisted_above us u o (n + 1) ls (omega (arith, lt)))
+enlisted_above us u o n [] lt = grind (arith, common_steps, has_use_other)
+enlisted_above us u o n (l ∷ ls) lt = grind (arith, common_steps, has_use_other, enlisted_above us u o (n + 1) ls (omega (arith, lt)))
 
 -- the item of one more use has the option
 pub enlisted_more : (us : List Use) (u : Use) (o n k : ℕ) (ls : List (List ℕ)) → n + k ≡ u.item → has_use us u.item ≡ false → k < length ls →
     set (enlisted_from us o n ls) k (list_at (enlisted_from us o n ls) k ++ o ∷ []) ≡ enlisted_from (us ++ u ∷ []) o n ls
 enlisted_more us u o n k [] e new lt = refl
-enlisted_more us u o n zero (l ∷ ls) e new lt =
-    let same : u.item ≡ n = omega (arith, e) in
-    let none : has_use us n ≡ false = subst (λ i. has_use us i ≡ false) same new in
-    ap₂ (λ k ks. k ∷ ks) (rw (none, has_use_here us u n same) refl) (enlisted_above us u o (n + 1) ls (omega (arith, same)))
+enlisted_more us u o n zero (l ∷ ls) e new lt = grind (arith, common_steps, enlisted_above, has_use_here)
 enlisted_more us u o n (suc k) (l ∷ ls) e new lt =
     let other : u.item ≢ n = omega (arith, e) in
     ap₂ (λ k ks. k ∷ ks) (ap (λ b. cond b (l ++ o ∷ []) l) (sym (has_use_other us u n other))) (enlisted_more us u o (n + 1) k ls (omega (arith, e)) new (omega (arith, lt)))
@@ -62,28 +59,18 @@ enlisted_range us o f g h a zero = refl
 enlisted_range us o f g h a (suc n) = ap₂ (λ l ls. l ∷ ls) (h a) (enlisted_range us o f g h (a + 1) n)
 
 numbered_more : (os : List (List Use)) (us : List Use) (n : ℕ) → numbered_from n (os ++ us ∷ []) ≡ numbered_from n os ++ (record { number = n + length os; uses = us }) ∷ []
-numbered_more [] us n = let same : n ≡ n + 0 = omega arith in ap (λ k. (let x : Numbered = record { number = k; uses = us } in x ∷ [])) same
-numbered_more (vs ∷ os) us n =
-    let same : n + 1 + length os ≡ n + suc (length os) = omega arith in
-    ap (λ l. (let x : Numbered = record { number = n; uses = vs } in x ∷ l)) (numbered_more os us (n + 1) ∙ ap (λ k. numbered_from (n + 1) os ++ (let x : Numbered = record { number = k; uses = us } in x ∷ [])) same)
+numbered_more [] us n = grind (arith, common_steps)
+numbered_more (vs ∷ os) us n = grind (arith, common_steps, numbered_more os us (n + 1))
 
 at_end : (front : List ℕ) (x : Numbered) (n : ℕ) → n ≡ x.number → (b : Bool) → cond b (front ++ n ∷ []) front ≡ front ++ map (λ (o : Numbered). o.number) (cond b (x ∷ []) [])
 at_end front x n e true = ap (λ k. front ++ k ∷ []) e
 at_end front x n e false = sym (append-nil front)
 
 filled_more : (os : List (List Use)) (us : List Use) (i : ℕ) → cond (has_use us i) (map (λ o. o.number) (holding i (numbered_from 1 os)) ++ (length os + 1) ∷ []) (map (λ o. o.number) (holding i (numbered_from 1 os))) ≡ map (λ o. o.number) (holding i (numbered_from 1 (os ++ us ∷ [])))
-filled_more os us i =
-    let x : Numbered = record { number = 1 + length os; uses = us } in
-    let all = ap (λ l. map (λ (o : Numbered). o.number) (holding i l)) (numbered_more os us 1)
-    ∙ ap (λ l. map (λ (o : Numbered). o.number) l) (filter-append (λ (o : Numbered). holds o i) (numbered_from 1 os) (x ∷ []))
-    ∙ map-append (λ (o : Numbered). o.number) (holding i (numbered_from 1 os)) (holding i (x ∷ [])) in
-    let front = map (λ (o : Numbered). o.number) (holding i (numbered_from 1 os)) in
-    at_end front x (length os + 1) (omega arith) (has_use us i)
-    ∙ ap (λ b. front ++ map (λ (o : Numbered). o.number) (cond b (x ∷ []) [])) (sym (holds_use us i)) ∙ sym all
+filled_more os us i = grind (arith, common_steps, at_end, filter-append, holds_use, map-append, numbered_more)
 
 pub lists_more : (p : Puzzle) (os : List (List Use)) (us : List Use) (o : ℕ) → o ≡ length os + 1 → enlisted us o (lists_of p os) ≡ lists_of p (os ++ us ∷ [])
-lists_more p os us o e =
-    rw e (enlisted_range us (length os + 1) (λ i. map (λ o. o.number) (holding i (numbered_from 1 os))) (λ i. map (λ o. o.number) (holding i (numbered_from 1 (os ++ us ∷ [])))) (filled_more os us) 1 (item_count p))
+lists_more p os us o e = grind (arith, common_steps, enlisted_range, filled_more)
 
 pub lists_none : (p : Puzzle) → replicate (item_count p) [] ≡ lists_of p []
 lists_none p = empty 1 (item_count p)

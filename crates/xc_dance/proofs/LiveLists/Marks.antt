@@ -1,5 +1,6 @@
 -- Going back to a mark.
 use Rattle.std.proofs.Common.{ℕ, suc, ◌≡◌, ◌≤◌, true, false, cond, leb, List, [], ◌∷◌, length, refl, ap, ap₂, ◌∙◌, arith, le-leb}
+use Rattle.std.proofs.lemmas.Grind.{common_steps}
 use Rattle.std.proofs.lemmas.Bool.{lt-leb, leb-true, leb-false}
 use Rattle.xc_dance.specs.declared.lists.undo_log.Removed.{Removed}
 use Rattle.xc_dance.specs.Lists.Versions.{Versions}
@@ -7,16 +8,12 @@ use Rattle.xc_dance.specs.Lists.Taking.{restored, still_taken, lists_at_marks, A
 
 -- nothing above the mark
 pub restored_at : (k : ℕ) (es : List Removed) (ls : List (List ℕ)) → length es ≤ k → (restored k es ls ≡ ls) × (still_taken k es ≡ es)
-restored_at k [] ls le = (refl, refl)
-restored_at k (e ∷ es) ls le =
-    let past : leb k (length es) ≡ false = lt-leb k (length es) (omega (arith, le)) in
-    (rw past refl, rw past refl)
+restored_at k [] ls le = grind (arith, common_steps, lt-leb)
+restored_at k (e ∷ es) ls le = grind (arith, common_steps, lt-leb)
 
 -- what is taken after the mark doesn't count
 pub restored_more : (rooms : List ℕ) (k : ℕ) (e : Removed) (es : List Removed) (new old : List (List ℕ)) → k ≤ length es → IsPutBack rooms e new old → (restored k (e ∷ es) new ≡ restored k es old) × (still_taken k (e ∷ es) ≡ still_taken k es)
-restored_more rooms k e es new old le back =
-    let within : leb k (length es) ≡ true = le-leb k (length es) le in
-    (rw within (ap (λ ls. restored k es ls) back.1), rw within refl)
+restored_more rooms k e es new old le back = grind (arith, common_steps, le-leb)
 
 -- how much is still taken
 pub length-still_taken : (k : ℕ) (es : List Removed) → k ≤ length es → length (still_taken k es) ≡ k
@@ -29,10 +26,8 @@ length-still_taken k (e ∷ es) le =
 
 -- the lists at the marks stay where a number is taken
 pub marks_more : (rooms : List ℕ) (ks : List ℕ) (e : Removed) (es : List Removed) (new old : List (List ℕ)) → AreMarks ks (length es) → IsPutBack rooms e new old → lists_at_marks ks (e ∷ es) new ≡ lists_at_marks ks es old
-marks_more rooms [] e es new old marks back = refl
-marks_more rooms (k ∷ ks) e es new old marks back =
-    let more = restored_more rooms k e es new old marks.0 back in
-    rw (more.0, more.1) refl
+marks_more rooms [] e es new old marks back = grind (arith, common_steps, restored_more)
+marks_more rooms (k ∷ ks) e es new old marks back = grind (arith, common_steps, restored_more)
 
 pub marks_weaker : (ks : List ℕ) (m n : ℕ) → m ≤ n → AreMarks ks m → AreMarks ks n
 marks_weaker [] m n le marks = tt

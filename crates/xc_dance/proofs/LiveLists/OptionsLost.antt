@@ -1,6 +1,7 @@
 -- Lists that lose an option use by use, and options one by one.
-use Rattle.std.proofs.Common.{ℕ, zero, suc, ◌≡◌, ◌≢◌, ◌+◌, ◌-◌, ◌<◌, ◌≤◌, Bool, true, false, not, cond, eqb, ◌&&◌, ◌||◌, List, [], ◌∷◌, ◌++◌, length, get_or, set, Option, Some, None, refl, ap, ap₂, sym, ◌∙◌, arith, subst, eq-eqb, eqb-true}
-use Rattle.std.specs.Prelude.{IsTrue, unwrap_or}
+use Rattle.std.proofs.Common.{ℕ, zero, suc, ◌≡◌, ◌≢◌, ◌+◌, ◌-◌, ◌<◌, ◌≤◌, Bool, true, false, not, cond, eqb, ◌&&◌, ◌||◌, List, [], ◌∷◌, ◌++◌, length, get_or, set, refl, ap, ap₂, sym, ◌∙◌, arith, eq-eqb, eqb-true}
+use Rattle.std.proofs.lemmas.Grind.{common_steps}
+use Rattle.std.specs.Prelude.{IsTrue}
 use Rattle.std.specs.List.{list_any}
 use Rattle.std.proofs.lemmas.Bool.{ne_eqb}
 use Rattle.std.proofs.lemmas.List.Folds.{list_any-append}
@@ -8,7 +9,7 @@ use Rattle.std.proofs.lemmas.List.Elements.{All-filter, filter_agree}
 use Rattle.std.proofs.lemmas.Option.{slice_get_within}
 use Rattle.std.proofs.Math.Bool.{and-false, or-false, or-true, and_self}
 use Rattle.xc_input.specs.declared.problem.Use.{Use}
-use Rattle.xc_input.specs.Problem.{Puzzle, uses_of, numbered_get, option_count}
+use Rattle.xc_input.specs.Problem.{Puzzle, uses_of, option_count}
 use Rattle.xc_dance.specs.declared.dance.Move.{Move}
 use Rattle.xc_dance.specs.Moves.{is_open}
 use Rattle.xc_dance.specs.Lists.Taking.{less, list_at}
@@ -47,12 +48,7 @@ less_unused p i o l h none = less-absent o l (λ k lt e. (let used = h.1 k 0 lt 
 
 -- an option that has a use is one of the problem
 pub known_option : (p : Puzzle) (o i : ℕ) → has_use (uses_of p o) i ≡ true → (1 ≤ o) × (o ≤ option_count p)
-known_option p o i used = by_number o (numbered_get p.options o) refl (ap (λ us. has_use us i) refl ∙ used)
-  where
-    by_number : (o : ℕ) (us : Option (List Use)) → numbered_get p.options o ≡ us → has_use (unwrap_or (numbered_get p.options o) []) i ≡ true → (1 ≤ o) × (o ≤ option_count p)
-    by_number zero us e h = absurd (cc h)
-    by_number (suc k) None e h = absurd (let none : has_use [] i ≡ true = subst (λ v. has_use (unwrap_or v []) i ≡ true) e h in cc none)
-    by_number (suc k) (Some us) e h = (omega arith, omega (arith, slice_get_within p.options k us e))
+known_option p o i used = grind (arith, common_steps, slice_get_within)
 
 -- ---- all lists
 
@@ -85,23 +81,18 @@ list_of p n zero (l ∷ ls) h lt = let same : n + 0 ≡ n = omega arith in rw sa
 list_of p n (suc k) (l ∷ ls) h lt = let same : n + suc k ≡ (n + 1) + k = omega arith in rw same (list_of p (n + 1) k ls h.1 (omega (arith, lt)))
 
 pub lose_none : (t : List Move) (j n : ℕ) (ls : List (List ℕ)) → lose_from t j [] n ls ≡ ls
-lose_none t j n [] = refl
-lose_none t j n (l ∷ ls) =
-    ap₂ (λ k ks. k ∷ ks) (elim (not (eqb n j) && is_open n t) as (λ b. cond b (less [] l) l ≡ l) [ true ↦ less_none l | false ↦ refl ]) (lose_none t j (n + 1) ls)
+lose_none t j n [] = grind (arith, common_steps, less_none)
+lose_none t j n (l ∷ ls) = grind (arith, common_steps, less_none, lose_none t j (n + 1) ls)
 
 pub lose_more : (t : List Move) (j : ℕ) (gone : List ℕ) (o n : ℕ) (ls : List (List ℕ)) → lose_from t j (o ∷ []) n (lose_from t j gone n ls) ≡ lose_from t j (gone ++ o ∷ []) n ls
-lose_more t j gone o n [] = refl
-lose_more t j gone o n (l ∷ ls) =
-    ap₂ (λ k ks. k ∷ ks)
-    (elim (not (eqb n j) && is_open n t) as (λ b. cond b (less (o ∷ []) (cond b (less gone l) l)) (cond b (less gone l) l) ≡ cond b (less (gone ++ o ∷ []) l) l) [ true ↦ less_more gone o l | false ↦ refl ])
-    (lose_more t j gone o (n + 1) ls)
+lose_more t j gone o n [] = grind (arith, common_steps, less_more)
+lose_more t j gone o n (l ∷ ls) = grind (arith, common_steps, less_more, lose_more t j gone o (n + 1) ls)
 
 -- the list of j itself stays
 pub lose_other : (t : List Move) (j : ℕ) (gone : List ℕ) (n k : ℕ) (ls : List (List ℕ)) → n + k ≡ j → list_at (lose_from t j gone n ls) k ≡ list_at ls k
-lose_other t j gone n k [] e = refl
-lose_other t j gone n zero (l ∷ ls) e =
-    let same : eqb n j ≡ true = eq-eqb n j (omega (arith, e)) in rw same refl
-lose_other t j gone n (suc k) (l ∷ ls) e = lose_other t j gone (n + 1) k ls (omega (arith, e))
+lose_other t j gone n k [] e = grind (arith, common_steps, eq-eqb)
+lose_other t j gone n zero (l ∷ ls) e = grind (arith, common_steps, eq-eqb)
+lose_other t j gone n (suc k) (l ∷ ls) e = grind (arith, common_steps, eq-eqb, lose_other t j gone (n + 1) k ls (omega (arith, e)))
 
 -- an option of j's list, read while other lists lose options
 pub read_option : (p : Puzzle) (t : List Move) (j : ℕ) (gone : List ℕ) (at : ℕ) (row : List ℕ) (now ls : List (List ℕ)) → 1 ≤ j → j ≤ length ls → AreListsFrom p 1 ls →
@@ -118,9 +109,8 @@ read_option p t j gone at row now ls low high are is read lt =
 -- ---- use by use
 
 pub hidden_none : (t : List Move) (j o n : ℕ) (ls : List (List ℕ)) → hidden_from t j [] o n ls ≡ ls
-hidden_none t j o n [] = refl
-hidden_none t j o n (l ∷ ls) =
-    ap₂ (λ k ks. k ∷ ks) (ap (λ b. cond b (less (o ∷ []) l) l) (and-false (not (eqb n j) && is_open n t))) (hidden_none t j o (n + 1) ls)
+hidden_none t j o n [] = grind (arith, common_steps, and-false)
+hidden_none t j o n (l ∷ ls) = grind (arith, common_steps, and-false, hidden_none t j o (n + 1) ls)
 
 has_use_more : (us : List Use) (u : Use) (i : ℕ) → has_use (us ++ u ∷ []) i ≡ (has_use us i || eqb u.item i)
 has_use_more us u i = list_any-append (λ v. eqb v.item i) us (u ∷ []) ∙ ap (λ b. has_use us i || b) (or-false (eqb u.item i))
@@ -132,20 +122,14 @@ pub has_use_here : (us : List Use) (u : Use) (i : ℕ) → u.item ≡ i → has_
 has_use_here us u i e = has_use_more us u i ∙ ap (λ b. has_use us i || b) (eq-eqb u.item i e) ∙ or-true (has_use us i)
 
 hidden_above : (t : List Move) (j : ℕ) (us : List Use) (u : Use) (o n : ℕ) (ls : List (List ℕ)) → u.item < n → hidden_from t j us o n ls ≡ hidden_from t j (us ++ u ∷ []) o n ls
-hidden_above t j us u o n [] lt = refl
-hidden_above t j us u o n (l ∷ ls) lt =
-    ap₂ (λ k ks. k ∷ ks) (ap (λ b. cond ((not (eqb n j) && is_open n t) && b) (less (o ∷ []) l) l) (sym (has_use_other us u n (omega (arith, lt))))) (hidden_above t j us u o (n + 1) ls (omega (arith, lt)))
+hidden_above t j us u o n [] lt = grind (arith, common_steps, has_use_other)
+hidden_above t j us u o n (l ∷ ls) lt = grind (arith, common_steps, has_use_other, hidden_above t j us u o (n + 1) ls (omega (arith, lt)))
 
 -- the item of one more use loses the option
 pub hidden_more : (t : List Move) (j : ℕ) (us : List Use) (u : Use) (o n k : ℕ) (ls : List (List ℕ)) → n + k ≡ u.item → (not (eqb u.item j) && is_open u.item t) ≡ true →
     set (hidden_from t j us o n ls) k (less (o ∷ []) (list_at (hidden_from t j us o n ls) k)) ≡ hidden_from t j (us ++ u ∷ []) o n ls
 hidden_more t j us u o n k [] e c = refl
-hidden_more t j us u o n zero (l ∷ ls) e c =
-    let same : u.item ≡ n = omega (arith, e) in
-    let open_here : (not (eqb n j) && is_open n t) ≡ true = subst (λ i. (not (eqb i j) && is_open i t) ≡ true) same c in
-    ap₂ (λ k ks. k ∷ ks)
-    (rw (open_here, has_use_here us u n same) (elim (has_use us n) as (λ b. less (o ∷ []) (cond b (less (o ∷ []) l) l) ≡ less (o ∷ []) l) [ true ↦ less_less o l | false ↦ refl ]))
-    (hidden_above t j us u o (n + 1) ls (omega (arith, same)))
+hidden_more t j us u o n zero (l ∷ ls) e c = grind (arith, common_steps, has_use_here, hidden_above, less_less)
 hidden_more t j us u o n (suc k) (l ∷ ls) e c =
     let other : u.item ≢ n = omega (arith, e) in
     ap₂ (λ k ks. k ∷ ks) (ap (λ b. cond ((not (eqb n j) && is_open n t) && b) (less (o ∷ []) l) l) (sym (has_use_other us u n other))) (hidden_more t j us u o (n + 1) k ls (omega (arith, e)) c)
@@ -153,25 +137,10 @@ hidden_more t j us u o n (suc k) (l ∷ ls) e c =
 -- a use of an item that stays as it is
 pub hidden_same : (t : List Move) (j : ℕ) (us : List Use) (u : Use) (o n : ℕ) (ls : List (List ℕ)) → (not (eqb u.item j) && is_open u.item t) ≡ false →
     hidden_from t j us o n ls ≡ hidden_from t j (us ++ u ∷ []) o n ls
-hidden_same t j us u o n [] c = refl
-hidden_same t j us u o n (l ∷ ls) c = ap₂ (λ k ks. k ∷ ks) (by_item (eqb u.item n) refl) (hidden_same t j us u o (n + 1) ls c)
-  where
-    by_item : (b : Bool) → eqb u.item n ≡ b → cond ((not (eqb n j) && is_open n t) && has_use us n) (less (o ∷ []) l) l ≡ cond ((not (eqb n j) && is_open n t) && has_use (us ++ u ∷ []) n) (less (o ∷ []) l) l
-    by_item true q =
-        let same : u.item ≡ n = eqb-true u.item n q in
-        let stays : (not (eqb n j) && is_open n t) ≡ false = subst (λ i. (not (eqb i j) && is_open i t) ≡ false) same c in
-        rw stays refl
-    by_item false q =
-        let other : u.item ≢ n = λ e. (let y = eq-eqb u.item n e in cc) in
-        ap (λ b. cond ((not (eqb n j) && is_open n t) && b) (less (o ∷ []) l) l) (sym (has_use_other us u n other))
+hidden_same t j us u o n [] c = grind (arith, common_steps, eq-eqb, eqb-true, has_use_other)
+hidden_same t j us u o n (l ∷ ls) c = grind (arith, common_steps, eq-eqb, eqb-true, has_use_other, hidden_same t j us u o (n + 1) ls c)
 
 -- once all uses are gone through
 pub hidden_all : (p : Puzzle) (t : List Move) (j o n : ℕ) (ls : List (List ℕ)) → AreListsFrom p n ls → hidden_from t j (uses_of p o) o n ls ≡ lose_from t j (o ∷ []) n ls
-hidden_all p t j o n [] h = refl
-hidden_all p t j o n (l ∷ ls) h =
-    ap₂ (λ k ks. k ∷ ks) (by_use (not (eqb n j) && is_open n t) (has_use (uses_of p o) n) refl) (hidden_all p t j o (n + 1) ls h.1)
-  where
-    by_use : (a b : Bool) → has_use (uses_of p o) n ≡ b → cond (a && has_use (uses_of p o) n) (less (o ∷ []) l) l ≡ cond a (less (o ∷ []) l) l
-    by_use true true q = rw q refl
-    by_use true false q = rw q (sym (less_unused p n o l h.0 q))
-    by_use false b q = refl
+hidden_all p t j o n [] h = grind (arith, common_steps, less_unused)
+hidden_all p t j o n (l ∷ ls) h = grind (arith, common_steps, less_unused, hidden_all p t j o (n + 1) ls h.1)

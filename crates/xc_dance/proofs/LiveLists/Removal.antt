@@ -1,5 +1,6 @@
 -- A number that is taken out of a list that rises, and put back.
-use Rattle.std.proofs.Common.{ℕ, zero, suc, ◌≡◌, ◌≢◌, ◌+◌, ◌<◌, ◌≤◌, Bool, true, false, eqb, ltb, ltb-true, ltb-false, List, [], ◌∷◌, length, get_or, set, refl, ap, ap₂, sym, ◌∙◌, arith, subst, eq-eqb, ne_eqb, vec_capacity, sum_by}
+use Rattle.std.proofs.Common.{ℕ, zero, suc, ◌≡◌, ◌≢◌, ◌+◌, ◌<◌, ◌≤◌, Bool, true, false, eqb, ltb, ltb-true, ltb-false, List, [], ◌∷◌, length, get_or, set, refl, ap, sym, arith, eq-eqb, ne_eqb, vec_capacity, sum_by}
+use Rattle.std.proofs.lemmas.Grind.{common_steps}
 use Rattle.std.specs.List.{insert, remove}
 use Rattle.std.specs.Global.{Vec}
 use Rattle.std.proofs.lemmas.List.{map-set, get_or-map, get_or-set_same, set-get_or, length-set, length-map, set-set}
@@ -19,10 +20,8 @@ less-absent x (y ∷ ys) h =
     rw here (ap (λ l. y ∷ l) (less-absent x ys (λ k lt. h (suc k) (omega (arith, lt)))))
 
 pub less-below : (x n : ℕ) (xs : List ℕ) → x ≤ n → Rises n xs → less (x ∷ []) xs ≡ xs
-less-below x n [] le r = refl
-less-below x n (y ∷ ys) le r =
-    let here : eqb x y ≡ false = ne_eqb x y (omega (arith, r.0)) in
-    rw here (ap (λ l. y ∷ l) (less-below x y ys (omega (arith, r.0)) r.1))
+less-below x n [] le r = grind (arith, common_steps, ne_eqb)
+less-below x n (y ∷ ys) le r = grind (arith, common_steps, ne_eqb, less-below x y ys (omega (arith, r.0)) r.1)
 
 pub above : (n : ℕ) (xs : List ℕ) (k : ℕ) → Rises n xs → k < length xs → n < get_or xs k 0
 above n [] k r lt = absurd (omega (arith, lt))
@@ -32,9 +31,7 @@ above n (y ∷ ys) (suc k) r lt = let later = above y ys k r.1 (omega (arith, lt
 -- the number goes from its place
 pub less-remove : (n : ℕ) (xs : List ℕ) (k : ℕ) → Rises n xs → k < length xs → less (get_or xs k 0 ∷ []) xs ≡ remove xs k
 less-remove n [] k r lt = absurd (omega (arith, lt))
-less-remove n (y ∷ ys) zero r lt =
-    let here : eqb y y ≡ true = eq-eqb y y refl in
-    rw here (less-below y y ys (omega arith) r.1)
+less-remove n (y ∷ ys) zero r lt = grind (arith, common_steps, eq-eqb, less-below)
 less-remove n (y ∷ ys) (suc k) r lt =
     let x = get_or ys k 0 in
     let behind : y < x = above y ys k r.1 (omega (arith, lt)) in
@@ -81,35 +78,14 @@ room_at ls k d lt = get_or-map (λ (l : Vec ℕ). vec_capacity l) ls k d 0 lt
 pub removed : (rooms : List ℕ) (ls : List (List ℕ)) (list place number : ℕ) → list < length ls → place < length (list_at ls list) →
     get_or (list_at ls list) place 0 ≡ number → length (list_at ls list) ≤ get_or rooms list 0 →
     IsPutBack rooms (record { place = place; list = list; number = number }) (set ls list (remove (list_at ls list) place)) ls
-removed rooms ls list place number lt within is fits =
-    let row = list_at ls list in
-    let new = set ls list (remove row place) in
-    let read : list_at new list ≡ remove row place = get_or-set_same ls list (remove row place) [] lt in
-    let shorter = length-remove row place within in
-    let size = length-set ls list (remove row place) in
-    let read_length = ap (λ (l : List ℕ). length l) read in
-    let back : insert (list_at new list) place number ≡ row = ap₂ (λ (l : List ℕ) n. insert l place n) read (sym is) ∙ insert-remove row place 0 within in
-    let whole : set new list (insert (list_at new list) place number) ≡ ls =
-    ap (λ (l : List ℕ). set new list l) back ∙ set-set ls list (remove row place) row ∙ set-get_or ls list [] in
-    ((omega (arith, lt, size), omega (arith, within, shorter, read_length), omega (arith, within, shorter, read_length, fits)), whole)
+removed rooms ls list place number lt within is fits = grind (arith, common_steps, get_or-set_same, insert-remove, length-remove, length-set, set-get_or, set-set)
 
 -- as a vector's row is changed
 pub row_removed : (ls : List (Vec ℕ)) (new : Vec ℕ) (list place number : ℕ) (row : Vec ℕ) → list < length ls → row ≡ get_or ls list row →
     place < length row.items → get_or row.items place 0 ≡ number → new.items ≡ remove row.items place → length row.items ≤ vec_capacity row →
     IsPutBack (rooms_of ls) (record { place = place; list = list; number = number }) (numbers_of (set ls list new)) (numbers_of ls)
-row_removed ls new list place number row lt is_row within is gone fits =
-    let read : list_at (numbers_of ls) list ≡ row.items = list_at-numbers_of ls list row lt ∙ ap (λ (v : Vec ℕ). v.items) (sym is_row) in
-    let room : get_or (rooms_of ls) list 0 ≡ vec_capacity row = room_at ls list row lt ∙ ap (λ (v : Vec ℕ). vec_capacity v) (sym is_row) in
-    let size = length-map ls (λ (v : Vec ℕ). v.items) in
-    let back = removed (rooms_of ls) (numbers_of ls) list place number (omega (arith, lt, size)) (omega (arith, within, ap (λ (l : List ℕ). length l) read)) (ap (λ (l : List ℕ). get_or l place 0) read ∙ is) (omega (arith, ap (λ (l : List ℕ). length l) read, room, fits)) in
-    let same : numbers_of (set ls list new) ≡ set (numbers_of ls) list (remove (list_at (numbers_of ls) list) place) =
-    numbers_of-set ls list new ∙ ap (λ (l : List ℕ). set (numbers_of ls) list l) (gone ∙ ap (λ (l : List ℕ). remove l place) (sym read)) in
-    let P : List (List ℕ) → Type 0 = λ l. IsPutBack (rooms_of ls) (record { place = place; list = list; number = number }) l (numbers_of ls) in
-    subst P (sym same) back
+row_removed ls new list place number row lt is_row within is gone fits = grind (arith, common_steps, length-map, list_at-numbers_of, numbers_of-set, removed, room_at)
 
 -- there is one number more after one was put back
 pub sum-put_back : (rooms : List ℕ) (e : Removed) (ls : List (List ℕ)) → HasRoom rooms e ls → sum_by length (put_back e ls) ≡ sum_by length ls + 1
-sum-put_back rooms e ls h =
-    let row = list_at ls e.list in
-    let longer = length-insert row e.place e.number h.1 in
-    omega (arith, longer, sum_by-set (λ (l : List ℕ). length l) ls e.list (insert row e.place e.number) [] h.0)
+sum-put_back rooms e ls h = grind (arith, common_steps, length-insert, sum_by-set)

@@ -1,5 +1,6 @@
 -- Members of lists of numbers: lists that rise and have the same members are the same.
-use Rattle.std.proofs.Common.{◌≡◌, ◌≢◌, ℕ, ◌≤◌, Bool, true, false, cond, ◌&&◌, ◌||◌, eqb, List, [], ◌∷◌, filter, refl, ap, ap₂, sym, subst, ◌∙◌, arith, eqb-true}
+use Rattle.std.proofs.Common.{◌≡◌, ◌≢◌, ℕ, ◌≤◌, Bool, true, false, ◌&&◌, ◌||◌, eqb, List, [], ◌∷◌, filter, refl, ap, ap₂, sym, subst, ◌∙◌, arith, eqb-true}
+use Rattle.std.proofs.lemmas.Grind.{common_steps}
 use Rattle.std.specs.List.{AllByRecursion}
 use Rattle.std.proofs.lemmas.Bool.{eqb-false, false≢true}
 use Rattle.xc_dance.specs.Fields.{is_in}
@@ -15,22 +16,8 @@ element_of P x (y ∷ ys) a e =
 
 -- a filter's members
 pub in_filter : (f : ℕ → Bool) (x : ℕ) (xs : List ℕ) → is_in x (filter f xs) ≡ (f x && is_in x xs)
-in_filter f x [] = elim (f x) as (λ b. false ≡ (b && false)) [ true ↦ refl | false ↦ refl ]
-in_filter f x (y ∷ ys) =
-    elim (eqb y x) as (λ b. eqb y x ≡ b → is_in x (cond (f y) (y ∷ filter f ys) (filter f ys)) ≡ (f x && (b || is_in x ys))) [
-      | true ↦ λ e.
-          let same : y ≡ x = eqb-true y x e in
-          ap (λ k. is_in x (cond (f k) (y ∷ filter f ys) (filter f ys))) same
-          ∙ elim (f x) as (λ b. f x ≡ b → is_in x (cond b (y ∷ filter f ys) (filter f ys)) ≡ (b && true)) [
-            | true ↦ λ g. ap (λ b. b || is_in x (filter f ys)) e
-            | false ↦ λ g. in_filter f x ys ∙ ap (λ b. b && is_in x ys) g
-          ] refl
-      | false ↦ λ e.
-          elim (f y) as (λ b. is_in x (cond b (y ∷ filter f ys) (filter f ys)) ≡ (f x && is_in x ys)) [
-            | true ↦ ap (λ b. b || is_in x (filter f ys)) e ∙ in_filter f x ys
-            | false ↦ in_filter f x ys
-          ]
-    ] refl
+in_filter f x [] = grind (arith, common_steps, eqb-true)
+in_filter f x (y ∷ ys) = grind (arith, common_steps, eqb-true, in_filter f x ys)
 
 -- the first of one list isn't missing in the other
 first_in : (y : ℕ) (ys xs : List ℕ) → is_in y xs ≡ is_in y (y ∷ ys) → is_in y xs ≡ true
@@ -55,12 +42,8 @@ same_members n (x ∷ xs) (y ∷ ys) r s h =
     ap₂ (λ k ks. k ∷ ks) same
     (same_members x xs ys r.1 (subst (λ k. Rises k ys) (sym same) s.1) (λ z.
     elim (eqb x z) as (λ b. eqb x z ≡ b → is_in z xs ≡ is_in z ys) [
-      | true ↦ λ e.
-          let at : x ≡ z = eqb-true x z e in
-          not_in x z xs (omega (arith, at)) r.1 ∙ sym (not_in y z ys (omega (arith, at, same)) s.1)
-      | false ↦ λ e.
-          let ne : x ≢ z = eqb-false x z e in
-          sym (is_in-other x z xs ne) ∙ h z ∙ is_in-other y z ys (λ f. ne (same ∙ f))
+      | true ↦ λ e. grind (arith, common_steps, eqb-true, not_in)
+      | false ↦ λ e. grind (arith, common_steps, eqb-false, is_in-other)
     ] refl))
 
 -- nothing passes

@@ -1,5 +1,6 @@
 -- An open item's list is the options left that hold it.
 use Rattle.std.proofs.Common.{ℕ, ◌≡◌, ◌<◌, ◌≤◌, Bool, true, false, cond, not, ◌&&◌, eqb, List, [], ◌∷◌, filter, take, drop, Option, Some, None, refl, sym, ap, ap₂, ◌∙◌, arith, eqb-true, eq-eqb, lt-ltb, ne_eqb, IsTrue}
+use Rattle.std.proofs.lemmas.Grind.{common_steps}
 use Rattle.std.proofs.lemmas.List.Elements.{filter_agree}
 use Rattle.std.specs.Prelude.{nat_lt, is_some}
 use Rattle.std.specs.List.{AllByRecursion}
@@ -16,14 +17,11 @@ use Rattle.xc_dance.proofs.MoveLemmas.OptionsRise.{NumbersRise, NumbersRise-weak
 -- ---- numbers that rise
 
 pub left_rises : (p : Puzzle) (t : List Move) → NumbersRise 0 (left p t)
-left_rises p [] = options_rise p
-left_rises p (Cover j ∷ t) = NumbersRise-filter (λ o. not (holds o j)) 0 (left p t) (left_rises p t)
-left_rises p (Purify j c ∷ t) = NumbersRise-filter (λ o. agrees c (colour_at o j)) 0 (left p t) (left_rises p t)
-left_rises p (Tweak j ∷ t) = elim (is_open j t) as (λ b. NumbersRise 0 (cond b (without (take 1 (holding j (left p t))) (left p t)) (left p t))) [
-  | true ↦ NumbersRise-filter (λ o. not (is_among (take 1 (holding j (left p t))) o)) 0 (left p t) (left_rises p t)
-  | false ↦ left_rises p t
-]
-left_rises p (Spend j ∷ t) = left_rises p t
+left_rises p [] = grind (arith, common_steps, NumbersRise-filter, options_rise)
+left_rises p (Cover j ∷ t) = grind (arith, common_steps, NumbersRise-filter, options_rise, left_rises p t)
+left_rises p (Purify j c ∷ t) = grind (arith, common_steps, NumbersRise-filter, options_rise, left_rises p t)
+left_rises p (Tweak j ∷ t) = grind (arith, common_steps, NumbersRise-filter, options_rise, left_rises p t)
+left_rises p (Spend j ∷ t) = grind (arith, common_steps, NumbersRise-filter, options_rise, left_rises p t)
 
 above : (n : ℕ) (os : List Numbered) → NumbersRise n os → AllByRecursion (λ o. n < o.number) os
 above n [] r = tt
@@ -80,12 +78,7 @@ purified_gone i j c os h r =
 
 tweaked_closed : (p : Puzzle) (t : List Move) (i j : ℕ) → is_open i t ≡ true → listed p t i ≡ holding i (left p t) → (is_open j t ≡ true → listed p t j ≡ holding j (left p t)) →
     eqb i j ≡ false → listed p (Tweak j ∷ t) i ≡ holding i (left p (Tweak j ∷ t))
-tweaked_closed p t i j opened at_i at_j e =
-    rw (e, opened)
-    (elim (is_open j t) as (λ b. is_open j t ≡ b → cond (b && true) (without (take 1 (listed p t j)) (listed p t i)) (listed p t i) ≡ holding i (cond b (without (take 1 (holding j (left p t))) (left p t)) (left p t))) [
-      | true ↦ λ o. ap₂ (λ g os. without (take 1 g) os) (at_j o) at_i ∙ filter_swap _ _ (left p t)
-      | false ↦ λ o. at_i
-    ] refl)
+tweaked_closed p t i j opened at_i at_j e = grind (arith, common_steps, filter_swap)
 
 tweaked_itself : (p : Puzzle) (t : List Move) (i j : ℕ) → is_open i t ≡ true → (is_open j t ≡ true → listed p t j ≡ holding j (left p t)) →
     i ≡ j → listed p (Tweak j ∷ t) i ≡ holding i (left p (Tweak j ∷ t))
@@ -99,11 +92,7 @@ tweaked_itself p t i j opened at_j e =
 
 tweaked : (p : Puzzle) (t : List Move) (i j : ℕ) → is_open i t ≡ true → listed p t i ≡ holding i (left p t) → (is_open j t ≡ true → listed p t j ≡ holding j (left p t)) →
     listed p (Tweak j ∷ t) i ≡ holding i (left p (Tweak j ∷ t))
-tweaked p t i j opened at_i at_j = by_case (eqb i j) refl
-  where
-    by_case : (b : Bool) → eqb i j ≡ b → listed p (Tweak j ∷ t) i ≡ holding i (left p (Tweak j ∷ t))
-    by_case true e = tweaked_itself p t i j opened at_j (eqb-true i j e)
-    by_case false e = tweaked_closed p t i j opened at_i at_j e
+tweaked p t i j opened at_i at_j = grind (arith, common_steps, eqb-true, tweaked_closed, tweaked_itself)
 
 pub listed_open : (p : Puzzle) (t : List Move) → AreLegal p t → (i : ℕ) → IsTrue (is_open i t) → listed p t i ≡ holding i (left p t)
 listed_open p [] legal i opened = refl

@@ -1,5 +1,6 @@
 -- Options whose numbers rise.
-use Rattle.std.proofs.Common.{ℕ, ◌+◌, ◌<◌, ◌≤◌, Bool, true, false, cond, List, [], ◌∷◌, filter, arith}
+use Rattle.std.proofs.Common.{ℕ, ◌+◌, ◌<◌, ◌≤◌, Bool, List, [], ◌∷◌, filter, arith}
+use Rattle.std.proofs.lemmas.Grind.{common_steps}
 use Rattle.xc_input.specs.declared.problem.Use.{Use}
 use Rattle.xc_input.specs.Problem.{Puzzle, Numbered, numbered_from, numbered_options}
 
@@ -12,11 +13,8 @@ NumbersRise-weaker m n [] h r = tt
 NumbersRise-weaker m n (o ∷ os) h r = (omega (arith, r.0), r.1)
 
 pub NumbersRise-filter : (p : Numbered → Bool) (n : ℕ) (os : List Numbered) → NumbersRise n os → NumbersRise n (filter p os)
-NumbersRise-filter p n [] r = tt
-NumbersRise-filter p n (o ∷ os) r = elim (p o) as (λ b. NumbersRise n (cond b (o ∷ filter p os) (filter p os))) [
-  | true ↦ (r.0, NumbersRise-filter p o.number os r.1)
-  | false ↦ NumbersRise-filter p n os (NumbersRise-weaker n o.number os (omega (arith, r.0)) r.1)
-]
+NumbersRise-filter p n [] r = grind (arith, common_steps, NumbersRise-weaker)
+NumbersRise-filter p n (o ∷ os) r = grind (arith, common_steps, NumbersRise-weaker, NumbersRise-filter p o.number os r.1, NumbersRise-filter p n os (NumbersRise-weaker n o.number os (omega (arith, r.0)) r.1))
 
 pub NumbersRise-from : (n : ℕ) (os : List (List Use)) → NumbersRise n (numbered_from (n + 1) os)
 NumbersRise-from n [] = tt

@@ -1,5 +1,6 @@
 -- The lists after moves, as filters of the lists before.
 use Rattle.std.proofs.Common.{ℕ, zero, suc, ◌≡◌, ◌≢◌, ◌+◌, ◌-◌, ◌<◌, ◌≤◌, Bool, true, false, not, cond, eqb, ◌&&◌, ◌||◌, List, [], ◌∷◌, length, get_or, set, filter, map, take, drop, Some, None, refl, ap, ap₂, sym, ◌∙◌, arith, subst, eq-eqb, eqb-true}
+use Rattle.std.proofs.lemmas.Grind.{common_steps}
 use Rattle.std.specs.Prelude.{All, IsTrue, is_some, unwrap_or, slice_get}
 use Rattle.std.specs.List.{AllByRecursion, list_any, range_with_len}
 use Rattle.std.proofs.lemmas.Bool.{ne_eqb}
@@ -7,11 +8,11 @@ use Rattle.std.proofs.Math.Bool.{not-not}
 use Rattle.std.proofs.lemmas.List.FromFn.{length-map-range_with_len, get_or-map-range_with_len}
 use Rattle.std.proofs.lemmas.List.Elements.{All-nil, All-cons}
 use Rattle.xc_input.specs.declared.problem.Use.{Use}
-use Rattle.xc_input.specs.Problem.{Puzzle, Numbered, uses_of, numbered_from, numbered_options, item_count, holds, colour_in}
+use Rattle.xc_input.specs.Problem.{Puzzle, Numbered, uses_of, numbered_from, item_count, holds, colour_in}
 use Rattle.xc_input.proofs.EachElement.{each-filter}
 use Rattle.xc_dance.specs.declared.dance.Move.{Move}
 use Rattle.xc_dance.specs.declared.dance.Move.TheVariants.{Cover, Purify, Tweak, Spend}
-use Rattle.xc_dance.specs.Moves.{is_open, is_among, without, other_colours, is_other_colour, listed, listed_numbers}
+use Rattle.xc_dance.specs.Moves.{is_open, is_among, without, other_colours, listed, listed_numbers}
 use Rattle.xc_dance.specs.Rising.{Rises}
 use Rattle.xc_dance.specs.Lists.Taking.{less, list_at}
 use Rattle.xc_dance.specs.Lists.Losing.{lose_from, lose, has_use, is_kept, AreListsFrom, AreLists, lists_after}
@@ -34,11 +35,8 @@ abbrev pub IsHolder : Puzzle → ℕ → Numbered → Type 0
 IsHolder p i x = (uses_of p x.number ≡ x.uses) × (has_use x.uses i ≡ true)
 
 pub holds_use : (us : List Use) (i : ℕ) → is_some (colour_in us i) ≡ has_use us i
-holds_use [] i = refl
-holds_use (u ∷ us) i = elim (eqb u.item i) as (λ b. is_some (cond b (Some u.colour) (colour_in us i)) ≡ (b || has_use us i)) [
-  | true ↦ refl
-  | false ↦ holds_use us i
-]
+holds_use [] i = grind (arith, common_steps)
+holds_use (u ∷ us) i = grind (arith, common_steps, holds_use us i)
 
 drop_cons : {X : Type 0} (all : List X) (m : ℕ) (x : X) (xs : List X) → drop m all ≡ x ∷ xs → (slice_get all m ≡ Some x) × (drop (suc m) all ≡ xs)
 drop_cons [] zero x xs e = absurd (cc e)
@@ -53,10 +51,7 @@ first_holders p i n (us ∷ os) m e at =
     let rest = first_holders p i (n + 1) os (suc m) (omega (arith, e)) here.1 in
     let known : uses_of p n ≡ us = rw e (ap (λ o. unwrap_or o []) here.0) in
     let x : Numbered = record { number = n; uses = us } in
-    elim (holds x i) as (λ b. holds x i ≡ b → AllByRecursion (IsHolder p i) (cond b (x ∷ filter (λ o. holds o i) (numbered_from (n + 1) os)) (filter (λ o. holds o i) (numbered_from (n + 1) os)))) [
-      | true ↦ λ q. ((known, sym (holds_use us i) ∙ q), rest)
-      | false ↦ λ q. rest
-    ] refl
+    grind (arith, common_steps, holds_use)
 
 pub holders : (p : Puzzle) (t : List Move) (i : ℕ) → AllByRecursion (IsHolder p i) (listed p t i)
 holders p [] i = first_holders p i 1 p.options zero refl refl
@@ -74,11 +69,8 @@ holders p (Spend j ∷ t) i = holders p t i
 -- ---- the numbers rise
 
 rises_filter : (q : Numbered → Bool) (n : ℕ) (xs : List Numbered) → Rises n (map (λ o. o.number) xs) → Rises n (map (λ o. o.number) (filter q xs))
-rises_filter q n [] h = tt
-rises_filter q n (x ∷ xs) h = elim (q x) as (λ b. Rises n (map (λ o. o.number) (cond b (x ∷ filter q xs) (filter q xs)))) [
-  | true ↦ (h.0, rises_filter q x.number xs h.1)
-  | false ↦ rises_filter q n xs (Rises-weaker n x.number (map (λ o. o.number) xs) (omega (arith, h.0)) h.1)
-]
+rises_filter q n [] h = grind (arith, common_steps, Rises-weaker)
+rises_filter q n (x ∷ xs) h = grind (arith, common_steps, Rises-weaker, rises_filter q x.number xs h.1)
 
 rises_drop : (n : ℕ) (xs : List Numbered) → Rises n (map (λ o. o.number) xs) → Rises n (map (λ o. o.number) (drop 1 xs))
 rises_drop n [] h = tt
@@ -93,17 +85,11 @@ rises_from n [] = tt
 rises_from n (us ∷ os) = (omega arith, rises_from (n + 1) os)
 
 pub rises_listed : (p : Puzzle) (t : List Move) (i : ℕ) → Rises 0 (listed_numbers p t i)
-rises_listed p [] i = rises_filter (λ o. holds o i) 0 (numbered_options p) (rises_from 0 p.options)
-rises_listed p (Cover j ∷ t) i =
-    rises_if 0 (not (eqb i j) && is_open i t) _ _ (rises_filter _ 0 (listed p t i) (rises_listed p t i)) (rises_listed p t i)
-rises_listed p (Purify j c ∷ t) i =
-    rises_if 0 (not (eqb i j) && is_open i t) _ _ (rises_filter _ 0 (listed p t i) (rises_listed p t i)) (rises_listed p t i)
-rises_listed p (Tweak j ∷ t) i = by_item (rises_listed p t i) (eqb i j) refl
-  where
-    by_item : Rises 0 (listed_numbers p t i) → (b : Bool) → eqb i j ≡ b → Rises 0 (map (λ o. o.number) (cond b (drop 1 (listed p t j)) (cond (is_open j t && is_open i t) (without (take 1 (listed p t j)) (listed p t i)) (listed p t i))))
-    by_item h true q = subst (λ k. Rises 0 (map (λ o. o.number) (drop 1 (listed p t k)))) (eqb-true i j q) (rises_drop 0 (listed p t i) h)
-    by_item h false q = rises_if 0 (is_open j t && is_open i t) _ _ (rises_filter _ 0 (listed p t i) h) h
-rises_listed p (Spend j ∷ t) i = rises_listed p t i
+rises_listed p [] i = grind (arith, common_steps, eqb-true, rises_drop, rises_filter, rises_from, rises_if)
+rises_listed p (Cover j ∷ t) i = grind (arith, common_steps, eqb-true, rises_drop, rises_filter, rises_from, rises_if, rises_listed p t i)
+rises_listed p (Purify j c ∷ t) i = grind (arith, common_steps, eqb-true, rises_drop, rises_filter, rises_from, rises_if, rises_listed p t i)
+rises_listed p (Tweak j ∷ t) i = grind (arith, common_steps, eqb-true, rises_drop, rises_filter, rises_from, rises_if, rises_listed p t i)
+rises_listed p (Spend j ∷ t) i = grind (arith, common_steps, eqb-true, rises_drop, rises_filter, rises_from, rises_if, rises_listed p t i)
 
 -- ---- the lists of all items
 
@@ -128,13 +114,8 @@ among_numbers [] o = refl
 among_numbers (x ∷ gone) o = ap (λ b. eqb x.number o.number || b) (among_numbers gone o)
 
 less_without : (gone xs : List Numbered) → map (λ o. o.number) (without gone xs) ≡ less (map (λ o. o.number) gone) (map (λ o. o.number) xs)
-less_without gone [] = refl
-less_without gone (x ∷ xs) =
-    let rest = less_without gone xs in
-    rw (among_numbers gone x) (elim (list_any (λ g. eqb g x.number) (map (λ o. o.number) gone)) as (λ b. map (λ o. o.number) (cond (not b) (x ∷ without gone xs) (without gone xs)) ≡ cond (not b) (x.number ∷ less (map (λ o. o.number) gone) (map (λ o. o.number) xs)) (less (map (λ o. o.number) gone) (map (λ o. o.number) xs))) [
-      | true ↦ rest
-      | false ↦ ap (λ l. x.number ∷ l) rest
-    ])
+less_without gone [] = grind (arith, common_steps, among_numbers)
+less_without gone (x ∷ xs) = grind (arith, common_steps, among_numbers, less_without gone xs)
 
 lose_range : (t : List Move) (j : ℕ) (gone : List ℕ) (f g : ℕ → List ℕ) → ((i : ℕ) → cond (not (eqb i j) && is_open i t) (less gone (f i)) (f i) ≡ g i) → (a n : ℕ) →
     lose_from t j gone a (map f (range_with_len a n)) ≡ map g (range_with_len a n)
@@ -158,14 +139,8 @@ lists_covered p t j low high =
     ∙ lose_range t j (listed_numbers p t j) (listed_numbers p t) (listed_numbers p (Cover j ∷ t)) (λ i. losing (listed p t j) (listed p t i) (not (eqb i j) && is_open i t)) 1 (item_count p)
 
 other_numbers : (p : Puzzle) (j c : ℕ) (xs : List Numbered) → AllByRecursion (IsHolder p j) xs → filter (λ o. not (is_kept p j (Some c) o)) (map (λ o. o.number) xs) ≡ map (λ o. o.number) (other_colours j c xs)
-other_numbers p j c [] h = refl
-other_numbers p j c (x ∷ xs) h =
-    let rest = other_numbers p j c xs h.1 in
-    let told : not (is_kept p j (Some c) x.number) ≡ is_other_colour c (colour_in x.uses j) = not-not _ ∙ ap (λ us. is_other_colour c (colour_in us j)) h.0.0 in
-    rw told (elim (is_other_colour c (colour_in x.uses j)) as (λ b. cond b (x.number ∷ filter (λ o. not (is_kept p j (Some c) o)) (map (λ o. o.number) xs)) (filter (λ o. not (is_kept p j (Some c) o)) (map (λ o. o.number) xs)) ≡ map (λ o. o.number) (cond b (x ∷ other_colours j c xs) (other_colours j c xs))) [
-      | true ↦ ap (λ l. x.number ∷ l) rest
-      | false ↦ rest
-    ])
+other_numbers p j c [] h = grind (arith, common_steps, not-not)
+other_numbers p j c (x ∷ xs) h = grind (arith, common_steps, not-not, other_numbers p j c xs h.1)
 
 pub lists_purified : (p : Puzzle) (t : List Move) (j c : ℕ) → 1 ≤ j → j ≤ item_count p →
     lose t j (filter (λ o. not (is_kept p j (Some c) o)) (list_at (lists_after p t) (j - 1))) (lists_after p t) ≡ lists_after p (Purify j c ∷ t)
@@ -181,9 +156,7 @@ same_range f g a (suc n) h = ap₂ (λ l ls. l ∷ ls) (h a (omega arith)) (same
 
 set_range : (f g : ℕ → List ℕ) (a n k : ℕ) (v : List ℕ) → ((i : ℕ) → i ≢ a + k → f i ≡ g i) → v ≡ g (a + k) → set (map f (range_with_len a n)) k v ≡ map g (range_with_len a n)
 set_range f g a zero k v h e = refl
-set_range f g a (suc n) zero v h e =
-    let at : a + 0 ≡ a = omega arith in
-    ap₂ (λ l ls. l ∷ ls) (e ∙ ap g at) (same_range f g (a + 1) n (λ i le. h i (omega (arith, le))))
+set_range f g a (suc n) zero v h e = grind (arith, common_steps, same_range)
 set_range f g a (suc n) (suc k) v h e =
     let at : a + suc k ≡ (a + 1) + k = omega arith in
     ap₂ (λ l ls. l ∷ ls) (h a (omega arith)) (set_range f g (a + 1) n k v (λ i ne. h i (omega (arith, ne))) (e ∙ ap g at))
@@ -205,16 +178,10 @@ abbrev pub first_hidden : List Move → ℕ → ℕ → List (List ℕ) → List
 first_hidden t j x ls = cond (is_open j t) (lose t j (x ∷ []) ls) ls
 
 pub first_hidden_lists : (p : Puzzle) (t : List Move) (j x : ℕ) (ls : List (List ℕ)) → AreLists p ls → AreLists p (first_hidden t j x ls)
-first_hidden_lists p t j x ls h = elim (is_open j t) as (λ b. AreLists p (cond b (lose t j (x ∷ []) ls) ls)) [
-  | true ↦ (length-lose_from t j (x ∷ []) 1 ls ∙ h.0, lists-lose_from p t j (x ∷ []) 1 ls h.1)
-  | false ↦ h
-]
+first_hidden_lists p t j x ls h = grind (arith, common_steps, length-lose_from, lists-lose_from)
 
 own_list : (t : List Move) (j x : ℕ) (ls : List (List ℕ)) → 1 ≤ j → list_at (first_hidden t j x ls) (j - 1) ≡ list_at ls (j - 1)
-own_list t j x ls low = elim (is_open j t) as (λ b. list_at (cond b (lose t j (x ∷ []) ls) ls) (j - 1) ≡ list_at ls (j - 1)) [
-  | true ↦ (let at : 1 + (j - 1) ≡ j = omega (arith, low) in lose_other t j (x ∷ []) 1 (j - 1) ls at)
-  | false ↦ refl
-]
+own_list t j x ls low = grind (arith, common_steps, lose_other)
 
 pub lists_tweaked : (p : Puzzle) (t : List Move) (j x : ℕ) → 1 ≤ j → j ≤ item_count p → 0 < length (listed p t j) → x ≡ get_or (listed_numbers p t j) 0 0 →
     set (first_hidden t j x (lists_after p t)) (j - 1) (less (x ∷ []) (list_at (first_hidden t j x (lists_after p t)) (j - 1))) ≡ lists_after p (Tweak j ∷ t)

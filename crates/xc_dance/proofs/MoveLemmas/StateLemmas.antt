@@ -1,5 +1,6 @@
 -- The states of items after moves.
-use Rattle.std.proofs.Common.{ℕ, zero, suc, ◌≡◌, ◌≢◌, ◌+◌, ◌-◌, ◌<◌, ◌≤◌, Bool, true, false, not, cond, ◌&&◌, ◌||◌, eqb, List, [], ◌∷◌, length, Some, None, refl, ap, sym, set, get_or, ltb, ltb-true, ltb-false, ◌∙◌, arith, eqb-true, eq-eqb}
+use Rattle.std.proofs.Common.{ℕ, zero, suc, ◌≡◌, ◌≢◌, ◌+◌, ◌-◌, ◌<◌, ◌≤◌, Bool, true, false, not, cond, ◌&&◌, eqb, List, [], ◌∷◌, Some, None, refl, ap, sym, set, get_or, ltb, ltb-true, ltb-false, ◌∙◌, arith, eqb-true, eq-eqb}
+use Rattle.std.proofs.lemmas.Grind.{common_steps}
 use Rattle.std.proofs.lemmas.List.{length-set, get_or-set_same, get_or-set_other, get_or_default}
 use Rattle.std.specs.Prelude.{Option, is_some, unwrap_or, filter}
 use Rattle.std.specs.List.{range_with_len}
@@ -32,23 +33,14 @@ open_by_state i t s e = told t ∙ ap (λ s. is_open_state s) e
     told (_ ∷ t) = told t
 
 pub open_state : (i : ℕ) (t : List Move) → is_open i t ≡ true → state_of i t ≡ Open
-open_state i t e = by_state (state_of i t) (sym (open_by_state i t (state_of i t) refl) ∙ e)
-  where
-    by_state : (s : ItemState) → is_open_state s ≡ true → s ≡ Open
-    by_state Open h = refl
-    by_state _ h = cc
+open_state i t e = grind (arith, common_steps, open_by_state)
 
 -- an item is open where it is neither covered nor purified
 pub open_is : (t : List Move) (i : ℕ) → (not (is_covered i t) && not (is_some (purified i t))) ≡ is_open i t
-open_is [] i = refl
-open_is (Cover j ∷ t) i =
-    elim (eqb i j) as (λ b. (not (b || is_covered i t) && not (is_some (purified i t))) ≡ (not b && is_open i t)) [ true ↦ refl | false ↦ open_is t i ]
-open_is (Purify j c ∷ t) i =
-    elim (eqb i j) as (λ b. (not (is_covered i t) && not (is_some (cond b (Some c) (purified i t)))) ≡ (not b && is_open i t)) [
-      | true ↦ and-false (not (is_covered i t))
-      | false ↦ open_is t i
-    ]
-open_is (_ ∷ t) i = open_is t i
+open_is [] i = grind (arith, common_steps, and-false)
+open_is (Cover j ∷ t) i = grind (arith, common_steps, and-false, open_is t i)
+open_is (Purify j c ∷ t) i = grind (arith, common_steps, and-false, open_is t i)
+open_is (_ ∷ t) i = grind (arith, common_steps, and-false, open_is t i)
 
 pub open_uncovered : (i : ℕ) (t : List Move) → is_open i t ≡ true → is_covered i t ≡ false
 open_uncovered i t e = not-true (is_covered i t) (and_parts _ _ (open_is t i ∙ e)).0
@@ -66,29 +58,11 @@ open_or_covered i t e = sym (open_is t i) ∙ ap (λ o. not (is_covered i t) && 
 -- one item gets another state
 pub set_state : (p : Puzzle) (t u : List Move) (states : List ItemState) (i : ℕ) (s : ItemState) → AreStates p t states → 1 ≤ i → i ≤ item_count p →
     ((k : ℕ) → k + 1 ≢ i → state_of (k + 1) t ≡ state_of (k + 1) u) → state_of i u ≡ s → AreStates p u (set states (i - 1) s)
-set_state p t u states i s are low high others here = record {
-  count = length-set states (i - 1) s ∙ are.count;
-  each = λ k lt. by_place k lt (eqb (k + 1) i) refl;
-}
-  where
-    by_place : (k : ℕ) → k < item_count p → (b : Bool) → eqb (k + 1) i ≡ b → get_or (set states (i - 1) s) k Open ≡ state_of (k + 1) u
-    by_place k lt true q =
-        let is : k + 1 ≡ i = eqb-true (k + 1) i q in
-        let at : k ≡ i - 1 = omega (arith, is) in
-        let within : i - 1 < length states = omega (arith, low, high, are.count) in
-        rw (at) (get_or-set_same states (i - 1) s Open within) ∙ sym here ∙ ap (λ n. state_of n u) (sym is)
-    by_place k lt false q =
-        let other : k + 1 ≢ i = λ e. (let y = eq-eqb (k + 1) i e in cc) in
-        let at : k ≢ i - 1 = omega (arith, other, low) in
-        get_or-set_other states (i - 1) k s Open at ∙ are.each k lt ∙ others k other
+set_state p t u states i s are low high others here = grind (arith, common_steps, eq-eqb, eqb-true, get_or-set_other, get_or-set_same, length-set)
 
 -- what was read at the item's place is its state
 pub state_at : (p : Puzzle) (t : List Move) (states : List ItemState) (i : ℕ) (r : ItemState) → AreStates p t states → 1 ≤ i → i ≤ item_count p → r ≡ get_or states (i - 1) r → state_of i t ≡ r
-state_at p t states i r are low high read =
-    let lt : i - 1 < item_count p = omega (arith, low, high) in
-    let at : (i - 1) + 1 ≡ i = omega (arith, low) in
-    let within : i - 1 < length states = omega (arith, lt, are.count) in
-    ap (λ n. state_of n t) (sym at) ∙ sym (are.each (i - 1) lt) ∙ get_or_default states (i - 1) Open r within ∙ sym read
+state_at p t states i r are low high read = grind (arith, common_steps, get_or_default)
 
 pub closed_state : (s : ItemState) → (s ≡ Open → ⊥) → is_open_state s ≡ false
 closed_state Open h = absurd (h refl)
@@ -99,41 +73,16 @@ unpurified_state Purified h = absurd (h refl)
 unpurified_state _ h = refl
 
 pub purified_by_state : (p : Puzzle) (i : ℕ) (t : List Move) → AreLegal p t → is_some (purified i t) ≡ is_purified_state (state_of i t)
-purified_by_state p i [] legal = refl
-purified_by_state p i (Cover j ∷ t) legal =
-    elim (eqb i j) as (λ b. eqb i j ≡ b → is_some (purified i t) ≡ is_purified_state (cond b Covered (state_of i t))) [
-      | true ↦ λ q.
-          let same : j ≡ i = sym (eqb-true i j q) in
-          let none = open_unpurified i t (rw (← same) legal.0.1) in
-          ap (λ o. is_some o) none
-      | false ↦ λ q. purified_by_state p i t legal.1
-    ] refl
-purified_by_state p i (Purify j c ∷ t) legal =
-    elim (eqb i j) as (λ b. is_some (cond b (Some c) (purified i t)) ≡ is_purified_state (cond b Purified (state_of i t))) [
-      | true ↦ refl
-      | false ↦ purified_by_state p i t legal.1
-    ]
-purified_by_state p i (_ ∷ t) legal = purified_by_state p i t legal.1
+purified_by_state p i [] legal = grind (arith, common_steps, eqb-true, open_unpurified)
+purified_by_state p i (Cover j ∷ t) legal = grind (arith, common_steps, eqb-true, open_unpurified, purified_by_state p i t legal.1)
+purified_by_state p i (Purify j c ∷ t) legal = grind (arith, common_steps, eqb-true, open_unpurified, purified_by_state p i t legal.1)
+purified_by_state p i (_ ∷ t) legal = grind (arith, common_steps, eqb-true, open_unpurified, purified_by_state p i t legal.1)
 
 -- ---- the next open item
 
 pub next_open_step : (t : List Move) (n a len : ℕ) → is_open (n + 1) t ≡ false → next_above n (filter (λ i. is_open i t) (range_with_len a len)) ≡ next_above (n + 1) (filter (λ i. is_open i t) (range_with_len a len))
-next_open_step t n a zero e = refl
-next_open_step t n a (suc len) e =
-    let rest = next_open_step t n (a + 1) len e in
-    elim (is_open a t) as (λ b. is_open a t ≡ b → next_above n (cond b (a ∷ filter (λ i. is_open i t) (range_with_len (a + 1) len)) (filter (λ i. is_open i t) (range_with_len (a + 1) len))) ≡ next_above (n + 1) (cond b (a ∷ filter (λ i. is_open i t) (range_with_len (a + 1) len)) (filter (λ i. is_open i t) (range_with_len (a + 1) len)))) [
-      | true ↦ λ o. at_open o (ltb n a) (ltb (n + 1) a) refl refl rest
-      | false ↦ λ o. rest
-    ] refl
-  where
-    at_open : is_open a t ≡ true → (x y : Bool) → ltb n a ≡ x → ltb (n + 1) a ≡ y → next_above n (filter (λ i. is_open i t) (range_with_len (a + 1) len)) ≡ next_above (n + 1) (filter (λ i. is_open i t) (range_with_len (a + 1) len))
-        → cond (ltb n a) (Some a) (next_above n (filter (λ i. is_open i t) (range_with_len (a + 1) len))) ≡ cond (ltb (n + 1) a) (Some a) (next_above (n + 1) (filter (λ i. is_open i t) (range_with_len (a + 1) len)))
-    at_open o true true p q rest = rw (p, q) refl
-    at_open o true false p q rest =
-        let same : a ≡ n + 1 = omega (arith, ltb-true n a p, ltb-false (n + 1) a q) in
-        absurd (let closed : is_open a t ≡ false = ap (λ k. is_open k t) same ∙ e in cc)
-    at_open o false true p q rest = absurd (omega (arith, ltb-false n a p, ltb-true (n + 1) a q))
-    at_open o false false p q rest = rw (p, q) rest
+next_open_step t n a zero e = grind (arith, common_steps, ltb-false, ltb-true)
+next_open_step t n a (suc len) e = grind (arith, common_steps, ltb-false, ltb-true, next_open_step t n (a + 1) len e)
 
 pub next_open_here : (t : List Move) (n a len : ℕ) → is_open (n + 1) t ≡ true → a ≤ n + 1 → n + 1 < a + len → next_above n (filter (λ i. is_open i t) (range_with_len a len)) ≡ Some (n + 1)
 next_open_here t n a zero e low high = absurd (omega (arith, low, high))
@@ -155,14 +104,8 @@ next_open_here t n a (suc len) e low high = by_place (λ more less. next_open_he
         ]
 
 pub next_open_none : (t : List Move) (n a len : ℕ) → a + len ≤ n + 1 → next_above n (filter (λ i. is_open i t) (range_with_len a len)) ≡ None
-next_open_none t n a zero le = refl
-next_open_none t n a (suc len) le =
-    let before : ltb n a ≡ false = le-ltb n a (omega (arith, le)) in
-    let rest = next_open_none t n (a + 1) len (omega (arith, le)) in
-    elim (is_open a t) as (λ b. next_above n (cond b (a ∷ filter (λ i. is_open i t) (range_with_len (a + 1) len)) (filter (λ i. is_open i t) (range_with_len (a + 1) len))) ≡ None) [
-      | true ↦ rw before rest
-      | false ↦ rest
-    ]
+next_open_none t n a zero le = grind (arith, common_steps, le-ltb)
+next_open_none t n a (suc len) le = grind (arith, common_steps, le-ltb, next_open_none t n (a + 1) len (omega (arith, le)))
 
 -- ---- what is left
 

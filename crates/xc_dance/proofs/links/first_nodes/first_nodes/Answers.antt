@@ -1,5 +1,5 @@
 use Rattle.std.proofs.Common.{◌∙◌}
-use Rattle.xc_dance.proofs.LinkedTables.LaidNodes.{laid_none, laid_all}
+use Rattle.xc_dance.proofs.LinkedTables.FirstTables.{laid_none, laid_all}
 use Rattle.xc_dance.proofs.links.first_nodes.first_nodes.Goals as goal
 
 pub lay_items-requires : goal.lay_items-requires

@@ -1,13 +1,13 @@
 use Rattle.std.proofs.Common.{arith, ◌∙◌, ◌+◌, ap, sym, refl, subst, length, get_or}
+use Rattle.std.proofs.lemmas.Grind.{common_steps}
 use Rattle.xc_input.specs.declared.problem.Use.{Use}
 use Rattle.xc_dance.specs.Fields.{used}
 use Rattle.xc_dance.specs.declared.links.nodes.Nodes.{Nodes}
 use Rattle.xc_dance.specs.declared.links.nodes.Row.{Row}
 use Rattle.xc_dance.specs.Links.Steps.{HasSize}
-use Rattle.xc_dance.specs.Links.FirstNodes.{with_row, laid_to}
-use Rattle.xc_dance.proofs.LinkedTables.OptionReach.{uses_here}
-use Rattle.xc_dance.proofs.LinkedTables.PlaceLemmas.{use_here, option_fits}
-use Rattle.xc_dance.proofs.LinkedTables.LaidNodes.{laid_size, laid_len, laid_more}
+use Rattle.xc_dance.specs.Links.FirstNodes.{with_row}
+use Rattle.xc_dance.proofs.LinkedTables.PlaceLemmas.{uses_here, use_here, option_fits}
+use Rattle.xc_dance.proofs.LinkedTables.FirstTables.{laid_size, laid_len, laid_more}
 use Rattle.xc_dance.proofs.links.first_nodes.lay_uses.Goals as goal
 use Rattle.std.proofs.lemmas.Option.{slice_get-get_or}
 
@@ -15,16 +15,10 @@ pub put-requires-clause-size : goal.put-requires-clause-size
 put-requires-clause-size c = subst (λ (t : Nodes). HasSize t (length t.top)) (sym c.loop-u.invariant.nodes) (laid_size c.args.problem.now.puzzle c.loop-u.place)
 
 pub put-requires-clause-place : goal.put-requires-clause-place
-put-requires-clause-place c =
-    let p = c.args.problem.now.puzzle in
-    let fits = option_fits p c.args.o c.option-u-items.result.now c.requires.limits c.requires.option (uses_here p (c.args.o + 1) c.option-u-items.result.now c.option-u-items.ensures.value) in
-    omega (arith, fits.next, fits.within, c.loop-u.invariant.place, c.requires.first, c.loop-u-test.true, laid_len p c.loop-u.place, ap (λ (t : Nodes). length t.top) c.loop-u.invariant.nodes)
+put-requires-clause-place c = grind (arith, common_steps, laid_len, option_fits, uses_here)
 
 pub overflow_add-place : goal.overflow_add-place
-overflow_add-place c =
-    let p = c.args.problem.now.puzzle in
-    let fits = option_fits p c.args.o c.option-u-items.result.now c.requires.limits c.requires.option (uses_here p (c.args.o + 1) c.option-u-items.result.now c.option-u-items.ensures.value) in
-    omega (arith, fits.next, fits.within, fits.small, c.loop-u.invariant.place, c.requires.first, c.loop-u-test.true)
+overflow_add-place c = grind (arith, common_steps, option_fits, uses_here)
 
 pub loop-u-preserved : goal.loop-u-preserved
 loop-u-preserved c =
@@ -43,8 +37,4 @@ loop-u-preserved c =
     }
 
 pub returns : goal.returns
-returns c =
-    let p = c.args.problem.now.puzzle in
-    let us = c.option-u-items.result.now in
-    let fits = option_fits p c.args.o us c.requires.limits c.requires.option (uses_here p (c.args.o + 1) c.option-u-items.result.now c.option-u-items.ensures.value) in
-    c.loop-u.invariant.nodes ∙ ap (laid_to p) (omega (arith, fits.next, c.loop-u.invariant.place, c.requires.first, c.loop-u-test.false, c.loop-u.auto.u-index-end))
+returns c = grind (arith, common_steps, option_fits, uses_here)

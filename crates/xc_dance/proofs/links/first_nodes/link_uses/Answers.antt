@@ -1,4 +1,5 @@
 use Rattle.std.proofs.Common.{arith, ◌≡◌, ◌≤◌, ◌<◌, ◌∙◌, ◌+◌, ap, sym, subst, take, get_or, Some, [], ℕ}
+use Rattle.std.proofs.lemmas.Grind.{common_steps}
 use Rattle.std.specs.Prelude.{slice_get, slice_index}
 use Rattle.xc_input.specs.declared.problem.Use.{Use}
 use Rattle.xc_input.specs.Problem.{Puzzle, item_count, IsWithinLimits}
@@ -8,9 +9,7 @@ use Rattle.xc_dance.specs.Links.Laid.{IsFit}
 use Rattle.xc_dance.specs.Links.Cells.{nodes_from, color_in}
 use Rattle.xc_dance.specs.Links.FirstNodes.{entered}
 use Rattle.std.proofs.lemmas.Option.{slice_get-get_or}
-use Rattle.xc_dance.proofs.LinkedTables.HeldOptions.{lines_of}
-use Rattle.xc_dance.proofs.LinkedTables.EnteredNodes.{UseStep, use_step, spacer_step, spacer_top, behind_items}
-use Rattle.xc_dance.proofs.LinkedTables.LinkedFirst.{none_entered, all_entered}
+use Rattle.xc_dance.proofs.LinkedTables.EnteredNodes.{lines_of, UseStep, use_step, spacer_step, spacer_top, behind_items, none_entered, all_entered}
 use Rattle.xc_dance.proofs.links.first_nodes.link_uses.Goals as goal
 use Rattle.xc_dance.proofs.links.first_nodes.link_uses.Goals.{Then-top-lt-SPACER, then-top-lt-SPACER, else-top-lt-SPACER}
 
@@ -73,6 +72,4 @@ loop-q-preserved c =
     ]
 
 pub returns : goal.returns
-returns c =
-    let p = c.args.problem.now.puzzle in
-    c.loop-q.invariant ∙ all_entered p c.loop-q.q c.requires.fit (omega (arith, c.loop-q-test.false, c.requires.count))
+returns c = grind (arith, common_steps, all_entered)

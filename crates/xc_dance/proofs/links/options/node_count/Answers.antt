@@ -1,16 +1,11 @@
-use Rattle.std.proofs.Common.{arith, ◌≡◌, ◌+◌, ◌<◌, ◌∙◌, ap}
-use Rattle.xc_input.specs.Problem.{option_count}
-use Rattle.xc_dance.specs.Links.OptionPlaces.{start_at}
-use Rattle.xc_dance.proofs.LinkedTables.OptionReach.{uses_here}
-use Rattle.xc_dance.proofs.LinkedTables.PlaceLemmas.{OptionFits, option_fits, layout_len}
+use Rattle.std.proofs.Common.{arith}
+use Rattle.std.proofs.lemmas.Grind.{common_steps}
+use Rattle.xc_dance.proofs.LinkedTables.PlaceLemmas.{uses_here, OptionFits, option_fits, layout_len}
 use Rattle.xc_dance.proofs.links.options.node_count.Goals as goal
 use Rattle.xc_dance.proofs.links.options.node_count.Goals.{After-option}
 
 fits : (c : After-option) → OptionFits c.args.problem.now.puzzle c.loop-o.o c.option.result.now
-fits c =
-    let p = c.args.problem.now.puzzle in
-    let lt : c.loop-o.o < option_count p = omega (arith, c.loop-o-test.true, c.options-o-end.ensures.value) in
-    option_fits p c.loop-o.o c.option.result.now c.requires lt (uses_here p (c.loop-o.o + 1) c.option.result.now c.option.ensures.value)
+fits c = grind (arith, common_steps, option_fits, uses_here)
 
 pub overflow_cast-count : goal.overflow_cast-count
 overflow_cast-count c = let f = fits c in omega (arith, f.next, f.within, f.small)
@@ -25,8 +20,4 @@ pub loop-o-preserved : goal.loop-o-preserved
 loop-o-preserved c = let f = fits (goal.at.loop-o-preserved c).After-option in let next = f.next in omega (arith, next, c.loop-o.invariant)
 
 pub returns : goal.returns
-returns c =
-    let p = c.args.problem.now.puzzle in
-    let last : c.loop-o.o ≡ option_count p = omega (arith, c.loop-o-test.false, c.options-o-end.ensures.value, c.loop-o.auto.o-end) in
-    let end : c.loop-o.count ≡ start_at p (option_count p) = c.loop-o.invariant ∙ ap (start_at p) last in
-    omega (arith, layout_len p, end)
+returns c = grind (arith, common_steps, layout_len)

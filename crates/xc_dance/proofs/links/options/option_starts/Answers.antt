@@ -1,17 +1,13 @@
-use Rattle.std.proofs.Common.{arith, ◌+◌, ◌<◌, ◌++◌, [], ◌∷◌, ◌∙◌, ap, sym}
+use Rattle.std.proofs.Common.{arith, ◌+◌, ◌++◌, [], ◌∷◌, ◌∙◌, ap, sym}
+use Rattle.std.proofs.lemmas.Grind.{common_steps}
 use Rattle.std.proofs.lemmas.List.FromFn.{map-range_with_len_more}
-use Rattle.xc_input.specs.Problem.{option_count}
 use Rattle.xc_dance.specs.Links.OptionPlaces.{start_at}
-use Rattle.xc_dance.proofs.LinkedTables.OptionReach.{uses_here}
-use Rattle.xc_dance.proofs.LinkedTables.PlaceLemmas.{starts_to, OptionFits, option_fits}
+use Rattle.xc_dance.proofs.LinkedTables.PlaceLemmas.{uses_here, starts_to, OptionFits, option_fits}
 use Rattle.xc_dance.proofs.links.options.option_starts.Goals as goal
 use Rattle.xc_dance.proofs.links.options.option_starts.Goals.{After-option}
 
 fits : (c : After-option) → OptionFits c.args.problem.now.puzzle c.loop-o.o c.option.result.now
-fits c =
-    let p = c.args.problem.now.puzzle in
-    let lt : c.loop-o.o < option_count p = omega (arith, c.loop-o-test.true, c.options-o-end.ensures.value) in
-    option_fits p c.loop-o.o c.option.result.now c.requires lt (uses_here p (c.loop-o.o + 1) c.option.result.now c.option.ensures.value)
+fits c = grind (arith, common_steps, option_fits, uses_here)
 
 pub overflow_cast-start : goal.overflow_cast-start
 overflow_cast-start c = let f = fits c in omega (arith, f.next, f.within, f.small)

@@ -1,10 +1,10 @@
-use Rattle.std.proofs.Common.{◌≡◌, ℕ, ◌+◌, ◌<◌, ◌≤◌, List, fold, refl, get_or, ap, sym, subst, ◌∙◌, arith}
+use Rattle.std.proofs.Common.{◌≡◌, ℕ, ◌+◌, ◌<◌, ◌≤◌, List, fold, get_or, ap, sym, subst, arith}
+use Rattle.std.proofs.lemmas.Grind.{common_steps}
 use Rattle.xc_dance.specs.declared.links.nodes.Nodes.{Nodes}
 use Rattle.xc_dance.specs.Links.Columns.{columns}
 use Rattle.xc_dance.specs.Links.Span.{Span}
-use Rattle.xc_dance.specs.Links.Steps.{hidden, hide_cost, CanHide, CanHideAll, CanHideNode, IsSpacer, places, span_at}
-use Rattle.xc_dance.proofs.LinkedTables.Places.{places_none, places_more}
-use Rattle.xc_dance.proofs.LinkedTables.Walks.{CanAll-append, underway, step_can, step_on, steps_end, both_reached, Tells, tells}
+use Rattle.xc_dance.specs.Links.Steps.{hidden, CanHide, CanHideAll, CanHideNode, IsSpacer, places, span_at}
+use Rattle.xc_dance.proofs.LinkedTables.Walks.{places_none, places_more, CanAll-append, underway, step_can, step_on, steps_end, both_reached, Tells, tells}
 use Rattle.xc_dance.proofs.links.steps.hide.Goals as goal
 use Rattle.xc_dance.proofs.links.steps.hide.Goals.{After-get}
 
@@ -16,11 +16,7 @@ parts spans t p can = CanAll-append hidden CanHide t (places (p + 1) (span_at sp
 -- what TOP tells
 told : (c : After-get) → (let s = span_at c.args.spans.now c.args.p in
     Tells (columns c.loop-top.top c.loop-top.links c.args.color.now) (fold hidden (columns c.args.top.now c.args.links.now c.args.color.now) (places (c.args.p + 1) s.end)) c.loop-top.q s.end (places c.loop-top.q s.end))
-told c =
-    let q = c.loop-top.q in
-    let end = (span_at c.args.spans.now c.args.p).end in
-    let to = c.loop-top.invariant.to in
-    tells q end (λ v x h. (h.place, h.use_of)) (λ e. places_none q end (omega (arith, e))) (λ ne. (places (q + 1) end, places_more q end (omega (arith, ne, to)))) c.requires.can.spacer c.loop-top.invariant.walk
+told c = grind (arith, common_steps, places_more, places_none, tells)
 
 high : (c : After-get) → 2147483648 ≤ c.get.result → 2147483648 ≤ get_or (columns c.loop-top.top c.loop-top.links c.args.color.now).top c.loop-top.q 0
 high c h = let e = c.get.ensures in omega (arith, e, h)
@@ -30,37 +26,16 @@ goes : (c : After-get) → c.get.result < 2147483648 → c.loop-top.q < (span_at
 goes c low = let e = c.get.ensures in let ne = (told c).low (omega (arith, e, low)) in let to = c.loop-top.invariant.to in omega (arith, ne, to)
 
 pub loop-top-init : goal.loop-top-init
-loop-top-init c =
-    let t : Nodes = columns c.args.top.now c.args.links.now c.args.color.now in
-    let all = places (c.args.p + 1) (span_at c.args.spans.now c.args.p).end in
-    record { walk = underway hide_cost t all all refl (parts c.args.spans.now t c.args.p c.requires.can).0; behind = omega arith; to = let h = c.requires.can.within in omega (arith, h); counted = omega arith; few = omega arith }
+loop-top-init c = grind (arith, common_steps, underway, parts)
 
 pub get-requires : goal.get-requires
-get-requires c =
-    let q = c.loop-top.q in
-    let end = (span_at c.args.spans.now c.args.p).end in
-    let to = c.loop-top.invariant.to in
-    (tells q end (λ (v : Nodes) x (h : CanHide v x). (h.place, h.use_of)) (λ e. places_none q end (omega (arith, e))) (λ ne. (places (q + 1) end, places_more q end (omega (arith, ne, to)))) c.requires.can.spacer c.loop-top.invariant.walk).within
+get-requires c = grind (arith, common_steps, places_more, places_none, tells)
 
 pub hide_one-above-requires-clause-can : goal.hide_one-above-requires-clause-can
-hide_one-above-requires-clause-can c =
-    let q = c.loop-top.q in
-    let end = (span_at c.args.spans.now c.args.p).end in
-    step_can q (places (q + 1) end) (places_more q end (goes (goal.at.hide_one-above-requires-clause-can c).After-get c.loop-top-test.true)) c.loop-top.invariant.walk
+hide_one-above-requires-clause-can c = grind (arith, common_steps, places_more, step_can, goes (goal.at.hide_one-above-requires-clause-can c).After-get)
 
 pub loop-top-preserved : goal.loop-top-preserved
-loop-top-preserved c =
-    let q = c.loop-top.q in
-    let end = (span_at c.args.spans.now c.args.p).end in
-    let lt = goes (goal.at.loop-top-preserved c).After-get c.loop-top-test.true in
-    let made = c.hide_one-above.ensures in
-    record {
-      walk = step_on q (places (q + 1) end) (columns c.hide_one-above.new.top c.hide_one-above.new.links c.args.color.now) c.hide_one-above.result (places_more q end lt) made.done made.cost c.loop-top.invariant.walk;
-      behind = omega arith;
-      to = omega (arith, lt);
-      counted = omega arith;
-      few = grind arith;
-    }
+loop-top-preserved c = grind (arith, common_steps, places_more, step_on, goes (goal.at.loop-top-preserved c).After-get)
 
 pub up-first-requires : goal.up-first-requires
 up-first-requires c =
@@ -74,10 +49,7 @@ up-first-requires c =
 
 -- the spacer leads to the first node
 leads : (c : After-get) → 2147483648 ≤ c.get.result → (first : ℕ) → first ≡ get_or (columns c.loop-top.top c.loop-top.links c.args.color.now).ulink c.loop-top.q 0 → first ≡ (span_at c.args.spans.now c.args.p).first
-leads c met first is =
-    let t = told c in
-    is ∙ ap (λ q. get_or (columns c.loop-top.top c.loop-top.links c.args.color.now).ulink q 0) (t.at (high c met))
-    ∙ ap (λ (u : Nodes). get_or u.ulink (span_at c.args.spans.now c.args.p).end 0) (t.is (high c met)) ∙ c.requires.can.first
+leads c met first is = grind (arith, common_steps, high c, told c)
 
 pub hide_range-below-requires-clause-can : goal.hide_range-below-requires-clause-can
 hide_range-below-requires-clause-can c =

@@ -1,19 +1,11 @@
 use Rattle.std.proofs.Common.{◌+◌, arith}
-use Rattle.xc_dance.specs.Links.Columns.{columns}
+use Rattle.std.proofs.lemmas.Grind.{common_steps}
 use Rattle.xc_dance.specs.Links.Steps.{places}
-use Rattle.xc_dance.proofs.LinkedTables.Places.{places_more}
-use Rattle.xc_dance.proofs.LinkedTables.Walks.{step_can, step_on}
+use Rattle.xc_dance.proofs.LinkedTables.Walks.{places_more, step_can, step_on}
 use Rattle.xc_dance.proofs.links.steps.hide_range.Goals as goal
 
 pub hide_one-count-requires-clause-can : goal.hide_one-count-requires-clause-can
 hide_one-count-requires-clause-can c = let q = c.loop-q.q in step_can q (places (q + 1) c.args.b) (places_more q c.args.b c.loop-q-test.true) c.loop-q.invariant.walk
 
 pub loop-q-preserved : goal.loop-q-preserved
-loop-q-preserved c =
-    let q = c.loop-q.q in
-    let made = c.hide_one-count.ensures in
-    record {
-      walk = step_on q (places (q + 1) c.args.b) (columns c.hide_one-count.new.top c.hide_one-count.new.links c.args.color.now) c.hide_one-count.result (places_more q c.args.b c.loop-q-test.true) made.done made.cost c.loop-q.invariant.walk;
-      counted = omega arith;
-      few = grind arith;
-    }
+loop-q-preserved c = grind (arith, common_steps, places_more, step_on)

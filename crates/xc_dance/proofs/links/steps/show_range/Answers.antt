@@ -1,19 +1,11 @@
 use Rattle.std.proofs.Common.{◌-◌, reverse, arith}
-use Rattle.xc_dance.specs.Links.Columns.{columns}
+use Rattle.std.proofs.lemmas.Grind.{common_steps}
 use Rattle.xc_dance.specs.Links.Steps.{places}
-use Rattle.xc_dance.proofs.LinkedTables.Places.{last_first}
-use Rattle.xc_dance.proofs.LinkedTables.Walks.{step_can, step_on}
+use Rattle.xc_dance.proofs.LinkedTables.Walks.{last_first, step_can, step_on}
 use Rattle.xc_dance.proofs.links.steps.show_range.Goals as goal
 
 pub show_one-count-requires-clause-can : goal.show_one-count-requires-clause-can
 show_one-count-requires-clause-can c = let q = c.loop-q.q in step_can (q - 1) (reverse (places c.args.a (q - 1))) (last_first c.args.a q c.loop-q-test.true) c.loop-q.invariant.walk
 
 pub loop-q-preserved : goal.loop-q-preserved
-loop-q-preserved c =
-    let q = c.loop-q.q in
-    let made = c.show_one-count.ensures in
-    record {
-      walk = step_on (q - 1) (reverse (places c.args.a (q - 1))) (columns c.show_one-count.new.top c.show_one-count.new.links c.args.color.now) c.show_one-count.result (last_first c.args.a q c.loop-q-test.true) made.done made.cost c.loop-q.invariant.walk;
-      counted = omega arith;
-      few = grind arith;
-    }
+loop-q-preserved c = grind (arith, common_steps, last_first, step_on)

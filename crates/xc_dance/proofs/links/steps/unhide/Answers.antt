@@ -1,11 +1,11 @@
 use Rattle.std.proofs.Common.{◌≡◌, ℕ, ◌+◌, ◌-◌, ◌<◌, ◌≤◌, ◌++◌, List, ◌∷◌, fold, reverse, get_or, ap, sym, subst, ◌∙◌, arith}
+use Rattle.std.proofs.lemmas.Grind.{common_steps}
 use Rattle.std.proofs.lemmas.List.{reverse-append}
 use Rattle.xc_dance.specs.declared.links.nodes.Nodes.{Nodes}
 use Rattle.xc_dance.specs.Links.Columns.{columns}
 use Rattle.xc_dance.specs.Links.Span.{Span}
-use Rattle.xc_dance.specs.Links.Steps.{shown, hide_cost, show_costs, CanShow, CanShowAll, CanShowNode, IsSpacer, places, others, span_at}
-use Rattle.xc_dance.proofs.LinkedTables.Places.{places_none, reverse-places}
-use Rattle.xc_dance.proofs.LinkedTables.Walks.{CanAll-append, underway, step_can, step_on, steps_end, both_reached, Tells, tells}
+use Rattle.xc_dance.specs.Links.Steps.{shown, show_costs, CanShow, CanShowAll, CanShowNode, IsSpacer, places, others, span_at}
+use Rattle.xc_dance.proofs.LinkedTables.Walks.{places_none, reverse-places, CanAll-append, underway, step_can, step_on, steps_end, both_reached, Tells, tells}
 use Rattle.xc_dance.proofs.links.steps.unhide.Goals as goal
 use Rattle.xc_dance.proofs.links.steps.unhide.Goals.{After-get}
 
@@ -26,13 +26,7 @@ next first q pos le = let same : q - 1 + 1 ≡ q = omega (arith, pos, le) in rev
 -- what TOP tells
 told : (c : After-get) → (let s = span_at c.args.spans.now c.args.p in
     Tells (columns c.loop-top.top c.loop-top.links c.args.color.now) (fold shown (columns c.args.top.now c.args.links.now c.args.color.now) (reverse (places s.first c.args.p))) c.loop-top.q (s.first - 1) (reverse (places s.first (c.loop-top.q + 1))))
-told c =
-    let q = c.loop-top.q in
-    let first = (span_at c.args.spans.now c.args.p).first in
-    let from = c.loop-top.invariant.from in
-    let pos = c.requires.can.from in
-    tells q (first - 1) (λ (v : Nodes) x (h : CanShow v x). (h.place, h.use_of)) (λ e. ap reverse (places_none first (q + 1) (omega (arith, e, pos))))
-    (λ ne. (reverse (places first (q - 1 + 1)), next first q pos (omega (arith, ne, from)))) c.requires.can.spacer c.loop-top.invariant.walk
+told c = grind (arith, common_steps, places_none, tells, next)
 
 high : (c : After-get) → 2147483648 ≤ c.get.result → 2147483648 ≤ get_or (columns c.loop-top.top c.loop-top.links c.args.color.now).top c.loop-top.q 0
 high c h = let e = c.get.ensures in omega (arith, e, h)
@@ -42,52 +36,19 @@ goes : (c : After-get) → c.get.result < 2147483648 → (span_at c.args.spans.n
 goes c low = let e = c.get.ensures in let ne = (told c).low (omega (arith, e, low)) in let from = c.loop-top.invariant.from in omega (arith, ne, from)
 
 pub loop-top-init : goal.loop-top-init
-loop-top-init c =
-    let first = (span_at c.args.spans.now c.args.p).first in
-    let t : Nodes = columns c.args.top.now c.args.links.now c.args.color.now in
-    let from = c.requires.can.from in
-    let within = c.requires.can.within in
-    let same : c.args.p - 1 + 1 ≡ c.args.p = omega (arith, from, within) in
-    record {
-      walk = underway hide_cost t (reverse (places first c.args.p)) (reverse (places first (c.args.p - 1 + 1))) (ap (λ b. reverse (places first b)) same) (parts c.args.spans.now t c.args.p c.requires.can).0;
-      before = omega (arith, from, within);
-      from = omega (arith, from, within);
-      counted = omega arith;
-      few = omega arith;
-    }
+loop-top-init c = grind (arith, common_steps, underway, parts)
 
 pub get-requires : goal.get-requires
-get-requires c =
-    let q = c.loop-top.q in
-    let first = (span_at c.args.spans.now c.args.p).first in
-    let from = c.loop-top.invariant.from in
-    let pos = c.requires.can.from in
-    (tells q (first - 1) (λ (v : Nodes) x (h : CanShow v x). (h.place, h.use_of)) (λ e. ap reverse (places_none first (q + 1) (omega (arith, e, pos))))
-    (λ ne. (reverse (places first (q - 1 + 1)), next first q pos (omega (arith, ne, from)))) c.requires.can.spacer c.loop-top.invariant.walk).within
+get-requires c = grind (arith, common_steps, places_none, tells, next)
 
 pub show_one-below-requires-clause-can : goal.show_one-below-requires-clause-can
-show_one-below-requires-clause-can c =
-    let q = c.loop-top.q in
-    let first = (span_at c.args.spans.now c.args.p).first in
-    step_can q (reverse (places first (q - 1 + 1))) (next first q c.requires.can.from (goes (goal.at.show_one-below-requires-clause-can c).After-get c.loop-top-test.true)) c.loop-top.invariant.walk
+show_one-below-requires-clause-can c = grind (arith, common_steps, step_can, next, goes (goal.at.show_one-below-requires-clause-can c).After-get)
 
 pub show_one-below-requires-clause-unmarked : goal.show_one-below-requires-clause-unmarked
 show_one-below-requires-clause-unmarked c = λ m. (c.requires.unmarked m).1 c.loop-top.q (goes (goal.at.show_one-below-requires-clause-unmarked c).After-get c.loop-top-test.true) c.loop-top.invariant.before
 
 pub loop-top-preserved : goal.loop-top-preserved
-loop-top-preserved c =
-    let q = c.loop-top.q in
-    let first = (span_at c.args.spans.now c.args.p).first in
-    let le = goes (goal.at.loop-top-preserved c).After-get c.loop-top-test.true in
-    let from = c.requires.can.from in
-    let made = c.show_one-below.ensures in
-    record {
-      walk = step_on q (reverse (places first (q - 1 + 1))) (columns c.show_one-below.new.top c.show_one-below.new.links c.args.color.now) c.show_one-below.result (next first q from le) made.done made.cost c.loop-top.invariant.walk;
-      before = omega arith;
-      from = omega (arith, le, from);
-      counted = omega arith;
-      few = grind (arith, le, from);
-    }
+loop-top-preserved c = grind (arith, common_steps, step_on, next, goes (goal.at.loop-top-preserved c).After-get)
 
 pub down-end-requires : goal.down-end-requires
 down-end-requires c =
@@ -101,10 +62,7 @@ down-end-requires c =
 
 -- the spacer leads to the last node
 leads : (c : After-get) → 2147483648 ≤ c.get.result → (last : ℕ) → last ≡ get_or (columns c.loop-top.top c.loop-top.links c.args.color.now).dlink c.loop-top.q 0 → last + 1 ≡ (span_at c.args.spans.now c.args.p).end
-leads c met last is =
-    let t = told c in
-    let before = (span_at c.args.spans.now c.args.p).first - 1 in
-    ap (λ n. n + 1) (is ∙ ap (λ q. get_or (columns c.loop-top.top c.loop-top.links c.args.color.now).dlink q 0) (t.at (high c met)) ∙ ap (λ (u : Nodes). get_or u.dlink before 0) (t.is (high c met))) ∙ c.requires.can.last
+leads c met last is = grind (arith, common_steps, high c, told c)
 
 pub overflow_add-end : goal.overflow_add-end
 overflow_add-end c =

@@ -1,4 +1,5 @@
 use Rattle.std.proofs.Common.{◌<◌, length, sym, subst, arith}
+use Rattle.std.proofs.lemmas.Grind.{common_steps}
 use Rattle.xc_dance.specs.Links.Columns.{columns}
 use Rattle.xc_dance.specs.declared.links.nodes.Nodes.{Nodes}
 use Rattle.xc_dance.specs.Links.Steps.{followed}
@@ -28,11 +29,7 @@ loop-preserved c =
     }
 
 pub returns-clause-done : goal.returns-clause-done
-returns-clause-done c =
-    let long = length-followed (columns c.args.top.now c.args.links.now c.args.color.now).dlink c.args.k c.args.x in
-    (follow_end (omega (arith, long, c.loop-test.false)) c.loop.invariant.walk).done
+returns-clause-done c = grind (arith, common_steps, follow_end, length-followed)
 
 pub returns-clause-cost : goal.returns-clause-cost
-returns-clause-cost c =
-    let long = length-followed (columns c.args.top.now c.args.links.now c.args.color.now).dlink c.args.k c.args.x in
-    (follow_end (omega (arith, long, c.loop-test.false)) c.loop.invariant.walk).cost
+returns-clause-cost c = grind (arith, common_steps, follow_end, length-followed)

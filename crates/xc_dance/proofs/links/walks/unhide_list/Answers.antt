@@ -1,4 +1,5 @@
-use Rattle.std.proofs.Common.{◌<◌, length, get_or, sym, subst, arith}
+use Rattle.std.proofs.Common.{◌<◌, length, sym, subst, arith}
+use Rattle.std.proofs.lemmas.Grind.{common_steps}
 use Rattle.xc_dance.specs.Links.Columns.{columns}
 use Rattle.xc_dance.specs.declared.links.nodes.Nodes.{Nodes}
 use Rattle.xc_dance.specs.Links.Steps.{list_back}
@@ -9,10 +10,7 @@ use Rattle.xc_dance.proofs.links.walks.unhide_list.Goals.{In-loop}
 
 -- a node of the list is left
 within : (c : In-loop) → c.loop.counter < length (list_back (columns c.args.top.now c.args.links.now c.args.color.now) c.args.i)
-within c =
-    let t : Nodes = columns c.args.top.now c.args.links.now c.args.color.now in
-    let long = length-followed t.ulink (get_or t.top c.args.i 0) (get_or t.ulink c.args.i 0) in
-    omega (arith, long, c.loop-test.true, c.get-end.ensures)
+within c = grind (arith, common_steps, length-followed)
 
 pub come_back-count-requires-clause-can : goal.come_back-count-requires-clause-can
 come_back-count-requires-clause-can c = (follow_here (within (goal.at.come_back-count-requires-clause-can c).In-loop) c.loop.invariant.walk).can
@@ -33,13 +31,7 @@ loop-preserved c =
     }
 
 pub returns-clause-done : goal.returns-clause-done
-returns-clause-done c =
-    let t : Nodes = columns c.args.top.now c.args.links.now c.args.color.now in
-    let long = length-followed t.ulink (get_or t.top c.args.i 0) (get_or t.ulink c.args.i 0) in
-    (follow_end (omega (arith, long, c.loop-test.false, c.get-end.ensures)) c.loop.invariant.walk).done
+returns-clause-done c = grind (arith, common_steps, follow_end, length-followed)
 
 pub returns-clause-cost : goal.returns-clause-cost
-returns-clause-cost c =
-    let t : Nodes = columns c.args.top.now c.args.links.now c.args.color.now in
-    let long = length-followed t.ulink (get_or t.top c.args.i 0) (get_or t.ulink c.args.i 0) in
-    (follow_end (omega (arith, long, c.loop-test.false, c.get-end.ensures)) c.loop.invariant.walk).cost
+returns-clause-cost c = grind (arith, common_steps, follow_end, length-followed)

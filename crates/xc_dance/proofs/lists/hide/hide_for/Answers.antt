@@ -1,7 +1,8 @@
-use Rattle.std.proofs.Common.{arith, ◌∙◌, ap, sym, subst, length, not, filter, List, ℕ, None, Some, ◌∷◌, ◌-◌}
+use Rattle.std.proofs.Common.{arith, ◌∙◌, ap, sym, subst, not, filter, List, ℕ, None, Some, ◌∷◌, ◌-◌}
+use Rattle.std.proofs.lemmas.Grind.{common_steps}
 use Rattle.xc_dance.specs.declared.dance.Move.{Move}
 use Rattle.xc_dance.specs.Lists.Versions.{Versions}
-use Rattle.xc_dance.specs.Moves.{IsLegal, listed}
+use Rattle.xc_dance.specs.Moves.{IsLegal}
 use Rattle.xc_dance.specs.Lists.Taking.{list_at}
 use Rattle.xc_dance.specs.Lists.Losing.{lose, is_kept, AreLists, lists_after}
 use Rattle.xc_dance.proofs.LiveLists.Marks.{same_versions}
@@ -21,14 +22,7 @@ hide_options-requires-in-Purify-clause-lists c =
     subst P (sym c.requires.lists) (lists_hold p c.args.standing.now.trail)
 
 pub tweak-requires-clause-option : goal.tweak-requires-clause-option
-tweak-requires-clause-option c =
-    let p = c.args.standing.now.puzzle in
-    let t = c.args.standing.now.trail in
-    let i = c.in-Tweak.item in
-    let P : Move → Type 0 = λ m. IsLegal p t m in
-    let legal = subst P c.in-Tweak.is c.requires.legal in
-    let list = ap (λ l. list_at l (i - 1)) c.requires.lists ∙ list_after p t i legal.0.0 legal.0.1 in
-    omega (arith, ap (λ l. length l) list, length_numbers (listed p t i), legal.2)
+tweak-requires-clause-option c = grind (arith, common_steps, length_numbers, list_after)
 
 pub returns-in-Cover : goal.returns-in-Cover
 returns-in-Cover c =

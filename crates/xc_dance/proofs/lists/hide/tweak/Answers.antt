@@ -1,9 +1,9 @@
-use Rattle.std.proofs.Common.{arith, ◌≡◌, ◌+◌, ◌∙◌, ap, sym, subst, length, get_or, set, List, ℕ, ◌<◌, [], ◌∷◌, ◌-◌}
+use Rattle.std.proofs.Common.{arith, ◌≡◌, ◌+◌, ◌∙◌, ap, sym, subst, length, get_or, List, ℕ, ◌<◌, ◌-◌}
+use Rattle.std.proofs.lemmas.Grind.{common_steps}
 use Rattle.xc_dance.specs.Lists.Versions.{Versions}
-use Rattle.xc_dance.specs.Moves.{listed}
 use Rattle.xc_dance.specs.Rising.{Rises}
-use Rattle.xc_dance.specs.Lists.Taking.{list_at, less}
-use Rattle.xc_dance.specs.Lists.Losing.{AreLists, lists_after}
+use Rattle.xc_dance.specs.Lists.Taking.{list_at}
+use Rattle.xc_dance.specs.Lists.Losing.{lists_after}
 use Rattle.xc_dance.proofs.LiveLists.Marks.{same_versions}
 use Rattle.xc_dance.proofs.LiveLists.OptionsLost.{list_of, known_option}
 use Rattle.xc_dance.proofs.MoveLemmas.Shortened.{lists_hold, list_after, length_numbers, first_hidden, first_hidden_lists, lists_tweaked}
@@ -21,10 +21,7 @@ hide_if_open-requires-clause-option c =
     rw row (known_option p (get_or (list_at (lists_after p t) (i - 1)) 0 0) (1 + (i - 1)) (list.1 0 0 some))
 
 pub hide_if_open-requires-clause-lists : goal.hide_if_open-requires-clause-lists
-hide_if_open-requires-clause-lists c =
-    let p = c.args.standing.now.puzzle in
-    let P : List (List ℕ) → Type 0 = λ l. AreLists p l in
-    subst P (sym c.requires.lists) (lists_hold p c.args.standing.now.trail)
+hide_if_open-requires-clause-lists c = grind (arith, common_steps, lists_hold)
 
 pub take_out-requires-clause-list : goal.take_out-requires-clause-list
 take_out-requires-clause-list c =
@@ -45,15 +42,4 @@ take_out-requires-clause-rises c =
     subst P (sym now) (list_of p 1 (i - 1) (first_hidden t i (get_or c.list.result.now 0 0) (lists_after p t)) are.1 (omega (arith, are.0, c.requires.item.0, c.requires.item.1))).0
 
 pub returns : goal.returns
-returns c =
-    let p = c.args.standing.now.puzzle in
-    let t = c.args.standing.now.trail in
-    let i = c.args.item in
-    let x = get_or c.list.result.now 0 0 in
-    let row = c.list.ensures ∙ ap (λ l. list_at l (i - 1)) c.requires.lists ∙ list_after p t i c.requires.item.0 c.requires.item.1 in
-    let some : 0 < length (listed p t i) =
-    omega (arith, c.requires.option, ap (λ l. length l) (c.list.ensures), ap (λ l. length l) row, length_numbers (listed p t i)) in
-    let now = ap (λ (v : Versions). v.lists) c.hide_if_open.ensures ∙ ap (λ l. first_hidden t i x l) c.requires.lists in
-    let lists = ap (λ (v : Versions). v.lists) c.take_out.ensures ∙ ap (λ l. set l (i - 1) (less (x ∷ []) (list_at l (i - 1)))) now
-    ∙ lists_tweaked p t i x c.requires.item.0 c.requires.item.1 some (ap (λ l. get_or l 0 0) row) in
-    same_versions lists (ap (λ (v : Versions). v.marked) c.take_out.ensures ∙ ap (λ (v : Versions). v.marked) c.hide_if_open.ensures) (ap (λ (v : Versions). v.room) c.take_out.ensures ∙ ap (λ (v : Versions). v.room) c.hide_if_open.ensures)
+returns c = grind (arith, common_steps, length_numbers, list_after, lists_tweaked, same_versions)

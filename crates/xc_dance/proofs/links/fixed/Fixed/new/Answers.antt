@@ -1,7 +1,7 @@
+use Rattle.std.proofs.Common.{arith}
+use Rattle.std.proofs.lemmas.Grind.{common_steps}
 use Rattle.xc_dance.proofs.LinkedTables.FittedLemmas.{known_fit}
 use Rattle.xc_dance.proofs.links.fixed.Fixed.new.Goals as goal
 
 pub returns-clause-fit : goal.returns-clause-fit
-returns-clause-fit c =
-    let known = c.items-items.ensures.whole in
-    known_fit c.args.problem.now.colours c.args.problem.now.puzzle known.valid known.limits known.coloured known.few_colours
+returns-clause-fit c = grind (arith, common_steps, known_fit)

@@ -1,6 +1,6 @@
 use Rattle.std.proofs.Common.{arith, ◌≡◌, ◌∙◌, ap, sym, reverse}
+use Rattle.std.proofs.lemmas.Grind.{common_steps}
 use Rattle.std.specs.Prelude.{is_some}
-use Rattle.xc_input.specs.Problem.{item_count}
 use Rattle.xc_dance.specs.Dancing.{Dancing}
 use Rattle.xc_dance.specs.Moves.{purified}
 use Rattle.xc_dance.proofs.MoveLemmas.StateLemmas.{state_at, purified_by_state, unpurified_state, is_purified_state}
@@ -9,10 +9,7 @@ use Rattle.xc_dance.proofs.lists.trail.Trail.is_purified.Goals.{After-index}
 use Rattle.xc_dance.specs.Lists.States.{state_of}
 
 state : (c : After-index) → state_of c.args.item (reverse c.self.inside.moves.items) ≡ c.index.result.now
-state c =
-    let a = c.self.inside in
-    let high = ap (λ (v : Dancing). item_count v.puzzle) c.self.view_is in
-    state_at a.table (reverse a.moves.items) a.states.items c.args.item c.index.result.now c.self.invariant.states c.requires.0 (omega (arith, high, c.requires.1)) c.index.ensures
+state c = grind (arith, common_steps, state_at)
 
 pub returns-in-Purified : goal.returns-in-Purified
 returns-in-Purified c =

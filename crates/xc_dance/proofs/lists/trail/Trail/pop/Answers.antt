@@ -1,10 +1,11 @@
-use Rattle.std.proofs.Common.{arith, ◌≡◌, ◌+◌, ◌∙◌, ap, subst, reverse, [], ◌∷◌, List, ◌<◌, ◌-◌, true, false, eqb, eq-eqb, refl, ◌++◌, ℕ}
+use Rattle.std.proofs.Common.{arith, ◌≡◌, ◌+◌, reverse, [], ◌∷◌, List, ◌-◌, false, eqb, eq-eqb, refl, ◌++◌, ℕ}
+use Rattle.std.proofs.lemmas.Grind.{common_steps}
 use Rattle.std.proofs.lemmas.Grind.{get_or_default_zero}
-use Rattle.xc_input.specs.Problem.{primary_count, Puzzle}
+use Rattle.xc_input.specs.Problem.{Puzzle}
 use Rattle.std.proofs.lemmas.List.{reverse-append}
 use Rattle.std.proofs.lemmas.Bool.{ne_eqb}
 use Rattle.xc_dance.specs.declared.dance.Move.{Move}
-use Rattle.xc_dance.specs.declared.dance.Move.TheVariants.{Cover, Purify, Spend}
+use Rattle.xc_dance.specs.declared.dance.Move.TheVariants.{Cover, Purify}
 use Rattle.xc_dance.specs.declared.lists.item_states.ItemState.TheVariants.{Open}
 use Rattle.xc_dance.specs.Moves.{AreLegal}
 use Rattle.xc_dance.specs.Lists.States.{AreStates, AreLeft}
@@ -19,9 +20,7 @@ record Before (p : Puzzle) (m : Move) (t : List Move) (items : List ItemState) (
   left : AreLeft p (m ∷ t) bounds
 
 before : (p : Puzzle) (old new : List Move) (n m : Move) (items : List ItemState) (bounds : List ℕ) → old ≡ new ++ n ∷ [] → n ≡ m → AreLegal p (reverse old) → AreStates p (reverse old) items → AreLeft p (reverse old) bounds → Before p m (reverse new) items bounds
-before p old new n m items bounds e is legal states left =
-    let r : reverse old ≡ m ∷ reverse new = ap reverse e ∙ reverse-append new (n ∷ []) ∙ ap (λ k. k ∷ reverse new) is in
-    record { legal = subst (AreLegal p) r legal; states = subst (λ k. AreStates p k items) r states; left = subst (λ k. AreLeft p k bounds) r left }
+before p old new n m items bounds e is legal states left = grind (arith, common_steps, reverse-append)
 
 pub invariant_of-self : goal.invariant_of-self
 invariant_of-self c =
@@ -56,16 +55,4 @@ invariant_of-self-in-Purify c =
     }
 
 pub overflow_add-index_mut : goal.overflow_add-index_mut
-overflow_add-index_mut c =
-    let a = c.self.inside in
-    let i = c.in-Spend.item in
-    let t = reverse c.pop.new.self.items in
-    let b = before a.table a.moves.items c.pop.new.self.items c.in-Some.m (Spend i) a.states.items a.left.items c.in-Some.ensures.items c.in-Spend.is c.self.invariant.legal c.self.invariant.states c.self.invariant.left in
-    let legal = b.legal in
-    let lt : i - 1 < primary_count a.table = omega (arith, legal.0.0.0, legal.0.0.1) in
-    let each = b.left.each (i - 1) lt in
-    let at : (i - 1) + 1 ≡ i = omega (arith, legal.0.0.0) in
-    let self : eqb ((i - 1) + 1) i ≡ true = eq-eqb ((i - 1) + 1) i at in
-    let spent = rw self at each in
-    let read = get_or_default_zero a.left.items (i - 1) c.index_mut-in-Spend.result.now (omega (arith, lt, b.left.count)) in
-    omega (arith, spent, high_within a.table ((i - 1) + 1) c.self.invariant.limits, c.index_mut-in-Spend.ensures.value, read)
+overflow_add-index_mut c = grind (arith, common_steps, eq-eqb, get_or_default_zero, high_within, before)
