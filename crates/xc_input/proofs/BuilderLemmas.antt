@@ -11,7 +11,7 @@ use Rattle.xc_input.specs.declared.option_line.WrittenUse.{WrittenUse}
 use Rattle.xc_input.specs.declared.builder.ProblemBuilder.{ProblemBuilder}
 use Rattle.xc_input.specs.Words.{place}
 use Rattle.xc_input.specs.Tokens.{tokens, parts}
-use Rattle.xc_input.specs.Sheets.{Written, names_of, colour_number, use_count, number_uses, with_uses, with_colour}
+use Rattle.xc_input.specs.Sheets.{names_of, colour_number, use_count, number_uses, with_uses}
 use Rattle.xc_input.specs.Faults.{first, option_checks, has_primary, row_checks, no_row, context, written}
 use Rattle.xc_input.specs.Limits.{most_uses, most_items}
 use Rattle.xc_input.specs.Stages.{content_checks, with_option, written_by}

@@ -1,11 +1,9 @@
 -- The uses of an option can be told.
-use Rattle.std.proofs.Common.{ℕ, zero, suc, ◌≡◌, ◌<◌, ◌≤◌, Bool, true, false, nat_le, refl, sym, arith, List, [], ◌∷◌, length, Some, subst}
+use Rattle.std.proofs.Common.{ℕ, zero, suc, ◌≡◌, ◌≤◌, List, [], ◌∷◌, length, Some, subst}
 use Rattle.std.specs.Prelude.{slice_get, All}
 use Rattle.std.proofs.lemmas.List.Elements.{All-head, All-tail, All-weaker, All-nil, All-cons}
 use Rattle.xc_input.specs.declared.problem.Use.{Use}
-use Rattle.std.proofs.lemmas.Bool.Decides.{nat_tests}
-use Rattle.xc_input.specs.Problem.{Bounds, Puzzle, numbered_get, bounds_at, primary_count, IsValid, IsSoundOption, IsSoundUse, IsItem, IsPrimary, IsSecondary}
-use Rattle.xc_input.specs.Flat.{secondary_bounds}
+use Rattle.xc_input.specs.Problem.{Puzzle, numbered_get, IsValid, IsSoundOption, IsSoundUse, IsItem}
 use Rattle.xc_input.specs.Named.{AreColoursKnown}
 
 pub at_place : {X : Type 0} (P : X → Type 0) (xs : List X) (k : ℕ) (x : X) → All P xs → slice_get xs k ≡ Some x → P x

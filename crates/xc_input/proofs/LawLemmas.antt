@@ -1,5 +1,5 @@
 -- The grammar relates lines to a problem exactly where they have no fault, and then to the one that the lines give.
-use Rattle.std.proofs.Common.{◌≡◌, ℕ, suc, ◌+◌, ◌<◌, ◌≤◌, List, [], ◌∷◌, ◌++◌, Option, None, Some, Bool, true, false, ◌&&◌, not, nat_lt, nat_eq, is_none, is_some, unwrap_or, length, refl, ap, ◌∙◌, sym, subst, arith, if◌then◌else◌, inl, inr, ◌⊎◌, append_assoc, map}
+use Rattle.std.proofs.Common.{◌≡◌, ℕ, ◌+◌, ◌<◌, ◌≤◌, List, [], ◌∷◌, ◌++◌, Option, None, Some, Bool, true, false, ◌&&◌, not, nat_lt, nat_eq, is_none, is_some, unwrap_or, length, refl, ap, ◌∙◌, sym, subst, arith, if◌then◌else◌, inl, inr, ◌⊎◌, append_assoc, map}
 use Rattle.std.proofs.lemmas.Bool.Decides.{nat_tests}
 use Rattle.std.proofs.lemmas.List.{append-nil, length-map}
 use Rattle.std.specs.List.{list_any}
@@ -10,7 +10,7 @@ use Rattle.xc_input.specs.declared.problem.Use.{Use}
 use Rattle.xc_input.specs.Words.{has, before, after, place}
 use Rattle.xc_input.specs.Tokens.{tokens, parts, is_bar, is_skipped}
 use Rattle.std.proofs.lemmas.List.Sums.{sum_by-append}
-use Rattle.xc_input.specs.Sheets.{Entry, Sheet, Written, names_of, number_uses, with_uses, with_colour, use_count}
+use Rattle.xc_input.specs.Sheets.{Entry, Sheet, Written, names_of, number_uses, with_uses, use_count}
 use Rattle.xc_input.specs.Faults.{first, is_plain, name_checks, item_checks, entry, Row, no_row, part_checks, with_part, row_checks, row_of, item_number, is_bad_colour, token_checks, option_checks, written, has_primary, context}
 use Rattle.xc_input.specs.Limits.{most_uses}
 use Rattle.xc_input.specs.Stages.{Stage, Place, no_stage, content_checks, line_checks, with_option, with_line, line_number, fault_from, stage_from, stage_of, line_fault, first_fault, end_fault}

@@ -1,5 +1,5 @@
 -- What a text's lines are, once some of them were handed on.
-use Rattle.std.proofs.Common.{◌≡◌, ℕ, ◌<◌, List, [], ◌∷◌, ◌++◌, true, false, nat_eq, if◌then◌else◌, Result, Ok, Err, OnOk, IfErr, length, refl, sym, ap, ◌∙◌, subst, append_assoc, append-nil, arith, is_ok, is_err}
+use Rattle.std.proofs.Common.{◌≡◌, ℕ, ◌<◌, List, [], ◌∷◌, ◌++◌, true, false, nat_eq, if◌then◌else◌, Result, Ok, Err, length, refl, sym, ap, ◌∙◌, subst, append_assoc, append-nil, arith}
 use Rattle.std.proofs.lemmas.List.Folds.{list_any-append}
 use Rattle.std.specs.Result.{result_err}
 use Rattle.xc_input.specs.declared.kind.Kind.{Kind}

@@ -1,5 +1,5 @@
 -- One token of an option line.
-use Rattle.std.proofs.Common.{arith, ◌<◌, ◌≤◌, ◌≡◌, ℕ, ◌+◌, List, [], ◌∷◌, ◌++◌, Option, None, Some, Bool, true, false, ◌||◌, ◌&&◌, not, nat_lt, nat_eq, is_none, unwrap_or, map, refl, ap, ◌∙◌, sym, subst, if◌then◌else◌, MatchOption, Result, Ok, Err, append_assoc, is_ok, is_err}
+use Rattle.std.proofs.Common.{arith, ◌<◌, ◌≤◌, ◌≡◌, ℕ, ◌+◌, List, [], ◌∷◌, ◌++◌, Option, None, Some, Bool, true, false, ◌||◌, ◌&&◌, not, nat_lt, nat_eq, is_none, unwrap_or, map, refl, ap, ◌∙◌, sym, subst, if◌then◌else◌, MatchOption, Result, Ok, Err, append_assoc, is_ok}
 use Rattle.std.proofs.lemmas.Bool.Decides.{nat_tests}
 use Rattle.std.specs.List.{list_any}
 use Rattle.xc_input.specs.declared.kind.Kind.{Kind}

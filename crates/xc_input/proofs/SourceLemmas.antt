@@ -1,13 +1,12 @@
 -- What the end of a source says of its text.
 use Rattle.std.proofs.Common.{◌≡◌, ℕ, ◌<◌, List, [], ◌∷◌, ◌++◌, Option, None, Some, Result, Ok, Err, IfSome, IfOk, IfErr, length, sym, ap, ◌∙◌, subst, append_assoc, append-nil, take}
-use Rattle.std.specs.Io.KnownBytes.{Consumes, IsAtEnd, Keeps}
+use Rattle.std.specs.Io.KnownBytes.{Consumes, IsAtEnd}
 use Rattle.xc_input.specs.declared.kind.Kind.{Kind}
 use Rattle.xc_input.specs.declared.fault.InputError.{InputError}
 use Rattle.xc_input.specs.declared.fault.InputError.TheVariants.{Fault, Device, Memory}
 use Rattle.xc_input.specs.declared.reader.Read.{Read}
 use Rattle.xc_input.specs.Named.{Named}
 use Rattle.xc_input.specs.Stages.{stage_of, end_fault}
-use Rattle.xc_input.specs.Text.{StandsFor}
 use Rattle.xc_input.specs.Readings.{Reading, IsFault}
 use Rattle.xc_input.specs.inner.Feeding.{IsErrorOf, IsEndOf, fed, IsBetween, Spoils, EndsAs}
 use Rattle.xc_input.specs.Lines.{lines_of, IsTextOf}
@@ -109,9 +108,3 @@ pub spoiled : (kind : Kind) (old now : Option (List ℕ)) (a b : ℕ) (bytes : L
 spoiled kind old now a b bytes e h p s =
     let known = error-ends kind (lines_of (bytes ++ [])) e (h []) in
     says kind old now a b (Err e) (spoilt kind old now bytes e h p) (same-count kind (lines_of (bytes ++ [])) a b (Err e) known s) (no-cut kind (lines_of (bytes ++ [])) old now (Err e) known)
-
-pub consumes_kept : (a b c : Option (List ℕ)) (xs : List ℕ) → Consumes a b xs → Keeps b c → Consumes a c xs
-consumes_kept None b c xs p q = tt
-consumes_kept (Some x) None c xs p q = absurd p
-consumes_kept (Some x) (Some y) None xs p q = absurd q
-consumes_kept (Some x) (Some y) (Some z) xs p q = p ∙ ap (λ l. xs ++ l) (sym q)

@@ -1,10 +1,10 @@
 -- What is said of a source once a problem was read from it.
-use Rattle.std.specs.Prelude.{◌≡◌, ℕ, List, ◌++◌, false, Option, None, Result, Ok, Err}
+use Rattle.std.specs.Prelude.{◌≡◌, ℕ, List, ◌++◌, false, Option, None, Result, Err}
 use Prim.Native.Char.{code}
 use Rattle.std.specs.Io.KnownBytes.{Consumes}
 use Rattle.xc_input.specs.declared.kind.Kind.{Kind}
 use Rattle.xc_input.specs.declared.fault.InputError.{InputError}
-use Rattle.xc_input.specs.declared.fault.InputError.TheVariants.{Fault, Device, Memory}
+use Rattle.xc_input.specs.declared.fault.InputError.TheVariants.{Fault, Device}
 use Rattle.xc_input.specs.Words.{has}
 use Rattle.xc_input.specs.Stages.{line_fault}
 use Rattle.xc_input.specs.Lines.{IsFirstFault, ended, AreWhole}

@@ -4,7 +4,7 @@ use Rattle.std.specs.Str.{bytes_eq}
 use Rattle.xc_input.specs.declared.kind.Kind.{Kind}
 use Rattle.xc_input.specs.declared.kind.Kind.TheVariants.{Plain, Colours, Bounds}
 use Rattle.xc_input.specs.Named.{Named}
-use Rattle.xc_input.specs.Lines.{IsTextOf, lines_of}
+use Rattle.xc_input.specs.Lines.{lines_of}
 use Rattle.xc_list.specs.Listed.{first_fault, AreVerdicts}
 use Rattle.xc_list.specs.Texts.{SinkState, Took, WasTold, Begins}
 use Rattle.xc_list.specs.declared.checker.Verdict.{Verdict}

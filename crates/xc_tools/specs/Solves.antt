@@ -3,8 +3,7 @@ use Rattle.std.specs.Prelude.{◌≡◌, ◌⊎◌, ℕ, List, ◌++◌, IsTrue,
 use Rattle.xc_input.specs.Calls.{Rose}
 use Rattle.xc_input.specs.declared.kind.Kind.{Kind}
 use Rattle.xc_input.specs.Named.{Named}
-use Rattle.xc_input.specs.Lines.{IsTextOf, IsFirstFault}
-use Rattle.xc_input.specs.Pieces.{IsPart}
+use Rattle.xc_input.specs.Lines.{IsTextOf}
 use Rattle.xc_input.specs.declared.fault.FaultKind.{FaultKind}
 use Rattle.xc_input.specs.declared.fault.InputError.TheVariants.{Fault}
 use Rattle.xc_tools.specs.Errors.{input_error_text}
@@ -13,7 +12,7 @@ use Rattle.xc_list.specs.declared.runs.End.{End}
 use Rattle.xc_list.specs.Messages.{warning_text, summary_text, failed_text}
 use Rattle.xc_list.specs.Output.{output}
 use Rattle.xc_list.specs.Runs.{end_of}
-use Rattle.xc_list.specs.Texts.{SinkState, Took, BrokeOff, WasTold, IsUntouched, Begins}
+use Rattle.xc_list.specs.Texts.{SinkState, Took, BrokeOff, WasTold, IsUntouched}
 
 -- A problem was solved: one sink took its output, the other the warnings and the last line. Neither failed.
 pub record IsSolved (a : Named) (ignored : List ℕ) (w : Words) (out_old out_new err_old err_new : SinkState) : Type 0 where

@@ -1,5 +1,5 @@
 -- The columns of the node table, one write to them, and steps of hide that undo one another.
-use Rattle.std.proofs.Common.{◌≡◌, ◌≢◌, ℕ, zero, suc, List, [], ◌∷◌, map, get_or, set, Some, refl, ap, ap₂, arith, ◌-◌, ◌<◌, Bool, true, false, cond, eqb, reverse, fold, ◌∙◌, length, ◌≤◌, Option, None, sym, eqb-true, eq-eqb, ne_eqb, ◌^◌, ◌++◌}
+use Rattle.std.proofs.Common.{◌≡◌, ◌≢◌, ℕ, zero, suc, List, [], ◌∷◌, map, get_or, set, Some, refl, ap, ap₂, arith, ◌<◌, Bool, true, false, cond, eqb, reverse, fold, ◌∙◌, length, ◌≤◌, Option, None, sym, eqb-true, eq-eqb, ne_eqb, ◌^◌, ◌++◌}
 use Rattle.std.specs.Prelude.{slice_get}
 use Rattle.std.proofs.lemmas.Option.{same_Some, slice_get_within}
 use Rattle.std.proofs.lemmas.Grind.{common_steps}

@@ -1,4 +1,4 @@
-use Rattle.std.proofs.Common.{◌∙◌, ◌-◌, ap, is_ok, Vec, Global, sym, map, true, length-set}
+use Rattle.std.proofs.Common.{◌∙◌, ◌-◌, ap, is_ok, Vec, Global, map, true, length-set}
 use Rattle.xc_input.specs.Tokens.{tokens}
 use Rattle.xc_input.specs.inner.Builders.{written_of, items_of}
 use Rattle.xc_input.specs.Stored.{key_names}

@@ -1,5 +1,5 @@
 -- A write to one cell is a write to the list of the cells' values.
-use Rattle.std.proofs.Common.{set, arith}
+use Rattle.std.proofs.Common.{arith}
 use Rattle.std.proofs.lemmas.Grind.{common_steps}
 use Rattle.std.proofs.lemmas.List.{map-set}
 use Rattle.xc_dance.proofs.links.cells.set.Goals as goal

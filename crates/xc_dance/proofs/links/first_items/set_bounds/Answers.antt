@@ -1,4 +1,4 @@
-use Rattle.std.proofs.Common.{arith, ◌+◌, ◌-◌, ◌≡◌, sym, ap}
+use Rattle.std.proofs.Common.{arith, ◌+◌, ◌≡◌, sym, ap}
 use Rattle.std.proofs.lemmas.Grind.{common_steps}
 use Rattle.xc_input.specs.Problem.{Bounds, bounds_at, high_at, low_at}
 use Rattle.xc_input.specs.Flat.{bounds_of}

@@ -1,4 +1,4 @@
-use Rattle.std.proofs.Common.{arith, sym, ◌-◌}
+use Rattle.std.proofs.Common.{arith, sym}
 use Rattle.std.proofs.lemmas.Grind.{common_steps}
 use Rattle.std.proofs.lemmas.List.{length-map, take_more}
 use Rattle.xc_dance.proofs.LiveLists.Removal.{numbers_of-set, list_at-numbers_of}

@@ -1,6 +1,5 @@
 use Rattle.std.proofs.Common.{arith, ◌≡◌}
 use Rattle.std.proofs.lemmas.Grind.{common_steps}
-use Rattle.std.specs.List.{remove}
 use Rattle.xc_dance.proofs.LiveLists.Removal.{numbers_of-set, list_at-numbers_of, rooms_of-set, less-remove, row_removed}
 use Rattle.xc_dance.proofs.lists.undo_log.remove.Goals as goal
 

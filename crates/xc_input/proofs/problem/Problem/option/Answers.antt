@@ -1,11 +1,11 @@
 use Rattle.std.proofs.Common.{arith, ◌≡◌, ◌∷◌, Some, ap, sym, ◌∙◌, length, subst}
 use Rattle.std.specs.Prelude.{All}
-use Rattle.xc_input.specs.Problem.{option_count, numbered_get, IsSoundOption}
+use Rattle.xc_input.specs.Problem.{option_count, numbered_get}
 use Rattle.xc_input.specs.Flat.{pieces}
 use Rattle.xc_input.specs.Named.{Named, IsKnownUse}
 use Rattle.xc_input.specs.Stored.{key_names}
 use Rattle.xc_input.proofs.FlatParts.{length-pieces}
-use Rattle.xc_input.proofs.Known.{at_number, known_option}
+use Rattle.xc_input.proofs.Known.{known_option}
 use Rattle.xc_input.proofs.problem.Problem.option.Goals.{After-piece}
 use Rattle.xc_input.proofs.problem.Problem.option.Goals as goal
 

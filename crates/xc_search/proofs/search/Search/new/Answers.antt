@@ -4,7 +4,7 @@ use Rattle.xc_input.specs.Problem.{Puzzle, IsValid}
 use Rattle.xc_search.specs.declared.choice.Choice.{Choice}
 use Rattle.xc_search.specs.Outlook.{Outlook}
 use Rattle.xc_search.specs.inner.MostLevels.{most_levels}
-use Rattle.xc_search.specs.Cover.{members, EachMemberCovers, EachCoverIsListedOnce}
+use Rattle.xc_search.specs.Cover.{members}
 use Rattle.xc_search.specs.inner.Levels.{Levels, IsStanding, coming, choices_of}
 use Rattle.xc_search.proofs.stacked.Start.{starts_standing, starts_coming}
 use Rattle.xc_search.proofs.Covering.{each_member_covers}

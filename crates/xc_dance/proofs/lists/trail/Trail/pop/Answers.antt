@@ -1,4 +1,4 @@
-use Rattle.std.proofs.Common.{arith, ◌≡◌, ◌+◌, reverse, [], ◌∷◌, List, ◌-◌, false, eqb, eq-eqb, refl, ◌++◌, ℕ}
+use Rattle.std.proofs.Common.{arith, ◌≡◌, ◌+◌, reverse, [], ◌∷◌, List, false, eqb, eq-eqb, refl, ◌++◌, ℕ}
 use Rattle.std.proofs.lemmas.Grind.{common_steps}
 use Rattle.std.proofs.lemmas.Grind.{get_or_default_zero}
 use Rattle.xc_input.specs.Problem.{Puzzle}
