@@ -236,6 +236,7 @@ def streams(folder):
     shell("standard output full, nothing printed", f"{dlx1} >/dev/full", 0, b"Altogether 1 solution.\n")
     shell("standard output closed", f"{dlx1} m1 >&-", 3, b"Write failed at solution 1.\n")
     shell("standard error full", f"{dlx1} 2>/dev/full", 3, b"")
+    shell("standard error closed", f"{dlx1} 2>&-", 3, b"")
     shell("standard input a folder", f"{dlx1} <{folder}", 3, b"Read failed.\n")
     shell("standard input closed", f"{dlx1} <&-", 3, b"Read failed.\n")
     shell("a reader that goes away", f"(sleep 0.2; {dlx1} m1; echo $? >&2) | :", 0, b"Write failed at solution 1.\n3\n")
