@@ -7,6 +7,8 @@ use Rattle.std.proofs.lemmas.List.{drop-take, drop-append-le, length-drop, lengt
 use Rattle.std.proofs.lemmas.Slice.{drop-put_mid}
 use Rattle.std.specs.Io.KnownBytes.{append_known, Appends, Keeps}
 use Rattle.xc_list.proofs.TextLemmas.{appends_more}
+use Rattle.std.specs.Simd.Lanes.{chunk, put_chunk}
+use Rattle.std.proofs.lemmas.Simd.{put_chunk_is, length-put_chunk, length-chunk}
 use borrow.Rule.Slice.PartMut.{put_mid}
 
 -- a part, and then what follows it
@@ -103,7 +105,7 @@ front-back : (xs : List ℕ) (l : ℕ) → take l xs ++ drop l xs ≡ xs
 front-back xs l = grind (arith, common_steps)
 
 -- bytes that were put in the place of others by their first and their last piece
-pub two_ends : (held bytes first last : List ℕ) (at size m n place w : ℕ) → at + length bytes ≤ length held → size ≤ length bytes → length bytes ≤ size + size
+two_ends : (held bytes first last : List ℕ) (at size m n place w : ℕ) → at + length bytes ≤ length held → size ≤ length bytes → length bytes ≤ size + size
     → first ≡ take size bytes → last ≡ take w (drop (length bytes - size) bytes) → m ≡ size → n ≡ size → place ≡ at + (length bytes - size) → w ≡ size
     → put_mid place n (put_mid at m held first) last ≡ take at held ++ bytes ++ drop (at + length bytes) held
 two_ends held bytes first last at size m n place w room few enough f l em en ep ew =
@@ -123,3 +125,17 @@ two_ends held bytes first last at size m n place w room few enough f l em en ep 
     let whole : (take at held ++ take back bytes) ++ drop back bytes ≡ take at held ++ bytes = append_assoc (take at held) (take back bytes) (drop back bytes) ∙ ap (λ x. take at held ++ x) (front-back bytes back) in
     ap₂ (λ x y. x ++ (last ++ y)) front behind ∙ sym (append_assoc (take at held ++ take back bytes) last (drop (at + length bytes) held))
     ∙ ap (λ x. take at held ++ take back bytes ++ x ++ drop (at + length bytes) held) last_is ∙ ap (λ x. x ++ drop (at + length bytes) held) whole
+
+-- the same by loads and stores of whole pieces
+pub two_pieces : (held bytes : List ℕ) (at size : ℕ) → at + length bytes ≤ length held → size ≤ length bytes → length bytes ≤ size + size
+    → put_chunk (at + (length bytes - size)) (put_chunk at held (chunk 0 size bytes)) (chunk (length bytes - size) size bytes) ≡ take at held ++ bytes ++ drop (at + length bytes) held
+two_pieces held bytes at size room few enough =
+    let back : ℕ = length bytes - size in
+    let first : List ℕ = chunk 0 size bytes in
+    let last : List ℕ = chunk back size bytes in
+    let once : List ℕ = put_chunk at held first in
+    let m : length first ≡ size = length-chunk 0 size bytes (omega (arith, few)) in
+    let n : length last ≡ size = length-chunk back size bytes (omega (arith, few)) in
+    put_chunk_is (at + back) once last (omega (arith, room, few, n, length-put_chunk at held first))
+    ∙ ap (λ h. put_mid (at + back) (length last) h last) (put_chunk_is at held first (omega (arith, room, few, m)))
+    ∙ two_ends held bytes first last at size (length first) (length last) (at + back) size room few enough refl refl m n refl refl

@@ -6,6 +6,7 @@ ghost use Rattle.xc_tools.specs.Streams.{left_of};
 
 use std::alloc::{AllocError, Global};
 use std::io::{Read, Write};
+use std::simd::Simd;
 use xc_input::{Given, ReadFailed, Source};
 use xc_list::{Sink, WriteFailed};
 
@@ -105,14 +106,14 @@ pub struct Outgoing<W: Write + Drop> {
     end: usize,
     /// How many bytes were passed on.
     passed: usize,
-    /// How many bytes have to be held back for a line's end to pass them on.
-    early: usize,
+    /// A text shorter than this is held back whatever it ends with.
+    calm: usize,
     /// The last line's end could not be passed on.
     stuck: bool,
     failures: u64,
     failed: bool,
     ghost ordered: { start ≤ end },
-    ghost within: { end ≤ 65536 },
+    ghost within: { end + calm ≤ 65536 },
     ghost room: { length held.items ≡ 65536 },
 }
 
@@ -136,7 +137,9 @@ fn pass_on<W: Write>(writer: &mut W, bytes: &[u8], from: usize) -> usize
 
 /// How many bytes have to be held back for a line's end to pass them on, where so many were passed on
 /// before.
-fn early(by_line: bool, passed: usize) -> usize {
+fn early(by_line: bool, passed: usize) -> usize
+    ensures { result ≤ 65536 }
+{
     if by_line { 0 } else { HELD.min(passed / 8) }
 }
 
@@ -157,7 +160,7 @@ impl<W: Write + Drop> Outgoing<W> {
             start: 0,
             end: 0,
             passed: 0,
-            early: 0,
+            calm: 0,
             stuck: false,
             failures: 0,
             failed: false,
@@ -191,12 +194,14 @@ impl<W: Write + Drop> Outgoing<W> {
     {
         let place = pass_on(&mut self.writer, &self.held[..self.end], self.start);
         self.passed = self.passed.saturating_add(place - self.start);
-        self.early = early(self.by_line, self.passed);
         self.stuck = place < self.end;
-        self.start = place;
-        if !self.stuck {
+        if self.stuck {
+            self.start = place;
+            self.calm = 0;
+        } else {
             self.start = 0;
             self.end = 0;
+            self.calm = early(self.by_line, self.passed);
         }
     }
 
@@ -245,10 +250,25 @@ impl<W: Write + Drop> Outgoing<W> {
     {
         put(&mut self.held, self.end, bytes);
         self.end += bytes.len();
+        self.calm = self.calm.saturating_sub(bytes.len());
         self.failed = false;
     }
 
-    /// Holds back as many of the bytes as there is room for, and makes room where there is none.
+    /// Passes on what is held back where it is a line's end and there is enough of it.
+    fn pass_line(&mut self, bytes: &[u8])
+        ensures failures { self.new.failures ≡ self.old.failures }
+        ensures failed { self.new.failed ≡ self.old.failed }
+        ensures bytes { Keeps
+            (append_known (W.contents self.old.writer) (slice_range self.old.held.items self.old.start self.old.end))
+            (append_known (W.contents self.new.writer) (slice_range self.new.held.items self.new.start self.new.end)) }
+    {
+        if self.calm == 0 && bytes.ends_with(b"\n") {
+            self.pass();
+        }
+    }
+
+    /// Holds back as many of the bytes as there is room for, and makes room where there is none. A
+    /// line's end may pass them on.
     #[inline(never)]
     fn hold_part(&mut self, bytes: &[u8]) -> Result<usize, WriteFailed>
         ensures bound { IfOk result (λ n. n ≤ length bytes.now) }
@@ -262,21 +282,22 @@ impl<W: Write + Drop> Outgoing<W> {
         self.make_room()?;
         let n = bytes.len().min(HELD - self.end);
         self.hold(&bytes[..n]);
+        self.pass_line(&bytes[..n]);
         Ok(n)
     }
 }
 
-/// Puts bytes in the place of others by two pieces of this size, the first and the last, which may
-/// overlap.
+/// Puts bytes in the place of others by their first `N` and their last, which may overlap. Each
+/// piece is one load and one store.
 #[inline(always)]
-fn put_ends(held: &mut [u8], at: usize, bytes: &[u8], size: usize)
+fn put_ends<const N: usize>(held: &mut [u8], at: usize, bytes: &[u8])
     requires room { at + length bytes.now ≤ length held.old }
-    requires pieces { (size ≤ length bytes.now) × (length bytes.now ≤ size + size) }
+    requires pieces { (N ≤ length bytes.now) × (length bytes.now ≤ N + N) }
     ensures { held.new ≡ take at held.old ++ bytes.now ++ drop (at + length bytes.now) held.old }
 {
-    let last = bytes.len() - size;
-    held[at..at + size].copy_from_slice(&bytes[..size]);
-    held[at + last..at + last + size].copy_from_slice(&bytes[last..]);
+    let last = bytes.len() - N;
+    Simd::<u8, N>::from_slice(bytes).copy_to_slice(&mut held[at..]);
+    Simd::<u8, N>::from_slice(&bytes[last..]).copy_to_slice(&mut held[at + last..]);
 }
 
 /// Puts bytes in the place of others. Pieces of a fixed size need no call.
@@ -286,8 +307,8 @@ fn put(held: &mut [u8], at: usize, bytes: &[u8])
     ensures { held.new ≡ take at held.old ++ bytes.now ++ drop (at + length bytes.now) held.old }
 {
     match bytes.len() {
-        4..=7 => put_ends(held, at, bytes, 4),
-        8..=16 => put_ends(held, at, bytes, 8),
+        4..=7 => put_ends::<4>(held, at, bytes),
+        8..=16 => put_ends::<8>(held, at, bytes),
         n => held[at..at + n].copy_from_slice(bytes),
     }
 }
@@ -302,13 +323,10 @@ impl<W: Write + Drop> Sink for Outgoing<W> {
 
     #[inline(always)]
     fn write(&mut self, bytes: &[u8]) -> Result<usize, WriteFailed> {
-        if self.stuck || bytes.len() > HELD - self.end {
+        if bytes.len() >= self.calm {
             return self.hold_part(bytes);
         }
         self.hold(bytes);
-        if self.end >= self.early && bytes.ends_with(b"\n") {
-            self.pass();
-        }
         Ok(bytes.len())
     }
 
