@@ -240,7 +240,7 @@ impl<W: Write + Drop> Outgoing<W> {
     /// Holds back bytes for which there is room.
     #[inline(always)]
     fn hold(&mut self, bytes: &[u8])
-        requires { self.old.end + length bytes.now ≤ 65536 }
+        requires { self.old.end + length bytes.now + self.old.calm ≤ 65536 }
         ensures failures { self.new.failures ≡ self.old.failures }
         ensures failed { self.new.failed ≡ false }
         ensures bytes { Appends
@@ -250,7 +250,6 @@ impl<W: Write + Drop> Outgoing<W> {
     {
         put(&mut self.held, self.end, bytes);
         self.end += bytes.len();
-        self.calm = self.calm.saturating_sub(bytes.len());
         self.failed = false;
     }
 
@@ -281,6 +280,7 @@ impl<W: Write + Drop> Outgoing<W> {
     {
         self.make_room()?;
         let n = bytes.len().min(HELD - self.end);
+        self.calm = self.calm.saturating_sub(n);
         self.hold(&bytes[..n]);
         self.pass_line(&bytes[..n]);
         Ok(n)
@@ -326,6 +326,7 @@ impl<W: Write + Drop> Sink for Outgoing<W> {
         if bytes.len() >= self.calm {
             return self.hold_part(bytes);
         }
+        self.calm -= bytes.len();
         self.hold(bytes);
         Ok(bytes.len())
     }
