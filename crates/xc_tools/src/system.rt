@@ -300,6 +300,18 @@ fn put_ends<const N: usize>(held: &mut [u8], at: usize, bytes: &[u8])
     Simd::<u8, N>::from_slice(&bytes[last..]).copy_to_slice(&mut held[at + last..]);
 }
 
+/// Puts a few bytes or many in the place of others.
+#[inline(always)]
+fn put_few_or_many(held: &mut [u8], at: usize, bytes: &[u8])
+    requires { at + length bytes.now ≤ length held.old }
+    ensures { held.new ≡ take at held.old ++ bytes.now ++ drop (at + length bytes.now) held.old }
+{
+    match bytes.len() {
+        2..=3 => put_ends::<2>(held, at, bytes),
+        n => held[at..at + n].copy_from_slice(bytes),
+    }
+}
+
 /// Puts bytes in the place of others. Pieces of a fixed size need no call.
 #[inline(always)]
 fn put(held: &mut [u8], at: usize, bytes: &[u8])
@@ -309,7 +321,7 @@ fn put(held: &mut [u8], at: usize, bytes: &[u8])
     match bytes.len() {
         4..=7 => put_ends::<4>(held, at, bytes),
         8..=16 => put_ends::<8>(held, at, bytes),
-        n => held[at..at + n].copy_from_slice(bytes),
+        _ => put_few_or_many(held, at, bytes),
     }
 }
 
