@@ -1,8 +1,8 @@
 //! The system's streams and files as sources and sinks.
-ghost use Rattle.std.specs.Prelude.{◌≡◌, ◌+◌, ◌-◌, ◌^◌, ◌<◌, ◌≤◌, ◌⊎◌, ◌↔◌, true, false, None, length, nat_eq, is_err, option_map, IfOk, IsErr, IsTrue, OnErr, OnOk, [], ◌∷◌, ◌++◌, take, drop, slice_range};
+ghost use Rattle.std.specs.Prelude.{◌≡◌, ◌+◌, ◌-◌, ◌^◌, ◌<◌, ◌≤◌, ◌⊎◌, ◌↔◌, true, false, None, length, nat_eq, is_err, option_map, IfOk, IsErr, IsTrue, OnErr, OnOk, MatchResult, [], ◌∷◌, ◌++◌, take, drop, slice_range};
 ghost use Rattle.std.specs.Io.KnownBytes.{append_known, Appends, Keeps, ReadConsumes, WriteAppends};
 ghost use Rattle.xc_input.specs.Calls.{counted, is_failed_write};
-ghost use Rattle.xc_tools.specs.Streams.{left_of};
+ghost use Rattle.xc_tools.specs.Streams.{left_of, ends_line, early, IsLittle, passed_of};
 
 use std::alloc::{AllocError, Global};
 use std::io::{Read, Write};
@@ -114,6 +114,8 @@ pub struct Outgoing<W: Write + Drop> {
     failed: bool,
     ghost ordered: { start ≤ end },
     ghost within: { end + calm ≤ 65536 },
+    ghost little: { 0 < calm → end + calm ≤ early by_line passed },
+    ghost countable: { passed ≤ 2 ^ 64 - 1 },
     ghost room: { length held.items ≡ 65536 },
 }
 
@@ -138,7 +140,7 @@ fn pass_on<W: Write>(writer: &mut W, bytes: &[u8], from: usize) -> usize
 /// How many bytes have to be held back for a line's end to pass them on, where so many were passed on
 /// before.
 fn early(by_line: bool, passed: usize) -> usize
-    ensures { result ≤ 65536 }
+    ensures { result ≡ early by_line passed }
 {
     if by_line { 0 } else { HELD.min(passed / 8) }
 }
@@ -150,6 +152,7 @@ impl<W: Write + Drop> Outgoing<W> {
         ensures by_line { IfOk result (λ s. s.by_line ≡ by_line) }
         ensures start { IfOk result (λ s. s.start ≡ 0) }
         ensures end { IfOk result (λ s. s.end ≡ 0) }
+        ensures passed { IfOk result (λ s. s.passed ≡ 0) }
         ensures failures { IfOk result (λ s. s.failures ≡ 0) }
         ensures failed { IfOk result (λ s. s.failed ≡ false) }
     {
@@ -173,6 +176,8 @@ impl<W: Write + Drop> Outgoing<W> {
         ensures held { self.new.held ≡ self.old.held }
         ensures start { self.new.start ≡ self.old.start }
         ensures end { self.new.end ≡ self.old.end }
+        ensures by_line { self.new.by_line ≡ self.old.by_line }
+        ensures passed { self.new.passed ≡ self.old.passed }
         ensures failures { self.new.failures ≡ counted true self.old.failures }
         ensures failed { IsTrue self.new.failed }
     {
@@ -186,6 +191,10 @@ impl<W: Write + Drop> Outgoing<W> {
     fn pass(&mut self)
         ensures emptied { (self.new.start < self.new.end) ⊎ ((self.new.start ≡ 0) × (self.new.end ≡ 0)) }
         ensures stuck { IsTrue self.new.stuck ↔ (self.new.start < self.new.end) }
+        ensures by_line { self.new.by_line ≡ self.old.by_line }
+        ensures less { self.new.end - self.new.start ≤ self.old.end - self.old.start }
+        ensures passed { self.new.passed ≡ passed_of self.old.passed
+            (self.old.end - self.old.start) (self.new.end - self.new.start) }
         ensures failures { self.new.failures ≡ self.old.failures }
         ensures failed { self.new.failed ≡ self.old.failed }
         ensures bytes { Keeps
@@ -208,6 +217,10 @@ impl<W: Write + Drop> Outgoing<W> {
     /// Passes on what is held back, or fails.
     fn pass_held(&mut self) -> Result<(), WriteFailed>
         ensures emptied { OnOk result ((self.new.start ≡ 0) × (self.new.end ≡ 0)) }
+        ensures by_line { self.new.by_line ≡ self.old.by_line }
+        ensures less { self.new.end - self.new.start ≤ self.old.end - self.old.start }
+        ensures passed { self.new.passed ≡ passed_of self.old.passed
+            (self.old.end - self.old.start) (self.new.end - self.new.start) }
         ensures failures { self.new.failures ≡ counted (is_err result) self.old.failures }
         ensures failed { OnErr result (IsTrue self.new.failed) }
         ensures bytes { Keeps
@@ -225,6 +238,10 @@ impl<W: Write + Drop> Outgoing<W> {
     /// could not be passed on.
     fn make_room(&mut self) -> Result<(), WriteFailed>
         ensures room { OnOk result (self.new.end < 65536) }
+        ensures by_line { self.new.by_line ≡ self.old.by_line }
+        ensures less { self.new.end - self.new.start ≤ self.old.end - self.old.start }
+        ensures passed { self.new.passed ≡ passed_of self.old.passed
+            (self.old.end - self.old.start) (self.new.end - self.new.start) }
         ensures failures { self.new.failures ≡ counted (is_err result) self.old.failures }
         ensures failed { OnErr result (IsTrue self.new.failed) }
         ensures bytes { Keeps
@@ -240,7 +257,14 @@ impl<W: Write + Drop> Outgoing<W> {
     /// Holds back bytes for which there is room.
     #[inline(always)]
     fn hold(&mut self, bytes: &[u8])
-        requires { self.old.end + length bytes.now + self.old.calm ≤ 65536 }
+        requires room { self.old.end + length bytes.now + self.old.calm ≤ 65536 }
+        requires calm { 0 < self.old.calm →
+            self.old.end + length bytes.now + self.old.calm ≤ early self.old.by_line self.old.passed }
+        ensures start { self.new.start ≡ self.old.start }
+        ensures end { self.new.end ≡ self.old.end + length bytes.now }
+        ensures by_line { self.new.by_line ≡ self.old.by_line }
+        ensures passed { self.new.passed ≡ self.old.passed }
+        ensures calm { self.new.calm ≡ self.old.calm }
         ensures failures { self.new.failures ≡ self.old.failures }
         ensures failed { self.new.failed ≡ false }
         ensures bytes { Appends
@@ -255,6 +279,12 @@ impl<W: Write + Drop> Outgoing<W> {
 
     /// Passes on what is held back where it is a line's end and there is enough of it.
     fn pass_line(&mut self, bytes: &[u8])
+        ensures little { IsTrue (ends_line bytes.now) → IsTrue self.new.stuck
+            ⊎ IsLittle self.new.by_line self.new.passed (self.new.end - self.new.start) }
+        ensures by_line { self.new.by_line ≡ self.old.by_line }
+        ensures less { self.new.end - self.new.start ≤ self.old.end - self.old.start }
+        ensures passed { self.new.passed ≡ passed_of self.old.passed
+            (self.old.end - self.old.start) (self.new.end - self.new.start) }
         ensures failures { self.new.failures ≡ self.old.failures }
         ensures failed { self.new.failed ≡ self.old.failed }
         ensures bytes { Keeps
@@ -270,6 +300,14 @@ impl<W: Write + Drop> Outgoing<W> {
     /// line's end may pass them on.
     #[inline(never)]
     fn hold_part(&mut self, bytes: &[u8]) -> Result<usize, WriteFailed>
+        ensures little { IfOk result (λ n. IsTrue (ends_line (take n bytes.now)) → IsTrue self.new.stuck
+            ⊎ IsLittle self.new.by_line self.new.passed (self.new.end - self.new.start)) }
+        ensures by_line { self.new.by_line ≡ self.old.by_line }
+        ensures passed { MatchResult result
+            (λ n. self.new.passed ≡ passed_of self.old.passed
+            ((self.old.end - self.old.start) + n) (self.new.end - self.new.start))
+            (λ _. self.new.passed ≡ passed_of self.old.passed
+            (self.old.end - self.old.start) (self.new.end - self.new.start)) }
         ensures bound { IfOk result (λ n. n ≤ length bytes.now) }
         ensures failures { self.new.failures ≡ counted (is_failed_write result bytes.now) self.old.failures }
         ensures failed { self.new.failed ≡ is_failed_write result bytes.now }
@@ -334,7 +372,26 @@ impl<W: Write + Drop> Sink for Outgoing<W> {
     } };
 
     #[inline(always)]
-    fn write(&mut self, bytes: &[u8]) -> Result<usize, WriteFailed> {
+    fn write(&mut self, bytes: &[u8]) -> Result<usize, WriteFailed>
+        ensures bound { IfOk result (λ n. n ≤ length bytes.now) }
+        ensures failures { self.new.failures ≡ counted (is_failed_write result bytes.now) self.old.failures }
+        ensures failed { self.new.failed ≡ is_failed_write result bytes.now }
+        ensures bytes { WriteAppends
+            (append_known (W.contents self.old.writer) (slice_range self.old.held.items self.old.start self.old.end))
+            (append_known (W.contents self.new.writer) (slice_range self.new.held.items self.new.start self.new.end))
+            result bytes.now }
+
+        // Behind a line's end little is held back, unless the system's write failed, which the next
+        // call tries again.
+        ensures little { IfOk result (λ n. IsTrue (ends_line (take n bytes.now)) → IsTrue self.new.stuck
+            ⊎ IsLittle self.new.by_line self.new.passed (self.new.end - self.new.start)) }
+        ensures by_line { self.new.by_line ≡ self.old.by_line }
+        ensures passed { MatchResult result
+            (λ n. self.new.passed ≡ passed_of self.old.passed
+            ((self.old.end - self.old.start) + n) (self.new.end - self.new.start))
+            (λ _. self.new.passed ≡ passed_of self.old.passed
+            (self.old.end - self.old.start) (self.new.end - self.new.start)) }
+    {
         if bytes.len() >= self.calm {
             return self.hold_part(bytes);
         }
@@ -343,7 +400,17 @@ impl<W: Write + Drop> Sink for Outgoing<W> {
         Ok(bytes.len())
     }
 
-    fn flush(&mut self) -> Result<(), WriteFailed> {
+    fn flush(&mut self) -> Result<(), WriteFailed>
+        ensures failures { self.new.failures ≡ counted (is_err result) self.old.failures }
+        ensures failed { self.new.failed ≡ is_err result }
+        ensures bytes { Keeps
+            (append_known (W.contents self.old.writer) (slice_range self.old.held.items self.old.start self.old.end))
+            (append_known (W.contents self.new.writer) (slice_range self.new.held.items self.new.start self.new.end)) }
+        ensures settled { OnOk result (self.new.start ≡ self.new.end) }
+        ensures by_line { self.new.by_line ≡ self.old.by_line }
+        ensures passed { self.new.passed ≡ passed_of self.old.passed
+            (self.old.end - self.old.start) (self.new.end - self.new.start) }
+    {
         self.pass_held()?;
         if self.writer.flush().is_err() {
             return Err(self.fail());
