@@ -6,8 +6,9 @@ beside them, by other solvers: C programs dlx1, dlx2 and dlx3 in each folder giv
 installed, clasp and Gecode (fzn-gecode), as 0-1 problems that are made from the same texts, and Sage's dancing links
 (sage), for problems of kind 1. All take turns. Told are ratios of CPU time, ours to theirs, the median of K runs (3):
 below 1 ours is faster. A run of theirs may take so many seconds (60); where it takes longer, the ratio is at most the
-one told. --c-alone leaves all but C out. Then come the ratios of the most memory held, and how time and memory grow
-with the problem. Each run has to end with the problem's number of solutions.
+one told. --c-alone leaves all but C out. Then come the ratios of the most memory held, those of printing (the time of a
+run that prints each solution less that of one that counts them), and how time and memory grow with the problem. Each
+run has to end with the problem's number of solutions.
 """
 
 import argparse
@@ -27,12 +28,17 @@ HERE = os.path.dirname(os.path.abspath(__file__))
 TOP = os.path.dirname(os.path.dirname(HERE))
 
 
+# Problems with many solutions, for the time of printing.
+PRINTED = ("matchings14", "latin5", "prism20", "two_factors6x8")
+
+
 class Run:
-    def __init__(self, command, most, text=None):
-        """Runs a command over a file; `seconds` is None where it took too long."""
+    def __init__(self, command, most, text=None, listing=False):
+        """Runs a command over a file; `seconds` is None where it took too long. A listing goes nowhere."""
         self.seconds, self.memory, self.output = None, None, ""
-        with tempfile.TemporaryFile() as told, open(text or os.devnull) as given:
-            process = subprocess.Popen(command, stdin=given, stdout=told, stderr=told, preexec_fn=limits(most))
+        with tempfile.TemporaryFile() as told, open(text or os.devnull) as given, open(os.devnull, "w") as nowhere:
+            out = nowhere if listing else told
+            process = subprocess.Popen(command, stdin=given, stdout=out, stderr=told, preexec_fn=limits(most))
             _, status, used = os.wait4(process.pid, 0)
             process.returncode = 0
             told.seek(0)
@@ -55,8 +61,9 @@ class Exact:
     def __init__(self, name, folder):
         self.name, self.folder = name, folder
 
-    def run(self, problem, text, most):
-        done = Run([os.path.join(self.folder.format(problem.kind), f"dlx{problem.kind}")], most, text)
+    def run(self, problem, text, most, words=()):
+        program = os.path.join(self.folder.format(problem.kind), f"dlx{problem.kind}")
+        done = Run([program, *words], most, text, listing=bool(words))
         return done, re.search(r"^Altogether (\d+) ", done.output, re.M)
 
 
@@ -146,8 +153,8 @@ class Sage:
         return done, re.search(r"^Solutions: (\d+)$", done.output, re.M)
 
 
-def measured(solver, problem, text, most, times, memory):
-    done, found = solver.run(problem, text, most)
+def measured(solver, problem, text, most, times, memory, words=()):
+    done, found = solver.run(problem, text, most, *([words] if words else []))
     if done.seconds is None:
         return False
     if not found or int(found.group(1)) != problem.count:
@@ -198,6 +205,25 @@ def compare(folder, solvers, only, repeat, most):
         print(f"| **{title}** | |" + "".join(f" {mean(found[o.name]):.2f} |" if found[o.name] else " |" for o in others))
 
 
+def list_all(folder, solvers, only, repeat, most):
+    """The table of the ratios of printing."""
+    ours, others = solvers[0], solvers[1:]
+    print("\n| Printing |" + "".join(f" {other.name} |" for other in others))
+    print("|---|" + "---|" * len(others))
+    for problem in problems.PROBLEMS:
+        if problem.name not in PRINTED or (only and problem.name not in only):
+            continue
+        text = os.path.join(folder, problem.name + ".dlx")
+        times = defaultdict(list)
+        for _ in range(repeat):
+            for solver in solvers:
+                for words in ((), ("m1",)):
+                    if not measured(solver, problem, text, most, times[solver.name, words], [], words):
+                        raise SystemExit(f"{solver.name} on {problem.name}: it took more than {most} seconds")
+        cost = {s.name: statistics.median(times[s.name, ("m1",)]) - statistics.median(times[s.name, ()]) for s in solvers}
+        print(f"| {problem.name} |" + "".join(f" {cost[ours.name] / cost[o.name]:.2f} |" for o in others), flush=True)
+
+
 def grow(solvers, most):
     """How time and memory for each use grow from 100,000 uses to 10,000,000, nearly all of it reading."""
     print("\n| Uses |" + "".join(f" {s.name}: time a use | memory a use |" for s in solvers))
@@ -234,7 +260,9 @@ def main():
     installed = (Clasp(), "clasp"), (Gecode(), "fzn-gecode"), (Sage(), "sage")
     others = [solver for solver, program in installed if shutil.which(program)]
     others = [] if given.c_alone else others
-    compare(given.folder, [ours] + in_c + others, set(filter(None, given.only.split(","))), given.repeat, given.most)
+    only = set(filter(None, given.only.split(",")))
+    compare(given.folder, [ours] + in_c + others, only, given.repeat, given.most)
+    list_all(given.folder, [ours] + in_c, only, given.repeat, given.most)
     grow([ours] + in_c, given.most)
 
 
