@@ -7,7 +7,7 @@ use std::io;
 use xc_dance::Links;
 use xc_input::{Kind, read_problem};
 use xc_search::{Choice, Search, Step, most_moves};
-use xc_tools::Incoming;
+use xc_tools::{Incoming, random_seed};
 
 /// Prints the numbers of a solution's options, to the end of the line.
 fn print_options(rt: &impl Print, choices: &[Choice]) -> io::Result<()> {
@@ -32,7 +32,7 @@ fn print_covers(rt: &impl Print, search: &mut Search<Links>) -> io::Result<()> {
 }
 
 fn main(rt: HostRuntime) -> Result<()> {
-    let mut input = Incoming::new(Some(rt.stdin()));
+    let mut input = Incoming::new(Some(rt.stdin()), random_seed(&rt));
     let problem = read_problem(rt.alloc(), Kind::Plain, &mut input)?.problem;
     let Ok(links) = Links::new(rt.alloc(), &problem, most_moves(&problem)) else {
         bail!("out of memory");

@@ -5,7 +5,7 @@ use std::alloc::AllocError;
 use std::io::IsTerminal;
 use std::process::ExitCode;
 use xc_input::Kind;
-use xc_tools::{Direct, Incoming, Outgoing, out_of_memory, random_seed, solve_with_seed, words};
+use xc_tools::{Direct, Incoming, Outgoing, out_of_memory, random_seed, solve, words};
 
 #[cfg(test)]
 mod tests;
@@ -19,17 +19,9 @@ fn main(rt: HostRuntime) -> ExitCode {
 
 /// Solves what comes on standard input, and gives the status.
 fn run(rt: &HostRuntime) -> Result<u8, AllocError> {
-    let mut input = Incoming::new(Some(rt.stdin()));
+    let mut input = Incoming::new(Some(rt.stdin()), random_seed(rt));
     let mut out = Outgoing::new(rt.alloc(), rt.stdout(), rt.stdout().is_terminal())?;
     let mut err = Direct::new(rt.stderr());
     let words = words(rt)?;
-    Ok(solve_with_seed(
-        rt.alloc(),
-        KIND,
-        random_seed(rt),
-        &words,
-        &mut input,
-        &mut out,
-        &mut err,
-    ))
+    Ok(solve(rt.alloc(), KIND, &words, &mut input, &mut out, &mut err))
 }

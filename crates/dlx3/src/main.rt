@@ -5,7 +5,7 @@ use std::alloc::AllocError;
 use std::io::IsTerminal;
 use std::process::ExitCode;
 use xc_input::Kind;
-use xc_tools::{Direct, Incoming, Outgoing, out_of_memory, random_seed, solve_with_seed, words};
+use xc_tools::{Direct, Incoming, Outgoing, out_of_memory, random_seed, solve, words};
 
 fn main(rt: HostRuntime) -> ExitCode {
     ExitCode::from(run(&rt).unwrap_or_else(|_| out_of_memory(&mut Direct::new(rt.stderr()))))
@@ -13,14 +13,13 @@ fn main(rt: HostRuntime) -> ExitCode {
 
 /// Solves what comes on standard input, and gives the status.
 fn run(rt: &HostRuntime) -> Result<u8, AllocError> {
-    let mut input = Incoming::new(Some(rt.stdin()));
+    let mut input = Incoming::new(Some(rt.stdin()), random_seed(rt));
     let mut out = Outgoing::new(rt.alloc(), rt.stdout(), rt.stdout().is_terminal())?;
     let mut err = Direct::new(rt.stderr());
     let words = words(rt)?;
-    Ok(solve_with_seed(
+    Ok(solve(
         rt.alloc(),
         Kind::Bounds,
-        random_seed(rt),
         &words,
         &mut input,
         &mut out,

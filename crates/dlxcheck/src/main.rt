@@ -5,8 +5,7 @@ use std::alloc::AllocError;
 use std::io::IsTerminal;
 use std::process::ExitCode;
 use xc_tools::{
-    Direct, Incoming, Outgoing, closed_stream, judge_with_seed, named_file, out_of_memory,
-    random_seed, words,
+    Direct, Incoming, Outgoing, closed_stream, judge, named_file, out_of_memory, random_seed, words,
 };
 
 #[cfg(test)]
@@ -22,13 +21,13 @@ fn run(rt: &HostRuntime) -> Result<u8, AllocError> {
     if let Some(status) = closed_stream(&rt.stdin(), &rt.stdout(), &rt.stderr(), &mut err) {
         return Ok(status);
     }
-    let mut listing = Incoming::new(Some(rt.stdin()));
+    let seed = random_seed(rt);
+    let mut listing = Incoming::new(Some(rt.stdin()), seed);
     let mut out = Outgoing::new(rt.alloc(), rt.stdout(), rt.stdout().is_terminal())?;
     let words = words(rt)?;
-    let mut problem = named_file(rt, &words);
-    Ok(judge_with_seed(
+    let mut problem = named_file(rt, &words, seed);
+    Ok(judge(
         rt.alloc(),
-        random_seed(rt),
         &words,
         &mut problem,
         &mut listing,

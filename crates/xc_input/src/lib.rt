@@ -38,7 +38,7 @@ pub use fault::{FaultKind, InputError};
 pub use given::Given;
 pub use kind::Kind;
 pub use problem::{Bounds, Item, Problem, Use};
-pub use read::{read_problem, read_problem_with_seed};
+pub use read::read_problem;
 pub use reader::{Read, Reader};
 pub use seed::{FoldingHasher, Seed};
 pub use source::{Feed, ReadFailed, Source};

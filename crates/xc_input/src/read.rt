@@ -10,7 +10,6 @@ ghost use Rattle.xc_input.specs.Inputs.{IsFaultOf, Counts, IsCut};
 ghost use Rattle.xc_input.specs.Pieces.{IsWhole, IsPart};
 
 use crate::reader::{Read, Reader};
-use crate::seed::Seed;
 use crate::source::Source;
 use crate::tokens::cut_at;
 use crate::{InputError, Kind};
@@ -19,7 +18,8 @@ use std::alloc::{AllocError, Global};
 /// How many bytes are asked of a source at once.
 const PIECE: usize = 65536;
 
-/// Reads the source to its end, or to the first error, by the fixed seed.
+/// Reads the source to its end, or to the first error. Names are hashed by the source's seed, and what
+/// is read is the same by each.
 pub fn read_problem<S: Source>(
     alloc: Global,
     kind: Kind,
@@ -35,28 +35,7 @@ pub fn read_problem<S: Source>(
     ensures whole { IfOk result (λ r. IsWhole kind (S.given source.old) (S.given source.new) r.problem r.ignored.items) }
     ensures part { IfErr result (IsPart kind (S.given source.old) (S.given source.new)) }
 {
-    read_problem_with_seed(alloc, kind, Seed::FIXED, source)
-}
-
-/// The same by this seed, for an input that may be written to be slow. What is read is the same by
-/// each seed.
-pub fn read_problem_with_seed<S: Source>(
-    alloc: Global,
-    kind: Kind,
-    seed: Seed,
-    source: &mut S,
-) -> Result<Read, InputError>
-    ensures accepted { IfSome (S.rest source.old) (λ bytes. IfOk result (λ r. IsTextOf kind bytes r.problem r.ignored.items)) }
-    ensures only { IfSome (S.rest source.old) (λ bytes. IfOk result (λ r. (p : Named) (ignored : List ℕ) → IsTextOf kind bytes p ignored → (p ≡ r.problem) × (ignored ≡ r.ignored.items))) }
-    ensures valid { IfOk result (λ r. IsSound r.problem) }
-    ensures first { IfSome (S.rest source.old) (λ bytes. IfErr result (IsFaultOf kind bytes)) }
-    ensures refused { IfSome (S.rest source.old) (λ bytes. IfErr result (λ e. IsFault e → (p : Named) (ignored : List ℕ) → IsTextOf kind bytes p ignored → ⊥)) }
-    ensures counts { Counts (S.failures source.old) (S.failures source.new) result }
-    ensures cut { IsCut kind (S.rest source.old) (S.rest source.new) result }
-    ensures whole { IfOk result (λ r. IsWhole kind (S.given source.old) (S.given source.new) r.problem r.ignored.items) }
-    ensures part { IfErr result (IsPart kind (S.given source.old) (S.given source.new)) }
-{
-    let mut reader = Reader::with_seed(alloc, kind, seed);
+    let mut reader = Reader::with_seed(alloc, kind, source.seed());
     let mut carry = Vec::new(alloc);
     let mut store = buffer(alloc)?;
     let buf = store.as_mut_slice();

@@ -5,6 +5,7 @@ ghost use Rattle.std.specs.Io.KnownBytes.{ReadConsumes};
 ghost use Rattle.xc_input.specs.Calls.{counted, fewer_calls};
 
 use crate::given::Given;
+use crate::seed::Seed;
 use thiserror::Error;
 
 /// A read that failed.
@@ -36,6 +37,12 @@ pub trait Source {
         ensures bytes { ReadConsumes (rest self.old) (rest self.new) result buf.new }
         ensures given { IfOk result (λ n. given self.new ≡ given self.old ++ take n buf.new ∷ []) }
         ensures given_kept { OnErr result (given self.new ≡ given self.old) };
+
+    /// The seed by which the names that it gives are hashed: the fixed one, unless the source says
+    /// otherwise, as those of the programs do, whose texts may be written to be slow.
+    fn seed(&self) -> Seed {
+        Seed::FIXED
+    }
 }
 
 /// A source over memory. It tells its bytes.

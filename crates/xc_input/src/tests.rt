@@ -1,6 +1,6 @@
 use crate::{
-    Bounds, FaultKind, Feed, InputError, Kind, Problem, Read, Reader, Seed, Source, Use,
-    read_problem, read_problem_with_seed,
+    Bounds, FaultKind, Feed, InputError, Kind, Problem, Read, ReadFailed, Reader, Seed, Source,
+    Use, read_problem,
 };
 use std::alloc::Global;
 
@@ -374,14 +374,41 @@ fn names_of_one_hash(rt: HostRuntime) {
     }
 }
 
+/// A source whose names are hashed by a seed of its own.
+#[derive(Drop)]
+struct Seeded<'a> {
+    feed: Feed<'a>,
+    seed: Seed,
+}
+
+impl<'a> Source for Seeded<'a> {
+    ghost failures = { λ s. ⟦<Feed<'a> as Source>⟧.failures s.feed };
+
+    ghost limit = { λ s. ⟦<Feed<'a> as Source>⟧.limit s.feed };
+
+    ghost rest = { λ s. ⟦<Feed<'a> as Source>⟧.rest s.feed };
+
+    ghost given = { λ s. ⟦<Feed<'a> as Source>⟧.given s.feed };
+
+    fn read(&mut self, buf: &mut [u8]) -> Result<usize, ReadFailed> {
+        self.feed.read(buf)
+    }
+
+    fn seed(&self) -> Seed {
+        self.seed
+    }
+}
+
 #[test]
 fn each_seed_reads_the_same(rt: HostRuntime) {
     let text = b"a b | x y\na x:red\nb y:green x:red\n";
     let other = Seed::new(0x0123_4567_89ab_cdef_fedc_ba98_7654_3210);
     assert!(rt; other != Seed::FIXED);
     for seed in [Seed::FIXED, other, Seed::new(0)] {
-        let mut source = Feed::new(text, 65536, None);
-        let Ok(read) = read_problem_with_seed(rt.alloc(), Kind::Colours, seed, &mut source) else {
+        let feed = Feed::new(text, 65536, None);
+        assert!(rt; feed.seed() == Seed::FIXED);
+        let mut source = Seeded { feed, seed };
+        let Ok(read) = read_problem(rt.alloc(), Kind::Colours, &mut source) else {
             return assert!(rt; false);
         };
         let problem = &read.problem;

@@ -15,7 +15,7 @@ use crate::status::{
 };
 use crate::whole_text::{TextError, read_text};
 use std::alloc::Global;
-use xc_input::{InputError, Kind, Problem, Seed, Source, read_problem_with_seed};
+use xc_input::{InputError, Kind, Problem, Source, read_problem};
 use xc_list::{ListingFault, Sink, SinkFault, Verdict, check, write_all, write_number};
 
 /// The kind of problem that a number stands for.
@@ -152,7 +152,6 @@ fn judge_listing<L: Source, O: Sink, E: Sink>(
 fn judge_kind<P: Source, L: Source, O: Sink, E: Sink>(
     alloc: Global,
     kind: Kind,
-    seed: Seed,
     problem: &mut P,
     listing: &mut L,
     out: &mut O,
@@ -200,7 +199,7 @@ fn judge_kind<P: Source, L: Source, O: Sink, E: Sink>(
         ⊎ IfSome (P.rest problem.old) (λ text. IfSome (L.rest listing.old) (λ lines.
         StandsForOne kind (λ a _. IsBegun a (O.state out.old) (O.state out.new) lines) text)) }
 {
-    match read_problem_with_seed(alloc, kind, seed, problem) {
+    match read_problem(alloc, kind, problem) {
         Ok(read) => judge_listing(alloc, &read.problem, listing, out, err),
         Err(error) => {
             let _ = input_error(&error, err);
@@ -218,7 +217,7 @@ fn judge_kind<P: Source, L: Source, O: Sink, E: Sink>(
 /// name of the problem's file, which is not looked at here, and perhaps `1`, `2` or `3` for the
 /// program that the problem is written for. It gives the status: 0 where each solution is a cover, 5
 /// where one is not, 1 for other words, 2 for a fault of the problem or the listing, 3 where a read
-/// or a write failed, 4 where memory was wanting. The tables of names hash by the fixed seed.
+/// or a write failed, 4 where memory was wanting. Names are hashed by the problem's seed.
 pub fn judge<P: Source, L: Source, O: Sink, E: Sink>(
     alloc: Global,
     words: &[Vec<u8>],
@@ -285,79 +284,8 @@ pub fn judge<P: Source, L: Source, O: Sink, E: Sink>(
         IfSome (P.rest problem.old) (λ text. IfSome (L.rest listing.old) (λ lines.
         StandsForOne kind (λ a _. IsBegun a (O.state out.old) (O.state out.new) lines) text))) }
 {
-    judge_with_seed(alloc, Seed::FIXED, words, problem, listing, out, err)
-}
-
-/// The same whole run of the judge, where the tables of names hash by this seed.
-pub fn judge_with_seed<P: Source, L: Source, O: Sink, E: Sink>(
-    alloc: Global,
-    seed: Seed,
-    words: &[Vec<u8>],
-    problem: &mut P,
-    listing: &mut L,
-    out: &mut O,
-    err: &mut E,
-) -> u8
-    ensures only { result ≤ 5 }
-
-    // The words are judged before anything else is touched.
-    ensures refused { result ≡ 1 ↔ asked_kind (map (λ w. w.items) words.now) ≡ None }
-    ensures refused_told { result ≡ 1 → WasTold (E.state err.old) (E.state err.new) usage_text }
-    ensures refused_kept { result ≡ 1 → (problem.new ≡ problem.old) × (listing.new ≡ listing.old)
-        × (out.new ≡ out.old) }
-
-    // The verdicts were taken whole and flushed, and nothing else was told.
-    ensures settled { (result ≡ 0) ⊎ (result ≡ 5) → IsTrue (O.state out.new).settled }
-    ensures quiet { (result ≡ 0) ⊎ (result ≡ 5) → err.new ≡ err.old }
-    ensures clean { (result ≡ 0) ⊎ (result ≡ 5) → (P.failures problem.new ≡ P.failures problem.old)
-        × (L.failures listing.new ≡ L.failures listing.old)
-        × ((O.state out.new).failures ≡ (O.state out.old).failures) }
-    ensures judged { (result ≡ 0) ⊎ (result ≡ 5) → IfSome (asked_kind (map (λ w. w.items) words.now)) (λ kind.
-        IfSome (P.rest problem.old) (λ text. IfSome (L.rest listing.old) (λ lines.
-        StandsForOne kind (λ a _. IsJudged a result (O.state out.old) (O.state out.new) lines) text))) }
-
-    ensures fault { result ≡ 2 → IfSome (asked_kind (map (λ w. w.items) words.now)) (λ kind.
-        IfSome (P.rest problem.old) (λ text. (WasToldFault (IsFirstFault kind text) (E.state err.old) (E.state err.new)
-        × (listing.new ≡ listing.old))
-        ⊎ IfSome (L.rest listing.old) (λ lines. StandsForOne kind (λ a _. IsFaulty a
-        (E.state err.old) (E.state err.new) lines) text))) }
-
-    // Whatever fails gives 3 and is told; the problem comes first, and then the listing.
-    ensures judged_given { (result ≡ 0) ⊎ (result ≡ 5) → IfSome (asked_kind (map (λ w. w.items) words.now)) (λ kind.
-        (text : List ℕ) × (lines : List ℕ)
-        × GaveAll (P.given problem.old) (P.given problem.new) text
-        × GaveAll (L.given listing.old) (L.given listing.new) lines
-        × StandsForOne kind (λ a _. IsJudged a result (O.state out.old) (O.state out.new) lines) text) }
-    ensures fault_given { result ≡ 2 → IfSome (asked_kind (map (λ w. w.items) words.now)) (λ kind.
-        WasToldFault (λ line fault. IsPart kind (P.given problem.old) (P.given problem.new) (Fault line fault))
-        (E.state err.old) (E.state err.new)
-        ⊎ ((text : List ℕ) × (lines : List ℕ)
-        × GaveAll (P.given problem.old) (P.given problem.new) text
-        × GaveAll (L.given listing.old) (L.given listing.new) lines
-        × StandsForOne kind (λ a _. IsFaulty a (E.state err.old) (E.state err.new) lines) text)) }
-    ensures failing { (P.failures problem.new ≢ P.failures problem.old)
-        ⊎ (L.failures listing.new ≢ L.failures listing.old)
-        ⊎ ((O.state out.new).failures ≢ (O.state out.old).failures) → result ≡ 3 }
-    ensures failed { result ≡ 3 → (Rose (P.failures problem.old) (P.failures problem.new)
-        × (listing.new ≡ listing.old) × (out.new ≡ out.old)
-        × WasTold (E.state err.old) (E.state err.new) (codes "Read failed.\n"))
-        ⊎ (Rose (L.failures listing.old) (L.failures listing.new) × (out.new ≡ out.old)
-        × WasTold (E.state err.old) (E.state err.new) (codes "Read failed.\n"))
-        ⊎ (FailedLast (O.state out.old) (O.state out.new)
-        × WasTold (E.state err.old) (E.state err.new) (codes "Write failed.\n")) }
-    ensures memory { result ≡ 4 → (out.new ≡ out.old)
-        × WasTold (E.state err.old) (E.state err.new) (codes "Out of memory.\n") }
-    ensures first { P.failures problem.new ≢ P.failures problem.old → (listing.new ≡ listing.old) × (out.new ≡ out.old) }
-
-    // Nothing was written without verdicts, and else a beginning of them.
-    ensures unread { (L.failures listing.new ≢ L.failures listing.old) ⊎ (result ≡ 2) → out.new ≡ out.old }
-    ensures begins { Keeps (O.state out.old).taken (O.state out.new).taken
-        ⊎ IfSome (asked_kind (map (λ w. w.items) words.now)) (λ kind.
-        IfSome (P.rest problem.old) (λ text. IfSome (L.rest listing.old) (λ lines.
-        StandsForOne kind (λ a _. IsBegun a (O.state out.old) (O.state out.new) lines) text))) }
-{
     match asked_kind(words) {
-        Some(kind) => judge_kind(alloc, kind, seed, problem, listing, out, err),
+        Some(kind) => judge_kind(alloc, kind, problem, listing, out, err),
         None => refuse(BAD_WORDS, b"Usage: dlxcheck PROBLEM [1|2|3]\n", err),
     }
 }

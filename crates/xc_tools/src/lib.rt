@@ -1,7 +1,7 @@
 //! Whole runs of the programs, and the system's streams as sources and sinks.
 //!
 //! ```text
-//! let mut input = Incoming::new(Some(rt.stdin()));
+//! let mut input = Incoming::new(Some(rt.stdin()), random_seed(&rt));
 //! let mut out = Outgoing::new(rt.alloc(), rt.stdout(), rt.stdout().is_terminal())?;
 //! let mut err = Direct::new(rt.stderr());
 //! let status = solve(rt.alloc(), Kind::Plain, &words(&rt)?, &mut input, &mut out, &mut err);
@@ -20,10 +20,10 @@ mod whole_text;
 
 pub use arguments::{named_file, words};
 pub use closed_streams::closed_stream;
-pub use judging::{judge, judge_with_seed};
+pub use judging::judge;
 pub use messages::{input_error, listing_fault};
 pub use seeding::random_seed;
-pub use solving::{solve, solve_with_seed};
+pub use solving::solve;
 pub use status::out_of_memory;
 pub use system::{Direct, Incoming, Outgoing};
 

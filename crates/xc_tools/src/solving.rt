@@ -17,7 +17,7 @@ use crate::messages::input_error;
 use crate::status::{BAD_INPUT, BAD_WORDS, COMPLETE, FAILED, NO_MEMORY, out_of_memory, refuse};
 use std::alloc::Global;
 use xc_dance::Memory;
-use xc_input::{InputError, Kind, Problem, Read, Seed, Source, read_problem_with_seed};
+use xc_input::{InputError, Kind, Problem, Read, Source, read_problem};
 use xc_list::{End, Sink, Words, run, summary, warnings, word_fault};
 
 /// Flushes the output, and tells the end of a complete run.
@@ -106,7 +106,6 @@ fn solve_read<O: Sink, E: Sink>(
 fn solve_words<S: Source, O: Sink, E: Sink>(
     alloc: Global,
     kind: Kind,
-    seed: Seed,
     words: Words,
     input: &mut S,
     out: &mut O,
@@ -138,7 +137,7 @@ fn solve_words<S: Source, O: Sink, E: Sink>(
         ⊎ IfSome (S.rest input.old) (StandsForOne kind (λ a _.
         Begins (O.state out.old) (O.state out.new) (output a words.spacing words.limit))) }
 {
-    match read_problem_with_seed(alloc, kind, seed, input) {
+    match read_problem(alloc, kind, input) {
         Ok(read) => solve_read(alloc, &read, words, out, err),
         Err(error) => {
             let _ = input_error(&error, err);
@@ -154,7 +153,7 @@ fn solve_words<S: Source, O: Sink, E: Sink>(
 /// A whole run: reads the words, then the problem, searches it, and writes the listing to `out` and
 /// the messages to `err`. It gives the status: 0 where the run was complete or met its limit, 1 for
 /// a bad word, 2 for a fault of the input, 3 where a read or a write failed, 4 where memory was
-/// wanting. The tables of names hash by the fixed seed.
+/// wanting. Names are hashed by the input's seed.
 pub fn solve<S: Source, O: Sink, E: Sink>(
     alloc: Global,
     kind: Kind,
@@ -208,66 +207,8 @@ pub fn solve<S: Source, O: Sink, E: Sink>(
         × IfSome (S.rest input.old) (StandsForOne kind (λ a _.
         Begins (O.state out.old) (O.state out.new) (output a w.spacing w.limit)))) }
 {
-    solve_with_seed(alloc, kind, Seed::FIXED, words, input, out, err)
-}
-
-/// The same whole run, where the tables of names hash by this seed.
-pub fn solve_with_seed<S: Source, O: Sink, E: Sink>(
-    alloc: Global,
-    kind: Kind,
-    seed: Seed,
-    words: &[Vec<u8>],
-    input: &mut S,
-    out: &mut O,
-    err: &mut E,
-) -> u8
-    ensures only { result ≤ 4 }
-
-    // The words are judged before anything else is touched.
-    ensures refused { result ≡ 1 ↔ IsErr (read_words (map (λ w. w.items) words.now)) }
-    ensures refused_told { IfErr (read_words (map (λ w. w.items) words.now)) (λ fault. WasTold
-        (E.state err.old) (E.state err.new) (word_fault_text fault)) }
-    ensures refused_kept { result ≡ 1 → (input.new ≡ input.old) × (out.new ≡ out.old) }
-
-    // The output was taken whole and flushed, and all was told.
-    ensures settled { result ≡ 0 → IsTrue (O.state out.new).settled }
-    ensures clean { result ≡ 0 → ((O.state out.new).failures ≡ (O.state out.old).failures)
-        × ((E.state err.new).failures ≡ (E.state err.old).failures) }
-    ensures solved { result ≡ 0 → (w : Words)
-        × (read_words (map (λ w. w.items) words.now) ≡ Ok w)
-        × IfSome (S.rest input.old) (StandsForOne kind (λ a ignored. IsSolved a ignored w
-        (O.state out.old) (O.state out.new) (E.state err.old) (E.state err.new))) }
-
-    // Nothing was written behind a fault or a failed read, and such a read or write gives 3.
-    ensures unread { (S.failures input.new ≢ S.failures input.old) ⊎ (result ≡ 2) → out.new ≡ out.old }
-    ensures failing { (S.failures input.new ≢ S.failures input.old)
-        ⊎ ((O.state out.new).failures ≢ (O.state out.old).failures) → result ≡ 3 }
-    ensures fault { result ≡ 2 → IfSome (S.rest input.old) (λ bytes.
-        WasToldFault (IsFirstFault kind bytes) (E.state err.old) (E.state err.new)) }
-
-    // The same of the bytes that the input gave, whether it told them before or not.
-    ensures solved_given { result ≡ 0 → (w : Words)
-        × (read_words (map (λ w. w.items) words.now) ≡ Ok w) × (bytes : List ℕ)
-        × GaveAll (S.given input.old) (S.given input.new) bytes
-        × StandsForOne kind (λ a ignored. IsSolved a ignored w
-        (O.state out.old) (O.state out.new) (E.state err.old) (E.state err.new)) bytes }
-    ensures fault_given { result ≡ 2 → WasToldFault
-        (λ line fault. IsPart kind (S.given input.old) (S.given input.new) (Fault line fault))
-        (E.state err.old) (E.state err.new) }
-
-    ensures failed { result ≡ 3 → IsFailedRun (S.failures input.old) (S.failures input.new)
-        (O.state out.old) (O.state out.new) (E.state err.old) (E.state err.new) }
-    ensures memory { result ≡ 4 → RanOut (O.state out.old) (O.state out.new)
-        (E.state err.old) (E.state err.new) }
-
-    // Whatever the status, the output is a beginning of the problem's.
-    ensures begins { Keeps (O.state out.old).taken (O.state out.new).taken
-        ⊎ ((w : Words) × (read_words (map (λ w. w.items) words.now) ≡ Ok w)
-        × IfSome (S.rest input.old) (StandsForOne kind (λ a _.
-        Begins (O.state out.old) (O.state out.new) (output a w.spacing w.limit)))) }
-{
     match Words::read(words) {
-        Ok(words) => solve_words(alloc, kind, seed, words, input, out, err),
+        Ok(words) => solve_words(alloc, kind, words, input, out, err),
         Err(fault) => {
             let _ = word_fault(&fault, err);
             BAD_WORDS

@@ -7,7 +7,7 @@ ghost use Rattle.xc_tools.specs.Streams.{left_of, ends_line, early, IsLittle, pa
 use std::alloc::{AllocError, Global};
 use std::io::{Read, Write};
 use std::simd::Simd;
-use xc_input::{Given, ReadFailed, Source};
+use xc_input::{Given, ReadFailed, Seed, Source};
 use xc_list::{Sink, WriteFailed};
 
 /// How many bytes a sink holds back.
@@ -20,21 +20,25 @@ pub struct Incoming<R: Read + Drop> {
     left: u64,
     failures: u64,
     given: Given,
+    seed: Seed,
 }
 
 impl<R: Read + Drop> Incoming<R> {
-    /// A reader, or `None` for what could not be opened: that fails at the first read.
-    pub fn new(reader: Option<R>) -> Incoming<R>
+    /// A reader, or `None` for what could not be opened: that fails at the first read. The names in its
+    /// text are hashed by this seed.
+    pub fn new(reader: Option<R>, seed: Seed) -> Incoming<R>
         ensures reader { result.reader ≡ reader }
         ensures left { result.left ≡ 2 ^ 64 - 1 }
         ensures failures { result.failures ≡ 0 }
         ensures given { result.given.lines ≡ [] }
+        ensures seed { result.seed ≡ seed }
     {
         Incoming {
             reader,
             left: u64::MAX,
             failures: 0,
             given: Given::new(),
+            seed,
         }
     }
 }
@@ -88,6 +92,13 @@ impl<R: Read + Drop> Source for Incoming<R> {
                 Err(ReadFailed)
             }
         }
+    }
+
+    /// The seed that it was made with.
+    fn seed(&self) -> Seed
+        ensures { result ≡ self.now.seed }
+    {
+        self.seed
     }
 }
 

@@ -3,10 +3,10 @@ ghost use Rattle.std.specs.Prelude.{◌<◌};
 mod judged;
 mod streams;
 
-use crate::{solve, solve_with_seed};
+use crate::{Incoming, solve};
 use std::alloc::Global;
 use std::test::Fail;
-use xc_input::{Feed, Kind, Seed};
+use xc_input::{Feed, Kind, Seed, read_problem};
 use xc_list::Tray;
 
 const SEVEN: &[u8] = b"a b c d e f g\nc e\na d g\nb c f\na d f\nb g\nd e g\n";
@@ -430,18 +430,13 @@ fn the_same_by_each_seed(rt: HostRuntime) -> Result<(), Fail> {
     let usual = answer(alloc, Kind::Plain, &[b"m1"], SEVEN, 100)?;
     for keys in [0, 1, 12_345, u128::MAX] {
         let seed = Seed::new(keys);
-        let mut input = Feed::new(SEVEN, 100, None);
+        let mut source = Incoming::new(Some(SEVEN), seed);
+        let read = read_problem(alloc, Kind::Plain, &mut source);
+        assert!(rt; read.is_ok_and(|read| read.problem.seed() == seed));
+        let mut input = Incoming::new(Some(SEVEN), seed);
         let mut out = Tray::new(alloc, 100, 1000, false)?;
         let mut err = Tray::new(alloc, 100, 1000, false)?;
-        let status = solve_with_seed(
-            alloc,
-            Kind::Plain,
-            seed,
-            &words,
-            &mut input,
-            &mut out,
-            &mut err,
-        );
+        let status = solve(alloc, Kind::Plain, &words, &mut input, &mut out, &mut err);
         assert!(rt; status == usual.status && out.bytes() == usual.out.bytes());
         assert!(rt; judged::status_by(alloc, seed, SEVEN, out.bytes())? == 0);
     }

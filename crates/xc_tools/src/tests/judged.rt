@@ -2,7 +2,7 @@
 ghost use Rattle.std.specs.Prelude.{◌<◌};
 
 use super::{Told, gathered};
-use crate::{judge, judge_with_seed};
+use crate::{Incoming, judge};
 use std::alloc::Global;
 use std::test::Fail;
 use xc_input::{Feed, Kind, Seed};
@@ -68,13 +68,12 @@ pub(super) fn status_by(
     listing: &[u8],
 ) -> Result<u8, Fail> {
     let words = gathered(alloc, &[b"PROBLEM", b"1"])?;
-    let mut problem = Feed::new(problem, 100, None);
+    let mut problem = Incoming::new(Some(problem), seed);
     let mut listing = Feed::new(listing, 100, None);
     let mut out = Tray::new(alloc, 100, 100, false)?;
     let mut err = Tray::new(alloc, 100, 100, false)?;
-    Ok(judge_with_seed(
+    Ok(judge(
         alloc,
-        seed,
         &words,
         &mut problem,
         &mut listing,

@@ -2,7 +2,7 @@ use Rattle.std.proofs.Common.{◌≡◌}
 use Rattle.std.specs.Io.KnownBytes.{Consumes}
 use Rattle.xc_input.specs.inner.Feeding.{fed, IsBetween}
 use Rattle.xc_input.specs.Pieces.{Gave}
-use Rattle.xc_input.proofs.read.read_problem_with_seed.Given as goal
+use Rattle.xc_input.proofs.read.read_problem.Given as goal
 
 -- what was read so far was handed on or is carried, and no read failed
 abbrev pub invariant-reading : goal.invariant-reading

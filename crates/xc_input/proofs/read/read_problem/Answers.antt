@@ -7,8 +7,8 @@ use Rattle.xc_input.proofs.SourceLemmas.{consumes_more, consumes_zero, Says, end
 use Rattle.xc_input.specs.Pieces.{Gave, GaveAll}
 use Rattle.xc_input.proofs.PieceLemmas.{gave_more, gave_end, whole-last, part-last, part-spoiled}
 use Rattle.std.proofs.lemmas.Grind.{common_steps}
-use Rattle.xc_input.proofs.read.read_problem_with_seed.Goals.{After-drop-carry-2, After-drop-reader-inside-in_err-feed-15}
-use Rattle.xc_input.proofs.read.read_problem_with_seed.Goals as goal
+use Rattle.xc_input.proofs.read.read_problem.Goals.{After-drop-carry-2, After-drop-reader-inside-in_err-feed-15}
+use Rattle.xc_input.proofs.read.read_problem.Goals as goal
 
 -- a piece brought the error
 spoilt : (g : _) (c : After-drop-reader-inside-in_err-feed-15 g)
