@@ -34,6 +34,9 @@ get-requires c = grind (arith, common_steps, places_more, places_none, tells)
 pub hide_one-above-requires-clause-can : goal.hide_one-above-requires-clause-can
 hide_one-above-requires-clause-can c = grind (arith, common_steps, places_more, step_can, goes (goal.at.hide_one-above-requires-clause-can c).After-get)
 
+pub hide_one-above-requires-clause-unmarked : goal.hide_one-above-requires-clause-unmarked
+hide_one-above-requires-clause-unmarked c = λ m. ((c.requires.unmarked m).others c.args.p c.requires.span).0 c.loop-top.q (omega (arith, c.loop-top.invariant.behind)) (goes (goal.at.hide_one-above-requires-clause-unmarked c).After-get c.loop-top-test.true)
+
 pub loop-top-preserved : goal.loop-top-preserved
 loop-top-preserved c = grind (arith, common_steps, places_more, step_on, goes (goal.at.loop-top-preserved c).After-get)
 
@@ -62,7 +65,7 @@ hide_range-below-requires-clause-can c =
 pub hide_range-below-requires-clause-unmarked : goal.hide_range-below-requires-clause-unmarked
 hide_range-below-requires-clause-unmarked c = λ m q from below.
     let first = leads (goal.at.hide_range-below-requires-clause-unmarked c).After-get c.loop-top-test.false c.up-first.result c.up-first.ensures in
-    (c.requires.unmarked m).1 q (omega (arith, first, from)) below
+    ((c.requires.unmarked m).others c.args.p c.requires.span).1 q (omega (arith, first, from)) below
 
 pub returns-clause-done : goal.returns-clause-done
 returns-clause-done c =

@@ -45,7 +45,7 @@ pub show_one-below-requires-clause-can : goal.show_one-below-requires-clause-can
 show_one-below-requires-clause-can c = grind (arith, common_steps, step_can, next, goes (goal.at.show_one-below-requires-clause-can c).After-get)
 
 pub show_one-below-requires-clause-unmarked : goal.show_one-below-requires-clause-unmarked
-show_one-below-requires-clause-unmarked c = λ m. (c.requires.unmarked m).1 c.loop-top.q (goes (goal.at.show_one-below-requires-clause-unmarked c).After-get c.loop-top-test.true) c.loop-top.invariant.before
+show_one-below-requires-clause-unmarked c = λ m. ((c.requires.unmarked m).others c.args.p c.requires.span).1 c.loop-top.q (goes (goal.at.show_one-below-requires-clause-unmarked c).After-get c.loop-top-test.true) c.loop-top.invariant.before
 
 pub loop-top-preserved : goal.loop-top-preserved
 loop-top-preserved c = grind (arith, common_steps, step_on, next, goes (goal.at.loop-top-preserved c).After-get)
@@ -80,7 +80,7 @@ show_range-above-requires-clause-can c =
 pub show_range-above-requires-clause-unmarked : goal.show_range-above-requires-clause-unmarked
 show_range-above-requires-clause-unmarked c = λ m q from below.
     let end = leads (goal.at.show_range-above-requires-clause-unmarked c).After-get c.loop-top-test.false c.down-end.result c.down-end.ensures in
-    (c.requires.unmarked m).0 q from (omega (arith, end, below))
+    ((c.requires.unmarked m).others c.args.p c.requires.span).0 q from (omega (arith, end, below))
 
 pub returns-clause-done : goal.returns-clause-done
 returns-clause-done c =
