@@ -68,6 +68,7 @@ pub(crate) fn get(cells: &[Cell], place: u32) -> u32
 
 /// Writes one cell.
 #[inline(always)]
+#[tactic(auto, using(crate::proofs::LinkedTables::LinkColumns::one_written))]
 pub(crate) fn set(cells: &mut [Cell], place: u32, value: u32, writes: &mut Writes)
     requires { place < length (values cells.old) }
     ensures value { values cells.new ≡ slice_set (values cells.old) place value }
@@ -96,6 +97,7 @@ pub(crate) fn down(links: &[Link], place: u32) -> u32
 
 /// Writes where the link at a place leads upwards.
 #[inline(always)]
+#[tactic(auto, using(crate::proofs::LinkedTables::LinkColumns::one_written))]
 pub(crate) fn set_up(links: &mut [Link], place: u32, value: u32, writes: &mut Writes)
     requires { place < length (ups links.old) }
     ensures up { ups links.new ≡ slice_set (ups links.old) place value }
@@ -107,6 +109,7 @@ pub(crate) fn set_up(links: &mut [Link], place: u32, value: u32, writes: &mut Wr
 
 /// Writes where the link at a place leads downwards.
 #[inline(always)]
+#[tactic(auto, using(crate::proofs::LinkedTables::LinkColumns::one_written))]
 pub(crate) fn set_down(links: &mut [Link], place: u32, value: u32, writes: &mut Writes)
     requires { place < length (downs links.old) }
     ensures down { downs links.new ≡ slice_set (downs links.old) place value }
