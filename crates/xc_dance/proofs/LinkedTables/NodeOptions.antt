@@ -299,8 +299,8 @@ node_within p i o laid pos le name = let q = laid.there i o pos le name in slice
 -- ---- the ring of primary items
 
 pub open_right : (p : Puzzle) (t : List Move) (i : ℕ) → AreLegal p t → (i ≡ 0) ⊎ IsOpenPrimary p t i → get_or (items_after p t).rlink i 0 ≡ first_above 0 i (open_items p t)
-open_right p t i legal (inl z) = grind (arith, common_steps, Rises-filter, Rises-range, first_above-first, le-leb, ne_eqb, open_uncovered, right_now, ring_open, row_get)
-open_right p t i legal (inr h) = grind (arith, common_steps, Rises-filter, Rises-range, first_above-first, le-leb, ne_eqb, open_uncovered, right_now, ring_open, row_get)
+open_right p t i legal (inl z) = grind (arith, common_steps, Rises-filter, Rises-range, first_above-first, le-leb, ring_open, row_get)
+open_right p t i legal (inr h) = grind (arith, common_steps, ne_eqb, open_uncovered, right_now, ring_open, row_get)
 
 pub open_place : (p : Puzzle) (t : List Move) (i : ℕ) → (i ≡ 0) ⊎ IsOpenPrimary p t i → i < length (items_after p t).rlink
 open_place p t i (inl z) = let long = row_len (rlink_at p t) (item_count p + 2) in omega (arith, long, z)
