@@ -264,3 +264,6 @@ first_primary (suc n) ne = refl
 
 pub right_inner : (p : Puzzle) (i : ℕ) → i ≢ primary_count p → i ≢ item_count p + 1 → i ≤ item_count p + 1 → i + 1 ≡ rlink_at p [] i
 right_inner p i ne nl le = grind (arith, common_steps, above_in, by_size, first_primary, high_right, inner_right, low_right, low_ring, none_above)
+
+-- the columns of the item table, as they are filled
+pub ruleset item_columns = (column_none, column_len, column_more, rings_linked, same_items)

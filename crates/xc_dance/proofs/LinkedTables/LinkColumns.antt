@@ -3,9 +3,10 @@ use Rattle.std.proofs.Common.{◌≡◌, ◌≢◌, ℕ, zero, suc, List, [], �
 use Rattle.std.specs.Prelude.{slice_get}
 use Rattle.std.proofs.lemmas.Option.{same_Some, slice_get_within}
 use Rattle.std.proofs.lemmas.Grind.{common_steps}
-use Rattle.std.proofs.lemmas.List.{get_or-set_same, get_or-set_other, set-set, set-get_or, reverse-append, length-map, length-set}
+use Rattle.std.proofs.lemmas.List.{get_or-set_same, get_or-set_other, set-set, set-get_or, reverse-append, length-map, length-set, map-set}
 use Rattle.std.proofs.lemmas.List.Sums.{fold-append}
 use Rattle.std.proofs.Math.Path.{fun_ext}
+use Rattle.std.proofs.Math.Seq.{map-set_same}
 use Rattle.xc_input.specs.Problem.{Puzzle, item_count}
 use Rattle.xc_dance.specs.declared.links.nodes.Nodes.{Nodes}
 use Rattle.xc_dance.specs.Links.Steps.{unlinked, relinked, hidden, shown, HasSize, NamesPlaces, CanHideAll, CanShow, CanShowAll}
@@ -16,6 +17,9 @@ use Rattle.xc_dance.specs.Links.Laid.{Placed, IsLaid, IsName}
 use Rattle.xc_dance.proofs.LinkedTables.Sweep.{put_at-same, put_at-other, put_at, with_line}
 
 -- ---- columns that are maps of a layout, and one write to them
+
+-- a write to one cell is one to the list of the cells' values, and none to other values beside them
+pub ruleset one_written = (map-set, map-set_same)
 
 pub get_map : {X : Type 0} (f : X → ℕ) (ns : List X) (k : ℕ) (n : X) → slice_get ns k ≡ Some n → get_or (map f ns) k 0 ≡ f n
 get_map f [] k n e = cc

@@ -224,7 +224,7 @@ marks false true k v = refl
 marks false false k v = refl
 
 pub purify_colours : (p : Puzzle) (t : List Move) (i c : ℕ) → IsLaid p → (k : ℕ) (n : Node) → slice_get (layout p) k ≡ Some n → color_in p (Purify i c ∷ t) n ≡ marked_list p i (Some c) (purify_start p t i c) (listed_numbers p t i) n
-purify_colours p t i c laid k unused at = grind (arith, common_steps, eq-eqb, eqb-false, eqb-true, marked_at, marks, ne_eqb, not-not, not_in, rises_listed)
-purify_colours p t i c laid k (spacer m) at = grind (arith, common_steps, eq-eqb, eqb-false, eqb-true, marked_at, marks, ne_eqb, not-not, not_in, rises_listed)
+purify_colours p t i c laid k unused at = grind (arith, common_steps, marked_at, marks)
+purify_colours p t i c laid k (spacer m) at = grind (arith, common_steps, marked_at, marks)
 purify_colours p t i c laid k (own j) at = grind (arith, common_steps, eq-eqb, eqb-false, eqb-true, marked_at, marks, ne_eqb, not-not, not_in, rises_listed)
 purify_colours p t i c laid k (used o u) at = grind (arith, common_steps, eq-eqb, eqb-false, eqb-true, marked_at, marks, ne_eqb, not-not, not_in, rises_listed)

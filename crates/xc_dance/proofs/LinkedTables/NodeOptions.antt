@@ -4,9 +4,12 @@ use Rattle.std.specs.Prelude.{is_some, unwrap_or, slice_get, Contains}
 use Rattle.std.specs.List.{range_with_len, AllByRecursion}
 use Rattle.std.proofs.lemmas.Grind.{common_steps}
 use Rattle.std.proofs.lemmas.Option.{slice_get_within, same_Some, slice_get-get_or}
-use Rattle.xc_input.specs.Problem.{Puzzle, primary_count, item_count, high_at, IsPrimary, uses_of, colour_in}
+use Rattle.xc_input.specs.Problem.{Puzzle, primary_count, item_count, high_at, IsItem, IsPrimary, uses_of, colour_in}
 use Rattle.xc_input.specs.declared.problem.Use.{Use}
 use Rattle.xc_dance.specs.declared.dance.Move.{Move}
+use Rattle.xc_dance.specs.declared.links.nodes.Nodes.{Nodes}
+use Rattle.xc_dance.specs.Linked.{Linked}
+use Rattle.std.proofs.lemmas.List.{length-map}
 use Rattle.xc_dance.specs.declared.dance.Move.TheVariants.{Purify, Spend}
 use Rattle.xc_dance.specs.Moves.{purified, spends, AreLegal, listed, next_above, open_items, listed_numbers, IsOpenPrimary}
 use Rattle.xc_dance.specs.Fields.{own, layout, first_above, ring_of, spacer, used, spacer_place, is_in, below_of, link_place}
@@ -252,6 +255,28 @@ own_down p t i laid pos le =
     get_map (dlink_in p (line_of p t)) (layout p) i (own i) (laid.head i pos le)
     ∙ ap (link_place p i) (sym (first_above-first 0 0 0 (listed_numbers p t i) (omega arith) (rises_listed p t i)))
 
+-- what the tables say at item i's own node
+pub record OwnNode (p : Puzzle) (t : List Move) (i : ℕ) (n : Nodes) : Type 0 where
+  pub top_within : i < length n.top
+  pub color_within : i < length n.color
+  pub dlink_within : i < length n.dlink
+  pub top : get_or n.top i 0 ≡ length (listed p t i)
+  pub color : get_or n.color i 0 ≡ unwrap_or (purified i t) 0
+  pub down : get_or n.dlink i 0 ≡ link_place p i (first_above 0 0 (listed_numbers p t i))
+
+pub own_node : (p : Puzzle) (t : List Move) (i : ℕ) (n : Nodes) (v : Linked) (m k : ℕ) → n ≡ nodes_after p t → IsLaid p → record { puzzle = p; trail = t; room = m; written = k } ≡ v → IsItem v.puzzle i → OwnNode p t i n
+own_node p t i n v m k is laid seen item =
+    let here : IsItem p i = subst (λ (w : Linked). IsItem w.puzzle i) (sym seen) item in
+    let place = own_place p i laid here.0 here.1 in
+    subst (λ (u : Nodes). OwnNode p t i u) (sym is) (record {
+      top_within = omega (arith, place, length-map (layout p) (top_in (line_of p t)));
+      color_within = omega (arith, place, length-map (layout p) (color_in p t));
+      dlink_within = omega (arith, place, length-map (layout p) (dlink_in p (line_of p t)));
+      top = own_top p t i laid here.0 here.1;
+      color = own_color p t i laid here.0 here.1;
+      down = own_down p t i laid here.0 here.1;
+    })
+
 pub contained : (xs : List ℕ) (x : ℕ) → Contains xs x → is_in x xs ≡ true
 contained xs x h = grind (arith, common_steps, eq-eqb)
 
@@ -274,8 +299,8 @@ node_within p i o laid pos le name = let q = laid.there i o pos le name in slice
 -- ---- the ring of primary items
 
 pub open_right : (p : Puzzle) (t : List Move) (i : ℕ) → AreLegal p t → (i ≡ 0) ⊎ IsOpenPrimary p t i → get_or (items_after p t).rlink i 0 ≡ first_above 0 i (open_items p t)
-open_right p t i legal (inl z) = grind (arith, common_steps, Rises-filter, Rises-range, first_above-first, le-leb, ne_eqb, open_uncovered, right_now, ring_open, row_get)
-open_right p t i legal (inr h) = grind (arith, common_steps, Rises-filter, Rises-range, first_above-first, le-leb, ne_eqb, open_uncovered, right_now, ring_open, row_get)
+open_right p t i legal (inl z) = grind (arith, common_steps, Rises-filter, Rises-range, first_above-first, le-leb, ring_open, row_get)
+open_right p t i legal (inr h) = grind (arith, common_steps, ne_eqb, open_uncovered, right_now, ring_open, row_get)
 
 pub open_place : (p : Puzzle) (t : List Move) (i : ℕ) → (i ≡ 0) ⊎ IsOpenPrimary p t i → i < length (items_after p t).rlink
 open_place p t i (inl z) = let long = row_len (rlink_at p t) (item_count p + 2) in omega (arith, long, z)

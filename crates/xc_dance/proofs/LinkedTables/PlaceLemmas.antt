@@ -341,3 +341,6 @@ span_is p (suc o) i fit pos e =
 
 pub has_spans : (p : Puzzle) → IsFit p → HasSpans p (spans_of p)
 has_spans p fit = grind (arith, common_steps, span_is)
+
+-- where an option's nodes stand, and how many there are
+pub ruleset option_place = (option_fits, uses_here, layout_len, layout_small, place_within)

@@ -48,7 +48,7 @@ less_more : (i y : ℕ) (ys : List ℕ) → y ≢ i → less i (y ∷ ys) ≡ y 
 less_more i y ys ne = rw (ne_eqb y i ne) refl
 
 prev_first : (h a y q : ℕ) (ys : List ℕ) → Rises y ys → is_in q ys ≡ true → last_below a q ys ≡ cond (eqb q (first_of h ys)) a (last_below y q ys)
-prev_first h a y q [] r e = grind (arith, common_steps, by_first, eq-eqb, false≢true, in_above, in_rest, last_below-more, last_below-self, ne_eqb)
+prev_first h a y q [] r e = absurd (false≢true e)
 prev_first h a y q (z ∷ zs) r e = grind (arith, common_steps, by_first, eq-eqb, false≢true, in_above, in_rest, last_below-more, last_below-self, ne_eqb)
 
 -- what stands before q
@@ -88,7 +88,7 @@ prev_without h a i q n (y ∷ ys) r e f ne hq =
 -- the first one
 pub first_without : (h a i n : ℕ) (xs : List ℕ) → Rises n xs → is_in i xs ≡ true → is_in a xs ≡ false →
     first_of h (less i xs) ≡ cond (eqb a (last_below a i xs)) (first_above h i xs) (first_of h xs)
-first_without h a i n [] r e out = grind (arith, common_steps, by_first, eq-eqb, false≢true, first_above-first, first_above-more, in_above, in_more, in_rest, last_below-in, last_below-more, last_below-self, less_first, less_more, ne_eqb, out_rest)
+first_without h a i n [] r e out = absurd (false≢true e)
 first_without h a i n (y ∷ ys) r e out = grind (arith, common_steps, by_first, eq-eqb, false≢true, first_above-first, first_above-more, in_above, in_more, in_rest, last_below-in, last_below-more, last_below-self, less_first, less_more, ne_eqb, out_rest)
 
 -- what stands behind q

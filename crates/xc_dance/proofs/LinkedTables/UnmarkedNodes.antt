@@ -132,11 +132,13 @@ by_node p t x _ laid legal plain small e = (λ q from below. absurd (omega (arit
 
 -- no node of an option is marked
 pub plain_unmarked : (p : Puzzle) (t : List Move) → AreLegal p t → IsFitted p (spans_of p) → IsPlain p → IsUnmarked (spans_of p) (nodes_after p t).color
-plain_unmarked p t legal fitted plain = λ x lt.
-    let here = slice_get-get_or (layout p) x unused (omega (arith, lt, length-map (layout p) (span_of p))) in
-    let d : Span = record { first = 0; end = 0 } in
-    subst (λ (s : Span). HasUnmarked (nodes_after p t).color s x) (sym (span_at (layout p) (span_of p) x (get_or (layout p) x unused) d here))
-    (by_node p t x (get_or (layout p) x unused) fitted.laid legal plain (omega (arith, lt, fitted.near.small)) here)
+plain_unmarked p t legal fitted plain = record {
+  others = λ x lt.
+      let here = slice_get-get_or (layout p) x unused (omega (arith, lt, length-map (layout p) (span_of p))) in
+      let d : Span = record { first = 0; end = 0 } in
+      subst (λ (s : Span). HasUnmarked (nodes_after p t).color s x) (sym (span_at (layout p) (span_of p) x (get_or (layout p) x unused) d here))
+      (by_node p t x (get_or (layout p) x unused) fitted.laid legal plain (omega (arith, lt, fitted.near.small)) here);
+}
   where
     span_at : (ns : List Node) (f : Node → Span) (k : ℕ) (n : Node) (d : Span) → slice_get ns k ≡ Some n → get_or (map f ns) k d ≡ f n
     span_at [] f k n d e = cc
@@ -154,20 +156,15 @@ kept_unmarked p t coloured spans nodes legal fitted a b plain none =
 
 -- ---- the walks
 
+kept_color : (step : Nodes → ℕ → Nodes) → ((t : Nodes) (q : ℕ) → (step t q).color ≡ t.color) → (spans : List Span) (t u : Nodes) (qs : List ℕ) → u ≡ fold step t qs → IsUnmarked spans t.color → IsUnmarked spans u.color
+kept_color step same spans t u qs done = subst (IsUnmarked spans) (sym (ap (λ (v : Nodes). v.color) done ∙ colors-are step same t qs))
+
 -- a step down that keeps no colour marks none
 pub left_unmarked : (spans : List Span) (marks : Bool) (keep : Option ℕ) (t u : Nodes) (x : ℕ) → u ≡ left_node spans keep t x → (marks ≡ false → keep ≡ None) → (marks ≡ false → IsUnmarked spans t.color) →
     marks ≡ false → IsUnmarked spans u.color
-left_unmarked spans marks keep t u x done none h m =
-    let plain : u ≡ fold hidden t (others_of spans x) = done ∙ ap (λ k. left_node spans k t x) (none m) in
-    subst (IsUnmarked spans) (sym (ap (λ (v : Nodes). v.color) plain ∙ colors-are hidden hidden_color t (others_of spans x))) (h m)
+left_unmarked spans marks keep t u x done none h m = kept_color hidden hidden_color spans t u (others_of spans x) (done ∙ ap (λ k. left_node spans k t x) (none m)) (h m)
 
 -- nor does a step up
 pub back_unmarked : (spans : List Span) (marks : Bool) (keep : Option ℕ) (t u : Nodes) (x : ℕ) → u ≡ back_node spans keep t x → (marks ≡ false → keep ≡ None) → (marks ≡ false → IsUnmarked spans t.color) →
     marks ≡ false → IsUnmarked spans u.color
-back_unmarked spans marks keep t u x done none h m =
-    let plain : u ≡ fold shown t (reverse (others_of spans x)) = done ∙ ap (λ k. back_node spans k t x) (none m) in
-    subst (IsUnmarked spans) (sym (ap (λ (v : Nodes). v.color) plain ∙ colors-are shown shown_color t (reverse (others_of spans x)))) (h m)
-
--- the colours are these
-pub same_unmarked : (spans : List Span) (marks : Bool) (color now : List ℕ) → now ≡ color → (marks ≡ false → IsUnmarked spans color) → marks ≡ false → IsUnmarked spans now
-same_unmarked spans marks color now e h m = subst (IsUnmarked spans) (sym e) (h m)
+back_unmarked spans marks keep t u x done none h m = kept_color shown shown_color spans t u (reverse (others_of spans x)) (done ∙ ap (λ k. back_node spans k t x) (none m)) (h m)

@@ -77,38 +77,39 @@ pub length-followed : (links : List ℕ) (n p : ℕ) → length (followed links 
 length-followed links zero p = refl
 length-followed links (suc n) p = ap suc (length-followed links n (get_or links p 0))
 
--- the same of a walk that is at node p, k nodes on
-pub record Following (step : Nodes → ℕ → Nodes) (writes : Nodes → ℕ → ℕ) (Can : Nodes → ℕ → Type 0) (links : Nodes → List ℕ) (t0 : Nodes) (all : List ℕ) (t : Nodes) (p k n : ℕ) : Type 0 where
-  pub walk : CanFollow step Can links t p (drop k all)
-  pub done : fold step t (drop k all) ≡ fold step t0 all
-  pub cost : n + costs step writes t (drop k all) ≡ costs step writes t0 all
+-- the same of a walk along m links from node x, which is at node p, k nodes on
+pub record Following (step : Nodes → ℕ → Nodes) (writes : Nodes → ℕ → ℕ) (Can : Nodes → ℕ → Type 0) (links : Nodes → List ℕ) (t0 : Nodes) (m x : ℕ) (t : Nodes) (p k n : ℕ) : Type 0 where
+  pub walk : CanFollow step Can links t p (drop k (followed (links t0) m x))
+  pub done : fold step t (drop k (followed (links t0) m x)) ≡ fold step t0 (followed (links t0) m x)
+  pub cost : n + costs step writes t (drop k (followed (links t0) m x)) ≡ costs step writes t0 (followed (links t0) m x)
 
 -- the node that it is at comes first of those that are left
 pub record Here (step : Nodes → ℕ → Nodes) (Can : Nodes → ℕ → Type 0) (links : Nodes → List ℕ) (all : List ℕ) (t : Nodes) (p k : ℕ) : Type 0 where
   pub first : drop k all ≡ p ∷ drop (k + 1) all
   pub can : Can t p
-  pub within : p < length (links (step t p))
+  pub within : (u : Nodes) → u ≡ step t p → p < length (links u)
   pub next : CanFollow step Can links (step t p) (get_or (links (step t p)) p 0) (drop (k + 1) all)
 
-pub follow_here : {step : Nodes → ℕ → Nodes} {writes : Nodes → ℕ → ℕ} {Can : Nodes → ℕ → Type 0} {links : Nodes → List ℕ} {t0 : Nodes} {all : List ℕ} {t : Nodes} {p k n : ℕ} → k < length all → Following step writes Can links t0 all t p k n → Here step Can links all t p k
-follow_here {step} {writes} {Can} {links} {t0} {all} {t} {p} {k} {n} lt h =
-    let at : drop k all ≡ get_or all k 0 ∷ drop (k + 1) all = drop_more all k 0 lt in
-    let first : drop k all ≡ p ∷ drop (k + 1) all = at ∙ ap (λ x. x ∷ drop (k + 1) all) (sym (subst (CanFollow step Can links t p) at h.walk).0) in
+pub follow_here : {step : Nodes → ℕ → Nodes} {writes : Nodes → ℕ → ℕ} {Can : Nodes → ℕ → Type 0} {links : Nodes → List ℕ} {t0 : Nodes} {m x : ℕ} {t : Nodes} {p k n : ℕ} → k < m → Following step writes Can links t0 m x t p k n → Here step Can links (followed (links t0) m x) t p k
+follow_here {step} {writes} {Can} {links} {t0} {m} {x} {t} {p} {k} {n} lt h =
+    let all : List ℕ = followed (links t0) m x in
+    let at : drop k all ≡ get_or all k 0 ∷ drop (k + 1) all = drop_more all k 0 (omega (arith, length-followed (links t0) m x, lt)) in
+    let first : drop k all ≡ p ∷ drop (k + 1) all = at ∙ ap (λ y. y ∷ drop (k + 1) all) (sym (subst (CanFollow step Can links t p) at h.walk).0) in
     let w : CanFollow step Can links t p (p ∷ drop (k + 1) all) = subst (CanFollow step Can links t p) first h.walk in
-    record { first = first; can = w.1; within = w.2; next = w.3 }
+    record { first = first; can = w.1; within = λ u is. subst (λ (v : Nodes). p < length (links v)) (sym is) w.2; next = w.3 }
 
-pub follow_on : {step : Nodes → ℕ → Nodes} {writes : Nodes → ℕ → ℕ} {Can : Nodes → ℕ → Type 0} {links : Nodes → List ℕ} {t0 : Nodes} {all : List ℕ} {t : Nodes} {p k n : ℕ} (u : Nodes) (q m : ℕ) → k < length all → u ≡ step t p → q ≡ get_or (links u) p 0 → m ≡ writes t p
-    → Following step writes Can links t0 all t p k n → Following step writes Can links t0 all u q (k + 1) (n + m)
-follow_on {step} {writes} {Can} {links} {t0} {all} {t} {p} {k} {n} u q m lt is to paid h =
+pub follow_on : {step : Nodes → ℕ → Nodes} {writes : Nodes → ℕ → ℕ} {Can : Nodes → ℕ → Type 0} {links : Nodes → List ℕ} {t0 : Nodes} {m x : ℕ} {t : Nodes} {p k n : ℕ} (u : Nodes) (q w : ℕ) → k < m → u ≡ step t p → q ≡ get_or (links u) p 0 → w ≡ writes t p
+    → Following step writes Can links t0 m x t p k n → Following step writes Can links t0 m x u q (k + 1) (n + w)
+follow_on {step} {writes} {Can} {links} {t0} {m} {x} {t} {p} {k} {n} u q w lt is to paid h =
     let here = follow_here lt h in
-    let rest : List ℕ = drop (k + 1) all in
+    let rest : List ℕ = drop (k + 1) (followed (links t0) m x) in
     let next : q ≡ get_or (links (step t p)) p 0 = to ∙ ap (λ (v : Nodes). get_or (links v) p 0) is in
-    let whole : costs step writes t (drop k all) ≡ writes t p + costs step writes (step t p) rest = ap (costs step writes t) here.first in
+    let whole : costs step writes t (drop k (followed (links t0) m x)) ≡ writes t p + costs step writes (step t p) rest = ap (costs step writes t) here.first in
     let cost = h.cost in
     grind (arith, common_steps)
 
-pub follow_end : {step : Nodes → ℕ → Nodes} {writes : Nodes → ℕ → ℕ} {Can : Nodes → ℕ → Type 0} {links : Nodes → List ℕ} {t0 : Nodes} {all : List ℕ} {t : Nodes} {p k n : ℕ} → length all ≤ k → Following step writes Can links t0 all t p k n → Reached step writes t0 all t n
-follow_end {step} {writes} {Can} {links} {t0} {all} {t} {p} {k} {n} le h = grind (arith, common_steps, drop_all)
+pub follow_end : {step : Nodes → ℕ → Nodes} {writes : Nodes → ℕ → ℕ} {Can : Nodes → ℕ → Type 0} {links : Nodes → List ℕ} {t0 : Nodes} {m x : ℕ} {t : Nodes} {p k n : ℕ} → m ≤ k → Following step writes Can links t0 m x t p k n → Reached step writes t0 (followed (links t0) m x) t n
+follow_end {step} {writes} {Can} {links} {t0} {m} {x} {t} {p} {k} {n} le h = grind (arith, common_steps, drop_all, length-followed)
 
 -- ---- places in a row, one by one
 

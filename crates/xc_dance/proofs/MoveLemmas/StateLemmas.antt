@@ -107,6 +107,9 @@ pub next_open_none : (t : List Move) (n a len : ℕ) → a + len ≤ n + 1 → n
 next_open_none t n a zero le = grind (arith, common_steps, le-ltb)
 next_open_none t n a (suc len) le = grind (arith, common_steps, le-ltb, next_open_none t n (a + 1) len (omega (arith, le)))
 
+-- what a step to the next place tells
+pub ruleset next_open = (next_open_step, next_open_here, next_open_none)
+
 -- ---- what is left
 
 pub high_within : (p : Puzzle) (i : ℕ) → IsWithinLimits p → high_at p i ≤ 999999999

@@ -18,5 +18,5 @@ abbrev pub HasUnmarked : List ℕ → Span → ℕ → Type 0
 HasUnmarked color s x = AreUnmarked color (x + 1) s.end × AreUnmarked color s.first x
 
 -- whichever node x is
-abbrev pub IsUnmarked : List Span → List ℕ → Type 0
-IsUnmarked spans color = (x : ℕ) → x < length spans → HasUnmarked color (span_at spans x) x
+pub record IsUnmarked (spans : List Span) (color : List ℕ) : Type 0 where
+  pub others : (x : ℕ) → x < length spans → HasUnmarked color (span_at spans x) x

@@ -1,5 +1,5 @@
 //! Cells whose every write is counted.
-ghost use Rattle.std.specs.Prelude.{◌≡◌, ℕ, ◌+◌, ◌<◌, List, map, length, slice_index, slice_set, replicate, IfOk, slice_get, ◌↔◌, ◌==◌, ◌&&◌, IsTrue};
+ghost use Rattle.std.specs.Prelude.{◌≡◌, ℕ, ◌+◌, ◌<◌, List, map, length, slice_index, slice_set, replicate, IfOk, slice_get, ◌↔◌, IsTrue};
 ghost use Rattle.xc_dance.specs.Links.Columns.{values, ups, downs};
 
 use crate::links::writes::Writes;
@@ -7,7 +7,7 @@ use std::alloc::{AllocError, Global};
 use std::marker::Model;
 
 /// One cell of a table. Only `write` changes it, and nothing copies it.
-#[derive(Drop)]
+#[derive(PartialEq, Eq, Drop)]
 pub(crate) struct Cell {
     value: u32,
 }
@@ -25,7 +25,7 @@ impl Cell {
 }
 
 /// The two links of a node side by side: whoever reads one reads the other.
-#[derive(Drop)]
+#[derive(PartialEq, Eq, Drop)]
 pub(crate) struct Link {
     up: Cell,
     down: Cell,
@@ -68,6 +68,7 @@ pub(crate) fn get(cells: &[Cell], place: u32) -> u32
 
 /// Writes one cell.
 #[inline(always)]
+#[tactic(auto, using(crate::proofs::LinkedTables::LinkColumns::one_written))]
 pub(crate) fn set(cells: &mut [Cell], place: u32, value: u32, writes: &mut Writes)
     requires { place < length (values cells.old) }
     ensures value { values cells.new ≡ slice_set (values cells.old) place value }
@@ -96,6 +97,7 @@ pub(crate) fn down(links: &[Link], place: u32) -> u32
 
 /// Writes where the link at a place leads upwards.
 #[inline(always)]
+#[tactic(auto, using(crate::proofs::LinkedTables::LinkColumns::one_written))]
 pub(crate) fn set_up(links: &mut [Link], place: u32, value: u32, writes: &mut Writes)
     requires { place < length (ups links.old) }
     ensures up { ups links.new ≡ slice_set (ups links.old) place value }
@@ -107,6 +109,7 @@ pub(crate) fn set_up(links: &mut [Link], place: u32, value: u32, writes: &mut Wr
 
 /// Writes where the link at a place leads downwards.
 #[inline(always)]
+#[tactic(auto, using(crate::proofs::LinkedTables::LinkColumns::one_written))]
 pub(crate) fn set_down(links: &mut [Link], place: u32, value: u32, writes: &mut Writes)
     requires { place < length (downs links.old) }
     ensures down { downs links.new ≡ slice_set (downs links.old) place value }
@@ -154,36 +157,14 @@ pub(crate) fn read_down(links: &[Link], place: u32) -> Option<u32>
 pub(crate) fn same_cells(cells: &[Cell], others: &[Cell]) -> bool
     ensures { IsTrue result ↔ (values cells.now ≡ values others.now) }
 {
-    if cells.len() != others.len() {
-        return false;
-    }
-    for k in 0..cells.len() {
-        if cells[k].value != others[k].value {
-            return false;
-        }
-    }
-    true
+    cells == others
 }
 
 /// Whether the links are equal, one by one.
 pub(crate) fn same_links(links: &[Link], others: &[Link]) -> bool
     ensures { IsTrue result ↔ ((ups links.now ≡ ups others.now) × (downs links.now ≡ downs others.now)) }
 {
-    if links.len() != others.len() {
-        return false;
-    }
-    for k in 0..links.len() {
-        if !same_link(&links[k], &others[k]) {
-            return false;
-        }
-    }
-    true
-}
-
-fn same_link(link: &Link, other: &Link) -> bool
-    ensures { result ≡ (link.now.up.value == other.now.up.value && link.now.down.value == other.now.down.value) }
-{
-    link.up.value == other.up.value && link.down.value == other.down.value
+    links == others
 }
 
 /// One column of a table: a list of numbers.

@@ -10,6 +10,7 @@ use std::alloc::{AllocError, Global};
 use xc_input::Problem;
 
 /// The item table before any move.
+#[tactic(auto, using(crate::proofs::LinkedTables::FirstTables::item_columns))]
 pub(crate) fn first_items(
     alloc: Global,
     problem: &Problem,
@@ -25,6 +26,7 @@ pub(crate) fn first_items(
 }
 
 /// Links the items with their rings' heads.
+#[tactic(auto, using(crate::proofs::LinkedTables::FirstTables::item_columns))]
 fn link_rings(items: &mut Items, problem: &Problem, writes: &mut Writes)
     requires { items.old ≡ linked_to problem.now.puzzle 0 }
     ensures { items.new ≡ linked_to problem.now.puzzle (item_count problem.now.puzzle + 2) }

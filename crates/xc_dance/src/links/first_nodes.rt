@@ -49,6 +49,7 @@ fn lay_items(nodes: &mut Nodes, problem: &Problem, writes: &mut Writes)
 
 /// Lays the options' nodes and the spacers round them. A use's node leads to its item's own node
 /// alone.
+#[tactic(auto, using(crate::proofs::LinkedTables::PlaceLemmas::option_place, crate::proofs::LinkedTables::FirstTables::up_next))]
 fn lay_options(nodes: &mut Nodes, problem: &Problem, writes: &mut Writes)
     requires limits { IsWithinLimits problem.now.puzzle }
     requires before { nodes.old ≡ laid_to problem.now.puzzle (item_count problem.now.puzzle + 1) }
@@ -92,6 +93,7 @@ fn lay_spacer(
 }
 
 /// The last node of the option behind the spacer behind option `o`; 0 if there is none.
+#[tactic(auto, using(crate::proofs::LinkedTables::PlaceLemmas::option_place, crate::proofs::LinkedTables::FirstTables::down_next))]
 fn last_node(problem: &Problem, o: u32, place: u32) -> u32
     requires limits { IsWithinLimits problem.now.puzzle }
     requires option { o ≤ option_count problem.now.puzzle }

@@ -169,70 +169,6 @@ impl Nodes {
             && same_cells(&self.color, &other.color)
     }
 
-    /// Goes down the list of item i: its nodes of the colour kept are marked, the others are hidden.
-    #[inline(always)]
-    fn hide_list(
-        &mut self,
-        spans: &Spans,
-        i: u32,
-        keep: Option<u32>,
-        marks: bool,
-        writes: &mut Writes,
-    ) -> u64
-        requires small { length spans.now < 2 ^ 31 }
-        requires ends { All (λ s. s.end < 2 ^ 31) spans.now }
-        requires can { CanHideList spans.now keep self.old i }
-        requires unmarked { marks ≡ false → IsUnmarked spans.now self.old.color }
-        requires none { marks ≡ false → keep ≡ None }
-        ensures done { self.new ≡ fold (left_node spans.now keep) self.old (list_of self.old i) }
-        ensures cost { result ≡ walk_costs spans.now keep self.old (list_of self.old i) }
-        ensures few_writes { result ≤ 3 * 2 ^ 62 }
-        ensures counted { writes.new.count ≡ writes.old.count + result }
-    {
-        hide_list(
-            &mut self.top,
-            &mut self.links,
-            &mut self.color,
-            spans,
-            i,
-            keep,
-            marks,
-            writes,
-        )
-    }
-
-    /// Undoes `hide_list`, from bottom to top.
-    #[inline(always)]
-    fn unhide_list(
-        &mut self,
-        spans: &Spans,
-        i: u32,
-        keep: Option<u32>,
-        marks: bool,
-        writes: &mut Writes,
-    ) -> u64
-        requires small { length spans.now < 2 ^ 31 }
-        requires ends { All (λ s. s.end < 2 ^ 31) spans.now }
-        requires can { CanShowList spans.now keep self.old i }
-        requires unmarked { marks ≡ false → IsUnmarked spans.now self.old.color }
-        requires none { marks ≡ false → keep ≡ None }
-        ensures done { self.new ≡ fold (back_node spans.now keep) self.old (list_back self.old i) }
-        ensures cost { result ≡ back_costs spans.now keep self.old (list_back self.old i) }
-        ensures few_writes { result ≤ 3 * 2 ^ 62 }
-        ensures counted { writes.new.count ≡ writes.old.count + result }
-    {
-        unhide_list(
-            &mut self.top,
-            &mut self.links,
-            &mut self.color,
-            spans,
-            i,
-            keep,
-            marks,
-            writes,
-        )
-    }
-
     /// Hides all nodes of item i's list, as cover, (12), does from top to bottom.
     #[inline(always)]
     pub(crate) fn cover(&mut self, spans: &Spans, i: u32, marks: bool, writes: &mut Writes) -> u64
@@ -246,10 +182,10 @@ impl Nodes {
         ensures counted { writes.new.count ≡ writes.old.count + result }
     {
         if marks {
-            self.cover_among_marks(spans, i, writes)
-        } else {
-            self.hide_list(spans, i, None, false, writes)
+            return self.cover_among_marks(spans, i, writes);
         }
+        let Nodes { top, links, color } = self;
+        hide_list(top, links, color, spans, i, None, false, writes)
     }
 
     /// The same with the test for marks, out of line: callers stay small.
@@ -263,7 +199,8 @@ impl Nodes {
         ensures few_writes { result ≤ 3 * 2 ^ 62 }
         ensures counted { writes.new.count ≡ writes.old.count + result }
     {
-        self.hide_list(spans, i, None, true, writes)
+        let Nodes { top, links, color } = self;
+        hide_list(top, links, color, spans, i, None, true, writes)
     }
 
     /// Undoes `cover`, as uncover, (14), does from bottom to top, so that each node finds its neighbours of before.
@@ -279,10 +216,10 @@ impl Nodes {
         ensures counted { writes.new.count ≡ writes.old.count + result }
     {
         if marks {
-            self.uncover_among_marks(spans, i, writes)
-        } else {
-            self.unhide_list(spans, i, None, false, writes)
+            return self.uncover_among_marks(spans, i, writes);
         }
+        let Nodes { top, links, color } = self;
+        unhide_list(top, links, color, spans, i, None, false, writes)
     }
 
     /// The same with the test for marks.
@@ -296,7 +233,8 @@ impl Nodes {
         ensures few_writes { result ≤ 3 * 2 ^ 62 }
         ensures counted { writes.new.count ≡ writes.old.count + result }
     {
-        self.unhide_list(spans, i, None, true, writes)
+        let Nodes { top, links, color } = self;
+        unhide_list(top, links, color, spans, i, None, true, writes)
     }
 
     /// Purifies item i with the colour c, as Algorithm C does. The colour stands at the item's own node, so that it can be read
@@ -310,8 +248,9 @@ impl Nodes {
         ensures cost { result ≡ walk_costs spans.now (Some c) (with_colour self.old i c) (list_of self.old i) + 1 }
         ensures counted { writes.new.count ≡ writes.old.count + result }
     {
-        set(&mut self.color, i, c, writes);
-        self.hide_list(spans, i, Some(c), true, writes) + 1
+        let Nodes { top, links, color } = self;
+        set(color, i, c, writes);
+        hide_list(top, links, color, spans, i, Some(c), true, writes) + 1
     }
 
     /// Undoes `purify`, as unpurify does from bottom to top.
@@ -324,8 +263,9 @@ impl Nodes {
         ensures cost { result ≡ back_costs spans.now (Some c) self.old (list_back self.old i) + 1 }
         ensures counted { writes.new.count ≡ writes.old.count + result }
     {
-        let count = self.unhide_list(spans, i, Some(c), true, writes);
-        set(&mut self.color, i, 0, writes);
+        let Nodes { top, links, color } = self;
+        let count = unhide_list(top, links, color, spans, i, Some(c), true, writes);
+        set(color, i, 0, writes);
         count + 1
     }
 
@@ -349,17 +289,9 @@ impl Nodes {
         ensures counted { writes.new.count ≡ writes.old.count + result }
     {
         let x = self.dlink(i);
-        let count = hide_unless(
-            &mut self.top,
-            &mut self.links,
-            &self.color,
-            spans,
-            covered,
-            x,
-            marks,
-            writes,
-        );
-        unlink(&mut self.top, &mut self.links, &self.color, x, writes);
+        let Nodes { top, links, color } = self;
+        let count = hide_unless(top, links, color, spans, covered, x, marks, writes);
+        unlink(top, links, color, x, writes);
         count + 3
     }
 
@@ -381,17 +313,9 @@ impl Nodes {
         ensures cost { result ≡ untweak_cost spans.now covered self.old x }
         ensures counted { writes.new.count ≡ writes.old.count + result }
     {
-        relink(&mut self.top, &mut self.links, &self.color, x, writes);
-        let count = show_unless(
-            &mut self.top,
-            &mut self.links,
-            &self.color,
-            spans,
-            covered,
-            x,
-            marks,
-            writes,
-        );
+        let Nodes { top, links, color } = self;
+        relink(top, links, color, x, writes);
+        let count = show_unless(top, links, color, spans, covered, x, marks, writes);
         count + 3
     }
 
@@ -416,20 +340,11 @@ impl Nodes {
         ensures cost { result ≡ untweak_all_cost spans.now covered self.old i x k }
         ensures counted { writes.new.count ≡ writes.old.count + result }
     {
-        set_down(&mut self.links, i, x, writes);
-        let count = climb(
-            &mut self.top,
-            &mut self.links,
-            &self.color,
-            spans,
-            covered,
-            x,
-            k,
-            marks,
-            writes,
-        );
-        let len = self.top(i);
-        set(&mut self.top, i, len + k, writes);
+        let Nodes { top, links, color } = self;
+        set_down(links, i, x, writes);
+        let count = climb(top, links, color, spans, covered, x, k, marks, writes);
+        let len = get(top, i);
+        set(top, i, len + k, writes);
         count + 2
     }
 }

@@ -8,6 +8,7 @@ use std::alloc::{AllocError, Global};
 use xc_input::Problem;
 
 /// How many nodes there are.
+#[tactic(auto, using(crate::proofs::LinkedTables::PlaceLemmas::option_place))]
 pub(crate) fn node_count(problem: &Problem) -> u32
     requires { IsWithinLimits problem.now.puzzle }
     ensures { result ≡ length (layout problem.now.puzzle) }
@@ -20,6 +21,7 @@ pub(crate) fn node_count(problem: &Problem) -> u32
 }
 
 /// Where the nodes of each option start.
+#[tactic(auto, using(crate::proofs::LinkedTables::PlaceLemmas::option_place))]
 pub(crate) fn option_starts(alloc: Global, problem: &Problem) -> Result<Vec<u32>, AllocError>
     requires { IsWithinLimits problem.now.puzzle }
     ensures { IfOk result (λ v. v.items ≡ starts_of problem.now.puzzle) }

@@ -3,8 +3,8 @@
 //! node that is hidden or comes back, with four loads and three stores, no bounds check and no call.
 ghost use Rattle.std.specs.Prelude.{◌≡◌, ◌≢◌, false, ℕ, ◌+◌, ◌-◌, ◌*◌, ◌<◌, ◌≤◌, ◌^◌, length, slice_index, fold, reverse, All};
 ghost use Rattle.xc_dance.specs.Links.Columns.{values, columns};
-ghost use Rattle.xc_dance.specs.Links.Steps.{HasSize, NamesPlaces, unlinked, relinked, hidden, hide_cost, hide_costs, CanHide, CanHideAll, places, shown, CanShow, CanShowAll, show_costs, span_at, others_of, hidden_node, shown_node, CanHideNode, CanShowNode};
-ghost use Rattle.xc_dance.specs.Links.Unmarked.{AreUnmarked, HasUnmarked};
+ghost use Rattle.xc_dance.specs.Links.Steps.{HasSize, NamesPlaces, unlinked, relinked, hidden, hide_cost, hide_costs, CanHide, CanHideAll, places, shown, CanShow, CanShowAll, show_costs, others_of, hidden_node, shown_node, CanHideNode, CanShowNode};
+ghost use Rattle.xc_dance.specs.Links.Unmarked.{AreUnmarked, IsUnmarked};
 
 use crate::links::cells::{Cell, Link, down, get, set, set_down, set_up, up};
 use crate::links::nodes::{MARK, SPACER};
@@ -125,7 +125,7 @@ pub(crate) fn hide(
     requires ends { All (λ s. s.end < 2 ^ 31) spans.now }
     requires span { p < length spans.now }
     requires can { CanHideNode spans.now (columns top.old links.old color.now) p }
-    requires unmarked { marks ≡ false → HasUnmarked (values color.now) (span_at spans.now p) p }
+    requires unmarked { marks ≡ false → IsUnmarked spans.now (values color.now) }
     ensures done { columns top.new links.new color.now ≡ hidden_node spans.now (columns top.old links.old color.now) p }
     ensures cost { result ≡ hide_costs (columns top.old links.old color.now) (others_of spans.now p) }
     ensures few { result ≤ 3 * 2 ^ 32 }
@@ -206,7 +206,7 @@ pub(crate) fn unhide(
     requires ends { All (λ s. s.end < 2 ^ 31) spans.now }
     requires span { p < length spans.now }
     requires can { CanShowNode spans.now (columns top.old links.old color.now) p }
-    requires unmarked { marks ≡ false → HasUnmarked (values color.now) (span_at spans.now p) p }
+    requires unmarked { marks ≡ false → IsUnmarked spans.now (values color.now) }
     ensures done { columns top.new links.new color.now ≡ shown_node spans.now (columns top.old links.old color.now) p }
     ensures cost { result ≡ show_costs (columns top.old links.old color.now) (reverse (others_of spans.now p)) }
     ensures few { result ≤ 3 * 2 ^ 32 }

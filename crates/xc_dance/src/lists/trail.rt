@@ -115,6 +115,7 @@ impl Trail {
     }
 
     /// The next open primary item above `item`.
+    #[tactic(auto, using(crate::proofs::MoveLemmas::StateLemmas::next_open))]
     pub(crate) fn open_after(&self, item: u32) -> Option<u32>
         ensures { result ≡ next_above item (open_items self.now.puzzle self.now.trail) }
     {

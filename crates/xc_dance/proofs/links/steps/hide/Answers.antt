@@ -3,8 +3,8 @@ use Rattle.std.proofs.lemmas.Grind.{common_steps}
 use Rattle.xc_dance.specs.declared.links.nodes.Nodes.{Nodes}
 use Rattle.xc_dance.specs.Links.Columns.{columns}
 use Rattle.xc_dance.specs.Links.Span.{Span}
-use Rattle.xc_dance.specs.Links.Steps.{hidden, CanHide, CanHideAll, CanHideNode, IsSpacer, places, span_at}
-use Rattle.xc_dance.proofs.LinkedTables.Walks.{places_none, places_more, CanAll-append, underway, step_can, step_on, steps_end, both_reached, Tells, tells}
+use Rattle.xc_dance.specs.Links.Steps.{hidden, hide_cost, hide_costs, CanHide, CanHideAll, CanHideNode, places, span_at, others_of}
+use Rattle.xc_dance.proofs.LinkedTables.Walks.{places_none, places_more, CanAll-append, underway, step_can, step_on, steps_end, both_reached, Reached, Tells, tells}
 use Rattle.xc_dance.proofs.links.steps.hide.Goals as goal
 use Rattle.xc_dance.proofs.links.steps.hide.Goals.{After-get}
 
@@ -34,18 +34,14 @@ get-requires c = grind (arith, common_steps, places_more, places_none, tells)
 pub hide_one-above-requires-clause-can : goal.hide_one-above-requires-clause-can
 hide_one-above-requires-clause-can c = grind (arith, common_steps, places_more, step_can, goes (goal.at.hide_one-above-requires-clause-can c).After-get)
 
+pub hide_one-above-requires-clause-unmarked : goal.hide_one-above-requires-clause-unmarked
+hide_one-above-requires-clause-unmarked c = λ m. ((c.requires.unmarked m).others c.args.p c.requires.span).0 c.loop-top.q (omega (arith, c.loop-top.invariant.behind)) (goes (goal.at.hide_one-above-requires-clause-unmarked c).After-get c.loop-top-test.true)
+
 pub loop-top-preserved : goal.loop-top-preserved
 loop-top-preserved c = grind (arith, common_steps, places_more, step_on, goes (goal.at.loop-top-preserved c).After-get)
 
 pub up-first-requires : goal.up-first-requires
-up-first-requires c =
-    let at = (goal.at.up-first-requires c).After-get in
-    let end = (span_at c.args.spans.now c.args.p).end in
-    let t = told at in
-    let met = high at c.loop-top-test.false in
-    let is = t.at met in
-    let spacer : IsSpacer (columns c.loop-top.top c.loop-top.links c.args.color.now) end = subst (λ (u : Nodes). IsSpacer u end) (sym (t.is met)) c.requires.can.spacer in
-    omega (arith, is, spacer.place, spacer.size.ulink)
+up-first-requires c = let at = (goal.at.up-first-requires c).After-get in grind (arith, common_steps, told at, high at)
 
 -- the spacer leads to the first node
 leads : (c : After-get) → 2147483648 ≤ c.get.result → (first : ℕ) → first ≡ get_or (columns c.loop-top.top c.loop-top.links c.args.color.now).ulink c.loop-top.q 0 → first ≡ (span_at c.args.spans.now c.args.p).first
@@ -62,18 +58,16 @@ hide_range-below-requires-clause-can c =
 pub hide_range-below-requires-clause-unmarked : goal.hide_range-below-requires-clause-unmarked
 hide_range-below-requires-clause-unmarked c = λ m q from below.
     let first = leads (goal.at.hide_range-below-requires-clause-unmarked c).After-get c.loop-top-test.false c.up-first.result c.up-first.ensures in
-    (c.requires.unmarked m).1 q (omega (arith, first, from)) below
+    ((c.requires.unmarked m).others c.args.p c.requires.span).1 q (omega (arith, first, from)) below
+
+-- both walks
+whole : (c : After-get) → 2147483648 ≤ c.get.result → (first : ℕ) → first ≡ get_or (columns c.loop-top.top c.loop-top.links c.args.color.now).ulink c.loop-top.q 0 → (u : Nodes) (m : ℕ) →
+    u ≡ fold hidden (columns c.loop-top.top c.loop-top.links c.args.color.now) (places first c.args.p) → m ≡ hide_costs (columns c.loop-top.top c.loop-top.links c.args.color.now) (places first c.args.p) →
+    Reached hidden hide_cost (columns c.args.top.now c.args.links.now c.args.color.now) (others_of c.args.spans.now c.args.p) u (c.loop-top.above + m)
+whole c met first is u m done cost = both_reached _ _ u m (steps_end ((told c).none (high c met)) c.loop-top.invariant.walk) (ap (λ a. places a c.args.p) (leads c met first is)) done cost
 
 pub returns-clause-done : goal.returns-clause-done
-returns-clause-done c =
-    let at = (goal.at.returns-clause-done c).After-get in
-    let made = c.hide_range-below.ensures in
-    (both_reached (places (span_at c.args.spans.now c.args.p).first c.args.p) (places c.up-first.result c.args.p) (columns c.hide_range-below.new.top c.hide_range-below.new.links c.args.color.now) c.hide_range-below.result
-    (steps_end ((told at).none (high at c.loop-top-test.false)) c.loop-top.invariant.walk) (ap (λ a. places a c.args.p) (leads at c.loop-top-test.false c.up-first.result c.up-first.ensures)) made.done made.cost).done
+returns-clause-done c = (whole (goal.at.returns-clause-done c).After-get c.loop-top-test.false _ c.up-first.ensures _ _ c.hide_range-below.ensures.done c.hide_range-below.ensures.cost).done
 
 pub returns-clause-cost : goal.returns-clause-cost
-returns-clause-cost c =
-    let at = (goal.at.returns-clause-cost c).After-get in
-    let made = c.hide_range-below.ensures in
-    (both_reached (places (span_at c.args.spans.now c.args.p).first c.args.p) (places c.up-first.result c.args.p) (columns c.hide_range-below.new.top c.hide_range-below.new.links c.args.color.now) c.hide_range-below.result
-    (steps_end ((told at).none (high at c.loop-top-test.false)) c.loop-top.invariant.walk) (ap (λ a. places a c.args.p) (leads at c.loop-top-test.false c.up-first.result c.up-first.ensures)) made.done made.cost).cost
+returns-clause-cost c = (whole (goal.at.returns-clause-cost c).After-get c.loop-top-test.false _ c.up-first.ensures _ _ c.hide_range-below.ensures.done c.hide_range-below.ensures.cost).cost

@@ -4,8 +4,8 @@ use Rattle.std.proofs.lemmas.List.{reverse-append}
 use Rattle.xc_dance.specs.declared.links.nodes.Nodes.{Nodes}
 use Rattle.xc_dance.specs.Links.Columns.{columns}
 use Rattle.xc_dance.specs.Links.Span.{Span}
-use Rattle.xc_dance.specs.Links.Steps.{shown, show_costs, CanShow, CanShowAll, CanShowNode, IsSpacer, places, others, span_at}
-use Rattle.xc_dance.proofs.LinkedTables.Walks.{places_none, reverse-places, CanAll-append, underway, step_can, step_on, steps_end, both_reached, Tells, tells}
+use Rattle.xc_dance.specs.Links.Steps.{shown, hide_cost, show_costs, CanShow, CanShowAll, CanShowNode, places, others, others_of, span_at}
+use Rattle.xc_dance.proofs.LinkedTables.Walks.{places_none, reverse-places, CanAll-append, underway, step_can, step_on, steps_end, both_reached, Reached, Tells, tells}
 use Rattle.xc_dance.proofs.links.steps.unhide.Goals as goal
 use Rattle.xc_dance.proofs.links.steps.unhide.Goals.{After-get}
 
@@ -45,20 +45,13 @@ pub show_one-below-requires-clause-can : goal.show_one-below-requires-clause-can
 show_one-below-requires-clause-can c = grind (arith, common_steps, step_can, next, goes (goal.at.show_one-below-requires-clause-can c).After-get)
 
 pub show_one-below-requires-clause-unmarked : goal.show_one-below-requires-clause-unmarked
-show_one-below-requires-clause-unmarked c = λ m. (c.requires.unmarked m).1 c.loop-top.q (goes (goal.at.show_one-below-requires-clause-unmarked c).After-get c.loop-top-test.true) c.loop-top.invariant.before
+show_one-below-requires-clause-unmarked c = λ m. ((c.requires.unmarked m).others c.args.p c.requires.span).1 c.loop-top.q (goes (goal.at.show_one-below-requires-clause-unmarked c).After-get c.loop-top-test.true) c.loop-top.invariant.before
 
 pub loop-top-preserved : goal.loop-top-preserved
 loop-top-preserved c = grind (arith, common_steps, step_on, next, goes (goal.at.loop-top-preserved c).After-get)
 
 pub down-end-requires : goal.down-end-requires
-down-end-requires c =
-    let at = (goal.at.down-end-requires c).After-get in
-    let before = (span_at c.args.spans.now c.args.p).first - 1 in
-    let t = told at in
-    let met = high at c.loop-top-test.false in
-    let is = t.at met in
-    let spacer : IsSpacer (columns c.loop-top.top c.loop-top.links c.args.color.now) before = subst (λ (u : Nodes). IsSpacer u before) (sym (t.is met)) c.requires.can.spacer in
-    omega (arith, is, spacer.place, spacer.size.dlink)
+down-end-requires c = let at = (goal.at.down-end-requires c).After-get in grind (arith, common_steps, told at, high at)
 
 -- the spacer leads to the last node
 leads : (c : After-get) → 2147483648 ≤ c.get.result → (last : ℕ) → last ≡ get_or (columns c.loop-top.top c.loop-top.links c.args.color.now).dlink c.loop-top.q 0 → last + 1 ≡ (span_at c.args.spans.now c.args.p).end
@@ -80,22 +73,23 @@ show_range-above-requires-clause-can c =
 pub show_range-above-requires-clause-unmarked : goal.show_range-above-requires-clause-unmarked
 show_range-above-requires-clause-unmarked c = λ m q from below.
     let end = leads (goal.at.show_range-above-requires-clause-unmarked c).After-get c.loop-top-test.false c.down-end.result c.down-end.ensures in
-    (c.requires.unmarked m).0 q from (omega (arith, end, below))
+    ((c.requires.unmarked m).others c.args.p c.requires.span).0 q from (omega (arith, end, below))
+
+-- both walks
+whole : (c : After-get) → 2147483648 ≤ c.get.result → (end : ℕ) → end ≡ (span_at c.args.spans.now c.args.p).end → (u : Nodes) (m : ℕ) →
+    u ≡ fold shown (columns c.loop-top.top c.loop-top.links c.args.color.now) (reverse (places (c.args.p + 1) end)) → m ≡ show_costs (columns c.loop-top.top c.loop-top.links c.args.color.now) (reverse (places (c.args.p + 1) end)) →
+    Reached shown hide_cost (columns c.args.top.now c.args.links.now c.args.color.now) (reverse (others_of c.args.spans.now c.args.p)) u (c.loop-top.below + m)
+whole c met end is u m done cost =
+    let s = span_at c.args.spans.now c.args.p in
+    subst (λ qs. Reached shown hide_cost (columns c.args.top.now c.args.links.now c.args.color.now) qs u (c.loop-top.below + m)) (sym (both c.args.p s.first s.end))
+    (both_reached _ _ u m (steps_end ((told c).none (high c met)) c.loop-top.invariant.walk) (ap (λ b. reverse (places (c.args.p + 1) b)) is) done cost)
 
 pub returns-clause-done : goal.returns-clause-done
 returns-clause-done c =
     let at = (goal.at.returns-clause-done c).After-get in
-    let s = span_at c.args.spans.now c.args.p in
-    let made = c.show_range-above.ensures in
-    (both_reached (reverse (places (c.args.p + 1) s.end)) (reverse (places (c.args.p + 1) (c.down-end.result + 1))) (columns c.show_range-above.new.top c.show_range-above.new.links c.args.color.now) c.show_range-above.result
-    (steps_end ((told at).none (high at c.loop-top-test.false)) c.loop-top.invariant.walk) (ap (λ b. reverse (places (c.args.p + 1) b)) (leads at c.loop-top-test.false c.down-end.result c.down-end.ensures)) made.done made.cost).done
-    ∙ ap (fold shown (columns c.args.top.now c.args.links.now c.args.color.now)) (sym (both c.args.p s.first s.end))
+    (whole at c.loop-top-test.false _ (leads at c.loop-top-test.false c.down-end.result c.down-end.ensures) _ _ c.show_range-above.ensures.done c.show_range-above.ensures.cost).done
 
 pub returns-clause-cost : goal.returns-clause-cost
 returns-clause-cost c =
     let at = (goal.at.returns-clause-cost c).After-get in
-    let s = span_at c.args.spans.now c.args.p in
-    let made = c.show_range-above.ensures in
-    (both_reached (reverse (places (c.args.p + 1) s.end)) (reverse (places (c.args.p + 1) (c.down-end.result + 1))) (columns c.show_range-above.new.top c.show_range-above.new.links c.args.color.now) c.show_range-above.result
-    (steps_end ((told at).none (high at c.loop-top-test.false)) c.loop-top.invariant.walk) (ap (λ b. reverse (places (c.args.p + 1) b)) (leads at c.loop-top-test.false c.down-end.result c.down-end.ensures)) made.done made.cost).cost
-    ∙ ap (show_costs (columns c.args.top.now c.args.links.now c.args.color.now)) (sym (both c.args.p s.first s.end))
+    (whole at c.loop-top-test.false _ (leads at c.loop-top-test.false c.down-end.result c.down-end.ensures) _ _ c.show_range-above.ensures.done c.show_range-above.ensures.cost).cost

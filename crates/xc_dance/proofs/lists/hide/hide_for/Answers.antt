@@ -1,6 +1,7 @@
-use Rattle.std.proofs.Common.{arith, ◌∙◌, ap, sym, subst, not, filter, List, ℕ, None, Some, ◌∷◌, ◌-◌}
+use Rattle.std.proofs.Common.{◌≡◌, arith, ◌∙◌, ap, sym, subst, not, filter, List, ℕ, None, Some, ◌∷◌, ◌-◌}
 use Rattle.std.proofs.lemmas.Grind.{common_steps}
 use Rattle.xc_dance.specs.declared.dance.Move.{Move}
+use Rattle.xc_input.specs.Problem.{Puzzle}
 use Rattle.xc_dance.specs.Lists.Versions.{Versions}
 use Rattle.xc_dance.specs.Moves.{IsLegal}
 use Rattle.xc_dance.specs.Lists.Taking.{list_at}
@@ -9,17 +10,14 @@ use Rattle.xc_dance.proofs.LiveLists.Marks.{same_versions}
 use Rattle.xc_dance.proofs.MoveLemmas.Shortened.{lists_hold, list_after, length_numbers, lists_covered, lists_purified}
 use Rattle.xc_dance.proofs.lists.hide.hide_for.Goals as goal
 
+held : (p : Puzzle) (t : List Move) (l : List (List ℕ)) → l ≡ lists_after p t → AreLists p l
+held p t l is = subst (λ (k : List (List ℕ)). AreLists p k) (sym is) (lists_hold p t)
+
 pub hide_options-requires-clause-lists : goal.hide_options-requires-clause-lists
-hide_options-requires-clause-lists c =
-    let p = c.args.standing.now.puzzle in
-    let P : List (List ℕ) → Type 0 = λ l. AreLists p l in
-    subst P (sym c.requires.lists) (lists_hold p c.args.standing.now.trail)
+hide_options-requires-clause-lists c = held c.args.standing.now.puzzle c.args.standing.now.trail _ c.requires.lists
 
 pub hide_options-requires-in-Purify-clause-lists : goal.hide_options-requires-in-Purify-clause-lists
-hide_options-requires-in-Purify-clause-lists c =
-    let p = c.args.standing.now.puzzle in
-    let P : List (List ℕ) → Type 0 = λ l. AreLists p l in
-    subst P (sym c.requires.lists) (lists_hold p c.args.standing.now.trail)
+hide_options-requires-in-Purify-clause-lists c = held c.args.standing.now.puzzle c.args.standing.now.trail _ c.requires.lists
 
 pub tweak-requires-clause-option : goal.tweak-requires-clause-option
 tweak-requires-clause-option c = grind (arith, common_steps, length_numbers, list_after)
