@@ -1,10 +1,9 @@
-use Rattle.std.proofs.Common.{ℕ, List, ◌≡◌, ◌∙◌, ◌==◌, ◌&&◌, length, replicate, sym, ap, ap₂, subst}
-use Rattle.std.specs.List.{list_all}
+use Rattle.std.proofs.Common.{ℕ, List, ◌≡◌, ◌∙◌, length, replicate, sym, ap, ap₂, subst}
 use Rattle.xc_input.specs.Problem.{item_count}
-use Rattle.xc_list.specs.inner.CoverCounts.{Places, item_places, uses_in, added, raised, lowered, short_of, is_class_met}
+use Rattle.xc_list.specs.inner.CoverCounts.{Places, item_places, uses_in, added, raised, lowered, short_of}
 use Rattle.xc_list.proofs.CheckLemmas.HeldItems.{length-raised, length-added, length-coloured}
 use Rattle.xc_list.proofs.CheckLemmas.CountedClasses.{lowered_back}
-use Rattle.xc_list.proofs.CheckLemmas.CountedCovers.{IsSolution, times_after, colours_after, asked_after, is_counted_cover, counted-cover, cover-counted}
+use Rattle.xc_list.proofs.CheckLemmas.CountedCovers.{IsSolution, times_after, asked_after, is_counted_cover, counted-cover, cover-counted}
 use Rattle.xc_list.proofs.checker.cover_counter.CoverCounter.is_cover.Goals as goal
 
 -- what was counted from zeros and then forgotten is as before
@@ -78,11 +77,6 @@ returns-clause-decided c = λ reps z.
       taken = z;
     } in
     let is : c.is_cover-cover.result ≡ is_counted_cover b stored cs ks =
-    c.is_cover-cover.ensures
-    ∙ ap (λ m. m == 0 && list_all (is_class_met b c.deref-2.result.now c.count.new.self.times.items c.count.new.self.colours.items c.count.new.self.asked.items) ks) short
-    ∙ ap (λ l. short_of stored (times_after b ks) == 0 && list_all (is_class_met b l c.count.new.self.times.items c.count.new.self.colours.items c.count.new.self.asked.items) ks) c.deref-2.ensures.value
-    ∙ ap (λ ts. short_of stored (times_after b ks) == 0 && list_all (is_class_met b stored ts c.count.new.self.colours.items c.count.new.self.asked.items) ks) times
-    ∙ ap (λ ds. short_of stored (times_after b ks) == 0 && list_all (is_class_met b stored (times_after b ks) ds c.count.new.self.asked.items) ks) c.count.ensures.colours
-    ∙ ap (λ ns. short_of stored (times_after b ks) == 0 && list_all (is_class_met b stored (times_after b ks) (colours_after b ks cs) ns) ks) asked
+    c.is_cover-cover.ensures ∙ simp (short, c.deref-2.ensures.value, times, c.count.ensures.colours, asked)
     in
     (λ h. counted-cover b stored cs ks reps solution (sym is ∙ h), λ h. is ∙ cover-counted b stored cs ks reps solution h)
