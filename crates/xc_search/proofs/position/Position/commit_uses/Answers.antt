@@ -13,24 +13,21 @@ use Rattle.xc_search.proofs.position.Position.commit_uses.Goals as goal
 at_use : (s : Dancing) (us : List Use) (k : ℕ) (d : Use) → k < length us → committed (drop k us) s ≡ committed (drop (k + 1) us) (record s { trail = after_use s.puzzle (get_or us k d) s.trail })
 at_use s us k d h = ap (λ t. record s { trail = t }) (first_use s.puzzle us k d s.trail h)
 
-pub commit_use-requires-clause-legal : goal.commit_use-requires-clause-legal
-commit_use-requires-clause-legal g c =
+pub commit_use-requires : goal.commit_use-requires
+commit_use-requires g c =
     let d : Use = record { item = 0; colour = 0 } in
     let s = c.loop-u.self in
     let us = c.args.uses.now in
     let k = c.loop-u.u-index in
-    legal_after_uses s.puzzle (drop (k + 1) us) (after_use s.puzzle (get_or us k d) s.trail)
-    (subst (λ (s : Dancing). AreLegal s.puzzle s.trail) (sym c.loop-u.invariant ∙ at_use s us k d (omega arith)) c.requires.legal)
-
-pub commit_use-requires-clause-room : goal.commit_use-requires-clause-room
-commit_use-requires-clause-room g c =
-    let d : Use = record { item = 0; colour = 0 } in
-    let s = c.loop-u.self in
-    let us = c.args.uses.now in
-    let k = c.loop-u.u-index in
-    let all : length (after_uses s.puzzle (drop (k + 1) us) (after_use s.puzzle (get_or us k d) s.trail)) ≤ room_for s.puzzle =
-    subst (λ (s : Dancing). length s.trail ≤ room_for s.puzzle) (sym c.loop-u.invariant ∙ at_use s us k d (omega arith)) c.requires.room in
-    omega (arith, all, fits_uses s.puzzle (drop (k + 1) us) (after_use s.puzzle (get_or us k d) s.trail))
+    let rest = drop (k + 1) us in
+    let t = after_use s.puzzle (get_or us k d) s.trail in
+    let next = sym c.loop-u.invariant ∙ at_use s us k d (omega arith) in
+    let all : length (after_uses s.puzzle rest t) ≤ room_for s.puzzle = subst (λ (s : Dancing). length s.trail ≤ room_for s.puzzle) next c.requires.room in
+    record {
+      item = subst (λ (q : Puzzle). IsItem q (get_or us k d).item) (sym (ap (λ (s : Dancing). s.puzzle) c.loop-u.invariant)) (c.requires.items k d (omega arith));
+      legal = legal_after_uses s.puzzle rest t (subst (λ (s : Dancing). AreLegal s.puzzle s.trail) next c.requires.legal);
+      room = omega (arith, all, fits_uses s.puzzle rest t);
+    }
 
 pub loop-u-preserved : goal.loop-u-preserved
 loop-u-preserved g c =
@@ -38,9 +35,3 @@ loop-u-preserved g c =
     let us = c.args.uses.now in
     let k = c.loop-u.u-index in
     ap (committed (drop (k + 1) us)) c.commit_use.ensures ∙ sym (at_use c.loop-u.self us k d (omega arith)) ∙ c.loop-u.invariant
-
-pub commit_use-requires-clause-item : goal.commit_use-requires-clause-item
-commit_use-requires-clause-item g c =
-    let d : Use = record { item = 0; colour = 0 } in
-    let k = c.loop-u.u-index in
-    subst (λ (q : Puzzle). IsItem q (get_or c.args.uses.now k d).item) (sym (ap (λ (s : Dancing). s.puzzle) c.loop-u.invariant)) (c.requires.items k d (omega arith))
