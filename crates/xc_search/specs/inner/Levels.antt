@@ -104,17 +104,14 @@ pub record IsStanding (p : Puzzle) (t : List Move) (ls : List Level) (down : Boo
   pub searchable : down ≡ true → IsSearchable p t
   pub shallow : down ≡ true → IsShallow p t ls
 
--- a level with no branch begun
+-- a level with no branch begun, by its mark, its base, its item, how many branches it has, and whether it walks
+abbrev pub unbegun : ℕ → ℕ → ℕ → ℕ → Bool → Level
+unbegun mark base i n w =
+    record { mark = mark; base = base; item = i; option = None; begun = 0; count = n; tweaks = 0; walks = w }
+
+-- the level that begins at item i, with n branches
 abbrev pub first_level : Puzzle → List Move → ℕ → ℕ → Level
-first_level p t i n = record {
-  mark = length t;
-  base = length (opened p i t);
-  item = i;
-  option = None;
-  begun = 0; count = n;
-  tweaks = 0;
-  walks = walks p t i;
-}
+first_level p t i n = unbegun (length t) (length (opened p i t)) i n (walks p t i)
 
 -- a level on whose moves a branch was begun
 abbrev pub begun_level : Begun → Level → Level
