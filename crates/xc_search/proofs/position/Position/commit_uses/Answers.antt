@@ -1,12 +1,10 @@
-use Rattle.std.proofs.Common.{arith, ℕ, List, ◌≡◌, ◌≤◌, ◌<◌, length, ◌+◌, sym, ap, ◌∙◌, subst, drop, get_or}
+use Rattle.std.proofs.Common.{arith, ℕ, List, ◌≡◌, ◌<◌, length, ◌+◌, sym, ap, ◌∙◌, subst, drop, get_or}
 use Rattle.xc_input.specs.declared.problem.Use.{Use}
 use Rattle.xc_input.specs.Problem.{Puzzle, IsItem}
 use Rattle.xc_dance.specs.Dancing.{Dancing}
-use Rattle.xc_dance.specs.Moves.{AreLegal}
-use Rattle.xc_search.specs.inner.Commits.{after_use, after_uses}
-use Rattle.xc_search.specs.Room.{room_for}
-use Rattle.xc_search.proofs.room.BranchFits.{fits_uses}
-use Rattle.xc_search.proofs.moves.LegalCommits.{legal_after_uses, first_use, committed}
+use Rattle.xc_search.specs.inner.Commits.{MayStand, after_use}
+use Rattle.xc_search.proofs.room.BranchFits.{stands_before}
+use Rattle.xc_search.proofs.moves.LegalCommits.{first_use, committed}
 use Rattle.xc_search.proofs.position.Position.commit_uses.Goals as goal
 
 -- in state s the use at place k comes first
@@ -22,11 +20,9 @@ commit_use-requires g c =
     let rest = drop (k + 1) us in
     let t = after_use s.puzzle (get_or us k d) s.trail in
     let next = sym c.loop-u.invariant ∙ at_use s us k d (omega arith) in
-    let all : length (after_uses s.puzzle rest t) ≤ room_for s.puzzle = subst (λ (s : Dancing). length s.trail ≤ room_for s.puzzle) next c.requires.room in
     record {
       item = subst (λ (q : Puzzle). IsItem q (get_or us k d).item) (sym (ap (λ (s : Dancing). s.puzzle) c.loop-u.invariant)) (c.requires.items k d (omega arith));
-      legal = legal_after_uses s.puzzle rest t (subst (λ (s : Dancing). AreLegal s.puzzle s.trail) next c.requires.legal);
-      room = omega (arith, all, fits_uses s.puzzle rest t);
+      stands = stands_before s.puzzle rest t (subst (λ (s : Dancing). MayStand s.puzzle s.trail) next c.requires.stands);
     }
 
 pub loop-u-preserved : goal.loop-u-preserved
