@@ -64,6 +64,10 @@ pub record SoFar : Type 0 where
   pub uses : ℕ
   pub colours : List (List ℕ)
 
+-- the same behind one line more, of an option with these uses that is kept
+abbrev pub with_kept : SoFar → List Written → SoFar
+with_kept s us = record { lines = s.lines + 1; uses = s.uses + length us; colours = with_uses s.colours us }
+
 -- lines behind the item line stand for these options and ignored lines, and these are the colours behind them
 abbrev pub AreOptions : Context → SoFar → List (List ℕ) → List (List Use) → List ℕ → List (List ℕ) → Type 0
 AreOptions c s [] options ignored last = (options ≡ []) × (ignored ≡ []) × (last ≡ s.colours)
@@ -74,8 +78,7 @@ AreOptions c s (line ∷ lines) options ignored last = (has 0 line ≡ false) ×
     × AreOptions c (record s { lines = s.lines + 1 }) lines options others last)
     ⊎ ((others : List (List Use)) × (has_primary c.primaries us ≡ true) × (s.uses + length us ≤ most_uses)
     × (options ≡ number_uses s.colours us ∷ others)
-    × AreOptions c (record { lines = s.lines + 1; uses = s.uses + length us; colours = with_uses s.colours us })
-    lines others ignored last))))
+    × AreOptions c (with_kept s us) lines others ignored last))))
 
 -- lines, behind n blank lines and comments, stand for a sheet and ignored lines
 abbrev pub IsSheetFrom : Kind → ℕ → List (List ℕ) → Sheet → List ℕ → Type 0

@@ -1,5 +1,5 @@
 -- What a sink has taken, text after text.
-use Rattle.std.proofs.Common.{◌≡◌, ℕ, ◌+◌, ◌/◌, ◌%◌, ◌^◌, ◌<◌, ◌≤◌, List, [], ◌∷◌, ◌++◌, Result, Ok, Err, length, take, drop, get_or, sym, ap, ◌∙◌, append-nil, append_assoc, arith, subst, zero, suc, inl, inr}
+use Rattle.std.proofs.Common.{◌≡◌, ℕ, ◌+◌, ◌/◌, ◌%◌, ◌^◌, ◌<◌, ◌≤◌, List, [], ◌∷◌, ◌++◌, Result, Ok, Err, length, take, drop, get_or, sym, ap, ◌∙◌, append-nil, arith, subst, zero, suc, inl, inr}
 use Rattle.std.specs.Prelude.{flat_map, IsErr, codes, decimal, ◌==◌}
 use Rattle.std.proofs.lemmas.Fmt.{decimal_digit, decimal_step}
 use Rattle.xc_list.specs.Output.{colour_text, bytes_at, from_item}
@@ -83,10 +83,6 @@ loop_took {a = a} {c = c} f xs i d h p q = subst (Took a c) (sym (flat_map-take-
 pub was_told : {E : Type 0} {old new : SinkState} {text : List ℕ} (r : Result (Unit {0}) E) → Writes old new r text → WasTold old new text
 was_told (Ok u) w = inl w
 was_told (Err e) w = inr w
-
--- five texts behind a first are one behind it
-pub five_apart : (first a b c d e : List ℕ) → first ++ a ++ b ++ c ++ d ++ e ≡ first ++ (a ++ b ++ c ++ d ++ e)
-five_apart first a b c d e = simp append_assoc
 
 pub decimal_two : (n : ℕ) → (10 ≤ n) × (n < 100) → decimal n ≡ (48 + n / 10) ∷ (48 + n % 10) ∷ []
 decimal_two n h =

@@ -36,10 +36,13 @@ abbrev pub body_text : Named → ℕ → Option ℕ → List ℕ
 body_text a i (Some o) = flat_map (use_text a) (from_item i (uses_of a.puzzle o))
 body_text a i None = codes " null " ++ bytes_at a.names i
 
+-- branch k of n, to the end of the line
+abbrev pub branch_text : ℕ → ℕ → List ℕ
+branch_text k n = codes " (" ++ decimal k ++ codes " of " ++ decimal n ++ codes ")\n"
+
 -- the line of a choice: its body, its branch and the number of branches
 abbrev pub choice_text : Named → Choice → List ℕ
-choice_text a c =
-    body_text a c.item c.option ++ codes " (" ++ decimal c.k ++ codes " of " ++ decimal c.n ++ codes ")\n"
+choice_text a c = body_text a c.item c.option ++ branch_text c.k c.n
 
 -- the text of the member with this number
 abbrev pub member_text : Named → ℕ × List Choice → List ℕ

@@ -1,8 +1,8 @@
 //! Solutions as text.
-ghost use Rattle.std.specs.Prelude.{◌≡◌, ◌<◌, ◌≤◌, ◌++◌, All, flat_map, OnErr, IsTrue, codes, decimal};
+ghost use Rattle.std.specs.Prelude.{◌≡◌, ◌<◌, ◌≤◌, ◌++◌, All, flat_map, OnErr, IsTrue, codes};
 ghost use Rattle.xc_list.specs.Texts.{Writes};
 ghost use Rattle.xc_input.specs.Problem.{IsItem};
-ghost use Rattle.xc_list.specs.Output.{bytes_at, body_text, choice_text, member_text};
+ghost use Rattle.xc_list.specs.Output.{bytes_at, body_text, branch_text, choice_text, member_text};
 ghost use Rattle.xc_list.specs.Known.{IsKnownChoice};
 
 use crate::bodies::Bodies;
@@ -38,7 +38,7 @@ fn write_body<S: Sink>(bodies: &Bodies, choice: &Choice, sink: &mut S) -> Result
 #[inline(always)]
 fn digit_of_digit(k: u8, n: u8) -> [u8; 10]
     requires { (k < 10) × (n < 10) }
-    ensures { result ≡ codes " (" ++ decimal k ++ codes " of " ++ decimal n ++ codes ")\n" }
+    ensures { result ≡ branch_text k n }
 {
     let zeros = u64::from_le_bytes(*b" (0 of 0");
     let front = zeros + k as u64 * 0x1_0000 + n as u64 * 0x100_0000_0000_0000;
@@ -51,7 +51,7 @@ fn digit_of_digit(k: u8, n: u8) -> [u8; 10]
 fn digit_of_two_digits(k: u8, n: u8) -> [u8; 11]
     requires branch { k < 10 }
     requires branches { (10 ≤ n) × (n < 100) }
-    ensures { result ≡ codes " (" ++ decimal k ++ codes " of " ++ decimal n ++ codes ")\n" }
+    ensures { result ≡ branch_text k n }
 {
     [
         b' ',
@@ -72,7 +72,7 @@ fn digit_of_two_digits(k: u8, n: u8) -> [u8; 11]
 fn two_digits_of_two_digits(k: u8, n: u8) -> [u8; 12]
     requires branch { (10 ≤ k) × (k < 100) }
     requires branches { (10 ≤ n) × (n < 100) }
-    ensures { result ≡ codes " (" ++ decimal k ++ codes " of " ++ decimal n ++ codes ")\n" }
+    ensures { result ≡ branch_text k n }
 {
     [
         b' ',
@@ -92,8 +92,7 @@ fn two_digits_of_two_digits(k: u8, n: u8) -> [u8; 12]
 
 /// Writes branch and number of branches piece by piece, to the end of the line.
 fn write_branch_in_pieces<S: Sink>(k: u32, n: u32, sink: &mut S) -> Result<(), SinkFault>
-    ensures { Writes (S.state sink.old) (S.state sink.new)
-        result (codes " (" ++ decimal k ++ codes " of " ++ decimal n ++ codes ")\n") }
+    ensures { Writes (S.state sink.old) (S.state sink.new) result (branch_text k n) }
 {
     write_numbered(sink, b" (", k as u64, b" of ")?;
     write_number(sink, n as u64)?;
@@ -103,8 +102,7 @@ fn write_branch_in_pieces<S: Sink>(k: u32, n: u32, sink: &mut S) -> Result<(), S
 /// Writes branch and number of branches where one has some digits, to the end of the line.
 #[inline(never)]
 fn write_long_branch<S: Sink>(k: u32, n: u32, sink: &mut S) -> Result<(), SinkFault>
-    ensures { Writes (S.state sink.old) (S.state sink.new)
-        result (codes " (" ++ decimal k ++ codes " of " ++ decimal n ++ codes ")\n") }
+    ensures { Writes (S.state sink.old) (S.state sink.new) result (branch_text k n) }
 {
     if 10 <= n && n < 100 {
         if k < 10 {
@@ -120,8 +118,7 @@ fn write_long_branch<S: Sink>(k: u32, n: u32, sink: &mut S) -> Result<(), SinkFa
 /// Writes branch and number of branches, to the end of the line.
 #[inline(always)]
 fn write_branch<S: Sink>(k: u32, n: u32, sink: &mut S) -> Result<(), SinkFault>
-    ensures { Writes (S.state sink.old) (S.state sink.new)
-        result (codes " (" ++ decimal k ++ codes " of " ++ decimal n ++ codes ")\n") }
+    ensures { Writes (S.state sink.old) (S.state sink.new) result (branch_text k n) }
 {
     if k < 10 && n < 10 {
         return write_all(sink, &digit_of_digit(k as u8, n as u8));

@@ -1,9 +1,9 @@
 //! Steps of the search on its position.
 ghost use Rattle.std.specs.Prelude.{◌≡◌, ◌+◌, ◌<◌, ◌≤◌, length, All};
 ghost use Rattle.xc_input.specs.Problem.{IsItem, IsSecondary, uses_of, option_count};
-ghost use Rattle.xc_dance.specs.Moves.{AreLegal, AreTweaks};
+ghost use Rattle.xc_dance.specs.Moves.{AreTweaks};
 ghost use Rattle.xc_search.specs.Room.{room_for};
-ghost use Rattle.xc_search.specs.inner.Commits.{oldest, opened, after_use, after_uses, place_in, others, closed};
+ghost use Rattle.xc_search.specs.inner.Commits.{MayStand, oldest, opened, after_use, after_uses, place_in, others, closed};
 
 use crate::position::Position;
 use xc_dance::{Dance, Move};
@@ -24,8 +24,7 @@ impl<'a, D: Dance> Position<'a, D> {
     /// Spends an item, and covers it where its bound is then used up.
     #[inline(always)]
     pub fn open_level(&mut self, i: u32)
-        requires legal { AreLegal self.old.puzzle (opened self.old.puzzle i self.old.trail) }
-        requires room { length (opened self.old.puzzle i self.old.trail) ≤ room_for self.old.puzzle }
+        requires { MayStand self.old.puzzle (opened self.old.puzzle i self.old.trail) }
         ensures { self.new ≡ record self.old { trail = opened self.old.puzzle i self.old.trail } }
     {
         self.make(Move::Spend(i));
@@ -38,8 +37,7 @@ impl<'a, D: Dance> Position<'a, D> {
     #[inline(always)]
     fn commit_use(&mut self, u: Use)
         requires item { IsItem self.old.puzzle u.item }
-        requires legal { AreLegal self.old.puzzle (after_use self.old.puzzle u self.old.trail) }
-        requires room { length (after_use self.old.puzzle u self.old.trail) ≤ room_for self.old.puzzle }
+        requires stands { MayStand self.old.puzzle (after_use self.old.puzzle u self.old.trail) }
         ensures { self.new ≡ record self.old { trail = after_use self.old.puzzle u self.old.trail } }
     {
         if u.item <= self.problem().primary() {
@@ -54,8 +52,7 @@ impl<'a, D: Dance> Position<'a, D> {
     #[inline(never)]
     fn commit_secondary(&mut self, u: Use)
         requires item { IsSecondary self.old.puzzle u.item }
-        requires legal { AreLegal self.old.puzzle (after_use self.old.puzzle u self.old.trail) }
-        requires room { length (after_use self.old.puzzle u self.old.trail) ≤ room_for self.old.puzzle }
+        requires stands { MayStand self.old.puzzle (after_use self.old.puzzle u self.old.trail) }
         ensures { self.new ≡ record self.old { trail = after_use self.old.puzzle u self.old.trail } }
     {
         if u.colour == 0 {
@@ -72,8 +69,7 @@ impl<'a, D: Dance> Position<'a, D> {
     #[inline(always)]
     fn commit_uses(&mut self, uses: &[Use])
         requires items { All (λ (u : Use). IsItem self.old.puzzle u.item) uses.now }
-        requires legal { AreLegal self.old.puzzle (after_uses self.old.puzzle uses.now self.old.trail) }
-        requires room { length (after_uses self.old.puzzle uses.now self.old.trail) ≤ room_for self.old.puzzle }
+        requires stands { MayStand self.old.puzzle (after_uses self.old.puzzle uses.now self.old.trail) }
         ensures { self.new ≡ record self.old { trail = after_uses self.old.puzzle uses.now self.old.trail } }
     {
         for u in uses {
@@ -86,8 +82,7 @@ impl<'a, D: Dance> Position<'a, D> {
     #[inline(never)]
     fn commit_front(&mut self, uses: &[Use])
         requires items { All (λ (u : Use). IsItem self.old.puzzle u.item) uses.now }
-        requires legal { AreLegal self.old.puzzle (after_uses self.old.puzzle uses.now self.old.trail) }
-        requires room { length (after_uses self.old.puzzle uses.now self.old.trail) ≤ room_for self.old.puzzle }
+        requires stands { MayStand self.old.puzzle (after_uses self.old.puzzle uses.now self.old.trail) }
         ensures { self.new ≡ record self.old { trail = after_uses self.old.puzzle uses.now self.old.trail } }
     {
         self.commit_uses(uses);
@@ -99,10 +94,8 @@ impl<'a, D: Dance> Position<'a, D> {
         requires known { (1 ≤ o) × (o ≤ option_count self.old.puzzle) }
         requires holds { place_in i (uses_of self.old.puzzle o) < length (uses_of self.old.puzzle o) }
         requires items { All (λ (u : Use). IsItem self.old.puzzle u.item) (uses_of self.old.puzzle o) }
-        requires legal { AreLegal self.old.puzzle
+        requires stands { MayStand self.old.puzzle
             (after_uses self.old.puzzle (others i (uses_of self.old.puzzle o)) self.old.trail) }
-        requires room { length (after_uses self.old.puzzle (others i (uses_of self.old.puzzle o)) self.old.trail)
-            ≤ room_for self.old.puzzle }
         ensures { self.new ≡ record self.old
             { trail = after_uses self.old.puzzle (others i (uses_of self.old.puzzle o)) self.old.trail } }
     {

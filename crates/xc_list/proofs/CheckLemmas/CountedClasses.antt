@@ -1,13 +1,13 @@
 -- What classes add to the counts, and that the counts are 0 again once they were cleared.
 use Rattle.std.proofs.Common.{ℕ, zero, suc, ◌≡◌, ◌≢◌, ◌+◌, ◌<◌, ◌≤◌, ◌⊎◌, inl, inr, drop, ltb, ltb-true, ltb-false, Bool, true, false, cond, ◌==◌, List, [], ◌∷◌, ◌++◌, length, get_or, set, take, replicate, Some, refl, sym, ap, ◌∙◌, arith, subst, eqb-true, eq-eqb}
-use Rattle.std.specs.Prelude.{slice_get}
+use Rattle.std.specs.Prelude.{slice_get, All}
 use Rattle.std.specs.List.{AllByRecursion}
 use Rattle.std.proofs.lemmas.List.{append-nil, append_assoc, get_or-set_same, get_or-set_other, length-set, length-take-le, length-replicate, get_or-replicate, get_or_past, ext_get_or, take_more}
-use Rattle.std.proofs.lemmas.List.Elements.{recursion_from_All}
+use Rattle.std.proofs.lemmas.List.Elements.{All-weaker, recursion_from_All}
 use Rattle.std.proofs.lemmas.Option.{slice_get-get_or}
 use Rattle.xc_input.specs.declared.problem.Use.{Use}
 use Rattle.xc_input.specs.Problem.{item_count, uses_of, IsSoundUse}
-use Rattle.xc_input.specs.Named.{IsSound}
+use Rattle.xc_input.specs.Named.{Named, IsKnownUse, IsSound}
 use Rattle.xc_input.proofs.EachElement.{each_weaker, each-append, each_turned}
 use Rattle.xc_list.specs.Output.{rotated_at}
 use Rattle.xc_list.specs.inner.Classes.{Classes, AreClasses, class_of}
@@ -27,6 +27,10 @@ pub slice_get-at : {X : Type 0} (xs : List X) (k : ℕ) (x d : X) → slice_get 
 slice_get-at [] k x d e = cc
 slice_get-at (y ∷ xs) zero x d e = cc
 slice_get-at (y ∷ xs) (suc k) x d e = slice_get-at xs k x d e
+
+-- known uses are of the items that there are
+pub known_items : (p : Named) (us : List Use) (n : ℕ) → n ≡ item_count p.puzzle → All (IsKnownUse p) us → All (λ u. (1 ≤ u.item) × (u.item ≤ n)) us
+known_items p us n e = All-weaker (IsKnownUse p) (λ u. (1 ≤ u.item) × (u.item ≤ n)) (λ u h. (h.0.0, omega (arith, h.0.1, e))) us
 
 pub class-differs : (us : List Use) → DifferInItems us → DifferInItems (class_of us)
 class-differs us d =
@@ -54,20 +58,22 @@ pub uses_in-more : (classes : List (List Use)) (ks : List ℕ) (k : ℕ) → use
 uses_in-more classes [] k = append-nil (uses_at classes k)
 uses_in-more classes (j ∷ ks) k = ap (λ us. uses_at classes j ++ us) (uses_in-more classes ks k) ∙ sym (append_assoc (uses_at classes j) (uses_in classes ks) (uses_at classes k))
 
-uses_in-take : (classes : List (List Use)) (ks : List ℕ) (i : ℕ) → i < length ks → uses_in classes (take (i + 1) ks) ≡ uses_in classes (take i ks) ++ uses_at classes (get_or ks i 0)
-uses_in-take classes ks i l = ap (uses_in classes) (take_more ks i 0 l) ∙ uses_in-more classes (take i ks) (get_or ks i 0)
+-- where the class at place i has the uses us
+uses_in-take : (classes : List (List Use)) (ks : List ℕ) (i : ℕ) (us : List Use) → i < length ks → slice_get classes (get_or ks i 0) ≡ Some us → uses_in classes (take (i + 1) ks) ≡ uses_in classes (take i ks) ++ us
+uses_in-take classes ks i us l e =
+    ap (uses_in classes) (take_more ks i 0 l) ∙ uses_in-more classes (take i ks) (get_or ks i 0) ∙ ap (λ vs. uses_in classes (take i ks) ++ vs) (slice_get-at classes (get_or ks i 0) us [] e)
 
-pub added_class_more : (classes : List (List Use)) (ks : List ℕ) (i : ℕ) (ts : List ℕ) → i < length ks →
-    added (uses_in classes (take (i + 1) ks)) ts ≡ added (uses_at classes (get_or ks i 0)) (added (uses_in classes (take i ks)) ts)
-added_class_more classes ks i ts l = ap (λ us. added us ts) (uses_in-take classes ks i l) ∙ added-append (uses_in classes (take i ks)) (uses_at classes (get_or ks i 0)) ts
+pub added_class_more : (classes : List (List Use)) (ks : List ℕ) (i : ℕ) (us : List Use) (ts : List ℕ) → i < length ks → slice_get classes (get_or ks i 0) ≡ Some us →
+    added (uses_in classes (take (i + 1) ks)) ts ≡ added us (added (uses_in classes (take i ks)) ts)
+added_class_more classes ks i us ts l e = ap (λ vs. added vs ts) (uses_in-take classes ks i us l e) ∙ added-append (uses_in classes (take i ks)) us ts
 
-pub coloured_class_more : (classes : List (List Use)) (ks : List ℕ) (i : ℕ) (cs : List ℕ) → i < length ks →
-    coloured (uses_in classes (take (i + 1) ks)) cs ≡ coloured (uses_at classes (get_or ks i 0)) (coloured (uses_in classes (take i ks)) cs)
-coloured_class_more classes ks i cs l = ap (λ us. coloured us cs) (uses_in-take classes ks i l) ∙ coloured-append (uses_in classes (take i ks)) (uses_at classes (get_or ks i 0)) cs
+pub coloured_class_more : (classes : List (List Use)) (ks : List ℕ) (i : ℕ) (us : List Use) (cs : List ℕ) → i < length ks → slice_get classes (get_or ks i 0) ≡ Some us →
+    coloured (uses_in classes (take (i + 1) ks)) cs ≡ coloured us (coloured (uses_in classes (take i ks)) cs)
+coloured_class_more classes ks i us cs l e = ap (λ vs. coloured vs cs) (uses_in-take classes ks i us l e) ∙ coloured-append (uses_in classes (take i ks)) us cs
 
-pub cleared_class_more : (classes : List (List Use)) (ks : List ℕ) (i : ℕ) (ts : List ℕ) → i < length ks →
-    cleared (uses_in classes (take (i + 1) ks)) ts ≡ cleared (uses_at classes (get_or ks i 0)) (cleared (uses_in classes (take i ks)) ts)
-cleared_class_more classes ks i ts l = ap (λ us. cleared us ts) (uses_in-take classes ks i l) ∙ cleared-append (uses_in classes (take i ks)) (uses_at classes (get_or ks i 0)) ts
+pub cleared_class_more : (classes : List (List Use)) (ks : List ℕ) (i : ℕ) (us : List Use) (ts : List ℕ) → i < length ks → slice_get classes (get_or ks i 0) ≡ Some us →
+    cleared (uses_in classes (take (i + 1) ks)) ts ≡ cleared us (cleared (uses_in classes (take i ks)) ts)
+cleared_class_more classes ks i us ts l e = ap (λ vs. cleared vs ts) (uses_in-take classes ks i us l e) ∙ cleared-append (uses_in classes (take i ks)) us ts
 
 abbrev pub AreBelow : ℕ → List ℕ → Type 0
 AreBelow n ks = AllByRecursion (λ k. k < n) ks

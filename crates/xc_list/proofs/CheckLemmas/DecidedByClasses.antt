@@ -1,8 +1,10 @@
 -- A listed solution is a cover exactly where its classes are, by counting.
 use Rattle.std.specs.List.{AllZip}
-use Rattle.std.proofs.Common.{ℕ, zero, suc, ◌≡◌, ◌≢◌, ◌+◌, ◌<◌, Bool, true, false, cond, ◌==◌, List, [], ◌∷◌, filter, Some, refl, sym, ap₂, ◌∙◌, arith, subst, inl, inr, eqb-true, eq-eqb, ltb, ltb-true, ltb-false}
+use Rattle.std.proofs.Common.{ℕ, zero, suc, ◌≡◌, ◌≢◌, ◌+◌, ◌<◌, Bool, true, false, cond, ◌==◌, List, [], ◌∷◌, filter, Option, Some, None, refl, sym, ap₂, ◌∙◌, arith, subst, inl, inr, eqb-true, eq-eqb, ltb, ltb-true, ltb-false}
 use Rattle.std.specs.Prelude.{slice_get, is_some, All, IsTrue, ◌↔◌}
 use Rattle.std.proofs.lemmas.List.Elements.{recursion_from_All, All-from_recursion}
+use Rattle.std.proofs.lemmas.Slice.Zip.{AllZip-left, AllZip-right}
+use Rattle.std.specs.Option.{IsSomeAnd}
 use Rattle.xc_input.specs.declared.problem.Use.{Use}
 use Rattle.xc_input.specs.Problem.{Puzzle, IsSoundOption, IsValid, IsSecondary, option_count, uses_of, colour_in}
 use Rattle.xc_search.specs.Cover.{IsCover, times_held}
@@ -10,7 +12,7 @@ use Rattle.xc_input.specs.Named.{Named, IsKnownUse, IsSound}
 use Rattle.xc_input.proofs.Known.{known_option}
 use Rattle.xc_search.proofs.Members.{IsIn, each_in, each_from, in-slice_get, slice_get-in, in-contains, contains-in}
 use Rattle.xc_search.proofs.EachTwo.{EachTwo-at, each_two_from_AllPairs, AllPairs-from_each_two}
-use Rattle.xc_list.specs.Listed.{is_known, IsListedCover, stands_for}
+use Rattle.xc_list.specs.Listed.{is_body, is_known, IsListedCover, stands_for}
 use Rattle.xc_list.specs.inner.Classes.{alike, numbers, class_of, same_uses, IsCoverOfClasses, IsOption}
 use Rattle.xc_list.proofs.CheckLemmas.DifferentOptions.{counted, is_counted, IsLikeness, AreAlike, AreApart, asked_within, give, IsGiving}
 use Rattle.xc_list.proofs.CheckLemmas.Rotations.{DifferInItems, colour-alike}
@@ -54,39 +56,35 @@ alike-classes p = record {
 abbrev AreKnown : Puzzle → List ℕ → Type 0
 AreKnown p s = (o : ℕ) → IsIn s o → IsOption p o
 
--- what stands for the same bodies is alike
 -- options of the problem for bodies, for each one that it stands for
 abbrev pub StandFor : Named → List (List (List ℕ)) → List ℕ → Type 0
 StandFor p bodies s = AllZip (λ words o. IsTrue (stands_for p words o)) bodies s
 
-pub alike-bodies : (p : Named) → IsSound p → (bodies : List (List (List ℕ))) (reps s : List ℕ) → AreKnown p.puzzle reps → AreKnown p.puzzle s → StandFor p bodies reps → StandFor p bodies s → AreAlike (alike p.puzzle) reps s
-alike-bodies p r [] [] [] a b h k = tt
-alike-bodies p r [] [] (o ∷ s) a b h k = absurd k
-alike-bodies p r [] (q ∷ reps) s a b h k = absurd h
-alike-bodies p r (w ∷ bodies) [] s a b h k = absurd h
-alike-bodies p r (w ∷ bodies) (q ∷ reps) [] a b h k = absurd k
-alike-bodies p r (w ∷ bodies) (q ∷ reps) (o ∷ s) a b h k =
-    let x = a q (inl refl) in
-    let y = b o (inl refl) in
-    let class = body-class p w r (uses_of p.puzzle q) (uses_of p.puzzle o) (option-known p r q x) (option-known p r o y) (option-differs p.puzzle r.valid q x) (option-differs p.puzzle r.valid o y) (is h.0) (is k.0) in
-    (subst (λ v. same_uses (class_of (uses_of p.puzzle q)) v ≡ true) class (same_uses-itself (class_of (uses_of p.puzzle q))), alike-bodies p r bodies reps s (λ z j. a z (inr j)) (λ z j. b z (inr j)) h.1 k.1)
-  where
-    is : {b : Bool} → IsTrue b → b ≡ true
-    is h = h
+-- beside xs, the lists ys and zs are zipped alike
+zipped_alike : {A B C : Type 0} (P : A → B → Type 0) (Q : A → C → Type 0) (R : B → C → Type 0) (xs : List A) (ys : List B) (zs : List C) →
+    ((x : A) (y : B) (z : C) → IsIn ys y → IsIn zs z → P x y → Q x z ↔ R y z) → AllZip P xs ys → AllZip Q xs zs ↔ AllZip R ys zs
+zipped_alike P Q R [] [] [] f h = (λ k. k, λ k. k)
+zipped_alike P Q R [] [] (z ∷ zs) f h = (λ k. k, λ k. k)
+zipped_alike P Q R [] (y ∷ ys) zs f h = absurd h
+zipped_alike P Q R (x ∷ xs) [] zs f h = absurd h
+zipped_alike P Q R (x ∷ xs) (y ∷ ys) [] f h = (λ k. k, λ k. k)
+zipped_alike P Q R (x ∷ xs) (y ∷ ys) (z ∷ zs) f h =
+    let here = f x y z (inl refl) (inl refl) h.0 in
+    let more = zipped_alike P Q R xs ys zs (λ u v w j k. f u v w (inr j) (inr k)) h.1 in
+    (λ k. (here.0 k.0, more.0 k.1), λ k. (here.1 k.0, more.1 k.1))
 
--- what is alike stands for the same bodies
-pub bodies-alike : (p : Named) → IsSound p → (bodies : List (List (List ℕ))) (reps s : List ℕ) → AreKnown p.puzzle reps → AreKnown p.puzzle s → StandFor p bodies reps → AreAlike (alike p.puzzle) reps s → StandFor p bodies s
-bodies-alike p r [] [] [] a b h z = tt
-bodies-alike p r [] [] (o ∷ s) a b h z = absurd z
-bodies-alike p r [] (q ∷ reps) s a b h z = absurd h
-bodies-alike p r (w ∷ bodies) [] s a b h z = absurd h
-bodies-alike p r (w ∷ bodies) (q ∷ reps) [] a b h z = absurd z
-bodies-alike p r (w ∷ bodies) (q ∷ reps) (o ∷ s) a b h z =
-    let x = a q (inl refl) in
-    let y = b o (inl refl) in (
-      body-alike p w (uses_of p.puzzle q) (uses_of p.puzzle o) (option-differs p.puzzle r.valid q x) (option-differs p.puzzle r.valid o y) (same_uses-are (class_of (uses_of p.puzzle q)) (class_of (uses_of p.puzzle o)) z.0) h.0,
-      bodies-alike p r bodies reps s (λ v j. a v (inr j)) (λ v j. b v (inr j)) h.1 z.1,
-    )
+-- what stands for the same bodies is alike, and what is alike stands for the same bodies
+pub stand-alike : (p : Named) → IsSound p → (bodies : List (List (List ℕ))) (reps s : List ℕ) → AreKnown p.puzzle reps → AreKnown p.puzzle s → StandFor p bodies reps → StandFor p bodies s ↔ AreAlike (alike p.puzzle) reps s
+stand-alike p r bodies reps s a b =
+    zipped_alike (λ words o. IsTrue (stands_for p words o)) (λ words o. IsTrue (stands_for p words o)) (λ q o. alike p.puzzle q o ≡ true) bodies reps s (λ words q o in_q in_o h.
+    let x = a q in_q in
+    let y = b o in_o in
+    let us = uses_of p.puzzle q in
+    let vs = uses_of p.puzzle o in
+    let d = option-differs p.puzzle r.valid q x in
+    let e = option-differs p.puzzle r.valid o y in
+    let class = λ (k : is_body p words vs ≡ true). body-class p words r us vs (option-known p r q x) (option-known p r o y) d e h k in
+    (λ k. subst (λ v. same_uses (class_of us) v ≡ true) (class k) (same_uses-itself (class_of us)), λ z. body-alike p words us vs d e (same_uses-are (class_of us) (class_of vs) z) h))
 
 -- alike options give each item the same colour
 pub colours-alike : (p : Puzzle) → IsValid p → (q o i : ℕ) → IsOption p q → IsOption p o → alike p q o ≡ true → colour_in (uses_of p q) i ≡ colour_in (uses_of p o) i
@@ -105,20 +103,16 @@ pub held-alike : (p : Puzzle) → IsValid p → (i : ℕ) (reps s : List ℕ) �
 held-alike p v i reps s a b z =
     is_counted (λ o. is_some (colour_in (uses_of p o) i)) reps ∙ counted-alike p v i reps s a b z ∙ sym (is_counted (λ o. is_some (colour_in (uses_of p o) i)) s)
 
+some_and : {X : Type 0} (o : Option X) (P : X → Type 0) → IsSomeAnd o P → (x : X) × (o ≡ Some x) × P x
+some_and (Some x) P h = (x, refl, h)
+some_and None P h = absurd h
+
 -- the one at the same place
 alike-right : (same : ℕ → ℕ → Bool) (reps s : List ℕ) (k q : ℕ) → AreAlike same reps s → slice_get reps k ≡ Some q → (o : ℕ) × (slice_get s k ≡ Some o) × (same q o ≡ true)
-alike-right same [] [] k q z e = cc
-alike-right same [] (o ∷ s) k q z e = absurd z
-alike-right same (x ∷ reps) [] k q z e = absurd z
-alike-right same (x ∷ reps) (o ∷ s) zero q z e = let here : x ≡ q = cc in (o, refl, subst (λ v. same v o ≡ true) here z.0)
-alike-right same (x ∷ reps) (o ∷ s) (suc k) q z e = alike-right same reps s k q z.1 e
+alike-right same reps s k q z e = some_and (slice_get s k) _ (rw e at (AllZip-left (λ q o. same q o ≡ true) reps s z k))
 
 alike-left : (same : ℕ → ℕ → Bool) (reps s : List ℕ) (k o : ℕ) → AreAlike same reps s → slice_get s k ≡ Some o → (q : ℕ) × (slice_get reps k ≡ Some q) × (same q o ≡ true)
-alike-left same [] [] k o z e = cc
-alike-left same [] (x ∷ s) k o z e = absurd z
-alike-left same (x ∷ reps) [] k o z e = absurd z
-alike-left same (q ∷ reps) (x ∷ s) zero o z e = let here : x ≡ o = cc in (q, refl, subst (λ v. same q v ≡ true) here z.0)
-alike-left same (q ∷ reps) (x ∷ s) (suc k) o z e = alike-left same reps s k o z.1 e
+alike-left same reps s k o z e = some_and (slice_get reps k) _ (rw e at (AllZip-right (λ q o. same q o ≡ true) reps s z k))
 
 pub classes_of_cover : (p : Puzzle) → IsValid p → (reps s : List ℕ) → AreKnown p reps → AreAlike (alike p) reps s → IsCover p s → IsCoverOfClasses p reps
 classes_of_cover p v reps s a z c = record {
@@ -186,9 +180,9 @@ cover_of_classes p v reps s a g c = record {
 pub classes_decide : (p : Named) (bodies : List (List (List ℕ))) (reps : List ℕ) → IsSound p → All (IsOption p.puzzle) reps → StandFor p (filter (is_known p) bodies) reps →
     IsListedCover p bodies ↔ IsCoverOfClasses p.puzzle reps
 classes_decide p bodies reps r all h = (
-  λ (g : IsListedCover p bodies). classes_of_cover p.puzzle r.valid reps g.0 a (alike-bodies p r known_bodies reps g.0 a (known g.0 g.2) h g.1) g.2,
+  λ (g : IsListedCover p bodies). classes_of_cover p.puzzle r.valid reps g.0 a ((stand-alike p r known_bodies reps g.0 a (known g.0 g.2) h).0 g.1) g.2,
   λ c. (let g = give (alike p.puzzle) (alike-classes p.puzzle) (numbers p.puzzle) (numbers-apart p.puzzle) reps (λ q k. omega (arith, c.asked q, is_counted (alike p.puzzle q) reps, is_counted (alike p.puzzle q) (numbers p.puzzle))) in
-      (g.0, bodies-alike p r known_bodies reps g.0 a (λ o k. in-numbers p.puzzle o (g.1.known o k)) h g.1.alike, cover_of_classes p.puzzle r.valid reps g.0 a g.1 c)),
+      (g.0, (stand-alike p r known_bodies reps g.0 a (λ o k. in-numbers p.puzzle o (g.1.known o k)) h).1 g.1.alike, cover_of_classes p.puzzle r.valid reps g.0 a g.1 c)),
 )
   where
     known_bodies : List (List (List ℕ))

@@ -9,7 +9,7 @@ use Rattle.xc_input.specs.Words.{has}
 use Rattle.xc_input.specs.Lines.{lines_of, ended, AreWhole}
 use Rattle.xc_input.proofs.LineLemmas.{lines_of-ended}
 use Rattle.xc_search.specs.declared.choice.Choice.{Choice}
-use Rattle.xc_list.specs.Output.{bytes_at, from_item, use_word, use_text, body_text, choice_text, member_text}
+use Rattle.xc_list.specs.Output.{bytes_at, from_item, use_word, use_text, body_text, branch_text, choice_text, member_text}
 use Rattle.xc_list.specs.ListingLines.{Header, Body, read}
 use Rattle.xc_list.proofs.OutputLemmas.ReadLines.{IsPlain, spaced, ending_words, read-header, no_feed-header, read-choice}
 
@@ -57,13 +57,13 @@ body-spaced : (p : Named) (i : ℕ) (o : Option ℕ) → body_text p i o ≡ spa
 body-spaced p i (Some o) = uses-spaced p (from_item i (uses_of p.puzzle o))
 body-spaced p i None = ap (λ t. codes " null " ++ t) (sym (append-nil (bytes_at p.names i)))
 
-regroup : (body ks ns : List ℕ) → body ++ codes " (" ++ ks ++ codes " of " ++ ns ++ codes ")\n"
+regroup : (body ks ns : List ℕ) → body ++ (codes " (" ++ ks ++ codes " of " ++ ns ++ codes ")\n")
     ≡ (body ++ (32 ∷ 40 ∷ (ks ++ 32 ∷ 111 ∷ 102 ∷ 32 ∷ ((ns ++ 41 ∷ []) ++ [])))) ++ 10 ∷ []
 regroup body ks ns = simp (append_assoc {A = ℕ}, append-nil {A = ℕ})
 
 choice-ended : (p : Named) (c : Choice) → choice_text p c ≡ choice_line p c ++ 10 ∷ []
 choice-ended p c =
-    ap (λ t. t ++ codes " (" ++ decimal c.k ++ codes " of " ++ decimal c.n ++ codes ")\n") (body-spaced p c.item c.option)
+    ap (λ t. t ++ branch_text c.k c.n) (body-spaced p c.item c.option)
     ∙ regroup (spaced (choice_words p c)) (decimal c.k) (decimal c.n)
     ∙ ap (λ t. t ++ 10 ∷ []) (sym (spaced-append (choice_words p c) (ending_words c.k c.n)))
 

@@ -17,18 +17,22 @@ struct Row<'a> {
     zero: bool,
 }
 
-/// Whether runs over both keepers list this, end so, and leave linked tables as built.
-fn gives(alloc: Global, row: &Row, listing: &[u8], end: End) -> Result<bool, Fail> {
+/// Fails unless runs over both keepers list this, end so, and leave linked tables as built.
+fn gives(alloc: Global, row: &Row, listing: &[u8], end: End) -> Result<(), Fail> {
     let problem = problem_of(alloc, row.kind, row.text)?;
     let mut plain = Tray::new(alloc, 1, row.room, row.zero)?;
     let mut linked = Tray::new(alloc, 1, row.room, row.zero)?;
     let by_lists = end_over_lists(alloc, &problem, row.words, &mut plain)?;
     let by_links = end_over_links(alloc, &problem, row.words, &mut linked)?;
     let alike = plain.bytes() == listing && linked.bytes() == listing;
-    Ok(alike && by_lists == end && by_links == Some(end))
+    if alike && by_lists == end && by_links == Some(end) {
+        Ok(())
+    } else {
+        Err(Fail::new("another listing or end"))
+    }
 }
 
-/// Whether the runs list this up to this end, by words.
+/// Fails unless the runs list this up to this end, by words.
 fn asked(
     alloc: Global,
     kind: Kind,
@@ -36,7 +40,7 @@ fn asked(
     words: Words,
     listing: &[u8],
     end: End,
-) -> Result<bool, Fail> {
+) -> Result<(), Fail> {
     let row = Row {
         kind,
         text,
@@ -47,23 +51,21 @@ fn asked(
     gives(alloc, &row, listing, end)
 }
 
-/// Whether the runs list all solutions so, as many as these.
-fn all(alloc: Global, kind: Kind, text: &[u8], listing: &[u8], count: u64) -> Result<bool, Fail> {
+/// Fails unless the runs list all solutions so, as many as these.
+fn all(alloc: Global, kind: Kind, text: &[u8], listing: &[u8], count: u64) -> Result<(), Fail> {
     asked(alloc, kind, text, ALL, listing, End::Done(count))
 }
 
 #[test]
 fn seven_items(rt: HostRuntime) -> Result<(), Fail> {
     let listing = b"1:\n a d f (2 of 2)\n b g (1 of 1)\n c e (1 of 1)\n";
-    assert!(rt; all(rt.alloc(), Kind::Plain, SEVEN, listing, 1)?);
-    Ok(())
+    all(rt.alloc(), Kind::Plain, SEVEN, listing, 1)
 }
 
 #[test]
 fn two_colours(rt: HostRuntime) -> Result<(), Fail> {
     let listing = b"1:\n q x:A (2 of 2)\n p r x:A y (1 of 1)\n";
-    assert!(rt; all(rt.alloc(), Kind::Colours, COLOURS, listing, 1)?);
-    Ok(())
+    all(rt.alloc(), Kind::Colours, COLOURS, listing, 1)
 }
 
 #[test]
@@ -71,12 +73,13 @@ fn once_or_twice(rt: HostRuntime) -> Result<(), Fail> {
     let text = b"1:2|A B\nA\nA B\nB\n";
     let listing =
         b"1:\n A (1 of 2)\n A B (1 of 2)\n2:\n A (1 of 2)\n null A (2 of 2)\n B (1 of 1)\n3:\n A B (2 of 2)\n null A (1 of 1)\n";
-    assert!(rt; all(rt.alloc(), Kind::Bounds, text, listing, 3)?);
-    Ok(())
+    all(rt.alloc(), Kind::Bounds, text, listing, 3)
 }
 
-/// What three equal options give by each spacing and limit.
-fn three_alike(alloc: Global) -> Result<bool, Fail> {
+// Three equal options by each spacing and limit.
+#[test]
+fn spacing_and_limit(rt: HostRuntime) -> Result<(), Fail> {
+    let alloc = rt.alloc();
     let first = b"1:\n A (1 of 3)\n2:\n A (2 of 3)\n3:\n A (3 of 3)\n";
     let rows: [(u64, u64, &[u8], End); 4] = [
         (2, u64::MAX, &first[15..30], End::Done(3)),
@@ -86,38 +89,27 @@ fn three_alike(alloc: Global) -> Result<bool, Fail> {
     ];
     for &(spacing, limit, listing, end) in &rows {
         let words = Words { spacing, limit };
-        if !asked(alloc, Kind::Plain, b"A\nA\nA\nA\n", words, listing, end)? {
-            return Ok(false);
-        }
+        asked(alloc, Kind::Plain, b"A\nA\nA\nA\n", words, listing, end)?;
     }
-    Ok(true)
-}
-
-#[test]
-fn spacing_and_limit(rt: HostRuntime) -> Result<(), Fail> {
-    assert!(rt; three_alike(rt.alloc())?);
     Ok(())
 }
 
 #[test]
 fn no_cover(rt: HostRuntime) -> Result<(), Fail> {
-    assert!(rt; all(rt.alloc(), Kind::Plain, b"A B\nA\n", b"", 0)?);
-    Ok(())
+    all(rt.alloc(), Kind::Plain, b"A B\nA\n", b"", 0)
 }
 
 #[test]
 fn one_colour(rt: HostRuntime) -> Result<(), Fail> {
     let text = b"A B |x\nA x:1\nB x:1\nB x:2\nB x\n";
     let listing = b"1:\n A x:1 (1 of 1)\n B x:1 (1 of 1)\n";
-    assert!(rt; all(rt.alloc(), Kind::Colours, text, listing, 1)?);
-    Ok(())
+    all(rt.alloc(), Kind::Colours, text, listing, 1)
 }
 
 #[test]
 fn an_option_ignored(rt: HostRuntime) -> Result<(), Fail> {
     let text = b"| test\r\n\r\nA | x\r\nx\r\nA x";
-    assert!(rt; all(rt.alloc(), Kind::Plain, text, b"1:\n A x (1 of 1)\n", 1)?);
-    Ok(())
+    all(rt.alloc(), Kind::Plain, text, b"1:\n A x (1 of 1)\n", 1)
 }
 
 #[test]
@@ -125,48 +117,41 @@ fn up_to_twice(rt: HostRuntime) -> Result<(), Fail> {
     let text = b"0:2|A\nA\nA\n";
     let listing =
         b"1:\n A (1 of 3)\n A (1 of 2)\n2:\n A (1 of 3)\n null A (2 of 2)\n3:\n A (2 of 3)\n null A (1 of 1)\n4:\n null A (3 of 3)\n";
-    assert!(rt; all(rt.alloc(), Kind::Bounds, text, listing, 4)?);
-    Ok(())
+    all(rt.alloc(), Kind::Bounds, text, listing, 4)
 }
 
-/// The first row, into a sink that takes 5 bytes.
-fn broken_off(alloc: Global, zero: bool) -> Result<bool, Fail> {
-    let row = Row {
-        kind: Kind::Plain,
-        text: SEVEN,
-        words: ALL,
-        room: 5,
-        zero,
-    };
-    let taken = [0x31, 0x3a, 0x0a, 0x20, 0x61];
-    gives(alloc, &row, &taken, End::WriteFailed(1))
-}
-
+// The sink takes 5 bytes.
 #[test]
 fn a_write_that_fails(rt: HostRuntime) -> Result<(), Fail> {
-    assert!(rt; broken_off(rt.alloc(), false)? && broken_off(rt.alloc(), true)?);
+    for zero in [false, true] {
+        let row = Row {
+            kind: Kind::Plain,
+            text: SEVEN,
+            words: ALL,
+            room: 5,
+            zero,
+        };
+        gives(rt.alloc(), &row, b"1:\n a", End::WriteFailed(1))?;
+    }
     Ok(())
 }
 
 #[test]
 fn no_options(rt: HostRuntime) -> Result<(), Fail> {
     let listing = b"1:\n null A (1 of 1)\n";
-    assert!(rt; all(rt.alloc(), Kind::Bounds, b"0:1|A\n", listing, 1)?);
-    Ok(())
+    all(rt.alloc(), Kind::Bounds, b"0:1|A\n", listing, 1)
 }
 
 #[test]
 fn the_largest_bound(rt: HostRuntime) -> Result<(), Fail> {
     let text = b"999999999|A\nA\n";
-    assert!(rt; all(rt.alloc(), Kind::Bounds, text, b"", 0)?);
-    Ok(())
+    all(rt.alloc(), Kind::Bounds, text, b"", 0)
 }
 
 #[test]
 fn both_options(rt: HostRuntime) -> Result<(), Fail> {
     let listing = b"1:\n A (1 of 1)\n A (1 of 1)\n";
-    assert!(rt; all(rt.alloc(), Kind::Bounds, b"2|A\nA\nA\n", listing, 1)?);
-    Ok(())
+    all(rt.alloc(), Kind::Bounds, b"2|A\nA\nA\n", listing, 1)
 }
 
 /// An option whose primary item stands last, and eleven that colour an item which stands first.
@@ -192,44 +177,27 @@ fn alike_by_each_step(alloc: Global, kind: Kind, text: &[u8]) -> Result<bool, Fa
 
 #[test]
 fn two_digits(rt: HostRuntime) -> Result<(), Fail> {
-    let text = long_names(rt.alloc())?;
-    assert!(rt; alike_by_each_step(rt.alloc(), Kind::Colours, &text)?);
+    let alloc = rt.alloc();
+    let text = long_names(alloc)?;
+    assert!(rt; alike_by_each_step(alloc, Kind::Colours, &text)?);
     let words = Words {
         spacing: 9,
         limit: 10,
     };
     let ninth = b"9:\n z y:b (1 of 1)\n a_rather_long_name its_colour:i (9 of 11)\n";
-    assert!(rt;
-        asked(
-            rt.alloc(),
-            Kind::Colours,
-            &text,
-            words,
-            ninth,
-            End::Limit(10)
-        )?
-    );
+    asked(alloc, Kind::Colours, &text, words, ninth, End::Limit(10))?;
     let tenth = b"10:\n z y:b (1 of 1)\n a_rather_long_name its_colour:j (10 of 11)\n";
     let words = Words {
         spacing: 10,
         limit: u64::MAX,
     };
-    assert!(rt;
-        asked(
-            rt.alloc(),
-            Kind::Colours,
-            &text,
-            words,
-            tenth,
-            End::Done(11)
-        )?
-    );
-    Ok(())
+    asked(alloc, Kind::Colours, &text, words, tenth, End::Done(11))
 }
 
 #[test]
 fn three_digits(rt: HostRuntime) -> Result<(), Fail> {
-    let mut text = Vec::from_slice(rt.alloc(), b"A\n")?;
+    let alloc = rt.alloc();
+    let mut text = Vec::from_slice(alloc, b"A\n")?;
     for _ in 0..101 {
         text.extend_from_slice(b"A\n")?;
     }
@@ -238,15 +206,5 @@ fn three_digits(rt: HostRuntime) -> Result<(), Fail> {
         limit: u64::MAX,
     };
     let listing = b"50:\n A (50 of 101)\n100:\n A (100 of 101)\n";
-    assert!(rt;
-        asked(
-            rt.alloc(),
-            Kind::Plain,
-            &text,
-            words,
-            listing,
-            End::Done(101)
-        )?
-    );
-    Ok(())
+    asked(alloc, Kind::Plain, &text, words, listing, End::Done(101))
 }

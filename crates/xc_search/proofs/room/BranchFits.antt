@@ -9,13 +9,14 @@ use Rattle.xc_search.specs.Listing.{branch_item}
 use Rattle.xc_dance.specs.Moves.{AreLegal}
 use Rattle.xc_search.specs.Residuals.{wanted_at}
 use Rattle.xc_search.specs.inner.Residual.{residual_of}
-use Rattle.xc_search.specs.inner.Commits.{opened, oldest, after_uses}
+use Rattle.xc_search.specs.inner.Commits.{MayStand, opened, oldest, after_uses}
 use Rattle.xc_search.specs.Room.{room_for}
 use Rattle.xc_search.specs.inner.Sparing.{spendings}
 use Rattle.xc_search.specs.inner.Levels.{IsNode, IsLevel, IsBegun, next_number}
 use Rattle.xc_search.proofs.room.TrailFits.{has_room}
 use Rattle.xc_search.proofs.room.SparingMoves.{sparing_opened, spent_tweaked}
 use Rattle.xc_search.proofs.stacked.NextLevel.{ext_longer, ext_uses}
+use Rattle.xc_search.proofs.moves.LegalCommits.{legal_after_uses}
 use Rattle.xc_search.proofs.moves.LegalTweaks.{legal_node, legal_branch}
 use Rattle.xc_search.proofs.stacked.TakenOption.{ground_is, may_tweak}
 use Rattle.xc_search.proofs.stacked.NextBranch.{few_tweaks}
@@ -36,5 +37,9 @@ fits_tweak p t l o is_level whole more c e =
     let all = has_room p (Tweak l.item ∷ t) ((may_tweak p t l o is_level whole more c e).0, legal) (omega (arith, spent, sparing_opened p u l.item is_level.node.searchable.sparing is_level.branch)) in
     omega (arith, all)
 
-pub fits_uses : (p : Puzzle) (us : List Use) (t : List Move) → length t ≤ length (after_uses p us t)
-fits_uses p us t = ext_longer (after_uses p us t) t (ext_uses p us t)
+-- what stands before uses were committed stood already
+pub stands_before : (p : Puzzle) (us : List Use) (t : List Move) → MayStand p (after_uses p us t) → MayStand p t
+stands_before p us t m = record {
+  legal = legal_after_uses p us t m.legal;
+  room = omega (arith, m.room, ext_longer (after_uses p us t) t (ext_uses p us t));
+}

@@ -1,10 +1,16 @@
 -- No public clause cites this module. The moves of a level.
-use Rattle.std.specs.Prelude.{ℕ, suc, ◌+◌, ◌-◌, length, Bool, ◌&&◌, ◌==◌, nat_le, List, [], ◌∷◌, ◌++◌, take, drop, if◌then◌else◌, replicate}
+use Rattle.std.specs.Prelude.{ℕ, suc, ◌+◌, ◌-◌, ◌≤◌, length, Bool, ◌&&◌, ◌==◌, nat_le, List, [], ◌∷◌, ◌++◌, take, drop, if◌then◌else◌, replicate}
 use Rattle.xc_input.specs.declared.problem.Use.{Use}
 use Rattle.xc_dance.specs.declared.dance.Move.{Move}
 use Rattle.xc_dance.specs.declared.dance.Move.TheVariants.{Cover, Purify, Tweak, Spend}
 use Rattle.xc_input.specs.Problem.{Puzzle, primary_count, low_at, high_at}
-use Rattle.xc_dance.specs.Moves.{is_open, spends}
+use Rattle.xc_dance.specs.Moves.{is_open, spends, AreLegal}
+use Rattle.xc_search.specs.Room.{room_for}
+
+-- moves that may stand: they are legal, and a search has room for them
+pub record MayStand (p : Puzzle) (t : List Move) : Type 0 where
+  pub legal : AreLegal p t
+  pub room : length t ≤ room_for p
 
 -- the oldest n moves
 abbrev pub oldest : ℕ → List Move → List Move

@@ -42,7 +42,7 @@ pub record IsNode (p : Puzzle) (t : List Move) (i : ℕ) : Type 0 where
 abbrev pub options_at : Puzzle → List Move → ℕ → List Numbered
 options_at p t i = holding i (left p t)
 
--- A level that was begun on the moves u, below the moves t.
+-- A level that was begun on the moves u, below the moves t. Its base stands before a branch.
 pub record IsLevelAt (p : Puzzle) (u t : List Move) (l : Level) : Type 0 where
   pub within : (l.mark ≤ l.base) × (l.base ≤ length t)
   pub node : IsNode p u l.item
@@ -52,7 +52,6 @@ pub record IsLevelAt (p : Puzzle) (u t : List Move) (l : Level) : Type 0 where
   pub walking : l.walks ≡ walks p u l.item
   pub tweaks : l.tweaks ≡ (if l.walks then 0 else min l.begun (length (options_at p u l.item)))
   pub option : l.option ≡ option_map (λ o. o.number) (numbered_get (options_at p u l.item) l.begun)
-  -- what stands before a branch
   pub base : oldest l.base t ≡ tweaked l.tweaks l.item (opened p l.item u)
 
 -- a level of the newest moves
@@ -105,18 +104,14 @@ pub record IsStanding (p : Puzzle) (t : List Move) (ls : List Level) (down : Boo
   pub searchable : down ≡ true → IsSearchable p t
   pub shallow : down ≡ true → IsShallow p t ls
 
--- a level with no branch begun
+-- a level with no branch begun, by its mark, its base, its item, how many branches it has, and whether it walks
+abbrev pub unbegun : ℕ → ℕ → ℕ → ℕ → Bool → Level
+unbegun mark base i n w =
+    record { mark = mark; base = base; item = i; option = None; begun = 0; count = n; tweaks = 0; walks = w }
+
+-- the level that begins at item i, with n branches
 abbrev pub first_level : Puzzle → List Move → ℕ → ℕ → Level
-first_level p t i n = record {
-  mark = length t;
-  base = length (opened p i t);
-  item = i;
-  option = None;
-  begun = 0;
-  count = n;
-  tweaks = 0;
-  walks = walks p t i;
-}
+first_level p t i n = unbegun (length t) (length (opened p i t)) i n (walks p t i)
 
 -- a level on whose moves a branch was begun
 abbrev pub begun_level : Begun → Level → Level

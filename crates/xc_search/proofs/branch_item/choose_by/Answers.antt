@@ -1,30 +1,29 @@
-use Rattle.std.proofs.Common.{arith, ◌≡◌, sym, ◌∙◌, true, false, lt-ltb, le-ltb, Some, None, filter, ltb}
+use Rattle.std.proofs.Common.{arith, ℕ, List, ◌-◌, ◌<◌, ◌≡◌, sym, ◌∙◌, true, false, lt-ltb, le-ltb, Some, None, filter, ltb}
 use Rattle.xc_dance.specs.Moves.{next_above, open_items}
+use Rattle.xc_dance.specs.declared.dance.Move.{Move}
+use Rattle.xc_input.specs.Problem.{Puzzle, primary_count}
 use Rattle.xc_search.specs.Residuals.{branches_after, wanted_at}
 use Rattle.xc_search.proofs.residual.FirstFewest.{next_open, choice_first, choice_none, choice_next, choice_last, choice_settled, choice_done, fewer, once_more}
 use Rattle.xc_dance.proofs.MoveLemmas.ListLemmas.{next_above-gt}
 use Rattle.xc_search.proofs.branch_item.choose_by.Goals as goal
 
+-- the next open item stands further on
+nearer : (p : Puzzle) (t : List Move) (n k : ℕ) → next_above n (open_items p t) ≡ Some k → primary_count p - k < primary_count p - n
+nearer p t n k e = omega (arith, next_above-gt n k (open_items p t) e, next_open p t n k e)
+
 pub returns-in_err-item : goal.returns-in_err-item
 returns-in_err-item g c =
-    let p = c.args.problem.now.puzzle in
-    let t = (g.D.Dance.state c.args.dance.now).trail in
-    let e : next_above 0 (open_items p t) ≡ None = cc (c.in_err-item.ensures) in
-    c.from_residual.ensures ∙ sym (choice_none p t e)
+    c.from_residual.ensures ∙ sym (choice_none c.args.problem.now.puzzle (g.D.Dance.state c.args.dance.now).trail (cc (c.in_err-item.ensures)))
 
 pub count-fewest-requires-clause-open : goal.count-fewest-requires-clause-open
 count-fewest-requires-clause-open g c =
-    let p = c.args.problem.now.puzzle in
-    let t = (g.D.Dance.state c.args.dance.now).trail in
-    let e : next_above 0 (open_items p t) ≡ Some c.in_ok-item.item = cc (c.in_ok-item.ensures) in
-    next_open p t 0 c.in_ok-item.item e
+    next_open c.args.problem.now.puzzle (g.D.Dance.state c.args.dance.now).trail 0 c.in_ok-item.item (cc (c.in_ok-item.ensures))
 
 pub count-fewest-requires-clause-once : goal.count-fewest-requires-clause-once
 count-fewest-requires-clause-once g c h =
     let p = c.args.problem.now.puzzle in
     let t = (g.D.Dance.state c.args.dance.now).trail in
-    let e : next_above 0 (open_items p t) ≡ Some c.in_ok-item.item = cc (c.in_ok-item.ensures) in
-    once_more p t c.in_ok-item.item (c.requires.once h) (next_open p t 0 c.in_ok-item.item e)
+    once_more p t c.in_ok-item.item (c.requires.once h) (next_open p t 0 c.in_ok-item.item (cc (c.in_ok-item.ensures)))
 
 pub loop-fewest-init : goal.loop-fewest-init
 loop-fewest-init g c =
@@ -39,26 +38,17 @@ loop-fewest-init g c =
 
 pub count-n-requires-clause-open : goal.count-n-requires-clause-open
 count-n-requires-clause-open g c =
-    let p = c.args.problem.now.puzzle in
-    let t = (g.D.Dance.state c.args.dance.now).trail in
-    let e : next_above c.loop-fewest.at (open_items p t) ≡ Some c.in-Some.next = cc (c.in-Some.ensures) in
-    next_open p t c.loop-fewest.at c.in-Some.next e
+    next_open c.args.problem.now.puzzle (g.D.Dance.state c.args.dance.now).trail c.loop-fewest.at c.in-Some.next (cc (c.in-Some.ensures))
 
 pub count-n-requires-clause-once : goal.count-n-requires-clause-once
 count-n-requires-clause-once g c h =
     let p = c.args.problem.now.puzzle in
     let t = (g.D.Dance.state c.args.dance.now).trail in
-    let e : next_above c.loop-fewest.at (open_items p t) ≡ Some c.in-Some.next = cc (c.in-Some.ensures) in
-    once_more p t c.in-Some.next (c.requires.once h) (next_open p t c.loop-fewest.at c.in-Some.next e)
+    once_more p t c.in-Some.next (c.requires.once h) (next_open p t c.loop-fewest.at c.in-Some.next (cc (c.in-Some.ensures)))
 
 pub loop-fewest-smaller-then-n-fewest : goal.loop-fewest-smaller-then-n-fewest
 loop-fewest-smaller-then-n-fewest g c =
-    let p = c.args.problem.now.puzzle in
-    let t = (g.D.Dance.state c.args.dance.now).trail in
-    let e : next_above c.loop-fewest.at (open_items p t) ≡ Some c.in-Some.next = cc (c.in-Some.ensures) in
-    let above = next_above-gt c.loop-fewest.at c.in-Some.next (open_items p t) e in
-    let in_range = next_open p t c.loop-fewest.at c.in-Some.next e in
-    omega arith
+    nearer c.args.problem.now.puzzle (g.D.Dance.state c.args.dance.now).trail c.loop-fewest.at c.in-Some.next (cc (c.in-Some.ensures))
 
 pub loop-fewest-preserved-then-n-fewest : goal.loop-fewest-preserved-then-n-fewest
 loop-fewest-preserved-then-n-fewest g c =
@@ -74,12 +64,7 @@ loop-fewest-preserved-then-n-fewest g c =
 
 pub loop-fewest-smaller : goal.loop-fewest-smaller
 loop-fewest-smaller g c =
-    let p = c.args.problem.now.puzzle in
-    let t = (g.D.Dance.state c.args.dance.now).trail in
-    let e : next_above c.loop-fewest.at (open_items p t) ≡ Some c.in-Some.next = cc (c.in-Some.ensures) in
-    let above = next_above-gt c.loop-fewest.at c.in-Some.next (open_items p t) e in
-    let in_range = next_open p t c.loop-fewest.at c.in-Some.next e in
-    omega arith
+    nearer c.args.problem.now.puzzle (g.D.Dance.state c.args.dance.now).trail c.loop-fewest.at c.in-Some.next (cc (c.in-Some.ensures))
 
 pub loop-fewest-preserved : goal.loop-fewest-preserved
 loop-fewest-preserved g c =

@@ -1,4 +1,4 @@
-use Rattle.std.proofs.Common.{◌≡◌, ◌∙◌, sym, ap, subst, map, refl, arith, ◌≤◌, ◌<◌, ◌+◌, length, [], ◌∷◌, nat_lt, ◌&&◌, ◌++◌, ◌-◌, Vec, Global, is_ok}
+use Rattle.std.proofs.Common.{ℕ, vec_len, ◌≡◌, ◌∙◌, sym, ap, subst, map, refl, arith, ◌≤◌, ◌<◌, ◌+◌, length, [], ◌∷◌, nat_lt, ◌&&◌, ◌++◌, ◌-◌, Vec, Global, is_ok}
 use Rattle.xc_input.specs.Tokens.{tokens}
 use Rattle.xc_input.specs.Sheets.{use_count, number_uses, with_uses}
 use Rattle.xc_input.specs.Faults.{has_primary, option_checks, context}
@@ -14,6 +14,10 @@ use Rattle.xc_input.proofs.OptionLemmas.{pushed}
 use Rattle.xc_input.proofs.MarkLemmas.{written-back}
 use Rattle.xc_input.proofs.BuilderLemmas.{keys-few, keys-count, content-is, uses-length, no-primary, too-long, fits, taken}
 use Rattle.xc_input.proofs.builder.ProblemBuilder.take_option.Goals as goal
+
+-- no more is added than there is room for
+room_left : {A B : Type 0} (old : Vec A Global) (new : Vec B Global) (n m : ℕ) → n ≡ vec_len old → m ≡ vec_len new → length old.items ≤ most_uses → m ≤ most_uses - n → length old.items + length new.items ≤ most_uses
+room_left old new n m e f few less = omega (arith, e ∙ items-length old, f ∙ items-length new, few, less)
 
 pub option_line-requires-clause-few : goal.option_line-requires-clause-few
 option_line-requires-clause-few c = keys-few c.args.self.now c.requires.sound
@@ -44,32 +48,20 @@ returns-then-len-clause-judged c =
 
 pub overflow_cast-len : goal.overflow_cast-len
 overflow_cast-len c =
-    let u : c.len-2.result ≡ length c.args.self.now.uses.items = c.len-2.ensures ∙ items-length c.args.self.now.uses in
-    let v : c.len.result ≡ length c.in_ok-uses.uses.items = c.len.ensures ∙ items-length c.in_ok-uses.uses in
-    let few : length c.args.self.now.uses.items ≤ 10000000 = c.requires.sound.few_uses in
-    let less : c.len.result ≤ 10000000 - c.len-2.result = c.if-len.false in
-    let w : c.len-3.result ≡ length c.add_uses.new.uses.items = c.len-3.ensures ∙ items-length c.add_uses.new.uses in
-    let x : c.as_slice-2.result.now ≡ c.in_ok-uses.uses.items = c.as_slice-2.ensures.value in
-    let y : length c.add_uses.new.uses.items ≡ length c.args.self.now.uses.items + length c.in_ok-uses.uses.items = uses-length c.args.self.now.uses.items c.add_uses.new.uses.items (key_names c.args.self.now.colours.keys) c.in_ok-uses.uses.items
-    (c.in_ok-add_uses.ensures.uses ∙ ap (λ xs. c.args.self.now.uses.items ++ number_uses (key_names c.args.self.now.colours.keys) (map written_of xs)) x) in
-    let z : c.len-3.result ≤ 10000000 = omega arith in
-    omega (arith, z)
+    let room = room_left c.args.self.now.uses c.in_ok-uses.uses c.len-2.result c.len.result c.len-2.ensures c.len.ensures c.requires.sound.few_uses c.if-len.false in
+    let total = uses-length c.args.self.now.uses.items c.add_uses.new.uses.items (key_names c.args.self.now.colours.keys) c.in_ok-uses.uses.items
+    (c.in_ok-add_uses.ensures.uses ∙ ap (λ xs. c.args.self.now.uses.items ++ number_uses (key_names c.args.self.now.colours.keys) (map written_of xs)) c.as_slice-2.ensures.value) in
+    omega (arith, room, total, c.len-3.ensures ∙ items-length c.add_uses.new.uses)
 
 pub returns-clause-judged : goal.returns-clause-judged
 returns-clause-judged c =
-    let u : c.len-2.result ≡ length c.args.self.now.uses.items = c.len-2.ensures ∙ items-length c.args.self.now.uses in
-    let v : c.len.result ≡ length c.in_ok-uses.uses.items = c.len.ensures ∙ items-length c.in_ok-uses.uses in
-    let few : length c.args.self.now.uses.items ≤ 10000000 = c.requires.sound.few_uses in
-    let less : c.len.result ≤ 10000000 - c.len-2.result = c.if-len.false in
+    let room = room_left c.args.self.now.uses c.in_ok-uses.uses c.len-2.result c.len.result c.len-2.ensures c.len.ensures c.requires.sound.few_uses c.if-len.false in
     fits c.args.kind c.args.self.now c.args.line.now c.requires.sound c.requires.started c.in_ok-uses.uses.items c.in_ok-uses.ensures.uses c.in_ok-uses.ensures.judged c.has_primary_use.result
-    (c.has_primary_use.ensures ∙ ap (λ xs. has_primary c.args.self.now.primary (map written_of xs)) c.as_slice.ensures.value) (omega arith)
+    (c.has_primary_use.ensures ∙ ap (λ xs. has_primary c.args.self.now.primary (map written_of xs)) c.as_slice.ensures.value) room
 
 pub returns-clause-taken : goal.returns-clause-taken
 returns-clause-taken c =
-    let u : c.len-2.result ≡ length c.args.self.now.uses.items = c.len-2.ensures ∙ items-length c.args.self.now.uses in
-    let v : c.len.result ≡ length c.in_ok-uses.uses.items = c.len.ensures ∙ items-length c.in_ok-uses.uses in
-    let few : length c.args.self.now.uses.items ≤ 10000000 = c.requires.sound.few_uses in
-    let less : c.len.result ≤ 10000000 - c.len-2.result = c.if-len.false in
+    let room = room_left c.args.self.now.uses c.in_ok-uses.uses c.len-2.result c.len.result c.len-2.ensures c.len.ensures c.requires.sound.few_uses c.if-len.false in
     let x : c.as_slice-2.result.now ≡ c.in_ok-uses.uses.items = c.as_slice-2.ensures.value in
     let same : length c.option_line.new.marks ≡ length c.args.self.now.marks.items = c.option_line.auto.marks ∙ ap length c.deref_mut.ensures.value in
     let back = written-back c.args.self.now.marks.len c.option_line.new.marks c.args.self.now.marks.items same (items-length c.args.self.now.marks) in
@@ -83,4 +75,4 @@ returns-clause-taken c =
     c.in_ok-add_uses.ensures.few
     (pushed c.push-2.result c.args.self.now.ends.items c.push-2.new.self.items c.len-3.result (ap is_ok c.in_ok-push-2.was) c.push-2.ensures.items
     ∙ ap (λ n. c.args.self.now.ends.items ++ n ∷ []) (c.len-3.ensures ∙ items-length c.add_uses.new.uses))
-    (omega arith)
+    room

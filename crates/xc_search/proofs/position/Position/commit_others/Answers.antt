@@ -1,14 +1,12 @@
-use Rattle.std.proofs.Common.{arith, [], Some, ◌≡◌, ◌+◌, ◌-◌, ◌≤◌, sym, ap, ◌∙◌, subst, drop, take, length}
+use Rattle.std.proofs.Common.{arith, [], Some, ◌≡◌, ◌+◌, ◌-◌, sym, ap, ◌∙◌, subst, drop, take, length}
 use Rattle.xc_dance.specs.Dancing.{Dancing}
-use Rattle.xc_dance.specs.Moves.{AreLegal}
-use Rattle.xc_search.specs.inner.Commits.{after_uses, others}
-use Rattle.xc_search.specs.Room.{room_for}
+use Rattle.xc_search.specs.inner.Commits.{MayStand, others}
 use Rattle.std.specs.Prelude.{All, unwrap_or}
 use Rattle.std.proofs.lemmas.List.Elements.{All-take, All-drop}
 use Rattle.xc_input.specs.declared.problem.Use.{Use}
 use Rattle.xc_input.specs.Problem.{Puzzle, IsItem, numbered_get, uses_of}
-use Rattle.xc_search.proofs.moves.LegalCommits.{legal_after_uses, other_uses, committed}
-use Rattle.xc_search.proofs.room.BranchFits.{fits_uses}
+use Rattle.xc_search.proofs.moves.LegalCommits.{other_uses, committed}
+use Rattle.xc_search.proofs.room.BranchFits.{stands_before}
 use Rattle.xc_search.proofs.position.Position.commit_others.Goals as goal
 use Rattle.xc_search.proofs.position.Position.commit_others.Goals.{After-place_of-at}
 
@@ -42,34 +40,16 @@ commit_front-requires-clause-items g c =
     subst (λ (s : Dancing). All (λ (u : Use). IsItem s.puzzle u.item) (take k us)) (sym c.commit_uses.ensures)
     (All-take is k us (items g (goal.at.commit_front-requires-clause-items g c).After-place_of-at))
 
-pub commit_uses-requires-clause-legal : goal.commit_uses-requires-clause-legal
-commit_uses-requires-clause-legal g c =
-    let s = c.args.self.now in
-    legal_after_uses s.puzzle (take c.place_of-at.result c.option-uses.result.now) _
-    (subst (λ (s : Dancing). AreLegal s.puzzle s.trail) (whole g (goal.at.commit_uses-requires-clause-legal g c).After-place_of-at) c.requires.legal)
-
-pub commit_uses-requires-clause-room : goal.commit_uses-requires-clause-room
-commit_uses-requires-clause-room g c =
-    let s = c.args.self.now in
-    let vs = c.option-uses.result.now in
-    let k = c.place_of-at.result in
-    omega (
-      arith,
-      c.requires.room,
-      ap (λ (s : Dancing). length s.trail) (whole g (goal.at.commit_uses-requires-clause-room g c).After-place_of-at),
-      fits_uses s.puzzle (take k vs) (after_uses s.puzzle (take (length vs - (k + 1)) (drop (k + 1) vs)) s.trail),
-    )
+pub commit_uses-requires-clause-stands : goal.commit_uses-requires-clause-stands
+commit_uses-requires-clause-stands g c =
+    stands_before c.args.self.now.puzzle (take c.place_of-at.result c.option-uses.result.now) _
+    (subst (λ (s : Dancing). MayStand s.puzzle s.trail) (whole g (goal.at.commit_uses-requires-clause-stands g c).After-place_of-at) c.requires.stands)
 
 -- once the uses behind were committed, those before it lead to the end
-pub commit_front-requires-clause-legal : goal.commit_front-requires-clause-legal
-commit_front-requires-clause-legal g c =
-    subst (λ (s : Dancing). AreLegal s.puzzle s.trail)
-    (whole g (goal.at.commit_front-requires-clause-legal g c).After-place_of-at ∙ ap (committed (take c.place_of-at.result c.option-uses.result.now)) (sym c.commit_uses.ensures)) c.requires.legal
-
-pub commit_front-requires-clause-room : goal.commit_front-requires-clause-room
-commit_front-requires-clause-room g c =
-    subst (λ (s : Dancing). length s.trail ≤ room_for s.puzzle)
-    (whole g (goal.at.commit_front-requires-clause-room g c).After-place_of-at ∙ ap (committed (take c.place_of-at.result c.option-uses.result.now)) (sym c.commit_uses.ensures)) c.requires.room
+pub commit_front-requires-clause-stands : goal.commit_front-requires-clause-stands
+commit_front-requires-clause-stands g c =
+    subst (λ (s : Dancing). MayStand s.puzzle s.trail)
+    (whole g (goal.at.commit_front-requires-clause-stands g c).After-place_of-at ∙ ap (committed (take c.place_of-at.result c.option-uses.result.now)) (sym c.commit_uses.ensures)) c.requires.stands
 
 pub returns-then-at-gt0 : goal.returns-then-at-gt0
 returns-then-at-gt0 g c =

@@ -1,20 +1,24 @@
-use Rattle.std.proofs.Common.{ℕ, arith, ◌≡◌, ◌+◌, ◌<◌, ◌≤◌, ◌≢◌, [], ◌∷◌, length, get_or, set, take, replicate, sym, ◌∙◌, ap, ap₂, subst}
+use Rattle.std.proofs.Common.{ℕ, List, arith, ◌≡◌, ◌+◌, ◌<◌, ◌≢◌, [], ◌∷◌, length, get_or, set, take, replicate, sym, ◌∙◌, ap, subst}
 use Rattle.std.proofs.lemmas.List.{get_or_default, length-replicate}
-use Rattle.std.proofs.lemmas.List.Elements.{recursion_from_All, All-from_recursion}
+use Rattle.std.proofs.lemmas.List.Elements.{recursion_from_All}
 use Rattle.xc_input.specs.declared.problem.Use.{Use}
 use Rattle.xc_input.specs.Problem.{item_count}
 use Rattle.xc_search.proofs.EachTwo.{AllPairs-from_each_two}
-use Rattle.xc_list.specs.inner.CoverCounts.{added, coloured, raised, uses_at, uses_in}
-use Rattle.xc_list.proofs.CheckLemmas.HeldItems.{AreItems, length-raised, length-added, length-coloured}
+use Rattle.xc_list.specs.inner.CoverCounts.{item_places, added, coloured, raised, uses_at, uses_in}
+use Rattle.xc_list.proofs.CheckLemmas.HeldItems.{length-raised, length-coloured}
 use Rattle.xc_list.proofs.CheckLemmas.Rotations.{DifferInItems}
-use Rattle.xc_list.proofs.CheckLemmas.CountedClasses.{AreBelow, classes_usable, slice_get-at, added_few, added_class_more, coloured_class_more, raised_few, raised_more}
+use Rattle.xc_list.proofs.CheckLemmas.CountedClasses.{AreBelow, known_items, classes_usable, slice_get-at, added_few, added_class_more, coloured_class_more, raised_few, raised_more}
 use Rattle.xc_list.proofs.checker.counts.Counts.count.Goals as goal
+
+-- counted from n zeros on
+size_counted : (n : ℕ) (ks ns now : List ℕ) → ns ≡ replicate n 0 → now ≡ raised ks ns → length now ≡ n
+size_counted n ks ns now e h = ap length h ∙ length-raised ks ns ∙ ap length e ∙ length-replicate {A = ℕ} n 0
 
 pub index_mut-requires : goal.index_mut-requires
 index_mut-requires c =
-    let k = c.loop-class.class-index in
-    let n = length c.args.options.now.classes in
-    omega (arith, c.requires.known k 0 c.loop-class-test.true, ap length c.loop-class.invariant.asked, length-raised (take k c.args.chosen.now) c.args.self.now.asked.items, ap length c.requires.asked, length-replicate {A = ℕ} n 0)
+    let i = c.loop-class.class-index in
+    let size = size_counted (length c.args.options.now.classes) (take i c.args.chosen.now) c.args.self.now.asked.items c.loop-class.self.asked.items c.requires.asked c.loop-class.invariant.asked in
+    omega (arith, c.requires.known i 0 c.loop-class-test.true, size)
 
 pub overflow_add-index_mut : goal.overflow_add-index_mut
 overflow_add-index_mut c =
@@ -25,7 +29,7 @@ overflow_add-index_mut c =
     let asked = c.loop-class.self.asked.items in
     let known : k < n = c.requires.known i 0 c.loop-class-test.true in
     let same : asked ≡ raised (take i ks) (replicate n 0) = c.loop-class.invariant.asked ∙ ap (raised (take i ks)) c.requires.asked in
-    let size : length asked ≡ n = ap length same ∙ length-raised (take i ks) (replicate n 0) ∙ length-replicate {A = ℕ} n 0 in
+    let size : length asked ≡ n = size_counted n (take i ks) c.args.self.now.asked.items asked c.requires.asked c.loop-class.invariant.asked in
     let read : c.index_mut.result.now ≡ get_or asked k 0 = c.index_mut.ensures.value ∙ get_or_default asked k c.index_mut.result.now 0 (omega (arith, known, size)) in
     let few = raised_few n ks i k known (omega (arith, c.loop-class-test.true)) in
     omega (arith, read, ap (λ l. get_or l k 0) same, few, c.loop-class-test.true)
@@ -33,16 +37,8 @@ overflow_add-index_mut c =
 pub add-requires-clause-items : goal.add-requires-clause-items
 add-requires-clause-items c =
     let b = c.args.options.now in
-    let n = item_count b.problem.puzzle in
-    let i = c.loop-class.class-index in
-    let k = get_or c.args.chosen.now i 0 in
-    let us = c.uses.result.now in
-    let is : uses_at b.classes k ≡ us = slice_get-at b.classes k us [] c.uses.ensures.value in
-    let usable = classes_usable b c.requires.indexed.sound c.requires.indexed.classes k (c.requires.known i 0 c.loop-class-test.true) in
-    let size : length c.loop-class.self.times.items ≡ n =
-    ap length c.loop-class.invariant.times ∙ length-added (uses_in b.classes (take i c.args.chosen.now)) c.args.self.now.times.items ∙ ap length c.requires.times ∙ length-replicate {A = ℕ} n 0
-    in
-    All-from_recursion (λ u. (1 ≤ u.item) × (u.item ≤ length c.loop-class.self.times.items)) us (subst (λ m. AreItems m us) (sym size) (subst (AreItems n) is usable.0))
+    let before = uses_in b.classes (take c.loop-class.class-index c.args.chosen.now) in
+    known_items b.problem c.uses.result.now (length c.loop-class.self.times.items) (size_counted (item_count b.problem.puzzle) (item_places before) c.args.self.now.times.items c.loop-class.self.times.items c.requires.times c.loop-class.invariant.times) c.uses.ensures.known
 
 pub add-requires-clause-distinct : goal.add-requires-clause-distinct
 add-requires-clause-distinct c =
@@ -57,18 +53,9 @@ add-requires-clause-distinct c =
 pub add-requires-clause-colours : goal.add-requires-clause-colours
 add-requires-clause-colours c =
     let b = c.args.options.now in
-    let n = item_count b.problem.puzzle in
-    let i = c.loop-class.class-index in
-    omega (
-      arith,
-      ap length c.loop-class.invariant.times,
-      length-added (uses_in b.classes (take i c.args.chosen.now)) c.args.self.now.times.items,
-      ap length c.requires.times,
-      length-replicate {A = ℕ} n 0,
-      ap length c.loop-class.invariant.colours,
-      length-coloured (uses_in b.classes (take i c.args.chosen.now)) c.args.self.now.colours.items,
-      c.requires.colours,
-    )
+    let before = uses_in b.classes (take c.loop-class.class-index c.args.chosen.now) in
+    ap length c.loop-class.invariant.colours ∙ length-coloured before c.args.self.now.colours.items ∙ c.requires.colours
+    ∙ sym (size_counted (item_count b.problem.puzzle) (item_places before) c.args.self.now.times.items c.loop-class.self.times.items c.requires.times c.loop-class.invariant.times)
 
 pub add-requires-clause-few : goal.add-requires-clause-few
 add-requires-clause-few c = λ k.
@@ -89,15 +76,14 @@ loop-class-preserved c =
     let i = c.loop-class.class-index in
     let k = get_or ks i 0 in
     let us = c.uses.result.now in
-    let is : uses_at b.classes k ≡ us = slice_get-at b.classes k us [] c.uses.ensures.value in
     let asked = c.loop-class.self.asked.items in
     let n = length b.classes in
-    let size : length asked ≡ n = ap length c.loop-class.invariant.asked ∙ length-raised (take i ks) c.args.self.now.asked.items ∙ ap length c.requires.asked ∙ length-replicate {A = ℕ} n 0 in
+    let size : length asked ≡ n = size_counted n (take i ks) c.args.self.now.asked.items asked c.requires.asked c.loop-class.invariant.asked in
     let known : k < n = c.requires.known i 0 c.loop-class-test.true in
     let read : set asked k (c.index_mut.result.now + 1) ≡ set asked k (get_or asked k 0 + 1) = ap (λ m. set asked k (m + 1)) (c.index_mut.ensures.value ∙ get_or_default asked k c.index_mut.result.now 0 (omega (arith, known, size))) in
     record {
-      times = c.add.ensures.times ∙ ap₂ added (sym is) c.loop-class.invariant.times ∙ sym (added_class_more b.classes ks i c.args.self.now.times.items c.loop-class-test.true);
-      colours = c.add.ensures.colours ∙ ap₂ coloured (sym is) c.loop-class.invariant.colours ∙ sym (coloured_class_more b.classes ks i c.args.self.now.colours.items c.loop-class-test.true);
+      times = c.add.ensures.times ∙ ap (added us) c.loop-class.invariant.times ∙ sym (added_class_more b.classes ks i us c.args.self.now.times.items c.loop-class-test.true c.uses.ensures.value);
+      colours = c.add.ensures.colours ∙ ap (coloured us) c.loop-class.invariant.colours ∙ sym (coloured_class_more b.classes ks i us c.args.self.now.colours.items c.loop-class-test.true c.uses.ensures.value);
       asked = ap (λ v. v.items) c.add.ensures.asked ∙ read ∙ ap (raised (k ∷ [])) c.loop-class.invariant.asked ∙ sym (raised_more ks i c.args.self.now.asked.items c.loop-class-test.true);
       short = c.add.ensures.short;
     }

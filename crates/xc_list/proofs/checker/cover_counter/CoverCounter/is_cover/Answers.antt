@@ -1,57 +1,44 @@
-use Rattle.std.proofs.Common.{ℕ, ◌≡◌, ◌∙◌, ◌==◌, ◌&&◌, length, replicate, sym, ap, ap₂, subst}
-use Rattle.std.specs.List.{list_all}
+use Rattle.std.proofs.Common.{ℕ, List, ◌≡◌, ◌∙◌, length, replicate, sym, ap, ap₂, subst}
 use Rattle.xc_input.specs.Problem.{item_count}
-use Rattle.xc_list.specs.inner.CoverCounts.{Places, item_places, uses_in, added, raised, cleared, lowered, short_of, is_class_met}
+use Rattle.xc_list.specs.inner.CoverCounts.{Places, item_places, uses_in, added, raised, lowered, short_of}
 use Rattle.xc_list.proofs.CheckLemmas.HeldItems.{length-raised, length-added, length-coloured}
 use Rattle.xc_list.proofs.CheckLemmas.CountedClasses.{lowered_back}
-use Rattle.xc_list.proofs.CheckLemmas.CountedCovers.{IsSolution, times_after, colours_after, asked_after, is_counted_cover, counted-cover, cover-counted}
+use Rattle.xc_list.proofs.CheckLemmas.CountedCovers.{IsSolution, times_after, asked_after, is_counted_cover, counted-cover, cover-counted}
 use Rattle.xc_list.proofs.checker.cover_counter.CoverCounter.is_cover.Goals as goal
+
+-- what was counted from zeros and then forgotten is as before
+forgotten : (ks ns : List ℕ) {now after : List ℕ} → ns ≡ replicate (length ns) 0 → now ≡ raised ks ns → after ≡ lowered ks now → after ≡ ns
+forgotten ks ns z e h = h ∙ ap (lowered ks) e ∙ lowered_back (length ns) ks ns z
 
 pub is_cover-cover-requires-clause-times : goal.is_cover-cover-requires-clause-times
 is_cover-cover-requires-clause-times c =
-    let old = c.self.inside.counts in
     let us = uses_in c.args.options.now.classes c.args.chosen.now in
-    let places = c.self.view_is ∙ c.requires.places in
-    ap length c.count.ensures.times ∙ length-added us old.times.items ∙ ap (λ (v : Places). v.items) places
+    ap length c.count.ensures.times ∙ length-added us c.self.inside.counts.times.items ∙ ap (λ (v : Places). v.items) (c.self.view_is ∙ c.requires.places)
 
 pub is_cover-cover-requires-clause-colours : goal.is_cover-cover-requires-clause-colours
 is_cover-cover-requires-clause-colours c =
-    let old = c.self.inside.counts in
     let us = uses_in c.args.options.now.classes c.args.chosen.now in
-    let places = c.self.view_is ∙ c.requires.places in
-    ap length c.count.ensures.colours ∙ length-coloured us old.colours.items ∙ c.self.invariant.colours ∙ ap (λ (v : Places). v.items) places
+    ap length c.count.ensures.colours ∙ length-coloured us c.self.inside.counts.colours.items ∙ c.self.invariant.colours ∙ ap (λ (v : Places). v.items) (c.self.view_is ∙ c.requires.places)
 
 pub is_cover-cover-requires-clause-asked : goal.is_cover-cover-requires-clause-asked
 is_cover-cover-requires-clause-asked c =
-    let old = c.self.inside.counts in
-    let places = c.self.view_is ∙ c.requires.places in
-    ap length c.count.ensures.asked ∙ length-raised c.args.chosen.now old.asked.items ∙ ap (λ (v : Places). v.classes) places
+    ap length c.count.ensures.asked ∙ length-raised c.args.chosen.now c.self.inside.counts.asked.items ∙ ap (λ (v : Places). v.classes) (c.self.view_is ∙ c.requires.places)
 
 pub clear-requires-clause-times : goal.clear-requires-clause-times
 clear-requires-clause-times c =
-    let old = c.self.inside.counts in
     let us = uses_in c.args.options.now.classes c.args.chosen.now in
-    let places = c.self.view_is ∙ c.requires.places in
-    ap length c.count.ensures.times ∙ length-added us old.times.items ∙ ap (λ (v : Places). v.items) places
+    ap length c.count.ensures.times ∙ length-added us c.self.inside.counts.times.items ∙ ap (λ (v : Places). v.items) (c.self.view_is ∙ c.requires.places)
 
 pub clear-requires-clause-asked : goal.clear-requires-clause-asked
 clear-requires-clause-asked c =
-    let old = c.self.inside.counts in
-    let places = c.self.view_is ∙ c.requires.places in
-    ap length c.count.ensures.asked ∙ length-raised c.args.chosen.now old.asked.items ∙ ap (λ (v : Places). v.classes) places
+    ap length c.count.ensures.asked ∙ length-raised c.args.chosen.now c.self.inside.counts.asked.items ∙ ap (λ (v : Places). v.classes) (c.self.view_is ∙ c.requires.places)
 
 pub invariant_of-self : goal.invariant_of-self
 invariant_of-self c =
-    let b = c.args.options.now in
-    let ks = c.args.chosen.now in
-    let n = item_count b.problem.puzzle in
-    let us = uses_in b.classes ks in
+    let us = uses_in c.args.options.now.classes c.args.chosen.now in
     let old = c.self.inside.counts in
-    let places = c.self.view_is ∙ c.requires.places in
-    let zeros : old.times.items ≡ replicate n 0 = c.self.invariant.times ∙ ap (λ (v : Places). replicate v.items 0) places in
-    let nones : old.asked.items ≡ replicate (length b.classes) 0 = c.self.invariant.asked ∙ ap (λ (v : Places). replicate v.classes 0) places in
-    let times : c.clear.new.self.times.items ≡ old.times.items = c.clear.ensures.times ∙ ap (cleared us) c.count.ensures.times ∙ lowered_back n (item_places us) old.times.items zeros in
-    let asked : c.clear.new.self.asked.items ≡ old.asked.items = c.clear.ensures.asked ∙ ap (lowered ks) c.count.ensures.asked ∙ lowered_back (length b.classes) ks old.asked.items nones in
+    let times = forgotten (item_places us) old.times.items c.self.invariant.times c.count.ensures.times c.clear.ensures.times in
+    let asked = forgotten c.args.chosen.now old.asked.items c.self.invariant.asked c.count.ensures.asked c.clear.ensures.asked in
     record {
       times = subst (λ ts. ts ≡ replicate {A = ℕ} (length ts) 0) (sym times) c.self.invariant.times;
       colours = ap (λ v. length v.items) c.clear.ensures.colours ∙ ap length c.count.ensures.colours ∙ length-coloured us old.colours.items ∙ c.self.invariant.colours ∙ sym (ap length times);
@@ -61,18 +48,11 @@ invariant_of-self c =
 
 pub returns-clause-same : goal.returns-clause-same
 returns-clause-same c =
-    let b = c.args.options.now in
-    let ks = c.args.chosen.now in
-    let n = item_count b.problem.puzzle in
-    let us = uses_in b.classes ks in
+    let us = uses_in c.args.options.now.classes c.args.chosen.now in
     let old = c.self.inside.counts in
-    let stored = c.self.inside.bounds.items in
-    let places = c.self.view_is ∙ c.requires.places in
-    let zeros : old.times.items ≡ replicate n 0 = c.self.invariant.times ∙ ap (λ (v : Places). replicate v.items 0) places in
-    let nones : old.asked.items ≡ replicate (length b.classes) 0 = c.self.invariant.asked ∙ ap (λ (v : Places). replicate v.classes 0) places in
-    let times : c.clear.new.self.times.items ≡ old.times.items = c.clear.ensures.times ∙ ap (cleared us) c.count.ensures.times ∙ lowered_back n (item_places us) old.times.items zeros in
-    let asked : c.clear.new.self.asked.items ≡ old.asked.items = c.clear.ensures.asked ∙ ap (lowered ks) c.count.ensures.asked ∙ lowered_back (length b.classes) ks old.asked.items nones in
-    ap₂ (λ i k. let v : Places = record { bounds = stored; items = i; classes = k } in v) (ap length times) (ap length asked) ∙ c.self.view_is
+    let times = forgotten (item_places us) old.times.items c.self.invariant.times c.count.ensures.times c.clear.ensures.times in
+    let asked = forgotten c.args.chosen.now old.asked.items c.self.invariant.asked c.count.ensures.asked c.clear.ensures.asked in
+    ap₂ (λ i k. let v : Places = record { bounds = c.self.inside.bounds.items; items = i; classes = k } in v) (ap length times) (ap length asked) ∙ c.self.view_is
 
 pub returns-clause-decided : goal.returns-clause-decided
 returns-clause-decided c = λ reps z.
@@ -97,11 +77,6 @@ returns-clause-decided c = λ reps z.
       taken = z;
     } in
     let is : c.is_cover-cover.result ≡ is_counted_cover b stored cs ks =
-    c.is_cover-cover.ensures
-    ∙ ap (λ m. m == 0 && list_all (is_class_met b c.deref-2.result.now c.count.new.self.times.items c.count.new.self.colours.items c.count.new.self.asked.items) ks) short
-    ∙ ap (λ l. short_of stored (times_after b ks) == 0 && list_all (is_class_met b l c.count.new.self.times.items c.count.new.self.colours.items c.count.new.self.asked.items) ks) c.deref-2.ensures.value
-    ∙ ap (λ ts. short_of stored (times_after b ks) == 0 && list_all (is_class_met b stored ts c.count.new.self.colours.items c.count.new.self.asked.items) ks) times
-    ∙ ap (λ ds. short_of stored (times_after b ks) == 0 && list_all (is_class_met b stored (times_after b ks) ds c.count.new.self.asked.items) ks) c.count.ensures.colours
-    ∙ ap (λ ns. short_of stored (times_after b ks) == 0 && list_all (is_class_met b stored (times_after b ks) (colours_after b ks cs) ns) ks) asked
+    c.is_cover-cover.ensures ∙ simp (short, c.deref-2.ensures.value, times, c.count.ensures.colours, asked)
     in
     (λ h. counted-cover b stored cs ks reps solution (sym is ∙ h), λ h. is ∙ cover-counted b stored cs ks reps solution h)
