@@ -14,7 +14,7 @@ use Rattle.xc_input.specs.Problem.{uses_of}
 use Rattle.xc_input.specs.Named.{Named, IsKnownUse, IsSound}
 use Rattle.xc_input.proofs.FaultLemmas.{no-place, map-snoc}
 use Rattle.xc_input.proofs.TokenLemmas.{position-map, not_false}
-use Rattle.xc_search.proofs.Members.{IsIn, in-contains, slice_get-in}
+use Rattle.xc_input.proofs.lists.Members.{IsIn, in-contains, slice_get-in}
 use Rattle.xc_list.specs.ListingLines.{words_in}
 use Rattle.xc_list.specs.Output.{rotated_at, use_word}
 use Rattle.xc_list.specs.Listed.{is_body, is_known, stands_for}

@@ -4,7 +4,7 @@ use Rattle.xc_list.proofs.CheckLemmas.BodiesOfClasses.{All-turned, is-body}
 use Rattle.xc_list.proofs.CheckLemmas.ListedNumbers.{any-in, at_bytes, numbered_some}
 use Rattle.xc_list.proofs.CheckLemmas.ReadUses.{plain-word}
 use Rattle.xc_list.proofs.CheckLemmas.DecidedByClasses.{uses-in}
-use Rattle.xc_search.proofs.Members.{in-slice_get}
+use Rattle.xc_input.proofs.lists.Members.{in-slice_get}
 use Rattle.std.proofs.Common.{◌≡◌, ◌≢◌, ℕ, zero, suc, ◌+◌, ◌<◌, ◌≤◌, Bool, true, false, not, ◌&&◌, ◌||◌, nat_eq, List, [], ◌∷◌, Option, None, Some, length, map, take, drop, get_or, refl, ap, ◌∙◌, arith, length-append}
 use Rattle.std.specs.Prelude.{All, codes, is_some, slice_get, MatchOption, ◌==◌, if◌then◌else◌}
 use Rattle.std.specs.List.{list_any, position_or_len, range_with_len}
@@ -21,7 +21,7 @@ use Rattle.xc_input.specs.Words.{has}
 use Rattle.xc_input.specs.Tokens.{is_space}
 use Rattle.xc_input.proofs.GrammarLemmas.{or-both, and-both}
 use Rattle.xc_input.proofs.Known.{at_number, known_option}
-use Rattle.xc_search.proofs.Places.{get_take}
+use Rattle.xc_input.proofs.lists.Places.{get_take}
 use Rattle.xc_search.specs.declared.choice.Choice.{Choice}
 use Rattle.xc_list.specs.Known.{IsKnownChoice}
 use Rattle.xc_list.specs.Output.{rotated_at, bytes_at, colour_text, use_word}

@@ -10,8 +10,8 @@ use Rattle.xc_input.specs.Problem.{Puzzle, Numbered, numbered_options, numbered_
 use Rattle.xc_dance.specs.Moves.{listed, is_open, without, AreLegal}
 use Rattle.xc_search.specs.Room.{use_count}
 use Rattle.xc_search.specs.inner.Sparing.{uses_in}
-use Rattle.xc_input.proofs.ListFilters.{length-filter-le}
-use Rattle.xc_search.proofs.lists.Totals.{total, total_zero, total_le, total_less, one_if, total_same, total_two, total_once}
+use Rattle.xc_input.proofs.lists.Filters.{length-filter-le}
+use Rattle.xc_input.proofs.lists.Totals.{total, total_zero, total_le, total_less, one_if, total_same, total_two, total_once}
 
 abbrev pub tweakings : List Move → ℕ
 tweakings [] = 0

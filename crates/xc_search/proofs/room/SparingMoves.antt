@@ -14,7 +14,7 @@ use Rattle.xc_dance.specs.Left.{left}
 use Rattle.xc_search.specs.inner.Commits.{opened, tweaked, after_use, after_uses, others, place_in, closed}
 use Rattle.xc_search.specs.Room.{use_count}
 use Rattle.xc_search.specs.inner.Sparing.{spendings, uses_in, IsSparing}
-use Rattle.xc_input.proofs.ListFilters.{length-filter-le}
+use Rattle.xc_input.proofs.lists.Filters.{length-filter-le}
 use Rattle.xc_search.proofs.listing.BranchesLess.{less_items, least_is_one}
 use Rattle.xc_search.proofs.room.FewTweaks.{uses_whole}
 use Rattle.std.proofs.lemmas.List.{length-map, length-take}
