@@ -4,6 +4,7 @@ use Rattle.std.proofs.lemmas.Bool.Decides.{nat_tests}
 use Rattle.std.proofs.lemmas.Slice.Eq.{bytes_eq-Decides}
 use Rattle.std.specs.List.{list_any, position_or_len}
 use Rattle.std.specs.Str.{bytes_eq}
+use Rattle.xc_input.specs.Problem.{use_count}
 use Rattle.xc_input.specs.declared.kind.Kind.{Kind}
 use Rattle.xc_input.specs.declared.fault.FaultKind.TheVariants.{TooManyUses}
 use Rattle.xc_input.specs.declared.problem.Use.{Use}
@@ -11,7 +12,7 @@ use Rattle.xc_input.specs.declared.option_line.WrittenUse.{WrittenUse}
 use Rattle.xc_input.specs.declared.builder.ProblemBuilder.{ProblemBuilder}
 use Rattle.xc_input.specs.Words.{place}
 use Rattle.xc_input.specs.Tokens.{tokens, parts}
-use Rattle.xc_input.specs.Sheets.{names_of, colour_number, use_count, number_uses, with_uses}
+use Rattle.xc_input.specs.Sheets.{names_of, colour_number, number_uses, with_uses}
 use Rattle.xc_input.specs.Faults.{first, option_checks, has_primary, row_checks, no_row, context, written}
 use Rattle.xc_input.specs.Limits.{most_uses, most_items}
 use Rattle.xc_input.specs.Stages.{content_checks, with_option, written_by}

@@ -1,7 +1,7 @@
 //! A problem as it was read.
 
 ghost use Rattle.std.specs.Prelude.{◌≡◌, ◌≢◌, ◌<◌, ◌≤◌, ◌∷◌, ℕ, length, map, drop, get_or, sum_by, Some, All, IfSome, IfNone};
-ghost use Rattle.xc_input.specs.Problem.{IsValid, IsWithinLimits, IsSoundOption, AreSoundBounds, primary_count, item_count, option_count, IsItem, numbered_get, bounds_at, IsPrimary, IsSecondary};
+ghost use Rattle.xc_input.specs.Problem.{IsValid, IsWithinLimits, IsSoundOption, AreSoundBounds, primary_count, item_count, option_count, IsItem, numbered_get, bounds_at, IsPrimary, IsSecondary, use_count, IsOption};
 ghost use Rattle.xc_input.specs.Limits.{greatest_bound, most_uses};
 ghost use Rattle.xc_input.specs.Flat.{bounds_of, secondary_bounds, pieces, AreStarts};
 ghost use Rattle.xc_input.specs.inner.Vectors.{IsOptional, named_from};
@@ -187,7 +187,7 @@ impl Problem {
 
     /// The uses of the option of this number, in file order.
     pub fn option(&self, o: u32) -> &[Use]
-        requires known { (1 ≤ o) × (o ≤ option_count self.now.puzzle) }
+        requires known { IsOption self.now.puzzle o }
         ensures value { numbered_get self.now.puzzle.options o ≡ Some result.now }
         ensures known { All (IsKnownUse self.now) result.now }
         ensures whole { IsSound self.now }
@@ -197,7 +197,7 @@ impl Problem {
 
     /// How many uses all options have.
     pub fn uses(&self) -> usize
-        ensures value { result ≡ sum_by (λ us. length us) self.now.puzzle.options }
+        ensures value { result ≡ use_count self.now.puzzle.options }
         ensures whole { IsSound self.now }
     {
         self.uses.len()

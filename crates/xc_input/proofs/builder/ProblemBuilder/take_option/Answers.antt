@@ -1,6 +1,7 @@
 use Rattle.std.proofs.Common.{ℕ, vec_len, ◌≡◌, ◌∙◌, sym, ap, subst, map, refl, arith, ◌≤◌, ◌<◌, ◌+◌, length, [], ◌∷◌, nat_lt, ◌&&◌, ◌++◌, ◌-◌, Vec, Global, is_ok}
+use Rattle.xc_input.specs.Problem.{use_count}
 use Rattle.xc_input.specs.Tokens.{tokens}
-use Rattle.xc_input.specs.Sheets.{use_count, number_uses, with_uses}
+use Rattle.xc_input.specs.Sheets.{number_uses, with_uses}
 use Rattle.xc_input.specs.Faults.{has_primary, option_checks, context}
 use Rattle.xc_input.specs.Limits.{most_uses}
 use Rattle.xc_input.specs.Stages.{written_by}
