@@ -17,6 +17,7 @@ pub mod SoundLemmas
 pub mod FinishLemmas
 pub mod LineLemmas
 pub mod SourceLemmas
-pub mod lists
+pub mod EachElement
+pub mod ListFilters
 pub mod BooleanTests
 pub mod KindLemmas

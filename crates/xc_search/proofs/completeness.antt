@@ -1,6 +1,4 @@
 pub mod Complete
-pub mod Covering
-pub mod Exactly
 pub mod Once
 pub mod Passing
 pub mod Proper

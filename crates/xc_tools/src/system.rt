@@ -1,5 +1,5 @@
 //! The system's streams and files as sources and sinks.
-ghost use Rattle.std.specs.Prelude.{◌≡◌, ◌+◌, ◌-◌, ◌^◌, ◌<◌, ◌≤◌, ◌⊎◌, ◌↔◌, true, false, None, length, nat_eq, is_err, option_map, IfOk, IsErr, IsTrue, OnErr, OnOk, MatchResult, [], ◌∷◌, ◌++◌, take, drop};
+ghost use Rattle.std.specs.Prelude.{◌≡◌, ◌+◌, ◌-◌, ◌^◌, ◌<◌, ◌≤◌, ◌⊎◌, ◌↔◌, true, false, None, length, nat_eq, is_err, option_map, IfOk, IsErr, IsTrue, OnErr, OnOk, MatchResult, [], ◌∷◌, ◌++◌, take, drop, slice_range};
 ghost use Rattle.std.specs.Io.KnownBytes.{append_known, Appends, Keeps, ReadConsumes, WriteAppends};
 ghost use Rattle.xc_input.specs.Calls.{counted, is_failed_write};
 ghost use Rattle.xc_tools.specs.Streams.{left_of, ends_line, early, IsLittle, passed_of};
@@ -113,6 +113,7 @@ pub struct Outgoing<W: Write + Drop> {
     writer: W,
     by_line: bool,
     held: Vec<u8>,
+    start: usize,
     end: usize,
     /// How many bytes were passed on.
     passed: usize,
@@ -122,18 +123,22 @@ pub struct Outgoing<W: Write + Drop> {
     stuck: bool,
     failures: u64,
     failed: bool,
+    ghost ordered: { start ≤ end },
     ghost within: { end + calm ≤ 65536 },
     ghost little: { 0 < calm → end + calm ≤ early by_line passed },
     ghost countable: { passed ≤ 2 ^ 64 - 1 },
     ghost room: { length held.items ≡ 65536 },
 }
 
-/// Passes on the bytes, and says how many of them that were. A failed write isn't tried again.
-fn pass_on<W: Write>(writer: &mut W, bytes: &[u8]) -> usize
-    ensures within { result ≤ length bytes.now }
-    ensures passed { Appends (W.contents writer.old) (W.contents writer.new) (take result bytes.now) }
+/// Passes on the bytes from a place on, and says up to which place that went. A failed write isn't
+/// tried again.
+fn pass_on<W: Write>(writer: &mut W, bytes: &[u8], from: usize) -> usize
+    requires { from ≤ length bytes.now }
+    ensures within { (from ≤ result) × (result ≤ length bytes.now) }
+    ensures passed { Appends (W.contents writer.old) (W.contents writer.new)
+        (slice_range bytes.now from result) }
 {
-    let mut place = 0;
+    let mut place = from;
     while place < bytes.len() {
         match writer.write(&bytes[place..]) {
             Ok(n) if n > 0 => place += n,
@@ -141,16 +146,6 @@ fn pass_on<W: Write>(writer: &mut W, bytes: &[u8]) -> usize
         }
     }
     place
-}
-
-/// Moves the bytes from `n` to `end` to the front.
-fn remove_front(held: &mut [u8], n: usize, end: usize)
-    requires order { n ≤ end }
-    requires within { end ≤ length held.old }
-    ensures length { length held.new ≡ length held.old }
-    ensures rest { take (end - n) held.new ≡ drop n (take end held.old) }
-{
-    held.copy_within(n..end, 0);
 }
 
 /// How many bytes have to be held back for a line's end to pass them on, where so many were passed on
@@ -166,6 +161,7 @@ impl<W: Write + Drop> Outgoing<W> {
     pub fn new(alloc: Global, writer: W, by_line: bool) -> Result<Outgoing<W>, AllocError>
         ensures writer { IfOk result (λ s. s.writer ≡ writer) }
         ensures by_line { IfOk result (λ s. s.by_line ≡ by_line) }
+        ensures start { IfOk result (λ s. s.start ≡ 0) }
         ensures end { IfOk result (λ s. s.end ≡ 0) }
         ensures passed { IfOk result (λ s. s.passed ≡ 0) }
         ensures failures { IfOk result (λ s. s.failures ≡ 0) }
@@ -175,6 +171,7 @@ impl<W: Write + Drop> Outgoing<W> {
             writer,
             by_line,
             held: vec![in alloc; 0; HELD]?,
+            start: 0,
             end: 0,
             passed: 0,
             calm: 0,
@@ -188,6 +185,7 @@ impl<W: Write + Drop> Outgoing<W> {
     fn fail(&mut self) -> WriteFailed
         ensures writer { self.new.writer ≡ self.old.writer }
         ensures held { self.new.held ≡ self.old.held }
+        ensures start { self.new.start ≡ self.old.start }
         ensures end { self.new.end ≡ self.old.end }
         ensures by_line { self.new.by_line ≡ self.old.by_line }
         ensures passed { self.new.passed ≡ self.old.passed }
@@ -202,39 +200,43 @@ impl<W: Write + Drop> Outgoing<W> {
     /// Passes on what is held back, as far as that goes.
     #[inline(never)]
     fn pass(&mut self)
-        ensures stuck { IsTrue self.new.stuck ↔ (0 < self.new.end) }
+        ensures emptied { (self.new.start < self.new.end) ⊎ ((self.new.start ≡ 0) × (self.new.end ≡ 0)) }
+        ensures stuck { IsTrue self.new.stuck ↔ (self.new.start < self.new.end) }
         ensures by_line { self.new.by_line ≡ self.old.by_line }
-        ensures less { self.new.end ≤ self.old.end }
-        ensures passed { self.new.passed ≡ passed_of self.old.passed self.old.end self.new.end }
+        ensures less { self.new.end - self.new.start ≤ self.old.end - self.old.start }
+        ensures passed { self.new.passed ≡ passed_of self.old.passed
+            (self.old.end - self.old.start) (self.new.end - self.new.start) }
         ensures failures { self.new.failures ≡ self.old.failures }
         ensures failed { self.new.failed ≡ self.old.failed }
         ensures bytes { Keeps
-            (append_known (W.contents self.old.writer) (take self.old.end self.old.held.items))
-            (append_known (W.contents self.new.writer) (take self.new.end self.new.held.items)) }
+            (append_known (W.contents self.old.writer) (slice_range self.old.held.items self.old.start self.old.end))
+            (append_known (W.contents self.new.writer) (slice_range self.new.held.items self.new.start self.new.end)) }
     {
-        let passed = pass_on(&mut self.writer, &self.held[..self.end]);
-        remove_front(&mut self.held, passed, self.end);
-        self.end -= passed;
-        self.passed = self.passed.saturating_add(passed);
-        self.stuck = self.end > 0;
-        self.calm = if self.stuck {
-            0
+        let place = pass_on(&mut self.writer, &self.held[..self.end], self.start);
+        self.passed = self.passed.saturating_add(place - self.start);
+        self.stuck = place < self.end;
+        if self.stuck {
+            self.start = place;
+            self.calm = 0;
         } else {
-            early(self.by_line, self.passed)
-        };
+            self.start = 0;
+            self.end = 0;
+            self.calm = early(self.by_line, self.passed);
+        }
     }
 
     /// Passes on what is held back, or fails.
     fn pass_held(&mut self) -> Result<(), WriteFailed>
-        ensures emptied { OnOk result (self.new.end ≡ 0) }
+        ensures emptied { OnOk result ((self.new.start ≡ 0) × (self.new.end ≡ 0)) }
         ensures by_line { self.new.by_line ≡ self.old.by_line }
-        ensures less { self.new.end ≤ self.old.end }
-        ensures passed { self.new.passed ≡ passed_of self.old.passed self.old.end self.new.end }
+        ensures less { self.new.end - self.new.start ≤ self.old.end - self.old.start }
+        ensures passed { self.new.passed ≡ passed_of self.old.passed
+            (self.old.end - self.old.start) (self.new.end - self.new.start) }
         ensures failures { self.new.failures ≡ counted (is_err result) self.old.failures }
         ensures failed { OnErr result (IsTrue self.new.failed) }
         ensures bytes { Keeps
-            (append_known (W.contents self.old.writer) (take self.old.end self.old.held.items))
-            (append_known (W.contents self.new.writer) (take self.new.end self.new.held.items)) }
+            (append_known (W.contents self.old.writer) (slice_range self.old.held.items self.old.start self.old.end))
+            (append_known (W.contents self.new.writer) (slice_range self.new.held.items self.new.start self.new.end)) }
     {
         self.pass();
         if self.stuck {
@@ -248,13 +250,14 @@ impl<W: Write + Drop> Outgoing<W> {
     fn make_room(&mut self) -> Result<(), WriteFailed>
         ensures room { OnOk result (self.new.end < 65536) }
         ensures by_line { self.new.by_line ≡ self.old.by_line }
-        ensures less { self.new.end ≤ self.old.end }
-        ensures passed { self.new.passed ≡ passed_of self.old.passed self.old.end self.new.end }
+        ensures less { self.new.end - self.new.start ≤ self.old.end - self.old.start }
+        ensures passed { self.new.passed ≡ passed_of self.old.passed
+            (self.old.end - self.old.start) (self.new.end - self.new.start) }
         ensures failures { self.new.failures ≡ counted (is_err result) self.old.failures }
         ensures failed { OnErr result (IsTrue self.new.failed) }
         ensures bytes { Keeps
-            (append_known (W.contents self.old.writer) (take self.old.end self.old.held.items))
-            (append_known (W.contents self.new.writer) (take self.new.end self.new.held.items)) }
+            (append_known (W.contents self.old.writer) (slice_range self.old.held.items self.old.start self.old.end))
+            (append_known (W.contents self.new.writer) (slice_range self.new.held.items self.new.start self.new.end)) }
     {
         if self.end < HELD && !self.stuck {
             return Ok(());
@@ -268,6 +271,7 @@ impl<W: Write + Drop> Outgoing<W> {
         requires room { self.old.end + length bytes.now + self.old.calm ≤ 65536 }
         requires calm { 0 < self.old.calm →
             self.old.end + length bytes.now + self.old.calm ≤ early self.old.by_line self.old.passed }
+        ensures start { self.new.start ≡ self.old.start }
         ensures end { self.new.end ≡ self.old.end + length bytes.now }
         ensures by_line { self.new.by_line ≡ self.old.by_line }
         ensures passed { self.new.passed ≡ self.old.passed }
@@ -275,8 +279,8 @@ impl<W: Write + Drop> Outgoing<W> {
         ensures failures { self.new.failures ≡ self.old.failures }
         ensures failed { self.new.failed ≡ false }
         ensures bytes { Appends
-            (append_known (W.contents self.old.writer) (take self.old.end self.old.held.items))
-            (append_known (W.contents self.new.writer) (take self.new.end self.new.held.items))
+            (append_known (W.contents self.old.writer) (slice_range self.old.held.items self.old.start self.old.end))
+            (append_known (W.contents self.new.writer) (slice_range self.new.held.items self.new.start self.new.end))
             bytes.now }
     {
         put(&mut self.held, self.end, bytes);
@@ -287,15 +291,16 @@ impl<W: Write + Drop> Outgoing<W> {
     /// Passes on what is held back where it is a line's end and there is enough of it.
     fn pass_line(&mut self, bytes: &[u8])
         ensures little { IsTrue (ends_line bytes.now) → IsTrue self.new.stuck
-            ⊎ IsLittle self.new.by_line self.new.passed self.new.end }
+            ⊎ IsLittle self.new.by_line self.new.passed (self.new.end - self.new.start) }
         ensures by_line { self.new.by_line ≡ self.old.by_line }
-        ensures less { self.new.end ≤ self.old.end }
-        ensures passed { self.new.passed ≡ passed_of self.old.passed self.old.end self.new.end }
+        ensures less { self.new.end - self.new.start ≤ self.old.end - self.old.start }
+        ensures passed { self.new.passed ≡ passed_of self.old.passed
+            (self.old.end - self.old.start) (self.new.end - self.new.start) }
         ensures failures { self.new.failures ≡ self.old.failures }
         ensures failed { self.new.failed ≡ self.old.failed }
         ensures bytes { Keeps
-            (append_known (W.contents self.old.writer) (take self.old.end self.old.held.items))
-            (append_known (W.contents self.new.writer) (take self.new.end self.new.held.items)) }
+            (append_known (W.contents self.old.writer) (slice_range self.old.held.items self.old.start self.old.end))
+            (append_known (W.contents self.new.writer) (slice_range self.new.held.items self.new.start self.new.end)) }
     {
         if self.calm == 0 && bytes.ends_with(b"\n") {
             self.pass();
@@ -307,17 +312,19 @@ impl<W: Write + Drop> Outgoing<W> {
     #[inline(never)]
     fn hold_part(&mut self, bytes: &[u8]) -> Result<usize, WriteFailed>
         ensures little { IfOk result (λ n. IsTrue (ends_line (take n bytes.now)) → IsTrue self.new.stuck
-            ⊎ IsLittle self.new.by_line self.new.passed self.new.end) }
+            ⊎ IsLittle self.new.by_line self.new.passed (self.new.end - self.new.start)) }
         ensures by_line { self.new.by_line ≡ self.old.by_line }
         ensures passed { MatchResult result
-            (λ n. self.new.passed ≡ passed_of self.old.passed (self.old.end + n) self.new.end)
-            (λ _. self.new.passed ≡ passed_of self.old.passed self.old.end self.new.end) }
+            (λ n. self.new.passed ≡ passed_of self.old.passed
+            ((self.old.end - self.old.start) + n) (self.new.end - self.new.start))
+            (λ _. self.new.passed ≡ passed_of self.old.passed
+            (self.old.end - self.old.start) (self.new.end - self.new.start)) }
         ensures bound { IfOk result (λ n. n ≤ length bytes.now) }
         ensures failures { self.new.failures ≡ counted (is_failed_write result bytes.now) self.old.failures }
         ensures failed { self.new.failed ≡ is_failed_write result bytes.now }
         ensures bytes { WriteAppends
-            (append_known (W.contents self.old.writer) (take self.old.end self.old.held.items))
-            (append_known (W.contents self.new.writer) (take self.new.end self.new.held.items))
+            (append_known (W.contents self.old.writer) (slice_range self.old.held.items self.old.start self.old.end))
+            (append_known (W.contents self.new.writer) (slice_range self.new.held.items self.new.start self.new.end))
             result bytes.now }
     {
         self.make_room()?;
@@ -371,8 +378,8 @@ impl<W: Write + Drop> Sink for Outgoing<W> {
     ghost state = { λ s. record {
       failures = s.failures;
       failed = s.failed;
-      taken = append_known (W.contents s.writer) (take s.end s.held.items);
-      settled = nat_eq s.end 0;
+      taken = append_known (W.contents s.writer) (slice_range s.held.items s.start s.end);
+      settled = nat_eq s.start s.end;
     } };
 
     #[inline(always)]
@@ -381,18 +388,20 @@ impl<W: Write + Drop> Sink for Outgoing<W> {
         ensures failures { self.new.failures ≡ counted (is_failed_write result bytes.now) self.old.failures }
         ensures failed { self.new.failed ≡ is_failed_write result bytes.now }
         ensures bytes { WriteAppends
-            (append_known (W.contents self.old.writer) (take self.old.end self.old.held.items))
-            (append_known (W.contents self.new.writer) (take self.new.end self.new.held.items))
+            (append_known (W.contents self.old.writer) (slice_range self.old.held.items self.old.start self.old.end))
+            (append_known (W.contents self.new.writer) (slice_range self.new.held.items self.new.start self.new.end))
             result bytes.now }
 
         // Behind a line's end little is held back, unless the system's write failed, which the next
         // call tries again.
         ensures little { IfOk result (λ n. IsTrue (ends_line (take n bytes.now)) → IsTrue self.new.stuck
-            ⊎ IsLittle self.new.by_line self.new.passed self.new.end) }
+            ⊎ IsLittle self.new.by_line self.new.passed (self.new.end - self.new.start)) }
         ensures by_line { self.new.by_line ≡ self.old.by_line }
         ensures passed { MatchResult result
-            (λ n. self.new.passed ≡ passed_of self.old.passed (self.old.end + n) self.new.end)
-            (λ _. self.new.passed ≡ passed_of self.old.passed self.old.end self.new.end) }
+            (λ n. self.new.passed ≡ passed_of self.old.passed
+            ((self.old.end - self.old.start) + n) (self.new.end - self.new.start))
+            (λ _. self.new.passed ≡ passed_of self.old.passed
+            (self.old.end - self.old.start) (self.new.end - self.new.start)) }
     {
         if bytes.len() >= self.calm {
             return self.hold_part(bytes);
@@ -406,11 +415,12 @@ impl<W: Write + Drop> Sink for Outgoing<W> {
         ensures failures { self.new.failures ≡ counted (is_err result) self.old.failures }
         ensures failed { self.new.failed ≡ is_err result }
         ensures bytes { Keeps
-            (append_known (W.contents self.old.writer) (take self.old.end self.old.held.items))
-            (append_known (W.contents self.new.writer) (take self.new.end self.new.held.items)) }
-        ensures settled { OnOk result (self.new.end ≡ 0) }
+            (append_known (W.contents self.old.writer) (slice_range self.old.held.items self.old.start self.old.end))
+            (append_known (W.contents self.new.writer) (slice_range self.new.held.items self.new.start self.new.end)) }
+        ensures settled { OnOk result (self.new.start ≡ self.new.end) }
         ensures by_line { self.new.by_line ≡ self.old.by_line }
-        ensures passed { self.new.passed ≡ passed_of self.old.passed self.old.end self.new.end }
+        ensures passed { self.new.passed ≡ passed_of self.old.passed
+            (self.old.end - self.old.start) (self.new.end - self.new.start) }
     {
         self.pass_held()?;
         if self.writer.flush().is_err() {

@@ -1,0 +1,2 @@
+pub mod LastChanged
+pub mod Totals
