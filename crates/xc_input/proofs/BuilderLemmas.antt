@@ -4,6 +4,7 @@ use Rattle.std.proofs.lemmas.Bool.Decides.{nat_tests}
 use Rattle.std.proofs.lemmas.Slice.Eq.{bytes_eq-Decides}
 use Rattle.std.specs.List.{list_any, position_or_len}
 use Rattle.std.specs.Str.{bytes_eq}
+use Rattle.xc_input.specs.Problem.{use_count}
 use Rattle.xc_input.specs.declared.kind.Kind.{Kind}
 use Rattle.xc_input.specs.declared.fault.FaultKind.TheVariants.{TooManyUses}
 use Rattle.xc_input.specs.declared.problem.Use.{Use}
@@ -11,16 +12,17 @@ use Rattle.xc_input.specs.declared.option_line.WrittenUse.{WrittenUse}
 use Rattle.xc_input.specs.declared.builder.ProblemBuilder.{ProblemBuilder}
 use Rattle.xc_input.specs.Words.{place}
 use Rattle.xc_input.specs.Tokens.{tokens, parts}
-use Rattle.xc_input.specs.Sheets.{names_of, colour_number, use_count, number_uses, with_uses}
+use Rattle.xc_input.specs.Sheets.{names_of, colour_number, number_uses, with_uses}
 use Rattle.xc_input.specs.Faults.{first, option_checks, has_primary, row_checks, no_row, context, written}
 use Rattle.xc_input.specs.Limits.{most_uses, most_items}
 use Rattle.xc_input.specs.Stages.{content_checks, with_option, written_by}
 use Rattle.xc_input.specs.inner.Builders.{AreMarks, AreNames, IsBuilder, stage_of_builder, sheet_of_builder, written_of, entry_of}
 use Rattle.xc_input.specs.Stored.{key_names}
-use Rattle.xc_input.specs.Flat.{pieces, AreStarts}
+use Rattle.xc_input.specs.Flat.{pieces}
+use Rattle.xc_input.specs.inner.Vectors.{AreOptionStarts}
 use Rattle.std.proofs.lemmas.List.{length-map}
 use Rattle.xc_input.proofs.SheetValidity.{number_uses-length}
-use Rattle.xc_input.proofs.FlatParts.{pieces-snoc, pieces-total}
+use Rattle.xc_input.proofs.FlatParts.{option-more, all-uses}
 use Rattle.xc_input.proofs.FaultLemmas.{first-back, no-place, map-length, names_of-length}
 
 -- the number of a colour that was added last
@@ -69,15 +71,15 @@ no-and true = refl
 no-and false = refl
 
 module _ (kind : Kind) (d : ProblemBuilder) (line : List ℕ) (s : IsBuilder d) (t : d.started ≡ true) where
-  uses-counted : use_count (pieces (0 ∷ d.ends.items) d.uses.items) ≡ length d.uses.items
-  uses-counted = let total = pieces-total 0 d.ends.items d.uses.items s.ends in omega (arith, total)
+  uses-counted : use_count (pieces d.starts.items d.uses.items) ≡ length d.uses.items
+  uses-counted = all-uses d.starts.items d.uses.items (s.starts t)
 
   -- the checks of the tokens, and then that of the whole line
   pub content-is : first (content_checks kind (stage_of_builder d) line)
-      ≡ first (option_checks (context kind (key_names d.names.keys) d.primary) [] (tokens line) ++ (TooManyUses, has_primary d.primary (written_by (sheet_of_builder d) line) && nat_lt most_uses (use_count (pieces (0 ∷ d.ends.items) d.uses.items) + length (tokens line))) ∷ [])
+      ≡ first (option_checks (context kind (key_names d.names.keys) d.primary) [] (tokens line) ++ (TooManyUses, has_primary d.primary (written_by (sheet_of_builder d) line) && nat_lt most_uses (use_count (pieces d.starts.items d.uses.items) + length (tokens line))) ∷ [])
   content-is =
-      ap (λ b. first (if b then option_checks (context kind (names_of (map entry_of d.items.items)) d.primary) [] (tokens line) ++ (TooManyUses, has_primary d.primary (written_by (sheet_of_builder d) line) && nat_lt most_uses (use_count (pieces (0 ∷ d.ends.items) d.uses.items) + length (tokens line))) ∷ [] else row_checks kind no_row (parts line))) t
-      ∙ ap (λ ns. first (option_checks (context kind ns d.primary) [] (tokens line) ++ (TooManyUses, has_primary d.primary (written_by (sheet_of_builder d) line) && nat_lt most_uses (use_count (pieces (0 ∷ d.ends.items) d.uses.items) + length (tokens line))) ∷ [])) (sym s.names)
+      ap (λ b. first (if b then option_checks (context kind (names_of (map entry_of d.items.items)) d.primary) [] (tokens line) ++ (TooManyUses, has_primary d.primary (written_by (sheet_of_builder d) line) && nat_lt most_uses (use_count (pieces d.starts.items d.uses.items) + length (tokens line))) ∷ [] else row_checks kind no_row (parts line))) t
+      ∙ ap (λ ns. first (option_checks (context kind ns d.primary) [] (tokens line) ++ (TooManyUses, has_primary d.primary (written_by (sheet_of_builder d) line) && nat_lt most_uses (use_count (pieces d.starts.items d.uses.items) + length (tokens line))) ∷ [])) (sym s.names)
 
   module _ (ps : List WrittenUse) (us : map written_of ps ≡ map (written (key_names d.names.keys)) (tokens line)) where
     pub by-parts : written_by (sheet_of_builder d) line ≡ map written_of ps
@@ -87,7 +89,7 @@ module _ (kind : Kind) (d : ProblemBuilder) (line : List ℕ) (s : IsBuilder d) 
       whole-line : first (content_checks kind (stage_of_builder d) line) ≡ (if b && nat_lt most_uses (length d.uses.items + length ps) then Some TooManyUses else None)
       whole-line =
           let n : length (tokens line) ≡ length ps = sym (length-map (tokens line) (written (key_names d.names.keys))) ∙ ap length (sym us) ∙ map-length written_of ps in
-          content-is ∙ first-back (option_checks (context kind (key_names d.names.keys) d.primary) [] (tokens line)) ((TooManyUses, has_primary d.primary (written_by (sheet_of_builder d) line) && nat_lt most_uses (use_count (pieces (0 ∷ d.ends.items) d.uses.items) + length (tokens line))) ∷ []) ok
+          content-is ∙ first-back (option_checks (context kind (key_names d.names.keys) d.primary) [] (tokens line)) ((TooManyUses, has_primary d.primary (written_by (sheet_of_builder d) line) && nat_lt most_uses (use_count (pieces d.starts.items d.uses.items) + length (tokens line))) ∷ []) ok
           ∙ (λ i. if (ap (has_primary d.primary) by-parts ∙ sym p) i && nat_lt most_uses (uses-counted i + n i) then Some TooManyUses else None)
 
       pub no-primary : b ≡ false → first (content_checks kind (stage_of_builder d) line) ≡ None
@@ -101,15 +103,15 @@ module _ (kind : Kind) (d : ProblemBuilder) (line : List ℕ) (s : IsBuilder d) 
 
     module _ (b : Bool) (p : b ≡ has_primary d.primary (map written_of ps)) (e : b ≡ true) (count : ℕ) (d' : ProblemBuilder) (same : (d'.started ≡ d.started) × (d'.names ≡ d.names) × (d'.items ≡ d.items) × (d'.primary ≡ d.primary) × (d'.ignored ≡ d.ignored))
         (uses : d'.uses.items ≡ d.uses.items ++ number_uses (key_names d.colours.keys) (map written_of ps)) (colours : key_names d'.colours.keys ≡ with_uses (key_names d.colours.keys) (map written_of ps))
-        (marks : length d'.marks.items ≡ length d'.items.items) (unmarked : AreMarks d'.marks.items []) (few : length (key_names d'.colours.keys) ≤ length d'.uses.items) (ends : d'.ends.items ≡ d.ends.items ++ length d'.uses.items ∷ []) (room : length d.uses.items + length ps ≤ most_uses) where
+        (marks : length d'.marks.items ≡ length d'.items.items) (unmarked : AreMarks d'.marks.items []) (few : length (key_names d'.colours.keys) ≤ length d'.uses.items) (starts : d'.starts.items ≡ d.starts.items ++ length d'.uses.items ∷ []) (room : length d.uses.items + length ps ≤ most_uses) where
       new-length : length d'.uses.items ≡ length d.uses.items + length ps
       new-length = uses-length d.uses.items d'.uses.items (key_names d.colours.keys) ps uses
 
-      cut : AreStarts (0 ∷ d.ends.items ++ length d'.uses.items ∷ []) (length (d.uses.items ++ number_uses (key_names d.colours.keys) (map written_of ps)))
-          × (pieces (0 ∷ d.ends.items ++ length d'.uses.items ∷ []) (d.uses.items ++ number_uses (key_names d.colours.keys) (map written_of ps)) ≡ pieces (0 ∷ d.ends.items) d.uses.items ++ number_uses (key_names d.colours.keys) (map written_of ps) ∷ [])
+      cut : AreOptionStarts (d.starts.items ++ length d'.uses.items ∷ []) (d.uses.items ++ number_uses (key_names d.colours.keys) (map written_of ps))
+          × (pieces (d.starts.items ++ length d'.uses.items ∷ []) (d.uses.items ++ number_uses (key_names d.colours.keys) (map written_of ps)) ≡ pieces d.starts.items d.uses.items ++ number_uses (key_names d.colours.keys) (map written_of ps) ∷ [])
       cut =
           let f : length (number_uses (key_names d.colours.keys) (map written_of ps)) ≡ length ps = number_uses-length (key_names d.colours.keys) (map written_of ps) ∙ map-length written_of ps in
-          pieces-snoc 0 d.ends.items d.uses.items (number_uses (key_names d.colours.keys) (map written_of ps)) (length d'.uses.items) s.ends (let n : length d'.uses.items ≡ length d.uses.items + length ps = new-length in omega arith)
+          option-more d.starts.items d.uses.items (number_uses (key_names d.colours.keys) (map written_of ps)) (length d'.uses.items) (s.starts t) (let n : length d'.uses.items ≡ length d.uses.items + length ps = new-length in omega arith)
 
       pub taken : IsBuilder d' × (stage_of_builder d' ≡ with_option count (stage_of_builder d) (written_by (sheet_of_builder d) line))
       taken = (
@@ -117,7 +119,8 @@ module _ (kind : Kind) (d : ProblemBuilder) (line : List ℕ) (s : IsBuilder d) 
           names = subst (λ k. key_names k.keys ≡ names_of (map entry_of d'.items.items)) (sym same.1) (subst (λ k. key_names d.names.keys ≡ names_of (map entry_of k.items)) (sym same.2) s.names);
           named = subst (λ k. AreNames (key_names k.keys)) (sym same.1) s.named;
           few_items = subst (λ k. length k.items ≤ most_items) (sym same.2) s.few_items;
-          ends = subst (λ es. AreStarts (0 ∷ es) (length d'.uses.items)) (sym ends) (subst (λ us. AreStarts (0 ∷ d.ends.items ++ length d'.uses.items ∷ []) (length us)) (sym uses) cut.0);
+          starts = λ _. subst (λ xs. AreOptionStarts xs d'.uses.items) (sym starts) (subst (AreOptionStarts (d.starts.items ++ length d'.uses.items ∷ [])) (sym uses) cut.0);
+          unstarted = λ e. absurd (let f : d'.started ≡ true = same.0 ∙ t in cc);
           few_uses = let n : length d'.uses.items ≡ length d.uses.items + length ps = new-length in omega arith;
           marks = marks;
           unmarked = unmarked;
@@ -128,7 +131,7 @@ module _ (kind : Kind) (d : ProblemBuilder) (line : List ℕ) (s : IsBuilder d) 
           sheet = record {
             entries = map entry_of (same.2 i).items;
             primaries = same.3 i;
-            options = ((λ j. pieces (0 ∷ ends j) (uses j)) ∙ cut.1) i;
+            options = ((λ j. pieces (starts j) (uses j)) ∙ cut.1) i;
             colours = colours i;
           };
           ignored = (same.4 i).items;
@@ -138,7 +141,7 @@ module _ (kind : Kind) (d : ProblemBuilder) (line : List ℕ) (s : IsBuilder d) 
               sheet = record {
                 entries = map entry_of d.items.items;
                 primaries = d.primary;
-                options = pieces (0 ∷ d.ends.items) d.uses.items ++ number_uses (key_names d.colours.keys) us ∷ [];
+                options = pieces d.starts.items d.uses.items ++ number_uses (key_names d.colours.keys) us ∷ [];
                 colours = with_uses (key_names d.colours.keys) us;
               };
               ignored = d.ignored.items;
@@ -148,7 +151,7 @@ module _ (kind : Kind) (d : ProblemBuilder) (line : List ℕ) (s : IsBuilder d) 
               sheet = record {
                 entries = map entry_of d.items.items;
                 primaries = d.primary;
-                options = pieces (0 ∷ d.ends.items) d.uses.items ++ number_uses (key_names d.colours.keys) (written_by (sheet_of_builder d) line) ∷ [];
+                options = pieces d.starts.items d.uses.items ++ number_uses (key_names d.colours.keys) (written_by (sheet_of_builder d) line) ∷ [];
                 colours = with_uses (key_names d.colours.keys) (written_by (sheet_of_builder d) line);
               };
               ignored = d.ignored.items;

@@ -1,5 +1,5 @@
 -- The answer at the end of a text.
-use Rattle.std.proofs.Common.{◌≡◌, ◌≤◌, ℕ, List, ◌∷◌, Option, None, Some, Bool, true, false, length, map, drop, All, ap, ◌∙◌, sym, subst, arith, MatchOption}
+use Rattle.std.proofs.Common.{◌≡◌, ◌≤◌, ℕ, List, Option, None, Some, Bool, true, false, length, map, drop, All, ap, ◌∙◌, sym, subst, arith, MatchOption}
 use Rattle.std.proofs.lemmas.List.{length-map}
 use Rattle.xc_input.specs.declared.kind.Kind.{Kind}
 use Rattle.xc_input.specs.declared.fault.InputError.{InputError}
@@ -10,9 +10,9 @@ use Rattle.xc_input.specs.Stages.{Stage, first_fault, stage_of, end_fault}
 use Rattle.xc_input.proofs.SheetValidity.{IsSheetOf}
 use Rattle.xc_input.specs.Text.{StandsFor}
 use Rattle.xc_input.specs.Named.{Named, IsSound}
-use Rattle.xc_input.specs.inner.Vectors.{named_from, IsOptional}
+use Rattle.xc_input.specs.inner.Vectors.{named_from, IsOptional, AreOptionStarts}
 use Rattle.xc_input.specs.Stored.{key_names}
-use Rattle.xc_input.specs.Flat.{pieces, AreStarts}
+use Rattle.xc_input.specs.Flat.{pieces}
 use Rattle.xc_input.specs.inner.Builders.{IsBuilder, stage_of_builder, sheet_of_builder, entry_of}
 use Rattle.xc_input.specs.Lines.{AreWhole}
 use Rattle.xc_input.specs.Readings.{Reading, IsStateOf, IsFault}
@@ -29,10 +29,10 @@ refutes kind lines Memory h f p ig s = f
 
 -- the problem that a draft holds
 abbrev pub named_by : ProblemBuilder → Named
-named_by d = named_from d.items.items d.primary d.uses.items d.ends.items d.colours.keys
+named_by d = named_from d.items.items d.primary d.uses.items d.starts.items d.colours.keys
 
 by-builder : (d : ProblemBuilder) → named_of (sheet_of_builder d) ≡ named_by d
-by-builder d = named-is d.items.items d.primary (pieces (0 ∷ d.ends.items) d.uses.items) (key_names d.colours.keys)
+by-builder d = named-is d.items.items d.primary (pieces d.starts.items d.uses.items) (key_names d.colours.keys)
 
 module _ (v : Reading) (kind : Kind) (lines : List (List ℕ)) (o : Option InputError) (is : v ≡ record { kind = kind; lines = lines; error = o }) (h : IsStateOf kind lines o) where
   pub refuses : (e : InputError) → o ≡ Some e → IsFault e → (p : Named) (ig : List ℕ) → StandsFor v.kind v.lines p ig → ⊥
@@ -72,8 +72,8 @@ module _ (v : Reading) (kind : Kind) (lines : List (List ℕ)) (o : Option Input
     pub optional-behind : d.started ≡ true → All IsOptional (drop d.primary d.items.items)
     optional-behind g = behind-bounds d.primary d.items.items (valid kind lines (sheet_of_builder d) d.ignored.items (written g)).bounds
 
-    pub starts-are : AreStarts (0 ∷ d.ends.items) (length d.uses.items)
-    starts-are = whole.0.ends
+    pub starts-are : d.started ≡ true → AreOptionStarts d.starts.items d.uses.items
+    starts-are g = whole.0.starts g
 
     pub is-sound : AreWhole lines → d.started ≡ true → IsSound (named_by d)
     is-sound w g =

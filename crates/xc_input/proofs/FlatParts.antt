@@ -5,8 +5,10 @@ use Rattle.std.proofs.lemmas.List.Sums.{sum_by-cons}
 use Rattle.std.proofs.Math.Seq.{drop-append_seam, take-length}
 use Rattle.std.proofs.lemmas.Grind.{get_or_default_zero}
 use Rattle.std.specs.Prelude.{slice_get, slice_range}
+use Rattle.xc_input.specs.declared.problem.Use.{Use}
 use Rattle.xc_input.specs.Flat.{pieces, AreStarts}
-use Rattle.xc_input.specs.Problem.{numbered_get}
+use Rattle.xc_input.specs.Problem.{numbered_get, use_count}
+use Rattle.xc_input.specs.inner.Vectors.{AreOptionStarts}
 
 pub slice_get-map : {X Y : Type 0} (f : X → Y) (xs : List X) (i : ℕ) (d : X) → i < length xs → slice_get (map f xs) i ≡ Some (f (get_or xs i d))
 slice_get-map f [] i d h = absurd (omega (arith, h))
@@ -90,7 +92,7 @@ pieces-snoc a (b ∷ starts) us vs n h e =
     ((h.0, later.0), λ i. same i ∷ later.1 i)
 
 -- the parts have as many elements as stand behind the first start
-pub pieces-total : {X : Type 0} (a : ℕ) (starts : List ℕ) (us : List X) → AreStarts (a ∷ starts) (length us) → sum_by (λ p. length p) (pieces (a ∷ starts) us) + a ≡ length us
+pieces-total : {X : Type 0} (a : ℕ) (starts : List ℕ) (us : List X) → AreStarts (a ∷ starts) (length us) → sum_by (λ p. length p) (pieces (a ∷ starts) us) + a ≡ length us
 pieces-total a [] us h = omega (arith, h)
 pieces-total a (b ∷ starts) us h =
     let later : sum_by (λ p. length p) (pieces (b ∷ starts) us) + b ≡ length us = pieces-total b starts us h.1 in
@@ -101,15 +103,23 @@ pieces-total a (b ∷ starts) us h =
     let rise : a ≤ b = h.0 in
     omega (arith, later, split, part, rise)
 
+-- the options have all uses
+pub all-uses : (starts : List ℕ) (us : List Use) → AreOptionStarts starts us → use_count (pieces starts us) ≡ length us
+all-uses [] us h = absurd h.1
+all-uses (a ∷ starts) us h =
+    let first : a ≡ 0 = cc in
+    let total = pieces-total a starts us h.1 in omega (arith, first, total)
+
+-- one option more
+pub option-more : (starts : List ℕ) (us vs : List Use) (n : ℕ) → AreOptionStarts starts us → n ≡ length us + length vs
+    → AreOptionStarts (starts ++ n ∷ []) (us ++ vs) × (pieces (starts ++ n ∷ []) (us ++ vs) ≡ pieces starts us ++ vs ∷ [])
+option-more [] us vs n h e = absurd h.1
+option-more (a ∷ starts) us vs n h e = let more = pieces-snoc a starts us vs n h.1 e in ((h.0, more.0), more.1)
+
 pub slice_get-map-some : {X Y : Type 0} (f : X → Y) (xs : List X) (i : ℕ) (x : X) → Some x ≡ slice_get xs i → slice_get (map f xs) i ≡ Some (f x)
 slice_get-map-some f [] i x e = absurd (cc)
 slice_get-map-some f (y ∷ xs) zero x e = let same : x ≡ y = cc in ap (λ z. Some (f z)) (sym same)
 slice_get-map-some f (y ∷ xs) (suc i) x e = slice_get-map-some f xs i x e
-
--- the part between the ends of two options, which were read
-pub end_part : {X : Type 0} (ends : List ℕ) (us : List X) (o a b : ℕ) → AreStarts (0 ∷ ends) (length us) → (1 ≤ o) × (o ≤ length ends) → a ≡ get_or (0 ∷ ends) (o - 1) a → b ≡ get_or (0 ∷ ends) o b →
-    (a ≤ b) × (b ≤ length us) × (numbered_get (pieces (0 ∷ ends) us) o ≡ Some (slice_range us a b))
-end_part ends us o a b h known e f = option_part (0 ∷ ends) us o a b h known.0 (omega (arith, known.1)) e f
 
 -- what holds of the elements behind the first n
 pub behind-at : {X : Type 0} (P : X → Type 0) (n : ℕ) (xs : List X) (i : ℕ) (d : X) → All P (drop n xs) → n ≤ i → i < length xs → P (get_or xs i d)

@@ -17,7 +17,6 @@ pub mod SoundLemmas
 pub mod FinishLemmas
 pub mod LineLemmas
 pub mod SourceLemmas
-pub mod EachElement
-pub mod ListFilters
+pub mod lists
 pub mod BooleanTests
 pub mod KindLemmas

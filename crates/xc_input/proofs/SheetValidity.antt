@@ -2,11 +2,12 @@
 use Rattle.std.specs.Prelude.{◌≡◌, ℕ, zero, suc, ◌≤◌, length, List, [], ◌∷◌, ◌++◌, false, None, ◌⊎◌, nat_eq}
 use Rattle.std.proofs.Common.{refl, ap}
 use Rattle.std.specs.List.{list_any}
+use Rattle.xc_input.specs.Problem.{use_count}
 use Rattle.xc_input.specs.declared.kind.Kind.{Kind}
 use Rattle.xc_input.specs.declared.problem.Use.{Use}
 use Rattle.xc_input.specs.Text.{SoFar, IsSheetFrom}
 use Rattle.xc_input.specs.Words.{place}
-use Rattle.xc_input.specs.Sheets.{Entry, Sheet, Written, names_of, with_colour, number_uses, use_count}
+use Rattle.xc_input.specs.Sheets.{Entry, Sheet, Written, names_of, with_colour, number_uses}
 use Rattle.xc_input.specs.Named.{IsName}
 use Rattle.xc_input.specs.Limits.{most_items, most_uses, greatest_bound}
 

@@ -9,13 +9,13 @@ use Rattle.std.specs.List.{list_any, Any}
 use Rattle.xc_input.specs.declared.kind.Kind.{Kind}
 use Rattle.xc_input.specs.declared.problem.Item.{Item}
 use Rattle.xc_input.specs.declared.problem.Use.{Use}
-use Rattle.xc_input.specs.Problem.{Puzzle, item_count, primary_count, AreSoundBounds, IsSoundUse, IsSoundOption}
+use Rattle.xc_input.specs.Problem.{Puzzle, item_count, primary_count, AreSoundBounds, IsSoundUse, IsSoundOption, use_count}
 use Rattle.xc_input.specs.Flat.{bounds_of}
 use Rattle.xc_input.specs.inner.Vectors.{IsOptional}
 use Rattle.xc_input.specs.Named.{IsName, IsColour, IsSound}
 use Rattle.xc_input.specs.Words.{place}
 use Rattle.xc_input.specs.Tokens.{tokens}
-use Rattle.xc_input.specs.Sheets.{Entry, Sheet, Written, names_of, named_of, entry_bounds, with_colour, with_uses, use_count}
+use Rattle.xc_input.specs.Sheets.{Entry, Sheet, Written, names_of, named_of, entry_bounds, with_colour, with_uses}
 use Rattle.xc_input.specs.inner.Builders.{entry_of}
 use Rattle.xc_input.specs.Text.{IsUse, AreUses, AreOptions, IsSheetFrom}
 use Rattle.xc_input.proofs.SheetValidity.{IsSheetOf, AllNew, HaveBounds, AreWithin, AreFresh, UsesPrimary, AreValid, HaveNames, so_far}

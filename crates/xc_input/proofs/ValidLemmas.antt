@@ -5,6 +5,7 @@ use Rattle.std.proofs.lemmas.Grind.{pow_more}
 use Rattle.std.proofs.lemmas.List.{append-nil}
 use Rattle.std.proofs.Math.Nat.{pow-le-pow_right}
 use Rattle.std.specs.List.{position_or_len, list_all}
+use Rattle.xc_input.specs.Problem.{use_count}
 use Rattle.xc_input.specs.declared.kind.Kind.{Kind}
 use Rattle.xc_input.specs.declared.problem.Use.{Use}
 use Rattle.xc_input.specs.Words.{place, is_digit, is_number, number, value_from}
@@ -12,7 +13,7 @@ use Rattle.xc_input.specs.Tokens.{tokens, parts, is_bar, is_skipped, split_bars,
 use Rattle.xc_input.specs.inner.Fronts.{drop_white, word}
 use Rattle.xc_input.proofs.TokenLemmas.{skipped-front, behind, tokens-drop_white, tokens-first, drop_white-first}
 use Rattle.std.proofs.lemmas.List.Sums.{sum_by-cons}
-use Rattle.xc_input.specs.Sheets.{Entry, Sheet, Written, names_of, number_uses, with_uses, with_colour, colour_number, use_count}
+use Rattle.xc_input.specs.Sheets.{Entry, Sheet, Written, names_of, number_uses, with_uses, with_colour, colour_number}
 use Rattle.xc_input.specs.Limits.{most_items, most_uses, greatest_bound}
 use Rattle.xc_input.specs.Text.{IsEntry, AreBounds, AreItems, IsUse, AreUses, AreOptions, IsSheetFrom}
 use Rattle.xc_input.proofs.SheetValidity.{number_uses-length, IsSheetOf, AllNew, HaveBounds, IsWithin, AreWithin, AreFresh, UsesPrimary, AreValid, HaveNames, IsSoundSheet, so_far}

@@ -39,6 +39,10 @@ IsSecondary p i = (primary_count p < i) × (i ≤ item_count p)
 abbrev pub IsItem : Puzzle → ℕ → Type 0
 IsItem p i = (1 ≤ i) × (i ≤ item_count p)
 
+-- o is the number of an option
+abbrev pub IsOption : Puzzle → ℕ → Type 0
+IsOption p o = (1 ≤ o) × (o ≤ option_count p)
+
 -- the element at a place that counts from 1
 abbrev pub numbered_get : {X : Type 0} → List X → ℕ → Option X
 numbered_get xs zero = None
@@ -60,6 +64,10 @@ high_at p i = (unwrap_or (bounds_at p i) (record { low = 0; high = 0 })).high
 abbrev pub colour_in : List Use → ℕ → Option ℕ
 colour_in [] i = None
 colour_in (u ∷ us) i = if u.item == i then Some u.colour else colour_in us i
+
+-- how many uses options have
+abbrev pub use_count : List (List Use) → ℕ
+use_count options = sum_by (λ us. length us) options
 
 -- the uses of option o; none where there is no such option
 abbrev pub uses_of : Puzzle → ℕ → List Use
@@ -114,6 +122,6 @@ pub record IsValid (p : Puzzle) : Type 0 where
 -- what the reader lets in
 pub record IsWithinLimits (p : Puzzle) : Type 0 where
   pub items : item_count p ≤ most_items
-  pub uses : sum_by (λ us. length us) p.options ≤ most_uses
+  pub uses : use_count p.options ≤ most_uses
   pub options : option_count p ≤ most_uses
   pub bounds : All (λ b. b.high ≤ greatest_bound) p.bounds

@@ -1,5 +1,5 @@
 -- What a text writes down, and the problem that it is.
-use Rattle.std.specs.Prelude.{ℕ, ◌+◌, ◌-◌, length, List, [], ◌∷◌, ◌++◌, is_none, unwrap_or, if◌then◌else◌, map, take, sum_by, fold}
+use Rattle.std.specs.Prelude.{ℕ, ◌+◌, ◌-◌, length, List, [], ◌∷◌, ◌++◌, is_none, unwrap_or, if◌then◌else◌, map, take, fold}
 use Rattle.xc_input.specs.declared.problem.Use.{Use}
 use Rattle.xc_input.specs.Words.{place}
 use Rattle.xc_input.specs.Problem.{Bounds}
@@ -63,7 +63,3 @@ number_uses colours (u ∷ us) =
 -- the colours so far and those of the option
 abbrev pub with_uses : List (List ℕ) → List Written → List (List ℕ)
 with_uses colours us = fold (λ cs u. with_colour cs u.colour) colours us
-
--- how many uses options have
-abbrev pub use_count : List (List Use) → ℕ
-use_count options = sum_by (λ us. length us) options

@@ -1,13 +1,14 @@
 -- The lines of a text, one after another: what was read so far, and the first fault.
 use Rattle.std.specs.Prelude.{ℕ, ◌+◌, ◌-◌, ◌^◌, min, length, List, [], ◌∷◌, ◌++◌, Bool, true, false, ◌&&◌, Option, None, Some, nat_lt, map, unwrap_or, if◌then◌else◌}
 use Rattle.std.specs.Option.{option_map, option_or}
+use Rattle.xc_input.specs.Problem.{use_count}
 use Rattle.xc_input.specs.declared.kind.Kind.{Kind}
 use Rattle.xc_input.specs.declared.fault.FaultKind.{FaultKind}
 use Rattle.xc_input.specs.declared.fault.FaultKind.TheVariants.{NoItems, NulByte, TooManyUses}
 use Rattle.xc_input.specs.Limits.{most_uses}
 use Rattle.xc_input.specs.Words.{has}
 use Rattle.xc_input.specs.Tokens.{tokens, parts, is_skipped}
-use Rattle.xc_input.specs.Sheets.{Sheet, Written, names_of, number_uses, with_uses, use_count}
+use Rattle.xc_input.specs.Sheets.{Sheet, Written, names_of, number_uses, with_uses}
 use Rattle.xc_input.specs.Faults.{first, Row, no_row, row_checks, row_of, context, option_checks, written, has_primary}
 
 -- what the lines so far gave; before the item line the sheet is empty

@@ -1,6 +1,6 @@
 //! The problem while it is read.
 
-ghost use Rattle.std.specs.Prelude.{◌≡◌, true, ◌≤◌, ◌<◌, ◌+◌, ◌++◌, [], None, Some, OnOk, IfOk, length, map};
+ghost use Rattle.std.specs.Prelude.{◌≡◌, true, false, ◌≤◌, ◌<◌, ◌+◌, ◌++◌, [], None, Some, OnOk, IfOk, length, map};
 ghost use Rattle.xc_input.specs.Sheets.{with_colour, colour_number, number_uses, with_uses};
 ghost use Rattle.xc_input.specs.Faults.{first, has_primary, row_checks, no_row, row_of, written};
 ghost use Rattle.xc_input.specs.Limits.{most_uses};
@@ -32,7 +32,7 @@ pub struct ProblemBuilder {
     pub marks: Vec<bool>,
     pub colours: NameSet,
     pub uses: Vec<Use>,
-    pub ends: Vec<u32>,
+    pub starts: Vec<u32>,
     pub ignored: Vec<u64>,
 }
 
@@ -51,7 +51,7 @@ impl ProblemBuilder {
             marks: Vec::new(alloc),
             colours: no_names(alloc, seed),
             uses: Vec::new(alloc),
-            ends: Vec::new(alloc),
+            starts: Vec::new(alloc),
             ignored: Vec::new(alloc),
         }
     }
@@ -83,18 +83,21 @@ impl ProblemBuilder {
 
     /// Takes the item line.
     fn take_items(&mut self, alloc: Global, kind: Kind, line: &[u8]) -> Result<(), LineError>
-        requires { IsBuilder self.old }
+        requires sound { IsBuilder self.old }
+        requires unstarted { self.old.started ≡ false }
         ensures judged { Judged (first (row_checks kind no_row (parts line.now))) result }
         ensures taken { OnOk result (IsBuilder self.new × (stage_of_builder self.new ≡ record { started = true; sheet = with_row (sheet_of_builder self.old) (row_of kind no_row (parts line.now)); ignored = self.old.ignored.items })) }
     {
         let ItemLine { names, items, bar } = item_line(alloc, *self.names.hasher(), kind, line)?;
         let marks = no_marks(alloc, items.len())?;
         let guesses = Guesses::new(alloc, &names)?;
+        let starts = vec![in alloc; 0]?;
         self.primary = bar.unwrap_or(items.len() as u32);
         self.names = names;
         self.guesses = guesses;
         self.items = items;
         self.marks = marks;
+        self.starts = starts;
         self.started = true;
         Ok(())
     }
@@ -129,7 +132,7 @@ impl ProblemBuilder {
             return Err(LineError::Fault(FaultKind::TooManyUses));
         }
         add_uses(alloc, &mut self.colours, &mut self.uses, uses.as_slice())?;
-        self.ends.push(self.uses.len() as u32)?;
+        self.starts.push(self.uses.len() as u32)?;
         Ok(())
     }
 }

@@ -1,10 +1,10 @@
 //! A problem as it was read.
 
-ghost use Rattle.std.specs.Prelude.{◌≡◌, ◌≢◌, ◌<◌, ◌≤◌, ◌∷◌, ℕ, length, map, drop, get_or, sum_by, Some, All, IfSome, IfNone};
-ghost use Rattle.xc_input.specs.Problem.{IsValid, IsWithinLimits, IsSoundOption, AreSoundBounds, primary_count, item_count, option_count, IsItem, numbered_get, bounds_at, IsPrimary, IsSecondary};
+ghost use Rattle.std.specs.Prelude.{◌≡◌, ◌≢◌, ◌<◌, ◌≤◌, ℕ, length, map, drop, sum_by, Some, All, IfSome, IfNone};
+ghost use Rattle.xc_input.specs.Problem.{IsValid, IsWithinLimits, IsSoundOption, AreSoundBounds, primary_count, item_count, option_count, IsItem, numbered_get, bounds_at, IsPrimary, IsSecondary, use_count, IsOption};
 ghost use Rattle.xc_input.specs.Limits.{greatest_bound, most_uses};
-ghost use Rattle.xc_input.specs.Flat.{bounds_of, secondary_bounds, pieces, AreStarts};
-ghost use Rattle.xc_input.specs.inner.Vectors.{IsOptional, named_from};
+ghost use Rattle.xc_input.specs.Flat.{bounds_of, secondary_bounds};
+ghost use Rattle.xc_input.specs.inner.Vectors.{IsOptional, AreOptionStarts, named_from};
 ghost use Rattle.xc_input.specs.Named.{Named, AreColoursKnown, IsKnownUse, IsWellNamed, IsName, IsColour, IsSound};
 ghost use Rattle.xc_input.specs.Words.{number_in};
 ghost use Rattle.xc_input.specs.Stored.{key_names};
@@ -55,28 +55,27 @@ pub struct Problem {
     items: Vec<Item>,
     primary: u32,
     uses: Vec<Use>,
-    ends: Vec<u32>,
+    /// Where the options start among the uses, and at last where they end.
+    starts: Vec<u32>,
     colours: NameSet,
 }
 
 impl Model for Problem {
-    ghost use Rattle.std.specs.Prelude.{◌≡◌, ◌≤◌, ◌∷◌, length, map, drop, All};
+    ghost use Rattle.std.specs.Prelude.{◌≡◌, ◌≤◌, length, map, drop, All};
     ghost use Rattle.xc_input.specs.Named.{Named, IsSound};
-    ghost use Rattle.xc_input.specs.Flat.{AreStarts};
-    ghost use Rattle.xc_input.specs.inner.Vectors.{IsOptional};
-    ghost use Rattle.xc_input.specs.inner.Vectors.{named_from};
+    ghost use Rattle.xc_input.specs.inner.Vectors.{IsOptional, AreOptionStarts, named_from};
     ghost use Rattle.xc_input.specs.Stored.{key_names};
 
     ghost Value = { Named };
 
-    ghost view = { λ p. named_from p.items.items p.primary p.uses.items p.ends.items p.colours.keys };
+    ghost view = { λ p. named_from p.items.items p.primary p.uses.items p.starts.items p.colours.keys };
 
     ghost invariant = { λ p. record {
       names : key_names p.names.keys ≡ map (λ x. x.name.items) p.items.items;
       primary : p.primary ≤ length p.items.items;
       secondary : All IsOptional (drop p.primary p.items.items);
-      starts : AreStarts (0 ∷ p.ends.items) (length p.uses.items);
-      sound : IsSound (named_from p.items.items p.primary p.uses.items p.ends.items p.colours.keys);
+      starts : AreOptionStarts p.starts.items p.uses.items;
+      sound : IsSound (named_from p.items.items p.primary p.uses.items p.starts.items p.colours.keys);
     } };
 }
 
@@ -86,22 +85,22 @@ impl Problem {
         items: Vec<Item>,
         primary: u32,
         uses: Vec<Use>,
-        ends: Vec<u32>,
+        starts: Vec<u32>,
         colours: NameSet,
     ) -> Problem
         requires names { key_names names.keys ≡ map (λ x. x.name.items) items.items }
         requires primary { primary ≤ length items.items }
         requires secondary { All IsOptional (drop primary items.items) }
-        requires starts { AreStarts (0 ∷ ends.items) (length uses.items) }
-        requires sound { IsSound (named_from items.items primary uses.items ends.items colours.keys) }
-        ensures { result ≡ named_from items.items primary uses.items ends.items colours.keys }
+        requires starts { AreOptionStarts starts.items uses.items }
+        requires sound { IsSound (named_from items.items primary uses.items starts.items colours.keys) }
+        ensures { result ≡ named_from items.items primary uses.items starts.items colours.keys }
     {
         Problem {
             names,
             items,
             primary,
             uses,
-            ends,
+            starts,
             colours,
         }
     }
@@ -182,46 +181,27 @@ impl Problem {
         ensures value { result ≡ option_count self.now.puzzle }
         ensures whole { IsSound self.now }
     {
-        self.ends.len() as u32
+        (self.starts.len() - 1) as u32
     }
 
     /// The uses of the option of this number, in file order.
     pub fn option(&self, o: u32) -> &[Use]
-        requires known { (1 ≤ o) × (o ≤ option_count self.now.puzzle) }
+        requires known { IsOption self.now.puzzle o }
         ensures value { numbered_get self.now.puzzle.options o ≡ Some result.now }
         ensures known { All (IsKnownUse self.now) result.now }
         ensures whole { IsSound self.now }
     {
-        piece(&self.uses, &self.ends, o as usize)
+        let o = o as usize;
+        let from = self.starts[o - 1] as usize;
+        let to = self.starts[o] as usize;
+        &self.uses[from..to]
     }
 
     /// How many uses all options have.
     pub fn uses(&self) -> usize
-        ensures value { result ≡ sum_by (λ us. length us) self.now.puzzle.options }
+        ensures value { result ≡ use_count self.now.puzzle.options }
         ensures whole { IsSound self.now }
     {
         self.uses.len()
     }
-}
-
-/// The uses of the option of this number, of options that end here.
-fn piece<'a>(uses: &'a [Use], ends: &[u32], o: usize) -> &'a [Use]
-    requires starts { AreStarts (0 ∷ ends.now) (length uses.now) }
-    requires known { (1 ≤ o) × (o ≤ length ends.now) }
-    ensures { numbered_get (pieces (0 ∷ ends.now) uses.now) o ≡ Some result.now }
-{
-    let from = end_of(ends, o - 1);
-    let to = end_of(ends, o);
-    &uses[from..to]
-}
-
-/// Where an option ends; 0 before the first one.
-fn end_of(ends: &[u32], o: usize) -> usize
-    requires { o ≤ length ends.now }
-    ensures { result ≡ get_or (0 ∷ ends.now) o result }
-{
-    if o == 0 {
-        return 0;
-    }
-    ends[o - 1] as usize
 }

@@ -136,11 +136,11 @@ impl Reader {
             marks: _,
             colours,
             uses,
-            ends,
+            starts,
             ignored,
         } = builder;
         Ok(Read {
-            problem: Problem::new(names, items, primary, uses, ends, colours),
+            problem: Problem::new(names, items, primary, uses, starts, colours),
             ignored,
         })
     }

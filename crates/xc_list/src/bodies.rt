@@ -1,7 +1,7 @@
 //! Options as they are printed, laid out before the search.
 ghost use Rattle.std.specs.Prelude.{◌≡◌, ◌<◌, ◌≤◌, ◌^◌, [], ◌∷◌, ◌++◌, ◌-◌, ◌==◌, min, length, take, All, IfSome, IfOk, OnOk, OnErr, IsTrue, flat_map};
 ghost use Rattle.std.specs.List.{position_or_len};
-ghost use Rattle.xc_input.specs.Problem.{option_count, uses_of};
+ghost use Rattle.xc_input.specs.Problem.{uses_of, IsOption};
 ghost use Rattle.xc_input.specs.Named.{IsKnownUse};
 ghost use Rattle.xc_list.specs.Texts.{Writes};
 ghost use Rattle.xc_list.specs.Output.{use_text, from_item};
@@ -120,7 +120,7 @@ fn lay_out(alloc: Global, problem: &Problem) -> Result<Layout, Memory>
 #[inline(always)]
 fn text_of<'a>(problem: &Problem, layout: &'a Layout, o: u32) -> &'a [u8]
     requires laid { AreLaid problem.now problem.now.puzzle.options layout.now.texts.items layout.now.starts.items }
-    requires known { (1 ≤ o) × (o ≤ option_count problem.now.puzzle) }
+    requires known { IsOption problem.now.puzzle o }
     ensures { result.now ≡ uses_text problem.now (uses_of problem.now.puzzle o) }
 {
     let from = layout.starts[o as usize - 1] as usize;
@@ -132,7 +132,7 @@ fn text_of<'a>(problem: &Problem, layout: &'a Layout, o: u32) -> &'a [u8]
 #[inline(always)]
 fn cut_text<'a>(problem: &Problem, layout: &'a Layout, item: u32, o: u32) -> (&'a [u8], &'a [u8])
     requires laid { AreLaid problem.now problem.now.puzzle.options layout.now.texts.items layout.now.starts.items }
-    requires known { (1 ≤ o) × (o ≤ option_count problem.now.puzzle) }
+    requires known { IsOption problem.now.puzzle o }
     ensures { flat_map (use_text problem.now) (from_item item (uses_of problem.now.puzzle o)) ≡ result.1.now ++ result.0.now }
 {
     let text = text_of(problem, layout, o);
@@ -190,7 +190,7 @@ impl<'a> Bodies<'a> {
     /// Writes an option's uses, cyclically from an item's.
     #[inline(always)]
     pub fn write_option<S: Sink>(&self, item: u32, o: u32, sink: &mut S) -> Result<(), SinkFault>
-        requires { (1 ≤ o) × (o ≤ option_count self.now.puzzle) }
+        requires { IsOption self.now.puzzle o }
         ensures { Writes (S.state sink.old) (S.state sink.new)
             result (flat_map (use_text self.now) (from_item item (uses_of self.now.puzzle o))) }
     {

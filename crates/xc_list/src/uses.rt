@@ -2,7 +2,7 @@
 ghost use Rattle.std.specs.Prelude.{◌≡◌, ◌≤◌, ◌==◌, length, All, flat_map, OnErr, IsTrue};
 ghost use Rattle.std.specs.List.{position_or_len};
 ghost use Rattle.xc_list.specs.Texts.{Writes};
-ghost use Rattle.xc_input.specs.Problem.{IsItem, option_count, uses_of};
+ghost use Rattle.xc_input.specs.Problem.{IsItem, uses_of, IsOption};
 ghost use Rattle.xc_input.specs.Named.{IsKnownUse, IsSound};
 ghost use Rattle.xc_list.specs.Output.{bytes_at, colour_text, use_text, from_item};
 
@@ -26,7 +26,7 @@ pub fn colour_of<'a>(problem: &'a Problem, c: u32) -> &'a [u8]
 }
 
 pub fn uses_at<'a>(problem: &'a Problem, o: u32) -> &'a [Use]
-    requires { (1 ≤ o) × (o ≤ option_count problem.now.puzzle) }
+    requires { IsOption problem.now.puzzle o }
     ensures value { result.now ≡ uses_of problem.now.puzzle o }
     ensures known { All (IsKnownUse problem.now) result.now }
 {
@@ -90,7 +90,7 @@ pub fn write_option<S: Sink>(
     o: u32,
     sink: &mut S,
 ) -> Result<(), SinkFault>
-    requires { (1 ≤ o) × (o ≤ option_count problem.now.puzzle) }
+    requires { IsOption problem.now.puzzle o }
     ensures { Writes (S.state sink.old) (S.state sink.new)
         result (flat_map (use_text problem.now) (from_item item (uses_of problem.now.puzzle o))) }
 {

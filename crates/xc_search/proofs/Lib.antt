@@ -1,11 +1,5 @@
-pub mod Covering
-pub mod EachTwo
-pub mod Exactly
-pub mod Members
-pub mod Places
 pub mod completeness
 pub mod listing
-pub mod lists
 pub mod moves
 pub mod parts
 pub mod residual

@@ -1,4 +1,6 @@
 pub mod Complete
+pub mod Covering
+pub mod Exactly
 pub mod Once
 pub mod Passing
 pub mod Proper

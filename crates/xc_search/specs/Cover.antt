@@ -1,7 +1,7 @@
 -- Covers, and the sets of options that members of a listing stand for.
 use Rattle.std.specs.Prelude.{ℕ, ◌<◌, ◌≤◌, ◌≡◌, ◌≢◌, ◌↔◌, List, Some, is_some, All, AllPairs, Contains, count_by, filter_map, slice_get}
 use Rattle.xc_search.specs.declared.choice.Choice.{Choice}
-use Rattle.xc_input.specs.Problem.{Puzzle, Bounds, option_count, bounds_at, uses_of, colour_in, IsSecondary}
+use Rattle.xc_input.specs.Problem.{Puzzle, Bounds, bounds_at, uses_of, colour_in, IsSecondary, IsOption}
 use Rattle.xc_search.specs.Listing.{listing, whole}
 
 -- how many of these options hold item i
@@ -10,7 +10,7 @@ times_held p i s = count_by (λ o. is_some (colour_in (uses_of p o) i)) s
 
 -- A set of option numbers, as a list without repetition, is a cover.
 pub record IsCover (p : Puzzle) (s : List ℕ) : Type 0 where
-  pub known : All (λ o. (1 ≤ o) × (o ≤ option_count p)) s
+  pub known : All (IsOption p) s
   pub distinct : AllPairs (λ a b. a ≢ b) s
   -- each primary item is held as often as its bounds say
   pub within : (i : ℕ) (b : Bounds) → bounds_at p i ≡ Some b →

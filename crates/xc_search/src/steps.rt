@@ -1,6 +1,6 @@
 //! Steps of the search on its position.
 ghost use Rattle.std.specs.Prelude.{◌≡◌, ◌+◌, ◌<◌, ◌≤◌, length, All};
-ghost use Rattle.xc_input.specs.Problem.{IsItem, IsSecondary, uses_of, option_count};
+ghost use Rattle.xc_input.specs.Problem.{IsItem, IsSecondary, uses_of, IsOption};
 ghost use Rattle.xc_dance.specs.Moves.{AreTweaks};
 ghost use Rattle.xc_search.specs.Room.{room_for};
 ghost use Rattle.xc_search.specs.inner.Commits.{MayStand, oldest, opened, after_use, after_uses, place_in, others, closed};
@@ -91,7 +91,7 @@ impl<'a, D: Dance> Position<'a, D> {
     /// Commits the uses of option `o` cyclically after that of item `i`.
     #[inline(always)]
     pub fn commit_others(&mut self, o: u32, i: u32)
-        requires known { (1 ≤ o) × (o ≤ option_count self.old.puzzle) }
+        requires known { IsOption self.old.puzzle o }
         requires holds { place_in i (uses_of self.old.puzzle o) < length (uses_of self.old.puzzle o) }
         requires items { All (λ (u : Use). IsItem self.old.puzzle u.item) (uses_of self.old.puzzle o) }
         requires stands { MayStand self.old.puzzle

@@ -1,9 +1,10 @@
 -- What a writer holds, and what is held back from it.
 use Rattle.std.proofs.Common.{◌≡◌, ℕ, suc, ◌+◌, ◌-◌, ◌≤◌, List, [], ◌∷◌, ◌++◌, Option, None, Some, length, take, drop, refl, sym, ap, ap₂, ◌∙◌, append_assoc, arith}
-use Rattle.std.specs.Prelude.{slice_range}
+use lib.Seq.{paste}
+use Rattle.std.proofs.lemmas.List.Edits.{take-paste}
 use Rattle.std.proofs.lemmas.Grind.{common_steps}
 use Rattle.std.proofs.Math.Seq.{take-add}
-use Rattle.std.proofs.lemmas.List.{drop-take, drop-append-le, length-drop, length-take-le, take_all}
+use Rattle.std.proofs.lemmas.List.{drop-take, length-drop, length-take-le, take_all}
 use Rattle.std.proofs.lemmas.Slice.{drop-put_mid}
 use Rattle.std.specs.Io.KnownBytes.{append_known, Appends, Keeps}
 use Rattle.xc_list.proofs.TextLemmas.{appends_more}
@@ -11,85 +12,38 @@ use Rattle.std.specs.Simd.Lanes.{chunk, put_chunk}
 use Rattle.std.proofs.lemmas.Simd.{put_chunk_is, length-put_chunk, length-chunk}
 use borrow.Rule.Slice.PartMut.{put_mid}
 
--- a part, and then what follows it
-part_more : (bytes : List ℕ) (from place n : ℕ) → from ≤ place → place + n ≤ length bytes → slice_range bytes from (place + n) ≡ slice_range bytes from place ++ take n (drop place bytes)
-part_more bytes from place n a b =
-    let more : (place + n) - from ≡ (place - from) + n = omega arith in
-    let behind : drop (place - from) (drop from bytes) ≡ drop place bytes = grind (arith, common_steps) in
-    ap (λ m. take m (drop from bytes)) more ∙ take-add (place - from) n (drop from bytes) ∙ ap (λ l. take (place - from) (drop from bytes) ++ take n l) behind
-
 -- one piece more was passed on
-pub pass_more : (old mid new : Option (List ℕ)) (bytes rest : List ℕ) (from place n : ℕ) → from ≤ place → place + n ≤ length bytes → rest ≡ drop place bytes
-    → Appends old mid (slice_range bytes from place) → Appends mid new (take n rest) → Appends old new (slice_range bytes from (place + n))
-pass_more old mid new bytes rest from place n a b e p q =
-    rw (part_more bytes from place n a b) (appends_more old mid new (slice_range bytes from place) (take n (drop place bytes)) p (rw e at q))
+pub pass_more : (old mid new : Option (List ℕ)) (bytes rest : List ℕ) (place n : ℕ) → rest ≡ drop place bytes
+    → Appends old mid (take place bytes) → Appends mid new (take n rest) → Appends old new (take (place + n) bytes)
+pass_more old mid new bytes rest place n e p q =
+    rw (take-add place n bytes) (appends_more old mid new (take place bytes) (take n (drop place bytes)) p (rw e at q))
 
--- a part is the front's behind its start
-part_of_front : (held : List ℕ) (start end : ℕ) → start ≤ end → drop start (take end held) ≡ slice_range held start end
-part_of_front held start end a =
-    let whole : end ≡ start + (end - start) = omega arith in
-    ap (λ m. drop start (take m held)) whole ∙ drop-take start (end - start) held
-
--- a part of the front
-part_in_front : (held : List ℕ) (start at end : ℕ) → start ≤ at → at ≤ end → slice_range (take end held) start at ≡ slice_range held start at
-part_in_front held start at end a b =
-    let within : start ≤ end = omega arith in
-    let less : at - start ≤ end - start = omega arith in
-    let front : take (at - start) (take (end - start) (drop start held)) ≡ take (at - start) (drop start held) = grind (arith, common_steps) in
-    ap (take (at - start)) (part_of_front held start end within) ∙ front
-
--- a part in two
-part_parts : (held : List ℕ) (start at end : ℕ) → start ≤ at → at ≤ length (take end held) → end ≤ length held → slice_range (take end held) start at ++ slice_range held at end ≡ slice_range held start end
-part_parts held start at end a b c =
-    let short : at ≤ end = grind (arith, common_steps) in
-    let whole : at + (end - at) ≡ end = omega arith in
-    let fits : at + (end - at) ≤ length held = omega arith in
-    ap (λ l. l ++ slice_range held at end) (part_in_front held start at end a short) ∙ sym (part_more held start at (end - at) a fits) ∙ ap (slice_range held start) whole
+front-back : (xs : List ℕ) (l : ℕ) → take l xs ++ drop l xs ≡ xs
+front-back xs l = grind (arith, common_steps)
 
 -- what was passed on is no longer held back
-pub kept_part : (old new : Option (List ℕ)) (held : List ℕ) (start at end : ℕ) → start ≤ at → at ≤ length (take end held) → end ≤ length held
-    → Appends old new (slice_range (take end held) start at) → Keeps (append_known old (slice_range held start end)) (append_known new (slice_range held at end))
-kept_part None new held start at end a b c p = tt
-kept_part (Some x) None held start at end a b c p = absurd p
-kept_part (Some x) (Some y) held start at end a b c p =
-    ap (λ l. l ++ slice_range held at end) p ∙ append_assoc x (slice_range (take end held) start at) (slice_range held at end) ∙ ap (λ l. x ++ l) (part_parts held start at end a b c)
+pub kept_rest : (old new : Option (List ℕ)) (held rest : List ℕ) (n : ℕ) → rest ≡ drop n held → Appends old new (take n held) → Keeps (append_known old held) (append_known new rest)
+kept_rest None new held rest n e p = tt
+kept_rest (Some x) None held rest n e p = absurd p
+kept_rest (Some x) (Some y) held rest n e p =
+    ap (λ l. y ++ l) e ∙ ap (λ l. l ++ drop n held) p ∙ append_assoc x (take n held) (drop n held) ∙ ap (λ l. x ++ l) (front-back held n)
 
--- all was passed on
-pub kept_all : (old new : Option (List ℕ)) (held : List ℕ) (start at end : ℕ) → start ≤ at → at ≤ length (take end held) → end ≤ length held → end ≤ at
-    → Appends old new (slice_range (take end held) start at) → Keeps (append_known old (slice_range held start end)) (append_known new [])
-kept_all None new held start at end a b c d p = tt
-kept_all (Some x) None held start at end a b c d p = absurd p
-kept_all (Some x) (Some y) held start at end a b c d p =
-    let none : slice_range held at end ≡ [] = grind (arith, common_steps) in
-    ap (λ l. y ++ l) (sym none) ∙ ap (λ l. l ++ slice_range held at end) p ∙ append_assoc x (slice_range (take end held) start at) (slice_range held at end) ∙ ap (λ l. x ++ l) (part_parts held start at end a b c)
+-- the rest of a front was moved to the front
+pub moved_to_front : (bytes : List ℕ) (n end : ℕ) → n ≤ end → end ≤ length bytes → take (end - n) (paste bytes 0 (drop n bytes) (end - n)) ≡ drop n (take end bytes)
+moved_to_front bytes n end a b =
+    let count : end - n ≡ 0 + (end - n) = omega arith in
+    let whole : n + (end - n) ≡ end = omega (arith, a) in
+    ap (λ k. take k (paste bytes 0 (drop n bytes) (end - n))) count ∙ take-paste bytes 0 (drop n bytes) (end - n) (omega arith) (omega (arith, b, length-drop n bytes))
+    ∙ sym (drop-take n (end - n) bytes) ∙ ap (λ k. drop n (take k bytes)) whole
 
--- bytes were put behind the part
-part_put : (held xs : List ℕ) (start end : ℕ) → start ≤ end → end + length xs ≤ length held → slice_range (take end held ++ xs ++ drop (end + length xs) held) start (end + length xs) ≡ slice_range held start end ++ xs
-part_put held xs start end a b =
-    let front = take end held in
-    let back = drop (end + length xs) held in
-    let long : length front ≡ end = grind (arith, common_steps) in
-    let first : start ≤ length front = omega arith in
-    let both : start ≤ length (front ++ xs) = grind (arith, common_steps) in
-    let behind : drop start ((front ++ xs) ++ back) ≡ (drop start front ++ xs) ++ back =
-    drop-append-le start (front ++ xs) back both ∙ ap (λ l. l ++ back) (drop-append-le start front xs first) in
-    let count : (end + length xs) - start ≡ length (drop start front ++ xs) = grind (arith, common_steps) in
-    let whole : take (length (drop start front ++ xs)) ((drop start front ++ xs) ++ back) ≡ drop start front ++ xs = grind (arith, common_steps) in
-    ap (take ((end + length xs) - start)) behind ∙ ap (λ m. take m ((drop start front ++ xs) ++ back)) count ∙ whole ∙ ap (λ l. l ++ xs) (part_of_front held start end a)
+-- bytes were put behind a front
+pub put_behind : (bytes xs : List ℕ) (end : ℕ) → end + length xs ≤ length bytes → take (end + length xs) (take end bytes ++ xs ++ drop (end + length xs) bytes) ≡ take end bytes ++ xs
+put_behind bytes xs end a = grind (arith, common_steps)
 
 -- more is held back
-pub held_more : (all old : Option (List ℕ)) (held now xs : List ℕ) (start end n : ℕ) → start ≤ end → end + n ≤ length held → length xs ≡ n → now ≡ take end held ++ xs ++ drop (end + length xs) held
-    → Keeps all (append_known old (slice_range held start end)) → Appends all (append_known old (slice_range now start (end + n))) xs
-held_more None old held now xs start end n a b e f p = tt
-held_more (Some x) None held now xs start end n a b e f p = absurd p
-held_more (Some x) (Some y) held now xs start end n a b e f p =
-    let here : slice_range now start (end + n) ≡ slice_range held start end ++ xs =
-    rw f (rw (← e) (part_put held xs start end a (rw e b))) in
-    ap (λ l. y ++ l) here ∙ sym (append_assoc y (slice_range held start end) xs) ∙ ap (λ l. l ++ xs) p
-
-pub keeps_self : (o : Option (List ℕ)) → Keeps o o
-keeps_self None = tt
-keeps_self (Some x) = refl
+pub held_more : (known : Option (List ℕ)) (held now xs : List ℕ) → now ≡ held ++ xs → Appends (append_known known held) (append_known known now) xs
+held_more None held now xs e = tt
+held_more (Some x) held now xs e = ap (λ l. x ++ l) e ∙ sym (append_assoc x held xs)
 
 take-behind : (xs ys : List ℕ) (l : ℕ) → take (length xs + l) (xs ++ ys) ≡ xs ++ take l ys
 take-behind [] ys l = let e : 0 + l ≡ l = omega arith in ap (λ k. take k ys) e
@@ -100,9 +54,6 @@ take-within xs ys l size h k = grind (arith, common_steps)
 
 drop-twice : (xs : List ℕ) (a b : ℕ) → drop b (drop a xs) ≡ drop (a + b) xs
 drop-twice xs a b = grind (arith, common_steps)
-
-front-back : (xs : List ℕ) (l : ℕ) → take l xs ++ drop l xs ≡ xs
-front-back xs l = grind (arith, common_steps)
 
 -- bytes that were put in the place of others by their first and their last piece
 two_ends : (held bytes first last : List ℕ) (at size m n place w : ℕ) → at + length bytes ≤ length held → size ≤ length bytes → length bytes ≤ size + size

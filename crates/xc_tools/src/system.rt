@@ -1,5 +1,5 @@
 //! The system's streams and files as sources and sinks.
-ghost use Rattle.std.specs.Prelude.{◌≡◌, ◌+◌, ◌-◌, ◌^◌, ◌<◌, ◌≤◌, ◌⊎◌, ◌↔◌, true, false, None, length, nat_eq, is_err, option_map, IfOk, IsErr, IsTrue, OnErr, OnOk, MatchResult, [], ◌∷◌, ◌++◌, take, drop, slice_range};
+ghost use Rattle.std.specs.Prelude.{◌≡◌, ◌+◌, ◌-◌, ◌^◌, ◌<◌, ◌≤◌, ◌⊎◌, ◌↔◌, true, false, None, length, nat_eq, is_err, option_map, IfOk, IsErr, IsTrue, OnErr, OnOk, MatchResult, [], ◌∷◌, ◌++◌, take, drop};
 ghost use Rattle.std.specs.Io.KnownBytes.{append_known, Appends, Keeps, ReadConsumes, WriteAppends};
 ghost use Rattle.xc_input.specs.Calls.{counted, is_failed_write};
 ghost use Rattle.xc_tools.specs.Streams.{left_of, ends_line, early, IsLittle, passed_of};
@@ -113,7 +113,6 @@ pub struct Outgoing<W: Write + Drop> {
     writer: W,
     by_line: bool,
     held: Vec<u8>,
-    start: usize,
     end: usize,
     /// How many bytes were passed on.
     passed: usize,
@@ -123,22 +122,18 @@ pub struct Outgoing<W: Write + Drop> {
     stuck: bool,
     failures: u64,
     failed: bool,
-    ghost ordered: { start ≤ end },
     ghost within: { end + calm ≤ 65536 },
     ghost little: { 0 < calm → end + calm ≤ early by_line passed },
     ghost countable: { passed ≤ 2 ^ 64 - 1 },
     ghost room: { length held.items ≡ 65536 },
 }
 
-/// Passes on the bytes from a place on, and says up to which place that went. A failed write isn't
-/// tried again.
-fn pass_on<W: Write>(writer: &mut W, bytes: &[u8], from: usize) -> usize
-    requires { from ≤ length bytes.now }
-    ensures within { (from ≤ result) × (result ≤ length bytes.now) }
-    ensures passed { Appends (W.contents writer.old) (W.contents writer.new)
-        (slice_range bytes.now from result) }
+/// Passes on the bytes, and says how many of them that were. A failed write isn't tried again.
+fn pass_on<W: Write>(writer: &mut W, bytes: &[u8]) -> usize
+    ensures within { result ≤ length bytes.now }
+    ensures passed { Appends (W.contents writer.old) (W.contents writer.new) (take result bytes.now) }
 {
-    let mut place = from;
+    let mut place = 0;
     while place < bytes.len() {
         match writer.write(&bytes[place..]) {
             Ok(n) if n > 0 => place += n,
@@ -146,6 +141,16 @@ fn pass_on<W: Write>(writer: &mut W, bytes: &[u8], from: usize) -> usize
         }
     }
     place
+}
+
+/// Moves the bytes from `n` to `end` to the front.
+fn remove_front(held: &mut [u8], n: usize, end: usize)
+    requires order { n ≤ end }
+    requires within { end ≤ length held.old }
+    ensures length { length held.new ≡ length held.old }
+    ensures rest { take (end - n) held.new ≡ drop n (take end held.old) }
+{
+    held.copy_within(n..end, 0);
 }
 
 /// How many bytes have to be held back for a line's end to pass them on, where so many were passed on
@@ -161,7 +166,6 @@ impl<W: Write + Drop> Outgoing<W> {
     pub fn new(alloc: Global, writer: W, by_line: bool) -> Result<Outgoing<W>, AllocError>
         ensures writer { IfOk result (λ s. s.writer ≡ writer) }
         ensures by_line { IfOk result (λ s. s.by_line ≡ by_line) }
-        ensures start { IfOk result (λ s. s.start ≡ 0) }
         ensures end { IfOk result (λ s. s.end ≡ 0) }
         ensures passed { IfOk result (λ s. s.passed ≡ 0) }
         ensures failures { IfOk result (λ s. s.failures ≡ 0) }
@@ -171,7 +175,6 @@ impl<W: Write + Drop> Outgoing<W> {
             writer,
             by_line,
             held: vec![in alloc; 0; HELD]?,
-            start: 0,
             end: 0,
             passed: 0,
             calm: 0,
@@ -185,7 +188,6 @@ impl<W: Write + Drop> Outgoing<W> {
     fn fail(&mut self) -> WriteFailed
         ensures writer { self.new.writer ≡ self.old.writer }
         ensures held { self.new.held ≡ self.old.held }
-        ensures start { self.new.start ≡ self.old.start }
         ensures end { self.new.end ≡ self.old.end }
         ensures by_line { self.new.by_line ≡ self.old.by_line }
         ensures passed { self.new.passed ≡ self.old.passed }
@@ -200,43 +202,39 @@ impl<W: Write + Drop> Outgoing<W> {
     /// Passes on what is held back, as far as that goes.
     #[inline(never)]
     fn pass(&mut self)
-        ensures emptied { (self.new.start < self.new.end) ⊎ ((self.new.start ≡ 0) × (self.new.end ≡ 0)) }
-        ensures stuck { IsTrue self.new.stuck ↔ (self.new.start < self.new.end) }
+        ensures stuck { IsTrue self.new.stuck ↔ (0 < self.new.end) }
         ensures by_line { self.new.by_line ≡ self.old.by_line }
-        ensures less { self.new.end - self.new.start ≤ self.old.end - self.old.start }
-        ensures passed { self.new.passed ≡ passed_of self.old.passed
-            (self.old.end - self.old.start) (self.new.end - self.new.start) }
+        ensures less { self.new.end ≤ self.old.end }
+        ensures passed { self.new.passed ≡ passed_of self.old.passed self.old.end self.new.end }
         ensures failures { self.new.failures ≡ self.old.failures }
         ensures failed { self.new.failed ≡ self.old.failed }
         ensures bytes { Keeps
-            (append_known (W.contents self.old.writer) (slice_range self.old.held.items self.old.start self.old.end))
-            (append_known (W.contents self.new.writer) (slice_range self.new.held.items self.new.start self.new.end)) }
+            (append_known (W.contents self.old.writer) (take self.old.end self.old.held.items))
+            (append_known (W.contents self.new.writer) (take self.new.end self.new.held.items)) }
     {
-        let place = pass_on(&mut self.writer, &self.held[..self.end], self.start);
-        self.passed = self.passed.saturating_add(place - self.start);
-        self.stuck = place < self.end;
-        if self.stuck {
-            self.start = place;
-            self.calm = 0;
+        let passed = pass_on(&mut self.writer, &self.held[..self.end]);
+        remove_front(&mut self.held, passed, self.end);
+        self.end -= passed;
+        self.passed = self.passed.saturating_add(passed);
+        self.stuck = self.end > 0;
+        self.calm = if self.stuck {
+            0
         } else {
-            self.start = 0;
-            self.end = 0;
-            self.calm = early(self.by_line, self.passed);
-        }
+            early(self.by_line, self.passed)
+        };
     }
 
     /// Passes on what is held back, or fails.
     fn pass_held(&mut self) -> Result<(), WriteFailed>
-        ensures emptied { OnOk result ((self.new.start ≡ 0) × (self.new.end ≡ 0)) }
+        ensures emptied { OnOk result (self.new.end ≡ 0) }
         ensures by_line { self.new.by_line ≡ self.old.by_line }
-        ensures less { self.new.end - self.new.start ≤ self.old.end - self.old.start }
-        ensures passed { self.new.passed ≡ passed_of self.old.passed
-            (self.old.end - self.old.start) (self.new.end - self.new.start) }
+        ensures less { self.new.end ≤ self.old.end }
+        ensures passed { self.new.passed ≡ passed_of self.old.passed self.old.end self.new.end }
         ensures failures { self.new.failures ≡ counted (is_err result) self.old.failures }
         ensures failed { OnErr result (IsTrue self.new.failed) }
         ensures bytes { Keeps
-            (append_known (W.contents self.old.writer) (slice_range self.old.held.items self.old.start self.old.end))
-            (append_known (W.contents self.new.writer) (slice_range self.new.held.items self.new.start self.new.end)) }
+            (append_known (W.contents self.old.writer) (take self.old.end self.old.held.items))
+            (append_known (W.contents self.new.writer) (take self.new.end self.new.held.items)) }
     {
         self.pass();
         if self.stuck {
@@ -250,14 +248,13 @@ impl<W: Write + Drop> Outgoing<W> {
     fn make_room(&mut self) -> Result<(), WriteFailed>
         ensures room { OnOk result (self.new.end < 65536) }
         ensures by_line { self.new.by_line ≡ self.old.by_line }
-        ensures less { self.new.end - self.new.start ≤ self.old.end - self.old.start }
-        ensures passed { self.new.passed ≡ passed_of self.old.passed
-            (self.old.end - self.old.start) (self.new.end - self.new.start) }
+        ensures less { self.new.end ≤ self.old.end }
+        ensures passed { self.new.passed ≡ passed_of self.old.passed self.old.end self.new.end }
         ensures failures { self.new.failures ≡ counted (is_err result) self.old.failures }
         ensures failed { OnErr result (IsTrue self.new.failed) }
         ensures bytes { Keeps
-            (append_known (W.contents self.old.writer) (slice_range self.old.held.items self.old.start self.old.end))
-            (append_known (W.contents self.new.writer) (slice_range self.new.held.items self.new.start self.new.end)) }
+            (append_known (W.contents self.old.writer) (take self.old.end self.old.held.items))
+            (append_known (W.contents self.new.writer) (take self.new.end self.new.held.items)) }
     {
         if self.end < HELD && !self.stuck {
             return Ok(());
@@ -271,7 +268,6 @@ impl<W: Write + Drop> Outgoing<W> {
         requires room { self.old.end + length bytes.now + self.old.calm ≤ 65536 }
         requires calm { 0 < self.old.calm →
             self.old.end + length bytes.now + self.old.calm ≤ early self.old.by_line self.old.passed }
-        ensures start { self.new.start ≡ self.old.start }
         ensures end { self.new.end ≡ self.old.end + length bytes.now }
         ensures by_line { self.new.by_line ≡ self.old.by_line }
         ensures passed { self.new.passed ≡ self.old.passed }
@@ -279,8 +275,8 @@ impl<W: Write + Drop> Outgoing<W> {
         ensures failures { self.new.failures ≡ self.old.failures }
         ensures failed { self.new.failed ≡ false }
         ensures bytes { Appends
-            (append_known (W.contents self.old.writer) (slice_range self.old.held.items self.old.start self.old.end))
-            (append_known (W.contents self.new.writer) (slice_range self.new.held.items self.new.start self.new.end))
+            (append_known (W.contents self.old.writer) (take self.old.end self.old.held.items))
+            (append_known (W.contents self.new.writer) (take self.new.end self.new.held.items))
             bytes.now }
     {
         put(&mut self.held, self.end, bytes);
@@ -291,16 +287,15 @@ impl<W: Write + Drop> Outgoing<W> {
     /// Passes on what is held back where it is a line's end and there is enough of it.
     fn pass_line(&mut self, bytes: &[u8])
         ensures little { IsTrue (ends_line bytes.now) → IsTrue self.new.stuck
-            ⊎ IsLittle self.new.by_line self.new.passed (self.new.end - self.new.start) }
+            ⊎ IsLittle self.new.by_line self.new.passed self.new.end }
         ensures by_line { self.new.by_line ≡ self.old.by_line }
-        ensures less { self.new.end - self.new.start ≤ self.old.end - self.old.start }
-        ensures passed { self.new.passed ≡ passed_of self.old.passed
-            (self.old.end - self.old.start) (self.new.end - self.new.start) }
+        ensures less { self.new.end ≤ self.old.end }
+        ensures passed { self.new.passed ≡ passed_of self.old.passed self.old.end self.new.end }
         ensures failures { self.new.failures ≡ self.old.failures }
         ensures failed { self.new.failed ≡ self.old.failed }
         ensures bytes { Keeps
-            (append_known (W.contents self.old.writer) (slice_range self.old.held.items self.old.start self.old.end))
-            (append_known (W.contents self.new.writer) (slice_range self.new.held.items self.new.start self.new.end)) }
+            (append_known (W.contents self.old.writer) (take self.old.end self.old.held.items))
+            (append_known (W.contents self.new.writer) (take self.new.end self.new.held.items)) }
     {
         if self.calm == 0 && bytes.ends_with(b"\n") {
             self.pass();
@@ -312,19 +307,17 @@ impl<W: Write + Drop> Outgoing<W> {
     #[inline(never)]
     fn hold_part(&mut self, bytes: &[u8]) -> Result<usize, WriteFailed>
         ensures little { IfOk result (λ n. IsTrue (ends_line (take n bytes.now)) → IsTrue self.new.stuck
-            ⊎ IsLittle self.new.by_line self.new.passed (self.new.end - self.new.start)) }
+            ⊎ IsLittle self.new.by_line self.new.passed self.new.end) }
         ensures by_line { self.new.by_line ≡ self.old.by_line }
         ensures passed { MatchResult result
-            (λ n. self.new.passed ≡ passed_of self.old.passed
-            ((self.old.end - self.old.start) + n) (self.new.end - self.new.start))
-            (λ _. self.new.passed ≡ passed_of self.old.passed
-            (self.old.end - self.old.start) (self.new.end - self.new.start)) }
+            (λ n. self.new.passed ≡ passed_of self.old.passed (self.old.end + n) self.new.end)
+            (λ _. self.new.passed ≡ passed_of self.old.passed self.old.end self.new.end) }
         ensures bound { IfOk result (λ n. n ≤ length bytes.now) }
         ensures failures { self.new.failures ≡ counted (is_failed_write result bytes.now) self.old.failures }
         ensures failed { self.new.failed ≡ is_failed_write result bytes.now }
         ensures bytes { WriteAppends
-            (append_known (W.contents self.old.writer) (slice_range self.old.held.items self.old.start self.old.end))
-            (append_known (W.contents self.new.writer) (slice_range self.new.held.items self.new.start self.new.end))
+            (append_known (W.contents self.old.writer) (take self.old.end self.old.held.items))
+            (append_known (W.contents self.new.writer) (take self.new.end self.new.held.items))
             result bytes.now }
     {
         self.make_room()?;
@@ -378,8 +371,8 @@ impl<W: Write + Drop> Sink for Outgoing<W> {
     ghost state = { λ s. record {
       failures = s.failures;
       failed = s.failed;
-      taken = append_known (W.contents s.writer) (slice_range s.held.items s.start s.end);
-      settled = nat_eq s.start s.end;
+      taken = append_known (W.contents s.writer) (take s.end s.held.items);
+      settled = nat_eq s.end 0;
     } };
 
     #[inline(always)]
@@ -388,20 +381,18 @@ impl<W: Write + Drop> Sink for Outgoing<W> {
         ensures failures { self.new.failures ≡ counted (is_failed_write result bytes.now) self.old.failures }
         ensures failed { self.new.failed ≡ is_failed_write result bytes.now }
         ensures bytes { WriteAppends
-            (append_known (W.contents self.old.writer) (slice_range self.old.held.items self.old.start self.old.end))
-            (append_known (W.contents self.new.writer) (slice_range self.new.held.items self.new.start self.new.end))
+            (append_known (W.contents self.old.writer) (take self.old.end self.old.held.items))
+            (append_known (W.contents self.new.writer) (take self.new.end self.new.held.items))
             result bytes.now }
 
         // Behind a line's end little is held back, unless the system's write failed, which the next
         // call tries again.
         ensures little { IfOk result (λ n. IsTrue (ends_line (take n bytes.now)) → IsTrue self.new.stuck
-            ⊎ IsLittle self.new.by_line self.new.passed (self.new.end - self.new.start)) }
+            ⊎ IsLittle self.new.by_line self.new.passed self.new.end) }
         ensures by_line { self.new.by_line ≡ self.old.by_line }
         ensures passed { MatchResult result
-            (λ n. self.new.passed ≡ passed_of self.old.passed
-            ((self.old.end - self.old.start) + n) (self.new.end - self.new.start))
-            (λ _. self.new.passed ≡ passed_of self.old.passed
-            (self.old.end - self.old.start) (self.new.end - self.new.start)) }
+            (λ n. self.new.passed ≡ passed_of self.old.passed (self.old.end + n) self.new.end)
+            (λ _. self.new.passed ≡ passed_of self.old.passed self.old.end self.new.end) }
     {
         if bytes.len() >= self.calm {
             return self.hold_part(bytes);
@@ -415,12 +406,11 @@ impl<W: Write + Drop> Sink for Outgoing<W> {
         ensures failures { self.new.failures ≡ counted (is_err result) self.old.failures }
         ensures failed { self.new.failed ≡ is_err result }
         ensures bytes { Keeps
-            (append_known (W.contents self.old.writer) (slice_range self.old.held.items self.old.start self.old.end))
-            (append_known (W.contents self.new.writer) (slice_range self.new.held.items self.new.start self.new.end)) }
-        ensures settled { OnOk result (self.new.start ≡ self.new.end) }
+            (append_known (W.contents self.old.writer) (take self.old.end self.old.held.items))
+            (append_known (W.contents self.new.writer) (take self.new.end self.new.held.items)) }
+        ensures settled { OnOk result (self.new.end ≡ 0) }
         ensures by_line { self.new.by_line ≡ self.old.by_line }
-        ensures passed { self.new.passed ≡ passed_of self.old.passed
-            (self.old.end - self.old.start) (self.new.end - self.new.start) }
+        ensures passed { self.new.passed ≡ passed_of self.old.passed self.old.end self.new.end }
     {
         self.pass_held()?;
         if self.writer.flush().is_err() {

@@ -19,7 +19,7 @@ use Rattle.xc_dance.specs.Fields.{Node, own, spacer, used, layout, nodes_of, is_
 use Rattle.xc_dance.specs.Links.Laid.{IsFit, AreDistinct, IsName, Placed, IsLaid}
 use Rattle.xc_dance.specs.declared.links.nodes.Nodes.{Nodes}
 use Rattle.xc_dance.specs.Links.Cells.{top_in, color_in, fixed_up, fixed_down, nodes_from, ulink_in, dlink_in, line_of, up_of, down_of, nodes_after}
-use Rattle.xc_input.proofs.EachElement.{each-append, each_at}
+use Rattle.xc_input.proofs.lists.EachElement.{each-append, each_at}
 use Rattle.xc_dance.proofs.LinkedTables.Sweep.{put_at-same, put_at-other, put_at, IsLinkedFrom, with_line, Swept, swept, stay, cuts, stay_all, leave_none}
 use Rattle.xc_dance.proofs.Copied.{take_more-get}
 use Rattle.xc_dance.proofs.LinkedTables.LaidLemmas.{distinct_options, layout_ok, is_laid}

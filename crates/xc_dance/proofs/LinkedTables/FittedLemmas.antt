@@ -13,7 +13,7 @@ use Rattle.xc_dance.specs.Links.Span.{Span}
 use Rattle.xc_dance.specs.Fields.{Node, unused, used, layout, is_spacer}
 use Rattle.xc_dance.specs.Links.Made.{AreNear, IsFitted}
 use Rattle.xc_dance.specs.Links.OptionSpans.{span_of, spans_of}
-use Rattle.xc_input.proofs.EachElement.{each_weaker}
+use Rattle.xc_input.proofs.lists.EachElement.{each_weaker}
 use Rattle.xc_dance.proofs.LinkedTables.LaidLemmas.{is_laid}
 use Rattle.xc_dance.proofs.LinkedTables.PlaceLemmas.{layout_small, has_spans}
 

@@ -14,7 +14,7 @@ use Rattle.xc_dance.specs.Links.Cells.{slot_of, fixed_up, fixed_down, top_in, no
 use Rattle.xc_dance.specs.Links.Laid.{IsName, IsLaid, IsFit}
 use Rattle.xc_dance.specs.declared.dance.Move.{Move}
 use Rattle.xc_dance.specs.Moves.{listed_numbers, listed}
-use Rattle.xc_input.proofs.EachElement.{each-map, each_weaker}
+use Rattle.xc_input.proofs.lists.EachElement.{each-map, each_weaker}
 use Rattle.xc_dance.proofs.LinkedTables.LinkColumns.{member_of, same_at, set_link, set_top, size_from, NodeCells, node_cells, get_up, get_down, CanShow-unlinked, same_nodes, hidden-open, hidden-marked, shown-marked, shown-hidden, IsLinked, map_same}
 use Rattle.xc_dance.proofs.LinkedTables.Sweep.{cut, with_line, IsLinkedFrom, put_at-other, cut-linked, stands, Swept, swept, swept_len, stay, cuts, up_after, down_after}
 use Rattle.xc_dance.proofs.MoveLemmas.ListLemmas.{length-listed}

@@ -23,8 +23,8 @@ use Rattle.xc_dance.specs.declared.dance.Move.TheVariants.{Cover, Purify}
 use Rattle.xc_dance.specs.Links.ListWalks.{left_node, back_node, with_colour, IsWalk, IsWalkBack, CanHideList, CanShowList, walk_costs, back_costs}
 use Rattle.xc_dance.specs.Links.Purifying.{purified_list, unpurified_list, CanPurify, CanUnpurify}
 use Rattle.xc_dance.specs.Links.Made.{IsFitted}
-use Rattle.xc_input.proofs.ListFilters.{filter_same}
-use Rattle.xc_input.proofs.EachElement.{each_weaker}
+use Rattle.xc_input.proofs.lists.Filters.{filter_same}
+use Rattle.xc_input.proofs.lists.EachElement.{each_weaker}
 use Rattle.xc_dance.proofs.LinkedTables.LinkColumns.{get_up, get_down, get_len, get_map, same_nodes, written_back, size_from}
 use Rattle.xc_dance.proofs.LinkedTables.GoodLines.{Named, numbers_few, numbers_named, all_good, SameCut, line_after, tables_same}
 use Rattle.xc_dance.proofs.LinkedTables.Sweep.{stands, IsLinkedFrom, Rises-filter, in_above, filter_numbers, leave_none}

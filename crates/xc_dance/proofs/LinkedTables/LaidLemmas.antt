@@ -12,7 +12,7 @@ use Rattle.xc_input.specs.Problem.{Puzzle, Numbered, numbered_options, numbered_
 use Rattle.xc_dance.specs.Fields.{Node, own, spacer, used, layout, nodes_of, is_use_of, place_of, link_place}
 use Rattle.xc_dance.specs.Links.Cells.{slot_of}
 use Rattle.xc_dance.specs.Links.Laid.{IsName, Placed, IsLaid, IsFit, AreDistinct}
-use Rattle.xc_input.proofs.EachElement.{each_weaker, each-append, each_at}
+use Rattle.xc_input.proofs.lists.EachElement.{each_weaker, each-append, each_at}
 use Rattle.xc_input.proofs.BooleanTests.{and_left, and_right}
 use Rattle.xc_dance.proofs.MoveLemmas.OptionsRise.{NumbersRise, NumbersRise-from}
 use Rattle.xc_dance.proofs.LinkedTables.LinkColumns.{item_of, member_of}

@@ -19,8 +19,8 @@ use Rattle.xc_dance.specs.Links.Cells.{color_in}
 use Rattle.xc_dance.specs.Links.Laid.{IsLaid, IsFit}
 use Rattle.xc_dance.specs.Cost.{leaving}
 use Rattle.xc_dance.specs.declared.dance.Move.TheVariants.{Cover, Purify, Tweak}
-use Rattle.xc_input.proofs.EachElement.{each-filter, each_both, each-map, each_weaker}
-use Rattle.xc_input.proofs.ListFilters.{filter_same}
+use Rattle.xc_input.proofs.lists.EachElement.{each-filter, each_both, each-map, each_weaker}
+use Rattle.xc_input.proofs.lists.Filters.{filter_same}
 use Rattle.xc_dance.proofs.LinkedTables.Sweep.{other_items, in_above, Rises, Rises-filter, stay, stay_all, leave_none, goes, without_numbers, filter_numbers, drop_numbers}
 use Rattle.xc_dance.proofs.LinkedTables.LinkColumns.{Stands}
 use Rattle.xc_dance.proofs.MoveLemmas.OpenLists.{listed_open}

@@ -17,7 +17,7 @@ use Rattle.xc_dance.specs.Links.Cells.{color_in, slot_of}
 use Rattle.xc_dance.specs.Links.Laid.{IsLaid, IsFit}
 use Rattle.xc_dance.specs.Lists.Losing.{is_kept}
 use Rattle.xc_input.proofs.BooleanTests.{and_right, and_left}
-use Rattle.xc_input.proofs.EachElement.{each_weaker, each_both}
+use Rattle.xc_input.proofs.lists.EachElement.{each_weaker, each_both}
 use Rattle.xc_dance.proofs.MoveLemmas.StateLemmas.{open_is}
 use Rattle.xc_dance.proofs.LinkedTables.LinkColumns.{get_map, Stands}
 use Rattle.xc_dance.proofs.MoveLemmas.OpenLists.{listed_open}

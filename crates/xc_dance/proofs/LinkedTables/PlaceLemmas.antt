@@ -18,7 +18,7 @@ use Rattle.xc_dance.specs.Links.Steps.{places, span_at}
 use Rattle.xc_dance.specs.Links.Cells.{fixed_up, fixed_down}
 use Rattle.xc_dance.specs.Links.Others.{before_use, behind_use, IsSpanOf, HasSpans}
 use Rattle.xc_dance.specs.Links.OptionSpans.{span_of, spans_of}
-use Rattle.xc_input.proofs.EachElement.{each-append}
+use Rattle.xc_input.proofs.lists.EachElement.{each-append}
 use Rattle.xc_dance.proofs.LinkedTables.LaidLemmas.{uses_at, NonePass, OnePasses, one_right, position_at, place_is}
 use Rattle.xc_dance.proofs.MoveLemmas.OptionsRise.{NumbersRise-from, NumbersRise}
 

@@ -11,7 +11,7 @@ use Rattle.xc_dance.specs.Links.Others.{before_use, behind_use}
 use Rattle.xc_dance.specs.declared.dance.Move.{Move}
 use Rattle.xc_dance.specs.declared.dance.Move.TheVariants.{Cover, Purify, Tweak, Spend}
 use Rattle.xc_dance.specs.Moves.{without, listed_numbers}
-use Rattle.xc_input.proofs.ListFilters.{filter-map}
+use Rattle.xc_input.proofs.lists.Filters.{filter-map}
 use Rattle.xc_dance.proofs.MoveLemmas.Shortened.{rises_listed}
 use Rattle.xc_dance.specs.Links.Lines.{Line}
 pub use Rattle.xc_dance.specs.Rising.{Rises}

@@ -12,7 +12,7 @@ use Rattle.xc_dance.specs.Fields.{ring_of, ring_head, left_of, right_of, first_o
 use Rattle.xc_dance.specs.Links.ItemCells.{items_after, llink_at, rlink_at}
 use Rattle.xc_dance.specs.Links.Rings.{left_ring, back_in_ring}
 use Rattle.xc_dance.proofs.LinkedTables.LinkColumns.{written_back}
-use Rattle.xc_input.proofs.ListFilters.{filter_both}
+use Rattle.xc_input.proofs.lists.Filters.{filter_both}
 use Rattle.xc_dance.proofs.LinkedTables.Sweep.{Rises, Rises-filter, Rises-weaker, is_in-first, by_first, in_rest, stay_same, in_more}
 use Rattle.xc_dance.proofs.LinkedTables.RingLemmas.{less, first_above-in, last_below-in, prev_without, next_without, first_without, last_without, link_behind, link_before}
 use Rattle.xc_dance.proofs.LinkedTables.RingStep.{row_put, row_get, row_len, same_items, left_now, right_now}

@@ -22,7 +22,7 @@ use Rattle.xc_dance.specs.Cost.{cost_of, cost_of_newest, undo_tweaks_cost}
 use Rattle.xc_dance.specs.Links.Steps.{hide_costs, others_of, followed}
 use Rattle.xc_dance.specs.Links.TweaksBack.{climbed, IsClimb, climb_costs, with_top, with_dlink, untweaked_all, untweak_all_cost, CanUntweakAll}
 use Rattle.xc_dance.specs.Links.Laid.{IsLaid}
-use Rattle.xc_input.proofs.ListFilters.{length-filter-le}
+use Rattle.xc_input.proofs.lists.Filters.{length-filter-le}
 use Rattle.xc_dance.proofs.LinkedTables.Sweep.{other_items, cut, cuts, is_in-first, in_above, IsLinkedFrom, Rises, rises, by_first, put_at-same, put_at-other, cut-linked, stands, leave_none, put_at, with_line}
 use Rattle.xc_dance.proofs.LinkedTables.LinkColumns.{map_same, get_down, same_nodes, set_link, set_top, get_len}
 use Rattle.xc_dance.proofs.LinkedTables.OtherItems.{leaves}

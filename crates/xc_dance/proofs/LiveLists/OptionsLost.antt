@@ -16,7 +16,7 @@ use Rattle.xc_dance.specs.Lists.Taking.{less, list_at}
 use Rattle.xc_dance.specs.Lists.Losing.{lose_from, has_use, IsListOf, AreListsFrom}
 use Rattle.xc_dance.proofs.MoveLemmas.ListLemmas.{Rises-filter}
 use Rattle.xc_dance.proofs.LiveLists.Removal.{less-absent}
-use Rattle.xc_input.proofs.ListFilters.{filter_both}
+use Rattle.xc_input.proofs.lists.Filters.{filter_both}
 
 -- ---- one list
 

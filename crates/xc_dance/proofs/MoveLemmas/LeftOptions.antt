@@ -3,7 +3,7 @@ use Rattle.std.proofs.Common.{ℕ, ◌≡◌, true, false, cond, not, ◌||◌, 
 use Rattle.std.proofs.lemmas.Bool.{not-true}
 use Rattle.std.specs.List.{AllByRecursion}
 use Rattle.xc_input.specs.Problem.{Puzzle, Numbered, holds, colour_at, holding}
-use Rattle.xc_input.proofs.EachElement.{each_weaker, each-filter, each_passes}
+use Rattle.xc_input.proofs.lists.EachElement.{each_weaker, each-filter, each_passes}
 use Rattle.xc_dance.specs.declared.dance.Move.{Move}
 use Rattle.xc_dance.specs.declared.dance.Move.TheVariants.{Cover, Purify, Tweak, Spend}
 use Rattle.xc_dance.specs.Moves.{is_open, is_covered, purified, without}

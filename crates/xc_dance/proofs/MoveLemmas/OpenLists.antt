@@ -5,8 +5,8 @@ use Rattle.std.proofs.lemmas.List.Elements.{filter_agree}
 use Rattle.std.specs.Prelude.{nat_lt, is_some}
 use Rattle.std.specs.List.{AllByRecursion}
 use Rattle.xc_input.specs.Problem.{Puzzle, Numbered, holds, colour_at, holding}
-use Rattle.xc_input.proofs.EachElement.{each_weaker, each_both}
-use Rattle.xc_input.proofs.ListFilters.{filter_same, filter_both, filter_swap, keep_all}
+use Rattle.xc_input.proofs.lists.EachElement.{each_weaker, each_both}
+use Rattle.xc_input.proofs.lists.Filters.{filter_same, filter_both, filter_swap, keep_all}
 use Rattle.xc_input.proofs.BooleanTests.{and_right}
 use Rattle.xc_dance.specs.declared.dance.Move.{Move}
 use Rattle.xc_dance.specs.declared.dance.Move.TheVariants.{Cover, Purify, Tweak, Spend}

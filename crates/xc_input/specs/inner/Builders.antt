@@ -1,5 +1,5 @@
 -- No public clause cites this module. What the parts of the reader hold, in the words of the grammar.
-use Rattle.std.specs.Prelude.{◌≡◌, ◌≢◌, ℕ, ◌+◌, ◌<◌, ◌≤◌, Bool, false, nat_eq, List, [], ◌∷◌, Option, None, Some, Result, Ok, Err, All, AllPairs, map, length, get_or}
+use Rattle.std.specs.Prelude.{◌≡◌, ◌≢◌, ℕ, ◌+◌, ◌<◌, ◌≤◌, Bool, true, false, nat_eq, List, [], Option, None, Some, Result, Ok, Err, All, AllPairs, map, length, get_or}
 use Rattle.std.specs.List.{list_any}
 use Rattle.xc_input.specs.declared.problem.Item.{Item}
 use Rattle.xc_input.specs.declared.fault.FaultKind.{FaultKind}
@@ -12,7 +12,8 @@ use Rattle.xc_input.specs.declared.option_line.WrittenUse.{WrittenUse}
 use Rattle.xc_input.specs.declared.builder.ProblemBuilder.{ProblemBuilder}
 use Rattle.xc_input.specs.Named.{IsName}
 use Rattle.xc_input.specs.Tokens.{is_space}
-use Rattle.xc_input.specs.Flat.{pieces, AreStarts}
+use Rattle.xc_input.specs.Flat.{pieces}
+use Rattle.xc_input.specs.inner.Vectors.{AreOptionStarts}
 use Rattle.xc_input.specs.Stored.{key_names}
 use Rattle.xc_input.specs.Stages.{Stage}
 use Rattle.xc_input.specs.Sheets.{Entry, Sheet, Written, names_of}
@@ -66,7 +67,7 @@ abbrev pub sheet_of_builder : ProblemBuilder → Sheet
 sheet_of_builder d = record {
   entries = map entry_of d.items.items;
   primaries = d.primary;
-  options = pieces (0 ∷ d.ends.items) d.uses.items;
+  options = pieces d.starts.items d.uses.items;
   colours = key_names d.colours.keys;
 }
 
@@ -79,7 +80,8 @@ pub record IsBuilder (d : ProblemBuilder) : Type 0 where
   pub names : key_names d.names.keys ≡ names_of (map entry_of d.items.items)
   pub named : AreNames (key_names d.names.keys)
   pub few_items : length d.items.items ≤ most_items
-  pub ends : AreStarts (0 ∷ d.ends.items) (length d.uses.items)
+  pub starts : d.started ≡ true → AreOptionStarts d.starts.items d.uses.items
+  pub unstarted : d.started ≡ false → (d.starts.items ≡ []) × (d.uses.items ≡ [])
   pub few_uses : length d.uses.items ≤ most_uses
   pub marks : length d.marks.items ≡ length d.items.items
   pub unmarked : AreMarks d.marks.items []

@@ -6,6 +6,7 @@ use Rattle.std.proofs.lemmas.Bool.Decides.{nat_tests}
 use Rattle.std.proofs.lemmas.List.Elements.{All-cons, filter-append}
 use Rattle.std.proofs.lemmas.Map.Keys.{any_passes_from_place}
 use Rattle.std.proofs.lemmas.Option.{slice_get_cases, slice_get-get_or}
+use Rattle.xc_input.specs.Problem.{IsOption}
 use Rattle.xc_input.specs.Named.{Named, IsSound}
 use Rattle.xc_list.specs.declared.checker.Verdict.{Verdict}
 use Rattle.xc_list.specs.declared.checker.ListingFault.{ListingFault}
@@ -13,7 +14,7 @@ use Rattle.xc_list.specs.declared.checker.ListingFault.TheVariants.{UnknownOptio
 use Rattle.xc_list.specs.ListingLines.{Line, Header, Body, read}
 use Rattle.std.specs.Option.{option_or}
 use Rattle.xc_list.specs.Listed.{Solution, Listing, before_listing, listing_of, is_body, is_known, is_none, stands_for, line_fault, first_fault_from, IsListedCover, IsVerdictOn, AreVerdicts, IsFirstFault}
-use Rattle.xc_list.specs.inner.Classes.{Classes, AreClasses, IsOption, IsOfClass, IsClassOfBody, IsCoverOfClasses}
+use Rattle.xc_list.specs.inner.Classes.{Classes, AreClasses, IsOfClass, IsClassOfBody, IsCoverOfClasses}
 use Rattle.xc_input.specs.Lines.{lines_of}
 use Rattle.xc_list.specs.inner.Checking.{Progress, IsProgress, AreChosen, with_later, Closes, Takes, Refuses}
 use Rattle.xc_list.proofs.CheckLemmas.DecidedByClasses.{StandFor, classes_decide}

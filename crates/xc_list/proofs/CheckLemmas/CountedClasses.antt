@@ -8,7 +8,7 @@ use Rattle.std.proofs.lemmas.Option.{slice_get-get_or}
 use Rattle.xc_input.specs.declared.problem.Use.{Use}
 use Rattle.xc_input.specs.Problem.{item_count, uses_of, IsSoundUse}
 use Rattle.xc_input.specs.Named.{Named, IsKnownUse, IsSound}
-use Rattle.xc_input.proofs.EachElement.{each_weaker, each-append, each_turned}
+use Rattle.xc_input.proofs.lists.EachElement.{each_weaker, each-append, each_turned}
 use Rattle.xc_list.specs.Output.{rotated_at}
 use Rattle.xc_list.specs.inner.Classes.{Classes, AreClasses, class_of}
 use Rattle.xc_list.specs.inner.CoverCounts.{added, coloured, cleared, raised, lowered, uses_at, uses_in}

@@ -11,8 +11,8 @@ use Rattle.xc_input.specs.declared.problem.Use.{Use}
 use Rattle.xc_input.specs.Problem.{Bounds, IsSecondary, bounds_at, item_count}
 use Rattle.xc_input.specs.Named.{IsSound}
 use Rattle.xc_search.specs.Cover.{times_held}
-use Rattle.xc_search.proofs.Members.{IsIn, each_in, each_from}
-use Rattle.xc_input.proofs.EachElement.{each_weaker, each-append, each_front}
+use Rattle.xc_input.proofs.lists.Members.{IsIn, each_in, each_from}
+use Rattle.xc_input.proofs.lists.EachElement.{each_weaker, each-append, each_front}
 use Rattle.xc_list.specs.inner.Classes.{Classes, AreClasses, IsOfClass, IsCoverOfClasses, class_at, class_size}
 use Rattle.xc_list.specs.inner.CoverCounts.{added, coloured, raised, uses_at, uses_in, short_of, agrees, is_met, is_class_met}
 use Rattle.xc_list.proofs.CheckLemmas.ShortItems.{short_none, none_short}

@@ -6,14 +6,14 @@ use Rattle.std.proofs.lemmas.List.Elements.{recursion_from_All, All-from_recursi
 use Rattle.std.proofs.lemmas.Slice.Zip.{AllZip-left, AllZip-right}
 use Rattle.std.specs.Option.{IsSomeAnd}
 use Rattle.xc_input.specs.declared.problem.Use.{Use}
-use Rattle.xc_input.specs.Problem.{Puzzle, IsSoundOption, IsValid, IsSecondary, option_count, uses_of, colour_in}
+use Rattle.xc_input.specs.Problem.{Puzzle, IsSoundOption, IsValid, IsSecondary, option_count, uses_of, colour_in, IsOption}
 use Rattle.xc_search.specs.Cover.{IsCover, times_held}
 use Rattle.xc_input.specs.Named.{Named, IsKnownUse, IsSound}
 use Rattle.xc_input.proofs.Known.{known_option}
-use Rattle.xc_search.proofs.Members.{IsIn, each_in, each_from, in-slice_get, slice_get-in, in-contains, contains-in}
-use Rattle.xc_search.proofs.EachTwo.{EachTwo-at, each_two_from_AllPairs, AllPairs-from_each_two}
+use Rattle.xc_input.proofs.lists.Members.{IsIn, each_in, each_from, in-slice_get, slice_get-in, in-contains, contains-in}
+use Rattle.xc_input.proofs.lists.EachTwo.{EachTwo-at, each_two_from_AllPairs, AllPairs-from_each_two}
 use Rattle.xc_list.specs.Listed.{is_body, is_known, IsListedCover, stands_for}
-use Rattle.xc_list.specs.inner.Classes.{alike, numbers, class_of, same_uses, IsCoverOfClasses, IsOption}
+use Rattle.xc_list.specs.inner.Classes.{alike, numbers, class_of, same_uses, IsCoverOfClasses}
 use Rattle.xc_list.proofs.CheckLemmas.DifferentOptions.{counted, is_counted, IsLikeness, AreAlike, AreApart, asked_within, give, IsGiving}
 use Rattle.xc_list.proofs.CheckLemmas.Rotations.{DifferInItems, colour-alike}
 use Rattle.xc_list.proofs.CheckLemmas.ListedNumbers.{in-range, range-in, range-apart, numbered_some}

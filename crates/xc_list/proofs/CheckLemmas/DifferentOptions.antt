@@ -3,8 +3,8 @@ use Rattle.std.proofs.Common.{ℕ, zero, suc, ◌≡◌, ◌≢◌, ◌+◌, ◌
 use Rattle.std.specs.Prelude.{slice_get, count_by}
 use Rattle.std.specs.List.{AllZip}
 use Rattle.std.proofs.lemmas.List.Sums.{length-filter}
-use Rattle.xc_search.proofs.Members.{IsIn, each_from, each_in, in-filter, filter-in, in-slice_get}
-use Rattle.xc_search.proofs.EachTwo.{EachTwo, EachTwo-at}
+use Rattle.xc_input.proofs.lists.Members.{IsIn, each_from, each_in, in-filter, filter-in, in-slice_get}
+use Rattle.xc_input.proofs.lists.EachTwo.{EachTwo, EachTwo-at}
 
 -- `count_by` by recursion from the front
 abbrev pub counted : (ℕ → Bool) → List ℕ → ℕ

@@ -10,15 +10,15 @@ use Rattle.std.proofs.lemmas.List.Quantifiers.{position-Some}
 use Rattle.std.proofs.lemmas.Option.{slice_get-get_or, slice_get_within}
 use Rattle.std.proofs.lemmas.Slice.Eq.{slice_eq-Decides}
 use Rattle.xc_input.specs.declared.problem.Use.{Use}
-use Rattle.xc_input.specs.Problem.{uses_of}
+use Rattle.xc_input.specs.Problem.{uses_of, IsOption}
 use Rattle.xc_input.specs.Named.{Named, IsKnownUse, IsSound}
 use Rattle.xc_input.proofs.FaultLemmas.{no-place, map-snoc}
 use Rattle.xc_input.proofs.TokenLemmas.{position-map, not_false}
-use Rattle.xc_search.proofs.Members.{IsIn, in-contains, slice_get-in}
+use Rattle.xc_input.proofs.lists.Members.{IsIn, in-contains, slice_get-in}
 use Rattle.xc_list.specs.ListingLines.{words_in}
 use Rattle.xc_list.specs.Output.{rotated_at, use_word}
 use Rattle.xc_list.specs.Listed.{is_body, is_known, stands_for}
-use Rattle.xc_list.specs.inner.Classes.{IsOption, IsOfClass, IsClassOfBody, class_of, class_at}
+use Rattle.xc_list.specs.inner.Classes.{IsOfClass, IsClassOfBody, class_of, class_at}
 use Rattle.xc_list.specs.inner.OptionIndex.{HaveWords, IsReading, IsOptionIndex, key_uses}
 use Rattle.xc_list.proofs.CheckLemmas.Rotations.{DifferInItems, class-place, class-turned, turned-alike, differ-turned, turned-differ}
 use Rattle.xc_list.proofs.CheckLemmas.BodiesOfClasses.{All-turned, body-is, is-body, same_uses_by_words}

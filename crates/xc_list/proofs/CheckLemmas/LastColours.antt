@@ -7,7 +7,7 @@ use Rattle.xc_input.specs.declared.problem.Use.{Use}
 use Rattle.xc_input.specs.Problem.{Puzzle, colour_in, uses_of}
 use Rattle.xc_input.specs.Named.{IsSound}
 use Rattle.xc_search.specs.Cover.{times_held}
-use Rattle.xc_search.proofs.EachTwo.{EachTwo}
+use Rattle.xc_input.proofs.lists.EachTwo.{EachTwo}
 use Rattle.xc_list.specs.inner.Classes.{Classes, IsOfClass, class_at}
 use Rattle.xc_list.specs.inner.CoverCounts.{coloured, uses_at, uses_in}
 use Rattle.xc_list.proofs.CheckLemmas.DifferentOptions.{counted, is_counted}

@@ -7,9 +7,9 @@ use Rattle.xc_input.specs.Problem.{colour_in}
 use Rattle.xc_list.specs.Output.{rotated_at, from_item}
 use Rattle.xc_list.specs.inner.Classes.{least_of, class_of}
 use Rattle.std.proofs.lemmas.List.{append-nil, take-append-drop, length-append, length-drop}
-use Rattle.xc_search.proofs.Members.{IsIn, each_in}
-use Rattle.xc_search.proofs.EachTwo.{EachTwo, EachTwo-append}
-use Rattle.xc_input.proofs.EachElement.{each_front}
+use Rattle.xc_input.proofs.lists.Members.{IsIn, each_in}
+use Rattle.xc_input.proofs.lists.EachTwo.{EachTwo, EachTwo-append}
+use Rattle.xc_input.proofs.lists.EachElement.{each_front}
 
 -- the uses before item i's, and those from it on
 abbrev pub before_item : ℕ → List Use → List Use

@@ -4,7 +4,7 @@ use Rattle.xc_list.proofs.CheckLemmas.BodiesOfClasses.{All-turned, is-body}
 use Rattle.xc_list.proofs.CheckLemmas.ListedNumbers.{any-in, at_bytes, numbered_some}
 use Rattle.xc_list.proofs.CheckLemmas.ReadUses.{plain-word}
 use Rattle.xc_list.proofs.CheckLemmas.DecidedByClasses.{uses-in}
-use Rattle.xc_search.proofs.Members.{in-slice_get}
+use Rattle.xc_input.proofs.lists.Members.{in-slice_get}
 use Rattle.std.proofs.Common.{◌≡◌, ◌≢◌, ℕ, zero, suc, ◌+◌, ◌<◌, ◌≤◌, Bool, true, false, not, ◌&&◌, ◌||◌, nat_eq, List, [], ◌∷◌, Option, None, Some, length, map, take, drop, get_or, refl, ap, ◌∙◌, arith, length-append}
 use Rattle.std.specs.Prelude.{All, codes, is_some, slice_get, MatchOption, ◌==◌, if◌then◌else◌}
 use Rattle.std.specs.List.{list_any, position_or_len, range_with_len}
@@ -15,13 +15,13 @@ use Rattle.std.proofs.lemmas.List.Folds.{list_any-append, list_any_none}
 use Rattle.std.proofs.lemmas.Slice.Eq.{bytes_eq-Decides}
 use Rattle.std.proofs.lemmas.Option.{slice_get-get_or}
 use Rattle.xc_input.specs.declared.problem.Use.{Use}
-use Rattle.xc_input.specs.Problem.{IsPrimary, IsItem, numbered_get, uses_of, option_count, primary_count, colour_in}
+use Rattle.xc_input.specs.Problem.{IsPrimary, IsItem, numbered_get, uses_of, option_count, primary_count, colour_in, IsOption}
 use Rattle.xc_input.specs.Named.{Named, IsKnownUse, IsSound, IsName, IsColour, IsUnbroken}
 use Rattle.xc_input.specs.Words.{has}
 use Rattle.xc_input.specs.Tokens.{is_space}
 use Rattle.xc_input.proofs.GrammarLemmas.{or-both, and-both}
 use Rattle.xc_input.proofs.Known.{at_number, known_option}
-use Rattle.xc_search.proofs.Places.{get_take}
+use Rattle.xc_input.proofs.lists.Places.{get_take}
 use Rattle.xc_search.specs.declared.choice.Choice.{Choice}
 use Rattle.xc_list.specs.Known.{IsKnownChoice}
 use Rattle.xc_list.specs.Output.{rotated_at, bytes_at, colour_text, use_word}
@@ -166,6 +166,6 @@ told-none p sound none (suc j) primary =
 pub told : (p : Named) → IsSound p → All (λ n. n ≢ codes "null") p.names → (c : Choice) → IsKnownChoice p.puzzle c → IsTold p c.item c.option
 told p sound none c known = by_option c.option known.1
   where
-    by_option : (o : Option ℕ) → MatchOption o (Unit {0}) (λ o. (1 ≤ o) × (o ≤ option_count p.puzzle) × (is_some (colour_in (uses_of p.puzzle o) c.item) ≡ true)) → IsTold p c.item o
+    by_option : (o : Option ℕ) → MatchOption o (Unit {0}) (λ o. IsOption p.puzzle o × (is_some (colour_in (uses_of p.puzzle o) c.item) ≡ true)) → IsTold p c.item o
     by_option None h = told-none p sound none c.item known.0
-    by_option (Some o) h = told-option p sound c.item o h.0 h.1 h.2
+    by_option (Some o) h = told-option p sound c.item o h.0.0 h.0.1 h.1

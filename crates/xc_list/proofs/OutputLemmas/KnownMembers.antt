@@ -93,7 +93,7 @@ branches_known p r w known item =
 
     taken : (kx : ℕ × Numbered) → Held kx.1 → IsKnownBranch p (take_branch r w.item n kx)
     taken kx h = record {
-      choice = (item, (h.0.0, h.0.1, subst (λ us. is_some (colour_in us w.item) ≡ true) (sym h.0.2) h.1));
+      choice = (item, ((h.0.0, h.0.1), subst (λ us. is_some (colour_in us w.item) ≡ true) (sym h.0.2) h.1));
       next = pick_known p r w.item kx.1 known;
     }
 

@@ -9,7 +9,7 @@ use Rattle.xc_input.specs.Named.{Named, IsSound}
 use Rattle.xc_input.specs.Lines.{lines_of}
 use Rattle.xc_search.specs.declared.choice.Choice.{Choice}
 use Rattle.xc_search.specs.Cover.{IsCover, options_of, members}
-use Rattle.xc_search.proofs.Covering.{each_member_covers}
+use Rattle.xc_search.proofs.completeness.Covering.{each_member_covers}
 use Rattle.xc_list.specs.Known.{IsKnownChoice}
 use Rattle.xc_list.specs.Output.{member_text, is_printed, output}
 use Rattle.xc_list.specs.ListingLines.{Header, Body}

@@ -4,7 +4,7 @@ use Rattle.std.specs.Prelude.{ℕ, ◌<◌, ◌≤◌, ◌≡◌, ◌≢◌, Boo
 use Rattle.std.specs.Cmp.Lexicographic.{pointwise}
 use Rattle.std.specs.List.{reduce, range_with_len}
 use Rattle.xc_input.specs.declared.problem.Use.{Use}
-use Rattle.xc_input.specs.Problem.{Puzzle, Bounds, option_count, bounds_at, uses_of, colour_in, IsSecondary}
+use Rattle.xc_input.specs.Problem.{Puzzle, Bounds, option_count, bounds_at, uses_of, colour_in, IsSecondary, IsOption}
 use Rattle.xc_input.specs.Named.{Named, IsSound}
 use Rattle.xc_search.specs.Cover.{times_held}
 use Rattle.xc_list.specs.Output.{from_item}
@@ -33,10 +33,6 @@ alike p a b = same_uses (class_at p a) (class_at p b)
 -- the numbers of all options
 abbrev pub numbers : Puzzle → List ℕ
 numbers p = range_with_len 1 (option_count p)
-
--- an option's number
-abbrev pub IsOption : Puzzle → ℕ → Type 0
-IsOption p o = (1 ≤ o) × (o ≤ option_count p)
 
 -- how many options are of a class
 abbrev pub class_size : Puzzle → List Use → ℕ

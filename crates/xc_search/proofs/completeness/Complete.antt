@@ -8,13 +8,13 @@ use Rattle.xc_input.specs.Problem.{Numbered, colour_at, holds, holding}
 use Rattle.xc_search.specs.Listing.{Wanted, Residual, Branch, less_one, spend_one, may_stay, item_left, pick, none, branch_item, branch_count, take_branch, none_branch, branches_of, level, listing_to, size_of}
 use Rattle.xc_dance.specs.Left.{agrees}
 use Rattle.xc_search.specs.Cover.{options_of}
-use Rattle.xc_search.proofs.Members.{IsIn, in-filter, filter-in, in-map, in-take}
+use Rattle.xc_input.proofs.lists.Members.{IsIn, in-filter, filter-in, in-map, in-take}
 use Rattle.xc_dance.proofs.MoveLemmas.OptionsRise.{NumbersRise-filter}
 use Rattle.xc_search.proofs.completeness.Solved.{beside}
 use Rattle.xc_search.proofs.completeness.Proper.{IsProper, find-in, in-find, goes_on, proper_pick, proper_none}
 use Rattle.xc_search.proofs.listing.EachBranch.{takes-in, nones-in, level-in, no_items_left, branch_item-in, less_behind}
 use Rattle.xc_search.proofs.completeness.Passing.{passing, one_passes, two_pass, same_passing, passing_without, first_passing, list_all-each, list_all-at}
-use Rattle.xc_input.proofs.ListFilters.{filter_both}
+use Rattle.xc_input.proofs.lists.Filters.{filter_both}
 use Rattle.std.proofs.lemmas.List.{nil_from_length}
 use Rattle.xc_input.proofs.BooleanTests.{and_right}
 use Rattle.xc_search.proofs.residual.OptionUses.{holds_use}

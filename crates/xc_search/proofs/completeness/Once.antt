@@ -6,12 +6,12 @@ use Rattle.xc_search.specs.declared.choice.Choice.{Choice}
 use Rattle.xc_input.specs.Problem.{Puzzle, Numbered, holds, IsValid, holding}
 use Rattle.xc_search.specs.Listing.{Wanted, Residual, Branch, whole, pick, none, branch_item, branch_count, take_branch, none_branch, branches_of, level, listing_to, listing, size_of}
 use Rattle.xc_search.specs.Cover.{options_of, SameSet, members, NoSetTwice}
-use Rattle.xc_search.proofs.Members.{IsIn, in-filter, in-map, in-take, in-enumerated, in-contains, contains-in, each_from}
+use Rattle.xc_input.proofs.lists.Members.{IsIn, in-filter, in-map, in-take, in-enumerated, in-contains, contains-in, each_from}
 use Rattle.xc_search.proofs.residual.NumberedOnce.{same_number, above_in}
 use Rattle.xc_dance.proofs.MoveLemmas.OptionsRise.{NumbersRise, NumbersRise-filter, options_rise}
 use Rattle.xc_search.proofs.listing.EachBranch.{IsTaken, IsNone, takes, nones, in-branches, in-nones, in-level, behind}
 use Rattle.xc_search.proofs.completeness.Proper.{goes_on}
-use Rattle.xc_search.proofs.EachTwo.{EachTwo, EachTwo-append, EachTwo-map, EachTwo-flat_map, EachTwo-at, EachTwo-weaker, EachTwo-take, EachTwo-enumerated}
+use Rattle.xc_input.proofs.lists.EachTwo.{EachTwo, EachTwo-append, EachTwo-map, EachTwo-flat_map, EachTwo-at, EachTwo-weaker, EachTwo-take, EachTwo-enumerated}
 use Rattle.xc_input.proofs.BooleanTests.{and_left}
 
 -- an option of this number is left

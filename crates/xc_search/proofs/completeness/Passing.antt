@@ -3,8 +3,8 @@ use Rattle.std.proofs.Common.{ℕ, zero, suc, ◌≡◌, ◌≢◌, ◌+◌, ◌
 use Rattle.std.specs.List.{list_all}
 use Rattle.xc_input.specs.declared.problem.Use.{Use}
 use Rattle.xc_input.specs.Problem.{Numbered}
-use Rattle.xc_search.proofs.Members.{IsIn}
-use Rattle.xc_input.proofs.ListFilters.{length-filter-le}
+use Rattle.xc_input.proofs.lists.Members.{IsIn}
+use Rattle.xc_input.proofs.lists.Filters.{length-filter-le}
 use Rattle.xc_search.proofs.residual.NumberedOnce.{above_in}
 use Rattle.xc_dance.proofs.MoveLemmas.OptionsRise.{NumbersRise}
 use Rattle.xc_input.proofs.BooleanTests.{and_left, and_right}

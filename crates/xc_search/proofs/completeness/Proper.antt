@@ -5,7 +5,7 @@ use Rattle.std.specs.List.{AllByRecursion}
 use Rattle.std.proofs.lemmas.List.Elements.{recursion_from_All}
 use Rattle.xc_input.specs.Problem.{Puzzle, Bounds, Numbered, primary_count, holds, AreSoundBounds, IsSoundUse, IsSoundOption, IsValid}
 use Rattle.xc_search.specs.Listing.{Wanted, Residual, wanted_from, whole, less_one, spend_one, item_left, stays, pick, none}
-use Rattle.xc_search.proofs.Members.{IsIn, in-filter, filter-in, in-map, map-in, each_in, each_from, in-contains}
+use Rattle.xc_input.proofs.lists.Members.{IsIn, in-filter, filter-in, in-map, map-in, each_in, each_from, in-contains}
 use Rattle.xc_dance.proofs.MoveLemmas.OptionsRise.{NumbersRise, NumbersRise-filter, options_rise}
 use Rattle.xc_search.proofs.completeness.Solved.{IsSound, used_up}
 use Rattle.xc_input.proofs.BooleanTests.{and_right}

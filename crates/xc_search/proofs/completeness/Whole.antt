@@ -10,13 +10,13 @@ use Rattle.xc_input.specs.Problem.{Puzzle, Numbered, numbered_options, primary_c
 use Rattle.xc_search.specs.Listing.{whole, listing, size_of}
 use Rattle.xc_dance.specs.Left.{agrees}
 use Rattle.xc_search.specs.Cover.{IsCover, SameSet, times_held, options_of, members, EachCoverIsListed}
-use Rattle.xc_search.proofs.Members.{IsIn, in-contains, contains-in, slice_get-in, each_in, each_from}
+use Rattle.xc_input.proofs.lists.Members.{IsIn, in-contains, contains-in, slice_get-in, each_in, each_from}
 use Rattle.xc_dance.proofs.MoveLemmas.OptionsRise.{options_rise}
 use Rattle.xc_search.proofs.completeness.Proper.{proper_whole}
 use Rattle.xc_search.proofs.completeness.Passing.{passing, none_pass, passing_without, list_all-each}
 use Rattle.xc_search.proofs.completeness.Complete.{is_held, Covers, IsMemberOf, listed_for}
-use Rattle.xc_search.proofs.EachTwo.{EachTwo, each_two_from_AllPairs}
-use Rattle.xc_input.proofs.ListFilters.{filter_same, filter_both}
+use Rattle.xc_input.proofs.lists.EachTwo.{EachTwo, each_two_from_AllPairs}
+use Rattle.xc_input.proofs.lists.Filters.{filter_same, filter_both}
 use Rattle.std.proofs.Math.Bool.{or-true, and-false}
 use Rattle.xc_search.proofs.listing.Numbering.{at_number, option_sound, uses_known, with_bounds}
 use Rattle.xc_search.proofs.residual.OptionUses.{own_colours, apart_from_pairs}

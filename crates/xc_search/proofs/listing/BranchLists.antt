@@ -7,7 +7,7 @@ use Rattle.xc_input.specs.Problem.{Numbered, holding}
 use Rattle.xc_search.specs.Listing.{Wanted, Residual, Branch, branches_of, branch_count, take_branch, none_branch}
 use Rattle.std.proofs.lemmas.List.{length-map, length-take, drop_all}
 use Rattle.std.proofs.lemmas.List.FromFn.{length-enumerate_from}
-use Rattle.xc_search.proofs.Places.{get_left, get_seam, get_numbered, get_take, not_some}
+use Rattle.xc_input.proofs.lists.Places.{get_left, get_seam, get_numbered, get_take, not_some}
 
 abbrev picks : Residual → Wanted → List Branch
 picks r w = map (take_branch r w.item (branch_count r w)) (enumerate_from 1 (take (branch_count r w) (holding w.item r.options)))

@@ -4,9 +4,9 @@ use Rattle.std.specs.Prelude.{nat_lt, nat_le}
 use Rattle.std.specs.List.{AllByRecursion, best_of}
 use Rattle.xc_input.specs.Problem.{Numbered, holds, holding}
 use Rattle.xc_search.specs.Listing.{Wanted, Residual, branch_count, branch_item, first_least, spend_one, stays, pick, take_branch, none_branch, branches_of, size_of}
-use Rattle.xc_input.proofs.ListFilters.{length-filter-le, length-filter-cons}
-use Rattle.xc_search.proofs.Members.{IsIn}
-use Rattle.xc_input.proofs.EachElement.{each_weaker, each-append, each-map, each-numbered}
+use Rattle.xc_input.proofs.lists.Filters.{length-filter-le, length-filter-cons}
+use Rattle.xc_input.proofs.lists.Members.{IsIn}
+use Rattle.xc_input.proofs.lists.EachElement.{each_weaker, each-append, each-map, each-numbered}
 use Rattle.std.proofs.lemmas.List.{length-map}
 
 -- a test that each option of item i fails for itself leaves one out

@@ -4,7 +4,7 @@ use Rattle.std.specs.List.{enumerate_from}
 use Rattle.xc_search.specs.declared.choice.Choice.{Choice}
 use Rattle.xc_input.specs.Problem.{Numbered, holds, holding}
 use Rattle.xc_search.specs.Listing.{Wanted, Residual, Branch, branch_count, branch_item, first_least, pick, none, take_branch, none_branch, branches_of, level, size_of}
-use Rattle.xc_search.proofs.Members.{IsIn, in-filter, in-append, append-in_left, append-in_right, in-map, map-in, in-flat_map, flat_map-in, in-take, in-enumerated, enumerated-in, each_in}
+use Rattle.xc_input.proofs.lists.Members.{IsIn, in-filter, in-append, append-in_left, append-in_right, in-map, map-in, in-flat_map, flat_map-in, in-take, in-enumerated, enumerated-in, each_in}
 use Rattle.xc_search.proofs.listing.BranchesLess.{least_is_one, branches_less}
 
 -- a branch takes an option of the item

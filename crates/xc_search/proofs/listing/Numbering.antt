@@ -6,7 +6,7 @@ use Rattle.std.specs.List.{AllByRecursion}
 use Rattle.xc_input.specs.declared.problem.Use.{Use}
 use Rattle.xc_input.specs.Problem.{Puzzle, Numbered, numbered_options, numbered_from, option_count, uses_of, IsSoundOption, IsValid, Bounds}
 use Rattle.xc_search.specs.Listing.{Wanted, wanted_from}
-use Rattle.xc_search.proofs.Members.{IsIn, each_from}
+use Rattle.xc_input.proofs.lists.Members.{IsIn, each_from}
 
 -- an option with its number
 pub numbered_at : (k : ℕ) (os : List (List Use)) (o : Numbered) → IsIn (numbered_from (k + 1) os) o → (j : ℕ) × (o.number ≡ k + suc j) × (j < length os) × (slice_get os j ≡ Some o.uses)

@@ -1,8 +1,8 @@
 -- The listing is one level over itself.
 use Rattle.std.proofs.Common.{◌≡◌, ◌∷◌, map, refl, ap}
 use Rattle.xc_search.specs.Listing.{Residual, branch_item, branches_of, level, listing_to, listing}
-use Rattle.xc_input.proofs.EachElement.{each_weaker}
-use Rattle.xc_input.proofs.ListFilters.{flat_map-same}
+use Rattle.xc_input.proofs.lists.EachElement.{each_weaker}
+use Rattle.xc_input.proofs.lists.Filters.{flat_map-same}
 use Rattle.xc_search.proofs.listing.ByDepth.{by_depth}
 
 pub listing_unrolled : (r : Residual) → listing r ≡ level listing (branch_item r) r

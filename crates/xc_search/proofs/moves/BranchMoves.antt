@@ -22,8 +22,8 @@ use Rattle.xc_search.proofs.residual.ReadyUses.{Ready, AreReady, ready_after, re
 use Rattle.xc_search.proofs.residual.LeftAreReady.{left_options, of_left, ready_left}
 use Rattle.xc_search.proofs.residual.CyclicUses.{placed, apart_turned, committed_picks, cut}
 use Rattle.xc_search.proofs.moves.LegalTweaks.{branch_cut, legal_branch, items_tweaked, open_tweaked, purified_tweaked, spends_tweaked, left_closed, left_open}
-use Rattle.xc_input.proofs.EachElement.{each_weaker, each-filter, each_passes, each_at, each_turned, each_both}
-use Rattle.xc_input.proofs.ListFilters.{filter_both}
+use Rattle.xc_input.proofs.lists.EachElement.{each_weaker, each-filter, each_passes, each_at, each_turned, each_both}
+use Rattle.xc_input.proofs.lists.Filters.{filter_both}
 use Rattle.xc_input.proofs.BooleanTests.{only_rest}
 use Rattle.xc_search.proofs.residual.OptionUses.{AreApart, apart_from_pairs}
 use Rattle.xc_search.proofs.listing.Numbering.{IsOption}

@@ -20,10 +20,10 @@ use Rattle.xc_search.proofs.residual.PickedByUses.{commit_use, as_residual}
 use Rattle.xc_search.proofs.residual.ReadyUses.{found_wanted, opening_commits, legal_opening, spent_self}
 use Rattle.xc_search.proofs.residual.LeftAreReady.{has_left, primary_pure}
 use Rattle.xc_search.proofs.residual.CyclicUses.{cut}
-use Rattle.xc_input.proofs.EachElement.{each_of_all}
-use Rattle.xc_input.proofs.ListFilters.{filter_both, keep_all}
+use Rattle.xc_input.proofs.lists.EachElement.{each_of_all}
+use Rattle.xc_input.proofs.lists.Filters.{filter_both, keep_all}
 use Rattle.xc_input.proofs.BooleanTests.{only_rest}
-use Rattle.xc_search.proofs.Places.{slice_get-drop, before_some, drop_one}
+use Rattle.xc_input.proofs.lists.Places.{slice_get-drop, before_some, drop_one}
 
 -- ---- what tweaks leave as it was
 

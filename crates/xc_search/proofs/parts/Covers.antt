@@ -7,8 +7,8 @@ use Rattle.xc_input.specs.Problem.{Puzzle, Numbered, numbered_options, holds, Is
 use Rattle.xc_search.specs.Cover.{IsCover}
 use Rattle.xc_search.specs.Parts.{IsHeldOnce, is_in_part, part_options, part, number_in_problem, in_problem, PartsJoin, PartsAreApart}
 use Rattle.xc_dance.proofs.MoveLemmas.OptionsRise.{options_rise}
-use Rattle.xc_search.proofs.Covering.{bounded}
-use Rattle.xc_search.proofs.Members.{IsIn, in-filter, filter-in, in-map, in-slice_get, each_in, in-contains, contains-in}
+use Rattle.xc_search.proofs.completeness.Covering.{bounded}
+use Rattle.xc_input.proofs.lists.Members.{IsIn, in-filter, filter-in, in-map, in-slice_get, each_in, in-contains, contains-in}
 use Rattle.xc_search.proofs.completeness.Complete.{is_held}
 use Rattle.xc_search.proofs.completeness.Passing.{passing, two_pass}
 use Rattle.xc_search.proofs.completeness.Whole.{is_listed, listed_in, in_listed, option_of, covers_whole}

@@ -9,8 +9,8 @@ use Rattle.xc_input.specs.declared.problem.Use.{Use}
 use Rattle.xc_input.specs.Problem.{Puzzle, Bounds, Numbered, numbered_options, numbered_from, IsSoundUse, IsValid}
 use Rattle.xc_search.specs.Listing.{Wanted, wanted_from, whole, listing}
 use Rattle.xc_search.specs.Parts.{part, part_options, part_in_front, number_in_problem, renumber_use, renumber_option, renumber_item, renumber, AreKeptApart, AreKeptInOrder, front_number, front_item, front_part, ListsPart}
-use Rattle.xc_input.proofs.EachElement.{each_weaker}
-use Rattle.xc_search.proofs.Members.{each_in, each_from, in-contains}
+use Rattle.xc_input.proofs.lists.EachElement.{each_weaker}
+use Rattle.xc_input.proofs.lists.Members.{each_in, each_from, in-contains}
 use Rattle.xc_search.proofs.listing.Numbering.{numbered_at, IsOption, all_options, with_bounds}
 use Rattle.xc_search.proofs.parts.InOrder.{is_other}
 use Rattle.xc_search.proofs.parts.Numbers.{IsNumber, in_whole, numbers_rise}

@@ -11,8 +11,8 @@ use Rattle.xc_search.specs.Listing.{Wanted, whole, spend_one, may_stay, item_lef
 use Rattle.xc_search.specs.Parts.{IsHeldOnce, is_in_part, part_options, part_in_front, first_as, PartsInOrder}
 use Rattle.xc_dance.proofs.MoveLemmas.OptionsRise.{NumbersRise, NumbersRise-filter, options_rise}
 use Rattle.xc_input.proofs.BooleanTests.{and_right, or_other}
-use Rattle.xc_input.proofs.ListFilters.{filter_both, filter_same, filter-map, map-map, flat_map-same}
-use Rattle.xc_search.proofs.Members.{IsIn, in-filter, filter-in, in-enumerated, each_from}
+use Rattle.xc_input.proofs.lists.Filters.{filter_both, filter_same, filter-map, map-map, flat_map-same}
+use Rattle.xc_input.proofs.lists.Members.{IsIn, in-filter, filter-in, in-enumerated, each_from}
 use Rattle.xc_search.proofs.completeness.Proper.{IsProper, find-in, goes_on, proper_whole}
 use Rattle.xc_search.proofs.completeness.Solved.{used_up}
 use Rattle.xc_search.proofs.listing.EachBranch.{behind, branch_item-in}

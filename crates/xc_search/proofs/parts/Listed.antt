@@ -7,9 +7,9 @@ use Rattle.xc_search.specs.Listing.{Wanted, whole, pick, listing, size_of}
 use Rattle.xc_search.specs.Cover.{IsCover, options_of}
 use Rattle.xc_search.specs.Parts.{IsHeldOnce, is_in_part, part_in_front, IsPartMember, PartsCover, PartsListCovers, PartsListOnce}
 use Rattle.xc_dance.proofs.MoveLemmas.OptionsRise.{NumbersRise-filter, options_rise}
-use Rattle.xc_search.proofs.Covering.{members_solve, solution_covers}
-use Rattle.xc_search.proofs.EachTwo.{EachTwo}
-use Rattle.xc_search.proofs.Members.{IsIn, in-filter, filter-in, in-map, map-in, in-slice_get, slice_get-in, in-contains, contains-in}
+use Rattle.xc_search.proofs.completeness.Covering.{members_solve, solution_covers}
+use Rattle.xc_input.proofs.lists.EachTwo.{EachTwo}
+use Rattle.xc_input.proofs.lists.Members.{IsIn, in-filter, filter-in, in-map, map-in, in-slice_get, slice_get-in, in-contains, contains-in}
 use Rattle.xc_search.proofs.completeness.Complete.{IsFirst, covers_pick, listed_for, member_pick}
 use Rattle.xc_search.proofs.completeness.Once.{Differ, all_differ, one_place}
 use Rattle.xc_search.proofs.completeness.Proper.{proper_whole, proper_pick, sound_items, low_items}

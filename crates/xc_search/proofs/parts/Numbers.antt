@@ -10,10 +10,10 @@ use Rattle.xc_input.specs.Problem.{Puzzle, Numbered, numbered_options, option_co
 use Rattle.xc_search.specs.Cover.{IsCover, times_held}
 use Rattle.xc_search.specs.Parts.{is_in_part, part_options, part, number_in_problem, in_problem}
 use Rattle.xc_dance.proofs.MoveLemmas.OptionsRise.{NumbersRise-filter, options_rise}
-use Rattle.xc_input.proofs.EachElement.{each_weaker, each-map}
-use Rattle.xc_search.proofs.EachTwo.{EachTwo, EachTwo-map, EachTwo-at, EachTwo-weaker, AllPairs-from_each_two, each_two_from_AllPairs}
-use Rattle.xc_search.proofs.Members.{IsIn, in-filter, in-map, map-in, in-slice_get, slice_get-in, each_in, each_from, in-contains, contains-in}
-use Rattle.xc_search.proofs.Places.{not_some}
+use Rattle.xc_input.proofs.lists.EachElement.{each_weaker, each-map}
+use Rattle.xc_input.proofs.lists.EachTwo.{EachTwo, EachTwo-map, EachTwo-at, EachTwo-weaker, AllPairs-from_each_two, each_two_from_AllPairs}
+use Rattle.xc_input.proofs.lists.Members.{IsIn, in-filter, in-map, map-in, in-slice_get, slice_get-in, each_in, each_from, in-contains, contains-in}
+use Rattle.xc_input.proofs.lists.Places.{not_some}
 use Rattle.xc_search.proofs.completeness.Once.{two_rise}
 use Rattle.xc_search.proofs.listing.Numbering.{numbered_at, uses_known, IsOption, all_options}
 

@@ -6,8 +6,8 @@ use Rattle.std.proofs.lemmas.List.{append-nil}
 use Rattle.xc_search.specs.declared.choice.Choice.{Choice}
 use Rattle.xc_input.specs.Problem.{Numbered, holds, holding}
 use Rattle.xc_search.specs.Listing.{Wanted, Residual, branch_count, branch_item, first_least, less_one, spend_one, pick, take_branch, branches_of, level, listing}
-use Rattle.xc_input.proofs.ListFilters.{filter_swap, length-filter-le}
-use Rattle.xc_search.proofs.Members.{IsIn, in-filter, filter-in, map-in, each_in}
+use Rattle.xc_input.proofs.lists.Filters.{filter_swap, length-filter-le}
+use Rattle.xc_input.proofs.lists.Members.{IsIn, in-filter, filter-in, map-in, each_in}
 use Rattle.xc_search.proofs.completeness.Proper.{goes_on}
 use Rattle.xc_search.proofs.listing.BranchesLess.{less_options, least_is_one}
 use Rattle.xc_search.proofs.listing.EachBranch.{behind}

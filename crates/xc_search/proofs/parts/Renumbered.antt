@@ -11,8 +11,8 @@ use Rattle.xc_dance.specs.Left.{agrees}
 use Rattle.xc_input.specs.Problem.{Numbered, colour_in, holds, holding}
 use Rattle.xc_search.specs.Listing.{Wanted, Residual, Branch, count_of, branch_count, branch_item, first_least, less_one, spend_one, may_stay, item_left, pick, none, take_branch, none_branch, branches_of, level, listing_to, listing, size_of}
 use Rattle.xc_search.specs.Parts.{renumber_use, renumber_option, renumber_item, renumber, renumber_choice, AreKeptApart, AreKeptInOrder, ListsAlike}
-use Rattle.xc_input.proofs.ListFilters.{filter-map, filter_same, map-same, map-map}
-use Rattle.xc_search.proofs.Members.{IsIn, in-filter, in-take, each_from, contains-in}
+use Rattle.xc_input.proofs.lists.Filters.{filter-map, filter_same, map-same, map-map}
+use Rattle.xc_input.proofs.lists.Members.{IsIn, in-filter, in-take, each_from, contains-in}
 use Rattle.xc_search.proofs.completeness.Proper.{goes_on}
 use Rattle.xc_search.proofs.listing.EachBranch.{IsTaken, IsNone, takes, nones, behind, in-branches}
 use Rattle.xc_search.proofs.residual.PickedByUses.{as_residual, is_wanted}

@@ -11,8 +11,8 @@ use Rattle.xc_search.specs.Residuals.{wanted_at, wanted_after, branches_after, c
 use Rattle.xc_search.specs.inner.Residual.{residual_of}
 use Rattle.xc_dance.proofs.MoveLemmas.OpenLists.{listed_open}
 use Rattle.xc_input.proofs.FlatParts.{numbered_get-at}
-use Rattle.xc_input.proofs.EachElement.{each_weaker, each-map}
-use Rattle.xc_input.proofs.ListFilters.{map-same}
+use Rattle.xc_input.proofs.lists.EachElement.{each_weaker, each-map}
+use Rattle.xc_input.proofs.lists.Filters.{map-same}
 
 best_same : (f g : Wanted → ℕ) (w : Wanted) (ws : List Wanted) → f w ≡ g w → AllByRecursion (λ v. f v ≡ g v) ws →
     best_of (λ x b. nat_lt (f x) (f b)) w ws ≡ best_of (λ x b. nat_lt (g x) (g b)) w ws

@@ -8,8 +8,8 @@ use Rattle.xc_input.specs.Problem.{Numbered, colour_in, holds}
 use Rattle.xc_search.specs.Listing.{Residual, less_one, may_stay, item_left, pick, spend_one}
 use Rattle.xc_search.specs.inner.Commits.{place_in}
 use Rattle.xc_search.proofs.residual.PickedByUses.{is_wanted, spend_uses, all_stay, committed, as_residual}
-use Rattle.xc_input.proofs.EachElement.{each-append, each_front}
-use Rattle.xc_input.proofs.ListFilters.{filter_both, map-same}
+use Rattle.xc_input.proofs.lists.EachElement.{each-append, each_front}
+use Rattle.xc_input.proofs.lists.Filters.{filter_both, map-same}
 use Rattle.std.proofs.Math.Bool.{and_comm, or_comm}
 use Rattle.std.proofs.lemmas.List.Folds.{list_all-append}
 use Rattle.xc_search.proofs.residual.OptionUses.{AreApart}

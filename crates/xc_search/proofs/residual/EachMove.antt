@@ -10,8 +10,8 @@ use Rattle.xc_dance.specs.Moves.{is_open, spends, open_items}
 use Rattle.xc_search.specs.Residuals.{wanted_at, wanted_after}
 use Rattle.xc_search.specs.inner.Residual.{residual_of}
 use Rattle.xc_search.proofs.residual.PickedByUses.{dec, as_residual}
-use Rattle.xc_input.proofs.EachElement.{each_weaker}
-use Rattle.xc_input.proofs.ListFilters.{filter_same, filter_both, filter-map, map-same, map-map}
+use Rattle.xc_input.proofs.lists.EachElement.{each_weaker}
+use Rattle.xc_input.proofs.lists.Filters.{filter_same, filter_both, filter-map, map-same, map-map}
 use Rattle.std.proofs.Math.Bool.{and_comm}
 use Rattle.std.proofs.lemmas.List.Elements.{filter_agree}
 

@@ -15,7 +15,7 @@ use Rattle.xc_search.specs.Residuals.{wanted_at, wanted_after}
 use Rattle.xc_search.proofs.residual.PickedByUses.{is_wanted, AreWanted}
 use Rattle.xc_dance.proofs.MoveLemmas.LeftOptions.{left_agrees, left_free, kept}
 use Rattle.xc_search.proofs.residual.ReadyUses.{Ready, primary, blank, coloured, same_colour, found_wanted, AreReady}
-use Rattle.xc_input.proofs.EachElement.{each_at, each_both}
+use Rattle.xc_input.proofs.lists.EachElement.{each_at, each_both}
 use Rattle.xc_search.proofs.residual.OptionUses.{apart_from_pairs, own_colours}
 use Rattle.xc_search.proofs.listing.Numbering.{IsOption, all_options}
 

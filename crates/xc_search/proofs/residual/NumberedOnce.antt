@@ -2,7 +2,7 @@
 use Rattle.std.proofs.Common.{ℕ, ◌≡◌, ◌<◌, List, [], ◌∷◌, sym, ap, ◌∙◌, arith, subst, inl, inr}
 use Rattle.xc_input.specs.Problem.{Numbered}
 use Rattle.xc_dance.proofs.MoveLemmas.OptionsRise.{NumbersRise}
-use Rattle.xc_search.proofs.Members.{IsIn}
+use Rattle.xc_input.proofs.lists.Members.{IsIn}
 
 pub above_in : (n : ℕ) (os : List Numbered) (o : Numbered) → NumbersRise n os → IsIn os o → n < o.number
 above_in n [] o r h = absurd h

@@ -5,8 +5,8 @@ use Rattle.std.specs.List.{AllByRecursion}
 use Rattle.xc_input.specs.declared.problem.Use.{Use}
 use Rattle.xc_input.specs.Problem.{colour_in}
 use Rattle.std.proofs.lemmas.List.Elements.{recursion_from_All}
-use Rattle.xc_input.proofs.EachElement.{each_both}
-use Rattle.xc_search.proofs.Members.{IsIn}
+use Rattle.xc_input.proofs.lists.EachElement.{each_both}
+use Rattle.xc_input.proofs.lists.Members.{IsIn}
 
 abbrev pub AreApart : List Use → Type 0
 AreApart [] = Unit {0}

@@ -5,8 +5,8 @@ use Rattle.std.specs.List.{AllByRecursion, list_all}
 use Rattle.xc_input.specs.declared.problem.Use.{Use}
 use Rattle.xc_input.specs.Problem.{Numbered, colour_in}
 use Rattle.xc_search.specs.Listing.{Wanted, Residual, less_one, may_stay, item_left}
-use Rattle.xc_input.proofs.ListFilters.{filter_both, keep_all}
-use Rattle.xc_input.proofs.EachElement.{each_of_all}
+use Rattle.xc_input.proofs.lists.Filters.{filter_both, keep_all}
+use Rattle.xc_input.proofs.lists.EachElement.{each_of_all}
 use Rattle.std.proofs.lemmas.List.{map-id}
 use Rattle.std.proofs.lemmas.List.Elements.{filter_agree}
 use Rattle.xc_search.proofs.residual.OptionUses.{AreApart}

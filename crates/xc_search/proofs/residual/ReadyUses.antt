@@ -17,8 +17,8 @@ use Rattle.xc_search.specs.inner.Commits.{opened, after_use, after_uses}
 use Rattle.xc_search.proofs.residual.PickedByUses.{dec, is_wanted, commit_use, commit_uses, AreWanted, as_residual, still_wanted}
 use Rattle.xc_search.proofs.residual.EachMove.{residual_spend, residual_cover, residual_purify, residual_cover_secondary, in_range}
 use Rattle.xc_dance.proofs.MoveLemmas.LeftOptions.{left_agrees}
-use Rattle.xc_input.proofs.EachElement.{each_weaker, each-map, each_of_all, each_both, each-filter}
-use Rattle.xc_input.proofs.ListFilters.{filter_same, keep_all}
+use Rattle.xc_input.proofs.lists.EachElement.{each_weaker, each-map, each_of_all, each_both, each-filter}
+use Rattle.xc_input.proofs.lists.Filters.{filter_same, keep_all}
 use Rattle.xc_search.proofs.residual.OptionUses.{AreApart}
 
 pub data Ready (p : Puzzle) (t : List Move) (u : Use) : Type 0 where

@@ -5,7 +5,7 @@ use Rattle.xc_dance.specs.declared.dance.Move.{Move}
 use Rattle.xc_dance.specs.declared.dance.Move.TheVariants.{Cover, Purify, Tweak, Spend}
 use Rattle.xc_input.specs.Problem.{Puzzle, item_count}
 use Rattle.xc_dance.specs.Moves.{is_open, AreLegal}
-use Rattle.xc_input.proofs.ListFilters.{length-filter-le}
+use Rattle.xc_input.proofs.lists.Filters.{length-filter-le}
 use Rattle.std.proofs.lemmas.List.FromFn.{length-range_with_len}
 
 abbrev pub closings : List Move → ℕ

@@ -9,7 +9,7 @@ use Rattle.xc_input.specs.Problem.{Puzzle, primary_count, Bounds, high_at}
 use Rattle.xc_dance.specs.Moves.{AreLegal, spends}
 use Rattle.xc_search.specs.inner.MostLevels.{high_total}
 use Rattle.xc_search.specs.inner.Sparing.{spendings}
-use Rattle.xc_search.proofs.lists.Totals.{total, total_le, total_less, total_same, total_shifted}
+use Rattle.xc_input.proofs.lists.Totals.{total, total_le, total_less, total_same, total_shifted}
 
 abbrev high_in : List Bounds → ℕ → ℕ
 high_in bs k = (unwrap_or (slice_get bs k) (record { low = 0; high = 0 })).high

@@ -6,12 +6,11 @@ use Rattle.std.specs.List.{range_with_len}
 use Rattle.xc_input.specs.declared.problem.Use.{Use}
 use Rattle.xc_dance.specs.declared.dance.Move.{Move}
 use Rattle.xc_dance.specs.declared.dance.Move.TheVariants.{Cover, Purify, Tweak, Spend}
-use Rattle.xc_input.specs.Problem.{Puzzle, Numbered, numbered_options, numbered_from, colour_in, item_count, holding}
+use Rattle.xc_input.specs.Problem.{Puzzle, Numbered, numbered_options, numbered_from, colour_in, item_count, holding, use_count}
 use Rattle.xc_dance.specs.Moves.{listed, is_open, without, AreLegal}
-use Rattle.xc_search.specs.Room.{use_count}
 use Rattle.xc_search.specs.inner.Sparing.{uses_in}
-use Rattle.xc_input.proofs.ListFilters.{length-filter-le}
-use Rattle.xc_search.proofs.lists.Totals.{total, total_zero, total_le, total_less, one_if, total_same, total_two, total_once}
+use Rattle.xc_input.proofs.lists.Filters.{length-filter-le}
+use Rattle.xc_input.proofs.lists.Totals.{total, total_zero, total_le, total_less, one_if, total_same, total_two, total_once}
 
 abbrev pub tweakings : List Move → ℕ
 tweakings [] = 0
@@ -83,5 +82,5 @@ pub uses_whole : (k : ℕ) (os : List (List Use)) → uses_in (numbered_from k o
 uses_whole k [] = refl
 uses_whole k (us ∷ os) = omega (arith, uses_whole (k + 1) os, sum_by-cons (λ (us : List Use). length us) us os)
 
-pub few_tweakings : (p : Puzzle) (t : List Move) → AreLegal p t → tweakings t ≤ use_count p
+pub few_tweakings : (p : Puzzle) (t : List Move) → AreLegal p t → tweakings t ≤ use_count p.options
 few_tweakings p t l = omega (arith, tweaks_listed p t l, held_all (numbered_options p) 1 (item_count p), uses_whole 1 p.options)

@@ -5,16 +5,15 @@ use Rattle.std.specs.List.{range_with_len}
 use Rattle.xc_input.specs.declared.problem.Use.{Use}
 use Rattle.xc_dance.specs.declared.dance.Move.{Move}
 use Rattle.xc_dance.specs.declared.dance.Move.TheVariants.{Cover, Purify, Spend}
-use Rattle.xc_input.specs.Problem.{Puzzle, Numbered, holds, high_at, primary_count, holding}
+use Rattle.xc_input.specs.Problem.{Puzzle, Numbered, holds, high_at, primary_count, holding, use_count}
 use Rattle.xc_search.specs.Listing.{Residual, pick, none, spend_one, stays, branch_item, branch_count}
 use Rattle.xc_dance.specs.Moves.{is_open, spends, open_items}
 use Rattle.xc_search.specs.Residuals.{wanted_at, wanted_after}
 use Rattle.xc_search.specs.inner.Residual.{residual_of}
 use Rattle.xc_dance.specs.Left.{left}
 use Rattle.xc_search.specs.inner.Commits.{opened, tweaked, after_use, after_uses, others, place_in, closed}
-use Rattle.xc_search.specs.Room.{use_count}
 use Rattle.xc_search.specs.inner.Sparing.{spendings, uses_in, IsSparing}
-use Rattle.xc_input.proofs.ListFilters.{length-filter-le}
+use Rattle.xc_input.proofs.lists.Filters.{length-filter-le}
 use Rattle.xc_search.proofs.listing.BranchesLess.{less_items, least_is_one}
 use Rattle.xc_search.proofs.room.FewTweaks.{uses_whole}
 use Rattle.std.proofs.lemmas.List.{length-map, length-take}
@@ -127,6 +126,6 @@ sparing_none p t i m s b r =
     )
 
 -- also while a level is open and no branch was begun
-pub sparing_opened : (p : Puzzle) (t : List Move) (i : ℕ) → IsSparing p t → branch_item (residual_of p t) ≡ Some (wanted_at p t i) → spendings (opened p i t) ≤ use_count p + primary_count p
+pub sparing_opened : (p : Puzzle) (t : List Move) (i : ℕ) → IsSparing p t → branch_item (residual_of p t) ≡ Some (wanted_at p t i) → spendings (opened p i t) ≤ use_count p.options + primary_count p
 sparing_opened p t i s b =
     omega (arith, s, spent_opened p i t, open_is p t, less_items (wanted_at p t i) (wanted_after p t) (least_is_one (branch_count (residual_of p t)) (wanted_after p t) (wanted_at p t i) b))

@@ -9,8 +9,8 @@ use Rattle.xc_search.specs.inner.Residual.{residual_of}
 use Rattle.xc_search.specs.inner.Levels.{branches_at, members_of, IsShallow, AreStacked, chosen, choices_of, to_give, coming, IsBegun}
 use Rattle.xc_search.specs.inner.Commits.{oldest}
 use Rattle.xc_search.specs.inner.Ahead.{cost, work, visits, ahead}
-use Rattle.xc_input.proofs.ListFilters.{map-same}
-use Rattle.xc_search.proofs.Places.{drop_at}
+use Rattle.xc_input.proofs.lists.Filters.{map-same}
+use Rattle.xc_input.proofs.lists.Places.{drop_at}
 
 choices_more : (k : Level) (ls : List Level) → choices_of (k ∷ ls) ≡ choices_of ls ++ chosen k ∷ []
 choices_more k ls = ap (map chosen) (reverse-append (k ∷ []) ls) ∙ map-append chosen (reverse ls) (k ∷ [])

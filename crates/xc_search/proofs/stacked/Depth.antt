@@ -13,10 +13,10 @@ use Rattle.xc_search.specs.inner.Sparing.{spendings}
 use Rattle.xc_search.specs.inner.Levels.{IsShallow, AreStacked, IsNode, IsBegun}
 use Rattle.xc_search.proofs.room.SparingMoves.{spent_opened, spent_tweaked}
 use Rattle.xc_search.proofs.listing.BranchesLess.{branches_less, less_items, least_is_one}
-use Rattle.xc_input.proofs.EachElement.{each_at}
+use Rattle.xc_input.proofs.lists.EachElement.{each_at}
 use Rattle.xc_search.proofs.stacked.NextLevel.{branches_here}
 use Rattle.xc_dance.proofs.MoveLemmas.ListLemmas.{length-numbered_from}
-use Rattle.xc_input.proofs.ListFilters.{length-filter-le}
+use Rattle.xc_input.proofs.lists.Filters.{length-filter-le}
 use Rattle.std.proofs.lemmas.List.{length-map, take-append-drop}
 use Rattle.std.proofs.lemmas.List.FromFn.{length-range_with_len}
 use Rattle.std.specs.Prelude.{slice_get}

@@ -15,7 +15,7 @@ use Rattle.xc_search.specs.inner.Residual.{residual_of}
 use Rattle.xc_search.specs.inner.Levels.{branches_at, members_of, IsSearchable, IsNode, options_at, IsLevelAt, IsShallow, AreStacked, choices_of, to_give, coming, first_level}
 use Rattle.xc_search.specs.inner.Commits.{opened, oldest, after_use, after_uses, closed, walks}
 use Rattle.xc_search.specs.inner.Ahead.{cost, work, work_level, visits, ahead}
-use Rattle.xc_search.proofs.Members.{each_in}
+use Rattle.xc_input.proofs.lists.Members.{each_in}
 use Rattle.xc_search.proofs.listing.Unrolled.{listing_unrolled}
 use Rattle.xc_search.proofs.listing.BranchesLess.{least_is_one}
 use Rattle.xc_search.proofs.residual.EachMove.{in_range}
@@ -23,8 +23,8 @@ use Rattle.xc_search.proofs.residual.ReadyUses.{as_spent}
 use Rattle.xc_search.proofs.residual.BranchItemLeft.{choice_is_branch_item, choice_of}
 use Rattle.xc_search.proofs.moves.OldestMoves.{oldest_all}
 use Rattle.xc_search.proofs.stacked.WorkUnrolled.{work_unrolled}
-use Rattle.xc_input.proofs.EachElement.{each_weaker, each-map, each-filter, each_passes, each_both}
-use Rattle.xc_input.proofs.ListFilters.{map-map}
+use Rattle.xc_input.proofs.lists.EachElement.{each_weaker, each-map, each-filter, each_passes, each_both}
+use Rattle.xc_input.proofs.lists.Filters.{map-map}
 use Rattle.std.proofs.lemmas.List.{map-append, take-append-drop}
 
 -- ---- the oldest moves

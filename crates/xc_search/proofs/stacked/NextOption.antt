@@ -14,7 +14,7 @@ use Rattle.xc_search.proofs.moves.OldestMoves.{oldest_all}
 use Rattle.xc_dance.proofs.MoveLemmas.OpenLists.{left_rises}
 use Rattle.xc_dance.proofs.MoveLemmas.OptionsRise.{NumbersRise-filter, NumbersRise-weaker, NumbersRise}
 use Rattle.xc_search.proofs.moves.LegalTweaks.{listed_branch, rise_above}
-use Rattle.xc_search.proofs.Places.{slice_get-drop}
+use Rattle.xc_input.proofs.lists.Places.{slice_get-drop}
 
 abbrev number_of : Numbered → ℕ
 number_of o = o.number

@@ -2,10 +2,9 @@
 use Rattle.std.specs.Prelude.{ℕ, suc, ◌+◌, ◌≤◌, List, [], ◌∷◌, length}
 use Rattle.xc_dance.specs.declared.dance.Move.{Move}
 use Rattle.xc_dance.specs.declared.dance.Move.TheVariants.{Cover, Purify, Tweak, Spend}
-use Rattle.xc_input.specs.Problem.{Puzzle, Numbered, primary_count}
+use Rattle.xc_input.specs.Problem.{Puzzle, Numbered, primary_count, use_count}
 use Rattle.xc_dance.specs.Moves.{open_items}
 use Rattle.xc_dance.specs.Left.{left}
-use Rattle.xc_search.specs.Room.{use_count}
 
 -- how many of the moves are Spends
 abbrev pub spendings : List Move → ℕ
@@ -22,4 +21,4 @@ uses_in (o ∷ os) = length o.uses + uses_in os
 
 -- The Spends that stand are no more than the uses of options that were taken and the items that were left out.
 abbrev pub IsSparing : Puzzle → List Move → Type 0
-IsSparing p t = spendings t + length (open_items p t) + uses_in (left p t) ≤ use_count p + primary_count p
+IsSparing p t = spendings t + length (open_items p t) + uses_in (left p t) ≤ use_count p.options + primary_count p

@@ -1,5 +1,5 @@
-use Rattle.xc_search.proofs.Covering.{each_member_covers}
-use Rattle.xc_search.proofs.Exactly.{each_cover_is_listed_once}
+use Rattle.xc_search.proofs.completeness.Covering.{each_member_covers}
+use Rattle.xc_search.proofs.completeness.Exactly.{each_cover_is_listed_once}
 use Rattle.xc_list.proofs.runs.run_over_links.Goals as goal
 
 pub returns-in_err-links-clause-right : goal.returns-in_err-links-clause-right

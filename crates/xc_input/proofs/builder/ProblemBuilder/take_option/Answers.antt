@@ -1,6 +1,7 @@
 use Rattle.std.proofs.Common.{ℕ, vec_len, ◌≡◌, ◌∙◌, sym, ap, subst, map, refl, arith, ◌≤◌, ◌<◌, ◌+◌, length, [], ◌∷◌, nat_lt, ◌&&◌, ◌++◌, ◌-◌, Vec, Global, is_ok}
+use Rattle.xc_input.specs.Problem.{use_count}
 use Rattle.xc_input.specs.Tokens.{tokens}
-use Rattle.xc_input.specs.Sheets.{use_count, number_uses, with_uses}
+use Rattle.xc_input.specs.Sheets.{number_uses, with_uses}
 use Rattle.xc_input.specs.Faults.{has_primary, option_checks, context}
 use Rattle.xc_input.specs.Limits.{most_uses}
 use Rattle.xc_input.specs.Stages.{written_by}
@@ -29,7 +30,7 @@ pub returns-in_err-uses-clause-judged : goal.returns-in_err-uses-clause-judged
 returns-in_err-uses-clause-judged c =
     IsErr-judged (Unit {0}) (Unit {0}) _ c.from_residual.result c.in_err-uses.field-0.0 _ c.from_residual.ensures.1 (λ x p. p)
     (hands-on (Vec WrittenUse Global) (Unit {0}) _ (option_checks (context c.args.kind (key_names c.args.self.now.names.keys) c.args.self.now.primary) [] (tokens c.args.line.now))
-    ((TooManyUses, has_primary c.args.self.now.primary (written_by (sheet_of_builder c.args.self.now) c.args.line.now) && nat_lt most_uses (use_count (pieces (0 ∷ c.args.self.now.ends.items) c.args.self.now.uses.items) + length (tokens c.args.line.now))) ∷ [])
+    ((TooManyUses, has_primary c.args.self.now.primary (written_by (sheet_of_builder c.args.self.now) c.args.line.now) && nat_lt most_uses (use_count (pieces c.args.self.now.starts.items c.args.self.now.uses.items) + length (tokens c.args.line.now))) ∷ [])
     c.in_err-uses.field-0.0 (content-is c.args.kind c.args.self.now c.args.line.now c.requires.sound c.requires.started) c.in_err-uses.ensures.judged)
 
 pub returns-then-not-has_primary_use-clause-judged : goal.returns-then-not-has_primary_use-clause-judged
@@ -73,6 +74,6 @@ returns-clause-taken c =
     (ap length back ∙ same ∙ c.requires.sound.marks)
     (subst (λ ms. AreMarks ms []) (sym back) c.in_ok-uses.ensures.unmarked)
     c.in_ok-add_uses.ensures.few
-    (pushed c.push-2.result c.args.self.now.ends.items c.push-2.new.self.items c.len-3.result (ap is_ok c.in_ok-push-2.was) c.push-2.ensures.items
-    ∙ ap (λ n. c.args.self.now.ends.items ++ n ∷ []) (c.len-3.ensures ∙ items-length c.add_uses.new.uses))
+    (pushed c.push-2.result c.args.self.now.starts.items c.push-2.new.self.items c.len-3.result (ap is_ok c.in_ok-push-2.was) c.push-2.ensures.items
+    ∙ ap (λ n. c.args.self.now.starts.items ++ n ∷ []) (c.len-3.ensures ∙ items-length c.add_uses.new.uses))
     room

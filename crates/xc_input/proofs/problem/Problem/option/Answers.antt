@@ -1,25 +1,50 @@
-use Rattle.std.proofs.Common.{arith, ◌≡◌, ◌∷◌, Some, ap, sym, ◌∙◌, length, subst}
-use Rattle.std.specs.Prelude.{All}
+use Rattle.std.proofs.Common.{arith, rules, ◌≡◌, ◌≤◌, ◌∙◌, Some, ap, sym, length, subst}
+use Rattle.std.proofs.lemmas.Grind.{common_steps}
+use Rattle.std.specs.Prelude.{All, slice_range}
 use Rattle.xc_input.specs.Problem.{option_count, numbered_get}
 use Rattle.xc_input.specs.Flat.{pieces}
 use Rattle.xc_input.specs.Named.{Named, IsKnownUse}
 use Rattle.xc_input.specs.Stored.{key_names}
-use Rattle.xc_input.proofs.FlatParts.{length-pieces}
+use Rattle.xc_input.proofs.FlatParts.{length-pieces, option_part}
 use Rattle.xc_input.proofs.Known.{known_option}
-use Rattle.xc_input.proofs.problem.Problem.option.Goals.{After-piece}
+use Rattle.xc_input.proofs.problem.Problem.option.Goals.{After-deref}
 use Rattle.xc_input.proofs.problem.Problem.option.Goals as goal
 
-pub piece-requires-clause-known : goal.piece-requires-clause-known
-piece-requires-clause-known c =
-    let parts = length-pieces (0 ∷ c.self.inside.ends.items) c.self.inside.uses.items c.self.invariant.starts in
-    let count = ap (λ (v : Named). option_count v.puzzle) c.self.view_is in
-    (c.requires.known.0, omega (arith, parts, count, c.requires.known.1, ap length c.deref-2.ensures.value))
+pub index-requires : goal.index-requires
+index-requires c = grind (arith, common_steps, length-pieces)
 
--- the uses are the option's
-here : (c : After-piece) → numbered_get (pieces (0 ∷ c.self.inside.ends.items) c.self.inside.uses.items) c.args.o ≡ Some c.piece.result.now
-here c = (λ i. numbered_get (pieces (0 ∷ sym c.deref-2.ensures.value i) (sym c.deref.ensures.value i)) c.args.o) ∙ c.piece.ensures
+pub index-requires-2 : goal.index-requires-2
+index-requires-2 c = grind (arith, common_steps, length-pieces)
+
+-- the option's uses, between its start and the next
+part : (c : After-deref) → (let us = c.deref.result.now in let a = c.index.result.now in let b = c.index-2.result.now in
+    (a ≤ b) × (b ≤ length us) × (numbered_get (pieces c.self.inside.starts.items c.self.inside.uses.items) c.args.o ≡ Some (slice_range us a b)))
+part c =
+    let starts = c.self.inside.starts.items in
+    let us = c.self.inside.uses.items in
+    let count = ap (λ (v : Named). option_count v.puzzle) c.self.view_is in
+    let r = option_part starts us c.args.o c.index.result.now c.index-2.result.now c.self.invariant.starts.1 c.requires.known.0
+    (omega (arith, length-pieces starts us c.self.invariant.starts.1, count, c.requires.known.1)) c.index.ensures c.index-2.ensures in
+    (r.0, omega (arith, r.1, ap length c.deref.ensures.value), r.2 ∙ ap (λ xs. Some (slice_range xs c.index.result.now c.index-2.result.now)) (sym c.deref.ensures.value))
+
+pub slice_bounds-result-count : goal.slice_bounds-result-count
+slice_bounds-result-count c = (part (goal.at.slice_bounds-result-count c).After-deref).0
+
+pub slice_bounds-result-start : goal.slice_bounds-result-start
+slice_bounds-result-start c = (part (goal.at.slice_bounds-result-start c).After-deref).0
+
+pub slice_bounds-result-end : goal.slice_bounds-result-end
+slice_bounds-result-end c =
+    let r = part (goal.at.slice_bounds-result-end c).After-deref in
+    let rises : c.index.result.now ≤ c.index-2.result.now = r.0 in
+    let within : c.index-2.result.now ≤ length c.deref.result.now = r.1 in
+    search rules
+
+pub returns-clause-value : goal.returns-clause-value
+returns-clause-value c =
+    ap (λ (v : Named). numbered_get v.puzzle.options c.args.o) (sym c.self.view_is) ∙ (part (goal.at.returns-clause-value c).After-deref).2
 
 pub returns-clause-known : goal.returns-clause-known
 returns-clause-known c =
-    subst (λ (v : Named). All (IsKnownUse v) c.piece.result.now) c.self.view_is
-    (known_option _ (key_names c.self.inside.colours.keys) c.args.o c.piece.result.now c.self.invariant.sound.valid c.self.invariant.sound.coloured (here c))
+    subst (λ (v : Named). All (IsKnownUse v) (slice_range c.deref.result.now c.index.result.now c.index-2.result.now)) c.self.view_is
+    (known_option _ (key_names c.self.inside.colours.keys) c.args.o _ c.self.invariant.sound.valid c.self.invariant.sound.coloured (part (goal.at.returns-clause-known c).After-deref).2)

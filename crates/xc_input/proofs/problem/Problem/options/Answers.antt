@@ -1,4 +1,4 @@
-use Rattle.std.proofs.Common.{arith, ◌∷◌, ap}
+use Rattle.std.proofs.Common.{arith, ap}
 use Rattle.xc_input.specs.Problem.{option_count}
 use Rattle.xc_input.specs.Named.{Named}
 use Rattle.xc_input.proofs.FaultLemmas.{items-length}
@@ -7,11 +7,11 @@ use Rattle.xc_input.proofs.problem.Problem.options.Goals as goal
 
 pub overflow_cast-result : goal.overflow_cast-result
 overflow_cast-result c =
-    let parts = length-pieces (0 ∷ c.self.inside.ends.items) c.self.inside.uses.items c.self.invariant.starts in
-    omega (arith, parts, c.len.ensures, items-length c.self.inside.ends, c.self.invariant.sound.limits.options)
+    let parts = length-pieces c.self.inside.starts.items c.self.inside.uses.items c.self.invariant.starts.1 in
+    omega (arith, parts, c.len.ensures, items-length c.self.inside.starts, c.self.invariant.sound.limits.options)
 
 pub returns-clause-value : goal.returns-clause-value
 returns-clause-value c =
-    let parts = length-pieces (0 ∷ c.self.inside.ends.items) c.self.inside.uses.items c.self.invariant.starts in
+    let parts = length-pieces c.self.inside.starts.items c.self.inside.uses.items c.self.invariant.starts.1 in
     let count = ap (λ (v : Named). option_count v.puzzle) c.self.view_is in
-    omega (arith, parts, c.len.ensures, items-length c.self.inside.ends, count)
+    omega (arith, parts, c.len.ensures, items-length c.self.inside.starts, count)

@@ -21,7 +21,7 @@ pub new-requires-clause-secondary : goal.new-requires-clause-secondary
 new-requires-clause-secondary c = optional-behind _ c.self.inside.kind c.self.inside.given.lines c.self.inside.error (sym c.self.view_is) c.self.invariant.1 c.in_default.is c.self.inside.builder c.self.invariant.2 (not-false _ c.if-not-builder.false)
 
 pub new-requires-clause-starts : goal.new-requires-clause-starts
-new-requires-clause-starts c = starts-are _ c.self.inside.kind c.self.inside.given.lines c.self.inside.error (sym c.self.view_is) c.self.invariant.1 c.in_default.is c.self.inside.builder c.self.invariant.2
+new-requires-clause-starts c = starts-are _ c.self.inside.kind c.self.inside.given.lines c.self.inside.error (sym c.self.view_is) c.self.invariant.1 c.in_default.is c.self.inside.builder c.self.invariant.2 (not-false _ c.if-not-builder.false)
 
 pub new-requires-clause-sound : goal.new-requires-clause-sound
 new-requires-clause-sound c = is-sound _ c.self.inside.kind c.self.inside.given.lines c.self.inside.error (sym c.self.view_is) c.self.invariant.1 c.in_default.is c.self.inside.builder c.self.invariant.2 c.self.invariant.3 (not-false _ c.if-not-builder.false)

@@ -2,7 +2,7 @@ use Rattle.std.proofs.Common.{ℕ, suc, ◌≡◌, ◌+◌, ◌++◌, ◌∷◌,
 use Rattle.std.specs.Prelude.{Option, slice_get, slice_set, unwrap_or}
 use Rattle.xc_input.specs.declared.problem.Use.{Use}
 use Rattle.xc_input.specs.Problem.{Puzzle, numbered_get}
-use Rattle.xc_search.proofs.Members.{IsIn}
+use Rattle.xc_input.proofs.lists.Members.{IsIn}
 use Rattle.xc_list.specs.inner.Classes.{class_of, class_at}
 use Rattle.xc_list.specs.inner.OptionIndex.{AreClassesTo, key_uses}
 use Rattle.xc_list.proofs.CheckLemmas.ClassesSoFar.{members-few, members_at, classes-found, classes-new}

@@ -7,8 +7,8 @@ use Rattle.xc_search.specs.inner.MostLevels.{most_levels}
 use Rattle.xc_search.specs.Cover.{members}
 use Rattle.xc_search.specs.inner.Levels.{Levels, IsStanding, coming, choices_of}
 use Rattle.xc_search.proofs.stacked.Start.{starts_standing, starts_coming}
-use Rattle.xc_search.proofs.Covering.{each_member_covers}
-use Rattle.xc_search.proofs.Exactly.{each_cover_is_listed_once}
+use Rattle.xc_search.proofs.completeness.Covering.{each_member_covers}
+use Rattle.xc_search.proofs.completeness.Exactly.{each_cover_is_listed_once}
 use Rattle.xc_search.proofs.search.Search.new.Goals as goal
 
 pub invariant_of-result : goal.invariant_of-result

@@ -3,7 +3,7 @@ use Rattle.std.proofs.lemmas.List.{map-set, length-set, length-reverse, get_or-m
 use Rattle.std.proofs.Math.ListN.{set, get_or}
 use Rattle.xc_input.proofs.FaultLemmas.{items-length}
 use Rattle.xc_search.specs.declared.level.Level.{Level}
-use Rattle.xc_search.proofs.lists.LastChanged.{newest_changed, first_changed}
+use Rattle.xc_input.proofs.lists.LastChanged.{newest_changed, first_changed}
 use Rattle.xc_search.specs.inner.Levels.{chosen, begun_level, begun_choice, Levels}
 use Rattle.xc_search.proofs.stack.Stack.begin.Goals as goal
 

@@ -1,7 +1,7 @@
 use Rattle.std.proofs.Common.{suc, ◌≢◌, arith, ◌≡◌, ◌-◌, ◌≤◌, [], ◌∷◌, length, get_or, take, sym, ◌∙◌, ap, refl}
 use Rattle.std.proofs.lemmas.List.Elements.{recursion_from_All}
 use Rattle.xc_input.specs.declared.problem.Use.{Use}
-use Rattle.xc_search.proofs.EachTwo.{each_two_from_AllPairs}
+use Rattle.xc_input.proofs.lists.EachTwo.{each_two_from_AllPairs}
 use Rattle.xc_list.specs.inner.CoverCounts.{added, coloured}
 use Rattle.xc_list.proofs.CheckLemmas.HeldItems.{AreItems, held, each_take, added-at, length-added, length-coloured, not_before, added_more, coloured_more}
 use Rattle.xc_list.proofs.checker.counts.Counts.add.Goals as goal

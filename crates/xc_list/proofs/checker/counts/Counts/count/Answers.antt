@@ -3,7 +3,7 @@ use Rattle.std.proofs.lemmas.List.{get_or_default, length-replicate}
 use Rattle.std.proofs.lemmas.List.Elements.{recursion_from_All}
 use Rattle.xc_input.specs.declared.problem.Use.{Use}
 use Rattle.xc_input.specs.Problem.{item_count}
-use Rattle.xc_search.proofs.EachTwo.{AllPairs-from_each_two}
+use Rattle.xc_input.proofs.lists.EachTwo.{AllPairs-from_each_two}
 use Rattle.xc_list.specs.inner.CoverCounts.{item_places, added, coloured, raised, uses_at, uses_in}
 use Rattle.xc_list.proofs.CheckLemmas.HeldItems.{length-raised, length-coloured}
 use Rattle.xc_list.proofs.CheckLemmas.Rotations.{DifferInItems}

@@ -10,11 +10,11 @@ use Rattle.xc_input.specs.Problem.{Puzzle, Bounds, Numbered, numbered_options, p
 use Rattle.xc_search.specs.Listing.{Wanted, Residual, Branch, whole, item_left, pick, none, branch_item, branch_count, branches_of, level, listing_to, listing, size_of}
 use Rattle.xc_dance.specs.Left.{agrees}
 use Rattle.xc_search.specs.Cover.{IsCover, times_held, options_of, members, EachMemberCovers}
-use Rattle.xc_search.proofs.Members.{IsIn, in-map, each_in, each_from, in-contains}
+use Rattle.xc_input.proofs.lists.Members.{IsIn, in-map, each_in, each_from, in-contains}
 use Rattle.xc_search.proofs.completeness.Solved.{count, beside, AreBeside, IsMet, Solves, solves_pick, solves_none}
 use Rattle.xc_search.proofs.completeness.Proper.{IsProper, find-in, sound_items, low_items, proper_pick, proper_none, proper_whole}
 use Rattle.xc_search.proofs.listing.EachBranch.{IsTaken, IsNone, in-branches, in-level, no_items_left, branch_item-in, less_behind}
-use Rattle.xc_search.proofs.EachTwo.{EachTwo, EachTwo-map, AllPairs-from_each_two, EachTwo-weaker, EachTwo-of}
+use Rattle.xc_input.proofs.lists.EachTwo.{EachTwo, EachTwo-map, AllPairs-from_each_two, EachTwo-weaker, EachTwo-of}
 use Rattle.std.proofs.lemmas.List.{nil_from_length}
 use Rattle.xc_input.proofs.BooleanTests.{and_left, and_right, or_other}
 use Rattle.xc_search.proofs.listing.Numbering.{numbered_at, uses_known, at_item}

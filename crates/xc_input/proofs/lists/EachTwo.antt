@@ -4,8 +4,8 @@ use Rattle.std.specs.Prelude.{flat_map, slice_get, AllPairs}
 use Rattle.std.specs.List.{AllByRecursion, enumerate_from}
 use Rattle.std.proofs.lemmas.List.Elements.{All-from_recursion, recursion_from_All}
 use Rattle.std.proofs.lemmas.List.Kept.{AllPairs-cons}
-use Rattle.xc_input.proofs.EachElement.{each-append}
-use Rattle.xc_search.proofs.Members.{IsIn, in-map, in-flat_map, in-take, in-enumerated, in-slice_get, each_in, each_from}
+use Rattle.xc_input.proofs.lists.EachElement.{each-append}
+use Rattle.xc_input.proofs.lists.Members.{IsIn, in-map, in-flat_map, in-take, in-enumerated, in-slice_get, each_in, each_from}
 
 -- `AllPairs` by recursion
 abbrev pub EachTwo : {X : Type 0} → (X → X → Type 0) → List X → Type 0

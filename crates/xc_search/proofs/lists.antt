@@ -1,2 +1,0 @@
-pub mod LastChanged
-pub mod Totals
