@@ -1,18 +1,17 @@
 -- A problem that was read is fit for the walks and fits into the tables.
-use Rattle.std.proofs.Common.{◌≡◌, ◌≢◌, ℕ, zero, suc, ◌<◌, ◌≤◌, ◌^◌, false, List, [], ◌∷◌, length, get_or, refl, sym, arith, ne_eqb, Bool, true, not, ap, subst}
+use Rattle.std.proofs.Common.{◌≡◌, ◌≢◌, ℕ, zero, suc, ◌<◌, ◌≤◌, ◌^◌, false, List, [], ◌∷◌, length, get_or, refl, sym, arith, ne_eqb, subst}
 use Rattle.std.specs.Prelude.{is_some, slice_get, unwrap_or, All, AllPairs}
-use Rattle.std.specs.List.{AllByRecursion, prefix_len}
+use Rattle.std.specs.List.{AllByRecursion}
 use Rattle.std.proofs.lemmas.List.Elements.{recursion_from_All}
 use Rattle.std.proofs.lemmas.Grind.{common_steps}
-use Rattle.std.proofs.lemmas.List.{length-map, get_or-map}
 use Rattle.xc_input.specs.declared.problem.Use.{Use}
 use Rattle.xc_input.specs.Problem.{Puzzle, colour_in, uses_of, item_count, IsValid, IsSoundOption, IsSoundUse, Bounds, high_at, IsWithinLimits}
 use Rattle.xc_input.specs.Named.{AreColoursKnown}
 use Rattle.xc_dance.specs.Links.Laid.{AreDistinct, IsFit}
 use Rattle.xc_dance.specs.Links.Span.{Span}
-use Rattle.xc_dance.specs.Fields.{Node, unused, used, layout, is_spacer}
-use Rattle.xc_dance.specs.Links.Made.{AreNear, IsFitted}
-use Rattle.xc_dance.specs.Links.OptionSpans.{span_of, spans_of}
+use Rattle.xc_dance.specs.Fields.{layout}
+use Rattle.xc_dance.specs.Links.Made.{IsFitted}
+use Rattle.xc_dance.specs.Links.OptionSpans.{spans_of}
 use Rattle.xc_input.proofs.lists.EachElement.{each_weaker}
 use Rattle.xc_dance.proofs.LinkedTables.LaidLemmas.{is_laid}
 use Rattle.xc_dance.proofs.LinkedTables.PlaceLemmas.{layout_small, has_spans}
@@ -48,8 +47,8 @@ sound_items : (p : Puzzle) (us : List Use) → IsSoundOption p us → AllByRecur
 sound_items p us s = each_weaker (IsSoundUse p) (InRange p) us (λ u h. (let a = h.0.0 in omega (arith, a), h.0.1)) (recursion_from_All (IsSoundUse p) us s.sound)
 
 -- the rules of a problem say nothing of the colours: they are to be below the mark
-pub is_fit : (p : Puzzle) → IsValid p → All (λ us. All (λ u. u.colour < 4294967295) us) p.options → length p.options < 2 ^ 30 → item_count p < 2 ^ 31 → IsFit p
-is_fit p valid colours few small =
+pub is_fit : (p : Puzzle) → IsValid p → All (λ us. All (λ u. u.colour < 4294967295) us) p.options → length p.options < 2 ^ 30 → item_count p < 2 ^ 31 → length (layout p) < 2 ^ 31 → IsFit p
+is_fit p valid colours few small near =
     let sound : AllByRecursion (IsSoundOption p) p.options = recursion_from_All (IsSoundOption p) p.options valid.options in
     record {
       distinct = λ o. at_option AreDistinct p o tt (each_weaker (IsSoundOption p) AreDistinct p.options (λ us s. distinct_from us s.distinct) sound);
@@ -59,31 +58,13 @@ is_fit p valid colours few small =
           (recursion_from_All (λ us. All (λ u. u.colour < 4294967295) us) p.options colours));
       few = few;
       small = small;
+      near = near;
     }
 
 -- ---- a problem that was read fits into the tables
 
 pub known_fit : (colours : List (List ℕ)) (p : Puzzle) → IsValid p → IsWithinLimits p → AreColoursKnown colours p.options → length colours ≤ 10000000 → IsFit p
-known_fit colours p valid limits known few = grind (arith, common_steps, is_fit)
-
-prefix_most : (f : Node → Bool) (ns : List Node) → prefix_len f ns ≤ length ns
-prefix_most f [] = omega arith
-prefix_most f (n ∷ ns) = let rest = prefix_most f ns in elim (f n) as (λ b. f n ≡ b → prefix_len f (n ∷ ns) ≤ suc (length ns)) [ true ↦ λ e. rw e (omega (arith, rest)) | false ↦ λ e. rw e (omega arith) ] refl
-
-end_most : (p : Puzzle) (n : Node) → (span_of p n).end ≤ length (layout p)
-end_most p (used o u) = prefix_most (λ n. not (is_spacer o n)) (layout p)
-end_most p _ = omega arith
-
-near : (p : Puzzle) → IsWithinLimits p → AreNear (spans_of p)
-near p limits =
-    let few = layout_small p limits in
-    let size = length-map (layout p) (span_of p) in
-    record {
-      small = omega (arith, few, size);
-      ends = λ k d lt. (let most = end_most p (get_or (layout p) k unused) in
-          let is = get_or-map (span_of p) (layout p) k unused d (omega (arith, lt, size)) in
-          omega (arith, most, few, ap (λ (s : Span). s.end) is));
-    }
+known_fit colours p valid limits known few = grind (arith, common_steps, is_fit, layout_small)
 
 high_most : (bs : List Bounds) (k : ℕ) → AllByRecursion (λ (b : Bounds). b.high ≤ 999999999) bs → (unwrap_or (slice_get bs k) (record { low = 0; high = 0 })).high ≤ 999999999
 high_most [] k a = omega arith
@@ -101,6 +82,5 @@ fitted p spans limits fit is =
       laid = is_laid p fit;
       spanned = has_spans p fit;
       fit = fit;
-      near = near p limits;
       bounds = λ i. high_small p i limits;
     })

@@ -38,6 +38,7 @@ can_hide_node p ln ln' col spans o i spanned pos named can mid =
     record {
       steps = subst (CanHideAll t) (sym (others_are p spans o i spanned pos named)) can;
       within = s.below;
+      near = omega (arith, slice_get_within (layout p) end _ s.last, spanned.near);
       spacer = subst (λ (u : Nodes). IsSpacer u end) (sym met) (spacer_in p ln' col end o s.last);
       first = ap (λ (u : Nodes). get_or u.ulink end 0) met ∙ get_map (ulink_in p ln') (layout p) end (spacer o) s.last ∙ s.up;
     }
@@ -54,6 +55,7 @@ can_show_node p ln' col t spans o i spanned pos named can mid =
       steps = subst (λ qs. CanShowAll t (reverse qs)) (sym (others_are p spans o i spanned pos named)) can;
       from = s.some;
       within = s.from;
+      near = omega (arith, slice_get_within (layout p) (span_at spans x).end _ s.last, spanned.near);
       spacer = subst (λ (u : Nodes). IsSpacer u (first - 1)) (sym met) (spacer_in p ln' col (first - 1) (o - 1) s.first);
       last = ap (λ (u : Nodes). get_or u.dlink (first - 1) 0 + 1) met ∙ ap (λ n. n + 1) (get_map (dlink_in p ln') (layout p) (first - 1) (spacer (o - 1)) s.first) ∙ s.down;
     }

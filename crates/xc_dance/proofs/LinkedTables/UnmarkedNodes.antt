@@ -137,7 +137,7 @@ plain_unmarked p t legal fitted plain = record {
       let here = slice_get-get_or (layout p) x unused (omega (arith, lt, length-map (layout p) (span_of p))) in
       let d : Span = record { first = 0; end = 0 } in
       subst (λ (s : Span). HasUnmarked (nodes_after p t).color s x) (sym (span_at (layout p) (span_of p) x (get_or (layout p) x unused) d here))
-      (by_node p t x (get_or (layout p) x unused) fitted.laid legal plain (omega (arith, lt, fitted.near.small)) here);
+      (by_node p t x (get_or (layout p) x unused) fitted.laid legal plain (omega (arith, lt, length-map (layout p) (span_of p), fitted.fit.near)) here);
 }
   where
     span_at : (ns : List Node) (f : Node → Span) (k : ℕ) (n : Node) (d : Span) → slice_get ns k ≡ Some n → get_or (map f ns) k d ≡ f n

@@ -48,3 +48,4 @@ pub record IsFit (p : Puzzle) : Type 0 where
   pub colours : (o : ℕ) → AllByRecursion (λ u. u.colour < 4294967295) (uses_of p o)
   pub few : length p.options < 2 ^ 30
   pub small : item_count p < 2 ^ 31
+  pub near : length (layout p) < 2 ^ 31

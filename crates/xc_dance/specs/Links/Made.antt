@@ -1,5 +1,5 @@
 -- No public clause cites this module. What one move does to the tables, when it can be made, and what it writes.
-use Rattle.std.specs.Prelude.{None, Some, ℕ, ◌+◌, ◌-◌, ◌<◌, ◌^◌, List, length, slice_index, fold, All}
+use Rattle.std.specs.Prelude.{None, Some, ℕ, ◌+◌, ◌-◌, ◌<◌, ◌^◌, List, length, slice_index, fold}
 use Rattle.xc_dance.specs.declared.dance.Move.{Move}
 use Rattle.xc_dance.specs.declared.dance.Move.TheVariants.{Cover, Purify, Tweak, Spend}
 use Rattle.xc_dance.specs.declared.links.nodes.Nodes.{Nodes}
@@ -48,11 +48,6 @@ pub record CanTurn (t : Items) (i : ℕ) : Type 0 where
   pub left : slice_index t.llink i < length t.rlink
   pub right : slice_index t.rlink i < length t.llink
 
--- the spans are near
-pub record AreNear (spans : List Span) : Type 0 where
-  pub small : length spans < 2 ^ 31
-  pub ends : All (λ s. s.end < 2 ^ 31) spans
-
 -- it can be read whether item i is in its ring
 abbrev pub CanTell : Items → ℕ → Type 0
 CanTell s i = (i < length s.llink) × (slice_index s.llink i < length s.rlink)
@@ -90,5 +85,4 @@ pub record IsFitted (p : Puzzle) (spans : List Span) : Type 0 where
   pub laid : IsLaid p
   pub spanned : HasSpans p spans
   pub fit : IsFit p
-  pub near : AreNear spans
   pub bounds : (i : ℕ) → high_at p i < 2 ^ 31

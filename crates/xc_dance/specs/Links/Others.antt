@@ -1,5 +1,5 @@
 -- No public clause cites this module. The other items of an option, cyclically from behind one of them, and the spans in which their nodes stand.
-use Rattle.std.specs.Prelude.{ℕ, ◌+◌, ◌-◌, ◌<◌, ◌≤◌, ◌≡◌, ◌==◌, true, Some, List, [], ◌∷◌, length, map, is_some, slice_get, if◌then◌else◌}
+use Rattle.std.specs.Prelude.{ℕ, ◌+◌, ◌-◌, ◌<◌, ◌≤◌, ◌^◌, ◌≡◌, ◌==◌, true, Some, List, [], ◌∷◌, length, map, is_some, slice_get, if◌then◌else◌}
 use Rattle.xc_input.specs.declared.problem.Use.{Use}
 use Rattle.xc_dance.specs.Links.Span.{Span}
 use Rattle.xc_input.specs.Problem.{Puzzle, colour_in, uses_of}
@@ -29,7 +29,8 @@ pub record IsSpanOf (p : Puzzle) (o i : ℕ) (s : Span) : Type 0 where
   pub last : slice_get (layout p) s.end ≡ Some (spacer o)
   pub up : fixed_up p (spacer o) ≡ s.first
 
--- each node of an option has the option's span
+-- each node of an option has the option's span, and every place is below 2 ^ 31
 pub record HasSpans (p : Puzzle) (spans : List Span) : Type 0 where
   pub span : (o i : ℕ) → 0 < o → is_some (colour_in (uses_of p o) i) ≡ true → IsSpanOf p o i (span_at spans (link_place p i o))
+  pub near : length (layout p) < 2 ^ 31
   pub within : (o i : ℕ) → 0 < o → is_some (colour_in (uses_of p o) i) ≡ true → link_place p i o < length spans

@@ -106,6 +106,7 @@ pub record IsSpacer (t : Nodes) (z : ℕ) : Type 0 where
 pub record CanHideNode (spans : List Span) (t : Nodes) (p : ℕ) : Type 0 where
   pub steps : CanHideAll t (others_of spans p)
   pub within : p < (span_at spans p).end
+  pub near : (span_at spans p).end < 2 ^ 31
   pub spacer : IsSpacer (fold hidden t (places (p + 1) (span_at spans p).end)) (span_at spans p).end
   pub first : slice_index (fold hidden t (places (p + 1) (span_at spans p).end)).ulink (span_at spans p).end ≡ (span_at spans p).first
 
@@ -127,6 +128,7 @@ pub record CanShowNode (spans : List Span) (t : Nodes) (p : ℕ) : Type 0 where
   pub steps : CanShowAll t (reverse (others_of spans p))
   pub from : 0 < (span_at spans p).first
   pub within : (span_at spans p).first ≤ p
+  pub near : (span_at spans p).end < 2 ^ 31
   pub spacer : IsSpacer (fold shown t (reverse (places (span_at spans p).first p))) ((span_at spans p).first - 1)
   pub last : slice_index (fold shown t (reverse (places (span_at spans p).first p))).dlink ((span_at spans p).first - 1) + 1 ≡ (span_at spans p).end
 

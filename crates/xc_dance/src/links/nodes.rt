@@ -1,5 +1,5 @@
 //! The node table. Names and numbers of steps are those of section 7.2.2.1 of The Art of Computer Programming, Volume 4B.
-ghost use Rattle.std.specs.Prelude.{◌≡◌, ℕ, ◌+◌, ◌-◌, ◌*◌, ◌<◌, ◌≤◌, ◌^◌, length, slice_index, slice_get, fold, All, None, Some, false, if◌then◌else◌, replicate, IfOk, IsTrue, ◌↔◌};
+ghost use Rattle.std.specs.Prelude.{◌≡◌, ℕ, ◌+◌, ◌-◌, ◌*◌, ◌<◌, ◌≤◌, ◌^◌, length, slice_index, slice_get, fold, None, Some, false, if◌then◌else◌, replicate, IfOk, IsTrue, ◌↔◌};
 
 use crate::links::cells::{
     Cell, Link, down, get, read, read_down, read_up, same_cells, same_links, set, set_down, set_up,
@@ -172,8 +172,6 @@ impl Nodes {
     /// Hides all nodes of item i's list, as cover, (12), does from top to bottom.
     #[inline(always)]
     pub(crate) fn cover(&mut self, spans: &Spans, i: u32, marks: bool, writes: &mut Writes) -> u64
-        requires small { length spans.now < 2 ^ 31 }
-        requires ends { All (λ s. s.end < 2 ^ 31) spans.now }
         requires can { CanHideList spans.now None self.old i }
         requires unmarked { marks ≡ false → IsUnmarked spans.now self.old.color }
         ensures done { self.new ≡ fold (left_node spans.now None) self.old (list_of self.old i) }
@@ -191,8 +189,6 @@ impl Nodes {
     /// The same with the test for marks, out of line: callers stay small.
     #[inline(never)]
     fn cover_among_marks(&mut self, spans: &Spans, i: u32, writes: &mut Writes) -> u64
-        requires small { length spans.now < 2 ^ 31 }
-        requires ends { All (λ s. s.end < 2 ^ 31) spans.now }
         requires can { CanHideList spans.now None self.old i }
         ensures done { self.new ≡ fold (left_node spans.now None) self.old (list_of self.old i) }
         ensures cost { result ≡ walk_costs spans.now None self.old (list_of self.old i) }
@@ -206,8 +202,6 @@ impl Nodes {
     /// Undoes `cover`, as uncover, (14), does from bottom to top, so that each node finds its neighbours of before.
     #[inline(always)]
     pub(crate) fn uncover(&mut self, spans: &Spans, i: u32, marks: bool, writes: &mut Writes) -> u64
-        requires small { length spans.now < 2 ^ 31 }
-        requires ends { All (λ s. s.end < 2 ^ 31) spans.now }
         requires can { CanShowList spans.now None self.old i }
         requires unmarked { marks ≡ false → IsUnmarked spans.now self.old.color }
         ensures done { self.new ≡ fold (back_node spans.now None) self.old (list_back self.old i) }
@@ -225,8 +219,6 @@ impl Nodes {
     /// The same with the test for marks.
     #[inline(never)]
     fn uncover_among_marks(&mut self, spans: &Spans, i: u32, writes: &mut Writes) -> u64
-        requires small { length spans.now < 2 ^ 31 }
-        requires ends { All (λ s. s.end < 2 ^ 31) spans.now }
         requires can { CanShowList spans.now None self.old i }
         ensures done { self.new ≡ fold (back_node spans.now None) self.old (list_back self.old i) }
         ensures cost { result ≡ back_costs spans.now None self.old (list_back self.old i) }
@@ -241,8 +233,6 @@ impl Nodes {
     /// whether an item is purified.
     #[inline(never)]
     pub(crate) fn purify(&mut self, spans: &Spans, i: u32, c: u32, writes: &mut Writes) -> u64
-        requires small { length spans.now < 2 ^ 31 }
-        requires ends { All (λ s. s.end < 2 ^ 31) spans.now }
         requires can { CanPurify spans.now c self.old i }
         ensures done { self.new ≡ purified_list spans.now c self.old i }
         ensures cost { result ≡ walk_costs spans.now (Some c) (with_colour self.old i c) (list_of self.old i) + 1 }
@@ -256,8 +246,6 @@ impl Nodes {
     /// Undoes `purify`, as unpurify does from bottom to top.
     #[inline(never)]
     pub(crate) fn unpurify(&mut self, spans: &Spans, i: u32, c: u32, writes: &mut Writes) -> u64
-        requires small { length spans.now < 2 ^ 31 }
-        requires ends { All (λ s. s.end < 2 ^ 31) spans.now }
         requires can { CanUnpurify spans.now c self.old i }
         ensures done { self.new ≡ unpurified_list spans.now c self.old i }
         ensures cost { result ≡ back_costs spans.now (Some c) self.old (list_back self.old i) + 1 }
@@ -280,8 +268,6 @@ impl Nodes {
         marks: bool,
         writes: &mut Writes,
     ) -> u64
-        requires small { length spans.now < 2 ^ 31 }
-        requires ends { All (λ s. s.end < 2 ^ 31) spans.now }
         requires can { CanTweak spans.now covered self.old i }
         requires unmarked { marks ≡ false → IsUnmarked spans.now self.old.color }
         ensures done { self.new ≡ tweaked spans.now covered self.old i }
@@ -305,8 +291,6 @@ impl Nodes {
         marks: bool,
         writes: &mut Writes,
     ) -> u64
-        requires small { length spans.now < 2 ^ 31 }
-        requires ends { All (λ s. s.end < 2 ^ 31) spans.now }
         requires can { CanUntweak spans.now covered self.old x }
         requires unmarked { marks ≡ false → IsUnmarked spans.now self.old.color }
         ensures done { self.new ≡ untweaked spans.now covered self.old x }
@@ -332,8 +316,6 @@ impl Nodes {
         marks: bool,
         writes: &mut Writes,
     ) -> u64
-        requires small { length spans.now < 2 ^ 31 }
-        requires ends { All (λ s. s.end < 2 ^ 31) spans.now }
         requires can { CanUntweakAll spans.now covered self.old i x k }
         requires unmarked { marks ≡ false → IsUnmarked spans.now self.old.color }
         ensures done { self.new ≡ untweaked_all spans.now covered self.old i x k }

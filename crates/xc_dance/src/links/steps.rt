@@ -1,7 +1,7 @@
 //! Steps over the nodes of one option: hide and unhide. The walks take the tables as slices, so that their bases stay in
 //! registers: behind a vector each would be loaded anew after every write. The compiler's output has eleven instructions for a
 //! node that is hidden or comes back, with four loads and three stores, no bounds check and no call.
-ghost use Rattle.std.specs.Prelude.{◌≡◌, ◌≢◌, false, ℕ, ◌+◌, ◌-◌, ◌*◌, ◌<◌, ◌≤◌, ◌^◌, length, slice_index, fold, reverse, All};
+ghost use Rattle.std.specs.Prelude.{◌≡◌, ◌≢◌, false, ℕ, ◌+◌, ◌-◌, ◌*◌, ◌<◌, ◌≤◌, ◌^◌, length, slice_index, fold, reverse};
 ghost use Rattle.xc_dance.specs.Links.Columns.{values, columns};
 ghost use Rattle.xc_dance.specs.Links.Steps.{HasSize, NamesPlaces, unlinked, relinked, hidden, hide_cost, hide_costs, CanHide, CanHideAll, places, shown, CanShow, CanShowAll, show_costs, others_of, hidden_node, shown_node, CanHideNode, CanShowNode};
 ghost use Rattle.xc_dance.specs.Links.Unmarked.{AreUnmarked, IsUnmarked};
@@ -121,8 +121,6 @@ pub(crate) fn hide(
     marks: bool,
     writes: &mut Writes,
 ) -> u64
-    requires small { length spans.now < 2 ^ 31 }
-    requires ends { All (λ s. s.end < 2 ^ 31) spans.now }
     requires span { p < length spans.now }
     requires can { CanHideNode spans.now (columns top.old links.old color.now) p }
     requires unmarked { marks ≡ false → IsUnmarked spans.now (values color.now) }
@@ -202,8 +200,6 @@ pub(crate) fn unhide(
     marks: bool,
     writes: &mut Writes,
 ) -> u64
-    requires small { length spans.now < 2 ^ 31 }
-    requires ends { All (λ s. s.end < 2 ^ 31) spans.now }
     requires span { p < length spans.now }
     requires can { CanShowNode spans.now (columns top.old links.old color.now) p }
     requires unmarked { marks ≡ false → IsUnmarked spans.now (values color.now) }

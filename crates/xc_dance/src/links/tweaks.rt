@@ -1,5 +1,5 @@
 //! Tweaks: the option of a first node is hidden and comes back, alone or with those that were tweaked off behind it.
-ghost use Rattle.std.specs.Prelude.{◌≡◌, ℕ, ◌+◌, ◌*◌, ◌<◌, ◌≤◌, ◌^◌, length, fold, reverse, All, false, if◌then◌else◌};
+ghost use Rattle.std.specs.Prelude.{◌≡◌, ℕ, ◌+◌, ◌*◌, ◌<◌, ◌≤◌, ◌^◌, length, fold, reverse, false, if◌then◌else◌};
 ghost use Rattle.xc_dance.specs.Links.Columns.{values, columns};
 ghost use Rattle.xc_dance.specs.Links.Steps.{hide_costs, CanHideNode, CanShowNode, show_costs, others_of, followed};
 ghost use Rattle.xc_dance.specs.Links.Tweaking.{hidden_unless, shown_unless};
@@ -23,8 +23,6 @@ pub(crate) fn hide_unless(
     marks: bool,
     writes: &mut Writes,
 ) -> u64
-    requires small { length spans.now < 2 ^ 31 }
-    requires ends { All (λ s. s.end < 2 ^ 31) spans.now }
     requires can { covered ≡ false → (x < length spans.now) × CanHideNode spans.now (columns top.old links.old color.now) x }
     requires unmarked { marks ≡ false → IsUnmarked spans.now (values color.now) }
     ensures done { columns top.new links.new color.now ≡ hidden_unless spans.now covered (columns top.old links.old color.now) x }
@@ -54,8 +52,6 @@ pub(crate) fn show_unless(
     marks: bool,
     writes: &mut Writes,
 ) -> u64
-    requires small { length spans.now < 2 ^ 31 }
-    requires ends { All (λ s. s.end < 2 ^ 31) spans.now }
     requires can { covered ≡ false → (x < length spans.now) × CanShowNode spans.now (columns top.old links.old color.now) x }
     requires unmarked { marks ≡ false → IsUnmarked spans.now (values color.now) }
     ensures done { columns top.new links.new color.now ≡ shown_unless spans.now covered (columns top.old links.old color.now) x }
@@ -86,8 +82,6 @@ fn climb_one(
     marks: bool,
     writes: &mut Writes,
 ) -> u64
-    requires small { length spans.now < 2 ^ 31 }
-    requires ends { All (λ s. s.end < 2 ^ 31) spans.now }
     requires can { CanClimb spans.now covered (columns top.old links.old color.now) p }
     requires unmarked { marks ≡ false → IsUnmarked spans.now (values color.now) }
     ensures done { columns top.new links.new color.now ≡ climbed spans.now covered (columns top.old links.old color.now) p }
@@ -114,8 +108,6 @@ pub(crate) fn climb(
     marks: bool,
     writes: &mut Writes,
 ) -> u64
-    requires small { length spans.now < 2 ^ 31 }
-    requires ends { All (λ s. s.end < 2 ^ 31) spans.now }
     requires many { k < 2 ^ 30 }
     requires can { IsClimb spans.now covered (columns top.old links.old color.now) x (followed (columns top.old links.old color.now).dlink k x) }
     requires unmarked { marks ≡ false → IsUnmarked spans.now (values color.now) }

@@ -1,6 +1,6 @@
 //! Walks down the list of an item and back up. The nodes of a colour that is kept are marked on the way, the options of the
 //! others hidden.
-ghost use Rattle.std.specs.Prelude.{◌≡◌, ℕ, ◌+◌, ◌-◌, ◌*◌, ◌<◌, ◌≤◌, ◌^◌, length, slice_index, fold, All, None, false};
+ghost use Rattle.std.specs.Prelude.{◌≡◌, ℕ, ◌+◌, ◌-◌, ◌*◌, ◌<◌, ◌≤◌, ◌^◌, length, slice_index, fold, None, false};
 ghost use Rattle.xc_dance.specs.Links.Columns.{values, columns};
 ghost use Rattle.xc_dance.specs.Links.Steps.{list_of, list_back};
 ghost use Rattle.xc_dance.specs.Links.ListWalks.{is_kept_colour, left_node, leave_cost, back_node, back_cost, CanLeave, CanReturn, walk_costs, back_costs, CanHideList, CanShowList};
@@ -36,8 +36,6 @@ fn leave(
     marks: bool,
     writes: &mut Writes,
 ) -> u64
-    requires small { length spans.now < 2 ^ 31 }
-    requires ends { All (λ s. s.end < 2 ^ 31) spans.now }
     requires can { CanLeave spans.now keep (columns top.old links.old color.old) p }
     requires unmarked { marks ≡ false → IsUnmarked spans.now (values color.old) }
     ensures done { columns top.new links.new color.new ≡ left_node spans.now keep (columns top.old links.old color.old) p }
@@ -64,8 +62,6 @@ fn come_back(
     marks: bool,
     writes: &mut Writes,
 ) -> u64
-    requires small { length spans.now < 2 ^ 31 }
-    requires ends { All (λ s. s.end < 2 ^ 31) spans.now }
     requires can { CanReturn spans.now keep (columns top.old links.old color.old) p }
     requires unmarked { marks ≡ false → IsUnmarked spans.now (values color.old) }
     ensures done { columns top.new links.new color.new ≡ back_node spans.now keep (columns top.old links.old color.old) p }
@@ -95,8 +91,6 @@ pub(crate) fn hide_list(
     marks: bool,
     writes: &mut Writes,
 ) -> u64
-    requires small { length spans.now < 2 ^ 31 }
-    requires ends { All (λ s. s.end < 2 ^ 31) spans.now }
     requires can { CanHideList spans.now keep (columns top.old links.old color.old) i }
     requires unmarked { marks ≡ false → IsUnmarked spans.now (values color.old) }
     requires none { marks ≡ false → keep ≡ None }
@@ -126,8 +120,6 @@ pub(crate) fn unhide_list(
     marks: bool,
     writes: &mut Writes,
 ) -> u64
-    requires small { length spans.now < 2 ^ 31 }
-    requires ends { All (λ s. s.end < 2 ^ 31) spans.now }
     requires can { CanShowList spans.now keep (columns top.old links.old color.old) i }
     requires unmarked { marks ≡ false → IsUnmarked spans.now (values color.old) }
     requires none { marks ≡ false → keep ≡ None }

@@ -60,7 +60,7 @@ leads c met last is = grind (arith, common_steps, high c, told c)
 pub overflow_add-end : goal.overflow_add-end
 overflow_add-end c =
     let end = leads (goal.at.overflow_add-end c).After-get c.loop-top-test.false c.down-end.result c.down-end.ensures in
-    omega (arith, end, c.requires.ends c.args.p (record { first = 0; end = 0 }) c.requires.span)
+    omega (arith, end, c.requires.can.near)
 
 pub show_range-above-requires-clause-can : goal.show_range-above-requires-clause-can
 show_range-above-requires-clause-can c =
