@@ -36,10 +36,6 @@ moved_to_front bytes n end a b =
     ap (λ k. take k (paste bytes 0 (drop n bytes) (end - n))) count ∙ take-paste bytes 0 (drop n bytes) (end - n) (omega arith) (omega (arith, b, length-drop n bytes))
     ∙ sym (drop-take n (end - n) bytes) ∙ ap (λ k. drop n (take k bytes)) whole
 
--- bytes were put behind a front
-pub put_behind : (bytes xs : List ℕ) (end : ℕ) → end + length xs ≤ length bytes → take (end + length xs) (take end bytes ++ xs ++ drop (end + length xs) bytes) ≡ take end bytes ++ xs
-put_behind bytes xs end a = grind (arith, common_steps)
-
 -- more is held back
 pub held_more : (known : Option (List ℕ)) (held now xs : List ℕ) → now ≡ held ++ xs → Appends (append_known known held) (append_known known now) xs
 held_more None held now xs e = tt

@@ -1,7 +1,7 @@
 //! What the programs take from the command line.
 ghost use Rattle.std.specs.Prelude.{◌≡◌, [], None};
 
-use crate::system::Incoming;
+use crate::incoming::Incoming;
 use std::alloc::{AllocError, AllocGlobal};
 use std::env::{self, Env};
 use std::fs::{self, Files};

@@ -10,22 +10,26 @@
 
 mod arguments;
 mod closed_streams;
+mod direct;
+mod incoming;
 mod judging;
 mod messages;
+mod outgoing;
 mod seeding;
 mod solving;
 mod status;
-mod system;
 mod whole_text;
 
 pub use arguments::{named_file, words};
 pub use closed_streams::closed_stream;
+pub use direct::Direct;
+pub use incoming::Incoming;
 pub use judging::judge;
 pub use messages::{input_error, listing_fault};
+pub use outgoing::Outgoing;
 pub use seeding::random_seed;
 pub use solving::solve;
 pub use status::out_of_memory;
-pub use system::{Direct, Incoming, Outgoing};
 
 #[cfg(test)]
 mod tests;

@@ -1,7 +1,7 @@
 use Rattle.std.proofs.Common.{◌+◌, ◌≤◌, length, arith}
 use Rattle.std.proofs.lemmas.Grind.{common_steps}
 use Rattle.xc_tools.proofs.StreamLemmas.{pass_more}
-use Rattle.xc_tools.proofs.system.pass_on.Goals as goal
+use Rattle.xc_tools.proofs.outgoing.pass_on.Goals as goal
 
 pub loop-place-preserved : goal.loop-place-preserved
 loop-place-preserved g c =

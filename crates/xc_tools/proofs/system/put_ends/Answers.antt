@@ -1,5 +1,0 @@
-use Rattle.xc_tools.proofs.StreamLemmas.{two_pieces}
-use Rattle.xc_tools.proofs.system.put_ends.Goals as goal
-
-pub returns : goal.returns
-returns g c = two_pieces c.args.held.now c.args.bytes.now c.args.at g.row.N c.requires.room c.requires.pieces.0 c.requires.pieces.1

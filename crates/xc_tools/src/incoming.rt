@@ -1,0 +1,97 @@
+//! The system's readers and files as sources.
+ghost use Rattle.std.specs.Prelude.{◌≡◌, ◌+◌, ◌-◌, ◌^◌, ◌<◌, ◌≤◌, None, length, is_err, option_map, IfOk, IsErr, OnErr, [], ◌∷◌, ◌++◌, take};
+ghost use Rattle.std.specs.Io.KnownBytes.{ReadConsumes};
+ghost use Rattle.xc_input.specs.Calls.{counted};
+ghost use Rattle.xc_tools.specs.Streams.{left_of};
+
+use std::io::Read;
+use xc_input::{Given, ReadFailed, Seed, Source};
+
+/// A reader of the system as a source, or a file that could not be opened.
+#[derive(Drop)]
+pub struct Incoming<R: Read + Drop> {
+    reader: Option<R>,
+    left: u64,
+    failures: u64,
+    given: Given,
+    seed: Seed,
+}
+
+impl<R: Read + Drop> Incoming<R> {
+    /// A reader, or `None` for what could not be opened: that fails at the first read. The names in its
+    /// text are hashed by this seed.
+    pub fn new(reader: Option<R>, seed: Seed) -> Incoming<R>
+        ensures reader { result.reader ≡ reader }
+        ensures left { result.left ≡ 2 ^ 64 - 1 }
+        ensures failures { result.failures ≡ 0 }
+        ensures given { result.given.lines ≡ [] }
+        ensures seed { result.seed ≡ seed }
+    {
+        Incoming {
+            reader,
+            left: u64::MAX,
+            failures: 0,
+            given: Given::new(),
+            seed,
+        }
+    }
+}
+
+impl<R: Read + Drop> Source for Incoming<R> {
+    ghost failures = { λ s. s.failures };
+
+    ghost limit = { λ s. s.left };
+
+    ghost rest = { λ s. left_of (option_map R.remaining s.reader) };
+
+    ghost given = { λ s. s.given.lines };
+
+    fn read(&mut self, buf: &mut [u8]) -> Result<usize, ReadFailed>
+        requires { 0 < length buf.old }
+        ensures bound { IfOk result (λ n. n ≤ length buf.new) }
+        ensures limit { IfOk result (λ n. self.new.left + n ≡ self.old.left) }
+        ensures limit_kept { OnErr result (self.new.left ≡ self.old.left) }
+        ensures failures { self.new.failures ≡ counted (is_err result) self.old.failures }
+        ensures bytes { ReadConsumes (left_of (option_map R.remaining self.old.reader))
+            (left_of (option_map R.remaining self.new.reader)) result buf.new }
+        ensures given { IfOk result (λ n. self.new.given.lines ≡ self.old.given.lines ++ take n buf.new ∷ []) }
+        ensures given_kept { OnErr result (self.new.given.lines ≡ self.old.given.lines) }
+
+        // What was not opened fails, and so does a reader that gave all that may be given.
+        ensures missing { self.old.reader ≡ None → IsErr result }
+        ensures spent { self.old.left ≡ 0 → IsErr result }
+    {
+        if self.left == 0 {
+            self.failures = self.failures.saturating_add(1);
+            return Err(ReadFailed);
+        }
+        let most = usize::try_from(self.left)
+            .unwrap_or(usize::MAX)
+            .min(buf.len());
+        let read = match &mut self.reader {
+            Some(reader) => reader.read(&mut buf[..most]),
+            None => {
+                self.failures = self.failures.saturating_add(1);
+                return Err(ReadFailed);
+            }
+        };
+        match read {
+            Ok(n) => {
+                self.left -= n as u64;
+                self.given = Given::after(&self.given, &buf[..n]);
+                Ok(n)
+            }
+            Err(_) => {
+                self.failures = self.failures.saturating_add(1);
+                Err(ReadFailed)
+            }
+        }
+    }
+
+    /// The seed that it was made with.
+    fn seed(&self) -> Seed
+        ensures { result ≡ self.now.seed }
+    {
+        self.seed
+    }
+}
