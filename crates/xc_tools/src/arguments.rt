@@ -8,7 +8,8 @@ use std::fs::{self, Files};
 use std::str;
 use xc_input::Seed;
 
-/// The words behind the program's name, by their bytes.
+/// The words behind the program's name, by their bytes. The system's call fails as a whole where one of
+/// them isn't UTF-8: that is answered as want of memory.
 pub fn words<R: Env + AllocGlobal>(rt: &R) -> Result<Vec<Vec<u8>>, AllocError> {
     let Ok(arguments) = env::args(rt) else {
         return Err(AllocError);

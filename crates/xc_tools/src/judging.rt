@@ -130,6 +130,9 @@ fn judge_listing<L: Source, O: Sink, E: Sink>(
     ensures unread { (L.failures listing.new ≢ L.failures listing.old) ⊎ (result ≡ 2) → out.new ≡ out.old }
     ensures begins { Keeps (O.state out.old).taken (O.state out.new).taken
         ⊎ IfSome (L.rest listing.old) (IsBegun problem.now (O.state out.old) (O.state out.new)) }
+    ensures begins_given { Keeps (O.state out.old).taken (O.state out.new).taken
+        ⊎ ((lines : List ℕ) × GaveAll (L.given listing.old) (L.given listing.new) lines
+        × IsBegun problem.now (O.state out.old) (O.state out.new) lines) }
 {
     let text = match read_text(alloc, listing) {
         Ok(text) => text,
@@ -198,6 +201,11 @@ fn judge_kind<P: Source, L: Source, O: Sink, E: Sink>(
     ensures begins { Keeps (O.state out.old).taken (O.state out.new).taken
         ⊎ IfSome (P.rest problem.old) (λ text. IfSome (L.rest listing.old) (λ lines.
         StandsForOne kind (λ a _. IsBegun a (O.state out.old) (O.state out.new) lines) text)) }
+    ensures begins_given { Keeps (O.state out.old).taken (O.state out.new).taken
+        ⊎ ((text : List ℕ) × (lines : List ℕ)
+        × GaveAll (P.given problem.old) (P.given problem.new) text
+        × GaveAll (L.given listing.old) (L.given listing.new) lines
+        × StandsForOne kind (λ a _. IsBegun a (O.state out.old) (O.state out.new) lines) text) }
 {
     match read_problem(alloc, kind, problem) {
         Ok(read) => judge_listing(alloc, &read.problem, listing, out, err),
@@ -250,7 +258,7 @@ pub fn judge<P: Source, L: Source, O: Sink, E: Sink>(
         ⊎ IfSome (L.rest listing.old) (λ lines. StandsForOne kind (λ a _. IsFaulty a
         (E.state err.old) (E.state err.new) lines) text))) }
 
-    // Whatever fails gives 3 and is told; the problem comes first, and then the listing.
+    // The same of the bytes that problem and listing gave, whether they told them before or not.
     ensures judged_given { (result ≡ 0) ⊎ (result ≡ 5) → IfSome (asked_kind (map (λ w. w.items) words.now)) (λ kind.
         (text : List ℕ) × (lines : List ℕ)
         × GaveAll (P.given problem.old) (P.given problem.new) text
@@ -263,6 +271,8 @@ pub fn judge<P: Source, L: Source, O: Sink, E: Sink>(
         × GaveAll (P.given problem.old) (P.given problem.new) text
         × GaveAll (L.given listing.old) (L.given listing.new) lines
         × StandsForOne kind (λ a _. IsFaulty a (E.state err.old) (E.state err.new) lines) text)) }
+
+    // Whatever fails gives 3 and is told; the problem comes first, and then the listing.
     ensures failing { (P.failures problem.new ≢ P.failures problem.old)
         ⊎ (L.failures listing.new ≢ L.failures listing.old)
         ⊎ ((O.state out.new).failures ≢ (O.state out.old).failures) → result ≡ 3 }
@@ -283,6 +293,11 @@ pub fn judge<P: Source, L: Source, O: Sink, E: Sink>(
         ⊎ IfSome (asked_kind (map (λ w. w.items) words.now)) (λ kind.
         IfSome (P.rest problem.old) (λ text. IfSome (L.rest listing.old) (λ lines.
         StandsForOne kind (λ a _. IsBegun a (O.state out.old) (O.state out.new) lines) text))) }
+    ensures begins_given { Keeps (O.state out.old).taken (O.state out.new).taken
+        ⊎ IfSome (asked_kind (map (λ w. w.items) words.now)) (λ kind. (text : List ℕ) × (lines : List ℕ)
+        × GaveAll (P.given problem.old) (P.given problem.new) text
+        × GaveAll (L.given listing.old) (L.given listing.new) lines
+        × StandsForOne kind (λ a _. IsBegun a (O.state out.old) (O.state out.new) lines) text) }
 {
     match asked_kind(words) {
         Some(kind) => judge_kind(alloc, kind, problem, listing, out, err),

@@ -1,9 +1,8 @@
 //! A whole run of a program.
 ghost use Rattle.std.specs.Prelude.{◌≡◌, ◌≢◌, ◌≤◌, ◌⊎◌, ◌↔◌, Ok, map, IsErr, IsTrue, IfSome, IfErr, ℕ, List, codes, flat_map};
 ghost use Rattle.std.specs.Io.KnownBytes.{Keeps};
-ghost use Rattle.xc_input.specs.Calls.{Rose};
 ghost use Rattle.xc_input.specs.Lines.{IsFirstFault};
-ghost use Rattle.xc_input.specs.Pieces.{GaveAll, IsPart};
+ghost use Rattle.xc_input.specs.Pieces.{IsPart};
 ghost use Rattle.xc_input.specs.declared.fault.InputError.TheVariants.{Fault};
 ghost use Rattle.xc_list.specs.Messages.{summary_text, warning_text, word_fault_text};
 ghost use Rattle.xc_list.specs.Output.{output};
@@ -11,7 +10,7 @@ ghost use Rattle.xc_list.specs.Runs.{end_of};
 ghost use Rattle.xc_list.specs.Settings.{read_words};
 ghost use Rattle.xc_list.specs.Texts.{Took, BrokeOff, WasTold, IsUntouched, Begins};
 ghost use Rattle.xc_list.specs.declared.words.Words.{Words};
-ghost use Rattle.xc_tools.specs.Solves.{FailedLast, IsSolved, StandsForOne, WasToldFault, WasToldBehind, IsFailedSearch, IsFailedSolving, IsFailedRun, RanOut};
+ghost use Rattle.xc_tools.specs.Solves.{FailedLast, IsSolved, StandsForOne, GaveOne, WasToldFault, WasToldBehind, IsFailedSearch, IsFailedSolving, IsUnread};
 
 use crate::messages::input_error;
 use crate::status::{BAD_INPUT, BAD_WORDS, COMPLETE, FAILED, NO_MEMORY, out_of_memory, refuse};
@@ -58,7 +57,7 @@ fn solve_problem<O: Sink, E: Sink>(
         (output problem.now words.spacing words.limit) }
     ensures told { result ≡ 0 → Took (E.state err.old) (E.state err.new)
         (summary_text (end_of problem.now words.limit)) }
-    ensures failed { result ≡ 3 → IsFailedSearch
+    ensures failed { result ≡ 3 → IsFailedSearch problem.now words
         (O.state out.old) (O.state out.new) (E.state err.old) (E.state err.new) }
     ensures memory { result ≡ 4 → IsUntouched (O.state out.old) (O.state out.new)
         × WasTold (E.state err.old) (E.state err.new) (codes "Out of memory.\n") }
@@ -88,7 +87,7 @@ fn solve_read<O: Sink, E: Sink>(
     ensures failing { (O.state out.new).failures ≢ (O.state out.old).failures → result ≡ 3 }
     ensures solved { result ≡ 0 → IsSolved read.now.problem read.now.ignored.items words
         (O.state out.old) (O.state out.new) (E.state err.old) (E.state err.new) }
-    ensures failed { result ≡ 3 → IsFailedSolving read.now.ignored.items
+    ensures failed { result ≡ 3 → IsFailedSolving read.now.problem read.now.ignored.items words
         (O.state out.old) (O.state out.new) (E.state err.old) (E.state err.new) }
     ensures memory { result ≡ 4 → IsUntouched (O.state out.old) (O.state out.new)
         × WasToldBehind (flat_map warning_text read.now.ignored.items) (E.state err.old) (E.state err.new)
@@ -120,19 +119,24 @@ fn solve_words<S: Source, O: Sink, E: Sink>(
         × ((E.state err.new).failures ≡ (E.state err.old).failures) }
     ensures solved { result ≡ 0 → IfSome (S.rest input.old) (StandsForOne kind (λ a ignored. IsSolved a ignored words
         (O.state out.old) (O.state out.new) (E.state err.old) (E.state err.new))) }
-    ensures solved_given { result ≡ 0 → (bytes : List ℕ)
-        × GaveAll (S.given input.old) (S.given input.new) bytes
-        × StandsForOne kind (λ a ignored. IsSolved a ignored words
-        (O.state out.old) (O.state out.new) (E.state err.old) (E.state err.new)) bytes }
+    ensures solved_given { result ≡ 0 → GaveOne kind (λ a ignored. IsSolved a ignored words
+        (O.state out.old) (O.state out.new) (E.state err.old) (E.state err.new)) (S.given input.old) (S.given input.new) }
     ensures fault { result ≡ 2 → IfSome (S.rest input.old) (λ bytes.
         WasToldFault (IsFirstFault kind bytes) (E.state err.old) (E.state err.new)) }
     ensures fault_given { result ≡ 2 → WasToldFault
         (λ line fault. IsPart kind (S.given input.old) (S.given input.new) (Fault line fault))
         (E.state err.old) (E.state err.new) }
-    ensures failed { result ≡ 3 → IsFailedRun (S.failures input.old) (S.failures input.new)
-        (O.state out.old) (O.state out.new) (E.state err.old) (E.state err.new) }
-    ensures memory { result ≡ 4 → RanOut (O.state out.old) (O.state out.new)
-        (E.state err.old) (E.state err.new) }
+    ensures failed { result ≡ 3 → IsUnread (S.failures input.old) (S.failures input.new)
+        (O.state out.old) (O.state out.new) (E.state err.old) (E.state err.new)
+        ⊎ ((S.failures input.new ≡ S.failures input.old) × GaveOne kind (λ a ignored. IsFailedSolving a ignored words
+        (O.state out.old) (O.state out.new) (E.state err.old) (E.state err.new)) (S.given input.old) (S.given input.new)) }
+    ensures memory { result ≡ 4 → IsUntouched (O.state out.old) (O.state out.new)
+        × (WasTold (E.state err.old) (E.state err.new) (codes "Out of memory.\n")
+        ⊎ GaveOne kind (λ _ ignored. WasToldBehind (flat_map warning_text ignored) (E.state err.old) (E.state err.new)
+        (codes "Out of memory.\n")) (S.given input.old) (S.given input.new)) }
+    ensures begins_given { Keeps (O.state out.old).taken (O.state out.new).taken
+        ⊎ GaveOne kind (λ a _. Begins (O.state out.old) (O.state out.new) (output a words.spacing words.limit))
+        (S.given input.old) (S.given input.new) }
     ensures begins { Keeps (O.state out.old).taken (O.state out.new).taken
         ⊎ IfSome (S.rest input.old) (StandsForOne kind (λ a _.
         Begins (O.state out.old) (O.state out.new) (output a words.spacing words.limit))) }
@@ -188,20 +192,30 @@ pub fn solve<S: Source, O: Sink, E: Sink>(
 
     // The same of the bytes that the input gave, whether it told them before or not.
     ensures solved_given { result ≡ 0 → (w : Words)
-        × (read_words (map (λ w. w.items) words.now) ≡ Ok w) × (bytes : List ℕ)
-        × GaveAll (S.given input.old) (S.given input.new) bytes
-        × StandsForOne kind (λ a ignored. IsSolved a ignored w
-        (O.state out.old) (O.state out.new) (E.state err.old) (E.state err.new)) bytes }
+        × (read_words (map (λ w. w.items) words.now) ≡ Ok w)
+        × GaveOne kind (λ a ignored. IsSolved a ignored w
+        (O.state out.old) (O.state out.new) (E.state err.old) (E.state err.new)) (S.given input.old) (S.given input.new) }
     ensures fault_given { result ≡ 2 → WasToldFault
         (λ line fault. IsPart kind (S.given input.old) (S.given input.new) (Fault line fault))
         (E.state err.old) (E.state err.new) }
 
-    ensures failed { result ≡ 3 → IsFailedRun (S.failures input.old) (S.failures input.new)
-        (O.state out.old) (O.state out.new) (E.state err.old) (E.state err.new) }
-    ensures memory { result ≡ 4 → RanOut (O.state out.old) (O.state out.new)
-        (E.state err.old) (E.state err.new) }
+    // What failed was told, or it failed itself; and so was want of memory, behind the warnings or before the text was read.
+    ensures failed { result ≡ 3 → IsUnread (S.failures input.old) (S.failures input.new)
+        (O.state out.old) (O.state out.new) (E.state err.old) (E.state err.new)
+        ⊎ ((S.failures input.new ≡ S.failures input.old) × (w : Words)
+        × (read_words (map (λ w. w.items) words.now) ≡ Ok w)
+        × GaveOne kind (λ a ignored. IsFailedSolving a ignored w
+        (O.state out.old) (O.state out.new) (E.state err.old) (E.state err.new)) (S.given input.old) (S.given input.new)) }
+    ensures memory { result ≡ 4 → IsUntouched (O.state out.old) (O.state out.new)
+        × (WasTold (E.state err.old) (E.state err.new) (codes "Out of memory.\n")
+        ⊎ GaveOne kind (λ _ ignored. WasToldBehind (flat_map warning_text ignored) (E.state err.old) (E.state err.new)
+        (codes "Out of memory.\n")) (S.given input.old) (S.given input.new)) }
 
     // Whatever the status, the output is a beginning of the problem's.
+    ensures begins_given { Keeps (O.state out.old).taken (O.state out.new).taken
+        ⊎ ((w : Words) × (read_words (map (λ w. w.items) words.now) ≡ Ok w)
+        × GaveOne kind (λ a _. Begins (O.state out.old) (O.state out.new) (output a w.spacing w.limit))
+        (S.given input.old) (S.given input.new)) }
     ensures begins { Keeps (O.state out.old).taken (O.state out.new).taken
         ⊎ ((w : Words) × (read_words (map (λ w. w.items) words.now) ≡ Ok w)
         × IfSome (S.rest input.old) (StandsForOne kind (λ a _.

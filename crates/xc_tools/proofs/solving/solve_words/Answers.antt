@@ -1,16 +1,16 @@
-use Rattle.std.proofs.Common.{ℕ, ◌≡◌, List, [], Option, None, Some, refl, sym, append-nil}
+use Rattle.std.proofs.Common.{ℕ, ◌≡◌, List, Option, None, Some, refl, inl, inr}
 use Rattle.std.specs.Prelude.{IfSome}
-use Rattle.std.specs.Io.KnownBytes.{Appends, Keeps}
+use Rattle.std.specs.Io.KnownBytes.{Keeps}
 use Rattle.xc_input.specs.Inputs.{IsFaultOf}
 use Rattle.xc_input.specs.Lines.{IsFirstFault}
 use Rattle.xc_input.specs.declared.kind.Kind.{Kind}
 use Rattle.xc_input.specs.declared.fault.FaultKind.{FaultKind}
 use Rattle.xc_input.specs.declared.fault.InputError.{InputError}
-use Rattle.xc_input.specs.declared.fault.InputError.TheVariants.{Fault, Memory}
+use Rattle.xc_input.specs.declared.fault.InputError.TheVariants.{Fault}
 use Rattle.xc_list.specs.Texts.{SinkState, WasTold}
 use Rattle.xc_list.proofs.Writing.{was_told}
 use Rattle.xc_tools.specs.Errors.{input_error_text}
-use Rattle.xc_tools.specs.Solves.{RanOut, WasToldFault}
+use Rattle.xc_tools.specs.Solves.{WasToldFault}
 use Rattle.xc_tools.proofs.solving.solve_words.Goals as goal
 
 -- the first fault of bytes that are known
@@ -23,18 +23,6 @@ keeps_same : (a : Option (List ℕ)) → Keeps a a
 keeps_same None = tt
 keeps_same (Some b) = refl
 
-appends_none : (a : Option (List ℕ)) → Appends a a []
-appends_none None = tt
-appends_none (Some b) = sym (append-nil b)
-
--- memory ran out before a warning was told
-ran_out : (out old new : SinkState) (e : InputError) → e ≡ Memory → WasTold old new (input_error_text e) → RanOut out out old new
-ran_out out old new e is told = (
-  record { no_failure = refl; none = keeps_same out.taken },
-  [],
-  (old, record { no_failure = refl; whole = appends_none old.taken }, rw is at told),
-)
-
 pub returns-in-Fault-clause-fault : goal.returns-in-Fault-clause-fault
 returns-in-Fault-clause-fault g c = λ _.
     let told = was_told c.input_error.result c.input_error.ensures in
@@ -42,14 +30,26 @@ returns-in-Fault-clause-fault g c = λ _.
 
 pub returns-in-Memory-clause-memory : goal.returns-in-Memory-clause-memory
 returns-in-Memory-clause-memory g c = λ _.
-    ran_out _ _ _ c.in-Err.error c.in-Memory.is (was_told c.input_error.result c.input_error.ensures)
+    let told = was_told c.input_error.result c.input_error.ensures in (
+      record { no_failure = refl; none = keeps_same (g.O.Sink.state c.args.out.now).taken },
+      inl (rw c.in-Memory.is at told),
+    )
 
 pub returns-in-Ok-clause-solved_given : goal.returns-in-Ok-clause-solved_given
-returns-in-Ok-clause-solved_given g c = λ done. (
-  c.in-Ok.ensures.whole.0,
-  c.in-Ok.ensures.whole.1,
-  record { named = c.in-Ok.read.problem; ignored = c.in-Ok.read.ignored.items; text = c.in-Ok.ensures.whole.2; said = c.solve_read.ensures.solved done },
+returns-in-Ok-clause-solved_given g c = λ done. (c.in-Ok.read.problem, c.in-Ok.read.ignored.items, c.in-Ok.ensures.whole, c.solve_read.ensures.solved done)
+
+pub returns-in-Ok-clause-failed : goal.returns-in-Ok-clause-failed
+returns-in-Ok-clause-failed g c = λ bad.
+    inr (c.in-Ok.ensures.counts, (c.in-Ok.read.problem, c.in-Ok.read.ignored.items, c.in-Ok.ensures.whole, c.solve_read.ensures.failed bad))
+
+pub returns-in-Ok-clause-memory : goal.returns-in-Ok-clause-memory
+returns-in-Ok-clause-memory g c = λ out. (
+  (c.solve_read.ensures.memory out).0,
+  inr (c.in-Ok.read.problem, c.in-Ok.read.ignored.items, c.in-Ok.ensures.whole, (c.solve_read.ensures.memory out).1),
 )
+
+pub returns-in-Ok-clause-begins_given : goal.returns-in-Ok-clause-begins_given
+returns-in-Ok-clause-begins_given g c = inr (c.in-Ok.read.problem, c.in-Ok.read.ignored.items, c.in-Ok.ensures.whole, c.solve_read.ensures.begins)
 
 pub returns-in-Fault-clause-fault_given : goal.returns-in-Fault-clause-fault_given
 returns-in-Fault-clause-fault_given g c = λ _.
