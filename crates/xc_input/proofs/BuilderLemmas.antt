@@ -17,8 +17,8 @@ use Rattle.xc_input.specs.Faults.{first, option_checks, has_primary, row_checks,
 use Rattle.xc_input.specs.Limits.{most_uses, most_items}
 use Rattle.xc_input.specs.Stages.{content_checks, with_option, written_by}
 use Rattle.xc_input.specs.inner.Builders.{AreMarks, AreNames, IsBuilder, stage_of_builder, sheet_of_builder, written_of, entry_of}
-use Rattle.xc_input.specs.Stored.{key_names}
-use Rattle.xc_input.specs.Flat.{pieces}
+use Rattle.xc_input.specs.inner.Stored.{key_names}
+use Rattle.xc_input.specs.inner.Flat.{pieces}
 use Rattle.xc_input.specs.inner.Vectors.{AreOptionStarts}
 use Rattle.std.proofs.lemmas.List.{length-map}
 use Rattle.xc_input.proofs.SheetValidity.{number_uses-length}

@@ -15,7 +15,7 @@ use Rattle.xc_input.specs.Faults.{first, name_of, name_checks, bound_checks, ite
 use Rattle.xc_input.specs.Limits.{most_items}
 use Rattle.xc_input.specs.declared.problem.Item.{Item}
 use Rattle.xc_input.specs.inner.Builders.{Judged, entry_of}
-use Rattle.xc_input.specs.Stored.{key_names}
+use Rattle.xc_input.specs.inner.Stored.{key_names}
 use Rattle.std.proofs.lemmas.Grind.{common_steps}
 use Rattle.xc_input.proofs.TokenLemmas.{not_false, position-map}
 

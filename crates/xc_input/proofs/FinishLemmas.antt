@@ -11,8 +11,8 @@ use Rattle.xc_input.proofs.SheetValidity.{IsSheetOf}
 use Rattle.xc_input.specs.Text.{StandsFor}
 use Rattle.xc_input.specs.Named.{Named, IsSound}
 use Rattle.xc_input.specs.inner.Vectors.{named_from, IsOptional, AreOptionStarts}
-use Rattle.xc_input.specs.Stored.{key_names}
-use Rattle.xc_input.specs.Flat.{pieces}
+use Rattle.xc_input.specs.inner.Stored.{key_names}
+use Rattle.xc_input.specs.inner.Flat.{pieces}
 use Rattle.xc_input.specs.inner.Builders.{IsBuilder, stage_of_builder, sheet_of_builder, entry_of}
 use Rattle.xc_input.specs.Lines.{AreWhole}
 use Rattle.xc_input.specs.Readings.{Reading, IsStateOf, IsFault}

@@ -10,7 +10,7 @@ use Rattle.xc_input.specs.declared.kind.Kind.{Kind}
 use Rattle.xc_input.specs.declared.problem.Item.{Item}
 use Rattle.xc_input.specs.declared.problem.Use.{Use}
 use Rattle.xc_input.specs.Problem.{Puzzle, item_count, primary_count, AreSoundBounds, IsSoundUse, IsSoundOption, use_count}
-use Rattle.xc_input.specs.Flat.{bounds_of}
+use Rattle.xc_input.specs.ItemBounds.{bounds_of}
 use Rattle.xc_input.specs.inner.Vectors.{IsOptional}
 use Rattle.xc_input.specs.Named.{IsName, IsColour, IsSound}
 use Rattle.xc_input.specs.Words.{place}

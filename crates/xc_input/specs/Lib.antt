@@ -1,8 +1,7 @@
 pub mod Limits
 pub mod Problem
 pub mod Named
-pub mod Flat
-pub mod Stored
+pub mod ItemBounds
 pub mod Hashing
 pub mod Sheets
 pub mod Tokens

@@ -1,3 +1,5 @@
+pub mod Stored
+pub mod Flat
 pub mod Vectors
 pub mod Fronts
 pub mod Builders

@@ -7,7 +7,7 @@ ghost use Rattle.xc_input.specs.Limits.{most_uses};
 ghost use Rattle.xc_input.specs.Tokens.{parts};
 ghost use Rattle.xc_input.specs.Stages.{line_checks, content_checks, with_line, with_option, written_by, no_stage, with_row};
 ghost use Rattle.xc_input.specs.inner.Builders.{Judged, IsBuilder, AreMarks, stage_of_builder, sheet_of_builder, written_of};
-ghost use Rattle.xc_input.specs.Stored.{key_names};
+ghost use Rattle.xc_input.specs.inner.Stored.{key_names};
 
 use crate::guess::Guesses;
 use crate::item_line::{ItemLine, item_line};

@@ -8,7 +8,7 @@ ghost use Rattle.xc_input.specs.declared.fault.FaultKind.TheVariants.{UnknownIte
 ghost use Rattle.xc_input.specs.Words.{place};
 ghost use Rattle.xc_input.specs.Named.{IsName};
 ghost use Rattle.xc_input.specs.inner.Builders.{AreNames, Judged, written_of, items_of, AreMarks, IsMarkable};
-ghost use Rattle.xc_input.specs.Stored.{key_names};
+ghost use Rattle.xc_input.specs.inner.Stored.{key_names};
 
 use crate::guess::Guesses;
 use crate::item_line::name_fault;

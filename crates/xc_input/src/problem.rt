@@ -3,11 +3,11 @@
 ghost use Rattle.std.specs.Prelude.{◌≡◌, ◌≢◌, ◌<◌, ◌≤◌, ℕ, length, map, drop, sum_by, Some, All, IfSome, IfNone};
 ghost use Rattle.xc_input.specs.Problem.{IsValid, IsWithinLimits, IsSoundOption, AreSoundBounds, primary_count, item_count, option_count, IsItem, numbered_get, bounds_at, IsPrimary, IsSecondary, use_count, IsOption};
 ghost use Rattle.xc_input.specs.Limits.{greatest_bound, most_uses};
-ghost use Rattle.xc_input.specs.Flat.{bounds_of, secondary_bounds};
+ghost use Rattle.xc_input.specs.ItemBounds.{bounds_of, secondary_bounds};
 ghost use Rattle.xc_input.specs.inner.Vectors.{IsOptional, AreOptionStarts, named_from};
 ghost use Rattle.xc_input.specs.Named.{Named, AreColoursKnown, IsKnownUse, IsWellNamed, IsName, IsColour, IsSound};
 ghost use Rattle.xc_input.specs.Words.{number_in};
-ghost use Rattle.xc_input.specs.Stored.{key_names};
+ghost use Rattle.xc_input.specs.inner.Stored.{key_names};
 
 use crate::names::{NameSet, number_of_name};
 use crate::seed::Seed;
@@ -47,8 +47,8 @@ pub struct Use {
     pub colour: u32,
 }
 
-/// A problem. Items, options and colours have numbers from 1. Its calls tell beside their answer that
-/// the whole problem is sound (`whole`).
+/// A problem. Items, options and colours have numbers from 1. Most of its calls tell beside their
+/// answer that the whole problem is sound (`whole`).
 #[derive(Drop)]
 pub struct Problem {
     names: NameSet,
@@ -64,7 +64,7 @@ impl Model for Problem {
     ghost use Rattle.std.specs.Prelude.{◌≡◌, ◌≤◌, length, map, drop, All};
     ghost use Rattle.xc_input.specs.Named.{Named, IsSound};
     ghost use Rattle.xc_input.specs.inner.Vectors.{IsOptional, AreOptionStarts, named_from};
-    ghost use Rattle.xc_input.specs.Stored.{key_names};
+    ghost use Rattle.xc_input.specs.inner.Stored.{key_names};
 
     ghost Value = { Named };
 

@@ -6,7 +6,7 @@ ghost use Rattle.xc_input.specs.inner.Fronts.{drop_white, word, AtWhite};
 ghost use Rattle.xc_input.specs.Words.{has, before, after, place, number_in, is_number};
 ghost use Rattle.xc_input.specs.Limits.{most_uses};
 ghost use Rattle.xc_input.specs.inner.Builders.{AreNames, Judged};
-ghost use Rattle.xc_input.specs.Stored.{key_names};
+ghost use Rattle.xc_input.specs.inner.Stored.{key_names};
 
 use crate::guess::Guesses;
 use crate::names::{NameSet, place_of};

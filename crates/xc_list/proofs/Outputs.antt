@@ -12,7 +12,8 @@ use Rattle.xc_input.specs.Named.{Named}
 use Rattle.xc_search.specs.Cover.{members}
 use Rattle.xc_list.specs.Output.{text_of, output, is_printed, member_text}
 use Rattle.xc_list.specs.declared.runs.End.TheVariants.{Done, Limit}
-use Rattle.xc_list.specs.Runs.{printed_text, StoppedAt, end_of}
+use Rattle.xc_list.specs.Runs.{StoppedAt, end_of}
+use Rattle.xc_list.specs.inner.Ends.{printed_text}
 use Rattle.std.specs.Io.KnownBytes.{Appends, Keeps}
 use Rattle.xc_list.specs.Texts.{Begins}
 use Rattle.std.specs.Prelude.{All}

@@ -1,5 +1,5 @@
 -- What a run writes, and its end.
-use Rattle.std.specs.Prelude.{ℕ, ◌-◌, ◌<◌, ◌≤◌, ◌≡◌, true, List, [], ◌++◌, length, take, drop, Some, IsTrue, Result, MatchResult, if◌then◌else◌, nat_lt}
+use Rattle.std.specs.Prelude.{ℕ, ◌-◌, ◌<◌, ◌≤◌, ◌≡◌, true, List, [], ◌++◌, length, take, Some, IsTrue, Result, MatchResult, if◌then◌else◌, nat_lt}
 use Rattle.std.specs.Io.KnownBytes.{Appends}
 use Rattle.xc_input.specs.Calls.{Rose}
 use Rattle.xc_list.specs.Texts.{SinkState, Took, IsUntouched}
@@ -7,15 +7,10 @@ use Rattle.xc_dance.specs.declared.dance.Memory.{Memory}
 use Rattle.xc_search.specs.declared.choice.Choice.{Choice}
 use Rattle.xc_input.specs.Problem.{numbered_get}
 use Rattle.xc_search.specs.Cover.{members}
-use Rattle.xc_search.specs.Outlook.{Outlook}
 use Rattle.xc_input.specs.Named.{Named}
 use Rattle.xc_list.specs.Output.{member_text, is_printed, output}
 use Rattle.xc_list.specs.declared.runs.End.{End}
 use Rattle.xc_list.specs.declared.runs.End.TheVariants.{Done, Limit, WriteFailed}
-
--- the text of the member with this number, if it is printed
-abbrev pub printed_text : Named → ℕ → ℕ × List Choice → List ℕ
-printed_text a spacing nm = if is_printed spacing nm.0 then member_text a nm else []
 
 -- The sink failed, at its last call, at a member that is printed: it took the texts of those printed before whole, and
 -- a proper beginning of this one's.
@@ -37,16 +32,6 @@ IsRun a spacing limit old new (Done n) =
 IsRun a spacing limit old new (Limit n) =
     (n ≡ limit) × (limit ≤ length (members a.puzzle)) × Took old new (output a spacing limit)
 IsRun a spacing limit old new (WriteFailed t) = StoppedAt a spacing limit t old new
-
--- A search stands at the member with this number: that is the one it shows, and those behind it are to come.
-abbrev pub StandsAt : List (List Choice) → ℕ → Outlook → Type 0
-StandsAt ms n s = (1 ≤ n → numbered_get ms n ≡ Some s.shown) × (s.to_come ≡ drop n ms)
-
--- How far a search went that ended so: past the last member, or to the one with the end's number and no further
-abbrev pub WentTo : List (List Choice) → Outlook → End → Type 0
-WentTo ms s (Done n) = (s.shown ≡ []) × (s.to_come ≡ [])
-WentTo ms s (Limit n) = StandsAt ms n s
-WentTo ms s (WriteFailed t) = StandsAt ms t s
 
 -- What a run answers: its end, with what was written up to it; or, where there was no memory for the search, nothing
 -- was written.

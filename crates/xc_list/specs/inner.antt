@@ -1,7 +1,8 @@
--- What only contracts of private functions cite: the checker of listings and the layout of options.
+-- What only contracts of private functions cite: the checker of listings, the layout of options and how far a search went.
 pub mod Checking
 pub mod Classes
 pub mod CoverCounts
+pub mod Ends
 pub mod Layout
 pub mod OptionIndex
 pub mod SeenLines

@@ -5,7 +5,8 @@ ghost use Rattle.xc_search.specs.Cover.{members, EachMemberCovers, EachCoverIsLi
 ghost use Rattle.xc_search.specs.Room.{room_for};
 ghost use Rattle.xc_list.specs.Output.{is_printed};
 ghost use Rattle.xc_list.specs.Known.{IsKnownChoice};
-ghost use Rattle.xc_list.specs.Runs.{printed_text, IsRun, AnswersRun, WentTo};
+ghost use Rattle.xc_list.specs.Runs.{IsRun, AnswersRun};
+ghost use Rattle.xc_list.specs.inner.Ends.{printed_text, WentTo};
 ghost use Rattle.xc_list.specs.Built.{AreAsBuilt};
 
 use crate::bodies::Bodies;

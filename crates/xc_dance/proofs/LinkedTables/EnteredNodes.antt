@@ -11,7 +11,7 @@ use Rattle.std.proofs.Math.Bool.{or-true}
 use Rattle.std.proofs.Math.Path.{fun_ext}
 use Rattle.xc_input.specs.declared.problem.Use.{Use}
 use Rattle.xc_input.specs.Problem.{Puzzle, Numbered, numbered_options, holding, colour_in, item_count, IsWithinLimits}
-use Rattle.xc_dance.specs.Rising.{Rises}
+use Rattle.xc_dance.specs.Lists.Rising.{Rises}
 use Rattle.xc_dance.specs.Links.Lines.{Line}
 use Rattle.xc_dance.specs.Links.FirstNodes.{blank, entered, blanks}
 use Rattle.xc_dance.specs.Moves.{listed_numbers, listed}

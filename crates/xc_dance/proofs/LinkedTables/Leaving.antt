@@ -13,7 +13,7 @@ use Rattle.xc_dance.specs.declared.dance.Move.{Move}
 use Rattle.xc_dance.specs.Moves.{listed, is_open, AreLegal, listed_numbers, is_other_colour, without, other_colours}
 use Rattle.xc_dance.specs.Lists.Losing.{is_kept}
 use Rattle.xc_dance.specs.Fields.{Node, is_in}
-use Rattle.xc_dance.specs.Left.{left}
+use Rattle.xc_dance.specs.Lists.Left.{left}
 use Rattle.xc_dance.specs.Links.ListWalks.{is_kept_colour}
 use Rattle.xc_dance.specs.Links.Cells.{color_in}
 use Rattle.xc_dance.specs.Links.Laid.{IsLaid, IsFit}

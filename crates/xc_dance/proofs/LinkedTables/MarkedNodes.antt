@@ -10,9 +10,9 @@ use Rattle.xc_input.specs.declared.problem.Use.{Use}
 use Rattle.xc_input.specs.Problem.{Puzzle, Numbered, numbered_options, item_count, colour_in, colour_at, uses_of, holds, holding}
 use Rattle.xc_dance.specs.declared.dance.Move.{Move}
 use Rattle.xc_dance.specs.declared.dance.Move.TheVariants.{Cover, Purify, Tweak, Spend}
-use Rattle.xc_dance.specs.Moves.{listed, is_open, is_covered, purified, AreLegal, listed_numbers}
+use Rattle.xc_dance.specs.Moves.{listed, is_open, is_covered, purified, AreLegal, listed_numbers, agrees}
 use Rattle.xc_dance.specs.Fields.{Node, unused, own, spacer, used, layout, link_place, is_in, is_marked}
-use Rattle.xc_dance.specs.Left.{left, agrees}
+use Rattle.xc_dance.specs.Lists.Left.{left}
 use Rattle.xc_dance.specs.Links.Cells.{color_in, slot_of}
 use Rattle.xc_dance.specs.Links.Laid.{IsLaid, IsFit}
 use Rattle.xc_dance.specs.Lists.Losing.{is_kept}

@@ -14,7 +14,7 @@ use Rattle.xc_dance.specs.Moves.{without, listed_numbers}
 use Rattle.xc_input.proofs.lists.Filters.{filter-map}
 use Rattle.xc_dance.proofs.MoveLemmas.Shortened.{rises_listed}
 use Rattle.xc_dance.specs.Links.Lines.{Line}
-pub use Rattle.xc_dance.specs.Rising.{Rises}
+pub use Rattle.xc_dance.specs.Lists.Rising.{Rises}
 pub use Rattle.xc_dance.proofs.MoveLemmas.ListLemmas.{Rises-weaker, Rises-filter}
 
 -- ---- how lines and colours change: a member leaves its item's list or comes back, one line or one colour is another

@@ -6,8 +6,8 @@ use Rattle.xc_input.specs.Problem.{Puzzle, Numbered, holds, colour_at, holding}
 use Rattle.xc_input.proofs.lists.EachElement.{each_weaker, each-filter, each_passes}
 use Rattle.xc_dance.specs.declared.dance.Move.{Move}
 use Rattle.xc_dance.specs.declared.dance.Move.TheVariants.{Cover, Purify, Tweak, Spend}
-use Rattle.xc_dance.specs.Moves.{is_open, is_covered, purified, without}
-use Rattle.xc_dance.specs.Left.{agrees, left}
+use Rattle.xc_dance.specs.Moves.{is_open, is_covered, purified, without, agrees}
+use Rattle.xc_dance.specs.Lists.Left.{left}
 use Rattle.std.proofs.lemmas.Option.{same_Some}
 
 -- a fact of all options left is kept by a move

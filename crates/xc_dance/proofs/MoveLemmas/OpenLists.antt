@@ -10,8 +10,8 @@ use Rattle.xc_input.proofs.lists.Filters.{filter_same, filter_both, filter_swap,
 use Rattle.xc_input.proofs.BooleanTests.{and_right}
 use Rattle.xc_dance.specs.declared.dance.Move.{Move}
 use Rattle.xc_dance.specs.declared.dance.Move.TheVariants.{Cover, Purify, Tweak, Spend}
-use Rattle.xc_dance.specs.Moves.{listed, is_open, without, is_among, other_colours, is_other_colour, AreLegal}
-use Rattle.xc_dance.specs.Left.{agrees, left}
+use Rattle.xc_dance.specs.Moves.{listed, is_open, without, is_among, other_colours, is_other_colour, AreLegal, agrees}
+use Rattle.xc_dance.specs.Lists.Left.{left}
 use Rattle.xc_dance.proofs.MoveLemmas.OptionsRise.{NumbersRise, NumbersRise-weaker, NumbersRise-filter, options_rise}
 
 -- ---- numbers that rise

@@ -13,7 +13,7 @@ use Rattle.xc_input.proofs.lists.EachElement.{each-filter}
 use Rattle.xc_dance.specs.declared.dance.Move.{Move}
 use Rattle.xc_dance.specs.declared.dance.Move.TheVariants.{Cover, Purify, Tweak, Spend}
 use Rattle.xc_dance.specs.Moves.{is_open, is_among, without, other_colours, listed, listed_numbers}
-use Rattle.xc_dance.specs.Rising.{Rises}
+use Rattle.xc_dance.specs.Lists.Rising.{Rises}
 use Rattle.xc_dance.specs.Lists.Taking.{less, list_at}
 use Rattle.xc_dance.specs.Lists.Losing.{lose_from, lose, has_use, is_kept, AreListsFrom, AreLists, lists_after}
 use Rattle.xc_dance.proofs.MoveLemmas.ListLemmas.{Rises-weaker}

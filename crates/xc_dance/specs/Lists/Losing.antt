@@ -4,7 +4,7 @@ use Rattle.std.specs.List.{list_any, range_with_len}
 use Rattle.xc_input.specs.declared.problem.Use.{Use}
 use Rattle.xc_input.specs.Problem.{Puzzle, item_count, uses_of, colour_in}
 use Rattle.xc_dance.specs.declared.dance.Move.{Move}
-use Rattle.xc_dance.specs.Rising.{Rises}
+use Rattle.xc_dance.specs.Lists.Rising.{Rises}
 use Rattle.xc_dance.specs.Lists.Taking.{less}
 use Rattle.xc_dance.specs.Moves.{is_open, is_other_colour, listed_numbers}
 

@@ -1,6 +1,6 @@
 //! Lists of option numbers that can go back to how they were.
 ghost use Rattle.std.specs.Prelude.{◌≡◌, ◌+◌, ◌<◌, [], ◌∷◌, length, reverse, slice_index, slice_set, sum_by, vec_capacity, IfOk, IfSome, IsNone, MatchOption};
-ghost use Rattle.xc_dance.specs.Rising.{Rises};
+ghost use Rattle.xc_dance.specs.Lists.Rising.{Rises};
 ghost use Rattle.xc_dance.specs.Lists.Taking.{numbers_of, rooms_of, list_at, less, put_back, restored, still_taken, HasRoom, IsPutBack, Fits};
 
 use std::alloc::{AllocError, Global};

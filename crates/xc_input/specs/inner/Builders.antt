@@ -12,9 +12,9 @@ use Rattle.xc_input.specs.declared.option_line.WrittenUse.{WrittenUse}
 use Rattle.xc_input.specs.declared.builder.ProblemBuilder.{ProblemBuilder}
 use Rattle.xc_input.specs.Named.{IsName}
 use Rattle.xc_input.specs.Tokens.{is_space}
-use Rattle.xc_input.specs.Flat.{pieces}
+use Rattle.xc_input.specs.inner.Flat.{pieces}
 use Rattle.xc_input.specs.inner.Vectors.{AreOptionStarts}
-use Rattle.xc_input.specs.Stored.{key_names}
+use Rattle.xc_input.specs.inner.Stored.{key_names}
 use Rattle.xc_input.specs.Stages.{Stage}
 use Rattle.xc_input.specs.Sheets.{Entry, Sheet, Written, names_of}
 use Rattle.xc_input.specs.Faults.{Row}

@@ -5,9 +5,10 @@ use Rattle.std.specs.Prelude.{◌≡◌, ℕ, ◌-◌, List, Some, Vec, map, tak
 use Rattle.std.specs.declared.alloc.Global.{Global}
 use Rattle.xc_input.specs.declared.problem.Item.{Item}
 use Rattle.xc_input.specs.declared.problem.Use.{Use}
-use Rattle.xc_input.specs.Flat.{pieces, AreStarts, bounds_of, secondary_bounds}
+use Rattle.xc_input.specs.ItemBounds.{bounds_of, secondary_bounds}
+use Rattle.xc_input.specs.inner.Flat.{pieces, AreStarts}
 use Rattle.xc_input.specs.Named.{Named}
-use Rattle.xc_input.specs.Stored.{key_names}
+use Rattle.xc_input.specs.inner.Stored.{key_names}
 
 -- an item that may be left out, and is held at most once
 abbrev pub IsOptional : Item → Type 0

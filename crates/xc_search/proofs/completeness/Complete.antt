@@ -6,9 +6,9 @@ use Rattle.xc_input.specs.declared.problem.Use.{Use}
 use Rattle.xc_search.specs.declared.choice.Choice.{Choice}
 use Rattle.xc_input.specs.Problem.{Numbered, colour_at, holds, holding}
 use Rattle.xc_search.specs.Listing.{Wanted, Residual, Branch, less_one, spend_one, may_stay, item_left, pick, none, branch_item, branch_count, take_branch, none_branch, branches_of, level, listing_to, size_of}
-use Rattle.xc_dance.specs.Left.{agrees}
 use Rattle.xc_search.specs.Cover.{options_of}
 use Rattle.xc_input.proofs.lists.Members.{IsIn, in-filter, filter-in, in-map, in-take}
+use Rattle.xc_dance.specs.Moves.{agrees}
 use Rattle.xc_dance.proofs.MoveLemmas.OptionsRise.{NumbersRise-filter}
 use Rattle.xc_search.proofs.completeness.Solved.{beside}
 use Rattle.xc_search.proofs.completeness.Proper.{IsProper, find-in, in-find, goes_on, proper_pick, proper_none}

@@ -5,9 +5,9 @@ use Rattle.std.specs.List.{AllByRecursion, list_all}
 use Rattle.xc_input.specs.declared.problem.Use.{Use}
 use Rattle.xc_input.specs.Problem.{Numbered, colour_in, holds, colour_at, holding}
 use Rattle.xc_search.specs.Listing.{Wanted, Residual, less_one, spend_one, may_stay, item_left, stays, pick, none}
-use Rattle.xc_dance.specs.Left.{agrees}
 use Rattle.xc_input.proofs.lists.Members.{IsIn, in-filter}
 use Rattle.xc_search.proofs.residual.NumberedOnce.{same_number}
+use Rattle.xc_dance.specs.Moves.{agrees}
 use Rattle.xc_dance.proofs.MoveLemmas.OptionsRise.{NumbersRise}
 use Rattle.xc_input.proofs.lists.EachElement.{each_weaker}
 use Rattle.std.proofs.Math.Bool.{or-true}

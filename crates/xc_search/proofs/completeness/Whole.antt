@@ -8,9 +8,9 @@ use Rattle.xc_input.specs.declared.problem.Use.{Use}
 use Rattle.xc_search.specs.declared.choice.Choice.{Choice}
 use Rattle.xc_input.specs.Problem.{Puzzle, Numbered, numbered_options, primary_count, option_count, colour_in, colour_at, holds, uses_of, bounds_at, IsSoundUse, IsSoundOption, IsValid}
 use Rattle.xc_search.specs.Listing.{whole, listing, size_of}
-use Rattle.xc_dance.specs.Left.{agrees}
 use Rattle.xc_search.specs.Cover.{IsCover, SameSet, times_held, options_of, members, EachCoverIsListed}
 use Rattle.xc_input.proofs.lists.Members.{IsIn, in-contains, contains-in, slice_get-in, each_in, each_from}
+use Rattle.xc_dance.specs.Moves.{agrees}
 use Rattle.xc_dance.proofs.MoveLemmas.OptionsRise.{options_rise}
 use Rattle.xc_search.proofs.completeness.Proper.{proper_whole}
 use Rattle.xc_search.proofs.completeness.Passing.{passing, none_pass, passing_without, list_all-each}

@@ -12,7 +12,7 @@ use Rattle.xc_search.specs.Listing.{Wanted, Residual, pick, none}
 use Rattle.xc_dance.specs.Moves.{listed, is_open, spends, AreLegal}
 use Rattle.xc_search.specs.Residuals.{wanted_after}
 use Rattle.xc_search.specs.inner.Residual.{residual_of}
-use Rattle.xc_dance.specs.Left.{left}
+use Rattle.xc_dance.specs.Lists.Left.{left}
 use Rattle.xc_search.specs.inner.Commits.{opened, tweaked, after_use, after_uses, others, place_in, closed}
 use Rattle.xc_search.specs.inner.Levels.{IsNode}
 use Rattle.xc_dance.proofs.MoveLemmas.OpenLists.{listed_open}

@@ -11,7 +11,7 @@ use Rattle.xc_search.specs.Listing.{Residual, may_stay, item_left}
 use Rattle.xc_dance.specs.Moves.{listed, is_open, purified, spends, without, AreLegal}
 use Rattle.xc_search.specs.Residuals.{wanted_after}
 use Rattle.xc_search.specs.inner.Residual.{residual_of}
-use Rattle.xc_dance.specs.Left.{left}
+use Rattle.xc_dance.specs.Lists.Left.{left}
 use Rattle.xc_search.specs.inner.Commits.{opened, tweaked}
 use Rattle.xc_search.specs.inner.Levels.{IsNode}
 use Rattle.xc_dance.proofs.MoveLemmas.OpenLists.{listed_open, left_rises, without_filter}

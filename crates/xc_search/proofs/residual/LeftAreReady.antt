@@ -9,8 +9,8 @@ use Rattle.xc_dance.specs.declared.dance.Move.{Move}
 use Rattle.xc_dance.specs.declared.dance.Move.TheVariants.{Cover, Purify, Tweak, Spend}
 use Rattle.xc_input.specs.Problem.{Puzzle, Numbered, primary_count, holds, colour_at, colour_in, high_at, IsPrimary, IsSoundUse, IsValid}
 use Rattle.xc_search.specs.Listing.{Wanted}
-use Rattle.xc_dance.specs.Left.{agrees, left}
-use Rattle.xc_dance.specs.Moves.{is_open, is_covered, purified, spends, AreLegal}
+use Rattle.xc_dance.specs.Lists.Left.{left}
+use Rattle.xc_dance.specs.Moves.{is_open, is_covered, purified, spends, AreLegal, agrees}
 use Rattle.xc_search.specs.Residuals.{wanted_at, wanted_after}
 use Rattle.xc_search.proofs.residual.PickedByUses.{is_wanted, AreWanted}
 use Rattle.xc_dance.proofs.MoveLemmas.LeftOptions.{left_agrees, left_free, kept}

@@ -10,7 +10,7 @@ use Rattle.xc_search.specs.Listing.{Wanted, Branch, branch_item, branch_count, b
 use Rattle.xc_dance.specs.Moves.{is_open, AreLegal}
 use Rattle.xc_search.specs.Residuals.{wanted_at, wanted_after}
 use Rattle.xc_search.specs.inner.Residual.{residual_of}
-use Rattle.xc_dance.specs.Left.{left}
+use Rattle.xc_dance.specs.Lists.Left.{left}
 use Rattle.xc_search.specs.inner.Commits.{opened, oldest, tweaked, walks}
 use Rattle.xc_search.specs.inner.Sparing.{IsSparing}
 

@@ -1,7 +1,7 @@
 use Rattle.std.proofs.Common.{◌≡◌, ◌++◌, ◌+◌, ◌≤◌, drop, map, length}
 use Rattle.xc_input.specs.Sheets.{number_uses, with_uses}
 use Rattle.xc_input.specs.inner.Builders.{written_of}
-use Rattle.xc_input.specs.Stored.{key_names}
+use Rattle.xc_input.specs.inner.Stored.{key_names}
 use Rattle.xc_input.proofs.builder.add_uses.Given as goal
 
 abbrev pub invariant-loop-u : goal.invariant-loop-u

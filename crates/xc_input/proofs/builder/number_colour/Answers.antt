@@ -1,6 +1,6 @@
 use Rattle.std.proofs.Common.{◌∙◌, ◌<◌, sym, length, arith}
 use Rattle.std.proofs.lemmas.Bool.Decides.{nat_tests}
-use Rattle.xc_input.specs.Stored.{key_names}
+use Rattle.xc_input.specs.inner.Stored.{key_names}
 use Rattle.xc_input.proofs.FaultLemmas.{map-length}
 use Rattle.xc_input.proofs.BuilderLemmas.{new-number}
 use Rattle.xc_input.proofs.builder.number_colour.Goals as goal

@@ -1,7 +1,7 @@
 use Rattle.std.proofs.Common.{◌∙◌, ◌&&◌, sym, ap}
 use Rattle.xc_input.specs.Words.{has}
 use Rattle.xc_input.specs.Faults.{is_plain}
-use Rattle.xc_input.specs.Stored.{key_names}
+use Rattle.xc_input.specs.inner.Stored.{key_names}
 use Rattle.xc_input.proofs.GrammarLemmas.{no-cut, and-false}
 use Rattle.xc_input.proofs.NameLemmas.{stored-name}
 use Rattle.xc_input.proofs.OptionLemmas.{unknown, repeated, on-primary, misfit, coloured, at-none, at-some}

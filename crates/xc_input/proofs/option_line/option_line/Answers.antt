@@ -1,7 +1,7 @@
 use Rattle.std.proofs.Common.{◌∙◌, ◌-◌, ap, is_ok, Vec, Global, map, true, length-set}
 use Rattle.xc_input.specs.Tokens.{tokens}
 use Rattle.xc_input.specs.inner.Builders.{written_of, items_of}
-use Rattle.xc_input.specs.Stored.{key_names}
+use Rattle.xc_input.specs.inner.Stored.{key_names}
 use Rattle.xc_input.proofs.OptionLemmas.{token-stop, token-step, pushed}
 use Rattle.xc_input.specs.declared.option_line.WrittenUse.{WrittenUse}
 use Rattle.xc_input.specs.declared.line_error.LineError.TheVariants.{Fault}

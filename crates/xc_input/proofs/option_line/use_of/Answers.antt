@@ -1,6 +1,6 @@
 use Rattle.std.proofs.Common.{◌≡◌, false, get_or, subst, ◌∙◌, ◌&&◌, sym, ap}
 use Rattle.xc_input.specs.Faults.{is_plain}
-use Rattle.xc_input.specs.Stored.{key_names}
+use Rattle.xc_input.specs.inner.Stored.{key_names}
 use Rattle.xc_input.proofs.GrammarLemmas.{no-cut, and-false}
 use Rattle.xc_input.proofs.NameLemmas.{stored-name}
 use Rattle.xc_input.proofs.OptionLemmas.{repeated, bare}

@@ -3,7 +3,7 @@ use Rattle.std.proofs.lemmas.Bool.Decides.{nat_tests}
 use Rattle.std.proofs.lemmas.List.{nil_from_length}
 use Rattle.xc_input.specs.Tokens.{tokens}
 use Rattle.xc_input.specs.Words.{place}
-use Rattle.xc_input.specs.Stored.{key_names}
+use Rattle.xc_input.specs.inner.Stored.{key_names}
 use Rattle.xc_input.proofs.TokenLemmas.{cuts_first, tokens-drop_white}
 use Rattle.xc_input.proofs.tokens.next_token.Goals as goal
 

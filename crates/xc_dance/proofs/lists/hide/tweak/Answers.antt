@@ -1,7 +1,7 @@
 use Rattle.std.proofs.Common.{arith, ◌≡◌, ◌+◌, ◌∙◌, ap, sym, subst, length, get_or, List, ℕ, ◌<◌, ◌-◌}
 use Rattle.std.proofs.lemmas.Grind.{common_steps}
 use Rattle.xc_dance.specs.Lists.Versions.{Versions}
-use Rattle.xc_dance.specs.Rising.{Rises}
+use Rattle.xc_dance.specs.Lists.Rising.{Rises}
 use Rattle.xc_dance.specs.Lists.Taking.{list_at}
 use Rattle.xc_dance.specs.Lists.Losing.{lists_after}
 use Rattle.xc_dance.proofs.LiveLists.Marks.{same_versions}

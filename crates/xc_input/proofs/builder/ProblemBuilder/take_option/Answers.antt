@@ -8,8 +8,8 @@ use Rattle.xc_input.specs.Stages.{written_by}
 use Rattle.xc_input.specs.declared.fault.FaultKind.TheVariants.{TooManyUses}
 use Rattle.xc_input.specs.declared.option_line.WrittenUse.{WrittenUse}
 use Rattle.xc_input.specs.inner.Builders.{AreMarks, written_of, sheet_of_builder}
-use Rattle.xc_input.specs.Stored.{key_names}
-use Rattle.xc_input.specs.Flat.{pieces}
+use Rattle.xc_input.specs.inner.Stored.{key_names}
+use Rattle.xc_input.specs.inner.Flat.{pieces}
 use Rattle.xc_input.proofs.FaultLemmas.{IsErr-judged, hands-on, items-length}
 use Rattle.xc_input.proofs.OptionLemmas.{pushed}
 use Rattle.xc_input.proofs.MarkLemmas.{written-back}

@@ -1,6 +1,6 @@
 use Rattle.std.proofs.Common.{subst, sym, ◌<◌, refl, ◌∙◌, map}
 use Rattle.xc_input.specs.inner.Builders.{entry_of, AreNames}
-use Rattle.xc_input.specs.Stored.{key_names}
+use Rattle.xc_input.specs.inner.Stored.{key_names}
 use Rattle.xc_input.specs.declared.line_error.LineError.TheVariants.{Fault}
 use Rattle.xc_input.proofs.NameLemmas.{names-more, name-solid}
 use Rattle.xc_input.proofs.FaultLemmas.{IsErr-judged, bad-bound, bad-name, too-many, no-fault, judged-on, grown, OnOk-map, none-is, length-items, items-length}

@@ -1,6 +1,6 @@
 use Rattle.std.proofs.Common.{arith, ◌≡◌, ◌+◌, ◌-◌, ◌<◌, ◌≤◌, ap, sym, subst, ◌∙◌, Some, length, map, take}
 use Rattle.xc_input.specs.Problem.{numbered_get, bounds_at, item_count, primary_count}
-use Rattle.xc_input.specs.Flat.{bounds_of}
+use Rattle.xc_input.specs.ItemBounds.{bounds_of}
 use Rattle.xc_input.specs.inner.Vectors.{IsOptional}
 use Rattle.xc_input.specs.Named.{Named}
 use Rattle.xc_input.proofs.FlatParts.{numbered_get-at, slice_get-map, slice_get-map-take, length-map-take, behind-at}

@@ -2,9 +2,9 @@ use Rattle.std.proofs.Common.{arith, rules, ◌≡◌, ◌≤◌, ◌∙◌, Som
 use Rattle.std.proofs.lemmas.Grind.{common_steps}
 use Rattle.std.specs.Prelude.{All, slice_range}
 use Rattle.xc_input.specs.Problem.{option_count, numbered_get}
-use Rattle.xc_input.specs.Flat.{pieces}
+use Rattle.xc_input.specs.inner.Flat.{pieces}
 use Rattle.xc_input.specs.Named.{Named, IsKnownUse}
-use Rattle.xc_input.specs.Stored.{key_names}
+use Rattle.xc_input.specs.inner.Stored.{key_names}
 use Rattle.xc_input.proofs.FlatParts.{length-pieces, option_part}
 use Rattle.xc_input.proofs.Known.{known_option}
 use Rattle.xc_input.proofs.problem.Problem.option.Goals.{After-deref}

@@ -1,4 +1,4 @@
--- The bytes that tables store.
+-- No public clause cites this module. The bytes that tables store.
 use Rattle.std.specs.Prelude.{ℕ, List, Vec, map}
 use Rattle.std.specs.declared.alloc.Global.{Global}
 

@@ -1,7 +1,5 @@
--- Options kept in one list of uses, with the places where they start and at last the length.
+-- No public clause cites this module. Options kept in one list of uses, with the places where they start and at last the length.
 use Rattle.std.specs.Prelude.{ℕ, ◌≤◌, ◌≡◌, List, [], ◌∷◌, slice_range}
-use Rattle.xc_input.specs.declared.problem.Item.{Item}
-use Rattle.xc_input.specs.Problem.{Bounds}
 
 -- the parts from each start to the next
 abbrev pub pieces : {X : Type 0} → List ℕ → List X → List (List X)
@@ -14,11 +12,3 @@ abbrev pub AreStarts : List ℕ → ℕ → Type 0
 AreStarts [] n = ⊥
 AreStarts (a ∷ []) n = a ≡ n
 AreStarts (a ∷ b ∷ starts) n = (a ≤ b) × AreStarts (b ∷ starts) n
-
--- the bounds of an item
-abbrev pub bounds_of : Item → Bounds
-bounds_of x = record { low = x.low; high = x.high }
-
--- a secondary item may be left out, and is held at most once
-abbrev pub secondary_bounds : Bounds
-secondary_bounds = record { low = 0; high = 1 }
