@@ -85,14 +85,22 @@ fn write_members<'a, D: Dance, S: Sink>(
     End::Limit(words.limit)
 }
 
-/// The options of a problem, laid out if any are printed.
+/// Whether options may be printed as often as there are options, which makes it worth while to lay
+/// all of them out.
+fn prints_many(problem: &Problem, words: &Words) -> bool {
+    let solutions = words.limit.checked_div(words.spacing).unwrap_or(0);
+    let choices = solutions.saturating_mul(u64::from(problem.primary()));
+    choices > 0 && choices >= u64::from(problem.options())
+}
+
+/// The options of a problem, laid out if many are printed.
 fn bodies_for<'a>(alloc: Global, problem: &'a Problem, words: &Words) -> Bodies<'a>
     ensures { result ≡ problem.now }
 {
-    if words.spacing == 0 {
-        return Bodies::plain(problem);
+    if prints_many(problem, words) {
+        return Bodies::laid_out(alloc, problem);
     }
-    Bodies::laid_out(alloc, problem)
+    Bodies::plain(problem)
 }
 
 /// Searches for the solutions, writes the listing as far as the words ask for it, unwinds, and
