@@ -60,11 +60,8 @@ impl Tray {
         ensures failures { IfOk result (λ t. (⟦<Tray as Sink>⟧.state t).failures ≡ 0) }
         ensures failed { IfOk result (λ t. (⟦<Tray as Sink>⟧.state t).failed ≡ false) }
     {
-        let Ok(bytes) = Vec::with_capacity(alloc, room) else {
-            return Err(Memory);
-        };
         Ok(Tray {
-            bytes,
+            bytes: Vec::with_capacity(alloc, room)?,
             step,
             room,
             zero,

@@ -1,6 +1,6 @@
 //! What no move changes: the counts of the items, and where the nodes of the options stand.
 ghost use Rattle.std.specs.Prelude.{◌≡◌, false, ◌-◌, ◌≤◌, ◌↔◌, IsTrue, IfOk};
-ghost use Rattle.xc_input.specs.Problem.{IsValid, IsWithinLimits, IsItem, IsPrimary, IsSecondary, item_count, option_count};
+ghost use Rattle.xc_input.specs.Problem.{IsValid, IsWithinLimits, IsItem, IsPrimary, IsSecondary, item_count, IsOption};
 ghost use Rattle.xc_dance.specs.Links.Laid.{IsFit};
 ghost use Rattle.xc_dance.specs.Links.OptionPlaces.{start_at};
 ghost use Rattle.xc_dance.specs.Links.OptionSpans.{spans_of};
@@ -114,7 +114,7 @@ impl Fixed {
     /// Where the nodes of an option start.
     #[inline(always)]
     pub(crate) fn start(&self, option: u32) -> u32
-        requires { (1 ≤ option) × (option ≤ option_count self.now) }
+        requires { IsOption self.now option }
         ensures { result ≡ start_at self.now (option - 1) }
     {
         self.starts[option as usize - 1]

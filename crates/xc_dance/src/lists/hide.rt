@@ -1,6 +1,6 @@
 //! What a move takes out of the lists.
 ghost use Rattle.std.specs.Prelude.{◌≡◌, ◌-◌, ◌<◌, ◌≤◌, ◌==◌, ◌&&◌, not, [], ◌∷◌, length, filter, if◌then◌else◌};
-ghost use Rattle.xc_input.specs.Problem.{IsItem, option_count, colour_in};
+ghost use Rattle.xc_input.specs.Problem.{IsItem, IsOption, colour_in};
 ghost use Rattle.xc_dance.specs.Moves.{IsLegal, is_open, is_other_colour};
 ghost use Rattle.xc_dance.specs.Lists.Taking.{list_at};
 ghost use Rattle.xc_dance.specs.Lists.Losing.{lose, is_kept, AreLists, lists_after};
@@ -54,7 +54,7 @@ fn hide_options(standing: &Trail, live: &mut OptionLists, item: u32, kept: Optio
 
 /// Every open item but `item` loses the option.
 fn hide(standing: &Trail, live: &mut OptionLists, item: u32, option: u32)
-    requires option { (1 ≤ option) × (option ≤ option_count standing.now.puzzle) }
+    requires option { IsOption standing.now.puzzle option }
     requires lists { AreLists standing.now.puzzle live.old.lists }
     ensures { live.new ≡ record live.old { lists = lose standing.now.trail item (option ∷ []) live.old.lists } }
 {
@@ -68,7 +68,7 @@ fn hide(standing: &Trail, live: &mut OptionLists, item: u32, option: u32)
 /// Every other open item loses the option, if `item` is open.
 fn hide_if_open(standing: &Trail, live: &mut OptionLists, item: u32, option: u32)
     requires item { IsItem standing.now.puzzle item }
-    requires option { (1 ≤ option) × (option ≤ option_count standing.now.puzzle) }
+    requires option { IsOption standing.now.puzzle option }
     requires lists { AreLists standing.now.puzzle live.old.lists }
     ensures { live.new ≡ record live.old { lists = if is_open item standing.now.trail then lose standing.now.trail item (option ∷ []) live.old.lists else live.old.lists } }
 {
@@ -87,7 +87,7 @@ fn loses(standing: &Trail, item: u32, hider: u32) -> bool
 
 /// Whether the option gives the item the colour kept.
 fn keeps(table: &Table, item: u32, kept: Option<u32>, option: u32) -> bool
-    requires { (1 ≤ option) × (option ≤ option_count table.now) }
+    requires { IsOption table.now option }
     ensures { result ≡ is_kept table.now item kept option }
 {
     match kept {

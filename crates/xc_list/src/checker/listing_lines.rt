@@ -96,10 +96,7 @@ fn solution_number(text: &[u8]) -> Option<u64>
 fn header_number(line: &[u8]) -> Option<u64>
     ensures { result ≡ header_number line.now }
 {
-    match before_last(line, b':') {
-        None => None,
-        Some(text) => solution_number(text),
-    }
+    solution_number(before_last(line, b':')?)
 }
 
 /// Whether a word is `(` and one to ten digits.
