@@ -12,22 +12,40 @@ use thiserror::Error;
 /// What is wrong with a line.
 #[derive(Clone, Copy, Debug, PartialEq, Eq)]
 pub enum FaultKind {
+    /// The text ends without an item line. Its line is the number of lines plus 1.
     NoItems,
+    /// The line has a NUL byte, in a comment too.
     NulByte,
+    /// A name has no byte.
     EmptyName,
+    /// A name has more than 32 bytes.
     NameTooLong,
+    /// A name has a `:` or a `|`.
     BadByteInName,
+    /// An earlier item has this name.
     RepeatedName,
+    /// A bar stands earlier in the item line.
     TwoBars,
+    /// What stands before an item's `|` is neither a number nor two numbers parted by `:`, each of one
+    /// to nine digits.
     BadBound,
+    /// The upper bound is 0 or below the lower one.
     BoundOrder,
+    /// An item behind the bar has bounds.
     BoundOnSecondary,
+    /// No item has this name.
     UnknownItem,
+    /// The item stands earlier in this option.
     RepeatedInOption,
+    /// A colour on a primary item.
     ColourOnPrimary,
+    /// A colour has no byte, or more than 8.
     BadColour,
+    /// A colour in a problem of kind `Plain`.
     ColourNotHere,
+    /// There are more than 100,000 items.
     TooManyItems,
+    /// The options that are kept have more than 10,000,000 uses.
     TooManyUses,
 }
 
@@ -69,10 +87,13 @@ impl std::error::Error for FaultKind {}
 /// Why no problem was read.
 #[derive(Clone, Copy, Debug, PartialEq, Eq, Error)]
 pub enum InputError {
+    /// A line has a fault. Lines are counted from 1.
     #[error("line {line}: {kind}")]
     Fault { line: u64, kind: FaultKind },
+    /// A read of the source failed.
     #[error("a read failed")]
     Device,
+    /// Memory is out.
     #[error("out of memory")]
     Memory,
 }

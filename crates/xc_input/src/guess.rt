@@ -58,7 +58,8 @@ fn number(bytes: u64, size: usize) -> usize {
     ((product >> 32).wrapping_mul(size as u64) >> 32) as usize
 }
 
-/// The bytes at the front of a text up to its first white space, as a number, and how many they are.
+/// The bytes at the front of a text before its first one that is at most a space, sixteen at most, as
+/// a number, and how many they are. So a longer name is never guessed right, and is looked up.
 #[inline]
 fn word(text: &[u8]) -> (u64, usize) {
     let first = first_bytes(text);

@@ -78,7 +78,8 @@ impl Reader {
         }
     }
 
-    /// Takes one line, without its line feed.
+    /// Takes one line, without its line feed. The first fault of the text is told with its line, or
+    /// want of memory; each later call tells the same again.
     pub fn line(&mut self, line: &[u8]) -> Result<(), InputError>
         requires { has 10 line.now ≡ false }
         ensures kind { self.new.kind ≡ self.old.kind }

@@ -47,8 +47,8 @@ impl BuildHasher for Seed {
 }
 
 /// Hashes by folded multiplication with a key, as foldhash and wyhash do: what is written is joined
-/// to the state by xor, and both halves of the product with the key make the next state. It is
-/// faster than the usual keyed hasher where the writes are short, as those of names are.
+/// to the state by xor, and both halves of the product with the key make the next state: one product
+/// for a number of four or eight bytes, as the parts of a use are, else one for each byte.
 #[derive(Clone, Copy)]
 pub struct FoldingHasher {
     state: u64,

@@ -44,7 +44,7 @@ pub enum ListingFault {
     /// A line that is neither a header nor a choice line, or a choice line before the first header.
     #[error("listing line {0}: bad line")]
     BadLine(u64),
-    /// A choice line whose body stands for no option.
+    /// A choice line whose body is neither that of an option nor `null` and a primary item's name.
     #[error("listing line {0}: unknown option")]
     UnknownOption(u64),
     /// Memory is out.

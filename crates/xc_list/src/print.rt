@@ -99,7 +99,7 @@ fn write_branch_in_pieces<S: Sink>(k: u32, n: u32, sink: &mut S) -> Result<(), S
     write_all(sink, b")\n")
 }
 
-/// Writes branch and number of branches where one has some digits, to the end of the line.
+/// Writes branch and number of branches where one has two digits or more, to the end of the line.
 #[inline(never)]
 fn write_long_branch<S: Sink>(k: u32, n: u32, sink: &mut S) -> Result<(), SinkFault>
     ensures { Writes (S.state sink.old) (S.state sink.new) result (branch_text k n) }
