@@ -43,9 +43,9 @@ def expect(what, words, text, status, out=None, err=None, **how):
 
 # ---- want of memory
 
-ROW_2 = b"p q r | x y\np q x y:A\np r x:A y\np x:B\nq x:A\nr y:B\n"
-ROW_3 = b"1:2|A B\nA\nA B\nB\n"
-ROW_11 = b"| test\r\n\r\nA | x\r\nx\r\nA x"
+COLOURED = b"p q r | x y\np q x y:A\np r x:A y\np x:B\nq x:A\nr y:B\n"
+BOUNDED = b"1:2|A B\nA\nA B\nB\n"
+WITH_IGNORED = b"| test\r\n\r\nA | x\r\nx\r\nA x"
 
 
 def thousand():
@@ -82,11 +82,11 @@ def refused_in_turn(what, shim, words, text):
 def want_of_memory(folder):
     shim = f"{folder}/refuse.so"
     subprocess.run(["cc", "-O1", "-shared", "-fPIC", "-o", shim, f"{HERE}/refuse.c"], check=True)
-    refused_in_turn("colours", shim, ["dlx2", "m1"], ROW_2)
-    refused_in_turn("bounds", shim, ["dlx3", "m1"], ROW_3)
-    refused_in_turn("an ignored option", shim, ["dlx1", "m1"], ROW_11)
+    refused_in_turn("colours", shim, ["dlx2", "m1"], COLOURED)
+    refused_in_turn("bounds", shim, ["dlx3", "m1"], BOUNDED)
+    refused_in_turn("an ignored option", shim, ["dlx1", "m1"], WITH_IGNORED)
     refused_in_turn("a thousand options", shim, ["dlx2", "m1", "t3"], thousand())
-    for name, words, text in (("colours", ["dlx2", "m1"], ROW_2), ("a thousand options", ["dlx2", "m1", "t3"], thousand())):
+    for name, words, text in (("colours", ["dlx2", "m1"], COLOURED), ("a thousand options", ["dlx2", "m1", "t3"], thousand())):
         file = f"{folder}/problem.dlx"
         with open(file, "wb") as it:
             it.write(text)
@@ -189,8 +189,8 @@ def chosen_names():
 
 def cut_at_each_byte():
     """Each beginning of a problem is accepted or refused, and nothing else."""
-    for n in range(len(ROW_2) + 1):
-        status, out, err = run(["dlx2", "m1"], ROW_2[:n])
+    for n in range(len(COLOURED) + 1):
+        status, out, err = run(["dlx2", "m1"], COLOURED[:n])
         tell(status in (0, 2) and (status == 0 or (out == b"" and err.startswith(b"Line "))), f"a problem cut at byte {n}: {status}, {err[:80]!r}")
 
 
@@ -198,8 +198,8 @@ def listing_cut_at_each_byte(folder):
     """Each beginning of a listing is judged or refused, with nothing printed where it is refused."""
     file = f"{folder}/cut.dlx"
     with open(file, "wb") as it:
-        it.write(ROW_2)
-    listing = run(["dlx2", "m1"], ROW_2)[1]
+        it.write(COLOURED)
+    listing = run(["dlx2", "m1"], COLOURED)[1]
     for n in range(len(listing) + 1):
         status, out, err = run(["dlxcheck", file, "2"], listing[:n])
         tell((status in (0, 5) and err == b"") or (status == 2 and out == b"" and err.startswith(b"Listing line ")), f"a listing cut at byte {n}: {status}, {out[:80]!r}, {err[:80]!r}")
