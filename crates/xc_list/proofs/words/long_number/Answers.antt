@@ -1,6 +1,6 @@
 use Rattle.std.proofs.Common.{arith, ◌<◌, ◌≤◌, ◌+◌, ◌-◌, ◌*◌, ◌^◌, sym, ap, ◌∙◌, drop, get_or, length}
 use Rattle.xc_list.proofs.Digits.{digits_in, some_digits, behind, too_large}
-use Rattle.xc_list.proofs.words.number_in.Goals as goal
+use Rattle.xc_list.proofs.words.long_number.Goals as goal
 
 pub returns-then-digit-value : goal.returns-then-digit-value
 returns-then-digit-value c =
