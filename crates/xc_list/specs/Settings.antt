@@ -21,8 +21,7 @@ abbrev pub read_word : ℕ → Words → List ℕ → Result Words WordFault
 read_word place w [] = Err (Unknown place)
 read_word place w (b ∷ bs) =
     if b == byte "m" then read_number place bs (λ n. Ok (record w { spacing = n }))
-    else if b == byte "t" then
-        read_number place bs (λ n. if n == 0 then Err (ZeroLimit place) else Ok (record w { limit = n }))
+    else if b == byte "t" then read_number place bs (λ n. if n == 0 then Err (ZeroLimit place) else Ok (record w { limit = n }))
     else Err (Unknown place)
 
 -- what words make of those before them; the first faulty one ends it
