@@ -32,14 +32,10 @@ pub(crate) fn long_number(bytes: &[u8]) -> Option<u64>
     }
     let mut value: u64 = 0;
     for b in bytes {
-        if *b < b'0' || b'9' < *b {
+        if !b.is_ascii_digit() {
             return None;
         }
-        let digit = (*b - b'0') as u64;
-        if (u64::MAX - digit) / 10 < value {
-            return None;
-        }
-        value = value * 10 + digit;
+        value = value.checked_mul(10)?.checked_add(u64::from(*b - b'0'))?;
     }
     Some(value)
 }
