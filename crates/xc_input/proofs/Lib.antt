@@ -20,4 +20,3 @@ pub mod SourceLemmas
 pub mod lists
 pub mod BooleanTests
 pub mod KindLemmas
-pub mod CutTokens

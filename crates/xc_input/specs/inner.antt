@@ -4,4 +4,3 @@ pub mod Vectors
 pub mod Fronts
 pub mod Builders
 pub mod Feeding
-pub mod CutTokens

@@ -78,7 +78,10 @@ fn next_line(piece: &[u8]) -> Option<(&[u8], &[u8])>
     ensures { MatchOption result (has 10 piece.now ≡ false) (λ p. (piece.now ≡ p.0.now ++ 10 ∷ p.1.now) × (has 10 p.0.now ≡ false)) }
 {
     let (end, others) = cut_at(piece, b'\n');
-    Some((end, others?))
+    match others {
+        None => None,
+        Some(others) => Some((end, others)),
+    }
 }
 
 /// Hands on a line that ends here.

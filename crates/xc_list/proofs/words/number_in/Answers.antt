@@ -1,0 +1,13 @@
+use Rattle.std.proofs.Common.{arith, ◌<◌, ◌≤◌, ◌+◌, ◌-◌, ◌*◌, ◌^◌, sym, ap, ◌∙◌, drop, get_or, length}
+use Rattle.xc_list.proofs.Digits.{digits_in, some_digits, behind, too_large}
+use Rattle.xc_list.proofs.words.number_in.Goals as goal
+
+pub returns-then-digit-value : goal.returns-then-digit-value
+returns-then-digit-value c =
+    let i = c.loop-b.b-index in
+    let value = c.loop-b.value in
+    let bytes = c.args.bytes.now in
+    let some : 0 < length bytes = omega (arith, c.loop-b-test.true) in
+    let large : 2 ^ 64 ≤ value * 10 + (get_or bytes i 0 - 48) = omega (arith, c.if-digit-value.true, c.if-b-lt48.false, c.if-b-gt57.false) in
+    sym (some_digits bytes some ∙ c.loop-b.invariant.same ∙ ap (digits_in value) (behind bytes i 0 c.loop-b-test.true)
+    ∙ too_large value (get_or bytes i 0) (drop (i + 1) bytes) large)

@@ -1,2 +1,0 @@
--- What only contracts of private functions cite: how a whole text is read.
-pub mod WholeTexts
