@@ -20,7 +20,7 @@ pub mod HideMoves
 pub mod NodeOptions
 pub mod TweakStep
 pub mod Regained
-pub mod Climb
+pub mod BringBack
 pub mod TweaksBack
 pub mod UndoTweaks
 pub mod PlaceLemmas

@@ -1,4 +1,4 @@
--- What helps to prove `Lists`. No public clause cites these modules.
+-- What helps to prove `Lists`, and what moves leave, for the search. No public clause cites these modules.
 pub mod Rising
 pub mod Left
 pub mod Taking

@@ -20,3 +20,4 @@ pub mod SourceLemmas
 pub mod lists
 pub mod BooleanTests
 pub mod KindLemmas
+pub mod CutTokens

@@ -1,5 +1,5 @@
 -- Marks at the items of a line.
-use Rattle.std.proofs.Common.{◌≡◌, ◌≢◌, ℕ, ◌+◌, ◌-◌, ◌<◌, ◌≤◌, List, [], ◌∷◌, ◌++◌, Bool, true, false, ◌||◌, nat_eq, length, map, get_or, set, take, drop, All, refl, ap, ◌∙◌, sym, subst, arith, length-set, Some, position, Vec, Global}
+use Rattle.std.proofs.Common.{◌≡◌, ◌≢◌, ℕ, ◌+◌, ◌-◌, ◌<◌, ◌≤◌, List, [], ◌∷◌, ◌++◌, Bool, true, false, ◌||◌, nat_eq, length, map, get_or, set, take, drop, All, refl, ap, ◌∙◌, sym, subst, arith, length-set, Option, None, Some, position, IfSome}
 use Rattle.std.proofs.lemmas.Bool.Decides.{nat_tests}
 use Rattle.std.proofs.Math.Bool.{or-true, or-false}
 use Rattle.std.proofs.lemmas.Grind.{get_or-set_at}
@@ -46,10 +46,15 @@ abbrev pub AreAmong : List Bool → List WrittenUse → Type 0
 AreAmong marks parts = (k : ℕ) → k < length marks → get_or marks k false ≡ true → list_any (λ i. nat_eq i (k + 1)) (items_of (map written_of parts)) ≡ true
 
 -- the mark of the item at this place
-pub mark-at : (marks : List Bool) (keys : List (Vec ℕ Global)) (name : List ℕ) (seen : List ℕ) (place : ℕ) → AreMarks marks seen → length marks ≡ length keys → position (bytes_eq name) (key_names keys) ≡ Some place
+pub mark-at : (marks : List Bool) (names : List (List ℕ)) (name : List ℕ) (seen : List ℕ) (place : ℕ) → AreMarks marks seen → length marks ≡ length names → position (bytes_eq name) names ≡ Some place
     → get_or marks place false ≡ list_any (λ i. nat_eq i (place + 1)) seen
-mark-at marks keys name seen place are count e =
-    let within : place < length (key_names keys) = in-range (bytes_eq name) (key_names keys) place e in are place (omega (arith, within, count, length-map keys (λ (v : Vec ℕ Global). v.items)))
+mark-at marks names name seen place are count e =
+    let within : place < length names = in-range (bytes_eq name) names place e in are place (omega (arith, within, count))
+
+-- a place among as many names as marks is that of a mark
+pub place-marked : (marks : List Bool) (names : List (List ℕ)) (name : List ℕ) (at : Option ℕ) → length marks ≡ length names → at ≡ position (bytes_eq name) names → IfSome at (λ k. k < length marks)
+place-marked marks names name None count e = tt
+place-marked marks names name (Some k) count e = let within : k < length names = in-range (bytes_eq name) names k (sym e) in omega (arith, within, count)
 
 written : (new old : List Bool) → length new ≡ length old → take (length new) (new ++ drop (length new) old) ≡ new
 written [] old e = refl

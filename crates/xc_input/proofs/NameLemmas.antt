@@ -71,27 +71,20 @@ known-place names name k all e =
     let low : nat_lt (position_or_len (bytes_eq name) names) (length names) ≡ true = grind (arith, nat_tests) in
     ap (λ t. if t then Some (position_or_len (bytes_eq name) names) else None) low ∙ ap Some at
 
--- FRONTS OF A LINE
-word-front : (name back : List ℕ) → list_any is_space name ≡ false → AtWhite back → word (name ++ back) ≡ name
-word-front [] [] h w = refl
-word-front [] (b ∷ bs) h w = ap (λ t. if t then [] else b ∷ word bs) w
-word-front (x ∷ xs) back h w =
-    let apart = or-false (is_space x) (list_any is_space xs) h in
-    ap (λ t. if t then [] else x ∷ word (xs ++ back)) apart.0 ∙ ap (λ ys. x ∷ ys) (word-front xs back apart.1 w)
+-- a name that has a place has no white space
+pub stored-solid : (names : List (List ℕ)) (name : List ℕ) (k : ℕ) → AreNames names → place names name ≡ Some k → list_any is_space name ≡ false
+stored-solid names name k all e =
+    let found = position-Some (bytes_eq name) names k [] e in
+    subst (λ n. list_any is_space n ≡ false) (sym ((bytes_eq-Decides name (get_or names k [])).0 found.1)) (All-get_or (λ n. list_any is_space n ≡ false) names k [] found.0 all.solid)
 
--- a known name at the front of a text, before white space or the end, is its first word
-pub known-front : (keys : List (Vec ℕ Global)) (text front back : List ℕ) (v : Vec ℕ Global) (k n : ℕ) → AreNames (key_names keys) → slice_get keys k ≡ Some v → n ≡ length v.items → text ≡ front ++ back → front ≡ v.items → AtWhite back
-    → (n ≤ length text) × (length (word text) ≡ n) × (place (key_names keys) (take n text) ≡ Some k)
-known-front keys text front back v k n all e m cut same w =
+-- a known name at the front of a text has its place
+pub known-front : (keys : List (Vec ℕ Global)) (text front back : List ℕ) (v : Vec ℕ Global) (k n : ℕ) → AreNames (key_names keys) → slice_get keys k ≡ Some v → n ≡ length v.items → text ≡ front ++ back → front ≡ v.items
+    → place (key_names keys) (take n text) ≡ Some k
+known-front keys text front back v k n all e m cut same =
     let at : slice_get (key_names keys) k ≡ Some v.items = slice_get-map-some (λ (x : Vec ℕ Global). x.items) keys k v (sym e) in
     let whole : text ≡ v.items ++ back = cut ∙ ap (λ f. f ++ back) same in
-    let solid : list_any is_space v.items ≡ false = at_place (λ x. list_any is_space x ≡ false) (key_names keys) k v.items all.solid at in
-    let total : length text ≡ length v.items + length back = ap length whole ∙ length-append v.items back in
-    let taken : take n text ≡ v.items = ap₂ take m whole ∙ take-append_seam v.items back in (
-      omega (arith, total, m),
-      ap (λ t. length (word t)) whole ∙ ap length (word-front v.items back solid w) ∙ sym m,
-      ap (place (key_names keys)) taken ∙ known-place (key_names keys) v.items k all at,
-    )
+    let taken : take n text ≡ v.items = ap₂ take m whole ∙ take-append_seam v.items back in
+    ap (place (key_names keys)) taken ∙ known-place (key_names keys) v.items k all at
 
 -- NUMBERS OF NAMES
 found : (names : List (List ℕ)) (name : List ℕ) (at : Option ℕ) → place names name ≡ at → IfSome (option_map suc at) (λ i. numbered_get names i ≡ Some name)

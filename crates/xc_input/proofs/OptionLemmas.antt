@@ -37,6 +37,10 @@ module _ (kind : Kind) (names : List (List ℕ)) (primary : ℕ) (seen : List �
       (ColourOnPrimary, has 58 token && not (nat_lt primary (item_number names name))) ∷
       (BadColour, has 58 token && is_bad_colour (after 58 token)) ∷ []
 
+  -- a colour stands where none may
+  pub not-here : (is_plain kind && has 58 token) ≡ true → first (token_checks (context kind names primary) seen token) ≡ Some ColourNotHere
+  not-here e = ap (λ t. if t then Some ColourNotHere else first (name_checks (before 58 token) ++ (UnknownItem, is_none (place names (before 58 token))) ∷ others (before 58 token))) e
+
   module _ (allowed : (is_plain kind && has 58 token) ≡ false) (name : List ℕ) (is : name ≡ before 58 token) where
     here : first (token_checks (context kind names primary) seen token) ≡ first (name_checks name ++ (UnknownItem, is_none (place names name)) ∷ others name)
     here = ap (λ t. if t then Some ColourNotHere else first (name_checks (before 58 token) ++ (UnknownItem, is_none (place names (before 58 token))) ∷ others (before 58 token))) allowed

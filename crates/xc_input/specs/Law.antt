@@ -21,8 +21,8 @@ StandingAreFaultless =
 -- and they stand for no other
 abbrev pub StandForOne : Type 0
 StandForOne =
-    (kind : Kind) (lines : List (List ℕ)) (a b : Named) (is js : List ℕ) → StandsFor kind lines a is → StandsFor kind lines b js
-    → (a ≡ b) × (is ≡ js)
+    (kind : Kind) (lines : List (List ℕ)) (a b : Named) (is js : List ℕ)
+    → StandsFor kind lines a is → StandsFor kind lines b js → (a ≡ b) × (is ≡ js)
 
 -- lines that stand for a problem as one kind stand for the same problem as another
 abbrev pub StandAlso : Kind → Kind → Type 0

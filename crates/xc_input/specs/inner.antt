@@ -4,3 +4,4 @@ pub mod Vectors
 pub mod Fronts
 pub mod Builders
 pub mod Feeding
+pub mod CutTokens

@@ -58,22 +58,22 @@ fn number(bytes: u64, size: usize) -> usize {
     ((product >> 32).wrapping_mul(size as u64) >> 32) as usize
 }
 
-/// The bytes at the front of a text before its first one that is at most a space, sixteen at most, as
-/// a number, and how many they are. So a longer name is never guessed right, and is looked up.
+/// The bytes at the front of a text before its first colon or byte that is at most a space, sixteen at
+/// most, as a number, and how many they are. So a longer name is never guessed right, and is looked up.
 #[inline]
 fn word(text: &[u8]) -> (u64, usize) {
     let first = first_bytes(text);
-    let white = white_bits(first);
-    if white != 0 {
-        return (first & bits_below(white), bytes_below(white));
+    let end = end_bits(first);
+    if end != 0 {
+        return (first & bits_below(end), bytes_below(end));
     }
     if text.len() <= 8 {
         return (first, 8);
     }
     let second = first_bytes(&text[8..]);
-    let white = white_bits(second);
-    let more = (second & bits_below(white)).wrapping_mul(0xff51_afd7_ed55_8ccd);
-    (first ^ more, 8 + bytes_below(white))
+    let end = end_bits(second);
+    let more = (second & bits_below(end)).wrapping_mul(0xff51_afd7_ed55_8ccd);
+    (first ^ more, 8 + bytes_below(end))
 }
 
 /// The first eight bytes of a text, as a number.
@@ -89,10 +89,13 @@ fn first_bytes(text: &[u8]) -> u64 {
     number
 }
 
-/// The lowest bit that is set stands at the first byte of a word that is at most a space.
+/// The lowest bit that is set stands at the first byte of a word that is a colon or at most a space.
 #[inline]
-fn white_bits(word: u64) -> u64 {
-    word.wrapping_sub(0x2121_2121_2121_2121) & !word & 0x8080_8080_8080_8080
+fn end_bits(word: u64) -> u64 {
+    let colons = word ^ 0x3a3a_3a3a_3a3a_3a3a;
+    let white = word.wrapping_sub(0x2121_2121_2121_2121) & !word;
+    let colon = colons.wrapping_sub(0x0101_0101_0101_0101) & !colons;
+    (white | colon) & 0x8080_8080_8080_8080
 }
 
 /// The bits of the bytes below the byte of the lowest bit; those of seven bytes where there is none.

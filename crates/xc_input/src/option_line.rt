@@ -1,21 +1,21 @@
 //! Reads an option line.
 
-ghost use Rattle.std.specs.Prelude.{◌≡◌, ◌≤◌, [], ◌∷◌, ◌++◌, true, None, Some, IfOk, OnOk, MatchResult, length, map, ℕ, List, All};
+ghost use Rattle.std.specs.Prelude.{◌≡◌, ◌<◌, ◌≤◌, [], ◌∷◌, ◌++◌, true, None, Some, IfOk, IfSome, OnOk, MatchResult, length, map, ℕ, List, All, ◌&&◌, is_some};
 ghost use Rattle.xc_input.specs.Tokens.{tokens};
 ghost use Rattle.xc_input.specs.Faults.{first, is_plain, is_bad_colour, name_checks, token_checks, option_checks, written, context};
 ghost use Rattle.xc_input.specs.Limits.{most_items};
 ghost use Rattle.xc_input.specs.declared.fault.FaultKind.TheVariants.{UnknownItem};
-ghost use Rattle.xc_input.specs.Words.{place};
 ghost use Rattle.xc_input.specs.Named.{IsName};
 ghost use Rattle.xc_input.specs.inner.Builders.{AreNames, Judged, written_of, items_of, AreMarks, IsMarkable};
+ghost use Rattle.xc_input.specs.inner.CutTokens.{IsCutToken};
 ghost use Rattle.xc_input.specs.inner.Stored.{key_names};
 
 use crate::guess::Guesses;
 use crate::item_line::name_fault;
 use crate::limits::LONGEST_COLOUR;
 use crate::line_error::LineError;
-use crate::names::{NameSet, place_of};
-use crate::tokens::{cut_at, next_token};
+use crate::names::NameSet;
+use crate::tokens::{Token, next_token};
 use crate::{FaultKind, Kind};
 use std::alloc::Global;
 
@@ -26,12 +26,12 @@ pub struct WrittenUse<'a> {
     pub colour: &'a [u8],
 }
 
-/// Whether no use may have a colour.
-fn lacks_colours(kind: Kind) -> bool
-    ensures { result ≡ is_plain kind }
+/// Whether a token has a colour where none may have one.
+fn is_not_here(kind: Kind, token: &Token) -> bool
+    ensures { result ≡ (is_plain kind && is_some token.now.colour) }
 {
     match kind {
-        Kind::Plain => true,
+        Kind::Plain => token.colour.is_some(),
         Kind::Colours => false,
         Kind::Bounds => false,
     }
@@ -51,62 +51,31 @@ fn fault_of_unknown(name: &[u8]) -> FaultKind
     name_fault(name).unwrap_or(FaultKind::UnknownItem)
 }
 
-/// The use of a token at this place among the names, behind uses of the marked items, or its first fault.
+/// The use of a token, behind uses of the marked items, or its first fault.
 fn use_of<'a>(
     kind: Kind,
-    names: &NameSet,
     primary: u32,
     marks: &[bool],
-    token: &'a [u8],
-    known: Option<usize>,
+    token: Token<'a>,
 ) -> Result<WrittenUse<'a>, FaultKind>
-    requires few { length names.now.keys ≤ most_items }
-    requires named { All IsName (key_names names.now.keys) }
-    requires marks { length marks.now ≡ length names.now.keys }
-    requires known { known ≡ place (key_names names.now.keys) token.now }
-    ensures judged { (seen : List ℕ) → AreMarks marks.now seen → MatchResult result (λ p. (first (token_checks (context kind (key_names names.now.keys) primary) seen token.now) ≡ None) × (written_of p ≡ written (key_names names.now.keys) token.now)) (λ fault. first (token_checks (context kind (key_names names.now.keys) primary) seen token.now) ≡ Some fault) }
+    requires few { length marks.now ≤ most_items }
+    requires marked { IfSome token.place (λ at. at < length marks.now) }
+    ensures judged { (names : List (List ℕ)) (text : List ℕ) (seen : List ℕ) → All IsName names → length marks.now ≡ length names → IsCutToken names text token.entry → AreMarks marks.now seen → MatchResult result (λ p. (first (token_checks (context kind names primary) seen text) ≡ None) × (written_of p ≡ written names text)) (λ fault. first (token_checks (context kind names primary) seen text) ≡ Some fault) }
     ensures within { IfOk result (λ p. IsMarkable (length marks.now) p) }
 {
-    // A name has no colon, so a token that is a name has no colour.
-    match known {
-        Some(place) if marks[place] => Err(FaultKind::RepeatedInOption),
-        Some(place) => Ok(WrittenUse {
-            item: place as u32 + 1,
-            colour: b"",
-        }),
-        None => coloured_use(kind, names, primary, marks, token),
-    }
-}
-
-/// The same of a token that is no name: it may be a name and a colour.
-fn coloured_use<'a>(
-    kind: Kind,
-    names: &NameSet,
-    primary: u32,
-    marks: &[bool],
-    token: &'a [u8],
-) -> Result<WrittenUse<'a>, FaultKind>
-    requires few { length names.now.keys ≤ most_items }
-    requires named { All IsName (key_names names.now.keys) }
-    requires marks { length marks.now ≡ length names.now.keys }
-    requires unknown { place (key_names names.now.keys) token.now ≡ None }
-    ensures judged { (seen : List ℕ) → AreMarks marks.now seen → MatchResult result (λ p. (first (token_checks (context kind (key_names names.now.keys) primary) seen token.now) ≡ None) × (written_of p ≡ written (key_names names.now.keys) token.now)) (λ fault. first (token_checks (context kind (key_names names.now.keys) primary) seen token.now) ≡ Some fault) }
-    ensures within { IfOk result (λ p. IsMarkable (length marks.now) p) }
-{
-    let (name, colour) = cut_at(token, b':');
-    let Some(colour) = colour else {
-        return Err(fault_of_unknown(token));
-    };
-    if lacks_colours(kind) {
+    if is_not_here(kind, &token) {
         return Err(FaultKind::ColourNotHere);
     }
-    let Some(place) = place_of(names, name) else {
-        return Err(fault_of_unknown(name));
+    let Some(place) = token.place else {
+        return Err(fault_of_unknown(token.name));
     };
     if marks[place] {
         return Err(FaultKind::RepeatedInOption);
     }
     let item = place as u32 + 1;
+    let Some(colour) = token.colour else {
+        return Ok(WrittenUse { item, colour: b"" });
+    };
     if item <= primary {
         return Err(FaultKind::ColourOnPrimary);
     }
@@ -138,8 +107,8 @@ pub fn option_line<'a>(
     let room = (line.len() / 3 + 1).min(256);
     let mut uses = Vec::with_capacity(alloc, room)?;
     let mut rest = line;
-    while let Some((token, known, others)) = next_token(names, guesses, rest) {
-        let written = use_of(kind, names, primary, marks, token, known)?;
+    while let Some((token, others)) = next_token(names, guesses, rest) {
+        let written = use_of(kind, primary, marks, token)?;
         marks[written.item as usize - 1] = true;
         uses.push(written)?;
         rest = others;

@@ -139,7 +139,7 @@ impl Problem {
         &self.items[i as usize - 1]
     }
 
-    /// The number of the item with this name.
+    /// The number of the item with this name, if there is one.
     pub fn find(&self, name: &[u8]) -> Option<u32>
         ensures value { result ≡ number_in self.now.names name.now }
         ensures found { IfSome result (λ i. numbered_get self.now.names i ≡ Some name.now) }
@@ -167,7 +167,7 @@ impl Problem {
         }
     }
 
-    /// The number of the colour with these bytes.
+    /// The number of the colour with these bytes, if there is one.
     pub fn find_colour(&self, bytes: &[u8]) -> Option<u32>
         ensures value { result ≡ number_in self.now.colours bytes.now }
         ensures found { IfSome result (λ c. numbered_get self.now.colours c ≡ Some bytes.now) }

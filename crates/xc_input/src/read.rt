@@ -78,10 +78,7 @@ fn next_line(piece: &[u8]) -> Option<(&[u8], &[u8])>
     ensures { MatchOption result (has 10 piece.now ≡ false) (λ p. (piece.now ≡ p.0.now ++ 10 ∷ p.1.now) × (has 10 p.0.now ≡ false)) }
 {
     let (end, others) = cut_at(piece, b'\n');
-    match others {
-        None => None,
-        Some(others) => Some((end, others)),
-    }
+    Some((end, others?))
 }
 
 /// Hands on a line that ends here.

@@ -57,7 +57,8 @@ pub struct Feed<'a> {
 }
 
 impl<'a> Feed<'a> {
-    /// It gives at most `step` bytes at a call, and the call numbered `fail_at`, from 1, fails.
+    /// It gives at most `step` bytes at a call, and the call numbered `fail_at`, from 1, fails; none
+    /// does for `None` or 0.
     pub fn new(bytes: &'a [u8], step: usize, fail_at: Option<u64>) -> Feed<'a>
         requires { 0 < step }
         ensures rest { ⟦<Feed<'a> as Source>⟧.rest result ≡ Some bytes.now }

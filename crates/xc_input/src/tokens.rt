@@ -1,11 +1,12 @@
 //! Cuts lines into tokens, and tokens into their parts.
 
-ghost use Rattle.std.specs.Prelude.{◌≡◌, ◌++◌, ◌∷◌, ◌<◌, ◌≤◌, [], length, take, MatchOption, map, false, true, None, Some, OnOk, IfOk, IfSome, IsTrue};
+ghost use Rattle.std.specs.Prelude.{◌≡◌, ◌++◌, ◌∷◌, ◌<◌, ◌≤◌, [], ℕ, List, length, take, drop, MatchOption, map, false, true, None, Some, OnOk, IfOk, IfSome};
 ghost use Rattle.xc_input.specs.Tokens.{is_space, tokens, parts, is_skipped};
-ghost use Rattle.xc_input.specs.inner.Fronts.{drop_white, word, AtWhite};
+ghost use Rattle.xc_input.specs.inner.Fronts.{drop_white, word};
 ghost use Rattle.xc_input.specs.Words.{has, before, after, place, number_in, is_number};
 ghost use Rattle.xc_input.specs.Limits.{most_uses};
 ghost use Rattle.xc_input.specs.inner.Builders.{AreNames, Judged};
+ghost use Rattle.xc_input.specs.inner.CutTokens.{IsCutToken, IsCutBehind};
 ghost use Rattle.xc_input.specs.inner.Stored.{key_names};
 
 use crate::guess::Guesses;
@@ -56,54 +57,89 @@ fn word_len(line: &[u8]) -> usize
     n
 }
 
-/// Whether a text begins with the name of this place and length, and white space or the end follows.
+/// What stands behind the name of this place and length, where a text begins with it.
 #[inline]
-fn begins_with(names: &NameSet, at: usize, n: usize, text: &[u8]) -> bool
+fn behind_name<'a>(names: &NameSet, at: usize, n: usize, text: &'a [u8]) -> Option<&'a [u8]>
     requires { AreNames (key_names names.now.keys) }
-    ensures { IsTrue result → (n ≤ length text.now) × (length (word text.now) ≡ n) × (place (key_names names.now.keys) (take n text.now) ≡ Some at) }
+    ensures { IfSome result (λ back. (n ≤ length text.now) × (back.now ≡ drop n text.now) × (place (key_names names.now.keys) (take n text.now) ≡ Some at)) }
 {
     let name = match names.get_index(at) {
         Some(name) => name.as_slice(),
-        None => return false,
+        None => return None,
     };
     if name.len() != n || text.len() < n {
-        return false;
+        return None;
     }
     let (front, back) = text.split_at(n);
-    front == name && is_at_white(back)
+    if front == name { Some(back) } else { None }
 }
 
-/// Whether a text is empty or begins with white space.
+/// A token of an option line, cut at its first colon: its name, the place of the name if it has one,
+/// and the colour behind the colon if there is one.
+#[derive(Clone, Copy)]
+pub struct Token<'a> {
+    pub name: &'a [u8],
+    pub place: Option<usize>,
+    pub colour: Option<&'a [u8]>,
+}
+
+/// A token that begins with the name of a place, and what is left behind it: none where what stands
+/// behind the name goes on without a colon.
 #[inline]
-fn is_at_white(text: &[u8]) -> bool
-    ensures { IsTrue result → AtWhite text.now }
+fn cut_behind<'a>(name: &'a [u8], at: usize, behind: &'a [u8]) -> Option<(Token<'a>, &'a [u8])>
+    ensures name { IfSome result (λ p. (p.0.name.now ≡ name.now) × (p.0.place ≡ Some at)) }
+    ensures cut { IfSome result (λ p. IsCutBehind behind.now p.0 p.1.now) }
 {
-    match text {
-        [] => true,
-        [first, ..] => is_white(*first),
+    let bare = Token {
+        name,
+        place: Some(at),
+        colour: None,
+    };
+    match behind {
+        [first, more @ ..] if *first == b':' => {
+            let (colour, others) = more.split_at(word_len(more));
+            let colour = Some(colour);
+            Some((Token { colour, ..bare }, others))
+        }
+        [first, ..] if !is_white(*first) => None,
+        _ => Some((bare, behind)),
     }
 }
 
-/// The first token, its place among the names, and what is left behind it.
+/// A token, cut and looked up.
+fn looked_up<'a>(names: &NameSet, token: &'a [u8]) -> Token<'a>
+    ensures { IsCutToken (key_names names.now.keys) token.now result }
+{
+    let (name, colour) = cut_at(token, b':');
+    let place = place_of(names, name);
+    Token {
+        name,
+        place,
+        colour,
+    }
+}
+
+/// The first token, cut at its colon, and what is left behind it.
 pub fn next_token<'a>(
     names: &NameSet,
     guesses: &Guesses,
     line: &'a [u8],
-) -> Option<(&'a [u8], Option<usize>, &'a [u8])>
+) -> Option<(Token<'a>, &'a [u8])>
     requires { AreNames (key_names names.now.keys) }
-    ensures { MatchOption result (tokens line.now ≡ []) (λ p. (tokens line.now ≡ p.0.now ∷ tokens p.2.now) × (length p.2.now < length line.now) × (p.1 ≡ place (key_names names.now.keys) p.0.now)) }
+    ensures { MatchOption result (tokens line.now ≡ []) (λ p. (text : List ℕ) × (tokens line.now ≡ text ∷ tokens p.1.now) × (length p.1.now < length line.now) × IsCutToken (key_names names.now.keys) text p.0) }
 {
     let rest = skip_white(line);
     if rest.is_empty() {
         return None;
     }
     let (at, n) = guesses.guess(rest);
-    if begins_with(names, at, n, rest) {
-        let (token, others) = rest.split_at(n);
-        return Some((token, Some(at), others));
+    if let Some(behind) = behind_name(names, at, n, rest) {
+        if let Some(cut) = cut_behind(&rest[..n], at, behind) {
+            return Some(cut);
+        }
     }
     let (token, others) = rest.split_at(word_len(rest));
-    Some((token, place_of(names, token), others))
+    Some((looked_up(names, token), others))
 }
 
 /// The first part of an item line, a bar or another token, and what is left behind it.

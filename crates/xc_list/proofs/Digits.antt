@@ -3,7 +3,7 @@ use Rattle.std.proofs.Common.{◌≡◌, ℕ, ◌+◌, ◌*◌, ◌^◌, ◌<◌
 use Rattle.std.specs.List.{list_all}
 use Rattle.std.proofs.lemmas.Grind.{common_steps}
 use Rattle.xc_input.specs.Words.{is_digit, value_from}
-use Rattle.xc_list.specs.Settings.{number_in}
+use Rattle.xc_list.specs.Settings.{long_number}
 
 -- the number of digits behind those of a value, where it fits
 abbrev pub digits_in : ℕ → List ℕ → Option ℕ
@@ -25,6 +25,6 @@ too_large v b bs h =
 pub behind : {X : Type 0} (xs : List X) (i : ℕ) (d : X) → i < length xs → drop i xs ≡ get_or xs i d ∷ drop (i + 1) xs
 behind xs i d h = grind (arith, common_steps)
 
-pub some_digits : (bs : List ℕ) → 0 < length bs → number_in bs ≡ digits_in 0 bs
+pub some_digits : (bs : List ℕ) → 0 < length bs → long_number bs ≡ digits_in 0 bs
 some_digits [] h = absurd (omega (arith, h))
 some_digits (b ∷ bs) h = refl

@@ -34,22 +34,22 @@ is_none p (a ∷ b ∷ []) =
 is_none p _ = false
 
 -- the fault of line n, where a header stands before it or not
-abbrev pub line_fault : Named → Bool → ℕ → Line → Option ListingFault
-line_fault p begun n (Header number) = None
-line_fault p begun n (Body words) =
+abbrev pub fault_in_line : Named → Bool → ℕ → Line → Option ListingFault
+fault_in_line p begun n (Header number) = None
+fault_in_line p begun n (Body words) =
     if not begun then Some (BadLine n)
     else if is_known p words || is_none p words then None else Some (UnknownOption n)
-line_fault p begun n Other = Some (BadLine n)
+fault_in_line p begun n Other = Some (BadLine n)
 
 -- The first fault of lines that stand behind n others. Only a first line has no header before it, for it has to be one.
-abbrev pub first_fault_from : Named → ℕ → List (List ℕ) → Option ListingFault
-first_fault_from p n [] = None
-first_fault_from p n (l ∷ lines) =
-    option_or (line_fault p (not (n == 0)) (min (n + 1) (2 ^ 64 - 1)) (read l)) (first_fault_from p (n + 1) lines)
+abbrev pub fault_in_lines : Named → ℕ → List (List ℕ) → Option ListingFault
+fault_in_lines p n [] = None
+fault_in_lines p n (l ∷ lines) =
+    option_or (fault_in_line p (not (n == 0)) (min (n + 1) (2 ^ 64 - 1)) (read l)) (fault_in_lines p (n + 1) lines)
 
 -- the first fault of all lines of a listing
-abbrev pub first_fault : Named → List (List ℕ) → Option ListingFault
-first_fault p lines = first_fault_from p 0 lines
+abbrev pub fault_in_listing : Named → List (List ℕ) → Option ListingFault
+fault_in_listing p lines = fault_in_lines p 0 lines
 
 -- a listed solution: its header's number and the bodies of its choice lines
 pub record Solution : Type 0 where
@@ -74,8 +74,8 @@ listing_of [] = record { loose = []; solutions = [] }
 listing_of (l ∷ lines) = before_listing (read l) (listing_of lines)
 
 -- the solutions that lines list
-abbrev pub listed : List (List ℕ) → List Solution
-listed lines = (listing_of lines).solutions
+abbrev pub solutions_of : List (List ℕ) → List Solution
+solutions_of lines = (listing_of lines).solutions
 
 -- A listed solution is a cover: different options can be given to its choice lines, lines of none aside, to each one
 -- that its body stands for, so that their set is a cover.
@@ -89,10 +89,10 @@ IsVerdictOn p s v = (v.number ≡ s.number) × (IsTrue v.cover ↔ IsListedCover
 
 -- one verdict for each header, in order
 abbrev pub AreVerdicts : Named → List (List ℕ) → List Verdict → Type 0
-AreVerdicts p lines vs = AllZip (IsVerdictOn p) (listed lines) vs
+AreVerdicts p lines vs = AllZip (IsVerdictOn p) (solutions_of lines) vs
 
 -- an answer in place of verdicts
-abbrev pub IsFirstFault : Named → List (List ℕ) → ListingFault → Type 0
-IsFirstFault p lines (BadLine n) = first_fault p lines ≡ Some (BadLine n)
-IsFirstFault p lines (UnknownOption n) = first_fault p lines ≡ Some (UnknownOption n)
-IsFirstFault p lines Memory = Unit {0}
+abbrev pub IsListingFault : Named → List (List ℕ) → ListingFault → Type 0
+IsListingFault p lines (BadLine n) = fault_in_listing p lines ≡ Some (BadLine n)
+IsListingFault p lines (UnknownOption n) = fault_in_listing p lines ≡ Some (UnknownOption n)
+IsListingFault p lines Memory = Unit {0}

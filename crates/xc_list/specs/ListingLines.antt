@@ -4,7 +4,7 @@ use Rattle.std.specs.List.{list_all, list_any}
 use Rattle.std.specs.Str.{byte, bytes_eq}
 use Rattle.xc_input.specs.Tokens.{at_front, is_space}
 use Rattle.xc_input.specs.Words.{is_digit}
-use Rattle.xc_list.specs.Settings.{number_in}
+use Rattle.xc_list.specs.Settings.{long_number}
 
 -- the words of a text that single spaces part
 abbrev pub words_in : List ℕ → List (List ℕ)
@@ -23,7 +23,7 @@ before_last b (x ∷ y ∷ text) = elim (before_last b (y ∷ text)) [ None ↦ 
 
 -- the number of one to twenty digits, where it fits
 abbrev pub solution_number : List ℕ → Option ℕ
-solution_number text = if nat_le (length text) 20 then number_in text else None
+solution_number text = if nat_le (length text) 20 then long_number text else None
 
 -- a header's number: digits and a colon, and nothing else
 abbrev pub header_number : List ℕ → Option ℕ

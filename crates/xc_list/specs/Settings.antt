@@ -8,13 +8,13 @@ use Rattle.xc_list.specs.declared.words.WordFault.{WordFault}
 use Rattle.xc_list.specs.declared.words.WordFault.TheVariants.{Unknown, BadNumber, ZeroLimit}
 
 -- the number that one or more digits stand for, where it fits
-abbrev pub number_in : List ℕ → Option ℕ
-number_in [] = None
-number_in bs = if list_all is_digit bs && nat_lt (number bs) (2 ^ 64) then Some (number bs) else None
+abbrev pub long_number : List ℕ → Option ℕ
+long_number [] = None
+long_number bs = if list_all is_digit bs && nat_lt (number bs) (2 ^ 64) then Some (number bs) else None
 
 -- what is made of the number behind a word's letter; a bad one is a fault
 abbrev pub read_number : ℕ → List ℕ → (ℕ → Result Words WordFault) → Result Words WordFault
-read_number place bs made = elim (number_in bs) [ None ↦ Err (BadNumber place) | Some n ↦ made n ]
+read_number place bs made = elim (long_number bs) [ None ↦ Err (BadNumber place) | Some n ↦ made n ]
 
 -- what one word makes of the words before it
 abbrev pub read_word : ℕ → Words → List ℕ → Result Words WordFault

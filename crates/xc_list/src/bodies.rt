@@ -181,6 +181,7 @@ impl<'a> Bodies<'a> {
         }
     }
 
+    /// The problem whose options these are.
     pub fn problem(&self) -> &'a Problem
         ensures { result.now ≡ self.now }
     {

@@ -5,7 +5,7 @@ ghost use Rattle.xc_input.specs.Lines.{lines_of};
 ghost use Rattle.xc_list.specs.ListingLines.{read, words_in, Header, Body};
 ghost use Rattle.xc_list.specs.inner.Classes.{IsClassOfBody};
 ghost use Rattle.xc_list.specs.inner.SeenLines.{IsClassOfLine};
-ghost use Rattle.xc_list.specs.Listed.{first_fault, AreVerdicts, IsFirstFault};
+ghost use Rattle.xc_list.specs.Listed.{fault_in_listing, AreVerdicts, IsListingFault};
 ghost use Rattle.xc_list.specs.inner.Checking.{IsProgress, Closes, Takes, Refuses};
 ghost use Rattle.xc_list.specs.Output.{output};
 ghost use Rattle.xc_list.specs.declared.checker.ListingFault.TheVariants.{Memory};
@@ -219,9 +219,9 @@ impl<'a> Checker<'a> {
 
 /// The verdicts on the solutions of a listing, or its first fault.
 pub fn check(alloc: Global, problem: &Problem, listing: &[u8]) -> Result<Vec<Verdict>, ListingFault>
-    ensures accepted { IfOk result (λ vs. first_fault problem.now (lines_of listing.now) ≡ None) }
+    ensures accepted { IfOk result (λ vs. fault_in_listing problem.now (lines_of listing.now) ≡ None) }
     ensures verdicts { IfOk result (λ vs. AreVerdicts problem.now (lines_of listing.now) vs.items) }
-    ensures fault { IfErr result (IsFirstFault problem.now (lines_of listing.now)) }
+    ensures fault { IfErr result (IsListingFault problem.now (lines_of listing.now)) }
 
     // What is printed for the problem is a listing of covers, unless an item is named `null`.
     ensures outputs { (spacing limit : ℕ) → limit < 2 ^ 64 → All (λ name. name ≢ codes "null") problem.now.names

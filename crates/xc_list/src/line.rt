@@ -41,8 +41,8 @@ fn write_parts<S: Sink>(sink: &mut S, parts: &[&[u8]]) -> Result<(), SinkFault>
     Ok(())
 }
 
-/// Writes a line with a number behind its first text, by one call of the sink, so that programs that
-/// share a standard error don't mix their lines.
+/// Writes a line with a number behind its first text. A line of at most 128 bytes goes out by one call
+/// of a sink that takes it whole, so that programs that share a standard error don't mix their lines.
 pub fn write_line<S: Sink>(
     sink: &mut S,
     before: &[u8],

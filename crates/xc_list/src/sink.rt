@@ -50,7 +50,7 @@ pub struct Tray {
 
 impl Tray {
     /// It takes at most `step` bytes at a call and `room` in all. Then it fails, or takes 0 where
-    /// `zero` is set.
+    /// `zero` is set. Memory for `room` bytes is taken here.
     pub fn new(alloc: Global, step: usize, room: usize, zero: bool) -> Result<Tray, Memory>
         requires { 0 < step }
         ensures step { IfOk result (λ t. t.step ≡ step) }

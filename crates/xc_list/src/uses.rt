@@ -10,6 +10,7 @@ use crate::sink::Sink;
 use crate::write::{SinkFault, write_all};
 use xc_input::{Problem, Use};
 
+/// The name of item `i`.
 pub fn name_of<'a>(problem: &'a Problem, i: u32) -> &'a [u8]
     requires { IsItem problem.now.puzzle i }
     ensures value { result.now ≡ bytes_at problem.now.names i }
@@ -18,6 +19,7 @@ pub fn name_of<'a>(problem: &'a Problem, i: u32) -> &'a [u8]
     problem.item(i).name.as_slice()
 }
 
+/// The bytes of colour `c`.
 pub fn colour_of<'a>(problem: &'a Problem, c: u32) -> &'a [u8]
     requires { (1 ≤ c) × (c ≤ length problem.now.colours) }
     ensures { result.now ≡ bytes_at problem.now.colours c }
@@ -25,6 +27,7 @@ pub fn colour_of<'a>(problem: &'a Problem, c: u32) -> &'a [u8]
     problem.colour(c)
 }
 
+/// The uses of option `o`.
 pub fn uses_at<'a>(problem: &'a Problem, o: u32) -> &'a [Use]
     requires { IsOption problem.now.puzzle o }
     ensures value { result.now ≡ uses_of problem.now.puzzle o }
@@ -33,6 +36,7 @@ pub fn uses_at<'a>(problem: &'a Problem, o: u32) -> &'a [Use]
     problem.option(o)
 }
 
+/// Writes the name of item `i`.
 pub fn write_name<S: Sink>(problem: &Problem, i: u32, sink: &mut S) -> Result<(), SinkFault>
     requires { IsItem problem.now.puzzle i }
     ensures { Writes (S.state sink.old) (S.state sink.new) result (bytes_at problem.now.names i) }
@@ -60,6 +64,7 @@ fn write_use<S: Sink>(problem: &Problem, u: &Use, sink: &mut S) -> Result<(), Si
     write_colour(problem, u.colour, sink)
 }
 
+/// Writes uses, each behind a space.
 pub fn write_uses<S: Sink>(problem: &Problem, uses: &[Use], sink: &mut S) -> Result<(), SinkFault>
     requires { All (IsKnownUse problem.now) uses.now }
     ensures { Writes (S.state sink.old) (S.state sink.new) result (flat_map (use_text problem.now) uses.now) }

@@ -1,6 +1,6 @@
 //! The words of a command line.
 ghost use Rattle.std.specs.Prelude.{◌≡◌, ℕ, ◌+◌, ◌-◌, ◌<◌, ◌≤◌, map, length};
-ghost use Rattle.xc_list.specs.Settings.{number_in, read_word, read_words};
+ghost use Rattle.xc_list.specs.Settings.{long_number, read_word, read_words};
 
 use thiserror::Error;
 
@@ -24,22 +24,18 @@ pub enum WordFault {
 }
 
 /// The number that stands here in decimal.
-pub(crate) fn number_in(bytes: &[u8]) -> Option<u64>
-    ensures { result ≡ number_in bytes.now }
+pub(crate) fn long_number(bytes: &[u8]) -> Option<u64>
+    ensures { result ≡ long_number bytes.now }
 {
     if bytes.is_empty() {
         return None;
     }
     let mut value: u64 = 0;
     for b in bytes {
-        if *b < b'0' || b'9' < *b {
+        if !b.is_ascii_digit() {
             return None;
         }
-        let digit = (*b - b'0') as u64;
-        if (u64::MAX - digit) / 10 < value {
-            return None;
-        }
-        value = value * 10 + digit;
+        value = value.checked_mul(10)?.checked_add(u64::from(*b - b'0'))?;
     }
     Some(value)
 }
@@ -49,14 +45,14 @@ fn read_word(place: usize, words: Words, word: &[u8]) -> Result<Words, WordFault
     ensures { result ≡ read_word place words word.now }
 {
     match word {
-        [b'm', number @ ..] => match number_in(number) {
+        [b'm', number @ ..] => match long_number(number) {
             None => Err(WordFault::BadNumber(place)),
             Some(spacing) => Ok(Words {
                 spacing,
                 limit: words.limit,
             }),
         },
-        [b't', number @ ..] => match number_in(number) {
+        [b't', number @ ..] => match long_number(number) {
             None => Err(WordFault::BadNumber(place)),
             Some(0) => Err(WordFault::ZeroLimit(place)),
             Some(limit) => Ok(Words {

@@ -118,6 +118,6 @@ listing_to (suc depth) r = level (listing_to depth) (branch_item r) r
 abbrev pub size_of : Residual → ℕ
 size_of r = length r.items + length r.options
 
--- The solutions of what is left, in order. It is one level over itself: `listing_unrolled`
+-- The solutions of what is left, in order. It is one level over itself: `listing_unrolls`
 unfoldable pub listing : Residual → List (List Choice)
 listing r = listing_to (size_of r) r

@@ -57,12 +57,12 @@ fn end_tweaked<D: Dance>(position: &mut Position<D>, level: &Level)
         { trail = oldest level.now.mark (oldest level.now.base position.old.trail) } }
 {
     position.undo_to(level.base);
-    position.close_level(level.tweaks, level.mark);
+    position.end_level(level.tweaks, level.mark);
 }
 
 /// Begins the next branch of a level, the newest one, or ends the level: then there is none.
 #[inline(always)]
-fn turn<D: Dance>(position: &mut Position<D>, level: &Level) -> Option<Begun>
+fn next_branch<D: Dance>(position: &mut Position<D>, level: &Level) -> Option<Begun>
     requires stacked { (ls : List Level) × AreStacked position.old.puzzle position.old.trail (level.now ∷ ls) }
     ensures still { position.new ≡ record position.old { trail = position.new.trail } }
     ensures begun { IfSome result (λ b. IsBegun position.old.puzzle (oldest level.now.base position.old.trail)
@@ -92,7 +92,7 @@ fn resume<D: Dance>(position: &mut Position<D>, stack: &mut Stack) -> Resumed
     ensures done { result ≡ Resumed.Nowhere → IsDone position.old stack.old false position.new stack.new }
 {
     while let Some(level) = stack.top() {
-        match turn(position, level) {
+        match next_branch(position, level) {
             Some(branch) => {
                 stack.begin(branch);
                 return Resumed::Branch;
@@ -131,7 +131,7 @@ pub fn unwind<D: Dance>(position: &mut Position<D>, mut stack: Stack)
 {
     while let Some(level) = stack.top() {
         position.undo_to(level.base);
-        position.close_level(level.tweaks, level.mark);
+        position.end_level(level.tweaks, level.mark);
         stack.pop();
     }
     position.undo_to(0);

@@ -3,7 +3,7 @@ ghost use Rattle.std.specs.Prelude.{◌≡◌, ◌+◌, ◌<◌, ◌≤◌, leng
 ghost use Rattle.xc_input.specs.Problem.{IsItem, IsSecondary, uses_of, IsOption};
 ghost use Rattle.xc_dance.specs.Moves.{AreTweaks};
 ghost use Rattle.xc_search.specs.Room.{room_for};
-ghost use Rattle.xc_search.specs.inner.Commits.{MayStand, oldest, opened, after_use, after_uses, place_in, others, closed};
+ghost use Rattle.xc_search.specs.inner.Commits.{MayStand, oldest, after_spend, after_use, after_uses, place_in, others, after_none};
 
 use crate::position::Position;
 use xc_dance::{Dance, Move};
@@ -23,9 +23,9 @@ impl<'a, D: Dance> Position<'a, D> {
 
     /// Spends an item, and covers it where its bound is then used up.
     #[inline(always)]
-    pub fn open_level(&mut self, i: u32)
-        requires { MayStand self.old.puzzle (opened self.old.puzzle i self.old.trail) }
-        ensures { self.new ≡ record self.old { trail = opened self.old.puzzle i self.old.trail } }
+    pub fn spend_item(&mut self, i: u32)
+        requires { MayStand self.old.puzzle (after_spend self.old.puzzle i self.old.trail) }
+        ensures { self.new ≡ record self.old { trail = after_spend self.old.puzzle i self.old.trail } }
     {
         self.make(Move::Spend(i));
         if self.dance().bound(i) == 0 {
@@ -41,7 +41,7 @@ impl<'a, D: Dance> Position<'a, D> {
         ensures { self.new ≡ record self.old { trail = after_use self.old.puzzle u self.old.trail } }
     {
         if u.item <= self.problem().primary() {
-            self.open_level(u.item);
+            self.spend_item(u.item);
         } else {
             self.commit_secondary(u);
         }
@@ -108,10 +108,10 @@ impl<'a, D: Dance> Position<'a, D> {
     }
 
     /// Covers an item where it is open.
-    pub fn close_item(&mut self, i: u32)
+    pub fn cover_if_open(&mut self, i: u32)
         requires item { IsItem self.old.puzzle i }
-        requires room { length (closed i self.old.trail) ≤ room_for self.old.puzzle }
-        ensures { self.new ≡ record self.old { trail = closed i self.old.trail } }
+        requires room { length (after_none i self.old.trail) ≤ room_for self.old.puzzle }
+        ensures { self.new ≡ record self.old { trail = after_none i self.old.trail } }
     {
         let cover = Move::Cover(i);
         if self.dance().can(&cover) {
@@ -121,7 +121,7 @@ impl<'a, D: Dance> Position<'a, D> {
 
     /// Undoes the newest `tweaks` moves, tweaks of one item, and then those above `mark`.
     #[inline(always)]
-    pub fn close_level(&mut self, tweaks: usize, mark: usize)
+    pub fn end_level(&mut self, tweaks: usize, mark: usize)
         requires tweaks { 0 < tweaks → AreTweaks tweaks self.old.trail }
         requires mark { mark + tweaks ≤ length self.old.trail }
         ensures { self.new ≡ record self.old { trail = oldest mark self.old.trail } }

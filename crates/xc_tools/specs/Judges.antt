@@ -5,7 +5,7 @@ use Rattle.xc_input.specs.declared.kind.Kind.{Kind}
 use Rattle.xc_input.specs.declared.kind.Kind.TheVariants.{Plain, Colours, Bounds}
 use Rattle.xc_input.specs.Named.{Named}
 use Rattle.xc_input.specs.Lines.{lines_of}
-use Rattle.xc_list.specs.Listed.{first_fault, AreVerdicts}
+use Rattle.xc_list.specs.Listed.{fault_in_listing, AreVerdicts}
 use Rattle.xc_list.specs.Texts.{SinkState, Took, WasTold, Begins}
 use Rattle.xc_list.specs.declared.checker.Verdict.{Verdict}
 use Rattle.xc_list.specs.declared.checker.ListingFault.{ListingFault}
@@ -46,7 +46,7 @@ judged_status (v ∷ vs) = if v.cover then judged_status vs else 5
 
 -- a listing without a fault, and the verdicts on it
 pub record AreVerdictsOn (a : Named) (listing : List ℕ) (vs : List Verdict) : Type 0 where
-  pub no_fault : first_fault a (lines_of listing) ≡ None
+  pub no_fault : fault_in_listing a (lines_of listing) ≡ None
   pub verdicts : AreVerdicts a (lines_of listing) vs
 
 -- A listing was judged: a sink took the verdicts, and the status is theirs.
@@ -57,7 +57,7 @@ pub record IsJudged (a : Named) (status : ℕ) (old new : SinkState) (listing : 
   pub taken : Took old new (flat_map verdict_text verdicts)
 
 -- A listing has verdicts, and a sink took a beginning of them.
-pub record IsBegun (a : Named) (old new : SinkState) (listing : List ℕ) : Type 0 where
+pub record IsPartlyJudged (a : Named) (old new : SinkState) (listing : List ℕ) : Type 0 where
   pub verdicts : List Verdict
   pub right : AreVerdictsOn a listing verdicts
   pub begun : Begins old new (flat_map verdict_text verdicts)
@@ -65,5 +65,5 @@ pub record IsBegun (a : Named) (old new : SinkState) (listing : List ℕ) : Type
 -- A listing has a first fault, and a sink was told it.
 pub record IsFaulty (a : Named) (old new : SinkState) (listing : List ℕ) : Type 0 where
   pub fault : ListingFault
-  pub first : first_fault a (lines_of listing) ≡ Some fault
+  pub first : fault_in_listing a (lines_of listing) ≡ Some fault
   pub told : WasTold old new (listing_fault_text fault)

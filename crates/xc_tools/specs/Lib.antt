@@ -2,4 +2,4 @@ pub mod Errors
 pub mod Judges
 pub mod Solves
 pub mod Streams
-pub mod WholeTexts
+pub mod inner

@@ -15,7 +15,8 @@ use Rattle.xc_list.specs.Runs.{StoppedAt, end_of}
 use Rattle.xc_list.specs.Texts.{SinkState, Took, BrokeOff, WasTold, IsUntouched}
 
 -- A problem was solved: one sink took its output, the other the warnings and the last line. Neither failed.
-pub record IsSolved (a : Named) (ignored : List ℕ) (w : Words) (out_old out_new err_old err_new : SinkState) : Type 0 where
+pub record IsSolved (a : Named) (ignored : List ℕ) (w : Words)
+    (out_old out_new err_old err_new : SinkState) : Type 0 where
   pub output : Took out_old out_new (output a w.spacing w.limit)
   pub told : Took err_old err_new (flat_map warning_text ignored ++ summary_text (end_of a w.limit))
 
@@ -28,7 +29,8 @@ pub record StandsForOne (kind : Kind) (says : Named → List ℕ → Type 0) (by
 
 -- A source gave a text that stands for a problem, and its end, and this holds of the problem and its ignored lines.
 abbrev pub GaveOne : Kind → (Named → List ℕ → Type 0) → List (List ℕ) → List (List ℕ) → Type 0
-GaveOne kind says old new = (named : Named) × (ignored : List ℕ) × IsWhole kind old new named ignored × says named ignored
+GaveOne kind says old new =
+    (named : Named) × (ignored : List ℕ) × IsWhole kind old new named ignored × says named ignored
 
 -- There is a fault at a line, of which this holds, and a sink was told it.
 pub record WasToldFault (says : ℕ → FaultKind → Type 0) (old new : SinkState) : Type 0 where
@@ -45,7 +47,7 @@ WasToldBehind first old new text = (between : SinkState) × Took old between fir
 abbrev pub FailedLast : SinkState → SinkState → Type 0
 FailedLast old new = Rose old.failures new.failures × IsTrue new.failed
 
--- The output failed at a solution or at the flush, and by its last call, which was told; or the last line could not be told.
+-- The output failed at a solution or at the flush, and by its last call, which was told; or the last line couldn't be.
 abbrev pub IsFailedSearch : Named → Words → SinkState → SinkState → SinkState → SinkState → Type 0
 IsFailedSearch a w out_old out_new err_old err_new =
     ((n : ℕ) × StoppedAt a w.spacing w.limit n out_old out_new × WasTold err_old err_new (failed_text n))
@@ -56,7 +58,8 @@ IsFailedSearch a w out_old out_new err_old err_new =
 abbrev pub IsFailedSolving : Named → List ℕ → Words → SinkState → SinkState → SinkState → SinkState → Type 0
 IsFailedSolving a ignored w out_old out_new err_old err_new =
     (BrokeOff err_old err_new (flat_map warning_text ignored) × IsUntouched out_old out_new)
-    ⊎ ((between : SinkState) × Took err_old between (flat_map warning_text ignored) × IsFailedSearch a w out_old out_new between err_new)
+    ⊎ ((between : SinkState) × Took err_old between (flat_map warning_text ignored)
+    × IsFailedSearch a w out_old out_new between err_new)
 
 -- A read failed, which was told, and nothing was written.
 pub record IsUnread (in_old in_new : ℕ) (out_old out_new err_old err_new : SinkState) : Type 0 where

@@ -2,7 +2,7 @@
 ghost use Rattle.std.specs.Prelude.{◌≡◌, ◌+◌, ◌-◌, ◌^◌, ◌<◌, ◌≤◌, None, length, is_err, option_map, IfOk, IsErr, OnErr, [], ◌∷◌, ◌++◌, take};
 ghost use Rattle.std.specs.Io.KnownBytes.{ReadConsumes};
 ghost use Rattle.xc_input.specs.Calls.{counted};
-ghost use Rattle.xc_tools.specs.Streams.{left_of};
+ghost use Rattle.xc_tools.specs.Streams.{bytes_left};
 
 use std::io::Read;
 use xc_input::{Given, ReadFailed, Seed, Source};
@@ -42,7 +42,7 @@ impl<R: Read + Drop> Source for Incoming<R> {
 
     ghost limit = { λ s. s.left };
 
-    ghost rest = { λ s. left_of (option_map R.remaining s.reader) };
+    ghost rest = { λ s. bytes_left (option_map R.remaining s.reader) };
 
     ghost given = { λ s. s.given.lines };
 
@@ -52,8 +52,8 @@ impl<R: Read + Drop> Source for Incoming<R> {
         ensures limit { IfOk result (λ n. self.new.left + n ≡ self.old.left) }
         ensures limit_kept { OnErr result (self.new.left ≡ self.old.left) }
         ensures failures { self.new.failures ≡ counted (is_err result) self.old.failures }
-        ensures bytes { ReadConsumes (left_of (option_map R.remaining self.old.reader))
-            (left_of (option_map R.remaining self.new.reader)) result buf.new }
+        ensures bytes { ReadConsumes (bytes_left (option_map R.remaining self.old.reader))
+            (bytes_left (option_map R.remaining self.new.reader)) result buf.new }
         ensures given { IfOk result (λ n. self.new.given.lines ≡ self.old.given.lines ++ take n buf.new ∷ []) }
         ensures given_kept { OnErr result (self.new.given.lines ≡ self.old.given.lines) }
 

@@ -7,7 +7,7 @@ ghost use Rattle.xc_input.specs.Lines.{IsFirstFault};
 ghost use Rattle.xc_input.specs.Pieces.{GaveAll, IsPart};
 ghost use Rattle.xc_input.specs.declared.fault.InputError.TheVariants.{Fault};
 ghost use Rattle.xc_tools.specs.Solves.{FailedLast, StandsForOne, WasToldFault};
-ghost use Rattle.xc_tools.specs.Judges.{asked_kind, numbered_kind, usage_text, verdict_text, judged_status, IsJudged, IsBegun, IsFaulty};
+ghost use Rattle.xc_tools.specs.Judges.{asked_kind, numbered_kind, usage_text, verdict_text, judged_status, IsJudged, IsPartlyJudged, IsFaulty};
 
 use crate::messages::{input_error, listing_fault};
 use crate::status::{
@@ -129,10 +129,10 @@ fn judge_listing<L: Source, O: Sink, E: Sink>(
         × WasTold (E.state err.old) (E.state err.new) (codes "Out of memory.\n") }
     ensures unread { (L.failures listing.new ≢ L.failures listing.old) ⊎ (result ≡ 2) → out.new ≡ out.old }
     ensures begins { Keeps (O.state out.old).taken (O.state out.new).taken
-        ⊎ IfSome (L.rest listing.old) (IsBegun problem.now (O.state out.old) (O.state out.new)) }
+        ⊎ IfSome (L.rest listing.old) (IsPartlyJudged problem.now (O.state out.old) (O.state out.new)) }
     ensures begins_given { Keeps (O.state out.old).taken (O.state out.new).taken
         ⊎ ((lines : List ℕ) × GaveAll (L.given listing.old) (L.given listing.new) lines
-        × IsBegun problem.now (O.state out.old) (O.state out.new) lines) }
+        × IsPartlyJudged problem.now (O.state out.old) (O.state out.new) lines) }
 {
     let text = match read_text(alloc, listing) {
         Ok(text) => text,
@@ -200,12 +200,12 @@ fn judge_kind<P: Source, L: Source, O: Sink, E: Sink>(
     ensures unread { (L.failures listing.new ≢ L.failures listing.old) ⊎ (result ≡ 2) → out.new ≡ out.old }
     ensures begins { Keeps (O.state out.old).taken (O.state out.new).taken
         ⊎ IfSome (P.rest problem.old) (λ text. IfSome (L.rest listing.old) (λ lines.
-        StandsForOne kind (λ a _. IsBegun a (O.state out.old) (O.state out.new) lines) text)) }
+        StandsForOne kind (λ a _. IsPartlyJudged a (O.state out.old) (O.state out.new) lines) text)) }
     ensures begins_given { Keeps (O.state out.old).taken (O.state out.new).taken
         ⊎ ((text : List ℕ) × (lines : List ℕ)
         × GaveAll (P.given problem.old) (P.given problem.new) text
         × GaveAll (L.given listing.old) (L.given listing.new) lines
-        × StandsForOne kind (λ a _. IsBegun a (O.state out.old) (O.state out.new) lines) text) }
+        × StandsForOne kind (λ a _. IsPartlyJudged a (O.state out.old) (O.state out.new) lines) text) }
 {
     match read_problem(alloc, kind, problem) {
         Ok(read) => judge_listing(alloc, &read.problem, listing, out, err),
@@ -292,12 +292,12 @@ pub fn judge<P: Source, L: Source, O: Sink, E: Sink>(
     ensures begins { Keeps (O.state out.old).taken (O.state out.new).taken
         ⊎ IfSome (asked_kind (map (λ w. w.items) words.now)) (λ kind.
         IfSome (P.rest problem.old) (λ text. IfSome (L.rest listing.old) (λ lines.
-        StandsForOne kind (λ a _. IsBegun a (O.state out.old) (O.state out.new) lines) text))) }
+        StandsForOne kind (λ a _. IsPartlyJudged a (O.state out.old) (O.state out.new) lines) text))) }
     ensures begins_given { Keeps (O.state out.old).taken (O.state out.new).taken
         ⊎ IfSome (asked_kind (map (λ w. w.items) words.now)) (λ kind. (text : List ℕ) × (lines : List ℕ)
         × GaveAll (P.given problem.old) (P.given problem.new) text
         × GaveAll (L.given listing.old) (L.given listing.new) lines
-        × StandsForOne kind (λ a _. IsBegun a (O.state out.old) (O.state out.new) lines) text) }
+        × StandsForOne kind (λ a _. IsPartlyJudged a (O.state out.old) (O.state out.new) lines) text) }
 {
     match asked_kind(words) {
         Some(kind) => judge_kind(alloc, kind, problem, listing, out, err),

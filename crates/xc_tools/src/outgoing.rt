@@ -59,7 +59,8 @@ fn early(by_line: bool, passed: usize) -> usize
 }
 
 impl<W: Write + Drop> Outgoing<W> {
-    /// A sink with nothing held back, and whether it goes by lines, as for a terminal.
+    /// A sink with nothing held back. `by_line`: each line's end passes on what is held back, as for a
+    /// terminal. It fails where there is no memory for 65,536 bytes.
     pub fn new(alloc: Global, writer: W, by_line: bool) -> Result<Outgoing<W>, AllocError>
         ensures writer { IfOk result (λ s. s.writer ≡ writer) }
         ensures by_line { IfOk result (λ s. s.by_line ≡ by_line) }

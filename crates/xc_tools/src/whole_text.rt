@@ -1,7 +1,7 @@
 //! Reads a whole text.
 ghost use Rattle.std.specs.Prelude.{◌≡◌, length, IfOk, IfSome};
 ghost use Rattle.xc_input.specs.Pieces.{GaveAll};
-ghost use Rattle.xc_tools.specs.WholeTexts.{IsCounted};
+ghost use Rattle.xc_tools.specs.inner.WholeTexts.{IsCounted};
 ghost use Rattle.xc_tools.specs.declared.whole_text.TextError.TheVariants.{Device, Memory};
 
 use std::alloc::{AllocError, Global};

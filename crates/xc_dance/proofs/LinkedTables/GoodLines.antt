@@ -9,13 +9,13 @@ use Rattle.xc_input.specs.Problem.{Puzzle, item_count, colour_in, uses_of}
 use Rattle.xc_dance.specs.declared.links.nodes.Nodes.{Nodes}
 use Rattle.xc_dance.specs.Fields.{Node, own, layout, link_place}
 use Rattle.xc_dance.specs.Links.Lines.{Line}
-use Rattle.xc_dance.specs.Links.Steps.{unlinked, CanHide, CanShow, hidden, shown}
+use Rattle.xc_dance.specs.Links.Steps.{unlinked, CanHide, CanUnhide, hidden, unhidden}
 use Rattle.xc_dance.specs.Links.Cells.{slot_of, fixed_up, fixed_down, top_in, nodes_from, line_of, link_at, ulink_in, dlink_in}
 use Rattle.xc_dance.specs.Links.Laid.{IsName, IsLaid, IsFit}
 use Rattle.xc_dance.specs.declared.dance.Move.{Move}
 use Rattle.xc_dance.specs.Moves.{listed_numbers, listed}
 use Rattle.xc_input.proofs.lists.EachElement.{each-map, each_weaker}
-use Rattle.xc_dance.proofs.LinkedTables.LinkColumns.{member_of, same_at, set_link, set_top, size_from, NodeCells, node_cells, get_up, get_down, CanShow-unlinked, same_nodes, hidden-open, hidden-marked, shown-marked, shown-hidden, IsLinked, map_same}
+use Rattle.xc_dance.proofs.LinkedTables.LinkColumns.{member_of, same_at, set_link, set_top, size_from, NodeCells, node_cells, get_up, get_down, CanUnhide-unlinked, same_nodes, hidden-open, hidden-marked, unhidden-marked, unhidden-hidden, IsLinked, map_same}
 use Rattle.xc_dance.proofs.LinkedTables.Sweep.{cut, with_line, IsLinkedFrom, put_at-other, cut-linked, stands, Swept, swept, swept_len, stay, cuts, up_after, down_after}
 use Rattle.xc_dance.proofs.MoveLemmas.ListLemmas.{length-listed}
 use Rattle.xc_dance.proofs.MoveLemmas.Shortened.{holds_use, holders}
@@ -67,8 +67,8 @@ linked-is p col ln j o laid m =
 -- what a walk needs of a step at q, which leads to u
 pub record Step (t u : Nodes) (q : ℕ) : Type 0 where
   pub can : CanHide t q
-  pub undone : shown (hidden t q) q ≡ t
-  pub back : CanShow (hidden t q) q
+  pub undone : unhidden (hidden t q) q ≡ t
+  pub back : CanUnhide (hidden t q) q
   pub done : hidden t q ≡ u
 
 pub step_open : (p : Puzzle) (col : Node → ℕ) (ln : ℕ → Line) (j o : ℕ) → IsLaid p → IsMember p j (ln j) o → (ln j).len < 2 ^ 31 → eqb (get_or (map (col) (layout p)) (link_place p j o) 0) 4294967295 ≡ false →
@@ -84,13 +84,13 @@ step_open p col ln j o laid m few color =
     let count : get_or tb.top (get_or tb.top q 0) 0 ≡ (ln j).len = ap (λ k. get_or tb.top k 0) c.item ∙ c.len in
     record {
       can = record { size = size; place = c.names.place; use_of = omega (arith, item, m.item.1, laid.small); places = λ ne. c.names; some = λ ne. linked.some };
-      undone = shown-hidden tb q (λ e. linked);
-      back = subst (λ (u : Nodes). CanShow u q) (sym is) (CanShow-unlinked tb q size c.names linked (omega (arith, item, m.item.1, laid.small)) (omega (arith, count, few)));
+      undone = unhidden-hidden tb q (λ e. linked);
+      back = subst (λ (u : Nodes). CanUnhide u q) (sym is) (CanUnhide-unlinked tb q size c.names linked (omega (arith, item, m.item.1, laid.small)) (omega (arith, count, few)));
       done = is ∙ unlinked-is p col ln j o laid m;
     }
 
 pub step_marked : (p : Puzzle) (col : Node → ℕ) (ln : ℕ → Line) (q : ℕ) → q < length (layout p) → get_or (map (top_in ln) (layout p)) q 0 < 2147483648 → eqb (get_or (map (col) (layout p)) q 0) 4294967295 ≡ true → Step (nodes_from p ln col) (nodes_from p ln col) q
-step_marked p col ln q within use_of color = grind (arith, common_steps, eqb-true, hidden-marked, length-map, shown-marked, size_from)
+step_marked p col ln q within use_of color = grind (arith, common_steps, eqb-true, hidden-marked, length-map, unhidden-marked, size_from)
 
 -- ---- lines that stand for lists, and one member leaving
 

@@ -20,7 +20,7 @@ use Rattle.xc_dance.specs.Lists.Losing.{is_kept}
 use Rattle.xc_dance.specs.Links.Others.{HasSpans}
 use Rattle.xc_dance.specs.Cost.{leaving, cost_of, marking}
 use Rattle.xc_dance.specs.declared.dance.Move.TheVariants.{Cover, Purify}
-use Rattle.xc_dance.specs.Links.ListWalks.{left_node, back_node, with_colour, IsWalk, IsWalkBack, CanHideList, CanShowList, walk_costs, back_costs}
+use Rattle.xc_dance.specs.Links.ListWalks.{left_node, back_node, with_colour, IsWalk, IsWalkBack, CanHideList, CanUnhideList, walk_costs, back_costs}
 use Rattle.xc_dance.specs.Links.Purifying.{purified_list, unpurified_list, CanPurify, CanUnpurify}
 use Rattle.xc_dance.specs.Links.Made.{IsFitted}
 use Rattle.xc_input.proofs.lists.Filters.{filter_same}
@@ -174,7 +174,7 @@ purify_hides p t i c legal laid pos le opened = record {
 pub record WalkMade (p : Puzzle) (t : List Move) (spans : List Span) (m : Move) (i : ℕ) (keep : Option ℕ) (start : Node → ℕ) : Type 0 where
   pub can : CanHideList spans keep (nodes_from p (line_of p t) start) i
   pub done : fold (left_node spans keep) (nodes_from p (line_of p t) start) (list_of (nodes_after p t) i) ≡ nodes_after p (m ∷ t)
-  pub can_back : CanShowList spans keep (nodes_after p (m ∷ t)) i
+  pub can_back : CanUnhideList spans keep (nodes_after p (m ∷ t)) i
   pub undone : fold (back_node spans keep) (nodes_after p (m ∷ t)) (list_back (nodes_after p (m ∷ t)) i) ≡ nodes_from p (line_of p t) start
   pub costs : walk_costs spans keep (nodes_from p (line_of p t) start) (list_of (nodes_after p t) i) ≡ hide_writes p t m i keep
   pub costs_back : back_costs spans keep (nodes_after p (m ∷ t)) (list_back (nodes_after p (m ∷ t)) i) ≡ hide_writes p t m i keep

@@ -9,7 +9,7 @@ use Rattle.std.proofs.Math.Path.{fun_ext}
 use Rattle.std.proofs.Math.Seq.{map-set_same}
 use Rattle.xc_input.specs.Problem.{Puzzle, item_count}
 use Rattle.xc_dance.specs.declared.links.nodes.Nodes.{Nodes}
-use Rattle.xc_dance.specs.Links.Steps.{unlinked, relinked, hidden, shown, HasSize, NamesPlaces, CanHideAll, CanShow, CanShowAll}
+use Rattle.xc_dance.specs.Links.Steps.{unlinked, relinked, hidden, unhidden, HasSize, NamesPlaces, CanHideAll, CanUnhide, CanUnhideAll}
 use Rattle.xc_dance.specs.Fields.{Node, own, used, layout, link_place}
 use Rattle.xc_dance.specs.Links.Lines.{Line}
 use Rattle.xc_dance.specs.Links.Cells.{slot_of, link_at, fixed_up, fixed_down, top_in, ulink_in, dlink_in, nodes_from}
@@ -78,29 +78,29 @@ hidden-marked t q e = ap (λ b. cond b t (unlinked t q)) e
 pub hidden-open : (t : Nodes) (q : ℕ) → eqb (get_or t.color q 0) 4294967295 ≡ false → hidden t q ≡ unlinked t q
 hidden-open t q e = ap (λ b. cond b t (unlinked t q)) e
 
-pub shown-marked : (t : Nodes) (q : ℕ) → eqb (get_or t.color q 0) 4294967295 ≡ true → shown t q ≡ t
-shown-marked t q e = ap (λ b. cond b t (relinked t q)) e
+pub unhidden-marked : (t : Nodes) (q : ℕ) → eqb (get_or t.color q 0) 4294967295 ≡ true → unhidden t q ≡ t
+unhidden-marked t q e = ap (λ b. cond b t (relinked t q)) e
 
-pub shown-open : (t : Nodes) (q : ℕ) → eqb (get_or t.color q 0) 4294967295 ≡ false → shown t q ≡ relinked t q
-shown-open t q e = ap (λ b. cond b t (relinked t q)) e
+pub unhidden-open : (t : Nodes) (q : ℕ) → eqb (get_or t.color q 0) 4294967295 ≡ false → unhidden t q ≡ relinked t q
+unhidden-open t q e = ap (λ b. cond b t (relinked t q)) e
 
 -- a step of unhide undoes that of hide
-pub shown-hidden : (t : Nodes) (q : ℕ) → (eqb (get_or t.color q 0) 4294967295 ≡ false → IsLinked t q) → shown (hidden t q) q ≡ t
-shown-hidden t q h =
-    let by : (b : Bool) → eqb (get_or t.color q 0) 4294967295 ≡ b → shown (hidden t q) q ≡ t = λ b. elim b as (λ b. eqb (get_or t.color q 0) 4294967295 ≡ b → shown (hidden t q) q ≡ t) [
-      | true ↦ (λ e. ap (λ u. shown u q) (hidden-marked t q e) ∙ shown-marked t q e)
-      | false ↦ (λ e. ap (λ u. shown u q) (hidden-open t q e) ∙ shown-open (unlinked t q) q e ∙ relinked-unlinked t q (h e))
+pub unhidden-hidden : (t : Nodes) (q : ℕ) → (eqb (get_or t.color q 0) 4294967295 ≡ false → IsLinked t q) → unhidden (hidden t q) q ≡ t
+unhidden-hidden t q h =
+    let by : (b : Bool) → eqb (get_or t.color q 0) 4294967295 ≡ b → unhidden (hidden t q) q ≡ t = λ b. elim b as (λ b. eqb (get_or t.color q 0) 4294967295 ≡ b → unhidden (hidden t q) q ≡ t) [
+      | true ↦ (λ e. ap (λ u. unhidden u q) (hidden-marked t q e) ∙ unhidden-marked t q e)
+      | false ↦ (λ e. ap (λ u. unhidden u q) (hidden-open t q e) ∙ unhidden-open (unlinked t q) q e ∙ relinked-unlinked t q (h e))
     ] in by (eqb (get_or t.color q 0) 4294967295) refl
 
 -- each step of a walk can be undone
 abbrev pub IsUndone : Nodes → List ℕ → Type 0
 IsUndone t [] = Unit {0}
-IsUndone t (q ∷ qs) = (shown (hidden t q) q ≡ t) × IsUndone (hidden t q) qs
+IsUndone t (q ∷ qs) = (unhidden (hidden t q) q ≡ t) × IsUndone (hidden t q) qs
 
 -- unhide, from the last place back, undoes hide
-pub fold-shown-reverse : (t : Nodes) (qs : List ℕ) → IsUndone t qs → fold shown (fold hidden t qs) (reverse qs) ≡ t
-fold-shown-reverse t [] h = grind (arith, common_steps, fold-append, reverse-append)
-fold-shown-reverse t (q ∷ qs) h = grind (arith, common_steps, fold-append, reverse-append, fold-shown-reverse (hidden t q) qs h.1)
+pub fold-unhidden-reverse : (t : Nodes) (qs : List ℕ) → IsUndone t qs → fold unhidden (fold hidden t qs) (reverse qs) ≡ t
+fold-unhidden-reverse t [] h = grind (arith, common_steps, fold-append, reverse-append)
+fold-unhidden-reverse t (q ∷ qs) h = grind (arith, common_steps, fold-append, reverse-append, fold-unhidden-reverse (hidden t q) qs h.1)
 
 -- ---- the columns of links and counts of a table of lines, and one write to them
 
@@ -254,21 +254,21 @@ pub CanRelink-unlinked : (t : Nodes) (q : ℕ) → HasSize t (length t.top) → 
 CanRelink-unlinked t q size names linked few = grind (arith, common_steps, HasSize-unlinked, get_or-set_kept, get_or-set_other, get_or-set_same, length-set)
 
 -- so a step of unhide may be made there
-pub CanShow-unlinked : (t : Nodes) (q : ℕ) → HasSize t (length t.top) → NamesPlaces t q → IsLinked t q → get_or t.top q 0 < 2147483648 → get_or t.top (get_or t.top q 0) 0 < 2 ^ 31 → CanShow (unlinked t q) q
-CanShow-unlinked t q size names linked use_of few = grind (arith, common_steps, CanRelink-unlinked, get_or-set_other)
+pub CanUnhide-unlinked : (t : Nodes) (q : ℕ) → HasSize t (length t.top) → NamesPlaces t q → IsLinked t q → get_or t.top q 0 < 2147483648 → get_or t.top (get_or t.top q 0) 0 < 2 ^ 31 → CanUnhide (unlinked t q) q
+CanUnhide-unlinked t q size names linked use_of few = grind (arith, common_steps, CanRelink-unlinked, get_or-set_other)
 
 -- one place more at the end of a walk
-CanShowAll-push : (t : Nodes) (ps : List ℕ) (q : ℕ) → CanShowAll t ps → CanShow (fold shown t ps) q → CanShowAll t (ps ++ q ∷ [])
-CanShowAll-push t [] q h c = (c, tt)
-CanShowAll-push t (p ∷ ps) q h c = (h.0, CanShowAll-push (shown t p) ps q h.1 c)
+CanUnhideAll-push : (t : Nodes) (ps : List ℕ) (q : ℕ) → CanUnhideAll t ps → CanUnhide (fold unhidden t ps) q → CanUnhideAll t (ps ++ q ∷ [])
+CanUnhideAll-push t [] q h c = (c, tt)
+CanUnhideAll-push t (p ∷ ps) q h c = (h.0, CanUnhideAll-push (unhidden t p) ps q h.1 c)
 
 -- the walk back, one node more
-pub back_more : (t : Nodes) (q : ℕ) (qs : List ℕ) → IsUndone (hidden t q) qs → CanShowAll (fold hidden (hidden t q) qs) (reverse qs) → CanShow (hidden t q) q
-    → CanShowAll (fold hidden t (q ∷ qs)) (reverse (q ∷ qs))
-back_more t q qs undone back can = grind (arith, common_steps, CanShowAll-push, fold-shown-reverse, reverse-append)
+pub back_more : (t : Nodes) (q : ℕ) (qs : List ℕ) → IsUndone (hidden t q) qs → CanUnhideAll (fold hidden (hidden t q) qs) (reverse qs) → CanUnhide (hidden t q) q
+    → CanUnhideAll (fold hidden t (q ∷ qs)) (reverse (q ∷ qs))
+back_more t q qs undone back can = grind (arith, common_steps, CanUnhideAll-push, fold-unhidden-reverse, reverse-append)
 
 -- the nodes can be hidden one after another, each step can be undone, and the walk back can be made
 pub record Rest (t : Nodes) (qs : List ℕ) : Type 0 where
   pub can : CanHideAll t qs
   pub undone : IsUndone t qs
-  pub back : CanShowAll (fold hidden t qs) (reverse qs)
+  pub back : CanUnhideAll (fold hidden t qs) (reverse qs)

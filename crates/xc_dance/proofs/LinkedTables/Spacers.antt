@@ -11,12 +11,12 @@ use Rattle.xc_dance.specs.Fields.{Node, spacer, layout, link_place}
 use Rattle.xc_dance.specs.Links.Lines.{Line}
 use Rattle.xc_dance.specs.Links.Cells.{ulink_in, dlink_in, nodes_from}
 use Rattle.xc_dance.specs.Links.Others.{behind_use, before_use, HasSpans}
-use Rattle.xc_dance.specs.Links.Steps.{hidden, shown, CanHideAll, CanShowAll, places, span_at, others_of, IsSpacer, CanHideNode, CanShowNode, hidden_node, shown_node, hide_costs, show_costs}
+use Rattle.xc_dance.specs.Links.Steps.{hidden, unhidden, CanHideAll, CanUnhideAll, places, span_at, others_of, IsSpacer, CanHideNode, CanUnhideNode, hidden_node, unhidden_node, hide_costs, unhide_costs}
 use Rattle.xc_dance.proofs.LinkedTables.GoodLines.{Named}
-use Rattle.xc_dance.proofs.LinkedTables.LinkColumns.{size_from, get_map, IsUndone, fold-shown-reverse}
+use Rattle.xc_dance.proofs.LinkedTables.LinkColumns.{size_from, get_map, IsUndone, fold-unhidden-reverse}
 use Rattle.xc_dance.proofs.LinkedTables.OneOption.{Walked, left_all, gone_count}
 use Rattle.std.proofs.lemmas.Option.{slice_get_within}
-use Rattle.xc_dance.proofs.LinkedTables.UnmarkedNodes.{costs-are, hidden_color, shown_color, unmarked-reverse, unmarked_items}
+use Rattle.xc_dance.proofs.LinkedTables.UnmarkedNodes.{costs-are, hidden_color, unhidden_color, unmarked-reverse, unmarked_items}
 use Rattle.xc_dance.proofs.LinkedTables.Sweep.{other_items}
 
 -- the nodes round that of item i are those of the option's other items
@@ -44,15 +44,15 @@ can_hide_node p ln ln' col spans o i spanned pos named can mid =
     }
 
 -- they can come back, if the lists of the items before i are as these lines say then
-pub can_show_node : (p : Puzzle) (ln' : ℕ → Line) (col : Node → ℕ) (t : Nodes) (spans : List Span) (o i : ℕ) → HasSpans p spans → 0 < o → Named p i o → CanShowAll t (reverse (map (λ j. link_place p j o) (other_items p o i))) →
-    fold shown t (reverse (map (λ j. link_place p j o) (before_use i (uses_of p o)))) ≡ nodes_from p ln' col → CanShowNode spans t (link_place p i o)
-can_show_node p ln' col t spans o i spanned pos named can mid =
+pub can_unhide_node : (p : Puzzle) (ln' : ℕ → Line) (col : Node → ℕ) (t : Nodes) (spans : List Span) (o i : ℕ) → HasSpans p spans → 0 < o → Named p i o → CanUnhideAll t (reverse (map (λ j. link_place p j o) (other_items p o i))) →
+    fold unhidden t (reverse (map (λ j. link_place p j o) (before_use i (uses_of p o)))) ≡ nodes_from p ln' col → CanUnhideNode spans t (link_place p i o)
+can_unhide_node p ln' col t spans o i spanned pos named can mid =
     let x = link_place p i o in
     let s = spanned.span o i pos named in
     let first = (span_at spans x).first in
-    let met : fold shown t (reverse (places first x)) ≡ nodes_from p ln' col = ap (λ qs. fold shown t (reverse qs)) s.before ∙ mid in
+    let met : fold unhidden t (reverse (places first x)) ≡ nodes_from p ln' col = ap (λ qs. fold unhidden t (reverse qs)) s.before ∙ mid in
     record {
-      steps = subst (λ qs. CanShowAll t (reverse qs)) (sym (others_are p spans o i spanned pos named)) can;
+      steps = subst (λ qs. CanUnhideAll t (reverse qs)) (sym (others_are p spans o i spanned pos named)) can;
       from = s.some;
       within = s.from;
       near = omega (arith, slice_get_within (layout p) (span_at spans x).end _ s.last, spanned.near);
@@ -67,12 +67,12 @@ undone_behind t (q ∷ qs) rs h = undone_behind (hidden t q) qs rs h.1
 -- an option is hidden and comes back, where the walk is known as a whole and up to the spacer
 pub record Turns (p : Puzzle) (ln : ℕ → Line) (col : Node → ℕ) (spans : List Span) (o i : ℕ) : Type 0 where
   pub hide : CanHideNode spans (nodes_from p ln col) (link_place p i o)
-  pub show : CanShowNode spans (nodes_from p (left_all p col o ln (other_items p o i)) col) (link_place p i o)
+  pub unhide : CanUnhideNode spans (nodes_from p (left_all p col o ln (other_items p o i)) col) (link_place p i o)
   pub done : hidden_node spans (nodes_from p ln col) (link_place p i o) ≡ nodes_from p (left_all p col o ln (other_items p o i)) col
-  pub undone : shown_node spans (nodes_from p (left_all p col o ln (other_items p o i)) col) (link_place p i o) ≡ nodes_from p ln col
+  pub undone : unhidden_node spans (nodes_from p (left_all p col o ln (other_items p o i)) col) (link_place p i o) ≡ nodes_from p ln col
   pub cost : hide_costs (nodes_from p ln col) (others_of spans (link_place p i o)) ≡ 3 * gone_count p col i o
-  pub cost_back : show_costs (nodes_from p (left_all p col o ln (other_items p o i)) col) (reverse (others_of spans (link_place p i o))) ≡ 3 * gone_count p col i o
+  pub cost_back : unhide_costs (nodes_from p (left_all p col o ln (other_items p o i)) col) (reverse (others_of spans (link_place p i o))) ≡ 3 * gone_count p col i o
 
 pub turns : (p : Puzzle) (ln : ℕ → Line) (col : Node → ℕ) (lists : ℕ → List ℕ) (spans : List Span) (o i : ℕ) → HasSpans p spans → 0 < o → Named p i o → Walked p col ln lists o (other_items p o i) →
     Walked p col ln lists o (behind_use i (uses_of p o)) → Turns p ln col spans o i
-turns p ln col lists spans o i spanned pos named w mid = grind (arith, common_steps, can_hide_node, can_show_node, costs-are, fold-append, fold-shown-reverse, hidden_color, map-append, others_are, shown_color, undone_behind, unmarked-reverse, unmarked_items)
+turns p ln col lists spans o i spanned pos named w mid = grind (arith, common_steps, can_hide_node, can_unhide_node, costs-are, fold-append, fold-unhidden-reverse, hidden_color, map-append, others_are, unhidden_color, undone_behind, unmarked-reverse, unmarked_items)

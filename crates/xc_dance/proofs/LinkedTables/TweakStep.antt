@@ -12,8 +12,8 @@ use Rattle.xc_input.specs.Problem.{Puzzle, item_count, uses_of}
 use Rattle.xc_dance.specs.Moves.{listed, is_open, AreLegal, listed_numbers}
 use Rattle.xc_dance.specs.Fields.{Node, unused, own, layout, link_place, first_of, is_in}
 use Rattle.xc_dance.specs.Links.Lines.{Line}
-use Rattle.xc_dance.specs.Links.Steps.{HasSize, NamesPlaces, unlinked, relinked, others_of, CanHideNode, CanShowNode, hide_costs, show_costs}
-use Rattle.xc_dance.specs.Links.Tweaking.{hidden_unless, shown_unless, tweaked, untweaked, CanTweak, CanTweakAt, CanUntweak, tweak_cost, untweak_cost}
+use Rattle.xc_dance.specs.Links.Steps.{HasSize, NamesPlaces, unlinked, relinked, others_of, CanHideNode, CanUnhideNode, hide_costs, unhide_costs}
+use Rattle.xc_dance.specs.Links.Tweaking.{hidden_unless, unhidden_unless, tweaked, untweaked, CanTweak, CanTweakAt, CanUntweak, tweak_cost, untweak_cost}
 use Rattle.xc_dance.specs.Links.Cells.{color_in, dlink_in, nodes_from, nodes_after, line_of}
 use Rattle.xc_dance.specs.Links.Others.{before_use, behind_use}
 use Rattle.xc_dance.specs.Links.Made.{IsFitted}
@@ -99,10 +99,10 @@ pub record Mid (p : Puzzle) (t : List Move) (spans : List Span) (covered : Bool)
   pub line : (j : ℕ) → ln j ≡ cuts (line_of p t j) (ks j)
   pub hide : covered ≡ false → (link_place p i o < length spans) × CanHideNode spans (nodes_after p t) (link_place p i o)
   pub done : hidden_unless spans covered (nodes_after p t) (link_place p i o) ≡ nodes_from p ln (color_in p t)
-  pub show : covered ≡ false → (link_place p i o < length spans) × CanShowNode spans (nodes_from p ln (color_in p t)) (link_place p i o)
-  pub undone : shown_unless spans covered (nodes_from p ln (color_in p t)) (link_place p i o) ≡ nodes_after p t
+  pub unhide : covered ≡ false → (link_place p i o < length spans) × CanUnhideNode spans (nodes_from p ln (color_in p t)) (link_place p i o)
+  pub undone : unhidden_unless spans covered (nodes_from p ln (color_in p t)) (link_place p i o) ≡ nodes_after p t
   pub cost : cond covered 0 (hide_costs (nodes_after p t) (others_of spans (link_place p i o))) ≡ 3 * total (λ j. length (ks j)) 1 (item_count p)
-  pub cost_back : cond covered 0 (show_costs (nodes_from p ln (color_in p t)) (reverse (others_of spans (link_place p i o)))) ≡ 3 * total (λ j. length (ks j)) 1 (item_count p)
+  pub cost_back : cond covered 0 (unhide_costs (nodes_from p ln (color_in p t)) (reverse (others_of spans (link_place p i o)))) ≡ 3 * total (λ j. length (ks j)) 1 (item_count p)
 
 mid_covered : (p : Puzzle) (t : List Move) (spans : List Span) (i : ℕ) → IsFitted p spans → is_open i t ≡ false → (f : HasFirst p t i) → Mid p t spans true i f.o
 mid_covered p t spans i fit shut f = record {
@@ -117,7 +117,7 @@ mid_covered p t spans i fit shut f = record {
   line = λ j. refl;
   hide = λ e. absurd (false≢true (sym e));
   done = refl;
-  show = λ e. absurd (false≢true (sym e));
+  unhide = λ e. absurd (false≢true (sym e));
   undone = refl;
   cost = let z = total_zero 1 (item_count p) in omega (arith, z);
   cost_back = let z = total_zero 1 (item_count p) in omega (arith, z);
@@ -157,7 +157,7 @@ mid_open p t spans i legal fit opened pos le f =
       line = λ j. list_at p col i (line_of p t) (o ∷ []) j (each_apart p i (o ∷ []) fit.fit);
       hide = λ e. (spanned.within o i r.0 named, both.hide);
       done = both.done;
-      show = λ e. (spanned.within o i r.0 named, both.show);
+      unhide = λ e. (spanned.within o i r.0 named, both.unhide);
       undone = both.undone;
       cost = let a = both.cost in omega (arith, a, counted);
       cost_back = let a = both.cost_back in omega (arith, a, counted);
@@ -238,11 +238,11 @@ by_mid p t spans covered i fit pos le f mid =
         size = subst (λ (v : Nodes). HasSize v (length v.top)) same back.size;
         names = subst (λ (v : Nodes). NamesPlaces v x) same back.names;
         few = subst (λ (v : Nodes). get_or v.top (get_or v.top x 0) 0 < 2 ^ 31) same back.few;
-        show = subst (λ (v : Nodes). covered ≡ false → (x < length spans) × CanShowNode spans v x) (sym again) mid.show;
+        unhide = subst (λ (v : Nodes). covered ≡ false → (x < length spans) × CanUnhideNode spans v x) (sym again) mid.unhide;
       });
-      undone = ap (untweaked spans covered next) taken ∙ ap (λ (v : Nodes). shown_unless spans covered v x) again ∙ mid.undone;
+      undone = ap (untweaked spans covered next) taken ∙ ap (λ (v : Nodes). unhidden_unless spans covered v x) again ∙ mid.undone;
       cost = let a = ap (λ k. cond covered 0 (hide_costs t0 (others_of spans k))) first in let b = mid.cost in omega (arith, a, b, gone);
-      cost_back = let a = ap (untweak_cost spans covered next) taken in let b = ap (λ (v : Nodes). cond covered 0 (show_costs v (reverse (others_of spans x)))) again in let c = mid.cost_back in omega (arith, a, b, c, gone);
+      cost_back = let a = ap (untweak_cost spans covered next) taken in let b = ap (λ (v : Nodes). cond covered 0 (unhide_costs v (reverse (others_of spans x)))) again in let c = mid.cost_back in omega (arith, a, b, c, gone);
     }
 
 pub tweak_made : (p : Puzzle) (t : List Move) (spans : List Span) (covered : Bool) (i : ℕ) → AreLegal p t → IsFitted p spans → 0 < i → i ≤ item_count p → 0 < length (listed p t i) → is_open i t ≡ not covered → TweakMade p t spans covered i

@@ -20,7 +20,7 @@ use Rattle.xc_dance.specs.Links.Made.{IsFitted}
 use Rattle.xc_dance.specs.declared.links.nodes.Nodes.{Nodes}
 use Rattle.xc_dance.specs.Cost.{cost_of, cost_of_newest, undo_tweaks_cost}
 use Rattle.xc_dance.specs.Links.Steps.{hide_costs, others_of, followed}
-use Rattle.xc_dance.specs.Links.TweaksBack.{climbed, IsClimb, climb_costs, with_top, with_dlink, untweaked_all, untweak_all_cost, CanUntweakAll}
+use Rattle.xc_dance.specs.Links.TweaksBack.{brought_back, CanBringBackAll, bring_back_costs, with_top, with_dlink, untweaked_all, untweak_all_cost, CanUntweakAll}
 use Rattle.xc_dance.specs.Links.Laid.{IsLaid}
 use Rattle.xc_input.proofs.lists.Filters.{length-filter-le}
 use Rattle.xc_dance.proofs.LinkedTables.Sweep.{other_items, cut, cuts, is_in-first, in_above, IsLinkedFrom, Rises, rises, by_first, put_at-same, put_at-other, cut-linked, stands, leave_none, put_at, with_line}
@@ -30,7 +30,7 @@ use Rattle.xc_dance.proofs.LinkedTables.GoodLines.{SameCut, line_after, Named, n
 use Rattle.xc_dance.proofs.LinkedTables.Leaving.{cut_others, first_alone, takes_tweak, tweak_own, AreOf, leaves_open, leaves_shut}
 use Rattle.xc_dance.proofs.LinkedTables.Spacers.{others_are}
 use Rattle.xc_dance.proofs.LinkedTables.TweakStep.{tweak_made, HasFirst, has_first, tweak_cut, tweak_shut, tweak_colours, first_of-list}
-use Rattle.xc_dance.proofs.LinkedTables.Climb.{to_come, back_writes, Climbing, climb_step, is_below, top_kept, down_kept}
+use Rattle.xc_dance.proofs.LinkedTables.BringBack.{to_come, back_writes, BringingBack, bring_back_step, is_below, top_kept, down_kept}
 use Rattle.xc_dance.proofs.LinkedTables.OneOption.{gone_count, line_there, line_here}
 use Rattle.xc_dance.proofs.LinkedTables.HideMoves.{own_placed}
 use Rattle.xc_dance.proofs.MoveLemmas.Shortened.{rises_listed}
@@ -165,52 +165,52 @@ tweaked_lines p t spans covered i (suc k) legal fit opened =
 -- ---- all the way down: the nodes that k Tweaks of one item took off come back, and the lines are then those of before the Tweaks
 
 -- what the steps write
-abbrev pub climb_writes : Puzzle → (Node → ℕ) → Bool → ℕ → List ℕ → ℕ
-climb_writes p col covered i [] = 0
-climb_writes p col covered i (o ∷ os) = (1 + back_writes p col covered i o) + climb_writes p col covered i os
+abbrev pub bring_back_writes : Puzzle → (Node → ℕ) → Bool → ℕ → List ℕ → ℕ
+bring_back_writes p col covered i [] = 0
+bring_back_writes p col covered i (o ∷ os) = (1 + back_writes p col covered i o) + bring_back_writes p col covered i os
 
-pub record ClimbWalk (p : Puzzle) (t : List Move) (spans : List Span) (covered : Bool) (i : ℕ) (ln : ℕ → Line) (a : ℕ) (os : List ℕ) : Type 0 where
+pub record BringBackWalk (p : Puzzle) (t : List Move) (spans : List Span) (covered : Bool) (i : ℕ) (ln : ℕ → Line) (a : ℕ) (os : List ℕ) : Type 0 where
   pub end : ℕ → Line
-  pub walk : IsClimb spans covered (nodes_from p ln (color_in p t)) (link_place p i ((line_of p t i).down a)) (map (link_place p i) os)
-  pub done : fold (climbed spans covered) (nodes_from p ln (color_in p t)) (map (link_place p i) os) ≡ nodes_from p end (color_in p t)
-  pub climbing : Climbing p t covered i end []
+  pub walk : CanBringBackAll spans covered (nodes_from p ln (color_in p t)) (link_place p i ((line_of p t i).down a)) (map (link_place p i) os)
+  pub done : fold (brought_back spans covered) (nodes_from p ln (color_in p t)) (map (link_place p i) os) ≡ nodes_from p end (color_in p t)
+  pub bringing : BringingBack p t covered i end []
   pub len : (end i).len ≡ (ln i).len
-  pub costs : climb_costs spans covered (nodes_from p ln (color_in p t)) (map (link_place p i) os) ≡ climb_writes p (color_in p t) covered i os
+  pub costs : bring_back_costs spans covered (nodes_from p ln (color_in p t)) (map (link_place p i) os) ≡ bring_back_writes p (color_in p t) covered i os
 
-pub climb_walk : (p : Puzzle) (t : List Move) (spans : List Span) (covered : Bool) (i : ℕ) (ln : ℕ → Line) (a : ℕ) (os rest : List ℕ) → AreLegal p t → IsFitted p spans → 0 < i → i ≤ item_count p → is_open i t ≡ not covered
-    → ((x : ℕ) → is_in x os ≡ true → is_in x (listed_numbers p t i) ≡ true) → IsLinkedFrom (line_of p t i) a (os ++ rest) → Climbing p t covered i ln os → ClimbWalk p t spans covered i ln a os
-climb_walk p t spans covered i ln a [] rest legal fit pos le opened among linked h = record {
+pub bring_back_walk : (p : Puzzle) (t : List Move) (spans : List Span) (covered : Bool) (i : ℕ) (ln : ℕ → Line) (a : ℕ) (os rest : List ℕ) → AreLegal p t → IsFitted p spans → 0 < i → i ≤ item_count p → is_open i t ≡ not covered
+    → ((x : ℕ) → is_in x os ≡ true → is_in x (listed_numbers p t i) ≡ true) → IsLinkedFrom (line_of p t i) a (os ++ rest) → BringingBack p t covered i ln os → BringBackWalk p t spans covered i ln a os
+bring_back_walk p t spans covered i ln a [] rest legal fit pos le opened among linked h = record {
   end = ln;
   walk = tt;
   done = refl;
-  climbing = h;
+  bringing = h;
   len = refl;
   costs = refl;
 }
-climb_walk p t spans covered i ln a (o ∷ os) rest legal fit pos le opened among linked h =
+bring_back_walk p t spans covered i ln a (o ∷ os) rest legal fit pos le opened among linked h =
     let col = color_in p t in
     let x = link_place p i o in
     let within : is_in o (listed_numbers p t i) ≡ true = among o (ap (λ b. b || is_in o os) (eq-eqb o o refl)) in
     let named : Named p i o = element_of (Named p i) o (listed_numbers p t i) (numbers_named p t i) within in
     let o_pos : 0 < o = in_above 0 o (listed_numbers p t i) (rises_listed p t i) within in
     let here = fit.laid.there i o pos le (inr (o_pos, named)) in
-    let s = climb_step p t spans covered i ln o os legal fit pos le opened within h in
+    let s = bring_back_step p t spans covered i ln o os legal fit pos le opened within h in
     let t0 : Nodes = nodes_from p ln col in
     let t1 : Nodes = nodes_from p s.ln' col in
-    let rest' = climb_walk p t spans covered i s.ln' o os rest legal fit pos le opened (λ z e. among z (elim (eqb o z) as (λ b. (b || is_in z os) ≡ true) [ true ↦ refl | false ↦ e ])) linked.3 s.climbing in
+    let rest' = bring_back_walk p t spans covered i s.ln' o os rest legal fit pos le opened (λ z e. among z (elim (eqb o z) as (λ b. (b || is_in z os) ≡ true) [ true ↦ refl | false ↦ e ])) linked.3 s.bringing in
     let x_in = slice_get_within (layout p) x here.node here.at in
     let long : length t1.dlink ≡ length (layout p) = length-map (layout p) (dlink_in p s.ln') in
-    let next : get_or t1.dlink x 0 ≡ link_place p i ((line_of p t i).down o) = get_down p s.ln' i o here ∙ ap (link_place p i) (s.climbing.own_down o) in
+    let next : get_or t1.dlink x 0 ≡ link_place p i ((line_of p t i).down o) = get_down p s.ln' i o here ∙ ap (link_place p i) (s.bringing.own_down o) in
     let places = map (link_place p i) os in
     let first : link_place p i ((line_of p t i).down a) ≡ x = ap (link_place p i) linked.1 in
     grind (arith, common_steps)
 
 -- the nodes that come back, by the links of the table before
-pub climb_follow : (p : Puzzle) (t : List Move) (spans : List Span) (i : ℕ) (ln : ℕ → Line) (a : ℕ) (os rest : List ℕ) → IsFitted p spans → 0 < i → i ≤ item_count p
+pub bring_back_follow : (p : Puzzle) (t : List Move) (spans : List Span) (i : ℕ) (ln : ℕ → Line) (a : ℕ) (os rest : List ℕ) → IsFitted p spans → 0 < i → i ≤ item_count p
     → ((x : ℕ) → is_in x os ≡ true → is_in x (listed_numbers p t i) ≡ true) → IsLinkedFrom (line_of p t i) a (os ++ rest) → ((x : ℕ) → (ln i).down x ≡ (line_of p t i).down x)
     → followed (nodes_from p ln (color_in p t)).dlink (length os) (link_place p i ((line_of p t i).down a)) ≡ map (link_place p i) os
-climb_follow p t spans i ln a [] rest fit pos le among linked down = refl
-climb_follow p t spans i ln a (o ∷ os) rest fit pos le among linked down =
+bring_back_follow p t spans i ln a [] rest fit pos le among linked down = refl
+bring_back_follow p t spans i ln a (o ∷ os) rest fit pos le among linked down =
     let t0 : Nodes = nodes_from p ln (color_in p t) in
     let within : is_in o (listed_numbers p t i) ≡ true = among o (ap (λ b. b || is_in o os) (eq-eqb o o refl)) in
     let named : Named p i o = element_of (Named p i) o (listed_numbers p t i) (numbers_named p t i) within in
@@ -220,7 +220,7 @@ climb_follow p t spans i ln a (o ∷ os) rest fit pos le among linked down =
     let next : get_or t0.dlink (link_place p i o) 0 ≡ link_place p i ((line_of p t i).down o) = get_down p ln i o here ∙ ap (link_place p i) (down o) in
     ap₂ (λ q qs. q ∷ qs) first
     (ap (λ q. followed t0.dlink (length os) (get_or t0.dlink q 0)) first ∙ ap (followed t0.dlink (length os)) next
-    ∙ climb_follow p t spans i ln o os rest fit pos le (λ z e. among z (elim (eqb o z) as (λ b. (b || is_in z os) ≡ true) [ true ↦ refl | false ↦ e ])) linked.3 down)
+    ∙ bring_back_follow p t spans i ln o os rest fit pos le (λ z e. among z (elim (eqb o z) as (λ b. (b || is_in z os) ≡ true) [ true ↦ refl | false ↦ e ])) linked.3 down)
 
 -- ---- some Tweaks of one item undone at once: from the node table after them to that before
 
@@ -322,7 +322,7 @@ abbrev pub TweaksBack : Puzzle → List Move → List Span → Bool → ℕ → 
 TweaksBack p t spans covered i k = Undoes spans covered (nodes_after p (tweaks k i t)) i (first_place p t i) k (nodes_after p t) (undo_tweaks_cost k p (tweaks k i t))
 
 -- each step writes two cells less than the Tweak did
-fewer : (p : Puzzle) (col : Node → ℕ) (covered : Bool) (i : ℕ) (os : List ℕ) → climb_writes p col covered i os + 2 * length os ≡ tweak_writes p col covered i os
+fewer : (p : Puzzle) (col : Node → ℕ) (covered : Bool) (i : ℕ) (os : List ℕ) → bring_back_writes p col covered i os + 2 * length os ≡ tweak_writes p col covered i os
 fewer p col covered i [] = refl
 fewer p col covered i (o ∷ os) = let r = fewer p col covered i os in omega (arith, r)
 
@@ -360,7 +360,7 @@ by_lines p t spans covered i k o os legal fit pos le opened count costs h =
     ∙ by_first (put_at (lnS i).down 0 o y ≡ l.down y) 0 y
     (λ z. put_at-same (lnS i).down 0 o y (sym z) ∙ sym linked.1 ∙ ap l.down z)
     (λ nz. put_at-other (lnS i).down 0 o y (λ z. nz (sym z)) ∙ ap (λ (m : Line). m.down y) h.own ∙ lost_own.0 y (λ z. nz (sym z))) in
-    let climbing : Climbing p t covered i ln0 all = record {
+    let bringing : BringingBack p t covered i ln0 all = record {
       others = λ j jpos jle ne. subst (λ (m : Line). Regaining (line_of p t j) m (to_come p t covered i j all)) (sym (line_there lnS i j w ne ∙ h.others j jpos jle ne)) (start_other p t spans covered i j all legal fit opened of jpos jle ne);
       few = λ j jpos jle ne.
           let a = cuts_len (line_of p t j) (to_come p t covered i j all) (come_few p t spans covered i j all legal fit opened of jpos jle ne) in
@@ -369,12 +369,12 @@ by_lines p t spans covered i k o os legal fit pos le opened count costs h =
       own_down = down0;
       own_up = λ y e. ap (λ (m : Line). m.up y) at_i ∙ ap (λ (m : Line). m.up y) h.own ∙ lost_own.1 y e;
     } in
-    let cw = climb_walk p t spans covered i ln0 0 all rest legal fit pos le opened among linked climbing in
+    let cw = bring_back_walk p t spans covered i ln0 0 all rest legal fit pos le opened among linked bringing in
     let lead : link_place p i (l.down 0) ≡ x = ap (link_place p i) linked.1 in
     let follow : followed t0.dlink k x ≡ map (link_place p i) all =
-    ap₂ (followed t0.dlink) (sym count) (sym lead) ∙ climb_follow p t spans i ln0 0 all rest fit pos le among linked down0 in
+    ap₂ (followed t0.dlink) (sym count) (sym lead) ∙ bring_back_follow p t spans i ln0 0 all rest fit pos le among linked down0 in
     let follow' : followed (with_dlink T i x).dlink k x ≡ map (link_place p i) all = ap (λ (u : Nodes). followed u.dlink k x) start ∙ follow in
-    let fold_is : fold (climbed spans covered) (with_dlink T i x) (followed (with_dlink T i x).dlink k x) ≡ nodes_from p cw.end col = grind (arith, common_steps) in
+    let fold_is : fold (brought_back spans covered) (with_dlink T i x) (followed (with_dlink T i x).dlink k x) ≡ nodes_from p cw.end col = grind (arith, common_steps) in
     let within : i < length (layout p) = slice_get_within (layout p) i (own i) (laid.head i pos le) in
     let top_long : length (map (top_in cw.end) (layout p)) ≡ length (layout p) = length-map (layout p) (top_in cw.end) in
     let down_long : length T.dlink ≡ length (layout p) = length-map (layout p) (dlink_in p lnS) in
@@ -392,11 +392,11 @@ by_lines p t spans covered i k o os legal fit pos le opened count costs h =
     ∙ tables_same p (line_of p t) (with_line cw.end i (longer (cw.end i) n)) col col laid
     (λ j r. elim (eqb j i) as (λ b. eqb j i ≡ b → with_line cw.end i (longer (cw.end i) n) j ≡ line_of p t j) [
       | true ↦ λ e. subst (λ m. with_line cw.end i (longer (cw.end i) n) m ≡ line_of p t m) (sym (eqb-true j i e))
-          (line_here cw.end i (longer (cw.end i) n) ∙ line_is l (longer (cw.end i) n) (omega (arith, len_end, end_len, own_len, lost, count)) (λ y. cw.climbing.own_up y refl) cw.climbing.own_down)
+          (line_here cw.end i (longer (cw.end i) n) ∙ line_is l (longer (cw.end i) n) (omega (arith, len_end, end_len, own_len, lost, count)) (λ y. cw.bringing.own_up y refl) cw.bringing.own_down)
       | false ↦ λ e.
           let ne : j ≢ i = eqb-false j i e in
-          let back = regained (line_of p t j) (cw.end j) (subst (Regaining (line_of p t j) (cw.end j)) (none_yet p t covered i j) (cw.climbing.others j r.0 r.1 ne)) in
-          let few = cw.climbing.few j r.0 r.1 ne in
+          let back = regained (line_of p t j) (cw.end j) (subst (Regaining (line_of p t j) (cw.end j)) (none_yet p t covered i j) (cw.bringing.others j r.0 r.1 ne)) in
+          let few = cw.bringing.few j r.0 r.1 ne in
           let none = ap length (none_yet p t covered i j) in
           line_there cw.end i j (longer (cw.end i) n) ne ∙ line_is (line_of p t j) (cw.end j) (omega (arith, few, none)) back.up back.down
     ] refl)
@@ -404,15 +404,15 @@ by_lines p t spans covered i k o os legal fit pos le opened count costs h =
     subst (λ y. Undoes spans covered T i y k (nodes_after p t) (undo_tweaks_cost k p s)) (sym (ap (λ ks. link_place p i (first_of 0 ks)) first)) (record {
       can = record {
         place = omega (arith, within, down_long);
-        climb = subst (λ (u : Nodes). IsClimb spans covered u x (followed (with_dlink T i x).dlink k x)) (sym start)
-            (subst (λ qs. IsClimb spans covered t0 x qs) (sym follow') (subst (λ q. IsClimb spans covered t0 q (map (link_place p i) all)) lead cw.walk));
+        bring_back = subst (λ (u : Nodes). CanBringBackAll spans covered u x (followed (with_dlink T i x).dlink k x)) (sym start)
+            (subst (λ qs. CanBringBackAll spans covered t0 x qs) (sym follow') (subst (λ q. CanBringBackAll spans covered t0 q (map (link_place p i) all)) lead cw.walk));
         many = omega (arith, count, long_list, most, fit_few);
         top = subst (λ (u : Nodes). i < length u.top) (sym fold_is) (omega (arith, within, top_long));
         few = subst (λ (u : Nodes). get_or u.top i 0 < 2 ^ 31) (sym fold_is) (omega (arith, len_end, end_len, own_len, lost, long_l, most, fit_few));
       };
       done = ap (λ (u : Nodes). with_top u i (get_or u.top i 0 + k)) fold_is ∙ end;
       paid =
-          let walk = ap₂ (λ (u : Nodes) qs. climb_costs spans covered u qs) start follow' ∙ cw.costs in
+          let walk = ap₂ (λ (u : Nodes) qs. bring_back_costs spans covered u qs) start follow' ∙ cw.costs in
           omega (arith, walk, fewer p col covered i all, costs, count);
     })
 

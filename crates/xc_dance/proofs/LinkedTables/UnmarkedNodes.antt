@@ -10,7 +10,7 @@ use Rattle.xc_input.specs.Problem.{Puzzle, colour_in, uses_of, item_count, optio
 use Rattle.xc_input.specs.declared.problem.Use.{Use}
 use Rattle.xc_dance.specs.declared.links.nodes.Nodes.{Nodes}
 use Rattle.xc_dance.specs.Fields.{Node, layout, link_place, unused, own, used, spacer_place, is_marked}
-use Rattle.xc_dance.specs.Links.Steps.{unlinked, relinked, hidden, shown, hide_cost, others_of}
+use Rattle.xc_dance.specs.Links.Steps.{unlinked, relinked, hidden, unhidden, hide_cost, others_of}
 use Rattle.xc_dance.specs.Links.Walks.{costs}
 use Rattle.xc_dance.specs.declared.dance.Move.{Move}
 use Rattle.xc_dance.specs.declared.dance.Move.TheVariants.{Purify}
@@ -36,8 +36,8 @@ unmarked_costs color (q ∷ qs) = cond (eqb (get_or color q 0) 4294967295) 0 3 +
 pub hidden_color : (t : Nodes) (q : ℕ) → (hidden t q).color ≡ t.color
 hidden_color t q = elim (eqb (get_or t.color q 0) 4294967295) as (λ b. (cond b t (unlinked t q)).color ≡ t.color) [ true ↦ refl | false ↦ refl ]
 
-pub shown_color : (t : Nodes) (q : ℕ) → (shown t q).color ≡ t.color
-shown_color t q = elim (eqb (get_or t.color q 0) 4294967295) as (λ b. (cond b t (relinked t q)).color ≡ t.color) [ true ↦ refl | false ↦ refl ]
+pub unhidden_color : (t : Nodes) (q : ℕ) → (unhidden t q).color ≡ t.color
+unhidden_color t q = elim (eqb (get_or t.color q 0) 4294967295) as (λ b. (cond b t (relinked t q)).color ≡ t.color) [ true ↦ refl | false ↦ refl ]
 
 -- steps that leave the colours as they are
 pub costs-are : (step : Nodes → ℕ → Nodes) → ((t : Nodes) (q : ℕ) → (step t q).color ≡ t.color) → (t : Nodes) (qs : List ℕ) → costs step hide_cost t qs ≡ unmarked_costs t.color qs
@@ -167,4 +167,4 @@ left_unmarked spans marks keep t u x done none h m = kept_color hidden hidden_co
 -- nor does a step up
 pub back_unmarked : (spans : List Span) (marks : Bool) (keep : Option ℕ) (t u : Nodes) (x : ℕ) → u ≡ back_node spans keep t x → (marks ≡ false → keep ≡ None) → (marks ≡ false → IsUnmarked spans t.color) →
     marks ≡ false → IsUnmarked spans u.color
-back_unmarked spans marks keep t u x done none h m = kept_color shown shown_color spans t u (reverse (others_of spans x)) (done ∙ ap (λ k. back_node spans k t x) (none m)) (h m)
+back_unmarked spans marks keep t u x done none h m = kept_color unhidden unhidden_color spans t u (reverse (others_of spans x)) (done ∙ ap (λ k. back_node spans k t x) (none m)) (h m)

@@ -187,18 +187,18 @@ pub lists_tweaked : (p : Puzzle) (t : List Move) (j x : ℕ) → 1 ≤ j → j �
     set (first_hidden t j x (lists_after p t)) (j - 1) (less (x ∷ []) (list_at (first_hidden t j x (lists_after p t)) (j - 1))) ≡ lists_after p (Tweak j ∷ t)
 lists_tweaked p t j x low high some is =
     ap₂ (λ ls l. set ls (j - 1) (less (x ∷ []) l)) hidden (own_list t j x (lists_after p t) low ∙ list_after p t j low high)
-    ∙ set_range shown (listed_numbers p (Tweak j ∷ t)) 1 (item_count p) (j - 1) (less (x ∷ []) (listed_numbers p t j)) others here
+    ∙ set_range unhidden (listed_numbers p (Tweak j ∷ t)) 1 (item_count p) (j - 1) (less (x ∷ []) (listed_numbers p t j)) others here
   where
-    shown : ℕ → List ℕ
-    shown i = cond (is_open j t) (cond (not (eqb i j) && is_open i t) (less (x ∷ []) (listed_numbers p t i)) (listed_numbers p t i)) (listed_numbers p t i)
+    unhidden : ℕ → List ℕ
+    unhidden i = cond (is_open j t) (cond (not (eqb i j) && is_open i t) (less (x ∷ []) (listed_numbers p t i)) (listed_numbers p t i)) (listed_numbers p t i)
 
-    hidden : first_hidden t j x (lists_after p t) ≡ map shown (range_with_len 1 (item_count p))
+    hidden : first_hidden t j x (lists_after p t) ≡ map unhidden (range_with_len 1 (item_count p))
     hidden = elim (is_open j t) as (λ b. cond b (lose t j (x ∷ []) (lists_after p t)) (lists_after p t) ≡ map (λ i. cond b (cond (not (eqb i j) && is_open i t) (less (x ∷ []) (listed_numbers p t i)) (listed_numbers p t i)) (listed_numbers p t i)) (range_with_len 1 (item_count p))) [
       | true ↦ lose_range t j (x ∷ []) (listed_numbers p t) (λ i. cond (not (eqb i j) && is_open i t) (less (x ∷ []) (listed_numbers p t i)) (listed_numbers p t i)) (λ i. refl) 1 (item_count p)
       | false ↦ refl
     ]
 
-    others : (i : ℕ) → i ≢ 1 + (j - 1) → shown i ≡ listed_numbers p (Tweak j ∷ t) i
+    others : (i : ℕ) → i ≢ 1 + (j - 1) → unhidden i ≡ listed_numbers p (Tweak j ∷ t) i
     others i ne =
         let differs : eqb i j ≡ false = ne_eqb i j (omega (arith, ne, low)) in
         let first : map (λ o. o.number) (take 1 (listed p t j)) ≡ x ∷ [] = first_number (listed p t j) some ∙ ap (λ n. n ∷ []) (sym is) in

@@ -2,7 +2,7 @@
 use Rattle.std.specs.Prelude.{Bool, false, Option, Some, None, ℕ, ◌<◌, ◌≡◌, ◌==◌, List, length, slice_index, slice_set, if◌then◌else◌, ◌^◌, reverse}
 use Rattle.xc_dance.specs.declared.links.nodes.Nodes.{Nodes}
 use Rattle.xc_dance.specs.Links.Span.{Span}
-use Rattle.xc_dance.specs.Links.Steps.{HasSize, hide_costs, CanHideNode, CanShowNode, show_costs, others_of, hidden_node, list_of, shown_node, list_back}
+use Rattle.xc_dance.specs.Links.Steps.{HasSize, hide_costs, CanHideNode, CanUnhideNode, unhide_costs, others_of, hidden_node, list_of, unhidden_node, list_back}
 use Rattle.xc_dance.specs.Links.Walks.{costs, CanFollow}
 
 -- node q has this colour now
@@ -34,11 +34,11 @@ leave_cost spans keep t p = if is_kept_colour keep (slice_index t.color p) then 
 
 -- one step up: a marked node gets its colour back, any other one is unhidden
 abbrev pub back_node : List Span → Option ℕ → Nodes → ℕ → Nodes
-back_node spans keep t p = if is_kept_mark keep (slice_index t.color p) then with_colour t p (kept_colour keep) else shown_node spans t p
+back_node spans keep t p = if is_kept_mark keep (slice_index t.color p) then with_colour t p (kept_colour keep) else unhidden_node spans t p
 
 -- what one step up writes
 abbrev pub back_cost : List Span → Option ℕ → Nodes → ℕ → ℕ
-back_cost spans keep t p = if is_kept_mark keep (slice_index t.color p) then 1 else show_costs t (reverse (others_of spans p))
+back_cost spans keep t p = if is_kept_mark keep (slice_index t.color p) then 1 else unhide_costs t (reverse (others_of spans p))
 
 -- a step down may be made at p
 pub record CanLeave (spans : List Span) (keep : Option ℕ) (t : Nodes) (p : ℕ) : Type 0 where
@@ -50,7 +50,7 @@ pub record CanLeave (spans : List Span) (keep : Option ℕ) (t : Nodes) (p : ℕ
 pub record CanReturn (spans : List Span) (keep : Option ℕ) (t : Nodes) (p : ℕ) : Type 0 where
   pub span : p < length spans
   pub place : p < length t.color
-  pub show : is_kept_mark keep (slice_index t.color p) ≡ false → CanShowNode spans t p
+  pub unhide : is_kept_mark keep (slice_index t.color p) ≡ false → CanUnhideNode spans t p
 
 -- steps down can be made at the nodes ps one after another, and each is where the one before leads to
 abbrev pub IsWalk : List Span → Option ℕ → Nodes → ℕ → List ℕ → Type 0
@@ -76,7 +76,7 @@ pub record CanHideList (spans : List Span) (keep : Option ℕ) (t : Nodes) (i : 
   pub walk : IsWalk spans keep t (slice_index t.dlink i) (list_of t i)
 
 -- a walk up item i's list may be made
-pub record CanShowList (spans : List Span) (keep : Option ℕ) (t : Nodes) (i : ℕ) : Type 0 where
+pub record CanUnhideList (spans : List Span) (keep : Option ℕ) (t : Nodes) (i : ℕ) : Type 0 where
   pub place : i < length t.top
   pub size : HasSize t (length t.top)
   pub few : slice_index t.top i < 2 ^ 30

@@ -6,7 +6,7 @@ use Rattle.xc_dance.specs.declared.links.nodes.Nodes.{Nodes}
 use Rattle.xc_dance.specs.Links.Span.{Span}
 use Rattle.xc_dance.specs.declared.links.items.Items.{Items}
 use Rattle.xc_input.specs.Problem.{Puzzle, high_at}
-use Rattle.xc_dance.specs.Links.ListWalks.{left_node, back_node, CanHideList, CanShowList, with_colour, walk_costs, back_costs}
+use Rattle.xc_dance.specs.Links.ListWalks.{left_node, back_node, CanHideList, CanUnhideList, with_colour, walk_costs, back_costs}
 use Rattle.xc_dance.specs.Links.Steps.{list_of, list_back}
 use Rattle.xc_dance.specs.Links.Purifying.{purified_list, unpurified_list, CanPurify, CanUnpurify}
 use Rattle.xc_dance.specs.Links.Tweaking.{tweaked, untweaked, tweak_cost, untweak_cost, CanTweak, CanUntweak}
@@ -61,7 +61,7 @@ CanMake spans t s (Spend i) = (i < length s.bound) × (0 < slice_index s.bound i
 
 -- it may be undone on these tables, x being the node that it took off
 abbrev pub CanUnmake : List Span → Nodes → Items → Move → ℕ → Type 0
-CanUnmake spans t s (Cover i) x = CanShowList spans None t i × CanTurn s i
+CanUnmake spans t s (Cover i) x = CanUnhideList spans None t i × CanTurn s i
 CanUnmake spans t s (Purify i c) x = CanUnpurify spans c t i
 CanUnmake spans t s (Tweak i) x = CanTell s i × CanUntweak spans (is_off s i) t x
 CanUnmake spans t s (Spend i) x = (i < length s.bound) × (slice_index s.bound i < 2 ^ 31)

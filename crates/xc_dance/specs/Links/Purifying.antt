@@ -3,7 +3,7 @@ use Rattle.std.specs.Prelude.{Some, ℕ, ◌<◌, List, length, fold}
 use Rattle.xc_dance.specs.declared.links.nodes.Nodes.{Nodes}
 use Rattle.xc_dance.specs.Links.Span.{Span}
 use Rattle.xc_dance.specs.Links.Steps.{list_of, list_back}
-use Rattle.xc_dance.specs.Links.ListWalks.{with_colour, left_node, back_node, CanHideList, CanShowList}
+use Rattle.xc_dance.specs.Links.ListWalks.{with_colour, left_node, back_node, CanHideList, CanUnhideList}
 
 -- item i is purified with colour c
 abbrev pub purified_list : List Span → ℕ → Nodes → ℕ → Nodes
@@ -20,5 +20,5 @@ pub record CanPurify (spans : List Span) (c : ℕ) (t : Nodes) (i : ℕ) : Type 
 
 -- that may be undone
 pub record CanUnpurify (spans : List Span) (c : ℕ) (t : Nodes) (i : ℕ) : Type 0 where
-  pub walk : CanShowList spans (Some c) t i
+  pub walk : CanUnhideList spans (Some c) t i
   pub place : i < length (fold (back_node spans (Some c)) t (list_back t i)).color

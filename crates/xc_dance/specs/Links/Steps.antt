@@ -65,11 +65,11 @@ abbrev pub others : ℕ → ℕ → ℕ → List ℕ
 others p first end = places (p + 1) end ++ places first p
 
 -- a step of unhide at node q, which passes over a marked node
-abbrev pub shown : Nodes → ℕ → Nodes
-shown t q = if slice_index t.color q == 4294967295 then t else relinked t q
+abbrev pub unhidden : Nodes → ℕ → Nodes
+unhidden t q = if slice_index t.color q == 4294967295 then t else relinked t q
 
 -- a step of unhide may be made at q, which is no spacer
-pub record CanShow (t : Nodes) (q : ℕ) : Type 0 where
+pub record CanUnhide (t : Nodes) (q : ℕ) : Type 0 where
   pub size : HasSize t (length t.top)
   pub place : q < length t.top
   pub use_of : slice_index t.top q < 2147483648
@@ -77,12 +77,12 @@ pub record CanShow (t : Nodes) (q : ℕ) : Type 0 where
   pub few : slice_index t.color q ≢ 4294967295 → slice_index t.top (slice_index t.top q) < 2 ^ 31
 
 -- a walk of unhide may be made, each step at what the one before left
-abbrev pub CanShowAll : Nodes → List ℕ → Type 0
-CanShowAll = CanAll shown CanShow
+abbrev pub CanUnhideAll : Nodes → List ℕ → Type 0
+CanUnhideAll = CanAll unhidden CanUnhide
 
 -- what a walk of unhide writes
-abbrev pub show_costs : Nodes → List ℕ → ℕ
-show_costs = costs shown hide_cost
+abbrev pub unhide_costs : Nodes → List ℕ → ℕ
+unhide_costs = costs unhidden hide_cost
 
 -- where the option of node p stands
 abbrev pub span_at : List Span → ℕ → Span
@@ -120,17 +120,17 @@ abbrev pub list_of : Nodes → ℕ → List ℕ
 list_of t i = followed t.dlink (slice_index t.top i) (slice_index t.dlink i)
 
 -- unhide(p)
-abbrev pub shown_node : List Span → Nodes → ℕ → Nodes
-shown_node spans t p = fold shown t (reverse (others_of spans p))
+abbrev pub unhidden_node : List Span → Nodes → ℕ → Nodes
+unhidden_node spans t p = fold unhidden t (reverse (others_of spans p))
 
 -- unhide(p) may be made: once the nodes before p are back, the spacer before them leads to the option's last node
-pub record CanShowNode (spans : List Span) (t : Nodes) (p : ℕ) : Type 0 where
-  pub steps : CanShowAll t (reverse (others_of spans p))
+pub record CanUnhideNode (spans : List Span) (t : Nodes) (p : ℕ) : Type 0 where
+  pub steps : CanUnhideAll t (reverse (others_of spans p))
   pub from : 0 < (span_at spans p).first
   pub within : (span_at spans p).first ≤ p
   pub near : (span_at spans p).end < 2 ^ 31
-  pub spacer : IsSpacer (fold shown t (reverse (places (span_at spans p).first p))) ((span_at spans p).first - 1)
-  pub last : slice_index (fold shown t (reverse (places (span_at spans p).first p))).dlink ((span_at spans p).first - 1) + 1 ≡ (span_at spans p).end
+  pub spacer : IsSpacer (fold unhidden t (reverse (places (span_at spans p).first p))) ((span_at spans p).first - 1)
+  pub last : slice_index (fold unhidden t (reverse (places (span_at spans p).first p))).dlink ((span_at spans p).first - 1) + 1 ≡ (span_at spans p).end
 
 -- the nodes of i's list from bottom to top, by its links and its length
 abbrev pub list_back : Nodes → ℕ → List ℕ

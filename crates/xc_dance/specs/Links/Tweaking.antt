@@ -2,15 +2,15 @@
 use Rattle.std.specs.Prelude.{Bool, false, ℕ, ◌+◌, ◌<◌, ◌≡◌, List, length, slice_index, if◌then◌else◌, ◌^◌, reverse}
 use Rattle.xc_dance.specs.declared.links.nodes.Nodes.{Nodes}
 use Rattle.xc_dance.specs.Links.Span.{Span}
-use Rattle.xc_dance.specs.Links.Steps.{HasSize, NamesPlaces, unlinked, relinked, hide_costs, CanHideNode, CanShowNode, show_costs, others_of, hidden_node, shown_node}
+use Rattle.xc_dance.specs.Links.Steps.{HasSize, NamesPlaces, unlinked, relinked, hide_costs, CanHideNode, CanUnhideNode, unhide_costs, others_of, hidden_node, unhidden_node}
 
 -- where item i isn't covered, the option of node x is hidden first
 abbrev pub hidden_unless : List Span → Bool → Nodes → ℕ → Nodes
 hidden_unless spans covered t x = if covered then t else hidden_node spans t x
 
 -- where item i isn't covered, the option of node x is unhidden
-abbrev pub shown_unless : List Span → Bool → Nodes → ℕ → Nodes
-shown_unless spans covered t x = if covered then t else shown_node spans t x
+abbrev pub unhidden_unless : List Span → Bool → Nodes → ℕ → Nodes
+unhidden_unless spans covered t x = if covered then t else unhidden_node spans t x
 
 -- the first node of item i's list leaves it
 abbrev pub tweaked : List Span → Bool → Nodes → ℕ → Nodes
@@ -18,7 +18,7 @@ tweaked spans covered t i = unlinked (hidden_unless spans covered t (slice_index
 
 -- node x comes back
 abbrev pub untweaked : List Span → Bool → Nodes → ℕ → Nodes
-untweaked spans covered t x = shown_unless spans covered (relinked t x) x
+untweaked spans covered t x = unhidden_unless spans covered (relinked t x) x
 
 -- what that writes
 abbrev pub tweak_cost : List Span → Bool → Nodes → ℕ → ℕ
@@ -26,7 +26,7 @@ tweak_cost spans covered t i = 3 + (if covered then 0 else hide_costs t (others_
 
 -- what its coming back writes
 abbrev pub untweak_cost : List Span → Bool → Nodes → ℕ → ℕ
-untweak_cost spans covered t x = 3 + (if covered then 0 else show_costs (relinked t x) (reverse (others_of spans x)))
+untweak_cost spans covered t x = 3 + (if covered then 0 else unhide_costs (relinked t x) (reverse (others_of spans x)))
 
 -- it may, node x being the first
 pub record CanTweakAt (spans : List Span) (covered : Bool) (t : Nodes) (i x : ℕ) : Type 0 where
@@ -45,4 +45,4 @@ pub record CanUntweak (spans : List Span) (covered : Bool) (t : Nodes) (x : ℕ)
   pub size : HasSize t (length t.top)
   pub names : NamesPlaces t x
   pub few : slice_index t.top (slice_index t.top x) < 2 ^ 31
-  pub show : covered ≡ false → (x < length spans) × CanShowNode spans (relinked t x) x
+  pub unhide : covered ≡ false → (x < length spans) × CanUnhideNode spans (relinked t x) x

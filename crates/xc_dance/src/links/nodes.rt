@@ -7,7 +7,7 @@ use crate::links::cells::{
 };
 use crate::links::spans::Spans;
 use crate::links::steps::{relink, unlink};
-use crate::links::tweaks::{climb, hide_unless, show_unless};
+use crate::links::tweaks::{bring_back, hide_unless, unhide_unless};
 use crate::links::walks::{hide_list, unhide_list};
 use crate::links::writes::Writes;
 use std::alloc::{AllocError, Global};
@@ -49,7 +49,7 @@ pub(crate) struct Row {
 impl Nodes {
     ghost use Rattle.xc_dance.specs.Links.FirstNodes.{with_row, entered};
     ghost use Rattle.xc_dance.specs.Links.Steps.{HasSize, list_of, list_back};
-    ghost use Rattle.xc_dance.specs.Links.ListWalks.{left_node, back_node, walk_costs, back_costs, CanHideList, CanShowList, with_colour};
+    ghost use Rattle.xc_dance.specs.Links.ListWalks.{left_node, back_node, walk_costs, back_costs, CanHideList, CanUnhideList, with_colour};
     ghost use Rattle.xc_dance.specs.Links.Unmarked.{IsUnmarked};
     ghost use Rattle.xc_dance.specs.Links.Purifying.{purified_list, unpurified_list, CanPurify, CanUnpurify};
     ghost use Rattle.xc_dance.specs.Links.Tweaking.{tweaked, untweaked, tweak_cost, untweak_cost, CanTweak, CanUntweak};
@@ -202,7 +202,7 @@ impl Nodes {
     /// Undoes `cover`, as uncover, (14), does from bottom to top, so that each node finds its neighbours of before.
     #[inline(always)]
     pub(crate) fn uncover(&mut self, spans: &Spans, i: u32, marks: bool, writes: &mut Writes) -> u64
-        requires can { CanShowList spans.now None self.old i }
+        requires can { CanUnhideList spans.now None self.old i }
         requires unmarked { marks ≡ false → IsUnmarked spans.now self.old.color }
         ensures done { self.new ≡ fold (back_node spans.now None) self.old (list_back self.old i) }
         ensures cost { result ≡ back_costs spans.now None self.old (list_back self.old i) }
@@ -219,7 +219,7 @@ impl Nodes {
     /// The same with the test for marks.
     #[inline(never)]
     fn uncover_among_marks(&mut self, spans: &Spans, i: u32, writes: &mut Writes) -> u64
-        requires can { CanShowList spans.now None self.old i }
+        requires can { CanUnhideList spans.now None self.old i }
         ensures done { self.new ≡ fold (back_node spans.now None) self.old (list_back self.old i) }
         ensures cost { result ≡ back_costs spans.now None self.old (list_back self.old i) }
         ensures few_writes { result ≤ 3 * 2 ^ 62 }
@@ -299,7 +299,7 @@ impl Nodes {
     {
         let Nodes { top, links, color } = self;
         relink(top, links, color, x, writes);
-        let count = show_unless(top, links, color, spans, covered, x, marks, writes);
+        let count = unhide_unless(top, links, color, spans, covered, x, marks, writes);
         count + 3
     }
 
@@ -324,7 +324,7 @@ impl Nodes {
     {
         let Nodes { top, links, color } = self;
         set_down(links, i, x, writes);
-        let count = climb(top, links, color, spans, covered, x, k, marks, writes);
+        let count = bring_back(top, links, color, spans, covered, x, k, marks, writes);
         let len = get(top, i);
         set(top, i, len + k, writes);
         count + 2

@@ -3,7 +3,7 @@
 //! node that is hidden or comes back, with four loads and three stores, no bounds check and no call.
 ghost use Rattle.std.specs.Prelude.{◌≡◌, ◌≢◌, false, ℕ, ◌+◌, ◌-◌, ◌*◌, ◌<◌, ◌≤◌, ◌^◌, length, slice_index, fold, reverse};
 ghost use Rattle.xc_dance.specs.Links.Columns.{values, columns};
-ghost use Rattle.xc_dance.specs.Links.Steps.{HasSize, NamesPlaces, unlinked, relinked, hidden, hide_cost, hide_costs, CanHide, CanHideAll, places, shown, CanShow, CanShowAll, show_costs, others_of, hidden_node, shown_node, CanHideNode, CanShowNode};
+ghost use Rattle.xc_dance.specs.Links.Steps.{HasSize, NamesPlaces, unlinked, relinked, hidden, hide_cost, hide_costs, CanHide, CanHideAll, places, unhidden, CanUnhide, CanUnhideAll, unhide_costs, others_of, hidden_node, unhidden_node, CanHideNode, CanUnhideNode};
 ghost use Rattle.xc_dance.specs.Links.Unmarked.{AreUnmarked, IsUnmarked};
 
 use crate::links::cells::{Cell, Link, down, get, set, set_down, set_up, up};
@@ -142,7 +142,7 @@ pub(crate) fn hide(
 
 /// A step of unhide.
 #[inline(always)]
-fn show_one(
+fn unhide_one(
     top: &mut [Cell],
     links: &mut [Link],
     color: &[Cell],
@@ -150,9 +150,9 @@ fn show_one(
     marks: bool,
     writes: &mut Writes,
 ) -> u64
-    requires can { CanShow (columns top.old links.old color.now) q }
+    requires can { CanUnhide (columns top.old links.old color.now) q }
     requires unmarked { marks ≡ false → slice_index (values color.now) q ≢ 4294967295 }
-    ensures done { columns top.new links.new color.now ≡ shown (columns top.old links.old color.now) q }
+    ensures done { columns top.new links.new color.now ≡ unhidden (columns top.old links.old color.now) q }
     ensures cost { result ≡ hide_cost (columns top.old links.old color.now) q }
     ensures counted { writes.new.count ≡ writes.old.count + result }
 {
@@ -166,7 +166,7 @@ fn show_one(
 
 /// Steps of unhide at the places from below b down to a.
 #[inline(always)]
-fn show_range(
+fn unhide_range(
     top: &mut [Cell],
     links: &mut [Link],
     color: &[Cell],
@@ -175,16 +175,16 @@ fn show_range(
     marks: bool,
     writes: &mut Writes,
 ) -> u64
-    requires can { CanShowAll (columns top.old links.old color.now) (reverse (places a b)) }
+    requires can { CanUnhideAll (columns top.old links.old color.now) (reverse (places a b)) }
     requires unmarked { marks ≡ false → AreUnmarked (values color.now) a b }
-    ensures done { columns top.new links.new color.now ≡ fold shown (columns top.old links.old color.now) (reverse (places a b)) }
-    ensures cost { result ≡ show_costs (columns top.old links.old color.now) (reverse (places a b)) }
+    ensures done { columns top.new links.new color.now ≡ fold unhidden (columns top.old links.old color.now) (reverse (places a b)) }
+    ensures cost { result ≡ unhide_costs (columns top.old links.old color.now) (reverse (places a b)) }
     ensures counted { writes.new.count ≡ writes.old.count + result }
     ensures few { result ≤ 3 * (b - a) }
 {
     let mut count = 0u64;
     for q in (a..b as usize).rev() {
-        count += show_one(top, links, color, q as u32, marks, writes);
+        count += unhide_one(top, links, color, q as u32, marks, writes);
     }
     count
 }
@@ -201,20 +201,20 @@ pub(crate) fn unhide(
     writes: &mut Writes,
 ) -> u64
     requires span { p < length spans.now }
-    requires can { CanShowNode spans.now (columns top.old links.old color.now) p }
+    requires can { CanUnhideNode spans.now (columns top.old links.old color.now) p }
     requires unmarked { marks ≡ false → IsUnmarked spans.now (values color.now) }
-    ensures done { columns top.new links.new color.now ≡ shown_node spans.now (columns top.old links.old color.now) p }
-    ensures cost { result ≡ show_costs (columns top.old links.old color.now) (reverse (others_of spans.now p)) }
+    ensures done { columns top.new links.new color.now ≡ unhidden_node spans.now (columns top.old links.old color.now) p }
+    ensures cost { result ≡ unhide_costs (columns top.old links.old color.now) (reverse (others_of spans.now p)) }
     ensures few { result ≤ 3 * 2 ^ 32 }
     ensures counted { writes.new.count ≡ writes.old.count + result }
 {
     let mut below = 0u64;
     let mut q = p - 1;
     while get(top, q) < SPACER {
-        below += show_one(top, links, color, q, marks, writes);
+        below += unhide_one(top, links, color, q, marks, writes);
         q -= 1;
     }
     let end = down(links, q) + 1;
-    let above = show_range(top, links, color, p as usize + 1, end, marks, writes);
+    let above = unhide_range(top, links, color, p as usize + 1, end, marks, writes);
     below + above
 }

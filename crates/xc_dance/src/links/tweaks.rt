@@ -1,9 +1,9 @@
 //! Tweaks: the option of a first node is hidden and comes back, alone or with those that were tweaked off behind it.
 ghost use Rattle.std.specs.Prelude.{◌≡◌, ℕ, ◌+◌, ◌*◌, ◌<◌, ◌≤◌, ◌^◌, length, fold, reverse, false, if◌then◌else◌};
 ghost use Rattle.xc_dance.specs.Links.Columns.{values, columns};
-ghost use Rattle.xc_dance.specs.Links.Steps.{hide_costs, CanHideNode, CanShowNode, show_costs, others_of, followed};
-ghost use Rattle.xc_dance.specs.Links.Tweaking.{hidden_unless, shown_unless};
-ghost use Rattle.xc_dance.specs.Links.TweaksBack.{climbed, climb_cost, CanClimb, IsClimb, climb_costs};
+ghost use Rattle.xc_dance.specs.Links.Steps.{hide_costs, CanHideNode, CanUnhideNode, unhide_costs, others_of, followed};
+ghost use Rattle.xc_dance.specs.Links.Tweaking.{hidden_unless, unhidden_unless};
+ghost use Rattle.xc_dance.specs.Links.TweaksBack.{brought_back, bring_back_cost, CanBringBack, CanBringBackAll, bring_back_costs};
 ghost use Rattle.xc_dance.specs.Links.Unmarked.{IsUnmarked};
 
 use crate::links::cells::{Cell, Link, down, set_up};
@@ -42,7 +42,7 @@ pub(crate) fn hide_unless(
 
 /// Undoes `hide_unless`.
 #[inline(always)]
-pub(crate) fn show_unless(
+pub(crate) fn unhide_unless(
     top: &mut [Cell],
     links: &mut [Link],
     color: &[Cell],
@@ -52,10 +52,10 @@ pub(crate) fn show_unless(
     marks: bool,
     writes: &mut Writes,
 ) -> u64
-    requires can { covered ≡ false → (x < length spans.now) × CanShowNode spans.now (columns top.old links.old color.now) x }
+    requires can { covered ≡ false → (x < length spans.now) × CanUnhideNode spans.now (columns top.old links.old color.now) x }
     requires unmarked { marks ≡ false → IsUnmarked spans.now (values color.now) }
-    ensures done { columns top.new links.new color.now ≡ shown_unless spans.now covered (columns top.old links.old color.now) x }
-    ensures cost { result ≡ (if covered then 0 else show_costs (columns top.old links.old color.now) (reverse (others_of spans.now x))) }
+    ensures done { columns top.new links.new color.now ≡ unhidden_unless spans.now covered (columns top.old links.old color.now) x }
+    ensures cost { result ≡ (if covered then 0 else unhide_costs (columns top.old links.old color.now) (reverse (others_of spans.now x))) }
     ensures few { result ≤ 3 * 2 ^ 32 }
     ensures counted { writes.new.count ≡ writes.old.count + result }
 {
@@ -72,7 +72,7 @@ pub(crate) fn show_unless(
 /// One step down nodes that come back: the option of node p is put back, unless its item is covered, and what
 /// stands below p has p above it.
 #[inline(always)]
-fn climb_one(
+fn bring_back_one(
     top: &mut [Cell],
     links: &mut [Link],
     color: &[Cell],
@@ -82,14 +82,14 @@ fn climb_one(
     marks: bool,
     writes: &mut Writes,
 ) -> u64
-    requires can { CanClimb spans.now covered (columns top.old links.old color.now) p }
+    requires can { CanBringBack spans.now covered (columns top.old links.old color.now) p }
     requires unmarked { marks ≡ false → IsUnmarked spans.now (values color.now) }
-    ensures done { columns top.new links.new color.now ≡ climbed spans.now covered (columns top.old links.old color.now) p }
-    ensures cost { result ≡ climb_cost spans.now covered (columns top.old links.old color.now) p }
+    ensures done { columns top.new links.new color.now ≡ brought_back spans.now covered (columns top.old links.old color.now) p }
+    ensures cost { result ≡ bring_back_cost spans.now covered (columns top.old links.old color.now) p }
     ensures few { result ≤ 3 * 2 ^ 32 + 1 }
     ensures counted { writes.new.count ≡ writes.old.count + result }
 {
-    let count = show_unless(top, links, color, spans, covered, p, marks, writes);
+    let count = unhide_unless(top, links, color, spans, covered, p, marks, writes);
     let d = down(links, p);
     set_up(links, d, p, writes);
     count + 1
@@ -97,7 +97,7 @@ fn climb_one(
 
 /// k such steps, from node x on.
 #[inline(always)]
-pub(crate) fn climb(
+pub(crate) fn bring_back(
     top: &mut [Cell],
     links: &mut [Link],
     color: &[Cell],
@@ -109,17 +109,17 @@ pub(crate) fn climb(
     writes: &mut Writes,
 ) -> u64
     requires many { k < 2 ^ 30 }
-    requires can { IsClimb spans.now covered (columns top.old links.old color.now) x (followed (columns top.old links.old color.now).dlink k x) }
+    requires can { CanBringBackAll spans.now covered (columns top.old links.old color.now) x (followed (columns top.old links.old color.now).dlink k x) }
     requires unmarked { marks ≡ false → IsUnmarked spans.now (values color.now) }
-    ensures done { columns top.new links.new color.now ≡ fold (climbed spans.now covered) (columns top.old links.old color.now) (followed (columns top.old links.old color.now).dlink k x) }
-    ensures cost { result ≡ climb_costs spans.now covered (columns top.old links.old color.now) (followed (columns top.old links.old color.now).dlink k x) }
+    ensures done { columns top.new links.new color.now ≡ fold (brought_back spans.now covered) (columns top.old links.old color.now) (followed (columns top.old links.old color.now).dlink k x) }
+    ensures cost { result ≡ bring_back_costs spans.now covered (columns top.old links.old color.now) (followed (columns top.old links.old color.now).dlink k x) }
     ensures few_writes { result ≤ 3 * 2 ^ 62 + 2 ^ 30 }
     ensures counted { writes.new.count ≡ writes.old.count + result }
 {
     let mut count = 0u64;
     let mut p = x;
     for _ in 0..k {
-        count += climb_one(top, links, color, spans, covered, p, marks, writes);
+        count += bring_back_one(top, links, color, spans, covered, p, marks, writes);
         p = down(links, p);
     }
     count

@@ -3,7 +3,7 @@
 ghost use Rattle.std.specs.Prelude.{◌≡◌, ℕ, ◌+◌, ◌-◌, ◌*◌, ◌<◌, ◌≤◌, ◌^◌, length, slice_index, fold, None, false};
 ghost use Rattle.xc_dance.specs.Links.Columns.{values, columns};
 ghost use Rattle.xc_dance.specs.Links.Steps.{list_of, list_back};
-ghost use Rattle.xc_dance.specs.Links.ListWalks.{is_kept_colour, left_node, leave_cost, back_node, back_cost, CanLeave, CanReturn, walk_costs, back_costs, CanHideList, CanShowList};
+ghost use Rattle.xc_dance.specs.Links.ListWalks.{is_kept_colour, left_node, leave_cost, back_node, back_cost, CanLeave, CanReturn, walk_costs, back_costs, CanHideList, CanUnhideList};
 ghost use Rattle.xc_dance.specs.Links.Unmarked.{IsUnmarked};
 
 use crate::links::cells::{Cell, Link, down, get, set, up};
@@ -120,7 +120,7 @@ pub(crate) fn unhide_list(
     marks: bool,
     writes: &mut Writes,
 ) -> u64
-    requires can { CanShowList spans.now keep (columns top.old links.old color.old) i }
+    requires can { CanUnhideList spans.now keep (columns top.old links.old color.old) i }
     requires unmarked { marks ≡ false → IsUnmarked spans.now (values color.old) }
     requires none { marks ≡ false → keep ≡ None }
     ensures done { columns top.new links.new color.new ≡ fold (back_node spans.now keep) (columns top.old links.old color.old) (list_back (columns top.old links.old color.old) i) }

@@ -13,7 +13,7 @@ use Rattle.xc_list.specs.declared.checker.ListingFault.{ListingFault}
 use Rattle.xc_list.specs.declared.checker.ListingFault.TheVariants.{UnknownOption}
 use Rattle.xc_list.specs.ListingLines.{Line, Header, Body, read}
 use Rattle.std.specs.Option.{option_or}
-use Rattle.xc_list.specs.Listed.{Solution, Listing, before_listing, listing_of, is_body, is_known, is_none, stands_for, line_fault, first_fault_from, IsListedCover, IsVerdictOn, AreVerdicts, IsFirstFault}
+use Rattle.xc_list.specs.Listed.{Solution, Listing, before_listing, listing_of, is_body, is_known, is_none, stands_for, fault_in_line, fault_in_lines, IsListedCover, IsVerdictOn, AreVerdicts, IsListingFault}
 use Rattle.xc_list.specs.inner.Classes.{Classes, AreClasses, IsOfClass, IsClassOfBody, IsCoverOfClasses}
 use Rattle.xc_input.specs.Lines.{lines_of}
 use Rattle.xc_list.specs.inner.Checking.{Progress, IsProgress, AreChosen, with_later, Closes, Takes, Refuses}
@@ -96,10 +96,10 @@ body-later (Some n) bodies words later = ap (λ bs. record { number = n; bodies 
 not-first : (done : ℕ) → true ≡ not (done + 1 == 0)
 not-first done = let e : nat_eq (done + 1) 0 ≡ false = grind (arith, nat_tests) in ap not (sym e)
 
-no_fault-at : (p : Named) (done : ℕ) (line : List ℕ) (rest : List (List ℕ)) (said : Line) → read line ≡ said → line_fault p (not (done == 0)) (min (done + 1) (2 ^ 64 - 1)) said ≡ None
-    → first_fault_from p done (line ∷ rest) ≡ first_fault_from p (done + 1) rest
+no_fault-at : (p : Named) (done : ℕ) (line : List ℕ) (rest : List (List ℕ)) (said : Line) → read line ≡ said → fault_in_line p (not (done == 0)) (min (done + 1) (2 ^ 64 - 1)) said ≡ None
+    → fault_in_lines p done (line ∷ rest) ≡ fault_in_lines p (done + 1) rest
 no_fault-at p done line rest said e f =
-    ap (λ l. option_or (line_fault p (not (done == 0)) (min (done + 1) (2 ^ 64 - 1)) l) (first_fault_from p (done + 1) rest)) e ∙ ap (λ o. option_or o (first_fault_from p (done + 1) rest)) f
+    ap (λ l. option_or (fault_in_line p (not (done == 0)) (min (done + 1) (2 ^ 64 - 1)) l) (fault_in_lines p (done + 1) rest)) e ∙ ap (λ o. option_or o (fault_in_lines p (done + 1) rest)) f
 
 pub header_taken : (s new : Progress) (number : ℕ) → Closes s new → Takes (Header number) s (record { options = s.options; open_number = Some number; chosen = []; verdicts = new.verdicts })
 header_taken s new number closes all done line rest e h = record {
@@ -126,7 +126,7 @@ body_taken s words chosen some good more all done line rest e h =
     let p = s.options.problem in
     let n = min (done + 1) (2 ^ 64 - 1) in
     let begun : not (done == 0) ≡ true = sym h.begun ∙ some in
-    let fine : line_fault p (not (done == 0)) n (Body words) ≡ None = ap (λ t. line_fault p t n (Body words)) begun ∙ ap (λ t. if t then None else Some (UnknownOption n)) good in
+    let fine : fault_in_line p (not (done == 0)) n (Body words) ≡ None = ap (λ t. fault_in_line p t n (Body words)) begun ∙ ap (λ t. if t then None else Some (UnknownOption n)) good in
     let same : with_later s.open_number h.bodies (listing_of (line ∷ rest)) ≡ with_later s.open_number (h.bodies ++ words ∷ []) (listing_of rest) =
     ap (λ l. with_later s.open_number h.bodies (before_listing l (listing_of rest))) e ∙ sym (body-later s.open_number h.bodies words (listing_of rest)) in
     record {
@@ -173,9 +173,9 @@ none_taken s words h e some =
 -- THE WHOLE PASS
 -- the fault of a line that is refused is the first one
 pub refused : (p : Named) (all : List (List ℕ)) (done number : ℕ) (line : List ℕ) (left others : List (List ℕ)) (s : Progress) (e : ListingFault) → s.options.problem ≡ p → left ≡ line ∷ others
-    → number ≡ min (done + 1) (2 ^ 64 - 1) → IsProgress all done left s → Refuses number (read line) s e → IsFirstFault p all e
+    → number ≡ min (done + 1) (2 ^ 64 - 1) → IsProgress all done left s → Refuses number (read line) s e → IsListingFault p all e
 refused p all done number line left others s e of_problem cut count progress refuses =
-    subst (λ (q : Named). IsFirstFault q all e) of_problem (refuses all done line others refl count (subst (λ (ls : List (List ℕ)). IsProgress all done ls s) cut progress))
+    subst (λ (q : Named). IsListingFault q all e) of_problem (refuses all done line others refl count (subst (λ (ls : List (List ℕ)). IsProgress all done ls s) cut progress))
 
 -- nothing is left: the verdicts are those on all solutions
 pub judged : (p : Named) (all : List (List ℕ)) (done : ℕ) (left : List (List ℕ)) (s : Progress) (vs : List Verdict) → s.options.problem ≡ p → left ≡ []

@@ -1,5 +1,5 @@
 -- Texts cut at a byte, and what is left of their lines and words.
-use Rattle.std.proofs.Common.{◌≡◌, ℕ, zero, suc, ◌+◌, ◌-◌, ◌<◌, Bool, true, false, nat_eq, List, [], ◌∷◌, ◌++◌, length, take, drop, get_or, refl, sym, ap, ◌∙◌, append_assoc, add-one, arith, if◌then◌else◌}
+use Rattle.std.proofs.Common.{◌≡◌, ℕ, zero, suc, ◌+◌, ◌-◌, ◌<◌, Bool, true, false, nat_eq, List, [], ◌∷◌, ◌++◌, length, take, drop, get_or, refl, sym, ap, ◌∙◌, append_assoc, add-one, arith, if◌then◌else◌, Option, None, MatchOption, subst}
 use Rattle.std.proofs.lemmas.Bool.{eqb-true}
 use Rattle.xc_input.specs.Words.{has, before, after}
 use Rattle.xc_input.specs.Tokens.{at_front}
@@ -80,3 +80,7 @@ last (x ∷ front) word h =
 
 pub last_word : (text front word : List ℕ) → has 32 word ≡ false → text ≡ front ++ 32 ∷ word → words_in text ≡ words_in front ++ word ∷ []
 last_word text front word h e = ap words_in e ∙ last front word h
+
+-- what holds where nothing was cut
+pub none-cut : {A : Type 0} (r : Option A) (N : Type 0) (P : A → Type 0) → r ≡ None → N → MatchOption r N P
+none-cut r N P e n = subst (λ q. MatchOption q N P) (sym e) n

@@ -17,7 +17,7 @@ use Rattle.xc_list.specs.declared.checker.Verdict.{Verdict}
 use Rattle.xc_list.specs.declared.checker.ListingFault.{ListingFault}
 use Rattle.xc_list.specs.declared.checker.ListingFault.TheVariants.{BadLine, UnknownOption, Memory}
 use Rattle.std.specs.Option.{option_or}
-use Rattle.xc_list.specs.Listed.{Solution, IsVerdictOn, AreVerdicts, IsFirstFault, stands_for, is_known, line_fault, first_fault_from, first_fault, Listing, before_listing, listing_of, listed, IsListedCover}
+use Rattle.xc_list.specs.Listed.{Solution, IsVerdictOn, AreVerdicts, IsListingFault, stands_for, is_known, fault_in_line, fault_in_lines, fault_in_listing, Listing, before_listing, listing_of, solutions_of, IsListedCover}
 use Rattle.xc_list.proofs.OutputLemmas.KnownMembers.{members_known}
 use Rattle.xc_list.proofs.OutputLemmas.CountedMembers.{IsCounted, members_counted}
 use Rattle.xc_list.proofs.OutputLemmas.OutputLines.{choice_words, choice_line, output_lines, IsPrintable, IsPrintableMember, lines_of-members, read-choice_line, read-header_line}
@@ -38,22 +38,22 @@ record IsReadableMember (p : Named) (nm : ℕ × List Choice) : Type 0 where
 abbrev line : ℕ → ℕ
 line n = min (n + 1) (2 ^ 64 - 1)
 
-no_fault-choices : (p : Named) (n : ℕ) (m : List Choice) (rest : List (List ℕ)) → 0 < n → All (IsReadable p) m → ((k : ℕ) → 0 < k → first_fault_from p k rest ≡ None)
-    → first_fault_from p n (map (choice_line p) m ++ rest) ≡ None
+no_fault-choices : (p : Named) (n : ℕ) (m : List Choice) (rest : List (List ℕ)) → 0 < n → All (IsReadable p) m → ((k : ℕ) → 0 < k → fault_in_lines p k rest ≡ None)
+    → fault_in_lines p n (map (choice_line p) m ++ rest) ≡ None
 no_fault-choices p n [] rest h all later = later n h
 no_fault-choices p n (c ∷ m) rest h all later =
     let first : IsReadable p c = All-head (IsReadable p) c m all in
     let begun : not (n == 0) ≡ true = grind (arith, nat_tests) in
-    ap (λ l. option_or (line_fault p (not (n == 0)) (line n) l) (first_fault_from p (n + 1) (map (choice_line p) m ++ rest))) (read-choice_line p c first.printable).0
-    ∙ ap (λ t. option_or (line_fault p t (line n) (Body (choice_words p c))) (first_fault_from p (n + 1) (map (choice_line p) m ++ rest))) begun
-    ∙ ap (λ t. option_or (if t then None else Some (UnknownOption (line n))) (first_fault_from p (n + 1) (map (choice_line p) m ++ rest))) first.told.accepted
+    ap (λ l. option_or (fault_in_line p (not (n == 0)) (line n) l) (fault_in_lines p (n + 1) (map (choice_line p) m ++ rest))) (read-choice_line p c first.printable).0
+    ∙ ap (λ t. option_or (fault_in_line p t (line n) (Body (choice_words p c))) (fault_in_lines p (n + 1) (map (choice_line p) m ++ rest))) begun
+    ∙ ap (λ t. option_or (if t then None else Some (UnknownOption (line n))) (fault_in_lines p (n + 1) (map (choice_line p) m ++ rest))) first.told.accepted
     ∙ no_fault-choices p (n + 1) m rest (omega arith) (All-tail (IsReadable p) c m all) later
 
-no_fault-members : (p : Named) (n : ℕ) (nms : List (ℕ × List Choice)) → All (IsReadableMember p) nms → first_fault_from p n (output_lines p nms) ≡ None
+no_fault-members : (p : Named) (n : ℕ) (nms : List (ℕ × List Choice)) → All (IsReadableMember p) nms → fault_in_lines p n (output_lines p nms) ≡ None
 no_fault-members p n [] all = refl
 no_fault-members p n (nm ∷ nms) all =
     let first : IsReadableMember p nm = All-head (IsReadableMember p) nm nms all in
-    ap (λ l. option_or (line_fault p (not (n == 0)) (line n) l) (first_fault_from p (n + 1) (map (choice_line p) nm.1 ++ output_lines p nms))) (read-header_line nm.0 first.number)
+    ap (λ l. option_or (fault_in_line p (not (n == 0)) (line n) l) (fault_in_lines p (n + 1) (map (choice_line p) nm.1 ++ output_lines p nms))) (read-header_line nm.0 first.number)
     ∙ no_fault-choices p (n + 1) nm.1 (output_lines p nms) (omega arith) first.choices (λ k h. no_fault-members p k nms (All-tail (IsReadableMember p) nm nms all))
 
 -- ---- what is listed
@@ -100,12 +100,12 @@ listed_cover : (p : Named) (nm : ℕ × List Choice) → IsReadableMember p nm �
 listed_cover p nm h = (options_of nm.1, each_stands p nm.1 h.choices, h.cover)
 
 readable_covers : (p : Named) (nms : List (ℕ × List Choice)) → All (IsReadableMember p) nms
-    → (first_fault p (lines_of (flat_map (member_text p) nms)) ≡ None) × All (λ s. IsListedCover p s.bodies) (listed (lines_of (flat_map (member_text p) nms)))
+    → (fault_in_listing p (lines_of (flat_map (member_text p) nms)) ≡ None) × All (λ s. IsListedCover p s.bodies) (solutions_of (lines_of (flat_map (member_text p) nms)))
 readable_covers p nms all =
     let lines : lines_of (flat_map (member_text p) nms) ≡ output_lines p nms =
     lines_of-members p nms (All-weaker (IsReadableMember p) (IsPrintableMember p) (λ nm h. record { number = h.number; choices = All-weaker (IsReadable p) (IsPrintable p) (λ c r. r.printable) nm.1 h.choices }) nms all) in
-    let solutions : listed (lines_of (flat_map (member_text p) nms)) ≡ map (solution_of p) nms = ap listed lines ∙ ap (λ (l : Listing). l.solutions) (listing_of-members p nms all) in (
-      ap (first_fault p) lines ∙ no_fault-members p 0 nms all,
+    let solutions : solutions_of (lines_of (flat_map (member_text p) nms)) ≡ map (solution_of p) nms = ap solutions_of lines ∙ ap (λ (l : Listing). l.solutions) (listing_of-members p nms all) in (
+      ap (fault_in_listing p) lines ∙ no_fault-members p 0 nms all,
       subst (All (λ s. IsListedCover p s.bodies)) (sym solutions) (All-map (λ s. IsListedCover p s.bodies) (solution_of p) nms (All-weaker (IsReadableMember p) (λ nm. IsListedCover p (solution_of p nm).bodies) (listed_cover p) nms all)),
     )
 
@@ -132,7 +132,7 @@ readable_member p sound none nm h =
 
 -- any members with any numbers
 pub members_are_covers : (p : Named) → IsSound p → All (λ n. n ≢ codes "null") p.names → (nms : List (ℕ × List Choice)) → All (IsNumberedMember p) nms
-    → (first_fault p (lines_of (flat_map (member_text p) nms)) ≡ None) × All (λ s. IsListedCover p s.bodies) (listed (lines_of (flat_map (member_text p) nms)))
+    → (fault_in_listing p (lines_of (flat_map (member_text p) nms)) ≡ None) × All (λ s. IsListedCover p s.bodies) (solutions_of (lines_of (flat_map (member_text p) nms)))
 members_are_covers p sound none nms all = readable_covers p nms (All-weaker (IsNumberedMember p) (IsReadableMember p) (readable_member p sound none) nms all)
 
 each_numbered : {X : Type 0} (P : X → Type 0) (a b : ℕ) (xs : List X) → a + length xs ≤ b → All P xs → All (λ kx. (kx.0 < b) × P kx.1) (enumerate_from a xs)
@@ -141,7 +141,7 @@ each_numbered P a b (x ∷ xs) h all =
     All-cons (λ kx. (kx.0 < b) × P kx.1) (a, x) (enumerate_from (a + 1) xs) (omega (arith, h), All-head P x xs all) (each_numbered P (a + 1) b xs (omega (arith, h)) (All-tail P x xs all))
 
 pub outputs_are_covers : (p : Named) → IsSound p → All (λ n. n ≢ codes "null") p.names → (spacing limit : ℕ) → limit < 2 ^ 64
-    → (first_fault p (lines_of (output p spacing limit)) ≡ None) × All (λ s. IsListedCover p s.bodies) (listed (lines_of (output p spacing limit)))
+    → (fault_in_listing p (lines_of (output p spacing limit)) ≡ None) × All (λ s. IsListedCover p s.bodies) (solutions_of (lines_of (output p spacing limit)))
 outputs_are_covers p sound none spacing limit h =
     members_are_covers p sound none (filter (λ nm. is_printed spacing nm.0) (enumerate_from 1 first))
     (All-filter (λ nm. is_printed spacing nm.0) (IsNumberedMember p) (enumerate_from 1 first)
@@ -153,13 +153,13 @@ outputs_are_covers p sound none spacing limit h =
 -- ---- what is said of an output
 
 pub wants_memory : (p : Named) (listing : List ℕ) (spacing limit : ℕ) (e : ListingFault) → IsSound p → All (λ n. n ≢ codes "null") p.names → limit < 2 ^ 64 → listing ≡ output p spacing limit
-    → IsFirstFault p (lines_of listing) e → e ≡ Memory
-wants_memory p listing spacing limit e sound none fits is first = by_fault e (subst (λ text. IsFirstFault p (lines_of text) e) is first)
+    → IsListingFault p (lines_of listing) e → e ≡ Memory
+wants_memory p listing spacing limit e sound none fits is first = by_fault e (subst (λ text. IsListingFault p (lines_of text) e) is first)
   where
-    no_fault : first_fault p (lines_of (output p spacing limit)) ≡ None
+    no_fault : fault_in_listing p (lines_of (output p spacing limit)) ≡ None
     no_fault = (outputs_are_covers p sound none spacing limit fits).0
 
-    by_fault : (e : ListingFault) → IsFirstFault p (lines_of (output p spacing limit)) e → e ≡ Memory
+    by_fault : (e : ListingFault) → IsListingFault p (lines_of (output p spacing limit)) e → e ≡ Memory
     by_fault (BadLine n) first = absurd (cc (no_fault, first))
     by_fault (UnknownOption n) first = absurd (cc (no_fault, first))
     by_fault Memory first = refl
@@ -174,4 +174,4 @@ each_yes p (s ∷ ss) (v ∷ vs) covers h =
 pub all_yes : (p : Named) (listing : List ℕ) (spacing limit : ℕ) (vs : List Verdict) → IsSound p → All (λ n. n ≢ codes "null") p.names → limit < 2 ^ 64 → listing ≡ output p spacing limit
     → AreVerdicts p (lines_of listing) vs → All (λ v. IsTrue v.cover) vs
 all_yes p listing spacing limit vs sound none fits is verdicts =
-    each_yes p (listed (lines_of (output p spacing limit))) vs (outputs_are_covers p sound none spacing limit fits).1 (subst (λ text. AreVerdicts p (lines_of text) vs) is verdicts)
+    each_yes p (solutions_of (lines_of (output p spacing limit))) vs (outputs_are_covers p sound none spacing limit fits).1 (subst (λ text. AreVerdicts p (lines_of text) vs) is verdicts)

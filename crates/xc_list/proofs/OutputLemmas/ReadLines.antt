@@ -11,7 +11,7 @@ use Rattle.xc_input.specs.Words.{has}
 use Rattle.xc_input.specs.Tokens.{at_front, is_space}
 use Rattle.xc_input.proofs.GrammarLemmas.{or-false, or-both, and-true, and-both}
 use Rattle.xc_input.specs.Words.{is_digit, value_from}
-use Rattle.xc_list.specs.Settings.{number_in}
+use Rattle.xc_list.specs.Settings.{long_number}
 use Rattle.xc_list.proofs.Digits.{some_digits}
 use Rattle.xc_list.specs.ListingLines.{words_in, are_digits, before_last, solution_number, header_number, is_word, is_closing, is_ending, body_of_words, body_of, Line, Header, Body, Other, read}
 
@@ -87,7 +87,7 @@ solution_number-decimal n h =
     let test : (list_all is_digit (decimal n) && nat_lt (value_from 0 (decimal n)) (2 ^ 64)) ≡ true =
     and-both (list_all is_digit (decimal n)) (nat_lt (value_from 0 (decimal n)) (2 ^ 64)) known.digits
     (ap (λ v. nat_lt v (2 ^ 64)) known.value ∙ lt-ltb n (2 ^ 64) h) in
-    ap (λ t. if t then number_in (decimal n) else None) short ∙ some_digits (decimal n) known.some
+    ap (λ t. if t then long_number (decimal n) else None) short ∙ some_digits (decimal n) known.some
     ∙ ap (λ t. if t then Some (value_from 0 (decimal n)) else None) test ∙ ap Some known.value
 
 pub read-header : (n : ℕ) → n < 2 ^ 64 → read (decimal n ++ codes ":") ≡ Header n
@@ -199,7 +199,7 @@ no_header [] = refl
 no_header (b ∷ line) = by_case (before_last 58 (b ∷ line))
   where
     not_digits : (front : List ℕ) → solution_number (32 ∷ front) ≡ None
-    not_digits front = elim (nat_le (length (32 ∷ front)) 20) as (λ t. (if t then number_in (32 ∷ front) else None) ≡ None) [ true ↦ refl | false ↦ refl ]
+    not_digits front = elim (nat_le (length (32 ∷ front)) 20) as (λ t. (if t then long_number (32 ∷ front) else None) ≡ None) [ true ↦ refl | false ↦ refl ]
 
     by_case : (o : Option (List ℕ)) → (elim (elim o as (λ _. Option (List ℕ)) [ None ↦ None | Some front ↦ Some (32 ∷ front) ]) as (λ _. Option ℕ) [ None ↦ None | Some text ↦ solution_number text ]) ≡ None
     by_case None = refl

@@ -3,7 +3,7 @@ use Rattle.std.specs.Prelude.{ℕ, ◌+◌, ◌-◌, ◌^◌, ◌≡◌, ◌==�
 use Rattle.std.specs.List.{AllZip}
 use Rattle.xc_list.specs.ListingLines.{Line, words_in, read}
 use Rattle.xc_list.specs.ListingLines as lines
-use Rattle.xc_list.specs.Listed.{Solution, Listing, listing_of, is_known, first_fault, first_fault_from, IsVerdictOn, AreVerdicts, IsFirstFault}
+use Rattle.xc_list.specs.Listed.{Solution, Listing, listing_of, is_known, fault_in_listing, fault_in_lines, IsVerdictOn, AreVerdicts, IsListingFault}
 use Rattle.xc_list.specs.inner.Classes.{Classes, IsClassOfBody}
 use Rattle.xc_list.specs.declared.checker.Verdict.{Verdict}
 use Rattle.xc_list.specs.declared.checker.ListingFault.{ListingFault}
@@ -42,7 +42,7 @@ pub record IsProgress (all : List (List ℕ)) (done : ℕ) (rest : List (List �
   pub verdicts : (vs : List Verdict)
       → AllZip (IsVerdictOn s.options.problem) (with_later s.open_number bodies (listing_of rest)) vs
       → AreVerdicts s.options.problem all (s.verdicts ++ vs)
-  pub no_fault : first_fault s.options.problem all ≡ first_fault_from s.options.problem done rest
+  pub no_fault : fault_in_listing s.options.problem all ≡ fault_in_lines s.options.problem done rest
 
 -- the verdict on the open solution, if there is one, stands behind the others
 abbrev pub Closes : Progress → Progress → Type 0
@@ -59,4 +59,4 @@ Takes said old new = (all : List (List ℕ)) (done : ℕ) (line : List ℕ) (res
 abbrev pub Refuses : ℕ → Line → Progress → ListingFault → Type 0
 Refuses number said s e = (all : List (List ℕ)) (done : ℕ) (line : List ℕ) (rest : List (List ℕ)) → read line ≡ said
     → number ≡ min (done + 1) (2 ^ 64 - 1) → IsProgress all done (line ∷ rest) s
-    → IsFirstFault s.options.problem all e
+    → IsListingFault s.options.problem all e

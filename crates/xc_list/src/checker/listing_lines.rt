@@ -8,7 +8,7 @@ ghost use Rattle.xc_input.specs.Tokens.{is_space};
 ghost use Rattle.xc_list.specs.ListingLines.{words_in, are_digits, before_last, solution_number, header_number, is_word, is_opening, is_closing, is_ending, body_of_words, body_of, read};
 ghost use Rattle.xc_list.specs.inner.Checking.{line_said};
 
-use crate::words::number_in;
+use crate::words::long_number;
 use bstr::ByteSlice;
 
 /// What a line is: a header with its number, a choice line with its body, or neither.
@@ -23,10 +23,8 @@ pub enum ListingLine<'a> {
 pub fn cut_first(text: &[u8], byte: u8) -> Option<(&[u8], &[u8])>
     ensures { MatchOption result (has byte text.now ≡ false) (λ p. (has byte p.0.now ≡ false) × (text.now ≡ p.0.now ++ byte ∷ p.1.now)) }
 {
-    match text.find_byte(byte) {
-        None => None,
-        Some(k) => Some((&text[..k], &text[k + 1..])),
-    }
+    let k = text.find_byte(byte)?;
+    Some((&text[..k], &text[k + 1..]))
 }
 
 /// The first line of a text, and what is left behind it.
@@ -88,7 +86,7 @@ fn solution_number(text: &[u8]) -> Option<u64>
     if 20 < text.len() {
         None
     } else {
-        number_in(text)
+        long_number(text)
     }
 }
 
@@ -164,25 +162,17 @@ fn are_words(text: &[u8]) -> bool
 fn cut_last_word(text: &[u8]) -> Option<(&[u8], &[u8])>
     ensures { MatchOption result (words_in text.now ≡ text.now ∷ []) (λ p. words_in text.now ≡ words_in p.0.now ++ p.1.now ∷ []) }
 {
-    match text.rfind_byte(b' ') {
-        None => None,
-        Some(k) => Some((&text[..k], &text[k + 1..])),
-    }
+    let k = text.rfind_byte(b' ')?;
+    Some((&text[..k], &text[k + 1..]))
 }
 
 /// What stands before the last three words of at least four.
 fn body_of_words(text: &[u8]) -> Option<&[u8]>
     ensures { option_map (λ body. words_in body.now) result ≡ body_of_words (words_in text.now) }
 {
-    let Some((front, last)) = cut_last_word(text) else {
-        return None;
-    };
-    let Some((front, middle)) = cut_last_word(front) else {
-        return None;
-    };
-    let Some((body, first)) = cut_last_word(front) else {
-        return None;
-    };
+    let (front, last) = cut_last_word(text)?;
+    let (front, middle) = cut_last_word(front)?;
+    let (body, first) = cut_last_word(front)?;
     if are_words(text) && is_ending(first, middle, last) {
         Some(body)
     } else {

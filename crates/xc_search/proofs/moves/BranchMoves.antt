@@ -13,7 +13,7 @@ use Rattle.xc_dance.specs.Moves.{listed, is_open, spends, AreLegal}
 use Rattle.xc_search.specs.Residuals.{wanted_after}
 use Rattle.xc_search.specs.inner.Residual.{residual_of}
 use Rattle.xc_dance.specs.Lists.Left.{left}
-use Rattle.xc_search.specs.inner.Commits.{opened, tweaked, after_use, after_uses, others, place_in, closed}
+use Rattle.xc_search.specs.inner.Commits.{after_spend, tweaked, after_use, after_uses, others, place_in, after_none}
 use Rattle.xc_search.specs.inner.Levels.{IsNode}
 use Rattle.xc_dance.proofs.MoveLemmas.OpenLists.{listed_open}
 use Rattle.xc_search.proofs.residual.PickedByUses.{dec, commit_uses, uses_committed, AreWanted, as_residual, still_wanted, is_wanted}
@@ -30,18 +30,18 @@ use Rattle.xc_search.proofs.listing.Numbering.{IsOption}
 
 -- ---- an option is taken
 
-ready_behind : (p : Puzzle) (u v : Use) (t : List Move) (m : ℕ) → u.item ≤ primary_count p → eqb u.item v.item ≡ false → Ready p t v → Ready p (tweaked m u.item (opened p u.item t)) v
+ready_behind : (p : Puzzle) (u v : Use) (t : List Move) (m : ℕ) → u.item ≤ primary_count p → eqb u.item v.item ≡ false → Ready p t v → Ready p (tweaked m u.item (after_spend p u.item t)) v
 ready_behind p u v t m h e r =
     let apart : eqb v.item u.item ≡ false = ne_eqb v.item u.item (λ i. let same : eqb u.item v.item ≡ true = eq-eqb u.item v.item (sym i) in cc (e, same)) in
-    let it_is : after_use p u t ≡ opened p u.item t = rw (le-leb u.item (primary_count p) h) refl in
-    let s = opened p u.item t in
+    let it_is : after_use p u t ≡ after_spend p u.item t = rw (le-leb u.item (primary_count p) h) refl in
+    let s = after_spend p u.item t in
     ready_later p s (tweaked m u.item s) v (open_tweaked v.item m u.item s) (purified_tweaked v.item m u.item s) (spends_tweaked v.item m u.item s)
     (subst (λ s. Ready p s v) it_is (ready_after p u t v apart r))
 
 pub record Taken (p : Puzzle) (t : List Move) (m i : ℕ) (x : Numbered) : Type 0 where
-  pub residual : residual_of p (after_uses p (others i x.uses) (tweaked m i (opened p i t))) ≡ pick (residual_of p t) i x
-  pub legal : AreLegal p (after_uses p (others i x.uses) (tweaked m i (opened p i t)))
-  pub wanted : AreWanted (wanted_after p (after_uses p (others i x.uses) (tweaked m i (opened p i t))))
+  pub residual : residual_of p (after_uses p (others i x.uses) (tweaked m i (after_spend p i t))) ≡ pick (residual_of p t) i x
+  pub legal : AreLegal p (after_uses p (others i x.uses) (tweaked m i (after_spend p i t)))
+  pub wanted : AreWanted (wanted_after p (after_uses p (others i x.uses) (tweaked m i (after_spend p i t))))
   pub option : IsOption p x
   pub within : place_in i x.uses < length x.uses
   pub held : holds x i ≡ true
@@ -49,11 +49,11 @@ pub record Taken (p : Puzzle) (t : List Move) (m i : ℕ) (x : Numbered) : Type 
 
 taken_at : (p : Puzzle) (t : List Move) (k m : ℕ) (x : Numbered) (u : Use) (us vs : List Use) → IsOption p x → IsNode p t u.item → slice_get (holding u.item (left p t)) k ≡ Some x →
     (high_at p u.item - spends u.item (Spend u.item ∷ t) ≢ 0 → m ≡ suc k) → m ≤ suc k → x.uses ≡ us ++ u ∷ vs →
-    (residual_of p (after_uses p (vs ++ us) (tweaked m u.item (opened p u.item t))) ≡ pick (residual_of p t) u.item x)
-    × AreLegal p (after_uses p (vs ++ us) (tweaked m u.item (opened p u.item t)))
-    × AreWanted (wanted_after p (after_uses p (vs ++ us) (tweaked m u.item (opened p u.item t))))
+    (residual_of p (after_uses p (vs ++ us) (tweaked m u.item (after_spend p u.item t))) ≡ pick (residual_of p t) u.item x)
+    × AreLegal p (after_uses p (vs ++ us) (tweaked m u.item (after_spend p u.item t)))
+    × AreWanted (wanted_after p (after_uses p (vs ++ us) (tweaked m u.item (after_spend p u.item t))))
 taken_at p t k m x u us vs option n e h le w =
-    let s = tweaked m u.item (opened p u.item t) in
+    let s = tweaked m u.item (after_spend p u.item t) in
     let within = slice_get_within (holding u.item (left p t)) k x e in
     let apart : AreApart (u ∷ vs ++ us) = apart_turned us (u ∷ vs) (subst AreApart w (apart_from_pairs x.uses option.sound.distinct)) in
     let ready : AreReady p t (u ∷ vs ++ us) = each_turned (λ u. Ready p t u) us (u ∷ vs) (subst (AreReady p t) w (ready_left p t u.item k x n.searchable.legal n.searchable.wanted option e)) in
@@ -76,9 +76,9 @@ taken p t i k m x n e h le =
     let us = take (place_in i x.uses) x.uses in
     let vs = drop (place_in i x.uses + 1) x.uses in
     let all = subst (λ j. IsNode p t j → slice_get (holding j (left p t)) k ≡ Some x → (high_at p j - spends j (Spend j ∷ t) ≢ 0 → m ≡ suc k) →
-    (residual_of p (after_uses p (vs ++ us) (tweaked m j (opened p j t))) ≡ pick (residual_of p t) j x)
-    × AreLegal p (after_uses p (vs ++ us) (tweaked m j (opened p j t)))
-    × AreWanted (wanted_after p (after_uses p (vs ++ us) (tweaked m j (opened p j t))))) pl.at
+    (residual_of p (after_uses p (vs ++ us) (tweaked m j (after_spend p j t))) ≡ pick (residual_of p t) j x)
+    × AreLegal p (after_uses p (vs ++ us) (tweaked m j (after_spend p j t)))
+    × AreWanted (wanted_after p (after_uses p (vs ++ us) (tweaked m j (after_spend p j t))))) pl.at
     (λ n e h. taken_at p t k m x pl.use_of us vs option n e h le pl.whole) n e h in
     record {
       residual = all.0;
@@ -115,35 +115,35 @@ spent_none : (p : Puzzle) (t : List Move) (i : ℕ) → none (residual_of p (Spe
 spent_none p t i = ap (λ r. none r i) (residual_spend p t i) ∙ as_residual _ _ _ _ (none_dec i (wanted_after p t)) refl
 
 pub none_taken : (p : Puzzle) (t : List Move) (i m : ℕ) → IsNode p t i → m ≤ length (holding i (left p t)) →
-    residual_of p (closed i (tweaked m i (opened p i t))) ≡ none (residual_of p t) i
+    residual_of p (after_none i (tweaked m i (after_spend p i t))) ≡ none (residual_of p t) i
 none_taken p t i m n h = by_case (eqb (high_at p i - spends i (Spend i ∷ t)) 0) refl
   where
-    by_case : (b : Bool) → eqb (high_at p i - spends i (Spend i ∷ t)) 0 ≡ b → residual_of p (closed i (tweaked m i (opened p i t))) ≡ none (residual_of p t) i
+    by_case : (b : Bool) → eqb (high_at p i - spends i (Spend i ∷ t)) 0 ≡ b → residual_of p (after_none i (tweaked m i (after_spend p i t))) ≡ none (residual_of p t) i
     by_case true c =
         let s : List Move = Cover i ∷ Spend i ∷ t in
-        let it_is : opened p i t ≡ s = rw c refl in
+        let it_is : after_spend p i t ≡ s = rw c refl in
         let same : eqb i i ≡ true = eq-eqb i i refl in
         let shut : is_open i s ≡ false = rw same refl in
         let stays_shut : is_open i (tweaked m i s) ≡ false = open_tweaked i m i s ∙ shut in
-        let as_it_was : closed i (tweaked m i s) ≡ tweaked m i s = rw stays_shut refl in
-        ap (λ s. residual_of p (closed i (tweaked m i s))) it_is
+        let as_it_was : after_none i (tweaked m i s) ≡ tweaked m i s = rw stays_shut refl in
+        ap (λ s. residual_of p (after_none i (tweaked m i s))) it_is
         ∙ ap (residual_of p) as_it_was
         ∙ as_residual _ _ _ _ (items_tweaked p m i s) (left_closed p m i s shut)
         ∙ residual_cover p (Spend i ∷ t) i ∙ spent_none p t i
     by_case false c =
         let s : List Move = Spend i ∷ t in
-        let it_is : opened p i t ≡ s = rw c refl in
+        let it_is : after_spend p i t ≡ s = rw c refl in
         let stays_open : is_open i (tweaked m i s) ≡ true = open_tweaked i m i s ∙ n.is_open in
-        let covers : closed i (tweaked m i s) ≡ Cover i ∷ tweaked m i s = rw stays_open refl in
+        let covers : after_none i (tweaked m i s) ≡ Cover i ∷ tweaked m i s = rw stays_open refl in
         let legal : AreLegal p (tweaked m i s) = subst (λ s. AreLegal p (tweaked m i s)) it_is (legal_branch p m i t n h) in
-        ap (λ s. residual_of p (closed i (tweaked m i s))) it_is
+        ap (λ s. residual_of p (after_none i (tweaked m i s))) it_is
         ∙ ap (residual_of p) covers
         ∙ residual_cover p (tweaked m i s) i
         ∙ as_residual _ _ _ _ (ap (filter (λ w. not (eqb w.item i))) (items_tweaked p m i s)) (rest_tweaked p m i s legal n.is_open (listed_open p t n.searchable.legal i n.is_open) h)
         ∙ spent_none p t i
 
-pub legal_closed : (p : Puzzle) (i : ℕ) (t : List Move) → IsItem p i → AreLegal p t → AreLegal p (closed i t)
-legal_closed p i t h l = elim (is_open i t) as (λ b. is_open i t ≡ b → AreLegal p (cond b (Cover i ∷ t) t)) [ true ↦ λ e. ((h, e), l) | false ↦ λ e. l ] refl
+pub legal_after_none : (p : Puzzle) (i : ℕ) (t : List Move) → IsItem p i → AreLegal p t → AreLegal p (after_none i t)
+legal_after_none p i t h l = elim (is_open i t) as (λ b. is_open i t ≡ b → AreLegal p (cond b (Cover i ∷ t) t)) [ true ↦ λ e. ((h, e), l) | false ↦ λ e. l ] refl
 
 pub none_wanted : (r : Residual) (i : ℕ) → AreWanted r.items → AreWanted (none r i).items
 none_wanted r i a = each-filter (λ w. is_wanted w ≡ true) (λ w. not (eqb w.item i)) r.items a

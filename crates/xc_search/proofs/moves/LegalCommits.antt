@@ -7,11 +7,11 @@ use Rattle.xc_input.specs.Problem.{Puzzle, primary_count, high_at, uses_of, numb
 use Rattle.std.specs.Prelude.{unwrap_or}
 use Rattle.xc_dance.specs.Dancing.{Dancing}
 use Rattle.xc_dance.specs.Moves.{AreLegal, is_open, spends}
-use Rattle.xc_search.specs.inner.Commits.{opened, after_use, after_uses, place_in, others}
+use Rattle.xc_search.specs.inner.Commits.{after_spend, after_use, after_uses, place_in, others}
 use Rattle.std.proofs.Math.Seq.{take-length}
 
-legal_opened : (p : Puzzle) (i : ℕ) (t : List Move) → AreLegal p (opened p i t) → AreLegal p t
-legal_opened p i t =
+legal_after_spend : (p : Puzzle) (i : ℕ) (t : List Move) → AreLegal p (after_spend p i t) → AreLegal p t
+legal_after_spend p i t =
     elim (eqb (high_at p i - spends i (Spend i ∷ t)) 0) as (λ b. AreLegal p (cond b (Cover i ∷ Spend i ∷ t) (Spend i ∷ t)) → AreLegal p t) [
       | true ↦ λ l. l.1.1
       | false ↦ λ l. l.1
@@ -19,8 +19,8 @@ legal_opened p i t =
 
 pub legal_after_use : (p : Puzzle) (u : Use) (t : List Move) → AreLegal p (after_use p u t) → AreLegal p t
 legal_after_use p u t =
-    elim (leb u.item (primary_count p)) as (λ b. AreLegal p (cond b (opened p u.item t) (cond (eqb u.colour 0) (Cover u.item ∷ t) (cond (is_open u.item t) (Purify u.item u.colour ∷ t) t))) → AreLegal p t) [
-      | true ↦ legal_opened p u.item t
+    elim (leb u.item (primary_count p)) as (λ b. AreLegal p (cond b (after_spend p u.item t) (cond (eqb u.colour 0) (Cover u.item ∷ t) (cond (is_open u.item t) (Purify u.item u.colour ∷ t) t))) → AreLegal p t) [
+      | true ↦ legal_after_spend p u.item t
       | false ↦ elim (eqb u.colour 0) as (λ b. AreLegal p (cond b (Cover u.item ∷ t) (cond (is_open u.item t) (Purify u.item u.colour ∷ t) t)) → AreLegal p t) [
         | true ↦ λ l. l.1
         | false ↦ elim (is_open u.item t) as (λ b. AreLegal p (cond b (Purify u.item u.colour ∷ t) t) → AreLegal p t) [

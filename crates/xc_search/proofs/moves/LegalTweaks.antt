@@ -12,7 +12,7 @@ use Rattle.xc_dance.specs.Moves.{listed, is_open, purified, spends, without, Are
 use Rattle.xc_search.specs.Residuals.{wanted_after}
 use Rattle.xc_search.specs.inner.Residual.{residual_of}
 use Rattle.xc_dance.specs.Lists.Left.{left}
-use Rattle.xc_search.specs.inner.Commits.{opened, tweaked}
+use Rattle.xc_search.specs.inner.Commits.{after_spend, tweaked}
 use Rattle.xc_search.specs.inner.Levels.{IsNode}
 use Rattle.xc_dance.proofs.MoveLemmas.OpenLists.{listed_open, left_rises, without_filter}
 use Rattle.xc_dance.proofs.MoveLemmas.OptionsRise.{NumbersRise-filter, NumbersRise-weaker, NumbersRise}
@@ -124,42 +124,42 @@ left_open p (suc m) i s x l o h e =
     ∙ filter_agree _ _ (λ o. cut_more (holds o i) (nat_le o.number before.0.number) (nat_le o.number x.number)
     (λ b. le-leb o.number x.number (omega (arith, leb-true o.number before.0.number b, fewer)))) (left p s))
 
--- ---- a level is opened at an open primary item
+-- ---- a level is begun at an open primary item
 
-pub listed_opened : (p : Puzzle) (i : ℕ) (t : List Move) → IsNode p t i → listed p (opened p i t) i ≡ holding i (left p t)
-listed_opened p i t n =
+pub listed_after_spend : (p : Puzzle) (i : ℕ) (t : List Move) → IsNode p t i → listed p (after_spend p i t) i ≡ holding i (left p t)
+listed_after_spend p i t n =
     elim (eqb (high_at p i - spends i (Spend i ∷ t)) 0) as (λ b. listed p (cond b (Cover i ∷ Spend i ∷ t) (Spend i ∷ t)) i ≡ holding i (left p t)) [
       | true ↦ let same : eqb i i ≡ true = eq-eqb i i refl in rw same (listed_open p t n.searchable.legal i n.is_open)
       | false ↦ listed_open p t n.searchable.legal i n.is_open
     ]
 
-purified_opened : (p : Puzzle) (i : ℕ) (t : List Move) → purified i (opened p i t) ≡ purified i t
-purified_opened p i t =
+purified_after_spend : (p : Puzzle) (i : ℕ) (t : List Move) → purified i (after_spend p i t) ≡ purified i t
+purified_after_spend p i t =
     elim (eqb (high_at p i - spends i (Spend i ∷ t)) 0) as (λ b. purified i (cond b (Cover i ∷ Spend i ∷ t) (Spend i ∷ t)) ≡ purified i t) [ true ↦ refl | false ↦ refl ]
 
-pub legal_node : (p : Puzzle) (i : ℕ) (t : List Move) → IsNode p t i → AreLegal p (opened p i t)
+pub legal_node : (p : Puzzle) (i : ℕ) (t : List Move) → IsNode p t i → AreLegal p (after_spend p i t)
 legal_node p i t n = legal_opening p i t n.searchable.legal n.item n.is_open (has_left p t i n.searchable.wanted n.item n.is_open)
 
-pub legal_branch : (p : Puzzle) (m i : ℕ) (t : List Move) → IsNode p t i → m ≤ length (holding i (left p t)) → AreLegal p (tweaked m i (opened p i t))
+pub legal_branch : (p : Puzzle) (m i : ℕ) (t : List Move) → IsNode p t i → m ≤ length (holding i (left p t)) → AreLegal p (tweaked m i (after_spend p i t))
 legal_branch p m i t n h =
     let item : IsItem p i = (n.item.0, omega (arith, n.item.1)) in
-    legal_tweaked p m i (opened p i t) (legal_node p i t n) item (purified_opened p i t ∙ primary_pure p i t n.searchable.legal n.item.1) (omega (arith, h, ap length (listed_opened p i t n)))
+    legal_tweaked p m i (after_spend p i t) (legal_node p i t n) item (purified_after_spend p i t ∙ primary_pure p i t n.searchable.legal n.item.1) (omega (arith, h, ap length (listed_after_spend p i t n)))
 
-pub listed_branch : (p : Puzzle) (m i : ℕ) (t : List Move) → IsNode p t i → listed p (tweaked m i (opened p i t)) i ≡ drop m (holding i (left p t))
-listed_branch p m i t n = listed_tweaked p m i (opened p i t) ∙ ap (drop m) (listed_opened p i t n)
+pub listed_branch : (p : Puzzle) (m i : ℕ) (t : List Move) → IsNode p t i → listed p (tweaked m i (after_spend p i t)) i ≡ drop m (holding i (left p t))
+listed_branch p m i t n = listed_tweaked p m i (after_spend p i t) ∙ ap (drop m) (listed_after_spend p i t n)
 
 -- before option x at place k of the item's list is committed for the other items
 pub branch_cut : (p : Puzzle) (u : Use) (t : List Move) (k m : ℕ) (x : Numbered) → IsNode p t u.item → slice_get (holding u.item (left p t)) k ≡ Some x →
-    (high_at p u.item - spends u.item (Spend u.item ∷ t) ≢ 0 → m ≡ suc k) → AreLegal p (tweaked k u.item (opened p u.item t)) →
-    residual_of p (tweaked m u.item (opened p u.item t)) ≡ commit_use u (cut (residual_of p t) u.item x.number)
+    (high_at p u.item - spends u.item (Spend u.item ∷ t) ≢ 0 → m ≡ suc k) → AreLegal p (tweaked k u.item (after_spend p u.item t)) →
+    residual_of p (tweaked m u.item (after_spend p u.item t)) ≡ commit_use u (cut (residual_of p t) u.item x.number)
 branch_cut p u t k m x n e h l = by_case (eqb (high_at p u.item - spends u.item (Spend u.item ∷ t)) 0) refl
   where
-    by_case : (b : Bool) → eqb (high_at p u.item - spends u.item (Spend u.item ∷ t)) 0 ≡ b → residual_of p (tweaked m u.item (opened p u.item t)) ≡ commit_use u (cut (residual_of p t) u.item x.number)
+    by_case : (b : Bool) → eqb (high_at p u.item - spends u.item (Spend u.item ∷ t)) 0 ≡ b → residual_of p (tweaked m u.item (after_spend p u.item t)) ≡ commit_use u (cut (residual_of p t) u.item x.number)
     by_case true c =
         let some_left = has_left p t u.item n.searchable.wanted n.item n.is_open in
         let not_more : nat_lt 1 (high_at p u.item - spends u.item t) ≡ false = le-ltb 1 (high_at p u.item - spends u.item t) (omega (arith, eqb-true _ _ c, spent_self u.item t)) in
         let s : List Move = Cover u.item ∷ Spend u.item ∷ t in
-        let it_is : opened p u.item t ≡ s = rw c refl in
+        let it_is : after_spend p u.item t ≡ s = rw c refl in
         let same : eqb u.item u.item ≡ true = eq-eqb u.item u.item refl in
         let closed : is_open u.item s ≡ false = rw same refl in
         let commits = opening_commits p u t n.searchable.wanted n.item n.is_open some_left in
@@ -175,7 +175,7 @@ branch_cut p u t k m x n e h l = by_case (eqb (high_at p u.item - spends u.item 
         let not_zero : high_at p u.item - spends u.item (Spend u.item ∷ t) ≢ 0 = eqb-false _ _ c in
         let is_more : nat_lt 1 (high_at p u.item - spends u.item t) ≡ true = lt-ltb 1 (high_at p u.item - spends u.item t) (omega (arith, not_zero, spent_self u.item t)) in
         let s : List Move = Spend u.item ∷ t in
-        let it_is : opened p u.item t ≡ s = rw c refl in
+        let it_is : after_spend p u.item t ≡ s = rw c refl in
         let commits = opening_commits p u t n.searchable.wanted n.item n.is_open some_left in
         let items : wanted_after p s ≡ (commit_use u (residual_of p t)).items = ap (λ (r : Residual). r.items) (ap (residual_of p) (sym it_is) ∙ commits) in
         let legal : AreLegal p (tweaked k u.item s) = subst (λ s. AreLegal p (tweaked k u.item s)) it_is l in

@@ -13,7 +13,7 @@ use Rattle.xc_dance.specs.Lists.Left.{left}
 use Rattle.xc_dance.specs.Moves.{is_open, purified, spends, open_items, AreLegal, agrees}
 use Rattle.xc_search.specs.Residuals.{wanted_at, wanted_after}
 use Rattle.xc_search.specs.inner.Residual.{residual_of}
-use Rattle.xc_search.specs.inner.Commits.{opened, after_use, after_uses}
+use Rattle.xc_search.specs.inner.Commits.{after_spend, after_use, after_uses}
 use Rattle.xc_search.proofs.residual.PickedByUses.{dec, is_wanted, commit_use, commit_uses, AreWanted, as_residual, still_wanted}
 use Rattle.xc_search.proofs.residual.EachMove.{residual_spend, residual_cover, residual_purify, residual_cover_secondary, in_range}
 use Rattle.xc_dance.proofs.MoveLemmas.LeftOptions.{left_agrees}
@@ -33,7 +33,7 @@ after_use-same : {X : Type 0} (f : List Move → X) (p : Puzzle) (u : Use) (t : 
     ((s : List Move) → f (Cover u.item ∷ s) ≡ f s) → ((s : List Move) → f (Purify u.item u.colour ∷ s) ≡ f s) → ((s : List Move) → f (Spend u.item ∷ s) ≡ f s) →
     f (after_use p u t) ≡ f t
 after_use-same f p u t a b c =
-    elim (leb u.item (primary_count p)) as (λ x. f (cond x (opened p u.item t) (cond (eqb u.colour 0) (Cover u.item ∷ t) (cond (is_open u.item t) (Purify u.item u.colour ∷ t) t))) ≡ f t) [
+    elim (leb u.item (primary_count p)) as (λ x. f (cond x (after_spend p u.item t) (cond (eqb u.colour 0) (Cover u.item ∷ t) (cond (is_open u.item t) (Purify u.item u.colour ∷ t) t))) ≡ f t) [
       | true ↦ elim (eqb (high_at p u.item - spends u.item (Spend u.item ∷ t)) 0) as (λ x. f (cond x (Cover u.item ∷ Spend u.item ∷ t) (Spend u.item ∷ t)) ≡ f t) [
         | true ↦ a (Spend u.item ∷ t) ∙ c t
         | false ↦ c t
@@ -70,7 +70,7 @@ ready_after p u t v e r = ready_later p t (after_use p u t) v (open_same p u t v
 pub spent_self : (i : ℕ) (t : List Move) → spends i (Spend i ∷ t) ≡ suc (spends i t)
 spent_self i t = let same : eqb i i ≡ true = eq-eqb i i refl in rw same (omega arith)
 
-pub legal_opening : (p : Puzzle) (i : ℕ) (t : List Move) → AreLegal p t → IsPrimary p i → is_open i t ≡ true → spends i t < high_at p i → AreLegal p (opened p i t)
+pub legal_opening : (p : Puzzle) (i : ℕ) (t : List Move) → AreLegal p t → IsPrimary p i → is_open i t ≡ true → spends i t < high_at p i → AreLegal p (after_spend p i t)
 legal_opening p i t l h o k =
     elim (eqb (high_at p i - spends i (Spend i ∷ t)) 0) as (λ x. AreLegal p (cond x (Cover i ∷ Spend i ∷ t) (Spend i ∷ t))) [
       | true ↦ (((h.0, omega (arith, h.1)), o), ((h, k), l))
@@ -159,7 +159,7 @@ pub high_of : (p : Puzzle) (t : List Move) (j : ℕ) (w : Wanted) → w ≡ want
 high_of p t j w e i = ap (λ (v : Wanted). v.high) e ∙ ap (λ k. high_at p k - spends k t) (eqb-true w.item j i)
 
 pub opening_commits : (p : Puzzle) (u : Use) (t : List Move) → AreWanted (wanted_after p t) → IsPrimary p u.item → is_open u.item t ≡ true → spends u.item t < high_at p u.item →
-    residual_of p (opened p u.item t) ≡ commit_use u (residual_of p t)
+    residual_of p (after_spend p u.item t) ≡ commit_use u (residual_of p t)
 opening_commits p u t a h o k = by_case (eqb (high_at p u.item - spends u.item (Spend u.item ∷ t)) 0) refl
   where
     by_case : (b : Bool) → eqb (high_at p u.item - spends u.item (Spend u.item ∷ t)) 0 ≡ b → residual_of p (cond (eqb (high_at p u.item - spends u.item (Spend u.item ∷ t)) 0) (Cover u.item ∷ Spend u.item ∷ t) (Spend u.item ∷ t)) ≡ commit_use u (residual_of p t)

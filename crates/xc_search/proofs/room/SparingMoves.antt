@@ -11,7 +11,7 @@ use Rattle.xc_dance.specs.Moves.{is_open, spends, open_items}
 use Rattle.xc_search.specs.Residuals.{wanted_at, wanted_after}
 use Rattle.xc_search.specs.inner.Residual.{residual_of}
 use Rattle.xc_dance.specs.Lists.Left.{left}
-use Rattle.xc_search.specs.inner.Commits.{opened, tweaked, after_use, after_uses, others, place_in, closed}
+use Rattle.xc_search.specs.inner.Commits.{after_spend, tweaked, after_use, after_uses, others, place_in, after_none}
 use Rattle.xc_search.specs.inner.Sparing.{spendings, uses_in, IsSparing}
 use Rattle.xc_input.proofs.lists.Filters.{length-filter-le}
 use Rattle.xc_search.proofs.listing.BranchesLess.{less_items, least_is_one}
@@ -25,16 +25,16 @@ pub spent_tweaked : (m i : ℕ) (s : List Move) → spendings (tweaked m i s) �
 spent_tweaked zero i s = refl
 spent_tweaked (suc m) i s = spent_tweaked m i s
 
-pub spent_opened : (p : Puzzle) (i : ℕ) (t : List Move) → spendings (opened p i t) ≡ suc (spendings t)
-spent_opened p i t = elim (eqb (high_at p i - spends i (Spend i ∷ t)) 0) as (λ b. spendings (cond b (Cover i ∷ Spend i ∷ t) (Spend i ∷ t)) ≡ suc (spendings t)) [ true ↦ refl | false ↦ refl ]
+pub spent_after_spend : (p : Puzzle) (i : ℕ) (t : List Move) → spendings (after_spend p i t) ≡ suc (spendings t)
+spent_after_spend p i t = elim (eqb (high_at p i - spends i (Spend i ∷ t)) 0) as (λ b. spendings (cond b (Cover i ∷ Spend i ∷ t) (Spend i ∷ t)) ≡ suc (spendings t)) [ true ↦ refl | false ↦ refl ]
 
-spent_closed : (i : ℕ) (t : List Move) → spendings (closed i t) ≡ spendings t
-spent_closed i t = elim (is_open i t) as (λ b. spendings (cond b (Cover i ∷ t) t) ≡ spendings t) [ true ↦ refl | false ↦ refl ]
+spent_after_none : (i : ℕ) (t : List Move) → spendings (after_none i t) ≡ spendings t
+spent_after_none i t = elim (is_open i t) as (λ b. spendings (cond b (Cover i ∷ t) t) ≡ spendings t) [ true ↦ refl | false ↦ refl ]
 
 spent_use : (p : Puzzle) (u : Use) (t : List Move) → spendings (after_use p u t) ≤ suc (spendings t)
 spent_use p u t =
-    elim (leb u.item (primary_count p)) as (λ x. spendings (cond x (opened p u.item t) (cond (eqb u.colour 0) (Cover u.item ∷ t) (cond (is_open u.item t) (Purify u.item u.colour ∷ t) t))) ≤ suc (spendings t)) [
-      | true ↦ omega (arith, spent_opened p u.item t)
+    elim (leb u.item (primary_count p)) as (λ x. spendings (cond x (after_spend p u.item t) (cond (eqb u.colour 0) (Cover u.item ∷ t) (cond (is_open u.item t) (Purify u.item u.colour ∷ t) t))) ≤ suc (spendings t)) [
+      | true ↦ omega (arith, spent_after_spend p u.item t)
       | false ↦ elim (eqb u.colour 0) as (λ x. spendings (cond x (Cover u.item ∷ t) (cond (is_open u.item t) (Purify u.item u.colour ∷ t) t)) ≤ suc (spendings t)) [
         | true ↦ omega arith
         | false ↦ elim (is_open u.item t) as (λ x. spendings (cond x (Purify u.item u.colour ∷ t) t) ≤ suc (spendings t)) [ true ↦ omega arith | false ↦ omega arith ]
@@ -80,9 +80,9 @@ pub sparing_first : (p : Puzzle) → IsSparing p []
 sparing_first p = omega (arith, uses_whole 1 p.options, length-filter-le (λ i. is_open i []) (range_with_len 1 (primary_count p)), length-range_with_len 1 (primary_count p))
 
 pub sparing_taken : (p : Puzzle) (t : List Move) (i k m : ℕ) (x : Numbered) → IsSparing p t → slice_get (holding i (left p t)) k ≡ Some x → holds x i ≡ true → place_in i x.uses < length x.uses →
-    residual_of p (after_uses p (others i x.uses) (tweaked m i (opened p i t))) ≡ pick (residual_of p t) i x → IsSparing p (after_uses p (others i x.uses) (tweaked m i (opened p i t)))
+    residual_of p (after_uses p (others i x.uses) (tweaked m i (after_spend p i t))) ≡ pick (residual_of p t) i x → IsSparing p (after_uses p (others i x.uses) (tweaked m i (after_spend p i t)))
 sparing_taken p t i k m x s e held within r =
-    let ground = tweaked m i (opened p i t) in
+    let ground = tweaked m i (after_spend p i t) in
     let u = after_uses p (others i x.uses) ground in
     let itself : leb x.number x.number ≡ true = le-leb x.number x.number (omega arith) in
     let goes : (not (holds x i && nat_le x.number x.number) && stays (residual_of p t) x x) ≡ false = rw (held, itself) refl in
@@ -93,8 +93,8 @@ sparing_taken p t i k m x s e held within r =
       s,
       spent_uses p (others i x.uses) ground,
       others_less i x.uses within,
-      spent_tweaked m i (opened p i t),
-      spent_opened p i t,
+      spent_tweaked m i (after_spend p i t),
+      spent_after_spend p i t,
       open_is p u,
       open_is p t,
       items,
@@ -105,18 +105,18 @@ sparing_taken p t i k m x s e held within r =
     )
 
 pub sparing_none : (p : Puzzle) (t : List Move) (i m : ℕ) → IsSparing p t → branch_item (residual_of p t) ≡ Some (wanted_at p t i) →
-    residual_of p (closed i (tweaked m i (opened p i t))) ≡ none (residual_of p t) i → IsSparing p (closed i (tweaked m i (opened p i t)))
+    residual_of p (after_none i (tweaked m i (after_spend p i t))) ≡ none (residual_of p t) i → IsSparing p (after_none i (tweaked m i (after_spend p i t)))
 sparing_none p t i m s b r =
-    let ground = tweaked m i (opened p i t) in
-    let u = closed i ground in
+    let ground = tweaked m i (after_spend p i t) in
+    let u = after_none i ground in
     let items : length (residual_of p u).items ≡ length (none (residual_of p t) i).items = ap (λ (r : Residual). length r.items) r in
     let options : uses_in (left p u) ≡ uses_in (none (residual_of p t) i).options = ap (λ (r : Residual). uses_in r.options) r in
     omega (
       arith,
       s,
-      spent_closed i ground,
-      spent_tweaked m i (opened p i t),
-      spent_opened p i t,
+      spent_after_none i ground,
+      spent_tweaked m i (after_spend p i t),
+      spent_after_spend p i t,
       open_is p u,
       open_is p t,
       items,
@@ -126,6 +126,6 @@ sparing_none p t i m s b r =
     )
 
 -- also while a level is open and no branch was begun
-pub sparing_opened : (p : Puzzle) (t : List Move) (i : ℕ) → IsSparing p t → branch_item (residual_of p t) ≡ Some (wanted_at p t i) → spendings (opened p i t) ≤ use_count p.options + primary_count p
-sparing_opened p t i s b =
-    omega (arith, s, spent_opened p i t, open_is p t, less_items (wanted_at p t i) (wanted_after p t) (least_is_one (branch_count (residual_of p t)) (wanted_after p t) (wanted_at p t i) b))
+pub sparing_after_spend : (p : Puzzle) (t : List Move) (i : ℕ) → IsSparing p t → branch_item (residual_of p t) ≡ Some (wanted_at p t i) → spendings (after_spend p i t) ≤ use_count p.options + primary_count p
+sparing_after_spend p t i s b =
+    omega (arith, s, spent_after_spend p i t, open_is p t, less_items (wanted_at p t i) (wanted_after p t) (least_is_one (branch_count (residual_of p t)) (wanted_after p t) (wanted_at p t i) b))

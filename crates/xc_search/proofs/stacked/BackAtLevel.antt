@@ -11,11 +11,11 @@ use Rattle.xc_dance.specs.Moves.{AreTweaks}
 use Rattle.xc_search.specs.Residuals.{wanted_at}
 use Rattle.xc_search.specs.inner.Residual.{residual_of}
 use Rattle.xc_search.specs.inner.Levels.{branches_at, members_of, IsLevelAt, IsLevel, IsShallow, AreStacked, choices_of, to_give}
-use Rattle.xc_search.specs.inner.Commits.{opened, oldest, tweaked}
+use Rattle.xc_search.specs.inner.Commits.{after_spend, oldest, tweaked}
 use Rattle.xc_search.specs.inner.Ahead.{cost, work, visits}
 use Rattle.xc_search.proofs.moves.OldestMoves.{oldest_all}
 use Rattle.xc_search.proofs.listing.BranchLists.{branches_end}
-use Rattle.xc_search.proofs.stacked.NextLevel.{ext_opened, ext_longer, length-oldest, oldest-oldest, branches_here}
+use Rattle.xc_search.proofs.stacked.NextLevel.{ext_after_spend, ext_longer, length-oldest, oldest-oldest, branches_here}
 
 pub returned : (p : Puzzle) (t : List Move) (l : Level) (ls : List Level) → AreStacked p t (l ∷ ls) →
     AreStacked p (oldest l.base t) (l ∷ ls) × (to_give p (oldest l.base t) (l ∷ ls) ≡ to_give p t (l ∷ ls)) × (visits p (oldest l.base t) (l ∷ ls) ≡ visits p t (l ∷ ls)) × (l.base ≡ length (oldest l.base t))
@@ -59,11 +59,11 @@ finished p t l ls stacked h =
 pub closing : (p : Puzzle) (t : List Move) (l : Level) → IsLevel p t l → l.base ≡ length t → (0 < l.tweaks → AreTweaks l.tweaks t) × (l.mark + l.tweaks ≤ length t)
 closing p t l is_level whole =
     let u = oldest l.mark t in
-    let s = opened p l.item u in
+    let s = after_spend p l.item u in
     let t_is : t ≡ tweaked l.tweaks l.item s = sym (ap (λ n. oldest n t) whole ∙ oldest_all t) ∙ is_level.base in
     let long : length t ≡ l.tweaks + length s = ap length t_is ∙ length-append (replicate l.tweaks (Tweak l.item)) s ∙ ap (λ n. n + length s) (length-replicate l.tweaks (Tweak l.item)) in
     let mark_is : length u ≡ l.mark = length-oldest l.mark t (omega (arith, is_level.within)) in
-    let longer = ext_longer s u (ext_opened p l.item u) in (
+    let longer = ext_longer s u (ext_after_spend p l.item u) in (
       (λ h. (h, omega (arith, long), (l.item, ap (take l.tweaks) t_is ∙ take_at (replicate l.tweaks (Tweak l.item)) s l.tweaks (length-replicate l.tweaks (Tweak l.item))))),
       omega (arith, long, longer, mark_is),
     )

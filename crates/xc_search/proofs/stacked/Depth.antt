@@ -7,11 +7,11 @@ use Rattle.xc_input.specs.Problem.{Puzzle, primary_count}
 use Rattle.xc_search.specs.Listing.{branch_item, branch_count, branches_of, size_of}
 use Rattle.xc_search.specs.Residuals.{wanted_at, wanted_after}
 use Rattle.xc_search.specs.inner.Residual.{residual_of}
-use Rattle.xc_search.specs.inner.Commits.{opened, oldest}
+use Rattle.xc_search.specs.inner.Commits.{after_spend, oldest}
 use Rattle.xc_search.specs.inner.MostLevels.{most_levels}
 use Rattle.xc_search.specs.inner.Sparing.{spendings}
 use Rattle.xc_search.specs.inner.Levels.{IsShallow, AreStacked, IsNode, IsBegun}
-use Rattle.xc_search.proofs.room.SparingMoves.{spent_opened, spent_tweaked}
+use Rattle.xc_search.proofs.room.SparingMoves.{spent_after_spend, spent_tweaked}
 use Rattle.xc_search.proofs.listing.BranchesLess.{branches_less, less_items, least_is_one}
 use Rattle.xc_input.proofs.lists.EachElement.{each_at}
 use Rattle.xc_search.proofs.stacked.NextLevel.{branches_here}
@@ -39,7 +39,7 @@ pub depth : (p : Puzzle) (t : List Move) (ls : List Level) → AreStacked p t ls
 depth p t [] s = omega arith
 depth p t (l ∷ ls) s =
     let u = oldest l.mark t in
-    omega (arith, depth p u ls s.2, spent_oldest l.base t, ap spendings s.0.base, spent_tweaked l.tweaks l.item (opened p l.item u), spent_opened p l.item u)
+    omega (arith, depth p u ls s.2, spent_oldest l.base t, ap spendings s.0.base, spent_tweaked l.tweaks l.item (after_spend p l.item u), spent_after_spend p l.item u)
 
 pub shallow_first : (p : Puzzle) → IsShallow p [] []
 shallow_first p =
@@ -65,4 +65,4 @@ some_left p t i b = omega (arith, less_items (wanted_at p t i) (wanted_after p t
 
 -- before another level is begun there is room for it
 pub depth_at : (p : Puzzle) (t : List Move) (ls : List Level) (i : ℕ) → AreStacked p t ls → IsShallow p t ls → IsNode p t i → branch_item (residual_of p t) ≡ Some (wanted_at p t i) → length ls < most_levels p
-depth_at p t ls i s h n b = omega (arith, h, some_left p t i b, depth p t ls s, spent_opened p i t, few_spendings p (opened p i t) (legal_node p i t n))
+depth_at p t ls i s h n b = omega (arith, h, some_left p t i b, depth p t ls s, spent_after_spend p i t, few_spendings p (after_spend p i t) (legal_node p i t n))

@@ -7,7 +7,7 @@ use Rattle.xc_input.specs.Problem.{Puzzle}
 use Rattle.xc_dance.specs.Dancing.{Dancing}
 use Rattle.xc_dance.specs.Moves.{AreTweaks}
 use Rattle.xc_search.specs.Residuals.{choice_after}
-use Rattle.xc_search.specs.inner.Commits.{opened, oldest}
+use Rattle.xc_search.specs.inner.Commits.{after_spend, oldest}
 use Rattle.xc_search.specs.inner.Levels.{Levels, IsNode, IsLevel, AreStacked, to_give, IsStanding, first_level, IsBegun, begun_level, newest_begun}
 use Rattle.xc_search.specs.inner.Ahead.{visits, ahead, GoesOn, IsReached}
 use Rattle.xc_search.proofs.stacked.NextLevel.{solution, descended, chosen_item, oldest-oldest}
@@ -34,14 +34,14 @@ node_at p t ls i n s e =
     record { searchable = s.searchable refl; item = c.item; is_open = c.is_open }
 
 pub deepens : (d e : Dancing) (ls ks : Levels) (i n : ℕ) (l : Level) → IsStanding d.puzzle d.trail ls.levels true → choice_after d.puzzle d.trail ≡ Some (i, n) →
-    e ≡ record d { trail = opened d.puzzle i d.trail } → l ≡ first_level d.puzzle d.trail i n → ks ≡ record ls { levels = l ∷ ls.levels } →
+    e ≡ record d { trail = after_spend d.puzzle i d.trail } → l ≡ first_level d.puzzle d.trail i n → ks ≡ record ls { levels = l ∷ ls.levels } →
     GoesOn d ls true e ks false × (visits e.puzzle e.trail ks.levels < ahead d.puzzle d.trail ls.levels true)
 deepens d e ls ks i n l s h ed el ek =
     let p = d.puzzle in
     let t = d.trail in
     let all = descended p t ls.levels i n (s.searchable refl) (s.shallow refl) (chosen_item p t i n (s.searchable refl).legal h) s.stacked in
     subst (λ (f : Dancing). GoesOn d ls true f ks false × (visits f.puzzle f.trail ks.levels < ahead p t ls.levels true)) (sym ed)
-    (subst (λ (js : Levels). GoesOn d ls true (record d { trail = opened p i t }) js false × (visits p (opened p i t) js.levels < ahead p t ls.levels true)) (sym (ek ∙ ap (λ l. record ls { levels = l ∷ ls.levels }) el)) (
+    (subst (λ (js : Levels). GoesOn d ls true (record d { trail = after_spend p i t }) js false × (visits p (after_spend p i t) js.levels < ahead p t ls.levels true)) (sym (ek ∙ ap (λ l. record ls { levels = l ∷ ls.levels }) el)) (
       record {
         still = (refl, refl);
         standing = record { stacked = all.0; searchable = λ e. cc; shallow = λ e. cc };

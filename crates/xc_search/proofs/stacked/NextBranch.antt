@@ -12,15 +12,15 @@ use Rattle.xc_dance.specs.Moves.{spends, AreLegal}
 use Rattle.xc_search.specs.Residuals.{wanted_at}
 use Rattle.xc_search.specs.inner.Residual.{residual_of}
 use Rattle.xc_search.specs.inner.Levels.{AreAllWanted, options_at, IsLevelAt, IsLevel, chosen, IsBegun}
-use Rattle.xc_search.specs.inner.Commits.{opened, oldest, tweaked, after_uses, others, closed, walks}
+use Rattle.xc_search.specs.inner.Commits.{after_spend, oldest, tweaked, after_uses, others, after_none, walks}
 use Rattle.xc_search.specs.inner.Sparing.{IsSparing}
 use Rattle.xc_search.proofs.room.SparingMoves.{sparing_taken, sparing_none}
 use Rattle.xc_input.proofs.FlatParts.{numbered_get-at}
 use Rattle.xc_search.proofs.moves.OldestMoves.{oldest_all}
 use Rattle.xc_search.proofs.listing.BranchLists.{branch_takes, branch_none}
-use Rattle.xc_search.proofs.moves.BranchMoves.{taken, none_taken, legal_closed, none_wanted}
+use Rattle.xc_search.proofs.moves.BranchMoves.{taken, none_taken, legal_after_none, none_wanted}
 use Rattle.xc_search.proofs.moves.LegalTweaks.{legal_branch}
-use Rattle.xc_search.proofs.stacked.NextLevel.{Extends, ext_trans, ext_opened, ext_uses, ext_closed, ext_oldest, ext_whole, ext_longer, length-oldest, branches_here}
+use Rattle.xc_search.proofs.stacked.NextLevel.{Extends, ext_trans, ext_after_spend, ext_uses, ext_after_none, ext_oldest, ext_whole, ext_longer, length-oldest, branches_here}
 
 ext_tweaked : (m i : ℕ) (s : List Move) → Extends (tweaked m i s) s
 ext_tweaked m i s = (replicate m (Tweak i), refl)
@@ -38,20 +38,20 @@ with_option n l m o = record { mark = l.mark; base = n; item = l.item; option = 
 
 pub begins_take : (p : Puzzle) (t : List Move) (l : Level) (x : Numbered) (m : ℕ) → IsLevel p t l → l.begun < l.count →
     slice_get (options_at p (oldest l.mark t) l.item) l.begun ≡ Some x → m ≡ cond l.walks l.tweaks (l.tweaks + 1) →
-    IsBegun p t l (after_uses p (others l.item x.uses) (tweaked m l.item (opened p l.item (oldest l.mark t)))) (with_option (length (tweaked m l.item (opened p l.item (oldest l.mark t)))) l m x.number)
+    IsBegun p t l (after_uses p (others l.item x.uses) (tweaked m l.item (after_spend p l.item (oldest l.mark t)))) (with_option (length (tweaked m l.item (after_spend p l.item (oldest l.mark t)))) l m x.number)
 begins_take p t l x m is_level more e hm = by_case l.walks refl
   where
     begins : (m ≤ suc l.begun) → (high_at p l.item - spends l.item (Spend l.item ∷ oldest l.mark t) ≢ 0 → m ≡ suc l.begun) →
         m ≡ cond l.walks 0 (min (l.begun + 1) (length (options_at p (oldest l.mark t) l.item))) →
-        IsBegun p t l (after_uses p (others l.item x.uses) (tweaked m l.item (opened p l.item (oldest l.mark t)))) (with_option (length (tweaked m l.item (opened p l.item (oldest l.mark t)))) l m x.number)
+        IsBegun p t l (after_uses p (others l.item x.uses) (tweaked m l.item (after_spend p l.item (oldest l.mark t)))) (with_option (length (tweaked m l.item (after_spend p l.item (oldest l.mark t)))) l m x.number)
     begins le h tw =
         let u = oldest l.mark t in
         let r = residual_of p u in
         let w = wanted_at p u l.item in
-        let ground = tweaked m l.item (opened p l.item u) in
+        let ground = tweaked m l.item (after_spend p l.item u) in
         let s = after_uses p (others l.item x.uses) ground in
         let took = taken p u l.item l.begun m x is_level.node e h le in
-        let ext_ground : Extends ground u = ext_trans ground (opened p l.item u) u (ext_tweaked m l.item (opened p l.item u)) (ext_opened p l.item u) in
+        let ext_ground : Extends ground u = ext_trans ground (after_spend p l.item u) u (ext_tweaked m l.item (after_spend p l.item u)) (ext_after_spend p l.item u) in
         let ext_s : Extends s ground = ext_uses p (others l.item x.uses) ground in
         let mark_is : length u ≡ l.mark = length-oldest l.mark t (omega (arith, is_level.within)) in
         let under : oldest l.mark s ≡ u = ap (λ n. oldest n s) (sym mark_is) ∙ ext_whole s u (ext_trans s ground u ext_s ext_ground) in
@@ -87,7 +87,7 @@ begins_take p t l x m is_level more e hm = by_case l.walks refl
           };
         }
 
-    by_case : (b : Bool) → l.walks ≡ b → IsBegun p t l (after_uses p (others l.item x.uses) (tweaked m l.item (opened p l.item (oldest l.mark t)))) (with_option (length (tweaked m l.item (opened p l.item (oldest l.mark t)))) l m x.number)
+    by_case : (b : Bool) → l.walks ≡ b → IsBegun p t l (after_uses p (others l.item x.uses) (tweaked m l.item (after_spend p l.item (oldest l.mark t)))) (with_option (length (tweaked m l.item (after_spend p l.item (oldest l.mark t)))) l m x.number)
     by_case true c =
         let stood : l.tweaks ≡ 0 = is_level.tweaks ∙ rw c refl in
         let m_is : m ≡ 0 = hm ∙ rw c stood in
@@ -117,20 +117,20 @@ with_none l = record { mark = l.mark; base = l.base; item = l.item; option = Non
 
 pub begins_none : (p : Puzzle) (t : List Move) (l : Level) → IsLevel p t l → l.base ≡ length t → l.begun < l.count →
     slice_get (options_at p (oldest l.mark t) l.item) l.begun ≡ None →
-    IsBegun p t l (closed l.item t) (with_none l)
+    IsBegun p t l (after_none l.item t) (with_none l)
 begins_none p t l is_level whole more e =
     let u = oldest l.mark t in
     let r = residual_of p u in
     let w = wanted_at p u l.item in
-    let s = closed l.item t in
-    let ground = tweaked l.tweaks l.item (opened p l.item u) in
+    let s = after_none l.item t in
+    let ground = tweaked l.tweaks l.item (after_spend p l.item u) in
     let t_is : t ≡ ground = sym (ap (λ n. oldest n t) whole ∙ oldest_all t) ∙ is_level.base in
     let last = branch_none r w l.begun (omega (arith, more, is_level.count)) e in
     let few : l.tweaks ≤ length (options_at p u l.item) = few_tweaks p u t l is_level in
-    let ext_s : Extends s t = ext_closed l.item t in
+    let ext_s : Extends s t = ext_after_none l.item t in
     let under : oldest l.mark s ≡ u = ext_oldest l.mark s t ext_s (omega (arith, is_level.within)) in
     let b = none_branch r l.item (branch_count r w) in
-    let left_is : residual_of p s ≡ b.next = ap (λ t. residual_of p (closed l.item t)) t_is ∙ none_taken p u l.item l.tweaks is_level.node few in
+    let left_is : residual_of p s ≡ b.next = ap (λ t. residual_of p (after_none l.item t)) t_is ∙ none_taken p u l.item l.tweaks is_level.node few in
     let item : IsItem p l.item = (is_level.node.item.0, omega (arith, is_level.node.item.1)) in
     let legal_t : AreLegal p t = subst (AreLegal p) (sym t_is) (legal_branch p l.tweaks l.item u is_level.node few) in
     let k = with_none l in
@@ -156,8 +156,8 @@ begins_none p t l is_level whole more e =
       });
       searchable = record {
         valid = is_level.node.searchable.valid;
-        legal = legal_closed p l.item t item legal_t;
+        legal = legal_after_none p l.item t item legal_t;
         wanted = subst (λ r. AreAllWanted r.items) (sym left_is) (none_wanted r l.item is_level.node.searchable.wanted);
-        sparing = subst (λ t. IsSparing p (closed l.item t)) (sym t_is) (sparing_none p u l.item l.tweaks is_level.node.searchable.sparing is_level.branch (none_taken p u l.item l.tweaks is_level.node few));
+        sparing = subst (λ t. IsSparing p (after_none l.item t)) (sym t_is) (sparing_none p u l.item l.tweaks is_level.node.searchable.sparing is_level.branch (none_taken p u l.item l.tweaks is_level.node few));
       };
     }

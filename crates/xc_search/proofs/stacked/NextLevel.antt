@@ -13,7 +13,7 @@ use Rattle.xc_dance.specs.Moves.{is_open, spends, open_items, AreLegal}
 use Rattle.xc_search.specs.Residuals.{wanted_at, wanted_after, choice_after}
 use Rattle.xc_search.specs.inner.Residual.{residual_of}
 use Rattle.xc_search.specs.inner.Levels.{branches_at, members_of, IsSearchable, IsNode, options_at, IsLevelAt, IsShallow, AreStacked, choices_of, to_give, coming, first_level}
-use Rattle.xc_search.specs.inner.Commits.{opened, oldest, after_use, after_uses, closed, walks}
+use Rattle.xc_search.specs.inner.Commits.{after_spend, oldest, after_use, after_uses, after_none, walks}
 use Rattle.xc_search.specs.inner.Ahead.{cost, work, work_level, visits, ahead}
 use Rattle.xc_input.proofs.lists.Members.{each_in}
 use Rattle.xc_search.proofs.listing.Unrolled.{listing_unrolled}
@@ -50,16 +50,16 @@ Extends s t = (ms : List Move) × (s ≡ ms ++ t)
 pub ext_trans : (r s t : List Move) → Extends r s → Extends s t → Extends r t
 ext_trans r s t a b = (a.0 ++ b.0, a.1 ∙ ap (λ x. a.0 ++ x) b.1 ∙ sym (append_assoc a.0 b.0 t))
 
-pub ext_opened : (p : Puzzle) (i : ℕ) (t : List Move) → Extends (opened p i t) t
-ext_opened p i t = elim (eqb (high_at p i - spends i (Spend i ∷ t)) 0) as (λ b. Extends (cond b (Cover i ∷ Spend i ∷ t) (Spend i ∷ t)) t) [
+pub ext_after_spend : (p : Puzzle) (i : ℕ) (t : List Move) → Extends (after_spend p i t) t
+ext_after_spend p i t = elim (eqb (high_at p i - spends i (Spend i ∷ t)) 0) as (λ b. Extends (cond b (Cover i ∷ Spend i ∷ t) (Spend i ∷ t)) t) [
   | true ↦ (Cover i ∷ Spend i ∷ [], refl)
   | false ↦ (Spend i ∷ [], refl)
 ]
 
 ext_use : (p : Puzzle) (u : Use) (t : List Move) → Extends (after_use p u t) t
 ext_use p u t =
-    elim (leb u.item (primary_count p)) as (λ x. Extends (cond x (opened p u.item t) (cond (eqb u.colour 0) (Cover u.item ∷ t) (cond (is_open u.item t) (Purify u.item u.colour ∷ t) t))) t) [
-      | true ↦ ext_opened p u.item t
+    elim (leb u.item (primary_count p)) as (λ x. Extends (cond x (after_spend p u.item t) (cond (eqb u.colour 0) (Cover u.item ∷ t) (cond (is_open u.item t) (Purify u.item u.colour ∷ t) t))) t) [
+      | true ↦ ext_after_spend p u.item t
       | false ↦ elim (eqb u.colour 0) as (λ x. Extends (cond x (Cover u.item ∷ t) (cond (is_open u.item t) (Purify u.item u.colour ∷ t) t)) t) [
         | true ↦ (Cover u.item ∷ [], refl)
         | false ↦ elim (is_open u.item t) as (λ x. Extends (cond x (Purify u.item u.colour ∷ t) t) t) [
@@ -73,8 +73,8 @@ pub ext_uses : (p : Puzzle) (us : List Use) (t : List Move) → Extends (after_u
 ext_uses p [] t = ([], refl)
 ext_uses p (u ∷ us) t = ext_trans (after_uses p us (after_use p u t)) (after_use p u t) t (ext_uses p us (after_use p u t)) (ext_use p u t)
 
-pub ext_closed : (i : ℕ) (t : List Move) → Extends (closed i t) t
-ext_closed i t = elim (is_open i t) as (λ x. Extends (cond x (Cover i ∷ t) t) t) [ true ↦ (Cover i ∷ [], refl) | false ↦ ([], refl) ]
+pub ext_after_none : (i : ℕ) (t : List Move) → Extends (after_none i t) t
+ext_after_none i t = elim (is_open i t) as (λ x. Extends (cond x (Cover i ∷ t) t) t) [ true ↦ (Cover i ∷ [], refl) | false ↦ ([], refl) ]
 
 pub ext_oldest : (n : ℕ) (s t : List Move) → Extends s t → n ≤ length t → oldest n s ≡ oldest n t
 ext_oldest n s t e h = ap (oldest n) e.1 ∙ oldest-append n e.0 t h
@@ -154,13 +154,13 @@ members_all before (b ∷ bs) =
 
 -- a level is begun
 pub descended : (p : Puzzle) (t : List Move) (ls : List Level) (i n : ℕ) → IsSearchable p t → IsShallow p t ls → Chosen p t i n → AreStacked p t ls →
-    AreStacked p (opened p i t) (first_level p t i n ∷ ls)
-    × (coming p t ls true ≡ to_give p (opened p i t) (first_level p t i n ∷ ls))
-    × (visits p (opened p i t) (first_level p t i n ∷ ls) < ahead p t ls true)
+    AreStacked p (after_spend p i t) (first_level p t i n ∷ ls)
+    × (coming p t ls true ≡ to_give p (after_spend p i t) (first_level p t i n ∷ ls))
+    × (visits p (after_spend p i t) (first_level p t i n ∷ ls) < ahead p t ls true)
 descended p t ls i n here sh c stacked =
     let f = first_level p t i n in
-    let s = opened p i t in
-    let ext = ext_opened p i t in
+    let s = after_spend p i t in
+    let ext = ext_after_spend p i t in
     let under : oldest (length t) s ≡ t = ext_whole s t ext in
     let node : IsNode p t i = record { searchable = here; item = c.item; is_open = c.is_open } in
     let no_tweaks : 0 ≡ cond (walks p t i) 0 (min 0 (length (options_at p t i))) = elim (walks p t i) as (λ b. 0 ≡ cond b 0 (min 0 (length (options_at p t i)))) [ true ↦ refl | false ↦ omega arith ] in

@@ -8,7 +8,7 @@ use Rattle.xc_search.specs.declared.level.Level.{Level}
 use Rattle.xc_input.specs.Problem.{Puzzle, Numbered, numbered_get, holds}
 use Rattle.xc_dance.specs.Moves.{listed, listed_numbers, next_above}
 use Rattle.xc_dance.specs.Lists.Left.{left}
-use Rattle.xc_search.specs.inner.Commits.{opened, oldest, tweaked}
+use Rattle.xc_search.specs.inner.Commits.{after_spend, oldest, tweaked}
 use Rattle.xc_search.specs.inner.Levels.{next_number, options_at, IsLevelAt, IsLevel}
 use Rattle.xc_search.proofs.moves.OldestMoves.{oldest_all}
 use Rattle.xc_dance.proofs.MoveLemmas.OpenLists.{left_rises}
@@ -49,7 +49,7 @@ rises_at p u i = NumbersRise-filter (λ o. holds o i) 0 (left p u) (left_rises p
 list_is : (p : Puzzle) (t : List Move) (l : Level) → IsLevel p t l → l.base ≡ length t → listed p t l.item ≡ drop l.tweaks (options_at p (oldest l.mark t) l.item)
 list_is p t l is_level whole =
     let u = oldest l.mark t in
-    let t_is : t ≡ tweaked l.tweaks l.item (opened p l.item u) = sym (ap (λ n. oldest n t) whole ∙ oldest_all t) ∙ is_level.base in
+    let t_is : t ≡ tweaked l.tweaks l.item (after_spend p l.item u) = sym (ap (λ n. oldest n t) whole ∙ oldest_all t) ∙ is_level.base in
     ap (λ t. listed p t l.item) t_is ∙ listed_branch p l.tweaks l.item u is_level.node
 
 few_begun : (p : Puzzle) (u t : List Move) (l : Level) → IsLevelAt p u t l → l.begun < l.count → l.begun ≤ length (options_at p u l.item)

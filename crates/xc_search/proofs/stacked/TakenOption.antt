@@ -12,7 +12,7 @@ use Rattle.xc_input.specs.Problem.{Puzzle, Numbered, high_at, IsItem, option_cou
 use Rattle.xc_dance.specs.Dancing.{Dancing}
 use Rattle.xc_dance.specs.Moves.{spends, AreLegal, IsLegal}
 use Rattle.xc_search.specs.inner.Levels.{options_at, IsLevel, IsBegun, next_number}
-use Rattle.xc_search.specs.inner.Commits.{opened, oldest, tweaked, after_uses, others, closed, place_in}
+use Rattle.xc_search.specs.inner.Commits.{after_spend, oldest, tweaked, after_uses, others, after_none, place_in}
 use Rattle.xc_search.proofs.moves.OldestMoves.{oldest_all}
 use Rattle.xc_search.proofs.moves.BranchMoves.{taken}
 use Rattle.xc_search.proofs.moves.LegalTweaks.{legal_branch}
@@ -24,8 +24,8 @@ record Taking (p : Puzzle) (t : List Move) (l : Level) (o m : ℕ) : Type 0 wher
   pub known : (1 ≤ o) × (o ≤ option_count p)
   pub holds : place_in l.item (uses_of p o) < length (uses_of p o)
   pub items : AllByRecursion (λ (u : Use). IsItem p u.item) (uses_of p o)
-  pub legal : AreLegal p (after_uses p (others l.item (uses_of p o)) (tweaked m l.item (opened p l.item (oldest l.mark t))))
-  pub begun : IsBegun p t l (after_uses p (others l.item (uses_of p o)) (tweaked m l.item (opened p l.item (oldest l.mark t)))) (with_option (length (tweaked m l.item (opened p l.item (oldest l.mark t)))) l m o)
+  pub legal : AreLegal p (after_uses p (others l.item (uses_of p o)) (tweaked m l.item (after_spend p l.item (oldest l.mark t))))
+  pub begun : IsBegun p t l (after_uses p (others l.item (uses_of p o)) (tweaked m l.item (after_spend p l.item (oldest l.mark t)))) (with_option (length (tweaked m l.item (after_spend p l.item (oldest l.mark t)))) l m o)
 
 taking_at : (p : Puzzle) (t : List Move) (l : Level) (x : Numbered) (m : ℕ) → IsLevel p t l → l.begun < l.count →
     slice_get (options_at p (oldest l.mark t) l.item) l.begun ≡ Some x → m ≡ cond l.walks l.tweaks (l.tweaks + 1) → Taking p t l x.number m
@@ -40,8 +40,8 @@ taking_at p t l x m is_level more e hm = by_case l.walks refl
           known = took.option.known;
           holds = subst (λ (us : List Use). place_in l.item us < length us) own took.within;
           items = subst (λ us. AllByRecursion (λ (u : Use). IsItem p u.item) us) own took.items;
-          legal = subst (λ us. AreLegal p (after_uses p (others l.item us) (tweaked m l.item (opened p l.item u)))) own took.legal;
-          begun = subst (λ us. IsBegun p t l (after_uses p (others l.item us) (tweaked m l.item (opened p l.item u))) (with_option (length (tweaked m l.item (opened p l.item u))) l m x.number)) own (begins_take p t l x m is_level more e hm);
+          legal = subst (λ us. AreLegal p (after_uses p (others l.item us) (tweaked m l.item (after_spend p l.item u)))) own took.legal;
+          begun = subst (λ us. IsBegun p t l (after_uses p (others l.item us) (tweaked m l.item (after_spend p l.item u))) (with_option (length (tweaked m l.item (after_spend p l.item u))) l m x.number)) own (begins_take p t l x m is_level more e hm);
         }
 
     by_case : (b : Bool) → l.walks ≡ b → Taking p t l x.number m
@@ -81,12 +81,12 @@ pub record TakingOn (d : Dancing) (l : Level) (o m : ℕ) (e : Dancing) : Type 0
       (f ≡ record d { trail = f.trail }) × IsBegun d.puzzle d.trail l f.trail (with_option n l m o)
 
 pub taking_on : (d e : Dancing) (l : Level) (o m : ℕ) → IsLevel d.puzzle d.trail l → l.begun < l.count → next_number d.puzzle d.trail l ≡ Some o → m ≡ cond l.walks l.tweaks (l.tweaks + 1) →
-    e ≡ record d { trail = tweaked m l.item (opened d.puzzle l.item (oldest l.mark d.trail)) } → TakingOn d l o m e
+    e ≡ record d { trail = tweaked m l.item (after_spend d.puzzle l.item (oldest l.mark d.trail)) } → TakingOn d l o m e
 taking_on d e l o m is_level more next hm stands =
     let p = d.puzzle in
     let t = d.trail in
     let all = taking p t l o m is_level more next hm in
-    let s = after_uses p (others l.item (uses_of p o)) (tweaked m l.item (opened p l.item (oldest l.mark t))) in
+    let s = after_uses p (others l.item (uses_of p o)) (tweaked m l.item (after_spend p l.item (oldest l.mark t))) in
     subst (TakingOn d l o m) (sym stands) (record {
       known = all.known;
       holds = all.holds;
@@ -98,11 +98,11 @@ taking_on d e l o m is_level more next hm stands =
           (refl, subst (λ n. IsBegun p t l s (with_option n l m o)) (sym en) all.begun);
     })
 
-pub passing : (p : Puzzle) (t : List Move) (l : Level) → IsLevel p t l → l.base ≡ length t → l.begun < l.count → next_number p t l ≡ None → IsBegun p t l (closed l.item t) (with_none l)
+pub passing : (p : Puzzle) (t : List Move) (l : Level) → IsLevel p t l → l.base ≡ length t → l.begun < l.count → next_number p t l ≡ None → IsBegun p t l (after_none l.item t) (with_none l)
 passing p t l is_level whole more e = begins_none p t l is_level whole more (no_option (slice_get (options_at p (oldest l.mark t) l.item) l.begun) e)
 
 -- the ground of a level
-pub ground_is : (p : Puzzle) (t : List Move) (l : Level) → IsLevel p t l → l.base ≡ length t → t ≡ tweaked l.tweaks l.item (opened p l.item (oldest l.mark t))
+pub ground_is : (p : Puzzle) (t : List Move) (l : Level) → IsLevel p t l → l.base ≡ length t → t ≡ tweaked l.tweaks l.item (after_spend p l.item (oldest l.mark t))
 ground_is p t l is_level whole = sym (ap (λ n. oldest n t) whole ∙ oldest_all t) ∙ is_level.base
 
 -- another tweak may be made where an option is left

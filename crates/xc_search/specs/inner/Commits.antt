@@ -17,13 +17,13 @@ abbrev pub oldest : ℕ → List Move → List Move
 oldest n t = drop (length t - n) t
 
 -- item i is spent, and covered where nothing is left of its bound
-abbrev pub opened : Puzzle → ℕ → List Move → List Move
-opened p i t = if high_at p i - spends i (Spend i ∷ t) == 0 then Cover i ∷ Spend i ∷ t else Spend i ∷ t
+abbrev pub after_spend : Puzzle → ℕ → List Move → List Move
+after_spend p i t = if high_at p i - spends i (Spend i ∷ t) == 0 then Cover i ∷ Spend i ∷ t else Spend i ∷ t
 
 -- a use of a taken option is committed
 abbrev pub after_use : Puzzle → Use → List Move → List Move
 after_use p u t =
-    if nat_le u.item (primary_count p) then opened p u.item t
+    if nat_le u.item (primary_count p) then after_spend p u.item t
     else (if u.colour == 0 then Cover u.item ∷ t
     else (if is_open u.item t then Purify u.item u.colour ∷ t else t))
 
@@ -50,5 +50,5 @@ abbrev pub tweaked : ℕ → ℕ → List Move → List Move
 tweaked k i t = replicate k (Tweak i) ++ t
 
 -- the branch of none: the item is covered where it is open
-abbrev pub closed : ℕ → List Move → List Move
-closed i t = if is_open i t then Cover i ∷ t else t
+abbrev pub after_none : ℕ → List Move → List Move
+after_none i t = if is_open i t then Cover i ∷ t else t

@@ -11,7 +11,7 @@ use Rattle.xc_dance.specs.Moves.{is_open, AreLegal}
 use Rattle.xc_search.specs.Residuals.{wanted_at, wanted_after}
 use Rattle.xc_search.specs.inner.Residual.{residual_of}
 use Rattle.xc_dance.specs.Lists.Left.{left}
-use Rattle.xc_search.specs.inner.Commits.{opened, oldest, tweaked, walks}
+use Rattle.xc_search.specs.inner.Commits.{after_spend, oldest, tweaked, walks}
 use Rattle.xc_search.specs.inner.Sparing.{IsSparing}
 
 -- What a stack stands for.
@@ -52,7 +52,7 @@ pub record IsLevelAt (p : Puzzle) (u t : List Move) (l : Level) : Type 0 where
   pub walking : l.walks ≡ walks p u l.item
   pub tweaks : l.tweaks ≡ (if l.walks then 0 else min l.begun (length (options_at p u l.item)))
   pub option : l.option ≡ option_map (λ o. o.number) (numbered_get (options_at p u l.item) l.begun)
-  pub base : oldest l.base t ≡ tweaked l.tweaks l.item (opened p l.item u)
+  pub base : oldest l.base t ≡ tweaked l.tweaks l.item (after_spend p l.item u)
 
 -- a level of the newest moves
 abbrev pub IsLevel : Puzzle → List Move → Level → Type 0
@@ -111,7 +111,7 @@ unbegun mark base i n w =
 
 -- the level that begins at item i, with n branches
 abbrev pub first_level : Puzzle → List Move → ℕ → ℕ → Level
-first_level p t i n = unbegun (length t) (length (opened p i t)) i n (walks p t i)
+first_level p t i n = unbegun (length t) (length (after_spend p i t)) i n (walks p t i)
 
 -- a level on whose moves a branch was begun
 abbrev pub begun_level : Begun → Level → Level

@@ -1,23 +1,57 @@
-use Rattle.std.proofs.Common.{◌≡◌, false, get_or, subst, ◌∙◌, ◌&&◌, sym, ap}
-use Rattle.xc_input.specs.Faults.{is_plain}
-use Rattle.xc_input.specs.inner.Stored.{key_names}
-use Rattle.xc_input.proofs.GrammarLemmas.{no-cut, and-false}
+use Rattle.std.proofs.Common.{◌∙◌, ap, sym, is_some, false}
+use Rattle.xc_input.proofs.CutTokens.{has-colour, stray, named-at}
 use Rattle.xc_input.proofs.NameLemmas.{stored-name}
-use Rattle.xc_input.proofs.OptionLemmas.{repeated, bare}
+use Rattle.xc_input.proofs.OptionLemmas.{not-here, unknown, repeated, bare, on-primary, misfit, coloured, at-some}
 use Rattle.xc_input.proofs.MarkLemmas.{mark-at}
 use Rattle.xc_input.proofs.option_line.use_of.Goals as goal
 
-pub returns-in-Some-clause-judged : goal.returns-in-Some-clause-judged
-returns-in-Some-clause-judged c = λ seen are.
-    let at = sym c.requires.known ∙ c.in-Some.is in
-    let good = stored-name (key_names c.args.names.now.keys) c.args.token.now c.in-Some.place c.requires.named at in
-    repeated c.args.kind (key_names c.args.names.now.keys) c.args.primary seen c.args.token.now (ap (λ h. is_plain c.args.kind && h) good.no_colon ∙ and-false (is_plain c.args.kind)) c.args.token.now (sym (no-cut 58 c.args.token.now good.no_colon))
-    good c.in-Some.place at _ (mark-at c.args.marks.now c.args.names.now.keys c.args.token.now seen c.in-Some.place are c.requires.marks at) c.if-marks-place.true
+pub returns-then-is_not_here-clause-judged : goal.returns-then-is_not_here-clause-judged
+returns-then-is_not_here-clause-judged c = λ names text seen all len cut are.
+    not-here c.args.kind names c.args.primary seen text (stray names text c.args.token cut c.args.kind _ _ c.is_not_here.ensures c.if-is_not_here.true)
 
-pub returns-in-Some-2-clause-judged : goal.returns-in-Some-2-clause-judged
-returns-in-Some-2-clause-judged c = λ seen are.
-    let at = sym c.requires.known ∙ c.in-Some-2.is in
-    let good = stored-name (key_names c.args.names.now.keys) c.args.token.now c.in-Some-2.place c.requires.named at in
-    let alike : c.in-Some.place ≡ c.in-Some-2.place = cc (c.in-Some.is, c.in-Some-2.is) in
-    bare c.args.kind (key_names c.args.names.now.keys) c.args.primary seen c.args.token.now (ap (λ h. is_plain c.args.kind && h) good.no_colon ∙ and-false (is_plain c.args.kind)) c.args.token.now (sym (no-cut 58 c.args.token.now good.no_colon))
-    good c.in-Some-2.place at _ (mark-at c.args.marks.now c.args.names.now.keys c.args.token.now seen c.in-Some-2.place are c.requires.marks at) (subst (λ p. get_or c.args.marks.now p false ≡ false) alike c.if-marks-place.false) good.no_colon
+pub returns-in_default-clause-judged : goal.returns-in_default-clause-judged
+returns-in_default-clause-judged c = λ names text seen all len cut are.
+    unknown c.args.kind names c.args.primary seen text (stray names text c.args.token cut c.args.kind _ _ c.is_not_here.ensures c.if-is_not_here.false) c.args.token.name.now cut.name
+    c.fault_of_unknown.result (named-at names text c.args.token cut _ c.in_default.is) c.fault_of_unknown.ensures
+
+pub returns-then-marks-place-clause-judged : goal.returns-then-marks-place-clause-judged
+returns-then-marks-place-clause-judged c = λ names text seen all len cut are.
+    let name = c.args.token.name.now in
+    let at = named-at names text c.args.token cut _ c.in-Some.is in
+    repeated c.args.kind names c.args.primary seen text (stray names text c.args.token cut c.args.kind _ _ c.is_not_here.ensures c.if-is_not_here.false) name cut.name
+    (stored-name names name c.in-Some.place all at) c.in-Some.place at _ (mark-at c.args.marks.now names name seen c.in-Some.place are len at) c.if-marks-place.true
+
+pub returns-in_default-colour-clause-judged : goal.returns-in_default-colour-clause-judged
+returns-in_default-colour-clause-judged c = λ names text seen all len cut are.
+    let name = c.args.token.name.now in
+    let at = named-at names text c.args.token cut _ c.in-Some.is in
+    bare c.args.kind names c.args.primary seen text (stray names text c.args.token cut c.args.kind _ _ c.is_not_here.ensures c.if-is_not_here.false) name cut.name
+    (stored-name names name c.in-Some.place all at) c.in-Some.place at _ (mark-at c.args.marks.now names name seen c.in-Some.place are len at) c.if-marks-place.false
+    (sym (has-colour names text c.args.token cut) ∙ ap is_some c.in_default-colour.is)
+
+pub returns-then-item-primary-clause-judged : goal.returns-then-item-primary-clause-judged
+returns-then-item-primary-clause-judged c = λ names text seen all len cut are.
+    let name = c.args.token.name.now in
+    let at = named-at names text c.args.token cut _ c.in-Some.is in
+    let back = at-some c.args.token.colour c.in-Some-colour.colour _ _ c.in-Some-colour.is cut.colour in
+    on-primary c.args.kind names c.args.primary seen text (stray names text c.args.token cut c.args.kind _ _ c.is_not_here.ensures c.if-is_not_here.false) name cut.name
+    (stored-name names name c.in-Some.place all at) c.in-Some.place at _ (mark-at c.args.marks.now names name seen c.in-Some.place are len at) c.if-marks-place.false
+    back.0 c.in-Some-colour.colour.now back.1 c.if-item-primary.true
+
+pub returns-then-is_misfit-clause-judged : goal.returns-then-is_misfit-clause-judged
+returns-then-is_misfit-clause-judged c = λ names text seen all len cut are.
+    let name = c.args.token.name.now in
+    let at = named-at names text c.args.token cut _ c.in-Some.is in
+    let back = at-some c.args.token.colour c.in-Some-colour.colour _ _ c.in-Some-colour.is cut.colour in
+    misfit c.args.kind names c.args.primary seen text (stray names text c.args.token cut c.args.kind _ _ c.is_not_here.ensures c.if-is_not_here.false) name cut.name
+    (stored-name names name c.in-Some.place all at) c.in-Some.place at _ (mark-at c.args.marks.now names name seen c.in-Some.place are len at) c.if-marks-place.false
+    back.0 c.in-Some-colour.colour.now back.1 c.if-item-primary.false (sym c.is_misfit.ensures ∙ c.if-is_misfit.true)
+
+pub returns-clause-judged : goal.returns-clause-judged
+returns-clause-judged c = λ names text seen all len cut are.
+    let name = c.args.token.name.now in
+    let at = named-at names text c.args.token cut _ c.in-Some.is in
+    let back = at-some c.args.token.colour c.in-Some-colour.colour _ _ c.in-Some-colour.is cut.colour in
+    coloured c.args.kind names c.args.primary seen text (stray names text c.args.token cut c.args.kind _ _ c.is_not_here.ensures c.if-is_not_here.false) name cut.name
+    (stored-name names name c.in-Some.place all at) c.in-Some.place at _ (mark-at c.args.marks.now names name seen c.in-Some.place are len at) c.if-marks-place.false
+    back.0 c.in-Some-colour.colour.now back.1 c.if-item-primary.false (sym c.is_misfit.ensures ∙ c.if-is_misfit.false)

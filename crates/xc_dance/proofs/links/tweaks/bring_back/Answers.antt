@@ -1,16 +1,16 @@
 use Rattle.std.proofs.Common.{arith}
 use Rattle.xc_dance.proofs.LinkedTables.Walks.{follow_here, follow_on, follow_end}
-use Rattle.xc_dance.proofs.links.tweaks.climb.Goals as goal
+use Rattle.xc_dance.proofs.links.tweaks.bring_back.Goals as goal
 
-pub climb_one-count-requires-clause-can : goal.climb_one-count-requires-clause-can
-climb_one-count-requires-clause-can c = (follow_here c.loop-test.true c.loop.invariant.walk).can
+pub bring_back_one-count-requires-clause-can : goal.bring_back_one-count-requires-clause-can
+bring_back_one-count-requires-clause-can c = (follow_here c.loop-test.true c.loop.invariant.walk).can
 
 pub down-p-requires : goal.down-p-requires
-down-p-requires c = (follow_here c.loop-test.true c.loop.invariant.walk).within _ c.climb_one-count.ensures.done
+down-p-requires c = (follow_here c.loop-test.true c.loop.invariant.walk).within _ c.bring_back_one-count.ensures.done
 
 pub loop-preserved : goal.loop-preserved
 loop-preserved c =
-    let made = c.climb_one-count.ensures in
+    let made = c.bring_back_one-count.ensures in
     record {
       walk = follow_on _ _ _ c.loop-test.true made.done c.down-p.ensures made.cost c.loop.invariant.walk;
       counted = omega arith;

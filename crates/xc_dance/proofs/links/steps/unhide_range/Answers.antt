@@ -2,10 +2,10 @@ use Rattle.std.proofs.Common.{◌-◌, reverse, arith}
 use Rattle.std.proofs.lemmas.Grind.{common_steps}
 use Rattle.xc_dance.specs.Links.Steps.{places}
 use Rattle.xc_dance.proofs.LinkedTables.Walks.{last_first, step_can, step_on}
-use Rattle.xc_dance.proofs.links.steps.show_range.Goals as goal
+use Rattle.xc_dance.proofs.links.steps.unhide_range.Goals as goal
 
-pub show_one-count-requires-clause-can : goal.show_one-count-requires-clause-can
-show_one-count-requires-clause-can c = let q = c.loop-q.q in step_can (q - 1) (reverse (places c.args.a (q - 1))) (last_first c.args.a q c.loop-q-test.true) c.loop-q.invariant.walk
+pub unhide_one-count-requires-clause-can : goal.unhide_one-count-requires-clause-can
+unhide_one-count-requires-clause-can c = let q = c.loop-q.q in step_can (q - 1) (reverse (places c.args.a (q - 1))) (last_first c.args.a q c.loop-q-test.true) c.loop-q.invariant.walk
 
 pub loop-q-preserved : goal.loop-q-preserved
 loop-q-preserved c = grind (arith, common_steps, last_first, step_on)

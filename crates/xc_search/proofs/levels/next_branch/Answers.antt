@@ -3,8 +3,8 @@ use Rattle.xc_dance.specs.Dancing.{Dancing}
 use Rattle.xc_search.specs.inner.Commits.{oldest}
 use Rattle.xc_search.specs.inner.Levels.{MayBegin}
 use Rattle.xc_search.proofs.stacked.LoopSteps.{back_at}
-use Rattle.xc_search.proofs.levels.turn.Goals as goal
-use Rattle.xc_search.proofs.levels.turn.Goals.{then-ends-2, else-ends-2}
+use Rattle.xc_search.proofs.levels.next_branch.Goals as goal
+use Rattle.xc_search.proofs.levels.next_branch.Goals.{then-ends-2, else-ends-2}
 
 pub begin-requires : goal.begin-requires
 begin-requires g c =

@@ -10,28 +10,28 @@ use Rattle.xc_input.specs.Problem.{Puzzle, item_count, uses_of}
 use Rattle.xc_dance.specs.declared.links.nodes.Nodes.{Nodes}
 use Rattle.xc_dance.specs.Fields.{Node, layout, link_place, is_in, unused, own, spacer, used}
 use Rattle.xc_dance.specs.Links.Lines.{Line}
-use Rattle.xc_dance.specs.Links.Steps.{relinked, shown, CanShow, CanShowAll, CanShowNode, others_of, show_costs}
+use Rattle.xc_dance.specs.Links.Steps.{relinked, unhidden, CanUnhide, CanUnhideAll, CanUnhideNode, others_of, unhide_costs}
 use Rattle.xc_dance.specs.Links.Cells.{fixed_up, fixed_down, top_in, nodes_from, ulink_in, dlink_in, color_in, line_of}
 use Rattle.xc_dance.specs.Links.Laid.{IsName, IsLaid, Placed}
 use Rattle.xc_dance.specs.declared.dance.Move.{Move}
 use Rattle.xc_dance.specs.Links.Span.{Span}
 use Rattle.xc_dance.specs.Moves.{is_open, AreLegal, listed_numbers}
-use Rattle.xc_dance.specs.Links.Tweaking.{shown_unless}
-use Rattle.xc_dance.specs.Links.TweaksBack.{with_ulink, climbed, climb_cost, CanClimb}
+use Rattle.xc_dance.specs.Links.Tweaking.{unhidden_unless}
+use Rattle.xc_dance.specs.Links.TweaksBack.{with_ulink, brought_back, bring_back_cost, CanBringBack}
 use Rattle.xc_dance.specs.Links.Others.{before_use, behind_use}
 use Rattle.xc_dance.specs.Links.Made.{IsFitted}
-use Rattle.xc_dance.proofs.LinkedTables.LinkColumns.{same_nodes, shown-open, shown-marked, set_link, set_top, get_item, size_from, node_cells, map_same, Stands, get_down}
+use Rattle.xc_dance.proofs.LinkedTables.LinkColumns.{same_nodes, unhidden-open, unhidden-marked, set_link, set_top, get_item, size_from, node_cells, map_same, Stands, get_down}
 use Rattle.xc_dance.proofs.LinkedTables.OneOption.{is_mark, IsApart, AllApart, changed_one, changed_all, one_other, gone_count, all_at, line_here, line_there}
 use Rattle.xc_dance.proofs.LinkedTables.Sweep.{mended, with_line, in_above, by_first, put_at-same, put_at-other, put_at, other_items}
 use Rattle.xc_dance.proofs.LinkedTables.OtherItems.{out_of, or_swap, leaves, in_others, others_apart, own_apart, item_range}
-use Rattle.xc_dance.proofs.LinkedTables.UnmarkedNodes.{costs-are, shown_color, unmarked-reverse, unmarked_items}
+use Rattle.xc_dance.proofs.LinkedTables.UnmarkedNodes.{costs-are, unhidden_color, unmarked-reverse, unmarked_items}
 use Rattle.xc_dance.proofs.LinkedTables.GoodLines.{IsMember, Named, IsGood, member, all_good, numbers_named}
 use Rattle.xc_dance.proofs.MoveLemmas.Members.{element_of}
 use Rattle.xc_dance.proofs.MoveLemmas.Shortened.{rises_listed}
 use Rattle.xc_dance.proofs.LinkedTables.MarkedNodes.{stands_in}
 use Rattle.xc_dance.proofs.LinkedTables.Leaving.{met_at}
 use Rattle.xc_dance.proofs.LinkedTables.Regained.{Regaining, NextBack, next_back}
-use Rattle.xc_dance.proofs.LinkedTables.Spacers.{others_are, can_show_node}
+use Rattle.xc_dance.proofs.LinkedTables.Spacers.{others_are, can_unhide_node}
 
 -- ---- an option comes back into the lists of some of its items, whatever state these lists are in: what a step of unhide does where its neighbours are named
 
@@ -42,13 +42,13 @@ pub record IsReturner (p : Puzzle) (j : ℕ) (l : Line) (o : ℕ) : Type 0 where
   pub below : IsName p j (l.down o)
   pub few : l.len < 2 ^ 31
 
-pub record Shown (t u : Nodes) (q : ℕ) : Type 0 where
-  pub can : CanShow t q
-  pub done : shown t q ≡ u
+pub record Unhidden (t u : Nodes) (q : ℕ) : Type 0 where
+  pub can : CanUnhide t q
+  pub done : unhidden t q ≡ u
 
-pub show_open : (p : Puzzle) (col : Node → ℕ) (ln : ℕ → Line) (j o : ℕ) → IsLaid p → 0 < j → j ≤ item_count p → 0 < o → IsReturner p j (ln j) o → is_mark p col o j ≡ false →
-    Shown (nodes_from p ln col) (nodes_from p (with_line ln j (mended (ln j) o)) col) (link_place p j o)
-show_open p col ln j o laid pos le o_pos m unmarked =
+pub unhide_open : (p : Puzzle) (col : Node → ℕ) (ln : ℕ → Line) (j o : ℕ) → IsLaid p → 0 < j → j ≤ item_count p → 0 < o → IsReturner p j (ln j) o → is_mark p col o j ≡ false →
+    Unhidden (nodes_from p ln col) (nodes_from p (with_line ln j (mended (ln j) o)) col) (link_place p j o)
+unhide_open p col ln j o laid pos le o_pos m unmarked =
     let q = link_place p j o in
     let t : Nodes = nodes_from p ln col in
     let c = node_cells p ln col j o laid pos le o_pos m.name m.above m.below in
@@ -57,15 +57,15 @@ show_open p col ln j o laid pos le o_pos m unmarked =
     let count : get_or t.top (get_or t.top q 0) 0 ≡ (ln j).len = ap (λ k. get_or t.top k 0) c.item ∙ c.len in
     record {
       can = record { size = size_from p ln col; place = c.names.place; use_of = omega (arith, item, le, laid.small); places = λ _. c.names; few = λ _. omega (arith, count, few) };
-      done = shown-open t q unmarked ∙ same_nodes (relinked t q) (nodes_from p (with_line ln j (mended (ln j) o)) col)
+      done = unhidden-open t q unmarked ∙ same_nodes (relinked t q) (nodes_from p (with_line ln j (mended (ln j) o)) col)
           (ap (λ i. set t.top i (get_or t.top i 0 + 1)) c.item ∙ ap (λ n. set t.top j (n + 1)) c.len ∙ sym (set_top p ln j (mended (ln j) o) laid pos le))
           (ap (λ k. set t.ulink k q) c.down ∙ sym (set_link p (λ k x. (ln k).up x) (fixed_up p) j ((ln j).down o) o laid c.below))
           (ap (λ k. set t.dlink k q) c.up ∙ sym (set_link p (λ k x. (ln k).down x) (fixed_down p) j ((ln j).up o) o laid c.above))
           refl;
     }
 
-pub show_marked : (p : Puzzle) (col : Node → ℕ) (ln : ℕ → Line) (j o : ℕ) → IsLaid p → 0 < j → j ≤ item_count p → 0 < o → IsName p j o → is_mark p col o j ≡ true → Shown (nodes_from p ln col) (nodes_from p ln col) (link_place p j o)
-show_marked p col ln j o laid pos le o_pos name marked =
+pub unhide_marked : (p : Puzzle) (col : Node → ℕ) (ln : ℕ → Line) (j o : ℕ) → IsLaid p → 0 < j → j ≤ item_count p → 0 < o → IsName p j o → is_mark p col o j ≡ true → Unhidden (nodes_from p ln col) (nodes_from p ln col) (link_place p j o)
+unhide_marked p col ln j o laid pos le o_pos name marked =
     let here = laid.there j o pos le name in
     let q = link_place p j o in
     let t : Nodes = nodes_from p ln col in
@@ -74,7 +74,7 @@ show_marked p col ln j o laid pos le o_pos name marked =
     let bad : get_or (map col (layout p)) q 0 ≢ 4294967295 → ⊥ = λ ne. ne (eqb-true (get_or (map col (layout p)) q 0) 4294967295 marked) in
     record {
       can = record { size = size_from p ln col; place = omega (arith, long, q_in); use_of = omega (arith, get_item p ln j o here o_pos, le, laid.small); places = λ ne. absurd (bad ne); few = λ ne. absurd (bad ne) };
-      done = shown-marked t q marked;
+      done = unhidden-marked t q marked;
     }
 
 -- ---- some items in turn
@@ -99,24 +99,24 @@ apart_in j k (i ∷ is) apart e =
       | false ↦ λ f g. apart_in j k is apart.1 g
     ] refl e
 
-pub record ShownAll (t u : Nodes) (qs : List ℕ) : Type 0 where
-  pub can : CanShowAll t qs
-  pub done : fold shown t qs ≡ u
+pub record UnhiddenAll (t u : Nodes) (qs : List ℕ) : Type 0 where
+  pub can : CanUnhideAll t qs
+  pub done : fold unhidden t qs ≡ u
 
-pub shown_walk : (p : Puzzle) (col : Node → ℕ) (ln : ℕ → Line) (o : ℕ) (js : List ℕ) → IsLaid p → 0 < o → AllApart js → ((j : ℕ) → is_in j js ≡ true → Returning p col ln o j) →
-    ShownAll (nodes_from p ln col) (nodes_from p (back_all p col o ln js) col) (map (λ j. link_place p j o) js)
-shown_walk p col ln o [] laid pos apart h = record { can = tt; done = refl }
-shown_walk p col ln o (j ∷ js) laid pos apart h =
+pub unhidden_walk : (p : Puzzle) (col : Node → ℕ) (ln : ℕ → Line) (o : ℕ) (js : List ℕ) → IsLaid p → 0 < o → AllApart js → ((j : ℕ) → is_in j js ≡ true → Returning p col ln o j) →
+    UnhiddenAll (nodes_from p ln col) (nodes_from p (back_all p col o ln js) col) (map (λ j. link_place p j o) js)
+unhidden_walk p col ln o [] laid pos apart h = record { can = tt; done = refl }
+unhidden_walk p col ln o (j ∷ js) laid pos apart h =
     let q = link_place p j o in
     let qs = map (λ j. link_place p j o) js in
     let t : Nodes = nodes_from p ln col in
     let here = h j (ap (λ b. b || is_in j js) (eq-eqb j j refl)) in
-    let first : Shown t (nodes_from p (back_one p col o ln j) col) q =
-    elim (is_mark p col o j) as (λ b. is_mark p col o j ≡ b → Shown t (nodes_from p (cond b ln (with_line ln j (mended (ln j) o))) col) q) [
-      | true ↦ λ e. show_marked p col ln j o laid here.pos here.le pos here.name e
-      | false ↦ λ e. show_open p col ln j o laid here.pos here.le pos (here.returner e) e
+    let first : Unhidden t (nodes_from p (back_one p col o ln j) col) q =
+    elim (is_mark p col o j) as (λ b. is_mark p col o j ≡ b → Unhidden t (nodes_from p (cond b ln (with_line ln j (mended (ln j) o))) col) q) [
+      | true ↦ λ e. unhide_marked p col ln j o laid here.pos here.le pos here.name e
+      | false ↦ λ e. unhide_open p col ln j o laid here.pos here.le pos (here.returner e) e
     ] refl in
-    let rest = shown_walk p col (back_one p col o ln j) o js laid pos apart.1 (λ k e.
+    let rest = unhidden_walk p col (back_one p col o ln j) o js laid pos apart.1 (λ k e.
     let r = h k (ap (λ b. eqb j k || b) e ∙ or-true (eqb j k)) in
     let same : back_one p col o ln j k ≡ ln k = one_other mended p col o ln j k (apart_in j k js apart.0 e) in
     record { pos = r.pos; le = r.le; name = r.name; returner = λ u. subst (λ (l : Line). IsReturner p k l o) (sym same) (r.returner u) }) in
@@ -160,7 +160,7 @@ to_come p t covered i j os = cond covered [] (filter (leaves p (color_in p t) i 
 abbrev pub is_below : Line → ℕ → List ℕ → Bool
 is_below l x os = list_any (λ o. eqb (l.down o) x) os
 
-pub record Climbing (p : Puzzle) (t : List Move) (covered : Bool) (i : ℕ) (ln : ℕ → Line) (os : List ℕ) : Type 0 where
+pub record BringingBack (p : Puzzle) (t : List Move) (covered : Bool) (i : ℕ) (ln : ℕ → Line) (os : List ℕ) : Type 0 where
   pub others : (j : ℕ) → 0 < j → j ≤ item_count p → j ≢ i → Regaining (line_of p t j) (ln j) (to_come p t covered i j os)
   pub few : (j : ℕ) → 0 < j → j ≤ item_count p → j ≢ i → (ln j).len + length (to_come p t covered i j os) ≡ (line_of p t j).len
   pub own_down : (x : ℕ) → (ln i).down x ≡ (line_of p t i).down x
@@ -202,14 +202,14 @@ back_writes p col covered i o = cond covered 0 (3 * gone_count p col i o)
 -- the lines when the option is back in the lists of its other items
 pub record Opened (p : Puzzle) (t : List Move) (spans : List Span) (covered : Bool) (i : ℕ) (ln : ℕ → Line) (o : ℕ) (os : List ℕ) : Type 0 where
   pub ln1 : ℕ → Line
-  pub can : covered ≡ false → (link_place p i o < length spans) × CanShowNode spans (nodes_from p ln (color_in p t)) (link_place p i o)
-  pub done : shown_unless spans covered (nodes_from p ln (color_in p t)) (link_place p i o) ≡ nodes_from p ln1 (color_in p t)
+  pub can : covered ≡ false → (link_place p i o < length spans) × CanUnhideNode spans (nodes_from p ln (color_in p t)) (link_place p i o)
+  pub done : unhidden_unless spans covered (nodes_from p ln (color_in p t)) (link_place p i o) ≡ nodes_from p ln1 (color_in p t)
   pub own : ln1 i ≡ ln i
-  pub cost : cond covered 0 (show_costs (nodes_from p ln (color_in p t)) (reverse (others_of spans (link_place p i o)))) ≡ back_writes p (color_in p t) covered i o
+  pub cost : cond covered 0 (unhide_costs (nodes_from p ln (color_in p t)) (reverse (others_of spans (link_place p i o)))) ≡ back_writes p (color_in p t) covered i o
   pub others : (j : ℕ) → 0 < j → j ≤ item_count p → j ≢ i → Regaining (line_of p t j) (ln1 j) (to_come p t covered i j os)
   pub few : (j : ℕ) → 0 < j → j ≤ item_count p → j ≢ i → (ln1 j).len + length (to_come p t covered i j os) ≡ (line_of p t j).len
 
-opened_covered : (p : Puzzle) (t : List Move) (spans : List Span) (i : ℕ) (ln : ℕ → Line) (o : ℕ) (os : List ℕ) → Climbing p t true i ln (o ∷ os) → Opened p t spans true i ln o os
+opened_covered : (p : Puzzle) (t : List Move) (spans : List Span) (i : ℕ) (ln : ℕ → Line) (o : ℕ) (os : List ℕ) → BringingBack p t true i ln (o ∷ os) → Opened p t spans true i ln o os
 opened_covered p t spans i ln o os h = grind (arith, common_steps, false≢true)
 
 apart_behind : (js ks : List ℕ) → AllApart (js ++ ks) → AllApart ks
@@ -221,7 +221,7 @@ in_behind j [] ks e = e
 in_behind j (i ∷ js) ks e = ap (λ b. eqb i j || b) (in_behind j js ks e) ∙ or-true (eqb i j)
 
 opened_open : (p : Puzzle) (t : List Move) (spans : List Span) (i : ℕ) (ln : ℕ → Line) (o : ℕ) (os : List ℕ) → AreLegal p t → IsFitted p spans → is_open i t ≡ true → 0 < o → Named p i o → is_in o (listed_numbers p t i) ≡ true
-    → Climbing p t false i ln (o ∷ os) → Opened p t spans false i ln o os
+    → BringingBack p t false i ln (o ∷ os) → Opened p t spans false i ln o os
 opened_open p t spans i ln o os legal fit opened o_pos named within h =
     let col = color_in p t in
     let laid = fit.laid in
@@ -260,9 +260,9 @@ opened_open p t spans i ln o os legal fit opened o_pos named within h =
             few = omega (arith, count, all, most);
           };
     } in
-    let w = shown_walk p col ln o back laid o_pos apart (λ j e. returning j (sym (in_reverse j js) ∙ e)) in
+    let w = unhidden_walk p col ln o back laid o_pos apart (λ j e. returning j (sym (in_reverse j js) ∙ e)) in
     let before = before_use i (uses_of p o) in
-    let mid = shown_walk p col ln o (reverse before) laid o_pos (apart_reverse before (apart_behind (behind_use i (uses_of p o)) before (others_apart p o i fit.fit)))
+    let mid = unhidden_walk p col ln o (reverse before) laid o_pos (apart_reverse before (apart_behind (behind_use i (uses_of p o)) before (others_apart p o i fit.fit)))
     (λ j e. returning j (in_behind j (behind_use i (uses_of p o)) before (sym (in_reverse j before) ∙ e))) in
     let place : ℕ → ℕ = λ j. link_place p j o in
     let ln1 : ℕ → Line = back_all p col o ln back in
@@ -273,12 +273,12 @@ opened_open p t spans i ln o os legal fit opened o_pos named within h =
       ln1 = ln1;
       can = λ e. (
         fit.spanned.within o i o_pos named,
-        can_show_node p (back_all p col o ln (reverse before)) col t0 spans o i fit.spanned o_pos named
-            (subst (CanShowAll t0) (sym (map_reverse place js)) w.can) (ap (fold shown t0) (map_reverse place before) ∙ mid.done),
+        can_unhide_node p (back_all p col o ln (reverse before)) col t0 spans o i fit.spanned o_pos named
+            (subst (CanUnhideAll t0) (sym (map_reverse place js)) w.can) (ap (fold unhidden t0) (map_reverse place before) ∙ mid.done),
       );
-      done = ap (fold shown t0) nodes ∙ w.done;
+      done = ap (fold unhidden t0) nodes ∙ w.done;
       own = at i ∙ ap (λ b. cond (b && not (is_mark p col o i)) (mended (ln i) o) (ln i)) (out_of i js (own_apart p i o fit.fit));
-      cost = grind (arith, common_steps, costs-are, others_are, shown_color, unmarked-reverse, unmarked_items);
+      cost = grind (arith, common_steps, costs-are, others_are, unhidden_color, unmarked-reverse, unmarked_items);
       others = λ j pos le ne.
           elim (leaves p col i j o) as (λ b. leaves p col i j o ≡ b → Regaining (line_of p t j) (ln1 j) (filter (leaves p col i j) os)) [
             | true ↦ λ e. subst (λ (l : Line). Regaining (line_of p t j) l (filter (leaves p col i j) os)) (sym (at j ∙ ap (λ b. cond b (mended (ln j) o) (ln j)) e)) (comes j e pos le ne).next
@@ -292,16 +292,16 @@ opened_open p t spans i ln o os legal fit opened o_pos named within h =
           ] refl;
     }
 
-pub record ClimbStep (p : Puzzle) (t : List Move) (spans : List Span) (covered : Bool) (i : ℕ) (ln : ℕ → Line) (o : ℕ) (os : List ℕ) : Type 0 where
+pub record BringBackStep (p : Puzzle) (t : List Move) (spans : List Span) (covered : Bool) (i : ℕ) (ln : ℕ → Line) (o : ℕ) (os : List ℕ) : Type 0 where
   pub ln' : ℕ → Line
-  pub can : CanClimb spans covered (nodes_from p ln (color_in p t)) (link_place p i o)
-  pub done : climbed spans covered (nodes_from p ln (color_in p t)) (link_place p i o) ≡ nodes_from p ln' (color_in p t)
-  pub climbing : Climbing p t covered i ln' os
+  pub can : CanBringBack spans covered (nodes_from p ln (color_in p t)) (link_place p i o)
+  pub done : brought_back spans covered (nodes_from p ln (color_in p t)) (link_place p i o) ≡ nodes_from p ln' (color_in p t)
+  pub bringing : BringingBack p t covered i ln' os
   pub len : (ln' i).len ≡ (ln i).len
-  pub cost : climb_cost spans covered (nodes_from p ln (color_in p t)) (link_place p i o) ≡ 1 + back_writes p (color_in p t) covered i o
+  pub cost : bring_back_cost spans covered (nodes_from p ln (color_in p t)) (link_place p i o) ≡ 1 + back_writes p (color_in p t) covered i o
 
 by_opened : (p : Puzzle) (t : List Move) (spans : List Span) (covered : Bool) (i : ℕ) (ln : ℕ → Line) (o : ℕ) (os : List ℕ) → IsFitted p spans → 0 < i → i ≤ item_count p → is_in o (listed_numbers p t i) ≡ true
-    → Climbing p t covered i ln (o ∷ os) → Opened p t spans covered i ln o os → ClimbStep p t spans covered i ln o os
+    → BringingBack p t covered i ln (o ∷ os) → Opened p t spans covered i ln o os → BringBackStep p t spans covered i ln o os
 by_opened p t spans covered i ln o os fit pos le within h m1 =
     let col = color_in p t in
     let laid = fit.laid in
@@ -327,12 +327,12 @@ by_opened p t spans covered i ln o os fit pos le within h m1 =
     record {
       ln' = ln';
       can = record {
-        show = m1.can;
+        unhide = m1.can;
         place = subst (λ (u : Nodes). x < length u.dlink) (sym m1.done) (omega (arith, x_in, down_long));
         below = subst (λ (u : Nodes). get_or u.dlink x 0 < length u.ulink) (sym m1.done) (omega (arith, d_in, up_long, leads));
       };
       done = ap (λ (u : Nodes). with_ulink u (get_or u.dlink x 0) x) m1.done ∙ ap (λ k. with_ulink t1 k x) leads ∙ raised_is p col ln1 i o laid below;
-      climbing = record {
+      bringing = record {
         others = λ j jpos jle ne. subst (λ (k : Line). Regaining (line_of p t j) k (to_come p t covered i j os)) (sym (line_there ln1 i j w ne)) (m1.others j jpos jle ne);
         few = λ j jpos jle ne. let a = m1.few j jpos jle ne in let b = ap (λ (k : Line). k.len) (line_there ln1 i j w ne) in omega (arith, a, b);
         own_down = λ y. ap (λ (k : Line). k.down y) at_i ∙ ap (λ (k : Line). k.down y) m1.own ∙ h.own_down y;
@@ -349,7 +349,7 @@ by_opened p t spans covered i ln o os fit pos le within h m1 =
       cost = ap (λ n. 1 + n) m1.cost;
     }
 
-pub climb_step : (p : Puzzle) (t : List Move) (spans : List Span) (covered : Bool) (i : ℕ) (ln : ℕ → Line) (o : ℕ) (os : List ℕ) → AreLegal p t → IsFitted p spans → 0 < i → i ≤ item_count p → is_open i t ≡ not covered → is_in o (listed_numbers p t i) ≡ true
-    → Climbing p t covered i ln (o ∷ os) → ClimbStep p t spans covered i ln o os
-climb_step p t spans true i ln o os legal fit pos le shut within h = grind (arith, common_steps, by_opened, element_of, in_above, numbers_named, opened_covered, opened_open, rises_listed)
-climb_step p t spans false i ln o os legal fit pos le opened within h = grind (arith, common_steps, by_opened, element_of, in_above, numbers_named, opened_covered, opened_open, rises_listed)
+pub bring_back_step : (p : Puzzle) (t : List Move) (spans : List Span) (covered : Bool) (i : ℕ) (ln : ℕ → Line) (o : ℕ) (os : List ℕ) → AreLegal p t → IsFitted p spans → 0 < i → i ≤ item_count p → is_open i t ≡ not covered → is_in o (listed_numbers p t i) ≡ true
+    → BringingBack p t covered i ln (o ∷ os) → BringBackStep p t spans covered i ln o os
+bring_back_step p t spans true i ln o os legal fit pos le shut within h = grind (arith, common_steps, by_opened, element_of, in_above, numbers_named, opened_covered, opened_open, rises_listed)
+bring_back_step p t spans false i ln o os legal fit pos le opened within h = grind (arith, common_steps, by_opened, element_of, in_above, numbers_named, opened_covered, opened_open, rises_listed)

@@ -1,4 +1,4 @@
--- What is said of a source once its text was read.
+-- No public clause cites this module. What is said of a source once its text was read.
 use Rattle.std.specs.Prelude.{◌≡◌, ℕ, Result, Ok, Err}
 use Rattle.xc_input.specs.Calls.{Rose}
 use Rattle.xc_tools.specs.declared.whole_text.TextError.{TextError}

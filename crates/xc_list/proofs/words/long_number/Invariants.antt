@@ -1,6 +1,6 @@
 use Rattle.std.proofs.Common.{◌≡◌, ◌<◌, ◌^◌, drop}
 use Rattle.xc_list.proofs.Digits.{digits_in}
-use Rattle.xc_list.proofs.words.number_in.Given as goal
+use Rattle.xc_list.proofs.words.long_number.Given as goal
 
 -- the digits so far have this value
 abbrev pub invariant-loop-b : goal.invariant-loop-b

@@ -1,12 +1,12 @@
 use Rattle.std.proofs.Common.{◌≡◌, ◌+◌, ◌-◌, ◌*◌, ◌≤◌, reverse}
 use Rattle.xc_dance.specs.Links.Columns.{columns}
-use Rattle.xc_dance.specs.Links.Steps.{shown, hide_cost, CanShow, places}
+use Rattle.xc_dance.specs.Links.Steps.{unhidden, hide_cost, CanUnhide, places}
 use Rattle.xc_dance.proofs.LinkedTables.Walks.{Underway}
-use Rattle.xc_dance.proofs.links.steps.show_range.Given as goal
+use Rattle.xc_dance.proofs.links.steps.unhide_range.Given as goal
 
 abbrev pub invariant-loop-q : goal.invariant-loop-q
 invariant-loop-q l = record {
-  walk : Underway shown hide_cost CanShow (columns l.initial.top l.initial.links l.color) (reverse (places l.a l.b)) (columns l.top l.links l.color) (reverse (places l.a l.q)) l.count;
+  walk : Underway unhidden hide_cost CanUnhide (columns l.initial.top l.initial.links l.color) (reverse (places l.a l.b)) (columns l.top l.links l.color) (reverse (places l.a l.q)) l.count;
   counted : l.writes.count ≡ l.initial.writes.count + l.count;
   few : l.count + 3 * (l.q - l.a) ≤ 3 * (l.b - l.a);
 }

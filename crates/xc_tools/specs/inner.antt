@@ -1,0 +1,2 @@
+-- What only contracts of private functions cite: how a whole text is read.
+pub mod WholeTexts
