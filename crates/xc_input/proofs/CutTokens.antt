@@ -1,5 +1,5 @@
 -- A token that begins with a known name is cut behind the name.
-use Rattle.std.proofs.Common.{◌≡◌, ℕ, ◌+◌, ◌-◌, ◌<◌, ◌≤◌, List, [], ◌∷◌, ◌++◌, Option, None, Some, Bool, true, false, length, get_or, take, drop, refl, ap, ap₂, ◌∙◌, sym, subst, arith, if◌then◌else◌, MatchOption, Bor, is_some, ◌&&◌}
+use Rattle.std.proofs.Common.{◌≡◌, ℕ, ◌-◌, ◌<◌, List, [], ◌∷◌, ◌++◌, Option, None, Some, Bool, true, false, length, get_or, take, drop, refl, ap, ap₂, ◌∙◌, sym, subst, arith, if◌then◌else◌, MatchOption, Bor, is_some, ◌&&◌}
 use Rattle.std.proofs.lemmas.List.{append-nil, take_all}
 use Rattle.std.specs.List.{list_any}
 use Rattle.xc_input.specs.Words.{has, before, after, place}

@@ -1,5 +1,5 @@
 -- Names of a table: they have no fault, each has one place, and what a line begins with may be one of them.
-use Rattle.std.proofs.Common.{◌≡◌, ◌≢◌, ℕ, zero, suc, ◌+◌, ◌<◌, ◌≤◌, List, [], ◌∷◌, ◌++◌, Option, None, Some, Bool, true, false, nat_eq, nat_lt, All, length, take, refl, ap, ap₂, ◌∙◌, sym, subst, arith, true≢false, length-append, if◌then◌else◌, Vec, Global, get_or}
+use Rattle.std.proofs.Common.{◌≡◌, ◌≢◌, ℕ, zero, suc, ◌<◌, List, [], ◌∷◌, ◌++◌, Option, None, Some, Bool, true, false, nat_eq, nat_lt, All, length, take, refl, ap, ap₂, ◌∙◌, sym, subst, arith, true≢false, if◌then◌else◌, Vec, Global, get_or}
 use Rattle.std.proofs.lemmas.List.Elements.{All-nil, All-cons, All-append, All-push, All-get_or}
 use Rattle.std.proofs.lemmas.List.Quantifiers.{position-Some, all_pairs_push}
 use Rattle.std.proofs.lemmas.List.Folds.{list_any_at}
@@ -17,7 +17,6 @@ use Rattle.xc_input.specs.declared.fault.FaultKind.{FaultKind}
 use Rattle.xc_input.specs.declared.kind.Kind.{Kind}
 use Rattle.xc_input.specs.Words.{place, number_in, after}
 use Rattle.xc_input.specs.Tokens.{is_space}
-use Rattle.xc_input.specs.inner.Fronts.{word, AtWhite}
 use Rattle.xc_input.specs.Sheets.{Entry}
 use Rattle.xc_input.specs.inner.Builders.{AreNames}
 use Rattle.xc_input.specs.inner.Stored.{key_names}
@@ -27,7 +26,6 @@ use Rattle.xc_input.proofs.GrammarLemmas.{name-good, or-false}
 use Rattle.xc_input.proofs.FaultLemmas.{no-place}
 use Rattle.xc_input.proofs.TokenLemmas.{not_false}
 use Rattle.xc_input.proofs.FlatParts.{slice_get-map-some}
-use Rattle.xc_input.proofs.Known.{at_place}
 
 pub stored-name : (names : List (List ℕ)) (name : List ℕ) (k : ℕ) → All IsName names → place names name ≡ Some k → IsName name
 stored-name names name k all e =

@@ -1,5 +1,5 @@
 -- Choices that can be told.
-use Rattle.std.specs.Prelude.{◌≤◌, ◌≡◌, true, IfSome, is_some}
+use Rattle.std.specs.Prelude.{◌≡◌, true, IfSome, is_some}
 use Rattle.xc_search.specs.declared.choice.Choice.{Choice}
 use Rattle.xc_input.specs.Problem.{Puzzle, IsPrimary, IsOption, uses_of, colour_in}
 

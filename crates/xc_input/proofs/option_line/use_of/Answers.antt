@@ -1,4 +1,4 @@
-use Rattle.std.proofs.Common.{◌∙◌, ap, sym, is_some, false}
+use Rattle.std.proofs.Common.{◌∙◌, ap, sym, is_some}
 use Rattle.xc_input.proofs.CutTokens.{has-colour, stray, named-at}
 use Rattle.xc_input.proofs.NameLemmas.{stored-name}
 use Rattle.xc_input.proofs.OptionLemmas.{not-here, unknown, repeated, bare, on-primary, misfit, coloured, at-some}
