@@ -296,6 +296,22 @@ def many_levels():
     return items, [], [[item] for item in items]
 
 
+@problem(2, 1, "by construction")
+def many_colours():
+    """200,000 words of eight letters in a grid of 40 by 50, as uses with colours: most of the time is reading."""
+    dice, words = Dice(3), [f"word{i}" for i in range(100)]
+    grid = [f"r{r}c{c}" for r, c in cells(40, 50)]
+
+    def options():
+        yield ["all"] + words
+        for o in range(200000):
+            at, step = dice.below(2000), 50 if dice.below(2) else 1
+            places = [grid[(at + k * step) % 2000] for k in range(8)]
+            yield [words[o % 100]] + [f"{place}:{chr(ord('A') + dice.below(26))}" for place in places]
+
+    return ["all"] + words, grid, options()
+
+
 def main():
     if len(sys.argv) < 2:
         sys.exit(__doc__)
