@@ -49,10 +49,13 @@ impl Tables {
     fn new(alloc: Global, row: &ItemLine) -> Result<Tables, AllocError>
         ensures { IfOk result (λ t. AreTablesFor row.now t) }
     {
+        let guesses = Guesses::new(alloc, &row.names)?;
+        let marks = no_marks(alloc, row.items.len())?;
+        let starts = vec![in alloc; 0]?;
         Ok(Tables {
-            guesses: Guesses::new(alloc, &row.names)?,
-            marks: no_marks(alloc, row.items.len())?,
-            starts: vec![in alloc; 0]?,
+            guesses,
+            marks,
+            starts,
         })
     }
 }
