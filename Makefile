@@ -2,13 +2,15 @@ PREFIX = /usr/local
 PROGRAMS = dlx1 dlx2 dlx3 dlxcheck
 DIST = helgrothy
 
-.PHONY: run test test-hostile test-docs all install dist
+.PHONY: run test test-mutants test-hostile test-docs all install dist
 run:
 	cd crates/dlx1 && rt run -- m1 < ../../examples/seven.dlx
 test:
 	RT_JOBS=$$(nproc) rt ci
 	@sh tests/statuses.sh
 	@sh tests/guide.sh docs/GUIDE.md
+test-mutants:
+	@sh tests/mutants.sh
 test-hostile:
 	@python3 scripts/hostile/hostile.py
 test-docs:

@@ -17,4 +17,4 @@ done
 for name; do cp -R "$top/mutants/$name" "$copy/crates/$name/must-fail"; done
 cd "$copy" && git init -q .
 rt must-fail "$@" >told 2>&1 </dev/null || true
-sh "$top/tests/clauses.sh" told "$@"
+sh "$top/tests/clauses.sh" told
