@@ -3,7 +3,8 @@ ghost use Rattle.std.specs.Prelude.{◌≡◌, ◌<◌, ◌↔◌, ◌∷◌, le
 ghost use Rattle.xc_dance.specs.Moves.{IsLegal, AreTweaks};
 
 use crate::ends::are_as_built;
-use crate::fixtures::{ALL, COLOURED, problem};
+use crate::words::ALL;
+use fixtures::{COLOURED, problem};
 use std::alloc::Global;
 use std::test::Fail;
 use xc_dance::{Count, Dance, Full, Links, Move};

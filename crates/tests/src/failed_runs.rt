@@ -1,7 +1,8 @@
 //! Whole runs whose reads, writes or flushes fail.
 ghost use Rattle.std.specs.Prelude.{None, false};
 
-use crate::fixtures::{COLOURED, COLOURED_LISTING, SEVEN, SEVEN_LISTING, gathered};
+use crate::words::gathered;
+use fixtures::{COLOURED, COLOURED_LISTING, SEVEN, SEVEN_LISTING};
 use std::alloc::Global;
 use std::test::Fail;
 use xc_input::{Feed, Kind};

@@ -1,6 +1,6 @@
 //! Verdicts.
-use crate::fixtures::{COLOURED, COLOURED_LISTING, THREE_ALIKE};
 use crate::told::judge_tells;
+use fixtures::{COLOURED, COLOURED_LISTING, THREE_ALIKE};
 use std::test::Fail;
 use xc_input::Kind;
 

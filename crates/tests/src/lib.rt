@@ -1,48 +1,22 @@
-//! The tests of the libraries. They use public calls alone, so they stand on top, where no library is
-//! proved a second time for them.
+//! Tests of listings, of the judge and of whole runs. They use public calls alone, so they stand on top,
+//! where no library is proved a second time for them.
 #![tactic(auto)]
 
 // Helpers.
 #[cfg(test)]
 mod ends;
 #[cfg(test)]
-mod fixtures;
-#[cfg(test)]
-mod keepers;
-#[cfg(test)]
 mod told;
+#[cfg(test)]
+mod words;
 
-// What is read, and what is refused.
-#[cfg(test)]
-mod failing_reads;
-#[cfg(test)]
-mod faults;
-#[cfg(test)]
-mod limits;
-#[cfg(test)]
-mod reading;
+// What is read.
 #[cfg(test)]
 mod seeds;
 
-// Moves and their undoing.
-#[cfg(test)]
-mod full;
-#[cfg(test)]
-mod inverse;
-#[cfg(test)]
-mod same;
-#[cfg(test)]
-mod tables;
-#[cfg(test)]
-mod vectors_of_links;
-
 // Searches.
 #[cfg(test)]
-mod closing;
-#[cfg(test)]
 mod counting_keeper;
-#[cfg(test)]
-mod searching;
 
 // Listings.
 #[cfg(test)]
@@ -67,7 +41,3 @@ mod refused_runs;
 mod runs;
 #[cfg(test)]
 mod streams;
-
-// Memory.
-#[cfg(test)]
-mod memory;

@@ -1,6 +1,6 @@
 //! Words, problems and listings that the judge refuses.
-use crate::fixtures::{COLOURED, COLOURED_LISTING};
 use crate::told::{judge_tells, judged_by};
+use fixtures::{COLOURED, COLOURED_LISTING};
 use std::test::Fail;
 use xc_input::Kind;
 

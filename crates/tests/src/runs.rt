@@ -1,9 +1,9 @@
 //! Whole runs of a solver, whose listings the judge finds right.
-use crate::fixtures::{
+use crate::told::solve_tells;
+use fixtures::{
     ALONE, ALONE_LISTING, COLOURED, COLOURED_LISTING, SEVEN, SEVEN_LISTING, THREE_ALIKE,
     THREE_LISTING, TWICE, TWICE_LISTING,
 };
-use crate::told::solve_tells;
 use std::test::Fail;
 use xc_input::Kind;
 

@@ -1,7 +1,7 @@
 //! The seed that hashes names: what is read is the same by each.
-use crate::fixtures::{SEVEN, gathered, read};
-use crate::reading::has_option;
 use crate::told::{solved, status_by};
+use crate::words::gathered;
+use fixtures::{SEVEN, has_option, read};
 use std::test::Fail;
 use xc_input::{Feed, Kind, ReadFailed, Reader, Seed, Source, read_problem};
 use xc_list::Tray;

@@ -1,7 +1,7 @@
 //! What whole runs tell.
 ghost use Rattle.std.specs.Prelude.{◌<◌};
 
-use crate::fixtures::gathered;
+use crate::words::gathered;
 use std::alloc::Global;
 use std::test::Fail;
 use xc_input::{Feed, Kind, Seed};
