@@ -14,22 +14,26 @@ mod direct;
 mod incoming;
 mod judging;
 mod messages;
+mod named_file;
 mod outgoing;
 mod seeding;
 mod solving;
 mod status;
+mod system;
 mod whole_text;
 
 pub use arguments::{named_file, words};
 pub use closed_streams::closed_stream;
 pub use direct::Direct;
 pub use incoming::Incoming;
-pub use judging::judge;
+pub use judging::{asked_kind, judge};
 pub use messages::{input_error, listing_fault};
+pub use named_file::NamedFile;
 pub use outgoing::Outgoing;
 pub use seeding::random_seed;
 pub use solving::solve;
 pub use status::out_of_memory;
+pub use system::{Answer, System, SystemReader, SystemWriter};
 
 #[cfg(test)]
 mod tests;
