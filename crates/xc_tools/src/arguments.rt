@@ -2,7 +2,7 @@
 ghost use Rattle.std.specs.Prelude.{◌≡◌, [], None};
 
 use crate::incoming::Incoming;
-use crate::named_file::NamedFile;
+use crate::lazy_file::NamedFile;
 use crate::system::System;
 use std::alloc::{AllocError, AllocGlobal};
 use std::env::{Env, FillError};
@@ -56,6 +56,8 @@ pub fn named_file<'a, R: Files>(
     ensures missing { words.now ≡ [] → result.reader ≡ None }
     ensures seed { result.seed ≡ seed }
 {
-    let path = words.first().and_then(|word| str::from_utf8(word).ok());
-    Incoming::new(path.map(|path| NamedFile::new(rt, path)), seed)
+    match words.first().and_then(|word| str::from_utf8(word).ok()) {
+        Some(path) => Incoming::new(Some(NamedFile::new(rt, path)), seed),
+        None => Incoming::new(None, seed),
+    }
 }

@@ -94,10 +94,7 @@ impl<W: SystemWriter + Drop> Sink for Direct<W> {
             W.asked self.new.writer ≡ answered (flush_answer result) (W.asked self.old.writer) }
         ensures closed { 0 < self.old.failures → IsErr result × (self.new.writer ≡ self.old.writer) }
     {
-        if self.failures > 0 {
-            return Err(self.fail());
-        }
-        if self.writer.flush().is_err() {
+        if self.failures > 0 || self.writer.flush().is_err() {
             return Err(self.fail());
         }
         self.failed = false;

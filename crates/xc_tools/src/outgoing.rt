@@ -1,5 +1,5 @@
 //! The system's writers as sinks that hold some bytes back.
-ghost use Rattle.std.specs.Prelude.{◌≡◌, ◌+◌, ◌-◌, ◌^◌, ◌<◌, ◌≤◌, ◌⊎◌, ◌&&◌, true, false, length, nat_eq, is_err, IfOk, IfSome, IsErr, IsTrue, OnErr, OnOk, MatchResult, [], take, drop};
+ghost use Rattle.std.specs.Prelude.{◌≡◌, ◌+◌, ◌-◌, ◌^◌, ◌<◌, ◌≤◌, ◌⊎◌, ◌↔◌, ◌&&◌, cond, true, false, length, nat_eq, is_err, IfOk, IsErr, IsTrue, OnErr, OnOk, MatchResult, [], take};
 ghost use Rattle.std.specs.Io.KnownBytes.{append_known, Appends, Keeps, WriteAppends};
 ghost use Rattle.xc_input.specs.Calls.{counted, is_failed_write};
 ghost use Rattle.xc_tools.specs.Streams.{AskedAtMostOnce, BrokeLast, FlushedLast, answered, ends_line, early, is_flushed, IsLittle, passed_of};
@@ -54,12 +54,13 @@ fn pass_on<W: SystemWriter>(writer: &mut W, bytes: &[u8]) -> usize
     place
 }
 
-/// How many bytes have to be held back for a line's end to pass them on, where so many were passed on
-/// before.
-fn early(by_line: bool, passed: usize) -> usize
-    ensures { result ≡ early by_line passed }
+/// A text shorter than this is held back whatever it ends with, where so many bytes were passed on and so
+/// many are held back.
+fn calm_behind(by_line: bool, passed: usize, held: usize) -> usize
+    ensures { result ≡ early by_line passed - held }
 {
-    if by_line { 0 } else { ROOM.min(passed / 8) }
+    let early = if by_line { 0 } else { ROOM.min(passed / 8) };
+    early.saturating_sub(held)
 }
 
 impl<W: Write + Drop> Outgoing<System<W>> {
@@ -114,23 +115,25 @@ impl<W: SystemWriter + Drop> Outgoing<W> {
         WriteFailed
     }
 
-    /// Lets go of what was passed on.
-    fn let_go(&mut self, passed: usize)
-        requires { passed ≤ length self.old.held }
-        ensures writer { self.new.writer ≡ self.old.writer }
-        ensures held { self.new.held ≡ drop passed self.old.held }
+    /// Passes on what is held back, as far as that goes, and says whether that was all.
+    fn pass_all(&mut self) -> bool
+        requires open { self.old.failures ≡ 0 }
+        ensures all { IsTrue result ↔ (self.new.held ≡ []) }
+        ensures asked { cond result
+            ((W.asked self.new.writer).failures ≡ (W.asked self.old.writer).failures)
+            (BrokeLast (W.asked self.old.writer) (W.asked self.new.writer)) }
         ensures by_line { self.new.by_line ≡ self.old.by_line }
         ensures passed { self.new.passed ≡ passed_of self.old.passed (length self.old.held) (length self.new.held) }
         ensures failures { self.new.failures ≡ self.old.failures }
-        ensures failed { self.new.failed ≡ self.old.failed }
+        ensures bytes { Keeps
+            (append_known (W.contents self.old.writer) self.old.held)
+            (append_known (W.contents self.new.writer) self.new.held) }
     {
+        let passed = pass_on(&mut self.writer, self.held.as_slice());
         self.held.remove_front(passed);
         self.passed = self.passed.saturating_add(passed);
-        self.calm = if self.failures > 0 {
-            0
-        } else {
-            early(self.by_line, self.passed).saturating_sub(self.held.len())
-        };
+        self.calm = calm_behind(self.by_line, self.passed, self.held.len());
+        self.held.len() == 0
     }
 
     /// Holds back bytes for which there is room.
@@ -183,7 +186,7 @@ impl<W: SystemWriter + Drop> Outgoing<W> {
             Ok(passed) if passed > 0 => {
                 self.held.remove_front(passed);
                 self.passed = self.passed.saturating_add(passed);
-                self.calm = early(self.by_line, self.passed).saturating_sub(self.held.len());
+                self.calm = calm_behind(self.by_line, self.passed, self.held.len());
                 self.failed = false;
                 Ok(())
             }
@@ -288,12 +291,7 @@ impl<W: SystemWriter + Drop> Sink for Outgoing<W> {
         ensures by_line { self.new.by_line ≡ self.old.by_line }
         ensures passed { self.new.passed ≡ passed_of self.old.passed (length self.old.held) (length self.new.held) }
     {
-        if self.failures > 0 {
-            return Err(self.fail());
-        }
-        let passed = pass_on(&mut self.writer, self.held.as_slice());
-        self.let_go(passed);
-        if self.held.len() > 0 || self.writer.flush().is_err() {
+        if self.failures > 0 || !self.pass_all() || self.writer.flush().is_err() {
             return Err(self.fail());
         }
         self.failed = false;

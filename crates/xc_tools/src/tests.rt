@@ -2,6 +2,7 @@ ghost use Rattle.std.specs.Prelude.{◌<◌};
 
 mod judged;
 mod streams;
+mod system_calls;
 
 use crate::{Incoming, solve};
 use std::alloc::Global;
