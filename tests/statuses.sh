@@ -5,12 +5,12 @@
 cd "$(dirname "$0")/.." || exit 1
 differ=0
 
-# expect STATUS PROGRAM WORD..: a run over standard input
+# expect STATUS PROGRAM WORD..: a run over standard input, of a minute at most
 expect() {
     wanted=$1
     program=crates/$2/out/$2
     shift 2
-    "$program" "$@" >/dev/null 2>&1
+    timeout 60 "$program" "$@" >/dev/null 2>&1
     status=$?
     if [ "$status" != "$wanted" ]; then
         echo "$program $*: status $status, not $wanted"
@@ -35,4 +35,10 @@ expect 1 dlx2 m </dev/null
 expect 1 dlx3 v1 </dev/null
 expect 3 dlxcheck missing.dlx </dev/null
 expect 1 dlxcheck missing.dlx 4 </dev/null
+expect 1 dlxcheck missing.dlx 4 <&-
+expect 3 dlxcheck missing.dlx <&-
+folder=$(mktemp -d) && mkfifo "$folder/fifo" || exit 1
+expect 1 dlxcheck "$folder/fifo" 4 </dev/null
+expect 3 dlxcheck "$folder/fifo" <&-
+rm -r "$folder"
 exit $differ

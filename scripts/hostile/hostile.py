@@ -1,9 +1,11 @@
 #!/usr/bin/env python3
-"""hostile.py [DIR]: tries the built programs on want of memory, on streams that fail and on input made to hurt.
+"""hostile.py [DIR]: tries the built programs on want of memory, on calls and streams that fail and on input made to hurt.
 
 DIR holds dlx1, dlx2, dlx3 and dlxcheck; without it they are taken from where `make test` leaves them. Each try that
-goes wrong is told in a line. The last line is `N passed, M failed`. Needs cc for the parts that refuse memory.
+goes wrong is told in a line. The last line is `N passed, M failed`. Needs cc for the parts that refuse memory and let calls fail.
 """
+import errno
+import fcntl
 import os
 import random
 import select
@@ -92,6 +94,105 @@ def want_of_memory(folder):
             it.write(text)
         listing = run(words, text)[1]
         refused_in_turn(f"the judge on {name}", shim, ["dlxcheck", file, "2"], listing)
+
+
+# ---- calls that fail
+
+ERRORS = (errno.EIO, errno.EAGAIN, errno.EINTR, errno.ENOSPC)
+
+
+def calls_of(shim, name, fail_at, error, words, text, **how):
+    """Runs a program whose read or write of this number fails. Returns what `run` does, and its calls: asked and given."""
+    with tempfile.TemporaryFile() as told:
+        number = told.fileno()
+        env = {**os.environ, "LD_PRELOAD": shim, "FAIL": name, "FAIL_AT": str(fail_at), "FAIL_ERROR": str(error), "FAIL_FD": str(number)}
+        done = subprocess.run([path(words[0]), *words[1:]], input=text, stderr=subprocess.PIPE, env=env, pass_fds=[number], timeout=60, **how)
+        told.seek(0)
+        calls = [tuple(map(int, line.split())) for line in told.read().splitlines()]
+    return done.returncode, done.stdout, done.stderr, calls
+
+
+def failed_at(listing, calls):
+    """The messages that may be told of a write that failed: the one of the solution whose text was written then, and
+    where no more text was to come that of a flush."""
+    end = sum(given for _, given in calls[:-1]) + calls[-1][0]
+    solutions = [line for line in listing[:end].splitlines() if not line.startswith(b" ")]
+    may_flush = [b"Write failed.\n"] if end == len(listing) else []
+    return [b"Write failed at solution " + solutions[-1].rstrip(b":") + b".\n"] + may_flush
+
+
+def each_write_fails(shim, folder):
+    """Each write to standard output fails in turn, once: it is told, the status is 3, and none is made after it."""
+    plain = b"A B\n" + b"A\n" * 20 + b"B\n" * 20
+    file = f"{folder}/writes.dlx"
+    with open(file, "wb") as it:
+        it.write(plain)
+    listing = run(["dlx1", "m1"], plain)[1]
+    for words, text in (
+        (["dlx1", "m1"], plain),
+        (["dlx2", "m1"], plain.replace(b"A B\n", b"A B | x\n", 1)),
+        (["dlx3", "m1"], plain.replace(b"A B\n", b"1:2|A 1:1|B\n", 1)),
+        (["dlxcheck", file, "1"], listing),
+    ):
+        usual = calls_of(shim, "write", 0, 0, words, text, stdout=subprocess.PIPE)
+        tell(usual[:3] == run(words, text) and len(usual[3]) > 20, f"{words[0]}: {len(usual[3])} writes without a failure")
+        for n in range(1, len(usual[3]) + 1):
+            status, out, err, calls = calls_of(shim, "write", n, ERRORS[n % len(ERRORS)], words, text, stdout=subprocess.PIPE)
+            wanted = [b"Write failed.\n"] if words[0] == "dlxcheck" else failed_at(usual[1], calls)
+            is_right = status == 3 and err in wanted and usual[1].startswith(out) and len(calls) == n and calls[-1][1] == -1
+            tell(is_right, f"{words[0]}, write {n} fails: {status}, {len(out)} bytes, {err[:80]!r}, {len(calls)} calls")
+
+
+def each_read_fails(shim, folder):
+    """Each read of standard input fails in turn, once: it is told, the status is 3, and none is made after it."""
+    text = thousand()
+    file = f"{folder}/reads.dlx"
+    with open(file, "wb") as it:
+        it.write(text)
+    for words, given in ((["dlx1"], b"A\n" * 100000), (["dlx2", "t1"], text), (["dlx3", "t1"], text), (["dlxcheck", file, "2"], b"1:\n" * 100000)):
+        reads = len(calls_of(shim, "read", 0, 0, words, given, stdout=subprocess.PIPE)[3])
+        for n in range(1, reads + 1):
+            status, out, err, calls = calls_of(shim, "read", n, ERRORS[n % len(ERRORS)], words, given, stdout=subprocess.PIPE)
+            tell((status, out, err, len(calls)) == (3, b"", b"Read failed.\n", n), f"{words[0]}, read {n} fails: {status}, {err[:80]!r}, {len(calls)} calls")
+
+
+def one_failed_call(shim, folder):
+    """Outputs that fail for good, or only now: one call fails, and none is made after it."""
+    text = b"A B\n" + b"A\n" * 100 + b"B\n" * 100
+    file = f"{folder}/failing.dlx"
+    with open(file, "wb") as it:
+        it.write(text)
+    listing = run(["dlx1", "m1"], text)[1]
+    for words, given, whole in ((["dlx1", "m1"], text, listing), (["dlxcheck", file, "1"], listing, run(["dlxcheck", file, "1"], listing)[1])):
+        def expect_one(what, said):
+            status, _, err, calls = said
+            wanted = [b"Write failed.\n"] if words[0] == "dlxcheck" else failed_at(whole, calls)
+            is_right = status == 3 and err in wanted and [given for _, given in calls].index(-1) == len(calls) - 1
+            tell(is_right, f"{words[0]} into {what}: {status}, {err[:80]!r}, {calls[-3:]}")
+
+        with open("/dev/full", "wb") as full:
+            expect_one("/dev/full", calls_of(shim, "write", 0, 0, words, given, stdout=full))
+        ours, theirs = os.pipe()
+        os.close(ours)
+        expect_one("a closed pipe", calls_of(shim, "write", 0, 0, words, given, stdout=theirs))
+        os.close(theirs)
+        ours, theirs = os.pipe()
+        for end in (ours, theirs):
+            fcntl.fcntl(end, fcntl.F_SETFL, fcntl.fcntl(end, fcntl.F_GETFL) | os.O_NONBLOCK)
+        fcntl.fcntl(theirs, fcntl.F_SETPIPE_SZ, 4096)
+        said = calls_of(shim, "write", 0, 0, words, given, stdout=theirs)
+        expect_one("a non-blocking pipe", said)
+        taken = sum(given for _, given in said[3][:-1])
+        tell(os.read(ours, 100000) == whole[:taken] and taken > 0, f"{words[0]} into a non-blocking pipe: {taken} bytes aren't a beginning")
+        os.close(ours)
+        os.close(theirs)
+
+
+def failing_calls(folder):
+    shim = f"{folder}/failing.so"
+    subprocess.run(["cc", "-O1", "-shared", "-fPIC", "-o", shim, f"{HERE}/failing.c"], check=True)
+    for part in (each_write_fails, each_read_fails, one_failed_call):
+        part(shim, folder)
 
 
 # ---- input made to hurt
@@ -251,7 +352,15 @@ def streams(folder):
     shell("the judge's problem not to be read", f"chmod 0 {file}; {judge} {file} 1 </dev/null; s=$?; chmod 644 {file}; exit $s", *unreadable(file))
     shell("a file size limit, its signal ignored", f"trap '' XFSZ; ulimit -f 0; {dlx1} m1 >{folder}/limited", 3, b"Write failed at solution 1.\n")
     shell("an argument that isn't UTF-8", f"{dlx1} $(printf '\\377')", 4, b"Out of memory.\n")
+    for program, words, told in ((dlx1, ["m1"], b"Altogether 1 solution.\n"), (judge, [file], b"")):
+        done = subprocess.run([b"/home/j\xf6rg/program", *words], executable=program, input=text if program == dlx1 else b"", capture_output=True)
+        tell((done.returncode, done.stderr) == (0, told), f"a name of the program that isn't UTF-8: {done.returncode}, {done.stderr[:80]!r}")
+    usage = b"Usage: dlxcheck PROBLEM [1|2|3]\n"
+    shell("the judge's words wrong and its listing closed", f"{judge} {file} 4 <&-", 1, usage)
+    shell("the judge's words wrong and its output closed", f"{judge} {file} 4 >&-", 1, usage)
     os.mkfifo(f"{folder}/pipe")
+    shell("the judge's words wrong and its problem a pipe", f"timeout 10 {judge} {folder}/pipe 4", 1, usage)
+    shell("the judge's listing closed and its problem a pipe", f"timeout 10 {judge} {folder}/pipe <&-", 3, b"Read failed.\n")
     shell("the judge's problem a pipe", f"(cat {file} >{folder}/pipe &) ; printf '1:\\n A (1 of 1)\\n' | {judge} {folder}/pipe", 0, b"")
 
 
@@ -278,7 +387,7 @@ def lines_in_one_write():
 
 def main():
     with tempfile.TemporaryDirectory(prefix="hostile-") as folder:
-        for part in (want_of_memory, listing_cut_at_each_byte, deep, streams):
+        for part in (want_of_memory, failing_calls, listing_cut_at_each_byte, deep, streams):
             part(folder)
         for part in (lines_in_one_write, seen_at_once, chosen_names, large_inputs, long_tokens, cut_at_each_byte):
             part()

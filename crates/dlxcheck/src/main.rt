@@ -5,23 +5,26 @@ use std::alloc::AllocError;
 use std::io::IsTerminal;
 use std::process::ExitCode;
 use xc_tools::{
-    Direct, Incoming, Outgoing, closed_stream, judge, named_file, out_of_memory, random_seed, words,
+    Direct, Incoming, Outgoing, asked_kind, closed_stream, judge, named_file, out_of_memory, random_seed, words,
 };
 
 fn main(rt: HostRuntime) -> ExitCode {
     ExitCode::from(run(&rt).unwrap_or_else(|_| out_of_memory(&mut Direct::new(rt.stderr()))))
 }
 
-/// Judges the listing on standard input, and gives the status.
+/// Judges the listing on standard input, and gives the status. Right words are followed by a look at the
+/// standard streams: the problem's file would take the number of a closed one.
 fn run(rt: &HostRuntime) -> Result<u8, AllocError> {
-    let mut err = Direct::new(rt.stderr());
-    if let Some(status) = closed_stream(&rt.stdin(), &rt.stdout(), &rt.stderr(), &mut err) {
-        return Ok(status);
-    }
     let seed = random_seed(rt);
     let mut listing = Incoming::new(Some(rt.stdin()), seed);
     let mut out = Outgoing::new(rt.alloc(), rt.stdout(), rt.stdout().is_terminal())?;
+    let mut err = Direct::new(rt.stderr());
     let words = words(rt)?;
+    if asked_kind(&words).is_some()
+        && let Some(status) = closed_stream(&rt.stdin(), &rt.stdout(), &rt.stderr(), &mut err)
+    {
+        return Ok(status);
+    }
     let mut problem = named_file(rt, &words, seed);
     Ok(judge(
         rt.alloc(),

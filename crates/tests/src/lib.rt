@@ -41,3 +41,5 @@ mod refused_runs;
 mod runs;
 #[cfg(test)]
 mod streams;
+#[cfg(test)]
+mod system_calls;

@@ -1,6 +1,69 @@
--- What the adapters of the system's streams tell, in the words of std's readers and writers; when lines are passed on.
-use Rattle.std.specs.Prelude.{ℕ, ◌+◌, ◌-◌, ◌/◌, ◌^◌, ◌<◌, ◌≡◌, ◌⊎◌, nat_eq, min, Bool, List, [], codes, Option, None, Some, if◌then◌else◌}
+-- What the system is asked and answers, what the adapters of its streams tell, and when lines are passed on.
+use Rattle.std.specs.Prelude.{ℕ, ◌+◌, ◌-◌, ◌/◌, ◌^◌, ◌<◌, ◌≡◌, ◌⊎◌, nat_eq, min, Bool, true, false, List, [], codes, length, Option, None, Some, Result, Ok, Err, if◌then◌else◌}
 use Rattle.std.specs.List.{ends_with}
+use Rattle.xc_input.specs.Calls.{one_more, counted, Rose}
+use Rattle.xc_tools.specs.declared.system.Answer.{Answer}
+use Rattle.xc_tools.specs.declared.system.Answer.TheVariants.{Whole, Part, Flushed, Failed}
+
+-- Calls of the system: how many were made and how many of them failed, up to the counter's last value, and the last
+-- one's answer.
+pub record Asked : Type 0 where
+  pub calls : ℕ
+  pub failures : ℕ
+  pub last : Answer
+
+-- whether a call failed
+abbrev pub is_failure : Answer → Bool
+is_failure Failed = true
+is_failure _ = false
+
+-- whether a call was a flush that succeeded
+abbrev pub is_flushed : Answer → Bool
+is_flushed Flushed = true
+is_flushed _ = false
+
+-- after one call more, with this answer
+abbrev pub answered : Answer → Asked → Asked
+answered a old = record { calls = one_more old.calls; failures = counted (is_failure a) old.failures; last = a }
+
+-- what a write came to by which so many of so many bytes were taken: to take none of at least one is a failure
+abbrev pub taken_answer : ℕ → ℕ → Answer
+taken_answer taken given = if nat_eq taken given then Whole else if nat_eq taken 0 then Failed else Part
+
+-- what a write came to
+abbrev pub write_answer : {E : Type 0} → Result ℕ E → List ℕ → Answer
+write_answer (Ok n) bytes = taken_answer n (length bytes)
+write_answer (Err e) bytes = Failed
+
+-- what a flush came to
+abbrev pub flush_answer : {T E : Type 0} → Result T E → Answer
+flush_answer (Ok x) = Flushed
+flush_answer (Err e) = Failed
+
+-- what a read came to
+abbrev pub read_answer : {E : Type 0} → Result ℕ E → Answer
+read_answer (Ok n) = Whole
+read_answer (Err e) = Failed
+
+-- No call was made, or one, and that didn't fail.
+abbrev pub AskedAtMostOnce : Asked → Asked → Type 0
+AskedAtMostOnce old new = (new ≡ old) ⊎ ((a : Answer) × (is_failure a ≡ false) × (new ≡ answered a old))
+
+-- One call was made, with this answer, of what there is to be asked.
+abbrev pub IsAskedOnce : Option Asked → Option Asked → Answer → Type 0
+IsAskedOnce (Some old) (Some new) a = new ≡ answered a old
+IsAskedOnce (Some old) None a = ⊥
+IsAskedOnce None new a = Unit {0}
+
+-- Calls were made; the last one was a flush, and none failed.
+pub record FlushedLast (old new : Asked) : Type 0 where
+  pub none : new.failures ≡ old.failures
+  pub last : new.last ≡ Flushed
+
+-- Calls were made; the last one failed, and no other.
+pub record BrokeLast (old new : Asked) : Type 0 where
+  pub one : Rose old.failures new.failures
+  pub last : new.last ≡ Failed
 
 -- the bytes that a reader has left; none where there is no reader
 abbrev pub bytes_left : Option (Option (List ℕ)) → Option (List ℕ)

@@ -2,31 +2,62 @@
 ghost use Rattle.std.specs.Prelude.{◌≡◌, [], None};
 
 use crate::incoming::Incoming;
+use crate::lazy_file::NamedFile;
+use crate::system::System;
 use std::alloc::{AllocError, AllocGlobal};
-use std::env::{self, Env};
-use std::fs::{self, Files};
+use std::env::{Env, FillError};
+use std::fs::Files;
 use std::str;
 use xc_input::Seed;
 
-/// The words behind the program's name, by their bytes. The system's call fails as a whole where one of
-/// them isn't UTF-8: that is answered as want of memory.
+/// How many bytes most words have at most.
+const USUAL: usize = 256;
+
+/// The word at this place, by its bytes, or none where there are fewer words.
+fn word<R: Env + AllocGlobal>(rt: &R, place: usize) -> Result<Option<Vec<u8>>, AllocError> {
+    let mut size = USUAL;
+    for _ in 0..usize::BITS {
+        let mut word = vec![in rt.alloc(); 0; size]?;
+        match rt.arg(place, &mut word) {
+            Ok(len) => {
+                word.truncate(len);
+                return Ok(Some(word));
+            }
+            Err(FillError::NotPresent) => return Ok(None),
+            Err(FillError::TooLong) => size = size.saturating_mul(2),
+        }
+    }
+    Err(AllocError)
+}
+
+/// The words behind the program's name, by their bytes; the name isn't looked at. One that isn't UTF-8 is
+/// answered as want of memory.
 pub fn words<R: Env + AllocGlobal>(rt: &R) -> Result<Vec<Vec<u8>>, AllocError> {
-    let Ok(arguments) = env::args(rt) else {
-        return Err(AllocError);
-    };
     let mut words = Vec::new(rt.alloc());
-    for argument in arguments.skip(1) {
-        words.push(argument.into_bytes())?;
+    for place in 1..usize::MAX {
+        let Some(word) = word(rt, place)? else {
+            break;
+        };
+        if str::from_utf8(&word).is_err() {
+            return Err(AllocError);
+        }
+        words.push(word)?;
     }
     Ok(words)
 }
 
-/// The file that the first word names, as a source whose names are hashed by this seed. Without a word,
-/// and where there is no such file to read, it fails at the first read.
-pub fn named_file<R: Files>(rt: &R, words: &[Vec<u8>], seed: Seed) -> Incoming<R::File>
+/// The file that the first word names, as a source whose names are hashed by this seed. It is opened at
+/// the first read, which fails where there is no such file to read. Without a word nothing is opened.
+pub fn named_file<'a, R: Files>(
+    rt: &'a R,
+    words: &'a [Vec<u8>],
+    seed: Seed,
+) -> Incoming<System<NamedFile<'a, R>>>
     ensures missing { words.now ≡ [] → result.reader ≡ None }
     ensures seed { result.seed ≡ seed }
 {
-    let path = words.first().and_then(|word| str::from_utf8(word).ok());
-    Incoming::new(path.and_then(|path| fs::open(rt, path).ok()), seed)
+    match words.first().and_then(|word| str::from_utf8(word).ok()) {
+        Some(path) => Incoming::new(Some(NamedFile::new(rt, path)), seed),
+        None => Incoming::new(None, seed),
+    }
 }

@@ -1,21 +1,36 @@
 //! The system's writers as sinks that hold nothing back.
-ghost use Rattle.std.specs.Prelude.{◌≡◌, true, false, IsTrue};
-ghost use Rattle.xc_input.specs.Calls.{counted};
+ghost use Rattle.std.specs.Prelude.{◌≡◌, ◌<◌, ◌≤◌, true, false, length, is_err, IfOk, IsErr, IsTrue};
+ghost use Rattle.std.specs.Io.KnownBytes.{Keeps, WriteAppends};
+ghost use Rattle.xc_input.specs.Calls.{counted, is_failed_write};
+ghost use Rattle.xc_tools.specs.Streams.{answered, write_answer, flush_answer};
 
+use crate::system::{System, SystemWriter};
 use std::io::Write;
 use xc_list::{Sink, WriteFailed};
 
-/// A writer of the system as a sink that passes on each text at once.
+/// A writer of the system as a sink that passes on each text at once. After a failure nothing is asked
+/// of it.
 #[derive(Drop)]
-pub struct Direct<W: Write + Drop> {
+pub struct Direct<W: SystemWriter + Drop> {
     writer: W,
     failures: u64,
     failed: bool,
 }
 
-impl<W: Write + Drop> Direct<W> {
+impl<W: Write + Drop> Direct<System<W>> {
+    /// A sink over a writer of std.
+    pub fn new(writer: W) -> Direct<System<W>>
+        ensures writer { result.writer.stream ≡ writer }
+        ensures failures { result.failures ≡ 0 }
+        ensures failed { result.failed ≡ false }
+    {
+        Direct::over(System::new(writer))
+    }
+}
+
+impl<W: SystemWriter + Drop> Direct<W> {
     /// A sink over the writer.
-    pub fn new(writer: W) -> Direct<W>
+    pub fn over(writer: W) -> Direct<W>
         ensures writer { result.writer ≡ writer }
         ensures failures { result.failures ≡ 0 }
         ensures failed { result.failed ≡ false }
@@ -39,7 +54,7 @@ impl<W: Write + Drop> Direct<W> {
     }
 }
 
-impl<W: Write + Drop> Sink for Direct<W> {
+impl<W: SystemWriter + Drop> Sink for Direct<W> {
     ghost state = { λ s. record {
       failures = s.failures;
       failed = s.failed;
@@ -47,7 +62,20 @@ impl<W: Write + Drop> Sink for Direct<W> {
       settled = true;
     } };
 
-    fn write(&mut self, bytes: &[u8]) -> Result<usize, WriteFailed> {
+    fn write(&mut self, bytes: &[u8]) -> Result<usize, WriteFailed>
+        ensures bound { IfOk result (λ n. n ≤ length bytes.now) }
+        ensures failures { self.new.failures ≡ counted (is_failed_write result bytes.now) self.old.failures }
+        ensures failed { self.new.failed ≡ is_failed_write result bytes.now }
+        ensures bytes { WriteAppends (W.contents self.old.writer) (W.contents self.new.writer) result bytes.now }
+
+        // The system is asked once, and its answer is this one's; after a failure it isn't asked.
+        ensures asked { self.old.failures ≡ 0 →
+            W.asked self.new.writer ≡ answered (write_answer result bytes.now) (W.asked self.old.writer) }
+        ensures closed { 0 < self.old.failures → IsErr result × (self.new.writer ≡ self.old.writer) }
+    {
+        if self.failures > 0 {
+            return Err(self.fail());
+        }
         match self.writer.write(bytes) {
             Ok(n) if n > 0 || bytes.is_empty() => {
                 self.failed = false;
@@ -57,8 +85,16 @@ impl<W: Write + Drop> Sink for Direct<W> {
         }
     }
 
-    fn flush(&mut self) -> Result<(), WriteFailed> {
-        if self.writer.flush().is_err() {
+    fn flush(&mut self) -> Result<(), WriteFailed>
+        ensures failures { self.new.failures ≡ counted (is_err result) self.old.failures }
+        ensures failed { self.new.failed ≡ is_err result }
+        ensures bytes { Keeps (W.contents self.old.writer) (W.contents self.new.writer) }
+        ensures settled { IsTrue true }
+        ensures asked { self.old.failures ≡ 0 →
+            W.asked self.new.writer ≡ answered (flush_answer result) (W.asked self.old.writer) }
+        ensures closed { 0 < self.old.failures → IsErr result × (self.new.writer ≡ self.old.writer) }
+    {
+        if self.failures > 0 || self.writer.flush().is_err() {
             return Err(self.fail());
         }
         self.failed = false;

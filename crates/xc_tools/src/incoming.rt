@@ -1,15 +1,17 @@
 //! The system's readers and files as sources.
-ghost use Rattle.std.specs.Prelude.{◌≡◌, ◌+◌, ◌-◌, ◌^◌, ◌<◌, ◌≤◌, None, length, is_err, option_map, IfOk, IsErr, OnErr, [], ◌∷◌, ◌++◌, take};
+ghost use Rattle.std.specs.Prelude.{◌≡◌, true, ◌+◌, ◌-◌, ◌^◌, ◌<◌, ◌≤◌, None, length, is_err, option_map, IfOk, IsErr, OnErr, [], ◌∷◌, ◌++◌, take};
 ghost use Rattle.std.specs.Io.KnownBytes.{ReadConsumes};
 ghost use Rattle.xc_input.specs.Calls.{counted};
-ghost use Rattle.xc_tools.specs.Streams.{bytes_left};
+ghost use Rattle.xc_tools.specs.Streams.{bytes_left, IsAskedOnce, read_answer};
 
+use crate::system::{System, SystemReader};
 use std::io::Read;
 use xc_input::{Given, ReadFailed, Seed, Source};
 
-/// A reader of the system as a source, or a file that could not be opened.
+/// A reader of the system as a source, or what could not be opened. After a failure nothing is asked
+/// of it.
 #[derive(Drop)]
-pub struct Incoming<R: Read + Drop> {
+pub struct Incoming<R: SystemReader + Drop> {
     reader: Option<R>,
     left: u64,
     failures: u64,
@@ -17,10 +19,27 @@ pub struct Incoming<R: Read + Drop> {
     seed: Seed,
 }
 
-impl<R: Read + Drop> Incoming<R> {
-    /// A reader, or `None` for what could not be opened: that fails at the first read. The names in its
-    /// text are hashed by this seed.
-    pub fn new(reader: Option<R>, seed: Seed) -> Incoming<R>
+impl<R: Read + Drop> Incoming<System<R>> {
+    /// A reader of std, or `None` for what could not be opened: that fails at the first read. The names
+    /// in its text are hashed by this seed.
+    pub fn new(reader: Option<R>, seed: Seed) -> Incoming<System<R>>
+        ensures reader { option_map (λ r. r.stream) result.reader ≡ reader }
+        ensures missing { reader ≡ None → result.reader ≡ None }
+        ensures left { result.left ≡ 2 ^ 64 - 1 }
+        ensures failures { result.failures ≡ 0 }
+        ensures given { result.given.lines ≡ [] }
+        ensures seed { result.seed ≡ seed }
+    {
+        match reader {
+            Some(reader) => Incoming::over(Some(System::new(reader)), seed),
+            None => Incoming::over(None, seed),
+        }
+    }
+}
+
+impl<R: SystemReader + Drop> Incoming<R> {
+    /// The same of any reader.
+    pub fn over(reader: Option<R>, seed: Seed) -> Incoming<R>
         ensures reader { result.reader ≡ reader }
         ensures left { result.left ≡ 2 ^ 64 - 1 }
         ensures failures { result.failures ≡ 0 }
@@ -35,9 +54,21 @@ impl<R: Read + Drop> Incoming<R> {
             seed,
         }
     }
+
+    /// Counts a failure.
+    fn fail(&mut self) -> ReadFailed
+        ensures reader { self.new.reader ≡ self.old.reader }
+        ensures left { self.new.left ≡ self.old.left }
+        ensures failures { self.new.failures ≡ counted true self.old.failures }
+        ensures given { self.new.given ≡ self.old.given }
+        ensures seed { self.new.seed ≡ self.old.seed }
+    {
+        self.failures = self.failures.saturating_add(1);
+        ReadFailed
+    }
 }
 
-impl<R: Read + Drop> Source for Incoming<R> {
+impl<R: SystemReader + Drop> Source for Incoming<R> {
     ghost failures = { λ s. s.failures };
 
     ghost limit = { λ s. s.left };
@@ -57,23 +88,23 @@ impl<R: Read + Drop> Source for Incoming<R> {
         ensures given { IfOk result (λ n. self.new.given.lines ≡ self.old.given.lines ++ take n buf.new ∷ []) }
         ensures given_kept { OnErr result (self.new.given.lines ≡ self.old.given.lines) }
 
-        // What was not opened fails, and so does a reader that gave all that may be given.
+        // What was not opened fails, and so does a reader that gave all that may be given, and one that
+        // failed before: nothing is asked of it then. Else it is asked once, and its answer is this one's.
         ensures missing { self.old.reader ≡ None → IsErr result }
-        ensures spent { self.old.left ≡ 0 → IsErr result }
+        ensures spent { self.old.left ≡ 0 → IsErr result × (self.new.reader ≡ self.old.reader) }
+        ensures closed { 0 < self.old.failures → IsErr result × (self.new.reader ≡ self.old.reader) }
+        ensures asked { self.old.failures ≡ 0 → 0 < self.old.left → IsAskedOnce
+            (option_map R.asked self.old.reader) (option_map R.asked self.new.reader) (read_answer result) }
     {
-        if self.left == 0 {
-            self.failures = self.failures.saturating_add(1);
-            return Err(ReadFailed);
+        if self.failures > 0 || self.left == 0 {
+            return Err(self.fail());
         }
         let most = usize::try_from(self.left)
             .unwrap_or(usize::MAX)
             .min(buf.len());
         let read = match &mut self.reader {
             Some(reader) => reader.read(&mut buf[..most]),
-            None => {
-                self.failures = self.failures.saturating_add(1);
-                return Err(ReadFailed);
-            }
+            None => return Err(self.fail()),
         };
         match read {
             Ok(n) => {
@@ -81,10 +112,7 @@ impl<R: Read + Drop> Source for Incoming<R> {
                 self.given = Given::after(&self.given, &buf[..n]);
                 Ok(n)
             }
-            Err(_) => {
-                self.failures = self.failures.saturating_add(1);
-                Err(ReadFailed)
-            }
+            Err(_) => Err(self.fail()),
         }
     }
 

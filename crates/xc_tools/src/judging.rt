@@ -30,8 +30,8 @@ fn numbered_kind(word: &[u8]) -> Option<Kind>
     }
 }
 
-/// The kind of problem that the words ask for.
-fn asked_kind(words: &[Vec<u8>]) -> Option<Kind>
+/// The kind of problem that the words ask for, if they are right.
+pub fn asked_kind(words: &[Vec<u8>]) -> Option<Kind>
     ensures { result ≡ asked_kind (map (λ w. w.items) words.now) }
 {
     match words {

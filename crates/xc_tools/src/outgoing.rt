@@ -1,24 +1,26 @@
 //! The system's writers as sinks that hold some bytes back.
-ghost use Rattle.std.specs.Prelude.{◌≡◌, ◌+◌, ◌-◌, ◌^◌, ◌<◌, ◌≤◌, ◌⊎◌, ◌↔◌, true, false, length, nat_eq, is_err, IfOk, IsTrue, OnErr, OnOk, MatchResult, [], take};
+ghost use Rattle.std.specs.Prelude.{◌≡◌, ◌+◌, ◌-◌, ◌^◌, ◌<◌, ◌≤◌, ◌⊎◌, ◌↔◌, ◌&&◌, cond, true, false, length, nat_eq, is_err, IfOk, IsErr, IsTrue, OnErr, OnOk, MatchResult, [], take};
 ghost use Rattle.std.specs.Io.KnownBytes.{append_known, Appends, Keeps, WriteAppends};
 ghost use Rattle.xc_input.specs.Calls.{counted, is_failed_write};
-ghost use Rattle.xc_tools.specs.Streams.{ends_line, early, IsLittle, passed_of};
+ghost use Rattle.xc_tools.specs.Streams.{AskedAtMostOnce, BrokeLast, FlushedLast, answered, ends_line, early, is_flushed, IsLittle, passed_of};
+ghost use Rattle.xc_tools.specs.declared.system.Answer.TheVariants.{Failed, Part};
 
 mod held;
 
 use crate::outgoing::held::{Held, ROOM};
+use crate::system::{System, SystemWriter};
 use std::alloc::{AllocError, Global};
 use std::io::Write;
 use xc_list::{Sink, WriteFailed};
 
-/// A writer of the system as a sink that holds some bytes back until it is flushed. It keeps what it
-/// could not pass on.
+/// A writer of the system as a sink that holds some bytes back until it is flushed. The first failure
+/// of the system is its own at that call, and after it nothing is asked of the system.
 ///
 /// A line that ends is passed on at once, with all that is held back, where that is at least an eighth
 /// of what was passed on before. So the first lines of a slow run appear when they are written, and a
 /// fast run soon makes one call for each 65,536 bytes. By lines, every line is passed on at its end.
 #[derive(Drop)]
-pub struct Outgoing<W: Write + Drop> {
+pub struct Outgoing<W: SystemWriter + Drop> {
     writer: W,
     by_line: bool,
     held: Held,
@@ -26,19 +28,21 @@ pub struct Outgoing<W: Write + Drop> {
     passed: usize,
     /// A text shorter than this is held back whatever it ends with.
     calm: usize,
-    /// The last line's end could not be passed on.
-    stuck: bool,
     failures: u64,
     failed: bool,
+    ghost room: { length held < 65536 },
     ghost within: { length held + calm ≤ 65536 },
     ghost little: { 0 < calm → length held + calm ≤ early by_line passed },
     ghost countable: { passed ≤ 2 ^ 64 - 1 },
+    ghost closed: { 0 < failures → calm ≡ 0 },
 }
 
 /// Passes on the bytes, and says how many of them that were. A failed write isn't tried again.
-fn pass_on<W: Write>(writer: &mut W, bytes: &[u8]) -> usize
+fn pass_on<W: SystemWriter>(writer: &mut W, bytes: &[u8]) -> usize
     ensures within { result ≤ length bytes.now }
     ensures passed { Appends (W.contents writer.old) (W.contents writer.new) (take result bytes.now) }
+    ensures whole { result ≡ length bytes.now → (W.asked writer.new).failures ≡ (W.asked writer.old).failures }
+    ensures broke { result < length bytes.now → BrokeLast (W.asked writer.old) (W.asked writer.new) }
 {
     let mut place = 0;
     while place < bytes.len() {
@@ -50,18 +54,33 @@ fn pass_on<W: Write>(writer: &mut W, bytes: &[u8]) -> usize
     place
 }
 
-/// How many bytes have to be held back for a line's end to pass them on, where so many were passed on
-/// before.
-fn early(by_line: bool, passed: usize) -> usize
-    ensures { result ≡ early by_line passed }
+/// A text shorter than this is held back whatever it ends with, where so many bytes were passed on and so
+/// many are held back.
+fn calm_behind(by_line: bool, passed: usize, held: usize) -> usize
+    ensures { result ≡ early by_line passed - held }
 {
-    if by_line { 0 } else { ROOM.min(passed / 8) }
+    let early = if by_line { 0 } else { ROOM.min(passed / 8) };
+    early.saturating_sub(held)
 }
 
-impl<W: Write + Drop> Outgoing<W> {
-    /// A sink with nothing held back. `by_line`: each line's end passes on what is held back, as for a
-    /// terminal. It fails where there is no memory for 65,536 bytes.
-    pub fn new(alloc: Global, writer: W, by_line: bool) -> Result<Outgoing<W>, AllocError>
+impl<W: Write + Drop> Outgoing<System<W>> {
+    /// A sink over a writer of std, with nothing held back. `by_line`: each line's end passes on what is
+    /// held back, as for a terminal. It fails where there is no memory for 65,536 bytes.
+    pub fn new(alloc: Global, writer: W, by_line: bool) -> Result<Outgoing<System<W>>, AllocError>
+        ensures writer { IfOk result (λ s. s.writer.stream ≡ writer) }
+        ensures by_line { IfOk result (λ s. s.by_line ≡ by_line) }
+        ensures held { IfOk result (λ s. s.held ≡ []) }
+        ensures passed { IfOk result (λ s. s.passed ≡ 0) }
+        ensures failures { IfOk result (λ s. s.failures ≡ 0) }
+        ensures failed { IfOk result (λ s. s.failed ≡ false) }
+    {
+        Outgoing::over(alloc, System::new(writer), by_line)
+    }
+}
+
+impl<W: SystemWriter + Drop> Outgoing<W> {
+    /// The same of any writer.
+    pub fn over(alloc: Global, writer: W, by_line: bool) -> Result<Outgoing<W>, AllocError>
         ensures writer { IfOk result (λ s. s.writer ≡ writer) }
         ensures by_line { IfOk result (λ s. s.by_line ≡ by_line) }
         ensures held { IfOk result (λ s. s.held ≡ []) }
@@ -75,13 +94,13 @@ impl<W: Write + Drop> Outgoing<W> {
             held: Held::new(alloc)?,
             passed: 0,
             calm: 0,
-            stuck: false,
             failures: 0,
             failed: false,
         })
     }
 
     /// Counts a failure.
+    #[cold]
     fn fail(&mut self) -> WriteFailed
         ensures writer { self.new.writer ≡ self.old.writer }
         ensures held { self.new.held ≡ self.old.held }
@@ -92,18 +111,20 @@ impl<W: Write + Drop> Outgoing<W> {
     {
         self.failures = self.failures.saturating_add(1);
         self.failed = true;
+        self.calm = 0;
         WriteFailed
     }
 
-    /// Passes on what is held back, as far as that goes.
-    #[inline(never)]
-    fn pass(&mut self)
-        ensures stuck { IsTrue self.new.stuck ↔ (0 < length self.new.held) }
+    /// Passes on what is held back, as far as that goes, and says whether that was all.
+    fn pass_all(&mut self) -> bool
+        requires open { self.old.failures ≡ 0 }
+        ensures all { IsTrue result ↔ (self.new.held ≡ []) }
+        ensures asked { cond result
+            ((W.asked self.new.writer).failures ≡ (W.asked self.old.writer).failures)
+            (BrokeLast (W.asked self.old.writer) (W.asked self.new.writer)) }
         ensures by_line { self.new.by_line ≡ self.old.by_line }
-        ensures less { length self.new.held ≤ length self.old.held }
         ensures passed { self.new.passed ≡ passed_of self.old.passed (length self.old.held) (length self.new.held) }
         ensures failures { self.new.failures ≡ self.old.failures }
-        ensures failed { self.new.failed ≡ self.old.failed }
         ensures bytes { Keeps
             (append_known (W.contents self.old.writer) self.old.held)
             (append_known (W.contents self.new.writer) self.new.held) }
@@ -111,59 +132,19 @@ impl<W: Write + Drop> Outgoing<W> {
         let passed = pass_on(&mut self.writer, self.held.as_slice());
         self.held.remove_front(passed);
         self.passed = self.passed.saturating_add(passed);
-        self.stuck = self.held.len() > 0;
-        self.calm = if self.stuck {
-            0
-        } else {
-            early(self.by_line, self.passed)
-        };
-    }
-
-    /// Passes on what is held back, or fails.
-    fn pass_held(&mut self) -> Result<(), WriteFailed>
-        ensures emptied { OnOk result (self.new.held ≡ []) }
-        ensures by_line { self.new.by_line ≡ self.old.by_line }
-        ensures less { length self.new.held ≤ length self.old.held }
-        ensures passed { self.new.passed ≡ passed_of self.old.passed (length self.old.held) (length self.new.held) }
-        ensures failures { self.new.failures ≡ counted (is_err result) self.old.failures }
-        ensures failed { OnErr result (IsTrue self.new.failed) }
-        ensures bytes { Keeps
-            (append_known (W.contents self.old.writer) self.old.held)
-            (append_known (W.contents self.new.writer) self.new.held) }
-    {
-        self.pass();
-        if self.stuck {
-            return Err(self.fail());
-        }
-        Ok(())
-    }
-
-    /// Passes on what is held back where there is no room for more, and where the last line's end
-    /// could not be passed on.
-    fn make_room(&mut self) -> Result<(), WriteFailed>
-        ensures room { OnOk result (length self.new.held < 65536) }
-        ensures by_line { self.new.by_line ≡ self.old.by_line }
-        ensures less { length self.new.held ≤ length self.old.held }
-        ensures passed { self.new.passed ≡ passed_of self.old.passed (length self.old.held) (length self.new.held) }
-        ensures failures { self.new.failures ≡ counted (is_err result) self.old.failures }
-        ensures failed { OnErr result (IsTrue self.new.failed) }
-        ensures bytes { Keeps
-            (append_known (W.contents self.old.writer) self.old.held)
-            (append_known (W.contents self.new.writer) self.new.held) }
-    {
-        if self.held.len() < ROOM && !self.stuck {
-            return Ok(());
-        }
-        self.pass_held()
+        self.calm = calm_behind(self.by_line, self.passed, self.held.len());
+        self.held.len() == 0
     }
 
     /// Holds back bytes for which there is room.
     #[inline(always)]
     fn hold(&mut self, bytes: &[u8])
-        requires room { length self.old.held + length bytes.now + self.old.calm ≤ 65536 }
+        requires room { length self.old.held + length bytes.now < 65536 }
+        requires within { length self.old.held + length bytes.now + self.old.calm ≤ 65536 }
         requires calm { 0 < self.old.calm →
             length self.old.held + length bytes.now + self.old.calm ≤ early self.old.by_line self.old.passed }
         ensures count { length self.new.held ≡ length self.old.held + length bytes.now }
+        ensures writer { self.new.writer ≡ self.old.writer }
         ensures by_line { self.new.by_line ≡ self.old.by_line }
         ensures passed { self.new.passed ≡ self.old.passed }
         ensures calm { self.new.calm ≡ self.old.calm }
@@ -178,34 +159,49 @@ impl<W: Write + Drop> Outgoing<W> {
         self.failed = false;
     }
 
-    /// Passes on what is held back where it is a line's end and there is enough of it.
-    fn pass_line(&mut self, bytes: &[u8])
-        ensures little { IsTrue (ends_line bytes.now) → IsTrue self.new.stuck
-            ⊎ IsLittle self.new.by_line self.new.passed (length self.new.held) }
-        ensures by_line { self.new.by_line ≡ self.old.by_line }
-        ensures less { length self.new.held ≤ length self.old.held }
-        ensures passed { self.new.passed ≡ passed_of self.old.passed (length self.old.held) (length self.new.held) }
-        ensures failures { self.new.failures ≡ self.old.failures }
-        ensures failed { self.new.failed ≡ self.old.failed }
-        ensures bytes { Keeps
-            (append_known (W.contents self.old.writer) self.old.held)
-            (append_known (W.contents self.new.writer) self.new.held) }
-    {
-        if self.calm == 0 && bytes.ends_with(b"\n") {
-            self.pass();
-        }
-    }
-
-    /// Holds back as many of the bytes as there is room for, and makes room where there is none. A
-    /// line's end may pass them on.
-    #[inline(never)]
-    fn hold_part(&mut self, bytes: &[u8]) -> Result<usize, WriteFailed>
-        ensures little { IfOk result (λ n. IsTrue (ends_line (take n bytes.now)) → IsTrue self.new.stuck
+    /// Passes on, by one call, what is held back and these bytes behind it, and holds back what was not
+    /// taken. Where the call fails, these bytes are let go of.
+    fn pass_with(&mut self, bytes: &[u8]) -> Result<(), WriteFailed>
+        requires room { length self.old.held + length bytes.now ≤ 65536 }
+        requires some { 0 < length bytes.now }
+        requires open { self.old.failures ≡ 0 }
+        ensures little { OnOk result ((W.asked self.new.writer).last ≡ Part
             ⊎ IsLittle self.new.by_line self.new.passed (length self.new.held)) }
         ensures by_line { self.new.by_line ≡ self.old.by_line }
         ensures passed { MatchResult result
-            (λ n. self.new.passed ≡ passed_of self.old.passed (length self.old.held + n) (length self.new.held))
+            (λ _. self.new.passed ≡ passed_of self.old.passed (length self.old.held + length bytes.now) (length self.new.held))
             (λ _. self.new.passed ≡ passed_of self.old.passed (length self.old.held) (length self.new.held)) }
+        ensures failures { self.new.failures ≡ counted (is_err result) self.old.failures }
+        ensures failed { self.new.failed ≡ is_err result }
+        ensures asked { MatchResult result (λ _. AskedAtMostOnce (W.asked self.old.writer) (W.asked self.new.writer))
+            (λ _. W.asked self.new.writer ≡ answered Failed (W.asked self.old.writer)) }
+        ensures bytes { MatchResult result
+            (λ _. Appends (append_known (W.contents self.old.writer) self.old.held)
+            (append_known (W.contents self.new.writer) self.new.held) bytes.now)
+            (λ _. Keeps (append_known (W.contents self.old.writer) self.old.held)
+            (append_known (W.contents self.new.writer) self.new.held)) }
+    {
+        self.held.append(bytes);
+        match self.writer.write(self.held.as_slice()) {
+            Ok(passed) if passed > 0 => {
+                self.held.remove_front(passed);
+                self.passed = self.passed.saturating_add(passed);
+                self.calm = calm_behind(self.by_line, self.passed, self.held.len());
+                self.failed = false;
+                Ok(())
+            }
+            _ => {
+                self.held.remove_back(bytes.len());
+                Err(self.fail())
+            }
+        }
+    }
+
+    /// Holds back as many of the bytes as there is room for, and passes them on with what was held back
+    /// where there is none left, and where they end a line.
+    #[inline(never)]
+    fn hold_part(&mut self, bytes: &[u8]) -> Result<usize, WriteFailed>
+        requires calm { self.old.calm ≤ length bytes.now }
         ensures bound { IfOk result (λ n. n ≤ length bytes.now) }
         ensures failures { self.new.failures ≡ counted (is_failed_write result bytes.now) self.old.failures }
         ensures failed { self.new.failed ≡ is_failed_write result bytes.now }
@@ -213,22 +209,38 @@ impl<W: Write + Drop> Outgoing<W> {
             (append_known (W.contents self.old.writer) self.old.held)
             (append_known (W.contents self.new.writer) self.new.held)
             result bytes.now }
+        ensures asked { self.old.failures ≡ 0 → MatchResult result
+            (λ _. AskedAtMostOnce (W.asked self.old.writer) (W.asked self.new.writer))
+            (λ _. W.asked self.new.writer ≡ answered Failed (W.asked self.old.writer)) }
+        ensures closed { 0 < self.old.failures → IsErr result × (self.new.writer ≡ self.old.writer) }
+        ensures little { IfOk result (λ n. IsTrue (ends_line (take n bytes.now)) → (W.asked self.new.writer).last ≡ Part
+            ⊎ IsLittle self.new.by_line self.new.passed (length self.new.held)) }
+        ensures by_line { self.new.by_line ≡ self.old.by_line }
+        ensures passed { MatchResult result
+            (λ n. self.new.passed ≡ passed_of self.old.passed (length self.old.held + n) (length self.new.held))
+            (λ _. self.new.passed ≡ passed_of self.old.passed (length self.old.held) (length self.new.held)) }
     {
-        self.make_room()?;
-        let n = bytes.len().min(ROOM - self.held.len());
-        self.calm = self.calm.saturating_sub(n);
-        self.hold(&bytes[..n]);
-        self.pass_line(&bytes[..n]);
+        if self.failures > 0 {
+            return Err(self.fail());
+        }
+        let room = ROOM - self.held.len();
+        if bytes.len() < room && !bytes.ends_with(b"\n") {
+            self.calm = 0;
+            self.hold(bytes);
+            return Ok(bytes.len());
+        }
+        let n = bytes.len().min(room);
+        self.pass_with(&bytes[..n])?;
         Ok(n)
     }
 }
 
-impl<W: Write + Drop> Sink for Outgoing<W> {
+impl<W: SystemWriter + Drop> Sink for Outgoing<W> {
     ghost state = { λ s. record {
       failures = s.failures;
       failed = s.failed;
       taken = append_known (W.contents s.writer) s.held;
-      settled = nat_eq (length s.held) 0;
+      settled = nat_eq (length s.held) 0 && is_flushed (W.asked s.writer).last;
     } };
 
     #[inline(always)]
@@ -241,8 +253,14 @@ impl<W: Write + Drop> Sink for Outgoing<W> {
             (append_known (W.contents self.new.writer) self.new.held)
             result bytes.now }
 
-        // Behind a line's end little is held back, or the sink says that it is stuck.
-        ensures little { IfOk result (λ n. IsTrue (ends_line (take n bytes.now)) → IsTrue self.new.stuck
+        // The system is asked at most once, and where it fails this fails; after a failure it isn't asked.
+        ensures asked { self.old.failures ≡ 0 → MatchResult result
+            (λ _. AskedAtMostOnce (W.asked self.old.writer) (W.asked self.new.writer))
+            (λ _. W.asked self.new.writer ≡ answered Failed (W.asked self.old.writer)) }
+        ensures closed { 0 < self.old.failures → IsErr result × (self.new.writer ≡ self.old.writer) }
+
+        // Behind a line's end little is held back, or the system took only a part at its last call.
+        ensures little { IfOk result (λ n. IsTrue (ends_line (take n bytes.now)) → (W.asked self.new.writer).last ≡ Part
             ⊎ IsLittle self.new.by_line self.new.passed (length self.new.held)) }
         ensures by_line { self.new.by_line ≡ self.old.by_line }
         ensures passed { MatchResult result
@@ -263,12 +281,17 @@ impl<W: Write + Drop> Sink for Outgoing<W> {
         ensures bytes { Keeps
             (append_known (W.contents self.old.writer) self.old.held)
             (append_known (W.contents self.new.writer) self.new.held) }
-        ensures settled { OnOk result (self.new.held ≡ []) }
+        ensures settled { OnOk result (IsTrue (nat_eq (length self.new.held) 0 && is_flushed (W.asked self.new.writer).last)) }
+
+        // Where the system fails this fails; after a failure it isn't asked.
+        ensures asked { self.old.failures ≡ 0 → MatchResult result
+            (λ _. FlushedLast (W.asked self.old.writer) (W.asked self.new.writer))
+            (λ _. BrokeLast (W.asked self.old.writer) (W.asked self.new.writer)) }
+        ensures closed { 0 < self.old.failures → IsErr result × (self.new.writer ≡ self.old.writer) }
         ensures by_line { self.new.by_line ≡ self.old.by_line }
         ensures passed { self.new.passed ≡ passed_of self.old.passed (length self.old.held) (length self.new.held) }
     {
-        self.pass_held()?;
-        if self.writer.flush().is_err() {
+        if self.failures > 0 || !self.pass_all() || self.writer.flush().is_err() {
             return Err(self.fail());
         }
         self.failed = false;

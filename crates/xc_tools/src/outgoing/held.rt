@@ -1,5 +1,5 @@
 //! What an output holds back.
-ghost use Rattle.std.specs.Prelude.{◌≡◌, ◌+◌, ◌≤◌, ◌^◌, length, IfOk, [], ◌++◌, take, drop};
+ghost use Rattle.std.specs.Prelude.{◌≡◌, ◌+◌, ◌-◌, ◌≤◌, ◌^◌, length, IfOk, [], ◌++◌, take, drop};
 
 use std::alloc::{AllocError, Global};
 use std::marker::Model;
@@ -71,6 +71,14 @@ impl Held {
         ensures { self.new ≡ drop count self.old }
     {
         self.buffer.copy_within(count..self.len, 0);
+        self.len -= count;
+    }
+
+    /// Lets go of the last bytes.
+    pub(crate) fn remove_back(&mut self, count: usize)
+        requires { count ≤ length self.old }
+        ensures { self.new ≡ take (length self.old - count) self.old }
+    {
         self.len -= count;
     }
 }

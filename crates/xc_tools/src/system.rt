@@ -1,0 +1,161 @@
+//! What the system is asked for its streams, and what it answers.
+ghost use Rattle.std.specs.Prelude.{◌≡◌, ◌≤◌, ℕ, List, Option, length, IfOk};
+ghost use Rattle.std.specs.Io.KnownBytes.{Keeps, ReadConsumes, WriteAppends};
+ghost use Rattle.xc_tools.specs.Streams.{Asked, answered, taken_answer, write_answer, flush_answer, read_answer};
+ghost use Rattle.xc_tools.specs.declared.system.Answer.{Answer};
+ghost use Rattle.xc_tools.specs.declared.system.Answer.TheVariants.{Flushed};
+
+use std::io::{Read, Write};
+use xc_input::ReadFailed;
+use xc_list::WriteFailed;
+
+/// What the system answers one call.
+#[derive(Clone, Copy, Debug, PartialEq, Eq)]
+pub enum Answer {
+    /// All that was asked: a write took all bytes, or a read came back.
+    Whole,
+    /// A write took a beginning of the bytes.
+    Part,
+    /// What was written was flushed.
+    Flushed,
+    /// The call failed.
+    Failed,
+}
+
+/// What a source asks of the system. Each call is counted with its answer.
+pub trait SystemReader {
+    /// The bytes that reads will give, where they are known.
+    ghost remaining: { Self → Option (List ℕ) };
+
+    /// The calls that were made.
+    ghost asked: { Self → Asked };
+
+    /// Asks for bytes, once.
+    fn read(&mut self, buf: &mut [u8]) -> Result<usize, ReadFailed>
+        ensures bound { IfOk result (λ n. n ≤ length buf.new) }
+        ensures bytes { ReadConsumes (remaining self.old) (remaining self.new) result buf.new }
+        ensures asked { asked self.new ≡ answered (read_answer result) (asked self.old) };
+}
+
+/// What a sink asks of the system. Each call is counted with its answer.
+pub trait SystemWriter {
+    /// The bytes that were taken, where they are known.
+    ghost contents: { Self → Option (List ℕ) };
+
+    /// The calls that were made.
+    ghost asked: { Self → Asked };
+
+    /// Asks to take bytes, once.
+    fn write(&mut self, bytes: &[u8]) -> Result<usize, WriteFailed>
+        ensures bound { IfOk result (λ n. n ≤ length bytes.now) }
+        ensures bytes { WriteAppends (contents self.old) (contents self.new) result bytes.now }
+        ensures asked { asked self.new ≡ answered (write_answer result bytes.now) (asked self.old) };
+
+    /// Asks to flush what was written, once.
+    fn flush(&mut self) -> Result<(), WriteFailed>
+        ensures bytes { Keeps (contents self.old) (contents self.new) }
+        ensures asked { asked self.new ≡ answered (flush_answer result) (asked self.old) };
+}
+
+/// A reader or writer of std, whose calls are counted.
+#[derive(Drop)]
+pub struct System<T: Drop> {
+    stream: T,
+    calls: u64,
+    failures: u64,
+    last: Answer,
+}
+
+impl<T: Drop> System<T> {
+    /// A stream of which nothing was asked.
+    pub fn new(stream: T) -> System<T>
+        ensures stream { result.stream ≡ stream }
+        ensures calls { result.calls ≡ 0 }
+        ensures failures { result.failures ≡ 0 }
+        ensures last { result.last ≡ Flushed }
+    {
+        System {
+            stream,
+            calls: 0,
+            failures: 0,
+            last: Answer::Flushed,
+        }
+    }
+
+    /// Counts a call.
+    fn count(&mut self, answer: Answer)
+        ensures stream { self.new.stream ≡ self.old.stream }
+        ensures asked { record { calls = self.new.calls; failures = self.new.failures; last = self.new.last }
+            ≡ answered answer (record { calls = self.old.calls; failures = self.old.failures; last = self.old.last }) }
+    {
+        self.calls = self.calls.saturating_add(1);
+        if answer == Answer::Failed {
+            self.failures = self.failures.saturating_add(1);
+        }
+        self.last = answer;
+    }
+}
+
+impl<R: Read + Drop> SystemReader for System<R> {
+    ghost remaining = { λ s. R.remaining s.stream };
+
+    ghost asked = { λ s. record { calls = s.calls; failures = s.failures; last = s.last } };
+
+    fn read(&mut self, buf: &mut [u8]) -> Result<usize, ReadFailed> {
+        match self.stream.read(buf) {
+            Ok(n) => {
+                self.count(Answer::Whole);
+                Ok(n)
+            }
+            Err(_) => {
+                self.count(Answer::Failed);
+                Err(ReadFailed)
+            }
+        }
+    }
+}
+
+/// What a write came to by which so many of so many bytes were taken.
+fn taken_answer(taken: usize, given: usize) -> Answer
+    ensures { result ≡ taken_answer taken given }
+{
+    if taken == given {
+        Answer::Whole
+    } else if taken == 0 {
+        Answer::Failed
+    } else {
+        Answer::Part
+    }
+}
+
+impl<W: Write + Drop> SystemWriter for System<W> {
+    ghost contents = { λ s. W.contents s.stream };
+
+    ghost asked = { λ s. record { calls = s.calls; failures = s.failures; last = s.last } };
+
+    fn write(&mut self, bytes: &[u8]) -> Result<usize, WriteFailed> {
+        match self.stream.write(bytes) {
+            Ok(n) => {
+                self.count(taken_answer(n, bytes.len()));
+                Ok(n)
+            }
+            Err(_) => {
+                self.count(Answer::Failed);
+                Err(WriteFailed)
+            }
+        }
+    }
+
+    fn flush(&mut self) -> Result<(), WriteFailed> {
+        match self.stream.flush() {
+            Ok(()) => {
+                self.count(Answer::Flushed);
+                Ok(())
+            }
+            Err(_) => {
+                self.count(Answer::Failed);
+                Err(WriteFailed)
+            }
+        }
+    }
+}
