@@ -1,1 +1,3 @@
+pub mod JudgeLemmas
+pub mod RunLemmas
 pub mod StreamLemmas

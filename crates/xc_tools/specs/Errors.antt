@@ -9,3 +9,9 @@ abbrev pub input_error_text : InputError → List ℕ
 input_error_text (Fault line kind) = codes "Line " ++ decimal line ++ codes ": " ++ fault_text kind ++ codes ".\n"
 input_error_text Device = codes "Read failed.\n"
 input_error_text Memory = codes "Out of memory.\n"
+
+-- the status where no problem was read
+abbrev pub error_status : InputError → ℕ
+error_status (Fault line kind) = 2
+error_status Device = 3
+error_status Memory = 4

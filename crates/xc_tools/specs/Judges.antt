@@ -1,15 +1,18 @@
 -- What a whole run of the judge does.
-use Rattle.std.specs.Prelude.{ℕ, ◌≡◌, List, [], ◌∷◌, ◌++◌, Option, None, Some, codes, decimal, flat_map, if◌then◌else◌}
+use Rattle.std.specs.Prelude.{ℕ, ◌≡◌, ◌⊎◌, List, [], ◌∷◌, ◌++◌, take, Option, None, Some, MatchOption, codes, decimal, flat_map, if◌then◌else◌}
 use Rattle.std.specs.Str.{bytes_eq}
 use Rattle.xc_input.specs.declared.kind.Kind.{Kind}
 use Rattle.xc_input.specs.declared.kind.Kind.TheVariants.{Plain, Colours, Bounds}
 use Rattle.xc_input.specs.Named.{Named}
 use Rattle.xc_input.specs.Lines.{lines_of}
+use Rattle.xc_input.specs.Calls.{Rose}
 use Rattle.xc_list.specs.Listed.{fault_in_listing, AreVerdicts}
-use Rattle.xc_list.specs.Texts.{SinkState, Took, WasTold, Begins}
+use Rattle.xc_list.specs.Texts.{WasTold}
 use Rattle.xc_list.specs.declared.checker.Verdict.{Verdict}
 use Rattle.xc_list.specs.declared.checker.ListingFault.{ListingFault}
 use Rattle.xc_list.specs.declared.checker.ListingFault.TheVariants.{BadLine, UnknownOption, Memory}
+use Rattle.xc_tools.specs.Given.{SourceState, GaveText, GaveProblem}
+use Rattle.xc_tools.specs.Solves.{Seen, Streams, TookAll, FailedBehind, IsRefused, HasNoProblem}
 
 -- the kind of problem that a number stands for
 abbrev pub numbered_kind : List ℕ → Option Kind
@@ -44,26 +47,67 @@ abbrev pub judged_status : List Verdict → ℕ
 judged_status [] = 0
 judged_status (v ∷ vs) = if v.cover then judged_status vs else 5
 
--- a listing without a fault, and the verdicts on it
-pub record AreVerdictsOn (a : Named) (listing : List ℕ) (vs : List Verdict) : Type 0 where
+-- A source gave a listing without a fault, and these are the verdicts on it.
+pub record HasVerdicts (a : Named) (vs : List Verdict) (old new : SourceState) : Type 0 where
+  pub listing : List ℕ
+  pub gave : GaveText listing old new
   pub no_fault : fault_in_listing a (lines_of listing) ≡ None
   pub verdicts : AreVerdicts a (lines_of listing) vs
 
--- A listing was judged: a sink took the verdicts, and the status is theirs.
-pub record IsJudged (a : Named) (status : ℕ) (old new : SinkState) (listing : List ℕ) : Type 0 where
+-- 0, 5: the output took the verdicts, the status is theirs, and nothing was told.
+pub record IsJudged {L O E : Type 0} (a : Named) (status : ℕ) (old new : Streams L O E) : Type 0 where
   pub verdicts : List Verdict
-  pub right : AreVerdictsOn a listing verdicts
+  pub right : HasVerdicts a verdicts old.input.state new.input.state
   pub is_status : judged_status verdicts ≡ status
-  pub taken : Took old new (flat_map verdict_text verdicts)
+  pub taken : TookAll old.out.state new.out.state (flat_map verdict_text verdicts)
+  pub quiet : new.err ≡ old.err
 
--- A listing has verdicts, and a sink took a beginning of them.
-pub record IsPartlyJudged (a : Named) (old new : SinkState) (listing : List ℕ) : Type 0 where
-  pub verdicts : List Verdict
-  pub right : AreVerdictsOn a listing verdicts
-  pub begun : Begins old new (flat_map verdict_text verdicts)
-
--- A listing has a first fault, and a sink was told it.
-pub record IsFaulty (a : Named) (old new : SinkState) (listing : List ℕ) : Type 0 where
+-- 2: the listing has a first fault, which was told, and nothing was written.
+pub record IsFaulty {L O E : Type 0} (a : Named) (old new : Streams L O E) : Type 0 where
+  pub listing : List ℕ
+  pub gave : GaveText listing old.input.state new.input.state
   pub fault : ListingFault
   pub first : fault_in_listing a (lines_of listing) ≡ Some fault
-  pub told : WasTold old new (listing_fault_text fault)
+  pub told : WasTold old.err.state new.err.state (listing_fault_text fault)
+  pub unwritten : new.out ≡ old.out
+
+-- 3: a read of the listing failed, which was told, and nothing was written.
+pub record IsUnread {L O E : Type 0} (old new : Streams L O E) : Type 0 where
+  pub failure : Rose old.input.state.failures new.input.state.failures
+  pub told : WasTold old.err.state new.err.state (codes "Read failed.\n")
+  pub unwritten : new.out ≡ old.out
+
+-- 3: behind the verdicts, or a beginning of them, a write or the flush failed, which was told.
+pub record IsFailed {L O E : Type 0} (a : Named) (old new : Streams L O E) : Type 0 where
+  pub verdicts : List Verdict
+  pub right : HasVerdicts a verdicts old.input.state new.input.state
+  pub many : ℕ
+  pub failed : FailedBehind old.out.state new.out.state (take many (flat_map verdict_text verdicts))
+  pub told : WasTold old.err.state new.err.state (codes "Write failed.\n")
+
+-- 4: there was no memory for the listing or the verdicts, which was told, and nothing was written.
+pub record IsOutOfMemory {L O E : Type 0} (old new : Streams L O E) : Type 0 where
+  pub no_failure : new.input.state.failures ≡ old.input.state.failures
+  pub told : WasTold old.err.state new.err.state (codes "Out of memory.\n")
+  pub unwritten : new.out ≡ old.out
+
+-- What judging a listing of a problem did, by the status.
+abbrev pub DidJudgeListing : {L O E : Type 0} → Named → ℕ → Streams L O E → Streams L O E → Type 0
+DidJudgeListing a status old new =
+    IsJudged a status old new ⊎ ((status ≡ 2) × IsFaulty a old new) ⊎ ((status ≡ 3) × IsUnread old new)
+    ⊎ ((status ≡ 3) × IsFailed a old new) ⊎ ((status ≡ 4) × IsOutOfMemory old new)
+
+-- What a run did that was asked for this kind: there was no problem, and neither listing nor output was touched; or the
+-- listing was judged.
+abbrev pub DidAsAsked : {L O E : Type 0} → Kind → ℕ → SourceState → SourceState → Streams L O E → Streams L O E → Type 0
+DidAsAsked kind status problem_old problem_new old new =
+    (HasNoProblem kind status problem_old problem_new old.err.state new.err.state
+    × (new.input ≡ old.input) × (new.out ≡ old.out))
+    ⊎ GaveProblem kind (λ a _. DidJudgeListing a status old new) problem_old problem_new
+
+-- What a run of the judge did, by its words and its status, which is 1 exactly where the words ask for no kind.
+abbrev pub DidJudge : {P L O E : Type 0} → List (List ℕ) → ℕ → Seen P SourceState → Seen P SourceState
+    → Streams L O E → Streams L O E → Type 0
+DidJudge words status problem_old problem_new old new = MatchOption (asked_kind words)
+    ((status ≡ 1) × (problem_new ≡ problem_old) × IsRefused usage_text old new)
+    (λ kind. DidAsAsked kind status problem_old.state problem_new.state old new)

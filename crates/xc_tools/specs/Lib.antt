@@ -1,4 +1,5 @@
 pub mod Errors
+pub mod Given
 pub mod Judges
 pub mod Solves
 pub mod Streams

@@ -1,68 +1,113 @@
--- What a whole run does.
-use Rattle.std.specs.Prelude.{◌≡◌, ◌⊎◌, ℕ, List, ◌++◌, IsTrue, codes, flat_map}
+-- What a whole run of a solver does.
+use Rattle.std.specs.Prelude.{◌≡◌, ◌⊎◌, ℕ, List, ◌++◌, IsTrue, MatchResult, codes, flat_map}
+use Rattle.std.specs.Io.KnownBytes.{Appends}
 use Rattle.xc_input.specs.Calls.{Rose}
 use Rattle.xc_input.specs.declared.kind.Kind.{Kind}
+use Rattle.xc_input.specs.declared.fault.InputError.{InputError}
 use Rattle.xc_input.specs.Named.{Named}
-use Rattle.xc_input.specs.Lines.{IsTextOf}
-use Rattle.xc_input.specs.Pieces.{IsWhole}
-use Rattle.xc_input.specs.declared.fault.FaultKind.{FaultKind}
-use Rattle.xc_input.specs.declared.fault.InputError.TheVariants.{Fault}
-use Rattle.xc_tools.specs.Errors.{input_error_text}
 use Rattle.xc_list.specs.declared.words.Words.{Words}
-use Rattle.xc_list.specs.Messages.{warning_text, summary_text, failed_text}
+use Rattle.xc_list.specs.Messages.{warning_text, summary_text, failed_text, word_fault_text}
 use Rattle.xc_list.specs.Output.{output}
 use Rattle.xc_list.specs.Runs.{StoppedAt, end_of}
+use Rattle.xc_list.specs.Settings.{read_words}
 use Rattle.xc_list.specs.Texts.{SinkState, Took, BrokeOff, WasTold, IsUntouched}
+use Rattle.xc_tools.specs.Errors.{input_error_text, error_status}
+use Rattle.xc_tools.specs.Given.{SourceState, GaveProblem, GaveNone}
 
--- A problem was solved: one sink took its output, the other the warnings and the last line. Neither failed.
-pub record IsSolved (a : Named) (ignored : List ℕ) (w : Words)
+-- A source or a sink, and what is known of it.
+pub record Seen (T Known : Type 0) : Type 0 where
+  pub value : T
+  pub state : Known
+
+-- A source, the output and the messages of a program.
+pub record Streams (S O E : Type 0) : Type 0 where
+  pub input : Seen S SourceState
+  pub out : Seen O SinkState
+  pub err : Seen E SinkState
+
+-- a value, and what is known of it
+abbrev pub seen : {T Known : Type 0} → (T → Known) → T → Seen T Known
+seen state x = record { value = x; state = state x }
+
+-- the three of them, by what is known of each
+abbrev pub streams : {S O E : Type 0} → (S → SourceState) → (O → SinkState) → (E → SinkState) → S → O → E → Streams S O E
+streams input out err s o e = record { input = seen input s; out = seen out o; err = seen err e }
+
+-- A sink took the whole text, met no failure, and holds nothing back.
+pub record TookAll (old new : SinkState) (text : List ℕ) : Type 0 where
+  pub took : Took old new text
+  pub settled : IsTrue new.settled
+
+-- A sink took this text, and failed at the next call, its last.
+pub record FailedBehind (old new : SinkState) (text : List ℕ) : Type 0 where
+  pub failure : Rose old.failures new.failures
+  pub last : IsTrue new.failed
+  pub taken : Appends old.taken new.taken text
+
+-- A sink took the one text, and then this is so of it and the other.
+abbrev pub Behind : List ℕ → (SinkState → SinkState → List ℕ → Type 0) → SinkState → SinkState → List ℕ → Type 0
+Behind first says old new text = (between : SinkState) × Took old between first × says between new text
+
+-- A problem was solved: one sink took its output, the other the warnings and the last line.
+pub record IsComplete (a : Named) (ignored : List ℕ) (w : Words)
     (out_old out_new err_old err_new : SinkState) : Type 0 where
-  pub output : Took out_old out_new (output a w.spacing w.limit)
+  pub output : TookAll out_old out_new (output a w.spacing w.limit)
   pub told : Took err_old err_new (flat_map warning_text ignored ++ summary_text (end_of a w.limit))
 
--- The bytes stand for a problem, with these ignored lines, of which this holds.
-pub record StandsForOne (kind : Kind) (says : Named → List ℕ → Type 0) (bytes : List ℕ) : Type 0 where
-  pub named : Named
-  pub ignored : List ℕ
-  pub text : IsTextOf kind bytes named ignored
-  pub said : says named ignored
+-- Where a solving failed.
+pub data FailedAt : Type 0 where
+  warning : FailedAt
+  solution : (n : ℕ) → FailedAt
+  flush : FailedAt
+  last_line : FailedAt
 
--- A source gave a text that stands for a problem, and its end, and this holds of the problem and its ignored lines.
-abbrev pub GaveOne : Kind → (Named → List ℕ → Type 0) → List (List ℕ) → List (List ℕ) → Type 0
-GaveOne kind says old new =
-    (named : Named) × (ignored : List ℕ) × IsWhole kind old new named ignored × says named ignored
+-- It failed there: at a warning, and nothing was written; at a solution, or at the flush behind the whole output,
+-- which was told behind the warnings; or at the last line, behind the flush.
+abbrev pub IsFailed : FailedAt → Named → List ℕ → Words → SinkState → SinkState → SinkState → SinkState → Type 0
+IsFailed warning a ignored w out_old out_new err_old err_new =
+    IsUntouched out_old out_new × BrokeOff err_old err_new (flat_map warning_text ignored)
+IsFailed (solution n) a ignored w out_old out_new err_old err_new = StoppedAt a w.spacing w.limit n out_old out_new
+    × Behind (flat_map warning_text ignored) WasTold err_old err_new (failed_text n)
+IsFailed flush a ignored w out_old out_new err_old err_new = FailedBehind out_old out_new (output a w.spacing w.limit)
+    × Behind (flat_map warning_text ignored) WasTold err_old err_new (codes "Write failed.\n")
+IsFailed last_line a ignored w out_old out_new err_old err_new = TookAll out_old out_new (output a w.spacing w.limit)
+    × Behind (flat_map warning_text ignored) BrokeOff err_old err_new (summary_text (end_of a w.limit))
 
--- There is a fault at a line, of which this holds, and a sink was told it.
-pub record WasToldFault (says : ℕ → FaultKind → Type 0) (old new : SinkState) : Type 0 where
-  pub line : ℕ
-  pub fault : FaultKind
-  pub said : says line fault
-  pub told : WasTold old new (input_error_text (Fault line fault))
-
--- A sink took one text whole, and then this one, or a beginning of it behind which it failed.
-abbrev pub WasToldBehind : List ℕ → SinkState → SinkState → List ℕ → Type 0
-WasToldBehind first old new text = (between : SinkState) × Took old between first × WasTold between new text
-
--- The sink counted a failure, and its last call failed.
-abbrev pub FailedLast : SinkState → SinkState → Type 0
-FailedLast old new = Rose old.failures new.failures × IsTrue new.failed
-
--- The output failed at a solution or at the flush, and by its last call, which was told; or the last line couldn't be.
-abbrev pub IsFailedSearch : Named → Words → SinkState → SinkState → SinkState → SinkState → Type 0
-IsFailedSearch a w out_old out_new err_old err_new =
-    ((n : ℕ) × StoppedAt a w.spacing w.limit n out_old out_new × WasTold err_old err_new (failed_text n))
-    ⊎ (FailedLast out_old out_new × WasTold err_old err_new (codes "Write failed.\n"))
-    ⊎ ((out_new.failures ≡ out_old.failures) × BrokeOff err_old err_new (summary_text (end_of a w.limit)))
-
--- A warning could not be told, and nothing was written; or all were, and the search failed.
-abbrev pub IsFailedSolving : Named → List ℕ → Words → SinkState → SinkState → SinkState → SinkState → Type 0
-IsFailedSolving a ignored w out_old out_new err_old err_new =
-    (BrokeOff err_old err_new (flat_map warning_text ignored) × IsUntouched out_old out_new)
-    ⊎ ((between : SinkState) × Took err_old between (flat_map warning_text ignored)
-    × IsFailedSearch a w out_old out_new between err_new)
-
--- A read failed, which was told, and nothing was written.
-pub record IsUnread (in_old in_new : ℕ) (out_old out_new err_old err_new : SinkState) : Type 0 where
-  pub failure : Rose in_old in_new
+-- There was no memory for the search: nothing was written, and it was told behind the warnings.
+pub record IsOutOfMemory (ignored : List ℕ) (out_old out_new err_old err_new : SinkState) : Type 0 where
   pub unwritten : IsUntouched out_old out_new
-  pub told : WasTold err_old err_new (codes "Read failed.\n")
+  pub told : Behind (flat_map warning_text ignored) WasTold err_old err_new (codes "Out of memory.\n")
+
+-- What solving a problem did, by the status.
+abbrev pub DidSearch : Words → ℕ → SinkState → SinkState → SinkState → SinkState → Named → List ℕ → Type 0
+DidSearch w status out_old out_new err_old err_new a ignored =
+    ((status ≡ 0) × IsComplete a ignored w out_old out_new err_old err_new)
+    ⊎ ((status ≡ 3) × (place : FailedAt) × IsFailed place a ignored w out_old out_new err_old err_new)
+    ⊎ ((status ≡ 4) × IsOutOfMemory ignored out_old out_new err_old err_new)
+
+-- The words were refused, which was told, and nothing else was touched.
+pub record IsRefused {S O E : Type 0} (text : List ℕ) (old new : Streams S O E) : Type 0 where
+  pub told : WasTold old.err.state new.err.state text
+  pub unread : new.input ≡ old.input
+  pub unwritten : new.out ≡ old.out
+
+-- A source gave no problem, for a reason that was told and has its status: 2 for a fault, 3 where a read failed, 4 for
+-- want of memory.
+pub record HasNoProblem (kind : Kind) (status : ℕ) (old new : SourceState) (err_old err_new : SinkState) : Type 0 where
+  pub error : InputError
+  pub gave : GaveNone kind error old new
+  pub is_status : status ≡ error_status error
+  pub told : WasTold err_old err_new (input_error_text error)
+
+-- What a run did whose words were read: there was no problem, and the output wasn't touched; or it was searched.
+abbrev pub DidAsAsked : {O : Type 0} → Kind → Words → ℕ → SourceState → SourceState
+    → Seen O SinkState → Seen O SinkState → SinkState → SinkState → Type 0
+DidAsAsked kind w status input_old input_new out_old out_new err_old err_new =
+    (HasNoProblem kind status input_old input_new err_old err_new × (out_new ≡ out_old))
+    ⊎ GaveProblem kind (DidSearch w status out_old.state out_new.state err_old err_new) input_old input_new
+
+-- What a run did, by its words and its status, which is 1 exactly where the words have a fault.
+abbrev pub DidSolve : {S O E : Type 0} → Kind → List (List ℕ) → ℕ → Streams S O E → Streams S O E → Type 0
+DidSolve kind words status old new = MatchResult (read_words words)
+    (λ w. DidAsAsked kind w status old.input.state new.input.state old.out new.out old.err.state new.err.state)
+    (λ fault. (status ≡ 1) × IsRefused (word_fault_text fault) old new)

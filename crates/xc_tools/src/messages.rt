@@ -1,10 +1,11 @@
 //! What is told where no problem was read.
 ghost use Rattle.std.specs.Prelude.{◌≡◌, ◌++◌, OnErr, IsTrue, codes, decimal};
-ghost use Rattle.xc_list.specs.Texts.{Writes};
+ghost use Rattle.xc_list.specs.Texts.{Writes, WasTold};
 ghost use Rattle.xc_input.specs.FaultTexts.{fault_text};
-ghost use Rattle.xc_tools.specs.Errors.{input_error_text};
+ghost use Rattle.xc_tools.specs.Errors.{input_error_text, error_status};
 ghost use Rattle.xc_tools.specs.Judges.{listing_fault_text};
 
+use crate::status::{BAD_INPUT, FAILED, NO_MEMORY};
 use xc_input::{FaultKind, InputError};
 use xc_list::{ListingFault, Sink, SinkFault, write_all, write_line};
 
@@ -25,6 +26,26 @@ pub fn input_error<S: Sink>(error: &InputError, sink: &mut S) -> Result<(), Sink
         InputError::Device => write_all(sink, b"Read failed.\n"),
         InputError::Memory => write_all(sink, b"Out of memory.\n"),
     }
+}
+
+/// The status where no problem was read.
+fn error_status(error: &InputError) -> u8
+    ensures { result ≡ error_status error.now }
+{
+    match *error {
+        InputError::Fault { line: _, kind: _ } => BAD_INPUT,
+        InputError::Device => FAILED,
+        InputError::Memory => NO_MEMORY,
+    }
+}
+
+/// Tells why no problem was read, as far as that goes, and gives the status of that.
+pub(crate) fn no_problem<E: Sink>(error: &InputError, err: &mut E) -> u8
+    ensures status { result ≡ error_status error.now }
+    ensures told { WasTold (E.state err.old) (E.state err.new) (input_error_text error.now) }
+{
+    let _ = input_error(error, err);
+    error_status(error)
 }
 
 fn write_listing_fault<S: Sink>(line: u64, text: &[u8], sink: &mut S) -> Result<(), SinkFault>
