@@ -2,7 +2,15 @@ VERSION := $(shell cat VERSION)
 PROGRAMS = dlx1 dlx2 dlx3 dlxcheck
 SCRIPTS = split run join
 
-.PHONY: run bin all test test-hostile test-docs
+# Where things are installed.
+PREFIX = /usr/local
+bindir = $(PREFIX)/bin
+mandir = $(PREFIX)/share/man
+docdir = $(PREFIX)/share/doc/helgrothy
+pythondir = $(PREFIX)/share/helgrothy
+completiondir = $(PREFIX)/share/bash-completion/completions
+
+.PHONY: run bin all test test-hostile test-docs install uninstall dist deb wheel release test-install test-dist test-deb test-wheel
 run: bin
 	cd crates/dlx1 && rt run -- m1 < ../../examples/seven.dlx
 test:
@@ -25,3 +33,45 @@ bin:
 	@mkdir -p bin
 	@for program in $(PROGRAMS); do ln -sfn ../crates/$$program/out/$$program bin/$$program || exit 1; done
 	@for script in $(SCRIPTS); do ln -sfn ../scripts/split/$$script bin/dlx-$$script || exit 1; done
+
+# What follows takes the programs as `make all` built them, and needs no toolchain.
+COMMANDS = $(PROGRAMS) $(SCRIPTS:%=dlx-%)
+# The files of a folder or two into another, whatever the umask.
+copy = find -L $(1) -type f ! -name '*.pyc' -exec sh -c 'for file; do install -D -m 644 "$$file" "$(2)/$$file" || exit 1; done' copy {} +
+
+install: bin
+	install -d "$(DESTDIR)$(bindir)" "$(DESTDIR)$(mandir)/man1" "$(DESTDIR)$(mandir)/man5" "$(DESTDIR)$(completiondir)"
+	for command in $(COMMANDS); do install -m 755 bin/$$command "$(DESTDIR)$(bindir)/" || exit 1; done
+	for page in man/*.[15]; do \
+	    to="$(DESTDIR)$(mandir)/man$${page##*.}/$${page##*/}"; \
+	    sed '1s/ Helgrothy / "Helgrothy $(VERSION)" /' $$page > "$$to" && chmod 644 "$$to" || exit 1; \
+	done
+	for script in run join; do ln -sfn dlx-split.1 "$(DESTDIR)$(mandir)/man1/dlx-$$script.1" || exit 1; done
+	install -m 644 release/completion.bash "$(DESTDIR)$(completiondir)/dlx1"
+	for command in $(COMMANDS:dlx1=); do ln -sfn dlx1 "$(DESTDIR)$(completiondir)/$$command" || exit 1; done
+	$(call copy,docs examples CHANGELOG.md,$(DESTDIR)$(docdir))
+	cd release && $(call copy,README.md,$(DESTDIR)$(docdir))
+	sed -i '1s/$$/ $(VERSION)/' "$(DESTDIR)$(docdir)/README.md"
+	cd python && $(call copy,helgrothy,$(DESTDIR)$(pythondir))
+
+uninstall:
+	for command in $(COMMANDS); do rm -f "$(DESTDIR)$(bindir)/$$command" "$(DESTDIR)$(completiondir)/$$command" || exit 1; done
+	for page in $(COMMANDS:%=%.1) dlx.5; do rm -f "$(DESTDIR)$(mandir)/man$${page##*.}/$$page" || exit 1; done
+	for part in docs examples CHANGELOG.md README.md; do rm -rf "$(DESTDIR)$(docdir)/$$part" || exit 1; done
+	rm -rf "$(DESTDIR)$(pythondir)/helgrothy"
+	rmdir --ignore-fail-on-non-empty "$(DESTDIR)$(docdir)" "$(DESTDIR)$(pythondir)"
+
+# Each of these makes a file in `dist`, the same bytes from the same files.
+dist: bin
+	@sh release/dist.sh $(VERSION)
+deb: bin
+	@sh release/deb.sh $(VERSION)
+wheel: bin
+	@python3 release/wheel.py $(VERSION)
+release: dist deb wheel
+	cd dist && sha256sum helgrothy[-_]$(VERSION)* > SHA256SUMS
+
+test-install: bin
+	@sh tests/install.sh
+test-dist: dist
+	@sh tests/dist.sh $(VERSION)
