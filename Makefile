@@ -10,7 +10,7 @@ docdir = $(PREFIX)/share/doc/helgrothy
 pythondir = $(PREFIX)/share/helgrothy
 completiondir = $(PREFIX)/share/bash-completion/completions
 
-.PHONY: run bin all test test-hostile test-docs install uninstall dist deb wheel release test-install test-dist test-deb test-wheel
+.PHONY: run bin all test test-hostile test-docs install uninstall dist deb wheel version release test-install test-dist test-deb test-wheel
 run: bin
 	cd crates/dlx1 && rt run -- m1 < ../../examples/seven.dlx
 test:
@@ -62,12 +62,15 @@ uninstall:
 	rmdir --ignore-fail-on-non-empty "$(DESTDIR)$(docdir)" "$(DESTDIR)$(pythondir)"
 
 # Each of these makes a file in `dist`, the same bytes from the same files.
-dist: bin
+dist: bin version
 	@sh release/dist.sh $(VERSION)
-deb: bin
+deb: bin version
 	@sh release/deb.sh $(VERSION)
-wheel: bin
+wheel: bin version
 	@python3 release/wheel.py $(VERSION)
+version:
+	@grep -q '^## $(VERSION)$$' CHANGELOG.md || { echo "CHANGELOG.md says nothing of $(VERSION)" >&2; exit 1; }
+	@grep -q '^__version__ = "$(VERSION)"$$' python/helgrothy/__init__.py || { echo "the package isn't of $(VERSION)" >&2; exit 1; }
 release: dist deb wheel
 	cd dist && sha256sum helgrothy[-_]$(VERSION)* > SHA256SUMS
 
@@ -75,3 +78,7 @@ test-install: bin
 	@sh tests/install.sh
 test-dist: dist
 	@sh tests/dist.sh $(VERSION)
+test-deb: deb
+	@sh tests/deb.sh $(VERSION)
+test-wheel: wheel
+	@sh tests/wheel.sh $(VERSION)
