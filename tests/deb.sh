@@ -1,9 +1,9 @@
 #!/bin/sh
-# deb.sh VERSION: installs the package that `make deb` made in a fresh Debian without toolchain, runs the pages that it
+# deb.sh VERSION: installs the package that `make deb` made in a fresh system without toolchain, runs the pages that it
 # brings, and removes it, after which no file is left; and makes it again, which has to give the same bytes. The fresh
-# system comes from debootstrap, by root; it is kept in ROOT where that is given, and used again. Without debootstrap
-# the package is unpacked into an empty folder, and its pages run with the system's programs alone on the path besides.
-# Prints what differs.
+# system is of this one's release and comes from debootstrap, by root; it is kept in ROOT where that is given, and used
+# again. Without debootstrap the package is unpacked into an empty folder, and its pages run with the system's programs
+# alone on the path besides. Prints what differs.
 set -eu
 version=$1
 deb=helgrothy_${version}_amd64.deb
@@ -18,7 +18,9 @@ fi
 
 in_fresh_system() {
     root=${ROOT:-$empty/root}
-    [ -e "$root/usr" ] || debootstrap --variant=minbase --include=python3 stable "$root" >"$empty/log" || fail "$(tail -n 3 "$empty/log")"
+    release=$(. /etc/os-release && echo "$VERSION_CODENAME")
+    [ -e "$root/usr" ] || debootstrap --variant=minbase --include=python3 "$release" "$root" >"$empty/log" ||
+        fail "$(tail -n 3 "$empty/log")"
     inside() { chroot "$root" env -i HOME=/root PATH=/usr/sbin:/usr/bin:/sbin:/bin "$@"; }
     files() { (cd "$root" && find bin/ etc home lib/ opt root sbin/ srv usr var/lib/dpkg/info | sort); }
     rm -rf "$root/trial"
@@ -45,3 +47,4 @@ if command -v debootstrap >/dev/null && [ "$(id -u)" = 0 ]; then in_fresh_system
 mv "dist/$deb" "$empty/first"
 (umask 077; TZ=Asia/Tokyo make -s deb VERSION="$version")
 cmp "$empty/first" "dist/$deb"
+mv "$empty/first" "dist/$deb"

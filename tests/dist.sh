@@ -20,3 +20,4 @@ done
 mv "dist/$name.tar.gz" "$empty/first"
 (umask 077; TZ=Asia/Tokyo make -s dist VERSION="$version")
 cmp "$empty/first" "dist/$name.tar.gz"
+mv "$empty/first" "dist/$name.tar.gz"

@@ -11,7 +11,7 @@ trap 'exit 2' HUP INT TERM
 
 "$python" -m venv "$empty/venv"
 "$empty/venv/bin/pip" install -q --no-index --disable-pip-version-check "dist/$wheel"
-cp dist/"$wheel" "$empty/first"
+cp "dist/$wheel" "$empty/first"
 cat >"$empty/use.py" <<'END'
 import importlib.metadata
 import sys
@@ -38,3 +38,4 @@ left=$(find "$empty/venv" -name '*helgrothy*' -o -name 'dlx*')
 
 (umask 077; TZ=Asia/Tokyo make -s wheel VERSION="$version")
 cmp "$empty/first" "dist/$wheel"
+mv "$empty/first" "dist/$wheel"
