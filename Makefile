@@ -61,7 +61,9 @@ uninstall:
 	rm -rf "$(DESTDIR)$(pythondir)/helgrothy"
 	rmdir --ignore-fail-on-non-empty "$(DESTDIR)$(docdir)" "$(DESTDIR)$(pythondir)"
 
-# Each of these makes a file in `dist`, the same bytes from the same files.
+# Each of these makes a file in `dist`. The same files give the same bytes: whatever is packed is of this time.
+SOURCE_DATE_EPOCH := $(or $(SOURCE_DATE_EPOCH),$(shell git log -1 --format=%ct 2>/dev/null))
+export SOURCE_DATE_EPOCH
 dist: bin version
 	@sh release/dist.sh $(VERSION)
 deb: bin version

@@ -1,13 +1,12 @@
 #!/bin/sh
-# deb.sh VERSION: a Debian package in dist/, from the programs as built. The same files give the same bytes, by the
-# time of SOURCE_DATE_EPOCH or of the last commit.
+# deb.sh VERSION: a Debian package in dist/, from the programs as built. The same files give the same bytes; they are
+# of the time SOURCE_DATE_EPOCH.
 set -eu
 export LC_ALL=C
 umask 022
 version=$1
-SOURCE_DATE_EPOCH=${SOURCE_DATE_EPOCH:-$(git log -1 --format=%ct)}
 # A package that is packed by several threads may differ.
-export SOURCE_DATE_EPOCH DPKG_DEB_THREADS_MAX=1
+export DPKG_DEB_THREADS_MAX=1
 maintainer="Helgrothy maintainers <maintainers@users.noreply.helgrothy.example>"
 root=$(mktemp -d)
 trap 'rm -rf "$root"' EXIT
@@ -26,7 +25,7 @@ doc=$root/usr/share/doc/helgrothy
 cp release/copyright "$doc/copyright"
 {
     printf 'helgrothy (%s) unstable; urgency=medium\n\n  * What is new is in CHANGELOG.md.\n\n' "$version"
-    printf ' -- %s  %s\n' "$maintainer" "$(date -R -u -d "@$SOURCE_DATE_EPOCH")"
+    printf ' -- %s  %s\n' "$maintainer" "$(date -R -u -d "@${SOURCE_DATE_EPOCH:?}")"
 } | gzip -9n >"$doc/changelog.gz"
 
 mkdir "$root/DEBIAN"

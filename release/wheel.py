@@ -1,12 +1,11 @@
 #!/usr/bin/env python3
 """wheel.py VERSION: the Python package with the four programs as built, as a wheel in dist/.
 
-The same files give the same bytes, by the time of SOURCE_DATE_EPOCH or of the last commit.
+The same files give the same bytes; they are of the time SOURCE_DATE_EPOCH.
 """
 import base64
 import hashlib
 import os
-import subprocess
 import sys
 import time
 import zipfile
@@ -36,13 +35,6 @@ Generator: helgrothy
 Root-Is-Purelib: false
 Tag: {TAG}
 """
-
-
-def source_time():
-    told = os.environ.get("SOURCE_DATE_EPOCH")
-    if not told:
-        told = subprocess.run(["git", "log", "-1", "--format=%ct"], check=True, capture_output=True, text=True).stdout
-    return time.gmtime(int(told))[:6]
 
 
 def read(path):
@@ -91,10 +83,10 @@ def main():
     files[f"{about}/RECORD"] = record(files, f"{about}/RECORD").encode()
 
     os.makedirs("dist", exist_ok=True)
-    now = source_time()
+    then = time.gmtime(int(os.environ["SOURCE_DATE_EPOCH"]))[:6]
     with zipfile.ZipFile(f"dist/helgrothy-{version}-{TAG}.whl", "w", zipfile.ZIP_DEFLATED) as wheel:
         for name, content in files.items():
-            entry = zipfile.ZipInfo(name, now)
+            entry = zipfile.ZipInfo(name, then)
             entry.compress_type = zipfile.ZIP_DEFLATED
             entry.create_system = 3
             entry.external_attr = (0o100755 if name in executable else 0o100644) << 16
