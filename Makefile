@@ -72,7 +72,8 @@ wheel: bin version
 	@python3 release/wheel.py $(VERSION)
 version:
 	@grep -q '^## $(VERSION)$$' CHANGELOG.md || { echo "CHANGELOG.md says nothing of $(VERSION)" >&2; exit 1; }
-	@grep -q '^__version__ = "$(VERSION)"$$' python/helgrothy/__init__.py || { echo "the package isn't of $(VERSION)" >&2; exit 1; }
+	@grep -q '^__version__ = "$(VERSION)"$$' python/helgrothy/__init__.py && grep -q '^version = "$(VERSION)"$$' python/pyproject.toml || \
+	    { echo "the Python package isn't of $(VERSION)" >&2; exit 1; }
 release: dist deb wheel
 	cd dist && sha256sum helgrothy[-_]$(VERSION)* > SHA256SUMS
 

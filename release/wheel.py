@@ -29,6 +29,11 @@ Description-Content-Type: text/markdown
 
 {description}"""
 
+ENTRY_POINTS = """\
+[console_scripts]
+helgrothy = helgrothy.__main__:run
+"""
+
 WHEEL = f"""\
 Wheel-Version: 1.0
 Generator: helgrothy
@@ -79,6 +84,7 @@ def main():
     # What it is, and what it means that there is no licence.
     description = "\n\n".join(read("release/README.md").decode().split("\n\n")[:3]) + "\n"
     files[f"{about}/METADATA"] = METADATA.format(version=version, description=description).encode()
+    files[f"{about}/entry_points.txt"] = ENTRY_POINTS.encode()
     files[f"{about}/WHEEL"] = WHEEL.encode()
     files[f"{about}/RECORD"] = record(files, f"{about}/RECORD").encode()
 
