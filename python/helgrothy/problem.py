@@ -98,7 +98,10 @@ class Problem(Generic[Option]):
     def _bounds(self, item: Hashable, given: BoundsLike) -> Bounds:
         if given is None:
             return ONCE
-        low, high = (given, given) if isinstance(given, int) else given
+        pair = (given, given) if isinstance(given, int) else tuple(given)
+        is_pair = len(pair) == 2 and all(isinstance(bound, int) for bound in pair)
+        self._refuse(not is_pair, item, "bad bound", "bounds are None, a number or two")
+        low, high = pair
         reason = bounds_fault(low, high)
         self._refuse(reason is not None, item, reason or "")
         return Bounds(low, high)
@@ -166,6 +169,16 @@ class Problem(Generic[Option]):
     def name(self, item: Hashable) -> str:
         """An item's name in the problem's text: the item itself where it is a legal name. Raises `KeyError`."""
         return self._names[item]
+
+    @property
+    def item_names(self) -> List[str]:
+        """The names of the primary items."""
+        return [self._names[item] for item in self.items]
+
+    @property
+    def secondary_names(self) -> List[str]:
+        """The names of the secondary items."""
+        return [self._names[item] for item in self.secondary]
 
     def uses(self, option: Iterable[Hashable]) -> Dict[str, Optional[str]]:
         """The names of an option's items, each with its colour's name or None. Raises `ProblemFault`."""
