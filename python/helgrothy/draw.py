@@ -256,7 +256,8 @@ class Pattern:
     cell: finds the cells of an option; its groups `row` and `column`, or else its first two, are their place, as
         numbers or as a letter behind them (9, a, b, ..). With one group all cells are in one row. A third group, or
         else the cell's colour, is the cell's label.
-    label: finds the label of an option's other cells: its first group, or else all of it.
+    label: finds the label of an option's other cells: its first group, or else all of it. Cells without any label
+        are stars in the text.
 
     A match begins and ends where words of the line do. It may go over several words.
     """
@@ -283,7 +284,7 @@ class Pattern:
                 name = "" if found is None else found.group(1 if label.groups else 0)
                 for (r, c), own in _cells(cell, line):
                     place = cells[r - top, c - left]
-                    place.label = own or name
+                    place.label, place.is_quiet = own or name or "*", not (own or name)
                     if not own:
                         place.group, place.fill = number, shades[name or number]
             return Picture("a solution", cells, has_grid=all(place.group is None for place in cells.values()))

@@ -34,7 +34,7 @@ from .programs import Ending, Run
 from .syntax import MOST_ITEMS, MOST_USES, ONCE, Bounds, bounds_fault, bytes_of, read, text_of
 
 if TYPE_CHECKING:
-    from .draw import Picture
+    from .draw import Pattern, Picture
 
 Uses = Mapping[Hashable, Optional[Hashable]]
 Option = TypeVar("Option", bound=Iterable[Hashable])
@@ -307,14 +307,15 @@ class Problem(Generic[Option]):
                 body = f"null {self.name(choice.item)}" if isinstance(choice, Null) else self.line(choice)
                 yield bytes_of(f" {body} (1 of 1)\n")
 
-    def draw(self, solution: Iterable[Any] = ()) -> Picture:
+    def draw(self, solution: Iterable[Any] = (), pattern: Optional[Pattern] = None) -> Picture:
         """A picture of a solution, or of the problem as it stands before one. Raises `NoPicture`.
 
-        The problems that `helgrothy.make` makes have pictures; `helgrothy.draw.Pattern` draws others.
+        The problems that `helgrothy.make` makes have pictures of their own; others are drawn by a pattern.
         """
         from .draw import drawing_of
 
-        return drawing_of(self)([self.line(choice) for choice in solution if not isinstance(choice, Null)])
+        draw = drawing_of(self) if pattern is None else pattern.of(self)
+        return draw([self.line(choice) for choice in solution if not isinstance(choice, Null)])
 
     def _repr_svg_(self) -> Optional[str]:
         """The problem before it is solved, for notebooks; None where it has no picture."""

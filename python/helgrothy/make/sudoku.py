@@ -3,6 +3,7 @@
 from __future__ import annotations
 
 import argparse
+import os
 import re
 from collections import Counter
 from typing import Any, Dict, List, Sequence, Tuple
@@ -114,8 +115,8 @@ def _add_arguments(parser: argparse.ArgumentParser) -> None:
 
 def _make(arguments: argparse.Namespace) -> Problem[List[str]]:
     given = arguments.clues
-    is_here = len(given) in _BOXES and all(mark in _EMPTY or mark.upper() in _DIGITS for mark in given)
-    return problem(given if is_here else read_text(given))
+    is_file = given == "-" or os.path.exists(given) or any(c not in _EMPTY and c.upper() not in _DIGITS for c in given)
+    return problem(read_text(given) if is_file else given)
 
 
 KIND = Kind("sudoku", "a Sudoku from its clues", _add_arguments, _make, drawing)
