@@ -34,6 +34,10 @@ class ListingFault(Fault):
     """A fault of a listing: a bad line, or an unknown option."""
 
 
+class TableFault(Fault):
+    """A fault of a picture or a table that a problem is to be made from."""
+
+
 class ProgramNotFound(HelgrothyError, LookupError):
     """One of the four programs is in none of the places that are searched for it."""
 

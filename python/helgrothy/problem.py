@@ -34,7 +34,7 @@ from .programs import Ending, Run
 from .syntax import MOST_ITEMS, MOST_USES, ONCE, Bounds, bounds_fault, bytes_of, read, text_of
 
 if TYPE_CHECKING:
-    from .draw import Picture
+    from .draw import Pattern, Picture
 
 Uses = Mapping[Hashable, Optional[Hashable]]
 Option = TypeVar("Option", bound=Iterable[Hashable])
@@ -98,7 +98,10 @@ class Problem(Generic[Option]):
     def _bounds(self, item: Hashable, given: BoundsLike) -> Bounds:
         if given is None:
             return ONCE
-        low, high = (given, given) if isinstance(given, int) else given
+        pair = (given, given) if isinstance(given, int) else tuple(given)
+        is_pair = len(pair) == 2 and all(isinstance(bound, int) for bound in pair)
+        self._refuse(not is_pair, item, "bad bound", "bounds are None, a number or two")
+        low, high = pair
         reason = bounds_fault(low, high)
         self._refuse(reason is not None, item, reason or "")
         return Bounds(low, high)
@@ -166,6 +169,16 @@ class Problem(Generic[Option]):
     def name(self, item: Hashable) -> str:
         """An item's name in the problem's text: the item itself where it is a legal name. Raises `KeyError`."""
         return self._names[item]
+
+    @property
+    def item_names(self) -> List[str]:
+        """The names of the primary items."""
+        return [self._names[item] for item in self.items]
+
+    @property
+    def secondary_names(self) -> List[str]:
+        """The names of the secondary items."""
+        return [self._names[item] for item in self.secondary]
 
     def uses(self, option: Iterable[Hashable]) -> Dict[str, Optional[str]]:
         """The names of an option's items, each with its colour's name or None. Raises `ProblemFault`."""
@@ -294,14 +307,15 @@ class Problem(Generic[Option]):
                 body = f"null {self.name(choice.item)}" if isinstance(choice, Null) else self.line(choice)
                 yield bytes_of(f" {body} (1 of 1)\n")
 
-    def draw(self, solution: Iterable[Any] = ()) -> Picture:
+    def draw(self, solution: Iterable[Any] = (), pattern: Optional[Pattern] = None) -> Picture:
         """A picture of a solution, or of the problem as it stands before one. Raises `NoPicture`.
 
-        The problems that `helgrothy.make` makes have pictures; `helgrothy.draw.Pattern` draws others.
+        The problems that `helgrothy.make` makes have pictures of their own; others are drawn by a pattern.
         """
         from .draw import drawing_of
 
-        return drawing_of(self)([self.line(choice) for choice in solution if not isinstance(choice, Null)])
+        draw = drawing_of(self) if pattern is None else pattern.of(self)
+        return draw([self.line(choice) for choice in solution if not isinstance(choice, Null)])
 
     def _repr_svg_(self) -> Optional[str]:
         """The problem before it is solved, for notebooks; None where it has no picture."""
