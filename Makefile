@@ -33,9 +33,10 @@ bin:
 	@mkdir -p bin
 	@for program in $(PROGRAMS); do ln -sfn ../crates/$$program/out/$$program bin/$$program || exit 1; done
 	@for script in $(SCRIPTS); do ln -sfn ../scripts/split/$$script bin/dlx-$$script || exit 1; done
+	@ln -sfn ../scripts/helgrothy bin/helgrothy
 
 # What follows takes the programs as `make all` built them, and needs no toolchain.
-COMMANDS = $(PROGRAMS) $(SCRIPTS:%=dlx-%)
+COMMANDS = $(PROGRAMS) $(SCRIPTS:%=dlx-%) helgrothy
 # The files of a folder or two into another, whatever the umask.
 copy = find -L $(1) -type f ! -name '*.pyc' -exec sh -c 'for file; do install -D -m 644 "$$file" "$(2)/$$file" || exit 1; done' copy {} +
 

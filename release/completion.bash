@@ -16,10 +16,14 @@ _dlx_words() {
     mapfile -t COMPREPLY < <(compgen -W "$2" -- "$1")
 }
 
+_dlx_kinds='sudoku queens langford polyominoes words roster roundrobin'
+
 _dlx() {
     local word=$2 before=$3 at=$COMP_CWORD
     COMPREPLY=()
     case ${COMP_WORDS[0]##*/}:$before in
+        helgrothy:make) _dlx_words "$word" "$_dlx_kinds"; return ;;
+        helgrothy:export) _dlx_words "$word" 'asp cnf opb'; return ;;
         dlx[123]:'<') _dlx_problem "$word"; return ;;
         *:*[\<\>]) compopt -o default; return ;;
     esac
@@ -31,7 +35,9 @@ _dlx() {
         dlx-split:2) _dlx_problem "$word" ;;
         dlx-split:3 | dlx-run:2 | dlx-join:1) _dlx_folder "$word" ;;
         dlx-run:[4-9]) _dlx_words "$word" 'm1' ;;
+        helgrothy:1) _dlx_words "$word" "$_dlx_kinds make solve draw lint export why" ;;
+        helgrothy:*) compopt -o default ;;
     esac
 }
 
-complete -F _dlx dlx1 dlx2 dlx3 dlxcheck dlx-split dlx-run dlx-join
+complete -F _dlx dlx1 dlx2 dlx3 dlxcheck dlx-split dlx-run dlx-join helgrothy

@@ -26,6 +26,9 @@ LINES = [
     ("dlx-split dlx1 q", "dlx-split dlx1 queens.dlx "),
     ("dlx-run dlx1 f", "dlx-run dlx1 folder/"),
     ("dlx-join f", "dlx-join folder/"),
+    ("helgrothy su", "helgrothy sudoku "),
+    ("helgrothy make po", "helgrothy make polyominoes "),
+    ("helgrothy draw q", "helgrothy draw queens.dlx "),
 ]
 
 

@@ -26,10 +26,16 @@ print(queens.count())
 END
 said=$(cd "$empty" && env -i HOME="$empty" PATH="$empty/venv/bin:/usr/bin:/bin" sh -eu -c '
     printf "A B\nA\nB\nA B\n" | dlx1 2>&1
+    helgrothy queens 4 2>&1
     python use.py "$1"
     # Without the environment on the path the package finds its own programs.
     env PATH=/nowhere "$2/venv/bin/python" use.py "$1"' sh "$version" "$empty")
 [ "$said" = "Altogether 2 solutions.
+. . Q .
+Q . . .
+. . . Q
+. Q . .
+Altogether 1 solution (limit).
 2
 2" ] || { echo "$said"; exit 1; }
 "$empty/venv/bin/pip" uninstall -q -y helgrothy
