@@ -2,18 +2,25 @@ PREFIX = /usr/local
 PROGRAMS = dlx1 dlx2 dlx3 dlxcheck
 DIST = helgrothy
 
-.PHONY: run test test-hostile test-docs all install dist
+.PHONY: run test test-hostile test-python test-docs pictures all install dist
 run:
 	cd crates/dlx1 && rt run -- m1 < ../../examples/seven.dlx
 test:
 	RT_JOBS=$$(nproc) rt ci
 	@sh tests/statuses.sh
 	@sh tests/guide.sh docs/GUIDE.md
+	@sh tests/python.sh
 test-hostile:
 	@python3 scripts/hostile/hostile.py
+test-python:
+	@sh tests/python.sh && python3 python/tests/trial.py 2000 1
 test-docs:
 	@for page in README.md docs/GUIDE.md docs/FAQ.md man/*.1; do sh tests/guide.sh $$page || exit 1; done
+	@scripts/pictures/pictures compare
 	@PATH=$$PWD/crates/dlx1/out:$$PWD/crates/dlx2/out:$$PWD/crates/dlx3/out:$$PWD/crates/dlxcheck/out:$$PATH scripts/split/trial.py 300 1
+# The pictures of the documents, made anew.
+pictures:
+	@scripts/pictures/pictures
 
 # A program is built by running it once; `dlxcheck` without words ends with status 1.
 all:
