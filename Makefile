@@ -10,7 +10,8 @@ docdir = $(PREFIX)/share/doc/helgrothy
 pythondir = $(PREFIX)/share/helgrothy
 completiondir = $(PREFIX)/share/bash-completion/completions
 
-.PHONY: run bin all test test-hostile test-docs install uninstall dist deb wheel version release test-install test-dist test-deb test-wheel
+.PHONY: run bin all test test-hostile test-python test-docs pictures install uninstall dist deb wheel version release
+.PHONY: test-install test-dist test-deb test-wheel
 run: bin
 	cd crates/dlx1 && rt run -- m1 < ../../examples/seven.dlx
 test:
@@ -18,11 +19,19 @@ test:
 	@sh tests/statuses.sh
 	@$(MAKE) -s --no-print-directory bin
 	@sh tests/guide.sh docs/GUIDE.md
+	@sh tests/python.sh
 test-hostile:
 	@python3 scripts/hostile/hostile.py
+test-python:
+	@sh tests/python.sh && python3 python/tests/trial.py 2000 1
 test-docs: bin
 	@sh tests/pages.sh . man/*.[15]
+	@scripts/pictures/pictures compare
 	@PATH=$$PWD/bin:$$PATH scripts/split/trial.py 300 1
+
+# The pictures of the documents, made anew.
+pictures:
+	@scripts/pictures/pictures
 
 # A program is built by running it once; `dlxcheck` without words ends with status 1.
 all: bin

@@ -20,6 +20,7 @@ from .errors import (
     ProblemFault,
     ProgramFailed,
     ProgramNotFound,
+    TableFault,
 )
 from .listing import Listed, Null
 from .problem import Problem, Solutions
@@ -40,4 +41,5 @@ __all__ = [
     "ProgramFailed",
     "ProgramNotFound",
     "Solutions",
+    "TableFault",
 ]

@@ -35,6 +35,15 @@ def _items(problem: Problem[Any]) -> List[_Item]:
     return list(items.values())
 
 
+def _ignored(problem: Problem[Any]) -> List[int]:
+    """The options without a primary item, which are in no solution."""
+    return [
+        number
+        for number, option in enumerate(problem.options, 1)
+        if not any(item in problem.items for item, _ in problem.pairs(option))
+    ]
+
+
 def _choices(item: _Item, fresh: Iterator[int]) -> Dict[int, List[int]]:
     """The colours of an item as new variables, each with the options that give it."""
     return {next(fresh): options for colour, options in item.options.items() if colour is not None}
@@ -53,6 +62,8 @@ def asp(problem: Problem[Any]) -> Iterator[str]:
     for number, option in enumerate(problem.options, 1):
         for name in problem.uses(option):
             yield f"holds({number},{_quoted(name)})."
+    for number in _ignored(problem):
+        yield f":- x({number})."
     colour = _counter(0)
     for item in _items(problem):
         if item.options.keys() <= {None}:
@@ -77,6 +88,8 @@ def opb(problem: Problem[Any]) -> Iterator[str]:
     variables = len(problem.options) + sum(
         sum(colour is not None for colour in item.options) for item in _items(problem)
     )
+    # Without options only sums that can't work are left, and these name a variable.
+    variables = max(variables, 1 if constraints else 0)
     yield f"* #variable= {variables} #constraint= {len(constraints)}"
     yield f"* x1 to x{len(problem.options)} take the options in their order"
     yield from constraints
@@ -84,6 +97,8 @@ def opb(problem: Problem[Any]) -> Iterator[str]:
 
 def _sums(problem: Problem[Any]) -> Iterator[str]:
     fresh = _counter(len(problem.options))
+    for number in _ignored(problem):
+        yield _sum([], [number], 0)
     for item in _items(problem):
         held = item.options.get(None, []) + list(choices := _choices(item, fresh))
         for variable, options in choices.items():
@@ -104,7 +119,7 @@ def _sum(plus: List[int], minus: List[int], least: int) -> str:
 
 def cnf(problem: Problem[Any]) -> Iterator[str]:
     """The lines of a problem in DIMACS CNF. Sums are counted by chains of variables that follow from the options."""
-    clauses: List[List[int]] = []
+    clauses = [[-number] for number in _ignored(problem)]
     last = len(problem.options)
     fresh = _counter(last)
     for item in _items(problem):

@@ -9,7 +9,7 @@ from __future__ import annotations
 
 import re
 from dataclasses import dataclass
-from typing import Callable, Dict, Generic, Hashable, Iterable, Iterator, List, Mapping, TypeVar, Union
+from typing import Callable, Dict, Generator, Generic, Hashable, Iterable, Iterator, List, Mapping, TypeVar, Union
 
 from .errors import ListingFault
 from .syntax import text_of
@@ -66,11 +66,11 @@ class Decoder(Dict[bytes, Union[O, Null]], Generic[O]):
 
 def stream(
     chunks: Iterable[bytes], read: Callable[[List[bytes]], List[O]], is_whole: Callable[[List[bytes]], bool]
-) -> Iterator[List[O]]:
+) -> Generator[List[O], None, bool]:
     """The solutions of a program's own listing as its bytes come; `read` makes one of choice lines.
 
     A solution ends where the next one begins. So that the last one that came needn't wait for that, `is_whole`
-    says of its lines whether they are all.
+    says of its lines whether they are all. Returns whether the listing ends within a solution.
     """
     rest = b""
     is_open = False
@@ -87,8 +87,7 @@ def stream(
             if is_whole(lines):
                 rest, is_open = b"", False
                 yield read(lines)
-    if is_open:
-        raise ValueError("the listing ends within a solution")
+    return is_open
 
 
 @dataclass

@@ -248,8 +248,11 @@ class Problem(Generic[Option]):
 
         give = with_nulls if nulls or not may_be_null else without
         with Run(f"dlx{self.kind}", words, _ended(wire.lines), seconds) as run:
-            yield from listings.stream(run.chunks(), give, is_whole)
-            outcome.ending = Ending(run)
+            is_cut = yield from listings.stream(run.chunks(), give, is_whole)
+            ending = Ending(run)
+            if is_cut:
+                raise run.failure()
+            outcome.ending = ending
 
     def _is_whole(self, choices: Iterable[Union[Option, Null]]) -> bool:
         """Whether choices are all of a solution: no primary item is left."""
@@ -281,23 +284,23 @@ class Problem(Generic[Option]):
             return Ending(run).total
 
     def check(self, listing: Union[str, bytes, IO[str], IO[bytes], Iterable[Iterable[Any]]]) -> List[bool]:
-        """Of each solution whether it is one, as dlxcheck judges it.
+        """Of each solution whether it is one, as dlxcheck judges it, which holds all of them in memory.
 
         The listing is text as the programs print it (or a file that gives it), or solutions as `solve` gives them.
         Whether these are all, and whether one comes twice, isn't judged. Raises `ListingFault` for a text that is no
-        listing, `ProblemFault` for an option with an item that isn't the problem's.
+        listing and for what is no option of the problem, `ProblemFault` for an item that isn't the problem's.
         """
         given: Any = listing.read() if hasattr(listing, "read") else listing
-        if isinstance(given, str):
-            given = bytes_of(given)
-        text = [given] if isinstance(given, bytes) else self._listing(given)
+        if not isinstance(given, (str, bytes)):
+            given = b"".join(self._listing(given))
+        text = bytes_of(given) if isinstance(given, str) else given
         with tempfile.NamedTemporaryFile(suffix=".dlx") as file:
             file.writelines(_ended(self.lines()))
             file.flush()
-            with Run("dlxcheck", [file.name, str(self.kind)], text) as run:
+            with Run("dlxcheck", [file.name, str(self.kind)], [text]) as run:
                 verdicts = b"".join(run.chunks()).splitlines()
                 if run.status() not in (0, 5):
-                    raise _listing_fault(run.failure(), given)
+                    raise _listing_fault(run.failure(), text)
         return [verdict.endswith(b": cover") for verdict in verdicts]
 
     def _listing(self, solutions: Iterable[Iterable[Any]]) -> Iterator[bytes]:
@@ -420,12 +423,12 @@ def _words(limit: Optional[int], spacing: int) -> List[str]:
     return ([f"m{spacing}"] if spacing else []) + ([f"t{limit}"] if limit is not None else [])
 
 
-def _listing_fault(failed: ProgramFailed, listing: object) -> Exception:
+def _listing_fault(failed: ProgramFailed, listing: bytes) -> Exception:
     """The fault that dlxcheck told of a listing; what else it failed with comes back as it is."""
     start, _, rest = failed.message.partition("Listing line ")
     number, _, reason = rest.partition(": ")
     if start or not number.isdigit():
         return failed
-    lines = listing.split(b"\n") if isinstance(listing, bytes) else []
+    lines = listing.split(b"\n")
     line = int(number)
-    return ListingFault(line, text_of(lines[line - 1]) if line <= len(lines) else "", reason.rstrip("."))
+    return ListingFault(line, text_of(lines[line - 1].strip()), reason.rstrip("."))

@@ -62,10 +62,10 @@ class Run:
         path = find(program)
         self.program = program
         self._deadline = None if seconds is None else time.monotonic() + seconds
-        self._told: IO[bytes] = tempfile.TemporaryFile()
         with tempfile.TemporaryFile() as given:
             given.writelines(text)
             given.seek(0)
+            self._told: IO[bytes] = tempfile.TemporaryFile()
             self._process = subprocess.Popen(
                 [path, *words], stdin=given, stdout=subprocess.PIPE, stderr=self._told, bufsize=0
             )

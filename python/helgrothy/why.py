@@ -43,7 +43,8 @@ def find(problem: Problem[Any], seconds: float = 10.0) -> Optional[Conflict]:
     if short:
         return Conflict(short[:1], True)
     found = search(problem, seconds * _SHARE)
-    items = list(problem.items) if found is None else [item for item in problem.items if item in found.weights]
+    asked = [item for item, bounds in problem.items.items() if bounds.low]
+    items = asked if found is None else [item for item in asked if item in found.weights]
     question = _Question(problem, deadline, seconds * _SHARE)
     if found is None and question.has_solution(set(items), deadline - time.monotonic()):
         return None
