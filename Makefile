@@ -63,6 +63,7 @@ install: bin
 	cd release && $(call copy,README.md,$(DESTDIR)$(docdir))
 	sed -i '1s/$$/ $(VERSION)/' "$(DESTDIR)$(docdir)/README.md"
 	cd python && $(call copy,helgrothy,$(DESTDIR)$(pythondir))
+	install -m 644 python/README.md "$(DESTDIR)$(docdir)/docs/PYTHON.md"
 
 uninstall:
 	for command in $(COMMANDS); do rm -f "$(DESTDIR)$(bindir)/$$command" "$(DESTDIR)$(completiondir)/$$command" || exit 1; done
