@@ -58,6 +58,7 @@ END { close(script); if (want == "") { print "no commands"; bad = 1 }; exit bad 
 ' "$1" || exit 1
 
 case $1 in *.1) for program in crates/*/out; do PATH=$PWD/$program:$PATH; done ;; esac
+export PYTHONDONTWRITEBYTECODE=1
 TMPDIR="$folder/tmp" sh "$folder/all.sh" || :
 differ=0
 for want in "$folder"/want/*; do
