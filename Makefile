@@ -59,18 +59,17 @@ install: bin
 	for script in run join; do ln -sfn dlx-split.1 "$(DESTDIR)$(mandir)/man1/dlx-$$script.1" || exit 1; done
 	install -m 644 release/completion.bash "$(DESTDIR)$(completiondir)/dlx1"
 	for command in $(COMMANDS:dlx1=); do ln -sfn dlx1 "$(DESTDIR)$(completiondir)/$$command" || exit 1; done
-	$(call copy,docs examples CHANGELOG.md,$(DESTDIR)$(docdir))
+	$(call copy,docs examples CHANGELOG.md python/README.md,$(DESTDIR)$(docdir))
 	cd release && $(call copy,README.md,$(DESTDIR)$(docdir))
 	sed -i '1s/$$/ $(VERSION)/' "$(DESTDIR)$(docdir)/README.md"
 	cd python && $(call copy,helgrothy,$(DESTDIR)$(pythondir))
-	install -m 644 python/README.md "$(DESTDIR)$(docdir)/docs/PYTHON.md"
 
 uninstall:
 	for command in $(COMMANDS); do rm -f "$(DESTDIR)$(bindir)/$$command" "$(DESTDIR)$(completiondir)/$$command" || exit 1; done
 	for page in $(COMMANDS:%=%.1) dlx.5; do rm -f "$(DESTDIR)$(mandir)/man$${page##*.}/$$page" || exit 1; done
-	for part in docs examples CHANGELOG.md README.md; do rm -rf "$(DESTDIR)$(docdir)/$$part" || exit 1; done
+	for part in docs examples python/README.md CHANGELOG.md README.md; do rm -rf "$(DESTDIR)$(docdir)/$$part" || exit 1; done
 	rm -rf "$(DESTDIR)$(pythondir)/helgrothy"
-	rmdir --ignore-fail-on-non-empty "$(DESTDIR)$(docdir)" "$(DESTDIR)$(pythondir)"
+	rmdir --ignore-fail-on-non-empty "$(DESTDIR)$(docdir)/python" "$(DESTDIR)$(docdir)" "$(DESTDIR)$(pythondir)"
 
 # Each of these makes a file in `dist`. The same files give the same bytes: whatever is packed is of this time.
 SOURCE_DATE_EPOCH := $(or $(SOURCE_DATE_EPOCH),$(shell git log -1 --format=%ct 2>/dev/null))

@@ -62,6 +62,7 @@ END { close(script); if (want == "") { print "no commands"; bad = 1 }; exit bad 
 ' "$1" || exit 1
 
 case $1 in *.[15]) PATH=$PWD/bin:$PATH ;; esac
+export PYTHONDONTWRITEBYTECODE=1
 TMPDIR="$folder/tmp" sh "$folder/all.sh" || :
 differ=0
 for want in "$folder"/want/*; do
