@@ -15,7 +15,7 @@ test-hostile:
 test-python:
 	@sh tests/python.sh && python3 python/tests/trial.py 2000 1
 test-docs:
-	@for page in README.md docs/GUIDE.md docs/FAQ.md man/*.1; do sh tests/guide.sh $$page || exit 1; done
+	@for page in README.md docs/GUIDE.md docs/FAQ.md docs/ENDLESS.md man/*.1; do sh tests/guide.sh $$page || exit 1; done
 	@scripts/pictures/pictures compare
 	@PATH=$$PWD/crates/dlx1/out:$$PWD/crates/dlx2/out:$$PWD/crates/dlx3/out:$$PWD/crates/dlxcheck/out:$$PATH scripts/split/trial.py 300 1
 
