@@ -18,7 +18,7 @@ for page; do
     (cd "$folder" && sh "$guide" "$plain") || differ=1
 done
 cd "$folder"
-for page in README.md release/README.md docs/GUIDE.md docs/FAQ.md docs/ENDLESS.md; do
-    [ ! -e "$page" ] || sh "$guide" "$page" || differ=1
-done
+# The page of a release is in the repository too, whose folder has all that a release has.
+[ ! -e release/README.md ] || sh "$guide" release/README.md || differ=1
+for page in README.md docs/GUIDE.md docs/FAQ.md docs/ENDLESS.md; do sh "$guide" "$page" || differ=1; done
 exit "$differ"
