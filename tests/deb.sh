@@ -28,6 +28,7 @@ in_fresh_system() {
     cp "dist/$deb" tests/guide.sh tests/pages.sh "$root/trial/"
     files >"$empty/before"
     inside dpkg -i "/trial/$deb" >/dev/null
+    inside dpkg --verify helgrothy
     inside sh -c 'cd /usr/share/doc/helgrothy && sh /trial/pages.sh . /usr/share/man/man*/dlx* /usr/share/man/man1/helgrothy*'
     inside dpkg -P helgrothy >/dev/null
     files | diff "$empty/before" - || fail "left behind"
