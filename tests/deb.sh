@@ -46,6 +46,6 @@ in_empty_folder() {
 if command -v debootstrap >/dev/null && [ "$(id -u)" = 0 ]; then in_fresh_system; else in_empty_folder; fi
 
 mv "dist/$deb" "$empty/first"
-(umask 077; TZ=Asia/Tokyo make -s deb VERSION="$version")
+(umask 077; TZ=Asia/Tokyo MAKEFLAGS= make -s deb VERSION="$version")
 cmp "$empty/first" "dist/$deb"
 mv "$empty/first" "dist/$deb"

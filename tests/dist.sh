@@ -18,6 +18,6 @@ done
     sh ../pages.sh . share/man/man*/*')
 
 mv "dist/$name.tar.gz" "$empty/first"
-(umask 077; TZ=Asia/Tokyo make -s dist VERSION="$version")
+(umask 077; TZ=Asia/Tokyo MAKEFLAGS= make -s dist VERSION="$version")
 cmp "$empty/first" "dist/$name.tar.gz"
 mv "$empty/first" "dist/$name.tar.gz"

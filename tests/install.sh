@@ -6,12 +6,12 @@ empty=$(mktemp -d)
 trap 'rm -rf "$empty"' EXIT
 trap 'exit 2' HUP INT TERM
 
-make -s install PREFIX="$empty/with space"
+MAKEFLAGS= make -s install PREFIX="$empty/with space"
 share="$empty/with space/share"
 cp tests/guide.sh tests/pages.sh "$empty/"
 (cd "$share/doc/helgrothy" && env -i HOME="$empty" PATH="$empty/with space/bin:/usr/bin:/bin" \
     PYTHONPATH="$share/helgrothy" PYTHONDONTWRITEBYTECODE=1 sh "$empty/pages.sh" . "$share"/man/man*/*)
 python3 tests/completion.py "$share/bash-completion/completions/dlx1"
-make -s uninstall PREFIX="$empty/with space"
+MAKEFLAGS= make -s uninstall PREFIX="$empty/with space"
 left=$(find "$empty/with space" ! -type d)
 [ -z "$left" ] || { echo "left behind: $left"; exit 1; }

@@ -42,6 +42,6 @@ Altogether 1 solution (limit).
 left=$(find "$empty/venv" -name '*helgrothy*' -o -name 'dlx*')
 [ -z "$left" ] || { echo "left behind: $left"; exit 1; }
 
-(umask 077; TZ=Asia/Tokyo make -s wheel VERSION="$version")
+(umask 077; TZ=Asia/Tokyo MAKEFLAGS= make -s wheel VERSION="$version")
 cmp "$empty/first" "dist/$wheel"
 mv "$empty/first" "dist/$wheel"
