@@ -10,7 +10,7 @@ docdir = $(PREFIX)/share/doc/helgrothy
 pythondir = $(PREFIX)/share/helgrothy
 completiondir = $(PREFIX)/share/bash-completion/completions
 
-.PHONY: run bin all test test-hostile test-python test-docs pictures install uninstall dist deb wheel version release
+.PHONY: run bin all test test-mutants test-hostile test-python test-docs pictures install uninstall dist deb wheel version release
 .PHONY: test-install test-dist test-deb test-wheel
 run: bin
 	cd crates/dlx1 && rt run -- m1 < ../../examples/seven.dlx
@@ -20,6 +20,8 @@ test:
 	@$(MAKE) -s --no-print-directory bin
 	@sh tests/guide.sh docs/GUIDE.md
 	@sh tests/python.sh
+test-mutants:
+	@sh tests/mutants.sh
 test-hostile:
 	@python3 scripts/hostile/hostile.py
 test-python:

@@ -1,6 +1,7 @@
 #!/bin/sh
 # The statuses of the programs that `rt ci` built, on what each refuses. No contract stands on a `main`,
 # and a stored run shows one input. Prints what differs, and nothing else.
+# A problem without colours or bounds is of every kind, so only a refused text tells which kind a program reads.
 cd "$(dirname "$0")/.." || exit 1
 differ=0
 

@@ -7,9 +7,6 @@ use std::process::ExitCode;
 use xc_input::Kind;
 use xc_tools::{Direct, Incoming, Outgoing, out_of_memory, random_seed, solve, words};
 
-#[cfg(test)]
-mod tests;
-
 /// What the program reads.
 const KIND: Kind = Kind::Plain;
 

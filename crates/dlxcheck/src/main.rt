@@ -8,9 +8,6 @@ use xc_tools::{
     Direct, Incoming, Outgoing, closed_stream, judge, named_file, out_of_memory, random_seed, words,
 };
 
-#[cfg(test)]
-mod tests;
-
 fn main(rt: HostRuntime) -> ExitCode {
     ExitCode::from(run(&rt).unwrap_or_else(|_| out_of_memory(&mut Direct::new(rt.stderr()))))
 }

@@ -6,7 +6,7 @@ ghost use Rattle.xc_input.specs.Faults.{first, has_primary, row_checks, no_row, 
 ghost use Rattle.xc_input.specs.Limits.{most_uses};
 ghost use Rattle.xc_input.specs.Tokens.{parts};
 ghost use Rattle.xc_input.specs.Stages.{line_checks, content_checks, with_line, with_option, written_by, no_stage, with_row};
-ghost use Rattle.xc_input.specs.inner.Builders.{Judged, IsBuilder, AreMarks, stage_of_builder, sheet_of_builder, written_of};
+ghost use Rattle.xc_input.specs.inner.Builders.{Judged, IsBuilder, IsItemTable, AreMarks, AreTablesFor, row_of_line, stage_of_builder, sheet_of_builder, written_of};
 ghost use Rattle.xc_input.specs.inner.Stored.{key_names};
 
 use crate::guess::Guesses;
@@ -34,6 +34,30 @@ pub struct ProblemBuilder {
     pub uses: Vec<Use>,
     pub starts: Vec<u32>,
     pub ignored: Vec<u64>,
+}
+
+/// What is kept beside the items to read options: guesses of their names, a mark for each, and where options start.
+#[derive(Drop)]
+pub struct Tables {
+    pub guesses: Guesses,
+    pub marks: Vec<bool>,
+    pub starts: Vec<u32>,
+}
+
+impl Tables {
+    /// Those of these items before any option.
+    fn new(alloc: Global, row: &ItemLine) -> Result<Tables, AllocError>
+        ensures { IfOk result (λ t. AreTablesFor row.now t) }
+    {
+        let guesses = Guesses::new(alloc, &row.names)?;
+        let marks = no_marks(alloc, row.items.len())?;
+        let starts = vec![in alloc; 0]?;
+        Ok(Tables {
+            guesses,
+            marks,
+            starts,
+        })
+    }
 }
 
 impl ProblemBuilder {
@@ -88,10 +112,27 @@ impl ProblemBuilder {
         ensures judged { Judged (first (row_checks kind no_row (parts line.now))) result }
         ensures taken { OnOk result (IsBuilder self.new × (stage_of_builder self.new ≡ record { started = true; sheet = with_row (sheet_of_builder self.old) (row_of kind no_row (parts line.now)); ignored = self.old.ignored.items })) }
     {
-        let ItemLine { names, items, bar } = item_line(alloc, *self.names.hasher(), kind, line)?;
-        let marks = no_marks(alloc, items.len())?;
-        let guesses = Guesses::new(alloc, &names)?;
-        let starts = vec![in alloc; 0]?;
+        let row = item_line(alloc, *self.names.hasher(), kind, line)?;
+        let tables = Tables::new(alloc, &row)?;
+        self.begin(row, tables);
+        Ok(())
+    }
+
+    /// Begins with these items and what is kept beside them.
+    fn begin(&mut self, row: ItemLine, tables: Tables)
+        requires sound { IsBuilder self.old }
+        requires unstarted { self.old.started ≡ false }
+        requires items { IsItemTable row }
+        requires tables { AreTablesFor row tables }
+        ensures sound { IsBuilder self.new }
+        ensures stage { stage_of_builder self.new ≡ record { started = true; sheet = with_row (sheet_of_builder self.old) (row_of_line row); ignored = self.old.ignored.items } }
+    {
+        let ItemLine { names, items, bar } = row;
+        let Tables {
+            guesses,
+            marks,
+            starts,
+        } = tables;
         self.primary = bar.unwrap_or(items.len() as u32);
         self.names = names;
         self.guesses = guesses;
@@ -99,7 +140,6 @@ impl ProblemBuilder {
         self.marks = marks;
         self.starts = starts;
         self.started = true;
-        Ok(())
     }
 
     /// Takes an option line.

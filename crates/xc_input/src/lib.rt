@@ -42,6 +42,3 @@ pub use read::read_problem;
 pub use reader::{Read, Reader};
 pub use seed::{FoldingHasher, Seed};
 pub use source::{Feed, ReadFailed, Source};
-
-#[cfg(test)]
-mod tests;

@@ -6,7 +6,7 @@ ghost use Rattle.xc_list.specs.ListingLines.{read, words_in, Header, Body};
 ghost use Rattle.xc_list.specs.inner.Classes.{IsClassOfBody};
 ghost use Rattle.xc_list.specs.inner.SeenLines.{IsClassOfLine};
 ghost use Rattle.xc_list.specs.Listed.{fault_in_listing, AreVerdicts, IsListingFault};
-ghost use Rattle.xc_list.specs.inner.Checking.{IsProgress, Closes, Takes, Refuses};
+ghost use Rattle.xc_list.specs.inner.Checking.{IsProgress, AreAllTaken, Closes, Takes, Refuses};
 ghost use Rattle.xc_list.specs.Output.{output};
 ghost use Rattle.xc_list.specs.declared.checker.ListingFault.TheVariants.{Memory};
 
@@ -108,13 +108,14 @@ impl<'a> Checker<'a> {
     {
         let options = OptionIndex::new(alloc, problem)?;
         let counter = CoverCounter::new(alloc, problem, options.classes())?;
+        let seen = SeenLines::new(alloc, places)?;
         Ok(Checker {
             options,
             counter,
             open_number: None,
             chosen: Vec::new(alloc),
             verdicts: Vec::new(alloc),
-            seen: SeenLines::new(alloc, places)?,
+            seen,
         })
     }
 
@@ -208,6 +209,24 @@ impl<'a> Checker<'a> {
         }
     }
 
+    /// Takes the lines of a listing, in order.
+    fn take_lines(&mut self, listing: &[u8]) -> Result<(), ListingFault>
+        requires { IsProgress (lines_of listing.now) 0 (lines_of listing.now) self.old }
+        ensures options { self.new.options ≡ self.old.options }
+        ensures taken { OnOk result (AreAllTaken (lines_of listing.now) self.new) }
+        ensures fault { IfErr result (IsListingFault self.old.options.problem (lines_of listing.now)) }
+    {
+        let mut lines: u64 = 0;
+        let mut rest = listing;
+        while !rest.is_empty() {
+            let (line, others) = cut_line(rest);
+            lines = lines.saturating_add(1);
+            self.take_line(lines, line)?;
+            rest = others;
+        }
+        Ok(())
+    }
+
     /// The verdicts, once all lines are judged.
     fn finish(mut self) -> Result<Vec<Verdict>, AllocError>
         ensures { IfOk result (λ vs. (all : List (List ℕ)) (done : ℕ) → IsProgress all done [] self.entry → AreVerdicts self.entry.options.problem all vs.items) }
@@ -229,13 +248,6 @@ pub fn check(alloc: Global, problem: &Problem, listing: &[u8]) -> Result<Vec<Ver
         → MatchResult result (λ vs. All (λ v. IsTrue v.cover) vs.items) (λ e. e ≡ Memory) }
 {
     let mut checker = Checker::new(alloc, problem, (listing.len() / 64).min(MOST_PLACES))?;
-    let mut lines: u64 = 0;
-    let mut rest = listing;
-    while !rest.is_empty() {
-        let (line, others) = cut_line(rest);
-        lines = lines.saturating_add(1);
-        checker.take_line(lines, line)?;
-        rest = others;
-    }
+    checker.take_lines(listing)?;
     Ok(checker.finish()?)
 }

@@ -31,6 +31,3 @@ pub use runs::{End, run, run_over, run_over_links};
 pub use sink::{Sink, Tray, WriteFailed};
 pub use words::{WordFault, Words};
 pub use write::{SinkFault, write_all, write_number};
-
-#[cfg(test)]
-mod tests;

@@ -28,6 +28,3 @@ pub use branch_item::{branches, choose};
 pub use choice::Choice;
 pub use counts::most_moves;
 pub use search::{Search, Step};
-
-#[cfg(test)]
-mod tests;

@@ -30,6 +30,3 @@ pub use outgoing::Outgoing;
 pub use seeding::random_seed;
 pub use solving::solve;
 pub use status::out_of_memory;
-
-#[cfg(test)]
-mod tests;

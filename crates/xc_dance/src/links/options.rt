@@ -21,7 +21,6 @@ pub(crate) fn node_count(problem: &Problem) -> u32
 }
 
 /// Where the nodes of each option start.
-#[tactic(auto, using(crate::proofs::LinkedTables::PlaceLemmas::option_place))]
 pub(crate) fn option_starts(alloc: Global, problem: &Problem) -> Result<Vec<u32>, AllocError>
     requires { IsWithinLimits problem.now.puzzle }
     ensures { IfOk result (λ v. v.items ≡ starts_of problem.now.puzzle) }

@@ -1,5 +1,5 @@
 -- No public clause cites this module. What the parts of the reader hold, in the words of the grammar.
-use Rattle.std.specs.Prelude.{◌≡◌, ◌≢◌, ℕ, ◌+◌, ◌<◌, ◌≤◌, Bool, true, false, nat_eq, List, [], Option, None, Some, Result, Ok, Err, All, AllPairs, map, length, get_or}
+use Rattle.std.specs.Prelude.{◌≡◌, ◌≢◌, ℕ, ◌+◌, ◌<◌, ◌≤◌, Bool, true, false, nat_eq, List, [], ◌∷◌, Option, None, Some, Result, Ok, Err, All, AllPairs, map, length, get_or}
 use Rattle.std.specs.List.{list_any}
 use Rattle.xc_input.specs.declared.problem.Item.{Item}
 use Rattle.xc_input.specs.declared.fault.FaultKind.{FaultKind}
@@ -10,6 +10,7 @@ use Rattle.xc_input.specs.declared.line_error.LineError.{LineError}
 use Rattle.xc_input.specs.declared.line_error.LineError.TheVariants.{Fault, Memory}
 use Rattle.xc_input.specs.declared.option_line.WrittenUse.{WrittenUse}
 use Rattle.xc_input.specs.declared.builder.ProblemBuilder.{ProblemBuilder}
+use Rattle.xc_input.specs.declared.builder.Tables.{Tables}
 use Rattle.xc_input.specs.Named.{IsName}
 use Rattle.xc_input.specs.Tokens.{is_space}
 use Rattle.xc_input.specs.inner.Flat.{pieces}
@@ -86,6 +87,12 @@ pub record IsBuilder (d : ProblemBuilder) : Type 0 where
   pub marks : length d.marks.items ≡ length d.items.items
   pub unmarked : AreMarks d.marks.items []
   pub few_colours : length (key_names d.colours.keys) ≤ length d.uses.items
+
+-- what is kept beside these items before any option
+pub record AreTablesFor (row : ItemLine) (t : Tables) : Type 0 where
+  pub marks : length t.marks.items ≡ length row.items.items
+  pub unmarked : AreMarks t.marks.items []
+  pub starts : t.starts.items ≡ 0 ∷ []
 
 -- the error of the line of this number
 abbrev pub error_at : ℕ → LineError → InputError

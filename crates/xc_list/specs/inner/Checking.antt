@@ -44,6 +44,11 @@ pub record IsProgress (all : List (List ℕ)) (done : ℕ) (rest : List (List �
       → AreVerdicts s.options.problem all (s.verdicts ++ vs)
   pub no_fault : fault_in_listing s.options.problem all ≡ fault_in_lines s.options.problem done rest
 
+-- All of these lines are judged.
+pub record AreAllTaken (all : List (List ℕ)) (s : Progress) : Type 0 where
+  pub done : ℕ
+  pub progress : IsProgress all done [] s
+
 -- the verdict on the open solution, if there is one, stands behind the others
 abbrev pub Closes : Progress → Progress → Type 0
 Closes old new = (vs : List Verdict) × (new.verdicts ≡ old.verdicts ++ vs)

@@ -1,9 +1,31 @@
-use Rattle.std.proofs.Common.{arith, ◌++◌, [], ◌∷◌, ◌∙◌, ap, sym}
+use Rattle.std.proofs.Common.{arith, ◌<◌, ◌+◌, ◌++◌, [], ◌∷◌, ◌∙◌, ap, sym}
 use Rattle.std.proofs.lemmas.Grind.{common_steps}
 use Rattle.std.proofs.lemmas.List.FromFn.{map-range_with_len_more}
+use Rattle.xc_input.specs.Problem.{option_count}
 use Rattle.xc_dance.specs.Links.OptionPlaces.{start_at}
-use Rattle.xc_dance.proofs.LinkedTables.PlaceLemmas.{starts_to, option_place}
+use Rattle.xc_dance.proofs.LinkedTables.PlaceLemmas.{starts_to, OptionFits, option_fits, option_place, uses_here}
+use Rattle.xc_dance.proofs.links.options.option_starts.Goals.{After-option}
 use Rattle.xc_dance.proofs.links.options.option_starts.Goals as goal
+
+-- the option has its place among the nodes
+fits : (c : After-option) → OptionFits c.args.problem.now.puzzle c.loop-o.o c.option.result.now
+fits c =
+    let p = c.args.problem.now.puzzle in
+    let within : c.loop-o.o < option_count p = omega (arith, c.loop-o-test.true, c.options-o-end.ensures.value) in
+    option_fits p c.loop-o.o c.option.result.now c.requires within (uses_here p (c.loop-o.o + 1) _ c.option.ensures.value)
+
+pub overflow_cast-start : goal.overflow_cast-start
+overflow_cast-start c =
+    let at = fits (goal.at.overflow_cast-start c).After-option in omega (arith, at.next, at.within, at.small)
+
+pub overflow_add-start-in-loop-o : goal.overflow_add-start-in-loop-o
+overflow_add-start-in-loop-o c =
+    let at = fits (goal.at.overflow_add-start-in-loop-o c).After-option in omega (arith, at.next, at.within, at.small)
+
+pub overflow_add-start-in-loop-o-2 : goal.overflow_add-start-in-loop-o-2
+overflow_add-start-in-loop-o-2 c =
+    let at = fits (goal.at.overflow_add-start-in-loop-o-2 c).After-option in
+    omega (arith, at.next, at.within, at.small, c.loop-o.invariant.start)
 
 pub loop-o-preserved : goal.loop-o-preserved
 loop-o-preserved c =

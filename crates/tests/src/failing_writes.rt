@@ -1,0 +1,85 @@
+//! Each write of a listing failing in turn.
+use crate::ends::{end_over_links, end_over_lists};
+use crate::fixtures::{ALL, SEVEN, SEVEN_LISTING, THREE_ALIKE, THREE_LISTING, problem};
+use crate::listing::{Row, gives};
+use std::alloc::Global;
+use std::test::Fail;
+use xc_input::Kind;
+use xc_list::{End, Tray, Words};
+
+// The sink takes 5 bytes.
+#[test]
+fn a_write_that_fails(rt: HostRuntime) -> Result<(), Fail> {
+    for zero in [false, true] {
+        let row = Row {
+            kind: Kind::Plain,
+            text: SEVEN,
+            words: ALL,
+            room: 5,
+            zero,
+        };
+        gives(rt.alloc(), &row, b"1:\n a", End::WriteFailed(1))?;
+    }
+    Ok(())
+}
+
+/// Whether runs into a sink that takes so many bytes, one by one, give as many of the listing and end
+/// so, over both keepers, whether the next write fails or takes nothing.
+fn breaks_off(
+    alloc: Global,
+    text: &[u8],
+    words: Words,
+    listing: &[u8],
+    room: usize,
+    end: End,
+) -> Result<bool, Fail> {
+    let problem = problem(alloc, Kind::Plain, text)?;
+    let begun = listing.get(..room).unwrap_or(listing);
+    for zero in [false, true] {
+        let mut plain = Tray::new(alloc, 1, room, zero)?;
+        let mut linked = Tray::new(alloc, 1, room, zero)?;
+        let by_lists = end_over_lists(alloc, &problem, words, &mut plain)?;
+        let by_links = end_over_links(alloc, &problem, words, &mut linked)?;
+        let alike = plain.bytes() == begun && linked.bytes() == begun;
+        if !alike || by_lists != end || by_links != Some(end) {
+            return Ok(false);
+        }
+    }
+    Ok(true)
+}
+
+#[test]
+fn each_write_of_one_solution(rt: HostRuntime) -> Result<(), Fail> {
+    let listing = SEVEN_LISTING;
+    for room in 0..47 {
+        assert!(rt; breaks_off(rt.alloc(), SEVEN, ALL, listing, room, End::WriteFailed(1))?);
+    }
+    assert!(rt; breaks_off(rt.alloc(), SEVEN, ALL, listing, 47, End::Done(1))?);
+    Ok(())
+}
+
+#[test]
+fn each_write_of_three_solutions(rt: HostRuntime) -> Result<(), Fail> {
+    let listing = THREE_LISTING;
+    for room in 0..45 {
+        let end = End::WriteFailed(room as u64 / 15 + 1);
+        assert!(rt; breaks_off(rt.alloc(), THREE_ALIKE, ALL, listing, room, end)?);
+    }
+    assert!(rt; breaks_off(rt.alloc(), THREE_ALIKE, ALL, listing, 45, End::Done(3))?);
+    Ok(())
+}
+
+#[test]
+fn each_write_of_every_second_solution(rt: HostRuntime) -> Result<(), Fail> {
+    let listing = b"2:\n A (2 of 3)\n";
+    let words = Words {
+        spacing: 2,
+        limit: u64::MAX,
+    };
+    for room in 0..15 {
+        let end = End::WriteFailed(2);
+        assert!(rt; breaks_off(rt.alloc(), THREE_ALIKE, words, listing, room, end)?);
+    }
+    assert!(rt; breaks_off(rt.alloc(), THREE_ALIKE, words, listing, 15, End::Done(3))?);
+    Ok(())
+}

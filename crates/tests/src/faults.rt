@@ -1,0 +1,149 @@
+//! Each fault of a line, and its words.
+use crate::fixtures::read;
+use std::alloc::Global;
+use xc_input::{FaultKind, InputError, Kind, Read, Reader};
+
+/// The fault of an answer, or None.
+pub fn fault_of(answer: &Result<Read, InputError>) -> Option<(u64, FaultKind)> {
+    match answer {
+        Err(InputError::Fault { line, kind }) => Some((*line, *kind)),
+        Err(_) => None,
+        Ok(_) => None,
+    }
+}
+
+pub fn has_fault(alloc: Global, kind: Kind, text: &[u8], line: u64, fault: FaultKind) -> bool {
+    let whole = read(alloc, kind, text, 65536);
+    let bytes = read(alloc, kind, text, 1);
+    let wanted = Some((line, fault));
+    fault_of(&whole) == wanted && fault_of(&bytes) == wanted
+}
+
+#[test]
+fn faults_of_item_lines(rt: HostRuntime) {
+    let rows: [(Kind, &[u8], u64, FaultKind); 26] = [
+        (Kind::Plain, b"", 1, FaultKind::NoItems),
+        (Kind::Plain, b"\n", 2, FaultKind::NoItems),
+        (Kind::Plain, b"| hi", 2, FaultKind::NoItems),
+        (Kind::Plain, b"| hi\n", 2, FaultKind::NoItems),
+        (Kind::Plain, b"\n| a\0b\nA A", 2, FaultKind::NulByte),
+        (Kind::Bounds, b"B|x A", 1, FaultKind::BadBound),
+        (Kind::Plain, b"B|x A", 1, FaultKind::BadByteInName),
+        (Kind::Bounds, b"9999999999|a", 1, FaultKind::BadBound),
+        (Kind::Bounds, b"2:1|A", 1, FaultKind::BoundOrder),
+        (Kind::Bounds, b"0|A", 1, FaultKind::BoundOrder),
+        (Kind::Bounds, b"A |1|x", 1, FaultKind::BoundOnSecondary),
+        (Kind::Bounds, b"A |0|x", 1, FaultKind::BoundOrder),
+        (Kind::Bounds, b"2|", 1, FaultKind::EmptyName),
+        (Kind::Bounds, b"1|2|A", 1, FaultKind::BadByteInName),
+        (Kind::Bounds, b"2||A", 1, FaultKind::BadByteInName),
+        (Kind::Bounds, b"A:b", 1, FaultKind::BadByteInName),
+        (Kind::Bounds, b"1:2", 1, FaultKind::BadByteInName),
+        (Kind::Bounds, b"A||x", 1, FaultKind::BadBound),
+        (Kind::Bounds, b"x|", 1, FaultKind::BadBound),
+        (Kind::Bounds, b"1:|A", 1, FaultKind::BadBound),
+        (Kind::Bounds, b":1|A", 1, FaultKind::BadBound),
+        (Kind::Bounds, b"1:2:3|A", 1, FaultKind::BadBound),
+        (Kind::Plain, b"A A", 1, FaultKind::RepeatedName),
+        (Kind::Plain, b"A | | x", 1, FaultKind::TwoBars),
+        (Kind::Plain, b"A || x", 1, FaultKind::TwoBars),
+        (
+            Kind::Plain,
+            b"123456789012345678901234567890123",
+            1,
+            FaultKind::NameTooLong,
+        ),
+    ];
+    for (kind, text, line, fault) in &rows {
+        assert!(rt; has_fault(rt.alloc(), *kind, text, *line, *fault));
+    }
+}
+
+#[test]
+fn faults_of_option_lines(rt: HostRuntime) {
+    let rows: [(Kind, &[u8], u64, FaultKind); 17] = [
+        (Kind::Plain, b"A B\nA B A", 2, FaultKind::RepeatedInOption),
+        (Kind::Plain, b"A\nB", 2, FaultKind::UnknownItem),
+        (Kind::Plain, b"A\n\n\tA |B", 3, FaultKind::BadByteInName),
+        (Kind::Plain, b"A | x\nA x:1", 2, FaultKind::ColourNotHere),
+        (Kind::Plain, b"A | x\nx x", 2, FaultKind::RepeatedInOption),
+        (Kind::Plain, b"A | x\nx\ny", 3, FaultKind::UnknownItem),
+        (Kind::Colours, b"A | x\nA:1", 2, FaultKind::ColourOnPrimary),
+        (Kind::Colours, b"A | x\nA:", 2, FaultKind::ColourOnPrimary),
+        (Kind::Colours, b"A | x\nA x:", 2, FaultKind::BadColour),
+        (
+            Kind::Colours,
+            b"A | x\nA x:123456789",
+            2,
+            FaultKind::BadColour,
+        ),
+        (
+            Kind::Colours,
+            b"A | x\nA A:1",
+            2,
+            FaultKind::RepeatedInOption,
+        ),
+        (Kind::Colours, b"A\n:", 2, FaultKind::EmptyName),
+        (Kind::Colours, b"A\n:A", 2, FaultKind::EmptyName),
+        (
+            Kind::Plain,
+            b"A B\nA ABCDEFGHIJ Q A",
+            2,
+            FaultKind::UnknownItem,
+        ),
+        (Kind::Plain, b"A B\nA A \0", 2, FaultKind::NulByte),
+        (
+            Kind::Plain,
+            b"A\n123456789012345678901234567890123",
+            2,
+            FaultKind::NameTooLong,
+        ),
+        (Kind::Bounds, b"2|A\nA\nA 2|A", 3, FaultKind::BadByteInName),
+    ];
+    for (kind, text, line, fault) in &rows {
+        assert!(rt; has_fault(rt.alloc(), *kind, text, *line, *fault));
+    }
+}
+
+#[test]
+fn errors_stay(rt: HostRuntime) {
+    let mut reader = Reader::new(rt.alloc(), Kind::Plain);
+    assert!(rt; reader.line(b"A").is_ok());
+    let wanted = InputError::Fault {
+        line: 2,
+        kind: FaultKind::UnknownItem,
+    };
+    assert!(rt; reader.line(b"B") == Err(wanted));
+    assert!(rt; reader.line(b"A") == Err(wanted));
+    assert!(rt; reader.line(b"A A") == Err(wanted));
+    assert!(rt; matches!(reader.finish(), Err(e) if e == wanted));
+}
+
+#[test]
+fn texts_of_faults(rt: HostRuntime) {
+    let rows: [(FaultKind, &str); 17] = [
+        (FaultKind::NoItems, "no items"),
+        (FaultKind::NulByte, "NUL byte"),
+        (FaultKind::EmptyName, "empty name"),
+        (FaultKind::NameTooLong, "name too long"),
+        (FaultKind::BadByteInName, "bad byte in name"),
+        (FaultKind::RepeatedName, "name repeated"),
+        (FaultKind::TwoBars, "second bar"),
+        (FaultKind::BadBound, "bad bound"),
+        (FaultKind::BoundOrder, "bound order"),
+        (FaultKind::BoundOnSecondary, "bound on a secondary item"),
+        (FaultKind::UnknownItem, "unknown item"),
+        (FaultKind::RepeatedInOption, "item repeated in option"),
+        (FaultKind::ColourOnPrimary, "colour on a primary item"),
+        (FaultKind::BadColour, "bad colour"),
+        (FaultKind::ColourNotHere, "colour not allowed here"),
+        (FaultKind::TooManyItems, "too many items"),
+        (FaultKind::TooManyUses, "too many uses"),
+    ];
+    for (kind, wanted) in &rows {
+        let Ok(text) = kind.to_string(rt.alloc()) else {
+            return assert!(rt; false);
+        };
+        assert!(rt; text.as_str() == *wanted);
+    }
+}

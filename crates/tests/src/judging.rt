@@ -1,0 +1,92 @@
+//! Verdicts.
+use crate::fixtures::{COLOURED, COLOURED_LISTING, THREE_ALIKE};
+use crate::told::judge_tells;
+use std::test::Fail;
+use xc_input::Kind;
+
+#[test]
+fn verdicts(rt: HostRuntime) -> Result<(), Fail> {
+    let two: &[u8] = b"2|A\nA\nA\n";
+    let turned: &[u8] = b"2|A 2|B\nA B\nB A\n";
+    let null: &[u8] = b"0:1|null 0:2|A\nnull A\nA\n";
+    let rows: [(Kind, &[u8], &[u8], u8, &[u8]); 14] = [
+        (Kind::Colours, COLOURED, COLOURED_LISTING, 0, b"1: cover\n"),
+        (
+            Kind::Colours,
+            COLOURED,
+            b"1:\n q x:A (1 of 1)\n p x:B (1 of 1)\n r y:B (1 of 1)\n",
+            5,
+            b"1: not a cover\n",
+        ),
+        (
+            Kind::Bounds,
+            two,
+            b"1:\n A (1 of 1)\n A (1 of 1)\n",
+            0,
+            b"1: cover\n",
+        ),
+        (
+            Kind::Bounds,
+            two,
+            b"1:\n A (1 of 1)\n A (1 of 1)\n A (1 of 1)\n",
+            5,
+            b"1: not a cover\n",
+        ),
+        (Kind::Bounds, two, b"", 0, b""),
+        (Kind::Bounds, two, b"7:", 5, b"7: not a cover\n"),
+        (
+            Kind::Bounds,
+            two,
+            b"18446744073709551615:\n",
+            5,
+            b"18446744073709551615: not a cover\n",
+        ),
+        (
+            Kind::Plain,
+            THREE_ALIKE,
+            b"1:\n A (1 of 3)\n1:\n A (9 of 0)\n",
+            0,
+            b"1: cover\n1: cover\n",
+        ),
+        (Kind::Bounds, b"0:2|A\nA\nA\n", b"007:\n", 0, b"7: cover\n"),
+        (
+            Kind::Bounds,
+            b"0:2|A\nA\nA\n",
+            b"4:\n null A (3 of 3)",
+            0,
+            b"4: cover\n",
+        ),
+        (
+            Kind::Bounds,
+            turned,
+            b"1:\n A B (1 of 1)\n A B (1 of 1)\n",
+            0,
+            b"1: cover\n",
+        ),
+        (
+            Kind::Bounds,
+            turned,
+            b"1:\n A B (1 of 1)\n B A (1 of 1)\n",
+            0,
+            b"1: cover\n",
+        ),
+        (
+            Kind::Bounds,
+            turned,
+            b"1:\n A B (1 of 1)\n A B (1 of 1)\n A B (1 of 1)\n",
+            5,
+            b"1: not a cover\n",
+        ),
+        (
+            Kind::Bounds,
+            null,
+            b"1:\n null A (1 of 2)\n A (1 of 2)\n2:\n null A (1 of 2)\n null A (2 of 2)\n3:\n null null (2 of 2)\n A (1 of 2)\n null A (1 of 1)\n4:\n null null (2 of 2)\n null A (2 of 2)\n",
+            5,
+            b"1: cover\n2: not a cover\n3: cover\n4: cover\n",
+        ),
+    ];
+    for (kind, problem, listing, status, verdicts) in &rows {
+        assert!(rt; judge_tells(rt.alloc(), *kind, problem, listing, *status, verdicts, b"")?);
+    }
+    Ok(())
+}

@@ -1,0 +1,148 @@
+//! Keepers, and moves on them.
+ghost use Rattle.std.specs.Prelude.{◌≡◌, ◌∷◌, ◌⊎◌, IsSome, OnOk};
+ghost use Rattle.xc_input.specs.Problem.{IsItem};
+
+use crate::fixtures::read;
+use std::alloc::Global;
+use xc_dance::{Dance, Links, Lists, Move};
+use xc_input::Kind;
+
+pub fn links(alloc: Global, kind: Kind, text: &[u8], room: usize) -> Option<Links> {
+    let problem = read(alloc, kind, text, 100).ok()?.problem;
+    Links::new(alloc, &problem, room).ok()
+}
+
+pub fn lists(alloc: Global, kind: Kind, text: &[u8], room: usize) -> Option<Lists> {
+    let problem = read(alloc, kind, text, 100).ok()?.problem;
+    Lists::new(alloc, &problem, room).ok()
+}
+
+/// Does the work on a keeper that was made. The keeper is of any type, so that its drop is proved
+/// here and not in each test.
+pub fn on_one<D: Drop, F: Fn(&mut D) -> bool>(made: Option<D>, work: F) -> bool
+    requires { F.IsAlwaysCallable work }
+{
+    match made {
+        Some(mut one) => work(&mut one),
+        None => false,
+    }
+}
+
+/// Does the work on two keepers that were made.
+pub fn on_two<D: Drop, F: Fn(&mut D, &D) -> bool>(
+    made: Option<D>,
+    other: Option<D>,
+    work: F,
+) -> bool
+    requires { F.IsAlwaysCallable work }
+{
+    match (made, other) {
+        (Some(mut one), Some(two)) => work(&mut one, &two),
+        _ => false,
+    }
+}
+
+/// The keeper after these moves; None where one of them is illegal.
+pub fn after<D: Dance + Drop>(made: Option<D>, moves: &[Move]) -> Option<D> {
+    let mut dance = made?;
+    for m in moves {
+        make(&mut dance, *m)?;
+    }
+    Some(dance)
+}
+
+/// Makes the move and answers its cost; None where it is illegal or there is no room.
+pub fn make<D: Dance>(dance: &mut D, m: Move) -> Option<u64>
+    ensures made { IsSome result → (D.state dance.new).trail ≡ m ∷ (D.state dance.old).trail }
+    ensures problem { (D.state dance.new).puzzle ≡ (D.state dance.old).puzzle }
+{
+    if !dance.can(&m) {
+        return None;
+    }
+    match dance.apply(m) {
+        Ok(count) => Some(count.0),
+        Err(_) => None,
+    }
+}
+
+/// Undoes the newest move and answers its cost; None where no move stands.
+pub fn undo<D: Dance>(dance: &mut D) -> Option<u64>
+    ensures { (D.state dance.new).puzzle ≡ (D.state dance.old).puzzle }
+{
+    if dance.moves().is_empty() {
+        return None;
+    }
+    Some(dance.undo().0)
+}
+
+/// Makes two tweaks of the item and undoes them at once. Answers the three costs.
+pub fn two_tweaks_at_once<D: Dance>(dance: &mut D, i: u32) -> Option<[u64; 3]>
+    ensures { (D.state dance.new).puzzle ≡ (D.state dance.old).puzzle }
+{
+    let first = make(dance, Move::Tweak(i))?;
+    let second = make(dance, Move::Tweak(i))?;
+    Some([first, second, dance.undo_tweaks(2).0])
+}
+
+/// What is left of the upper bound of a primary item; None where nothing is, or for another item.
+pub fn bound<D: Dance>(dance: &D, i: u32) -> Option<u32> {
+    if dance.can(&Move::Spend(i)) {
+        Some(dance.bound(i))
+    } else {
+        None
+    }
+}
+
+/// Whether none of these moves is legal.
+pub fn refuses<D: Dance>(dance: &D, moves: &[Move]) -> bool {
+    moves.iter().all(|m| !dance.can(m))
+}
+
+/// Whether the item's list is this one, from top to bottom.
+fn is_list<D: Dance>(dance: &D, i: u32, wanted: &[u32]) -> bool
+    requires { IsItem (D.state dance.now).puzzle i }
+{
+    let mut at = dance.first(i);
+    for o in wanted {
+        if at != Some(*o) {
+            return false;
+        }
+        at = dance.below(i, *o);
+    }
+    at.is_none() && dance.len(i) as usize == wanted.len()
+}
+
+/// Whether the items up to the last have these lists.
+pub fn are_lists<D: Dance>(dance: &D, last: u32, wanted: &[&[u32]]) -> bool
+    requires { IsItem (D.state dance.now).puzzle last }
+{
+    for (before, list) in wanted.iter().enumerate() {
+        let i = u32::try_from(before + 1).unwrap_or(0);
+        if i == 0 || i > last || !is_list(dance, i, *list) {
+            return false;
+        }
+    }
+    true
+}
+
+/// Whether these primary items are open, and no other.
+pub fn are_open<D: Dance>(dance: &D, wanted: &[u32]) -> bool {
+    let mut next = dance.open_after(0);
+    for i in wanted {
+        if next != Some(*i) {
+            return false;
+        }
+        next = dance.open_after(*i);
+    }
+    next.is_none()
+}
+
+/// Whether the two are the same, whichever is asked.
+pub fn alike(links: &Links, other: &Links) -> bool {
+    links.same(other) && other.same(links)
+}
+
+/// Whether the two aren't the same, whichever is asked.
+pub fn unlike(links: &Links, other: &Links) -> bool {
+    !links.same(other) && !other.same(links)
+}

@@ -1,0 +1,42 @@
+use Rattle.std.proofs.Common.{refl, ◌∙◌, ◌+◌, ℕ, List, ap, subst, arith}
+use Rattle.std.proofs.lemmas.Result.{err_from_is_err_and}
+use Rattle.xc_input.specs.Lines.{lines_of}
+use Rattle.xc_list.specs.inner.Classes.{Classes}
+use Rattle.xc_list.specs.inner.Checking.{IsProgress}
+use Rattle.xc_list.proofs.CheckLemmas.CheckedLines.{refused, ends}
+use Rattle.xc_list.proofs.checker.Checker.take_lines.Goals as goal
+
+pub loop-rest-init : goal.loop-rest-init
+loop-rest-init c = record { options = refl; done = 0; count = refl; progress = c.requires }
+
+pub loop-rest-preserved : goal.loop-rest-preserved
+loop-rest-preserved c =
+    let so_far = c.loop-rest.invariant in
+    let all = lines_of c.args.listing.now in
+    record {
+      options = c.take_line.ensures.options ∙ so_far.options;
+      done = so_far.done + 1;
+      count = omega (arith, so_far.count, c.saturating_add-lines.ensures);
+      progress = c.in_ok-take_line.ensures.takes all so_far.done c.cut_line.result.0.now
+          (lines_of c.cut_line.result.1.now) refl
+          (subst (λ (ls : List (List ℕ)). IsProgress all so_far.done ls c.loop-rest.self) c.cut_line.ensures.lines
+          so_far.progress);
+    }
+
+pub returns-clause-taken : goal.returns-clause-taken
+returns-clause-taken c =
+    let so_far = c.loop-rest.invariant in
+    let none = ends c.loop-rest.rest.now _ c.is_empty.ensures c.loop-rest-test.false in
+    record {
+      done = so_far.done;
+      progress = subst (λ (ls : List (List ℕ)). IsProgress (lines_of c.args.listing.now) so_far.done ls c.loop-rest.self)
+          none so_far.progress;
+    }
+
+pub returns-in_err-take_line-clause-fault : goal.returns-in_err-take_line-clause-fault
+returns-in_err-take_line-clause-fault c =
+    let so_far = c.loop-rest.invariant in
+    let p = err_from_is_err_and c.from_residual.result c.from_residual.ensures.1 in
+    rw (p.1, p.2) (refused c.args.self.now.options.problem _ so_far.done _ _ _ _ c.loop-rest.self
+    c.in_err-take_line.field-0.0 (ap (λ (b : Classes). b.problem) so_far.options) c.cut_line.ensures.lines
+    (omega (arith, so_far.count, c.saturating_add-lines.ensures)) so_far.progress c.in_err-take_line.ensures.fault)
