@@ -1,37 +1,99 @@
-PREFIX = /usr/local
+VERSION := $(shell cat VERSION)
 PROGRAMS = dlx1 dlx2 dlx3 dlxcheck
-DIST = helgrothy
+SCRIPTS = split run join
 
-.PHONY: run test test-mutants test-hostile test-docs all install dist
-run:
+# Where things are installed.
+PREFIX = /usr/local
+bindir = $(PREFIX)/bin
+mandir = $(PREFIX)/share/man
+docdir = $(PREFIX)/share/doc/helgrothy
+pythondir = $(PREFIX)/share/helgrothy
+completiondir = $(PREFIX)/share/bash-completion/completions
+
+.PHONY: run bin all test test-mutants test-hostile test-python test-docs pictures install uninstall dist deb wheel version release
+.PHONY: test-install test-dist test-deb test-wheel
+run: bin
 	cd crates/dlx1 && rt run -- m1 < ../../examples/seven.dlx
 test:
 	RT_JOBS=$$(nproc) rt ci
 	@sh tests/statuses.sh
+	@$(MAKE) -s --no-print-directory bin
 	@sh tests/guide.sh docs/GUIDE.md
+	@sh tests/python.sh
 test-mutants:
 	@sh tests/mutants.sh
 test-hostile:
 	@python3 scripts/hostile/hostile.py
-test-docs:
-	@for page in README.md docs/GUIDE.md docs/FAQ.md man/*.1; do sh tests/guide.sh $$page || exit 1; done
-	@PATH=$$PWD/crates/dlx1/out:$$PWD/crates/dlx2/out:$$PWD/crates/dlx3/out:$$PWD/crates/dlxcheck/out:$$PATH scripts/split/trial.py 300 1
+test-python:
+	@sh tests/python.sh && python3 python/tests/trial.py 2000 1
+test-docs: bin
+	@sh tests/pages.sh . man/*.[15]
+	@scripts/pictures/pictures compare
+	@PATH=$$PWD/bin:$$PATH scripts/split/trial.py 300 1
+
+# The pictures of the documents, made anew.
+pictures:
+	@scripts/pictures/pictures
 
 # A program is built by running it once; `dlxcheck` without words ends with status 1.
-all:
+all: bin
 	for program in $(PROGRAMS); do (cd crates/$$program && rt run </dev/null; test -x out/$$program) || exit 1; done
 
-# These two take the programs as `make all` built them, and need no toolchain.
-install:
-	mkdir -p $(DESTDIR)$(PREFIX)/bin $(DESTDIR)$(PREFIX)/share/man/man1
-	for program in $(PROGRAMS); do cp crates/$$program/out/$$program $(DESTDIR)$(PREFIX)/bin/ || exit 1; done
-	cp man/*.1 $(DESTDIR)$(PREFIX)/share/man/man1/
+# `bin` leads to the programs and scripts by the names that they have once they are installed.
+bin:
+	@mkdir -p bin
+	@for program in $(PROGRAMS); do ln -sfn ../crates/$$program/out/$$program bin/$$program || exit 1; done
+	@for script in $(SCRIPTS); do ln -sfn ../scripts/split/$$script bin/dlx-$$script || exit 1; done
+	@ln -sfn ../scripts/helgrothy bin/helgrothy
 
-dist:
-	rm -rf $(DIST) && mkdir $(DIST)
-	$(MAKE) install DESTDIR=$(DIST) PREFIX=
-	mkdir -p $(DIST)/scripts/split
-	cp -rL examples README.md CHANGELOG.md docs $(DIST)/
-	cp scripts/split/split scripts/split/run scripts/split/join $(DIST)/scripts/split/
-	cd $(DIST) && find . -type f ! -name SHA256SUMS | LC_ALL=C sort | xargs sha256sum > SHA256SUMS
-	tar -czf $(DIST).tar.gz $(DIST)
+# What follows takes the programs as `make all` built them, and needs no toolchain.
+COMMANDS = $(PROGRAMS) $(SCRIPTS:%=dlx-%) helgrothy
+# The files of a folder or two into another, whatever the umask.
+copy = find -L $(1) -type f ! -name '*.pyc' -exec sh -c 'for file; do install -D -m 644 "$$file" "$(2)/$$file" || exit 1; done' copy {} +
+
+install: bin
+	install -d "$(DESTDIR)$(bindir)" "$(DESTDIR)$(mandir)/man1" "$(DESTDIR)$(mandir)/man5" "$(DESTDIR)$(completiondir)"
+	for command in $(COMMANDS); do install -m 755 bin/$$command "$(DESTDIR)$(bindir)/" || exit 1; done
+	for page in man/*.[15]; do \
+	    to="$(DESTDIR)$(mandir)/man$${page##*.}/$${page##*/}"; \
+	    sed '1s/ Helgrothy / "Helgrothy $(VERSION)" /' $$page > "$$to" && chmod 644 "$$to" || exit 1; \
+	done
+	for script in run join; do ln -sfn dlx-split.1 "$(DESTDIR)$(mandir)/man1/dlx-$$script.1" || exit 1; done
+	install -m 644 release/completion.bash "$(DESTDIR)$(completiondir)/dlx1"
+	for command in $(COMMANDS:dlx1=); do ln -sfn dlx1 "$(DESTDIR)$(completiondir)/$$command" || exit 1; done
+	$(call copy,docs examples CHANGELOG.md python/README.md,$(DESTDIR)$(docdir))
+	cd release && $(call copy,README.md,$(DESTDIR)$(docdir))
+	sed -i '1s/$$/ $(VERSION)/' "$(DESTDIR)$(docdir)/README.md"
+	cd python && $(call copy,helgrothy,$(DESTDIR)$(pythondir))
+
+uninstall:
+	for command in $(COMMANDS); do rm -f "$(DESTDIR)$(bindir)/$$command" "$(DESTDIR)$(completiondir)/$$command" || exit 1; done
+	for page in $(COMMANDS:%=%.1) dlx.5; do rm -f "$(DESTDIR)$(mandir)/man$${page##*.}/$$page" || exit 1; done
+	for part in docs examples python/README.md CHANGELOG.md README.md; do rm -rf "$(DESTDIR)$(docdir)/$$part" || exit 1; done
+	rm -rf "$(DESTDIR)$(pythondir)/helgrothy"
+	rmdir --ignore-fail-on-non-empty "$(DESTDIR)$(docdir)/python" "$(DESTDIR)$(docdir)" "$(DESTDIR)$(pythondir)"
+
+# Each of these makes a file in `dist`. The same files give the same bytes: whatever is packed is of this time.
+SOURCE_DATE_EPOCH := $(or $(SOURCE_DATE_EPOCH),$(shell git log -1 --format=%ct 2>/dev/null))
+export SOURCE_DATE_EPOCH
+dist: bin version
+	@sh release/dist.sh $(VERSION)
+deb: bin version
+	@sh release/deb.sh $(VERSION)
+wheel: bin version
+	@python3 release/wheel.py $(VERSION)
+version:
+	@grep -q '^## $(VERSION)$$' CHANGELOG.md || { echo "CHANGELOG.md says nothing of $(VERSION)" >&2; exit 1; }
+	@grep -q '^__version__ = "$(VERSION)"$$' python/helgrothy/__init__.py && grep -q '^version = "$(VERSION)"$$' python/pyproject.toml || \
+	    { echo "the Python package isn't of $(VERSION)" >&2; exit 1; }
+release: dist deb wheel
+	cd dist && sha256sum helgrothy[-_]$(VERSION)* > SHA256SUMS
+
+test-install: bin
+	@sh tests/install.sh
+test-dist: dist
+	@sh tests/dist.sh $(VERSION)
+test-deb: deb
+	@sh tests/deb.sh $(VERSION)
+test-wheel: wheel
+	@sh tests/wheel.sh $(VERSION)

@@ -1,8 +1,9 @@
 #!/bin/sh
-# sh tests/guide.sh docs/GUIDE.md, in the repository's top folder: pastes each `sh` block of the page, in order,
-# into one shell, and compares what comes, standard error included, with the block behind it, or with nothing where
-# none is. So too each command of its two tables, with the row's message or status. Of a manual page it runs the
-# examples, each line behind `$`, with the programs on the path. Prints what differs, and nothing else.
+# sh tests/guide.sh docs/GUIDE.md, in the repository's top folder or that of a release: pastes each `sh` block of the
+# page, in order, into one shell, and compares what comes, standard error included, with the block behind it, or with
+# nothing where none is. A block `sh if FILE`, with the one behind it, counts only where the folder has FILE. So too
+# each command of its two tables, with the row's message or status. Of a manual page it runs the examples, each line
+# behind `$`, with the programs in `bin` or else on the path. Prints what differs, and nothing else.
 [ $# = 1 ] && [ -r "$1" ] || { echo "Usage: sh guide.sh PAGE" >&2; exit 2; }
 folder=$(mktemp -d) || exit 2
 trap 'rm -rf "$folder"' EXIT
@@ -23,7 +24,7 @@ function code(text) {
     return substr(text, 2, length(text) - 2)
 }
 BEGIN { script = folder "/all.sh"; printf "" > script }
-FILENAME ~ /[.]1$/ {
+FILENAME ~ /[.][15]$/ {
     if ($0 == ".nf") inside = "man"
     else if ($0 == ".fi") inside = ""
     else if (inside == "man" && /^    [$] /) {
@@ -38,7 +39,10 @@ inside == "sh" && $0 == "```" { end(); inside = ""; close(want); fresh = 1; next
 inside == "sh" { print > script; next }
 inside == "text" && $0 == "```" { inside = ""; close(want); fresh = 0; next }
 inside == "text" { if (fresh) print > want; next }
-$0 == "```sh" { begin(); inside = "sh"; next }
+inside == "left out" { if ($0 == "```") inside = ""; next }
+/^```sh if / && system("test -e " substr($0, 10)) { inside = "left out"; is_left_out = 1; next }
+/^```sh($| if )/ { begin(); inside = "sh"; is_left_out = 0; next }
+$0 == "```" && is_left_out { inside = "left out"; is_left_out = 0; next }
 $0 == "```" { if (fresh == 0) { print "line " NR ": output of no command"; bad = 1 }; inside = "text"; next }
 /^```/ { print "line " NR ": a block of another kind"; bad = 1; next }
 /^[|] (`Line |[0-5] [|])/ {
@@ -57,7 +61,8 @@ $0 == "```" { if (fresh == 0) { print "line " NR ": output of no command"; bad =
 END { close(script); if (want == "") { print "no commands"; bad = 1 }; exit bad }
 ' "$1" || exit 1
 
-case $1 in *.1) for program in crates/*/out; do PATH=$PWD/$program:$PATH; done ;; esac
+case $1 in *.[15]) PATH=$PWD/bin:$PATH ;; esac
+export PYTHONDONTWRITEBYTECODE=1
 TMPDIR="$folder/tmp" sh "$folder/all.sh" || :
 differ=0
 for want in "$folder"/want/*; do

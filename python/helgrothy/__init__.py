@@ -1,0 +1,45 @@
+"""Exact cover problems from Python, solved by the proved programs dlx1, dlx2 and dlx3 and judged by dlxcheck.
+
+    from helgrothy import Problem
+
+    problem = Problem("abc", options=["ab", "c", "a", "bc"])
+    for solution in problem.solve():
+        print(solution)
+
+`helgrothy.make` makes problems that people know, `helgrothy.draw` draws solutions, `helgrothy.lint` looks for slips,
+`helgrothy.why` for conflicts, and `helgrothy.export` writes problems for other solvers. `python3 -m helgrothy --help`
+has the same as commands.
+"""
+
+from .errors import (
+    Fault,
+    HelgrothyError,
+    ListingFault,
+    NoPicture,
+    OutOfTime,
+    ProblemFault,
+    ProgramFailed,
+    ProgramNotFound,
+    TableFault,
+)
+from .listing import Listed, Null
+from .problem import Problem, Solutions
+from .syntax import Bounds
+
+__version__ = "0.1.0"
+__all__ = [
+    "Bounds",
+    "Fault",
+    "HelgrothyError",
+    "Listed",
+    "ListingFault",
+    "NoPicture",
+    "Null",
+    "OutOfTime",
+    "Problem",
+    "ProblemFault",
+    "ProgramFailed",
+    "ProgramNotFound",
+    "Solutions",
+    "TableFault",
+]

@@ -1,0 +1,344 @@
+"""The commands of `python3 -m helgrothy`: `--help` tells them.
+
+Status 0 says that all is well, 1 that there is no solution, nothing to draw or something to remark, 2 that the
+command could not be done, with one line on standard error that says why.
+"""
+
+from __future__ import annotations
+
+import argparse
+import os
+import re
+import sys
+from typing import Any, Callable, Iterable, List, Optional, Sequence
+
+from . import __version__, why
+from .draw import Drawing, Pattern, drawing_of
+from .errors import HelgrothyError, NoPicture, OutOfTime
+from .export import FORMATS
+from .lint import lint
+from .make import KINDS
+from .make.kind import Kind
+from .problem import Problem
+from .syntax import bytes_of
+
+_EXAMPLES = """\
+examples:
+  helgrothy sudoku 53..7....6..195....98....6.8...6...34..8.3..17...2...6.6....28....419..5....8..79
+  helgrothy polyominoes pentominoes 6x10 --svg > tiling.svg
+
+  helgrothy make queens 8 > queens.dlx
+  dlx1 m1 < queens.dlx | helgrothy draw queens.dlx
+  helgrothy solve queens.dlx --number 92
+
+  helgrothy lint mine.dlx
+  helgrothy why mine.dlx
+  helgrothy export asp mine.dlx | gringo | clasp 0
+"""
+
+
+def main(words: Optional[Sequence[str]] = None) -> int:
+    """Does what the words of a command say, and gives its status."""
+    arguments = _parser().parse_args(words)
+    try:
+        status: int = arguments.command(arguments)
+        sys.stdout.flush()
+        return status
+    except BrokenPipeError:
+        # Nobody reads any longer; what is still held back goes nowhere.
+        os.dup2(os.open(os.devnull, os.O_WRONLY), 1)
+        return 2
+    except KeyboardInterrupt:
+        return 130
+    except OSError as error:
+        return _fail(f"{error.filename}: {error.strerror}" if error.filename else str(error))
+    except (HelgrothyError, ValueError) as error:
+        return _fail(str(error))
+
+
+def _fail(message: str, status: int = 2) -> int:
+    print(f"helgrothy: {message}", file=sys.stderr)
+    return status
+
+
+def _parser() -> argparse.ArgumentParser:
+    parser = argparse.ArgumentParser(
+        prog="helgrothy",
+        description="Makes, solves and draws exact cover problems, by the programs dlx1, dlx2 and dlx3.",
+        epilog=_EXAMPLES,
+        formatter_class=argparse.RawDescriptionHelpFormatter,
+    )
+    parser.add_argument("--version", action="version", version=f"helgrothy {__version__}")
+    commands = parser.add_subparsers(metavar="COMMAND", required=True)
+    _add_make(commands)
+    _add_solve(commands)
+    _add_draw(commands)
+    _add_lint(commands)
+    _add_export(commands)
+    _add_why(commands)
+    for kind in KINDS.values():
+        _add_kind(commands, kind)
+    return parser
+
+
+# ---- make
+
+
+def _add_make(commands: Any) -> None:
+    make = commands.add_parser("make", help="write a problem", description="Writes a problem to standard output.")
+    kinds = make.add_subparsers(metavar="KIND", required=True)
+    for kind in KINDS.values():
+        parser = kinds.add_parser(kind.name, help=kind.help, description=f"Writes {kind.help}, as a problem.")
+        kind.add_arguments(parser)
+        parser.set_defaults(command=_make, kind=kind)
+
+
+def _make(arguments: argparse.Namespace) -> int:
+    _print(f"{line}\n" for line in arguments.kind.make(arguments).lines())
+    return 0
+
+
+# ---- solve, and a command for each kind
+
+
+def _add_solve(commands: Any) -> None:
+    parser = commands.add_parser(
+        "solve",
+        help="solve a problem and draw what is found",
+        description="Solves a problem and draws its first solution, or prints its options where it has no picture. "
+        "The last line, on standard error, says how many solutions there were.",
+    )
+    parser.add_argument("problem", nargs="?", default="-", metavar="PROBLEM", help="a file (default: standard input)")
+    _add_solving(parser)
+    _add_patterns(parser)
+    parser.set_defaults(command=_solve)
+
+
+def _add_kind(commands: Any, kind: Kind) -> None:
+    parser = commands.add_parser(
+        kind.name, help=f"make and solve {kind.help}", description=f"Makes, solves and draws {kind.help}."
+    )
+    kind.add_arguments(parser)
+    _add_solving(parser)
+    parser.set_defaults(command=_make_and_solve, kind=kind, cell=None, label=None)
+
+
+def _add_solving(parser: argparse.ArgumentParser) -> None:
+    which = parser.add_mutually_exclusive_group()
+    which.add_argument("--number", type=_positive, metavar="K", help="the K-th solution instead of the first")
+    which.add_argument("--limit", type=_positive, metavar="N", help="the first N solutions")
+    which.add_argument("--all", action="store_true", help="all solutions")
+    parser.add_argument("--svg", action="store_true", help="a picture as SVG, of one solution")
+    parser.add_argument("--seconds", type=float, metavar="S", help="give up after S seconds")
+
+
+def _solve(arguments: argparse.Namespace) -> int:
+    return _show(_problem(arguments.problem), arguments)
+
+
+def _make_and_solve(arguments: argparse.Namespace) -> int:
+    return _show(arguments.kind.make(arguments), arguments)
+
+
+def _show(problem: Problem[Any], arguments: argparse.Namespace) -> int:
+    number = arguments.number or 1
+    limit = None if arguments.all else arguments.limit or number
+    if arguments.svg and limit != number:
+        raise ValueError("an SVG is of one solution: --number says which")
+    draw = _drawing(problem, arguments, _listed_options)
+    shown = 0
+    with problem.solve(limit, number, seconds=arguments.seconds) as solutions:
+        for solution in solutions:
+            _show_one(draw, [problem.line(option) for option in solution], arguments.svg, shown)
+            shown += 1
+        ending = f"Altogether {solutions.total} solution{'' if solutions.total == 1 else 's'}"
+        print(f"{ending}{'.' if solutions.complete else ' (limit).'}", file=sys.stderr)
+    return 0 if shown else 1
+
+
+def _show_one(draw: Callable[[Sequence[str]], Any], lines: List[str], is_svg: bool, before: int) -> None:
+    picture = draw(lines)
+    _print(["\n" if before and not is_svg else "", picture.svg() if is_svg else str(picture)])
+
+
+def _listed_options(lines: Sequence[str]) -> str:
+    """What is shown of a solution without a picture."""
+    return "".join(f"{line}\n" for line in lines)
+
+
+# ---- draw
+
+
+def _add_draw(commands: Any) -> None:
+    parser = commands.add_parser(
+        "draw",
+        help="draw a listing",
+        description="Draws the solutions of a listing, which comes from standard input. A problem that `make` made is "
+        "drawn in its own way; of another one, --cell and --label say where the cells of an option are.",
+        epilog="example:\n  dlx1 m1 t1 < queens.dlx | helgrothy draw queens.dlx --cell 'r(\\d+) c(\\d+)'",
+        formatter_class=argparse.RawDescriptionHelpFormatter,
+    )
+    parser.add_argument("problem", metavar="PROBLEM", help="the file of the problem that the listing is of")
+    parser.add_argument("--number", type=_positive, metavar="K", help="the solution of this number alone")
+    parser.add_argument("--svg", action="store_true", help="a picture as SVG, of the first solution or that of --number")
+    _add_patterns(parser)
+    parser.set_defaults(command=_draw)
+
+
+def _add_patterns(parser: argparse.ArgumentParser) -> None:
+    parser.add_argument(
+        "--cell",
+        metavar="PATTERN",
+        help="a regular expression that finds the cells in an option's line; its first two groups (or those named row "
+        "and column) are row and column, a number or a letter, and a third one its label",
+    )
+    parser.add_argument(
+        "--label", metavar="PATTERN", help="a regular expression that finds the label in an option's line"
+    )
+
+
+def _draw(arguments: argparse.Namespace) -> int:
+    if arguments.problem == "-":
+        raise ValueError("the problem is a file; the listing comes from standard input")
+    problem = _problem(arguments.problem)
+    draw = _drawing(problem, arguments, None)
+    shown = 0
+    for listed in problem.listed(sys.stdin.buffer):
+        if arguments.number in (None, listed.number):
+            _show_one(draw, [problem.line(option) for option in listed.options()], arguments.svg, shown)
+            shown += 1
+            if arguments.svg or arguments.number:
+                break
+    return 0 if shown else _fail("the listing has no solution to draw", 1)
+
+
+def _drawing(
+    problem: Problem[Any], arguments: argparse.Namespace, otherwise: Optional[Callable[[Sequence[str]], Any]]
+) -> Callable[[Sequence[str]], Any]:
+    """What draws solutions: by the patterns that are given, else as the problem was made, else otherwise."""
+    if arguments.cell is not None:
+        try:
+            return Pattern(arguments.cell, arguments.label or r"(?!)").of(problem)
+        except re.error as error:
+            raise ValueError(f"a pattern is wrong: {error}") from None
+    try:
+        drawing: Drawing = drawing_of(problem)
+        return drawing
+    except NoPicture:
+        if otherwise is None or arguments.svg:
+            raise
+        return otherwise
+
+
+# ---- lint, export, why
+
+
+def _add_lint(commands: Any) -> None:
+    parser = commands.add_parser(
+        "lint",
+        help="tell all faults and slips of a problem",
+        description="Tells each fault of a problem with its line and token, and what is no fault and yet often a slip: "
+        "items in no option, equal options, bounds whose sums can't work. Status 1 says that there was something.",
+    )
+    _add_problem(parser)
+    parser.add_argument("--for", dest="program", choices=["dlx1", "dlx2", "dlx3"], default="dlx3", help="default: dlx3")
+    parser.set_defaults(command=_lint)
+
+
+def _lint(arguments: argparse.Namespace) -> int:
+    remarks = lint(_read(arguments.problem), int(arguments.program[-1]))
+    _print(f"{remark}\n" for remark in remarks)
+    return 1 if remarks else 0
+
+
+def _add_export(commands: Any) -> None:
+    parser = commands.add_parser(
+        "export",
+        help="write a problem for another solver",
+        description="Writes a problem for other solvers: asp for gringo and clasp, opb for pseudo-Boolean solvers, cnf "
+        "for SAT solvers. Variable N takes option N; there are as many solutions.",
+    )
+    parser.add_argument("format", choices=sorted(FORMATS), help="the format")
+    _add_problem(parser)
+    parser.set_defaults(command=_export)
+
+
+def _export(arguments: argparse.Namespace) -> int:
+    _print(f"{line}\n" for line in FORMATS[arguments.format](_problem(arguments.problem)))
+    return 0
+
+
+def _add_why(commands: Any) -> None:
+    parser = commands.add_parser(
+        "why",
+        help="tell which items conflict where there is no solution",
+        description="Tells primary items that can't all be held, where there is no solution: as few as leaving out "
+        "finds in the time. Status 1 says that there is a solution.",
+    )
+    _add_problem(parser)
+    parser.add_argument("--seconds", type=float, default=10.0, metavar="S", help="the time (default: 10)")
+    parser.set_defaults(command=_why)
+
+
+def _why(arguments: argparse.Namespace) -> int:
+    problem = _problem(arguments.problem)
+    try:
+        conflict = why.find(problem, arguments.seconds)
+    except OutOfTime:
+        return _fail(f"in {arguments.seconds:g} seconds it isn't known whether there is a solution")
+    if conflict is None:
+        return _fail("there is a solution", 1)
+    print("can't all be held:", *map(problem.name, conflict.items))
+    if conflict.sums is not None:
+        print(conflict.sums.text(problem.name))
+    if conflict.is_least:
+        print("without any one of them the others can be held")
+    else:
+        print("perhaps fewer do: not all were tried to the end in the time")
+    return 0
+
+
+# ---- what commands have in common
+
+
+def _add_problem(parser: argparse.ArgumentParser) -> None:
+    parser.add_argument("problem", nargs="?", default="-", metavar="PROBLEM", help="a file (default: standard input)")
+
+
+def _read(path: str) -> bytes:
+    if path == "-":
+        return sys.stdin.buffer.read()
+    with open(path, "rb") as file:
+        return file.read()
+
+
+def _problem(path: str) -> Problem[Any]:
+    text = _read(path)
+    try:
+        return Problem.parse(text)
+    except HelgrothyError as error:
+        raise ValueError(f"{'standard input' if path == '-' else path}: {error}") from None
+
+
+def _print(texts: Iterable[str]) -> None:
+    """Names go out as the bytes that they came as, UTF-8 or not."""
+    out = sys.stdout.buffer
+    for text in texts:
+        out.write(bytes_of(text))
+    out.flush()
+
+
+def _positive(word: str) -> int:
+    number = int(word)
+    if number < 1:
+        raise argparse.ArgumentTypeError("it has to be at least 1")
+    return number
+
+
+def run() -> None:
+    """The command `helgrothy` of an installed package."""
+    sys.exit(main())
+
+
+if __name__ == "__main__":
+    run()

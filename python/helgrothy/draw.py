@@ -1,0 +1,330 @@
+"""Pictures of solutions, as text and as SVG.
+
+A `Picture` is a grid of cells, with headers or without. A drawing makes one from the lines of a solution's options.
+`drawing_of` has the drawings of the problems that `helgrothy.make` makes, `Pattern` makes others.
+"""
+
+from __future__ import annotations
+
+import colorsys
+import re
+from dataclasses import dataclass, field
+from html import escape
+from typing import TYPE_CHECKING, Any, Callable, Dict, Hashable, Iterator, List, Optional, Sequence, Set, Tuple
+
+from .errors import NoPicture
+
+if TYPE_CHECKING:
+    from .problem import Problem
+
+Place = Tuple[int, int]
+
+_SIDE = 36
+_FONT = 16
+# A queen in a square of side 36.
+_QUEEN = "M8 12l5 9 5-12 5 12 5-9-3 15H11zM11 29h14v2H11z"
+
+
+@dataclass
+class Cell:
+    """A cell of a picture. No thick line parts cells of one group; a quiet label is only in the text."""
+
+    label: str = ""
+    group: Hashable = None
+    fill: str = "#fff"
+    is_strong: bool = False
+    is_queen: bool = False
+    is_quiet: bool = False
+
+
+@dataclass
+class Picture:
+    """Cells by row and column, both from 0 on; a place without one is a hole.
+
+    has_grid: thin lines between the cells of a group. has_boxes: the text shows the groups, too, by lines.
+    """
+
+    title: str
+    cells: Dict[Place, Cell]
+    rows: Sequence[str] = ()
+    columns: Sequence[str] = ()
+    has_grid: bool = True
+    has_boxes: bool = False
+    _size: Place = field(init=False)
+
+    def __post_init__(self) -> None:
+        if not self.cells:
+            raise NoPicture("there is no cell to draw")
+        self._size = max(r for r, _ in self.cells) + 1, max(c for _, c in self.cells) + 1
+
+    def text(self) -> str:
+        """The picture as lines of text: a dot is an empty cell, a blank a hole."""
+        return _Text(self, *self._size).text()
+
+    def svg(self) -> str:
+        """The picture as SVG that stands alone."""
+        return _Svg(self, *self._size).text()
+
+    def __str__(self) -> str:
+        return self.text()
+
+    def _repr_svg_(self) -> str:
+        return self.svg()
+
+    def is_parted(self, a: Place, b: Place) -> bool:
+        """Whether a thick line stands between two places."""
+        one, other = self.cells.get(a), self.cells.get(b)
+        if one is None or other is None:
+            return one is not other
+        return one.group != other.group
+
+
+Drawing = Callable[[Sequence[str]], Picture]
+
+
+def shade(number: int) -> str:
+    """A light colour; neighbours in the count are far from each other."""
+    red, green, blue = colorsys.hls_to_rgb(number * 0.618034 % 1, (0.80, 0.86, 0.74)[number % 3], 0.62)
+    return "#" + "".join(f"{round(part * 255):02x}" for part in (red, green, blue))
+
+
+class Shades(Dict[Hashable, str]):
+    """A light colour for each value, in the order in which they are first asked for."""
+
+    def __missing__(self, value: Hashable) -> str:
+        return self.setdefault(value, shade(len(self)))
+
+
+class _Text:
+    def __init__(self, picture: Picture, rows: int, columns: int) -> None:
+        self.picture = picture
+        self.rows = rows
+        self.columns = columns
+        labels = [[self.label((r, c)) for c in range(columns)] for r in range(rows)]
+        heads = [list(picture.columns)] if picture.columns else []
+        widest = [max(len(line[c]) for line in heads + labels) for c in range(columns)]
+        self.widths = widest if picture.columns else [max(widest)] * columns
+        self.labels = labels
+        self.head = max((len(name) for name in picture.rows), default=0)
+
+    def label(self, at: Place) -> str:
+        cell = self.picture.cells.get(at)
+        if cell is None:
+            return " "
+        return cell.label or ("Q" if cell.is_queen else ".")
+
+    def text(self) -> str:
+        lines = []
+        if self.picture.columns:
+            lines.append(self.line("", list(self.picture.columns)))
+        for r, labels in enumerate(self.labels):
+            if self.picture.has_boxes and r and self.is_cut((r - 1, 0), (r, 0), (0, 1), self.columns):
+                lines.append(self.rule())
+            lines.append(self.line(self.picture.rows[r] if self.picture.rows else "", labels))
+        return "".join(f"{line.rstrip()}\n" for line in lines)
+
+    def line(self, head: str, labels: List[str]) -> str:
+        parts = [head.ljust(self.head)] if self.head else []
+        for c, label in enumerate(labels):
+            if self.is_bar(c):
+                parts.append("|")
+            parts.append(label.ljust(self.widths[c]))
+        return " ".join(parts)
+
+    def rule(self) -> str:
+        """A line of the length of the others, with a cross at each bar."""
+        marks = "".join(
+            ("+-" if self.is_bar(c) else "") + "-" * (self.widths[c] + 1) for c in range(self.columns)
+        )
+        return marks[:-1]
+
+    def is_bar(self, c: int) -> bool:
+        return self.picture.has_boxes and c > 0 and self.is_cut((0, c - 1), (0, c), (1, 0), self.rows)
+
+    def is_cut(self, a: Place, b: Place, step: Place, count: int) -> bool:
+        """Whether a line runs through the whole picture between two of its rows or columns."""
+        (ar, ac), (br, bc), (dr, dc) = a, b, step
+        return all(
+            self.picture.is_parted((ar + k * dr, ac + k * dc), (br + k * dr, bc + k * dc)) for k in range(count)
+        )
+
+
+class _Svg:
+    def __init__(self, picture: Picture, rows: int, columns: int) -> None:
+        self.picture = picture
+        self.rows = rows
+        self.columns = columns
+        labels = [cell.label for cell in picture.cells.values()]
+        self.wide = max(_SIDE, *(_width(label) for label in [*labels, *picture.columns]))
+        self.left = max((_width(name) for name in picture.rows), default=4)
+        self.top = _SIDE if picture.columns else 4
+
+    def text(self) -> str:
+        width, height = self.left + self.columns * self.wide + 4, self.top + self.rows * _SIDE + 4
+        lines = [
+            f'<svg xmlns="http://www.w3.org/2000/svg" width="{width}" height="{height}" '
+            f'viewBox="0 0 {width} {height}" font-family="sans-serif" font-size="{_FONT}" text-anchor="middle">',
+            f"<title>{escape(self.picture.title)}</title>",
+            f'<rect width="{width}" height="{height}" fill="#fff"/>',
+            *self.fills(),
+            *self.lines(),
+            *self.labels(),
+            *self.heads(),
+            "</svg>",
+        ]
+        return "".join(f"{line}\n" for line in lines)
+
+    def at(self, r: int, c: int) -> Tuple[int, int]:
+        return self.left + c * self.wide, self.top + r * _SIDE
+
+    def fills(self) -> Iterator[str]:
+        """A rectangle for each run of cells of one colour in a row."""
+        for r in range(self.rows):
+            c = 0
+            while c < self.columns:
+                fill, start = self.fill((r, c)), c
+                while c < self.columns and self.fill((r, c)) == fill:
+                    c += 1
+                if fill not in ("", "#fff"):
+                    x, y = self.at(r, start)
+                    yield f'<rect x="{x}" y="{y}" width="{(c - start) * self.wide}" height="{_SIDE}" fill="{fill}"/>'
+
+    def fill(self, at: Place) -> str:
+        cell = self.picture.cells.get(at)
+        return "" if cell is None else cell.fill
+
+    def lines(self) -> Iterator[str]:
+        if self.picture.has_grid:
+            thin = self.path(lambda a, b: a in self.picture.cells and b in self.picture.cells)
+            yield f'<path d="{thin}" stroke="#aaa" fill="none"/>'
+        thick = self.path(self.picture.is_parted)
+        yield f'<path d="{thick}" stroke="#222" stroke-width="2.5" stroke-linecap="square" fill="none"/>'
+
+    def path(self, is_line: Callable[[Place, Place], bool]) -> str:
+        """The sides between places for which this holds, each as long as it goes on."""
+        steps = []
+        for r in range(self.rows + 1):
+            for c, length in _runs([is_line((r - 1, c), (r, c)) for c in range(self.columns)]):
+                x, y = self.at(r, c)
+                steps.append(f"M{x} {y}h{length * self.wide}")
+        for c in range(self.columns + 1):
+            for r, length in _runs([is_line((r, c - 1), (r, c)) for r in range(self.rows)]):
+                x, y = self.at(r, c)
+                steps.append(f"M{x} {y}v{length * _SIDE}")
+        return "".join(steps)
+
+    def labels(self) -> Iterator[str]:
+        for (r, c), cell in sorted(self.picture.cells.items()):
+            x, y = self.at(r, c)
+            if cell.is_queen:
+                yield f'<path d="{_QUEEN}" transform="translate({x + (self.wide - _SIDE) // 2} {y})" fill="#222"/>'
+            elif cell.label and not cell.is_quiet:
+                weight = ' font-weight="bold"' if cell.is_strong else ""
+                yield self.word(x + self.wide / 2, y, cell.label, weight)
+
+    def heads(self) -> Iterator[str]:
+        for c, name in enumerate(self.picture.columns):
+            yield self.word(self.left + (c + 0.5) * self.wide, 2, name, ' fill="#555"')
+        for r, name in enumerate(self.picture.rows):
+            yield self.word(self.left - 10, self.top + r * _SIDE, name, ' fill="#555" text-anchor="end"')
+
+    def word(self, x: float, y: float, text: str, more: str) -> str:
+        return f'<text x="{x:g}" y="{y + _SIDE / 2 + 5.5:g}"{more}>{escape(text)}</text>'
+
+
+def _width(label: str) -> int:
+    """Room for a label, by the mean width of a letter."""
+    return round(len(label) * _FONT * 0.62) + 18
+
+
+def _runs(marks: List[bool]) -> Iterator[Tuple[int, int]]:
+    """Where each run of true marks begins, and how long it is."""
+    start = 0
+    while start < len(marks):
+        end = start
+        while end < len(marks) and marks[end]:
+            end += 1
+        if end > start:
+            yield start, end - start
+        start = max(end, start + 1)
+
+
+@dataclass
+class Pattern:
+    """A drawing by two patterns (regular expressions) that are looked for in the lines of options.
+
+    cell: finds the cells of an option; its groups `row` and `column`, or else its first two, are their place, as
+        numbers or as a letter behind them (9, a, b, ..). With one group all cells are in one row. A third group, or
+        else the cell's colour, is the cell's label.
+    label: finds the label of an option's other cells: its first group, or else all of it. Cells without any label
+        are stars in the text.
+
+    A match begins and ends where words of the line do. It may go over several words.
+    """
+
+    cell: str
+    label: str = r"(?!)"
+
+    def of(self, problem: Problem[Any]) -> Drawing:
+        """The drawing for a problem. Raises `NoPicture` where no option has a cell, or `re.error`."""
+        cell = re.compile(rf"(?<!\S)(?:{self.cell})(?::(?P<colour_>\S+))?(?!\S)")
+        label = re.compile(rf"(?<!\S)(?:{self.label})(?!\S)")
+        if cell.groups < 2:
+            raise re.error("the pattern of a cell has no group for its row or column")
+        board: Set[Place] = {place for option in problem.options for place, _ in _cells(cell, problem.line(option))}
+        if not board:
+            raise NoPicture("no option has a cell of this pattern")
+        top, left = min(r for r, _ in board), min(c for _, c in board)
+        shades = Shades()
+
+        def draw(lines: Sequence[str]) -> Picture:
+            cells = {(r - top, c - left): Cell() for r, c in board}
+            for number, line in enumerate(lines):
+                found = label.search(line)
+                name = "" if found is None else found.group(1 if label.groups else 0)
+                for (r, c), own in _cells(cell, line):
+                    place = cells[r - top, c - left]
+                    place.label, place.is_quiet = own or name or "*", not (own or name)
+                    if not own:
+                        place.group, place.fill = number, shades[name or number]
+            return Picture("a solution", cells, has_grid=all(place.group is None for place in cells.values()))
+
+        return draw
+
+
+def _cells(cell: re.Pattern[str], line: str) -> Iterator[Tuple[Place, str]]:
+    """The places that an option's line names, and the label of each that has one of its own."""
+    named = cell.groupindex
+    for found in cell.finditer(line):
+        groups = [group for group in found.groups() if group is not None]
+        colour = found.group("colour_")
+        if "row" in named and "column" in named:
+            place = _number(found.group("row")), _number(found.group("column"))
+            own = found.group("label") if "label" in named else ""
+        elif cell.groups == 2:
+            place, own = (0, _number(groups[0])), ""
+        else:
+            place = _number(groups[0]), _number(groups[1])
+            own = groups[2] if cell.groups > 3 else ""
+        yield place, own or colour or ""
+
+
+def _number(word: str) -> int:
+    """A number, or a letter as in numbers to base 36."""
+    if word.isdigit():
+        return int(word)
+    try:
+        return int(word, 36)
+    except ValueError:
+        raise NoPicture(f"{word} is no row or column: neither a number nor a letter") from None
+
+
+def drawing_of(problem: Problem[Any]) -> Drawing:
+    """The drawing of a problem that `helgrothy.make` made, told by its first comment. Raises `NoPicture`."""
+    # The makers make problems, which are drawn here: so they can't be imported with the module.
+    from .make import KINDS, kind_of
+
+    name = kind_of(problem.comments)
+    if name not in KINDS:
+        raise NoPicture("no comment of the problem says that `helgrothy make` made it; patterns can draw it")
+    return KINDS[name].drawing(problem)

@@ -1,0 +1,64 @@
+"""What can go wrong, as exceptions. All of them are `HelgrothyError`."""
+
+from __future__ import annotations
+
+
+class HelgrothyError(Exception):
+    """The parent of every exception that this package raises of its own."""
+
+
+class Fault(HelgrothyError, ValueError):
+    """A fault of a text: its line, counted from 1, the token that is wrong, the reason, and perhaps a hint.
+
+    `line` is 0 where the text has no line for it.
+    """
+
+    def __init__(self, line: int, token: str, reason: str, hint: str = "") -> None:
+        super().__init__(line, token, reason, hint)
+        self.line = line
+        self.token = token
+        self.reason = reason
+        self.hint = hint
+
+    def __str__(self) -> str:
+        token = f"{self.token}: " if self.token else ""
+        hint = f" ({self.hint})" if self.hint else ""
+        return f"line {self.line}: {token}{self.reason}{hint}"
+
+
+class ProblemFault(Fault):
+    """A fault of a problem. Its reason is the text that the programs have for it, as in docs/INPUT.md."""
+
+
+class ListingFault(Fault):
+    """A fault of a listing: a bad line, or an unknown option."""
+
+
+class TableFault(Fault):
+    """A fault of a picture or a table that a problem is to be made from."""
+
+
+class ProgramNotFound(HelgrothyError, LookupError):
+    """One of the four programs is in none of the places that are searched for it."""
+
+
+class ProgramFailed(HelgrothyError, RuntimeError):
+    """A program ended otherwise than it should: its name, its status, and what it said on standard error."""
+
+    def __init__(self, program: str, status: int, message: str) -> None:
+        super().__init__(program, status, message)
+        self.program = program
+        self.status = status
+        self.message = message
+
+    def __str__(self) -> str:
+        ended = f"was ended by signal {-self.status}" if self.status < 0 else f"ended with status {self.status}"
+        return f"{self.program} {ended}: {self.message or 'no message'}"
+
+
+class OutOfTime(HelgrothyError, TimeoutError):
+    """A run took longer than it was given."""
+
+
+class NoPicture(HelgrothyError, LookupError):
+    """There is no drawing for the problem, or nothing in it to draw."""

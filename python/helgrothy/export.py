@@ -1,0 +1,169 @@
+"""Problems for other solvers: for costs, or for a second opinion.
+
+Each has a variable x1, x2, .. for each option in its order, and as many solutions as the problem: what other
+variables there are follows from these.
+"""
+
+from __future__ import annotations
+
+from typing import Any, Dict, Hashable, Iterator, List, NamedTuple, Optional
+
+from .problem import Problem
+
+
+class _Item(NamedTuple):
+    """An item: the options that hold it, by their colour (None without), and its bounds."""
+
+    name: str
+    low: int
+    high: int
+    options: Dict[Optional[Hashable], List[int]]
+
+    def all(self) -> List[int]:
+        return [option for options in self.options.values() for option in options]
+
+
+def _items(problem: Problem[Any]) -> List[_Item]:
+    items: Dict[Hashable, _Item] = {}
+    for item, (low, high) in problem.items.items():
+        items[item] = _Item(problem.name(item), low, high, {})
+    for item in problem.secondary:
+        items[item] = _Item(problem.name(item), 0, 1, {})
+    for number, option in enumerate(problem.options, 1):
+        for item, colour in problem.pairs(option):
+            items[item].options.setdefault(colour, []).append(number)
+    return list(items.values())
+
+
+def _ignored(problem: Problem[Any]) -> List[int]:
+    """The options without a primary item, which are in no solution."""
+    return [
+        number
+        for number, option in enumerate(problem.options, 1)
+        if not any(item in problem.items for item, _ in problem.pairs(option))
+    ]
+
+
+def _choices(item: _Item, fresh: Iterator[int]) -> Dict[int, List[int]]:
+    """The colours of an item as new variables, each with the options that give it."""
+    return {next(fresh): options for colour, options in item.options.items() if colour is not None}
+
+
+def _counter(after: int) -> Iterator[int]:
+    while True:
+        after += 1
+        yield after
+
+
+def asp(problem: Problem[Any]) -> Iterator[str]:
+    """The lines of an answer set program for gringo and clasp: x(N) takes option N, which holds(N,ITEM)."""
+    yield f"% An exact cover problem: x(N) takes option N. Costs: #minimize {{C,N : x(N), cost(N,C)}}."
+    yield f"{{x(1..{len(problem.options)})}}." if problem.options else ""
+    for number, option in enumerate(problem.options, 1):
+        for name in problem.uses(option):
+            yield f"holds({number},{_quoted(name)})."
+    for number in _ignored(problem):
+        yield f":- x({number})."
+    colour = _counter(0)
+    for item in _items(problem):
+        if item.options.keys() <= {None}:
+            yield f":- not {item.low} #count{{N : x(N), holds(N,{_quoted(item.name)})}} {item.high}."
+            continue
+        parts = [f"x({number})" for number in item.options.get(None, [])]
+        for variable, options in _choices(item, colour).items():
+            parts.append(f"colour({variable})")
+            for number in options:
+                yield f"colour({variable}) :- x({number})."
+        yield f":- 2 {{{'; '.join(parts)}}}."
+    yield "#show x/1."
+
+
+def _quoted(name: str) -> str:
+    return '"' + name.replace("\\", "\\\\").replace('"', '\\"') + '"'
+
+
+def opb(problem: Problem[Any]) -> Iterator[str]:
+    """The lines of a pseudo-Boolean problem in the format OPB; an objective `min: ..;` may be put in front."""
+    constraints = list(_sums(problem))
+    variables = len(problem.options) + sum(
+        sum(colour is not None for colour in item.options) for item in _items(problem)
+    )
+    # Without options only sums that can't work are left, and these name a variable.
+    variables = max(variables, 1 if constraints else 0)
+    yield f"* #variable= {variables} #constraint= {len(constraints)}"
+    yield f"* x1 to x{len(problem.options)} take the options in their order"
+    yield from constraints
+
+
+def _sums(problem: Problem[Any]) -> Iterator[str]:
+    fresh = _counter(len(problem.options))
+    for number in _ignored(problem):
+        yield _sum([], [number], 0)
+    for item in _items(problem):
+        held = item.options.get(None, []) + list(choices := _choices(item, fresh))
+        for variable, options in choices.items():
+            for option in options:
+                yield _sum([variable], [option], 0)
+            yield _sum(options, [variable], 0)
+        if item.low:
+            yield _sum(held, [], item.low)
+        if len(held) > item.high:
+            yield _sum([], held, -item.high)
+
+
+def _sum(plus: List[int], minus: List[int], least: int) -> str:
+    terms = [f"+1 x{variable}" for variable in plus] + [f"-1 x{variable}" for variable in minus]
+    # The format has no empty sum: a variable may stand against itself.
+    return " ".join(terms or ["+1 x1 -1 x1"]) + f" >= {least} ;"
+
+
+def cnf(problem: Problem[Any]) -> Iterator[str]:
+    """The lines of a problem in DIMACS CNF. Sums are counted by chains of variables that follow from the options."""
+    clauses = [[-number] for number in _ignored(problem)]
+    last = len(problem.options)
+    fresh = _counter(last)
+    for item in _items(problem):
+        choices = _choices(item, fresh)
+        for variable, options in choices.items():
+            clauses += [[-option, variable] for option in options] + [[-variable, *options]]
+        _bound(item.options.get(None, []) + list(choices), item.low, item.high, fresh, clauses)
+    variables = max([last, next(fresh) - 1])
+    yield f"c variables 1 to {last} take the options in their order"
+    yield f"p cnf {variables} {len(clauses)}"
+    for clause in clauses:
+        yield " ".join(map(str, [*clause, 0]))
+
+
+def _bound(held: List[int], low: int, high: int, fresh: Iterator[int], clauses: List[List[int]]) -> None:
+    """Clauses that say that at least `low` and at most `high` of these hold."""
+    if low > len(held):
+        clauses.append([])
+        return
+    if low == 1:
+        clauses.append(list(held))
+    if high >= len(held) and low < 2:
+        return
+    if high == 1 and len(held) <= 5:
+        clauses += [[-a, -b] for k, a in enumerate(held) for b in held[:k]]
+        return
+    most = min(high, len(held))
+    # at_least[j] is a variable that says that j + 1 of those so far hold.
+    at_least: List[int] = []
+    for variable in held:
+        before = at_least
+        if len(before) == most:
+            clauses.append([-variable, -before[most - 1]])
+        at_least = [next(fresh) for _ in range(min(len(before) + 1, most))]
+        for j, now in enumerate(at_least):
+            # now holds exactly where it held before, or `variable` holds and one fewer held before.
+            was = [before[j]] if j < len(before) else []
+            fewer = [before[j - 1]] if j else []
+            clauses += [[-old, now] for old in was]
+            clauses.append([-variable, *(-old for old in fewer), now])
+            clauses.append([-now, *was, variable])
+            clauses += [[-now, *was, old] for old in fewer]
+    if low > 1:
+        clauses.append([at_least[low - 1]])
+
+
+FORMATS = {"asp": asp, "opb": opb, "cnf": cnf}

@@ -1,0 +1,106 @@
+"""All faults of a problem's text, and what is no fault and yet often a slip."""
+
+from __future__ import annotations
+
+from collections import Counter
+from dataclasses import dataclass
+from typing import Dict, FrozenSet, Iterator, List, Optional, Tuple
+
+from .problem import Problem
+from .sums import search
+from .syntax import Bounds, Sheet, read
+
+_LONGEST = 40
+
+
+@dataclass(frozen=True)
+class Remark:
+    """What is wrong or odd: the line, counted from 1, the token or the beginning of the line, and the words."""
+
+    line: int
+    token: str
+    text: str
+    is_fault: bool = False
+
+    def __str__(self) -> str:
+        return f"line {self.line}: {self.token}: {self.text}" if self.token else f"line {self.line}: {self.text}"
+
+
+def lint(text: bytes, kind: int = 3, seconds: float = 1.0) -> List[Remark]:
+    """All remarks on the text of a problem for dlx`kind`, in the order of its lines. Raises nothing.
+
+    Proofs that the sums of the bounds can't work are looked for so many seconds.
+    """
+    sheet = read(text, kind)
+    remarks = [Remark(fault.line, fault.token, _reason(fault.reason, fault.hint), True) for fault in sheet.faults]
+    for rule in (_mark, _bars, _numbers, _held, _twins, _ignored):
+        remarks += rule(sheet)
+    if not sheet.faults and not any(remark.text.endswith("no solution") for remark in remarks):
+        problem = Problem.parse(text, kind)
+        found = search(problem, seconds)
+        if found is not None:
+            remarks.append(Remark(sheet.item_line, "", f"{found.text(problem.name)}: there is no solution"))
+    return sorted(remarks, key=lambda remark: remark.line)
+
+
+def _reason(reason: str, hint: str) -> str:
+    return f"{reason} ({hint})" if hint else reason
+
+
+def _mark(sheet: Sheet) -> Iterator[Remark]:
+    """A byte-order mark becomes part of the first name."""
+    if sheet.item_tokens and sheet.item_tokens[0].startswith("\ufeff"):
+        yield Remark(sheet.item_line, sheet.item_tokens[0], "begins with a byte-order mark, which is part of the name")
+
+
+def _bars(sheet: Sheet) -> Iterator[Remark]:
+    """`| a b` is a comment, not an item line without primary items: told where what follows uses its names."""
+    if not sheet.item_line:
+        return
+    used = set(sheet.items)
+    for line, comment in sheet.comments:
+        words = set(comment.replace("|", " ").split())
+        if line < sheet.item_line and words and used and used <= words:
+            text = f"a comment, as each line that begins with a bar; the items are taken from line {sheet.item_line}"
+            yield Remark(line, f"| {comment}"[:_LONGEST], text)
+
+
+def _numbers(sheet: Sheet) -> Iterator[Remark]:
+    """`2 | A` names an item 2 and makes A secondary."""
+    held = {name for option in sheet.options for name in option.uses}
+    for token, behind in zip(sheet.item_tokens, sheet.item_tokens[1:]):
+        if behind == "|" and token.isdigit() and token not in held:
+            yield Remark(sheet.item_line, f"{token} |", f"an item named {token}; a bound is written {token}|NAME")
+
+
+def _held(sheet: Sheet) -> Iterator[Remark]:
+    """Items that too few options hold."""
+    times = Counter(name for option in sheet.options for name in option.uses)
+    for item in sheet.items.values():
+        count = times[item.name]
+        if item.bounds is not None and count < item.bounds.low:
+            yield Remark(sheet.item_line, item.name, _too_few(item.bounds, count))
+        elif not count:
+            yield Remark(sheet.item_line, item.name, "in no option")
+
+
+def _too_few(bounds: Bounds, count: int) -> str:
+    if not count:
+        return "in no option: there is no solution"
+    options = "1 option" if count == 1 else f"{count} options"
+    return f"in {options}, and to be held {bounds.low} times: there is no solution"
+
+
+def _twins(sheet: Sheet) -> Iterator[Remark]:
+    """Options that are equal make equal solutions."""
+    first: Dict[FrozenSet[Tuple[str, Optional[str]]], int] = {}
+    for option in sheet.options:
+        uses = frozenset(option.uses.items())
+        line = first.setdefault(uses, option.line)
+        if line != option.line:
+            yield Remark(option.line, " ".join(option.uses)[:_LONGEST], f"the same option as that of line {line}")
+
+
+def _ignored(sheet: Sheet) -> Iterator[Remark]:
+    for line in sheet.ignored:
+        yield Remark(line, "", "an option without a primary item is ignored")

@@ -1,0 +1,131 @@
+"""Listings: from the lines of a choice to the options of a problem.
+
+A choice line gives an option's uses from the branch item on, round the option, so one option has as many lines as
+it has uses, each with ` (k of n)` behind it. `Decoder` knows an option by the rotation that begins with its least
+word.
+"""
+
+from __future__ import annotations
+
+import re
+from dataclasses import dataclass
+from typing import Callable, Dict, Generator, Generic, Hashable, Iterable, Iterator, List, Mapping, TypeVar, Union
+
+from .errors import ListingFault
+from .syntax import text_of
+
+O = TypeVar("O")
+
+_HEADER = re.compile(rb"([0-9]{1,20}):\Z")
+_CHOICE = re.compile(rb" \S+(?: \S+)* \([0-9]{1,10} of [0-9]{1,10}\)\Z")
+# So many lines are remembered; more of them are read anew.
+_MOST_LINES = 1 << 17
+
+
+@dataclass(frozen=True)
+class Null:
+    """The choice of none: the primary item gets no further option. It is a step of the search and adds nothing."""
+
+    item: Hashable
+
+
+def turned(body: bytes) -> bytes:
+    """The words of an option, turned such that the least stands first."""
+    words = body.split(b" ")
+    least = words.index(min(words))
+    return b" ".join(words[least:] + words[:least])
+
+
+class Decoder(Dict[bytes, Union[O, Null]], Generic[O]):
+    """What each choice line says: an option, or `Null`. A table that fills itself as lines are looked up.
+
+    `options` are by `turned` bodies, `items` the primary items by name. Raises `KeyError` for a line that says
+    neither. A body that is both an option's and that of a choice of none is read as the option's, as by dlxcheck.
+    """
+
+    def __init__(self, options: Mapping[bytes, O], items: Mapping[bytes, Hashable]) -> None:
+        super().__init__()
+        self._options = options
+        self._items = items
+
+    def __missing__(self, line: bytes) -> Union[O, Null]:
+        body = line[1 : line.rindex(b" (")]
+        key = turned(body)
+        choice: Union[O, Null]
+        if key in self._options:
+            choice = self._options[key]
+        elif body.startswith(b"null "):
+            choice = Null(self._items[body[5:]])
+        else:
+            raise KeyError(line)
+        if len(self) >= _MOST_LINES:
+            self.clear()
+        self[line] = choice
+        return choice
+
+
+def stream(
+    chunks: Iterable[bytes], read: Callable[[List[bytes]], List[O]], is_whole: Callable[[List[bytes]], bool]
+) -> Generator[List[O], None, bool]:
+    """The solutions of a program's own listing as its bytes come; `read` makes one of choice lines.
+
+    A solution ends where the next one begins. So that the last one that came needn't wait for that, `is_whole`
+    says of its lines whether they are all. Returns whether the listing ends within a solution.
+    """
+    rest = b""
+    is_open = False
+    for chunk in chunks:
+        # A line of an option ends with a bracket, so only that of a number ends with a colon.
+        pieces = (rest + chunk).split(b":\n")
+        rest = pieces.pop()
+        for piece in pieces:
+            if is_open:
+                yield read(piece.split(b"\n")[:-1])
+            is_open = True
+        if is_open and (not rest or rest.endswith(b"\n")):
+            lines = rest.split(b"\n")[:-1]
+            if is_whole(lines):
+                rest, is_open = b"", False
+                yield read(lines)
+    return is_open
+
+
+@dataclass
+class Listed(Generic[O]):
+    """A solution of a listing: the number in its header, and its choices."""
+
+    number: int
+    choices: List[Union[O, Null]]
+
+    def options(self) -> List[O]:
+        """The options, without the choices of none."""
+        return [choice for choice in self.choices if not isinstance(choice, Null)]
+
+
+def solutions(lines: Iterable[bytes], decode: Decoder[O]) -> Iterator[Listed[O]]:
+    """The solutions of any listing, line by line. Raises `ListingFault`."""
+    listed = None
+    for number, line in enumerate(lines, 1):
+        line = line[:-1] if line.endswith(b"\n") else line
+        header = _HEADER.match(line)
+        if header is not None:
+            if listed is not None:
+                yield listed
+            listed = Listed(int(header.group(1)), [])
+        elif listed is None or _CHOICE.match(line) is None:
+            raise ListingFault(number, text_of(line), "bad line", _hint(line))
+        else:
+            try:
+                listed.choices.append(decode[line])
+            except KeyError:
+                raise ListingFault(number, text_of(line.strip()), "unknown option") from None
+    if listed is not None:
+        yield listed
+
+
+def _hint(line: bytes) -> str:
+    if line.startswith((b"Altogether ", b"Option ignored ")):
+        return "messages of standard error are no part of a listing"
+    if line.endswith(b"\r"):
+        return "it ends with a carriage return"
+    return ""

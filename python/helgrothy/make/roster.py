@@ -1,0 +1,152 @@
+"""Who works which shift on which day, from a table of needs and people."""
+
+from __future__ import annotations
+
+import argparse
+import re
+from dataclasses import dataclass
+from typing import Any, Dict, List, Sequence, Tuple
+
+from ..draw import Cell, Drawing, Picture, Shades
+from ..errors import TableFault
+from ..problem import Problem
+from .kind import Kind, numbered, read_text
+
+_NUMBERS = re.compile(r"(\d{1,9})(?::(\d{1,9}))?\Z")
+
+
+@dataclass
+class _Person:
+    name: str
+    bounds: Tuple[int, int]
+    off: List[str]
+
+
+def problem(table: str, *, rest: bool = False) -> Problem[List[str]]:
+    """A roster from a table.
+
+        -      mon tue wed
+        early  1   1   1
+        late   1   2   0:1
+
+        ann    2:3
+        bob    2    -tue
+        cat    1:2  -late -mon/early
+
+    The first line names the days behind a word that counts for nothing; each further line up to a blank one is a
+    shift and how many people it takes on each day, a number or the least and the most. Behind the blank line stand
+    the people, each with the number of shifts and what is not for him or her: a day, a shift, or a shift on a day.
+    Lines that begin with # are skipped. Nobody has two shifts on a day. `rest`: nor a shift on the next day that
+    stands higher in the table.
+
+    An option is a person in a shift: `DAY/SHIFT PERSON PERSON-DAY`. Raises `TableFault`.
+    """
+    days, needs, people = _read(table)
+    shifts = list(dict.fromkeys(shift for _, shift in needs))
+    options = []
+    secondary: Dict[str, None] = {}
+    for person in people:
+        for (day, shift), (_, most) in needs.items():
+            if not most or {day, shift, f"{day}/{shift}"} & set(person.off):
+                continue
+            once = [f"{person.name}-{day}", *(_rests(person.name, days, day, shifts, shift) if rest else [])]
+            secondary.update(dict.fromkeys(once))
+            options.append([f"{day}/{shift}", person.name, *once])
+    return Problem(
+        {
+            **{f"{day}/{shift}": bounds for (day, shift), bounds in needs.items() if bounds[1]},
+            **{person.name: person.bounds for person in people},
+        },
+        secondary,
+        options,
+        comments=[
+            f"helgrothy make roster{' --rest' if rest else ''} TABLE",
+            "A person in a shift DAY/SHIFT, at most once a day (PERSON-DAY). The table:",
+            *(line for _, line in numbered(table)),
+        ],
+    )
+
+
+def _rests(name: str, days: Sequence[str], day: str, shifts: Sequence[str], shift: str) -> List[str]:
+    """Items that a shift and a higher one on the next day have in common: the lines of the table between them."""
+    at, place = days.index(day), shifts.index(shift)
+    after = [f"{name}-{day}>{line}" for line in shifts[:place]] if at + 1 < len(days) else []
+    before = [f"{name}-{days[at - 1]}>{line}" for line in shifts[place : len(shifts) - 1]] if at else []
+    return after + before
+
+
+def _read(table: str) -> Tuple[List[str], Dict[Tuple[str, str], Tuple[int, int]], List[_Person]]:
+    lines = [(number, line.split()) for number, line in numbered(table) if not line.startswith("#")]
+    while lines and not lines[0][1]:
+        lines.pop(0)
+    end = next((k for k, (_, words) in enumerate(lines) if not words), len(lines))
+    if end < 2:
+        raise TableFault(1, "", "a table begins with a line of days and lines of shifts")
+    days = lines[0][1][1:]
+    needs = {}
+    for number, (shift, *counts) in lines[1:end]:
+        if len(counts) != len(days):
+            raise TableFault(number, shift, f"{len(counts)} numbers for {len(days)} days")
+        for day, word in zip(days, counts):
+            needs[day, shift] = _numbers(number, word)
+    people = [_person(number, words, days, needs) for number, words in lines[end:] if words]
+    if not people:
+        raise TableFault(lines[-1][0], "", "no people behind a blank line")
+    return days, needs, people
+
+
+def _person(number: int, words: Sequence[str], days: Sequence[str], needs: Dict[Tuple[str, str], Any]) -> _Person:
+    name, *rest = words
+    bounds = (0, len(days))
+    if rest and not rest[0].startswith("-"):
+        bounds = _numbers(number, rest.pop(0))
+    known = {word for day, shift in needs for word in (day, shift, f"{day}/{shift}")}
+    for word in rest:
+        if word[:1] != "-" or word[1:] not in known:
+            raise TableFault(number, word, "neither -DAY, -SHIFT nor -DAY/SHIFT of the table")
+    return _Person(name, bounds, [word[1:] for word in rest])
+
+
+def _numbers(number: int, word: str) -> Tuple[int, int]:
+    found = _NUMBERS.match(word)
+    if found is None:
+        raise TableFault(number, word, "neither a number nor two with a colon between")
+    low = int(found.group(1))
+    return low, low if found.group(2) is None else int(found.group(2))
+
+
+def drawing(problem: Problem[Any]) -> Drawing:
+    """A table of people and days."""
+    slots = [item for item in problem.item_names if "/" in item]
+    days = list(dict.fromkeys(slot.split("/")[0] for slot in slots))
+    people = [item for item in problem.item_names if "/" not in item]
+    shades = Shades()
+    for slot in slots:
+        shades[slot.split("/")[1]]
+
+    def draw(lines: Sequence[str]) -> Picture:
+        cells = {(r, c): Cell() for r in range(len(people)) for c in range(len(days))}
+        for line in lines:
+            slot, person = line.split()[:2]
+            day, shift = slot.split("/")
+            cells[people.index(person), days.index(day)] = Cell(shift, fill=shades[shift])
+        return Picture("a roster", cells, people, days)
+
+    return draw
+
+
+def _add_arguments(parser: argparse.ArgumentParser) -> None:
+    parser.add_argument(
+        "table",
+        metavar="TABLE",
+        help="a file: a line of days behind a word, lines of shifts with numbers of people, a blank line, lines of "
+        "people with numbers of shifts and what is not for them (-DAY, -SHIFT, -DAY/SHIFT)",
+    )
+    parser.add_argument("--rest", action="store_true", help="no shift on the next day that stands higher in the table")
+
+
+def _make(arguments: argparse.Namespace) -> Problem[List[str]]:
+    return problem(read_text(arguments.table), rest=arguments.rest)
+
+
+KIND = Kind("roster", "shifts of people on days", _add_arguments, _make, drawing)

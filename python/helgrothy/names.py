@@ -1,0 +1,81 @@
+"""Names for items and colours of any kind, such that the programs read them."""
+
+from __future__ import annotations
+
+import itertools
+import re
+import string
+from typing import Callable, Dict, Hashable, Iterable, Iterator, Optional, Set
+
+from .syntax import MOST_COLOUR, MOST_NAME, bytes_of, name_fault, text_of
+
+_NOT_IN_NAME = re.compile(r"[\s:|\0]+", re.ASCII)
+_NOT_IN_COLOUR = re.compile(r"[\s\0]+", re.ASCII)
+
+
+def item_names(items: Iterable[Hashable]) -> Dict[Hashable, str]:
+    """A name for each item: a text that is one stays, of others one is made that is near to it."""
+    return _named(items, _is_name, _NOT_IN_NAME, MOST_NAME, "i")
+
+
+def colour_names(colours: Iterable[Hashable]) -> Dict[Hashable, str]:
+    """A name for each colour, by the rules of colours."""
+    return _named(colours, _is_colour, _NOT_IN_COLOUR, MOST_COLOUR, "c")
+
+
+def codes() -> Iterator[str]:
+    """Names as short as can be, without end. None of the first 200,000 is `null`."""
+    for length in itertools.count(1):
+        for letters in itertools.product(string.ascii_letters + string.digits, repeat=length):
+            yield "".join(letters)
+
+
+def _is_name(text: str) -> bool:
+    return name_fault(bytes_of(text)) is None and not _NOT_IN_NAME.search(text)
+
+
+def _is_colour(text: str) -> bool:
+    return 1 <= len(bytes_of(text)) <= MOST_COLOUR and not _NOT_IN_COLOUR.search(text)
+
+
+def _named(
+    values: Iterable[Hashable], is_legal: Callable[[str], bool], illegal: re.Pattern[str], most: int, stem: str
+) -> Dict[Hashable, str]:
+    names: Dict[Hashable, Optional[str]] = {}
+    for value in values:
+        names[value] = value if isinstance(value, str) and is_legal(value) else None
+    taken: Set[str] = {name for name in names.values() if name is not None}
+    last: Dict[str, int] = {}
+    made: Dict[Hashable, str] = {}
+    for number, (value, name) in enumerate(names.items(), 1):
+        if name is None:
+            spelled = _spelled(value)
+            near = f"{stem}{number}" if spelled is None else illegal.sub("_", spelled) or stem
+            name = _cut(near, most)
+            while name in taken or not is_legal(name):
+                last[near] = last.get(near, 1) + 1
+                end = f"~{last[near]}"
+                name = _cut(near, most - len(end)) + end
+            taken.add(name)
+        made[value] = name
+    return made
+
+
+def _spelled(value: Hashable) -> Optional[str]:
+    """Numbers, texts and tuples of them as text; of other values the text may change from run to run."""
+    if isinstance(value, (str, int, float)):
+        return str(value)
+    if isinstance(value, tuple):
+        parts = [_spelled(part) for part in value]
+        if all(part is not None for part in parts):
+            return ",".join(part for part in parts if part is not None)
+    return None
+
+
+def _cut(text: str, most: int) -> str:
+    """The first characters of a text, as many as have so many bytes."""
+    raw = bytes_of(text)
+    if len(raw) > most:
+        while most and raw[most] & 0xC0 == 0x80:
+            most -= 1
+    return text_of(raw[:most])

@@ -1,0 +1,434 @@
+"""Exact cover problems over items of any kind."""
+
+from __future__ import annotations
+
+import tempfile
+import warnings
+from collections import Counter
+from types import TracebackType
+from typing import (
+    IO,
+    TYPE_CHECKING,
+    Any,
+    Dict,
+    Generator,
+    Generic,
+    Hashable,
+    Iterable,
+    Iterator,
+    List,
+    Mapping,
+    Optional,
+    Sequence,
+    Tuple,
+    Type,
+    TypeVar,
+    Union,
+)
+
+from . import listing as listings
+from .errors import ListingFault, NoPicture, ProblemFault, ProgramFailed
+from .listing import Decoder, Listed, Null
+from .names import codes, colour_names, item_names
+from .programs import Ending, Run
+from .syntax import MOST_ITEMS, MOST_USES, ONCE, Bounds, bounds_fault, bytes_of, read, text_of
+
+if TYPE_CHECKING:
+    from .draw import Pattern, Picture
+
+Uses = Mapping[Hashable, Optional[Hashable]]
+Option = TypeVar("Option", bound=Iterable[Hashable])
+BoundsLike = Union[None, int, Tuple[int, int]]
+
+
+class Problem(Generic[Option]):
+    """Items, and options that hold them.
+
+    items: the primary items, each to be held exactly once; or a mapping that gives each one its bounds: None for
+        once, `v` for exactly v times, `(u, v)` for at least u and at most v times.
+    secondary: items that are held at most once, or by any number of options that give them the same colour.
+    options: each an iterable of items, or a mapping from items to colours, None for an item without one.
+    comments: lines of text that stand above the problem when it is written.
+
+    Items and colours are any hashable values, equal ones being the same. An option without a primary item is in no
+    solution, which a warning tells.
+
+    Raises `ProblemFault` where an item is unknown, twice in an option, named twice, and so on; its line is that of
+    `text`.
+
+    >>> Problem("abc", options=["ab", "c", "a", "bc"]).count()
+    2
+    """
+
+    def __init__(
+        self,
+        items: Union[Mapping[Any, BoundsLike], Iterable[Hashable]],
+        secondary: Iterable[Hashable] = (),
+        options: Iterable[Option] = (),
+        *,
+        comments: Iterable[str] = (),
+    ) -> None:
+        self.comments: Tuple[str, ...] = tuple(line for text in comments for line in text.split("\n"))
+        self.items: Dict[Hashable, Bounds] = {}
+        self.secondary: Dict[Hashable, None] = {}
+        self.options: List[Option] = []
+        self._line = len(self.comments) + 1
+        self._take_items(items, secondary)
+        self._names = item_names([*self.items, *self.secondary])
+        self._take_options(options)
+
+    def _take_items(
+        self, items: Union[Mapping[Any, BoundsLike], Iterable[Hashable]], secondary: Iterable[Hashable]
+    ) -> None:
+        pairs: Iterable[Tuple[Hashable, BoundsLike]]
+        pairs = items.items() if isinstance(items, Mapping) else ((item, None) for item in items)
+        for item, bounds in pairs:
+            self._refuse(item in self.items, item, "name repeated")
+            self.items[item] = self._bounds(item, bounds)
+        for item in secondary:
+            self._refuse(item in self.items or item in self.secondary, item, "name repeated")
+            self.secondary[item] = None
+        self._refuse(not self.items, "", "no items")
+        self._refuse(len(self.items) + len(self.secondary) > MOST_ITEMS, "", "too many items")
+
+    def _refuse(self, is_wrong: bool, token: object, reason: str, hint: str = "", option: int = 0) -> None:
+        if is_wrong:
+            raise ProblemFault(self._line + option, str(token), reason, hint)
+
+    def _bounds(self, item: Hashable, given: BoundsLike) -> Bounds:
+        if given is None:
+            return ONCE
+        pair = (given, given) if isinstance(given, int) else tuple(given)
+        is_pair = len(pair) == 2 and all(isinstance(bound, int) for bound in pair)
+        self._refuse(not is_pair, item, "bad bound", "bounds are None, a number or two")
+        low, high = pair
+        reason = bounds_fault(low, high)
+        self._refuse(reason is not None, item, reason or "")
+        return Bounds(low, high)
+
+    def _take_options(self, options: Iterable[Option]) -> None:
+        colours: Dict[Hashable, None] = {}
+        uses = 0
+        for number, given in enumerate(options, 1):
+            # What can be gone through only once is kept as a tuple.
+            option: Any = tuple(given) if isinstance(given, Iterator) else given
+            here = self._check_option(option, number)
+            uses += here
+            self._refuse(uses > MOST_USES, "", "too many uses", option=number)
+            if isinstance(option, Mapping):
+                colours.update(dict.fromkeys(colour for colour in option.values() if colour is not None))
+            self.options.append(option)
+        self.colours = colour_names(colours)
+
+    def _check_option(self, option: Option, number: int) -> int:
+        """Looks at an option's items; how many uses it counts for."""
+        has_primary = False
+        seen = set()
+        for item, colour in self.pairs(option):
+            if item not in self._names:
+                hint = "a text is an option of its letters; split it" if isinstance(option, str) else ""
+                self._refuse(True, item, "unknown item", hint, number)
+            self._refuse(item in seen, item, "item repeated in option", option=number)
+            self._refuse(colour is not None and item in self.items, item, "colour on a primary item", option=number)
+            seen.add(item)
+            has_primary = has_primary or item in self.items
+        if not has_primary:
+            warnings.warn(f"option {number} has no primary item, so it is in no solution", stacklevel=4)
+        return len(seen) if has_primary else 0
+
+    @staticmethod
+    def pairs(option: Iterable[Hashable]) -> Iterable[Tuple[Hashable, Optional[Hashable]]]:
+        """An option's items, each with its colour or None."""
+        if isinstance(option, Mapping):
+            return option.items()
+        return ((item, None) for item in option)
+
+    @classmethod
+    def parse(cls, text: Union[str, bytes], kind: int = 3) -> Problem[Dict[str, Optional[str]]]:
+        """The problem of a text, as the program dlx`kind` reads it; its options are mappings.
+
+        Options that are ignored are left out. Raises `ProblemFault`, the one that the program would tell.
+        """
+        sheet = read(bytes_of(text) if isinstance(text, str) else text, kind)
+        if sheet.faults:
+            raise sheet.faults[0]
+        items = {item.name: item.bounds for item in sheet.items.values() if item.bounds is not None}
+        secondary = [item.name for item in sheet.items.values() if item.bounds is None]
+        problem: Problem[Dict[str, Optional[str]]] = Problem(
+            items, secondary, (option.uses for option in sheet.options), comments=(text for _, text in sheet.comments)
+        )
+        return problem
+
+    @property
+    def kind(self) -> int:
+        """Which program the problem is for: 3 where an item has bounds, else 2 where an option has a colour, else 1."""
+        if any(bounds != ONCE for bounds in self.items.values()):
+            return 3
+        return 2 if self.colours else 1
+
+    def name(self, item: Hashable) -> str:
+        """An item's name in the problem's text: the item itself where it is a legal name. Raises `KeyError`."""
+        return self._names[item]
+
+    @property
+    def item_names(self) -> List[str]:
+        """The names of the primary items."""
+        return [self._names[item] for item in self.items]
+
+    @property
+    def secondary_names(self) -> List[str]:
+        """The names of the secondary items."""
+        return [self._names[item] for item in self.secondary]
+
+    def uses(self, option: Iterable[Hashable]) -> Dict[str, Optional[str]]:
+        """The names of an option's items, each with its colour's name or None. Raises `ProblemFault`."""
+        try:
+            return {
+                self._names[item]: None if colour is None else self.colours[colour]
+                for item, colour in self.pairs(option)
+            }
+        except KeyError as error:
+            raise ProblemFault(0, str(error.args[0]), "unknown item or colour") from None
+
+    def line(self, option: Iterable[Hashable]) -> str:
+        """An option as a line of the problem's text. Raises `ProblemFault`."""
+        return " ".join(name if colour is None else f"{name}:{colour}" for name, colour in self.uses(option).items())
+
+    def lines(self) -> Iterator[str]:
+        """The lines of the problem's text, without their ends."""
+        for comment in self.comments:
+            yield f"| {comment}"
+        yield self._item_line(self._names)
+        for option in self.options:
+            yield self.line(option)
+
+    def _item_line(self, names: Mapping[Hashable, str], more: Sequence[str] = ()) -> str:
+        """The item line with these names, and with more secondary items."""
+        tokens = [_item_token(names[item], bounds) for item, bounds in self.items.items()]
+        behind = [*(names[item] for item in self.secondary), *more]
+        return " ".join(tokens + (["|", *behind] if behind else []))
+
+    @property
+    def text(self) -> str:
+        """The problem as the programs read it."""
+        return "".join(f"{line}\n" for line in self.lines())
+
+    def solve(
+        self, limit: Optional[int] = None, spacing: int = 1, *, nulls: bool = False, seconds: Optional[float] = None
+    ) -> Solutions[Option]:
+        """The solutions, one by one as they are found, each a list of options as they were given.
+
+        limit: stop after so many solutions. spacing: give each one whose number is a multiple of it. nulls: have
+        the choices of none in the lists, as `Null`. seconds: raise `OutOfTime` where it takes longer.
+
+        Nothing but one solution is held in memory, and the program ends where the caller stops. Raises
+        `ProgramNotFound`, `ProgramFailed` and `OutOfTime`.
+        """
+        words = _words(limit, spacing)
+        if spacing < 1:
+            raise ValueError("spacing must be at least 1")
+        outcome = _Outcome()
+        return Solutions(self._stream(outcome, words, nulls, seconds), outcome)
+
+    def _stream(
+        self, outcome: _Outcome, words: List[str], nulls: bool, seconds: Optional[float]
+    ) -> Generator[List[Any], None, None]:
+        wire = _Wire(self)
+        get = wire.decoder.__getitem__
+        may_be_null = any(low < high for low, high in self.items.values())
+
+        def with_nulls(lines: List[bytes]) -> List[Any]:
+            return list(map(get, lines))
+
+        def without(lines: List[bytes]) -> List[Any]:
+            return [choice for choice in map(get, lines) if choice.__class__ is not Null]
+
+        def is_whole(lines: List[bytes]) -> bool:
+            return self._is_whole(map(get, lines))
+
+        give = with_nulls if nulls or not may_be_null else without
+        with Run(f"dlx{self.kind}", words, _ended(wire.lines), seconds) as run:
+            is_cut = yield from listings.stream(run.chunks(), give, is_whole)
+            ending = Ending(run)
+            if is_cut:
+                raise run.failure()
+            outcome.ending = ending
+
+    def _is_whole(self, choices: Iterable[Union[Option, Null]]) -> bool:
+        """Whether choices are all of a solution: no primary item is left."""
+        held: Counter[Hashable] = Counter()
+        for choice in choices:
+            if isinstance(choice, Null):
+                held[choice.item] = self.items[choice.item].high
+            else:
+                held.update(item for item in choice if item in self.items)
+        return all(held[item] >= bounds.high for item, bounds in self.items.items())
+
+    def listed(self, lines: Iterable[bytes]) -> Iterator[Listed[Option]]:
+        """The solutions of a listing of the problem's text, from its lines. Raises `ListingFault`.
+
+        Where options are alike their lines are too, and the last of them stands for all.
+        """
+        options = {listings.turned(bytes_of(self.line(option))): option for option in self.options}
+        items = {bytes_of(self._names[item]): item for item in self.items}
+        return listings.solutions(lines, Decoder(options, items))
+
+    def count(self, limit: Optional[int] = None, *, seconds: Optional[float] = None) -> int:
+        """How many solutions there are, or `limit` where there are as many or more.
+
+        Raises `ProgramNotFound`, `ProgramFailed` and, where it takes longer than `seconds`, `OutOfTime`.
+        """
+        with Run(f"dlx{self.kind}", _words(limit, 0), _ended(self.lines()), seconds) as run:
+            for _ in run.chunks():
+                pass
+            return Ending(run).total
+
+    def check(self, listing: Union[str, bytes, IO[str], IO[bytes], Iterable[Iterable[Any]]]) -> List[bool]:
+        """Of each solution whether it is one, as dlxcheck judges it, which holds all of them in memory.
+
+        The listing is text as the programs print it (or a file that gives it), or solutions as `solve` gives them.
+        Whether these are all, and whether one comes twice, isn't judged. Raises `ListingFault` for a text that is no
+        listing and for what is no option of the problem, `ProblemFault` for an item that isn't the problem's.
+        """
+        given: Any = listing.read() if hasattr(listing, "read") else listing
+        if not isinstance(given, (str, bytes)):
+            given = b"".join(self._listing(given))
+        text = bytes_of(given) if isinstance(given, str) else given
+        with tempfile.NamedTemporaryFile(suffix=".dlx") as file:
+            file.writelines(_ended(self.lines()))
+            file.flush()
+            with Run("dlxcheck", [file.name, str(self.kind)], [text]) as run:
+                verdicts = b"".join(run.chunks()).splitlines()
+                if run.status() not in (0, 5):
+                    raise _listing_fault(run.failure(), text)
+        return [verdict.endswith(b": cover") for verdict in verdicts]
+
+    def _listing(self, solutions: Iterable[Iterable[Any]]) -> Iterator[bytes]:
+        for number, solution in enumerate(solutions, 1):
+            yield b"%d:\n" % number
+            for choice in solution:
+                body = f"null {self.name(choice.item)}" if isinstance(choice, Null) else self.line(choice)
+                yield bytes_of(f" {body} (1 of 1)\n")
+
+    def draw(self, solution: Iterable[Any] = (), pattern: Optional[Pattern] = None) -> Picture:
+        """A picture of a solution, or of the problem as it stands before one. Raises `NoPicture`.
+
+        The problems that `helgrothy.make` makes have pictures of their own; others are drawn by a pattern.
+        """
+        from .draw import drawing_of
+
+        draw = drawing_of(self) if pattern is None else pattern.of(self)
+        return draw([self.line(choice) for choice in solution if not isinstance(choice, Null)])
+
+    def _repr_svg_(self) -> Optional[str]:
+        """The problem before it is solved, for notebooks; None where it has no picture."""
+        try:
+            return self.draw().svg()
+        except NoPicture:
+            return None
+
+    def __repr__(self) -> str:
+        return f"<Problem of {len(self.items)} + {len(self.secondary)} items and {len(self.options)} options>"
+
+
+class _Wire(Generic[Option]):
+    """A problem as it is given to a solver whose listing is read back: with names as short as can be, since each
+    byte of a listing costs time, and with a secondary item of its own in each option that another one is like.
+    """
+
+    def __init__(self, problem: Problem[Option]) -> None:
+        code = codes()
+        self._names = {item: next(code) for item in (*problem.items, *problem.secondary)}
+        self._colours = dict(zip(problem.colours, codes()))
+        lines = [self._line(option, problem) for option in problem.options]
+        bodies = [listings.turned(bytes_of(line)) for line in lines]
+        times = Counter(bodies)
+        tags = []
+        for number, body in enumerate(bodies):
+            if times[body] > 1:
+                tags.append(next(code))
+                lines[number] += f" {tags[-1]}"
+                bodies[number] = listings.turned(bytes_of(lines[number]))
+        self.lines = [problem._item_line(self._names, tags), *lines]
+        items = {bytes_of(self._names[item]): item for item in problem.items}
+        self.decoder: Decoder[Option] = Decoder(dict(zip(bodies, problem.options)), items)
+
+    def _line(self, option: Option, problem: Problem[Option]) -> str:
+        return " ".join(
+            self._names[item] if colour is None else f"{self._names[item]}:{self._colours[colour]}"
+            for item, colour in problem.pairs(option)
+        )
+
+
+class _Outcome:
+    """How a run ended. The run knows this and not its `Solutions`, so no circle keeps either of them alive."""
+
+    ending: Optional[Ending] = None
+
+
+class Solutions(Generic[Option]):
+    """Solutions one by one. As a context manager, or by `close`, it ends the program behind it at once; so it does
+    where a loop over it is left and nothing holds it any longer.
+    """
+
+    def __init__(self, stream: Generator[List[Option], None, None], outcome: _Outcome) -> None:
+        self._stream = stream
+        self._outcome = outcome
+
+    def __iter__(self) -> Iterator[List[Option]]:
+        # The generator itself, so that a loop pays no call of Python more for each solution.
+        return self._stream
+
+    def __next__(self) -> List[Option]:
+        return next(self._stream)
+
+    @property
+    def total(self) -> Optional[int]:
+        """How many solutions there were, once they came to an end."""
+        return self._outcome.ending.total if self._outcome.ending else None
+
+    @property
+    def complete(self) -> Optional[bool]:
+        """Whether these are all, or a limit was met, once they came to an end."""
+        return self._outcome.ending.complete if self._outcome.ending else None
+
+    def close(self) -> None:
+        """Ends the program, if it runs."""
+        self._stream.close()
+
+    def __enter__(self) -> Solutions[Option]:
+        return self
+
+    def __exit__(
+        self, kind: Optional[Type[BaseException]], error: Optional[BaseException], trace: Optional[TracebackType]
+    ) -> None:
+        self.close()
+
+
+def _item_token(name: str, bounds: Bounds) -> str:
+    low, high = bounds
+    if bounds == ONCE:
+        return name
+    return f"{low}|{name}" if low == high else f"{low}:{high}|{name}"
+
+
+def _ended(lines: Iterable[str]) -> Iterator[bytes]:
+    return (bytes_of(f"{line}\n") for line in lines)
+
+
+def _words(limit: Optional[int], spacing: int) -> List[str]:
+    """The words of a solver that print each solution whose number is a multiple of `spacing`."""
+    if limit is not None and limit < 1:
+        raise ValueError("limit must be at least 1")
+    return ([f"m{spacing}"] if spacing else []) + ([f"t{limit}"] if limit is not None else [])
+
+
+def _listing_fault(failed: ProgramFailed, listing: bytes) -> Exception:
+    """The fault that dlxcheck told of a listing; what else it failed with comes back as it is."""
+    start, _, rest = failed.message.partition("Listing line ")
+    number, _, reason = rest.partition(": ")
+    if start or not number.isdigit():
+        return failed
+    lines = listing.split(b"\n")
+    line = int(number)
+    return ListingFault(line, text_of(lines[line - 1].strip()), reason.rstrip("."))

@@ -1,0 +1,144 @@
+"""The four programs: where they are, and how one is run.
+
+A program is looked for in the folders of `HELGROTHY_BIN` (parted as those of `PATH` are), then beside the package
+(`bin` in it, as an installed wheel has it; `bin` of an unpacked release; where a repository builds it), and last
+on the path.
+"""
+
+from __future__ import annotations
+
+import os
+import re
+import select
+import shutil
+import subprocess
+import tempfile
+import time
+from types import TracebackType
+from typing import IO, Iterable, Iterator, List, Optional, Sequence, Type
+
+from .errors import OutOfTime, ProgramFailed, ProgramNotFound
+
+PROGRAMS = ("dlx1", "dlx2", "dlx3", "dlxcheck")
+VARIABLE = "HELGROTHY_BIN"
+_CHUNK = 1 << 18
+_LAST_LINE = re.compile(r"Altogether (\d+) solutions?( \(limit\))?\.\Z")
+
+
+def folders(program: str) -> List[str]:
+    """The folders in which a program is looked for before the path, in their order."""
+    package = os.path.dirname(os.path.abspath(__file__))
+    top = os.path.dirname(os.path.dirname(package))
+    given = [folder for folder in os.environ.get(VARIABLE, "").split(os.pathsep) if folder]
+    return given + [
+        os.path.join(package, "bin"),
+        os.path.join(top, "bin"),
+        os.path.join(top, "crates", program, "out"),
+    ]
+
+
+def find(program: str) -> str:
+    """The path of a program. Raises `ProgramNotFound`."""
+    for folder in folders(program):
+        path = os.path.join(folder, program)
+        if os.path.isfile(path) and os.access(path, os.X_OK):
+            return path
+    found = shutil.which(program)
+    if found is None:
+        raise ProgramNotFound(f"{program} is neither beside the package nor on the path; name its folder by {VARIABLE}")
+    return found
+
+
+class Run:
+    """A run of a program over a text. As a context manager it leaves no process behind, however it is left.
+
+    The text goes through a file without a name, so that neither side waits for the other. `seconds` bounds the
+    time of the whole run.
+    """
+
+    def __init__(
+        self, program: str, words: Sequence[str], text: Iterable[bytes], seconds: Optional[float] = None
+    ) -> None:
+        path = find(program)
+        self.program = program
+        self._deadline = None if seconds is None else time.monotonic() + seconds
+        with tempfile.TemporaryFile() as given:
+            given.writelines(text)
+            given.seek(0)
+            self._told: IO[bytes] = tempfile.TemporaryFile()
+            self._process = subprocess.Popen(
+                [path, *words], stdin=given, stdout=subprocess.PIPE, stderr=self._told, bufsize=0
+            )
+
+    def __enter__(self) -> Run:
+        return self
+
+    def __exit__(
+        self, kind: Optional[Type[BaseException]], error: Optional[BaseException], trace: Optional[TracebackType]
+    ) -> None:
+        if self._process.poll() is None:
+            self._process.kill()
+            self._process.wait()
+        if self._process.stdout is not None:
+            self._process.stdout.close()
+        self._told.close()
+
+    def chunks(self) -> Iterator[bytes]:
+        """What the program prints, as it comes. Raises `OutOfTime`."""
+        assert self._process.stdout is not None
+        out = self._process.stdout.fileno()
+        _widen(out)
+        while True:
+            if self._deadline is not None:
+                self._wait_for(out)
+            chunk = os.read(out, _CHUNK)
+            if not chunk:
+                return
+            yield chunk
+
+    def _wait_for(self, out: int) -> None:
+        left = self._time_left()
+        if left <= 0 or not select.select([out], [], [], left)[0]:
+            raise OutOfTime(f"{self.program} took longer than it was given")
+
+    def _time_left(self) -> float:
+        return float("inf") if self._deadline is None else self._deadline - time.monotonic()
+
+    def status(self) -> int:
+        """The status, once the output was read to its end."""
+        left = None if self._deadline is None else max(self._time_left(), 0)
+        try:
+            return self._process.wait(left)
+        except subprocess.TimeoutExpired:
+            raise OutOfTime(f"{self.program} took longer than it was given") from None
+
+    def messages(self) -> str:
+        """What the program said on standard error."""
+        self._told.seek(0)
+        return self._told.read().decode("utf-8", "replace").strip()
+
+    def failure(self) -> ProgramFailed:
+        """What is raised where the status isn't the one that was wanted."""
+        return ProgramFailed(self.program, self.status(), self.messages())
+
+
+class Ending:
+    """A solver's last line: how many solutions there were, and whether these are all."""
+
+    def __init__(self, run: Run) -> None:
+        """Waits for the end of a run whose output was read. Raises `ProgramFailed` where the status isn't 0."""
+        told = _LAST_LINE.search(run.messages()) if run.status() == 0 else None
+        if told is None:
+            raise run.failure()
+        self.total = int(told.group(1))
+        self.complete = told.group(2) is None
+
+
+def _widen(pipe: int) -> None:
+    """A pipe of 1 MB lets the program go on while its output is read; where that isn't to be had, it stays as it is."""
+    try:
+        import fcntl
+
+        fcntl.fcntl(pipe, getattr(fcntl, "F_SETPIPE_SZ", 1031), 1 << 20)
+    except (ImportError, OSError):
+        pass

@@ -1,0 +1,248 @@
+"""The text of a problem: its rules, as docs/INPUT.md states them, and a reader that tells every fault.
+
+The programs tell the first fault and its line. `read` goes on behind a fault, and says which token it is. The first
+of its faults is the one that the programs tell.
+"""
+
+from __future__ import annotations
+
+import difflib
+import re
+from dataclasses import dataclass, field
+from typing import Dict, List, NamedTuple, Optional, Tuple
+
+from .errors import ProblemFault
+
+MOST_ITEMS = 100_000
+MOST_USES = 10_000_000
+MOST_NAME = 32
+MOST_COLOUR = 8
+MOST_BOUND = 999_999_999
+WHITE = b" \t\v\f\r"
+
+_BOUND = re.compile(rb"([0-9]{1,9})(?::([0-9]{1,9}))?\Z")
+
+
+class Bounds(NamedTuple):
+    """How often a primary item is to be held: at least `low` and at most `high` times."""
+
+    low: int
+    high: int
+
+
+ONCE = Bounds(1, 1)
+
+
+@dataclass(frozen=True)
+class ItemLine:
+    """An item of the item line; `bounds` is None for a secondary one."""
+
+    name: str
+    bounds: Optional[Bounds]
+
+
+@dataclass(frozen=True)
+class OptionLine:
+    """An option: its line, and its uses in their order, each an item's name with its colour or None."""
+
+    line: int
+    uses: Dict[str, Optional[str]]
+
+
+@dataclass
+class Sheet:
+    """What a text says: comments (line and text), items, options, the lines of ignored ones, and all faults."""
+
+    comments: List[Tuple[int, str]] = field(default_factory=list)
+    item_line: int = 0
+    item_tokens: List[str] = field(default_factory=list)
+    items: Dict[str, ItemLine] = field(default_factory=dict)
+    options: List[OptionLine] = field(default_factory=list)
+    ignored: List[int] = field(default_factory=list)
+    faults: List[ProblemFault] = field(default_factory=list)
+
+
+def text_of(raw: bytes) -> str:
+    """Bytes as text; those that aren't UTF-8 come back as they were by `bytes_of`."""
+    return raw.decode("utf-8", "surrogateescape")
+
+
+def bytes_of(text: str) -> bytes:
+    return text.encode("utf-8", "surrogateescape")
+
+
+def name_fault(name: bytes) -> Optional[str]:
+    """What is wrong with the form of a name, if anything."""
+    if not name:
+        return "empty name"
+    if len(name) > MOST_NAME:
+        return "name too long"
+    if b":" in name or b"|" in name:
+        return "bad byte in name"
+    return None
+
+
+def bounds_fault(low: int, high: int) -> Optional[str]:
+    """What is wrong with two bounds, if anything."""
+    if not (0 <= low <= MOST_BOUND and 0 <= high <= MOST_BOUND):
+        return "bad bound"
+    if high == 0 or high < low:
+        return "bound order"
+    return None
+
+
+def read(raw: bytes, kind: int = 3) -> Sheet:
+    """Reads the text of a problem for the program dlx`kind`. Raises nothing: faults are in the sheet."""
+    return _Reader(kind).read(raw)
+
+
+class _Reader:
+    def __init__(self, kind: int) -> None:
+        self.kind = kind
+        self.sheet = Sheet()
+        self.uses = 0
+
+    def read(self, raw: bytes) -> Sheet:
+        lines = raw.split(b"\n")
+        if not lines[-1]:
+            lines.pop()
+        for number, line in enumerate(lines, 1):
+            self.read_line(number, line)
+        if not self.sheet.item_line:
+            self.tell(len(lines) + 1, b"", "no items")
+        return self.sheet
+
+    def tell(self, line: int, token: bytes, reason: str, hint: str = "") -> None:
+        self.sheet.faults.append(ProblemFault(line, text_of(token), reason, hint))
+
+    def read_line(self, number: int, line: bytes) -> None:
+        if b"\0" in line:
+            self.tell(number, b"", "NUL byte", "save the file as UTF-8")
+            return
+        tokens = line.split()
+        if not tokens:
+            return
+        if tokens[0].startswith(b"|"):
+            self.sheet.comments.append((number, text_of(line.strip()[1:].strip())))
+        elif not self.sheet.item_line:
+            self.sheet.item_line = number
+            self.read_items(number, tokens)
+        else:
+            self.read_option(number, tokens)
+
+    def read_items(self, number: int, tokens: List[bytes]) -> None:
+        behind = False
+        for token in _cut_bars(tokens):
+            self.sheet.item_tokens.append(text_of(token))
+            if token == b"|":
+                if behind:
+                    self.tell(number, token, "second bar")
+                behind = True
+                continue
+            bounds, name, reason = self.cut_item(token, behind)
+            if reason is not None:
+                self.tell(number, token, reason, self.hint_for_item(reason, token))
+            else:
+                self.sheet.items[text_of(name)] = ItemLine(text_of(name), None if behind else bounds)
+
+    def cut_item(self, token: bytes, behind: bool) -> Tuple[Bounds, bytes, Optional[str]]:
+        """A token's bounds and name, and what is wrong with it, in the order of the programs' checks."""
+        bounds, name = ONCE, token
+        if self.kind == 3 and b"|" in token:
+            before, name = token.split(b"|", 1)
+            found = _BOUND.match(before)
+            if found is None:
+                return bounds, name, "bad bound"
+            low = int(found.group(1))
+            bounds = Bounds(low, low if found.group(2) is None else int(found.group(2)))
+            reason = bounds_fault(*bounds)
+            if reason is None and behind:
+                reason = "bound on a secondary item"
+            if reason is not None:
+                return bounds, name, reason
+        reason = name_fault(name)
+        if reason is None and text_of(name) in self.sheet.items:
+            reason = "name repeated"
+        if reason is None and len(self.sheet.items) == MOST_ITEMS:
+            reason = "too many items"
+        return bounds, name, reason
+
+    def hint_for_item(self, reason: str, token: bytes) -> str:
+        if reason == "bad byte in name" and b"|" in token and self.kind < 3:
+            return "bounds are for dlx3"
+        if reason == "bad byte in name" and b":" in token:
+            return "colours belong in options"
+        if reason == "bad bound":
+            return "bounds are v|name or u:v|name"
+        return ""
+
+    def read_option(self, number: int, tokens: List[bytes]) -> None:
+        uses: Dict[str, Optional[str]] = {}
+        has_primary = False
+        faults = len(self.sheet.faults)
+        for token in tokens:
+            raw_name, colon, colour = token.partition(b":")
+            name = text_of(raw_name)
+            item = self.sheet.items.get(name)
+            reason = self.use_fault(item, raw_name, colon, colour, name in uses)
+            if reason is not None:
+                self.tell(number, token, reason, self.hint_for_use(reason, raw_name))
+            if item is not None and name not in uses:
+                uses[name] = text_of(colour) if colon else None
+                has_primary = has_primary or item.bounds is not None
+        if not has_primary:
+            if len(self.sheet.faults) == faults:
+                self.sheet.ignored.append(number)
+            return
+        self.sheet.options.append(OptionLine(number, uses))
+        self.uses += len(uses)
+        if self.uses > MOST_USES >= self.uses - len(uses):
+            self.tell(number, b"", "too many uses")
+
+    def use_fault(
+        self, item: Optional[ItemLine], name: bytes, colon: bytes, colour: bytes, repeated: bool
+    ) -> Optional[str]:
+        """What is wrong with a use, in the order of the programs' checks."""
+        if colon and self.kind == 1:
+            return "colour not allowed here"
+        reason = name_fault(name)
+        if reason is not None:
+            return reason
+        if item is None:
+            return "unknown item"
+        if repeated:
+            return "item repeated in option"
+        if colon and item.bounds is not None:
+            return "colour on a primary item"
+        if colon and not 1 <= len(colour) <= MOST_COLOUR:
+            return "bad colour"
+        return None
+
+    def hint_for_use(self, reason: str, name: bytes) -> str:
+        if reason == "colour not allowed here":
+            return "colours are for dlx2 and dlx3"
+        if reason == "bad colour":
+            return f"a colour has 1 to {MOST_COLOUR} bytes"
+        if reason == "unknown item":
+            if name.startswith(b"#"):
+                return "a comment begins with |"
+            return nearest(text_of(name), list(self.sheet.items))
+        return ""
+
+
+def nearest(name: str, names: List[str]) -> str:
+    """A question for the name that was meant, or nothing where none is near."""
+    near = difflib.get_close_matches(name, names, 1, 0.5) if len(names) <= 20_000 else []
+    return f"is it {near[0]}?" if near else ""
+
+
+def _cut_bars(tokens: List[bytes]) -> List[bytes]:
+    """The item line's tokens; a bar at the start of one stands for itself."""
+    cut: List[bytes] = []
+    for token in tokens:
+        while token.startswith(b"|"):
+            cut.append(b"|")
+            token = token[1:]
+        if token:
+            cut.append(token)
+    return cut

@@ -1,0 +1,101 @@
+"""The commands: what they print, and their statuses."""
+
+import contextlib
+import io
+import os
+import subprocess
+import sys
+import tempfile
+import unittest
+from unittest import mock
+
+from helgrothy import make
+from helgrothy.__main__ import main
+
+PACKAGE = os.path.dirname(os.path.dirname(os.path.abspath(__file__)))
+
+
+class Pipe(io.TextIOWrapper):
+    def __init__(self, raw: bytes = b"") -> None:
+        super().__init__(io.BytesIO(raw), encoding="utf-8", write_through=True)
+
+    def text(self) -> str:
+        return self.buffer.getvalue().decode()
+
+
+def run(*words: str, given: str = ""):
+    """A command's status, standard output and standard error."""
+    out, error = Pipe(), Pipe()
+    with mock.patch.object(sys, "stdin", Pipe(given.encode())):
+        with contextlib.redirect_stdout(out), contextlib.redirect_stderr(error):
+            try:
+                status = main(words)
+            except SystemExit as ended:
+                status = ended.code
+    return status, out.text(), error.text()
+
+
+class Commands(unittest.TestCase):
+    def setUp(self) -> None:
+        folder = tempfile.TemporaryDirectory()
+        self.addCleanup(folder.cleanup)
+        self.folder = folder.name
+
+    def file(self, name: str, text: str) -> str:
+        path = os.path.join(self.folder, name)
+        with open(path, "w") as file:
+            file.write(text)
+        return path
+
+    def test_make_solve_and_draw(self):
+        status, text, _ = run("make", "queens", "4")
+        self.assertEqual((status, text), (0, make.queens.problem(4).text))
+        board = ". . Q .\nQ . . .\n. . . Q\n. Q . .\n"
+        self.assertEqual(run("solve", given=text), (0, board, "Altogether 1 solution (limit).\n"))
+        self.assertEqual(run("queens", "4", "--all")[1].count("\n\n"), 1)
+        self.assertEqual(run("queens", "4", "--number", "2")[1][:7], ". Q . .")
+        self.assertEqual(run("queens", "3"), (1, "", "Altogether 0 solutions.\n"))
+        path = self.file("q.dlx", text)
+        listing = "2:\n r1 c3 a3 b6 (1 of 2)\n"
+        self.assertEqual(run("draw", path, given=listing)[:2], (0, ". . Q .\n" + ". . . .\n" * 3))
+        self.assertEqual(run("draw", path, "--number", "1", given=listing)[0], 1)
+        self.assertTrue(run("draw", path, "--svg", given=listing)[1].startswith("<svg"))
+
+    def test_patterns(self):
+        path = self.file("p.dlx", "a1 a2 b1 b2 | F G\na1 a2 F\nb1 b2 G\n")
+        listing = "1:\n a2 F a1 (1 of 1)\n b1 b2 G (1 of 1)\n"
+        words = ("draw", path, "--cell", r"(?P<column>[ab])(?P<row>\d)", "--label", "[FG]")
+        self.assertEqual(run(*words, given=listing)[:2], (0, "F G\nF G\n"))
+        self.assertEqual(run("draw", path, "--cell", "(", given=listing)[0], 2)
+        self.assertEqual(run("draw", path, given=listing)[0], 2)
+        self.assertEqual(run("solve", path)[1], "a1 a2 F\nb1 b2 G\n")
+
+    def test_lint_why_export(self):
+        self.assertEqual(run("lint", given="A\nA\n"), (0, "", ""))
+        self.assertEqual(run("lint", given="A\nB\n")[:2], (1, "line 1: A: in no option: there is no solution\nline 2: B: unknown item\n"))
+        self.assertEqual(run("lint", "--for", "dlx1", given="2|A\nA\nA\n")[0], 1)
+        self.assertEqual(run("why", given="A\nA\n"), (1, "", "helgrothy: there is a solution\n"))
+        self.assertEqual(run("why", given="A B\nA\n")[1].splitlines()[0], "can't all be held: B")
+        self.assertEqual(run("export", "cnf", given="A\nA\n")[1].splitlines()[1:], ["p cnf 1 1", "1 0"])
+
+    def test_failures(self):
+        for words, wanted in (
+            (("solve", "missing.dlx"), "helgrothy: missing.dlx: No such file or directory\n"),
+            (("sudoku", "12"), "helgrothy: line 1: 2 places; a Sudoku has 81, or 16, 36 or 256\n"),
+            (("draw", "-"), "helgrothy: the problem is a file; the listing comes from standard input\n"),
+            (("solve",), "helgrothy: standard input: line 1: no items\n"),
+            (("queens", "4", "--svg", "--all"), "helgrothy: an SVG is of one solution: --number says which\n"),
+        ):
+            with self.subTest(words=words):
+                self.assertEqual(run(*words), (2, "", wanted))
+        for words in ((), ("nothing",), ("queens", "4", "--limit", "0")):
+            self.assertEqual(run(*words)[0], 2)
+        self.assertEqual(run("--help")[0], 0)
+
+    def test_as_a_program(self):
+        how = {"cwd": PACKAGE, "capture_output": True, "text": True}
+        told = subprocess.run([sys.executable, "-m", "helgrothy", "--version"], **how)
+        self.assertEqual(told.stdout, "helgrothy 0.1.0\n")
+        script = f"{sys.executable} -m helgrothy queens 10 --all | head -n 1"
+        told = subprocess.run(["sh", "-c", script], **how)
+        self.assertEqual((told.stdout.count("\n"), told.stderr), (1, ""))

@@ -1,0 +1,114 @@
+"""Each maker's problems have the known numbers of solutions, and their pictures show them."""
+
+import unittest
+import xml.etree.ElementTree as ElementTree
+
+from helgrothy import Problem, TableFault, make
+
+SUDOKU = "53..7....6..195....98....6.8...6...34..8.3..17...2...6.6....28....419..5....8..79"
+TABLE = """
+-     mon tue wed
+early 1   1   1
+late  1   1   0:1
+
+ann   2
+bob   1:2 -tue
+cat   1:3 -late -wed/early
+"""
+REGIONS = "AABB\nAABB\nCCDB\nCCDD\n"
+
+
+class Makers(unittest.TestCase):
+    def shown(self, problem: Problem) -> str:
+        """The text of the first solution's picture; the SVG and the text of the problem have to be whole too."""
+        picture = problem.draw(next(problem.solve()))
+        for drawn in (picture, problem.draw()):
+            ElementTree.fromstring(drawn.svg())
+        again = Problem.parse(problem.text)
+        self.assertEqual(again.text, problem.text)
+        self.assertEqual(str(again.draw(next(again.solve()))), str(picture))
+        return str(picture)
+
+    def test_sudoku(self):
+        problem = make.sudoku.problem(SUDOKU)
+        self.assertEqual(problem.count(limit=2), 1)
+        lines = self.shown(problem).splitlines()
+        self.assertEqual(lines[0], "5 3 4 | 6 7 8 | 9 1 2")
+        self.assertEqual(lines[3], "------+-------+------")
+        self.assertEqual(make.sudoku.problem("." * 16).count(), 288)
+        self.assertEqual(make.sudoku.problem("." * 36).count(limit=10), 10)
+        for clues in ("1234", "x" + SUDOKU[1:]):
+            with self.assertRaises(TableFault):
+                make.sudoku.problem(clues)
+
+    def test_queens(self):
+        self.assertEqual([make.queens.problem(n).count() for n in range(1, 9)], [1, 0, 0, 2, 10, 4, 40, 92])
+        self.assertEqual(self.shown(make.queens.problem(4)), ". . Q .\nQ . . .\n. . . Q\n. Q . .\n")
+
+    def test_regions(self):
+        problem = make.queens.problem(regions=REGIONS)
+        self.assertEqual(problem.count(), 1)
+        self.assertEqual(self.shown(problem), ". Q . .\n. . . Q\nQ . . .\n. . Q .\n")
+        for regions in ("AB\nA\n", "AA\nAA\n", ""):
+            with self.assertRaises(TableFault):
+                make.queens.problem(regions=regions)
+
+    def test_langford(self):
+        self.assertEqual([make.langford.problem(n).count() for n in range(1, 8)], [0, 0, 2, 2, 0, 0, 52])
+        self.assertEqual(self.shown(make.langford.problem(3)), "3 1 2 1 3 2\n")
+
+    def test_polyominoes(self):
+        self.assertEqual(make.polyominoes.problem("pentominoes", "3x20").count(), 8)
+        self.assertEqual(make.polyominoes.problem("DD\n\nDD\n\nDD\n", "2x3").count(), 3)
+        one_sided = make.polyominoes.problem("LLL\nL\n", "...\n##.\n", mirrors=False)
+        self.assertEqual(one_sided.count(), 0)
+        self.assertEqual(self.shown(make.polyominoes.problem("LLL\nL\n\nI\n", "...\n#..\n")), "L L L\n  I L\n")
+        for pieces, region in (("AB\n", "1x2"), ("A\n\nAA\n", "1x2"), ("A\n", "0x2"), ("A\n", "##\n")):
+            with self.assertRaises(TableFault):
+                make.polyominoes.problem(pieces, region)
+
+    def test_words(self):
+        words = "area bear body dial ease else fire hour keen less loan mass must oral rare same shut sole".split()
+        problem = make.words.problem("....\n....\n....\n....\n", words)
+        self.assertEqual(problem.count(), 2)
+        self.assertEqual(self.shown(problem), "s a m e\no r a l\nl e s s\ne a s e\n")
+        self.assertEqual(make.words.problem("...\n#.#\na.e\n", ["Cat", "add", "ale", "dot"]).count(), 0)
+        self.assertEqual(self.shown(make.words.problem("C..\n#.#\n", ["cat", "at"])), "c a t\n# t #\n")
+
+    def test_roster(self):
+        problem = make.roster.problem(TABLE, rest=True)
+        lines = self.shown(problem).splitlines()
+        self.assertEqual([line.split()[0] for line in lines], ["mon", "ann", "bob", "cat"])
+        for solution in problem.solve():
+            self.assert_rests(problem.draw(solution).cells)
+        self.assertGreater(make.roster.problem(TABLE).count(), problem.count())
+        for table in ("- mon\n", "- mon\nearly 1 2\n\nann\n", "- mon\nearly 1\n\nann -sun\n", "- mon\nearly x\n\nann\n"):
+            with self.assertRaises(TableFault):
+                make.roster.problem(table)
+
+    def assert_rests(self, cells):
+        for (row, column), cell in cells.items():
+            after = cells.get((row, column + 1))
+            self.assertFalse(cell.label == "late" and after is not None and after.label == "early")
+
+    def test_round_robin(self):
+        problem = make.roundrobin.problem(["ann home:1", "bob", "cat", "dan away:3"])
+        for solution in problem.solve():
+            self.assertTrue(self.is_round_robin([problem.line(option) for option in solution], 4))
+        self.assertEqual(self.shown(problem).splitlines()[0].split()[:2], ["round", "1"])
+        double = make.roundrobin.problem(["a", "b", "c", "d"], double=True)
+        self.assertEqual(len(next(double.solve())), 12)
+        self.assertEqual(len(next(make.roundrobin.problem("abcde").solve())), 10)
+        for teams in (["one"], ["one", "two upstairs:1"]):
+            with self.assertRaises(TableFault):
+                make.roundrobin.problem(teams)
+
+    def is_round_robin(self, lines, teams):
+        played = [word for line in lines for word in line.split()[1:3]]
+        home = {line.split()[1] for line in lines}
+        return (
+            len(lines) == teams * (teams - 1) // 2
+            and len(set(played)) == len(played)
+            and "ann@1" in home
+            and "dan@3" not in home
+        )

@@ -1,0 +1,203 @@
+"""Problems over the real programs."""
+
+import glob
+import os
+import stat
+import tempfile
+import unittest
+from unittest import mock
+
+from helgrothy import (
+    ListingFault,
+    NoPicture,
+    Null,
+    OutOfTime,
+    Problem,
+    ProblemFault,
+    ProgramFailed,
+    ProgramNotFound,
+    make,
+    programs,
+)
+
+EXAMPLES = os.path.join(os.path.dirname(os.path.abspath(__file__)), "..", "..", "crates", "gallery", "data")
+
+
+def children():
+    """The processes that this one has, ended ones that nobody waited for among them."""
+    found = []
+    for path in glob.glob("/proc/[0-9]*/stat"):
+        try:
+            with open(path) as file:
+                if int(file.read().rpartition(")")[2].split()[1]) == os.getpid():
+                    found.append(path)
+        except OSError:
+            pass
+    return found
+
+
+class Solving(unittest.TestCase):
+    def test_options_come_back_as_they_were_given(self):
+        first, second = [("x", 1), frozenset("y")], (frozenset("y"), 2.5)
+        third = {("x", 1): None, 2.5: None}
+        problem = Problem([("x", 1), frozenset("y"), 2.5], options=[first, second, third, [2.5], iter([("x", 1)])])
+        found = list(problem.solve())
+        self.assertIn(first, found[0])
+        self.assertTrue(all(any(option is given for given in problem.options) for s in found for option in s))
+        self.assertEqual(len(found), 2)
+
+    def test_rotations_and_equal_options_are_told_apart(self):
+        options = [["a", "b"], ["b", "a"], ["a", "b"], ["c"]]
+        found = list(Problem("abc", options=options).solve())
+        self.assertEqual([sorted(map(id, s)) for s in found], [sorted([id(o), id(options[3])]) for o in options[:3]])
+
+    def test_colours_of_any_kind(self):
+        red, long = object(), "a colour longer than 8 bytes"
+        problem = Problem(
+            "ab", ["x", "y z"], [{"a": None, "x": red, "y z": long}, {"b": None, "x": red}, {"b": None, "y z": 7}]
+        )
+        self.assertEqual(problem.kind, 2)
+        self.assertEqual([len(s) for s in problem.solve()], [2])
+
+    def test_bounds_and_choices_of_none(self):
+        problem = Problem({"a": (1, 2), "b": None}, options=["a", "ab", "b"])
+        self.assertEqual(list(problem.solve()), [["a", "ab"], ["a", "b"], ["ab"]])
+        with_nulls = list(problem.solve(nulls=True))
+        self.assertEqual(with_nulls[1:], [["a", Null("a"), "b"], ["ab", Null("a")]])
+        self.assertEqual(problem.check(with_nulls), [True] * 3)
+        self.assertEqual(list(Problem({"a": (0, 1)}).solve()), [[]])
+
+    def test_an_item_named_null(self):
+        options = [["null", "a"], ["a"], ["null"]]
+        problem = Problem({"null": (0, 1), "a": (0, 1)}, options=options)
+        self.assertEqual(sorted(map(len, problem.solve())), [0, 1, 1, 1, 2])
+
+    def test_limit_spacing_and_end(self):
+        problem = make.queens.problem(6)
+        solutions = problem.solve()
+        self.assertIsNone(solutions.total)
+        all_four = list(solutions)
+        self.assertEqual((len(all_four), solutions.total, solutions.complete), (4, 4, True))
+        self.assertEqual(list(problem.solve(spacing=2)), all_four[1::2])
+        some = problem.solve(limit=3)
+        self.assertEqual((list(some), some.total, some.complete), (all_four[:3], 3, False))
+        self.assertEqual((problem.count(), problem.count(limit=3)), (4, 3))
+        for wrong in ({"limit": 0}, {"spacing": 0}):
+            with self.assertRaises(ValueError):
+                problem.solve(**wrong)
+
+    def test_a_loop_that_is_left_leaves_no_process(self):
+        problem = make.queens.problem(20)
+        for _ in problem.solve():
+            break
+        with problem.solve() as solutions:
+            next(solutions)
+        with self.assertRaises(OutOfTime):
+            problem.count(seconds=0.05)
+        with self.assertRaises(OutOfTime):
+            list(make.langford.problem(17).solve(seconds=0.05))
+        self.assertEqual(children(), [])
+
+    def test_a_solution_comes_before_the_next_is_found(self):
+        # The second solution is behind all of Langford's pairs for 13, of which there are none.
+        hard = make.langford.problem(13)
+        options = [["easy", *hard.items]] + [["easy", "late"]] + hard.options
+        problem = Problem(["easy", *hard.items], ["late"], options)
+        with problem.solve(seconds=20) as solutions:
+            self.assertEqual(next(solutions), [options[0]])
+
+    def test_options_without_primary_items(self):
+        with self.assertWarnsRegex(UserWarning, "option 2 has no primary item"):
+            problem = Problem("a", "x", ["ax", "x", ""])
+        self.assertEqual(list(problem.solve()), [["ax"]])
+
+    def test_names(self):
+        items = ["plain", "two words", "two_words", "x" * 40, "x" * 41, (1, 2), object(), "ä" * 17, ""]
+        problem = Problem(items, options=[items])
+        names = problem.item_names
+        self.assertEqual(names[:3], ["plain", "two_words~2", "two_words"])
+        self.assertEqual(names[5], "1,2")
+        self.assertEqual(len(set(names)), len(items))
+        self.assertEqual(Problem.parse(problem.text).item_names, names)
+        self.assertEqual(list(problem.solve()), [[items]])
+
+    def test_examples(self):
+        for path in sorted(glob.glob(os.path.join(EXAMPLES, "*.dlx"))):
+            with open(path, "rb") as file:
+                text = file.read()
+            with self.subTest(path=path):
+                problem = Problem.parse(text)
+                self.assertEqual(problem.text.encode(), text)
+                lines = [problem.line(option) for option in next(problem.solve())]
+                self.assertEqual(problem.check([[option.split() for option in []]]), [False])
+                self.assertTrue(all(f"{line}\n".encode() in text for line in lines))
+
+
+class Judging(unittest.TestCase):
+    problem = Problem("abc", options=["ab", "c", "a", "bc"])
+
+    def test_texts_and_solutions(self):
+        self.assertEqual(self.problem.check("7:\n b a (9 of 9)\n c (1 of 1)\n8:\n"), [True, False])
+        self.assertEqual(self.problem.check(b""), [])
+        self.assertEqual(self.problem.check(self.problem.solve()), [True, True])
+        with tempfile.TemporaryFile("w+") as file:
+            file.write("1:\n a (1 of 1)\n")
+            file.seek(0)
+            self.assertEqual(self.problem.check(file), [False])
+
+    def test_faults(self):
+        with self.assertRaises(ListingFault) as raised:
+            self.problem.check("1:\n a (1 of 1)\n b (1 of 1)\n")
+        self.assertEqual((raised.exception.line, raised.exception.reason), (3, "unknown option"))
+        with self.assertRaises(ListingFault) as raised:
+            list(self.problem.listed([b"Altogether 2 solutions.\n"]))
+        self.assertIn("standard error", str(raised.exception))
+        with self.assertRaises(ProblemFault):
+            self.problem.check([["xy"]])
+
+    def test_listed(self):
+        listed = list(self.problem.listed([b"3:\n", b" b a (1 of 2)\n", b" null a (1 of 1)\n", b"4:"]))
+        self.assertEqual([(solution.number, solution.choices) for solution in listed], [(3, ["ab", Null("a")]), (4, [])])
+        self.assertEqual(listed[0].options(), ["ab"])
+
+
+class Faults(unittest.TestCase):
+    def test_of_problems(self):
+        for wanted, make_it in {
+            (2, "c", "unknown item"): lambda: Problem("ab", options=["ac"]),
+            (3, "a", "item repeated in option"): lambda: Problem("ab", options=["ab", "aa"]),
+            (2, "a", "colour on a primary item"): lambda: Problem("ab", options=[{"a": 1}]),
+            (1, "a", "name repeated"): lambda: Problem("aba"),
+            (2, "b", "name repeated"): lambda: Problem("ab", "b", comments=["one"]),
+            (1, "a", "bound order"): lambda: Problem({"a": (2, 1)}),
+            (1, "a", "bad bound"): lambda: Problem({"a": -1}),
+            (1, "", "no items"): lambda: Problem(""),
+            (2, "", "no items"): lambda: Problem.parse("| a b\n"),
+            (2, "B,", "unknown item"): lambda: Problem.parse("A B\nA B,\n"),
+        }.items():
+            with self.subTest(wanted=wanted), self.assertRaises(ProblemFault) as raised:
+                make_it()
+            fault = raised.exception
+            self.assertEqual((fault.line, fault.token, fault.reason), wanted)
+
+    def test_of_programs(self):
+        problem = Problem("a", options=["a"])
+        with tempfile.TemporaryDirectory() as folder:
+            with mock.patch.object(programs, "folders", lambda program: []), mock.patch.dict(os.environ, PATH=folder):
+                with self.assertRaises(ProgramNotFound):
+                    problem.count()
+            wrong = os.path.join(folder, "dlx1")
+            with open(wrong, "w") as file:
+                file.write("#!/bin/sh\nprintf '1:\\n'\necho Out of memory. >&2\nexit 4\n")
+            os.chmod(wrong, stat.S_IRWXU)
+            with mock.patch.dict(os.environ, HELGROTHY_BIN=folder):
+                for run in (problem.count, lambda: list(problem.solve())):
+                    with self.assertRaises(ProgramFailed) as raised:
+                        run()
+                    self.assertEqual((raised.exception.status, raised.exception.message), (4, "Out of memory."))
+
+    def test_of_pictures(self):
+        problem = Problem("a", options=["a"])
+        self.assertIsNone(problem._repr_svg_())
+        with self.assertRaises(NoPicture):
+            problem.draw()

@@ -1,0 +1,76 @@
+"""Lint, why and the exports."""
+
+import shutil
+import subprocess
+import unittest
+
+from helgrothy import OutOfTime, Problem, export, make, why
+from helgrothy.lint import lint
+from helgrothy.sums import search
+
+NURSES = "- " + " ".join(f"d{day}" for day in range(9)) + "\nnight" + " 1" * 9 + "\n\n"
+NURSES += "".join(f"nurse{number} 0:2\n" for number in range(3))
+
+
+class Lint(unittest.TestCase):
+    def test_remarks(self):
+        for text, kind, wanted in (
+            ("A B\nA\nB\n", 1, []),
+            ("A B\nA C\nA A\nB:x\n", 3, [(2, "C"), (3, "A"), (4, "B:x")]),
+            ("mon tue\nmoon\ntue\n", 1, [(1, "mon"), (2, "moon")]),
+            ("A B\nA B\nB A\n", 1, [(3, "A B"), (3, "B A")]),
+            ("2|A\nA\n", 1, [(1, "2|A"), (2, "A")]),
+            ("2 | A\nA\n", 3, [(1, "2"), (1, "2 |"), (1, "A"), (2, "")]),
+            ("| a b\na\na\n", 1, [(1, "| a b"), (3, "a")]),
+            ("A B | x\nA x\n", 1, [(1, "B")]),
+            ("\ufeffA B\nA B\n", 1, [(1, "\ufeffA"), (1, "\ufeffA"), (2, "A")]),
+            ("", 1, [(1, "")]),
+        ):
+            with self.subTest(text=text):
+                found = [(remark.line, remark.token) for remark in lint(text.encode(), kind)]
+                self.assertTrue(set(found) <= set(wanted) and bool(found) == bool(wanted), found)
+
+    def test_the_nearest_name(self):
+        self.assertIn("is it tuesday?", str(lint(b"tuesday\ntusday\ntuesday\n")[0]))
+
+    def test_sums(self):
+        remarks = lint(make.roster.problem(NURSES).text.encode())
+        self.assertEqual(len(remarks), 1)
+        self.assertRegex(remarks[0].text, r"the sums can't work: .* ask for 7 in all, and .* allow 6: there is no")
+        area = search(make.polyominoes.problem("pentominoes", "\n".join(["." * 10] * 6 + ["."])))
+        self.assertTrue(area is not None and area.is_proof)
+        self.assertIsNone(search(make.queens.problem(6)))
+
+
+class Why(unittest.TestCase):
+    def test_conflicts(self):
+        clash = Problem("abcd", ["x"], [["a", "x"], ["b", "x"], ["c"], ["d"]])
+        self.assertEqual(why.find(clash), why.Conflict(["a", "b"], True))
+        self.assertIsNone(why.find(make.queens.problem(6)))
+        self.assertEqual(why.find(Problem("ab", options=["b"])).items, ["a"])
+        nurses = why.find(make.roster.problem(NURSES))
+        self.assertEqual(len(nurses.items), 7)
+        self.assertTrue(nurses.is_least)
+
+    def test_time(self):
+        with self.assertRaises(OutOfTime):
+            why.find(make.langford.problem(14), 0.2)
+
+
+@unittest.skipUnless(shutil.which("clasp") and shutil.which("gringo"), "needs clasp and gringo")
+class Exports(unittest.TestCase):
+    def test_counts(self):
+        bounded = Problem({"a": (0, 2), "b": (2, 3), "c": 2}, "x", ["ab", "abx", "bc", "bcx", "a", "b", "c", "abc"])
+        coloured = [{"a": None, "x": 1}, {"b": None, "x": 1, "y": 2}, {"b": None, "x": None}, {"a": None, "y": 2}]
+        for problem in (bounded, Problem("ab", "xy", coloured), make.queens.problem(6), Problem({"a": 3}, options="a")):
+            for name, write in export.FORMATS.items():
+                with self.subTest(format=name, problem=problem.text):
+                    self.assertEqual(count("".join(f"{line}\n" for line in write(problem)), name), problem.count())
+
+
+def count(text, name):
+    """The number of solutions that clasp finds."""
+    if name == "asp":
+        text = subprocess.run(["gringo", "-W", "none"], input=text, capture_output=True, text=True, check=True).stdout
+    run = subprocess.run(["clasp", "0", "-q"], input=text, capture_output=True, text=True)
+    return next(int(line.split()[-1]) for line in run.stdout.splitlines() if "Models" in line)

@@ -1,0 +1,53 @@
+#!/bin/sh
+# deb.sh VERSION: a Debian package in dist/, from the programs as built. The same files give the same bytes; they are
+# of the time SOURCE_DATE_EPOCH.
+set -eu
+export LC_ALL=C
+umask 022
+version=$1
+# A package that is packed by several threads may differ.
+export DPKG_DEB_THREADS_MAX=1
+maintainer="Helgrothy maintainers <maintainers@users.noreply.helgrothy.example>"
+root=$(mktemp -d)
+trap 'rm -rf "$root"' EXIT
+trap 'exit 2' HUP INT TERM
+chmod 755 "$root"
+
+MAKEFLAGS= make -s install VERSION="$version" DESTDIR="$root" PREFIX=/usr pythondir=/usr/lib/python3/dist-packages
+find "$root/usr/share/man" -type f -exec gzip -9n {} +
+for script in run join; do
+    rm "$root/usr/share/man/man1/dlx-$script.1"
+    ln -s dlx-split.1.gz "$root/usr/share/man/man1/dlx-$script.1.gz"
+done
+# The symbols of a program say nothing to its users.
+strip --strip-unneeded "$root"/usr/bin/dlx[123] "$root"/usr/bin/dlxcheck
+doc=$root/usr/share/doc/helgrothy
+cp release/copyright "$doc/copyright"
+{
+    printf 'helgrothy (%s) unstable; urgency=medium\n\n  * What is new is in CHANGELOG.md.\n\n' "$version"
+    printf ' -- %s  %s\n' "$maintainer" "$(date -R -u -d "@${SOURCE_DATE_EPOCH:?}")"
+} | gzip -9n >"$doc/changelog.gz"
+
+mkdir "$root/DEBIAN"
+for script in postinst prerm; do install -m 755 "release/$script" "$root/DEBIAN/$script"; done
+(cd "$root" && find usr -type f | sort | xargs md5sum >DEBIAN/md5sums)
+cat >"$root/DEBIAN/control" <<END
+Package: helgrothy
+Version: $version
+Architecture: amd64
+Maintainer: $maintainer
+Installed-Size: $(du -sk --apparent-size "$root/usr" | cut -f 1)
+Depends: libc6 (>= 2.34)
+Recommends: python3 (>= 3.9)
+Section: math
+Priority: optional
+Description: exact cover solvers by dancing links, as proved software
+ dlx1 finds all ways to choose options so that each primary item is held
+ exactly once and each secondary item at most once; dlx2 adds colours on
+ secondary items, dlx3 bounds on primary items. dlxcheck judges a listing of
+ solutions, wherever it is from. People use such solvers for puzzles, tilings,
+ timetables and test designs. The Python package helgrothy makes problems and
+ draws their solutions.
+END
+mkdir -p dist
+dpkg-deb --root-owner-group -Zxz -b "$root" "dist/helgrothy_${version}_amd64.deb" >/dev/null

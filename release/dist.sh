@@ -1,0 +1,16 @@
+#!/bin/sh
+# dist.sh VERSION: the release for Linux as an archive in dist/, from the programs as built. The same files give the
+# same bytes: they are sorted, nobody's, and of the time SOURCE_DATE_EPOCH.
+set -eu
+export LC_ALL=C
+version=$1
+name=helgrothy-$version-linux-x86_64
+made=$(mktemp -d)
+trap 'rm -rf "$made"' EXIT
+trap 'exit 2' HUP INT TERM
+
+MAKEFLAGS= make -s install VERSION="$version" DESTDIR="$made/$name" PREFIX= docdir= pythondir=/python
+(cd "$made/$name" && find . -type f | sort | xargs sha256sum >"$made/sums" && mv "$made/sums" SHA256SUMS)
+mkdir -p dist
+tar -c --sort=name --format=ustar --owner=0 --group=0 --numeric-owner --mode=u=rwX,go=rX --mtime="@${SOURCE_DATE_EPOCH:?}" -C "$made" "$name" |
+    gzip -9n >"dist/$name.tar.gz"

@@ -1,0 +1,102 @@
+#!/usr/bin/env python3
+"""wheel.py VERSION: the Python package with the four programs as built, as a wheel in dist/.
+
+The same files give the same bytes; they are of the time SOURCE_DATE_EPOCH.
+"""
+import base64
+import hashlib
+import os
+import sys
+import time
+import zipfile
+
+PROGRAMS = ("dlx1", "dlx2", "dlx3", "dlxcheck")
+# The programs need glibc 2.34.
+TAG = "py3-none-manylinux_2_34_x86_64"
+
+METADATA = """\
+Metadata-Version: 2.1
+Name: helgrothy
+Version: {version}
+Summary: Exact cover solvers by dancing links, as proved software
+Requires-Python: >=3.9
+Classifier: Operating System :: POSIX :: Linux
+Classifier: Programming Language :: Python :: 3
+Classifier: Topic :: Games/Entertainment :: Puzzle Games
+Classifier: Topic :: Scientific/Engineering :: Mathematics
+Classifier: Typing :: Typed
+Description-Content-Type: text/markdown
+
+{description}"""
+
+ENTRY_POINTS = """\
+[console_scripts]
+helgrothy = helgrothy.__main__:run
+"""
+
+WHEEL = f"""\
+Wheel-Version: 1.0
+Generator: helgrothy
+Root-Is-Purelib: false
+Tag: {TAG}
+"""
+
+
+def read(path):
+    with open(path, "rb") as file:
+        return file.read()
+
+
+def package():
+    """The package's files, by the names that they have in the wheel."""
+    files = {}
+    for folder, _, names in os.walk("python/helgrothy"):
+        for name in names:
+            if not name.endswith(".pyc"):
+                path = os.path.join(folder, name)
+                files[os.path.relpath(path, "python")] = read(path)
+    return files
+
+
+def programs(version):
+    """The programs beside the package, which looks for them there, and on the path of an environment."""
+    files = {}
+    for name in PROGRAMS:
+        program = read(f"bin/{name}")
+        files[f"helgrothy/bin/{name}"] = program
+        files[f"helgrothy-{version}.data/scripts/{name}"] = program
+    return files
+
+
+def record(files, path):
+    lines = []
+    for name, content in files.items():
+        digest = base64.urlsafe_b64encode(hashlib.sha256(content).digest()).rstrip(b"=").decode()
+        lines.append(f"{name},sha256={digest},{len(content)}\n")
+    return "".join(lines) + f"{path},,\n"
+
+
+def main():
+    version = sys.argv[1]
+    executable = programs(version)
+    files = dict(sorted({**package(), **executable}.items()))
+    about = f"helgrothy-{version}.dist-info"
+    # What it is, and what it means that there is no licence.
+    description = "\n\n".join(read("release/README.md").decode().split("\n\n")[:3]) + "\n"
+    files[f"{about}/METADATA"] = METADATA.format(version=version, description=description).encode()
+    files[f"{about}/entry_points.txt"] = ENTRY_POINTS.encode()
+    files[f"{about}/WHEEL"] = WHEEL.encode()
+    files[f"{about}/RECORD"] = record(files, f"{about}/RECORD").encode()
+
+    os.makedirs("dist", exist_ok=True)
+    then = time.gmtime(int(os.environ["SOURCE_DATE_EPOCH"]))[:6]
+    with zipfile.ZipFile(f"dist/helgrothy-{version}-{TAG}.whl", "w", zipfile.ZIP_DEFLATED) as wheel:
+        for name, content in files.items():
+            entry = zipfile.ZipInfo(name, then)
+            entry.compress_type = zipfile.ZIP_DEFLATED
+            entry.create_system = 3
+            entry.external_attr = (0o100755 if name in executable else 0o100644) << 16
+            wheel.writestr(entry, content)
+
+
+main()

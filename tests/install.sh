@@ -1,0 +1,17 @@
+#!/bin/sh
+# install.sh: installs into an empty folder, runs the pages of what is there, with the system's programs alone on the
+# path besides, and types words for bash to complete; then uninstalls, after which no file is left. Prints what differs.
+set -eu
+empty=$(mktemp -d)
+trap 'rm -rf "$empty"' EXIT
+trap 'exit 2' HUP INT TERM
+
+MAKEFLAGS= make -s install PREFIX="$empty/with space"
+share="$empty/with space/share"
+cp tests/guide.sh tests/pages.sh "$empty/"
+(cd "$share/doc/helgrothy" && env -i HOME="$empty" PATH="$empty/with space/bin:/usr/bin:/bin" \
+    PYTHONPATH="$share/helgrothy" PYTHONDONTWRITEBYTECODE=1 sh "$empty/pages.sh" . "$share"/man/man*/*)
+python3 tests/completion.py "$share/bash-completion/completions/dlx1"
+MAKEFLAGS= make -s uninstall PREFIX="$empty/with space"
+left=$(find "$empty/with space" ! -type d)
+[ -z "$left" ] || { echo "left behind: $left"; exit 1; }

@@ -1,0 +1,24 @@
+#!/bin/sh
+# pages.sh FOLDER MANUAL..: runs the commands of each page of a folder, which is the repository or a release, and of
+# the manual pages, packed or not. Prints what differs, and nothing else.
+set -eu
+guide=$(dirname "$(readlink -f "$0")")/guide.sh
+folder=$1
+shift
+unpacked=$(mktemp -d)
+trap 'rm -rf "$unpacked"' EXIT
+trap 'exit 2' HUP INT TERM
+
+differ=0
+for page; do
+    case $page in
+        *.gz) plain=$unpacked/$(basename "$page" .gz); gzip -dc "$page" >"$plain" ;;
+        *) plain=$(readlink -f "$page") ;;
+    esac
+    (cd "$folder" && sh "$guide" "$plain") || differ=1
+done
+cd "$folder"
+# The page of a release is in the repository too, whose folder has all that a release has.
+[ ! -e release/README.md ] || sh "$guide" release/README.md || differ=1
+for page in README.md docs/GUIDE.md docs/FAQ.md docs/ENDLESS.md; do sh "$guide" "$page" || differ=1; done
+exit "$differ"
