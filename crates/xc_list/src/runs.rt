@@ -1,5 +1,5 @@
 //! A run over a search.
-ghost use Rattle.std.specs.Prelude.{◌≡◌, ℕ, ◌+◌, ◌-◌, ◌<◌, ◌≤◌, [], All, IfOk, IsTrue, MatchResult, OnErr};
+ghost use Rattle.std.specs.Prelude.{◌≡◌, ℕ, ◌+◌, ◌-◌, ◌<◌, ◌≤◌, false, [], All, IfOk, IsTrue, MatchResult, OnErr};
 ghost use Rattle.xc_list.specs.Texts.{Writes, IsUntouched};
 ghost use Rattle.xc_search.specs.Cover.{members, EachMemberCovers, EachCoverIsListedOnce};
 ghost use Rattle.xc_search.specs.Room.{room_for};
@@ -17,7 +17,7 @@ use crate::write::SinkFault;
 use std::alloc::Global;
 use xc_dance::{Dance, Links, Memory};
 use xc_input::Problem;
-use xc_search::{Choice, Search, Step, most_moves};
+use xc_search::{Choice, Search, most_moves};
 
 /// How a run ended, and at how many solutions.
 #[derive(Clone, Copy, Debug, PartialEq, Eq)]
@@ -56,6 +56,22 @@ fn write_printed<S: Sink>(
     }
 }
 
+/// How many solutions on from `found` the next one to print stands; where the limit comes before
+/// it, how many are left up to the limit.
+fn steps_to_printed(spacing: u64, found: u64, limit: u64) -> u64
+    requires { found < limit }
+    ensures some { 0 < result }
+    ensures within { found + result ≤ limit }
+    ensures silent { (k : ℕ) → found < k → k < found + result → is_printed spacing k ≡ false }
+{
+    let left = limit - found;
+    if spacing == 0 {
+        left
+    } else {
+        left.min(spacing - found % spacing)
+    }
+}
+
 /// Writes what a search has to come, up to the limit.
 fn write_members<'a, D: Dance, S: Sink>(
     search: &mut Search<'a, D>,
@@ -70,17 +86,19 @@ fn write_members<'a, D: Dance, S: Sink>(
     ensures run { IsRun bodies.now words.now.spacing words.now.limit
         (S.state sink.old) (S.state sink.new) result }
 {
-    for found in 0..words.limit {
-        match search.next() {
-            Step::Solution => {
-                let number = found + 1;
-                match write_printed(words.spacing, number, search.choices(), bodies, sink) {
-                    Ok(()) => {}
-                    Err(_) => return End::WriteFailed(number),
-                }
-            }
-            Step::Done => return End::Done(found),
+    let mut found = 0;
+    while found < words.limit {
+        let steps = steps_to_printed(words.spacing, found, words.limit);
+        let passed = search.pass(steps);
+        if passed < steps {
+            return End::Done(found + passed);
         }
+        let number = found + steps;
+        match write_printed(words.spacing, number, search.choices(), bodies, sink) {
+            Ok(()) => {}
+            Err(_) => return End::WriteFailed(number),
+        }
+        found = number;
     }
     End::Limit(words.limit)
 }

@@ -5,6 +5,7 @@ pub mod LoopSteps
 pub mod NextBranch
 pub mod NextLevel
 pub mod NextOption
+pub mod PassedOver
 pub mod Start
 pub mod TakenOption
 pub mod WorkUnrolled

@@ -1,5 +1,5 @@
 //! The levels of the search.
-ghost use Rattle.std.specs.Prelude.{◌≡◌, ◌<◌, ◌≤◌, List, [], ◌∷◌, true, false, IfSome, IsNone};
+ghost use Rattle.std.specs.Prelude.{◌≡◌, ◌<◌, ◌≤◌, List, [], ◌∷◌, true, false};
 ghost use Rattle.xc_input.specs.Problem.{Puzzle};
 ghost use Rattle.xc_search.specs.inner.MostLevels.{most_levels};
 ghost use Rattle.xc_search.specs.inner.Levels.{AreStacked, IsStanding, IsBegun, begun_level};
@@ -48,38 +48,30 @@ fn deepen<D: Dance>(position: &mut Position<D>, stack: &mut Stack) -> Below
     Below::Level
 }
 
-/// Ends a level, the newest one, whose item was tweaked. It stands apart, so that the loop of the
-/// search holds one copy of `undo_to`.
-#[inline(never)]
-fn end_tweaked<D: Dance>(position: &mut Position<D>, level: &Level)
+/// Ends a level, the newest one.
+#[inline(always)]
+fn end_level<D: Dance>(position: &mut Position<D>, level: &Level)
     requires stacked { (p : Puzzle) × (ls : List Level) × AreStacked p position.old.trail (level.now ∷ ls) }
-    ensures { position.new ≡ record position.old
-        { trail = oldest level.now.mark (oldest level.now.base position.old.trail) } }
+    ensures { position.new ≡ record position.old { trail = oldest level.now.mark position.old.trail } }
 {
-    position.undo_to(level.base);
-    position.end_level(level.tweaks, level.mark);
+    if level.tweaks > 0 {
+        position.undo_to(level.base);
+        position.undo_tweaks(level.tweaks);
+    }
+    position.undo_to(level.mark);
 }
 
-/// Begins the next branch of a level, the newest one, or ends the level: then there is none.
+/// Begins the next branch of a level, the newest one, which has one.
 #[inline(always)]
-fn next_branch<D: Dance>(position: &mut Position<D>, level: &Level) -> Option<Begun>
+fn next_branch<D: Dance>(position: &mut Position<D>, level: &Level) -> Begun
     requires stacked { (ls : List Level) × AreStacked position.old.puzzle position.old.trail (level.now ∷ ls) }
+    requires more { level.now.begun < level.now.count }
     ensures still { position.new ≡ record position.old { trail = position.new.trail } }
-    ensures begun { IfSome result (λ b. IsBegun position.old.puzzle (oldest level.now.base position.old.trail)
-        level.now position.new.trail (begun_level b level.now)) }
-    ensures ended { IsNone result → (level.now.count ≤ level.now.begun)
-        × (position.new ≡ record position.old { trail = oldest level.now.mark position.old.trail }) }
+    ensures begun { IsBegun position.old.puzzle (oldest level.now.base position.old.trail)
+        level.now position.new.trail (begun_level result level.now) }
 {
-    let ends = level.begun >= level.count;
-    if ends && level.tweaks > 0 {
-        end_tweaked(position, level);
-        return None;
-    }
-    position.undo_to(if ends { level.mark } else { level.base });
-    if ends {
-        return None;
-    }
-    Some(position.begin(level))
+    position.undo_to(level.base);
+    position.begin(level)
 }
 
 /// Begins the next branch of the newest level that has one, and ends the levels above it.
@@ -92,18 +84,19 @@ fn resume<D: Dance>(position: &mut Position<D>, stack: &mut Stack) -> Resumed
     ensures done { result ≡ Resumed.Nowhere → IsDone position.old stack.old false position.new stack.new }
 {
     while let Some(level) = stack.top() {
-        match next_branch(position, level) {
-            Some(branch) => {
-                stack.begin(branch);
-                return Resumed::Branch;
-            }
-            None => stack.pop(),
+        if level.begun < level.count {
+            let branch = next_branch(position, level);
+            stack.begin(branch);
+            return Resumed::Branch;
         }
+        end_level(position, level);
+        stack.pop();
     }
     Resumed::Nowhere
 }
 
 /// Goes on to the next solution, or to the end. `down`: what is left wasn't searched yet.
+#[inline(always)]
 pub fn advance<D: Dance>(position: &mut Position<D>, stack: &mut Stack, down: bool) -> Step
     requires standing { IsStanding position.old.puzzle position.old.trail stack.old.levels down }
     requires levels_fit { most_levels position.old.puzzle ≤ stack.old.room }
@@ -130,8 +123,7 @@ pub fn unwind<D: Dance>(position: &mut Position<D>, mut stack: Stack)
     ensures { position.new ≡ record position.old { trail = [] } }
 {
     while let Some(level) = stack.top() {
-        position.undo_to(level.base);
-        position.end_level(level.tweaks, level.mark);
+        end_level(position, level);
         stack.pop();
     }
     position.undo_to(0);

@@ -1,5 +1,6 @@
 //! The search: a stack of levels over a dance.
-ghost use Rattle.std.specs.Prelude.{◌≡◌, ◌≤◌, [], ◌∷◌, IfOk, IfErr};
+ghost use Rattle.std.specs.Prelude.{◌≡◌, ◌≤◌, [], ◌∷◌, drop, length, min, IfOk, IfErr};
+ghost use Rattle.xc_search.specs.Outlook.{shown_after};
 ghost use Rattle.xc_search.specs.Room.{room_for};
 ghost use Rattle.xc_search.specs.Cover.{members, EachMemberCovers, EachCoverIsListedOnce};
 
@@ -8,6 +9,7 @@ use crate::counts::most_levels;
 use crate::levels::{advance, unwind};
 use crate::position::Position;
 use crate::stack::Stack;
+use core::mem::replace_with;
 use std::alloc::Global;
 use std::marker::Model;
 use xc_dance::{Dance, Memory};
@@ -32,7 +34,7 @@ pub struct Search<'a, D: Dance> {
 }
 
 impl<'a, D: Dance> Model for Search<'a, D> {
-    ghost use Rattle.std.specs.Prelude.{◌≤◌};
+    ghost use Rattle.std.specs.Prelude.{◌≡◌, ◌≤◌};
     ghost use Rattle.xc_search.specs.Outlook.{Outlook};
     ghost use Rattle.xc_search.specs.inner.MostLevels.{most_levels};
     ghost use Rattle.xc_search.specs.inner.Levels.{choices_of, coming, IsStanding};
@@ -47,12 +49,16 @@ impl<'a, D: Dance> Model for Search<'a, D> {
     } };
 
     ghost invariant = { λ s. record {
+      shows : s.stack.shown ≡ choices_of s.stack.levels;
       standing : IsStanding s.position.puzzle s.position.trail s.stack.levels s.down;
       levels_fit : most_levels s.position.puzzle ≤ s.stack.room;
     } };
 }
 
 impl<'a, D: Dance> Search<'a, D> {
+    ghost use Rattle.xc_search.specs.inner.Levels.{choices_of, coming, IsStanding};
+    ghost use Rattle.xc_search.specs.inner.MostLevels.{most_levels};
+
     /// Begins a search over a dance that has no moves and room for `2 * items + 2 * uses` of them.
     /// All memory is taken here: where there is none, the dance comes back as it was.
     pub fn new(alloc: Global, dance: D, problem: &'a Problem) -> Result<Search<'a, D>, (D, Memory)>
@@ -94,9 +100,67 @@ impl<'a, D: Dance> Search<'a, D> {
         ensures solution { result ≡ Step.Solution → self.old.to_come ≡ self.new.shown ∷ self.new.to_come }
         ensures done { result ≡ Step.Done → (self.old.to_come ≡ []) × (self.new ≡ record self.old { shown = [] }) }
     {
-        let down = self.down;
-        self.down = false;
-        advance(&mut self.position, &mut self.stack, down)
+        match self.pass(1) {
+            0 => Step::Done,
+            _ => Step::Solution,
+        }
+    }
+
+    /// Goes on by so many solutions, or over all where fewer are left, and answers by how many.
+    /// `choices` then gives those of the last one; none where fewer were left.
+    pub fn pass(&mut self, many: u64) -> u64
+        ensures went { self.new ≡ record self.old {
+          to_come = drop many self.old.to_come;
+          shown = shown_after many self.old.to_come self.old.shown;
+        } }
+        ensures count { result ≡ min many (length self.old.to_come) }
+    {
+        replace_with(self, many, Search::passed)
+    }
+
+    /// The search after `pass`, beside its answer. It takes the search by value, so that its loop holds
+    /// the bases and lengths of all tables as values of its own: behind a reference each would be
+    /// loaded anew after each write to a table.
+    #[inline(never)]
+    fn passed(self, many: u64) -> (Search<'a, D>, u64)
+        ensures went { result.0 ≡ record self.entry {
+          to_come = drop many self.entry.to_come;
+          shown = shown_after many self.entry.to_come self.entry.shown;
+        } }
+        ensures count { result.1 ≡ min many (length self.entry.to_come) }
+    {
+        let Search {
+            mut position,
+            mut stack,
+            mut down,
+        } = self;
+        for passed in 0..many {
+            match advance(&mut position, &mut stack, down) {
+                Step::Solution => down = false,
+                Step::Done => return (Search::showing(position, stack, false), passed),
+            }
+        }
+        (Search::showing(position, stack, down), many)
+    }
+
+    /// A search whose levels stand, and which shows their choices.
+    #[inline(always)]
+    fn showing(position: Position<'a, D>, mut stack: Stack, down: bool) -> Search<'a, D>
+        requires standing { IsStanding position.puzzle position.trail stack.levels down }
+        requires levels_fit { most_levels position.puzzle ≤ stack.room }
+        ensures { result ≡ record {
+          puzzle = position.entry.puzzle;
+          to_come = coming position.entry.puzzle position.entry.trail stack.levels down;
+          shown = choices_of stack.levels;
+          room = position.entry.room;
+        } }
+    {
+        stack.show();
+        Search {
+            position,
+            stack,
+            down,
+        }
     }
 
     /// Undoes every move and gives the dance back, after any answer of `next`.

@@ -1,13 +1,13 @@
-//! The stack of the search's levels, and their choices beside it.
-ghost use Rattle.std.specs.Prelude.{◌≡◌, ◌<◌, ◌≤◌, [], ◌∷◌, ◌++◌, length, drop, IfSome, IfOk, IsNone};
-ghost use Rattle.xc_search.specs.inner.Levels.{chosen, choices_of, begun_level, begun_choice, newest_begun};
+//! The stack of the search's levels, and the choices of a solution beside it.
+ghost use Rattle.std.specs.Prelude.{◌≡◌, ◌<◌, ◌≤◌, [], ◌∷◌, ◌++◌, length, drop, map, vec_capacity, IfSome, IfOk, IsNone};
+ghost use Rattle.xc_search.specs.inner.Levels.{chosen, choices_of, begun_level, newest_begun};
 
 use crate::choice::Choice;
 use crate::level::{Begun, Level};
 use std::alloc::{AllocError, Global};
 use std::marker::Model;
 
-/// The levels of a search, with the choice of each kept beside it.
+/// The levels of a search, and the choices that it shows.
 #[derive(Drop)]
 pub struct Stack {
     /// The oldest first.
@@ -17,15 +17,14 @@ pub struct Stack {
 }
 
 impl Model for Stack {
-    ghost use Rattle.std.specs.Prelude.{◌≡◌, ◌≤◌, length, map, reverse, vec_capacity};
-    ghost use Rattle.xc_search.specs.inner.Levels.{Levels, chosen};
+    ghost use Rattle.std.specs.Prelude.{◌≤◌, length, reverse, vec_capacity};
+    ghost use Rattle.xc_search.specs.inner.Levels.{Levels};
 
     ghost Value = { Levels };
 
-    ghost view = { λ a. record { levels = reverse a.levels.items; room = a.room } };
+    ghost view = { λ a. record { levels = reverse a.levels.items; shown = a.choices.items; room = a.room } };
 
     ghost invariant = { λ a. record {
-      in_step : a.choices.items ≡ map chosen a.levels.items;
       few : length a.levels.items ≤ a.room;
       levels_fit : a.room ≤ vec_capacity a.levels;
       choices_fit : a.room ≤ vec_capacity a.choices;
@@ -35,7 +34,7 @@ impl Model for Stack {
 impl Stack {
     /// No levels, and room for `room` of them. No later call takes memory.
     pub fn new(alloc: Global, room: usize) -> Result<Stack, AllocError>
-        ensures { IfOk result (λ s. s ≡ record { levels = []; room = room }) }
+        ensures { IfOk result (λ s. s ≡ record { levels = []; shown = []; room = room }) }
     {
         let levels = Vec::with_capacity(alloc, room)?;
         let choices = Vec::with_capacity(alloc, room)?;
@@ -53,7 +52,6 @@ impl Stack {
         ensures { self.new ≡ record self.old { levels = level ∷ self.old.levels } }
     {
         self.levels.push_reserved(level);
-        self.choices.push_reserved(choice_of(level));
     }
 
     /// The newest level, if there is one.
@@ -73,7 +71,6 @@ impl Stack {
     {
         let top = self.levels.len() - 1;
         begin_level(&mut self.levels[top], branch);
-        begin_choice(&mut self.choices[top], branch);
     }
 
     /// Takes the newest level off, if there is one.
@@ -81,13 +78,19 @@ impl Stack {
     pub fn pop(&mut self)
         ensures { self.new ≡ record self.old { levels = drop 1 self.old.levels } }
     {
-        let _ = self.choices.pop();
         let _ = self.levels.pop();
     }
 
-    /// The levels' choices, from the oldest level on.
+    /// Shows the levels' choices, from the oldest level on.
+    pub fn show(&mut self)
+        ensures { self.new ≡ record self.old { shown = choices_of self.old.levels } }
+    {
+        put_choices(&mut self.choices, &self.levels);
+    }
+
+    /// The choices that were shown last.
     pub fn choices(&self) -> &[Choice]
-        ensures { result.now ≡ choices_of self.now.levels }
+        ensures { result.now ≡ self.now.shown }
     {
         &self.choices
     }
@@ -103,18 +106,22 @@ fn begin_level(level: &mut Level, branch: Begun)
     level.tweaks = branch.tweaks;
 }
 
-#[inline(always)]
-fn begin_choice(choice: &mut Choice, branch: Begun)
-    ensures { choice.new ≡ begun_choice branch choice.old }
+/// Puts the levels' choices in the place of those that stand.
+fn put_choices(choices: &mut Vec<Choice>, levels: &[Level])
+    requires { length levels.now ≤ vec_capacity choices.old }
+    ensures items { choices.new.items ≡ map chosen levels.now }
+    ensures capacity { vec_capacity choices.new ≡ vec_capacity choices.old }
 {
-    choice.option = branch.option;
-    choice.k = branch.begun;
+    choices.clear();
+    for level in levels {
+        choices.push_reserved(choice_of(level));
+    }
 }
 
 /// The level's newest branch.
 #[inline(always)]
-fn choice_of(level: Level) -> Choice
-    ensures { result ≡ chosen level }
+fn choice_of(level: &Level) -> Choice
+    ensures { result ≡ chosen level.now }
 {
     Choice {
         item: level.item,

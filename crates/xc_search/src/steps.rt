@@ -1,7 +1,6 @@
 //! Steps of the search on its position.
-ghost use Rattle.std.specs.Prelude.{◌≡◌, ◌+◌, ◌<◌, ◌≤◌, length, All};
-ghost use Rattle.xc_input.specs.Problem.{IsItem, IsSecondary, uses_of, IsOption};
-ghost use Rattle.xc_dance.specs.Moves.{AreTweaks};
+ghost use Rattle.std.specs.Prelude.{◌≡◌, ◌<◌, ◌≤◌, ◌∷◌, length, true, false, All};
+ghost use Rattle.xc_input.specs.Problem.{IsItem, uses_of, IsOption};
 ghost use Rattle.xc_search.specs.Room.{room_for};
 ghost use Rattle.xc_search.specs.inner.Commits.{MayStand, oldest, after_spend, after_use, after_uses, place_in, others, after_none};
 
@@ -40,29 +39,33 @@ impl<'a, D: Dance> Position<'a, D> {
         requires stands { MayStand self.old.puzzle (after_use self.old.puzzle u self.old.trail) }
         ensures { self.new ≡ record self.old { trail = after_use self.old.puzzle u self.old.trail } }
     {
-        if u.item <= self.problem().primary() {
-            self.spend_item(u.item);
-        } else {
-            self.commit_secondary(u);
+        if self.enter_use(u) {
+            self.make(Move::Cover(u.item));
         }
     }
 
-    /// Commits a use of a secondary item. It stands apart, so that what is left of `commit_use` is
-    /// small enough to be inlined.
-    #[inline(never)]
-    fn commit_secondary(&mut self, u: Use)
-        requires item { IsSecondary self.old.puzzle u.item }
+    /// Spends or purifies the item of a use, and tells whether it is then to be covered: so the loop
+    /// of the search holds one copy of that cover.
+    #[inline(always)]
+    fn enter_use(&mut self, u: Use) -> bool
+        requires item { IsItem self.old.puzzle u.item }
         requires stands { MayStand self.old.puzzle (after_use self.old.puzzle u self.old.trail) }
-        ensures { self.new ≡ record self.old { trail = after_use self.old.puzzle u self.old.trail } }
+        ensures still { self.new ≡ record self.old { trail = self.new.trail } }
+        ensures covers { result ≡ true → after_use self.old.puzzle u self.old.trail ≡ Move.Cover u.item ∷ self.new.trail }
+        ensures done { result ≡ false → after_use self.old.puzzle u self.old.trail ≡ self.new.trail }
     {
+        if u.item <= self.problem().primary() {
+            self.make(Move::Spend(u.item));
+            return self.dance().bound(u.item) == 0;
+        }
         if u.colour == 0 {
-            self.make(Move::Cover(u.item));
-            return;
+            return true;
         }
         let purify = Move::Purify(u.item, u.colour);
         if self.dance().can(&purify) {
             self.make(purify);
         }
+        false
     }
 
     /// Commits uses of a taken option in turn.
@@ -75,17 +78,6 @@ impl<'a, D: Dance> Position<'a, D> {
         for u in uses {
             self.commit_use(*u);
         }
-    }
-
-    /// Does what `commit_uses` does, for the uses before that of the branch item: most often there
-    /// are none. It stands apart, so that the loop of the search holds one copy of `commit_uses`.
-    #[inline(never)]
-    fn commit_front(&mut self, uses: &[Use])
-        requires items { All (λ (u : Use). IsItem self.old.puzzle u.item) uses.now }
-        requires stands { MayStand self.old.puzzle (after_uses self.old.puzzle uses.now self.old.trail) }
-        ensures { self.new ≡ record self.old { trail = after_uses self.old.puzzle uses.now self.old.trail } }
-    {
-        self.commit_uses(uses);
     }
 
     /// Commits the uses of option `o` cyclically after that of item `i`.
@@ -102,12 +94,11 @@ impl<'a, D: Dance> Position<'a, D> {
         let uses = self.problem().option(o);
         let at = place_of(uses, i);
         self.commit_uses(&uses[at + 1..]);
-        if at > 0 {
-            self.commit_front(&uses[..at]);
-        }
+        self.commit_uses(&uses[..at]);
     }
 
     /// Covers an item where it is open.
+    #[inline(always)]
     pub fn cover_if_open(&mut self, i: u32)
         requires item { IsItem self.old.puzzle i }
         requires room { length (after_none i self.old.trail) ≤ room_for self.old.puzzle }
@@ -117,19 +108,6 @@ impl<'a, D: Dance> Position<'a, D> {
         if self.dance().can(&cover) {
             self.make(cover);
         }
-    }
-
-    /// Undoes the newest `tweaks` moves, tweaks of one item, and then those above `mark`.
-    #[inline(always)]
-    pub fn end_level(&mut self, tweaks: usize, mark: usize)
-        requires tweaks { 0 < tweaks → AreTweaks tweaks self.old.trail }
-        requires mark { mark + tweaks ≤ length self.old.trail }
-        ensures { self.new ≡ record self.old { trail = oldest mark self.old.trail } }
-    {
-        if tweaks > 0 {
-            self.undo_tweaks(tweaks);
-        }
-        self.undo_to(mark);
     }
 }
 

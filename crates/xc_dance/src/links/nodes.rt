@@ -8,7 +8,7 @@ use crate::links::cells::{
 use crate::links::spans::Spans;
 use crate::links::steps::{relink, unlink};
 use crate::links::tweaks::{bring_back, hide_unless, unhide_unless};
-use crate::links::walks::{hide_list, unhide_list};
+use crate::links::walks::{hide_among_marks, hide_list, unhide_among_marks, unhide_list};
 use crate::links::writes::Writes;
 use std::alloc::{AllocError, Global};
 use std::marker::Model;
@@ -179,24 +179,11 @@ impl Nodes {
         ensures few_writes { result ≤ 3 * 2 ^ 62 }
         ensures counted { writes.new.count ≡ writes.old.count + result }
     {
+        let Nodes { top, links, color } = self;
         if marks {
-            return self.cover_among_marks(spans, i, writes);
+            return hide_among_marks(top, links, color, spans, i, None, writes);
         }
-        let Nodes { top, links, color } = self;
         hide_list(top, links, color, spans, i, None, false, writes)
-    }
-
-    /// The same with the test for marks, out of line: callers stay small.
-    #[inline(never)]
-    fn cover_among_marks(&mut self, spans: &Spans, i: u32, writes: &mut Writes) -> u64
-        requires can { CanHideList spans.now None self.old i }
-        ensures done { self.new ≡ fold (left_node spans.now None) self.old (list_of self.old i) }
-        ensures cost { result ≡ walk_costs spans.now None self.old (list_of self.old i) }
-        ensures few_writes { result ≤ 3 * 2 ^ 62 }
-        ensures counted { writes.new.count ≡ writes.old.count + result }
-    {
-        let Nodes { top, links, color } = self;
-        hide_list(top, links, color, spans, i, None, true, writes)
     }
 
     /// Undoes `cover`, as uncover, (14), does from bottom to top, so that each node finds its neighbours of before.
@@ -209,29 +196,16 @@ impl Nodes {
         ensures few_writes { result ≤ 3 * 2 ^ 62 }
         ensures counted { writes.new.count ≡ writes.old.count + result }
     {
+        let Nodes { top, links, color } = self;
         if marks {
-            return self.uncover_among_marks(spans, i, writes);
+            return unhide_among_marks(top, links, color, spans, i, None, writes);
         }
-        let Nodes { top, links, color } = self;
         unhide_list(top, links, color, spans, i, None, false, writes)
-    }
-
-    /// The same with the test for marks.
-    #[inline(never)]
-    fn uncover_among_marks(&mut self, spans: &Spans, i: u32, writes: &mut Writes) -> u64
-        requires can { CanUnhideList spans.now None self.old i }
-        ensures done { self.new ≡ fold (back_node spans.now None) self.old (list_back self.old i) }
-        ensures cost { result ≡ back_costs spans.now None self.old (list_back self.old i) }
-        ensures few_writes { result ≤ 3 * 2 ^ 62 }
-        ensures counted { writes.new.count ≡ writes.old.count + result }
-    {
-        let Nodes { top, links, color } = self;
-        unhide_list(top, links, color, spans, i, None, true, writes)
     }
 
     /// Purifies item i with the colour c, as Algorithm C does. The colour stands at the item's own node, so that it can be read
     /// whether an item is purified.
-    #[inline(never)]
+    #[inline(always)]
     pub(crate) fn purify(&mut self, spans: &Spans, i: u32, c: u32, writes: &mut Writes) -> u64
         requires can { CanPurify spans.now c self.old i }
         ensures done { self.new ≡ purified_list spans.now c self.old i }
@@ -240,11 +214,11 @@ impl Nodes {
     {
         let Nodes { top, links, color } = self;
         set(color, i, c, writes);
-        hide_list(top, links, color, spans, i, Some(c), true, writes) + 1
+        hide_among_marks(top, links, color, spans, i, Some(c), writes) + 1
     }
 
     /// Undoes `purify`, as unpurify does from bottom to top.
-    #[inline(never)]
+    #[inline(always)]
     pub(crate) fn unpurify(&mut self, spans: &Spans, i: u32, c: u32, writes: &mut Writes) -> u64
         requires can { CanUnpurify spans.now c self.old i }
         ensures done { self.new ≡ unpurified_list spans.now c self.old i }
@@ -252,14 +226,14 @@ impl Nodes {
         ensures counted { writes.new.count ≡ writes.old.count + result }
     {
         let Nodes { top, links, color } = self;
-        let count = unhide_list(top, links, color, spans, i, Some(c), true, writes);
+        let count = unhide_among_marks(top, links, color, spans, i, Some(c), writes);
         set(color, i, 0, writes);
         count + 1
     }
 
     /// Takes the first node off the list of item i, and hides its option unless i is covered: tweak of Algorithm M, and tweak'
     /// where i is covered. The node keeps its links.
-    #[inline(never)]
+    #[inline(always)]
     pub(crate) fn tweak(
         &mut self,
         spans: &Spans,
@@ -282,7 +256,7 @@ impl Nodes {
     }
 
     /// Puts node x, which a Tweak took off, back.
-    #[inline(never)]
+    #[inline(always)]
     pub(crate) fn untweak(
         &mut self,
         spans: &Spans,
@@ -305,7 +279,7 @@ impl Nodes {
 
     /// Undoes k Tweaks of item i, x being the first node that they took off. It is untweak of Algorithm M: DLINK of each node
     /// still leads to the next that was taken off, so one walk down brings all of them back.
-    #[inline(never)]
+    #[inline(always)]
     pub(crate) fn untweak_all(
         &mut self,
         spans: &Spans,

@@ -12,7 +12,7 @@ use crate::links::steps::{hide, unhide};
 use crate::links::writes::Writes;
 
 /// Hides the other nodes of the option of node x, unless x's item is covered.
-#[inline(always)]
+#[inline(never)]
 pub(crate) fn hide_unless(
     top: &mut [Cell],
     links: &mut [Link],
@@ -41,7 +41,7 @@ pub(crate) fn hide_unless(
 }
 
 /// Undoes `hide_unless`.
-#[inline(always)]
+#[inline(never)]
 pub(crate) fn unhide_unless(
     top: &mut [Cell],
     links: &mut [Link],
@@ -96,7 +96,7 @@ fn bring_back_one(
 }
 
 /// k such steps, from node x on.
-#[inline(always)]
+#[inline(never)]
 pub(crate) fn bring_back(
     top: &mut [Cell],
     links: &mut [Link],

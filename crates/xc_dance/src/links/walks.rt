@@ -108,6 +108,26 @@ pub(crate) fn hide_list(
     count
 }
 
+/// `hide_list` with the test for marks, out of line: callers stay small.
+#[inline(never)]
+pub(crate) fn hide_among_marks(
+    top: &mut [Cell],
+    links: &mut [Link],
+    color: &mut [Cell],
+    spans: &Spans,
+    i: u32,
+    keep: Option<u32>,
+    writes: &mut Writes,
+) -> u64
+    requires { CanHideList spans.now keep (columns top.old links.old color.old) i }
+    ensures done { columns top.new links.new color.new ≡ fold (left_node spans.now keep) (columns top.old links.old color.old) (list_of (columns top.old links.old color.old) i) }
+    ensures cost { result ≡ walk_costs spans.now keep (columns top.old links.old color.old) (list_of (columns top.old links.old color.old) i) }
+    ensures few_writes { result ≤ 3 * 2 ^ 62 }
+    ensures counted { writes.new.count ≡ writes.old.count + result }
+{
+    hide_list(top, links, color, spans, i, keep, true, writes)
+}
+
 /// Undoes `hide_list`, from bottom to top.
 #[inline(always)]
 pub(crate) fn unhide_list(
@@ -135,4 +155,24 @@ pub(crate) fn unhide_list(
         p = up(links, p);
     }
     count
+}
+
+/// `unhide_list` with the test for marks.
+#[inline(never)]
+pub(crate) fn unhide_among_marks(
+    top: &mut [Cell],
+    links: &mut [Link],
+    color: &mut [Cell],
+    spans: &Spans,
+    i: u32,
+    keep: Option<u32>,
+    writes: &mut Writes,
+) -> u64
+    requires { CanUnhideList spans.now keep (columns top.old links.old color.old) i }
+    ensures done { columns top.new links.new color.new ≡ fold (back_node spans.now keep) (columns top.old links.old color.old) (list_back (columns top.old links.old color.old) i) }
+    ensures cost { result ≡ back_costs spans.now keep (columns top.old links.old color.old) (list_back (columns top.old links.old color.old) i) }
+    ensures few_writes { result ≤ 3 * 2 ^ 62 }
+    ensures counted { writes.new.count ≡ writes.old.count + result }
+{
+    unhide_list(top, links, color, spans, i, keep, true, writes)
 }

@@ -1,5 +1,6 @@
 -- The steps of the search's loop.
-use Rattle.std.proofs.Common.{ℕ, ◌≡◌, ◌+◌, ◌<◌, ◌≤◌, Bool, true, false, List, ◌∷◌, length, drop, refl, Some, None, sym, ap, ◌∙◌, arith, subst}
+use Rattle.std.proofs.Common.{ℕ, ◌≡◌, ◌+◌, ◌-◌, ◌<◌, ◌≤◌, Bool, true, false, List, ◌∷◌, length, drop, length-drop, refl, Some, None, sym, ap, ◌∙◌, arith, subst}
+use Rattle.std.proofs.lemmas.List.{drop-drop}
 use Rattle.xc_dance.specs.declared.dance.Move.{Move}
 use Rattle.xc_search.specs.declared.level.Level.{Level}
 use Rattle.xc_search.specs.declared.level.Begun.{Begun}
@@ -104,3 +105,11 @@ back_at p t r l ls stacked er =
     let u = oldest l.base t in
     let close = closing p u l back.0.0 back.3 in
     subst (λ r. IsLevel p r l × (l.base ≡ length r) × (0 < l.tweaks → AreTweaks l.tweaks r) × (l.mark + l.tweaks ≤ length r)) (sym er) (back.0.0, back.3, close.0, close.1)
+
+-- below a level's tweaks stand the moves below the level
+pub under_tweaks : (p : Puzzle) (t : List Move) (l : Level) (ls : List Level) → AreStacked p t (l ∷ ls) → oldest l.mark (drop l.tweaks (oldest l.base t)) ≡ oldest l.mark t
+under_tweaks p t l ls stacked =
+    let u = oldest l.base t in
+    let back = back_at p t u l ls stacked refl in
+    let fewer : l.tweaks + (length (drop l.tweaks u) - l.mark) ≡ length u - l.mark = omega (arith, length-drop l.tweaks u, back.3) in
+    drop-drop (length (drop l.tweaks u) - l.mark) l.tweaks u ∙ ap (λ n. drop n u) fewer ∙ oldest-oldest l.mark l.base t stacked.0.within.0 stacked.0.within.1

@@ -18,6 +18,8 @@ use Rattle.xc_search.specs.inner.Sparing.{IsSparing}
 pub record Levels : Type 0 where
   -- the newest first
   pub levels : List Level
+  -- the choices that were shown last
+  pub shown : List Choice
   -- how many levels there is room for
   pub room : ℕ
 
@@ -116,10 +118,6 @@ first_level p t i n = unbegun (length t) (length (after_spend p i t)) i n (walks
 -- a level on whose moves a branch was begun
 abbrev pub begun_level : Begun → Level → Level
 begun_level b l = record l { base = b.base; option = b.option; begun = b.begun; tweaks = b.tweaks }
-
--- the choice of such a level
-abbrev pub begun_choice : Begun → Choice → Choice
-begun_choice b c = record c { option = b.option; k = b.begun }
 
 -- the newest of these levels began a branch
 abbrev pub newest_begun : Begun → List Level → List Level

@@ -1,49 +1,74 @@
-use Rattle.std.proofs.Common.{arith, ◌≡◌, ◌∷◌, sym, ap, ◌∙◌, drop, subst}
+use Rattle.std.proofs.Common.{arith, ◌+◌, ◌-◌, ◌<◌, ◌≤◌, length, sym, ap, ◌∙◌, drop, subst}
 use Rattle.std.proofs.lemmas.List.Elements.{All-same}
-use Rattle.xc_search.specs.Outlook.{Outlook}
+use Rattle.xc_search.specs.Outlook.{Outlook, shown_after}
 use Rattle.xc_search.specs.Cover.{members}
 use Rattle.xc_list.specs.Texts.{Took}
-use Rattle.xc_list.proofs.Writing.{then_took}
 use Rattle.xc_list.specs.Known.{IsKnownChoice}
-use Rattle.xc_list.proofs.Outputs.{known_next, at_next, stopped, output_next, rest_next, within_next, all_done, output_all}
+use Rattle.xc_list.proofs.Outputs.{known_next, output_all}
+use Rattle.xc_list.proofs.NextPrinted.{Reaches, reaches, ends, takes, stops, stands, within, none_left, keeps}
 use Rattle.xc_list.proofs.runs.write_members.Goals as goal
+use Rattle.xc_list.proofs.runs.write_members.Goals.{After-pass-passed}
+
+at : (g : _) (c : After-pass-passed g) → c.steps_to_printed-steps.result ≤ c.pass-passed.result →
+    Reaches c.args.bodies.now c.args.words.now.spacing c.loop-found.found c.steps_to_printed-steps.result c.pass-passed.new.self
+at g c enough =
+    let n = c.steps_to_printed-steps.result in
+    let o = c.loop-found.search in
+    let went = c.pass-passed.ensures.went in
+    let had = ap length c.loop-found.invariant.come in
+    reaches c.args.bodies.now c.args.words.now.spacing c.loop-found.found n c.pass-passed.new.self o.shown
+    (ap (λ (o : Outlook). o.to_come) went ∙ ap (drop n) c.loop-found.invariant.come)
+    (ap (λ (o : Outlook). o.shown) went ∙ ap (λ ms. shown_after n ms o.shown) c.loop-found.invariant.come)
+    c.steps_to_printed-steps.ensures.some (omega (arith, enough, c.pass-passed.ensures.count, had)) c.steps_to_printed-steps.ensures.silent
 
 pub write_printed-requires : goal.write_printed-requires
 write_printed-requires g c =
-    let e : drop c.loop-found.found (members c.args.bodies.now.puzzle) ≡ c.next.new.self.shown ∷ c.next.new.self.to_come = sym c.loop-found.invariant.come ∙ c.next.ensures.solution c.in-Solution.is in
-    All-same (IsKnownChoice c.args.bodies.now.puzzle) c.choices.result.now c.next.new.self.shown c.choices.ensures (known_next c.args.bodies.now.puzzle c.loop-found.found _ _ e)
+    let to = at g (goal.at.write_printed-requires g c).After-pass-passed c.if-passed-steps.false in
+    All-same (IsKnownChoice c.args.bodies.now.puzzle) c.choices.result.now c.pass-passed.new.self.shown c.choices.ensures
+    (known_next c.args.bodies.now.puzzle (c.loop-found.found + (c.steps_to_printed-steps.result - 1)) _ _ to.next)
 
 pub returns-in-Err-clause-run : goal.returns-in-Err-clause-run
 returns-in-Err-clause-run g c =
-    let e : drop c.loop-found.found (members c.args.bodies.now.puzzle) ≡ c.choices.result.now ∷ c.next.new.self.to_come =
-    sym c.loop-found.invariant.come ∙ c.next.ensures.solution c.in-Solution.is ∙ ap (λ m. m ∷ c.next.new.self.to_come) (sym c.choices.ensures) in
-    stopped c.args.bodies.now c.args.words.now.spacing c.args.words.now.limit c.loop-found.found c.choices.result.now c.next.new.self.to_come e c.loop-found-test.true
-    c.loop-found.invariant.taken c.in-Err.ensures
+    let to = at g (goal.at.returns-in-Err-clause-run g c).After-pass-passed c.if-passed-steps.false in
+    let steps = c.steps_to_printed-steps.ensures in
+    stops c.args.bodies.now c.args.words.now.spacing c.args.words.now.limit c.loop-found.found c.steps_to_printed-steps.result c.pass-passed.new.self c.choices.result.now _ _ _
+    to c.choices.ensures steps.some steps.within c.loop-found.invariant.taken c.in-Err.ensures
 
 pub returns-in-Err-clause-went : goal.returns-in-Err-clause-went
 returns-in-Err-clause-went g c =
-    let e : drop c.loop-found.found (members c.args.bodies.now.puzzle) ≡ c.next.new.self.shown ∷ c.next.new.self.to_come = sym c.loop-found.invariant.come ∙ c.next.ensures.solution c.in-Solution.is in
-    (λ _. at_next (members c.args.bodies.now.puzzle) c.loop-found.found _ _ e, rest_next (members c.args.bodies.now.puzzle) c.loop-found.found _ _ e)
+    let to = at g (goal.at.returns-in-Err-clause-went g c).After-pass-passed c.if-passed-steps.false in
+    stands c.args.bodies.now c.args.words.now.spacing c.loop-found.found c.steps_to_printed-steps.result c.pass-passed.new.self to c.steps_to_printed-steps.ensures.some
 
-pub returns-in-Done-clause-run : goal.returns-in-Done-clause-run
-returns-in-Done-clause-run g c =
-    let none = c.next.ensures.done c.in-Done.is in
-    let all = all_done (members c.args.bodies.now.puzzle) c.loop-found.found (sym c.loop-found.invariant.come ∙ none.0) c.loop-found.invariant.within in (
-      all,
-      c.loop-found-test.true,
-      subst (Took _ _) (sym (output_all c.args.bodies.now c.args.words.now.spacing c.loop-found.found c.args.words.now.limit all (omega (arith, c.loop-found-test.true))))
-          c.loop-found.invariant.taken,
+pub returns-then-passed-steps-clause-went : goal.returns-then-passed-steps-clause-went
+returns-then-passed-steps-clause-went g c =
+    none_left c.steps_to_printed-steps.result c.loop-found.search c.pass-passed.new.self c.pass-passed.ensures.went (omega (arith, c.pass-passed.ensures.count, c.if-passed-steps.true))
+
+pub returns-then-passed-steps-clause-run : goal.returns-then-passed-steps-clause-run
+returns-then-passed-steps-clause-run g c =
+    let a = c.args.bodies.now in
+    let spacing = c.args.words.now.spacing in
+    let steps = c.steps_to_printed-steps.ensures in
+    let had = ap length c.loop-found.invariant.come in
+    let all = ends a spacing c.loop-found.found c.steps_to_printed-steps.result c.pass-passed.result c.args.words.now.limit c.loop-found.invariant.within
+    (omega (arith, c.pass-passed.ensures.count, c.if-passed-steps.true, had)) c.if-passed-steps.true steps.silent in
+    let less : c.loop-found.found + c.pass-passed.result < c.args.words.now.limit = omega (arith, c.if-passed-steps.true, steps.within) in (
+      all.0,
+      less,
+      subst (Took _ _) (sym (output_all a spacing (c.loop-found.found + c.pass-passed.result) c.args.words.now.limit all.0 (omega (arith, less)) ∙ all.1)) c.loop-found.invariant.taken,
     )
 
 pub loop-found-preserved : goal.loop-found-preserved
 loop-found-preserved g c =
-    let e : drop c.loop-found.found (members c.args.bodies.now.puzzle) ≡ c.choices.result.now ∷ c.next.new.self.to_come =
-    sym c.loop-found.invariant.come ∙ c.next.ensures.solution c.in-Solution.is ∙ ap (λ m. m ∷ c.next.new.self.to_come) (sym c.choices.ensures) in
+    let a = c.args.bodies.now in
+    let spacing = c.args.words.now.spacing in
+    let to = at g (goal.at.loop-found-preserved g c).After-pass-passed c.if-passed-steps.false in
+    let steps = c.steps_to_printed-steps.ensures in
+    let there = stands a spacing c.loop-found.found c.steps_to_printed-steps.result c.pass-passed.new.self to steps.some in
     record {
-      still = c.next.ensures.still ∙ ap (λ (s : Outlook). record s { to_come = c.next.new.self.to_come; shown = c.next.new.self.shown }) c.loop-found.invariant.still;
-      shown = λ _. at_next (members c.args.bodies.now.puzzle) c.loop-found.found _ _ (sym c.loop-found.invariant.come ∙ c.next.ensures.solution c.in-Solution.is);
-      come = rest_next (members c.args.bodies.now.puzzle) c.loop-found.found _ _ e;
-      within = omega (arith, within_next (members c.args.bodies.now.puzzle) c.loop-found.found _ _ e);
-      taken = subst (Took _ _) (sym (output_next c.args.bodies.now c.args.words.now.spacing c.loop-found.found c.choices.result.now _ e))
-          (then_took c.loop-found.invariant.taken c.in-Ok.ensures);
+      still = keeps c.args.search.now c.loop-found.search c.pass-passed.new.self _ _ c.pass-passed.ensures.went c.loop-found.invariant.still;
+      shown = there.0;
+      come = there.1;
+      within = within a spacing c.loop-found.found c.steps_to_printed-steps.result c.pass-passed.new.self to steps.some;
+      below = steps.within;
+      taken = takes a spacing c.loop-found.found c.steps_to_printed-steps.result c.pass-passed.new.self c.choices.result.now _ _ _ to c.choices.ensures steps.some c.loop-found.invariant.taken c.in-Ok.ensures;
     }

@@ -1,4 +1,4 @@
-use Rattle.std.proofs.Common.{◌≡◌, ◌≤◌, Some, drop, length}
+use Rattle.std.proofs.Common.{◌≡◌, ◌≤◌, ◌-◌, Some, drop, length}
 use Rattle.xc_input.specs.Problem.{numbered_get}
 use Rattle.xc_search.specs.Cover.{members}
 use Rattle.xc_list.specs.Output.{output}
@@ -12,5 +12,9 @@ invariant-loop-found g l = record {
   shown : 1 ≤ l.found → numbered_get (members l.bodies.puzzle) l.found ≡ Some l.search.shown;
   come : l.search.to_come ≡ drop l.found (members l.bodies.puzzle);
   within : l.found ≤ length (members l.bodies.puzzle);
+  below : l.found ≤ l.words.limit;
   taken : Took (g.S.Sink.state l.fn.sink) (g.S.Sink.state l.sink) (output l.bodies l.words.spacing l.found);
 }
+
+abbrev pub decreases-loop-found : goal.decreases-loop-found
+decreases-loop-found g l = l.words.limit - l.found

@@ -1,4 +1,4 @@
-use Rattle.std.proofs.Common.{◌<◌, drop, false, true, sym, subst, refl, arith, IsNone}
+use Rattle.std.proofs.Common.{◌<◌, drop, false, true, arith, subst}
 use Rattle.xc_search.specs.inner.Levels.{AreStacked}
 use Rattle.xc_search.specs.inner.Ahead.{GoesOn, visits, ahead}
 use Rattle.xc_search.proofs.stacked.LoopSteps.{GoesOn-refl, GoesOn-trans, goes_to, goes_back}
@@ -8,32 +8,29 @@ use Rattle.xc_search.proofs.levels.resume.Goals.{After-begin, After-pop}
 pub loop-level-init : goal.loop-level-init
 loop-level-init g c = record { goes_on = GoesOn-refl c.args.position.now c.args.stack.now false c.requires.standing; less = omega arith }
 
-pub next_branch-requires : goal.next_branch-requires
-next_branch-requires g c = record {
-  stacked = (
-    drop 1 c.loop-level.stack.levels,
-    subst (AreStacked c.loop-level.position.puzzle c.loop-level.position.trail) c.in-Some.ensures.some c.loop-level.invariant.goes_on.standing.stacked,
-  );
-}
+pub next_branch-branch-requires-clause-stacked : goal.next_branch-branch-requires-clause-stacked
+next_branch-branch-requires-clause-stacked g c = (
+  drop 1 c.loop-level.stack.levels,
+  subst (AreStacked c.loop-level.position.puzzle c.loop-level.position.trail) c.in-Some.ensures.some c.loop-level.invariant.goes_on.standing.stacked,
+)
 
-on : (g : _) (c : After-begin g) → GoesOn c.loop-level.position c.loop-level.stack false c.next_branch.new.position c.begin.new.self true
-    × (ahead c.next_branch.new.position.puzzle c.next_branch.new.position.trail c.begin.new.self.levels true < visits c.loop-level.position.puzzle c.loop-level.position.trail c.loop-level.stack.levels)
+on : (g : _) (c : After-begin g) → GoesOn c.loop-level.position c.loop-level.stack false c.next_branch-branch.new.position c.begin.new.self true
+    × (ahead c.next_branch-branch.new.position.puzzle c.next_branch-branch.new.position.trail c.begin.new.self.levels true < visits c.loop-level.position.puzzle c.loop-level.position.trail c.loop-level.stack.levels)
 on g c =
-    goes_to c.loop-level.position c.next_branch.new.position c.in-Some.level.now c.in-Some-next_branch.branch c.loop-level.stack c.begin.new.self
-    c.loop-level.invariant.goes_on.standing.stacked c.in-Some.ensures.some c.next_branch.ensures.still c.in-Some-next_branch.ensures.begun c.begin.ensures
+    goes_to c.loop-level.position c.next_branch-branch.new.position c.in-Some.level.now c.next_branch-branch.result c.loop-level.stack c.begin.new.self
+    c.loop-level.invariant.goes_on.standing.stacked c.in-Some.ensures.some c.next_branch-branch.ensures.still c.next_branch-branch.ensures.begun c.begin.ensures
 
-back : (g : _) (c : After-pop g) → GoesOn c.loop-level.position c.loop-level.stack false c.next_branch.new.position c.pop.new.self false
-    × (visits c.next_branch.new.position.puzzle c.next_branch.new.position.trail c.pop.new.self.levels < visits c.loop-level.position.puzzle c.loop-level.position.trail c.loop-level.stack.levels)
+back : (g : _) (c : After-pop g) → GoesOn c.loop-level.position c.loop-level.stack false c.end_level.new.position c.pop.new.self false
+    × (visits c.end_level.new.position.puzzle c.end_level.new.position.trail c.pop.new.self.levels < visits c.loop-level.position.puzzle c.loop-level.position.trail c.loop-level.stack.levels)
 back g c =
-    let ended = c.next_branch.ensures.ended (subst IsNone (sym c.in-None.is) refl) in
-    goes_back c.loop-level.position c.next_branch.new.position c.in-Some.level.now c.loop-level.stack c.pop.new.self
-    c.loop-level.invariant.goes_on.standing.stacked c.in-Some.ensures.some ended.0 ended.1 c.pop.ensures
+    goes_back c.loop-level.position c.end_level.new.position c.in-Some.level.now c.loop-level.stack c.pop.new.self
+    c.loop-level.invariant.goes_on.standing.stacked c.in-Some.ensures.some c.if-level.false c.end_level.ensures c.pop.ensures
 
-pub returns-in-Some-next_branch-clause-resumed : goal.returns-in-Some-next_branch-clause-resumed
-returns-in-Some-next_branch-clause-resumed g c _ = GoesOn-trans _ _ _ _ _ _ false false true c.loop-level.invariant.goes_on (on g c).0
+pub returns-then-level-clause-resumed : goal.returns-then-level-clause-resumed
+returns-then-level-clause-resumed g c _ = GoesOn-trans _ _ _ _ _ _ false false true c.loop-level.invariant.goes_on (on g c).0
 
-pub returns-in-Some-next_branch-clause-less : goal.returns-in-Some-next_branch-clause-less
-returns-in-Some-next_branch-clause-less g c _ = omega (arith, (on g c).1, c.loop-level.invariant.less)
+pub returns-then-level-clause-less : goal.returns-then-level-clause-less
+returns-then-level-clause-less g c _ = omega (arith, (on g c).1, c.loop-level.invariant.less)
 
 pub loop-level-smaller : goal.loop-level-smaller
 loop-level-smaller g c = (back g c).1

@@ -1,4 +1,4 @@
-use Rattle.std.proofs.Common.{arith, [], Some, ◌≡◌, ◌+◌, ◌-◌, sym, ap, ◌∙◌, subst, drop, take, length}
+use Rattle.std.proofs.Common.{[], Some, ◌≡◌, ◌+◌, ◌-◌, sym, ap, ◌∙◌, subst, drop, take, length}
 use Rattle.xc_dance.specs.Dancing.{Dancing}
 use Rattle.xc_search.specs.inner.Commits.{MayStand, others}
 use Rattle.std.specs.Prelude.{All, unwrap_or}
@@ -32,13 +32,13 @@ commit_uses-requires-clause-items g c =
     let is : Use → Type 0 = λ u. IsItem c.args.self.now.puzzle u.item in
     All-take is (length us - (k + 1)) (drop (k + 1) us) (All-drop is (k + 1) us (items g (goal.at.commit_uses-requires-clause-items g c).After-place_of-at))
 
-pub commit_front-requires-clause-items : goal.commit_front-requires-clause-items
-commit_front-requires-clause-items g c =
+pub commit_uses-requires-2-clause-items : goal.commit_uses-requires-2-clause-items
+commit_uses-requires-2-clause-items g c =
     let us = c.option-uses.result.now in
     let k = c.place_of-at.result in
     let is : Use → Type 0 = λ u. IsItem c.args.self.now.puzzle u.item in
     subst (λ (s : Dancing). All (λ (u : Use). IsItem s.puzzle u.item) (take k us)) (sym c.commit_uses.ensures)
-    (All-take is k us (items g (goal.at.commit_front-requires-clause-items g c).After-place_of-at))
+    (All-take is k us (items g (goal.at.commit_uses-requires-2-clause-items g c).After-place_of-at))
 
 pub commit_uses-requires-clause-stands : goal.commit_uses-requires-clause-stands
 commit_uses-requires-clause-stands g c =
@@ -46,21 +46,13 @@ commit_uses-requires-clause-stands g c =
     (subst (λ (s : Dancing). MayStand s.puzzle s.trail) (whole g (goal.at.commit_uses-requires-clause-stands g c).After-place_of-at) c.requires.stands)
 
 -- once the uses behind were committed, those before it lead to the end
-pub commit_front-requires-clause-stands : goal.commit_front-requires-clause-stands
-commit_front-requires-clause-stands g c =
+pub commit_uses-requires-2-clause-stands : goal.commit_uses-requires-2-clause-stands
+commit_uses-requires-2-clause-stands g c =
     subst (λ (s : Dancing). MayStand s.puzzle s.trail)
-    (whole g (goal.at.commit_front-requires-clause-stands g c).After-place_of-at ∙ ap (committed (take c.place_of-at.result c.option-uses.result.now)) (sym c.commit_uses.ensures)) c.requires.stands
+    (whole g (goal.at.commit_uses-requires-2-clause-stands g c).After-place_of-at ∙ ap (committed (take c.place_of-at.result c.option-uses.result.now)) (sym c.commit_uses.ensures)) c.requires.stands
 
-pub returns-then-at-gt0 : goal.returns-then-at-gt0
-returns-then-at-gt0 g c =
-    c.commit_front.ensures
+pub returns : goal.returns
+returns g c =
+    c.commit_uses-2.ensures
     ∙ ap (committed (take c.place_of-at.result c.option-uses.result.now)) c.commit_uses.ensures
-    ∙ sym (whole g (goal.at.returns-then-at-gt0 g c).After-place_of-at)
-
--- nothing stands before the branch item's use
-pub returns-else-at-gt0 : goal.returns-else-at-gt0
-returns-else-at-gt0 g c =
-    let first : c.place_of-at.result ≡ 0 = omega (arith, c.if-at-gt0.false) in
-    ap (λ k. committed (take k c.option-uses.result.now) c.commit_uses.new.self) (sym first)
-    ∙ ap (committed (take c.place_of-at.result c.option-uses.result.now)) c.commit_uses.ensures
-    ∙ sym (whole g (goal.at.returns-else-at-gt0 g c).After-place_of-at)
+    ∙ sym (whole g (goal.at.returns g c).After-place_of-at)

@@ -13,6 +13,7 @@ use Rattle.xc_search.proofs.search.Search.new.Goals as goal
 
 pub invariant_of-result : goal.invariant_of-result
 invariant_of-result g c = record {
+  shows = ap (λ (s : Levels). s.shown) c.in-Ok.ensures ∙ sym (ap (λ (s : Levels). choices_of s.levels) c.in-Ok.ensures);
   standing = subst (λ (s : Dancing). IsStanding s.puzzle s.trail c.in-Ok.stack.levels true) (sym c.new-2.ensures)
       (starts_standing (g.D.Dance.state c.args.dance).puzzle (g.D.Dance.state c.args.dance).trail c.in-Ok.stack.levels (subst IsValid (sym c.requires.same) c.most_levels-most.ensures.valid) c.requires.none (ap (λ (s : Levels). s.levels) c.in-Ok.ensures));
   levels_fit = omega (arith, c.most_levels-most.ensures.value, ap (λ (s : Levels). s.room) c.in-Ok.ensures, ap (λ (s : Dancing). most_levels s.puzzle) c.new-2.ensures, ap most_levels c.requires.same);

@@ -1,23 +1,17 @@
-use Rattle.std.proofs.Common.{◌≡◌, ◌∙◌, ◌-◌, ◌<◌, List, length, reverse, sym, ap, ap₂, arith}
-use Rattle.std.proofs.lemmas.List.{map-set, length-set, length-reverse, get_or-map}
+use Rattle.std.proofs.Common.{◌≡◌, ◌∙◌, ◌-◌, ◌<◌, List, length, reverse, ap, arith}
+use Rattle.std.proofs.lemmas.List.{length-set, length-reverse}
 use Rattle.std.proofs.Math.ListN.{set, get_or}
 use Rattle.xc_input.proofs.FaultLemmas.{items-length}
 use Rattle.xc_search.specs.declared.level.Level.{Level}
 use Rattle.xc_input.proofs.lists.LastChanged.{newest_changed, first_changed}
-use Rattle.xc_search.specs.inner.Levels.{chosen, begun_level, begun_choice, Levels}
+use Rattle.xc_search.specs.inner.Levels.{begun_level, Levels}
 use Rattle.xc_search.proofs.stack.Stack.begin.Goals as goal
 
 pub invariant_of-self : goal.invariant_of-self
 invariant_of-self c =
     let levels = c.self.inside.levels.items in
-    let n = c.len-top.result - 1 in
-    let b = c.args.branch in
-    let some : 0 < length levels = omega (arith, c.requires, ap (λ (v : Levels). length v.levels) c.self.view_is, length-reverse levels) in
-    let level = ap chosen c.begin_level.ensures ∙ ap (λ l. chosen (begun_level b l)) c.index_mut.ensures.value in
-    let choice = c.begin_choice.ensures ∙ ap (begun_choice b) (c.index_mut-2.ensures.value ∙ ap (λ cs. get_or cs n c.index_mut-2.result.now) c.self.invariant.in_step ∙ get_or-map chosen levels n c.index_mut.result.now c.index_mut-2.result.now (omega (arith, some, c.len-top.ensures, items-length c.self.inside.levels))) in
     record {
-      in_step = ap₂ (λ cs v. set cs n v) c.self.invariant.in_step (choice ∙ sym level) ∙ sym (map-set chosen levels n c.begin_level.new.level);
-      few = omega (arith, length-set levels n c.begin_level.new.level, c.self.invariant.few);
+      few = omega (arith, length-set levels (c.len-top.result - 1) c.begin_level.new.level, c.self.invariant.few);
       levels_fit = c.self.invariant.levels_fit;
       choices_fit = c.self.invariant.choices_fit;
     }
@@ -32,4 +26,4 @@ returns c =
     ap (λ l. reverse (set levels (c.len-top.result - 1) l)) new
     ∙ ap (λ n. reverse (set levels (n - 1) (begun_level b (get_or levels (n - 1) c.index_mut.result.now)))) (c.len-top.ensures ∙ items-length c.self.inside.levels)
     ∙ newest_changed (begun_level b) levels c.index_mut.result.now some in
-    ap (λ (ls : List Level). record { levels = ls; room = c.self.inside.room }) turned ∙ ap (λ (v : Levels). record { levels = first_changed (begun_level b) v.levels; room = v.room }) c.self.view_is
+    ap (λ (ls : List Level). record { levels = ls; shown = c.self.inside.choices.items; room = c.self.inside.room }) turned ∙ ap (λ (v : Levels). record v { levels = first_changed (begun_level b) v.levels }) c.self.view_is

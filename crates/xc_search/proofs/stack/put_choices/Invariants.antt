@@ -1,0 +1,10 @@
+use Rattle.std.proofs.Common.{◌≡◌, map, take}
+use Rattle.std.specs.Prelude.{vec_capacity}
+use Rattle.xc_search.specs.inner.Levels.{chosen}
+use Rattle.xc_search.proofs.stack.put_choices.Given as goal
+
+abbrev pub invariant-loop-level : goal.invariant-loop-level
+invariant-loop-level l = record {
+  items : l.choices.items ≡ map chosen (take l.level-index l.levels);
+  capacity : vec_capacity l.choices ≡ vec_capacity l.fn.choices;
+}
