@@ -13,7 +13,6 @@ pub mod Text
 pub mod Lines
 pub mod Calls
 pub mod Readings
-pub mod Inputs
 pub mod Pieces
 pub mod Law
 pub mod Worked

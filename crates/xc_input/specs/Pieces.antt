@@ -1,32 +1,63 @@
--- What a source gave, in the pieces that its reads gave it in.
-use Rattle.std.specs.Prelude.{◌≡◌, ◌⊎◌, ℕ, ◌<◌, List, [], ◌∷◌, ◌++◌, length, All, flat_map}
+-- What a source gave, in the pieces that its reads gave it in, and what reading a problem from it promises.
+use Rattle.std.specs.Prelude.{◌≡◌, ◌⊎◌, ℕ, ◌<◌, List, [], ◌∷◌, ◌++◌, false, Option, None, IfSome, length, All, flat_map}
+use Prim.Native.Char.{code}
+use Rattle.std.specs.Io.KnownBytes.{Consumes}
+use Rattle.xc_input.specs.Calls.{Rose}
 use Rattle.xc_input.specs.declared.kind.Kind.{Kind}
 use Rattle.xc_input.specs.declared.fault.InputError.{InputError}
 use Rattle.xc_input.specs.declared.fault.InputError.TheVariants.{Fault, Device, Memory}
 use Rattle.xc_input.specs.Named.{Named}
-use Rattle.xc_input.specs.Lines.{IsTextOf, IsFirstFault}
+use Rattle.xc_input.specs.Lines.{IsTextOf, IsFirstFault, ended, AreWhole}
+use Rattle.xc_input.specs.Stages.{line_fault}
+use Rattle.xc_input.specs.Words.{has}
 
--- Reads gave these bytes, each of them some.
-pub record Gave (old new : List (List ℕ)) (bytes : List ℕ) : Type 0 where
+-- A source: how many of its reads failed, up to the counter's last value; at most how many bytes it may still give; the
+-- bytes that it will give, where it tells them; and what each read gave so far, in order, nothing at the end.
+pub record SourceState : Type 0 where
+  pub failures : ℕ
+  pub limit : ℕ
+  pub rest : Option (List ℕ)
+  pub given : List (List ℕ)
+
+-- Reads gave these bytes, each of them some; and if the source told its bytes, these were the first of them.
+pub record Gave (old new : SourceState) (bytes : List ℕ) : Type 0 where
+  pub told : Consumes old.rest new.rest bytes
   pub pieces : List (List ℕ)
   pub some : All (λ piece. 0 < length piece) pieces
-  pub added : new ≡ old ++ pieces
+  pub added : new.given ≡ old.given ++ pieces
   pub whole : flat_map (λ piece. piece) pieces ≡ bytes
 
--- Reads gave these bytes, and then one gave nothing.
-pub record GaveAll (old new : List (List ℕ)) (bytes : List ℕ) : Type 0 where
-  pub before : List (List ℕ)
+-- Reads gave these bytes, none failed, and then one gave nothing; and if the source told its bytes, these were all.
+pub record GaveAll (old new : SourceState) (bytes : List ℕ) : Type 0 where
+  pub no_failure : new.failures ≡ old.failures
+  pub told : IfSome old.rest (λ rest. rest ≡ bytes)
+  pub before : SourceState
   pub gave : Gave old before bytes
-  pub ended : new ≡ before ++ [] ∷ []
+  pub ended : new.given ≡ before.given ++ [] ∷ []
 
--- A source gave a text that stands for a problem, and its end.
-abbrev pub IsWhole : Kind → List (List ℕ) → List (List ℕ) → Named → List ℕ → Type 0
-IsWhole kind old new named ignored = (bytes : List ℕ) × GaveAll old new bytes × IsTextOf kind bytes named ignored
+-- A source gave a text that stands for this problem, with these ignored lines, and its end.
+pub record IsWhole (kind : Kind) (old new : SourceState) (named : Named) (ignored : List ℕ) : Type 0 where
+  pub bytes : List ℕ
+  pub gave : GaveAll old new bytes
+  pub text : IsTextOf kind bytes named ignored
 
--- A source gave a text with this first fault, and its end; or a part after which each text has it.
-abbrev pub IsPart : Kind → List (List ℕ) → List (List ℕ) → InputError → Type 0
+-- these bytes end within a line
+pub record IsOpen (bytes : List ℕ) : Type 0 where
+  pub front : List ℕ
+  pub part : List ℕ
+  pub both : bytes ≡ front ++ part
+  pub some : 0 < length part
+  pub one_line : has (code "\n") part ≡ false
+
+-- Why a source gave no problem: a text with this first fault, and its end, or a part after which each text has it; a
+-- read that failed behind whole lines without a fault; or want of memory, before the end or behind a last line that no
+-- line feed ends.
+abbrev pub IsPart : Kind → SourceState → SourceState → InputError → Type 0
 IsPart kind old new (Fault line fault) =
     (bytes : List ℕ) × ((GaveAll old new bytes × IsFirstFault kind bytes line fault)
-    ⊎ (Gave old new bytes × ((more : List ℕ) → IsFirstFault kind (bytes ++ more) line fault)))
-IsPart kind old new Device = (bytes : List ℕ) × Gave old new bytes
-IsPart kind old new Memory = Unit {0}
+    ⊎ (Gave old new bytes × (new.failures ≡ old.failures) × ((more : List ℕ) → IsFirstFault kind (bytes ++ more) line fault)))
+IsPart kind old new Device =
+    (lines : List (List ℕ)) × (part : List ℕ) × Gave old new (ended lines ++ part) × Rose old.failures new.failures
+    × AreWhole lines × (has (code "\n") part ≡ false) × (line_fault kind lines ≡ None)
+IsPart kind old new Memory = (bytes : List ℕ) × (new.failures ≡ old.failures)
+    × (Gave old new bytes ⊎ (GaveAll old new bytes × IsOpen bytes))

@@ -1,12 +1,11 @@
 //! Reads a problem from a source.
 
-ghost use Rattle.std.specs.Prelude.{◌≡◌, ◌++◌, ◌∷◌, [], ℕ, List, false, length, OnOk, IfErr, IfOk, IfSome, MatchOption};
+ghost use Rattle.std.specs.Prelude.{◌≡◌, ◌<◌, ◌++◌, ◌∷◌, false, Some, length, OnOk, IfErr, IfOk, MatchOption};
+ghost use Rattle.std.specs.Result.{result_err};
 ghost use Rattle.xc_input.specs.Words.{has};
-ghost use Rattle.xc_input.specs.Named.{Named, IsSound};
-ghost use Rattle.xc_input.specs.Readings.{IsFault};
+ghost use Rattle.xc_input.specs.Named.{IsSound};
 ghost use Rattle.xc_input.specs.inner.Feeding.{fed, IsBetween, Spoils, Ended, EndsAs};
-ghost use Rattle.xc_input.specs.Lines.{IsTextOf, lines_of};
-ghost use Rattle.xc_input.specs.Inputs.{IsFaultOf, Counts, IsCut};
+ghost use Rattle.xc_input.specs.Lines.{lines_of};
 ghost use Rattle.xc_input.specs.Pieces.{IsWhole, IsPart};
 
 use crate::reader::{Read, Reader};
@@ -25,15 +24,9 @@ pub fn read_problem<S: Source>(
     kind: Kind,
     source: &mut S,
 ) -> Result<Read, InputError>
-    ensures accepted { IfSome (S.rest source.old) (λ bytes. IfOk result (λ r. IsTextOf kind bytes r.problem r.ignored.items)) }
-    ensures only { IfSome (S.rest source.old) (λ bytes. IfOk result (λ r. (p : Named) (ignored : List ℕ) → IsTextOf kind bytes p ignored → (p ≡ r.problem) × (ignored ≡ r.ignored.items))) }
     ensures valid { IfOk result (λ r. IsSound r.problem) }
-    ensures first { IfSome (S.rest source.old) (λ bytes. IfErr result (IsFaultOf kind bytes)) }
-    ensures refused { IfSome (S.rest source.old) (λ bytes. IfErr result (λ e. IsFault e → (p : Named) (ignored : List ℕ) → IsTextOf kind bytes p ignored → ⊥)) }
-    ensures counts { Counts (S.failures source.old) (S.failures source.new) result }
-    ensures cut { IsCut kind (S.rest source.old) (S.rest source.new) result }
-    ensures whole { IfOk result (λ r. IsWhole kind (S.given source.old) (S.given source.new) r.problem r.ignored.items) }
-    ensures part { IfErr result (IsPart kind (S.given source.old) (S.given source.new)) }
+    ensures whole { IfOk result (λ r. IsWhole kind (S.state source.old) (S.state source.new) r.problem r.ignored.items) }
+    ensures part { IfErr result (IsPart kind (S.state source.old) (S.state source.new)) }
 {
     let mut reader = Reader::with_seed(alloc, kind, source.seed());
     let mut carry = Vec::new(alloc);
@@ -102,6 +95,7 @@ fn end_text(mut reader: Reader, carry: &[u8]) -> Result<Read, InputError>
     requires { IsBetween reader carry.now }
     ensures valid { IfOk result (λ r. IsSound r.problem) }
     ensures answer { EndsAs reader.kind (lines_of (fed reader carry.now)) result }
+    ensures memory { result_err result ≡ Some InputError.Memory → 0 < length carry.now }
 {
     if carry.is_empty() {
         return reader.finish();

@@ -3,6 +3,7 @@
 ghost use Rattle.std.specs.Prelude.{◌≡◌, ◌+◌, ◌-◌, ◌<◌, ◌≤◌, ◌↔◌, ℕ, List, [], ◌∷◌, ◌++◌, take, Option, Some, length, min, IfOk, IsErr, IsTrue, OnErr, is_err};
 ghost use Rattle.std.specs.Io.KnownBytes.{ReadConsumes};
 ghost use Rattle.xc_input.specs.Calls.{counted, fewer_calls};
+ghost use Rattle.xc_input.specs.Pieces.{SourceState};
 
 use crate::given::Given;
 use crate::seed::Seed;
@@ -15,28 +16,19 @@ pub struct ReadFailed;
 
 /// Where bytes come from.
 pub trait Source {
-    /// How many reads failed so far. The count stays at its last value.
-    ghost failures: { Self → ℕ };
-
-    /// At most how many bytes it may still give.
-    ghost limit: { Self → ℕ };
-
-    /// The bytes that it will give, where it tells them.
-    ghost rest: { Self → Option (List ℕ) };
-
-    /// What each read gave so far, in order: nothing at the end.
-    ghost given: { Self → List (List ℕ) };
+    /// What is known of it: its failures, how much it may still give, and what it gave.
+    ghost state: { Self → SourceState };
 
     /// Reads into the front of the buffer, and says how many bytes. 0 is the end of the input.
     fn read(&mut self, buf: &mut [u8]) -> Result<usize, ReadFailed>
         requires { 0 < length buf.old }
         ensures bound { IfOk result (λ n. n ≤ length buf.new) }
-        ensures limit { IfOk result (λ n. limit self.new + n ≡ limit self.old) }
-        ensures limit_kept { OnErr result (limit self.new ≡ limit self.old) }
-        ensures failures { failures self.new ≡ counted (is_err result) (failures self.old) }
-        ensures bytes { ReadConsumes (rest self.old) (rest self.new) result buf.new }
-        ensures given { IfOk result (λ n. given self.new ≡ given self.old ++ take n buf.new ∷ []) }
-        ensures given_kept { OnErr result (given self.new ≡ given self.old) };
+        ensures limit { IfOk result (λ n. (state self.new).limit + n ≡ (state self.old).limit) }
+        ensures limit_kept { OnErr result ((state self.new).limit ≡ (state self.old).limit) }
+        ensures failures { (state self.new).failures ≡ counted (is_err result) (state self.old).failures }
+        ensures bytes { ReadConsumes (state self.old).rest (state self.new).rest result buf.new }
+        ensures given { IfOk result (λ n. (state self.new).given ≡ (state self.old).given ++ take n buf.new ∷ []) }
+        ensures given_kept { OnErr result ((state self.new).given ≡ (state self.old).given) };
 
     /// The seed by which the names that it gives are hashed: the fixed one, unless the source says
     /// otherwise, as those of the programs do, whose texts may be written to be slow.
@@ -61,10 +53,10 @@ impl<'a> Feed<'a> {
     /// does for `None` or 0.
     pub fn new(bytes: &'a [u8], step: usize, fail_at: Option<u64>) -> Feed<'a>
         requires { 0 < step }
-        ensures rest { ⟦<Feed<'a> as Source>⟧.rest result ≡ Some bytes.now }
+        ensures rest { (⟦<Feed<'a> as Source>⟧.state result).rest ≡ Some bytes.now }
         ensures step { result.step ≡ step }
         ensures fail_at { result.calls_to_failure ≡ fail_at }
-        ensures failures { ⟦<Feed<'a> as Source>⟧.failures result ≡ 0 }
+        ensures failures { (⟦<Feed<'a> as Source>⟧.state result).failures ≡ 0 }
     {
         Feed {
             left: bytes,
@@ -95,13 +87,12 @@ impl<'a> Feed<'a> {
 }
 
 impl<'a> Source for Feed<'a> {
-    ghost failures = { λ s. s.failures };
-
-    ghost limit = { λ s. length s.left.now };
-
-    ghost rest = { λ s. Some s.left.now };
-
-    ghost given = { λ s. s.given.lines };
+    ghost state = { λ s. record {
+      failures = s.failures;
+      limit = length s.left.now;
+      rest = Some s.left.now;
+      given = s.given.lines;
+    } };
 
     fn read(&mut self, buf: &mut [u8]) -> Result<usize, ReadFailed>
         requires { 0 < length buf.old }

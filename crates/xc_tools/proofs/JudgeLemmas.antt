@@ -5,9 +5,10 @@ use Rattle.std.specs.Prelude.{flat_map}
 use Rattle.std.specs.Io.KnownBytes.{Keeps}
 use Rattle.xc_input.specs.declared.kind.Kind.{Kind}
 use Rattle.xc_input.specs.Named.{Named}
+use Rattle.xc_input.specs.Pieces.{SourceState}
 use Rattle.xc_list.specs.Texts.{SinkState, Begins}
 use Rattle.xc_list.specs.declared.checker.Verdict.{Verdict}
-use Rattle.xc_tools.specs.Given.{SourceState, GaveProblem}
+use Rattle.xc_tools.specs.Given.{GaveProblem}
 use Rattle.xc_tools.specs.Solves.{Seen, Streams}
 use Rattle.xc_tools.specs.Judges.{verdict_text, HasVerdicts, DidJudgeListing, DidAsAsked}
 use Rattle.xc_tools.proofs.RunLemmas.{whole_begins}
@@ -29,7 +30,7 @@ listing_begins a status old new (inr (inr (inr (inr h)))) = inl (same_keeps old.
 
 of_problem : {K : Type 0} (kind : Kind) (says told : Named → List ℕ → Type 0) (old new : SourceState) (g : GaveProblem kind says old new) → K ⊎ told g.named g.ignored → K ⊎ GaveProblem kind told old new
 of_problem kind says told old new g (inl k) = inl k
-of_problem kind says told old new g (inr t) = inr (record { named = g.named; ignored = g.ignored; no_failure = g.no_failure; told = g.told; gave = g.gave; said = t })
+of_problem kind says told old new g (inr t) = inr (record { named = g.named; ignored = g.ignored; gave = g.gave; said = t })
 
 pub judged_begins : {L O E : Type 0} (kind : Kind) (status : ℕ) (p_old p_new : SourceState) (old new : Streams L O E) → DidAsAsked kind status p_old p_new old new
     → Keeps old.out.state.taken new.out.state.taken

@@ -7,6 +7,7 @@ use Rattle.std.specs.Io.KnownBytes.{Appends, Keeps}
 use Rattle.xc_input.specs.Calls.{Rose}
 use Rattle.xc_input.specs.declared.kind.Kind.{Kind}
 use Rattle.xc_input.specs.Named.{Named}
+use Rattle.xc_input.specs.Pieces.{SourceState}
 use Rattle.xc_list.specs.declared.runs.End.{End}
 use Rattle.xc_list.specs.declared.words.Words.{Words}
 use Rattle.xc_list.specs.Messages.{warning_text, summary_text, failed_text}
@@ -16,7 +17,7 @@ use Rattle.xc_list.specs.Texts.{SinkState, Took, BrokeOff, WasTold, Begins}
 use Rattle.xc_list.proofs.Outputs.{stopped_begins}
 use Rattle.xc_list.proofs.TextLemmas.{appends_kept}
 use Rattle.xc_list.proofs.Writing.{then_took}
-use Rattle.xc_tools.specs.Given.{SourceState, GaveProblem}
+use Rattle.xc_tools.specs.Given.{GaveProblem}
 use Rattle.xc_tools.specs.Solves.{Seen, TookAll, FailedBehind, Behind, FailedAt, warning, solution, flush, last_line, IsFailed, DidSearch, DidAsAsked}
 
 take_whole : (xs : List ℕ) → take (length xs) xs ≡ xs
@@ -113,8 +114,6 @@ run_begins kind w status old new x y told told_new (inl h) = inl (subst (λ out.
 run_begins kind w status old new x y told told_new (inr g) = inr (record {
   named = g.named;
   ignored = g.ignored;
-  no_failure = g.no_failure;
-  told = g.told;
   gave = g.gave;
   said = search_begins g.named g.ignored w status x.state y.state told told_new g.said;
 })

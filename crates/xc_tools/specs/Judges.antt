@@ -6,12 +6,13 @@ use Rattle.xc_input.specs.declared.kind.Kind.TheVariants.{Plain, Colours, Bounds
 use Rattle.xc_input.specs.Named.{Named}
 use Rattle.xc_input.specs.Lines.{lines_of}
 use Rattle.xc_input.specs.Calls.{Rose}
+use Rattle.xc_input.specs.Pieces.{SourceState, GaveAll}
 use Rattle.xc_list.specs.Listed.{fault_in_listing, AreVerdicts}
 use Rattle.xc_list.specs.Texts.{WasTold}
 use Rattle.xc_list.specs.declared.checker.Verdict.{Verdict}
 use Rattle.xc_list.specs.declared.checker.ListingFault.{ListingFault}
 use Rattle.xc_list.specs.declared.checker.ListingFault.TheVariants.{BadLine, UnknownOption, Memory}
-use Rattle.xc_tools.specs.Given.{SourceState, GaveText, GaveProblem}
+use Rattle.xc_tools.specs.Given.{GaveProblem}
 use Rattle.xc_tools.specs.Solves.{Seen, Streams, TookAll, FailedBehind, IsRefused, HasNoProblem}
 
 -- the kind of problem that a number stands for
@@ -50,7 +51,7 @@ judged_status (v ∷ vs) = if v.cover then judged_status vs else 5
 -- A source gave a listing without a fault, and these are the verdicts on it.
 pub record HasVerdicts (a : Named) (vs : List Verdict) (old new : SourceState) : Type 0 where
   pub listing : List ℕ
-  pub gave : GaveText listing old new
+  pub gave : GaveAll old new listing
   pub no_fault : fault_in_listing a (lines_of listing) ≡ None
   pub verdicts : AreVerdicts a (lines_of listing) vs
 
@@ -65,7 +66,7 @@ pub record IsJudged {L O E : Type 0} (a : Named) (status : ℕ) (old new : Strea
 -- 2: the listing has a first fault, which was told, and nothing was written.
 pub record IsFaulty {L O E : Type 0} (a : Named) (old new : Streams L O E) : Type 0 where
   pub listing : List ℕ
-  pub gave : GaveText listing old.input.state new.input.state
+  pub gave : GaveAll old.input.state new.input.state listing
   pub fault : ListingFault
   pub first : fault_in_listing a (lines_of listing) ≡ Some fault
   pub told : WasTold old.err.state new.err.state (listing_fault_text fault)

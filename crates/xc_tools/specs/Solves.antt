@@ -5,6 +5,7 @@ use Rattle.xc_input.specs.Calls.{Rose}
 use Rattle.xc_input.specs.declared.kind.Kind.{Kind}
 use Rattle.xc_input.specs.declared.fault.InputError.{InputError}
 use Rattle.xc_input.specs.Named.{Named}
+use Rattle.xc_input.specs.Pieces.{SourceState, IsPart}
 use Rattle.xc_list.specs.declared.words.Words.{Words}
 use Rattle.xc_list.specs.Messages.{warning_text, summary_text, failed_text, word_fault_text}
 use Rattle.xc_list.specs.Output.{output}
@@ -12,7 +13,7 @@ use Rattle.xc_list.specs.Runs.{StoppedAt, end_of}
 use Rattle.xc_list.specs.Settings.{read_words}
 use Rattle.xc_list.specs.Texts.{SinkState, Took, BrokeOff, WasTold, IsUntouched}
 use Rattle.xc_tools.specs.Errors.{input_error_text, error_status}
-use Rattle.xc_tools.specs.Given.{SourceState, GaveProblem, GaveNone}
+use Rattle.xc_tools.specs.Given.{GaveProblem}
 
 -- A source or a sink, and what is known of it.
 pub record Seen (T Known : Type 0) : Type 0 where
@@ -95,7 +96,7 @@ pub record IsRefused {S O E : Type 0} (text : List ℕ) (old new : Streams S O E
 -- want of memory.
 pub record HasNoProblem (kind : Kind) (status : ℕ) (old new : SourceState) (err_old err_new : SinkState) : Type 0 where
   pub error : InputError
-  pub gave : GaveNone kind error old new
+  pub gave : IsPart kind old new error
   pub is_status : status ≡ error_status error
   pub told : WasTold err_old err_new (input_error_text error)
 

@@ -2,6 +2,7 @@
 ghost use Rattle.std.specs.Prelude.{◌≡◌, true, ◌+◌, ◌-◌, ◌^◌, ◌<◌, ◌≤◌, None, length, is_err, option_map, IfOk, IsErr, OnErr, [], ◌∷◌, ◌++◌, take};
 ghost use Rattle.std.specs.Io.KnownBytes.{ReadConsumes};
 ghost use Rattle.xc_input.specs.Calls.{counted};
+ghost use Rattle.xc_input.specs.Pieces.{SourceState};
 ghost use Rattle.xc_tools.specs.Streams.{bytes_left, IsAskedOnce, read_answer};
 
 use crate::system::{System, SystemReader};
@@ -69,13 +70,12 @@ impl<R: SystemReader + Drop> Incoming<R> {
 }
 
 impl<R: SystemReader + Drop> Source for Incoming<R> {
-    ghost failures = { λ s. s.failures };
-
-    ghost limit = { λ s. s.left };
-
-    ghost rest = { λ s. bytes_left (option_map R.remaining s.reader) };
-
-    ghost given = { λ s. s.given.lines };
+    ghost state = { λ s. record {
+      failures = s.failures;
+      limit = s.left;
+      rest = bytes_left (option_map R.remaining s.reader);
+      given = s.given.lines;
+    } };
 
     fn read(&mut self, buf: &mut [u8]) -> Result<usize, ReadFailed>
         requires { 0 < length buf.old }

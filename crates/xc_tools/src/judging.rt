@@ -3,7 +3,7 @@ ghost use Rattle.std.specs.Prelude.{◌≡◌, ◌⊎◌, IsSomeAnd, ℕ, take, 
 ghost use Rattle.std.specs.Io.KnownBytes.{Keeps};
 ghost use Rattle.xc_list.specs.Texts.{WasTold, Writes, Begins};
 ghost use Rattle.xc_list.specs.declared.checker.Verdict.{Verdict};
-ghost use Rattle.xc_tools.specs.Given.{source_state, GaveProblem};
+ghost use Rattle.xc_tools.specs.Given.{GaveProblem};
 ghost use Rattle.xc_tools.specs.Solves.{seen, streams, TookAll, FailedBehind};
 ghost use Rattle.xc_tools.specs.Judges.{asked_kind, numbered_kind, verdict_text, judged_status, HasVerdicts, DidJudgeListing, DidAsAsked, DidJudge};
 
@@ -99,8 +99,8 @@ fn judge_listing<L: Source, O: Sink, E: Sink>(
     err: &mut E,
 ) -> u8
     ensures did { DidJudgeListing problem.now result
-        (streams (source_state L.failures L.rest L.given) O.state E.state listing.old out.old err.old)
-        (streams (source_state L.failures L.rest L.given) O.state E.state listing.new out.new err.new) }
+        (streams L.state O.state E.state listing.old out.old err.old)
+        (streams L.state O.state E.state listing.new out.new err.new) }
 {
     let text = match read_text(alloc, listing) {
         Ok(text) => text,
@@ -129,9 +129,9 @@ fn judge_kind<P: Source, L: Source, O: Sink, E: Sink>(
     err: &mut E,
 ) -> u8
     ensures did { DidAsAsked kind result
-        (source_state P.failures P.rest P.given problem.old) (source_state P.failures P.rest P.given problem.new)
-        (streams (source_state L.failures L.rest L.given) O.state E.state listing.old out.old err.old)
-        (streams (source_state L.failures L.rest L.given) O.state E.state listing.new out.new err.new) }
+        (P.state problem.old) (P.state problem.new)
+        (streams L.state O.state E.state listing.old out.old err.old)
+        (streams L.state O.state E.state listing.new out.new err.new) }
 {
     match read_problem(alloc, kind, problem) {
         Ok(read) => judge_listing(alloc, &read.problem, listing, out, err),
@@ -154,18 +154,18 @@ pub fn judge<P: Source, L: Source, O: Sink, E: Sink>(
     err: &mut E,
 ) -> u8
     ensures did { DidJudge (map (λ w. w.items) words.now) result
-        (seen (source_state P.failures P.rest P.given) problem.old)
-        (seen (source_state P.failures P.rest P.given) problem.new)
-        (streams (source_state L.failures L.rest L.given) O.state E.state listing.old out.old err.old)
-        (streams (source_state L.failures L.rest L.given) O.state E.state listing.new out.new err.new) }
+        (seen P.state problem.old)
+        (seen P.state problem.new)
+        (streams L.state O.state E.state listing.old out.old err.old)
+        (streams L.state O.state E.state listing.new out.new err.new) }
 
     // Whatever the status, the output is a beginning of the verdicts.
     ensures begins { Keeps (O.state out.old).taken (O.state out.new).taken
         ⊎ IsSomeAnd (asked_kind (map (λ w. w.items) words.now)) (λ kind. GaveProblem kind
-        (λ a _. (verdicts : List Verdict) × HasVerdicts a verdicts (source_state L.failures L.rest L.given listing.old)
-        (source_state L.failures L.rest L.given listing.new)
+        (λ a _. (verdicts : List Verdict) × HasVerdicts a verdicts (L.state listing.old)
+        (L.state listing.new)
         × Begins (O.state out.old) (O.state out.new) (flat_map verdict_text verdicts))
-        (source_state P.failures P.rest P.given problem.old) (source_state P.failures P.rest P.given problem.new)) }
+        (P.state problem.old) (P.state problem.new)) }
 {
     match asked_kind(words) {
         Some(kind) => judge_kind(alloc, kind, problem, listing, out, err),

@@ -6,7 +6,7 @@ ghost use Rattle.xc_list.specs.Output.{output};
 ghost use Rattle.xc_list.specs.Settings.{read_words};
 ghost use Rattle.xc_list.specs.Texts.{Took, BrokeOff, WasTold, Begins};
 ghost use Rattle.xc_input.specs.Calls.{Rose};
-ghost use Rattle.xc_tools.specs.Given.{source_state, GaveProblem};
+ghost use Rattle.xc_tools.specs.Given.{GaveProblem};
 ghost use Rattle.xc_tools.specs.Solves.{seen, streams, DidSearch, DidAsAsked, DidSolve};
 
 use crate::messages::no_problem;
@@ -85,7 +85,7 @@ fn solve_words<S: Source, O: Sink, E: Sink>(
     err: &mut E,
 ) -> u8
     ensures did { DidAsAsked kind words result
-        (source_state S.failures S.rest S.given input.old) (source_state S.failures S.rest S.given input.new)
+        (S.state input.old) (S.state input.new)
         (seen O.state out.old) (seen O.state out.new) (E.state err.old) (E.state err.new) }
 {
     match read_problem(alloc, kind, input) {
@@ -107,14 +107,14 @@ pub fn solve<S: Source, O: Sink, E: Sink>(
     err: &mut E,
 ) -> u8
     ensures did { DidSolve kind (map (λ w. w.items) words.now) result
-        (streams (source_state S.failures S.rest S.given) O.state E.state input.old out.old err.old)
-        (streams (source_state S.failures S.rest S.given) O.state E.state input.new out.new err.new) }
+        (streams S.state O.state E.state input.old out.old err.old)
+        (streams S.state O.state E.state input.new out.new err.new) }
 
     // Whatever the status, the output is a beginning of the problem's.
     ensures begins { Keeps (O.state out.old).taken (O.state out.new).taken
         ⊎ IsOkAnd (read_words (map (λ w. w.items) words.now)) (λ w. GaveProblem kind
         (λ a _. Begins (O.state out.old) (O.state out.new) (output a w.spacing w.limit))
-        (source_state S.failures S.rest S.given input.old) (source_state S.failures S.rest S.given input.new)) }
+        (S.state input.old) (S.state input.new)) }
 {
     match Words::read(words) {
         Ok(words) => solve_words(alloc, kind, words, input, out, err),

@@ -1,5 +1,5 @@
 //! Reads a whole text.
-ghost use Rattle.std.specs.Prelude.{◌≡◌, length, IfOk, IfSome};
+ghost use Rattle.std.specs.Prelude.{◌≡◌, length, IfOk};
 ghost use Rattle.xc_input.specs.Pieces.{GaveAll};
 ghost use Rattle.xc_tools.specs.inner.WholeTexts.{IsCounted};
 ghost use Rattle.xc_tools.specs.declared.whole_text.TextError.TheVariants.{Device, Memory};
@@ -35,9 +35,8 @@ impl From<AllocError> for TextError {
 
 /// All that a source gives.
 pub(crate) fn read_text<S: Source>(alloc: Global, source: &mut S) -> Result<Vec<u8>, TextError>
-    ensures text { IfSome (S.rest source.old) (λ bytes. IfOk result (λ text. text.items ≡ bytes)) }
-    ensures whole { IfOk result (λ text. GaveAll (S.given source.old) (S.given source.new) text.items) }
-    ensures counted { IsCounted (S.failures source.old) (S.failures source.new) result }
+    ensures whole { IfOk result (λ text. GaveAll (S.state source.old) (S.state source.new) text.items) }
+    ensures counted { IsCounted (S.state source.old).failures (S.state source.new).failures result }
 {
     let mut text = Vec::new(alloc);
     let mut store = buffer(alloc)?;

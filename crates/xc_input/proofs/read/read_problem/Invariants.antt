@@ -1,5 +1,4 @@
 use Rattle.std.proofs.Common.{◌≡◌}
-use Rattle.std.specs.Io.KnownBytes.{Consumes}
 use Rattle.xc_input.specs.inner.Feeding.{fed, IsBetween}
 use Rattle.xc_input.specs.Pieces.{Gave}
 use Rattle.xc_input.proofs.read.read_problem.Given as goal
@@ -7,9 +6,9 @@ use Rattle.xc_input.proofs.read.read_problem.Given as goal
 -- what was read so far was handed on or is carried, and no read failed
 abbrev pub invariant-reading : goal.invariant-reading
 invariant-reading g l =
-    IsBetween l.reader l.carry.items × (l.reader.kind ≡ l.fn.kind) × (g.S.Source.failures l.source ≡ g.S.Source.failures l.fn.source)
-    × Consumes (g.S.Source.rest l.fn.source) (g.S.Source.rest l.source) (fed l.reader l.carry.items)
-    × Gave (g.S.Source.given l.fn.source) (g.S.Source.given l.source) (fed l.reader l.carry.items)
+    IsBetween l.reader l.carry.items × (l.reader.kind ≡ l.fn.kind)
+    × ((g.S.Source.state l.source).failures ≡ (g.S.Source.state l.fn.source).failures)
+    × Gave (g.S.Source.state l.fn.source) (g.S.Source.state l.source) (fed l.reader l.carry.items)
 
 abbrev pub decreases-reading : goal.decreases-reading
-decreases-reading g l = g.S.Source.limit l.source
+decreases-reading g l = (g.S.Source.state l.source).limit
