@@ -52,14 +52,22 @@ impl Write for FailsOnce {
     }
 }
 
+/// Reads five times, and counts the reads that succeed.
+fn successful_reads<S: Source>(source: &mut S) -> u64 {
+    let mut count = 0u64;
+    for _ in 0..5 {
+        if source.read(&mut [0; 10]).is_ok() {
+            count = count.saturating_add(1);
+        }
+    }
+    count
+}
+
 #[test]
 fn a_read_that_fails_once(rt: HostRuntime) -> Result<(), Fail> {
     for n in 1..4 {
         let mut reader = FailsOnce::at(n);
-        let mut source = Incoming::new(Some(&mut reader), Seed::FIXED);
-        for call in 1..6 {
-            assert!(rt; source.read(&mut [0; 10]).is_ok() == (call < n));
-        }
+        assert!(rt; successful_reads(&mut Incoming::new(Some(&mut reader), Seed::FIXED)) == n - 1);
         assert!(rt; reader.calls == n);
     }
     Ok(())

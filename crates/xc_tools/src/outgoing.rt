@@ -116,6 +116,7 @@ impl<W: SystemWriter + Drop> Outgoing<W> {
     }
 
     /// Passes on what is held back, as far as that goes, and says whether that was all.
+    #[inline(never)]
     fn pass_all(&mut self) -> bool
         requires open { self.old.failures ≡ 0 }
         ensures all { IsTrue result ↔ (self.new.held ≡ []) }
