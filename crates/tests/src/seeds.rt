@@ -43,13 +43,7 @@ struct Seeded<'a> {
 }
 
 impl<'a> Source for Seeded<'a> {
-    ghost failures = { λ s. ⟦<Feed<'a> as Source>⟧.failures s.feed };
-
-    ghost limit = { λ s. ⟦<Feed<'a> as Source>⟧.limit s.feed };
-
-    ghost rest = { λ s. ⟦<Feed<'a> as Source>⟧.rest s.feed };
-
-    ghost given = { λ s. ⟦<Feed<'a> as Source>⟧.given s.feed };
+    ghost state = { λ s. ⟦<Feed<'a> as Source>⟧.state s.feed };
 
     fn read(&mut self, buf: &mut [u8]) -> Result<usize, ReadFailed> {
         self.feed.read(buf)
