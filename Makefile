@@ -10,8 +10,8 @@ docdir = $(PREFIX)/share/doc/helgrothy
 pythondir = $(PREFIX)/share/helgrothy
 completiondir = $(PREFIX)/share/bash-completion/completions
 
-.PHONY: run bin all test test-mutants test-hostile test-python test-docs pictures install uninstall dist deb wheel version release
-.PHONY: test-install test-dist test-deb test-wheel
+.PHONY: run bin all test test-mutants test-hostile test-python test-docs pictures
+.PHONY: install uninstall dist deb wheel version release test-install test-dist test-deb test-wheel
 run: bin
 	cd crates/dlx1 && rt run -- m1 < ../../examples/seven.dlx
 test:
@@ -49,7 +49,8 @@ bin:
 # What follows takes the programs as `make all` built them, and needs no toolchain.
 COMMANDS = $(PROGRAMS) $(SCRIPTS:%=dlx-%) helgrothy
 # The files of a folder or two into another, whatever the umask.
-copy = find -L $(1) -type f ! -name '*.pyc' -exec sh -c 'for file; do install -D -m 644 "$$file" "$(2)/$$file" || exit 1; done' copy {} +
+copy = find -L $(1) -type f ! -name '*.pyc' -exec sh -c \
+    'for file; do install -D -m 644 "$$file" "$(2)/$$file" || exit 1; done' copy {} +
 
 install: bin
 	install -d "$(DESTDIR)$(bindir)" "$(DESTDIR)$(mandir)/man1" "$(DESTDIR)$(mandir)/man5" "$(DESTDIR)$(completiondir)"
@@ -67,9 +68,13 @@ install: bin
 	cd python && $(call copy,helgrothy,$(DESTDIR)$(pythondir))
 
 uninstall:
-	for command in $(COMMANDS); do rm -f "$(DESTDIR)$(bindir)/$$command" "$(DESTDIR)$(completiondir)/$$command" || exit 1; done
+	for command in $(COMMANDS); do \
+	    rm -f "$(DESTDIR)$(bindir)/$$command" "$(DESTDIR)$(completiondir)/$$command" || exit 1; \
+	done
 	for page in $(COMMANDS:%=%.1) dlx.5; do rm -f "$(DESTDIR)$(mandir)/man$${page##*.}/$$page" || exit 1; done
-	for part in docs examples python/README.md CHANGELOG.md README.md; do rm -rf "$(DESTDIR)$(docdir)/$$part" || exit 1; done
+	for part in docs examples python/README.md CHANGELOG.md README.md; do \
+	    rm -rf "$(DESTDIR)$(docdir)/$$part" || exit 1; \
+	done
 	rm -rf "$(DESTDIR)$(pythondir)/helgrothy"
 	rmdir --ignore-fail-on-non-empty "$(DESTDIR)$(docdir)/python" "$(DESTDIR)$(docdir)" "$(DESTDIR)$(pythondir)"
 
@@ -84,7 +89,8 @@ wheel: bin version
 	@python3 release/wheel.py $(VERSION)
 version:
 	@grep -q '^## $(VERSION)$$' CHANGELOG.md || { echo "CHANGELOG.md says nothing of $(VERSION)" >&2; exit 1; }
-	@grep -q '^__version__ = "$(VERSION)"$$' python/helgrothy/__init__.py && grep -q '^version = "$(VERSION)"$$' python/pyproject.toml || \
+	@grep -q '^__version__ = "$(VERSION)"$$' python/helgrothy/__init__.py && \
+	    grep -q '^version = "$(VERSION)"$$' python/pyproject.toml || \
 	    { echo "the Python package isn't of $(VERSION)" >&2; exit 1; }
 release: dist deb wheel
 	cd dist && sha256sum helgrothy[-_]$(VERSION)* > SHA256SUMS

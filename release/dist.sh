@@ -12,5 +12,6 @@ trap 'exit 2' HUP INT TERM
 MAKEFLAGS= make -s install VERSION="$version" DESTDIR="$made/$name" PREFIX= docdir= pythondir=/python
 (cd "$made/$name" && find . -type f | sort | xargs sha256sum >"$made/sums" && mv "$made/sums" SHA256SUMS)
 mkdir -p dist
-tar -c --sort=name --format=ustar --owner=0 --group=0 --numeric-owner --mode=u=rwX,go=rX --mtime="@${SOURCE_DATE_EPOCH:?}" -C "$made" "$name" |
+tar -c --sort=name --format=ustar --owner=0 --group=0 --numeric-owner --mode=u=rwX,go=rX \
+    --mtime="@${SOURCE_DATE_EPOCH:?}" -C "$made" "$name" |
     gzip -9n >"dist/$name.tar.gz"

@@ -29,7 +29,8 @@ in_fresh_system() {
     files >"$empty/before"
     inside dpkg -i "/trial/$deb" >/dev/null
     inside dpkg --verify helgrothy
-    inside sh -c 'cd /usr/share/doc/helgrothy && sh /trial/pages.sh . /usr/share/man/man*/dlx* /usr/share/man/man1/helgrothy*'
+    inside sh -c 'cd /usr/share/doc/helgrothy &&
+        sh /trial/pages.sh . /usr/share/man/man*/dlx* /usr/share/man/man1/helgrothy*'
     inside dpkg -P helgrothy >/dev/null
     files | diff "$empty/before" - || fail "left behind"
     rm -rf "$root/trial"

@@ -15,7 +15,13 @@ for page in "$empty/$name"/share/man/man*/*; do
 done
 (cd "$empty/$name" && env -i HOME="$empty" PATH=/usr/bin:/bin sh -eu -c '
     if command -v rt; then echo "the toolchain is on the path"; exit 1; fi
-    sh ../pages.sh . share/man/man*/*')
+    sh ../pages.sh . share/man/man*/*
+    # As its README says for one user.
+    mkdir -p ~/.local
+    grep "^    .*cp -r" README.md >../in_place.sh
+    sh -eu ../in_place.sh
+    cd && PATH=$PWD/.local/bin:$PATH
+    helgrothy queens 4 >/dev/null 2>&1 || echo "not in place for one user"')
 
 mv "dist/$name.tar.gz" "$empty/first"
 (umask 077; TZ=Asia/Tokyo MAKEFLAGS= make -s dist VERSION="$version")

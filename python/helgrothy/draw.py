@@ -327,4 +327,19 @@ def drawing_of(problem: Problem[Any]) -> Drawing:
     name = kind_of(problem.comments)
     if name not in KINDS:
         raise NoPicture("no comment of the problem says that `helgrothy make` made it; patterns can draw it")
-    return KINDS[name].drawing(problem)
+
+    def as_made(draw: Callable[[Any], Any], given: Any) -> Any:
+        try:
+            return draw(given)
+        except NoPicture:
+            raise
+        except (StopIteration, LookupError, ValueError):
+            raise NoPicture(f"the problem isn't as `helgrothy make {name}` made it") from None
+
+    drawing: Drawing = as_made(KINDS[name].drawing, problem)
+
+    def draw(lines: Sequence[str]) -> Picture:
+        picture: Picture = as_made(drawing, lines)
+        return picture
+
+    return draw

@@ -18,8 +18,8 @@ O = TypeVar("O")
 
 _HEADER = re.compile(rb"([0-9]{1,20}):\Z")
 _CHOICE = re.compile(rb" \S+(?: \S+)* \([0-9]{1,10} of [0-9]{1,10}\)\Z")
-# So many lines are remembered; more of them are read anew.
-_MOST_LINES = 1 << 17
+# So many lines are remembered with the numbers behind them.
+_MOST_LINES = 1 << 15
 
 
 @dataclass(frozen=True)
@@ -45,23 +45,27 @@ class Decoder(Dict[bytes, Union[O, Null]], Generic[O]):
 
     def __init__(self, options: Mapping[bytes, O], items: Mapping[bytes, Hashable]) -> None:
         super().__init__()
+        # A body has as many lines as there are numbers behind it; of bodies there are at most as many as uses.
+        self._bodies: Dict[bytes, Union[O, Null]] = {}
         self._options = options
         self._items = items
 
     def __missing__(self, line: bytes) -> Union[O, Null]:
         body = line[1 : line.rindex(b" (")]
-        key = turned(body)
-        choice: Union[O, Null]
-        if key in self._options:
-            choice = self._options[key]
-        elif body.startswith(b"null "):
-            choice = Null(self._items[body[5:]])
-        else:
-            raise KeyError(line)
-        if len(self) >= _MOST_LINES:
-            self.clear()
-        self[line] = choice
+        choice = self._bodies.get(body)
+        if choice is None:
+            choice = self._bodies[body] = self._read(body)
+        if len(self) < _MOST_LINES:
+            self[line] = choice
         return choice
+
+    def _read(self, body: bytes) -> Union[O, Null]:
+        key = turned(body)
+        if key in self._options:
+            return self._options[key]
+        if body.startswith(b"null "):
+            return Null(self._items[body[5:]])
+        raise KeyError(body)
 
 
 def stream(

@@ -307,8 +307,9 @@ class Problem(Generic[Option]):
         for number, solution in enumerate(solutions, 1):
             yield b"%d:\n" % number
             for choice in solution:
-                body = f"null {self.name(choice.item)}" if isinstance(choice, Null) else self.line(choice)
-                yield bytes_of(f" {body} (1 of 1)\n")
+                # A choice of none adds nothing, and beside an item named `null` its line may be an option's.
+                if not isinstance(choice, Null):
+                    yield bytes_of(f" {self.line(choice)} (1 of 1)\n")
 
     def draw(self, solution: Iterable[Any] = (), pattern: Optional[Pattern] = None) -> Picture:
         """A picture of a solution, or of the problem as it stands before one. Raises `NoPicture`.

@@ -199,5 +199,7 @@ class Faults(unittest.TestCase):
     def test_of_pictures(self):
         problem = Problem("a", options=["a"])
         self.assertIsNone(problem._repr_svg_())
-        with self.assertRaises(NoPicture):
-            problem.draw()
+        edited = Problem("ab", options=["ab"], comments=["helgrothy make sudoku ?"])
+        for without in (problem, edited):
+            with self.assertRaises(NoPicture):
+                without.draw()
