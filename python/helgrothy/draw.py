@@ -287,7 +287,7 @@ class Pattern:
                     place.label, place.is_quiet = own or name or "*", not (own or name)
                     if not own:
                         place.group, place.fill = number, shades[name or number]
-            return Picture("a solution", cells, has_grid=all(place.group is None for place in cells.values()))
+            return Picture("a solution", cells, has_grid=any(place.group is None for place in cells.values()))
 
         return draw
 
