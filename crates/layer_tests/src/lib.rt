@@ -6,6 +6,12 @@
 #[cfg(test)]
 mod keepers;
 
+// Memory, ample and wanting.
+#[cfg(test)]
+mod ample;
+#[cfg(test)]
+mod memory;
+
 // What is read, and what is refused.
 #[cfg(test)]
 mod failing_reads;
@@ -21,8 +27,6 @@ mod reading;
 mod full;
 #[cfg(test)]
 mod inverse;
-#[cfg(test)]
-mod memory;
 #[cfg(test)]
 mod same;
 #[cfg(test)]

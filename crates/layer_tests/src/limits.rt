@@ -1,5 +1,8 @@
 //! The most items and uses, and one more.
 use crate::faults::fault_of;
+use fixtures::read;
+use std::alloc::Global;
+use std::test::Fail;
 use xc_input::{FaultKind, Feed, InputError, Kind, Reader, read_problem};
 
 #[test]
@@ -40,4 +43,38 @@ fn no_more_uses(rt: HostRuntime) {
         kind: FaultKind::TooManyUses,
     };
     assert!(rt; reader.line(b"a") == Err(wanted));
+}
+
+/// A hundred primary items and a secondary one, in as many options of all the primary ones as uses are
+/// let in.
+fn most_uses(alloc: Global) -> Result<String, Fail> {
+    let mut names = String::new(alloc);
+    for i in 0..100u32 {
+        write!(names, " a{i}")?;
+    }
+    let mut text = String::with_capacity(alloc, 40_000_000)?;
+    text.push_str(&names)?;
+    text.push_str(" | x\n")?;
+    for _ in 0..100_000u32 {
+        text.push_str(&names)?;
+        text.push_str("\n")?;
+    }
+    Ok(text)
+}
+
+#[test]
+fn no_more_uses_of_a_hundred_items(rt: HostRuntime) -> Result<(), Fail> {
+    let mut text = most_uses(rt.alloc())?;
+    text.push_str("x\n")?;
+    let accepted = read(rt.alloc(), Kind::Plain, text.as_bytes(), 65536)?;
+    assert!(rt; accepted.problem.options() == 100_000);
+    assert!(rt; accepted.ignored.as_slice() == [100_002].as_slice());
+
+    text.push_str("a0")?;
+    let many = read(rt.alloc(), Kind::Plain, text.as_bytes(), 65536);
+    assert!(rt; fault_of(&many) == Some((100_003, FaultKind::TooManyUses)));
+    text.push_str(" a0")?;
+    let repeated = read(rt.alloc(), Kind::Plain, text.as_bytes(), 65536);
+    assert!(rt; fault_of(&repeated) == Some((100_003, FaultKind::RepeatedInOption)));
+    Ok(())
 }

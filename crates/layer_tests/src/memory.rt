@@ -3,7 +3,7 @@ use crate::keepers::{links, lists};
 use fixtures::{SEVEN, SMALL, problem};
 use std::test::Fail;
 use xc_dance::{Links, Lists};
-use xc_input::{InputError, Kind, Reader};
+use xc_input::{Feed, InputError, Kind, ReadFailed, Reader, Source, read_problem};
 
 #[test]
 fn answers_or_wants_memory(rt: HostRuntime) {
@@ -42,4 +42,38 @@ fn room_that_no_machine_has(rt: HostRuntime) -> Result<(), Fail> {
     assert!(rt; Links::new(rt.alloc(), &problem, usize::MAX).is_err());
     assert!(rt; Lists::new(rt.alloc(), &problem, usize::MAX).is_err());
     Ok(())
+}
+
+/// A source that counts the bytes that it gave.
+#[derive(Drop)]
+struct Counted<'a> {
+    feed: Feed<'a>,
+    bytes: usize,
+}
+
+impl<'a> Source for Counted<'a> {
+    ghost state = { λ s. ⟦<Feed<'a> as Source>⟧.state s.feed };
+
+    fn read(&mut self, buf: &mut [u8]) -> Result<usize, ReadFailed> {
+        let n = self.feed.read(buf)?;
+        self.bytes = self.bytes.saturating_add(n);
+        Ok(n)
+    }
+}
+
+// A test can't refuse a growth: `rt try --test --fail-alloc N -- memory` does. Then the buffer was refused,
+// and nothing is read, or a later growth was, and the whole text was read before.
+#[test]
+fn nothing_is_read_behind_a_refused_growth(rt: HostRuntime) {
+    let mut source = Counted {
+        feed: Feed::new(SEVEN, SEVEN.len(), None),
+        bytes: 0,
+    };
+    let answer = read_problem(rt.alloc(), Kind::Plain, &mut source);
+    let refused = matches!(answer, Err(InputError::Memory)) && source.bytes == 0;
+    assert!(rt; refused || source.bytes == SEVEN.len());
+    match answer {
+        Ok(read) => assert!(rt; read.problem.options() == 6),
+        Err(e) => assert!(rt; e == InputError::Memory),
+    }
 }

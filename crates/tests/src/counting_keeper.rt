@@ -1,22 +1,39 @@
-//! A run works on the dance that it is given.
+//! The calls that searches and runs make of a dance, which leave nothing that a contract sees.
 ghost use Rattle.std.specs.Prelude.{◌≡◌, ◌<◌, ◌↔◌, ◌∷◌, length, drop, IsOk, OnOk, OnErr};
 ghost use Rattle.xc_dance.specs.Moves.{IsLegal, AreTweaks};
 
 use crate::ends::are_as_built;
 use crate::words::ALL;
-use fixtures::{COLOURED, problem};
+use fixtures::{ALONE, COLOURED, SEVEN, THREE_ALIKE, TWICE, problem};
 use std::alloc::Global;
 use std::test::Fail;
 use xc_dance::{Count, Dance, Full, Links, Move};
 use xc_input::{Kind, Problem};
-use xc_list::{Tray, run_over};
+use xc_list::{Tray, Words, run_over};
 use xc_search::{Search, most_moves};
 
-/// A keeper that passes every call on to linked tables, and counts the moves that are made.
+/// How often a keeper was called.
+#[derive(Clone, Copy, Debug, PartialEq, Eq)]
+struct Calls {
+    /// Moves that were made.
+    made: u64,
+    /// Moves that were undone one by one.
+    undone: u64,
+    /// Calls that undid tweaks at once.
+    at_once: u64,
+}
+
+const NONE: Calls = Calls {
+    made: 0,
+    undone: 0,
+    at_once: 0,
+};
+
+/// A keeper that passes every call on to linked tables, and counts those that change them.
 #[derive(Drop)]
 struct Counting {
     links: Links,
-    made: u64,
+    calls: Calls,
 }
 
 impl Dance for Counting {
@@ -30,15 +47,17 @@ impl Dance for Counting {
 
     fn apply(&mut self, m: Move) -> Result<Count, Full> {
         let count = self.links.apply(m)?;
-        self.made = self.made.saturating_add(1);
+        self.calls.made = self.calls.made.saturating_add(1);
         Ok(count)
     }
 
     fn undo(&mut self) -> Count {
+        self.calls.undone = self.calls.undone.saturating_add(1);
         self.links.undo()
     }
 
     fn undo_tweaks(&mut self, k: usize) -> Count {
+        self.calls.at_once = self.calls.at_once.saturating_add(1);
         self.links.undo_tweaks(k)
     }
 
@@ -71,21 +90,40 @@ impl Dance for Counting {
     }
 }
 
-fn run_counted(alloc: Global, problem: &Problem, tray: &mut Tray) -> Result<Counting, Fail> {
+/// The keeper that comes back from a run by these words, into a sink that takes so many bytes.
+fn run_counted(
+    alloc: Global,
+    problem: &Problem,
+    words: Words,
+    room: usize,
+) -> Result<Counting, Fail> {
     let links = Links::new(alloc, problem, most_moves(problem))?;
-    let counting = Counting { links, made: 0 };
-    let (back, end) = run_over(alloc, counting, problem, ALL, tray);
+    let mut tray = Tray::new(alloc, 1, room, false)?;
+    let counting = Counting { links, calls: NONE };
+    let (back, end) = run_over(alloc, counting, problem, words, &mut tray);
     end?;
     Ok(back)
+}
+
+/// The calls of a search that is asked so often for its next solution, and closed.
+fn calls_of_steps(alloc: Global, problem: &Problem, steps: usize) -> Result<Calls, Fail> {
+    let links = Links::new(alloc, problem, most_moves(problem))?;
+    let counting = Counting { links, calls: NONE };
+    let Ok(mut search) = Search::new(alloc, counting, problem) else {
+        return Err(Fail::new("no memory"));
+    };
+    for _step in 0..steps {
+        let _ = search.next();
+    }
+    Ok(search.close().calls)
 }
 
 /// How many moves a run over the colours makes; 0 where the tables that come back aren't as built.
 fn moves_made(alloc: Global) -> Result<u64, Fail> {
     let problem = problem(alloc, Kind::Colours, COLOURED)?;
-    let mut tray = Tray::new(alloc, 1, 1000, false)?;
-    let back = run_counted(alloc, &problem, &mut tray)?;
+    let back = run_counted(alloc, &problem, ALL, 1000)?;
     if are_as_built(alloc, &problem, &back.links)? {
-        Ok(back.made)
+        Ok(back.calls.made)
     } else {
         Ok(0)
     }
@@ -97,25 +135,77 @@ fn a_run_moves_the_dance_that_it_is_given(rt: HostRuntime) -> Result<(), Fail> {
     Ok(())
 }
 
-/// How many moves a search over the colours makes that is asked so often for its next solution. It
-/// has one.
-fn moves_of_steps(alloc: Global, problem: &Problem, steps: usize) -> Result<u64, Fail> {
-    let links = Links::new(alloc, problem, most_moves(problem))?;
-    let counting = Counting { links, made: 0 };
-    let Ok(mut search) = Search::new(alloc, counting, problem) else {
-        return Err(Fail::new("no memory"));
-    };
-    for _step in 0..steps {
-        let _ = search.next();
-    }
-    Ok(search.close().made)
-}
-
 // A move that is undone leaves nothing that a contract sees.
 #[test]
 fn a_search_that_is_done_makes_no_move(rt: HostRuntime) -> Result<(), Fail> {
     let problem = problem(rt.alloc(), Kind::Colours, COLOURED)?;
-    let made = moves_of_steps(rt.alloc(), &problem, 2)?;
-    assert!(rt; made >= 8 && moves_of_steps(rt.alloc(), &problem, 5)? == made);
+    let calls = calls_of_steps(rt.alloc(), &problem, 2)?;
+    assert!(rt; calls.made >= 8 && calls_of_steps(rt.alloc(), &problem, 5)? == calls);
+    Ok(())
+}
+
+/// Whether runs at each limit up to the last solution make the calls of as many steps of a search, and a
+/// run without a limit those of one step more.
+fn goes_no_further(alloc: Global, kind: Kind, text: &[u8], solutions: u8) -> Result<bool, Fail> {
+    let problem = problem(alloc, kind, text)?;
+    let solutions = solutions as usize;
+    for steps in 0..solutions + 1 {
+        let calls = calls_of_steps(alloc, &problem, steps)?;
+        for spacing in [0, 1, 2] {
+            let words = Words {
+                spacing,
+                limit: steps as u64,
+            };
+            if run_counted(alloc, &problem, words, 1000)?.calls != calls {
+                return Ok(false);
+            }
+        }
+    }
+    let back = run_counted(alloc, &problem, ALL, 1000)?;
+    Ok(back.calls == calls_of_steps(alloc, &problem, solutions + 1)?)
+}
+
+#[test]
+fn a_run_searches_no_further_than_its_limit(rt: HostRuntime) -> Result<(), Fail> {
+    let rows: [(Kind, &[u8], u8); 4] = [
+        (Kind::Plain, SEVEN, 1),
+        (Kind::Colours, COLOURED, 1),
+        (Kind::Bounds, TWICE, 3),
+        (Kind::Bounds, ALONE, 4),
+    ];
+    for (kind, text, solutions) in &rows {
+        assert!(rt; goes_no_further(rt.alloc(), *kind, text, *solutions)?);
+    }
+    Ok(())
+}
+
+// The text of each of the three solutions has 15 bytes.
+#[test]
+fn a_run_searches_no_further_than_a_failed_write(rt: HostRuntime) -> Result<(), Fail> {
+    let problem = problem(rt.alloc(), Kind::Plain, THREE_ALIKE)?;
+    for (room, steps) in [(0, 1), (14, 1), (15, 2), (29, 2), (30, 3), (44, 3)] {
+        let back = run_counted(rt.alloc(), &problem, ALL, room)?;
+        assert!(rt; back.calls == calls_of_steps(rt.alloc(), &problem, steps)?);
+    }
+    Ok(())
+}
+
+// The first level makes a tweak before each of its first two branches, the second level one where an option
+// is left for it: docs/SEARCH.md.
+#[test]
+fn a_level_undoes_its_tweaks_at_once(rt: HostRuntime) -> Result<(), Fail> {
+    let problem = problem(rt.alloc(), Kind::Bounds, ALONE)?;
+    let rows: [[u64; 3]; 6] = [
+        [0, 0, 0],
+        [5, 3, 2],
+        [5, 3, 2],
+        [8, 5, 2],
+        [9, 6, 2],
+        [9, 6, 2],
+    ];
+    for (steps, [made, undone, at_once]) in rows.iter().enumerate() {
+        let calls = calls_of_steps(rt.alloc(), &problem, steps)?;
+        assert!(rt; calls.made == *made && calls.undone == *undone && calls.at_once == *at_once);
+    }
     Ok(())
 }

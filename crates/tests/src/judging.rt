@@ -1,6 +1,6 @@
 //! Verdicts.
 use crate::told::judge_tells;
-use fixtures::{COLOURED, COLOURED_LISTING, THREE_ALIKE};
+use fixtures::{COLOURED, COLOURED_LISTING, NULL, NULL_LISTING, THREE_ALIKE};
 use std::test::Fail;
 use xc_input::Kind;
 
@@ -8,7 +8,6 @@ use xc_input::Kind;
 fn verdicts(rt: HostRuntime) -> Result<(), Fail> {
     let two: &[u8] = b"2|A\nA\nA\n";
     let turned: &[u8] = b"2|A 2|B\nA B\nB A\n";
-    let null: &[u8] = b"0:1|null 0:2|A\nnull A\nA\n";
     let rows: [(Kind, &[u8], &[u8], u8, &[u8]); 14] = [
         (Kind::Colours, COLOURED, COLOURED_LISTING, 0, b"1: cover\n"),
         (
@@ -79,8 +78,8 @@ fn verdicts(rt: HostRuntime) -> Result<(), Fail> {
         ),
         (
             Kind::Bounds,
-            null,
-            b"1:\n null A (1 of 2)\n A (1 of 2)\n2:\n null A (1 of 2)\n null A (2 of 2)\n3:\n null null (2 of 2)\n A (1 of 2)\n null A (1 of 1)\n4:\n null null (2 of 2)\n null A (2 of 2)\n",
+            NULL,
+            NULL_LISTING,
             5,
             b"1: cover\n2: not a cover\n3: cover\n4: cover\n",
         ),

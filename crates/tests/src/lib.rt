@@ -25,6 +25,8 @@ mod failing_writes;
 mod lines;
 #[cfg(test)]
 mod listing;
+#[cfg(test)]
+mod written;
 
 // Whole runs.
 #[cfg(test)]
@@ -33,6 +35,8 @@ mod closed_streams;
 mod failed_runs;
 #[cfg(test)]
 mod judging;
+#[cfg(test)]
+mod large;
 #[cfg(test)]
 mod refused_listings;
 #[cfg(test)]

@@ -50,6 +50,20 @@ fn faults_of_listings(rt: HostRuntime) -> Result<(), Fail> {
     Ok(())
 }
 
+// Neither begins with a header of at most 20 digits.
+#[test]
+fn first_lines_that_are_no_header(rt: HostRuntime) -> Result<(), Fail> {
+    let bad: &[u8] = b"Listing line 1: bad line.\n";
+    let problems: [&[u8]; 2] = [b"2|A\nA\nA\n", b"2|A\nA\nA\nA\n"];
+    let listings: [&[u8]; 3] = [b"x\n", b" A (1 of 1)\n", b"000000000000000000001:\n"];
+    for problem in &problems {
+        for listing in &listings {
+            assert!(rt; judge_tells(rt.alloc(), Kind::Bounds, problem, listing, 2, b"", bad)?);
+        }
+    }
+    Ok(())
+}
+
 #[test]
 fn faults_of_problems_come_first(rt: HostRuntime) -> Result<(), Fail> {
     let fault: &[u8] = b"Line 2: unknown item.\n";

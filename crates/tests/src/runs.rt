@@ -1,8 +1,8 @@
 //! Whole runs of a solver, whose listings the judge finds right.
-use crate::told::solve_tells;
+use crate::told::{solve_gives, solve_tells};
 use fixtures::{
-    ALONE, ALONE_LISTING, COLOURED, COLOURED_LISTING, SEVEN, SEVEN_LISTING, THREE_ALIKE,
-    THREE_LISTING, TWICE, TWICE_LISTING,
+    ALONE, ALONE_LISTING, COLOURED, COLOURED_LISTING, NULL, NULL_LISTING, SEVEN, SEVEN_LISTING,
+    THREE_ALIKE, THREE_LISTING, TWICE, TWICE_LISTING,
 };
 use std::test::Fail;
 use xc_input::Kind;
@@ -186,5 +186,24 @@ fn bounds(rt: HostRuntime) -> Result<(), Fail> {
     for (kind, text, listing, messages) in &rows {
         assert!(rt; solve_tells(rt.alloc(), *kind, &[b"m1"], text, 0, listing, messages)?);
     }
+    Ok(())
+}
+
+// A line of an option that begins with this name may stand for no option too: the judge finds that one of
+// these isn't a cover.
+#[test]
+fn an_item_named_null(rt: HostRuntime) -> Result<(), Fail> {
+    let end = b"Altogether 4 solutions.\n";
+    assert!(rt;
+        solve_gives(
+            rt.alloc(),
+            Kind::Bounds,
+            &[b"m1"],
+            NULL,
+            0,
+            NULL_LISTING,
+            end
+        )?
+    );
     Ok(())
 }

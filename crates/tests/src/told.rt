@@ -34,9 +34,8 @@ pub fn solved(
     Ok(Told { status, out, err })
 }
 
-/// Whether a program tells this, by steps of one byte as by large ones. The judge finds nothing but
-/// covers in what it lists.
-pub fn solve_tells(
+/// Whether `solve` tells this, by steps of one byte as by large ones.
+pub fn solve_gives(
     alloc: Global,
     kind: Kind,
     words: &[&[u8]],
@@ -51,7 +50,21 @@ pub fn solve_tells(
             return Ok(false);
         }
     }
-    Ok(status != 0 || status_of(alloc, kind, text, out)? == 0)
+    Ok(true)
+}
+
+/// Whether `solve` tells this, and the judge finds nothing but covers in what it lists.
+pub fn solve_tells(
+    alloc: Global,
+    kind: Kind,
+    words: &[&[u8]],
+    text: &[u8],
+    status: u8,
+    out: &[u8],
+    err: &[u8],
+) -> Result<bool, Fail> {
+    let given = solve_gives(alloc, kind, words, text, status, out, err)?;
+    Ok(given && (status != 0 || status_of(alloc, kind, text, out)? == 0))
 }
 
 /// The word that stands for a kind.
