@@ -47,7 +47,7 @@ fn one_cover_of_seven_items(rt: HostRuntime) -> Result<(), Fail> {
 /// Whether a search passes over two solutions, shows the second, and then over the one that is left.
 fn passes_over_three(search: &mut Search<Lists>) -> bool {
     search.pass(2) == 2
-        && search.choices() == [choice(1, 2, 2, 3)]
+        && search.choices() == [choice(1, 2, 2, 3)].as_slice()
         && search.pass(5) == 1
         && search.choices().is_empty()
 }
