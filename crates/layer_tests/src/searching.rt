@@ -1,5 +1,5 @@
 //! A search over live lists.
-use fixtures::{SEVEN, problem};
+use fixtures::{SEVEN, THREE_ALIKE, problem};
 use std::alloc::Global;
 use std::test::Fail;
 use xc_dance::{Dance, Lists};
@@ -41,5 +41,29 @@ fn solves_seven_items(alloc: Global, problem: &Problem) -> Result<bool, Fail> {
 fn one_cover_of_seven_items(rt: HostRuntime) -> Result<(), Fail> {
     let problem = problem(rt.alloc(), Kind::Plain, SEVEN)?;
     assert!(rt; solves_seven_items(rt.alloc(), &problem)?);
+    Ok(())
+}
+
+/// Whether a search passes over two solutions, shows the second, and then over the one that is left.
+fn passes_over_three(search: &mut Search<Lists>) -> bool {
+    search.pass(2) == 2
+        && search.choices() == [choice(1, 2, 2, 3)].as_slice()
+        && search.pass(5) == 1
+        && search.choices().is_empty()
+}
+
+fn passes_over_all(alloc: Global, problem: &Problem) -> Result<bool, Fail> {
+    let lists = Lists::new(alloc, problem, most_moves(problem))?;
+    let Ok(mut search) = Search::new(alloc, lists, problem) else {
+        return Err(Fail::new("no memory"));
+    };
+    let passed = passes_over_three(&mut search);
+    Ok(search.close().moves().is_empty() && passed)
+}
+
+#[test]
+fn three_passed_over(rt: HostRuntime) -> Result<(), Fail> {
+    let problem = problem(rt.alloc(), Kind::Plain, THREE_ALIKE)?;
+    assert!(rt; passes_over_all(rt.alloc(), &problem)?);
     Ok(())
 }

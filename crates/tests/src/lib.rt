@@ -1,10 +1,8 @@
-//! Tests of listings, of the judge and of whole runs. They use public calls alone, so they stand on top,
-//! where no library is proved a second time for them.
+//! Tests of whole runs, of the judge and of the system's streams. They use public calls alone, so they
+//! stand on top, where no library is proved a second time for them.
 #![tactic(auto)]
 
 // Helpers.
-#[cfg(test)]
-mod ends;
 #[cfg(test)]
 mod told;
 #[cfg(test)]
@@ -14,23 +12,7 @@ mod words;
 #[cfg(test)]
 mod seeds;
 
-// Searches.
-#[cfg(test)]
-mod counting_keeper;
-
-// Listings.
-#[cfg(test)]
-mod failing_writes;
-#[cfg(test)]
-mod lines;
-#[cfg(test)]
-mod listing;
-#[cfg(test)]
-mod written;
-
 // Whole runs.
-#[cfg(test)]
-mod closed_streams;
 #[cfg(test)]
 mod failed_runs;
 #[cfg(test)]
@@ -43,6 +25,10 @@ mod refused_listings;
 mod refused_runs;
 #[cfg(test)]
 mod runs;
+
+// Streams.
+#[cfg(test)]
+mod closed_streams;
 #[cfg(test)]
 mod streams;
 #[cfg(test)]

@@ -1,13 +1,6 @@
 //! Words of a command line.
 use std::alloc::Global;
 use std::test::Fail;
-use xc_list::Words;
-
-/// All solutions are printed.
-pub const ALL: Words = Words {
-    spacing: 1,
-    limit: u64::MAX,
-};
 
 /// Words as a program gathers them.
 pub fn gathered(alloc: Global, words: &[&[u8]]) -> Result<Vec<Vec<u8>>, Fail> {

@@ -28,7 +28,9 @@ listing_begins a status old new (inr (inr (inl h))) = inl (same_keeps old.out ne
 listing_begins a status old new (inr (inr (inr (inl h)))) = inr (h.1.verdicts, h.1.right, (h.1.many, h.1.failed.taken))
 listing_begins a status old new (inr (inr (inr (inr h)))) = inl (same_keeps old.out new.out h.1.unwritten)
 
-of_problem : {K : Type 0} (kind : Kind) (says told : Named → List ℕ → Type 0) (old new : SourceState) (g : GaveProblem kind says old new) → K ⊎ told g.named g.ignored → K ⊎ GaveProblem kind told old new
+of_problem : {K : Type 0} (kind : Kind) (says told : Named → List ℕ
+    → Type 0) (old new : SourceState) (g : GaveProblem kind says old new) → K ⊎ told g.named g.ignored
+    → K ⊎ GaveProblem kind told old new
 of_problem kind says told old new g (inl k) = inl k
 of_problem kind says told old new g (inr t) = inr (record { named = g.named; ignored = g.ignored; gave = g.gave; said = t })
 

@@ -24,7 +24,8 @@ take_whole : (xs : List ℕ) → take (length xs) xs ≡ xs
 take_whole xs = grind (arith, common_steps)
 
 -- a sink failed behind a text that it took
-pub failed_behind : {old mid : SinkState} {text : List ℕ} (new : SinkState) → Took old mid text → Rose mid.failures new.failures → IsTrue new.failed → Keeps mid.taken new.taken
+pub failed_behind : {old mid : SinkState} {text : List ℕ} (new : SinkState) → Took old mid text
+    → Rose mid.failures new.failures → IsTrue new.failed → Keeps mid.taken new.taken
     → FailedBehind old new text
 failed_behind {old = old} {mid = mid} {text = text} new took rose last kept = record {
   failure = subst (λ n. Rose n new.failures) took.no_failure rose;
@@ -33,14 +34,13 @@ failed_behind {old = old} {mid = mid} {text = text} new took rose last kept = re
 }
 
 -- the whole of a text is a beginning of it
-pub failed_behind_all : {old new : SinkState} {text : List ℕ} → FailedBehind old new text → FailedBehind old new (take (length text) text)
+pub failed_behind_all : {old new : SinkState} {text : List ℕ} → FailedBehind old new text
+    → FailedBehind old new (take (length text) text)
 failed_behind_all {old = old} {new = new} {text = text} f = subst (FailedBehind old new) (sym (take_whole text)) f
 
-pub broke_behind : {old new : SinkState} {text : List ℕ} → BrokeOff old new text → (many : ℕ) × FailedBehind old new (take many text)
-broke_behind b = (b.many, record { failure = b.failure; last = b.last; taken = b.begun })
-
 -- it took the text, and the next call neither took nor failed
-pub took_all : {old mid : SinkState} {text : List ℕ} (new : SinkState) → Took old mid text → new.failures ≡ mid.failures → IsTrue new.settled → Keeps mid.taken new.taken
+pub took_all : {old mid : SinkState} {text : List ℕ} (new : SinkState) → Took old mid text
+    → new.failures ≡ mid.failures → IsTrue new.settled → Keeps mid.taken new.taken
     → TookAll old new text
 took_all {old = old} {mid = mid} {text = text} new took same settled kept = record {
   took = record { no_failure = same ∙ took.no_failure; whole = appends_kept old.taken mid.taken new.taken text took.whole kept };
@@ -50,7 +50,8 @@ took_all {old = old} {mid = mid} {text = text} new took same settled kept = reco
 took_nothing : (s : SinkState) → Took s s []
 took_nothing s = record { no_failure = refl; whole = Appends-nil s.taken }
 
-pub behind_nothing : {old new : SinkState} {text : List ℕ} (says : SinkState → SinkState → List ℕ → Type 0) → says old new text → Behind [] says old new text
+pub behind_nothing : {old new : SinkState} {text : List ℕ} (says : SinkState → SinkState → List ℕ → Type 0)
+    → says old new text → Behind [] says old new text
 behind_nothing {old = old} says h = (old, took_nothing old, h)
 
 -- the flush and the last line, behind the whole output
@@ -65,7 +66,8 @@ finished new is took kept (inr (inl h)) = inr (inl (h.0, flush, (failed_behind n
 finished new is took kept (inr (inr h)) = inr (inl (h.0, last_line, (took_all new took h.1 h.2 kept, behind_nothing BrokeOff (rw is at h.3))))
 
 -- a text behind the warnings
-behind_more : (says : SinkState → SinkState → List ℕ → Type 0) (old mid new : SinkState) (first text : List ℕ) → Took old mid first → Behind [] says mid new text → Behind first says old new text
+behind_more : (says : SinkState → SinkState → List ℕ → Type 0) (old mid new : SinkState) (first text : List ℕ)
+    → Took old mid first → Behind [] says mid new text → Behind first says old new text
 behind_more says old mid new first text took h = (h.0, subst (Took old h.0) (append-nil first) (then_took took h.1), h.2)
 
 failed_more : (place : FailedAt) (a : Named) (ignored : List ℕ) (w : Words) (out_old out_new old mid new : SinkState) → Took old mid (flat_map warning_text ignored)
@@ -97,13 +99,15 @@ kept_begins x y text k = (0, kept_appends x.taken y.taken k)
 pub whole_begins : (x y : SinkState) (text : List ℕ) → Appends x.taken y.taken text → Begins x y text
 whole_begins x y text h = (length text, subst (Appends x.taken y.taken) (sym (take_whole text)) h)
 
-failed_begins : (place : FailedAt) (a : Named) (ignored : List ℕ) (w : Words) (x y old new : SinkState) → IsFailed place a ignored w x y old new → Begins x y (output a w.spacing w.limit)
+failed_begins : (place : FailedAt) (a : Named) (ignored : List ℕ) (w : Words) (x y old new : SinkState)
+    → IsFailed place a ignored w x y old new → Begins x y (output a w.spacing w.limit)
 failed_begins warning a ignored w x y old new h = kept_begins x y (output a w.spacing w.limit) h.0.none
 failed_begins (solution n) a ignored w x y old new h = stopped_begins a w.spacing w.limit n x y h.0
 failed_begins flush a ignored w x y old new h = whole_begins x y (output a w.spacing w.limit) h.0.taken
 failed_begins last_line a ignored w x y old new h = whole_begins x y (output a w.spacing w.limit) h.0.took.whole
 
-search_begins : (a : Named) (ignored : List ℕ) (w : Words) (status : ℕ) (x y old new : SinkState) → DidSearch w status x y old new a ignored → Begins x y (output a w.spacing w.limit)
+search_begins : (a : Named) (ignored : List ℕ) (w : Words) (status : ℕ) (x y old new : SinkState)
+    → DidSearch w status x y old new a ignored → Begins x y (output a w.spacing w.limit)
 search_begins a ignored w status x y old new (inl h) = whole_begins x y (output a w.spacing w.limit) h.1.output.took.whole
 search_begins a ignored w status x y old new (inr (inl h)) = failed_begins h.1 a ignored w x y old new h.2
 search_begins a ignored w status x y old new (inr (inr h)) = kept_begins x y (output a w.spacing w.limit) h.1.unwritten.none

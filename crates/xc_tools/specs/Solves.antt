@@ -31,7 +31,8 @@ abbrev pub seen : {T Known : Type 0} → (T → Known) → T → Seen T Known
 seen state x = record { value = x; state = state x }
 
 -- the three of them, by what is known of each
-abbrev pub streams : {S O E : Type 0} → (S → SourceState) → (O → SinkState) → (E → SinkState) → S → O → E → Streams S O E
+abbrev pub streams : {S O E : Type 0} → (S → SourceState) → (O → SinkState) → (E → SinkState)
+    → S → O → E → Streams S O E
 streams input out err s o e = record { input = seen input s; out = seen out o; err = seen err e }
 
 -- A sink took the whole text, met no failure, and holds nothing back.

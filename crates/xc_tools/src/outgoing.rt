@@ -276,6 +276,7 @@ impl<W: SystemWriter + Drop> Sink for Outgoing<W> {
         Ok(bytes.len())
     }
 
+    #[inline(never)]
     fn flush(&mut self) -> Result<(), WriteFailed>
         ensures failures { self.new.failures ≡ counted (is_err result) self.old.failures }
         ensures failed { self.new.failed ≡ is_err result }

@@ -63,18 +63,37 @@ pub(crate) fn get(cells: &[Cell], place: u32) -> u32
     requires { place < length (values cells.now) }
     ensures { result ≡ slice_index (values cells.now) place }
 {
-    cells[place as usize].value
+    get_at(cells, place as usize)
+}
+
+/// The same by an index: a walk over places that are indices widens none of them.
+#[inline(always)]
+pub(crate) fn get_at(cells: &[Cell], place: usize) -> u32
+    requires { place < length (values cells.now) }
+    ensures { result ≡ slice_index (values cells.now) place }
+{
+    cells[place].value
 }
 
 /// Writes one cell.
 #[inline(always)]
-#[tactic(auto, using(crate::proofs::LinkedTables::LinkColumns::one_written))]
 pub(crate) fn set(cells: &mut [Cell], place: u32, value: u32, writes: &mut Writes)
     requires { place < length (values cells.old) }
     ensures value { values cells.new ≡ slice_set (values cells.old) place value }
     ensures counted { writes.new.count ≡ writes.old.count + 1 }
 {
-    cells[place as usize].write(value, writes);
+    set_at(cells, place as usize, value, writes);
+}
+
+/// The same by an index.
+#[inline(always)]
+#[tactic(auto, using(crate::proofs::LinkedTables::LinkColumns::one_written))]
+pub(crate) fn set_at(cells: &mut [Cell], place: usize, value: u32, writes: &mut Writes)
+    requires { place < length (values cells.old) }
+    ensures value { values cells.new ≡ slice_set (values cells.old) place value }
+    ensures counted { writes.new.count ≡ writes.old.count + 1 }
+{
+    cells[place].write(value, writes);
 }
 
 /// Where the link at a place leads upwards.
@@ -83,7 +102,16 @@ pub(crate) fn up(links: &[Link], place: u32) -> u32
     requires { place < length (ups links.now) }
     ensures { result ≡ slice_index (ups links.now) place }
 {
-    links[place as usize].up.value
+    up_at(links, place as usize)
+}
+
+/// The same by an index.
+#[inline(always)]
+pub(crate) fn up_at(links: &[Link], place: usize) -> u32
+    requires { place < length (ups links.now) }
+    ensures { result ≡ slice_index (ups links.now) place }
+{
+    links[place].up.value
 }
 
 /// Where the link at a place leads downwards.
@@ -92,31 +120,62 @@ pub(crate) fn down(links: &[Link], place: u32) -> u32
     requires { place < length (downs links.now) }
     ensures { result ≡ slice_index (downs links.now) place }
 {
-    links[place as usize].down.value
+    down_at(links, place as usize)
+}
+
+/// The same by an index.
+#[inline(always)]
+pub(crate) fn down_at(links: &[Link], place: usize) -> u32
+    requires { place < length (downs links.now) }
+    ensures { result ≡ slice_index (downs links.now) place }
+{
+    links[place].down.value
 }
 
 /// Writes where the link at a place leads upwards.
 #[inline(always)]
-#[tactic(auto, using(crate::proofs::LinkedTables::LinkColumns::one_written))]
 pub(crate) fn set_up(links: &mut [Link], place: u32, value: u32, writes: &mut Writes)
     requires { place < length (ups links.old) }
     ensures up { ups links.new ≡ slice_set (ups links.old) place value }
     ensures down { downs links.new ≡ downs links.old }
     ensures counted { writes.new.count ≡ writes.old.count + 1 }
 {
-    links[place as usize].up.write(value, writes);
+    set_up_at(links, place as usize, value, writes);
+}
+
+/// The same by an index.
+#[inline(always)]
+#[tactic(auto, using(crate::proofs::LinkedTables::LinkColumns::one_written))]
+pub(crate) fn set_up_at(links: &mut [Link], place: usize, value: u32, writes: &mut Writes)
+    requires { place < length (ups links.old) }
+    ensures up { ups links.new ≡ slice_set (ups links.old) place value }
+    ensures down { downs links.new ≡ downs links.old }
+    ensures counted { writes.new.count ≡ writes.old.count + 1 }
+{
+    links[place].up.write(value, writes);
 }
 
 /// Writes where the link at a place leads downwards.
 #[inline(always)]
-#[tactic(auto, using(crate::proofs::LinkedTables::LinkColumns::one_written))]
 pub(crate) fn set_down(links: &mut [Link], place: u32, value: u32, writes: &mut Writes)
     requires { place < length (downs links.old) }
     ensures down { downs links.new ≡ slice_set (downs links.old) place value }
     ensures up { ups links.new ≡ ups links.old }
     ensures counted { writes.new.count ≡ writes.old.count + 1 }
 {
-    links[place as usize].down.write(value, writes);
+    set_down_at(links, place as usize, value, writes);
+}
+
+/// The same by an index.
+#[inline(always)]
+#[tactic(auto, using(crate::proofs::LinkedTables::LinkColumns::one_written))]
+pub(crate) fn set_down_at(links: &mut [Link], place: usize, value: u32, writes: &mut Writes)
+    requires { place < length (downs links.old) }
+    ensures down { downs links.new ≡ slice_set (downs links.old) place value }
+    ensures up { ups links.new ≡ ups links.old }
+    ensures counted { writes.new.count ≡ writes.old.count + 1 }
+{
+    links[place].down.write(value, writes);
 }
 
 /// What stands at a place, if there is one.

@@ -251,7 +251,7 @@ impl Nodes {
         let x = self.dlink(i);
         let Nodes { top, links, color } = self;
         let count = hide_unless(top, links, color, spans, covered, x, marks, writes);
-        unlink(top, links, color, x, writes);
+        unlink(top, links, color, x as usize, writes);
         count + 3
     }
 
@@ -272,7 +272,7 @@ impl Nodes {
         ensures counted { writes.new.count ≡ writes.old.count + result }
     {
         let Nodes { top, links, color } = self;
-        relink(top, links, color, x, writes);
+        relink(top, links, color, x as usize, writes);
         let count = unhide_unless(top, links, color, spans, covered, x, marks, writes);
         count + 3
     }

@@ -6,7 +6,7 @@ ghost use Rattle.xc_dance.specs.Links.Columns.{values, columns};
 ghost use Rattle.xc_dance.specs.Links.Steps.{HasSize, NamesPlaces, unlinked, relinked, hidden, hide_cost, hide_costs, CanHide, CanHideAll, places, unhidden, CanUnhide, CanUnhideAll, unhide_costs, others_of, hidden_node, unhidden_node, CanHideNode, CanUnhideNode};
 ghost use Rattle.xc_dance.specs.Links.Unmarked.{AreUnmarked, IsUnmarked};
 
-use crate::links::cells::{Cell, Link, down, get, set, set_down, set_up, up};
+use crate::links::cells::{Cell, Link, down_at, get_at, set_at, set_down_at, set_up_at, up_at};
 use crate::links::nodes::{MARK, SPACER};
 use crate::links::spans::Spans;
 use crate::links::writes::Writes;
@@ -17,7 +17,7 @@ pub(crate) fn unlink(
     top: &mut [Cell],
     links: &mut [Link],
     color: &[Cell],
-    q: u32,
+    q: usize,
     writes: &mut Writes,
 )
     requires size { HasSize (columns top.old links.old color.now) (length (columns top.old links.old color.now).top) }
@@ -26,13 +26,13 @@ pub(crate) fn unlink(
     ensures done { columns top.new links.new color.now ≡ unlinked (columns top.old links.old color.now) q }
     ensures counted { writes.new.count ≡ writes.old.count + 3 }
 {
-    let u = up(links, q);
-    let d = down(links, q);
-    let i = get(top, q);
-    set_down(links, u, d, writes);
-    set_up(links, d, u, writes);
-    let count = get(top, i);
-    set(top, i, count - 1, writes);
+    let u = up_at(links, q);
+    let d = down_at(links, q);
+    let i = get_at(top, q) as usize;
+    set_down_at(links, u as usize, d, writes);
+    set_up_at(links, d as usize, u, writes);
+    let count = get_at(top, i);
+    set_at(top, i, count - 1, writes);
 }
 
 /// Puts node q back into its list.
@@ -41,22 +41,23 @@ pub(crate) fn relink(
     top: &mut [Cell],
     links: &mut [Link],
     color: &[Cell],
-    q: u32,
+    q: usize,
     writes: &mut Writes,
 )
     requires size { HasSize (columns top.old links.old color.now) (length (columns top.old links.old color.now).top) }
     requires places { NamesPlaces (columns top.old links.old color.now) q }
     requires few { slice_index (columns top.old links.old color.now).top (slice_index (columns top.old links.old color.now).top q) < 2 ^ 31 }
+    requires near { q < 2 ^ 32 }
     ensures done { columns top.new links.new color.now ≡ relinked (columns top.old links.old color.now) q }
     ensures counted { writes.new.count ≡ writes.old.count + 3 }
 {
-    let u = up(links, q);
-    let d = down(links, q);
-    let i = get(top, q);
-    set_down(links, u, q, writes);
-    set_up(links, d, q, writes);
-    let count = get(top, i);
-    set(top, i, count + 1, writes);
+    let u = up_at(links, q) as usize;
+    let d = down_at(links, q) as usize;
+    let i = get_at(top, q) as usize;
+    set_down_at(links, u, q as u32, writes);
+    set_up_at(links, d, q as u32, writes);
+    let count = get_at(top, i);
+    set_at(top, i, count + 1, writes);
 }
 
 /// A step of hide. `marks` tells whether a node of an option may be marked. It is a constant where this is inlined, so that two
@@ -66,7 +67,7 @@ fn hide_one(
     top: &mut [Cell],
     links: &mut [Link],
     color: &[Cell],
-    q: u32,
+    q: usize,
     marks: bool,
     writes: &mut Writes,
 ) -> u64
@@ -76,7 +77,7 @@ fn hide_one(
     ensures cost { result ≡ hide_cost (columns top.old links.old color.now) q }
     ensures counted { writes.new.count ≡ writes.old.count + result }
 {
-    if marks && get(color, q) == MARK {
+    if marks && get_at(color, q) == MARK {
         0
     } else {
         unlink(top, links, color, q, writes);
@@ -91,20 +92,21 @@ fn hide_range(
     links: &mut [Link],
     color: &[Cell],
     a: usize,
-    b: u32,
+    b: usize,
     marks: bool,
     writes: &mut Writes,
 ) -> u64
     requires can { CanHideAll (columns top.old links.old color.now) (places a b) }
     requires unmarked { marks ≡ false → AreUnmarked (values color.now) a b }
+    requires near { b ≤ 2 ^ 32 }
     ensures done { columns top.new links.new color.now ≡ fold hidden (columns top.old links.old color.now) (places a b) }
     ensures cost { result ≡ hide_costs (columns top.old links.old color.now) (places a b) }
     ensures counted { writes.new.count ≡ writes.old.count + result }
     ensures few { result ≤ 3 * (b - a) }
 {
     let mut count = 0u64;
-    for q in a..b as usize {
-        count += hide_one(top, links, color, q as u32, marks, writes);
+    for q in a..b {
+        count += hide_one(top, links, color, q, marks, writes);
     }
     count
 }
@@ -130,13 +132,13 @@ pub(crate) fn hide(
     ensures counted { writes.new.count ≡ writes.old.count + result }
 {
     let mut above = 0u64;
-    let mut q = p + 1;
-    while get(top, q) < SPACER {
+    let mut q = p as usize + 1;
+    while get_at(top, q) < SPACER {
         above += hide_one(top, links, color, q, marks, writes);
         q += 1;
     }
-    let first = up(links, q);
-    let below = hide_range(top, links, color, first as usize, p, marks, writes);
+    let first = up_at(links, q) as usize;
+    let below = hide_range(top, links, color, first, p as usize, marks, writes);
     above + below
 }
 
@@ -146,17 +148,18 @@ fn unhide_one(
     top: &mut [Cell],
     links: &mut [Link],
     color: &[Cell],
-    q: u32,
+    q: usize,
     marks: bool,
     writes: &mut Writes,
 ) -> u64
     requires can { CanUnhide (columns top.old links.old color.now) q }
     requires unmarked { marks ≡ false → slice_index (values color.now) q ≢ 4294967295 }
+    requires near { q < 2 ^ 32 }
     ensures done { columns top.new links.new color.now ≡ unhidden (columns top.old links.old color.now) q }
     ensures cost { result ≡ hide_cost (columns top.old links.old color.now) q }
     ensures counted { writes.new.count ≡ writes.old.count + result }
 {
-    if marks && get(color, q) == MARK {
+    if marks && get_at(color, q) == MARK {
         0
     } else {
         relink(top, links, color, q, writes);
@@ -171,20 +174,21 @@ fn unhide_range(
     links: &mut [Link],
     color: &[Cell],
     a: usize,
-    b: u32,
+    b: usize,
     marks: bool,
     writes: &mut Writes,
 ) -> u64
     requires can { CanUnhideAll (columns top.old links.old color.now) (reverse (places a b)) }
     requires unmarked { marks ≡ false → AreUnmarked (values color.now) a b }
+    requires near { b ≤ 2 ^ 32 }
     ensures done { columns top.new links.new color.now ≡ fold unhidden (columns top.old links.old color.now) (reverse (places a b)) }
     ensures cost { result ≡ unhide_costs (columns top.old links.old color.now) (reverse (places a b)) }
     ensures counted { writes.new.count ≡ writes.old.count + result }
     ensures few { result ≤ 3 * (b - a) }
 {
     let mut count = 0u64;
-    for q in (a..b as usize).rev() {
-        count += unhide_one(top, links, color, q as u32, marks, writes);
+    for q in (a..b).rev() {
+        count += unhide_one(top, links, color, q, marks, writes);
     }
     count
 }
@@ -209,12 +213,12 @@ pub(crate) fn unhide(
     ensures counted { writes.new.count ≡ writes.old.count + result }
 {
     let mut below = 0u64;
-    let mut q = p - 1;
-    while get(top, q) < SPACER {
+    let mut q = p as usize - 1;
+    while get_at(top, q) < SPACER {
         below += unhide_one(top, links, color, q, marks, writes);
         q -= 1;
     }
-    let end = down(links, q) + 1;
+    let end = down_at(links, q) as usize + 1;
     let above = unhide_range(top, links, color, p as usize + 1, end, marks, writes);
     below + above
 }

@@ -1,7 +1,6 @@
 use Rattle.std.proofs.Common.{arith, ◌+◌, ◌-◌, ◌<◌, ◌≤◌, length, sym, ap, ◌∙◌, drop, subst}
 use Rattle.std.proofs.lemmas.List.Elements.{All-same}
 use Rattle.xc_search.specs.Outlook.{Outlook, shown_after}
-use Rattle.xc_search.specs.Cover.{members}
 use Rattle.xc_list.specs.Texts.{Took}
 use Rattle.xc_list.specs.Known.{IsKnownChoice}
 use Rattle.xc_list.proofs.Outputs.{known_next, output_all}

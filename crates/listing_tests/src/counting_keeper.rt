@@ -2,8 +2,7 @@
 ghost use Rattle.std.specs.Prelude.{◌≡◌, ◌<◌, ◌↔◌, ◌∷◌, length, drop, IsOk, OnOk, OnErr};
 ghost use Rattle.xc_dance.specs.Moves.{IsLegal, AreTweaks};
 
-use crate::ends::are_as_built;
-use crate::words::ALL;
+use crate::ends::{ALL, are_as_built};
 use fixtures::{ALONE, COLOURED, SEVEN, THREE_ALIKE, TWICE, problem};
 use std::alloc::Global;
 use std::test::Fail;

@@ -1,7 +1,6 @@
 //! Each write of a listing failing in turn.
-use crate::ends::{end_over_links, end_over_lists};
+use crate::ends::{ALL, end_over_links, end_over_lists};
 use crate::listing::{Row, gives};
-use crate::words::ALL;
 use fixtures::{SEVEN, SEVEN_LISTING, THREE_ALIKE, THREE_LISTING, problem};
 use std::alloc::Global;
 use std::test::Fail;

@@ -1,6 +1,5 @@
 //! Worked problems: runs over live lists and over linked tables list the same and end alike.
-use crate::ends::{end_over_links, end_over_lists};
-use crate::words::ALL;
+use crate::ends::{ALL, end_over_links, end_over_lists};
 use fixtures::{
     ALONE, ALONE_LISTING, COLOURED, COLOURED_LISTING, SEVEN, SEVEN_LISTING, THREE_ALIKE,
     THREE_LISTING, TWICE, TWICE_LISTING, problem,

@@ -6,6 +6,12 @@ use xc_input::Problem;
 use xc_list::{End, Tray, Words, run_over};
 use xc_search::most_moves;
 
+/// All solutions are printed.
+pub const ALL: Words = Words {
+    spacing: 1,
+    limit: u64::MAX,
+};
+
 pub fn end_over_lists(
     alloc: Global,
     problem: &Problem,

@@ -1,0 +1,19 @@
+//! Tests of listings and of runs over a keeper. They use public calls alone, so they stand on top, where
+//! no library is proved a second time for them.
+#![tactic(auto)]
+
+// Helpers.
+#[cfg(test)]
+mod ends;
+
+// Listings.
+#[cfg(test)]
+mod counting_keeper;
+#[cfg(test)]
+mod failing_writes;
+#[cfg(test)]
+mod lines;
+#[cfg(test)]
+mod listing;
+#[cfg(test)]
+mod written;
