@@ -5,7 +5,8 @@ use std::alloc::AllocError;
 use std::io::IsTerminal;
 use std::process::ExitCode;
 use xc_tools::{
-    Direct, Incoming, Outgoing, asked_kind, closed_stream, judge, named_file, out_of_memory, random_seed, words,
+    Direct, Incoming, Outgoing, asked_kind, closed_stream, judge, named_file, out_of_memory,
+    random_seed, words,
 };
 
 fn main(rt: HostRuntime) -> ExitCode {
