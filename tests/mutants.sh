@@ -16,5 +16,5 @@ for name in xc_input xc_dance xc_search xc_list xc_tools; do
 done
 for name; do cp -R "$top/mutants/$name" "$copy/crates/$name/must-fail"; done
 cd "$copy" && git init -q .
-rt must-fail "$@" >told 2>&1 </dev/null || true
+RT_JOBS=${RT_JOBS:-$(nproc)} rt must-fail "$@" >told 2>&1 </dev/null || true
 sh "$top/tests/clauses.sh" told
