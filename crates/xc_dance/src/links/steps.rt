@@ -28,9 +28,9 @@ pub(crate) fn unlink(
 {
     let u = up_at(links, q);
     let d = down_at(links, q);
-    let i = get_at(top, q) as usize;
     set_down_at(links, u as usize, d, writes);
     set_up_at(links, d as usize, u, writes);
+    let i = get_at(top, q) as usize;
     let count = get_at(top, i);
     set_at(top, i, count - 1, writes);
 }
@@ -53,9 +53,9 @@ pub(crate) fn relink(
 {
     let u = up_at(links, q) as usize;
     let d = down_at(links, q) as usize;
-    let i = get_at(top, q) as usize;
     set_down_at(links, u, q as u32, writes);
     set_up_at(links, d, q as u32, writes);
+    let i = get_at(top, q) as usize;
     let count = get_at(top, i);
     set_at(top, i, count + 1, writes);
 }
