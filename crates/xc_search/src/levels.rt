@@ -1,12 +1,12 @@
 //! The levels of the search.
-ghost use Rattle.std.specs.Prelude.{◌≡◌, ◌<◌, ◌≤◌, List, [], ◌∷◌, true, false};
+ghost use Rattle.std.specs.Prelude.{◌≡◌, ◌+◌, ◌<◌, ◌≤◌, List, [], ◌∷◌, true, false};
 ghost use Rattle.xc_input.specs.Problem.{Puzzle};
 ghost use Rattle.xc_search.specs.inner.MostLevels.{most_levels};
-ghost use Rattle.xc_search.specs.inner.Levels.{AreStacked, IsStanding, IsBegun, begun_level};
+ghost use Rattle.xc_search.specs.inner.Levels.{AreStacked, IsStanding};
 ghost use Rattle.xc_search.specs.inner.Commits.{oldest};
 ghost use Rattle.xc_search.specs.inner.Ahead.{work_left, GoesOn, IsReached, IsDone};
 
-use crate::level::{Begun, Level};
+use crate::level::{Level, begin_level};
 use crate::position::Position;
 use crate::search::Step;
 use crate::stack::Stack;
@@ -15,9 +15,11 @@ use xc_dance::Dance;
 /// What stands below the levels.
 #[derive(Clone, Copy)]
 enum Below {
-    /// Another level, which was begun.
-    Level,
-    /// Nothing: no item is left, and the choices of the levels are a solution.
+    /// A branch of another level, which was begun.
+    Branch,
+    /// No branch: the item that was to be covered next has none.
+    Nothing,
+    /// No item is left, and the choices of the levels are a solution.
     Solution,
 }
 
@@ -30,22 +32,33 @@ enum Resumed {
     Nowhere,
 }
 
-/// Begins a level, since what is left wasn't searched yet.
+/// Begins a level with its first branch, since what is left wasn't searched yet. A level without
+/// branches ends at once, and isn't noted.
 #[inline(always)]
 fn deepen<D: Dance>(position: &mut Position<D>, stack: &mut Stack) -> Below
     requires standing { IsStanding position.old.puzzle position.old.trail stack.old.levels true }
     requires levels_fit { most_levels position.old.puzzle ≤ stack.old.room }
     ensures reached { result ≡ Below.Solution → IsReached position.old stack.old true position.new stack.new }
-    ensures deeper { result ≡ Below.Level → GoesOn position.old stack.old true position.new stack.new false }
-    ensures less { result ≡ Below.Level →
+    ensures deeper { result ≡ Below.Branch → GoesOn position.old stack.old true position.new stack.new true }
+    ensures less { result ≡ Below.Branch →
+        work_left position.new stack.new true < work_left position.old stack.old true }
+    ensures nothing { result ≡ Below.Nothing → GoesOn position.old stack.old true position.new stack.new false }
+    ensures fewer { result ≡ Below.Nothing →
         work_left position.new stack.new false < work_left position.old stack.old true }
 {
     let Some((item, count)) = position.choose() else {
         return Below::Solution;
     };
-    let level = position.descend(item, count);
+    let mut level = position.descend(item, count);
+    if count == 0 {
+        end_level(position, &level);
+        return Below::Nothing;
+    }
+    let branch = position.enter(&level, 1);
+    begin_level(&mut level, branch);
     stack.push(level);
-    Below::Level
+    position.commit_branch(item, branch.option);
+    Below::Branch
 }
 
 /// Ends a level, the newest one.
@@ -61,17 +74,13 @@ fn end_level<D: Dance>(position: &mut Position<D>, level: &Level)
     position.undo_to(level.mark);
 }
 
-/// Begins the next branch of a level, the newest one, which has one.
+/// The number behind `k`, which is below `many`.
 #[inline(always)]
-fn next_branch<D: Dance>(position: &mut Position<D>, level: &Level) -> Begun
-    requires stacked { (ls : List Level) × AreStacked position.old.puzzle position.old.trail (level.now ∷ ls) }
-    requires more { level.now.begun < level.now.count }
-    ensures still { position.new ≡ record position.old { trail = position.new.trail } }
-    ensures begun { IsBegun position.old.puzzle (oldest level.now.base position.old.trail)
-        level.now position.new.trail (begun_level result level.now) }
+fn behind(k: u32, many: u32) -> u32
+    requires { k < many }
+    ensures { result ≡ k + 1 }
 {
-    position.undo_to(level.base);
-    position.begin(level)
+    k + 1
 }
 
 /// Begins the next branch of the newest level that has one, and ends the levels above it.
@@ -85,8 +94,12 @@ fn resume<D: Dance>(position: &mut Position<D>, stack: &mut Stack) -> Resumed
 {
     while let Some(level) = stack.top() {
         if level.begun < level.count {
-            let branch = next_branch(position, level);
+            let item = level.item;
+            let next = behind(level.begun, level.count);
+            position.undo_to(level.base);
+            let branch = position.enter(level, next);
             stack.begin(branch);
+            position.commit_branch(item, branch.option);
             return Resumed::Branch;
         }
         end_level(position, level);
@@ -106,8 +119,10 @@ pub fn advance<D: Dance>(position: &mut Position<D>, stack: &mut Stack, down: bo
     let mut descends = down;
     loop {
         if descends {
-            if let Below::Solution = deepen(position, stack) {
-                return Step::Solution;
+            match deepen(position, stack) {
+                Below::Branch => continue,
+                Below::Nothing => {}
+                Below::Solution => return Step::Solution,
             }
         }
         if let Resumed::Nowhere = resume(position, stack) {

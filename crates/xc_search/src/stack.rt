@@ -1,9 +1,9 @@
 //! The stack of the search's levels, and the choices of a solution beside it.
 ghost use Rattle.std.specs.Prelude.{◌≡◌, ◌<◌, ◌≤◌, [], ◌∷◌, ◌++◌, length, drop, map, vec_capacity, IfSome, IfOk, IsNone};
-ghost use Rattle.xc_search.specs.inner.Levels.{chosen, choices_of, begun_level, newest_begun};
+ghost use Rattle.xc_search.specs.inner.Levels.{chosen, choices_of, newest_begun};
 
 use crate::choice::Choice;
-use crate::level::{Begun, Level};
+use crate::level::{Begun, Level, begin_level};
 use std::alloc::{AllocError, Global};
 use std::marker::Model;
 
@@ -94,16 +94,6 @@ impl Stack {
     {
         &self.choices
     }
-}
-
-#[inline(always)]
-fn begin_level(level: &mut Level, branch: Begun)
-    ensures { level.new ≡ begun_level branch level.old }
-{
-    level.base = branch.base;
-    level.option = branch.option;
-    level.begun = branch.begun;
-    level.tweaks = branch.tweaks;
 }
 
 /// Puts the levels' choices in the place of those that stand.

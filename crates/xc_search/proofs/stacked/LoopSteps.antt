@@ -9,8 +9,9 @@ use Rattle.xc_dance.specs.Dancing.{Dancing}
 use Rattle.xc_dance.specs.Moves.{AreTweaks}
 use Rattle.xc_search.specs.Residuals.{choice_after}
 use Rattle.xc_search.specs.inner.Commits.{after_spend, oldest}
-use Rattle.xc_search.specs.inner.Levels.{Levels, IsNode, IsLevel, AreStacked, to_give, IsStanding, first_level, IsBegun, begun_level, newest_begun}
+use Rattle.xc_search.specs.inner.Levels.{Levels, IsNode, IsLevel, AreStacked, to_give, IsStanding, MayBegin, first_level, IsBegun, IsEntered, after_branch, begun_level, newest_begun}
 use Rattle.xc_search.specs.inner.Ahead.{visits, ahead, GoesOn, IsReached}
+use Rattle.xc_search.proofs.moves.OldestMoves.{oldest_all}
 use Rattle.xc_search.proofs.stacked.NextLevel.{solution, descended, chosen_item, oldest-oldest}
 use Rattle.xc_search.proofs.stacked.BackAtLevel.{returned, finished, closing}
 use Rattle.xc_search.proofs.stacked.BegunComesFirst.{begun_coming}
@@ -34,7 +35,11 @@ node_at p t ls i n s e =
     let c = chosen_item p t i n (s.searchable refl).legal e in
     record { searchable = s.searchable refl; item = c.item; is_open = c.is_open }
 
-pub deepens : (d e : Dancing) (ls ks : Levels) (i n : ℕ) (l : Level) → IsStanding d.puzzle d.trail ls.levels true → choice_after d.puzzle d.trail ≡ Some (i, n) →
+-- the levels with one more
+abbrev pub with_level : Level → Levels → Levels
+with_level l ls = record ls { levels = l ∷ ls.levels }
+
+deepens : (d e : Dancing) (ls ks : Levels) (i n : ℕ) (l : Level) → IsStanding d.puzzle d.trail ls.levels true → choice_after d.puzzle d.trail ≡ Some (i, n) →
     e ≡ record d { trail = after_spend d.puzzle i d.trail } → l ≡ first_level d.puzzle d.trail i n → ks ≡ record ls { levels = l ∷ ls.levels } →
     GoesOn d ls true e ks false × (visits e.puzzle e.trail ks.levels < ahead d.puzzle d.trail ls.levels true)
 deepens d e ls ks i n l s h ed el ek =
@@ -75,7 +80,7 @@ goes_back d e l vs ks stacked top h ed ek =
     ))
 
 -- the newest of the levels goes on with a branch
-pub goes_to : (d e : Dancing) (l : Level) (b : Begun) (vs ks : Levels) → AreStacked d.puzzle d.trail vs.levels → vs.levels ≡ l ∷ drop 1 vs.levels →
+goes_to : (d e : Dancing) (l : Level) (b : Begun) (vs ks : Levels) → AreStacked d.puzzle d.trail vs.levels → vs.levels ≡ l ∷ drop 1 vs.levels →
     e ≡ record d { trail = e.trail } → IsBegun d.puzzle (oldest l.base d.trail) l e.trail (begun_level b l) → ks ≡ record vs { levels = newest_begun b vs.levels } →
     GoesOn d vs false e ks true × (ahead e.puzzle e.trail ks.levels true < visits d.puzzle d.trail vs.levels)
 goes_to d e l b vs ks stacked top ed begun ek =
@@ -96,6 +101,77 @@ goes_to d e l b vs ks stacked top ed begun ek =
       },
       omega (arith, all.2, back.2, ap (visits p t) top),
     ))
+
+-- a level's own moves stand
+deepened : (d : Dancing) (ls : Levels) (i n : ℕ) → IsStanding d.puzzle d.trail ls.levels true → choice_after d.puzzle d.trail ≡ Some (i, n) →
+    AreStacked d.puzzle (after_spend d.puzzle i d.trail) (first_level d.puzzle d.trail i n ∷ ls.levels)
+deepened d ls i n s h =
+    (deepens d (record d { trail = after_spend d.puzzle i d.trail }) ls (with_level (first_level d.puzzle d.trail i n) ls) i n (first_level d.puzzle d.trail i n) s h refl refl refl).0.standing.stacked
+
+-- it stands with its own moves
+pub begins_at : (d e : Dancing) (ls : Levels) (i n : ℕ) (l : Level) → IsStanding d.puzzle d.trail ls.levels true → choice_after d.puzzle d.trail ≡ Some (i, n) →
+    e ≡ record d { trail = after_spend d.puzzle i d.trail } → l ≡ first_level d.puzzle d.trail i n → AreStacked d.puzzle e.trail (l ∷ ls.levels)
+begins_at d e ls i n l s h ed el =
+    subst (λ (e : Dancing). AreStacked d.puzzle e.trail (l ∷ ls.levels)) (sym ed)
+    (subst (λ l. AreStacked d.puzzle (after_spend d.puzzle i d.trail) (l ∷ ls.levels)) (sym el) (deepened d ls i n s h))
+
+-- a level's first branch may be entered
+pub may_enter : (d e : Dancing) (ls : Levels) (i n : ℕ) (l : Level) → IsStanding d.puzzle d.trail ls.levels true → choice_after d.puzzle d.trail ≡ Some (i, n) →
+    e ≡ record d { trail = after_spend d.puzzle i d.trail } → l ≡ first_level d.puzzle d.trail i n → 0 < n → MayBegin e.puzzle e.trail l
+may_enter d e ls i n l s h ed el some =
+    subst (λ (e : Dancing). MayBegin e.puzzle e.trail l) (sym ed) (subst (MayBegin d.puzzle (after_spend d.puzzle i d.trail)) (sym el)
+    (record { level = (deepened d ls i n s h).0; whole = refl; more = some }))
+
+-- a level goes on with its first branch
+begins_first : (d e f : Dancing) (ls ks : Levels) (i n : ℕ) (l : Level) (b : Begun) → IsStanding d.puzzle d.trail ls.levels true → choice_after d.puzzle d.trail ≡ Some (i, n) →
+    e ≡ record d { trail = after_spend d.puzzle i d.trail } → l ≡ first_level d.puzzle d.trail i n →
+    f ≡ record e { trail = f.trail } → IsBegun e.puzzle e.trail l f.trail (begun_level b l) → ks ≡ with_level (begun_level b l) ls →
+    GoesOn d ls true f ks true × (ahead f.puzzle f.trail ks.levels true < ahead d.puzzle d.trail ls.levels true)
+begins_first d e f ls ks i n l b s h ed el ef begun ek =
+    let js = with_level l ls in
+    let down = deepens d e ls js i n l s h ed el refl in
+    let base_is : oldest l.base e.trail ≡ e.trail =
+    ap (λ (l : Level). oldest l.base e.trail) el ∙ ap (λ n. oldest n e.trail) (sym (ap (λ (e : Dancing). length e.trail) ed)) ∙ oldest_all e.trail in
+    let on = goes_to e f l b js ks down.0.standing.stacked refl ef (subst (λ t. IsBegun e.puzzle t l f.trail (begun_level b l)) (sym base_is) begun) ek in
+    (GoesOn-trans d e f ls js ks true false true down.0 on.0, omega (arith, down.1, on.1))
+
+-- once its moves were made
+pub enters_first : (d e f h : Dancing) (ls ks : Levels) (i n : ℕ) (l : Level) (b : Begun) → IsStanding d.puzzle d.trail ls.levels true → choice_after d.puzzle d.trail ≡ Some (i, n) →
+    e ≡ record d { trail = after_spend d.puzzle i d.trail } → l ≡ first_level d.puzzle d.trail i n →
+    f ≡ record e { trail = f.trail } → IsEntered e.puzzle e.trail l f.trail (begun_level b l) →
+    h ≡ record f { trail = after_branch f.puzzle i b.option f.trail } → ks ≡ with_level (begun_level b l) ls →
+    GoesOn d ls true h ks true × (ahead h.puzzle h.trail ks.levels true < ahead d.puzzle d.trail ls.levels true)
+enters_first d e f h ls ks i n l b s c ed el ef entered eh ek =
+    let made : h ≡ record e { trail = after_branch e.puzzle l.item b.option f.trail } =
+    eh ∙ ap (λ (f : Dancing). record f { trail = after_branch f.puzzle i b.option f.trail }) ef
+    ∙ ap (λ (l : Level). record e { trail = after_branch e.puzzle l.item b.option f.trail }) (sym el) in
+    let still : h ≡ record e { trail = h.trail } = made ∙ ap (λ t. record e { trail = t }) (ap (λ (h : Dancing). h.trail) (sym made)) in
+    begins_first d e h ls ks i n l b s c ed el still
+    (subst (λ (h : Dancing). IsBegun e.puzzle e.trail l h.trail (begun_level b l)) (sym made) entered.begun) ek
+
+-- a level without branches ends at once
+pub passes_over : (d e f : Dancing) (ls : Levels) (i n : ℕ) (l : Level) → IsStanding d.puzzle d.trail ls.levels true → choice_after d.puzzle d.trail ≡ Some (i, n) →
+    e ≡ record d { trail = after_spend d.puzzle i d.trail } → l ≡ first_level d.puzzle d.trail i n → n ≡ 0 → f ≡ record e { trail = oldest l.mark e.trail } →
+    GoesOn d ls true f ls false × (visits f.puzzle f.trail ls.levels < ahead d.puzzle d.trail ls.levels true)
+passes_over d e f ls i n l s h ed el none ef =
+    let js = with_level l ls in
+    let down = deepens d e ls js i n l s h ed el refl in
+    let back = goes_back e f l js ls down.0.standing.stacked refl (omega (arith, ap (λ (l : Level). l.count) el, none)) ef refl in
+    (GoesOn-trans d e f ls js ls true false false down.0 back.0, omega (arith, down.1, back.1))
+
+-- a branch is entered and its moves are made
+pub enters : (d e f h : Dancing) (l : Level) (b : Begun) (vs ks : Levels) → AreStacked d.puzzle d.trail vs.levels → vs.levels ≡ l ∷ drop 1 vs.levels →
+    e ≡ record d { trail = oldest l.base d.trail } → f ≡ record e { trail = f.trail } → IsEntered e.puzzle e.trail l f.trail (begun_level b l) →
+    h ≡ record f { trail = after_branch f.puzzle l.item b.option f.trail } → ks ≡ record vs { levels = newest_begun b vs.levels } →
+    GoesOn d vs false h ks true × (ahead h.puzzle h.trail ks.levels true < visits d.puzzle d.trail vs.levels)
+enters d e f h l b vs ks stacked top ed ef entered eh ek =
+    let at : f ≡ record d { trail = f.trail } = ef ∙ ap (λ (e : Dancing). record e { trail = f.trail }) ed in
+    let made : h ≡ record d { trail = after_branch d.puzzle l.item b.option f.trail } =
+    eh ∙ ap (λ (f : Dancing). record f { trail = after_branch f.puzzle l.item b.option f.trail }) at in
+    let still : h ≡ record d { trail = h.trail } = made ∙ ap (λ t. record d { trail = t }) (ap (λ (h : Dancing). h.trail) (sym made)) in
+    let begun : IsBegun d.puzzle (oldest l.base d.trail) l (after_branch d.puzzle l.item b.option f.trail) (begun_level b l) =
+    subst (λ (e : Dancing). IsBegun e.puzzle e.trail l (after_branch e.puzzle l.item b.option f.trail) (begun_level b l)) ed entered.begun in
+    goes_to d h l b vs ks stacked top still (subst (λ (h : Dancing). IsBegun d.puzzle (oldest l.base d.trail) l h.trail (begun_level b l)) (sym made) begun) ek
 
 -- what is asked back at a level
 pub back_at : (p : Puzzle) (t r : List Move) (l : Level) (ls : List Level) → AreStacked p t (l ∷ ls) → r ≡ oldest l.base t →

@@ -2,7 +2,7 @@
 use Rattle.std.proofs.Common.{ℕ, suc, ◌≡◌, ◌≢◌, ◌+◌, ◌-◌, ◌<◌, ◌≤◌, Bool, true, false, cond, List, ◌∷◌, length, min, Option, Some, None, refl, sym, ap, ◌∙◌, arith, subst}
 use Rattle.std.proofs.lemmas.Option.{slice_get_within}
 use Rattle.std.proofs.lemmas.List.Elements.{All-from_recursion}
-use Rattle.std.specs.Prelude.{All, slice_get, option_map}
+use Rattle.std.specs.Prelude.{slice_get, option_map}
 use Rattle.std.specs.List.{AllByRecursion}
 use Rattle.xc_input.specs.declared.problem.Use.{Use}
 use Rattle.xc_dance.specs.declared.dance.Move.{Move}
@@ -11,13 +11,12 @@ use Rattle.xc_search.specs.declared.level.Level.{Level}
 use Rattle.xc_input.specs.Problem.{Puzzle, Numbered, high_at, IsItem, option_count, uses_of}
 use Rattle.xc_dance.specs.Dancing.{Dancing}
 use Rattle.xc_dance.specs.Moves.{spends, AreLegal, IsLegal}
-use Rattle.xc_search.specs.inner.Levels.{options_at, IsLevel, IsBegun, next_number}
+use Rattle.xc_search.specs.inner.Levels.{options_at, IsLevel, IsBegun, IsEntered, next_number}
 use Rattle.xc_search.specs.inner.Commits.{after_spend, oldest, tweaked, after_uses, others, after_none, place_in}
 use Rattle.xc_search.proofs.moves.OldestMoves.{oldest_all}
 use Rattle.xc_search.proofs.moves.BranchMoves.{taken}
 use Rattle.xc_search.proofs.moves.LegalTweaks.{legal_branch}
 use Rattle.xc_search.proofs.room.TrailFits.{has_room}
-use Rattle.xc_search.specs.Room.{room_for}
 use Rattle.xc_search.proofs.stacked.NextBranch.{covered_walks, with_option, begins_take, with_none, begins_none}
 
 record Taking (p : Puzzle) (t : List Move) (l : Level) (o m : ℕ) : Type 0 where
@@ -70,36 +69,46 @@ taking p t l o m is_level more e hm =
     let found = some_option (slice_get (options_at p (oldest l.mark t) l.item) l.begun) o e in
     subst (λ n. Taking p t l n m) found.2 (taking_at p t l found.0 m is_level more found.1 hm)
 
--- What is asked and given in state e, after the tweaks of the branch.
-pub record TakingOn (d : Dancing) (l : Level) (o m : ℕ) (e : Dancing) : Type 0 where
-  pub known : (1 ≤ o) × (o ≤ option_count e.puzzle)
-  pub holds : place_in l.item (uses_of e.puzzle o) < length (uses_of e.puzzle o)
-  pub items : All (λ (u : Use). IsItem e.puzzle u.item) (uses_of e.puzzle o)
-  pub legal : AreLegal e.puzzle (after_uses e.puzzle (others l.item (uses_of e.puzzle o)) e.trail)
-  pub fits : length (after_uses e.puzzle (others l.item (uses_of e.puzzle o)) e.trail) ≤ room_for e.puzzle
-  pub begun : (f : Dancing) (n : ℕ) → f ≡ record e { trail = after_uses e.puzzle (others l.item (uses_of e.puzzle o)) e.trail } → n ≡ length e.trail →
-      (f ≡ record d { trail = f.trail }) × IsBegun d.puzzle d.trail l f.trail (with_option n l m o)
+-- a level's item is one
+level_item : (p : Puzzle) (t : List Move) (l : Level) → IsLevel p t l → IsItem p l.item
+level_item p t l is_level = omega (arith, is_level.node.item)
 
-pub taking_on : (d e : Dancing) (l : Level) (o m : ℕ) → IsLevel d.puzzle d.trail l → l.begun < l.count → next_number d.puzzle d.trail l ≡ Some o → m ≡ cond l.walks l.tweaks (l.tweaks + 1) →
-    e ≡ record d { trail = tweaked m l.item (after_spend d.puzzle l.item (oldest l.mark d.trail)) } → TakingOn d l o m e
-taking_on d e l o m is_level more next hm stands =
+-- with the tweaks of a branch that takes option o it is entered
+pub entered_option : (d e : Dancing) (l : Level) (o m : ℕ) → IsLevel d.puzzle d.trail l → l.begun < l.count → next_number d.puzzle d.trail l ≡ Some o → m ≡ cond l.walks l.tweaks (l.tweaks + 1) →
+    e ≡ record d { trail = tweaked m l.item (after_spend d.puzzle l.item (oldest l.mark d.trail)) } →
+    IsEntered d.puzzle d.trail l e.trail (with_option (length e.trail) l m o)
+entered_option d e l o m is_level more next hm stands =
     let p = d.puzzle in
     let t = d.trail in
     let all = taking p t l o m is_level more next hm in
-    let s = after_uses p (others l.item (uses_of p o)) (tweaked m l.item (after_spend p l.item (oldest l.mark t))) in
-    subst (TakingOn d l o m) (sym stands) (record {
-      known = all.known;
-      holds = all.holds;
-      items = All-from_recursion (λ (u : Use). IsItem p u.item) (uses_of p o) all.items;
-      legal = all.legal;
-      fits = has_room p s all.begun.searchable.legal (omega (arith, all.begun.searchable.sparing));
-      begun = λ f n ef en.
-          subst (λ (f : Dancing). (f ≡ record d { trail = f.trail }) × IsBegun p t l f.trail (with_option n l m o)) (sym ef)
-          (refl, subst (λ n. IsBegun p t l s (with_option n l m o)) (sym en) all.begun);
+    let g = tweaked m l.item (after_spend p l.item (oldest l.mark t)) in
+    subst (λ (e : Dancing). IsEntered p t l e.trail (with_option (length e.trail) l m o)) (sym stands) (record {
+      can = record {
+        item = level_item p t l is_level;
+        option = record { known = all.known; holds = all.holds; items = All-from_recursion (λ (u : Use). IsItem p u.item) (uses_of p o) all.items };
+        stands = record {
+          legal = all.legal;
+          room = has_room p (after_uses p (others l.item (uses_of p o)) g) all.begun.searchable.legal (omega (arith, all.begun.searchable.sparing));
+        };
+      };
+      begun = all.begun;
     })
 
-pub passing : (p : Puzzle) (t : List Move) (l : Level) → IsLevel p t l → l.base ≡ length t → l.begun < l.count → next_number p t l ≡ None → IsBegun p t l (after_none l.item t) (with_none l)
-passing p t l is_level whole more e = begins_none p t l is_level whole more (no_option (slice_get (options_at p (oldest l.mark t) l.item) l.begun) e)
+-- a branch that takes no option is entered by no move
+pub entered_none : (p : Puzzle) (t : List Move) (l : Level) → IsLevel p t l → l.base ≡ length t → l.begun < l.count → next_number p t l ≡ None → IsEntered p t l t (with_none l)
+entered_none p t l is_level whole more e =
+    let begun = begins_none p t l is_level whole more (no_option (slice_get (options_at p (oldest l.mark t) l.item) l.begun) e) in
+    record {
+      can = record {
+        item = level_item p t l is_level;
+        option = tt;
+        stands = record {
+          legal = begun.searchable.legal;
+          room = has_room p (after_none l.item t) begun.searchable.legal (omega (arith, begun.searchable.sparing));
+        };
+      };
+      begun = begun;
+    }
 
 -- the ground of a level
 pub ground_is : (p : Puzzle) (t : List Move) (l : Level) → IsLevel p t l → l.base ≡ length t → t ≡ tweaked l.tweaks l.item (after_spend p l.item (oldest l.mark t))

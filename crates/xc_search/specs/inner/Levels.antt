@@ -1,17 +1,18 @@
 -- No public clause cites this module. The levels of a search.
-use Rattle.std.specs.Prelude.{◌<◌, ℕ, suc, ◌+◌, ◌≤◌, ◌≡◌, Bool, true, false, nat_lt, min, List, [], ◌∷◌, ◌++◌, length, map, drop, reverse, Option, Some, None, option_map, slice_get, flat_map, if◌then◌else◌}
+use Rattle.std.specs.Prelude.{◌<◌, ℕ, suc, All, IfSome, ◌+◌, ◌≤◌, ◌≡◌, Bool, true, false, nat_lt, min, List, [], ◌∷◌, ◌++◌, length, map, drop, reverse, Option, Some, None, option_map, slice_get, flat_map, if◌then◌else◌}
 use Rattle.std.specs.List.{AllByRecursion}
 use Rattle.xc_search.specs.declared.choice.Choice.{Choice}
 use Rattle.xc_dance.specs.declared.dance.Move.{Move}
 use Rattle.xc_search.specs.declared.level.Level.{Level}
 use Rattle.xc_search.specs.declared.level.Begun.{Begun}
-use Rattle.xc_input.specs.Problem.{Puzzle, Numbered, IsValid, IsPrimary, numbered_get, holding, option_count, primary_count}
+use Rattle.xc_input.specs.declared.problem.Use.{Use}
+use Rattle.xc_input.specs.Problem.{Puzzle, Numbered, IsValid, IsItem, IsPrimary, IsOption, numbered_get, holding, uses_of, option_count, primary_count}
 use Rattle.xc_search.specs.Listing.{Wanted, Branch, branch_item, branch_count, branches_of, size_of, listing}
 use Rattle.xc_dance.specs.Moves.{is_open, AreLegal}
 use Rattle.xc_search.specs.Residuals.{wanted_at, wanted_after}
 use Rattle.xc_search.specs.inner.Residual.{residual_of}
 use Rattle.xc_dance.specs.Lists.Left.{left}
-use Rattle.xc_search.specs.inner.Commits.{after_spend, oldest, tweaked, walks}
+use Rattle.xc_search.specs.inner.Commits.{MayStand, after_spend, after_uses, after_none, oldest, others, place_in, tweaked, walks}
 use Rattle.xc_search.specs.inner.Sparing.{IsSparing}
 
 -- What a stack stands for.
@@ -141,6 +142,28 @@ pub record IsBegun (p : Puzzle) (t : List Move) (l : Level) (s : List Move) (k :
   pub below : oldest l.mark s ≡ oldest l.mark t
   pub level : IsLevel p s k
   pub searchable : IsSearchable p s
+
+-- the moves of a branch at item i: the other uses of the option that it takes are committed, or without one the item is covered
+abbrev pub after_branch : Puzzle → ℕ → Option ℕ → List Move → List Move
+after_branch p i None t = after_none i t
+after_branch p i (Some o) t = after_uses p (others i (uses_of p o)) t
+
+-- option o is of the problem, and uses item i
+pub record IsOptionAt (p : Puzzle) (i o : ℕ) : Type 0 where
+  pub known : IsOption p o
+  pub holds : place_in i (uses_of p o) < length (uses_of p o)
+  pub items : All (λ (u : Use). IsItem p u.item) (uses_of p o)
+
+-- The moves of a branch can be made behind the moves t.
+pub record CanBranch (p : Puzzle) (i : ℕ) (o : Option ℕ) (t : List Move) : Type 0 where
+  pub item : IsItem p i
+  pub option : IfSome o (IsOptionAt p i)
+  pub stands : MayStand p (after_branch p i o t)
+
+-- From level l on moves t a branch was entered: once its moves stand behind the moves s, it was begun with level k.
+pub record IsEntered (p : Puzzle) (t : List Move) (l : Level) (s : List Move) (k : Level) : Type 0 where
+  pub can : CanBranch p k.item k.option s
+  pub begun : IsBegun p t l (after_branch p k.item k.option s) k
 
 -- the number of the option that a level's next branch takes
 abbrev pub next_number : Puzzle → List Move → Level → Option ℕ

@@ -1,10 +1,12 @@
-use Rattle.std.proofs.Common.{arith, ◌≡◌, None, Some, refl}
+use Rattle.std.proofs.Common.{arith, ◌≡◌, ◌<◌, ◌∙◌, None, Some, true, false, refl, sym, ap, ◌+◌}
+use Rattle.xc_search.specs.declared.level.Level.{Level}
 use Rattle.xc_search.specs.Residuals.{choice_after}
+use Rattle.xc_search.specs.inner.Ahead.{GoesOn, visits, ahead}
 use Rattle.xc_search.proofs.stacked.Depth.{depth_at}
 use Rattle.xc_search.proofs.stacked.NextLevel.{chosen_item}
-use Rattle.xc_search.proofs.stacked.LoopSteps.{finds, node_at, deepens}
+use Rattle.xc_search.proofs.stacked.LoopSteps.{finds, node_at, with_level, begins_at, may_enter, enters_first, passes_over}
 use Rattle.xc_search.proofs.levels.deepen.Goals as goal
-use Rattle.xc_search.proofs.levels.deepen.Goals.{In-Some}
+use Rattle.xc_search.proofs.levels.deepen.Goals.{In-Some, After-end_level, After-commit_branch}
 
 chose : (g : _) (c : In-Some g) → choice_after c.args.position.now.puzzle c.args.position.now.trail ≡ Some (c.in-Some.item, c.in-Some.count)
 chose g c = cc (c.choose.ensures, c.in-Some.is)
@@ -34,12 +36,47 @@ push-requires g c =
     let chosen = chosen_item s.puzzle s.trail i c.in-Some.count (c.requires.standing.searchable refl).legal e in
     omega (arith, c.requires.levels_fit, depth_at s.puzzle s.trail ls i c.requires.standing.stacked (c.requires.standing.shallow refl) node chosen.branch)
 
+pub end_level-requires : goal.end_level-requires
+end_level-requires g c =
+    let d = c.args.position.now in
+    let e = c.descend-level.new.self in
+    record {
+      stacked = (
+        d.puzzle,
+        c.args.stack.now.levels,
+        begins_at d e c.args.stack.now c.in-Some.item c.in-Some.count c.descend-level.result
+            c.requires.standing (chose g (goal.at.end_level-requires g c).In-Some) c.descend-level.ensures.trail c.descend-level.ensures.level,
+      );
+    }
+
+over : (g : _) (c : After-end_level g) → GoesOn c.args.position.now c.args.stack.now true c.end_level.new.position c.args.stack.now false
+    × (visits c.end_level.new.position.puzzle c.end_level.new.position.trail c.args.stack.now.levels < ahead c.args.position.now.puzzle c.args.position.now.trail c.args.stack.now.levels true)
+over g c =
+    passes_over c.args.position.now c.descend-level.new.self c.end_level.new.position c.args.stack.now c.in-Some.item c.in-Some.count c.descend-level.result
+    c.requires.standing (cc (c.choose.ensures, c.in-Some.is)) c.descend-level.ensures.trail c.descend-level.ensures.level c.if-count-eq0.true c.end_level.ensures
+
+pub returns-then-count-eq0-clause-nothing : goal.returns-then-count-eq0-clause-nothing
+returns-then-count-eq0-clause-nothing g c _ = (over g c).0
+
+pub returns-then-count-eq0-clause-fewer : goal.returns-then-count-eq0-clause-fewer
+returns-then-count-eq0-clause-fewer g c _ = (over g c).1
+
+pub enter-branch-requires : goal.enter-branch-requires
+enter-branch-requires g c = record {
+  number = ap (λ (l : Level). l.begun + 1) (sym c.descend-level.ensures.level);
+  ready = may_enter c.args.position.now c.descend-level.new.self c.args.stack.now c.in-Some.item c.in-Some.count c.descend-level.result
+      c.requires.standing (chose g (goal.at.enter-branch-requires g c).In-Some) c.descend-level.ensures.trail c.descend-level.ensures.level (omega (arith, c.if-count-eq0.false));
+}
+
+deeper : (g : _) (c : After-commit_branch g) → GoesOn c.args.position.now c.args.stack.now true c.commit_branch.new.self c.push.new.self true
+    × (ahead c.commit_branch.new.self.puzzle c.commit_branch.new.self.trail c.push.new.self.levels true < ahead c.args.position.now.puzzle c.args.position.now.trail c.args.stack.now.levels true)
+deeper g c =
+    enters_first c.args.position.now c.descend-level.new.self c.enter-branch.new.self c.commit_branch.new.self c.args.stack.now c.push.new.self c.in-Some.item c.in-Some.count c.descend-level.result c.enter-branch.result
+    c.requires.standing (cc (c.choose.ensures, c.in-Some.is)) c.descend-level.ensures.trail c.descend-level.ensures.level
+    c.enter-branch.ensures.still c.enter-branch.ensures.entered c.commit_branch.ensures (c.push.ensures ∙ ap (λ l. with_level l c.args.stack.now) c.begin_level.ensures)
+
 pub returns-clause-deeper : goal.returns-clause-deeper
-returns-clause-deeper g c _ =
-    (deepens c.args.position.now c.descend-level.new.self c.args.stack.now c.push.new.self c.in-Some.item c.in-Some.count c.descend-level.result
-    c.requires.standing (chose g (goal.at.returns-clause-deeper g c).In-Some) c.descend-level.ensures.trail c.descend-level.ensures.level c.push.ensures).0
+returns-clause-deeper g c _ = (deeper g c).0
 
 pub returns-clause-less : goal.returns-clause-less
-returns-clause-less g c _ =
-    (deepens c.args.position.now c.descend-level.new.self c.args.stack.now c.push.new.self c.in-Some.item c.in-Some.count c.descend-level.result
-    c.requires.standing (chose g (goal.at.returns-clause-less g c).In-Some) c.descend-level.ensures.trail c.descend-level.ensures.level c.push.ensures).1
+returns-clause-less g c _ = (deeper g c).1

@@ -1,24 +1,33 @@
-use Rattle.std.proofs.Common.{◌<◌, drop, false, true, arith, subst}
-use Rattle.xc_search.specs.inner.Levels.{AreStacked}
+use Rattle.std.proofs.Common.{◌<◌, ◌∷◌, drop, false, true, arith, refl, sym, subst}
+use Rattle.xc_dance.specs.Dancing.{Dancing}
+use Rattle.xc_search.specs.inner.Commits.{oldest}
+use Rattle.xc_search.specs.inner.Levels.{AreStacked, MayBegin}
 use Rattle.xc_search.specs.inner.Ahead.{GoesOn, visits, ahead}
-use Rattle.xc_search.proofs.stacked.LoopSteps.{GoesOn-refl, GoesOn-trans, goes_to, goes_back}
+use Rattle.xc_search.proofs.stacked.LoopSteps.{GoesOn-refl, GoesOn-trans, enters, goes_back, back_at}
 use Rattle.xc_search.proofs.levels.resume.Goals as goal
-use Rattle.xc_search.proofs.levels.resume.Goals.{After-begin, After-pop}
+use Rattle.xc_search.proofs.levels.resume.Goals.{In-Some, After-commit_branch, After-pop}
 
 pub loop-level-init : goal.loop-level-init
 loop-level-init g c = record { goes_on = GoesOn-refl c.args.position.now c.args.stack.now false c.requires.standing; less = omega arith }
 
-pub next_branch-branch-requires-clause-stacked : goal.next_branch-branch-requires-clause-stacked
-next_branch-branch-requires-clause-stacked g c = (
-  drop 1 c.loop-level.stack.levels,
-  subst (AreStacked c.loop-level.position.puzzle c.loop-level.position.trail) c.in-Some.ensures.some c.loop-level.invariant.goes_on.standing.stacked,
-)
+stacked : (g : _) (c : In-Some g) → AreStacked c.loop-level.position.puzzle c.loop-level.position.trail (c.in-Some.level.now ∷ drop 1 c.loop-level.stack.levels)
+stacked g c = subst (AreStacked c.loop-level.position.puzzle c.loop-level.position.trail) c.in-Some.ensures.some c.loop-level.invariant.goes_on.standing.stacked
 
-on : (g : _) (c : After-begin g) → GoesOn c.loop-level.position c.loop-level.stack false c.next_branch-branch.new.position c.begin.new.self true
-    × (ahead c.next_branch-branch.new.position.puzzle c.next_branch-branch.new.position.trail c.begin.new.self.levels true < visits c.loop-level.position.puzzle c.loop-level.position.trail c.loop-level.stack.levels)
+pub undo_to-requires : goal.undo_to-requires
+undo_to-requires g c = (stacked g (goal.at.undo_to-requires g c).In-Some).0.within.1
+
+pub enter-branch-requires : goal.enter-branch-requires
+enter-branch-requires g c =
+    let d = c.loop-level.position in
+    let l = c.in-Some.level.now in
+    let here = back_at d.puzzle d.trail (oldest l.base d.trail) l (drop 1 c.loop-level.stack.levels) (stacked g (goal.at.enter-branch-requires g c).In-Some) refl in
+    record { number = c.behind-next.ensures; ready = subst (λ (e : Dancing). MayBegin e.puzzle e.trail l) (sym c.undo_to.ensures) (record { level = here.0; whole = here.1; more = c.if-level.true }) }
+
+on : (g : _) (c : After-commit_branch g) → GoesOn c.loop-level.position c.loop-level.stack false c.commit_branch.new.self c.begin.new.self true
+    × (ahead c.commit_branch.new.self.puzzle c.commit_branch.new.self.trail c.begin.new.self.levels true < visits c.loop-level.position.puzzle c.loop-level.position.trail c.loop-level.stack.levels)
 on g c =
-    goes_to c.loop-level.position c.next_branch-branch.new.position c.in-Some.level.now c.next_branch-branch.result c.loop-level.stack c.begin.new.self
-    c.loop-level.invariant.goes_on.standing.stacked c.in-Some.ensures.some c.next_branch-branch.ensures.still c.next_branch-branch.ensures.begun c.begin.ensures
+    enters c.loop-level.position c.undo_to.new.self c.enter-branch.new.self c.commit_branch.new.self c.in-Some.level.now c.enter-branch.result c.loop-level.stack c.begin.new.self
+    c.loop-level.invariant.goes_on.standing.stacked c.in-Some.ensures.some c.undo_to.ensures c.enter-branch.ensures.still c.enter-branch.ensures.entered c.commit_branch.ensures c.begin.ensures
 
 back : (g : _) (c : After-pop g) → GoesOn c.loop-level.position c.loop-level.stack false c.end_level.new.position c.pop.new.self false
     × (visits c.end_level.new.position.puzzle c.end_level.new.position.trail c.pop.new.self.levels < visits c.loop-level.position.puzzle c.loop-level.position.trail c.loop-level.stack.levels)

@@ -1,18 +1,15 @@
-use Rattle.xc_search.proofs.stacked.TakenOption.{TakingOn, taking_on}
-use Rattle.xc_search.proofs.position.Position.take_option.Goals as goal
-use Rattle.xc_search.proofs.position.Position.take_option.Goals.{After-tweak-tweaks}
+use Rattle.std.proofs.Common.{Some, sym, subst}
+use Rattle.xc_search.specs.inner.Levels.{IsEntered, begun_level}
+use Rattle.xc_search.proofs.stacked.NextBranch.{with_option}
+use Rattle.xc_search.proofs.stacked.TakenOption.{entered_option}
+use Rattle.xc_search.proofs.position.Position.enter_option.Goals as goal
 
-took : (g : _) (c : After-tweak-tweaks g) → TakingOn c.args.self.now c.args.level.now c.args.o c.tweak-tweaks.result c.tweak-tweaks.new.self
-took g c =
-    taking_on c.args.self.now c.tweak-tweaks.new.self c.args.level.now c.args.o c.tweak-tweaks.result
-    c.requires.ready.level c.requires.ready.more c.requires.option c.tweak-tweaks.ensures.tweaks c.tweak-tweaks.ensures.trail
-
-pub commit_others-requires : goal.commit_others-requires
-commit_others-requires g c =
-    let t = took g (goal.at.commit_others-requires g c).After-tweak-tweaks in
-    record { known = t.known; holds = t.holds; items = t.items; stands = record { legal = t.legal; room = t.fits } }
-
-pub returns : goal.returns
-returns g c =
-    let done = (took g (goal.at.returns g c).After-tweak-tweaks).begun _ _ c.commit_others.ensures c.height-base.ensures in
-    record { still = done.0; begun = done.1 }
+pub returns-clause-entered : goal.returns-clause-entered
+returns-clause-entered g c =
+    let d = c.args.self.now in
+    let l = c.args.level.now in
+    let e = c.tweak-tweaks.new.self in
+    let m = c.tweak-tweaks.result in
+    subst (λ n. IsEntered d.puzzle d.trail l e.trail (begun_level (record { base = c.height-base.result; option = Some c.args.o; begun = n; tweaks = m }) l)) (sym c.requires.number)
+    (subst (λ n. IsEntered d.puzzle d.trail l e.trail (with_option n l m c.args.o)) (sym c.height-base.ensures)
+    (entered_option d e l c.args.o m c.requires.ready.level c.requires.ready.more c.requires.option c.tweak-tweaks.ensures.tweaks c.tweak-tweaks.ensures.trail))
