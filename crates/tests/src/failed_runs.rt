@@ -6,7 +6,7 @@ use fixtures::{COLOURED, COLOURED_LISTING, SEVEN, SEVEN_LISTING};
 use std::alloc::Global;
 use std::test::Fail;
 use xc_input::{Feed, Kind};
-use xc_list::{Sink, Tray, WriteFailed};
+use xc_list::{Flushes, Sink, Tray, WriteFailed};
 use xc_tools::{judge, solve};
 
 #[test]
@@ -82,6 +82,7 @@ struct Unflushed {
     bytes: Vec<u8>,
     failures: u64,
     failed: bool,
+    flushes: Flushes,
 }
 
 impl Unflushed {
@@ -90,6 +91,7 @@ impl Unflushed {
             bytes: Vec::new(alloc),
             failures: 0,
             failed: false,
+            flushes: Flushes::new(),
         }
     }
 }
@@ -100,6 +102,7 @@ impl Sink for Unflushed {
       failed = s.failed;
       taken = None;
       settled = false;
+      flushes = s.flushes.count;
     } };
 
     fn write(&mut self, bytes: &[u8]) -> Result<usize, WriteFailed> {
@@ -114,6 +117,7 @@ impl Sink for Unflushed {
     fn flush(&mut self) -> Result<(), WriteFailed> {
         self.failed = true;
         self.failures = self.failures.saturating_add(1);
+        self.flushes = Flushes::one_more(&self.flushes);
         Err(WriteFailed)
     }
 }

@@ -102,6 +102,7 @@ stopped a spacing limit k m rest {x = x} {y = y} {z = z} e below so_far stop = b
           proper = t.part;
           taken = subst (λ n. Appends x.taken z.taken (output a spacing n ++ take t.many (member_text a (k + 1, m)))) back
               (appends_more x.taken y.taken z.taken (output a spacing k) (take t.many (member_text a (k + 1, m))) so_far.whole t.begun);
+          unflushed = t.unflushed ∙ so_far.unflushed;
         }
     by_case false p t = absurd (omega (arith, t.part))
 

@@ -29,6 +29,7 @@ pub then_took : {a b c : SinkState} {s t : List ℕ} → Took a b s → Took b c
 then_took {a = a} {b = b} {c = c} {s = s} {t = t} p q = record {
   no_failure = q.no_failure ∙ p.no_failure;
   whole = appends_more a.taken b.taken c.taken s t p.whole q.whole;
+  unflushed = q.unflushed ∙ p.unflushed;
 }
 
 -- it broke off behind a text that it took
@@ -39,6 +40,7 @@ then_broke {a = a} {b = b} {c = c} {s = s} {t = t} p q = record {
   many = length s + q.many;
   part = grind (arith, common_steps, q.part);
   begun = subst (Appends a.taken c.taken) (sym (take-append-add s t q.many)) (appends_more a.taken b.taken c.taken s (take q.many t) p.whole q.begun);
+  unflushed = q.unflushed ∙ p.unflushed;
 }
 
 -- it broke off before a text
@@ -49,6 +51,7 @@ broke_before {a = a} {b = b} {s = s} t p = record {
   many = p.many;
   part = grind (arith, common_steps, p.part);
   begun = subst (Appends a.taken b.taken) (sym (take-append-le p.many s t (grind (arith, common_steps, p.part)))) p.begun;
+  unflushed = p.unflushed;
 }
 
 pub then_writes : {E : Type 0} {a b : SinkState} {s : List ℕ} (c : SinkState) (t : List ℕ) (r : Result (Unit {0}) E) → Took a b s → Writes b c r t → Writes a c r (s ++ t)

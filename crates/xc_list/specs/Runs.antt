@@ -13,7 +13,7 @@ use Rattle.xc_list.specs.declared.runs.End.{End}
 use Rattle.xc_list.specs.declared.runs.End.TheVariants.{Done, Limit, WriteFailed}
 
 -- The sink failed, at its last call, at a member that is printed: it took the texts of those printed before whole, and
--- a proper beginning of this one's.
+-- a proper beginning of this one's, and wasn't flushed.
 pub record StoppedAt (a : Named) (spacing limit t : ℕ) (old new : SinkState) : Type 0 where
   pub within : (1 ≤ t) × (t ≤ limit)
   pub member : List Choice
@@ -24,6 +24,7 @@ pub record StoppedAt (a : Named) (spacing limit t : ℕ) (old new : SinkState) :
   pub part : ℕ
   pub proper : part < length (member_text a (t, member))
   pub taken : Appends old.taken new.taken (output a spacing (t - 1) ++ take part (member_text a (t, member)))
+  pub unflushed : new.flushes ≡ old.flushes
 
 -- What was written up to this end, from one state of the sink to another
 abbrev pub IsRun : Named → ℕ → ℕ → SinkState → SinkState → End → Type 0

@@ -4,25 +4,28 @@ use Rattle.std.specs.Io.KnownBytes.{Appends, Keeps}
 use Rattle.xc_input.specs.Calls.{Rose}
 
 -- A sink: how many of its writes and flushes failed, up to the counter's last value; whether its last call did; the
--- bytes that it took, where it tells them; and whether it holds none of them back.
+-- bytes that it took, where it tells them; whether it holds none of them back; and how often it was flushed.
 pub record SinkState : Type 0 where
   pub failures : ℕ
   pub failed : Bool
   pub taken : Option (List ℕ)
   pub settled : Bool
+  pub flushes : ℕ
 
--- It took the whole text, and met no failure.
+-- It took the whole text, met no failure, and wasn't flushed.
 pub record Took (old new : SinkState) (text : List ℕ) : Type 0 where
   pub no_failure : new.failures ≡ old.failures
   pub whole : Appends old.taken new.taken text
+  pub unflushed : new.flushes ≡ old.flushes
 
--- It took a beginning of the text, not all of it, and failed at the next call, its last.
+-- It took a beginning of the text, not all of it, failed at the next call, its last, and wasn't flushed.
 pub record BrokeOff (old new : SinkState) (text : List ℕ) : Type 0 where
   pub failure : Rose old.failures new.failures
   pub last : IsTrue new.failed
   pub many : ℕ
   pub part : many < length text
   pub begun : Appends old.taken new.taken (take many text)
+  pub unflushed : new.flushes ≡ old.flushes
 
 -- It took the text, or failed behind a beginning.
 abbrev pub WasTold : SinkState → SinkState → List ℕ → Type 0
@@ -32,10 +35,11 @@ WasTold old new text = Took old new text ⊎ BrokeOff old new text
 abbrev pub Writes : {E : Type 0} → SinkState → SinkState → Result (Unit {0}) E → List ℕ → Type 0
 Writes old new r text = MatchResult r (λ _. Took old new text) (λ _. BrokeOff old new text)
 
--- Nothing was written, and nothing failed.
+-- Nothing was written or flushed, and nothing failed.
 pub record IsUntouched (old new : SinkState) : Type 0 where
   pub no_failure : new.failures ≡ old.failures
   pub none : Keeps old.taken new.taken
+  pub unflushed : new.flushes ≡ old.flushes
 
 -- It took a beginning of the text, or all of it.
 abbrev pub Begins : SinkState → SinkState → List ℕ → Type 0

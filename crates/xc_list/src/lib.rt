@@ -13,6 +13,7 @@
 
 mod bodies;
 mod checker;
+mod flushes;
 pub mod laws;
 mod line;
 mod messages;
@@ -24,6 +25,7 @@ mod words;
 mod write;
 
 pub use checker::{ListingFault, Verdict, check};
+pub use flushes::Flushes;
 pub use line::write_line;
 pub use messages::{summary, warnings, word_fault};
 pub use print::write_solution;

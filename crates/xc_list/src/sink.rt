@@ -4,6 +4,7 @@ ghost use Rattle.std.specs.Io.KnownBytes.{WriteAppends, Keeps};
 ghost use Rattle.xc_list.specs.Texts.{SinkState};
 ghost use Rattle.xc_input.specs.Calls.{counted, is_failed_write};
 
+use crate::flushes::Flushes;
 use std::alloc::Global;
 use thiserror::Error;
 use xc_dance::Memory;
@@ -15,7 +16,7 @@ pub struct WriteFailed;
 
 /// Where bytes go.
 pub trait Sink {
-    /// What is known of it: its failures and the bytes that it took.
+    /// What is known of it: its failures, the bytes that it took, and how often it was flushed.
     ghost state: { Self → SinkState };
 
     /// Takes bytes from the front, and says how many. To take none of at least one is a failure
@@ -25,14 +26,16 @@ pub trait Sink {
         ensures failures { (state self.new).failures
             ≡ counted (is_failed_write result bytes.now) (state self.old).failures }
         ensures failed { (state self.new).failed ≡ is_failed_write result bytes.now }
-        ensures bytes { WriteAppends (state self.old).taken (state self.new).taken result bytes.now };
+        ensures bytes { WriteAppends (state self.old).taken (state self.new).taken result bytes.now }
+        ensures flushes { (state self.new).flushes ≡ (state self.old).flushes };
 
     /// Passes on what the sink holds back. It takes no bytes.
     fn flush(&mut self) -> Result<(), WriteFailed>
         ensures failures { (state self.new).failures ≡ counted (is_err result) (state self.old).failures }
         ensures failed { (state self.new).failed ≡ is_err result }
         ensures bytes { Keeps (state self.old).taken (state self.new).taken }
-        ensures settled { OnOk result (IsTrue (state self.new).settled) };
+        ensures settled { OnOk result (IsTrue (state self.new).settled) }
+        ensures flushes { (state self.new).flushes ≡ (state self.old).flushes + 1 };
 }
 
 /// A sink over memory. It tells the bytes that it took.
@@ -44,6 +47,7 @@ pub struct Tray {
     zero: bool,
     failures: u64,
     failed: bool,
+    flushes: Flushes,
     ghost moves: { 0 < step },
     ghost reserved: { room ≤ vec_capacity bytes },
 }
@@ -59,6 +63,7 @@ impl Tray {
         ensures taken { IfOk result (λ t. (⟦<Tray as Sink>⟧.state t).taken ≡ Some []) }
         ensures failures { IfOk result (λ t. (⟦<Tray as Sink>⟧.state t).failures ≡ 0) }
         ensures failed { IfOk result (λ t. (⟦<Tray as Sink>⟧.state t).failed ≡ false) }
+        ensures flushes { IfOk result (λ t. (⟦<Tray as Sink>⟧.state t).flushes ≡ 0) }
     {
         Ok(Tray {
             bytes: Vec::with_capacity(alloc, room)?,
@@ -67,6 +72,7 @@ impl Tray {
             zero,
             failures: 0,
             failed: false,
+            flushes: Flushes::new(),
         })
     }
 
@@ -91,6 +97,7 @@ impl Sink for Tray {
       failed = s.failed;
       taken = Some s.bytes.items;
       settled = true;
+      flushes = s.flushes.count;
     } };
 
     fn write(&mut self, bytes: &[u8]) -> Result<usize, WriteFailed>
@@ -98,6 +105,7 @@ impl Sink for Tray {
         ensures failures { self.new.failures ≡ counted (is_failed_write result bytes.now) self.old.failures }
         ensures failed { self.new.failed ≡ is_failed_write result bytes.now }
         ensures bytes { WriteAppends (Some self.old.bytes.items) (Some self.new.bytes.items) result bytes.now }
+        ensures flushes { self.new.flushes.count ≡ self.old.flushes.count }
 
         // It takes as much as it may, and fails only where it may take nothing.
         ensures takes { IfOk result (λ n.
@@ -123,11 +131,13 @@ impl Sink for Tray {
         ensures failed { self.new.failed ≡ is_err result }
         ensures bytes { Keeps (Some self.old.bytes.items) (Some self.new.bytes.items) }
         ensures settled { OnOk result (IsTrue true) }
+        ensures flushes { self.new.flushes.count ≡ self.old.flushes.count + 1 }
         ensures succeeds { IsOk result }
         ensures kept { (self.new.step ≡ self.old.step) × (self.new.room ≡ self.old.room)
             × (self.new.zero ≡ self.old.zero) }
     {
         self.failed = false;
+        self.flushes = Flushes::one_more(&self.flushes);
         Ok(())
     }
 }

@@ -6,15 +6,19 @@ use Rattle.std.specs.Io.KnownBytes.{Keeps}
 use Rattle.xc_input.specs.declared.kind.Kind.{Kind}
 use Rattle.xc_input.specs.Named.{Named}
 use Rattle.xc_input.specs.Pieces.{SourceState}
-use Rattle.xc_list.specs.Texts.{SinkState, Begins}
+use Rattle.xc_list.specs.Texts.{SinkState, BrokeOff, Begins}
 use Rattle.xc_list.specs.declared.checker.Verdict.{Verdict}
 use Rattle.xc_tools.specs.Given.{GaveProblem}
-use Rattle.xc_tools.specs.Solves.{Seen, Streams}
+use Rattle.xc_tools.specs.Solves.{Seen, Streams, FailedBehind}
 use Rattle.xc_tools.specs.Judges.{verdict_text, HasVerdicts, DidJudgeListing, DidAsAsked}
 use Rattle.xc_tools.proofs.RunLemmas.{whole_begins}
 
 same_keeps : {O : Type 0} (old new : Seen O SinkState) → new ≡ old → Keeps old.state.taken new.state.taken
 same_keeps old new same = subst (λ out. Keeps old.state.taken out.state.taken) (sym same) (Keeps-refl old.state.taken)
+
+failed_begins : (old new : SinkState) (text : List ℕ) → BrokeOff old new text ⊎ FailedBehind old new text → Begins old new text
+failed_begins old new text (inl b) = (b.many, b.begun)
+failed_begins old new text (inr f) = whole_begins old new text f.taken
 
 -- verdicts on a problem, of which a sink took a beginning
 abbrev pub Told : Named → SourceState → SourceState → SinkState → SinkState → Type 0
@@ -22,10 +26,10 @@ Told a old new out_old out_new = (vs : List Verdict) × HasVerdicts a vs old new
 
 listing_begins : {L O E : Type 0} (a : Named) (status : ℕ) (old new : Streams L O E) → DidJudgeListing a status old new
     → Keeps old.out.state.taken new.out.state.taken ⊎ Told a old.input.state new.input.state old.out.state new.out.state
-listing_begins a status old new (inl j) = inr (j.verdicts, j.right, whole_begins old.out.state new.out.state (flat_map verdict_text j.verdicts) j.taken.took.whole)
+listing_begins a status old new (inl j) = inr (j.verdicts, j.right, whole_begins old.out.state new.out.state (flat_map verdict_text j.verdicts) j.taken.whole)
 listing_begins a status old new (inr (inl h)) = inl (same_keeps old.out new.out h.1.unwritten)
 listing_begins a status old new (inr (inr (inl h))) = inl (same_keeps old.out new.out h.1.unwritten)
-listing_begins a status old new (inr (inr (inr (inl h)))) = inr (h.1.verdicts, h.1.right, (h.1.many, h.1.failed.taken))
+listing_begins a status old new (inr (inr (inr (inl h)))) = inr (h.1.verdicts, h.1.right, failed_begins old.out.state new.out.state (flat_map verdict_text h.1.verdicts) h.1.failed)
 listing_begins a status old new (inr (inr (inr (inr h)))) = inl (same_keeps old.out new.out h.1.unwritten)
 
 of_problem : {K : Type 0} (kind : Kind) (says told : Named → List ℕ

@@ -1,5 +1,5 @@
 -- What a whole run did, step by step.
-use Rattle.std.proofs.Common.{◌≡◌, ◌⊎◌, ℕ, List, [], Option, None, Some, length, take, refl, sym, subst, inl, inr, ◌∙◌, append-nil, arith}
+use Rattle.std.proofs.Common.{◌≡◌, ◌⊎◌, ℕ, ◌+◌, List, [], Option, None, Some, length, take, refl, sym, ap, subst, inl, inr, ◌∙◌, append-nil, arith}
 use Rattle.std.proofs.KnownBytes.{Appends-nil, Keeps-refl}
 use Rattle.std.proofs.lemmas.Grind.{common_steps}
 use Rattle.std.specs.Prelude.{codes, flat_map, IsTrue}
@@ -26,29 +26,27 @@ take_whole xs = grind (arith, common_steps)
 -- a sink failed behind a text that it took
 pub failed_behind : {old mid : SinkState} {text : List ℕ} (new : SinkState) → Took old mid text
     → Rose mid.failures new.failures → IsTrue new.failed → Keeps mid.taken new.taken
-    → FailedBehind old new text
-failed_behind {old = old} {mid = mid} {text = text} new took rose last kept = record {
+    → new.flushes ≡ mid.flushes + 1 → FailedBehind old new text
+failed_behind {old = old} {mid = mid} {text = text} new took rose last kept flushed = record {
   failure = subst (λ n. Rose n new.failures) took.no_failure rose;
   last = last;
   taken = appends_kept old.taken mid.taken new.taken text took.whole kept;
+  flushed_once = flushed ∙ ap (λ n. n + 1) took.unflushed;
 }
 
--- the whole of a text is a beginning of it
-pub failed_behind_all : {old new : SinkState} {text : List ℕ} → FailedBehind old new text
-    → FailedBehind old new (take (length text) text)
-failed_behind_all {old = old} {new = new} {text = text} f = subst (FailedBehind old new) (sym (take_whole text)) f
-
--- it took the text, and the next call neither took nor failed
+-- it took the text, and the flush behind it succeeded
 pub took_all : {old mid : SinkState} {text : List ℕ} (new : SinkState) → Took old mid text
     → new.failures ≡ mid.failures → IsTrue new.settled → Keeps mid.taken new.taken
-    → TookAll old new text
-took_all {old = old} {mid = mid} {text = text} new took same settled kept = record {
-  took = record { no_failure = same ∙ took.no_failure; whole = appends_kept old.taken mid.taken new.taken text took.whole kept };
+    → new.flushes ≡ mid.flushes + 1 → TookAll old new text
+took_all {old = old} {mid = mid} {text = text} new took same settled kept flushed = record {
+  no_failure = same ∙ took.no_failure;
+  whole = appends_kept old.taken mid.taken new.taken text took.whole kept;
   settled = settled;
+  flushed_once = flushed ∙ ap (λ n. n + 1) took.unflushed;
 }
 
 took_nothing : (s : SinkState) → Took s s []
-took_nothing s = record { no_failure = refl; whole = Appends-nil s.taken }
+took_nothing s = record { no_failure = refl; whole = Appends-nil s.taken; unflushed = refl }
 
 pub behind_nothing : {old new : SinkState} {text : List ℕ} (says : SinkState → SinkState → List ℕ → Type 0)
     → says old new text → Behind [] says old new text
@@ -56,14 +54,14 @@ behind_nothing {old = old} says h = (old, took_nothing old, h)
 
 -- the flush and the last line, behind the whole output
 pub finished : {a : Named} {w : Words} {old mid told told_new : SinkState} {status : ℕ} {end : End} (new : SinkState) → end ≡ end_of a w.limit
-    → Took old mid (output a w.spacing w.limit) → Keeps mid.taken new.taken
+    → Took old mid (output a w.spacing w.limit) → Keeps mid.taken new.taken → new.flushes ≡ mid.flushes + 1
     → ((status ≡ 0) × (new.failures ≡ mid.failures) × IsTrue new.settled × Took told told_new (summary_text end))
     ⊎ ((status ≡ 3) × Rose mid.failures new.failures × IsTrue new.failed × WasTold told told_new (codes "Write failed.\n"))
     ⊎ ((status ≡ 3) × (new.failures ≡ mid.failures) × IsTrue new.settled × BrokeOff told told_new (summary_text end))
     → DidSearch w status old new told told_new a []
-finished new is took kept (inl h) = inl (h.0, record { output = took_all new took h.1 h.2 kept; told = rw is at h.3 })
-finished new is took kept (inr (inl h)) = inr (inl (h.0, flush, (failed_behind new took h.1 h.2 kept, behind_nothing WasTold h.3)))
-finished new is took kept (inr (inr h)) = inr (inl (h.0, last_line, (took_all new took h.1 h.2 kept, behind_nothing BrokeOff (rw is at h.3))))
+finished new is took kept flushed (inl h) = inl (h.0, record { output = took_all new took h.1 h.2 kept flushed; told = rw is at h.3 })
+finished new is took kept flushed (inr (inl h)) = inr (inl (h.0, flush, (failed_behind new took h.1 h.2 kept flushed, behind_nothing WasTold h.3)))
+finished new is took kept flushed (inr (inr h)) = inr (inl (h.0, last_line, (took_all new took h.1 h.2 kept flushed, behind_nothing BrokeOff (rw is at h.3))))
 
 -- a text behind the warnings
 behind_more : (says : SinkState → SinkState → List ℕ → Type 0) (old mid new : SinkState) (first text : List ℕ)
@@ -104,11 +102,11 @@ failed_begins : (place : FailedAt) (a : Named) (ignored : List ℕ) (w : Words) 
 failed_begins warning a ignored w x y old new h = kept_begins x y (output a w.spacing w.limit) h.0.none
 failed_begins (solution n) a ignored w x y old new h = stopped_begins a w.spacing w.limit n x y h.0
 failed_begins flush a ignored w x y old new h = whole_begins x y (output a w.spacing w.limit) h.0.taken
-failed_begins last_line a ignored w x y old new h = whole_begins x y (output a w.spacing w.limit) h.0.took.whole
+failed_begins last_line a ignored w x y old new h = whole_begins x y (output a w.spacing w.limit) h.0.whole
 
 search_begins : (a : Named) (ignored : List ℕ) (w : Words) (status : ℕ) (x y old new : SinkState)
     → DidSearch w status x y old new a ignored → Begins x y (output a w.spacing w.limit)
-search_begins a ignored w status x y old new (inl h) = whole_begins x y (output a w.spacing w.limit) h.1.output.took.whole
+search_begins a ignored w status x y old new (inl h) = whole_begins x y (output a w.spacing w.limit) h.1.output.whole
 search_begins a ignored w status x y old new (inr (inl h)) = failed_begins h.1 a ignored w x y old new h.2
 search_begins a ignored w status x y old new (inr (inr h)) = kept_begins x y (output a w.spacing w.limit) h.1.unwritten.none
 

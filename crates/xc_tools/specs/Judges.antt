@@ -1,5 +1,5 @@
 -- What a whole run of the judge does.
-use Rattle.std.specs.Prelude.{ℕ, ◌≡◌, ◌⊎◌, List, [], ◌∷◌, ◌++◌, take, Option, None, Some, MatchOption, codes, decimal, flat_map, if◌then◌else◌}
+use Rattle.std.specs.Prelude.{ℕ, ◌≡◌, ◌⊎◌, List, [], ◌∷◌, ◌++◌, Option, None, Some, MatchOption, codes, decimal, flat_map, if◌then◌else◌}
 use Rattle.std.specs.Str.{bytes_eq}
 use Rattle.xc_input.specs.declared.kind.Kind.{Kind}
 use Rattle.xc_input.specs.declared.kind.Kind.TheVariants.{Plain, Colours, Bounds}
@@ -8,7 +8,7 @@ use Rattle.xc_input.specs.Lines.{lines_of}
 use Rattle.xc_input.specs.Calls.{Rose}
 use Rattle.xc_input.specs.Pieces.{SourceState, GaveAll}
 use Rattle.xc_list.specs.Listed.{fault_in_listing, AreVerdicts}
-use Rattle.xc_list.specs.Texts.{WasTold}
+use Rattle.xc_list.specs.Texts.{BrokeOff, WasTold}
 use Rattle.xc_list.specs.declared.checker.Verdict.{Verdict}
 use Rattle.xc_list.specs.declared.checker.ListingFault.{ListingFault}
 use Rattle.xc_list.specs.declared.checker.ListingFault.TheVariants.{BadLine, UnknownOption, Memory}
@@ -78,12 +78,12 @@ pub record IsUnread {L O E : Type 0} (old new : Streams L O E) : Type 0 where
   pub told : WasTold old.err.state new.err.state (codes "Read failed.\n")
   pub unwritten : new.out ≡ old.out
 
--- 3: behind the verdicts, or a beginning of them, a write or the flush failed, which was told.
+-- 3: a write of the verdicts failed, or the flush behind all of them, which was told.
 pub record IsFailed {L O E : Type 0} (a : Named) (old new : Streams L O E) : Type 0 where
   pub verdicts : List Verdict
   pub right : HasVerdicts a verdicts old.input.state new.input.state
-  pub many : ℕ
-  pub failed : FailedBehind old.out.state new.out.state (take many (flat_map verdict_text verdicts))
+  pub failed : BrokeOff old.out.state new.out.state (flat_map verdict_text verdicts)
+      ⊎ FailedBehind old.out.state new.out.state (flat_map verdict_text verdicts)
   pub told : WasTold old.err.state new.err.state (codes "Write failed.\n")
 
 -- 4: there was no memory for the listing or the verdicts, which was told, and nothing was written.

@@ -1,5 +1,5 @@
 -- What a whole run of a solver does.
-use Rattle.std.specs.Prelude.{◌≡◌, ◌⊎◌, ℕ, List, ◌++◌, IsTrue, MatchResult, codes, flat_map}
+use Rattle.std.specs.Prelude.{◌≡◌, ◌⊎◌, ℕ, ◌+◌, List, ◌++◌, IsTrue, MatchResult, codes, flat_map}
 use Rattle.std.specs.Io.KnownBytes.{Appends}
 use Rattle.xc_input.specs.Calls.{Rose}
 use Rattle.xc_input.specs.declared.kind.Kind.{Kind}
@@ -35,16 +35,19 @@ abbrev pub streams : {S O E : Type 0} → (S → SourceState) → (O → SinkSta
     → S → O → E → Streams S O E
 streams input out err s o e = record { input = seen input s; out = seen out o; err = seen err e }
 
--- A sink took the whole text, met no failure, and holds nothing back.
+-- A sink took the whole text and was flushed once, met no failure, and holds nothing back.
 pub record TookAll (old new : SinkState) (text : List ℕ) : Type 0 where
-  pub took : Took old new text
+  pub no_failure : new.failures ≡ old.failures
+  pub whole : Appends old.taken new.taken text
   pub settled : IsTrue new.settled
+  pub flushed_once : new.flushes ≡ old.flushes + 1
 
--- A sink took this text, and failed at the next call, its last.
+-- A sink took the whole text, was flushed once, and failed at that, its last call.
 pub record FailedBehind (old new : SinkState) (text : List ℕ) : Type 0 where
   pub failure : Rose old.failures new.failures
   pub last : IsTrue new.failed
   pub taken : Appends old.taken new.taken text
+  pub flushed_once : new.flushes ≡ old.flushes + 1
 
 -- A sink took the one text, and then this is so of it and the other.
 abbrev pub Behind : List ℕ → (SinkState → SinkState → List ℕ → Type 0) → SinkState → SinkState → List ℕ → Type 0

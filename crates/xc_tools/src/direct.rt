@@ -1,12 +1,12 @@
 //! The system's writers as sinks that hold nothing back.
-ghost use Rattle.std.specs.Prelude.{◌≡◌, ◌<◌, ◌≤◌, true, false, length, is_err, IfOk, IsErr, IsTrue};
+ghost use Rattle.std.specs.Prelude.{◌≡◌, ◌+◌, ◌<◌, ◌≤◌, true, false, length, is_err, IfOk, IsErr, IsTrue};
 ghost use Rattle.std.specs.Io.KnownBytes.{Keeps, WriteAppends};
 ghost use Rattle.xc_input.specs.Calls.{counted, is_failed_write};
 ghost use Rattle.xc_tools.specs.Streams.{answered, write_answer, flush_answer};
 
 use crate::system::{System, SystemWriter};
 use std::io::Write;
-use xc_list::{Sink, WriteFailed};
+use xc_list::{Flushes, Sink, WriteFailed};
 
 /// A writer of the system as a sink that passes on each text at once. After a failure nothing is asked
 /// of it.
@@ -15,6 +15,7 @@ pub struct Direct<W: SystemWriter + Drop> {
     writer: W,
     failures: u64,
     failed: bool,
+    flushes: Flushes,
 }
 
 impl<W: Write + Drop> Direct<System<W>> {
@@ -23,6 +24,7 @@ impl<W: Write + Drop> Direct<System<W>> {
         ensures writer { result.writer.stream ≡ writer }
         ensures failures { result.failures ≡ 0 }
         ensures failed { result.failed ≡ false }
+        ensures flushes { result.flushes.count ≡ 0 }
     {
         Direct::over(System::new(writer))
     }
@@ -34,11 +36,13 @@ impl<W: SystemWriter + Drop> Direct<W> {
         ensures writer { result.writer ≡ writer }
         ensures failures { result.failures ≡ 0 }
         ensures failed { result.failed ≡ false }
+        ensures flushes { result.flushes.count ≡ 0 }
     {
         Direct {
             writer,
             failures: 0,
             failed: false,
+            flushes: Flushes::new(),
         }
     }
 
@@ -47,6 +51,7 @@ impl<W: SystemWriter + Drop> Direct<W> {
         ensures writer { self.new.writer ≡ self.old.writer }
         ensures failures { self.new.failures ≡ counted true self.old.failures }
         ensures failed { IsTrue self.new.failed }
+        ensures flushes { self.new.flushes.count ≡ self.old.flushes.count }
     {
         self.failures = self.failures.saturating_add(1);
         self.failed = true;
@@ -60,6 +65,7 @@ impl<W: SystemWriter + Drop> Sink for Direct<W> {
       failed = s.failed;
       taken = W.contents s.writer;
       settled = true;
+      flushes = s.flushes.count;
     } };
 
     fn write(&mut self, bytes: &[u8]) -> Result<usize, WriteFailed>
@@ -67,6 +73,7 @@ impl<W: SystemWriter + Drop> Sink for Direct<W> {
         ensures failures { self.new.failures ≡ counted (is_failed_write result bytes.now) self.old.failures }
         ensures failed { self.new.failed ≡ is_failed_write result bytes.now }
         ensures bytes { WriteAppends (W.contents self.old.writer) (W.contents self.new.writer) result bytes.now }
+        ensures flushes { self.new.flushes.count ≡ self.old.flushes.count }
 
         // The system is asked once, and its answer is this one's; after a failure it isn't asked.
         ensures asked { self.old.failures ≡ 0 →
@@ -90,10 +97,12 @@ impl<W: SystemWriter + Drop> Sink for Direct<W> {
         ensures failed { self.new.failed ≡ is_err result }
         ensures bytes { Keeps (W.contents self.old.writer) (W.contents self.new.writer) }
         ensures settled { IsTrue true }
+        ensures flushes { self.new.flushes.count ≡ self.old.flushes.count + 1 }
         ensures asked { self.old.failures ≡ 0 →
             W.asked self.new.writer ≡ answered (flush_answer result) (W.asked self.old.writer) }
         ensures closed { 0 < self.old.failures → IsErr result × (self.new.writer ≡ self.old.writer) }
     {
+        self.flushes = Flushes::one_more(&self.flushes);
         if self.failures > 0 || self.writer.flush().is_err() {
             return Err(self.fail());
         }

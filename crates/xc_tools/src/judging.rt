@@ -1,7 +1,7 @@
 //! A whole run of the judge.
-ghost use Rattle.std.specs.Prelude.{◌≡◌, ◌⊎◌, IsSomeAnd, ℕ, take, map, List, codes, flat_map};
+ghost use Rattle.std.specs.Prelude.{◌≡◌, ◌⊎◌, IsSomeAnd, map, List, codes, flat_map};
 ghost use Rattle.std.specs.Io.KnownBytes.{Keeps};
-ghost use Rattle.xc_list.specs.Texts.{WasTold, Writes, Begins};
+ghost use Rattle.xc_list.specs.Texts.{BrokeOff, WasTold, Writes, Begins};
 ghost use Rattle.xc_list.specs.declared.checker.Verdict.{Verdict};
 ghost use Rattle.xc_tools.specs.Given.{GaveProblem};
 ghost use Rattle.xc_tools.specs.Solves.{seen, streams, TookAll, FailedBehind};
@@ -76,8 +76,8 @@ fn judged_status(verdicts: &[Verdict]) -> u8
 fn tell_verdicts<O: Sink, E: Sink>(verdicts: &[Verdict], out: &mut O, err: &mut E) -> u8
     ensures did { ((judged_status verdicts.now ≡ result)
         × TookAll (O.state out.old) (O.state out.new) (flat_map verdict_text verdicts.now) × (err.new ≡ err.old))
-        ⊎ ((result ≡ 3) × ((many : ℕ)
-        × FailedBehind (O.state out.old) (O.state out.new) (take many (flat_map verdict_text verdicts.now)))
+        ⊎ ((result ≡ 3) × (BrokeOff (O.state out.old) (O.state out.new) (flat_map verdict_text verdicts.now)
+        ⊎ FailedBehind (O.state out.old) (O.state out.new) (flat_map verdict_text verdicts.now))
         × WasTold (E.state err.old) (E.state err.new) (codes "Write failed.\n")) }
 {
     match write_verdicts(verdicts, out) {

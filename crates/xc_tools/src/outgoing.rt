@@ -11,7 +11,7 @@ use crate::outgoing::held::{Held, ROOM};
 use crate::system::{System, SystemWriter};
 use std::alloc::{AllocError, Global};
 use std::io::Write;
-use xc_list::{Sink, WriteFailed};
+use xc_list::{Flushes, Sink, WriteFailed};
 
 /// A writer of the system as a sink that holds some bytes back until it is flushed. The first failure
 /// of the system is its own at that call, and after it nothing is asked of the system.
@@ -30,6 +30,7 @@ pub struct Outgoing<W: SystemWriter + Drop> {
     calm: usize,
     failures: u64,
     failed: bool,
+    flushes: Flushes,
     ghost room: { length held < 65536 },
     ghost within: { length held + calm ≤ 65536 },
     ghost little: { 0 < calm → length held + calm ≤ early by_line passed },
@@ -73,6 +74,7 @@ impl<W: Write + Drop> Outgoing<System<W>> {
         ensures passed { IfOk result (λ s. s.passed ≡ 0) }
         ensures failures { IfOk result (λ s. s.failures ≡ 0) }
         ensures failed { IfOk result (λ s. s.failed ≡ false) }
+        ensures flushes { IfOk result (λ s. s.flushes.count ≡ 0) }
     {
         Outgoing::over(alloc, System::new(writer), by_line)
     }
@@ -87,6 +89,7 @@ impl<W: SystemWriter + Drop> Outgoing<W> {
         ensures passed { IfOk result (λ s. s.passed ≡ 0) }
         ensures failures { IfOk result (λ s. s.failures ≡ 0) }
         ensures failed { IfOk result (λ s. s.failed ≡ false) }
+        ensures flushes { IfOk result (λ s. s.flushes.count ≡ 0) }
     {
         Ok(Outgoing {
             writer,
@@ -96,6 +99,7 @@ impl<W: SystemWriter + Drop> Outgoing<W> {
             calm: 0,
             failures: 0,
             failed: false,
+            flushes: Flushes::new(),
         })
     }
 
@@ -108,6 +112,7 @@ impl<W: SystemWriter + Drop> Outgoing<W> {
         ensures passed { self.new.passed ≡ self.old.passed }
         ensures failures { self.new.failures ≡ counted true self.old.failures }
         ensures failed { IsTrue self.new.failed }
+        ensures flushes { self.new.flushes.count ≡ self.old.flushes.count }
     {
         self.failures = self.failures.saturating_add(1);
         self.failed = true;
@@ -126,6 +131,7 @@ impl<W: SystemWriter + Drop> Outgoing<W> {
         ensures by_line { self.new.by_line ≡ self.old.by_line }
         ensures passed { self.new.passed ≡ passed_of self.old.passed (length self.old.held) (length self.new.held) }
         ensures failures { self.new.failures ≡ self.old.failures }
+        ensures flushes { self.new.flushes.count ≡ self.old.flushes.count }
         ensures bytes { Keeps
             (append_known (W.contents self.old.writer) self.old.held)
             (append_known (W.contents self.new.writer) self.new.held) }
@@ -151,6 +157,7 @@ impl<W: SystemWriter + Drop> Outgoing<W> {
         ensures calm { self.new.calm ≡ self.old.calm }
         ensures failures { self.new.failures ≡ self.old.failures }
         ensures failed { self.new.failed ≡ false }
+        ensures flushes { self.new.flushes.count ≡ self.old.flushes.count }
         ensures bytes { Appends
             (append_known (W.contents self.old.writer) self.old.held)
             (append_known (W.contents self.new.writer) self.new.held)
@@ -174,6 +181,7 @@ impl<W: SystemWriter + Drop> Outgoing<W> {
             (λ _. self.new.passed ≡ passed_of self.old.passed (length self.old.held) (length self.new.held)) }
         ensures failures { self.new.failures ≡ counted (is_err result) self.old.failures }
         ensures failed { self.new.failed ≡ is_err result }
+        ensures flushes { self.new.flushes.count ≡ self.old.flushes.count }
         ensures asked { MatchResult result (λ _. AskedAtMostOnce (W.asked self.old.writer) (W.asked self.new.writer))
             (λ _. W.asked self.new.writer ≡ answered Failed (W.asked self.old.writer)) }
         ensures bytes { MatchResult result
@@ -206,6 +214,7 @@ impl<W: SystemWriter + Drop> Outgoing<W> {
         ensures bound { IfOk result (λ n. n ≤ length bytes.now) }
         ensures failures { self.new.failures ≡ counted (is_failed_write result bytes.now) self.old.failures }
         ensures failed { self.new.failed ≡ is_failed_write result bytes.now }
+        ensures flushes { self.new.flushes.count ≡ self.old.flushes.count }
         ensures bytes { WriteAppends
             (append_known (W.contents self.old.writer) self.old.held)
             (append_known (W.contents self.new.writer) self.new.held)
@@ -242,6 +251,7 @@ impl<W: SystemWriter + Drop> Sink for Outgoing<W> {
       failed = s.failed;
       taken = append_known (W.contents s.writer) s.held;
       settled = nat_eq (length s.held) 0 && is_flushed (W.asked s.writer).last;
+      flushes = s.flushes.count;
     } };
 
     #[inline(always)]
@@ -249,6 +259,7 @@ impl<W: SystemWriter + Drop> Sink for Outgoing<W> {
         ensures bound { IfOk result (λ n. n ≤ length bytes.now) }
         ensures failures { self.new.failures ≡ counted (is_failed_write result bytes.now) self.old.failures }
         ensures failed { self.new.failed ≡ is_failed_write result bytes.now }
+        ensures flushes { self.new.flushes.count ≡ self.old.flushes.count }
         ensures bytes { WriteAppends
             (append_known (W.contents self.old.writer) self.old.held)
             (append_known (W.contents self.new.writer) self.new.held)
@@ -284,6 +295,7 @@ impl<W: SystemWriter + Drop> Sink for Outgoing<W> {
             (append_known (W.contents self.old.writer) self.old.held)
             (append_known (W.contents self.new.writer) self.new.held) }
         ensures settled { OnOk result (IsTrue (nat_eq (length self.new.held) 0 && is_flushed (W.asked self.new.writer).last)) }
+        ensures flushes { self.new.flushes.count ≡ self.old.flushes.count + 1 }
 
         // Where the system fails this fails; after a failure it isn't asked.
         ensures asked { self.old.failures ≡ 0 → MatchResult result
@@ -293,6 +305,7 @@ impl<W: SystemWriter + Drop> Sink for Outgoing<W> {
         ensures by_line { self.new.by_line ≡ self.old.by_line }
         ensures passed { self.new.passed ≡ passed_of self.old.passed (length self.old.held) (length self.new.held) }
     {
+        self.flushes = Flushes::one_more(&self.flushes);
         if self.failures > 0 || !self.pass_all() || self.writer.flush().is_err() {
             return Err(self.fail());
         }
