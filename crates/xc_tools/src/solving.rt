@@ -1,7 +1,7 @@
 //! A whole run of a program.
 ghost use Rattle.std.specs.Prelude.{◌≡◌, ◌⊎◌, ◌+◌, IsOkAnd, IsTrue, [], map, codes};
 ghost use Rattle.std.specs.Io.KnownBytes.{Keeps};
-ghost use Rattle.xc_list.specs.Messages.{summary_text};
+ghost use Rattle.xc_list.specs.Messages.{failed_text, summary_text};
 ghost use Rattle.xc_list.specs.Output.{output};
 ghost use Rattle.xc_list.specs.Settings.{read_words};
 ghost use Rattle.xc_list.specs.Texts.{Took, BrokeOff, WasTold, Begins};
@@ -37,6 +37,15 @@ fn finish<O: Sink, E: Sink>(end: &End, out: &mut O, err: &mut E) -> u8
     }
 }
 
+/// Tells at which solution a write failed, as far as that goes, and gives the status of that: 3.
+fn tell_failed_write<E: Sink>(solution: u64, err: &mut E) -> u8
+    ensures status { result ≡ 3 }
+    ensures told { WasTold (E.state err.old) (E.state err.new) (failed_text solution) }
+{
+    let _ = summary(&End::WriteFailed(solution), err);
+    FAILED
+}
+
 /// Searches a problem, and tells how that ended.
 fn solve_problem<O: Sink, E: Sink>(
     alloc: Global,
@@ -50,10 +59,7 @@ fn solve_problem<O: Sink, E: Sink>(
 {
     match run(alloc, problem, words, out) {
         Err(Memory) => out_of_memory(err),
-        Ok(End::WriteFailed(n)) => {
-            let _ = summary(&End::WriteFailed(n), err);
-            FAILED
-        }
+        Ok(End::WriteFailed(n)) => tell_failed_write(n, err),
         Ok(End::Done(n)) => finish(&End::Done(n), out, err),
         Ok(End::Limit(n)) => finish(&End::Limit(n), out, err),
     }

@@ -1,7 +1,6 @@
-use Rattle.std.proofs.Common.{refl, inl, inr}
+use Rattle.std.proofs.Common.{inl, inr}
 use Rattle.xc_list.specs.Texts.{WasTold}
 use Rattle.xc_list.proofs.Outputs.{done_end, limit_end}
-use Rattle.xc_list.proofs.Writing.{was_told}
 use Rattle.xc_tools.specs.Solves.{solution}
 use Rattle.xc_tools.proofs.RunLemmas.{behind_nothing, finished}
 use Rattle.xc_tools.proofs.solving.solve_problem.Goals as goal
@@ -9,7 +8,7 @@ use Rattle.xc_tools.proofs.solving.solve_problem.Goals as goal
 pub returns-in-Ok-WriteFailed : goal.returns-in-Ok-WriteFailed
 returns-in-Ok-WriteFailed g c =
     let stop = rw c.in-Ok-WriteFailed.field-0-is at c.in-Ok-WriteFailed.ensures.run in
-    record { did = inr (inl (refl, solution c.in-Ok-WriteFailed.n, (stop, behind_nothing WasTold (was_told c.summary.result c.summary.ensures)))) }
+    record { did = inr (inl (c.tell_failed_write.ensures.status, solution c.in-Ok-WriteFailed.n, (stop, behind_nothing WasTold c.tell_failed_write.ensures.told))) }
 
 pub returns-in-Ok-Done : goal.returns-in-Ok-Done
 returns-in-Ok-Done g c =
