@@ -10,6 +10,7 @@ from typing import Callable, Dict, Hashable, Iterable, Iterator, Optional, Set
 from .syntax import MOST_COLOUR, MOST_NAME, bytes_of, name_fault, text_of
 
 _NOT_IN_NAME = re.compile(r"[\s:|\0]+", re.ASCII)
+_IN_NAME = [bytes([byte]) for byte in range(256) if byte not in b"\0 \t\n\v\f\r:|"]
 _NOT_IN_COLOUR = re.compile(r"[\s\0]+", re.ASCII)
 
 
@@ -24,9 +25,10 @@ def colour_names(colours: Iterable[Hashable]) -> Dict[Hashable, str]:
 
 
 def codes() -> Iterator[str]:
-    """Names as short as can be, without end. None of the first 200,000 is `null`."""
+    """Names as short as can be, without end, of all bytes that may be in one. None of the first 200,000 is `null`."""
+    alphabet = sorted(map(text_of, _IN_NAME), key=lambda letter: letter not in string.ascii_letters + string.digits)
     for length in itertools.count(1):
-        for letters in itertools.product(string.ascii_letters + string.digits, repeat=length):
+        for letters in itertools.product(alphabet, repeat=length):
             yield "".join(letters)
 
 
