@@ -24,6 +24,7 @@ from .errors import (
 )
 from .listing import Listed, Null
 from .problem import Problem, Solutions
+from .solution import Solution
 from .syntax import Bounds
 
 __version__ = "0.1.0"
@@ -40,6 +41,7 @@ __all__ = [
     "ProblemFault",
     "ProgramFailed",
     "ProgramNotFound",
+    "Solution",
     "Solutions",
     "TableFault",
 ]

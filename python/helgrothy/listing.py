@@ -15,6 +15,7 @@ from .errors import ListingFault
 from .syntax import text_of
 
 O = TypeVar("O")
+S = TypeVar("S")
 
 _HEADER = re.compile(rb"([0-9]{1,20}):\Z")
 _CHOICE = re.compile(rb" \S+(?: \S+)* \([0-9]{1,10} of [0-9]{1,10}\)\Z")
@@ -59,6 +60,12 @@ class Decoder(Dict[bytes, Union[O, Null]], Generic[O]):
             self[line] = choice
         return choice
 
+    def read(self, lines: bytes) -> List[Union[O, Null]]:
+        """The choices of lines, without what stands behind the last one's end."""
+        parts = lines.split(b"\n")
+        parts.pop()
+        return list(map(self.__getitem__, parts))
+
     def _read(self, body: bytes) -> Union[O, Null]:
         key = turned(body)
         if key in self._options:
@@ -69,28 +76,30 @@ class Decoder(Dict[bytes, Union[O, Null]], Generic[O]):
 
 
 def stream(
-    chunks: Iterable[bytes], read: Callable[[List[bytes]], List[O]], is_whole: Callable[[List[bytes]], bool]
-) -> Generator[List[O], None, bool]:
-    """The solutions of a program's own listing as its bytes come; `read` makes one of choice lines.
+    chunks: Iterable[bytes], give: Callable[[bytes], S], is_whole: Callable[[bytes], bool]
+) -> Generator[S, None, bool]:
+    """The solutions of a program's own listing as its bytes come; `give` makes one of its choice lines.
 
-    A solution ends where the next one begins. So that the last one that came needn't wait for that, `is_whole`
-    says of its lines whether they are all. Returns whether the listing ends within a solution.
+    A solution ends where the next one begins, and behind its lines is that one's number, which is no line. So that
+    the last one that came needn't wait for it, `is_whole` says whether lines are all of a solution. Returns whether
+    the listing ends within one.
     """
     rest = b""
     is_open = False
     for chunk in chunks:
+        if rest.endswith(b":"):
+            rest, chunk = b"", rest + chunk
         # A line of an option ends with a bracket, so only that of a number ends with a colon.
-        pieces = (rest + chunk).split(b":\n")
+        pieces = chunk.split(b":\n")
+        pieces[0] = rest + pieces[0]
         rest = pieces.pop()
-        for piece in pieces:
-            if is_open:
-                yield read(piece.split(b"\n")[:-1])
+        if pieces and not is_open:
+            del pieces[0]
             is_open = True
-        if is_open and (not rest or rest.endswith(b"\n")):
-            lines = rest.split(b"\n")[:-1]
-            if is_whole(lines):
-                rest, is_open = b"", False
-                yield read(lines)
+        yield from map(give, pieces)
+        if is_open and rest.endswith(b"\n") and is_whole(rest):
+            yield give(rest)
+            rest, is_open = b"", False
     return is_open
 
 

@@ -5,6 +5,7 @@ from __future__ import annotations
 import tempfile
 import warnings
 from collections import Counter
+from functools import partial
 from types import TracebackType
 from typing import (
     IO,
@@ -31,6 +32,7 @@ from .errors import ListingFault, NoPicture, ProblemFault, ProgramFailed
 from .listing import Decoder, Listed, Null
 from .names import codes, colour_names, item_names
 from .programs import Ending, Run
+from .solution import Solution
 from .syntax import MOST_ITEMS, MOST_USES, ONCE, Bounds, bounds_fault, bytes_of, read, text_of
 
 if TYPE_CHECKING:
@@ -221,8 +223,8 @@ class Problem(Generic[Option]):
         limit: stop after so many solutions. spacing: give each one whose number is a multiple of it. nulls: have
         the choices of none in the lists, as `Null`. seconds: raise `OutOfTime` where it takes longer.
 
-        Nothing but one solution is held in memory, and the program ends where the caller stops. Raises
-        `ProgramNotFound`, `ProgramFailed` and `OutOfTime`.
+        A `Solution` is read when it is first touched. Nothing but one is held in memory, and the program ends where
+        the caller stops. Raises `ProgramNotFound`, `ProgramFailed` and `OutOfTime`.
         """
         words = _words(limit, spacing)
         if spacing < 1:
@@ -232,21 +234,18 @@ class Problem(Generic[Option]):
 
     def _stream(
         self, outcome: _Outcome, words: List[str], nulls: bool, seconds: Optional[float]
-    ) -> Generator[List[Any], None, None]:
+    ) -> Generator[Solution[Any], None, None]:
         wire = _Wire(self)
-        get = wire.decoder.__getitem__
+        with_nulls = wire.decoder.read
+
+        def without_nulls(lines: bytes) -> List[Any]:
+            return [choice for choice in with_nulls(lines) if not isinstance(choice, Null)]
+
+        def is_whole(lines: bytes) -> bool:
+            return self._is_whole(with_nulls(lines))
+
         may_be_null = any(low < high for low, high in self.items.values())
-
-        def with_nulls(lines: List[bytes]) -> List[Any]:
-            return list(map(get, lines))
-
-        def without(lines: List[bytes]) -> List[Any]:
-            return [choice for choice in map(get, lines) if choice.__class__ is not Null]
-
-        def is_whole(lines: List[bytes]) -> bool:
-            return self._is_whole(map(get, lines))
-
-        give = with_nulls if nulls or not may_be_null else without
+        give = partial(Solution, with_nulls if nulls or not may_be_null else without_nulls)
         with Run(f"dlx{self.kind}", words, _ended(wire.lines), seconds) as run:
             is_cut = yield from listings.stream(run.chunks(), give, is_whole)
             ending = Ending(run)
@@ -372,15 +371,15 @@ class Solutions(Generic[Option]):
     where a loop over it is left and nothing holds it any longer.
     """
 
-    def __init__(self, stream: Generator[List[Option], None, None], outcome: _Outcome) -> None:
+    def __init__(self, stream: Generator[Solution[Option], None, None], outcome: _Outcome) -> None:
         self._stream = stream
         self._outcome = outcome
 
-    def __iter__(self) -> Iterator[List[Option]]:
+    def __iter__(self) -> Iterator[Solution[Option]]:
         # The generator itself, so that a loop pays no call of Python more for each solution.
         return self._stream
 
-    def __next__(self) -> List[Option]:
+    def __next__(self) -> Solution[Option]:
         return next(self._stream)
 
     @property

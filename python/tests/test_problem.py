@@ -1,7 +1,9 @@
 """Problems over the real programs."""
 
+import copy
 import glob
 import os
+import pickle
 import stat
 import tempfile
 import unittest
@@ -16,6 +18,7 @@ from helgrothy import (
     ProblemFault,
     ProgramFailed,
     ProgramNotFound,
+    listing,
     make,
     programs,
 )
@@ -106,6 +109,34 @@ class Solving(unittest.TestCase):
         with problem.solve(seconds=20) as solutions:
             self.assertEqual(next(solutions), [options[0]])
 
+    def test_a_solution_is_as_a_list(self):
+        problem = Problem("abc", options=["ab", "c", "a", "bc"])
+        first, second = problem.solve()
+        for equal in (["ab", "c"], next(problem.solve())):
+            self.assertTrue(first == equal and equal == first and not first != equal)
+        self.assertTrue(first != second and first != ("ab", "c") and first != ["ab"])
+        self.assertEqual((first[0], first[-1], first[:1], len(first)), ("ab", "c", ["ab"], 2))
+        self.assertEqual(([*first], list(reversed(first)), repr(first)), (["ab", "c"], ["c", "ab"], "['ab', 'c']"))
+        self.assertTrue("c" in first and "bc" not in first and first.index("c") == first.count("c") == 1)
+        self.assertEqual(sorted(problem.solve()), [second, first])
+        self.assertTrue(second < first and first >= second and ["a"] < first)
+        for copied in (copy.copy(first), copy.deepcopy(first), pickle.loads(pickle.dumps(next(problem.solve())))):
+            self.assertEqual((copied.__class__, copied), (list, first))
+        with self.assertRaises(TypeError):
+            hash(first)
+
+    def test_solutions_that_are_kept(self):
+        problem = make.queens.problem(8)
+        kept = list(problem.solve())
+        self.assertEqual(kept, [list(solution) for solution in problem.solve()])
+        self.assertEqual(problem.check(kept), [True] * 92)
+
+    def test_more_items_and_colours_than_bytes(self):
+        pairs = [(k, k + 1) for k in range(0, 600, 2)]
+        self.assertEqual([sorted(solution) for solution in Problem(range(600), options=pairs).solve()], [pairs])
+        coloured = [{"a": None, "x": colour} for colour in range(600)]
+        self.assertEqual(list(Problem("a", "x", coloured).solve()), [[option] for option in coloured])
+
     def test_options_without_primary_items(self):
         with self.assertWarnsRegex(UserWarning, "option 2 has no primary item"):
             problem = Problem("a", "x", ["ax", "x", ""])
@@ -131,6 +162,50 @@ class Solving(unittest.TestCase):
                 lines = [problem.line(option) for option in next(problem.solve())]
                 self.assertEqual(problem.check([[option.split() for option in []]]), [False])
                 self.assertTrue(all(f"{line}\n".encode() in text for line in lines))
+
+
+class Streaming(unittest.TestCase):
+    solutions = [b" a b:x (1 of 2)\n c (1 of 1)\n", b" ( a (2 of 2)\n", b" c (3 of 3)\n"]
+    text = b"9:\n%b10:\n%b11:\n%b" % tuple(solutions)
+
+    def stream(self, text, size):
+        """The solutions of a text that comes in pieces of a size, and whether it ends within one."""
+        is_cut = None
+
+        def run():
+            nonlocal is_cut
+            chunks = (text[at : at + size] for at in range(0, len(text), size))
+            is_cut = yield from listing.stream(chunks, self.lines, lambda lines: lines in self.solutions)
+
+        return list(run()), is_cut
+
+    @staticmethod
+    def lines(text):
+        return text[: text.rindex(b"\n") + 1]
+
+    def test_pieces_of_any_size(self):
+        for size in range(1, len(self.text) + 1):
+            self.assertEqual(self.stream(self.text, size), (self.solutions, False))
+
+    def test_a_text_that_is_cut(self):
+        for end in range(len(self.text)):
+            for size in (1, 7, len(self.text)):
+                given, is_cut = self.stream(self.text[:end], size)
+                self.assertEqual(given, self.solutions[: len(given)])
+                self.assertEqual(is_cut, self.text.count(b":\n", 0, end) > len(given))
+            whole = [solution for solution in self.solutions if solution in self.text[:end]]
+            self.assertEqual(self.stream(self.text[:end], 1)[0], whole)
+
+    def test_a_line_that_is_no_option(self):
+        with tempfile.TemporaryDirectory() as folder:
+            wrong = os.path.join(folder, "dlx1")
+            with open(wrong, "w") as file:
+                file.write("#!/bin/sh\nprintf '1:\\n what (1 of 1)\\n2:\\n'\necho 'Altogether 2 solutions.' >&2\n")
+            os.chmod(wrong, stat.S_IRWXU)
+            with mock.patch.dict(os.environ, HELGROTHY_BIN=folder):
+                with Problem("a", options=["a"]).solve() as solutions:
+                    with self.assertRaises(KeyError):
+                        list(next(solutions))
 
 
 class Judging(unittest.TestCase):
