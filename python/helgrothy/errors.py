@@ -62,3 +62,7 @@ class OutOfTime(HelgrothyError, TimeoutError):
 
 class NoPicture(HelgrothyError, LookupError):
     """There is no drawing for the problem, or nothing in it to draw."""
+
+
+class PartsFault(HelgrothyError, ValueError):
+    """A folder of parts, its plan or what is asked of them isn't as it should be."""
