@@ -7,8 +7,8 @@
         print(solution)
 
 `helgrothy.make` makes problems that people know, `helgrothy.draw` draws solutions, `helgrothy.lint` looks for slips,
-`helgrothy.why` for conflicts, and `helgrothy.export` writes problems for other solvers. `python3 -m helgrothy --help`
-has the same as commands.
+`helgrothy.why` for conflicts, `helgrothy.export` writes problems for other solvers, and `helgrothy.parts` searches in
+parts. `python3 -m helgrothy --help` has the same as commands.
 """
 
 from .errors import (

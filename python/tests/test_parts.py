@@ -1,0 +1,324 @@
+"""Searches in parts: plans, texts, records, what is refused, and the commands."""
+
+import contextlib
+import io
+import os
+import random
+import shutil
+import subprocess
+import sys
+import tempfile
+import unittest
+from unittest import mock
+
+from helgrothy import ProgramFailed, parts, programs
+from helgrothy.errors import PartsFault
+from helgrothy.parts import progress
+from helgrothy.parts.__main__ import main
+from helgrothy.parts.folder import ranges
+from helgrothy.parts.text import PartText, choice_lines
+
+COLOURS = ["a", "b", "red", "x:y", "|"]
+
+
+def problem_of(rng: random.Random, kind: int, items: int = 7, options: int = 18, share: float = 0.3) -> bytes:
+    """A problem's text, with at most so many primary items and options, which hold this share of the items."""
+    primary = [f"i{n}" for n in range(rng.randint(1, items))]
+    secondary = [f"s{n}" for n in range(rng.randint(0, 4))]
+    tokens = []
+    for name in primary:
+        if kind < 3 or rng.random() < 0.5:
+            tokens.append(rng.choice([name, "1|" + name, "1:1|" + name]) if kind == 3 else name)
+        else:
+            low = rng.randint(0, 2)
+            tokens.append(f"{low}:{rng.randint(max(low, 1), 3)}|{name}")
+    bar = rng.choice([" | ", " |"]) + " ".join(secondary) if secondary else ""
+    lines = ["| a comment"] if rng.random() < 0.3 else []
+    lines.append("\t".join(tokens) + bar)
+    for _ in range(rng.randint(0, options)):
+        uses = [name for name in primary if rng.random() < share]
+        for name in secondary:
+            if rng.random() < share:
+                is_coloured = kind > 1 and rng.random() < 0.7
+                uses.append(name + (":" + rng.choice(COLOURS) if is_coloured else ""))
+        rng.shuffle(uses)
+        lines.append(rng.choice(["", " "]) + " ".join(uses) + rng.choice(["", "", "\r"]))
+        if rng.random() < 0.05:
+            lines.append(rng.choice(["", "| i0 is a comment"]))
+    return ("\n".join(lines) + rng.choice(["\n", "\n", ""])).encode()
+
+
+def whole(kind: int, text: bytes, *words: str):
+    """The listing and the messages of a search in one."""
+    run = subprocess.run([programs.find(f"dlx{kind}"), *words], input=text, capture_output=True)
+    assert run.returncode == 0, run.stderr
+    return run.stdout, run.stderr.decode()
+
+
+def command(name: str, *words: str):
+    """A command's status, standard output and standard error."""
+    out, error = io.TextIOWrapper(io.BytesIO(), write_through=True), io.StringIO()
+    with mock.patch.object(sys, "stdout", out), contextlib.redirect_stderr(error), mock.patch("signal.signal"):
+        try:
+            status = main(name, words)
+        except SystemExit as ended:
+            status = ended.code
+    return status, out.buffer.getvalue(), error.getvalue()
+
+
+class InParts(unittest.TestCase):
+    def setUp(self) -> None:
+        folder = tempfile.TemporaryDirectory()
+        self.addCleanup(folder.cleanup)
+        self.folder = folder.name
+
+    def path(self, name: str) -> str:
+        return os.path.join(self.folder, name)
+
+    def file(self, name: str, text: bytes) -> str:
+        with open(self.path(name), "wb") as file:
+            file.write(text)
+        return self.path(name)
+
+    def split(self, kind: int, text: bytes, count: int) -> parts.Folder:
+        shutil.rmtree(self.path("parts"), ignore_errors=True)
+        return parts.split(f"dlx{kind}", text, self.path("parts"), count)
+
+    def queens(self, count: int = 4) -> parts.Folder:
+        """Six queens in parts, all listed."""
+        lines = [" ".join([f"r{i}" for i in range(6)] + [f"c{i}" for i in range(6)] + ["|"])]
+        lines[0] += "".join(f" a{i} b{i}" for i in range(11))
+        lines += [f"r{r} c{c} a{r + c} b{r - c + 5}" for r in range(6) for c in range(6)]
+        folder = self.split(1, "\n".join(lines).encode(), count)
+        for part in folder.plan.parts:
+            parts.run(folder, part.number, ["m1"])
+        return folder
+
+    def reasons(self) -> str:
+        """Why the parts can't be joined."""
+        with self.assertRaises(PartsFault) as refused:
+            parts.Joined(parts.Folder(self.path("parts")))
+        return str(refused.exception)
+
+
+class Trees(InParts):
+    def test_a_listing_is_that_of_its_parts(self):
+        rng = random.Random(1)
+        for case in range(40):
+            kind = rng.choice([1, 2, 3])
+            text = problem_of(rng, kind)
+            with self.subTest(text=text, kind=kind):
+                folder = self.split(kind, text, rng.choice([1, 2, 5, 20]))
+                for part in rng.sample(folder.plan.parts, len(folder.plan.parts)):
+                    parts.run(folder, part.number, ["m1"])
+                joined = parts.Joined(folder)
+                self.assertEqual(b"".join(joined.listing()), whole(kind, text, "m1")[0])
+
+    def test_both_texts_of_a_part_are_the_same(self):
+        rng = random.Random(2)
+        for case in range(60):
+            kind = rng.choice([1, 2, 3])
+            tree = parts.Tree(problem_of(rng, kind), kind)
+            nodes = [tree.root()]
+            while nodes and len(nodes) < 60:
+                node = nodes.pop(0)
+                text = PartText(tree.lines, kind, node.path)
+                self.assertEqual(text.is_solution, node.is_solution)
+                if not node.is_solution:
+                    self.assertEqual(list(text.text()), list(node.text()))
+                    nodes.extend(node.children())
+
+    def test_by_hand(self):
+        tree = parts.Tree(b"0:2|A 2|B C | x y\nA x:1\nB x:2 y\nB A x:1\nB C\nC A x\n", 3)
+        self.assertEqual(tree.root().choices(), [("B", 1, 2, 3), ("B", 2, 2, 4)])
+        taken = tree.root().child(tree.root().choices()[1])
+        self.assertEqual(b"".join(taken.text()), b"0:1|A B C | x y\nA x:1\nB C\n")
+        self.assertEqual([choice[1:] for choice in taken.choices()], [(1, 1, 5)])
+        path = (parts.Choice("A", 2, 3, 4), parts.Choice("A", 2, 2, 0))
+        self.assertEqual(choice_lines(tree.lines, path), b" A x:1 B (2 of 3)\n null A (2 of 2)\n")
+        last = taken.child(taken.choices()[0])
+        self.assertEqual((last.is_solution, [choice[1:] for choice in last.choices()]), (False, [(1, 2, 2), (2, 2, 0)]))
+
+    def test_plans(self):
+        folder = self.queens(12)
+        plan = folder.plan
+        self.assertGreaterEqual(len(plan.parts), 12)
+        self.assertEqual(parts.Plan.read(plan.text()).text(), plan.text())
+        tree = parts.Tree(folder.problem, 1)
+        ps = plan.parts
+        some = next(at for at, part in enumerate(ps) if folder.record(part.number).solutions)
+        for changed in (ps[:some] + ps[some + 1 :], ps[::-1], [], ps[:1] * 2, [*ps, ps[-1]], ps[:1]):
+            with self.assertRaises(PartsFault):
+                parts.Plan(plan.program, plan.problem, changed).check(tree)
+        changes = ("r0:1/6", "r0:1/7"), ("r0:1/6", "r1:1/6"), ("@2", "@3"), ("end 1", "end 2"), ("dlx1", "dlx4")
+        for old, new in ((old.encode(), new.encode()) for old, new in changes):
+            with self.assertRaises(PartsFault):
+                parts.Plan.read(plan.text().replace(old, new, 1)).check(tree)
+        root = self.split(1, b"A B\nA\n", 5)
+        self.assertEqual([part.path for part in root.plan.parts], [()])
+
+
+class Records(InParts):
+    def test_what_is_missing_is_named(self):
+        folder = self.queens()
+        for number in (1, 3, 4):
+            os.remove(folder.done(number))
+        self.assertEqual(self.reasons(), "not done: 1,3-4")
+        with mock.patch("helgrothy.parts.runs.find", return_value="/bin/false"):
+            with self.assertRaises(ProgramFailed):
+                parts.run(folder, 3, ["m1"])
+        self.assertEqual(self.reasons(), "not done: 1,4; part 3 failed: dlx1 ended with status 1: no message")
+        for number in (1, 3, 4):
+            parts.run(folder, number, ["m1"])
+        self.assertEqual(sum(1 for name in os.listdir(folder.path) if not name.endswith(".done")), 2)
+        self.assertEqual(parts.Joined(folder).solutions, 4)
+
+    def test_words(self):
+        folder = self.queens()
+        os.remove(folder.done(2))
+        self.assertEqual(parts.run(folder, 2, []).words, [])
+        self.assertIn("listed: 1,3-", self.reasons())
+        self.assertIn("but only counted: 2", self.reasons())
+        self.assertEqual(parts.run(folder, 2, ["m1"]).words, ["m1"])
+        self.assertEqual(parts.run(folder, 1, []).words, ["m1"])
+        self.assertEqual(parts.words_of(["m1", "m0"]), [])
+        for word in ("t5", "m2", "m", "1", "m01x"):
+            with self.assertRaises(PartsFault):
+                parts.words_of([word])
+        for number in range(1, len(folder.plan.parts) + 1):
+            os.remove(folder.done(number))
+            parts.run(folder, number, [])
+        counted = parts.Joined(folder)
+        self.assertEqual((counted.solutions, b"".join(counted.listing())), (4, b""))
+
+    def test_what_was_changed_is_doubtful(self):
+        folder = self.queens()
+        with_some = next(p.number for p in folder.plan.parts if folder.record(p.number).solutions)
+        with open(folder.done(with_some), "rb") as file:
+            right = file.read()
+        other = folder.done(with_some % len(folder.plan.parts) + 1)
+        with open(other, "rb") as file:
+            others = file.read()
+        for wrong in (
+            right[:-1],
+            right[1:],
+            right[:40] + b"\0" + right[41:],
+            right.replace(b"(1 of 6)", b"(2 of 6)").replace(b"c", b"C", 1),
+            right.replace(b'"solutions": ', b'"solutions": 1'),
+            right.replace(b'["m1"]', b"[]"),
+            right.replace(b'["m1"]', b'["t1"]'),
+            right.replace(b'"dlx1"', b'"dlx2"'),
+            right.replace(b'"status": 0', b'"status": 5'),
+            right[right.index(b"\n| ") + 1 :],
+            b"",
+            others,
+        ):
+            with self.subTest(wrong=wrong):
+                self.assertNotEqual(wrong, right)
+                self.file(folder.done(with_some), wrong)
+                self.assertIn(f"part {with_some} is doubtful: ", self.reasons())
+                parts.run(folder, with_some, ["m1"])
+                self.assertEqual(parts.Joined(folder).solutions, 4)
+
+    def test_a_full_disk_leaves_nothing_but_the_reason(self):
+        folder = self.queens()
+        os.remove(folder.done(1))
+        with mock.patch("helgrothy.parts.folder._to_disk", side_effect=OSError(28, "No space left on device")):
+            with self.assertRaises(OSError):
+                parts.run(folder, 1, ["m1"])
+        self.assertEqual(self.reasons(), "part 1 failed: No space left on device")
+        self.assertEqual([name for name in os.listdir(folder.path) if name.endswith(".tmp")], [])
+
+    def test_a_count_that_was_changed(self):
+        folder = self.queens()
+        os.remove(folder.done(1))
+        record = parts.run(folder, 1, [])
+        with open(folder.done(1), "rb") as file:
+            right = file.read()
+        for n in (b"17", b"9"):
+            self.file(folder.done(1), right.replace(b'"solutions": %d' % record.solutions, b'"solutions": ' + n))
+            self.assertIn("part 1 is doubtful: its record is damaged", self.reasons())
+        self.assertEqual(parts.run(folder, 1, ["m1"]).solutions, record.solutions)
+
+    def test_a_problem_or_plan_of_another_folder(self):
+        folder = self.queens()
+        with open(os.path.join(folder.path, "plan"), "rb") as file:
+            plan = file.read()
+        self.file("parts/plan", plan.replace(b" 0.", b" 1."))
+        self.assertIn("is of another plan", self.reasons())
+        self.file("parts/plan", plan)
+        self.file("parts/problem.dlx", folder.problem + b"\n")
+        self.assertIn("isn't the problem of the plan", self.reasons())
+
+    def test_what_broken_runs_left(self):
+        folder = self.queens()
+        os.remove(folder.done(2))
+        left = self.file("parts/00002.there.123.abcd.tmp", b"1:\n")
+        self.assertEqual([name for _, name, is_held in folder.runs() if not is_held], [left])
+        empty = self.file("parts/00002.there.124.abcd.tmp", b"")
+        self.assertEqual(parts.state(folder).running, {2: "process 124 on there"})
+        parts.run(folder, 2, ["m1"])
+        self.assertEqual((os.path.exists(left), os.path.exists(empty)), (False, True))
+
+
+class Commands(InParts):
+    def test_from_a_problem_to_its_listing(self):
+        text = b"A B | x\nA\nB\nx\nA B\nA x\n"
+        problem, folder = self.file("p.dlx", text), self.path("parts")
+        told = command("dlx-split", "--parts", "3", "dlx1", problem, folder)
+        self.assertEqual(told, (0, b"", "dlx-split: 3 parts\n"))
+        self.assertEqual(command("dlx-join", folder), (1, b"", "dlx-join: not done: 1-3\n"))
+        self.assertEqual(command("dlx-parts", "--undone", folder)[1], b"1-3\n")
+        self.assertEqual(command("dlx-run", folder, "1/2", "m1"), (0, b"", ""))
+        told = command("dlx-parts", folder)[1].decode().splitlines()
+        self.assertTrue(told[0].startswith("done: 2 of 3, 2 solutions, 0.0 seconds"), told)
+        self.assertEqual(told[1], "undone: 2")
+        self.assertEqual(command("dlx-run", folder, "2", "m1"), (0, b"", ""))
+        self.assertEqual(command("dlx-join", folder), (0, *whole(1, text, "m1")))
+
+    def test_refusals(self):
+        problem, folder = self.file("p.dlx", b"A B\nA\nB\n"), self.path("parts")
+        for words, message in (
+            (("dlx4", problem, folder), "invalid choice: 'dlx4'"),
+            (("dlx1", self.path("none"), folder), "none: No such file"),
+            (("dlx1", self.file("q.dlx", b"A\nB\n"), folder), "line 2: B: unknown item"),
+            (("dlx1", problem, self.path("no/parts")), "no is no folder"),
+            (("dlx1", problem, problem), "p.dlx is there already"),
+        ):
+            status, out, error = command("dlx-split", *words)
+            self.assertEqual((status, out), (2, b""))
+            self.assertIn(message, error)
+        self.assertEqual(sorted(os.listdir(self.folder)), ["p.dlx", "q.dlx"])
+        self.assertEqual(command("dlx-split", "--parts", "1", "dlx1", problem, folder)[0], 0)
+        for words, message in (
+            (("2",), "2: the parts are 1-1"),
+            (("x",), "x: parts are 17"),
+            (("3/2",), "no such share"),
+            (("1", "t5"), "t5: the words of a part are m1"),
+        ):
+            status, out, error = command("dlx-run", folder, *words)
+            self.assertEqual((status, out), (2, b""))
+            self.assertIn(message, error)
+        with mock.patch("helgrothy.parts.runs.find", return_value="/bin/false"):
+            failed = "dlx-run: part 1: dlx1 ended with status 1: no message\n"
+            self.assertEqual(command("dlx-run", folder, "all"), (1, b"", failed))
+        self.assertEqual(command("dlx-join", folder)[0], 1)
+        self.assertEqual(command("dlx-parts", self.folder)[0], 2)
+
+    def test_numbers(self):
+        self.assertEqual(ranges([]), "")
+        self.assertEqual(ranges([1, 3, 4, 5, 7]), "1,3-5,7")
+
+    def test_progress(self):
+        listing = b"2:\n A (2 of 4)\n null B (1 of 2)\n4:\n A (4 of 4)\n B (2 of 2)\n".splitlines(True)
+        self.assertEqual(list(progress.shares(listing)), [(2, 0.25), (4, 0.875)])
+        told = []
+        progress.follow(listing, told.append, 0)
+        self.assertEqual(len(told), 2)
+        self.assertIn("solution 4, 87.50% of the tree, about 0.0 seconds left", told[1])
+        with self.assertRaises(ValueError):
+            list(progress.shares([b"Altogether 4 solutions.\n"]))
+
+
+if __name__ == "__main__":
+    unittest.main()
