@@ -1,6 +1,6 @@
 VERSION := $(shell cat VERSION)
 PROGRAMS = dlx1 dlx2 dlx3 dlxcheck
-SCRIPTS = split run join
+SCRIPTS = split run join parts progress
 
 # Where things are installed.
 PREFIX = /usr/local
@@ -10,7 +10,7 @@ docdir = $(PREFIX)/share/doc/helgrothy
 pythondir = $(PREFIX)/share/helgrothy
 completiondir = $(PREFIX)/share/bash-completion/completions
 
-.PHONY: run bin all test test-mutants test-hostile test-python test-docs pictures
+.PHONY: run bin all test test-mutants test-hostile test-python test-parts test-docs pictures
 .PHONY: install uninstall dist deb wheel version release test-install test-dist test-deb test-wheel
 run: bin
 	cd crates/dlx1 && rt run -- m1 < ../../examples/seven.dlx
@@ -26,10 +26,11 @@ test-hostile:
 	@python3 scripts/hostile/hostile.py
 test-python:
 	@sh tests/python.sh && python3 python/tests/trial.py 2000 1
+test-parts: bin
+	@PATH=$$PWD/bin:$$PATH python3 tests/parts.py 300 1
 test-docs: bin
 	@sh tests/pages.sh . man/*.[15]
 	@scripts/pictures/pictures compare
-	@PATH=$$PWD/bin:$$PATH scripts/split/trial.py 300 1
 
 # The pictures of the documents, made anew.
 pictures:
@@ -43,7 +44,7 @@ all: bin
 bin:
 	@mkdir -p bin
 	@for program in $(PROGRAMS); do ln -sfn ../crates/$$program/out/$$program bin/$$program || exit 1; done
-	@for script in $(SCRIPTS); do ln -sfn ../scripts/split/$$script bin/dlx-$$script || exit 1; done
+	@for script in $(SCRIPTS); do ln -sfn ../scripts/helgrothy bin/dlx-$$script || exit 1; done
 	@ln -sfn ../scripts/helgrothy bin/helgrothy
 
 # What follows takes the programs as `make all` built them, and needs no toolchain.
@@ -59,7 +60,7 @@ install: bin
 	    to="$(DESTDIR)$(mandir)/man$${page##*.}/$${page##*/}"; \
 	    sed '1s/ Helgrothy / "Helgrothy $(VERSION)" /' $$page > "$$to" && chmod 644 "$$to" || exit 1; \
 	done
-	for script in run join; do ln -sfn dlx-split.1 "$(DESTDIR)$(mandir)/man1/dlx-$$script.1" || exit 1; done
+	for script in $(SCRIPTS:split=); do ln -sfn dlx-split.1 "$(DESTDIR)$(mandir)/man1/dlx-$$script.1" || exit 1; done
 	install -m 644 release/completion.bash "$(DESTDIR)$(completiondir)/dlx1"
 	for command in $(COMMANDS:dlx1=); do ln -sfn dlx1 "$(DESTDIR)$(completiondir)/$$command" || exit 1; done
 	$(call copy,docs examples CHANGELOG.md python/README.md,$(DESTDIR)$(docdir))

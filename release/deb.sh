@@ -15,7 +15,7 @@ chmod 755 "$root"
 
 MAKEFLAGS= make -s install VERSION="$version" DESTDIR="$root" PREFIX=/usr pythondir=/usr/lib/python3/dist-packages
 find "$root/usr/share/man" -type f -exec gzip -9n {} +
-for script in run join; do
+for script in run join parts progress; do
     rm "$root/usr/share/man/man1/dlx-$script.1"
     ln -s dlx-split.1.gz "$root/usr/share/man/man1/dlx-$script.1.gz"
 done
@@ -47,7 +47,7 @@ Description: exact cover solvers by dancing links, as proved software
  secondary items, dlx3 bounds on primary items. dlxcheck judges a listing of
  solutions, wherever it is from. People use such solvers for puzzles, tilings,
  timetables and test designs. The Python package helgrothy makes problems and
- draws their solutions.
+ draws their solutions, and searches long problems in parts.
 END
 mkdir -p dist
 dpkg-deb --root-owner-group -Zxz -b "$root" "dist/helgrothy_${version}_amd64.deb" >/dev/null

@@ -31,6 +31,11 @@ Description-Content-Type: text/markdown
 
 ENTRY_POINTS = """\
 [console_scripts]
+dlx-join = helgrothy.parts.__main__:join
+dlx-parts = helgrothy.parts.__main__:tell
+dlx-progress = helgrothy.parts.__main__:progress
+dlx-run = helgrothy.parts.__main__:run_parts
+dlx-split = helgrothy.parts.__main__:split
 helgrothy = helgrothy.__main__:run
 """
 
