@@ -1,5 +1,6 @@
 //! What the programs take from the command line.
-ghost use Rattle.std.specs.Prelude.{◌≡◌, [], None};
+ghost use Rattle.std.specs.Prelude.{◌≡◌, [], None, IfSome, IsSomeAnd, slice_get};
+ghost use Rattle.std.specs.Str.{IsUtf8};
 
 use crate::incoming::Incoming;
 use crate::lazy_file::NamedFile;
@@ -54,10 +55,15 @@ pub fn named_file<'a, R: Files>(
     seed: Seed,
 ) -> Incoming<System<NamedFile<'a, R>>>
     ensures missing { words.now ≡ [] → result.reader ≡ None }
+    ensures named { IfSome (slice_get words.now 0) (λ w. IsUtf8 w.items →
+        IsSomeAnd result.reader (λ r. r.stream.path.now ≡ w.items)) }
     ensures seed { result.seed ≡ seed }
 {
-    match words.first().and_then(|word| str::from_utf8(word).ok()) {
-        Some(path) => Incoming::new(Some(NamedFile::new(rt, path)), seed),
-        None => Incoming::new(None, seed),
+    let Some(word) = words.first() else {
+        return Incoming::new(None, seed);
+    };
+    match str::from_utf8(word) {
+        Ok(path) => Incoming::new(Some(NamedFile::new(rt, path)), seed),
+        Err(_) => Incoming::new(None, seed),
     }
 }

@@ -1,4 +1,5 @@
 //! A file that is opened when it is read.
+ghost use Rattle.std.specs.Prelude.{◌≡◌};
 
 use std::fs::{self, Files};
 use std::io::{self, Read};
@@ -7,13 +8,15 @@ use std::io::{self, Read};
 #[derive(Drop)]
 pub struct NamedFile<'a, R: Files> {
     rt: &'a R,
-    path: &'a str,
+    pub(crate) path: &'a str,
     file: Option<R::File>,
 }
 
 impl<'a, R: Files> NamedFile<'a, R> {
     /// A file that isn't opened yet.
-    pub(crate) fn new(rt: &'a R, path: &'a str) -> NamedFile<'a, R> {
+    pub(crate) fn new(rt: &'a R, path: &'a str) -> NamedFile<'a, R>
+        ensures { result.path.now ≡ path.now }
+    {
         NamedFile {
             rt,
             path,

@@ -1,5 +1,5 @@
-use Rattle.std.proofs.Common.{inl, inr}
-use Rattle.xc_tools.proofs.RunLemmas.{failed_behind, took_all}
+use Rattle.std.proofs.Common.{inr}
+use Rattle.xc_tools.proofs.RunLemmas.{failed_behind}
 use Rattle.xc_tools.proofs.judging.tell_verdicts.Goals as goal
 
 pub returns-in-Err-flush : goal.returns-in-Err-flush
