@@ -14,7 +14,7 @@ use Rattle.xc_input.specs.inner.Vectors.{named_from, IsOptional, AreOptionStarts
 use Rattle.xc_input.specs.inner.Stored.{key_names}
 use Rattle.xc_input.specs.inner.Flat.{pieces}
 use Rattle.xc_input.specs.inner.Builders.{IsBuilder, stage_of_builder, sheet_of_builder, entry_of}
-use Rattle.xc_input.specs.Lines.{AreWhole}
+use Rattle.xc_input.specs.inner.EndedLines.{AreWhole}
 use Rattle.xc_input.specs.Readings.{Reading, IsStateOf, IsFault}
 use Rattle.xc_input.specs.inner.Feeding.{IsEndOf}
 use Rattle.xc_input.proofs.ReadLemmas.{ends-at, end-is}

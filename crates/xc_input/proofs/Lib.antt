@@ -21,3 +21,4 @@ pub mod lists
 pub mod BooleanTests
 pub mod KindLemmas
 pub mod CutTokens
+pub mod DecimalValues

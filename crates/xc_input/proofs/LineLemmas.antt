@@ -1,16 +1,18 @@
 -- What a text's lines are, once some of them were handed on.
-use Rattle.std.proofs.Common.{◌≡◌, ℕ, ◌<◌, List, [], ◌∷◌, ◌++◌, true, false, nat_eq, if◌then◌else◌, Result, Ok, Err, length, refl, sym, ap, ◌∙◌, subst, append_assoc, append-nil, arith}
+use Rattle.std.proofs.Common.{◌≡◌, ◌≢◌, ℕ, ◌<◌, List, [], ◌∷◌, ◌++◌, true, false, nat_eq, if◌then◌else◌, Result, Ok, Err, length, refl, sym, ap, ◌∙◌, subst, append_assoc, append-nil, arith}
+use Rattle.std.proofs.lemmas.Bool.Decides.{nat_tests}
+use Rattle.std.specs.List.{onto_first}
 use Rattle.std.proofs.lemmas.List.Folds.{list_any-append}
 use Rattle.std.specs.Result.{result_err}
 use Rattle.xc_input.specs.declared.kind.Kind.{Kind}
 use Rattle.xc_input.specs.declared.fault.InputError.{InputError}
 use Rattle.xc_input.specs.declared.fault.InputError.TheVariants.{Fault, Device, Memory}
 use Rattle.xc_input.specs.Words.{has, before, after}
-use Rattle.xc_input.specs.Tokens.{at_front}
 use Rattle.xc_input.specs.Stages.{no_stage}
 use Rattle.xc_input.specs.Readings.{Reading, IsStateOf}
 use Rattle.xc_input.specs.inner.Feeding.{IsErrorOf, fed, IsBetween, Spoils, Ended}
-use Rattle.xc_input.specs.Lines.{lines_of, ended, AreWhole}
+use Rattle.xc_input.specs.Lines.{lines_of}
+use Rattle.xc_input.specs.inner.EndedLines.{ended, AreWhole}
 use Rattle.xc_input.proofs.GrammarLemmas.{or-false, or-both, cut-is}
 use Rattle.xc_input.proofs.ReadLemmas.{fault-stays}
 
@@ -37,21 +39,36 @@ line-cut piece end others e h =
     let cut = cut-is 10 piece h.0 in
     (cut.0 ∙ (λ i. sym e i ++ 10 ∷ sym h.1 i), ap (has 10) e ∙ cut.1)
 
+no_feed : (x : ℕ) → nat_eq x 10 ≡ false → x ≢ 10
+no_feed x h = grind (arith, nat_tests)
+
 -- a line and its line feed at the front
 lines_of-line : (l rest : List ℕ) → has 10 l ≡ false → lines_of (l ++ 10 ∷ rest) ≡ l ∷ lines_of rest
 lines_of-line [] rest h = refl
-lines_of-line (x ∷ l) rest h = let apart = or-false (nat_eq x 10) (has 10 l) h in other x _ _ apart.0 ∙ ap (at_front x) (lines_of-line l rest apart.1)
+lines_of-line (x ∷ l) rest h = let apart = or-false (nat_eq x 10) (has 10 l) h in other x _ _ apart.0 ∙ ap (onto_first x) (lines_of-line l rest apart.1)
 
 pub lines_of-ended : (ls : List (List ℕ)) (rest : List ℕ) → AreWhole ls → lines_of (ended ls ++ rest) ≡ ls ++ lines_of rest
 lines_of-ended [] rest h = refl
 lines_of-ended (l ∷ ls) rest h =
     ap lines_of (append_assoc l (10 ∷ ended ls) rest) ∙ lines_of-line l (ended ls ++ rest) h.0 ∙ ap (λ ms. l ∷ ms) (lines_of-ended ls rest h.1)
 
+-- lines that line feeds end
+pub lines_of-all : (ls : List (List ℕ)) → AreWhole ls → lines_of (ended ls) ≡ ls
+lines_of-all ls h = ap lines_of (sym (append-nil (ended ls))) ∙ lines_of-ended ls [] h ∙ append-nil ls
+
+-- the last byte of a part of a line
+pub last-of-part : (part : List ℕ) → has 10 part ≡ false → 0 < length part → (front : List ℕ) × (last : ℕ) × (part ≡ front ++ last ∷ []) × (last ≢ 10)
+last-of-part [] h p = absurd (omega arith)
+last-of-part (x ∷ []) h p = ([], x, refl, no_feed x (or-false (nat_eq x 10) false h).0)
+last-of-part (x ∷ y ∷ l) h p =
+    let more = last-of-part (y ∷ l) (or-false (nat_eq x 10) (has 10 (y ∷ l)) h).1 (omega arith) in
+    (x ∷ more.0, more.1, ap (λ r. x ∷ r) more.2, more.3)
+
 -- a last line without its line feed
 pub lines_of-part : (l : List ℕ) → has 10 l ≡ false → 0 < length l → lines_of l ≡ l ∷ []
 lines_of-part [] h p = absurd (omega arith)
 lines_of-part (x ∷ []) h p = other x _ _ (or-false (nat_eq x 10) false h).0
-lines_of-part (x ∷ y ∷ l) h p = let apart = or-false (nat_eq x 10) (has 10 (y ∷ l)) h in other x _ _ apart.0 ∙ ap (at_front x) (lines_of-part (y ∷ l) apart.1 (omega arith))
+lines_of-part (x ∷ y ∷ l) h p = let apart = or-false (nat_eq x 10) (has 10 (y ∷ l)) h in other x _ _ apart.0 ∙ ap (onto_first x) (lines_of-part (y ∷ l) apart.1 (omega arith))
 
 -- an error of some lines is that of all
 IsErrorOf-more : (kind : Kind) (ls ms : List (List ℕ)) (e : InputError) → IsErrorOf kind ls e → IsErrorOf kind (ls ++ ms) e

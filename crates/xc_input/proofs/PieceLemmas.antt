@@ -1,5 +1,8 @@
 -- What a source gave, piece after piece.
 use Rattle.std.proofs.Common.{◌≡◌, ℕ, ◌<◌, List, [], ◌∷◌, ◌++◌, Option, None, Some, Result, Ok, Err, IfSome, IfOk, IfErr, length, take, refl, sym, ap, subst, ◌∙◌, append_assoc, append-nil, arith, inl, inr}
+use Rattle.xc_input.proofs.LineLemmas.{lines_of-all, last-of-part}
+use Rattle.xc_input.specs.Stages.{line_fault}
+use Rattle.xc_input.specs.inner.EndedLines.{ended}
 use Rattle.std.specs.Prelude.{All}
 use Rattle.std.specs.Result.{result_err}
 use Rattle.std.specs.Io.KnownBytes.{Consumes, Keeps, IsAtEnd}
@@ -63,7 +66,13 @@ part-last kind a c bytes (Err Memory) h m g = (bytes, g.no_failure, inr (g, m re
 
 -- what is carried on ends within a line
 pub open-carry : (reading : Reading) (carry : List ℕ) → IsBetween reading carry → 0 < length carry → IsOpen (fed reading carry)
-open-carry reading carry between some = record { front = _; part = carry; both = refl; some = some; one_line = between.partial }
+open-carry reading carry between some =
+    let last = last-of-part carry between.partial some in (
+      ended reading.lines ++ last.0,
+      last.1,
+      ap (λ c. ended reading.lines ++ c) last.2 ∙ sym (append_assoc (ended reading.lines) last.0 (last.1 ∷ [])),
+      last.3,
+    )
 
 -- a fault that came before the end
 pub part-spoiled : (kind : Kind) (a b : SourceState) (bytes : List ℕ) (e : InputError) → Spoils kind bytes e → Gave a b bytes → b.failures ≡ a.failures → IsPart kind a b e
@@ -74,12 +83,12 @@ part-spoiled kind a b bytes Memory h g same = (bytes, same, inl g)
 -- a read that failed
 pub part-failed : (kind : Kind) (a b c : SourceState) (reading : Reading) (carry : List ℕ) → reading.kind ≡ kind → IsBetween reading carry → Gave a b (fed reading carry) → b.failures ≡ a.failures
     → Rose b.failures c.failures → Keeps b.rest c.rest → c.given ≡ b.given → IsPart kind a c Device
-part-failed kind a b c reading carry is between g same rose kept e = (
-  reading.lines,
-  carry,
-  gave_kept a b c (fed reading carry) g kept e,
-  subst (λ n. Rose n c.failures) same rose,
-  between.whole,
-  between.partial,
-  rw is at between.no_fault,
-)
+part-failed kind a b c reading carry is between g same rose kept e =
+    let none : line_fault kind reading.lines ≡ None = rw is at between.no_fault in (
+      ended reading.lines,
+      carry,
+      gave_kept a b c (fed reading carry) g kept e,
+      subst (λ n. Rose n c.failures) same rose,
+      ap (line_fault kind) (lines_of-all reading.lines between.whole) ∙ none,
+      between.partial,
+    )

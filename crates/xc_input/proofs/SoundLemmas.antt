@@ -9,19 +9,19 @@ use Rattle.std.specs.List.{list_any, Any}
 use Rattle.xc_input.specs.declared.kind.Kind.{Kind}
 use Rattle.xc_input.specs.declared.problem.Item.{Item}
 use Rattle.xc_input.specs.declared.problem.Use.{Use}
-use Rattle.xc_input.specs.Problem.{Puzzle, item_count, primary_count, AreSoundBounds, IsSoundUse, IsSoundOption, use_count}
+use Rattle.xc_input.specs.Problem.{Bounds, Puzzle, item_count, primary_count, AreSoundBounds, IsSoundUse, IsSoundOption, use_count}
 use Rattle.xc_input.specs.ItemBounds.{bounds_of}
 use Rattle.xc_input.specs.inner.Vectors.{IsOptional}
 use Rattle.xc_input.specs.Named.{IsName, IsColour, IsSound}
 use Rattle.xc_input.specs.Words.{place}
 use Rattle.xc_input.specs.Tokens.{tokens}
-use Rattle.xc_input.specs.Sheets.{Entry, Sheet, Written, names_of, named_of, entry_bounds, with_colour, with_uses}
+use Rattle.xc_input.specs.Sheets.{Entry, Sheet, Written, names_of, named_of, with_colour, with_uses}
 use Rattle.xc_input.specs.inner.Builders.{entry_of}
 use Rattle.xc_input.specs.Text.{IsUse, AreUses, AreOptions, IsSheetFrom}
 use Rattle.xc_input.proofs.SheetValidity.{IsSheetOf, AllNew, HaveBounds, AreWithin, AreFresh, UsesPrimary, AreValid, HaveNames, so_far}
 use Rattle.xc_input.proofs.FaultLemmas.{names_of-length}
 use Rattle.xc_input.proofs.GrammarLemmas.{or-false}
-use Rattle.xc_input.specs.Lines.{AreWhole}
+use Rattle.xc_input.specs.inner.EndedLines.{AreWhole}
 use Rattle.xc_input.proofs.UnbrokenLemmas.{unbroken}
 use Rattle.xc_input.proofs.ValidLemmas.{valid}
 use Rattle.xc_input.proofs.NameLemmas.{apart}
@@ -57,6 +57,10 @@ fresh-distinct front (u ∷ us) h p =
 all-names : (es : List Entry) → HaveNames es → All IsName (names_of es)
 all-names [] h = All-nil IsName
 all-names (e ∷ es) h = All-cons IsName e.name (names_of es) h.0 (all-names es h.1)
+
+-- the bounds of an item
+abbrev entry_bounds : Entry → Bounds
+entry_bounds e = record { low = e.low; high = e.high }
 
 record FrontBounds (n : ℕ) (es : List Entry) : Type 0 where
   within : n ≤ length es

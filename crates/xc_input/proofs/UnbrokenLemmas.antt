@@ -3,16 +3,16 @@ use Rattle.std.proofs.Common.{◌≡◌, ℕ, ◌+◌, List, [], ◌∷◌, ◌+
 use Rattle.std.proofs.lemmas.Bool.{eqb-true}
 use Rattle.std.proofs.lemmas.List.Elements.{All-nil, All-cons}
 use Rattle.std.proofs.lemmas.List.Folds.{list_any-append}
-use Rattle.std.specs.List.{list_any}
+use Rattle.std.specs.List.{list_any, onto_first}
 use Rattle.xc_input.specs.declared.kind.Kind.{Kind}
 use Rattle.xc_input.specs.declared.problem.Use.{Use}
 use Rattle.xc_input.specs.Words.{has, place}
-use Rattle.xc_input.specs.Tokens.{is_space, at_front, onto, tokens, split_bars, parts}
+use Rattle.xc_input.specs.Tokens.{is_space, onto, tokens, split_bars, parts}
 use Rattle.xc_input.specs.Named.{IsUnbroken}
 use Rattle.xc_input.specs.Sheets.{Entry, Sheet, Written, names_of, with_colour, with_uses}
 use Rattle.xc_input.specs.Text.{IsEntry, AreItems, IsUse, AreUses, AreOptions, IsSheetFrom}
 use Rattle.xc_input.proofs.SheetValidity.{IsSheetOf, so_far}
-use Rattle.xc_input.specs.Lines.{AreWhole}
+use Rattle.xc_input.specs.inner.EndedLines.{AreWhole}
 use Rattle.xc_input.proofs.GrammarLemmas.{or-false, or-both}
 use Rattle.xc_input.specs.Faults.{context}
 use Rattle.std.specs.Prelude.{flat_map}
@@ -32,14 +32,14 @@ lacks-behind p front b back h =
     let rest = (or-false (list_any p front) (list_any p (b ∷ back)) (sym (list_any-append p front (b ∷ back)) ∙ h)).1 in (or-false (p b) (list_any p back) rest).1
 
 -- TOKENS
-lack-front : (p : ℕ → Bool) (b : ℕ) (ts : List (List ℕ)) → p b ≡ false → AllLack p ts → AllLack p (at_front b ts)
+lack-front : (p : ℕ → Bool) (b : ℕ) (ts : List (List ℕ)) → p b ≡ false → AllLack p ts → AllLack p (onto_first b ts)
 lack-front p b [] e h = (or-both (p b) false e refl, tt)
 lack-front p b (t ∷ ts) e h = (or-both (p b) (list_any p t) e h.0, h.1)
 
 lack-onto : (p : ℕ → Bool) (b : ℕ) (bs : List ℕ) (ts : List (List ℕ)) → p b ≡ false → AllLack p ts → AllLack p (onto b bs ts)
 lack-onto p b [] ts e h = (or-both (p b) false e refl, h)
 lack-onto p b (c ∷ cs) ts e h =
-    let P : Bool → Type 0 = λ t. AllLack p (if t then (b ∷ []) ∷ ts else at_front b ts) in
+    let P : Bool → Type 0 = λ t. AllLack p (if t then (b ∷ []) ∷ ts else onto_first b ts) in
     (elim (is_space c) as P [ true ↦ (or-both (p b) false e refl, h) | false ↦ lack-front p b ts e h ])
 
 lack-tokens : (p : ℕ → Bool) (xs : List ℕ) → list_any p xs ≡ false → AllLack p (tokens xs)

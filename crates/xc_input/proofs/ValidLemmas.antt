@@ -1,5 +1,6 @@
 -- What stands for a text is valid.
 use Rattle.std.proofs.Common.{◌≡◌, ℕ, suc, ◌+◌, ◌*◌, ◌-◌, ◌^◌, ◌<◌, ◌≤◌, List, [], ◌∷◌, ◌++◌, Option, None, Some, Bool, true, false, ◌&&◌, nat_lt, nat_le, nat_eq, ◌||◌, ◌⊎◌, is_none, unwrap_or, length, position, refl, ap, ◌∙◌, sym, subst, arith, if◌then◌else◌, inl, inr, append_assoc, length-append}
+use Rattle.xc_input.proofs.DecimalValues.{value_from}
 use Rattle.std.proofs.lemmas.Bool.Decides.{nat_tests}
 use Rattle.std.proofs.lemmas.Grind.{pow_more}
 use Rattle.std.proofs.lemmas.List.{append-nil}
@@ -8,7 +9,7 @@ use Rattle.std.specs.List.{position_or_len, list_all}
 use Rattle.xc_input.specs.Problem.{use_count}
 use Rattle.xc_input.specs.declared.kind.Kind.{Kind}
 use Rattle.xc_input.specs.declared.problem.Use.{Use}
-use Rattle.xc_input.specs.Words.{place, is_digit, is_number, number, value_from}
+use Rattle.xc_input.specs.Words.{place, is_digit, is_number, number}
 use Rattle.xc_input.specs.Tokens.{tokens, parts, is_bar, is_skipped, split_bars, is_space}
 use Rattle.xc_input.specs.inner.Fronts.{drop_white, word}
 use Rattle.xc_input.proofs.TokenLemmas.{skipped-front, behind, tokens-drop_white, tokens-first, drop_white-first}

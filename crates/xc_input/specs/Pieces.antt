@@ -1,5 +1,5 @@
 -- What a source gave, in the pieces that its reads gave it in, and what reading a problem from it promises.
-use Rattle.std.specs.Prelude.{◌≡◌, ◌⊎◌, ℕ, ◌<◌, List, [], ◌∷◌, ◌++◌, false, Option, None, IfSome, length, All, flat_map}
+use Rattle.std.specs.Prelude.{◌≡◌, ◌≢◌, ◌⊎◌, ℕ, ◌<◌, List, [], ◌∷◌, ◌++◌, false, Option, None, IfSome, length, All, flat_map}
 use Prim.Native.Char.{code}
 use Rattle.std.specs.Io.KnownBytes.{Consumes}
 use Rattle.xc_input.specs.Calls.{Rose}
@@ -7,7 +7,8 @@ use Rattle.xc_input.specs.declared.kind.Kind.{Kind}
 use Rattle.xc_input.specs.declared.fault.InputError.{InputError}
 use Rattle.xc_input.specs.declared.fault.InputError.TheVariants.{Fault, Device, Memory}
 use Rattle.xc_input.specs.Named.{Named}
-use Rattle.xc_input.specs.Lines.{IsTextOf, IsFirstFault, ended, AreWhole}
+use Rattle.xc_input.specs.Lines.{lines_of, IsFirstFault}
+use Rattle.xc_input.specs.Text.{StandsFor}
 use Rattle.xc_input.specs.Stages.{line_fault}
 use Rattle.xc_input.specs.Words.{has}
 
@@ -39,25 +40,21 @@ pub record GaveAll (old new : SourceState) (bytes : List ℕ) : Type 0 where
 pub record IsWhole (kind : Kind) (old new : SourceState) (named : Named) (ignored : List ℕ) : Type 0 where
   pub bytes : List ℕ
   pub gave : GaveAll old new bytes
-  pub text : IsTextOf kind bytes named ignored
+  pub text : StandsFor kind (lines_of bytes) named ignored
 
--- these bytes end within a line
-pub record IsOpen (bytes : List ℕ) : Type 0 where
-  pub front : List ℕ
-  pub part : List ℕ
-  pub both : bytes ≡ front ++ part
-  pub some : 0 < length part
-  pub one_line : has (code "\n") part ≡ false
+-- the last byte is no line feed
+abbrev pub IsOpen : List ℕ → Type 0
+IsOpen bytes = (front : List ℕ) × (last : ℕ) × (bytes ≡ front ++ last ∷ []) × (last ≢ code "\n")
 
 -- Why a source gave no problem: a text with this first fault, and its end, or a part after which each text has it; a
--- read that failed behind whole lines without a fault; or want of memory, before the end or behind a last line that no
--- line feed ends.
+-- read that failed behind lines without a fault and a part of one more; or want of memory, before the end or behind a
+-- last line that no line feed ends.
 abbrev pub IsPart : Kind → SourceState → SourceState → InputError → Type 0
 IsPart kind old new (Fault line fault) =
     (bytes : List ℕ) × ((GaveAll old new bytes × IsFirstFault kind bytes line fault)
     ⊎ (Gave old new bytes × (new.failures ≡ old.failures) × ((more : List ℕ) → IsFirstFault kind (bytes ++ more) line fault)))
 IsPart kind old new Device =
-    (lines : List (List ℕ)) × (part : List ℕ) × Gave old new (ended lines ++ part) × Rose old.failures new.failures
-    × AreWhole lines × (has (code "\n") part ≡ false) × (line_fault kind lines ≡ None)
+    (front : List ℕ) × (part : List ℕ) × Gave old new (front ++ part) × Rose old.failures new.failures
+    × (line_fault kind (lines_of front) ≡ None) × (has (code "\n") part ≡ false)
 IsPart kind old new Memory = (bytes : List ℕ) × (new.failures ≡ old.failures)
     × (Gave old new bytes ⊎ (GaveAll old new bytes × IsOpen bytes))

@@ -2,7 +2,7 @@
 use Rattle.std.specs.Prelude.{ℕ, ◌+◌, ◌-◌, length, List, [], ◌∷◌, ◌++◌, is_none, unwrap_or, if◌then◌else◌, map, take, fold}
 use Rattle.xc_input.specs.declared.problem.Use.{Use}
 use Rattle.xc_input.specs.Words.{place}
-use Rattle.xc_input.specs.Problem.{Bounds}
+use Rattle.xc_input.specs.Problem.{Bounds, Puzzle}
 use Rattle.xc_input.specs.Named.{Named}
 
 -- an item: its name, and how many options of a cover hold it
@@ -27,21 +27,12 @@ pub record Written : Type 0 where
 abbrev pub names_of : List Entry → List (List ℕ)
 names_of entries = map (λ e. e.name) entries
 
--- the bounds of an item
-abbrev pub entry_bounds : Entry → Bounds
-entry_bounds e = record { low = e.low; high = e.high }
-
 -- the problem of a sheet
 abbrev pub named_of : Sheet → Named
-named_of s = record {
-  names = names_of s.entries;
-  colours = s.colours;
-  puzzle = record {
-    bounds = map entry_bounds (take s.primaries s.entries);
-    secondary = length s.entries - s.primaries;
-    options = s.options;
-  };
-}
+named_of s =
+    let bounds : List Bounds = map (λ e. record { low = e.low; high = e.high }) (take s.primaries s.entries) in
+    let puzzle : Puzzle = record { bounds = bounds; secondary = length s.entries - s.primaries; options = s.options } in
+    record { names = names_of s.entries; colours = s.colours; puzzle = puzzle }
 
 -- the colours so far and this one, where it is a new one
 abbrev pub with_colour : List (List ℕ) → List ℕ → List (List ℕ)

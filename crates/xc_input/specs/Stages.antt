@@ -52,13 +52,11 @@ line_checks kind stage line = (NulByte, has 0 line) ∷ (if is_skipped line then
 -- the lines with an option of the line of this number
 abbrev pub with_option : ℕ → Stage → List Written → Stage
 with_option n stage us =
-    (if has_primary stage.sheet.primaries us then record stage {
-      started = true;
-      sheet = record stage.sheet {
-        options = stage.sheet.options ++ number_uses stage.sheet.colours us ∷ [];
-        colours = with_uses stage.sheet.colours us;
-      };
-    } else record stage { started = true; ignored = stage.ignored ++ n ∷ [] })
+    let sheet = stage.sheet in
+    let uses = number_uses sheet.colours us in
+    let more = record sheet { options = sheet.options ++ uses ∷ []; colours = with_uses sheet.colours us } in
+    (if has_primary sheet.primaries us then record stage { started = true; sheet = more }
+    else record stage { started = true; ignored = stage.ignored ++ n ∷ [] })
 
 -- what the lines gave with one more, of this number
 abbrev pub with_line : Kind → ℕ → Stage → List ℕ → Stage

@@ -5,3 +5,4 @@ pub mod Fronts
 pub mod Builders
 pub mod Feeding
 pub mod CutTokens
+pub mod EndedLines

@@ -40,7 +40,7 @@ impl Model for Reader {
     ghost use Rattle.xc_input.specs.Readings.{Reading, IsStateOf};
     ghost use Rattle.xc_input.specs.Stages.{line_number, stage_of};
     ghost use Rattle.xc_input.specs.inner.Builders.{IsBuilder, stage_of_builder};
-    ghost use Rattle.xc_input.specs.Lines.{AreWhole};
+    ghost use Rattle.xc_input.specs.inner.EndedLines.{AreWhole};
     ghost use Rattle.std.specs.Prelude.{◌≡◌, length, MatchOption};
 
     ghost Value = { Reading };

@@ -8,7 +8,8 @@ use Rattle.xc_input.specs.Named.{Named}
 use Rattle.xc_input.specs.Text.{StandsFor}
 use Rattle.xc_input.specs.Stages.{line_fault, first_fault}
 use Rattle.xc_input.specs.Readings.{Reading, IsErrorFor, IsFault}
-use Rattle.xc_input.specs.Lines.{lines_of, ended, AreWhole}
+use Rattle.xc_input.specs.Lines.{lines_of}
+use Rattle.xc_input.specs.inner.EndedLines.{ended, AreWhole}
 
 -- an error of the lines so far
 abbrev pub IsErrorOf : Kind → List (List ℕ) → InputError → Type 0

@@ -1,10 +1,10 @@
 -- The words of a choice line.
 use Rattle.std.proofs.Common.{◌≡◌, ℕ, suc, ◌-◌, ◌<◌, Bool, true, false, not, ◌||◌, ◌&&◌, nat_eq, nat_le, List, [], ◌∷◌, ◌++◌, length, take, drop, Option, Some, None, refl, sym, ap, ◌∙◌, append_assoc, arith, length-append, if◌then◌else◌}
-use Rattle.std.specs.List.{list_all, list_any}
+use Rattle.std.specs.List.{list_all, list_any, onto_first}
 use Rattle.std.proofs.lemmas.Bool.Decides.{nat_tests}
 use Rattle.std.proofs.lemmas.Bool.{eq-eqb}
 use Rattle.std.proofs.Math.Seq.{take-append_seam, drop-append_seam}
-use Rattle.xc_input.specs.Tokens.{at_front, is_space}
+use Rattle.xc_input.specs.Tokens.{is_space}
 use Rattle.xc_input.proofs.TokenLemmas.{differs}
 use Rattle.xc_list.specs.ListingLines.{words_in, before_last, is_word, is_ending, body_of_words}
 
@@ -47,23 +47,23 @@ longer-word x b word e = some_byte x (b ∷ word) ∙ ap (λ t. not (t || list_a
 one-byte : (x : ℕ) → is_space x ≡ false → is_word (x ∷ []) ≡ true
 one-byte x e = some_byte x [] ∙ ap (λ t. not (t || false)) e
 
-spaced : (b : ℕ) (ws : List (List ℕ)) → is_space b ≡ true → list_all is_word (at_front b ws) ≡ false
+spaced : (b : ℕ) (ws : List (List ℕ)) → is_space b ≡ true → list_all is_word (onto_first b ws) ≡ false
 spaced b [] e = ap (λ t. t && true) (spaced-word b [] e)
 spaced b (w ∷ ws) e = ap (λ t. t && list_all is_word ws) (spaced-word b w e)
 
-longer : (x b : ℕ) (ws : List (List ℕ)) → is_space x ≡ false → list_all is_word (at_front x (at_front b ws)) ≡ list_all is_word (at_front b ws)
+longer : (x b : ℕ) (ws : List (List ℕ)) → is_space x ≡ false → list_all is_word (onto_first x (onto_first b ws)) ≡ list_all is_word (onto_first b ws)
 longer x b [] e = ap (λ t. t && true) (longer-word x b [] e)
 longer x b (w ∷ ws) e = ap (λ t. t && list_all is_word ws) (longer-word x b w e)
 
-both : (text : List ℕ) → (list_all is_word (words_in text) ≡ words_from true text) × ((x : ℕ) → is_space x ≡ false → list_all is_word (at_front x (words_in text)) ≡ words_from false text)
+both : (text : List ℕ) → (list_all is_word (words_in text) ≡ words_from true text) × ((x : ℕ) → is_space x ≡ false → list_all is_word (onto_first x (words_in text)) ≡ words_from false text)
 both [] = (refl, λ x e. ap (λ t. t && true) (one-byte x e))
 both (b ∷ text) =
-    let later : (list_all is_word (words_in text) ≡ words_from true text) × ((x : ℕ) → is_space x ≡ false → list_all is_word (at_front x (words_in text)) ≡ words_from false text) = both text in
-    let S : Bool → Type 0 = λ s. is_space b ≡ s → list_all is_word (at_front b (words_in text)) ≡ (not s && words_from false text) in
+    let later : (list_all is_word (words_in text) ≡ words_from true text) × ((x : ℕ) → is_space x ≡ false → list_all is_word (onto_first x (words_in text)) ≡ words_from false text) = both text in
+    let S : Bool → Type 0 = λ s. is_space b ≡ s → list_all is_word (onto_first b (words_in text)) ≡ (not s && words_from false text) in
     let step : S (is_space b) = (elim (is_space b) as S [ true ↦ λ e. spaced b (words_in text) e | false ↦ λ e. later.1 b e ]) in
-    let P : Bool → Type 0 = λ t. list_all is_word (if t then [] ∷ words_in text else at_front b (words_in text)) ≡ (if t then not true && words_from true text else not (is_space b) && words_from false text) in
+    let P : Bool → Type 0 = λ t. list_all is_word (if t then [] ∷ words_in text else onto_first b (words_in text)) ≡ (if t then not true && words_from true text else not (is_space b) && words_from false text) in
     let h : P (nat_eq b 32) = (elim (nat_eq b 32) as P [ true ↦ refl | false ↦ step refl ]) in
-    let Q : ℕ → Bool → Type 0 = λ x t. list_all is_word (at_front x (if t then [] ∷ words_in text else at_front b (words_in text))) ≡ (if t then not false && words_from true text else not (is_space b) && words_from false text) in
+    let Q : ℕ → Bool → Type 0 = λ x t. list_all is_word (onto_first x (if t then [] ∷ words_in text else onto_first b (words_in text))) ≡ (if t then not false && words_from true text else not (is_space b) && words_from false text) in
     let g : (x : ℕ) → is_space x ≡ false → Q x (nat_eq b 32) = λ x e. elim (nat_eq b 32) as (Q x) [
       | true ↦ ap (λ t. t && list_all is_word (words_in text)) (one-byte x e) ∙ later.0
       | false ↦ longer x b (words_in text) e ∙ step refl

@@ -1,8 +1,8 @@
 -- Texts cut at a byte, and what is left of their lines and words.
 use Rattle.std.proofs.Common.{◌≡◌, ℕ, zero, suc, ◌+◌, ◌-◌, ◌<◌, Bool, true, false, nat_eq, List, [], ◌∷◌, ◌++◌, length, take, drop, get_or, refl, sym, ap, ◌∙◌, append_assoc, add-one, arith, if◌then◌else◌, Option, None, MatchOption, subst}
+use Rattle.std.specs.List.{onto_first}
 use Rattle.std.proofs.lemmas.Bool.{eqb-true}
 use Rattle.xc_input.specs.Words.{has, before, after}
-use Rattle.xc_input.specs.Tokens.{at_front}
 use Rattle.xc_input.specs.Lines.{lines_of}
 use Rattle.xc_input.proofs.GrammarLemmas.{or-false, cut-is}
 use Rattle.xc_input.proofs.LineLemmas.{lines_of-ended}
@@ -45,37 +45,37 @@ other x a b h = ap (λ t. if t then a else b) h
 
 pub one_word : (word : List ℕ) → has 32 word ≡ false → words_in word ≡ word ∷ []
 one_word [] h = refl
-one_word (x ∷ word) h = let apart = or-false (nat_eq x 32) (has 32 word) h in other x _ _ apart.0 ∙ ap (at_front x) (one_word word apart.1)
+one_word (x ∷ word) h = let apart = or-false (nat_eq x 32) (has 32 word) h in other x _ _ apart.0 ∙ ap (onto_first x) (one_word word apart.1)
 
 first : (word rest : List ℕ) → has 32 word ≡ false → words_in (word ++ 32 ∷ rest) ≡ word ∷ words_in rest
 first [] rest h = refl
-first (x ∷ word) rest h = let apart = or-false (nat_eq x 32) (has 32 word) h in other x _ _ apart.0 ∙ ap (at_front x) (first word rest apart.1)
+first (x ∷ word) rest h = let apart = or-false (nat_eq x 32) (has 32 word) h in other x _ _ apart.0 ∙ ap (onto_first x) (first word rest apart.1)
 
 pub first_word : (text word rest : List ℕ) → has 32 word ≡ false → text ≡ word ++ 32 ∷ rest → words_in text ≡ word ∷ words_in rest
 first_word text word rest h e = ap words_in e ∙ first word rest h
 
-at_front-some : (x : ℕ) (ws : List (List ℕ)) → 0 < length (at_front x ws)
-at_front-some x [] = omega arith
-at_front-some x (w ∷ ws) = omega arith
+onto_first-some : (x : ℕ) (ws : List (List ℕ)) → 0 < length (onto_first x ws)
+onto_first-some x [] = omega arith
+onto_first-some x (w ∷ ws) = omega arith
 
 -- there is a word in every text
 pub some_words : (text : List ℕ) → 0 < length (words_in text)
 some_words [] = omega arith
 some_words (x ∷ text) =
-    let P : Bool → Type 0 = λ t. 0 < length (if t then [] ∷ words_in text else at_front x (words_in text)) in
-    elim (nat_eq x 32) as P [ true ↦ omega arith | false ↦ at_front-some x (words_in text) ]
+    let P : Bool → Type 0 = λ t. 0 < length (if t then [] ∷ words_in text else onto_first x (words_in text)) in
+    elim (nat_eq x 32) as P [ true ↦ omega arith | false ↦ onto_first-some x (words_in text) ]
 
-at_front-append : (x : ℕ) (vs ws : List (List ℕ)) → 0 < length vs → at_front x (vs ++ ws) ≡ at_front x vs ++ ws
-at_front-append x [] ws l = absurd (omega (arith, l))
-at_front-append x (v ∷ vs) ws l = refl
+onto_first-append : (x : ℕ) (vs ws : List (List ℕ)) → 0 < length vs → onto_first x (vs ++ ws) ≡ onto_first x vs ++ ws
+onto_first-append x [] ws l = absurd (omega (arith, l))
+onto_first-append x (v ∷ vs) ws l = refl
 
 last : (front word : List ℕ) → has 32 word ≡ false → words_in (front ++ 32 ∷ word) ≡ words_in front ++ word ∷ []
 last [] word h = ap (λ ws. [] ∷ ws) (one_word word h)
 last (x ∷ front) word h =
-    let P : Bool → Type 0 = λ t. (if t then [] ∷ words_in (front ++ 32 ∷ word) else at_front x (words_in (front ++ 32 ∷ word))) ≡ (if t then [] ∷ words_in front else at_front x (words_in front)) ++ word ∷ [] in
+    let P : Bool → Type 0 = λ t. (if t then [] ∷ words_in (front ++ 32 ∷ word) else onto_first x (words_in (front ++ 32 ∷ word))) ≡ (if t then [] ∷ words_in front else onto_first x (words_in front)) ++ word ∷ [] in
     elim (nat_eq x 32) as P [
       | true ↦ ap (λ ws. [] ∷ ws) (last front word h)
-      | false ↦ ap (at_front x) (last front word h) ∙ at_front-append x (words_in front) (word ∷ []) (some_words front)
+      | false ↦ ap (onto_first x) (last front word h) ∙ onto_first-append x (words_in front) (word ∷ []) (some_words front)
     ]
 
 pub last_word : (text front word : List ℕ) → has 32 word ≡ false → text ≡ front ++ 32 ∷ word → words_in text ≡ words_in front ++ word ∷ []

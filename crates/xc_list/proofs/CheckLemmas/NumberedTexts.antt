@@ -1,10 +1,9 @@
 -- Names and colours by their texts.
 use Rattle.std.proofs.Common.{ℕ, zero, suc, ◌≡◌, ◌<◌, ◌==◌, Bool, true, false, ◌||◌, List, [], ◌∷◌, length, take, get_or, position, Option, Some, None, refl, sym, ap, ◌∙◌, arith, nat_lt, ltb-true, ltb-false, if◌then◌else◌}
 use Rattle.std.specs.Prelude.{nat_le}
-use Rattle.std.specs.List.{list_any}
+use Rattle.std.specs.List.{list_any, onto_first}
 use Rattle.std.specs.Option.{option_map}
 use Rattle.std.proofs.lemmas.List.Quantifiers.{position-Some}
-use Rattle.xc_input.specs.Tokens.{at_front}
 use Rattle.xc_input.specs.Named.{Named}
 use Rattle.xc_input.proofs.FaultLemmas.{no-place}
 use Rattle.xc_list.specs.ListingLines.{words_in}
@@ -59,10 +58,10 @@ pub words-some : (text : List ℕ) → (w : List ℕ) × (ws : List (List ℕ)) 
 words-some [] = ([], [], refl)
 words-some (b ∷ text) = by_case (b == 32) (words_in text) refl
   where
-    by_case : (t : Bool) (ws : List (List ℕ)) → words_in text ≡ ws → (v : List ℕ) × (vs : List (List ℕ)) × ((if t then [] ∷ words_in text else at_front b (words_in text)) ≡ v ∷ vs)
+    by_case : (t : Bool) (ws : List (List ℕ)) → words_in text ≡ ws → (v : List ℕ) × (vs : List (List ℕ)) × ((if t then [] ∷ words_in text else onto_first b (words_in text)) ≡ v ∷ vs)
     by_case true ws e = ([], words_in text, refl)
-    by_case false [] e = (b ∷ [], [], ap (at_front b) e)
-    by_case false (w ∷ ws) e = (b ∷ w, ws, ap (at_front b) e)
+    by_case false [] e = (b ∷ [], [], ap (onto_first b) e)
+    by_case false (w ∷ ws) e = (b ∷ w, ws, ap (onto_first b) e)
 
 -- three words are no body of none
 pub none-of-three : (p : Named) (a b : List ℕ) (rest : List ℕ) → false ≡ is_none p (a ∷ b ∷ words_in rest)

@@ -6,7 +6,8 @@ use Rattle.xc_input.specs.declared.problem.Use.{Use}
 use Rattle.xc_input.specs.Problem.{uses_of}
 use Rattle.xc_input.specs.Named.{Named}
 use Rattle.xc_input.specs.Words.{has}
-use Rattle.xc_input.specs.Lines.{lines_of, ended, AreWhole}
+use Rattle.xc_input.specs.Lines.{lines_of}
+use Rattle.xc_input.specs.inner.EndedLines.{ended, AreWhole}
 use Rattle.xc_input.proofs.LineLemmas.{lines_of-ended}
 use Rattle.xc_search.specs.declared.choice.Choice.{Choice}
 use Rattle.xc_list.specs.Output.{bytes_at, from_item, use_word, use_text, body_text, branch_text, choice_text, member_text}

@@ -1,16 +1,17 @@
 -- What the lines of an output are read as.
 use Rattle.std.proofs.Common.{◌≡◌, ℕ, ◌+◌, ◌-◌, ◌*◌, ◌/◌, ◌%◌, ◌^◌, ◌<◌, ◌≤◌, Bool, true, false, not, ◌&&◌, nat_lt, nat_eq, List, [], ◌∷◌, ◌++◌, Option, None, Some, length, take, drop, refl, ap, ◌∙◌, arith, length-append, lt-ltb}
+use Rattle.xc_input.proofs.DecimalValues.{value_from}
 use Rattle.std.specs.Prelude.{All, codes, decimal, nat_le, ◌==◌, if◌then◌else◌}
-use Rattle.std.specs.List.{list_all, list_any}
+use Rattle.std.specs.List.{list_all, list_any, onto_first}
 use Rattle.std.proofs.lemmas.Bool.Decides.{nat_tests}
 use Rattle.std.proofs.lemmas.Fmt.{decimal_by_steps, length-decimal-le}
 use Rattle.std.proofs.lemmas.List.Elements.{All-nil, All-cons, All-head, All-tail, All-append}
 use Rattle.std.proofs.lemmas.List.Folds.{list_all-append, list_any-append}
 use Rattle.std.proofs.Math.Seq.{drop-append_seam, take-append_seam}
 use Rattle.xc_input.specs.Words.{has}
-use Rattle.xc_input.specs.Tokens.{at_front, is_space}
+use Rattle.xc_input.specs.Tokens.{is_space}
 use Rattle.xc_input.proofs.GrammarLemmas.{or-false, or-both, and-true, and-both}
-use Rattle.xc_input.specs.Words.{is_digit, value_from}
+use Rattle.xc_input.specs.Words.{is_digit}
 use Rattle.xc_list.specs.Settings.{long_number}
 use Rattle.xc_list.proofs.Digits.{some_digits}
 use Rattle.xc_list.specs.ListingLines.{words_in, are_digits, before_last, solution_number, header_number, is_word, is_closing, is_ending, body_of_words, body_of, Line, Header, Body, Other, read}
@@ -127,13 +128,13 @@ words_in-front : (w rest : List ℕ) → list_any is_space w ≡ false → words
 words_in-front [] rest h = refl
 words_in-front (b ∷ w) rest h =
     let both = or-false (is_space b) (list_any is_space w) h in
-    ap (λ t. if t then [] ∷ words_in (w ++ 32 ∷ rest) else at_front b (words_in (w ++ 32 ∷ rest))) (no_space-not_32 b both.0) ∙ ap (at_front b) (words_in-front w rest both.1)
+    ap (λ t. if t then [] ∷ words_in (w ++ 32 ∷ rest) else onto_first b (words_in (w ++ 32 ∷ rest))) (no_space-not_32 b both.0) ∙ ap (onto_first b) (words_in-front w rest both.1)
 
 words_in-last : (w : List ℕ) → list_any is_space w ≡ false → words_in (w ++ []) ≡ w ∷ []
 words_in-last [] h = refl
 words_in-last (b ∷ w) h =
     let both = or-false (is_space b) (list_any is_space w) h in
-    ap (λ t. if t then [] ∷ words_in (w ++ []) else at_front b (words_in (w ++ []))) (no_space-not_32 b both.0) ∙ ap (at_front b) (words_in-last w both.1)
+    ap (λ t. if t then [] ∷ words_in (w ++ []) else onto_first b (words_in (w ++ []))) (no_space-not_32 b both.0) ∙ ap (onto_first b) (words_in-last w both.1)
 
 words_in-spaced : (w : List ℕ) (ws : List (List ℕ)) → IsPlain w → All IsPlain ws → words_in (w ++ spaced ws) ≡ w ∷ ws
 words_in-spaced w [] plain others = words_in-last w plain.no_space

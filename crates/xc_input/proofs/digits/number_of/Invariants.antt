@@ -1,5 +1,6 @@
 use Rattle.std.proofs.Common.{◌≡◌, ◌<◌, ◌^◌, drop}
-use Rattle.xc_input.specs.Words.{value_from, is_digit}
+use Rattle.xc_input.proofs.DecimalValues.{value_from}
+use Rattle.xc_input.specs.Words.{is_digit}
 use Rattle.std.specs.List.{list_all}
 use Rattle.xc_input.proofs.digits.number_of.Given as goal
 
