@@ -6,7 +6,7 @@ use Rattle.xc_input.specs.declared.fault.InputError.{InputError}
 use Rattle.xc_input.specs.declared.fault.InputError.TheVariants.{Fault, Device, Memory}
 use Rattle.xc_input.specs.declared.builder.ProblemBuilder.{ProblemBuilder}
 use Rattle.xc_input.specs.Sheets.{named_of}
-use Rattle.xc_input.specs.Stages.{Stage, first_fault, stage_of, end_fault}
+use Rattle.xc_input.specs.Stages.{Stage, first_fault, stage_of}
 use Rattle.xc_input.proofs.SheetValidity.{IsSheetOf}
 use Rattle.xc_input.specs.Text.{StandsFor}
 use Rattle.xc_input.specs.Named.{Named, IsSound}
@@ -17,7 +17,7 @@ use Rattle.xc_input.specs.inner.Builders.{IsBuilder, stage_of_builder, sheet_of_
 use Rattle.xc_input.specs.inner.EndedLines.{AreWhole}
 use Rattle.xc_input.specs.Readings.{Reading, IsStateOf, IsFault}
 use Rattle.xc_input.specs.inner.Feeding.{IsEndOf}
-use Rattle.xc_input.proofs.ReadLemmas.{ends-at, end-is}
+use Rattle.xc_input.proofs.ReadLemmas.{ends-at, end-is, end_fault}
 use Rattle.xc_input.proofs.SoundLemmas.{sheet-sound, primaries-within, item-names, named-is, behind-bounds}
 use Rattle.xc_input.proofs.ValidLemmas.{valid}
 use Rattle.xc_input.proofs.LawLemmas.{stands, stands-only}

@@ -1,11 +1,12 @@
 -- Checks that don't hold, and what they say of a token.
 use Rattle.std.proofs.Common.{◌≡◌, ℕ, ◌<◌, ◌≤◌, List, [], ◌∷◌, ◌++◌, Option, None, Some, Bool, true, false, ◌||◌, ◌&&◌, not, nat_lt, nat_le, nat_eq, is_none, length, refl, ap, ◌∙◌, sym, subst, arith, if◌then◌else◌, inl, inr, ◌⊎◌}
+use Rattle.std.specs.Char.{is_ascii_digit}
 use Rattle.std.proofs.lemmas.Bool.Decides.{nat_tests}
 use Rattle.std.proofs.lemmas.Bool.{eqb-true}
 use Rattle.xc_input.specs.declared.kind.Kind.{Kind}
 use Rattle.xc_input.specs.declared.fault.FaultKind.{FaultKind}
 use Rattle.xc_input.specs.declared.fault.FaultKind.TheVariants.{EmptyName, NameTooLong, BadByteInName, RepeatedName, BadBound, BoundOrder, BoundOnSecondary, TooManyItems}
-use Rattle.xc_input.specs.Words.{has, before, after, place, is_digit, is_number, number}
+use Rattle.xc_input.specs.Words.{has, before, after, place, is_number, number}
 use Rattle.xc_input.specs.Sheets.{Entry}
 use Rattle.xc_input.specs.Faults.{first, is_bounds, name_checks, has_prefix, name_of, low_text, high_text, prefix_checks, bound_checks, item_checks, entry}
 use Rattle.xc_input.specs.Limits.{most_items}
@@ -104,16 +105,16 @@ cut-at b (x ∷ p) q e =
     ]) in h e
 
 -- NUMBERS
-digit-no-colon : (x : ℕ) → is_digit x ≡ true → nat_eq x 58 ≡ false
+digit-no-colon : (x : ℕ) → is_ascii_digit x ≡ true → nat_eq x 58 ≡ false
 digit-no-colon x e = let a = and-true (nat_le 48 x) (nat_le x 57) e in let b : nat_le x 57 ≡ true = a.1 in grind (arith, nat_tests)
 
-digits-no-colon : (xs : List ℕ) → list_all is_digit xs ≡ true → has 58 xs ≡ false
+digits-no-colon : (xs : List ℕ) → list_all is_ascii_digit xs ≡ true → has 58 xs ≡ false
 digits-no-colon [] e = refl
 digits-no-colon (x ∷ xs) e =
-    let a = and-true (is_digit x) (list_all is_digit xs) e in or-both (nat_eq x 58) (has 58 xs) (digit-no-colon x a.0) (digits-no-colon xs a.1)
+    let a = and-true (is_ascii_digit x) (list_all is_ascii_digit xs) e in or-both (nat_eq x 58) (has 58 xs) (digit-no-colon x a.0) (digits-no-colon xs a.1)
 
 pub number-no-colon : (text : List ℕ) → is_number text ≡ true → has 58 text ≡ false
-number-no-colon text e = digits-no-colon text (and-true (nat_le 1 (length text) && nat_le (length text) 9) (list_all is_digit text) e).1
+number-no-colon text e = digits-no-colon text (and-true (nat_le 1 (length text) && nat_le (length text) 9) (list_all is_ascii_digit text) e).1
 
 -- BOUNDS
 texts : (prefix : List ℕ) → is_number (low_text prefix) ≡ true → is_number (high_text prefix) ≡ true → AreBounds prefix (number (low_text prefix)) (number (high_text prefix))

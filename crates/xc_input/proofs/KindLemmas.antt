@@ -1,12 +1,13 @@
 -- What stands for a problem as one kind stands for it as each kind that allows more.
 use Rattle.std.proofs.Common.{◌≡◌, ℕ, ◌+◌, List, [], ◌∷◌, ◌++◌, Option, None, Some, is_some, Bool, true, false, length, inl, inr}
+use Rattle.std.specs.List.{AllZip}
 use Rattle.xc_input.specs.declared.kind.Kind.{Kind}
 use Rattle.xc_input.specs.declared.problem.Use.{Use}
 use Rattle.xc_input.specs.Tokens.{tokens, parts}
 use Rattle.xc_input.specs.Sheets.{Entry, Sheet, Written, names_of, with_uses}
 use Rattle.xc_input.specs.Faults.{is_plain, is_bounds, context}
 use Rattle.xc_input.specs.Named.{Named}
-use Rattle.xc_input.specs.Text.{IsEntry, AreItems, IsUse, AreUses, AreOptions, IsSheetFrom, StandsFor}
+use Rattle.xc_input.specs.Text.{IsEntry, AreItems, IsUse, AreOptions, IsSheetFrom, StandsFor}
 use Rattle.xc_input.proofs.SheetValidity.{so_far}
 
 -- b allows what a allows
@@ -25,18 +26,20 @@ module _ (a b : Kind) (bounds : is_bounds a ≡ true → is_bounds b ≡ true) (
   use-also names primaries token u (name, i, n, p, q, inl h) = (name, i, n, p, q, inl h)
   use-also names primaries token u (name, i, n, p, q, inr h) = (name, i, n, p, q, inr (h.0, colours h.1, h.2, h.3))
 
-  uses-also : (names : List (List ℕ)) (primaries : ℕ) (seen : List ℕ) (ts : List (List ℕ)) (us : List Written) → AreUses (context a names primaries) seen ts us → AreUses (context b names primaries) seen ts us
-  uses-also names primaries seen [] us h = h
-  uses-also names primaries seen (t ∷ ts) us h = (h.0, h.1, h.2, use-also names primaries t h.0 h.3, h.4, uses-also names primaries (seen ++ h.0.item ∷ []) ts h.1 h.5)
+  uses-also : (names : List (List ℕ)) (primaries : ℕ) (ts : List (List ℕ)) (us : List Written) → AllZip (IsUse (context a names primaries)) ts us → AllZip (IsUse (context b names primaries)) ts us
+  uses-also names primaries [] [] h = h
+  uses-also names primaries [] (u ∷ us) h = absurd h
+  uses-also names primaries (t ∷ ts) [] h = absurd h
+  uses-also names primaries (t ∷ ts) (u ∷ us) h = (use-also names primaries t u h.0, uses-also names primaries ts us h.1)
 
   options-also : (names : List (List ℕ)) (primaries n used : ℕ) (cs : List (List ℕ)) (lines : List (List ℕ)) (os : List (List Use)) (ig : List ℕ) (last : List (List ℕ))
       → AreOptions (context a names primaries) (so_far n used cs) lines os ig last → AreOptions (context b names primaries) (so_far n used cs) lines os ig last
   options-also names primaries n used cs [] os ig last h = h
   options-also names primaries n used cs (line ∷ lines) os ig last (z, inl (f, r)) = (z, inl (f, options-also names primaries (n + 1) used cs lines os ig last r))
   options-also names primaries n used cs (line ∷ lines) os ig last (z, inr (us, f, u, inl (others, none, i, r))) =
-      (z, inr (us, f, uses-also names primaries [] (tokens line) us u, inl (others, none, i, options-also names primaries (n + 1) used cs lines os others last r)))
+      (z, inr (us, f, (uses-also names primaries (tokens line) us u.0, u.1), inl (others, none, i, options-also names primaries (n + 1) used cs lines os others last r)))
   options-also names primaries n used cs (line ∷ lines) os ig last (z, inr (us, f, u, inr (others, prim, room, o, r))) =
-      (z, inr (us, f, uses-also names primaries [] (tokens line) us u, inr (others, prim, room, o, options-also names primaries (n + 1) (used + length us) (with_uses cs us) lines others ig last r)))
+      (z, inr (us, f, (uses-also names primaries (tokens line) us u.0, u.1), inr (others, prim, room, o, options-also names primaries (n + 1) (used + length us) (with_uses cs us) lines others ig last r)))
 
   sheet-also : (n : ℕ) (lines : List (List ℕ)) (sheet : Sheet) (ignored : List ℕ) → IsSheetFrom a n lines sheet ignored → IsSheetFrom b n lines sheet ignored
   sheet-also n [] sheet ignored h = h

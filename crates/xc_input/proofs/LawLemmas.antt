@@ -1,5 +1,6 @@
 -- The grammar relates lines to a problem exactly where they have no fault, and then to the one that the lines give.
 use Rattle.std.proofs.Common.{◌≡◌, ℕ, ◌+◌, ◌<◌, ◌≤◌, List, [], ◌∷◌, ◌++◌, Option, None, Some, Bool, true, false, ◌&&◌, not, nat_lt, nat_eq, is_none, is_some, unwrap_or, length, refl, ap, ◌∙◌, sym, subst, arith, if◌then◌else◌, inl, inr, ◌⊎◌, append_assoc, map}
+use Rattle.xc_input.proofs.UseLemmas.{UsesBehind, uses-behind, behind-uses}
 use Rattle.std.proofs.lemmas.Bool.Decides.{nat_tests}
 use Rattle.std.proofs.lemmas.List.{append-nil, length-map}
 use Rattle.std.specs.List.{list_any}
@@ -14,8 +15,8 @@ use Rattle.std.proofs.lemmas.List.Sums.{sum_by-append}
 use Rattle.xc_input.specs.Sheets.{Entry, Sheet, Written, names_of, number_uses, with_uses}
 use Rattle.xc_input.specs.Faults.{first, is_plain, name_checks, item_checks, entry, Row, no_row, part_checks, with_part, row_checks, row_of, item_number, is_bad_colour, token_checks, option_checks, written, has_primary, context}
 use Rattle.xc_input.specs.Limits.{most_uses}
-use Rattle.xc_input.specs.Stages.{Stage, Place, no_stage, content_checks, line_checks, with_option, with_line, line_number, fault_from, stage_from, stage_of, line_fault, first_fault, end_fault}
-use Rattle.xc_input.proofs.ReadLemmas.{fault_or}
+use Rattle.xc_input.specs.Stages.{Stage, no_stage, content_checks, line_checks, with_option, with_line, line_number, fault_from, stage_from, stage_of, line_fault, first_fault}
+use Rattle.xc_input.proofs.ReadLemmas.{fault_or, end_fault}
 use Rattle.xc_input.specs.Named.{IsName, IsColour}
 use Rattle.xc_input.specs.Text.{AreItems, IsUse, AreUses, AreOptions, IsSheetFrom}
 use Rattle.xc_input.proofs.SheetValidity.{number_uses-length, IsSheetOf, so_far}
@@ -176,29 +177,29 @@ module _ (kind : Kind) (names : List (List ℕ)) (primaries : ℕ) (seen token :
       (ap (λ k. has 58 token && is_bad_colour k) af ∙ ap (λ t. has 58 token && t) (or-both (nat_lt (length u.colour) 1) (nat_lt 8 (length u.colour)) y z) ∙ and-false (has 58 token))
 
 -- tokens with no fault are uses
-pub uses-good : (kind : Kind) (names : List (List ℕ)) (primaries : ℕ) (seen : List ℕ) (ts : List (List ℕ)) → first (option_checks (context kind names primaries) seen ts) ≡ None → AreUses (context kind names primaries) seen ts (map (written names) ts)
+pub uses-good : (kind : Kind) (names : List (List ℕ)) (primaries : ℕ) (seen : List ℕ) (ts : List (List ℕ)) → first (option_checks (context kind names primaries) seen ts) ≡ None → UsesBehind (context kind names primaries) seen ts (map (written names) ts)
 uses-good kind names primaries seen [] e = refl
 uses-good kind names primaries seen (t ∷ ts) e =
     let a = split (token_checks (context kind names primaries) seen t) (option_checks (context kind names primaries) (seen ++ item_number names (before 58 t) ∷ []) ts) e in
     let g = use-good kind names primaries seen t a.0 in
     (written names t, map (written names) ts, refl, g.0, g.1, uses-good kind names primaries (seen ++ item_number names (before 58 t) ∷ []) ts a.1)
 
-pub good-uses : (kind : Kind) (names : List (List ℕ)) (primaries : ℕ) (seen : List ℕ) (ts : List (List ℕ)) (us : List Written) → AreUses (context kind names primaries) seen ts us → (us ≡ map (written names) ts) × (first (option_checks (context kind names primaries) seen ts) ≡ None)
+pub good-uses : (kind : Kind) (names : List (List ℕ)) (primaries : ℕ) (seen : List ℕ) (ts : List (List ℕ)) (us : List Written) → UsesBehind (context kind names primaries) seen ts us → (us ≡ map (written names) ts) × (first (option_checks (context kind names primaries) seen ts) ≡ None)
 good-uses kind names primaries seen [] us h = (h, refl)
 good-uses kind names primaries seen (t ∷ ts) us h =
     let g = good-use kind names primaries seen t h.0 h.3 h.4 in
-    let r = good-uses kind names primaries (seen ++ item_number names (before 58 t) ∷ []) ts h.1 (subst (λ i. AreUses (context kind names primaries) (seen ++ i ∷ []) ts h.1) (ap (λ u. u.item) g.0) h.5) in
+    let r = good-uses kind names primaries (seen ++ item_number names (before 58 t) ∷ []) ts h.1 (subst (λ i. UsesBehind (context kind names primaries) (seen ++ i ∷ []) ts h.1) (ap (λ u. u.item) g.0) h.5) in
     (h.2 ∙ (λ i. g.0 i ∷ r.0 i), first-all (token_checks (context kind names primaries) seen t) (option_checks (context kind names primaries) (seen ++ item_number names (before 58 t) ∷ []) ts) g.1 r.1)
 
 -- THE LINES
 abbrev S : List Entry → ℕ → List (List Use) → List (List ℕ) → List ℕ → Stage
 S entries primaries options colours ignored = record { started = true; sheet = record { entries = entries; primaries = primaries; options = options; colours = colours }; ignored = ignored }
 
-both-none : (n : ℕ) (k : Option FaultKind) (later : Option Place) → fault_or n k later ≡ None → (k ≡ None) × (later ≡ None)
+both-none : (n : ℕ) (k : Option FaultKind) (later : Option (ℕ × FaultKind)) → fault_or n k later ≡ None → (k ≡ None) × (later ≡ None)
 both-none n None later e = (refl, e)
 both-none n (Some k) later e = absurd (cc)
 
-none-both : (n : ℕ) (k : Option FaultKind) (later : Option Place) → k ≡ None → later ≡ None → fault_or n k later ≡ None
+none-both : (n : ℕ) (k : Option FaultKind) (later : Option (ℕ × FaultKind)) → k ≡ None → later ≡ None → fault_or n k later ≡ None
 none-both n k later e f = ap (λ q. fault_or n q later) e ∙ f
 
 count-snoc : (os : List (List Use)) (o : List Use) → use_count (os ++ o ∷ []) ≡ use_count os + length o
@@ -268,7 +269,7 @@ module _ (kind : Kind) (entries : List Entry) (primaries : ℕ) where
   after-skip options colours ignored n line lines z f r =
       (r.0, r.1, r.2, ap (λ st. stage_from kind (n + 1) st lines) (skips (line_number (n + 1)) options colours ignored line f) ∙ r.3, (z, inl (f, r.4)))
 
-  after-drop : (options : List (List Use)) (colours : List (List ℕ)) (ignored : List ℕ) (n : ℕ) (line : List ℕ) (lines : List (List ℕ)) → has 0 line ≡ false → is_skipped line ≡ false → AreUses (context kind names primaries) [] (tokens line) (lineuses line)
+  after-drop : (options : List (List Use)) (colours : List (List ℕ)) (ignored : List ℕ) (n : ℕ) (line : List ℕ) (lines : List (List ℕ)) → has 0 line ≡ false → is_skipped line ≡ false → AreUses (context kind names primaries) (tokens line) (lineuses line)
       → has_primary primaries (lineuses line) ≡ false
       → IsRest options colours (ignored ++ line_number (n + 1) ∷ []) (n + 1) lines (stage_from kind (n + 1) (S entries primaries options colours (ignored ++ line_number (n + 1) ∷ [])) lines)
       → IsRest options colours ignored n (line ∷ lines) (stage_from kind (n + 1) (with_line kind (line_number (n + 1)) (S entries primaries options colours ignored) line) lines)
@@ -280,7 +281,7 @@ module _ (kind : Kind) (entries : List Entry) (primaries : ℕ) where
     (z, inr (lineuses line, f, u, inl (r.1, g, refl, r.4))),
   )
 
-  after-keep : (options : List (List Use)) (colours : List (List ℕ)) (ignored : List ℕ) (n : ℕ) (line : List ℕ) (lines : List (List ℕ)) → has 0 line ≡ false → is_skipped line ≡ false → AreUses (context kind names primaries) [] (tokens line) (lineuses line)
+  after-keep : (options : List (List Use)) (colours : List (List ℕ)) (ignored : List ℕ) (n : ℕ) (line : List ℕ) (lines : List (List ℕ)) → has 0 line ≡ false → is_skipped line ≡ false → AreUses (context kind names primaries) (tokens line) (lineuses line)
       → has_primary primaries (lineuses line) ≡ true → use_count options + length (lineuses line) ≤ most_uses
       → IsRest (options ++ number_uses colours (lineuses line) ∷ []) (with_uses colours (lineuses line)) ignored (n + 1) lines (stage_from kind (n + 1) (S entries primaries (options ++ number_uses colours (lineuses line) ∷ []) (with_uses colours (lineuses line)) ignored) lines)
       → IsRest options colours ignored n (line ∷ lines) (stage_from kind (n + 1) (with_line kind (line_number (n + 1)) (S entries primaries options colours ignored) line) lines)
@@ -321,11 +322,11 @@ module _ (kind : Kind) (entries : List Entry) (primaries : ℕ) where
         | true ↦ λ g f k.
             let s = split (option_checks (context kind names primaries) [] (tokens line)) (whole options line) k in
             let w = head TooManyUses (has_primary primaries (lineuses line) && nat_lt most_uses (use_count options + length (tokens line))) [] s.1 in
-            after-keep options colours ignored n line lines b.0 f (uses-good kind names primaries [] (tokens line) s.0) g (room-of options line g w.0)
+            after-keep options colours ignored n line lines b.0 f (behind-uses (context kind names primaries) (tokens line) (lineuses line) (uses-good kind names primaries [] (tokens line) s.0)) g (room-of options line g w.0)
             (options-good (options ++ number_uses colours (lineuses line) ∷ []) (with_uses colours (lineuses line)) ignored (n + 1) lines (ap (λ st. fault_from kind (n + 1) st lines) (sym (keeps (line_number (n + 1)) options colours ignored line f g)) ∙ a.1))
         | false ↦ λ g f k.
             let s = split (option_checks (context kind names primaries) [] (tokens line)) (whole options line) k in
-            after-drop options colours ignored n line lines b.0 f (uses-good kind names primaries [] (tokens line) s.0) g
+            after-drop options colours ignored n line lines b.0 f (behind-uses (context kind names primaries) (tokens line) (lineuses line) (uses-good kind names primaries [] (tokens line) s.0)) g
             (options-good options colours (ignored ++ line_number (n + 1) ∷ []) (n + 1) lines (ap (λ st. fault_from kind (n + 1) st lines) (sym (drops (line_number (n + 1)) options colours ignored line f g)) ∙ a.1))
       ]) in
       elim b.1 as (λ x. IsRest options colours ignored n (line ∷ lines) (stage_from kind (n + 1) (with_line kind (line_number (n + 1)) (S entries primaries options colours ignored) line) lines)) [ inl f ↦ skip f | inr h ↦ goes refl h.0 h.1 ]
@@ -347,7 +348,7 @@ module _ (kind : Kind) (entries : List Entry) (primaries : ℕ) where
         ap (λ st. stage_from kind (n + 1) st lines) w ∙ q.1,
       )
   good-options options colours ignored n (line ∷ lines) os ig cs (z, inr (us, f, u, inl (others, none, i, r))) =
-      let v = good-uses kind names primaries [] (tokens line) us u in
+      let v = good-uses kind names primaries [] (tokens line) us (uses-behind (context kind names primaries) (tokens line) us u) in
       let g : has_primary primaries (lineuses line) ≡ false = ap (has_primary primaries) (sym v.0) ∙ none in
       let q = good-options options colours (ignored ++ line_number (n + 1) ∷ []) (n + 1) lines os others cs r in
       let w = drops (line_number (n + 1)) options colours ignored line f g in (
@@ -358,7 +359,7 @@ module _ (kind : Kind) (entries : List Entry) (primaries : ℕ) where
         ap (λ st. stage_from kind (n + 1) st lines) w ∙ q.1 ∙ ap (S entries primaries (options ++ os) cs) (append_assoc ignored (line_number (n + 1) ∷ []) others ∙ ap (λ x. ignored ++ x) (sym i)),
       )
   good-options options colours ignored n (line ∷ lines) os ig cs (z, inr (us, f, u, inr (others, prim, room, o, r))) =
-      let v = good-uses kind names primaries [] (tokens line) us u in
+      let v = good-uses kind names primaries [] (tokens line) us (uses-behind (context kind names primaries) (tokens line) us u) in
       let g : has_primary primaries (lineuses line) ≡ true = ap (has_primary primaries) (sym v.0) ∙ prim in
       let r' : AreOptions (context kind names primaries) (so_far (n + 1) (use_count (options ++ number_uses colours (lineuses line) ∷ [])) (with_uses colours (lineuses line))) lines others ig cs =
       subst (λ c. AreOptions (context kind names primaries) (so_far (n + 1) c (with_uses colours (lineuses line))) lines others ig cs) (sym (count-next options colours line))
@@ -423,7 +424,7 @@ end-none : (n : ℕ) (b : Bool) → end_fault n b ≡ None → b ≡ true
 end-none n true e = refl
 end-none n false e = absurd (cc)
 
-or-none : (o p : Option Place) → option_or o p ≡ None → (o ≡ None) × (p ≡ None)
+or-none : (o p : Option (ℕ × FaultKind)) → option_or o p ≡ None → (o ≡ None) × (p ≡ None)
 or-none None p e = (refl, e)
 or-none (Some q) p e = absurd (cc)
 

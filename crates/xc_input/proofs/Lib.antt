@@ -22,3 +22,4 @@ pub mod BooleanTests
 pub mod KindLemmas
 pub mod CutTokens
 pub mod DecimalValues
+pub mod UseLemmas

@@ -1,5 +1,6 @@
 -- The first fault of lines and one more.
-use Rattle.std.proofs.Common.{◌≡◌, ℕ, ◌+◌, ◌-◌, ◌^◌, List, [], ◌∷◌, ◌++◌, Option, None, Some, Err, Bool, length, refl, ap, ◌∙◌, sym, subst, arith, min, MatchOption}
+use Rattle.std.proofs.Common.{◌≡◌, ℕ, ◌+◌, ◌-◌, ◌^◌, List, [], ◌∷◌, ◌++◌, Option, None, Some, Err, Bool, length, refl, ap, ◌∙◌, sym, subst, arith, min, MatchOption, if◌then◌else◌}
+use Rattle.xc_input.specs.declared.fault.FaultKind.TheVariants.{NoItems}
 use Rattle.std.proofs.lemmas.Grind.{common_steps}
 use Rattle.xc_input.specs.declared.kind.Kind.{Kind}
 use Rattle.xc_input.specs.declared.fault.FaultKind.{FaultKind}
@@ -9,27 +10,31 @@ use Rattle.xc_input.specs.declared.line_error.LineError.{LineError}
 use Rattle.xc_input.specs.declared.line_error.LineError.TheVariants.{Fault as Bad, Memory as NoMemory}
 use Rattle.xc_input.specs.declared.builder.ProblemBuilder.{ProblemBuilder}
 use Rattle.xc_input.specs.Faults.{first}
-use Rattle.xc_input.specs.Stages.{Stage, Place, line_checks, with_line, line_number, fault_from, stage_from, line_fault, stage_of, no_stage, first_fault, end_fault}
+use Rattle.xc_input.specs.Stages.{Stage, line_checks, with_line, line_number, fault_from, stage_from, line_fault, stage_of, no_stage, first_fault}
 use Rattle.xc_input.specs.inner.Builders.{Judged, IsBuilder, stage_of_builder, error_at}
 use Rattle.xc_input.specs.Readings.{IsStateOf}
 use Rattle.xc_input.specs.inner.Feeding.{IsErrorOf, IsEndOf}
 use Rattle.std.specs.Option.{option_map, option_or}
 
+-- the fault of a text that ends without an item line
+abbrev pub end_fault : ℕ → Bool → Option (ℕ × FaultKind)
+end_fault n started = (if started then None else Some (line_number (n + 1), NoItems))
+
 -- the fault of line n, or else the later one
-abbrev pub fault_or : ℕ → Option FaultKind → Option Place → Option Place
+abbrev pub fault_or : ℕ → Option FaultKind → Option (ℕ × FaultKind) → Option (ℕ × FaultKind)
 fault_or n fault later = option_or (option_map (λ k. (line_number n, k)) fault) later
 
 -- a fault stays the first one, whatever follows
-fault_or-stays : (n : ℕ) (k : Option FaultKind) (a b : Option Place) (p : Place) → (a ≡ Some p → b ≡ Some p) → fault_or n k a ≡ Some p → fault_or n k b ≡ Some p
+fault_or-stays : (n : ℕ) (k : Option FaultKind) (a b : Option (ℕ × FaultKind)) (p : ℕ × FaultKind) → (a ≡ Some p → b ≡ Some p) → fault_or n k a ≡ Some p → fault_or n k b ≡ Some p
 fault_or-stays n None a b p h e = h e
 fault_or-stays n (Some k) a b p h e = e
 
-pub fault-stays : (kind : Kind) (n : ℕ) (stage : Stage) (lines more : List (List ℕ)) (p : Place) → fault_from kind n stage lines ≡ Some p → fault_from kind n stage (lines ++ more) ≡ Some p
+pub fault-stays : (kind : Kind) (n : ℕ) (stage : Stage) (lines more : List (List ℕ)) (p : ℕ × FaultKind) → fault_from kind n stage lines ≡ Some p → fault_from kind n stage (lines ++ more) ≡ Some p
 fault-stays kind n stage [] more p e = absurd (cc)
 fault-stays kind n stage (line ∷ lines) more p e =
     fault_or-stays (n + 1) (first (line_checks kind stage line)) _ _ p (fault-stays kind (n + 1) (with_line kind (line_number (n + 1)) stage line) lines more p) e
 
-fault_or-none : (n m : ℕ) (k l : Option FaultKind) (a b : Option Place) → (a ≡ None → b ≡ fault_or m l None) → fault_or n k a ≡ None → fault_or n k b ≡ fault_or m l None
+fault_or-none : (n m : ℕ) (k l : Option FaultKind) (a b : Option (ℕ × FaultKind)) → (a ≡ None → b ≡ fault_or m l None) → fault_or n k a ≡ None → fault_or n k b ≡ fault_or m l None
 fault_or-none n m None l a b h e = h e
 fault_or-none n m (Some k) l a b h e = absurd (cc)
 

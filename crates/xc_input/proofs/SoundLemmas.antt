@@ -1,15 +1,16 @@
 -- The problem of a sheet is sound.
 use Rattle.std.proofs.Common.{◌≡◌, ◌≢◌, ℕ, zero, suc, ◌+◌, ◌-◌, ◌<◌, ◌≤◌, List, [], ◌∷◌, ◌++◌, Bool, true, false, nat_eq, is_none, true≢false, length, map, take, drop, get_or, All, AllPairs, refl, ap, ◌∙◌, sym, subst, arith, if◌then◌else◌, inl, inr, append_assoc}
+use Rattle.xc_input.specs.declared.problem.Bounds.{Bounds}
 use Rattle.std.proofs.lemmas.Bool.Decides.{nat_tests}
 use Rattle.std.proofs.lemmas.List.{append-nil, length-map, map-append}
 use Rattle.std.proofs.lemmas.List.Elements.{All-nil, All-cons, All-append}
 use Rattle.std.proofs.lemmas.List.Quantifiers.{all_pairs_push}
 use Rattle.std.proofs.lemmas.List.Sums.{sum_by-cons}
-use Rattle.std.specs.List.{list_any, Any}
+use Rattle.std.specs.List.{list_any, Any, AllZip}
 use Rattle.xc_input.specs.declared.kind.Kind.{Kind}
 use Rattle.xc_input.specs.declared.problem.Item.{Item}
 use Rattle.xc_input.specs.declared.problem.Use.{Use}
-use Rattle.xc_input.specs.Problem.{Bounds, Puzzle, item_count, primary_count, AreSoundBounds, IsSoundUse, IsSoundOption, use_count}
+use Rattle.xc_input.specs.Problem.{Puzzle, item_count, primary_count, AreSoundBounds, IsSoundUse, IsSoundOption, use_count}
 use Rattle.xc_input.specs.ItemBounds.{bounds_of}
 use Rattle.xc_input.specs.inner.Vectors.{IsOptional}
 use Rattle.xc_input.specs.Named.{IsName, IsColour, IsSound}
@@ -17,7 +18,7 @@ use Rattle.xc_input.specs.Words.{place}
 use Rattle.xc_input.specs.Tokens.{tokens}
 use Rattle.xc_input.specs.Sheets.{Entry, Sheet, Written, names_of, named_of, with_colour, with_uses}
 use Rattle.xc_input.specs.inner.Builders.{entry_of}
-use Rattle.xc_input.specs.Text.{IsUse, AreUses, AreOptions, IsSheetFrom}
+use Rattle.xc_input.specs.Text.{IsUse, AreOptions, IsSheetFrom}
 use Rattle.xc_input.proofs.SheetValidity.{IsSheetOf, AllNew, HaveBounds, AreWithin, AreFresh, UsesPrimary, AreValid, HaveNames, so_far}
 use Rattle.xc_input.proofs.FaultLemmas.{names_of-length}
 use Rattle.xc_input.proofs.GrammarLemmas.{or-false}
@@ -124,11 +125,12 @@ use-colour : (kind : Kind) (names : List (List ℕ)) (primaries : ℕ) (token : 
 use-colour kind names primaries token u (name, i, n, p, q, inl h) some = absurd (omega (arith, some, ap length h.1))
 use-colour kind names primaries token u (name, i, n, p, q, inr h) some = h.3
 
-add-uses : (kind : Kind) (names : List (List ℕ)) (primaries : ℕ) (seen : List ℕ) (ts : List (List ℕ)) (us : List Written) (cs : List (List ℕ)) → AreUses (context kind names primaries) seen ts us → All IsColour cs → All IsColour (with_uses cs us)
-add-uses kind names primaries seen [] us cs h all = subst (λ us. All IsColour (with_uses cs us)) (sym h) all
-add-uses kind names primaries seen (t ∷ ts) us cs h all =
-    subst (λ us. All IsColour (with_uses cs us)) (sym h.2)
-    (add-uses kind names primaries (seen ++ h.0.item ∷ []) ts h.1 (with_colour cs h.0.colour) h.5 (add-colour cs h.0.colour (use-colour kind names primaries t h.0 h.3) all))
+add-uses : (kind : Kind) (names : List (List ℕ)) (primaries : ℕ) (ts : List (List ℕ)) (us : List Written) (cs : List (List ℕ)) → AllZip (IsUse (context kind names primaries)) ts us → All IsColour cs → All IsColour (with_uses cs us)
+add-uses kind names primaries [] [] cs h all = all
+add-uses kind names primaries [] (u ∷ us) cs h all = absurd h
+add-uses kind names primaries (t ∷ ts) [] cs h all = absurd h
+add-uses kind names primaries (t ∷ ts) (u ∷ us) cs h all =
+    add-uses kind names primaries ts us (with_colour cs u.colour) h.1 (add-colour cs u.colour (use-colour kind names primaries t u h.0) all)
 
 option-colours : (kind : Kind) (names : List (List ℕ)) (primaries n used : ℕ) (cs : List (List ℕ)) (lines : List (List ℕ)) (os : List (List Use)) (ig : List ℕ) (last : List (List ℕ))
     → AreOptions (context kind names primaries) (so_far n used cs) lines os ig last → All IsColour cs → All IsColour last
@@ -136,7 +138,7 @@ option-colours kind names primaries n used cs [] os ig last h all = subst (All I
 option-colours kind names primaries n used cs (line ∷ lines) os ig last (z, inl (f, r)) all = option-colours kind names primaries (n + 1) used cs lines os ig last r all
 option-colours kind names primaries n used cs (line ∷ lines) os ig last (z, inr (us, f, u, inl (others, none, i, r))) all = option-colours kind names primaries (n + 1) used cs lines os others last r all
 option-colours kind names primaries n used cs (line ∷ lines) os ig last (z, inr (us, f, u, inr (others, prim, room, o, r))) all =
-    option-colours kind names primaries (n + 1) (used + length us) (with_uses cs us) lines others ig last r (add-uses kind names primaries [] (tokens line) us cs u all)
+    option-colours kind names primaries (n + 1) (used + length us) (with_uses cs us) lines others ig last r (add-uses kind names primaries (tokens line) us cs u.0 all)
 
 sheet-colours : (kind : Kind) (n : ℕ) (lines : List (List ℕ)) (sheet : Sheet) (ignored : List ℕ) → IsSheetFrom kind n lines sheet ignored → All IsColour sheet.colours
 sheet-colours kind n [] sheet ignored h = absurd h

@@ -1,10 +1,11 @@
 -- What the end of a source says of its text.
 use Rattle.std.proofs.Common.{◌≡◌, ℕ, ◌<◌, List, [], ◌∷◌, ◌++◌, Result, Err, length, sym, ap, ◌∙◌, subst, append-nil}
+use Rattle.xc_input.proofs.ReadLemmas.{end_fault}
 use Rattle.xc_input.specs.declared.kind.Kind.{Kind}
 use Rattle.xc_input.specs.declared.fault.InputError.{InputError}
 use Rattle.xc_input.specs.declared.fault.InputError.TheVariants.{Fault, Device, Memory}
 use Rattle.xc_input.specs.declared.reader.Read.{Read}
-use Rattle.xc_input.specs.Stages.{stage_of, end_fault}
+use Rattle.xc_input.specs.Stages.{stage_of}
 use Rattle.xc_input.specs.Readings.{Reading}
 use Rattle.xc_input.specs.inner.Feeding.{IsErrorOf, IsEndOf, fed, IsBetween, EndsAs}
 use Rattle.xc_input.specs.Lines.{lines_of}

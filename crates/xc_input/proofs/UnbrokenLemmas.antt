@@ -3,14 +3,14 @@ use Rattle.std.proofs.Common.{◌≡◌, ℕ, ◌+◌, List, [], ◌∷◌, ◌+
 use Rattle.std.proofs.lemmas.Bool.{eqb-true}
 use Rattle.std.proofs.lemmas.List.Elements.{All-nil, All-cons}
 use Rattle.std.proofs.lemmas.List.Folds.{list_any-append}
-use Rattle.std.specs.List.{list_any, onto_first}
+use Rattle.std.specs.List.{list_any, onto_first, AllZip}
 use Rattle.xc_input.specs.declared.kind.Kind.{Kind}
 use Rattle.xc_input.specs.declared.problem.Use.{Use}
 use Rattle.xc_input.specs.Words.{has, place}
 use Rattle.xc_input.specs.Tokens.{is_space, onto, tokens, split_bars, parts}
 use Rattle.xc_input.specs.Named.{IsUnbroken}
 use Rattle.xc_input.specs.Sheets.{Entry, Sheet, Written, names_of, with_colour, with_uses}
-use Rattle.xc_input.specs.Text.{IsEntry, AreItems, IsUse, AreUses, AreOptions, IsSheetFrom}
+use Rattle.xc_input.specs.Text.{IsEntry, AreItems, IsUse, AreOptions, IsSheetFrom}
 use Rattle.xc_input.proofs.SheetValidity.{IsSheetOf, so_far}
 use Rattle.xc_input.specs.inner.EndedLines.{AreWhole}
 use Rattle.xc_input.proofs.GrammarLemmas.{or-false, or-both}
@@ -95,12 +95,13 @@ module _ (p : ℕ → Bool) (lacks : (line : List ℕ) → has 0 line ≡ false 
       let P : Bool → Type 0 = λ t. AllLack p (if t then cs ++ (b ∷ bs) ∷ [] else cs) in
       (elim (is_none (place cs (b ∷ bs))) as P [ true ↦ AllLack-append p cs ((b ∷ bs) ∷ []) h (e, tt) | false ↦ h ])
 
-  lack-uses : (kind : Kind) (names : List (List ℕ)) (primaries : ℕ) (seen : List ℕ) (ts : List (List ℕ)) (us : List Written) (cs : List (List ℕ)) → AreUses (context kind names primaries) seen ts us → AllLack p ts → AllLack p cs
+  lack-uses : (kind : Kind) (names : List (List ℕ)) (primaries : ℕ) (ts : List (List ℕ)) (us : List Written) (cs : List (List ℕ)) → AllZip (IsUse (context kind names primaries)) ts us → AllLack p ts → AllLack p cs
       → AllLack p (with_uses cs us)
-  lack-uses kind names primaries seen [] us cs h l all = subst (λ us. AllLack p (with_uses cs us)) (sym h) all
-  lack-uses kind names primaries seen (t ∷ ts) us cs h l all =
-      subst (λ us. AllLack p (with_uses cs us)) (sym h.2)
-      (lack-uses kind names primaries (seen ++ h.0.item ∷ []) ts h.1 (with_colour cs h.0.colour) h.5 l.1 (lack-colour cs h.0.colour (lack-use kind names primaries t h.0 h.3 l.0) all))
+  lack-uses kind names primaries [] [] cs h l all = all
+  lack-uses kind names primaries [] (u ∷ us) cs h l all = absurd h
+  lack-uses kind names primaries (t ∷ ts) [] cs h l all = absurd h
+  lack-uses kind names primaries (t ∷ ts) (u ∷ us) cs h l all =
+      lack-uses kind names primaries ts us (with_colour cs u.colour) h.1 l.1 (lack-colour cs u.colour (lack-use kind names primaries t u h.0 l.0) all)
 
   lack-options : (kind : Kind) (names : List (List ℕ)) (primaries n used : ℕ) (cs : List (List ℕ)) (lines : List (List ℕ)) (os : List (List Use)) (ig : List ℕ) (last : List (List ℕ))
       → AreOptions (context kind names primaries) (so_far n used cs) lines os ig last → AreWhole lines → AllLack p cs → AllLack p last
@@ -108,7 +109,7 @@ module _ (p : ℕ → Bool) (lacks : (line : List ℕ) → has 0 line ≡ false 
   lack-options kind names primaries n used cs (line ∷ lines) os ig last (z, inl (f, r)) w all = lack-options kind names primaries (n + 1) used cs lines os ig last r w.1 all
   lack-options kind names primaries n used cs (line ∷ lines) os ig last (z, inr (us, f, u, inl (others, none, i, r))) w all = lack-options kind names primaries (n + 1) used cs lines os others last r w.1 all
   lack-options kind names primaries n used cs (line ∷ lines) os ig last (z, inr (us, f, u, inr (others, prim, room, o, r))) w all =
-      lack-options kind names primaries (n + 1) (used + length us) (with_uses cs us) lines others ig last r w.1 (lack-uses kind names primaries [] (tokens line) us cs u (lacks line z w.0) all)
+      lack-options kind names primaries (n + 1) (used + length us) (with_uses cs us) lines others ig last r w.1 (lack-uses kind names primaries (tokens line) us cs u.0 (lacks line z w.0) all)
 
   lack-sheet : (kind : Kind) (n : ℕ) (lines : List (List ℕ)) (sheet : Sheet) (ignored : List ℕ) → IsSheetFrom kind n lines sheet ignored → AreWhole lines → AllLack p (names_of sheet.entries) × AllLack p sheet.colours
   lack-sheet kind n [] sheet ignored h w = absurd h

@@ -1,5 +1,7 @@
 -- What stands for a text is valid.
 use Rattle.std.proofs.Common.{◌≡◌, ℕ, suc, ◌+◌, ◌*◌, ◌-◌, ◌^◌, ◌<◌, ◌≤◌, List, [], ◌∷◌, ◌++◌, Option, None, Some, Bool, true, false, ◌&&◌, nat_lt, nat_le, nat_eq, ◌||◌, ◌⊎◌, is_none, unwrap_or, length, position, refl, ap, ◌∙◌, sym, subst, arith, if◌then◌else◌, inl, inr, append_assoc, length-append}
+use Rattle.xc_input.proofs.UseLemmas.{UsesBehind, uses-behind}
+use Rattle.std.specs.Char.{is_ascii_digit}
 use Rattle.xc_input.proofs.DecimalValues.{value_from}
 use Rattle.std.proofs.lemmas.Bool.Decides.{nat_tests}
 use Rattle.std.proofs.lemmas.Grind.{pow_more}
@@ -9,14 +11,14 @@ use Rattle.std.specs.List.{position_or_len, list_all}
 use Rattle.xc_input.specs.Problem.{use_count}
 use Rattle.xc_input.specs.declared.kind.Kind.{Kind}
 use Rattle.xc_input.specs.declared.problem.Use.{Use}
-use Rattle.xc_input.specs.Words.{place, is_digit, is_number, number}
+use Rattle.xc_input.specs.Words.{place, is_number, number}
 use Rattle.xc_input.specs.Tokens.{tokens, parts, is_bar, is_skipped, split_bars, is_space}
 use Rattle.xc_input.specs.inner.Fronts.{drop_white, word}
 use Rattle.xc_input.proofs.TokenLemmas.{skipped-front, behind, tokens-drop_white, tokens-first, drop_white-first}
 use Rattle.std.proofs.lemmas.List.Sums.{sum_by-cons}
 use Rattle.xc_input.specs.Sheets.{Entry, Sheet, Written, names_of, number_uses, with_uses, with_colour, colour_number}
 use Rattle.xc_input.specs.Limits.{most_items, most_uses, greatest_bound}
-use Rattle.xc_input.specs.Text.{IsEntry, AreBounds, AreItems, IsUse, AreUses, AreOptions, IsSheetFrom}
+use Rattle.xc_input.specs.Text.{IsEntry, AreBounds, AreItems, IsUse, AreOptions, IsSheetFrom}
 use Rattle.xc_input.proofs.SheetValidity.{number_uses-length, IsSheetOf, AllNew, HaveBounds, IsWithin, AreWithin, AreFresh, UsesPrimary, AreValid, HaveNames, IsSoundSheet, so_far}
 use Rattle.std.specs.Str.{bytes_eq}
 use Rattle.xc_input.proofs.FaultLemmas.{some-is, names_of-length}
@@ -25,10 +27,10 @@ use Rattle.std.specs.Prelude.{flat_map}
 use Rattle.xc_input.specs.Faults.{context, has_primary}
 
 -- NUMBERS
-value-below : (n i : ℕ) (xs : List ℕ) → n < 10 ^ i → list_all is_digit xs ≡ true → value_from n xs < 10 ^ (i + length xs)
+value-below : (n i : ℕ) (xs : List ℕ) → n < 10 ^ i → list_all is_ascii_digit xs ≡ true → value_from n xs < 10 ^ (i + length xs)
 value-below n i [] h e = let z : i + 0 ≡ i = omega arith in subst (λ k. n < 10 ^ k) (sym z) h
 value-below n i (x ∷ xs) h e =
-    let a = and-true (is_digit x) (list_all is_digit xs) e in
+    let a = and-true (is_ascii_digit x) (list_all is_ascii_digit xs) e in
     let b : nat_le x 57 ≡ true = (and-true (nat_le 48 x) (nat_le x 57) a.0).1 in
     let c : x < 58 = grind (arith, nat_tests) in
     let p : 10 ^ (i + 1) ≡ 10 ^ i * 10 = pow_more 10 i in
@@ -38,7 +40,7 @@ value-below n i (x ∷ xs) h e =
 
 number-below : (text : List ℕ) → is_number text ≡ true → number text ≤ greatest_bound
 number-below text e =
-    let a = and-true (nat_le 1 (length text) && nat_le (length text) 9) (list_all is_digit text) e in
+    let a = and-true (nat_le 1 (length text) && nat_le (length text) 9) (list_all is_ascii_digit text) e in
     let c : nat_le (length text) 9 ≡ true = (and-true (nat_le 1 (length text)) (nat_le (length text) 9) a.0).1 in
     let l : length text ≤ 9 = grind (arith, nat_tests) in
     let v : number text < 10 ^ (0 + length text) = value-below 0 0 text (omega arith) a.1 in
@@ -188,7 +190,7 @@ use-within kind names primaries token u cs k (name, i, n, p, q, inr h) l =
     let o : primaries < u.item = h.2 in
     (omega arith, omega arith, (λ w. absurd (omega arith)), l)
 
-uses-valid : (kind : Kind) (names : List (List ℕ)) (primaries : ℕ) (seen : List ℕ) (ts : List (List ℕ)) (us : List Written) (cs : List (List ℕ)) (k : ℕ) → AreUses (context kind names primaries) seen ts us → length (with_uses cs us) ≤ k
+uses-valid : (kind : Kind) (names : List (List ℕ)) (primaries : ℕ) (seen : List ℕ) (ts : List (List ℕ)) (us : List Written) (cs : List (List ℕ)) (k : ℕ) → UsesBehind (context kind names primaries) seen ts us → length (with_uses cs us) ≤ k
     → AreWithin (length names) primaries k (number_uses cs us) × AreFresh seen (number_uses cs us)
 uses-valid kind names primaries seen [] us cs k h l = (subst (λ x. AreWithin (length names) primaries k (number_uses cs x)) (sym h) tt, subst (λ x. AreFresh seen (number_uses cs x)) (sym h) tt)
 uses-valid kind names primaries seen (t ∷ ts) us cs k h l =
@@ -219,7 +221,7 @@ options-valid kind names primaries n used cs (line ∷ lines) os ig last (z, inr
     let q = options-valid kind names primaries (n + 1) (used + length us) (with_uses cs us) lines others ig last r room (colours-new cs us a) in
     let g : length cs ≤ length (with_uses cs us) = colours-grow cs us in
     let l : length (with_uses cs us) ≤ length last = q.0 in
-    let v = uses-valid kind names primaries [] (tokens line) us cs (length last) u l in
+    let v = uses-valid kind names primaries [] (tokens line) us cs (length last) (uses-behind (context kind names primaries) (tokens line) us u) l in
     let c : use_count os ≡ length us + use_count others = ap use_count o ∙ sum_by-cons (λ us. length us) (number_uses cs us) others ∙ ap (λ k. k + use_count others) (number_uses-length cs us) in
     let d : used + length us + use_count others ≤ most_uses = q.2 in
     (omega arith, q.1, omega arith, subst (AreValid (length names) primaries (length last)) (sym o) (v.0, v.1, primary-kept primaries us cs prim, q.3))

@@ -1,6 +1,6 @@
 -- The bounds of items.
 use Rattle.xc_input.specs.declared.problem.Item.{Item}
-use Rattle.xc_input.specs.Problem.{Bounds}
+use Rattle.xc_input.specs.declared.problem.Bounds.{Bounds}
 
 -- the bounds of an item
 abbrev pub bounds_of : Item → Bounds

@@ -1,12 +1,9 @@
 -- Exact cover problems. Items and options are numbered from 1.
-use Rattle.std.specs.Prelude.{ℕ, zero, suc, ◌+◌, ◌<◌, ◌≤◌, ◌≡◌, ◌≢◌, Bool, ◌==◌, List, [], ◌∷◌, length, Option, Some, None, is_some, unwrap_or, slice_get, All, AllPairs, Any, sum_by, filter, if◌then◌else◌}
-use Rattle.xc_input.specs.declared.problem.Bounds.{Bounds as ItemBounds}
+use Rattle.std.specs.Prelude.{ℕ, zero, suc, ◌+◌, ◌<◌, ◌≤◌, ◌≡◌, ◌≢◌, Bool, ◌==◌, List, [], ◌∷◌, length, Option, Some, None, is_some, unwrap_or, slice_get, All, AllPairs, Any, sum_by, filter, map, if◌then◌else◌}
+use Rattle.std.specs.List.{enumerate_from}
+use Rattle.xc_input.specs.declared.problem.Bounds.{Bounds}
 use Rattle.xc_input.specs.declared.problem.Use.{Use}
 use Rattle.xc_input.specs.Limits.{most_items, most_uses, greatest_bound}
-
--- how often an item is to be held: at least low and at most high times
-abbrev pub Bounds : Type 0
-Bounds = ItemBounds
 
 -- the bounds of the primary items in order, how many secondary items stand behind them, and the options in file order,
 -- each a list of uses in file order
@@ -78,14 +75,9 @@ pub record Numbered : Type 0 where
   pub number : ℕ
   pub uses : List Use
 
--- options with the numbers from n on
-abbrev pub numbered_from : ℕ → List (List Use) → List Numbered
-numbered_from n [] = []
-numbered_from n (us ∷ options) = record { number = n; uses = us } ∷ numbered_from (n + 1) options
-
 -- the options with their numbers, from 1
 abbrev pub numbered_options : Puzzle → List Numbered
-numbered_options p = numbered_from 1 p.options
+numbered_options p = map (λ nu. record { number = nu.0; uses = nu.1 }) (enumerate_from 1 p.options)
 
 -- the colour that an option gives item i, if it holds it
 abbrev pub colour_at : Numbered → ℕ → Option ℕ

@@ -1,8 +1,9 @@
 -- What a text writes down, and the problem that it is.
 use Rattle.std.specs.Prelude.{ℕ, ◌+◌, ◌-◌, length, List, [], ◌∷◌, ◌++◌, is_none, unwrap_or, if◌then◌else◌, map, take, fold}
+use Rattle.xc_input.specs.declared.problem.Bounds.{Bounds}
 use Rattle.xc_input.specs.declared.problem.Use.{Use}
 use Rattle.xc_input.specs.Words.{place}
-use Rattle.xc_input.specs.Problem.{Bounds, Puzzle}
+use Rattle.xc_input.specs.Problem.{Puzzle}
 use Rattle.xc_input.specs.Named.{Named}
 
 -- an item: its name, and how many options of a cover hold it

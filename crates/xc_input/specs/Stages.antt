@@ -65,12 +65,8 @@ with_line kind n stage line =
     (if stage.started then with_option n stage (written_by stage.sheet line)
     else record stage { started = true; sheet = with_row stage.sheet (row_of kind no_row (parts line)) }))
 
--- a fault and its line
-abbrev pub Place : Type 0
-Place = ℕ × FaultKind
-
 -- the first fault of lines, behind n lines that gave this
-abbrev pub fault_from : Kind → ℕ → Stage → List (List ℕ) → Option Place
+abbrev pub fault_from : Kind → ℕ → Stage → List (List ℕ) → Option (ℕ × FaultKind)
 fault_from kind n stage [] = None
 fault_from kind n stage (line ∷ lines) =
     option_or (option_map (λ fault. (line_number (n + 1), fault)) (first (line_checks kind stage line)))
@@ -82,17 +78,14 @@ stage_from kind n stage [] = stage
 stage_from kind n stage (line ∷ lines) = stage_from kind (n + 1) (with_line kind (line_number (n + 1)) stage line) lines
 
 -- the first fault of the lines so far
-abbrev pub line_fault : Kind → List (List ℕ) → Option Place
+abbrev pub line_fault : Kind → List (List ℕ) → Option (ℕ × FaultKind)
 line_fault kind lines = fault_from kind 0 no_stage lines
 
 -- what the lines gave
 abbrev pub stage_of : Kind → List (List ℕ) → Stage
 stage_of kind lines = stage_from kind 0 no_stage lines
 
--- the fault of a text that ends without an item line
-abbrev pub end_fault : ℕ → Bool → Option Place
-end_fault n started = (if started then None else Some (line_number (n + 1), NoItems))
-
--- THE FIRST FAULT of a whole text
-abbrev pub first_fault : Kind → List (List ℕ) → Option Place
-first_fault kind lines = option_or (line_fault kind lines) (end_fault (length lines) (stage_of kind lines).started)
+-- THE FIRST FAULT of a whole text: that of a line, or else that it has no item line
+abbrev pub first_fault : Kind → List (List ℕ) → Option (ℕ × FaultKind)
+first_fault kind lines = option_or (line_fault kind lines)
+    (if (stage_of kind lines).started then None else Some (line_number (length lines + 1), NoItems))

@@ -1,7 +1,7 @@
 -- THE GRAMMAR: which problem and which ignored lines a list of lines stands for.
-use Rattle.std.specs.Prelude.{◌≡◌, ℕ, ◌+◌, ◌<◌, ◌≤◌, length, List, [], ◌∷◌, ◌++◌, Bool, true, false, Option, None, Some, is_some, unwrap_or, ◌⊎◌, if◌then◌else◌, nat_eq}
+use Rattle.std.specs.Prelude.{◌≡◌, ◌≢◌, ℕ, ◌+◌, ◌<◌, ◌≤◌, length, List, [], ◌∷◌, ◌++◌, Bool, true, false, Option, None, Some, is_some, unwrap_or, ◌⊎◌, if◌then◌else◌, AllPairs}
 use Prim.Native.Char.{code}
-use Rattle.std.specs.List.{list_any}
+use Rattle.std.specs.List.{AllZip}
 use Rattle.xc_input.specs.declared.kind.Kind.{Kind}
 use Rattle.xc_input.specs.declared.problem.Use.{Use}
 use Rattle.xc_input.specs.Limits.{most_items, most_uses}
@@ -50,13 +50,9 @@ IsUse c token u =
     × (((token ≡ name) × (u.colour ≡ []))
     ⊎ ((token ≡ name ++ code ":" ∷ u.colour) × (is_plain c.kind ≡ false) × (c.primaries < u.item) × IsColour u.colour))
 
--- tokens, behind uses of these items, stand for these uses
-abbrev pub AreUses : Context → List ℕ → List (List ℕ) → List Written → Type 0
-AreUses c seen [] us = us ≡ []
-AreUses c seen (token ∷ tokens) us =
-    (u : Written) × (others : List Written) × (us ≡ u ∷ others) × IsUse c token u
-    × (list_any (λ i. nat_eq i u.item) seen ≡ false)
-    × AreUses c (seen ++ u.item ∷ []) tokens others
+-- tokens stand for uses, each of an item of its own
+abbrev pub AreUses : Context → List (List ℕ) → List Written → Type 0
+AreUses c tokens us = AllZip (IsUse c) tokens us × AllPairs (λ u v. u.item ≢ v.item) us
 
 -- what was read before a line behind the item line: how many lines, how many uses, and the colours
 pub record SoFar : Type 0 where
@@ -73,7 +69,7 @@ abbrev pub AreOptions : Context → SoFar → List (List ℕ) → List (List Use
 AreOptions c s [] options ignored last = (options ≡ []) × (ignored ≡ []) × (last ≡ s.colours)
 AreOptions c s (line ∷ lines) options ignored last = (has 0 line ≡ false) × (
     ((is_skipped line ≡ true) × AreOptions c (record s { lines = s.lines + 1 }) lines options ignored last)
-    ⊎ ((us : List Written) × (is_skipped line ≡ false) × AreUses c [] (tokens line) us × (
+    ⊎ ((us : List Written) × (is_skipped line ≡ false) × AreUses c (tokens line) us × (
     ((others : List ℕ) × (has_primary c.primaries us ≡ false) × (ignored ≡ line_number (s.lines + 1) ∷ others)
     × AreOptions c (record s { lines = s.lines + 1 }) lines options others last)
     ⊎ ((others : List (List Use)) × (has_primary c.primaries us ≡ true) × (s.uses + length us ≤ most_uses)

@@ -5,7 +5,7 @@ use Rattle.xc_input.specs.declared.kind.Kind.TheVariants.{Plain, Colours, Bounds
 use Rattle.xc_input.specs.declared.fault.FaultKind.{FaultKind}
 use Rattle.xc_input.specs.declared.fault.FaultKind.TheVariants.{NoItems, NulByte, EmptyName, NameTooLong, BadByteInName, RepeatedName, TwoBars, BadBound, BoundOrder, BoundOnSecondary, UnknownItem, RepeatedInOption, ColourOnPrimary, BadColour, ColourNotHere}
 use Rattle.xc_input.specs.declared.problem.Use.{Use}
-use Rattle.xc_input.specs.Problem.{Bounds as ItemBounds}
+use Rattle.xc_input.specs.declared.problem.Bounds.{Bounds as ItemBounds}
 use Rattle.xc_input.specs.Named.{Named}
 use Rattle.xc_input.specs.Sheets.{named_of}
 use Rattle.xc_input.specs.Stages.{first_fault, stage_of}

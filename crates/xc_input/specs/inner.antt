@@ -6,3 +6,4 @@ pub mod Builders
 pub mod Feeding
 pub mod CutTokens
 pub mod EndedLines
+pub mod NumberedOptions

@@ -1,14 +1,14 @@
 -- Numbers in decimal, digit by digit.
 use Rattle.std.proofs.Common.{◌≡◌, ℕ, ◌+◌, ◌*◌, ◌^◌, ◌<◌, ◌≤◌, ◌-◌, Bool, true, false, cond, ◌&&◌, nat_lt, Option, List, [], ◌∷◌, None, Some, length, drop, get_or, refl, arith, le_trans, le-ltb}
+use Rattle.std.specs.Char.{is_ascii_digit}
 use Rattle.xc_input.proofs.DecimalValues.{value_from}
 use Rattle.std.specs.List.{list_all}
 use Rattle.std.proofs.lemmas.Grind.{common_steps}
-use Rattle.xc_input.specs.Words.{is_digit}
 use Rattle.xc_list.specs.Settings.{long_number}
 
 -- the number of digits behind those of a value, where it fits
 abbrev pub digits_in : ℕ → List ℕ → Option ℕ
-digits_in v bs = cond (list_all is_digit bs && nat_lt (value_from v bs) (2 ^ 64)) (Some (value_from v bs)) None
+digits_in v bs = cond (list_all is_ascii_digit bs && nat_lt (value_from v bs) (2 ^ 64)) (Some (value_from v bs)) None
 
 value_from-le : (v : ℕ) (bs : List ℕ) → v ≤ value_from v bs
 value_from-le v [] = omega arith
@@ -17,7 +17,7 @@ value_from-le v (b ∷ bs) = omega (arith, value_from-le (v * 10 + (b - 48)) bs)
 pub too_large : (v b : ℕ) (bs : List ℕ) → 2 ^ 64 ≤ v * 10 + (b - 48) → digits_in v (b ∷ bs) ≡ None
 too_large v b bs h =
     let larger : 2 ^ 64 ≤ value_from v (b ∷ bs) = le_trans h (value_from-le (v * 10 + (b - 48)) bs) in
-    rw (le-ltb _ _ larger) (both (list_all is_digit (b ∷ bs)))
+    rw (le-ltb _ _ larger) (both (list_all is_ascii_digit (b ∷ bs)))
   where
     both : (t : Bool) → cond (t && false) (Some (value_from v (b ∷ bs))) None ≡ None
     both true = refl

@@ -1,9 +1,9 @@
 -- The lines of a listing: headers, and choice lines with their bodies.
 use Rattle.std.specs.Prelude.{ℕ, ◌-◌, Bool, false, not, ◌&&◌, ◌==◌, nat_le, List, [], ◌∷◌, codes, length, take, drop, Option, Some, None, if◌then◌else◌}
+use Rattle.std.specs.Char.{is_ascii_digit}
 use Rattle.std.specs.List.{list_all, list_any, onto_first}
 use Rattle.std.specs.Str.{byte, bytes_eq}
 use Rattle.xc_input.specs.Tokens.{is_space}
-use Rattle.xc_input.specs.Words.{is_digit}
 use Rattle.xc_list.specs.Settings.{long_number}
 
 -- the words of a text that single spaces part
@@ -13,7 +13,7 @@ words_in (b ∷ text) = if b == byte " " then [] ∷ words_in text else onto_fir
 
 -- one digit or more, at most this many
 abbrev pub are_digits : ℕ → List ℕ → Bool
-are_digits most text = nat_le 1 (length text) && nat_le (length text) most && list_all is_digit text
+are_digits most text = nat_le 1 (length text) && nat_le (length text) most && list_all is_ascii_digit text
 
 -- what stands before a last byte, where that is the text's last
 abbrev pub before_last : ℕ → List ℕ → Option (List ℕ)

@@ -1,7 +1,8 @@
 -- Covers, and the sets of options that members of a listing stand for.
 use Rattle.std.specs.Prelude.{ℕ, ◌<◌, ◌≤◌, ◌≡◌, ◌≢◌, ◌↔◌, List, Some, is_some, All, AllPairs, Contains, count_by, filter_map, slice_get}
+use Rattle.xc_input.specs.declared.problem.Bounds.{Bounds}
 use Rattle.xc_search.specs.declared.choice.Choice.{Choice}
-use Rattle.xc_input.specs.Problem.{Puzzle, Bounds, bounds_at, uses_of, colour_in, IsSecondary, IsOption}
+use Rattle.xc_input.specs.Problem.{Puzzle, bounds_at, uses_of, colour_in, IsSecondary, IsOption}
 use Rattle.xc_search.specs.Listing.{listing, whole}
 
 -- how many of these options hold item i

@@ -1,8 +1,9 @@
 -- Worked problems. Each has its items, with bounds, a bar and the secondary ones, and then its options.
 use Rattle.std.specs.Prelude.{ℕ, [], ◌∷◌, Option}
+use Rattle.xc_input.specs.declared.problem.Bounds.{Bounds}
 use Rattle.xc_input.specs.declared.problem.Use.{Use}
 use Rattle.xc_search.specs.declared.choice.Choice.{Choice}
-use Rattle.xc_input.specs.Problem.{Puzzle, Bounds}
+use Rattle.xc_input.specs.Problem.{Puzzle}
 use Rattle.xc_search.specs.Listing.{Wanted}
 
 -- held at least low and at most high times

@@ -1,5 +1,6 @@
 -- The tables as they are laid: columns that are filled, the nodes, the items and their rings.
 use Rattle.std.proofs.Common.{◌≡◌, ℕ, zero, suc, ◌+◌, ◌<◌, ◌≤◌, List, [], ◌∷◌, length, map, set, replicate, Some, refl, ap, sym, ◌∙◌, arith, ◌-◌, ap₂, lt-ltb, ne_eqb, ◌≢◌, true, false, not, cond, ltb, nat_lt, filter, find, le-ltb, ltb-true, ltb-false, le-leb}
+use Rattle.xc_input.specs.declared.problem.Bounds.{Bounds}
 use Rattle.std.specs.Prelude.{slice_get, unwrap_or, nat_le}
 use Rattle.std.specs.List.{range_with_len, AllByRecursion}
 use Rattle.std.proofs.lemmas.Grind.{common_steps}
@@ -8,7 +9,7 @@ use Rattle.std.proofs.lemmas.List.FromFn.{length-range_with_len}
 use Rattle.std.proofs.lemmas.List.Elements.{recursion_from_All}
 use Rattle.std.proofs.lemmas.Bool.{lt-leb}
 use Rattle.xc_input.specs.declared.problem.Use.{Use}
-use Rattle.xc_input.specs.Problem.{Puzzle, item_count, option_count, Bounds, primary_count, high_at, low_at, IsValid, AreSoundBounds}
+use Rattle.xc_input.specs.Problem.{Puzzle, item_count, option_count, primary_count, high_at, low_at, IsValid, AreSoundBounds}
 use Rattle.xc_dance.specs.Links.FirstNodes.{filled, blanks, laid_to, with_row}
 use Rattle.xc_dance.specs.declared.links.nodes.Nodes.{Nodes}
 use Rattle.xc_dance.specs.declared.links.nodes.Row.{Row}

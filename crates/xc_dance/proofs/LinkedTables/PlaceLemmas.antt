@@ -1,5 +1,6 @@
 -- Where the nodes of each option stand in the node table, between which spacers, and its span.
 use Rattle.std.proofs.Common.{◌≡◌, ℕ, zero, suc, ◌+◌, ◌≤◌, List, [], ◌∷◌, ◌++◌, length, map, Some, refl, ap, sym, ◌∙◌, arith, ◌<◌, get_or, false, subst, ne_eqb, eq-eqb, eqb-true, ◌-◌, true, cond, eqb, ap₂, lt-ltb}
+use Rattle.xc_input.specs.inner.NumberedOptions.{numbered_from}
 use Rattle.std.specs.Prelude.{slice_get, flat_map, option_map, sum_by, unwrap_or, is_some}
 use Rattle.std.specs.List.{range_with_len}
 use Rattle.std.proofs.lemmas.Grind.{common_steps}
@@ -9,7 +10,7 @@ use Rattle.std.proofs.lemmas.List.Sums.{sum_by-cons}
 use Rattle.std.proofs.lemmas.List.FromFn.{length-map-range_with_len}
 use Rattle.std.proofs.lemmas.Bool.{false≢true}
 use Rattle.xc_input.specs.declared.problem.Use.{Use}
-use Rattle.xc_input.specs.Problem.{Puzzle, numbered_from, numbered_get, uses_of, item_count, option_count, IsWithinLimits, Numbered, numbered_options, colour_in}
+use Rattle.xc_input.specs.Problem.{Puzzle, numbered_get, uses_of, item_count, option_count, IsWithinLimits, Numbered, numbered_options, colour_in}
 use Rattle.xc_dance.specs.Fields.{Node, spacer, used, nodes_of, unused, own, layout, is_spacer, spacer_place, link_place}
 use Rattle.xc_dance.specs.Links.OptionPlaces.{reach, place_at, start_at}
 use Rattle.xc_dance.specs.Links.Laid.{IsFit}

@@ -1,8 +1,9 @@
 -- Options whose numbers rise.
 use Rattle.std.proofs.Common.{ℕ, ◌+◌, ◌<◌, ◌≤◌, Bool, List, [], ◌∷◌, filter, arith}
+use Rattle.xc_input.specs.inner.NumberedOptions.{numbered_from}
 use Rattle.std.proofs.lemmas.Grind.{common_steps}
 use Rattle.xc_input.specs.declared.problem.Use.{Use}
-use Rattle.xc_input.specs.Problem.{Puzzle, Numbered, numbered_from, numbered_options}
+use Rattle.xc_input.specs.Problem.{Puzzle, Numbered, numbered_options}
 
 abbrev pub NumbersRise : ℕ → List Numbered → Type 0
 NumbersRise n [] = Unit {0}

@@ -1,5 +1,6 @@
 -- The lists after moves, as filters of the lists before.
 use Rattle.std.proofs.Common.{ℕ, zero, suc, ◌≡◌, ◌≢◌, ◌+◌, ◌-◌, ◌<◌, ◌≤◌, Bool, true, false, not, cond, eqb, ◌&&◌, ◌||◌, List, [], ◌∷◌, length, get_or, set, filter, map, take, drop, Some, None, refl, ap, ap₂, sym, ◌∙◌, arith, subst, eq-eqb, eqb-true}
+use Rattle.xc_input.specs.inner.NumberedOptions.{numbered_from}
 use Rattle.std.proofs.lemmas.Grind.{common_steps}
 use Rattle.std.specs.Prelude.{All, IsTrue, is_some, unwrap_or, slice_get}
 use Rattle.std.specs.List.{AllByRecursion, list_any, range_with_len}
@@ -8,7 +9,7 @@ use Rattle.std.proofs.Math.Bool.{not-not}
 use Rattle.std.proofs.lemmas.List.FromFn.{length-map-range_with_len, get_or-map-range_with_len}
 use Rattle.std.proofs.lemmas.List.Elements.{All-nil, All-cons}
 use Rattle.xc_input.specs.declared.problem.Use.{Use}
-use Rattle.xc_input.specs.Problem.{Puzzle, Numbered, uses_of, numbered_from, item_count, holds, colour_in}
+use Rattle.xc_input.specs.Problem.{Puzzle, Numbered, uses_of, item_count, holds, colour_in}
 use Rattle.xc_input.proofs.lists.EachElement.{each-filter}
 use Rattle.xc_dance.specs.declared.dance.Move.{Move}
 use Rattle.xc_dance.specs.declared.dance.Move.TheVariants.{Cover, Purify, Tweak, Spend}

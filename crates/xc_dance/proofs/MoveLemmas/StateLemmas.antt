@@ -1,5 +1,6 @@
 -- The states of items after moves.
 use Rattle.std.proofs.Common.{ℕ, zero, suc, ◌≡◌, ◌≢◌, ◌+◌, ◌-◌, ◌<◌, ◌≤◌, Bool, true, false, not, cond, ◌&&◌, eqb, List, [], ◌∷◌, Some, None, refl, ap, sym, set, get_or, ltb, ltb-true, ltb-false, ◌∙◌, arith, eqb-true, eq-eqb}
+use Rattle.xc_input.specs.declared.problem.Bounds.{Bounds}
 use Rattle.std.proofs.lemmas.Grind.{common_steps}
 use Rattle.std.proofs.lemmas.List.{length-set, get_or-set_same, get_or-set_other, get_or_default}
 use Rattle.std.specs.Prelude.{Option, is_some, unwrap_or, filter}
@@ -10,7 +11,7 @@ use Rattle.xc_dance.specs.declared.dance.Move.{Move}
 use Rattle.xc_dance.specs.declared.dance.Move.TheVariants.{Cover, Purify}
 use Rattle.xc_dance.specs.declared.lists.item_states.ItemState.{ItemState}
 use Rattle.xc_dance.specs.declared.lists.item_states.ItemState.TheVariants.{Open, Covered, Purified}
-use Rattle.xc_input.specs.Problem.{Puzzle, Bounds, item_count, high_at, numbered_get, IsWithinLimits}
+use Rattle.xc_input.specs.Problem.{Puzzle, item_count, high_at, numbered_get, IsWithinLimits}
 use Rattle.xc_input.proofs.Known.{at_number}
 use Rattle.xc_dance.specs.Moves.{is_open, is_covered, purified, next_above, AreLegal}
 use Rattle.xc_dance.specs.Lists.States.{state_of, AreStates}

@@ -1,5 +1,6 @@
 -- What the counts of a solution say: they agree exactly where options of its classes are a cover of their classes.
 use Rattle.std.proofs.lemmas.Bool.{and_parts}
+use Rattle.xc_input.specs.declared.problem.Bounds.{Bounds}
 use Rattle.std.specs.Cmp.Derive.{both_true}
 use Rattle.std.proofs.lemmas.Option.{slice_get_within}
 use Rattle.std.proofs.Common.{ℕ, zero, suc, ◌≡◌, ◌≢◌, ◌-◌, ◌<◌, ◌≤◌, ◌⊎◌, inl, inr, Bool, true, false, not, ◌&&◌, ◌||◌, ◌==◌, List, [], ◌∷◌, length, get_or, replicate, Some, None, refl, sym, ap, ◌∙◌, arith, subst, eqb-true, eq-eqb, ne_eqb}
@@ -8,7 +9,7 @@ use Rattle.std.specs.List.{AllByRecursion, AllZip, list_all}
 use Rattle.std.proofs.lemmas.Bool.{leb-true, le-leb}
 use Rattle.std.proofs.lemmas.List.{length-replicate, get_or-replicate}
 use Rattle.xc_input.specs.declared.problem.Use.{Use}
-use Rattle.xc_input.specs.Problem.{Bounds, IsSecondary, bounds_at, item_count}
+use Rattle.xc_input.specs.Problem.{IsSecondary, bounds_at, item_count}
 use Rattle.xc_input.specs.Named.{IsSound}
 use Rattle.xc_search.specs.Cover.{times_held}
 use Rattle.xc_input.proofs.lists.Members.{IsIn, each_in, each_from}

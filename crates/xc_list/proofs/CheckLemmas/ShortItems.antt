@@ -1,8 +1,8 @@
 -- How many items are held too seldom.
 use Rattle.std.proofs.Common.{ℕ, zero, suc, ◌≡◌, ◌≢◌, ◌+◌, ◌<◌, ◌≤◌, Bool, true, false, List, [], ◌∷◌, length, get_or, set, replicate, Some, refl, sym, cond, arith, subst, ltb-true, ltb-false, lt-ltb, le-ltb}
+use Rattle.xc_input.specs.declared.problem.Bounds.{Bounds}
 use Rattle.std.proofs.lemmas.List.Recursion.{is_sum_by}
 use Rattle.std.specs.Prelude.{slice_get, nat_lt, count_by}
-use Rattle.xc_input.specs.Problem.{Bounds}
 use Rattle.xc_list.specs.inner.CoverCounts.{short_of}
 
 -- an item reaches its lower bound

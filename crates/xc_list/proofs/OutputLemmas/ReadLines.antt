@@ -11,7 +11,7 @@ use Rattle.std.proofs.Math.Seq.{drop-append_seam, take-append_seam}
 use Rattle.xc_input.specs.Words.{has}
 use Rattle.xc_input.specs.Tokens.{is_space}
 use Rattle.xc_input.proofs.GrammarLemmas.{or-false, or-both, and-true, and-both}
-use Rattle.xc_input.specs.Words.{is_digit}
+use Rattle.std.specs.Char.{is_ascii_digit}
 use Rattle.xc_list.specs.Settings.{long_number}
 use Rattle.xc_list.proofs.Digits.{some_digits}
 use Rattle.xc_list.specs.ListingLines.{words_in, are_digits, before_last, solution_number, header_number, is_word, is_closing, is_ending, body_of_words, body_of, Line, Header, Body, Other, read}
@@ -21,27 +21,27 @@ use Rattle.xc_list.specs.ListingLines.{words_in, are_digits, before_last, soluti
 -- digits that stand for n
 record AreDigitsOf (n : ℕ) (ds : List ℕ) : Type 0 where
   pub some : 1 ≤ length ds
-  pub digits : list_all is_digit ds ≡ true
+  pub digits : list_all is_ascii_digit ds ≡ true
   pub value : value_from 0 ds ≡ n
 
 value_from-append : (v : ℕ) (xs ys : List ℕ) → value_from v (xs ++ ys) ≡ value_from (value_from v xs) ys
 value_from-append v [] ys = refl
 value_from-append v (x ∷ xs) ys = value_from-append (v * 10 + (x - 48)) xs ys
 
-digit_of : (d : ℕ) → d < 10 → is_digit (48 + d) ≡ true
+digit_of : (d : ℕ) → d < 10 → is_ascii_digit (48 + d) ≡ true
 digit_of d h = grind (arith, nat_tests)
 
 one_digit : (n : ℕ) → n < 10 → AreDigitsOf n ((48 + n) ∷ [])
-one_digit n h = record { some = omega arith; digits = and-both (is_digit (48 + n)) true (digit_of n h) refl; value = omega arith }
+one_digit n h = record { some = omega arith; digits = and-both (is_ascii_digit (48 + n)) true (digit_of n h) refl; value = omega arith }
 
 one_more : (n : ℕ) (ds : List ℕ) → 10 ≤ n → AreDigitsOf (n / 10) ds → AreDigitsOf n (ds ++ (48 + n % 10) ∷ [])
 one_more n ds h known =
     let last : n % 10 < 10 = omega arith in
-    let end : list_all is_digit ((48 + n % 10) ∷ []) ≡ true = and-both (is_digit (48 + n % 10)) true (digit_of (n % 10) last) refl in
+    let end : list_all is_ascii_digit ((48 + n % 10) ∷ []) ≡ true = and-both (is_ascii_digit (48 + n % 10)) true (digit_of (n % 10) last) refl in
     let front = known.value in
     record {
       some = omega (arith, length-append ds ((48 + n % 10) ∷ []), known.some);
-      digits = list_all-append is_digit ds ((48 + n % 10) ∷ []) ∙ and-both (list_all is_digit ds) (list_all is_digit ((48 + n % 10) ∷ [])) known.digits end;
+      digits = list_all-append is_ascii_digit ds ((48 + n % 10) ∷ []) ∙ and-both (list_all is_ascii_digit ds) (list_all is_ascii_digit ((48 + n % 10) ∷ [])) known.digits end;
       value = value_from-append 0 ds ((48 + n % 10) ∷ []) ∙ ap (λ v. v * 10 + ((48 + n % 10) - 48)) front ∙ back n;
     }
   where
@@ -51,11 +51,11 @@ one_more n ds h known =
 decimal_digits : (n : ℕ) → n < 2 ^ 64 → AreDigitsOf n (decimal n)
 decimal_digits n h = decimal_by_steps AreDigitsOf one_digit one_more n h
 
-are_digits-is : (most : ℕ) (text : List ℕ) → 1 ≤ length text → length text ≤ most → list_all is_digit text ≡ true → are_digits most text ≡ true
+are_digits-is : (most : ℕ) (text : List ℕ) → 1 ≤ length text → length text ≤ most → list_all is_ascii_digit text ≡ true → are_digits most text ≡ true
 are_digits-is most text h k e =
     let a : nat_le 1 (length text) ≡ true = grind (arith, nat_tests) in
     let b : nat_le (length text) most ≡ true = grind (arith, nat_tests) in
-    and-both (nat_le 1 (length text) && nat_le (length text) most) (list_all is_digit text) (and-both (nat_le 1 (length text)) (nat_le (length text) most) a b) e
+    and-both (nat_le 1 (length text) && nat_le (length text) most) (list_all is_ascii_digit text) (and-both (nat_le 1 (length text)) (nat_le (length text) most) a b) e
 
 -- a number below 10 ^ k has at most k digits
 are_digits-decimal : (k n : ℕ) → 0 < k → n < 10 ^ k → n < 2 ^ 64 → are_digits k (decimal n) ≡ true
@@ -65,10 +65,10 @@ lacks : (p q : ℕ → Bool) → ((b : ℕ) → p b ≡ true → q b ≡ false) 
 lacks p q apart [] h = refl
 lacks p q apart (b ∷ bs) h = let both = and-true (p b) (list_all p bs) h in or-both (q b) (list_any q bs) (apart b both.0) (lacks p q apart bs both.1)
 
-digit-no_space : (b : ℕ) → is_digit b ≡ true → is_space b ≡ false
+digit-no_space : (b : ℕ) → is_ascii_digit b ≡ true → is_space b ≡ false
 digit-no_space b h = grind (arith, nat_tests)
 
-digit-no_feed : (b : ℕ) → is_digit b ≡ true → nat_eq b 10 ≡ false
+digit-no_feed : (b : ℕ) → is_ascii_digit b ≡ true → nat_eq b 10 ≡ false
 digit-no_feed b h = grind (arith, nat_tests)
 
 -- ---- headers
@@ -85,8 +85,8 @@ solution_number-decimal : (n : ℕ) → n < 2 ^ 64 → solution_number (decimal 
 solution_number-decimal n h =
     let known = decimal_digits n h in
     let short : nat_le (length (decimal n)) 20 ≡ true = (let l = length-decimal-le 20 n (omega arith) (omega (arith, h)) h in grind (arith, nat_tests)) in
-    let test : (list_all is_digit (decimal n) && nat_lt (value_from 0 (decimal n)) (2 ^ 64)) ≡ true =
-    and-both (list_all is_digit (decimal n)) (nat_lt (value_from 0 (decimal n)) (2 ^ 64)) known.digits
+    let test : (list_all is_ascii_digit (decimal n) && nat_lt (value_from 0 (decimal n)) (2 ^ 64)) ≡ true =
+    and-both (list_all is_ascii_digit (decimal n)) (nat_lt (value_from 0 (decimal n)) (2 ^ 64)) known.digits
     (ap (λ v. nat_lt v (2 ^ 64)) known.value ∙ lt-ltb n (2 ^ 64) h) in
     ap (λ t. if t then long_number (decimal n) else None) short ∙ some_digits (decimal n) known.some
     ∙ ap (λ t. if t then Some (value_from 0 (decimal n)) else None) test ∙ ap Some known.value
@@ -165,8 +165,8 @@ body_of_words-is body ending some three words ends =
 abbrev pub ending_words : ℕ → ℕ → List (List ℕ)
 ending_words k n = (codes "(" ++ decimal k) ∷ codes "of" ∷ (decimal n ++ codes ")") ∷ []
 
-plain-digits : (ds : List ℕ) → 1 ≤ length ds → list_all is_digit ds ≡ true → IsPlain ds
-plain-digits ds some digits = record { some = some; no_space = lacks is_digit is_space digit-no_space ds digits; no_feed = lacks is_digit (λ x. nat_eq x 10) digit-no_feed ds digits }
+plain-digits : (ds : List ℕ) → 1 ≤ length ds → list_all is_ascii_digit ds ≡ true → IsPlain ds
+plain-digits ds some digits = record { some = some; no_space = lacks is_ascii_digit is_space digit-no_space ds digits; no_feed = lacks is_ascii_digit (λ x. nat_eq x 10) digit-no_feed ds digits }
 
 plain-append : (v w : List ℕ) → IsPlain v → list_any is_space w ≡ false → has 10 w ≡ false → IsPlain (v ++ w)
 plain-append v w plain space feed = record {

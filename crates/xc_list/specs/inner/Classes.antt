@@ -1,10 +1,11 @@
 -- No public clause cites this module. Options whose uses are rotations of each other are of one class. When options, of
 -- which some may be of one class, can be replaced by different ones of their classes that are a cover: by counting.
 use Rattle.std.specs.Prelude.{ℕ, ◌<◌, ◌≤◌, ◌≡◌, ◌≢◌, Bool, false, ◌&&◌, ◌==◌, min, AllPairs, Contains, IsTrue, List, length, map, count_by, slice_get, Option, Some, None, unwrap_or}
+use Rattle.xc_input.specs.declared.problem.Bounds.{Bounds}
 use Rattle.std.specs.Cmp.Lexicographic.{pointwise}
 use Rattle.std.specs.List.{reduce, range_with_len}
 use Rattle.xc_input.specs.declared.problem.Use.{Use}
-use Rattle.xc_input.specs.Problem.{Puzzle, Bounds, option_count, bounds_at, uses_of, colour_in, IsSecondary, IsOption}
+use Rattle.xc_input.specs.Problem.{Puzzle, option_count, bounds_at, uses_of, colour_in, IsSecondary, IsOption}
 use Rattle.xc_input.specs.Named.{Named, IsSound}
 use Rattle.xc_search.specs.Cover.{times_held}
 use Rattle.xc_list.specs.Output.{from_item}

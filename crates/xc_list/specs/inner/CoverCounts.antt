@@ -1,8 +1,9 @@
 -- No public clause cites this module. Counts over a listed solution. The item i stands at place i - 1.
 use Rattle.std.specs.Prelude.{ℕ, ◌+◌, ◌-◌, Bool, ◌&&◌, ◌||◌, ◌==◌, not, nat_le, nat_lt, List, [], ◌∷◌, length, map, flat_map, Option, Some, None, slice_get, slice_set, slice_index, slice_index_or, if◌then◌else◌}
+use Rattle.xc_input.specs.declared.problem.Bounds.{Bounds}
 use Rattle.std.specs.List.{list_all}
 use Rattle.xc_input.specs.declared.problem.Use.{Use}
-use Rattle.xc_input.specs.Problem.{Bounds, item_count}
+use Rattle.xc_input.specs.Problem.{item_count}
 use Rattle.xc_list.specs.inner.Classes.{Classes, class_size}
 
 -- what a counter is for: the bounds of the primary items, how many items there are, and how many classes

@@ -2,7 +2,8 @@
 ghost use Rattle.std.specs.Prelude.{◌≡◌, ◌<◌, ◌++◌, ◌∷◌, [], false, length, MatchOption, IfSome, option_map, codes};
 ghost use Rattle.std.specs.Str.{bytes_eq};
 ghost use Rattle.std.specs.List.{list_all};
-ghost use Rattle.xc_input.specs.Words.{has, is_digit};
+ghost use Rattle.std.specs.Char.{is_ascii_digit};
+ghost use Rattle.xc_input.specs.Words.{has};
 ghost use Rattle.xc_input.specs.Lines.{lines_of};
 ghost use Rattle.xc_input.specs.Tokens.{is_space};
 ghost use Rattle.xc_list.specs.ListingLines.{words_in, are_digits, before_last, solution_number, header_number, is_word, is_opening, is_closing, is_ending, body_of_words, body_of, read};
@@ -58,13 +59,13 @@ fn before_last(text: &[u8], byte: u8) -> Option<&[u8]>
 }
 
 fn is_digit(b: u8) -> bool
-    ensures { result ≡ is_digit b }
+    ensures { result ≡ is_ascii_digit b }
 {
     b.is_ascii_digit()
 }
 
 fn all_digits(text: &[u8]) -> bool
-    ensures { result ≡ list_all is_digit text.now }
+    ensures { result ≡ list_all is_ascii_digit text.now }
 {
     text.iter().all(|b| is_digit(*b))
 }

@@ -1,10 +1,12 @@
 -- Options with their numbers, and items with their bounds.
 use Rattle.std.proofs.Common.{ℕ, zero, suc, ◌≡◌, ◌+◌, ◌<◌, ◌≤◌, List, [], ◌∷◌, length, Some, refl, ap, ◌∙◌, arith, subst, sym, inl, inr}
+use Rattle.xc_input.specs.inner.NumberedOptions.{numbered_from}
+use Rattle.xc_input.specs.declared.problem.Bounds.{Bounds}
 use Rattle.std.proofs.lemmas.List.Elements.{recursion_from_All}
 use Rattle.std.specs.Prelude.{slice_get, unwrap_or}
 use Rattle.std.specs.List.{AllByRecursion}
 use Rattle.xc_input.specs.declared.problem.Use.{Use}
-use Rattle.xc_input.specs.Problem.{Puzzle, Numbered, numbered_options, numbered_from, option_count, uses_of, IsSoundOption, IsValid, Bounds}
+use Rattle.xc_input.specs.Problem.{Puzzle, Numbered, numbered_options, option_count, uses_of, IsSoundOption, IsValid}
 use Rattle.xc_search.specs.Listing.{Wanted, wanted_from}
 use Rattle.xc_input.proofs.lists.Members.{IsIn, each_from}
 

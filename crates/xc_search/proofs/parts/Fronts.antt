@@ -1,12 +1,14 @@
 -- A part lists the same where it is a problem of its own, with its item in front.
 use Rattle.std.proofs.Common.{ℕ, zero, suc, ◌≡◌, ◌≢◌, ◌+◌, ◌<◌, ◌≤◌, true, false, cond, not, eqb, List, [], ◌∷◌, map, filter, Some, refl, sym, ap, ap₂, ◌∙◌, arith, eqb-true, ne_eqb}
+use Rattle.xc_input.specs.inner.NumberedOptions.{numbered_from}
+use Rattle.xc_input.specs.declared.problem.Bounds.{Bounds}
 use Rattle.std.specs.Prelude.{slice_get, option_map, unwrap_or, Contains}
 use Rattle.std.specs.List.{AllByRecursion}
 use Rattle.std.proofs.lemmas.Bool.Decides.{nat_tests}
 use Rattle.std.proofs.lemmas.List.{length-map}
 use Rattle.std.proofs.lemmas.List.Elements.{recursion_from_All}
 use Rattle.xc_input.specs.declared.problem.Use.{Use}
-use Rattle.xc_input.specs.Problem.{Puzzle, Bounds, Numbered, numbered_options, numbered_from, IsSoundUse, IsValid}
+use Rattle.xc_input.specs.Problem.{Puzzle, Numbered, numbered_options, IsSoundUse, IsValid}
 use Rattle.xc_search.specs.Listing.{Wanted, wanted_from, whole, listing}
 use Rattle.xc_search.specs.Parts.{part, part_options, part_in_front, number_in_problem, renumber_use, renumber_option, renumber_item, renumber, AreKeptApart, AreKeptInOrder, front_number, front_item, front_part, ListsPart}
 use Rattle.xc_input.proofs.lists.EachElement.{each_weaker}

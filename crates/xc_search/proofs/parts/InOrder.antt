@@ -1,12 +1,13 @@
 -- The members of a problem are those of its parts in turn.
 use Rattle.std.proofs.Common.{ℕ, suc, ◌≡◌, ◌-◌, ◌≤◌, Bool, true, false, cond, not, ◌&&◌, eqb, List, [], ◌∷◌, length, map, filter, find, Option, Some, refl, sym, ap, ◌∙◌, arith, subst, inl, inr, eqb-true, eq-eqb, ne_eqb, le-ltb}
+use Rattle.xc_input.specs.declared.problem.Bounds.{Bounds}
 use Rattle.std.specs.Prelude.{nat_le, flat_map}
 use Rattle.std.specs.List.{list_all, enumerate_from}
 use Rattle.std.proofs.Math.Bool.{and-false}
 use Rattle.std.proofs.Math.Seq.{take-length}
 use Rattle.std.proofs.lemmas.List.{append-nil}
 use Rattle.std.proofs.lemmas.List.Folds.{flat_map-map}
-use Rattle.xc_input.specs.Problem.{Puzzle, Bounds, Numbered, numbered_options, primary_count, bounds_at, holds, holding, IsValid}
+use Rattle.xc_input.specs.Problem.{Puzzle, Numbered, numbered_options, primary_count, bounds_at, holds, holding, IsValid}
 use Rattle.xc_search.specs.Listing.{Wanted, whole, spend_one, may_stay, item_left, pick, branch_count, branch_item, take_branch, branches_of, level, listing}
 use Rattle.xc_search.specs.Parts.{IsHeldOnce, is_in_part, part_options, part_in_front, first_as, PartsInOrder}
 use Rattle.xc_dance.proofs.MoveLemmas.OptionsRise.{NumbersRise, NumbersRise-filter, options_rise}

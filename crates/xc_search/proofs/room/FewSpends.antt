@@ -1,11 +1,12 @@
 -- No more Spends than the bounds allow.
 use Rattle.std.proofs.Common.{ℕ, suc, ◌≡◌, ◌+◌, ◌-◌, ◌≤◌, true, eqb, List, [], ◌∷◌, length, refl, ap, arith, eq-eqb}
+use Rattle.xc_input.specs.declared.problem.Bounds.{Bounds}
 use Rattle.std.proofs.lemmas.List.Sums.{sum_by-cons}
 use Rattle.std.specs.Prelude.{sum_by, slice_get, unwrap_or}
 use Rattle.std.specs.List.{range_with_len}
 use Rattle.xc_dance.specs.declared.dance.Move.{Move}
 use Rattle.xc_dance.specs.declared.dance.Move.TheVariants.{Cover, Purify, Tweak, Spend}
-use Rattle.xc_input.specs.Problem.{Puzzle, primary_count, Bounds, high_at}
+use Rattle.xc_input.specs.Problem.{Puzzle, primary_count, high_at}
 use Rattle.xc_dance.specs.Moves.{AreLegal, spends}
 use Rattle.xc_search.specs.inner.MostLevels.{high_total}
 use Rattle.xc_search.specs.inner.Sparing.{spendings}

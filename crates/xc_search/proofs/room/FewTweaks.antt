@@ -1,12 +1,13 @@
 -- No more tweaks than uses.
 use Rattle.std.proofs.Common.{ℕ, suc, ◌≡◌, ◌+◌, ◌≤◌, Bool, true, false, cond, ◌&&◌, eqb, List, [], ◌∷◌, length, take, drop, Some, refl, ap, arith, eqb-true, eq-eqb, length-drop}
+use Rattle.xc_input.specs.inner.NumberedOptions.{numbered_from}
 use Rattle.std.proofs.lemmas.List.Sums.{sum_by-cons}
 use Rattle.std.specs.Prelude.{is_some, sum_by}
 use Rattle.std.specs.List.{range_with_len}
 use Rattle.xc_input.specs.declared.problem.Use.{Use}
 use Rattle.xc_dance.specs.declared.dance.Move.{Move}
 use Rattle.xc_dance.specs.declared.dance.Move.TheVariants.{Cover, Purify, Tweak, Spend}
-use Rattle.xc_input.specs.Problem.{Puzzle, Numbered, numbered_options, numbered_from, colour_in, item_count, holding, use_count}
+use Rattle.xc_input.specs.Problem.{Puzzle, Numbered, numbered_options, colour_in, item_count, holding, use_count}
 use Rattle.xc_dance.specs.Moves.{listed, is_open, without, AreLegal}
 use Rattle.xc_search.specs.inner.Sparing.{uses_in}
 use Rattle.xc_input.proofs.lists.Filters.{length-filter-le}

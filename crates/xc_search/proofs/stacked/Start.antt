@@ -1,12 +1,13 @@
 -- A search begins with all members to come.
 use Rattle.std.proofs.Common.{ℕ, ◌≡◌, ◌+◌, true, List, [], ◌∷◌, ◌++◌, map, sym, ap, ap₂, ◌∙◌, arith, subst, lt-ltb, append-nil}
+use Rattle.xc_input.specs.declared.problem.Bounds.{Bounds}
 use Rattle.std.proofs.lemmas.List.{map-id}
 use Rattle.std.proofs.lemmas.List.Elements.{recursion_from_All}
 use Rattle.std.specs.List.{AllByRecursion}
 use Rattle.xc_search.specs.declared.choice.Choice.{Choice}
 use Rattle.xc_dance.specs.declared.dance.Move.{Move}
 use Rattle.xc_search.specs.declared.level.Level.{Level}
-use Rattle.xc_input.specs.Problem.{Puzzle, Bounds, AreSoundBounds, IsValid}
+use Rattle.xc_input.specs.Problem.{Puzzle, AreSoundBounds, IsValid}
 use Rattle.xc_search.specs.Listing.{Residual, wanted_from, listing}
 use Rattle.xc_search.specs.Residuals.{wanted_after}
 use Rattle.xc_search.specs.inner.Residual.{residual_of}

@@ -1,6 +1,6 @@
 use Rattle.std.proofs.Common.{◌≡◌, take}
+use Rattle.xc_input.specs.declared.problem.Bounds.{Bounds}
 use Rattle.std.specs.Prelude.{sum_by}
-use Rattle.xc_input.specs.Problem.{Bounds}
 use Rattle.xc_search.proofs.counts.count_spends.Given as goal
 
 abbrev pub invariant-loop-i : goal.invariant-loop-i

@@ -1,6 +1,7 @@
 use Rattle.std.proofs.Common.{arith, ◌+◌, ◌≡◌, sym, ap}
+use Rattle.xc_input.specs.declared.problem.Bounds.{Bounds}
 use Rattle.std.proofs.lemmas.Grind.{common_steps}
-use Rattle.xc_input.specs.Problem.{Bounds, bounds_at, high_at, low_at}
+use Rattle.xc_input.specs.Problem.{bounds_at, high_at, low_at}
 use Rattle.xc_input.specs.ItemBounds.{bounds_of}
 use Rattle.std.specs.Prelude.{Option, Some, unwrap_or}
 use Rattle.xc_dance.proofs.LinkedTables.FirstTables.{column_len, column_more, bound_is, slack_is, bounds_set, low_most}

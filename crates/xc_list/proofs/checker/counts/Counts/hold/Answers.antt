@@ -1,5 +1,5 @@
 use Rattle.std.proofs.Common.{arith, ◌≢◌, ◌+◌, ◌-◌, ◌<◌, length, get_or, sym, ◌∙◌}
-use Rattle.xc_input.specs.Problem.{Bounds}
+use Rattle.xc_input.specs.declared.problem.Bounds.{Bounds}
 use Rattle.xc_list.proofs.CheckLemmas.ShortItems.{short_reached, short_kept}
 use Rattle.xc_list.proofs.checker.counts.Counts.hold.Goals as goal
 use Rattle.xc_list.proofs.checker.counts.Counts.hold.Goals.{else-place-bounds-via-then-place-bounds+else-times-bounds, else-place-bounds-via-else-place-bounds}
