@@ -5,3 +5,4 @@ pub mod parts
 pub mod residual
 pub mod room
 pub mod stacked
+pub mod Spent

@@ -20,20 +20,16 @@ pub record Residual : Type 0 where
 
 -- the primary items with these bounds, from item i on
 abbrev pub wanted_from : ℕ → List Bounds → List Wanted
-wanted_from i [] = []
-wanted_from i (b ∷ bs) = record { item = i; low = b.low; high = b.high } ∷ wanted_from (i + 1) bs
+wanted_from i bs = map (λ ib. record { item = ib.0; low = ib.1.low; high = ib.1.high }) (enumerate_from i bs)
 
 -- the whole problem is left
 abbrev pub whole : Puzzle → Residual
 whole p = record { items = wanted_from 1 p.bounds; options = numbered_options p }
 
--- the number of branches of an item that has to be held low times more, of which len options are left
-abbrev pub count_of : ℕ → ℕ → ℕ
-count_of len low = (len + 1) - low
-
--- the number of branches of an item that is left
+-- the number of branches of an item that is left: so many of its options, from the first on, may be taken first, and
+-- one branch more takes none where it need not be held
 abbrev pub branch_count : Residual → Wanted → ℕ
-branch_count r w = count_of (length (holding w.item r.options)) w.low
+branch_count r w = (length (holding w.item r.options) + 1) - w.low
 
 -- of the items the first with the fewest branches
 abbrev pub first_least : (Wanted → ℕ) → List Wanted → Option Wanted
@@ -44,13 +40,9 @@ first_least count (w ∷ ws) = Some (best_of (λ x best. nat_lt (count x) (count
 abbrev pub branch_item : Residual → Option Wanted
 branch_item r = first_least (branch_count r) r.items
 
--- held once more
-abbrev pub less_one : Wanted → Wanted
-less_one w = record { item = w.item; low = w.low - 1; high = w.high - 1 }
-
 -- held once more, where the option holds it
 abbrev pub spend_one : Numbered → Wanted → Wanted
-spend_one x w = if holds x w.item then less_one w else w
+spend_one x w = if holds x w.item then record w { low = w.low - 1; high = w.high - 1 } else w
 
 -- Whether an option may stay where an option with this use is taken. It may not hold a primary item that is used up
 -- by it, and has to agree on a secondary one. (The primary items of an option that is left are left.)
@@ -115,10 +107,7 @@ unfoldable pub listing_to : ℕ → Residual → List (List Choice)
 listing_to zero r = [] ∷ []
 listing_to (suc depth) r = level (listing_to depth) (branch_item r) r
 
--- each level takes an option or an item away
-abbrev pub size_of : Residual → ℕ
-size_of r = length r.items + length r.options
-
--- The solutions of what is left, in order. It is one level over itself: `listing_unrolls`
+-- The solutions of what is left, in order. Each level takes an item or an option away, so this is deep enough; it is
+-- one level over itself: `listing_unrolls`
 unfoldable pub listing : Residual → List (List Choice)
-listing r = listing_to (size_of r) r
+listing r = listing_to (length r.items + length r.options) r

@@ -4,3 +4,4 @@ pub mod Levels
 pub mod MostLevels
 pub mod Residual
 pub mod Sparing
+pub mod Sizes

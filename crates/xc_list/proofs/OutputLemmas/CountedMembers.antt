@@ -1,5 +1,6 @@
 -- The counts in the choices of a member are small.
 use Rattle.xc_list.proofs.OutputLemmas.KnownMembers.{All-flat_map}
+use Rattle.xc_search.specs.inner.Sizes.{size_of}
 use Rattle.xc_input.specs.inner.NumberedOptions.{numbered_from}
 use Rattle.std.proofs.Common.{◌≡◌, ℕ, zero, suc, ◌+◌, ◌<◌, ◌≤◌, Bool, true, false, cond, not, ◌&&◌, List, [], ◌∷◌, Option, None, Some, length, take, filter, map, refl, ap, arith}
 use Rattle.std.specs.Prelude.{All, nat_le, ◌==◌, if◌then◌else◌}
@@ -10,7 +11,7 @@ use Rattle.std.proofs.lemmas.List.Elements.{All-nil, All-cons, All-append, All-m
 use Rattle.xc_input.specs.declared.problem.Use.{Use}
 use Rattle.xc_search.specs.declared.choice.Choice.{Choice}
 use Rattle.xc_input.specs.Problem.{Puzzle, Numbered, option_count, holds, holding}
-use Rattle.xc_search.specs.Listing.{Wanted, Residual, whole, branch_count, branch_item, stays, Branch, take_branch, none_branch, branches_of, level, listing_to, listing, size_of}
+use Rattle.xc_search.specs.Listing.{Wanted, Residual, whole, branch_count, branch_item, stays, Branch, take_branch, none_branch, branches_of, level, listing_to, listing}
 use Rattle.xc_search.specs.Cover.{members}
 
 -- a choice whose counts are at most this

@@ -1,5 +1,7 @@
 -- The choices of a member can be told.
 use Rattle.std.proofs.Common.{◌≡◌, ℕ, zero, suc, ◌+◌, ◌≤◌, Bool, true, false, cond, not, ◌&&◌, List, [], ◌∷◌, Option, None, Some, length, take, filter, map, refl, sym, ap, ◌∙◌, arith, subst, nat_lt}
+use Rattle.xc_search.proofs.Spent.{less_one}
+use Rattle.xc_search.specs.inner.Sizes.{size_of}
 use Rattle.xc_input.specs.inner.NumberedOptions.{numbered_from}
 use Rattle.xc_input.specs.declared.problem.Bounds.{Bounds}
 use Rattle.std.specs.Prelude.{All, flat_map, unwrap_or, is_some, nat_le, ◌==◌, if◌then◌else◌}
@@ -8,7 +10,7 @@ use Rattle.std.proofs.lemmas.List.Elements.{All-nil, All-cons, All-head, All-tai
 use Rattle.xc_input.specs.declared.problem.Use.{Use}
 use Rattle.xc_search.specs.declared.choice.Choice.{Choice}
 use Rattle.xc_input.specs.Problem.{Puzzle, Numbered, numbered_get, uses_of, option_count, primary_count, holds, colour_in, IsPrimary}
-use Rattle.xc_search.specs.Listing.{Wanted, Residual, whole, wanted_from, branch_count, first_least, branch_item, less_one, spend_one, stays, pick, none, Branch, take_branch, none_branch, branches_of, level, listing_to, listing, size_of}
+use Rattle.xc_search.specs.Listing.{Wanted, Residual, whole, wanted_from, branch_count, first_least, branch_item, spend_one, stays, pick, none, Branch, take_branch, none_branch, branches_of, level, listing_to, listing}
 use Rattle.xc_input.specs.Problem.{holding}
 use Rattle.xc_search.specs.Cover.{members}
 use Rattle.xc_list.specs.Known.{IsKnownChoice}

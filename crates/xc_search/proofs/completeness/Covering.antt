@@ -1,5 +1,6 @@
 -- Each member of a valid problem's listing is a cover.
 use Rattle.xc_dance.specs.Moves.{agrees}
+use Rattle.xc_search.specs.inner.Sizes.{size_of}
 use Rattle.xc_input.specs.declared.problem.Bounds.{Bounds}
 use Rattle.std.proofs.Common.{ℕ, zero, suc, ◌≡◌, ◌≢◌, ◌+◌, ◌<◌, ◌≤◌, Bool, true, false, cond, ◌||◌, eqb, List, [], ◌∷◌, length, map, Some, None, refl, sym, ap, ◌∙◌, arith, subst, ◌⊎◌, inl, inr, eqb-true, ltb-true, leb-true}
 use Rattle.std.specs.Prelude.{nat_le, is_some}
@@ -9,7 +10,7 @@ use Rattle.std.proofs.lemmas.List.Sums.{sum_by-cons}
 use Rattle.xc_input.specs.declared.problem.Use.{Use}
 use Rattle.xc_search.specs.declared.choice.Choice.{Choice}
 use Rattle.xc_input.specs.Problem.{Puzzle, Numbered, numbered_options, primary_count, option_count, colour_in, colour_at, holds, uses_of, bounds_at, IsSecondary, IsValid, holding}
-use Rattle.xc_search.specs.Listing.{Wanted, Residual, Branch, whole, item_left, pick, none, branch_item, branch_count, branches_of, level, listing_to, listing, size_of}
+use Rattle.xc_search.specs.Listing.{Wanted, Residual, Branch, whole, item_left, pick, none, branch_item, branch_count, branches_of, level, listing_to, listing}
 use Rattle.xc_search.specs.Cover.{IsCover, times_held, options_of, members, EachMemberCovers}
 use Rattle.xc_input.proofs.lists.Members.{IsIn, in-map, each_in, each_from, in-contains}
 use Rattle.xc_search.proofs.completeness.Solved.{count, beside, AreBeside, IsMet, Solves, solves_pick, solves_none}

@@ -1,10 +1,11 @@
 -- Members at two places have different sets of options.
 use Rattle.std.proofs.Common.{ℕ, zero, suc, ◌≡◌, ◌<◌, ◌≤◌, true, false, cond, not, ◌&&◌, eqb, List, [], ◌∷◌, take, Option, Some, None, refl, sym, arith, subst, ◌⊎◌, inl, inr, le-leb}
+use Rattle.xc_search.specs.inner.Sizes.{size_of}
 use Rattle.std.specs.Prelude.{nat_le, slice_get}
 use Rattle.std.specs.List.{cons_option, enumerate_from}
 use Rattle.xc_search.specs.declared.choice.Choice.{Choice}
 use Rattle.xc_input.specs.Problem.{Puzzle, Numbered, holds, IsValid, holding}
-use Rattle.xc_search.specs.Listing.{Wanted, Residual, Branch, whole, pick, none, branch_item, branch_count, take_branch, none_branch, branches_of, level, listing_to, listing, size_of}
+use Rattle.xc_search.specs.Listing.{Wanted, Residual, Branch, whole, pick, none, branch_item, branch_count, take_branch, none_branch, branches_of, level, listing_to, listing}
 use Rattle.xc_search.specs.Cover.{options_of, SameSet, members, NoSetTwice}
 use Rattle.xc_input.proofs.lists.Members.{IsIn, in-filter, in-map, in-take, in-enumerated, in-contains, contains-in, each_from}
 use Rattle.xc_search.proofs.residual.NumberedOnce.{same_number, above_in}

@@ -1,11 +1,12 @@
 -- What holds of the whole problem, and of all that its branches leave.
 use Rattle.std.proofs.Common.{ℕ, ◌≡◌, ◌≢◌, ◌+◌, ◌-◌, ◌<◌, ◌≤◌, Bool, true, false, cond, not, ◌&&◌, eqb, List, [], ◌∷◌, length, map, filter, find, Some, refl, sym, ap, ◌∙◌, arith, subst, inl, inr, eqb-true, eq-eqb, lt-ltb, ltb-true, ne_eqb}
+use Rattle.xc_search.proofs.Spent.{less_one}
 use Rattle.xc_input.specs.declared.problem.Bounds.{Bounds}
 use Rattle.std.specs.Prelude.{nat_lt, nat_le}
 use Rattle.std.specs.List.{AllByRecursion}
 use Rattle.std.proofs.lemmas.List.Elements.{recursion_from_All}
 use Rattle.xc_input.specs.Problem.{Puzzle, Numbered, primary_count, holds, AreSoundBounds, IsSoundUse, IsSoundOption, IsValid}
-use Rattle.xc_search.specs.Listing.{Wanted, Residual, wanted_from, whole, less_one, spend_one, item_left, stays, pick, none}
+use Rattle.xc_search.specs.Listing.{Wanted, Residual, wanted_from, whole, spend_one, item_left, stays, pick, none}
 use Rattle.xc_input.proofs.lists.Members.{IsIn, in-filter, filter-in, in-map, map-in, each_in, each_from, in-contains}
 use Rattle.xc_dance.proofs.MoveLemmas.OptionsRise.{NumbersRise, NumbersRise-filter, options_rise}
 use Rattle.xc_search.proofs.completeness.Solved.{IsSound, used_up}

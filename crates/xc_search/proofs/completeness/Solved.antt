@@ -1,10 +1,11 @@
 -- Selections that solve what is left: one branch back.
 use Rattle.std.proofs.Common.{ℕ, suc, ◌≡◌, ◌≢◌, ◌-◌, ◌<◌, ◌≤◌, Bool, true, false, cond, not, ◌&&◌, ◌||◌, eqb, List, [], ◌∷◌, length, map, filter, Some, None, refl, sym, ap, ap₂, ◌∙◌, arith, subst, eqb-true, lt-ltb, le-ltb, ltb-false, le-leb}
+use Rattle.xc_search.proofs.Spent.{less_one}
 use Rattle.std.specs.Prelude.{nat_lt, nat_le, is_some}
 use Rattle.std.specs.List.{AllByRecursion, list_all}
 use Rattle.xc_input.specs.declared.problem.Use.{Use}
 use Rattle.xc_input.specs.Problem.{Numbered, colour_in, holds, colour_at, holding}
-use Rattle.xc_search.specs.Listing.{Wanted, Residual, less_one, spend_one, may_stay, item_left, stays, pick, none}
+use Rattle.xc_search.specs.Listing.{Wanted, Residual, spend_one, may_stay, item_left, stays, pick, none}
 use Rattle.xc_input.proofs.lists.Members.{IsIn, in-filter}
 use Rattle.xc_search.proofs.residual.NumberedOnce.{same_number}
 use Rattle.xc_dance.specs.Moves.{agrees}

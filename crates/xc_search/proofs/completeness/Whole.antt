@@ -1,5 +1,6 @@
 -- A cover as a choice of numbers that covers the whole problem.
 use Rattle.std.proofs.Common.{ℕ, suc, ◌≡◌, ◌≢◌, ◌+◌, ◌-◌, ◌≤◌, Bool, true, false, cond, not, ◌&&◌, ◌||◌, eqb, List, [], ◌∷◌, length, Some, None, refl, sym, ap, ap₂, ◌∙◌, arith, subst, inl, inr, eqb-true, eq-eqb, ne_eqb, lt-ltb, leb-false}
+use Rattle.xc_search.specs.inner.Sizes.{size_of}
 use Rattle.std.specs.Prelude.{nat_le, is_some}
 use Rattle.std.specs.List.{AllByRecursion, list_any}
 use Rattle.std.proofs.lemmas.List.Elements.{recursion_from_All}
@@ -7,7 +8,7 @@ use Rattle.std.proofs.lemmas.List.Sums.{sum_by-cons}
 use Rattle.xc_input.specs.declared.problem.Use.{Use}
 use Rattle.xc_search.specs.declared.choice.Choice.{Choice}
 use Rattle.xc_input.specs.Problem.{Puzzle, Numbered, numbered_options, primary_count, option_count, colour_in, colour_at, holds, uses_of, bounds_at, IsSoundUse, IsSoundOption, IsValid}
-use Rattle.xc_search.specs.Listing.{whole, listing, size_of}
+use Rattle.xc_search.specs.Listing.{whole, listing}
 use Rattle.xc_search.specs.Cover.{IsCover, SameSet, times_held, options_of, members, EachCoverIsListed}
 use Rattle.xc_input.proofs.lists.Members.{IsIn, in-contains, contains-in, slice_get-in, each_in, each_from}
 use Rattle.xc_dance.specs.Moves.{agrees}

@@ -1,8 +1,9 @@
 -- What is computed level by level, to a depth of the size, is one level over itself.
 use Rattle.std.proofs.Common.{ℕ, zero, suc, ◌≡◌, ◌<◌, ◌≤◌, List, [], ◌∷◌, length, Option, Some, None, refl, sym, ap, ◌∙◌, arith}
+use Rattle.xc_search.specs.inner.Sizes.{size_of}
 use Rattle.std.specs.List.{AllByRecursion}
 use Rattle.xc_input.proofs.lists.EachElement.{each_weaker}
-use Rattle.xc_search.specs.Listing.{Wanted, Residual, size_of, branch_item, branch_count, branches_of, first_least}
+use Rattle.xc_search.specs.Listing.{Wanted, Residual, branch_item, branch_count, branches_of, first_least}
 use Rattle.xc_search.proofs.listing.BranchesLess.{branches_less}
 
 -- A level looks at what its item's branches leave alone, and where no item is left at nothing.

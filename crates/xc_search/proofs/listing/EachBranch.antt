@@ -1,9 +1,10 @@
 -- The branches of an item, one by one.
 use Rattle.std.proofs.Common.{ℕ, ◌≡◌, ◌<◌, true, false, cond, eqb, List, [], ◌∷◌, map, take, Some, None, refl, sym, ap, subst, ◌⊎◌, inl, inr, eqb-true, eq-eqb}
+use Rattle.xc_search.specs.inner.Sizes.{size_of}
 use Rattle.std.specs.List.{enumerate_from}
 use Rattle.xc_search.specs.declared.choice.Choice.{Choice}
 use Rattle.xc_input.specs.Problem.{Numbered, holds, holding}
-use Rattle.xc_search.specs.Listing.{Wanted, Residual, Branch, branch_count, branch_item, first_least, pick, none, take_branch, none_branch, branches_of, level, size_of}
+use Rattle.xc_search.specs.Listing.{Wanted, Residual, Branch, branch_count, branch_item, first_least, pick, none, take_branch, none_branch, branches_of, level}
 use Rattle.xc_input.proofs.lists.Members.{IsIn, in-filter, in-append, append-in_left, append-in_right, in-map, map-in, in-flat_map, flat_map-in, in-take, in-enumerated, enumerated-in, each_in}
 use Rattle.xc_search.proofs.listing.BranchesLess.{least_is_one, branches_less}
 

@@ -1,9 +1,10 @@
 -- The parts with their item in front list the covers, each once.
 use Rattle.std.proofs.Common.{ℕ, ◌≡◌, true, List, ◌∷◌, map, Some, refl, sym, ap, ◌∙◌, arith, subst, inl}
+use Rattle.xc_search.specs.inner.Sizes.{size_of}
 use Rattle.std.specs.Prelude.{slice_get, Contains}
 use Rattle.xc_search.specs.declared.choice.Choice.{Choice}
 use Rattle.xc_input.specs.Problem.{Puzzle, Numbered, numbered_options, primary_count, holds, holding, IsValid}
-use Rattle.xc_search.specs.Listing.{Wanted, whole, pick, listing, size_of}
+use Rattle.xc_search.specs.Listing.{Wanted, whole, pick, listing}
 use Rattle.xc_search.specs.Cover.{IsCover, options_of}
 use Rattle.xc_search.specs.Parts.{IsHeldOnce, is_in_part, part_in_front, IsPartMember, PartsCover, PartsListCovers, PartsListOnce}
 use Rattle.xc_dance.proofs.MoveLemmas.OptionsRise.{NumbersRise-filter, options_rise}

@@ -1,11 +1,12 @@
 -- The listing of what is left where its first item is to be held once and one option holds it.
 use Rattle.std.proofs.Common.{ℕ, ◌≡◌, ◌-◌, ◌<◌, ◌≤◌, true, false, cond, eqb, List, [], ◌∷◌, length, map, filter, Some, refl, sym, ap, ◌∙◌, arith, subst, ◌⊎◌, inl, inr, ltb-true, ltb-false, lt-ltb, le-leb, ne_eqb}
+use Rattle.xc_search.proofs.Spent.{less_one}
 use Rattle.std.specs.Prelude.{nat_lt, flat_map}
 use Rattle.std.specs.List.{best_of}
 use Rattle.std.proofs.lemmas.List.{append-nil}
 use Rattle.xc_search.specs.declared.choice.Choice.{Choice}
 use Rattle.xc_input.specs.Problem.{Numbered, holds, holding}
-use Rattle.xc_search.specs.Listing.{Wanted, Residual, branch_count, branch_item, first_least, less_one, spend_one, pick, take_branch, branches_of, level, listing}
+use Rattle.xc_search.specs.Listing.{Wanted, Residual, branch_count, branch_item, first_least, spend_one, pick, take_branch, branches_of, level, listing}
 use Rattle.xc_input.proofs.lists.Filters.{filter_swap, length-filter-le}
 use Rattle.xc_input.proofs.lists.Members.{IsIn, in-filter, filter-in, map-in, each_in}
 use Rattle.xc_search.proofs.completeness.Proper.{goes_on}

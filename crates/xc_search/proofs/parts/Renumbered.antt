@@ -1,5 +1,7 @@
 -- The listing is the same under other numbers, level by level.
 use Rattle.xc_dance.specs.Moves.{agrees}
+use Rattle.xc_search.proofs.Spent.{less_one, count_of}
+use Rattle.xc_search.specs.inner.Sizes.{size_of}
 use Rattle.std.proofs.Common.{ℕ, zero, suc, ◌≡◌, ◌+◌, true, false, cond, not, ◌&&◌, ◌||◌, eqb, List, [], ◌∷◌, ◌++◌, length, map, filter, find, take, Option, Some, None, refl, sym, ap, ap₂, ◌∙◌, arith, subst, ◌⊎◌, inl, inr}
 use Rattle.std.specs.Prelude.{nat_lt, nat_le, is_some, flat_map, option_map}
 use Rattle.std.specs.List.{best_of, enumerate_from, list_all}
@@ -9,7 +11,7 @@ use Rattle.std.proofs.lemmas.List.Elements.{filter_agree}
 use Rattle.xc_input.specs.declared.problem.Use.{Use}
 use Rattle.xc_search.specs.declared.choice.Choice.{Choice}
 use Rattle.xc_input.specs.Problem.{Numbered, colour_in, holds, holding}
-use Rattle.xc_search.specs.Listing.{Wanted, Residual, Branch, count_of, branch_count, branch_item, first_least, less_one, spend_one, may_stay, item_left, pick, none, take_branch, none_branch, branches_of, level, listing_to, listing, size_of}
+use Rattle.xc_search.specs.Listing.{Wanted, Residual, Branch, branch_count, branch_item, first_least, spend_one, may_stay, item_left, pick, none, take_branch, none_branch, branches_of, level, listing_to, listing}
 use Rattle.xc_search.specs.Parts.{renumber_use, renumber_option, renumber_item, renumber, renumber_choice, AreKeptApart, AreKeptInOrder, ListsAlike}
 use Rattle.xc_input.proofs.lists.Filters.{filter-map, filter_same, map-same, map-map}
 use Rattle.xc_input.proofs.lists.Members.{IsIn, in-filter, in-take, each_from, contains-in}

@@ -1,12 +1,13 @@
 -- The branch item by the lists is that of what is left.
 use Rattle.std.proofs.Common.{ℕ, suc, ◌≡◌, ◌+◌, ◌-◌, true, false, cond, List, [], ◌∷◌, length, map, filter, Option, Some, refl, sym, ap, ap₂, ◌∙◌, arith}
+use Rattle.xc_search.proofs.Spent.{count_of}
 use Rattle.xc_input.specs.declared.problem.Bounds.{Bounds}
 use Rattle.std.specs.Prelude.{nat_lt, option_map, slice_get, unwrap_or}
 use Rattle.std.specs.List.{AllByRecursion, best_of, range_with_len}
 use Rattle.std.proofs.lemmas.List.Elements.{filter_passes, recursion_from_All}
 use Rattle.xc_dance.specs.declared.dance.Move.{Move}
 use Rattle.xc_input.specs.Problem.{Puzzle, low_at, high_at, numbered_get, primary_count, numbered_options}
-use Rattle.xc_search.specs.Listing.{Wanted, Residual, count_of, first_least, branch_count, wanted_from, whole, branch_item}
+use Rattle.xc_search.specs.Listing.{Wanted, Residual, first_least, branch_count, wanted_from, whole, branch_item}
 use Rattle.xc_dance.specs.Moves.{is_open, open_items, AreLegal}
 use Rattle.xc_search.specs.Residuals.{wanted_at, wanted_after, branches_after, choice_after}
 use Rattle.xc_search.specs.inner.Residual.{residual_of}

@@ -1,11 +1,12 @@
 -- Taking an option: its branch item's use first, the others cyclically after it.
 use Rattle.std.proofs.Common.{ℕ, suc, ◌≡◌, ◌+◌, ◌<◌, Bool, true, false, cond, not, ◌&&◌, ◌||◌, eqb, List, [], ◌∷◌, ◌++◌, length, filter, take, drop, Some, refl, sym, ap, ◌∙◌, arith, eqb-true, eq-eqb, ne_eqb}
+use Rattle.xc_search.proofs.Spent.{less_one}
 use Rattle.std.proofs.lemmas.List.Elements.{filter_agree}
 use Rattle.std.specs.Prelude.{nat_le, is_some}
 use Rattle.std.specs.List.{AllByRecursion, list_all}
 use Rattle.xc_input.specs.declared.problem.Use.{Use}
 use Rattle.xc_input.specs.Problem.{Numbered, colour_in, holds}
-use Rattle.xc_search.specs.Listing.{Residual, less_one, may_stay, item_left, pick, spend_one}
+use Rattle.xc_search.specs.Listing.{Residual, may_stay, item_left, pick, spend_one}
 use Rattle.xc_search.specs.inner.Commits.{place_in}
 use Rattle.xc_search.proofs.residual.PickedByUses.{is_wanted, spend_uses, all_stay, committed, as_residual}
 use Rattle.xc_input.proofs.lists.EachElement.{each-append, each_front}

@@ -1,10 +1,11 @@
 -- What each move does to what is left.
 use Rattle.std.proofs.Common.{ℕ, zero, suc, ◌≡◌, ◌+◌, ◌-◌, ◌<◌, true, false, cond, not, ◌&&◌, eqb, List, ◌∷◌, map, filter, refl, sym, ap, ap₂, ◌∙◌, arith, ne_eqb}
+use Rattle.xc_search.proofs.Spent.{less_one}
 use Rattle.std.specs.List.{AllByRecursion, range_with_len}
 use Rattle.xc_dance.specs.declared.dance.Move.{Move}
 use Rattle.xc_dance.specs.declared.dance.Move.TheVariants.{Cover, Purify, Spend}
 use Rattle.xc_input.specs.Problem.{Puzzle, primary_count, holds, colour_at, low_at, high_at}
-use Rattle.xc_search.specs.Listing.{Wanted, Residual, less_one, none}
+use Rattle.xc_search.specs.Listing.{Wanted, Residual, none}
 use Rattle.xc_dance.specs.Lists.Left.{left}
 use Rattle.xc_dance.specs.Moves.{is_open, spends, open_items, agrees}
 use Rattle.xc_search.specs.Residuals.{wanted_at, wanted_after}

@@ -1,10 +1,11 @@
 -- Taking an option use by use comes to `pick`.
 use Rattle.std.proofs.Common.{ℕ, ◌≡◌, Bool, true, false, cond, ◌&&◌, eqb, List, [], ◌∷◌, map, filter, find, Option, Some, refl, sym, ap, ap₂, ◌∙◌, subst, eqb-true, eq-eqb, ne_eqb}
+use Rattle.xc_search.proofs.Spent.{less_one}
 use Rattle.std.specs.Prelude.{nat_lt, is_some}
 use Rattle.std.specs.List.{AllByRecursion, list_all}
 use Rattle.xc_input.specs.declared.problem.Use.{Use}
 use Rattle.xc_input.specs.Problem.{Numbered, colour_in}
-use Rattle.xc_search.specs.Listing.{Wanted, Residual, less_one, may_stay, item_left}
+use Rattle.xc_search.specs.Listing.{Wanted, Residual, may_stay, item_left}
 use Rattle.xc_input.proofs.lists.Filters.{filter_both, keep_all}
 use Rattle.xc_input.proofs.lists.EachElement.{each_of_all}
 use Rattle.std.proofs.lemmas.List.{map-id}

@@ -1,5 +1,6 @@
 -- The uses of an option left can be committed, and committing one is what `commit_use` says.
 use Rattle.std.proofs.Common.{ℕ, zero, suc, ◌≡◌, ◌+◌, ◌-◌, ◌<◌, ◌≤◌, Bool, true, false, cond, not, eqb, leb, List, [], ◌∷◌, map, filter, find, Option, Some, None, refl, sym, ap, ◌∙◌, arith, subst, eqb-true, eq-eqb, ne_eqb, le-leb, lt-ltb, le-ltb}
+use Rattle.xc_search.proofs.Spent.{less_one}
 use Rattle.std.proofs.lemmas.Bool.{lt-leb, eqb-false}
 use Rattle.std.proofs.lemmas.List.Elements.{filter_agree}
 use Rattle.std.specs.Prelude.{nat_lt, is_some}
@@ -8,7 +9,7 @@ use Rattle.xc_input.specs.declared.problem.Use.{Use}
 use Rattle.xc_dance.specs.declared.dance.Move.{Move}
 use Rattle.xc_dance.specs.declared.dance.Move.TheVariants.{Cover, Purify, Spend}
 use Rattle.xc_input.specs.Problem.{Puzzle, primary_count, holds, colour_at, high_at, IsPrimary, IsSecondary}
-use Rattle.xc_search.specs.Listing.{Wanted, less_one, none, may_stay, item_left}
+use Rattle.xc_search.specs.Listing.{Wanted, none, may_stay, item_left}
 use Rattle.xc_dance.specs.Lists.Left.{left}
 use Rattle.xc_dance.specs.Moves.{is_open, purified, spends, open_items, AreLegal, agrees}
 use Rattle.xc_search.specs.Residuals.{wanted_at, wanted_after}

@@ -1,10 +1,11 @@
 -- Each level has its own Spend, and takes an option or a primary item away.
 use Rattle.std.proofs.Common.{ℕ, ◌≡◌, ◌-◌, ◌<◌, ◌≤◌, List, [], ◌∷◌, ◌++◌, length, take, Some, sym, ap, ◌∙◌, arith}
+use Rattle.xc_search.specs.inner.Sizes.{size_of}
 use Rattle.xc_dance.specs.declared.dance.Move.{Move}
 use Rattle.xc_dance.specs.declared.dance.Move.TheVariants.{Cover, Purify, Tweak, Spend}
 use Rattle.xc_search.specs.declared.level.Level.{Level}
 use Rattle.xc_input.specs.Problem.{Puzzle, primary_count}
-use Rattle.xc_search.specs.Listing.{branch_item, branch_count, branches_of, size_of}
+use Rattle.xc_search.specs.Listing.{branch_item, branch_count, branches_of}
 use Rattle.xc_search.specs.Residuals.{wanted_at, wanted_after}
 use Rattle.xc_search.specs.inner.Residual.{residual_of}
 use Rattle.xc_search.specs.inner.Commits.{after_spend, oldest}

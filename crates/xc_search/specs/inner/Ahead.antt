@@ -1,9 +1,10 @@
 -- No public clause cites this module. How much work a search has ahead, and what a step of its loop does.
 use Rattle.std.specs.Prelude.{ℕ, zero, suc, ◌+◌, ◌≡◌, Bool, true, false, List, [], ◌∷◌, drop, Option, Some, None}
+use Rattle.xc_search.specs.inner.Sizes.{size_of}
 use Rattle.xc_dance.specs.declared.dance.Move.{Move}
 use Rattle.xc_search.specs.declared.level.Level.{Level}
 use Rattle.xc_input.specs.Problem.{Puzzle}
-use Rattle.xc_search.specs.Listing.{Wanted, Residual, Branch, branch_item, branches_of, size_of}
+use Rattle.xc_search.specs.Listing.{Wanted, Residual, Branch, branch_item, branches_of}
 use Rattle.xc_search.specs.inner.Residual.{residual_of}
 use Rattle.xc_dance.specs.Dancing.{Dancing}
 use Rattle.xc_search.specs.inner.Commits.{oldest}

@@ -1,5 +1,6 @@
 -- No public clause cites this module. The levels of a search.
 use Rattle.std.specs.Prelude.{◌<◌, ℕ, suc, All, IfSome, ◌+◌, ◌≤◌, ◌≡◌, Bool, true, false, nat_lt, min, List, [], ◌∷◌, ◌++◌, length, map, drop, reverse, Option, Some, None, option_map, slice_get, flat_map, if◌then◌else◌}
+use Rattle.xc_search.specs.inner.Sizes.{size_of}
 use Rattle.std.specs.List.{AllByRecursion}
 use Rattle.xc_search.specs.declared.choice.Choice.{Choice}
 use Rattle.xc_dance.specs.declared.dance.Move.{Move}
@@ -7,7 +8,7 @@ use Rattle.xc_search.specs.declared.level.Level.{Level}
 use Rattle.xc_search.specs.declared.level.Begun.{Begun}
 use Rattle.xc_input.specs.declared.problem.Use.{Use}
 use Rattle.xc_input.specs.Problem.{Puzzle, Numbered, IsValid, IsItem, IsPrimary, IsOption, numbered_get, holding, uses_of, option_count, primary_count}
-use Rattle.xc_search.specs.Listing.{Wanted, Branch, branch_item, branch_count, branches_of, size_of, listing}
+use Rattle.xc_search.specs.Listing.{Wanted, Branch, branch_item, branch_count, branches_of, listing}
 use Rattle.xc_dance.specs.Moves.{is_open, AreLegal}
 use Rattle.xc_search.specs.Residuals.{wanted_at, wanted_after}
 use Rattle.xc_search.specs.inner.Residual.{residual_of}
