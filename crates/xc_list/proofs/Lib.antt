@@ -5,3 +5,4 @@ pub mod NextPrinted
 pub mod Outputs
 pub mod TextLemmas
 pub mod Writing
+pub mod WordLemmas

@@ -96,13 +96,7 @@ stopped a spacing limit k m rest {x = x} {y = y} {z = z} e below so_far stop = b
           member = m;
           is_member = at_next (members a.puzzle) k m rest e;
           printed = p;
-          failure = subst (λ n. Rose n z.failures) so_far.no_failure t.failure;
-          last = t.last;
-          part = t.many;
-          proper = t.part;
-          taken = subst (λ n. Appends x.taken z.taken (output a spacing n ++ take t.many (member_text a (k + 1, m)))) back
-              (appends_more x.taken y.taken z.taken (output a spacing k) (take t.many (member_text a (k + 1, m))) so_far.whole t.begun);
-          unflushed = t.unflushed ∙ so_far.unflushed;
+          stopped = (y, subst (λ n. Took x y (output a spacing n)) back so_far, t);
         }
     by_case false p t = absurd (omega (arith, t.part))
 
@@ -162,9 +156,11 @@ stopped_begins a spacing limit t x z s =
     output_next a spacing (t - 1) s.member (drop ((t - 1) + 1) (members a.puzzle)) (drop_before (members a.puzzle) t s.member s.is_member) in
     let printed : printed_text a spacing ((t - 1) + 1, s.member) ≡ text = ap (λ n. printed_text a spacing (n, s.member)) again ∙ ap (λ b. if b then text else []) s.printed in
     let b = output_behind a spacing ((t - 1) + 1) limit (omega (arith, again, s.within.1)) in
-    let cut : text ≡ take s.part text ++ drop s.part text = take_drop text s.part in
-    begins_front x z (output a spacing limit) (output a spacing (t - 1) ++ take s.part text) (drop s.part text ++ b.0)
-    (b.1 ∙ ap (λ l. l ++ b.0) (next ∙ ap (λ l. output a spacing (t - 1) ++ l) (printed ∙ cut)) ∙ regroup (output a spacing (t - 1)) (take s.part text) (drop s.part text) b.0) s.taken
+    let n : ℕ = s.stopped.2.many in
+    let cut : text ≡ take n text ++ drop n text = take_drop text n in
+    begins_front x z (output a spacing limit) (output a spacing (t - 1) ++ take n text) (drop n text ++ b.0)
+    (b.1 ∙ ap (λ l. l ++ b.0) (next ∙ ap (λ l. output a spacing (t - 1) ++ l) (printed ∙ cut)) ∙ regroup (output a spacing (t - 1)) (take n text) (drop n text) b.0)
+    (appends_more x.taken s.stopped.0.taken z.taken (output a spacing (t - 1)) (take n text) s.stopped.1.whole s.stopped.2.begun)
   where
     take_drop : (text : List ℕ) (n : ℕ) → text ≡ take n text ++ drop n text
     take_drop text n = grind (arith, common_steps)

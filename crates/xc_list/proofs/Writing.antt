@@ -1,8 +1,10 @@
 -- What a sink has taken, text after text.
-use Rattle.std.proofs.Common.{◌≡◌, ℕ, ◌+◌, ◌/◌, ◌%◌, ◌^◌, ◌<◌, ◌≤◌, List, [], ◌∷◌, ◌++◌, Result, Ok, Err, length, take, drop, get_or, sym, ap, ◌∙◌, append-nil, arith, subst, zero, suc, inl, inr}
+use Rattle.std.proofs.Common.{◌≡◌, ℕ, ◌+◌, ◌/◌, ◌%◌, ◌^◌, ◌<◌, ◌≤◌, List, [], ◌∷◌, ◌++◌, Result, Ok, Err, length, take, drop, get_or, sym, ap, ◌∙◌, append-nil, arith, subst, zero, suc, inl, inr, refl}
+use Rattle.std.proofs.KnownBytes.{Appends-nil}
+use Rattle.xc_list.specs.inner.LineParts.{colour_text}
 use Rattle.std.specs.Prelude.{flat_map, IsErr, codes, decimal, ◌==◌}
 use Rattle.std.proofs.lemmas.Fmt.{decimal_digit, decimal_step}
-use Rattle.xc_list.specs.Output.{colour_text, bytes_at, from_item}
+use Rattle.xc_list.specs.Output.{bytes_at, from_item}
 use Rattle.std.proofs.lemmas.Grind.{common_steps}
 use Rattle.std.proofs.lemmas.Bool.Decides.{nat_tests}
 use Rattle.xc_input.specs.declared.problem.Use.{Use}
@@ -24,6 +26,9 @@ pub flat_map-parts : {X : Type 0} (f : X → List ℕ) (xs : List X) (i : ℕ) (
 flat_map-parts f xs i d h =
     let all : xs ≡ take (i + 1) xs ++ drop (i + 1) xs = grind (arith, common_steps) in
     ap (flat_map f) all ∙ flat_map-append f (take (i + 1) xs) (drop (i + 1) xs) ∙ ap (λ l. l ++ flat_map f (drop (i + 1) xs)) (flat_map-take-more f xs i d h)
+
+pub took_nothing : (s : SinkState) → Took s s []
+took_nothing s = record { no_failure = refl; whole = Appends-nil s.taken; unflushed = refl }
 
 pub then_took : {a b c : SinkState} {s t : List ℕ} → Took a b s → Took b c t → Took a c (s ++ t)
 then_took {a = a} {b = b} {c = c} {s = s} {t = t} p q = record {

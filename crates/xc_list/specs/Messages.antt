@@ -5,13 +5,10 @@ use Rattle.xc_list.specs.declared.words.WordFault.{WordFault}
 use Rattle.xc_list.specs.declared.words.WordFault.TheVariants.{Unknown, BadNumber, ZeroLimit}
 use Rattle.xc_list.specs.declared.runs.End.TheVariants.{Done, Limit, WriteFailed}
 
--- the noun behind a number of solutions
-abbrev pub plural : ℕ → List ℕ
-plural n = if n == 1 then codes " solution" else codes " solutions"
-
 -- how many solutions there are, and a tail
 abbrev pub total_text : ℕ → List ℕ → List ℕ
-total_text n tail = codes "Altogether " ++ decimal n ++ plural n ++ tail
+total_text n tail =
+    codes "Altogether " ++ decimal n ++ (if n == 1 then codes " solution" else codes " solutions") ++ tail
 
 -- the solution whose write failed
 abbrev pub failed_text : ℕ → List ℕ
@@ -27,12 +24,8 @@ summary_text (WriteFailed n) = failed_text n
 abbrev pub warning_text : ℕ → List ℕ
 warning_text n = codes "Option ignored (no primary items): line " ++ decimal n ++ codes "\n"
 
--- the place of a word, and a tail
-abbrev pub word_text : ℕ → List ℕ → List ℕ
-word_text n tail = codes "Word " ++ decimal n ++ tail
-
--- what is wrong with a word
+-- what is wrong with a word, at its place from 1
 abbrev pub word_fault_text : WordFault → List ℕ
-word_fault_text (Unknown n) = word_text n (codes ": unknown.\n")
-word_fault_text (BadNumber n) = word_text n (codes ": bad number.\n")
-word_fault_text (ZeroLimit n) = word_text n (codes ": limit must be at least 1.\n")
+word_fault_text (Unknown n) = codes "Word " ++ decimal n ++ codes ": unknown.\n"
+word_fault_text (BadNumber n) = codes "Word " ++ decimal n ++ codes ": bad number.\n"
+word_fault_text (ZeroLimit n) = codes "Word " ++ decimal n ++ codes ": limit must be at least 1.\n"

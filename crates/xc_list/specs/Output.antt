@@ -19,30 +19,19 @@ rotated_at k xs = drop k xs ++ take k xs
 abbrev pub from_item : ℕ → List Use → List Use
 from_item i us = rotated_at (position_or_len (λ u. u.item == i) us) us
 
--- a colour behind a colon; nothing for colour 0
-abbrev pub colour_text : List (List ℕ) → ℕ → List ℕ
-colour_text colours c = if c == 0 then [] else codes ":" ++ bytes_at colours c
-
 -- the word of a use: its item's name, and its colour behind a colon
 abbrev pub use_word : Named → Use → List ℕ
-use_word a u = bytes_at a.names u.item ++ colour_text a.colours u.colour
+use_word a u = bytes_at a.names u.item ++ (if u.colour == 0 then [] else codes ":" ++ bytes_at a.colours u.colour)
 
--- a space and the word of a use
-abbrev pub use_text : Named → Use → List ℕ
-use_text a u = codes " " ++ use_word a u
-
--- the body of a choice line: the uses of its option from the item's on, or that no option is taken
+-- the body of a choice line: the words of its option's uses from the item's on, or that no option is taken
 abbrev pub body_text : Named → ℕ → Option ℕ → List ℕ
-body_text a i (Some o) = flat_map (use_text a) (from_item i (uses_of a.puzzle o))
+body_text a i (Some o) = flat_map (λ u. codes " " ++ use_word a u) (from_item i (uses_of a.puzzle o))
 body_text a i None = codes " null " ++ bytes_at a.names i
-
--- branch k of n, to the end of the line
-abbrev pub branch_text : ℕ → ℕ → List ℕ
-branch_text k n = codes " (" ++ decimal k ++ codes " of " ++ decimal n ++ codes ")\n"
 
 -- the line of a choice: its body, its branch and the number of branches
 abbrev pub choice_text : Named → Choice → List ℕ
-choice_text a c = body_text a c.item c.option ++ branch_text c.k c.n
+choice_text a c =
+    body_text a c.item c.option ++ (codes " (" ++ decimal c.k ++ codes " of " ++ decimal c.n ++ codes ")\n")
 
 -- the text of the member with this number
 abbrev pub member_text : Named → ℕ × List Choice → List ℕ

@@ -1,7 +1,7 @@
 -- What the words of a command line ask for.
-use Rattle.std.specs.Prelude.{ℕ, ◌+◌, ◌-◌, ◌^◌, List, [], ◌∷◌, ◌&&◌, ◌==◌, nat_lt, Option, Some, None, Result, Ok, Err, if◌then◌else◌}
+use Rattle.std.specs.Prelude.{ℕ, fold, ◌+◌, ◌-◌, ◌^◌, List, [], ◌∷◌, ◌&&◌, ◌==◌, nat_lt, Option, Some, None, Result, Ok, Err, if◌then◌else◌}
 use Rattle.std.specs.Char.{is_ascii_digit}
-use Rattle.std.specs.List.{list_all}
+use Rattle.std.specs.List.{list_all, enumerate_from}
 use Rattle.std.specs.Str.{byte}
 use Rattle.xc_input.specs.Words.{number}
 use Rattle.xc_list.specs.declared.words.Words.{Words}
@@ -25,12 +25,8 @@ read_word place w (b ∷ bs) =
     else if b == byte "t" then read_number place bs (λ n. if n == 0 then Err (ZeroLimit place) else Ok (record w { limit = n }))
     else Err (Unknown place)
 
--- what words make of those before them; the first faulty one ends it
-abbrev pub read_on : ℕ → Result Words WordFault → List (List ℕ) → Result Words WordFault
-read_on place (Err e) xs = Err e
-read_on place (Ok w) [] = Ok w
-read_on place (Ok w) (x ∷ xs) = read_on (place + 1) (read_word place w x) xs
-
--- with no word no solution is printed, and the limit is the largest number
+-- What words ask for, one after another; the first faulty one ends it. With no word no solution is printed, and the
+-- limit is the largest number.
 abbrev pub read_words : List (List ℕ) → Result Words WordFault
-read_words xs = read_on 1 (Ok (record { spacing = 0; limit = 2 ^ 64 - 1 })) xs
+read_words xs = fold (λ r word. elim r [ Ok w ↦ read_word word.0 w word.1 | Err e ↦ Err e ])
+    (Ok (record { spacing = 0; limit = 2 ^ 64 - 1 })) (enumerate_from 1 xs)

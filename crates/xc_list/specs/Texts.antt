@@ -1,6 +1,6 @@
 -- What is known of a sink after a text was written to it.
 use Rattle.std.specs.Prelude.{◌≡◌, ◌⊎◌, ℕ, ◌<◌, Bool, IsTrue, length, take, List, Result, MatchResult, Option}
-use Rattle.std.specs.Io.KnownBytes.{Appends, Keeps}
+use Rattle.std.specs.Io.KnownBytes.{Appends}
 use Rattle.xc_input.specs.Calls.{Rose}
 
 -- A sink: how many of its writes and flushes failed, up to the counter's last value; whether its last call did; the
@@ -35,11 +35,9 @@ WasTold old new text = Took old new text ⊎ BrokeOff old new text
 abbrev pub Writes : {E : Type 0} → SinkState → SinkState → Result (Unit {0}) E → List ℕ → Type 0
 Writes old new r text = MatchResult r (λ _. Took old new text) (λ _. BrokeOff old new text)
 
--- Nothing was written or flushed, and nothing failed.
-pub record IsUntouched (old new : SinkState) : Type 0 where
-  pub no_failure : new.failures ≡ old.failures
-  pub none : Keeps old.taken new.taken
-  pub unflushed : new.flushes ≡ old.flushes
+-- It took the one text, and then this is so of it and the other.
+abbrev pub Behind : List ℕ → (SinkState → SinkState → List ℕ → Type 0) → SinkState → SinkState → List ℕ → Type 0
+Behind first says old new text = (between : SinkState) × Took old between first × says between new text
 
 -- It took a beginning of the text, or all of it.
 abbrev pub Begins : SinkState → SinkState → List ℕ → Type 0

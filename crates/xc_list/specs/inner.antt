@@ -6,3 +6,4 @@ pub mod Ends
 pub mod Layout
 pub mod OptionIndex
 pub mod SeenLines
+pub mod LineParts

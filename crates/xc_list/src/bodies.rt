@@ -4,7 +4,8 @@ ghost use Rattle.std.specs.List.{position_or_len};
 ghost use Rattle.xc_input.specs.Problem.{uses_of, IsOption};
 ghost use Rattle.xc_input.specs.Named.{IsKnownUse};
 ghost use Rattle.xc_list.specs.Texts.{Writes};
-ghost use Rattle.xc_list.specs.Output.{use_text, from_item};
+ghost use Rattle.xc_list.specs.Output.{from_item};
+ghost use Rattle.xc_list.specs.inner.LineParts.{use_text};
 ghost use Rattle.xc_list.specs.inner.Layout.{AreLaid, uses_text};
 
 use crate::sink::{Sink, Tray};

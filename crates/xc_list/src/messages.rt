@@ -1,7 +1,7 @@
 //! What is told beside a listing.
-ghost use Rattle.std.specs.Prelude.{◌≡◌, ℕ, ◌+◌, ◌-◌, ◌<◌, ◌≤◌, ◌++◌, flat_map, OnErr, IsTrue, decimal, codes};
+ghost use Rattle.std.specs.Prelude.{◌≡◌, ℕ, ◌+◌, ◌-◌, ◌<◌, ◌≤◌, ◌++◌, flat_map, OnErr, IsTrue, decimal, codes, ◌==◌, if◌then◌else◌};
 ghost use Rattle.xc_list.specs.Texts.{Writes};
-ghost use Rattle.xc_list.specs.Messages.{plural, total_text, failed_text, summary_text, warning_text, word_text, word_fault_text};
+ghost use Rattle.xc_list.specs.Messages.{total_text, failed_text, summary_text, warning_text, word_fault_text};
 
 use crate::line::write_line;
 use crate::runs::End;
@@ -11,7 +11,7 @@ use crate::write::SinkFault;
 use xc_input::Read;
 
 fn plural<'a>(n: u64) -> &'a [u8]
-    ensures { result.now ≡ plural n }
+    ensures { result.now ≡ (if n == 1 then codes " solution" else codes " solutions") }
 {
     if n == 1 { b" solution" } else { b" solutions" }
 }
@@ -68,7 +68,7 @@ pub fn warnings<S: Sink>(read: &Read, sink: &mut S) -> Result<(), SinkFault>
 }
 
 fn write_word<S: Sink>(place: usize, tail: &[u8], sink: &mut S) -> Result<(), SinkFault>
-    ensures { Writes (S.state sink.old) (S.state sink.new) result (word_text place tail.now) }
+    ensures { Writes (S.state sink.old) (S.state sink.new) result (codes "Word " ++ decimal place ++ tail.now) }
 {
     write_line(sink, b"Word ", place as u64, &[tail])
 }

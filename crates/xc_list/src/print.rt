@@ -2,7 +2,8 @@
 ghost use Rattle.std.specs.Prelude.{◌≡◌, ◌<◌, ◌≤◌, ◌++◌, All, flat_map, OnErr, IsTrue, codes};
 ghost use Rattle.xc_list.specs.Texts.{Writes};
 ghost use Rattle.xc_input.specs.Problem.{IsItem};
-ghost use Rattle.xc_list.specs.Output.{bytes_at, body_text, branch_text, choice_text, member_text};
+ghost use Rattle.xc_list.specs.Output.{bytes_at, body_text, choice_text, member_text};
+ghost use Rattle.xc_list.specs.inner.LineParts.{branch_text};
 ghost use Rattle.xc_list.specs.Known.{IsKnownChoice};
 
 use crate::bodies::Bodies;

@@ -1,6 +1,6 @@
 //! A run over a search.
 ghost use Rattle.std.specs.Prelude.{◌≡◌, ℕ, ◌+◌, ◌-◌, ◌<◌, ◌≤◌, false, [], All, IfOk, IsTrue, MatchResult, OnErr};
-ghost use Rattle.xc_list.specs.Texts.{Writes, IsUntouched};
+ghost use Rattle.xc_list.specs.Texts.{Writes, Took};
 ghost use Rattle.xc_search.specs.Cover.{members, EachMemberCovers, EachCoverIsListedOnce};
 ghost use Rattle.xc_search.specs.Room.{room_for};
 ghost use Rattle.xc_list.specs.Output.{is_printed};
@@ -162,7 +162,7 @@ pub fn run_over_links<S: Sink>(
 ) -> Result<(Links, Result<End, Memory>), Memory>
     ensures built { IfOk result (λ back. AreAsBuilt problem.now.puzzle back.0) }
     ensures run { MatchResult result (λ back. AnswersRun problem.now words.spacing words.limit
-        (S.state sink.old) (S.state sink.new) back.1) (λ _. IsUntouched (S.state sink.old) (S.state sink.new)) }
+        (S.state sink.old) (S.state sink.new) back.1) (λ _. Took (S.state sink.old) (S.state sink.new) []) }
     ensures right { EachMemberCovers problem.now.puzzle }
     ensures complete { EachCoverIsListedOnce problem.now.puzzle }
 {

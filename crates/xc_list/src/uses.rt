@@ -4,7 +4,8 @@ ghost use Rattle.std.specs.List.{position_or_len};
 ghost use Rattle.xc_list.specs.Texts.{Writes};
 ghost use Rattle.xc_input.specs.Problem.{IsItem, uses_of, IsOption};
 ghost use Rattle.xc_input.specs.Named.{IsKnownUse, IsSound};
-ghost use Rattle.xc_list.specs.Output.{bytes_at, colour_text, use_text, from_item};
+ghost use Rattle.xc_list.specs.Output.{bytes_at, from_item};
+ghost use Rattle.xc_list.specs.inner.LineParts.{colour_text, use_text};
 
 use crate::sink::Sink;
 use crate::write::{SinkFault, write_all};

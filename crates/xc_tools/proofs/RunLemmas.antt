@@ -1,6 +1,6 @@
 -- What a whole run did, step by step.
 use Rattle.std.proofs.Common.{◌≡◌, ◌⊎◌, ℕ, ◌+◌, List, [], Option, None, Some, length, take, refl, sym, ap, subst, inl, inr, ◌∙◌, append-nil, arith}
-use Rattle.std.proofs.KnownBytes.{Appends-nil, Keeps-refl}
+use Rattle.std.proofs.KnownBytes.{Keeps-refl}
 use Rattle.std.proofs.lemmas.Grind.{common_steps}
 use Rattle.std.specs.Prelude.{codes, flat_map, IsTrue}
 use Rattle.std.specs.Io.KnownBytes.{Appends, Keeps}
@@ -13,12 +13,12 @@ use Rattle.xc_list.specs.declared.words.Words.{Words}
 use Rattle.xc_list.specs.Messages.{warning_text, summary_text, failed_text}
 use Rattle.xc_list.specs.Output.{output}
 use Rattle.xc_list.specs.Runs.{end_of}
-use Rattle.xc_list.specs.Texts.{SinkState, Took, BrokeOff, WasTold, Begins}
+use Rattle.xc_list.specs.Texts.{SinkState, Took, BrokeOff, WasTold, Behind, Begins}
 use Rattle.xc_list.proofs.Outputs.{stopped_begins}
 use Rattle.xc_list.proofs.TextLemmas.{appends_kept}
-use Rattle.xc_list.proofs.Writing.{then_took}
+use Rattle.xc_list.proofs.Writing.{then_took, took_nothing}
 use Rattle.xc_tools.specs.Given.{GaveProblem}
-use Rattle.xc_tools.specs.Solves.{Seen, TookAll, FailedBehind, Behind, FailedAt, warning, solution, flush, last_line, IsFailed, DidSearch, DidAsAsked}
+use Rattle.xc_tools.specs.Solves.{Seen, TookAll, FailedBehind, FailedAt, warning, solution, flush, last_line, IsFailed, DidSearch, DidAsAsked}
 
 take_whole : (xs : List ℕ) → take (length xs) xs ≡ xs
 take_whole xs = grind (arith, common_steps)
@@ -44,9 +44,6 @@ took_all {old = old} {mid = mid} {text = text} new took same settled kept flushe
   settled = settled;
   flushed_once = flushed ∙ ap (λ n. n + 1) took.unflushed;
 }
-
-took_nothing : (s : SinkState) → Took s s []
-took_nothing s = record { no_failure = refl; whole = Appends-nil s.taken; unflushed = refl }
 
 pub behind_nothing : {old new : SinkState} {text : List ℕ} (says : SinkState → SinkState → List ℕ → Type 0)
     → says old new text → Behind [] says old new text
@@ -86,20 +83,12 @@ behind_warnings a ignored w status out_old out_new old mid new took (inr (inr h)
 
 -- ---- what the output took, whatever the status
 
-kept_appends : (a b : Option (List ℕ)) → Keeps a b → Appends a b []
-kept_appends None b k = tt
-kept_appends (Some x) None k = absurd k
-kept_appends (Some x) (Some y) k = k ∙ sym (append-nil x)
-
-pub kept_begins : (x y : SinkState) (text : List ℕ) → Keeps x.taken y.taken → Begins x y text
-kept_begins x y text k = (0, kept_appends x.taken y.taken k)
-
 pub whole_begins : (x y : SinkState) (text : List ℕ) → Appends x.taken y.taken text → Begins x y text
 whole_begins x y text h = (length text, subst (Appends x.taken y.taken) (sym (take_whole text)) h)
 
 failed_begins : (place : FailedAt) (a : Named) (ignored : List ℕ) (w : Words) (x y old new : SinkState)
     → IsFailed place a ignored w x y old new → Begins x y (output a w.spacing w.limit)
-failed_begins warning a ignored w x y old new h = kept_begins x y (output a w.spacing w.limit) h.0.none
+failed_begins warning a ignored w x y old new h = (0, h.0.whole)
 failed_begins (solution n) a ignored w x y old new h = stopped_begins a w.spacing w.limit n x y h.0
 failed_begins flush a ignored w x y old new h = whole_begins x y (output a w.spacing w.limit) h.0.taken
 failed_begins last_line a ignored w x y old new h = whole_begins x y (output a w.spacing w.limit) h.0.whole
@@ -108,7 +97,7 @@ search_begins : (a : Named) (ignored : List ℕ) (w : Words) (status : ℕ) (x y
     → DidSearch w status x y old new a ignored → Begins x y (output a w.spacing w.limit)
 search_begins a ignored w status x y old new (inl h) = whole_begins x y (output a w.spacing w.limit) h.1.output.whole
 search_begins a ignored w status x y old new (inr (inl h)) = failed_begins h.1 a ignored w x y old new h.2
-search_begins a ignored w status x y old new (inr (inr h)) = kept_begins x y (output a w.spacing w.limit) h.1.unwritten.none
+search_begins a ignored w status x y old new (inr (inr h)) = (0, h.1.unwritten.whole)
 
 pub run_begins : {O : Type 0} (kind : Kind) (w : Words) (status : ℕ) (old new : SourceState) (x y : Seen O SinkState) (told told_new : SinkState) → DidAsAsked kind w status old new x y told told_new
     → Keeps x.state.taken y.state.taken ⊎ GaveProblem kind (λ a _. Begins x.state y.state (output a w.spacing w.limit)) old new

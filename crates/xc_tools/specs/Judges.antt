@@ -1,5 +1,6 @@
 -- What a whole run of the judge does.
 use Rattle.std.specs.Prelude.{ℕ, ◌≡◌, ◌⊎◌, List, [], ◌∷◌, ◌++◌, Option, None, Some, MatchOption, codes, decimal, flat_map, if◌then◌else◌}
+use Rattle.std.specs.List.{list_all}
 use Rattle.std.specs.Str.{bytes_eq}
 use Rattle.xc_input.specs.declared.kind.Kind.{Kind}
 use Rattle.xc_input.specs.declared.kind.Kind.TheVariants.{Plain, Colours, Bounds}
@@ -45,8 +46,7 @@ verdict_text v = decimal v.number ++ (if v.cover then codes ": cover\n" else cod
 
 -- 0 where each verdict is yes, else 5
 abbrev pub judged_status : List Verdict → ℕ
-judged_status [] = 0
-judged_status (v ∷ vs) = if v.cover then judged_status vs else 5
+judged_status vs = if list_all (λ v. v.cover) vs then 0 else 5
 
 -- A source gave a listing without a fault, and these are the verdicts on it.
 pub record HasVerdicts (a : Named) (vs : List Verdict) (old new : SourceState) : Type 0 where

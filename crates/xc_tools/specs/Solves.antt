@@ -1,5 +1,5 @@
 -- What a whole run of a solver does.
-use Rattle.std.specs.Prelude.{◌≡◌, ◌⊎◌, ℕ, ◌+◌, List, ◌++◌, IsTrue, MatchResult, codes, flat_map}
+use Rattle.std.specs.Prelude.{◌≡◌, ◌⊎◌, ℕ, ◌+◌, List, [], ◌++◌, IsTrue, MatchResult, codes, flat_map}
 use Rattle.std.specs.Io.KnownBytes.{Appends}
 use Rattle.xc_input.specs.Calls.{Rose}
 use Rattle.xc_input.specs.declared.kind.Kind.{Kind}
@@ -11,8 +11,8 @@ use Rattle.xc_list.specs.Messages.{warning_text, summary_text, failed_text, word
 use Rattle.xc_list.specs.Output.{output}
 use Rattle.xc_list.specs.Runs.{StoppedAt, end_of}
 use Rattle.xc_list.specs.Settings.{read_words}
-use Rattle.xc_list.specs.Texts.{SinkState, Took, BrokeOff, WasTold, IsUntouched}
-use Rattle.xc_tools.specs.Errors.{input_error_text, error_status}
+use Rattle.xc_list.specs.Texts.{SinkState, Took, BrokeOff, WasTold, Behind}
+use Rattle.xc_tools.specs.Errors.{no_problem}
 use Rattle.xc_tools.specs.Given.{GaveProblem}
 
 -- A source or a sink, and what is known of it.
@@ -49,10 +49,6 @@ pub record FailedBehind (old new : SinkState) (text : List ℕ) : Type 0 where
   pub taken : Appends old.taken new.taken text
   pub flushed_once : new.flushes ≡ old.flushes + 1
 
--- A sink took the one text, and then this is so of it and the other.
-abbrev pub Behind : List ℕ → (SinkState → SinkState → List ℕ → Type 0) → SinkState → SinkState → List ℕ → Type 0
-Behind first says old new text = (between : SinkState) × Took old between first × says between new text
-
 -- A problem was solved: one sink took its output, the other the warnings and the last line.
 pub record IsComplete (a : Named) (ignored : List ℕ) (w : Words)
     (out_old out_new err_old err_new : SinkState) : Type 0 where
@@ -70,7 +66,7 @@ pub data FailedAt : Type 0 where
 -- which was told behind the warnings; or at the last line, behind the flush.
 abbrev pub IsFailed : FailedAt → Named → List ℕ → Words → SinkState → SinkState → SinkState → SinkState → Type 0
 IsFailed warning a ignored w out_old out_new err_old err_new =
-    IsUntouched out_old out_new × BrokeOff err_old err_new (flat_map warning_text ignored)
+    Took out_old out_new [] × BrokeOff err_old err_new (flat_map warning_text ignored)
 IsFailed (solution n) a ignored w out_old out_new err_old err_new = StoppedAt a w.spacing w.limit n out_old out_new
     × Behind (flat_map warning_text ignored) WasTold err_old err_new (failed_text n)
 IsFailed flush a ignored w out_old out_new err_old err_new = FailedBehind out_old out_new (output a w.spacing w.limit)
@@ -80,7 +76,7 @@ IsFailed last_line a ignored w out_old out_new err_old err_new = TookAll out_old
 
 -- There was no memory for the search: nothing was written, and it was told behind the warnings.
 pub record IsOutOfMemory (ignored : List ℕ) (out_old out_new err_old err_new : SinkState) : Type 0 where
-  pub unwritten : IsUntouched out_old out_new
+  pub unwritten : Took out_old out_new []
   pub told : Behind (flat_map warning_text ignored) WasTold err_old err_new (codes "Out of memory.\n")
 
 -- What solving a problem did, by the status.
@@ -101,8 +97,8 @@ pub record IsRefused {S O E : Type 0} (text : List ℕ) (old new : Streams S O E
 pub record HasNoProblem (kind : Kind) (status : ℕ) (old new : SourceState) (err_old err_new : SinkState) : Type 0 where
   pub error : InputError
   pub gave : IsPart kind old new error
-  pub is_status : status ≡ error_status error
-  pub told : WasTold err_old err_new (input_error_text error)
+  pub is_status : status ≡ (no_problem error).0
+  pub told : WasTold err_old err_new (no_problem error).1
 
 -- What a run did whose words were read: there was no problem, and the output wasn't touched; or it was searched.
 abbrev pub DidAsAsked : {O : Type 0} → Kind → Words → ℕ → SourceState → SourceState

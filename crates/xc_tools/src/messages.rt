@@ -2,7 +2,7 @@
 ghost use Rattle.std.specs.Prelude.{◌≡◌, ◌++◌, OnErr, IsTrue, codes, decimal};
 ghost use Rattle.xc_list.specs.Texts.{Writes, WasTold};
 ghost use Rattle.xc_input.specs.FaultTexts.{fault_text};
-ghost use Rattle.xc_tools.specs.Errors.{input_error_text, error_status};
+ghost use Rattle.xc_tools.specs.Errors.{no_problem};
 ghost use Rattle.xc_tools.specs.Judges.{listing_fault_text};
 
 use crate::status::{BAD_INPUT, FAILED, NO_MEMORY};
@@ -19,7 +19,7 @@ fn write_fault<S: Sink>(line: u64, kind: FaultKind, sink: &mut S) -> Result<(), 
 
 /// Writes why no problem was read.
 pub fn input_error<S: Sink>(error: &InputError, sink: &mut S) -> Result<(), SinkFault>
-    ensures { Writes (S.state sink.old) (S.state sink.new) result (input_error_text error.now) }
+    ensures { Writes (S.state sink.old) (S.state sink.new) result ((no_problem error.now).1) }
 {
     match *error {
         InputError::Fault { line, kind } => write_fault(line, kind, sink),
@@ -30,7 +30,7 @@ pub fn input_error<S: Sink>(error: &InputError, sink: &mut S) -> Result<(), Sink
 
 /// The status where no problem was read.
 fn error_status(error: &InputError) -> u8
-    ensures { result ≡ error_status error.now }
+    ensures { result ≡ (no_problem error.now).0 }
 {
     match *error {
         InputError::Fault { line: _, kind: _ } => BAD_INPUT,
@@ -41,8 +41,8 @@ fn error_status(error: &InputError) -> u8
 
 /// Tells why no problem was read, as far as that goes, and gives the status of that.
 pub(crate) fn no_problem<E: Sink>(error: &InputError, err: &mut E) -> u8
-    ensures status { result ≡ error_status error.now }
-    ensures told { WasTold (E.state err.old) (E.state err.new) (input_error_text error.now) }
+    ensures status { result ≡ (no_problem error.now).0 }
+    ensures told { WasTold (E.state err.old) (E.state err.new) ((no_problem error.now).1) }
 {
     let _ = input_error(error, err);
     error_status(error)

@@ -1,5 +1,6 @@
 -- The uses that have a body's words.
 use Rattle.std.proofs.Common.{ℕ, zero, suc, ◌≡◌, ◌⊎◌, ◌<◌, ◌≤◌, Bool, true, false, List, [], ◌∷◌, ◌++◌, length, map, Option, MatchOption, Bor, Some, None, refl, sym, ap, ap₂, ◌∙◌, arith, append-nil, inl, inr}
+use Rattle.xc_list.specs.inner.LineParts.{colour_text}
 use Rattle.std.specs.Prelude.{All}
 use Rattle.std.proofs.lemmas.List.Elements.{All-head, All-tail}
 use Rattle.xc_input.specs.declared.problem.Use.{Use}
@@ -8,7 +9,7 @@ use Rattle.xc_input.specs.Named.{Named, IsName, IsKnownUse, IsSound}
 use Rattle.xc_input.specs.Words.{has, before, after}
 use Rattle.xc_input.proofs.GrammarLemmas.{cut-at, cut-is}
 use Rattle.xc_list.specs.ListingLines.{words_in}
-use Rattle.xc_list.specs.Output.{bytes_at, colour_text, use_word}
+use Rattle.xc_list.specs.Output.{bytes_at, use_word}
 use Rattle.xc_list.specs.inner.OptionIndex.{IsUseOfWord, HaveWords}
 use Rattle.xc_list.proofs.Writing.{colour_text-some}
 use Rattle.xc_list.proofs.CheckLemmas.ListedNumbers.{numbered_some, at_bytes, one_number}

@@ -1,5 +1,6 @@
 -- What the words of a choice stand for.
 use Rattle.xc_input.proofs.TokenLemmas.{not_false}
+use Rattle.xc_list.specs.inner.LineParts.{colour_text}
 use Rattle.xc_list.proofs.CheckLemmas.BodiesOfClasses.{All-turned, is-body}
 use Rattle.xc_list.proofs.CheckLemmas.ListedNumbers.{any-in, at_bytes, numbered_some}
 use Rattle.xc_list.proofs.CheckLemmas.ReadUses.{plain-word}
@@ -24,7 +25,7 @@ use Rattle.xc_input.proofs.Known.{at_number, known_option}
 use Rattle.xc_input.proofs.lists.Places.{get_take}
 use Rattle.xc_search.specs.declared.choice.Choice.{Choice}
 use Rattle.xc_list.specs.Known.{IsKnownChoice}
-use Rattle.xc_list.specs.Output.{rotated_at, bytes_at, colour_text, use_word}
+use Rattle.xc_list.specs.Output.{rotated_at, bytes_at, use_word}
 use Rattle.std.specs.Cmp.Lexicographic.{pointwise}
 use Rattle.xc_list.specs.Listed.{is_body, stands_for, is_known, is_none}
 use Rattle.xc_list.proofs.Writing.{colour_text-some}

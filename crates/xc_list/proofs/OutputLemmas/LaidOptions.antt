@@ -1,5 +1,6 @@
 -- Texts of options laid out one behind another.
 use Rattle.std.proofs.Math.Seq.{take-append_seam}
+use Rattle.xc_list.specs.inner.LineParts.{use_text}
 use Rattle.std.proofs.Common.{ℕ, zero, suc, ◌≡◌, ◌+◌, ◌-◌, ◌<◌, ◌≤◌, List, [], ◌∷◌, ◌++◌, length, map, take, drop, get_or, Some, refl, sym, ap, ap₂, ◌∙◌, arith, length-append}
 use Rattle.std.specs.Prelude.{◌==◌, flat_map, slice_range, unwrap_or}
 use Rattle.std.specs.List.{position_or_len}
@@ -10,7 +11,7 @@ use Rattle.xc_input.specs.Problem.{numbered_get}
 use Rattle.xc_input.specs.Named.{Named}
 use Rattle.xc_input.proofs.FaultLemmas.{map-length, map-snoc}
 use Rattle.xc_input.proofs.FlatParts.{length-pieces, option_part, pieces-snoc}
-use Rattle.xc_list.specs.Output.{use_text, from_item}
+use Rattle.xc_list.specs.Output.{from_item}
 use Rattle.xc_list.proofs.Writing.{flat_map-parts}
 use Rattle.xc_list.specs.inner.Layout.{AreLaid, uses_text}
 

@@ -1,5 +1,6 @@
 -- The lines of an output.
 use Rattle.std.proofs.Common.{◌≡◌, ℕ, false, ◌^◌, ◌<◌, ◌≤◌, List, [], ◌∷◌, ◌++◌, Option, None, Some, length, map, refl, sym, ap, ◌∙◌, append_assoc, append-nil}
+use Rattle.xc_list.specs.inner.LineParts.{use_text, branch_text}
 use Rattle.std.specs.Prelude.{All, codes, decimal, flat_map}
 use Rattle.std.proofs.lemmas.List.Elements.{All-head, All-tail}
 use Rattle.xc_input.specs.declared.problem.Use.{Use}
@@ -10,7 +11,7 @@ use Rattle.xc_input.specs.Lines.{lines_of}
 use Rattle.xc_input.specs.inner.EndedLines.{ended, AreWhole}
 use Rattle.xc_input.proofs.LineLemmas.{lines_of-ended}
 use Rattle.xc_search.specs.declared.choice.Choice.{Choice}
-use Rattle.xc_list.specs.Output.{bytes_at, from_item, use_word, use_text, body_text, branch_text, choice_text, member_text}
+use Rattle.xc_list.specs.Output.{bytes_at, from_item, use_word, body_text, choice_text, member_text}
 use Rattle.xc_list.specs.ListingLines.{Header, Body, read}
 use Rattle.xc_list.proofs.OutputLemmas.ReadLines.{IsPlain, spaced, ending_words, read-header, no_feed-header, read-choice}
 

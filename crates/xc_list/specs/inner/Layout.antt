@@ -1,9 +1,9 @@
 -- No public clause cites this module. The texts of options laid out one behind another.
 use Rattle.std.specs.Prelude.{ℕ, ◌≡◌, List, length, map, flat_map}
+use Rattle.xc_list.specs.inner.LineParts.{use_text}
 use Rattle.xc_input.specs.declared.problem.Use.{Use}
 use Rattle.xc_input.specs.inner.Flat.{pieces, AreStarts}
 use Rattle.xc_input.specs.Named.{Named}
-use Rattle.xc_list.specs.Output.{use_text}
 
 -- the text of an option's uses in file order
 abbrev pub uses_text : Named → List Use → List ℕ

@@ -1,7 +1,7 @@
 use Rattle.std.proofs.Common.{arith, ◌≡◌, ◌-◌, ◌^◌, length, min, take, get_or, ap, subst, length-append}
+use Rattle.xc_list.specs.inner.LineParts.{use_text}
 use Rattle.std.proofs.lemmas.Grind.{common_steps}
 use Rattle.xc_input.specs.declared.problem.Use.{Use}
-use Rattle.xc_list.specs.Output.{use_text}
 use Rattle.xc_list.specs.inner.Layout.{uses_text}
 use Rattle.xc_list.proofs.Writing.{flat_map-take-more}
 use Rattle.xc_list.proofs.bodies.option_length.Goals as goal

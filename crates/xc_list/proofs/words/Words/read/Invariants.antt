@@ -1,5 +1,6 @@
 use Rattle.std.proofs.Common.{◌≡◌, ◌+◌, drop, map, Ok}
-use Rattle.xc_list.specs.Settings.{read_words, read_on}
+use Rattle.xc_list.proofs.WordLemmas.{read_on}
+use Rattle.xc_list.specs.Settings.{read_words}
 use Rattle.xc_list.proofs.words.Words.read.Given as goal
 
 -- the words so far ask for this
