@@ -19,3 +19,4 @@ pub mod NumberedTexts
 pub mod ReadUses
 pub mod Rotations
 pub mod ShortItems
+pub mod ListedSolutions

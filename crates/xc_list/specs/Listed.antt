@@ -1,15 +1,15 @@
 -- What the lines of a listing stand for, its first fault, and when a listed solution is a cover.
-use Rattle.std.specs.Prelude.{ℕ, ◌+◌, ◌-◌, ◌^◌, ◌≡◌, ◌↔◌, Bool, false, not, ◌&&◌, ◌||◌, ◌==◌, min, List, [], ◌∷◌, codes, length, map, filter, take, Option, Some, None, IsTrue, if◌then◌else◌}
+use Rattle.std.specs.Prelude.{ℕ, is_some, filter_map, ◌+◌, ◌-◌, ◌^◌, ◌≡◌, ◌↔◌, Bool, false, not, ◌&&◌, ◌||◌, ◌==◌, min, List, [], ◌∷◌, codes, length, map, filter, take, Option, Some, None, IsTrue, if◌then◌else◌}
 use Rattle.std.specs.Option.{option_or}
 use Rattle.std.specs.Cmp.Lexicographic.{pointwise}
-use Rattle.std.specs.List.{list_any, range_with_len, AllZip}
+use Rattle.std.specs.List.{list_any, range_with_len, AllZip, before_first}
 use Rattle.std.specs.Str.{bytes_eq}
 use Rattle.xc_input.specs.declared.problem.Use.{Use}
 use Rattle.xc_input.specs.Problem.{primary_count, uses_of}
 use Rattle.xc_input.specs.Named.{Named}
 use Rattle.xc_search.specs.Cover.{IsCover}
 use Rattle.xc_list.specs.Output.{rotated_at, use_word}
-use Rattle.xc_list.specs.ListingLines.{Line, Header, Body, Other, read}
+use Rattle.xc_list.specs.ListingLines.{Line, Header, Body, Other, read, header_number, body_of}
 use Rattle.xc_list.specs.declared.checker.Verdict.{Verdict}
 use Rattle.xc_list.specs.declared.checker.ListingFault.{ListingFault}
 use Rattle.xc_list.specs.declared.checker.ListingFault.TheVariants.{BadLine, UnknownOption, Memory}
@@ -56,26 +56,12 @@ pub record Solution : Type 0 where
   pub number : ℕ
   pub bodies : List (List (List ℕ))
 
--- bodies that stand before the first header, and the solutions behind them
-pub record Listing : Type 0 where
-  pub loose : List (List (List ℕ))
-  pub solutions : List Solution
-
--- a line in front of what later lines list
-abbrev pub before_listing : Line → Listing → Listing
-before_listing (Header n) later =
-    record { loose = []; solutions = record { number = n; bodies = later.loose } ∷ later.solutions }
-before_listing (Body words) later = record { loose = words ∷ later.loose; solutions = later.solutions }
-before_listing Other later = later
-
--- what lines list
-abbrev pub listing_of : List (List ℕ) → Listing
-listing_of [] = record { loose = []; solutions = [] }
-listing_of (l ∷ lines) = before_listing (read l) (listing_of lines)
-
--- the solutions that lines list
+-- the solutions that lines list: one for each header, with the bodies of the choice lines before the next header
 abbrev pub solutions_of : List (List ℕ) → List Solution
-solutions_of lines = (listing_of lines).solutions
+solutions_of [] = []
+solutions_of (l ∷ lines) =
+    let bodies = filter_map body_of (before_first (λ l. is_some (header_number l)) lines) in
+    elim (header_number l) [ None ↦ solutions_of lines | Some n ↦ record { number = n; bodies = bodies } ∷ solutions_of lines ]
 
 -- A listed solution is a cover: different options can be given to its choice lines, lines of none aside, to each one
 -- that its body stands for, so that their set is a cover.

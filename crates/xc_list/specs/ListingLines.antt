@@ -1,15 +1,14 @@
 -- The lines of a listing: headers, and choice lines with their bodies.
 use Rattle.std.specs.Prelude.{ℕ, ◌-◌, Bool, false, not, ◌&&◌, ◌==◌, nat_le, List, [], ◌∷◌, codes, length, take, drop, Option, Some, None, if◌then◌else◌}
 use Rattle.std.specs.Char.{is_ascii_digit}
-use Rattle.std.specs.List.{list_all, list_any, onto_first}
+use Rattle.std.specs.List.{list_all, list_any, slice_split}
 use Rattle.std.specs.Str.{byte, bytes_eq}
 use Rattle.xc_input.specs.Tokens.{is_space}
 use Rattle.xc_list.specs.Settings.{long_number}
 
 -- the words of a text that single spaces part
 abbrev pub words_in : List ℕ → List (List ℕ)
-words_in [] = [] ∷ []
-words_in (b ∷ text) = if b == byte " " then [] ∷ words_in text else onto_first b (words_in text)
+words_in text = slice_split (λ b. b == byte " ") text
 
 -- one digit or more, at most this many
 abbrev pub are_digits : ℕ → List ℕ → Bool

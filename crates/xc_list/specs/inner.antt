@@ -7,3 +7,4 @@ pub mod Layout
 pub mod OptionIndex
 pub mod SeenLines
 pub mod LineParts
+pub mod Listings

@@ -1,5 +1,6 @@
 -- Verdicts by classes, and what a line changes.
 use Rattle.std.proofs.Common.{◌≡◌, ℕ, zero, suc, ◌+◌, ◌-◌, ◌^◌, ◌<◌, Bool, true, false, not, ◌||◌, nat_eq, min, List, [], ◌∷◌, ◌++◌, length, filter, Option, Some, None, is_some, refl, sym, ap, ◌∙◌, subst, append_assoc, append-nil, arith, inl, inr, eqb-true, if◌then◌else◌}
+use Rattle.xc_list.specs.inner.Listings.{Listing, before_listing, listing_of}
 use Rattle.std.specs.Prelude.{◌==◌, ◌↔◌, All, IsTrue, unwrap_or}
 use Rattle.std.specs.List.{AllZip}
 use Rattle.std.proofs.lemmas.Bool.Decides.{nat_tests}
@@ -13,7 +14,7 @@ use Rattle.xc_list.specs.declared.checker.ListingFault.{ListingFault}
 use Rattle.xc_list.specs.declared.checker.ListingFault.TheVariants.{UnknownOption}
 use Rattle.xc_list.specs.ListingLines.{Line, Header, Body, read}
 use Rattle.std.specs.Option.{option_or}
-use Rattle.xc_list.specs.Listed.{Solution, Listing, before_listing, listing_of, is_body, is_known, is_none, stands_for, fault_in_line, fault_in_lines, IsListedCover, IsVerdictOn, AreVerdicts, IsListingFault}
+use Rattle.xc_list.specs.Listed.{Solution, is_body, is_known, is_none, stands_for, fault_in_line, fault_in_lines, IsListedCover, IsVerdictOn, AreVerdicts, IsListingFault}
 use Rattle.xc_list.specs.inner.Classes.{Classes, AreClasses, IsOfClass, IsClassOfBody, IsCoverOfClasses}
 use Rattle.xc_input.specs.Lines.{lines_of}
 use Rattle.xc_list.specs.inner.Checking.{Progress, IsProgress, AreChosen, with_later, Closes, Takes, Refuses}

@@ -1,5 +1,7 @@
 -- What is printed for a problem is a listing without a fault, and each listed solution is a cover.
 use Rattle.std.proofs.Common.{◌≡◌, ◌≢◌, ℕ, ◌+◌, ◌^◌, ◌<◌, ◌≤◌, true, false, cond, not, List, [], ◌∷◌, ◌++◌, Option, None, Some, length, map, take, filter, get_or, min, ◌-◌, refl, sym, ap, ◌∙◌, arith, subst, append-nil}
+use Rattle.xc_list.proofs.CheckLemmas.ListedSolutions.{listed_solutions}
+use Rattle.xc_list.specs.inner.Listings.{Listing, before_listing, listing_of}
 use Rattle.std.specs.Prelude.{All, Contains, IsTrue, MatchOption, codes, flat_map, ◌==◌, if◌then◌else◌}
 use Rattle.std.specs.List.{AllZip, enumerate_from, cons_option}
 use Rattle.std.proofs.lemmas.Bool.Decides.{nat_tests}
@@ -17,7 +19,7 @@ use Rattle.xc_list.specs.declared.checker.Verdict.{Verdict}
 use Rattle.xc_list.specs.declared.checker.ListingFault.{ListingFault}
 use Rattle.xc_list.specs.declared.checker.ListingFault.TheVariants.{BadLine, UnknownOption, Memory}
 use Rattle.std.specs.Option.{option_or}
-use Rattle.xc_list.specs.Listed.{Solution, IsVerdictOn, AreVerdicts, IsListingFault, stands_for, is_known, fault_in_line, fault_in_lines, fault_in_listing, Listing, before_listing, listing_of, solutions_of, IsListedCover}
+use Rattle.xc_list.specs.Listed.{Solution, IsVerdictOn, AreVerdicts, IsListingFault, stands_for, is_known, fault_in_line, fault_in_lines, fault_in_listing, solutions_of, IsListedCover}
 use Rattle.xc_list.proofs.OutputLemmas.KnownMembers.{members_known}
 use Rattle.xc_list.proofs.OutputLemmas.CountedMembers.{IsCounted, members_counted}
 use Rattle.xc_list.proofs.OutputLemmas.OutputLines.{choice_words, choice_line, output_lines, IsPrintable, IsPrintableMember, lines_of-members, read-choice_line, read-header_line}
@@ -104,7 +106,7 @@ readable_covers : (p : Named) (nms : List (ℕ × List Choice)) → All (IsReada
 readable_covers p nms all =
     let lines : lines_of (flat_map (member_text p) nms) ≡ output_lines p nms =
     lines_of-members p nms (All-weaker (IsReadableMember p) (IsPrintableMember p) (λ nm h. record { number = h.number; choices = All-weaker (IsReadable p) (IsPrintable p) (λ c r. r.printable) nm.1 h.choices }) nms all) in
-    let solutions : solutions_of (lines_of (flat_map (member_text p) nms)) ≡ map (solution_of p) nms = ap solutions_of lines ∙ ap (λ (l : Listing). l.solutions) (listing_of-members p nms all) in (
+    let solutions : solutions_of (lines_of (flat_map (member_text p) nms)) ≡ map (solution_of p) nms = ap solutions_of lines ∙ sym (listed_solutions (output_lines p nms)) ∙ ap (λ (l : Listing). l.solutions) (listing_of-members p nms all) in (
       ap (fault_in_listing p) lines ∙ no_fault-members p 0 nms all,
       subst (All (λ s. IsListedCover p s.bodies)) (sym solutions) (All-map (λ s. IsListedCover p s.bodies) (solution_of p) nms (All-weaker (IsReadableMember p) (λ nm. IsListedCover p (solution_of p nm).bodies) (listed_cover p) nms all)),
     )
