@@ -1,5 +1,6 @@
 -- Checks that don't hold, and what they say of a token.
 use Rattle.std.proofs.Common.{◌≡◌, ℕ, ◌<◌, ◌≤◌, List, [], ◌∷◌, ◌++◌, Option, None, Some, Bool, true, false, ◌||◌, ◌&&◌, not, nat_lt, nat_le, nat_eq, is_none, length, refl, ap, ◌∙◌, sym, subst, arith, if◌then◌else◌, inl, inr, ◌⊎◌}
+use Rattle.xc_input.specs.inner.BoundTexts.{low_text, high_text}
 use Rattle.std.specs.Char.{is_ascii_digit}
 use Rattle.std.proofs.lemmas.Bool.Decides.{nat_tests}
 use Rattle.std.proofs.lemmas.Bool.{eqb-true}
@@ -8,7 +9,7 @@ use Rattle.xc_input.specs.declared.fault.FaultKind.{FaultKind}
 use Rattle.xc_input.specs.declared.fault.FaultKind.TheVariants.{EmptyName, NameTooLong, BadByteInName, RepeatedName, BadBound, BoundOrder, BoundOnSecondary, TooManyItems}
 use Rattle.xc_input.specs.Words.{has, before, after, place, is_number, number}
 use Rattle.xc_input.specs.Sheets.{Entry}
-use Rattle.xc_input.specs.Faults.{first, is_bounds, name_checks, has_prefix, name_of, low_text, high_text, prefix_checks, bound_checks, item_checks, entry}
+use Rattle.xc_input.specs.Faults.{first, is_bounds, name_checks, has_prefix, name_of, prefix_checks, bound_checks, item_checks, entry}
 use Rattle.xc_input.specs.Limits.{most_items}
 use Rattle.xc_input.specs.Named.{IsName}
 use Rattle.xc_input.specs.Text.{AreBounds, IsBare, IsBounded, IsEntry}

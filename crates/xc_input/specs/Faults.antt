@@ -42,22 +42,17 @@ has_prefix kind token = is_bounds kind && has (code "|") token
 abbrev pub name_of : Kind → List ℕ → List ℕ
 name_of kind token = (if has_prefix kind token then after (code "|") token else token)
 
--- the first bound of a prefix, `v` or `u:v`
-abbrev pub low_text : List ℕ → List ℕ
-low_text prefix = before (code ":") prefix
-
--- the second one, which is the first where there is but one
-abbrev pub high_text : List ℕ → List ℕ
-high_text prefix = (if has (code ":") prefix then after (code ":") prefix else prefix)
+-- the texts of the two bounds of a prefix: of `u:v` the halves, of `v` twice the same
+abbrev pub bound_texts : List ℕ → List ℕ × List ℕ
+bound_texts prefix = (before (code ":") prefix, if has (code ":") prefix then after (code ":") prefix else prefix)
 
 -- a prefix has one or two numbers that are sound bounds, and its item is primary
 abbrev pub prefix_checks : List ℕ → Bool → List (FaultKind × Bool)
 prefix_checks prefix secondary =
-    (BadBound, not (is_number (low_text prefix) && is_number (high_text prefix))) ∷ (
-      BoundOrder,
-      nat_lt (number (high_text prefix)) 1 || nat_lt (number (high_text prefix)) (number (low_text prefix)),
-    ) ∷
-    (BoundOnSecondary, secondary) ∷ []
+    let low = (bound_texts prefix).0 in
+    let high = (bound_texts prefix).1 in
+    (BadBound, not (is_number low && is_number high)) ∷
+    (BoundOrder, nat_lt (number high) 1 || nat_lt (number high) (number low)) ∷ (BoundOnSecondary, secondary) ∷ []
 
 -- the checks of a token's prefix, where it has one
 abbrev pub bound_checks : Kind → Bool → List ℕ → List (FaultKind × Bool)
@@ -75,8 +70,8 @@ item_checks kind names secondary token =
 abbrev pub entry : Kind → Bool → List ℕ → Entry
 entry kind secondary token = record {
   name = name_of kind token;
-  low = (if has_prefix kind token then number (low_text (before (code "|") token)) else (if secondary then 0 else 1));
-  high = (if has_prefix kind token then number (high_text (before (code "|") token)) else 1);
+  low = (if has_prefix kind token then number (bound_texts (before (code "|") token)).0 else (if secondary then 0 else 1));
+  high = (if has_prefix kind token then number (bound_texts (before (code "|") token)).1 else 1);
 }
 
 -- the items so far, and how many stood before the bar, if one was met
@@ -136,13 +131,13 @@ written names token = record { item = item_number names (before (code ":") token
 -- the checks of a token, behind tokens with these items
 abbrev pub token_checks : Context → List ℕ → List ℕ → List (FaultKind × Bool)
 token_checks c seen token =
-    (ColourNotHere, is_plain c.kind && has (code ":") token) ∷ (name_checks (before (code ":") token) ++
-    (UnknownItem, is_none (place c.names (before (code ":") token))) ∷
-    (RepeatedInOption, list_any (λ i. nat_eq i (item_number c.names (before (code ":") token))) seen) ∷ (
-      ColourOnPrimary,
-      has (code ":") token && not (nat_lt c.primaries (item_number c.names (before (code ":") token))),
-    ) ∷
-    (BadColour, has (code ":") token && is_bad_colour (after (code ":") token)) ∷ [])
+    let name = before (code ":") token in
+    let item = item_number c.names name in
+    let coloured = has (code ":") token in
+    (ColourNotHere, is_plain c.kind && coloured) ∷ (name_checks name ++
+    (UnknownItem, is_none (place c.names name)) ∷ (RepeatedInOption, list_any (λ i. nat_eq i item) seen) ∷
+    (ColourOnPrimary, coloured && not (nat_lt c.primaries item)) ∷
+    (BadColour, coloured && is_bad_colour (after (code ":") token)) ∷ [])
 
 -- the checks of tokens, behind tokens with these items
 abbrev pub option_checks : Context → List ℕ → List (List ℕ) → List (FaultKind × Bool)

@@ -37,12 +37,11 @@ written_by sheet line = map (written (names_of sheet.entries)) (tokens line)
 -- a line that is neither blank nor a comment
 abbrev pub content_checks : Kind → Stage → List ℕ → List (FaultKind × Bool)
 content_checks kind stage line =
-    (if stage.started then
-    option_checks (context kind (names_of stage.sheet.entries) stage.sheet.primaries) [] (tokens line) ++ (
-      TooManyUses,
-      has_primary stage.sheet.primaries (written_by stage.sheet line)
-          && nat_lt most_uses (use_count stage.sheet.options + length (tokens line)),
-    ) ∷ []
+    let sheet = stage.sheet in
+    let kept = has_primary sheet.primaries (written_by sheet line) in
+    let many = nat_lt most_uses (use_count sheet.options + length (tokens line)) in
+    (if stage.started
+    then option_checks (context kind (names_of sheet.entries) sheet.primaries) [] (tokens line) ++ (TooManyUses, kept && many) ∷ []
     else row_checks kind no_row (parts line))
 
 -- the checks of a line

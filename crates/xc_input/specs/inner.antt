@@ -7,3 +7,4 @@ pub mod Feeding
 pub mod CutTokens
 pub mod EndedLines
 pub mod NumberedOptions
+pub mod BoundTexts
