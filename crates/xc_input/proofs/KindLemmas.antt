@@ -1,9 +1,9 @@
 -- What stands for a problem as one kind stands for it as each kind that allows more.
-use Rattle.std.proofs.Common.{◌≡◌, ℕ, ◌+◌, List, [], ◌∷◌, ◌++◌, Option, None, Some, is_some, Bool, true, false, length, inl, inr}
-use Rattle.std.specs.List.{AllZip}
+use Rattle.std.proofs.Common.{◌≡◌, ℕ, ◌+◌, List, [], ◌∷◌, ◌++◌, Option, None, Some, is_some, Bool, true, false, length, inl, inr, take, drop}
+use Rattle.std.specs.List.{AllZip, before_first, after_first}
 use Rattle.xc_input.specs.declared.kind.Kind.{Kind}
 use Rattle.xc_input.specs.declared.problem.Use.{Use}
-use Rattle.xc_input.specs.Tokens.{tokens, parts}
+use Rattle.xc_input.specs.Tokens.{tokens, parts, is_bar}
 use Rattle.xc_input.specs.Sheets.{Entry, Sheet, Written, names_of, with_uses}
 use Rattle.xc_input.specs.Faults.{is_plain, is_bounds, context}
 use Rattle.xc_input.specs.Named.{Named}
@@ -16,11 +16,20 @@ module _ (a b : Kind) (bounds : is_bounds a ≡ true → is_bounds b ≡ true) (
   entry-also secondary token e (name, inl h) = (name, inl h)
   entry-also secondary token e (name, inr h) = (name, inr (h.0, bounds h.1, h.2, h.3, h.4, h.5, h.6, h.7))
 
-  items-also : (names : List (List ℕ)) (bar : Option ℕ) (parts : List (List ℕ)) (es : List Entry) (n : ℕ) → AreItems a names bar parts es n → AreItems b names bar parts es n
-  items-also names bar [] es n h = h
-  items-also names bar (p ∷ ps) es n (inl h) = inl (h.0, h.1, items-also names (Some (length names)) ps es n h.2)
-  items-also names bar (p ∷ ps) es n (inr h) =
-      inr (h.0, h.1, h.2, h.3, entry-also (is_some bar) p h.0 h.4, h.5, h.6, items-also (names ++ h.0.name ∷ []) bar ps h.1 n h.7)
+  entries-also : (secondary : Bool) (ps : List (List ℕ)) (es : List Entry) → AllZip (IsEntry a secondary) ps es → AllZip (IsEntry b secondary) ps es
+  entries-also secondary [] [] h = h
+  entries-also secondary [] (e ∷ es) h = absurd h
+  entries-also secondary (p ∷ ps) [] h = absurd h
+  entries-also secondary (p ∷ ps) (e ∷ es) h = (entry-also secondary p e h.0, entries-also secondary ps es h.1)
+
+  items-also : (ps : List (List ℕ)) (es : List Entry) (n : ℕ) → AreItems a ps es n → AreItems b ps es n
+  items-also ps es n h = record {
+    count = h.count;
+    primary = entries-also false (before_first is_bar ps) (take n es) h.primary;
+    secondary = entries-also true (after_first is_bar ps) (drop n es) h.secondary;
+    distinct = h.distinct;
+    few = h.few;
+  }
 
   use-also : (names : List (List ℕ)) (primaries : ℕ) (token : List ℕ) (u : Written) → IsUse (context a names primaries) token u → IsUse (context b names primaries) token u
   use-also names primaries token u (name, i, n, p, q, inl h) = (name, i, n, p, q, inl h)
@@ -45,7 +54,7 @@ module _ (a b : Kind) (bounds : is_bounds a ≡ true → is_bounds b ≡ true) (
   sheet-also n [] sheet ignored h = h
   sheet-also n (line ∷ lines) sheet ignored (z, inl (f, r)) = (z, inl (f, sheet-also (n + 1) lines sheet ignored r))
   sheet-also n (line ∷ lines) sheet ignored (z, inr (f, items, r)) =
-      (z, inr (f, items-also [] None (parts line) sheet.entries sheet.primaries items, options-also (names_of sheet.entries) sheet.primaries (n + 1) 0 [] lines sheet.options ignored sheet.colours r))
+      (z, inr (f, items-also (parts line) sheet.entries sheet.primaries items, options-also (names_of sheet.entries) sheet.primaries (n + 1) 0 [] lines sheet.options ignored sheet.colours r))
 
   pub stands-also : (lines : List (List ℕ)) (named : Named) (ignored : List ℕ) → StandsFor a lines named ignored → StandsFor b lines named ignored
   stands-also lines named ignored h = (h.0, h.1, sheet-also 0 lines h.0 ignored h.2)

@@ -1,5 +1,6 @@
 -- The grammar relates lines to a problem exactly where they have no fault, and then to the one that the lines give.
 use Rattle.std.proofs.Common.{◌≡◌, ℕ, ◌+◌, ◌<◌, ◌≤◌, List, [], ◌∷◌, ◌++◌, Option, None, Some, Bool, true, false, ◌&&◌, not, nat_lt, nat_eq, is_none, is_some, unwrap_or, length, refl, ap, ◌∙◌, sym, subst, arith, if◌then◌else◌, inl, inr, ◌⊎◌, append_assoc, map}
+use Rattle.xc_input.proofs.ItemLemmas.{ItemsBehind, items-behind, behind-items}
 use Rattle.xc_input.proofs.UseLemmas.{UsesBehind, uses-behind, behind-uses}
 use Rattle.std.proofs.lemmas.Bool.Decides.{nat_tests}
 use Rattle.std.proofs.lemmas.List.{append-nil, length-map}
@@ -18,7 +19,7 @@ use Rattle.xc_input.specs.Limits.{most_uses}
 use Rattle.xc_input.specs.Stages.{Stage, no_stage, content_checks, line_checks, with_option, with_line, line_number, fault_from, stage_from, stage_of, line_fault, first_fault}
 use Rattle.xc_input.proofs.ReadLemmas.{fault_or, end_fault}
 use Rattle.xc_input.specs.Named.{IsName, IsColour}
-use Rattle.xc_input.specs.Text.{AreItems, IsUse, AreUses, AreOptions, IsSheetFrom}
+use Rattle.xc_input.specs.Text.{IsUse, AreUses, AreOptions, IsSheetFrom}
 use Rattle.xc_input.proofs.SheetValidity.{number_uses-length, IsSheetOf, so_far}
 use Rattle.xc_input.proofs.FaultLemmas.{some-is, first-all, names_of-snoc, names_of-length}
 use Rattle.xc_input.proofs.GrammarLemmas.{split, head, cons, or-false, or-both, and-false, not-false, name-good, good-name, cut-is, no-cut, cut-at, item-good, good-item}
@@ -42,7 +43,7 @@ at-word kind entries bar p e = (
 )
 
 abbrev IsRead : Kind → List Entry → Option ℕ → List (List ℕ) → Row → Type 0
-IsRead kind entries bar ps row = (es : List Entry) × (row.entries ≡ entries ++ es) × AreItems kind (names_of entries) bar ps es (unwrap_or row.bar (length row.entries))
+IsRead kind entries bar ps row = (es : List Entry) × (row.entries ≡ entries ++ es) × ItemsBehind kind (names_of entries) bar ps es (unwrap_or row.bar (length row.entries))
 
 two-bars : (bar : Option ℕ) → (if is_some bar then Some TwoBars else None) ≡ None → bar ≡ None
 two-bars None e = refl
@@ -59,7 +60,7 @@ row-good kind entries bar (p ∷ ps) e =
           let w = at-bar kind entries bar p f in
           let r : IsRead kind entries (Some (length entries)) ps (row_of kind (R entries (Some (length entries))) ps) = row-good kind entries (Some (length entries)) ps (ap (λ row. first (row_checks kind row ps)) (sym w.1) ∙ a.1) in
           let q : IsRead kind entries (Some (length entries)) ps (row_of kind (with_part kind (R entries bar) p) ps) = subst (λ row. IsRead kind entries (Some (length entries)) ps (row_of kind row ps)) (sym w.1) r in
-          (q.0, q.1, inl (f, two-bars bar (sym w.0 ∙ a.0), subst (λ n. AreItems kind (names_of entries) (Some n) ps q.0 (unwrap_or (row_of kind (with_part kind (R entries bar) p) ps).bar (length (row_of kind (with_part kind (R entries bar) p) ps).entries))) (sym (names_of-length entries)) q.2))
+          (q.0, q.1, inl (f, two-bars bar (sym w.0 ∙ a.0), subst (λ n. ItemsBehind kind (names_of entries) (Some n) ps q.0 (unwrap_or (row_of kind (with_part kind (R entries bar) p) ps).bar (length (row_of kind (with_part kind (R entries bar) p) ps).entries))) (sym (names_of-length entries)) q.2))
       | false ↦ λ f.
           let w = at-word kind entries bar p f in
           let e1 : Entry = entry kind (is_some bar) p in
@@ -76,18 +77,18 @@ row-good kind entries bar (p ∷ ps) e =
               g.0,
               g.1,
               g.2,
-              subst (λ ns. AreItems kind ns bar ps q.0 (unwrap_or (row_of kind (with_part kind (R entries bar) p) ps).bar (length (row_of kind (with_part kind (R entries bar) p) ps).entries))) (names_of-snoc entries (entry kind (is_some bar) p)) q.2,
+              subst (λ ns. ItemsBehind kind ns bar ps q.0 (unwrap_or (row_of kind (with_part kind (R entries bar) p) ps).bar (length (row_of kind (with_part kind (R entries bar) p) ps).entries))) (names_of-snoc entries (entry kind (is_some bar) p)) q.2,
             ),
           )
     ]) in h refl
 
 -- parts that are read have no fault, and give what is read
-pub good-row : (kind : Kind) (entries : List Entry) (bar : Option ℕ) (ps : List (List ℕ)) (es : List Entry) (n : ℕ) → AreItems kind (names_of entries) bar ps es n
+pub good-row : (kind : Kind) (entries : List Entry) (bar : Option ℕ) (ps : List (List ℕ)) (es : List Entry) (n : ℕ) → ItemsBehind kind (names_of entries) bar ps es n
     → (first (row_checks kind (R entries bar) ps) ≡ None) × ((row_of kind (R entries bar) ps).entries ≡ entries ++ es) × (n ≡ unwrap_or (row_of kind (R entries bar) ps).bar (length (row_of kind (R entries bar) ps).entries))
 good-row kind entries bar [] es n h = (refl, sym (ap (λ x. entries ++ x) h.0 ∙ append-nil entries), h.1 ∙ ap (unwrap_or bar) (names_of-length entries))
 good-row kind entries bar (p ∷ ps) es n (inl h) =
     let w = at-bar kind entries bar p h.0 in
-    let r = good-row kind entries (Some (length entries)) ps es n (subst (λ m. AreItems kind (names_of entries) (Some m) ps es n) (names_of-length entries) h.2) in (
+    let r = good-row kind entries (Some (length entries)) ps es n (subst (λ m. ItemsBehind kind (names_of entries) (Some m) ps es n) (names_of-length entries) h.2) in (
       first-all (part_checks kind (R entries bar) p) (row_checks kind (with_part kind (R entries bar) p) ps) (w.0 ∙ ap (λ o. if is_some o then Some TwoBars else None) h.1) (ap (λ row. first (row_checks kind row ps)) w.1 ∙ r.0),
       ap (λ row. (row_of kind row ps).entries) w.1 ∙ r.1,
       r.2 ∙ ap (λ row. unwrap_or (row_of kind row ps).bar (length (row_of kind row ps).entries)) (sym w.1),
@@ -96,7 +97,7 @@ good-row kind entries bar (p ∷ ps) es n (inr h) =
     let w = at-word kind entries bar p h.3 in
     let g = good-item kind (names_of entries) (is_some bar) p h.0 h.4 h.5 h.6 in
     let ns : names_of entries ++ h.0.name ∷ [] ≡ names_of (entries ++ entry kind (is_some bar) p ∷ []) = ap (λ e. names_of entries ++ e.name ∷ []) g.0 ∙ sym (names_of-snoc entries (entry kind (is_some bar) p)) in
-    let r = good-row kind (entries ++ entry kind (is_some bar) p ∷ []) bar ps h.1 n (subst (λ ms. AreItems kind ms bar ps h.1 n) ns h.7) in (
+    let r = good-row kind (entries ++ entry kind (is_some bar) p ∷ []) bar ps h.1 n (subst (λ ms. ItemsBehind kind ms bar ps h.1 n) ns h.7) in (
       first-all (part_checks kind (R entries bar) p) (row_checks kind (with_part kind (R entries bar) p) ps) (w.0 ∙ g.1) (ap (λ row. first (row_checks kind row ps)) w.1 ∙ r.0),
       ap (λ row. (row_of kind row ps).entries) w.1 ∙ r.1 ∙ append_assoc entries (entry kind (is_some bar) p ∷ []) h.1 ∙ ap (λ e. entries ++ e ∷ h.1) (sym g.0) ∙ ap (λ x. entries ++ x) (sym h.2),
       r.2 ∙ ap (λ row. unwrap_or (row_of kind row ps).bar (length (row_of kind row ps).entries)) (sym w.1),
@@ -400,7 +401,7 @@ lines-good kind n (line ∷ lines) e s =
           let r = options-good kind (row_of kind no_row (parts line)).entries (P (row_of kind no_row (parts line))) [] [] [] (n + 1) lines (ap (λ st. fault_from kind (n + 1) st lines) (sym w) ∙ a.1) in
           let is : stage_from kind (n + 1) (with_line kind (line_number (n + 1)) no_stage line) lines ≡ S (row_of kind no_row (parts line)).entries (P (row_of kind no_row (parts line))) r.0 r.2 r.1 = ap (λ st. stage_from kind (n + 1) st lines) w ∙ r.3 in
           subst (λ (st : Stage). IsSheetFrom kind n (line ∷ lines) st.sheet st.ignored) (sym is)
-          (b.0, inr (h.0, subst (λ es. AreItems kind [] None (parts line) es (P (row_of kind no_row (parts line)))) (sym g.1) g.2, r.4))
+          (b.0, inr (h.0, behind-items kind (parts line) row.entries (P row) (subst (λ es. ItemsBehind kind [] None (parts line) es (P row)) (sym g.1) g.2), r.4))
     ]
 
 good-lines : (kind : Kind) (n : ℕ) (lines : List (List ℕ)) (sheet : Sheet) (ignored : List ℕ) → IsSheetFrom kind n lines sheet ignored
@@ -413,7 +414,7 @@ good-lines kind n (line ∷ lines) sheet ignored (z, inl (f, r)) =
       ap (λ st. stage_from kind (n + 1) st lines) w ∙ q.1,
     )
 good-lines kind n (line ∷ lines) sheet ignored (z, inr (f, items, r)) =
-    let g = good-row kind [] None (parts line) sheet.entries sheet.primaries items in
+    let g = good-row kind [] None (parts line) sheet.entries sheet.primaries (items-behind kind (parts line) sheet.entries sheet.primaries items) in
     let w : with_line kind (line_number (n + 1)) no_stage line ≡ S sheet.entries sheet.primaries [] [] [] = item-line kind (line_number (n + 1)) line f ∙ (λ i. S (g.1 i) (sym g.2 i) [] [] []) in
     let q = good-options kind sheet.entries sheet.primaries [] [] [] (n + 1) lines sheet.options ignored sheet.colours r in (
       none-both (n + 1) (first (line_checks kind no_stage line)) (fault_from kind (n + 1) (with_line kind (line_number (n + 1)) no_stage line) lines) (content-clear kind no_stage line z f g.0) (ap (λ st. fault_from kind (n + 1) st lines) w ∙ q.0),

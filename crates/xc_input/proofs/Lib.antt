@@ -23,3 +23,4 @@ pub mod KindLemmas
 pub mod CutTokens
 pub mod DecimalValues
 pub mod UseLemmas
+pub mod ItemLemmas

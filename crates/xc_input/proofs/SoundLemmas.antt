@@ -1,5 +1,6 @@
 -- The problem of a sheet is sound.
 use Rattle.std.proofs.Common.{◌≡◌, ◌≢◌, ℕ, zero, suc, ◌+◌, ◌-◌, ◌<◌, ◌≤◌, List, [], ◌∷◌, ◌++◌, Bool, true, false, nat_eq, is_none, true≢false, length, map, take, drop, get_or, All, AllPairs, refl, ap, ◌∙◌, sym, subst, arith, if◌then◌else◌, inl, inr, append_assoc}
+use Rattle.xc_input.proofs.ItemLemmas.{new-distinct}
 use Rattle.xc_input.specs.declared.problem.Bounds.{Bounds}
 use Rattle.std.proofs.lemmas.Bool.Decides.{nat_tests}
 use Rattle.std.proofs.lemmas.List.{append-nil, length-map, map-append}
@@ -25,16 +26,9 @@ use Rattle.xc_input.proofs.GrammarLemmas.{or-false}
 use Rattle.xc_input.specs.inner.EndedLines.{AreWhole}
 use Rattle.xc_input.proofs.UnbrokenLemmas.{unbroken}
 use Rattle.xc_input.proofs.ValidLemmas.{valid}
-use Rattle.xc_input.proofs.NameLemmas.{apart}
 use Rattle.xc_input.specs.Faults.{context}
 
 -- DISTINCT
-new-distinct : (earlier xs : List (List ℕ)) → AllNew earlier xs → AllPairs (λ x y. x ≢ y) earlier → AllPairs (λ x y. x ≢ y) (earlier ++ xs)
-new-distinct earlier [] h p = subst (AllPairs (λ x y. x ≢ y)) (sym (append-nil earlier)) p
-new-distinct earlier (x ∷ xs) h p =
-    subst (AllPairs (λ a b. a ≢ b)) (append_assoc earlier (x ∷ []) xs)
-    (new-distinct (earlier ++ x ∷ []) xs h.1 (all_pairs_push (λ a b. a ≢ b) earlier x p (apart earlier x h.0)))
-
 no-pairs : {X : Type 0} (R : X → X → Type 0) → AllPairs R []
 no-pairs R i j d lt within = absurd (omega (arith, within))
 

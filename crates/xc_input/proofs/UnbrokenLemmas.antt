@@ -1,5 +1,6 @@
 -- Names and colours have no white space, no NUL byte and no line feed.
-use Rattle.std.proofs.Common.{◌≡◌, ℕ, ◌+◌, List, [], ◌∷◌, ◌++◌, Option, Some, Bool, true, false, nat_eq, is_none, length, All, refl, ap, ◌∙◌, sym, subst, if◌then◌else◌, inl, inr}
+use Rattle.std.proofs.Common.{◌≡◌, ℕ, ◌+◌, List, [], ◌∷◌, ◌++◌, Option, Some, Bool, true, false, nat_eq, is_none, length, All, refl, ap, ◌∙◌, sym, subst, if◌then◌else◌, inl, inr, None}
+use Rattle.xc_input.proofs.ItemLemmas.{ItemsBehind, items-behind}
 use Rattle.std.proofs.lemmas.Bool.{eqb-true}
 use Rattle.std.proofs.lemmas.List.Elements.{All-nil, All-cons}
 use Rattle.std.proofs.lemmas.List.Folds.{list_any-append}
@@ -10,7 +11,7 @@ use Rattle.xc_input.specs.Words.{has, place}
 use Rattle.xc_input.specs.Tokens.{is_space, onto, tokens, split_bars, parts}
 use Rattle.xc_input.specs.Named.{IsUnbroken}
 use Rattle.xc_input.specs.Sheets.{Entry, Sheet, Written, names_of, with_colour, with_uses}
-use Rattle.xc_input.specs.Text.{IsEntry, AreItems, IsUse, AreOptions, IsSheetFrom}
+use Rattle.xc_input.specs.Text.{IsEntry, IsUse, AreOptions, IsSheetFrom}
 use Rattle.xc_input.proofs.SheetValidity.{IsSheetOf, so_far}
 use Rattle.xc_input.specs.inner.EndedLines.{AreWhole}
 use Rattle.xc_input.proofs.GrammarLemmas.{or-false, or-both}
@@ -79,7 +80,7 @@ module _ (p : ℕ → Bool) (lacks : (line : List ℕ) → has 0 line ≡ false 
   lack-entry kind secondary token e (n, inl h) l = subst (λ xs. list_any p xs ≡ false) h.0 l
   lack-entry kind secondary token e (n, inr h) l = lacks-behind p h.0 124 e.name (subst (λ xs. list_any p xs ≡ false) h.4 l)
 
-  lack-items : (kind : Kind) (names : List (List ℕ)) (bar : Option ℕ) (ps : List (List ℕ)) (es : List Entry) (n : ℕ) → AreItems kind names bar ps es n → AllLack p ps → AllLack p (names_of es)
+  lack-items : (kind : Kind) (names : List (List ℕ)) (bar : Option ℕ) (ps : List (List ℕ)) (es : List Entry) (n : ℕ) → ItemsBehind kind names bar ps es n → AllLack p ps → AllLack p (names_of es)
   lack-items kind names bar [] es n h l = subst (λ es. AllLack p (names_of es)) (sym h.0) tt
   lack-items kind names bar (part ∷ ps) es n (inl h) l = lack-items kind names (Some (length names)) ps es n h.2 l.1
   lack-items kind names bar (part ∷ ps) es n (inr h) l =
@@ -115,7 +116,7 @@ module _ (p : ℕ → Bool) (lacks : (line : List ℕ) → has 0 line ≡ false 
   lack-sheet kind n [] sheet ignored h w = absurd h
   lack-sheet kind n (line ∷ lines) sheet ignored (z, inl (f, r)) w = lack-sheet kind (n + 1) lines sheet ignored r w.1
   lack-sheet kind n (line ∷ lines) sheet ignored (z, inr (f, items, r)) w = (
-    lack-items kind [] _ (parts line) sheet.entries sheet.primaries items (lack-all p (tokens line) (lacks line z w.0)),
+    lack-items kind [] None (parts line) sheet.entries sheet.primaries (items-behind kind (parts line) sheet.entries sheet.primaries items) (lack-all p (tokens line) (lacks line z w.0)),
     lack-options kind (names_of sheet.entries) sheet.primaries (n + 1) 0 [] lines sheet.options ignored sheet.colours r w.1 tt,
   )
 

@@ -1,5 +1,6 @@
 -- What stands for a text is valid.
 use Rattle.std.proofs.Common.{◌≡◌, ℕ, suc, ◌+◌, ◌*◌, ◌-◌, ◌^◌, ◌<◌, ◌≤◌, List, [], ◌∷◌, ◌++◌, Option, None, Some, Bool, true, false, ◌&&◌, nat_lt, nat_le, nat_eq, ◌||◌, ◌⊎◌, is_none, unwrap_or, length, position, refl, ap, ◌∙◌, sym, subst, arith, if◌then◌else◌, inl, inr, append_assoc, length-append}
+use Rattle.xc_input.proofs.ItemLemmas.{ItemsBehind, items-behind}
 use Rattle.xc_input.proofs.UseLemmas.{UsesBehind, uses-behind}
 use Rattle.std.specs.Char.{is_ascii_digit}
 use Rattle.xc_input.proofs.DecimalValues.{value_from}
@@ -18,7 +19,7 @@ use Rattle.xc_input.proofs.TokenLemmas.{skipped-front, behind, tokens-drop_white
 use Rattle.std.proofs.lemmas.List.Sums.{sum_by-cons}
 use Rattle.xc_input.specs.Sheets.{Entry, Sheet, Written, names_of, number_uses, with_uses, with_colour, colour_number}
 use Rattle.xc_input.specs.Limits.{most_items, most_uses, greatest_bound}
-use Rattle.xc_input.specs.Text.{IsEntry, AreBounds, AreItems, IsUse, AreOptions, IsSheetFrom}
+use Rattle.xc_input.specs.Text.{IsEntry, AreBounds, IsUse, AreOptions, IsSheetFrom}
 use Rattle.xc_input.proofs.SheetValidity.{number_uses-length, IsSheetOf, AllNew, HaveBounds, IsWithin, AreWithin, AreFresh, UsesPrimary, AreValid, HaveNames, IsSoundSheet, so_far}
 use Rattle.std.specs.Str.{bytes_eq}
 use Rattle.xc_input.proofs.FaultLemmas.{some-is, names_of-length}
@@ -62,7 +63,7 @@ primary-good : (kind : Kind) (token : List ℕ) (e : Entry) → IsEntry kind fal
 primary-good kind token e (n, inl h) = let l : e.low ≡ 1 = h.1 in let k : e.high ≡ 1 = h.2 in (omega arith, omega arith, omega arith)
 primary-good kind token e (n, inr h) = (h.7, h.6, high-below h.0 e.low e.high h.5)
 
-behind-bar : (kind : Kind) (names : List (List ℕ)) (k : ℕ) (ps : List (List ℕ)) (es : List Entry) (n : ℕ) → AreItems kind names (Some k) ps es n → length names ≤ most_items → HaveBounds 0 es × (n ≡ k) × (length names + length es ≤ most_items)
+behind-bar : (kind : Kind) (names : List (List ℕ)) (k : ℕ) (ps : List (List ℕ)) (es : List Entry) (n : ℕ) → ItemsBehind kind names (Some k) ps es n → length names ≤ most_items → HaveBounds 0 es × (n ≡ k) × (length names + length es ≤ most_items)
 behind-bar kind names k [] es n h m = (subst (HaveBounds 0) (sym h.0) tt, h.1, (let z : length es ≡ 0 = ap length h.0 in omega arith))
 behind-bar kind names k (p ∷ ps) es n (inl h) m = absurd (let f : Some k ≡ None = h.1 in cc)
 behind-bar kind names k (p ∷ ps) es n (inr h) m =
@@ -73,7 +74,7 @@ behind-bar kind names k (p ∷ ps) es n (inr h) m =
     let z : length es ≡ length h.1 + 1 = ap length h.2 ∙ (let w : suc (length h.1) ≡ length h.1 + 1 = omega arith in w) in
     (subst (HaveBounds 0) (sym h.2) ((secondary-good kind p h.0 h.4).0, (secondary-good kind p h.0 h.4).1, r.0), r.1, omega arith)
 
-items-valid : (kind : Kind) (names : List (List ℕ)) (ps : List (List ℕ)) (es : List Entry) (n : ℕ) → AreItems kind names None ps es n → length names ≤ most_items
+items-valid : (kind : Kind) (names : List (List ℕ)) (ps : List (List ℕ)) (es : List Entry) (n : ℕ) → ItemsBehind kind names None ps es n → length names ≤ most_items
     → (m : ℕ) × (n ≡ length names + m) × HaveBounds m es × (length names + length es ≤ most_items)
 items-valid kind names [] es n h m = (0, h.1 ∙ (let w : length names ≡ length names + 0 = omega arith in w), subst (HaveBounds 0) (sym h.0) tt, (let z : length es ≡ 0 = ap length h.0 in omega arith))
 items-valid kind names (p ∷ ps) es n (inl h) m =
@@ -102,18 +103,18 @@ starts xs (b ∷ bs) e f =
     let g : nat_eq b 124 ≡ false = skipped-front xs (b ∷ bs) (sym e) ∙ f in
     let r = first-part xs b bs e g in (b ∷ word bs, r.0, r.1, g)
 
-from-first : (kind : Kind) (p : List ℕ) (ps : List (List ℕ)) (es : List Entry) (n : ℕ) → is_bar p ≡ false → AreItems kind [] None (p ∷ ps) es n → 1 ≤ n
+from-first : (kind : Kind) (p : List ℕ) (ps : List (List ℕ)) (es : List Entry) (n : ℕ) → is_bar p ≡ false → ItemsBehind kind [] None (p ∷ ps) es n → 1 ≤ n
 from-first kind p ps es n f (inl h) = let g : is_bar p ≡ true = h.0 in absurd (cc)
 from-first kind p ps es n f (inr h) =
     let r = items-valid kind (h.0.name ∷ []) ps h.1 n h.7 (omega arith) in
     let k : n ≡ length (h.0.name ∷ []) + r.0 = r.1 in omega arith
 
-some-primary : (kind : Kind) (line : List ℕ) (es : List Entry) (n : ℕ) → is_skipped line ≡ false → AreItems kind [] None (parts line) es n → 1 ≤ n
+some-primary : (kind : Kind) (line : List ℕ) (es : List Entry) (n : ℕ) → is_skipped line ≡ false → ItemsBehind kind [] None (parts line) es n → 1 ≤ n
 some-primary kind line es n f h =
     let s = starts line (drop_white line) refl f in
-    from-first kind s.0 s.1 es n s.3 (subst (λ ps. AreItems kind [] None ps es n) s.2 h)
+    from-first kind s.0 s.1 es n s.3 (subst (λ ps. ItemsBehind kind [] None ps es n) s.2 h)
 
-names-valid : (kind : Kind) (names : List (List ℕ)) (bar : Option ℕ) (ps : List (List ℕ)) (es : List Entry) (n : ℕ) → AreItems kind names bar ps es n → HaveNames es × AllNew names (names_of es)
+names-valid : (kind : Kind) (names : List (List ℕ)) (bar : Option ℕ) (ps : List (List ℕ)) (es : List Entry) (n : ℕ) → ItemsBehind kind names bar ps es n → HaveNames es × AllNew names (names_of es)
 names-valid kind names bar [] es n h = (subst HaveNames (sym h.0) tt, subst (λ x. AllNew names (names_of x)) (sym h.0) tt)
 names-valid kind names bar (p ∷ ps) es n (inl h) = names-valid kind names (Some (length names)) ps es n h.2
 names-valid kind names bar (p ∷ ps) es n (inr h) =
@@ -231,16 +232,17 @@ from-lines : (kind : Kind) (n : ℕ) (lines : List (List ℕ)) (sheet : Sheet) (
 from-lines kind n [] sheet ignored h = absurd h
 from-lines kind n (line ∷ lines) sheet ignored (z, inl (f, r)) = from-lines kind (n + 1) lines sheet ignored r
 from-lines kind n (line ∷ lines) sheet ignored (z, inr (f, items, r)) =
-    let v = items-valid kind [] (parts line) sheet.entries sheet.primaries items (omega arith) in
+    let read = items-behind kind (parts line) sheet.entries sheet.primaries items in
+    let v = items-valid kind [] (parts line) sheet.entries sheet.primaries read (omega arith) in
     let m : sheet.primaries ≡ v.0 = v.1 ∙ (let w : 0 + v.0 ≡ v.0 = omega arith in w) in
     let c : 0 + length sheet.entries ≤ most_items = v.3 in
     let o = options-valid kind (names_of sheet.entries) sheet.primaries (n + 1) 0 [] lines sheet.options ignored sheet.colours r (omega arith) tt in
     let d : 0 + use_count sheet.options ≤ most_uses = o.2 in
     record {
-      primary = some-primary kind line sheet.entries sheet.primaries f items;
+      primary = some-primary kind line sheet.entries sheet.primaries f read;
       bounds = subst (λ k. HaveBounds k sheet.entries) (sym m) v.2;
-      names = (names-valid kind [] None (parts line) sheet.entries sheet.primaries items).0;
-      distinct = (names-valid kind [] None (parts line) sheet.entries sheet.primaries items).1;
+      names = (names-valid kind [] None (parts line) sheet.entries sheet.primaries read).0;
+      distinct = (names-valid kind [] None (parts line) sheet.entries sheet.primaries read).1;
       few_items = omega arith;
       options = subst (λ k. AreValid k sheet.primaries (length sheet.colours) sheet.options) (names_of-length sheet.entries) o.3;
       few_uses = omega arith;

@@ -1,7 +1,7 @@
 -- THE GRAMMAR: which problem and which ignored lines a list of lines stands for.
-use Rattle.std.specs.Prelude.{◌≡◌, ◌≢◌, ℕ, ◌+◌, ◌<◌, ◌≤◌, length, List, [], ◌∷◌, ◌++◌, Bool, true, false, Option, None, Some, is_some, unwrap_or, ◌⊎◌, if◌then◌else◌, AllPairs}
+use Rattle.std.specs.Prelude.{◌≡◌, ◌≢◌, ℕ, ◌+◌, ◌<◌, ◌≤◌, length, List, [], ◌∷◌, ◌++◌, Bool, true, false, Option, None, Some, is_some, unwrap_or, ◌⊎◌, if◌then◌else◌, AllPairs, take, drop}
 use Prim.Native.Char.{code}
-use Rattle.std.specs.List.{AllZip}
+use Rattle.std.specs.List.{AllZip, before_first, after_first}
 use Rattle.xc_input.specs.declared.kind.Kind.{Kind}
 use Rattle.xc_input.specs.declared.problem.Use.{Use}
 use Rattle.xc_input.specs.Limits.{most_items, most_uses}
@@ -33,15 +33,14 @@ IsBounded kind secondary token e =
 abbrev pub IsEntry : Kind → Bool → List ℕ → Entry → Type 0
 IsEntry kind secondary token e = IsName e.name × (IsBare secondary token e ⊎ IsBounded kind secondary token e)
 
--- parts of the item line, behind items of these names and perhaps a bar with so many before it, stand for these items,
--- of which so many are primary
-abbrev pub AreItems : Kind → List (List ℕ) → Option ℕ → List (List ℕ) → List Entry → ℕ → Type 0
-AreItems kind names bar [] entries primaries = (entries ≡ []) × (primaries ≡ unwrap_or bar (length names))
-AreItems kind names bar (part ∷ parts) entries primaries =
-    ((is_bar part ≡ true) × (bar ≡ None) × AreItems kind names (Some (length names)) parts entries primaries)
-    ⊎ ((e : Entry) × (es : List Entry) × (entries ≡ e ∷ es) × (is_bar part ≡ false)
-    × IsEntry kind (is_some bar) part e × (place names e.name ≡ None) × (length names < most_items)
-    × AreItems kind (names ++ e.name ∷ []) bar parts es primaries)
+-- Parts of the item line stand for these items: those before the first bar for primary ones, of which there are so many,
+-- and those behind it for secondary ones. (Another bar stands for none: no name has one.)
+pub record AreItems (kind : Kind) (parts : List (List ℕ)) (entries : List Entry) (primaries : ℕ) : Type 0 where
+  pub count : primaries ≡ length (before_first is_bar parts)
+  pub primary : AllZip (IsEntry kind false) (before_first is_bar parts) (take primaries entries)
+  pub secondary : AllZip (IsEntry kind true) (after_first is_bar parts) (drop primaries entries)
+  pub distinct : AllPairs (λ x y. x ≢ y) (names_of entries)
+  pub few : length entries ≤ most_items
 
 -- a token of an option line stands for a use: it is a name, or a name and a colour
 abbrev pub IsUse : Context → List ℕ → Written → Type 0
@@ -81,7 +80,7 @@ abbrev pub IsSheetFrom : Kind → ℕ → List (List ℕ) → Sheet → List ℕ
 IsSheetFrom kind n [] sheet ignored = ⊥
 IsSheetFrom kind n (line ∷ lines) sheet ignored = (has 0 line ≡ false) × (
     ((is_skipped line ≡ true) × IsSheetFrom kind (n + 1) lines sheet ignored)
-    ⊎ ((is_skipped line ≡ false) × AreItems kind [] None (parts line) sheet.entries sheet.primaries
+    ⊎ ((is_skipped line ≡ false) × AreItems kind (parts line) sheet.entries sheet.primaries
     × AreOptions (context kind (names_of sheet.entries) sheet.primaries)
     (record { lines = n + 1; uses = 0; colours = [] }) lines sheet.options ignored sheet.colours))
 
