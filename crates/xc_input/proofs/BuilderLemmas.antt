@@ -1,8 +1,9 @@
 -- Steps of a draft.
-use Rattle.std.proofs.Common.{◌≡◌, ℕ, suc, ◌+◌, ◌<◌, ◌≤◌, List, [], ◌∷◌, ◌++◌, None, Some, Bool, true, false, ◌||◌, ◌&&◌, not, nat_lt, unwrap_or, length, map, position, refl, ap, ◌∙◌, sym, subst, arith, if◌then◌else◌, Vec, Global, length-append}
+use Rattle.std.proofs.Common.{◌≡◌, ℕ, ◌+◌, ◌<◌, ◌≤◌, List, [], ◌∷◌, ◌++◌, None, Some, Bool, true, false, ◌&&◌, nat_lt, unwrap_or, length, map, refl, ap, ◌∙◌, sym, subst, arith, if◌then◌else◌, Vec, Global, length-append}
+use Rattle.xc_input.proofs.ColourLemmas.{last-position}
+use Rattle.xc_input.specs.inner.ColourNumbers.{numbered}
 use Rattle.std.proofs.lemmas.Bool.Decides.{nat_tests}
 use Rattle.std.proofs.lemmas.Slice.Eq.{bytes_eq-Decides}
-use Rattle.std.specs.List.{list_any, position_or_len}
 use Rattle.std.specs.Str.{bytes_eq}
 use Rattle.xc_input.specs.Problem.{use_count}
 use Rattle.xc_input.specs.declared.kind.Kind.{Kind}
@@ -12,7 +13,7 @@ use Rattle.xc_input.specs.declared.option_line.WrittenUse.{WrittenUse}
 use Rattle.xc_input.specs.declared.builder.ProblemBuilder.{ProblemBuilder}
 use Rattle.xc_input.specs.Words.{place}
 use Rattle.xc_input.specs.Tokens.{tokens, parts}
-use Rattle.xc_input.specs.Sheets.{names_of, colour_number, number_uses, with_uses}
+use Rattle.xc_input.specs.Sheets.{names_of, colour_number, with_uses}
 use Rattle.xc_input.specs.Faults.{first, option_checks, has_primary, row_checks, no_row, context, written}
 use Rattle.xc_input.specs.Limits.{most_uses, most_items}
 use Rattle.xc_input.specs.Stages.{content_checks, with_option, written_by}
@@ -21,24 +22,11 @@ use Rattle.xc_input.specs.inner.Stored.{key_names}
 use Rattle.xc_input.specs.inner.Flat.{pieces}
 use Rattle.xc_input.specs.inner.Vectors.{AreOptionStarts}
 use Rattle.std.proofs.lemmas.List.{length-map}
-use Rattle.xc_input.proofs.SheetValidity.{number_uses-length}
+use Rattle.xc_input.proofs.SheetValidity.{numbered-length}
 use Rattle.xc_input.proofs.FlatParts.{option-more, all-uses}
-use Rattle.xc_input.proofs.FaultLemmas.{first-back, no-place, map-length, names_of-length}
+use Rattle.xc_input.proofs.FaultLemmas.{first-back, map-length, names_of-length}
 
 -- the number of a colour that was added last
-last-or-len : {A : Type 0} (p : A → Bool) (xs : List A) (x : A) → list_any p xs ≡ false → p x ≡ true → position_or_len p (xs ++ x ∷ []) ≡ length xs
-last-or-len p [] x e f = ap (λ t. if not t then 1 + 0 else 0) f
-last-or-len p (y ∷ ys) x e f =
-    let P : Bool → Type 0 = λ t. (t || list_any p ys) ≡ false → (if not t then 1 + position_or_len p (ys ++ x ∷ []) else 0) ≡ suc (length ys) in
-    let h : P (p y) = (elim (p y) as P [ true ↦ λ g. absurd (cc) | false ↦ λ g. let r : position_or_len p (ys ++ x ∷ []) ≡ length ys = last-or-len p ys x g f in omega arith ]) in h e
-
-last-position : {A : Type 0} (p : A → Bool) (xs : List A) (x : A) → position p xs ≡ None → p x ≡ true → position p (xs ++ x ∷ []) ≡ Some (length xs)
-last-position p xs x e f =
-    let at : position_or_len p (xs ++ x ∷ []) ≡ length xs = last-or-len p xs x (no-place p xs e) f in
-    let all : length (xs ++ x ∷ []) ≡ length xs + 1 = length-append xs (x ∷ []) in
-    let t : nat_lt (position_or_len p (xs ++ x ∷ [])) (length (xs ++ x ∷ [])) ≡ true = grind (arith, nat_tests) in
-    ap (λ b. if b then Some (position_or_len p (xs ++ x ∷ [])) else None) t ∙ ap Some at
-
 pub new-number : (old new : List (List ℕ)) (colour : List ℕ) (n : ℕ) → 0 < length colour → place old colour ≡ None → new ≡ old ++ colour ∷ [] → n ≡ length old → n + 1 ≡ colour_number new colour
 new-number old new [] n h e f g = absurd (omega arith)
 new-number old new (b ∷ bs) n h e f g =
@@ -61,10 +49,10 @@ keys-few d s =
     let g : length (map entry_of d.items.items) ≡ length d.items.items = map-length entry_of d.items.items in
     let m : length d.items.items ≤ most_items = s.few_items in omega arith
 
-pub uses-length : (old new : List Use) (cs : List (List ℕ)) (ps : List WrittenUse) → new ≡ old ++ number_uses cs (map written_of ps) → length new ≡ length old + length ps
+pub uses-length : (old new : List Use) (cs : List (List ℕ)) (ps : List WrittenUse) → new ≡ old ++ numbered cs (map written_of ps) → length new ≡ length old + length ps
 uses-length old new cs ps e =
-    let f : length (number_uses cs (map written_of ps)) ≡ length ps = number_uses-length cs (map written_of ps) ∙ map-length written_of ps in
-    ap length e ∙ length-append old (number_uses cs (map written_of ps)) ∙ ap (λ n. length old + n) f
+    let f : length (numbered cs (map written_of ps)) ≡ length ps = numbered-length cs (map written_of ps) ∙ map-length written_of ps in
+    ap length e ∙ length-append old (numbered cs (map written_of ps)) ∙ ap (λ n. length old + n) f
 
 no-and : (b : Bool) → (if b && false then Some TooManyUses else None) ≡ None
 no-and true = refl
@@ -102,16 +90,16 @@ module _ (kind : Kind) (d : ProblemBuilder) (line : List ℕ) (s : IsBuilder d) 
       fits h = whole-line ∙ (let z : nat_lt most_uses (length d.uses.items + length ps) ≡ false = grind (arith, nat_tests) in ap (λ c. if b && c then Some TooManyUses else None) z ∙ no-and b)
 
     module _ (b : Bool) (p : b ≡ has_primary d.primary (map written_of ps)) (e : b ≡ true) (count : ℕ) (d' : ProblemBuilder) (same : (d'.started ≡ d.started) × (d'.names ≡ d.names) × (d'.items ≡ d.items) × (d'.primary ≡ d.primary) × (d'.ignored ≡ d.ignored))
-        (uses : d'.uses.items ≡ d.uses.items ++ number_uses (key_names d.colours.keys) (map written_of ps)) (colours : key_names d'.colours.keys ≡ with_uses (key_names d.colours.keys) (map written_of ps))
+        (uses : d'.uses.items ≡ d.uses.items ++ numbered (key_names d.colours.keys) (map written_of ps)) (colours : key_names d'.colours.keys ≡ with_uses (key_names d.colours.keys) (map written_of ps))
         (marks : length d'.marks.items ≡ length d'.items.items) (unmarked : AreMarks d'.marks.items []) (few : length (key_names d'.colours.keys) ≤ length d'.uses.items) (starts : d'.starts.items ≡ d.starts.items ++ length d'.uses.items ∷ []) (room : length d.uses.items + length ps ≤ most_uses) where
       new-length : length d'.uses.items ≡ length d.uses.items + length ps
       new-length = uses-length d.uses.items d'.uses.items (key_names d.colours.keys) ps uses
 
-      cut : AreOptionStarts (d.starts.items ++ length d'.uses.items ∷ []) (d.uses.items ++ number_uses (key_names d.colours.keys) (map written_of ps))
-          × (pieces (d.starts.items ++ length d'.uses.items ∷ []) (d.uses.items ++ number_uses (key_names d.colours.keys) (map written_of ps)) ≡ pieces d.starts.items d.uses.items ++ number_uses (key_names d.colours.keys) (map written_of ps) ∷ [])
+      cut : AreOptionStarts (d.starts.items ++ length d'.uses.items ∷ []) (d.uses.items ++ numbered (key_names d.colours.keys) (map written_of ps))
+          × (pieces (d.starts.items ++ length d'.uses.items ∷ []) (d.uses.items ++ numbered (key_names d.colours.keys) (map written_of ps)) ≡ pieces d.starts.items d.uses.items ++ numbered (key_names d.colours.keys) (map written_of ps) ∷ [])
       cut =
-          let f : length (number_uses (key_names d.colours.keys) (map written_of ps)) ≡ length ps = number_uses-length (key_names d.colours.keys) (map written_of ps) ∙ map-length written_of ps in
-          option-more d.starts.items d.uses.items (number_uses (key_names d.colours.keys) (map written_of ps)) (length d'.uses.items) (s.starts t) (let n : length d'.uses.items ≡ length d.uses.items + length ps = new-length in omega arith)
+          let f : length (numbered (key_names d.colours.keys) (map written_of ps)) ≡ length ps = numbered-length (key_names d.colours.keys) (map written_of ps) ∙ map-length written_of ps in
+          option-more d.starts.items d.uses.items (numbered (key_names d.colours.keys) (map written_of ps)) (length d'.uses.items) (s.starts t) (let n : length d'.uses.items ≡ length d.uses.items + length ps = new-length in omega arith)
 
       pub taken : IsBuilder d' × (stage_of_builder d' ≡ with_option count (stage_of_builder d) (written_by (sheet_of_builder d) line))
       taken = (
@@ -141,7 +129,7 @@ module _ (kind : Kind) (d : ProblemBuilder) (line : List ℕ) (s : IsBuilder d) 
               sheet = record {
                 entries = map entry_of d.items.items;
                 primaries = d.primary;
-                options = pieces d.starts.items d.uses.items ++ number_uses (key_names d.colours.keys) us ∷ [];
+                options = pieces d.starts.items d.uses.items ++ numbered (key_names d.colours.keys) us ∷ [];
                 colours = with_uses (key_names d.colours.keys) us;
               };
               ignored = d.ignored.items;
@@ -151,7 +139,7 @@ module _ (kind : Kind) (d : ProblemBuilder) (line : List ℕ) (s : IsBuilder d) 
               sheet = record {
                 entries = map entry_of d.items.items;
                 primaries = d.primary;
-                options = pieces d.starts.items d.uses.items ++ number_uses (key_names d.colours.keys) (written_by (sheet_of_builder d) line) ∷ [];
+                options = pieces d.starts.items d.uses.items ++ numbered (key_names d.colours.keys) (written_by (sheet_of_builder d) line) ∷ [];
                 colours = with_uses (key_names d.colours.keys) (written_by (sheet_of_builder d) line);
               };
               ignored = d.ignored.items;

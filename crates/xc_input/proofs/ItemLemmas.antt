@@ -1,5 +1,5 @@
 -- Items of the item line, each behind those before it.
-use Rattle.std.proofs.Common.{◌≡◌, ◌≢◌, ◌⊎◌, ℕ, zero, suc, ◌+◌, ◌<◌, ◌≤◌, List, [], ◌∷◌, ◌++◌, Option, None, Some, Bool, true, false, cond, not, nat_eq, nat_lt, is_some, unwrap_or, length, take, drop, get_or, refl, sym, ap, subst, ◌∙◌, append_assoc, append-nil, length-append, arith, if◌then◌else◌, All, AllPairs, inl, inr}
+use Rattle.std.proofs.Common.{◌≡◌, ◌≢◌, ◌⊎◌, ℕ, suc, ◌+◌, ◌<◌, ◌≤◌, List, [], ◌∷◌, ◌++◌, Option, None, Some, Bool, true, false, cond, not, nat_eq, nat_lt, is_some, unwrap_or, length, take, drop, get_or, refl, sym, ap, subst, ◌∙◌, append_assoc, append-nil, length-append, arith, if◌then◌else◌, All, AllPairs, inl, inr}
 use Rattle.std.proofs.lemmas.Bool.Decides.{nat_tests}
 use Rattle.std.proofs.lemmas.List.{take-append-drop}
 use Rattle.std.proofs.lemmas.List.Folds.{list_any-append}
@@ -115,15 +115,15 @@ front kind names (p ∷ ps) (e ∷ first) others y z f m =
     let h : P (is_bar p) = (elim (is_bar p) as P [
       | true ↦ λ g y z. absurd y
       | false ↦ λ g y z. inr (
-          e,
-          first ++ others,
-          refl,
-          g,
-          y.0,
-          f.0,
-          omega (arith, m),
-          subst (ItemsBehind kind (names ++ e.name ∷ []) None ps (first ++ others)) count (front kind (names ++ e.name ∷ []) ps first others y.1 z f.1 (omega (arith, m, l))),
-        )
+        e,
+        first ++ others,
+        refl,
+        g,
+        y.0,
+        f.0,
+        omega (arith, m),
+        subst (ItemsBehind kind (names ++ e.name ∷ []) None ps (first ++ others)) count (front kind (names ++ e.name ∷ []) ps first others y.1 z f.1 (omega (arith, m, l))),
+      )
     ]) in
     h refl (subst (λ fs. AllZip (IsEntry kind false) fs (e ∷ first)) (before-cons p ps (is_bar p) refl) y) (subst (λ bs. AllZip (IsEntry kind true) bs others) (after-cons p ps (is_bar p) refl) z)
 

@@ -1,5 +1,5 @@
 -- What stands for a problem as one kind stands for it as each kind that allows more.
-use Rattle.std.proofs.Common.{◌≡◌, ℕ, ◌+◌, List, [], ◌∷◌, ◌++◌, Option, None, Some, is_some, Bool, true, false, length, inl, inr, take, drop}
+use Rattle.std.proofs.Common.{◌≡◌, ℕ, ◌+◌, List, [], ◌∷◌, Bool, true, false, length, inl, inr, take, drop}
 use Rattle.std.specs.List.{AllZip, before_first, after_first}
 use Rattle.xc_input.specs.declared.kind.Kind.{Kind}
 use Rattle.xc_input.specs.declared.problem.Use.{Use}

@@ -1,5 +1,6 @@
 -- The grammar relates lines to a problem exactly where they have no fault, and then to the one that the lines give.
 use Rattle.std.proofs.Common.{◌≡◌, ℕ, ◌+◌, ◌<◌, ◌≤◌, List, [], ◌∷◌, ◌++◌, Option, None, Some, Bool, true, false, ◌&&◌, not, nat_lt, nat_eq, is_none, is_some, unwrap_or, length, refl, ap, ◌∙◌, sym, subst, arith, if◌then◌else◌, inl, inr, ◌⊎◌, append_assoc, map}
+use Rattle.xc_input.specs.inner.ColourNumbers.{numbered}
 use Rattle.xc_input.proofs.ItemLemmas.{ItemsBehind, items-behind, behind-items}
 use Rattle.xc_input.proofs.UseLemmas.{UsesBehind, uses-behind, behind-uses}
 use Rattle.std.proofs.lemmas.Bool.Decides.{nat_tests}
@@ -13,14 +14,14 @@ use Rattle.xc_input.specs.declared.problem.Use.{Use}
 use Rattle.xc_input.specs.Words.{has, before, after, place}
 use Rattle.xc_input.specs.Tokens.{tokens, parts, is_bar, is_skipped}
 use Rattle.std.proofs.lemmas.List.Sums.{sum_by-append}
-use Rattle.xc_input.specs.Sheets.{Entry, Sheet, Written, names_of, number_uses, with_uses}
+use Rattle.xc_input.specs.Sheets.{Entry, Sheet, Written, names_of, with_uses}
 use Rattle.xc_input.specs.Faults.{first, is_plain, name_checks, item_checks, entry, Row, no_row, part_checks, with_part, row_checks, row_of, item_number, is_bad_colour, token_checks, option_checks, written, has_primary, context}
 use Rattle.xc_input.specs.Limits.{most_uses}
 use Rattle.xc_input.specs.Stages.{Stage, no_stage, content_checks, line_checks, with_option, with_line, line_number, fault_from, stage_from, stage_of, line_fault, first_fault}
 use Rattle.xc_input.proofs.ReadLemmas.{fault_or, end_fault}
 use Rattle.xc_input.specs.Named.{IsName, IsColour}
 use Rattle.xc_input.specs.Text.{IsUse, AreUses, AreOptions, IsSheetFrom}
-use Rattle.xc_input.proofs.SheetValidity.{number_uses-length, IsSheetOf, so_far}
+use Rattle.xc_input.proofs.SheetValidity.{numbered-length, IsSheetOf, so_far}
 use Rattle.xc_input.proofs.FaultLemmas.{some-is, first-all, names_of-snoc, names_of-length}
 use Rattle.xc_input.proofs.GrammarLemmas.{split, head, cons, or-false, or-both, and-false, not-false, name-good, good-name, cut-is, no-cut, cut-at, item-good, good-item}
 use Rattle.xc_input.proofs.OptionLemmas.{none-after}
@@ -236,14 +237,14 @@ module _ (kind : Kind) (entries : List Entry) (primaries : ℕ) where
   skips m options colours ignored line f = ap (λ t. if t then S entries primaries options colours ignored else with_option m (S entries primaries options colours ignored) (lineuses line)) f
 
   keeps : (m : ℕ) (options : List (List Use)) (colours : List (List ℕ)) (ignored : List ℕ) (line : List ℕ) → is_skipped line ≡ false → has_primary primaries (lineuses line) ≡ true
-      → with_line kind m (S entries primaries options colours ignored) line ≡ S entries primaries (options ++ number_uses colours (lineuses line) ∷ []) (with_uses colours (lineuses line)) ignored
+      → with_line kind m (S entries primaries options colours ignored) line ≡ S entries primaries (options ++ numbered colours (lineuses line) ∷ []) (with_uses colours (lineuses line)) ignored
   keeps m options colours ignored line f g = ap (λ t. if t then S entries primaries options colours ignored else with_option m (S entries primaries options colours ignored) (lineuses line)) f
-      ∙ ap (λ t. if t then S entries primaries (options ++ number_uses colours (lineuses line) ∷ []) (with_uses colours (lineuses line)) ignored else S entries primaries options colours (ignored ++ m ∷ [])) g
+      ∙ ap (λ t. if t then S entries primaries (options ++ numbered colours (lineuses line) ∷ []) (with_uses colours (lineuses line)) ignored else S entries primaries options colours (ignored ++ m ∷ [])) g
 
   drops : (m : ℕ) (options : List (List Use)) (colours : List (List ℕ)) (ignored : List ℕ) (line : List ℕ) → is_skipped line ≡ false → has_primary primaries (lineuses line) ≡ false
       → with_line kind m (S entries primaries options colours ignored) line ≡ S entries primaries options colours (ignored ++ m ∷ [])
   drops m options colours ignored line f g = ap (λ t. if t then S entries primaries options colours ignored else with_option m (S entries primaries options colours ignored) (lineuses line)) f
-      ∙ ap (λ t. if t then S entries primaries (options ++ number_uses colours (lineuses line) ∷ []) (with_uses colours (lineuses line)) ignored else S entries primaries options colours (ignored ++ m ∷ [])) g
+      ∙ ap (λ t. if t then S entries primaries (options ++ numbered colours (lineuses line) ∷ []) (with_uses colours (lineuses line)) ignored else S entries primaries options colours (ignored ++ m ∷ [])) g
 
   abbrev IsRest : List (List Use) → List (List ℕ) → List ℕ → ℕ → List (List ℕ) → Stage → Type 0
   IsRest options colours ignored n lines stage =
@@ -260,8 +261,8 @@ module _ (kind : Kind) (entries : List Entry) (primaries : ℕ) where
       let g : nat_lt most_uses (use_count options + length (tokens line)) ≡ false = grind (arith, nat_tests) in
       ap (λ t. has_primary primaries (lineuses line) && t) g ∙ and-false (has_primary primaries (lineuses line))
 
-  count-next : (options : List (List Use)) (colours : List (List ℕ)) (line : List ℕ) → use_count (options ++ number_uses colours (lineuses line) ∷ []) ≡ use_count options + length (lineuses line)
-  count-next options colours line = count-snoc options (number_uses colours (lineuses line)) ∙ ap (λ n. use_count options + n) (number_uses-length colours (lineuses line))
+  count-next : (options : List (List Use)) (colours : List (List ℕ)) (line : List ℕ) → use_count (options ++ numbered colours (lineuses line) ∷ []) ≡ use_count options + length (lineuses line)
+  count-next options colours line = count-snoc options (numbered colours (lineuses line)) ∙ ap (λ n. use_count options + n) (numbered-length colours (lineuses line))
 
   -- one line behind the item line, before others with no fault
   after-skip : (options : List (List Use)) (colours : List (List ℕ)) (ignored : List ℕ) (n : ℕ) (line : List ℕ) (lines : List (List ℕ)) → has 0 line ≡ false → is_skipped line ≡ true
@@ -284,13 +285,13 @@ module _ (kind : Kind) (entries : List Entry) (primaries : ℕ) where
 
   after-keep : (options : List (List Use)) (colours : List (List ℕ)) (ignored : List ℕ) (n : ℕ) (line : List ℕ) (lines : List (List ℕ)) → has 0 line ≡ false → is_skipped line ≡ false → AreUses (context kind names primaries) (tokens line) (lineuses line)
       → has_primary primaries (lineuses line) ≡ true → use_count options + length (lineuses line) ≤ most_uses
-      → IsRest (options ++ number_uses colours (lineuses line) ∷ []) (with_uses colours (lineuses line)) ignored (n + 1) lines (stage_from kind (n + 1) (S entries primaries (options ++ number_uses colours (lineuses line) ∷ []) (with_uses colours (lineuses line)) ignored) lines)
+      → IsRest (options ++ numbered colours (lineuses line) ∷ []) (with_uses colours (lineuses line)) ignored (n + 1) lines (stage_from kind (n + 1) (S entries primaries (options ++ numbered colours (lineuses line) ∷ []) (with_uses colours (lineuses line)) ignored) lines)
       → IsRest options colours ignored n (line ∷ lines) (stage_from kind (n + 1) (with_line kind (line_number (n + 1)) (S entries primaries options colours ignored) line) lines)
   after-keep options colours ignored n line lines z f u g room r = (
-    number_uses colours (lineuses line) ∷ r.0,
+    numbered colours (lineuses line) ∷ r.0,
     r.1,
     r.2,
-    ap (λ st. stage_from kind (n + 1) st lines) (keeps (line_number (n + 1)) options colours ignored line f g) ∙ r.3 ∙ ap (λ os. S entries primaries os r.2 (ignored ++ r.1)) (append_assoc options (number_uses colours (lineuses line) ∷ []) r.0),
+    ap (λ st. stage_from kind (n + 1) st lines) (keeps (line_number (n + 1)) options colours ignored line f g) ∙ r.3 ∙ ap (λ os. S entries primaries os r.2 (ignored ++ r.1)) (append_assoc options (numbered colours (lineuses line) ∷ []) r.0),
     (
       z,
       inr (
@@ -324,7 +325,7 @@ module _ (kind : Kind) (entries : List Entry) (primaries : ℕ) where
             let s = split (option_checks (context kind names primaries) [] (tokens line)) (whole options line) k in
             let w = head TooManyUses (has_primary primaries (lineuses line) && nat_lt most_uses (use_count options + length (tokens line))) [] s.1 in
             after-keep options colours ignored n line lines b.0 f (behind-uses (context kind names primaries) (tokens line) (lineuses line) (uses-good kind names primaries [] (tokens line) s.0)) g (room-of options line g w.0)
-            (options-good (options ++ number_uses colours (lineuses line) ∷ []) (with_uses colours (lineuses line)) ignored (n + 1) lines (ap (λ st. fault_from kind (n + 1) st lines) (sym (keeps (line_number (n + 1)) options colours ignored line f g)) ∙ a.1))
+            (options-good (options ++ numbered colours (lineuses line) ∷ []) (with_uses colours (lineuses line)) ignored (n + 1) lines (ap (λ st. fault_from kind (n + 1) st lines) (sym (keeps (line_number (n + 1)) options colours ignored line f g)) ∙ a.1))
         | false ↦ λ g f k.
             let s = split (option_checks (context kind names primaries) [] (tokens line)) (whole options line) k in
             after-drop options colours ignored n line lines b.0 f (behind-uses (context kind names primaries) (tokens line) (lineuses line) (uses-good kind names primaries [] (tokens line) s.0)) g
@@ -362,16 +363,16 @@ module _ (kind : Kind) (entries : List Entry) (primaries : ℕ) where
   good-options options colours ignored n (line ∷ lines) os ig cs (z, inr (us, f, u, inr (others, prim, room, o, r))) =
       let v = good-uses kind names primaries [] (tokens line) us (uses-behind (context kind names primaries) (tokens line) us u) in
       let g : has_primary primaries (lineuses line) ≡ true = ap (has_primary primaries) (sym v.0) ∙ prim in
-      let r' : AreOptions (context kind names primaries) (so_far (n + 1) (use_count (options ++ number_uses colours (lineuses line) ∷ [])) (with_uses colours (lineuses line))) lines others ig cs =
+      let r' : AreOptions (context kind names primaries) (so_far (n + 1) (use_count (options ++ numbered colours (lineuses line) ∷ [])) (with_uses colours (lineuses line))) lines others ig cs =
       subst (λ c. AreOptions (context kind names primaries) (so_far (n + 1) c (with_uses colours (lineuses line))) lines others ig cs) (sym (count-next options colours line))
       (subst (λ x. AreOptions (context kind names primaries) (so_far (n + 1) (use_count options + length x) (with_uses colours x)) lines others ig cs) v.0 r) in
-      let q = good-options (options ++ number_uses colours (lineuses line) ∷ []) (with_uses colours (lineuses line)) ignored (n + 1) lines others ig cs r' in
+      let q = good-options (options ++ numbered colours (lineuses line) ∷ []) (with_uses colours (lineuses line)) ignored (n + 1) lines others ig cs r' in
       let w = keeps (line_number (n + 1)) options colours ignored line f g in (
         none-both (n + 1) (first (line_checks kind (S entries primaries options colours ignored) line)) (fault_from kind (n + 1) (with_line kind (line_number (n + 1)) (S entries primaries options colours ignored) line) lines)
             (content-clear kind (S entries primaries options colours ignored) line z f (first-all (option_checks (context kind names primaries) [] (tokens line)) (whole options line) v.1
             (cons TooManyUses (has_primary primaries (lineuses line) && nat_lt most_uses (use_count options + length (tokens line))) [] (no-room options line (subst (λ x. use_count options + length x ≤ most_uses) v.0 room)) refl)))
             (ap (λ st. fault_from kind (n + 1) st lines) w ∙ q.0),
-        ap (λ st. stage_from kind (n + 1) st lines) w ∙ q.1 ∙ ap (λ x. S entries primaries x cs (ignored ++ ig)) (append_assoc options (number_uses colours (lineuses line) ∷ []) others ∙ ap (λ x. options ++ number_uses colours x ∷ others) (sym v.0) ∙ ap (λ x. options ++ x) (sym o)),
+        ap (λ st. stage_from kind (n + 1) st lines) w ∙ q.1 ∙ ap (λ x. S entries primaries x cs (ignored ++ ig)) (append_assoc options (numbered colours (lineuses line) ∷ []) others ∙ ap (λ x. options ++ numbered colours x ∷ others) (sym v.0) ∙ ap (λ x. options ++ x) (sym o)),
       )
 
 -- THE WHOLE TEXT

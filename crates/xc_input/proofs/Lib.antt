@@ -24,3 +24,4 @@ pub mod CutTokens
 pub mod DecimalValues
 pub mod UseLemmas
 pub mod ItemLemmas
+pub mod ColourLemmas

@@ -1,5 +1,6 @@
 -- A sheet that is valid and within the limits.
-use Rattle.std.specs.Prelude.{◌≡◌, ℕ, zero, suc, ◌≤◌, length, List, [], ◌∷◌, ◌++◌, false, None, ◌⊎◌, nat_eq}
+use Rattle.std.specs.Prelude.{◌≡◌, ℕ, zero, suc, ◌≤◌, length, List, [], ◌∷◌, ◌++◌, false, None, ◌⊎◌, nat_eq, map}
+use Rattle.xc_input.specs.inner.ColourNumbers.{numbered}
 use Rattle.std.proofs.Common.{refl, ap}
 use Rattle.std.specs.List.{list_any}
 use Rattle.xc_input.specs.Problem.{use_count}
@@ -7,7 +8,7 @@ use Rattle.xc_input.specs.declared.kind.Kind.{Kind}
 use Rattle.xc_input.specs.declared.problem.Use.{Use}
 use Rattle.xc_input.specs.Text.{SoFar, IsSheetFrom}
 use Rattle.xc_input.specs.Words.{place}
-use Rattle.xc_input.specs.Sheets.{Entry, Sheet, Written, names_of, with_colour, number_uses}
+use Rattle.xc_input.specs.Sheets.{Entry, Sheet, Written, names_of, with_uses, colour_number}
 use Rattle.xc_input.specs.Named.{IsName}
 use Rattle.xc_input.specs.Limits.{most_items, most_uses, greatest_bound}
 
@@ -68,6 +69,9 @@ pub record IsSoundSheet (p : Sheet) : Type 0 where
   pub colours : AllNew [] p.colours
 
 -- an option keeps its number of uses
-pub number_uses-length : (colours : List (List ℕ)) (us : List Written) → length (number_uses colours us) ≡ length us
-number_uses-length colours [] = refl
-number_uses-length colours (u ∷ us) = ap suc (number_uses-length (with_colour colours u.colour) us)
+pub numbered-length : (colours : List (List ℕ)) (us : List Written) → length (numbered colours us) ≡ length us
+numbered-length colours us = each-once (λ u. record { item = u.item; colour = colour_number (with_uses colours us) u.colour }) us
+  where
+    each-once : (f : Written → Use) (us : List Written) → length (map f us) ≡ length us
+    each-once f [] = refl
+    each-once f (u ∷ us) = ap suc (each-once f us)

@@ -1,5 +1,7 @@
 -- What stands for a text is valid.
 use Rattle.std.proofs.Common.{◌≡◌, ℕ, suc, ◌+◌, ◌*◌, ◌-◌, ◌^◌, ◌<◌, ◌≤◌, List, [], ◌∷◌, ◌++◌, Option, None, Some, Bool, true, false, ◌&&◌, nat_lt, nat_le, nat_eq, ◌||◌, ◌⊎◌, is_none, unwrap_or, length, position, refl, ap, ◌∙◌, sym, subst, arith, if◌then◌else◌, inl, inr, append_assoc, length-append}
+use Rattle.xc_input.proofs.ColourLemmas.{in_turn}
+use Rattle.xc_input.specs.inner.ColourNumbers.{numbered, numbered_in_turn}
 use Rattle.xc_input.proofs.ItemLemmas.{ItemsBehind, items-behind}
 use Rattle.xc_input.proofs.UseLemmas.{UsesBehind, uses-behind}
 use Rattle.std.specs.Char.{is_ascii_digit}
@@ -17,10 +19,10 @@ use Rattle.xc_input.specs.Tokens.{tokens, parts, is_bar, is_skipped, split_bars,
 use Rattle.xc_input.specs.inner.Fronts.{drop_white, word}
 use Rattle.xc_input.proofs.TokenLemmas.{skipped-front, behind, tokens-drop_white, tokens-first, drop_white-first}
 use Rattle.std.proofs.lemmas.List.Sums.{sum_by-cons}
-use Rattle.xc_input.specs.Sheets.{Entry, Sheet, Written, names_of, number_uses, with_uses, with_colour, colour_number}
+use Rattle.xc_input.specs.Sheets.{Entry, Sheet, Written, names_of, with_uses, with_colour, colour_number}
 use Rattle.xc_input.specs.Limits.{most_items, most_uses, greatest_bound}
 use Rattle.xc_input.specs.Text.{IsEntry, AreBounds, IsUse, AreOptions, IsSheetFrom}
-use Rattle.xc_input.proofs.SheetValidity.{number_uses-length, IsSheetOf, AllNew, HaveBounds, IsWithin, AreWithin, AreFresh, UsesPrimary, AreValid, HaveNames, IsSoundSheet, so_far}
+use Rattle.xc_input.proofs.SheetValidity.{numbered-length, IsSheetOf, AllNew, HaveBounds, IsWithin, AreWithin, AreFresh, UsesPrimary, AreValid, HaveNames, IsSoundSheet, so_far}
 use Rattle.std.specs.Str.{bytes_eq}
 use Rattle.xc_input.proofs.FaultLemmas.{some-is, names_of-length}
 use Rattle.xc_input.proofs.GrammarLemmas.{and-true}
@@ -192,22 +194,22 @@ use-within kind names primaries token u cs k (name, i, n, p, q, inr h) l =
     (omega arith, omega arith, (λ w. absurd (omega arith)), l)
 
 uses-valid : (kind : Kind) (names : List (List ℕ)) (primaries : ℕ) (seen : List ℕ) (ts : List (List ℕ)) (us : List Written) (cs : List (List ℕ)) (k : ℕ) → UsesBehind (context kind names primaries) seen ts us → length (with_uses cs us) ≤ k
-    → AreWithin (length names) primaries k (number_uses cs us) × AreFresh seen (number_uses cs us)
-uses-valid kind names primaries seen [] us cs k h l = (subst (λ x. AreWithin (length names) primaries k (number_uses cs x)) (sym h) tt, subst (λ x. AreFresh seen (number_uses cs x)) (sym h) tt)
+    → AreWithin (length names) primaries k (numbered_in_turn cs us) × AreFresh seen (numbered_in_turn cs us)
+uses-valid kind names primaries seen [] us cs k h l = (subst (λ x. AreWithin (length names) primaries k (numbered_in_turn cs x)) (sym h) tt, subst (λ x. AreFresh seen (numbered_in_turn cs x)) (sym h) tt)
 uses-valid kind names primaries seen (t ∷ ts) us cs k h l =
     let u : Written = h.0 in
     let w : length (with_uses (with_colour cs h.0.colour) h.1) ≤ k = subst (λ x. length (with_uses cs x) ≤ k) h.2 l in
     let r = uses-valid kind names primaries (seen ++ h.0.item ∷ []) ts h.1 (with_colour cs h.0.colour) k h.5 w in
     let a : length (with_colour cs h.0.colour) ≤ length (with_uses (with_colour cs h.0.colour) h.1) = colours-grow (with_colour cs h.0.colour) h.1 in
     let b : colour_number (with_colour cs h.0.colour) h.0.colour ≤ length (with_colour cs h.0.colour) = number-within cs h.0.colour in (
-      subst (λ x. AreWithin (length names) primaries k (number_uses cs x)) (sym h.2) (use-within kind names primaries t h.0 (with_colour cs h.0.colour) k h.3 (omega arith), r.0),
-      subst (λ x. AreFresh seen (number_uses cs x)) (sym h.2) (h.4, r.1),
+      subst (λ x. AreWithin (length names) primaries k (numbered_in_turn cs x)) (sym h.2) (use-within kind names primaries t h.0 (with_colour cs h.0.colour) k h.3 (omega arith), r.0),
+      subst (λ x. AreFresh seen (numbered_in_turn cs x)) (sym h.2) (h.4, r.1),
     )
 
-primary-kept : (primaries : ℕ) (us : List Written) (cs : List (List ℕ)) → has_primary primaries us ≡ true → UsesPrimary primaries (number_uses cs us)
+primary-kept : (primaries : ℕ) (us : List Written) (cs : List (List ℕ)) → has_primary primaries us ≡ true → UsesPrimary primaries (numbered_in_turn cs us)
 primary-kept primaries [] cs h = absurd (cc)
 primary-kept primaries (u ∷ us) cs h =
-    let P : Bool → Type 0 = λ t. nat_le u.item primaries ≡ t → (t || has_primary primaries us) ≡ true → (u.item ≤ primaries) ⊎ UsesPrimary primaries (number_uses (with_colour cs u.colour) us) in
+    let P : Bool → Type 0 = λ t. nat_le u.item primaries ≡ t → (t || has_primary primaries us) ≡ true → (u.item ≤ primaries) ⊎ UsesPrimary primaries (numbered_in_turn (with_colour cs u.colour) us) in
     let g : P (nat_le u.item primaries) = (elim (nat_le u.item primaries) as P [ true ↦ λ e f. inl (grind (arith, nat_tests)) | false ↦ λ e f. inr (primary-kept primaries us (with_colour cs u.colour) f) ]) in g refl h
 
 options-valid : (kind : Kind) (names : List (List ℕ)) (primaries n used : ℕ) (cs : List (List ℕ)) (lines : List (List ℕ)) (os : List (List Use)) (ig : List ℕ) (last : List (List ℕ)) → AreOptions (context kind names primaries) (so_far n used cs) lines os ig last
@@ -223,9 +225,18 @@ options-valid kind names primaries n used cs (line ∷ lines) os ig last (z, inr
     let g : length cs ≤ length (with_uses cs us) = colours-grow cs us in
     let l : length (with_uses cs us) ≤ length last = q.0 in
     let v = uses-valid kind names primaries [] (tokens line) us cs (length last) (uses-behind (context kind names primaries) (tokens line) us u) l in
-    let c : use_count os ≡ length us + use_count others = ap use_count o ∙ sum_by-cons (λ us. length us) (number_uses cs us) others ∙ ap (λ k. k + use_count others) (number_uses-length cs us) in
-    let d : used + length us + use_count others ≤ most_uses = q.2 in
-    (omega arith, q.1, omega arith, subst (AreValid (length names) primaries (length last)) (sym o) (v.0, v.1, primary-kept primaries us cs prim, q.3))
+    let c : use_count os ≡ length us + use_count others = ap use_count o ∙ sum_by-cons (λ us. length us) (numbered cs us) others ∙ ap (λ k. k + use_count others) (numbered-length cs us) in
+    let d : used + length us + use_count others ≤ most_uses = q.2 in (
+      omega arith,
+      q.1,
+      omega arith,
+      subst (AreValid (length names) primaries (length last)) (sym o) (
+        subst (AreWithin (length names) primaries (length last)) (in_turn cs us) v.0,
+        subst (AreFresh []) (in_turn cs us) v.1,
+        subst (UsesPrimary primaries) (in_turn cs us) (primary-kept primaries us cs prim),
+        q.3,
+      ),
+    )
 
 -- a text that stands for a sheet stands for a valid one
 from-lines : (kind : Kind) (n : ℕ) (lines : List (List ℕ)) (sheet : Sheet) (ignored : List ℕ) → IsSheetFrom kind n lines sheet ignored → IsSoundSheet sheet

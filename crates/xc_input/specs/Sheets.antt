@@ -45,13 +45,10 @@ abbrev pub colour_number : List (List ℕ) → List ℕ → ℕ
 colour_number colours [] = 0
 colour_number colours (b ∷ bs) = unwrap_or (place colours (b ∷ bs)) 0 + 1
 
--- the uses of an option that is kept, behind options that used these colours
-abbrev pub number_uses : List (List ℕ) → List Written → List Use
-number_uses colours [] = []
-number_uses colours (u ∷ us) =
-    record { item = u.item; colour = colour_number (with_colour colours u.colour) u.colour } ∷
-    number_uses (with_colour colours u.colour) us
-
 -- the colours so far and those of the option
 abbrev pub with_uses : List (List ℕ) → List Written → List (List ℕ)
 with_uses colours us = fold (λ cs u. with_colour cs u.colour) colours us
+
+-- the uses of an option that is kept, each colour by its place among these
+abbrev pub number_uses : List (List ℕ) → List Written → List Use
+number_uses colours us = map (λ u. record { item = u.item; colour = colour_number colours u.colour }) us

@@ -52,8 +52,8 @@ line_checks kind stage line = (NulByte, has 0 line) ∷ (if is_skipped line then
 abbrev pub with_option : ℕ → Stage → List Written → Stage
 with_option n stage us =
     let sheet = stage.sheet in
-    let uses = number_uses sheet.colours us in
-    let more = record sheet { options = sheet.options ++ uses ∷ []; colours = with_uses sheet.colours us } in
+    let colours = with_uses sheet.colours us in
+    let more = record sheet { options = sheet.options ++ number_uses colours us ∷ []; colours = colours } in
     (if has_primary sheet.primaries us then record stage { started = true; sheet = more }
     else record stage { started = true; ignored = stage.ignored ++ n ∷ [] })
 

@@ -1,5 +1,5 @@
 -- THE GRAMMAR: which problem and which ignored lines a list of lines stands for.
-use Rattle.std.specs.Prelude.{◌≡◌, ◌≢◌, ℕ, ◌+◌, ◌<◌, ◌≤◌, length, List, [], ◌∷◌, ◌++◌, Bool, true, false, Option, None, Some, is_some, unwrap_or, ◌⊎◌, if◌then◌else◌, AllPairs, take, drop}
+use Rattle.std.specs.Prelude.{◌≡◌, ◌≢◌, ℕ, ◌+◌, ◌<◌, ◌≤◌, length, List, [], ◌∷◌, ◌++◌, Bool, true, false, Some, ◌⊎◌, if◌then◌else◌, AllPairs, take, drop}
 use Prim.Native.Char.{code}
 use Rattle.std.specs.List.{AllZip, before_first, after_first}
 use Rattle.xc_input.specs.declared.kind.Kind.{Kind}
@@ -72,7 +72,7 @@ AreOptions c s (line ∷ lines) options ignored last = (has 0 line ≡ false) ×
     ((others : List ℕ) × (has_primary c.primaries us ≡ false) × (ignored ≡ line_number (s.lines + 1) ∷ others)
     × AreOptions c (record s { lines = s.lines + 1 }) lines options others last)
     ⊎ ((others : List (List Use)) × (has_primary c.primaries us ≡ true) × (s.uses + length us ≤ most_uses)
-    × (options ≡ number_uses s.colours us ∷ others)
+    × (options ≡ number_uses (with_uses s.colours us) us ∷ others)
     × AreOptions c (with_kept s us) lines others ignored last))))
 
 -- lines, behind n blank lines and comments, stand for a sheet and ignored lines

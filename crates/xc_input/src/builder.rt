@@ -1,13 +1,14 @@
 //! The problem while it is read.
 
 ghost use Rattle.std.specs.Prelude.{◌≡◌, true, false, ◌≤◌, ◌<◌, ◌+◌, ◌++◌, [], None, Some, OnOk, IfOk, length, map};
-ghost use Rattle.xc_input.specs.Sheets.{with_colour, colour_number, number_uses, with_uses};
+ghost use Rattle.xc_input.specs.Sheets.{with_colour, colour_number, with_uses};
 ghost use Rattle.xc_input.specs.Faults.{first, has_primary, row_checks, no_row, row_of, written};
 ghost use Rattle.xc_input.specs.Limits.{most_uses};
 ghost use Rattle.xc_input.specs.Tokens.{parts};
 ghost use Rattle.xc_input.specs.Stages.{line_checks, content_checks, with_line, with_option, written_by, no_stage, with_row};
 ghost use Rattle.xc_input.specs.inner.Builders.{Judged, IsBuilder, IsItemTable, AreMarks, AreTablesFor, row_of_line, stage_of_builder, sheet_of_builder, written_of};
 ghost use Rattle.xc_input.specs.inner.Stored.{key_names};
+ghost use Rattle.xc_input.specs.inner.ColourNumbers.{numbered};
 
 use crate::guess::Guesses;
 use crate::item_line::{ItemLine, item_line};
@@ -219,7 +220,7 @@ fn add_uses(
     requires room { length uses.old.items + length written.now ≤ most_uses }
     requires few { length (key_names colours.old.keys) ≤ length uses.old.items }
     ensures judged { Judged None result }
-    ensures uses { OnOk result (uses.new.items ≡ uses.old.items ++ number_uses (key_names colours.old.keys) (map written_of written.now)) }
+    ensures uses { OnOk result (uses.new.items ≡ uses.old.items ++ numbered (key_names colours.old.keys) (map written_of written.now)) }
     ensures colours { OnOk result (key_names colours.new.keys ≡ with_uses (key_names colours.old.keys) (map written_of written.now)) }
     ensures few { OnOk result (length (key_names colours.new.keys) ≤ length uses.new.items) }
 {

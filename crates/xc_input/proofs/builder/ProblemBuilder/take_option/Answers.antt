@@ -1,7 +1,8 @@
 use Rattle.std.proofs.Common.{ℕ, vec_len, ◌≡◌, ◌∙◌, sym, ap, subst, map, refl, arith, ◌≤◌, ◌<◌, ◌+◌, length, [], ◌∷◌, nat_lt, ◌&&◌, ◌++◌, ◌-◌, Vec, Global, is_ok}
+use Rattle.xc_input.specs.inner.ColourNumbers.{numbered}
 use Rattle.xc_input.specs.Problem.{use_count}
 use Rattle.xc_input.specs.Tokens.{tokens}
-use Rattle.xc_input.specs.Sheets.{number_uses, with_uses}
+use Rattle.xc_input.specs.Sheets.{with_uses}
 use Rattle.xc_input.specs.Faults.{has_primary, option_checks, context}
 use Rattle.xc_input.specs.Limits.{most_uses}
 use Rattle.xc_input.specs.Stages.{written_by}
@@ -51,7 +52,7 @@ pub overflow_cast-len : goal.overflow_cast-len
 overflow_cast-len c =
     let room = room_left c.args.self.now.uses c.in_ok-uses.uses c.len-2.result c.len.result c.len-2.ensures c.len.ensures c.requires.sound.few_uses c.if-len.false in
     let total = uses-length c.args.self.now.uses.items c.add_uses.new.uses.items (key_names c.args.self.now.colours.keys) c.in_ok-uses.uses.items
-    (c.in_ok-add_uses.ensures.uses ∙ ap (λ xs. c.args.self.now.uses.items ++ number_uses (key_names c.args.self.now.colours.keys) (map written_of xs)) c.as_slice-2.ensures.value) in
+    (c.in_ok-add_uses.ensures.uses ∙ ap (λ xs. c.args.self.now.uses.items ++ numbered (key_names c.args.self.now.colours.keys) (map written_of xs)) c.as_slice-2.ensures.value) in
     omega (arith, room, total, c.len-3.ensures ∙ items-length c.add_uses.new.uses)
 
 pub returns-clause-judged : goal.returns-clause-judged
@@ -69,7 +70,7 @@ returns-clause-taken c =
     taken c.args.kind c.args.self.now c.args.line.now c.requires.sound c.requires.started c.in_ok-uses.uses.items c.in_ok-uses.ensures.uses c.has_primary_use.result
     (c.has_primary_use.ensures ∙ ap (λ xs. has_primary c.args.self.now.primary (map written_of xs)) c.as_slice.ensures.value) c.if-not-has_primary_use.false
     c.args.count _ (refl, refl, refl, refl, refl)
-    (c.in_ok-add_uses.ensures.uses ∙ ap (λ xs. c.args.self.now.uses.items ++ number_uses (key_names c.args.self.now.colours.keys) (map written_of xs)) x)
+    (c.in_ok-add_uses.ensures.uses ∙ ap (λ xs. c.args.self.now.uses.items ++ numbered (key_names c.args.self.now.colours.keys) (map written_of xs)) x)
     (c.in_ok-add_uses.ensures.colours ∙ ap (λ xs. with_uses (key_names c.args.self.now.colours.keys) (map written_of xs)) x)
     (ap length back ∙ same ∙ c.requires.sound.marks)
     (subst (λ ms. AreMarks ms []) (sym back) c.in_ok-uses.ensures.unmarked)
