@@ -18,7 +18,6 @@ use Rattle.std.specs.Io.KnownBytes.{Appends, Keeps}
 use Rattle.xc_list.specs.Texts.{Begins}
 use Rattle.std.specs.Prelude.{All}
 use Rattle.std.proofs.lemmas.List.Elements.{All-head, All-drop}
-use Rattle.xc_input.specs.Calls.{Rose}
 use Rattle.xc_list.specs.Texts.{SinkState, Took, BrokeOff}
 use Rattle.xc_list.proofs.TextLemmas.{appends_more, appends_kept}
 use Rattle.xc_input.specs.Problem.{Puzzle}

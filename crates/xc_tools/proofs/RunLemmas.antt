@@ -1,5 +1,5 @@
 -- What a whole run did, step by step.
-use Rattle.std.proofs.Common.{◌≡◌, ◌⊎◌, ℕ, ◌+◌, List, [], Option, None, Some, length, take, refl, sym, ap, subst, inl, inr, ◌∙◌, append-nil, arith}
+use Rattle.std.proofs.Common.{◌≡◌, ◌⊎◌, ℕ, ◌+◌, List, [], length, take, sym, ap, subst, inl, inr, ◌∙◌, append-nil, arith}
 use Rattle.std.proofs.KnownBytes.{Keeps-refl}
 use Rattle.std.proofs.lemmas.Grind.{common_steps}
 use Rattle.std.specs.Prelude.{codes, flat_map, IsTrue}

@@ -1,5 +1,5 @@
 -- The solutions that lines list, line by line.
-use Rattle.std.proofs.Common.{◌≡◌, ℕ, suc, ◌+◌, Bool, cond, not, List, [], ◌∷◌, Option, Some, None, is_some, take, refl, sym, ap, ◌∙◌, arith, subst}
+use Rattle.std.proofs.Common.{◌≡◌, ℕ, suc, ◌+◌, cond, not, List, [], ◌∷◌, Option, Some, None, is_some, take, refl, sym, ap, ◌∙◌, arith, subst}
 use Rattle.std.specs.Prelude.{filter_map}
 use Rattle.std.specs.List.{before_first, position_or_len, cons_option, AllZip}
 use Rattle.xc_input.specs.Named.{Named}
