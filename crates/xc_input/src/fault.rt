@@ -10,7 +10,7 @@ use std::fmt;
 use thiserror::Error;
 
 /// What is wrong with a line.
-#[derive(Clone, Copy, Debug, PartialEq, Eq)]
+#[derive(Clone, Copy, Debug, PartialEq, Eq, Hash)]
 pub enum FaultKind {
     /// The text ends without an item line. Its line is the number of lines plus 1.
     NoItems,

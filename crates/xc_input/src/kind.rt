@@ -1,7 +1,7 @@
 //! The three kinds of text.
 
 /// What a problem may hold.
-#[derive(Clone, Copy, Debug, PartialEq, Eq)]
+#[derive(Clone, Copy, Debug, PartialEq, Eq, Hash)]
 pub enum Kind {
     /// Primary and secondary items: exact cover, as `dlx1` reads it.
     Plain,

@@ -3,12 +3,12 @@
 //! A problem is read from a source, or line by line by a `Reader`:
 //!
 //! ```text
-//! let mut source = Feed::new(b"a b | x\na x\nb x\n", 65536, None);
+//! let mut source = SliceSource::new(b"a b | x\na x\nb x\n");
 //! let read = read_problem(alloc, Kind::Plain, &mut source)?;
 //! let problem = &read.problem;
-//! for o in 0..problem.options() {
-//!     for u in problem.option(o + 1) {
-//!         let name = problem.item(u.item).name.as_slice();
+//! for option in problem.all_options() {
+//!     for u in option {
+//!         let item = u.item;
 //!     }
 //! }
 //! ```
@@ -26,10 +26,12 @@ mod limits;
 mod line_error;
 mod names;
 mod option_line;
+mod options;
 mod problem;
 mod read;
 mod reader;
 mod seed;
+mod slice_source;
 mod source;
 mod tokens;
 pub mod worked;
@@ -37,8 +39,10 @@ pub mod worked;
 pub use fault::{FaultKind, InputError};
 pub use given::Given;
 pub use kind::Kind;
+pub use options::Options;
 pub use problem::{Bounds, Item, Problem, Use};
 pub use read::read_problem;
 pub use reader::{Read, Reader};
 pub use seed::{FoldingHasher, Seed};
+pub use slice_source::SliceSource;
 pub use source::{Feed, ReadFailed, Source};

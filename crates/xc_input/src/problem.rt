@@ -1,6 +1,6 @@
 //! A problem as it was read.
 
-ghost use Rattle.std.specs.Prelude.{◌≡◌, ◌≢◌, ◌<◌, ◌≤◌, ℕ, length, map, drop, sum_by, Some, All, IfSome, IfNone};
+ghost use Rattle.std.specs.Prelude.{◌≡◌, ◌≢◌, ◌<◌, ◌≤◌, ℕ, length, map, drop, take, sum_by, option_map, Some, All, IfSome, IfNone};
 ghost use Rattle.xc_input.specs.Problem.{IsValid, IsWithinLimits, IsSoundOption, AreSoundBounds, primary_count, item_count, option_count, IsItem, numbered_get, bounds_at, IsPrimary, IsSecondary, use_count, IsOption};
 ghost use Rattle.xc_input.specs.Limits.{greatest_bound, most_uses};
 ghost use Rattle.xc_input.specs.ItemBounds.{bounds_of, secondary_bounds};
@@ -10,7 +10,9 @@ ghost use Rattle.xc_input.specs.Words.{number_in};
 ghost use Rattle.xc_input.specs.inner.Stored.{key_names};
 
 use crate::names::{NameSet, number_of_name};
+use crate::options::Options;
 use crate::seed::Seed;
+use std::fmt;
 use std::marker::Model;
 
 /// How often an item is to be held: at least `low` and at most `high` times.
@@ -21,7 +23,7 @@ pub struct Bounds {
 }
 
 /// An item: its name, and how many options of a cover hold it.
-#[derive(Debug, Drop)]
+#[derive(Clone, Debug, PartialEq, Eq, Drop)]
 pub struct Item {
     pub name: Vec<u8>,
     pub low: u32,
@@ -139,6 +141,41 @@ impl Problem {
         &self.items[i as usize - 1]
     }
 
+    /// The items in order: the one of number `i` stands at place `i - 1`.
+    pub fn all_items(&self) -> &[Item]
+        ensures names { map (λ x. x.name.items) result.now ≡ self.now.names }
+        ensures bounds { map bounds_of (take (primary_count self.now.puzzle) result.now) ≡ self.now.puzzle.bounds }
+        ensures secondary { All (λ x. bounds_of x ≡ secondary_bounds) (drop (primary_count self.now.puzzle) result.now) }
+    {
+        self.items.as_slice()
+    }
+
+    /// The options in order, each as its uses.
+    pub fn all_options(&self) -> Options<'_>
+        ensures { result ≡ self.now.puzzle.options }
+    {
+        Options::new(self)
+    }
+
+    /// The name of a use's item.
+    pub fn name_of(&self, u: Use) -> &[u8]
+        requires { IsItem self.now.puzzle u.item }
+        ensures { numbered_get self.now.names u.item ≡ Some result.now }
+    {
+        self.item(u.item).name.as_slice()
+    }
+
+    /// The bytes of a use's colour; None where it has no colour.
+    pub fn colour_of(&self, u: Use) -> Option<&[u8]>
+        requires { u.colour ≤ length self.now.colours }
+        ensures { option_map (λ bytes. bytes.now) result ≡ numbered_get self.now.colours u.colour }
+    {
+        if u.colour == 0 {
+            return None;
+        }
+        Some(self.colour(u.colour))
+    }
+
     /// The number of the item with this name, if there is one.
     pub fn find(&self, name: &[u8]) -> Option<u32>
         ensures value { result ≡ number_in self.now.names name.now }
@@ -203,5 +240,19 @@ impl Problem {
         ensures whole { IsSound self.now }
     {
         self.uses.len()
+    }
+}
+
+/// Its counts. Names, options and the seed aren't shown.
+impl fmt::Debug for Problem {
+    fn fmt<W: fmt::Write>(&self, f: &mut fmt::Formatter<W>) -> fmt::Result {
+        let items = self.items();
+        let primary = self.primary();
+        let options = self.options();
+        let uses = self.uses();
+        write!(
+            f,
+            "Problem {{ items: {items}, primary: {primary}, options: {options}, uses: {uses} }}"
+        )
     }
 }

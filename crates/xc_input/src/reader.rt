@@ -16,10 +16,11 @@ use crate::problem::Problem;
 use crate::seed::Seed;
 use crate::{FaultKind, InputError, Kind};
 use std::alloc::Global;
+use std::fmt;
 use std::marker::Model;
 
 /// A problem, and the numbers of the lines that were ignored.
-#[derive(Drop)]
+#[derive(Debug, Drop)]
 pub struct Read {
     pub problem: Problem,
     pub ignored: Vec<u64>,
@@ -144,6 +145,19 @@ impl Reader {
             problem: Problem::new(names, items, primary, uses, starts, colours),
             ignored,
         })
+    }
+}
+
+/// Its kind, how many lines it was given, and its error. Names and the seed aren't shown.
+impl fmt::Debug for Reader {
+    fn fmt<W: fmt::Write>(&self, f: &mut fmt::Formatter<W>) -> fmt::Result {
+        let kind = self.kind;
+        let lines = self.count;
+        let error = self.error;
+        write!(
+            f,
+            "Reader {{ kind: {kind:?}, lines: {lines}, error: {error:?} }}"
+        )
     }
 }
 

@@ -7,6 +7,7 @@ ghost use Rattle.xc_input.specs.Pieces.{SourceState};
 
 use crate::given::Given;
 use crate::seed::Seed;
+use std::fmt;
 use thiserror::Error;
 
 /// A read that failed.
@@ -122,5 +123,14 @@ impl<'a> Source for Feed<'a> {
         self.left = &all[n..];
         self.given = Given::after(&self.given, &all[..n]);
         Ok(n)
+    }
+}
+
+/// How many bytes are left, and how many calls failed.
+impl<'a> fmt::Debug for Feed<'a> {
+    fn fmt<W: fmt::Write>(&self, f: &mut fmt::Formatter<W>) -> fmt::Result {
+        let left = self.left.len();
+        let failures = self.failures;
+        write!(f, "Feed {{ left: {left}, failures: {failures} }}")
     }
 }

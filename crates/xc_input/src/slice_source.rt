@@ -1,0 +1,91 @@
+//! A source over bytes that are in memory.
+
+ghost use Rattle.std.specs.Prelude.{◌≡◌, ◌+◌, ◌<◌, ◌≤◌, [], ◌∷◌, ◌++◌, take, Some, length, min, IfOk, IsOk, OnErr, is_err};
+ghost use Rattle.std.specs.Io.KnownBytes.{ReadConsumes};
+ghost use Rattle.xc_input.specs.Calls.{counted};
+
+use crate::given::Given;
+use crate::seed::Seed;
+use crate::source::{ReadFailed, Source};
+use std::fmt;
+
+/// A source over bytes that are in memory. Each read gives as many of them as the buffer has room
+/// for, and none fails. It tells its bytes.
+#[derive(Drop)]
+pub struct SliceSource<'a> {
+    left: &'a [u8],
+    seed: Seed,
+    given: Given,
+}
+
+impl<'a> SliceSource<'a> {
+    /// A source over these bytes, whose names hash by the fixed seed.
+    pub fn new(bytes: &'a [u8]) -> SliceSource<'a>
+        ensures rest { (⟦<SliceSource<'a> as Source>⟧.state result).rest ≡ Some bytes.now }
+        ensures seed { result.seed ≡ Seed.FIXED }
+        ensures given { (⟦<SliceSource<'a> as Source>⟧.state result).given ≡ [] }
+    {
+        SliceSource::with_seed(bytes, Seed::FIXED)
+    }
+
+    /// A source over these bytes, whose names hash by this seed. For a text that may be written to be
+    /// slow it is to be random.
+    pub fn with_seed(bytes: &'a [u8], seed: Seed) -> SliceSource<'a>
+        ensures rest { (⟦<SliceSource<'a> as Source>⟧.state result).rest ≡ Some bytes.now }
+        ensures seed { result.seed ≡ seed }
+        ensures given { (⟦<SliceSource<'a> as Source>⟧.state result).given ≡ [] }
+    {
+        SliceSource {
+            left: bytes,
+            seed,
+            given: Given::new(),
+        }
+    }
+}
+
+impl<'a> Source for SliceSource<'a> {
+    ghost state = { λ s. record {
+      failures = 0;
+      limit = length s.left.now;
+      rest = Some s.left.now;
+      given = s.given.lines;
+    } };
+
+    fn read(&mut self, buf: &mut [u8]) -> Result<usize, ReadFailed>
+        requires { 0 < length buf.old }
+        ensures bound { IfOk result (λ n. n ≤ length buf.new) }
+        ensures limit { IfOk result (λ n. length self.new.left.now + n ≡ length self.old.left.now) }
+        ensures limit_kept { OnErr result (length self.new.left.now ≡ length self.old.left.now) }
+        ensures failures { 0 ≡ counted (is_err result) 0 }
+        ensures bytes { ReadConsumes (Some self.old.left.now) (Some self.new.left.now) result buf.new }
+        ensures given { IfOk result (λ n.
+            self.new.given.lines ≡ self.old.given.lines ++ take n buf.new ∷ []) }
+        ensures given_kept { OnErr result (self.new.given.lines ≡ self.old.given.lines) }
+
+        // No call fails, and each gives as much as it may.
+        ensures succeeds { IsOk result }
+        ensures gives { IfOk result (λ n. n ≡ min (length self.old.left.now) (length buf.old)) }
+        ensures seed { self.new.seed ≡ self.old.seed }
+    {
+        let all = self.left;
+        let n = all.len().min(buf.len());
+        buf[..n].copy_from_slice(&all[..n]);
+        self.left = &all[n..];
+        self.given = Given::after(&self.given, &all[..n]);
+        Ok(n)
+    }
+
+    fn seed(&self) -> Seed
+        ensures { result ≡ self.now.seed }
+    {
+        self.seed
+    }
+}
+
+/// How many bytes are left. The seed isn't shown.
+impl<'a> fmt::Debug for SliceSource<'a> {
+    fn fmt<W: fmt::Write>(&self, f: &mut fmt::Formatter<W>) -> fmt::Result {
+        let left = self.left.len();
+        write!(f, "SliceSource {{ left: {left} }}")
+    }
+}
