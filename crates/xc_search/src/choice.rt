@@ -1,7 +1,7 @@
 //! A choice of a solution.
 
 /// A level of a solution: branch `k` of the `n` branches of its item.
-#[derive(Clone, Copy, Debug, PartialEq, Eq)]
+#[derive(Clone, Copy, Debug, PartialEq, Eq, Hash)]
 pub struct Choice {
     /// The branch item, a primary item.
     pub item: u32,

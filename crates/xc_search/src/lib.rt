@@ -2,28 +2,29 @@
 //! Computer Programming, Volume 4B, section 7.2.2.1.
 //!
 //! ```text
-//! let links = Links::new(alloc, &problem, most_moves(&problem))?;
-//! let Ok(mut search) = Search::new(alloc, links, &problem) else {
-//!     return Err(Memory);
-//! };
-//! while let Step::Solution = search.next() {
-//!     let options = search.choices().iter().filter_map(|c| c.option);
+//! let links = Links::for_search(alloc, &problem)?;
+//! let mut search = Search::begin(alloc, links, &problem)?;
+//! while let Some(choices) = search.next_solution() {
+//!     let options = choices.iter().filter_map(|c| c.option);
 //! }
 //! let links = search.close();
 //! ```
 #![tactic(auto)]
 
+mod begin;
 mod branch_item;
 mod choice;
 mod counts;
 pub mod laws;
 mod level;
 mod levels;
+mod next_solution;
 mod position;
 mod search;
 mod stack;
 mod steps;
 
+pub use begin::NoSearch;
 pub use branch_item::{branches, choose};
 pub use choice::Choice;
 pub use counts::most_moves;

@@ -12,6 +12,7 @@ use xc_dance::{Dance, Move};
 use xc_input::Problem;
 
 /// A dance with the problem that it is of. Its trail has room for each search of the problem.
+#[derive(Drop)]
 pub struct Position<'a, D: Dance> {
     dance: D,
     problem: &'a Problem,

@@ -25,7 +25,9 @@ pub enum Step {
 }
 
 /// A search for all solutions of a problem, over a dance of that problem, whose moves it makes and
-/// undoes. It stands for the members of the problem's listing that are still to come.
+/// undoes. It stands for the members of the problem's listing that are still to come. It may be let go
+/// as it stands, where its dance may; `close` gives the dance back.
+#[derive(Drop)]
 pub struct Search<'a, D: Dance> {
     position: Position<'a, D>,
     stack: Stack,
