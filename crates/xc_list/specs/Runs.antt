@@ -34,3 +34,9 @@ AnswersRun a spacing limit old new r = MatchResult r (IsRun a spacing limit old 
 -- How a run ends where no write fails: by the limit where there are as many members, else after the last one
 abbrev pub end_of : Named → ℕ → End
 end_of a limit = if nat_lt (length (members a.puzzle)) limit then Done (length (members a.puzzle)) else Limit limit
+
+-- how many members a run had reached when it ended
+abbrev pub solutions_found : End → ℕ
+solutions_found (Done n) = n
+solutions_found (Limit n) = n
+solutions_found (WriteFailed n) = n

@@ -21,6 +21,7 @@ mod print;
 mod runs;
 mod sink;
 mod uses;
+mod vec_sink;
 mod words;
 mod write;
 
@@ -31,5 +32,6 @@ pub use messages::{summary, warnings, word_fault};
 pub use print::write_solution;
 pub use runs::{End, run, run_over, run_over_links};
 pub use sink::{Sink, Tray, WriteFailed};
+pub use vec_sink::VecSink;
 pub use words::{WordFault, Words};
 pub use write::{SinkFault, write_all, write_number};

@@ -5,7 +5,7 @@ ghost use Rattle.xc_search.specs.Cover.{members, EachMemberCovers, EachCoverIsLi
 ghost use Rattle.xc_search.specs.Room.{room_for};
 ghost use Rattle.xc_list.specs.Output.{is_printed};
 ghost use Rattle.xc_list.specs.Known.{IsKnownChoice};
-ghost use Rattle.xc_list.specs.Runs.{IsRun, AnswersRun};
+ghost use Rattle.xc_list.specs.Runs.{IsRun, AnswersRun, solutions_found};
 ghost use Rattle.xc_list.specs.inner.Ends.{printed_text, WentTo};
 ghost use Rattle.xc_list.specs.Built.{AreAsBuilt};
 
@@ -28,6 +28,17 @@ pub enum End {
     Limit(u64),
     /// The text of this solution was not taken whole.
     WriteFailed(u64),
+}
+
+impl End {
+    /// How many solutions the run had found when it ended.
+    pub fn solutions(self) -> u64
+        ensures { result ≡ solutions_found self }
+    {
+        match self {
+            End::Done(found) | End::Limit(found) | End::WriteFailed(found) => found,
+        }
+    }
 }
 
 /// Whether the solution with this number is printed.

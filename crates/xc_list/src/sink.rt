@@ -6,6 +6,7 @@ ghost use Rattle.xc_input.specs.Calls.{counted, is_failed_write};
 
 use crate::flushes::Flushes;
 use std::alloc::Global;
+use std::fmt;
 use thiserror::Error;
 use xc_dance::Memory;
 
@@ -139,5 +140,18 @@ impl Sink for Tray {
         self.failed = false;
         self.flushes = Flushes::one_more(&self.flushes);
         Ok(())
+    }
+}
+
+/// How many bytes it took, its room, and how many calls failed.
+impl fmt::Debug for Tray {
+    fn fmt<W: fmt::Write>(&self, f: &mut fmt::Formatter<W>) -> fmt::Result {
+        let bytes = self.bytes.len();
+        let room = self.room;
+        let failures = self.failures;
+        write!(
+            f,
+            "Tray {{ bytes: {bytes}, room: {room}, failures: {failures} }}"
+        )
     }
 }

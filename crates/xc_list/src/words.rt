@@ -1,5 +1,5 @@
 //! The words of a command line.
-ghost use Rattle.std.specs.Prelude.{◌≡◌, ℕ, ◌+◌, ◌-◌, ◌<◌, ◌≤◌, map, length};
+ghost use Rattle.std.specs.Prelude.{◌≡◌, ℕ, ◌+◌, ◌-◌, ◌<◌, ◌≤◌, [], Ok, map, length};
 ghost use Rattle.xc_list.specs.Settings.{long_number, read_word, read_words};
 
 use thiserror::Error;
@@ -64,15 +64,24 @@ fn read_word(place: usize, words: Words, word: &[u8]) -> Result<Words, WordFault
     }
 }
 
+/// What no words ask for: no solution is printed, and no limit met.
+impl Default for Words {
+    fn default() -> Words
+        ensures { read_words [] ≡ Ok result }
+    {
+        Words {
+            spacing: 0,
+            limit: u64::MAX,
+        }
+    }
+}
+
 impl Words {
     /// What the words ask for, or the first faulty one.
     pub fn read(words: &[Vec<u8>]) -> Result<Words, WordFault>
         ensures { result ≡ read_words (map (λ w. w.items) words.now) }
     {
-        let mut asked = Words {
-            spacing: 0,
-            limit: u64::MAX,
-        };
+        let mut asked = Words::default();
         for (before, word) in words.iter().enumerate() {
             asked = read_word(before + 1, asked, word.as_slice())?;
         }
