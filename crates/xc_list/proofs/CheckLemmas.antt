@@ -20,3 +20,4 @@ pub mod ReadUses
 pub mod Rotations
 pub mod ShortItems
 pub mod ListedSolutions
+pub mod TestedCovers

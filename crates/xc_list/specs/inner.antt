@@ -8,3 +8,4 @@ pub mod OptionIndex
 pub mod SeenLines
 pub mod LineParts
 pub mod Listings
+pub mod Tested

@@ -13,6 +13,7 @@
 
 mod bodies;
 mod checker;
+mod cover;
 mod flushes;
 pub mod laws;
 mod line;
@@ -26,6 +27,7 @@ mod words;
 mod write;
 
 pub use checker::{ListingFault, Verdict, check};
+pub use cover::is_cover;
 pub use flushes::Flushes;
 pub use line::write_line;
 pub use messages::{summary, warnings, word_fault};

@@ -1,0 +1,167 @@
+-- Options are a cover exactly where the tests of its conditions say so.
+use Rattle.std.proofs.Common.{ℕ, zero, suc, ◌≡◌, ◌≢◌, ◌+◌, ◌-◌, ◌<◌, ◌≤◌, Bool, true, false, cond, ◌==◌, List, [], ◌∷◌, Option, Some, None, refl, sym, ap, ◌∙◌, arith, subst, inl, inr, eqb-true, eq-eqb, ne_eqb, ltb, leb}
+use Rattle.std.specs.Prelude.{All, AllPairs, Contains, IsTrue, ◌↔◌, nat_le, nat_lt, ◌||◌}
+use Rattle.std.specs.List.{list_all, list_any, AllByRecursion}
+use Rattle.std.proofs.lemmas.Bool.Decides.{nat_tests}
+use Rattle.std.proofs.lemmas.List.Elements.{recursion_from_All}
+use Rattle.xc_input.specs.declared.problem.Use.{Use}
+use Rattle.xc_input.specs.Problem.{Puzzle, Bounds, IsValid, IsItem, IsOption, IsSecondary, IsSoundUse, bounds_at, colour_in, item_count, primary_count, uses_of}
+use Rattle.xc_search.specs.Cover.{IsCover, times_held}
+use Rattle.xc_input.proofs.BooleanTests.{and_left, and_right}
+use Rattle.xc_input.proofs.lists.EachTwo.{EachTwo}
+use Rattle.std.proofs.lemmas.Option.{slice_get_within}
+use Rattle.xc_input.proofs.lists.Members.{IsIn, each_in, in-contains, contains-in}
+use Rattle.xc_list.specs.inner.Tested.{is_colour_met, is_use_met, are_uses_met, do_agree, is_within, is_held_within}
+use Rattle.xc_list.proofs.CheckLemmas.DecidedByClasses.{option-sound, option-differs}
+use Rattle.xc_list.proofs.CheckLemmas.Rotations.{DifferInItems}
+
+-- ---- tests of lists
+
+each-passes : {X : Type 0} (f : X → Bool) (xs : List X) → ((x : X) → IsIn xs x → f x ≡ true) → list_all f xs ≡ true
+each-passes f [] h = refl
+each-passes f (x ∷ xs) h = rw (h x (inl refl)) (each-passes f xs (λ y k. h y (inr k)))
+
+passes-at : {X : Type 0} (f : X → Bool) (xs : List X) (x : X) → list_all f xs ≡ true → IsIn xs x → f x ≡ true
+passes-at f [] x h k = absurd k
+passes-at f (y ∷ xs) x h (inl q) = subst (λ z. f z ≡ true) q (and_left _ _ h)
+passes-at f (y ∷ xs) x h (inr q) = passes-at f xs x (and_right _ _ h) q
+
+-- ---- colours
+
+-- a colour of an item is given by a use
+use_of_colour : (us : List Use) (i c : ℕ) → colour_in us i ≡ Some c → (u : Use) × IsIn us u × (u.item ≡ i) × (u.colour ≡ c)
+use_of_colour [] i c h = cc
+use_of_colour (u ∷ us) i c h =
+    elim (u.item == i) as (λ b. (u.item == i) ≡ b → cond b (Some u.colour) (colour_in us i) ≡ Some c → (v : Use) × IsIn (u ∷ us) v × (v.item ≡ i) × (v.colour ≡ c)) [
+      | true ↦ λ e k. let same : u.colour ≡ c = cc in (u, inl refl, eqb-true _ _ e, same)
+      | false ↦ λ e k. let later = use_of_colour us i c k in (later.0, inr later.1, later.2, later.3)
+    ] refl h
+
+-- a use gives its item its colour, where items differ
+colour_of_use : (us : List Use) (u : Use) → DifferInItems us → IsIn us u → colour_in us u.item ≡ Some u.colour
+colour_of_use [] u d k = absurd k
+colour_of_use (v ∷ us) u d (inl q) =
+    let same : (v.item == u.item) ≡ true = eq-eqb _ _ (ap (λ (z : Use). z.item) q) in
+    rw same (ap (λ (z : Use). Some z.colour) q)
+colour_of_use (v ∷ us) u d (inr q) =
+    let other : (v.item == u.item) ≡ false = ne_eqb _ _ (each_in (λ (z : Use). v.item ≢ z.item) us u d.0 q) in
+    rw other (colour_of_use us u d.1 q)
+
+met_colour : (o : Option ℕ) (c d : ℕ) → is_colour_met o c ≡ true → o ≡ Some d → (c ≡ d) × (0 < c)
+met_colour (Some e) c d h q =
+    let same : e ≡ d = cc in
+    let equal : e ≡ c = eqb-true _ _ (and_left _ _ h) in
+    let some : 0 < e = grind (arith, nat_tests) in
+    (sym equal ∙ same, subst (λ n. 0 < n) equal some)
+met_colour None c d h q = cc
+
+colour_met : (o : Option ℕ) (c : ℕ) → ((d : ℕ) → o ≡ Some d → (c ≡ d) × (0 < c)) → is_colour_met o c ≡ true
+colour_met (Some d) c h =
+    let k = h d refl in
+    let equal : (d == c) ≡ true = eq-eqb _ _ (sym k.0) in
+    let some : 0 < d = subst (λ n. 0 < n) k.0 k.1 in
+    rw equal (grind (arith, nat_tests))
+colour_met None c h = refl
+
+-- ---- bounds
+
+within_bounds : (o : Option Bounds) (b : Bounds) (t : ℕ) → o ≡ Some b → is_within o t ≡ true → (b.low ≤ t) × (t ≤ b.high)
+within_bounds (Some x) b t e h =
+    let same : x ≡ b = cc in
+    let low : nat_le x.low t ≡ true = and_left (nat_le x.low t) (nat_le t x.high) h in
+    let high : nat_le t x.high ≡ true = and_right (nat_le x.low t) (nat_le t x.high) h in
+    let above : x.low ≤ t = grind (arith, nat_tests) in
+    let below : t ≤ x.high = grind (arith, nat_tests) in
+    subst (λ (y : Bounds). (y.low ≤ t) × (t ≤ y.high)) same (above, below)
+within_bounds None b t e h = cc
+
+-- ---- two options
+
+-- what two options that agree give a secondary item
+agreed : (p : Puzzle) (a b i c d : ℕ) → do_agree p a b ≡ true → a ≢ b → IsSecondary p i →
+    colour_in (uses_of p a) i ≡ Some c → colour_in (uses_of p b) i ≡ Some d → (c ≡ d) × (0 < c)
+agreed p a b i c d h apart second in_a in_b =
+    let other : (a == b) ≡ false = ne_eqb _ _ apart in
+    let all : are_uses_met (primary_count p) (uses_of p b) (uses_of p a) ≡ true = rw other at h in
+    let u = use_of_colour (uses_of p a) i c in_a in
+    let met = passes-at (is_use_met (primary_count p) (uses_of p b)) (uses_of p a) u.0 all u.1 in
+    let behind : nat_le u.0.item (primary_count p) ≡ false = (let item = u.2 in let above = second.0 in grind (arith, nat_tests)) in
+    let colour : is_colour_met (colour_in (uses_of p b) u.0.item) u.0.colour ≡ true = rw behind at met in
+    let r = met_colour _ u.0.colour d colour (ap (colour_in (uses_of p b)) u.2 ∙ in_b) in
+    (sym u.3 ∙ r.0, subst (λ n. 0 < n) u.3 r.1)
+
+-- and where they give each secondary item one colour, they agree
+agree : (p : Puzzle) → IsValid p → (a b : ℕ) → IsOption p a →
+    ((i c d : ℕ) → a ≢ b → IsSecondary p i → colour_in (uses_of p a) i ≡ Some c → colour_in (uses_of p b) i ≡ Some d → (c ≡ d) × (0 < c)) →
+    do_agree p a b ≡ true
+agree p v a b known h =
+    elim (a == b) as (λ t. (a == b) ≡ t → (t || are_uses_met (primary_count p) (uses_of p b) (uses_of p a)) ≡ true) [
+      | true ↦ λ e. refl
+      | false ↦ λ e. each-passes (is_use_met (primary_count p) (uses_of p b)) (uses_of p a) (λ u k. met u k (λ z. let t = eq-eqb a b z in cc))
+    ] refl
+  where
+    differ : DifferInItems (uses_of p a)
+    differ = option-differs p v a known
+
+    above : (u : Use) → IsItem p u.item → nat_le u.item (primary_count p) ≡ false → IsSecondary p u.item
+    above u item e = (grind (arith, nat_tests), item.1)
+
+    met : (u : Use) → IsIn (uses_of p a) u → a ≢ b → is_use_met (primary_count p) (uses_of p b) u ≡ true
+    met u k apart =
+        let sound = each_in (IsSoundUse p) (uses_of p a) u (recursion_from_All (IsSoundUse p) (uses_of p a) (option-sound p v a known).sound) k in
+        elim (nat_le u.item (primary_count p)) as (λ t. nat_le u.item (primary_count p) ≡ t → (t || is_colour_met (colour_in (uses_of p b) u.item) u.colour) ≡ true) [
+          | true ↦ λ e. refl
+          | false ↦ λ e. colour_met (colour_in (uses_of p b) u.item) u.colour (λ d q. h u.item u.colour d apart (above u (sound.0) e) (colour_of_use (uses_of p a) u differ k) q)
+        ] refl
+
+-- ---- different numbers
+-- a number that stands again behind the first
+pub stands_again : (x : ℕ) (others rest : List ℕ) → rest ≡ x ∷ others → list_any (λ y. y == x) others ≡ true → EachTwo (λ a b. a ≢ b) rest → ⊥
+stands_again x others rest e h apart = again others h (subst (EachTwo (λ a b. a ≢ b)) e apart).0
+  where
+    again : (ys : List ℕ) → list_any (λ y. y == x) ys ≡ true → AllByRecursion (λ y. x ≢ y) ys → ⊥
+    again [] k a = cc
+    again (y ∷ ys) k a =
+        elim (y == x) as (λ t. (y == x) ≡ t → (t || list_any (λ z. z == x) ys) ≡ true → ⊥) [
+          | true ↦ λ q m. a.0 (sym (eqb-true _ _ q))
+          | false ↦ λ q m. again ys m a.1
+        ] refl k
+
+-- one that doesn't
+pub stands_alone : (x : ℕ) (others rest : List ℕ) → rest ≡ x ∷ others → list_any (λ y. y == x) others ≡ false → EachTwo (λ a b. a ≢ b) others → EachTwo (λ a b. a ≢ b) rest
+stands_alone x others rest e h apart = subst (EachTwo (λ a b. a ≢ b)) (sym e) (alone others h, apart)
+  where
+    alone : (ys : List ℕ) → list_any (λ y. y == x) ys ≡ false → AllByRecursion (λ y. x ≢ y) ys
+    alone [] k = tt
+    alone (y ∷ ys) k =
+        elim (y == x) as (λ t. (y == x) ≡ t → (t || list_any (λ z. z == x) ys) ≡ false → AllByRecursion (λ z. x ≢ z) (y ∷ ys)) [
+          | true ↦ λ q m. cc
+          | false ↦ λ q m. (λ z. (let t = eq-eqb _ _ (sym z) in cc), alone ys m)
+        ] refl k
+
+-- ---- covers
+
+-- the tests of different options of the problem say that they are a cover
+pub cover_from_tests : (p : Puzzle) (s : List ℕ) → All (IsOption p) s → AllPairs (λ a b. a ≢ b) s →
+    ((k : ℕ) → k < primary_count p → is_held_within p s (k + 1) ≡ true) →
+    list_all (λ a. list_all (do_agree p a) s) s ≡ true → IsCover p s
+cover_from_tests p s known apart held all = record {
+  known = known;
+  distinct = apart;
+  within = λ i b e. within i b e;
+  agree = λ a b i c d in_a in_b second other e f.
+      agreed p a b i c d (passes-at (do_agree p a) s b (passes-at (λ a. list_all (do_agree p a) s) s a all (in-contains s a in_a)) (in-contains s b in_b)) second other e f;
+}
+  where
+    within : (i : ℕ) (b : Bounds) → bounds_at p i ≡ Some b → (b.low ≤ times_held p i s) × (times_held p i s ≤ b.high)
+    within zero b e = cc
+    within (suc k) b e =
+        let one_more : k + 1 ≡ suc k = omega arith in
+        within_bounds (bounds_at p (suc k)) b (times_held p (suc k) s) e (subst (λ n. is_held_within p s n ≡ true) one_more (held k (slice_get_within p.bounds k b e)))
+
+-- and of a cover they say so
+pub tests_of_cover : (p : Puzzle) → IsValid p → (s : List ℕ) → IsCover p s → list_all (λ a. list_all (do_agree p a) s) s ≡ true
+tests_of_cover p v s c =
+    each-passes (λ a. list_all (do_agree p a) s) s (λ a in_a. each-passes (do_agree p a) s (λ b in_b.
+    agree p v a b (each_in (IsOption p) s a (recursion_from_All (IsOption p) s c.known) in_a)
+    (λ i x y other second e f. c.agree a b i x y (contains-in s a in_a) (contains-in s b in_b) other second e f)))
