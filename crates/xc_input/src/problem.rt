@@ -234,6 +234,17 @@ impl Problem {
         &self.uses[from..to]
     }
 
+    /// The uses of the option of this number, in file order, if there is such an option.
+    pub fn get_option(&self, o: u32) -> Option<&[Use]>
+        ensures value { option_map (λ us. us.now) result ≡ numbered_get self.now.puzzle.options o }
+        ensures known { IfSome result (λ us. All (IsKnownUse self.now) us.now) }
+    {
+        if o == 0 || self.options() < o {
+            return None;
+        }
+        Some(self.option(o))
+    }
+
     /// How many uses all options have.
     pub fn uses(&self) -> usize
         ensures value { result ≡ use_count self.now.puzzle.options }
