@@ -38,4 +38,6 @@ mod vectors_of_links;
 #[cfg(test)]
 mod closing;
 #[cfg(test)]
+mod cutting;
+#[cfg(test)]
 mod searching;

@@ -2,6 +2,7 @@ pub mod completeness
 pub mod listing
 pub mod moves
 pub mod parts
+pub mod paths
 pub mod residual
 pub mod room
 pub mod stacked

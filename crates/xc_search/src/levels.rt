@@ -5,6 +5,7 @@ ghost use Rattle.xc_search.specs.inner.MostLevels.{most_levels};
 ghost use Rattle.xc_search.specs.inner.Levels.{AreStacked, IsStanding};
 ghost use Rattle.xc_search.specs.inner.Commits.{oldest};
 ghost use Rattle.xc_search.specs.inner.Ahead.{work_left, GoesOn, IsReached, IsDone};
+ghost use Rattle.xc_search.specs.inner.Paths.{KeepsPath};
 
 use crate::level::{Level, begin_level};
 use crate::position::Position;
@@ -14,7 +15,7 @@ use xc_dance::Dance;
 
 /// What stands below the levels.
 #[derive(Clone, Copy)]
-enum Below {
+pub enum Below {
     /// A branch of another level, which was begun.
     Branch,
     /// No branch: the item that was to be covered next has none.
@@ -25,7 +26,7 @@ enum Below {
 
 /// Where a search goes on.
 #[derive(Clone, Copy)]
-enum Resumed {
+pub enum Resumed {
     /// In a branch, which was begun.
     Branch,
     /// Nowhere: no level has another branch, and all have ended.
@@ -35,16 +36,18 @@ enum Resumed {
 /// Begins a level with its first branch, since what is left wasn't searched yet. A level without
 /// branches ends at once, and isn't noted.
 #[inline(always)]
-fn deepen<D: Dance>(position: &mut Position<D>, stack: &mut Stack) -> Below
+pub fn deepen<D: Dance>(position: &mut Position<D>, stack: &mut Stack) -> Below
     requires standing { IsStanding position.old.puzzle position.old.trail stack.old.levels true }
     requires levels_fit { most_levels position.old.puzzle ≤ stack.old.room }
     ensures reached { result ≡ Below.Solution → IsReached position.old stack.old true position.new stack.new }
+    ensures same { result ≡ Below.Solution → (position.new ≡ position.old) × (stack.new ≡ stack.old) }
     ensures deeper { result ≡ Below.Branch → GoesOn position.old stack.old true position.new stack.new true }
     ensures less { result ≡ Below.Branch →
         work_left position.new stack.new true < work_left position.old stack.old true }
     ensures nothing { result ≡ Below.Nothing → GoesOn position.old stack.old true position.new stack.new false }
     ensures fewer { result ≡ Below.Nothing →
         work_left position.new stack.new false < work_left position.old stack.old true }
+    ensures path { KeepsPath position.old stack.old position.new stack.new }
 {
     let Some((item, count)) = position.choose() else {
         return Below::Solution;
@@ -63,7 +66,7 @@ fn deepen<D: Dance>(position: &mut Position<D>, stack: &mut Stack) -> Below
 
 /// Ends a level, the newest one.
 #[inline(always)]
-fn end_level<D: Dance>(position: &mut Position<D>, level: &Level)
+pub fn end_level<D: Dance>(position: &mut Position<D>, level: &Level)
     requires stacked { (p : Puzzle) × (ls : List Level) × AreStacked p position.old.trail (level.now ∷ ls) }
     ensures { position.new ≡ record position.old { trail = oldest level.now.mark position.old.trail } }
 {
@@ -85,12 +88,13 @@ fn behind(k: u32, many: u32) -> u32
 
 /// Begins the next branch of the newest level that has one, and ends the levels above it.
 #[inline(always)]
-fn resume<D: Dance>(position: &mut Position<D>, stack: &mut Stack) -> Resumed
+pub fn resume<D: Dance>(position: &mut Position<D>, stack: &mut Stack) -> Resumed
     requires standing { IsStanding position.old.puzzle position.old.trail stack.old.levels false }
     ensures resumed { result ≡ Resumed.Branch → GoesOn position.old stack.old false position.new stack.new true }
     ensures less { result ≡ Resumed.Branch →
         work_left position.new stack.new true < work_left position.old stack.old false }
     ensures done { result ≡ Resumed.Nowhere → IsDone position.old stack.old false position.new stack.new }
+    ensures path { KeepsPath position.old stack.old position.new stack.new }
 {
     while let Some(level) = stack.top() {
         if level.begun < level.count {

@@ -12,7 +12,7 @@ use Rattle.xc_search.specs.inner.Ahead.{cost, work, visits, ahead}
 use Rattle.xc_input.proofs.lists.Filters.{map-same}
 use Rattle.xc_input.proofs.lists.Places.{drop_at}
 
-choices_more : (k : Level) (ls : List Level) → choices_of (k ∷ ls) ≡ choices_of ls ++ chosen k ∷ []
+pub choices_more : (k : Level) (ls : List Level) → choices_of (k ∷ ls) ≡ choices_of ls ++ chosen k ∷ []
 choices_more k ls = ap (map chosen) (reverse-append (k ∷ []) ls) ∙ map-append chosen (reverse ls) (k ∷ [])
 
 pub begun_coming : (p : Puzzle) (t s : List Move) (l k : Level) (ls : List Level) → AreStacked p t (l ∷ ls) → IsBegun p t l s k →

@@ -2,6 +2,7 @@ use Rattle.std.proofs.Common.{arith, ◌≡◌, ◌<◌, ◌∙◌, None, Some, 
 use Rattle.xc_search.specs.declared.level.Level.{Level}
 use Rattle.xc_search.specs.Residuals.{choice_after}
 use Rattle.xc_search.specs.inner.Ahead.{GoesOn, visits, ahead}
+use Rattle.xc_search.proofs.paths.Led.{keeps_first, keeps_over}
 use Rattle.xc_search.proofs.stacked.Depth.{depth_at}
 use Rattle.xc_search.proofs.stacked.NextLevel.{chosen_item}
 use Rattle.xc_search.proofs.stacked.LoopSteps.{finds, node_at, with_level, begins_at, may_enter, enters_first, passes_over}
@@ -80,3 +81,14 @@ returns-clause-deeper g c _ = (deeper g c).0
 
 pub returns-clause-less : goal.returns-clause-less
 returns-clause-less g c _ = (deeper g c).1
+
+pub returns-then-count-eq0-clause-path : goal.returns-then-count-eq0-clause-path
+returns-then-count-eq0-clause-path g c =
+    keeps_over c.args.position.now c.descend-level.new.self c.end_level.new.position c.args.stack.now c.in-Some.item c.in-Some.count c.descend-level.result
+    c.descend-level.ensures.trail c.descend-level.ensures.level c.end_level.ensures
+
+pub returns-clause-path : goal.returns-clause-path
+returns-clause-path g c =
+    keeps_first c.args.position.now c.descend-level.new.self c.enter-branch.new.self c.commit_branch.new.self c.args.stack.now c.push.new.self c.in-Some.item c.in-Some.count c.descend-level.result c.enter-branch.result
+    c.descend-level.ensures.trail c.descend-level.ensures.level
+    c.enter-branch.ensures.still c.enter-branch.ensures.entered c.commit_branch.ensures (c.push.ensures ∙ ap (λ l. with_level l c.args.stack.now) c.begin_level.ensures)

@@ -1,0 +1,21 @@
+use Rattle.std.proofs.Common.{◌≡◌, [], ap, sym, ◌∙◌, subst}
+use Rattle.xc_dance.specs.Dancing.{Dancing}
+use Rattle.xc_search.specs.Cut.{Uncut, IsPath}
+use Rattle.xc_search.specs.inner.Levels.{Levels}
+use Rattle.xc_search.proofs.paths.Below.{led_path}
+use Rattle.xc_search.proofs.paths.Settled.{part_below}
+use Rattle.xc_search.proofs.cut.Cut.next.Goals as goal
+
+pub returns-clause-path : goal.returns-clause-path
+returns-clause-path g c is =
+    let e = c.next_part-found.new.position in
+    let ks = c.next_part-found.new.stack in
+    let same : e.puzzle ≡ c.args.self.now.puzzle =
+    ap (λ (s : Dancing). s.puzzle) (c.next_part-found.ensures.part is).still.0 ∙ ap (λ (u : Uncut). u.puzzle) c.self.view_is in
+    subst (λ p. IsPath p c.show.new.self.shown) same
+    (subst (λ (ls : Levels). IsPath e.puzzle ls.shown) (sym c.show.ensures) (led_path e.puzzle e.trail ks.levels (c.next_part-found.ensures.path [] c.self.invariant.led)))
+
+pub returns-clause-part : goal.returns-clause-part
+returns-clause-part g c is =
+    part_below c.self.inside.position c.next_part-found.new.position c.self.inside.stack c.next_part-found.new.stack c.show.new.self c.self.inside.down c.args.self.now
+    (c.next_part-found.ensures.part is) (c.next_part-found.ensures.path [] c.self.invariant.led) c.show.ensures c.self.view_is

@@ -1,0 +1,69 @@
+-- What a path leaves is what the search has there.
+use Rattle.std.proofs.Common.{ℕ, ◌≡◌, ◌-◌, Bool, true, cond, eqb, ◌&&◌, List, [], ◌∷◌, ◌++◌, map, Option, Some, None, refl, sym, ap, ap₂, ◌∙◌, eq-eqb}
+use Rattle.std.specs.Prelude.{slice_get, unwrap_or, option_map, option_and_then}
+use Rattle.xc_search.specs.declared.choice.Choice.{Choice}
+use Rattle.xc_dance.specs.declared.dance.Move.{Move}
+use Rattle.xc_search.specs.declared.level.Level.{Level}
+use Rattle.xc_input.specs.Problem.{Puzzle}
+use Rattle.xc_search.specs.Listing.{Wanted, Residual, Branch, whole, branch_item, listing}
+use Rattle.xc_search.specs.Cut.{branches_left, has_choice, left_by_one, left_by, below, IsPath}
+use Rattle.xc_search.specs.inner.Residual.{residual_of}
+use Rattle.xc_search.specs.inner.Commits.{oldest}
+use Rattle.xc_search.specs.inner.Levels.{branches_at, chosen, choices_of, to_give, coming}
+use Rattle.xc_search.specs.inner.Paths.{IsLed, AreLed}
+use Rattle.xc_search.proofs.residual.BranchItemLeft.{no_moves_leave_all}
+use Rattle.xc_search.proofs.stacked.BegunComesFirst.{choices_more}
+
+at_end : (o : Option Residual) → option_and_then (left_by []) o ≡ o
+at_end None = refl
+at_end (Some r) = refl
+
+further : (path : List Choice) (c : Choice) → ((r : Residual) → left_by (path ++ c ∷ []) r ≡ option_and_then (left_by_one c) (left_by path r)) →
+    (o : Option Residual) → option_and_then (left_by (path ++ c ∷ [])) o ≡ option_and_then (left_by_one c) (option_and_then (left_by path) o)
+further path c more None = refl
+further path c more (Some r) = more r
+
+-- one choice more
+left_by_more : (path : List Choice) (c : Choice) (r : Residual) → left_by (path ++ c ∷ []) r ≡ option_and_then (left_by_one c) (left_by path r)
+left_by_more [] c r = at_end (left_by_one c r)
+left_by_more (x ∷ path) c r = further path c (left_by_more path c) (left_by_one x r)
+
+has_its_choice : (b : Branch) → has_choice b.choice b ≡ true
+has_its_choice b =
+    let both : (x y : Bool) → x ≡ true → y ≡ true → x && y ≡ true = λ x y e f. ap₂ (λ x y. x && y) e f in
+    both _ _ (both _ _ (both _ _ (same b.choice.item) (same (unwrap_or b.choice.option 0))) (same b.choice.k)) (same b.choice.n)
+  where
+    same : (n : ℕ) → eqb n n ≡ true
+    same n = eq-eqb n n refl
+
+branches_same : (p : Puzzle) (t : List Move) → branches_left (residual_of p t) ≡ branches_at p t
+branches_same p t = by_case (branch_item (residual_of p t)) refl
+  where
+    by_case : (o : Option Wanted) → branch_item (residual_of p t) ≡ o → branches_left (residual_of p t) ≡ branches_at p t
+    by_case None e = rw e refl
+    by_case (Some w) e = rw e refl
+
+led_by_one : (p : Puzzle) (t : List Move) (l : Level) → IsLed p t l → left_by_one (chosen l) (residual_of p (oldest l.mark t)) ≡ Some (residual_of p t)
+led_by_one p t l a =
+    let b = a.branch in
+    ap (λ bs. option_and_then (λ b. cond (has_choice (chosen l) b) (Some b.next) None) (slice_get bs (l.begun - 1))) (branches_same p (oldest l.mark t))
+    ∙ ap (option_and_then (λ b. cond (has_choice (chosen l) b) (Some b.next) None)) a.at
+    ∙ ap (λ c. cond (has_choice c b) (Some b.next) None) a.choice
+    ∙ ap (λ x. cond x (Some b.next) None) (has_its_choice b)
+    ∙ ap Some (sym a.next)
+
+pub led_left : (p : Puzzle) (t : List Move) (ls : List Level) → AreLed p [] t ls → left_by (choices_of ls) (whole p) ≡ Some (residual_of p t)
+led_left p t [] a = ap Some (sym (no_moves_leave_all p)) ∙ ap (λ t. Some (residual_of p t)) (sym a)
+led_left p t (l ∷ ls) a =
+    ap (λ path. left_by path (whole p)) (choices_more l ls)
+    ∙ left_by_more (choices_of ls) (chosen l) (whole p)
+    ∙ ap (option_and_then (left_by_one (chosen l))) (led_left p (oldest l.mark t) ls a.1)
+    ∙ led_by_one p t l a.0
+
+pub led_path : (p : Puzzle) (t : List Move) (ls : List Level) → AreLed p [] t ls → IsPath p (choices_of ls)
+led_path p t ls a = (residual_of p t, led_left p t ls a)
+
+-- what comes is what is below the path, and then what the levels have to give
+pub comes_below : (p : Puzzle) (t : List Move) (ls : List Level) → AreLed p [] t ls → coming p t ls true ≡ below p (choices_of ls) ++ to_give p t ls
+comes_below p t ls a =
+    sym (ap (λ o. unwrap_or (option_map (λ r. map (λ m. choices_of ls ++ m) (listing r)) o) [] ++ to_give p t ls) (led_left p t ls a))

@@ -1,0 +1,48 @@
+-- A search cut into parts, along its own tree.
+use Rattle.std.specs.Prelude.{ℕ, ◌-◌, ◌≡◌, Bool, ◌&&◌, ◌==◌, List, [], ◌∷◌, ◌++◌, map, flat_map, Option, Some, None, unwrap_or, option_map, option_and_then, slice_get, if◌then◌else◌}
+use Rattle.xc_search.specs.declared.choice.Choice.{Choice}
+use Rattle.xc_input.specs.Problem.{Puzzle}
+use Rattle.xc_search.specs.Listing.{Residual, Branch, whole, branch_item, branches_of, listing}
+use Rattle.xc_search.specs.Cover.{members}
+
+-- the branches of what is left: those of its branch item
+abbrev pub branches_left : Residual → List Branch
+branches_left r = unwrap_or (option_map (branches_of r) (branch_item r)) []
+
+-- a branch has this choice, where 0 stands for no option
+abbrev pub has_choice : Choice → Branch → Bool
+has_choice c b =
+    b.choice.item == c.item && unwrap_or b.choice.option 0 == unwrap_or c.option 0
+    && b.choice.k == c.k && b.choice.n == c.n
+
+-- what the branch of this choice leaves
+abbrev pub left_by_one : Choice → Residual → Option Residual
+left_by_one c r =
+    option_and_then (λ b. if has_choice c b then Some b.next else None) (slice_get (branches_left r) (c.k - 1))
+
+-- what the choices of a path leave, each that of a branch of what those before it leave
+abbrev pub left_by : List Choice → Residual → Option Residual
+left_by [] r = Some r
+left_by (c ∷ path) r = option_and_then (left_by path) (left_by_one c r)
+
+-- a path of the search's tree
+abbrev pub IsPath : Puzzle → List Choice → Type 0
+IsPath p path = (r : Residual) × (left_by path (whole p) ≡ Some r)
+
+-- the members below a path: its choices in front of each member of the listing of what they leave
+abbrev pub below : Puzzle → List Choice → List (List Choice)
+below p path = unwrap_or (option_map (λ r. map (λ m. path ++ m) (listing r)) (left_by path (whole p))) []
+
+-- The paths of a plan cut the search: the members of the problem are those below them in turn.
+abbrev pub IsCut : Puzzle → List (List Choice) → Type 0
+IsCut p plan = members p ≡ flat_map (below p) plan
+
+-- a cut of this problem's search: the path that it shows, what is to come, and the room of its trail
+pub record Uncut : Type 0 where
+  pub puzzle : Puzzle
+  -- the members that are in no part yet
+  pub to_come : List (List Choice)
+  -- the path of the part that was reached last, as long as it stands
+  pub path : List Choice
+  -- how many moves the trail has room for
+  pub room : ℕ
