@@ -23,7 +23,7 @@ fn goes_over(search: &mut Search<Lists>, path: &[Choice]) -> bool {
 fn lists_by_parts(search: &mut Search<Lists>, cut: &mut Cut<Lists>, budget: u64) -> bool {
     let mut done = false;
     for _ in 0..1000 {
-        if cut.next(budget) == Cutting::Done {
+        if cut.next(budget, 0) == Cutting::Done {
             return done;
         }
         if done || !search.choices().starts_with(cut.path()) {
@@ -54,7 +54,7 @@ fn is_cut(alloc: Global, problem: &Problem, budget: u64) -> Result<bool, Fail> {
 /// How many parts are left within a budget.
 fn count_left(cut: &mut Cut<Lists>, budget: u64) -> usize {
     for parts in 0..1000 {
-        if cut.next(budget) == Cutting::Done {
+        if cut.next(budget, 0) == Cutting::Done {
             return parts;
         }
     }

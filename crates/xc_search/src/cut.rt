@@ -1,5 +1,6 @@
 //! A search cut into parts, along its own tree.
-ghost use Rattle.std.specs.Prelude.{◌≡◌, ◌<◌, ◌≤◌, [], ◌++◌, true, false, IfOk, IfErr};
+ghost use Rattle.std.specs.Prelude.{◌≡◌, ◌<◌, ◌≤◌, [], ◌++◌, true, false, All, IfOk, IfErr};
+ghost use Rattle.xc_input.specs.Problem.{IsPrimary};
 ghost use Rattle.xc_search.specs.Room.{room_for};
 ghost use Rattle.xc_search.specs.Cover.{members};
 ghost use Rattle.xc_search.specs.Cut.{below, IsPath};
@@ -14,7 +15,7 @@ use crate::choice::Choice;
 use crate::counts::most_levels;
 use crate::levels::{Below, Resumed, deepen, end_level, resume, unwind};
 use crate::position::Position;
-use crate::stack::Stack;
+use crate::stack::{Stack, WHOLE};
 use std::alloc::Global;
 use std::marker::Model;
 use xc_dance::{Dance, Memory};
@@ -29,6 +30,15 @@ pub enum Cutting {
     Done,
 }
 
+/// How long a part's search may be.
+#[derive(Clone, Copy)]
+struct Bounds {
+    /// So many nodes a trial visits.
+    budget: u64,
+    /// So many nodes a part is judged to have at most.
+    size: u64,
+}
+
 /// What a trial finds of a node.
 #[derive(Clone, Copy)]
 enum Trial {
@@ -36,8 +46,8 @@ enum Trial {
     Barren,
     /// Its search ended.
     Ended,
-    /// Its search goes on beyond the budget.
-    Unended,
+    /// Its search goes on beyond the budget, and is judged to have so many nodes.
+    Unended(u64),
 }
 
 /// Where a cut goes on.
@@ -125,12 +135,16 @@ impl<'a, D: Dance> Cut<'a, D> {
     }
 
     /// Goes on to the next part, whose path `path` then gives. A node is a part where its search
-    /// ends within `budget` nodes; another is cut into its branches, and a solution is never cut.
-    /// Nodes without a solution are left out where their search ends within the budget. After `Done`
-    /// it answers `Done` again.
-    pub fn next(&mut self, budget: u64) -> Cutting
+    /// ends within `budget` nodes, or is judged to have at most `size` of them, by how far it came;
+    /// another is cut into its branches. A solution is never cut. A node without a solution is left
+    /// out where its search ends within the budget. After `Done` it answers `Done` again.
+    ///
+    /// With a size of 0 it looks at each node of the search, with a larger one at `budget` nodes for
+    /// each part and each node above it at most.
+    pub fn next(&mut self, budget: u64, size: u64) -> Cutting
         ensures still { self.new ≡ record self.old { to_come = self.new.to_come; path = self.new.path } }
         ensures path { result ≡ Cutting.Part → IsPath self.old.puzzle self.new.path }
+        ensures known { result ≡ Cutting.Part → All (λ (c : Choice). IsPrimary self.old.puzzle c.item) self.new.path }
         ensures part { result ≡ Cutting.Part →
             self.old.to_come ≡ below self.old.puzzle self.new.path ++ self.new.to_come }
         ensures done { result ≡ Cutting.Done → (self.old.to_come ≡ []) × (self.new ≡ record self.old { path = [] }) }
@@ -140,7 +154,7 @@ impl<'a, D: Dance> Cut<'a, D> {
             &mut self.stack,
             &mut self.trial,
             self.down,
-            budget,
+            Bounds { budget, size },
         );
         self.stack.show();
         self.down = false;
@@ -168,7 +182,7 @@ fn next_part<D: Dance>(
     stack: &mut Stack,
     trial: &mut Stack,
     down: bool,
-    budget: u64,
+    bounds: Bounds,
 ) -> Cutting
     requires standing { IsStanding position.old.puzzle position.old.trail stack.old.levels down }
     requires levels_fit { most_levels position.old.puzzle ≤ stack.old.room }
@@ -182,7 +196,7 @@ fn next_part<D: Dance>(
     let mut descends = down;
     loop {
         if descends {
-            match settle(position, stack, trial, budget) {
+            match settle(position, stack, trial, bounds) {
                 Settled::Opened => continue,
                 Settled::Barren => {}
                 Settled::Part => return Cutting::Part,
@@ -195,12 +209,12 @@ fn next_part<D: Dance>(
     }
 }
 
-/// Tries the node, and cuts it where its search goes on beyond the budget.
+/// Tries the node, and cuts it where its search is too long for a part.
 fn settle<D: Dance>(
     position: &mut Position<D>,
     stack: &mut Stack,
     trial: &mut Stack,
-    budget: u64,
+    bounds: Bounds,
 ) -> Settled
     requires standing { IsStanding position.old.puzzle position.old.trail stack.old.levels true }
     requires levels_fit { most_levels position.old.puzzle ≤ stack.old.room }
@@ -216,10 +230,16 @@ fn settle<D: Dance>(
     ensures path { KeepsPath position.old stack.old position.new stack.new }
     ensures trial { trial.new ≡ trial.old }
 {
-    match try_node(position, trial, budget) {
+    match try_node(position, trial, bounds.budget) {
         Trial::Barren => Settled::Barren,
         Trial::Ended => Settled::Part,
-        Trial::Unended => open_node(position, stack),
+        Trial::Unended(nodes) => {
+            if nodes <= bounds.size {
+                Settled::Part
+            } else {
+                open_node(position, stack)
+            }
+        }
     }
 }
 
@@ -276,7 +296,13 @@ fn search_node<D: Dance>(position: &mut Position<D>, trial: &mut Stack, budget: 
             return if found { Trial::Ended } else { Trial::Barren };
         }
     }
-    Trial::Unended
+    Trial::Unended(nodes_at(budget, trial.share()))
+}
+
+/// How many nodes a search has, judged by how many it visited in a share of its branches, of 2^63.
+fn nodes_at(visited: u64, share: u64) -> u64 {
+    let times = (WHOLE / (share / 256).max(1)).max(256);
+    (visited / 256).saturating_mul(times).max(visited)
 }
 
 /// What a visit of a node found.

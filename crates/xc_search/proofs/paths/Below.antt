@@ -1,15 +1,16 @@
 -- What a path leaves is what the search has there.
-use Rattle.std.proofs.Common.{ℕ, ◌≡◌, ◌-◌, Bool, true, cond, eqb, ◌&&◌, List, [], ◌∷◌, ◌++◌, map, Option, Some, None, refl, sym, ap, ap₂, ◌∙◌, eq-eqb}
-use Rattle.std.specs.Prelude.{slice_get, unwrap_or, option_map, option_and_then}
+use Rattle.std.proofs.Common.{ℕ, ◌≡◌, ◌-◌, Bool, true, cond, eqb, ◌&&◌, List, [], ◌∷◌, ◌++◌, map, Option, Some, None, refl, sym, ap, ap₂, ◌∙◌, subst, eq-eqb}
+use Rattle.std.specs.Prelude.{All, slice_get, unwrap_or, option_map, option_and_then}
 use Rattle.xc_search.specs.declared.choice.Choice.{Choice}
 use Rattle.xc_dance.specs.declared.dance.Move.{Move}
 use Rattle.xc_search.specs.declared.level.Level.{Level}
-use Rattle.xc_input.specs.Problem.{Puzzle}
+use Rattle.xc_input.specs.Problem.{Puzzle, IsPrimary}
 use Rattle.xc_search.specs.Listing.{Wanted, Residual, Branch, whole, branch_item, listing}
 use Rattle.xc_search.specs.Cut.{branches_left, has_choice, left_by_one, left_by, below, IsPath}
 use Rattle.xc_search.specs.inner.Residual.{residual_of}
 use Rattle.xc_search.specs.inner.Commits.{oldest}
-use Rattle.xc_search.specs.inner.Levels.{branches_at, chosen, choices_of, to_give, coming}
+use Rattle.std.proofs.lemmas.List.Elements.{All-nil, All-cons, All-append}
+use Rattle.xc_search.specs.inner.Levels.{AreStacked, branches_at, chosen, choices_of, to_give, coming}
 use Rattle.xc_search.specs.inner.Paths.{IsLed, AreLed}
 use Rattle.xc_search.proofs.residual.BranchItemLeft.{no_moves_leave_all}
 use Rattle.xc_search.proofs.stacked.BegunComesFirst.{choices_more}
@@ -67,3 +68,11 @@ led_path p t ls a = (residual_of p t, led_left p t ls a)
 pub comes_below : (p : Puzzle) (t : List Move) (ls : List Level) → AreLed p [] t ls → coming p t ls true ≡ below p (choices_of ls) ++ to_give p t ls
 comes_below p t ls a =
     sym (ap (λ o. unwrap_or (option_map (λ r. map (λ m. choices_of ls ++ m) (listing r)) o) [] ++ to_give p t ls) (led_left p t ls a))
+
+-- the items of the choices are primary
+pub primary_choices : (p : Puzzle) (t : List Move) (ls : List Level) → AreStacked p t ls → All (λ (c : Choice). IsPrimary p c.item) (choices_of ls)
+primary_choices p t [] a = All-nil (λ (c : Choice). IsPrimary p c.item)
+primary_choices p t (l ∷ ls) a =
+    let is : Choice → Type 0 = λ c. IsPrimary p c.item in
+    subst (All is) (sym (choices_more l ls))
+    (All-append is (choices_of ls) (chosen l ∷ []) (primary_choices p (oldest l.mark t) ls a.2) (All-cons is (chosen l) [] a.0.node.item (All-nil is)))
