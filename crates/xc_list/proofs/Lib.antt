@@ -3,6 +3,7 @@ pub mod Digits
 pub mod OutputLemmas
 pub mod NextPrinted
 pub mod Outputs
+pub mod Planned
 pub mod TextLemmas
 pub mod Writing
 pub mod WordLemmas

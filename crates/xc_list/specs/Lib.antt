@@ -4,6 +4,7 @@ pub mod Listed
 pub mod ListingLines
 pub mod Messages
 pub mod Output
+pub mod Plans
 pub mod Runs
 pub mod Settings
 pub mod Texts

@@ -1,5 +1,5 @@
 -- A search cut into parts, along its own tree.
-use Rattle.std.specs.Prelude.{ℕ, ◌-◌, ◌≡◌, Bool, ◌&&◌, ◌==◌, List, [], ◌∷◌, ◌++◌, map, flat_map, Option, Some, None, unwrap_or, option_map, option_and_then, slice_get, if◌then◌else◌}
+use Rattle.std.specs.Prelude.{All, ℕ, ◌-◌, ◌≡◌, Bool, ◌&&◌, ◌==◌, List, [], ◌∷◌, ◌++◌, map, flat_map, Option, Some, None, unwrap_or, option_map, option_and_then, slice_get, if◌then◌else◌}
 use Rattle.xc_search.specs.declared.choice.Choice.{Choice}
 use Rattle.xc_input.specs.Problem.{Puzzle}
 use Rattle.xc_search.specs.Listing.{Residual, Branch, whole, branch_item, branches_of, listing}
@@ -33,9 +33,14 @@ IsPath p path = (r : Residual) × (left_by path (whole p) ≡ Some r)
 abbrev pub below : Puzzle → List Choice → List (List Choice)
 below p path = unwrap_or (option_map (λ r. map (λ m. path ++ m) (listing r)) (left_by path (whole p))) []
 
--- The paths of a plan cut the search: the members of the problem are those below them in turn.
+-- The members of the problem are those below the paths of a plan in turn, and then the rest.
+pub record IsCutUpTo (p : Puzzle) (plan : List (List Choice)) (rest : List (List Choice)) : Type 0 where
+  pub paths : All (IsPath p) plan
+  pub members : members p ≡ flat_map (below p) plan ++ rest
+
+-- The paths of a plan cut the search: with no rest.
 abbrev pub IsCut : Puzzle → List (List Choice) → Type 0
-IsCut p plan = members p ≡ flat_map (below p) plan
+IsCut p plan = IsCutUpTo p plan []
 
 -- a cut of this problem's search: the path that it shows, what is to come, and the room of its trail
 pub record Uncut : Type 0 where

@@ -17,7 +17,7 @@ use xc_input::{Kind, Problem, Source, read_problem};
 use xc_list::{ListingFault, Sink, SinkFault, Verdict, check, write_all, write_number};
 
 /// The kind of problem that a number stands for.
-fn numbered_kind(word: &[u8]) -> Option<Kind>
+pub(crate) fn numbered_kind(word: &[u8]) -> Option<Kind>
     ensures { result ≡ numbered_kind word.now }
 {
     match word {
