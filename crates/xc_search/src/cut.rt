@@ -299,10 +299,13 @@ fn search_node<D: Dance>(position: &mut Position<D>, trial: &mut Stack, budget: 
     Trial::Unended(nodes_at(budget, trial.share()))
 }
 
-/// How many nodes a search has, judged by how many it visited in a share of its branches, of 2^63.
+/// How many nodes a search has that goes on behind so many, judged by the share of its branches that
+/// they took, of 2^63.
 fn nodes_at(visited: u64, share: u64) -> u64 {
     let times = (WHOLE / (share / 256).max(1)).max(256);
-    (visited / 256).saturating_mul(times).max(visited)
+    (visited / 256)
+        .saturating_mul(times)
+        .max(visited.saturating_add(1))
 }
 
 /// What a visit of a node found.
