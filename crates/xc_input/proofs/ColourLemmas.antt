@@ -1,12 +1,13 @@
 -- A colour keeps the number that it has where it is met first.
 use Rattle.std.proofs.Common.{◌≡◌, ℕ, suc, ◌+◌, ◌<◌, List, [], ◌∷◌, ◌++◌, Option, None, Some, Bool, true, false, ◌||◌, not, nat_lt, is_none, unwrap_or, length, refl, sym, ap, subst, ◌∙◌, length-append, arith, if◌then◌else◌}
+use Rattle.xc_input.specs.declared.problem.Use.{Use}
 use Rattle.std.proofs.lemmas.Bool.Decides.{nat_tests}
 use Rattle.std.proofs.lemmas.Slice.Eq.{bytes_eq-Decides}
 use Rattle.std.specs.List.{list_any, position, position_or_len}
 use Rattle.std.specs.Str.{bytes_eq}
 use Rattle.xc_input.specs.Words.{place}
 use Rattle.xc_input.specs.Sheets.{Written, with_colour, with_uses, colour_number}
-use Rattle.xc_input.specs.inner.ColourNumbers.{numbered, numbered_in_turn}
+use Rattle.xc_input.specs.inner.ColourNumbers.{numbered}
 use Rattle.xc_input.proofs.FaultLemmas.{no-place, some-is}
 
 last-or-len : {A : Type 0} (p : A → Bool) (xs : List A) (x : A) → list_any p xs ≡ false → p x ≡ true → position_or_len p (xs ++ x ∷ []) ≡ length xs
@@ -78,6 +79,13 @@ knows-more cs (b ∷ bs) (x ∷ xs) k =
 kept : (cs : List (List ℕ)) (us : List Written) (c : List ℕ) → Knows cs c → colour_number (with_uses cs us) c ≡ colour_number cs c
 kept cs [] c k = refl
 kept cs (u ∷ us) c k = let m = knows-more cs u.colour c k in kept (with_colour cs u.colour) us c m.0 ∙ m.1
+
+-- uses of an option that is kept, each numbered as soon as it is met, behind options that used these colours
+abbrev pub numbered_in_turn : List (List ℕ) → List Written → List Use
+numbered_in_turn colours [] = []
+numbered_in_turn colours (u ∷ us) =
+    record { item = u.item; colour = colour_number (with_colour colours u.colour) u.colour } ∷
+    numbered_in_turn (with_colour colours u.colour) us
 
 pub in_turn : (cs : List (List ℕ)) (us : List Written) → numbered_in_turn cs us ≡ numbered cs us
 in_turn cs [] = refl

@@ -25,3 +25,4 @@ pub mod DecimalValues
 pub mod UseLemmas
 pub mod ItemLemmas
 pub mod ColourLemmas
+pub mod NumberedOptions

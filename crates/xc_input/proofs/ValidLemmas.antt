@@ -1,7 +1,7 @@
 -- What stands for a text is valid.
 use Rattle.std.proofs.Common.{◌≡◌, ℕ, suc, ◌+◌, ◌*◌, ◌-◌, ◌^◌, ◌<◌, ◌≤◌, List, [], ◌∷◌, ◌++◌, Option, None, Some, Bool, true, false, ◌&&◌, nat_lt, nat_le, nat_eq, ◌||◌, ◌⊎◌, is_none, unwrap_or, length, position, refl, ap, ◌∙◌, sym, subst, arith, if◌then◌else◌, inl, inr, append_assoc, length-append}
-use Rattle.xc_input.proofs.ColourLemmas.{in_turn}
-use Rattle.xc_input.specs.inner.ColourNumbers.{numbered, numbered_in_turn}
+use Rattle.xc_input.proofs.ColourLemmas.{in_turn, numbered_in_turn}
+use Rattle.xc_input.specs.inner.ColourNumbers.{numbered}
 use Rattle.xc_input.proofs.ItemLemmas.{ItemsBehind, items-behind}
 use Rattle.xc_input.proofs.UseLemmas.{UsesBehind, uses-behind}
 use Rattle.std.specs.Char.{is_ascii_digit}

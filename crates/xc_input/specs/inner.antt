@@ -6,6 +6,5 @@ pub mod Builders
 pub mod Feeding
 pub mod CutTokens
 pub mod EndedLines
-pub mod NumberedOptions
 pub mod BoundTexts
 pub mod ColourNumbers

@@ -1,6 +1,6 @@
 -- The options with their numbers, and the places of the node table.
 use Rattle.std.proofs.Common.{◌≡◌, ℕ, zero, suc, ◌+◌, ◌<◌, List, [], ◌∷◌, Some, refl, ap, ◌∙◌, arith, ◌≢◌, ◌≤◌, inl, inr, Bool, true, false, cond, ◌&&◌, ◌||◌, eqb, ◌++◌, map, ap₂, sym, subst, eqb-true, eq-eqb, ne_eqb}
-use Rattle.xc_input.specs.inner.NumberedOptions.{numbered_from}
+use Rattle.xc_input.proofs.NumberedOptions.{numbered_from}
 use Rattle.std.specs.Prelude.{slice_get, unwrap_or, is_some, flat_map}
 use Rattle.std.specs.List.{AllByRecursion, list_any, range_with_len, position_or_len}
 use Rattle.std.proofs.lemmas.Grind.{common_steps}

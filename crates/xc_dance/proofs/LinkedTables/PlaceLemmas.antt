@@ -1,6 +1,6 @@
 -- Where the nodes of each option stand in the node table, between which spacers, and its span.
 use Rattle.std.proofs.Common.{◌≡◌, ℕ, zero, suc, ◌+◌, ◌≤◌, List, [], ◌∷◌, ◌++◌, length, map, Some, refl, ap, sym, ◌∙◌, arith, ◌<◌, get_or, false, subst, ne_eqb, eq-eqb, eqb-true, ◌-◌, true, cond, eqb, ap₂, lt-ltb}
-use Rattle.xc_input.specs.inner.NumberedOptions.{numbered_from}
+use Rattle.xc_input.proofs.NumberedOptions.{numbered_from}
 use Rattle.std.specs.Prelude.{slice_get, flat_map, option_map, sum_by, unwrap_or, is_some}
 use Rattle.std.specs.List.{range_with_len}
 use Rattle.std.proofs.lemmas.Grind.{common_steps}

@@ -1,6 +1,6 @@
 -- The lists before any move, filled option by option.
 use Rattle.std.proofs.Common.{ℕ, zero, suc, ◌≡◌, ◌≢◌, ◌+◌, ◌<◌, Bool, true, false, cond, eqb, List, [], ◌∷◌, ◌++◌, length, get_or, set, map, take, replicate, refl, ap, ap₂, sym, ◌∙◌, arith}
-use Rattle.xc_input.specs.inner.NumberedOptions.{numbered_from}
+use Rattle.xc_input.proofs.NumberedOptions.{numbered_from}
 use Rattle.std.proofs.lemmas.Grind.{common_steps}
 use Rattle.std.specs.Prelude.{AllPairs}
 use Rattle.std.specs.List.{range_with_len}

@@ -1,6 +1,6 @@
 -- The lists after moves, as filters of the lists before.
 use Rattle.std.proofs.Common.{ℕ, zero, suc, ◌≡◌, ◌≢◌, ◌+◌, ◌-◌, ◌<◌, ◌≤◌, Bool, true, false, not, cond, eqb, ◌&&◌, ◌||◌, List, [], ◌∷◌, length, get_or, set, filter, map, take, drop, Some, None, refl, ap, ap₂, sym, ◌∙◌, arith, subst, eq-eqb, eqb-true}
-use Rattle.xc_input.specs.inner.NumberedOptions.{numbered_from}
+use Rattle.xc_input.proofs.NumberedOptions.{numbered_from}
 use Rattle.std.proofs.lemmas.Grind.{common_steps}
 use Rattle.std.specs.Prelude.{All, IsTrue, is_some, unwrap_or, slice_get}
 use Rattle.std.specs.List.{AllByRecursion, list_any, range_with_len}

@@ -2,8 +2,7 @@ use Rattle.std.proofs.Common.{◌≡◌, ◌++◌, map, ap, ◌∙◌, arith}
 use Rattle.std.proofs.lemmas.Grind.{common_steps}
 use Rattle.xc_input.specs.inner.Builders.{written_of}
 use Rattle.xc_input.specs.inner.Stored.{key_names}
-use Rattle.xc_input.specs.inner.ColourNumbers.{numbered_in_turn}
-use Rattle.xc_input.proofs.ColourLemmas.{in_turn}
+use Rattle.xc_input.proofs.ColourLemmas.{in_turn, numbered_in_turn}
 use Rattle.xc_input.proofs.builder.add_uses.Goals as goal
 
 pub returns-clause-uses : goal.returns-clause-uses
