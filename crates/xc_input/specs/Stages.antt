@@ -40,8 +40,8 @@ content_checks kind stage line =
     let sheet = stage.sheet in
     let kept = has_primary sheet.primaries (written_by sheet line) in
     let many = nat_lt most_uses (use_count sheet.options + length (tokens line)) in
-    (if stage.started
-    then option_checks (context kind (names_of sheet.entries) sheet.primaries) [] (tokens line) ++ (TooManyUses, kept && many) ∷ []
+    let known = context kind (names_of sheet.entries) sheet.primaries in
+    (if stage.started then option_checks known [] (tokens line) ++ (TooManyUses, kept && many) ∷ []
     else row_checks kind no_row (parts line))
 
 -- the checks of a line

@@ -33,8 +33,8 @@ IsBounded kind secondary token e =
 abbrev pub IsEntry : Kind → Bool → List ℕ → Entry → Type 0
 IsEntry kind secondary token e = IsName e.name × (IsBare secondary token e ⊎ IsBounded kind secondary token e)
 
--- Parts of the item line stand for these items: those before the first bar for primary ones, of which there are so many,
--- and those behind it for secondary ones. (Another bar stands for none: no name has one.)
+-- Parts of the item line stand for these items: those before the first bar for primary ones, of which there are so
+-- many, and those behind it for secondary ones. (Another bar stands for none: no name has one.)
 pub record AreItems (kind : Kind) (parts : List (List ℕ)) (entries : List Entry) (primaries : ℕ) : Type 0 where
   pub count : primaries ≡ length (before_first is_bar parts)
   pub primary : AllZip (IsEntry kind false) (before_first is_bar parts) (take primaries entries)

@@ -61,7 +61,8 @@ abbrev pub solutions_of : List (List ℕ) → List Solution
 solutions_of [] = []
 solutions_of (l ∷ lines) =
     let bodies = filter_map body_of (before_first (λ l. is_some (header_number l)) lines) in
-    elim (header_number l) [ None ↦ solutions_of lines | Some n ↦ record { number = n; bodies = bodies } ∷ solutions_of lines ]
+    let later = solutions_of lines in
+    elim (header_number l) [ None ↦ later | Some n ↦ record { number = n; bodies = bodies } ∷ later ]
 
 -- A listed solution is a cover: different options can be given to its choice lines, lines of none aside, to each one
 -- that its body stands for, so that their set is a cover.
