@@ -2,9 +2,7 @@
 #![tactic(auto)]
 
 use anyhow::{Result, bail};
-use xc_input::{Feed, Kind, read_problem};
-use xc_list::{End, Words, run};
-use xc_tools::Direct;
+use helgrothy::{Direct, End, Kind, SliceSource, Words, read_problem, run};
 
 /// Two of three lamps are lit, and those that are lit have one colour.
 const LAMPS: &[u8] = b"2|lamp | light hall den loft\n\
@@ -13,16 +11,15 @@ const LAMPS: &[u8] = b"2|lamp | light hall den loft\n\
     lamp loft light:red\n";
 
 fn main(rt: HostRuntime) -> Result<()> {
-    let mut source = Feed::new(LAMPS, 65536, None);
+    let mut source = SliceSource::new(LAMPS);
     let problem = read_problem(rt.alloc(), Kind::Bounds, &mut source)?.problem;
     let first = Words {
         spacing: 1,
         limit: 1,
     };
-    match run(rt.alloc(), &problem, first, &mut Direct::new(rt.stdout())) {
-        Ok(End::Limit(_)) => Ok(()),
-        Ok(End::Done(_)) => bail!("no cover"),
-        Ok(End::WriteFailed(_)) => bail!("write failed"),
-        Err(_) => bail!("out of memory"),
+    match run(rt.alloc(), &problem, first, &mut Direct::new(rt.stdout()))? {
+        End::Limit(_) => Ok(()),
+        End::Done(_) => bail!("no cover"),
+        End::WriteFailed(_) => bail!("write failed"),
     }
 }

@@ -1,0 +1,49 @@
+//! Exact cover problems, read, searched and judged: what a caller needs of the libraries, under one name.
+//!
+//! The first cover of a problem, as numbers of options:
+//!
+//! ```text
+//! fn first_cover(alloc: Global, text: &[u8]) -> Result<Option<Vec<u32>>> {
+//!     let problem = read_problem(alloc, Kind::Colours, &mut SliceSource::new(text))?.problem;
+//!     let links = Links::for_search(alloc, &problem)?;
+//!     let mut search = Search::begin(alloc, links, &problem)?;
+//!     let Some(choices) = search.next_solution() else {
+//!         return Ok(None);
+//!     };
+//!     Ok(Some(choices.iter().filter_map(|c| c.option).collect(alloc)?))
+//! }
+//! ```
+//!
+//! How many solutions there are, up to a limit:
+//!
+//! ```text
+//! fn count(alloc: Global, text: &[u8], limit: u64) -> Result<u64> {
+//!     let problem = read_problem(alloc, Kind::Bounds, &mut SliceSource::new(text))?.problem;
+//!     let words = Words { spacing: 0, limit };
+//!     let end = run(alloc, &problem, words, &mut VecSink::new(alloc))?;
+//!     Ok(end.solutions())
+//! }
+//! ```
+//!
+//! Whether a listing has only covers:
+//!
+//! ```text
+//! fn are_covers(alloc: Global, text: &[u8], listing: &[u8]) -> Result<bool> {
+//!     let problem = read_problem(alloc, Kind::Plain, &mut SliceSource::new(text))?.problem;
+//!     let verdicts = check(alloc, &problem, listing)?;
+//!     Ok(verdicts.iter().all(|v| v.cover))
+//! }
+//! ```
+#![tactic(auto)]
+
+pub use xc_dance::{Count, Dance, Full, Links, Lists, Memory, Move};
+pub use xc_input::{
+    Bounds, FaultKind, Feed, InputError, Item, Kind, Options, Problem, Read, ReadFailed, Reader,
+    Seed, SliceSource, Source, Use, read_problem,
+};
+pub use xc_list::{
+    End, ListingFault, Sink, SinkFault, Tray, VecSink, Verdict, WordFault, Words, WriteFailed, check,
+    is_cover, run, run_over, summary, warnings, write_all, write_solution,
+};
+pub use xc_search::{Choice, NoSearch, Search, Step, branches, choose, most_moves};
+pub use xc_tools::{Direct, Incoming, Outgoing, random_seed};
