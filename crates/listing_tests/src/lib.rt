@@ -16,4 +16,6 @@ mod lines;
 #[cfg(test)]
 mod listing;
 #[cfg(test)]
+mod plans;
+#[cfg(test)]
 mod written;
