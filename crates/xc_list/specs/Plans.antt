@@ -7,7 +7,7 @@ use Rattle.xc_input.specs.Named.{Named}
 use Rattle.xc_list.specs.Output.{bytes_at}
 use Rattle.xc_list.specs.Settings.{long_number}
 use Rattle.xc_list.specs.declared.planning.PlanWords.{PlanWords}
-use Rattle.xc_list.specs.Texts.{SinkState, Took, BrokeOff, IsUntouched}
+use Rattle.xc_list.specs.Texts.{SinkState, Took, BrokeOff}
 use Rattle.xc_list.specs.declared.runs.End.{End}
 use Rattle.xc_list.specs.declared.runs.End.TheVariants.{Done, Limit, WriteFailed}
 
@@ -63,4 +63,4 @@ WasPlanned a limit old new (WriteFailed n) = PlanBrokeOff a n old new
 -- What planning answers: its end, with what was written up to it; or, where there was no memory for the search, nothing
 -- was written.
 abbrev pub AnswersPlan : Named → ℕ → SinkState → SinkState → Result End Memory → Type 0
-AnswersPlan a limit old new r = MatchResult r (WasPlanned a limit old new) (λ _. IsUntouched old new)
+AnswersPlan a limit old new r = MatchResult r (WasPlanned a limit old new) (λ _. Took old new [])

@@ -6,7 +6,7 @@ use Rattle.xc_search.specs.declared.choice.Choice.{Choice}
 use Rattle.xc_search.specs.Cut.{IsCut}
 use Rattle.xc_list.specs.declared.planning.PlanWords.{PlanWords}
 use Rattle.xc_list.specs.Plans.{read_plan_words, plan_text, IsPlanned, PlanBrokeOff}
-use Rattle.xc_list.specs.Texts.{SinkState, WasTold, IsUntouched}
+use Rattle.xc_list.specs.Texts.{SinkState, WasTold, Took}
 use Rattle.xc_tools.specs.Given.{GaveProblem}
 use Rattle.xc_tools.specs.Judges.{numbered_kind}
 use Rattle.xc_tools.specs.Solves.{Streams, TookAll, FailedBehind, IsRefused, HasNoProblem}
@@ -41,7 +41,7 @@ pub record IsUnwritten (a : Named) (out_old out_new err_old err_new : SinkState)
 
 -- 4: there was no memory for the search, which was told, and nothing was written.
 pub record HasNoMemory (out_old out_new err_old err_new : SinkState) : Type 0 where
-  pub unwritten : IsUntouched out_old out_new
+  pub unwritten : Took out_old out_new []
   pub told : WasTold err_old err_new (codes "Out of memory.\n")
 
 -- What planning the parts of a problem did, by the status.

@@ -5,7 +5,8 @@ use Rattle.std.specs.List.{list_all, list_any, AllByRecursion}
 use Rattle.std.proofs.lemmas.Bool.Decides.{nat_tests}
 use Rattle.std.proofs.lemmas.List.Elements.{recursion_from_All}
 use Rattle.xc_input.specs.declared.problem.Use.{Use}
-use Rattle.xc_input.specs.Problem.{Puzzle, Bounds, IsValid, IsItem, IsOption, IsSecondary, IsSoundUse, bounds_at, colour_in, item_count, primary_count, uses_of}
+use Rattle.xc_input.specs.declared.problem.Bounds.{Bounds}
+use Rattle.xc_input.specs.Problem.{Puzzle, IsValid, IsItem, IsOption, IsSecondary, IsSoundUse, bounds_at, colour_in, item_count, primary_count, uses_of}
 use Rattle.xc_search.specs.Cover.{IsCover, times_held}
 use Rattle.xc_input.proofs.BooleanTests.{and_left, and_right}
 use Rattle.xc_input.proofs.lists.EachTwo.{EachTwo}

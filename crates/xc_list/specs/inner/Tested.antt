@@ -2,7 +2,8 @@
 use Rattle.std.specs.Prelude.{ℕ, Bool, true, ◌&&◌, ◌||◌, ◌==◌, nat_le, nat_lt, List, Option, Some, None}
 use Rattle.std.specs.List.{list_all}
 use Rattle.xc_input.specs.declared.problem.Use.{Use}
-use Rattle.xc_input.specs.Problem.{Puzzle, Bounds, bounds_at, colour_in, primary_count, uses_of}
+use Rattle.xc_input.specs.declared.problem.Bounds.{Bounds}
+use Rattle.xc_input.specs.Problem.{Puzzle, bounds_at, colour_in, primary_count, uses_of}
 use Rattle.xc_search.specs.Cover.{times_held}
 
 -- whether two options may give an item these colours, if the other one holds it
