@@ -2,6 +2,10 @@
 //! tries them beside the proofs of the libraries that they don't use.
 #![tactic(auto)]
 
+// What is there for callers.
+#[cfg(test)]
+mod callers;
+
 // Helpers.
 #[cfg(test)]
 mod keepers;

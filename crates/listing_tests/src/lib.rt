@@ -2,6 +2,10 @@
 //! no library is proved a second time for them.
 #![tactic(auto)]
 
+// What is there for callers.
+#[cfg(test)]
+mod callers;
+
 // Helpers.
 #[cfg(test)]
 mod ends;

@@ -13,9 +13,8 @@ fn main(rt: HostRuntime) -> anyhow::Result<()> {
         let Some(choices) = search.next_solution() else {
             break;
         };
-        for choice in choices {
-            let uses = problem.get_option(choice.option.unwrap_or(0));
-            for used in uses.unwrap_or(&[]) {
+        for c in choices {
+            for used in problem.get_option(c.option.unwrap_or(0)).unwrap_or(&[]) {
                 write_all(&mut output, problem.name_of(*used))?;
                 write_all(&mut output, b" ")?;
             }
