@@ -30,7 +30,8 @@ plan_text a plan = flat_map (part_text a) plan
 -- what words ask of a plan by their numbers, where each is one
 abbrev pub with_numbers : Option ℕ → Option ℕ → Option ℕ → Option PlanWords
 with_numbers budget size limit =
-    option_and_then (λ b. option_and_then (λ s. option_map (λ t. record { budget = b; size = s; limit = t }) limit) size) budget
+    option_and_then (λ b. option_and_then (λ s.
+    option_map (λ t. record { budget = b; size = s; limit = t }) limit) size) budget
 
 -- what words ask of a plan: a budget, perhaps a size, else 0, and perhaps a limit, else the largest number
 abbrev pub read_plan_words : List (List ℕ) → Option PlanWords

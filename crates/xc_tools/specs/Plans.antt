@@ -52,11 +52,11 @@ DidPlan limit status out_old out_new err_old err_new a =
     ⊎ ((status ≡ 3) × IsUnwritten a out_old out_new err_old err_new)
     ⊎ ((status ≡ 4) × HasNoMemory out_old out_new err_old err_new)
 
--- What a run did that was asked for this: there was no problem, and the output wasn't touched; or its parts were planned.
+-- What a run did that was asked for this: there was no problem, and the output wasn't touched; or it was planned.
 abbrev pub DidPlanAsAsked : {S O E : Type 0} → Kind × PlanWords → ℕ → Streams S O E → Streams S O E → Type 0
-DidPlanAsAsked asked status old new =
-    (HasNoProblem asked.0 status old.input.state new.input.state old.err.state new.err.state × (new.out ≡ old.out))
-    ⊎ GaveProblem asked.0 (λ a _. DidPlan asked.1.limit status old.out.state new.out.state old.err.state new.err.state a)
+DidPlanAsAsked ask status old new =
+    (HasNoProblem ask.0 status old.input.state new.input.state old.err.state new.err.state × (new.out ≡ old.out))
+    ⊎ GaveProblem ask.0 (λ a _. DidPlan ask.1.limit status old.out.state new.out.state old.err.state new.err.state a)
     old.input.state new.input.state
 
 -- What a run of the planner did, by its words and its status, which is 1 exactly where the words ask for no plan.
