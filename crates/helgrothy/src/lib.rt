@@ -1,4 +1,5 @@
 //! Exact cover problems, read, searched and judged: what a caller needs of the libraries, under one name.
+//! The three programs below stand in `examples.rt` too, where they are run.
 //!
 //! The first cover of a problem, as numbers of options:
 //!
@@ -36,14 +37,17 @@
 //! ```
 #![tactic(auto)]
 
+#[cfg(test)]
+mod examples;
+
 pub use xc_dance::{Count, Dance, Full, Links, Lists, Memory, Move};
 pub use xc_input::{
     Bounds, FaultKind, Feed, InputError, Item, Kind, Options, Problem, Read, ReadFailed, Reader,
     Seed, SliceSource, Source, Use, read_problem,
 };
 pub use xc_list::{
-    End, ListingFault, Sink, SinkFault, Tray, VecSink, Verdict, WordFault, Words, WriteFailed, check,
-    is_cover, run, run_over, summary, warnings, write_all, write_solution,
+    End, ListingFault, Sink, SinkFault, Tray, VecSink, Verdict, WordFault, Words, WriteFailed,
+    check, is_cover, run, run_over, summary, warnings, write_all, write_solution,
 };
 pub use xc_search::{Choice, NoSearch, Search, Step, branches, choose, most_moves};
 pub use xc_tools::{Direct, Incoming, Outgoing, random_seed};
