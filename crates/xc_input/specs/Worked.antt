@@ -11,6 +11,7 @@ use Rattle.xc_input.specs.Sheets.{named_of}
 use Rattle.xc_input.specs.Stages.{first_fault, stage_of}
 use Rattle.xc_input.specs.Lines.{lines_of}
 
+-- a use of item i, with colour c
 abbrev pub use_of : ℕ → ℕ → Use
 use_of i c = record { item = i; colour = c }
 
@@ -20,13 +21,15 @@ Cuts =
     (lines_of [] ≡ []) × (lines_of (10 ∷ []) ≡ [] ∷ []) × (lines_of (codes "A") ≡ codes "A" ∷ []) × (lines_of (codes "A" ++ 10 ∷ []) ≡ codes "A" ∷ [])
     × (lines_of (codes "A" ++ 10 ∷ 10 ∷ codes "B") ≡ codes "A" ∷ [] ∷ codes "B" ∷ [])
 
--- one line, or an item line and an option line, has this first fault
+-- one line has this first fault
 abbrev pub Faulty : Kind → List ℕ → FaultKind → Type 0
 Faulty kind line k = first_fault kind (line ∷ []) ≡ Some (1, k)
 
+-- an item line and an option line have this first fault, in the second
 abbrev pub Faulty2 : Kind → List ℕ → List ℕ → FaultKind → Type 0
 Faulty2 kind a b k = first_fault kind (a ∷ b ∷ []) ≡ Some (2, k)
 
+-- faults of item lines, and of texts without one
 abbrev pub ItemLines : Type 0
 ItemLines =
     (first_fault Plain [] ≡ Some (1, NoItems)) × (first_fault Plain (codes "| hi" ∷ []) ≡ Some (2, NoItems))
@@ -37,6 +40,7 @@ ItemLines =
     × Faulty Plain (codes "A A") RepeatedName × Faulty Plain (codes "A | | x") TwoBars
     × Faulty Plain (codes "123456789012345678901234567890123") NameTooLong
 
+-- faults of option lines
 abbrev pub OptionLines : Type 0
 OptionLines =
     Faulty2 Plain (codes "A B") (codes "A B A") RepeatedInOption × Faulty2 Plain (codes "A") (codes "B") UnknownItem
@@ -50,9 +54,11 @@ OptionLines =
 abbrev pub commented : List (List ℕ)
 commented = (codes "| test" ++ 13 ∷ []) ∷ (13 ∷ []) ∷ (codes "A | x" ++ 13 ∷ []) ∷ (codes "x" ++ 13 ∷ []) ∷ codes "A x" ∷ []
 
+-- two options give x the same colour, and one between them another
 abbrev pub coloured : List (List ℕ)
 coloured = codes "A B | x" ∷ codes "A x:red" ∷ codes "B x:green" ∷ codes "B x:red" ∷ []
 
+-- held at least l and at most h times
 abbrev pub bounds : ℕ → ℕ → ItemBounds
 bounds l h = record { low = l; high = h }
 
@@ -60,6 +66,7 @@ bounds l h = record { low = l; high = h }
 abbrev pub problem_of : Kind → List (List ℕ) → Named
 problem_of kind lines = named_of (stage_of kind lines).sheet
 
+-- what three texts without a fault stand for
 abbrev pub Problems : Type 0
 Problems =
     (first_fault Plain commented ≡ None) × ((stage_of Plain commented).ignored ≡ 4 ∷ [])

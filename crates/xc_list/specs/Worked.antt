@@ -3,6 +3,7 @@ use Rattle.std.specs.Prelude.{[], ◌∷◌, codes}
 use Rattle.xc_input.specs.Named.{Named}
 use Rattle.xc_search.specs.Worked.{seven_items, two_colours, equal_options}
 
+-- the seven items, by letters
 abbrev pub seven : Named
 seven = record {
   names = codes "a" ∷ codes "b" ∷ codes "c" ∷ codes "d" ∷ codes "e" ∷ codes "f" ∷ codes "g" ∷ [];
@@ -10,6 +11,7 @@ seven = record {
   puzzle = seven_items;
 }
 
+-- the problem of two colours, by letters
 abbrev pub colours : Named
 colours = record {
   names = codes "p" ∷ codes "q" ∷ codes "r" ∷ codes "x" ∷ codes "y" ∷ [];
@@ -17,5 +19,6 @@ colours = record {
   puzzle = two_colours;
 }
 
+-- one item in three equal options
 abbrev pub alike : Named
 alike = record { names = codes "A" ∷ []; colours = []; puzzle = equal_options }
