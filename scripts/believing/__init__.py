@@ -1,0 +1,1 @@
+"""Reads what the public calls of the libraries promise, and the definitions that these promises rest on."""

@@ -1,0 +1,91 @@
+"""The page of what has to be believed of four calls."""
+from typing import Iterable, Iterator, List, Sequence, Set
+
+from believing.entries import Entry, Key, figures
+from believing.repository import Repository
+from believing.told import counted
+
+CALLS = ["solve", "judge", "run_over_links", "check"]
+
+HEAD = """# What has to be believed
+
+This page has what the promises of four public calls rest on: `solve`, a whole run of a solver; `judge`, a whole run of
+the judge; `run_over_links`, a run that hands its tables back; `check`, the verdicts on a listing. A function builds only
+with a proof that its body keeps its contract, so the code need not be read, nor the proofs. The contract says what is
+proved, and it says it in the words of the definitions below it. Whoever has read these and finds that they say what is
+meant has left to trust what README names under "What it stands on". What no contract says is not proved.
+
+A definition comes behind those that it cites, and each stands once: a call further down lists what it needs from above.
+What gives a `Type 0` is a statement: `×` joins two that hold, of `⊎` one does, `(x : A) × ..` says that there is such an
+x, `(x : A) → ..` that it is so for each, `≡` that two values are equal. `λ x. ..` is a function. `x.old` and `x.new` are
+a value before and after the call, `x.now` one that it leaves alone, `xs.items` the members of a vector. Other words that
+are told nowhere here are those of the toolchain's standard library.
+
+The page is made in the repository by `make believed`, and `make test-docs` fails where it isn't what the sources say.
+`scripts/believed NAME` tells the same of any public call, and `scripts/believed` counts."""
+
+
+def page(repository: Repository) -> Iterator[str]:
+    yield from (" ".join(paragraph.split("\n")) + "\n" for paragraph in HEAD.split("\n\n"))
+    calls = [call for name in CALLS for call in repository.calls_named(name)]
+    for call in calls:
+        yield f"- [`{call.name}`](#{call.name}) reaches {counted(figures(repository.reached([call])))}."
+    yield ""
+    above: Set[Key] = set()
+    for call in calls:
+        yield from part(repository, call, above)
+        above.update(one.key for one in repository.reached([call]))
+
+
+def part(repository: Repository, call: Entry, above: Set[Key]) -> Iterator[str]:
+    """A call's part of the page. `above` has what the parts before it told."""
+    reached = repository.reached([call])
+    new = [one for one in reached if one.key not in above]
+    yield f"## `{call.name}`\n"
+    old = [one for one in reached if one.key in above]
+    of_old = f", of which {figures(old).many} are told above" if old else ""
+    yield f"`{inside(call.path)}`. It reaches {counted(figures(reached))}{of_old}.\n"
+    yield from fenced("rust", call.text)
+    yield from from_above(repository, old, above)
+    code = repository.code_in_order(new)
+    yield from declarations("The traits whose members it names", (one for one in code if one.has_contract))
+    yield from declarations("The types that it or its definitions name", (one for one in code if not one.has_contract))
+    for module, definitions in repository.definitions_in_order(new):
+        yield f"### {module.sentence.rstrip('.')} (`{inside(module.path)}`)\n"
+        for one in definitions:
+            yield f"`{one.name}`: {one.sentence.rstrip('.')}.\n"
+            yield from fenced("text", one.text)
+
+
+def declarations(title: str, entries: Iterable[Entry]) -> Iterator[str]:
+    lines: List[str] = []
+    for one in entries:
+        lines += ["", f"// {inside(one.path)}", *one.text]
+    if lines:
+        yield f"### {title}\n"
+        yield from fenced("rust", lines[1:])
+
+
+def from_above(repository: Repository, entries: Sequence[Entry], above: Set[Key]) -> Iterator[str]:
+    """What a call reaches of what was told: all that was told of a file, or which of it."""
+    if not entries:
+        return
+    yield "### What it needs from above\n"
+    yield f"- of the code: {listed(repository.code_in_order(entries))}"
+    for module, definitions in repository.definitions_in_order(entries):
+        is_all = len(definitions) == sum(one.key in above for one in module.definitions)
+        what = "all that is told of it" if is_all and len(definitions) > 3 else listed(definitions)
+        yield f"- `{inside(module.path)}`: {what}"
+    yield ""
+
+
+def listed(entries: Sequence[Entry]) -> str:
+    return ", ".join(f"`{one.name}`" for one in entries)
+
+
+def inside(path: str) -> str:
+    return path[len("crates/"):]
+
+
+def fenced(word: str, lines: Sequence[str]) -> List[str]:
+    return [f"```{word}", *lines, "```", ""]
