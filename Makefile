@@ -10,7 +10,7 @@ docdir = $(PREFIX)/share/doc/helgrothy
 pythondir = $(PREFIX)/share/helgrothy
 completiondir = $(PREFIX)/share/bash-completion/completions
 
-.PHONY: run bin all test test-mutants test-hostile test-python test-parts test-docs pictures
+.PHONY: run bin all test test-mutants test-hostile test-python test-parts test-docs pictures believed
 .PHONY: install uninstall dist deb wheel version release test-install test-dist test-deb test-wheel
 run: bin
 	cd crates/dlx1 && rt run -- m1 < ../../examples/seven.dlx
@@ -31,10 +31,15 @@ test-parts: bin
 test-docs: bin
 	@sh tests/pages.sh . man/*.[15]
 	@scripts/pictures/pictures compare
+	@scripts/believed --page | diff docs/BELIEVED.md -
 
 # The pictures of the documents, made anew.
 pictures:
 	@scripts/pictures/pictures
+
+# The page of what has to be believed, made anew.
+believed:
+	@scripts/believed --page >docs/BELIEVED.md
 
 # A program is built by running it once; `dlxcheck` without words ends with status 1.
 all: bin

@@ -9,17 +9,18 @@ CALLS = ["solve", "judge", "run_over_links", "check"]
 
 HEAD = """# What has to be believed
 
-This page has what the promises of four public calls rest on: `solve`, a whole run of a solver; `judge`, a whole run of
-the judge; `run_over_links`, a run that hands its tables back; `check`, the verdicts on a listing. A function builds only
-with a proof that its body keeps its contract, so the code need not be read, nor the proofs. The contract says what is
-proved, and it says it in the words of the definitions below it. Whoever has read these and finds that they say what is
-meant has left to trust what README names under "What it stands on". What no contract says is not proved.
+This page has what the promises of four public calls rest on: `solve`, a whole run of a solver; `judge`, a whole run
+of the judge; `run_over_links`, a run that hands its tables back; `check`, the verdicts on a listing. A function
+builds only with a proof that its body keeps its contract, so the code need not be read, nor the proofs. The contract
+says what is proved, and it says it in the words of the definitions below it. Whoever has read these and finds that
+they say what is meant has left to trust what README names under "What it stands on". What no contract says is not
+proved.
 
-A definition comes behind those that it cites, and each stands once: a call further down lists what it needs from above.
-What gives a `Type 0` is a statement: `×` joins two that hold, of `⊎` one does, `(x : A) × ..` says that there is such an
-x, `(x : A) → ..` that it is so for each, `≡` that two values are equal. `λ x. ..` is a function. `x.old` and `x.new` are
-a value before and after the call, `x.now` one that it leaves alone, `xs.items` the members of a vector. Other words that
-are told nowhere here are those of the toolchain's standard library.
+A definition comes behind those that it cites, and each stands once: a call further down lists what it needs from
+above. What gives a `Type 0` is a statement: `×` joins two that hold, of `⊎` one does, `(x : A) × ..` says that there
+is such an x, `(x : A) → ..` that it is so for each, `≡` that two values are equal. `λ x. ..` is a function. `x.old`
+and `x.new` are a value before and after the call, `x.now` one that it leaves alone, `xs.items` the members of a
+vector. Other words that are told nowhere here are those of the toolchain's standard library.
 
 The page is made in the repository by `make believed`, and `make test-docs` fails where it isn't what the sources say.
 `scripts/believed NAME` tells the same of any public call, and `scripts/believed` counts."""
