@@ -53,18 +53,19 @@ def part(repository: Repository, call: Entry, above: Set[Key]) -> Iterator[str]:
     yield from declarations("The types that it or its definitions name", (one for one in code if not one.has_contract))
     for module, definitions in repository.definitions_in_order(new):
         yield f"### {module.sentence.rstrip('.')} (`{inside(module.path)}`)\n"
-        for one in definitions:
-            yield f"`{one.name}`: {one.sentence.rstrip('.')}.\n"
-            yield from fenced("text", one.text)
+        yield from fenced("text", in_turn([*one.comment, *one.text] for one in definitions))
 
 
 def declarations(title: str, entries: Iterable[Entry]) -> Iterator[str]:
-    lines: List[str] = []
-    for one in entries:
-        lines += ["", f"// {inside(one.path)}", *one.text]
+    lines = in_turn([f"// {inside(one.path)}", *one.text] for one in entries)
     if lines:
         yield f"### {title}\n"
-        yield from fenced("rust", lines[1:])
+        yield from fenced("rust", lines)
+
+
+def in_turn(texts: Iterable[Sequence[str]]) -> List[str]:
+    """Texts one behind another, with an empty line between."""
+    return [line for text in texts for line in ["", *text]][1:]
 
 
 def from_above(repository: Repository, entries: Sequence[Entry], above: Set[Key]) -> Iterator[str]:
