@@ -28,3 +28,6 @@ pub mod Spacers
 pub mod FirstTables
 pub mod EnteredNodes
 pub mod SameTables
+pub mod UsePlaces
+pub mod CommitLemmas
+pub mod Along
