@@ -23,17 +23,20 @@ use Rattle.xc_dance.proofs.MoveLemmas.Members.{element_of}
 use Rattle.xc_dance.proofs.MoveLemmas.Shortened.{rises_listed}
 
 -- a number of an item's list is an option that holds the item
-in_list_held : (p : Puzzle) (t : List Move) (i x : ℕ) → is_in x (listed_numbers p t i) ≡ true → is_some (colour_in (uses_of p x) i) ≡ true
+in_list_held : (p : Puzzle) (t : List Move) (i x : ℕ) → is_in x (listed_numbers p t i) ≡ true →
+    is_some (colour_in (uses_of p x) i) ≡ true
 in_list_held p t i x e = grind (arith, common_steps, element_of, numbers_named, e)
 
-in_list_name : (p : Puzzle) (t : List Move) (i x : ℕ) → is_in x (listed_numbers p t i) ≡ true → (0 < x) × (is_some (colour_in (uses_of p x) i) ≡ true)
+in_list_name : (p : Puzzle) (t : List Move) (i x : ℕ) → is_in x (listed_numbers p t i) ≡ true →
+    (0 < x) × (is_some (colour_in (uses_of p x) i) ≡ true)
 in_list_name p t i x e = (in_above 0 x (listed_numbers p t i) (rises_listed p t i) e, in_list_held p t i x e)
 
 listed_name : (p : Puzzle) (t : List Move) (i x : ℕ) → (x ≡ 0) ⊎ Contains (listed_numbers p t i) x → IsName p i x
 listed_name p t i x (inl z) = inl z
 listed_name p t i x (inr h) = inr (in_list_name p t i x (contained (listed_numbers p t i) x h))
 
-pub listed_within : (p : Puzzle) (t : List Move) (i x q : ℕ) → IsLaid p → IsItem p i → IsListedAt p t i x q → q < length (nodes_after p t).dlink
+pub listed_within : (p : Puzzle) (t : List Move) (i x q : ℕ) → IsLaid p → IsItem p i → IsListedAt p t i x q →
+    q < length (nodes_after p t).dlink
 listed_within p t i x q laid item at =
     let place = node_within p i x laid item.0 item.1 (listed_name p t i x at.listed) in
     let long = length-map (layout p) (dlink_in p (line_of p t)) in
@@ -52,8 +55,10 @@ down_at p t i x laid item (inr h) =
     use_down p t i x laid item.0 item.1 is.0 is.1 e
 
 -- DLINK of a node in an item's list leads to the next one there
-pub listed_down : (p : Puzzle) (t : List Move) (i x q : ℕ) → IsLaid p → IsItem p i → IsListedAt p t i x q → get_or (nodes_after p t).dlink q 0 ≡ link_place p i (first_above 0 x (listed_numbers p t i))
-listed_down p t i x q laid item at = ap (λ k. get_or (nodes_after p t).dlink k 0) at.at ∙ down_at p t i x laid item at.listed
+pub listed_down : (p : Puzzle) (t : List Move) (i x q : ℕ) → IsLaid p → IsItem p i → IsListedAt p t i x q →
+    get_or (nodes_after p t).dlink q 0 ≡ link_place p i (first_above 0 x (listed_numbers p t i))
+listed_down p t i x q laid item at = ap (λ k. get_or (nodes_after p t).dlink k 0) at.at
+    ∙ down_at p t i x laid item at.listed
 
 pub use_name : (p : Puzzle) (i x q : ℕ) → IsUseAt p i x q → IsName p i x
 use_name p i x q u = inr (u.known.0, held_of i (uses_of p x) u.holds)
@@ -75,20 +80,28 @@ open_unmarked p (Tweak j ∷ t) i o c e = open_unmarked p t i o c e
 open_unmarked p (Spend j ∷ t) i o c e = open_unmarked p t i o c e
 
 -- COLOR of such a node is its use's colour
-pub open_colour : (p : Puzzle) (t : List Move) (q o : ℕ) (u : Use) → slice_get (layout p) q ≡ Some (used o u) → is_open u.item t ≡ true → get_or (nodes_after p t).color q 0 ≡ u.colour
+pub open_colour : (p : Puzzle) (t : List Move) (q o : ℕ) (u : Use) → slice_get (layout p) q ≡ Some (used o u) →
+    is_open u.item t ≡ true → get_or (nodes_after p t).color q 0 ≡ u.colour
 open_colour p t q o u at e =
-    get_map (color_in p t) (layout p) q (used o u) at ∙ ap (λ b. cond b 4294967295 u.colour) (open_unmarked p t u.item o u.colour e)
+    get_map (color_in p t) (layout p) q (used o u) at ∙ ap (λ b. cond b 4294967295 u.colour)
+        (open_unmarked p t u.item o u.colour e)
 
-pub after_open : (p : Puzzle) (u : Use) (t : List Move) → primary_count p < u.item → is_open u.item t ≡ true → after_use p u t ≡ cond (eqb u.colour 0) (Cover u.item) (Purify u.item u.colour) ∷ t
+pub after_open : (p : Puzzle) (u : Use) (t : List Move) → primary_count p < u.item → is_open u.item t ≡ true →
+    after_use p u t ≡ cond (eqb u.colour 0) (Cover u.item) (Purify u.item u.colour) ∷ t
 after_open p u t high e = grind (arith, common_steps, le-leb)
 
-pub use_item : (p : Puzzle) (q o j : ℕ) (u : Use) → IsLaid p → slice_get (layout p) q ≡ Some (used o u) → u.item ≡ j → IsItem p j
+pub use_item : (p : Puzzle) (q o j : ℕ) (u : Use) → IsLaid p → slice_get (layout p) q ≡ Some (used o u) →
+    u.item ≡ j → IsItem p j
 use_item p q o j u laid at item = subst (λ i. IsItem p i) item (laid.nodes.ranged q (used o u) u.item o at refl)
 
-pub colour_within : (p : Puzzle) (t : List Move) (q o : ℕ) (u : Use) → slice_get (layout p) q ≡ Some (used o u) → q < length (nodes_after p t).color
-colour_within p t q o u at = let here = slice_get_within (layout p) q (used o u) at in let long = length-map (layout p) (color_in p t) in omega (arith, here, long)
+pub colour_within : (p : Puzzle) (t : List Move) (q o : ℕ) (u : Use) → slice_get (layout p) q ≡ Some (used o u) →
+    q < length (nodes_after p t).color
+colour_within p t q o u at = let here = slice_get_within (layout p) q (used o u) at in
+    let long = length-map (layout p) (color_in p t) in omega (arith, here, long)
 
-pub committed_open : (p : Puzzle) (t : List Move) (q o j k : ℕ) (u : Use) → slice_get (layout p) q ≡ Some (used o u) → u.item ≡ j → primary_count p < j → is_open j t ≡ true → k ≡ get_or (nodes_after p t).color q 0 →
+pub committed_open : (p : Puzzle) (t : List Move) (q o j k : ℕ) (u : Use) →
+    slice_get (layout p) q ≡ Some (used o u) → u.item ≡ j → primary_count p < j → is_open j t ≡ true →
+    k ≡ get_or (nodes_after p t).color q 0 →
     cond (eqb k 0) (Cover j) (Purify j k) ∷ t ≡ after_use p u t
 committed_open p t q o j k u at item high still read =
     let is : is_open u.item t ≡ true = ap (λ i. is_open i t) item ∙ still in

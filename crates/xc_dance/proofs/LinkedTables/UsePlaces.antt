@@ -1,16 +1,13 @@
 -- The nodes of an option's uses, and what the tables tell there: for calls that go over an option by its nodes.
-use Rattle.std.proofs.Common.{◌≡◌, ℕ, zero, suc, ◌+◌, ◌-◌, ◌<◌, ◌≤◌, Bool, true, false, cond, eqb, List, [], ◌∷◌, length, get_or, drop, take, Some, None, Option, refl, ap, ap₂, sym, ◌∙◌, arith, subst, eqb-true, eq-eqb, ne_eqb, inr, inl, ◌⊎◌}
-use Rattle.std.specs.Prelude.{is_some, unwrap_or, slice_get, option_map, not, ◌&&◌}
-use Rattle.std.proofs.lemmas.Grind.{common_steps}
-use Rattle.std.proofs.lemmas.Option.{slice_get_within, slice_get-get_or, same_Some}
+use Rattle.std.proofs.Common.{◌≡◌, ℕ, zero, suc, ◌+◌, ◌-◌, ◌<◌, ◌≤◌, true, false, cond, eqb, List, [], ◌∷◌, length, get_or, drop, take, Some, Option, refl, ap, sym, ◌∙◌, arith, subst, eqb-true, eq-eqb, ne_eqb}
+use Rattle.std.specs.Prelude.{is_some, unwrap_or, slice_get, option_map}
+use Rattle.std.proofs.lemmas.Option.{slice_get_within, slice_get-get_or}
 use Rattle.xc_input.specs.declared.problem.Use.{Use}
-use Rattle.xc_input.specs.Problem.{Puzzle, item_count, option_count, IsItem, IsOption, uses_of, colour_in}
+use Rattle.xc_input.specs.Problem.{Puzzle, item_count, IsOption, uses_of, colour_in}
 use Rattle.xc_dance.specs.declared.dance.Move.{Move}
-use Rattle.xc_dance.specs.declared.dance.Move.TheVariants.{Cover, Purify, Tweak, Spend}
-use Rattle.xc_dance.specs.Moves.{is_open}
-use Rattle.xc_dance.specs.Fields.{Node, used, spacer, unused, own, layout, spacer_place, link_place, is_marked}
+use Rattle.xc_dance.specs.Fields.{Node, used, spacer, unused, own, layout, spacer_place, link_place}
 use Rattle.xc_dance.specs.Commits.{place_in, IsUseAt, option_at, number_of}
-use Rattle.xc_dance.specs.Links.Cells.{top_in, color_in, ulink_in, line_of, nodes_after, slot_of}
+use Rattle.xc_dance.specs.Links.Cells.{top_in, ulink_in, line_of, nodes_after, slot_of}
 use Rattle.xc_dance.specs.Links.Laid.{IsLaid, IsFit, IsName}
 use Rattle.xc_dance.specs.Links.Answered.{named}
 use Rattle.xc_dance.specs.Links.OptionPlaces.{start_at, place_at}
@@ -130,9 +127,11 @@ pub record Segment (p : Puzzle) (x off : ℕ) (vs : List Use) : Type 0 where
   pub node : (k : ℕ) (u : Use) → slice_get vs k ≡ Some u → slice_get (layout p) (off + k) ≡ Some (used x u)
 
 get_dropped : {X : Type 0} (n k : ℕ) (xs : List X) → slice_get (drop n xs) k ≡ slice_get xs (n + k)
-get_dropped zero k xs = ap (slice_get xs) (omega arith)
+get_dropped zero k xs = let e : k ≡ 0 + k = omega arith in ap (slice_get xs) e
 get_dropped (suc n) k [] = refl
-get_dropped (suc n) k (x ∷ xs) = get_dropped n k xs ∙ ap (slice_get (x ∷ xs)) (omega arith)
+get_dropped (suc n) k (x ∷ xs) =
+    let e : suc (n + k) ≡ suc n + k = omega arith in
+    get_dropped n k xs ∙ ap (slice_get (x ∷ xs)) e
 
 get_taken : {X : Type 0} (n k : ℕ) (xs : List X) (x : X) → slice_get (take n xs) k ≡ Some x → slice_get xs k ≡ Some x
 get_taken zero k xs x e = cc
@@ -143,7 +142,11 @@ get_taken (suc n) (suc k) (y ∷ ys) x e = get_taken n k ys x e
 pub behind_segment : (p : Puzzle) (i x m : ℕ) → OptionNodes p x m → Segment p x (start_at p m + (place_in i (uses_of p x) + 1)) (drop (place_in i (uses_of p x) + 1) (uses_of p x))
 behind_segment p i x m o =
     let n = place_in i (uses_of p x) + 1 in
-    record { node = λ k u e. ap (slice_get (layout p)) (omega arith) ∙ o.node (n + k) u (sym (get_dropped n k (uses_of p x)) ∙ e) }
+    record {
+      node = λ k u e.
+          let at : start_at p m + n + k ≡ start_at p m + (n + k) = omega arith in
+          ap (slice_get (layout p)) at ∙ o.node (n + k) u (sym (get_dropped n k (uses_of p x)) ∙ e);
+    }
 
 pub before_segment : (p : Puzzle) (i x m : ℕ) → OptionNodes p x m → Segment p x (start_at p m) (take (place_in i (uses_of p x)) (uses_of p x))
 before_segment p i x m o = record { node = λ k u e. o.node k u (get_taken (place_in i (uses_of p x)) k (uses_of p x) u e) }

@@ -14,7 +14,8 @@ use Rattle.xc_dance.proofs.LinkedTables.CommitLemmas.{use_item, colour_within, c
 use Rattle.xc_dance.proofs.links.Links.commit_node.Goals as goal
 use Rattle.xc_dance.proofs.links.Links.commit_node.Goals.{After-self}
 
-node_at : (c : After-self) (o : ℕ) (u : Use) → slice_get (layout c.args.self.now.puzzle) c.args.q ≡ Some (used o u) → slice_get (layout c.self.inside.fixed) c.args.q ≡ Some (used o u)
+node_at : (c : After-self) (o : ℕ) (u : Use) → slice_get (layout c.args.self.now.puzzle) c.args.q ≡ Some (used o u) →
+    slice_get (layout c.self.inside.fixed) c.args.q ≡ Some (used o u)
 node_at c o u at = ap (λ (s : Linked). slice_get (layout s.puzzle) c.args.q) c.self.view_is ∙ at
 
 pub is_open-requires : goal.is_open-requires
@@ -22,14 +23,16 @@ is_open-requires c =
     let here = (goal.at.is_open-requires c).After-self in
     let n = c.requires.node in
     subst (λ (s : Linked). IsItem s.puzzle c.args.j) c.self.view_is
-    (use_item c.self.inside.fixed c.args.q n.0 c.args.j n.1.0 c.self.invariant.fitted.laid (node_at here n.0 n.1.0 n.1.1) n.1.2)
+    (use_item c.self.inside.fixed c.args.q n.0 c.args.j n.1.0 c.self.invariant.fitted.laid
+        (node_at here n.0 n.1.0 n.1.1) n.1.2)
 
 pub color-colour-requires : goal.color-colour-requires
 color-colour-requires c =
     let here = (goal.at.color-colour-requires c).After-self in
     let n = c.requires.node in
     subst (λ (t : Nodes). c.args.q < length t.color) (sym c.self.invariant.nodes)
-    (colour_within c.self.inside.fixed (reverse c.self.inside.trail.items) c.args.q n.0 n.1.0 (node_at here n.0 n.1.0 n.1.1))
+    (colour_within c.self.inside.fixed (reverse c.self.inside.trail.items)
+        c.args.q n.0 n.1.0 (node_at here n.0 n.1.0 n.1.1))
 
 pub returns-then-is_open : goal.returns-then-is_open
 returns-then-is_open c = λ o u at item.
@@ -38,9 +41,13 @@ returns-then-is_open c = λ o u at item.
     let t : List Move = reverse c.self.inside.trail.items in
     let j = c.args.j in
     let k = c.color-colour.result in
-    let high : primary_count p < j = (let e = c.primary.ensures in let no = c.if-j-primary.false in omega (arith, e, no)) in
-    let still : is_open j t ≡ true = ap (λ (s : Linked). is_open j s.trail) c.self.view_is ∙ sym c.is_open.ensures ∙ c.if-is_open.true in
+    let high : primary_count p < j = (let e = c.primary.ensures in let no = c.if-j-primary.false in
+        omega (arith, e, no)) in
+    let still : is_open j t ≡ true = ap (λ (s : Linked). is_open j s.trail) c.self.view_is ∙ sym c.is_open.ensures
+        ∙ c.if-is_open.true in
     let read = c.color-colour.ensures ∙ ap (λ (n : Nodes). get_or n.color c.args.q 0) c.self.invariant.nodes in
-    let moves = subst (λ (s : Linked). cond (eqb k 0) (Cover j) (Purify j k) ∷ s.trail ≡ after_use s.puzzle u s.trail) c.self.view_is
+    let moves = subst (λ (s : Linked). cond (eqb k 0) (Cover j) (Purify j k) ∷ s.trail
+        ≡ after_use s.puzzle u s.trail) c.self.view_is
         (committed_open p t c.args.q o j k u (node_at here o u at) item high still read) in
-    c.commit_secondary.ensures ∙ ap (λ (l : List Move). let d : Dancing = record { puzzle = c.args.self.now.puzzle; trail = l; room = c.args.self.now.room } in d) moves
+    c.commit_secondary.ensures ∙ ap (λ (l : List Move). let d : Dancing =
+        record { puzzle = c.args.self.now.puzzle; trail = l; room = c.args.self.now.room } in d) moves

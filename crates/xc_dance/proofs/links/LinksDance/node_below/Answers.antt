@@ -15,7 +15,8 @@ use Rattle.xc_dance.proofs.links.LinksDance.node_below.Goals.{After-self}
 item : (c : After-self) → IsItem c.self.inside.fixed c.args.i
 item c = subst (λ (s : Linked). IsItem s.puzzle c.args.i) (sym c.self.view_is) c.requires.item
 
-at : (c : After-self) (x : ℕ) → IsListedAt c.args.self.now.puzzle c.args.self.now.trail c.args.i x c.args.place → IsListedAt c.self.inside.fixed (reverse c.self.inside.trail.items) c.args.i x c.args.place
+at : (c : After-self) (x : ℕ) → IsListedAt c.args.self.now.puzzle c.args.self.now.trail c.args.i x c.args.place →
+    IsListedAt c.self.inside.fixed (reverse c.self.inside.trail.items) c.args.i x c.args.place
 at c x h = subst (λ (s : Linked). IsListedAt s.puzzle s.trail c.args.i x c.args.place) (sym c.self.view_is) h
 
 pub dlink-requires : goal.dlink-requires
@@ -34,7 +35,8 @@ returns-clause-place c = λ x h.
     let t : List Move = reverse c.self.inside.trail.items in
     c.dlink.ensures ∙ ap (λ (n : Nodes). get_or n.dlink c.args.place 0) c.self.invariant.nodes
     ∙ listed_down p t c.args.i x c.args.place c.self.invariant.fitted.laid (item here) (at here x h)
-    ∙ ap (λ (s : Linked). link_place s.puzzle c.args.i (first_above 0 x (listed_numbers s.puzzle s.trail c.args.i))) c.self.view_is
+    ∙ ap (λ (s : Linked). link_place s.puzzle c.args.i (first_above 0 x (listed_numbers s.puzzle s.trail c.args.i)))
+        c.self.view_is
 
 pub returns-clause-option : goal.returns-clause-option
 returns-clause-option c = λ x h.
@@ -45,6 +47,7 @@ returns-clause-option c = λ x h.
         ∙ listed_down p t c.args.i x c.args.place c.self.invariant.fitted.laid (item here) (at here x h) in
     ap (λ (s : Linked). option_at s.puzzle c.args.i c.dlink.result) (sym c.self.view_is)
     ∙ ap (option_at p c.args.i) down
-    ∙ option_there p c.args.i (first_above 0 x (listed_numbers p t c.args.i)) c.self.invariant.fitted.laid (item here).0 (item here).1 (above_name p t c.args.i x)
+    ∙ option_there p c.args.i (first_above 0 x (listed_numbers p t c.args.i))
+        c.self.invariant.fitted.laid (item here).0 (item here).1 (above_name p t c.args.i x)
     ∙ above_named x (listed_numbers p t c.args.i)
     ∙ ap (λ (s : Linked). next_above x (listed_numbers s.puzzle s.trail c.args.i)) c.self.view_is
