@@ -182,8 +182,8 @@ before_at p i x place q s t fit held a =
 -- ULINK of the spacer leads to where that walk begins
 pub record Leads (p : Puzzle) (x place end : ℕ) (t : List Move) : Type 0 where
   pub within : end < length (layout p)
+  pub behind : place < end
   pub first : get_or (nodes_after p t).ulink end 0 ≡ start_at p (x - 1)
-  pub from : start_at p (x - 1) ≤ place
 
 pub leads : (p : Puzzle) (i x place end : ℕ) (t : List Move) → IsFit p → IsUseAt p i x place →
     end ≡ spacer_place p x → Leads p x place end t
@@ -191,9 +191,11 @@ leads p i x place end t fit held e =
     let o = option_nodes p x fit held.known in
     let stands = place_at_use p i x (x - 1) place o held in
     let pos = held.known.0 in
-    let cells = spacer_cells p t x (x - 1) end (omega (arith, pos)) (ap (slice_get (layout p)) (e ∙ o.end)
-        ∙ o.behind) in
-    record { within = cells.within; first = cells.ulink ∙ o.first; from = omega (arith, stands) }
+    let few = held.holds in
+    let is = e ∙ o.end in
+    let at = ap (slice_get (layout p)) is ∙ o.behind in
+    let cells = spacer_cells p t x (x - 1) end (omega (arith, pos)) at in
+    record { within = cells.within; behind = omega (arith, stands, is, few); first = cells.ulink ∙ o.first }
 
 -- ---- A step of the walk: the next use is committed
 

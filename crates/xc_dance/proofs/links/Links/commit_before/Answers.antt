@@ -1,4 +1,5 @@
 use Rattle.std.proofs.Common.{◌≡◌, ◌+◌, ◌-◌, ℕ, length, get_or, ap, subst, ◌∙◌, arith, refl}
+use Rattle.std.specs.Prelude.{slice_index}
 use Rattle.std.proofs.lemmas.List.{length-map}
 use Rattle.xc_dance.specs.declared.links.nodes.Nodes.{Nodes}
 use Rattle.xc_dance.specs.Commits.{IsUseAt}
@@ -10,7 +11,7 @@ use Rattle.xc_dance.specs.Links.OptionPlaces.{start_at}
 use Rattle.xc_dance.specs.Links.UseNodes.{uses_before}
 use Rattle.xc_dance.proofs.LinkedTables.Along.{along_first, before_at, Leads, leads, IsNext, nodes_told, may_commit, Committed, one_committed, whole}
 use Rattle.xc_dance.proofs.links.Links.commit_before.Goals as goal
-use Rattle.xc_dance.proofs.links.Links.commit_before.Goals.{After-self, After-ulink-first, After-self-in-loop-q}
+use Rattle.xc_dance.proofs.links.Links.commit_before.Goals.{After-self, After-self-in-loop-q}
 
 fit : (c : After-self) → IsFit c.args.self.now.puzzle
 fit c = subst (λ (s : Linked). IsFit s.puzzle) c.self.view_is c.self.invariant.fitted.fit
@@ -35,25 +36,38 @@ ulink-first-requires c =
     omega (arith, within, long)
 
 -- the walk begins at the option's first node
-first_is : (c : After-ulink-first) (x : ℕ) → IsUseAt c.args.self.now.puzzle c.args.i x c.args.place →
-    c.ulink-first.result ≡ start_at c.args.self.now.puzzle (x - 1)
-first_is c x held =
-    let here = (goal.at.loop-q-init c).After-self in
-    c.ulink-first.ensures ∙ ap (λ (n : Nodes). get_or n.ulink c.args.end 0) (first_nodes here) ∙ (led here x held).first
+first_is : (c : After-self) (first x : ℕ) → first ≡ slice_index c.self.inside.nodes.ulink c.args.end →
+    IsUseAt c.args.self.now.puzzle c.args.i x c.args.place → first ≡ start_at c.args.self.now.puzzle (x - 1)
+first_is c first x e held = e ∙ ap (λ (n : Nodes). get_or n.ulink c.args.end 0) (first_nodes c) ∙ (led c x held).first
 
 pub loop-q-init : goal.loop-q-init
 loop-q-init c =
     let s = c.args.self.now in
+    let first = c.ulink-first.result in
+    let is = first_is (goal.at.loop-q-init c).After-self first in
     record {
       puzzle = refl;
       room = refl;
-      along = λ x held. along_first s.puzzle (start_at s.puzzle (x - 1))
-          c.ulink-first.result (uses_before s.puzzle c.args.i x) s.trail (first_is c x held);
+      along = λ x held.
+          along_first s.puzzle (start_at s.puzzle (x - 1)) first (uses_before s.puzzle c.args.i x) s.trail
+          (is x c.ulink-first.ensures held);
     }
 
 nodes_is : (c : After-self-in-loop-q) → c.self-in-loop-q.inside.nodes
     ≡ nodes_after c.args.self.now.puzzle c.loop-q.self.trail
 nodes_is c = nodes_told _ _ _ _ c.self-in-loop-q.invariant.nodes c.self-in-loop-q.view_is c.loop-q.invariant.puzzle
+
+pub top-j-requires : goal.top-j-requires
+top-j-requires c =
+    let p = c.args.self.now.puzzle in
+    let spacer = led (goal.at.top-j-requires c).After-self c.requires.can.0 c.requires.can.1 in
+    let within = spacer.within in
+    let behind = spacer.behind in
+    let test = c.loop-q-test.true in
+    let nodes = nodes_is (goal.at.top-j-requires c).After-self-in-loop-q in
+    let long : length c.self-in-loop-q.inside.nodes.top ≡ length (layout p) =
+        ap (λ (n : Nodes). length n.top) nodes ∙ length-map (layout p) (top_in (line_of p c.loop-q.self.trail)) in
+    omega (arith, within, behind, test, long)
 
 -- the next use
 next : (c : After-self-in-loop-q) (x : ℕ) → IsUseAt c.args.self.now.puzzle c.args.i x c.args.place →
@@ -64,16 +78,6 @@ next c x held =
     let fit : IsFit s.puzzle = subst (λ (s : Linked). IsFit s.puzzle) c.self.view_is c.self.invariant.fitted.fit in
     (before_at s.puzzle c.args.i x c.args.place c.loop-q.q s.trail c.loop-q.self.trail fit held
         (c.loop-q.invariant.along x held)).node c.loop-q-test.true
-
-pub top-j-requires : goal.top-j-requires
-top-j-requires c =
-    let here = (goal.at.top-j-requires c).After-self-in-loop-q in
-    let p = c.args.self.now.puzzle in
-    let within = (next here c.requires.can.0 c.requires.can.1).within in
-    let long : length c.self-in-loop-q.inside.nodes.top ≡ length (layout p) =
-        ap (λ (n : Nodes). length n.top) (nodes_is here) ∙ length-map (layout p)
-        (top_in (line_of p c.loop-q.self.trail)) in
-    omega (arith, within, long)
 
 pub commit_node-requires : goal.commit_node-requires
 commit_node-requires c =
