@@ -32,3 +32,4 @@ pub mod UsePlaces
 pub mod CommitLemmas
 pub mod Along
 pub mod PassedOptions
+pub mod ListedPlaces

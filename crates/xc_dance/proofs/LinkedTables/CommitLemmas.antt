@@ -26,7 +26,7 @@ use Rattle.xc_dance.proofs.MoveLemmas.Shortened.{rises_listed}
 in_list_held : (p : Puzzle) (t : List Move) (i x : ℕ) → is_in x (listed_numbers p t i) ≡ true → is_some (colour_in (uses_of p x) i) ≡ true
 in_list_held p t i x e = grind (arith, common_steps, element_of, numbers_named, e)
 
-in_list_name : (p : Puzzle) (t : List Move) (i x : ℕ) → is_in x (listed_numbers p t i) ≡ true → (0 < x) × (is_some (colour_in (uses_of p x) i) ≡ true)
+pub in_list_name : (p : Puzzle) (t : List Move) (i x : ℕ) → is_in x (listed_numbers p t i) ≡ true → (0 < x) × (is_some (colour_in (uses_of p x) i) ≡ true)
 in_list_name p t i x e = (in_above 0 x (listed_numbers p t i) (rises_listed p t i) e, in_list_held p t i x e)
 
 listed_name : (p : Puzzle) (t : List Move) (i x : ℕ) → (x ≡ 0) ⊎ Contains (listed_numbers p t i) x → IsName p i x
