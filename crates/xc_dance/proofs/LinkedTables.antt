@@ -31,3 +31,5 @@ pub mod SameTables
 pub mod UsePlaces
 pub mod CommitLemmas
 pub mod Along
+pub mod PassedOptions
+pub mod ListedPlaces

@@ -152,9 +152,13 @@ pub before_segment : (p : Puzzle) (i x m : ℕ) → OptionNodes p x m → Segmen
 before_segment p i x m o = record { node = λ k u e. o.node k u (get_taken (place_in i (uses_of p x)) k (uses_of p x) u e) }
 
 -- the node of item i stands behind as many of the option's nodes as uses stand before it
-pub place_at_use : (p : Puzzle) (i x m q : ℕ) → OptionNodes p x m → IsUseAt p i x q → q ≡ start_at p m + place_in i (uses_of p x)
-place_at_use p i x m q o u =
+pub place_held : (p : Puzzle) (i x m : ℕ) → OptionNodes p x m → place_in i (uses_of p x) < length (uses_of p x) →
+    link_place p i x ≡ start_at p m + place_in i (uses_of p x)
+place_held p i x m o holds =
     let us = uses_of p x in
     let k = place_in i us in
     let d : Use = record { item = 0; colour = 0 } in
-    u.at ∙ ap (λ j. link_place p j x) (sym (item_there us i d u.holds)) ∙ o.place k (get_or us k d) (slice_get-get_or us k d u.holds)
+    ap (λ j. link_place p j x) (sym (item_there us i d holds)) ∙ o.place k (get_or us k d) (slice_get-get_or us k d holds)
+
+pub place_at_use : (p : Puzzle) (i x m q : ℕ) → OptionNodes p x m → IsUseAt p i x q → q ≡ start_at p m + place_in i (uses_of p x)
+place_at_use p i x m q o u = u.at ∙ place_held p i x m o u.holds
