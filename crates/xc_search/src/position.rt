@@ -108,7 +108,7 @@ impl<'a, D: Dance> Position<'a, D> {
         requires room { length self.old.trail < room_for self.old.puzzle }
         ensures { self.new ≡ record self.old { trail = m ∷ self.old.trail } }
     {
-        self.dance.apply(m).unwrap();
+        self.dance.make(m);
     }
 
     /// Undoes the newest move. There must be one.
