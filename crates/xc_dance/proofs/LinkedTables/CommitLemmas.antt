@@ -1,5 +1,5 @@
 -- Which node is which use, and what stands below a node.
-use Rattle.std.proofs.Common.{Some, ap₂, subst, [], eqb-true, le-leb, ◌≡◌, ℕ, ◌<◌, ◌⊎◌, inl, inr, true, false, cond, eqb, List, ◌∷◌, length, get_or, refl, ap, sym, ◌∙◌, arith, eq-eqb}
+use Rattle.std.proofs.Common.{Bool, Some, ap₂, subst, [], eqb-true, le-leb, ◌≡◌, ℕ, ◌<◌, ◌⊎◌, inl, inr, true, false, cond, eqb, List, ◌∷◌, length, get_or, refl, ap, sym, ◌∙◌, arith, eq-eqb}
 use Rattle.std.specs.Prelude.{is_some, slice_get, Contains, unwrap_or}
 use Rattle.std.proofs.lemmas.Grind.{common_steps}
 use Rattle.std.proofs.lemmas.List.{length-map}
@@ -106,3 +106,13 @@ committed_open p t q o j k u at item high still read =
     let is : is_open u.item t ≡ true = ap (λ i. is_open i t) item ∙ still in
     ap₂ (λ i n. cond (eqb n 0) (Cover i) (Purify i n) ∷ t) (sym item) (read ∙ open_colour p t q o u at is)
     ∙ sym (after_open p u t (omega (arith, high, item)) is)
+
+-- the moves of such a use, of which a Cover may be still to be made
+pub still_covers : (j k : ℕ) (t new : List Move) (r : Bool) → r ≡ eqb k 0 → new ≡ cond (eqb k 0) t (Purify j k ∷ t) →
+    cond (eqb k 0) (Cover j) (Purify j k) ∷ t ≡ cond r (Cover j ∷ new) new
+still_covers j k t new r e f = by_colour (eqb k 0) r e f
+  where
+    by_colour : (b r : Bool) → r ≡ b → new ≡ cond b t (Purify j k ∷ t) →
+        cond b (Cover j) (Purify j k) ∷ t ≡ cond r (Cover j ∷ new) new
+    by_colour true r e f = rw (e, f) refl
+    by_colour false r e f = rw (e, f) refl
