@@ -28,3 +28,8 @@ pub mod Spacers
 pub mod FirstTables
 pub mod EnteredNodes
 pub mod SameTables
+pub mod UsePlaces
+pub mod CommitLemmas
+pub mod Along
+pub mod PassedOptions
+pub mod ListedPlaces

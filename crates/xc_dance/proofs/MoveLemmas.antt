@@ -7,3 +7,4 @@ pub mod OptionsRise
 pub mod OpenLists
 pub mod LeftOptions
 pub mod Members
+pub mod Commits

@@ -6,6 +6,7 @@ pub mod NextBranch
 pub mod NextLevel
 pub mod NextOption
 pub mod PassedOver
+pub mod ShownLevels
 pub mod Start
 pub mod TakenOption
 pub mod WorkUnrolled

@@ -156,7 +156,7 @@ impl<'a, D: Dance> Cut<'a, D> {
             self.down,
             Bounds { budget, size },
         );
-        self.stack.show();
+        self.stack.show(&self.position);
         self.down = false;
         found
     }
@@ -190,6 +190,7 @@ fn next_part<D: Dance>(
     requires trial_fits { most_levels position.old.puzzle ≤ trial.old.room }
     ensures part { result ≡ Cutting.Part → IsPart position.old stack.old down position.new stack.new }
     ensures done { result ≡ Cutting.Done → IsDone position.old stack.old down position.new stack.new }
+    ensures stacked { AreStacked position.new.puzzle position.new.trail stack.new.levels }
     ensures path { KeepsPath position.old stack.old position.new stack.new }
     ensures trial { trial.new ≡ trial.old }
 {

@@ -60,7 +60,7 @@ pub fn deepen<D: Dance>(position: &mut Position<D>, stack: &mut Stack) -> Below
     let branch = position.enter(&level, 1);
     begin_level(&mut level, branch);
     stack.push(level);
-    position.commit_branch(item, branch.option);
+    position.commit_branch(item, branch.place);
     Below::Branch
 }
 
@@ -103,7 +103,7 @@ pub fn resume<D: Dance>(position: &mut Position<D>, stack: &mut Stack) -> Resume
             position.undo_to(level.base);
             let branch = position.enter(level, next);
             stack.begin(branch);
-            position.commit_branch(item, branch.option);
+            position.commit_branch(item, branch.place);
             return Resumed::Branch;
         }
         end_level(position, level);

@@ -1,6 +1,10 @@
 //! A dance of a problem, as the search goes over it.
-ghost use Rattle.std.specs.Prelude.{◌≡◌, ◌<◌, ◌≤◌, ◌∷◌, length, drop};
-ghost use Rattle.xc_dance.specs.Moves.{IsLegal, AreTweaks};
+ghost use Rattle.std.specs.Prelude.{ℕ, ◌≡◌, ◌<◌, ◌≤◌, ◌∷◌, length, drop};
+ghost use Rattle.xc_input.specs.Problem.{IsItem};
+ghost use Rattle.xc_dance.specs.Fields.{link_place, first_above};
+ghost use Rattle.xc_dance.specs.Commits.{IsListedAt, IsUseAt, after_option, option_at};
+ghost use Rattle.xc_search.specs.inner.Commits.{MayStand};
+ghost use Rattle.xc_dance.specs.Moves.{IsLegal, AreTweaks, listed_numbers, next_above};
 ghost use Rattle.xc_search.specs.Residuals.{wanted_after, choice_after};
 ghost use Rattle.xc_search.specs.Room.{room_for};
 ghost use Rattle.xc_search.specs.inner.Levels.{AreAllWanted};
@@ -104,7 +108,7 @@ impl<'a, D: Dance> Position<'a, D> {
         requires room { length self.old.trail < room_for self.old.puzzle }
         ensures { self.new ≡ record self.old { trail = m ∷ self.old.trail } }
     {
-        self.dance.apply(m).unwrap();
+        self.dance.make(m);
     }
 
     /// Undoes the newest move. There must be one.
@@ -114,6 +118,41 @@ impl<'a, D: Dance> Position<'a, D> {
         ensures { self.new ≡ record self.old { trail = drop 1 self.old.trail } }
     {
         self.dance.undo();
+    }
+
+    /// The place of the node below the one at a place of the item's list.
+    #[inline(always)]
+    pub fn node_below(&self, i: u32, place: u32) -> u32
+        requires item { IsItem self.now.puzzle i }
+        requires place { (x : ℕ) × IsListedAt self.now.puzzle self.now.trail i x place }
+        ensures place { (x : ℕ) → IsListedAt self.now.puzzle self.now.trail i x place →
+            result ≡ link_place self.now.puzzle i (first_above 0 x (listed_numbers self.now.puzzle self.now.trail i)) }
+        ensures option { (x : ℕ) → IsListedAt self.now.puzzle self.now.trail i x place →
+            option_at self.now.puzzle i result ≡ next_above x (listed_numbers self.now.puzzle self.now.trail i) }
+    {
+        self.dance.node_below(self.problem, i, place)
+    }
+
+    /// The option whose use of the item stands at a place.
+    #[inline(always)]
+    pub fn option_of(&self, i: u32, place: u32) -> u32
+        requires item { IsItem self.now.puzzle i }
+        requires place { (x : ℕ) × IsUseAt self.now.puzzle i x place }
+        ensures { (x : ℕ) → IsUseAt self.now.puzzle i x place → result ≡ x }
+    {
+        self.dance.option_of(self.problem, i, place)
+    }
+
+    /// Commits the other uses of the option whose use of the item stands at a place.
+    #[inline(always)]
+    pub fn commit(&mut self, i: u32, place: u32)
+        requires item { IsItem self.old.puzzle i }
+        requires can { (x : ℕ) × IsUseAt self.old.puzzle i x place
+            × MayStand self.old.puzzle (after_option self.old.puzzle i x self.old.trail) }
+        ensures { (x : ℕ) → IsUseAt self.old.puzzle i x place →
+            self.new ≡ record self.old { trail = after_option self.old.puzzle i x self.old.trail } }
+    {
+        self.dance.commit(self.problem, i, place);
     }
 
     /// Undoes the newest `k` moves, tweaks of one item.

@@ -46,12 +46,12 @@ impl<'a, D: Dance> Model for Search<'a, D> {
     ghost view = { λ s. record {
       puzzle = s.position.puzzle;
       to_come = coming s.position.puzzle s.position.trail s.stack.levels s.down;
-      shown = choices_of s.stack.levels;
+      shown = choices_of s.position.puzzle s.stack.levels;
       room = s.position.room;
     } };
 
     ghost invariant = { λ s. record {
-      shows : s.stack.shown ≡ choices_of s.stack.levels;
+      shows : s.stack.shown ≡ choices_of s.position.puzzle s.stack.levels;
       standing : IsStanding s.position.puzzle s.position.trail s.stack.levels s.down;
       levels_fit : most_levels s.position.puzzle ≤ s.stack.room;
     } };
@@ -153,11 +153,11 @@ impl<'a, D: Dance> Search<'a, D> {
         ensures { result ≡ record {
           puzzle = position.entry.puzzle;
           to_come = coming position.entry.puzzle position.entry.trail stack.levels down;
-          shown = choices_of stack.levels;
+          shown = choices_of position.entry.puzzle stack.levels;
           room = position.entry.room;
         } }
     {
-        stack.show();
+        stack.show(&position);
         Search {
             position,
             stack,

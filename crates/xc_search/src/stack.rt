@@ -1,11 +1,13 @@
 //! The stack of the search's levels, and the choices of a solution beside it.
-ghost use Rattle.std.specs.Prelude.{◌≡◌, ◌<◌, ◌≤◌, [], ◌∷◌, ◌++◌, length, drop, map, vec_capacity, IfSome, IfOk, IsNone};
-ghost use Rattle.xc_search.specs.inner.Levels.{chosen, choices_of, newest_begun};
+ghost use Rattle.std.specs.Prelude.{◌≡◌, ◌<◌, ◌≤◌, [], ◌∷◌, ◌++◌, length, drop, map, vec_capacity, IfSome, IfOk, IsNone, All};
+ghost use Rattle.xc_search.specs.inner.Levels.{chosen, choices_of, newest_begun, IsShown};
 
 use crate::choice::Choice;
 use crate::level::{Begun, Level, begin_level};
+use crate::position::Position;
 use std::alloc::{AllocError, Global};
 use std::marker::Model;
+use xc_dance::Dance;
 
 /// A whole search, of which `share` tells how much is done.
 pub const WHOLE: u64 = 1 << 63;
@@ -99,10 +101,11 @@ impl Stack {
     }
 
     /// Shows the levels' choices, from the oldest level on.
-    pub fn show(&mut self)
-        ensures { self.new ≡ record self.old { shown = choices_of self.old.levels } }
+    pub fn show<D: Dance>(&mut self, position: &Position<D>)
+        requires { All (IsShown position.now.puzzle) self.old.levels }
+        ensures { self.new ≡ record self.old { shown = choices_of position.now.puzzle self.old.levels } }
     {
-        put_choices(&mut self.choices, &self.levels);
+        put_choices(&mut self.choices, &self.levels, position);
     }
 
     /// The choices that were shown last.
@@ -114,26 +117,14 @@ impl Stack {
 }
 
 /// Puts the levels' choices in the place of those that stand.
-fn put_choices(choices: &mut Vec<Choice>, levels: &[Level])
-    requires { length levels.now ≤ vec_capacity choices.old }
-    ensures items { choices.new.items ≡ map chosen levels.now }
+fn put_choices<D: Dance>(choices: &mut Vec<Choice>, levels: &[Level], position: &Position<D>)
+    requires room { length levels.now ≤ vec_capacity choices.old }
+    requires shown { All (IsShown position.now.puzzle) levels.now }
+    ensures items { choices.new.items ≡ map (chosen position.now.puzzle) levels.now }
     ensures capacity { vec_capacity choices.new ≡ vec_capacity choices.old }
 {
     choices.clear();
     for level in levels {
-        choices.push_reserved(choice_of(level));
-    }
-}
-
-/// The level's newest branch.
-#[inline(always)]
-fn choice_of(level: &Level) -> Choice
-    ensures { result ≡ chosen level.now }
-{
-    Choice {
-        item: level.item,
-        option: level.option,
-        k: level.begun,
-        n: level.count,
+        choices.push_reserved(position.choice_of(level));
     }
 }

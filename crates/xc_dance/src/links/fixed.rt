@@ -1,6 +1,6 @@
 //! What no move changes: the counts of the items, and where the nodes of the options stand.
 ghost use Rattle.std.specs.Prelude.{◌≡◌, false, ◌-◌, ◌≤◌, ◌↔◌, IsTrue, IfOk};
-ghost use Rattle.xc_input.specs.Problem.{IsValid, IsWithinLimits, IsItem, IsPrimary, IsSecondary, item_count, IsOption};
+ghost use Rattle.xc_input.specs.Problem.{IsValid, IsWithinLimits, IsItem, IsPrimary, IsSecondary, item_count, primary_count, IsOption};
 ghost use Rattle.xc_dance.specs.Links.Laid.{IsFit};
 ghost use Rattle.xc_dance.specs.Links.OptionPlaces.{start_at};
 ghost use Rattle.xc_dance.specs.Links.OptionSpans.{spans_of};
@@ -72,6 +72,14 @@ impl Fixed {
         ensures { result ≡ item_count self.now }
     {
         self.items
+    }
+
+    /// How many of them are primary.
+    #[inline(always)]
+    pub(crate) fn primary(&self) -> u32
+        ensures { result ≡ primary_count self.now }
+    {
+        self.primary
     }
 
     #[inline(always)]

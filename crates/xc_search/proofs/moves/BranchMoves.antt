@@ -13,7 +13,8 @@ use Rattle.xc_dance.specs.Moves.{listed, is_open, spends, AreLegal}
 use Rattle.xc_search.specs.Residuals.{wanted_after}
 use Rattle.xc_search.specs.inner.Residual.{residual_of}
 use Rattle.xc_dance.specs.Lists.Left.{left}
-use Rattle.xc_search.specs.inner.Commits.{after_spend, tweaked, after_use, after_uses, others, place_in, after_none}
+use Rattle.xc_dance.specs.Commits.{after_spend, after_use, after_uses, others, place_in}
+use Rattle.xc_search.specs.inner.Commits.{tweaked, after_none}
 use Rattle.xc_search.specs.inner.Levels.{IsNode}
 use Rattle.xc_dance.proofs.MoveLemmas.OpenLists.{listed_open}
 use Rattle.xc_search.proofs.residual.PickedByUses.{dec, commit_uses, uses_committed, AreWanted, as_residual, still_wanted, is_wanted}

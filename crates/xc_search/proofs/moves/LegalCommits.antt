@@ -7,7 +7,7 @@ use Rattle.xc_input.specs.Problem.{Puzzle, primary_count, high_at, uses_of, numb
 use Rattle.std.specs.Prelude.{unwrap_or}
 use Rattle.xc_dance.specs.Dancing.{Dancing}
 use Rattle.xc_dance.specs.Moves.{AreLegal, is_open, spends}
-use Rattle.xc_search.specs.inner.Commits.{after_spend, after_use, after_uses, place_in, others}
+use Rattle.xc_dance.specs.Commits.{after_spend, after_use, after_uses, place_in, others}
 use Rattle.std.proofs.Math.Seq.{take-length}
 
 legal_after_spend : (p : Puzzle) (i : ℕ) (t : List Move) → AreLegal p (after_spend p i t) → AreLegal p t

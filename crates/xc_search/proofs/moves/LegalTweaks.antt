@@ -12,7 +12,8 @@ use Rattle.xc_dance.specs.Moves.{listed, is_open, purified, spends, without, Are
 use Rattle.xc_search.specs.Residuals.{wanted_after}
 use Rattle.xc_search.specs.inner.Residual.{residual_of}
 use Rattle.xc_dance.specs.Lists.Left.{left}
-use Rattle.xc_search.specs.inner.Commits.{after_spend, tweaked}
+use Rattle.xc_dance.specs.Commits.{after_spend}
+use Rattle.xc_search.specs.inner.Commits.{tweaked}
 use Rattle.xc_search.specs.inner.Levels.{IsNode}
 use Rattle.xc_dance.proofs.MoveLemmas.OpenLists.{listed_open, left_rises, without_filter}
 use Rattle.xc_dance.proofs.MoveLemmas.OptionsRise.{NumbersRise-filter, NumbersRise-weaker, NumbersRise}

@@ -44,35 +44,35 @@ branches_same p t = by_case (branch_item (residual_of p t)) refl
     by_case None e = rw e refl
     by_case (Some w) e = rw e refl
 
-led_by_one : (p : Puzzle) (t : List Move) (l : Level) → IsLed p t l → left_by_one (chosen l) (residual_of p (oldest l.mark t)) ≡ Some (residual_of p t)
+led_by_one : (p : Puzzle) (t : List Move) (l : Level) → IsLed p t l → left_by_one (chosen p l) (residual_of p (oldest l.mark t)) ≡ Some (residual_of p t)
 led_by_one p t l a =
     let b = a.branch in
-    ap (λ bs. option_and_then (λ b. cond (has_choice (chosen l) b) (Some b.next) None) (slice_get bs (l.begun - 1))) (branches_same p (oldest l.mark t))
-    ∙ ap (option_and_then (λ b. cond (has_choice (chosen l) b) (Some b.next) None)) a.at
+    ap (λ bs. option_and_then (λ b. cond (has_choice (chosen p l) b) (Some b.next) None) (slice_get bs (l.begun - 1))) (branches_same p (oldest l.mark t))
+    ∙ ap (option_and_then (λ b. cond (has_choice (chosen p l) b) (Some b.next) None)) a.at
     ∙ ap (λ c. cond (has_choice c b) (Some b.next) None) a.choice
     ∙ ap (λ x. cond x (Some b.next) None) (has_its_choice b)
     ∙ ap Some (sym a.next)
 
-pub led_left : (p : Puzzle) (t : List Move) (ls : List Level) → AreLed p [] t ls → left_by (choices_of ls) (whole p) ≡ Some (residual_of p t)
+pub led_left : (p : Puzzle) (t : List Move) (ls : List Level) → AreLed p [] t ls → left_by (choices_of p ls) (whole p) ≡ Some (residual_of p t)
 led_left p t [] a = ap Some (sym (no_moves_leave_all p)) ∙ ap (λ t. Some (residual_of p t)) (sym a)
 led_left p t (l ∷ ls) a =
-    ap (λ path. left_by path (whole p)) (choices_more l ls)
-    ∙ left_by_more (choices_of ls) (chosen l) (whole p)
-    ∙ ap (option_and_then (left_by_one (chosen l))) (led_left p (oldest l.mark t) ls a.1)
+    ap (λ path. left_by path (whole p)) (choices_more p l ls)
+    ∙ left_by_more (choices_of p ls) (chosen p l) (whole p)
+    ∙ ap (option_and_then (left_by_one (chosen p l))) (led_left p (oldest l.mark t) ls a.1)
     ∙ led_by_one p t l a.0
 
-pub led_path : (p : Puzzle) (t : List Move) (ls : List Level) → AreLed p [] t ls → IsPath p (choices_of ls)
+pub led_path : (p : Puzzle) (t : List Move) (ls : List Level) → AreLed p [] t ls → IsPath p (choices_of p ls)
 led_path p t ls a = (residual_of p t, led_left p t ls a)
 
 -- what comes is what is below the path, and then what the levels have to give
-pub comes_below : (p : Puzzle) (t : List Move) (ls : List Level) → AreLed p [] t ls → coming p t ls true ≡ below p (choices_of ls) ++ to_give p t ls
+pub comes_below : (p : Puzzle) (t : List Move) (ls : List Level) → AreLed p [] t ls → coming p t ls true ≡ below p (choices_of p ls) ++ to_give p t ls
 comes_below p t ls a =
-    sym (ap (λ o. unwrap_or (option_map (λ r. map (λ m. choices_of ls ++ m) (listing r)) o) [] ++ to_give p t ls) (led_left p t ls a))
+    sym (ap (λ o. unwrap_or (option_map (λ r. map (λ m. choices_of p ls ++ m) (listing r)) o) [] ++ to_give p t ls) (led_left p t ls a))
 
 -- the items of the choices are primary
-pub primary_choices : (p : Puzzle) (t : List Move) (ls : List Level) → AreStacked p t ls → All (λ (c : Choice). IsPrimary p c.item) (choices_of ls)
+pub primary_choices : (p : Puzzle) (t : List Move) (ls : List Level) → AreStacked p t ls → All (λ (c : Choice). IsPrimary p c.item) (choices_of p ls)
 primary_choices p t [] a = All-nil (λ (c : Choice). IsPrimary p c.item)
 primary_choices p t (l ∷ ls) a =
     let is : Choice → Type 0 = λ c. IsPrimary p c.item in
-    subst (All is) (sym (choices_more l ls))
-    (All-append is (choices_of ls) (chosen l ∷ []) (primary_choices p (oldest l.mark t) ls a.2) (All-cons is (chosen l) [] a.0.node.item (All-nil is)))
+    subst (All is) (sym (choices_more p l ls))
+    (All-append is (choices_of p ls) (chosen p l ∷ []) (primary_choices p (oldest l.mark t) ls a.2) (All-cons is (chosen p l) [] a.0.node.item (All-nil is)))

@@ -6,7 +6,8 @@ use Rattle.xc_search.specs.declared.level.Level.{Level}
 use Rattle.xc_search.specs.declared.level.Begun.{Begun}
 use Rattle.xc_input.specs.Problem.{Puzzle}
 use Rattle.xc_dance.specs.Dancing.{Dancing}
-use Rattle.xc_search.specs.inner.Commits.{oldest, after_spend}
+use Rattle.xc_dance.specs.Commits.{after_spend, option_at}
+use Rattle.xc_search.specs.inner.Commits.{oldest}
 use Rattle.xc_search.specs.inner.Levels.{Levels, AreStacked, IsBegun, IsEntered, branches_at, first_level, begun_level, newest_begun, after_branch}
 use Rattle.xc_search.specs.inner.Paths.{AreLed, KeepsPath, ground}
 use Rattle.xc_search.proofs.stacked.NextLevel.{ext_after_spend, ext_whole, oldest-oldest}
@@ -37,11 +38,11 @@ keeps_at d e ls ks same f = λ u a. subst (λ p. AreLed p u e.trail ks.levels) s
 pub keeps_first : (d e f h : Dancing) (ls ks : Levels) (i n : ℕ) (l : Level) (b : Begun) →
     e ≡ record d { trail = after_spend d.puzzle i d.trail } → l ≡ first_level d.puzzle d.trail i n →
     f ≡ record e { trail = f.trail } → IsEntered e.puzzle e.trail l f.trail (begun_level b l) →
-    h ≡ record f { trail = after_branch f.puzzle i b.option f.trail } → ks ≡ with_level (begun_level b l) ls → KeepsPath d ls h ks
+    h ≡ record f { trail = after_branch f.puzzle i (option_at f.puzzle i b.place) f.trail } → ks ≡ with_level (begun_level b l) ls → KeepsPath d ls h ks
 keeps_first d e f h ls ks i n l b ed el ef entered eh ek =
-    let made : h ≡ record e { trail = after_branch e.puzzle l.item b.option f.trail } =
-    eh ∙ ap (λ (f : Dancing). record f { trail = after_branch f.puzzle i b.option f.trail }) ef
-    ∙ ap (λ (l : Level). record e { trail = after_branch e.puzzle l.item b.option f.trail }) (sym el) in
+    let made : h ≡ record e { trail = after_branch e.puzzle l.item (option_at e.puzzle l.item b.place) f.trail } =
+    eh ∙ ap (λ (f : Dancing). record f { trail = after_branch f.puzzle i (option_at f.puzzle i b.place) f.trail }) ef
+    ∙ ap (λ (l : Level). record e { trail = after_branch e.puzzle l.item (option_at e.puzzle l.item b.place) f.trail }) (sym el) in
     let begun : IsBegun e.puzzle e.trail l h.trail (begun_level b l) = subst (λ (h : Dancing). IsBegun e.puzzle e.trail l h.trail (begun_level b l)) (sym made) entered.begun in
     let same : e.puzzle ≡ d.puzzle = ap (λ (s : Dancing). s.puzzle) ed in
     let under : oldest l.mark e.trail ≡ d.trail =
@@ -63,16 +64,16 @@ keeps_over d e f ls i n l ed el ef =
 -- the next branch of the newest level
 pub keeps_next : (d e f h : Dancing) (l : Level) (b : Begun) (vs ks : Levels) → AreStacked d.puzzle d.trail vs.levels → vs.levels ≡ l ∷ drop 1 vs.levels →
     e ≡ record d { trail = oldest l.base d.trail } → f ≡ record e { trail = f.trail } → IsEntered e.puzzle e.trail l f.trail (begun_level b l) →
-    h ≡ record f { trail = after_branch f.puzzle l.item b.option f.trail } → ks ≡ record vs { levels = newest_begun b vs.levels } → KeepsPath d vs h ks
+    h ≡ record f { trail = after_branch f.puzzle l.item (option_at f.puzzle l.item b.place) f.trail } → ks ≡ record vs { levels = newest_begun b vs.levels } → KeepsPath d vs h ks
 keeps_next d e f h l b vs ks stacked top ed ef entered eh ek =
     let p = d.puzzle in
     let t = d.trail in
     let js = drop 1 vs.levels in
     let at : f ≡ record d { trail = f.trail } = ef ∙ ap (λ (e : Dancing). record e { trail = f.trail }) ed in
-    let made : h ≡ record d { trail = after_branch p l.item b.option f.trail } =
-    eh ∙ ap (λ (f : Dancing). record f { trail = after_branch f.puzzle l.item b.option f.trail }) at in
-    let begun : IsBegun p (oldest l.base t) l (after_branch p l.item b.option f.trail) (begun_level b l) =
-    subst (λ (e : Dancing). IsBegun e.puzzle e.trail l (after_branch e.puzzle l.item b.option f.trail) (begun_level b l)) ed entered.begun in
+    let made : h ≡ record d { trail = after_branch p l.item (option_at p l.item b.place) f.trail } =
+    eh ∙ ap (λ (f : Dancing). record f { trail = after_branch f.puzzle l.item (option_at f.puzzle l.item b.place) f.trail }) at in
+    let begun : IsBegun p (oldest l.base t) l (after_branch p l.item (option_at p l.item b.place) f.trail) (begun_level b l) =
+    subst (λ (e : Dancing). IsBegun e.puzzle e.trail l (after_branch e.puzzle l.item (option_at e.puzzle l.item b.place) f.trail) (begun_level b l)) ed entered.begun in
     let here = subst (AreStacked p t) top stacked in
     let under : oldest l.mark (oldest l.base t) ≡ oldest l.mark t = oldest-oldest l.mark l.base t here.0.within.0 here.0.within.1 in
     let levels : ks.levels ≡ begun_level b l ∷ js = ap (λ (s : Levels). s.levels) ek ∙ ap (newest_begun b) top in

@@ -34,7 +34,7 @@ goes_behind d e ls same s none =
       record {
         still = (refl, refl);
         standing = stands_behind d.puzzle d.trail ls.levels s.stacked;
-        members = ap (λ ms. map (λ m. choices_of ls.levels ++ m) ms ++ to_give d.puzzle d.trail ls.levels) none;
+        members = ap (λ ms. map (λ m. choices_of d.puzzle ls.levels ++ m) ms ++ to_give d.puzzle d.trail ls.levels) none;
       },
       omega (arith, some_work (residual_of d.puzzle d.trail)),
     )
@@ -43,7 +43,7 @@ goes_behind d e ls same s none =
 pub nothing_listed : (p : Puzzle) (t : List Move) (ls : List Level) → ls ≡ [] → coming p t ls true ≡ [] → listing (residual_of p t) ≡ []
 nothing_listed p t ls e none =
     let ms = listing (residual_of p t) in
-    sym (append-nil (map (λ m. choices_of [] ++ m) ms) ∙ map-id ms) ∙ ap (λ ls. coming p t ls true) (sym e) ∙ none
+    sym (append-nil (map (λ m. choices_of p [] ++ m) ms) ∙ map-id ms) ∙ ap (λ ls. coming p t ls true) (sym e) ∙ none
 
 -- and comes back to the node
 pub comes_back : (d e f : Dancing) (ls ks : Levels) → ls.levels ≡ [] → e ≡ record d { trail = e.trail } → KeepsPath d ls e ks → f ≡ record e { trail = ground e.trail ks.levels } → f ≡ d
@@ -53,7 +53,7 @@ comes_back d e f ls ks none ed keeps ef =
 
 -- what was to come begins with what is below the part's path
 pub part_below : (d e : Dancing) (ls ks js : Levels) (down : Bool) (o : Uncut) → IsPart d ls down e ks → AreLed e.puzzle [] e.trail ks.levels →
-    js ≡ record ks { shown = choices_of ks.levels } →
+    js ≡ record ks { shown = choices_of e.puzzle ks.levels } →
     record { puzzle = d.puzzle; to_come = coming d.puzzle d.trail ls.levels down; path = ls.shown; room = d.room } ≡ o →
     o.to_come ≡ below o.puzzle js.shown ++ to_give e.puzzle e.trail js.levels
 part_below d e ls ks js down o a led shows is =

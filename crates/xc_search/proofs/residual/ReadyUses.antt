@@ -14,7 +14,7 @@ use Rattle.xc_dance.specs.Lists.Left.{left}
 use Rattle.xc_dance.specs.Moves.{is_open, purified, spends, open_items, AreLegal, agrees}
 use Rattle.xc_search.specs.Residuals.{wanted_at, wanted_after}
 use Rattle.xc_search.specs.inner.Residual.{residual_of}
-use Rattle.xc_search.specs.inner.Commits.{after_spend, after_use, after_uses}
+use Rattle.xc_dance.specs.Commits.{after_spend, after_use, after_uses}
 use Rattle.xc_search.proofs.residual.PickedByUses.{dec, is_wanted, commit_use, commit_uses, AreWanted, as_residual, still_wanted}
 use Rattle.xc_search.proofs.residual.EachMove.{residual_spend, residual_cover, residual_purify, residual_cover_secondary, in_range}
 use Rattle.xc_dance.proofs.MoveLemmas.LeftOptions.{left_agrees}

@@ -9,7 +9,8 @@ use Rattle.xc_search.specs.Listing.{branch_item}
 use Rattle.xc_dance.specs.Moves.{AreLegal}
 use Rattle.xc_search.specs.Residuals.{wanted_at}
 use Rattle.xc_search.specs.inner.Residual.{residual_of}
-use Rattle.xc_search.specs.inner.Commits.{MayStand, after_spend, oldest, after_uses}
+use Rattle.xc_dance.specs.Commits.{after_spend, after_uses}
+use Rattle.xc_search.specs.inner.Commits.{MayStand, oldest}
 use Rattle.xc_search.specs.Room.{room_for}
 use Rattle.xc_search.specs.inner.Sparing.{spendings}
 use Rattle.xc_search.specs.inner.Levels.{IsNode, IsLevel, IsBegun, next_number}

@@ -11,7 +11,8 @@ use Rattle.xc_dance.specs.Moves.{AreTweaks}
 use Rattle.xc_search.specs.Residuals.{wanted_at}
 use Rattle.xc_search.specs.inner.Residual.{residual_of}
 use Rattle.xc_search.specs.inner.Levels.{branches_at, members_of, IsLevelAt, IsLevel, IsShallow, AreStacked, choices_of, to_give}
-use Rattle.xc_search.specs.inner.Commits.{after_spend, oldest, tweaked}
+use Rattle.xc_dance.specs.Commits.{after_spend}
+use Rattle.xc_search.specs.inner.Commits.{oldest, tweaked}
 use Rattle.xc_search.specs.inner.Ahead.{cost, work, visits}
 use Rattle.xc_search.proofs.moves.OldestMoves.{oldest_all}
 use Rattle.xc_search.proofs.listing.BranchLists.{branches_end}
@@ -34,12 +35,13 @@ returned p t l ls stacked =
           walking = is_level.walking;
           tweaks = is_level.tweaks;
           option = is_level.option;
+          place = is_level.place;
           base = oldest-oldest l.base l.base t (omega arith) is_level.within.1 ∙ is_level.base;
         }),
         subst (λ u. IsShallow p u ls) (sym under) stacked.1,
         subst (λ u. AreStacked p u ls) (sym under) stacked.2,
       ),
-      ap (λ u. members_of (choices_of ls) (drop l.begun (branches_at p u)) ++ to_give p u ls) under,
+      ap (λ u. members_of (choices_of p ls) (drop l.begun (branches_at p u)) ++ to_give p u ls) under,
       ap (λ u. suc (cost work (drop l.begun (branches_at p u))) + visits p u ls) under,
       sym long,
     )
@@ -53,7 +55,7 @@ finished p t l ls stacked h =
     let w = wanted_at p u l.item in
     let all : l.begun ≡ branch_count (residual_of p u) w = omega (arith, is_level.count, is_level.begun, h) in
     let none : drop l.begun (branches_at p u) ≡ [] = ap₂ (λ n bs. drop n bs) all (branches_here p u w is_level.branch) ∙ branches_end (residual_of p u) w in
-    (ap (λ bs. members_of (choices_of ls) bs ++ to_give p u ls) none, omega arith)
+    (ap (λ bs. members_of (choices_of p ls) bs ++ to_give p u ls) none, omega arith)
 
 -- its tweaks are the newest moves
 pub closing : (p : Puzzle) (t : List Move) (l : Level) → IsLevel p t l → l.base ≡ length t → (0 < l.tweaks → AreTweaks l.tweaks t) × (l.mark + l.tweaks ≤ length t)

@@ -8,7 +8,8 @@ use Rattle.xc_input.specs.Problem.{Puzzle, primary_count}
 use Rattle.xc_search.specs.Listing.{branch_item, branch_count, branches_of}
 use Rattle.xc_search.specs.Residuals.{wanted_at, wanted_after}
 use Rattle.xc_search.specs.inner.Residual.{residual_of}
-use Rattle.xc_search.specs.inner.Commits.{after_spend, oldest}
+use Rattle.xc_dance.specs.Commits.{after_spend}
+use Rattle.xc_search.specs.inner.Commits.{oldest}
 use Rattle.xc_search.specs.inner.MostLevels.{most_levels}
 use Rattle.xc_search.specs.inner.Sparing.{spendings}
 use Rattle.xc_search.specs.inner.Levels.{IsShallow, AreStacked, IsNode, IsBegun}

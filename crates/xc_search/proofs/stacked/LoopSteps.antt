@@ -8,7 +8,8 @@ use Rattle.xc_input.specs.Problem.{Puzzle}
 use Rattle.xc_dance.specs.Dancing.{Dancing}
 use Rattle.xc_dance.specs.Moves.{AreTweaks}
 use Rattle.xc_search.specs.Residuals.{choice_after}
-use Rattle.xc_search.specs.inner.Commits.{after_spend, oldest}
+use Rattle.xc_dance.specs.Commits.{option_at, after_spend}
+use Rattle.xc_search.specs.inner.Commits.{oldest}
 use Rattle.xc_search.specs.inner.Levels.{Levels, IsNode, IsLevel, AreStacked, to_give, IsStanding, MayBegin, first_level, IsBegun, IsEntered, after_branch, begun_level, newest_begun}
 use Rattle.xc_search.specs.inner.Ahead.{visits, ahead, GoesOn, IsReached}
 use Rattle.xc_search.proofs.moves.OldestMoves.{oldest_all}
@@ -139,12 +140,12 @@ begins_first d e f ls ks i n l b s h ed el ef begun ek =
 pub enters_first : (d e f h : Dancing) (ls ks : Levels) (i n : ℕ) (l : Level) (b : Begun) → IsStanding d.puzzle d.trail ls.levels true → choice_after d.puzzle d.trail ≡ Some (i, n) →
     e ≡ record d { trail = after_spend d.puzzle i d.trail } → l ≡ first_level d.puzzle d.trail i n →
     f ≡ record e { trail = f.trail } → IsEntered e.puzzle e.trail l f.trail (begun_level b l) →
-    h ≡ record f { trail = after_branch f.puzzle i b.option f.trail } → ks ≡ with_level (begun_level b l) ls →
+    h ≡ record f { trail = after_branch f.puzzle i (option_at f.puzzle i b.place) f.trail } → ks ≡ with_level (begun_level b l) ls →
     GoesOn d ls true h ks true × (ahead h.puzzle h.trail ks.levels true < ahead d.puzzle d.trail ls.levels true)
 enters_first d e f h ls ks i n l b s c ed el ef entered eh ek =
-    let made : h ≡ record e { trail = after_branch e.puzzle l.item b.option f.trail } =
-    eh ∙ ap (λ (f : Dancing). record f { trail = after_branch f.puzzle i b.option f.trail }) ef
-    ∙ ap (λ (l : Level). record e { trail = after_branch e.puzzle l.item b.option f.trail }) (sym el) in
+    let made : h ≡ record e { trail = after_branch e.puzzle l.item (option_at e.puzzle l.item b.place) f.trail } =
+    eh ∙ ap (λ (f : Dancing). record f { trail = after_branch f.puzzle i (option_at f.puzzle i b.place) f.trail }) ef
+    ∙ ap (λ (l : Level). record e { trail = after_branch e.puzzle l.item (option_at e.puzzle l.item b.place) f.trail }) (sym el) in
     let still : h ≡ record e { trail = h.trail } = made ∙ ap (λ t. record e { trail = t }) (ap (λ (h : Dancing). h.trail) (sym made)) in
     begins_first d e h ls ks i n l b s c ed el still
     (subst (λ (h : Dancing). IsBegun e.puzzle e.trail l h.trail (begun_level b l)) (sym made) entered.begun) ek
@@ -162,15 +163,15 @@ passes_over d e f ls i n l s h ed el none ef =
 -- a branch is entered and its moves are made
 pub enters : (d e f h : Dancing) (l : Level) (b : Begun) (vs ks : Levels) → AreStacked d.puzzle d.trail vs.levels → vs.levels ≡ l ∷ drop 1 vs.levels →
     e ≡ record d { trail = oldest l.base d.trail } → f ≡ record e { trail = f.trail } → IsEntered e.puzzle e.trail l f.trail (begun_level b l) →
-    h ≡ record f { trail = after_branch f.puzzle l.item b.option f.trail } → ks ≡ record vs { levels = newest_begun b vs.levels } →
+    h ≡ record f { trail = after_branch f.puzzle l.item (option_at f.puzzle l.item b.place) f.trail } → ks ≡ record vs { levels = newest_begun b vs.levels } →
     GoesOn d vs false h ks true × (ahead h.puzzle h.trail ks.levels true < visits d.puzzle d.trail vs.levels)
 enters d e f h l b vs ks stacked top ed ef entered eh ek =
     let at : f ≡ record d { trail = f.trail } = ef ∙ ap (λ (e : Dancing). record e { trail = f.trail }) ed in
-    let made : h ≡ record d { trail = after_branch d.puzzle l.item b.option f.trail } =
-    eh ∙ ap (λ (f : Dancing). record f { trail = after_branch f.puzzle l.item b.option f.trail }) at in
+    let made : h ≡ record d { trail = after_branch d.puzzle l.item (option_at d.puzzle l.item b.place) f.trail } =
+    eh ∙ ap (λ (f : Dancing). record f { trail = after_branch f.puzzle l.item (option_at f.puzzle l.item b.place) f.trail }) at in
     let still : h ≡ record d { trail = h.trail } = made ∙ ap (λ t. record d { trail = t }) (ap (λ (h : Dancing). h.trail) (sym made)) in
-    let begun : IsBegun d.puzzle (oldest l.base d.trail) l (after_branch d.puzzle l.item b.option f.trail) (begun_level b l) =
-    subst (λ (e : Dancing). IsBegun e.puzzle e.trail l (after_branch e.puzzle l.item b.option f.trail) (begun_level b l)) ed entered.begun in
+    let begun : IsBegun d.puzzle (oldest l.base d.trail) l (after_branch d.puzzle l.item (option_at d.puzzle l.item b.place) f.trail) (begun_level b l) =
+    subst (λ (e : Dancing). IsBegun e.puzzle e.trail l (after_branch e.puzzle l.item (option_at e.puzzle l.item b.place) f.trail) (begun_level b l)) ed entered.begun in
     goes_to d h l b vs ks stacked top still (subst (λ (h : Dancing). IsBegun d.puzzle (oldest l.base d.trail) l h.trail (begun_level b l)) (sym made) begun) ek
 
 -- what is asked back at a level

@@ -11,8 +11,9 @@ use Rattle.xc_search.specs.Listing.{branch_count, take_branch, none_branch}
 use Rattle.xc_dance.specs.Moves.{spends, AreLegal}
 use Rattle.xc_search.specs.Residuals.{wanted_at}
 use Rattle.xc_search.specs.inner.Residual.{residual_of}
-use Rattle.xc_search.specs.inner.Levels.{AreAllWanted, options_at, IsLevelAt, IsLevel, chosen, IsBegun}
-use Rattle.xc_search.specs.inner.Commits.{after_spend, oldest, tweaked, after_uses, others, after_none, walks}
+use Rattle.xc_search.specs.inner.Levels.{AreAllWanted, options_at, IsLevelAt, IsLevel, chosen, IsBegun, IsPlace}
+use Rattle.xc_dance.specs.Commits.{option_at, after_spend, after_uses, others}
+use Rattle.xc_search.specs.inner.Commits.{oldest, tweaked, after_none, walks}
 use Rattle.xc_search.specs.inner.Sparing.{IsSparing}
 use Rattle.xc_search.proofs.room.SparingMoves.{sparing_taken, sparing_none}
 use Rattle.xc_input.proofs.FlatParts.{numbered_get-at}
@@ -20,7 +21,7 @@ use Rattle.xc_search.proofs.moves.OldestMoves.{oldest_all}
 use Rattle.xc_search.proofs.listing.BranchLists.{branch_takes, branch_none}
 use Rattle.xc_search.proofs.moves.BranchMoves.{taken, none_taken, legal_after_none, none_wanted}
 use Rattle.xc_search.proofs.moves.LegalTweaks.{legal_branch}
-use Rattle.xc_search.proofs.stacked.NextLevel.{Extends, ext_trans, ext_after_spend, ext_uses, ext_after_none, ext_oldest, ext_whole, ext_longer, length-oldest, branches_here}
+use Rattle.xc_search.proofs.stacked.NextLevel.{at_own, own_place, Extends, ext_trans, ext_after_spend, ext_uses, ext_after_none, ext_oldest, ext_whole, ext_longer, length-oldest, branches_here}
 
 ext_tweaked : (m i : ℕ) (s : List Move) → Extends (tweaked m i s) s
 ext_tweaked m i s = (replicate m (Tweak i), refl)
@@ -32,18 +33,18 @@ covered_walks p u i e = by_case (eqb (high_at p i - spends i (Spend i ∷ u)) 0)
     by_case true c = eqb-true _ _ c
     by_case false c = let not_so : walks p u i ≡ false = rw c refl in cc (not_so, e)
 
--- the level after an option was taken, with m tweaks, where n moves stand before the branch
+-- the level after the option at place q was taken, with m tweaks, where n moves stand before the branch
 abbrev pub with_option : ℕ → Level → ℕ → ℕ → Level
-with_option n l m o = record { mark = l.mark; base = n; item = l.item; option = Some o; begun = l.begun + 1; count = l.count; tweaks = m; walks = l.walks }
+with_option n l m q = record { mark = l.mark; base = n; item = l.item; place = q; begun = l.begun + 1; count = l.count; tweaks = m; walks = l.walks }
 
-pub begins_take : (p : Puzzle) (t : List Move) (l : Level) (x : Numbered) (m : ℕ) → IsLevel p t l → l.begun < l.count →
+pub begins_take : (p : Puzzle) (t : List Move) (l : Level) (x : Numbered) (m q : ℕ) → IsLevel p t l → l.begun < l.count → option_at p l.item q ≡ Some x.number → IsPlace p l.item q →
     slice_get (options_at p (oldest l.mark t) l.item) l.begun ≡ Some x → m ≡ cond l.walks l.tweaks (l.tweaks + 1) →
-    IsBegun p t l (after_uses p (others l.item x.uses) (tweaked m l.item (after_spend p l.item (oldest l.mark t)))) (with_option (length (tweaked m l.item (after_spend p l.item (oldest l.mark t)))) l m x.number)
-begins_take p t l x m is_level more e hm = by_case l.walks refl
+    IsBegun p t l (after_uses p (others l.item x.uses) (tweaked m l.item (after_spend p l.item (oldest l.mark t)))) (with_option (length (tweaked m l.item (after_spend p l.item (oldest l.mark t)))) l m q)
+begins_take p t l x m q is_level more at place e hm = by_case l.walks refl
   where
     begins : (m ≤ suc l.begun) → (high_at p l.item - spends l.item (Spend l.item ∷ oldest l.mark t) ≢ 0 → m ≡ suc l.begun) →
         m ≡ cond l.walks 0 (min (l.begun + 1) (length (options_at p (oldest l.mark t) l.item))) →
-        IsBegun p t l (after_uses p (others l.item x.uses) (tweaked m l.item (after_spend p l.item (oldest l.mark t)))) (with_option (length (tweaked m l.item (after_spend p l.item (oldest l.mark t)))) l m x.number)
+        IsBegun p t l (after_uses p (others l.item x.uses) (tweaked m l.item (after_spend p l.item (oldest l.mark t)))) (with_option (length (tweaked m l.item (after_spend p l.item (oldest l.mark t)))) l m q)
     begins le h tw =
         let u = oldest l.mark t in
         let r = residual_of p u in
@@ -58,8 +59,10 @@ begins_take p t l x m is_level more e hm = by_case l.walks refl
         let b = take_branch r l.item (branch_count r w) (1 + l.begun, x) in
         let next : 1 + l.begun ≡ l.begun + 1 = omega arith in
         let n_is : l.count ≡ branch_count r w = is_level.count in
-        let k = with_option (length ground) l m x.number in
-        let it_is : chosen k ≡ b.choice = ap₂ (λ a c. let choice : Choice = record { item = l.item; option = Some x.number; k = a; n = c } in choice) (sym next) n_is in
+        let k = with_option (length ground) l m q in
+        let it_is : chosen p k ≡ b.choice =
+        ap (λ o. let choice : Choice = record { item = l.item; option = o; k = l.begun + 1; n = l.count } in choice) at
+        ∙ ap₂ (λ a c. let choice : Choice = record { item = l.item; option = Some x.number; k = a; n = c } in choice) (sym next) n_is in
         record {
           branch = b;
           at = ap (λ bs. slice_get bs l.begun) (branches_here p u w is_level.branch) ∙ branch_takes r w l.begun x (omega (arith, more, n_is)) e;
@@ -76,7 +79,8 @@ begins_take p t l x m is_level more e hm = by_case l.walks refl
             begun = omega (arith, more);
             walking = is_level.walking;
             tweaks = tw;
-            option = sym (ap (option_map (λ o. o.number)) (numbered_get-at (options_at p u l.item) (l.begun + 1) l.begun refl ∙ e));
+            option = at ∙ sym (ap (option_map (λ o. o.number)) (numbered_get-at (options_at p u l.item) (l.begun + 1) l.begun refl ∙ e));
+            place = place;
             base = ext_whole s ground ext_s;
           });
           searchable = record {
@@ -87,7 +91,7 @@ begins_take p t l x m is_level more e hm = by_case l.walks refl
           };
         }
 
-    by_case : (b : Bool) → l.walks ≡ b → IsBegun p t l (after_uses p (others l.item x.uses) (tweaked m l.item (after_spend p l.item (oldest l.mark t)))) (with_option (length (tweaked m l.item (after_spend p l.item (oldest l.mark t)))) l m x.number)
+    by_case : (b : Bool) → l.walks ≡ b → IsBegun p t l (after_uses p (others l.item x.uses) (tweaked m l.item (after_spend p l.item (oldest l.mark t)))) (with_option (length (tweaked m l.item (after_spend p l.item (oldest l.mark t)))) l m q)
     by_case true c =
         let stood : l.tweaks ≡ 0 = is_level.tweaks ∙ rw c refl in
         let m_is : m ≡ 0 = hm ∙ rw c stood in
@@ -113,7 +117,7 @@ same_tweaks false k n e = omega (arith, e)
 
 -- the level after its branch of none was begun
 abbrev pub with_none : Level → Level
-with_none l = record { mark = l.mark; base = l.base; item = l.item; option = None; begun = l.begun + 1; count = l.count; tweaks = l.tweaks; walks = l.walks }
+with_none l = record { mark = l.mark; base = l.base; item = l.item; place = l.item; begun = l.begun + 1; count = l.count; tweaks = l.tweaks; walks = l.walks }
 
 pub begins_none : (p : Puzzle) (t : List Move) (l : Level) → IsLevel p t l → l.base ≡ length t → l.begun < l.count →
     slice_get (options_at p (oldest l.mark t) l.item) l.begun ≡ None →
@@ -134,7 +138,9 @@ begins_none p t l is_level whole more e =
     let item : IsItem p l.item = (is_level.node.item.0, omega (arith, is_level.node.item.1)) in
     let legal_t : AreLegal p t = subst (AreLegal p) (sym t_is) (legal_branch p l.tweaks l.item u is_level.node few) in
     let k = with_none l in
-    let it_is : chosen k ≡ b.choice = ap₂ (λ a c. let choice : Choice = record { item = l.item; option = None; k = a; n = c } in choice) (omega (arith, last.2)) is_level.count in
+    let it_is : chosen p k ≡ b.choice =
+    ap (λ o. let choice : Choice = record { item = l.item; option = o; k = l.begun + 1; n = l.count } in choice) (at_own p l.item)
+    ∙ ap₂ (λ a c. let choice : Choice = record { item = l.item; option = None; k = a; n = c } in choice) (omega (arith, last.2)) is_level.count in
     record {
       branch = b;
       at = ap (λ bs. slice_get bs l.begun) (branches_here p u w is_level.branch) ∙ last.0;
@@ -151,7 +157,8 @@ begins_none p t l is_level whole more e =
         begun = omega (arith, more);
         walking = is_level.walking;
         tweaks = is_level.tweaks ∙ same_tweaks l.walks l.begun (length (options_at p u l.item)) last.1;
-        option = sym (ap (option_map (λ o. o.number)) (numbered_get-at (options_at p u l.item) (l.begun + 1) l.begun refl ∙ e));
+        option = at_own p l.item ∙ sym (ap (option_map (λ o. o.number)) (numbered_get-at (options_at p u l.item) (l.begun + 1) l.begun refl ∙ e));
+        place = own_place p l.item;
         base = ext_oldest l.base s t ext_s (omega (arith, whole)) ∙ is_level.base;
       });
       searchable = record {

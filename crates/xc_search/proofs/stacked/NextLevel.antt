@@ -1,6 +1,6 @@
 -- What one step of the search does to the levels.
-use Rattle.std.proofs.Common.{ℕ, zero, suc, ◌≡◌, ◌+◌, ◌-◌, ◌<◌, ◌≤◌, true, false, cond, eqb, leb, List, [], ◌∷◌, ◌++◌, length, map, take, drop, min, Option, Some, None, refl, sym, ap, ap₂, ◌∙◌, arith, subst, append_assoc, append-nil, length-append, length-drop}
-use Rattle.std.specs.Prelude.{option_map, flat_map}
+use Rattle.std.proofs.Common.{ℕ, zero, suc, ◌≡◌, ◌+◌, ◌-◌, ◌<◌, ◌≤◌, true, false, cond, eqb, leb, List, [], ◌∷◌, ◌++◌, length, map, take, drop, min, Option, Some, None, refl, sym, ap, ap₂, ◌∙◌, arith, subst, eq-eqb, ne_eqb, ◌≢◌, append_assoc, append-nil, length-append, length-drop}
+use Rattle.std.specs.Prelude.{option_map, flat_map, unwrap_or, slice_get}
 use Rattle.std.specs.List.{AllByRecursion, range_with_len}
 use Rattle.xc_input.specs.declared.problem.Use.{Use}
 use Rattle.xc_search.specs.declared.choice.Choice.{Choice}
@@ -12,8 +12,10 @@ use Rattle.xc_search.specs.Listing.{Wanted, Branch, branches_of, branch_count, b
 use Rattle.xc_dance.specs.Moves.{is_open, spends, open_items, AreLegal}
 use Rattle.xc_search.specs.Residuals.{wanted_at, wanted_after, choice_after}
 use Rattle.xc_search.specs.inner.Residual.{residual_of}
-use Rattle.xc_search.specs.inner.Levels.{branches_at, members_of, IsSearchable, IsNode, options_at, IsLevelAt, IsShallow, AreStacked, choices_of, to_give, coming, first_level}
-use Rattle.xc_search.specs.inner.Commits.{after_spend, oldest, after_use, after_uses, after_none, walks}
+use Rattle.xc_search.specs.inner.Levels.{branches_at, members_of, IsSearchable, IsNode, options_at, IsLevelAt, IsShallow, AreStacked, IsPlace, choices_of, to_give, coming, first_level}
+use Rattle.xc_dance.specs.Fields.{link_place, layout}
+use Rattle.xc_dance.specs.Commits.{option_at, number_of, after_spend, after_use, after_uses}
+use Rattle.xc_search.specs.inner.Commits.{oldest, after_none, walks}
 use Rattle.xc_search.specs.inner.Ahead.{cost, work, work_level, visits, ahead}
 use Rattle.xc_input.proofs.lists.Members.{each_in}
 use Rattle.xc_search.proofs.listing.Unrolled.{listing_unrolled}
@@ -140,17 +142,28 @@ pub branches_here : (p : Puzzle) (t : List Move) (w : Wanted) → branch_item (r
 branches_here p t w e = rw e refl
 
 -- no primary item is left: one member, with no more choices
-pub solution : (p : Puzzle) (t : List Move) (ls : List Level) → AreLegal p t → choice_after p t ≡ None → coming p t ls true ≡ choices_of ls ∷ to_give p t ls
+pub solution : (p : Puzzle) (t : List Move) (ls : List Level) → AreLegal p t → choice_after p t ≡ None → coming p t ls true ≡ choices_of p ls ∷ to_give p t ls
 solution p t ls l e =
     let one : listing (residual_of p t) ≡ [] ∷ [] = listing_unrolled (residual_of p t) ∙ ap (λ o. level listing o (residual_of p t)) (chosen_none p t l e) in
-    ap (λ ms. map (λ m. choices_of ls ++ m) ms ++ to_give p t ls) one
-    ∙ ap (λ m. m ∷ to_give p t ls) (append-nil (choices_of ls))
+    ap (λ ms. map (λ m. choices_of p ls ++ m) ms ++ to_give p t ls) one
+    ∙ ap (λ m. m ∷ to_give p t ls) (append-nil (choices_of p ls))
 
 members_all : (before : List Choice) (bs : List Branch) → map (λ m. before ++ m) (flat_map (λ b. map (λ m. b.choice ∷ m) (listing b.next)) bs) ≡ members_of before bs
 members_all before [] = refl
 members_all before (b ∷ bs) =
     map-append (λ m. before ++ m) (map (λ m. b.choice ∷ m) (listing b.next)) (flat_map (λ b. map (λ m. b.choice ∷ m) (listing b.next)) bs)
     ∙ ap₂ (λ x y. x ++ y) (map-map (λ m. b.choice ∷ m) (λ m. before ++ m) (listing b.next)) (members_all before bs)
+
+-- at an item's own node stands no option
+pub at_own : (p : Puzzle) (i : ℕ) → option_at p i i ≡ None
+at_own p i = rw (eq-eqb i i refl) refl
+
+-- at another place stands one
+pub at_other : (p : Puzzle) (i q : ℕ) → q ≢ i → (o : ℕ) × (option_at p i q ≡ Some o)
+at_other p i q h = (unwrap_or (option_map number_of (slice_get (layout p) q)) 0, rw (ne_eqb q i h) refl)
+
+pub own_place : (p : Puzzle) (i : ℕ) → IsPlace p i i
+own_place p i = ap (λ o. link_place p i (unwrap_or o 0)) (sym (at_own p i))
 
 -- a level is begun
 pub descended : (p : Puzzle) (t : List Move) (ls : List Level) (i n : ℕ) → IsSearchable p t → IsShallow p t ls → Chosen p t i n → AreStacked p t ls →
@@ -172,7 +185,8 @@ descended p t ls i n here sh c stacked =
       begun = omega arith;
       walking = refl;
       tweaks = no_tweaks;
-      option = refl;
+      option = at_own p i;
+      place = own_place p i;
       base = oldest_all s;
     } in
     let unrolled : listing (residual_of p t) ≡ flat_map (λ b. map (λ m. b.choice ∷ m) (listing b.next)) (branches_at p t) =
@@ -180,7 +194,7 @@ descended p t ls i n here sh c stacked =
     let worked : work (residual_of p t) ≡ suc (suc (cost work (branches_at p t))) =
     work_unrolled (residual_of p t) ∙ ap (λ o. work_level work o (residual_of p t)) c.branch ∙ ap (λ bs. suc (suc (cost work bs))) (sym (branches_here p t (wanted_at p t i) c.branch)) in (
       (subst (λ u. IsLevelAt p u s f) (sym under) is_level, subst (λ u. IsShallow p u ls) (sym under) sh, subst (λ u. AreStacked p u ls) (sym under) stacked),
-      ap (λ ms. map (λ m. choices_of ls ++ m) ms ++ to_give p t ls) unrolled ∙ ap (λ ms. ms ++ to_give p t ls) (members_all (choices_of ls) (branches_at p t))
-          ∙ ap (λ u. members_of (choices_of ls) (branches_at p u) ++ to_give p u ls) (sym under),
+      ap (λ ms. map (λ m. choices_of p ls ++ m) ms ++ to_give p t ls) unrolled ∙ ap (λ ms. ms ++ to_give p t ls) (members_all (choices_of p ls) (branches_at p t))
+          ∙ ap (λ u. members_of (choices_of p ls) (branches_at p u) ++ to_give p u ls) (sym under),
       omega (arith, worked, ap (λ u. cost work (branches_at p u)) under, ap (λ u. visits p u ls) under),
     )

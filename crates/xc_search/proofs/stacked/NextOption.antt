@@ -1,15 +1,17 @@
 -- The option that a level's next branch takes.
-use Rattle.std.proofs.Common.{ℕ, zero, suc, ◌≡◌, ◌<◌, ◌≤◌, Bool, true, false, ltb, List, [], ◌∷◌, length, map, drop, min, Some, None, refl, sym, ap, ap₂, ◌∙◌, arith, lt-ltb, le-ltb, get_or}
+use Rattle.std.proofs.Common.{inl, inr, cond, Option, ℕ, zero, suc, ◌≡◌, ◌<◌, ◌≤◌, Bool, true, false, ltb, List, [], ◌∷◌, length, map, drop, min, Some, None, refl, sym, ap, ap₂, ◌∙◌, arith, lt-ltb, le-ltb, get_or}
 use Rattle.std.proofs.lemmas.Option.{slice_get_within, slice_get-get_or}
 use Rattle.std.proofs.lemmas.List.{length-map}
-use Rattle.std.specs.Prelude.{slice_get, option_map, Contains}
+use Rattle.std.specs.Prelude.{unwrap_or, slice_get, option_map, Contains}
 use Rattle.xc_dance.specs.declared.dance.Move.{Move}
 use Rattle.xc_search.specs.declared.level.Level.{Level}
 use Rattle.xc_input.specs.Problem.{Puzzle, Numbered, numbered_get, holds}
 use Rattle.xc_dance.specs.Moves.{listed, listed_numbers, next_above}
 use Rattle.xc_dance.specs.Lists.Left.{left}
-use Rattle.xc_search.specs.inner.Commits.{after_spend, oldest, tweaked}
-use Rattle.xc_search.specs.inner.Levels.{next_number, options_at, IsLevelAt, IsLevel}
+use Rattle.xc_dance.specs.Fields.{link_place}
+use Rattle.xc_dance.specs.Commits.{IsListedAt, after_spend}
+use Rattle.xc_search.specs.inner.Commits.{oldest, tweaked}
+use Rattle.xc_search.specs.inner.Levels.{taken, next_number, options_at, IsLevelAt, IsLevel}
 use Rattle.xc_search.proofs.moves.OldestMoves.{oldest_all}
 use Rattle.xc_dance.proofs.MoveLemmas.OpenLists.{left_rises}
 use Rattle.xc_dance.proofs.MoveLemmas.OptionsRise.{NumbersRise-filter, NumbersRise-weaker, NumbersRise}
@@ -55,7 +57,7 @@ list_is p t l is_level whole =
 few_begun : (p : Puzzle) (u t : List Move) (l : Level) → IsLevelAt p u t l → l.begun < l.count → l.begun ≤ length (options_at p u l.item)
 few_begun p u t l is_level more = omega (arith, is_level.count, more)
 
-some_before : (p : Puzzle) (u t : List Move) (l : Level) (k : ℕ) → IsLevelAt p u t l → l.begun < l.count → l.begun ≡ suc k → (y : Numbered) × (slice_get (options_at p u l.item) k ≡ Some y) × (l.option ≡ Some y.number)
+some_before : (p : Puzzle) (u t : List Move) (l : Level) (k : ℕ) → IsLevelAt p u t l → l.begun < l.count → l.begun ≡ suc k → (y : Numbered) × (slice_get (options_at p u l.item) k ≡ Some y) × (taken p l ≡ Some y.number)
 some_before p u t l k is_level more e =
     let d : Numbered = record { number = 0; uses = [] } in
     let within : k < length (options_at p u l.item) = omega (arith, few_begun p u t l is_level more, e) in
@@ -63,7 +65,7 @@ some_before p u t l k is_level more e =
     (get_or (options_at p u l.item) k d, at, is_level.option ∙ ap (option_map (λ o. o.number)) (ap (numbered_get (options_at p u l.item)) e ∙ at))
 
 -- the first of the list, where it isn't walked or no branch was begun
-pub first_is : (p : Puzzle) (t : List Move) (l : Level) → IsLevel p t l → l.base ≡ length t → l.begun < l.count → (l.walks ≡ true → l.option ≡ None) →
+pub first_is : (p : Puzzle) (t : List Move) (l : Level) → IsLevel p t l → l.base ≡ length t → l.begun < l.count → (l.walks ≡ true → taken p l ≡ None) →
     next_above 0 (listed_numbers p t l.item) ≡ next_number p t l
 first_is p t l is_level whole more h =
     let u = oldest l.mark t in
@@ -75,7 +77,7 @@ first_is p t l is_level whole more h =
   where
     by_begun : (k : ℕ) → l.begun ≡ k → l.walks ≡ true → l.begun ≡ 0
     by_begun zero e c = e
-    by_begun (suc k) e c = let before = some_before p (oldest l.mark t) t l k is_level more e in let none : l.option ≡ None = h c in cc (none, before.2)
+    by_begun (suc k) e c = let before = some_before p (oldest l.mark t) t l k is_level more e in let none : taken p l ≡ None = h c in cc (none, before.2)
 
     by_case : (b : Bool) → l.walks ≡ b → l.tweaks ≡ l.begun
     by_case true c = let stood : l.tweaks ≡ 0 = is_level.tweaks ∙ rw c refl in stood ∙ sym (by_begun l.begun refl c)
@@ -86,7 +88,7 @@ number_at [] k d y e = cc
 number_at (o ∷ os) zero d y e = let same : o ≡ y = cc in ap number_of same
 number_at (o ∷ os) (suc k) d y e = number_at os k d y e
 
-walked : (p : Puzzle) (t : List Move) (l : Level) (o k : ℕ) → IsLevel p t l → l.base ≡ length t → l.begun < l.count → l.walks ≡ true → l.option ≡ Some o → l.begun ≡ suc k →
+walked : (p : Puzzle) (t : List Move) (l : Level) (o k : ℕ) → IsLevel p t l → l.base ≡ length t → l.begun < l.count → l.walks ≡ true → taken p l ≡ Some o → l.begun ≡ suc k →
     (next_above o (listed_numbers p t l.item) ≡ next_number p t l) × Contains (listed_numbers p t l.item) o
 walked p t l o k is_level whole more c e b =
     let u = oldest l.mark t in
@@ -101,10 +103,32 @@ walked p t l o k is_level whole more c e b =
     )
 
 -- the next of the list, where it is walked
-pub below_is : (p : Puzzle) (t : List Move) (l : Level) (o : ℕ) → IsLevel p t l → l.base ≡ length t → l.begun < l.count → l.walks ≡ true → l.option ≡ Some o →
+pub below_is : (p : Puzzle) (t : List Move) (l : Level) (o : ℕ) → IsLevel p t l → l.base ≡ length t → l.begun < l.count → l.walks ≡ true → taken p l ≡ Some o →
     (next_above o (listed_numbers p t l.item) ≡ next_number p t l) × Contains (listed_numbers p t l.item) o
 below_is p t l o is_level whole more c e = by_begun l.begun refl
   where
     by_begun : (k : ℕ) → l.begun ≡ k → (next_above o (listed_numbers p t l.item) ≡ next_number p t l) × Contains (listed_numbers p t l.item) o
-    by_begun zero b = let none : l.option ≡ None = is_level.option ∙ ap (λ n. option_map (λ o. o.number) (numbered_get (options_at p (oldest l.mark t) l.item) n)) b in cc (none, e)
+    by_begun zero b = let none : taken p l ≡ None = is_level.option ∙ ap (λ n. option_map (λ o. o.number) (numbered_get (options_at p (oldest l.mark t) l.item) n)) b in cc (none, e)
     by_begun (suc k) b = walked p t l o k is_level whole more c e b
+
+-- what stands where the code looks below for the next branch's option, and what stands below it
+pub record Seeking (p : Puzzle) (t : List Move) (l : Level) (q : ℕ) : Type 0 where
+  pub x : ℕ
+  pub listed : IsListedAt p t l.item x q
+  pub next : next_above x (listed_numbers p t l.item) ≡ next_number p t l
+
+pub seeking : (p : Puzzle) (t : List Move) (l : Level) → IsLevel p t l → l.base ≡ length t → l.begun < l.count → Seeking p t l (cond l.walks l.place l.item)
+seeking p t l is_level whole more = by_case l.walks refl
+  where
+    at_first : (q : ℕ) → q ≡ link_place p l.item 0 → (l.walks ≡ true → taken p l ≡ None) → Seeking p t l q
+    at_first q at none = record { x = 0; listed = record { listed = inl refl; at = at }; next = first_is p t l is_level whole more none }
+
+    by_option : (o : Option ℕ) → taken p l ≡ o → l.walks ≡ true → Seeking p t l l.place
+    by_option None e c = at_first l.place (is_level.place ∙ ap (λ o. link_place p l.item (unwrap_or o 0)) e) (λ _. e)
+    by_option (Some o) e c =
+        let below = below_is p t l o is_level whole more c e in
+        record { x = o; listed = record { listed = inr below.1; at = is_level.place ∙ ap (λ o. link_place p l.item (unwrap_or o 0)) e }; next = below.0 }
+
+    by_case : (b : Bool) → l.walks ≡ b → Seeking p t l (cond b l.place l.item)
+    by_case true c = by_option (taken p l) refl c
+    by_case false c = at_first l.item refl (λ e. cc (c, e))

@@ -47,7 +47,7 @@ pub record WentOver (d : Dancing) (ls : Levels) (down : Bool) (n : ℕ) (e : Dan
   pub still : (e ≡ record d { trail = e.trail }) × (ks ≡ record ls { levels = ks.levels })
   pub standing : IsStanding e.puzzle e.trail ks.levels below
   pub come : coming e.puzzle e.trail ks.levels below ≡ drop n (coming d.puzzle d.trail ls.levels down)
-  pub shown : choices_of ks.levels ≡ shown_after n (coming d.puzzle d.trail ls.levels down) (choices_of ls.levels)
+  pub shown : choices_of e.puzzle ks.levels ≡ shown_after n (coming d.puzzle d.trail ls.levels down) (choices_of d.puzzle ls.levels)
 
 -- and there were as many
 pub record WentOverAll (d : Dancing) (ls : Levels) (down : Bool) (n : ℕ) (e : Dancing) (ks : Levels) (below : Bool) : Type 0 where
@@ -72,7 +72,7 @@ went_on d e f ls ks js down below n a r =
         still = then_still d e f ls ks js a.over.still r.still;
         standing = record { stacked = r.stacked; searchable = λ h. cc; shallow = λ h. cc };
         come = rest_behind n ms _ _ next;
-        shown = shown_next n ms (choices_of ls.levels) _ _ next;
+        shown = shown_next n ms (choices_of d.puzzle ls.levels) _ _ next;
       };
       within = omega (arith, within_behind n ms _ _ next);
     }
@@ -87,18 +87,18 @@ went_past d e f ls ks js down below n many a r less =
         still = then_still d e f ls ks js a.over.still r.still;
         standing = subst (λ ls. IsStanding f.puzzle f.trail ls false) (sym r.ended) (record { stacked = tt; searchable = λ h. cc; shallow = λ h. cc });
         come = ap (λ ls. coming f.puzzle f.trail ls false) r.ended ∙ sym (drop_past many ms (omega (arith, all, less)));
-        shown = ap choices_of r.ended ∙ shown_past many ms (choices_of ls.levels) (omega (arith, all, less));
+        shown = ap (choices_of _) r.ended ∙ shown_past many ms (choices_of d.puzzle ls.levels) (omega (arith, all, less));
       },
       omega (arith, all, less),
     )
 
 -- what the search then stands for
 pub outlook_over : (d e : Dancing) (ls ks : Levels) (down below : Bool) (n : ℕ) (o : Outlook) → WentOver d ls down n e ks below →
-    record { puzzle = d.puzzle; to_come = coming d.puzzle d.trail ls.levels down; shown = choices_of ls.levels; room = d.room } ≡ o →
-    record { puzzle = e.puzzle; to_come = coming e.puzzle e.trail ks.levels below; shown = choices_of ks.levels; room = e.room }
+    record { puzzle = d.puzzle; to_come = coming d.puzzle d.trail ls.levels down; shown = choices_of d.puzzle ls.levels; room = d.room } ≡ o →
+    record { puzzle = e.puzzle; to_come = coming e.puzzle e.trail ks.levels below; shown = choices_of e.puzzle ks.levels; room = e.room }
     ≡ record o { to_come = drop n o.to_come; shown = shown_after n o.to_come o.shown }
 outlook_over d e ls ks down below n o w is =
     let outlook : List (List Choice) → List Choice → Dancing → Outlook = λ ms m s. record { puzzle = s.puzzle; to_come = ms; shown = m; room = s.room } in
     ap₂ (λ ms m. outlook ms m e) w.come w.shown
-    ∙ ap (λ s. outlook (drop n (coming d.puzzle d.trail ls.levels down)) (shown_after n (coming d.puzzle d.trail ls.levels down) (choices_of ls.levels)) s) w.still.0
+    ∙ ap (λ s. outlook (drop n (coming d.puzzle d.trail ls.levels down)) (shown_after n (coming d.puzzle d.trail ls.levels down) (choices_of d.puzzle ls.levels)) s) w.still.0
     ∙ ap (λ (o : Outlook). record o { to_come = drop n o.to_come; shown = shown_after n o.to_come o.shown }) is

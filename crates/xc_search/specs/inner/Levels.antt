@@ -1,5 +1,5 @@
 -- No public clause cites this module. The levels of a search.
-use Rattle.std.specs.Prelude.{◌<◌, ℕ, suc, All, IfSome, ◌+◌, ◌≤◌, ◌≡◌, Bool, true, false, nat_lt, min, List, [], ◌∷◌, ◌++◌, length, map, drop, reverse, Option, Some, None, option_map, slice_get, flat_map, if◌then◌else◌}
+use Rattle.std.specs.Prelude.{◌<◌, ℕ, suc, All, IfSome, ◌+◌, ◌≤◌, ◌≡◌, Bool, true, false, nat_lt, min, List, [], ◌∷◌, ◌++◌, length, map, drop, reverse, Option, Some, None, option_map, unwrap_or, slice_get, flat_map, if◌then◌else◌}
 use Rattle.xc_search.specs.inner.Sizes.{size_of}
 use Rattle.std.specs.List.{AllByRecursion}
 use Rattle.xc_search.specs.declared.choice.Choice.{Choice}
@@ -13,7 +13,9 @@ use Rattle.xc_dance.specs.Moves.{is_open, AreLegal}
 use Rattle.xc_search.specs.Residuals.{wanted_at, wanted_after}
 use Rattle.xc_search.specs.inner.Residual.{residual_of}
 use Rattle.xc_dance.specs.Lists.Left.{left}
-use Rattle.xc_search.specs.inner.Commits.{MayStand, after_spend, after_uses, after_none, oldest, others, place_in, tweaked, walks}
+use Rattle.xc_dance.specs.Fields.{link_place}
+use Rattle.xc_dance.specs.Commits.{option_at, IsUseAt, after_spend, after_uses, others, place_in}
+use Rattle.xc_search.specs.inner.Commits.{MayStand, after_none, oldest, tweaked, walks}
 use Rattle.xc_search.specs.inner.Sparing.{IsSparing}
 
 -- What a stack stands for.
@@ -46,6 +48,19 @@ pub record IsNode (p : Puzzle) (t : List Move) (i : ℕ) : Type 0 where
 abbrev pub options_at : Puzzle → List Move → ℕ → List Numbered
 options_at p t i = holding i (left p t)
 
+-- the option that a level took last
+abbrev pub taken : Puzzle → Level → Option ℕ
+taken p l = option_at p l.item l.place
+
+-- at place q of item i's list stands its option, or the item's own node
+abbrev pub IsPlace : Puzzle → ℕ → ℕ → Type 0
+IsPlace p i q = q ≡ link_place p i (unwrap_or (option_at p i q) 0)
+
+-- the option that a level took last, if it took one, uses its item at the level's place
+pub record IsShown (p : Puzzle) (l : Level) : Type 0 where
+  pub item : IsItem p l.item
+  pub option : IfSome (taken p l) (λ x. IsUseAt p l.item x l.place)
+
 -- A level that was begun on the moves u, below the moves t. Its base stands before a branch.
 pub record IsLevelAt (p : Puzzle) (u t : List Move) (l : Level) : Type 0 where
   pub within : (l.mark ≤ l.base) × (l.base ≤ length t)
@@ -55,7 +70,8 @@ pub record IsLevelAt (p : Puzzle) (u t : List Move) (l : Level) : Type 0 where
   pub begun : l.begun ≤ l.count
   pub walking : l.walks ≡ walks p u l.item
   pub tweaks : l.tweaks ≡ (if l.walks then 0 else min l.begun (length (options_at p u l.item)))
-  pub option : l.option ≡ option_map (λ o. o.number) (numbered_get (options_at p u l.item) l.begun)
+  pub option : taken p l ≡ option_map (λ o. o.number) (numbered_get (options_at p u l.item) l.begun)
+  pub place : IsPlace p l.item l.place
   pub base : oldest l.base t ≡ tweaked l.tweaks l.item (after_spend p l.item u)
 
 -- a level of the newest moves
@@ -72,12 +88,12 @@ AreStacked p t [] = Unit {0}
 AreStacked p t (l ∷ ls) = IsLevel p t l × IsShallow p (oldest l.mark t) ls × AreStacked p (oldest l.mark t) ls
 
 -- the level's newest branch
-abbrev pub chosen : Level → Choice
-chosen l = record { item = l.item; option = l.option; k = l.begun; n = l.count }
+abbrev pub chosen : Puzzle → Level → Choice
+chosen p l = record { item = l.item; option = taken p l; k = l.begun; n = l.count }
 
 -- the choices of levels, the newest first, in the order of the levels
-abbrev pub choices_of : List Level → List Choice
-choices_of ls = map chosen (reverse ls)
+abbrev pub choices_of : Puzzle → List Level → List Choice
+choices_of p ls = map (chosen p) (reverse ls)
 
 -- the branches of what moves leave
 abbrev pub branches_at : Puzzle → List Move → List Branch
@@ -95,11 +111,11 @@ members_of before bs = flat_map (λ b. map (λ m. before ++ b.choice ∷ m) (lis
 abbrev pub to_give : Puzzle → List Move → List Level → List (List Choice)
 to_give p t [] = []
 to_give p t (l ∷ ls) =
-    members_of (choices_of ls) (drop l.begun (branches_at p (oldest l.mark t))) ++ to_give p (oldest l.mark t) ls
+    members_of (choices_of p ls) (drop l.begun (branches_at p (oldest l.mark t))) ++ to_give p (oldest l.mark t) ls
 
 -- and before that, where what is left wasn't searched yet, what that gives
 abbrev pub coming : Puzzle → List Move → List Level → Bool → List (List Choice)
-coming p t ls true = map (λ m. choices_of ls ++ m) (listing (residual_of p t)) ++ to_give p t ls
+coming p t ls true = map (λ m. choices_of p ls ++ m) (listing (residual_of p t)) ++ to_give p t ls
 coming p t ls false = to_give p t ls
 
 -- the levels stand, and what is left can be searched
@@ -111,7 +127,7 @@ pub record IsStanding (p : Puzzle) (t : List Move) (ls : List Level) (down : Boo
 -- a level with no branch begun, by its mark, its base, its item, how many branches it has, and whether it walks
 abbrev pub unbegun : ℕ → ℕ → ℕ → ℕ → Bool → Level
 unbegun mark base i n w =
-    record { mark = mark; base = base; item = i; option = None; begun = 0; count = n; tweaks = 0; walks = w }
+    record { mark = mark; base = base; item = i; place = i; begun = 0; count = n; tweaks = 0; walks = w }
 
 -- the level that begins at item i, with n branches
 abbrev pub first_level : Puzzle → List Move → ℕ → ℕ → Level
@@ -119,7 +135,7 @@ first_level p t i n = unbegun (length t) (length (after_spend p i t)) i n (walks
 
 -- a level on whose moves a branch was begun
 abbrev pub begun_level : Begun → Level → Level
-begun_level b l = record l { base = b.base; option = b.option; begun = b.begun; tweaks = b.tweaks }
+begun_level b l = record l { base = b.base; place = b.place; begun = b.begun; tweaks = b.tweaks }
 
 -- the newest of these levels began a branch
 abbrev pub newest_begun : Begun → List Level → List Level
@@ -137,7 +153,7 @@ pub record IsBegun (p : Puzzle) (t : List Move) (l : Level) (s : List Move) (k :
   pub branch : Branch
   pub at : slice_get (branches_at p (oldest l.mark t)) l.begun ≡ Some branch
   pub next : residual_of p s ≡ branch.next
-  pub choice : chosen k ≡ branch.choice
+  pub choice : chosen p k ≡ branch.choice
   pub begun : k.begun ≡ suc l.begun
   pub mark : k.mark ≡ l.mark
   pub below : oldest l.mark s ≡ oldest l.mark t
@@ -163,8 +179,8 @@ pub record CanBranch (p : Puzzle) (i : ℕ) (o : Option ℕ) (t : List Move) : T
 
 -- From level l on moves t a branch was entered: once its moves stand behind the moves s, it was begun with level k.
 pub record IsEntered (p : Puzzle) (t : List Move) (l : Level) (s : List Move) (k : Level) : Type 0 where
-  pub can : CanBranch p k.item k.option s
-  pub begun : IsBegun p t l (after_branch p k.item k.option s) k
+  pub can : CanBranch p k.item (taken p k) s
+  pub begun : IsBegun p t l (after_branch p k.item (taken p k) s) k
 
 -- the number of the option that a level's next branch takes
 abbrev pub next_number : Puzzle → List Move → Level → Option ℕ

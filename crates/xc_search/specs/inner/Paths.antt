@@ -13,7 +13,7 @@ use Rattle.xc_search.specs.inner.Levels.{Levels, AreStacked, branches_at, chosen
 pub record IsLed (p : Puzzle) (t : List Move) (l : Level) : Type 0 where
   pub branch : Branch
   pub at : slice_get (branches_at p (oldest l.mark t)) (l.begun - 1) ≡ Some branch
-  pub choice : chosen l ≡ branch.choice
+  pub choice : chosen p l ≡ branch.choice
   pub next : residual_of p t ≡ branch.next
 
 -- from the moves u the newest branches of the levels lead to the moves t

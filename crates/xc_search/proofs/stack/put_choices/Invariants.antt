@@ -4,7 +4,7 @@ use Rattle.xc_search.specs.inner.Levels.{chosen}
 use Rattle.xc_search.proofs.stack.put_choices.Given as goal
 
 abbrev pub invariant-loop-level : goal.invariant-loop-level
-invariant-loop-level l = record {
-  items : l.choices.items ≡ map chosen (take l.level-index l.levels);
+invariant-loop-level g l = record {
+  items : l.choices.items ≡ map (chosen l.position.puzzle) (take l.level-index l.levels);
   capacity : vec_capacity l.choices ≡ vec_capacity l.fn.choices;
 }

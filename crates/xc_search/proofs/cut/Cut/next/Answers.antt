@@ -7,7 +7,11 @@ use Rattle.xc_search.specs.Cut.{Uncut, IsPath}
 use Rattle.xc_search.specs.inner.Levels.{Levels}
 use Rattle.xc_search.proofs.paths.Below.{led_path, primary_choices}
 use Rattle.xc_search.proofs.paths.Settled.{part_below}
+use Rattle.xc_search.proofs.stacked.ShownLevels.{all_shown}
 use Rattle.xc_search.proofs.cut.Cut.next.Goals as goal
+
+pub show-requires : goal.show-requires
+show-requires g c = all_shown _ _ _ c.next_part-found.ensures.stacked
 
 pub returns-clause-path : goal.returns-clause-path
 returns-clause-path g c is =

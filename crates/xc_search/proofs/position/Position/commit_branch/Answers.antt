@@ -1,18 +1,50 @@
-use Rattle.std.proofs.Common.{subst}
-use Rattle.std.specs.Prelude.{IfSome}
-use Rattle.xc_search.specs.inner.Levels.{IsOptionAt, after_branch}
-use Rattle.xc_search.specs.inner.Commits.{MayStand}
+use Rattle.std.proofs.Common.{◌≡◌, None, Some, sym, ap, ◌∙◌, subst}
+use Rattle.std.specs.Prelude.{IfSome, unwrap_or}
+use Rattle.xc_dance.specs.Fields.{link_place}
+use Rattle.xc_dance.specs.Commits.{option_at, IsUseAt}
+use Rattle.xc_search.specs.inner.Levels.{IsOptionAt, CanBranch, after_branch}
+use Rattle.xc_search.proofs.stacked.NextLevel.{at_own, at_other}
 use Rattle.xc_search.proofs.position.Position.commit_branch.Goals as goal
+use Rattle.xc_search.proofs.position.Position.commit_branch.Goals.{Then-place-item, Else-place-item}
 
-pub commit_others-requires : goal.commit_others-requires
-commit_others-requires g c =
-    let p = c.args.self.now.puzzle in
-    let t = c.args.self.now.trail in
-    let i = c.args.item in
-    let held = subst (λ o. IfSome o (IsOptionAt p i)) c.in-Some.is c.requires.can.option in
+-- at the item's own node
+none : (g : _) (c : Then-place-item g) → option_at c.args.self.now.puzzle c.args.item c.args.place ≡ None
+none g c = ap (option_at c.args.self.now.puzzle c.args.item) c.if-place-item.true ∙ at_own c.args.self.now.puzzle c.args.item
+
+some : (g : _) (c : Else-place-item g) → (o : _) × (option_at c.args.self.now.puzzle c.args.item c.args.place ≡ Some o)
+some g c = at_other c.args.self.now.puzzle c.args.item c.args.place c.if-place-item.false
+
+can : (g : _) (c : Else-place-item g) → CanBranch c.args.self.now.puzzle c.args.item (Some (some g c).0) c.args.self.now.trail
+can g c = subst (λ o. CanBranch c.args.self.now.puzzle c.args.item o c.args.self.now.trail) (some g c).1 c.requires.can
+
+use_at : (g : _) (c : Else-place-item g) → IsUseAt c.args.self.now.puzzle c.args.item (some g c).0 c.args.place
+use_at g c =
+    let held = (can g c).option in
     record {
       known = held.known;
       holds = held.holds;
       items = held.items;
-      stands = subst (λ o. MayStand p (after_branch p i o t)) c.in-Some.is c.requires.can.stands;
+      at = c.requires.place ∙ ap (λ o. link_place c.args.self.now.puzzle c.args.item (unwrap_or o 0)) (some g c).1;
     }
+
+pub cover_if_open-requires-clause-room : goal.cover_if_open-requires-clause-room
+cover_if_open-requires-clause-room g c =
+    (subst (λ o. CanBranch c.args.self.now.puzzle c.args.item o c.args.self.now.trail) (none g (goal.at.cover_if_open-requires-clause-room g c).Then-place-item) c.requires.can).stands.room
+
+pub commit-requires-clause-can : goal.commit-requires-clause-can
+commit-requires-clause-can g c =
+    let at = (goal.at.commit-requires-clause-can g c).Else-place-item in
+    ((some g at).0, use_at g at, (can g at).stands)
+
+pub returns-then-place-item : goal.returns-then-place-item
+returns-then-place-item g c =
+    let s = c.args.self.now in
+    c.cover_if_open.ensures
+    ∙ ap (λ o. record s { trail = after_branch s.puzzle c.args.item o s.trail }) (sym (none g (goal.at.returns-then-place-item g c).Then-place-item))
+
+pub returns-else-place-item : goal.returns-else-place-item
+returns-else-place-item g c =
+    let s = c.args.self.now in
+    let at = (goal.at.returns-else-place-item g c).Else-place-item in
+    c.commit.ensures (some g at).0 (use_at g at)
+    ∙ ap (λ o. record s { trail = after_branch s.puzzle c.args.item o s.trail }) (sym (some g at).1)

@@ -13,7 +13,7 @@ use Rattle.xc_search.proofs.search.Search.new.Goals as goal
 
 pub invariant_of-result : goal.invariant_of-result
 invariant_of-result g c = record {
-  shows = ap (λ (s : Levels). s.shown) c.in-Ok.ensures ∙ sym (ap (λ (s : Levels). choices_of s.levels) c.in-Ok.ensures);
+  shows = ap (λ (s : Levels). s.shown) c.in-Ok.ensures ∙ sym (ap (λ (s : Levels). choices_of c.new-2.result.puzzle s.levels) c.in-Ok.ensures);
   standing = subst (λ (s : Dancing). IsStanding s.puzzle s.trail c.in-Ok.stack.levels true) (sym c.new-2.ensures)
       (starts_standing (g.D.Dance.state c.args.dance).puzzle (g.D.Dance.state c.args.dance).trail c.in-Ok.stack.levels (subst IsValid (sym c.requires.same) c.most_levels-most.ensures.valid) c.requires.none (ap (λ (s : Levels). s.levels) c.in-Ok.ensures));
   levels_fit = omega (arith, c.most_levels-most.ensures.value, ap (λ (s : Levels). s.room) c.in-Ok.ensures, ap (λ (s : Dancing). most_levels s.puzzle) c.new-2.ensures, ap most_levels c.requires.same);
@@ -23,8 +23,8 @@ pub returns-clause-begun : goal.returns-clause-begun
 returns-clause-begun g c =
     let ls = ap (λ (s : Levels). s.levels) c.in-Ok.ensures in
     let outlook : Puzzle → List (List Choice) → List Choice → ℕ → Outlook = λ p ms m room. record { puzzle = p; to_come = ms; shown = m; room = room } in
-    ap (λ (s : Dancing). outlook s.puzzle (coming s.puzzle s.trail c.in-Ok.stack.levels true) (choices_of c.in-Ok.stack.levels) s.room) c.new-2.ensures
-    ∙ ap₂ (λ ms m. outlook (g.D.Dance.state c.args.dance).puzzle ms m (g.D.Dance.state c.args.dance).room) (starts_coming (g.D.Dance.state c.args.dance).puzzle (g.D.Dance.state c.args.dance).trail c.in-Ok.stack.levels c.requires.none ls) (ap choices_of ls)
+    ap (λ (s : Dancing). outlook s.puzzle (coming s.puzzle s.trail c.in-Ok.stack.levels true) (choices_of s.puzzle c.in-Ok.stack.levels) s.room) c.new-2.ensures
+    ∙ ap₂ (λ ms m. outlook (g.D.Dance.state c.args.dance).puzzle ms m (g.D.Dance.state c.args.dance).room) (starts_coming (g.D.Dance.state c.args.dance).puzzle (g.D.Dance.state c.args.dance).trail c.in-Ok.stack.levels c.requires.none ls) (ap (choices_of (g.D.Dance.state c.args.dance).puzzle) ls)
     ∙ ap (λ p. outlook p (members p) [] (g.D.Dance.state c.args.dance).room) c.requires.same
 
 pub returns-clause-right : goal.returns-clause-right

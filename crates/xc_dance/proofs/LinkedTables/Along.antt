@@ -1,0 +1,252 @@
+-- Along an option's nodes: which uses were committed where a walk over them stands, and what it finds there.
+use Rattle.std.proofs.Common.{Bool, true, false, ltb, ltb-true, ltb-false, ℕ, ◌≡◌, ◌+◌, ◌-◌, ◌<◌, ◌≤◌, List, [], ◌∷◌, length, drop, get_or, Some, refl, sym, ap, ◌∙◌, arith, subst, length-drop, length-take}
+use Rattle.std.specs.Prelude.{slice_get}
+use Rattle.std.proofs.lemmas.Option.{slice_get-get_or}
+use Rattle.xc_input.specs.declared.problem.Use.{Use}
+use Rattle.xc_input.specs.Problem.{Puzzle, uses_of}
+use Rattle.xc_dance.specs.declared.dance.Move.{Move}
+use Rattle.xc_dance.specs.declared.links.nodes.Nodes.{Nodes}
+use Rattle.xc_dance.specs.Dancing.{Dancing}
+use Rattle.xc_dance.specs.Linked.{Linked, dancing_of}
+use Rattle.xc_dance.specs.Fields.{used, layout, spacer_place}
+use Rattle.xc_dance.specs.Commits.{CanStand, IsUseAt, after_use, after_uses, place_in}
+use Rattle.xc_dance.specs.Links.Cells.{nodes_after}
+use Rattle.xc_dance.specs.Links.Laid.{IsLaid, IsFit}
+use Rattle.xc_dance.specs.Links.OptionPlaces.{start_at}
+use Rattle.xc_dance.specs.Links.UseNodes.{uses_behind, uses_before}
+use Rattle.xc_dance.proofs.MoveLemmas.Commits.{stood_before, first_use}
+use Rattle.xc_dance.proofs.LinkedTables.UsePlaces.{Segment, OptionNodes, option_nodes, use_cells, spacer_cells, place_at_use, behind_segment, before_segment}
+
+abbrev no_use : Use
+no_use = record { item = 0; colour = 0 }
+
+-- the use whose node stands at place q, of those that stand from off on
+abbrev pub use_at_place : ℕ → List Use → ℕ → Use
+use_at_place off vs q = get_or vs (q - off) no_use
+
+abbrev pub top_at : Puzzle → List Move → ℕ → ℕ
+top_at p t q = get_or (nodes_after p t).top q 0
+
+-- Of the uses vs, which stand from place off on, those before place q were committed: from the moves s to the moves t.
+pub record IsAlong (p : Puzzle) (off : ℕ) (vs : List Use) (s t : List Move) (q : ℕ) : Type 0 where
+  pub from : off ≤ q
+  pub to : q ≤ off + length vs
+  pub trail : after_uses p (drop (q - off) vs) t ≡ after_uses p vs s
+
+pub along_first : (p : Puzzle) (off q : ℕ) (vs : List Use) (t : List Move) → q ≡ off → IsAlong p off vs t t q
+along_first p off q vs t e =
+    let none : q - off ≡ 0 = omega (arith, e) in
+    record { from = omega (arith, e); to = omega (arith, e); trail = ap (λ n. after_uses p (drop n vs) t) none }
+
+along_next : (p : Puzzle) (off q : ℕ) (vs : List Use) (s t : List Move) → IsAlong p off vs s t q → q < off + length vs →
+    IsAlong p off vs s (after_use p (use_at_place off vs q) t) (q + 1)
+along_next p off q vs s t a h =
+    let k = q - off in
+    let v = use_at_place off vs q in
+    let next : q + 1 - off ≡ k + 1 = (let f = a.from in omega (arith, f)) in
+    let here : k < length vs = (let f = a.from in omega (arith, h, f)) in
+    record {
+      from = let f = a.from in omega (arith, f);
+      to = omega (arith, h);
+      trail = ap (λ n. after_uses p (drop n vs) (after_use p v t)) next ∙ sym (first_use p vs k no_use t here)
+          ∙ a.trail;
+    }
+
+nothing : {X : Type 0} (ys : List X) → length ys ≡ 0 → ys ≡ []
+nothing [] h = refl
+nothing (y ∷ ys) h = absurd (omega (arith, h))
+
+-- behind the last one all were
+pub along_end : (p : Puzzle) (off q : ℕ) (vs : List Use) (s t : List Move) → IsAlong p off vs s t q →
+    q ≡ off + length vs → t ≡ after_uses p vs s
+along_end p off q vs s t a e =
+    let d = length-drop (q - off) vs in
+    let none : drop (q - off) vs ≡ [] = nothing (drop (q - off) vs) (omega (arith, d, e)) in
+    ap (λ us. after_uses p us t) (sym none) ∙ a.trail
+
+-- the node at place q is of the next use, u
+pub record IsNext (p : Puzzle) (x off : ℕ) (vs : List Use) (s t : List Move) (q : ℕ) : Type 0 where
+  pub u : Use
+  pub node : slice_get (layout p) q ≡ Some (used x u)
+  pub within : q < length (layout p)
+  pub item : u.item ≡ top_at p t q
+  pub on : IsAlong p off vs s (after_use p u t) (q + 1)
+  pub stands : (room : ℕ) → CanStand p room (after_uses p vs s) → CanStand p room (after_use p u t)
+
+pub next_at : (p : Puzzle) (x off q : ℕ) (vs : List Use) (s t : List Move) → Segment p x off vs →
+    IsAlong p off vs s t q → q < off + length vs → IsNext p x off vs s t q
+next_at p x off q vs s t seg a h =
+    let k = q - off in
+    let v = use_at_place off vs q in
+    let at : off + k ≡ q = (let f = a.from in omega (arith, f)) in
+    let here : k < length vs = (let f = a.from in omega (arith, h, f)) in
+    let node : slice_get (layout p) q ≡ Some (used x v) = ap (slice_get (layout p)) (sym at)
+        ∙ seg.node k v (slice_get-get_or vs k no_use here) in
+    let cells = use_cells p t x v q node in
+    let on = along_next p off q vs s t a h in
+    record {
+      u = v;
+      node = node;
+      within = cells.within;
+      item = sym cells.top;
+      on = on;
+      stands = λ room can. stood_before p room (drop (q + 1 - off) vs) (after_use p v t)
+          (subst (CanStand p room) (sym on.trail) can);
+    }
+
+-- ---- Behind the node by which option x uses item i, from the place behind it up to the spacer
+
+-- what a walk over the uses behind finds at place q, t being the moves there
+pub record Behind (p : Puzzle) (i x place : ℕ) (s t : List Move) (q : ℕ) : Type 0 where
+  pub within : q < length (layout p)
+  -- a node: of the next use
+  pub node : top_at p t q < 2147483648 → IsNext p x (place + 1) (uses_behind p i x) s t q
+  -- the spacer: all were committed
+  pub end : 2147483648 ≤ top_at p t q → (t ≡ after_uses p (uses_behind p i x) s) × (q ≡ spacer_place p x)
+
+behind_use : (p : Puzzle) (i x place q : ℕ) (s t : List Move) → IsLaid p →
+    IsNext p x (place + 1) (uses_behind p i x) s t q → Behind p i x place s t q
+behind_use p i x place q s t laid n =
+    let most = (laid.nodes.ranged q (used x n.u) n.u.item x n.node refl).1 in
+    let item = n.item in
+    let few = laid.small in
+    record { within = n.within; node = λ _. n; end = λ g. absurd (omega (arith, g, item, most, few)) }
+
+behind_end : (p : Puzzle) (i x place q : ℕ) (s t : List Move) → OptionNodes p x (x - 1) → 0 < x →
+    q ≡ start_at p (x - 1) + length (uses_of p x) → t ≡ after_uses p (uses_behind p i x) s → Behind p i x place s t q
+behind_end p i x place q s t o pos e all =
+    let cells = spacer_cells p t x (x - 1) q (omega (arith, pos)) (ap (slice_get (layout p)) e ∙ o.behind) in
+    let top = cells.top in
+    record { within = cells.within; node = λ g. absurd (omega (arith, g, top)); end = λ _. (all, e ∙ sym o.end) }
+
+pub behind_at : (p : Puzzle) (i x place q : ℕ) (s t : List Move) → IsLaid p → IsFit p → IsUseAt p i x place →
+    IsAlong p (place + 1) (uses_behind p i x) s t q → Behind p i x place s t q
+behind_at p i x place q s t laid fit held a = by_place (ltb q (place + 1 + length (uses_behind p i x))) refl
+  where
+    us : List Use
+    us = uses_of p x
+
+    vs : List Use
+    vs = uses_behind p i x
+
+    o : OptionNodes p x (x - 1)
+    o = option_nodes p x fit held.known
+
+    stands : place ≡ start_at p (x - 1) + place_in i us
+    stands = place_at_use p i x (x - 1) place o held
+
+    seg : Segment p x (place + 1) vs
+    seg = let e : start_at p (x - 1) + (place_in i us + 1) ≡ place + 1 = omega (arith, stands) in
+        subst (λ n. Segment p x n vs) e (behind_segment p i x (x - 1) o)
+
+    all : place + 1 + length vs ≡ start_at p (x - 1) + length us
+    all = let d = length-drop (place_in i us + 1) us in let h = held.holds in omega (arith, d, h, stands)
+
+    by_place : (b : Bool) → ltb q (place + 1 + length vs) ≡ b → Behind p i x place s t q
+    by_place true e = behind_use p i x place q s t laid (next_at p x (place + 1)
+        q vs s t seg a (ltb-true q (place + 1 + length vs) e))
+    by_place false e =
+        let ge = ltb-false q (place + 1 + length vs) e in
+        let to = a.to in
+        let at : q ≡ place + 1 + length vs = omega (arith, ge, to) in
+        behind_end p i x place q s t o held.known.0 (at ∙ all) (along_end p (place + 1) q vs s t a at)
+
+-- ---- Before it, from the option's first node up
+
+-- what a walk over the uses before finds at place q
+pub record Before (p : Puzzle) (i x place : ℕ) (s t : List Move) (q : ℕ) : Type 0 where
+  pub node : q < place → IsNext p x (start_at p (x - 1)) (uses_before p i x) s t q
+  pub end : place ≤ q → t ≡ after_uses p (uses_before p i x) s
+
+-- the uses before end at it
+before_all : (p : Puzzle) (i x place : ℕ) → OptionNodes p x (x - 1) → IsUseAt p i x place →
+    start_at p (x - 1) + length (uses_before p i x) ≡ place
+before_all p i x place o held =
+    let stands = place_at_use p i x (x - 1) place o held in
+    let d = length-take (place_in i (uses_of p x)) (uses_of p x) in
+    let h = held.holds in
+    omega (arith, d, h, stands)
+
+pub before_at : (p : Puzzle) (i x place q : ℕ) (s t : List Move) → IsFit p → IsUseAt p i x place →
+    IsAlong p (start_at p (x - 1)) (uses_before p i x) s t q → Before p i x place s t q
+before_at p i x place q s t fit held a =
+    let o = option_nodes p x fit held.known in
+    let all = before_all p i x place o held in
+    let to = a.to in
+    record {
+      node = λ h. next_at p x (start_at p (x - 1)) q (uses_before p i x) s t (before_segment p i x (x - 1) o)
+          a (omega (arith, h, all));
+      end = λ h. along_end p (start_at p (x - 1)) q (uses_before p i x) s t a (omega (arith, h, all, to));
+    }
+
+-- ULINK of the spacer leads to where that walk begins
+pub record Leads (p : Puzzle) (x place end : ℕ) (t : List Move) : Type 0 where
+  pub within : end < length (layout p)
+  pub behind : place < end
+  pub first : get_or (nodes_after p t).ulink end 0 ≡ start_at p (x - 1)
+
+pub leads : (p : Puzzle) (i x place end : ℕ) (t : List Move) → IsFit p → IsUseAt p i x place →
+    end ≡ spacer_place p x → Leads p x place end t
+leads p i x place end t fit held e =
+    let o = option_nodes p x fit held.known in
+    let stands = place_at_use p i x (x - 1) place o held in
+    let pos = held.known.0 in
+    let few = held.holds in
+    let is = e ∙ o.end in
+    let at = ap (slice_get (layout p)) is ∙ o.behind in
+    let cells = spacer_cells p t x (x - 1) end (omega (arith, pos)) at in
+    record { within = cells.within; behind = omega (arith, stands, is, few); first = cells.ulink ∙ o.first }
+
+-- ---- A step of the walk: the next use is committed
+
+-- the tables of linked tables in state s, of problem p
+pub nodes_told : (n : Nodes) (a s : Linked) (p : Puzzle) → n ≡ nodes_after a.puzzle a.trail → a ≡ s → s.puzzle ≡ p →
+    n ≡ nodes_after p s.trail
+nodes_told n a s p e is same = e ∙ ap (λ (s : Linked). nodes_after s.puzzle s.trail) is
+    ∙ ap (λ q. nodes_after q s.trail) same
+
+-- what is asked for a commit of the use of item j at place q
+abbrev pub MayCommit : Puzzle → ℕ → List Move → ℕ → ℕ → Type 0
+MayCommit p room t q j = (o : ℕ) × ((u : Use) × (slice_get (layout p) q ≡ Some (used o u)) × (u.item ≡ j)
+    × CanStand p room (after_use p u t))
+
+pub may_commit : (p : Puzzle) (x off : ℕ) (vs : List Use) (s : List Move) (now : Linked) (room q j : ℕ) →
+    IsNext p x off vs s now.trail q → now.puzzle ≡ p → now.room ≡ room →
+    j ≡ top_at p now.trail q → CanStand p room (after_uses p vs s) → MayCommit now.puzzle now.room now.trail q j
+may_commit p x off vs s now room q j n same big is can =
+    subst (λ a. MayCommit a now.room now.trail q j) (sym same)
+    (subst (λ r. MayCommit p r now.trail q j) (sym big) (x, (n.u, n.node, n.item ∙ sym is, n.stands room can)))
+
+-- what a commit there is to make of it
+abbrev pub Commits : Linked → ℕ → ℕ → Linked → Type 0
+Commits now q j new =
+    (o : ℕ) (u : Use) → slice_get (layout now.puzzle) q ≡ Some (used o u) → u.item ≡ j →
+    dancing_of new ≡ record (dancing_of now) { trail = after_use now.puzzle u now.trail }
+
+pub record Committed (p : Puzzle) (off : ℕ) (vs : List Use) (s : List Move) (k : ℕ) (new : Linked) (q : ℕ)
+    : Type 0 where
+  pub puzzle : new.puzzle ≡ p
+  pub room : new.room ≡ k
+  pub along : IsAlong p off vs s new.trail q
+
+pub one_committed : (p : Puzzle) (x off : ℕ) (vs : List Use) (s : List Move) (now new : Linked) (room q j : ℕ) →
+    IsNext p x off vs s now.trail q → now.puzzle ≡ p → now.room ≡ room →
+    j ≡ top_at p now.trail q → Commits now q j new → Committed p off vs s room new (q + 1)
+one_committed p x off vs s now new room q j n same big is made =
+    let at : slice_get (layout now.puzzle) q ≡ Some (used x n.u) = ap (λ a. slice_get (layout a) q) same ∙ n.node in
+    let done = made x n.u at (n.item ∙ sym is) in
+    let trail : new.trail ≡ after_use p n.u now.trail = ap (λ (d : Dancing). d.trail) done
+        ∙ ap (λ a. after_use a n.u now.trail) same in
+    record {
+      puzzle = ap (λ (d : Dancing). d.puzzle) done ∙ same;
+      room = ap (λ (d : Dancing). d.room) done ∙ big;
+      along = subst (λ t. IsAlong p off vs s t (q + 1)) (sym trail) n.on;
+    }
+
+-- at the end
+pub whole : (p : Puzzle) (room : ℕ) (now : Linked) (t : List Move) → now.puzzle ≡ p → now.room ≡ room →
+    now.trail ≡ t → dancing_of now ≡ record { puzzle = p; trail = t; room = room }
+whole p room now t e r h =
+    ap (λ q. let d : Dancing = record { puzzle = q; trail = now.trail; room = now.room } in d) e
+    ∙ ap (λ k. let d : Dancing = record { puzzle = p; trail = now.trail; room = k } in d) r
+    ∙ ap (λ l. let d : Dancing = record { puzzle = p; trail = l; room = room } in d) h

@@ -1,0 +1,57 @@
+use Rattle.std.proofs.Common.{◌≡◌, ◌+◌, ◌-◌, ℕ, List, sym, ap, ◌∙◌, subst, drop, take, length, Some}
+use Rattle.xc_input.specs.declared.problem.Use.{Use}
+use Rattle.xc_input.specs.Problem.{Puzzle, uses_of, numbered_get}
+use Rattle.xc_dance.specs.Dancing.{Dancing}
+use Rattle.xc_dance.specs.Commits.{CanStand, IsUseAt, others}
+use Rattle.xc_dance.proofs.MoveLemmas.Commits.{committed, other_uses, stood_before}
+use Rattle.xc_dance.proofs.dance.Dance.commit.Goals.{After-index_of-at}
+use Rattle.xc_dance.proofs.dance.Dance.commit.Goals as goal
+
+-- the state after the uses behind place k
+abbrev behind : ℕ → List Use → Dancing → Dancing
+behind k us s = committed (take (length us - (k + 1)) (drop (k + 1) us)) s
+
+-- the state in the end is that after the uses behind, and then those before
+whole : (g : _) (c : After-index_of-at g) (x : ℕ) →
+    IsUseAt (g.Self.Dance.state c.args.self.now).puzzle c.args.i x c.args.place →
+    (let s = g.Self.Dance.state c.args.self.now in
+    let us = c.option-uses.result.now in
+    let k = c.index_of-at.result in
+    committed (others c.args.i (uses_of s.puzzle x)) s ≡ committed (take k us) (behind k us s))
+whole g c x u =
+    let s = g.Self.Dance.state c.args.self.now in
+    let there = subst (λ (p : Puzzle). IsUseAt p c.args.i x c.args.place) c.requires.same u in
+    let is = c.number_at.ensures c.args.i x there in
+    let found : numbered_get s.puzzle.options x ≡ Some c.option-uses.result.now =
+        ap (λ n. numbered_get s.puzzle.options n) (sym is)
+        ∙ ap (λ (p : Puzzle). numbered_get p.options c.number_at.result) c.requires.same
+        ∙ c.option-uses.ensures.value in
+    ap (λ t. record s { trail = t }) (other_uses s.puzzle c.args.i x _ _ s.trail found c.index_of-at.ensures)
+
+-- it may stand
+abbrev Stands : Dancing → Type 0
+Stands s = CanStand s.puzzle s.room s.trail
+
+can : (g : _) (c : After-index_of-at g) →
+    (let us = c.option-uses.result.now in
+    let k = c.index_of-at.result in
+    Stands (committed (take k us) (behind k us (g.Self.Dance.state c.args.self.now))))
+can g c = let u = c.requires.can in subst Stands (whole g c u.0 u.1) u.2
+
+pub commit_uses-requires-clause-stands : goal.commit_uses-requires-clause-stands
+commit_uses-requires-clause-stands g c =
+    let s = g.Self.Dance.state c.args.self.now in
+    stood_before s.puzzle s.room (take c.index_of-at.result c.option-uses.result.now) _
+    (can g (goal.at.commit_uses-requires-clause-stands g c).After-index_of-at)
+
+-- once the uses behind were committed, those before it lead to the end
+pub commit_uses-requires-2-clause-stands : goal.commit_uses-requires-2-clause-stands
+commit_uses-requires-2-clause-stands g c =
+    subst Stands (ap (committed (take c.index_of-at.result c.option-uses.result.now)) (sym c.commit_uses.ensures))
+    (can g (goal.at.commit_uses-requires-2-clause-stands g c).After-index_of-at)
+
+pub returns : goal.returns
+returns g c = λ x u.
+    c.commit_uses-2.ensures
+    ∙ ap (committed (take c.index_of-at.result c.option-uses.result.now)) c.commit_uses.ensures
+    ∙ sym (whole g (goal.at.returns g c).After-index_of-at x u)

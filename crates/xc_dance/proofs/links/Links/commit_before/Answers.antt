@@ -1,0 +1,117 @@
+use Rattle.std.proofs.Common.{◌≡◌, ◌+◌, ◌-◌, ℕ, length, get_or, ap, subst, ◌∙◌, arith, refl}
+use Rattle.std.specs.Prelude.{slice_index}
+use Rattle.std.proofs.lemmas.List.{length-map}
+use Rattle.xc_dance.specs.declared.links.nodes.Nodes.{Nodes}
+use Rattle.xc_dance.specs.Commits.{IsUseAt}
+use Rattle.xc_dance.specs.Fields.{layout}
+use Rattle.xc_dance.specs.Linked.{Linked}
+use Rattle.xc_dance.specs.Links.Cells.{nodes_after, top_in, ulink_in, line_of}
+use Rattle.xc_dance.specs.Links.Laid.{IsFit}
+use Rattle.xc_dance.specs.Links.OptionPlaces.{start_at}
+use Rattle.xc_dance.specs.Links.UseNodes.{uses_before}
+use Rattle.xc_dance.proofs.LinkedTables.Along.{along_first, before_at, Leads, leads, IsNext, nodes_told, may_commit, Committed, one_committed, whole}
+use Rattle.xc_dance.proofs.links.Links.commit_before.Goals as goal
+use Rattle.xc_dance.proofs.links.Links.commit_before.Goals.{After-self, After-self-in-loop-q}
+
+fit : (c : After-self) → IsFit c.args.self.now.puzzle
+fit c = subst (λ (s : Linked). IsFit s.puzzle) c.self.view_is c.self.invariant.fitted.fit
+
+first_nodes : (c : After-self) → c.self.inside.nodes ≡ nodes_after c.args.self.now.puzzle c.args.self.now.trail
+first_nodes c = nodes_told _ _ _ _ c.self.invariant.nodes c.self.view_is refl
+
+-- where the spacer leads
+led : (c : After-self) (x : ℕ) → IsUseAt c.args.self.now.puzzle c.args.i x c.args.place →
+    Leads c.args.self.now.puzzle x c.args.place c.args.end c.args.self.now.trail
+led c x held = leads c.args.self.now.puzzle c.args.i x c.args.place c.args.end c.args.self.now.trail (fit c)
+    held (c.requires.end x held)
+
+pub ulink-first-requires : goal.ulink-first-requires
+ulink-first-requires c =
+    let here = (goal.at.ulink-first-requires c).After-self in
+    let s = c.args.self.now in
+    let within = (led here c.requires.can.0 c.requires.can.1).within in
+    let long : length c.self.inside.nodes.ulink ≡ length (layout s.puzzle) =
+        ap (λ (n : Nodes). length n.ulink) (first_nodes here)
+        ∙ length-map (layout s.puzzle) (ulink_in s.puzzle (line_of s.puzzle s.trail)) in
+    omega (arith, within, long)
+
+-- the walk begins at the option's first node
+first_is : (c : After-self) (first x : ℕ) → first ≡ slice_index c.self.inside.nodes.ulink c.args.end →
+    IsUseAt c.args.self.now.puzzle c.args.i x c.args.place → first ≡ start_at c.args.self.now.puzzle (x - 1)
+first_is c first x e held = e ∙ ap (λ (n : Nodes). get_or n.ulink c.args.end 0) (first_nodes c) ∙ (led c x held).first
+
+pub loop-q-init : goal.loop-q-init
+loop-q-init c =
+    let s = c.args.self.now in
+    let first = c.ulink-first.result in
+    let is = first_is (goal.at.loop-q-init c).After-self first in
+    record {
+      puzzle = refl;
+      room = refl;
+      along = λ x held.
+          along_first s.puzzle (start_at s.puzzle (x - 1)) first (uses_before s.puzzle c.args.i x) s.trail
+          (is x c.ulink-first.ensures held);
+    }
+
+nodes_is : (c : After-self-in-loop-q) → c.self-in-loop-q.inside.nodes
+    ≡ nodes_after c.args.self.now.puzzle c.loop-q.self.trail
+nodes_is c = nodes_told _ _ _ _ c.self-in-loop-q.invariant.nodes c.self-in-loop-q.view_is c.loop-q.invariant.puzzle
+
+pub top-j-requires : goal.top-j-requires
+top-j-requires c =
+    let p = c.args.self.now.puzzle in
+    let spacer = led (goal.at.top-j-requires c).After-self c.requires.can.0 c.requires.can.1 in
+    let within = spacer.within in
+    let behind = spacer.behind in
+    let test = c.loop-q-test.true in
+    let nodes = nodes_is (goal.at.top-j-requires c).After-self-in-loop-q in
+    let long : length c.self-in-loop-q.inside.nodes.top ≡ length (layout p) =
+        ap (λ (n : Nodes). length n.top) nodes ∙ length-map (layout p) (top_in (line_of p c.loop-q.self.trail)) in
+    omega (arith, within, behind, test, long)
+
+-- the next use
+next : (c : After-self-in-loop-q) (x : ℕ) → IsUseAt c.args.self.now.puzzle c.args.i x c.args.place →
+    IsNext c.args.self.now.puzzle x (start_at c.args.self.now.puzzle (x - 1))
+        (uses_before c.args.self.now.puzzle c.args.i x) c.args.self.now.trail c.loop-q.self.trail c.loop-q.q
+next c x held =
+    let s = c.args.self.now in
+    let fit : IsFit s.puzzle = subst (λ (s : Linked). IsFit s.puzzle) c.self.view_is c.self.invariant.fitted.fit in
+    (before_at s.puzzle c.args.i x c.args.place c.loop-q.q s.trail c.loop-q.self.trail fit held
+        (c.loop-q.invariant.along x held)).node c.loop-q-test.true
+
+pub commit_node-requires : goal.commit_node-requires
+commit_node-requires c =
+    let here = (goal.at.commit_node-requires c).After-self-in-loop-q in
+    let s = c.args.self.now in
+    let x = c.requires.can.0 in
+    let is = c.top-j.ensures ∙ ap (λ (n : Nodes). get_or n.top c.loop-q.q 0) (nodes_is here) in
+    record {
+      node = may_commit s.puzzle x (start_at s.puzzle (x - 1)) (uses_before s.puzzle c.args.i x)
+          s.trail c.loop-q.self s.room c.loop-q.q c.top-j.result
+          (next here x c.requires.can.1) c.loop-q.invariant.puzzle c.loop-q.invariant.room is c.requires.can.2;
+    }
+
+pub loop-q-preserved : goal.loop-q-preserved
+loop-q-preserved c =
+    let here = (goal.at.loop-q-preserved c).After-self-in-loop-q in
+    let s = c.args.self.now in
+    let is = c.top-j.ensures ∙ ap (λ (n : Nodes). get_or n.top c.loop-q.q 0) (nodes_is here) in
+    let step : (x : ℕ) → IsUseAt s.puzzle c.args.i x c.args.place →
+            Committed s.puzzle (start_at s.puzzle (x - 1)) (uses_before s.puzzle c.args.i x)
+                s.trail s.room c.commit_node.new.self (c.loop-q.q + 1)
+        = λ x held. one_committed s.puzzle x (start_at s.puzzle (x - 1)) (uses_before s.puzzle c.args.i x)
+            s.trail c.loop-q.self c.commit_node.new.self s.room c.loop-q.q c.top-j.result
+          (next here x held) c.loop-q.invariant.puzzle c.loop-q.invariant.room is c.commit_node.ensures in
+    record {
+      puzzle = (step c.requires.can.0 c.requires.can.1).puzzle;
+      room = (step c.requires.can.0 c.requires.can.1).room;
+      along = λ x held. (step x held).along;
+    }
+
+pub returns : goal.returns
+returns c = λ x held.
+    let s = c.args.self.now in
+    let here = (goal.at.returns c).After-self in
+    let all = (before_at s.puzzle c.args.i x c.args.place c.loop-q.q s.trail c.loop-q.self.trail (fit here)
+        held (c.loop-q.invariant.along x held)).end c.loop-q-test.false in
+    whole s.puzzle s.room c.loop-q.self _ c.loop-q.invariant.puzzle c.loop-q.invariant.room all

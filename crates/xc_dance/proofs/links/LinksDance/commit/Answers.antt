@@ -1,0 +1,41 @@
+use Rattle.std.proofs.Common.{sym, subst, ap, ◌∙◌}
+use Rattle.xc_dance.specs.Commits.{CanStand, IsUseAt, after_uses}
+use Rattle.xc_dance.specs.Dancing.{Dancing}
+use Rattle.xc_dance.specs.Links.UseNodes.{uses_behind, uses_before}
+use Rattle.xc_dance.proofs.MoveLemmas.Commits.{stood_before, after_uses-append}
+use Rattle.xc_dance.proofs.links.LinksDance.commit.Goals as goal
+
+pub commit_behind-end-requires : goal.commit_behind-end-requires
+commit_behind-end-requires c =
+    let s = c.args.self.now in
+    let x = c.requires.can.0 in
+    let behind = uses_behind s.puzzle c.args.i x in
+    let before = uses_before s.puzzle c.args.i x in
+    let can = subst (CanStand s.puzzle s.room) (after_uses-append s.puzzle behind before s.trail) c.requires.can.2 in
+    (x, c.requires.can.1, stood_before s.puzzle s.room before (after_uses s.puzzle behind s.trail) can)
+
+pub commit_before-requires-clause-can : goal.commit_before-requires-clause-can
+commit_before-requires-clause-can c =
+    let s = c.args.self.now in
+    let x = c.requires.can.0 in
+    let i = c.args.i in
+    let can = subst (CanStand s.puzzle s.room) (after_uses-append s.puzzle (uses_behind s.puzzle i x)
+        (uses_before s.puzzle i x) s.trail) c.requires.can.2 in
+    let half = sym (c.commit_behind-end.ensures x c.requires.can.1).0 in
+    (
+      x,
+      subst (λ (d : Dancing). IsUseAt d.puzzle i x c.args.place) half c.requires.can.1,
+      subst (λ (d : Dancing). CanStand d.puzzle d.room (after_uses d.puzzle (uses_before d.puzzle i x) d.trail))
+          half can
+    )
+
+pub returns : goal.returns
+returns c = λ x held.
+    let s = c.args.self.now in
+    let i = c.args.i in
+    let half = (c.commit_behind-end.ensures x held).0 in
+    let there = subst (λ (d : Dancing). IsUseAt d.puzzle i x c.args.place) (sym half) held in
+    c.commit_before.ensures x there
+    ∙ ap (λ (d : Dancing). record d { trail = after_uses d.puzzle (uses_before d.puzzle i x) d.trail }) half
+    ∙ ap (λ t. let d : Dancing = record { puzzle = s.puzzle; trail = t; room = s.room } in d)
+        (sym (after_uses-append s.puzzle (uses_behind s.puzzle i x) (uses_before s.puzzle i x) s.trail))

@@ -1,0 +1,39 @@
+use Rattle.std.proofs.Common.{arith, ap, ◌∙◌, ◌≡◌, ◌+◌, ◌<◌}
+use Rattle.xc_input.specs.Problem.{option_count}
+use Rattle.xc_dance.specs.Links.OptionPlaces.{place_at}
+use Rattle.xc_dance.proofs.LinkedTables.PlaceLemmas.{place_first, option_fits, uses_here}
+use Rattle.xc_dance.proofs.LinkedTables.PassedOptions.{sound_fit, behind_first, before_last, option_between}
+use Rattle.xc_dance.proofs.places.number_at.Goals as goal
+
+pub loop-before-init : goal.loop-before-init
+loop-before-init c =
+    let p = c.args.problem.now.puzzle in
+    let u = c.requires in
+    let first = place_first p in
+    let items = c.items-spacer.ensures.value in
+    let behind = behind_first p u.0 u.1 c.args.place (sound_fit c.args.problem.now c.items-spacer.ensures.whole) u.2 in
+    record { spacer = omega (arith, items, first); passed = omega (arith, items, first, behind) }
+
+pub returns-then-place-spacer : goal.returns-then-place-spacer
+returns-then-place-spacer c = λ i x u.
+    let p = c.args.problem.now.puzzle in
+    let o = c.loop-before.before in
+    let us = c.option.result.now in
+    let count = c.options-before-end.ensures.value in
+    let within : o < option_count p = omega (arith, count, c.loop-before-test.true) in
+    let found = uses_here p (o + 1) us c.option.ensures.value in
+    let fits = option_fits p o us c.option.ensures.whole.limits within found in
+    let at = c.loop-before.invariant.spacer in
+    option_between p i x c.args.place o (sound_fit c.args.problem.now c.option.ensures.whole) u within
+    (omega (arith, at, c.loop-before.invariant.passed)) (omega (arith, at, fits.next, c.if-place-spacer.true))
+
+pub unreachable-requires : goal.unreachable-requires
+unreachable-requires c =
+    let p = c.args.problem.now.puzzle in
+    let u = c.requires in
+    let last = before_last p u.0 u.1 c.args.place (sound_fit c.args.problem.now c.items-spacer.ensures.whole) u.2 in
+    let count = c.options-before-end.ensures.value in
+    let all : c.loop-before.before ≡ c.options-before-end.result =
+        omega (arith, c.loop-before-test.false, c.loop-before.auto.before-end) in
+    let at = c.loop-before.invariant.spacer ∙ ap (place_at p) (all ∙ count) in
+    omega (arith, last, at, c.loop-before.invariant.passed)

@@ -1,0 +1,59 @@
+//! Where the nodes of options stand, by the problem alone, for a keeper that has no nodes.
+ghost use Rattle.std.specs.Prelude.{ℕ, ◌≡◌, ◌<◌, ◌-◌, length};
+ghost use Rattle.xc_input.specs.Problem.{IsOption, uses_of};
+ghost use Rattle.xc_dance.specs.Fields.{link_place};
+ghost use Rattle.xc_dance.specs.Commits.{IsUseAt, place_in};
+ghost use Rattle.xc_dance.specs.Links.OptionPlaces.{start_at};
+
+use xc_input::{Problem, Use};
+
+/// Where item `i` stands among uses; their number where it doesn't.
+pub(crate) fn index_of(uses: &[Use], i: u32) -> usize
+    ensures { result ≡ place_in i uses.now }
+{
+    for (k, u) in uses.iter().enumerate() {
+        if u.item == i {
+            return k;
+        }
+    }
+    uses.len()
+}
+
+/// The place of the node by which option `o` uses item `i`.
+pub(crate) fn place_of(problem: &Problem, i: u32, o: u32) -> u32
+    requires known { IsOption problem.now.puzzle o }
+    requires holds { place_in i (uses_of problem.now.puzzle o) < length (uses_of problem.now.puzzle o) }
+    ensures { result ≡ link_place problem.now.puzzle i o }
+{
+    first_place(problem, o) + index_of(problem.option(o), i) as u32
+}
+
+/// The place of the first node of option `o`: behind the items' own nodes, a spacer, and the nodes of each option before
+/// it, with the spacer behind them.
+#[tactic(auto, using(crate::proofs::LinkedTables::PlaceLemmas::option_place))]
+fn first_place(problem: &Problem, o: u32) -> u32
+    requires { IsOption problem.now.puzzle o }
+    ensures { result ≡ start_at problem.now.puzzle (o - 1) }
+{
+    let mut place = problem.items() + 2;
+    for before in 0..o - 1 {
+        place += problem.option(before + 1).len() as u32 + 1;
+    }
+    place
+}
+
+/// The option whose node stands at this place: the first one with the spacer behind it further on.
+#[tactic(auto, using(crate::proofs::LinkedTables::PlaceLemmas::option_place))]
+pub(crate) fn number_at(problem: &Problem, place: u32) -> u32
+    requires { (i x : ℕ) × IsUseAt problem.now.puzzle i x place }
+    ensures { (i x : ℕ) → IsUseAt problem.now.puzzle i x place → result ≡ x }
+{
+    let mut spacer = problem.items() + 1;
+    for before in 0..problem.options() {
+        spacer += problem.option(before + 1).len() as u32 + 1;
+        if place < spacer {
+            return before + 1;
+        }
+    }
+    unreachable!()
+}
