@@ -9,7 +9,8 @@ use Rattle.xc_input.specs.declared.fault.FaultKind.{FaultKind}
 use Rattle.xc_input.specs.declared.fault.FaultKind.TheVariants.{EmptyName, NameTooLong, BadByteInName, RepeatedName, BadBound, BoundOrder, BoundOnSecondary, TooManyItems}
 use Rattle.xc_input.specs.Words.{has, before, after, place, is_number, number}
 use Rattle.xc_input.specs.Sheets.{Entry}
-use Rattle.xc_input.specs.Faults.{first, is_bounds, name_checks, has_prefix, name_of, prefix_checks, bound_checks, item_checks, entry}
+use Rattle.xc_input.specs.Faults.{first, is_bounds, name_checks, has_prefix, name_of, prefix_checks, bound_checks, item_checks}
+use Rattle.xc_input.specs.inner.Stages.{entry}
 use Rattle.xc_input.specs.Limits.{most_items}
 use Rattle.xc_input.specs.Named.{IsName}
 use Rattle.xc_input.specs.Text.{AreBounds, IsBare, IsBounded, IsEntry}

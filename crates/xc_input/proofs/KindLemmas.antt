@@ -5,7 +5,8 @@ use Rattle.xc_input.specs.declared.kind.Kind.{Kind}
 use Rattle.xc_input.specs.declared.problem.Use.{Use}
 use Rattle.xc_input.specs.Tokens.{tokens, parts, is_bar}
 use Rattle.xc_input.specs.Sheets.{Entry, Sheet, Written, names_of, with_uses}
-use Rattle.xc_input.specs.Faults.{is_plain, is_bounds, context}
+use Rattle.xc_input.specs.Faults.{is_plain, is_bounds}
+use Rattle.xc_input.specs.inner.Stages.{context}
 use Rattle.xc_input.specs.Named.{Named}
 use Rattle.xc_input.specs.Text.{IsEntry, AreItems, IsUse, AreOptions, IsSheetFrom, StandsFor}
 use Rattle.xc_input.proofs.SheetValidity.{so_far}

@@ -26,3 +26,4 @@ pub mod UseLemmas
 pub mod ItemLemmas
 pub mod ColourLemmas
 pub mod NumberedOptions
+pub mod FirstFaults

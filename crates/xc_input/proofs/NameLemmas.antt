@@ -20,7 +20,8 @@ use Rattle.xc_input.specs.Tokens.{is_space}
 use Rattle.xc_input.specs.Sheets.{Entry}
 use Rattle.xc_input.specs.inner.Builders.{AreNames}
 use Rattle.xc_input.specs.inner.Stored.{key_names}
-use Rattle.xc_input.specs.Faults.{first, name_checks, has_prefix, entry}
+use Rattle.xc_input.specs.Faults.{first, name_checks, has_prefix}
+use Rattle.xc_input.specs.inner.Stages.{entry}
 use Rattle.xc_input.specs.Named.{IsName}
 use Rattle.xc_input.proofs.GrammarLemmas.{name-good, or-false}
 use Rattle.xc_input.proofs.FaultLemmas.{no-place}

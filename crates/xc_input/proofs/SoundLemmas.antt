@@ -26,7 +26,7 @@ use Rattle.xc_input.proofs.GrammarLemmas.{or-false}
 use Rattle.xc_input.specs.inner.EndedLines.{AreWhole}
 use Rattle.xc_input.proofs.UnbrokenLemmas.{unbroken}
 use Rattle.xc_input.proofs.ValidLemmas.{valid}
-use Rattle.xc_input.specs.Faults.{context}
+use Rattle.xc_input.specs.inner.Stages.{context}
 
 -- DISTINCT
 no-pairs : {X : Type 0} (R : X → X → Type 0) → AllPairs R []

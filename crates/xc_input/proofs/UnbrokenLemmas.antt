@@ -15,7 +15,7 @@ use Rattle.xc_input.specs.Text.{IsEntry, IsUse, AreOptions, IsSheetFrom}
 use Rattle.xc_input.proofs.SheetValidity.{IsSheetOf, so_far}
 use Rattle.xc_input.specs.inner.EndedLines.{AreWhole}
 use Rattle.xc_input.proofs.GrammarLemmas.{or-false, or-both}
-use Rattle.xc_input.specs.Faults.{context}
+use Rattle.xc_input.specs.inner.Stages.{context}
 use Rattle.std.specs.Prelude.{flat_map}
 
 -- no byte of these passes the test

@@ -27,7 +27,8 @@ use Rattle.std.specs.Str.{bytes_eq}
 use Rattle.xc_input.proofs.FaultLemmas.{some-is, names_of-length}
 use Rattle.xc_input.proofs.GrammarLemmas.{and-true}
 use Rattle.std.specs.Prelude.{flat_map}
-use Rattle.xc_input.specs.Faults.{context, has_primary}
+use Rattle.xc_input.specs.Faults.{has_primary}
+use Rattle.xc_input.specs.inner.Stages.{context}
 
 -- NUMBERS
 value-below : (n i : ℕ) (xs : List ℕ) → n < 10 ^ i → list_all is_ascii_digit xs ≡ true → value_from n xs < 10 ^ (i + length xs)

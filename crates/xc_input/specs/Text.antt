@@ -9,8 +9,8 @@ use Rattle.xc_input.specs.Words.{has, place, is_number, number}
 use Rattle.xc_input.specs.Tokens.{tokens, parts, is_bar, is_skipped}
 use Rattle.xc_input.specs.Sheets.{Entry, Sheet, Written, names_of, number_uses, with_uses, named_of}
 use Rattle.xc_input.specs.Named.{Named, IsName, IsColour}
-use Rattle.xc_input.specs.Faults.{is_plain, is_bounds, Context, context, has_primary}
-use Rattle.xc_input.specs.Stages.{line_number}
+use Rattle.xc_input.specs.Faults.{is_plain, is_bounds, Context, has_primary}
+use Rattle.xc_input.specs.FirstFault.{line_number}
 
 -- `v`, or `u:v`, each of one to nine digits
 abbrev pub AreBounds : List ℕ → ℕ → ℕ → Type 0
@@ -81,7 +81,7 @@ IsSheetFrom kind n [] sheet ignored = ⊥
 IsSheetFrom kind n (line ∷ lines) sheet ignored = (has 0 line ≡ false) × (
     ((is_skipped line ≡ true) × IsSheetFrom kind (n + 1) lines sheet ignored)
     ⊎ ((is_skipped line ≡ false) × AreItems kind (parts line) sheet.entries sheet.primaries
-    × AreOptions (context kind (names_of sheet.entries) sheet.primaries)
+    × AreOptions (record { kind = kind; names = names_of sheet.entries; primaries = sheet.primaries })
     (record { lines = n + 1; uses = 0; colours = [] }) lines sheet.options ignored sheet.colours))
 
 -- a list of lines stands for a problem and ignored lines

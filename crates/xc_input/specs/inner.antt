@@ -8,3 +8,4 @@ pub mod CutTokens
 pub mod EndedLines
 pub mod BoundTexts
 pub mod ColourNumbers
+pub mod Stages

@@ -1,7 +1,7 @@
 use Rattle.std.proofs.Common.{ap, sym, ◌∙◌, refl}
 use Rattle.xc_input.specs.Sheets.{named_of}
-use Rattle.xc_input.specs.Stages.{stage_of}
-use Rattle.xc_input.proofs.LawLemmas.{stands, stands-only}
+use Rattle.xc_input.specs.inner.Stages.{stage_of}
+use Rattle.xc_input.proofs.FirstFaults.{stands, stands-only}
 use Rattle.xc_input.proofs.law.fault_or_problem.Goals as goal
 
 pub returns-clause-stands : goal.returns-clause-stands
