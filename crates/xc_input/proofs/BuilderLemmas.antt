@@ -13,7 +13,8 @@ use Rattle.xc_input.specs.declared.option_line.WrittenUse.{WrittenUse}
 use Rattle.xc_input.specs.declared.builder.ProblemBuilder.{ProblemBuilder}
 use Rattle.xc_input.specs.Words.{place}
 use Rattle.xc_input.specs.Tokens.{tokens, parts}
-use Rattle.xc_input.specs.Sheets.{names_of, colour_number, with_uses}
+use Rattle.xc_input.specs.Sheets.{colour_number}
+use Rattle.xc_input.specs.inner.Sheets.{names_of, with_uses}
 use Rattle.xc_input.specs.Faults.{first, has_primary}
 use Rattle.xc_input.specs.inner.Stages.{option_checks, row_checks, no_row, context, written, content_checks, with_option, written_by}
 use Rattle.xc_input.specs.Limits.{most_uses, most_items}

@@ -5,7 +5,7 @@ use Rattle.xc_input.specs.declared.kind.Kind.{Kind}
 use Rattle.xc_input.specs.declared.fault.InputError.{InputError}
 use Rattle.xc_input.specs.declared.fault.InputError.TheVariants.{Fault, Device, Memory}
 use Rattle.xc_input.specs.declared.builder.ProblemBuilder.{ProblemBuilder}
-use Rattle.xc_input.specs.Sheets.{named_of}
+use Rattle.xc_input.specs.inner.Sheets.{named_of}
 use Rattle.xc_input.specs.FirstFault.{line_number, first_fault}
 use Rattle.xc_input.specs.declared.fault.FaultKind.TheVariants.{NoItems}
 use Rattle.xc_input.specs.inner.Stages.{Stage, stage_of}
@@ -24,9 +24,10 @@ use Rattle.xc_input.proofs.SoundLemmas.{sheet-sound, primaries-within, item-name
 use Rattle.xc_input.proofs.ValidLemmas.{valid}
 use Rattle.xc_input.proofs.LawLemmas.{end_fault}
 use Rattle.xc_input.proofs.FirstFaults.{stands, stands-only}
+use Rattle.xc_input.proofs.Standing.{read-stands}
 
 pub refutes : (kind : Kind) (lines : List (List ℕ)) (e : InputError) → IsEndOf kind lines e → IsFault e → (p : Named) (ig : List ℕ) → StandsFor kind lines p ig → ⊥
-refutes kind lines (Fault n k) h f p ig s = let g : first_fault kind lines ≡ None = (stands-only kind lines s.0 ig s.2).0 in absurd (cc)
+refutes kind lines (Fault n k) h f p ig s = let g : first_fault kind lines ≡ None = (stands-only kind lines p ig s).0 in absurd (cc)
 refutes kind lines Device h f p ig s = f
 refutes kind lines Memory h f p ig s = f
 
@@ -57,19 +58,19 @@ module _ (v : Reading) (kind : Kind) (lines : List (List ℕ)) (o : Option Input
     unstarted g p ig s =
         let a : first_fault kind lines ≡ end_fault (length lines) false = ended false g in
         let t : StandsFor kind lines p ig = subst (λ (r : Reading). StandsFor r.kind r.lines p ig) is s in
-        let b : first_fault kind lines ≡ None = (stands-only kind lines t.0 ig t.2).0 in absurd (cc)
+        let b : first_fault kind lines ≡ None = (stands-only kind lines p ig t).0 in absurd (cc)
 
     written : d.started ≡ true → IsSheetOf kind lines (sheet_of_builder d) d.ignored.items
     written g = subst (λ (st : Stage). IsSheetOf kind lines st.sheet st.ignored) (sym whole.1) (stands kind lines (ended true g))
 
     pub accepts : d.started ≡ true → StandsFor v.kind v.lines (named_by d) d.ignored.items
-    accepts g = subst (λ (r : Reading). StandsFor r.kind r.lines (named_by d) d.ignored.items) (sym is) (sheet_of_builder d, sym (by-builder d), written g)
+    accepts g = subst (λ (r : Reading). StandsFor r.kind r.lines (named_by d) d.ignored.items) (sym is) (read-stands kind lines (named_by d) d.ignored.items (sheet_of_builder d, sym (by-builder d), written g))
 
     pub alone : (p : Named) (ig : List ℕ) → StandsFor v.kind v.lines p ig → (p ≡ named_by d) × (ig ≡ d.ignored.items)
     alone p ig s =
         let t : StandsFor kind lines p ig = subst (λ (r : Reading). StandsFor r.kind r.lines p ig) is s in
-        let q = stands-only kind lines t.0 ig t.2 in
-        (t.1 ∙ ap named_of (q.1 ∙ ap (λ (st : Stage). st.sheet) (sym whole.1)) ∙ by-builder d, q.2 ∙ ap (λ (st : Stage). st.ignored) (sym whole.1))
+        let q = stands-only kind lines p ig t in
+        (q.1 ∙ ap named_of (ap (λ (st : Stage). st.sheet) (sym whole.1)) ∙ by-builder d, q.2 ∙ ap (λ (st : Stage). st.ignored) (sym whole.1))
 
     pub table-names : key_names d.names.keys ≡ map (λ x. x.name.items) d.items.items
     table-names = whole.0.names ∙ item-names d.items.items

@@ -15,12 +15,16 @@ use Rattle.xc_input.specs.Problem.{use_count}
 use Rattle.xc_input.specs.Limits.{most_uses}
 use Rattle.xc_input.specs.Words.{has}
 use Rattle.xc_input.specs.Tokens.{tokens, parts, is_bar, is_skipped}
-use Rattle.xc_input.specs.Sheets.{Entry, Sheet, names_of, with_uses}
+use Rattle.xc_input.specs.Sheets.{Entry}
+use Rattle.xc_input.specs.inner.Sheets.{Sheet, names_of, named_of, with_uses}
 use Rattle.xc_input.specs.Faults.{first, checks_of_each, name_of, item_checks, item_names, part_checks, Context, context_of, item_of, token_checks, has_primary}
 use Rattle.xc_input.specs.FirstFault.{line_number, content, is_kept, kept_uses, option_checks, content_checks, line_checks, line_fault, first_fault}
 use Rattle.xc_input.specs.inner.ColourNumbers.{numbered}
 use Rattle.xc_input.specs.inner.Stages.{entry, row_checks, with_part, row_of, no_row, context, written, Stage, no_stage, with_line, fault_from, stage_from, stage_of}
 use Rattle.xc_input.specs.inner.Stages.{part_checks as row_part_checks, option_checks as tokens_checks, content_checks as stage_content, line_checks as stage_checks}
+use Rattle.xc_input.specs.Named.{Named}
+use Rattle.xc_input.specs.Text.{StandsFor}
+use Rattle.xc_input.proofs.Standing.{read-stands, stands-read}
 use Rattle.xc_input.proofs.SheetValidity.{IsSheetOf}
 use Rattle.xc_input.proofs.FaultLemmas.{names_of-snoc, map-snoc, map-length}
 use Rattle.xc_input.proofs.ItemLemmas.{ItemsBehind, behind-items}
@@ -251,12 +255,19 @@ stands kind lines e =
     let a = or-none (fault_from kind 0 no_stage lines) (end_fault (length lines) (stage_of kind lines).started) (sym (first_fault-is kind lines) ∙ e) in
     lines-good kind 0 lines a.0 (end-none (length lines) (stage_of kind lines).started a.1)
 
+pub faultless-stands : (kind : Kind) (lines : List (List ℕ)) → first_fault kind lines ≡ None
+    → StandsFor kind lines (named_of (stage_of kind lines).sheet) (stage_of kind lines).ignored
+faultless-stands kind lines e =
+    read-stands kind lines (named_of (stage_of kind lines).sheet) (stage_of kind lines).ignored ((stage_of kind lines).sheet, refl, stands kind lines e)
+
 -- a text that stands for a problem has no fault, and this is what its lines give
-pub stands-only : (kind : Kind) (lines : List (List ℕ)) (sheet : Sheet) (ignored : List ℕ) → IsSheetOf kind lines sheet ignored
-    → (first_fault kind lines ≡ None) × (sheet ≡ (stage_of kind lines).sheet) × (ignored ≡ (stage_of kind lines).ignored)
-stands-only kind lines sheet ignored h =
-    let g = good-lines kind 0 lines sheet ignored h in (
-      first_fault-is kind lines ∙ ap (λ o. option_or o (end_fault (length lines) (stage_of kind lines).started)) g.0 ∙ ap (end_fault (length lines)) (ap (λ (st : Stage). st.started) g.1),
-      sym (ap (λ (st : Stage). st.sheet) g.1),
+pub stands-only : (kind : Kind) (lines : List (List ℕ)) (named : Named) (ignored : List ℕ) → StandsFor kind lines named ignored
+    → (first_fault kind lines ≡ None) × (named ≡ named_of (stage_of kind lines).sheet) × (ignored ≡ (stage_of kind lines).ignored)
+stands-only kind lines named ignored h =
+    let r = stands-read kind lines named ignored h in
+    let g = good-lines kind 0 lines r.0 ignored r.2 in (
+      first_fault-is kind lines ∙ ap (λ o. option_or o (end_fault (length lines) (stage_of kind lines).started)) g.0
+          ∙ ap (end_fault (length lines)) (ap (λ (st : Stage). st.started) g.1),
+      r.1 ∙ ap (λ (st : Stage). named_of st.sheet) (sym g.1),
       sym (ap (λ (st : Stage). st.ignored) g.1),
     )

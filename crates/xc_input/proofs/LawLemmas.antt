@@ -14,13 +14,15 @@ use Rattle.xc_input.specs.declared.problem.Use.{Use}
 use Rattle.xc_input.specs.Words.{has, before, after, place}
 use Rattle.xc_input.specs.Tokens.{tokens, parts, is_bar, is_skipped}
 use Rattle.std.proofs.lemmas.List.Sums.{sum_by-append}
-use Rattle.xc_input.specs.Sheets.{Entry, Sheet, Written, names_of, with_uses}
+use Rattle.xc_input.specs.Sheets.{Entry, Written}
+use Rattle.xc_input.specs.inner.Sheets.{Sheet, names_of, with_uses}
 use Rattle.xc_input.specs.Faults.{first, is_plain, name_checks, item_checks, is_bad_colour, has_primary}
 use Rattle.xc_input.specs.inner.Stages.{entry, Row, no_row, part_checks, with_part, row_checks, row_of, item_number, token_checks, option_checks, written, context, Stage, no_stage, content_checks, line_checks, with_option, with_line, fault_from, stage_from, stage_of}
 use Rattle.xc_input.specs.Limits.{most_uses}
 use Rattle.xc_input.specs.FirstFault.{line_number}
 use Rattle.xc_input.specs.Named.{IsName, IsColour}
-use Rattle.xc_input.specs.Text.{IsUse, AreUses, AreOptions, IsSheetFrom}
+use Rattle.xc_input.specs.Text.{IsUse}
+use Rattle.xc_input.proofs.SheetGrammar.{AreUses, AreOptions, IsSheetFrom}
 use Rattle.xc_input.proofs.SheetValidity.{numbered-length, so_far}
 use Rattle.xc_input.proofs.FaultLemmas.{some-is, first-all, names_of-snoc, names_of-length}
 use Rattle.xc_input.proofs.GrammarLemmas.{split, head, cons, or-false, or-both, and-false, not-false, name-good, good-name, cut-is, no-cut, cut-at, item-good, good-item}

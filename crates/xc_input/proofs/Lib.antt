@@ -27,3 +27,5 @@ pub mod ItemLemmas
 pub mod ColourLemmas
 pub mod NumberedOptions
 pub mod FirstFaults
+pub mod SheetGrammar
+pub mod Standing

@@ -10,8 +10,10 @@ use Rattle.xc_input.specs.declared.problem.Use.{Use}
 use Rattle.xc_input.specs.Words.{has, place}
 use Rattle.xc_input.specs.Tokens.{is_space, onto, tokens, split_bars, parts}
 use Rattle.xc_input.specs.Named.{IsUnbroken}
-use Rattle.xc_input.specs.Sheets.{Entry, Sheet, Written, names_of, with_colour, with_uses}
-use Rattle.xc_input.specs.Text.{IsEntry, IsUse, AreOptions, IsSheetFrom}
+use Rattle.xc_input.specs.Sheets.{Entry, Written, with_colour}
+use Rattle.xc_input.specs.inner.Sheets.{Sheet, names_of, with_uses}
+use Rattle.xc_input.specs.Text.{IsEntry, IsUse}
+use Rattle.xc_input.proofs.SheetGrammar.{AreOptions, IsSheetFrom}
 use Rattle.xc_input.proofs.SheetValidity.{IsSheetOf, so_far}
 use Rattle.xc_input.specs.inner.EndedLines.{AreWhole}
 use Rattle.xc_input.proofs.GrammarLemmas.{or-false, or-both}

@@ -19,9 +19,11 @@ use Rattle.xc_input.specs.Tokens.{tokens, parts, is_bar, is_skipped, split_bars,
 use Rattle.xc_input.specs.inner.Fronts.{drop_white, word}
 use Rattle.xc_input.proofs.TokenLemmas.{skipped-front, behind, tokens-drop_white, tokens-first, drop_white-first}
 use Rattle.std.proofs.lemmas.List.Sums.{sum_by-cons}
-use Rattle.xc_input.specs.Sheets.{Entry, Sheet, Written, names_of, with_uses, with_colour, colour_number}
+use Rattle.xc_input.specs.Sheets.{Entry, Written, with_colour, colour_number}
+use Rattle.xc_input.specs.inner.Sheets.{Sheet, names_of, with_uses}
 use Rattle.xc_input.specs.Limits.{most_items, most_uses, greatest_bound}
-use Rattle.xc_input.specs.Text.{IsEntry, AreBounds, IsUse, AreOptions, IsSheetFrom}
+use Rattle.xc_input.specs.Text.{IsEntry, AreBounds, IsUse}
+use Rattle.xc_input.proofs.SheetGrammar.{AreOptions, IsSheetFrom}
 use Rattle.xc_input.proofs.SheetValidity.{numbered-length, IsSheetOf, AllNew, HaveBounds, IsWithin, AreWithin, AreFresh, UsesPrimary, AreValid, HaveNames, IsSoundSheet, so_far}
 use Rattle.std.specs.Str.{bytes_eq}
 use Rattle.xc_input.proofs.FaultLemmas.{some-is, names_of-length}

@@ -9,3 +9,4 @@ pub mod EndedLines
 pub mod BoundTexts
 pub mod ColourNumbers
 pub mod Stages
+pub mod Sheets

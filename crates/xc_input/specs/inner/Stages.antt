@@ -11,7 +11,8 @@ use Rattle.xc_input.specs.declared.fault.FaultKind.TheVariants.{TwoBars, Unknown
 use Rattle.xc_input.specs.Limits.{most_uses}
 use Rattle.xc_input.specs.Words.{has, before, after, place, number}
 use Rattle.xc_input.specs.Tokens.{tokens, parts, is_bar, is_skipped}
-use Rattle.xc_input.specs.Sheets.{Entry, Sheet, Written, names_of, number_uses, with_uses}
+use Rattle.xc_input.specs.Sheets.{Entry, Written, number_uses}
+use Rattle.xc_input.specs.inner.Sheets.{Sheet, names_of, with_uses}
 use Rattle.xc_input.specs.Faults.{Context, first, is_plain, name_checks, has_prefix, name_of, bound_texts, item_checks, is_bad_colour, has_primary}
 use Rattle.xc_input.specs.FirstFault.{line_number}
 

@@ -2,7 +2,7 @@ use Rattle.std.proofs.Common.{ℕ, vec_len, ◌≡◌, ◌∙◌, sym, ap, subst
 use Rattle.xc_input.specs.inner.ColourNumbers.{numbered}
 use Rattle.xc_input.specs.Problem.{use_count}
 use Rattle.xc_input.specs.Tokens.{tokens}
-use Rattle.xc_input.specs.Sheets.{with_uses}
+use Rattle.xc_input.specs.inner.Sheets.{with_uses}
 use Rattle.xc_input.specs.Faults.{has_primary}
 use Rattle.xc_input.specs.inner.Stages.{option_checks, context, written_by}
 use Rattle.xc_input.specs.Limits.{most_uses}
