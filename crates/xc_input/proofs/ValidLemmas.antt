@@ -14,7 +14,7 @@ use Rattle.std.specs.List.{position_or_len, list_all}
 use Rattle.xc_input.specs.Problem.{use_count}
 use Rattle.xc_input.specs.declared.kind.Kind.{Kind}
 use Rattle.xc_input.specs.declared.problem.Use.{Use}
-use Rattle.xc_input.specs.Words.{place, is_number, number}
+use Rattle.xc_input.specs.Words.{place, are_digits, number}
 use Rattle.xc_input.specs.Tokens.{tokens, parts, is_bar, is_skipped, split_bars, is_space}
 use Rattle.xc_input.specs.inner.Fronts.{drop_white, word}
 use Rattle.xc_input.proofs.TokenLemmas.{skipped-front, behind, tokens-drop_white, tokens-first, drop_white-first}
@@ -44,7 +44,7 @@ value-below n i (x ∷ xs) h e =
     let z : i + 1 + length xs ≡ i + length (x ∷ xs) = omega arith in
     subst (λ m. value_from (n * 10 + (x - 48)) xs < 10 ^ m) z (value-below (n * 10 + (x - 48)) (i + 1) xs q a.1)
 
-number-below : (text : List ℕ) → is_number text ≡ true → number text ≤ greatest_bound
+number-below : (text : List ℕ) → are_digits 9 text ≡ true → number text ≤ greatest_bound
 number-below text e =
     let a = and-true (nat_le 1 (length text) && nat_le (length text) 9) (list_all is_ascii_digit text) e in
     let c : nat_le (length text) 9 ≡ true = (and-true (nat_le 1 (length text)) (nat_le (length text) 9) a.0).1 in

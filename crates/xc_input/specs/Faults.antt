@@ -7,7 +7,7 @@ use Rattle.xc_input.specs.declared.kind.Kind.TheVariants.{Plain, Bounds}
 use Rattle.xc_input.specs.declared.fault.FaultKind.{FaultKind}
 use Rattle.xc_input.specs.declared.fault.FaultKind.TheVariants.{EmptyName, NameTooLong, BadByteInName, RepeatedName, TwoBars, BadBound, BoundOrder, BoundOnSecondary, UnknownItem, RepeatedInOption, ColourOnPrimary, BadColour, ColourNotHere, TooManyItems}
 use Rattle.xc_input.specs.Limits.{most_items, longest_name, longest_colour}
-use Rattle.xc_input.specs.Words.{has, before, after, place, is_number, number}
+use Rattle.xc_input.specs.Words.{has, before, after, place, are_digits, number}
 use Rattle.xc_input.specs.Tokens.{is_bar}
 use Rattle.xc_input.specs.Sheets.{Written}
 
@@ -56,7 +56,7 @@ abbrev pub prefix_checks : List ℕ → Bool → List (FaultKind × Bool)
 prefix_checks prefix secondary =
     let low = (bound_texts prefix).0 in
     let high = (bound_texts prefix).1 in
-    (BadBound, not (is_number low && is_number high)) ∷
+    (BadBound, not (are_digits 9 low && are_digits 9 high)) ∷
     (BoundOrder, nat_lt (number high) 1 || nat_lt (number high) (number low)) ∷ (BoundOnSecondary, secondary) ∷ []
 
 -- the checks of a token's prefix, where it has one

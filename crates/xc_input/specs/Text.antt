@@ -4,7 +4,7 @@ use Prim.Native.Char.{code}
 use Rattle.std.specs.List.{AllZip, before_first, after_first, list_any, enumerate_from}
 use Rattle.xc_input.specs.declared.kind.Kind.{Kind}
 use Rattle.xc_input.specs.Limits.{most_items, most_uses}
-use Rattle.xc_input.specs.Words.{has, place, is_number, number}
+use Rattle.xc_input.specs.Words.{has, place, are_digits, number}
 use Rattle.xc_input.specs.Tokens.{tokens, parts, is_bar, is_skipped}
 use Rattle.xc_input.specs.Sheets.{Entry, Written, colours_of, number_uses}
 use Rattle.xc_input.specs.Named.{Named, IsName, IsColour}
@@ -14,8 +14,8 @@ use Rattle.xc_input.specs.FirstFault.{line_number}
 -- `v`, or `u:v`, each of one to nine digits
 abbrev pub AreBounds : List ℕ → ℕ → ℕ → Type 0
 AreBounds prefix low high =
-    ((is_number prefix ≡ true) × (number prefix ≡ low) × (number prefix ≡ high))
-    ⊎ ((u : List ℕ) × (v : List ℕ) × (prefix ≡ u ++ code ":" ∷ v) × (is_number u ≡ true) × (is_number v ≡ true)
+    ((are_digits 9 prefix ≡ true) × (number prefix ≡ low) × (number prefix ≡ high))
+    ⊎ ((u : List ℕ) × (v : List ℕ) × (prefix ≡ u ++ code ":" ∷ v) × (are_digits 9 u ≡ true) × (are_digits 9 v ≡ true)
     × (number u ≡ low) × (number v ≡ high))
 
 -- a name alone
