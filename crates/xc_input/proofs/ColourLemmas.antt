@@ -77,7 +77,8 @@ knows-more cs (b ∷ bs) (x ∷ xs) k =
       | false ↦ (k, refl)
     ]) in h
 
-pub kept : (cs : List (List ℕ)) (us : List Written) (c : List ℕ) → Knows cs c → colour_number (with_uses cs us) c ≡ colour_number cs c
+pub kept : (cs : List (List ℕ)) (us : List Written) (c : List ℕ) → Knows cs c
+    → colour_number (with_uses cs us) c ≡ colour_number cs c
 kept cs [] c k = refl
 kept cs (u ∷ us) c k = let m = knows-more cs u.colour c k in kept (with_colour cs u.colour) us c m.0 ∙ m.1
 

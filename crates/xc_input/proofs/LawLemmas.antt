@@ -17,7 +17,7 @@ use Rattle.std.proofs.lemmas.List.Sums.{sum_by-append}
 use Rattle.xc_input.specs.Sheets.{Entry, Written}
 use Rattle.xc_input.specs.inner.Sheets.{Sheet, names_of, with_uses}
 use Rattle.xc_input.specs.Faults.{first, is_plain, name_checks, item_checks, is_bad_colour, has_primary}
-use Rattle.xc_input.specs.inner.Stages.{entry, Row, no_row, part_checks, with_part, row_checks, row_of, item_number, token_checks, option_checks, written, context, Stage, no_stage, content_checks, line_checks, with_option, with_line, fault_from, stage_from, stage_of}
+use Rattle.xc_input.specs.inner.Stages.{entry, Row, no_row, part_checks, with_part, row_checks, row_of, item_number, token_checks, option_checks, written, context, Stage, no_stage, content_checks, line_checks, with_option, with_line, stage_from, stage_of}
 use Rattle.xc_input.specs.Limits.{most_uses}
 use Rattle.xc_input.specs.FirstFault.{line_number}
 use Rattle.xc_input.specs.Named.{IsName, IsColour}
@@ -28,6 +28,13 @@ use Rattle.xc_input.proofs.FaultLemmas.{some-is, first-all, names_of-snoc, names
 use Rattle.xc_input.proofs.GrammarLemmas.{split, head, cons, or-false, or-both, and-false, not-false, name-good, good-name, cut-is, no-cut, cut-at, item-good, good-item}
 use Rattle.xc_input.proofs.OptionLemmas.{none-after}
 use Rattle.std.specs.Option.{option_map, option_or}
+
+-- the first fault of lines, behind n lines that gave this
+abbrev pub fault_from : Kind → ℕ → Stage → List (List ℕ) → Option (ℕ × FaultKind)
+fault_from kind n stage [] = None
+fault_from kind n stage (line ∷ lines) =
+    option_or (option_map (λ fault. (line_number (n + 1), fault)) (first (line_checks kind stage line)))
+    (fault_from kind (n + 1) (with_line kind (line_number (n + 1)) stage line) lines)
 
 -- the fault of a text that ends without an item line
 abbrev pub end_fault : ℕ → Bool → Option (ℕ × FaultKind)
@@ -41,13 +48,17 @@ fault_or n fault later = option_or (option_map (λ k. (line_number n, k)) fault)
 abbrev pub R : List Entry → Option ℕ → Row
 R entries bar = record { entries = entries; bar = bar }
 
-pub at-bar : (kind : Kind) (entries : List Entry) (bar : Option ℕ) (p : List ℕ) → is_bar p ≡ true → (first (part_checks kind (R entries bar) p) ≡ (if is_some bar then Some TwoBars else None)) × (with_part kind (R entries bar) p ≡ R entries (Some (length entries)))
+pub at-bar : (kind : Kind) (entries : List Entry) (bar : Option ℕ) (p : List ℕ) → is_bar p ≡ true
+    → (first (part_checks kind (R entries bar) p) ≡ (if is_some bar then Some TwoBars else None))
+    × (with_part kind (R entries bar) p ≡ R entries (Some (length entries)))
 at-bar kind entries bar p e = (
   ap (λ t. first (if t then (TwoBars, is_some bar) ∷ [] else item_checks kind (names_of entries) (is_some bar) p)) e,
   ap (λ t. if t then R entries (Some (length entries)) else R (entries ++ entry kind (is_some bar) p ∷ []) bar) e,
 )
 
-pub at-word : (kind : Kind) (entries : List Entry) (bar : Option ℕ) (p : List ℕ) → is_bar p ≡ false → (first (part_checks kind (R entries bar) p) ≡ first (item_checks kind (names_of entries) (is_some bar) p)) × (with_part kind (R entries bar) p ≡ R (entries ++ entry kind (is_some bar) p ∷ []) bar)
+pub at-word : (kind : Kind) (entries : List Entry) (bar : Option ℕ) (p : List ℕ) → is_bar p ≡ false
+    → (first (part_checks kind (R entries bar) p) ≡ first (item_checks kind (names_of entries) (is_some bar) p))
+    × (with_part kind (R entries bar) p ≡ R (entries ++ entry kind (is_some bar) p ∷ []) bar)
 at-word kind entries bar p e = (
   ap (λ t. first (if t then (TwoBars, is_some bar) ∷ [] else item_checks kind (names_of entries) (is_some bar) p)) e,
   ap (λ t. if t then R entries (Some (length entries)) else R (entries ++ entry kind (is_some bar) p ∷ []) bar) e,
@@ -221,7 +232,8 @@ count-snoc os o = let split : use_count (os ++ o ∷ []) ≡ use_count os + (0 +
 abbrev pub IsClear : Kind → Stage → List ℕ → Type 0
 IsClear kind stage line = (has 0 line ≡ false) × ((is_skipped line ≡ true) ⊎ ((is_skipped line ≡ false) × (first (content_checks kind stage line) ≡ None)))
 
-pub clear : (kind : Kind) (stage : Stage) (line : List ℕ) → first (line_checks kind stage line) ≡ None → IsClear kind stage line
+pub clear : (kind : Kind) (stage : Stage) (line : List ℕ) → first (line_checks kind stage line) ≡ None
+    → IsClear kind stage line
 clear kind stage line e =
     let a = head NulByte (has 0 line) (if is_skipped line then [] else content_checks kind stage line) e in
     let P : Bool → Type 0 = λ t. is_skipped line ≡ t → first (if t then [] else content_checks kind stage line) ≡ None → (is_skipped line ≡ true) ⊎ ((is_skipped line ≡ false) × (first (content_checks kind stage line) ≡ None)) in
@@ -243,15 +255,19 @@ module _ (kind : Kind) (entries : List Entry) (primaries : ℕ) where
   abbrev whole : List (List Use) → List ℕ → List (FaultKind × Bool)
   whole options line = (TooManyUses, has_primary primaries (lineuses line) && nat_lt most_uses (use_count options + length (tokens line))) ∷ []
 
-  pub skips : (m : ℕ) (options : List (List Use)) (colours : List (List ℕ)) (ignored : List ℕ) (line : List ℕ) → is_skipped line ≡ true → with_line kind m (S entries primaries options colours ignored) line ≡ S entries primaries options colours ignored
+  pub skips : (m : ℕ) (options : List (List Use)) (colours : List (List ℕ)) (ignored : List ℕ) (line : List ℕ)
+      → is_skipped line ≡ true → with_line kind m (S entries primaries options colours ignored) line
+      ≡ S entries primaries options colours ignored
   skips m options colours ignored line f = ap (λ t. if t then S entries primaries options colours ignored else with_option m (S entries primaries options colours ignored) (lineuses line)) f
 
-  pub keeps : (m : ℕ) (options : List (List Use)) (colours : List (List ℕ)) (ignored : List ℕ) (line : List ℕ) → is_skipped line ≡ false → has_primary primaries (lineuses line) ≡ true
+  pub keeps : (m : ℕ) (options : List (List Use)) (colours : List (List ℕ)) (ignored : List ℕ) (line : List ℕ)
+      → is_skipped line ≡ false → has_primary primaries (lineuses line) ≡ true
       → with_line kind m (S entries primaries options colours ignored) line ≡ S entries primaries (options ++ numbered colours (lineuses line) ∷ []) (with_uses colours (lineuses line)) ignored
   keeps m options colours ignored line f g = ap (λ t. if t then S entries primaries options colours ignored else with_option m (S entries primaries options colours ignored) (lineuses line)) f
       ∙ ap (λ t. if t then S entries primaries (options ++ numbered colours (lineuses line) ∷ []) (with_uses colours (lineuses line)) ignored else S entries primaries options colours (ignored ++ m ∷ [])) g
 
-  pub drops : (m : ℕ) (options : List (List Use)) (colours : List (List ℕ)) (ignored : List ℕ) (line : List ℕ) → is_skipped line ≡ false → has_primary primaries (lineuses line) ≡ false
+  pub drops : (m : ℕ) (options : List (List Use)) (colours : List (List ℕ)) (ignored : List ℕ) (line : List ℕ)
+      → is_skipped line ≡ false → has_primary primaries (lineuses line) ≡ false
       → with_line kind m (S entries primaries options colours ignored) line ≡ S entries primaries options colours (ignored ++ m ∷ [])
   drops m options colours ignored line f g = ap (λ t. if t then S entries primaries options colours ignored else with_option m (S entries primaries options colours ignored) (lineuses line)) f
       ∙ ap (λ t. if t then S entries primaries (options ++ numbered colours (lineuses line) ∷ []) (with_uses colours (lineuses line)) ignored else S entries primaries options colours (ignored ++ m ∷ [])) g
@@ -271,7 +287,8 @@ module _ (kind : Kind) (entries : List Entry) (primaries : ℕ) where
       let g : nat_lt most_uses (use_count options + length (tokens line)) ≡ false = grind (arith, nat_tests) in
       ap (λ t. has_primary primaries (lineuses line) && t) g ∙ and-false (has_primary primaries (lineuses line))
 
-  pub count-next : (options : List (List Use)) (colours : List (List ℕ)) (line : List ℕ) → use_count (options ++ numbered colours (lineuses line) ∷ []) ≡ use_count options + length (lineuses line)
+  pub count-next : (options : List (List Use)) (colours : List (List ℕ)) (line : List ℕ)
+      → use_count (options ++ numbered colours (lineuses line) ∷ []) ≡ use_count options + length (lineuses line)
   count-next options colours line = count-snoc options (numbered colours (lineuses line)) ∙ ap (λ n. use_count options + n) (numbered-length colours (lineuses line))
 
   -- one line behind the item line, before others with no fault
@@ -389,13 +406,17 @@ module _ (kind : Kind) (entries : List Entry) (primaries : ℕ) where
 abbrev pub P : Row → ℕ
 P row = unwrap_or row.bar (length row.entries)
 
-pub item-line : (kind : Kind) (m : ℕ) (line : List ℕ) → is_skipped line ≡ false → with_line kind m no_stage line ≡ S (row_of kind no_row (parts line)).entries (P (row_of kind no_row (parts line))) [] [] []
+pub item-line : (kind : Kind) (m : ℕ) (line : List ℕ) → is_skipped line ≡ false
+    → with_line kind m no_stage line ≡ S (row_of kind no_row (parts line)).entries
+    (P (row_of kind no_row (parts line))) [] [] []
 item-line kind m line f = ap (λ t. if t then no_stage else S (row_of kind no_row (parts line)).entries (P (row_of kind no_row (parts line))) [] [] []) f
 
 pub no-line : (kind : Kind) (m : ℕ) (line : List ℕ) → is_skipped line ≡ true → with_line kind m no_stage line ≡ no_stage
 no-line kind m line f = ap (λ t. if t then no_stage else S (row_of kind no_row (parts line)).entries (P (row_of kind no_row (parts line))) [] [] []) f
 
-pub lines-good : (kind : Kind) (n : ℕ) (lines : List (List ℕ)) → fault_from kind n no_stage lines ≡ None → (stage_from kind n no_stage lines).started ≡ true → IsSheetFrom kind n lines (stage_from kind n no_stage lines).sheet (stage_from kind n no_stage lines).ignored
+pub lines-good : (kind : Kind) (n : ℕ) (lines : List (List ℕ)) → fault_from kind n no_stage lines ≡ None
+    → (stage_from kind n no_stage lines).started ≡ true → IsSheetFrom kind n lines
+    (stage_from kind n no_stage lines).sheet (stage_from kind n no_stage lines).ignored
 lines-good kind n [] e s = absurd (cc)
 lines-good kind n (line ∷ lines) e s =
     let a = both-none (n + 1) (first (line_checks kind no_stage line)) (fault_from kind (n + 1) (with_line kind (line_number (n + 1)) no_stage line) lines) e in
@@ -415,7 +436,8 @@ lines-good kind n (line ∷ lines) e s =
           (b.0, inr (h.0, behind-items kind (parts line) row.entries (P row) (subst (λ es. ItemsBehind kind [] None (parts line) es (P row)) (sym g.1) g.2), r.4))
     ]
 
-pub good-lines : (kind : Kind) (n : ℕ) (lines : List (List ℕ)) (sheet : Sheet) (ignored : List ℕ) → IsSheetFrom kind n lines sheet ignored
+pub good-lines : (kind : Kind) (n : ℕ) (lines : List (List ℕ)) (sheet : Sheet) (ignored : List ℕ)
+    → IsSheetFrom kind n lines sheet ignored
     → (fault_from kind n no_stage lines ≡ None) × (stage_from kind n no_stage lines ≡ record { started = true; sheet = sheet; ignored = ignored })
 good-lines kind n [] sheet ignored h = absurd h
 good-lines kind n (line ∷ lines) sheet ignored (z, inl (f, r)) =

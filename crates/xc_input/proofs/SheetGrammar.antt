@@ -1,8 +1,10 @@
 -- The grammar line by line, as a text is read: what was read before a line goes on to the next.
-use Rattle.std.specs.Prelude.{◌≡◌, ◌≢◌, ℕ, ◌+◌, ◌≤◌, length, List, [], ◌∷◌, true, false, ◌⊎◌, AllPairs, take, drop}
+use Rattle.std.specs.Prelude.{◌≡◌, ◌≢◌, ℕ, ◌+◌, ◌-◌, ◌≤◌, map, length, List, [], ◌∷◌, true, false, ◌⊎◌, AllPairs, take, drop}
 use Rattle.std.specs.List.{AllZip, before_first, after_first}
 use Rattle.xc_input.specs.declared.kind.Kind.{Kind}
+use Rattle.xc_input.specs.declared.problem.Bounds.{Bounds}
 use Rattle.xc_input.specs.declared.problem.Use.{Use}
+use Rattle.xc_input.specs.Problem.{Puzzle}
 use Rattle.xc_input.specs.Limits.{most_items, most_uses}
 use Rattle.xc_input.specs.Words.{has}
 use Rattle.xc_input.specs.Tokens.{tokens, parts, is_bar, is_skipped}
@@ -11,7 +13,14 @@ use Rattle.xc_input.specs.Named.{Named}
 use Rattle.xc_input.specs.Faults.{Context, has_primary}
 use Rattle.xc_input.specs.FirstFault.{line_number}
 use Rattle.xc_input.specs.Text.{IsEntry, IsUse}
-use Rattle.xc_input.specs.inner.Sheets.{Sheet, names_of, named_of, with_uses}
+use Rattle.xc_input.specs.inner.Sheets.{Sheet, names_of, with_uses}
+
+-- the problem of a sheet
+abbrev pub named_of : Sheet → Named
+named_of s =
+    let bounds : List Bounds = map (λ e. record { low = e.low; high = e.high }) (take s.primaries s.entries) in
+    let puzzle : Puzzle = record { bounds = bounds; secondary = length s.entries - s.primaries; options = s.options } in
+    record { names = names_of s.entries; colours = s.colours; puzzle = puzzle }
 
 -- parts of the item line stand for these items, of which so many are primary
 pub record AreItems (kind : Kind) (parts : List (List ℕ)) (entries : List Entry) (primaries : ℕ) : Type 0 where

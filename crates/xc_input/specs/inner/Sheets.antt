@@ -1,9 +1,6 @@
--- No public clause cites this module. What the lines so far wrote down, and the problem that it is.
-use Rattle.std.specs.Prelude.{ℕ, ◌-◌, length, List, map, take, fold}
-use Rattle.xc_input.specs.declared.problem.Bounds.{Bounds}
+-- No public clause cites this module. What the lines so far wrote down.
+use Rattle.std.specs.Prelude.{ℕ, List, map, fold}
 use Rattle.xc_input.specs.declared.problem.Use.{Use}
-use Rattle.xc_input.specs.Problem.{Puzzle}
-use Rattle.xc_input.specs.Named.{Named}
 use Rattle.xc_input.specs.Sheets.{Entry, Written, with_colour}
 
 -- the items in order, how many of them are primary, the options in file order, and the colours by their numbers, from 1
@@ -16,13 +13,6 @@ pub record Sheet : Type 0 where
 -- the names of items
 abbrev pub names_of : List Entry → List (List ℕ)
 names_of entries = map (λ e. e.name) entries
-
--- the problem of a sheet
-abbrev pub named_of : Sheet → Named
-named_of s =
-    let bounds : List Bounds = map (λ e. record { low = e.low; high = e.high }) (take s.primaries s.entries) in
-    let puzzle : Puzzle = record { bounds = bounds; secondary = length s.entries - s.primaries; options = s.options } in
-    record { names = names_of s.entries; colours = s.colours; puzzle = puzzle }
 
 -- the colours so far and those of the option
 abbrev pub with_uses : List (List ℕ) → List Written → List (List ℕ)

@@ -1,8 +1,7 @@
 -- No public clause cites this module. The lines of a text, one after another: what the reader knows after each, and the
 -- checks of the next one by it.
-use Rattle.std.specs.Prelude.{ℕ, ◌+◌, length, List, [], ◌∷◌, ◌++◌, Bool, true, false, ◌||◌, ◌&&◌, Option, None, Some, not, nat_eq, nat_lt, fold, is_none, is_some, map, unwrap_or, if◌then◌else◌}
+use Rattle.std.specs.Prelude.{ℕ, ◌+◌, length, List, [], ◌∷◌, ◌++◌, Bool, true, false, ◌&&◌, Option, None, Some, not, nat_eq, nat_lt, fold, is_none, is_some, map, unwrap_or, if◌then◌else◌}
 use Prim.Native.Char.{code}
-use Rattle.std.specs.Option.{option_map, option_or}
 use Rattle.std.specs.List.{list_any}
 use Rattle.xc_input.specs.Problem.{use_count}
 use Rattle.xc_input.specs.declared.kind.Kind.{Kind}
@@ -13,7 +12,7 @@ use Rattle.xc_input.specs.Words.{has, before, after, place, number}
 use Rattle.xc_input.specs.Tokens.{tokens, parts, is_bar, is_skipped}
 use Rattle.xc_input.specs.Sheets.{Entry, Written, number_uses}
 use Rattle.xc_input.specs.inner.Sheets.{Sheet, names_of, with_uses}
-use Rattle.xc_input.specs.Faults.{Context, first, is_plain, name_checks, has_prefix, name_of, bound_texts, item_checks, is_bad_colour, has_primary}
+use Rattle.xc_input.specs.Faults.{Context, is_plain, name_checks, has_prefix, name_of, bound_texts, item_checks, is_bad_colour, has_primary}
 use Rattle.xc_input.specs.FirstFault.{line_number}
 
 -- AN ITEM LINE
@@ -22,7 +21,8 @@ use Rattle.xc_input.specs.FirstFault.{line_number}
 abbrev pub entry : Kind → Bool → List ℕ → Entry
 entry kind secondary token = record {
   name = name_of kind token;
-  low = (if has_prefix kind token then number (bound_texts (before (code "|") token)).0 else (if secondary then 0 else 1));
+  low = (if has_prefix kind token then number (bound_texts (before (code "|") token)).0
+      else (if secondary then 0 else 1));
   high = (if has_prefix kind token then number (bound_texts (before (code "|") token)).1 else 1);
 }
 
@@ -137,13 +137,6 @@ with_line kind n stage line =
     (if is_skipped line then stage else
     (if stage.started then with_option n stage (written_by stage.sheet line)
     else record stage { started = true; sheet = with_row stage.sheet (row_of kind no_row (parts line)) }))
-
--- the first fault of lines, behind n lines that gave this
-abbrev pub fault_from : Kind → ℕ → Stage → List (List ℕ) → Option (ℕ × FaultKind)
-fault_from kind n stage [] = None
-fault_from kind n stage (line ∷ lines) =
-    option_or (option_map (λ fault. (line_number (n + 1), fault)) (first (line_checks kind stage line)))
-    (fault_from kind (n + 1) (with_line kind (line_number (n + 1)) stage line) lines)
 
 -- what lines give, behind n lines that gave this
 abbrev pub stage_from : Kind → ℕ → Stage → List (List ℕ) → Stage

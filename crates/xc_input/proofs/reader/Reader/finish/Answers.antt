@@ -12,7 +12,9 @@ pub returns-then-not-builder-clause-refused : goal.returns-then-not-builder-clau
 returns-then-not-builder-clause-refused c = λ u. unstarted _ c.self.inside.kind c.self.inside.given.lines c.self.inside.error (sym c.self.view_is) c.self.invariant.1 c.in_default.is c.self.inside.builder c.self.invariant.2 (not-true _ c.if-not-builder.true)
 
 pub returns-then-not-builder-clause-first : goal.returns-then-not-builder-clause-first
-returns-then-not-builder-clause-first c = no-items _ c.self.inside.kind c.self.inside.given.lines c.self.inside.error (sym c.self.view_is) c.self.invariant.1 c.in_default.is c.self.inside.builder c.self.invariant.2 (not-true _ c.if-not-builder.true) _ _ c.self.invariant.0 c.saturating_add.ensures
+returns-then-not-builder-clause-first c = no-items _ c.self.inside.kind c.self.inside.given.lines c.self.inside.error
+    (sym c.self.view_is) c.self.invariant.1 c.in_default.is c.self.inside.builder c.self.invariant.2
+    (not-true _ c.if-not-builder.true) _ _ c.self.invariant.0 c.saturating_add.ensures
 
 pub new-requires-clause-names : goal.new-requires-clause-names
 new-requires-clause-names c = table-names _ c.self.inside.kind c.self.inside.given.lines c.self.inside.error (sym c.self.view_is) c.self.invariant.1 c.in_default.is c.self.inside.builder c.self.invariant.2
