@@ -13,10 +13,11 @@ use Rattle.xc_input.specs.declared.option_line.WrittenUse.{WrittenUse}
 use Rattle.xc_input.specs.declared.builder.ProblemBuilder.{ProblemBuilder}
 use Rattle.xc_input.specs.Words.{place}
 use Rattle.xc_input.specs.Tokens.{tokens, parts}
-use Rattle.xc_input.specs.Sheets.{names_of, colour_number, with_uses}
-use Rattle.xc_input.specs.Faults.{first, option_checks, has_primary, row_checks, no_row, context, written}
+use Rattle.xc_input.specs.Sheets.{colour_number}
+use Rattle.xc_input.specs.inner.Sheets.{names_of, with_uses}
+use Rattle.xc_input.specs.Faults.{first, has_primary}
+use Rattle.xc_input.specs.inner.Stages.{option_checks, row_checks, no_row, context, written, content_checks, with_option, written_by}
 use Rattle.xc_input.specs.Limits.{most_uses, most_items}
-use Rattle.xc_input.specs.Stages.{content_checks, with_option, written_by}
 use Rattle.xc_input.specs.inner.Builders.{AreMarks, AreNames, IsBuilder, stage_of_builder, sheet_of_builder, written_of, entry_of}
 use Rattle.xc_input.specs.inner.Stored.{key_names}
 use Rattle.xc_input.specs.inner.Flat.{pieces}

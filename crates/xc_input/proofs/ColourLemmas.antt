@@ -6,7 +6,8 @@ use Rattle.std.proofs.lemmas.Slice.Eq.{bytes_eq-Decides}
 use Rattle.std.specs.List.{list_any, position, position_or_len}
 use Rattle.std.specs.Str.{bytes_eq}
 use Rattle.xc_input.specs.Words.{place}
-use Rattle.xc_input.specs.Sheets.{Written, with_colour, with_uses, colour_number}
+use Rattle.xc_input.specs.Sheets.{Written, with_colour, colour_number}
+use Rattle.xc_input.specs.inner.Sheets.{with_uses}
 use Rattle.xc_input.specs.inner.ColourNumbers.{numbered}
 use Rattle.xc_input.proofs.FaultLemmas.{no-place, some-is}
 
@@ -47,7 +48,7 @@ position-stays p xs ys i e =
     ap (λ b. if b then Some (position_or_len p (xs ++ ys)) else None) t ∙ ap Some k
 
 -- a colour is none, or stands here
-abbrev Knows : List (List ℕ) → List ℕ → Type 0
+abbrev pub Knows : List (List ℕ) → List ℕ → Type 0
 Knows cs [] = Unit {0}
 Knows cs (b ∷ bs) = (i : ℕ) × (place cs (b ∷ bs) ≡ Some i)
 
@@ -55,7 +56,7 @@ none-is : {A : Type 0} (o : Option A) → is_none o ≡ true → o ≡ None
 none-is None e = refl
 none-is (Some x) e = absurd (cc)
 
-met : (cs : List (List ℕ)) (c : List ℕ) → Knows (with_colour cs c) c
+pub met : (cs : List (List ℕ)) (c : List ℕ) → Knows (with_colour cs c) c
 met cs [] = tt
 met cs (b ∷ bs) =
     let P : Bool → Type 0 = λ t. is_none (place cs (b ∷ bs)) ≡ t → (i : ℕ) × (place (if t then cs ++ (b ∷ bs) ∷ [] else cs) (b ∷ bs) ≡ Some i) in
@@ -76,7 +77,8 @@ knows-more cs (b ∷ bs) (x ∷ xs) k =
       | false ↦ (k, refl)
     ]) in h
 
-kept : (cs : List (List ℕ)) (us : List Written) (c : List ℕ) → Knows cs c → colour_number (with_uses cs us) c ≡ colour_number cs c
+pub kept : (cs : List (List ℕ)) (us : List Written) (c : List ℕ) → Knows cs c
+    → colour_number (with_uses cs us) c ≡ colour_number cs c
 kept cs [] c k = refl
 kept cs (u ∷ us) c k = let m = knows-more cs u.colour c k in kept (with_colour cs u.colour) us c m.0 ∙ m.1
 

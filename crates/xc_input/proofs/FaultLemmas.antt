@@ -10,8 +10,10 @@ use Rattle.xc_input.specs.declared.fault.FaultKind.TheVariants.{RepeatedName, To
 use Rattle.xc_input.specs.declared.line_error.LineError.{LineError}
 use Rattle.xc_input.specs.declared.line_error.LineError.TheVariants.{Fault, Memory}
 use Rattle.xc_input.specs.Words.{place}
-use Rattle.xc_input.specs.Sheets.{Entry, names_of}
-use Rattle.xc_input.specs.Faults.{first, name_of, name_checks, bound_checks, item_checks, entry, Row, row_checks, row_of, part_checks, with_part}
+use Rattle.xc_input.specs.Sheets.{Entry}
+use Rattle.xc_input.specs.inner.Sheets.{names_of}
+use Rattle.xc_input.specs.Faults.{first, name_of, name_checks, bound_checks, item_checks}
+use Rattle.xc_input.specs.inner.Stages.{entry, Row, row_checks, row_of, part_checks, with_part}
 use Rattle.xc_input.specs.Limits.{most_items}
 use Rattle.xc_input.specs.declared.problem.Item.{Item}
 use Rattle.xc_input.specs.inner.Builders.{Judged, entry_of}

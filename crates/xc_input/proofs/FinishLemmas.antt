@@ -1,12 +1,14 @@
 -- The answer at the end of a text.
-use Rattle.std.proofs.Common.{◌≡◌, ◌≤◌, ℕ, List, Option, None, Some, Bool, true, false, length, map, drop, All, ap, ◌∙◌, sym, subst, arith, MatchOption}
+use Rattle.std.proofs.Common.{◌≡◌, ◌≤◌, ◌+◌, ◌-◌, ◌^◌, min, ℕ, List, Option, None, Some, Bool, true, false, length, map, drop, All, ap, ◌∙◌, sym, subst, arith, MatchOption}
 use Rattle.std.proofs.lemmas.List.{length-map}
 use Rattle.xc_input.specs.declared.kind.Kind.{Kind}
 use Rattle.xc_input.specs.declared.fault.InputError.{InputError}
 use Rattle.xc_input.specs.declared.fault.InputError.TheVariants.{Fault, Device, Memory}
 use Rattle.xc_input.specs.declared.builder.ProblemBuilder.{ProblemBuilder}
-use Rattle.xc_input.specs.Sheets.{named_of}
-use Rattle.xc_input.specs.Stages.{Stage, first_fault, stage_of}
+use Rattle.xc_input.proofs.SheetGrammar.{named_of}
+use Rattle.xc_input.specs.FirstFault.{line_number, first_fault}
+use Rattle.xc_input.specs.declared.fault.FaultKind.TheVariants.{NoItems}
+use Rattle.xc_input.specs.inner.Stages.{Stage, stage_of}
 use Rattle.xc_input.proofs.SheetValidity.{IsSheetOf}
 use Rattle.xc_input.specs.Text.{StandsFor}
 use Rattle.xc_input.specs.Named.{Named, IsSound}
@@ -17,13 +19,16 @@ use Rattle.xc_input.specs.inner.Builders.{IsBuilder, stage_of_builder, sheet_of_
 use Rattle.xc_input.specs.inner.EndedLines.{AreWhole}
 use Rattle.xc_input.specs.Readings.{Reading, IsStateOf, IsFault}
 use Rattle.xc_input.specs.inner.Feeding.{IsEndOf}
-use Rattle.xc_input.proofs.ReadLemmas.{ends-at, end-is, end_fault}
+use Rattle.xc_input.proofs.ReadLemmas.{ends-at, end-is}
 use Rattle.xc_input.proofs.SoundLemmas.{sheet-sound, primaries-within, item-names, named-is, behind-bounds}
 use Rattle.xc_input.proofs.ValidLemmas.{valid}
-use Rattle.xc_input.proofs.LawLemmas.{stands, stands-only}
+use Rattle.xc_input.proofs.LawLemmas.{end_fault}
+use Rattle.xc_input.proofs.FirstFaults.{stands, stands-only}
+use Rattle.xc_input.proofs.Standing.{read-stands}
 
 pub refutes : (kind : Kind) (lines : List (List ℕ)) (e : InputError) → IsEndOf kind lines e → IsFault e → (p : Named) (ig : List ℕ) → StandsFor kind lines p ig → ⊥
-refutes kind lines (Fault n k) h f p ig s = let g : first_fault kind lines ≡ None = (stands-only kind lines s.0 ig s.2).0 in absurd (cc)
+refutes kind lines (Fault n k) h f p ig s = let g : first_fault kind lines ≡ None =
+    (stands-only kind lines p ig s).0 in absurd (cc)
 refutes kind lines Device h f p ig s = f
 refutes kind lines Memory h f p ig s = f
 
@@ -45,23 +50,31 @@ module _ (v : Reading) (kind : Kind) (lines : List (List ℕ)) (o : Option Input
     ended : (b : Bool) → d.started ≡ b → first_fault kind lines ≡ end_fault (length lines) b
     ended b g = end-is kind lines b o f h (sym g ∙ ap (λ (st : Stage). st.started) whole.1)
 
+    pub no-items : d.started ≡ false → (count next : ℕ) → count ≡ line_number (length lines)
+        → next ≡ min (count + 1) (2 ^ 64 - 1) → first_fault v.kind v.lines ≡ Some (next, NoItems)
+    no-items g count next c s =
+        let e : line_number (length lines + 1) ≡ next = omega (arith, c, s) in
+        ap (λ (r : Reading). first_fault r.kind r.lines) is ∙ ended false g ∙ ap (λ m. Some (m, NoItems)) e
+
     pub unstarted : d.started ≡ false → (p : Named) (ig : List ℕ) → StandsFor v.kind v.lines p ig → ⊥
     unstarted g p ig s =
         let a : first_fault kind lines ≡ end_fault (length lines) false = ended false g in
         let t : StandsFor kind lines p ig = subst (λ (r : Reading). StandsFor r.kind r.lines p ig) is s in
-        let b : first_fault kind lines ≡ None = (stands-only kind lines t.0 ig t.2).0 in absurd (cc)
+        let b : first_fault kind lines ≡ None = (stands-only kind lines p ig t).0 in absurd (cc)
 
     written : d.started ≡ true → IsSheetOf kind lines (sheet_of_builder d) d.ignored.items
     written g = subst (λ (st : Stage). IsSheetOf kind lines st.sheet st.ignored) (sym whole.1) (stands kind lines (ended true g))
 
     pub accepts : d.started ≡ true → StandsFor v.kind v.lines (named_by d) d.ignored.items
-    accepts g = subst (λ (r : Reading). StandsFor r.kind r.lines (named_by d) d.ignored.items) (sym is) (sheet_of_builder d, sym (by-builder d), written g)
+    accepts g = subst (λ (r : Reading). StandsFor r.kind r.lines (named_by d) d.ignored.items) (sym is)
+        (read-stands kind lines (named_by d) d.ignored.items (sheet_of_builder d, sym (by-builder d), written g))
 
     pub alone : (p : Named) (ig : List ℕ) → StandsFor v.kind v.lines p ig → (p ≡ named_by d) × (ig ≡ d.ignored.items)
     alone p ig s =
         let t : StandsFor kind lines p ig = subst (λ (r : Reading). StandsFor r.kind r.lines p ig) is s in
-        let q = stands-only kind lines t.0 ig t.2 in
-        (t.1 ∙ ap named_of (q.1 ∙ ap (λ (st : Stage). st.sheet) (sym whole.1)) ∙ by-builder d, q.2 ∙ ap (λ (st : Stage). st.ignored) (sym whole.1))
+        let q = stands-only kind lines p ig t in
+        (q.1 ∙ ap named_of (ap (λ (st : Stage). st.sheet) (sym whole.1)) ∙ by-builder d, q.2
+            ∙ ap (λ (st : Stage). st.ignored) (sym whole.1))
 
     pub table-names : key_names d.names.keys ≡ map (λ x. x.name.items) d.items.items
     table-names = whole.0.names ∙ item-names d.items.items

@@ -7,9 +7,10 @@ use Rattle.std.proofs.lemmas.Bool.{eqb-true}
 use Rattle.xc_input.specs.declared.kind.Kind.{Kind}
 use Rattle.xc_input.specs.declared.fault.FaultKind.{FaultKind}
 use Rattle.xc_input.specs.declared.fault.FaultKind.TheVariants.{EmptyName, NameTooLong, BadByteInName, RepeatedName, BadBound, BoundOrder, BoundOnSecondary, TooManyItems}
-use Rattle.xc_input.specs.Words.{has, before, after, place, is_number, number}
+use Rattle.xc_input.specs.Words.{has, before, after, place, are_digits, number}
 use Rattle.xc_input.specs.Sheets.{Entry}
-use Rattle.xc_input.specs.Faults.{first, is_bounds, name_checks, has_prefix, name_of, prefix_checks, bound_checks, item_checks, entry}
+use Rattle.xc_input.specs.Faults.{first, is_bounds, name_checks, has_prefix, name_of, prefix_checks, bound_checks, item_checks}
+use Rattle.xc_input.specs.inner.Stages.{entry}
 use Rattle.xc_input.specs.Limits.{most_items}
 use Rattle.xc_input.specs.Named.{IsName}
 use Rattle.xc_input.specs.Text.{AreBounds, IsBare, IsBounded, IsEntry}
@@ -114,39 +115,46 @@ digits-no-colon [] e = refl
 digits-no-colon (x ∷ xs) e =
     let a = and-true (is_ascii_digit x) (list_all is_ascii_digit xs) e in or-both (nat_eq x 58) (has 58 xs) (digit-no-colon x a.0) (digits-no-colon xs a.1)
 
-pub number-no-colon : (text : List ℕ) → is_number text ≡ true → has 58 text ≡ false
+pub number-no-colon : (text : List ℕ) → are_digits 9 text ≡ true → has 58 text ≡ false
 number-no-colon text e = digits-no-colon text (and-true (nat_le 1 (length text) && nat_le (length text) 9) (list_all is_ascii_digit text) e).1
 
 -- BOUNDS
-texts : (prefix : List ℕ) → is_number (low_text prefix) ≡ true → is_number (high_text prefix) ≡ true → AreBounds prefix (number (low_text prefix)) (number (high_text prefix))
+texts : (prefix : List ℕ) → are_digits 9 (low_text prefix) ≡ true → are_digits 9 (high_text prefix) ≡ true
+    → AreBounds prefix (number (low_text prefix)) (number (high_text prefix))
 texts prefix e f =
-    let P : Bool → Type 0 = λ t. has 58 prefix ≡ t → is_number (if t then after 58 prefix else prefix) ≡ true → AreBounds prefix (number (low_text prefix)) (number (if t then after 58 prefix else prefix)) in
+    let P : Bool → Type 0 = λ t. has 58 prefix ≡ t → are_digits 9 (if t then after 58 prefix else prefix) ≡ true
+        → AreBounds prefix (number (low_text prefix)) (number (if t then after 58 prefix else prefix)) in
     let h : P (has 58 prefix) = (elim (has 58 prefix) as P [
       | true ↦ λ g k. inr (before 58 prefix, after 58 prefix, (cut-is 58 prefix g).0, e, k, refl, refl)
       | false ↦ λ g k. inl (k, ap number (sym (no-cut 58 prefix g)), refl)
     ]) in h refl f
 
-bounds-are : (prefix : List ℕ) (low high : ℕ) → AreBounds prefix low high → (is_number (low_text prefix) ≡ true) × (is_number (high_text prefix) ≡ true) × (number (low_text prefix) ≡ low) × (number (high_text prefix) ≡ high)
+bounds-are : (prefix : List ℕ) (low high : ℕ) → AreBounds prefix low high
+    → (are_digits 9 (low_text prefix) ≡ true) × (are_digits 9 (high_text prefix) ≡ true)
+    × (number (low_text prefix) ≡ low) × (number (high_text prefix) ≡ high)
 bounds-are prefix low high (inl h) =
     let g : has 58 prefix ≡ false = number-no-colon prefix h.0 in
     let l : low_text prefix ≡ prefix = no-cut 58 prefix g in
     let u : high_text prefix ≡ prefix = ap (λ t. if t then after 58 prefix else prefix) g in
-    (ap is_number l ∙ h.0, ap is_number u ∙ h.0, ap number l ∙ h.1, ap number u ∙ h.2)
+    (ap (are_digits 9) l ∙ h.0, ap (are_digits 9) u ∙ h.0, ap number l ∙ h.1, ap number u ∙ h.2)
 bounds-are prefix low high (inr h) =
     let c : (before 58 (h.0 ++ 58 ∷ h.1) ≡ h.0) × (after 58 (h.0 ++ 58 ∷ h.1) ≡ h.1) × (has 58 (h.0 ++ 58 ∷ h.1) ≡ true) = cut-at 58 h.0 h.1 (number-no-colon h.0 h.3) in
     let l : low_text prefix ≡ h.0 = ap (before 58) h.2 ∙ c.0 in
     let u : high_text prefix ≡ h.1 = ap (λ x. if has 58 x then after 58 x else x) h.2 ∙ ap (λ t. if t then after 58 (h.0 ++ 58 ∷ h.1) else h.0 ++ 58 ∷ h.1) c.2 ∙ c.1 in
-    (ap is_number l ∙ h.3, ap is_number u ∙ h.4, ap number l ∙ h.5, ap number u ∙ h.6)
+    (ap (are_digits 9) l ∙ h.3, ap (are_digits 9) u ∙ h.4, ap number l ∙ h.5, ap number u ∙ h.6)
 
 pub bounds-good : (prefix : List ℕ) (sec : Bool) → first (prefix_checks prefix sec) ≡ None
     → AreBounds prefix (number (low_text prefix)) (number (high_text prefix)) × (1 ≤ number (high_text prefix)) × (number (low_text prefix) ≤ number (high_text prefix)) × (sec ≡ false)
 bounds-good prefix sec e =
     let low : ℕ = number (low_text prefix) in
     let high : ℕ = number (high_text prefix) in
-    let a = head BadBound (not (is_number (low_text prefix) && is_number (high_text prefix))) ((BoundOrder, nat_lt (number (high_text prefix)) 1 || nat_lt (number (high_text prefix)) (number (low_text prefix))) ∷ (BoundOnSecondary, sec) ∷ []) e in
+    let a = head BadBound (not (are_digits 9 (low_text prefix) && are_digits 9 (high_text prefix)))
+        ((BoundOrder, nat_lt (number (high_text prefix)) 1 || nat_lt (number (high_text prefix))
+        (number (low_text prefix))) ∷ (BoundOnSecondary, sec) ∷ []) e in
     let b = head BoundOrder (nat_lt (number (high_text prefix)) 1 || nat_lt (number (high_text prefix)) (number (low_text prefix))) ((BoundOnSecondary, sec) ∷ []) a.1 in
     let c = head BoundOnSecondary sec [] b.1 in
-    let n = and-true (is_number (low_text prefix)) (is_number (high_text prefix)) (not-false (is_number (low_text prefix) && is_number (high_text prefix)) a.0) in
+    let n = and-true (are_digits 9 (low_text prefix)) (are_digits 9 (high_text prefix))
+        (not-false (are_digits 9 (low_text prefix) && are_digits 9 (high_text prefix)) a.0) in
     let o = or-false (nat_lt (number (high_text prefix)) 1) (nat_lt (number (high_text prefix)) (number (low_text prefix))) b.0 in
     let o0 : nat_lt (number (high_text prefix)) 1 ≡ false = o.0 in
     let o1 : nat_lt (number (high_text prefix)) (number (low_text prefix)) ≡ false = o.1 in
@@ -154,13 +162,16 @@ bounds-good prefix sec e =
 
 pub good-bounds : (prefix : List ℕ) (low high : ℕ) → AreBounds prefix low high → 1 ≤ high → low ≤ high → (first (prefix_checks prefix false) ≡ None) × (number (low_text prefix) ≡ low) × (number (high_text prefix) ≡ high)
 good-bounds prefix low high h p q =
-    let n : (is_number (low_text prefix) ≡ true) × (is_number (high_text prefix) ≡ true) × (number (low_text prefix) ≡ low) × (number (high_text prefix) ≡ high) = bounds-are prefix low high h in
+    let n : (are_digits 9 (low_text prefix) ≡ true) × (are_digits 9 (high_text prefix) ≡ true)
+        × (number (low_text prefix) ≡ low) × (number (high_text prefix) ≡ high) = bounds-are prefix low high h in
     let lo : number (low_text prefix) ≡ low = n.2 in
     let hi : number (high_text prefix) ≡ high = n.3 in
     let a : nat_lt (number (high_text prefix)) 1 ≡ false = grind (arith, nat_tests) in
     let b : nat_lt (number (high_text prefix)) (number (low_text prefix)) ≡ false = grind (arith, nat_tests) in (
-      cons BadBound (not (is_number (low_text prefix) && is_number (high_text prefix))) ((BoundOrder, nat_lt (number (high_text prefix)) 1 || nat_lt (number (high_text prefix)) (number (low_text prefix))) ∷ (BoundOnSecondary, false) ∷ [])
-          (ap not (and-both (is_number (low_text prefix)) (is_number (high_text prefix)) n.0 n.1))
+      cons BadBound (not (are_digits 9 (low_text prefix) && are_digits 9 (high_text prefix)))
+          ((BoundOrder, nat_lt (number (high_text prefix)) 1 || nat_lt (number (high_text prefix))
+          (number (low_text prefix))) ∷ (BoundOnSecondary, false) ∷ [])
+          (ap not (and-both (are_digits 9 (low_text prefix)) (are_digits 9 (high_text prefix)) n.0 n.1))
           (cons BoundOrder (nat_lt (number (high_text prefix)) 1 || nat_lt (number (high_text prefix)) (number (low_text prefix))) ((BoundOnSecondary, false) ∷ []) (or-both (nat_lt (number (high_text prefix)) 1) (nat_lt (number (high_text prefix)) (number (low_text prefix))) a b) refl),
       lo,
       hi,

@@ -12,8 +12,10 @@ use Rattle.xc_input.specs.declared.kind.Kind.{Kind}
 use Rattle.xc_input.specs.Limits.{most_items}
 use Rattle.xc_input.specs.Words.{has, place}
 use Rattle.xc_input.specs.Tokens.{is_bar}
-use Rattle.xc_input.specs.Sheets.{Entry, names_of}
-use Rattle.xc_input.specs.Text.{IsEntry, AreItems}
+use Rattle.xc_input.specs.Sheets.{Entry}
+use Rattle.xc_input.specs.inner.Sheets.{names_of}
+use Rattle.xc_input.specs.Text.{IsEntry}
+use Rattle.xc_input.proofs.SheetGrammar.{AreItems}
 use Rattle.xc_input.proofs.SheetValidity.{AllNew}
 use Rattle.xc_input.proofs.FaultLemmas.{no-place}
 use Rattle.xc_input.proofs.GrammarLemmas.{or-false, or-both}

@@ -4,11 +4,15 @@ use Rattle.std.specs.List.{AllZip, before_first, after_first}
 use Rattle.xc_input.specs.declared.kind.Kind.{Kind}
 use Rattle.xc_input.specs.declared.problem.Use.{Use}
 use Rattle.xc_input.specs.Tokens.{tokens, parts, is_bar}
-use Rattle.xc_input.specs.Sheets.{Entry, Sheet, Written, names_of, with_uses}
-use Rattle.xc_input.specs.Faults.{is_plain, is_bounds, context}
+use Rattle.xc_input.specs.Sheets.{Entry, Written}
+use Rattle.xc_input.specs.inner.Sheets.{Sheet, names_of, with_uses}
+use Rattle.xc_input.specs.Faults.{is_plain, is_bounds}
+use Rattle.xc_input.specs.inner.Stages.{context}
 use Rattle.xc_input.specs.Named.{Named}
-use Rattle.xc_input.specs.Text.{IsEntry, AreItems, IsUse, AreOptions, IsSheetFrom, StandsFor}
+use Rattle.xc_input.specs.Text.{IsEntry, IsUse, StandsFor}
+use Rattle.xc_input.proofs.SheetGrammar.{AreItems, AreOptions, IsSheetFrom}
 use Rattle.xc_input.proofs.SheetValidity.{so_far}
+use Rattle.xc_input.proofs.Standing.{read-stands, stands-read}
 
 -- b allows what a allows
 module _ (a b : Kind) (bounds : is_bounds a ≡ true → is_bounds b ≡ true) (colours : is_plain a ≡ false → is_plain b ≡ false) where
@@ -57,4 +61,6 @@ module _ (a b : Kind) (bounds : is_bounds a ≡ true → is_bounds b ≡ true) (
       (z, inr (f, items-also (parts line) sheet.entries sheet.primaries items, options-also (names_of sheet.entries) sheet.primaries (n + 1) 0 [] lines sheet.options ignored sheet.colours r))
 
   pub stands-also : (lines : List (List ℕ)) (named : Named) (ignored : List ℕ) → StandsFor a lines named ignored → StandsFor b lines named ignored
-  stands-also lines named ignored h = (h.0, h.1, sheet-also 0 lines h.0 ignored h.2)
+  stands-also lines named ignored h =
+      let r = stands-read a lines named ignored h in read-stands b lines named ignored
+          (r.0, r.1, sheet-also 0 lines r.0 ignored r.2)

@@ -9,41 +9,62 @@ use Rattle.std.specs.List.{list_any}
 use Rattle.xc_input.specs.Problem.{use_count}
 use Rattle.xc_input.specs.declared.kind.Kind.{Kind}
 use Rattle.xc_input.specs.declared.fault.FaultKind.{FaultKind}
-use Rattle.xc_input.specs.declared.fault.FaultKind.TheVariants.{NulByte, TwoBars, UnknownItem, RepeatedInOption, ColourOnPrimary, BadColour, ColourNotHere, TooManyUses}
+use Rattle.xc_input.specs.declared.fault.FaultKind.TheVariants.{NoItems, NulByte, TwoBars, UnknownItem, RepeatedInOption, ColourOnPrimary, BadColour, ColourNotHere, TooManyUses}
 use Rattle.xc_input.specs.declared.problem.Use.{Use}
 use Rattle.xc_input.specs.Words.{has, before, after, place}
 use Rattle.xc_input.specs.Tokens.{tokens, parts, is_bar, is_skipped}
 use Rattle.std.proofs.lemmas.List.Sums.{sum_by-append}
-use Rattle.xc_input.specs.Sheets.{Entry, Sheet, Written, names_of, with_uses}
-use Rattle.xc_input.specs.Faults.{first, is_plain, name_checks, item_checks, entry, Row, no_row, part_checks, with_part, row_checks, row_of, item_number, is_bad_colour, token_checks, option_checks, written, has_primary, context}
+use Rattle.xc_input.specs.Sheets.{Entry, Written}
+use Rattle.xc_input.specs.inner.Sheets.{Sheet, names_of, with_uses}
+use Rattle.xc_input.specs.Faults.{first, is_plain, name_checks, item_checks, is_bad_colour, has_primary}
+use Rattle.xc_input.specs.inner.Stages.{entry, Row, no_row, part_checks, with_part, row_checks, row_of, item_number, token_checks, option_checks, written, context, Stage, no_stage, content_checks, line_checks, with_option, with_line, stage_from, stage_of}
 use Rattle.xc_input.specs.Limits.{most_uses}
-use Rattle.xc_input.specs.Stages.{Stage, no_stage, content_checks, line_checks, with_option, with_line, line_number, fault_from, stage_from, stage_of, line_fault, first_fault}
-use Rattle.xc_input.proofs.ReadLemmas.{fault_or, end_fault}
+use Rattle.xc_input.specs.FirstFault.{line_number}
 use Rattle.xc_input.specs.Named.{IsName, IsColour}
-use Rattle.xc_input.specs.Text.{IsUse, AreUses, AreOptions, IsSheetFrom}
-use Rattle.xc_input.proofs.SheetValidity.{numbered-length, IsSheetOf, so_far}
+use Rattle.xc_input.specs.Text.{IsUse}
+use Rattle.xc_input.proofs.SheetGrammar.{AreUses, AreOptions, IsSheetFrom}
+use Rattle.xc_input.proofs.SheetValidity.{numbered-length, so_far}
 use Rattle.xc_input.proofs.FaultLemmas.{some-is, first-all, names_of-snoc, names_of-length}
 use Rattle.xc_input.proofs.GrammarLemmas.{split, head, cons, or-false, or-both, and-false, not-false, name-good, good-name, cut-is, no-cut, cut-at, item-good, good-item}
 use Rattle.xc_input.proofs.OptionLemmas.{none-after}
-use Rattle.std.specs.Option.{option_or}
+use Rattle.std.specs.Option.{option_map, option_or}
+
+-- the first fault of lines, behind n lines that gave this
+abbrev pub fault_from : Kind → ℕ → Stage → List (List ℕ) → Option (ℕ × FaultKind)
+fault_from kind n stage [] = None
+fault_from kind n stage (line ∷ lines) =
+    option_or (option_map (λ fault. (line_number (n + 1), fault)) (first (line_checks kind stage line)))
+    (fault_from kind (n + 1) (with_line kind (line_number (n + 1)) stage line) lines)
+
+-- the fault of a text that ends without an item line
+abbrev pub end_fault : ℕ → Bool → Option (ℕ × FaultKind)
+end_fault n started = (if started then None else Some (line_number (n + 1), NoItems))
+
+-- the fault of line n, or else the later one
+abbrev pub fault_or : ℕ → Option FaultKind → Option (ℕ × FaultKind) → Option (ℕ × FaultKind)
+fault_or n fault later = option_or (option_map (λ k. (line_number n, k)) fault) later
 
 -- a step at a bar, and at another part
-abbrev R : List Entry → Option ℕ → Row
+abbrev pub R : List Entry → Option ℕ → Row
 R entries bar = record { entries = entries; bar = bar }
 
-at-bar : (kind : Kind) (entries : List Entry) (bar : Option ℕ) (p : List ℕ) → is_bar p ≡ true → (first (part_checks kind (R entries bar) p) ≡ (if is_some bar then Some TwoBars else None)) × (with_part kind (R entries bar) p ≡ R entries (Some (length entries)))
+pub at-bar : (kind : Kind) (entries : List Entry) (bar : Option ℕ) (p : List ℕ) → is_bar p ≡ true
+    → (first (part_checks kind (R entries bar) p) ≡ (if is_some bar then Some TwoBars else None))
+    × (with_part kind (R entries bar) p ≡ R entries (Some (length entries)))
 at-bar kind entries bar p e = (
   ap (λ t. first (if t then (TwoBars, is_some bar) ∷ [] else item_checks kind (names_of entries) (is_some bar) p)) e,
   ap (λ t. if t then R entries (Some (length entries)) else R (entries ++ entry kind (is_some bar) p ∷ []) bar) e,
 )
 
-at-word : (kind : Kind) (entries : List Entry) (bar : Option ℕ) (p : List ℕ) → is_bar p ≡ false → (first (part_checks kind (R entries bar) p) ≡ first (item_checks kind (names_of entries) (is_some bar) p)) × (with_part kind (R entries bar) p ≡ R (entries ++ entry kind (is_some bar) p ∷ []) bar)
+pub at-word : (kind : Kind) (entries : List Entry) (bar : Option ℕ) (p : List ℕ) → is_bar p ≡ false
+    → (first (part_checks kind (R entries bar) p) ≡ first (item_checks kind (names_of entries) (is_some bar) p))
+    × (with_part kind (R entries bar) p ≡ R (entries ++ entry kind (is_some bar) p ∷ []) bar)
 at-word kind entries bar p e = (
   ap (λ t. first (if t then (TwoBars, is_some bar) ∷ [] else item_checks kind (names_of entries) (is_some bar) p)) e,
   ap (λ t. if t then R entries (Some (length entries)) else R (entries ++ entry kind (is_some bar) p ∷ []) bar) e,
 )
 
-abbrev IsRead : Kind → List Entry → Option ℕ → List (List ℕ) → Row → Type 0
+abbrev pub IsRead : Kind → List Entry → Option ℕ → List (List ℕ) → Row → Type 0
 IsRead kind entries bar ps row = (es : List Entry) × (row.entries ≡ entries ++ es) × ItemsBehind kind (names_of entries) bar ps es (unwrap_or row.bar (length row.entries))
 
 two-bars : (bar : Option ℕ) → (if is_some bar then Some TwoBars else None) ≡ None → bar ≡ None
@@ -194,7 +215,7 @@ good-uses kind names primaries seen (t ∷ ts) us h =
     (h.2 ∙ (λ i. g.0 i ∷ r.0 i), first-all (token_checks (context kind names primaries) seen t) (option_checks (context kind names primaries) (seen ++ item_number names (before 58 t) ∷ []) ts) g.1 r.1)
 
 -- THE LINES
-abbrev S : List Entry → ℕ → List (List Use) → List (List ℕ) → List ℕ → Stage
+abbrev pub S : List Entry → ℕ → List (List Use) → List (List ℕ) → List ℕ → Stage
 S entries primaries options colours ignored = record { started = true; sheet = record { entries = entries; primaries = primaries; options = options; colours = colours }; ignored = ignored }
 
 both-none : (n : ℕ) (k : Option FaultKind) (later : Option (ℕ × FaultKind)) → fault_or n k later ≡ None → (k ≡ None) × (later ≡ None)
@@ -208,10 +229,11 @@ count-snoc : (os : List (List Use)) (o : List Use) → use_count (os ++ o ∷ []
 count-snoc os o = let split : use_count (os ++ o ∷ []) ≡ use_count os + (0 + length o) = sum_by-append (λ us. length us) os (o ∷ []) in omega (arith, split)
 
 -- a line with no fault
-abbrev IsClear : Kind → Stage → List ℕ → Type 0
+abbrev pub IsClear : Kind → Stage → List ℕ → Type 0
 IsClear kind stage line = (has 0 line ≡ false) × ((is_skipped line ≡ true) ⊎ ((is_skipped line ≡ false) × (first (content_checks kind stage line) ≡ None)))
 
-clear : (kind : Kind) (stage : Stage) (line : List ℕ) → first (line_checks kind stage line) ≡ None → IsClear kind stage line
+pub clear : (kind : Kind) (stage : Stage) (line : List ℕ) → first (line_checks kind stage line) ≡ None
+    → IsClear kind stage line
 clear kind stage line e =
     let a = head NulByte (has 0 line) (if is_skipped line then [] else content_checks kind stage line) e in
     let P : Bool → Type 0 = λ t. is_skipped line ≡ t → first (if t then [] else content_checks kind stage line) ≡ None → (is_skipped line ≡ true) ⊎ ((is_skipped line ≡ false) × (first (content_checks kind stage line) ≡ None)) in
@@ -224,24 +246,28 @@ content-clear : (kind : Kind) (stage : Stage) (line : List ℕ) → has 0 line �
 content-clear kind stage line e f g = cons NulByte (has 0 line) (if is_skipped line then [] else content_checks kind stage line) e (ap (λ t. first (if t then [] else content_checks kind stage line)) f ∙ g)
 
 module _ (kind : Kind) (entries : List Entry) (primaries : ℕ) where
-  abbrev names : List (List ℕ)
+  abbrev pub names : List (List ℕ)
   names = names_of entries
 
-  abbrev lineuses : List ℕ → List Written
+  abbrev pub lineuses : List ℕ → List Written
   lineuses line = map (written names) (tokens line)
 
   abbrev whole : List (List Use) → List ℕ → List (FaultKind × Bool)
   whole options line = (TooManyUses, has_primary primaries (lineuses line) && nat_lt most_uses (use_count options + length (tokens line))) ∷ []
 
-  skips : (m : ℕ) (options : List (List Use)) (colours : List (List ℕ)) (ignored : List ℕ) (line : List ℕ) → is_skipped line ≡ true → with_line kind m (S entries primaries options colours ignored) line ≡ S entries primaries options colours ignored
+  pub skips : (m : ℕ) (options : List (List Use)) (colours : List (List ℕ)) (ignored : List ℕ) (line : List ℕ)
+      → is_skipped line ≡ true → with_line kind m (S entries primaries options colours ignored) line
+      ≡ S entries primaries options colours ignored
   skips m options colours ignored line f = ap (λ t. if t then S entries primaries options colours ignored else with_option m (S entries primaries options colours ignored) (lineuses line)) f
 
-  keeps : (m : ℕ) (options : List (List Use)) (colours : List (List ℕ)) (ignored : List ℕ) (line : List ℕ) → is_skipped line ≡ false → has_primary primaries (lineuses line) ≡ true
+  pub keeps : (m : ℕ) (options : List (List Use)) (colours : List (List ℕ)) (ignored : List ℕ) (line : List ℕ)
+      → is_skipped line ≡ false → has_primary primaries (lineuses line) ≡ true
       → with_line kind m (S entries primaries options colours ignored) line ≡ S entries primaries (options ++ numbered colours (lineuses line) ∷ []) (with_uses colours (lineuses line)) ignored
   keeps m options colours ignored line f g = ap (λ t. if t then S entries primaries options colours ignored else with_option m (S entries primaries options colours ignored) (lineuses line)) f
       ∙ ap (λ t. if t then S entries primaries (options ++ numbered colours (lineuses line) ∷ []) (with_uses colours (lineuses line)) ignored else S entries primaries options colours (ignored ++ m ∷ [])) g
 
-  drops : (m : ℕ) (options : List (List Use)) (colours : List (List ℕ)) (ignored : List ℕ) (line : List ℕ) → is_skipped line ≡ false → has_primary primaries (lineuses line) ≡ false
+  pub drops : (m : ℕ) (options : List (List Use)) (colours : List (List ℕ)) (ignored : List ℕ) (line : List ℕ)
+      → is_skipped line ≡ false → has_primary primaries (lineuses line) ≡ false
       → with_line kind m (S entries primaries options colours ignored) line ≡ S entries primaries options colours (ignored ++ m ∷ [])
   drops m options colours ignored line f g = ap (λ t. if t then S entries primaries options colours ignored else with_option m (S entries primaries options colours ignored) (lineuses line)) f
       ∙ ap (λ t. if t then S entries primaries (options ++ numbered colours (lineuses line) ∷ []) (with_uses colours (lineuses line)) ignored else S entries primaries options colours (ignored ++ m ∷ [])) g
@@ -261,7 +287,8 @@ module _ (kind : Kind) (entries : List Entry) (primaries : ℕ) where
       let g : nat_lt most_uses (use_count options + length (tokens line)) ≡ false = grind (arith, nat_tests) in
       ap (λ t. has_primary primaries (lineuses line) && t) g ∙ and-false (has_primary primaries (lineuses line))
 
-  count-next : (options : List (List Use)) (colours : List (List ℕ)) (line : List ℕ) → use_count (options ++ numbered colours (lineuses line) ∷ []) ≡ use_count options + length (lineuses line)
+  pub count-next : (options : List (List Use)) (colours : List (List ℕ)) (line : List ℕ)
+      → use_count (options ++ numbered colours (lineuses line) ∷ []) ≡ use_count options + length (lineuses line)
   count-next options colours line = count-snoc options (numbered colours (lineuses line)) ∙ ap (λ n. use_count options + n) (numbered-length colours (lineuses line))
 
   -- one line behind the item line, before others with no fault
@@ -376,16 +403,20 @@ module _ (kind : Kind) (entries : List Entry) (primaries : ℕ) where
       )
 
 -- THE WHOLE TEXT
-abbrev P : Row → ℕ
+abbrev pub P : Row → ℕ
 P row = unwrap_or row.bar (length row.entries)
 
-item-line : (kind : Kind) (m : ℕ) (line : List ℕ) → is_skipped line ≡ false → with_line kind m no_stage line ≡ S (row_of kind no_row (parts line)).entries (P (row_of kind no_row (parts line))) [] [] []
+pub item-line : (kind : Kind) (m : ℕ) (line : List ℕ) → is_skipped line ≡ false
+    → with_line kind m no_stage line ≡ S (row_of kind no_row (parts line)).entries
+    (P (row_of kind no_row (parts line))) [] [] []
 item-line kind m line f = ap (λ t. if t then no_stage else S (row_of kind no_row (parts line)).entries (P (row_of kind no_row (parts line))) [] [] []) f
 
-no-line : (kind : Kind) (m : ℕ) (line : List ℕ) → is_skipped line ≡ true → with_line kind m no_stage line ≡ no_stage
+pub no-line : (kind : Kind) (m : ℕ) (line : List ℕ) → is_skipped line ≡ true → with_line kind m no_stage line ≡ no_stage
 no-line kind m line f = ap (λ t. if t then no_stage else S (row_of kind no_row (parts line)).entries (P (row_of kind no_row (parts line))) [] [] []) f
 
-lines-good : (kind : Kind) (n : ℕ) (lines : List (List ℕ)) → fault_from kind n no_stage lines ≡ None → (stage_from kind n no_stage lines).started ≡ true → IsSheetFrom kind n lines (stage_from kind n no_stage lines).sheet (stage_from kind n no_stage lines).ignored
+pub lines-good : (kind : Kind) (n : ℕ) (lines : List (List ℕ)) → fault_from kind n no_stage lines ≡ None
+    → (stage_from kind n no_stage lines).started ≡ true → IsSheetFrom kind n lines
+    (stage_from kind n no_stage lines).sheet (stage_from kind n no_stage lines).ignored
 lines-good kind n [] e s = absurd (cc)
 lines-good kind n (line ∷ lines) e s =
     let a = both-none (n + 1) (first (line_checks kind no_stage line)) (fault_from kind (n + 1) (with_line kind (line_number (n + 1)) no_stage line) lines) e in
@@ -405,7 +436,8 @@ lines-good kind n (line ∷ lines) e s =
           (b.0, inr (h.0, behind-items kind (parts line) row.entries (P row) (subst (λ es. ItemsBehind kind [] None (parts line) es (P row)) (sym g.1) g.2), r.4))
     ]
 
-good-lines : (kind : Kind) (n : ℕ) (lines : List (List ℕ)) (sheet : Sheet) (ignored : List ℕ) → IsSheetFrom kind n lines sheet ignored
+pub good-lines : (kind : Kind) (n : ℕ) (lines : List (List ℕ)) (sheet : Sheet) (ignored : List ℕ)
+    → IsSheetFrom kind n lines sheet ignored
     → (fault_from kind n no_stage lines ≡ None) × (stage_from kind n no_stage lines ≡ record { started = true; sheet = sheet; ignored = ignored })
 good-lines kind n [] sheet ignored h = absurd h
 good-lines kind n (line ∷ lines) sheet ignored (z, inl (f, r)) =
@@ -420,28 +452,4 @@ good-lines kind n (line ∷ lines) sheet ignored (z, inr (f, items, r)) =
     let q = good-options kind sheet.entries sheet.primaries [] [] [] (n + 1) lines sheet.options ignored sheet.colours r in (
       none-both (n + 1) (first (line_checks kind no_stage line)) (fault_from kind (n + 1) (with_line kind (line_number (n + 1)) no_stage line) lines) (content-clear kind no_stage line z f g.0) (ap (λ st. fault_from kind (n + 1) st lines) w ∙ q.0),
       ap (λ st. stage_from kind (n + 1) st lines) w ∙ q.1,
-    )
-
-end-none : (n : ℕ) (b : Bool) → end_fault n b ≡ None → b ≡ true
-end-none n true e = refl
-end-none n false e = absurd (cc)
-
-or-none : (o p : Option (ℕ × FaultKind)) → option_or o p ≡ None → (o ≡ None) × (p ≡ None)
-or-none None p e = (refl, e)
-or-none (Some q) p e = absurd (cc)
-
--- a text with no fault stands for what its lines give
-pub stands : (kind : Kind) (lines : List (List ℕ)) → first_fault kind lines ≡ None → IsSheetOf kind lines (stage_of kind lines).sheet (stage_of kind lines).ignored
-stands kind lines e =
-    let a = or-none (line_fault kind lines) (end_fault (length lines) (stage_of kind lines).started) e in
-    lines-good kind 0 lines a.0 (end-none (length lines) (stage_of kind lines).started a.1)
-
--- a text that stands for a problem has no fault, and this is what its lines give
-pub stands-only : (kind : Kind) (lines : List (List ℕ)) (sheet : Sheet) (ignored : List ℕ) → IsSheetOf kind lines sheet ignored
-    → (first_fault kind lines ≡ None) × (sheet ≡ (stage_of kind lines).sheet) × (ignored ≡ (stage_of kind lines).ignored)
-stands-only kind lines sheet ignored h =
-    let g = good-lines kind 0 lines sheet ignored h in (
-      ap (λ o. option_or o (end_fault (length lines) (stage_of kind lines).started)) g.0 ∙ ap (end_fault (length lines)) (ap (λ (st : Stage). st.started) g.1),
-      sym (ap (λ (st : Stage). st.sheet) g.1),
-      sym (ap (λ (st : Stage). st.ignored) g.1),
     )

@@ -26,3 +26,6 @@ pub mod UseLemmas
 pub mod ItemLemmas
 pub mod ColourLemmas
 pub mod NumberedOptions
+pub mod FirstFaults
+pub mod SheetGrammar
+pub mod Standing

@@ -8,13 +8,12 @@ use Rattle.xc_input.specs.declared.kind.Kind.{Kind}
 use Rattle.xc_input.specs.declared.fault.InputError.{InputError}
 use Rattle.xc_input.specs.declared.fault.InputError.TheVariants.{Fault, Device, Memory}
 use Rattle.xc_input.specs.Words.{has, before, after}
-use Rattle.xc_input.specs.Stages.{no_stage}
 use Rattle.xc_input.specs.Readings.{Reading, IsStateOf}
 use Rattle.xc_input.specs.inner.Feeding.{IsErrorOf, fed, IsBetween, Spoils, Ended}
 use Rattle.xc_input.specs.Lines.{lines_of}
 use Rattle.xc_input.specs.inner.EndedLines.{ended, AreWhole}
 use Rattle.xc_input.proofs.GrammarLemmas.{or-false, or-both, cut-is}
-use Rattle.xc_input.proofs.ReadLemmas.{fault-stays}
+use Rattle.xc_input.proofs.ReadLemmas.{line-stays}
 
 pub lacks-append : (b : ℕ) (xs ys : List ℕ) → has b xs ≡ false → has b ys ≡ false → has b (xs ++ ys) ≡ false
 lacks-append b xs ys p q = list_any-append (λ x. nat_eq x b) xs ys ∙ or-both (has b xs) (has b ys) p q
@@ -72,7 +71,7 @@ lines_of-part (x ∷ y ∷ l) h p = let apart = or-false (nat_eq x 10) (has 10 (
 
 -- an error of some lines is that of all
 IsErrorOf-more : (kind : Kind) (ls ms : List (List ℕ)) (e : InputError) → IsErrorOf kind ls e → IsErrorOf kind (ls ++ ms) e
-IsErrorOf-more kind ls ms (Fault n k) h = fault-stays kind 0 no_stage ls ms (n, k) h
+IsErrorOf-more kind ls ms (Fault n k) h = line-stays kind ls ms (n, k) h
 IsErrorOf-more kind ls ms Device h = h
 IsErrorOf-more kind ls ms Memory h = tt
 

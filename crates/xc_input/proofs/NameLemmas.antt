@@ -15,12 +15,14 @@ use Rattle.std.proofs.lemmas.Slice.Eq.{bytes_eq-Decides}
 use Rattle.std.specs.Str.{bytes_eq}
 use Rattle.xc_input.specs.declared.fault.FaultKind.{FaultKind}
 use Rattle.xc_input.specs.declared.kind.Kind.{Kind}
-use Rattle.xc_input.specs.Words.{place, number_in, after}
+use Rattle.xc_input.specs.Words.{place, after}
+use Rattle.xc_input.specs.inner.Stored.{number_in}
 use Rattle.xc_input.specs.Tokens.{is_space}
 use Rattle.xc_input.specs.Sheets.{Entry}
 use Rattle.xc_input.specs.inner.Builders.{AreNames}
 use Rattle.xc_input.specs.inner.Stored.{key_names}
-use Rattle.xc_input.specs.Faults.{first, name_checks, has_prefix, entry}
+use Rattle.xc_input.specs.Faults.{first, name_checks, has_prefix}
+use Rattle.xc_input.specs.inner.Stages.{entry}
 use Rattle.xc_input.specs.Named.{IsName}
 use Rattle.xc_input.proofs.GrammarLemmas.{name-good, or-false}
 use Rattle.xc_input.proofs.FaultLemmas.{no-place}

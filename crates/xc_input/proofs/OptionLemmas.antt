@@ -8,7 +8,8 @@ use Rattle.xc_input.specs.declared.fault.FaultKind.TheVariants.{UnknownItem, Rep
 use Rattle.xc_input.specs.declared.option_line.WrittenUse.{WrittenUse}
 use Rattle.xc_input.specs.Words.{has, before, after, place}
 use Rattle.xc_input.specs.Sheets.{Written}
-use Rattle.xc_input.specs.Faults.{first, is_plain, is_bad_colour, name_checks, token_checks, option_checks, item_number, written, context}
+use Rattle.xc_input.specs.Faults.{first, is_plain, is_bad_colour, name_checks}
+use Rattle.xc_input.specs.inner.Stages.{token_checks, option_checks, item_number, written, context}
 use Rattle.xc_input.specs.inner.Builders.{written_of, items_of}
 use Rattle.xc_input.specs.Named.{IsName}
 use Rattle.xc_input.proofs.FaultLemmas.{first-front, first-back, map-snoc}

@@ -1,7 +1,7 @@
 -- What a source gave, piece after piece.
 use Rattle.std.proofs.Common.{◌≡◌, ℕ, ◌<◌, List, [], ◌∷◌, ◌++◌, Option, None, Some, Result, Ok, Err, IfSome, IfOk, IfErr, length, take, refl, sym, ap, subst, ◌∙◌, append_assoc, append-nil, arith, inl, inr}
 use Rattle.xc_input.proofs.LineLemmas.{lines_of-all, last-of-part}
-use Rattle.xc_input.specs.Stages.{line_fault}
+use Rattle.xc_input.specs.FirstFault.{line_fault}
 use Rattle.xc_input.specs.inner.EndedLines.{ended}
 use Rattle.std.specs.Prelude.{All}
 use Rattle.std.specs.Result.{result_err}

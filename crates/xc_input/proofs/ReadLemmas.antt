@@ -1,6 +1,5 @@
 -- The first fault of lines and one more.
 use Rattle.std.proofs.Common.{◌≡◌, ℕ, ◌+◌, ◌-◌, ◌^◌, List, [], ◌∷◌, ◌++◌, Option, None, Some, Err, Bool, length, refl, ap, ◌∙◌, sym, subst, arith, min, MatchOption, if◌then◌else◌}
-use Rattle.xc_input.specs.declared.fault.FaultKind.TheVariants.{NoItems}
 use Rattle.std.proofs.lemmas.Grind.{common_steps}
 use Rattle.xc_input.specs.declared.kind.Kind.{Kind}
 use Rattle.xc_input.specs.declared.fault.FaultKind.{FaultKind}
@@ -10,26 +9,25 @@ use Rattle.xc_input.specs.declared.line_error.LineError.{LineError}
 use Rattle.xc_input.specs.declared.line_error.LineError.TheVariants.{Fault as Bad, Memory as NoMemory}
 use Rattle.xc_input.specs.declared.builder.ProblemBuilder.{ProblemBuilder}
 use Rattle.xc_input.specs.Faults.{first}
-use Rattle.xc_input.specs.Stages.{Stage, line_checks, with_line, line_number, fault_from, stage_from, line_fault, stage_of, no_stage, first_fault}
+use Rattle.xc_input.specs.FirstFault.{line_number, line_fault, first_fault}
+use Rattle.xc_input.specs.inner.Stages.{Stage, line_checks, with_line, stage_from, stage_of, no_stage}
 use Rattle.xc_input.specs.inner.Builders.{Judged, IsBuilder, stage_of_builder, error_at}
 use Rattle.xc_input.specs.Readings.{IsStateOf}
 use Rattle.xc_input.specs.inner.Feeding.{IsErrorOf, IsEndOf}
-use Rattle.std.specs.Option.{option_map, option_or}
-
--- the fault of a text that ends without an item line
-abbrev pub end_fault : ℕ → Bool → Option (ℕ × FaultKind)
-end_fault n started = (if started then None else Some (line_number (n + 1), NoItems))
-
--- the fault of line n, or else the later one
-abbrev pub fault_or : ℕ → Option FaultKind → Option (ℕ × FaultKind) → Option (ℕ × FaultKind)
-fault_or n fault later = option_or (option_map (λ k. (line_number n, k)) fault) later
+use Rattle.std.specs.Option.{option_or}
+use Rattle.std.specs.List.{list_all}
+use Rattle.xc_input.specs.declared.fault.FaultKind.TheVariants.{NoItems}
+use Rattle.xc_input.specs.Tokens.{is_skipped}
+use Rattle.xc_input.proofs.LawLemmas.{fault_from, fault_or, end_fault}
+use Rattle.xc_input.proofs.FirstFaults.{line_fault-is, first_fault-is}
 
 -- a fault stays the first one, whatever follows
 fault_or-stays : (n : ℕ) (k : Option FaultKind) (a b : Option (ℕ × FaultKind)) (p : ℕ × FaultKind) → (a ≡ Some p → b ≡ Some p) → fault_or n k a ≡ Some p → fault_or n k b ≡ Some p
 fault_or-stays n None a b p h e = h e
 fault_or-stays n (Some k) a b p h e = e
 
-pub fault-stays : (kind : Kind) (n : ℕ) (stage : Stage) (lines more : List (List ℕ)) (p : ℕ × FaultKind) → fault_from kind n stage lines ≡ Some p → fault_from kind n stage (lines ++ more) ≡ Some p
+fault-stays : (kind : Kind) (n : ℕ) (stage : Stage) (lines more : List (List ℕ)) (p : ℕ × FaultKind)
+    → fault_from kind n stage lines ≡ Some p → fault_from kind n stage (lines ++ more) ≡ Some p
 fault-stays kind n stage [] more p e = absurd (cc)
 fault-stays kind n stage (line ∷ lines) more p e =
     fault_or-stays (n + 1) (first (line_checks kind stage line)) _ _ p (fault-stays kind (n + 1) (with_line kind (line_number (n + 1)) stage line) lines more p) e
@@ -56,8 +54,14 @@ stage-snoc kind n stage (l ∷ lines) line =
     let num : (n + 1) + length (lines ++ line ∷ []) ≡ n + length ((l ∷ lines) ++ line ∷ []) = omega arith in
     stage-snoc kind (n + 1) next lines line ∙ ap (λ m. with_line kind (line_number m) (stage_from kind (n + 1) next lines) line) num
 
+-- and so does the first fault of lines
+pub line-stays : (kind : Kind) (lines more : List (List ℕ)) (p : ℕ × FaultKind) → line_fault kind lines ≡ Some p
+    → line_fault kind (lines ++ more) ≡ Some p
+line-stays kind lines more p h = line_fault-is kind (lines ++ more)
+    ∙ fault-stays kind 0 no_stage lines more p (sym (line_fault-is kind lines) ∙ h)
+
 IsErrorOf-stays : (kind : Kind) (lines : List (List ℕ)) (line : List ℕ) (e : InputError) → IsErrorOf kind lines e → IsErrorOf kind (lines ++ line ∷ []) e
-IsErrorOf-stays kind lines line (Fault n k) h = fault-stays kind 0 no_stage lines (line ∷ []) (n, k) h
+IsErrorOf-stays kind lines line (Fault n k) h = line-stays kind lines (line ∷ []) (n, k) h
 IsErrorOf-stays kind lines line Device h = h
 IsErrorOf-stays kind lines line Memory h = tt
 
@@ -78,7 +82,8 @@ module _ (kind : Kind) (old new : List (List ℕ)) (line : List ℕ) (f : new �
   fault-is : line_fault kind new ≡ fault_or (length new) (first (line_checks kind (stage_of_builder d) line)) None
   fault-is =
       let num : 0 + length (old ++ line ∷ []) ≡ length new = omega (arith, ap length f) in
-      ap (line_fault kind) f ∙ next-fault kind 0 no_stage old line (subst (IsStateOf kind old) g h)
+      ap (line_fault kind) f ∙ line_fault-is kind (old ++ line ∷ [])
+          ∙ next-fault kind 0 no_stage old line (sym (line_fault-is kind old) ∙ subst (IsStateOf kind old) g h)
       ∙ ap (λ m. fault_or m (first (line_checks kind (stage_of kind old) line)) None) num ∙ ap (λ st. fault_or (length new) (first (line_checks kind st line)) None) (sym sound.1)
 
   pub fails : (count : ℕ) (e : LineError) (T : Type 0) → count ≡ line_number (length new) → Judged {T = T} (first (line_checks kind (stage_of_builder d) line)) (Err e) → IsErrorOf kind new (error_at count e)
@@ -97,10 +102,19 @@ module _ (kind : Kind) (old new : List (List ℕ)) (line : List ℕ) (f : new �
       )
 
 -- the end of the text
+pub fault-ends : (kind : Kind) (lines : List (List ℕ)) (p : ℕ × FaultKind) → line_fault kind lines ≡ Some p
+    → first_fault kind lines ≡ Some p
+fault-ends kind lines p h =
+    ap (λ q. option_or q (if list_all is_skipped lines then Some (line_number (length lines + 1), NoItems) else None)) h
+
 pub ends-at : (kind : Kind) (lines : List (List ℕ)) (o : Option InputError) (e : InputError) → o ≡ Some e → IsStateOf kind lines o → IsEndOf kind lines e
-ends-at kind lines o (Fault n k) f h = let g : line_fault kind lines ≡ Some (n, k) = subst (IsStateOf kind lines) f h in ap (λ q. option_or q (end_fault (length lines) (stage_of kind lines).started)) g
+ends-at kind lines o (Fault n k) f h = fault-ends kind lines (n, k) (subst (IsStateOf kind lines) f h)
 ends-at kind lines o Device f h = subst (IsStateOf kind lines) f h
 ends-at kind lines o Memory f h = tt
 
 pub end-is : (kind : Kind) (lines : List (List ℕ)) (b : Bool) (o : Option InputError) → o ≡ None → IsStateOf kind lines o → b ≡ (stage_of kind lines).started → first_fault kind lines ≡ end_fault (length lines) b
-end-is kind lines b o f h s = let g : line_fault kind lines ≡ None = subst (IsStateOf kind lines) f h in ap (λ q. option_or q (end_fault (length lines) (stage_of kind lines).started)) g ∙ ap (end_fault (length lines)) (sym s)
+end-is kind lines b o f h s =
+    let g : fault_from kind 0 no_stage lines ≡ None = sym (line_fault-is kind lines)
+        ∙ subst (IsStateOf kind lines) f h in
+    first_fault-is kind lines ∙ ap (λ q. option_or q (end_fault (length lines) (stage_of kind lines).started)) g
+        ∙ ap (end_fault (length lines)) (sym s)

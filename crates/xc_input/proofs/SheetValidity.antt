@@ -6,9 +6,10 @@ use Rattle.std.specs.List.{list_any}
 use Rattle.xc_input.specs.Problem.{use_count}
 use Rattle.xc_input.specs.declared.kind.Kind.{Kind}
 use Rattle.xc_input.specs.declared.problem.Use.{Use}
-use Rattle.xc_input.specs.Text.{SoFar, IsSheetFrom}
+use Rattle.xc_input.proofs.SheetGrammar.{SoFar, IsSheetFrom}
 use Rattle.xc_input.specs.Words.{place}
-use Rattle.xc_input.specs.Sheets.{Entry, Sheet, Written, names_of, with_uses, colour_number}
+use Rattle.xc_input.specs.Sheets.{Entry, Written, colour_number}
+use Rattle.xc_input.specs.inner.Sheets.{Sheet, names_of, with_uses}
 use Rattle.xc_input.specs.Named.{IsName}
 use Rattle.xc_input.specs.Limits.{most_items, most_uses, greatest_bound}
 

@@ -17,16 +17,18 @@ use Rattle.xc_input.specs.inner.Vectors.{IsOptional}
 use Rattle.xc_input.specs.Named.{IsName, IsColour, IsSound}
 use Rattle.xc_input.specs.Words.{place}
 use Rattle.xc_input.specs.Tokens.{tokens}
-use Rattle.xc_input.specs.Sheets.{Entry, Sheet, Written, names_of, named_of, with_colour, with_uses}
+use Rattle.xc_input.specs.Sheets.{Entry, Written, with_colour}
+use Rattle.xc_input.specs.inner.Sheets.{Sheet, names_of, with_uses}
+use Rattle.xc_input.proofs.SheetGrammar.{AreOptions, IsSheetFrom, named_of}
 use Rattle.xc_input.specs.inner.Builders.{entry_of}
-use Rattle.xc_input.specs.Text.{IsUse, AreOptions, IsSheetFrom}
+use Rattle.xc_input.specs.Text.{IsUse}
 use Rattle.xc_input.proofs.SheetValidity.{IsSheetOf, HaveBounds, AreWithin, AreFresh, UsesPrimary, AreValid, HaveNames, so_far}
 use Rattle.xc_input.proofs.FaultLemmas.{names_of-length}
 use Rattle.xc_input.proofs.GrammarLemmas.{or-false}
 use Rattle.xc_input.specs.inner.EndedLines.{AreWhole}
 use Rattle.xc_input.proofs.UnbrokenLemmas.{unbroken}
 use Rattle.xc_input.proofs.ValidLemmas.{valid}
-use Rattle.xc_input.specs.Faults.{context}
+use Rattle.xc_input.specs.inner.Stages.{context}
 
 -- DISTINCT
 no-pairs : {X : Type 0} (R : X → X → Type 0) → AllPairs R []

@@ -1,17 +1,15 @@
 -- What the end of a source says of its text.
 use Rattle.std.proofs.Common.{◌≡◌, ℕ, ◌<◌, List, [], ◌∷◌, ◌++◌, Result, Err, length, sym, ap, ◌∙◌, subst, append-nil}
-use Rattle.xc_input.proofs.ReadLemmas.{end_fault}
+use Rattle.xc_input.proofs.ReadLemmas.{fault-ends}
 use Rattle.xc_input.specs.declared.kind.Kind.{Kind}
 use Rattle.xc_input.specs.declared.fault.InputError.{InputError}
 use Rattle.xc_input.specs.declared.fault.InputError.TheVariants.{Fault, Device, Memory}
 use Rattle.xc_input.specs.declared.reader.Read.{Read}
-use Rattle.xc_input.specs.Stages.{stage_of}
 use Rattle.xc_input.specs.Readings.{Reading}
 use Rattle.xc_input.specs.inner.Feeding.{IsErrorOf, IsEndOf, fed, IsBetween, EndsAs}
 use Rattle.xc_input.specs.Lines.{lines_of}
 use Rattle.xc_input.proofs.FinishLemmas.{refutes}
 use Rattle.xc_input.proofs.LineLemmas.{lines_of-ended, lines_of-part}
-use Rattle.std.specs.Option.{option_or}
 use Rattle.std.proofs.lemmas.List.{nil_from_length}
 
 pub ends-as : (kind now : Kind) (lines told : List (List ℕ)) (r : Result Read InputError) → now ≡ kind → told ≡ lines → EndsAs now told r → EndsAs kind lines r
@@ -19,7 +17,7 @@ ends-as kind now lines told r e f h = subst (λ k. EndsAs k lines r) e (subst (�
 
 -- the error of a line is that of the text
 pub error-ends : (kind : Kind) (lines : List (List ℕ)) (e : InputError) → IsErrorOf kind lines e → IsEndOf kind lines e
-error-ends kind lines (Fault n k) h = ap (λ q. option_or q (end_fault (length lines) (stage_of kind lines).started)) h
+error-ends kind lines (Fault n k) h = fault-ends kind lines (n, k) h
 error-ends kind lines Device h = h
 error-ends kind lines Memory h = tt
 

@@ -8,14 +8,17 @@ use Rattle.std.specs.List.{list_any, onto_first, AllZip}
 use Rattle.xc_input.specs.declared.kind.Kind.{Kind}
 use Rattle.xc_input.specs.declared.problem.Use.{Use}
 use Rattle.xc_input.specs.Words.{has, place}
-use Rattle.xc_input.specs.Tokens.{is_space, onto, tokens, split_bars, parts}
+use Rattle.xc_input.specs.Tokens.{is_space, tokens, split_bars, parts}
+use Rattle.xc_input.proofs.TokenLemmas.{onto, tokens-cons}
 use Rattle.xc_input.specs.Named.{IsUnbroken}
-use Rattle.xc_input.specs.Sheets.{Entry, Sheet, Written, names_of, with_colour, with_uses}
-use Rattle.xc_input.specs.Text.{IsEntry, IsUse, AreOptions, IsSheetFrom}
+use Rattle.xc_input.specs.Sheets.{Entry, Written, with_colour}
+use Rattle.xc_input.specs.inner.Sheets.{Sheet, names_of, with_uses}
+use Rattle.xc_input.specs.Text.{IsEntry, IsUse}
+use Rattle.xc_input.proofs.SheetGrammar.{AreOptions, IsSheetFrom}
 use Rattle.xc_input.proofs.SheetValidity.{IsSheetOf, so_far}
 use Rattle.xc_input.specs.inner.EndedLines.{AreWhole}
 use Rattle.xc_input.proofs.GrammarLemmas.{or-false, or-both}
-use Rattle.xc_input.specs.Faults.{context}
+use Rattle.xc_input.specs.inner.Stages.{context}
 use Rattle.std.specs.Prelude.{flat_map}
 
 -- no byte of these passes the test
@@ -48,13 +51,16 @@ lack-tokens p [] h = tt
 lack-tokens p (b ∷ bs) h =
     let apart = or-false (p b) (list_any p bs) h in
     let P : Bool → Type 0 = λ t. AllLack p (if t then tokens bs else onto b bs (tokens bs)) in
-    (elim (is_space b) as P [ true ↦ lack-tokens p bs apart.1 | false ↦ lack-onto p b bs (tokens bs) apart.0 (lack-tokens p bs apart.1) ])
+    subst (AllLack p) (sym (tokens-cons b bs)) (elim (is_space b) as P [ true ↦ lack-tokens p bs apart.1 | false ↦
+        lack-onto p b bs (tokens bs) apart.0 (lack-tokens p bs apart.1) ])
 
 lack-spaces : (xs : List ℕ) → AllLack is_space (tokens xs)
 lack-spaces [] = tt
 lack-spaces (b ∷ bs) =
     let P : Bool → Type 0 = λ t. is_space b ≡ t → AllLack is_space (if t then tokens bs else onto b bs (tokens bs)) in
-    let h : P (is_space b) = (elim (is_space b) as P [ true ↦ λ e. lack-spaces bs | false ↦ λ e. lack-onto is_space b bs (tokens bs) e (lack-spaces bs) ]) in h refl
+    let h : P (is_space b) = (elim (is_space b) as P [ true ↦ λ e. lack-spaces bs | false ↦
+        λ e. lack-onto is_space b bs (tokens bs) e (lack-spaces bs) ]) in subst (AllLack is_space)
+        (sym (tokens-cons b bs)) (h refl)
 
 lack-bars : (p : ℕ → Bool) (t : List ℕ) → list_any p t ≡ false → AllLack p (split_bars t)
 lack-bars p [] h = tt

@@ -7,7 +7,8 @@ use Rattle.std.proofs.lemmas.List.Quantifiers.{all_pairs_push}
 use Rattle.std.specs.List.{list_any, AllZip}
 use Rattle.xc_input.specs.Sheets.{Written}
 use Rattle.xc_input.specs.Faults.{Context}
-use Rattle.xc_input.specs.Text.{IsUse, AreUses}
+use Rattle.xc_input.specs.Text.{IsUse}
+use Rattle.xc_input.proofs.SheetGrammar.{AreUses}
 use Rattle.xc_input.proofs.GrammarLemmas.{or-false, or-both}
 
 -- tokens, behind uses of these items, stand for these uses

@@ -14,20 +14,23 @@ use Rattle.std.specs.List.{position_or_len, list_all}
 use Rattle.xc_input.specs.Problem.{use_count}
 use Rattle.xc_input.specs.declared.kind.Kind.{Kind}
 use Rattle.xc_input.specs.declared.problem.Use.{Use}
-use Rattle.xc_input.specs.Words.{place, is_number, number}
+use Rattle.xc_input.specs.Words.{place, are_digits, number}
 use Rattle.xc_input.specs.Tokens.{tokens, parts, is_bar, is_skipped, split_bars, is_space}
 use Rattle.xc_input.specs.inner.Fronts.{drop_white, word}
 use Rattle.xc_input.proofs.TokenLemmas.{skipped-front, behind, tokens-drop_white, tokens-first, drop_white-first}
 use Rattle.std.proofs.lemmas.List.Sums.{sum_by-cons}
-use Rattle.xc_input.specs.Sheets.{Entry, Sheet, Written, names_of, with_uses, with_colour, colour_number}
+use Rattle.xc_input.specs.Sheets.{Entry, Written, with_colour, colour_number}
+use Rattle.xc_input.specs.inner.Sheets.{Sheet, names_of, with_uses}
 use Rattle.xc_input.specs.Limits.{most_items, most_uses, greatest_bound}
-use Rattle.xc_input.specs.Text.{IsEntry, AreBounds, IsUse, AreOptions, IsSheetFrom}
+use Rattle.xc_input.specs.Text.{IsEntry, AreBounds, IsUse}
+use Rattle.xc_input.proofs.SheetGrammar.{AreOptions, IsSheetFrom}
 use Rattle.xc_input.proofs.SheetValidity.{numbered-length, IsSheetOf, AllNew, HaveBounds, IsWithin, AreWithin, AreFresh, UsesPrimary, AreValid, HaveNames, IsSoundSheet, so_far}
 use Rattle.std.specs.Str.{bytes_eq}
 use Rattle.xc_input.proofs.FaultLemmas.{some-is, names_of-length}
 use Rattle.xc_input.proofs.GrammarLemmas.{and-true}
 use Rattle.std.specs.Prelude.{flat_map}
-use Rattle.xc_input.specs.Faults.{context, has_primary}
+use Rattle.xc_input.specs.Faults.{has_primary}
+use Rattle.xc_input.specs.inner.Stages.{context}
 
 -- NUMBERS
 value-below : (n i : ℕ) (xs : List ℕ) → n < 10 ^ i → list_all is_ascii_digit xs ≡ true → value_from n xs < 10 ^ (i + length xs)
@@ -41,7 +44,7 @@ value-below n i (x ∷ xs) h e =
     let z : i + 1 + length xs ≡ i + length (x ∷ xs) = omega arith in
     subst (λ m. value_from (n * 10 + (x - 48)) xs < 10 ^ m) z (value-below (n * 10 + (x - 48)) (i + 1) xs q a.1)
 
-number-below : (text : List ℕ) → is_number text ≡ true → number text ≤ greatest_bound
+number-below : (text : List ℕ) → are_digits 9 text ≡ true → number text ≤ greatest_bound
 number-below text e =
     let a = and-true (nat_le 1 (length text) && nat_le (length text) 9) (list_all is_ascii_digit text) e in
     let c : nat_le (length text) 9 ≡ true = (and-true (nat_le 1 (length text)) (nat_le (length text) 9) a.0).1 in

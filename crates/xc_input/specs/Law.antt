@@ -3,7 +3,7 @@
 use Rattle.std.specs.Prelude.{◌≡◌, ℕ, List, None}
 use Rattle.xc_input.specs.declared.kind.Kind.{Kind}
 use Rattle.xc_input.specs.Named.{Named}
-use Rattle.xc_input.specs.Stages.{first_fault}
+use Rattle.xc_input.specs.FirstFault.{first_fault}
 use Rattle.xc_input.specs.Text.{StandsFor}
 
 -- lines without a fault stand for a problem

@@ -8,7 +8,7 @@ pub mod Tokens
 pub mod Words
 pub mod Faults
 pub mod FaultTexts
-pub mod Stages
+pub mod FirstFault
 pub mod Text
 pub mod Lines
 pub mod Calls

@@ -4,7 +4,7 @@ use Rattle.std.specs.List.{onto_first}
 use Prim.Native.Char.{code}
 use Rattle.xc_input.specs.declared.kind.Kind.{Kind}
 use Rattle.xc_input.specs.declared.fault.FaultKind.{FaultKind}
-use Rattle.xc_input.specs.Stages.{first_fault}
+use Rattle.xc_input.specs.FirstFault.{first_fault}
 
 -- the lines of a text, cut at line feeds, the last one with or without it
 abbrev pub lines_of : List ℕ → List (List ℕ)

@@ -9,7 +9,7 @@ use Rattle.xc_input.specs.declared.fault.InputError.TheVariants.{Fault, Device, 
 use Rattle.xc_input.specs.Named.{Named}
 use Rattle.xc_input.specs.Lines.{lines_of, IsFirstFault}
 use Rattle.xc_input.specs.Text.{StandsFor}
-use Rattle.xc_input.specs.Stages.{line_fault}
+use Rattle.xc_input.specs.FirstFault.{line_fault}
 use Rattle.xc_input.specs.Words.{has}
 
 -- A source: how many of its reads failed, up to the counter's last value; at most how many bytes it may still give; the

@@ -1,22 +1,21 @@
 -- THE GRAMMAR: which problem and which ignored lines a list of lines stands for.
-use Rattle.std.specs.Prelude.{◌≡◌, ◌≢◌, ℕ, ◌+◌, ◌<◌, ◌≤◌, length, List, [], ◌∷◌, ◌++◌, Bool, true, false, Some, ◌⊎◌, if◌then◌else◌, AllPairs, take, drop}
+use Rattle.std.specs.Prelude.{◌≡◌, ◌≢◌, ℕ, ◌+◌, ◌<◌, ◌≤◌, length, List, [], ◌∷◌, ◌++◌, Bool, true, false, not, Some, ◌⊎◌, if◌then◌else◌, AllPairs, filter, map, flat_map}
 use Prim.Native.Char.{code}
-use Rattle.std.specs.List.{AllZip, before_first, after_first}
+use Rattle.std.specs.List.{AllZip, before_first, after_first, list_any, enumerate_from}
 use Rattle.xc_input.specs.declared.kind.Kind.{Kind}
-use Rattle.xc_input.specs.declared.problem.Use.{Use}
 use Rattle.xc_input.specs.Limits.{most_items, most_uses}
-use Rattle.xc_input.specs.Words.{has, place, is_number, number}
+use Rattle.xc_input.specs.Words.{has, place, are_digits, number}
 use Rattle.xc_input.specs.Tokens.{tokens, parts, is_bar, is_skipped}
-use Rattle.xc_input.specs.Sheets.{Entry, Sheet, Written, names_of, number_uses, with_uses, named_of}
+use Rattle.xc_input.specs.Sheets.{Entry, Written, colours_of, number_uses}
 use Rattle.xc_input.specs.Named.{Named, IsName, IsColour}
-use Rattle.xc_input.specs.Faults.{is_plain, is_bounds, Context, context, has_primary}
-use Rattle.xc_input.specs.Stages.{line_number}
+use Rattle.xc_input.specs.Faults.{is_plain, is_bounds, Context, has_primary}
+use Rattle.xc_input.specs.FirstFault.{line_number}
 
 -- `v`, or `u:v`, each of one to nine digits
 abbrev pub AreBounds : List ℕ → ℕ → ℕ → Type 0
 AreBounds prefix low high =
-    ((is_number prefix ≡ true) × (number prefix ≡ low) × (number prefix ≡ high))
-    ⊎ ((u : List ℕ) × (v : List ℕ) × (prefix ≡ u ++ code ":" ∷ v) × (is_number u ≡ true) × (is_number v ≡ true)
+    ((are_digits 9 prefix ≡ true) × (number prefix ≡ low) × (number prefix ≡ high))
+    ⊎ ((u : List ℕ) × (v : List ℕ) × (prefix ≡ u ++ code ":" ∷ v) × (are_digits 9 u ≡ true) × (are_digits 9 v ≡ true)
     × (number u ≡ low) × (number v ≡ high))
 
 -- a name alone
@@ -33,14 +32,18 @@ IsBounded kind secondary token e =
 abbrev pub IsEntry : Kind → Bool → List ℕ → Entry → Type 0
 IsEntry kind secondary token e = IsName e.name × (IsBare secondary token e ⊎ IsBounded kind secondary token e)
 
--- Parts of the item line stand for these items: those before the first bar for primary ones, of which there are so
--- many, and those behind it for secondary ones. (Another bar stands for none: no name has one.)
-pub record AreItems (kind : Kind) (parts : List (List ℕ)) (entries : List Entry) (primaries : ℕ) : Type 0 where
-  pub count : primaries ≡ length (before_first is_bar parts)
-  pub primary : AllZip (IsEntry kind false) (before_first is_bar parts) (take primaries entries)
-  pub secondary : AllZip (IsEntry kind true) (after_first is_bar parts) (drop primaries entries)
-  pub distinct : AllPairs (λ x y. x ≢ y) (names_of entries)
-  pub few : length entries ≤ most_items
+-- Parts of the item line stand for the items of this problem: those before the first bar for primary ones, those behind
+-- it for secondary ones. (Another bar stands for none: no name has one.)
+pub record AreItems (kind : Kind) (parts : List (List ℕ)) (named : Named) : Type 0 where
+  pub primary : List Entry
+  pub secondary : List Entry
+  pub before_bar : AllZip (IsEntry kind false) (before_first is_bar parts) primary
+  pub behind_bar : AllZip (IsEntry kind true) (after_first is_bar parts) secondary
+  pub names : named.names ≡ map (λ e. e.name) (primary ++ secondary)
+  pub bounds : named.puzzle.bounds ≡ map (λ e. record { low = e.low; high = e.high }) primary
+  pub count : named.puzzle.secondary ≡ length secondary
+  pub distinct : AllPairs (λ x y. x ≢ y) named.names
+  pub few : length named.names ≤ most_items
 
 -- a token of an option line stands for a use: it is a name, or a name and a colour
 abbrev pub IsUse : Context → List ℕ → Written → Type 0
@@ -49,41 +52,34 @@ IsUse c token u =
     × (((token ≡ name) × (u.colour ≡ []))
     ⊎ ((token ≡ name ++ code ":" ∷ u.colour) × (is_plain c.kind ≡ false) × (c.primaries < u.item) × IsColour u.colour))
 
--- tokens stand for uses, each of an item of its own
-abbrev pub AreUses : Context → List (List ℕ) → List Written → Type 0
-AreUses c tokens us = AllZip (IsUse c) tokens us × AllPairs (λ u v. u.item ≢ v.item) us
+-- an option line stands for uses, each of an item of its own; both with the line's number
+abbrev pub IsOptionLine : Context → ℕ × List ℕ → ℕ × List Written → Type 0
+IsOptionLine c line option = (option.0 ≡ line_number line.0) × AllZip (IsUse c) (tokens line.1) option.1
+    × AllPairs (λ u v. u.item ≢ v.item) option.1
 
--- what was read before a line behind the item line: how many lines, how many uses, and the colours
-pub record SoFar : Type 0 where
-  pub lines : ℕ
-  pub uses : ℕ
-  pub colours : List (List ℕ)
+-- Option lines stand for the options and colours of this problem, and for these ignored lines: an option is kept where
+-- it has a use of a primary item, else its line is ignored.
+pub record AreOptions (c : Context) (lines : List (ℕ × List ℕ)) (named : Named) (ignored : List ℕ) : Type 0 where
+  pub options : List (ℕ × List Written)
+  pub stand : AllZip (IsOptionLine c) lines options
+  pub others : ignored ≡ map (λ o. o.0) (filter (λ o. not (has_primary c.primaries o.1)) options)
+  pub kept : List (List Written)
+  pub are_kept : kept ≡ map (λ o. o.1) (filter (λ o. has_primary c.primaries o.1) options)
+  pub few : length (flat_map (λ us. us) kept) ≤ most_uses
+  pub colours : named.colours ≡ colours_of (flat_map (λ us. us) kept)
+  pub numbered : named.puzzle.options ≡ map (number_uses named.colours) kept
 
--- the same behind one line more, of an option with these uses that is kept
-abbrev pub with_kept : SoFar → List Written → SoFar
-with_kept s us = record { lines = s.lines + 1; uses = s.uses + length us; colours = with_uses s.colours us }
+-- the lines that are neither blank nor comments, with their numbers
+abbrev pub numbered_content : List (List ℕ) → List (ℕ × List ℕ)
+numbered_content lines = filter (λ line. not (is_skipped line.1)) (enumerate_from 1 lines)
 
--- lines behind the item line stand for these options and ignored lines, and these are the colours behind them
-abbrev pub AreOptions : Context → SoFar → List (List ℕ) → List (List Use) → List ℕ → List (List ℕ) → Type 0
-AreOptions c s [] options ignored last = (options ≡ []) × (ignored ≡ []) × (last ≡ s.colours)
-AreOptions c s (line ∷ lines) options ignored last = (has 0 line ≡ false) × (
-    ((is_skipped line ≡ true) × AreOptions c (record s { lines = s.lines + 1 }) lines options ignored last)
-    ⊎ ((us : List Written) × (is_skipped line ≡ false) × AreUses c (tokens line) us × (
-    ((others : List ℕ) × (has_primary c.primaries us ≡ false) × (ignored ≡ line_number (s.lines + 1) ∷ others)
-    × AreOptions c (record s { lines = s.lines + 1 }) lines options others last)
-    ⊎ ((others : List (List Use)) × (has_primary c.primaries us ≡ true) × (s.uses + length us ≤ most_uses)
-    × (options ≡ number_uses (with_uses s.colours us) us ∷ others)
-    × AreOptions c (with_kept s us) lines others ignored last))))
-
--- lines, behind n blank lines and comments, stand for a sheet and ignored lines
-abbrev pub IsSheetFrom : Kind → ℕ → List (List ℕ) → Sheet → List ℕ → Type 0
-IsSheetFrom kind n [] sheet ignored = ⊥
-IsSheetFrom kind n (line ∷ lines) sheet ignored = (has 0 line ≡ false) × (
-    ((is_skipped line ≡ true) × IsSheetFrom kind (n + 1) lines sheet ignored)
-    ⊎ ((is_skipped line ≡ false) × AreItems kind (parts line) sheet.entries sheet.primaries
-    × AreOptions (context kind (names_of sheet.entries) sheet.primaries)
-    (record { lines = n + 1; uses = 0; colours = [] }) lines sheet.options ignored sheet.colours))
-
--- a list of lines stands for a problem and ignored lines
-abbrev pub StandsFor : Kind → List (List ℕ) → Named → List ℕ → Type 0
-StandsFor kind lines named ignored = (sheet : Sheet) × (named ≡ named_of sheet) × IsSheetFrom kind 0 lines sheet ignored
+-- A list of lines stands for a problem and ignored lines: the first one with content for the items, the others for the
+-- options.
+pub record StandsFor (kind : Kind) (lines : List (List ℕ)) (named : Named) (ignored : List ℕ) : Type 0 where
+  pub no_nul : list_any (has 0) lines ≡ false
+  pub item_line : ℕ × List ℕ
+  pub option_lines : List (ℕ × List ℕ)
+  pub content : numbered_content lines ≡ item_line ∷ option_lines
+  pub items : AreItems kind (parts item_line.1) named
+  pub options : AreOptions (record { kind = kind; names = named.names; primaries = length named.puzzle.bounds })
+      option_lines named ignored

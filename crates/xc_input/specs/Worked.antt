@@ -6,9 +6,8 @@ use Rattle.xc_input.specs.declared.fault.FaultKind.{FaultKind}
 use Rattle.xc_input.specs.declared.fault.FaultKind.TheVariants.{NoItems, NulByte, EmptyName, NameTooLong, BadByteInName, RepeatedName, TwoBars, BadBound, BoundOrder, BoundOnSecondary, UnknownItem, RepeatedInOption, ColourOnPrimary, BadColour, ColourNotHere}
 use Rattle.xc_input.specs.declared.problem.Use.{Use}
 use Rattle.xc_input.specs.declared.problem.Bounds.{Bounds as ItemBounds}
-use Rattle.xc_input.specs.Named.{Named}
-use Rattle.xc_input.specs.Sheets.{named_of}
-use Rattle.xc_input.specs.Stages.{first_fault, stage_of}
+use Rattle.xc_input.specs.FirstFault.{first_fault}
+use Rattle.xc_input.specs.Text.{StandsFor}
 use Rattle.xc_input.specs.Lines.{lines_of}
 
 -- a use of item i, with colour c
@@ -58,25 +57,23 @@ commented = (codes "| test" ++ 13 ∷ []) ∷ (13 ∷ []) ∷ (codes "A | x" ++ 
 abbrev pub coloured : List (List ℕ)
 coloured = codes "A B | x" ∷ codes "A x:red" ∷ codes "B x:green" ∷ codes "B x:red" ∷ []
 
+-- a bound on each primary item
+abbrev pub bounded : List (List ℕ)
+bounded = codes "2|A 0:1|B |x" ∷ []
+
 -- held at least l and at most h times
 abbrev pub bounds : ℕ → ℕ → ItemBounds
 bounds l h = record { low = l; high = h }
 
--- the problem that lines without a fault stand for
-abbrev pub problem_of : Kind → List (List ℕ) → Named
-problem_of kind lines = named_of (stage_of kind lines).sheet
-
--- what three texts without a fault stand for
+-- the problems and the ignored lines that texts stand for
 abbrev pub Problems : Type 0
 Problems =
-    (first_fault Plain commented ≡ None) × ((stage_of Plain commented).ignored ≡ 4 ∷ [])
-    × (problem_of Plain commented ≡ record {
+    StandsFor Plain commented (record {
       names = codes "A" ∷ codes "x" ∷ [];
       colours = [];
       puzzle = record { bounds = bounds 1 1 ∷ []; secondary = 1; options = (use_of 1 0 ∷ use_of 2 0 ∷ []) ∷ [] };
-    })
-    × (first_fault Colours coloured ≡ None)
-    × (problem_of Colours coloured ≡ record {
+    }) (4 ∷ [])
+    × StandsFor Colours coloured (record {
       names = codes "A" ∷ codes "B" ∷ codes "x" ∷ [];
       colours = codes "red" ∷ codes "green" ∷ [];
       puzzle = record {
@@ -84,9 +81,9 @@ Problems =
         secondary = 1;
         options = (use_of 1 0 ∷ use_of 3 1 ∷ []) ∷ (use_of 2 0 ∷ use_of 3 2 ∷ []) ∷ (use_of 2 0 ∷ use_of 3 1 ∷ []) ∷ [];
       };
-    })
-    × (problem_of Bounds (codes "2|A 0:1|B |x" ∷ []) ≡ record {
+    }) []
+    × StandsFor Bounds bounded (record {
       names = codes "A" ∷ codes "B" ∷ codes "x" ∷ [];
       colours = [];
       puzzle = record { bounds = bounds 2 2 ∷ bounds 0 1 ∷ []; secondary = 1; options = [] };
-    })
+    }) []

@@ -8,3 +8,5 @@ pub mod CutTokens
 pub mod EndedLines
 pub mod BoundTexts
 pub mod ColourNumbers
+pub mod Stages
+pub mod Sheets

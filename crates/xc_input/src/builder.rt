@@ -1,11 +1,12 @@
 //! The problem while it is read.
 
 ghost use Rattle.std.specs.Prelude.{◌≡◌, true, false, ◌≤◌, ◌<◌, ◌+◌, ◌++◌, [], None, Some, OnOk, IfOk, length, map};
-ghost use Rattle.xc_input.specs.Sheets.{with_colour, colour_number, with_uses};
-ghost use Rattle.xc_input.specs.Faults.{first, has_primary, row_checks, no_row, row_of, written};
+ghost use Rattle.xc_input.specs.Sheets.{with_colour, colour_number};
+ghost use Rattle.xc_input.specs.inner.Sheets.{with_uses};
+ghost use Rattle.xc_input.specs.Faults.{first, has_primary};
+ghost use Rattle.xc_input.specs.inner.Stages.{row_checks, no_row, row_of, written, line_checks, content_checks, with_line, with_option, written_by, no_stage, with_row};
 ghost use Rattle.xc_input.specs.Limits.{most_uses};
 ghost use Rattle.xc_input.specs.Tokens.{parts};
-ghost use Rattle.xc_input.specs.Stages.{line_checks, content_checks, with_line, with_option, written_by, no_stage, with_row};
 ghost use Rattle.xc_input.specs.inner.Builders.{Judged, IsBuilder, IsItemTable, AreMarks, AreTablesFor, row_of_line, stage_of_builder, sheet_of_builder, written_of};
 ghost use Rattle.xc_input.specs.inner.Stored.{key_names};
 ghost use Rattle.xc_input.specs.inner.ColourNumbers.{numbered};

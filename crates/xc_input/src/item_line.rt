@@ -4,8 +4,9 @@ ghost use Rattle.std.specs.Prelude.{◌≡◌, ◌++◌, ◌∷◌, [], None, So
 ghost use Rattle.std.specs.List.{list_any};
 ghost use Rattle.xc_input.specs.Tokens.{parts, is_space};
 ghost use Rattle.xc_input.specs.Words.{number};
-ghost use Rattle.xc_input.specs.Faults.{first, name_checks, is_bounds, prefix_checks, bound_checks, entry, part_checks, with_part, row_checks, row_of, no_row, item_checks};
-ghost use Rattle.xc_input.specs.Sheets.{names_of};
+ghost use Rattle.xc_input.specs.Faults.{first, name_checks, is_bounds, prefix_checks, bound_checks, item_checks};
+ghost use Rattle.xc_input.specs.inner.Stages.{entry, part_checks, with_part, row_checks, row_of, no_row};
+ghost use Rattle.xc_input.specs.inner.Sheets.{names_of};
 ghost use Rattle.xc_input.specs.inner.BoundTexts.{low_text, high_text};
 ghost use Rattle.xc_input.specs.inner.Builders.{Judged, IsItemTable, row_of_line, entry_of};
 

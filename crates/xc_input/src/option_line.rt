@@ -2,7 +2,8 @@
 
 ghost use Rattle.std.specs.Prelude.{◌≡◌, ◌<◌, ◌≤◌, [], ◌∷◌, ◌++◌, true, None, Some, IfOk, IfSome, OnOk, MatchResult, length, map, ℕ, List, All, ◌&&◌, is_some};
 ghost use Rattle.xc_input.specs.Tokens.{tokens};
-ghost use Rattle.xc_input.specs.Faults.{first, is_plain, is_bad_colour, name_checks, token_checks, option_checks, written, context};
+ghost use Rattle.xc_input.specs.Faults.{first, is_plain, is_bad_colour, name_checks};
+ghost use Rattle.xc_input.specs.inner.Stages.{token_checks, option_checks, written, context};
 ghost use Rattle.xc_input.specs.Limits.{most_items};
 ghost use Rattle.xc_input.specs.declared.fault.FaultKind.TheVariants.{UnknownItem};
 ghost use Rattle.xc_input.specs.Named.{IsName};

@@ -1,12 +1,12 @@
 //! A problem as it was read.
 
-ghost use Rattle.std.specs.Prelude.{◌≡◌, ◌≢◌, ◌<◌, ◌≤◌, ℕ, length, map, drop, take, sum_by, option_map, Some, All, IfSome, IfNone};
+ghost use Rattle.std.specs.Prelude.{◌≡◌, ◌≢◌, ◌<◌, ◌≤◌, ℕ, suc, length, map, drop, take, sum_by, option_map, Some, All, IfSome, IfNone};
 ghost use Rattle.xc_input.specs.Problem.{IsValid, IsWithinLimits, IsSoundOption, AreSoundBounds, primary_count, item_count, option_count, IsItem, numbered_get, bounds_at, IsPrimary, IsSecondary, use_count, IsOption};
 ghost use Rattle.xc_input.specs.Limits.{greatest_bound, most_uses};
 ghost use Rattle.xc_input.specs.ItemBounds.{bounds_of, secondary_bounds};
 ghost use Rattle.xc_input.specs.inner.Vectors.{IsOptional, AreOptionStarts, named_from};
 ghost use Rattle.xc_input.specs.Named.{Named, AreColoursKnown, IsKnownUse, IsWellNamed, IsName, IsColour, IsSound};
-ghost use Rattle.xc_input.specs.Words.{number_in};
+ghost use Rattle.xc_input.specs.Words.{place};
 ghost use Rattle.xc_input.specs.inner.Stored.{key_names};
 
 use crate::names::{NameSet, number_of_name};
@@ -178,7 +178,7 @@ impl Problem {
 
     /// The number of the item with this name, if there is one.
     pub fn find(&self, name: &[u8]) -> Option<u32>
-        ensures value { result ≡ number_in self.now.names name.now }
+        ensures value { result ≡ option_map suc (place self.now.names name.now) }
         ensures found { IfSome result (λ i. numbered_get self.now.names i ≡ Some name.now) }
         ensures none { IfNone result ((i : ℕ) → numbered_get self.now.names i ≢ Some name.now) }
     {
@@ -206,7 +206,7 @@ impl Problem {
 
     /// The number of the colour with these bytes, if there is one.
     pub fn find_colour(&self, bytes: &[u8]) -> Option<u32>
-        ensures value { result ≡ number_in self.now.colours bytes.now }
+        ensures value { result ≡ option_map suc (place self.now.colours bytes.now) }
         ensures found { IfSome result (λ c. numbered_get self.now.colours c ≡ Some bytes.now) }
         ensures none { IfNone result ((c : ℕ) → numbered_get self.now.colours c ≢ Some bytes.now) }
     {

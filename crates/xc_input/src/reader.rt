@@ -3,7 +3,7 @@
 ghost use Rattle.std.specs.Prelude.{◌≡◌, IfOk, IfErr, ℕ, List, ◌++◌, [], ◌∷◌, None, Some, IfSome, false};
 ghost use Rattle.std.specs.Result.{result_err};
 ghost use Rattle.xc_input.specs.Readings.{IsErrorFor, IsStateOf, IsFault};
-ghost use Rattle.xc_input.specs.Stages.{first_fault};
+ghost use Rattle.xc_input.specs.FirstFault.{first_fault};
 ghost use Rattle.xc_input.specs.inner.Builders.{error_at};
 ghost use Rattle.xc_input.specs.Named.{Named, IsSound};
 ghost use Rattle.xc_input.specs.Words.{has};
@@ -39,7 +39,8 @@ pub struct Reader {
 
 impl Model for Reader {
     ghost use Rattle.xc_input.specs.Readings.{Reading, IsStateOf};
-    ghost use Rattle.xc_input.specs.Stages.{line_number, stage_of};
+    ghost use Rattle.xc_input.specs.FirstFault.{line_number};
+    ghost use Rattle.xc_input.specs.inner.Stages.{stage_of};
     ghost use Rattle.xc_input.specs.inner.Builders.{IsBuilder, stage_of_builder};
     ghost use Rattle.xc_input.specs.inner.EndedLines.{AreWhole};
     ghost use Rattle.std.specs.Prelude.{◌≡◌, length, MatchOption};

@@ -3,7 +3,7 @@
 ghost use Rattle.std.specs.Prelude.{◌≡◌, ◌++◌, ◌∷◌, ◌<◌, ◌≤◌, [], ℕ, List, length, take, drop, MatchOption, map, false, true, None, Some, OnOk, IfOk, IfSome};
 ghost use Rattle.xc_input.specs.Tokens.{is_space, tokens, parts, is_skipped};
 ghost use Rattle.xc_input.specs.inner.Fronts.{drop_white, word};
-ghost use Rattle.xc_input.specs.Words.{has, before, after, place, number_in, is_number};
+ghost use Rattle.xc_input.specs.Words.{has, before, after, place, are_digits};
 ghost use Rattle.xc_input.specs.Limits.{most_uses};
 ghost use Rattle.xc_input.specs.inner.Builders.{AreNames, Judged};
 ghost use Rattle.xc_input.specs.inner.CutTokens.{IsCutToken, IsCutBehind};

@@ -1,5 +1,5 @@
 -- The output grows member by member.
-use Rattle.std.proofs.Common.{◌≡◌, ℕ, zero, suc, ◌+◌, ◌<◌, ◌≤◌, ◌-◌, Bool, true, false, cond, List, [], ◌∷◌, ◌++◌, Some, length, take, drop, filter, refl, sym, ap, ◌∙◌, append-nil, arith, subst, nat_lt, lt-ltb, le-ltb}
+use Rattle.std.proofs.Common.{◌≡◌, ℕ, zero, suc, ◌+◌, ◌<◌, ◌≤◌, ◌-◌, Bool, true, false, cond, List, [], ◌∷◌, ◌++◌, Some, length, take, drop, filter, refl, sym, ap, ◌∙◌, append-nil, arith, subst, nat_lt, lt-ltb}
 use Rattle.std.proofs.Math.Seq.{take-append_seam}
 use Rattle.std.specs.Prelude.{flat_map, slice_get, if◌then◌else◌}
 use Rattle.std.specs.List.{enumerate_from}
@@ -167,11 +167,8 @@ stopped_begins a spacing limit t x z s =
     regroup : (p q r s : List ℕ) → (p ++ (q ++ r)) ++ s ≡ (p ++ q) ++ (r ++ s)
     regroup p q r s = grind (arith, common_steps)
 
--- the two ends of a run in which no write fails
+-- the end of a run behind the last member
 pub done_end : (a : Named) (limit n : ℕ) → n ≡ length (members a.puzzle) → n < limit → Done n ≡ end_of a limit
 done_end a limit n e h =
     let less : nat_lt (length (members a.puzzle)) limit ≡ true = rw (← e) (lt-ltb n limit h) in
     ap Done e ∙ sym (ap (λ b. if b then Done (length (members a.puzzle)) else Limit limit) less)
-
-pub limit_end : (a : Named) (limit n : ℕ) → n ≡ limit → limit ≤ length (members a.puzzle) → Limit n ≡ end_of a limit
-limit_end a limit n e h = ap Limit e ∙ sym (ap (λ b. if b then Done (length (members a.puzzle)) else Limit limit) (le-ltb (length (members a.puzzle)) limit h))

@@ -9,7 +9,7 @@ use Rattle.xc_input.specs.Problem.{primary_count, uses_of}
 use Rattle.xc_input.specs.Named.{Named}
 use Rattle.xc_search.specs.Cover.{IsCover}
 use Rattle.xc_list.specs.Output.{rotated_at, use_word}
-use Rattle.xc_list.specs.ListingLines.{Line, Header, Body, Other, read, header_number, body_of}
+use Rattle.xc_list.specs.ListingLines.{header_number, body_of}
 use Rattle.xc_list.specs.declared.checker.Verdict.{Verdict}
 use Rattle.xc_list.specs.declared.checker.ListingFault.{ListingFault}
 use Rattle.xc_list.specs.declared.checker.ListingFault.TheVariants.{BadLine, UnknownOption, Memory}
@@ -33,19 +33,21 @@ is_none p (a ∷ b ∷ []) =
     bytes_eq a (codes "null") && list_any (bytes_eq b) (take (primary_count p.puzzle) p.names)
 is_none p _ = false
 
--- the fault of line n, where a header stands before it or not
-abbrev pub fault_in_line : Named → Bool → ℕ → Line → Option ListingFault
-fault_in_line p begun n (Header number) = None
-fault_in_line p begun n (Body words) =
-    if not begun then Some (BadLine n)
-    else if is_known p words || is_none p words then None else Some (UnknownOption n)
-fault_in_line p begun n Other = Some (BadLine n)
+-- the fault of line n, where a header stands before it or not: it has to be a header or behind one a choice line, whose
+-- body is known or of none
+abbrev pub fault_in_line : Named → Bool → ℕ → List ℕ → Option ListingFault
+fault_in_line p begun n line =
+    if is_some (header_number line) then None
+    else elim (if begun then body_of line else None) [
+      | None ↦ Some (BadLine n)
+      | Some words ↦ if is_known p words || is_none p words then None else Some (UnknownOption n)
+    ]
 
 -- The first fault of lines that stand behind n others. Only a first line has no header before it, for it has to be one.
 abbrev pub fault_in_lines : Named → ℕ → List (List ℕ) → Option ListingFault
 fault_in_lines p n [] = None
 fault_in_lines p n (l ∷ lines) =
-    option_or (fault_in_line p (not (n == 0)) (min (n + 1) (2 ^ 64 - 1)) (read l)) (fault_in_lines p (n + 1) lines)
+    option_or (fault_in_line p (not (n == 0)) (min (n + 1) (2 ^ 64 - 1)) l) (fault_in_lines p (n + 1) lines)
 
 -- the first fault of all lines of a listing
 abbrev pub fault_in_listing : Named → List (List ℕ) → Option ListingFault

@@ -4,15 +4,12 @@ use Rattle.std.specs.Char.{is_ascii_digit}
 use Rattle.std.specs.List.{list_all, list_any, slice_split}
 use Rattle.std.specs.Str.{byte, bytes_eq}
 use Rattle.xc_input.specs.Tokens.{is_space}
+use Rattle.xc_input.specs.Words.{are_digits}
 use Rattle.xc_list.specs.Settings.{long_number}
 
 -- the words of a text that single spaces part
 abbrev pub words_in : List ℕ → List (List ℕ)
 words_in text = slice_split (λ b. b == byte " ") text
-
--- one digit or more, at most this many
-abbrev pub are_digits : ℕ → List ℕ → Bool
-are_digits most text = nat_le 1 (length text) && nat_le (length text) most && list_all is_ascii_digit text
 
 -- what stands before a last byte, where that is the text's last
 abbrev pub before_last : ℕ → List ℕ → Option (List ℕ)
@@ -56,16 +53,3 @@ body_of_words words =
 abbrev pub body_of : List ℕ → Option (List (List ℕ))
 body_of [] = None
 body_of (b ∷ line) = if b == byte " " then body_of_words (words_in line) else None
-
--- what a line is: a header with its number, a choice line with its body, or neither
-pub data Line : Type 0 where
-  Header : ℕ → Line
-  Body : List (List ℕ) → Line
-  Other : Line
-
--- (no line is both: a header begins with a digit, a choice line with a space)
-abbrev pub read : List ℕ → Line
-read line = elim (header_number line) [
-  | Some n ↦ Header n
-  | None ↦ elim (body_of line) [ Some words ↦ Body words | None ↦ Other ]
-]

@@ -1,5 +1,5 @@
 -- What a run writes, and its end.
-use Rattle.std.specs.Prelude.{ℕ, ◌-◌, ◌<◌, ◌≤◌, ◌≡◌, true, List, [], length, Some, Result, MatchResult, if◌then◌else◌, nat_lt}
+use Rattle.std.specs.Prelude.{ℕ, ◌-◌, ◌≤◌, ◌≡◌, true, List, [], length, Some, Result, MatchResult, if◌then◌else◌, nat_lt}
 use Rattle.xc_list.specs.Texts.{SinkState, Took, BrokeOff, Behind}
 use Rattle.xc_dance.specs.declared.dance.Memory.{Memory}
 use Rattle.xc_search.specs.declared.choice.Choice.{Choice}
@@ -18,22 +18,19 @@ pub record StoppedAt (a : Named) (spacing limit t : ℕ) (old new : SinkState) :
   pub printed : is_printed spacing t ≡ true
   pub stopped : Behind (output a spacing (t - 1)) BrokeOff old new (member_text a (t, member))
 
+-- How a run ends where no write fails: by the limit where there are as many members, else after the last one
+abbrev pub end_of : Named → ℕ → End
+end_of a limit = if nat_lt (length (members a.puzzle)) limit then Done (length (members a.puzzle)) else Limit limit
+
 -- What was written up to this end, from one state of the sink to another
 abbrev pub IsRun : Named → ℕ → ℕ → SinkState → SinkState → End → Type 0
-IsRun a spacing limit old new (Done n) =
-    (n ≡ length (members a.puzzle)) × (n < limit) × Took old new (output a spacing limit)
-IsRun a spacing limit old new (Limit n) =
-    (n ≡ limit) × (limit ≤ length (members a.puzzle)) × Took old new (output a spacing limit)
 IsRun a spacing limit old new (WriteFailed t) = StoppedAt a spacing limit t old new
+IsRun a spacing limit old new end = (end ≡ end_of a limit) × Took old new (output a spacing limit)
 
 -- What a run answers: its end, with what was written up to it; or, where there was no memory for the search, nothing
 -- was written.
 abbrev pub AnswersRun : Named → ℕ → ℕ → SinkState → SinkState → Result End Memory → Type 0
 AnswersRun a spacing limit old new r = MatchResult r (IsRun a spacing limit old new) (λ _. Took old new [])
-
--- How a run ends where no write fails: by the limit where there are as many members, else after the last one
-abbrev pub end_of : Named → ℕ → End
-end_of a limit = if nat_lt (length (members a.puzzle)) limit then Done (length (members a.puzzle)) else Limit limit
 
 -- how many members a run had reached when it ended
 abbrev pub solutions_found : End → ℕ

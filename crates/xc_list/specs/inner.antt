@@ -9,3 +9,4 @@ pub mod SeenLines
 pub mod LineParts
 pub mod Listings
 pub mod Tested
+pub mod ReadLines

@@ -2,7 +2,8 @@
 ghost use Rattle.std.specs.Prelude.{◌≡◌, ◌≢◌, ◌<◌, ◌^◌, ℕ, List, [], codes, length, is_some, true, Some, All, IsTrue, OnOk, IfOk, IfErr, IfSome, MatchResult};
 ghost use Rattle.xc_input.specs.Named.{IsSound};
 ghost use Rattle.xc_input.specs.Lines.{lines_of};
-ghost use Rattle.xc_list.specs.ListingLines.{read, words_in, Header, Body};
+ghost use Rattle.xc_list.specs.ListingLines.{words_in};
+ghost use Rattle.xc_list.specs.inner.ReadLines.{read, Header, Body};
 ghost use Rattle.xc_list.specs.inner.Classes.{IsClassOfBody};
 ghost use Rattle.xc_list.specs.inner.SeenLines.{IsClassOfLine};
 ghost use Rattle.xc_list.specs.Listed.{fault_in_listing, AreVerdicts, IsListingFault};

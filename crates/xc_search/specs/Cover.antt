@@ -36,21 +36,19 @@ members p = listing (whole p)
 abbrev pub EachMemberCovers : Puzzle → Type 0
 EachMemberCovers p = All (λ m. IsCover p (options_of m)) (members p)
 
+-- the member at place k has this set of options
+abbrev pub HasSetAt : Puzzle → ℕ → List ℕ → Type 0
+HasSetAt p k s = (m : List Choice) × (slice_get (members p) k ≡ Some m) × SameSet s (options_of m)
+
 -- each cover is the set of a member
 abbrev pub EachCoverIsListed : Puzzle → Type 0
-EachCoverIsListed p =
-    (s : List ℕ) → IsCover p s →
-    (k : ℕ) × (m : List Choice) × (slice_get (members p) k ≡ Some m) × SameSet s (options_of m)
+EachCoverIsListed p = (s : List ℕ) → IsCover p s → (k : ℕ) × HasSetAt p k s
 
 -- members at two places have different sets
 abbrev pub NoSetTwice : Puzzle → Type 0
-NoSetTwice p =
-    (j k : ℕ) (l m : List Choice) → slice_get (members p) j ≡ Some l → slice_get (members p) k ≡ Some m →
-    SameSet (options_of l) (options_of m) → j ≡ k
+NoSetTwice p = (j k : ℕ) (s : List ℕ) → HasSetAt p j s → HasSetAt p k s → j ≡ k
 
 -- each cover is the set of exactly one member
 abbrev pub EachCoverIsListedOnce : Puzzle → Type 0
 EachCoverIsListedOnce p =
-    (s : List ℕ) → IsCover p s →
-    (k : ℕ) × ((m : List Choice) × (slice_get (members p) k ≡ Some m) × SameSet s (options_of m))
-    × ((j : ℕ) (l : List Choice) → slice_get (members p) j ≡ Some l → SameSet s (options_of l) → j ≡ k)
+    (s : List ℕ) → IsCover p s → (k : ℕ) × HasSetAt p k s × ((j : ℕ) → HasSetAt p j s → j ≡ k)

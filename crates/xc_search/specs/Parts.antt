@@ -36,20 +36,19 @@ number_in_problem p i x k =
 abbrev pub in_problem : Puzzle → ℕ → Numbered → List ℕ → List ℕ
 in_problem p i x t = map (number_in_problem p i x) t
 
+-- a set of options is a cover of the part of option x of item i
+abbrev pub IsPartCover : Puzzle → ℕ → Numbered → List ℕ → Type 0
+IsPartCover p i x s = Contains (holding i (numbered_options p)) x
+    × (t : List ℕ) × IsCover (part p i x) t × (s ≡ in_problem p i x t)
+
 -- the covers of the problem are those of the parts
 abbrev pub PartsJoin : Puzzle → ℕ → Type 0
-PartsJoin p i =
-    (s : List ℕ) → IsCover p s
-    ↔ ((x : Numbered) × Contains (holding i (numbered_options p)) x
-    × (t : List ℕ) × IsCover (part p i x) t × (s ≡ in_problem p i x t))
+PartsJoin p i = (s : List ℕ) → IsCover p s ↔ ((x : Numbered) × IsPartCover p i x s)
 
 -- covers of two parts are different sets
 abbrev pub PartsAreApart : Puzzle → ℕ → Type 0
 PartsAreApart p i =
-    (x y : Numbered) →
-    Contains (holding i (numbered_options p)) x → Contains (holding i (numbered_options p)) y →
-    (t u : List ℕ) → IsCover (part p i x) t → IsCover (part p i y) u →
-    SameSet (in_problem p i x t) (in_problem p i y u) → x ≡ y
+    (x y : Numbered) (s t : List ℕ) → IsPartCover p i x s → IsPartCover p i y t → SameSet s t → x ≡ y
 
 -- what is to be searched of the part where w is its first item; its options keep their numbers
 abbrev pub part_in_front : Puzzle → Wanted → Numbered → Residual

@@ -1,5 +1,5 @@
 -- What the system is asked and answers, what the adapters of its streams tell, and when lines are passed on.
-use Rattle.std.specs.Prelude.{ℕ, ◌+◌, ◌-◌, ◌/◌, ◌^◌, ◌<◌, ◌≡◌, ◌⊎◌, nat_eq, min, Bool, true, false, List, [], codes, length, Option, None, Some, Result, Ok, Err, if◌then◌else◌}
+use Rattle.std.specs.Prelude.{ℕ, ◌+◌, ◌-◌, ◌/◌, ◌^◌, ◌<◌, ◌≡◌, ◌⊎◌, nat_eq, min, Bool, true, false, List, [], codes, length, Option, None, Some, IfSome, Result, Ok, Err, if◌then◌else◌}
 use Rattle.std.specs.List.{ends_with}
 use Rattle.xc_input.specs.Calls.{one_more, counted, Rose}
 use Rattle.xc_tools.specs.declared.system.Answer.{Answer}
@@ -26,24 +26,15 @@ is_flushed _ = false
 abbrev pub answered : Answer → Asked → Asked
 answered a old = record { calls = one_more old.calls; failures = counted (is_failure a) old.failures; last = a }
 
--- what a write came to by which so many of so many bytes were taken: to take none of at least one is a failure
-abbrev pub taken_answer : ℕ → ℕ → Answer
-taken_answer taken given = if nat_eq taken given then Whole else if nat_eq taken 0 then Failed else Part
-
--- what a write came to
+-- what a write came to: to take none of at least one byte is a failure
 abbrev pub write_answer : {E : Type 0} → Result ℕ E → List ℕ → Answer
-write_answer (Ok n) bytes = taken_answer n (length bytes)
+write_answer (Ok n) bytes = if nat_eq n (length bytes) then Whole else if nat_eq n 0 then Failed else Part
 write_answer (Err e) bytes = Failed
 
--- what a flush came to
-abbrev pub flush_answer : {T E : Type 0} → Result T E → Answer
-flush_answer (Ok x) = Flushed
-flush_answer (Err e) = Failed
-
--- what a read came to
-abbrev pub read_answer : {E : Type 0} → Result ℕ E → Answer
-read_answer (Ok n) = Whole
-read_answer (Err e) = Failed
+-- what a call came to whose success is this answer
+abbrev pub answer_of : {T E : Type 0} → Answer → Result T E → Answer
+answer_of success (Ok x) = success
+answer_of success (Err e) = Failed
 
 -- No call was made, or one, and that didn't fail.
 abbrev pub AskedAtMostOnce : Asked → Asked → Type 0
@@ -51,9 +42,7 @@ AskedAtMostOnce old new = (new ≡ old) ⊎ ((a : Answer) × (is_failure a ≡ f
 
 -- One call was made, with this answer, of what there is to be asked.
 abbrev pub IsAskedOnce : Option Asked → Option Asked → Answer → Type 0
-IsAskedOnce (Some old) (Some new) a = new ≡ answered a old
-IsAskedOnce (Some old) None a = ⊥
-IsAskedOnce None new a = Unit {0}
+IsAskedOnce old new a = IfSome old (λ before. new ≡ Some (answered a before))
 
 -- Calls were made; the last one was a flush, and none failed.
 pub record FlushedLast (old new : Asked) : Type 0 where
@@ -64,11 +53,6 @@ pub record FlushedLast (old new : Asked) : Type 0 where
 pub record BrokeLast (old new : Asked) : Type 0 where
   pub one : Rose old.failures new.failures
   pub last : new.last ≡ Failed
-
--- the bytes that a reader has left; none where there is no reader
-abbrev pub bytes_left : Option (Option (List ℕ)) → Option (List ℕ)
-bytes_left None = Some []
-bytes_left (Some left) = left
 
 -- whether a text ends behind a line feed
 abbrev pub ends_line : List ℕ → Bool

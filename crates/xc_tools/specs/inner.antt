@@ -1,2 +1,3 @@
 -- What only contracts of private functions cite: how a whole text is read.
 pub mod WholeTexts
+pub mod TakenAnswers

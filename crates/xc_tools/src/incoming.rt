@@ -1,9 +1,10 @@
 //! The system's readers and files as sources.
-ghost use Rattle.std.specs.Prelude.{◌≡◌, true, ◌+◌, ◌-◌, ◌^◌, ◌<◌, ◌≤◌, None, length, is_err, option_map, IfOk, IsErr, OnErr, [], ◌∷◌, ◌++◌, take};
+ghost use Rattle.std.specs.Prelude.{◌≡◌, true, ◌+◌, ◌-◌, ◌^◌, ◌<◌, ◌≤◌, None, length, is_err, option_map, unwrap_or, Some, IfOk, IsErr, OnErr, [], ◌∷◌, ◌++◌, take};
 ghost use Rattle.std.specs.Io.KnownBytes.{ReadConsumes};
 ghost use Rattle.xc_input.specs.Calls.{counted};
 ghost use Rattle.xc_input.specs.Pieces.{SourceState};
-ghost use Rattle.xc_tools.specs.Streams.{bytes_left, IsAskedOnce, read_answer};
+ghost use Rattle.xc_tools.specs.Streams.{IsAskedOnce, answer_of};
+ghost use Rattle.xc_tools.specs.declared.system.Answer.TheVariants.{Whole};
 
 use crate::system::{System, SystemReader};
 use std::io::Read;
@@ -73,7 +74,7 @@ impl<R: SystemReader + Drop> Source for Incoming<R> {
     ghost state = { λ s. record {
       failures = s.failures;
       limit = s.left;
-      rest = bytes_left (option_map R.remaining s.reader);
+      rest = unwrap_or (option_map R.remaining s.reader) (Some []);
       given = s.given.lines;
     } };
 
@@ -83,8 +84,8 @@ impl<R: SystemReader + Drop> Source for Incoming<R> {
         ensures limit { IfOk result (λ n. self.new.left + n ≡ self.old.left) }
         ensures limit_kept { OnErr result (self.new.left ≡ self.old.left) }
         ensures failures { self.new.failures ≡ counted (is_err result) self.old.failures }
-        ensures bytes { ReadConsumes (bytes_left (option_map R.remaining self.old.reader))
-            (bytes_left (option_map R.remaining self.new.reader)) result buf.new }
+        ensures bytes { ReadConsumes (unwrap_or (option_map R.remaining self.old.reader) (Some []))
+            (unwrap_or (option_map R.remaining self.new.reader) (Some [])) result buf.new }
         ensures given { IfOk result (λ n. self.new.given.lines ≡ self.old.given.lines ++ take n buf.new ∷ []) }
         ensures given_kept { OnErr result (self.new.given.lines ≡ self.old.given.lines) }
 
@@ -94,7 +95,7 @@ impl<R: SystemReader + Drop> Source for Incoming<R> {
         ensures spent { self.old.left ≡ 0 → IsErr result × (self.new.reader ≡ self.old.reader) }
         ensures closed { 0 < self.old.failures → IsErr result × (self.new.reader ≡ self.old.reader) }
         ensures asked { self.old.failures ≡ 0 → 0 < self.old.left → IsAskedOnce
-            (option_map R.asked self.old.reader) (option_map R.asked self.new.reader) (read_answer result) }
+            (option_map R.asked self.old.reader) (option_map R.asked self.new.reader) (answer_of Whole result) }
     {
         if self.failures > 0 || self.left == 0 {
             return Err(self.fail());

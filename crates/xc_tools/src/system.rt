@@ -1,9 +1,10 @@
 //! What the system is asked for its streams, and what it answers.
 ghost use Rattle.std.specs.Prelude.{◌≡◌, ◌≤◌, ℕ, List, Option, length, IfOk};
 ghost use Rattle.std.specs.Io.KnownBytes.{Keeps, ReadConsumes, WriteAppends};
-ghost use Rattle.xc_tools.specs.Streams.{Asked, answered, taken_answer, write_answer, flush_answer, read_answer};
+ghost use Rattle.xc_tools.specs.Streams.{Asked, answered, write_answer, answer_of};
+ghost use Rattle.xc_tools.specs.inner.TakenAnswers.{taken_answer};
 ghost use Rattle.xc_tools.specs.declared.system.Answer.{Answer};
-ghost use Rattle.xc_tools.specs.declared.system.Answer.TheVariants.{Flushed};
+ghost use Rattle.xc_tools.specs.declared.system.Answer.TheVariants.{Whole, Flushed};
 
 use std::io::{Read, Write};
 use xc_input::ReadFailed;
@@ -34,7 +35,7 @@ pub trait SystemReader {
     fn read(&mut self, buf: &mut [u8]) -> Result<usize, ReadFailed>
         ensures bound { IfOk result (λ n. n ≤ length buf.new) }
         ensures bytes { ReadConsumes (remaining self.old) (remaining self.new) result buf.new }
-        ensures asked { asked self.new ≡ answered (read_answer result) (asked self.old) };
+        ensures asked { asked self.new ≡ answered (answer_of Whole result) (asked self.old) };
 }
 
 /// What a sink asks of the system. Each call is counted with its answer.
@@ -54,7 +55,7 @@ pub trait SystemWriter {
     /// Asks to flush what was written, once.
     fn flush(&mut self) -> Result<(), WriteFailed>
         ensures bytes { Keeps (contents self.old) (contents self.new) }
-        ensures asked { asked self.new ≡ answered (flush_answer result) (asked self.old) };
+        ensures asked { asked self.new ≡ answered (answer_of Flushed result) (asked self.old) };
 }
 
 /// A reader or writer of std, whose calls are counted.

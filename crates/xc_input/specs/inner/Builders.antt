@@ -16,9 +16,9 @@ use Rattle.xc_input.specs.Tokens.{is_space}
 use Rattle.xc_input.specs.inner.Flat.{pieces}
 use Rattle.xc_input.specs.inner.Vectors.{AreOptionStarts}
 use Rattle.xc_input.specs.inner.Stored.{key_names}
-use Rattle.xc_input.specs.Stages.{Stage}
-use Rattle.xc_input.specs.Sheets.{Entry, Sheet, Written, names_of}
-use Rattle.xc_input.specs.Faults.{Row}
+use Rattle.xc_input.specs.inner.Stages.{Stage, Row}
+use Rattle.xc_input.specs.Sheets.{Entry, Written}
+use Rattle.xc_input.specs.inner.Sheets.{Sheet, names_of}
 use Rattle.xc_input.specs.Limits.{most_items, most_uses}
 
 -- the answer to what has this first fault

@@ -1,7 +1,8 @@
 -- No public clause cites this module. The uses of an option that is kept, with the numbers of their colours.
 use Rattle.std.specs.Prelude.{ℕ, List}
 use Rattle.xc_input.specs.declared.problem.Use.{Use}
-use Rattle.xc_input.specs.Sheets.{Written, with_uses, number_uses}
+use Rattle.xc_input.specs.Sheets.{Written, number_uses}
+use Rattle.xc_input.specs.inner.Sheets.{with_uses}
 
 -- the uses of an option that is kept, behind options that used these colours
 abbrev pub numbered : List (List ℕ) → List Written → List Use

@@ -6,7 +6,7 @@ use Rattle.xc_input.specs.declared.reader.Read.{Read}
 use Rattle.xc_input.specs.Words.{has}
 use Rattle.xc_input.specs.Named.{Named}
 use Rattle.xc_input.specs.Text.{StandsFor}
-use Rattle.xc_input.specs.Stages.{line_fault, first_fault}
+use Rattle.xc_input.specs.FirstFault.{line_fault, first_fault}
 use Rattle.xc_input.specs.Readings.{Reading, IsErrorFor, IsFault}
 use Rattle.xc_input.specs.Lines.{lines_of}
 use Rattle.xc_input.specs.inner.EndedLines.{ended, AreWhole}

@@ -4,7 +4,8 @@ use Rattle.std.specs.Prelude.{filter_map}
 use Rattle.std.specs.List.{before_first, position_or_len, cons_option, AllZip}
 use Rattle.xc_input.specs.Named.{Named}
 use Rattle.xc_list.specs.declared.checker.Verdict.{Verdict}
-use Rattle.xc_list.specs.ListingLines.{Line, Header, Body, Other, read, header_number, body_of}
+use Rattle.xc_list.specs.ListingLines.{header_number, body_of}
+use Rattle.xc_list.specs.inner.ReadLines.{Line, Header, Body, Other, read}
 use Rattle.xc_list.specs.Listed.{Solution, solutions_of, IsVerdictOn, AreVerdicts}
 use Rattle.xc_list.specs.inner.Listings.{Listing, before_listing, listing_of}
 

@@ -14,15 +14,16 @@ use Rattle.xc_search.specs.Cover.{IsCover, options_of, members}
 use Rattle.xc_search.proofs.completeness.Covering.{each_member_covers}
 use Rattle.xc_list.specs.Known.{IsKnownChoice}
 use Rattle.xc_list.specs.Output.{member_text, is_printed, output}
-use Rattle.xc_list.specs.ListingLines.{Header, Body}
+use Rattle.xc_list.specs.inner.ReadLines.{Header, Body}
+use Rattle.xc_list.proofs.CheckLemmas.CheckedLines.{fault_said, lines-cons}
 use Rattle.xc_list.specs.declared.checker.Verdict.{Verdict}
 use Rattle.xc_list.specs.declared.checker.ListingFault.{ListingFault}
 use Rattle.xc_list.specs.declared.checker.ListingFault.TheVariants.{BadLine, UnknownOption, Memory}
 use Rattle.std.specs.Option.{option_or}
-use Rattle.xc_list.specs.Listed.{Solution, IsVerdictOn, AreVerdicts, IsListingFault, stands_for, is_known, fault_in_line, fault_in_lines, fault_in_listing, solutions_of, IsListedCover}
+use Rattle.xc_list.specs.Listed.{Solution, IsVerdictOn, AreVerdicts, IsListingFault, stands_for, is_known, fault_in_lines, fault_in_listing, solutions_of, IsListedCover}
 use Rattle.xc_list.proofs.OutputLemmas.KnownMembers.{members_known}
 use Rattle.xc_list.proofs.OutputLemmas.CountedMembers.{IsCounted, members_counted}
-use Rattle.xc_list.proofs.OutputLemmas.OutputLines.{choice_words, choice_line, output_lines, IsPrintable, IsPrintableMember, lines_of-members, read-choice_line, read-header_line}
+use Rattle.xc_list.proofs.OutputLemmas.OutputLines.{choice_words, choice_line, header_line, output_lines, IsPrintable, IsPrintableMember, lines_of-members, read-choice_line, read-header_line}
 use Rattle.xc_list.proofs.OutputLemmas.ChoiceBodies.{IsTold, told}
 
 record IsReadable (p : Named) (c : Choice) : Type 0 where
@@ -46,8 +47,11 @@ no_fault-choices p n [] rest h all later = later n h
 no_fault-choices p n (c ∷ m) rest h all later =
     let first : IsReadable p c = All-head (IsReadable p) c m all in
     let begun : not (n == 0) ≡ true = grind (arith, nat_tests) in
-    ap (λ l. option_or (fault_in_line p (not (n == 0)) (line n) l) (fault_in_lines p (n + 1) (map (choice_line p) m ++ rest))) (read-choice_line p c first.printable).0
-    ∙ ap (λ t. option_or (fault_in_line p t (line n) (Body (choice_words p c))) (fault_in_lines p (n + 1) (map (choice_line p) m ++ rest))) begun
+    lines-cons p n (choice_line p c) (map (choice_line p) m ++ rest)
+    ∙ ap (λ l. option_or (fault_said p (not (n == 0)) (line n) l)
+        (fault_in_lines p (n + 1) (map (choice_line p) m ++ rest))) (read-choice_line p c first.printable).0
+    ∙ ap (λ t. option_or (fault_said p t (line n) (Body (choice_words p c)))
+        (fault_in_lines p (n + 1) (map (choice_line p) m ++ rest))) begun
     ∙ ap (λ t. option_or (if t then None else Some (UnknownOption (line n))) (fault_in_lines p (n + 1) (map (choice_line p) m ++ rest))) first.told.accepted
     ∙ no_fault-choices p (n + 1) m rest (omega arith) (All-tail (IsReadable p) c m all) later
 
@@ -55,7 +59,10 @@ no_fault-members : (p : Named) (n : ℕ) (nms : List (ℕ × List Choice)) → A
 no_fault-members p n [] all = refl
 no_fault-members p n (nm ∷ nms) all =
     let first : IsReadableMember p nm = All-head (IsReadableMember p) nm nms all in
-    ap (λ l. option_or (fault_in_line p (not (n == 0)) (line n) l) (fault_in_lines p (n + 1) (map (choice_line p) nm.1 ++ output_lines p nms))) (read-header_line nm.0 first.number)
+    lines-cons p n (header_line nm.0) (map (choice_line p) nm.1 ++ output_lines p nms)
+    ∙ ap (λ l. option_or (fault_said p (not (n == 0)) (line n) l)
+        (fault_in_lines p (n + 1) (map (choice_line p) nm.1 ++ output_lines p nms)))
+        (read-header_line nm.0 first.number)
     ∙ no_fault-choices p (n + 1) nm.1 (output_lines p nms) (omega arith) first.choices (λ k h. no_fault-members p k nms (All-tail (IsReadableMember p) nm nms all))
 
 -- ---- what is listed

@@ -12,7 +12,7 @@ use Rattle.xc_input.specs.inner.EndedLines.{ended, AreWhole}
 use Rattle.xc_input.proofs.LineLemmas.{lines_of-ended}
 use Rattle.xc_search.specs.declared.choice.Choice.{Choice}
 use Rattle.xc_list.specs.Output.{bytes_at, from_item, use_word, body_text, choice_text, member_text}
-use Rattle.xc_list.specs.ListingLines.{Header, Body, read}
+use Rattle.xc_list.specs.inner.ReadLines.{Header, Body, read}
 use Rattle.xc_list.proofs.OutputLemmas.ReadLines.{IsPlain, spaced, ending_words, read-header, no_feed-header, read-choice}
 
 -- the words of a choice before its counts

@@ -14,7 +14,9 @@ use Rattle.xc_input.proofs.GrammarLemmas.{or-false, or-both, and-true, and-both}
 use Rattle.std.specs.Char.{is_ascii_digit}
 use Rattle.xc_list.specs.Settings.{long_number}
 use Rattle.xc_list.proofs.Digits.{some_digits}
-use Rattle.xc_list.specs.ListingLines.{words_in, are_digits, before_last, solution_number, header_number, is_word, is_closing, is_ending, body_of_words, body_of, Line, Header, Body, Other, read}
+use Rattle.xc_list.specs.ListingLines.{words_in, before_last, solution_number, header_number, is_word, is_closing, is_ending, body_of_words, body_of}
+use Rattle.xc_input.specs.Words.{are_digits}
+use Rattle.xc_list.specs.inner.ReadLines.{Line, Header, Body, Other, read}
 
 -- ---- digits
 

@@ -2,8 +2,9 @@
 use Rattle.std.specs.Prelude.{ℕ, ◌+◌, ◌-◌, ◌^◌, ◌≡◌, ◌==◌, not, min, List, [], ◌∷◌, ◌++◌, filter, Option, Some, None, is_some}
 use Rattle.xc_list.specs.inner.Listings.{Listing, listing_of}
 use Rattle.std.specs.List.{AllZip}
-use Rattle.xc_list.specs.ListingLines.{Line, words_in, read}
-use Rattle.xc_list.specs.ListingLines as lines
+use Rattle.xc_list.specs.ListingLines.{words_in}
+use Rattle.xc_list.specs.inner.ReadLines.{Line, read}
+use Rattle.xc_list.specs.inner.ReadLines as lines
 use Rattle.xc_list.specs.Listed.{Solution, is_known, fault_in_listing, fault_in_lines, IsVerdictOn, AreVerdicts, IsListingFault}
 use Rattle.xc_list.specs.inner.Classes.{Classes, IsClassOfBody}
 use Rattle.xc_list.specs.declared.checker.Verdict.{Verdict}

@@ -1,6 +1,6 @@
 -- No public clause cites this module. What lines list, from the last one on.
 use Rattle.std.specs.Prelude.{ℕ, List, [], ◌∷◌}
-use Rattle.xc_list.specs.ListingLines.{Line, Header, Body, Other, read}
+use Rattle.xc_list.specs.inner.ReadLines.{Line, Header, Body, Other, read}
 use Rattle.xc_list.specs.Listed.{Solution}
 
 -- bodies that stand before the first header, and the solutions behind them

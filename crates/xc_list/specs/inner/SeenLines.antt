@@ -1,7 +1,7 @@
 -- No public clause cites this module. What is known of lines that were met before.
 use Rattle.std.specs.Prelude.{ℕ, ◌≡◌, ◌⊎◌, List, Contains, IfSome, Some, slice_set}
 use Rattle.xc_list.specs.declared.checker.seen_lines.SeenLine.{SeenLine}
-use Rattle.xc_list.specs.ListingLines.{Body, read}
+use Rattle.xc_list.specs.inner.ReadLines.{Body, read}
 use Rattle.xc_list.specs.inner.Classes.{Classes, IsClassOfBody}
 
 -- this line stands among those that were met, with this class

@@ -6,7 +6,9 @@ ghost use Rattle.std.specs.Char.{is_ascii_digit};
 ghost use Rattle.xc_input.specs.Words.{has};
 ghost use Rattle.xc_input.specs.Lines.{lines_of};
 ghost use Rattle.xc_input.specs.Tokens.{is_space};
-ghost use Rattle.xc_list.specs.ListingLines.{words_in, are_digits, before_last, solution_number, header_number, is_word, is_opening, is_closing, is_ending, body_of_words, body_of, read};
+ghost use Rattle.xc_list.specs.ListingLines.{words_in, before_last, solution_number, header_number, is_word, is_opening, is_closing, is_ending, body_of_words, body_of};
+ghost use Rattle.xc_input.specs.Words.{are_digits};
+ghost use Rattle.xc_list.specs.inner.ReadLines.{read};
 ghost use Rattle.xc_list.specs.inner.Checking.{line_said};
 
 use crate::words::long_number;

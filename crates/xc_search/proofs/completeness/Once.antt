@@ -185,4 +185,6 @@ one_place ms all j k l m e f same =
 
 pub no_set_twice : (p : Puzzle) → IsValid p → NoSetTwice p
 unfolding listing
-no_set_twice p v = one_place (members p) (all_differ (size_of (whole p)) (whole p) (options_rise p))
+no_set_twice p v j k s a b =
+    one_place (members p) (all_differ (size_of (whole p)) (whole p) (options_rise p)) j k a.0 b.0 a.1 b.1
+    (λ o. (λ h. (b.2 o).0 ((a.2 o).1 h), λ h. (a.2 o).0 ((b.2 o).1 h)))

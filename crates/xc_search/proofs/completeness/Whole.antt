@@ -139,4 +139,4 @@ unfolding listing
 each_cover_is_listed p v s c =
     let m = listed_for (primary_count p) (size_of (whole p)) (whole p) (is_listed s) (proper_whole p v) (covers_whole p s v c) (omega arith) in
     let at = slice_get-in (members p) m.0 m.1 in
-    (at.0, m.0, at.1, same_set p s m.0 c m.2)
+    (at.0, (m.0, at.1, same_set p s m.0 c m.2))

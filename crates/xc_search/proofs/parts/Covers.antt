@@ -4,8 +4,8 @@ use Rattle.std.specs.Prelude.{Contains}
 use Rattle.std.specs.List.{AllByRecursion}
 use Rattle.std.proofs.lemmas.List.Elements.{recursion_from_All}
 use Rattle.xc_input.specs.Problem.{Puzzle, Numbered, numbered_options, holds, IsValid, holding}
-use Rattle.xc_search.specs.Cover.{IsCover}
-use Rattle.xc_search.specs.Parts.{IsHeldOnce, is_in_part, part_options, part, number_in_problem, in_problem, PartsJoin, PartsAreApart}
+use Rattle.xc_search.specs.Cover.{IsCover, SameSet}
+use Rattle.xc_search.specs.Parts.{IsHeldOnce, is_in_part, part_options, part, number_in_problem, in_problem, IsPartCover, PartsJoin, PartsAreApart}
 use Rattle.xc_dance.proofs.MoveLemmas.OptionsRise.{options_rise}
 use Rattle.xc_search.proofs.completeness.Covering.{bounded}
 use Rattle.xc_input.proofs.lists.Members.{IsIn, in-filter, filter-in, in-map, in-slice_get, each_in, in-contains, contains-in}
@@ -69,17 +69,20 @@ in_its_part p i s x c one o h =
     (at.0, at.1, at.2 ∙ y.2)
 
 pub parts_join : (p : Puzzle) → IsValid p → (i : ℕ) → IsHeldOnce p i → PartsJoin p i
-parts_join p v i once s = (there, λ h. subst (IsCover p) (sym h.4) (cover_of_problem p i h.0 h.2 h.3))
+parts_join p v i once s = (there, λ h. subst (IsCover p) (sym h.1.3) (cover_of_problem p i h.0 h.1.1 h.1.2))
   where
-    there : IsCover p s → (x : Numbered) × Contains (holding i (numbered_options p)) x × (t : List ℕ) × IsCover (part p i x) t × (s ≡ in_problem p i x t)
+    there : IsCover p s → (x : Numbered) × IsPartCover p i x s
     there c =
         let x = the_one p i s v once c in
         let t = before (number_in_problem p i x.0) (IsNumber (part p i x.0)) s (in_its_part p i s x.0 c x.1) in (
           x.0,
-          contains-in (holding i (numbered_options p)) x.0 (filter-in (λ o. holds o i) (numbered_options p) x.0 x.1.known x.1.at),
-          t.0,
-          cover_of_part p i x.0 t.0 t.1 (subst (IsCover p) t.2 c),
-          t.2,
+          (
+            contains-in (holding i (numbered_options p)) x.0
+                (filter-in (λ o. holds o i) (numbered_options p) x.0 x.1.known x.1.at),
+            t.0,
+            cover_of_part p i x.0 t.0 t.1 (subst (IsCover p) t.2 c),
+            t.2,
+          ),
         )
 
 -- the option of a part is in each cover of it
@@ -93,11 +96,19 @@ own_option p i x t v once c =
     let same = or_other _ _ (ap not one.1.at) (subst (λ o. is_in_part i x o ≡ true) is found.1) in
     subst (IsIn (in_problem p i x t)) (eqb-true one.0.number x.number same) one.1.taken
 
-pub parts_are_apart : (p : Puzzle) → IsValid p → (i : ℕ) → IsHeldOnce p i → PartsAreApart p i
-parts_are_apart p v i once x y h k t u c d same =
+apart_by_parts : (p : Puzzle) → IsValid p → (i : ℕ) → IsHeldOnce p i → (x y : Numbered)
+    → Contains (holding i (numbered_options p)) x → Contains (holding i (numbered_options p)) y
+    → (t u : List ℕ) → IsCover (part p i x) t → IsCover (part p i y) u
+        → SameSet (in_problem p i x t) (in_problem p i y u) → x ≡ y
+apart_by_parts p v i once x y h k t u c d same =
     let ofx = in-filter (λ o. holds o i) (numbered_options p) x (in-contains (holding i (numbered_options p)) x h) in
     let ofy = in-filter (λ o. holds o i) (numbered_options p) y (in-contains (holding i (numbered_options p)) y k) in
     let one = the_one p i (in_problem p i y u) v once (cover_of_problem p i y u d) in
     let there = (same x.number).0 (contains-in (in_problem p i x t) x.number (own_option p i x t v once c)) in
     same_number 0 (numbered_options p) x y (options_rise p) ofx.0 ofy.0
     (one.1.only x ofx.0 ofx.1 (in-contains (in_problem p i y u) x.number there) ∙ sym (one.1.only y ofy.0 ofy.1 (own_option p i y u v once d)))
+
+pub parts_are_apart : (p : Puzzle) → IsValid p → (i : ℕ) → IsHeldOnce p i → PartsAreApart p i
+parts_are_apart p v i once x y s t h k same =
+    apart_by_parts p v i once x y h.0 k.0 h.1 k.1 h.2 k.2 (subst (λ a. SameSet a (in_problem p i y k.1)) h.3
+        (subst (SameSet s) k.3 same))

@@ -1,6 +1,6 @@
 use Rattle.std.proofs.Common.{◌≡◌, ◌++◌, ◌+◌, ◌≤◌, drop, map, length}
 use Rattle.xc_input.proofs.ColourLemmas.{numbered_in_turn}
-use Rattle.xc_input.specs.Sheets.{with_uses}
+use Rattle.xc_input.specs.inner.Sheets.{with_uses}
 use Rattle.xc_input.specs.inner.Builders.{written_of}
 use Rattle.xc_input.specs.inner.Stored.{key_names}
 use Rattle.xc_input.proofs.builder.add_uses.Given as goal

@@ -1,17 +1,18 @@
-use Rattle.std.proofs.Common.{ap, sym, ◌∙◌, refl}
-use Rattle.xc_input.specs.Sheets.{named_of}
-use Rattle.xc_input.specs.Stages.{stage_of}
-use Rattle.xc_input.proofs.LawLemmas.{stands, stands-only}
+use Rattle.std.proofs.Common.{sym, ◌∙◌}
+use Rattle.xc_input.proofs.SheetGrammar.{named_of}
+use Rattle.xc_input.specs.inner.Stages.{stage_of}
+use Rattle.xc_input.proofs.FirstFaults.{faultless-stands, stands-only}
 use Rattle.xc_input.proofs.law.fault_or_problem.Goals as goal
 
 pub returns-clause-stands : goal.returns-clause-stands
-returns-clause-stands c = λ kind lines none. (named_of (stage_of kind lines).sheet, (stage_of kind lines).ignored, ((stage_of kind lines).sheet, refl, stands kind lines none))
+returns-clause-stands c = λ kind lines none. (named_of (stage_of kind lines).sheet, (stage_of kind lines).ignored,
+    faultless-stands kind lines none)
 
 pub returns-clause-faultless : goal.returns-clause-faultless
-returns-clause-faultless c = λ kind lines named ignored s. (stands-only kind lines s.0 ignored s.2).0
+returns-clause-faultless c = λ kind lines named ignored s. (stands-only kind lines named ignored s).0
 
 pub returns-clause-one : goal.returns-clause-one
 returns-clause-one c = λ kind lines a b is js s t.
-    let p = stands-only kind lines s.0 is s.2 in
-    let q = stands-only kind lines t.0 js t.2 in
-    (s.1 ∙ ap named_of (p.1 ∙ sym q.1) ∙ sym t.1, p.2 ∙ sym q.2)
+    let p = stands-only kind lines a is s in
+    let q = stands-only kind lines b js t in
+    (p.1 ∙ sym q.1, p.2 ∙ sym q.2)

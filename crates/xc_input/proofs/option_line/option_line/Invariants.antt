@@ -1,6 +1,7 @@
 use Rattle.std.proofs.Common.{◌≡◌, ◌++◌, [], map, length, All}
 use Rattle.xc_input.specs.Tokens.{tokens}
-use Rattle.xc_input.specs.Faults.{first, option_checks, context, written}
+use Rattle.xc_input.specs.Faults.{first}
+use Rattle.xc_input.specs.inner.Stages.{option_checks, context, written}
 use Rattle.xc_input.specs.inner.Builders.{written_of, items_of, AreMarks, IsMarkable}
 use Rattle.xc_input.specs.inner.Stored.{key_names}
 use Rattle.xc_input.proofs.option_line.option_line.Given as goal

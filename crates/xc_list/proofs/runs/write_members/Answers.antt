@@ -3,7 +3,7 @@ use Rattle.std.proofs.lemmas.List.Elements.{All-same}
 use Rattle.xc_search.specs.Outlook.{Outlook, shown_after}
 use Rattle.xc_list.specs.Texts.{Took}
 use Rattle.xc_list.specs.Known.{IsKnownChoice}
-use Rattle.xc_list.proofs.Outputs.{known_next, output_all}
+use Rattle.xc_list.proofs.Outputs.{known_next, output_all, done_end}
 use Rattle.xc_list.proofs.NextPrinted.{Reaches, reaches, ends, takes, stops, stands, within, none_left, keeps}
 use Rattle.xc_list.proofs.runs.write_members.Goals as goal
 use Rattle.xc_list.proofs.runs.write_members.Goals.{After-pass-passed}
@@ -51,8 +51,7 @@ returns-then-passed-steps-clause-run g c =
     let all = ends a spacing c.loop-found.found c.steps_to_printed-steps.result c.pass-passed.result c.args.words.now.limit c.loop-found.invariant.within
     (omega (arith, c.pass-passed.ensures.count, c.if-passed-steps.true, had)) c.if-passed-steps.true steps.silent in
     let less : c.loop-found.found + c.pass-passed.result < c.args.words.now.limit = omega (arith, c.if-passed-steps.true, steps.within) in (
-      all.0,
-      less,
+      done_end a c.args.words.now.limit (c.loop-found.found + c.pass-passed.result) all.0 less,
       subst (Took _ _) (sym (output_all a spacing (c.loop-found.found + c.pass-passed.result) c.args.words.now.limit all.0 (omega (arith, less)) ∙ all.1)) c.loop-found.invariant.taken,
     )
 

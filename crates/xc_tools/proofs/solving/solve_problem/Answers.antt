@@ -1,6 +1,5 @@
 use Rattle.std.proofs.Common.{inl, inr}
 use Rattle.xc_list.specs.Texts.{WasTold}
-use Rattle.xc_list.proofs.Outputs.{done_end, limit_end}
 use Rattle.xc_tools.specs.Solves.{solution}
 use Rattle.xc_tools.proofs.RunLemmas.{behind_nothing, finished}
 use Rattle.xc_tools.proofs.solving.solve_problem.Goals as goal
@@ -13,12 +12,10 @@ returns-in-Ok-WriteFailed g c =
 pub returns-in-Ok-Done : goal.returns-in-Ok-Done
 returns-in-Ok-Done g c =
     let run = rw c.in-Ok-Done.field-0-is at c.in-Ok-Done.ensures.run in
-    let end = done_end c.args.problem.now c.args.words.limit c.in-Ok-Done.n run.0 run.1 in
-    record { did = finished (g.O.Sink.state c.finish.new.out) end run.2 c.finish.ensures.kept c.finish.ensures.flushed_once c.finish.ensures.did }
+    record { did = finished (g.O.Sink.state c.finish.new.out) run.0 run.1 c.finish.ensures.kept c.finish.ensures.flushed_once c.finish.ensures.did }
 
 pub returns-in-Ok-Limit : goal.returns-in-Ok-Limit
 returns-in-Ok-Limit g c =
     let run = rw c.in-Ok-Limit.field-0-is at c.in-Ok-Limit.ensures.run in
-    let end = limit_end c.args.problem.now c.args.words.limit c.in-Ok-Limit.n run.0 run.1 in
     let finish = c.finish-in-Ok-Limit in
-    record { did = finished (g.O.Sink.state finish.new.out) end run.2 finish.ensures.kept finish.ensures.flushed_once finish.ensures.did }
+    record { did = finished (g.O.Sink.state finish.new.out) run.0 run.1 finish.ensures.kept finish.ensures.flushed_once finish.ensures.did }

@@ -2,10 +2,10 @@ use Rattle.std.proofs.Common.{ℕ, vec_len, ◌≡◌, ◌∙◌, sym, ap, subst
 use Rattle.xc_input.specs.inner.ColourNumbers.{numbered}
 use Rattle.xc_input.specs.Problem.{use_count}
 use Rattle.xc_input.specs.Tokens.{tokens}
-use Rattle.xc_input.specs.Sheets.{with_uses}
-use Rattle.xc_input.specs.Faults.{has_primary, option_checks, context}
+use Rattle.xc_input.specs.inner.Sheets.{with_uses}
+use Rattle.xc_input.specs.Faults.{has_primary}
+use Rattle.xc_input.specs.inner.Stages.{option_checks, context, written_by}
 use Rattle.xc_input.specs.Limits.{most_uses}
-use Rattle.xc_input.specs.Stages.{written_by}
 use Rattle.xc_input.specs.declared.fault.FaultKind.TheVariants.{TooManyUses}
 use Rattle.xc_input.specs.declared.option_line.WrittenUse.{WrittenUse}
 use Rattle.xc_input.specs.inner.Builders.{AreMarks, written_of, sheet_of_builder}

@@ -1,5 +1,5 @@
 use Rattle.std.proofs.Common.{ap, ◌∙◌}
-use Rattle.xc_input.specs.Words.{number_in}
+use Rattle.xc_input.specs.inner.Stored.{number_in}
 use Rattle.xc_input.specs.Named.{Named}
 use Rattle.xc_input.proofs.NameLemmas.{number_in-found, number_in-none}
 use Rattle.xc_input.proofs.problem.Problem.find_colour.Goals as goal

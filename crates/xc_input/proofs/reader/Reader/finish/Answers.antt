@@ -2,7 +2,7 @@ use Rattle.std.proofs.Common.{◌∙◌, sym, subst}
 use Rattle.xc_input.specs.Named.{IsSound}
 use Rattle.xc_input.specs.Text.{StandsFor}
 use Rattle.xc_input.proofs.GrammarLemmas.{not-true, not-false}
-use Rattle.xc_input.proofs.FinishLemmas.{refuses, unstarted, accepts, alone, is-sound, table-names, primary-within, optional-behind, starts-are}
+use Rattle.xc_input.proofs.FinishLemmas.{refuses, no-items, unstarted, accepts, alone, is-sound, table-names, primary-within, optional-behind, starts-are}
 use Rattle.xc_input.proofs.reader.Reader.finish.Goals as goal
 
 pub returns-in-Some-clause-refused : goal.returns-in-Some-clause-refused
@@ -10,6 +10,11 @@ returns-in-Some-clause-refused c = refuses _ c.self.inside.kind c.self.inside.gi
 
 pub returns-then-not-builder-clause-refused : goal.returns-then-not-builder-clause-refused
 returns-then-not-builder-clause-refused c = λ u. unstarted _ c.self.inside.kind c.self.inside.given.lines c.self.inside.error (sym c.self.view_is) c.self.invariant.1 c.in_default.is c.self.inside.builder c.self.invariant.2 (not-true _ c.if-not-builder.true)
+
+pub returns-then-not-builder-clause-first : goal.returns-then-not-builder-clause-first
+returns-then-not-builder-clause-first c = no-items _ c.self.inside.kind c.self.inside.given.lines c.self.inside.error
+    (sym c.self.view_is) c.self.invariant.1 c.in_default.is c.self.inside.builder c.self.invariant.2
+    (not-true _ c.if-not-builder.true) _ _ c.self.invariant.0 c.saturating_add.ensures
 
 pub new-requires-clause-names : goal.new-requires-clause-names
 new-requires-clause-names c = table-names _ c.self.inside.kind c.self.inside.given.lines c.self.inside.error (sym c.self.view_is) c.self.invariant.1 c.in_default.is c.self.inside.builder c.self.invariant.2

@@ -1,6 +1,7 @@
 use Rattle.std.proofs.Common.{◌≡◌, true, not, is_some, Some, None, refl, sym, ap, ◌∙◌, ◌<◌, length, subst}
 use Rattle.std.specs.Prelude.{All}
-use Rattle.xc_list.specs.ListingLines.{Body, read, words_in}
+use Rattle.xc_list.specs.ListingLines.{words_in}
+use Rattle.xc_list.specs.inner.ReadLines.{Body, read}
 use Rattle.xc_list.specs.Listed.{is_none}
 use Rattle.xc_list.specs.inner.Classes.{Classes, IsIndexed, IsClassOfBody}
 use Rattle.xc_list.specs.inner.Checking.{Progress, Takes}

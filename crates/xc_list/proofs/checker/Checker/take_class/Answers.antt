@@ -1,6 +1,6 @@
 use Rattle.std.proofs.Common.{◌≡◌, true, is_some, Some, subst}
 use Rattle.xc_list.specs.inner.Classes.{IsClassOfBody}
-use Rattle.xc_list.specs.ListingLines.{Body}
+use Rattle.xc_list.specs.inner.ReadLines.{Body}
 use Rattle.xc_list.specs.inner.Checking.{Progress, Takes}
 use Rattle.xc_list.proofs.CheckLemmas.CheckedLines.{class_taken}
 use Rattle.xc_list.proofs.checker.Checker.take_class.Goals as goal

@@ -1,5 +1,5 @@
 use Rattle.std.proofs.Common.{refl, sym, ap, ◌∙◌}
-use Rattle.xc_list.specs.ListingLines.{Header}
+use Rattle.xc_list.specs.inner.ReadLines.{Header}
 use Rattle.xc_list.specs.inner.Checking.{Progress}
 use Rattle.xc_list.proofs.CheckLemmas.CheckedLines.{header_taken, moved}
 use Rattle.xc_list.proofs.checker.Checker.take_header.Goals as goal

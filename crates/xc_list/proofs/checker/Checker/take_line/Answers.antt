@@ -1,5 +1,5 @@
 use Rattle.std.proofs.Common.{sym, subst}
-use Rattle.xc_list.specs.ListingLines.{Line}
+use Rattle.xc_list.specs.inner.ReadLines.{Line}
 use Rattle.xc_list.specs.inner.Checking.{Takes}
 use Rattle.xc_list.proofs.checker.Checker.take_line.Goals as goal
 

@@ -1,0 +1,16 @@
+-- No public clause cites this module. What a line of a listing says.
+use Rattle.std.specs.Prelude.{ℕ, List, Option, Some, None}
+use Rattle.xc_list.specs.ListingLines.{header_number, body_of}
+
+-- what a line is: a header with its number, a choice line with its body, or neither
+pub data Line : Type 0 where
+  Header : ℕ → Line
+  Body : List (List ℕ) → Line
+  Other : Line
+
+-- (no line is both: a header begins with a digit, a choice line with a space)
+abbrev pub read : List ℕ → Line
+read line = elim (header_number line) [
+  | Some n ↦ Header n
+  | None ↦ elim (body_of line) [ Some words ↦ Body words | None ↦ Other ]
+]
