@@ -1,4 +1,4 @@
-"""The four programs: where they are, and how one is run.
+"""The programs: where they are, and how one is run.
 
 A program is looked for in the folders of `HELGROTHY_BIN` (parted as those of `PATH` are), then beside the package
 (`bin` in it, as an installed wheel has it; `bin` of an unpacked release; where a repository builds it), and last

@@ -11,7 +11,7 @@ import tempfile
 import unittest
 from unittest import mock
 
-from helgrothy import ProgramFailed, parts, programs
+from helgrothy import ProgramFailed, ProgramNotFound, parts, programs
 from helgrothy.errors import PartsFault
 from helgrothy.parts import progress
 from helgrothy.parts.__main__ import main
@@ -84,6 +84,10 @@ class InParts(unittest.TestCase):
         shutil.rmtree(self.path("parts"), ignore_errors=True)
         return parts.split(f"dlx{kind}", text, self.path("parts"), count)
 
+    def by_runs(self):
+        """Where there is no planner, short runs of the program cut the search."""
+        return mock.patch("helgrothy.parts.planner.find", side_effect=ProgramNotFound)
+
     def queens(self, count: int = 4) -> parts.Folder:
         """Six queens in parts, all listed."""
         lines = [" ".join([f"r{i}" for i in range(6)] + [f"c{i}" for i in range(6)] + ["|"])]
@@ -108,7 +112,9 @@ class Trees(InParts):
             kind = rng.choice([1, 2, 3])
             text = problem_of(rng, kind)
             with self.subTest(text=text, kind=kind):
-                folder = self.split(kind, text, rng.choice([1, 2, 5, 20]))
+                with self.by_runs() if case % 2 else contextlib.nullcontext():
+                    folder = self.split(kind, text, rng.choice([1, 2, 5, 20]))
+                self.assertEqual(folder.plan.by, "runs" if case % 2 else "dlx-plan")
                 for part in rng.sample(folder.plan.parts, len(folder.plan.parts)):
                     parts.run(folder, part.number, ["m1"])
                 joined = parts.Joined(folder)
@@ -140,22 +146,55 @@ class Trees(InParts):
         self.assertEqual((last.is_solution, [choice[1:] for choice in last.choices()]), (False, [(1, 2, 2), (2, 2, 0)]))
 
     def test_plans(self):
-        folder = self.queens(12)
+        with self.by_runs():
+            by_runs = self.queens(12)
+            self.assertGreaterEqual(len(by_runs.plan.parts), 12)
+            self.check_plan(by_runs)
+        by_planner = self.queens(12)
+        # Six queens have four solutions, so there are no more parts, and much is left out.
+        self.assertEqual(len(by_planner.plan.parts), 4)
+        self.assertGreater(len(by_planner.plan.left_out), 10)
+        self.check_plan(by_planner)
+        root = self.split(1, b"A B\nA\n", 5)
+        self.assertEqual([part.path for part in root.plan.parts], [()])
+
+    def check_plan(self, folder):
+        """Another plan than the folder's is refused, and so is a text that was changed."""
         plan = folder.plan
-        self.assertGreaterEqual(len(plan.parts), 12)
         self.assertEqual(parts.Plan.read(plan.text()).text(), plan.text())
         tree = parts.Tree(folder.problem, 1)
-        ps = plan.parts
+        plan.check(tree)
+        ps, left = plan.parts, plan.left_out
         some = next(at for at, part in enumerate(ps) if folder.record(part.number).solutions)
         for changed in (ps[:some] + ps[some + 1 :], ps[::-1], [], ps[:1] * 2, [*ps, ps[-1]], ps[:1]):
             with self.assertRaises(PartsFault):
-                parts.Plan(plan.program, plan.problem, changed).check(tree)
-        changes = ("r0:1/6", "r0:1/7"), ("r0:1/6", "r1:1/6"), ("@2", "@3"), ("end 1", "end 2"), ("dlx1", "dlx4")
+                parts.Plan(plan.program, plan.problem, plan.by, changed, left).check(tree)
+        for changed in [[*left, ps[some].path], *([left[1:], [*left[1:], ps[some].path], left * 2] if left else [])]:
+            with self.assertRaises(PartsFault):
+                parts.Plan(plan.program, plan.problem, plan.by, ps, changed).check(tree)
+        changes = ("r0:1/6", "r0:1/7"), ("r0:1/6", "r1:1/6"), ("@2", "@3"), ("\nend ", "\nend 9"), ("dlx1", "dlx4")
         for old, new in ((old.encode(), new.encode()) for old, new in changes):
+            self.assertIn(old, plan.text())
             with self.assertRaises(PartsFault):
                 parts.Plan.read(plan.text().replace(old, new, 1)).check(tree)
-        root = self.split(1, b"A B\nA\n", 5)
-        self.assertEqual([part.path for part in root.plan.parts], [()])
+
+    def test_numbers_of_parts(self):
+        text = b"a b c d | x\n" + b"".join(b"%c x:%d\n" % (item, k) for item in b"abcd" for k in range(5))
+        for count, wanted in ((1, 1), (2, 5), (5, 5)):
+            self.assertEqual(len(self.split(2, text, count).plan.parts), wanted)
+        self.assertEqual([part.path for part in parts.split("dlx2", text, self.path("p"), None, 9).plan.parts], [()])
+        none = b"a b c | x\na\nb x\nc x\n"
+        self.assertEqual([part.path for part in self.split(1, none, 5).plan.parts], [()])
+        both = parts.split("dlx2", text, self.path("q"), 5, 9)
+        self.assertEqual([part.path for part in both.plan.parts], [()])
+        planner = self.file("dlx-plan", b"#!/bin/sh\nwhile :; do :; done\n")
+        os.chmod(planner, 0o755)
+        with mock.patch("helgrothy.parts.planner.find", return_value=planner):
+            with mock.patch("helgrothy.parts.planner._LONGEST", 1):
+                self.assertEqual(self.split(2, text, 2).plan.by, "runs")
+        self.file("dlx-plan", b"#!/bin/sh\nexit 4\n")
+        with mock.patch("helgrothy.parts.planner.find", return_value=planner), self.assertRaises(ProgramFailed):
+            self.split(2, text, 2)
 
 
 class Records(InParts):
