@@ -8,6 +8,7 @@ import shutil
 import subprocess
 import sys
 import tempfile
+import time
 import unittest
 from unittest import mock
 
@@ -66,6 +67,15 @@ def command(name: str, *words: str):
     return status, out.buffer.getvalue(), error.getvalue()
 
 
+def is_gone(process: int) -> bool:
+    """Whether a process has ended, perhaps with nobody to take note of it."""
+    try:
+        with open(f"/proc/{process}/stat") as file:
+            return file.read().rpartition(")")[2].split()[0] == "Z"
+    except FileNotFoundError:
+        return True
+
+
 class InParts(unittest.TestCase):
     def setUp(self) -> None:
         folder = tempfile.TemporaryDirectory()
@@ -88,12 +98,13 @@ class InParts(unittest.TestCase):
         """Where there is no planner, short runs of the program cut the search."""
         return mock.patch("helgrothy.parts.planner.find", side_effect=ProgramNotFound)
 
-    def queens(self, count: int = 4) -> parts.Folder:
-        """Six queens in parts, all listed."""
+    def queens(self, count: int = 4, by_planner: bool = False) -> parts.Folder:
+        """Six queens in parts, all listed. The planner may give parts that are solutions, for which nothing is run."""
         lines = [" ".join([f"r{i}" for i in range(6)] + [f"c{i}" for i in range(6)] + ["|"])]
         lines[0] += "".join(f" a{i} b{i}" for i in range(11))
         lines += [f"r{r} c{c} a{r + c} b{r - c + 5}" for r in range(6) for c in range(6)]
-        folder = self.split(1, "\n".join(lines).encode(), count)
+        with contextlib.nullcontext() if by_planner else self.by_runs():
+            folder = self.split(1, "\n".join(lines).encode(), count)
         for part in folder.plan.parts:
             parts.run(folder, part.number, ["m1"])
         return folder
@@ -146,11 +157,10 @@ class Trees(InParts):
         self.assertEqual((last.is_solution, [choice[1:] for choice in last.choices()]), (False, [(1, 2, 2), (2, 2, 0)]))
 
     def test_plans(self):
-        with self.by_runs():
-            by_runs = self.queens(12)
-            self.assertGreaterEqual(len(by_runs.plan.parts), 12)
-            self.check_plan(by_runs)
-        by_planner = self.queens(12)
+        by_runs = self.queens(12)
+        self.assertGreaterEqual(len(by_runs.plan.parts), 12)
+        self.check_plan(by_runs)
+        by_planner = self.queens(12, by_planner=True)
         # Six queens have four solutions, so there are no more parts, and much is left out.
         self.assertEqual(len(by_planner.plan.parts), 4)
         self.assertGreater(len(by_planner.plan.left_out), 10)
@@ -314,6 +324,28 @@ class Commands(InParts):
         self.assertEqual(told[1], "undone: 2")
         self.assertEqual(command("dlx-run", folder, "2", "m1"), (0, b"", ""))
         self.assertEqual(command("dlx-join", folder), (0, *whole(1, text, "m1")))
+
+    def test_a_program_ends_with_its_command(self):
+        problem, folder = self.file("p.dlx", b"A B\nA\nB\n"), self.path("parts")
+        self.assertEqual(command("dlx-split", "--parts", "1", "dlx1", problem, folder)[0], 0)
+        program = self.file("dlx1", b"#!/bin/sh\necho $$ > %s\nexec sleep 60\n" % self.path("number").encode())
+        os.chmod(program, 0o755)
+        words = [sys.executable, "-m", "helgrothy.parts", "dlx-run", folder, "1"]
+        package = os.path.dirname(os.path.dirname(programs.__file__))
+        given = {**os.environ, "HELGROTHY_BIN": self.folder, "PYTHONPATH": package}
+        with subprocess.Popen(words, env=given) as run:
+            self.wait_for(lambda: os.path.exists(self.path("number")) and os.path.getsize(self.path("number")))
+            run.kill()
+        with open(self.path("number")) as file:
+            number = int(file.read())
+        self.wait_for(lambda: is_gone(number))
+        self.assertEqual(parts.state(parts.Folder(folder)).undone, [1])
+
+    def wait_for(self, happened):
+        until = time.monotonic() + 30
+        while not happened():
+            self.assertLess(time.monotonic(), until)
+            time.sleep(0.01)
 
     def test_refusals(self):
         problem, folder = self.file("p.dlx", b"A B\nA\nB\n"), self.path("parts")

@@ -16,7 +16,7 @@ import tempfile
 from typing import List, NamedTuple, Optional, Tuple
 
 from ..errors import ProgramFailed
-from ..programs import find
+from ..programs import end_with_parent, find
 from ..syntax import text_of
 from .plan import choices_of
 from .tree import Path, Tree
@@ -100,9 +100,9 @@ class Planner:
                 stdin=given,
                 stdout=subprocess.PIPE,
                 stderr=subprocess.PIPE,
+                preexec_fn=end_with_parent,
             )
         try:
-            # Should this process be killed, the planner ends all the same.
             resource.prlimit(process.pid, resource.RLIMIT_CPU, (longest, longest))
             assert process.stdout is not None and process.stderr is not None
             # Of a plan there is one line of messages at most, which a pipe takes.
