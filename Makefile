@@ -1,5 +1,7 @@
 VERSION := $(shell cat VERSION)
 PROGRAMS = dlx1 dlx2 dlx3 dlxcheck
+# The planner's crate is dlx_parts; dlx-parts is another command.
+PLANNER = dlx-plan
 SCRIPTS = split run join parts progress
 
 # Where things are installed.
@@ -41,19 +43,20 @@ pictures:
 believed:
 	@scripts/believed --page >docs/BELIEVED.md
 
-# A program is built by running it once; `dlxcheck` without words ends with status 1.
+# A program is built by running it once; `dlxcheck` and `dlx_parts` without words end with status 1.
 all: bin
-	for program in $(PROGRAMS); do (cd crates/$$program && rt run </dev/null; test -x out/$$program) || exit 1; done
+	for program in $(PROGRAMS) dlx_parts; do (cd crates/$$program && rt run </dev/null; test -x out/$$program) || exit 1; done
 
 # `bin` leads to the programs and scripts by the names that they have once they are installed.
 bin:
 	@mkdir -p bin
 	@for program in $(PROGRAMS); do ln -sfn ../crates/$$program/out/$$program bin/$$program || exit 1; done
+	@ln -sfn ../crates/dlx_parts/out/dlx_parts bin/$(PLANNER)
 	@for script in $(SCRIPTS); do ln -sfn ../scripts/helgrothy bin/dlx-$$script || exit 1; done
 	@ln -sfn ../scripts/helgrothy bin/helgrothy
 
 # What follows takes the programs as `make all` built them, and needs no toolchain.
-COMMANDS = $(PROGRAMS) $(SCRIPTS:%=dlx-%) helgrothy
+COMMANDS = $(PROGRAMS) $(PLANNER) $(SCRIPTS:%=dlx-%) helgrothy
 # The files of a folder or two into another, whatever the umask.
 copy = find -L $(1) -type f ! -name '*.pyc' -exec sh -c \
     'for file; do install -D -m 644 "$$file" "$(2)/$$file" || exit 1; done' copy {} +
@@ -65,7 +68,7 @@ install: bin
 	    to="$(DESTDIR)$(mandir)/man$${page##*.}/$${page##*/}"; \
 	    sed '1s/ Helgrothy / "Helgrothy $(VERSION)" /' $$page > "$$to" && chmod 644 "$$to" || exit 1; \
 	done
-	for script in $(SCRIPTS:split=); do ln -sfn dlx-split.1 "$(DESTDIR)$(mandir)/man1/dlx-$$script.1" || exit 1; done
+	for script in $(SCRIPTS:split=) plan; do ln -sfn dlx-split.1 "$(DESTDIR)$(mandir)/man1/dlx-$$script.1" || exit 1; done
 	install -m 644 release/completion.bash "$(DESTDIR)$(completiondir)/dlx1"
 	for command in $(COMMANDS:dlx1=); do ln -sfn dlx1 "$(DESTDIR)$(completiondir)/$$command" || exit 1; done
 	$(call copy,docs examples CHANGELOG.md python/README.md,$(DESTDIR)$(docdir))

@@ -1,5 +1,5 @@
 #!/usr/bin/env python3
-"""wheel.py VERSION: the Python package with the four programs as built, as a wheel in dist/.
+"""wheel.py VERSION: the Python package with the programs as built, as a wheel in dist/.
 
 The same files give the same bytes; they are of the time SOURCE_DATE_EPOCH.
 """
@@ -10,7 +10,7 @@ import sys
 import time
 import zipfile
 
-PROGRAMS = ("dlx1", "dlx2", "dlx3", "dlxcheck")
+PROGRAMS = ("dlx1", "dlx2", "dlx3", "dlxcheck", "dlx-plan")
 # The programs need glibc 2.34.
 TAG = "py3-none-manylinux_2_34_x86_64"
 

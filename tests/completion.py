@@ -22,6 +22,7 @@ LINES = [
     ("dlxcheck a", "dlxcheck a\\ b.dlx "),
     ("dlxcheck fol", "dlxcheck folder/"),
     ("dlxcheck queens.dlx 1 < not", "dlxcheck queens.dlx 1 < notes.txt "),
+    ("dlx-plan 1 1000 < q", "dlx-plan 1 1000 < queens.dlx "),
     ("dlx-split d", "dlx-split dlx"),
     ("dlx-split dlx1 q", "dlx-split dlx1 queens.dlx "),
     ("dlx-split --p", "dlx-split --parts "),

@@ -2,10 +2,11 @@
 """parts.py CASES SEED: random problems of all kinds, searched in 2 to 200 parts by the commands, with mishaps.
 
 Parts are run in any order and several at once, killed, run twice at once, run with other words, out of disk, and
-changed behind their records. Whenever dlx-join ends with status 0 the listing and the messages have to be those of
-the search in one, byte for byte; otherwise it has to print no listing and to name what is missing, failed or
-doubtful; and the same command again has to mend what mishaps left. dlx1, dlx2 and dlx3, and the commands dlx-split,
-dlx-run and dlx-join, have to be on the path. A case that fails is printed. The last line is `N passed, M failed`.
+changed behind their records. Half of the problems are cut by dlx-plan, half by short runs of the program. Whenever
+dlx-join ends with status 0 the listing and the messages have to be those of the search in one, byte for byte;
+otherwise it has to print no listing and to name what is missing, failed or doubtful; and the same command again has
+to mend what mishaps left. dlx1, dlx2, dlx3 and dlx-plan, and the commands dlx-split, dlx-run and dlx-join, have to be
+on the path. A case that fails is printed. The last line is `N passed, M failed`.
 """
 
 import concurrent.futures
@@ -37,6 +38,9 @@ printf '%s' "${{listing%?}}" | {{ dd bs=1 count=60 2>/dev/null; sleep 0.0{pause}
 exit "${{listing#"${{listing%?}}"}}"
 """
 
+# A planner to which each search is too long.
+TOO_LONG = "#!/bin/sh\nexit 5\n"
+
 
 class Case:
     def __init__(self, rng, top):
@@ -47,12 +51,19 @@ class Case:
         self.top = top
         self.folder = os.path.join(top, "parts")
         self.seen = Counter()
-        self.slow = os.path.join(top, "slow")
-        os.mkdir(self.slow)
-        path = os.path.join(self.slow, self.program)
+        slow = SLOW.format(program=shutil.which(self.program), pause=rng.randint(1, 9))
+        self.slow = self.stand_in("slow", self.program, slow)
+        self.too_long = self.stand_in("too_long", "dlx-plan", TOO_LONG)
+
+    def stand_in(self, folder, program, script):
+        """A script in the place of a program, for a run whose HELGROTHY_BIN is this folder."""
+        folder = os.path.join(self.top, folder)
+        os.mkdir(folder)
+        path = os.path.join(folder, program)
         with open(path, "w") as file:
-            file.write(SLOW.format(program=shutil.which(self.program), pause=rng.randint(1, 9)))
+            file.write(script)
         os.chmod(path, 0o755)
+        return folder
 
     def problem(self):
         """A problem with at most some thousand solutions, mostly with enough of a tree for some parts."""
@@ -130,10 +141,16 @@ class Case:
         return False
 
     def try_it(self):
+        by_runs = self.rng.random() < 0.5
         split = self.command(
-            "dlx-split", "--parts", str(self.rng.randint(2, 200)), self.program, self.file(), self.folder
+            *("dlx-split", "--parts", str(self.rng.randint(2, 200)), self.program, self.file(), self.folder),
+            env={**os.environ, **({"HELGROTHY_BIN": self.too_long} if by_runs else {})},
         )
         assert split.returncode == 0, split
+        plan = Folder(self.folder).plan
+        assert plan.by == ("runs" if by_runs else "dlx-plan"), split
+        self.seen[f"cut by {plan.by}"] += 1
+        self.seen["branches left out"] += len(plan.left_out)
         self.seen["parts"] += self.count()
         mishaps = [self.killed, self.twice, self.other_words, self.out_of_disk, self.changed]
         for mishap in self.rng.sample(mishaps, self.rng.randint(0, 3)):

@@ -1,4 +1,4 @@
-"""The four programs: where they are, and how one is run.
+"""The programs: where they are, and how one is run.
 
 A program is looked for in the folders of `HELGROTHY_BIN` (parted as those of `PATH` are), then beside the package
 (`bin` in it, as an installed wheel has it; `bin` of an unpacked release; where a repository builds it), and last
@@ -7,10 +7,12 @@ on the path.
 
 from __future__ import annotations
 
+import ctypes
 import os
 import re
 import select
 import shutil
+import signal
 import subprocess
 import tempfile
 import time
@@ -22,6 +24,8 @@ from .errors import OutOfTime, ProgramFailed, ProgramNotFound
 PROGRAMS = ("dlx1", "dlx2", "dlx3", "dlxcheck")
 VARIABLE = "HELGROTHY_BIN"
 _CHUNK = 1 << 18
+_PRCTL = getattr(ctypes.CDLL(None), "prctl", None)
+_PR_SET_PDEATHSIG = 1
 _LAST_LINE = re.compile(r"Altogether (\d+) solutions?( \(limit\))?\.\Z")
 
 
@@ -132,6 +136,12 @@ class Ending:
             raise run.failure()
         self.total = int(told.group(1))
         self.complete = told.group(2) is None
+
+
+def end_with_parent() -> None:
+    """Called in a new process: it is killed when its parent ends, however that is, where the system does so."""
+    if _PRCTL is not None:
+        _PRCTL(_PR_SET_PDEATHSIG, signal.SIGKILL)
 
 
 def _widen(pipe: int) -> None:

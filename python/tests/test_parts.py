@@ -8,10 +8,11 @@ import shutil
 import subprocess
 import sys
 import tempfile
+import time
 import unittest
 from unittest import mock
 
-from helgrothy import ProgramFailed, parts, programs
+from helgrothy import ProgramFailed, ProgramNotFound, parts, programs
 from helgrothy.errors import PartsFault
 from helgrothy.parts import progress
 from helgrothy.parts.__main__ import main
@@ -66,6 +67,15 @@ def command(name: str, *words: str):
     return status, out.buffer.getvalue(), error.getvalue()
 
 
+def is_gone(process: int) -> bool:
+    """Whether a process has ended, perhaps with nobody to take note of it."""
+    try:
+        with open(f"/proc/{process}/stat") as file:
+            return file.read().rpartition(")")[2].split()[0] == "Z"
+    except FileNotFoundError:
+        return True
+
+
 class InParts(unittest.TestCase):
     def setUp(self) -> None:
         folder = tempfile.TemporaryDirectory()
@@ -84,12 +94,17 @@ class InParts(unittest.TestCase):
         shutil.rmtree(self.path("parts"), ignore_errors=True)
         return parts.split(f"dlx{kind}", text, self.path("parts"), count)
 
-    def queens(self, count: int = 4) -> parts.Folder:
-        """Six queens in parts, all listed."""
+    def by_runs(self):
+        """Where there is no planner, short runs of the program cut the search."""
+        return mock.patch("helgrothy.parts.planner.find", side_effect=ProgramNotFound)
+
+    def queens(self, count: int = 4, by_planner: bool = False) -> parts.Folder:
+        """Six queens in parts, all listed. The planner may give parts that are solutions, for which nothing is run."""
         lines = [" ".join([f"r{i}" for i in range(6)] + [f"c{i}" for i in range(6)] + ["|"])]
         lines[0] += "".join(f" a{i} b{i}" for i in range(11))
         lines += [f"r{r} c{c} a{r + c} b{r - c + 5}" for r in range(6) for c in range(6)]
-        folder = self.split(1, "\n".join(lines).encode(), count)
+        with contextlib.nullcontext() if by_planner else self.by_runs():
+            folder = self.split(1, "\n".join(lines).encode(), count)
         for part in folder.plan.parts:
             parts.run(folder, part.number, ["m1"])
         return folder
@@ -108,7 +123,9 @@ class Trees(InParts):
             kind = rng.choice([1, 2, 3])
             text = problem_of(rng, kind)
             with self.subTest(text=text, kind=kind):
-                folder = self.split(kind, text, rng.choice([1, 2, 5, 20]))
+                with self.by_runs() if case % 2 else contextlib.nullcontext():
+                    folder = self.split(kind, text, rng.choice([1, 2, 5, 20]))
+                self.assertEqual(folder.plan.by, "runs" if case % 2 else "dlx-plan")
                 for part in rng.sample(folder.plan.parts, len(folder.plan.parts)):
                     parts.run(folder, part.number, ["m1"])
                 joined = parts.Joined(folder)
@@ -140,22 +157,54 @@ class Trees(InParts):
         self.assertEqual((last.is_solution, [choice[1:] for choice in last.choices()]), (False, [(1, 2, 2), (2, 2, 0)]))
 
     def test_plans(self):
-        folder = self.queens(12)
+        by_runs = self.queens(12)
+        self.assertGreaterEqual(len(by_runs.plan.parts), 12)
+        self.check_plan(by_runs)
+        by_planner = self.queens(12, by_planner=True)
+        # Six queens have four solutions, so there are no more parts, and much is left out.
+        self.assertEqual(len(by_planner.plan.parts), 4)
+        self.assertGreater(len(by_planner.plan.left_out), 10)
+        self.check_plan(by_planner)
+        root = self.split(1, b"A B\nA\n", 5)
+        self.assertEqual([part.path for part in root.plan.parts], [()])
+
+    def check_plan(self, folder):
+        """Another plan than the folder's is refused, and so is a text that was changed."""
         plan = folder.plan
-        self.assertGreaterEqual(len(plan.parts), 12)
         self.assertEqual(parts.Plan.read(plan.text()).text(), plan.text())
         tree = parts.Tree(folder.problem, 1)
-        ps = plan.parts
+        plan.check(tree)
+        ps, left = plan.parts, plan.left_out
         some = next(at for at, part in enumerate(ps) if folder.record(part.number).solutions)
         for changed in (ps[:some] + ps[some + 1 :], ps[::-1], [], ps[:1] * 2, [*ps, ps[-1]], ps[:1]):
             with self.assertRaises(PartsFault):
-                parts.Plan(plan.program, plan.problem, changed).check(tree)
-        changes = ("r0:1/6", "r0:1/7"), ("r0:1/6", "r1:1/6"), ("@2", "@3"), ("end 1", "end 2"), ("dlx1", "dlx4")
+                parts.Plan(plan.program, plan.problem, plan.by, changed, left).check(tree)
+        for changed in [[*left, ps[some].path], *([left[1:], [*left[1:], ps[some].path], left * 2] if left else [])]:
+            with self.assertRaises(PartsFault):
+                parts.Plan(plan.program, plan.problem, plan.by, ps, changed).check(tree)
+        changes = ("r0:1/6", "r0:1/7"), ("r0:1/6", "r1:1/6"), ("@2", "@3"), ("\nend ", "\nend 9"), ("dlx1", "dlx4")
         for old, new in ((old.encode(), new.encode()) for old, new in changes):
+            self.assertIn(old, plan.text())
             with self.assertRaises(PartsFault):
                 parts.Plan.read(plan.text().replace(old, new, 1)).check(tree)
-        root = self.split(1, b"A B\nA\n", 5)
-        self.assertEqual([part.path for part in root.plan.parts], [()])
+
+    def test_numbers_of_parts(self):
+        text = b"a b c d | x\n" + b"".join(b"%c x:%d\n" % (item, k) for item in b"abcd" for k in range(5))
+        for count, wanted in ((1, 1), (2, 5), (5, 5)):
+            self.assertEqual(len(self.split(2, text, count).plan.parts), wanted)
+        self.assertEqual([part.path for part in parts.split("dlx2", text, self.path("p"), None, 9).plan.parts], [()])
+        none = b"a b c | x\na\nb x\nc x\n"
+        self.assertEqual([part.path for part in self.split(1, none, 5).plan.parts], [()])
+        both = parts.split("dlx2", text, self.path("q"), 5, 9)
+        self.assertEqual([part.path for part in both.plan.parts], [()])
+        planner = self.file("dlx-plan", b"#!/bin/sh\nwhile :; do :; done\n")
+        os.chmod(planner, 0o755)
+        with mock.patch("helgrothy.parts.planner.find", return_value=planner):
+            with mock.patch("helgrothy.parts.planner._LONGEST", 1):
+                self.assertEqual(self.split(2, text, 2).plan.by, "runs")
+        self.file("dlx-plan", b"#!/bin/sh\nexit 4\n")
+        with mock.patch("helgrothy.parts.planner.find", return_value=planner), self.assertRaises(ProgramFailed):
+            self.split(2, text, 2)
 
 
 class Records(InParts):
@@ -275,6 +324,28 @@ class Commands(InParts):
         self.assertEqual(told[1], "undone: 2")
         self.assertEqual(command("dlx-run", folder, "2", "m1"), (0, b"", ""))
         self.assertEqual(command("dlx-join", folder), (0, *whole(1, text, "m1")))
+
+    def test_a_program_ends_with_its_command(self):
+        problem, folder = self.file("p.dlx", b"A B\nA\nB\n"), self.path("parts")
+        self.assertEqual(command("dlx-split", "--parts", "1", "dlx1", problem, folder)[0], 0)
+        program = self.file("dlx1", b"#!/bin/sh\necho $$ > %s\nexec sleep 60\n" % self.path("number").encode())
+        os.chmod(program, 0o755)
+        words = [sys.executable, "-m", "helgrothy.parts", "dlx-run", folder, "1"]
+        package = os.path.dirname(os.path.dirname(programs.__file__))
+        given = {**os.environ, "HELGROTHY_BIN": self.folder, "PYTHONPATH": package}
+        with subprocess.Popen(words, env=given) as run:
+            self.wait_for(lambda: os.path.exists(self.path("number")) and os.path.getsize(self.path("number")))
+            run.kill()
+        with open(self.path("number")) as file:
+            number = int(file.read())
+        self.wait_for(lambda: is_gone(number))
+        self.assertEqual(parts.state(parts.Folder(folder)).undone, [1])
+
+    def wait_for(self, happened):
+        until = time.monotonic() + 30
+        while not happened():
+            self.assertLess(time.monotonic(), until)
+            time.sleep(0.01)
 
     def test_refusals(self):
         problem, folder = self.file("p.dlx", b"A B\nA\nB\n"), self.path("parts")

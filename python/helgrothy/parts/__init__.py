@@ -12,15 +12,17 @@ The commands dlx-split, dlx-run, dlx-join, dlx-parts and dlx-progress do the sam
 
 from __future__ import annotations
 
-from typing import Optional
+from typing import List, Optional, Tuple
 
+from ..errors import PartsFault, ProgramNotFound
 from .folder import Doubt, Folder, Record, refuse
 from .grow import grow
 from .join import Joined, NotJoined
-from .plan import Part, Plan, digest
+from .plan import BY_PLANNER, BY_RUNS, Part, Plan, digest, left_out
+from .planner import Planner
 from .runs import run, words_of
 from .states import State, state
-from .tree import Choice, Node, Tree
+from .tree import Choice, Node, Path, Tree
 
 DEFAULT_PARTS = 100
 __all__ = [
@@ -54,5 +56,34 @@ def split(
     if parts is None and seconds is None:
         parts = DEFAULT_PARTS
     tree = Tree(problem, int(program[-1]))
-    Folder.create(folder, problem, Plan(program, digest(problem), grow(tree, program, parts, seconds)))
+    cut = _planned(tree, parts, seconds) or _grown(tree, program, parts, seconds)
+    Folder.create(folder, problem, Plan(program, digest(problem), *cut))
     return Folder(folder)
+
+
+# By what, the parts, and the branches that are left out.
+_Cut = Tuple[str, List[Part], List[Path]]
+
+
+def _planned(tree: Tree, parts: Optional[int], seconds: Optional[float]) -> Optional[_Cut]:
+    """The cut of the proved planner, or None where there is no planner or the search is too long for it."""
+    try:
+        planner = Planner(tree)
+    except ProgramNotFound:
+        return None
+    paths = planner.cut(parts, seconds)
+    if paths is None:
+        return None
+    # Where there is no solution there is a part all the same.
+    paths = paths or [()]
+    return BY_PLANNER, [Part(number, path, 0.0) for number, path in enumerate(paths, 1)], left_out(tree, paths)
+
+
+def _grown(tree: Tree, program: str, parts: Optional[int], seconds: Optional[float]) -> _Cut:
+    """The cut by short runs of the program. What it leaves out has no solution, as a search of a few nodes shows."""
+    cut = grow(tree, program, parts, seconds)
+    without = left_out(tree, [part.path for part in cut])
+    for path in without:
+        if not tree.node(path).is_barren():
+            raise PartsFault("the cut leaves out a branch that may have solutions")
+    return BY_RUNS, cut, without

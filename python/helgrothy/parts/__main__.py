@@ -18,6 +18,7 @@ from . import DEFAULT_PARTS
 from . import split as cut
 from .folder import Folder, ranges, reason_of
 from .join import Joined, NotJoined
+from .plan import BY_RUNS
 from .progress import follow
 from .runs import run, words_of
 from .states import lines, state
@@ -68,7 +69,8 @@ def _split(words: Sequence[str]) -> int:
         problem = file.read()
     folder = cut(said.program, problem, said.folder, said.parts, said.seconds)
     count = len(folder.plan.parts)
-    _say("dlx-split", f"{count} part{'' if count == 1 else 's'}")
+    how = ", cut by short runs" if folder.plan.by == BY_RUNS else ""
+    _say("dlx-split", f"{count} part{'' if count == 1 else 's'}{how}")
     return 0
 
 

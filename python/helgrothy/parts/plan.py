@@ -1,16 +1,20 @@
 """A plan: one line for each part, with the path that leads to it.
 
-    helgrothy plan 1
+    helgrothy plan 2
     program dlx1
     problem SHA256
+    by dlx-plan
     1 0.031 X:1/32@18 00:2/7@411
     ..
-    end 1003
+    - X:2/32@19 00:1/5@402
+    ..
+    end 1250
 
-A line has the part's number, the seconds that it was judged to take, and for each choice of its path the item, the
-branch and the number of branches, and the line of the option, 0 where none is taken. The parts are those below which
-the cut of the search's tree went no further, in the order of the listing. Branches without a solution are left out
-where a search of a few nodes shows it.
+The fourth line says what cut the search: dlx-plan, or short runs of the program. A part's line has its number, the
+seconds that it was judged to take, 0 where it wasn't, and for each choice of its path the item, the branch and the
+number of branches, and the line of the option, 0 where none is taken. The parts are those below which the cut of the
+search's tree went no further, in the order of the listing. Behind them stand the branches that were left out, since
+a search found no solution there. The last line has the number of both.
 """
 
 from __future__ import annotations
@@ -19,13 +23,15 @@ import hashlib
 import re
 from dataclasses import dataclass
 from functools import partial
-from typing import Callable, List, Sequence, Tuple
+from typing import Callable, List, Optional, Sequence, Tuple
 
 from ..errors import PartsFault
 from ..syntax import bytes_of, text_of
 from .tree import Choice, Node, Path, Tree
 
-_FIRST = "helgrothy plan 1"
+_FIRST = "helgrothy plan 2"
+_LEFT_OUT = "-"
+BY_PLANNER, BY_RUNS = "dlx-plan", "runs"
 _CHOICE = re.compile(r"([^ :|]+):([1-9][0-9]*)/([1-9][0-9]*)@([0-9]+)\Z")
 
 
@@ -44,73 +50,114 @@ def digest(content: bytes) -> str:
 
 @dataclass(frozen=True)
 class Plan:
-    """The parts of a problem for a program. `problem` is the digest of the problem's text."""
+    """The parts of a problem for a program, and the branches that were left out.
+
+    `problem` is the digest of the problem's text, `by` says what cut the search: `BY_PLANNER` or `BY_RUNS`.
+    """
 
     program: str
     problem: str
+    by: str
     parts: Sequence[Part]
+    left_out: Sequence[Path] = ()
 
     @property
     def kind(self) -> int:
         return int(self.program[-1])
 
     def text(self) -> bytes:
-        lines = [_FIRST, f"program {self.program}", f"problem {self.problem}"]
+        lines = [_FIRST, f"program {self.program}", f"problem {self.problem}", f"by {self.by}"]
         for part in self.parts:
-            choices = [f"{choice.item}:{choice.k}/{choice.n}@{choice.line}" for choice in part.path]
-            lines.append(" ".join([str(part.number), f"{part.seconds:.3f}", *choices]))
-        lines.append(f"end {len(self.parts)}")
+            lines.append(" ".join([str(part.number), f"{part.seconds:.3f}", *map(_word, part.path)]))
+        lines.extend(" ".join([_LEFT_OUT, *map(_word, path)]) for path in self.left_out)
+        lines.append(f"end {len(lines) - 4}")
         return bytes_of("".join(f"{line}\n" for line in lines))
 
     @classmethod
     def read(cls, text: bytes) -> Plan:
         """A plan from its text. Raises `PartsFault`."""
         lines = text_of(text).split("\n")
-        if len(lines) < 5 or lines[0] != _FIRST or lines[-1] or lines[-2] != f"end {len(lines) - 5}":
+        if len(lines) < 6 or lines[0] != _FIRST or lines[-1] or lines[-2] != f"end {len(lines) - 6}":
             raise PartsFault("the plan is no whole plan")
-        program, problem = (line.split(" ")[-1] for line in lines[1:3])
+        program, problem, by = (line.split(" ")[-1] for line in lines[1:4])
         if program not in ("dlx1", "dlx2", "dlx3"):
             raise PartsFault("the plan is for no program")
-        parts = [_part(number, line) for number, line in enumerate(lines[3:-2], 1)]
-        return cls(program, problem, parts)
+        body = lines[4:-2]
+        count = sum(not line.startswith(_LEFT_OUT) for line in body)
+        parts = [_part(number, line) for number, line in enumerate(body[:count], 1)]
+        return cls(program, problem, by, parts, [_left_out(line) for line in body[count:]])
 
     def check(self, tree: Tree) -> None:
-        """Raises `PartsFault` unless each solution of the problem is below exactly one part, in the listing's order.
+        """Raises `PartsFault` unless each branch of the search's tree is below one part, in order, or left out.
 
-        Each node that is cut is looked at again: its branches have to be there, one behind another, and where one is
-        missing a search of a few nodes has to find nothing.
+        So each solution is below exactly one part, if there is none below a branch that was left out.
         """
-        todo: List[Tuple[Callable[[], Node], int, int]] = [(tree.root, 0, len(self.parts))]
-        while todo:
-            made, start, end = todo.pop()
-            node = made()
-            depth = len(node.path)
-            if end - start == 1 and len(self.parts[start].path) == depth:
-                continue
-            at = start
-            for choice in () if node.is_solution else node.choices():
-                begin = at
-                while at < end and self.parts[at].path[depth : depth + 1] == (choice,):
-                    at += 1
-                if at == begin and not node.child(choice).is_barren():
-                    raise PartsFault(f"the plan has no part below {_told((*node.path, choice))}")
-                if at - begin > 1 or at - begin == 1 and len(self.parts[begin].path) > depth + 1:
-                    todo.append((partial(node.child, choice), begin, at))
-            if at < end or at == start:
-                raise PartsFault(f"the plan's part {start + 1 if at == start else at + 1} is none of the search's")
+        found, said = left_out(tree, [part.path for part in self.parts]), set(self.left_out)
+        for path in found:
+            if path not in said:
+                raise PartsFault(f"the plan has no part below {_told(path)}")
+        if len(found) != len(self.left_out):
+            raise PartsFault("the plan leaves out what is none of its branches")
+
+
+def left_out(tree: Tree, paths: Sequence[Path]) -> List[Path]:
+    """The branches that a cut into parts of these paths leaves out, each with its path, in order.
+
+    Raises `PartsFault` unless the paths are those of nodes of the tree, none below another, in the listing's order.
+    """
+    found: List[Path] = []
+    todo: List[Tuple[Callable[[], Node], int, int]] = [(tree.root, 0, len(paths))]
+    while todo:
+        made, start, end = todo.pop()
+        node = made()
+        depth = len(node.path)
+        if end - start == 1 and len(paths[start]) == depth:
+            continue
+        at = start
+        for choice in () if node.is_solution else node.choices():
+            begin = at
+            while at < end and paths[at][depth : depth + 1] == (choice,):
+                at += 1
+            if at == begin:
+                found.append((*node.path, choice))
+            if at - begin > 1 or at - begin == 1 and len(paths[begin]) > depth + 1:
+                todo.append((partial(node.child, choice), begin, at))
+        if at < end or at == start:
+            raise PartsFault(f"the plan's part {start + 1 if at == start else at + 1} is none of the search's")
+    return sorted(found, key=lambda path: [choice.k for choice in path])
+
+
+def choices_of(words: Sequence[str], line_of: Optional[Sequence[int]] = None) -> Path:
+    """The path of a plan's words; `line_of` gives the lines of options that are numbers. Raises `PartsFault`."""
+    path: List[Choice] = []
+    for word in words:
+        found = _CHOICE.match(word)
+        if found is None:
+            raise PartsFault(f"the plan's choice {word} is damaged")
+        k, n, option = map(int, found.group(2, 3, 4))
+        path.append(Choice(found.group(1), k, n, line_of[option - 1] if line_of is not None and option else option))
+    return tuple(path)
+
+
+def _word(choice: Choice) -> str:
+    return f"{choice.item}:{choice.k}/{choice.n}@{choice.line}"
 
 
 def _part(number: int, line: str) -> Part:
     words = line.split(" ")
-    found = [_CHOICE.match(word) for word in words[2:]]
     try:
         if words[0] == str(number):
-            choices = [Choice(c.group(1), *map(int, c.group(2, 3, 4))) for c in found if c is not None]
-            if len(choices) == len(found):
-                return Part(number, tuple(choices), float(words[1]))
+            return Part(number, choices_of(words[2:]), float(words[1]))
     except (ValueError, IndexError):
         pass
     raise PartsFault(f"the plan's line of part {number} is damaged")
+
+
+def _left_out(line: str) -> Path:
+    words = line.split(" ")
+    if words[0] != _LEFT_OUT or len(words) < 2:
+        raise PartsFault("the plan's lines of what is left out are damaged")
+    return choices_of(words[1:])
 
 
 def _told(path: Path) -> str:

@@ -37,6 +37,8 @@ class Tree:
         sheet = read(text, kind)
         if sheet.faults:
             raise sheet.faults[0]
+        self.text = text
+        self.kind = kind
         self.lines = text.split(b"\n")
         self.ignored = sheet.ignored
         self.names = list(sheet.items)
