@@ -11,9 +11,14 @@ mandir = $(PREFIX)/share/man
 docdir = $(PREFIX)/share/doc/helgrothy
 pythondir = $(PREFIX)/share/helgrothy
 completiondir = $(PREFIX)/share/bash-completion/completions
+includedir = $(PREFIX)/include
+libdir = $(PREFIX)/lib
+# The library for C, which is installed where it was built; none with `LIBRARY=`.
+LIBRARY = $(wildcard bindings/out/libhelgrothy.a)
 
 .PHONY: run bin all test test-mutants test-hostile test-python test-parts test-docs pictures believed
-.PHONY: install uninstall dist deb wheel version release test-install test-dist test-deb test-wheel
+.PHONY: lib install install-lib uninstall uninstall-lib dist deb wheel version release
+.PHONY: test-bindings test-install test-dist test-deb test-wheel
 run: bin
 	cd crates/dlx1 && rt run -- m1 < ../../examples/seven.dlx
 test:
@@ -55,13 +60,21 @@ bin:
 	@for script in $(SCRIPTS); do ln -sfn ../scripts/helgrothy bin/dlx-$$script || exit 1; done
 	@ln -sfn ../scripts/helgrothy bin/helgrothy
 
+# The library for C is the crate with the toolchain's three calls of malloc, in one object that tells no other names.
+lib:
+	cd crates/xc_c && rt lib
+	@rm -rf bindings/out && mkdir bindings/out
+	@cd bindings/out && ar x ../../crates/xc_c/out/libxc_c.a && ar x "$$(dirname "$$(rt doc)")/c/liblibc_c.a" && \
+	    ld -r *.o -o helgrothy.o && objcopy --wildcard --keep-global-symbol='helgrothy_*' helgrothy.o && \
+	    ar rcsD libhelgrothy.a helgrothy.o && rm *.o
+
 # What follows takes the programs as `make all` built them, and needs no toolchain.
 COMMANDS = $(PROGRAMS) $(PLANNER) $(SCRIPTS:%=dlx-%) helgrothy
 # The files of a folder or two into another, whatever the umask.
 copy = find -L $(1) -type f ! -name '*.pyc' -exec sh -c \
     'for file; do install -D -m 644 "$$file" "$(2)/$$file" || exit 1; done' copy {} +
 
-install: bin
+install: bin install-lib
 	install -d "$(DESTDIR)$(bindir)" "$(DESTDIR)$(mandir)/man1" "$(DESTDIR)$(mandir)/man5" "$(DESTDIR)$(completiondir)"
 	for command in $(COMMANDS); do install -m 755 bin/$$command "$(DESTDIR)$(bindir)/" || exit 1; done
 	for page in man/*.[15]; do \
@@ -76,7 +89,17 @@ install: bin
 	sed -i '1s/$$/ $(VERSION)/' "$(DESTDIR)$(docdir)/README.md"
 	cd python && $(call copy,helgrothy,$(DESTDIR)$(pythondir))
 
-uninstall:
+install-lib:
+	$(if $(LIBRARY),install -D -m 644 $(LIBRARY) "$(DESTDIR)$(libdir)/libhelgrothy.a")
+	$(if $(LIBRARY),install -D -m 644 bindings/c/helgrothy.h "$(DESTDIR)$(includedir)/helgrothy.h")
+	$(if $(LIBRARY),sed 's|@includedir@|$(includedir)|; s|@libdir@|$(libdir)|; s|@version@|$(VERSION)|' \
+	    bindings/c/helgrothy.pc.in | install -D -m 644 /dev/stdin "$(DESTDIR)$(libdir)/pkgconfig/helgrothy.pc")
+
+uninstall-lib:
+	rm -f "$(DESTDIR)$(includedir)/helgrothy.h" "$(DESTDIR)$(libdir)/libhelgrothy.a" \
+	    "$(DESTDIR)$(libdir)/pkgconfig/helgrothy.pc"
+
+uninstall: uninstall-lib
 	for command in $(COMMANDS); do \
 	    rm -f "$(DESTDIR)$(bindir)/$$command" "$(DESTDIR)$(completiondir)/$$command" || exit 1; \
 	done
@@ -104,6 +127,8 @@ version:
 release: dist deb wheel
 	cd dist && sha256sum helgrothy[-_]$(VERSION)* > SHA256SUMS
 
+test-bindings: lib
+	@sh tests/bindings.sh
 test-install: bin
 	@sh tests/install.sh
 test-dist: dist

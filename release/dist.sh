@@ -9,7 +9,7 @@ made=$(mktemp -d)
 trap 'rm -rf "$made"' EXIT
 trap 'exit 2' HUP INT TERM
 
-MAKEFLAGS= make -s install VERSION="$version" DESTDIR="$made/$name" PREFIX= docdir= pythondir=/python
+MAKEFLAGS= make -s install LIBRARY= VERSION="$version" DESTDIR="$made/$name" PREFIX= docdir= pythondir=/python
 (cd "$made/$name" && find . -type f | sort | xargs sha256sum >"$made/sums" && mv "$made/sums" SHA256SUMS)
 mkdir -p dist
 tar -c --sort=name --format=ustar --owner=0 --group=0 --numeric-owner --mode=u=rwX,go=rX \

@@ -1,0 +1,53 @@
+/* Exact cover problems: the first fault of a text, how many solutions its problem has, and their listing.
+   What the numbers and the listing mean is proved; docs/CALLING.md and docs/PROOFS.md of Helgrothy say what and how.
+
+   `text` and `buffer` point to `length` and `room` bytes, and no pointer is NULL, also where there are no bytes. No two
+   of the things pointed to overlap, and nothing else writes to them during a call. Nothing is kept of them. A call
+   takes memory by malloc and has given it back when it returns. Calls may be made by several threads at once, and not
+   in a signal handler. */
+#ifndef HELGROTHY_H
+#define HELGROTHY_H
+
+#include <stddef.h>
+#include <stdint.h>
+
+#ifdef __cplusplus
+extern "C" {
+#endif
+
+/* What helgrothy_version() answers: 10000 * the first number + 100 * the second + the third. */
+#define HELGROTHY_VERSION 100
+
+/* Kinds of text: as `dlx1` reads it, as `dlx2`, as `dlx3`. */
+enum { HELGROTHY_PLAIN = 1, HELGROTHY_COLOURS = 2, HELGROTHY_BOUNDS = 3 };
+
+/* What a call answers. At 3 and more nothing was searched. */
+enum {
+    HELGROTHY_DONE = 0,      /* all solutions were counted or listed; the text has no fault */
+    HELGROTHY_LIMIT = 1,     /* there are as many solutions as the limit, and perhaps more */
+    HELGROTHY_NO_ROOM = 2,   /* the listing is longer than the buffer, which holds its beginning */
+    HELGROTHY_FAULT = 3,     /* the text has a fault */
+    HELGROTHY_NO_MEMORY = 4, /* malloc gave no memory */
+    HELGROTHY_NO_KIND = 5    /* `kind` is not 1, 2 or 3 */
+};
+
+uint32_t helgrothy_version(void);
+
+/* The first fault of a text: the number of its line, from 1, and its own, as in the table of docs/INPUT.md. Both are 0
+   where the answer isn't HELGROTHY_FAULT; HELGROTHY_DONE says that there is none. */
+uint32_t helgrothy_fault(uint32_t kind, const void *text, size_t length, uint64_t *line, uint32_t *fault);
+
+/* How many solutions there are, up to the limit; 0 where nothing was searched. */
+uint32_t helgrothy_count(uint32_t kind, const void *text, size_t length, uint64_t limit, uint64_t *count);
+
+/* The listing, as the programs print it: each solution whose number `spacing` divides, none for 0, up to the limit. Its
+   first bytes stand in the buffer, as many as `used` says; the rest of the buffer is as it was. It takes as much memory
+   again as the buffer has room. */
+uint32_t helgrothy_list(uint32_t kind, const void *text, size_t length, uint64_t spacing, uint64_t limit,
+                        void *buffer, size_t room, size_t *used);
+
+#ifdef __cplusplus
+}
+#endif
+
+#endif

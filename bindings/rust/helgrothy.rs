@@ -1,0 +1,84 @@
+//! Exact cover problems, by the calls of `helgrothy.h`, which says what they do.
+
+use std::ffi::c_void;
+
+#[link(name = "helgrothy", kind = "static")]
+unsafe extern "C" {
+    fn helgrothy_fault(kind: u32, text: *const c_void, length: usize, line: &mut u64, fault: &mut u32) -> u32;
+    fn helgrothy_count(kind: u32, text: *const c_void, length: usize, limit: u64, count: &mut u64) -> u32;
+    fn helgrothy_list(
+        kind: u32,
+        text: *const c_void,
+        length: usize,
+        spacing: u64,
+        limit: u64,
+        buffer: *mut c_void,
+        room: usize,
+        used: &mut usize,
+    ) -> u32;
+}
+
+/// As `dlx1` reads a text, as `dlx2`, as `dlx3`.
+#[derive(Clone, Copy, Debug, PartialEq, Eq)]
+pub enum Kind {
+    Plain = 1,
+    Colours = 2,
+    Bounds = 3,
+}
+
+/// How a search ended.
+#[derive(Clone, Copy, Debug, PartialEq, Eq)]
+pub enum End {
+    /// There are no more solutions.
+    Done,
+    /// The limit was met.
+    Limit,
+    /// The listing is longer than the buffer.
+    NoRoom,
+}
+
+/// Why nothing was searched.
+#[derive(Clone, Copy, Debug, PartialEq, Eq)]
+pub enum Error {
+    /// A line has a fault, by its number in the table of faults.
+    Fault { line: u64, number: u32 },
+    /// There was no memory.
+    Memory,
+}
+
+fn ended(kind: Kind, text: &[u8], status: u32) -> Result<End, Error> {
+    match status {
+        0 => Ok(End::Done),
+        1 => Ok(End::Limit),
+        2 => Ok(End::NoRoom),
+        3 => Err(fault(kind, text).err().unwrap_or(Error::Memory)),
+        _ => Err(Error::Memory),
+    }
+}
+
+/// The first fault of a text, as an error.
+pub fn fault(kind: Kind, text: &[u8]) -> Result<(), Error> {
+    let (mut line, mut number) = (0, 0);
+    match unsafe { helgrothy_fault(kind as u32, text.as_ptr().cast(), text.len(), &mut line, &mut number) } {
+        0 => Ok(()),
+        3 => Err(Error::Fault { line, number }),
+        _ => Err(Error::Memory),
+    }
+}
+
+/// How many solutions there are, up to a limit.
+pub fn count(kind: Kind, text: &[u8], limit: u64) -> Result<(u64, End), Error> {
+    let mut count = 0;
+    let status = unsafe { helgrothy_count(kind as u32, text.as_ptr().cast(), text.len(), limit, &mut count) };
+    Ok((count, ended(kind, text, status)?))
+}
+
+/// Lists solutions into a buffer, and says how many bytes that is.
+pub fn list(kind: Kind, text: &[u8], spacing: u64, limit: u64, buffer: &mut [u8]) -> Result<(usize, End), Error> {
+    let (start, room) = (buffer.as_mut_ptr().cast(), buffer.len());
+    let mut used = 0;
+    let status = unsafe {
+        helgrothy_list(kind as u32, text.as_ptr().cast(), text.len(), spacing, limit, start, room, &mut used)
+    };
+    Ok((used, ended(kind, text, status)?))
+}

@@ -1,0 +1,61 @@
+-- What the calls answer.
+use Rattle.std.specs.Prelude.{◌≡◌, ◌≢◌, ◌⊎◌, ℕ, List, ◌++◌, length, take, drop, min, nat_lt, Option, None, Some, MatchOption, if◌then◌else◌}
+use Rattle.xc_input.specs.declared.kind.Kind.{Kind}
+use Rattle.xc_input.specs.declared.fault.FaultKind.{FaultKind}
+use Rattle.xc_input.specs.Lines.{lines_of}
+use Rattle.xc_input.specs.Stages.{first_fault}
+use Rattle.xc_input.specs.Named.{Named}
+use Rattle.xc_input.specs.Text.{StandsFor}
+use Rattle.xc_search.specs.Cover.{members, EachMemberCovers, EachCoverIsListedOnce}
+use Rattle.xc_list.specs.Output.{output}
+use Rattle.xc_c.specs.Numbers.{numbered_kind, fault_number}
+
+-- a fault is told by its status, 3, its line and its number; that there is none by zeros
+abbrev pub IsTold : Option (ℕ × FaultKind) → ℕ → ℕ → ℕ → Type 0
+IsTold None status line fault = (status ≡ 0) × (line ≡ 0) × (fault ≡ 0)
+IsTold (Some found) status line fault = (status ≡ 3) × (line ≡ found.0) × (fault ≡ fault_number found.1)
+
+-- nothing is told, at this status
+abbrev pub IsUntold : ℕ → ℕ → ℕ → ℕ → Type 0
+IsUntold why status line fault = (status ≡ why) × (line ≡ 0) × (fault ≡ 0)
+
+-- The first fault of a text is told, or that it has none; at 5 the number is of no kind, and at 4 memory was wanting.
+abbrev pub TellsFault : ℕ → List ℕ → ℕ → ℕ → ℕ → Type 0
+TellsFault number text status line fault = MatchOption (numbered_kind number) (IsUntold 5 status line fault)
+    (λ kind. IsUntold 4 status line fault ⊎ IsTold (first_fault kind (lines_of text)) status line fault)
+
+-- A text of this kind stands for a problem, each of whose solutions is a cover, and each of whose covers is one
+-- solution; and this is so of it.
+pub record IsSearched (kind : Kind) (text : List ℕ) (says : Named → Type 0) : Type 0 where
+  pub named : Named
+  pub ignored : List ℕ
+  pub stands : StandsFor kind (lines_of text) named ignored
+  pub right : EachMemberCovers named.puzzle
+  pub complete : EachCoverIsListedOnce named.puzzle
+  pub said : says named
+
+-- What a search of a text answers: this is so of its problem; or nothing came of it, at status 5 since the number is of
+-- no kind, at 3 since the text has a fault, at 4 for want of memory.
+abbrev pub Searches : ℕ → List ℕ → ℕ → Type 0 → (Named → Type 0) → Type 0
+Searches number text status nothing says = MatchOption (numbered_kind number) ((status ≡ 5) × nothing) (λ kind.
+    ((status ≡ 3) × (first_fault kind (lines_of text) ≢ None) × nothing) ⊎ ((status ≡ 4) × nothing)
+    ⊎ IsSearched kind text says)
+
+-- the status of a search that came to its end: 1 where it met the limit, else 0
+abbrev pub end_status : Named → ℕ → ℕ
+end_status a limit = if nat_lt (length (members a.puzzle)) limit then 0 else 1
+
+-- the solutions were counted up to the limit
+abbrev pub Counts : ℕ → ℕ → ℕ → Named → Type 0
+Counts limit status count a = (count ≡ min limit (length (members a.puzzle))) × (status ≡ end_status a limit)
+
+-- a buffer took a text from its start, as far as it has room, which is so many bytes; what is left of it is as it was
+abbrev pub IsFilled : List ℕ → List ℕ → List ℕ → ℕ → Type 0
+IsFilled text old new used =
+    (new ≡ take (length old) text ++ drop (length text) old) × (used ≡ min (length text) (length old))
+
+-- the solutions up to the limit were listed into a buffer; at status 2 their text is longer than the buffer
+abbrev pub Lists : ℕ → ℕ → List ℕ → List ℕ → ℕ → ℕ → Named → Type 0
+Lists spacing limit old new status used a =
+    let text = output a spacing limit in
+    IsFilled text old new used × (status ≡ (if nat_lt (length old) (length text) then 2 else end_status a limit))

@@ -1,0 +1,108 @@
+//! Exact cover problems for C, and for all that calls C: calls on numbers and bytes, whose header is
+//! `bindings/c/helgrothy.h`. Each answers a status: 0 where all was done, 1 where a search met its
+//! limit, 2 where a listing is longer than its buffer, 3 for a text with a fault, 4 for want of memory,
+//! 5 for a number of no kind. Names are hashed by the fixed seed.
+#![tactic(auto)]
+
+ghost use Rattle.std.specs.Prelude.{◌≡◌};
+ghost use Rattle.xc_c.specs.Answers.{Counts, Lists, Searches, TellsFault};
+ghost use Rattle.xc_c.specs.Numbers.{version_number};
+
+mod numbers;
+mod texts;
+
+use crate::numbers::{
+    DONE, FAULT, LIMIT, NO_KIND, NO_MEMORY, error_status, fault_number, numbered_kind,
+};
+use crate::texts::{count_solutions, first_fault, list_solutions};
+use std::alloc::Global;
+use xc_list::Words;
+
+/// The version: ten thousand times the first number, a hundred times the second, and the third.
+#[unsafe(no_mangle)]
+pub extern "C" fn helgrothy_version() -> u32
+    ensures { result ≡ version_number 0 1 0 }
+{
+    100
+}
+
+/// The line and the number of the first fault of a text, with status 3; zeros with another.
+#[unsafe(no_mangle)]
+pub extern "C" fn helgrothy_fault(
+    alloc: Global,
+    kind: u32,
+    text: &[u8],
+    line: &mut u64,
+    fault: &mut u32,
+) -> u32
+    ensures { TellsFault kind text.now result line.new fault.new }
+{
+    *line = 0;
+    *fault = 0;
+    let Some(kind) = numbered_kind(kind) else {
+        return NO_KIND;
+    };
+    match first_fault(alloc, kind, text) {
+        Ok(None) => DONE,
+        Ok(Some((at, kind))) => {
+            *line = at;
+            *fault = fault_number(kind);
+            FAULT
+        }
+        Err(_) => NO_MEMORY,
+    }
+}
+
+/// How many solutions the problem of a text has, up to a limit; 0 where nothing was searched.
+#[unsafe(no_mangle)]
+pub extern "C" fn helgrothy_count(
+    alloc: Global,
+    kind: u32,
+    text: &[u8],
+    limit: u64,
+    count: &mut u64,
+) -> u32
+    ensures { Searches kind text.now result (count.new ≡ 0) (Counts limit result count.new) }
+{
+    *count = 0;
+    let Some(kind) = numbered_kind(kind) else {
+        return NO_KIND;
+    };
+    match count_solutions(alloc, kind, text, limit) {
+        Ok(found) => {
+            *count = found;
+            if found < limit { DONE } else { LIMIT }
+        }
+        Err(error) => error_status(&error),
+    }
+}
+
+/// Lists the solutions of the problem of a text into a buffer: each whose number `spacing` divides, none
+/// for 0, up to a limit. Its first bytes are put there, as many as there is room for, and counted; what
+/// is left of the buffer stays as it was. It takes as much memory again as the buffer has.
+#[unsafe(no_mangle)]
+pub extern "C" fn helgrothy_list(
+    alloc: Global,
+    kind: u32,
+    text: &[u8],
+    spacing: u64,
+    limit: u64,
+    buffer: &mut [u8],
+    used: &mut usize,
+) -> u32
+    ensures { Searches kind text.now result ((buffer.new ≡ buffer.old) × (used.new ≡ 0))
+        (Lists spacing limit buffer.old buffer.new result used.new) }
+{
+    *used = 0;
+    let Some(kind) = numbered_kind(kind) else {
+        return NO_KIND;
+    };
+    let words = Words { spacing, limit };
+    match list_solutions(alloc, kind, text, words, buffer) {
+        Ok((status, bytes)) => {
+            *used = bytes;
+            status
+        }
+        Err(error) => error_status(&error),
+    }
+}

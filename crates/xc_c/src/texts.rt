@@ -1,0 +1,129 @@
+//! Problems out of texts in memory.
+ghost use Rattle.std.specs.Prelude.{◌≡◌, IfOk, IfErr, OnErr, OnOk, length, min};
+ghost use Rattle.xc_input.specs.Readings.{IsErrorFor};
+ghost use Rattle.xc_input.specs.Lines.{lines_of};
+ghost use Rattle.xc_input.specs.Stages.{first_fault};
+ghost use Rattle.xc_input.specs.Text.{StandsFor};
+ghost use Rattle.xc_search.specs.Cover.{members, EachMemberCovers, EachCoverIsListedOnce};
+ghost use Rattle.xc_c.specs.Answers.{IsFilled, IsSearched, Lists};
+ghost use Rattle.xc_c.specs.inner.Statuses.{listing_status};
+
+use crate::numbers::{DONE, LIMIT, NO_ROOM};
+use std::alloc::Global;
+use xc_dance::{Links, Memory};
+use xc_input::{FaultKind, InputError, Kind, Problem, Read, SliceSource, read_problem};
+use xc_list::{End, Tray, Words, run};
+use xc_search::Search;
+
+/// What a text stands for, or its first fault, or that there was no memory.
+pub(crate) fn read_text(alloc: Global, kind: Kind, text: &[u8]) -> Result<Read, InputError>
+    ensures problem { IfOk result (λ r. StandsFor kind (lines_of text.now) r.problem r.ignored.items) }
+    ensures error { IfErr result (IsErrorFor (first_fault kind (lines_of text.now))) }
+{
+    let mut source = SliceSource::new(text);
+    read_problem(alloc, kind, &mut source)
+}
+
+/// The first fault of a text, with its line.
+pub(crate) fn first_fault(
+    alloc: Global,
+    kind: Kind,
+    text: &[u8],
+) -> Result<Option<(u64, FaultKind)>, Memory>
+    ensures { IfOk result (λ found. found ≡ first_fault kind (lines_of text.now)) }
+{
+    let Err(error) = read_text(alloc, kind, text) else {
+        return Ok(None);
+    };
+    match error {
+        InputError::Fault { line, kind } => Ok(Some((line, kind))),
+        _ => Err(Memory),
+    }
+}
+
+/// How many solutions the problem of a text has, up to a limit.
+pub(crate) fn count_solutions(
+    alloc: Global,
+    kind: Kind,
+    text: &[u8],
+    limit: u64,
+) -> Result<u64, InputError>
+    ensures count { IfOk result (λ count. IsSearched kind text.now
+        (λ a. count ≡ min limit (length (members a.puzzle)))) }
+    ensures error { IfErr result (IsErrorFor (first_fault kind (lines_of text.now))) }
+{
+    let problem = read_text(alloc, kind, text)?.problem;
+    let Ok(links) = Links::for_search(alloc, &problem) else {
+        return Err(InputError::Memory);
+    };
+    let Ok(mut search) = Search::begin(alloc, links, &problem) else {
+        return Err(InputError::Memory);
+    };
+    Ok(search.pass(limit))
+}
+
+/// Puts a beginning of bytes into the front of a buffer, all of them where it has room, and says how
+/// many.
+fn fill(buffer: &mut [u8], bytes: &[u8]) -> usize
+    ensures { IsFilled bytes.now buffer.old buffer.new result }
+{
+    let n = bytes.len().min(buffer.len());
+    buffer[..n].copy_from_slice(&bytes[..n]);
+    n
+}
+
+/// The status of a run that came to this end, and wrote so many bytes for a buffer with this room;
+/// none where a write failed for want of memory.
+fn listing_status(end: End, length: usize, room: usize) -> Option<u32>
+    ensures { result ≡ listing_status end length room }
+{
+    match end {
+        End::WriteFailed(_) if length < room => None,
+        End::WriteFailed(_) => Some(NO_ROOM),
+        End::Done(_) | End::Limit(_) if room < length => Some(NO_ROOM),
+        End::Done(_) => Some(DONE),
+        End::Limit(_) => Some(LIMIT),
+    }
+}
+
+/// Lists the solutions of a problem into a buffer, and gives the status and the number of bytes.
+/// Without memory the buffer stays as it was.
+fn list_problem(
+    alloc: Global,
+    problem: &Problem,
+    words: Words,
+    buffer: &mut [u8],
+) -> Result<(u32, usize), Memory>
+    ensures lists { IfOk result (λ r. Lists words.spacing words.limit buffer.old buffer.new r.0 r.1 problem.now) }
+    ensures kept { OnErr result (buffer.new ≡ buffer.old) }
+    ensures right { OnOk result (EachMemberCovers problem.now.puzzle) }
+    ensures complete { OnOk result (EachCoverIsListedOnce problem.now.puzzle) }
+{
+    let mut tray = Tray::new(alloc, usize::MAX, buffer.len(), false)?;
+    let end = run(alloc, problem, words, &mut tray)?;
+    let listing = tray.bytes();
+    let Some(status) = listing_status(end, listing.len(), buffer.len()) else {
+        return Err(Memory);
+    };
+    Ok((status, fill(buffer, listing)))
+}
+
+/// Lists the solutions of the problem of a text into a buffer, as `list_problem` does.
+pub(crate) fn list_solutions(
+    alloc: Global,
+    kind: Kind,
+    text: &[u8],
+    words: Words,
+    buffer: &mut [u8],
+) -> Result<(u32, usize), InputError>
+    ensures listing { IfOk result (λ r. IsSearched kind text.now
+        (Lists words.spacing words.limit buffer.old buffer.new r.0 r.1)) }
+    ensures error { IfErr result (IsErrorFor (first_fault kind (lines_of text.now))) }
+    ensures kept { OnErr result (buffer.new ≡ buffer.old) }
+{
+    let problem = read_text(alloc, kind, text)?.problem;
+    match list_problem(alloc, &problem, words, buffer) {
+        Ok(listed) => Ok(listed),
+        Err(_) => Err(InputError::Memory),
+    }
+}

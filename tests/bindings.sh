@@ -1,0 +1,27 @@
+#!/bin/sh
+# bindings.sh: compiles the examples in C and in Rust with the library that `make lib` built, and compares what they print.
+# Then installs the library, and compiles bindings.c by what pkg-config says of it. Prints what differs.
+set -eu
+cd "$(dirname "$0")/.."
+work=$(mktemp -d)
+trap 'rm -rf "$work"' EXIT
+trap 'exit 2' HUP INT TERM
+strict="-std=c99 -Wall -Wextra -Werror"
+
+printf '1:\n a d f (2 of 2)\n b g (1 of 1)\n c e (1 of 1)\n' >"$work/listing"
+{ cat "$work/listing" && printf 'status 0\nline 2: fault F11\n'; } >"$work/c.wanted"
+{ cat "$work/listing" && printf 'Done\nFault { line: 2, number: 11 }\n'; } >"$work/rust.wanted"
+gcc $strict -Ibindings/c bindings/c/example.c -Lbindings/out -lhelgrothy -o "$work/c"
+"$work/c" | diff - "$work/c.wanted"
+if command -v rustc >/dev/null; then
+    rustc --edition 2024 -D warnings -A dead_code -Lbindings/out bindings/rust/example.rs -o "$work/rust"
+    "$work/rust" | diff - "$work/rust.wanted"
+fi
+
+MAKEFLAGS= make -s install-lib PREFIX="$work/with space"
+flags=$(PKG_CONFIG_LIBDIR="$work/with space/lib/pkgconfig" pkg-config --cflags --libs helgrothy)
+eval "gcc $strict tests/bindings.c $flags -Wl,--wrap=malloc,--wrap=realloc,--wrap=free -o \"\$work/corners\""
+"$work/corners" | diff - VERSION
+MAKEFLAGS= make -s uninstall-lib PREFIX="$work/with space"
+left=$(find "$work/with space" ! -type d)
+[ -z "$left" ] || { echo "left behind: $left"; exit 1; }
