@@ -72,9 +72,11 @@ module _ (v : Reading) (kind : Kind) (lines : List (List ℕ)) (o : Option Input
     pub alone : (p : Named) (ig : List ℕ) → StandsFor v.kind v.lines p ig → (p ≡ named_by d) × (ig ≡ d.ignored.items)
     alone p ig s =
         let t : StandsFor kind lines p ig = subst (λ (r : Reading). StandsFor r.kind r.lines p ig) is s in
-        let q = stands-only kind lines p ig t in
-        (q.1 ∙ ap named_of (ap (λ (st : Stage). st.sheet) (sym whole.1)) ∙ by-builder d, q.2
-            ∙ ap (λ (st : Stage). st.ignored) (sym whole.1))
+        let q = stands-only kind lines p ig t in (
+          q.1 ∙ ap named_of (ap (λ (st : Stage). st.sheet) (sym whole.1)) ∙ by-builder d,
+          q.2
+              ∙ ap (λ (st : Stage). st.ignored) (sym whole.1),
+        )
 
     pub table-names : key_names d.names.keys ≡ map (λ x. x.name.items) d.items.items
     table-names = whole.0.names ∙ item-names d.items.items

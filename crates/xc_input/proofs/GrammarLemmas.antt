@@ -123,7 +123,7 @@ texts : (prefix : List ℕ) → are_digits 9 (low_text prefix) ≡ true → are_
     → AreBounds prefix (number (low_text prefix)) (number (high_text prefix))
 texts prefix e f =
     let P : Bool → Type 0 = λ t. has 58 prefix ≡ t → are_digits 9 (if t then after 58 prefix else prefix) ≡ true
-        → AreBounds prefix (number (low_text prefix)) (number (if t then after 58 prefix else prefix)) in
+    → AreBounds prefix (number (low_text prefix)) (number (if t then after 58 prefix else prefix)) in
     let h : P (has 58 prefix) = (elim (has 58 prefix) as P [
       | true ↦ λ g k. inr (before 58 prefix, after 58 prefix, (cut-is 58 prefix g).0, e, k, refl, refl)
       | false ↦ λ g k. inl (k, ap number (sym (no-cut 58 prefix g)), refl)
@@ -149,12 +149,15 @@ bounds-good prefix sec e =
     let low : ℕ = number (low_text prefix) in
     let high : ℕ = number (high_text prefix) in
     let a = head BadBound (not (are_digits 9 (low_text prefix) && are_digits 9 (high_text prefix)))
-        ((BoundOrder, nat_lt (number (high_text prefix)) 1 || nat_lt (number (high_text prefix))
-        (number (low_text prefix))) ∷ (BoundOnSecondary, sec) ∷ []) e in
+    ((
+      BoundOrder,
+      nat_lt (number (high_text prefix)) 1 || nat_lt (number (high_text prefix))
+          (number (low_text prefix)),
+    ) ∷ (BoundOnSecondary, sec) ∷ []) e in
     let b = head BoundOrder (nat_lt (number (high_text prefix)) 1 || nat_lt (number (high_text prefix)) (number (low_text prefix))) ((BoundOnSecondary, sec) ∷ []) a.1 in
     let c = head BoundOnSecondary sec [] b.1 in
     let n = and-true (are_digits 9 (low_text prefix)) (are_digits 9 (high_text prefix))
-        (not-false (are_digits 9 (low_text prefix) && are_digits 9 (high_text prefix)) a.0) in
+    (not-false (are_digits 9 (low_text prefix) && are_digits 9 (high_text prefix)) a.0) in
     let o = or-false (nat_lt (number (high_text prefix)) 1) (nat_lt (number (high_text prefix)) (number (low_text prefix))) b.0 in
     let o0 : nat_lt (number (high_text prefix)) 1 ≡ false = o.0 in
     let o1 : nat_lt (number (high_text prefix)) (number (low_text prefix)) ≡ false = o.1 in
@@ -163,14 +166,17 @@ bounds-good prefix sec e =
 pub good-bounds : (prefix : List ℕ) (low high : ℕ) → AreBounds prefix low high → 1 ≤ high → low ≤ high → (first (prefix_checks prefix false) ≡ None) × (number (low_text prefix) ≡ low) × (number (high_text prefix) ≡ high)
 good-bounds prefix low high h p q =
     let n : (are_digits 9 (low_text prefix) ≡ true) × (are_digits 9 (high_text prefix) ≡ true)
-        × (number (low_text prefix) ≡ low) × (number (high_text prefix) ≡ high) = bounds-are prefix low high h in
+    × (number (low_text prefix) ≡ low) × (number (high_text prefix) ≡ high) = bounds-are prefix low high h in
     let lo : number (low_text prefix) ≡ low = n.2 in
     let hi : number (high_text prefix) ≡ high = n.3 in
     let a : nat_lt (number (high_text prefix)) 1 ≡ false = grind (arith, nat_tests) in
     let b : nat_lt (number (high_text prefix)) (number (low_text prefix)) ≡ false = grind (arith, nat_tests) in (
       cons BadBound (not (are_digits 9 (low_text prefix) && are_digits 9 (high_text prefix)))
-          ((BoundOrder, nat_lt (number (high_text prefix)) 1 || nat_lt (number (high_text prefix))
-          (number (low_text prefix))) ∷ (BoundOnSecondary, false) ∷ [])
+          ((
+            BoundOrder,
+            nat_lt (number (high_text prefix)) 1 || nat_lt (number (high_text prefix))
+                (number (low_text prefix)),
+          ) ∷ (BoundOnSecondary, false) ∷ [])
           (ap not (and-both (are_digits 9 (low_text prefix)) (are_digits 9 (high_text prefix)) n.0 n.1))
           (cons BoundOrder (nat_lt (number (high_text prefix)) 1 || nat_lt (number (high_text prefix)) (number (low_text prefix))) ((BoundOnSecondary, false) ∷ []) (or-both (nat_lt (number (high_text prefix)) 1) (nat_lt (number (high_text prefix)) (number (low_text prefix))) a b) refl),
       lo,

@@ -63,4 +63,4 @@ module _ (a b : Kind) (bounds : is_bounds a ≡ true → is_bounds b ≡ true) (
   pub stands-also : (lines : List (List ℕ)) (named : Named) (ignored : List ℕ) → StandsFor a lines named ignored → StandsFor b lines named ignored
   stands-also lines named ignored h =
       let r = stands-read a lines named ignored h in read-stands b lines named ignored
-          (r.0, r.1, sheet-also 0 lines r.0 ignored r.2)
+      (r.0, r.1, sheet-also 0 lines r.0 ignored r.2)

@@ -83,7 +83,7 @@ module _ (kind : Kind) (old new : List (List ℕ)) (line : List ℕ) (f : new �
   fault-is =
       let num : 0 + length (old ++ line ∷ []) ≡ length new = omega (arith, ap length f) in
       ap (line_fault kind) f ∙ line_fault-is kind (old ++ line ∷ [])
-          ∙ next-fault kind 0 no_stage old line (sym (line_fault-is kind old) ∙ subst (IsStateOf kind old) g h)
+      ∙ next-fault kind 0 no_stage old line (sym (line_fault-is kind old) ∙ subst (IsStateOf kind old) g h)
       ∙ ap (λ m. fault_or m (first (line_checks kind (stage_of kind old) line)) None) num ∙ ap (λ st. fault_or (length new) (first (line_checks kind st line)) None) (sym sound.1)
 
   pub fails : (count : ℕ) (e : LineError) (T : Type 0) → count ≡ line_number (length new) → Judged {T = T} (first (line_checks kind (stage_of_builder d) line)) (Err e) → IsErrorOf kind new (error_at count e)
@@ -115,6 +115,6 @@ ends-at kind lines o Memory f h = tt
 pub end-is : (kind : Kind) (lines : List (List ℕ)) (b : Bool) (o : Option InputError) → o ≡ None → IsStateOf kind lines o → b ≡ (stage_of kind lines).started → first_fault kind lines ≡ end_fault (length lines) b
 end-is kind lines b o f h s =
     let g : fault_from kind 0 no_stage lines ≡ None = sym (line_fault-is kind lines)
-        ∙ subst (IsStateOf kind lines) f h in
+    ∙ subst (IsStateOf kind lines) f h in
     first_fault-is kind lines ∙ ap (λ q. option_or q (end_fault (length lines) (stage_of kind lines).started)) g
-        ∙ ap (end_fault (length lines)) (sym s)
+    ∙ ap (end_fault (length lines)) (sym s)

@@ -81,7 +81,7 @@ number-later : (cs : List (List ℕ)) (us more : List Written)
 number-later cs [] more = refl
 number-later cs (u ∷ us) more =
     let number = ap (λ ds. colour_number ds u.colour) (sym (with_uses-append (with_colour cs u.colour) us more))
-        ∙ kept (with_colour cs u.colour) (us ++ more) u.colour (met cs u.colour)
+    ∙ kept (with_colour cs u.colour) (us ++ more) u.colour (met cs u.colour)
     ∙ sym (kept (with_colour cs u.colour) us u.colour (met cs u.colour)) in
     λ i. record { item = u.item; colour = number i } ∷ number-later (with_colour cs u.colour) us more i
 
@@ -92,19 +92,21 @@ AreKept used cs os last uss = (used + length (flat uss) ≤ most_uses) × (last 
 kept-cons : (used : ℕ) (cs : List (List ℕ)) (os : List (List Use)) (last : List (List ℕ)) (us : List Written)
     (uss : List (List Written))
     → AreKept (used + length us) (with_uses cs us) os last uss
-        → AreKept used cs (number_uses (with_uses cs us) us ∷ os) last (us ∷ uss)
+    → AreKept used cs (number_uses (with_uses cs us) us ∷ os) last (us ∷ uss)
 kept-cons used cs os last us uss k =
     let here : number_uses (with_uses cs us) us ≡ number_uses last us = sym (number-later cs us (flat uss))
-        ∙ ap (λ ds. number_uses ds us) (sym k.1) in
-    (omega (arith, k.0, length-append us (flat uss)), k.1 ∙ sym (with_uses-append cs us (flat uss)),
-        λ i. here i ∷ k.2 i)
+    ∙ ap (λ ds. number_uses ds us) (sym k.1) in (
+      omega (arith, k.0, length-append us (flat uss)),
+      k.1 ∙ sym (with_uses-append cs us (flat uss)),
+      λ i. here i ∷ k.2 i,
+    )
 
 -- LINES BEHIND THE ITEM LINE
 module _ (c : Context) where
   abbrev AreWritten : ℕ → ℕ → List (List ℕ) → List (List ℕ) → List (List Use) → List ℕ → List (List ℕ) → Type 0
   AreWritten n used cs lines os ig last =
       (list_any (has 0) lines ≡ false) × (ws : List (ℕ × List Written))
-          × AllZip (IsOptionLine c) (content_from (n + 1) lines) ws
+      × AllZip (IsOptionLine c) (content_from (n + 1) lines) ws
       × (ig ≡ ignored_of c.primaries ws) × AreKept used cs os last (kept_of c.primaries ws)
 
   all-lines : (n used : ℕ) (cs : List (List ℕ)) (lines : List (List ℕ)) (os : List (List Use)) (ig : List ℕ)
@@ -112,9 +114,13 @@ module _ (c : Context) where
       → AreOptions c (so_far n used cs) lines os ig last → AreWritten n used cs lines os ig last
   all-lines n used cs [] os ig last room h = (refl, [], tt, h.1, (omega (arith, room), h.2, h.0))
   all-lines n used cs (line ∷ lines) os ig last room (z, inl (f, r)) =
-      let q = all-lines (n + 1) used cs lines os ig last room r in
-      (or-both (has 0 line) (list_any (has 0) lines) z q.0, q.1,
-          subst (λ ls. AllZip (IsOptionLine c) ls q.1) (sym (skip-content (n + 1) line lines f)) q.2, q.3, q.4)
+      let q = all-lines (n + 1) used cs lines os ig last room r in (
+        or-both (has 0 line) (list_any (has 0) lines) z q.0,
+        q.1,
+        subst (λ ls. AllZip (IsOptionLine c) ls q.1) (sym (skip-content (n + 1) line lines f)) q.2,
+        q.3,
+        q.4,
+      )
   all-lines n used cs (line ∷ lines) os ig last room (z, inr (us, f, u, inl (others, none, i, r))) =
       let q = all-lines (n + 1) used cs lines os others last room r in (
         or-both (has 0 line) (list_any (has 0) lines) z q.0,
@@ -133,30 +139,30 @@ module _ (c : Context) where
         q.3 ∙ sym (ignored-same c.primaries (line_number (n + 1), us) q.1 prim),
         subst (AreKept used cs os last) (sym (kept-more c.primaries (line_number (n + 1), us) q.1 prim))
             (subst (λ os. AreKept used cs os last (us ∷ kept_of c.primaries q.1)) (sym o)
-                (kept-cons used cs others last us (kept_of c.primaries q.1) q.4)),
+            (kept-cons used cs others last us (kept_of c.primaries q.1) q.4)),
       )
 
   -- one option line, before others that are read
   one-line : (n used : ℕ) (cs : List (List ℕ)) (line : List ℕ) (lines : List (List ℕ)) (rest : List (ℕ × List ℕ))
       (ws : List (ℕ × List Written)) (os : List (List Use)) (ig : List ℕ) (last : List (List ℕ))
       → has 0 line ≡ false → is_skipped line ≡ false → AllZip (IsOptionLine c) ((n + 1, line) ∷ rest) ws
-          → ig ≡ ignored_of c.primaries ws → AreKept used cs os last (kept_of c.primaries ws)
+      → ig ≡ ignored_of c.primaries ws → AreKept used cs os last (kept_of c.primaries ws)
       → ((used : ℕ) (cs : List (List ℕ)) (ws : List (ℕ × List Written)) (os : List (List Use)) (ig : List ℕ)
-          → AllZip (IsOptionLine c) rest ws → ig ≡ ignored_of c.primaries ws
+      → AllZip (IsOptionLine c) rest ws → ig ≡ ignored_of c.primaries ws
       → AreKept used cs os last (kept_of c.primaries ws) → AreOptions c (so_far (n + 1) used cs) lines os ig last)
       → AreOptions c (so_far n used cs) (line ∷ lines) os ig last
   one-line n used cs line lines rest [] os ig last z f a i k more = absurd a
   one-line n used cs line lines rest (w ∷ ws) os ig last z f a i k more =
       let Q : Bool → Type 0 = λ t. has_primary c.primaries w.1 ≡ t
-          → AreOptions c (so_far n used cs) (line ∷ lines) os ig last in
+      → AreOptions c (so_far n used cs) (line ∷ lines) os ig last in
       let h : Q (has_primary c.primaries w.1) = (elim (has_primary c.primaries w.1) as Q [
         | true ↦ λ g.
             let k' : AreKept used cs os last (w.1 ∷ kept_of c.primaries ws) =
-                subst (AreKept used cs os last) (kept-more c.primaries w ws g) k in
+            subst (AreKept used cs os last) (kept-more c.primaries w ws g) k in
             let same : last ≡ with_uses (with_uses cs w.1) (flat (kept_of c.primaries ws)) = k'.1
-                ∙ with_uses-append cs w.1 (flat (kept_of c.primaries ws)) in
+            ∙ with_uses-append cs w.1 (flat (kept_of c.primaries ws)) in
             let here : number_uses last w.1 ≡ number_uses (with_uses cs w.1) w.1 = ap (λ ds. number_uses ds w.1) same
-                ∙ number-later cs w.1 (flat (kept_of c.primaries ws)) in
+            ∙ number-later cs w.1 (flat (kept_of c.primaries ws)) in
             let long = length-append w.1 (flat (kept_of c.primaries ws)) in (
               z,
               inr (
@@ -175,34 +181,40 @@ module _ (c : Context) where
               ),
             )
         | false ↦ λ g. (
-            z,
-            inr (
-              w.1,
-              f,
-              (a.0.1, a.0.2),
-              inl (
-                ignored_of c.primaries ws,
-                g,
-                i ∙ ignored-more c.primaries w ws g ∙ ap (λ m. m ∷ ignored_of c.primaries ws) a.0.0,
-                more used cs ws os (ignored_of c.primaries ws) a.1 refl
-                    (subst (AreKept used cs os last) (kept-same c.primaries w ws g) k),
-              ),
+          z,
+          inr (
+            w.1,
+            f,
+            (a.0.1, a.0.2),
+            inl (
+              ignored_of c.primaries ws,
+              g,
+              i ∙ ignored-more c.primaries w ws g ∙ ap (λ m. m ∷ ignored_of c.primaries ws) a.0.0,
+              more used cs ws os (ignored_of c.primaries ws) a.1 refl
+                  (subst (AreKept used cs os last) (kept-same c.primaries w ws g) k),
             ),
-          )
+          ),
+        )
       ]) in h refl
 
   line-by-line : (n used : ℕ) (cs : List (List ℕ)) (lines : List (List ℕ)) (ws : List (ℕ × List Written))
       (os : List (List Use)) (ig : List ℕ) (last : List (List ℕ)) → list_any (has 0) lines ≡ false
       → AllZip (IsOptionLine c) (content_from (n + 1) lines) ws → ig ≡ ignored_of c.primaries ws
-          → AreKept used cs os last (kept_of c.primaries ws) → AreOptions c (so_far n used cs) lines os ig last
+      → AreKept used cs os last (kept_of c.primaries ws) → AreOptions c (so_far n used cs) lines os ig last
   line-by-line n used cs [] [] os ig last z a i k = (k.2, i, k.1)
   line-by-line n used cs [] (w ∷ ws) os ig last z a i k = absurd a
   line-by-line n used cs (line ∷ lines) ws os ig last z a i k =
       let y = or-false (has 0 line) (list_any (has 0) lines) z in
       let Q : Bool → Type 0 = λ t. is_skipped line ≡ t → AreOptions c (so_far n used cs) (line ∷ lines) os ig last in
       let h : Q (is_skipped line) = (elim (is_skipped line) as Q [
-        | true ↦ λ f. (y.0, inl (f, line-by-line (n + 1) used cs lines ws os ig last y.1
-            (subst (λ ls. AllZip (IsOptionLine c) ls ws) (skip-content (n + 1) line lines f) a) i k))
+        | true ↦ λ f. (
+          y.0,
+          inl (
+            f,
+            line-by-line (n + 1) used cs lines ws os ig last y.1
+                (subst (λ ls. AllZip (IsOptionLine c) ls ws) (skip-content (n + 1) line lines f) a) i k,
+          ),
+        )
         | false ↦ λ f. one-line n used cs line lines (content_from (n + 1 + 1) lines) ws os ig last y.0 f
             (subst (λ ls. AllZip (IsOptionLine c) ls ws) (keep-content (n + 1) line lines f) a) i k
             (λ used' cs' ws' os' ig' a' i' k'. line-by-line (n + 1) used' cs' lines ws' os' ig' last y.1 a' i' k')
@@ -215,22 +227,39 @@ said kind sheet = context kind (names_of sheet.entries) sheet.primaries
 abbrev IsFound : Kind → ℕ → List (List ℕ) → Sheet → List ℕ → Type 0
 IsFound kind n lines sheet ignored =
     (list_any (has 0) lines ≡ false) × (item : ℕ × List ℕ) × (rest : List (ℕ × List ℕ))
-        × (content_from (n + 1) lines ≡ item ∷ rest) × AreItems kind (parts item.1) sheet.entries sheet.primaries
+    × (content_from (n + 1) lines ≡ item ∷ rest) × AreItems kind (parts item.1) sheet.entries sheet.primaries
     × (ws : List (ℕ × List Written)) × AllZip (IsOptionLine (said kind sheet)) rest ws
-        × (ignored ≡ ignored_of sheet.primaries ws) × AreKept 0 [] sheet.options sheet.colours
-        (kept_of sheet.primaries ws)
+    × (ignored ≡ ignored_of sheet.primaries ws) × AreKept 0 [] sheet.options sheet.colours
+    (kept_of sheet.primaries ws)
 
 finds : (kind : Kind) (n : ℕ) (lines : List (List ℕ)) (sheet : Sheet) (ignored : List ℕ)
     → IsSheetFrom kind n lines sheet ignored → IsFound kind n lines sheet ignored
 finds kind n [] sheet ignored h = absurd h
 finds kind n (line ∷ lines) sheet ignored (z, inl (f, r)) =
-    let q = finds kind (n + 1) lines sheet ignored r in
-    (or-both (has 0 line) (list_any (has 0) lines) z q.0, q.1, q.2, skip-content (n + 1) line lines f
-        ∙ q.3, q.4, q.5, q.6, q.7, q.8)
+    let q = finds kind (n + 1) lines sheet ignored r in (
+      or-both (has 0 line) (list_any (has 0) lines) z q.0,
+      q.1,
+      q.2,
+      skip-content (n + 1) line lines f
+          ∙ q.3,
+      q.4,
+      q.5,
+      q.6,
+      q.7,
+      q.8,
+    )
 finds kind n (line ∷ lines) sheet ignored (z, inr (f, items, r)) =
-    let w = all-lines (said kind sheet) (n + 1) 0 [] lines sheet.options ignored sheet.colours (omega arith) r in
-    (or-both (has 0 line) (list_any (has 0) lines) z w.0, (n + 1, line), content_from (n + 1 + 1) lines,
-        keep-content (n + 1) line lines f, items, w.1, w.2, w.3, w.4)
+    let w = all-lines (said kind sheet) (n + 1) 0 [] lines sheet.options ignored sheet.colours (omega arith) r in (
+      or-both (has 0 line) (list_any (has 0) lines) z w.0,
+      (n + 1, line),
+      content_from (n + 1 + 1) lines,
+      keep-content (n + 1) line lines f,
+      items,
+      w.1,
+      w.2,
+      w.3,
+      w.4,
+    )
 
 found : (kind : Kind) (n : ℕ) (lines : List (List ℕ)) (sheet : Sheet) (ignored : List ℕ)
     → IsFound kind n lines sheet ignored → IsSheetFrom kind n lines sheet ignored
@@ -239,17 +268,28 @@ found kind n (line ∷ lines) sheet ignored (z, item, rest, e, items, ws, a, i, 
     let y = or-false (has 0 line) (list_any (has 0) lines) z in
     let Q : Bool → Type 0 = λ t. is_skipped line ≡ t → IsSheetFrom kind n (line ∷ lines) sheet ignored in
     let h : Q (is_skipped line) = (elim (is_skipped line) as Q [
-      | true ↦ λ f. (y.0, inl (f, found kind (n + 1) lines sheet ignored
-          (y.1, item, rest, sym (skip-content (n + 1) line lines f) ∙ e, items, ws, a, i, k)))
+      | true ↦ λ f. (
+        y.0,
+        inl (
+          f,
+          found kind (n + 1) lines sheet ignored
+              (y.1, item, rest, sym (skip-content (n + 1) line lines f) ∙ e, items, ws, a, i, k),
+        ),
+      )
       | false ↦ λ f.
           let g : (n + 1, line) ∷ content_from (n + 1 + 1) lines ≡ item ∷ rest =
-              sym (keep-content (n + 1) line lines f) ∙ e in
+          sym (keep-content (n + 1) line lines f) ∙ e in
           let first : (n + 1, line) ≡ item = cc in
-          let others : content_from (n + 1 + 1) lines ≡ rest = cc in
-          (y.0, inr (f, subst (λ (l : ℕ × List ℕ). AreItems kind (parts l.1) sheet.entries sheet.primaries)
-              (sym first) items,
-          line-by-line (said kind sheet) (n + 1) 0 [] lines ws sheet.options ignored sheet.colours y.1
-              (subst (λ ls. AllZip (IsOptionLine (said kind sheet)) ls ws) (sym others) a) i k))
+          let others : content_from (n + 1 + 1) lines ≡ rest = cc in (
+            y.0,
+            inr (
+              f,
+              subst (λ (l : ℕ × List ℕ). AreItems kind (parts l.1) sheet.entries sheet.primaries)
+                  (sym first) items,
+              line-by-line (said kind sheet) (n + 1) 0 [] lines ws sheet.options ignored sheet.colours y.1
+                  (subst (λ ls. AllZip (IsOptionLine (said kind sheet)) ls ws) (sym others) a) i k,
+            ),
+          )
     ]) in h refl
 
 abbrev bounds_in : List Entry → List Bounds
@@ -262,10 +302,19 @@ read-stands kind lines named ignored (sheet, e, s) =
     let q = finds kind 0 lines sheet ignored s in
     let many : length (bounds_in (take sheet.primaries sheet.entries)) ≡ sheet.primaries =
     length-map (take sheet.primaries sheet.entries) _ ∙ AllZip-long (IsEntry kind false)
-        (before_first is_bar (parts q.1.1)) (take sheet.primaries sheet.entries) q.4.primary ∙ sym q.4.count in
+    (before_first is_bar (parts q.1.1)) (take sheet.primaries sheet.entries) q.4.primary ∙ sym q.4.count in
     let options : HaveOptions (said kind sheet) q.2 (named_of sheet) ignored =
-    record { options = q.5; stand = q.6; others = q.7; kept = kept_of sheet.primaries q.5; are_kept = refl; few =
-        omega (arith, q.8.0); colours = q.8.1; numbered = q.8.2 } in
+    record {
+      options = q.5;
+      stand = q.6;
+      others = q.7;
+      kept = kept_of sheet.primaries q.5;
+      are_kept = refl;
+      few =
+          omega (arith, q.8.0);
+      colours = q.8.1;
+      numbered = q.8.2;
+    } in
     subst (λ (p : Named). StandsFor kind lines p ignored) (sym e) (record {
       no_nul = q.0;
       item_line = q.1;
@@ -291,22 +340,31 @@ pub stands-read : (kind : Kind) (lines : List (List ℕ)) (named : Named) (ignor
     → StandsFor kind lines named ignored → IsRead kind lines named ignored
 stands-read kind lines named ignored h =
     let front : take (length h.items.primary) (h.items.primary ++ h.items.secondary) ≡ h.items.primary =
-        take-append_seam h.items.primary h.items.secondary in
+    take-append_seam h.items.primary h.items.secondary in
     let behind : drop (length h.items.primary) (h.items.primary ++ h.items.secondary) ≡ h.items.secondary =
-        drop-append_seam h.items.primary h.items.secondary in
-    let sheet : Sheet = record { entries = h.items.primary ++ h.items.secondary; primaries =
-        length h.items.primary; options = named.puzzle.options; colours = named.colours } in
+    drop-append_seam h.items.primary h.items.secondary in
+    let sheet : Sheet = record {
+      entries = h.items.primary ++ h.items.secondary;
+      primaries =
+          length h.items.primary;
+      options = named.puzzle.options;
+      colours = named.colours;
+    } in
     let bounds : named.puzzle.bounds ≡ bounds_in (take (length h.items.primary)
-        (h.items.primary ++ h.items.secondary)) = h.items.bounds ∙ ap bounds_in (sym front) in
+    (h.items.primary ++ h.items.secondary)) = h.items.bounds ∙ ap bounds_in (sym front) in
     let many : named.puzzle.secondary ≡ length (h.items.primary ++ h.items.secondary) - length h.items.primary =
-        h.items.count ∙ omega (arith, length-append h.items.primary h.items.secondary) in
+    h.items.count ∙ omega (arith, length-append h.items.primary h.items.secondary) in
     let primaries : length named.puzzle.bounds ≡ length h.items.primary = ap length h.items.bounds
-        ∙ length-map h.items.primary _ in
+    ∙ length-map h.items.primary _ in
     let o = subst (λ (c : Context). HaveOptions c h.option_lines named ignored)
-        (λ i. context kind (h.items.names i) (primaries i)) h.options in (
+    (λ i. context kind (h.items.names i) (primaries i)) h.options in (
       sheet,
-      (λ i. record { names = h.items.names i; colours = named.colours; puzzle =
-          record { bounds = bounds i; secondary = many i; options = named.puzzle.options } }),
+      (λ i. record {
+        names = h.items.names i;
+        colours = named.colours;
+        puzzle =
+            record { bounds = bounds i; secondary = many i; options = named.puzzle.options };
+      }),
       found kind 0 lines sheet ignored (
         h.no_nul,
         h.item_line,

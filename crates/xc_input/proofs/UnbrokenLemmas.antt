@@ -51,16 +51,22 @@ lack-tokens p [] h = tt
 lack-tokens p (b ∷ bs) h =
     let apart = or-false (p b) (list_any p bs) h in
     let P : Bool → Type 0 = λ t. AllLack p (if t then tokens bs else onto b bs (tokens bs)) in
-    subst (AllLack p) (sym (tokens-cons b bs)) (elim (is_space b) as P [ true ↦ lack-tokens p bs apart.1 | false ↦
-        lack-onto p b bs (tokens bs) apart.0 (lack-tokens p bs apart.1) ])
+    subst (AllLack p) (sym (tokens-cons b bs)) (elim (is_space b) as P [
+      | true ↦ lack-tokens p bs apart.1
+      | false ↦
+          lack-onto p b bs (tokens bs) apart.0 (lack-tokens p bs apart.1)
+    ])
 
 lack-spaces : (xs : List ℕ) → AllLack is_space (tokens xs)
 lack-spaces [] = tt
 lack-spaces (b ∷ bs) =
     let P : Bool → Type 0 = λ t. is_space b ≡ t → AllLack is_space (if t then tokens bs else onto b bs (tokens bs)) in
-    let h : P (is_space b) = (elim (is_space b) as P [ true ↦ λ e. lack-spaces bs | false ↦
-        λ e. lack-onto is_space b bs (tokens bs) e (lack-spaces bs) ]) in subst (AllLack is_space)
-        (sym (tokens-cons b bs)) (h refl)
+    let h : P (is_space b) = (elim (is_space b) as P [
+      | true ↦ λ e. lack-spaces bs
+      | false ↦
+          λ e. lack-onto is_space b bs (tokens bs) e (lack-spaces bs)
+    ]) in subst (AllLack is_space)
+    (sym (tokens-cons b bs)) (h refl)
 
 lack-bars : (p : ℕ → Bool) (t : List ℕ) → list_any p t ≡ false → AllLack p (split_bars t)
 lack-bars p [] h = tt

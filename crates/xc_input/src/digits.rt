@@ -6,7 +6,7 @@ ghost use Rattle.xc_input.specs.Words.{are_digits, number};
 /// The number that one to nine digits stand for.
 pub fn number_of(text: &[u8]) -> Option<u32>
     ensures value { MatchOption result (are_digits 9 text.now ≡ false)
-            (λ n. (are_digits 9 text.now ≡ true) × (n ≡ number text.now)) }
+        (λ n. (are_digits 9 text.now ≡ true) × (n ≡ number text.now)) }
     ensures fits { MatchOption result (Unit {0}) (λ n. n < 1000000000) }
 {
     if text.is_empty() || text.len() > 9 {

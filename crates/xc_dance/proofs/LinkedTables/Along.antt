@@ -81,7 +81,7 @@ next_at p x off q vs s t seg a h =
     let at : off + k ≡ q = (let f = a.from in omega (arith, f)) in
     let here : k < length vs = (let f = a.from in omega (arith, h, f)) in
     let node : slice_get (layout p) q ≡ Some (used x v) = ap (slice_get (layout p)) (sym at)
-        ∙ seg.node k v (slice_get-get_or vs k no_use here) in
+    ∙ seg.node k v (slice_get-get_or vs k no_use here) in
     let cells = use_cells p t x v q node in
     let on = along_next p off q vs s t a h in
     record {
@@ -236,7 +236,7 @@ one_committed p x off vs s now new room q j n same big is made =
     let at : slice_get (layout now.puzzle) q ≡ Some (used x n.u) = ap (λ a. slice_get (layout a) q) same ∙ n.node in
     let done = made x n.u at (n.item ∙ sym is) in
     let trail : new.trail ≡ after_use p n.u now.trail = ap (λ (d : Dancing). d.trail) done
-        ∙ ap (λ a. after_use a n.u now.trail) same in
+    ∙ ap (λ a. after_use a n.u now.trail) same in
     record {
       puzzle = ap (λ (d : Dancing). d.puzzle) done ∙ same;
       room = ap (λ (d : Dancing). d.room) done ∙ big;

@@ -83,7 +83,7 @@ pub open_colour : (p : Puzzle) (t : List Move) (q o : ℕ) (u : Use) → slice_g
     is_open u.item t ≡ true → get_or (nodes_after p t).color q 0 ≡ u.colour
 open_colour p t q o u at e =
     get_map (color_in p t) (layout p) q (used o u) at ∙ ap (λ b. cond b 4294967295 u.colour)
-        (open_unmarked p t u.item o u.colour e)
+    (open_unmarked p t u.item o u.colour e)
 
 pub after_open : (p : Puzzle) (u : Use) (t : List Move) → primary_count p < u.item → is_open u.item t ≡ true →
     after_use p u t ≡ cond (eqb u.colour 0) (Cover u.item) (Purify u.item u.colour) ∷ t

@@ -88,7 +88,7 @@ pub other_uses : (p : Puzzle) (i o : ℕ) (vs : List Use) (k : ℕ) (t : List Mo
 other_uses p i o vs k t e h =
     let enough : length vs - (k + 1) ≡ length (drop (k + 1) vs) = omega (arith, length-drop (k + 1) vs) in
     let behind : take (length vs - (k + 1)) (drop (k + 1) vs) ≡ drop (k + 1) vs =
-        ap (λ n. take n (drop (k + 1) vs)) enough ∙ take-length (drop (k + 1) vs) in
+    ap (λ n. take n (drop (k + 1) vs)) enough ∙ take-length (drop (k + 1) vs) in
     ap (λ found. after_uses p (others i (unwrap_or found [])) t) e
     ∙ ap (λ n. after_uses p (drop (n + 1) vs ++ take n vs) t) (sym h)
     ∙ after_uses-append p (drop (k + 1) vs) (take k vs) t

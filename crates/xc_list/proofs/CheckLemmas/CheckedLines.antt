@@ -108,10 +108,16 @@ fault_said p begun n (Body words) =
 fault_said p begun n Other = Some (BadLine n)
 
 line-said : (p : Named) (begun : Bool) (n : ℕ) (o : Option ℕ) (b : Option (List (List ℕ)))
-    → (if is_some o then None else elim (if begun then b else None) as (λ _. Option ListingFault) [ None ↦
-        Some (BadLine n) | Some words ↦ if is_known p words || is_none p words then None else Some (UnknownOption n) ])
-    ≡ fault_said p begun n (elim o as (λ _. Line) [ Some m ↦ Header m | None ↦
-        elim b as (λ _. Line) [ Some words ↦ Body words | None ↦ Other ] ])
+    → (if is_some o then None else elim (if begun then b else None) as (λ _. Option ListingFault) [
+      | None ↦
+          Some (BadLine n)
+      | Some words ↦ if is_known p words || is_none p words then None else Some (UnknownOption n)
+    ])
+    ≡ fault_said p begun n (elim o as (λ _. Line) [
+      | Some m ↦ Header m
+      | None ↦
+          elim b as (λ _. Line) [ Some words ↦ Body words | None ↦ Other ]
+    ])
 line-said p begun n (Some m) b = refl
 line-said p true n None None = refl
 line-said p false n None None = refl
@@ -121,7 +127,7 @@ line-said p false n None (Some words) = refl
 -- the first fault by what the first line says
 pub lines-cons : (p : Named) (n : ℕ) (line : List ℕ) (lines : List (List ℕ))
     → fault_in_lines p n (line ∷ lines) ≡ option_or (fault_said p (not (n == 0)) (min (n + 1) (2 ^ 64 - 1))
-        (read line)) (fault_in_lines p (n + 1) lines)
+    (read line)) (fault_in_lines p (n + 1) lines)
 lines-cons p n line lines = ap (λ o. option_or o (fault_in_lines p (n + 1) lines))
     (line-said p (not (n == 0)) (min (n + 1) (2 ^ 64 - 1)) (header_number line) (body_of line))
 
@@ -130,7 +136,7 @@ no_fault-at : (p : Named) (done : ℕ) (line : List ℕ) (rest : List (List ℕ)
     → fault_in_lines p done (line ∷ rest) ≡ fault_in_lines p (done + 1) rest
 no_fault-at p done line rest said e f =
     lines-cons p done line rest ∙ ap (λ l. option_or (fault_said p (not (done == 0)) (min (done + 1) (2 ^ 64 - 1)) l)
-        (fault_in_lines p (done + 1) rest)) e ∙ ap (λ o. option_or o (fault_in_lines p (done + 1) rest)) f
+    (fault_in_lines p (done + 1) rest)) e ∙ ap (λ o. option_or o (fault_in_lines p (done + 1) rest)) f
 
 pub header_taken : (s new : Progress) (number : ℕ) → Closes s new → Takes (Header number) s (record { options = s.options; open_number = Some number; chosen = []; verdicts = new.verdicts })
 header_taken s new number closes all done line rest e h = record {
@@ -158,7 +164,7 @@ body_taken s words chosen some good more all done line rest e h =
     let n = min (done + 1) (2 ^ 64 - 1) in
     let begun : not (done == 0) ≡ true = sym h.begun ∙ some in
     let fine : fault_said p (not (done == 0)) n (Body words) ≡ None = ap (λ t. fault_said p t n (Body words)) begun
-        ∙ ap (λ t. if t then None else Some (UnknownOption n)) good in
+    ∙ ap (λ t. if t then None else Some (UnknownOption n)) good in
     let same : with_later s.open_number h.bodies (listing_of (line ∷ rest)) ≡ with_later s.open_number (h.bodies ++ words ∷ []) (listing_of rest) =
     ap (λ l. with_later s.open_number h.bodies (before_listing l (listing_of rest))) e ∙ sym (body-later s.open_number h.bodies words (listing_of rest)) in
     record {

@@ -49,9 +49,9 @@ no_fault-choices p n (c ∷ m) rest h all later =
     let begun : not (n == 0) ≡ true = grind (arith, nat_tests) in
     lines-cons p n (choice_line p c) (map (choice_line p) m ++ rest)
     ∙ ap (λ l. option_or (fault_said p (not (n == 0)) (line n) l)
-        (fault_in_lines p (n + 1) (map (choice_line p) m ++ rest))) (read-choice_line p c first.printable).0
+    (fault_in_lines p (n + 1) (map (choice_line p) m ++ rest))) (read-choice_line p c first.printable).0
     ∙ ap (λ t. option_or (fault_said p t (line n) (Body (choice_words p c)))
-        (fault_in_lines p (n + 1) (map (choice_line p) m ++ rest))) begun
+    (fault_in_lines p (n + 1) (map (choice_line p) m ++ rest))) begun
     ∙ ap (λ t. option_or (if t then None else Some (UnknownOption (line n))) (fault_in_lines p (n + 1) (map (choice_line p) m ++ rest))) first.told.accepted
     ∙ no_fault-choices p (n + 1) m rest (omega arith) (All-tail (IsReadable p) c m all) later
 
@@ -61,8 +61,8 @@ no_fault-members p n (nm ∷ nms) all =
     let first : IsReadableMember p nm = All-head (IsReadableMember p) nm nms all in
     lines-cons p n (header_line nm.0) (map (choice_line p) nm.1 ++ output_lines p nms)
     ∙ ap (λ l. option_or (fault_said p (not (n == 0)) (line n) l)
-        (fault_in_lines p (n + 1) (map (choice_line p) nm.1 ++ output_lines p nms)))
-        (read-header_line nm.0 first.number)
+    (fault_in_lines p (n + 1) (map (choice_line p) nm.1 ++ output_lines p nms)))
+    (read-header_line nm.0 first.number)
     ∙ no_fault-choices p (n + 1) nm.1 (output_lines p nms) (omega arith) first.choices (λ k h. no_fault-members p k nms (All-tail (IsReadableMember p) nm nms all))
 
 -- ---- what is listed

@@ -99,7 +99,7 @@ own_option p i x t v once c =
 apart_by_parts : (p : Puzzle) → IsValid p → (i : ℕ) → IsHeldOnce p i → (x y : Numbered)
     → Contains (holding i (numbered_options p)) x → Contains (holding i (numbered_options p)) y
     → (t u : List ℕ) → IsCover (part p i x) t → IsCover (part p i y) u
-        → SameSet (in_problem p i x t) (in_problem p i y u) → x ≡ y
+    → SameSet (in_problem p i x t) (in_problem p i y u) → x ≡ y
 apart_by_parts p v i once x y h k t u c d same =
     let ofx = in-filter (λ o. holds o i) (numbered_options p) x (in-contains (holding i (numbered_options p)) x h) in
     let ofy = in-filter (λ o. holds o i) (numbered_options p) y (in-contains (holding i (numbered_options p)) y k) in
@@ -111,4 +111,4 @@ apart_by_parts p v i once x y h k t u c d same =
 pub parts_are_apart : (p : Puzzle) → IsValid p → (i : ℕ) → IsHeldOnce p i → PartsAreApart p i
 parts_are_apart p v i once x y s t h k same =
     apart_by_parts p v i once x y h.0 k.0 h.1 k.1 h.2 k.2 (subst (λ a. SameSet a (in_problem p i y k.1)) h.3
-        (subst (SameSet s) k.3 same))
+    (subst (SameSet s) k.3 same))

@@ -34,6 +34,6 @@ unreachable-requires c =
     let last = before_last p u.0 u.1 c.args.place (sound_fit c.args.problem.now c.items-spacer.ensures.whole) u.2 in
     let count = c.options-before-end.ensures.value in
     let all : c.loop-before.before ≡ c.options-before-end.result =
-        omega (arith, c.loop-before-test.false, c.loop-before.auto.before-end) in
+    omega (arith, c.loop-before-test.false, c.loop-before.auto.before-end) in
     let at = c.loop-before.invariant.spacer ∙ ap (place_at p) (all ∙ count) in
     omega (arith, last, at, c.loop-before.invariant.passed)

@@ -5,5 +5,8 @@ use Rattle.xc_input.proofs.FirstFaults.{faultless-stands}
 use Rattle.xc_input.proofs.worked.worked_texts.Goals as goal
 
 pub returns-clause-problems : goal.returns-clause-problems
-returns-clause-problems c = (faultless-stands Plain commented refl, faultless-stands Colours coloured refl,
-    faultless-stands Bounds bounded refl)
+returns-clause-problems c = (
+  faultless-stands Plain commented refl,
+  faultless-stands Colours coloured refl,
+  faultless-stands Bounds bounded refl,
+)

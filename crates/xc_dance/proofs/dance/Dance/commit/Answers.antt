@@ -23,9 +23,9 @@ whole g c x u =
     let there = subst (λ (p : Puzzle). IsUseAt p c.args.i x c.args.place) c.requires.same u in
     let is = c.number_at.ensures c.args.i x there in
     let found : numbered_get s.puzzle.options x ≡ Some c.option-uses.result.now =
-        ap (λ n. numbered_get s.puzzle.options n) (sym is)
-        ∙ ap (λ (p : Puzzle). numbered_get p.options c.number_at.result) c.requires.same
-        ∙ c.option-uses.ensures.value in
+    ap (λ n. numbered_get s.puzzle.options n) (sym is)
+    ∙ ap (λ (p : Puzzle). numbered_get p.options c.number_at.result) c.requires.same
+    ∙ c.option-uses.ensures.value in
     ap (λ t. record s { trail = t }) (other_uses s.puzzle c.args.i x _ _ s.trail found c.index_of-at.ensures)
 
 -- it may stand

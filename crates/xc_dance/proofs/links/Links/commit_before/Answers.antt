@@ -31,8 +31,8 @@ ulink-first-requires c =
     let s = c.args.self.now in
     let within = (led here c.requires.can.0 c.requires.can.1).within in
     let long : length c.self.inside.nodes.ulink ≡ length (layout s.puzzle) =
-        ap (λ (n : Nodes). length n.ulink) (first_nodes here)
-        ∙ length-map (layout s.puzzle) (ulink_in s.puzzle (line_of s.puzzle s.trail)) in
+    ap (λ (n : Nodes). length n.ulink) (first_nodes here)
+    ∙ length-map (layout s.puzzle) (ulink_in s.puzzle (line_of s.puzzle s.trail)) in
     omega (arith, within, long)
 
 -- the walk begins at the option's first node
@@ -66,18 +66,18 @@ top-j-requires c =
     let test = c.loop-q-test.true in
     let nodes = nodes_is (goal.at.top-j-requires c).After-self-in-loop-q in
     let long : length c.self-in-loop-q.inside.nodes.top ≡ length (layout p) =
-        ap (λ (n : Nodes). length n.top) nodes ∙ length-map (layout p) (top_in (line_of p c.loop-q.self.trail)) in
+    ap (λ (n : Nodes). length n.top) nodes ∙ length-map (layout p) (top_in (line_of p c.loop-q.self.trail)) in
     omega (arith, within, behind, test, long)
 
 -- the next use
 next : (c : After-self-in-loop-q) (x : ℕ) → IsUseAt c.args.self.now.puzzle c.args.i x c.args.place →
     IsNext c.args.self.now.puzzle x (start_at c.args.self.now.puzzle (x - 1))
-        (uses_before c.args.self.now.puzzle c.args.i x) c.args.self.now.trail c.loop-q.self.trail c.loop-q.q
+    (uses_before c.args.self.now.puzzle c.args.i x) c.args.self.now.trail c.loop-q.self.trail c.loop-q.q
 next c x held =
     let s = c.args.self.now in
     let fit : IsFit s.puzzle = subst (λ (s : Linked). IsFit s.puzzle) c.self.view_is c.self.invariant.fitted.fit in
     (before_at s.puzzle c.args.i x c.args.place c.loop-q.q s.trail c.loop-q.self.trail fit held
-        (c.loop-q.invariant.along x held)).node c.loop-q-test.true
+    (c.loop-q.invariant.along x held)).node c.loop-q-test.true
 
 pub commit_node-requires : goal.commit_node-requires
 commit_node-requires c =
@@ -97,11 +97,11 @@ loop-q-preserved c =
     let s = c.args.self.now in
     let is = c.top-j.ensures ∙ ap (λ (n : Nodes). get_or n.top c.loop-q.q 0) (nodes_is here) in
     let step : (x : ℕ) → IsUseAt s.puzzle c.args.i x c.args.place →
-            Committed s.puzzle (start_at s.puzzle (x - 1)) (uses_before s.puzzle c.args.i x)
-                s.trail s.room c.commit_node.new.self (c.loop-q.q + 1)
-        = λ x held. one_committed s.puzzle x (start_at s.puzzle (x - 1)) (uses_before s.puzzle c.args.i x)
-            s.trail c.loop-q.self c.commit_node.new.self s.room c.loop-q.q c.top-j.result
-          (next here x held) c.loop-q.invariant.puzzle c.loop-q.invariant.room is c.commit_node.ensures in
+    Committed s.puzzle (start_at s.puzzle (x - 1)) (uses_before s.puzzle c.args.i x)
+    s.trail s.room c.commit_node.new.self (c.loop-q.q + 1)
+    = λ x held. one_committed s.puzzle x (start_at s.puzzle (x - 1)) (uses_before s.puzzle c.args.i x)
+    s.trail c.loop-q.self c.commit_node.new.self s.room c.loop-q.q c.top-j.result
+    (next here x held) c.loop-q.invariant.puzzle c.loop-q.invariant.room is c.commit_node.ensures in
     record {
       puzzle = (step c.requires.can.0 c.requires.can.1).puzzle;
       room = (step c.requires.can.0 c.requires.can.1).room;
@@ -113,5 +113,5 @@ returns c = λ x held.
     let s = c.args.self.now in
     let here = (goal.at.returns c).After-self in
     let all = (before_at s.puzzle c.args.i x c.args.place c.loop-q.q s.trail c.loop-q.self.trail (fit here)
-        held (c.loop-q.invariant.along x held)).end c.loop-q-test.false in
+    held (c.loop-q.invariant.along x held)).end c.loop-q-test.false in
     whole s.puzzle s.room c.loop-q.self _ c.loop-q.invariant.puzzle c.loop-q.invariant.room all

@@ -12,5 +12,5 @@ invariant-loop-q l = record {
   room : l.self.room ≡ l.fn.self.room;
   along : (x : ℕ) → IsUseAt l.fn.self.puzzle l.i x l.place →
       IsAlong l.fn.self.puzzle (start_at l.fn.self.puzzle (x - 1)) (uses_before l.fn.self.puzzle l.i x)
-          l.fn.self.trail l.self.trail l.q;
+      l.fn.self.trail l.self.trail l.q;
 }

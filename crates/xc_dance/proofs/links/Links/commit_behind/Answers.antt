@@ -23,9 +23,9 @@ begun : (c : After-self) → Behind c.args.self.now.puzzle c.args.i c.requires.0
 begun c =
     let s = c.args.self.now in
     behind_at s.puzzle c.args.i c.requires.0 c.args.place (c.args.place + 1) s.trail s.trail (laid c) (fit c)
-        c.requires.1
+    c.requires.1
     (along_first s.puzzle (c.args.place + 1) (c.args.place + 1) (uses_behind s.puzzle c.args.i c.requires.0)
-        s.trail refl)
+    s.trail refl)
 
 pub overflow_add-q : goal.overflow_add-q
 overflow_add-q c =
@@ -50,7 +50,7 @@ found c x held =
     let fit : IsFit p = subst (λ (s : Linked). IsFit s.puzzle) c.self.view_is c.self.invariant.fitted.fit in
     let laid : IsLaid p = subst (λ (s : Linked). IsLaid s.puzzle) c.self.view_is c.self.invariant.fitted.laid in
     behind_at p c.args.i x c.args.place c.loop-self.q c.args.self.now.trail c.loop-self.self.trail laid fit held
-        (c.loop-self.invariant.along x held)
+    (c.loop-self.invariant.along x held)
 
 nodes_is : (c : After-self-in-loop-self) → c.self-in-loop-self.inside.nodes
     ≡ nodes_after c.args.self.now.puzzle c.loop-self.self.trail
@@ -62,8 +62,8 @@ at_top c =
     let p = c.args.self.now.puzzle in
     let within = (found c c.requires.0 c.requires.1).within in
     let long : length c.self-in-loop-self.inside.nodes.top ≡ length (layout p) =
-        ap (λ (n : Nodes). length n.top) (nodes_is c) ∙ length-map (layout p)
-        (top_in (line_of p c.loop-self.self.trail)) in
+    ap (λ (n : Nodes). length n.top) (nodes_is c) ∙ length-map (layout p)
+    (top_in (line_of p c.loop-self.self.trail)) in
     omega (arith, within, long)
 
 top_is : (c : After-self-in-loop-self) → get_or c.self-in-loop-self.inside.nodes.top c.loop-self.q 0
@@ -80,7 +80,7 @@ top-j-requires c = at_top (goal.at.top-j-requires c).After-self-in-loop-self
 next : (c : After-self-in-loop-self) (x : ℕ) → IsUseAt c.args.self.now.puzzle c.args.i x c.args.place →
     get_or c.self-in-loop-self.inside.nodes.top c.loop-self.q 0 < 2147483648 →
     IsNext c.args.self.now.puzzle x (c.args.place + 1) (uses_behind c.args.self.now.puzzle c.args.i x)
-        c.args.self.now.trail c.loop-self.self.trail c.loop-self.q
+    c.args.self.now.trail c.loop-self.self.trail c.loop-self.q
 next c x held low = let is = top_is c in (found c x held).node (omega (arith, is, low))
 
 pub commit_node-requires : goal.commit_node-requires
@@ -101,7 +101,7 @@ commit_node-requires c =
 pub overflow_add-q-in-loop-self : goal.overflow_add-q-in-loop-self
 overflow_add-q-in-loop-self c =
     let within = (found (goal.at.overflow_add-q-in-loop-self c).After-self-in-loop-self c.requires.0
-        c.requires.1).within in
+    c.requires.1).within in
     let near = (fit (goal.at.overflow_add-q-in-loop-self c).After-self).near in
     omega (arith, within, near)
 
@@ -119,11 +119,11 @@ loop-self-preserved c =
     let low : get_or c.self-in-loop-self.inside.nodes.top c.loop-self.q 0 < 2147483648 = omega (arith, told, test) in
     let is = c.top-j.ensures ∙ top_is here in
     let step : (x : ℕ) → IsUseAt s.puzzle c.args.i x c.args.place →
-            Committed s.puzzle (c.args.place + 1) (uses_behind s.puzzle c.args.i x)
-            s.trail s.room c.commit_node.new.self (c.loop-self.q + 1)
-        = λ x held. one_committed s.puzzle x (c.args.place + 1) (uses_behind s.puzzle c.args.i x)
-            s.trail c.loop-self.self c.commit_node.new.self s.room c.loop-self.q c.top-j.result
-            (next here x held low) c.loop-self.invariant.puzzle c.loop-self.invariant.room is c.commit_node.ensures in
+    Committed s.puzzle (c.args.place + 1) (uses_behind s.puzzle c.args.i x)
+    s.trail s.room c.commit_node.new.self (c.loop-self.q + 1)
+    = λ x held. one_committed s.puzzle x (c.args.place + 1) (uses_behind s.puzzle c.args.i x)
+    s.trail c.loop-self.self c.commit_node.new.self s.room c.loop-self.q c.top-j.result
+    (next here x held low) c.loop-self.invariant.puzzle c.loop-self.invariant.room is c.commit_node.ensures in
     record {
       puzzle = (step c.requires.0 c.requires.1).puzzle;
       room = (step c.requires.0 c.requires.1).room;

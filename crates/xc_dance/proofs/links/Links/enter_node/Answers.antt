@@ -24,7 +24,7 @@ is_open-requires c =
     let n = c.requires.node in
     subst (λ (s : Linked). IsItem s.puzzle c.args.j) c.self.view_is
     (use_item c.self.inside.fixed c.args.q n.0 c.args.j n.1.0 c.self.invariant.fitted.laid
-        (node_at here n.0 n.1.0 n.1.1) n.1.2)
+    (node_at here n.0 n.1.0 n.1.1) n.1.2)
 
 pub color-colour-requires : goal.color-colour-requires
 color-colour-requires c =
@@ -32,7 +32,7 @@ color-colour-requires c =
     let n = c.requires.node in
     subst (λ (t : Nodes). c.args.q < length t.color) (sym c.self.invariant.nodes)
     (colour_within c.self.inside.fixed (reverse c.self.inside.trail.items)
-        c.args.q n.0 n.1.0 (node_at here n.0 n.1.0 n.1.1))
+    c.args.q n.0 n.1.0 (node_at here n.0 n.1.0 n.1.1))
 
 pub returns-then-is_open-clause-covers : goal.returns-then-is_open-clause-covers
 returns-then-is_open-clause-covers c = λ o u at item.
@@ -48,9 +48,9 @@ returns-then-is_open-clause-covers c = λ o u at item.
     let still : is_open j t ≡ true = open_there ∙ sym c.is_open.ensures ∙ c.if-is_open.true in
     let read = c.color-colour.ensures ∙ ap (λ (n : Nodes). get_or n.color c.args.q 0) c.self.invariant.nodes in
     let moves = subst
-        (λ (s : Linked). cond (eqb k 0) (Cover j) (Purify j k) ∷ s.trail ≡ after_use s.puzzle u s.trail)
-        c.self.view_is
-        (committed_open p t c.args.q o j k u (node_at here o u at) item high still read) in
+    (λ (s : Linked). cond (eqb k 0) (Cover j) (Purify j k) ∷ s.trail ≡ after_use s.puzzle u s.trail)
+    c.self.view_is
+    (committed_open p t c.args.q o j k u (node_at here o u at) item high still read) in
     let done = ap (λ (d : Dancing). d.trail) c.purify_coloured.ensures.purified in
     sym moves
     ∙ still_covers j k c.args.self.now.trail c.purify_coloured.new.self.trail c.purify_coloured.result

@@ -20,13 +20,12 @@ commit_before-requires-clause-can c =
     let x = c.requires.can.0 in
     let i = c.args.i in
     let can = subst (CanStand s.puzzle s.room) (after_uses-append s.puzzle (uses_behind s.puzzle i x)
-        (uses_before s.puzzle i x) s.trail) c.requires.can.2 in
-    let half = sym (c.commit_behind-end.ensures x c.requires.can.1).0 in
-    (
+    (uses_before s.puzzle i x) s.trail) c.requires.can.2 in
+    let half = sym (c.commit_behind-end.ensures x c.requires.can.1).0 in (
       x,
       subst (λ (d : Dancing). IsUseAt d.puzzle i x c.args.place) half c.requires.can.1,
       subst (λ (d : Dancing). CanStand d.puzzle d.room (after_uses d.puzzle (uses_before d.puzzle i x) d.trail))
-          half can
+          half can,
     )
 
 pub returns : goal.returns
@@ -38,4 +37,4 @@ returns c = λ x held.
     c.commit_before.ensures x there
     ∙ ap (λ (d : Dancing). record d { trail = after_uses d.puzzle (uses_before d.puzzle i x) d.trail }) half
     ∙ ap (λ t. let d : Dancing = record { puzzle = s.puzzle; trail = t; room = s.room } in d)
-        (sym (after_uses-append s.puzzle (uses_behind s.puzzle i x) (uses_before s.puzzle i x) s.trail))
+    (sym (after_uses-append s.puzzle (uses_behind s.puzzle i x) (uses_before s.puzzle i x) s.trail))

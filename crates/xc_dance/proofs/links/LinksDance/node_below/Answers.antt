@@ -36,7 +36,7 @@ returns-clause-place c = λ x h.
     c.dlink.ensures ∙ ap (λ (n : Nodes). get_or n.dlink c.args.place 0) c.self.invariant.nodes
     ∙ listed_down p t c.args.i x c.args.place c.self.invariant.fitted.laid (item here) (at here x h)
     ∙ ap (λ (s : Linked). link_place s.puzzle c.args.i (first_above 0 x (listed_numbers s.puzzle s.trail c.args.i)))
-        c.self.view_is
+    c.self.view_is
 
 pub returns-clause-option : goal.returns-clause-option
 returns-clause-option c = λ x h.
@@ -44,10 +44,10 @@ returns-clause-option c = λ x h.
     let p = c.self.inside.fixed in
     let t : List Move = reverse c.self.inside.trail.items in
     let down = c.dlink.ensures ∙ ap (λ (n : Nodes). get_or n.dlink c.args.place 0) c.self.invariant.nodes
-        ∙ listed_down p t c.args.i x c.args.place c.self.invariant.fitted.laid (item here) (at here x h) in
+    ∙ listed_down p t c.args.i x c.args.place c.self.invariant.fitted.laid (item here) (at here x h) in
     ap (λ (s : Linked). option_at s.puzzle c.args.i c.dlink.result) (sym c.self.view_is)
     ∙ ap (option_at p c.args.i) down
     ∙ option_there p c.args.i (first_above 0 x (listed_numbers p t c.args.i))
-        c.self.invariant.fitted.laid (item here).0 (item here).1 (above_name p t c.args.i x)
+    c.self.invariant.fitted.laid (item here).0 (item here).1 (above_name p t c.args.i x)
     ∙ above_named x (listed_numbers p t c.args.i)
     ∙ ap (λ (s : Linked). next_above x (listed_numbers s.puzzle s.trail c.args.i)) c.self.view_is

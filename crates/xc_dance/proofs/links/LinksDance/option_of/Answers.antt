@@ -10,4 +10,4 @@ option_at-requires-clause-node c = let u = c.requires.place in
 pub returns : goal.returns
 returns c = λ x u.
     c.unwrap_or.ensures ∙ ap (λ o. unwrap_or o 0) (c.option_at.ensures x
-        (use_name c.args.self.now.puzzle c.args.i x c.args.place u) u.at) ∙ named_back x
+    (use_name c.args.self.now.puzzle c.args.i x c.args.place u) u.at) ∙ named_back x
