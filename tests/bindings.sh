@@ -9,7 +9,7 @@ trap 'exit 2' HUP INT TERM
 strict="-std=c99 -Wall -Wextra -Werror"
 
 printf '1:\n a d f (2 of 2)\n b g (1 of 1)\n c e (1 of 1)\n' >"$work/listing"
-{ cat "$work/listing" && printf 'status 0\nline 2: fault F11\n'; } >"$work/c.wanted"
+{ cat "$work/listing" && printf 'status 0\nline 2: fault 11\n'; } >"$work/c.wanted"
 { cat "$work/listing" && printf 'Done\nFault { line: 2, number: 11 }\n'; } >"$work/rust.wanted"
 gcc $strict -Ibindings/c bindings/c/example.c -Lbindings/out -lhelgrothy -o "$work/c"
 "$work/c" | diff - "$work/c.wanted"
