@@ -1,5 +1,5 @@
 -- What a buffer holds behind a run whose text was put into it.
-use Rattle.std.proofs.Common.{◌≡◌, ℕ, zero, suc, ◌+◌, ◌-◌, ◌<◌, ◌≤◌, Bool, true, false, List, [], ◌∷◌, ◌++◌, Option, None, Some, length, take, drop, refl, sym, ap, ◌∙◌, arith, subst, nat_lt, lt-ltb, le-ltb}
+use Rattle.std.proofs.Common.{◌≡◌, ℕ, zero, suc, ◌+◌, ◌-◌, ◌<◌, ◌≤◌, Bool, true, false, List, [], ◌∷◌, ◌++◌, Option, None, Some, length, take, drop, refl, sym, ap, ◌∙◌, arith, subst, nat_lt, lt-ltb}
 use Rattle.std.specs.Prelude.{slice_get, if◌then◌else◌}
 use Rattle.std.proofs.lemmas.List.{length-append}
 use Rattle.std.specs.Io.KnownBytes.{Appends}
@@ -9,7 +9,7 @@ use Rattle.xc_input.specs.Named.{Named}
 use Rattle.xc_search.specs.Cover.{members}
 use Rattle.xc_list.specs.Output.{output, member_text}
 use Rattle.xc_list.specs.Texts.{SinkState}
-use Rattle.xc_list.specs.Runs.{StoppedAt, IsRun}
+use Rattle.xc_list.specs.Runs.{StoppedAt, IsRun, end_of}
 use Rattle.xc_list.specs.inner.Ends.{printed_text}
 use Rattle.xc_list.specs.declared.runs.End.{End}
 use Rattle.xc_list.specs.declared.runs.End.TheVariants.{Done, Limit, WriteFailed}
@@ -98,13 +98,23 @@ whole a spacing limit m s xs buf new used e k st f =
     subst (λ xs. IsFilled xs buf new used × says xs) e
     (f, status_of (nat_lt (length buf) (length xs)) (nat_lt (length (members a.puzzle)) limit) m s k st)
 
-below : (a : Named) (n limit : ℕ) → n ≡ length (members a.puzzle) → n < limit → 0 ≡ end_status a limit
-below a n limit e h =
-    let less : nat_lt (length (members a.puzzle)) limit ≡ true = rw (← e) (lt-ltb n limit h) in
-    sym (ap (λ (b : Bool). if b then 0 else 1) less)
+-- the status at the end that a run comes to
+abbrev status_by : Bool → ℕ
+status_by b = if b then 0 else 1
 
-above : (a : Named) (limit : ℕ) → limit ≤ length (members a.puzzle) → 1 ≡ end_status a limit
-above a limit h = sym (ap (λ (b : Bool). if b then 0 else 1) (le-ltb (length (members a.puzzle)) limit h))
+done_status : (b : Bool) (n m limit : ℕ) → Done n ≡ (if b then Done m else Limit limit) → 0 ≡ status_by b
+done_status true n m limit e = refl
+done_status false n m limit e = cc e
+
+limit_status : (b : Bool) (n m limit : ℕ) → Limit n ≡ (if b then Done m else Limit limit) → 1 ≡ status_by b
+limit_status true n m limit e = cc e
+limit_status false n m limit e = refl
+
+below : (a : Named) (n limit : ℕ) → Done n ≡ end_of a limit → 0 ≡ end_status a limit
+below a n limit e = done_status (nat_lt (length (members a.puzzle)) limit) n (length (members a.puzzle)) limit e
+
+above : (a : Named) (n limit : ℕ) → Limit n ≡ end_of a limit → 1 ≡ end_status a limit
+above a n limit e = limit_status (nat_lt (length (members a.puzzle)) limit) n (length (members a.puzzle)) limit e
 
 -- the end of one that was, since there was no room
 cut_off : (a : Named) (spacing limit s : ℕ) (xs buf new : List ℕ) (used : ℕ) (less : Bool)
@@ -127,11 +137,11 @@ pub listed : (a : Named) (spacing limit : ℕ) (x z : SinkState) (end : End) (xs
     → listing_status end (length xs) (length buf) ≡ Some s → IsFilled xs buf new used
     → Lists spacing limit buf new s used a
 listed a spacing limit x z (Done n) xs buf new used s run e f st fill =
-    whole a spacing limit 0 s xs buf new used (all_of x.taken z.taken xs _ e f run.2.whole)
-    (below a n limit run.0 run.1) st fill
+    whole a spacing limit 0 s xs buf new used (all_of x.taken z.taken xs _ e f run.1.whole)
+    (below a n limit run.0) st fill
 listed a spacing limit x z (Limit n) xs buf new used s run e f st fill =
-    whole a spacing limit 1 s xs buf new used (all_of x.taken z.taken xs _ e f run.2.whole)
-    (above a limit run.1) st fill
+    whole a spacing limit 1 s xs buf new used (all_of x.taken z.taken xs _ e f run.1.whole)
+    (above a n limit run.0) st fill
 listed a spacing limit x z (WriteFailed t) xs buf new used s run e f st fill =
     cut_off a spacing limit s xs buf new used (nat_lt (length xs) (length buf)) refl
     (stopped_short a spacing limit t x z xs e f run) st fill

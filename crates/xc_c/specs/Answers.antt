@@ -3,7 +3,7 @@ use Rattle.std.specs.Prelude.{◌≡◌, ◌≢◌, ◌⊎◌, ℕ, List, ◌++�
 use Rattle.xc_input.specs.declared.kind.Kind.{Kind}
 use Rattle.xc_input.specs.declared.fault.FaultKind.{FaultKind}
 use Rattle.xc_input.specs.Lines.{lines_of}
-use Rattle.xc_input.specs.Stages.{first_fault}
+use Rattle.xc_input.specs.FirstFault.{first_fault}
 use Rattle.xc_input.specs.Named.{Named}
 use Rattle.xc_input.specs.Text.{StandsFor}
 use Rattle.xc_search.specs.Cover.{members, EachMemberCovers, EachCoverIsListedOnce}

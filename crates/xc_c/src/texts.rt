@@ -2,7 +2,7 @@
 ghost use Rattle.std.specs.Prelude.{◌≡◌, IfOk, IfErr, OnErr, OnOk, length, min};
 ghost use Rattle.xc_input.specs.Readings.{IsErrorFor};
 ghost use Rattle.xc_input.specs.Lines.{lines_of};
-ghost use Rattle.xc_input.specs.Stages.{first_fault};
+ghost use Rattle.xc_input.specs.FirstFault.{first_fault};
 ghost use Rattle.xc_input.specs.Text.{StandsFor};
 ghost use Rattle.xc_search.specs.Cover.{members, EachMemberCovers, EachCoverIsListedOnce};
 ghost use Rattle.xc_c.specs.Answers.{IsFilled, IsSearched, Lists};
