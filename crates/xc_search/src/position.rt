@@ -1,5 +1,5 @@
 //! A dance of a problem, as the search goes over it.
-ghost use Rattle.std.specs.Prelude.{ℕ, ◌≡◌, ◌<◌, ◌≤◌, ◌∷◌, length, drop, true};
+ghost use Rattle.std.specs.Prelude.{ℕ, ◌≡◌, ◌<◌, ◌≤◌, ◌∷◌, length, drop, true, IfSome, ◌^◌};
 ghost use Rattle.xc_input.specs.Problem.{IsItem};
 ghost use Rattle.xc_dance.specs.Fields.{link_place, first_above};
 ghost use Rattle.xc_dance.specs.Commits.{IsListedAt, IsUseAt, after_option, option_at};
@@ -95,9 +95,10 @@ impl<'a, D: Dance> Position<'a, D> {
 
     /// The branch item and its number of branches, where no open item is held as often as it may be.
     #[inline(always)]
-    pub fn choose(&self) -> Option<(u32, u32)>
+    pub fn choose(&self) -> Option<(u32, usize)>
         requires { AreAllWanted (wanted_after self.now.puzzle self.now.trail) }
-        ensures { result ≡ choice_after self.now.puzzle self.now.trail }
+        ensures choice { result ≡ choice_after self.now.puzzle self.now.trail }
+        ensures few { IfSome result (λ c. c.1 < 2 ^ 32) }
     {
         choose_next(&self.dance, self.problem, self.once)
     }
