@@ -33,3 +33,4 @@ pub mod CommitLemmas
 pub mod Along
 pub mod PassedOptions
 pub mod ListedPlaces
+pub mod Written

@@ -1,5 +1,5 @@
 //! The branch item: the open primary item with the fewest branches.
-ghost use Rattle.std.specs.Prelude.{◌≡◌, ◌-◌, true};
+ghost use Rattle.std.specs.Prelude.{◌≡◌, ◌-◌, ◌<◌, ◌^◌, true, IfSome};
 ghost use Rattle.xc_input.specs.Problem.{low_at};
 ghost use Rattle.xc_dance.specs.Moves.{IsOpenPrimary, spends};
 ghost use Rattle.xc_search.specs.Residuals.{branches_after, wanted_at, wanted_after, choice_after};
@@ -36,17 +36,19 @@ pub fn choose<D: Dance>(dance: &D, problem: &Problem) -> Option<(u32, u32)>
     requires same { (D.state dance.now).puzzle ≡ problem.now.puzzle }
     ensures { result ≡ choice_after problem.now.puzzle (D.state dance.now).trail }
 {
-    choose_by(dance, problem, false)
+    let (item, count) = choose_by(dance, problem, false)?;
+    Some((item, count as u32))
 }
 
 /// Does what `choose` does. `once`: each primary item is to be held exactly once, and those that are
 /// open aren't held yet. Then the pass over the items reads no bounds.
 #[inline(always)]
-pub fn choose_next<D: Dance>(dance: &D, problem: &Problem, once: bool) -> Option<(u32, u32)>
+pub fn choose_next<D: Dance>(dance: &D, problem: &Problem, once: bool) -> Option<(u32, usize)>
     requires same { (D.state dance.now).puzzle ≡ problem.now.puzzle }
     requires once { once ≡ true → IsOnce problem.now.puzzle
         × AreAllWanted (wanted_after problem.now.puzzle (D.state dance.now).trail) }
-    ensures { result ≡ choice_after problem.now.puzzle (D.state dance.now).trail }
+    ensures choice { result ≡ choice_after problem.now.puzzle (D.state dance.now).trail }
+    ensures few { IfSome result (λ c. c.1 < 2 ^ 32) }
 {
     if once {
         choose_by(dance, problem, true)
@@ -75,18 +77,19 @@ fn count<D: Dance>(dance: &D, problem: &Problem, i: u32, once: bool) -> u32
 // two loads: the next open item and its length. No bounds check is left, and the lesser of two
 // lengths is taken without a jump.
 #[inline(always)]
-fn choose_by<D: Dance>(dance: &D, problem: &Problem, once: bool) -> Option<(u32, u32)>
+fn choose_by<D: Dance>(dance: &D, problem: &Problem, once: bool) -> Option<(u32, usize)>
     requires same { (D.state dance.now).puzzle ≡ problem.now.puzzle }
     requires once { once ≡ true → IsOnce problem.now.puzzle
         × AreAllWanted (wanted_after problem.now.puzzle (D.state dance.now).trail) }
-    ensures { result ≡ choice_after problem.now.puzzle (D.state dance.now).trail }
+    ensures choice { result ≡ choice_after problem.now.puzzle (D.state dance.now).trail }
+    ensures few { IfSome result (λ c. c.1 < 2 ^ 32) }
 {
     let mut item = dance.open_after(0)?;
     let mut fewest = count(dance, problem, item, once);
     let mut at = item;
     while fewest > 0 {
         let Some(next) = dance.open_after(at) else {
-            return Some((item, fewest));
+            return Some((item, fewest as usize));
         };
         let n = count(dance, problem, next, once);
         if n < fewest {
@@ -95,5 +98,5 @@ fn choose_by<D: Dance>(dance: &D, problem: &Problem, once: bool) -> Option<(u32,
         }
         at = next;
     }
-    Some((item, fewest))
+    Some((item, fewest as usize))
 }

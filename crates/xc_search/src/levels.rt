@@ -52,6 +52,7 @@ pub fn deepen<D: Dance>(position: &mut Position<D>, stack: &mut Stack) -> Below
     let Some((item, count)) = position.choose() else {
         return Below::Solution;
     };
+    let count = count as u32;
     let mut level = position.descend(item, count);
     if count == 0 {
         end_level(position, &level);

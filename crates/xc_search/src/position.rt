@@ -1,5 +1,5 @@
 //! A dance of a problem, as the search goes over it.
-ghost use Rattle.std.specs.Prelude.{ℕ, ◌≡◌, ◌<◌, ◌≤◌, ◌∷◌, length, drop};
+ghost use Rattle.std.specs.Prelude.{ℕ, ◌≡◌, ◌<◌, ◌≤◌, ◌∷◌, length, drop, true, IfSome, ◌^◌};
 ghost use Rattle.xc_input.specs.Problem.{IsItem};
 ghost use Rattle.xc_dance.specs.Fields.{link_place, first_above};
 ghost use Rattle.xc_dance.specs.Commits.{IsListedAt, IsUseAt, after_option, option_at};
@@ -8,6 +8,7 @@ ghost use Rattle.xc_dance.specs.Moves.{IsLegal, AreTweaks, listed_numbers, next_
 ghost use Rattle.xc_search.specs.Residuals.{wanted_after, choice_after};
 ghost use Rattle.xc_search.specs.Room.{room_for};
 ghost use Rattle.xc_search.specs.inner.Levels.{AreAllWanted};
+ghost use Rattle.xc_search.specs.inner.MostLevels.{IsOnce};
 
 use crate::branch_item::choose_next;
 use crate::counts::is_once;
@@ -84,11 +85,20 @@ impl<'a, D: Dance> Position<'a, D> {
         self.problem
     }
 
+    /// Whether each primary item is to be held exactly once; no does not say that one isn't.
+    #[inline(always)]
+    pub fn is_once(&self) -> bool
+        ensures { result ≡ true → IsOnce self.now.puzzle }
+    {
+        self.once
+    }
+
     /// The branch item and its number of branches, where no open item is held as often as it may be.
     #[inline(always)]
-    pub fn choose(&self) -> Option<(u32, u32)>
+    pub fn choose(&self) -> Option<(u32, usize)>
         requires { AreAllWanted (wanted_after self.now.puzzle self.now.trail) }
-        ensures { result ≡ choice_after self.now.puzzle self.now.trail }
+        ensures choice { result ≡ choice_after self.now.puzzle self.now.trail }
+        ensures few { IfSome result (λ c. c.1 < 2 ^ 32) }
     {
         choose_next(&self.dance, self.problem, self.once)
     }

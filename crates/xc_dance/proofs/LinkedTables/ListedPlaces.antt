@@ -1,9 +1,9 @@
 -- Places in an item's list by the problem alone: the item's own node, or that of an option in the list.
-use Rattle.std.proofs.Common.{◌≡◌, ℕ, zero, suc, ◌+◌, ◌<◌, ◌≤◌, ◌⊎◌, inl, inr, true, List, [], None, Some, refl, ap, sym, ◌∙◌, subst, arith}
+use Rattle.std.proofs.Common.{◌≡◌, ℕ, zero, suc, ◌<◌, ◌≤◌, ◌⊎◌, inl, inr, true, List, Some, refl, ap, sym, ◌∙◌, subst, arith}
 use Rattle.std.specs.Prelude.{Option, is_some, Contains}
 use Rattle.std.proofs.lemmas.List.Elements.{All-from_recursion}
 use Rattle.std.proofs.lemmas.Option.{slice_get_within}
-use Rattle.xc_input.specs.Problem.{Puzzle, IsItem, IsOption, uses_of, item_count, option_count, colour_in}
+use Rattle.xc_input.specs.Problem.{Puzzle, IsItem, uses_of, item_count, colour_in}
 use Rattle.xc_input.specs.Named.{Named, IsSound}
 use Rattle.xc_dance.specs.declared.dance.Move.{Move}
 use Rattle.xc_dance.specs.Dancing.{Dancing}

@@ -71,6 +71,14 @@ ready_after p u t v e r = ready_later p t (after_use p u t) v (open_same p u t v
 pub spent_self : (i : ℕ) (t : List Move) → spends i (Spend i ∷ t) ≡ suc (spends i t)
 spent_self i t = let same : eqb i i ≡ true = eq-eqb i i refl in rw same (omega arith)
 
+pub spent_behind : (p : Puzzle) (i : ℕ) (t : List Move) → 0 < spends i (after_spend p i t)
+spent_behind p i t =
+    elim (eqb (high_at p i - spends i (Spend i ∷ t)) 0) as
+    (λ b. 0 < spends i (cond b (Cover i ∷ Spend i ∷ t) (Spend i ∷ t))) [
+      | true ↦ omega (arith, spent_self i t)
+      | false ↦ omega (arith, spent_self i t)
+    ]
+
 pub legal_opening : (p : Puzzle) (i : ℕ) (t : List Move) → AreLegal p t → IsPrimary p i → is_open i t ≡ true → spends i t < high_at p i → AreLegal p (after_spend p i t)
 legal_opening p i t l h o k =
     elim (eqb (high_at p i - spends i (Spend i ∷ t)) 0) as (λ x. AreLegal p (cond x (Cover i ∷ Spend i ∷ t) (Spend i ∷ t))) [

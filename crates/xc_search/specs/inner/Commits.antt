@@ -1,10 +1,8 @@
 -- No public clause cites this module. The moves of a level.
-use Rattle.xc_dance.specs.Commits.{after_spend}
-use Rattle.std.specs.Prelude.{ℕ, suc, ◌+◌, ◌-◌, ◌≤◌, length, Bool, ◌&&◌, ◌==◌, nat_le, List, [], ◌∷◌, ◌++◌, take, drop, if◌then◌else◌, replicate}
-use Rattle.xc_input.specs.declared.problem.Use.{Use}
+use Rattle.std.specs.Prelude.{ℕ, ◌-◌, ◌≤◌, length, Bool, ◌&&◌, ◌==◌, List, ◌∷◌, ◌++◌, drop, if◌then◌else◌, replicate}
 use Rattle.xc_dance.specs.declared.dance.Move.{Move}
-use Rattle.xc_dance.specs.declared.dance.Move.TheVariants.{Cover, Purify, Tweak, Spend}
-use Rattle.xc_input.specs.Problem.{Puzzle, primary_count, low_at, high_at}
+use Rattle.xc_dance.specs.declared.dance.Move.TheVariants.{Cover, Tweak, Spend}
+use Rattle.xc_input.specs.Problem.{Puzzle, low_at, high_at}
 use Rattle.xc_dance.specs.Moves.{is_open, spends, AreLegal}
 use Rattle.xc_search.specs.Room.{room_for}
 

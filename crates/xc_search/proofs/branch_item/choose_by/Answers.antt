@@ -11,8 +11,8 @@ use Rattle.xc_search.proofs.branch_item.choose_by.Goals as goal
 nearer : (p : Puzzle) (t : List Move) (n k : ℕ) → next_above n (open_items p t) ≡ Some k → primary_count p - k < primary_count p - n
 nearer p t n k e = omega (arith, next_above-gt n k (open_items p t) e, next_open p t n k e)
 
-pub returns-in_err-item : goal.returns-in_err-item
-returns-in_err-item g c =
+pub returns-in_err-item-clause-choice : goal.returns-in_err-item-clause-choice
+returns-in_err-item-clause-choice g c =
     c.from_residual.ensures ∙ sym (choice_none c.args.problem.now.puzzle (g.D.Dance.state c.args.dance.now).trail (cc (c.in_err-item.ensures)))
 
 pub count-fewest-requires-clause-open : goal.count-fewest-requires-clause-open
@@ -78,16 +78,16 @@ loop-fewest-preserved g c =
       best = choice_next p t c.loop-fewest.item c.loop-fewest.at c.in-Some.next false c.loop-fewest.invariant.best e not_better;
     }
 
-pub returns-in_default : goal.returns-in_default
-returns-in_default g c =
+pub returns-in_default-clause-choice : goal.returns-in_default-clause-choice
+returns-in_default-clause-choice g c =
     let p = c.args.problem.now.puzzle in
     let t = (g.D.Dance.state c.args.dance.now).trail in
     let i = c.loop-fewest.item in
     let e : next_above c.loop-fewest.at (open_items p t) ≡ None = cc (c.in_default.ensures) in
     choice_done p t i c.loop-fewest.at c.loop-fewest.fewest c.loop-fewest.invariant.best c.loop-fewest.invariant.counted (choice_last p t i c.loop-fewest.at e)
 
-pub returns : goal.returns
-returns g c =
+pub returns-clause-choice : goal.returns-clause-choice
+returns-clause-choice g c =
     let p = c.args.problem.now.puzzle in
     let t = (g.D.Dance.state c.args.dance.now).trail in
     let i = c.loop-fewest.item in

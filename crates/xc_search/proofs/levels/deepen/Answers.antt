@@ -10,11 +10,11 @@ use Rattle.xc_search.proofs.levels.deepen.Goals as goal
 use Rattle.xc_search.proofs.levels.deepen.Goals.{In-Some, After-end_level, After-commit_branch}
 
 chose : (g : _) (c : In-Some g) → choice_after c.args.position.now.puzzle c.args.position.now.trail ≡ Some (c.in-Some.item, c.in-Some.count)
-chose g c = cc (c.choose.ensures, c.in-Some.is)
+chose g c = cc (c.choose.ensures.choice, c.in-Some.is)
 
 pub returns-in_default-clause-reached : goal.returns-in_default-clause-reached
 returns-in_default-clause-reached g c _ =
-    let none : choice_after c.args.position.now.puzzle c.args.position.now.trail ≡ None = cc (c.choose.ensures, c.in_default.is) in
+    let none : choice_after c.args.position.now.puzzle c.args.position.now.trail ≡ None = cc (c.choose.ensures.choice, c.in_default.is) in
     finds c.args.position.now c.args.stack.now c.requires.standing none
 
 pub descend-level-requires-clause-node : goal.descend-level-requires-clause-node
@@ -54,7 +54,7 @@ over : (g : _) (c : After-end_level g) → GoesOn c.args.position.now c.args.sta
     × (visits c.end_level.new.position.puzzle c.end_level.new.position.trail c.args.stack.now.levels < ahead c.args.position.now.puzzle c.args.position.now.trail c.args.stack.now.levels true)
 over g c =
     passes_over c.args.position.now c.descend-level.new.self c.end_level.new.position c.args.stack.now c.in-Some.item c.in-Some.count c.descend-level.result
-    c.requires.standing (cc (c.choose.ensures, c.in-Some.is)) c.descend-level.ensures.trail c.descend-level.ensures.level c.if-count-eq0.true c.end_level.ensures
+    c.requires.standing (cc (c.choose.ensures.choice, c.in-Some.is)) c.descend-level.ensures.trail c.descend-level.ensures.level c.if-count-eq0.true c.end_level.ensures
 
 pub returns-then-count-eq0-clause-nothing : goal.returns-then-count-eq0-clause-nothing
 returns-then-count-eq0-clause-nothing g c _ = (over g c).0
@@ -73,7 +73,7 @@ deeper : (g : _) (c : After-commit_branch g) → GoesOn c.args.position.now c.ar
     × (ahead c.commit_branch.new.self.puzzle c.commit_branch.new.self.trail c.push.new.self.levels true < ahead c.args.position.now.puzzle c.args.position.now.trail c.args.stack.now.levels true)
 deeper g c =
     enters_first c.args.position.now c.descend-level.new.self c.enter-branch.new.self c.commit_branch.new.self c.args.stack.now c.push.new.self c.in-Some.item c.in-Some.count c.descend-level.result c.enter-branch.result
-    c.requires.standing (cc (c.choose.ensures, c.in-Some.is)) c.descend-level.ensures.trail c.descend-level.ensures.level
+    c.requires.standing (cc (c.choose.ensures.choice, c.in-Some.is)) c.descend-level.ensures.trail c.descend-level.ensures.level
     c.enter-branch.ensures.still c.enter-branch.ensures.entered c.commit_branch.ensures (c.push.ensures ∙ ap (λ l. with_level l c.args.stack.now) c.begin_level.ensures)
 
 pub returns-clause-deeper : goal.returns-clause-deeper

@@ -10,6 +10,7 @@ use Rattle.xc_dance.specs.Links.Laid.{IsFit}
 use Rattle.xc_dance.specs.Links.OptionPlaces.{start_at}
 use Rattle.xc_dance.specs.Links.UseNodes.{uses_before}
 use Rattle.xc_dance.proofs.LinkedTables.Along.{along_first, before_at, Leads, leads, IsNext, nodes_told, may_commit, Committed, one_committed, whole}
+use Rattle.xc_dance.proofs.LinkedTables.Written.{written_then}
 use Rattle.xc_dance.proofs.links.Links.commit_before.Goals as goal
 use Rattle.xc_dance.proofs.links.Links.commit_before.Goals.{After-self, After-self-in-loop-q}
 
@@ -48,6 +49,7 @@ loop-q-init c =
     record {
       puzzle = refl;
       room = refl;
+      written = refl;
       along = λ x held.
           along_first s.puzzle (start_at s.puzzle (x - 1)) first (uses_before s.puzzle c.args.i x) s.trail
           (is x c.ulink-first.ensures held);
@@ -101,17 +103,19 @@ loop-q-preserved c =
     s.trail s.room c.commit_node.new.self (c.loop-q.q + 1)
     = λ x held. one_committed s.puzzle x (start_at s.puzzle (x - 1)) (uses_before s.puzzle c.args.i x)
     s.trail c.loop-q.self c.commit_node.new.self s.room c.loop-q.q c.top-j.result
-    (next here x held) c.loop-q.invariant.puzzle c.loop-q.invariant.room is c.commit_node.ensures in
+    (next here x held) c.loop-q.invariant.puzzle c.loop-q.invariant.room is c.commit_node.ensures.committed in
     record {
       puzzle = (step c.requires.can.0 c.requires.can.1).puzzle;
       room = (step c.requires.can.0 c.requires.can.1).room;
+      written = written_then s c.loop-q.self c.commit_node.new.self c.loop-q.invariant.puzzle
+          c.loop-q.invariant.written c.commit_node.ensures.written;
       along = λ x held. (step x held).along;
     }
 
-pub returns : goal.returns
-returns c = λ x held.
+pub returns-clause-committed : goal.returns-clause-committed
+returns-clause-committed c = λ x held.
     let s = c.args.self.now in
-    let here = (goal.at.returns c).After-self in
+    let here = (goal.at.returns-clause-committed c).After-self in
     let all = (before_at s.puzzle c.args.i x c.args.place c.loop-q.q s.trail c.loop-q.self.trail (fit here)
     held (c.loop-q.invariant.along x held)).end c.loop-q-test.false in
     whole s.puzzle s.room c.loop-q.self _ c.loop-q.invariant.puzzle c.loop-q.invariant.room all

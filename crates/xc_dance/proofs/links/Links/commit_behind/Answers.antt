@@ -8,6 +8,7 @@ use Rattle.xc_dance.specs.Links.Cells.{nodes_after, top_in, line_of}
 use Rattle.xc_dance.specs.Links.Laid.{IsLaid, IsFit}
 use Rattle.xc_dance.specs.Links.UseNodes.{uses_behind}
 use Rattle.xc_dance.proofs.LinkedTables.Along.{along_first, Behind, behind_at, IsNext, top_at, nodes_told, may_commit, Committed, one_committed, whole}
+use Rattle.xc_dance.proofs.LinkedTables.Written.{written_then}
 use Rattle.xc_dance.proofs.links.Links.commit_behind.Goals as goal
 use Rattle.xc_dance.proofs.links.Links.commit_behind.Goals.{After-self, After-self-in-loop-self}
 
@@ -38,6 +39,7 @@ pub loop-self-init : goal.loop-self-init
 loop-self-init c = record {
   puzzle = refl;
   room = refl;
+  written = refl;
   along = λ x _. along_first c.args.self.now.puzzle (c.args.place + 1) (c.args.place + 1)
       (uses_behind c.args.self.now.puzzle c.args.i x) c.args.self.now.trail refl;
 }
@@ -123,16 +125,18 @@ loop-self-preserved c =
     s.trail s.room c.commit_node.new.self (c.loop-self.q + 1)
     = λ x held. one_committed s.puzzle x (c.args.place + 1) (uses_behind s.puzzle c.args.i x)
     s.trail c.loop-self.self c.commit_node.new.self s.room c.loop-self.q c.top-j.result
-    (next here x held low) c.loop-self.invariant.puzzle c.loop-self.invariant.room is c.commit_node.ensures in
+    (next here x held low) c.loop-self.invariant.puzzle c.loop-self.invariant.room is c.commit_node.ensures.committed in
     record {
       puzzle = (step c.requires.0 c.requires.1).puzzle;
       room = (step c.requires.0 c.requires.1).room;
+      written = written_then s c.loop-self.self c.commit_node.new.self c.loop-self.invariant.puzzle
+          c.loop-self.invariant.written c.commit_node.ensures.written;
       along = λ x held. (step x held).along;
     }
 
-pub returns : goal.returns
-returns c = λ x held.
-    let here = (goal.at.returns c).After-self-in-loop-self in
+pub returns-clause-committed : goal.returns-clause-committed
+returns-clause-committed c = λ x held.
+    let here = (goal.at.returns-clause-committed c).After-self-in-loop-self in
     let s = c.args.self.now in
     let is = top_is here in
     let told = c.top.ensures in

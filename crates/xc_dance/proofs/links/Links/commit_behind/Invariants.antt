@@ -1,5 +1,6 @@
 use Rattle.std.proofs.Common.{ℕ, ◌≡◌, ◌+◌, ◌-◌, length}
 use Rattle.xc_dance.specs.Commits.{IsUseAt}
+use Rattle.xc_dance.specs.Cost.{HasWritten}
 use Rattle.xc_dance.specs.Fields.{layout}
 use Rattle.xc_dance.specs.Links.UseNodes.{uses_behind}
 use Rattle.xc_dance.proofs.LinkedTables.Along.{IsAlong}
@@ -10,6 +11,7 @@ abbrev pub invariant-loop-self : goal.invariant-loop-self
 invariant-loop-self l = record {
   puzzle : l.self.puzzle ≡ l.fn.self.puzzle;
   room : l.self.room ≡ l.fn.self.room;
+  written : HasWritten l.fn.self l.self;
   along : (x : ℕ) → IsUseAt l.fn.self.puzzle l.i x l.place →
       IsAlong l.fn.self.puzzle (l.place + 1) (uses_behind l.fn.self.puzzle l.i x) l.fn.self.trail l.self.trail l.q;
 }

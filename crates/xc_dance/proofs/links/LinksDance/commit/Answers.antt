@@ -3,6 +3,7 @@ use Rattle.xc_dance.specs.Commits.{CanStand, IsUseAt, after_uses}
 use Rattle.xc_dance.specs.Dancing.{Dancing}
 use Rattle.xc_dance.specs.Links.UseNodes.{uses_behind, uses_before}
 use Rattle.xc_dance.proofs.MoveLemmas.Commits.{stood_before, after_uses-append}
+use Rattle.xc_dance.proofs.LinkedTables.Written.{written_then}
 use Rattle.xc_dance.proofs.links.LinksDance.commit.Goals as goal
 
 pub commit_behind-end-requires : goal.commit_behind-end-requires
@@ -21,20 +22,26 @@ commit_before-requires-clause-can c =
     let i = c.args.i in
     let can = subst (CanStand s.puzzle s.room) (after_uses-append s.puzzle (uses_behind s.puzzle i x)
     (uses_before s.puzzle i x) s.trail) c.requires.can.2 in
-    let half = sym (c.commit_behind-end.ensures x c.requires.can.1).0 in (
+    let half = sym (c.commit_behind-end.ensures.committed x c.requires.can.1).0 in (
       x,
       subst (λ (d : Dancing). IsUseAt d.puzzle i x c.args.place) half c.requires.can.1,
       subst (λ (d : Dancing). CanStand d.puzzle d.room (after_uses d.puzzle (uses_before d.puzzle i x) d.trail))
           half can,
     )
 
-pub returns : goal.returns
-returns c = λ x held.
+pub returns-clause-committed : goal.returns-clause-committed
+returns-clause-committed c = λ x held.
     let s = c.args.self.now in
     let i = c.args.i in
-    let half = (c.commit_behind-end.ensures x held).0 in
+    let half = (c.commit_behind-end.ensures.committed x held).0 in
     let there = subst (λ (d : Dancing). IsUseAt d.puzzle i x c.args.place) (sym half) held in
-    c.commit_before.ensures x there
+    c.commit_before.ensures.committed x there
     ∙ ap (λ (d : Dancing). record d { trail = after_uses d.puzzle (uses_before d.puzzle i x) d.trail }) half
     ∙ ap (λ t. let d : Dancing = record { puzzle = s.puzzle; trail = t; room = s.room } in d)
     (sym (after_uses-append s.puzzle (uses_behind s.puzzle i x) (uses_before s.puzzle i x) s.trail))
+
+pub returns-clause-written : goal.returns-clause-written
+returns-clause-written c =
+    let half = (c.commit_behind-end.ensures.committed c.requires.can.0 c.requires.can.1).0 in
+    written_then c.args.self.now c.commit_behind-end.new.self c.commit_before.new.self
+    (ap (λ (d : Dancing). d.puzzle) half) c.commit_behind-end.ensures.written c.commit_before.ensures.written

@@ -1,8 +1,8 @@
 use Rattle.std.proofs.Common.{◌≡◌, None, Some, sym, ap, ◌∙◌, subst}
-use Rattle.std.specs.Prelude.{IfSome, unwrap_or}
+use Rattle.std.specs.Prelude.{unwrap_or}
 use Rattle.xc_dance.specs.Fields.{link_place}
 use Rattle.xc_dance.specs.Commits.{option_at, IsUseAt}
-use Rattle.xc_search.specs.inner.Levels.{IsOptionAt, CanBranch, after_branch}
+use Rattle.xc_search.specs.inner.Levels.{CanBranch, after_branch}
 use Rattle.xc_search.proofs.stacked.NextLevel.{at_own, at_other}
 use Rattle.xc_search.proofs.position.Position.commit_branch.Goals as goal
 use Rattle.xc_search.proofs.position.Position.commit_branch.Goals.{Then-place-item, Else-place-item}

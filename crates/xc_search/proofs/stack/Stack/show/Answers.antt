@@ -1,4 +1,4 @@
-use Rattle.std.proofs.Common.{sym, ap, ◌∙◌, subst}
+use Rattle.std.proofs.Common.{sym, subst}
 use Rattle.std.specs.Prelude.{All}
 use Rattle.xc_search.specs.inner.Levels.{Levels, IsShown}
 use Rattle.xc_search.proofs.stacked.ShownLevels.{shown_back}
