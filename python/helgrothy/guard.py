@@ -10,7 +10,8 @@ from __future__ import annotations
 import os
 import subprocess
 import threading
-from typing import Optional
+from contextlib import suppress
+from typing import Any, Optional, Sequence
 
 _SHELL = """\
 while read -r what program; do
@@ -53,9 +54,21 @@ _guard: Optional[_Guard] = None
 _lock = threading.Lock()
 
 
-def guard(program: int) -> None:
-    """From now on the program is killed when this process ends."""
-    _tell("begin", program)
+def start(command: Sequence[str], **pipes: Any) -> subprocess.Popen[bytes]:
+    """Starts a program that is killed when this process ends. Asks that `let_go` is called once it was waited for.
+
+    A program that waits for what this process writes to it does nothing before the shell knows of it.
+    """
+    with _lock:
+        _ready()
+    process = subprocess.Popen(command, **pipes)
+    try:
+        _tell("begin", process.pid)
+    except BaseException:
+        process.kill()
+        process.wait()
+        raise
+    return process
 
 
 def let_go(program: int) -> None:
@@ -64,16 +77,25 @@ def let_go(program: int) -> None:
 
 
 def _tell(what: str, program: int) -> None:
-    """Where there is no shell, or it is gone, programs run on without."""
     global _guard
     with _lock:
-        try:
-            if _guard is not None and _guard.owner != os.getpid():
-                # This process was forked from another one, whose shell it is.
-                os.close(_guard.pipe)
+        guard = _ready()
+        if guard is not None:
+            try:
+                os.write(guard.pipe, f"{what} {program}\n".encode())
+            except OSError:
+                os.close(guard.pipe)
                 _guard = None
-            if _guard is None:
-                _guard = _Guard()
-            os.write(_guard.pipe, f"{what} {program}\n".encode())
-        except OSError:
-            _guard = None
+
+
+def _ready() -> Optional[_Guard]:
+    """This process's shell. Where there is none to be had, programs run on without."""
+    global _guard
+    if _guard is not None and _guard.owner != os.getpid():
+        # This process was forked from another one, whose shell it is.
+        os.close(_guard.pipe)
+        _guard = None
+    if _guard is None:
+        with suppress(OSError):
+            _guard = _Guard()
+    return _guard

@@ -16,7 +16,7 @@ import tempfile
 from typing import List, NamedTuple, Optional, Tuple
 
 from ..errors import ProgramFailed
-from ..guard import guard, let_go
+from ..guard import let_go, start
 from ..programs import find
 from ..syntax import text_of
 from .plan import choices_of
@@ -96,14 +96,13 @@ class Planner:
         with tempfile.TemporaryFile() as given:
             given.write(self._tree.text)
             given.seek(0)
-            process = subprocess.Popen(
+            process = start(
                 [self._path, str(self._tree.kind), *map(str, (budget, size, limit))],
                 stdin=given,
                 stdout=subprocess.PIPE,
                 stderr=subprocess.PIPE,
             )
         try:
-            guard(process.pid)
             resource.prlimit(process.pid, resource.RLIMIT_CPU, (longest, longest))
             assert process.stdout is not None and process.stderr is not None
             # Of a plan there is one line of messages at most, which a pipe takes.

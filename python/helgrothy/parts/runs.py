@@ -10,7 +10,7 @@ from contextlib import suppress
 from typing import IO, Iterable, List, NamedTuple, Sequence
 
 from ..errors import PartsFault, ProgramFailed
-from ..guard import guard, let_go
+from ..guard import let_go, start
 from ..programs import find
 from .folder import Doubt, Failure, Folder, Output, Record, host, keep_failure, reason_of
 from .text import PartText
@@ -98,11 +98,10 @@ def _run(folder: Folder, number: int, words: List[str]) -> Record:
 
 def _search(command: List[str], text: Iterable[bytes], out: IO[bytes]) -> _Ended:
     """A run of a program that leaves no process behind, however it is left."""
-    process = subprocess.Popen(command, stdin=subprocess.PIPE, stdout=out, stderr=subprocess.PIPE)
+    process = start(command, stdin=subprocess.PIPE, stdout=out, stderr=subprocess.PIPE)
     assert process.stdin is not None and process.stderr is not None
     # Its end is waited for here alone, for what it took; `Popen.kill` would wait, too.
     try:
-        guard(process.pid)
         try:
             with process.stdin:
                 process.stdin.writelines(text)
