@@ -7,6 +7,7 @@ the system for that in the new process.
 
 from __future__ import annotations
 
+import atexit
 import os
 import subprocess
 import threading
@@ -33,7 +34,7 @@ class _Guard:
         self.owner = os.getpid()
         given, self.pipe = os.pipe()
         try:
-            shell = subprocess.Popen(
+            self._shell = subprocess.Popen(
                 ["sh", "-c", _SHELL],
                 stdin=given,
                 stdout=subprocess.DEVNULL,
@@ -46,8 +47,18 @@ class _Guard:
             raise
         finally:
             os.close(given)
-        # It outlives this process, so nobody waits for it.
-        shell.returncode = 0
+        atexit.register(self.end)
+
+    def end(self) -> None:
+        """Programs are told of no longer. Who began the shell waits for it, so that nothing of it is left."""
+        with suppress(OSError):
+            os.close(self.pipe)
+        self.pipe = -1
+        if self.owner == os.getpid():
+            with suppress(subprocess.TimeoutExpired):
+                self._shell.wait(1)
+        self._shell.returncode = 0
+        atexit.unregister(self.end)
 
 
 _guard: Optional[_Guard] = None
@@ -84,7 +95,7 @@ def _tell(what: str, program: int) -> None:
             try:
                 os.write(guard.pipe, f"{what} {program}\n".encode())
             except OSError:
-                os.close(guard.pipe)
+                guard.end()
                 _guard = None
 
 
@@ -93,7 +104,7 @@ def _ready() -> Optional[_Guard]:
     global _guard
     if _guard is not None and _guard.owner != os.getpid():
         # This process was forked from another one, whose shell it is.
-        os.close(_guard.pipe)
+        _guard.end()
         _guard = None
     if _guard is None:
         with suppress(OSError):
