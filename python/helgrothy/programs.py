@@ -7,12 +7,10 @@ on the path.
 
 from __future__ import annotations
 
-import ctypes
 import os
 import re
 import select
 import shutil
-import signal
 import subprocess
 import tempfile
 import time
@@ -24,8 +22,6 @@ from .errors import OutOfTime, ProgramFailed, ProgramNotFound
 PROGRAMS = ("dlx1", "dlx2", "dlx3", "dlxcheck")
 VARIABLE = "HELGROTHY_BIN"
 _CHUNK = 1 << 18
-_PRCTL = getattr(ctypes.CDLL(None), "prctl", None)
-_PR_SET_PDEATHSIG = 1
 _LAST_LINE = re.compile(r"Altogether (\d+) solutions?( \(limit\))?\.\Z")
 
 
@@ -136,12 +132,6 @@ class Ending:
             raise run.failure()
         self.total = int(told.group(1))
         self.complete = told.group(2) is None
-
-
-def end_with_parent() -> None:
-    """Called in a new process: it is killed when its parent ends, however that is, where the system does so."""
-    if _PRCTL is not None:
-        _PRCTL(_PR_SET_PDEATHSIG, signal.SIGKILL)
 
 
 def _widen(pipe: int) -> None:

@@ -5,9 +5,11 @@ import io
 import os
 import random
 import shutil
+import signal
 import subprocess
 import sys
 import tempfile
+import textwrap
 import time
 import unittest
 from unittest import mock
@@ -328,7 +330,7 @@ class Commands(InParts):
     def test_a_program_ends_with_its_command(self):
         problem, folder = self.file("p.dlx", b"A B\nA\nB\n"), self.path("parts")
         self.assertEqual(command("dlx-split", "--parts", "1", "dlx1", problem, folder)[0], 0)
-        program = self.file("dlx1", b"#!/bin/sh\necho $$ > %s\nexec sleep 60\n" % self.path("number").encode())
+        program = self.file("dlx1", b"#!/bin/sh\ncat > /dev/null\necho $$ > %s\nexec sleep 60\n" % self.path("number").encode())
         os.chmod(program, 0o755)
         words = [sys.executable, "-m", "helgrothy.parts", "dlx-run", folder, "1"]
         package = os.path.dirname(os.path.dirname(programs.__file__))
@@ -340,6 +342,27 @@ class Commands(InParts):
             number = int(file.read())
         self.wait_for(lambda: is_gone(number))
         self.assertEqual(parts.state(parts.Folder(folder)).undone, [1])
+
+    def test_programs_that_are_guarded_end_with_a_process(self):
+        text = """
+            import subprocess, sys
+            from helgrothy.guard import let_go, start
+            one, two, three = (start(["sleep", seconds]) for seconds in ("0", "60", "60"))
+            four = subprocess.Popen(["sleep", "60"])
+            one.wait()
+            let_go(one.pid)
+            print(two.pid, three.pid, four.pid, flush=True)
+            sys.stdin.read()
+        """
+        package = os.path.dirname(os.path.dirname(programs.__file__))
+        words = [sys.executable, "-c", textwrap.dedent(text)]
+        pipes = {"stdin": subprocess.PIPE, "stdout": subprocess.PIPE}
+        with subprocess.Popen(words, env={**os.environ, "PYTHONPATH": package}, **pipes) as run:
+            two, three, four = map(int, run.stdout.readline().split())
+            run.kill()
+        self.wait_for(lambda: is_gone(two) and is_gone(three))
+        self.assertFalse(is_gone(four))
+        os.kill(four, signal.SIGKILL)
 
     def wait_for(self, happened):
         until = time.monotonic() + 30

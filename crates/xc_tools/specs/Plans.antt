@@ -1,11 +1,11 @@
 -- What a whole run of the planner does.
-use Rattle.std.specs.Prelude.{ℕ, ◌≡◌, ◌⊎◌, List, [], ◌∷◌, Option, None, MatchOption, codes, option_map, option_and_then}
+use Rattle.std.specs.Prelude.{ℕ, ◌≡◌, ◌⊎◌, List, [], ◌∷◌, Option, None, MatchOption, codes, length, option_map, option_and_then}
 use Rattle.xc_input.specs.declared.kind.Kind.{Kind}
 use Rattle.xc_input.specs.Named.{Named}
 use Rattle.xc_search.specs.declared.choice.Choice.{Choice}
-use Rattle.xc_search.specs.Cut.{IsCut}
+use Rattle.xc_search.specs.Cut.{IsCut, IsCutUpTo}
 use Rattle.xc_list.specs.declared.planning.PlanWords.{PlanWords}
-use Rattle.xc_list.specs.Plans.{read_plan_words, plan_text, IsPlanned, PlanBrokeOff}
+use Rattle.xc_list.specs.Plans.{read_plan_words, plan_text, PlanBrokeOff}
 use Rattle.xc_list.specs.Texts.{SinkState, WasTold, Took}
 use Rattle.xc_tools.specs.Given.{GaveProblem}
 use Rattle.xc_tools.specs.Judges.{numbered_kind}
@@ -27,16 +27,24 @@ pub record HasPlan (a : Named) (out_old out_new : SinkState) : Type 0 where
   pub cut : IsCut a.puzzle plan
   pub taken : TookAll out_old out_new (plan_text a plan)
 
--- 5: the limit of parts was met, which was told.
+-- 5: the output took the lines of as many parts as the limit, which cut the search up to a rest. It was told.
 pub record MetLimit (a : Named) (limit : ℕ) (out_old out_new err_old err_new : SinkState) : Type 0 where
+  pub plan : List (List Choice)
   pub rest : List (List Choice)
-  pub planned : IsPlanned a limit rest out_old out_new
+  pub many : length plan ≡ limit
+  pub cut : IsCutUpTo a.puzzle plan rest
+  pub taken : TookAll out_old out_new (plan_text a plan)
   pub told : WasTold err_old err_new (codes "The limit of parts was met.\n")
 
--- 3: a write of a line failed, or the flush behind the whole plan, which was told.
-pub record IsUnwritten (a : Named) (out_old out_new err_old err_new : SinkState) : Type 0 where
+-- A plan cuts the search, or it has as many parts as the limit and cuts the search up to a rest.
+abbrev pub EndsAt : Named → ℕ → List (List Choice) → Type 0
+EndsAt a limit plan =
+    IsCut a.puzzle plan ⊎ ((length plan ≡ limit) × (rest : List (List Choice)) × IsCutUpTo a.puzzle plan rest)
+
+-- 3: a write of a line failed, or the flush behind the last of a plan that was whole or met the limit. It was told.
+pub record IsUnwritten (a : Named) (limit : ℕ) (out_old out_new err_old err_new : SinkState) : Type 0 where
   pub failed : ((n : ℕ) × PlanBrokeOff a n out_old out_new)
-      ⊎ ((plan : List (List Choice)) × IsCut a.puzzle plan × FailedBehind out_old out_new (plan_text a plan))
+      ⊎ ((plan : List (List Choice)) × EndsAt a limit plan × FailedBehind out_old out_new (plan_text a plan))
   pub told : WasTold err_old err_new (codes "Write failed.\n")
 
 -- 4: there was no memory for the search, which was told, and nothing was written.
@@ -49,7 +57,7 @@ abbrev pub DidPlan : ℕ → ℕ → SinkState → SinkState → SinkState → S
 DidPlan limit status out_old out_new err_old err_new a =
     ((status ≡ 0) × HasPlan a out_old out_new)
     ⊎ ((status ≡ 5) × MetLimit a limit out_old out_new err_old err_new)
-    ⊎ ((status ≡ 3) × IsUnwritten a out_old out_new err_old err_new)
+    ⊎ ((status ≡ 3) × IsUnwritten a limit out_old out_new err_old err_new)
     ⊎ ((status ≡ 4) × HasNoMemory out_old out_new err_old err_new)
 
 -- What a run did that was asked for this: there was no problem, and the output wasn't touched; or it was planned.

@@ -40,6 +40,21 @@ fn flush_plan<O: Sink, E: Sink>(out: &mut O, err: &mut E) -> u8
     }
 }
 
+/// Flushes a plan that met its limit, and tells that, or that the flush failed.
+fn flush_limited_plan<O: Sink, E: Sink>(out: &mut O, err: &mut E) -> u8
+    ensures kept { Keeps (O.state out.old).taken (O.state out.new).taken }
+    ensures flushed_once { (O.state out.new).flushes ≡ (O.state out.old).flushes + 1 }
+    ensures did { ((result ≡ 5) × ((O.state out.new).failures ≡ (O.state out.old).failures) × IsTrue (O.state out.new).settled
+        × WasTold (E.state err.old) (E.state err.new) (codes "The limit of parts was met.\n"))
+        ⊎ ((result ≡ 3) × Rose (O.state out.old).failures (O.state out.new).failures × IsTrue (O.state out.new).failed
+        × WasTold (E.state err.old) (E.state err.new) (codes "Write failed.\n")) }
+{
+    match out.flush() {
+        Ok(()) => refuse(LIMIT_MET, b"The limit of parts was met.\n", err),
+        Err(_) => refuse(FAILED, b"Write failed.\n", err),
+    }
+}
+
 /// Writes the plan of a problem.
 fn plan_problem<O: Sink, E: Sink>(
     alloc: Global,
@@ -54,7 +69,7 @@ fn plan_problem<O: Sink, E: Sink>(
     match plan(alloc, problem, words, out) {
         Err(Memory) => out_of_memory(err),
         Ok(End::WriteFailed(_)) => refuse(FAILED, b"Write failed.\n", err),
-        Ok(End::Limit(_)) => refuse(LIMIT_MET, b"The limit of parts was met.\n", err),
+        Ok(End::Limit(_)) => flush_limited_plan(out, err),
         Ok(End::Done(_)) => flush_plan(out, err),
     }
 }

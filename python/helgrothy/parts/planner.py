@@ -16,7 +16,8 @@ import tempfile
 from typing import List, NamedTuple, Optional, Tuple
 
 from ..errors import ProgramFailed
-from ..programs import end_with_parent, find
+from ..guard import let_go, start
+from ..programs import find
 from ..syntax import text_of
 from .plan import choices_of
 from .tree import Path, Tree
@@ -95,12 +96,11 @@ class Planner:
         with tempfile.TemporaryFile() as given:
             given.write(self._tree.text)
             given.seek(0)
-            process = subprocess.Popen(
+            process = start(
                 [self._path, str(self._tree.kind), *map(str, (budget, size, limit))],
                 stdin=given,
                 stdout=subprocess.PIPE,
                 stderr=subprocess.PIPE,
-                preexec_fn=end_with_parent,
             )
         try:
             resource.prlimit(process.pid, resource.RLIMIT_CPU, (longest, longest))
@@ -114,6 +114,7 @@ class Planner:
         finally:
             _, status, used = os.wait4(process.pid, 0)
             process.returncode = os.waitstatus_to_exitcode(status)
+            let_go(process.pid)
         if process.returncode not in (0, _LIMIT_MET, -signal.SIGXCPU, -signal.SIGKILL):
             raise ProgramFailed(NAME, process.returncode, told.decode("utf-8", "replace").strip())
         return _Run(process.returncode, text_of(written).split("\n")[:-1], used.ru_utime + used.ru_stime)

@@ -10,7 +10,8 @@ from contextlib import suppress
 from typing import IO, Iterable, List, NamedTuple, Sequence
 
 from ..errors import PartsFault, ProgramFailed
-from ..programs import end_with_parent, find
+from ..guard import let_go, start
+from ..programs import find
 from .folder import Doubt, Failure, Folder, Output, Record, host, keep_failure, reason_of
 from .text import PartText
 
@@ -97,9 +98,7 @@ def _run(folder: Folder, number: int, words: List[str]) -> Record:
 
 def _search(command: List[str], text: Iterable[bytes], out: IO[bytes]) -> _Ended:
     """A run of a program that leaves no process behind, however it is left."""
-    process = subprocess.Popen(
-        command, stdin=subprocess.PIPE, stdout=out, stderr=subprocess.PIPE, preexec_fn=end_with_parent
-    )
+    process = start(command, stdin=subprocess.PIPE, stdout=out, stderr=subprocess.PIPE)
     assert process.stdin is not None and process.stderr is not None
     # Its end is waited for here alone, for what it took; `Popen.kill` would wait, too.
     try:
@@ -116,5 +115,6 @@ def _search(command: List[str], text: Iterable[bytes], out: IO[bytes]) -> _Ended
     finally:
         _, status, used = os.wait4(process.pid, 0)
         process.returncode = os.waitstatus_to_exitcode(status)
+        let_go(process.pid)
         process.stderr.close()
     return _Ended(process.returncode, told, used.ru_utime + used.ru_stime)
