@@ -40,7 +40,7 @@
 #[cfg(test)]
 mod examples;
 
-pub use xc_dance::{Count, Dance, Full, Links, Lists, Memory, Move};
+pub use xc_dance::{Count, Dance, Full, Links, Listed, Lists, Memory, Move, list_of};
 pub use xc_input::{
     Bounds, FaultKind, Feed, InputError, Item, Kind, Options, Problem, Read, ReadFailed, Reader,
     Seed, SliceSource, Source, Use, read_problem,

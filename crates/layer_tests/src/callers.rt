@@ -1,8 +1,10 @@
 //! What is there for callers: sources, iterators, room and searches with no counting, errors that travel.
+ghost use Rattle.xc_input.specs.Problem.{IsItem};
+
 use fixtures::{COLOURED, SEVEN, problem};
 use std::alloc::Global;
 use std::test::Fail;
-use xc_dance::{Dance, Full, Links, Lists, Memory, Move};
+use xc_dance::{Dance, Full, Links, Lists, Memory, Move, list_of};
 use xc_input::{Kind, Problem, Seed, SliceSource, Use, read_problem};
 use xc_search::{Search, most_moves};
 
@@ -91,6 +93,44 @@ fn solutions_one_by_one(rt: HostRuntime) -> Result<(), Fail> {
     assert!(rt; options_in_all(rt.alloc(), &seven)? == 3);
     let alike = problem(rt.alloc(), Kind::Plain, fixtures::THREE_ALIKE)?;
     assert!(rt; options_in_all(rt.alloc(), &alike)? == 3);
+    Ok(())
+}
+
+/// How many solutions are visited, of at most so many, and whether all were.
+fn visited(alloc: Global, problem: &Problem, most: usize) -> Result<(usize, bool), Fail> {
+    let links = Links::for_search(alloc, problem)?;
+    let mut search = Search::begin(alloc, links, problem)?;
+    let mut left = most;
+    let all = search.for_each(|choices| {
+        left = left.saturating_sub(choices.len());
+        left > 0
+    });
+    Ok((most - left.min(most), all && search.choices().is_empty()))
+}
+
+#[test]
+fn solutions_until_enough(rt: HostRuntime) -> Result<(), Fail> {
+    let alike = problem(rt.alloc(), Kind::Plain, fixtures::THREE_ALIKE)?;
+    assert!(rt; visited(rt.alloc(), &alike, 2)? == (2, false));
+    assert!(rt; visited(rt.alloc(), &alike, 9)? == (3, true));
+    Ok(())
+}
+
+/// Whether the options of an item's list are these.
+fn lists<D: Dance>(dance: &D, i: u32, wanted: &[u32]) -> bool
+    requires { IsItem (D.state dance.now).puzzle i }
+{
+    list_of(dance, i).eq(wanted.iter().copied())
+}
+
+#[test]
+fn options_of_an_item(rt: HostRuntime) -> Result<(), Fail> {
+    let problem = problem(rt.alloc(), Kind::Plain, SEVEN)?;
+    let mut links = Links::for_search(rt.alloc(), &problem)?;
+    let cover = Move::Cover(1);
+    assert!(rt; problem.items() == 7 && lists(&links, 4, &[2, 4, 6]));
+    assert!(rt; links.can(&cover) && links.apply(cover).is_ok());
+    assert!(rt; lists(&links, 4, &[6]) && lists(&links, 1, &[2, 4]));
     Ok(())
 }
 

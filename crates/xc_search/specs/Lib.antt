@@ -3,6 +3,7 @@ pub mod Cover
 pub mod Residuals
 pub mod Room
 pub mod Outlook
+pub mod Visited
 pub mod Cut
 pub mod Parts
 pub mod Worked

@@ -24,6 +24,7 @@ mod position;
 mod search;
 mod stack;
 mod steps;
+mod visiting;
 
 pub use begin::NoSearch;
 pub use branch_item::{branches, choose};

@@ -1,0 +1,26 @@
+//! A call with each solution.
+ghost use Rattle.std.specs.Prelude.{◌≡◌, List};
+ghost use Rattle.std.specs.Fn.{CalledAt};
+ghost use Rattle.xc_search.specs.Visited.{Visits};
+
+use crate::choice::Choice;
+use crate::search::{Search, Step};
+use xc_dance::Dance;
+
+impl<'a, D: Dance> Search<'a, D> {
+    /// Calls `visit` with the choices of each solution to come, in turn, until it answers false. It is
+    /// true where no call did, and then no solution is left; else the search stands at the last one.
+    pub fn for_each<F: FnMut(&[Choice]) -> bool>(&mut self, mut visit: F) -> bool
+        requires { F.IsAlwaysCallable visit }
+        ensures still { self.new ≡ record self.old { to_come = self.new.to_come; shown = self.new.shown } }
+        ensures visits { Visits (λ f m more g. CalledAt F.FnMut f m more g) visit self.old.to_come
+            result self.new.to_come self.new.shown }
+    {
+        while let Step::Solution = self.next() {
+            if !visit(self.choices()) {
+                return false;
+            }
+        }
+        true
+    }
+}
