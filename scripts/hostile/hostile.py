@@ -121,19 +121,22 @@ def failed_at(listing, calls):
     return [b"Write failed at solution " + solutions[-1].rstrip(b":") + b".\n"] + may_flush
 
 
-def each_write_fails(shim, folder):
-    """Each write to standard output fails in turn, once: it is told, the status is 3, and none is made after it."""
-    plain = b"A B\n" + b"A\n" * 20 + b"B\n" * 20
-    file = f"{folder}/writes.dlx"
+def each_program(file, count):
+    """The words and the input of a run of each of the four programs, with many solutions by so many options of two items."""
+    plain = b"A B\n" + b"A\n" * count + b"B\n" * count
     with open(file, "wb") as it:
         it.write(plain)
-    listing = run(["dlx1", "m1"], plain)[1]
-    for words, text in (
+    return (
         (["dlx1", "m1"], plain),
         (["dlx2", "m1"], plain.replace(b"A B\n", b"A B | x\n", 1)),
         (["dlx3", "m1"], plain.replace(b"A B\n", b"1:2|A 1:1|B\n", 1)),
-        (["dlxcheck", file, "1"], listing),
-    ):
+        (["dlxcheck", file, "1"], run(["dlx1", "m1"], plain)[1]),
+    )
+
+
+def each_write_fails(shim, folder):
+    """Each write to standard output fails in turn, once: it is told, the status is 3, and none is made after it."""
+    for words, text in each_program(f"{folder}/writes.dlx", 20):
         usual = calls_of(shim, "write", 0, 0, words, text, stdout=subprocess.PIPE)
         tell(usual[:3] == run(words, text) and len(usual[3]) > 20, f"{words[0]}: {len(usual[3])} writes without a failure")
         for n in range(1, len(usual[3]) + 1):
@@ -158,12 +161,9 @@ def each_read_fails(shim, folder):
 
 def one_failed_call(shim, folder):
     """Outputs that fail for good, or only now: one call fails, and none is made after it."""
-    text = b"A B\n" + b"A\n" * 100 + b"B\n" * 100
-    file = f"{folder}/failing.dlx"
-    with open(file, "wb") as it:
-        it.write(text)
-    listing = run(["dlx1", "m1"], text)[1]
-    for words, given, whole in ((["dlx1", "m1"], text, listing), (["dlxcheck", file, "1"], listing, run(["dlxcheck", file, "1"], listing)[1])):
+    for words, given in each_program(f"{folder}/failing.dlx", 100):
+        whole = run(words, given)[1]
+
         def expect_one(what, said):
             status, _, err, calls = said
             wanted = [b"Write failed.\n"] if words[0] == "dlxcheck" else failed_at(whole, calls)
