@@ -106,7 +106,10 @@ def calls_of(shim, name, fail_at, error, words, text, **how):
     with tempfile.TemporaryFile() as told:
         number = told.fileno()
         env = {**os.environ, "LD_PRELOAD": shim, "FAIL": name, "FAIL_AT": str(fail_at), "FAIL_ERROR": str(error), "FAIL_FD": str(number)}
-        done = subprocess.run([path(words[0]), *words[1:]], input=text, stderr=subprocess.PIPE, env=env, pass_fds=[number], timeout=60, **how)
+        with tempfile.TemporaryFile() as given:  # a file, since how many reads a pipe takes goes by chance
+            given.write(text)
+            given.seek(0)
+            done = subprocess.run([path(words[0]), *words[1:]], stdin=given, stderr=subprocess.PIPE, env=env, pass_fds=[number], timeout=60, **how)
         told.seek(0)
         calls = [tuple(map(int, line.split())) for line in told.read().splitlines()]
     return done.returncode, done.stdout, done.stderr, calls
