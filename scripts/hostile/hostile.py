@@ -88,12 +88,17 @@ def want_of_memory(folder):
     refused_in_turn("bounds", shim, ["dlx3", "m1"], BOUNDED)
     refused_in_turn("an ignored option", shim, ["dlx1", "m1"], WITH_IGNORED)
     refused_in_turn("a thousand options", shim, ["dlx2", "m1", "t3"], thousand())
-    for name, words, text in (("colours", ["dlx2", "m1"], COLOURED), ("a thousand options", ["dlx2", "m1", "t3"], thousand())):
+    for name, words, text in (
+        ("colours", ["dlx2", "m1"], COLOURED),
+        ("bounds", ["dlx3", "m1"], BOUNDED),
+        ("an ignored option", ["dlx1", "m1"], WITH_IGNORED),
+        ("a thousand options", ["dlx2", "m1", "t3"], thousand()),
+    ):
         file = f"{folder}/problem.dlx"
         with open(file, "wb") as it:
             it.write(text)
         listing = run(words, text)[1]
-        refused_in_turn(f"the judge on {name}", shim, ["dlxcheck", file, "2"], listing)
+        refused_in_turn(f"the judge on {name}", shim, ["dlxcheck", file, words[0][-1]], listing)
 
 
 # ---- calls that fail
