@@ -7,7 +7,7 @@ from typing import Dict, Iterator, List, Optional, Sequence, Set, Tuple
 from believing.definitions import bound_in, without_labels
 from believing.entries import STRING, Entry, Key, Scope
 
-DECLARATION = r"(pub(\(crate\))? )?(fn|struct|enum|trait|impl|ghost|const|type|use|mod)\b"
+DECLARATION = r"(pub(\(crate\))? )?(extern \"C\" )?(fn|struct|enum|trait|impl|ghost|const|type|use|mod)\b"
 
 
 @dataclass
@@ -56,10 +56,11 @@ def imports(text: str) -> Iterator[Tuple[str, List[str]]]:
 
 
 def exports(top: Path, crate: str) -> Tuple[Set[str], Set[str]]:
-    """The names that a library exports, and the files of its public modules."""
+    """The names that a library exports, to C too, and the files of its public modules."""
     text = (top / "crates" / crate / "src" / "lib.rt").read_text(encoding="utf-8")
     lines = "\n".join(re.findall(r"^pub use [^;]*;", text, re.M))
     names = {name for _, some in imports(lines) for name in some}
+    names.update(re.findall(r"^pub extern \"C\" fn (\w+)", text, re.M))
     return names, {f"crates/{crate}/src/{name}.rt" for name in re.findall(r"^pub mod (\w+);", text, re.M)}
 
 
@@ -182,7 +183,7 @@ class Code:
     def read(self, file: SourceFile) -> None:
         readers = {"fn": self.read_function, "struct": self.read_type, "enum": self.read_type, "trait": self.read_trait}
         for block in cut_blocks(file.lines, ""):
-            found = re.match(r"pub (fn|struct|enum|trait) (\w+)", block.lines[0])
+            found = re.match(r"pub (?:extern \"C\" )?(fn|struct|enum|trait) (\w+)", block.lines[0])
             if found:
                 readers[found[1]](file, block, found[2])
             elif block.lines[0].startswith("impl"):

@@ -88,12 +88,17 @@ def want_of_memory(folder):
     refused_in_turn("bounds", shim, ["dlx3", "m1"], BOUNDED)
     refused_in_turn("an ignored option", shim, ["dlx1", "m1"], WITH_IGNORED)
     refused_in_turn("a thousand options", shim, ["dlx2", "m1", "t3"], thousand())
-    for name, words, text in (("colours", ["dlx2", "m1"], COLOURED), ("a thousand options", ["dlx2", "m1", "t3"], thousand())):
+    for name, words, text in (
+        ("colours", ["dlx2", "m1"], COLOURED),
+        ("bounds", ["dlx3", "m1"], BOUNDED),
+        ("an ignored option", ["dlx1", "m1"], WITH_IGNORED),
+        ("a thousand options", ["dlx2", "m1", "t3"], thousand()),
+    ):
         file = f"{folder}/problem.dlx"
         with open(file, "wb") as it:
             it.write(text)
         listing = run(words, text)[1]
-        refused_in_turn(f"the judge on {name}", shim, ["dlxcheck", file, "2"], listing)
+        refused_in_turn(f"the judge on {name}", shim, ["dlxcheck", file, words[0][-1]], listing)
 
 
 # ---- calls that fail
@@ -106,7 +111,10 @@ def calls_of(shim, name, fail_at, error, words, text, **how):
     with tempfile.TemporaryFile() as told:
         number = told.fileno()
         env = {**os.environ, "LD_PRELOAD": shim, "FAIL": name, "FAIL_AT": str(fail_at), "FAIL_ERROR": str(error), "FAIL_FD": str(number)}
-        done = subprocess.run([path(words[0]), *words[1:]], input=text, stderr=subprocess.PIPE, env=env, pass_fds=[number], timeout=60, **how)
+        with tempfile.TemporaryFile() as given:  # a file, since how many reads a pipe takes goes by chance
+            given.write(text)
+            given.seek(0)
+            done = subprocess.run([path(words[0]), *words[1:]], stdin=given, stderr=subprocess.PIPE, env=env, pass_fds=[number], timeout=60, **how)
         told.seek(0)
         calls = [tuple(map(int, line.split())) for line in told.read().splitlines()]
     return done.returncode, done.stdout, done.stderr, calls
@@ -121,19 +129,22 @@ def failed_at(listing, calls):
     return [b"Write failed at solution " + solutions[-1].rstrip(b":") + b".\n"] + may_flush
 
 
-def each_write_fails(shim, folder):
-    """Each write to standard output fails in turn, once: it is told, the status is 3, and none is made after it."""
-    plain = b"A B\n" + b"A\n" * 20 + b"B\n" * 20
-    file = f"{folder}/writes.dlx"
+def each_program(file, count):
+    """The words and the input of a run of each of the four programs, with many solutions by so many options of two items."""
+    plain = b"A B\n" + b"A\n" * count + b"B\n" * count
     with open(file, "wb") as it:
         it.write(plain)
-    listing = run(["dlx1", "m1"], plain)[1]
-    for words, text in (
+    return (
         (["dlx1", "m1"], plain),
         (["dlx2", "m1"], plain.replace(b"A B\n", b"A B | x\n", 1)),
         (["dlx3", "m1"], plain.replace(b"A B\n", b"1:2|A 1:1|B\n", 1)),
-        (["dlxcheck", file, "1"], listing),
-    ):
+        (["dlxcheck", file, "1"], run(["dlx1", "m1"], plain)[1]),
+    )
+
+
+def each_write_fails(shim, folder):
+    """Each write to standard output fails in turn, once: it is told, the status is 3, and none is made after it."""
+    for words, text in each_program(f"{folder}/writes.dlx", 20):
         usual = calls_of(shim, "write", 0, 0, words, text, stdout=subprocess.PIPE)
         tell(usual[:3] == run(words, text) and len(usual[3]) > 20, f"{words[0]}: {len(usual[3])} writes without a failure")
         for n in range(1, len(usual[3]) + 1):
@@ -158,12 +169,9 @@ def each_read_fails(shim, folder):
 
 def one_failed_call(shim, folder):
     """Outputs that fail for good, or only now: one call fails, and none is made after it."""
-    text = b"A B\n" + b"A\n" * 100 + b"B\n" * 100
-    file = f"{folder}/failing.dlx"
-    with open(file, "wb") as it:
-        it.write(text)
-    listing = run(["dlx1", "m1"], text)[1]
-    for words, given, whole in ((["dlx1", "m1"], text, listing), (["dlxcheck", file, "1"], listing, run(["dlxcheck", file, "1"], listing)[1])):
+    for words, given in each_program(f"{folder}/failing.dlx", 100):
+        whole = run(words, given)[1]
+
         def expect_one(what, said):
             status, _, err, calls = said
             wanted = [b"Write failed.\n"] if words[0] == "dlxcheck" else failed_at(whole, calls)
