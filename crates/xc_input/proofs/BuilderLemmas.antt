@@ -18,7 +18,7 @@ use Rattle.xc_input.specs.inner.Sheets.{names_of, with_uses}
 use Rattle.xc_input.specs.Faults.{first, has_primary}
 use Rattle.xc_input.specs.inner.Stages.{option_checks, row_checks, no_row, context, written, content_checks, with_option, written_by}
 use Rattle.xc_input.specs.Limits.{most_uses, most_items}
-use Rattle.xc_input.specs.inner.Builders.{AreMarks, AreNames, IsBuilder, stage_of_builder, sheet_of_builder, written_of, entry_of}
+use Rattle.xc_input.specs.inner.Builders.{AreMarks, AreDistinct, AreNames, IsBuilder, stage_of_builder, sheet_of_builder, written_of, entry_of}
 use Rattle.xc_input.specs.inner.Stored.{key_names}
 use Rattle.xc_input.specs.inner.Flat.{pieces}
 use Rattle.xc_input.specs.inner.Vectors.{AreOptionStarts}
@@ -92,7 +92,7 @@ module _ (kind : Kind) (d : ProblemBuilder) (line : List ℕ) (s : IsBuilder d) 
 
     module _ (b : Bool) (p : b ≡ has_primary d.primary (map written_of ps)) (e : b ≡ true) (count : ℕ) (d' : ProblemBuilder) (same : (d'.started ≡ d.started) × (d'.names ≡ d.names) × (d'.items ≡ d.items) × (d'.primary ≡ d.primary) × (d'.ignored ≡ d.ignored))
         (uses : d'.uses.items ≡ d.uses.items ++ numbered (key_names d.colours.keys) (map written_of ps)) (colours : key_names d'.colours.keys ≡ with_uses (key_names d.colours.keys) (map written_of ps))
-        (marks : length d'.marks.items ≡ length d'.items.items) (unmarked : AreMarks d'.marks.items []) (few : length (key_names d'.colours.keys) ≤ length d'.uses.items) (starts : d'.starts.items ≡ d.starts.items ++ length d'.uses.items ∷ []) (room : length d.uses.items + length ps ≤ most_uses) where
+        (marks : length d'.marks.items ≡ length d'.items.items) (unmarked : AreMarks d'.marks.items []) (few : length (key_names d'.colours.keys) ≤ length d'.uses.items) (distinct : AreDistinct (key_names d'.colours.keys)) (starts : d'.starts.items ≡ d.starts.items ++ length d'.uses.items ∷ []) (room : length d.uses.items + length ps ≤ most_uses) where
       new-length : length d'.uses.items ≡ length d.uses.items + length ps
       new-length = uses-length d.uses.items d'.uses.items (key_names d.colours.keys) ps uses
 
@@ -114,6 +114,7 @@ module _ (kind : Kind) (d : ProblemBuilder) (line : List ℕ) (s : IsBuilder d) 
           marks = marks;
           unmarked = unmarked;
           few_colours = few;
+          distinct_colours = distinct;
         },
         (λ i. record {
           started = (same.0 ∙ t) i;

@@ -19,7 +19,7 @@ use Rattle.xc_input.specs.Words.{place, after}
 use Rattle.xc_input.specs.inner.Stored.{number_in}
 use Rattle.xc_input.specs.Tokens.{is_space}
 use Rattle.xc_input.specs.Sheets.{Entry}
-use Rattle.xc_input.specs.inner.Builders.{AreNames}
+use Rattle.xc_input.specs.inner.Builders.{AreNames, AreDistinct}
 use Rattle.xc_input.specs.inner.Stored.{key_names}
 use Rattle.xc_input.specs.Faults.{first, name_checks, has_prefix}
 use Rattle.xc_input.specs.inner.Stages.{entry}
@@ -61,21 +61,35 @@ name-solid kind secondary token name low high e h =
     let g : P (has_prefix kind token) = (elim (has_prefix kind token) as P [ true ↦ after-solid 124 token h | false ↦ h ]) in
     ap (λ (x : Entry). list_any is_space x.name) e ∙ g
 
--- a name that was met at a place has no other
-pub known-place : (names : List (List ℕ)) (name : List ℕ) (k : ℕ) → AreNames names → slice_get names k ≡ Some name → place names name ≡ Some k
-known-place names name k all e =
+-- where no two names are the same, a name that was met at a place has no other
+pub distinct-place : (names : List (List ℕ)) (name : List ℕ) (k : ℕ) → AreDistinct names → slice_get names k ≡ Some name → place names name ≡ Some k
+distinct-place names name k distinct e =
     let within : k < length names = slice_get_within names k name e in
     let here : get_or names k name ≡ name = get_or_from_slice_get names k name name e in
-    let earlier : (j : ℕ) → j < k → bytes_eq name (get_or names j name) ≡ false = λ j less. not_false (bytes_eq name (get_or names j name)) (λ same. all.distinct j k name less within (sym ((bytes_eq-Decides name (get_or names j name)).0 same) ∙ sym here)) in
+    let earlier : (j : ℕ) → j < k → bytes_eq name (get_or names j name) ≡ false = λ j less. not_false (bytes_eq name (get_or names j name)) (λ same. distinct j k name less within (sym ((bytes_eq-Decides name (get_or names j name)).0 same) ∙ sym here)) in
     let at : position_or_len (bytes_eq name) names ≡ k = position_or_len_is (bytes_eq name) names k name (omega (arith, within)) earlier (λ w. (bytes_eq-Decides name (get_or names k name)).1 (sym here)) in
     let low : nat_lt (position_or_len (bytes_eq name) names) (length names) ≡ true = grind (arith, nat_tests) in
     ap (λ t. if t then Some (position_or_len (bytes_eq name) names) else None) low ∙ ap Some at
+
+-- no colour comes twice
+pub distinct-more : (old new : List (List ℕ)) (name : List ℕ) → AreDistinct old → place old name ≡ None → new ≡ old ++ name ∷ [] → AreDistinct new
+distinct-more old new name distinct none e = subst AreDistinct (sym e) (all_pairs_push (λ x y. x ≢ y) old name distinct (apart old name none))
+
+-- a name that was met at a place has no other
+pub known-place : (names : List (List ℕ)) (name : List ℕ) (k : ℕ) → AreNames names → slice_get names k ≡ Some name → place names name ≡ Some k
+known-place names name k all e = distinct-place names name k all.distinct e
 
 -- a name that has a place has no white space
 pub stored-solid : (names : List (List ℕ)) (name : List ℕ) (k : ℕ) → AreNames names → place names name ≡ Some k → list_any is_space name ≡ false
 stored-solid names name k all e =
     let found = position-Some (bytes_eq name) names k [] e in
     subst (λ n. list_any is_space n ≡ false) (sym ((bytes_eq-Decides name (get_or names k [])).0 found.1)) (All-get_or (λ n. list_any is_space n ≡ false) names k [] found.0 all.solid)
+
+-- a known key is found at its place
+pub known-distinct : (keys : List (Vec ℕ Global)) (name : List ℕ) (v : Vec ℕ Global) (k : ℕ) → AreDistinct (key_names keys) → slice_get keys k ≡ Some v → v.items ≡ name
+    → place (key_names keys) name ≡ Some k
+known-distinct keys name v k distinct e same =
+    distinct-place (key_names keys) name k distinct (slice_get-map-some (λ (x : Vec ℕ Global). x.items) keys k v (sym e) ∙ ap Some same)
 
 -- a known name at the front of a text has its place
 pub known-front : (keys : List (Vec ℕ Global)) (text front back : List ℕ) (v : Vec ℕ Global) (k n : ℕ) → AreNames (key_names keys) → slice_get keys k ≡ Some v → n ≡ length v.items → text ≡ front ++ back → front ≡ v.items

@@ -7,7 +7,8 @@ ghost use Rattle.xc_input.specs.Faults.{first, has_primary};
 ghost use Rattle.xc_input.specs.inner.Stages.{row_checks, no_row, row_of, written, line_checks, content_checks, with_line, with_option, written_by, no_stage, with_row};
 ghost use Rattle.xc_input.specs.Limits.{most_uses};
 ghost use Rattle.xc_input.specs.Tokens.{parts};
-ghost use Rattle.xc_input.specs.inner.Builders.{Judged, IsBuilder, IsItemTable, AreMarks, AreTablesFor, row_of_line, stage_of_builder, sheet_of_builder, written_of};
+ghost use Rattle.xc_input.specs.Words.{place};
+ghost use Rattle.xc_input.specs.inner.Builders.{Judged, AreDistinct, IsBuilder, IsItemTable, AreMarks, AreTablesFor, row_of_line, stage_of_builder, sheet_of_builder, written_of};
 ghost use Rattle.xc_input.specs.inner.Stored.{key_names};
 ghost use Rattle.xc_input.specs.inner.ColourNumbers.{numbered};
 
@@ -33,15 +34,18 @@ pub struct ProblemBuilder {
     pub primary: u32,
     pub marks: Vec<bool>,
     pub colours: NameSet,
+    pub colour_guesses: Guesses,
     pub uses: Vec<Use>,
     pub starts: Vec<u32>,
     pub ignored: Vec<u64>,
 }
 
-/// What is kept beside the items to read options: guesses of their names, a mark for each, and where options start.
+/// What is kept beside the items to read options: guesses of names and of colours, a mark for each item, and where
+/// options start.
 #[derive(Drop)]
 pub struct Tables {
     pub guesses: Guesses,
+    pub colour_guesses: Guesses,
     pub marks: Vec<bool>,
     pub starts: Vec<u32>,
 }
@@ -52,10 +56,12 @@ impl Tables {
         ensures { IfOk result (λ t. AreTablesFor row.now t) }
     {
         let guesses = Guesses::new(alloc, &row.names)?;
+        let colour_guesses = Guesses::later(alloc)?;
         let marks = no_marks(alloc, row.items.len())?;
         let starts = vec![in alloc; 0]?;
         Ok(Tables {
             guesses,
+            colour_guesses,
             marks,
             starts,
         })
@@ -76,6 +82,7 @@ impl ProblemBuilder {
             primary: 0,
             marks: Vec::new(alloc),
             colours: no_names(alloc, seed),
+            colour_guesses: Guesses::none(alloc),
             uses: Vec::new(alloc),
             starts: Vec::new(alloc),
             ignored: Vec::new(alloc),
@@ -132,12 +139,14 @@ impl ProblemBuilder {
         let ItemLine { names, items, bar } = row;
         let Tables {
             guesses,
+            colour_guesses,
             marks,
             starts,
         } = tables;
         self.primary = bar.unwrap_or(items.len() as u32);
         self.names = names;
         self.guesses = guesses;
+        self.colour_guesses = colour_guesses;
         self.items = items;
         self.marks = marks;
         self.starts = starts;
@@ -173,7 +182,13 @@ impl ProblemBuilder {
         if uses.len() > MOST_USES - self.uses.len() {
             return Err(LineError::Fault(FaultKind::TooManyUses));
         }
-        add_uses(alloc, &mut self.colours, &mut self.uses, uses.as_slice())?;
+        add_uses(
+            alloc,
+            &mut self.colours,
+            &mut self.colour_guesses,
+            &mut self.uses,
+            uses.as_slice(),
+        )?;
         self.starts.push(self.uses.len() as u32)?;
         Ok(())
     }
@@ -194,17 +209,40 @@ fn has_primary_use(written: &[WrittenUse], primary: u32) -> bool
     written.iter().any(|u| u.item <= primary)
 }
 
+/// The place of a colour, which is mostly guessed.
+fn known_colour(colours: &NameSet, guesses: &mut Guesses, colour: &[u8]) -> Option<usize>
+    requires { AreDistinct (key_names colours.now.keys) }
+    ensures { result ≡ place (key_names colours.now.keys) colour.now }
+{
+    let (at, _) = guesses.guess(colour);
+    if let Some(known) = colours.get_index(at) {
+        if known.as_slice() == colour {
+            return Some(at);
+        }
+    }
+    let place = place_of(colours, colour)?;
+    guesses.learn(colour, place);
+    Some(place)
+}
+
 /// The number of a colour, which is a new one where it wasn't met yet.
-fn number_colour(alloc: Global, colours: &mut NameSet, colour: &[u8]) -> Result<u32, LineError>
-    requires { length (key_names colours.old.keys) < most_uses }
+fn number_colour(
+    alloc: Global,
+    colours: &mut NameSet,
+    guesses: &mut Guesses,
+    colour: &[u8],
+) -> Result<u32, LineError>
+    requires few { length (key_names colours.old.keys) < most_uses }
+    requires distinct { AreDistinct (key_names colours.old.keys) }
     ensures judged { Judged None result }
     ensures colours { OnOk result (key_names colours.new.keys ≡ with_colour (key_names colours.old.keys) colour.now) }
+    ensures distinct { OnOk result (AreDistinct (key_names colours.new.keys)) }
     ensures number { IfOk result (λ n. n ≡ colour_number (key_names colours.new.keys) colour.now) }
 {
     if colour.is_empty() {
         return Ok(0);
     }
-    if let Some(place) = place_of(colours, colour) {
+    if let Some(place) = known_colour(colours, guesses, colour) {
         return Ok(place as u32 + 1);
     }
     let place = add_name(alloc, colours, colour)?;
@@ -215,19 +253,22 @@ fn number_colour(alloc: Global, colours: &mut NameSet, colour: &[u8]) -> Result<
 fn add_uses(
     alloc: Global,
     colours: &mut NameSet,
+    guesses: &mut Guesses,
     uses: &mut Vec<Use>,
     written: &[WrittenUse],
 ) -> Result<(), LineError>
     requires room { length uses.old.items + length written.now ≤ most_uses }
     requires few { length (key_names colours.old.keys) ≤ length uses.old.items }
+    requires distinct { AreDistinct (key_names colours.old.keys) }
     ensures judged { Judged None result }
     ensures uses { OnOk result (uses.new.items ≡ uses.old.items ++ numbered (key_names colours.old.keys) (map written_of written.now)) }
     ensures colours { OnOk result (key_names colours.new.keys ≡ with_uses (key_names colours.old.keys) (map written_of written.now)) }
     ensures few { OnOk result (length (key_names colours.new.keys) ≤ length uses.new.items) }
+    ensures distinct { OnOk result (AreDistinct (key_names colours.new.keys)) }
 {
     for u in written {
         let item = u.item;
-        let colour = number_colour(alloc, colours, u.colour)?;
+        let colour = number_colour(alloc, colours, guesses, u.colour)?;
         uses.push(Use { item, colour })?;
     }
     Ok(())

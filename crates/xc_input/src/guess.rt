@@ -5,7 +5,7 @@
 
 ghost use Rattle.std.specs.Prelude.{◌≤◌};
 
-use crate::limits::MOST_ITEMS;
+use crate::limits::{MOST_ITEMS, MOST_USES};
 use crate::names::NameSet;
 use std::alloc::{AllocError, Global};
 
@@ -36,6 +36,20 @@ impl Guesses {
             }
         }
         Ok(Guesses { places })
+    }
+
+    /// For names that are still to be met.
+    pub fn later(alloc: Global) -> Result<Guesses, AllocError> {
+        let places = vec![in alloc; 0; 4096]?;
+        Ok(Guesses { places })
+    }
+
+    /// Guesses this place for the name from now on.
+    pub fn learn(&mut self, name: &[u8], place: usize) {
+        let number = number(word(name).0, self.places.len());
+        if let Some(known) = self.places.get_mut(number) {
+            *known = place.min(MOST_USES) as u32;
+        }
     }
 
     /// The place and the length of the name that a text may begin with.

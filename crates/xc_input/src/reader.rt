@@ -138,6 +138,7 @@ impl Reader {
             primary,
             marks: _,
             colours,
+            colour_guesses: _,
             uses,
             starts,
             ignored,

@@ -35,6 +35,10 @@ entry_of item = record { name = item.name.items; low = item.low; high = item.hig
 abbrev pub row_of_line : ItemLine → Row
 row_of_line i = record { entries = map entry_of i.items.items; bar = i.bar }
 
+-- no two of them are the same
+abbrev pub AreDistinct : List (List ℕ) → Type 0
+AreDistinct names = AllPairs (λ x y. x ≢ y) names
+
 -- names without white space, no two of which are the same
 pub record AreNames (names : List (List ℕ)) : Type 0 where
   pub named : All IsName names
@@ -87,6 +91,7 @@ pub record IsBuilder (d : ProblemBuilder) : Type 0 where
   pub marks : length d.marks.items ≡ length d.items.items
   pub unmarked : AreMarks d.marks.items []
   pub few_colours : length (key_names d.colours.keys) ≤ length d.uses.items
+  pub distinct_colours : AreDistinct (key_names d.colours.keys)
 
 -- what is kept beside these items before any option
 pub record AreTablesFor (row : ItemLine) (t : Tables) : Type 0 where

@@ -75,6 +75,7 @@ returns-clause-taken c =
     (ap length back ∙ same ∙ c.requires.sound.marks)
     (subst (λ ms. AreMarks ms []) (sym back) c.in_ok-uses.ensures.unmarked)
     c.in_ok-add_uses.ensures.few
+    c.in_ok-add_uses.ensures.distinct
     (pushed c.push-2.result c.args.self.now.starts.items c.push-2.new.self.items c.len-3.result (ap is_ok c.in_ok-push-2.was) c.push-2.ensures.items
     ∙ ap (λ n. c.args.self.now.starts.items ++ n ∷ []) (c.len-3.ensures ∙ items-length c.add_uses.new.uses))
     room
