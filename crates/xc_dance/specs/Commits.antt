@@ -39,10 +39,9 @@ pub record CanStand (p : Puzzle) (room : ℕ) (t : List Move) : Type 0 where
 
 -- the number of the option that a node is of
 abbrev pub number_of : Node → ℕ
-number_of unused = 0
-number_of (own i) = 0
 number_of (spacer n) = n
 number_of (used n u) = n
+number_of _ = 0
 
 -- the option whose node stands at place q of item i's list; none at the item's own node
 abbrev pub option_at : Puzzle → ℕ → ℕ → Option ℕ
