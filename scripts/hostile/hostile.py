@@ -67,7 +67,7 @@ def is_out_of_memory(said, usual):
 
 
 def refused_in_turn(what, shim, words, text):
-    """Refuses each growth in turn, until there is none to refuse."""
+    """Refuses each growth in turn, until there is none to refuse. Where memory is wanting nothing more is read."""
     usual = run(words, text)
     n, was_refused = 0, True
     while was_refused:
@@ -76,8 +76,12 @@ def refused_in_turn(what, shim, words, text):
             number = told.fileno()
             env = {**os.environ, "LD_PRELOAD": shim, "REFUSE": str(n), "REFUSE_FD": str(number)}
             said = run(words, text, env=env, pass_fds=[number])
-            was_refused = os.fstat(number).st_size > 0
+            told.seek(0)
+            calls = told.read()
+            was_refused = calls != b""
         tell(said == usual or is_out_of_memory(said, usual), f"{what}, growth {n} refused: {said[0]}, {said[1][:80]!r}, {said[2][:80]!r}")
+        if said != usual:
+            tell(calls == b"m", f"{what}, growth {n} refused: {calls.count(b'r')} reads behind it")
     tell(said == usual and n > 3, f"{what}: the run without a refusal, number {n}, differs")
 
 
