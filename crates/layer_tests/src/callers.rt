@@ -129,7 +129,8 @@ fn options_of_an_item(rt: HostRuntime) -> Result<(), Fail> {
     let mut links = Links::for_search(rt.alloc(), &problem)?;
     let cover = Move::Cover(1);
     assert!(rt; problem.items() == 7 && lists(&links, 4, &[2, 4, 6]));
-    assert!(rt; links.can(&cover) && links.apply(cover).is_ok());
+    assert!(rt; links.can(&cover));
+    links.apply(cover)?;
     assert!(rt; lists(&links, 4, &[6]) && lists(&links, 1, &[2, 4]));
     Ok(())
 }
