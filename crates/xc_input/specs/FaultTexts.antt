@@ -1,24 +1,22 @@
 -- The faults in words.
-use Rattle.std.specs.Prelude.{ℕ, List, codes}
+use Rattle.std.specs.Prelude.{ℕ, List, [], ◌∷◌, codes, flat_map, if◌then◌else◌}
+use denote.Enum.Bare.{sameb}
+use Rattle.xc_input.specs.contracts.fault.FaultKind.{the_type}
 use Rattle.xc_input.specs.declared.fault.FaultKind.{FaultKind}
 use Rattle.xc_input.specs.declared.fault.FaultKind.TheVariants.{NoItems, NulByte, EmptyName, NameTooLong, BadByteInName, RepeatedName, TwoBars, BadBound, BoundOrder, BoundOnSecondary, UnknownItem, RepeatedInOption, ColourOnPrimary, BadColour, ColourNotHere, TooManyItems, TooManyUses}
 
--- a fault in words
+-- the words of each fault
+abbrev pub fault_words : List (FaultKind × List ℕ)
+fault_words =
+    (NoItems, codes "no items") ∷ (NulByte, codes "NUL byte") ∷ (EmptyName, codes "empty name") ∷
+    (NameTooLong, codes "name too long") ∷ (BadByteInName, codes "bad byte in name") ∷
+    (RepeatedName, codes "name repeated") ∷ (TwoBars, codes "second bar") ∷ (BadBound, codes "bad bound") ∷
+    (BoundOrder, codes "bound order") ∷ (BoundOnSecondary, codes "bound on a secondary item") ∷
+    (UnknownItem, codes "unknown item") ∷ (RepeatedInOption, codes "item repeated in option") ∷
+    (ColourOnPrimary, codes "colour on a primary item") ∷ (BadColour, codes "bad colour") ∷
+    (ColourNotHere, codes "colour not allowed here") ∷ (TooManyItems, codes "too many items") ∷
+    (TooManyUses, codes "too many uses") ∷ []
+
+-- a fault in words: those of its row (`sameb` says whether two faults are the same)
 abbrev pub fault_text : FaultKind → List ℕ
-fault_text NoItems = codes "no items"
-fault_text NulByte = codes "NUL byte"
-fault_text EmptyName = codes "empty name"
-fault_text NameTooLong = codes "name too long"
-fault_text BadByteInName = codes "bad byte in name"
-fault_text RepeatedName = codes "name repeated"
-fault_text TwoBars = codes "second bar"
-fault_text BadBound = codes "bad bound"
-fault_text BoundOrder = codes "bound order"
-fault_text BoundOnSecondary = codes "bound on a secondary item"
-fault_text UnknownItem = codes "unknown item"
-fault_text RepeatedInOption = codes "item repeated in option"
-fault_text ColourOnPrimary = codes "colour on a primary item"
-fault_text BadColour = codes "bad colour"
-fault_text ColourNotHere = codes "colour not allowed here"
-fault_text TooManyItems = codes "too many items"
-fault_text TooManyUses = codes "too many uses"
+fault_text fault = flat_map (λ row. if sameb the_type fault row.0 then row.1 else []) fault_words

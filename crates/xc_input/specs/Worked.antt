@@ -17,7 +17,8 @@ use_of i c = record { item = i; colour = c }
 -- a final line feed begins no further line
 abbrev pub Cuts : Type 0
 Cuts =
-    (lines_of [] ≡ []) × (lines_of (10 ∷ []) ≡ [] ∷ []) × (lines_of (codes "A") ≡ codes "A" ∷ []) × (lines_of (codes "A" ++ 10 ∷ []) ≡ codes "A" ∷ [])
+    (lines_of [] ≡ []) × (lines_of (10 ∷ []) ≡ [] ∷ []) × (lines_of (codes "A") ≡ codes "A" ∷ [])
+    × (lines_of (codes "A" ++ 10 ∷ []) ≡ codes "A" ∷ [])
     × (lines_of (codes "A" ++ 10 ∷ 10 ∷ codes "B") ≡ codes "A" ∷ [] ∷ codes "B" ∷ [])
 
 -- one line has this first fault
@@ -33,9 +34,12 @@ abbrev pub ItemLines : Type 0
 ItemLines =
     (first_fault Plain [] ≡ Some (1, NoItems)) × (first_fault Plain (codes "| hi" ∷ []) ≡ Some (2, NoItems))
     × Faulty Bounds (codes "B|x A") BadBound × Faulty Plain (codes "B|x A") BadByteInName
-    × Faulty Bounds (codes "9999999999|a") BadBound × Faulty Bounds (codes "2:1|A") BoundOrder × Faulty Bounds (codes "0|A") BoundOrder
-    × Faulty Bounds (codes "A |1|x") BoundOnSecondary × Faulty Bounds (codes "A |0|x") BoundOrder × Faulty Bounds (codes "2|") EmptyName
-    × Faulty Bounds (codes "1|2|A") BadByteInName × Faulty Bounds (codes "A:b") BadByteInName × Faulty Bounds (codes "A||x") BadBound
+    × Faulty Bounds (codes "9999999999|a") BadBound × Faulty Bounds (codes "2:1|A") BoundOrder
+    × Faulty Bounds (codes "0|A") BoundOrder
+    × Faulty Bounds (codes "A |1|x") BoundOnSecondary × Faulty Bounds (codes "A |0|x") BoundOrder
+    × Faulty Bounds (codes "2|") EmptyName
+    × Faulty Bounds (codes "1|2|A") BadByteInName × Faulty Bounds (codes "A:b") BadByteInName
+    × Faulty Bounds (codes "A||x") BadBound
     × Faulty Plain (codes "A A") RepeatedName × Faulty Plain (codes "A | | x") TwoBars
     × Faulty Plain (codes "123456789012345678901234567890123") NameTooLong
 
@@ -43,15 +47,20 @@ ItemLines =
 abbrev pub OptionLines : Type 0
 OptionLines =
     Faulty2 Plain (codes "A B") (codes "A B A") RepeatedInOption × Faulty2 Plain (codes "A") (codes "B") UnknownItem
-    × Faulty2 Plain (codes "A | x") (codes "A x:1") ColourNotHere × Faulty2 Plain (codes "A | x") (codes "x x") RepeatedInOption
-    × Faulty2 Colours (codes "A | x") (codes "A:1") ColourOnPrimary × Faulty2 Colours (codes "A | x") (codes "A x:") BadColour
-    × Faulty2 Colours (codes "A | x") (codes "A x:123456789") BadColour × Faulty2 Colours (codes "A | x") (codes "A A:1") RepeatedInOption
-    × Faulty2 Colours (codes "A") (codes ":") EmptyName × Faulty2 Plain (codes "A B") (codes "A ABCDEFGHIJ Q A") UnknownItem
+    × Faulty2 Plain (codes "A | x") (codes "A x:1") ColourNotHere
+    × Faulty2 Plain (codes "A | x") (codes "x x") RepeatedInOption
+    × Faulty2 Colours (codes "A | x") (codes "A:1") ColourOnPrimary
+    × Faulty2 Colours (codes "A | x") (codes "A x:") BadColour
+    × Faulty2 Colours (codes "A | x") (codes "A x:123456789") BadColour
+    × Faulty2 Colours (codes "A | x") (codes "A A:1") RepeatedInOption
+    × Faulty2 Colours (codes "A") (codes ":") EmptyName
+    × Faulty2 Plain (codes "A B") (codes "A ABCDEFGHIJ Q A") UnknownItem
     × Faulty2 Plain (codes "A B") (codes "A A " ++ 0 ∷ []) NulByte
 
 -- comments, blank lines and carriage returns, and an option that is ignored
 abbrev pub commented : List (List ℕ)
-commented = (codes "| test" ++ 13 ∷ []) ∷ (13 ∷ []) ∷ (codes "A | x" ++ 13 ∷ []) ∷ (codes "x" ++ 13 ∷ []) ∷ codes "A x" ∷ []
+commented =
+    (codes "| test" ++ 13 ∷ []) ∷ (13 ∷ []) ∷ (codes "A | x" ++ 13 ∷ []) ∷ (codes "x" ++ 13 ∷ []) ∷ codes "A x" ∷ []
 
 -- two options give x the same colour, and one between them another
 abbrev pub coloured : List (List ℕ)
