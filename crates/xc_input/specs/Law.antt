@@ -1,22 +1,15 @@
 -- Each list of lines has a first fault or stands for one problem.
 -- What stands for one stands for it as each kind that allows more.
-use Rattle.std.specs.Prelude.{◌≡◌, ℕ, List, None}
+use Rattle.std.specs.Prelude.{◌≡◌, ◌↔◌, ℕ, List, None}
 use Rattle.xc_input.specs.declared.kind.Kind.{Kind}
 use Rattle.xc_input.specs.Named.{Named}
 use Rattle.xc_input.specs.FirstFault.{first_fault}
 use Rattle.xc_input.specs.Text.{StandsFor}
 
--- lines without a fault stand for a problem
+-- lines have no fault exactly where they stand for a problem
 abbrev pub FaultlessStand : Type 0
-FaultlessStand =
-    (kind : Kind) (lines : List (List ℕ)) → first_fault kind lines ≡ None
-    → (named : Named) × (ignored : List ℕ) × StandsFor kind lines named ignored
-
--- lines that stand for a problem have no fault
-abbrev pub StandingAreFaultless : Type 0
-StandingAreFaultless =
-    (kind : Kind) (lines : List (List ℕ)) (named : Named) (ignored : List ℕ) → StandsFor kind lines named ignored
-    → first_fault kind lines ≡ None
+FaultlessStand = (kind : Kind) (lines : List (List ℕ)) → (first_fault kind lines ≡ None)
+    ↔ ((named : Named) × (ignored : List ℕ) × StandsFor kind lines named ignored)
 
 -- and they stand for no other
 abbrev pub StandForOne : Type 0

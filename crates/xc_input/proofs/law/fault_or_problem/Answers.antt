@@ -5,14 +5,14 @@ use Rattle.xc_input.proofs.FirstFaults.{faultless-stands, stands-only}
 use Rattle.xc_input.proofs.law.fault_or_problem.Goals as goal
 
 pub returns-clause-stands : goal.returns-clause-stands
-returns-clause-stands c = λ kind lines none. (
-  named_of (stage_of kind lines).sheet,
-  (stage_of kind lines).ignored,
-  faultless-stands kind lines none,
+returns-clause-stands c = λ kind lines. (
+  λ none. (
+    named_of (stage_of kind lines).sheet,
+    (stage_of kind lines).ignored,
+    faultless-stands kind lines none,
+  ),
+  λ s. (stands-only kind lines s.0 s.1 s.2).0,
 )
-
-pub returns-clause-faultless : goal.returns-clause-faultless
-returns-clause-faultless c = λ kind lines named ignored s. (stands-only kind lines named ignored s).0
 
 pub returns-clause-one : goal.returns-clause-one
 returns-clause-one c = λ kind lines a b is js s t.
