@@ -3,7 +3,7 @@ use crate::told::{solved, status_by};
 use crate::words::gathered;
 use fixtures::{SEVEN, has_option, read};
 use std::test::Fail;
-use xc_input::{Feed, Kind, ReadFailed, Reader, Seed, Source, read_problem};
+use xc_input::{Kind, ReadFailed, Reader, Seed, Seeded, SliceSource, Source, read_problem};
 use xc_list::Tray;
 use xc_tools::{Incoming, solve};
 
@@ -35,22 +35,17 @@ fn names_of_one_hash(rt: HostRuntime) {
     }
 }
 
-/// A source whose names are hashed by a seed of its own.
+/// A source around another, which passes its calls on and forgets its seed.
 #[derive(Drop)]
-struct Seeded<'a> {
-    feed: Feed<'a>,
-    seed: Seed,
+struct Around<'a> {
+    source: SliceSource<'a>,
 }
 
-impl<'a> Source for Seeded<'a> {
-    ghost state = { λ s. ⟦<Feed<'a> as Source>⟧.state s.feed };
+impl<'a> Source for Around<'a> {
+    ghost state = { λ s. ⟦<SliceSource<'a> as Source>⟧.state s.source };
 
     fn read(&mut self, buf: &mut [u8]) -> Result<usize, ReadFailed> {
-        self.feed.read(buf)
-    }
-
-    fn seed(&self) -> Seed {
-        self.seed
+        self.source.read(buf)
     }
 }
 
@@ -60,9 +55,11 @@ fn each_seed_reads_the_same(rt: HostRuntime) {
     let other = Seed::new(0x0123_4567_89ab_cdef_fedc_ba98_7654_3210);
     assert!(rt; other != Seed::FIXED);
     for seed in [Seed::FIXED, other, Seed::new(0)] {
-        let feed = Feed::new(text, 65536, None);
-        assert!(rt; feed.seed() == Seed::FIXED);
-        let mut source = Seeded { feed, seed };
+        let source = SliceSource::with_seed(text, Seed::new(9));
+        let around = Around { source };
+        assert!(rt; around.seed() == Seed::FIXED);
+        let mut source = Seeded::new(around, seed);
+        assert!(rt; source.seed() == seed);
         let Ok(read) = read_problem(rt.alloc(), Kind::Colours, &mut source) else {
             return assert!(rt; false);
         };
@@ -71,6 +68,7 @@ fn each_seed_reads_the_same(rt: HostRuntime) {
         assert!(rt; problem.find(b"y") == Some(4) && problem.find_colour(b"green") == Some(2));
         assert!(rt; has_option(problem, 1, &[(1, 0), (3, 1)]));
         assert!(rt; has_option(problem, 2, &[(2, 0), (4, 2), (3, 1)]));
+        assert!(rt; source.into_source().read(&mut [0; 10]) == Ok(0));
     }
 }
 
