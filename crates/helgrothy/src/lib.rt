@@ -42,8 +42,8 @@ mod examples;
 
 pub use xc_dance::{Count, Dance, Full, Links, Listed, Lists, Memory, Move, list_of};
 pub use xc_input::{
-    Bounds, FaultKind, Feed, InputError, Item, Kind, Options, Problem, Read, ReadFailed, Reader,
-    Seed, Seeded, SliceSource, Source, Use, read_problem,
+    Bounds, FaultKind, FaultyToken, Feed, InputError, Item, Kind, Options, Problem, Read,
+    ReadFailed, Reader, Seed, Seeded, SliceSource, Source, Use, faulty_token, read_problem,
 };
 pub use xc_list::{
     End, ListingFault, Sink, SinkFault, Tray, VecSink, Verdict, WordFault, Words, WriteFailed,

@@ -1,7 +1,7 @@
-//! Each fault of a line, and its words.
+//! Each fault of a line, its words, and the token at fault.
 use fixtures::read;
 use std::alloc::Global;
-use xc_input::{FaultKind, InputError, Kind, Read, Reader};
+use xc_input::{FaultKind, FaultyToken, InputError, Kind, Read, Reader, Seed, faulty_token};
 
 /// The fault of an answer, or None.
 pub fn fault_of(answer: &Result<Read, InputError>) -> Option<(u64, FaultKind)> {
@@ -102,6 +102,182 @@ fn faults_of_option_lines(rt: HostRuntime) {
     ];
     for (kind, text, line, fault) in &rows {
         assert!(rt; has_fault(rt.alloc(), *kind, text, *line, *fault));
+    }
+}
+
+/// Whether this is the token of a line that is at fault.
+fn is_at_fault(
+    alloc: Global,
+    kind: Kind,
+    items: Option<&[u8]>,
+    line: &[u8],
+    wanted: FaultyToken,
+) -> bool {
+    let answer = faulty_token(alloc, Seed::FIXED, kind, items, line);
+    answer.is_ok_and(|found| found == Some(wanted))
+}
+
+/// A line in three pieces: what stands before the token at fault, the token, and what stands behind it.
+type Cut = [&'static [u8]; 3];
+
+#[test]
+fn tokens_at_fault_in_item_lines(rt: HostRuntime) {
+    let rows: [(Kind, &[u8], Cut, FaultKind); 9] = [
+        (
+            Kind::Plain,
+            b"A A B A",
+            [b"A ", b"A", b" B A"],
+            FaultKind::RepeatedName,
+        ),
+        (
+            Kind::Plain,
+            b" A || x",
+            [b" A |", b"|", b" x"],
+            FaultKind::TwoBars,
+        ),
+        (
+            Kind::Bounds,
+            b"A B|x C",
+            [b"A ", b"B|x", b" C"],
+            FaultKind::BadBound,
+        ),
+        (
+            Kind::Plain,
+            b"A B|x\t",
+            [b"A ", b"B|x", b"\t"],
+            FaultKind::BadByteInName,
+        ),
+        (
+            Kind::Bounds,
+            b"2:1|A",
+            [b"", b"2:1|A", b""],
+            FaultKind::BoundOrder,
+        ),
+        (
+            Kind::Bounds,
+            b"A |1|x y",
+            [b"A |", b"1|x", b" y"],
+            FaultKind::BoundOnSecondary,
+        ),
+        (
+            Kind::Bounds,
+            b"A 2| B",
+            [b"A ", b"2|", b" B"],
+            FaultKind::EmptyName,
+        ),
+        (
+            Kind::Plain,
+            b"A 123456789012345678901234567890123",
+            [b"A ", b"123456789012345678901234567890123", b""],
+            FaultKind::NameTooLong,
+        ),
+        (
+            Kind::Colours,
+            b"A | x:1",
+            [b"A | ", b"x:1", b""],
+            FaultKind::BadByteInName,
+        ),
+    ];
+    for (kind, line, cut, fault) in &rows {
+        let wanted = FaultyToken {
+            before: cut[0],
+            token: cut[1],
+            behind: cut[2],
+            kind: *fault,
+        };
+        assert!(rt; is_at_fault(rt.alloc(), *kind, None, line, wanted));
+    }
+}
+
+#[test]
+fn tokens_at_fault_in_option_lines(rt: HostRuntime) {
+    let rows: [(Kind, &[u8], Cut, FaultKind); 10] = [
+        (
+            Kind::Plain,
+            b"A B A C",
+            [b"A B ", b"A", b" C"],
+            FaultKind::RepeatedInOption,
+        ),
+        (
+            Kind::Plain,
+            b"A AB B",
+            [b"A ", b"AB", b" B"],
+            FaultKind::UnknownItem,
+        ),
+        (
+            Kind::Plain,
+            b"A x:1",
+            [b"A ", b"x:1", b""],
+            FaultKind::ColourNotHere,
+        ),
+        (
+            Kind::Colours,
+            b"x:1 A:1 B",
+            [b"x:1 ", b"A:1", b" B"],
+            FaultKind::ColourOnPrimary,
+        ),
+        (
+            Kind::Colours,
+            b"A x: ",
+            [b"A ", b"x:", b" "],
+            FaultKind::BadColour,
+        ),
+        (
+            Kind::Colours,
+            b"x:1 x:1",
+            [b"x:1 ", b"x:1", b""],
+            FaultKind::RepeatedInOption,
+        ),
+        (
+            Kind::Colours,
+            b"A x:123456789",
+            [b"A ", b"x:123456789", b""],
+            FaultKind::BadColour,
+        ),
+        (
+            Kind::Bounds,
+            b":A A",
+            [b"", b":A", b" A"],
+            FaultKind::EmptyName,
+        ),
+        (
+            Kind::Plain,
+            b"\tA |B",
+            [b"\tA ", b"|B", b""],
+            FaultKind::BadByteInName,
+        ),
+        (
+            Kind::Plain,
+            b"123456789012345678901234567890123",
+            [b"", b"123456789012345678901234567890123", b""],
+            FaultKind::NameTooLong,
+        ),
+    ];
+    for (kind, line, cut, fault) in &rows {
+        let wanted = FaultyToken {
+            before: cut[0],
+            token: cut[1],
+            behind: cut[2],
+            kind: *fault,
+        };
+        assert!(rt; is_at_fault(rt.alloc(), *kind, Some(b"A B C | x"), line, wanted));
+    }
+}
+
+#[test]
+fn no_token_at_fault(rt: HostRuntime) {
+    let rows: [(Option<&[u8]>, &[u8]); 7] = [
+        (None, b"A B | x"),
+        (None, b"| A A"),
+        (None, b"A A \0"),
+        (Some(b"A B"), b"B A"),
+        (Some(b"A B"), b"A A \0"),
+        (Some(b"A B"), b" "),
+        (Some(b"A A"), b"B"),
+    ];
+    for (items, line) in &rows {
+        let answer = faulty_token(rt.alloc(), Seed::FIXED, Kind::Plain, *items, line);
+        assert!(rt; answer.is_ok_and(|found| found.is_none()));
     }
 }
 

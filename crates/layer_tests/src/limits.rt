@@ -3,7 +3,7 @@ use crate::faults::fault_of;
 use fixtures::read;
 use std::alloc::Global;
 use std::test::Fail;
-use xc_input::{FaultKind, Feed, InputError, Kind, Reader, read_problem};
+use xc_input::{FaultKind, Feed, InputError, Kind, Reader, Seed, faulty_token, read_problem};
 
 #[test]
 fn no_more_items(rt: HostRuntime) {
@@ -28,6 +28,12 @@ fn no_more_items(rt: HostRuntime) {
         &mut Feed::new(line.as_bytes(), 1000, None),
     );
     assert!(rt; fault_of(&answer) == Some((1, FaultKind::TooManyItems)));
+    let found = faulty_token(rt.alloc(), Seed::FIXED, Kind::Plain, None, line.as_bytes());
+    assert!(rt;
+        found.is_ok_and(|found| {
+            found.is_some_and(|t| t.token == b"A".as_slice() && t.kind == FaultKind::TooManyItems)
+        })
+    );
 }
 
 #[test]

@@ -54,7 +54,7 @@ unroll kind before line lines = first-numbered (line_number (length before + 1))
     (checks_of kind (content before) line) (checks_of_each (line_checks kind) (before ++ line ∷ []) lines)
 
 -- AN OPTION LINE
-tokens-checked : (c : Context) (before ts : List (List ℕ)) → tokens_checks c (map (item_of c) before) ts
+pub tokens-checked : (c : Context) (before ts : List (List ℕ)) → tokens_checks c (map (item_of c) before) ts
     ≡ checks_of_each (token_checks c) before ts
 tokens-checked c before [] = refl
 tokens-checked c before (t ∷ ts) =
@@ -69,7 +69,7 @@ kept-is kind names primaries (t ∷ ts) = ap (λ b. nat_le (item_of (context kin
     (kept-is kind names primaries ts)
 
 -- THE ITEM LINE
-names-snoc : (kind : Kind) (before : List (List ℕ)) (p : List ℕ) (t : Bool) → is_bar p ≡ t
+pub names-snoc : (kind : Kind) (before : List (List ℕ)) (p : List ℕ) (t : Bool) → is_bar p ≡ t
     → item_names kind (before ++ p ∷ []) ≡ item_names kind before ++ (if t then [] else name_of kind p ∷ [])
 names-snoc kind before p t f =
     ap (map (name_of kind)) (filter-append (λ q. not (is_bar q)) before (p ∷ []))
@@ -80,7 +80,7 @@ names-snoc kind before p t f =
     one true = refl
     one false = refl
 
-barred-snoc : (before : List (List ℕ)) (p : List ℕ) (t : Bool) → is_bar p ≡ t
+pub barred-snoc : (before : List (List ℕ)) (p : List ℕ) (t : Bool) → is_bar p ≡ t
     → list_any is_bar (before ++ p ∷ []) ≡ (list_any is_bar before || t)
 barred-snoc before p t f = list_any-append is_bar before (p ∷ []) ∙ ap (λ b. list_any is_bar before || (b || false)) f
     ∙ ap (λ b. list_any is_bar before || b) (same t)
@@ -89,15 +89,15 @@ barred-snoc before p t f = list_any-append is_bar before (p ∷ []) ∙ ap (λ b
     same true = refl
     same false = refl
 
-or-true : (b : Bool) → true ≡ (b || true)
+pub or-true : (b : Bool) → true ≡ (b || true)
 or-true true = refl
 or-true false = refl
 
-or-same : (b : Bool) → b ≡ (b || false)
+pub or-same : (b : Bool) → b ≡ (b || false)
 or-same true = refl
 or-same false = refl
 
-parts-checked : (kind : Kind) (entries : List Entry) (bar : Option ℕ) (before ps : List (List ℕ))
+pub parts-checked : (kind : Kind) (entries : List Entry) (bar : Option ℕ) (before ps : List (List ℕ))
     → names_of entries ≡ item_names kind before → is_some bar ≡ list_any is_bar before
     → row_checks kind (R entries bar) ps ≡ checks_of_each (part_checks kind) before ps
 parts-checked kind entries bar before [] hn hb = refl
@@ -138,7 +138,7 @@ row-names kind entries bar before (p ∷ ps) hn =
     h refl ∙ ap (item_names kind) (append_assoc before (p ∷ []) ps)
 
 -- what an item line without a fault says
-context-is : (kind : Kind) (ps : List (List ℕ)) → first (row_checks kind no_row ps) ≡ None
+pub context-is : (kind : Kind) (ps : List (List ℕ)) → first (row_checks kind no_row ps) ≡ None
     → context_of kind ps ≡ context kind (names_of (row_of kind no_row ps).entries) (P (row_of kind no_row ps))
 context-is kind ps e =
     let row = row_of kind no_row ps in

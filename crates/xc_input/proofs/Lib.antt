@@ -29,3 +29,4 @@ pub mod NumberedOptions
 pub mod FirstFaults
 pub mod SheetGrammar
 pub mod Standing
+pub mod FaultyLemmas

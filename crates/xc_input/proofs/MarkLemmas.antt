@@ -13,7 +13,7 @@ use Rattle.xc_input.specs.declared.option_line.WrittenUse.{WrittenUse}
 use Rattle.xc_input.specs.inner.Builders.{AreMarks, IsMarkable, written_of, items_of}
 
 -- one item more
-mark : (marks : List Bool) (seen : List ℕ) (i : ℕ) → AreMarks marks seen → 1 ≤ i → i ≤ length marks → AreMarks (set marks (i - 1) true) (seen ++ i ∷ [])
+pub mark : (marks : List Bool) (seen : List ℕ) (i : ℕ) → AreMarks marks seen → 1 ≤ i → i ≤ length marks → AreMarks (set marks (i - 1) true) (seen ++ i ∷ [])
 mark marks seen i are low high = λ k within.
     let all : length (set marks (i - 1) true) ≡ length marks = length-set marks (i - 1) true in
     let split : list_any (λ j. nat_eq j (k + 1)) (seen ++ i ∷ []) ≡ (list_any (λ j. nat_eq j (k + 1)) seen || (nat_eq i (k + 1) || false)) = list_any-append (λ j. nat_eq j (k + 1)) seen (i ∷ []) in

@@ -9,6 +9,7 @@ pub mod Words
 pub mod Faults
 pub mod FaultTexts
 pub mod FirstFault
+pub mod FaultyTokens
 pub mod Text
 pub mod Lines
 pub mod Calls

@@ -195,7 +195,7 @@ impl ProblemBuilder {
 }
 
 /// So many items, none of them marked.
-fn no_marks(alloc: Global, count: usize) -> Result<Vec<bool>, AllocError>
+pub fn no_marks(alloc: Global, count: usize) -> Result<Vec<bool>, AllocError>
     ensures count { IfOk result (λ v. length v.items ≡ count) }
     ensures unmarked { IfOk result (λ v. AreMarks v.items []) }
 {

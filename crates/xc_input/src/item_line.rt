@@ -119,8 +119,20 @@ fn split_token(kind: Kind, secondary: bool, token: &[u8]) -> Result<ItemToken<'_
 }
 
 impl ItemLine {
+    /// No item yet, in a table by this seed.
+    pub fn new(alloc: Global, seed: Seed) -> ItemLine
+        ensures table { IsItemTable result }
+        ensures row { row_of_line result ≡ no_row }
+    {
+        ItemLine {
+            names: no_names(alloc, seed),
+            items: Vec::new(alloc),
+            bar: None,
+        }
+    }
+
     /// Takes a bar or another token of the line.
-    fn add(&mut self, alloc: Global, kind: Kind, part: &[u8]) -> Result<(), LineError>
+    pub fn add(&mut self, alloc: Global, kind: Kind, part: &[u8]) -> Result<(), LineError>
         requires table { IsItemTable self.old }
         requires solid { list_any is_space part.now ≡ false }
         ensures judged { Judged (first (part_checks kind (row_of_line self.old) part.now)) result }
@@ -180,11 +192,7 @@ pub fn item_line(alloc: Global, seed: Seed, kind: Kind, line: &[u8]) -> Result<I
     ensures judged { Judged (first (row_checks kind no_row (parts line.now))) result }
     ensures row { IfOk result (λ i. IsItemTable i × (row_of_line i ≡ row_of kind no_row (parts line.now))) }
 {
-    let mut items = ItemLine {
-        names: no_names(alloc, seed),
-        items: Vec::new(alloc),
-        bar: None,
-    };
+    let mut items = ItemLine::new(alloc, seed);
     let mut rest = line;
     while let Some((part, others)) = next_part(rest) {
         items.add(alloc, kind, part)?;

@@ -17,6 +17,7 @@
 mod builder;
 mod digits;
 mod fault;
+mod faulty;
 mod given;
 mod guess;
 mod item_line;
@@ -38,6 +39,7 @@ mod tokens;
 pub mod worked;
 
 pub use fault::{FaultKind, InputError};
+pub use faulty::{FaultyToken, faulty_token};
 pub use given::Given;
 pub use kind::Kind;
 pub use options::Options;

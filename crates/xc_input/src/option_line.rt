@@ -53,7 +53,7 @@ fn fault_of_unknown(name: &[u8]) -> FaultKind
 }
 
 /// The use of a token, behind uses of the marked items, or its first fault.
-fn use_of<'a>(
+pub fn use_of<'a>(
     kind: Kind,
     primary: u32,
     marks: &[bool],

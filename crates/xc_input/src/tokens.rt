@@ -2,7 +2,7 @@
 
 ghost use Rattle.std.specs.Prelude.{◌≡◌, ◌++◌, ◌∷◌, ◌<◌, ◌≤◌, [], ℕ, List, length, take, drop, MatchOption, map, false, true, None, Some, OnOk, IfOk, IfSome};
 ghost use Rattle.xc_input.specs.Tokens.{is_space, tokens, parts, is_skipped};
-ghost use Rattle.xc_input.specs.inner.Fronts.{drop_white, word};
+ghost use Rattle.xc_input.specs.inner.Fronts.{drop_white, word, StandsBefore};
 ghost use Rattle.xc_input.specs.Words.{has, before, after, place, are_digits};
 ghost use Rattle.xc_input.specs.Limits.{most_uses};
 ghost use Rattle.xc_input.specs.inner.Builders.{AreNames, Judged};
@@ -107,7 +107,7 @@ fn cut_behind<'a>(name: &'a [u8], at: usize, behind: &'a [u8]) -> Option<(Token<
 }
 
 /// A token, cut and looked up.
-fn looked_up<'a>(names: &NameSet, token: &'a [u8]) -> Token<'a>
+pub fn looked_up<'a>(names: &NameSet, token: &'a [u8]) -> Token<'a>
     ensures { IsCutToken (key_names names.now.keys) token.now result }
 {
     let (name, colour) = cut_at(token, b':');
@@ -142,9 +142,22 @@ pub fn next_token<'a>(
     Some((looked_up(names, token), others))
 }
 
+/// The first token as it stands in the line, and what is left behind it.
+pub fn next_word(line: &[u8]) -> Option<(&[u8], &[u8])>
+    ensures { MatchOption result (tokens line.now ≡ []) (λ p. (tokens line.now ≡ p.0.now ∷ tokens p.1.now)
+        × (length p.1.now < length line.now) × StandsBefore line.now p.0.now p.1.now) }
+{
+    let rest = skip_white(line);
+    if rest.is_empty() {
+        return None;
+    }
+    Some(rest.split_at(word_len(rest)))
+}
+
 /// The first part of an item line, a bar or another token, and what is left behind it.
 pub fn next_part(line: &[u8]) -> Option<(&[u8], &[u8])>
-    ensures { MatchOption result (parts line.now ≡ []) (λ p. (parts line.now ≡ p.0.now ∷ parts p.1.now) × (length p.1.now < length line.now)) }
+    ensures { MatchOption result (parts line.now ≡ []) (λ p. (parts line.now ≡ p.0.now ∷ parts p.1.now)
+        × (length p.1.now < length line.now) × StandsBefore line.now p.0.now p.1.now) }
 {
     let rest = skip_white(line);
     if rest.is_empty() {

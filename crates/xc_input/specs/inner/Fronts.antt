@@ -1,5 +1,5 @@
 -- No public clause cites this module. What stands at the front of a line.
-use Rattle.std.specs.Prelude.{◌≡◌, ℕ, List, [], ◌∷◌, true, if◌then◌else◌}
+use Rattle.std.specs.Prelude.{◌≡◌, ℕ, List, [], ◌∷◌, ◌++◌, true, if◌then◌else◌}
 use Rattle.xc_input.specs.Tokens.{is_space}
 
 -- what stands behind leading white space
@@ -16,3 +16,7 @@ word (b ∷ bs) = (if is_space b then [] else b ∷ word bs)
 abbrev pub AtWhite : List ℕ → Type 0
 AtWhite [] = Unit {0}
 AtWhite (b ∷ bs) = is_space b ≡ true
+
+-- a piece stands in a line directly before what is left of it
+abbrev pub StandsBefore : List ℕ → List ℕ → List ℕ → Type 0
+StandsBefore line piece rest = (front : List ℕ) × (line ≡ front ++ piece ++ rest)

@@ -1,0 +1,136 @@
+-- The token at fault is found as its line is read, one token after another.
+use Rattle.std.proofs.Common.{◌≡◌, ℕ, List, [], ◌∷◌, ◌++◌, Option, None, Some, Bool, true, false, is_some, length, map, Result, Ok, Err, IfOk, refl, sym, ap, ◌∙◌, subst, append_assoc, append-nil, if◌then◌else◌}
+use Rattle.std.specs.List.{list_any}
+use Rattle.xc_input.specs.declared.kind.Kind.{Kind}
+use Rattle.xc_input.specs.declared.fault.FaultKind.{FaultKind}
+use Rattle.xc_input.specs.declared.fault.FaultKind.TheVariants.{TwoBars}
+use Rattle.xc_input.specs.declared.faulty.FaultyToken.{FaultyToken}
+use Rattle.xc_input.specs.declared.item_line.ItemLine.{ItemLine}
+use Rattle.xc_input.specs.Tokens.{is_bar}
+use Rattle.xc_input.specs.Faults.{first, checks_of_each, item_names, item_checks, part_checks, name_of}
+use Rattle.xc_input.specs.FaultyTokens.{IsAtFault, Tells}
+use Rattle.xc_input.specs.inner.Fronts.{StandsBefore}
+use Rattle.xc_input.specs.inner.Builders.{IsItemTable, entry_of}
+use Rattle.xc_input.specs.inner.Sheets.{names_of}
+use Rattle.xc_input.specs.inner.Stages.{Row, entry, with_part}
+use Rattle.xc_input.specs.inner.Stages.{part_checks as row_part_checks}
+use Rattle.xc_input.proofs.FaultLemmas.{first-front, first-back, names_of-snoc, names_of-length, map-length}
+use Rattle.xc_input.proofs.FirstFaults.{names-snoc, barred-snoc, or-true, or-same}
+use Rattle.xc_input.proofs.LawLemmas.{at-bar, at-word}
+
+checks-append : {A B : Type 0} (checks : List A → A → List B) (before xs ys : List A)
+    → checks_of_each checks before (xs ++ ys)
+    ≡ checks_of_each checks before xs ++ checks_of_each checks (before ++ xs) ys
+checks-append checks before [] ys = ap (λ b. checks_of_each checks b ys) (sym (append-nil before))
+checks-append checks before (x ∷ xs) ys =
+    ap (λ cs. checks before x ++ cs) (checks-append checks (before ++ x ∷ []) xs ys
+    ∙ ap (λ b. checks_of_each checks (before ++ x ∷ []) xs ++ checks_of_each checks b ys)
+    (append_assoc before (x ∷ []) xs))
+    ∙ sym (append_assoc (checks before x) (checks_of_each checks (before ++ x ∷ []) xs)
+    (checks_of_each checks (before ++ x ∷ xs) ys))
+
+-- a line is read up to this rest: the tokens before it have no fault
+pub record IsReadTo (cut : List ℕ → List (List ℕ)) (checks : List (List ℕ) → List ℕ → List (FaultKind × Bool))
+    (line rest : List ℕ) (others : List (List ℕ)) : Type 0 where
+  pub front : List ℕ
+  pub place : line ≡ front ++ rest
+  pub order : cut line ≡ others ++ cut rest
+  pub faultless : first (checks_of_each checks [] others) ≡ None
+
+module _ (cut : List ℕ → List (List ℕ)) (checks : List (List ℕ) → List ℕ → List (FaultKind × Bool)) where
+  first-each : (xs ys : List (List ℕ)) → first (checks_of_each checks [] xs) ≡ None
+      → first (checks_of_each checks [] (xs ++ ys)) ≡ first (checks_of_each checks xs ys)
+  first-each xs ys e = ap first (checks-append checks [] xs ys)
+      ∙ first-back (checks_of_each checks [] xs) (checks_of_each checks xs ys) e
+
+  pub read-start : (line : List ℕ) → IsReadTo cut checks line line []
+  read-start line = record { front = []; place = refl; order = refl; faultless = refl }
+
+  -- the next token stands in the line too
+  pub read-stands : (line rest piece behind : List ℕ) (others : List (List ℕ)) → IsReadTo cut checks line rest others
+      → StandsBefore rest piece behind → StandsBefore line piece behind
+  read-stands line rest piece behind others r s = (
+    r.front ++ s.0,
+    r.place ∙ ap (λ xs. r.front ++ xs) s.1 ∙ sym (append_assoc r.front (s.0 ++ piece) behind)
+        ∙ ap (λ xs. xs ++ behind) (sym (append_assoc r.front s.0 piece)),
+  )
+
+  pub read-on : (line rest piece behind : List ℕ) (others : List (List ℕ)) → IsReadTo cut checks line rest others
+      → cut rest ≡ piece ∷ cut behind → StandsBefore rest piece behind → first (checks others piece) ≡ None
+      → IsReadTo cut checks line behind (others ++ piece ∷ [])
+  read-on line rest piece behind others r e s f =
+      let w : StandsBefore line piece behind = read-stands line rest piece behind others r s in record {
+        front = w.0 ++ piece;
+        place = w.1;
+        order = r.order ∙ ap (λ ps. others ++ ps) e ∙ sym (append_assoc others (piece ∷ []) (cut behind));
+        faultless = first-each others (piece ∷ []) r.faultless ∙ first-back (checks others piece) [] f;
+      }
+
+  pub read-stop : (line rest piece behind : List ℕ) (others : List (List ℕ)) (k : FaultKind) (t : FaultyToken)
+      → IsReadTo cut checks line rest others → cut rest ≡ piece ∷ cut behind → first (checks others piece) ≡ Some k
+      → line ≡ t.before.now ++ piece ++ behind → t.token.now ≡ piece → t.behind.now ≡ behind → t.kind ≡ k
+      → IsAtFault cut checks line t
+  read-stop line rest piece behind others k t r e f place token back kind = record {
+    others = others;
+    place = place ∙ (λ i. t.before.now ++ sym token i ++ sym back i);
+    order = r.order ∙ ap (λ ps. others ++ ps) e ∙ (λ i. others ++ sym token i ∷ cut (sym back i));
+    faultless = r.faultless;
+    fault = ap (λ x. first (checks others x)) token ∙ f ∙ ap (λ x. Some x) (sym kind);
+  }
+
+  pub read-end : (line rest : List ℕ) (others : List (List ℕ)) → IsReadTo cut checks line rest others
+      → cut rest ≡ [] → (t : FaultyToken) → IsAtFault cut checks line t → ⊥
+  read-end line rest others r e t h =
+      let all : List (List ℕ) → Option FaultKind = λ ps. first (checks_of_each checks [] ps) in
+      let none : all (cut line) ≡ None =
+      ap all (r.order ∙ ap (λ ps. others ++ ps) e ∙ append-nil others) ∙ r.faultless in
+      let some : all (cut line) ≡ Some t.kind =
+      ap all h.order ∙ first-each h.others (t.token.now ∷ cut t.behind.now) h.faultless
+      ∙ first-front (checks h.others t.token.now)
+      (checks_of_each checks (h.others ++ t.token.now ∷ []) (cut t.behind.now)) t.kind h.fault in
+      cc
+
+-- the items of these parts of an item line
+pub record IsRowOf (kind : Kind) (row : Row) (others : List (List ℕ)) : Type 0 where
+  pub names : names_of row.entries ≡ item_names kind others
+  pub barred : is_some row.bar ≡ list_any is_bar others
+
+pub row-checks : (kind : Kind) (row : Row) (others : List (List ℕ)) (part : List ℕ) → IsRowOf kind row others
+    → row_part_checks kind row part ≡ part_checks kind others part
+row-checks kind row others part r =
+    λ i. if is_bar part then (TwoBars, r.barred i) ∷ [] else item_checks kind (r.names i) (r.barred i) part
+
+pub row-more : (kind : Kind) (row : Row) (others : List (List ℕ)) (part : List ℕ) → IsRowOf kind row others
+    → IsRowOf kind (with_part kind row part) (others ++ part ∷ [])
+row-more kind row others part r =
+    let Q : Bool → Type 0 = λ t. is_bar part ≡ t → IsRowOf kind (with_part kind row part) (others ++ part ∷ []) in
+    let h : Q (is_bar part) = (elim (is_bar part) as Q [
+      | true ↦ λ f. subst (λ (w : Row). IsRowOf kind w (others ++ part ∷ []))
+          (sym (at-bar kind row.entries row.bar part f).1) (record {
+            names = r.names ∙ sym (append-nil (item_names kind others)) ∙ sym (names-snoc kind others part true f);
+            barred = or-true (list_any is_bar others) ∙ sym (barred-snoc others part true f);
+          })
+      | false ↦ λ f. subst (λ (w : Row). IsRowOf kind w (others ++ part ∷ []))
+          (sym (at-word kind row.entries row.bar part f).1) (record {
+            names = names_of-snoc row.entries (entry kind (is_some row.bar) part)
+                ∙ ap (λ ns. ns ++ name_of kind part ∷ []) r.names ∙ sym (names-snoc kind others part false f);
+            barred = r.barred ∙ or-same (list_any is_bar others) ∙ sym (barred-snoc others part false f);
+          })
+    ]) in
+    h refl
+
+-- there are as many names as items
+pub keys-length : (i : ItemLine) → IsItemTable i → length i.names.keys ≡ length i.items.items
+keys-length i t = sym (map-length (λ v. v.items) i.names.keys) ∙ ap length t.0
+    ∙ names_of-length (map entry_of i.items.items) ∙ map-length entry_of i.items.items
+
+-- what is told of the one is told of the other, where both say the same
+pub tells-same : {A : Type 0} (P Q : A → Type 0) (o : Option A) → ((x : A) → P x → Q x) → ((x : A) → Q x → P x)
+    → Tells P o → Tells Q o
+tells-same P Q None f g h = λ x q. h x (g x q)
+tells-same P Q (Some x) f g h = f x h
+
+pub ok-tells-same : {A E : Type 0} (P Q : A → Type 0) (r : Result (Option A) E) → ((x : A) → P x → Q x)
+    → ((x : A) → Q x → P x) → IfOk r (Tells P) → IfOk r (Tells Q)
+ok-tells-same P Q (Ok o) f g h = tells-same P Q o f g h
+ok-tells-same P Q (Err e) f g h = h
