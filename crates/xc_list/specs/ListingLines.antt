@@ -1,6 +1,7 @@
 -- The lines of a listing: headers, and choice lines with their bodies.
 use Rattle.std.specs.Prelude.{ℕ, ◌-◌, Bool, false, not, ◌&&◌, ◌==◌, nat_le, List, [], ◌∷◌, codes, length, take, drop, Option, Some, None, if◌then◌else◌}
 use Rattle.std.specs.Char.{is_ascii_digit}
+use Rattle.std.specs.Io.BufRead.{ends_with_byte}
 use Rattle.std.specs.List.{list_all, list_any, slice_split}
 use Rattle.std.specs.Str.{byte, bytes_eq}
 use Rattle.xc_input.specs.Tokens.{is_space}
@@ -11,11 +12,9 @@ use Rattle.xc_list.specs.Settings.{long_number}
 abbrev pub words_in : List ℕ → List (List ℕ)
 words_in text = slice_split (λ b. b == byte " ") text
 
--- what stands before a last byte, where that is the text's last
+-- what stands before the text's last byte, where that is this one
 abbrev pub before_last : ℕ → List ℕ → Option (List ℕ)
-before_last b [] = None
-before_last b (x ∷ []) = if x == b then Some [] else None
-before_last b (x ∷ y ∷ text) = elim (before_last b (y ∷ text)) [ None ↦ None | Some front ↦ Some (x ∷ front) ]
+before_last b text = if ends_with_byte b text then Some (take (length text - 1) text) else None
 
 -- the number of one to twenty digits, where it fits
 abbrev pub solution_number : List ℕ → Option ℕ

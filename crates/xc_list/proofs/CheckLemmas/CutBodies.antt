@@ -1,5 +1,5 @@
 -- The words of a choice line.
-use Rattle.std.proofs.Common.{◌≡◌, ℕ, suc, ◌-◌, ◌<◌, Bool, true, false, not, ◌||◌, ◌&&◌, nat_eq, nat_le, List, [], ◌∷◌, ◌++◌, length, take, drop, Option, Some, None, refl, sym, ap, ◌∙◌, append_assoc, arith, length-append, if◌then◌else◌}
+use Rattle.std.proofs.Common.{◌≡◌, ℕ, suc, ◌-◌, ◌<◌, Bool, true, false, not, ◌||◌, ◌&&◌, nat_eq, nat_le, nat_lt, slice_index, List, [], ◌∷◌, ◌++◌, length, take, drop, Option, Some, None, refl, sym, ap, ◌∙◌, append_assoc, arith, length-append, if◌then◌else◌}
 use Rattle.std.specs.List.{list_all, list_any, onto_first}
 use Rattle.std.proofs.lemmas.Bool.Decides.{nat_tests}
 use Rattle.std.proofs.lemmas.Bool.{eq-eqb}
@@ -9,16 +9,19 @@ use Rattle.xc_input.proofs.TokenLemmas.{differs}
 use Rattle.xc_list.specs.ListingLines.{words_in, before_last, is_word, is_ending, body_of_words}
 
 -- LAST BYTES
-last_byte : (b x : ℕ) (front : List ℕ) → before_last b (front ++ x ∷ []) ≡ (if nat_eq x b then Some front else None)
-last_byte b x [] = refl
-last_byte b x (y ∷ []) =
-    let P : Bool → Type 0 = λ t. (elim (if t then Some [] else None) [ None ↦ None | Some front ↦ Some (y ∷ front) ]) ≡ (if t then Some (y ∷ []) else None) in
-    elim (nat_eq x b) as P [ true ↦ refl | false ↦ refl ]
-last_byte b x (y ∷ z ∷ front) =
-    let step : Option (List ℕ) → Option (List ℕ) = λ o. elim o [ None ↦ None | Some text ↦ Some (y ∷ text) ] in
-    let P : Bool → Type 0 = λ t. step (if t then Some (z ∷ front) else None) ≡ (if t then Some (y ∷ z ∷ front) else None) in
-    let h : P (nat_eq x b) = (elim (nat_eq x b) as P [ true ↦ refl | false ↦ refl ]) in
-    ap step (last_byte b x (z ∷ front)) ∙ h
+at_seam : (front : List ℕ) (x : ℕ) → slice_index (front ++ x ∷ []) (length front) ≡ x
+at_seam [] x = refl
+at_seam (y ∷ front) x = at_seam front x
+
+pub last_byte : (b x : ℕ) (front : List ℕ) → before_last b (front ++ x ∷ [])
+    ≡ (if nat_eq x b then Some front else None)
+last_byte b x front =
+    let long = length-append front (x ∷ []) in
+    let n : length (front ++ x ∷ []) - 1 ≡ length front = omega (arith, long) in
+    let some : nat_lt 0 (length (front ++ x ∷ [])) ≡ true = grind (arith, nat_tests, long) in
+    (λ i. if some i && nat_eq (slice_index (front ++ x ∷ []) (n i)) b
+    then Some (take (n i) (front ++ x ∷ [])) else None)
+    ∙ (λ i. if nat_eq (at_seam front x i) b then Some (take-append_seam front (x ∷ []) i) else None)
 
 pub last_is : (b x : ℕ) (text front : List ℕ) → text ≡ front ++ x ∷ [] → x ≡ b → Some front ≡ before_last b text
 last_is b x text front e f = sym (ap (before_last b) e ∙ last_byte b x front ∙ ap (λ t. if t then Some front else None) (eq-eqb x b f))

@@ -1,7 +1,8 @@
 -- What the lines of an output are read as.
-use Rattle.std.proofs.Common.{◌≡◌, ℕ, ◌+◌, ◌-◌, ◌*◌, ◌/◌, ◌%◌, ◌^◌, ◌<◌, ◌≤◌, Bool, true, false, not, ◌&&◌, nat_lt, nat_eq, List, [], ◌∷◌, ◌++◌, Option, None, Some, length, take, drop, refl, ap, ◌∙◌, arith, length-append, lt-ltb}
+use Rattle.std.proofs.Common.{◌≡◌, ℕ, ◌+◌, ◌-◌, ◌*◌, ◌/◌, ◌%◌, ◌^◌, ◌<◌, ◌≤◌, Bool, true, false, not, ◌&&◌, nat_lt, nat_eq, List, [], ◌∷◌, ◌++◌, Option, None, Some, length, take, drop, refl, sym, ap, ◌∙◌, subst, arith, length-append, lt-ltb}
 use Rattle.xc_input.proofs.DecimalValues.{value_from}
 use Rattle.std.specs.Prelude.{All, codes, decimal, nat_le, ◌==◌, if◌then◌else◌}
+use Rattle.std.specs.Io.BufRead.{ends_with_byte}
 use Rattle.std.specs.List.{list_all, list_any, onto_first}
 use Rattle.std.proofs.lemmas.Bool.Decides.{nat_tests}
 use Rattle.std.proofs.lemmas.Fmt.{decimal_by_steps, length-decimal-le}
@@ -13,6 +14,7 @@ use Rattle.xc_input.specs.Tokens.{is_space}
 use Rattle.xc_input.proofs.GrammarLemmas.{or-false, or-both, and-true, and-both}
 use Rattle.std.specs.Char.{is_ascii_digit}
 use Rattle.xc_list.specs.Settings.{long_number}
+use Rattle.xc_list.proofs.CheckLemmas.CutBodies.{last_byte}
 use Rattle.xc_list.proofs.Digits.{some_digits}
 use Rattle.xc_list.specs.ListingLines.{words_in, before_last, solution_number, header_number, is_word, is_closing, is_ending, body_of_words, body_of}
 use Rattle.xc_input.specs.Words.{are_digits}
@@ -79,9 +81,7 @@ same : (b : ℕ) → (b == b) ≡ true
 same b = grind (arith, nat_tests)
 
 before_last-last : (b : ℕ) (front : List ℕ) → before_last b (front ++ b ∷ []) ≡ Some front
-before_last-last b [] = ap (λ t. if t then Some [] else None) (same b)
-before_last-last b (x ∷ []) = ap (λ o. elim o as (λ _. Option (List ℕ)) [ None ↦ None | Some front ↦ Some (x ∷ front) ]) (before_last-last b [])
-before_last-last b (x ∷ y ∷ front) = ap (λ o. elim o as (λ _. Option (List ℕ)) [ None ↦ None | Some front ↦ Some (x ∷ front) ]) (before_last-last b (y ∷ front))
+before_last-last b front = last_byte b b front ∙ ap (λ t. if t then Some front else None) (same b)
 
 solution_number-decimal : (n : ℕ) → n < 2 ^ 64 → solution_number (decimal n) ≡ Some n
 solution_number-decimal n h =
@@ -199,14 +199,18 @@ is_ending-words k n h l =
 -- no header begins with a space
 no_header : (line : List ℕ) → header_number (32 ∷ line) ≡ None
 no_header [] = refl
-no_header (b ∷ line) = by_case (before_last 58 (b ∷ line))
+no_header (b ∷ line) =
+    let text : List ℕ = 32 ∷ b ∷ line in
+    let Q : Bool → ℕ → Type 0 = λ t m. (elim (if t then Some (take m text) else None) as (λ _. Option ℕ)
+    [ None ↦ None | Some digits ↦ solution_number digits ]) ≡ None in
+    let n : length text - 1 ≡ length (b ∷ line) = omega arith in
+    let h : Q (ends_with_byte 58 text) (length (b ∷ line)) =
+    (elim (ends_with_byte 58 text) as (λ t. Q t (length (b ∷ line)))
+    [ true ↦ not_digits (take (length line) (b ∷ line)) | false ↦ refl ]) in
+    subst (Q (ends_with_byte 58 text)) (sym n) h
   where
     not_digits : (front : List ℕ) → solution_number (32 ∷ front) ≡ None
     not_digits front = elim (nat_le (length (32 ∷ front)) 20) as (λ t. (if t then long_number (32 ∷ front) else None) ≡ None) [ true ↦ refl | false ↦ refl ]
-
-    by_case : (o : Option (List ℕ)) → (elim (elim o as (λ _. Option (List ℕ)) [ None ↦ None | Some front ↦ Some (32 ∷ front) ]) as (λ _. Option ℕ) [ None ↦ None | Some text ↦ solution_number text ]) ≡ None
-    by_case None = refl
-    by_case (Some front) = not_digits front
 
 pub read-choice : (body : List (List ℕ)) (k n : ℕ) → 1 ≤ length body → All IsPlain body → k < 10 ^ 10 → n < 10 ^ 10
     → (read (spaced (body ++ ending_words k n)) ≡ Body body) × (has 10 (spaced (body ++ ending_words k n)) ≡ false)
