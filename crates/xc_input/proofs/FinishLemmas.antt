@@ -1,5 +1,5 @@
 -- The answer at the end of a text.
-use Rattle.std.proofs.Common.{◌≡◌, ◌≤◌, ◌+◌, ◌-◌, ◌^◌, min, ℕ, List, Option, None, Some, Bool, true, false, length, map, drop, All, ap, ◌∙◌, sym, subst, arith, MatchOption}
+use Rattle.std.proofs.Common.{◌≡◌, ◌≢◌, ◌≤◌, ◌+◌, ◌-◌, ◌^◌, min, ℕ, List, Option, None, Some, Bool, true, false, length, map, drop, All, refl, ap, ◌∙◌, sym, subst, arith, MatchOption}
 use Rattle.std.proofs.lemmas.List.{length-map}
 use Rattle.xc_input.specs.declared.kind.Kind.{Kind}
 use Rattle.xc_input.specs.declared.fault.InputError.{InputError}
@@ -17,7 +17,7 @@ use Rattle.xc_input.specs.inner.Stored.{key_names}
 use Rattle.xc_input.specs.inner.Flat.{pieces}
 use Rattle.xc_input.specs.inner.Builders.{IsBuilder, stage_of_builder, sheet_of_builder, entry_of}
 use Rattle.xc_input.specs.inner.EndedLines.{AreWhole}
-use Rattle.xc_input.specs.Readings.{Reading, IsStateOf, IsFault}
+use Rattle.xc_input.specs.Readings.{Reading, IsStateOf}
 use Rattle.xc_input.specs.inner.Feeding.{IsEndOf}
 use Rattle.xc_input.proofs.ReadLemmas.{ends-at, end-is}
 use Rattle.xc_input.proofs.SoundLemmas.{sheet-sound, primaries-within, item-names, named-is, behind-bounds}
@@ -26,11 +26,11 @@ use Rattle.xc_input.proofs.LawLemmas.{end_fault}
 use Rattle.xc_input.proofs.FirstFaults.{stands, stands-only}
 use Rattle.xc_input.proofs.Standing.{read-stands}
 
-pub refutes : (kind : Kind) (lines : List (List ℕ)) (e : InputError) → IsEndOf kind lines e → IsFault e → (p : Named) (ig : List ℕ) → StandsFor kind lines p ig → ⊥
+pub refutes : (kind : Kind) (lines : List (List ℕ)) (e : InputError) → IsEndOf kind lines e → e ≢ Memory → (p : Named) (ig : List ℕ) → StandsFor kind lines p ig → ⊥
 refutes kind lines (Fault n k) h f p ig s = let g : first_fault kind lines ≡ None =
     (stands-only kind lines p ig s).0 in absurd (cc)
-refutes kind lines Device h f p ig s = f
-refutes kind lines Memory h f p ig s = f
+refutes kind lines Device h f p ig s = absurd h
+refutes kind lines Memory h f p ig s = absurd (f refl)
 
 -- the problem that a draft holds
 abbrev pub named_by : ProblemBuilder → Named
@@ -40,7 +40,7 @@ by-builder : (d : ProblemBuilder) → named_of (sheet_of_builder d) ≡ named_by
 by-builder d = named-is d.items.items d.primary (pieces d.starts.items d.uses.items) (key_names d.colours.keys)
 
 module _ (v : Reading) (kind : Kind) (lines : List (List ℕ)) (o : Option InputError) (is : v ≡ record { kind = kind; lines = lines; error = o }) (h : IsStateOf kind lines o) where
-  pub refuses : (e : InputError) → o ≡ Some e → IsFault e → (p : Named) (ig : List ℕ) → StandsFor v.kind v.lines p ig → ⊥
+  pub refuses : (e : InputError) → o ≡ Some e → e ≢ Memory → (p : Named) (ig : List ℕ) → StandsFor v.kind v.lines p ig → ⊥
   refuses e f w p ig s = refutes kind lines e (ends-at kind lines o e f h) w p ig (subst (λ (r : Reading). StandsFor r.kind r.lines p ig) is s)
 
   module _ (f : o ≡ None) (d : ProblemBuilder) (m : MatchOption o (IsBuilder d × (stage_of_builder d ≡ stage_of kind lines)) (λ _. Unit {0})) where

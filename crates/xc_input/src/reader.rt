@@ -1,8 +1,8 @@
 //! A reader that is fed line by line.
 
-ghost use Rattle.std.specs.Prelude.{◌≡◌, IfOk, IfErr, ℕ, List, ◌++◌, [], ◌∷◌, None, Some, IfSome, false};
+ghost use Rattle.std.specs.Prelude.{◌≡◌, ◌≢◌, IfOk, IfErr, ℕ, List, ◌++◌, [], ◌∷◌, None, Some, IfSome, false};
 ghost use Rattle.std.specs.Result.{result_err};
-ghost use Rattle.xc_input.specs.Readings.{IsErrorFor, IsStateOf, IsFault};
+ghost use Rattle.xc_input.specs.Readings.{IsErrorFor, IsStateOf};
 ghost use Rattle.xc_input.specs.FirstFault.{first_fault};
 ghost use Rattle.xc_input.specs.inner.Builders.{error_at};
 ghost use Rattle.xc_input.specs.Named.{Named, IsSound};
@@ -109,7 +109,8 @@ impl Reader {
         ensures only { IfOk result (λ r. (p : Named) (ignored : List ℕ) → StandsFor self.kind self.lines p ignored → (p ≡ r.problem) × (ignored ≡ r.ignored.items)) }
         ensures valid { IfOk result (λ r. IsSound r.problem) }
         ensures first { IfErr result (IsErrorFor (first_fault self.kind self.lines)) }
-        ensures refused { IfErr result (λ e. IsFault e → (p : Named) (ignored : List ℕ) → StandsFor self.kind self.lines p ignored → ⊥) }
+        ensures refused { IfErr result (λ e. e ≢ InputError.Memory
+            → (p : Named) (ignored : List ℕ) → StandsFor self.kind self.lines p ignored → ⊥) }
         ensures no_memory { result_err result ≡ Some InputError.Memory → self.error ≡ Some InputError.Memory }
         ensures same { IfSome self.error (λ e. result_err result ≡ Some e) }
     {

@@ -1,13 +1,14 @@
 -- No public clause cites this module. A reader that is fed a text in pieces.
-use Rattle.std.specs.Prelude.{◌≡◌, ℕ, List, [], ◌∷◌, ◌++◌, false, None, Result, OnOk, IfOk, IfErr}
+use Rattle.std.specs.Prelude.{◌≡◌, ◌≢◌, ℕ, List, [], ◌∷◌, ◌++◌, false, None, Result, OnOk, IfOk, IfErr}
 use Rattle.xc_input.specs.declared.kind.Kind.{Kind}
 use Rattle.xc_input.specs.declared.fault.InputError.{InputError}
+use Rattle.xc_input.specs.declared.fault.InputError.TheVariants.{Memory}
 use Rattle.xc_input.specs.declared.reader.Read.{Read}
 use Rattle.xc_input.specs.Words.{has}
 use Rattle.xc_input.specs.Named.{Named}
 use Rattle.xc_input.specs.Text.{StandsFor}
 use Rattle.xc_input.specs.FirstFault.{line_fault, first_fault}
-use Rattle.xc_input.specs.Readings.{Reading, IsErrorFor, IsFault}
+use Rattle.xc_input.specs.Readings.{Reading, IsErrorFor}
 use Rattle.xc_input.specs.Lines.{lines_of}
 use Rattle.xc_input.specs.inner.EndedLines.{ended, AreWhole}
 
@@ -46,4 +47,4 @@ pub record EndsAs (kind : Kind) (lines : List (List ℕ)) (r : Result Read Input
   pub only : IfOk r (λ x. (p : Named) (ignored : List ℕ) → StandsFor kind lines p ignored
       → (p ≡ x.problem) × (ignored ≡ x.ignored.items))
   pub first : IfErr r (λ e. IsEndOf kind lines e)
-  pub refused : IfErr r (λ e. IsFault e → (p : Named) (ignored : List ℕ) → StandsFor kind lines p ignored → ⊥)
+  pub refused : IfErr r (λ e. e ≢ Memory → (p : Named) (ignored : List ℕ) → StandsFor kind lines p ignored → ⊥)
