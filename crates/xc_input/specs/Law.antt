@@ -13,12 +13,10 @@ FaultlessStand = (kind : Kind) (lines : List (List ℕ)) → (first_fault kind l
 
 -- and they stand for no other
 abbrev pub StandForOne : Type 0
-StandForOne =
-    (kind : Kind) (lines : List (List ℕ)) (a b : Named) (is js : List ℕ)
+StandForOne = (kind : Kind) (lines : List (List ℕ)) (a b : Named) (is js : List ℕ)
     → StandsFor kind lines a is → StandsFor kind lines b js → (a ≡ b) × (is ≡ js)
 
 -- lines that stand for a problem as one kind stand for the same problem as another
 abbrev pub StandAlso : Kind → Kind → Type 0
-StandAlso kind other =
-    (lines : List (List ℕ)) (named : Named) (ignored : List ℕ) → StandsFor kind lines named ignored
-    → StandsFor other lines named ignored
+StandAlso kind other = (lines : List (List ℕ)) (named : Named) (ignored : List ℕ)
+    → StandsFor kind lines named ignored → StandsFor other lines named ignored

@@ -50,12 +50,10 @@ IsOpen bytes = (front : List ℕ) × (last : ℕ) × (bytes ≡ front ++ last �
 -- read that failed behind lines without a fault and a part of one more; or want of memory, before the end or behind a
 -- last line that no line feed ends.
 abbrev pub IsPart : Kind → SourceState → SourceState → InputError → Type 0
-IsPart kind old new (Fault line fault) =
-    (bytes : List ℕ) × ((GaveAll old new bytes × IsFirstFault kind bytes line fault)
-    ⊎ (Gave old new bytes × (new.failures ≡ old.failures)
+IsPart kind old new (Fault line fault) = (bytes : List ℕ) × ((GaveAll old new bytes
+    × IsFirstFault kind bytes line fault) ⊎ (Gave old new bytes × (new.failures ≡ old.failures)
     × ((more : List ℕ) → IsFirstFault kind (bytes ++ more) line fault)))
-IsPart kind old new Device =
-    (front : List ℕ) × (part : List ℕ) × Gave old new (front ++ part) × Rose old.failures new.failures
-    × (line_fault kind (lines_of front) ≡ None) × (has (code "\n") part ≡ false)
+IsPart kind old new Device = (front : List ℕ) × (part : List ℕ) × Gave old new (front ++ part)
+    × Rose old.failures new.failures × (line_fault kind (lines_of front) ≡ None) × (has (code "\n") part ≡ false)
 IsPart kind old new Memory = (bytes : List ℕ) × (new.failures ≡ old.failures)
     × (Gave old new bytes ⊎ (GaveAll old new bytes × IsOpen bytes))
