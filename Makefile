@@ -22,7 +22,7 @@ LIBRARY = $(wildcard bindings/out/libhelgrothy.a)
 run: bin
 	cd crates/dlx1 && rt run -- m1 < ../../examples/seven.dlx
 test:
-	RT_JOBS=$$(nproc) rt ci
+	@sh tests/gate.sh
 	@sh tests/statuses.sh
 	@$(MAKE) -s --no-print-directory bin
 	@sh tests/guide.sh docs/GUIDE.md
