@@ -28,7 +28,7 @@ test:
 	@sh tests/guide.sh docs/GUIDE.md
 	@sh tests/python.sh
 test-mutants:
-	@sh tests/mutants.sh
+	@python3 tests/mutants.py
 test-hostile:
 	@python3 scripts/hostile/hostile.py
 test-python:

@@ -1,0 +1,201 @@
+#!/usr/bin/env python3
+"""Plants the wrong bodies of mutants/, or of the crates named, in copies of the libraries, where the prover has to
+refuse each by the goal that its line `# clause: FILE GOAL` names; with --gate those of must-fail/. Prints each that
+isn't refused by it, with -v each one. The last line is `N passed, M failed`.
+
+A check takes ten seconds and more before its first function. So a dozen wrong bodies that change different functions
+stand in one check, which goes on past open goals and prints each; one that isn't refused there has one of its own.
+RT_JOBS checks run at once, as many as there are processors if it isn't set.
+"""
+
+from __future__ import annotations
+
+import argparse
+import os
+import re
+import shutil
+import subprocess
+import sys
+import tempfile
+from concurrent.futures import ThreadPoolExecutor
+from pathlib import Path
+from typing import NamedTuple
+
+TOP = Path(__file__).resolve().parent.parent
+# Each uses some of those before it.
+LIBRARIES = ["xc_input", "xc_dance", "xc_search", "xc_list", "xc_tools", "xc_c"]
+AT_ONCE = 12
+# A header of methods, or a function with its attributes.
+FUNCTION = re.compile(
+    r'^(impl\b.*|(?:pub )?trait .*|(?: *#\[.*\n)*( *)(?:pub(?:\(crate\))? )?(?:extern "C" )?fn (\w+))', re.MULTILINE
+)
+MESSAGE = re.compile(r"^(?:note: )?(?:\./)?((?:src|specs|proofs)/[^:]+):(\d+):\d+: (.*)", re.MULTILINE)
+GOALS = [re.compile(it) for it in (r"^error: `([^`]*)`:", r"\(`([^`]*)", r"`([^`]*)")]
+
+# The files of a crate's src/.
+Texts = dict[str, str]
+
+
+class Edit(NamedTuple):
+    """A wrong body: where its goal stands, and its changes, each a file, the old text and the new one."""
+
+    crate: str
+    name: str
+    file: str
+    goal: str
+    changes: list[tuple[str, str, str]]
+
+
+class Group(NamedTuple):
+    """Wrong bodies that stand in one check, the functions that they change, and the texts with them."""
+
+    edits: list[Edit]
+    functions: set[str]
+    texts: Texts
+
+
+def read(crate: str, path: Path) -> Edit:
+    said = {"# clause": " "}
+    changes = []
+    for key, text in re.findall(r"^(# clause|file|old|new): ?(.*)", path.read_text(), re.MULTILINE):
+        said[key] = text
+        if key == "new":
+            changes.append((said["file"], said["old"], text))
+    file, _, goal = said["# clause"].partition(" ")
+    return Edit(crate, path.stem, file, goal, changes)
+
+
+def owner(header: str) -> str:
+    """What the checker calls the methods' place: `FeedSource` for `impl<'a> Source for Feed<'a> {`."""
+    while (plain := re.sub(r"<[^<>]*>", "", header)) != header:
+        header = plain
+    words = re.match(r"(?:pub )?(?:impl|trait) +(?:[\w:]*?(\w+) +for +)?[\w:]*?(\w+)\b(?!::)", header)
+    return words[2] + (words[1] or "") if words else ""
+
+
+def function_at(file: str, text: str, place: int) -> str:
+    """The function that a place of a file is in, by the end of its path, or nothing before the first one."""
+    module = file[len("src/") : -len(".rt")].replace("/", "::")
+    above, path = "", ""
+    for found in FUNCTION.finditer(text):
+        if found.start() > place:
+            break
+        if found[3] is None:
+            above = owner(found[1])
+        else:
+            path = "::".join([above if found[2] else module, found[3]]).replace("lib::", "")
+    return path
+
+
+def plant(texts: Texts, edit: Edit) -> Group | None:
+    """The texts with this wrong body, unless one that it replaces doesn't stand there once."""
+    texts, functions = dict(texts), set()
+    for file, old, new in edit.changes:
+        if texts.get(file, "").count(old) != 1:
+            return None
+        functions.add(function_at(file, texts[file], texts[file].index(old) + len(old) - 1))
+        texts[file] = texts[file].replace(old, new)
+    return Group([edit], functions, texts)
+
+
+def groups_of(texts: Texts, edits: list[Edit]) -> list[Group]:
+    groups: list[Group] = []
+    for edit in edits:
+        for at, (others, taken, planted) in enumerate(groups):
+            own = plant(planted, edit)
+            # (a change above the functions may be one for each of them)
+            if own and len(others) < AT_ONCE and not own.functions & taken and "" not in own.functions | taken:
+                groups[at] = Group([*others, edit], own.functions | taken, own.texts)
+                break
+        else:
+            groups.append(plant(texts, edit) or Group([edit], {""}, {}))
+    return groups
+
+
+class Tree:
+    """A copy of the libraries, from whose checks those of its own copies begin."""
+
+    def __init__(self, folder: str, source: Path = TOP) -> None:
+        self.folder = Path(folder) / "libraries"
+        for name in LIBRARIES:
+            for part in ("src", "specs", "proofs"):
+                if (source / "crates" / name / part).is_dir():
+                    shutil.copytree(source / "crates" / name / part, self.folder / "crates" / name / part)
+        lines = (source / "crates.txt").read_text().splitlines(keepends=True)
+        (self.folder / "crates.txt").write_text("".join(it for it in lines if re.split(r"\W", it)[0] in LIBRARIES))
+        shutil.copy(source / "HANDLES", self.folder)
+
+    def texts(self, crate: str) -> Texts:
+        at = self.folder / "crates" / crate
+        return {str(it.relative_to(at)): it.read_text() for it in at.glob("src/**/*.rt")}
+
+    def check(self, crate: str, *words: str) -> subprocess.CompletedProcess[str]:
+        command, at = ["rt", "check", *words], self.folder / "crates" / crate
+        return subprocess.run(command, cwd=at, stdin=subprocess.DEVNULL, capture_output=True, text=True)
+
+    def told(self, group: Group) -> list[tuple[str, str, str]]:
+        """The goals that a check of a copy leaves open, each with its file and, in src/, its function."""
+        crate = group.edits[0].crate
+        with tempfile.TemporaryDirectory(dir=self.folder.parent) as folder:
+            copy = Tree(folder, self.folder)
+            for file, text in group.texts.items():
+                (copy.folder / "crates" / crate / file).write_text(text)
+            only = [word for it in sorted(group.functions - {""}) for word in ("--only", it)]
+            ran = copy.check(crate, "--jobs", "1", "--allow-holes", *only)
+        goals = []
+        for file, line, message in MESSAGE.findall(ran.stdout + ran.stderr):
+            goal = next((found[1] for it in GOALS if (found := it.search(message))), "")
+            text = group.texts.get(file, "")
+            place = len("".join(text.splitlines(keepends=True)[: int(line)])) - 1
+            goals.append((file, goal, function_at(file, text, place) if text else ""))
+        return goals
+
+    def tried(self, group: Group) -> list[tuple[Edit, str]]:
+        """The wrong bodies, each with what was told in the place of its goal, or nothing where that was."""
+        if not group.texts:
+            return [(group.edits[0], "a text that it replaces doesn't stand there once")]
+        told, results = self.told(group), []
+        for edit in group.edits:
+            alone = plant(self.texts(edit.crate), edit) or group
+            own = {(file, goal) for file, goal, function in told if not function or function in alone.functions}
+            if (edit.file, edit.goal) in own:
+                results.append((edit, ""))
+            elif len(group.edits) > 1:
+                results += self.tried(alone)
+            else:
+                results.append((edit, ", ".join(f"{file} {goal}" for file, goal in sorted(own)) or "nothing"))
+        return results
+
+
+def main() -> int:
+    parser = argparse.ArgumentParser(description="Plants wrong bodies, each of which the prover has to refuse.")
+    parser.add_argument("-v", action="store_true", help="print each wrong body")
+    parser.add_argument("--gate", action="store_true", help="plant those of must-fail/")
+    parser.add_argument("crates", nargs="*", metavar="CRATE", help=f"of {', '.join(LIBRARIES)}")
+    words = parser.parse_args()
+    passed = failed = 0
+    pool = ThreadPoolExecutor(int(os.environ.get("RT_JOBS") or len(os.sched_getaffinity(0))))
+    with tempfile.TemporaryDirectory() as folder:
+        tree, runs = Tree(folder), []
+        for crate in words.crates or LIBRARIES:
+            at = TOP / f"crates/{crate}/must-fail" if words.gate else TOP / f"mutants/{crate}"
+            edits = [read(crate, it) for it in sorted(at.glob("*.edit"))]
+            if edits and tree.check(crate).returncode:
+                print(f"{crate} isn't proved as it stands", flush=True)
+                failed += len(edits)
+            else:
+                runs += [pool.submit(tree.tried, it) for it in groups_of(tree.texts(crate), edits)]
+        try:
+            for edit, told in (result for run in runs for result in run.result()):
+                passed, failed = passed + (not told), failed + bool(told)
+                if told or words.v:
+                    differs = f"{told}, not " if told else ""
+                    print(f"{edit.crate}/{edit.name}: {differs}{edit.file} {edit.goal}", flush=True)
+        finally:
+            pool.shutdown(cancel_futures=True)
+    print(f"{passed} passed, {failed} failed")
+    return int(failed > 0)
+
+
+if __name__ == "__main__":
+    sys.exit(main())
