@@ -14,6 +14,7 @@ import argparse
 import os
 import re
 import shutil
+import signal
 import subprocess
 import sys
 import tempfile
@@ -113,14 +114,13 @@ def groups_of(texts: Texts, edits: list[Edit]) -> list[Group]:
 
 
 class Tree:
-    """A copy of the libraries, from whose checks those of its own copies begin."""
+    """A copy of the libraries, whose checks those of its own copies go on from."""
 
     def __init__(self, folder: str, source: Path = TOP) -> None:
         self.folder = Path(folder) / "libraries"
+        made = shutil.ignore_patterns("out", "must-fail")
         for name in LIBRARIES:
-            for part in ("src", "specs", "proofs"):
-                if (source / "crates" / name / part).is_dir():
-                    shutil.copytree(source / "crates" / name / part, self.folder / "crates" / name / part)
+            shutil.copytree(source / "crates" / name, self.folder / "crates" / name, ignore=made)
         lines = (source / "crates.txt").read_text().splitlines(keepends=True)
         (self.folder / "crates.txt").write_text("".join(it for it in lines if re.split(r"\W", it)[0] in LIBRARIES))
         shutil.copy(source / "HANDLES", self.folder)
@@ -173,6 +173,7 @@ def main() -> int:
     parser.add_argument("--gate", action="store_true", help="plant those of must-fail/")
     parser.add_argument("crates", nargs="*", metavar="CRATE", help=f"of {', '.join(LIBRARIES)}")
     words = parser.parse_args()
+    signal.signal(signal.SIGTERM, lambda *_: sys.exit(2))
     passed = failed = 0
     pool = ThreadPoolExecutor(int(os.environ.get("RT_JOBS") or len(os.sched_getaffinity(0))))
     with tempfile.TemporaryDirectory() as folder:
@@ -189,8 +190,8 @@ def main() -> int:
             for edit, told in (result for run in runs for result in run.result()):
                 passed, failed = passed + (not told), failed + bool(told)
                 if told or words.v:
-                    differs = f"{told}, not " if told else ""
-                    print(f"{edit.crate}/{edit.name}: {differs}{edit.file} {edit.goal}", flush=True)
+                    but = f"{told}, not " if told else ""
+                    print(f"{edit.crate}/{edit.name}: {but}{edit.file} {edit.goal}", flush=True)
         finally:
             pool.shutdown(cancel_futures=True)
     print(f"{passed} passed, {failed} failed")
