@@ -1,5 +1,6 @@
 -- The moves of a level of a search, and where an option stands.
-use Rattle.std.specs.Prelude.{ℕ, suc, ◌+◌, ◌-◌, ◌<◌, ◌≤◌, ◌≡◌, ◌⊎◌, ◌==◌, nat_le, Option, Some, None, option_map, unwrap_or, slice_get, List, [], ◌∷◌, ◌++◌, length, take, drop, if◌then◌else◌, All, Contains}
+use Rattle.std.specs.Prelude.{ℕ, ◌+◌, ◌-◌, ◌<◌, ◌≤◌, ◌≡◌, ◌⊎◌, ◌==◌, nat_le, Option, Some, None, option_map, unwrap_or, slice_get, List, [], ◌∷◌, ◌++◌, length, take, drop, if◌then◌else◌, All, Contains}
+use Rattle.std.specs.List.{position_or_len}
 use Rattle.xc_input.specs.declared.problem.Use.{Use}
 use Rattle.xc_dance.specs.declared.dance.Move.{Move}
 use Rattle.xc_dance.specs.declared.dance.Move.TheVariants.{Cover, Purify, Spend}
@@ -23,10 +24,9 @@ abbrev pub after_uses : Puzzle → List Use → List Move → List Move
 after_uses p [] t = t
 after_uses p (u ∷ us) t = after_uses p us (after_use p u t)
 
--- where item i stands among uses
+-- where item i stands among uses; their number where it doesn't
 abbrev pub place_in : ℕ → List Use → ℕ
-place_in i [] = 0
-place_in i (u ∷ us) = if u.item == i then 0 else suc (place_in i us)
+place_in i us = position_or_len (λ u. u.item == i) us
 
 -- the uses after that of item i, and then those before it
 abbrev pub others : ℕ → List Use → List Use

@@ -1,5 +1,5 @@
 -- The nodes of an option's uses, and what the tables tell there: for calls that go over an option by its nodes.
-use Rattle.std.proofs.Common.{◌≡◌, ℕ, zero, suc, ◌+◌, ◌-◌, ◌<◌, ◌≤◌, true, false, cond, eqb, List, [], ◌∷◌, length, get_or, drop, take, Some, Option, refl, ap, sym, ◌∙◌, arith, subst, eqb-true, eq-eqb, ne_eqb}
+use Rattle.std.proofs.Common.{◌≡◌, ℕ, zero, suc, ◌+◌, ◌-◌, ◌<◌, ◌≤◌, true, false, cond, not, eqb, List, [], ◌∷◌, length, get_or, drop, take, Some, Option, refl, ap, sym, ◌∙◌, arith, subst, eqb-true, eq-eqb, ne_eqb}
 use Rattle.std.specs.Prelude.{is_some, unwrap_or, slice_get, option_map}
 use Rattle.std.proofs.lemmas.Option.{slice_get_within, slice_get-get_or}
 use Rattle.xc_input.specs.declared.problem.Use.{Use}
@@ -21,16 +21,20 @@ use Rattle.xc_dance.proofs.LinkedTables.PlaceLemmas.{use_here, spacer_here, plac
 pub item_there : (us : List Use) (i : ℕ) (d : Use) → place_in i us < length us → (get_or us (place_in i us) d).item ≡ i
 item_there [] i d h = absurd (omega (arith, h))
 item_there (u ∷ us) i d h =
-    elim (eqb u.item i) as (λ b. eqb u.item i ≡ b → cond b 0 (suc (place_in i us)) < suc (length us) → (get_or (u ∷ us) (cond b 0 (suc (place_in i us))) d).item ≡ i) [
+    elim (eqb u.item i) as (λ b. eqb u.item i ≡ b → cond (not b) (1 + place_in i us) 0 < suc (length us)
+    → (get_or (u ∷ us) (cond (not b) (1 + place_in i us) 0) d).item ≡ i) [
       | true ↦ λ e l. eqb-true u.item i e
-      | false ↦ λ e l. item_there us i d (omega (arith, l))
+      | false ↦ λ e l.
+          let next : 1 + place_in i us ≡ suc (place_in i us) = omega arith in
+          rw next (item_there us i d (omega (arith, l)))
     ] refl h
 
 -- an item that stands among uses is held
 pub held_of : (i : ℕ) (us : List Use) → place_in i us < length us → is_some (colour_in us i) ≡ true
 held_of i [] h = absurd (omega (arith, h))
 held_of i (u ∷ us) h =
-    elim (eqb u.item i) as (λ b. eqb u.item i ≡ b → cond b 0 (suc (place_in i us)) < suc (length us) → is_some (colour_in (u ∷ us) i) ≡ true) [
+    elim (eqb u.item i) as (λ b. eqb u.item i ≡ b → cond (not b) (1 + place_in i us) 0 < suc (length us)
+    → is_some (colour_in (u ∷ us) i) ≡ true) [
       | true ↦ λ e l. rw e refl
       | false ↦ λ e l. rw e (held_of i us (omega (arith, l)))
     ] refl h
@@ -39,7 +43,8 @@ held_of i (u ∷ us) h =
 pub of_held : (us : List Use) (i : ℕ) → is_some (colour_in us i) ≡ true → place_in i us < length us
 of_held [] i h = cc
 of_held (u ∷ us) i h =
-    elim (eqb u.item i) as (λ b. eqb u.item i ≡ b → is_some (cond b (Some u.colour) (colour_in us i)) ≡ true → cond b 0 (suc (place_in i us)) < suc (length us)) [
+    elim (eqb u.item i) as (λ b. eqb u.item i ≡ b → is_some (cond b (Some u.colour) (colour_in us i)) ≡ true
+    → cond (not b) (1 + place_in i us) 0 < suc (length us)) [
       | true ↦ λ e l. omega arith
       | false ↦ λ e l. omega (arith, of_held us i l)
     ] refl h

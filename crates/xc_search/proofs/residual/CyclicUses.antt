@@ -39,7 +39,8 @@ placed i (u ∷ us) h = by_case (eqb u.item i) refl (λ l. placed i us l)
     by_case false e later =
         let held : is_some (colour_in us i) ≡ true = (rw e at h) in
         let rest = later held in
-        let there : place_in i (u ∷ us) ≡ suc (place_in i us) = rw e refl in
+        let one : 1 + place_in i us ≡ suc (place_in i us) = omega arith in
+        let there : place_in i (u ∷ us) ≡ suc (place_in i us) = rw e one in
         let next : suc (place_in i us) + 1 ≡ suc (place_in i us + 1) = omega arith in
         record {
           use_of = rest.use_of;
