@@ -3,14 +3,12 @@ use Rattle.std.specs.Prelude.{ℕ, zero, suc, List, [], ◌∷◌}
 use Rattle.xc_search.specs.declared.choice.Choice.{Choice}
 use Rattle.xc_input.specs.Problem.{Puzzle}
 
--- a search of this problem: what it shows, what is to come, and the room of its trail
+-- A search of this problem: the members still to come, the one that was reached last, as long as it stands, and how
+-- many moves the trail has room for.
 pub record Outlook : Type 0 where
   pub puzzle : Puzzle
-  -- the members still to come
   pub to_come : List (List Choice)
-  -- the member that was reached last, as long as it stands
   pub shown : List Choice
-  -- how many moves the trail has room for
   pub room : ℕ
 
 -- what is shown after n more of these members: the last of them, or none where there are fewer
