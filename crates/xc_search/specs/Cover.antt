@@ -9,14 +9,13 @@ use Rattle.xc_search.specs.Listing.{listing, whole}
 abbrev pub times_held : Puzzle → ℕ → List ℕ → ℕ
 times_held p i s = count_by (λ o. is_some (colour_in (uses_of p o) i)) s
 
--- A set of option numbers, as a list without repetition, is a cover.
+-- A set of option numbers, as a list without repetition, is a cover: each primary item is held as often as its bounds
+-- say, and two options that hold the same secondary item give it the same colour, which isn't 0.
 pub record IsCover (p : Puzzle) (s : List ℕ) : Type 0 where
   pub known : All (IsOption p) s
   pub distinct : AllPairs (λ a b. a ≢ b) s
-  -- each primary item is held as often as its bounds say
   pub within : (i : ℕ) (b : Bounds) → bounds_at p i ≡ Some b →
       (b.low ≤ times_held p i s) × (times_held p i s ≤ b.high)
-  -- two options that hold the same secondary item give it the same colour, which isn't 0
   pub agree : (a b i c d : ℕ) → Contains s a → Contains s b → a ≢ b → IsSecondary p i →
       colour_in (uses_of p a) i ≡ Some c → colour_in (uses_of p b) i ≡ Some d → (c ≡ d) × (0 < c)
 
@@ -48,7 +47,6 @@ EachCoverIsListed p = (s : List ℕ) → IsCover p s → (k : ℕ) × HasSetAt p
 abbrev pub NoSetTwice : Puzzle → Type 0
 NoSetTwice p = (j k : ℕ) (s : List ℕ) → HasSetAt p j s → HasSetAt p k s → j ≡ k
 
--- each cover is the set of exactly one member
+-- each cover is the set of exactly one member: it is that of one, and not that of two
 abbrev pub EachCoverIsListedOnce : Puzzle → Type 0
-EachCoverIsListedOnce p =
-    (s : List ℕ) → IsCover p s → (k : ℕ) × HasSetAt p k s × ((j : ℕ) → HasSetAt p j s → j ≡ k)
+EachCoverIsListedOnce p = EachCoverIsListed p × NoSetTwice p
