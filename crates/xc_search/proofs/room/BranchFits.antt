@@ -1,6 +1,5 @@
 -- The moves of a branch fit where there is room for a search.
 use Rattle.std.proofs.Common.{ℕ, ◌≡◌, ◌<◌, ◌≤◌, false, List, ◌∷◌, length, Some, sym, ap, ◌∙◌, arith, subst}
-use Rattle.xc_input.specs.declared.problem.Use.{Use}
 use Rattle.xc_dance.specs.declared.dance.Move.{Move}
 use Rattle.xc_dance.specs.declared.dance.Move.TheVariants.{Tweak}
 use Rattle.xc_search.specs.declared.level.Level.{Level}
@@ -9,24 +8,19 @@ use Rattle.xc_search.specs.Listing.{branch_item}
 use Rattle.xc_dance.specs.Moves.{AreLegal}
 use Rattle.xc_search.specs.Residuals.{wanted_at}
 use Rattle.xc_search.specs.inner.Residual.{residual_of}
-use Rattle.xc_dance.specs.Commits.{after_spend, after_uses}
-use Rattle.xc_search.specs.inner.Commits.{MayStand, oldest}
+use Rattle.xc_dance.specs.Commits.{after_spend}
+use Rattle.xc_search.specs.inner.Commits.{oldest}
 use Rattle.xc_search.specs.Room.{room_for}
 use Rattle.xc_search.specs.inner.Sparing.{spendings}
-use Rattle.xc_search.specs.inner.Levels.{IsNode, IsLevel, IsBegun, next_number}
+use Rattle.xc_search.specs.inner.Levels.{IsNode, IsLevel, next_number}
 use Rattle.xc_search.proofs.room.TrailFits.{has_room}
 use Rattle.xc_search.proofs.room.SparingMoves.{sparing_after_spend, spent_tweaked}
-use Rattle.xc_search.proofs.stacked.NextLevel.{ext_longer, ext_uses}
-use Rattle.xc_search.proofs.moves.LegalCommits.{legal_after_uses}
 use Rattle.xc_search.proofs.moves.LegalTweaks.{legal_node, legal_branch}
 use Rattle.xc_search.proofs.stacked.TakenOption.{ground_is, may_tweak}
 use Rattle.xc_search.proofs.stacked.NextBranch.{few_tweaks}
 
 pub fits_after_spend : (p : Puzzle) (t : List Move) (i : ℕ) → IsNode p t i → branch_item (residual_of p t) ≡ Some (wanted_at p t i) → length (after_spend p i t) ≤ room_for p
 fits_after_spend p t i n b = has_room p (after_spend p i t) (legal_node p i t n) (sparing_after_spend p t i n.searchable.sparing b)
-
-pub fits_begun : (p : Puzzle) (t : List Move) (l : Level) (s : List Move) (k : Level) → IsBegun p t l s k → length s ≤ room_for p
-fits_begun p t l s k b = has_room p s b.searchable.legal (omega (arith, b.searchable.sparing))
 
 pub fits_tweak : (p : Puzzle) (t : List Move) (l : Level) (o : ℕ) → IsLevel p t l → l.base ≡ length t → l.begun < l.count → l.walks ≡ false → next_number p t l ≡ Some o → length t < room_for p
 fits_tweak p t l o is_level whole more c e =
@@ -37,10 +31,3 @@ fits_tweak p t l o is_level whole more c e =
     let spent : spendings t ≡ spendings s = ap spendings t_is ∙ spent_tweaked l.tweaks l.item s in
     let all = has_room p (Tweak l.item ∷ t) ((may_tweak p t l o is_level whole more c e).0, legal) (omega (arith, spent, sparing_after_spend p u l.item is_level.node.searchable.sparing is_level.branch)) in
     omega (arith, all)
-
--- what stands before uses were committed stood already
-pub stands_before : (p : Puzzle) (us : List Use) (t : List Move) → MayStand p (after_uses p us t) → MayStand p t
-stands_before p us t m = record {
-  legal = legal_after_uses p us t m.legal;
-  room = omega (arith, m.room, ext_longer (after_uses p us t) t (ext_uses p us t));
-}

@@ -54,9 +54,6 @@ pub record WentOverAll (d : Dancing) (ls : Levels) (down : Bool) (n : ℕ) (e : 
   pub over : WentOver d ls down n e ks below
   pub within : n ≤ length (coming d.puzzle d.trail ls.levels down)
 
-pub went_none : (d : Dancing) (ls : Levels) (down : Bool) → IsStanding d.puzzle d.trail ls.levels down → WentOverAll d ls down 0 d ls down
-went_none d ls down s = record { over = record { still = (refl, refl); standing = s; come = refl; shown = refl }; within = omega arith }
-
 then_still : (d e f : Dancing) (ls ks js : Levels) → (e ≡ record d { trail = e.trail }) × (ks ≡ record ls { levels = ks.levels }) →
     (f ≡ record e { trail = f.trail }) × (js ≡ record ks { levels = js.levels }) → (f ≡ record d { trail = f.trail }) × (js ≡ record ls { levels = js.levels })
 then_still d e f ls ks js a b =
