@@ -27,7 +27,8 @@ use std::marker::Model;
 use thiserror::Error;
 use xc_input::Problem;
 
-/// How many choice lines are noted at most.
+/// How many choice lines are noted at most: lines that were chosen for it can make the notes of no use, and
+/// they take no more memory then.
 const MOST_PLACES: usize = 65536;
 
 /// The verdict on a listed solution.

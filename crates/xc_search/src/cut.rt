@@ -301,7 +301,8 @@ fn search_node<D: Dance>(position: &mut Position<D>, trial: &mut Stack, budget: 
 }
 
 /// How many nodes a search has that goes on behind so many, judged by the share of its branches that
-/// they took, of 2^63.
+/// they took, of 2^63. So a part need not be searched to its end while it is cut, and nothing that is
+/// promised hangs on the guess.
 fn nodes_at(visited: u64, share: u64) -> u64 {
     let times = (WHOLE / (share / 256).max(1)).max(256);
     (visited / 256)

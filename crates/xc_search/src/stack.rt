@@ -100,7 +100,8 @@ impl Stack {
         share
     }
 
-    /// Shows the levels' choices, from the oldest level on.
+    /// Shows the levels' choices, from the oldest level on. It is called where a search stops: choices
+    /// that are kept in step with the levels take stores which a count never reads.
     pub fn show<D: Dance>(&mut self, position: &Position<D>)
         requires { All (IsShown position.now.puzzle) self.old.levels }
         ensures { self.new ≡ record self.old { shown = choices_of position.now.puzzle self.old.levels } }

@@ -230,6 +230,7 @@ impl<W: SystemWriter + Drop> Outgoing<W> {
             (λ n. self.new.passed ≡ passed_of self.old.passed (length self.old.held + n) (length self.new.held))
             (λ _. self.new.passed ≡ passed_of self.old.passed (length self.old.held) (length self.new.held)) }
     {
+        // A file system may tell once that bytes were lost, and take the next ones gladly.
         if self.failures > 0 {
             return Err(self.fail());
         }

@@ -23,7 +23,8 @@ pub enum Answer {
     Failed,
 }
 
-/// What a source asks of the system. Each call is counted with its answer.
+/// What a source asks of the system. Each call is counted with its answer, since std's contracts say what
+/// a call did and not that it was made: over them a read that is tried again would be proved.
 pub trait SystemReader {
     /// The bytes that reads will give, where they are known.
     ghost remaining: { Self → Option (List ℕ) };

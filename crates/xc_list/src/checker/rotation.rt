@@ -14,7 +14,8 @@ fn least_item(uses: &[Use]) -> Option<u32>
     uses.iter().map(|u| u.item).min()
 }
 
-/// Puts the uses from the least item's on, cyclically, in place of what a list holds.
+/// Puts the uses from the least item's on, cyclically, in place of what a list holds. Sorting would not
+/// do: `A B C` and `A C B` have the same items and are not rotations of each other.
 pub(crate) fn rotate(uses: &[Use], rotated: &mut Vec<Use>) -> Result<(), AllocError>
     ensures { OnOk result (rotated.new.items ≡ class_of uses.now) }
 {

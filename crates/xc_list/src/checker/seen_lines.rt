@@ -73,7 +73,8 @@ impl SeenLines {
     }
 }
 
-/// A place below the size, where it is not 0, for a line: the high bits of its number, scaled.
+/// A place below the size, where it is not 0, for a line: the high bits of its number, scaled. No seed
+/// is needed, since two lines of one place only cost that one of them is read again.
 #[inline]
 fn place_of(line: &[u8], size: usize) -> usize {
     ((number_of(line) >> 32).wrapping_mul(size as u64) >> 32) as usize
