@@ -1,4 +1,3 @@
 pub mod BranchMoves
-pub mod LegalCommits
 pub mod LegalTweaks
 pub mod OldestMoves
