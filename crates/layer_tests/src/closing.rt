@@ -66,3 +66,23 @@ fn none_above_tweaks_closes(rt: HostRuntime) -> Result<(), Fail> {
     assert!(rt; most_moves(&problem) == 6 && closes_at_each_step(rt.alloc(), &problem, 4)?);
     Ok(())
 }
+
+/// Whether the tables of a search come back as they were built: by `close` where it began, and at once
+/// where there was no memory for it.
+fn comes_back(alloc: Global, problem: &Problem) -> Result<bool, Fail> {
+    let built = Links::for_search(alloc, problem)?;
+    let links = Links::for_search(alloc, problem)?;
+    let links = match Search::begin(alloc, links, problem) {
+        Ok(search) => search.close(),
+        Err(none) => none.into_dance(),
+    };
+    Ok(links.same(&built))
+}
+
+// A test can't refuse the memory of a search: `rt try --test --fail-alloc N -- hands_back` does.
+#[test]
+fn a_search_begins_or_hands_back_its_dance(rt: HostRuntime) -> Result<(), Fail> {
+    let problem = problem(rt.alloc(), Kind::Bounds, ALONE)?;
+    assert!(rt; comes_back(rt.alloc(), &problem)?);
+    Ok(())
+}
