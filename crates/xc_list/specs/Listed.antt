@@ -80,8 +80,7 @@ IsVerdictOn p s v = (v.number ≡ s.number) × (IsTrue v.cover ↔ IsListedCover
 abbrev pub AreVerdicts : Named → List (List ℕ) → List Verdict → Type 0
 AreVerdicts p lines vs = AllZip (IsVerdictOn p) (solutions_of lines) vs
 
--- an answer in place of verdicts
+-- an answer in place of verdicts: want of memory, or the first fault
 abbrev pub IsListingFault : Named → List (List ℕ) → ListingFault → Type 0
-IsListingFault p lines (BadLine n) = fault_in_listing p lines ≡ Some (BadLine n)
-IsListingFault p lines (UnknownOption n) = fault_in_listing p lines ≡ Some (UnknownOption n)
 IsListingFault p lines Memory = Unit {0}
+IsListingFault p lines fault = fault_in_listing p lines ≡ Some fault
