@@ -22,7 +22,8 @@ abbrev pub read_word : ℕ → Words → List ℕ → Result Words WordFault
 read_word place w [] = Err (Unknown place)
 read_word place w (b ∷ bs) =
     if b == byte "m" then read_number place bs (λ n. Ok (record w { spacing = n }))
-    else if b == byte "t" then read_number place bs (λ n. if n == 0 then Err (ZeroLimit place) else Ok (record w { limit = n }))
+    else if b == byte "t" then read_number place bs
+    (λ n. if n == 0 then Err (ZeroLimit place) else Ok (record w { limit = n }))
     else Err (Unknown place)
 
 -- What words ask for, one after another; the first faulty one ends it. With no word no solution is printed, and the
