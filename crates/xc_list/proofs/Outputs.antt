@@ -14,12 +14,12 @@ use Rattle.xc_list.specs.Output.{text_of, output, is_printed, member_text}
 use Rattle.xc_list.specs.declared.runs.End.TheVariants.{Done, Limit}
 use Rattle.xc_list.specs.Runs.{StoppedAt, end_of}
 use Rattle.xc_list.specs.inner.Ends.{printed_text}
-use Rattle.std.specs.Io.KnownBytes.{Appends, Keeps}
+use Rattle.std.specs.Io.KnownBytes.{Appends}
 use Rattle.xc_list.specs.Texts.{Begins}
 use Rattle.std.specs.Prelude.{All}
 use Rattle.std.proofs.lemmas.List.Elements.{All-head, All-drop}
 use Rattle.xc_list.specs.Texts.{SinkState, Took, BrokeOff}
-use Rattle.xc_list.proofs.TextLemmas.{appends_more, appends_kept}
+use Rattle.xc_list.proofs.TextLemmas.{appends_more}
 use Rattle.xc_input.specs.Problem.{Puzzle}
 use Rattle.xc_list.specs.Known.{IsKnownChoice}
 use Rattle.xc_list.proofs.OutputLemmas.KnownMembers.{members_known}
@@ -134,9 +134,6 @@ output_behind a spacing k limit h =
 
 pub begins_front : (x y : SinkState) (text front tail : List ℕ) → text ≡ front ++ tail → Appends x.taken y.taken front → Begins x y text
 begins_front x y text front tail e p = (length front, subst (Appends x.taken y.taken) (sym (ap (take (length front)) e ∙ take-append_seam front tail)) p)
-
-pub took_begins : {x y : SinkState} {text : List ℕ} (z : SinkState) → Took x y text → Keeps y.taken z.taken → Begins x z text
-took_begins {x = x} {y = y} {text = text} z p k = begins_front x z text text [] (sym (append-nil text)) (appends_kept x.taken y.taken z.taken text p.whole k)
 
 drop_at : {X : Type 0} (ms : List X) (k : ℕ) (m : X) → slice_get ms k ≡ Some m → drop k ms ≡ m ∷ drop (k + 1) ms
 drop_at [] k m e = absurd (cc e)

@@ -4,16 +4,12 @@ use Rattle.std.specs.Prelude.{flat_map}
 use Rattle.std.proofs.lemmas.List.Elements.{All-nil, All-cons, All-append}
 use Rattle.std.proofs.lemmas.List.Concat.{flat_map-append}
 use Rattle.xc_search.specs.declared.choice.Choice.{Choice}
-use Rattle.xc_search.specs.Cover.{members}
 use Rattle.xc_search.specs.Cut.{Uncut, IsPath, IsCutUpTo, below}
 use Rattle.xc_input.specs.Problem.{Puzzle}
 use Rattle.xc_input.specs.Named.{Named}
 use Rattle.xc_list.specs.Texts.{SinkState, Took, BrokeOff}
 use Rattle.xc_list.specs.Plans.{part_text, IsPlanned, PlanBrokeOff}
 use Rattle.xc_list.proofs.Writing.{then_took, then_broke}
-
-pub no_parts : (p : Puzzle) (ms : List (List Choice)) → ms ≡ members p → IsCutUpTo p [] ms
-no_parts p ms e = record { paths = All-nil (IsPath p); members = sym e }
 
 one_more : {A : Type 0} (f : List Choice → List A) (plan : List (List Choice)) (path : List Choice) → flat_map f (plan ++ path ∷ []) ≡ flat_map f plan ++ f path
 one_more f plan path = flat_map-append f plan (path ∷ []) ∙ ap (λ xs. flat_map f plan ++ xs) (append-nil (f path))

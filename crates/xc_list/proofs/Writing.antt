@@ -1,5 +1,5 @@
 -- What a sink has taken, text after text.
-use Rattle.std.proofs.Common.{◌≡◌, ℕ, ◌+◌, ◌/◌, ◌%◌, ◌^◌, ◌<◌, ◌≤◌, List, [], ◌∷◌, ◌++◌, Result, Ok, Err, length, take, drop, get_or, sym, ap, ◌∙◌, append-nil, arith, subst, zero, suc, inl, inr, refl}
+use Rattle.std.proofs.Common.{◌≡◌, ℕ, ◌+◌, ◌/◌, ◌%◌, ◌^◌, ◌<◌, ◌≤◌, List, [], ◌∷◌, ◌++◌, Result, Ok, Err, length, take, drop, get_or, sym, ap, ◌∙◌, append-nil, arith, subst, zero, suc, refl}
 use Rattle.std.proofs.KnownBytes.{Appends-nil}
 use Rattle.xc_list.specs.inner.LineParts.{colour_text}
 use Rattle.std.specs.Prelude.{flat_map, IsErr, codes, decimal, ◌==◌}
@@ -13,7 +13,7 @@ use Rattle.std.proofs.lemmas.List.Concat.{flat_map-append}
 use Rattle.std.proofs.Math.Seq.{take-append-add}
 use Rattle.std.proofs.lemmas.List.{take-append-le}
 use Rattle.std.specs.Io.KnownBytes.{Appends}
-use Rattle.xc_list.specs.Texts.{SinkState, Took, BrokeOff, Writes, WasTold}
+use Rattle.xc_list.specs.Texts.{SinkState, Took, BrokeOff, Writes}
 use Rattle.xc_input.specs.Calls.{Rose}
 use Rattle.xc_list.proofs.TextLemmas.{appends_more}
 
@@ -87,10 +87,6 @@ option_texts f item all us before after p e at b a =
 pub loop_took : {X : Type 0} {a b c : SinkState} (f : X → List ℕ) (xs : List X) (i : ℕ) (d : X) → i < length xs
     → Took a b (flat_map f (take i xs)) → Took b c (f (get_or xs i d)) → Took a c (flat_map f (take (i + 1) xs))
 loop_took {a = a} {c = c} f xs i d h p q = subst (Took a c) (sym (flat_map-take-more f xs i d h)) (then_took p q)
-
-pub was_told : {E : Type 0} {old new : SinkState} {text : List ℕ} (r : Result (Unit {0}) E) → Writes old new r text → WasTold old new text
-was_told (Ok u) w = inl w
-was_told (Err e) w = inr w
 
 pub decimal_two : (n : ℕ) → (10 ≤ n) × (n < 100) → decimal n ≡ (48 + n / 10) ∷ (48 + n % 10) ∷ []
 decimal_two n h =

@@ -1,13 +1,7 @@
 -- How many cells were written while moves were made.
-use Rattle.std.proofs.Common.{ℕ, ◌≡◌, ◌+◌, ◌∷◌, length, sym, subst, arith}
-use Rattle.xc_dance.specs.declared.dance.Move.{Move}
-use Rattle.xc_dance.specs.Cost.{cost_of, cost_of_newest, HasWritten}
+use Rattle.std.proofs.Common.{◌≡◌, ◌+◌, length, subst, arith}
+use Rattle.xc_dance.specs.Cost.{cost_of_newest, HasWritten}
 use Rattle.xc_dance.specs.Linked.{Linked}
-
--- one move
-pub written_once : (s n : Linked) (m : Move) (c : ℕ) →
-    n ≡ record s { trail = m ∷ s.trail; written = s.written + c } → c ≡ cost_of s.puzzle s.trail m → HasWritten s n
-written_once s n m c made cost = subst (HasWritten s) (sym made) (omega (arith, cost))
 
 -- some moves and then others
 pub written_then : (s t n : Linked) → t.puzzle ≡ s.puzzle → HasWritten s t → HasWritten t n → HasWritten s n
