@@ -1,5 +1,5 @@
 -- What the system is asked and answers, what the adapters of its streams tell, and when lines are passed on.
-use Rattle.std.specs.Prelude.{ℕ, ◌+◌, ◌-◌, ◌/◌, ◌^◌, ◌<◌, ◌≡◌, ◌⊎◌, nat_eq, min, Bool, true, false, List, [], codes, length, Option, None, Some, IfSome, Result, Ok, Err, if◌then◌else◌}
+use Rattle.std.specs.Prelude.{ℕ, ◌+◌, ◌-◌, ◌/◌, ◌^◌, ◌<◌, ◌≡◌, ◌⊎◌, nat_eq, min, Bool, true, false, List, [], codes, length, Result, Ok, Err, if◌then◌else◌}
 use Rattle.std.specs.List.{ends_with}
 use Rattle.xc_input.specs.Calls.{one_more, counted, Rose}
 use Rattle.xc_tools.specs.declared.system.Answer.{Answer}
@@ -39,10 +39,6 @@ answer_of success (Err e) = Failed
 -- No call was made, or one, and that didn't fail.
 abbrev pub AskedAtMostOnce : Asked → Asked → Type 0
 AskedAtMostOnce old new = (new ≡ old) ⊎ ((a : Answer) × (is_failure a ≡ false) × (new ≡ answered a old))
-
--- One call was made, with this answer, of what there is to be asked.
-abbrev pub IsAskedOnce : Option Asked → Option Asked → Answer → Type 0
-IsAskedOnce old new a = IfSome old (λ before. new ≡ Some (answered a before))
 
 -- Calls were made; the last one was a flush, and none failed.
 pub record FlushedLast (old new : Asked) : Type 0 where

@@ -3,7 +3,7 @@ ghost use Rattle.std.specs.Prelude.{◌≡◌, true, ◌+◌, ◌-◌, ◌^◌, 
 ghost use Rattle.std.specs.Io.KnownBytes.{ReadConsumes};
 ghost use Rattle.xc_input.specs.Calls.{counted};
 ghost use Rattle.xc_input.specs.Pieces.{SourceState};
-ghost use Rattle.xc_tools.specs.Streams.{IsAskedOnce, answer_of};
+ghost use Rattle.xc_tools.specs.Streams.{answered, answer_of};
 ghost use Rattle.xc_tools.specs.declared.system.Answer.TheVariants.{Whole};
 
 use crate::system::{System, SystemReader};
@@ -94,8 +94,8 @@ impl<R: SystemReader + Drop> Source for Incoming<R> {
         ensures missing { self.old.reader ≡ None → IsErr result }
         ensures spent { self.old.left ≡ 0 → IsErr result × (self.new.reader ≡ self.old.reader) }
         ensures closed { 0 < self.old.failures → IsErr result × (self.new.reader ≡ self.old.reader) }
-        ensures asked { self.old.failures ≡ 0 → 0 < self.old.left → IsAskedOnce
-            (option_map R.asked self.old.reader) (option_map R.asked self.new.reader) (answer_of Whole result) }
+        ensures asked { self.old.failures ≡ 0 → 0 < self.old.left → option_map R.asked self.new.reader
+            ≡ option_map (answered (answer_of Whole result)) (option_map R.asked self.old.reader) }
     {
         if self.failures > 0 || self.left == 0 {
             return Err(self.fail());
