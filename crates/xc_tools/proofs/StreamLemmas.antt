@@ -6,7 +6,7 @@ use Rattle.std.proofs.lemmas.Grind.{common_steps}
 use Rattle.std.proofs.Math.Seq.{take-add}
 use Rattle.std.proofs.lemmas.List.{drop-take, length-drop, length-take-le, take_all}
 use Rattle.std.proofs.lemmas.Slice.{drop-put_mid}
-use Rattle.std.specs.Io.KnownBytes.{append_known, Appends, Keeps}
+use Rattle.std.specs.Io.KnownBytes.{append_known, Appends}
 use Rattle.xc_list.proofs.TextLemmas.{appends_more}
 use Rattle.std.specs.Simd.Lanes.{chunk, put_chunk}
 use Rattle.std.proofs.lemmas.Simd.{put_chunk_is, length-put_chunk, length-chunk}
@@ -20,13 +20,6 @@ pass_more old mid new bytes rest place n e p q =
 
 front-back : (xs : List ℕ) (l : ℕ) → take l xs ++ drop l xs ≡ xs
 front-back xs l = grind (arith, common_steps)
-
--- what was passed on is no longer held back
-pub kept_rest : (old new : Option (List ℕ)) (held rest : List ℕ) (n : ℕ) → rest ≡ drop n held → Appends old new (take n held) → Keeps (append_known old held) (append_known new rest)
-kept_rest None new held rest n e p = tt
-kept_rest (Some x) None held rest n e p = absurd p
-kept_rest (Some x) (Some y) held rest n e p =
-    ap (λ l. y ++ l) e ∙ ap (λ l. l ++ drop n held) p ∙ append_assoc x (take n held) (drop n held) ∙ ap (λ l. x ++ l) (front-back held n)
 
 -- the rest of a front was moved to the front
 pub moved_to_front : (bytes : List ℕ) (n end : ℕ) → n ≤ end → end ≤ length bytes → take (end - n) (paste bytes 0 (drop n bytes) (end - n)) ≡ drop n (take end bytes)
