@@ -13,7 +13,7 @@ ghost use Rattle.xc_search.specs.inner.Paths.{KeepsPath, IsPart, ground};
 
 use crate::choice::Choice;
 use crate::counts::most_levels;
-use crate::levels::{Below, Resumed, deepen, end_level, resume, unwind};
+use crate::levels::{Below, deepen, end_level, resume};
 use crate::position::Position;
 use crate::stack::{Stack, WHOLE};
 use std::alloc::Global;
@@ -167,11 +167,11 @@ impl<'a, D: Dance> Cut<'a, D> {
     {
         let Cut {
             mut position,
-            stack,
+            stack: _,
             trial: _,
             down: _,
         } = self;
-        unwind(&mut position, stack);
+        position.undo_to(0);
         position.into_dance()
     }
 }
@@ -203,7 +203,7 @@ fn next_part<D: Dance>(
                 Settled::Part => return Cutting::Part,
             }
         }
-        if let Resumed::Nowhere = resume(position, stack) {
+        if !resumes(position, stack) {
             return Cutting::Done;
         }
         descends = true;
@@ -258,7 +258,10 @@ fn open_node<D: Dance>(position: &mut Position<D>, stack: &mut Stack) -> Settled
     ensures path { KeepsPath position.old stack.old position.new stack.new }
 {
     match deepen(position, stack) {
-        Below::Branch => Settled::Opened,
+        Below::Branch(entered) => {
+            position.commit_branch(entered.item, entered.place);
+            Settled::Opened
+        }
         Below::Nothing => Settled::Barren,
         Below::Solution => Settled::Part,
     }
@@ -333,10 +336,13 @@ fn visit_node<D: Dance>(position: &mut Position<D>, levels: &mut Stack, found: b
         (found ≡ false) × GoesOn position.old levels.old true position.new levels.new result.goes_on }
 {
     match deepen(position, levels) {
-        Below::Branch => Visit {
-            found,
-            goes_on: true,
-        },
+        Below::Branch(entered) => {
+            position.commit_branch(entered.item, entered.place);
+            Visit {
+                found,
+                goes_on: true,
+            }
+        }
         Below::Nothing => Visit {
             found,
             goes_on: resumes(position, levels),
@@ -352,12 +358,16 @@ fn visit_node<D: Dance>(position: &mut Position<D>, levels: &mut Stack, found: b
 fn resumes<D: Dance>(position: &mut Position<D>, levels: &mut Stack) -> bool
     requires standing { IsStanding position.old.puzzle position.old.trail levels.old.levels false }
     ensures on { GoesOn position.old levels.old false position.new levels.new result }
+    ensures less { result ≡ true → work_left position.new levels.new true < work_left position.old levels.old false }
     ensures ended { result ≡ false → levels.new.levels ≡ [] }
     ensures path { KeepsPath position.old levels.old position.new levels.new }
 {
     match resume(position, levels) {
-        Resumed::Branch => true,
-        Resumed::Nowhere => false,
+        Some(entered) => {
+            position.commit_branch(entered.item, entered.place);
+            true
+        }
+        None => false,
     }
 }
 

@@ -1,39 +1,38 @@
 //! The levels of the search.
-ghost use Rattle.std.specs.Prelude.{◌≡◌, ◌+◌, ◌<◌, ◌≤◌, List, [], ◌∷◌, true, false};
+ghost use Rattle.std.specs.Prelude.{◌≡◌, ◌+◌, ◌<◌, ◌≤◌, List, ◌∷◌, true, false, IfSome, IsNone};
 ghost use Rattle.xc_input.specs.Problem.{Puzzle};
 ghost use Rattle.xc_search.specs.inner.MostLevels.{most_levels};
-ghost use Rattle.xc_search.specs.inner.Levels.{AreStacked, IsStanding};
+ghost use Rattle.xc_search.specs.inner.Levels.{AreStacked, IsStanding, IsEntered, begun_level};
 ghost use Rattle.xc_search.specs.inner.Commits.{oldest};
-ghost use Rattle.xc_search.specs.inner.Ahead.{work_left, GoesOn, IsReached, IsDone};
+ghost use Rattle.xc_search.specs.inner.Ahead.{work_left, GoesOn, EntersBranch, IsReached, IsDone, branched};
 ghost use Rattle.xc_search.specs.inner.Paths.{KeepsPath};
 
-use crate::level::{Level, begin_level};
+use crate::level::{Begun, Level, begin_level};
 use crate::position::Position;
 use crate::search::Step;
 use crate::stack::Stack;
 use xc_dance::Dance;
 
+/// A branch that was entered, and whose moves are still to be made.
+#[derive(Clone, Copy)]
+pub struct Entered {
+    pub item: u32,
+    /// Where the option that it takes stands in the item's list; `item`, where it takes none.
+    pub place: u32,
+}
+
 /// What stands below the levels.
 #[derive(Clone, Copy)]
 pub enum Below {
-    /// A branch of another level, which was begun.
-    Branch,
+    /// A branch of another level, which was entered.
+    Branch(Entered),
     /// No branch: the item that was to be covered next has none.
     Nothing,
     /// No item is left, and the choices of the levels are a solution.
     Solution,
 }
 
-/// Where a search goes on.
-#[derive(Clone, Copy)]
-pub enum Resumed {
-    /// In a branch, which was begun.
-    Branch,
-    /// Nowhere: no level has another branch, and all have ended.
-    Nowhere,
-}
-
-/// Begins a level with its first branch, since what is left wasn't searched yet. A level without
+/// Begins a level and enters its first branch, since what is left wasn't searched yet. A level without
 /// branches ends at once, and isn't noted.
 #[inline(always)]
 pub fn deepen<D: Dance>(position: &mut Position<D>, stack: &mut Stack) -> Below
@@ -41,13 +40,14 @@ pub fn deepen<D: Dance>(position: &mut Position<D>, stack: &mut Stack) -> Below
     requires levels_fit { most_levels position.old.puzzle ≤ stack.old.room }
     ensures reached { result ≡ Below.Solution → IsReached position.old stack.old true position.new stack.new }
     ensures same { result ≡ Below.Solution → (position.new ≡ position.old) × (stack.new ≡ stack.old) }
-    ensures deeper { result ≡ Below.Branch → GoesOn position.old stack.old true position.new stack.new true }
-    ensures less { result ≡ Below.Branch →
-        work_left position.new stack.new true < work_left position.old stack.old true }
+    ensures deeper { (b : Entered) → result ≡ Below.Branch b →
+        EntersBranch position.old stack.old true position.new stack.new b.item b.place }
+    ensures deeper_path { (b : Entered) → result ≡ Below.Branch b →
+        KeepsPath position.old stack.old (branched position.new b.item b.place) stack.new }
     ensures nothing { result ≡ Below.Nothing → GoesOn position.old stack.old true position.new stack.new false }
     ensures fewer { result ≡ Below.Nothing →
         work_left position.new stack.new false < work_left position.old stack.old true }
-    ensures path { KeepsPath position.old stack.old position.new stack.new }
+    ensures path { result ≡ Below.Nothing → KeepsPath position.old stack.old position.new stack.new }
 {
     let Some((item, count)) = position.choose() else {
         return Below::Solution;
@@ -55,14 +55,16 @@ pub fn deepen<D: Dance>(position: &mut Position<D>, stack: &mut Stack) -> Below
     let count = count as u32;
     let mut level = position.descend(item, count);
     if count == 0 {
-        end_level(position, &level);
+        position.undo_to(level.mark);
         return Below::Nothing;
     }
     let branch = position.enter(&level, 1);
     begin_level(&mut level, branch);
     stack.push(level);
-    position.commit_branch(item, branch.place);
-    Below::Branch
+    Below::Branch(Entered {
+        item,
+        place: branch.place,
+    })
 }
 
 /// Ends a level, the newest one.
@@ -87,30 +89,78 @@ fn behind(k: u32, many: u32) -> u32
     k + 1
 }
 
-/// Begins the next branch of the newest level that has one, and ends the levels above it.
+/// Enters the next branch of a level, the newest one, which has another.
 #[inline(always)]
-pub fn resume<D: Dance>(position: &mut Position<D>, stack: &mut Stack) -> Resumed
+fn enter_next<D: Dance>(position: &mut Position<D>, level: &Level) -> Begun
+    requires stacked { (ls : List Level) × AreStacked position.old.puzzle position.old.trail (level.now ∷ ls) }
+    requires more { level.now.begun < level.now.count }
+    ensures still { position.new ≡ record position.old { trail = position.new.trail } }
+    ensures entered { IsEntered position.old.puzzle (oldest level.now.base position.old.trail) level.now
+        position.new.trail (begun_level result level.now) }
+{
+    position.undo_to(level.base);
+    position.enter(level, behind(level.begun, level.count))
+}
+
+/// Enters the next branch of the newest level that has one, and ends the levels above it. None where no level has
+/// another branch, and then all have ended.
+#[inline(always)]
+pub fn resume<D: Dance>(position: &mut Position<D>, stack: &mut Stack) -> Option<Entered>
     requires standing { IsStanding position.old.puzzle position.old.trail stack.old.levels false }
-    ensures resumed { result ≡ Resumed.Branch → GoesOn position.old stack.old false position.new stack.new true }
-    ensures less { result ≡ Resumed.Branch →
-        work_left position.new stack.new true < work_left position.old stack.old false }
-    ensures done { result ≡ Resumed.Nowhere → IsDone position.old stack.old false position.new stack.new }
-    ensures path { KeepsPath position.old stack.old position.new stack.new }
+    ensures resumed { IfSome result (λ b. EntersBranch position.old stack.old false position.new stack.new b.item b.place) }
+    ensures resumed_path { IfSome result (λ b.
+        KeepsPath position.old stack.old (branched position.new b.item b.place) stack.new) }
+    ensures done { IsNone result → IsDone position.old stack.old false position.new stack.new }
+    ensures path { IsNone result → KeepsPath position.old stack.old position.new stack.new }
 {
     while let Some(level) = stack.top() {
         if level.begun < level.count {
             let item = level.item;
-            let next = behind(level.begun, level.count);
-            position.undo_to(level.base);
-            let branch = position.enter(level, next);
+            let branch = enter_next(position, level);
             stack.begin(branch);
-            position.commit_branch(item, branch.place);
-            return Resumed::Branch;
+            return Some(Entered {
+                item,
+                place: branch.place,
+            });
         }
         end_level(position, level);
         stack.pop();
     }
-    Resumed::Nowhere
+    None
+}
+
+/// What a search goes on with.
+#[derive(Clone, Copy)]
+enum Next {
+    /// A branch, which was entered.
+    Branch(Entered),
+    /// A solution, which the levels' choices are.
+    Solution,
+    /// Nothing: all levels have ended.
+    Nothing,
+}
+
+/// Enters the next branch, a first one where what is left wasn't searched yet (`down`).
+#[inline(always)]
+fn go_on<D: Dance>(position: &mut Position<D>, stack: &mut Stack, down: bool) -> Next
+    requires standing { IsStanding position.old.puzzle position.old.trail stack.old.levels down }
+    requires levels_fit { most_levels position.old.puzzle ≤ stack.old.room }
+    ensures entered { (b : Entered) → result ≡ Next.Branch b →
+        EntersBranch position.old stack.old down position.new stack.new b.item b.place }
+    ensures reached { result ≡ Next.Solution → IsReached position.old stack.old down position.new stack.new }
+    ensures done { result ≡ Next.Nothing → IsDone position.old stack.old down position.new stack.new }
+{
+    if down {
+        match deepen(position, stack) {
+            Below::Branch(entered) => return Next::Branch(entered),
+            Below::Nothing => {}
+            Below::Solution => return Next::Solution,
+        }
+    }
+    match resume(position, stack) {
+        Some(entered) => Next::Branch(entered),
+        None => Next::Nothing,
+    }
 }
 
 /// Goes on to the next solution, or to the end. `down`: what is left wasn't searched yet.
@@ -123,28 +173,11 @@ pub fn advance<D: Dance>(position: &mut Position<D>, stack: &mut Stack, down: bo
 {
     let mut descends = down;
     loop {
-        if descends {
-            match deepen(position, stack) {
-                Below::Branch => continue,
-                Below::Nothing => {}
-                Below::Solution => return Step::Solution,
-            }
-        }
-        if let Resumed::Nowhere = resume(position, stack) {
-            return Step::Done;
+        match go_on(position, stack, descends) {
+            Next::Branch(entered) => position.commit_branch(entered.item, entered.place),
+            Next::Solution => return Step::Solution,
+            Next::Nothing => return Step::Done,
         }
         descends = true;
     }
-}
-
-/// Ends every level, the newest first, and undoes what still stands.
-pub fn unwind<D: Dance>(position: &mut Position<D>, mut stack: Stack)
-    requires stacked { AreStacked position.old.puzzle position.old.trail stack.levels }
-    ensures { position.new ≡ record position.old { trail = [] } }
-{
-    while let Some(level) = stack.top() {
-        end_level(position, level);
-        stack.pop();
-    }
-    position.undo_to(0);
 }

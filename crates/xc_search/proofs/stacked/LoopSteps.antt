@@ -10,8 +10,8 @@ use Rattle.xc_dance.specs.Moves.{AreTweaks}
 use Rattle.xc_search.specs.Residuals.{choice_after}
 use Rattle.xc_dance.specs.Commits.{option_at, after_spend}
 use Rattle.xc_search.specs.inner.Commits.{oldest}
-use Rattle.xc_search.specs.inner.Levels.{Levels, IsNode, IsLevel, AreStacked, to_give, IsStanding, MayBegin, first_level, IsBegun, IsEntered, after_branch, begun_level, newest_begun}
-use Rattle.xc_search.specs.inner.Ahead.{visits, ahead, GoesOn, IsReached}
+use Rattle.xc_search.specs.inner.Levels.{Levels, IsNode, IsLevel, AreStacked, to_give, IsStanding, MayBegin, first_level, IsBegun, IsEntered, IsPlace, CanBranch, after_branch, begun_level, newest_begun}
+use Rattle.xc_search.specs.inner.Ahead.{visits, ahead, GoesOn, EntersBranch, branched, IsReached}
 use Rattle.xc_search.proofs.moves.OldestMoves.{oldest_all}
 use Rattle.xc_search.proofs.stacked.NextLevel.{solution, descended, chosen_item, oldest-oldest}
 use Rattle.xc_search.proofs.stacked.BackAtLevel.{returned, finished, closing}
@@ -136,19 +136,30 @@ begins_first d e f ls ks i n l b s h ed el ef begun ek =
     let on = goes_to e f l b js ks down.0.standing.stacked refl ef (subst (λ t. IsBegun e.puzzle t l f.trail (begun_level b l)) (sym base_is) begun) ek in
     (GoesOn-trans d e f ls js ks true false true down.0 on.0, omega (arith, down.1, on.1))
 
--- once its moves were made
-pub enters_first : (d e f h : Dancing) (ls ks : Levels) (i n : ℕ) (l : Level) (b : Begun) → IsStanding d.puzzle d.trail ls.levels true → choice_after d.puzzle d.trail ≡ Some (i, n) →
+-- what is asked of the moves of a branch that was entered
+can_branch : (p : Puzzle) (u : List Move) (f : Dancing) (i : ℕ) (l : Level) (b : Begun) → f.puzzle ≡ p → l.item ≡ i →
+    IsEntered p u l f.trail (begun_level b l) → CanBranch f.puzzle i (option_at f.puzzle i b.place) f.trail × IsPlace f.puzzle i b.place
+can_branch p u f i l b same at entered =
+    subst (λ i. CanBranch f.puzzle i (option_at f.puzzle i b.place) f.trail × IsPlace f.puzzle i b.place) at
+    (subst (λ p. CanBranch p l.item (option_at p l.item b.place) f.trail × IsPlace p l.item b.place) (sym same)
+    (entered.can, entered.begun.level.place))
+
+-- a new level's first branch is entered
+pub enters_first : (d e f : Dancing) (ls ks : Levels) (i n : ℕ) (l : Level) (b : Begun) →
+    IsStanding d.puzzle d.trail ls.levels true → choice_after d.puzzle d.trail ≡ Some (i, n) →
     e ≡ record d { trail = after_spend d.puzzle i d.trail } → l ≡ first_level d.puzzle d.trail i n →
     f ≡ record e { trail = f.trail } → IsEntered e.puzzle e.trail l f.trail (begun_level b l) →
-    h ≡ record f { trail = after_branch f.puzzle i (option_at f.puzzle i b.place) f.trail } → ks ≡ with_level (begun_level b l) ls →
-    GoesOn d ls true h ks true × (ahead h.puzzle h.trail ks.levels true < ahead d.puzzle d.trail ls.levels true)
-enters_first d e f h ls ks i n l b s c ed el ef entered eh ek =
+    ks ≡ with_level (begun_level b l) ls → EntersBranch d ls true f ks i b.place
+enters_first d e f ls ks i n l b s c ed el ef entered ek =
+    let h = branched f i b.place in
     let made : h ≡ record e { trail = after_branch e.puzzle l.item (option_at e.puzzle l.item b.place) f.trail } =
-    eh ∙ ap (λ (f : Dancing). record f { trail = after_branch f.puzzle i (option_at f.puzzle i b.place) f.trail }) ef
+    ap (λ (f : Dancing). record f { trail = after_branch f.puzzle i (option_at f.puzzle i b.place) f.trail }) ef
     ∙ ap (λ (l : Level). record e { trail = after_branch e.puzzle l.item (option_at e.puzzle l.item b.place) f.trail }) (sym el) in
     let still : h ≡ record e { trail = h.trail } = made ∙ ap (λ t. record e { trail = t }) (ap (λ (h : Dancing). h.trail) (sym made)) in
-    begins_first d e h ls ks i n l b s c ed el still
-    (subst (λ (h : Dancing). IsBegun e.puzzle e.trail l h.trail (begun_level b l)) (sym made) entered.begun) ek
+    let on = begins_first d e h ls ks i n l b s c ed el still
+    (subst (λ (h : Dancing). IsBegun e.puzzle e.trail l h.trail (begun_level b l)) (sym made) entered.begun) ek in
+    let can = can_branch e.puzzle e.trail f i l b (ap (λ (s : Dancing). s.puzzle) ef) (ap (λ (l : Level). l.item) el) entered in
+    record { can = can.0; place = can.1; goes_on = on.0; less = on.1 }
 
 -- a level without branches ends at once
 pub passes_over : (d e f : Dancing) (ls : Levels) (i n : ℕ) (l : Level) → IsStanding d.puzzle d.trail ls.levels true → choice_after d.puzzle d.trail ≡ Some (i, n) →
@@ -160,19 +171,30 @@ passes_over d e f ls i n l s h ed el none ef =
     let back = goes_back e f l js ls down.0.standing.stacked refl (omega (arith, ap (λ (l : Level). l.count) el, none)) ef refl in
     (GoesOn-trans d e f ls js ls true false false down.0 back.0, omega (arith, down.1, back.1))
 
--- a branch is entered and its moves are made
-pub enters : (d e f h : Dancing) (l : Level) (b : Begun) (vs ks : Levels) → AreStacked d.puzzle d.trail vs.levels → vs.levels ≡ l ∷ drop 1 vs.levels →
-    e ≡ record d { trail = oldest l.base d.trail } → f ≡ record e { trail = f.trail } → IsEntered e.puzzle e.trail l f.trail (begun_level b l) →
-    h ≡ record f { trail = after_branch f.puzzle l.item (option_at f.puzzle l.item b.place) f.trail } → ks ≡ record vs { levels = newest_begun b vs.levels } →
-    GoesOn d vs false h ks true × (ahead h.puzzle h.trail ks.levels true < visits d.puzzle d.trail vs.levels)
-enters d e f h l b vs ks stacked top ed ef entered eh ek =
-    let at : f ≡ record d { trail = f.trail } = ef ∙ ap (λ (e : Dancing). record e { trail = f.trail }) ed in
+-- the next branch of the newest level is entered
+pub enters : (d f : Dancing) (l : Level) (b : Begun) (vs ks : Levels) →
+    AreStacked d.puzzle d.trail vs.levels → vs.levels ≡ l ∷ drop 1 vs.levels →
+    f ≡ record d { trail = f.trail } → IsEntered d.puzzle (oldest l.base d.trail) l f.trail (begun_level b l) →
+    ks ≡ record vs { levels = newest_begun b vs.levels } → EntersBranch d vs false f ks l.item b.place
+enters d f l b vs ks stacked top ef entered ek =
+    let h = branched f l.item b.place in
     let made : h ≡ record d { trail = after_branch d.puzzle l.item (option_at d.puzzle l.item b.place) f.trail } =
-    eh ∙ ap (λ (f : Dancing). record f { trail = after_branch f.puzzle l.item (option_at f.puzzle l.item b.place) f.trail }) at in
+    ap (λ (f : Dancing). record f { trail = after_branch f.puzzle l.item (option_at f.puzzle l.item b.place) f.trail }) ef in
     let still : h ≡ record d { trail = h.trail } = made ∙ ap (λ t. record d { trail = t }) (ap (λ (h : Dancing). h.trail) (sym made)) in
-    let begun : IsBegun d.puzzle (oldest l.base d.trail) l (after_branch d.puzzle l.item (option_at d.puzzle l.item b.place) f.trail) (begun_level b l) =
-    subst (λ (e : Dancing). IsBegun e.puzzle e.trail l (after_branch e.puzzle l.item (option_at e.puzzle l.item b.place) f.trail) (begun_level b l)) ed entered.begun in
-    goes_to d h l b vs ks stacked top still (subst (λ (h : Dancing). IsBegun d.puzzle (oldest l.base d.trail) l h.trail (begun_level b l)) (sym made) begun) ek
+    let on = goes_to d h l b vs ks stacked top still
+    (subst (λ (h : Dancing). IsBegun d.puzzle (oldest l.base d.trail) l h.trail (begun_level b l)) (sym made) entered.begun) ek in
+    let can = can_branch d.puzzle (oldest l.base d.trail) f l.item l b (ap (λ (s : Dancing). s.puzzle) ef) refl entered in
+    record { can = can.0; place = can.1; goes_on = on.0; less = on.1 }
+
+-- what goes on and then enters a branch enters it
+pub goes_on_to : (d e f : Dancing) (ls ks js : Levels) (x y : Bool) (i q : ℕ) → GoesOn d ls x e ks y →
+    ahead e.puzzle e.trail ks.levels y ≤ ahead d.puzzle d.trail ls.levels x → EntersBranch e ks y f js i q → EntersBranch d ls x f js i q
+goes_on_to d e f ls ks js x y i q on less enters = record {
+  can = enters.can;
+  place = enters.place;
+  goes_on = GoesOn-trans d e (branched f i q) ls ks js x y true on enters.goes_on;
+  less = omega (arith, less, enters.less);
+}
 
 -- what is asked back at a level
 pub back_at : (p : Puzzle) (t r : List Move) (l : Level) (ls : List Level) → AreStacked p t (l ∷ ls) → r ≡ oldest l.base t →

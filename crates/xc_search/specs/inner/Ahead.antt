@@ -1,5 +1,5 @@
 -- No public clause cites this module. How much work a search has ahead, and what a step of its loop does.
-use Rattle.std.specs.Prelude.{ℕ, zero, suc, ◌+◌, ◌≡◌, Bool, true, false, List, [], ◌∷◌, drop, Option, Some, None}
+use Rattle.std.specs.Prelude.{ℕ, zero, suc, ◌+◌, ◌<◌, ◌≡◌, Bool, true, false, List, [], ◌∷◌, drop, Option, Some, None}
 use Rattle.xc_search.specs.inner.Sizes.{size_of}
 use Rattle.xc_dance.specs.declared.dance.Move.{Move}
 use Rattle.xc_search.specs.declared.level.Level.{Level}
@@ -7,8 +7,9 @@ use Rattle.xc_input.specs.Problem.{Puzzle}
 use Rattle.xc_search.specs.Listing.{Wanted, Residual, Branch, branch_item, branches_of}
 use Rattle.xc_search.specs.inner.Residual.{residual_of}
 use Rattle.xc_dance.specs.Dancing.{Dancing}
+use Rattle.xc_dance.specs.Commits.{option_at}
 use Rattle.xc_search.specs.inner.Commits.{oldest}
-use Rattle.xc_search.specs.inner.Levels.{Levels, AreStacked, IsStanding, coming, choices_of, to_give, branches_at}
+use Rattle.xc_search.specs.inner.Levels.{Levels, AreStacked, IsStanding, coming, choices_of, to_give, branches_at, IsPlace, CanBranch, after_branch}
 
 -- the work of these branches, each by the work of what it leaves
 abbrev pub cost : (Residual → ℕ) → List Branch → ℕ
@@ -49,6 +50,17 @@ pub record GoesOn (d : Dancing) (ls : Levels) (down : Bool) (e : Dancing) (ks : 
   pub still : (e ≡ record d { trail = e.trail }) × (ks ≡ record ls { levels = ks.levels })
   pub standing : IsStanding e.puzzle e.trail ks.levels below
   pub members : coming d.puzzle d.trail ls.levels down ≡ coming e.puzzle e.trail ks.levels below
+
+-- the state once the moves of a branch at item i were made, of the option whose use stands at place q
+abbrev pub branched : Dancing → ℕ → ℕ → Dancing
+branched e i q = record e { trail = after_branch e.puzzle i (option_at e.puzzle i q) e.trail }
+
+-- It entered such a branch, whose moves are still to be made: then it goes on with less work ahead.
+pub record EntersBranch (d : Dancing) (ls : Levels) (down : Bool) (e : Dancing) (ks : Levels) (i q : ℕ) : Type 0 where
+  pub can : CanBranch e.puzzle i (option_at e.puzzle i q) e.trail
+  pub place : IsPlace e.puzzle i q
+  pub goes_on : GoesOn d ls down (branched e i q) ks true
+  pub less : work_left (branched e i q) ks true < work_left d ls down
 
 -- It reached a solution: the choices of ks are the next member.
 pub record IsReached (d : Dancing) (ls : Levels) (down : Bool) (e : Dancing) (ks : Levels) : Type 0 where

@@ -1,13 +1,16 @@
-use Rattle.std.proofs.Common.{arith, ◌≡◌, ◌<◌, ◌∙◌, None, Some, true, false, refl, sym, ap, ◌+◌}
+use Rattle.std.proofs.Common.{arith, ◌≡◌, ◌<◌, ◌∙◌, None, Some, true, false, refl, sym, ap, subst, ◌+◌}
 use Rattle.xc_search.specs.declared.level.Level.{Level}
 use Rattle.xc_search.specs.Residuals.{choice_after}
-use Rattle.xc_search.specs.inner.Ahead.{GoesOn, visits, ahead}
+use Rattle.xc_search.specs.inner.Ahead.{GoesOn, EntersBranch, branched, visits, ahead}
+use Rattle.xc_search.specs.inner.Paths.{KeepsPath}
+use Rattle.xc_search.specs.declared.levels.Entered.{Entered}
+use Rattle.xc_search.specs.declared.levels.Below.TheVariants.{Branch}
 use Rattle.xc_search.proofs.paths.Led.{keeps_first, keeps_over}
 use Rattle.xc_search.proofs.stacked.Depth.{depth_at}
 use Rattle.xc_search.proofs.stacked.NextLevel.{chosen_item}
 use Rattle.xc_search.proofs.stacked.LoopSteps.{finds, node_at, with_level, begins_at, may_enter, enters_first, passes_over}
 use Rattle.xc_search.proofs.levels.deepen.Goals as goal
-use Rattle.xc_search.proofs.levels.deepen.Goals.{In-Some, After-end_level, After-commit_branch}
+use Rattle.xc_search.proofs.levels.deepen.Goals.{In-Some, After-undo_to, After-push}
 
 chose : (g : _) (c : In-Some g) → choice_after c.args.position.now.puzzle c.args.position.now.trail ≡ Some (c.in-Some.item, c.in-Some.count)
 chose g c = cc (c.choose.ensures.choice, c.in-Some.is)
@@ -37,24 +40,21 @@ push-requires g c =
     let chosen = chosen_item s.puzzle s.trail i c.in-Some.count (c.requires.standing.searchable refl).legal e in
     omega (arith, c.requires.levels_fit, depth_at s.puzzle s.trail ls i c.requires.standing.stacked (c.requires.standing.shallow refl) node chosen.branch)
 
-pub end_level-requires : goal.end_level-requires
-end_level-requires g c =
-    let d = c.args.position.now in
+pub undo_to-requires : goal.undo_to-requires
+undo_to-requires g c =
     let e = c.descend-level.new.self in
-    record {
-      stacked = (
-        d.puzzle,
-        c.args.stack.now.levels,
-        begins_at d e c.args.stack.now c.in-Some.item c.in-Some.count c.descend-level.result
-            c.requires.standing (chose g (goal.at.end_level-requires g c).In-Some) c.descend-level.ensures.trail c.descend-level.ensures.level,
-      );
-    }
+    let stacked = begins_at c.args.position.now e c.args.stack.now c.in-Some.item c.in-Some.count c.descend-level.result
+    c.requires.standing (chose g (goal.at.undo_to-requires g c).In-Some) c.descend-level.ensures.trail c.descend-level.ensures.level in
+    omega (arith, stacked.0.within.0, stacked.0.within.1)
 
-over : (g : _) (c : After-end_level g) → GoesOn c.args.position.now c.args.stack.now true c.end_level.new.position c.args.stack.now false
-    × (visits c.end_level.new.position.puzzle c.end_level.new.position.trail c.args.stack.now.levels < ahead c.args.position.now.puzzle c.args.position.now.trail c.args.stack.now.levels true)
+same_branch : (a b : Entered) → Branch a ≡ Branch b → a ≡ b
+same_branch a b is = cc is
+
+over : (g : _) (c : After-undo_to g) → GoesOn c.args.position.now c.args.stack.now true c.undo_to.new.self c.args.stack.now false
+    × (visits c.undo_to.new.self.puzzle c.undo_to.new.self.trail c.args.stack.now.levels < ahead c.args.position.now.puzzle c.args.position.now.trail c.args.stack.now.levels true)
 over g c =
-    passes_over c.args.position.now c.descend-level.new.self c.end_level.new.position c.args.stack.now c.in-Some.item c.in-Some.count c.descend-level.result
-    c.requires.standing (cc (c.choose.ensures.choice, c.in-Some.is)) c.descend-level.ensures.trail c.descend-level.ensures.level c.if-count-eq0.true c.end_level.ensures
+    passes_over c.args.position.now c.descend-level.new.self c.undo_to.new.self c.args.stack.now c.in-Some.item c.in-Some.count c.descend-level.result
+    c.requires.standing (cc (c.choose.ensures.choice, c.in-Some.is)) c.descend-level.ensures.trail c.descend-level.ensures.level c.if-count-eq0.true c.undo_to.ensures
 
 pub returns-then-count-eq0-clause-nothing : goal.returns-then-count-eq0-clause-nothing
 returns-then-count-eq0-clause-nothing g c _ = (over g c).0
@@ -69,26 +69,32 @@ enter-branch-requires g c = record {
       c.requires.standing (chose g (goal.at.enter-branch-requires g c).In-Some) c.descend-level.ensures.trail c.descend-level.ensures.level (omega (arith, c.if-count-eq0.false));
 }
 
-deeper : (g : _) (c : After-commit_branch g) → GoesOn c.args.position.now c.args.stack.now true c.commit_branch.new.self c.push.new.self true
-    × (ahead c.commit_branch.new.self.puzzle c.commit_branch.new.self.trail c.push.new.self.levels true < ahead c.args.position.now.puzzle c.args.position.now.trail c.args.stack.now.levels true)
+deeper : (g : _) (c : After-push g) →
+    EntersBranch c.args.position.now c.args.stack.now true c.enter-branch.new.self c.push.new.self c.in-Some.item c.enter-branch.result.place
 deeper g c =
-    enters_first c.args.position.now c.descend-level.new.self c.enter-branch.new.self c.commit_branch.new.self c.args.stack.now c.push.new.self c.in-Some.item c.in-Some.count c.descend-level.result c.enter-branch.result
+    enters_first c.args.position.now c.descend-level.new.self c.enter-branch.new.self c.args.stack.now c.push.new.self c.in-Some.item c.in-Some.count c.descend-level.result c.enter-branch.result
     c.requires.standing (cc (c.choose.ensures.choice, c.in-Some.is)) c.descend-level.ensures.trail c.descend-level.ensures.level
-    c.enter-branch.ensures.still c.enter-branch.ensures.entered c.commit_branch.ensures (c.push.ensures ∙ ap (λ l. with_level l c.args.stack.now) c.begin_level.ensures)
+    c.enter-branch.ensures.still c.enter-branch.ensures.entered (c.push.ensures ∙ ap (λ l. with_level l c.args.stack.now) c.begin_level.ensures)
+
+path : (g : _) (c : After-push g) →
+    KeepsPath c.args.position.now c.args.stack.now (branched c.enter-branch.new.self c.in-Some.item c.enter-branch.result.place) c.push.new.self
+path g c =
+    keeps_first c.args.position.now c.descend-level.new.self c.enter-branch.new.self (branched c.enter-branch.new.self c.in-Some.item c.enter-branch.result.place)
+    c.args.stack.now c.push.new.self c.in-Some.item c.in-Some.count c.descend-level.result c.enter-branch.result
+    c.descend-level.ensures.trail c.descend-level.ensures.level
+    c.enter-branch.ensures.still c.enter-branch.ensures.entered refl (c.push.ensures ∙ ap (λ l. with_level l c.args.stack.now) c.begin_level.ensures)
 
 pub returns-clause-deeper : goal.returns-clause-deeper
-returns-clause-deeper g c _ = (deeper g c).0
+returns-clause-deeper g c b is =
+    subst (λ (b : Entered). EntersBranch c.args.position.now c.args.stack.now true c.enter-branch.new.self c.push.new.self b.item b.place)
+    (same_branch (record { item = c.in-Some.item; place = c.enter-branch.result.place }) b is) (deeper g (goal.at.returns-clause-deeper g c).After-push)
 
-pub returns-clause-less : goal.returns-clause-less
-returns-clause-less g c _ = (deeper g c).1
+pub returns-clause-deeper_path : goal.returns-clause-deeper_path
+returns-clause-deeper_path g c b is =
+    subst (λ (b : Entered). KeepsPath c.args.position.now c.args.stack.now (branched c.enter-branch.new.self b.item b.place) c.push.new.self)
+    (same_branch (record { item = c.in-Some.item; place = c.enter-branch.result.place }) b is) (path g (goal.at.returns-clause-deeper_path g c).After-push)
 
 pub returns-then-count-eq0-clause-path : goal.returns-then-count-eq0-clause-path
-returns-then-count-eq0-clause-path g c =
-    keeps_over c.args.position.now c.descend-level.new.self c.end_level.new.position c.args.stack.now c.in-Some.item c.in-Some.count c.descend-level.result
-    c.descend-level.ensures.trail c.descend-level.ensures.level c.end_level.ensures
-
-pub returns-clause-path : goal.returns-clause-path
-returns-clause-path g c =
-    keeps_first c.args.position.now c.descend-level.new.self c.enter-branch.new.self c.commit_branch.new.self c.args.stack.now c.push.new.self c.in-Some.item c.in-Some.count c.descend-level.result c.enter-branch.result
-    c.descend-level.ensures.trail c.descend-level.ensures.level
-    c.enter-branch.ensures.still c.enter-branch.ensures.entered c.commit_branch.ensures (c.push.ensures ∙ ap (λ l. with_level l c.args.stack.now) c.begin_level.ensures)
+returns-then-count-eq0-clause-path g c _ =
+    keeps_over c.args.position.now c.descend-level.new.self c.undo_to.new.self c.args.stack.now c.in-Some.item c.in-Some.count c.descend-level.result
+    c.descend-level.ensures.trail c.descend-level.ensures.level c.undo_to.ensures
