@@ -164,7 +164,7 @@ fn go_on<D: Dance>(position: &mut Position<D>, stack: &mut Stack, down: bool) ->
 }
 
 /// Goes on to the next solution, or to the end. `down`: what is left wasn't searched yet.
-#[inline(always)]
+// No wish to be inlined: its one call is, and then after what it calls was taken in, which leaves more in registers.
 pub fn advance<D: Dance>(position: &mut Position<D>, stack: &mut Stack, down: bool) -> Step
     requires standing { IsStanding position.old.puzzle position.old.trail stack.old.levels down }
     requires levels_fit { most_levels position.old.puzzle ≤ stack.old.room }
