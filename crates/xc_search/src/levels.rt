@@ -107,7 +107,8 @@ fn enter_next<D: Dance>(position: &mut Position<D>, level: &Level) -> Begun
 #[inline(always)]
 pub fn resume<D: Dance>(position: &mut Position<D>, stack: &mut Stack) -> Option<Entered>
     requires standing { IsStanding position.old.puzzle position.old.trail stack.old.levels false }
-    ensures resumed { IfSome result (λ b. EntersBranch position.old stack.old false position.new stack.new b.item b.place) }
+    ensures resumed { IfSome result (λ b.
+        EntersBranch position.old stack.old false position.new stack.new b.item b.place) }
     ensures resumed_path { IfSome result (λ b.
         KeepsPath position.old stack.old (branched position.new b.item b.place) stack.new) }
     ensures done { IsNone result → IsDone position.old stack.old false position.new stack.new }

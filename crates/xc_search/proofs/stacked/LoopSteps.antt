@@ -10,7 +10,9 @@ use Rattle.xc_dance.specs.Moves.{AreTweaks}
 use Rattle.xc_search.specs.Residuals.{choice_after}
 use Rattle.xc_dance.specs.Commits.{option_at, after_spend}
 use Rattle.xc_search.specs.inner.Commits.{oldest}
-use Rattle.xc_search.specs.inner.Levels.{Levels, IsNode, IsLevel, AreStacked, to_give, IsStanding, MayBegin, first_level, IsBegun, IsEntered, IsPlace, CanBranch, after_branch, begun_level, newest_begun}
+use Rattle.xc_search.specs.inner.Levels.{Levels, IsNode, IsLevel, AreStacked, to_give, IsStanding, MayBegin}
+use Rattle.xc_search.specs.inner.Levels.{IsBegun, IsEntered, IsPlace, CanBranch, after_branch, first_level}
+use Rattle.xc_search.specs.inner.Levels.{begun_level, newest_begun}
 use Rattle.xc_search.specs.inner.Ahead.{visits, ahead, GoesOn, EntersBranch, branched, IsReached}
 use Rattle.xc_search.proofs.moves.OldestMoves.{oldest_all}
 use Rattle.xc_search.proofs.stacked.NextLevel.{solution, descended, chosen_item, oldest-oldest}
@@ -138,7 +140,8 @@ begins_first d e f ls ks i n l b s h ed el ef begun ek =
 
 -- what is asked of the moves of a branch that was entered
 can_branch : (p : Puzzle) (u : List Move) (f : Dancing) (i : ℕ) (l : Level) (b : Begun) → f.puzzle ≡ p → l.item ≡ i →
-    IsEntered p u l f.trail (begun_level b l) → CanBranch f.puzzle i (option_at f.puzzle i b.place) f.trail × IsPlace f.puzzle i b.place
+    IsEntered p u l f.trail (begun_level b l) → CanBranch f.puzzle i
+    (option_at f.puzzle i b.place) f.trail × IsPlace f.puzzle i b.place
 can_branch p u f i l b same at entered =
     subst (λ i. CanBranch f.puzzle i (option_at f.puzzle i b.place) f.trail × IsPlace f.puzzle i b.place) at
     (subst (λ p. CanBranch p l.item (option_at p l.item b.place) f.trail × IsPlace p l.item b.place) (sym same)
@@ -158,7 +161,8 @@ enters_first d e f ls ks i n l b s c ed el ef entered ek =
     let still : h ≡ record e { trail = h.trail } = made ∙ ap (λ t. record e { trail = t }) (ap (λ (h : Dancing). h.trail) (sym made)) in
     let on = begins_first d e h ls ks i n l b s c ed el still
     (subst (λ (h : Dancing). IsBegun e.puzzle e.trail l h.trail (begun_level b l)) (sym made) entered.begun) ek in
-    let can = can_branch e.puzzle e.trail f i l b (ap (λ (s : Dancing). s.puzzle) ef) (ap (λ (l : Level). l.item) el) entered in
+    let can = can_branch e.puzzle e.trail f i l b (ap (λ (s : Dancing). s.puzzle) ef) (ap (λ
+    (l : Level). l.item) el) entered in
     record { can = can.0; place = can.1; goes_on = on.0; less = on.1 }
 
 -- a level without branches ends at once
@@ -179,16 +183,22 @@ pub enters : (d f : Dancing) (l : Level) (b : Begun) (vs ks : Levels) →
 enters d f l b vs ks stacked top ef entered ek =
     let h = branched f l.item b.place in
     let made : h ≡ record d { trail = after_branch d.puzzle l.item (option_at d.puzzle l.item b.place) f.trail } =
-    ap (λ (f : Dancing). record f { trail = after_branch f.puzzle l.item (option_at f.puzzle l.item b.place) f.trail }) ef in
+    ap (λ (f : Dancing). record f {
+      trail = after_branch f.puzzle l.item
+          (option_at f.puzzle l.item b.place) f.trail;
+    }) ef in
     let still : h ≡ record d { trail = h.trail } = made ∙ ap (λ t. record d { trail = t }) (ap (λ (h : Dancing). h.trail) (sym made)) in
     let on = goes_to d h l b vs ks stacked top still
-    (subst (λ (h : Dancing). IsBegun d.puzzle (oldest l.base d.trail) l h.trail (begun_level b l)) (sym made) entered.begun) ek in
-    let can = can_branch d.puzzle (oldest l.base d.trail) f l.item l b (ap (λ (s : Dancing). s.puzzle) ef) refl entered in
+    (subst (λ (h : Dancing). IsBegun d.puzzle (oldest l.base d.trail) l h.trail (begun_level b l))
+    (sym made) entered.begun) ek in
+    let can = can_branch d.puzzle (oldest l.base d.trail) f l.item l b (ap (λ
+    (s : Dancing). s.puzzle) ef) refl entered in
     record { can = can.0; place = can.1; goes_on = on.0; less = on.1 }
 
 -- what goes on and then enters a branch enters it
 pub goes_on_to : (d e f : Dancing) (ls ks js : Levels) (x y : Bool) (i q : ℕ) → GoesOn d ls x e ks y →
-    ahead e.puzzle e.trail ks.levels y ≤ ahead d.puzzle d.trail ls.levels x → EntersBranch e ks y f js i q → EntersBranch d ls x f js i q
+    ahead e.puzzle e.trail ks.levels y ≤ ahead d.puzzle d.trail ls.levels x → EntersBranch e ks y f js i q
+    → EntersBranch d ls x f js i q
 goes_on_to d e f ls ks js x y i q on less enters = record {
   can = enters.can;
   place = enters.place;

@@ -9,7 +9,8 @@ use Rattle.xc_search.specs.inner.Residual.{residual_of}
 use Rattle.xc_dance.specs.Dancing.{Dancing}
 use Rattle.xc_dance.specs.Commits.{option_at}
 use Rattle.xc_search.specs.inner.Commits.{oldest}
-use Rattle.xc_search.specs.inner.Levels.{Levels, AreStacked, IsStanding, coming, choices_of, to_give, branches_at, IsPlace, CanBranch, after_branch}
+use Rattle.xc_search.specs.inner.Levels.{Levels, AreStacked, IsStanding, coming, choices_of, to_give, branches_at}
+use Rattle.xc_search.specs.inner.Levels.{IsPlace, CanBranch, after_branch}
 
 -- the work of these branches, each by the work of what it leaves
 abbrev pub cost : (Residual → ℕ) → List Branch → ℕ

@@ -44,17 +44,22 @@ pub undo_to-requires : goal.undo_to-requires
 undo_to-requires g c =
     let e = c.descend-level.new.self in
     let stacked = begins_at c.args.position.now e c.args.stack.now c.in-Some.item c.in-Some.count c.descend-level.result
-    c.requires.standing (chose g (goal.at.undo_to-requires g c).In-Some) c.descend-level.ensures.trail c.descend-level.ensures.level in
+    c.requires.standing (chose g (goal.at.undo_to-requires g c).In-Some) c.descend-level.ensures.trail
+    c.descend-level.ensures.level in
     omega (arith, stacked.0.within.0, stacked.0.within.1)
 
 same_branch : (a b : Entered) → Branch a ≡ Branch b → a ≡ b
 same_branch a b is = cc is
 
-over : (g : _) (c : After-undo_to g) → GoesOn c.args.position.now c.args.stack.now true c.undo_to.new.self c.args.stack.now false
-    × (visits c.undo_to.new.self.puzzle c.undo_to.new.self.trail c.args.stack.now.levels < ahead c.args.position.now.puzzle c.args.position.now.trail c.args.stack.now.levels true)
+over : (g : _) (c : After-undo_to g) → GoesOn c.args.position.now c.args.stack.now true c.undo_to.new.self
+    c.args.stack.now false
+    × (visits c.undo_to.new.self.puzzle c.undo_to.new.self.trail c.args.stack.now.levels < ahead
+    c.args.position.now.puzzle c.args.position.now.trail c.args.stack.now.levels true)
 over g c =
-    passes_over c.args.position.now c.descend-level.new.self c.undo_to.new.self c.args.stack.now c.in-Some.item c.in-Some.count c.descend-level.result
-    c.requires.standing (cc (c.choose.ensures.choice, c.in-Some.is)) c.descend-level.ensures.trail c.descend-level.ensures.level c.if-count-eq0.true c.undo_to.ensures
+    passes_over c.args.position.now c.descend-level.new.self c.undo_to.new.self c.args.stack.now c.in-Some.item
+    c.in-Some.count c.descend-level.result
+    c.requires.standing (cc (c.choose.ensures.choice, c.in-Some.is)) c.descend-level.ensures.trail
+    c.descend-level.ensures.level c.if-count-eq0.true c.undo_to.ensures
 
 pub returns-then-count-eq0-clause-nothing : goal.returns-then-count-eq0-clause-nothing
 returns-then-count-eq0-clause-nothing g c _ = (over g c).0
@@ -70,31 +75,42 @@ enter-branch-requires g c = record {
 }
 
 deeper : (g : _) (c : After-push g) →
-    EntersBranch c.args.position.now c.args.stack.now true c.enter-branch.new.self c.push.new.self c.in-Some.item c.enter-branch.result.place
+    EntersBranch c.args.position.now c.args.stack.now true c.enter-branch.new.self c.push.new.self c.in-Some.item
+    c.enter-branch.result.place
 deeper g c =
-    enters_first c.args.position.now c.descend-level.new.self c.enter-branch.new.self c.args.stack.now c.push.new.self c.in-Some.item c.in-Some.count c.descend-level.result c.enter-branch.result
+    enters_first c.args.position.now c.descend-level.new.self c.enter-branch.new.self c.args.stack.now
+    c.push.new.self c.in-Some.item c.in-Some.count c.descend-level.result c.enter-branch.result
     c.requires.standing (cc (c.choose.ensures.choice, c.in-Some.is)) c.descend-level.ensures.trail c.descend-level.ensures.level
-    c.enter-branch.ensures.still c.enter-branch.ensures.entered (c.push.ensures ∙ ap (λ l. with_level l c.args.stack.now) c.begin_level.ensures)
+    c.enter-branch.ensures.still c.enter-branch.ensures.entered (c.push.ensures ∙ ap (λ l. with_level l
+    c.args.stack.now) c.begin_level.ensures)
 
 path : (g : _) (c : After-push g) →
-    KeepsPath c.args.position.now c.args.stack.now (branched c.enter-branch.new.self c.in-Some.item c.enter-branch.result.place) c.push.new.self
+    KeepsPath c.args.position.now c.args.stack.now (branched c.enter-branch.new.self c.in-Some.item
+    c.enter-branch.result.place) c.push.new.self
 path g c =
-    keeps_first c.args.position.now c.descend-level.new.self c.enter-branch.new.self (branched c.enter-branch.new.self c.in-Some.item c.enter-branch.result.place)
+    keeps_first c.args.position.now c.descend-level.new.self c.enter-branch.new.self (branched
+    c.enter-branch.new.self c.in-Some.item c.enter-branch.result.place)
     c.args.stack.now c.push.new.self c.in-Some.item c.in-Some.count c.descend-level.result c.enter-branch.result
     c.descend-level.ensures.trail c.descend-level.ensures.level
-    c.enter-branch.ensures.still c.enter-branch.ensures.entered refl (c.push.ensures ∙ ap (λ l. with_level l c.args.stack.now) c.begin_level.ensures)
+    c.enter-branch.ensures.still c.enter-branch.ensures.entered refl (c.push.ensures ∙ ap (λ l. with_level l
+    c.args.stack.now) c.begin_level.ensures)
 
 pub returns-clause-deeper : goal.returns-clause-deeper
 returns-clause-deeper g c b is =
-    subst (λ (b : Entered). EntersBranch c.args.position.now c.args.stack.now true c.enter-branch.new.self c.push.new.self b.item b.place)
-    (same_branch (record { item = c.in-Some.item; place = c.enter-branch.result.place }) b is) (deeper g (goal.at.returns-clause-deeper g c).After-push)
+    subst (λ (b : Entered). EntersBranch c.args.position.now c.args.stack.now true c.enter-branch.new.self
+    c.push.new.self b.item b.place)
+    (same_branch (record { item = c.in-Some.item; place = c.enter-branch.result.place }) b is) (deeper g
+    (goal.at.returns-clause-deeper g c).After-push)
 
 pub returns-clause-deeper_path : goal.returns-clause-deeper_path
 returns-clause-deeper_path g c b is =
-    subst (λ (b : Entered). KeepsPath c.args.position.now c.args.stack.now (branched c.enter-branch.new.self b.item b.place) c.push.new.self)
-    (same_branch (record { item = c.in-Some.item; place = c.enter-branch.result.place }) b is) (path g (goal.at.returns-clause-deeper_path g c).After-push)
+    subst (λ (b : Entered). KeepsPath c.args.position.now c.args.stack.now (branched
+    c.enter-branch.new.self b.item b.place) c.push.new.self)
+    (same_branch (record { item = c.in-Some.item; place = c.enter-branch.result.place }) b is) (path g
+    (goal.at.returns-clause-deeper_path g c).After-push)
 
 pub returns-then-count-eq0-clause-path : goal.returns-then-count-eq0-clause-path
 returns-then-count-eq0-clause-path g c _ =
-    keeps_over c.args.position.now c.descend-level.new.self c.undo_to.new.self c.args.stack.now c.in-Some.item c.in-Some.count c.descend-level.result
+    keeps_over c.args.position.now c.descend-level.new.self c.undo_to.new.self c.args.stack.now c.in-Some.item
+    c.in-Some.count c.descend-level.result
     c.descend-level.ensures.trail c.descend-level.ensures.level c.undo_to.ensures

@@ -13,4 +13,8 @@ enter-requires g c =
     let d = c.args.position.now in
     let l = c.args.level.now in
     let here = back_at d.puzzle d.trail (oldest l.base d.trail) l c.requires.stacked.0 c.requires.stacked.1 refl in
-    record { number = c.behind.ensures; ready = subst (λ (e : Dancing). MayBegin e.puzzle e.trail l) (sym c.undo_to.ensures) (record { level = here.0; whole = here.1; more = c.requires.more }) }
+    record {
+      number = c.behind.ensures;
+      ready = subst (λ (e : Dancing). MayBegin e.puzzle e.trail l) (sym
+          c.undo_to.ensures) (record { level = here.0; whole = here.1; more = c.requires.more });
+    }

@@ -14,16 +14,23 @@ stacked : (g : _) (c : In-Some g) → AreStacked c.loop-level.position.puzzle c.
 stacked g c = subst (AreStacked c.loop-level.position.puzzle c.loop-level.position.trail) c.in-Some.ensures.some c.loop-level.invariant.goes_on.standing.stacked
 
 pub enter_next-branch-requires-clause-stacked : goal.enter_next-branch-requires-clause-stacked
-enter_next-branch-requires-clause-stacked g c = (drop 1 c.loop-level.stack.levels, stacked g (goal.at.enter_next-branch-requires-clause-stacked g c).In-Some)
+enter_next-branch-requires-clause-stacked g c = (
+  drop 1 c.loop-level.stack.levels,
+  stacked g
+      (goal.at.enter_next-branch-requires-clause-stacked g c).In-Some,
+)
 
 pub enter_next-branch-requires-clause-more : goal.enter_next-branch-requires-clause-more
 enter_next-branch-requires-clause-more g c = c.if-level.true
 
-on : (g : _) (c : After-begin g) → EntersBranch c.loop-level.position c.loop-level.stack false c.enter_next-branch.new.position c.begin.new.self
+on : (g : _) (c : After-begin g) → EntersBranch c.loop-level.position c.loop-level.stack false
+    c.enter_next-branch.new.position c.begin.new.self
     c.in-Some.level.now.item c.enter_next-branch.result.place
 on g c =
-    enters c.loop-level.position c.enter_next-branch.new.position c.in-Some.level.now c.enter_next-branch.result c.loop-level.stack c.begin.new.self
-    c.loop-level.invariant.goes_on.standing.stacked c.in-Some.ensures.some c.enter_next-branch.ensures.still c.enter_next-branch.ensures.entered c.begin.ensures
+    enters c.loop-level.position c.enter_next-branch.new.position c.in-Some.level.now c.enter_next-branch.result
+    c.loop-level.stack c.begin.new.self
+    c.loop-level.invariant.goes_on.standing.stacked c.in-Some.ensures.some c.enter_next-branch.ensures.still
+    c.enter_next-branch.ensures.entered c.begin.ensures
 
 back : (g : _) (c : After-pop g) → GoesOn c.loop-level.position c.loop-level.stack false c.end_level.new.position c.pop.new.self false
     × (visits c.end_level.new.position.puzzle c.end_level.new.position.trail c.pop.new.self.levels < visits c.loop-level.position.puzzle c.loop-level.position.trail c.loop-level.stack.levels)
@@ -40,8 +47,10 @@ returns-then-level-clause-resumed_path g c =
     let d = c.loop-level.position in
     let l = c.in-Some.level.now in
     let f = c.enter_next-branch.new.position in
-    let next = keeps_next d (record d { trail = oldest l.base d.trail }) f (branched f l.item c.enter_next-branch.result.place) l c.enter_next-branch.result c.loop-level.stack c.begin.new.self
-    c.loop-level.invariant.goes_on.standing.stacked c.in-Some.ensures.some refl c.enter_next-branch.ensures.still c.enter_next-branch.ensures.entered refl c.begin.ensures in
+    let next = keeps_next d (record d { trail = oldest l.base d.trail }) f (branched f l.item
+    c.enter_next-branch.result.place) l c.enter_next-branch.result c.loop-level.stack c.begin.new.self
+    c.loop-level.invariant.goes_on.standing.stacked c.in-Some.ensures.some refl c.enter_next-branch.ensures.still
+    c.enter_next-branch.ensures.entered refl c.begin.ensures in
     λ u a. next u (c.loop-level.invariant.path u a)
 
 pub loop-level-smaller : goal.loop-level-smaller
