@@ -1,14 +1,18 @@
 -- A colour keeps the number that it has where it is met first.
-use Rattle.std.proofs.Common.{◌≡◌, ℕ, suc, ◌+◌, ◌<◌, List, [], ◌∷◌, ◌++◌, Option, None, Some, Bool, true, false, ◌||◌, not, nat_lt, is_none, unwrap_or, length, refl, sym, ap, subst, ◌∙◌, length-append, arith, if◌then◌else◌}
+use Rattle.std.proofs.Common.{◌≡◌, ℕ, suc, ◌+◌, ◌<◌, ◌≤◌, List, [], ◌∷◌, ◌++◌, Option, None, Some, Bool, true, false}
+use Rattle.std.proofs.Common.{◌||◌, not, nat_lt, is_none, unwrap_or, length, map, take, append-nil, append_assoc, refl}
+use Rattle.std.proofs.Common.{sym, ap, subst, ◌∙◌, length-append, arith, if◌then◌else◌}
 use Rattle.xc_input.specs.declared.problem.Use.{Use}
 use Rattle.std.proofs.lemmas.Bool.Decides.{nat_tests}
 use Rattle.std.proofs.lemmas.Slice.Eq.{bytes_eq-Decides}
+use Rattle.std.proofs.Math.Seq.{take-append_seam}
 use Rattle.std.specs.List.{list_any, position, position_or_len}
 use Rattle.std.specs.Str.{bytes_eq}
 use Rattle.xc_input.specs.Words.{place}
 use Rattle.xc_input.specs.Sheets.{Written, with_colour, colour_number}
 use Rattle.xc_input.specs.inner.Sheets.{with_uses}
-use Rattle.xc_input.specs.inner.ColourNumbers.{numbered}
+use Rattle.xc_input.specs.inner.Builders.{items_of}
+use Rattle.xc_input.specs.inner.ColourNumbers.{numbered, use_behind}
 use Rattle.xc_input.proofs.FaultLemmas.{no-place, some-is}
 
 last-or-len : {A : Type 0} (p : A → Bool) (xs : List A) (x : A) → list_any p xs ≡ false → p x ≡ true → position_or_len p (xs ++ x ∷ []) ≡ length xs
@@ -85,9 +89,7 @@ kept cs (u ∷ us) c k = let m = knows-more cs u.colour c k in kept (with_colour
 -- uses of an option that is kept, each numbered as soon as it is met, behind options that used these colours
 abbrev pub numbered_in_turn : List (List ℕ) → List Written → List Use
 numbered_in_turn colours [] = []
-numbered_in_turn colours (u ∷ us) =
-    record { item = u.item; colour = colour_number (with_colour colours u.colour) u.colour } ∷
-    numbered_in_turn (with_colour colours u.colour) us
+numbered_in_turn colours (u ∷ us) = use_behind colours u ∷ numbered_in_turn (with_colour colours u.colour) us
 
 pub in_turn : (cs : List (List ℕ)) (us : List Written) → numbered_in_turn cs us ≡ numbered cs us
 in_turn cs [] = refl
@@ -95,3 +97,50 @@ in_turn cs (u ∷ us) =
     let same = kept (with_colour cs u.colour) us u.colour (met cs u.colour) in
     let later = in_turn (with_colour cs u.colour) us in
     λ i. record { item = u.item; colour = sym same i } ∷ later i
+
+-- one use more
+pub in_turn_more : (cs : List (List ℕ)) (us : List Written) (u : Written)
+    → numbered_in_turn cs (us ++ u ∷ []) ≡ numbered_in_turn cs us ++ use_behind (with_uses cs us) u ∷ []
+in_turn_more cs [] u = refl
+in_turn_more cs (v ∷ us) u = ap (λ more. use_behind cs v ∷ more) (in_turn_more (with_colour cs v.colour) us u)
+
+pub with_more : (cs : List (List ℕ)) (us : List Written) (u : Written)
+    → with_uses cs (us ++ u ∷ []) ≡ with_colour (with_uses cs us) u.colour
+with_more cs [] u = refl
+with_more cs (v ∷ us) u = with_more (with_colour cs v.colour) us u
+
+-- as many as there were, with the same items
+pub in_turn_count : (cs : List (List ℕ)) (us : List Written) → length (numbered_in_turn cs us) ≡ length us
+in_turn_count cs [] = refl
+in_turn_count cs (u ∷ us) = ap suc (in_turn_count (with_colour cs u.colour) us)
+
+pub in_turn_items : (cs : List (List ℕ)) (us : List Written) → map (λ u. u.item) (numbered_in_turn cs us) ≡ items_of us
+in_turn_items cs [] = refl
+in_turn_items cs (u ∷ us) = ap (λ is. u.item ∷ is) (in_turn_items (with_colour cs u.colour) us)
+
+-- at most one colour more
+pub colours_more : (cs : List (List ℕ)) (c : List ℕ) → length (with_colour cs c) ≤ length cs + 1
+colours_more cs [] = omega arith
+colours_more cs (b ∷ bs) =
+    let P : Bool → Type 0 = λ t. length (if t then cs ++ (b ∷ bs) ∷ [] else cs) ≤ length cs + 1 in
+    (elim (is_none (place cs (b ∷ bs))) as P [
+      | true ↦ omega (arith, length-append cs ((b ∷ bs) ∷ []))
+      | false ↦ omega arith
+    ])
+
+-- the colours that were met stand first
+pub first_met : (cs : List (List ℕ)) (us : List Written) → take (length cs) (with_uses cs us) ≡ cs
+first_met cs us = let m = more us cs in ap (take (length cs)) m.1 ∙ take-append_seam cs m.0
+  where
+    new_or_not : (cs : List (List ℕ)) (c : List ℕ) → (d : List (List ℕ)) × (with_colour cs c ≡ cs ++ d)
+    new_or_not cs [] = ([], sym (append-nil cs))
+    new_or_not cs (b ∷ bs) =
+        let P : Bool → Type 0 = λ t. (d : List (List ℕ)) × ((if t then cs ++ (b ∷ bs) ∷ [] else cs) ≡ cs ++ d) in
+        (elim (is_none (place cs (b ∷ bs))) as P [ true ↦ ((b ∷ bs) ∷ [], refl) | false ↦ ([], sym (append-nil cs)) ])
+
+    more : (us : List Written) (cs : List (List ℕ)) → (d : List (List ℕ)) × (with_uses cs us ≡ cs ++ d)
+    more [] cs = ([], sym (append-nil cs))
+    more (u ∷ us) cs =
+        let first = new_or_not cs u.colour in
+        let others = more us (with_colour cs u.colour) in
+        (first.0 ++ others.0, others.1 ∙ ap (λ ds. ds ++ others.0) first.1 ∙ append_assoc cs first.0 others.0)

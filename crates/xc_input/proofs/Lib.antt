@@ -4,6 +4,7 @@ pub mod SheetValidity
 pub mod TokenLemmas
 pub mod FaultLemmas
 pub mod OptionLemmas
+pub mod OptionSteps
 pub mod NameLemmas
 pub mod BuilderLemmas
 pub mod PieceLemmas

@@ -1,16 +1,20 @@
 -- Marks at the items of a line.
-use Rattle.std.proofs.Common.{◌≡◌, ◌≢◌, ℕ, ◌+◌, ◌-◌, ◌<◌, ◌≤◌, List, [], ◌∷◌, ◌++◌, Bool, true, false, ◌||◌, nat_eq, length, map, get_or, set, take, drop, All, refl, ap, ◌∙◌, sym, subst, arith, length-set, Option, None, Some, position, IfSome}
+use Rattle.std.proofs.Common.{◌≡◌, ◌≢◌, ℕ, zero, suc, ◌+◌, ◌-◌, ◌<◌, ◌≤◌, List, [], ◌∷◌, ◌++◌, Bool, true, false}
+use Rattle.std.proofs.Common.{true≢false, ◌||◌, nat_eq, length, map, get_or, set, take, drop, All, refl, ap, ◌∙◌, sym}
+use Rattle.std.proofs.Common.{subst, arith, length-set, Option, None, Some, position, IfSome}
 use Rattle.std.proofs.lemmas.Bool.Decides.{nat_tests}
 use Rattle.std.proofs.Math.Bool.{or-true, or-false}
 use Rattle.std.proofs.lemmas.Grind.{get_or-set_at}
 use Rattle.std.proofs.lemmas.List.{get_or-set_other}
-use Rattle.std.proofs.lemmas.List.Elements.{All-nil, All-cons, All-append}
+use Rattle.std.proofs.lemmas.List.Elements.{All-push}
 use Rattle.std.proofs.lemmas.List.Folds.{list_any-append}
 use Rattle.std.specs.List.{list_any}
 use Rattle.std.specs.Str.{bytes_eq}
 use Rattle.xc_input.proofs.ValidLemmas.{in-range}
-use Rattle.xc_input.specs.declared.option_line.WrittenUse.{WrittenUse}
-use Rattle.xc_input.specs.inner.Builders.{AreMarks, IsMarkable, written_of, items_of}
+use Rattle.xc_input.specs.declared.problem.Use.{Use}
+use Rattle.xc_input.specs.Sheets.{Written}
+use Rattle.xc_input.specs.inner.Builders.{AreMarks, IsMarkable, items_of}
+use Rattle.xc_input.proofs.FaultLemmas.{map-snoc}
 
 -- one item more
 pub mark : (marks : List Bool) (seen : List ℕ) (i : ℕ) → AreMarks marks seen → 1 ≤ i → i ≤ length marks → AreMarks (set marks (i - 1) true) (seen ++ i ∷ [])
@@ -24,25 +28,44 @@ mark marks seen i are low high = λ k within.
           get_or-set_other marks (i - 1) k true false (λ same. there (omega (arith, same, low))) ∙ are k (omega (arith, within, all)) ∙ sym (or-false (list_any (λ j. nat_eq j (k + 1)) seen))
     ]) in h refl ∙ sym split
 
-items-snoc : (parts : List WrittenUse) (p : WrittenUse) → items_of (map written_of (parts ++ p ∷ [])) ≡ items_of (map written_of parts) ++ p.item ∷ []
-items-snoc [] p = refl
-items-snoc (q ∷ parts) p = ap (λ is. q.item ∷ is) (items-snoc parts p)
-
 -- the item of one use more
-pub mark-more : (marks : List Bool) (parts more : List WrittenUse) (p : WrittenUse) → more ≡ parts ++ p ∷ [] → AreMarks marks (items_of (map written_of parts)) → IsMarkable (length marks) p
-    → AreMarks (set marks (p.item - 1) true) (items_of (map written_of more))
-mark-more marks parts more p e are within =
-    subst (AreMarks (set marks (p.item - 1) true)) (sym (ap (λ ps. items_of (map written_of ps)) e ∙ items-snoc parts p)) (mark marks (items_of (map written_of parts)) p.item are within.0 within.1)
+pub mark-more : (marks : List Bool) (us : List Written) (u : Written) → AreMarks marks (items_of us)
+    → IsMarkable (length marks) u.item → AreMarks (set marks (u.item - 1) true) (items_of (us ++ u ∷ []))
+mark-more marks us u are within =
+    subst (AreMarks (set marks (u.item - 1) true)) (sym (map-snoc (λ (w : Written). w.item) us u))
+    (mark marks (items_of us) u.item are within.0 within.1)
 
-pub markable-more : (marks : List Bool) (parts more : List WrittenUse) (p : WrittenUse) → more ≡ parts ++ p ∷ [] → All (IsMarkable (length marks)) parts → IsMarkable (length marks) p → All (IsMarkable (length (set marks (p.item - 1) true))) more
-markable-more marks parts more p e all within =
-    subst (All (IsMarkable (length (set marks (p.item - 1) true)))) (sym e)
-    (subst (λ n. All (IsMarkable n) (parts ++ p ∷ [])) (sym (length-set marks (p.item - 1) true))
-    (All-append (IsMarkable (length marks)) parts (p ∷ []) all (All-cons (IsMarkable (length marks)) p [] within (All-nil (IsMarkable (length marks))))))
+pub markable-more : (marks : List Bool) (uses : List Use) (u : Use) → All (λ w. IsMarkable (length marks) w.item) uses
+    → IsMarkable (length marks) u.item
+    → All (λ w. IsMarkable (length (set marks (u.item - 1) true)) w.item) (uses ++ u ∷ [])
+markable-more marks uses u all within =
+    subst (λ n. All (λ (w : Use). IsMarkable n w.item) (uses ++ u ∷ [])) (sym (length-set marks (u.item - 1) true))
+    (All-push (λ (w : Use). IsMarkable (length marks) w.item) uses u all within)
 
 -- only items of these uses are marked
-abbrev pub AreAmong : List Bool → List WrittenUse → Type 0
-AreAmong marks parts = (k : ℕ) → k < length marks → get_or marks k false ≡ true → list_any (λ i. nat_eq i (k + 1)) (items_of (map written_of parts)) ≡ true
+abbrev pub AreAmong : List Bool → List Use → Type 0
+AreAmong marks uses = (k : ℕ) → k < length marks → get_or marks k false ≡ true
+    → list_any (λ i. nat_eq i (k + 1)) (map (λ u. u.item) uses) ≡ true
+
+-- how many are not marked
+abbrev pub unmarked_count : List Bool → ℕ
+unmarked_count [] = 0
+unmarked_count (true ∷ marks) = unmarked_count marks
+unmarked_count (false ∷ marks) = suc (unmarked_count marks)
+
+pub unmarked-few : (marks : List Bool) → unmarked_count marks ≤ length marks
+unmarked-few [] = omega arith
+unmarked-few (true ∷ marks) = omega (arith, unmarked-few marks)
+unmarked-few (false ∷ marks) = omega (arith, unmarked-few marks)
+
+-- a mark more is an unmarked one less
+pub unmarked-less : (marks : List Bool) (k : ℕ) → k < length marks → get_or marks k false ≡ false
+    → suc (unmarked_count (set marks k true)) ≡ unmarked_count marks
+unmarked-less [] k within e = absurd (omega (arith, within))
+unmarked-less (false ∷ marks) zero within e = refl
+unmarked-less (true ∷ marks) zero within e = absurd (true≢false e)
+unmarked-less (true ∷ marks) (suc k) within e = unmarked-less marks k (omega (arith, within)) e
+unmarked-less (false ∷ marks) (suc k) within e = ap suc (unmarked-less marks k (omega (arith, within)) e)
 
 -- the mark of the item at this place
 pub mark-at : (marks : List Bool) (names : List (List ℕ)) (name : List ℕ) (seen : List ℕ) (place : ℕ) → AreMarks marks seen → length marks ≡ length names → position (bytes_eq name) names ≡ Some place

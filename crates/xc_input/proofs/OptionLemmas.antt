@@ -5,12 +5,11 @@ use Rattle.std.specs.List.{list_any}
 use Rattle.xc_input.specs.declared.kind.Kind.{Kind}
 use Rattle.xc_input.specs.declared.fault.FaultKind.{FaultKind}
 use Rattle.xc_input.specs.declared.fault.FaultKind.TheVariants.{UnknownItem, RepeatedInOption, ColourOnPrimary, BadColour, ColourNotHere}
-use Rattle.xc_input.specs.declared.option_line.WrittenUse.{WrittenUse}
 use Rattle.xc_input.specs.Words.{has, before, after, place}
 use Rattle.xc_input.specs.Sheets.{Written}
 use Rattle.xc_input.specs.Faults.{first, is_plain, is_bad_colour, name_checks}
 use Rattle.xc_input.specs.inner.Stages.{token_checks, option_checks, item_number, written, context}
-use Rattle.xc_input.specs.inner.Builders.{written_of, items_of}
+use Rattle.xc_input.specs.inner.Builders.{items_of}
 use Rattle.xc_input.specs.Named.{IsName}
 use Rattle.xc_input.proofs.FaultLemmas.{first-front, first-back, map-snoc}
 use Rattle.xc_input.proofs.GrammarLemmas.{good-name}
@@ -98,16 +97,24 @@ pub token-stop : (kind : Kind) (names : List (List ℕ)) (primary : ℕ) (seen t
 token-stop kind names primary seen token line others a k e l f =
     e ∙ ap (λ ts. first (option_checks (context kind names primary) seen ts)) l ∙ first-front (token_checks (context kind names primary) seen token) (option_checks (context kind names primary) (seen ++ item_number names (before 58 token) ∷ []) others) k f
 
-pub token-step : (kind : Kind) (names : List (List ℕ)) (primary : ℕ) (parts more : List WrittenUse) (token : List ℕ) (line others : List (List ℕ)) (a : Option FaultKind) (all : List Written) (part : WrittenUse) → a ≡ first (option_checks (context kind names primary) (items_of (map written_of parts)) line) → all ≡ map written_of parts ++ map (written names) line
-    → line ≡ token ∷ others → (first (token_checks (context kind names primary) (items_of (map written_of parts)) token) ≡ None) × (written_of part ≡ written names token) → more ≡ parts ++ part ∷ []
-    → (a ≡ first (option_checks (context kind names primary) (items_of (map written_of more)) others)) × (all ≡ map written_of more ++ map (written names) others)
-token-step kind names primary parts more token line others a all part e f l g h =
-    let us : map written_of more ≡ map written_of parts ++ written names token ∷ [] = ap (map written_of) h ∙ map-snoc written_of parts part ∙ ap (λ u. map written_of parts ++ u ∷ []) g.1 in
-    let is : items_of (map written_of more) ≡ items_of (map written_of parts) ++ item_number names (before 58 token) ∷ [] = ap items_of us ∙ map-snoc (λ (u : Written). u.item) (map written_of parts) (written names token) in (
-      e ∙ ap (λ ts. first (option_checks (context kind names primary) (items_of (map written_of parts)) ts)) l
-          ∙ first-back (token_checks (context kind names primary) (items_of (map written_of parts)) token) (option_checks (context kind names primary) (items_of (map written_of parts) ++ item_number names (before 58 token) ∷ []) others) g.0
+pub token-step : (kind : Kind) (names : List (List ℕ)) (primary : ℕ) (us : List Written) (token : List ℕ)
+    (line others : List (List ℕ)) (a : Option FaultKind) (all : List Written) (u : Written)
+    → a ≡ first (option_checks (context kind names primary) (items_of us) line) → all ≡ us ++ map (written names) line
+    → line ≡ token ∷ others → (first (token_checks (context kind names primary) (items_of us) token) ≡ None)
+    × (u ≡ written names token)
+    → (a ≡ first (option_checks (context kind names primary) (items_of (us ++ u ∷ [])) others))
+    × (all ≡ (us ++ u ∷ []) ++ map (written names) others)
+token-step kind names primary us token line others a all u e f l g =
+    let is : items_of (us ++ u ∷ []) ≡ items_of us ++ item_number names (before 58 token) ∷ [] =
+    map-snoc (λ (w : Written). w.item) us u ∙ ap (λ (w : Written). items_of us ++ w.item ∷ []) g.1 in (
+      e ∙ ap (λ ts. first (option_checks (context kind names primary) (items_of us) ts)) l
+          ∙ first-back (token_checks (context kind names primary) (items_of us) token)
+          (option_checks (context kind names primary) (items_of us ++ item_number names (before 58 token) ∷ [])
+          others) g.0
           ∙ ap (λ s. first (option_checks (context kind names primary) s others)) (sym is),
-      f ∙ ap (λ ts. map written_of parts ++ map (written names) ts) l ∙ sym (append_assoc (map written_of parts) (written names token ∷ []) (map (written names) others)) ∙ ap (λ us. us ++ map (written names) others) (sym us),
+      f ∙ ap (λ ts. us ++ map (written names) ts) l
+          ∙ sym (append_assoc us (written names token ∷ []) (map (written names) others))
+          ∙ ap (λ w. (us ++ w ∷ []) ++ map (written names) others) (sym g.1),
     )
 
 pub pushed : {A E : Type 0} (r : Result (Unit {0}) E) (old new : List A) (x : A) → is_ok r ≡ true → new ≡ (if is_ok r then old ++ x ∷ [] else old) → new ≡ old ++ x ∷ []

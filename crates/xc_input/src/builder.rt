@@ -1,23 +1,20 @@
 //! The problem while it is read.
 
-ghost use Rattle.std.specs.Prelude.{◌≡◌, true, false, ◌≤◌, ◌<◌, ◌+◌, ◌++◌, [], None, Some, OnOk, IfOk, length, map};
-ghost use Rattle.xc_input.specs.Sheets.{with_colour, colour_number};
-ghost use Rattle.xc_input.specs.inner.Sheets.{with_uses};
-ghost use Rattle.xc_input.specs.Faults.{first, has_primary};
-ghost use Rattle.xc_input.specs.inner.Stages.{row_checks, no_row, row_of, written, line_checks, content_checks, with_line, with_option, written_by, no_stage, with_row};
-ghost use Rattle.xc_input.specs.Limits.{most_uses};
+ghost use Rattle.std.specs.Prelude.{◌≡◌, [], true, false, nat_le, OnOk, IfOk, length};
+ghost use Rattle.std.specs.List.{list_any};
+ghost use Rattle.xc_input.specs.Faults.{first};
+ghost use Rattle.xc_input.specs.inner.Stages.{row_checks, no_row, row_of, line_checks, content_checks, with_line};
+ghost use Rattle.xc_input.specs.inner.Stages.{with_option, written_by, no_stage, with_row};
 ghost use Rattle.xc_input.specs.Tokens.{parts};
-ghost use Rattle.xc_input.specs.Words.{place};
-ghost use Rattle.xc_input.specs.inner.Builders.{Judged, AreDistinct, IsBuilder, IsItemTable, AreMarks, AreTablesFor, row_of_line, stage_of_builder, sheet_of_builder, written_of};
-ghost use Rattle.xc_input.specs.inner.Stored.{key_names};
-ghost use Rattle.xc_input.specs.inner.ColourNumbers.{numbered};
+ghost use Rattle.xc_input.specs.inner.Builders.{Judged, IsBuilder, IsItemTable, AreMarks, AreTablesFor, row_of_line};
+ghost use Rattle.xc_input.specs.inner.Builders.{stage_of_builder, sheet_of_builder};
 
 use crate::guess::Guesses;
 use crate::item_line::{ItemLine, item_line};
 use crate::limits::MOST_USES;
 use crate::line_error::LineError;
-use crate::names::{NameSet, add_name, no_names, place_of};
-use crate::option_line::{WrittenUse, option_line};
+use crate::names::{NameSet, no_names};
+use crate::option_line::option_line;
 use crate::problem::{Item, Use};
 use crate::seed::Seed;
 use crate::tokens::{has_byte, is_skipped_line};
@@ -166,29 +163,29 @@ impl ProblemBuilder {
         ensures judged { Judged (first (content_checks kind (stage_of_builder self.old) line.now)) result }
         ensures taken { OnOk result (IsBuilder self.new × (stage_of_builder self.new ≡ with_option count (stage_of_builder self.old) (written_by (sheet_of_builder self.old) line.now))) }
     {
-        let uses = option_line(
+        let start = self.uses.len();
+        let met = self.colours.len();
+        option_line(
             alloc,
             kind,
             &self.names,
             &self.guesses,
             self.primary,
             &mut self.marks,
-            line,
-        )?;
-        if !has_primary_use(uses.as_slice(), self.primary) {
-            self.ignored.push(count)?;
-            return Ok(());
-        }
-        if uses.len() > MOST_USES - self.uses.len() {
-            return Err(LineError::Fault(FaultKind::TooManyUses));
-        }
-        add_uses(
-            alloc,
             &mut self.colours,
             &mut self.colour_guesses,
             &mut self.uses,
-            uses.as_slice(),
+            line,
         )?;
+        if !has_primary_use(&self.uses[start..], self.primary) {
+            self.uses.truncate(start);
+            self.colours.truncate(met);
+            self.ignored.push(count)?;
+            return Ok(());
+        }
+        if self.uses.len() > MOST_USES {
+            return Err(LineError::Fault(FaultKind::TooManyUses));
+        }
         self.starts.push(self.uses.len() as u32)?;
         Ok(())
     }
@@ -203,73 +200,8 @@ pub fn no_marks(alloc: Global, count: usize) -> Result<Vec<bool>, AllocError>
 }
 
 /// Whether a use is of a primary item.
-fn has_primary_use(written: &[WrittenUse], primary: u32) -> bool
-    ensures { result ≡ has_primary primary (map written_of written.now) }
+fn has_primary_use(uses: &[Use], primary: u32) -> bool
+    ensures { result ≡ list_any (λ u. nat_le u.item primary) uses.now }
 {
-    written.iter().any(|u| u.item <= primary)
-}
-
-/// The place of a colour, which is mostly guessed.
-fn known_colour(colours: &NameSet, guesses: &mut Guesses, colour: &[u8]) -> Option<usize>
-    requires { AreDistinct (key_names colours.now.keys) }
-    ensures { result ≡ place (key_names colours.now.keys) colour.now }
-{
-    let (at, _) = guesses.guess(colour);
-    if let Some(known) = colours.get_index(at) {
-        if known.as_slice() == colour {
-            return Some(at);
-        }
-    }
-    let place = place_of(colours, colour)?;
-    guesses.learn(colour, place);
-    Some(place)
-}
-
-/// The number of a colour, which is a new one where it wasn't met yet.
-fn number_colour(
-    alloc: Global,
-    colours: &mut NameSet,
-    guesses: &mut Guesses,
-    colour: &[u8],
-) -> Result<u32, LineError>
-    requires few { length (key_names colours.old.keys) < most_uses }
-    requires distinct { AreDistinct (key_names colours.old.keys) }
-    ensures judged { Judged None result }
-    ensures colours { OnOk result (key_names colours.new.keys ≡ with_colour (key_names colours.old.keys) colour.now) }
-    ensures distinct { OnOk result (AreDistinct (key_names colours.new.keys)) }
-    ensures number { IfOk result (λ n. n ≡ colour_number (key_names colours.new.keys) colour.now) }
-{
-    if colour.is_empty() {
-        return Ok(0);
-    }
-    if let Some(place) = known_colour(colours, guesses, colour) {
-        return Ok(place as u32 + 1);
-    }
-    let place = add_name(alloc, colours, colour)?;
-    Ok(place as u32 + 1)
-}
-
-/// Adds the uses of an option that is kept.
-fn add_uses(
-    alloc: Global,
-    colours: &mut NameSet,
-    guesses: &mut Guesses,
-    uses: &mut Vec<Use>,
-    written: &[WrittenUse],
-) -> Result<(), LineError>
-    requires room { length uses.old.items + length written.now ≤ most_uses }
-    requires few { length (key_names colours.old.keys) ≤ length uses.old.items }
-    requires distinct { AreDistinct (key_names colours.old.keys) }
-    ensures judged { Judged None result }
-    ensures uses { OnOk result (uses.new.items ≡ uses.old.items ++ numbered (key_names colours.old.keys) (map written_of written.now)) }
-    ensures colours { OnOk result (key_names colours.new.keys ≡ with_uses (key_names colours.old.keys) (map written_of written.now)) }
-    ensures few { OnOk result (length (key_names colours.new.keys) ≤ length uses.new.items) }
-    ensures distinct { OnOk result (AreDistinct (key_names colours.new.keys)) }
-{
-    for u in written {
-        let item = u.item;
-        let colour = number_colour(alloc, colours, guesses, u.colour)?;
-        uses.push(Use { item, colour })?;
-    }
-    Ok(())
+    uses.iter().any(|u| u.item <= primary)
 }

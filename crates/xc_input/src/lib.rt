@@ -15,6 +15,7 @@
 #![tactic(auto)]
 
 mod builder;
+mod colours;
 mod digits;
 mod fault;
 mod faulty;

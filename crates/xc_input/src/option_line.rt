@@ -1,21 +1,27 @@
 //! Reads an option line.
 
-ghost use Rattle.std.specs.Prelude.{◌≡◌, ◌<◌, ◌≤◌, [], ◌∷◌, ◌++◌, true, None, Some, IfOk, IfSome, OnOk, MatchResult, length, map, ℕ, List, All, ◌&&◌, is_some};
+ghost use Rattle.std.specs.Prelude.{◌≡◌, ◌+◌, ◌-◌, ◌<◌, ◌≤◌, [], ◌∷◌, ◌++◌, true, false, None, Some, IfOk, IfSome};
+ghost use Rattle.std.specs.Prelude.{OnOk, MatchResult, length, map, get_or, ℕ, List, All, ◌&&◌, is_some};
 ghost use Rattle.xc_input.specs.Tokens.{tokens};
 ghost use Rattle.xc_input.specs.Faults.{first, is_plain, is_bad_colour, name_checks};
+ghost use Rattle.xc_input.specs.Sheets.{with_colour};
+ghost use Rattle.xc_input.specs.inner.Sheets.{with_uses};
 ghost use Rattle.xc_input.specs.inner.Stages.{token_checks, option_checks, written, context};
-ghost use Rattle.xc_input.specs.Limits.{most_items};
+ghost use Rattle.xc_input.specs.inner.ColourNumbers.{numbered, use_behind};
+ghost use Rattle.xc_input.specs.Limits.{most_items, most_uses};
 ghost use Rattle.xc_input.specs.declared.fault.FaultKind.TheVariants.{UnknownItem};
 ghost use Rattle.xc_input.specs.Named.{IsName};
-ghost use Rattle.xc_input.specs.inner.Builders.{AreNames, Judged, written_of, items_of, AreMarks, IsMarkable};
+ghost use Rattle.xc_input.specs.inner.Builders.{AreNames, AreDistinct, Judged, written_of, AreMarks, IsMarkable};
 ghost use Rattle.xc_input.specs.inner.CutTokens.{IsCutToken};
 ghost use Rattle.xc_input.specs.inner.Stored.{key_names};
 
+use crate::colours::number_colour;
 use crate::guess::Guesses;
 use crate::item_line::name_fault;
 use crate::limits::LONGEST_COLOUR;
 use crate::line_error::LineError;
 use crate::names::NameSet;
+use crate::problem::Use;
 use crate::tokens::{Token, next_token};
 use crate::{FaultKind, Kind};
 use std::alloc::Global;
@@ -62,7 +68,8 @@ pub fn use_of<'a>(
     requires few { length marks.now ≤ most_items }
     requires marked { IfSome token.place (λ at. at < length marks.now) }
     ensures judged { (names : List (List ℕ)) (text : List ℕ) (seen : List ℕ) → All IsName names → length marks.now ≡ length names → IsCutToken names text token.entry → AreMarks marks.now seen → MatchResult result (λ p. (first (token_checks (context kind names primary) seen text) ≡ None) × (written_of p ≡ written names text)) (λ fault. first (token_checks (context kind names primary) seen text) ≡ Some fault) }
-    ensures within { IfOk result (λ p. IsMarkable (length marks.now) p) }
+    ensures within { IfOk result (λ p. IsMarkable (length marks.now) p.item) }
+    ensures unmarked { IfOk result (λ p. get_or marks.now (p.item - 1) false ≡ false) }
 {
     if is_not_here(kind, &token) {
         return Err(FaultKind::ColourNotHere);
@@ -86,45 +93,79 @@ pub fn use_of<'a>(
     Ok(WrittenUse { item, colour })
 }
 
-/// The uses of an option line, or its first fault. No item is marked before it, nor behind it.
-pub fn option_line<'a>(
+/// Adds a use, with its colour by number: a new one where the colour wasn't met yet.
+fn add_use(
+    alloc: Global,
+    colours: &mut NameSet,
+    guesses: &mut Guesses,
+    uses: &mut Vec<Use>,
+    written: WrittenUse,
+) -> Result<(), LineError>
+    requires few { length (key_names colours.old.keys) ≤ most_uses + most_items }
+    requires distinct { AreDistinct (key_names colours.old.keys) }
+    ensures judged { Judged None result }
+    ensures added { OnOk result
+        (uses.new.items ≡ uses.old.items ++ use_behind (key_names colours.old.keys) (written_of written.entry) ∷ []) }
+    ensures colours { OnOk result
+        (key_names colours.new.keys ≡ with_colour (key_names colours.old.keys) written.entry.colour.now) }
+    ensures distinct { OnOk result (AreDistinct (key_names colours.new.keys)) }
+{
+    let item = written.item;
+    let colour = number_colour(alloc, colours, guesses, written.colour)?;
+    uses.push(Use { item, colour })?;
+    Ok(())
+}
+
+/// Adds the uses of an option line, and tells its first fault. No item is marked before it, nor behind it.
+pub fn option_line(
     alloc: Global,
     kind: Kind,
     names: &NameSet,
     guesses: &Guesses,
     primary: u32,
     marks: &mut [bool],
-    line: &'a [u8],
-) -> Result<Vec<WrittenUse<'a>>, LineError>
+    colours: &mut NameSet,
+    colour_guesses: &mut Guesses,
+    uses: &mut Vec<Use>,
+    line: &[u8],
+) -> Result<(), LineError>
     requires few { length names.now.keys ≤ most_items }
     requires named { AreNames (key_names names.now.keys) }
     requires marks { length marks.old ≡ length names.now.keys }
     requires unmarked { AreMarks marks.old [] }
+    requires few_uses { length uses.old.items ≤ most_uses }
+    requires few_colours { length (key_names colours.old.keys) ≤ length uses.old.items }
+    requires distinct { AreDistinct (key_names colours.old.keys) }
     ensures judged { Judged (first (option_checks (context kind (key_names names.now.keys) primary) [] (tokens line.now))) result }
-    ensures uses { IfOk result (λ v. map written_of v.items ≡ map (written (key_names names.now.keys)) (tokens line.now)) }
+    ensures uses { OnOk result
+        (uses.new.items ≡ uses.old.items ++ numbered (key_names colours.old.keys)
+        (map (written (key_names names.now.keys)) (tokens line.now))) }
+    ensures colours { OnOk result
+        (key_names colours.new.keys ≡ with_uses (key_names colours.old.keys)
+        (map (written (key_names names.now.keys)) (tokens line.now))) }
+    ensures few_colours { OnOk result (length (key_names colours.new.keys) ≤ length uses.new.items) }
+    ensures distinct { OnOk result (AreDistinct (key_names colours.new.keys)) }
     ensures unmarked { OnOk result (AreMarks marks.new []) }
 {
-    // Most lines have no more uses than that.
-    let room = (line.len() / 3 + 1).min(256);
-    let mut uses = Vec::with_capacity(alloc, room)?;
+    let start = uses.len();
     let mut rest = line;
     while let Some((token, others)) = next_token(names, guesses, rest) {
         let written = use_of(kind, primary, marks, token)?;
         marks[written.item as usize - 1] = true;
-        uses.push(written)?;
+        add_use(alloc, colours, colour_guesses, uses, written)?;
         rest = others;
     }
-    clear(marks, uses.as_slice());
-    Ok(uses)
+    clear(marks, &uses[start..]);
+    Ok(())
 }
 
-/// Takes the marks of these uses away.
-fn clear(marks: &mut [bool], written: &[WrittenUse])
-    requires within { All (IsMarkable (length marks.old)) written.now }
-    requires marked { AreMarks marks.old (items_of (map written_of written.now)) }
+/// Takes the marks of the items of these uses away.
+fn clear(marks: &mut [bool], uses: &[Use])
+    requires within { All (λ u. IsMarkable (length marks.old) u.item) uses.now }
+    requires marked { AreMarks marks.old (map (λ u. u.item) uses.now) }
     ensures { AreMarks marks.new [] }
 {
-    for u in written {
+    for u in uses {
         marks[u.item as usize - 1] = false;
     }
 }

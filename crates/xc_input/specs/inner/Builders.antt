@@ -63,9 +63,9 @@ items_of us = map (λ u. u.item) us
 abbrev pub AreMarks : List Bool → List ℕ → Type 0
 AreMarks marks seen = (k : ℕ) → k < length marks → get_or marks k false ≡ list_any (λ i. nat_eq i (k + 1)) seen
 
--- a use of one of so many items
-abbrev pub IsMarkable : ℕ → WrittenUse → Type 0
-IsMarkable n p = (1 ≤ p.item) × (p.item ≤ n)
+-- one of so many items
+abbrev pub IsMarkable : ℕ → ℕ → Type 0
+IsMarkable n i = (1 ≤ i) × (i ≤ n)
 
 -- what the lines so far wrote down
 abbrev pub sheet_of_builder : ProblemBuilder → Sheet

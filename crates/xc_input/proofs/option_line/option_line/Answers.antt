@@ -1,33 +1,53 @@
-use Rattle.std.proofs.Common.{◌∙◌, ◌-◌, ap, sym, is_ok, Vec, Global, map, true, length-set}
+use Rattle.std.proofs.Common.{◌∙◌, ap, sym, subst, List, map, drop, arith}
 use Rattle.std.proofs.lemmas.List.{length-map}
 use Rattle.xc_input.specs.Tokens.{tokens}
-use Rattle.xc_input.specs.inner.Builders.{written_of, items_of}
-use Rattle.xc_input.specs.inner.Stored.{key_names}
-use Rattle.xc_input.proofs.OptionLemmas.{token-stop, token-step, pushed}
-use Rattle.xc_input.specs.declared.option_line.WrittenUse.{WrittenUse}
+use Rattle.xc_input.specs.declared.problem.Use.{Use}
 use Rattle.xc_input.specs.declared.line_error.LineError.TheVariants.{Fault}
-use Rattle.xc_input.proofs.FaultLemmas.{IsErr-judged}
-use Rattle.xc_input.proofs.MarkLemmas.{mark-more, markable-more, place-marked}
+use Rattle.xc_input.specs.inner.Builders.{AreMarks, items_of, written_of}
+use Rattle.xc_input.specs.inner.Stored.{key_names}
+use Rattle.xc_input.proofs.FaultLemmas.{IsErr-judged, items-length}
+use Rattle.xc_input.proofs.OptionLemmas.{token-stop}
+use Rattle.xc_input.proofs.OptionSteps.{behind_none, behind_few, behind_more, all_added, late_marked}
+use Rattle.xc_input.proofs.lists.Places.{rest_taken}
 use Rattle.xc_input.proofs.option_line.option_line.Goals as goal
+
+pub loop-token-init : goal.loop-token-init
+loop-token-init c =
+    let names = length-map c.args.names.now.keys (λ v. v.items) in
+    behind_none c.args.marks.now (c.requires.marks ∙ sym names) (omega (arith, names, c.requires.few))
+    c.requires.unmarked c.requires.distinct c.requires.few_colours
 
 pub returns-in_err-written-clause-judged : goal.returns-in_err-written-clause-judged
 returns-in_err-written-clause-judged c =
-    IsErr-judged (Vec WrittenUse Global) (Unit {0}) _ c.from_residual-in_err-written.result (Fault c.in_err-written.field-0.0) _ c.from_residual-in_err-written.ensures.1 (λ x p. p)
-    (token-stop c.args.kind (key_names c.args.names.now.keys) c.args.primary (items_of (map written_of c.loop-token.uses.items)) c.in-Some.ensures.0 (tokens c.loop-token.rest.now) (tokens c.in-Some.others.now) _ _ c.loop-token.invariant.0 c.in-Some.ensures.1
-    (c.in_err-written.ensures.judged (key_names c.args.names.now.keys) c.in-Some.ensures.0 (items_of (map written_of c.loop-token.uses.items)) c.requires.named.named (c.loop-token.invariant.2 ∙ sym (length-map c.args.names.now.keys _)) c.in-Some.ensures.3 c.loop-token.invariant.3))
+    let b = c.loop-token.invariant in
+    IsErr-judged (Unit {0}) (Unit {0}) _ c.from_residual.result (Fault c.in_err-written.field-0.0) _
+    c.from_residual.ensures.1 (λ x p. p)
+    (token-stop c.args.kind (key_names c.args.names.now.keys) c.args.primary (items_of b.us) c.in-Some.ensures.0
+    (tokens c.loop-token.rest.now) (tokens c.in-Some.others.now) _ _ b.decided c.in-Some.ensures.1
+    (c.in_err-written.ensures.judged (key_names c.args.names.now.keys) c.in-Some.ensures.0 (items_of b.us)
+    c.requires.named.named b.count c.in-Some.ensures.3 b.marked))
+
+pub add_use-requires-clause-few : goal.add_use-requires-clause-few
+add_use-requires-clause-few c = behind_few c.loop-token.invariant c.requires.few_uses
 
 pub loop-token-preserved : goal.loop-token-preserved
 loop-token-preserved c =
-    let more = pushed c.push.result c.loop-token.uses.items c.push.new.self.items c.in_ok-written.written (ap is_ok c.in_ok-push.was) c.push.ensures.items in
-    let step = token-step c.args.kind (key_names c.args.names.now.keys) c.args.primary c.loop-token.uses.items c.push.new.self.items c.in-Some.ensures.0 (tokens c.loop-token.rest.now) (tokens c.in-Some.others.now) _ _ c.in_ok-written.written c.loop-token.invariant.0 c.loop-token.invariant.1 c.in-Some.ensures.1
-    (c.in_ok-written.ensures.judged (key_names c.args.names.now.keys) c.in-Some.ensures.0 (items_of (map written_of c.loop-token.uses.items)) c.requires.named.named (c.loop-token.invariant.2 ∙ sym (length-map c.args.names.now.keys _)) c.in-Some.ensures.3 c.loop-token.invariant.3) more in (
-      step.0,
-      step.1,
-      length-set c.loop-token.marks (c.in_ok-written.written.item - 1) true ∙ c.loop-token.invariant.2,
-      mark-more c.loop-token.marks c.loop-token.uses.items c.push.new.self.items c.in_ok-written.written more c.loop-token.invariant.3 c.in_ok-written.ensures.within,
-      markable-more c.loop-token.marks c.loop-token.uses.items c.push.new.self.items c.in_ok-written.written more c.loop-token.invariant.4 c.in_ok-written.ensures.within,
-    )
+    let b = c.loop-token.invariant in
+    let is =
+    c.in_ok-written.ensures.judged (key_names c.args.names.now.keys) c.in-Some.ensures.0 (items_of b.us)
+    c.requires.named.named b.count c.in-Some.ensures.3 b.marked in
+    behind_more b c.in-Some.ensures.0 (tokens c.in-Some.others.now) (written_of c.in_ok-written.written)
+    (key_names c.add_use.new.colours.keys) c.add_use.new.uses.items c.in-Some.ensures.1 is
+    c.in_ok-written.ensures.within c.in_ok-written.ensures.unmarked c.in_ok-add_use.ensures.added
+    c.in_ok-add_use.ensures.colours c.in_ok-add_use.ensures.distinct
 
-pub use_of-requires-clause-marked : goal.use_of-requires-clause-marked
-use_of-requires-clause-marked c =
-    place-marked c.loop-token.marks (key_names c.args.names.now.keys) _ c.in-Some.token.place (c.loop-token.invariant.2 ∙ sym (length-map c.args.names.now.keys _)) c.in-Some.ensures.3.place
+pub clear-requires-clause-marked : goal.clear-requires-clause-marked
+clear-requires-clause-marked c =
+    let start = c.len-start.ensures ∙ items-length c.args.uses.now in
+    let rest = rest_taken c.len-start.result c.deref.result.now in
+    let late = ap (drop c.len-start.result) c.deref.ensures.value ∙ ap (λ n. drop n c.loop-token.uses.items) start in
+    subst (λ (us : List Use). AreMarks c.loop-token.marks (map (λ u. u.item) us)) (sym (rest ∙ late))
+    (late_marked c.loop-token.invariant)
+
+pub returns-clause-uses : goal.returns-clause-uses
+returns-clause-uses c = all_added c.loop-token.invariant c.in_default.ensures

@@ -1,81 +1,124 @@
-use Rattle.std.proofs.Common.{ℕ, vec_len, ◌≡◌, ◌∙◌, sym, ap, subst, map, refl, arith, ◌≤◌, ◌<◌, ◌+◌, length, [], ◌∷◌, nat_lt, ◌&&◌, ◌++◌, ◌-◌, Vec, Global, is_ok}
-use Rattle.xc_input.specs.inner.ColourNumbers.{numbered}
+use Rattle.std.proofs.Common.{List, ◌≡◌, ◌∙◌, sym, ap, subst, map, take, drop, refl, arith, ◌+◌, length, [], ◌∷◌}
+use Rattle.std.proofs.Common.{nat_lt, ◌&&◌, ◌++◌, is_ok}
 use Rattle.xc_input.specs.Problem.{use_count}
-use Rattle.xc_input.specs.Tokens.{tokens}
-use Rattle.xc_input.specs.inner.Sheets.{with_uses}
-use Rattle.xc_input.specs.Faults.{has_primary}
-use Rattle.xc_input.specs.inner.Stages.{option_checks, context, written_by}
 use Rattle.xc_input.specs.Limits.{most_uses}
+use Rattle.xc_input.specs.Tokens.{tokens}
+use Rattle.xc_input.specs.Sheets.{Written}
+use Rattle.xc_input.specs.Faults.{has_primary}
+use Rattle.xc_input.specs.inner.Stages.{option_checks, context, written, written_by}
 use Rattle.xc_input.specs.declared.fault.FaultKind.TheVariants.{TooManyUses}
-use Rattle.xc_input.specs.declared.option_line.WrittenUse.{WrittenUse}
-use Rattle.xc_input.specs.inner.Builders.{AreMarks, written_of, sheet_of_builder}
+use Rattle.xc_input.specs.inner.Builders.{AreMarks, IsBuilder, sheet_of_builder}
 use Rattle.xc_input.specs.inner.Stored.{key_names}
 use Rattle.xc_input.specs.inner.Flat.{pieces}
 use Rattle.xc_input.proofs.FaultLemmas.{IsErr-judged, hands-on, items-length}
 use Rattle.xc_input.proofs.OptionLemmas.{pushed}
 use Rattle.xc_input.proofs.MarkLemmas.{written-back}
-use Rattle.xc_input.proofs.BuilderLemmas.{keys-few, keys-count, content-is, uses-length, no-primary, too-long, fits, taken}
+use Rattle.xc_input.proofs.BuilderLemmas.{content-is, uses-length, late-primary, uses-before, colours-before}
+use Rattle.xc_input.proofs.BuilderLemmas.{no-primary, too-long, fits, taken, left-out}
+use Rattle.xc_input.proofs.builder.ProblemBuilder.take_option.Goals.{After-option_line, After-has_primary_use}
 use Rattle.xc_input.proofs.builder.ProblemBuilder.take_option.Goals as goal
 
--- no more is added than there is room for
-room_left : {A B : Type 0} (old : Vec A Global) (new : Vec B Global) (n m : ℕ) → n ≡ vec_len old → m ≡ vec_len new → length old.items ≤ most_uses → m ≤ most_uses - n → length old.items + length new.items ≤ most_uses
-room_left old new n m e f few less = omega (arith, e ∙ items-length old, f ∙ items-length new, few, less)
+pub returns-in_err-option_line-clause-judged : goal.returns-in_err-option_line-clause-judged
+returns-in_err-option_line-clause-judged c =
+    IsErr-judged (Unit {0}) (Unit {0}) _ c.from_residual.result c.in_err-option_line.field-0.0 _
+    c.from_residual.ensures.1 (λ x p. p)
+    (hands-on (Unit {0}) (Unit {0}) _
+    (option_checks (context c.args.kind (key_names c.args.self.now.names.keys) c.args.self.now.primary) []
+    (tokens c.args.line.now))
+    ((
+      TooManyUses,
+      has_primary c.args.self.now.primary (written_by (sheet_of_builder c.args.self.now) c.args.line.now)
+          && nat_lt most_uses (use_count (pieces c.args.self.now.starts.items c.args.self.now.uses.items) + length
+          (tokens c.args.line.now)),
+    ) ∷ [])
+    c.in_err-option_line.field-0.0
+    (content-is c.args.kind c.args.self.now c.args.line.now c.requires.sound c.requires.started)
+    c.in_err-option_line.ensures.judged)
 
-pub option_line-requires-clause-few : goal.option_line-requires-clause-few
-option_line-requires-clause-few c = keys-few c.args.self.now c.requires.sound
+-- the uses of the line
+abbrev us : (c : After-has_primary_use) → List Written
+us c = map (written (key_names c.args.self.now.names.keys)) (tokens c.args.line.now)
 
-pub option_line-requires-clause-marks : goal.option_line-requires-clause-marks
-option_line-requires-clause-marks c = ap length c.deref_mut.ensures.value ∙ keys-count c.args.self.now c.requires.sound
+-- whether one of them is primary
+primary : (c : After-has_primary_use) → c.has_primary_use.result ≡ has_primary c.args.self.now.primary (us c)
+primary c =
+    late-primary c.args.self.now.primary c.args.self.now.uses.items c.option_line.new.uses.items
+    (key_names c.args.self.now.colours.keys) (us c) c.deref.result.now c.len-start.result c.has_primary_use.result
+    c.has_primary_use.ensures c.deref.ensures.value (c.len-start.ensures ∙ items-length c.args.self.now.uses)
+    c.in_ok-option_line.ensures.uses
 
-pub returns-in_err-uses-clause-judged : goal.returns-in_err-uses-clause-judged
-returns-in_err-uses-clause-judged c =
-    IsErr-judged (Unit {0}) (Unit {0}) _ c.from_residual.result c.in_err-uses.field-0.0 _ c.from_residual.ensures.1 (λ x p. p)
-    (hands-on (Vec WrittenUse Global) (Unit {0}) _ (option_checks (context c.args.kind (key_names c.args.self.now.names.keys) c.args.self.now.primary) [] (tokens c.args.line.now))
-    ((TooManyUses, has_primary c.args.self.now.primary (written_by (sheet_of_builder c.args.self.now) c.args.line.now) && nat_lt most_uses (use_count (pieces c.args.self.now.starts.items c.args.self.now.uses.items) + length (tokens c.args.line.now))) ∷ [])
-    c.in_err-uses.field-0.0 (content-is c.args.kind c.args.self.now c.args.line.now c.requires.sound c.requires.started) c.in_err-uses.ensures.judged)
+-- the marks, which were lent as a slice
+back : (c : After-option_line)
+    → take c.args.self.now.marks.len
+    (c.option_line.new.marks ++ drop (length c.option_line.new.marks) c.args.self.now.marks.items) ≡
+    c.option_line.new.marks
+back c =
+    written-back c.args.self.now.marks.len c.option_line.new.marks c.args.self.now.marks.items
+    (c.option_line.auto.marks ∙ ap length c.deref_mut.ensures.value) (items-length c.args.self.now.marks)
+
+all_marks : (c : After-option_line) → IsBuilder c.args.self.now
+    → length (take c.args.self.now.marks.len
+    (c.option_line.new.marks ++ drop (length c.option_line.new.marks) c.args.self.now.marks.items)) ≡ length
+    c.args.self.now.items.items
+all_marks c sound = ap length (back c) ∙ c.option_line.auto.marks ∙ ap length c.deref_mut.ensures.value ∙ sound.marks
+
+-- how many uses there are now
+count : (c : After-has_primary_use)
+    → length c.option_line.new.uses.items ≡ length c.args.self.now.uses.items + length (us c)
+count c =
+    uses-length c.args.self.now.uses.items c.option_line.new.uses.items (key_names c.args.self.now.colours.keys) (us c)
+    c.in_ok-option_line.ensures.uses
 
 pub returns-then-not-has_primary_use-clause-judged : goal.returns-then-not-has_primary_use-clause-judged
 returns-then-not-has_primary_use-clause-judged c =
-    no-primary c.args.kind c.args.self.now c.args.line.now c.requires.sound c.requires.started c.in_ok-uses.uses.items c.in_ok-uses.ensures.uses c.in_ok-uses.ensures.judged c.has_primary_use.result
-    (c.has_primary_use.ensures ∙ ap (λ xs. has_primary c.args.self.now.primary (map written_of xs)) c.as_slice.ensures.value) c.if-not-has_primary_use.true
+    let h = (goal.at.returns-then-not-has_primary_use-clause-judged c).After-has_primary_use in
+    no-primary c.args.kind c.args.self.now c.args.line.now c.requires.sound c.requires.started (us h) refl
+    c.in_ok-option_line.ensures.judged c.has_primary_use.result (primary h) c.if-not-has_primary_use.true
 
-pub returns-then-len-clause-judged : goal.returns-then-len-clause-judged
-returns-then-len-clause-judged c =
-    let u : c.len-2.result ≡ length c.args.self.now.uses.items = c.len-2.ensures ∙ items-length c.args.self.now.uses in
-    let v : c.len.result ≡ length c.in_ok-uses.uses.items = c.len.ensures ∙ items-length c.in_ok-uses.uses in
-    let few : length c.args.self.now.uses.items ≤ 10000000 = c.requires.sound.few_uses in
-    let more : 10000000 - c.len-2.result < c.len.result = c.if-len.true in
-    too-long c.args.kind c.args.self.now c.args.line.now c.requires.sound c.requires.started c.in_ok-uses.uses.items c.in_ok-uses.ensures.uses c.in_ok-uses.ensures.judged c.has_primary_use.result
-    (c.has_primary_use.ensures ∙ ap (λ xs. has_primary c.args.self.now.primary (map written_of xs)) c.as_slice.ensures.value) c.if-not-has_primary_use.false (omega arith)
+pub returns-then-not-has_primary_use-clause-taken : goal.returns-then-not-has_primary_use-clause-taken
+returns-then-not-has_primary_use-clause-taken c =
+    let h = (goal.at.returns-then-not-has_primary_use-clause-taken c).After-has_primary_use in
+    let o = (goal.at.returns-then-not-has_primary_use-clause-taken c).After-option_line in
+    let d = c.args.self.now in
+    left-out c.args.kind d c.args.line.now c.requires.sound c.requires.started (us h) refl c.has_primary_use.result
+    (primary h) c.if-not-has_primary_use.true c.args.count _ (refl, refl, refl, refl, refl)
+    (uses-before d.uses.items c.option_line.new.uses.items c.truncate.new.self.items (key_names d.colours.keys) (us h)
+    c.len-start.result c.truncate.ensures.items (c.len-start.ensures ∙ items-length d.uses)
+    c.in_ok-option_line.ensures.uses)
+    (colours-before d.colours.keys c.option_line.new.colours.keys c.truncate-then-not-has_primary_use.new.self.keys
+    (us h) c.len-met.result c.truncate-then-not-has_primary_use.ensures.keys c.len-met.ensures.len
+    c.in_ok-option_line.ensures.colours)
+    (all_marks o c.requires.sound)
+    (subst (λ ms. AreMarks ms []) (sym (back o)) c.in_ok-option_line.ensures.unmarked)
+    (pushed c.push.result d.ignored.items c.push.new.self.items c.args.count (ap is_ok c.in_ok-push.was)
+    c.push.ensures.items)
 
-pub overflow_cast-len : goal.overflow_cast-len
-overflow_cast-len c =
-    let room = room_left c.args.self.now.uses c.in_ok-uses.uses c.len-2.result c.len.result c.len-2.ensures c.len.ensures c.requires.sound.few_uses c.if-len.false in
-    let total = uses-length c.args.self.now.uses.items c.add_uses.new.uses.items (key_names c.args.self.now.colours.keys) c.in_ok-uses.uses.items
-    (c.in_ok-add_uses.ensures.uses ∙ ap (λ xs. c.args.self.now.uses.items ++ numbered (key_names c.args.self.now.colours.keys) (map written_of xs)) c.as_slice-2.ensures.value) in
-    omega (arith, room, total, c.len-3.ensures ∙ items-length c.add_uses.new.uses)
+pub returns-then-len-gt-MOST_USES-clause-judged : goal.returns-then-len-gt-MOST_USES-clause-judged
+returns-then-len-gt-MOST_USES-clause-judged c =
+    let h = (goal.at.returns-then-len-gt-MOST_USES-clause-judged c).After-has_primary_use in
+    too-long c.args.kind c.args.self.now c.args.line.now c.requires.sound c.requires.started (us h) refl
+    c.in_ok-option_line.ensures.judged c.has_primary_use.result (primary h) c.if-not-has_primary_use.false
+    (omega (arith, count h, c.len.ensures ∙ items-length c.option_line.new.uses, c.if-len-gt-MOST_USES.true))
 
 pub returns-clause-judged : goal.returns-clause-judged
 returns-clause-judged c =
-    let room = room_left c.args.self.now.uses c.in_ok-uses.uses c.len-2.result c.len.result c.len-2.ensures c.len.ensures c.requires.sound.few_uses c.if-len.false in
-    fits c.args.kind c.args.self.now c.args.line.now c.requires.sound c.requires.started c.in_ok-uses.uses.items c.in_ok-uses.ensures.uses c.in_ok-uses.ensures.judged c.has_primary_use.result
-    (c.has_primary_use.ensures ∙ ap (λ xs. has_primary c.args.self.now.primary (map written_of xs)) c.as_slice.ensures.value) room
+    let h = (goal.at.returns-clause-judged c).After-has_primary_use in
+    fits c.args.kind c.args.self.now c.args.line.now c.requires.sound c.requires.started (us h) refl
+    c.in_ok-option_line.ensures.judged c.has_primary_use.result (primary h)
+    (omega (arith, count h, c.len.ensures ∙ items-length c.option_line.new.uses, c.if-len-gt-MOST_USES.false))
 
 pub returns-clause-taken : goal.returns-clause-taken
 returns-clause-taken c =
-    let room = room_left c.args.self.now.uses c.in_ok-uses.uses c.len-2.result c.len.result c.len-2.ensures c.len.ensures c.requires.sound.few_uses c.if-len.false in
-    let x : c.as_slice-2.result.now ≡ c.in_ok-uses.uses.items = c.as_slice-2.ensures.value in
-    let same : length c.option_line.new.marks ≡ length c.args.self.now.marks.items = c.option_line.auto.marks ∙ ap length c.deref_mut.ensures.value in
-    let back = written-back c.args.self.now.marks.len c.option_line.new.marks c.args.self.now.marks.items same (items-length c.args.self.now.marks) in
-    taken c.args.kind c.args.self.now c.args.line.now c.requires.sound c.requires.started c.in_ok-uses.uses.items c.in_ok-uses.ensures.uses c.has_primary_use.result
-    (c.has_primary_use.ensures ∙ ap (λ xs. has_primary c.args.self.now.primary (map written_of xs)) c.as_slice.ensures.value) c.if-not-has_primary_use.false
-    c.args.count _ (refl, refl, refl, refl, refl)
-    (c.in_ok-add_uses.ensures.uses ∙ ap (λ xs. c.args.self.now.uses.items ++ numbered (key_names c.args.self.now.colours.keys) (map written_of xs)) x)
-    (c.in_ok-add_uses.ensures.colours ∙ ap (λ xs. with_uses (key_names c.args.self.now.colours.keys) (map written_of xs)) x)
-    (ap length back ∙ same ∙ c.requires.sound.marks)
-    (subst (λ ms. AreMarks ms []) (sym back) c.in_ok-uses.ensures.unmarked)
-    c.in_ok-add_uses.ensures.few
-    c.in_ok-add_uses.ensures.distinct
-    (pushed c.push-2.result c.args.self.now.starts.items c.push-2.new.self.items c.len-3.result (ap is_ok c.in_ok-push-2.was) c.push-2.ensures.items
-    ∙ ap (λ n. c.args.self.now.starts.items ++ n ∷ []) (c.len-3.ensures ∙ items-length c.add_uses.new.uses))
-    room
+    let h = (goal.at.returns-clause-taken c).After-has_primary_use in
+    let o = (goal.at.returns-clause-taken c).After-option_line in
+    let d = c.args.self.now in
+    taken c.args.kind d c.args.line.now c.requires.sound c.requires.started (us h) refl c.has_primary_use.result
+    (primary h) c.if-not-has_primary_use.false c.args.count _ (refl, refl, refl, refl, refl)
+    c.in_ok-option_line.ensures.uses c.in_ok-option_line.ensures.colours (all_marks o c.requires.sound)
+    (subst (λ ms. AreMarks ms []) (sym (back o)) c.in_ok-option_line.ensures.unmarked)
+    c.in_ok-option_line.ensures.few_colours
+    c.in_ok-option_line.ensures.distinct
+    (pushed c.push-2.result d.starts.items c.push-2.new.self.items c.len-2.result (ap is_ok c.in_ok-push-2.was)
+    c.push-2.ensures.items
+    ∙ ap (λ n. d.starts.items ++ n ∷ []) (c.len-2.ensures ∙ items-length c.option_line.new.uses))
+    (omega (arith, count h, c.len.ensures ∙ items-length c.option_line.new.uses, c.if-len-gt-MOST_USES.false))

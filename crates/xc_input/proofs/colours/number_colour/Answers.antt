@@ -4,14 +4,16 @@ use Rattle.xc_input.specs.inner.Stored.{key_names}
 use Rattle.xc_input.proofs.FaultLemmas.{map-length}
 use Rattle.xc_input.proofs.BuilderLemmas.{new-number}
 use Rattle.xc_input.proofs.NameLemmas.{distinct-more}
-use Rattle.xc_input.proofs.builder.number_colour.Goals as goal
+use Rattle.xc_input.proofs.colours.number_colour.Goals as goal
 
 pub returns-clause-number : goal.returns-clause-number
 returns-clause-number c =
     let some : 0 < length c.args.colour.now = grind (arith, nat_tests) in
-    new-number (key_names c.args.colours.now.keys) (key_names c.add_name.new.names.keys) c.args.colour.now _ some (sym c.known_colour.ensures ∙ c.in_default.is) c.in_ok-place.ensures.added
+    new-number (key_names c.args.colours.now.keys) (key_names c.add_name.new.names.keys) c.args.colour.now _ some
+    (sym c.known_colour.ensures ∙ c.in_default.is) c.in_ok-place.ensures.added
     (c.in_ok-place.ensures.place ∙ sym (map-length (λ v. v.items) c.args.colours.now.keys))
 
 pub returns-clause-distinct : goal.returns-clause-distinct
 returns-clause-distinct c =
-    distinct-more (key_names c.args.colours.now.keys) (key_names c.add_name.new.names.keys) c.args.colour.now c.requires.distinct (sym c.known_colour.ensures ∙ c.in_default.is) c.in_ok-place.ensures.added
+    distinct-more (key_names c.args.colours.now.keys) (key_names c.add_name.new.names.keys) c.args.colour.now
+    c.requires.distinct (sym c.known_colour.ensures ∙ c.in_default.is) c.in_ok-place.ensures.added

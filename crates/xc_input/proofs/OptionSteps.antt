@@ -1,0 +1,130 @@
+-- What the tokens of an option line leave behind, one after another.
+use Rattle.std.proofs.Common.{◌≡◌, ℕ, ◌+◌, ◌-◌, ◌≤◌, List, [], ◌∷◌, ◌++◌, None, Bool, true, false, length, map, get_or}
+use Rattle.std.proofs.Common.{set, drop, All, refl, ap, ◌∙◌, sym, subst, arith, length-append, length-set, append-nil}
+use Rattle.std.proofs.Common.{append_assoc}
+use Rattle.std.proofs.lemmas.List.Elements.{All-nil}
+use Rattle.std.proofs.Math.Seq.{drop-append_seam}
+use Rattle.xc_input.specs.declared.kind.Kind.{Kind}
+use Rattle.xc_input.specs.declared.problem.Use.{Use}
+use Rattle.xc_input.specs.Limits.{most_items, most_uses}
+use Rattle.xc_input.specs.Sheets.{Written, with_colour}
+use Rattle.xc_input.specs.Faults.{first}
+use Rattle.xc_input.specs.inner.Sheets.{with_uses}
+use Rattle.xc_input.specs.inner.Stages.{token_checks, option_checks, written, context}
+use Rattle.xc_input.specs.inner.Builders.{AreMarks, AreDistinct, IsMarkable, items_of}
+use Rattle.xc_input.specs.inner.ColourNumbers.{numbered, use_behind}
+use Rattle.xc_input.proofs.ColourLemmas.{numbered_in_turn, in_turn, in_turn_more, with_more, in_turn_count}
+use Rattle.xc_input.proofs.ColourLemmas.{in_turn_items, colours_more}
+use Rattle.xc_input.proofs.MarkLemmas.{mark-more, markable-more, unmarked_count, unmarked-few, unmarked-less}
+use Rattle.xc_input.proofs.OptionLemmas.{token-step}
+
+-- the tokens that are left decide, and the uses of those before them are numbered, added and marked
+pub record IsBehind (kind : Kind) (names : List (List ℕ)) (primary : ℕ) (line rest : List (List ℕ))
+    (met : List (List ℕ)) (old : List Use) (marks : List Bool) (colours : List (List ℕ)) (uses : List Use)
+    : Type 0 where
+  pub us : List Written
+  pub decided : first (option_checks (context kind names primary) [] line)
+      ≡ first (option_checks (context kind names primary) (items_of us) rest)
+  pub split : map (written names) line ≡ us ++ map (written names) rest
+  pub count : length marks ≡ length names
+  pub marked : AreMarks marks (items_of us)
+  pub markable : All (λ u. IsMarkable (length marks) u.item) (numbered_in_turn met us)
+  pub few : length us + unmarked_count marks ≤ most_items
+  pub added : uses ≡ old ++ numbered_in_turn met us
+  pub known : colours ≡ with_uses met us
+  pub distinct : AreDistinct colours
+  pub few_colours : length colours ≤ length uses
+
+module _ {kind : Kind} {names : List (List ℕ)} {primary : ℕ} {line : List (List ℕ)} {met : List (List ℕ)}
+    {old : List Use} where
+  -- before the first token
+  pub behind_none : (marks : List Bool) → length marks ≡ length names → length names ≤ most_items → AreMarks marks []
+      → AreDistinct met → length met ≤ length old
+      → IsBehind kind names primary line line met old marks met old
+  behind_none marks count few marked distinct few_colours = record {
+    us = [];
+    decided = refl;
+    split = refl;
+    count = count;
+    marked = marked;
+    markable = All-nil (λ (u : Use). IsMarkable (length marks) u.item);
+    few = omega (arith, count, few, unmarked-few marks);
+    added = sym (append-nil old);
+    known = refl;
+    distinct = distinct;
+    few_colours = few_colours;
+  }
+
+  module _ {rest : List (List ℕ)} {marks : List Bool} {colours : List (List ℕ)} {uses : List Use}
+      (b : IsBehind kind names primary line rest met old marks colours uses) where
+    uses_count : length uses ≡ length old + length b.us
+    uses_count = ap length b.added ∙ length-append old (numbered_in_turn met b.us)
+        ∙ ap (λ n. length old + n) (in_turn_count met b.us)
+
+    -- there is a number for one colour more
+    pub behind_few : length old ≤ most_uses → length colours ≤ most_uses + most_items
+    behind_few less = omega (arith, b.few_colours, uses_count, b.few, less)
+
+    -- behind one token more
+    pub behind_more : (token : List ℕ) (others : List (List ℕ)) (u : Written) (colours' : List (List ℕ))
+        (uses' : List Use) → rest ≡ token ∷ others
+        → (first (token_checks (context kind names primary) (items_of b.us) token) ≡ None) × (u ≡ written names token)
+        → IsMarkable (length marks) u.item → get_or marks (u.item - 1) false ≡ false
+        → uses' ≡ uses ++ use_behind colours u ∷ [] → colours' ≡ with_colour colours u.colour → AreDistinct colours'
+        → IsBehind kind names primary line others met old (set marks (u.item - 1) true) colours' uses'
+    behind_more token others u colours' uses' cut is within free more known distinct =
+        let step = token-step kind names primary b.us token rest others _ _ u b.decided b.split cut is in
+        let turn = in_turn_more met b.us u in
+        let here : use_behind colours u ≡ use_behind (with_uses met b.us) u = ap (λ cs. use_behind cs u) b.known in
+        let less = unmarked-less marks (u.item - 1) (omega (arith, within.0, within.1)) free in
+        record {
+          us = b.us ++ u ∷ [];
+          decided = step.0;
+          split = step.1;
+          count = length-set marks (u.item - 1) true ∙ b.count;
+          marked = mark-more marks b.us u b.marked within;
+          markable =
+              subst (All (λ w. IsMarkable (length (set marks (u.item - 1) true)) w.item)) (sym turn)
+              (markable-more marks (numbered_in_turn met b.us) (use_behind (with_uses met b.us) u) b.markable
+              within);
+          few = omega (arith, b.few, less, length-append b.us (u ∷ []));
+          added = more ∙ ap (λ us. us ++ use_behind colours u ∷ []) b.added
+              ∙ append_assoc old (numbered_in_turn met b.us) (use_behind colours u ∷ [])
+              ∙ ap (λ w. old ++ (numbered_in_turn met b.us ++ w ∷ [])) here ∙ ap (λ us. old ++ us) (sym turn);
+          known = known ∙ ap (λ cs. with_colour cs u.colour) b.known ∙ sym (with_more met b.us u);
+          distinct = distinct;
+          few_colours =
+              omega (
+                arith,
+                b.few_colours,
+                ap length known,
+                colours_more colours u.colour,
+                ap length more,
+                length-append
+                    uses (use_behind colours u ∷ []),
+              );
+        }
+
+    -- behind the last token
+    module _ (none : rest ≡ []) where
+      pub behind_all : map (written names) line ≡ b.us
+      behind_all = b.split ∙ ap (λ ts. b.us ++ map (written names) ts) none ∙ append-nil b.us
+
+      pub none_left : first (option_checks (context kind names primary) [] line) ≡ None
+      none_left = b.decided ∙ ap (λ ts. first (option_checks (context kind names primary) (items_of b.us) ts)) none
+
+      pub all_added : uses ≡ old ++ numbered met (map (written names) line)
+      all_added = b.added ∙ ap (λ us. old ++ us) (in_turn met b.us) ∙ ap (λ us. old ++ numbered met us) (sym behind_all)
+
+      pub all_known : colours ≡ with_uses met (map (written names) line)
+      all_known = b.known ∙ ap (with_uses met) (sym behind_all)
+
+    -- the uses of the line alone
+    pub late : drop (length old) uses ≡ numbered_in_turn met b.us
+    late = ap (drop (length old)) b.added ∙ drop-append_seam old (numbered_in_turn met b.us)
+
+    pub late_markable : All (λ u. IsMarkable (length marks) u.item) (drop (length old) uses)
+    late_markable = subst (All (λ (u : Use). IsMarkable (length marks) u.item)) (sym late) b.markable
+
+    pub late_marked : AreMarks marks (map (λ u. u.item) (drop (length old) uses))
+    late_marked = subst (AreMarks marks) (sym (ap (map (λ (u : Use). u.item)) late ∙ in_turn_items met b.us)) b.marked

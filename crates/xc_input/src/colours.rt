@@ -1,0 +1,53 @@
+//! The colours that were met, and their numbers.
+
+ghost use Rattle.std.specs.Prelude.{◌≡◌, ◌≤◌, ◌+◌, None, OnOk, IfOk, length};
+ghost use Rattle.xc_input.specs.Limits.{most_items, most_uses};
+ghost use Rattle.xc_input.specs.Sheets.{with_colour, colour_number};
+ghost use Rattle.xc_input.specs.Words.{place};
+ghost use Rattle.xc_input.specs.inner.Builders.{Judged, AreDistinct};
+ghost use Rattle.xc_input.specs.inner.Stored.{key_names};
+
+use crate::guess::Guesses;
+use crate::line_error::LineError;
+use crate::names::{NameSet, add_name, place_of};
+use std::alloc::Global;
+
+/// The place of a colour, which is mostly guessed.
+fn known_colour(colours: &NameSet, guesses: &mut Guesses, colour: &[u8]) -> Option<usize>
+    requires { AreDistinct (key_names colours.now.keys) }
+    ensures { result ≡ place (key_names colours.now.keys) colour.now }
+{
+    let (at, _) = guesses.guess(colour);
+    if let Some(known) = colours.get_index(at) {
+        if known.as_slice() == colour {
+            return Some(at);
+        }
+    }
+    let place = place_of(colours, colour)?;
+    guesses.learn(colour, place);
+    Some(place)
+}
+
+/// The number of a colour, which is a new one where it wasn't met yet.
+pub fn number_colour(
+    alloc: Global,
+    colours: &mut NameSet,
+    guesses: &mut Guesses,
+    colour: &[u8],
+) -> Result<u32, LineError>
+    requires few { length (key_names colours.old.keys) ≤ most_uses + most_items }
+    requires distinct { AreDistinct (key_names colours.old.keys) }
+    ensures judged { Judged None result }
+    ensures colours { OnOk result (key_names colours.new.keys ≡ with_colour (key_names colours.old.keys) colour.now) }
+    ensures distinct { OnOk result (AreDistinct (key_names colours.new.keys)) }
+    ensures number { IfOk result (λ n. n ≡ colour_number (key_names colours.new.keys) colour.now) }
+{
+    if colour.is_empty() {
+        return Ok(0);
+    }
+    if let Some(place) = known_colour(colours, guesses, colour) {
+        return Ok(place as u32 + 1);
+    }
+    let place = add_name(alloc, colours, colour)?;
+    Ok(place as u32 + 1)
+}
