@@ -1,4 +1,6 @@
 -- Names of a table: they have no fault, each has one place, and what a line begins with may be one of them.
+use Rattle.std.proofs.Common.{◌+◌, ◌≤◌, drop, MatchOption}
+use Rattle.std.proofs.lemmas.List.{take-append-drop}
 use Rattle.std.proofs.Common.{◌≡◌, ◌≢◌, ℕ, zero, suc, ◌<◌, List, [], ◌∷◌, ◌++◌, Option, None, Some, Bool, true, false, nat_eq, nat_lt, All, length, take, refl, ap, ap₂, ◌∙◌, sym, subst, arith, true≢false, if◌then◌else◌, Vec, Global, get_or}
 use Rattle.std.proofs.lemmas.List.Elements.{All-nil, All-cons, All-append, All-push, All-get_or}
 use Rattle.std.proofs.lemmas.List.Quantifiers.{position-Some, all_pairs_push}
@@ -99,6 +101,23 @@ known-front keys text front back v k n all e m cut same =
     let whole : text ≡ v.items ++ back = cut ∙ ap (λ f. f ++ back) same in
     let taken : take n text ≡ v.items = ap₂ take m whole ∙ take-append_seam v.items back in
     ap (place (key_names keys)) taken ∙ known-place (key_names keys) v.items k all at
+
+-- a text that a known name was stripped off
+pub behind-known : {B : Type 0} (now : B → List ℕ) (r : Option B) (None-case : Type 0) (keys : List (Vec ℕ Global))
+    (text name : List ℕ) (v : Vec ℕ Global) (k n : ℕ) → AreNames (key_names keys) → slice_get keys k ≡ Some v
+    → n ≡ length name → name ≡ v.items
+    → MatchOption r None-case (λ x. (bytes_eq (take (length name) text) name ≡ true)
+    × (now x ≡ drop (length name) text) × (length (now x) + length name ≡ length text))
+    → IfSome r (λ x. (n ≤ length text) × (now x ≡ drop n text) × (place (key_names keys) (take n text) ≡ Some k))
+behind-known now None N keys text name v k n all e m same h = tt
+behind-known now (Some x) N keys text name v k n all e m same h =
+    let front : take n text ≡ v.items =
+    ap (λ j. take j text) m ∙ (bytes_eq-Decides (take (length name) text) name).0 h.0 ∙ same in
+    let cut : text ≡ take n text ++ drop n text = sym (take-append-drop n text) in (
+      omega (arith, m, h.2),
+      h.1 ∙ ap (λ j. drop j text) (sym m),
+      known-front keys text (take n text) (drop n text) v k n all e (m ∙ ap length same) cut front,
+    )
 
 -- NUMBERS OF NAMES
 found : (names : List (List ℕ)) (name : List ℕ) (at : Option ℕ) → place names name ≡ at → IfSome (option_map suc at) (λ i. numbered_get names i ≡ Some name)

@@ -17,7 +17,7 @@ fn known_colour(colours: &NameSet, guesses: &mut Guesses, colour: &[u8]) -> Opti
     requires { AreDistinct (key_names colours.now.keys) }
     ensures { result ≡ place (key_names colours.now.keys) colour.now }
 {
-    let (at, _) = guesses.guess(colour);
+    let at = guesses.learned(colour);
     if let Some(known) = colours.get_index(at) {
         if known.as_slice() == colour {
             return Some(at);

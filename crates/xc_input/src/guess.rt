@@ -5,7 +5,7 @@
 
 ghost use Rattle.std.specs.Prelude.{◌≤◌};
 
-use crate::limits::{MOST_ITEMS, MOST_USES};
+use crate::limits::{LONGEST_NAME, MOST_ITEMS, MOST_USES};
 use crate::names::NameSet;
 use std::alloc::{AllocError, Global};
 
@@ -44,23 +44,33 @@ impl Guesses {
         Ok(Guesses { places })
     }
 
-    /// Guesses this place for the name from now on.
-    pub fn learn(&mut self, name: &[u8], place: usize) {
-        let number = number(word(name).0, self.places.len());
+    /// Guesses this place for the colour from now on.
+    pub fn learn(&mut self, colour: &[u8], place: usize) {
+        let number = number(colour_bytes(colour), self.places.len());
         if let Some(known) = self.places.get_mut(number) {
             *known = place.min(MOST_USES) as u32;
         }
     }
 
+    /// The place that was learned last for such a colour.
+    #[inline(always)]
+    pub fn learned(&self, colour: &[u8]) -> usize {
+        self.place(colour_bytes(colour))
+    }
+
     /// The place and the length of the name that a text may begin with.
-    #[inline]
+    #[inline(always)]
     pub fn guess(&self, text: &[u8]) -> (usize, usize) {
         let (bytes, len) = word(text);
-        let place = match self.places.get(number(bytes, self.places.len())) {
+        (self.place(bytes), len)
+    }
+
+    #[inline(always)]
+    fn place(&self, bytes: u64) -> usize {
+        match self.places.get(number(bytes, self.places.len())) {
             Some(place) => *place as usize,
             None => 0,
-        };
-        (place, len)
+        }
     }
 }
 
@@ -72,30 +82,67 @@ fn number(bytes: u64, size: usize) -> usize {
     ((product >> 32).wrapping_mul(size as u64) >> 32) as usize
 }
 
-/// The bytes at the front of a text before its first colon or byte that is at most a space, sixteen at
-/// most, as a number, and how many they are. So a longer name is never guessed right, and is looked up.
-#[inline]
+/// The bytes at the front of a text before its first colon or byte that is at most a space, as many as a
+/// name has at most, as a number, and how many they are.
+#[inline(always)]
 fn word(text: &[u8]) -> (u64, usize) {
     let first = first_bytes(text);
     let end = end_bits(first);
-    if end != 0 {
-        return (first & bits_below(end), bytes_below(end));
+    if end == 0 {
+        return long_word(text, first);
     }
-    if text.len() <= 8 {
-        return (first, 8);
+    (first & bits_below(end), bytes_below(end))
+}
+
+/// The same where none of the first eight bytes ends the word. It stands apart, as few names are so long.
+#[inline(never)]
+fn long_word(text: &[u8], first: u64) -> (u64, usize) {
+    let mut number = first;
+    let mut len = 8;
+    for at in 1..LONGEST_NAME / 8 {
+        if text.len() <= 8 * at {
+            break;
+        }
+        let bytes = first_bytes(&text[8 * at..]);
+        let end = end_bits(bytes);
+        let more = if end == 0 {
+            bytes
+        } else {
+            bytes & bits_below(end)
+        };
+        number ^= more
+            .wrapping_mul(0xff51_afd7_ed55_8ccd)
+            .rotate_left(at as u32);
+        len = 8 * at + bytes_below(end);
+        if end != 0 {
+            break;
+        }
     }
-    let second = first_bytes(&text[8..]);
-    let end = end_bits(second);
-    let more = (second & bits_below(end)).wrapping_mul(0xff51_afd7_ed55_8ccd);
-    (first ^ more, 8 + bytes_below(end))
+    (number, len)
+}
+
+/// The bytes of a colour, as a number. Most have one or two.
+#[inline(always)]
+fn colour_bytes(colour: &[u8]) -> u64 {
+    match colour {
+        [a] => u64::from(*a),
+        [a, b] => u64::from(u16::from_le_bytes([*a, *b])),
+        _ => first_bytes(colour),
+    }
 }
 
 /// The first eight bytes of a text, as a number.
-#[inline]
+#[inline(always)]
 fn first_bytes(text: &[u8]) -> u64 {
     if let [a, b, c, d, e, f, g, h, ..] = text {
         return u64::from_le_bytes([*a, *b, *c, *d, *e, *f, *g, *h]);
     }
+    few_bytes(text)
+}
+
+/// The bytes of a text of fewer than eight, as a number: of the last names of a line.
+#[inline(never)]
+fn few_bytes(text: &[u8]) -> u64 {
     let mut number = 0u64;
     for b in text.iter().rev() {
         number = number.wrapping_mul(256).wrapping_add(u64::from(*b));

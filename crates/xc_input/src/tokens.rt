@@ -67,11 +67,10 @@ fn behind_name<'a>(names: &NameSet, at: usize, n: usize, text: &'a [u8]) -> Opti
         Some(name) => name.as_slice(),
         None => return None,
     };
-    if name.len() != n || text.len() < n {
+    if name.len() != n {
         return None;
     }
-    let (front, back) = text.split_at(n);
-    if front == name { Some(back) } else { None }
+    text.strip_prefix(name)
 }
 
 /// A token of an option line, cut at its first colon: its name, the place of the name if it has one,

@@ -1,16 +1,10 @@
-use Rattle.std.proofs.Common.{◌≡◌, length, ap, ap₂, sym, ◌∙◌, ◌++◌, arith}
-use Rattle.std.proofs.lemmas.List.{take-append-drop}
-use Rattle.std.proofs.lemmas.Slice.Eq.{bytes_eq-Decides}
-use Rattle.xc_input.proofs.NameLemmas.{known-front}
+use Rattle.std.proofs.Common.{◌∙◌, ap, sym, arith, length, ◌≡◌}
+use Rattle.xc_input.proofs.NameLemmas.{behind-known}
 use Rattle.xc_input.proofs.tokens.behind_name.Goals as goal
 
-pub returns-then-eq : goal.returns-then-eq
-returns-then-eq c =
-    let front = c.split_at.result.0.now in
-    let back = c.split_at.result.1.now in
-    let n = c.args.n in
-    let cut : c.args.text.now ≡ front ++ back = sym (take-append-drop n c.args.text.now) ∙ ap₂ (λ f b. f ++ b) (sym c.split_at.ensures.front) (sym c.split_at.ensures.back) in
-    let same : front ≡ c.as_slice-name.result.now = (bytes_eq-Decides front c.as_slice-name.result.now).0 (sym c.if-eq.ensures) in
-    let count : n ≡ length c.as_slice-name.result.now = omega arith in
-    let at = known-front c.args.names.now.keys c.args.text.now front back c.in-Some.name.now c.args.at n c.requires (sym c.in-Some.ensures.key) (count ∙ ap length c.as_slice-name.ensures.value) cut (same ∙ c.as_slice-name.ensures.value) in
-    (omega arith, c.split_at.ensures.back, at)
+pub returns : goal.returns
+returns c =
+    let count : c.args.n ≡ length c.as_slice-name.result.now = omega arith in
+    behind-known (λ back. back.now) c.strip_prefix.result _ c.args.names.now.keys c.args.text.now
+    c.as_slice-name.result.now c.in-Some.name.now c.args.at c.args.n c.requires (sym c.in-Some.ensures.key) count
+    c.as_slice-name.ensures.value c.strip_prefix.ensures.cases
