@@ -1,5 +1,7 @@
 -- The tables as they are laid: columns that are filled, the nodes, the items and their rings.
-use Rattle.std.proofs.Common.{◌≡◌, ℕ, zero, suc, ◌+◌, ◌<◌, ◌≤◌, List, [], ◌∷◌, length, map, set, replicate, Some, refl, ap, sym, ◌∙◌, arith, ◌-◌, ap₂, lt-ltb, ne_eqb, ◌≢◌, true, false, not, cond, ltb, nat_lt, filter, find, le-ltb, ltb-true, ltb-false, le-leb}
+use Rattle.std.proofs.Common.{◌≡◌, ℕ, zero, suc, ◌+◌, ◌<◌, ◌≤◌, List, [], ◌∷◌, ◌++◌, take, length, map, set, replicate}
+use Rattle.std.proofs.Common.{Some, refl, ap, sym, ◌∙◌, arith, ◌-◌, ap₂, lt-ltb, ne_eqb, ◌≢◌, true, false, not, cond}
+use Rattle.std.proofs.Common.{ltb, nat_lt, filter, find, le-ltb, ltb-true, ltb-false, le-leb}
 use Rattle.xc_input.specs.declared.problem.Bounds.{Bounds}
 use Rattle.std.specs.Prelude.{slice_get, unwrap_or, nat_le}
 use Rattle.std.specs.List.{range_with_len, AllByRecursion}
@@ -10,10 +12,14 @@ use Rattle.std.proofs.lemmas.List.Elements.{recursion_from_All}
 use Rattle.std.proofs.lemmas.Bool.{lt-leb}
 use Rattle.xc_input.specs.declared.problem.Use.{Use}
 use Rattle.xc_input.specs.Problem.{Puzzle, item_count, option_count, primary_count, high_at, low_at, IsValid, AreSoundBounds}
-use Rattle.xc_dance.specs.Links.FirstNodes.{filled, blanks, laid_to, with_row}
+use Rattle.std.proofs.lemmas.List.{length-map, map-append}
+use Rattle.std.proofs.lemmas.Option.{slice_get_within}
+use Rattle.std.proofs.Math.Seq.{take-length}
+use Rattle.xc_dance.specs.Links.Columns.{Laying}
+use Rattle.xc_dance.specs.Links.FirstNodes.{filled, blanks, rows_of, no_rows, laid_to, with_row}
+use Rattle.xc_dance.proofs.Copied.{take_more-get}
 use Rattle.xc_dance.specs.declared.links.nodes.Nodes.{Nodes}
 use Rattle.xc_dance.specs.declared.links.nodes.Row.{Row}
-use Rattle.xc_dance.specs.Links.Steps.{HasSize}
 use Rattle.xc_dance.specs.Fields.{Node, unused, own, spacer, layout, spacer_place, last_below, first_above, first_of, last_of, ring_of, ring_head, left_of, right_of}
 use Rattle.xc_dance.specs.Links.Cells.{top_in, ulink_in, dlink_in, color_in, fixed_up, fixed_down, nodes_from}
 use Rattle.xc_dance.specs.Links.OptionPlaces.{place_at}
@@ -62,22 +68,41 @@ range_get a (suc n) (suc k) lt = let s : a + 1 + k ≡ a + suc k = omega arith i
 abbrev pub row_of : Puzzle → Node → Row
 row_of p n = record { top = top_in blanks n; ulink = ulink_in p blanks n; dlink = dlink_in p blanks n; color = color_in p [] n }
 
+rows_more : (p : Puzzle) (ns : List Node) (n : Node)
+    → (with_row (record { count = 0; nodes = rows_of p ns }) (row_of p n)).nodes ≡ rows_of p (ns ++ n ∷ [])
+rows_more p ns n = λ i. record {
+  top = sym (map-append (top_in blanks) ns (n ∷ [])) i;
+  ulink = sym (map-append (ulink_in p blanks) ns (n ∷ [])) i;
+  dlink = sym (map-append (dlink_in p blanks) ns (n ∷ [])) i;
+  color = sym (map-append (color_in p []) ns (n ∷ [])) i;
+}
+
 -- one node more
-pub laid_more : (p : Puzzle) (k : ℕ) (n : Node) (r : Row) → slice_get (layout p) k ≡ Some n → r ≡ row_of p n → with_row (laid_to p k) k r ≡ laid_to p (k + 1)
-laid_more p k n r e is = grind (arith, common_steps, filled_more, same_nodes)
+pub laid_more : (p : Puzzle) (k : ℕ) (n : Node) (r : Row) → slice_get (layout p) k ≡ Some n → r ≡ row_of p n
+    → with_row (laid_to p k) r ≡ laid_to p (k + 1)
+laid_more p k n r e is =
+    ap (with_row (laid_to p k)) is
+    ∙ ap (λ (t : Nodes). let l : Laying = record { count = length (layout p); nodes = t } in l)
+    (rows_more p (take k (layout p)) n ∙ ap (rows_of p) (sym (take_more-get (layout p) k n e)))
 
-pub laid_none : (p : Puzzle) (t : Nodes) (c : ℕ) → c ≡ length (layout p) →
-    (let zeros = Rattle.std.proofs.Common.replicate {A = ℕ} c 0 in let z : Nodes = record { top = zeros; ulink = zeros; dlink = zeros; color = zeros } in t ≡ z) → t ≡ laid_to p 0
-laid_none p t c e h = grind (arith, common_steps, filled_none, same_nodes)
+pub laid_none : (p : Puzzle) (c : ℕ) → c ≡ length (layout p) → no_rows c ≡ laid_to p 0
+laid_none p c e = ap no_rows e
 
-pub laid_all : (p : Puzzle) → laid_to p (length (layout p)) ≡ nodes_from p blanks (color_in p [])
-laid_all p = grind (arith, common_steps, filled_all, same_nodes)
+pub laid_all : (p : Puzzle) → (laid_to p (length (layout p))).nodes ≡ nodes_from p blanks (color_in p [])
+laid_all p = ap (rows_of p) (take-length (layout p))
 
-pub laid_len : (p : Puzzle) (k : ℕ) → length (laid_to p k).top ≡ length (layout p)
-laid_len p k = length-filled (top_in blanks) (layout p) k
+taken_count : {X : Type 0} (xs : List X) (k : ℕ) → k ≤ length xs → length (take k xs) ≡ k
+taken_count xs zero le = refl
+taken_count [] (suc k) le = absurd (omega (arith, le))
+taken_count (x ∷ xs) (suc k) le = ap suc (taken_count xs k (omega (arith, le)))
 
-pub laid_size : (p : Puzzle) (k : ℕ) → HasSize (laid_to p k) (length (laid_to p k).top)
-laid_size p k = grind (arith, common_steps, laid_len, length-filled)
+-- there is room for the next one
+pub laid_room : (p : Puzzle) (k : ℕ) (n : Node) → slice_get (layout p) k ≡ Some n
+    → length (laid_to p k).nodes.top < (laid_to p k).count
+laid_room p k n e =
+    let within = slice_get_within (layout p) k n e in
+    let count = length-map (take k (layout p)) (top_in blanks) in
+    omega (arith, within, count, taken_count (layout p) k (omega (arith, within)))
 
 -- ---- what a spacer leads to
 

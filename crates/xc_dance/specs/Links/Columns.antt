@@ -26,3 +26,8 @@ downs links = map (λ l. l.down.value) links
 -- the columns that lie in these cells
 abbrev pub columns : List Cell → List Link → List Cell → Columns
 columns top links color = record { top = values top; ulink = ups links; dlink = downs links; color = values color }
+
+-- the columns of nodes that are laid one behind another, and how many there are to be
+pub record Laying : Type 0 where
+  pub count : ℕ
+  pub nodes : Columns

@@ -1,9 +1,11 @@
--- No public clause cites this module. The node table before any move, filled in two turns: first every node by itself, with empty lists, and then node by node into the lists.
-use Rattle.std.specs.Prelude.{ℕ, zero, suc, ◌+◌, List, [], ◌∷◌, slice_index, slice_set}
+-- No public clause cites this module. The node table before any move, filled in two turns: first
+-- every node by itself, with empty lists, and then node by node into the lists.
+use Rattle.std.specs.Prelude.{ℕ, zero, suc, ◌+◌, List, [], ◌∷◌, ◌++◌, length, map, take, slice_index, slice_set}
 use Rattle.xc_dance.specs.declared.links.nodes.Nodes.{Nodes}
 use Rattle.xc_dance.specs.declared.links.nodes.Row.{Row}
 use Rattle.xc_input.specs.Problem.{Puzzle}
-use Rattle.xc_dance.specs.Fields.{layout}
+use Rattle.xc_dance.specs.Fields.{Node, layout}
+use Rattle.xc_dance.specs.Links.Columns.{Laying}
 use Rattle.xc_dance.specs.Links.Lines.{Line}
 use Rattle.xc_dance.specs.Links.Cells.{top_in, ulink_in, dlink_in, color_in}
 
@@ -21,22 +23,32 @@ blank = record { len = 0; up = λ x. 0; down = λ x. 0 }
 abbrev pub blanks : ℕ → Line
 blanks j = blank
 
--- the table with its first k nodes laid
-abbrev pub laid_to : Puzzle → ℕ → Nodes
-laid_to p k = record {
-  top = filled (top_in blanks) (layout p) k;
-  ulink = filled (ulink_in p blanks) (layout p) k;
-  dlink = filled (dlink_in p blanks) (layout p) k;
-  color = filled (color_in p []) (layout p) k;
+-- the table of nodes that are laid, by these
+abbrev pub rows_of : Puzzle → List Node → Nodes
+rows_of p ns = record {
+  top = map (top_in blanks) ns;
+  ulink = map (ulink_in p blanks) ns;
+  dlink = map (dlink_in p blanks) ns;
+  color = map (color_in p []) ns;
 }
 
--- node q has these cells
-abbrev pub with_row : Nodes → ℕ → Row → Nodes
-with_row t q r = record {
-  top = slice_set t.top q r.top;
-  ulink = slice_set t.ulink q r.ulink;
-  dlink = slice_set t.dlink q r.dlink;
-  color = slice_set t.color q r.color;
+-- none of so many nodes
+abbrev pub no_rows : ℕ → Laying
+no_rows n = record { count = n; nodes = record { top = []; ulink = []; dlink = []; color = [] } }
+
+-- the first k nodes
+abbrev pub laid_to : Puzzle → ℕ → Laying
+laid_to p k = record { count = length (layout p); nodes = rows_of p (take k (layout p)) }
+
+-- one node more, with these cells
+abbrev pub with_row : Laying → Row → Laying
+with_row t r = record t {
+  nodes = record {
+    top = t.nodes.top ++ r.top ∷ [];
+    ulink = t.nodes.ulink ++ r.ulink ∷ [];
+    dlink = t.nodes.dlink ++ r.dlink ∷ [];
+    color = t.nodes.color ++ r.color ∷ [];
+  };
 }
 
 -- node q, which leads to its item's own node downwards, is the last of its item's list

@@ -1,5 +1,6 @@
 //! Cells whose every write is counted.
-ghost use Rattle.std.specs.Prelude.{◌≡◌, ℕ, ◌+◌, ◌<◌, List, map, length, slice_index, slice_set, replicate, IfOk, slice_get, ◌↔◌, IsTrue};
+ghost use Rattle.std.specs.Prelude.{◌≡◌, ℕ, ◌+◌, ◌<◌, ◌++◌, ◌∷◌, [], List, map, length, vec_capacity, slice_index};
+ghost use Rattle.std.specs.Prelude.{slice_set, replicate, IfOk, slice_get, ◌↔◌, IsTrue};
 ghost use Rattle.xc_dance.specs.Links.Columns.{values, ups, downs};
 
 use crate::links::writes::Writes;
@@ -42,19 +43,28 @@ pub(crate) fn zeros(alloc: Global, count: usize) -> Result<Vec<Cell>, AllocError
     Ok(cells)
 }
 
-/// Links that are all 0.
-pub(crate) fn zero_links(alloc: Global, count: usize) -> Result<Vec<Link>, AllocError>
-    ensures up { IfOk result (λ v. ups v.items ≡ replicate count 0) }
-    ensures down { IfOk result (λ v. downs v.items ≡ replicate count 0) }
+/// Adds a cell behind the others.
+#[inline(always)]
+pub(crate) fn push(cells: &mut Vec<Cell>, value: u32)
+    requires room { length cells.old.items < vec_capacity cells.old }
+    ensures value { values cells.new.items ≡ values cells.old.items ++ value ∷ [] }
+    ensures capacity { vec_capacity cells.new ≡ vec_capacity cells.old }
 {
-    let mut links = Vec::with_capacity(alloc, count)?;
-    for _ in 0..count {
-        links.push_reserved(Link {
-            up: Cell { value: 0 },
-            down: Cell { value: 0 },
-        });
-    }
-    Ok(links)
+    cells.push_reserved(Cell { value });
+}
+
+/// Adds the links of a node behind the others.
+#[inline(always)]
+pub(crate) fn push_links(links: &mut Vec<Link>, up: u32, down: u32)
+    requires room { length links.old.items < vec_capacity links.old }
+    ensures up { ups links.new.items ≡ ups links.old.items ++ up ∷ [] }
+    ensures down { downs links.new.items ≡ downs links.old.items ++ down ∷ [] }
+    ensures capacity { vec_capacity links.new ≡ vec_capacity links.old }
+{
+    links.push_reserved(Link {
+        up: Cell { value: up },
+        down: Cell { value: down },
+    });
 }
 
 /// What stands at a place.

@@ -7,7 +7,7 @@ ghost use Rattle.xc_dance.specs.Links.Cells.{fixed_up, fixed_down, nodes_from, n
 ghost use Rattle.xc_dance.specs.Links.OptionPlaces.{place_at};
 ghost use Rattle.xc_dance.specs.Links.FirstNodes.{laid_to, blanks};
 
-use crate::links::nodes::{Nodes, Row, SPACER};
+use crate::links::nodes::{Nodes, Row, Rows, SPACER};
 use crate::links::options::node_count;
 use crate::links::writes::Writes;
 use std::alloc::{AllocError, Global};
@@ -24,17 +24,18 @@ pub(crate) fn first_nodes(
     ensures { IfOk result (λ t. t ≡ nodes_after problem.now.puzzle []) }
 {
     let count = node_count(problem);
-    let mut nodes = Nodes::new(alloc, count as usize)?;
-    lay_items(&mut nodes, problem, writes);
-    lay_options(&mut nodes, problem, writes);
+    let mut rows = Rows::new(alloc, count as usize)?;
+    lay_items(&mut rows, problem);
+    lay_options(&mut rows, problem);
+    let mut nodes = rows.nodes();
     link_uses(&mut nodes, problem, count, writes);
     Ok(nodes)
 }
 
 /// Lays the unused node and the items' own nodes, each with an empty list.
-fn lay_items(nodes: &mut Nodes, problem: &Problem, writes: &mut Writes)
-    requires { nodes.old ≡ laid_to problem.now.puzzle 0 }
-    ensures { nodes.new ≡ laid_to problem.now.puzzle (item_count problem.now.puzzle + 1) }
+fn lay_items(rows: &mut Rows, problem: &Problem)
+    requires { rows.old ≡ laid_to problem.now.puzzle 0 }
+    ensures { rows.new ≡ laid_to problem.now.puzzle (item_count problem.now.puzzle + 1) }
 {
     for i in 0..problem.items() + 1 {
         let row = Row {
@@ -43,44 +44,37 @@ fn lay_items(nodes: &mut Nodes, problem: &Problem, writes: &mut Writes)
             dlink: i,
             color: 0,
         };
-        nodes.put(i, row, writes);
+        rows.lay(row);
     }
 }
 
 /// Lays the options' nodes and the spacers round them. A use's node leads to its item's own node
 /// alone.
 #[tactic(auto, using(crate::proofs::LinkedTables::PlaceLemmas::option_place, crate::proofs::LinkedTables::FirstTables::up_next))]
-fn lay_options(nodes: &mut Nodes, problem: &Problem, writes: &mut Writes)
+fn lay_options(rows: &mut Rows, problem: &Problem)
     requires limits { IsWithinLimits problem.now.puzzle }
-    requires before { nodes.old ≡ laid_to problem.now.puzzle (item_count problem.now.puzzle + 1) }
-    ensures { nodes.new ≡ laid_to problem.now.puzzle (length (layout problem.now.puzzle)) }
+    requires before { rows.old ≡ laid_to problem.now.puzzle (item_count problem.now.puzzle + 1) }
+    ensures { rows.new ≡ laid_to problem.now.puzzle (length (layout problem.now.puzzle)) }
 {
     let mut place = problem.items() + 1;
     let mut above = 0;
     for o in 0..problem.options() {
-        lay_spacer(nodes, problem, o, place, above, writes);
-        lay_uses(nodes, problem, o, place + 1, writes);
+        lay_spacer(rows, problem, o, place, above);
+        lay_uses(rows, problem, o);
         above = place + 1;
         place = above + problem.option(o + 1).len() as u32;
     }
-    lay_spacer(nodes, problem, problem.options(), place, above, writes);
+    lay_spacer(rows, problem, problem.options(), place, above);
 }
 
 /// Lays the spacer behind option `o`, whose first node is `above`.
-fn lay_spacer(
-    nodes: &mut Nodes,
-    problem: &Problem,
-    o: u32,
-    place: u32,
-    above: u32,
-    writes: &mut Writes,
-)
+fn lay_spacer(rows: &mut Rows, problem: &Problem, o: u32, place: u32, above: u32)
     requires limits { IsWithinLimits problem.now.puzzle }
     requires option { o ≤ option_count problem.now.puzzle }
     requires place { place ≡ place_at problem.now.puzzle o }
     requires above { above ≡ fixed_up problem.now.puzzle (spacer o) }
-    requires before { nodes.old ≡ laid_to problem.now.puzzle place }
-    ensures { nodes.new ≡ laid_to problem.now.puzzle (place + 1) }
+    requires before { rows.old ≡ laid_to problem.now.puzzle place }
+    ensures { rows.new ≡ laid_to problem.now.puzzle (place + 1) }
 {
     let below = last_node(problem, o, place);
     let row = Row {
@@ -89,7 +83,7 @@ fn lay_spacer(
         dlink: below,
         color: 0,
     };
-    nodes.put(place, row, writes);
+    rows.lay(row);
 }
 
 /// The last node of the option behind the spacer behind option `o`; 0 if there is none.
@@ -107,15 +101,13 @@ fn last_node(problem: &Problem, o: u32, place: u32) -> u32
     }
 }
 
-/// Lays the nodes of option `o + 1` from `first` on.
-fn lay_uses(nodes: &mut Nodes, problem: &Problem, o: u32, first: u32, writes: &mut Writes)
+/// Lays the nodes of option `o + 1`.
+fn lay_uses(rows: &mut Rows, problem: &Problem, o: u32)
     requires limits { IsWithinLimits problem.now.puzzle }
     requires option { o < option_count problem.now.puzzle }
-    requires first { first ≡ place_at problem.now.puzzle o + 1 }
-    requires before { nodes.old ≡ laid_to problem.now.puzzle first }
-    ensures { nodes.new ≡ laid_to problem.now.puzzle (place_at problem.now.puzzle (o + 1)) }
+    requires before { rows.old ≡ laid_to problem.now.puzzle (place_at problem.now.puzzle o + 1) }
+    ensures { rows.new ≡ laid_to problem.now.puzzle (place_at problem.now.puzzle (o + 1)) }
 {
-    let mut place = first;
     for u in problem.option(o + 1) {
         let row = Row {
             top: u.item,
@@ -123,8 +115,7 @@ fn lay_uses(nodes: &mut Nodes, problem: &Problem, o: u32, first: u32, writes: &m
             dlink: u.item,
             color: u.colour,
         };
-        nodes.put(place, row, writes);
-        place += 1;
+        rows.lay(row);
     }
 }
 

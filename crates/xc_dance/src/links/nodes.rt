@@ -1,9 +1,10 @@
 //! The node table. Names and numbers of steps are those of section 7.2.2.1 of The Art of Computer Programming, Volume 4B.
-ghost use Rattle.std.specs.Prelude.{◌≡◌, ℕ, ◌+◌, ◌-◌, ◌*◌, ◌<◌, ◌≤◌, ◌^◌, length, slice_index, slice_get, fold, None, Some, false, if◌then◌else◌, replicate, IfOk, IsTrue, ◌↔◌};
+ghost use Rattle.std.specs.Prelude.{◌≡◌, ℕ, ◌+◌, ◌-◌, ◌*◌, ◌<◌, ◌≤◌, ◌^◌, length, slice_index, slice_get, fold, None};
+ghost use Rattle.std.specs.Prelude.{Some, false, if◌then◌else◌, IfOk, IsTrue, ◌↔◌};
 
 use crate::links::cells::{
-    Cell, Link, down, get, read, read_down, read_up, same_cells, same_links, set, set_down, set_up,
-    up, zero_links, zeros,
+    Cell, Link, down, get, push, push_links, read, read_down, read_up, same_cells, same_links, set,
+    set_down, set_up, up,
 };
 use crate::links::spans::Spans;
 use crate::links::steps::{relink, unlink};
@@ -46,25 +47,80 @@ pub(crate) struct Row {
     pub(crate) color: u32,
 }
 
+/// Nodes that are laid one behind another. There is room for all of them.
+#[derive(Drop)]
+pub(crate) struct Rows {
+    count: usize,
+    top: Vec<Cell>,
+    links: Vec<Link>,
+    color: Vec<Cell>,
+}
+
+impl Model for Rows {
+    ghost use Rattle.std.specs.Prelude.{◌≡◌, ◌≤◌, length, vec_capacity};
+    ghost use Rattle.xc_dance.specs.Links.Columns.{columns, Laying};
+
+    ghost Value = { Laying };
+
+    ghost view = { λ a. record { count = a.count; nodes = columns a.top.items a.links.items a.color.items } };
+
+    ghost invariant = { λ a. record {
+      top : a.count ≤ vec_capacity a.top;
+      links : a.count ≤ vec_capacity a.links;
+      color : a.count ≤ vec_capacity a.color;
+      link_count : length a.links.items ≡ length a.top.items;
+      color_count : length a.color.items ≡ length a.top.items;
+    } };
+}
+
+impl Rows {
+    ghost use Rattle.xc_dance.specs.Links.FirstNodes.{with_row, no_rows};
+
+    /// None of so many nodes.
+    pub(crate) fn new(alloc: Global, count: usize) -> Result<Rows, AllocError>
+        ensures { IfOk result (λ t. t ≡ no_rows count) }
+    {
+        Ok(Rows {
+            count,
+            top: Vec::with_capacity(alloc, count)?,
+            links: Vec::with_capacity(alloc, count)?,
+            color: Vec::with_capacity(alloc, count)?,
+        })
+    }
+
+    /// Lays the next node.
+    #[inline(always)]
+    pub(crate) fn lay(&mut self, row: Row)
+        requires { length self.old.nodes.top < self.old.count }
+        ensures { self.new ≡ with_row self.old row }
+    {
+        push(&mut self.top, row.top);
+        push_links(&mut self.links, row.ulink, row.dlink);
+        push(&mut self.color, row.color);
+    }
+
+    /// All that were laid.
+    pub(crate) fn nodes(self) -> Nodes
+        ensures { result ≡ self.nodes }
+    {
+        let Rows {
+            count: _,
+            top,
+            links,
+            color,
+        } = self;
+        Nodes { top, links, color }
+    }
+}
+
 impl Nodes {
-    ghost use Rattle.xc_dance.specs.Links.FirstNodes.{with_row, entered};
+    ghost use Rattle.xc_dance.specs.Links.FirstNodes.{entered};
     ghost use Rattle.xc_dance.specs.Links.Steps.{HasSize, list_of, list_back};
     ghost use Rattle.xc_dance.specs.Links.ListWalks.{left_node, back_node, walk_costs, back_costs, CanHideList, CanUnhideList, with_colour};
     ghost use Rattle.xc_dance.specs.Links.Unmarked.{IsUnmarked};
     ghost use Rattle.xc_dance.specs.Links.Purifying.{purified_list, unpurified_list, CanPurify, CanUnpurify};
     ghost use Rattle.xc_dance.specs.Links.Tweaking.{tweaked, untweaked, tweak_cost, untweak_cost, CanTweak, CanUntweak};
     ghost use Rattle.xc_dance.specs.Links.TweaksBack.{untweaked_all, untweak_all_cost, CanUntweakAll};
-
-    /// Nodes whose cells are all 0.
-    pub(crate) fn new(alloc: Global, count: usize) -> Result<Nodes, AllocError>
-        ensures { IfOk result (λ t. t ≡ record { top = replicate count 0; ulink = replicate count 0; dlink = replicate count 0; color = replicate count 0 }) }
-    {
-        Ok(Nodes {
-            top: zeros(alloc, count)?,
-            links: zero_links(alloc, count)?,
-            color: zeros(alloc, count)?,
-        })
-    }
 
     /// TOP of node q; LEN of an item's own node.
     #[inline(always)]
@@ -128,18 +184,6 @@ impl Nodes {
         ensures { result ≡ slice_get self.now.color q }
     {
         read(&self.color, q)
-    }
-
-    /// Writes the cells of node q.
-    pub(crate) fn put(&mut self, q: u32, row: Row, writes: &mut Writes)
-        requires size { HasSize self.old (length self.old.top) }
-        requires place { q < length self.old.top }
-        ensures { self.new ≡ with_row self.old q row }
-    {
-        set(&mut self.top, q, row.top, writes);
-        set_up(&mut self.links, q, row.ulink, writes);
-        set_down(&mut self.links, q, row.dlink, writes);
-        set(&mut self.color, q, row.color, writes);
     }
 
     /// Makes node q, which leads to its item's own node downwards, the last of its item's list.

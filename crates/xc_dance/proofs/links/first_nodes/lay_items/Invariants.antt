@@ -3,4 +3,4 @@ use Rattle.xc_dance.specs.Links.FirstNodes.{laid_to}
 use Rattle.xc_dance.proofs.links.first_nodes.lay_items.Given as goal
 
 abbrev pub invariant-loop-i : goal.invariant-loop-i
-invariant-loop-i l = l.nodes ≡ laid_to l.problem.puzzle l.i
+invariant-loop-i l = l.rows ≡ laid_to l.problem.puzzle l.i

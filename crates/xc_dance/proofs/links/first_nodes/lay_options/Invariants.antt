@@ -7,7 +7,7 @@ use Rattle.xc_dance.proofs.links.first_nodes.lay_options.Given as goal
 
 abbrev pub invariant-loop-o : goal.invariant-loop-o
 invariant-loop-o l = record {
-  nodes : l.nodes ≡ laid_to l.problem.puzzle l.place;
+  rows : l.rows ≡ laid_to l.problem.puzzle l.place;
   place : l.place ≡ place_at l.problem.puzzle l.o;
   above : l.above ≡ fixed_up l.problem.puzzle (spacer l.o);
 }
