@@ -40,6 +40,8 @@ mod vectors_of_links;
 
 // Searches.
 #[cfg(test)]
+mod below;
+#[cfg(test)]
 mod closing;
 #[cfg(test)]
 mod cutting;

@@ -1,3 +1,5 @@
 pub mod Led
 pub mod Below
 pub mod Settled
+pub mod Descent
+pub mod Numbers

@@ -1,5 +1,5 @@
 -- A search cut into parts, along its own tree.
-use Rattle.std.specs.Prelude.{All, ℕ, ◌-◌, ◌≡◌, Bool, ◌&&◌, ◌==◌, List, [], ◌∷◌, ◌++◌, map, flat_map, Option, Some, None, unwrap_or, option_map, option_and_then, slice_get, if◌then◌else◌}
+use Rattle.std.specs.Prelude.{All, ℕ, suc, ◌-◌, ◌≡◌, Bool, ◌&&◌, ◌==◌, List, [], ◌∷◌, ◌++◌, map, flat_map, Option, Some, None, unwrap_or, option_map, option_and_then, slice_get, if◌then◌else◌}
 use Rattle.xc_search.specs.declared.choice.Choice.{Choice}
 use Rattle.xc_input.specs.Problem.{Puzzle}
 use Rattle.xc_search.specs.Listing.{Residual, Branch, whole, branch_item, branches_of, listing}
@@ -9,10 +9,14 @@ use Rattle.xc_search.specs.Cover.{members}
 abbrev pub branches_left : Residual → List Branch
 branches_left r = unwrap_or (option_map (branches_of r) (branch_item r)) []
 
--- a branch has this choice, where 0 stands for no option
+-- an option and one more, or 0 for none
+abbrev pub option_or_none : Option ℕ → ℕ
+option_or_none o = unwrap_or (option_map suc o) 0
+
+-- a branch has this choice
 abbrev pub has_choice : Choice → Branch → Bool
 has_choice c b =
-    b.choice.item == c.item && unwrap_or b.choice.option 0 == unwrap_or c.option 0
+    b.choice.item == c.item && option_or_none b.choice.option == option_or_none c.option
     && b.choice.k == c.k && b.choice.n == c.n
 
 -- what the branch of this choice leaves
@@ -28,6 +32,14 @@ left_by (c ∷ path) r = option_and_then (left_by path) (left_by_one c r)
 -- a path of the search's tree
 abbrev pub IsPath : Puzzle → List Choice → Type 0
 IsPath p path = (r : Residual) × (left_by path (whole p) ≡ Some r)
+
+-- the numbers of a path's branches, from the first level down
+abbrev pub numbers_on : List Choice → List ℕ
+numbers_on path = map (λ c. c.k) path
+
+-- a path of the search's tree has these numbers
+abbrev pub IsPathBy : Puzzle → List ℕ → List Choice → Type 0
+IsPathBy p numbers path = IsPath p path × (numbers_on path ≡ numbers)
 
 -- the members below a path: its choices in front of each member of the listing of what they leave
 abbrev pub below : Puzzle → List Choice → List (List Choice)

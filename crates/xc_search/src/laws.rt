@@ -1,9 +1,11 @@
 //! Laws of the listing: its members are the covers, each once, and those of the parts that a search is split into.
-ghost use Rattle.std.specs.Prelude.{ℕ, ◌≡◌, [], ◌∷◌, map, Some, None, Contains};
+ghost use Rattle.std.specs.Prelude.{ℕ, ◌≡◌, List, [], ◌∷◌, ◌++◌, All, map, flat_map, Some, None, Contains};
 ghost use Rattle.xc_input.specs.Problem.{Puzzle, Numbered, IsValid, numbered_options, holding};
 ghost use Rattle.xc_search.specs.Listing.{Wanted, Residual, whole, branch_item, level, listing};
 ghost use Rattle.xc_search.specs.Worked.{choice, seven_items, item_b, two_colours, once_or_twice, equal_options, missing_item, one_colour, up_to_twice, no_options, largest_bound, both_options, blank_secondary, bounds_and_colours, bound_beside_one};
 ghost use Rattle.xc_search.specs.Cover.{options_of, members, EachMemberCovers, EachCoverIsListed, EachCoverIsListedOnce, NoSetTwice};
+ghost use Rattle.xc_search.specs.Cut.{below, numbers_on, IsPath, IsCut};
+ghost use Rattle.xc_search.specs.declared.choice.Choice.{Choice};
 ghost use Rattle.xc_search.specs.Parts.{IsHeldOnce, part, in_problem, part_in_front, front_part, PartsJoin, PartsAreApart, PartsInOrder, PartsCover, PartsListCovers, PartsListOnce, AreKeptApart, AreKeptInOrder, ListsAlike, ListsPart};
 
 /// The listing is one level over itself.
@@ -67,6 +69,24 @@ pub fn listing_renumbered()
 /// What such a part lists is what it lists as a problem of its own.
 pub fn parts_are_listed()
     ensures { (p : Puzzle) → IsValid p → (w : Wanted) → Contains (whole p).items w → (x : Numbered) → ListsPart p w x }
+{}
+
+/// The members below a path stand one behind another in the listing.
+pub fn members_below_are_a_run()
+    ensures { (p : Puzzle) (path : List Choice) → IsPath p path →
+        (front back : List (List Choice)) × (members p ≡ front ++ (below p path ++ back)) }
+{}
+
+/// A path is told by the numbers of its branches.
+pub fn numbers_tell_paths()
+    ensures { (p : Puzzle) (path other : List Choice) → IsPath p path → IsPath p other →
+        numbers_on path ≡ numbers_on other → path ≡ other }
+{}
+
+/// The parts below the paths with the numbers of a plan that cuts the search are all of the listing in turn.
+pub fn numbers_tell_cuts()
+    ensures { (p : Puzzle) (plan paths : List (List Choice)) → IsCut p plan → All (IsPath p) paths →
+        map numbers_on paths ≡ map numbers_on plan → members p ≡ flat_map (below p) paths }
 {}
 
 /// The listings of worked problems, computed by the definitions.

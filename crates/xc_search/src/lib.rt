@@ -31,4 +31,4 @@ pub use branch_item::{branches, choose};
 pub use choice::Choice;
 pub use counts::most_moves;
 pub use cut::{Cut, Cutting};
-pub use search::{Search, Step};
+pub use search::{PathFault, Search, Step};

@@ -1,5 +1,5 @@
 //! The search: a stack of levels over a dance.
-ghost use Rattle.std.specs.Prelude.{◌≡◌, ◌≤◌, [], ◌∷◌, drop, length, min, IfOk, IfErr};
+ghost use Rattle.std.specs.Prelude.{◌≡◌, ◌≤◌, [], ◌∷◌, ◌++◌, drop, length, min, IfOk, IfErr};
 ghost use Rattle.xc_search.specs.Outlook.{shown_after};
 ghost use Rattle.xc_search.specs.Room.{room_for};
 ghost use Rattle.xc_search.specs.Cover.{members, EachMemberCovers, EachCoverIsListedOnce};
@@ -14,6 +14,10 @@ use std::alloc::Global;
 use std::marker::Model;
 use xc_dance::{Dance, Memory};
 use xc_input::Problem;
+
+mod below;
+
+pub use below::PathFault;
 
 /// An answer of `Search::next`.
 #[derive(Clone, Copy, Debug, PartialEq, Eq)]
@@ -39,26 +43,25 @@ impl<'a, D: Dance> Model for Search<'a, D> {
     ghost use Rattle.std.specs.Prelude.{◌≡◌, ◌≤◌};
     ghost use Rattle.xc_search.specs.Outlook.{Outlook};
     ghost use Rattle.xc_search.specs.inner.MostLevels.{most_levels};
-    ghost use Rattle.xc_search.specs.inner.Levels.{choices_of, coming, IsStanding};
+    ghost use Rattle.xc_search.specs.inner.Levels.{behind, coming, IsStanding};
 
     ghost Value = { Outlook };
 
     ghost view = { λ s. record {
       puzzle = s.position.puzzle;
-      to_come = coming s.position.puzzle s.position.trail s.stack.levels s.down;
-      shown = choices_of s.position.puzzle s.stack.levels;
+      to_come = behind s.stack.before (coming s.position.puzzle s.position.trail s.stack.levels s.down);
+      shown = s.stack.shown;
       room = s.position.room;
     } };
 
     ghost invariant = { λ s. record {
-      shows : s.stack.shown ≡ choices_of s.position.puzzle s.stack.levels;
       standing : IsStanding s.position.puzzle s.position.trail s.stack.levels s.down;
       levels_fit : most_levels s.position.puzzle ≤ s.stack.room;
     } };
 }
 
 impl<'a, D: Dance> Search<'a, D> {
-    ghost use Rattle.xc_search.specs.inner.Levels.{choices_of, coming, IsStanding};
+    ghost use Rattle.xc_search.specs.inner.Levels.{behind, choices_of, coming, IsStanding};
     ghost use Rattle.xc_search.specs.inner.MostLevels.{most_levels};
 
     /// Begins a search over a dance that has no moves and room for `2 * items + 2 * uses` of them.
@@ -131,6 +134,9 @@ impl<'a, D: Dance> Search<'a, D> {
         } }
         ensures count { result.1 ≡ min many (length self.entry.to_come) }
     {
+        if many == 0 {
+            return (self, 0);
+        }
         let Search {
             mut position,
             mut stack,
@@ -139,29 +145,48 @@ impl<'a, D: Dance> Search<'a, D> {
         for passed in 0..many {
             match advance(&mut position, &mut stack, down) {
                 Step::Solution => down = false,
-                Step::Done => return (Search::showing(position, stack, false), passed),
+                Step::Done => return (Search::ended(position, stack), passed),
             }
         }
         (Search::showing(position, stack, down), many)
     }
 
-    /// A search whose levels stand, and which shows their choices.
+    /// A search whose levels stand, and which shows the choices down to the newest.
     #[inline(always)]
     fn showing(position: Position<'a, D>, mut stack: Stack, down: bool) -> Search<'a, D>
         requires standing { IsStanding position.puzzle position.trail stack.levels down }
         requires levels_fit { most_levels position.puzzle ≤ stack.room }
         ensures { result ≡ record {
           puzzle = position.entry.puzzle;
-          to_come = coming position.entry.puzzle position.entry.trail stack.levels down;
-          shown = choices_of position.entry.puzzle stack.levels;
+          to_come = behind stack.before (coming position.entry.puzzle position.entry.trail stack.levels down);
+          shown = stack.before ++ choices_of position.entry.puzzle stack.levels;
           room = position.entry.room;
         } }
     {
-        stack.show(&position);
+        stack.show_whole(&position);
         Search {
             position,
             stack,
             down,
+        }
+    }
+
+    /// A search without levels, which has ended and shows nothing.
+    fn ended(position: Position<'a, D>, mut stack: Stack) -> Search<'a, D>
+        requires none { stack.levels ≡ [] }
+        requires levels_fit { most_levels position.puzzle ≤ stack.room }
+        ensures { result ≡ record {
+          puzzle = position.entry.puzzle;
+          to_come = [];
+          shown = [];
+          room = position.entry.room;
+        } }
+    {
+        stack.show_none();
+        Search {
+            position,
+            stack,
+            down: false,
         }
     }
 

@@ -1,5 +1,5 @@
 //! The stack of the search's levels, and the choices of a solution beside it.
-ghost use Rattle.std.specs.Prelude.{◌≡◌, ◌<◌, ◌≤◌, [], ◌∷◌, ◌++◌, length, drop, map, vec_capacity, IfSome, IfOk, IsNone, All};
+ghost use Rattle.std.specs.Prelude.{◌≡◌, ◌+◌, ◌<◌, ◌≤◌, [], ◌∷◌, ◌++◌, length, drop, map, vec_capacity, IfSome, IfOk, IsNone, All};
 ghost use Rattle.xc_search.specs.inner.Levels.{chosen, choices_of, newest_begun, IsShown};
 
 use crate::choice::Choice;
@@ -17,34 +17,51 @@ pub const WHOLE: u64 = 1 << 63;
 pub struct Stack {
     /// The oldest first.
     levels: Vec<Level>,
+    /// The choices that lead to the oldest level.
+    before: Vec<Choice>,
     choices: Vec<Choice>,
     room: usize,
 }
 
 impl Model for Stack {
-    ghost use Rattle.std.specs.Prelude.{◌≤◌, length, reverse, vec_capacity};
+    ghost use Rattle.std.specs.Prelude.{◌+◌, ◌≤◌, length, reverse, vec_capacity};
     ghost use Rattle.xc_search.specs.inner.Levels.{Levels};
 
     ghost Value = { Levels };
 
-    ghost view = { λ a. record { levels = reverse a.levels.items; shown = a.choices.items; room = a.room } };
+    ghost view = { λ a. record {
+      levels = reverse a.levels.items;
+      before = a.before.items;
+      shown = a.choices.items;
+      room = a.room;
+    } };
 
     ghost invariant = { λ a. record {
       few : length a.levels.items ≤ a.room;
       levels_fit : a.room ≤ vec_capacity a.levels;
-      choices_fit : a.room ≤ vec_capacity a.choices;
+      choices_fit : length a.before.items + a.room ≤ vec_capacity a.choices;
     } };
 }
 
 impl Stack {
     /// No levels, and room for `room` of them. No later call takes memory.
     pub fn new(alloc: Global, room: usize) -> Result<Stack, AllocError>
-        ensures { IfOk result (λ s. s ≡ record { levels = []; shown = []; room = room }) }
+        ensures { IfOk result (λ s. s ≡ record { levels = []; before = []; shown = []; room = room }) }
+    {
+        Stack::behind(alloc, room, Vec::new(alloc))
+    }
+
+    /// No levels behind the choices that lead to them, and room for `room` levels. No later call takes
+    /// memory.
+    pub fn behind(alloc: Global, room: usize, before: Vec<Choice>) -> Result<Stack, AllocError>
+        ensures { IfOk result (λ s. s ≡ record { levels = []; before = before.items; shown = []; room = room }) }
     {
         let levels = Vec::with_capacity(alloc, room)?;
-        let choices = Vec::with_capacity(alloc, room)?;
+        let most = room.checked_add(before.len()).ok_or(AllocError)?;
+        let choices = Vec::with_capacity(alloc, most)?;
         Ok(Stack {
             levels,
+            before,
             choices,
             room,
         })
@@ -106,7 +123,23 @@ impl Stack {
         requires { All (IsShown position.now.puzzle) self.old.levels }
         ensures { self.new ≡ record self.old { shown = choices_of position.now.puzzle self.old.levels } }
     {
-        put_choices(&mut self.choices, &self.levels, position);
+        put_choices(&mut self.choices, &[], &self.levels, position);
+    }
+
+    /// Shows the choices that lead to the levels, and theirs, from the oldest level on.
+    pub fn show_whole<D: Dance>(&mut self, position: &Position<D>)
+        requires { All (IsShown position.now.puzzle) self.old.levels }
+        ensures { self.new ≡ record self.old
+            { shown = self.old.before ++ choices_of position.now.puzzle self.old.levels } }
+    {
+        put_choices(&mut self.choices, &self.before, &self.levels, position);
+    }
+
+    /// Shows no choices.
+    pub fn show_none(&mut self)
+        ensures { self.new ≡ record self.old { shown = [] } }
+    {
+        self.choices.clear();
     }
 
     /// The choices that were shown last.
@@ -117,14 +150,22 @@ impl Stack {
     }
 }
 
-/// Puts the levels' choices in the place of those that stand.
-fn put_choices<D: Dance>(choices: &mut Vec<Choice>, levels: &[Level], position: &Position<D>)
-    requires room { length levels.now ≤ vec_capacity choices.old }
+/// Puts choices, and behind them the levels', in the place of those that stand.
+fn put_choices<D: Dance>(
+    choices: &mut Vec<Choice>,
+    before: &[Choice],
+    levels: &[Level],
+    position: &Position<D>,
+)
+    requires room { length before.now + length levels.now ≤ vec_capacity choices.old }
     requires shown { All (IsShown position.now.puzzle) levels.now }
-    ensures items { choices.new.items ≡ map (chosen position.now.puzzle) levels.now }
+    ensures items { choices.new.items ≡ before.now ++ map (chosen position.now.puzzle) levels.now }
     ensures capacity { vec_capacity choices.new ≡ vec_capacity choices.old }
 {
     choices.clear();
+    for choice in before {
+        choices.push_reserved(*choice);
+    }
     for level in levels {
         choices.push_reserved(position.choice_of(level));
     }

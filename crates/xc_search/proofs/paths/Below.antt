@@ -6,7 +6,7 @@ use Rattle.xc_dance.specs.declared.dance.Move.{Move}
 use Rattle.xc_search.specs.declared.level.Level.{Level}
 use Rattle.xc_input.specs.Problem.{Puzzle, IsPrimary}
 use Rattle.xc_search.specs.Listing.{Wanted, Residual, Branch, whole, branch_item, listing}
-use Rattle.xc_search.specs.Cut.{branches_left, has_choice, left_by_one, left_by, below, IsPath}
+use Rattle.xc_search.specs.Cut.{branches_left, option_or_none, has_choice, left_by_one, left_by, below, IsPath}
 use Rattle.xc_search.specs.inner.Residual.{residual_of}
 use Rattle.xc_search.specs.inner.Commits.{oldest}
 use Rattle.std.proofs.lemmas.List.Elements.{All-nil, All-cons, All-append}
@@ -25,19 +25,21 @@ further path c more None = refl
 further path c more (Some r) = more r
 
 -- one choice more
-left_by_more : (path : List Choice) (c : Choice) (r : Residual) → left_by (path ++ c ∷ []) r ≡ option_and_then (left_by_one c) (left_by path r)
+pub left_by_more : (path : List Choice) (c : Choice) (r : Residual) → left_by
+    (path ++ c ∷ []) r ≡ option_and_then (left_by_one c) (left_by path r)
 left_by_more [] c r = at_end (left_by_one c r)
 left_by_more (x ∷ path) c r = further path c (left_by_more path c) (left_by_one x r)
 
-has_its_choice : (b : Branch) → has_choice b.choice b ≡ true
+pub has_its_choice : (b : Branch) → has_choice b.choice b ≡ true
 has_its_choice b =
     let both : (x y : Bool) → x ≡ true → y ≡ true → x && y ≡ true = λ x y e f. ap₂ (λ x y. x && y) e f in
-    both _ _ (both _ _ (both _ _ (same b.choice.item) (same (unwrap_or b.choice.option 0))) (same b.choice.k)) (same b.choice.n)
+    both _ _ (both _ _ (both _ _ (same b.choice.item) (same (option_or_none b.choice.option))) (same b.choice.k))
+    (same b.choice.n)
   where
     same : (n : ℕ) → eqb n n ≡ true
     same n = eq-eqb n n refl
 
-branches_same : (p : Puzzle) (t : List Move) → branches_left (residual_of p t) ≡ branches_at p t
+pub branches_same : (p : Puzzle) (t : List Move) → branches_left (residual_of p t) ≡ branches_at p t
 branches_same p t = by_case (branch_item (residual_of p t)) refl
   where
     by_case : (o : Option Wanted) → branch_item (residual_of p t) ≡ o → branches_left (residual_of p t) ≡ branches_at p t

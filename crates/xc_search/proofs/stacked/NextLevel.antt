@@ -12,7 +12,7 @@ use Rattle.xc_search.specs.Listing.{Wanted, Branch, branches_of, branch_count, b
 use Rattle.xc_dance.specs.Moves.{is_open, spends, open_items, AreLegal}
 use Rattle.xc_search.specs.Residuals.{wanted_at, wanted_after, choice_after}
 use Rattle.xc_search.specs.inner.Residual.{residual_of}
-use Rattle.xc_search.specs.inner.Levels.{branches_at, members_of, IsSearchable, IsNode, options_at, IsLevelAt, IsShallow, AreStacked, IsPlace, choices_of, to_give, coming, first_level}
+use Rattle.xc_search.specs.inner.Levels.{branches_at, members_of, IsSearchable, options_at, IsLevelAt, IsShallow, AreStacked, IsPlace, choices_of, to_give, coming, first_level}
 use Rattle.xc_dance.specs.Fields.{link_place, layout}
 use Rattle.xc_dance.specs.Commits.{option_at, number_of, after_spend, after_use, after_uses}
 use Rattle.xc_search.specs.inner.Commits.{oldest, after_none, walks}
@@ -165,6 +165,27 @@ at_other p i q h = (unwrap_or (option_map number_of (slice_get (layout p) q)) 0,
 pub own_place : (p : Puzzle) (i : ℕ) → IsPlace p i i
 own_place p i = ap (λ o. link_place p i (unwrap_or o 0)) (sym (at_own p i))
 
+-- a level's own moves stand before its first branch
+pub first_stands : (p : Puzzle) (t : List Move) (i n : ℕ) → IsSearchable p t → Chosen p t i n →
+    IsLevelAt p t (after_spend p i t) (first_level p t i n)
+first_stands p t i n here c =
+    let s = after_spend p i t in
+    let no_tweaks : 0 ≡ cond (walks p t i) 0 (min 0 (length (options_at p t i))) =
+    elim (walks p t i) as (λ b. 0 ≡ cond b 0 (min 0 (length (options_at p t i))))
+    [ true ↦ refl | false ↦ omega arith ] in
+    record {
+      within = (ext_longer s t (ext_after_spend p i t), omega arith);
+      node = record { searchable = here; item = c.item; is_open = c.is_open };
+      branch = c.branch;
+      count = c.count;
+      begun = omega arith;
+      walking = refl;
+      tweaks = no_tweaks;
+      option = at_own p i;
+      place = own_place p i;
+      base = oldest_all s;
+    }
+
 -- a level is begun
 pub descended : (p : Puzzle) (t : List Move) (ls : List Level) (i n : ℕ) → IsSearchable p t → IsShallow p t ls → Chosen p t i n → AreStacked p t ls →
     AreStacked p (after_spend p i t) (first_level p t i n ∷ ls)
@@ -175,20 +196,7 @@ descended p t ls i n here sh c stacked =
     let s = after_spend p i t in
     let ext = ext_after_spend p i t in
     let under : oldest (length t) s ≡ t = ext_whole s t ext in
-    let node : IsNode p t i = record { searchable = here; item = c.item; is_open = c.is_open } in
-    let no_tweaks : 0 ≡ cond (walks p t i) 0 (min 0 (length (options_at p t i))) = elim (walks p t i) as (λ b. 0 ≡ cond b 0 (min 0 (length (options_at p t i)))) [ true ↦ refl | false ↦ omega arith ] in
-    let is_level : IsLevelAt p t s f = record {
-      within = (ext_longer s t ext, omega arith);
-      node = node;
-      branch = c.branch;
-      count = c.count;
-      begun = omega arith;
-      walking = refl;
-      tweaks = no_tweaks;
-      option = at_own p i;
-      place = own_place p i;
-      base = oldest_all s;
-    } in
+    let is_level : IsLevelAt p t s f = first_stands p t i n here c in
     let unrolled : listing (residual_of p t) ≡ flat_map (λ b. map (λ m. b.choice ∷ m) (listing b.next)) (branches_at p t) =
     listing_unrolled (residual_of p t) ∙ ap (λ o. level listing o (residual_of p t)) c.branch ∙ ap (flat_map (λ b. map (λ m. b.choice ∷ m) (listing b.next))) (sym (branches_here p t (wanted_at p t i) c.branch)) in
     let worked : work (residual_of p t) ≡ suc (suc (cost work (branches_at p t))) =

@@ -1,10 +1,11 @@
 -- A search that goes on over many members.
-use Rattle.std.proofs.Common.{ℕ, zero, suc, ◌≡◌, ◌+◌, ◌<◌, ◌≤◌, Bool, false, List, [], ◌∷◌, length, drop, min, refl, sym, ap, ap₂, ◌∙◌, arith, subst}
+use Rattle.std.proofs.Common.{ℕ, zero, suc, ◌≡◌, ◌+◌, ◌<◌, ◌≤◌, Bool, false, List, [], ◌∷◌, ◌++◌, length, drop, min, refl, sym, ap, ap₂, ◌∙◌, arith, subst}
 use Rattle.std.proofs.lemmas.Grind.{common_steps}
+use Rattle.std.proofs.lemmas.List.{drop-map, length-map}
 use Rattle.xc_search.specs.declared.choice.Choice.{Choice}
 use Rattle.xc_dance.specs.Dancing.{Dancing}
 use Rattle.xc_search.specs.Outlook.{Outlook, shown_after}
-use Rattle.xc_search.specs.inner.Levels.{Levels, IsStanding, coming, choices_of}
+use Rattle.xc_search.specs.inner.Levels.{Levels, IsStanding, coming, behind, choices_of}
 use Rattle.xc_search.specs.inner.Ahead.{IsReached, IsDone}
 
 rest_behind : {X : Type 0} (n : ℕ) (ms : List X) (m : X) (rest : List X) → drop n ms ≡ m ∷ rest → rest ≡ drop (n + 1) ms
@@ -89,13 +90,69 @@ went_past d e f ls ks js down below n many a r less =
       omega (arith, all, less),
     )
 
+-- a member is shown behind the choices before it
+shown_behind : (n : ℕ) (before : List Choice) (ms : List (List Choice)) (s t : List Choice) → 0 < n → n ≤ length ms →
+    shown_after n (behind before ms) s ≡ before ++ shown_after n ms t
+shown_behind zero before ms s t h k = absurd (omega (arith, h))
+shown_behind (suc n) before [] s t h k = absurd (omega (arith, k))
+shown_behind (suc zero) before (m ∷ ms) s t h k = refl
+shown_behind (suc (suc n)) before (m ∷ ms) s t h k = shown_behind (suc n) before ms (before ++ m) m (omega arith)
+    (omega (arith, k))
+
+abbrev outlook : List (List Choice) → List Choice → Dancing → Outlook
+outlook ms m s = record { puzzle = s.puzzle; to_come = ms; shown = m; room = s.room }
+
 -- what the search then stands for
-pub outlook_over : (d e : Dancing) (ls ks : Levels) (down below : Bool) (n : ℕ) (o : Outlook) → WentOver d ls down n e ks below →
-    record { puzzle = d.puzzle; to_come = coming d.puzzle d.trail ls.levels down; shown = choices_of d.puzzle ls.levels; room = d.room } ≡ o →
-    record { puzzle = e.puzzle; to_come = coming e.puzzle e.trail ks.levels below; shown = choices_of e.puzzle ks.levels; room = e.room }
+pub outlook_over : (d e : Dancing) (ls ks : Levels) (down below : Bool) (n : ℕ) (o : Outlook) → 0 < n →
+    WentOverAll d ls down n e ks below →
+    record {
+      puzzle = d.puzzle;
+      to_come = behind ls.before (coming d.puzzle d.trail ls.levels down);
+      shown = ls.shown;
+      room = d.room;
+    } ≡ o →
+    record {
+      puzzle = e.puzzle;
+      to_come = behind ks.before (coming e.puzzle e.trail ks.levels below);
+      shown = ks.before ++ choices_of e.puzzle ks.levels;
+      room = e.room;
+    }
     ≡ record o { to_come = drop n o.to_come; shown = shown_after n o.to_come o.shown }
-outlook_over d e ls ks down below n o w is =
-    let outlook : List (List Choice) → List Choice → Dancing → Outlook = λ ms m s. record { puzzle = s.puzzle; to_come = ms; shown = m; room = s.room } in
-    ap₂ (λ ms m. outlook ms m e) w.come w.shown
-    ∙ ap (λ s. outlook (drop n (coming d.puzzle d.trail ls.levels down)) (shown_after n (coming d.puzzle d.trail ls.levels down) (choices_of d.puzzle ls.levels)) s) w.still.0
+outlook_over d e ls ks down below n o some all is =
+    let w = all.over in
+    let ms = coming d.puzzle d.trail ls.levels down in
+    let same : ks.before ≡ ls.before = ap (λ (s : Levels). s.before) w.still.1 in
+    ap (λ before. outlook (behind before (coming e.puzzle e.trail ks.levels below))
+    (before ++ choices_of e.puzzle ks.levels) e) same
+    ∙ ap₂ (λ ms m. outlook (behind ls.before ms) (ls.before ++ m) e) w.come w.shown
+    ∙ ap₂ (λ ms m. outlook ms m e) (sym (drop-map (λ m. ls.before ++ m) n ms))
+    (sym (shown_behind n ls.before ms ls.shown (choices_of d.puzzle ls.levels) some all.within))
+    ∙ ap (λ s. outlook (drop n (behind ls.before ms)) (shown_after n (behind ls.before ms) ls.shown) s) w.still.0
     ∙ ap (λ (o : Outlook). record o { to_come = drop n o.to_come; shown = shown_after n o.to_come o.shown }) is
+
+-- and where it ended
+pub outlook_past : (d e : Dancing) (ls ks : Levels) (down below : Bool) (n many : ℕ) (o : Outlook) →
+    WentOver d ls down many e ks below →
+    n ≡ min many (length (coming d.puzzle d.trail ls.levels down)) → n < many →
+    record {
+      puzzle = d.puzzle;
+      to_come = behind ls.before (coming d.puzzle d.trail ls.levels down);
+      shown = ls.shown;
+      room = d.room;
+    } ≡ o →
+    (record { puzzle = e.puzzle; to_come = []; shown = []; room = e.room }
+    ≡ record o { to_come = drop many o.to_come; shown = shown_after many o.to_come o.shown }) ×
+    (n ≡ min many (length o.to_come))
+outlook_past d e ls ks down below n many o w count less is =
+    let ms = coming d.puzzle d.trail ls.levels down in
+    let long : length (behind ls.before ms) ≡ length ms = length-map ms (λ m. ls.before ++ m) in (
+      ap (λ s. outlook [] [] s) w.still.0
+          ∙ ap₂ (λ ms m. outlook ms m d) (sym (drop_past many (behind ls.before ms) (omega (arith, long, count, less))))
+          (shown_past many (behind ls.before ms) ls.shown (omega (arith, long, count, less)))
+          ∙ ap (λ (o : Outlook). record o {
+            to_come = drop many o.to_come;
+            shown =
+                shown_after many o.to_come o.shown;
+          }) is,
+      count ∙ ap (λ n. min many n) (sym long) ∙ ap (λ (o : Outlook). min many (length o.to_come)) is,
+    )

@@ -22,6 +22,8 @@ use Rattle.xc_search.specs.inner.Sparing.{IsSparing}
 pub record Levels : Type 0 where
   -- the newest first
   pub levels : List Level
+  -- the choices that lead to the oldest
+  pub before : List Choice
   -- the choices that were shown last
   pub shown : List Choice
   -- how many levels there is room for
@@ -117,6 +119,10 @@ to_give p t (l ∷ ls) =
 abbrev pub coming : Puzzle → List Move → List Level → Bool → List (List Choice)
 coming p t ls true = map (λ m. choices_of p ls ++ m) (listing (residual_of p t)) ++ to_give p t ls
 coming p t ls false = to_give p t ls
+
+-- these members, with the choices before them
+abbrev pub behind : List Choice → List (List Choice) → List (List Choice)
+behind before ms = map (λ m. before ++ m) ms
 
 -- the levels stand, and what is left can be searched
 pub record IsStanding (p : Puzzle) (t : List Move) (ls : List Level) (down : Bool) : Type 0 where

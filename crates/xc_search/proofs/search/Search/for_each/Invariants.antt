@@ -1,4 +1,4 @@
-use Rattle.std.proofs.Common.{◌≡◌, List, Bool, ℕ, length}
+use Rattle.std.proofs.Common.{◌≡◌, List, Bool, length}
 use Rattle.std.specs.Fn.{CalledAt}
 use Rattle.xc_search.specs.declared.choice.Choice.{Choice}
 use Rattle.xc_search.specs.Visited.{Visits}

@@ -26,4 +26,11 @@ returns c =
     ap (λ l. reverse (set levels (c.len-top.result - 1) l)) new
     ∙ ap (λ n. reverse (set levels (n - 1) (begun_level b (get_or levels (n - 1) c.index_mut.result.now)))) (c.len-top.ensures ∙ items-length c.self.inside.levels)
     ∙ newest_changed (begun_level b) levels c.index_mut.result.now some in
-    ap (λ (ls : List Level). record { levels = ls; shown = c.self.inside.choices.items; room = c.self.inside.room }) turned ∙ ap (λ (v : Levels). record v { levels = first_changed (begun_level b) v.levels }) c.self.view_is
+    ap (λ (ls : List Level). record {
+      levels = ls;
+      before = c.self.inside.before.items;
+      shown =
+          c.self.inside.choices.items;
+      room = c.self.inside.room;
+    }) turned ∙ ap
+    (λ (v : Levels). record v { levels = first_changed (begun_level b) v.levels }) c.self.view_is

@@ -1,0 +1,167 @@
+-- The way down a path.
+use Rattle.std.proofs.Common.{ℕ, ◌≡◌, ◌+◌, ◌-◌, ◌<◌, true, cond, List, [], ◌∷◌, ◌++◌, length, take, drop, get_or, map, Option, Some, None, refl, sym, ap, ap₂, ◌∙◌, arith, subst, append-nil}
+use Rattle.std.specs.Prelude.{slice_get, option_and_then}
+use Rattle.std.proofs.lemmas.Grind.{common_steps}
+use Rattle.std.proofs.lemmas.List.{map-append, map-id}
+use Rattle.xc_dance.specs.declared.dance.Move.{Move}
+use Rattle.xc_search.specs.declared.choice.Choice.{Choice}
+use Rattle.xc_search.specs.declared.level.Level.{Level}
+use Rattle.xc_search.specs.declared.level.Begun.{Begun}
+use Rattle.xc_input.specs.Problem.{Puzzle, IsValid, uses_of}
+use Rattle.xc_dance.specs.Commits.{others, after_spend}
+use Rattle.xc_search.specs.Listing.{whole, branch_item, branch_count, listing}
+use Rattle.xc_search.specs.Residuals.{wanted_at}
+use Rattle.xc_search.specs.Cut.{has_choice, left_by_one, below, IsPathBy}
+use Rattle.xc_search.specs.inner.Commits.{oldest}
+use Rattle.xc_search.specs.inner.Residual.{residual_of}
+use Rattle.xc_search.specs.inner.Sizes.{size_of}
+use Rattle.xc_search.specs.inner.Levels.{IsLevel, IsLevelAt, IsNode, IsSearchable, IsShallow, IsStanding, IsEntered, MayBegin, first_level, begun_level, after_branch, taken, branches_at, chosen, coming, behind}
+use Rattle.xc_search.specs.inner.Descent.{LeadsTo, Leads, IsDown}
+use Rattle.xc_search.proofs.residual.BranchItemLeft.{no_moves_leave_all}
+use Rattle.xc_search.proofs.stacked.NextLevel.{Extends, ext_uses, ext_after_none, ext_after_spend, ext_whole, oldest-oldest, first_stands}
+use Rattle.xc_search.proofs.stacked.Start.{starts_standing}
+use Rattle.xc_search.proofs.stacked.Depth.{shallow_first}
+use Rattle.xc_search.proofs.paths.Below.{branches_same, has_its_choice, left_by_more}
+use Rattle.xc_search.proofs.paths.Numbers.{no_further, left_less, below_left}
+
+ext_after_branch : (p : Puzzle) (i : ℕ) (o : Option ℕ) (t : List Move) → Extends (after_branch p i o t) t
+ext_after_branch p i None t = ext_after_none i t
+ext_after_branch p i (Some o) t = ext_uses p (others i (uses_of p o)) t
+
+-- a level stands with its own moves where it stands below more
+before_branch : (p : Puzzle) (t s : List Move) (l : Level) → IsLevel p t l → Extends t s → l.base ≡ length s →
+    IsLevel p s l × (oldest l.mark s ≡ oldest l.mark t)
+before_branch p t s l is_level ext own =
+    let whole : oldest l.base t ≡ s = ap (λ n. oldest n t) own ∙ ext_whole t s ext in
+    let under : oldest l.mark s ≡ oldest l.mark t = ap (oldest l.mark) (sym whole)
+    ∙ oldest-oldest l.mark l.base t is_level.within.0 is_level.within.1 in (
+      subst (λ u. IsLevelAt p u s l) (sym under) (record {
+        within = (is_level.within.0, omega (arith, own));
+        node = is_level.node;
+        branch = is_level.branch;
+        count = is_level.count;
+        begun = is_level.begun;
+        walking = is_level.walking;
+        tweaks = is_level.tweaks;
+        option = is_level.option;
+        place = is_level.place;
+        base = ap (oldest l.base) (sym whole) ∙ oldest-oldest l.base l.base t (omega arith) is_level.within.1
+            ∙ is_level.base;
+      }),
+      under,
+    )
+
+-- before the next branch
+pub leads_on : (p : Puzzle) (u s t : List Move) (l k : Level) (b : Begun) → Leads p u s l → k ≡ begun_level b l →
+    b.base ≡ length t → IsEntered p s l t (begun_level b l) → Leads p u t k
+leads_on p u s t l k b a ek own entered =
+    let begun = entered.begun in
+    let there = after_branch p l.item (taken p (begun_level b l)) t in
+    let at = before_branch p there t (begun_level b l) begun.level
+    (ext_after_branch p l.item (taken p (begun_level b l)) t) own in
+    let place : b.begun - 1 ≡ l.begun = omega (arith, begun.begun) in
+    subst (Leads p u t) (sym ek) (record {
+      level = at.0;
+      own = own;
+      under = at.1 ∙ begun.below ∙ a.under;
+      can = λ h. entered.can;
+      next = λ h. record {
+        branch = begun.branch;
+        at = ap₂ (λ v n. slice_get (branches_at p v) n) (sym a.under) place ∙ begun.at;
+        choice = begun.choice;
+        next = begun.next;
+        searchable = begun.searchable;
+      };
+    })
+
+-- a level on whose moves none was begun
+pub leads_first : (p : Puzzle) (u t : List Move) (l : Level) (i n : ℕ) → IsNode p u i → branch_item
+    (residual_of p u) ≡ Some (wanted_at p u i) → n ≡ branch_count (residual_of p u) (wanted_at p u i) →
+    t ≡ after_spend p i u → l ≡ first_level p u i n → Leads p u t l
+leads_first p u t l i n node item count et el =
+    let s = after_spend p i u in
+    let f = first_level p u i n in
+    let under : oldest f.mark s ≡ u = ext_whole s u (ext_after_spend p i u) in
+    subst (λ t. Leads p u t l) (sym et) (subst (Leads p u s) (sym el) (record {
+      level = subst (λ v. IsLevelAt p v s f) (sym under)
+          (first_stands p u i n node.searchable
+          (record { branch = item; count = count; item = node.item; is_open = node.is_open }));
+      own = refl;
+      under = under;
+      can = λ h. absurd (omega (arith, h));
+      next = λ h. absurd (omega (arith, h));
+    }))
+
+-- what may be begun
+pub leads_may : (p : Puzzle) (u s : List Move) (l : Level) → Leads p u s l → l.begun < l.count → MayBegin p s l
+leads_may p u s l a more = record { level = a.level; whole = a.own; more = more }
+
+-- the branch's choice leads from what was left to what its moves leave
+pub leads_left : (p : Puzzle) (u t : List Move) (l : Level) → LeadsTo p u t l → left_by_one (chosen p l)
+    (residual_of p u) ≡ Some (residual_of p t)
+leads_left p u t l a =
+    let b = a.branch in
+    ap (λ bs. option_and_then (λ b. cond (has_choice (chosen p l) b) (Some b.next) None)
+    (slice_get bs (l.begun - 1))) (branches_same p u)
+    ∙ ap (option_and_then (λ b. cond (has_choice (chosen p l) b) (Some b.next) None)) a.at
+    ∙ ap (λ c. cond (has_choice c b) (Some b.next) None) a.choice
+    ∙ ap (λ x. cond x (Some b.next) None) (has_its_choice b)
+    ∙ ap Some (sym a.next)
+
+-- a path of one choice more
+pub down_more : (p : Puzzle) (numbers : List ℕ) (path : List Choice) (t s : List Move) (c : Choice) →
+    IsDown p numbers path t → IsSearchable p s →
+    left_by_one c (residual_of p t) ≡ Some (residual_of p s) → IsDown p (numbers ++ c.k ∷ []) (path ++ c ∷ []) s
+down_more p numbers path t s c d searchable left = record {
+  left = left_by_more path c (whole p) ∙ ap (option_and_then (left_by_one c)) d.left ∙ left;
+  told = map-append (λ (c : Choice). c.k) path (c ∷ []) ∙ ap (λ ks. ks ++ c.k ∷ []) d.told;
+  searchable = searchable;
+}
+
+pub down_first : (p : Puzzle) (t : List Move) → IsValid p → t ≡ [] → IsDown p [] [] t
+down_first p t v e = record {
+  left = ap Some (sym (no_moves_leave_all p)) ∙ ap (λ t. Some (residual_of p t)) (sym e);
+  told = refl;
+  searchable = (starts_standing p t [] v e refl).searchable refl;
+}
+
+-- there is no path with these numbers where there is no branch with the next of them
+pub down_none : (p : Puzzle) (numbers all : List ℕ) (path other : List Choice) (t : List Move) (k : ℕ)
+    (ks : List ℕ) → IsDown p numbers path t →
+    ((c : Choice) → c.k ≡ k → left_by_one c (residual_of p t) ≡ None) → all ≡ numbers ++ k ∷ ks →
+    IsPathBy p all other → ⊥
+down_none p numbers all path other t k ks d none e is =
+    no_further path other (whole p) (residual_of p t) is.0.0 k ks d.left none
+    (is.1 ∙ e ∙ ap (λ ns. ns ++ k ∷ ks) (sym d.told)) is.0.1
+
+-- a search stands there
+pub down_standing : (p : Puzzle) (numbers : List ℕ) (path : List Choice) (t : List Move) (ls : List Level) →
+    IsDown p numbers path t → ls ≡ [] → IsStanding p t ls true
+down_standing p numbers path t ls d e =
+    let shallow : IsShallow p t [] =
+    omega (
+      arith,
+      left_less path (whole p) (residual_of p t) d.left,
+      ap size_of
+          (no_moves_leave_all p),
+      shallow_first p,
+    ) in
+    subst (λ ls. IsStanding p t ls true) (sym e)
+    (record { stacked = tt; searchable = λ _. d.searchable; shallow = λ _. shallow })
+
+-- with the members below the path to come
+pub down_coming : (p : Puzzle) (numbers : List ℕ) (path : List Choice) (t : List Move) (ls : List Level) →
+    IsDown p numbers path t → ls ≡ [] →
+    behind path (coming p t ls true) ≡ below p path
+down_coming p numbers path t ls d e =
+    let ms = listing (residual_of p t) in
+    ap (λ ls. behind path (coming p t ls true)) e
+    ∙ ap (behind path) (append-nil (map (λ (m : List Choice). m) ms) ∙ map-id ms)
+    ∙ sym (below_left p path (residual_of p t) d.left)
+
+-- the number at a place, behind those before it
+pub taken_more : (ns : List ℕ) (i d : ℕ) → i < length ns → take i ns ++ get_or ns i d ∷ [] ≡ take (i + 1) ns
+taken_more ns i d h = grind (arith, common_steps)
+
+pub parts_at : (ns : List ℕ) (i d : ℕ) → i < length ns → ns ≡ take i ns ++ get_or ns i d ∷ drop (i + 1) ns
+parts_at ns i d h = grind (arith, common_steps)

@@ -1,0 +1,284 @@
+-- A path is told by the numbers of its branches, and its members are a run of the listing.
+use Rattle.std.proofs.Common.{ℕ, zero, suc, ◌≡◌, ◌+◌, ◌-◌, ◌<◌, ◌≤◌, Bool, true, false, cond, ◌&&◌, List, [], ◌∷◌, ◌++◌, length, map, take, drop, Option, Some, None, refl, sym, ap, ap₂, ◌∙◌, arith, subst, eqb-true, append-nil, append_assoc, ◌⊎◌, inl, inr}
+use Rattle.std.specs.Prelude.{All, slice_get, flat_map, unwrap_or, option_map, option_and_then}
+use Rattle.std.proofs.lemmas.List.{map-append, map-id}
+use Rattle.std.proofs.lemmas.Option.{slice_get_within}
+use Rattle.std.specs.List.{AllByRecursion}
+use Rattle.std.proofs.lemmas.List.Elements.{recursion_from_All}
+use Rattle.xc_search.specs.declared.choice.Choice.{Choice}
+use Rattle.xc_input.specs.Problem.{Puzzle, Numbered, holding}
+use Rattle.xc_search.specs.Listing.{Wanted, Residual, Branch, whole, branch_item, branch_count, branches_of, take_branch, none_branch, level, listing}
+use Rattle.xc_search.specs.Cut.{branches_left, option_or_none, has_choice, left_by_one, left_by, numbers_on, IsPath, IsCut, below}
+use Rattle.xc_search.specs.Cover.{members}
+use Rattle.xc_search.specs.inner.Sizes.{size_of}
+use Rattle.xc_input.proofs.lists.Filters.{map-map}
+use Rattle.xc_input.proofs.lists.EachElement.{each_at}
+use Rattle.xc_search.proofs.listing.Unrolled.{listing_unrolled}
+use Rattle.xc_search.proofs.listing.BranchLists.{branch_takes, branch_none, branches_end}
+use Rattle.xc_search.proofs.listing.BranchesLess.{branches_less}
+
+both : (x y : Bool) → x && y ≡ true → (x ≡ true) × (y ≡ true)
+both true true e = (refl, refl)
+both true false e = absurd (cc e)
+both false y e = absurd (cc e)
+
+same_option : (a b : Option ℕ) → option_or_none a ≡ option_or_none b → a ≡ b
+same_option None None e = refl
+same_option None (Some b) e = absurd (cc e)
+same_option (Some a) None e = absurd (cc e)
+same_option (Some a) (Some b) e = ap Some (cc e)
+
+-- the choice of a branch is its own
+pub its_choice : (c : Choice) (b : Branch) → has_choice c b ≡ true → b.choice ≡ c
+its_choice c b e =
+    let with_n = both _ _ e in
+    let with_k = both _ _ with_n.0 in
+    let with_option = both _ _ with_k.0 in
+    let choice : ℕ → Option ℕ → ℕ → ℕ → Choice = λ i o k n. record { item = i; option = o; k = k; n = n } in
+    ap₂ (λ i o. choice i o b.choice.k b.choice.n) (eqb-true _ _ with_option.0)
+    (same_option _ _ (eqb-true _ _ with_option.1))
+    ∙ ap₂ (λ k n. choice c.item c.option k n) (eqb-true _ _ with_k.1) (eqb-true _ _ with_n.1)
+
+-- a choice of a path is that of a branch
+record Stepped (c : Choice) (r s : Residual) : Type 0 where
+  pub branch : Branch
+  pub at : slice_get (branches_left r) (c.k - 1) ≡ Some branch
+  pub choice : branch.choice ≡ c
+  pub next : branch.next ≡ s
+
+stepped : (c : Choice) (r s : Residual) → left_by_one c r ≡ Some s → Stepped c r s
+stepped c r s e = by_branch (slice_get (branches_left r) (c.k - 1)) refl e
+  where
+    by_test : (b : Branch) (t : Bool) → slice_get (branches_left r) (c.k - 1) ≡ Some b → has_choice c b ≡ t →
+        cond t (Some b.next) None ≡ Some s → Stepped c r s
+    by_test b true at t e = record { branch = b; at = at; choice = its_choice c b t; next = cc e }
+    by_test b false at t e = absurd (cc e)
+
+    by_branch : (o : Option Branch) → slice_get (branches_left r) (c.k - 1) ≡ o →
+        option_and_then (λ b. cond (has_choice c b) (Some b.next) None) o ≡ Some s → Stepped c r s
+    by_branch None at e = absurd (cc e)
+    by_branch (Some b) at e = by_test b (has_choice c b) at refl e
+
+then_left : (f : Residual → Option Residual) (o : Option Residual) (s : Residual) → option_and_then f o ≡ Some s →
+    (r : Residual) × (o ≡ Some r) × (f r ≡ Some s)
+then_left f None s e = absurd (cc e)
+then_left f (Some r) s e = (r, refl, e)
+
+-- branches of the same number are the same
+same_step : (c d : Choice) (r x y : Residual) → c.k ≡ d.k → left_by_one c r ≡ Some x → left_by_one d r ≡ Some y →
+    (c ≡ d) × (x ≡ y)
+same_step c d r x y k e f =
+    let a = stepped c r x e in
+    let b = stepped d r y f in
+    let one : Some a.branch ≡ Some b.branch = sym a.at ∙ ap (λ k. slice_get (branches_left r) (k - 1)) k ∙ b.at in
+    let same : a.branch ≡ b.branch = cc one in (
+      sym a.choice ∙ ap (λ (b : Branch). b.choice) same ∙ b.choice,
+      sym a.next ∙ ap (λ (b : Branch). b.next) same
+          ∙ b.next,
+    )
+
+first_same : (a b : ℕ) (xs ys : List ℕ) → a ∷ xs ≡ b ∷ ys → (a ≡ b) × (xs ≡ ys)
+first_same a b xs ys e = (cc e, cc e)
+
+-- two paths with the same numbers are the same
+paths_same : (a b : List Choice) (r x y : Residual) → left_by a r ≡ Some x → left_by b r ≡ Some y →
+    numbers_on a ≡ numbers_on b → a ≡ b
+paths_same [] [] r x y e f n = refl
+paths_same [] (d ∷ b) r x y e f n = absurd (cc n)
+paths_same (c ∷ a) [] r x y e f n = absurd (cc n)
+paths_same (c ∷ a) (d ∷ b) r x y e f n =
+    let first = first_same c.k d.k (numbers_on a) (numbers_on b) n in
+    let s = then_left (left_by a) (left_by_one c r) x e in
+    let t = then_left (left_by b) (left_by_one d r) y f in
+    let one = same_step c d r s.0 t.0 first.0 s.1 t.1 in
+    ap₂ (λ c a. c ∷ a) one.0 (paths_same a b s.0 x y s.2 (subst (λ r. left_by b r ≡ Some y) (sym one.1) t.2) first.1)
+
+pub numbers_tell : (p : Puzzle) (a b : List Choice) → IsPath p a → IsPath p b → numbers_on a ≡ numbers_on b → a ≡ b
+numbers_tell p a b is has n = paths_same a b (whole p) is.0 has.0 is.1 has.1 n
+
+-- no path goes on with a number of no branch
+pub no_further : (done path : List Choice) (r s x : Residual) (k : ℕ) (ks : List ℕ) → left_by done r ≡ Some s →
+    ((c : Choice) → c.k ≡ k → left_by_one c s ≡ None) →
+    numbers_on path ≡ numbers_on done ++ k ∷ ks → left_by path r ≡ Some x → ⊥
+no_further [] [] r s x k ks e none n f = absurd (cc n)
+no_further [] (c ∷ path) r s x k ks e none n f =
+    let here : r ≡ s = cc e in
+    let first = first_same c.k k (numbers_on path) ks n in
+    let nowhere : left_by_one c r ≡ None = ap (left_by_one c) here ∙ none c first.0 in
+    absurd (cc (sym (ap (option_and_then (left_by path)) nowhere) ∙ f))
+no_further (d ∷ done) [] r s x k ks e none n f = absurd (cc n)
+no_further (d ∷ done) (c ∷ path) r s x k ks e none n f =
+    let first = first_same c.k d.k (numbers_on path) (numbers_on done ++ k ∷ ks) n in
+    let a = then_left (left_by done) (left_by_one d r) s e in
+    let b = then_left (left_by path) (left_by_one c r) x f in
+    let one = same_step c d r b.0 a.0 first.0 b.1 a.1 in
+    no_further done path a.0 s x k ks a.2 none first.1 (subst (λ r. left_by path r ≡ Some x) one.1 b.2)
+
+-- the number of a branch is its place
+number_at : (r : Residual) (w : Wanted) (j : ℕ) (b : Branch) → j < branch_count r w → slice_get
+    (branches_of r w) j ≡ Some b → b.choice.k ≡ suc j
+number_at r w j b h e = by_option (slice_get (holding w.item r.options) j) refl
+  where
+    from : (a : Branch) → slice_get (branches_of r w) j ≡ Some a → a.choice.k ≡ suc j → b.choice.k ≡ suc j
+    from a f k = let same : b ≡ a = cc (sym e ∙ f) in ap (λ (b : Branch). b.choice.k) same ∙ k
+
+    by_option : (o : Option Numbered) → slice_get (holding w.item r.options) j ≡ o → b.choice.k ≡ suc j
+    by_option (Some x) f = from (take_branch r w.item (branch_count r w) (1 + j, x)) (branch_takes r w j x h f)
+        (omega arith)
+    by_option None f = let last = branch_none r w j h f in from (none_branch r w.item (branch_count r w)) last.0 last.2
+
+-- there is no branch where there is no item
+pub no_item : (c : Choice) (r : Residual) → branch_item r ≡ None → left_by_one c r ≡ None
+no_item c r e = ap (λ o. option_and_then (λ b. cond (has_choice c b) (Some b.next) None)
+    (slice_get (unwrap_or (option_map (branches_of r) o) []) (c.k - 1))) e
+
+few_branches : (r : Residual) (w : Wanted) (j : ℕ) (b : Branch) → slice_get (branches_of r w) j ≡ Some b →
+    j < branch_count r w
+few_branches r w j b e = omega (
+  arith,
+  slice_get_within (branches_of r w) j b e,
+  past (branch_count r w)
+      (branches_of r w) (branches_end r w),
+)
+  where
+    past : {X : Type 0} (n : ℕ) (xs : List X) → drop n xs ≡ [] → length xs ≤ n
+    past n [] e = omega arith
+    past zero (x ∷ xs) e = absurd (cc e)
+    past (suc n) (x ∷ xs) e = omega (arith, past n xs e)
+
+-- and none whose number is 0 or greater than theirs
+pub no_branch : (c : Choice) (r : Residual) (w : Wanted) (n : ℕ) → branch_item r ≡ Some w → n ≡ branch_count r w →
+    (c.k ≡ 0) ⊎ (n < c.k) → left_by_one c r ≡ None
+no_branch c r w n e count out =
+    ap (λ o. option_and_then (λ b. cond (has_choice c b) (Some b.next) None)
+    (slice_get (unwrap_or (option_map (branches_of r) o) []) (c.k - 1))) e
+    ∙ by_branch (slice_get (branches_of r w) (c.k - 1)) refl
+  where
+    not_here : (b : Branch) → slice_get (branches_of r w) (c.k - 1) ≡ Some b → has_choice c b ≡ true → (c.k ≡ 0) ⊎
+        (n < c.k) → ⊥
+    not_here b at t (inl none) =
+        let within = few_branches r w (c.k - 1) b at in
+        omega (arith, none, number_at r w (c.k - 1) b within at, ap (λ (c : Choice). c.k) (its_choice c b t))
+    not_here b at t (inr more) = omega (arith, more, count, few_branches r w (c.k - 1) b at)
+
+    by_test : (b : Branch) (t : Bool) → slice_get (branches_of r w) (c.k - 1) ≡ Some b → has_choice c b ≡ t →
+        cond t (Some b.next) None ≡ None
+    by_test b true at t = absurd (not_here b at t out)
+    by_test b false at t = refl
+
+    by_branch : (o : Option Branch) → slice_get (branches_of r w) (c.k - 1) ≡ o →
+        option_and_then (λ b. cond (has_choice c b) (Some b.next) None) o ≡ None
+    by_branch None at = refl
+    by_branch (Some b) at = by_test b (has_choice c b) at refl
+
+-- a branch is one of the branch item's
+item_of : (r : Residual) (j : ℕ) (b : Branch) → slice_get (branches_left r) j ≡ Some b → (w : Wanted) ×
+    (branch_item r ≡ Some w) × (slice_get (branches_of r w) j ≡ Some b)
+item_of r j b e = by_item (branch_item r) refl
+  where
+    by_item : (o : Option Wanted) → branch_item r ≡ o → (w : Wanted) × (branch_item r ≡ Some w) ×
+        (slice_get (branches_of r w) j ≡ Some b)
+    by_item None f = let none : slice_get (branches_left r) j ≡ None = ap
+        (λ o. slice_get (unwrap_or (option_map (branches_of r) o) []) j) f in absurd (cc (sym none ∙ e))
+    by_item (Some w) f = (w, f, sym (ap (λ o. slice_get (unwrap_or (option_map (branches_of r) o) []) j) f) ∙ e)
+
+-- a path leaves no more than there was
+pub left_less : (path : List Choice) (r s : Residual) → left_by path r ≡ Some s → size_of s ≤ size_of r
+left_less [] r s e = let same : r ≡ s = cc e in omega (arith, ap size_of same)
+left_less (c ∷ path) r s e =
+    let t = then_left (left_by path) (left_by_one c r) s e in
+    let a = stepped c r t.0 t.1 in
+    let i = item_of r (c.k - 1) a.branch a.at in
+    omega (
+      arith,
+      left_less path t.0 s t.2,
+      ap size_of a.next,
+      each_at (λ b. size_of b.next < size_of r)
+          (branches_of r i.0) (c.k - 1) a.branch (branches_less r i.0 i.1) i.2,
+    )
+
+-- the members of a branch
+abbrev of_branch : Branch → List (List Choice)
+of_branch b = map (λ m. b.choice ∷ m) (listing b.next)
+
+split_at : (bs : List Branch) (k : ℕ) (b : Branch) → slice_get bs k ≡ Some b →
+    flat_map of_branch bs ≡ flat_map of_branch (take k bs) ++ (of_branch b ++ flat_map of_branch (drop (suc k) bs))
+split_at [] k b e = absurd (cc e)
+split_at (a ∷ bs) zero b e = let same : a ≡ b = cc e in ap (λ a. of_branch a ++ flat_map of_branch bs) same
+split_at (a ∷ bs) (suc k) b e =
+    ap (λ ms. of_branch a ++ ms) (split_at bs k b e) ∙ sym
+    (append_assoc (of_branch a) (flat_map of_branch (take k bs)) (of_branch b ++ flat_map of_branch (drop (suc k) bs)))
+
+-- the members below a path stand one behind another in the listing
+pub record IsRun (before : List Choice) (r s : Residual) : Type 0 where
+  pub front : List (List Choice)
+  pub back : List (List Choice)
+  pub all : listing r ≡ front ++ (map (λ m. before ++ m) (listing s) ++ back)
+
+run_on : (c : Choice) (path : List Choice) (ms f g x y : List (List Choice)) →
+    x ++ (map (λ m. c ∷ m) (f ++ (map (λ m. path ++ m) ms ++ g)) ++ y) ≡ (x ++ map (λ m. c ∷ m) f) ++
+    (map (λ m. (c ∷ path) ++ m) ms ++ (map (λ m. c ∷ m) g ++ y))
+run_on c path ms f g x y =
+    let h : List Choice → List Choice = λ m. c ∷ m in
+    let ps = map (λ m. path ++ m) ms in
+    ap (λ l. x ++ (l ++ y)) (map-append h f (ps ++ g) ∙ ap (λ l. map h f ++ l) (map-append h ps g))
+    ∙ ap (λ l. x ++ ((map h f ++ (l ++ map h g)) ++ y)) (map-map (λ m. path ++ m) h ms)
+    ∙ ap (λ l. x ++ l) (append_assoc (map h f) (map (λ m. (c ∷ path) ++ m) ms ++ map h g) y)
+    ∙ sym (append_assoc x (map h f) ((map (λ m. (c ∷ path) ++ m) ms ++ map h g) ++ y))
+    ∙ ap (λ l. (x ++ map h f) ++ l) (append_assoc (map (λ m. (c ∷ path) ++ m) ms) (map h g) y)
+
+pub runs : (path : List Choice) (r s : Residual) → left_by path r ≡ Some s → IsRun path r s
+runs [] r s e =
+    let same : r ≡ s = cc e in
+    record {
+      front = [];
+      back = [];
+      all = ap listing same ∙ sym
+          (append-nil (map (λ (m : List Choice). m) (listing s)) ∙ map-id (listing s));
+    }
+runs (c ∷ path) r s e =
+    let t = then_left (left_by path) (left_by_one c r) s e in
+    let a = stepped c r t.0 t.1 in
+    let i = item_of r (c.k - 1) a.branch a.at in
+    let bs = branches_of r i.0 in
+    let rest = runs path t.0 s t.2 in
+    let x = flat_map of_branch (take (c.k - 1) bs) in
+    let y = flat_map of_branch (drop (suc (c.k - 1)) bs) in
+    let here : of_branch a.branch ≡ map (λ m. c ∷ m) (rest.front ++ (map (λ m. path ++ m) (listing s) ++ rest.back)) =
+    ap₂ (λ c r. map (λ m. c ∷ m) (listing r)) a.choice a.next ∙ ap (map (λ m. c ∷ m)) rest.all in
+    record {
+      front = x ++ map (λ m. c ∷ m) rest.front;
+      back = map (λ m. c ∷ m) rest.back ++ y;
+      all = listing_unrolled r ∙ ap (λ o. level listing o r) i.1 ∙ split_at bs (c.k - 1) a.branch i.2
+          ∙ ap (λ l. x ++ (l ++ y)) here ∙ run_on c path (listing s) rest.front rest.back x y;
+    }
+
+-- what is below a path, by what it leaves
+pub below_left : (p : Puzzle) (path : List Choice) (s : Residual) → left_by path (whole p) ≡ Some s →
+    below p path ≡ map (λ m. path ++ m) (listing s)
+below_left p path s e = ap (λ o. unwrap_or (option_map (λ r. map (λ m. path ++ m) (listing r)) o) []) e
+
+-- and so are the members below a path
+pub below_run : (p : Puzzle) (path : List Choice) → IsPath p path → (front back : List (List Choice)) ×
+    (members p ≡ front ++ (below p path ++ back))
+below_run p path is =
+    let a = runs path (whole p) is.0 is.1 in
+    (a.front, a.back, a.all ∙ ap (λ ms. a.front ++ (ms ++ a.back)) (sym (below_left p path is.0 is.1)))
+
+plans_same : (p : Puzzle) (plan paths : List (List Choice)) → AllByRecursion (IsPath p) plan → AllByRecursion
+    (IsPath p) paths → map numbers_on paths ≡ map numbers_on plan → plan ≡ paths
+plans_same p [] [] is has e = refl
+plans_same p [] (b ∷ bs) is has e = absurd (cc e)
+plans_same p (a ∷ plan) [] is has e = absurd (cc e)
+plans_same p (a ∷ plan) (b ∷ bs) is has e =
+    let first : numbers_on b ≡ numbers_on a = cc e in
+    let rest : map numbers_on bs ≡ map numbers_on plan = cc e in
+    ap₂ (λ a plan. a ∷ plan) (numbers_tell p a b is.0 has.0 (sym first)) (plans_same p plan bs is.1 has.1 rest)
+
+-- the parts of a cut, by their numbers
+pub cut_told : (p : Puzzle) (plan paths : List (List Choice)) → IsCut p plan → All (IsPath p) paths →
+    map numbers_on paths ≡ map numbers_on plan → members p ≡ flat_map (below p) paths
+cut_told p plan paths cut is e =
+    cut.members ∙ append-nil (flat_map (below p) plan)
+    ∙ ap (flat_map (below p)) (plans_same p plan paths (recursion_from_All (IsPath p) plan cut.paths)
+    (recursion_from_All (IsPath p) paths is) e)

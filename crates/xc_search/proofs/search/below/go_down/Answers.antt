@@ -1,0 +1,53 @@
+use Rattle.std.proofs.Common.{◌≡◌, ◌+◌, ◌∙◌, None, Some, [], ◌∷◌, ◌++◌, take, refl, sym, ap, subst}
+use Rattle.xc_dance.specs.Dancing.{Dancing}
+use Rattle.xc_search.specs.Cut.{left_by_one}
+use Rattle.xc_search.specs.inner.Residual.{residual_of}
+use Rattle.xc_search.specs.inner.Levels.{IsSearchable}
+use Rattle.xc_search.specs.inner.Descent.{IsDown}
+use Rattle.xc_search.proofs.paths.Descent.{down_first, down_more, down_none, taken_more, parts_at}
+use Rattle.xc_search.proofs.search.below.go_down.Goals as goal
+
+pub loop-number-init : goal.loop-number-init
+loop-number-init g c =
+    let d = c.args.position.now in
+    record {
+      still = refl;
+      down = subst (λ path. IsDown d.puzzle [] path d.trail) (sym c.requires.empty)
+          (down_first d.puzzle d.trail c.requires.valid c.requires.none);
+      capacity = refl;
+    }
+
+pub returns-in_default-clause-no_path : goal.returns-in_default-clause-no_path
+returns-in_default-clause-no_path g c _ other is =
+    let d = c.loop-number.position in
+    let inv = c.loop-number.invariant in
+    let same : d.puzzle ≡ c.args.position.now.puzzle = ap (λ (d : Dancing). d.puzzle) inv.still in
+    down_none c.args.position.now.puzzle
+    (take c.loop-number.number-index c.args.numbers.now) c.args.numbers.now c.loop-number.path.items other d.trail
+    _ _ inv.down
+    (λ x e. subst (λ p. left_by_one x (residual_of p d.trail) ≡ None) same (c.in_default.ensures.none refl x e))
+    (parts_at c.args.numbers.now c.loop-number.number-index 0 c.loop-number-test.true) is
+
+pub loop-number-preserved : goal.loop-number-preserved
+loop-number-preserved g c =
+    let d = c.loop-number.position in
+    let e = c.step_down.new.position in
+    let inv = c.loop-number.invariant in
+    let p = c.args.position.now.puzzle in
+    let same : d.puzzle ≡ p = ap (λ (d : Dancing). d.puzzle) inv.still in
+    let there : e.puzzle ≡ p = ap (λ (d : Dancing). d.puzzle) c.in-Some.ensures.still ∙ same in
+    let more = down_more p
+    (take c.loop-number.number-index c.args.numbers.now) c.loop-number.path.items d.trail e.trail c.in-Some.choice
+    inv.down
+    (subst (λ p. IsSearchable p e.trail) there c.in-Some.ensures.searchable)
+    (subst (λ p. left_by_one c.in-Some.choice (residual_of p d.trail) ≡ Some
+    (residual_of p e.trail)) same c.in-Some.ensures.left) in
+    let numbers = ap (λ k. take c.loop-number.number-index c.args.numbers.now ++ k ∷ []) c.in-Some.ensures.number
+    ∙ taken_more c.args.numbers.now c.loop-number.number-index 0 c.loop-number-test.true in
+    record {
+      still = c.in-Some.ensures.still ∙ ap (λ (d : Dancing). record d { trail = e.trail }) inv.still;
+      down = subst (λ path. IsDown p (take (c.loop-number.number-index + 1) c.args.numbers.now) path e.trail)
+          (sym c.push_reserved.ensures.items)
+          (subst (λ ns. IsDown p ns (c.loop-number.path.items ++ c.in-Some.choice ∷ []) e.trail) numbers more);
+      capacity = c.push_reserved.ensures.capacity ∙ inv.capacity;
+    }

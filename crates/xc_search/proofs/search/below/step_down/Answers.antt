@@ -1,0 +1,40 @@
+use Rattle.std.proofs.Common.{arith, ◌≡◌, ◌<◌, ◌⊎◌, inl, inr, Some, ◌∙◌}
+use Rattle.xc_search.specs.Residuals.{choice_after, wanted_at}
+use Rattle.xc_search.specs.inner.Residual.{residual_of}
+use Rattle.xc_search.proofs.stacked.NextLevel.{Chosen, chosen_item}
+use Rattle.xc_search.proofs.paths.Numbers.{no_branch}
+use Rattle.xc_search.proofs.search.below.step_down.Goals as goal
+use Rattle.xc_search.proofs.search.below.step_down.Goals.{In_ok-item, then-number-eq0-via-then-number-eq0, then-number-eq0-via-else-number-eq0+then-number-count}
+
+at : (g : _) (c : In_ok-item g) →
+    Chosen c.args.position.now.puzzle c.args.position.now.trail c.in_ok-item.item c.in_ok-item.count
+at g c =
+    let d = c.args.position.now in
+    let chose : choice_after d.puzzle d.trail ≡ Some (c.in_ok-item.item, c.in_ok-item.count) = cc
+    (c.choose.ensures.choice, c.in_ok-item.was) in
+    chosen_item d.puzzle d.trail c.in_ok-item.item c.in_ok-item.count c.requires.searchable.legal chose
+
+pub returns-then-number-eq0-clause-none : goal.returns-then-number-eq0-clause-none
+returns-then-number-eq0-clause-none g c _ x e =
+    let d = c.args.position.now in
+    let here = at g (goal.at.returns-then-number-eq0-clause-none g c).In_ok-item in
+    let out : (x.k ≡ 0) ⊎ (c.in_ok-item.count < x.k) =
+    elim c.then-number-eq0.branch [
+      | then-number-eq0-via-then-number-eq0 w ↦ inl (e ∙ w.if-number-eq0.true)
+      | then-number-eq0-via-else-number-eq0+then-number-count w ↦ inr (omega (arith, e, w.if-number-count.true))
+    ] in
+    no_branch x (residual_of d.puzzle d.trail)
+    (wanted_at d.puzzle d.trail c.in_ok-item.item) c.in_ok-item.count here.branch here.count out
+
+pub reach_branch-level-requires-clause-node : goal.reach_branch-level-requires-clause-node
+reach_branch-level-requires-clause-node g c =
+    let here = at g (goal.at.reach_branch-level-requires-clause-node g c).In_ok-item in
+    record { searchable = c.requires.searchable; item = here.item; is_open = here.is_open }
+
+pub reach_branch-level-requires-clause-branch : goal.reach_branch-level-requires-clause-branch
+reach_branch-level-requires-clause-branch g c = (at g
+    (goal.at.reach_branch-level-requires-clause-branch g c).In_ok-item).branch
+
+pub reach_branch-level-requires-clause-count : goal.reach_branch-level-requires-clause-count
+reach_branch-level-requires-clause-count g c = (at g
+    (goal.at.reach_branch-level-requires-clause-count g c).In_ok-item).count
