@@ -20,6 +20,8 @@ mod lines;
 #[cfg(test)]
 mod listing;
 #[cfg(test)]
+mod parts;
+#[cfg(test)]
 mod plans;
 #[cfg(test)]
 mod written;

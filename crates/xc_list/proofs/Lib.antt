@@ -1,3 +1,4 @@
+pub mod BelowLemmas
 pub mod CheckLemmas
 pub mod Digits
 pub mod OutputLemmas

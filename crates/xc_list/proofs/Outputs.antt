@@ -49,7 +49,8 @@ at_next (x ∷ ms) (suc k) m rest e =
     let h : suc k + 1 ≡ suc (suc k) = omega arith in
     ap (λ n. numbered_get (x ∷ ms) n) h ∙ sym (ap (λ n. numbered_get ms n) f) ∙ there
 
-enumerate_more : {X : Type 0} (n : ℕ) (xs : List X) (x : X) → enumerate_from n (xs ++ x ∷ []) ≡ enumerate_from n xs ++ (n + length xs, x) ∷ []
+pub enumerate_more : {X : Type 0} (n : ℕ) (xs : List X) (x : X) → enumerate_from n
+    (xs ++ x ∷ []) ≡ enumerate_from n xs ++ (n + length xs, x) ∷ []
 enumerate_more n [] x = grind (arith, common_steps)
 enumerate_more n (y ∷ xs) x = grind (arith, common_steps, enumerate_more (n + 1) xs x)
 
@@ -103,7 +104,8 @@ pub known_next : (p : Puzzle) (k : ℕ) (m : List Choice) (rest : List (List Cho
 known_next p k m rest e =
     All-head (All (IsKnownChoice p)) m rest (subst (All (All (IsKnownChoice p))) e (All-drop (All (IsKnownChoice p)) k (members p) (members_known p)))
 
-enumerate_append : {X : Type 0} (n : ℕ) (xs ys : List X) → enumerate_from n (xs ++ ys) ≡ enumerate_from n xs ++ enumerate_from (n + length xs) ys
+pub enumerate_append : {X : Type 0} (n : ℕ) (xs ys : List X) → enumerate_from n
+    (xs ++ ys) ≡ enumerate_from n xs ++ enumerate_from (n + length xs) ys
 enumerate_append n [] ys = let e : n ≡ n + 0 = omega arith in ap (λ k. enumerate_from k ys) e
 enumerate_append n (x ∷ xs) ys =
     let e : (n + 1) + length xs ≡ n + suc (length xs) = omega arith in
@@ -119,7 +121,8 @@ text_behind a spacing xs ys =
           ∙ flat_map-append (member_text a) (filter p (enumerate_from 1 xs)) (filter p (enumerate_from (1 + length xs) ys)),
     )
 
-take_split : {X : Type 0} (ms : List X) (k limit : ℕ) → k ≤ limit → take limit ms ≡ take k ms ++ drop k (take limit ms)
+pub take_split : {X : Type 0} (ms : List X) (k limit : ℕ) → k ≤ limit → take limit ms ≡ take k ms ++ drop k
+    (take limit ms)
 take_split ms zero limit h = refl
 take_split ms (suc k) zero h = absurd (omega (arith, h))
 take_split [] (suc k) (suc l) h = refl

@@ -1,3 +1,4 @@
+pub mod Below
 pub mod Built
 pub mod Known
 pub mod Listed

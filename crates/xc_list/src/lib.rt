@@ -11,6 +11,7 @@
 //! ```
 #![tactic(auto)]
 
+mod below;
 mod bodies;
 mod checker;
 mod cover;
@@ -27,6 +28,7 @@ mod vec_sink;
 mod words;
 mod write;
 
+pub use below::{PartFault, PartsFault, list_parts, list_parts_over, read_paths};
 pub use checker::{ListingFault, Verdict, check};
 pub use cover::is_cover;
 pub use flushes::Flushes;
