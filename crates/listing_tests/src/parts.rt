@@ -3,7 +3,7 @@ use fixtures::{THREE_ALIKE, THREE_LISTING, TWICE, problem};
 use std::alloc::Global;
 use std::test::Fail;
 use xc_input::{Kind, Problem};
-use xc_list::{PartFault, PartsFault, Tray, VecSink, list_parts, read_paths};
+use xc_list::{PartFault, PartWords, PartsFault, Tray, VecSink, list_parts, read_paths};
 
 /// What the parts of these numbers are written as.
 fn listed(
@@ -90,5 +90,23 @@ fn parts_that_end_early(rt: HostRuntime) -> Result<(), Fail> {
     };
     assert!(rt; ended(alloc, &problem, &[1, 0, 2, 0], 50)? == Some(failed));
     assert!(rt; ended(alloc, &problem, &[1, 0, 2, 0], 1000)?.is_none());
+    Ok(())
+}
+
+#[test]
+fn words_of_parts(rt: HostRuntime) -> Result<(), Fail> {
+    let alloc = rt.alloc();
+    let mut words = Vec::new(alloc);
+    for word in [b"m1".as_slice(), b"2", b"0", b"0"] {
+        words.push(word.to_vec(alloc)?)?;
+    }
+    let Some(asked) = PartWords::read(alloc, &words)? else {
+        return Err(Fail::new("no parts"));
+    };
+    assert!(rt;
+        asked.listed && asked.paths.len() == 2 && asked.paths[0].as_slice() == [2u32].as_slice()
+    );
+    words.push(b"1".to_vec(alloc)?)?;
+    assert!(rt; PartWords::read(alloc, &words)?.is_none());
     Ok(())
 }

@@ -138,7 +138,7 @@ output_behind a spacing k limit h =
 pub begins_front : (x y : SinkState) (text front tail : List ℕ) → text ≡ front ++ tail → Appends x.taken y.taken front → Begins x y text
 begins_front x y text front tail e p = (length front, subst (Appends x.taken y.taken) (sym (ap (take (length front)) e ∙ take-append_seam front tail)) p)
 
-drop_at : {X : Type 0} (ms : List X) (k : ℕ) (m : X) → slice_get ms k ≡ Some m → drop k ms ≡ m ∷ drop (k + 1) ms
+pub drop_at : {X : Type 0} (ms : List X) (k : ℕ) (m : X) → slice_get ms k ≡ Some m → drop k ms ≡ m ∷ drop (k + 1) ms
 drop_at [] k m e = absurd (cc e)
 drop_at (x ∷ ms) zero m e = let f : x ≡ m = cc e in ap (λ y. y ∷ ms) f
 drop_at (x ∷ ms) (suc k) m e = let h : suc (k + 1) ≡ suc k + 1 = omega arith in drop_at ms k m e ∙ ap (λ n. m ∷ drop n (x ∷ ms)) h

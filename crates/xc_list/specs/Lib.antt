@@ -5,6 +5,7 @@ pub mod Listed
 pub mod ListingLines
 pub mod Messages
 pub mod Output
+pub mod PartWords
 pub mod Plans
 pub mod Runs
 pub mod Settings
