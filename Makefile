@@ -2,6 +2,8 @@ VERSION := $(shell cat VERSION)
 PROGRAMS = dlx1 dlx2 dlx3 dlxcheck
 # The planner's crate is dlx_parts; dlx-parts is another command.
 PLANNER = dlx-plan
+# The crate of the one that searches parts in one process is dlx_below.
+BELOW = dlx-below
 SCRIPTS = split run join parts progress
 
 # Where things are installed.
@@ -48,15 +50,16 @@ pictures:
 believed:
 	@scripts/believed --page >docs/BELIEVED.md
 
-# A program is built by running it once; `dlxcheck` and `dlx_parts` without words end with status 1.
+# A program is built by running it once; `dlxcheck`, `dlx_parts` and `dlx_below` without words end with status 1.
 all: bin
-	for program in $(PROGRAMS) dlx_parts; do (cd crates/$$program && rt run </dev/null; test -x out/$$program) || exit 1; done
+	for program in $(PROGRAMS) dlx_parts dlx_below; do (cd crates/$$program && rt run </dev/null; test -x out/$$program) || exit 1; done
 
 # `bin` leads to the programs and scripts by the names that they have once they are installed.
 bin:
 	@mkdir -p bin
 	@for program in $(PROGRAMS); do ln -sfn ../crates/$$program/out/$$program bin/$$program || exit 1; done
 	@ln -sfn ../crates/dlx_parts/out/dlx_parts bin/$(PLANNER)
+	@ln -sfn ../crates/dlx_below/out/dlx_below bin/$(BELOW)
 	@for script in $(SCRIPTS); do ln -sfn ../scripts/helgrothy bin/dlx-$$script || exit 1; done
 	@ln -sfn ../scripts/helgrothy bin/helgrothy
 
@@ -69,7 +72,7 @@ lib:
 	    ar rcsD libhelgrothy.a helgrothy.o && rm *.o
 
 # What follows takes the programs as `make all` built them, and needs no toolchain.
-COMMANDS = $(PROGRAMS) $(PLANNER) $(SCRIPTS:%=dlx-%) helgrothy
+COMMANDS = $(PROGRAMS) $(PLANNER) $(BELOW) $(SCRIPTS:%=dlx-%) helgrothy
 # The files of a folder or two into another, whatever the umask.
 copy = find -L $(1) -type f ! -name '*.pyc' -exec sh -c \
     'for file; do install -D -m 644 "$$file" "$(2)/$$file" || exit 1; done' copy {} +

@@ -20,6 +20,8 @@ mod judging;
 #[cfg(test)]
 mod large;
 #[cfg(test)]
+mod parts;
+#[cfg(test)]
 mod plans;
 #[cfg(test)]
 mod refused_listings;

@@ -1,3 +1,4 @@
 pub mod JudgeLemmas
+pub mod PartsLemmas
 pub mod RunLemmas
 pub mod StreamLemmas

@@ -1,6 +1,7 @@
 pub mod Errors
 pub mod Given
 pub mod Judges
+pub mod Parts
 pub mod Plans
 pub mod Solves
 pub mod Streams

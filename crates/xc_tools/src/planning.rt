@@ -26,8 +26,8 @@ fn asked_plan(words: &[Vec<u8>]) -> Option<(Kind, PlanWords)>
     Some((kind, words))
 }
 
-/// Flushes a plan, and tells where that failed.
-fn flush_plan<O: Sink, E: Sink>(out: &mut O, err: &mut E) -> u8
+/// Flushes a plan, or parts, and tells where that failed.
+pub(crate) fn flush_plan<O: Sink, E: Sink>(out: &mut O, err: &mut E) -> u8
     ensures kept { Keeps (O.state out.old).taken (O.state out.new).taken }
     ensures flushed_once { (O.state out.new).flushes ≡ (O.state out.old).flushes + 1 }
     ensures did { ((result ≡ 0) × ((O.state out.new).failures ≡ (O.state out.old).failures) × IsTrue (O.state out.new).settled)

@@ -1,0 +1,74 @@
+//! Whole runs over parts of a search.
+use crate::words::gathered;
+use fixtures::{SEVEN, TWICE};
+use std::alloc::Global;
+use std::test::Fail;
+use xc_input::Feed;
+use xc_list::Tray;
+use xc_tools::solve_parts;
+
+/// Whether `solve_parts` tells this of a problem.
+fn parts_give(
+    alloc: Global,
+    words: &[&[u8]],
+    text: &[u8],
+    status: u8,
+    out: &[u8],
+    err: &[u8],
+) -> Result<bool, Fail> {
+    let words = gathered(alloc, words)?;
+    let mut input = Feed::new(text, 100, None);
+    let mut listing = Tray::new(alloc, 100, 1000, false)?;
+    let mut told = Tray::new(alloc, 100, 1000, false)?;
+    let ended = solve_parts(alloc, &words, &mut input, &mut listing, &mut told);
+    Ok(ended == status && listing.bytes() == out && told.bytes() == err)
+}
+
+#[test]
+fn parts_of_small_problems(rt: HostRuntime) -> Result<(), Fail> {
+    let alloc = rt.alloc();
+    let counts = b"Altogether 2 solutions.\nAltogether 1 solution.\n";
+    assert!(rt;
+        parts_give(
+            alloc,
+            &[b"3", b"m0", b"1", b"0", b"2", b"0"],
+            TWICE,
+            0,
+            counts,
+            b""
+        )?
+    );
+    let part = b"1:\n A B (2 of 2)\n null A (1 of 1)\nAltogether 1 solution.\n";
+    assert!(rt; parts_give(alloc, &[b"3", b"m1", b"2", b"1", b"0"], TWICE, 0, part, b"")?);
+    assert!(rt; parts_give(alloc, &[b"1", b"m1"], SEVEN, 0, b"", b"")?);
+    Ok(())
+}
+
+#[test]
+fn parts_that_are_refused(rt: HostRuntime) -> Result<(), Fail> {
+    let alloc = rt.alloc();
+    let usage = b"Usage: dlx_below 1|2|3 m0|m1 {BRANCH.. 0}..\n";
+    for words in [
+        &[] as &[&[u8]],
+        &[b"1"],
+        &[b"4", b"m1", b"0"],
+        &[b"1", b"m2", b"0"],
+        &[b"1", b"m1", b"2"],
+    ] {
+        assert!(rt; parts_give(alloc, words, SEVEN, 1, b"", usage)?);
+    }
+    let first = b"Altogether 1 solution.\n";
+    let words: &[&[u8]] = &[b"1", b"m0", b"2", b"0", b"3", b"0"];
+    assert!(rt; parts_give(alloc, words, SEVEN, 5, first, b"No such path.\n")?);
+    assert!(rt;
+        parts_give(
+            alloc,
+            &[b"1", b"m0", b"0"],
+            b"",
+            2,
+            b"",
+            b"Line 1: no items.\n"
+        )?
+    );
+    Ok(())
+}
