@@ -49,6 +49,15 @@ def find(program: str) -> str:
     return found
 
 
+def has(program: str) -> bool:
+    """Whether a program is found."""
+    try:
+        find(program)
+    except ProgramNotFound:
+        return False
+    return True
+
+
 class Run:
     """A run of a program over a text. As a context manager it leaves no process behind, however it is left.
 

@@ -209,6 +209,39 @@ class Trees(InParts):
             self.split(2, text, 2)
 
 
+class InOneProcess(InParts):
+    def setUp(self) -> None:
+        super().setUp()
+        if not programs.has("dlx-below"):
+            self.skipTest("dlx-below isn't built")
+
+    def test_a_listing_is_that_of_its_parts(self):
+        rng = random.Random(3)
+        for case in range(40):
+            kind = rng.choice([1, 2, 3])
+            text = problem_of(rng, kind)
+            words = rng.choice([["m1"], []])
+            with self.subTest(text=text, kind=kind):
+                with self.by_runs():
+                    folder = self.split(kind, text, rng.choice([2, 5, 20]))
+                self.assertEqual(command("dlx-run", folder.path, "all", *words), (0, b"", ""))
+                listing, told = whole(kind, text, *words)
+                self.assertEqual(command("dlx-join", folder.path), (0, listing, told))
+
+    def test_a_part_that_fails(self):
+        folder = self.queens()
+        for number in (1, 2, 3):
+            os.remove(folder.done(number))
+        below = self.file("dlx-below", b"#!/bin/sh\necho no >&2\nexit 4\n")
+        os.chmod(below, 0o755)
+        with mock.patch("helgrothy.parts.below.find", return_value=below):
+            status, _, told = command("dlx-run", folder.path, "1-2", "m1")
+        self.assertEqual(status, 1)
+        self.assertEqual(told, "".join(f"dlx-run: part {n}: dlx-below ended with status 4: no\n" for n in (1, 2)))
+        self.assertEqual(command("dlx-run", folder.path, "all", "m1"), (0, b"", ""))
+        self.assertEqual(parts.Joined(folder).solutions, 4)
+
+
 class Records(InParts):
     def test_what_is_missing_is_named(self):
         folder = self.queens()

@@ -20,7 +20,7 @@ from .folder import Folder, ranges, reason_of
 from .join import Joined, NotJoined
 from .plan import BY_RUNS
 from .progress import follow
-from .runs import run, words_of
+from .runs import run_all, words_of
 from .states import lines, state
 
 _PROGRAMS = ("dlx1", "dlx2", "dlx3")
@@ -94,12 +94,9 @@ def _run(words: Sequence[str]) -> int:
     folder = Folder(said.folder)
     _take_along()
     failed = False
-    for part in _numbers(said.parts, len(folder.plan.parts)):
-        try:
-            run(folder, part, wanted)
-        except (HelgrothyError, OSError) as error:
-            _say("dlx-run", f"part {part}: {reason_of(error)}")
-            failed = True
+    for part, error in run_all(folder, _numbers(said.parts, len(folder.plan.parts)), wanted):
+        _say("dlx-run", f"part {part}: {reason_of(error)}")
+        failed = True
     return 1 if failed else 0
 
 

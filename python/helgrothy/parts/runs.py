@@ -7,11 +7,12 @@ import re
 import signal
 import subprocess
 from contextlib import suppress
-from typing import IO, Iterable, List, NamedTuple, Sequence
+from typing import IO, Callable, Iterable, Iterator, List, NamedTuple, Sequence, Tuple
 
-from ..errors import PartsFault, ProgramFailed
+from ..errors import HelgrothyError, PartsFault, ProgramFailed
 from ..guard import let_go, start
-from ..programs import find
+from ..programs import find, has
+from .below import NAME, Below, batches
 from .folder import Doubt, Failure, Folder, Output, Record, host, keep_failure, reason_of
 from .text import PartText
 
@@ -30,6 +31,50 @@ def words_of(words: Sequence[str]) -> List[str]:
     return ["m1"] if spacing == "1" else []
 
 
+def run_all(folder: Folder, numbers: Sequence[int], words: List[str]) -> Iterator[Tuple[int, Exception]]:
+    """Runs parts that aren't done, and gives those that failed, with the reason.
+
+    Many in a row are run by one process, where the program for that is found.
+    """
+    numbers = [number for number in numbers if not _is_done(folder, number, words)]
+    if len(numbers) > 1 and has(NAME):
+        for batch in batches(folder, numbers):
+            yield from _run_batch(folder, batch, words)
+    else:
+        for number in numbers:
+            try:
+                run(folder, number, words)
+            except (HelgrothyError, OSError) as error:
+                yield number, error
+
+
+def _is_done(folder: Folder, number: int, words: List[str]) -> bool:
+    """Whether nothing is to be done for a part. One that was counted isn't done where it is to be listed."""
+    try:
+        before = folder.verified(number)
+    except Doubt:
+        return False
+    if before is None or len(before.words) < len(words):
+        return False
+    with suppress(FileNotFoundError):
+        os.remove(folder.failed(number))
+    return True
+
+
+def _run_batch(folder: Folder, numbers: Sequence[int], words: List[str]) -> Iterator[Tuple[int, Exception]]:
+    """Runs parts by as few processes as can be: behind one that failed another goes on."""
+    at = 0
+    while at < len(numbers):
+        with Below(folder, numbers[at:], words) as below:
+            for number in numbers[at:]:
+                at += 1
+                try:
+                    _kept(folder, number, words, below.run)
+                except (HelgrothyError, OSError) as error:
+                    yield number, error
+                    break
+
+
 def run(folder: Folder, number: int, words: List[str]) -> Record:
     """The record of a part, which is run unless it is done.
 
@@ -41,17 +86,27 @@ def run(folder: Folder, number: int, words: List[str]) -> Record:
         before = folder.verified(number)
     except Doubt:
         before = None
-    if before is None or len(before.words) < len(words):
-        folder.clear(number)
-        try:
-            record = _run(folder, number, words)
-            if before is not None and before.solutions != record.solutions:
-                raise PartsFault(f"it has {record.solutions} solutions, and had {before.solutions} when it was counted")
-        except Exception as error:
-            keep_failure(folder, Failure(number, words, reason_of(error), host()))
-            raise
-    else:
-        record = before
+    if before is not None and len(before.words) >= len(words):
+        with suppress(FileNotFoundError):
+            os.remove(folder.failed(number))
+        return before
+    return _kept(folder, number, words, lambda number: _run(folder, number, words))
+
+
+def _kept(folder: Folder, number: int, words: List[str], run_part: Callable[[int], Record]) -> Record:
+    """The record of a part that is run now; a failure is kept in the folder, too."""
+    try:
+        before = folder.verified(number)
+    except Doubt:
+        before = None
+    folder.clear(number)
+    try:
+        record = run_part(number)
+        if before is not None and before.solutions != record.solutions:
+            raise PartsFault(f"it has {record.solutions} solutions, and had {before.solutions} when it was counted")
+    except Exception as error:
+        keep_failure(folder, Failure(number, words, reason_of(error), host()))
+        raise
     with suppress(FileNotFoundError):
         os.remove(folder.failed(number))
     return record
