@@ -13,7 +13,7 @@ ghost use Rattle.xc_search.specs.inner.Paths.{KeepsPath, IsPart, ground};
 
 use crate::choice::Choice;
 use crate::counts::most_levels;
-use crate::levels::{Below, deepen, end_level, resume};
+use crate::levels::{Below, deepen, end_level, resume, unwind};
 use crate::position::Position;
 use crate::stack::{Stack, WHOLE};
 use std::alloc::Global;
@@ -167,11 +167,11 @@ impl<'a, D: Dance> Cut<'a, D> {
     {
         let Cut {
             mut position,
-            stack: _,
+            stack,
             trial: _,
             down: _,
         } = self;
-        position.undo_to(0);
+        unwind(&mut position, stack);
         position.into_dance()
     }
 }

@@ -182,3 +182,15 @@ pub fn advance<D: Dance>(position: &mut Position<D>, stack: &mut Stack, down: bo
         descends = true;
     }
 }
+
+/// Ends every level, the newest first, and undoes what still stands.
+pub fn unwind<D: Dance>(position: &mut Position<D>, mut stack: Stack)
+    requires stacked { AreStacked position.old.puzzle position.old.trail stack.levels }
+    ensures { position.new ≡ record position.old { trail = [] } }
+{
+    while let Some(level) = stack.top() {
+        end_level(position, level);
+        stack.pop();
+    }
+    position.undo_to(0);
+}

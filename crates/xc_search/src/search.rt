@@ -6,7 +6,7 @@ ghost use Rattle.xc_search.specs.Cover.{members, EachMemberCovers, EachCoverIsLi
 
 use crate::choice::Choice;
 use crate::counts::most_levels;
-use crate::levels::advance;
+use crate::levels::{advance, unwind};
 use crate::position::Position;
 use crate::stack::Stack;
 use core::mem::replace_with;
@@ -196,10 +196,10 @@ impl<'a, D: Dance> Search<'a, D> {
     {
         let Search {
             mut position,
-            stack: _,
+            stack,
             down: _,
         } = self;
-        position.undo_to(0);
+        unwind(&mut position, stack);
         position.into_dance()
     }
 }
