@@ -84,7 +84,7 @@ install: bin install-lib
 	    to="$(DESTDIR)$(mandir)/man$${page##*.}/$${page##*/}"; \
 	    sed '1s/ Helgrothy / "Helgrothy $(VERSION)" /' $$page > "$$to" && chmod 644 "$$to" || exit 1; \
 	done
-	for script in $(SCRIPTS:split=) plan; do ln -sfn dlx-split.1 "$(DESTDIR)$(mandir)/man1/dlx-$$script.1" || exit 1; done
+	for script in $(SCRIPTS:split=) plan below; do ln -sfn dlx-split.1 "$(DESTDIR)$(mandir)/man1/dlx-$$script.1" || exit 1; done
 	install -m 644 release/completion.bash "$(DESTDIR)$(completiondir)/dlx1"
 	for command in $(COMMANDS:dlx1=); do ln -sfn dlx1 "$(DESTDIR)$(completiondir)/$$command" || exit 1; done
 	$(call copy,docs examples CHANGELOG.md python/README.md,$(DESTDIR)$(docdir))

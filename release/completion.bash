@@ -37,7 +37,7 @@ _dlx() {
     case ${COMP_WORDS[0]##*/}:$before in
         helgrothy:make) _dlx_words "$word" "$_dlx_kinds"; return ;;
         helgrothy:export) _dlx_words "$word" 'asp cnf opb'; return ;;
-        dlx[123]:'<' | dlx-plan:'<') _dlx_problem "$word"; return ;;
+        dlx[123]:'<' | dlx-plan:'<' | dlx-below:'<') _dlx_problem "$word"; return ;;
         *:*[\<\>]) compopt -o default; return ;;
         dlx-split:--*s) return ;;
     esac
@@ -48,7 +48,8 @@ _dlx() {
     esac
     case ${COMP_WORDS[0]##*/}:$place in
         dlxcheck:1) _dlx_problem "$word" ;;
-        dlxcheck:2 | dlx-plan:1) _dlx_words "$word" '1 2 3' ;;
+        dlxcheck:2 | dlx-plan:1 | dlx-below:1) _dlx_words "$word" '1 2 3' ;;
+        dlx-below:2) _dlx_words "$word" 'm0 m1' ;;
         dlx[123]:*) _dlx_words "$word" 'm1 m1000 t1 t2' ;;
         dlx-split:1) _dlx_words "$word" 'dlx1 dlx2 dlx3' ;;
         dlx-split:2) _dlx_problem "$word" ;;
@@ -60,4 +61,4 @@ _dlx() {
     esac
 }
 
-complete -F _dlx dlx1 dlx2 dlx3 dlxcheck dlx-plan dlx-split dlx-run dlx-join dlx-parts helgrothy
+complete -F _dlx dlx1 dlx2 dlx3 dlxcheck dlx-plan dlx-below dlx-split dlx-run dlx-join dlx-parts helgrothy

@@ -15,12 +15,12 @@ chmod 755 "$root"
 
 MAKEFLAGS= make -s install LIBRARY= VERSION="$version" DESTDIR="$root" PREFIX=/usr pythondir=/usr/lib/python3/dist-packages
 find "$root/usr/share/man" -type f -exec gzip -9n {} +
-for script in run join parts progress plan; do
+for script in run join parts progress plan below; do
     rm "$root/usr/share/man/man1/dlx-$script.1"
     ln -s dlx-split.1.gz "$root/usr/share/man/man1/dlx-$script.1.gz"
 done
 # The symbols of a program say nothing to its users.
-strip --strip-unneeded "$root"/usr/bin/dlx[123] "$root"/usr/bin/dlxcheck "$root"/usr/bin/dlx-plan
+for program in dlx1 dlx2 dlx3 dlxcheck dlx-plan dlx-below; do strip --strip-unneeded "$root/usr/bin/$program"; done
 doc=$root/usr/share/doc/helgrothy
 cp release/copyright "$doc/copyright"
 {

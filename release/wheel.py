@@ -10,7 +10,7 @@ import sys
 import time
 import zipfile
 
-PROGRAMS = ("dlx1", "dlx2", "dlx3", "dlxcheck", "dlx-plan")
+PROGRAMS = ("dlx1", "dlx2", "dlx3", "dlxcheck", "dlx-plan", "dlx-below")
 # The programs need glibc 2.34.
 TAG = "py3-none-manylinux_2_34_x86_64"
 

@@ -23,6 +23,8 @@ LINES = [
     ("dlxcheck fol", "dlxcheck folder/"),
     ("dlxcheck queens.dlx 1 < not", "dlxcheck queens.dlx 1 < notes.txt "),
     ("dlx-plan 1 1000 < q", "dlx-plan 1 1000 < queens.dlx "),
+    ("dlx-below 1 ", "dlx-below 1 m"),
+    ("dlx-below 1 m1 1 0 < q", "dlx-below 1 m1 1 0 < queens.dlx "),
     ("dlx-split d", "dlx-split dlx"),
     ("dlx-split dlx1 q", "dlx-split dlx1 queens.dlx "),
     ("dlx-split --p", "dlx-split --parts "),
