@@ -5,8 +5,8 @@ Parts are run in any order and several at once, killed, run twice at once, run w
 changed behind their records. Half of the problems are cut by dlx-plan, half by short runs of the program. Whenever
 dlx-join ends with status 0 the listing and the messages have to be those of the search in one, byte for byte;
 otherwise it has to print no listing and to name what is missing, failed or doubtful; and the same command again has
-to mend what mishaps left. dlx1, dlx2, dlx3 and dlx-plan, and the commands dlx-split, dlx-run and dlx-join, have to be
-on the path. A case that fails is printed. The last line is `N passed, M failed`.
+to mend what mishaps left. dlx1, dlx2, dlx3, dlx-plan and dlx-below, and the commands dlx-split, dlx-run and dlx-join,
+have to be on the path. A case that fails is printed. The last line is `N passed, M failed`.
 """
 
 import concurrent.futures
@@ -51,14 +51,16 @@ class Case:
         self.top = top
         self.folder = os.path.join(top, "parts")
         self.seen = Counter()
-        slow = SLOW.format(program=shutil.which(self.program), pause=rng.randint(1, 9))
-        self.slow = self.stand_in("slow", self.program, slow)
+        pause = rng.randint(1, 9)
+        for program in (self.program, "dlx-below"):
+            slow = SLOW.format(program=shutil.which(program), pause=pause)
+            self.slow = self.stand_in("slow", program, slow)
         self.too_long = self.stand_in("too_long", "dlx-plan", TOO_LONG)
 
     def stand_in(self, folder, program, script):
         """A script in the place of a program, for a run whose HELGROTHY_BIN is this folder."""
         folder = os.path.join(self.top, folder)
-        os.mkdir(folder)
+        os.makedirs(folder, exist_ok=True)
         path = os.path.join(folder, program)
         with open(path, "w") as file:
             file.write(script)
