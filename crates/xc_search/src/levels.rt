@@ -1,5 +1,5 @@
 //! The levels of the search.
-ghost use Rattle.std.specs.Prelude.{◌≡◌, ◌+◌, ◌<◌, ◌≤◌, List, ◌∷◌, true, false, IfSome, IsNone};
+ghost use Rattle.std.specs.Prelude.{◌≡◌, ◌+◌, ◌<◌, ◌≤◌, List, [], ◌∷◌, true, false, IfSome, IsNone};
 ghost use Rattle.xc_input.specs.Problem.{Puzzle};
 ghost use Rattle.xc_search.specs.inner.MostLevels.{most_levels};
 ghost use Rattle.xc_search.specs.inner.Levels.{AreStacked, IsStanding, IsEntered, begun_level};
@@ -184,12 +184,18 @@ pub fn advance<D: Dance>(position: &mut Position<D>, stack: &mut Stack, down: bo
 }
 
 /// Ends every level, the newest first, and undoes what still stands.
+// A level ends as in `end_level`: written out here, so that the search's loop has the one call of that and takes it in.
+#[inline(never)]
 pub fn unwind<D: Dance>(position: &mut Position<D>, mut stack: Stack)
     requires stacked { AreStacked position.old.puzzle position.old.trail stack.levels }
     ensures { position.new ≡ record position.old { trail = [] } }
 {
     while let Some(level) = stack.top() {
-        end_level(position, level);
+        if level.tweaks > 0 {
+            position.undo_to(level.base);
+            position.undo_tweaks(level.tweaks);
+        }
+        position.undo_to(level.mark);
         stack.pop();
     }
     position.undo_to(0);

@@ -1,5 +1,5 @@
 //! The search: a stack of levels over a dance.
-ghost use Rattle.std.specs.Prelude.{◌≡◌, ◌≤◌, [], ◌∷◌, ◌++◌, drop, length, min, IfOk, IfErr};
+ghost use Rattle.std.specs.Prelude.{◌≡◌, ◌<◌, ◌≤◌, [], ◌∷◌, ◌++◌, drop, length, min, IfOk, IfErr};
 ghost use Rattle.xc_search.specs.Outlook.{shown_after};
 ghost use Rattle.xc_search.specs.Room.{room_for};
 ghost use Rattle.xc_search.specs.Cover.{members, EachMemberCovers, EachCoverIsListedOnce};
@@ -120,6 +120,9 @@ impl<'a, D: Dance> Search<'a, D> {
         } }
         ensures count { result ≡ min many (length self.old.to_come) }
     {
+        if many == 0 {
+            return 0;
+        }
         replace_with(self, many, Search::passed)
     }
 
@@ -128,15 +131,13 @@ impl<'a, D: Dance> Search<'a, D> {
     /// loaded anew after each write to a table.
     #[inline(never)]
     fn passed(self, many: u64) -> (Search<'a, D>, u64)
+        requires some { 0 < many }
         ensures went { result.0 ≡ record self.entry {
           to_come = drop many self.entry.to_come;
           shown = shown_after many self.entry.to_come self.entry.shown;
         } }
         ensures count { result.1 ≡ min many (length self.entry.to_come) }
     {
-        if many == 0 {
-            return (self, 0);
-        }
         let Search {
             mut position,
             mut stack,
@@ -172,6 +173,7 @@ impl<'a, D: Dance> Search<'a, D> {
     }
 
     /// A search without levels, which has ended and shows nothing.
+    #[inline(never)]
     fn ended(position: Position<'a, D>, mut stack: Stack) -> Search<'a, D>
         requires none { stack.levels ≡ [] }
         requires levels_fit { most_levels position.puzzle ≤ stack.room }

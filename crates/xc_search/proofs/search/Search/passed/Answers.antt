@@ -42,4 +42,4 @@ returns-clause-went g c =
     c.showing.ensures
     ∙ outlook_over c.self.inside.position c.loop-passed.position c.self.inside.stack c.loop-passed.stack
     c.self.inside.down c.loop-passed.down c.args.many c.args.self
-    (omega (arith, c.if-many-eq0.false)) all c.self.view_is
+    c.requires.some all c.self.view_is
