@@ -41,7 +41,7 @@ class Entry:
 
     @property
     def is_inner(self) -> bool:
-        return bool(re.search(r"/specs/(inner|Links|Lists)/", self.path))
+        return bool(re.search(r"/specs/inner/", self.path))
 
     @property
     def size(self) -> int:

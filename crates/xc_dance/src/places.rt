@@ -3,7 +3,7 @@ ghost use Rattle.std.specs.Prelude.{ℕ, ◌≡◌, ◌<◌, ◌-◌, length};
 ghost use Rattle.xc_input.specs.Problem.{IsOption, uses_of};
 ghost use Rattle.xc_dance.specs.Fields.{link_place};
 ghost use Rattle.xc_dance.specs.Commits.{IsUseAt, place_in};
-ghost use Rattle.xc_dance.specs.Links.OptionPlaces.{start_at};
+ghost use Rattle.xc_dance.specs.inner.Links.OptionPlaces.{start_at};
 
 use xc_input::{Problem, Use};
 

@@ -13,10 +13,10 @@ use Rattle.xc_input.specs.inner.Sheets.{with_uses}
 use Rattle.xc_input.specs.inner.Stages.{token_checks, option_checks, written, context}
 use Rattle.xc_input.specs.inner.Builders.{AreMarks, AreDistinct, IsMarkable, items_of}
 use Rattle.xc_input.specs.inner.ColourNumbers.{numbered, use_behind}
-use Rattle.xc_input.proofs.ColourLemmas.{numbered_in_turn, in_turn, in_turn_more, with_more, in_turn_count}
-use Rattle.xc_input.proofs.ColourLemmas.{in_turn_items, colours_more}
-use Rattle.xc_input.proofs.MarkLemmas.{mark-more, markable-more, unmarked_count, unmarked-few, unmarked-less}
-use Rattle.xc_input.proofs.OptionLemmas.{token-step}
+use Rattle.xc_input.proofs.OptionLemmas.Colours.{numbered_in_turn, in_turn, in_turn_more, with_more, in_turn_count}
+use Rattle.xc_input.proofs.OptionLemmas.Colours.{in_turn_items, colours_more}
+use Rattle.xc_input.proofs.OptionLemmas.Marks.{mark-more, markable-more, unmarked_count, unmarked-few, unmarked-less}
+use Rattle.xc_input.proofs.OptionLemmas.OneToken.{token-step}
 
 -- the tokens that are left decide, and the uses of those before them are numbered, added and marked
 pub record IsBehind (kind : Kind) (names : List (List ℕ)) (primary : ℕ) (line rest : List (List ℕ))

@@ -10,10 +10,10 @@ use Rattle.xc_dance.specs.Dancing.{Dancing}
 use Rattle.xc_dance.specs.Linked.{Linked, dancing_of}
 use Rattle.xc_dance.specs.Fields.{used, layout, spacer_place}
 use Rattle.xc_dance.specs.Commits.{CanStand, IsUseAt, after_use, after_uses, place_in}
-use Rattle.xc_dance.specs.Links.Cells.{nodes_after}
-use Rattle.xc_dance.specs.Links.Laid.{IsLaid, IsFit}
-use Rattle.xc_dance.specs.Links.OptionPlaces.{start_at}
-use Rattle.xc_dance.specs.Links.UseNodes.{uses_behind, uses_before}
+use Rattle.xc_dance.specs.inner.Links.Cells.{nodes_after}
+use Rattle.xc_dance.specs.inner.Links.Laid.{IsLaid, IsFit}
+use Rattle.xc_dance.specs.inner.Links.OptionPlaces.{start_at}
+use Rattle.xc_dance.specs.inner.Links.UseNodes.{uses_behind, uses_before}
 use Rattle.xc_dance.proofs.MoveLemmas.Commits.{stood_before, first_use}
 use Rattle.xc_dance.proofs.LinkedTables.UsePlaces.{Segment, OptionNodes, option_nodes, use_cells, spacer_cells, place_at_use, behind_segment, before_segment}
 

@@ -9,17 +9,17 @@ use Rattle.std.proofs.Math.Bool.{or-true}
 use Rattle.xc_input.specs.Problem.{Puzzle, item_count, uses_of}
 use Rattle.xc_dance.specs.declared.links.nodes.Nodes.{Nodes}
 use Rattle.xc_dance.specs.Fields.{Node, layout, link_place, is_in, unused, own, spacer, used}
-use Rattle.xc_dance.specs.Links.Lines.{Line}
-use Rattle.xc_dance.specs.Links.Steps.{relinked, unhidden, CanUnhide, CanUnhideAll, CanUnhideNode, others_of, unhide_costs}
-use Rattle.xc_dance.specs.Links.Cells.{fixed_up, fixed_down, top_in, nodes_from, ulink_in, dlink_in, color_in, line_of}
-use Rattle.xc_dance.specs.Links.Laid.{IsName, IsLaid, Placed}
+use Rattle.xc_dance.specs.inner.Links.Lines.{Line}
+use Rattle.xc_dance.specs.inner.Links.Steps.{relinked, unhidden, CanUnhide, CanUnhideAll, CanUnhideNode, others_of, unhide_costs}
+use Rattle.xc_dance.specs.inner.Links.Cells.{fixed_up, fixed_down, top_in, nodes_from, ulink_in, dlink_in, color_in, line_of}
+use Rattle.xc_dance.specs.inner.Links.Laid.{IsName, IsLaid, Placed}
 use Rattle.xc_dance.specs.declared.dance.Move.{Move}
-use Rattle.xc_dance.specs.Links.Span.{Span}
+use Rattle.xc_dance.specs.inner.Links.Span.{Span}
 use Rattle.xc_dance.specs.Moves.{is_open, AreLegal, listed_numbers}
-use Rattle.xc_dance.specs.Links.Tweaking.{unhidden_unless}
-use Rattle.xc_dance.specs.Links.TweaksBack.{with_ulink, brought_back, bring_back_cost, CanBringBack}
-use Rattle.xc_dance.specs.Links.Others.{before_use, behind_use}
-use Rattle.xc_dance.specs.Links.Made.{IsFitted}
+use Rattle.xc_dance.specs.inner.Links.Tweaking.{unhidden_unless}
+use Rattle.xc_dance.specs.inner.Links.TweaksBack.{with_ulink, brought_back, bring_back_cost, CanBringBack}
+use Rattle.xc_dance.specs.inner.Links.Others.{before_use, behind_use}
+use Rattle.xc_dance.specs.inner.Links.Made.{IsFitted}
 use Rattle.xc_dance.proofs.LinkedTables.LinkColumns.{same_nodes, unhidden-open, unhidden-marked, set_link, set_top, get_item, size_from, node_cells, map_same, Stands, get_down}
 use Rattle.xc_dance.proofs.LinkedTables.OneOption.{is_mark, IsApart, AllApart, changed_one, changed_all, one_other, gone_count, all_at, line_here, line_there}
 use Rattle.xc_dance.proofs.LinkedTables.Sweep.{mended, with_line, in_above, by_first, put_at-same, put_at-other, put_at, other_items}

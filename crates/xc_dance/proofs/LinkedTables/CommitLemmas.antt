@@ -12,9 +12,9 @@ use Rattle.xc_dance.specs.declared.dance.Move.{Move}
 use Rattle.xc_dance.specs.Moves.{is_open, listed_numbers}
 use Rattle.xc_dance.specs.Commits.{IsListedAt, IsUseAt, after_use}
 use Rattle.xc_dance.specs.Fields.{layout, used, is_marked, link_place, first_above, is_in}
-use Rattle.xc_dance.specs.Links.Cells.{color_in, dlink_in, line_of, nodes_after}
-use Rattle.xc_dance.specs.Links.Laid.{IsLaid, IsName}
-use Rattle.xc_dance.specs.Links.Answered.{named, IsNodeOf}
+use Rattle.xc_dance.specs.inner.Links.Cells.{color_in, dlink_in, line_of, nodes_after}
+use Rattle.xc_dance.specs.inner.Links.Laid.{IsLaid, IsName}
+use Rattle.xc_dance.specs.inner.Links.Answered.{named, IsNodeOf}
 use Rattle.xc_dance.proofs.LinkedTables.NodeOptions.{own_down, use_down, node_within, contained}
 use Rattle.xc_dance.proofs.LinkedTables.GoodLines.{numbers_named}
 use Rattle.xc_dance.proofs.LinkedTables.Sweep.{in_above}

@@ -11,14 +11,14 @@ use Rattle.std.proofs.Math.Bool.{or-true}
 use Rattle.std.proofs.Math.Path.{fun_ext}
 use Rattle.xc_input.specs.declared.problem.Use.{Use}
 use Rattle.xc_input.specs.Problem.{Puzzle, Numbered, numbered_options, holding, colour_in, item_count, IsWithinLimits}
-use Rattle.xc_dance.specs.Lists.Rising.{Rises}
-use Rattle.xc_dance.specs.Links.Lines.{Line}
-use Rattle.xc_dance.specs.Links.FirstNodes.{blank, entered, blanks}
+use Rattle.xc_dance.specs.inner.Lists.Rising.{Rises}
+use Rattle.xc_dance.specs.inner.Links.Lines.{Line}
+use Rattle.xc_dance.specs.inner.Links.FirstNodes.{blank, entered, blanks}
 use Rattle.xc_dance.specs.Moves.{listed_numbers, listed}
 use Rattle.xc_dance.specs.Fields.{Node, own, spacer, used, layout, nodes_of, is_in, link_place}
-use Rattle.xc_dance.specs.Links.Laid.{IsFit, AreDistinct, IsName, Placed, IsLaid}
+use Rattle.xc_dance.specs.inner.Links.Laid.{IsFit, AreDistinct, IsName, Placed, IsLaid}
 use Rattle.xc_dance.specs.declared.links.nodes.Nodes.{Nodes}
-use Rattle.xc_dance.specs.Links.Cells.{top_in, color_in, fixed_up, fixed_down, nodes_from, ulink_in, dlink_in, line_of, up_of, down_of, nodes_after}
+use Rattle.xc_dance.specs.inner.Links.Cells.{top_in, color_in, fixed_up, fixed_down, nodes_from, ulink_in, dlink_in, line_of, up_of, down_of, nodes_after}
 use Rattle.xc_input.proofs.lists.EachElement.{each-append, each_at}
 use Rattle.xc_dance.proofs.LinkedTables.Sweep.{put_at-same, put_at-other, put_at, IsLinkedFrom, with_line, Swept, swept, stay, cuts, stay_all, leave_none}
 use Rattle.xc_dance.proofs.Copied.{take_more-get}

@@ -15,16 +15,16 @@ use Rattle.xc_input.specs.Problem.{Puzzle, item_count, option_count, primary_cou
 use Rattle.std.proofs.lemmas.List.{length-map, map-append}
 use Rattle.std.proofs.lemmas.Option.{slice_get_within}
 use Rattle.std.proofs.Math.Seq.{take-length}
-use Rattle.xc_dance.specs.Links.Columns.{Laying}
-use Rattle.xc_dance.specs.Links.FirstNodes.{filled, blanks, rows_of, no_rows, laid_to, with_row}
+use Rattle.xc_dance.specs.inner.Links.Columns.{Laying}
+use Rattle.xc_dance.specs.inner.Links.FirstNodes.{filled, blanks, rows_of, no_rows, laid_to, with_row}
 use Rattle.xc_dance.proofs.Copied.{take_more-get}
 use Rattle.xc_dance.specs.declared.links.nodes.Nodes.{Nodes}
 use Rattle.xc_dance.specs.declared.links.nodes.Row.{Row}
 use Rattle.xc_dance.specs.Fields.{Node, unused, own, spacer, layout, spacer_place, last_below, first_above, first_of, last_of, ring_of, ring_head, left_of, right_of}
-use Rattle.xc_dance.specs.Links.Cells.{top_in, ulink_in, dlink_in, color_in, fixed_up, fixed_down, nodes_from}
-use Rattle.xc_dance.specs.Links.OptionPlaces.{place_at}
-use Rattle.xc_dance.specs.Links.ItemCells.{bound_at, slack_at, items_after, llink_at, rlink_at}
-use Rattle.xc_dance.specs.Links.FirstItems.{linked_to, bound_to}
+use Rattle.xc_dance.specs.inner.Links.Cells.{top_in, ulink_in, dlink_in, color_in, fixed_up, fixed_down, nodes_from}
+use Rattle.xc_dance.specs.inner.Links.OptionPlaces.{place_at}
+use Rattle.xc_dance.specs.inner.Links.ItemCells.{bound_at, slack_at, items_after, llink_at, rlink_at}
+use Rattle.xc_dance.specs.inner.Links.FirstItems.{linked_to, bound_to}
 use Rattle.xc_dance.specs.Moves.{is_covered}
 use Rattle.xc_dance.proofs.LinkedTables.LaidLemmas.{head_is}
 use Rattle.xc_dance.proofs.LinkedTables.PlaceLemmas.{spacer_at, place_next}

@@ -8,11 +8,11 @@ use Rattle.std.proofs.lemmas.Grind.{common_steps}
 use Rattle.xc_input.specs.declared.problem.Use.{Use}
 use Rattle.xc_input.specs.Problem.{Puzzle, colour_in, uses_of, item_count, IsValid, IsSoundOption, IsSoundUse, high_at, IsWithinLimits}
 use Rattle.xc_input.specs.Named.{AreColoursKnown}
-use Rattle.xc_dance.specs.Links.Laid.{AreDistinct, IsFit}
-use Rattle.xc_dance.specs.Links.Span.{Span}
+use Rattle.xc_dance.specs.inner.Links.Laid.{AreDistinct, IsFit}
+use Rattle.xc_dance.specs.inner.Links.Span.{Span}
 use Rattle.xc_dance.specs.Fields.{layout}
-use Rattle.xc_dance.specs.Links.Made.{IsFitted}
-use Rattle.xc_dance.specs.Links.OptionSpans.{spans_of}
+use Rattle.xc_dance.specs.inner.Links.Made.{IsFitted}
+use Rattle.xc_dance.specs.inner.Links.OptionSpans.{spans_of}
 use Rattle.xc_input.proofs.lists.EachElement.{each_weaker}
 use Rattle.xc_dance.proofs.LinkedTables.LaidLemmas.{is_laid}
 use Rattle.xc_dance.proofs.LinkedTables.PlaceLemmas.{layout_small, has_spans}

@@ -8,10 +8,10 @@ use Rattle.std.proofs.Math.Path.{fun_ext}
 use Rattle.xc_input.specs.Problem.{Puzzle, item_count, colour_in, uses_of}
 use Rattle.xc_dance.specs.declared.links.nodes.Nodes.{Nodes}
 use Rattle.xc_dance.specs.Fields.{Node, own, layout, link_place}
-use Rattle.xc_dance.specs.Links.Lines.{Line}
-use Rattle.xc_dance.specs.Links.Steps.{unlinked, CanHide, CanUnhide, hidden, unhidden}
-use Rattle.xc_dance.specs.Links.Cells.{slot_of, fixed_up, fixed_down, top_in, nodes_from, line_of, link_at, ulink_in, dlink_in}
-use Rattle.xc_dance.specs.Links.Laid.{IsName, IsLaid, IsFit}
+use Rattle.xc_dance.specs.inner.Links.Lines.{Line}
+use Rattle.xc_dance.specs.inner.Links.Steps.{unlinked, CanHide, CanUnhide, hidden, unhidden}
+use Rattle.xc_dance.specs.inner.Links.Cells.{slot_of, fixed_up, fixed_down, top_in, nodes_from, line_of, link_at, ulink_in, dlink_in}
+use Rattle.xc_dance.specs.inner.Links.Laid.{IsName, IsLaid, IsFit}
 use Rattle.xc_dance.specs.declared.dance.Move.{Move}
 use Rattle.xc_dance.specs.Moves.{listed_numbers, listed}
 use Rattle.xc_input.proofs.lists.EachElement.{each-map, each_weaker}

@@ -10,19 +10,19 @@ use Rattle.xc_input.specs.Problem.{Puzzle, item_count, Numbered, colour_in, colo
 use Rattle.xc_dance.specs.declared.dance.Move.{Move}
 use Rattle.xc_dance.specs.Moves.{listed, listed_numbers, is_open, AreLegal, is_other_colour}
 use Rattle.xc_dance.specs.Fields.{layout, link_place, Node, own, last_of}
-use Rattle.xc_dance.specs.Links.Lines.{Line}
-use Rattle.xc_dance.specs.Links.Steps.{followed, list_of, list_back}
-use Rattle.xc_dance.specs.Links.Cells.{ulink_in, dlink_in, nodes_after, line_of, color_in, nodes_from}
-use Rattle.xc_dance.specs.Links.Laid.{Placed, IsLaid, IsFit}
+use Rattle.xc_dance.specs.inner.Links.Lines.{Line}
+use Rattle.xc_dance.specs.inner.Links.Steps.{followed, list_of, list_back}
+use Rattle.xc_dance.specs.inner.Links.Cells.{ulink_in, dlink_in, nodes_after, line_of, color_in, nodes_from}
+use Rattle.xc_dance.specs.inner.Links.Laid.{Placed, IsLaid, IsFit}
 use Rattle.xc_dance.specs.declared.links.nodes.Nodes.{Nodes}
-use Rattle.xc_dance.specs.Links.Span.{Span}
-use Rattle.xc_dance.specs.Lists.Losing.{is_kept}
-use Rattle.xc_dance.specs.Links.Others.{HasSpans}
+use Rattle.xc_dance.specs.inner.Links.Span.{Span}
+use Rattle.xc_dance.specs.inner.Lists.Losing.{is_kept}
+use Rattle.xc_dance.specs.inner.Links.Others.{HasSpans}
 use Rattle.xc_dance.specs.Cost.{leaving, cost_of, marking}
 use Rattle.xc_dance.specs.declared.dance.Move.TheVariants.{Cover, Purify}
-use Rattle.xc_dance.specs.Links.ListWalks.{left_node, back_node, with_colour, IsWalk, IsWalkBack, CanHideList, CanUnhideList, walk_costs, back_costs}
-use Rattle.xc_dance.specs.Links.Purifying.{purified_list, unpurified_list, CanPurify, CanUnpurify}
-use Rattle.xc_dance.specs.Links.Made.{IsFitted}
+use Rattle.xc_dance.specs.inner.Links.ListWalks.{left_node, back_node, with_colour, IsWalk, IsWalkBack, CanHideList, CanUnhideList, walk_costs, back_costs}
+use Rattle.xc_dance.specs.inner.Links.Purifying.{purified_list, unpurified_list, CanPurify, CanUnpurify}
+use Rattle.xc_dance.specs.inner.Links.Made.{IsFitted}
 use Rattle.xc_input.proofs.lists.Filters.{filter_same}
 use Rattle.xc_input.proofs.lists.EachElement.{each_weaker}
 use Rattle.xc_dance.proofs.LinkedTables.LinkColumns.{get_up, get_down, get_len, get_map, same_nodes, written_back, size_from}

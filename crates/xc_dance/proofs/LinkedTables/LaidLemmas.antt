@@ -1,6 +1,6 @@
 -- The options with their numbers, and the places of the node table.
 use Rattle.std.proofs.Common.{◌≡◌, ℕ, zero, suc, ◌+◌, ◌<◌, List, [], ◌∷◌, Some, refl, ap, ◌∙◌, arith, ◌≢◌, ◌≤◌, inl, inr, Bool, true, false, cond, ◌&&◌, ◌||◌, eqb, ◌++◌, map, ap₂, sym, subst, eqb-true, eq-eqb, ne_eqb}
-use Rattle.xc_input.proofs.NumberedOptions.{numbered_from}
+use Rattle.xc_input.proofs.OptionLemmas.NumberedOptions.{numbered_from}
 use Rattle.std.specs.Prelude.{slice_get, unwrap_or, is_some, flat_map}
 use Rattle.std.specs.List.{AllByRecursion, list_any, range_with_len, position_or_len}
 use Rattle.std.proofs.lemmas.Grind.{common_steps}
@@ -11,10 +11,10 @@ use Rattle.std.proofs.Math.Bool.{or-true}
 use Rattle.xc_input.specs.declared.problem.Use.{Use}
 use Rattle.xc_input.specs.Problem.{Puzzle, Numbered, numbered_options, numbered_get, uses_of, item_count, colour_in}
 use Rattle.xc_dance.specs.Fields.{Node, own, spacer, used, layout, nodes_of, is_use_of, place_of, link_place}
-use Rattle.xc_dance.specs.Links.Cells.{slot_of}
-use Rattle.xc_dance.specs.Links.Laid.{IsName, Placed, IsLaid, IsFit, AreDistinct}
+use Rattle.xc_dance.specs.inner.Links.Cells.{slot_of}
+use Rattle.xc_dance.specs.inner.Links.Laid.{IsName, Placed, IsLaid, IsFit, AreDistinct}
 use Rattle.xc_input.proofs.lists.EachElement.{each_weaker, each-append, each_at}
-use Rattle.xc_input.proofs.BooleanTests.{and_left, and_right}
+use Rattle.xc_input.proofs.FaultLemmas.BooleanTests.{and_left, and_right}
 use Rattle.xc_dance.proofs.MoveLemmas.OptionsRise.{NumbersRise, NumbersRise-from}
 use Rattle.xc_dance.proofs.LinkedTables.LinkColumns.{item_of, member_of}
 

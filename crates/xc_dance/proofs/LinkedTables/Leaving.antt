@@ -11,12 +11,12 @@ use Rattle.std.proofs.lemmas.List.Elements.{filter_agree}
 use Rattle.xc_input.specs.Problem.{Puzzle, item_count, colour_in, uses_of, holds, holding, Numbered, colour_at}
 use Rattle.xc_dance.specs.declared.dance.Move.{Move}
 use Rattle.xc_dance.specs.Moves.{listed, is_open, AreLegal, listed_numbers, is_other_colour, without, other_colours}
-use Rattle.xc_dance.specs.Lists.Losing.{is_kept}
+use Rattle.xc_dance.specs.inner.Lists.Losing.{is_kept}
 use Rattle.xc_dance.specs.Fields.{Node, is_in}
-use Rattle.xc_dance.specs.Lists.Left.{left}
-use Rattle.xc_dance.specs.Links.ListWalks.{is_kept_colour}
-use Rattle.xc_dance.specs.Links.Cells.{color_in}
-use Rattle.xc_dance.specs.Links.Laid.{IsLaid, IsFit}
+use Rattle.xc_dance.specs.inner.Left.{left}
+use Rattle.xc_dance.specs.inner.Links.ListWalks.{is_kept_colour}
+use Rattle.xc_dance.specs.inner.Links.Cells.{color_in}
+use Rattle.xc_dance.specs.inner.Links.Laid.{IsLaid, IsFit}
 use Rattle.xc_dance.specs.Cost.{leaving}
 use Rattle.xc_dance.specs.declared.dance.Move.TheVariants.{Cover, Purify, Tweak}
 use Rattle.xc_input.proofs.lists.EachElement.{each-filter, each_both, each-map, each_weaker}

@@ -9,11 +9,11 @@ use Rattle.std.proofs.Math.Path.{fun_ext}
 use Rattle.std.proofs.Math.Seq.{map-set_same}
 use Rattle.xc_input.specs.Problem.{Puzzle, item_count}
 use Rattle.xc_dance.specs.declared.links.nodes.Nodes.{Nodes}
-use Rattle.xc_dance.specs.Links.Steps.{unlinked, relinked, hidden, unhidden, HasSize, NamesPlaces, CanHideAll, CanUnhide, CanUnhideAll}
+use Rattle.xc_dance.specs.inner.Links.Steps.{unlinked, relinked, hidden, unhidden, HasSize, NamesPlaces, CanHideAll, CanUnhide, CanUnhideAll}
 use Rattle.xc_dance.specs.Fields.{Node, own, used, layout, link_place}
-use Rattle.xc_dance.specs.Links.Lines.{Line}
-use Rattle.xc_dance.specs.Links.Cells.{slot_of, link_at, fixed_up, fixed_down, top_in, ulink_in, dlink_in, nodes_from}
-use Rattle.xc_dance.specs.Links.Laid.{Placed, IsLaid, IsName}
+use Rattle.xc_dance.specs.inner.Links.Lines.{Line}
+use Rattle.xc_dance.specs.inner.Links.Cells.{slot_of, link_at, fixed_up, fixed_down, top_in, ulink_in, dlink_in, nodes_from}
+use Rattle.xc_dance.specs.inner.Links.Laid.{Placed, IsLaid, IsName}
 use Rattle.xc_dance.proofs.LinkedTables.Sweep.{put_at-same, put_at-other, put_at, with_line}
 
 -- ---- columns that are maps of a layout, and one write to them

@@ -10,7 +10,7 @@ use Rattle.xc_dance.specs.Dancing.{Dancing}
 use Rattle.xc_dance.specs.Moves.{listed_numbers, next_above}
 use Rattle.xc_dance.specs.Fields.{link_place, first_above}
 use Rattle.xc_dance.specs.Commits.{IsListedAt, IsUseAt, option_at}
-use Rattle.xc_dance.specs.Links.Laid.{IsFit}
+use Rattle.xc_dance.specs.inner.Links.Laid.{IsFit}
 use Rattle.xc_dance.proofs.LinkedTables.LaidLemmas.{is_laid}
 use Rattle.xc_dance.proofs.LinkedTables.NodeOptions.{above_name, above_named, contained, next_contained}
 use Rattle.xc_dance.proofs.LinkedTables.PlaceLemmas.{place_first, there}

@@ -12,11 +12,11 @@ use Rattle.xc_dance.specs.declared.dance.Move.{Move}
 use Rattle.xc_dance.specs.declared.dance.Move.TheVariants.{Cover, Purify, Tweak, Spend}
 use Rattle.xc_dance.specs.Moves.{listed, is_open, is_covered, purified, AreLegal, listed_numbers, agrees}
 use Rattle.xc_dance.specs.Fields.{Node, unused, own, spacer, used, layout, link_place, is_in, is_marked}
-use Rattle.xc_dance.specs.Lists.Left.{left}
-use Rattle.xc_dance.specs.Links.Cells.{color_in, slot_of}
-use Rattle.xc_dance.specs.Links.Laid.{IsLaid, IsFit}
-use Rattle.xc_dance.specs.Lists.Losing.{is_kept}
-use Rattle.xc_input.proofs.BooleanTests.{and_right, and_left}
+use Rattle.xc_dance.specs.inner.Left.{left}
+use Rattle.xc_dance.specs.inner.Links.Cells.{color_in, slot_of}
+use Rattle.xc_dance.specs.inner.Links.Laid.{IsLaid, IsFit}
+use Rattle.xc_dance.specs.inner.Lists.Losing.{is_kept}
+use Rattle.xc_input.proofs.FaultLemmas.BooleanTests.{and_right, and_left}
 use Rattle.xc_input.proofs.lists.EachElement.{each_weaker, each_both}
 use Rattle.xc_dance.proofs.MoveLemmas.StateLemmas.{open_is}
 use Rattle.xc_dance.proofs.LinkedTables.LinkColumns.{get_map, Stands}

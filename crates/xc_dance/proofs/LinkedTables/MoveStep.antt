@@ -6,16 +6,16 @@ use Rattle.std.proofs.lemmas.List.{reverse-append, length-reverse}
 use Rattle.xc_input.specs.Problem.{Puzzle, primary_count, item_count, high_at}
 use Rattle.xc_dance.specs.declared.dance.Move.{Move}
 use Rattle.xc_dance.specs.Moves.{spends, is_covered, AreLegal, IsLegal, listed_numbers}
-use Rattle.xc_dance.specs.Links.ItemCells.{items_after, llink_at, rlink_at, bound_at}
+use Rattle.xc_dance.specs.inner.Links.ItemCells.{items_after, llink_at, rlink_at, bound_at}
 use Rattle.xc_dance.specs.declared.dance.Move.TheVariants.{Cover, Purify, Tweak, Spend}
 use Rattle.xc_dance.specs.Fields.{left_of, right_of, last_below, ring_head, ring_of, Node, unused, link_place, first_of}
-use Rattle.xc_dance.specs.Links.Rings.{is_off}
-use Rattle.xc_dance.specs.Links.Span.{Span}
-use Rattle.xc_dance.specs.Links.Cells.{color_in, nodes_after, line_of}
-use Rattle.xc_dance.specs.Links.Laid.{IsLaid}
-use Rattle.xc_dance.specs.Links.Made.{nodes_made, items_made, nodes_unmade, items_unmade, CanMake, CanUnmake, made_cost, unmade_cost, IsFitted}
+use Rattle.xc_dance.specs.inner.Links.Rings.{is_off}
+use Rattle.xc_dance.specs.inner.Links.Span.{Span}
+use Rattle.xc_dance.specs.inner.Links.Cells.{color_in, nodes_after, line_of}
+use Rattle.xc_dance.specs.inner.Links.Laid.{IsLaid}
+use Rattle.xc_dance.specs.inner.Links.Made.{nodes_made, items_made, nodes_unmade, items_unmade, CanMake, CanUnmake, made_cost, unmade_cost, IsFitted}
 use Rattle.xc_dance.specs.Cost.{cost_of, cost_of_newest}
-use Rattle.xc_dance.specs.Links.Taken.{CanNote, taken_nodes, noted, IsRecalled}
+use Rattle.xc_dance.specs.inner.Links.Taken.{CanNote, taken_nodes, noted, IsRecalled}
 use Rattle.xc_dance.specs.declared.links.nodes.Nodes.{Nodes}
 use Rattle.xc_dance.specs.declared.links.items.Items.{Items}
 use Rattle.xc_dance.proofs.LinkedTables.RingStep.{same_items, row_same, still_llink, still_rlink, row_get, row_len, still_left, spend_step}

@@ -13,11 +13,11 @@ use Rattle.std.proofs.lemmas.List.{length-map}
 use Rattle.xc_dance.specs.declared.dance.Move.TheVariants.{Purify, Spend}
 use Rattle.xc_dance.specs.Moves.{purified, spends, AreLegal, listed, next_above, open_items, listed_numbers, IsOpenPrimary}
 use Rattle.xc_dance.specs.Fields.{own, layout, first_above, ring_of, spacer, used, spacer_place, is_in, below_of, link_place}
-use Rattle.xc_dance.specs.Links.Cells.{top_in, color_in, line_of, nodes_after, slot_of, link_at, fixed_down, dlink_in}
-use Rattle.xc_dance.specs.Links.ItemCells.{items_after, bound_at, rlink_at}
-use Rattle.xc_dance.specs.Links.Laid.{IsLaid, IsName, IsFit}
-use Rattle.xc_dance.specs.Links.Answered.{named, IsNodeOf}
-use Rattle.xc_dance.specs.Links.OptionPlaces.{start_at, place_at}
+use Rattle.xc_dance.specs.inner.Links.Cells.{top_in, color_in, line_of, nodes_after, slot_of, link_at, fixed_down, dlink_in}
+use Rattle.xc_dance.specs.inner.Links.ItemCells.{items_after, bound_at, rlink_at}
+use Rattle.xc_dance.specs.inner.Links.Laid.{IsLaid, IsName, IsFit}
+use Rattle.xc_dance.specs.inner.Links.Answered.{named, IsNodeOf}
+use Rattle.xc_dance.specs.inner.Links.OptionPlaces.{start_at, place_at}
 use Rattle.xc_dance.proofs.MoveLemmas.ListLemmas.{next_above-gt, Rises-filter, Rises-range}
 use Rattle.xc_dance.proofs.LinkedTables.LinkColumns.{get_map, member_of}
 use Rattle.xc_dance.proofs.LinkedTables.RingStep.{row_get, row_len, right_now}

@@ -8,14 +8,14 @@ use Rattle.std.proofs.lemmas.List.Sums.{fold-append}
 use Rattle.std.proofs.lemmas.Option.{slice_get_within}
 use Rattle.xc_input.specs.Problem.{Puzzle, item_count, uses_of}
 use Rattle.xc_dance.specs.Fields.{Node, layout, link_place, is_in}
-use Rattle.xc_dance.specs.Links.Lines.{Line}
-use Rattle.xc_dance.specs.Links.ListWalks.{with_colour, is_kept_colour, is_kept_mark, left_node, back_node, leave_cost, back_cost, walk_costs, back_costs, CanLeave, CanReturn, IsWalk, IsWalkBack}
-use Rattle.xc_dance.specs.Links.Cells.{slot_of, nodes_from, ulink_in, dlink_in}
-use Rattle.xc_dance.specs.Links.Laid.{Placed, IsLaid}
+use Rattle.xc_dance.specs.inner.Links.Lines.{Line}
+use Rattle.xc_dance.specs.inner.Links.ListWalks.{with_colour, is_kept_colour, is_kept_mark, left_node, back_node, leave_cost, back_cost, walk_costs, back_costs, CanLeave, CanReturn, IsWalk, IsWalkBack}
+use Rattle.xc_dance.specs.inner.Links.Cells.{slot_of, nodes_from, ulink_in, dlink_in}
+use Rattle.xc_dance.specs.inner.Links.Laid.{Placed, IsLaid}
 use Rattle.xc_dance.specs.declared.links.nodes.Nodes.{Nodes}
-use Rattle.xc_dance.specs.Links.Span.{Span}
-use Rattle.xc_dance.specs.Lists.Losing.{is_kept}
-use Rattle.xc_dance.specs.Links.Others.{before_use, behind_use, HasSpans}
+use Rattle.xc_dance.specs.inner.Links.Span.{Span}
+use Rattle.xc_dance.specs.inner.Lists.Losing.{is_kept}
+use Rattle.xc_dance.specs.inner.Links.Others.{before_use, behind_use, HasSpans}
 use Rattle.xc_dance.proofs.LinkedTables.LinkColumns.{get_map, map_put, same_nodes, written_back, Stands, get_up, get_down}
 use Rattle.xc_dance.proofs.LinkedTables.Sweep.{is_slot, with_color, in_more, Rises, in_above, cut, IsLinkedFrom, other_items}
 use Rattle.xc_dance.proofs.LinkedTables.GoodLines.{Named, AllGood}

@@ -4,10 +4,10 @@ use Rattle.std.proofs.lemmas.Grind.{common_steps}
 use Rattle.xc_dance.specs.declared.links.nodes.Nodes.{Nodes}
 use Rattle.xc_input.specs.Problem.{Puzzle, item_count}
 use Rattle.xc_dance.specs.Fields.{Node, layout, link_place, is_in}
-use Rattle.xc_dance.specs.Links.Lines.{Line}
-use Rattle.xc_dance.specs.Links.Steps.{hidden}
-use Rattle.xc_dance.specs.Links.Cells.{nodes_from}
-use Rattle.xc_dance.specs.Links.Laid.{IsName, IsLaid}
+use Rattle.xc_dance.specs.inner.Links.Lines.{Line}
+use Rattle.xc_dance.specs.inner.Links.Steps.{hidden}
+use Rattle.xc_dance.specs.inner.Links.Cells.{nodes_from}
+use Rattle.xc_dance.specs.inner.Links.Laid.{IsName, IsLaid}
 use Rattle.std.proofs.lemmas.Option.{slice_get_within}
 use Rattle.xc_dance.proofs.LinkedTables.LinkColumns.{Stands, Stands-without, Rest, back_more, get_item}
 use Rattle.xc_dance.proofs.LinkedTables.GoodLines.{Step, step_open, step_marked, Named, IsGood, AllGood, member, all_good_cut, with_list}

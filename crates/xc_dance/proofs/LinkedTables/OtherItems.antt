@@ -9,9 +9,9 @@ use Rattle.std.proofs.Math.Bool.{or-false}
 use Rattle.xc_input.specs.declared.problem.Use.{Use}
 use Rattle.xc_input.specs.Problem.{Puzzle, colour_in, uses_of, item_count}
 use Rattle.xc_dance.specs.Fields.{Node, is_in}
-use Rattle.xc_dance.specs.Links.Lines.{Line}
-use Rattle.xc_dance.specs.Links.Others.{before_use, behind_use}
-use Rattle.xc_dance.specs.Links.Laid.{AreDistinct, IsFit}
+use Rattle.xc_dance.specs.inner.Links.Lines.{Line}
+use Rattle.xc_dance.specs.inner.Links.Others.{before_use, behind_use}
+use Rattle.xc_dance.specs.inner.Links.Laid.{AreDistinct, IsFit}
 use Rattle.xc_dance.proofs.LinkedTables.Sweep.{cuts, other_items}
 use Rattle.xc_dance.proofs.LinkedTables.OneOption.{is_mark, left_all, IsApart, all_at, AllApart}
 use Rattle.xc_dance.proofs.LinkedTables.OneList.{left_list}

@@ -7,8 +7,8 @@ use Rattle.xc_input.specs.Problem.{Puzzle, IsOption, numbered_get, uses_of, opti
 use Rattle.xc_input.specs.Named.{Named, IsSound}
 use Rattle.xc_dance.specs.Fields.{used, layout, link_place}
 use Rattle.xc_dance.specs.Commits.{place_in, IsUseAt}
-use Rattle.xc_dance.specs.Links.Laid.{IsFit}
-use Rattle.xc_dance.specs.Links.OptionPlaces.{place_at, start_at}
+use Rattle.xc_dance.specs.inner.Links.Laid.{IsFit}
+use Rattle.xc_dance.specs.inner.Links.OptionPlaces.{place_at, start_at}
 use Rattle.xc_dance.proofs.LinkedTables.FittedLemmas.{known_fit}
 use Rattle.xc_dance.proofs.LinkedTables.PlaceLemmas.{option_get, place_next, reach_grows, uses_here}
 use Rattle.xc_dance.proofs.LinkedTables.UsePlaces.{option_nodes, place_held, place_at_use}

@@ -1,6 +1,6 @@
 -- Where the nodes of each option stand in the node table, between which spacers, and its span.
 use Rattle.std.proofs.Common.{◌≡◌, ℕ, zero, suc, ◌+◌, ◌≤◌, List, [], ◌∷◌, ◌++◌, length, map, Some, refl, ap, sym, ◌∙◌, arith, ◌<◌, get_or, false, subst, ne_eqb, eq-eqb, eqb-true, ◌-◌, true, cond, eqb, ap₂, lt-ltb}
-use Rattle.xc_input.proofs.NumberedOptions.{numbered_from}
+use Rattle.xc_input.proofs.OptionLemmas.NumberedOptions.{numbered_from}
 use Rattle.std.specs.Prelude.{slice_get, flat_map, option_map, sum_by, unwrap_or, is_some}
 use Rattle.std.specs.List.{range_with_len}
 use Rattle.std.proofs.lemmas.Grind.{common_steps}
@@ -12,13 +12,13 @@ use Rattle.std.proofs.lemmas.Bool.{false≢true}
 use Rattle.xc_input.specs.declared.problem.Use.{Use}
 use Rattle.xc_input.specs.Problem.{Puzzle, numbered_get, uses_of, item_count, option_count, IsWithinLimits, Numbered, numbered_options, colour_in}
 use Rattle.xc_dance.specs.Fields.{Node, spacer, used, nodes_of, unused, own, layout, is_spacer, spacer_place, link_place}
-use Rattle.xc_dance.specs.Links.OptionPlaces.{reach, place_at, start_at}
-use Rattle.xc_dance.specs.Links.Laid.{IsFit}
-use Rattle.xc_dance.specs.Links.Span.{Span}
-use Rattle.xc_dance.specs.Links.Steps.{places, span_at}
-use Rattle.xc_dance.specs.Links.Cells.{fixed_up, fixed_down}
-use Rattle.xc_dance.specs.Links.Others.{before_use, behind_use, IsSpanOf, HasSpans}
-use Rattle.xc_dance.specs.Links.OptionSpans.{span_of, spans_of}
+use Rattle.xc_dance.specs.inner.Links.OptionPlaces.{reach, place_at, start_at}
+use Rattle.xc_dance.specs.inner.Links.Laid.{IsFit}
+use Rattle.xc_dance.specs.inner.Links.Span.{Span}
+use Rattle.xc_dance.specs.inner.Links.Steps.{places, span_at}
+use Rattle.xc_dance.specs.inner.Links.Cells.{fixed_up, fixed_down}
+use Rattle.xc_dance.specs.inner.Links.Others.{before_use, behind_use, IsSpanOf, HasSpans}
+use Rattle.xc_dance.specs.inner.Links.OptionSpans.{span_of, spans_of}
 use Rattle.xc_input.proofs.lists.EachElement.{each-append}
 use Rattle.xc_dance.proofs.LinkedTables.LaidLemmas.{uses_at, NonePass, OnePasses, one_right, position_at, place_is}
 use Rattle.xc_dance.proofs.MoveLemmas.OptionsRise.{NumbersRise-from, NumbersRise}

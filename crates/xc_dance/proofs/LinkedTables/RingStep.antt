@@ -12,8 +12,8 @@ use Rattle.xc_dance.specs.declared.dance.Move.{Move}
 use Rattle.xc_dance.specs.declared.dance.Move.TheVariants.{Spend}
 use Rattle.xc_input.specs.Problem.{Puzzle, primary_count, item_count, high_at}
 use Rattle.xc_dance.specs.Moves.{IsLegal, spends, is_covered}
-use Rattle.xc_dance.specs.Links.ItemCells.{items_after, llink_at, rlink_at, bound_at}
-use Rattle.xc_dance.specs.Links.Rings.{with_bound}
+use Rattle.xc_dance.specs.inner.Links.ItemCells.{items_after, llink_at, rlink_at, bound_at}
+use Rattle.xc_dance.specs.inner.Links.Rings.{with_bound}
 use Rattle.std.proofs.lemmas.Option.{same_Some, slice_get_within}
 use Rattle.std.proofs.lemmas.List.Elements.{filter_agree}
 

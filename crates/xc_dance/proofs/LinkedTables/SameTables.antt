@@ -13,12 +13,12 @@ use Rattle.xc_dance.specs.declared.links.field.Field.TheVariants.{Llink, Rlink, 
 use Rattle.xc_dance.specs.declared.links.nodes.Nodes.{Nodes}
 use Rattle.xc_dance.specs.declared.links.items.Items.{Items}
 use Rattle.xc_dance.specs.Fields.{field_of}
-use Rattle.xc_dance.specs.Links.Cells.{nodes_after}
-use Rattle.xc_dance.specs.Links.ItemCells.{items_after, llink_at}
-use Rattle.xc_dance.specs.Links.Read.{color_read, top_read}
-use Rattle.xc_dance.specs.Links.Span.{Span}
-use Rattle.xc_dance.specs.Links.Made.{IsFitted}
-use Rattle.xc_dance.specs.Links.Taken.{taken_nodes}
+use Rattle.xc_dance.specs.inner.Links.Cells.{nodes_after}
+use Rattle.xc_dance.specs.inner.Links.ItemCells.{items_after, llink_at}
+use Rattle.xc_dance.specs.inner.Links.Read.{color_read, top_read}
+use Rattle.xc_dance.specs.inner.Links.Span.{Span}
+use Rattle.xc_dance.specs.inner.Links.Made.{IsFitted}
+use Rattle.xc_dance.specs.inner.Links.Taken.{taken_nodes}
 use Rattle.xc_dance.specs.Same.{IsSame}
 use Rattle.xc_dance.proofs.LinkedTables.TopCells.{llink_read, rlink_read, bound_read, slack_read, top_cell, ulink_cell, dlink_cell, color_own, color_use, natural, color_same, read_same, natural_same, same_list, IsSound, top_cells}
 use Rattle.xc_dance.proofs.LinkedTables.LinkColumns.{same_nodes}
@@ -47,11 +47,11 @@ items_from p q t s h =
     (same_list (items_after p t).rlink (items_after q s).rlink (λ k. natural_same (slice_get (items_after p t).rlink k) (slice_get (items_after q s).rlink k) (rlink_read p t k ∙ h Rlink k ∙ sym (rlink_read q s k))))
     (same_list (items_after p t).bound (items_after q s).bound
     (by_zero (λ k. slice_get (items_after p t).bound k ≡ slice_get (items_after q s).bound k)
-    (row_first (Rattle.xc_dance.specs.Links.ItemCells.bound_at p t) (primary_count p) ∙ sym (row_first (Rattle.xc_dance.specs.Links.ItemCells.bound_at q s) (primary_count q)))
+    (row_first (Rattle.xc_dance.specs.inner.Links.ItemCells.bound_at p t) (primary_count p) ∙ sym (row_first (Rattle.xc_dance.specs.inner.Links.ItemCells.bound_at q s) (primary_count q)))
     (λ k ne. natural_same (slice_get (items_after p t).bound k) (slice_get (items_after q s).bound k) (bound_read p t k ne ∙ h Bound k ∙ sym (bound_read q s k ne)))))
     (same_list (items_after p t).slack (items_after q s).slack
     (by_zero (λ k. slice_get (items_after p t).slack k ≡ slice_get (items_after q s).slack k)
-    (row_first (Rattle.xc_dance.specs.Links.ItemCells.slack_at p) (primary_count p) ∙ sym (row_first (Rattle.xc_dance.specs.Links.ItemCells.slack_at q) (primary_count q)))
+    (row_first (Rattle.xc_dance.specs.inner.Links.ItemCells.slack_at p) (primary_count p) ∙ sym (row_first (Rattle.xc_dance.specs.inner.Links.ItemCells.slack_at q) (primary_count q)))
     (λ k ne. natural_same (slice_get (items_after p t).slack k) (slice_get (items_after q s).slack k) (slack_read p t k ne ∙ h Slack k ∙ sym (slack_read q s k ne)))))
 
 -- tables with equal rows of links have as many items

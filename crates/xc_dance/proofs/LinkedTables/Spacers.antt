@@ -6,12 +6,12 @@ use Rattle.std.proofs.lemmas.List.{length-map, map-append}
 use Rattle.std.proofs.lemmas.List.Sums.{fold-append}
 use Rattle.xc_input.specs.Problem.{Puzzle, uses_of}
 use Rattle.xc_dance.specs.declared.links.nodes.Nodes.{Nodes}
-use Rattle.xc_dance.specs.Links.Span.{Span}
+use Rattle.xc_dance.specs.inner.Links.Span.{Span}
 use Rattle.xc_dance.specs.Fields.{Node, spacer, layout, link_place}
-use Rattle.xc_dance.specs.Links.Lines.{Line}
-use Rattle.xc_dance.specs.Links.Cells.{ulink_in, dlink_in, nodes_from}
-use Rattle.xc_dance.specs.Links.Others.{behind_use, before_use, HasSpans}
-use Rattle.xc_dance.specs.Links.Steps.{hidden, unhidden, CanHideAll, CanUnhideAll, places, span_at, others_of, IsSpacer, CanHideNode, CanUnhideNode, hidden_node, unhidden_node, hide_costs, unhide_costs}
+use Rattle.xc_dance.specs.inner.Links.Lines.{Line}
+use Rattle.xc_dance.specs.inner.Links.Cells.{ulink_in, dlink_in, nodes_from}
+use Rattle.xc_dance.specs.inner.Links.Others.{behind_use, before_use, HasSpans}
+use Rattle.xc_dance.specs.inner.Links.Steps.{hidden, unhidden, CanHideAll, CanUnhideAll, places, span_at, others_of, IsSpacer, CanHideNode, CanUnhideNode, hidden_node, unhidden_node, hide_costs, unhide_costs}
 use Rattle.xc_dance.proofs.LinkedTables.GoodLines.{Named}
 use Rattle.xc_dance.proofs.LinkedTables.LinkColumns.{size_from, get_map, IsUndone, fold-unhidden-reverse}
 use Rattle.xc_dance.proofs.LinkedTables.OneOption.{Walked, left_all, gone_count}

@@ -6,15 +6,15 @@ use Rattle.std.proofs.lemmas.Grind.{common_steps}
 use Rattle.std.proofs.lemmas.Bool.{eqb-false, false≢true}
 use Rattle.xc_input.specs.Problem.{Puzzle, uses_of, Numbered}
 use Rattle.xc_dance.specs.Fields.{Node, last_below, first_above, first_of, last_of, is_in}
-use Rattle.xc_dance.specs.Links.Cells.{slot_of, line_of, up_of, down_of}
-use Rattle.xc_dance.specs.Links.Others.{before_use, behind_use}
+use Rattle.xc_dance.specs.inner.Links.Cells.{slot_of, line_of, up_of, down_of}
+use Rattle.xc_dance.specs.inner.Links.Others.{before_use, behind_use}
 use Rattle.xc_dance.specs.declared.dance.Move.{Move}
 use Rattle.xc_dance.specs.declared.dance.Move.TheVariants.{Cover, Purify, Tweak, Spend}
 use Rattle.xc_dance.specs.Moves.{without, listed_numbers}
 use Rattle.xc_input.proofs.lists.Filters.{filter-map}
 use Rattle.xc_dance.proofs.MoveLemmas.Shortened.{rises_listed}
-use Rattle.xc_dance.specs.Links.Lines.{Line}
-pub use Rattle.xc_dance.specs.Lists.Rising.{Rises}
+use Rattle.xc_dance.specs.inner.Links.Lines.{Line}
+pub use Rattle.xc_dance.specs.inner.Lists.Rising.{Rises}
 pub use Rattle.xc_dance.proofs.MoveLemmas.ListLemmas.{Rises-weaker, Rises-filter}
 
 -- ---- how lines and colours change: a member leaves its item's list or comes back, one line or one colour is another

@@ -7,14 +7,14 @@ use Rattle.std.proofs.lemmas.Option.{same_Some, slice_get-map}
 use Rattle.std.proofs.lemmas.Bool.{lt-leb, eqb-false, leb-false}
 use Rattle.std.proofs.lemmas.List.{length-map}
 use Rattle.xc_input.specs.Problem.{Puzzle, item_count, primary_count, high_at, low_at, uses_of}
-use Rattle.xc_dance.specs.Links.Read.{color_read, top_read, minus}
+use Rattle.xc_dance.specs.inner.Links.Read.{color_read, top_read, minus}
 use Rattle.xc_dance.specs.declared.dance.Move.{Move}
 use Rattle.xc_dance.specs.Fields.{Node, unused, own, spacer, used, layout, field_of, top_of, color_of, item_cell, primary_cell, ring_of, left_of, right_of, first_of, last_of, is_marked}
-use Rattle.xc_dance.specs.Links.Cells.{top_in, line_of, nodes_after, color_in}
-use Rattle.xc_dance.specs.Links.Laid.{IsLaid, IsFit}
+use Rattle.xc_dance.specs.inner.Links.Cells.{top_in, line_of, nodes_after, color_in}
+use Rattle.xc_dance.specs.inner.Links.Laid.{IsLaid, IsFit}
 use Rattle.xc_dance.specs.declared.links.field.Field.TheVariants.{Llink, Rlink, Bound, Slack, Top, Ulink, Dlink, Color}
 use Rattle.xc_dance.specs.Moves.{listed, spends}
-use Rattle.xc_dance.specs.Links.ItemCells.{items_after}
+use Rattle.xc_dance.specs.inner.Links.ItemCells.{items_after}
 use Rattle.xc_dance.proofs.MoveLemmas.ListLemmas.{length-listed}
 use Rattle.xc_dance.proofs.LinkedTables.PlaceLemmas.{spacer_here, place_first, spacer_is, spacer_at}
 use Rattle.xc_dance.proofs.LinkedTables.MarkedNodes.{colour_small}

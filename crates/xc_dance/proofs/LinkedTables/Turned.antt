@@ -9,8 +9,8 @@ use Rattle.xc_dance.specs.declared.dance.Move.TheVariants.{Cover}
 use Rattle.xc_input.specs.Problem.{Puzzle, primary_count, item_count}
 use Rattle.xc_dance.specs.Moves.{IsLegal, is_covered}
 use Rattle.xc_dance.specs.Fields.{ring_of, ring_head, left_of, right_of, first_of, last_of, last_below, first_above, is_in}
-use Rattle.xc_dance.specs.Links.ItemCells.{items_after, llink_at, rlink_at}
-use Rattle.xc_dance.specs.Links.Rings.{left_ring, back_in_ring}
+use Rattle.xc_dance.specs.inner.Links.ItemCells.{items_after, llink_at, rlink_at}
+use Rattle.xc_dance.specs.inner.Links.Rings.{left_ring, back_in_ring}
 use Rattle.xc_dance.proofs.LinkedTables.LinkColumns.{written_back}
 use Rattle.xc_input.proofs.lists.Filters.{filter_both}
 use Rattle.xc_dance.proofs.LinkedTables.Sweep.{Rises, Rises-filter, Rises-weaker, is_in-first, by_first, in_rest, stay_same, in_more}
@@ -19,7 +19,7 @@ use Rattle.xc_dance.proofs.LinkedTables.RingStep.{row_put, row_get, row_len, sam
 use Rattle.xc_dance.proofs.MoveLemmas.ListLemmas.{Rises-range}
 use Rattle.xc_dance.proofs.MoveLemmas.Members.{in_filter}
 use Rattle.xc_dance.proofs.MoveLemmas.StateLemmas.{open_uncovered}
-use Rattle.xc_dance.specs.Links.Made.{CanTurn}
+use Rattle.xc_dance.specs.inner.Links.Made.{CanTurn}
 
 abbrev pub base : Puzzle → Bool → List ℕ
 base p b = cond b (range_with_len 1 (primary_count p)) (range_with_len (primary_count p + 1) p.secondary)

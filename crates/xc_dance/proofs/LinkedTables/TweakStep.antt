@@ -7,16 +7,16 @@ use Rattle.std.proofs.lemmas.List.{length-map}
 use Rattle.xc_dance.specs.declared.dance.Move.{Move}
 use Rattle.xc_dance.specs.declared.dance.Move.TheVariants.{Tweak}
 use Rattle.xc_dance.specs.declared.links.nodes.Nodes.{Nodes}
-use Rattle.xc_dance.specs.Links.Span.{Span}
+use Rattle.xc_dance.specs.inner.Links.Span.{Span}
 use Rattle.xc_input.specs.Problem.{Puzzle, item_count, uses_of}
 use Rattle.xc_dance.specs.Moves.{listed, is_open, AreLegal, listed_numbers}
 use Rattle.xc_dance.specs.Fields.{Node, unused, own, layout, link_place, first_of, is_in}
-use Rattle.xc_dance.specs.Links.Lines.{Line}
-use Rattle.xc_dance.specs.Links.Steps.{HasSize, NamesPlaces, unlinked, relinked, others_of, CanHideNode, CanUnhideNode, hide_costs, unhide_costs}
-use Rattle.xc_dance.specs.Links.Tweaking.{hidden_unless, unhidden_unless, tweaked, untweaked, CanTweak, CanTweakAt, CanUntweak, tweak_cost, untweak_cost}
-use Rattle.xc_dance.specs.Links.Cells.{color_in, dlink_in, nodes_from, nodes_after, line_of}
-use Rattle.xc_dance.specs.Links.Others.{before_use, behind_use}
-use Rattle.xc_dance.specs.Links.Made.{IsFitted}
+use Rattle.xc_dance.specs.inner.Links.Lines.{Line}
+use Rattle.xc_dance.specs.inner.Links.Steps.{HasSize, NamesPlaces, unlinked, relinked, others_of, CanHideNode, CanUnhideNode, hide_costs, unhide_costs}
+use Rattle.xc_dance.specs.inner.Links.Tweaking.{hidden_unless, unhidden_unless, tweaked, untweaked, CanTweak, CanTweakAt, CanUntweak, tweak_cost, untweak_cost}
+use Rattle.xc_dance.specs.inner.Links.Cells.{color_in, dlink_in, nodes_from, nodes_after, line_of}
+use Rattle.xc_dance.specs.inner.Links.Others.{before_use, behind_use}
+use Rattle.xc_dance.specs.inner.Links.Made.{IsFitted}
 use Rattle.std.proofs.lemmas.Option.{slice_get_within}
 use Rattle.xc_dance.proofs.LinkedTables.LinkColumns.{relinked-unlinked, CanRelink-unlinked, get_down, size_from}
 use Rattle.xc_dance.proofs.LinkedTables.GoodLines.{IsMember, unlinked-is, linked-is, member_cells, Named, IsGood, AllGood, member, all_good, numbers_named, SameCut, line_after, tables_same}

@@ -10,18 +10,18 @@ use Rattle.std.proofs.lemmas.List.Folds.{list_any-append}
 use Rattle.xc_input.specs.Problem.{Puzzle, item_count}
 use Rattle.xc_dance.specs.declared.dance.Move.{Move}
 use Rattle.xc_dance.specs.declared.dance.Move.TheVariants.{Tweak}
-use Rattle.xc_dance.specs.Links.Span.{Span}
+use Rattle.xc_dance.specs.inner.Links.Span.{Span}
 use Rattle.xc_dance.specs.Moves.{is_open, AreLegal, IsLegal, listed_numbers, listed}
 use Rattle.xc_dance.specs.Fields.{Node, layout, link_place, is_in, first_of, own}
-use Rattle.xc_dance.specs.Links.Lines.{Line}
-use Rattle.xc_dance.specs.Links.Taken.{taken_nodes}
-use Rattle.xc_dance.specs.Links.Cells.{color_in, line_of, nodes_after, dlink_in, nodes_from, fixed_down, top_in, ulink_in}
-use Rattle.xc_dance.specs.Links.Made.{IsFitted}
+use Rattle.xc_dance.specs.inner.Links.Lines.{Line}
+use Rattle.xc_dance.specs.inner.Links.Taken.{taken_nodes}
+use Rattle.xc_dance.specs.inner.Links.Cells.{color_in, line_of, nodes_after, dlink_in, nodes_from, fixed_down, top_in, ulink_in}
+use Rattle.xc_dance.specs.inner.Links.Made.{IsFitted}
 use Rattle.xc_dance.specs.declared.links.nodes.Nodes.{Nodes}
 use Rattle.xc_dance.specs.Cost.{cost_of, cost_of_newest, undo_tweaks_cost}
-use Rattle.xc_dance.specs.Links.Steps.{hide_costs, others_of, followed}
-use Rattle.xc_dance.specs.Links.TweaksBack.{brought_back, CanBringBackAll, bring_back_costs, with_top, with_dlink, untweaked_all, untweak_all_cost, CanUntweakAll}
-use Rattle.xc_dance.specs.Links.Laid.{IsLaid}
+use Rattle.xc_dance.specs.inner.Links.Steps.{hide_costs, others_of, followed}
+use Rattle.xc_dance.specs.inner.Links.TweaksBack.{brought_back, CanBringBackAll, bring_back_costs, with_top, with_dlink, untweaked_all, untweak_all_cost, CanUntweakAll}
+use Rattle.xc_dance.specs.inner.Links.Laid.{IsLaid}
 use Rattle.xc_input.proofs.lists.Filters.{length-filter-le}
 use Rattle.xc_dance.proofs.LinkedTables.Sweep.{other_items, cut, cuts, is_in-first, in_above, IsLinkedFrom, Rises, rises, by_first, put_at-same, put_at-other, cut-linked, stands, leave_none, put_at, with_line}
 use Rattle.xc_dance.proofs.LinkedTables.LinkColumns.{map_same, get_down, same_nodes, set_link, set_top, get_len}

@@ -6,19 +6,19 @@ use Rattle.std.proofs.lemmas.List.{reverse-append, reverse-reverse, length-rever
 use Rattle.std.proofs.Math.Seq.{drop-append_seam, take-append_seam}
 use Rattle.xc_dance.specs.declared.dance.Move.{Move}
 use Rattle.xc_dance.specs.declared.dance.Move.TheVariants.{Tweak}
-use Rattle.xc_dance.specs.Links.Span.{Span}
+use Rattle.xc_dance.specs.inner.Links.Span.{Span}
 use Rattle.xc_input.specs.Problem.{Puzzle, item_count}
 use Rattle.xc_dance.specs.Moves.{AreTweaks, AreLegal, is_covered, is_open, purified, listed_numbers}
 use Rattle.xc_dance.specs.Fields.{layout, link_place, first_of, is_in}
 use Rattle.xc_dance.specs.declared.links.nodes.Nodes.{Nodes}
 use Rattle.xc_dance.specs.Cost.{undo_tweaks_cost}
 use Rattle.xc_dance.specs.declared.links.items.Items.{Items}
-use Rattle.xc_dance.specs.Links.Rings.{is_off}
-use Rattle.xc_dance.specs.Links.Taken.{taken_nodes}
-use Rattle.xc_dance.specs.Links.Cells.{top_in, line_of, nodes_after}
-use Rattle.xc_dance.specs.Links.ItemCells.{items_after}
-use Rattle.xc_dance.specs.Links.Laid.{IsLaid}
-use Rattle.xc_dance.specs.Links.Made.{IsFitted, CanTell}
+use Rattle.xc_dance.specs.inner.Links.Rings.{is_off}
+use Rattle.xc_dance.specs.inner.Links.Taken.{taken_nodes}
+use Rattle.xc_dance.specs.inner.Links.Cells.{top_in, line_of, nodes_after}
+use Rattle.xc_dance.specs.inner.Links.ItemCells.{items_after}
+use Rattle.xc_dance.specs.inner.Links.Laid.{IsLaid}
+use Rattle.xc_dance.specs.inner.Links.Made.{IsFitted, CanTell}
 use Rattle.std.proofs.lemmas.Option.{slice_get_within}
 use Rattle.xc_dance.proofs.LinkedTables.LinkColumns.{get_item}
 use Rattle.xc_dance.proofs.LinkedTables.Sweep.{in_above, is_in-first}

@@ -10,19 +10,19 @@ use Rattle.xc_input.specs.Problem.{Puzzle, colour_in, uses_of, item_count, optio
 use Rattle.xc_input.specs.declared.problem.Use.{Use}
 use Rattle.xc_dance.specs.declared.links.nodes.Nodes.{Nodes}
 use Rattle.xc_dance.specs.Fields.{Node, layout, link_place, unused, own, used, spacer_place, is_marked}
-use Rattle.xc_dance.specs.Links.Steps.{unlinked, relinked, hidden, unhidden, hide_cost, others_of}
-use Rattle.xc_dance.specs.Links.Walks.{costs}
+use Rattle.xc_dance.specs.inner.Links.Steps.{unlinked, relinked, hidden, unhidden, hide_cost, others_of}
+use Rattle.xc_dance.specs.inner.Links.Walks.{costs}
 use Rattle.xc_dance.specs.declared.dance.Move.{Move}
 use Rattle.xc_dance.specs.declared.dance.Move.TheVariants.{Purify}
-use Rattle.xc_dance.specs.Links.Span.{Span}
+use Rattle.xc_dance.specs.inner.Links.Span.{Span}
 use Rattle.xc_dance.specs.Moves.{AreLegal}
-use Rattle.xc_dance.specs.Links.Cells.{color_in, nodes_after}
-use Rattle.xc_dance.specs.Links.Laid.{IsLaid}
-use Rattle.xc_dance.specs.Links.Made.{IsFitted}
-use Rattle.xc_dance.specs.Links.OptionPlaces.{place_at}
-use Rattle.xc_dance.specs.Links.OptionSpans.{span_of, spans_of}
-use Rattle.xc_dance.specs.Links.ListWalks.{left_node, back_node}
-use Rattle.xc_dance.specs.Links.Unmarked.{IsPlain, HasUnmarked, IsUnmarked}
+use Rattle.xc_dance.specs.inner.Links.Cells.{color_in, nodes_after}
+use Rattle.xc_dance.specs.inner.Links.Laid.{IsLaid}
+use Rattle.xc_dance.specs.inner.Links.Made.{IsFitted}
+use Rattle.xc_dance.specs.inner.Links.OptionPlaces.{place_at}
+use Rattle.xc_dance.specs.inner.Links.OptionSpans.{span_of, spans_of}
+use Rattle.xc_dance.specs.inner.Links.ListWalks.{left_node, back_node}
+use Rattle.xc_dance.specs.inner.Links.Unmarked.{IsPlain, HasUnmarked, IsUnmarked}
 use Rattle.xc_dance.proofs.LinkedTables.OneOption.{is_mark}
 use Rattle.xc_dance.proofs.LinkedTables.LinkColumns.{get_map}
 use Rattle.xc_dance.proofs.LinkedTables.PlaceLemmas.{spacer_at, there}

@@ -7,10 +7,10 @@ use Rattle.xc_input.specs.Problem.{Puzzle, item_count, IsOption, uses_of, colour
 use Rattle.xc_dance.specs.declared.dance.Move.{Move}
 use Rattle.xc_dance.specs.Fields.{Node, used, spacer, unused, own, layout, spacer_place, link_place}
 use Rattle.xc_dance.specs.Commits.{place_in, IsUseAt, option_at, number_of}
-use Rattle.xc_dance.specs.Links.Cells.{top_in, ulink_in, line_of, nodes_after, slot_of}
-use Rattle.xc_dance.specs.Links.Laid.{IsLaid, IsFit, IsName}
-use Rattle.xc_dance.specs.Links.Answered.{named}
-use Rattle.xc_dance.specs.Links.OptionPlaces.{start_at, place_at}
+use Rattle.xc_dance.specs.inner.Links.Cells.{top_in, ulink_in, line_of, nodes_after, slot_of}
+use Rattle.xc_dance.specs.inner.Links.Laid.{IsLaid, IsFit, IsName}
+use Rattle.xc_dance.specs.inner.Links.Answered.{named}
+use Rattle.xc_dance.specs.inner.Links.OptionPlaces.{start_at, place_at}
 use Rattle.xc_dance.proofs.LinkedTables.LinkColumns.{get_map}
 use Rattle.xc_dance.proofs.LinkedTables.NodeOptions.{at_own}
 use Rattle.xc_dance.proofs.LinkedTables.PlaceLemmas.{use_here, spacer_here, place_next, use_at, spacer_at, option_get}

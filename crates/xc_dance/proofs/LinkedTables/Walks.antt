@@ -6,8 +6,8 @@ use Rattle.std.proofs.lemmas.Bool.{eqb-false}
 use Rattle.std.proofs.lemmas.List.{drop_more, drop_all, reverse-append}
 use Rattle.std.proofs.lemmas.List.Sums.{fold-append}
 use Rattle.xc_dance.specs.declared.links.nodes.Nodes.{Nodes}
-use Rattle.xc_dance.specs.Links.Steps.{followed, IsSpacer, places}
-use Rattle.xc_dance.specs.Links.Walks.{costs, CanAll, CanFollow}
+use Rattle.xc_dance.specs.inner.Links.Steps.{followed, IsSpacer, places}
+use Rattle.xc_dance.specs.inner.Links.Walks.{costs, CanAll, CanFollow}
 
 -- ---- walks over nodes, under way and at their end: for hide and unhide, down a list and up, and down nodes that come back
 

@@ -1,6 +1,6 @@
 -- The lists before any move, filled option by option.
 use Rattle.std.proofs.Common.{ℕ, zero, suc, ◌≡◌, ◌≢◌, ◌+◌, ◌<◌, Bool, true, false, cond, eqb, List, [], ◌∷◌, ◌++◌, length, get_or, set, map, take, replicate, refl, ap, ap₂, sym, ◌∙◌, arith}
-use Rattle.xc_input.proofs.NumberedOptions.{numbered_from}
+use Rattle.xc_input.proofs.OptionLemmas.NumberedOptions.{numbered_from}
 use Rattle.std.proofs.lemmas.Grind.{common_steps}
 use Rattle.std.specs.Prelude.{AllPairs}
 use Rattle.std.specs.List.{range_with_len}
@@ -10,8 +10,8 @@ use Rattle.std.proofs.lemmas.List.Folds.{list_any_none}
 use Rattle.std.proofs.lemmas.List.Elements.{filter-append}
 use Rattle.xc_input.specs.declared.problem.Use.{Use}
 use Rattle.xc_input.specs.Problem.{Puzzle, Numbered, item_count, holding}
-use Rattle.xc_dance.specs.Lists.Taking.{list_at}
-use Rattle.xc_dance.specs.Lists.Losing.{enlisted_from, enlisted, has_use, lists_before}
+use Rattle.xc_dance.specs.inner.Lists.Taking.{list_at}
+use Rattle.xc_dance.specs.inner.Lists.Losing.{enlisted_from, enlisted, has_use, lists_before}
 use Rattle.xc_dance.specs.declared.dance.Move.{Move}
 use Rattle.xc_dance.proofs.LiveLists.OptionsLost.{has_use_other, has_use_here}
 use Rattle.xc_dance.proofs.MoveLemmas.Shortened.{holds_use}

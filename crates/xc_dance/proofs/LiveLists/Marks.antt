@@ -3,8 +3,8 @@ use Rattle.std.proofs.Common.{ℕ, suc, ◌≡◌, ◌≤◌, true, false, cond,
 use Rattle.std.proofs.lemmas.Grind.{common_steps}
 use Rattle.std.proofs.lemmas.Bool.{lt-leb, leb-true, leb-false}
 use Rattle.xc_dance.specs.declared.lists.undo_log.Removed.{Removed}
-use Rattle.xc_dance.specs.Lists.Versions.{Versions}
-use Rattle.xc_dance.specs.Lists.Taking.{restored, still_taken, lists_at_marks, AreMarks, IsPutBack}
+use Rattle.xc_dance.specs.inner.Lists.Versions.{Versions}
+use Rattle.xc_dance.specs.inner.Lists.Taking.{restored, still_taken, lists_at_marks, AreMarks, IsPutBack}
 
 -- nothing above the mark
 pub restored_at : (k : ℕ) (es : List Removed) (ls : List (List ℕ)) → length es ≤ k → (restored k es ls ≡ ls) × (still_taken k es ≡ es)

@@ -12,8 +12,8 @@ use Rattle.xc_input.specs.declared.problem.Use.{Use}
 use Rattle.xc_input.specs.Problem.{Puzzle, uses_of, option_count}
 use Rattle.xc_dance.specs.declared.dance.Move.{Move}
 use Rattle.xc_dance.specs.Moves.{is_open}
-use Rattle.xc_dance.specs.Lists.Taking.{less, list_at}
-use Rattle.xc_dance.specs.Lists.Losing.{lose_from, has_use, IsListOf, AreListsFrom}
+use Rattle.xc_dance.specs.inner.Lists.Taking.{less, list_at}
+use Rattle.xc_dance.specs.inner.Lists.Losing.{lose_from, has_use, IsListOf, AreListsFrom}
 use Rattle.xc_dance.proofs.MoveLemmas.ListLemmas.{Rises-filter}
 use Rattle.xc_dance.proofs.LiveLists.Removal.{less-absent}
 use Rattle.xc_input.proofs.lists.Filters.{filter_both}

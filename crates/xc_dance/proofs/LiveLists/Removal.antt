@@ -8,8 +8,8 @@ use Rattle.std.proofs.Math.Seq.{map-set_same}
 use Rattle.std.proofs.lemmas.List.Edits.{length-insert, length-remove}
 use Rattle.std.proofs.lemmas.List.Sums.{sum_by-set}
 use Rattle.xc_dance.specs.declared.lists.undo_log.Removed.{Removed}
-use Rattle.xc_dance.specs.Lists.Rising.{Rises}
-use Rattle.xc_dance.specs.Lists.Taking.{numbers_of, rooms_of, list_at, less, put_back, HasRoom, IsPutBack}
+use Rattle.xc_dance.specs.inner.Lists.Rising.{Rises}
+use Rattle.xc_dance.specs.inner.Lists.Taking.{numbers_of, rooms_of, list_at, less, put_back, HasRoom, IsPutBack}
 
 -- ---- one list
 

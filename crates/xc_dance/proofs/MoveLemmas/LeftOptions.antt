@@ -7,7 +7,7 @@ use Rattle.xc_input.proofs.lists.EachElement.{each_weaker, each-filter, each_pas
 use Rattle.xc_dance.specs.declared.dance.Move.{Move}
 use Rattle.xc_dance.specs.declared.dance.Move.TheVariants.{Cover, Purify, Tweak, Spend}
 use Rattle.xc_dance.specs.Moves.{is_open, is_covered, purified, without, agrees}
-use Rattle.xc_dance.specs.Lists.Left.{left}
+use Rattle.xc_dance.specs.inner.Left.{left}
 use Rattle.std.proofs.lemmas.Option.{same_Some}
 
 -- a fact of all options left is kept by a move

@@ -3,7 +3,7 @@ use Rattle.std.proofs.Common.{ℕ, zero, suc, ◌≡◌, ◌<◌, ◌≤◌, Lis
 use Rattle.std.specs.Prelude.{slice_get}
 use Rattle.std.proofs.lemmas.Bool.{lt-ltb, le-ltb}
 use Rattle.xc_dance.specs.Moves.{next_above}
-use Rattle.xc_dance.specs.Lists.Rising.{Rises}
+use Rattle.xc_dance.specs.inner.Lists.Rising.{Rises}
 use Rattle.xc_dance.proofs.LiveLists.Removal.{above}
 
 pub next_first : (n : ℕ) (xs : List ℕ) → Rises n xs → next_above n xs ≡ slice_get xs 0

@@ -7,11 +7,11 @@ use Rattle.std.specs.List.{AllByRecursion}
 use Rattle.xc_input.specs.Problem.{Puzzle, Numbered, holds, colour_at, holding}
 use Rattle.xc_input.proofs.lists.EachElement.{each_weaker, each_both}
 use Rattle.xc_input.proofs.lists.Filters.{filter_same, filter_both, filter_swap, keep_all}
-use Rattle.xc_input.proofs.BooleanTests.{and_right}
+use Rattle.xc_input.proofs.FaultLemmas.BooleanTests.{and_right}
 use Rattle.xc_dance.specs.declared.dance.Move.{Move}
 use Rattle.xc_dance.specs.declared.dance.Move.TheVariants.{Cover, Purify, Tweak, Spend}
 use Rattle.xc_dance.specs.Moves.{listed, is_open, without, is_among, other_colours, is_other_colour, AreLegal, agrees}
-use Rattle.xc_dance.specs.Lists.Left.{left}
+use Rattle.xc_dance.specs.inner.Left.{left}
 use Rattle.xc_dance.proofs.MoveLemmas.OptionsRise.{NumbersRise, NumbersRise-weaker, NumbersRise-filter, options_rise}
 
 -- ---- numbers that rise

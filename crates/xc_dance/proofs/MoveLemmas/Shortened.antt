@@ -1,6 +1,6 @@
 -- The lists after moves, as filters of the lists before.
 use Rattle.std.proofs.Common.{ℕ, zero, suc, ◌≡◌, ◌≢◌, ◌+◌, ◌-◌, ◌<◌, ◌≤◌, Bool, true, false, not, cond, eqb, ◌&&◌, ◌||◌, List, [], ◌∷◌, length, get_or, set, filter, map, take, drop, Some, None, refl, ap, ap₂, sym, ◌∙◌, arith, subst, eq-eqb, eqb-true}
-use Rattle.xc_input.proofs.NumberedOptions.{numbered_from}
+use Rattle.xc_input.proofs.OptionLemmas.NumberedOptions.{numbered_from}
 use Rattle.std.proofs.lemmas.Grind.{common_steps}
 use Rattle.std.specs.Prelude.{All, IsTrue, is_some, unwrap_or, slice_get}
 use Rattle.std.specs.List.{AllByRecursion, list_any, range_with_len}
@@ -14,9 +14,9 @@ use Rattle.xc_input.proofs.lists.EachElement.{each-filter}
 use Rattle.xc_dance.specs.declared.dance.Move.{Move}
 use Rattle.xc_dance.specs.declared.dance.Move.TheVariants.{Cover, Purify, Tweak, Spend}
 use Rattle.xc_dance.specs.Moves.{is_open, is_among, without, other_colours, listed, listed_numbers}
-use Rattle.xc_dance.specs.Lists.Rising.{Rises}
-use Rattle.xc_dance.specs.Lists.Taking.{less, list_at}
-use Rattle.xc_dance.specs.Lists.Losing.{lose_from, lose, has_use, is_kept, AreListsFrom, AreLists, lists_after}
+use Rattle.xc_dance.specs.inner.Lists.Rising.{Rises}
+use Rattle.xc_dance.specs.inner.Lists.Taking.{less, list_at}
+use Rattle.xc_dance.specs.inner.Lists.Losing.{lose_from, lose, has_use, is_kept, AreListsFrom, AreLists, lists_after}
 use Rattle.xc_dance.proofs.MoveLemmas.ListLemmas.{Rises-weaker}
 use Rattle.xc_dance.proofs.LiveLists.Removal.{less-remove}
 use Rattle.xc_dance.proofs.LiveLists.OptionsLost.{lose_other, length-lose_from, lists-lose_from}

@@ -12,9 +12,9 @@ use Rattle.xc_dance.specs.declared.dance.Move.TheVariants.{Cover, Purify}
 use Rattle.xc_dance.specs.declared.lists.item_states.ItemState.{ItemState}
 use Rattle.xc_dance.specs.declared.lists.item_states.ItemState.TheVariants.{Open, Covered, Purified}
 use Rattle.xc_input.specs.Problem.{Puzzle, item_count, high_at, numbered_get, IsWithinLimits}
-use Rattle.xc_input.proofs.Known.{at_number}
+use Rattle.xc_input.proofs.ValidLemmas.Known.{at_number}
 use Rattle.xc_dance.specs.Moves.{is_open, is_covered, purified, next_above, AreLegal}
-use Rattle.xc_dance.specs.Lists.States.{state_of, AreStates}
+use Rattle.xc_dance.specs.inner.Lists.States.{state_of, AreStates}
 
 abbrev pub is_purified_state : ItemState → Bool
 is_purified_state Purified = true

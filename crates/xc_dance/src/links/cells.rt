@@ -1,7 +1,7 @@
 //! Cells whose every write is counted.
 ghost use Rattle.std.specs.Prelude.{◌≡◌, ℕ, ◌+◌, ◌<◌, ◌++◌, ◌∷◌, [], List, map, length, vec_capacity, slice_index};
 ghost use Rattle.std.specs.Prelude.{slice_set, replicate, IfOk, slice_get, ◌↔◌, IsTrue};
-ghost use Rattle.xc_dance.specs.Links.Columns.{values, ups, downs};
+ghost use Rattle.xc_dance.specs.inner.Links.Columns.{values, ups, downs};
 
 use crate::links::writes::Writes;
 use std::alloc::{AllocError, Global};

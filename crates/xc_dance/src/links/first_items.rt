@@ -1,8 +1,8 @@
 //! The item table before any move.
 ghost use Rattle.std.specs.Prelude.{◌≡◌, ◌≤◌, ◌+◌, [], IfOk};
 ghost use Rattle.xc_input.specs.Problem.{IsValid, IsWithinLimits, IsPrimary, item_count, primary_count, high_at, low_at};
-ghost use Rattle.xc_dance.specs.Links.ItemCells.{llink_at, rlink_at, items_after};
-ghost use Rattle.xc_dance.specs.Links.FirstItems.{linked_to, bound_to};
+ghost use Rattle.xc_dance.specs.inner.Links.ItemCells.{llink_at, rlink_at, items_after};
+ghost use Rattle.xc_dance.specs.inner.Links.FirstItems.{linked_to, bound_to};
 
 use crate::links::items::Items;
 use crate::links::writes::Writes;

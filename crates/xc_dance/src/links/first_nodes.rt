@@ -2,10 +2,10 @@
 ghost use Rattle.std.specs.Prelude.{◌≡◌, ◌+◌, ◌≤◌, ◌<◌, [], length, IfOk};
 ghost use Rattle.xc_input.specs.Problem.{IsWithinLimits, item_count, option_count};
 ghost use Rattle.xc_dance.specs.Fields.{layout, spacer};
-ghost use Rattle.xc_dance.specs.Links.Laid.{IsFit};
-ghost use Rattle.xc_dance.specs.Links.Cells.{fixed_up, fixed_down, nodes_from, nodes_after, color_in};
-ghost use Rattle.xc_dance.specs.Links.OptionPlaces.{place_at};
-ghost use Rattle.xc_dance.specs.Links.FirstNodes.{laid_to, blanks};
+ghost use Rattle.xc_dance.specs.inner.Links.Laid.{IsFit};
+ghost use Rattle.xc_dance.specs.inner.Links.Cells.{fixed_up, fixed_down, nodes_from, nodes_after, color_in};
+ghost use Rattle.xc_dance.specs.inner.Links.OptionPlaces.{place_at};
+ghost use Rattle.xc_dance.specs.inner.Links.FirstNodes.{laid_to, blanks};
 
 use crate::links::nodes::{Nodes, Row, Rows, SPACER};
 use crate::links::options::node_count;

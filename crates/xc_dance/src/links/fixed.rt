@@ -1,10 +1,10 @@
 //! What no move changes: the counts of the items, and where the nodes of the options stand.
 ghost use Rattle.std.specs.Prelude.{◌≡◌, false, ◌-◌, ◌≤◌, ◌↔◌, IsTrue, IfOk};
 ghost use Rattle.xc_input.specs.Problem.{IsValid, IsWithinLimits, IsItem, IsPrimary, IsSecondary, item_count, primary_count, IsOption};
-ghost use Rattle.xc_dance.specs.Links.Laid.{IsFit};
-ghost use Rattle.xc_dance.specs.Links.OptionPlaces.{start_at};
-ghost use Rattle.xc_dance.specs.Links.OptionSpans.{spans_of};
-ghost use Rattle.xc_dance.specs.Links.Unmarked.{IsPlain};
+ghost use Rattle.xc_dance.specs.inner.Links.Laid.{IsFit};
+ghost use Rattle.xc_dance.specs.inner.Links.OptionPlaces.{start_at};
+ghost use Rattle.xc_dance.specs.inner.Links.OptionSpans.{spans_of};
+ghost use Rattle.xc_dance.specs.inner.Links.Unmarked.{IsPlain};
 
 use crate::links::known::Known;
 use crate::links::options::option_starts;
@@ -29,9 +29,9 @@ pub(crate) struct Fixed {
 impl Model for Fixed {
     ghost use Rattle.std.specs.Prelude.{◌≡◌, false};
     ghost use Rattle.xc_input.specs.Problem.{Puzzle, item_count, primary_count};
-    ghost use Rattle.xc_dance.specs.Links.OptionPlaces.{starts_of};
-    ghost use Rattle.xc_dance.specs.Links.OptionSpans.{spans_of};
-    ghost use Rattle.xc_dance.specs.Links.Unmarked.{IsPlain};
+    ghost use Rattle.xc_dance.specs.inner.Links.OptionPlaces.{starts_of};
+    ghost use Rattle.xc_dance.specs.inner.Links.OptionSpans.{spans_of};
+    ghost use Rattle.xc_dance.specs.inner.Links.Unmarked.{IsPlain};
 
     ghost Value = { Puzzle };
 

@@ -15,7 +15,7 @@ pub(crate) struct Items {
 }
 
 impl Items {
-    ghost use Rattle.xc_dance.specs.Links.Rings.{left_ring, back_in_ring, with_bound, is_off};
+    ghost use Rattle.xc_dance.specs.inner.Links.Rings.{left_ring, back_in_ring, with_bound, is_off};
 
     /// Items whose cells are all 0.
     pub(crate) fn new(alloc: Global, items: u32, primary: u32) -> Result<Items, AllocError>

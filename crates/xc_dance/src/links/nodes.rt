@@ -31,7 +31,7 @@ pub(crate) struct Nodes {
 }
 
 impl Model for Nodes {
-    ghost use Rattle.xc_dance.specs.Links.Columns.{Columns, columns};
+    ghost use Rattle.xc_dance.specs.inner.Links.Columns.{Columns, columns};
 
     ghost Value = { Columns };
 
@@ -58,7 +58,7 @@ pub(crate) struct Rows {
 
 impl Model for Rows {
     ghost use Rattle.std.specs.Prelude.{◌≡◌, ◌≤◌, length, vec_capacity};
-    ghost use Rattle.xc_dance.specs.Links.Columns.{columns, Laying};
+    ghost use Rattle.xc_dance.specs.inner.Links.Columns.{columns, Laying};
 
     ghost Value = { Laying };
 
@@ -74,7 +74,7 @@ impl Model for Rows {
 }
 
 impl Rows {
-    ghost use Rattle.xc_dance.specs.Links.FirstNodes.{with_row, no_rows};
+    ghost use Rattle.xc_dance.specs.inner.Links.FirstNodes.{with_row, no_rows};
 
     /// None of so many nodes.
     pub(crate) fn new(alloc: Global, count: usize) -> Result<Rows, AllocError>
@@ -114,13 +114,13 @@ impl Rows {
 }
 
 impl Nodes {
-    ghost use Rattle.xc_dance.specs.Links.FirstNodes.{entered};
-    ghost use Rattle.xc_dance.specs.Links.Steps.{HasSize, list_of, list_back};
-    ghost use Rattle.xc_dance.specs.Links.ListWalks.{left_node, back_node, walk_costs, back_costs, CanHideList, CanUnhideList, with_colour};
-    ghost use Rattle.xc_dance.specs.Links.Unmarked.{IsUnmarked};
-    ghost use Rattle.xc_dance.specs.Links.Purifying.{purified_list, unpurified_list, CanPurify, CanUnpurify};
-    ghost use Rattle.xc_dance.specs.Links.Tweaking.{tweaked, untweaked, tweak_cost, untweak_cost, CanTweak, CanUntweak};
-    ghost use Rattle.xc_dance.specs.Links.TweaksBack.{untweaked_all, untweak_all_cost, CanUntweakAll};
+    ghost use Rattle.xc_dance.specs.inner.Links.FirstNodes.{entered};
+    ghost use Rattle.xc_dance.specs.inner.Links.Steps.{HasSize, list_of, list_back};
+    ghost use Rattle.xc_dance.specs.inner.Links.ListWalks.{left_node, back_node, walk_costs, back_costs, CanHideList, CanUnhideList, with_colour};
+    ghost use Rattle.xc_dance.specs.inner.Links.Unmarked.{IsUnmarked};
+    ghost use Rattle.xc_dance.specs.inner.Links.Purifying.{purified_list, unpurified_list, CanPurify, CanUnpurify};
+    ghost use Rattle.xc_dance.specs.inner.Links.Tweaking.{tweaked, untweaked, tweak_cost, untweak_cost, CanTweak, CanUntweak};
+    ghost use Rattle.xc_dance.specs.inner.Links.TweaksBack.{untweaked_all, untweak_all_cost, CanUntweakAll};
 
     /// TOP of node q; LEN of an item's own node.
     #[inline(always)]

@@ -2,7 +2,7 @@
 ghost use Rattle.std.specs.Prelude.{◌≡◌, length, IfOk};
 ghost use Rattle.xc_dance.specs.Fields.{layout};
 ghost use Rattle.xc_input.specs.Problem.{IsWithinLimits};
-ghost use Rattle.xc_dance.specs.Links.OptionPlaces.{starts_of};
+ghost use Rattle.xc_dance.specs.inner.Links.OptionPlaces.{starts_of};
 
 use std::alloc::{AllocError, Global};
 use xc_input::Problem;

@@ -1,6 +1,6 @@
 //! Where the option of each node stands, as contracts speak of it. It takes no memory: a walk finds the ends by the spacers.
 ghost use Rattle.std.specs.Prelude.{◌≡◌};
-ghost use Rattle.xc_dance.specs.Links.OptionSpans.{spans_of};
+ghost use Rattle.xc_dance.specs.inner.Links.OptionSpans.{spans_of};
 
 use crate::links::known::Known;
 use std::marker::Model;
@@ -14,8 +14,8 @@ pub(crate) struct Spans {
 
 impl Model for Spans {
     ghost use Rattle.std.specs.Prelude.{List};
-    ghost use Rattle.xc_dance.specs.Links.Span.{Span};
-    ghost use Rattle.xc_dance.specs.Links.OptionSpans.{spans_of};
+    ghost use Rattle.xc_dance.specs.inner.Links.Span.{Span};
+    ghost use Rattle.xc_dance.specs.inner.Links.OptionSpans.{spans_of};
 
     ghost Value = { List Span };
 

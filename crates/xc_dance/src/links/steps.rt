@@ -2,9 +2,9 @@
 //! registers: behind a vector each would be loaded anew after every write. The compiler's output has eleven instructions for a
 //! node that is hidden or comes back, with four loads and three stores, no bounds check and no call.
 ghost use Rattle.std.specs.Prelude.{◌≡◌, ◌≢◌, false, ℕ, ◌+◌, ◌-◌, ◌*◌, ◌<◌, ◌≤◌, ◌^◌, length, slice_index, fold, reverse};
-ghost use Rattle.xc_dance.specs.Links.Columns.{values, columns};
-ghost use Rattle.xc_dance.specs.Links.Steps.{HasSize, NamesPlaces, unlinked, relinked, hidden, hide_cost, hide_costs, CanHide, CanHideAll, places, unhidden, CanUnhide, CanUnhideAll, unhide_costs, others_of, hidden_node, unhidden_node, CanHideNode, CanUnhideNode};
-ghost use Rattle.xc_dance.specs.Links.Unmarked.{AreUnmarked, IsUnmarked};
+ghost use Rattle.xc_dance.specs.inner.Links.Columns.{values, columns};
+ghost use Rattle.xc_dance.specs.inner.Links.Steps.{HasSize, NamesPlaces, unlinked, relinked, hidden, hide_cost, hide_costs, CanHide, CanHideAll, places, unhidden, CanUnhide, CanUnhideAll, unhide_costs, others_of, hidden_node, unhidden_node, CanHideNode, CanUnhideNode};
+ghost use Rattle.xc_dance.specs.inner.Links.Unmarked.{AreUnmarked, IsUnmarked};
 
 use crate::links::cells::{Cell, Link, down_at, get_at, set_at, set_down_at, set_up_at, up_at};
 use crate::links::nodes::{MARK, SPACER};

@@ -1,10 +1,10 @@
 //! Tweaks: the option of a first node is hidden and comes back, alone or with those that were tweaked off behind it.
 ghost use Rattle.std.specs.Prelude.{◌≡◌, ℕ, ◌+◌, ◌*◌, ◌<◌, ◌≤◌, ◌^◌, length, fold, reverse, false, if◌then◌else◌};
-ghost use Rattle.xc_dance.specs.Links.Columns.{values, columns};
-ghost use Rattle.xc_dance.specs.Links.Steps.{hide_costs, CanHideNode, CanUnhideNode, unhide_costs, others_of, followed};
-ghost use Rattle.xc_dance.specs.Links.Tweaking.{hidden_unless, unhidden_unless};
-ghost use Rattle.xc_dance.specs.Links.TweaksBack.{brought_back, bring_back_cost, CanBringBack, CanBringBackAll, bring_back_costs};
-ghost use Rattle.xc_dance.specs.Links.Unmarked.{IsUnmarked};
+ghost use Rattle.xc_dance.specs.inner.Links.Columns.{values, columns};
+ghost use Rattle.xc_dance.specs.inner.Links.Steps.{hide_costs, CanHideNode, CanUnhideNode, unhide_costs, others_of, followed};
+ghost use Rattle.xc_dance.specs.inner.Links.Tweaking.{hidden_unless, unhidden_unless};
+ghost use Rattle.xc_dance.specs.inner.Links.TweaksBack.{brought_back, bring_back_cost, CanBringBack, CanBringBackAll, bring_back_costs};
+ghost use Rattle.xc_dance.specs.inner.Links.Unmarked.{IsUnmarked};
 
 use crate::links::cells::{Cell, Link, down, set_up};
 use crate::links::spans::Spans;

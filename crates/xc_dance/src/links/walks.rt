@@ -1,10 +1,10 @@
 //! Walks down the list of an item and back up. The nodes of a colour that is kept are marked on the way, the options of the
 //! others hidden.
 ghost use Rattle.std.specs.Prelude.{◌≡◌, ℕ, ◌+◌, ◌-◌, ◌*◌, ◌<◌, ◌≤◌, ◌^◌, length, slice_index, fold, None, false};
-ghost use Rattle.xc_dance.specs.Links.Columns.{values, columns};
-ghost use Rattle.xc_dance.specs.Links.Steps.{list_of, list_back};
-ghost use Rattle.xc_dance.specs.Links.ListWalks.{is_kept_colour, left_node, leave_cost, back_node, back_cost, CanLeave, CanReturn, walk_costs, back_costs, CanHideList, CanUnhideList};
-ghost use Rattle.xc_dance.specs.Links.Unmarked.{IsUnmarked};
+ghost use Rattle.xc_dance.specs.inner.Links.Columns.{values, columns};
+ghost use Rattle.xc_dance.specs.inner.Links.Steps.{list_of, list_back};
+ghost use Rattle.xc_dance.specs.inner.Links.ListWalks.{is_kept_colour, left_node, leave_cost, back_node, back_cost, CanLeave, CanReturn, walk_costs, back_costs, CanHideList, CanUnhideList};
+ghost use Rattle.xc_dance.specs.inner.Links.Unmarked.{IsUnmarked};
 
 use crate::links::cells::{Cell, Link, down, get, set, up};
 use crate::links::nodes::MARK;

@@ -28,7 +28,7 @@ impl Model for Trail {
     ghost use Rattle.xc_input.specs.Problem.{IsWithinLimits};
     ghost use Rattle.xc_dance.specs.Dancing.{Dancing};
     ghost use Rattle.xc_dance.specs.Moves.{AreLegal};
-    ghost use Rattle.xc_dance.specs.Lists.States.{AreStates, AreLeft};
+    ghost use Rattle.xc_dance.specs.inner.Lists.States.{AreStates, AreLeft};
 
     ghost Value = { Dancing };
 

@@ -1,7 +1,7 @@
 //! Lists of option numbers that can go back to how they were.
 ghost use Rattle.std.specs.Prelude.{◌≡◌, ◌+◌, ◌<◌, [], ◌∷◌, length, reverse, slice_index, slice_set, sum_by, vec_capacity, IfOk, IfSome, IsNone, MatchOption};
-ghost use Rattle.xc_dance.specs.Lists.Rising.{Rises};
-ghost use Rattle.xc_dance.specs.Lists.Taking.{numbers_of, rooms_of, list_at, less, put_back, restored, still_taken, HasRoom, IsPutBack, Fits};
+ghost use Rattle.xc_dance.specs.inner.Lists.Rising.{Rises};
+ghost use Rattle.xc_dance.specs.inner.Lists.Taking.{numbers_of, rooms_of, list_at, less, put_back, restored, still_taken, HasRoom, IsPutBack, Fits};
 
 use std::alloc::{AllocError, Global};
 use std::marker::Model;
@@ -28,8 +28,8 @@ pub(crate) struct OptionLists {
 
 impl Model for OptionLists {
     ghost use Rattle.std.specs.Prelude.{◌≤◌, ◌+◌, length, reverse, sum_by, vec_capacity};
-    ghost use Rattle.xc_dance.specs.Lists.Versions.{Versions};
-    ghost use Rattle.xc_dance.specs.Lists.Taking.{lists_at_marks, Fits, AreMarks, numbers_of, rooms_of};
+    ghost use Rattle.xc_dance.specs.inner.Lists.Versions.{Versions};
+    ghost use Rattle.xc_dance.specs.inner.Lists.Taking.{lists_at_marks, Fits, AreMarks, numbers_of, rooms_of};
 
     ghost Value = { Versions };
 

@@ -5,7 +5,7 @@ use Rattle.std.specs.declared.alloc.Global.{Global}
 use Rattle.xc_input.specs.declared.problem.Use.{Use}
 use Rattle.xc_input.specs.Problem.{Puzzle, option_count, uses_of}
 use Rattle.xc_input.specs.Named.{Named, IsKnownUse}
-use Rattle.xc_input.proofs.FlatParts.{slice_get-map-some}
+use Rattle.xc_input.proofs.OptionLemmas.FlatParts.{slice_get-map-some}
 use Rattle.xc_list.specs.inner.Classes.{AreClasses}
 use Rattle.xc_list.specs.inner.OptionIndex.{AreClassesTo, IsOptionIndex}
 use Rattle.xc_list.proofs.CheckLemmas.Rotations.{class-place}

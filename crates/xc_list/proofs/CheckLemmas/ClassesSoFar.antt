@@ -6,8 +6,8 @@ use Rattle.std.proofs.lemmas.List.Elements.{Contains-append_left, Contains-push}
 use Rattle.std.proofs.lemmas.List.Sums.{count_by-le-length}
 use Rattle.xc_input.specs.declared.problem.Use.{Use}
 use Rattle.xc_input.specs.Problem.{Puzzle}
-use Rattle.xc_input.proofs.FaultLemmas.{map-snoc}
-use Rattle.xc_input.proofs.TokenLemmas.{not_false}
+use Rattle.xc_input.proofs.FaultLemmas.Checks.{map-snoc}
+use Rattle.xc_input.proofs.TokenLemmas.Bytes.{not_false}
 use Rattle.xc_input.proofs.lists.Members.{IsIn, each_in, in-append, in-contains, contains-in, in-slice_get, slice_get-in}
 use Rattle.xc_input.proofs.lists.EachTwo.{EachTwo, EachTwo-append, each_two_from_AllPairs, AllPairs-from_each_two}
 use Rattle.std.specs.List.{range_with_len}

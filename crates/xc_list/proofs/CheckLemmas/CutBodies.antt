@@ -5,7 +5,7 @@ use Rattle.std.proofs.lemmas.Bool.Decides.{nat_tests}
 use Rattle.std.proofs.lemmas.Bool.{eq-eqb}
 use Rattle.std.proofs.Math.Seq.{take-append_seam, drop-append_seam}
 use Rattle.xc_input.specs.Tokens.{is_space}
-use Rattle.xc_input.proofs.TokenLemmas.{differs}
+use Rattle.xc_input.proofs.TokenLemmas.Bytes.{differs}
 use Rattle.xc_list.specs.ListingLines.{words_in, before_last, is_word, is_ending, body_of_words}
 
 -- LAST BYTES

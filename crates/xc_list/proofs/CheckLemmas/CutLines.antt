@@ -4,9 +4,9 @@ use Rattle.std.specs.List.{onto_first}
 use Rattle.std.proofs.lemmas.Bool.{eqb-true}
 use Rattle.xc_input.specs.Words.{has, before, after}
 use Rattle.xc_input.specs.Lines.{lines_of}
-use Rattle.xc_input.proofs.GrammarLemmas.{or-false, cut-is}
-use Rattle.xc_input.proofs.LineLemmas.{lines_of-ended}
-use Rattle.xc_input.proofs.TokenLemmas.{has-all, has-at, whole}
+use Rattle.xc_input.proofs.GrammarLemmas.NoFault.{or-false, cut-is}
+use Rattle.xc_input.proofs.LineLemmas.TextLines.{lines_of-ended}
+use Rattle.xc_input.proofs.TokenLemmas.Bytes.{has-all, has-at, whole}
 use Rattle.xc_list.specs.ListingLines.{words_in}
 
 -- CUTTING

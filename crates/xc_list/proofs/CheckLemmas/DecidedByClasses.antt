@@ -9,7 +9,7 @@ use Rattle.xc_input.specs.declared.problem.Use.{Use}
 use Rattle.xc_input.specs.Problem.{Puzzle, IsSoundOption, IsValid, IsSecondary, option_count, uses_of, colour_in, IsOption}
 use Rattle.xc_search.specs.Cover.{IsCover, times_held}
 use Rattle.xc_input.specs.Named.{Named, IsKnownUse, IsSound}
-use Rattle.xc_input.proofs.Known.{known_option}
+use Rattle.xc_input.proofs.ValidLemmas.Known.{known_option}
 use Rattle.xc_input.proofs.lists.Members.{IsIn, each_in, each_from, in-slice_get, slice_get-in, in-contains, contains-in}
 use Rattle.xc_input.proofs.lists.EachTwo.{EachTwo-at, each_two_from_AllPairs, AllPairs-from_each_two}
 use Rattle.xc_list.specs.Listed.{is_body, is_known, IsListedCover, stands_for}

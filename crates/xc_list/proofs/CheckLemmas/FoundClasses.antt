@@ -12,8 +12,8 @@ use Rattle.std.proofs.lemmas.Slice.Eq.{slice_eq-Decides}
 use Rattle.xc_input.specs.declared.problem.Use.{Use}
 use Rattle.xc_input.specs.Problem.{uses_of, IsOption}
 use Rattle.xc_input.specs.Named.{Named, IsKnownUse, IsSound}
-use Rattle.xc_input.proofs.FaultLemmas.{no-place, map-snoc}
-use Rattle.xc_input.proofs.TokenLemmas.{position-map, not_false}
+use Rattle.xc_input.proofs.FaultLemmas.Checks.{no-place, map-snoc}
+use Rattle.xc_input.proofs.TokenLemmas.Bytes.{position-map, not_false}
 use Rattle.xc_input.proofs.lists.Members.{IsIn, in-contains, slice_get-in}
 use Rattle.xc_list.specs.ListingLines.{words_in}
 use Rattle.xc_list.specs.Output.{rotated_at, use_word}

@@ -5,7 +5,7 @@ use Rattle.std.specs.List.{list_any, range_with_len}
 use Rattle.std.proofs.lemmas.Bool.{cases_lt, cases_eq}
 use Rattle.std.proofs.lemmas.Option.{unwrap_or-slice_get, slice_get_within, slice_get-get_or, get_or_from_slice_get}
 use Rattle.xc_input.specs.Problem.{numbered_get}
-use Rattle.xc_input.proofs.Known.{at_number}
+use Rattle.xc_input.proofs.ValidLemmas.Known.{at_number}
 use Rattle.xc_input.proofs.lists.Members.{IsIn, each_from}
 use Rattle.xc_input.proofs.lists.EachTwo.{EachTwo}
 use Rattle.xc_list.specs.Output.{bytes_at}

@@ -5,7 +5,7 @@ use Rattle.std.specs.List.{list_any, onto_first}
 use Rattle.std.specs.Option.{option_map}
 use Rattle.std.proofs.lemmas.List.Quantifiers.{position-Some}
 use Rattle.xc_input.specs.Named.{Named}
-use Rattle.xc_input.proofs.FaultLemmas.{no-place}
+use Rattle.xc_input.proofs.FaultLemmas.Checks.{no-place}
 use Rattle.xc_list.specs.ListingLines.{words_in}
 use Rattle.xc_list.specs.Listed.{is_none}
 

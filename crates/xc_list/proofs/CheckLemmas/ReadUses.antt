@@ -7,7 +7,7 @@ use Rattle.xc_input.specs.declared.problem.Use.{Use}
 use Rattle.xc_input.specs.Problem.{numbered_get}
 use Rattle.xc_input.specs.Named.{Named, IsName, IsKnownUse, IsSound}
 use Rattle.xc_input.specs.Words.{has, before, after}
-use Rattle.xc_input.proofs.GrammarLemmas.{cut-at, cut-is}
+use Rattle.xc_input.proofs.GrammarLemmas.NoFault.{cut-at, cut-is}
 use Rattle.xc_list.specs.ListingLines.{words_in}
 use Rattle.xc_list.specs.Output.{bytes_at, use_word}
 use Rattle.xc_list.specs.inner.OptionIndex.{IsUseOfWord, HaveWords}

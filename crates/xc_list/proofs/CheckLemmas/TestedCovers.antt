@@ -8,7 +8,7 @@ use Rattle.xc_input.specs.declared.problem.Use.{Use}
 use Rattle.xc_input.specs.declared.problem.Bounds.{Bounds}
 use Rattle.xc_input.specs.Problem.{Puzzle, IsValid, IsItem, IsOption, IsSecondary, IsSoundUse, bounds_at, colour_in, item_count, primary_count, uses_of}
 use Rattle.xc_search.specs.Cover.{IsCover, times_held}
-use Rattle.xc_input.proofs.BooleanTests.{and_left, and_right}
+use Rattle.xc_input.proofs.FaultLemmas.BooleanTests.{and_left, and_right}
 use Rattle.xc_input.proofs.lists.EachTwo.{EachTwo}
 use Rattle.std.proofs.lemmas.Option.{slice_get_within}
 use Rattle.xc_input.proofs.lists.Members.{IsIn, each_in, in-contains, contains-in}

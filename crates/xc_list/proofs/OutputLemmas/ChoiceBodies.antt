@@ -1,5 +1,5 @@
 -- What the words of a choice stand for.
-use Rattle.xc_input.proofs.TokenLemmas.{not_false}
+use Rattle.xc_input.proofs.TokenLemmas.Bytes.{not_false}
 use Rattle.xc_list.specs.inner.LineParts.{colour_text}
 use Rattle.xc_list.proofs.CheckLemmas.BodiesOfClasses.{All-turned, is-body}
 use Rattle.xc_list.proofs.CheckLemmas.ListedNumbers.{any-in, at_bytes, numbered_some}
@@ -20,8 +20,8 @@ use Rattle.xc_input.specs.Problem.{IsPrimary, IsItem, numbered_get, uses_of, opt
 use Rattle.xc_input.specs.Named.{Named, IsKnownUse, IsSound, IsName, IsColour, IsUnbroken}
 use Rattle.xc_input.specs.Words.{has}
 use Rattle.xc_input.specs.Tokens.{is_space}
-use Rattle.xc_input.proofs.GrammarLemmas.{or-both, and-both}
-use Rattle.xc_input.proofs.Known.{at_number, known_option}
+use Rattle.xc_input.proofs.GrammarLemmas.NoFault.{or-both, and-both}
+use Rattle.xc_input.proofs.ValidLemmas.Known.{at_number, known_option}
 use Rattle.xc_input.proofs.lists.Places.{get_take}
 use Rattle.xc_search.specs.declared.choice.Choice.{Choice}
 use Rattle.xc_list.specs.Known.{IsKnownChoice}

@@ -1,7 +1,7 @@
 -- The counts in the choices of a member are small.
 use Rattle.xc_list.proofs.OutputLemmas.KnownMembers.{All-flat_map}
 use Rattle.xc_search.specs.inner.Sizes.{size_of}
-use Rattle.xc_input.proofs.NumberedOptions.{numbered_from}
+use Rattle.xc_input.proofs.OptionLemmas.NumberedOptions.{numbered_from}
 use Rattle.std.proofs.Common.{◌≡◌, ℕ, zero, suc, ◌+◌, ◌<◌, ◌≤◌, Bool, true, false, cond, not, ◌&&◌, List, [], ◌∷◌, Option, None, Some, length, take, filter, map, refl, ap, arith}
 use Rattle.std.specs.Prelude.{All, nat_le, ◌==◌, if◌then◌else◌}
 use Rattle.std.specs.List.{enumerate_from}

@@ -9,8 +9,8 @@ use Rattle.std.proofs.lemmas.List.Concat.{flat_map-append}
 use Rattle.xc_input.specs.declared.problem.Use.{Use}
 use Rattle.xc_input.specs.Problem.{numbered_get}
 use Rattle.xc_input.specs.Named.{Named}
-use Rattle.xc_input.proofs.FaultLemmas.{map-length, map-snoc}
-use Rattle.xc_input.proofs.FlatParts.{length-pieces, option_part, pieces-snoc}
+use Rattle.xc_input.proofs.FaultLemmas.Checks.{map-length, map-snoc}
+use Rattle.xc_input.proofs.OptionLemmas.FlatParts.{length-pieces, option_part, pieces-snoc}
 use Rattle.xc_list.specs.Output.{from_item}
 use Rattle.xc_list.proofs.Writing.{flat_map-parts}
 use Rattle.xc_list.specs.inner.Layout.{AreLaid, uses_text}

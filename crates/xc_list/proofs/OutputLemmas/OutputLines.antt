@@ -9,7 +9,7 @@ use Rattle.xc_input.specs.Named.{Named}
 use Rattle.xc_input.specs.Words.{has}
 use Rattle.xc_input.specs.Lines.{lines_of}
 use Rattle.xc_input.specs.inner.EndedLines.{ended, AreWhole}
-use Rattle.xc_input.proofs.LineLemmas.{lines_of-ended}
+use Rattle.xc_input.proofs.LineLemmas.TextLines.{lines_of-ended}
 use Rattle.xc_search.specs.declared.choice.Choice.{Choice}
 use Rattle.xc_list.specs.Output.{bytes_at, from_item, use_word, body_text, choice_text, member_text}
 use Rattle.xc_list.specs.inner.ReadLines.{Header, Body, read}

@@ -18,7 +18,7 @@ use Rattle.xc_search.proofs.listing.EachBranch.{takes-in, nones-in, level-in, no
 use Rattle.xc_search.proofs.completeness.Passing.{passing, one_passes, two_pass, same_passing, passing_without, first_passing, list_all-each, list_all-at}
 use Rattle.xc_input.proofs.lists.Filters.{filter_both}
 use Rattle.std.proofs.lemmas.List.{nil_from_length}
-use Rattle.xc_input.proofs.BooleanTests.{and_right}
+use Rattle.xc_input.proofs.FaultLemmas.BooleanTests.{and_right}
 use Rattle.xc_search.proofs.residual.OptionUses.{holds_use}
 
 -- ---- a choice of option numbers that covers what is left

@@ -18,7 +18,7 @@ use Rattle.xc_search.proofs.completeness.Proper.{IsProper, find-in, sound_items,
 use Rattle.xc_search.proofs.listing.EachBranch.{IsTaken, IsNone, in-branches, in-level, no_items_left, branch_item-in, less_behind}
 use Rattle.xc_input.proofs.lists.EachTwo.{EachTwo, EachTwo-map, AllPairs-from_each_two, EachTwo-weaker, EachTwo-of}
 use Rattle.std.proofs.lemmas.List.{nil_from_length}
-use Rattle.xc_input.proofs.BooleanTests.{and_left, and_right, or_other}
+use Rattle.xc_input.proofs.FaultLemmas.BooleanTests.{and_left, and_right, or_other}
 use Rattle.xc_search.proofs.listing.Numbering.{numbered_at, uses_known, at_item}
 
 abbrev pub number_of : Numbered → ℕ

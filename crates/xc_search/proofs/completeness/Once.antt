@@ -13,7 +13,7 @@ use Rattle.xc_dance.proofs.MoveLemmas.OptionsRise.{NumbersRise, NumbersRise-filt
 use Rattle.xc_search.proofs.listing.EachBranch.{IsTaken, IsNone, takes, nones, in-branches, in-nones, in-level, behind}
 use Rattle.xc_search.proofs.completeness.Proper.{goes_on}
 use Rattle.xc_input.proofs.lists.EachTwo.{EachTwo, EachTwo-append, EachTwo-map, EachTwo-flat_map, EachTwo-at, EachTwo-weaker, EachTwo-take, EachTwo-enumerated}
-use Rattle.xc_input.proofs.BooleanTests.{and_left}
+use Rattle.xc_input.proofs.FaultLemmas.BooleanTests.{and_left}
 
 -- an option of this number is left
 abbrev HasNumber : Residual → ℕ → Type 0

@@ -7,7 +7,7 @@ use Rattle.xc_input.proofs.lists.Members.{IsIn}
 use Rattle.xc_input.proofs.lists.Filters.{length-filter-le}
 use Rattle.xc_search.proofs.residual.NumberedOnce.{above_in}
 use Rattle.xc_dance.proofs.MoveLemmas.OptionsRise.{NumbersRise}
-use Rattle.xc_input.proofs.BooleanTests.{and_left, and_right}
+use Rattle.xc_input.proofs.FaultLemmas.BooleanTests.{and_left, and_right}
 
 abbrev pub passing : (Numbered → Bool) → List Numbered → ℕ
 passing t os = length (filter t os)

@@ -10,7 +10,7 @@ use Rattle.xc_search.specs.Listing.{Wanted, Residual, wanted_from, whole, spend_
 use Rattle.xc_input.proofs.lists.Members.{IsIn, in-filter, filter-in, in-map, map-in, each_in, each_from, in-contains}
 use Rattle.xc_dance.proofs.MoveLemmas.OptionsRise.{NumbersRise, NumbersRise-filter, options_rise}
 use Rattle.xc_search.proofs.completeness.Solved.{IsSound, used_up}
-use Rattle.xc_input.proofs.BooleanTests.{and_right}
+use Rattle.xc_input.proofs.FaultLemmas.BooleanTests.{and_right}
 use Rattle.xc_search.proofs.residual.OptionUses.{held_by, holds_use}
 use Rattle.xc_search.proofs.listing.Numbering.{option_sound}
 

@@ -13,7 +13,7 @@ use Rattle.xc_dance.proofs.MoveLemmas.OptionsRise.{NumbersRise}
 use Rattle.xc_input.proofs.lists.EachElement.{each_weaker}
 use Rattle.std.proofs.Math.Bool.{or-true}
 use Rattle.std.proofs.lemmas.Bool.{not-true}
-use Rattle.xc_input.proofs.BooleanTests.{and_left, and_right}
+use Rattle.xc_input.proofs.FaultLemmas.BooleanTests.{and_left, and_right}
 
 -- how many of the selection hold item j
 abbrev pub count : ℕ → List Numbered → ℕ

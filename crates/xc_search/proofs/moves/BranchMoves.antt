@@ -12,7 +12,7 @@ use Rattle.xc_search.specs.Listing.{Wanted, Residual, pick, none}
 use Rattle.xc_dance.specs.Moves.{listed, is_open, spends, AreLegal}
 use Rattle.xc_search.specs.Residuals.{wanted_after}
 use Rattle.xc_search.specs.inner.Residual.{residual_of}
-use Rattle.xc_dance.specs.Lists.Left.{left}
+use Rattle.xc_dance.specs.inner.Left.{left}
 use Rattle.xc_dance.specs.Commits.{after_spend, after_use, after_uses, others, place_in}
 use Rattle.xc_search.specs.inner.Commits.{tweaked, after_none}
 use Rattle.xc_search.specs.inner.Levels.{IsNode}
@@ -25,7 +25,7 @@ use Rattle.xc_search.proofs.residual.CyclicUses.{placed, apart_turned, committed
 use Rattle.xc_search.proofs.moves.LegalTweaks.{branch_cut, legal_branch, items_tweaked, open_tweaked, purified_tweaked, spends_tweaked, left_closed, left_open}
 use Rattle.xc_input.proofs.lists.EachElement.{each_weaker, each-filter, each_passes, each_at, each_turned, each_both}
 use Rattle.xc_input.proofs.lists.Filters.{filter_both}
-use Rattle.xc_input.proofs.BooleanTests.{only_rest}
+use Rattle.xc_input.proofs.FaultLemmas.BooleanTests.{only_rest}
 use Rattle.xc_search.proofs.residual.OptionUses.{AreApart, apart_from_pairs}
 use Rattle.xc_search.proofs.listing.Numbering.{IsOption}
 

@@ -11,7 +11,7 @@ use Rattle.xc_search.specs.Listing.{Residual, may_stay, item_left}
 use Rattle.xc_dance.specs.Moves.{listed, is_open, purified, spends, without, AreLegal}
 use Rattle.xc_search.specs.Residuals.{wanted_after}
 use Rattle.xc_search.specs.inner.Residual.{residual_of}
-use Rattle.xc_dance.specs.Lists.Left.{left}
+use Rattle.xc_dance.specs.inner.Left.{left}
 use Rattle.xc_dance.specs.Commits.{after_spend}
 use Rattle.xc_search.specs.inner.Commits.{tweaked}
 use Rattle.xc_search.specs.inner.Levels.{IsNode}
@@ -23,7 +23,7 @@ use Rattle.xc_search.proofs.residual.LeftAreReady.{has_left, primary_pure}
 use Rattle.xc_search.proofs.residual.CyclicUses.{cut}
 use Rattle.xc_input.proofs.lists.EachElement.{each_of_all}
 use Rattle.xc_input.proofs.lists.Filters.{filter_both, keep_all}
-use Rattle.xc_input.proofs.BooleanTests.{only_rest}
+use Rattle.xc_input.proofs.FaultLemmas.BooleanTests.{only_rest}
 use Rattle.xc_input.proofs.lists.Places.{slice_get-drop, before_some, drop_one}
 
 -- ---- what tweaks leave as it was

@@ -14,7 +14,7 @@ use Rattle.xc_search.proofs.completeness.Passing.{passing, two_pass}
 use Rattle.xc_search.proofs.completeness.Whole.{is_listed, listed_in, in_listed, option_of, covers_whole}
 use Rattle.xc_search.proofs.parts.Numbers.{IsNumber, at_place, number_of_option, cover_of_problem, cover_of_part}
 use Rattle.xc_search.proofs.residual.NumberedOnce.{same_number}
-use Rattle.xc_input.proofs.BooleanTests.{and_left, and_right, or_other}
+use Rattle.xc_input.proofs.FaultLemmas.BooleanTests.{and_left, and_right, or_other}
 
 -- an option of the cover holds the item, and no other does
 pub record IsOne (p : Puzzle) (i : ℕ) (s : List ℕ) (x : Numbered) : Type 0 where

@@ -11,7 +11,7 @@ use Rattle.xc_input.specs.Problem.{Puzzle, Numbered, numbered_options, primary_c
 use Rattle.xc_search.specs.Listing.{Wanted, whole, spend_one, may_stay, item_left, pick, branch_count, branch_item, take_branch, branches_of, level, listing}
 use Rattle.xc_search.specs.Parts.{IsHeldOnce, is_in_part, part_options, part_in_front, first_as, PartsInOrder}
 use Rattle.xc_dance.proofs.MoveLemmas.OptionsRise.{NumbersRise, NumbersRise-filter, options_rise}
-use Rattle.xc_input.proofs.BooleanTests.{and_right, or_other}
+use Rattle.xc_input.proofs.FaultLemmas.BooleanTests.{and_right, or_other}
 use Rattle.xc_input.proofs.lists.Filters.{filter_both, filter_same, filter-map, map-map, flat_map-same}
 use Rattle.xc_input.proofs.lists.Members.{IsIn, in-filter, filter-in, in-enumerated, each_from}
 use Rattle.xc_search.proofs.completeness.Proper.{IsProper, find-in, goes_on, proper_whole}

@@ -12,7 +12,7 @@ use Rattle.xc_dance.specs.Moves.{is_open, open_items, AreLegal}
 use Rattle.xc_search.specs.Residuals.{wanted_at, wanted_after, branches_after, choice_after}
 use Rattle.xc_search.specs.inner.Residual.{residual_of}
 use Rattle.xc_dance.proofs.MoveLemmas.OpenLists.{listed_open}
-use Rattle.xc_input.proofs.FlatParts.{numbered_get-at}
+use Rattle.xc_input.proofs.OptionLemmas.FlatParts.{numbered_get-at}
 use Rattle.xc_input.proofs.lists.EachElement.{each_weaker, each-map}
 use Rattle.xc_input.proofs.lists.Filters.{map-same}
 

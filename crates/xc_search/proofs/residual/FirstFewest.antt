@@ -10,7 +10,7 @@ use Rattle.xc_search.specs.inner.Levels.{AreAllWanted}
 use Rattle.xc_search.proofs.residual.LeftAreReady.{has_left}
 use Rattle.xc_dance.specs.Moves.{next_above, is_open, open_items, spends, IsOpenPrimary}
 use Rattle.xc_search.specs.Residuals.{wanted_at, wanted_after, branches_after, choice_after}
-use Rattle.xc_dance.specs.Lists.Rising.{Rises}
+use Rattle.xc_dance.specs.inner.Lists.Rising.{Rises}
 use Rattle.xc_dance.proofs.MoveLemmas.ListLemmas.{Rises-range, Rises-filter, above_all, next_above-split, next_above-none, found_open}
 
 -- of these items and w the first with the fewest branches

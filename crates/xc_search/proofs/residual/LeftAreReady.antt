@@ -9,7 +9,7 @@ use Rattle.xc_dance.specs.declared.dance.Move.{Move}
 use Rattle.xc_dance.specs.declared.dance.Move.TheVariants.{Cover, Purify, Tweak, Spend}
 use Rattle.xc_input.specs.Problem.{Puzzle, Numbered, primary_count, holds, colour_at, colour_in, high_at, IsPrimary, IsSoundUse, IsValid}
 use Rattle.xc_search.specs.Listing.{Wanted}
-use Rattle.xc_dance.specs.Lists.Left.{left}
+use Rattle.xc_dance.specs.inner.Left.{left}
 use Rattle.xc_dance.specs.Moves.{is_open, is_covered, purified, spends, AreLegal, agrees}
 use Rattle.xc_search.specs.Residuals.{wanted_at, wanted_after}
 use Rattle.xc_search.proofs.residual.PickedByUses.{is_wanted, AreWanted}

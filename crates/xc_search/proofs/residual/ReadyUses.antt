@@ -10,7 +10,7 @@ use Rattle.xc_dance.specs.declared.dance.Move.{Move}
 use Rattle.xc_dance.specs.declared.dance.Move.TheVariants.{Cover, Purify, Spend}
 use Rattle.xc_input.specs.Problem.{Puzzle, primary_count, holds, colour_at, high_at, IsPrimary, IsSecondary}
 use Rattle.xc_search.specs.Listing.{Wanted, none, may_stay, item_left}
-use Rattle.xc_dance.specs.Lists.Left.{left}
+use Rattle.xc_dance.specs.inner.Left.{left}
 use Rattle.xc_dance.specs.Moves.{is_open, purified, spends, open_items, AreLegal, agrees}
 use Rattle.xc_search.specs.Residuals.{wanted_at, wanted_after}
 use Rattle.xc_search.specs.inner.Residual.{residual_of}

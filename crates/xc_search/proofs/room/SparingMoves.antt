@@ -10,7 +10,7 @@ use Rattle.xc_search.specs.Listing.{Residual, pick, none, spend_one, stays, bran
 use Rattle.xc_dance.specs.Moves.{is_open, spends, open_items}
 use Rattle.xc_search.specs.Residuals.{wanted_at, wanted_after}
 use Rattle.xc_search.specs.inner.Residual.{residual_of}
-use Rattle.xc_dance.specs.Lists.Left.{left}
+use Rattle.xc_dance.specs.inner.Left.{left}
 use Rattle.xc_dance.specs.Commits.{after_spend, after_use, after_uses, others, place_in}
 use Rattle.xc_search.specs.inner.Commits.{tweaked, after_none}
 use Rattle.xc_search.specs.inner.Sparing.{spendings, uses_in, IsSparing}

@@ -16,7 +16,7 @@ use Rattle.xc_dance.specs.Commits.{option_at, after_spend, after_uses, others}
 use Rattle.xc_search.specs.inner.Commits.{oldest, tweaked, after_none, walks}
 use Rattle.xc_search.specs.inner.Sparing.{IsSparing}
 use Rattle.xc_search.proofs.room.SparingMoves.{sparing_taken, sparing_none}
-use Rattle.xc_input.proofs.FlatParts.{numbered_get-at}
+use Rattle.xc_input.proofs.OptionLemmas.FlatParts.{numbered_get-at}
 use Rattle.xc_search.proofs.moves.OldestMoves.{oldest_all}
 use Rattle.xc_search.proofs.listing.BranchLists.{branch_takes, branch_none}
 use Rattle.xc_search.proofs.moves.BranchMoves.{taken, none_taken, legal_after_none, none_wanted}

@@ -7,7 +7,7 @@ use Rattle.xc_dance.specs.declared.dance.Move.{Move}
 use Rattle.xc_search.specs.declared.level.Level.{Level}
 use Rattle.xc_input.specs.Problem.{Puzzle, Numbered, numbered_get, holds}
 use Rattle.xc_dance.specs.Moves.{listed, listed_numbers, next_above}
-use Rattle.xc_dance.specs.Lists.Left.{left}
+use Rattle.xc_dance.specs.inner.Left.{left}
 use Rattle.xc_dance.specs.Fields.{link_place}
 use Rattle.xc_dance.specs.Commits.{IsListedAt, after_spend}
 use Rattle.xc_search.specs.inner.Commits.{oldest, tweaked}

@@ -12,7 +12,7 @@ use Rattle.xc_search.specs.Listing.{Wanted, Branch, branch_item, branch_count, b
 use Rattle.xc_dance.specs.Moves.{is_open, AreLegal}
 use Rattle.xc_search.specs.Residuals.{wanted_at, wanted_after}
 use Rattle.xc_search.specs.inner.Residual.{residual_of}
-use Rattle.xc_dance.specs.Lists.Left.{left}
+use Rattle.xc_dance.specs.inner.Left.{left}
 use Rattle.xc_dance.specs.Fields.{link_place}
 use Rattle.xc_dance.specs.Commits.{option_at, IsUseAt, after_spend, after_uses, others, place_in}
 use Rattle.xc_search.specs.inner.Commits.{MayStand, after_none, oldest, tweaked, walks}

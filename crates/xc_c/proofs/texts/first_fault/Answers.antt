@@ -1,6 +1,6 @@
 use Rattle.std.proofs.Common.{sym}
 use Rattle.xc_input.specs.Lines.{lines_of}
-use Rattle.xc_input.proofs.FirstFaults.{stands-only}
+use Rattle.xc_input.proofs.FaultLemmas.FirstFaults.{stands-only}
 use Rattle.xc_c.proofs.texts.first_fault.Goals as goal
 
 pub returns-in_default : goal.returns-in_default

@@ -1,6 +1,6 @@
 use Rattle.std.proofs.Common.{arith, ap, ◌∙◌, ◌≡◌, ◌+◌, ◌<◌}
 use Rattle.xc_input.specs.Problem.{option_count}
-use Rattle.xc_dance.specs.Links.OptionPlaces.{place_at}
+use Rattle.xc_dance.specs.inner.Links.OptionPlaces.{place_at}
 use Rattle.xc_dance.proofs.LinkedTables.PlaceLemmas.{place_first, option_fits, uses_here}
 use Rattle.xc_dance.proofs.LinkedTables.PassedOptions.{sound_fit, behind_first, before_last, option_between}
 use Rattle.xc_dance.proofs.places.number_at.Goals as goal

@@ -1,5 +1,5 @@
 use Rattle.std.proofs.Common.{◌≡◌, ◌≤◌}
-use Rattle.xc_dance.specs.Links.OptionPlaces.{place_at}
+use Rattle.xc_dance.specs.inner.Links.OptionPlaces.{place_at}
 use Rattle.xc_dance.proofs.places.number_at.Given as goal
 
 abbrev pub invariant-loop-before : goal.invariant-loop-before

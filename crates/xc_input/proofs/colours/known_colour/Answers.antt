@@ -1,6 +1,6 @@
 use Rattle.std.proofs.Common.{◌≡◌, ◌∙◌, sym}
 use Rattle.std.proofs.lemmas.Slice.Eq.{bytes_eq-Decides}
-use Rattle.xc_input.proofs.NameLemmas.{known-distinct}
+use Rattle.xc_input.proofs.TokenLemmas.TableNames.{known-distinct}
 use Rattle.xc_input.proofs.colours.known_colour.Goals as goal
 
 pub returns-then-eq : goal.returns-then-eq

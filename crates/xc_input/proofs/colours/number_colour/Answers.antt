@@ -1,9 +1,9 @@
 use Rattle.std.proofs.Common.{◌∙◌, ◌<◌, sym, length, arith}
 use Rattle.std.proofs.lemmas.Bool.Decides.{nat_tests}
 use Rattle.xc_input.specs.inner.Stored.{key_names}
-use Rattle.xc_input.proofs.FaultLemmas.{map-length}
-use Rattle.xc_input.proofs.BuilderLemmas.{new-number}
-use Rattle.xc_input.proofs.NameLemmas.{distinct-more}
+use Rattle.xc_input.proofs.FaultLemmas.Checks.{map-length}
+use Rattle.xc_input.proofs.OptionLemmas.Drafts.{new-number}
+use Rattle.xc_input.proofs.TokenLemmas.TableNames.{distinct-more}
 use Rattle.xc_input.proofs.colours.number_colour.Goals as goal
 
 pub returns-clause-number : goal.returns-clause-number

@@ -1,5 +1,5 @@
 use Rattle.std.proofs.Common.{◌<◌, arith}
-use Rattle.xc_input.proofs.TokenLemmas.{below_pow}
+use Rattle.xc_input.proofs.TokenLemmas.Bytes.{below_pow}
 use Rattle.xc_input.proofs.digits.number_of.Goals as goal
 
 pub overflow_mul-n : goal.overflow_mul-n

@@ -4,7 +4,7 @@ use Rattle.xc_input.specs.Faults.{first, part_checks}
 use Rattle.xc_input.specs.inner.Stages.{Row}
 use Rattle.xc_input.specs.inner.Builders.{row_of_line}
 use Rattle.xc_input.proofs.FaultyLemmas.{IsRowOf, read-start, read-stands, read-on, read-stop, read-end, row-checks, row-more}
-use Rattle.xc_input.proofs.UnbrokenLemmas.{part-solid}
+use Rattle.xc_input.proofs.TokenLemmas.Unbroken.{part-solid}
 use Rattle.xc_input.proofs.faulty.faulty_part.Goals as goal
 
 pub loop-part-init : goal.loop-part-init

@@ -6,10 +6,10 @@ use Rattle.xc_input.specs.inner.Sheets.{names_of}
 use Rattle.xc_input.specs.inner.Stages.{Row, context, row_checks, row_of, no_row}
 use Rattle.xc_input.specs.inner.Stored.{key_names}
 use Rattle.xc_input.specs.inner.Builders.{entry_of}
-use Rattle.xc_input.proofs.FaultLemmas.{items-length, map-length}
+use Rattle.xc_input.proofs.FaultLemmas.Checks.{items-length, map-length}
 use Rattle.xc_input.proofs.FaultyLemmas.{keys-length, tells-same}
-use Rattle.xc_input.proofs.FirstFaults.{parts-checked, context-is}
-use Rattle.xc_input.proofs.LawLemmas.{P}
+use Rattle.xc_input.proofs.FaultLemmas.FirstFaults.{parts-checked, context-is}
+use Rattle.xc_input.proofs.GrammarLemmas.LawLemmas.{P}
 use Rattle.xc_input.proofs.faulty.faulty_use.Goals as goal
 
 pub returns-in-Err-Fault : goal.returns-in-Err-Fault

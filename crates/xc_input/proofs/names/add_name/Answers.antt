@@ -1,5 +1,5 @@
 use Rattle.std.proofs.Common.{◌∙◌}
-use Rattle.xc_input.proofs.FaultLemmas.{new-key, new-place-is}
+use Rattle.xc_input.proofs.FaultLemmas.Checks.{new-key, new-place-is}
 use Rattle.xc_input.proofs.names.add_name.Goals as goal
 
 pub returns-clause-added : goal.returns-clause-added

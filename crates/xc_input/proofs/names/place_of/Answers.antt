@@ -1,6 +1,6 @@
 use Rattle.std.proofs.Common.{◌∙◌, sym}
 use Rattle.std.specs.Str.{bytes_eq}
-use Rattle.xc_input.proofs.TokenLemmas.{position-map}
+use Rattle.xc_input.proofs.TokenLemmas.Bytes.{position-map}
 use Rattle.xc_input.proofs.names.place_of.Goals as goal
 
 pub returns : goal.returns

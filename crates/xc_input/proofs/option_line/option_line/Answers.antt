@@ -5,8 +5,8 @@ use Rattle.xc_input.specs.declared.problem.Use.{Use}
 use Rattle.xc_input.specs.declared.line_error.LineError.TheVariants.{Fault}
 use Rattle.xc_input.specs.inner.Builders.{AreMarks, items_of, written_of}
 use Rattle.xc_input.specs.inner.Stored.{key_names}
-use Rattle.xc_input.proofs.FaultLemmas.{IsErr-judged, items-length}
-use Rattle.xc_input.proofs.OptionLemmas.{token-stop}
+use Rattle.xc_input.proofs.FaultLemmas.Checks.{IsErr-judged, items-length}
+use Rattle.xc_input.proofs.OptionLemmas.OneToken.{token-stop}
 use Rattle.xc_input.proofs.OptionSteps.{behind_none, behind_few, behind_more, all_added, late_marked}
 use Rattle.xc_input.proofs.lists.Places.{rest_taken}
 use Rattle.xc_input.proofs.option_line.option_line.Goals as goal

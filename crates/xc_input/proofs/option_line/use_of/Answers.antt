@@ -1,8 +1,8 @@
 use Rattle.std.proofs.Common.{◌∙◌, ap, sym, is_some}
-use Rattle.xc_input.proofs.CutTokens.{has-colour, stray, named-at}
-use Rattle.xc_input.proofs.NameLemmas.{stored-name}
-use Rattle.xc_input.proofs.OptionLemmas.{not-here, unknown, repeated, bare, on-primary, misfit, coloured, at-some}
-use Rattle.xc_input.proofs.MarkLemmas.{mark-at}
+use Rattle.xc_input.proofs.TokenLemmas.CutTokens.{has-colour, stray, named-at}
+use Rattle.xc_input.proofs.TokenLemmas.TableNames.{stored-name}
+use Rattle.xc_input.proofs.OptionLemmas.OneToken.{not-here, unknown, repeated, bare, on-primary, misfit, coloured, at-some}
+use Rattle.xc_input.proofs.OptionLemmas.Marks.{mark-at}
 use Rattle.xc_input.proofs.option_line.use_of.Goals as goal
 
 pub returns-then-is_not_here-clause-judged : goal.returns-then-is_not_here-clause-judged

@@ -2,7 +2,7 @@ use Rattle.std.proofs.Common.{◌≡◌, ◌++◌, [], length, arith, sym, ap, �
 use Rattle.std.proofs.lemmas.Bool.Decides.{nat_tests}
 use Rattle.std.proofs.lemmas.List.{nil_from_length}
 use Rattle.xc_input.specs.Words.{has}
-use Rattle.xc_input.proofs.LineLemmas.{ends, lacks-append}
+use Rattle.xc_input.proofs.LineLemmas.TextLines.{ends, lacks-append}
 use Rattle.xc_input.proofs.read.end_line.Goals as goal
 
 pub returns-then-is_empty-clause-ended : goal.returns-then-is_empty-clause-ended

@@ -1,7 +1,7 @@
 use Rattle.std.proofs.Common.{◌≡◌, ◌<◌, length, arith, refl}
 use Rattle.std.proofs.lemmas.Bool.Decides.{nat_tests}
 use Rattle.std.proofs.lemmas.Result.{err_from_is_err_and}
-use Rattle.xc_input.proofs.SourceLemmas.{ends-as, line-ends, no-part, last-part}
+use Rattle.xc_input.proofs.LineLemmas.Sources.{ends-as, line-ends, no-part, last-part}
 use Rattle.xc_input.proofs.read.end_text.Goals as goal
 
 -- behind a line feed

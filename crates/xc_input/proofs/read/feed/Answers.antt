@@ -2,7 +2,7 @@ use Rattle.std.proofs.Common.{◌≡◌, ◌++◌, ◌∷◌, [], sym, ap, ◌�
 use Rattle.std.proofs.lemmas.Grind.{common_steps}
 use Rattle.std.proofs.lemmas.Result.{err_from_is_err_and}
 use Rattle.xc_input.specs.inner.Feeding.{fed, Spoils}
-use Rattle.xc_input.proofs.LineLemmas.{Spoils-more, between-more}
+use Rattle.xc_input.proofs.LineLemmas.TextLines.{Spoils-more, between-more}
 use Rattle.xc_input.proofs.read.feed.Goals as goal
 
 pub returns-in_err-end_line-clause-err : goal.returns-in_err-end_line-clause-err

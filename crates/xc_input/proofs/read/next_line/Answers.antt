@@ -1,6 +1,6 @@
 use Rattle.std.proofs.Common.{◌≡◌, true, false, subst, MatchOption}
 use Rattle.xc_input.specs.Words.{has, after}
-use Rattle.xc_input.proofs.LineLemmas.{line-cut}
+use Rattle.xc_input.proofs.LineLemmas.TextLines.{line-cut}
 use Rattle.xc_input.proofs.read.next_line.Goals as goal
 
 pub returns : goal.returns

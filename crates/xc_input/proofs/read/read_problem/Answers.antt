@@ -2,9 +2,9 @@ use Rattle.std.proofs.Common.{◌≡◌, ◌++◌, ◌∙◌, ◌<◌, take, len
 use Rattle.std.proofs.lemmas.Result.{err_from_is_err_and}
 use Rattle.xc_input.specs.Lines.{lines_of}
 use Rattle.xc_input.specs.inner.Feeding.{fed, Spoils, EndsAs}
-use Rattle.xc_input.proofs.SourceLemmas.{ends-as}
+use Rattle.xc_input.proofs.LineLemmas.Sources.{ends-as}
 use Rattle.xc_input.specs.Pieces.{Gave, GaveAll}
-use Rattle.xc_input.proofs.PieceLemmas.{gave_more, gave_end, whole-last, part-last, part-spoiled, part-failed, open-carry}
+use Rattle.xc_input.proofs.LineLemmas.Pieces.{gave_more, gave_end, whole-last, part-last, part-spoiled, part-failed, open-carry}
 use Rattle.std.proofs.lemmas.Grind.{common_steps}
 use Rattle.xc_input.proofs.read.read_problem.Goals.{After-drop-carry-2}
 use Rattle.xc_input.proofs.read.read_problem.Goals as goal

@@ -1,6 +1,6 @@
 use Rattle.std.proofs.Common.{suc, ◌≡◌, ◌+◌, take, drop, arith, sym, ap, ◌∙◌, refl, true, add-one}
 use Rattle.xc_input.specs.Words.{has, before, after}
-use Rattle.xc_input.proofs.TokenLemmas.{has-all, has-at, not_false, whole}
+use Rattle.xc_input.proofs.TokenLemmas.Bytes.{has-all, has-at, not_false, whole}
 use Rattle.xc_input.proofs.tokens.cut_at.Goals as goal
 
 pub returns-in-None-clause-front : goal.returns-in-None-clause-front

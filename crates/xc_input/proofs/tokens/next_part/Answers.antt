@@ -1,7 +1,7 @@
 use Rattle.std.proofs.Common.{◌≡◌, ◌<◌, length, arith, sym, ap, ◌∙◌, take, drop}
 use Rattle.std.proofs.lemmas.Bool.Decides.{nat_tests}
 use Rattle.xc_input.specs.Tokens.{tokens, split_bars}
-use Rattle.xc_input.proofs.TokenLemmas.{cuts_bar, cuts_part, cut-stands, differs, tokens-drop_white}
+use Rattle.xc_input.proofs.TokenLemmas.Bytes.{cuts_bar, cuts_part, cut-stands, differs, tokens-drop_white}
 use Rattle.std.specs.Prelude.{flat_map}
 use Rattle.std.proofs.lemmas.List.{nil_from_length}
 use Rattle.xc_input.proofs.tokens.next_part.Goals as goal

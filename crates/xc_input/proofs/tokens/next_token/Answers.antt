@@ -3,8 +3,8 @@ use Rattle.std.proofs.lemmas.Bool.Decides.{nat_tests}
 use Rattle.std.proofs.lemmas.List.{nil_from_length, take-append-drop}
 use Rattle.xc_input.specs.Tokens.{tokens}
 use Rattle.xc_input.specs.inner.Stored.{key_names}
-use Rattle.xc_input.proofs.CutTokens.{cut-token}
-use Rattle.xc_input.proofs.TokenLemmas.{cuts_first, tokens-drop_white}
+use Rattle.xc_input.proofs.TokenLemmas.CutTokens.{cut-token}
+use Rattle.xc_input.proofs.TokenLemmas.Bytes.{cuts_first, tokens-drop_white}
 use Rattle.xc_input.proofs.tokens.next_token.Goals as goal
 
 pub returns-then-is_empty : goal.returns-then-is_empty

@@ -2,7 +2,7 @@ use Rattle.std.proofs.Common.{◌≡◌, ◌<◌, length, arith, sym, ap, ◌∙
 use Rattle.std.proofs.lemmas.Bool.Decides.{nat_tests}
 use Rattle.std.proofs.lemmas.List.{nil_from_length}
 use Rattle.xc_input.specs.Tokens.{tokens}
-use Rattle.xc_input.proofs.TokenLemmas.{cuts_first, cut-stands, tokens-drop_white}
+use Rattle.xc_input.proofs.TokenLemmas.Bytes.{cuts_first, cut-stands, tokens-drop_white}
 use Rattle.xc_input.proofs.tokens.next_word.Goals as goal
 
 pub returns-then-is_empty : goal.returns-then-is_empty

@@ -1,6 +1,6 @@
 use Rattle.std.proofs.Common.{arith, ◌≤◌, ◌∙◌, length, map}
 use Rattle.std.specs.Prelude.{vec_len}
-use Rattle.xc_input.proofs.FaultLemmas.{items-length}
+use Rattle.xc_input.proofs.FaultLemmas.Checks.{items-length}
 use Rattle.xc_list.proofs.BelowLemmas.{take_long, no_row, some_left}
 use Rattle.xc_list.proofs.below.read_paths.Goals as goal
 

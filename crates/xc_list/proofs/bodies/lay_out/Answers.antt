@@ -1,6 +1,6 @@
 use Rattle.std.proofs.Common.{arith, ◌≡◌, ◌+◌, ◌∙◌, sym, subst, take, Some}
 use Rattle.std.specs.Prelude.{slice_get}
-use Rattle.xc_input.proofs.FlatParts.{numbered_get-at}
+use Rattle.xc_input.proofs.OptionLemmas.FlatParts.{numbered_get-at}
 use Rattle.xc_dance.proofs.Copied.{take_more-get}
 use Rattle.xc_list.specs.inner.Layout.{AreLaid}
 use Rattle.xc_list.proofs.bodies.lay_out.Goals as goal

@@ -1,6 +1,6 @@
 use Rattle.std.proofs.Common.{rules, arith, ◌≤◌, ◌∙◌, ap, length}
 use Rattle.std.specs.Prelude.{slice_range}
-use Rattle.xc_input.proofs.FaultLemmas.{items-length}
+use Rattle.xc_input.proofs.FaultLemmas.Checks.{items-length}
 use Rattle.xc_list.proofs.OutputLemmas.LaidOptions.{laid-count, laid_part}
 use Rattle.xc_list.proofs.bodies.text_of.Goals as goal
 

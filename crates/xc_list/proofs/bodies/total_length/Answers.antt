@@ -2,7 +2,7 @@ use Rattle.std.proofs.Common.{arith, ◌≡◌, ◌+◌, ◌-◌, ◌^◌, ◌++
 use Rattle.std.specs.Prelude.{slice_get, flat_map}
 use Rattle.std.proofs.lemmas.Grind.{common_steps}
 use Rattle.std.proofs.lemmas.List.Concat.{flat_map-append}
-use Rattle.xc_input.proofs.FlatParts.{numbered_get-at}
+use Rattle.xc_input.proofs.OptionLemmas.FlatParts.{numbered_get-at}
 use Rattle.xc_dance.proofs.Copied.{take_more-get}
 use Rattle.xc_list.specs.inner.Layout.{uses_text}
 use Rattle.xc_list.proofs.bodies.total_length.Goals as goal

@@ -2,7 +2,7 @@ use Rattle.std.proofs.Common.{◌∙◌, ap, ◌+◌, ◌≤◌, sym, refl, arit
 use Rattle.xc_input.specs.declared.problem.Bounds.{Bounds}
 use Rattle.std.proofs.lemmas.List.Elements.{recursion_from_All}
 use Rattle.xc_input.specs.Problem.{IsPrimary}
-use Rattle.xc_input.proofs.FlatParts.{numbered_get-at}
+use Rattle.xc_input.proofs.OptionLemmas.FlatParts.{numbered_get-at}
 use Rattle.xc_input.specs.ItemBounds.{bounds_of}
 use Rattle.xc_search.proofs.room.CountedSums.{counted_more, few_spends}
 use Rattle.xc_search.proofs.counts.count_spends.Goals as goal

@@ -1,7 +1,7 @@
 use Rattle.std.proofs.Common.{◌≡◌, ◌<◌, ◌++◌, length, take, arith, sym, ◌∙◌, subst}
 use Rattle.std.proofs.lemmas.Grind.{common_steps}
 use Rattle.xc_input.specs.Pieces.{Gave}
-use Rattle.xc_input.proofs.PieceLemmas.{gave_more, gave_end}
+use Rattle.xc_input.proofs.LineLemmas.Pieces.{gave_more, gave_end}
 use Rattle.xc_tools.proofs.whole_text.read_text.Goals as goal
 
 pub returns-then-n-eq0-clause-whole : goal.returns-then-n-eq0-clause-whole

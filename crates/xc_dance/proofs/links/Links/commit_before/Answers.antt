@@ -5,10 +5,10 @@ use Rattle.xc_dance.specs.declared.links.nodes.Nodes.{Nodes}
 use Rattle.xc_dance.specs.Commits.{IsUseAt}
 use Rattle.xc_dance.specs.Fields.{layout}
 use Rattle.xc_dance.specs.Linked.{Linked}
-use Rattle.xc_dance.specs.Links.Cells.{nodes_after, top_in, ulink_in, line_of}
-use Rattle.xc_dance.specs.Links.Laid.{IsFit}
-use Rattle.xc_dance.specs.Links.OptionPlaces.{start_at}
-use Rattle.xc_dance.specs.Links.UseNodes.{uses_before}
+use Rattle.xc_dance.specs.inner.Links.Cells.{nodes_after, top_in, ulink_in, line_of}
+use Rattle.xc_dance.specs.inner.Links.Laid.{IsFit}
+use Rattle.xc_dance.specs.inner.Links.OptionPlaces.{start_at}
+use Rattle.xc_dance.specs.inner.Links.UseNodes.{uses_before}
 use Rattle.xc_dance.proofs.LinkedTables.Along.{along_first, before_at, Leads, leads, IsNext, nodes_told, may_commit, Committed, one_committed, whole}
 use Rattle.xc_dance.proofs.LinkedTables.Written.{written_then}
 use Rattle.xc_dance.proofs.links.Links.commit_before.Goals as goal

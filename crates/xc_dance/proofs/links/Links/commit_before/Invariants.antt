@@ -1,8 +1,8 @@
 use Rattle.std.proofs.Common.{ℕ, ◌≡◌, ◌-◌}
 use Rattle.xc_dance.specs.Commits.{IsUseAt}
 use Rattle.xc_dance.specs.Cost.{HasWritten}
-use Rattle.xc_dance.specs.Links.OptionPlaces.{start_at}
-use Rattle.xc_dance.specs.Links.UseNodes.{uses_before}
+use Rattle.xc_dance.specs.inner.Links.OptionPlaces.{start_at}
+use Rattle.xc_dance.specs.inner.Links.UseNodes.{uses_before}
 use Rattle.xc_dance.proofs.LinkedTables.Along.{IsAlong}
 use Rattle.xc_dance.proofs.links.Links.commit_before.Given as goal
 

@@ -4,9 +4,9 @@ use Rattle.xc_dance.specs.declared.links.nodes.Nodes.{Nodes}
 use Rattle.xc_dance.specs.Commits.{IsUseAt}
 use Rattle.xc_dance.specs.Fields.{layout}
 use Rattle.xc_dance.specs.Linked.{Linked}
-use Rattle.xc_dance.specs.Links.Cells.{nodes_after, top_in, line_of}
-use Rattle.xc_dance.specs.Links.Laid.{IsLaid, IsFit}
-use Rattle.xc_dance.specs.Links.UseNodes.{uses_behind}
+use Rattle.xc_dance.specs.inner.Links.Cells.{nodes_after, top_in, line_of}
+use Rattle.xc_dance.specs.inner.Links.Laid.{IsLaid, IsFit}
+use Rattle.xc_dance.specs.inner.Links.UseNodes.{uses_behind}
 use Rattle.xc_dance.proofs.LinkedTables.Along.{along_first, Behind, behind_at, IsNext, top_at, nodes_told, may_commit, Committed, one_committed, whole}
 use Rattle.xc_dance.proofs.LinkedTables.Written.{written_then}
 use Rattle.xc_dance.proofs.links.Links.commit_behind.Goals as goal

@@ -2,7 +2,7 @@ use Rattle.std.proofs.Common.{ℕ, ◌≡◌, ◌+◌, ◌-◌, length}
 use Rattle.xc_dance.specs.Commits.{IsUseAt}
 use Rattle.xc_dance.specs.Cost.{HasWritten}
 use Rattle.xc_dance.specs.Fields.{layout}
-use Rattle.xc_dance.specs.Links.UseNodes.{uses_behind}
+use Rattle.xc_dance.specs.inner.Links.UseNodes.{uses_behind}
 use Rattle.xc_dance.proofs.LinkedTables.Along.{IsAlong}
 use Rattle.xc_dance.proofs.links.Links.commit_behind.Given as goal
 

@@ -1,7 +1,7 @@
 use Rattle.std.proofs.Common.{sym, subst, ap, ◌∙◌}
 use Rattle.xc_dance.specs.Commits.{CanStand, IsUseAt, after_uses}
 use Rattle.xc_dance.specs.Dancing.{Dancing}
-use Rattle.xc_dance.specs.Links.UseNodes.{uses_behind, uses_before}
+use Rattle.xc_dance.specs.inner.Links.UseNodes.{uses_behind, uses_before}
 use Rattle.xc_dance.proofs.MoveLemmas.Commits.{stood_before, after_uses-append}
 use Rattle.xc_dance.proofs.LinkedTables.Written.{written_then}
 use Rattle.xc_dance.proofs.links.LinksDance.commit.Goals as goal

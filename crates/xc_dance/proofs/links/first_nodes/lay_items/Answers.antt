@@ -1,7 +1,7 @@
 use Rattle.std.proofs.Common.{arith, ◌<◌, ◌∙◌, ap, sym, subst, length}
 use Rattle.xc_dance.specs.declared.links.nodes.Row.{Row}
-use Rattle.xc_dance.specs.Links.Columns.{Laying}
-use Rattle.xc_dance.specs.Links.FirstNodes.{with_row}
+use Rattle.xc_dance.specs.inner.Links.Columns.{Laying}
+use Rattle.xc_dance.specs.inner.Links.FirstNodes.{with_row}
 use Rattle.xc_dance.proofs.LinkedTables.FirstTables.{laid_room, laid_more, own_row}
 use Rattle.xc_dance.proofs.links.first_nodes.lay_items.Goals as goal
 

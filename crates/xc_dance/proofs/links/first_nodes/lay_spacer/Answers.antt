@@ -2,8 +2,8 @@ use Rattle.std.proofs.Common.{◌<◌, ◌∙◌, ◌+◌, ap, sym, subst, lengt
 use Rattle.std.specs.Prelude.{slice_get}
 use Rattle.xc_dance.specs.Fields.{spacer, layout}
 use Rattle.xc_dance.specs.declared.links.nodes.Row.{Row}
-use Rattle.xc_dance.specs.Links.Columns.{Laying}
-use Rattle.xc_dance.specs.Links.FirstNodes.{with_row}
+use Rattle.xc_dance.specs.inner.Links.Columns.{Laying}
+use Rattle.xc_dance.specs.inner.Links.FirstNodes.{with_row}
 use Rattle.xc_dance.proofs.LinkedTables.PlaceLemmas.{spacer_here}
 use Rattle.xc_dance.proofs.LinkedTables.FirstTables.{laid_room, laid_more, spacer_row}
 use Rattle.xc_dance.proofs.links.first_nodes.lay_spacer.Goals as goal

@@ -3,9 +3,9 @@ use Rattle.std.proofs.lemmas.Option.{slice_get-get_or}
 use Rattle.xc_input.specs.declared.problem.Use.{Use}
 use Rattle.xc_dance.specs.Fields.{used}
 use Rattle.xc_dance.specs.declared.links.nodes.Row.{Row}
-use Rattle.xc_dance.specs.Links.Columns.{Laying}
-use Rattle.xc_dance.specs.Links.FirstNodes.{with_row, laid_to}
-use Rattle.xc_dance.specs.Links.OptionPlaces.{place_at}
+use Rattle.xc_dance.specs.inner.Links.Columns.{Laying}
+use Rattle.xc_dance.specs.inner.Links.FirstNodes.{with_row, laid_to}
+use Rattle.xc_dance.specs.inner.Links.OptionPlaces.{place_at}
 use Rattle.xc_dance.proofs.LinkedTables.PlaceLemmas.{uses_here, use_here, option_fits}
 use Rattle.xc_dance.proofs.LinkedTables.FirstTables.{laid_room, laid_more}
 use Rattle.xc_dance.proofs.links.first_nodes.lay_uses.Goals as goal

@@ -5,9 +5,9 @@ use Rattle.xc_input.specs.declared.problem.Use.{Use}
 use Rattle.xc_input.specs.Problem.{Puzzle, item_count, IsWithinLimits}
 use Rattle.xc_dance.specs.declared.links.nodes.Nodes.{Nodes}
 use Rattle.xc_dance.specs.Fields.{Node, unused, own, spacer, used, layout}
-use Rattle.xc_dance.specs.Links.Laid.{IsFit}
-use Rattle.xc_dance.specs.Links.Cells.{nodes_from, color_in}
-use Rattle.xc_dance.specs.Links.FirstNodes.{entered}
+use Rattle.xc_dance.specs.inner.Links.Laid.{IsFit}
+use Rattle.xc_dance.specs.inner.Links.Cells.{nodes_from, color_in}
+use Rattle.xc_dance.specs.inner.Links.FirstNodes.{entered}
 use Rattle.std.proofs.lemmas.Option.{slice_get-get_or}
 use Rattle.xc_dance.proofs.LinkedTables.EnteredNodes.{lines_of, UseStep, use_step, spacer_step, spacer_top, behind_items, none_entered, all_entered}
 use Rattle.xc_dance.proofs.links.first_nodes.link_uses.Goals as goal

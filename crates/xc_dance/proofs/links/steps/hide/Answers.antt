@@ -1,9 +1,9 @@
 use Rattle.std.proofs.Common.{◌≡◌, ℕ, ◌+◌, ◌<◌, ◌≤◌, List, fold, get_or, ap, sym, subst, arith}
 use Rattle.std.proofs.lemmas.Grind.{common_steps}
 use Rattle.xc_dance.specs.declared.links.nodes.Nodes.{Nodes}
-use Rattle.xc_dance.specs.Links.Columns.{columns}
-use Rattle.xc_dance.specs.Links.Span.{Span}
-use Rattle.xc_dance.specs.Links.Steps.{hidden, hide_cost, hide_costs, CanHide, CanHideAll, CanHideNode, places, span_at, others_of}
+use Rattle.xc_dance.specs.inner.Links.Columns.{columns}
+use Rattle.xc_dance.specs.inner.Links.Span.{Span}
+use Rattle.xc_dance.specs.inner.Links.Steps.{hidden, hide_cost, hide_costs, CanHide, CanHideAll, CanHideNode, places, span_at, others_of}
 use Rattle.xc_dance.proofs.LinkedTables.Walks.{places_none, places_more, CanAll-append, underway, step_can, step_on, steps_end, both_reached, Reached, Tells, tells}
 use Rattle.xc_dance.proofs.links.steps.hide.Goals as goal
 use Rattle.xc_dance.proofs.links.steps.hide.Goals.{After-get_at}

@@ -1,6 +1,6 @@
 use Rattle.std.proofs.Common.{◌≡◌, ◌+◌, ◌-◌, ◌*◌, ◌<◌, ◌≤◌}
-use Rattle.xc_dance.specs.Links.Columns.{columns}
-use Rattle.xc_dance.specs.Links.Steps.{hidden, hide_cost, CanHide, places, span_at}
+use Rattle.xc_dance.specs.inner.Links.Columns.{columns}
+use Rattle.xc_dance.specs.inner.Links.Steps.{hidden, hide_cost, CanHide, places, span_at}
 use Rattle.xc_dance.proofs.LinkedTables.Walks.{Underway}
 use Rattle.xc_dance.proofs.links.steps.hide.Given as goal
 

@@ -2,9 +2,9 @@ use Rattle.std.proofs.Common.{◌≡◌, ℕ, ◌+◌, ◌-◌, ◌<◌, ◌≤�
 use Rattle.std.proofs.lemmas.Grind.{common_steps}
 use Rattle.std.proofs.lemmas.List.{reverse-append}
 use Rattle.xc_dance.specs.declared.links.nodes.Nodes.{Nodes}
-use Rattle.xc_dance.specs.Links.Columns.{columns}
-use Rattle.xc_dance.specs.Links.Span.{Span}
-use Rattle.xc_dance.specs.Links.Steps.{unhidden, hide_cost, unhide_costs, CanUnhide, CanUnhideAll, CanUnhideNode, places, others, others_of, span_at}
+use Rattle.xc_dance.specs.inner.Links.Columns.{columns}
+use Rattle.xc_dance.specs.inner.Links.Span.{Span}
+use Rattle.xc_dance.specs.inner.Links.Steps.{unhidden, hide_cost, unhide_costs, CanUnhide, CanUnhideAll, CanUnhideNode, places, others, others_of, span_at}
 use Rattle.xc_dance.proofs.LinkedTables.Walks.{places_none, reverse-places, CanAll-append, underway, step_can, step_on, steps_end, both_reached, Reached, Tells, tells}
 use Rattle.xc_dance.proofs.links.steps.unhide.Goals as goal
 use Rattle.xc_dance.proofs.links.steps.unhide.Goals.{After-get_at}

@@ -1,6 +1,6 @@
 use Rattle.std.proofs.Common.{◌≡◌, ◌+◌, ◌*◌, ◌<◌, ◌≤◌, reverse}
-use Rattle.xc_dance.specs.Links.Columns.{columns}
-use Rattle.xc_dance.specs.Links.Steps.{unhidden, hide_cost, CanUnhide, places, span_at}
+use Rattle.xc_dance.specs.inner.Links.Columns.{columns}
+use Rattle.xc_dance.specs.inner.Links.Steps.{unhidden, hide_cost, CanUnhide, places, span_at}
 use Rattle.xc_dance.proofs.LinkedTables.Walks.{Underway}
 use Rattle.xc_dance.proofs.links.steps.unhide.Given as goal
 

@@ -1,7 +1,7 @@
 use Rattle.std.proofs.Common.{◌≡◌, ◌+◌, ◌*◌, ◌^◌, ◌≤◌}
 use Rattle.xc_dance.specs.declared.links.nodes.Nodes.{Nodes}
-use Rattle.xc_dance.specs.Links.Columns.{columns}
-use Rattle.xc_dance.specs.Links.TweaksBack.{brought_back, bring_back_cost, CanBringBack}
+use Rattle.xc_dance.specs.inner.Links.Columns.{columns}
+use Rattle.xc_dance.specs.inner.Links.TweaksBack.{brought_back, bring_back_cost, CanBringBack}
 use Rattle.xc_dance.proofs.LinkedTables.Walks.{Following}
 use Rattle.xc_dance.proofs.links.tweaks.bring_back.Given as goal
 

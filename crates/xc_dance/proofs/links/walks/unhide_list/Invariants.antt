@@ -1,9 +1,9 @@
 use Rattle.std.proofs.Common.{◌≡◌, false, ◌+◌, ◌*◌, ◌^◌, ◌≤◌}
 use Rattle.std.specs.Prelude.{slice_index}
 use Rattle.xc_dance.specs.declared.links.nodes.Nodes.{Nodes}
-use Rattle.xc_dance.specs.Links.Columns.{values, columns}
-use Rattle.xc_dance.specs.Links.ListWalks.{back_node, back_cost, CanReturn}
-use Rattle.xc_dance.specs.Links.Unmarked.{IsUnmarked}
+use Rattle.xc_dance.specs.inner.Links.Columns.{values, columns}
+use Rattle.xc_dance.specs.inner.Links.ListWalks.{back_node, back_cost, CanReturn}
+use Rattle.xc_dance.specs.inner.Links.Unmarked.{IsUnmarked}
 use Rattle.xc_dance.proofs.LinkedTables.Walks.{Following}
 use Rattle.xc_dance.proofs.links.walks.unhide_list.Given as goal
 

@@ -1,6 +1,6 @@
 use Rattle.std.proofs.Common.{◌≡◌, take}
-use Rattle.xc_dance.specs.Lists.Taking.{numbers_of}
-use Rattle.xc_dance.specs.Lists.Losing.{enlisted}
+use Rattle.xc_dance.specs.inner.Lists.Taking.{numbers_of}
+use Rattle.xc_dance.specs.inner.Lists.Losing.{enlisted}
 use Rattle.xc_dance.proofs.lists.build.enlist.Given as goal
 
 abbrev pub invariant-loop-u : goal.invariant-loop-u

@@ -1,11 +1,11 @@
 use Rattle.std.proofs.Common.{arith, ◌∙◌, ap, length, take, replicate, [], ℕ}
-use Rattle.xc_input.proofs.NumberedOptions.{numbered_from}
+use Rattle.xc_input.proofs.OptionLemmas.NumberedOptions.{numbered_from}
 use Rattle.std.proofs.lemmas.Grind.{common_steps}
 use Rattle.std.specs.Global.{Vec}
 use Rattle.std.proofs.lemmas.List.{length-map, take_more, length-take-le}
 use Rattle.std.proofs.lemmas.List.FromFn.{length-map-range_with_len}
 use Rattle.std.proofs.lemmas.Option.{unwrap_or-slice_get}
-use Rattle.xc_input.proofs.FlatParts.{numbered_get-at}
+use Rattle.xc_input.proofs.OptionLemmas.FlatParts.{numbered_get-at}
 use Rattle.xc_input.specs.Problem.{Numbered, holding, item_count}
 use Rattle.xc_dance.proofs.LiveLists.Filled.{lists_none, lists_more}
 use Rattle.xc_dance.proofs.lists.build.first_lists.Goals as goal

@@ -1,5 +1,5 @@
 use Rattle.std.proofs.Common.{◌≡◌, take}
-use Rattle.xc_dance.specs.Lists.Taking.{numbers_of}
+use Rattle.xc_dance.specs.inner.Lists.Taking.{numbers_of}
 use Rattle.xc_dance.proofs.LiveLists.Filled.{lists_of}
 use Rattle.xc_dance.proofs.lists.build.first_lists.Given as goal
 

@@ -3,8 +3,8 @@ use Rattle.std.proofs.lemmas.Grind.{common_steps}
 use Rattle.std.proofs.lemmas.List.{take_more, take_all}
 use Rattle.xc_input.specs.declared.problem.Use.{Use}
 use Rattle.xc_input.specs.Problem.{item_count}
-use Rattle.xc_dance.specs.Lists.Taking.{list_at}
-use Rattle.xc_dance.specs.Lists.Rising.{Rises}
+use Rattle.xc_dance.specs.inner.Lists.Taking.{list_at}
+use Rattle.xc_dance.specs.inner.Lists.Rising.{Rises}
 use Rattle.xc_dance.proofs.LiveLists.Marks.{same_versions}
 use Rattle.xc_dance.proofs.LiveLists.OptionsLost.{hidden_from, hidden_none, hidden_more, hidden_same, hidden_all, length-hidden_from, lists-hidden_from, list_of}
 use Rattle.xc_dance.proofs.lists.hide.hide.Goals as goal

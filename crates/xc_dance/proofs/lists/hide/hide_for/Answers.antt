@@ -2,10 +2,10 @@ use Rattle.std.proofs.Common.{◌≡◌, arith, ◌∙◌, ap, sym, subst, not, 
 use Rattle.std.proofs.lemmas.Grind.{common_steps}
 use Rattle.xc_dance.specs.declared.dance.Move.{Move}
 use Rattle.xc_input.specs.Problem.{Puzzle}
-use Rattle.xc_dance.specs.Lists.Versions.{Versions}
+use Rattle.xc_dance.specs.inner.Lists.Versions.{Versions}
 use Rattle.xc_dance.specs.Moves.{IsLegal}
-use Rattle.xc_dance.specs.Lists.Taking.{list_at}
-use Rattle.xc_dance.specs.Lists.Losing.{lose, is_kept, AreLists, lists_after}
+use Rattle.xc_dance.specs.inner.Lists.Taking.{list_at}
+use Rattle.xc_dance.specs.inner.Lists.Losing.{lose, is_kept, AreLists, lists_after}
 use Rattle.xc_dance.proofs.LiveLists.Marks.{same_versions}
 use Rattle.xc_dance.proofs.MoveLemmas.Shortened.{lists_hold, list_after, length_numbers, lists_covered, lists_purified}
 use Rattle.xc_dance.proofs.lists.hide.hide_for.Goals as goal

@@ -1,6 +1,6 @@
 use Rattle.std.proofs.Common.{◌≡◌, ◌-◌, take, filter, not}
-use Rattle.xc_dance.specs.Lists.Taking.{list_at}
-use Rattle.xc_dance.specs.Lists.Losing.{lose, is_kept}
+use Rattle.xc_dance.specs.inner.Lists.Taking.{list_at}
+use Rattle.xc_dance.specs.inner.Lists.Losing.{lose, is_kept}
 use Rattle.xc_dance.proofs.lists.hide.hide_options.Given as goal
 
 abbrev pub invariant-loop-at : goal.invariant-loop-at

@@ -10,11 +10,11 @@ use Rattle.xc_input.specs.declared.fault.FaultKind.TheVariants.{TooManyUses}
 use Rattle.xc_input.specs.inner.Builders.{AreMarks, IsBuilder, sheet_of_builder}
 use Rattle.xc_input.specs.inner.Stored.{key_names}
 use Rattle.xc_input.specs.inner.Flat.{pieces}
-use Rattle.xc_input.proofs.FaultLemmas.{IsErr-judged, hands-on, items-length}
-use Rattle.xc_input.proofs.OptionLemmas.{pushed}
-use Rattle.xc_input.proofs.MarkLemmas.{written-back}
-use Rattle.xc_input.proofs.BuilderLemmas.{content-is, uses-length, late-primary, uses-before, colours-before}
-use Rattle.xc_input.proofs.BuilderLemmas.{no-primary, too-long, fits, taken, left-out}
+use Rattle.xc_input.proofs.FaultLemmas.Checks.{IsErr-judged, hands-on, items-length}
+use Rattle.xc_input.proofs.OptionLemmas.OneToken.{pushed}
+use Rattle.xc_input.proofs.OptionLemmas.Marks.{written-back}
+use Rattle.xc_input.proofs.OptionLemmas.Drafts.{content-is, uses-length, late-primary, uses-before, colours-before}
+use Rattle.xc_input.proofs.OptionLemmas.Drafts.{no-primary, too-long, fits, taken, left-out}
 use Rattle.xc_input.proofs.builder.ProblemBuilder.take_option.Goals.{After-option_line, After-has_primary_use}
 use Rattle.xc_input.proofs.builder.ProblemBuilder.take_option.Goals as goal
 

@@ -2,8 +2,8 @@ use Rattle.std.proofs.Common.{subst, sym, ◌<◌, refl, ◌∙◌, map}
 use Rattle.xc_input.specs.inner.Builders.{entry_of, AreNames}
 use Rattle.xc_input.specs.inner.Stored.{key_names}
 use Rattle.xc_input.specs.declared.line_error.LineError.TheVariants.{Fault}
-use Rattle.xc_input.proofs.NameLemmas.{names-more, name-solid}
-use Rattle.xc_input.proofs.FaultLemmas.{IsErr-judged, bad-bound, bad-name, too-many, no-fault, judged-on, grown, OnOk-map, none-is, length-items, items-length}
+use Rattle.xc_input.proofs.TokenLemmas.TableNames.{names-more, name-solid}
+use Rattle.xc_input.proofs.FaultLemmas.Checks.{IsErr-judged, bad-bound, bad-name, too-many, no-fault, judged-on, grown, OnOk-map, none-is, length-items, items-length}
 use Rattle.xc_input.proofs.item_line.ItemLine.add_item.Goals as goal
 
 pub returns-in_err-token-clause-judged : goal.returns-in_err-token-clause-judged

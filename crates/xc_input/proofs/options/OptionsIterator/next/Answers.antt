@@ -1,6 +1,6 @@
 use Rattle.std.proofs.Common.{ℕ, suc, ◌≡◌, ◌+◌, List, ◌∷◌, drop, Some, refl, ap, sym, ◌∙◌, arith}
 use Rattle.xc_input.specs.Problem.{numbered_get}
-use Rattle.xc_input.proofs.FlatParts.{numbered_get-at}
+use Rattle.xc_input.proofs.OptionLemmas.FlatParts.{numbered_get-at}
 use Rattle.xc_input.proofs.lists.Places.{drop_at}
 use Rattle.xc_input.proofs.options.OptionsIterator.next.Goals as goal
 

@@ -2,7 +2,7 @@ use Rattle.std.proofs.Common.{arith, ◌≡◌, ◌+◌, ◌-◌, ap, sym, ◌�
 use Rattle.xc_input.specs.Problem.{numbered_get}
 use Rattle.xc_input.specs.Named.{Named}
 use Rattle.xc_input.specs.inner.Stored.{key_names}
-use Rattle.xc_input.proofs.FlatParts.{numbered_get-at, slice_get-map-some}
+use Rattle.xc_input.proofs.OptionLemmas.FlatParts.{numbered_get-at, slice_get-map-some}
 use Rattle.xc_input.proofs.problem.Problem.colour.Goals as goal
 
 pub returns : goal.returns

@@ -1,7 +1,7 @@
 use Rattle.std.proofs.Common.{ap, ◌∙◌}
 use Rattle.xc_input.specs.inner.Stored.{number_in}
 use Rattle.xc_input.specs.Named.{Named}
-use Rattle.xc_input.proofs.NameLemmas.{number_in-found, number_in-none}
+use Rattle.xc_input.proofs.TokenLemmas.TableNames.{number_in-found, number_in-none}
 use Rattle.xc_input.proofs.problem.Problem.find_colour.Goals as goal
 
 pub returns-clause-value : goal.returns-clause-value

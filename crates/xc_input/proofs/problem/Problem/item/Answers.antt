@@ -3,7 +3,7 @@ use Rattle.xc_input.specs.Problem.{numbered_get, bounds_at, item_count, primary_
 use Rattle.xc_input.specs.ItemBounds.{bounds_of}
 use Rattle.xc_input.specs.inner.Vectors.{IsOptional}
 use Rattle.xc_input.specs.Named.{Named}
-use Rattle.xc_input.proofs.FlatParts.{numbered_get-at, slice_get-map, slice_get-map-take, length-map-take, behind-at}
+use Rattle.xc_input.proofs.OptionLemmas.FlatParts.{numbered_get-at, slice_get-map, slice_get-map-take, length-map-take, behind-at}
 use Rattle.xc_input.proofs.problem.Problem.item.Goals.{After-index}
 use Rattle.xc_input.proofs.problem.Problem.item.Goals as goal
 

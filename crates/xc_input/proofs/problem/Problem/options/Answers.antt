@@ -1,8 +1,8 @@
 use Rattle.std.proofs.Common.{arith, ap}
 use Rattle.xc_input.specs.Problem.{option_count}
 use Rattle.xc_input.specs.Named.{Named}
-use Rattle.xc_input.proofs.FaultLemmas.{items-length}
-use Rattle.xc_input.proofs.FlatParts.{length-pieces}
+use Rattle.xc_input.proofs.FaultLemmas.Checks.{items-length}
+use Rattle.xc_input.proofs.OptionLemmas.FlatParts.{length-pieces}
 use Rattle.xc_input.proofs.problem.Problem.options.Goals as goal
 
 pub overflow_cast-result : goal.overflow_cast-result

@@ -1,7 +1,7 @@
 use Rattle.std.proofs.Common.{arith, length, sum_by, ap}
 use Rattle.xc_input.specs.Named.{Named}
-use Rattle.xc_input.proofs.FaultLemmas.{items-length}
-use Rattle.xc_input.proofs.FlatParts.{all-uses}
+use Rattle.xc_input.proofs.FaultLemmas.Checks.{items-length}
+use Rattle.xc_input.proofs.OptionLemmas.FlatParts.{all-uses}
 use Rattle.xc_input.proofs.problem.Problem.uses.Goals as goal
 
 pub returns-clause-value : goal.returns-clause-value

@@ -1,8 +1,8 @@
 use Rattle.std.proofs.Common.{◌∙◌, sym, subst}
 use Rattle.xc_input.specs.Named.{IsSound}
 use Rattle.xc_input.specs.Text.{StandsFor}
-use Rattle.xc_input.proofs.GrammarLemmas.{not-true, not-false}
-use Rattle.xc_input.proofs.FinishLemmas.{refuses, no-items, unstarted, accepts, alone, is-sound, table-names, primary-within, optional-behind, starts-are}
+use Rattle.xc_input.proofs.GrammarLemmas.NoFault.{not-true, not-false}
+use Rattle.xc_input.proofs.LineLemmas.Finish.{refuses, no-items, unstarted, accepts, alone, is-sound, table-names, primary-within, optional-behind, starts-are}
 use Rattle.xc_input.proofs.reader.Reader.finish.Goals as goal
 
 pub returns-in-Some-clause-refused : goal.returns-in-Some-clause-refused

@@ -3,7 +3,7 @@ use Rattle.xc_input.specs.declared.problem.Bounds.{Bounds}
 use Rattle.std.proofs.lemmas.List.{take_more}
 use Rattle.xc_input.specs.Problem.{IsPrimary}
 use Rattle.xc_input.specs.ItemBounds.{bounds_of}
-use Rattle.xc_input.proofs.FlatParts.{numbered_get-at}
+use Rattle.xc_input.proofs.OptionLemmas.FlatParts.{numbered_get-at}
 use Rattle.xc_list.proofs.CheckLemmas.CountedClasses.{slice_get-at}
 use Rattle.xc_list.proofs.checker.cover_counter.primary_bounds.Goals as goal
 

@@ -1,5 +1,5 @@
 use Rattle.std.proofs.Common.{refl, arith}
-use Rattle.xc_input.proofs.TokenLemmas.{has-all, not_false}
+use Rattle.xc_input.proofs.TokenLemmas.Bytes.{has-all, not_false}
 use Rattle.xc_list.proofs.CheckLemmas.CutLines.{first_cut, none-cut}
 use Rattle.xc_list.proofs.checker.listing_lines.cut_first.Goals as goal
 

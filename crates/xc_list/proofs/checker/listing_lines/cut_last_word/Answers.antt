@@ -1,5 +1,5 @@
 use Rattle.std.proofs.Common.{refl, arith}
-use Rattle.xc_input.proofs.TokenLemmas.{has-all, not_false}
+use Rattle.xc_input.proofs.TokenLemmas.Bytes.{has-all, not_false}
 use Rattle.xc_list.proofs.CheckLemmas.CutLines.{last_cut, last_word, none-cut, one_word}
 use Rattle.xc_list.proofs.checker.listing_lines.cut_last_word.Goals as goal
 

@@ -1,4 +1,4 @@
-use Rattle.xc_input.proofs.LineLemmas.{lines_of-part}
+use Rattle.xc_input.proofs.LineLemmas.TextLines.{lines_of-part}
 use Rattle.xc_list.proofs.CheckLemmas.CutLines.{first_line}
 use Rattle.xc_list.proofs.checker.listing_lines.cut_line.Goals as goal
 

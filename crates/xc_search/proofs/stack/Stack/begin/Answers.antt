@@ -1,7 +1,7 @@
 use Rattle.std.proofs.Common.{◌≡◌, ◌∙◌, ◌-◌, ◌<◌, List, length, reverse, ap, arith}
 use Rattle.std.proofs.lemmas.List.{length-set, length-reverse}
 use Rattle.std.proofs.Math.ListN.{set, get_or}
-use Rattle.xc_input.proofs.FaultLemmas.{items-length}
+use Rattle.xc_input.proofs.FaultLemmas.Checks.{items-length}
 use Rattle.xc_search.specs.declared.level.Level.{Level}
 use Rattle.xc_input.proofs.lists.LastChanged.{newest_changed, first_changed}
 use Rattle.xc_search.specs.inner.Levels.{begun_level, Levels}

@@ -5,7 +5,7 @@ use Rattle.xc_dance.specs.Moves.{is_open}
 use Rattle.xc_dance.proofs.MoveLemmas.StateLemmas.{state_at, open_by_state, closed_state, is_open_state}
 use Rattle.xc_dance.proofs.lists.trail.Trail.is_open.Goals as goal
 use Rattle.xc_dance.proofs.lists.trail.Trail.is_open.Goals.{After-index}
-use Rattle.xc_dance.specs.Lists.States.{state_of}
+use Rattle.xc_dance.specs.inner.Lists.States.{state_of}
 
 state : (c : After-index) → state_of c.args.item (reverse c.self.inside.moves.items) ≡ c.index.result.now
 state c = grind (arith, common_steps, state_at)

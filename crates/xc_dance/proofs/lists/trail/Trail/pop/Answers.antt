@@ -8,7 +8,7 @@ use Rattle.xc_dance.specs.declared.dance.Move.{Move}
 use Rattle.xc_dance.specs.declared.dance.Move.TheVariants.{Cover, Purify}
 use Rattle.xc_dance.specs.declared.lists.item_states.ItemState.TheVariants.{Open}
 use Rattle.xc_dance.specs.Moves.{AreLegal}
-use Rattle.xc_dance.specs.Lists.States.{AreStates, AreLeft}
+use Rattle.xc_dance.specs.inner.Lists.States.{AreStates, AreLeft}
 use Rattle.xc_dance.proofs.MoveLemmas.StateLemmas.{set_state, open_state, high_within}
 use Rattle.xc_dance.proofs.lists.trail.Trail.pop.Goals as goal
 use Rattle.xc_dance.specs.declared.lists.item_states.ItemState.{ItemState}

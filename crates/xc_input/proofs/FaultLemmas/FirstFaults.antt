@@ -1,0 +1,365 @@
+-- The first fault of a text is the first one of its lines as they are read, one after another.
+use Rattle.std.proofs.Common.{◌≡◌, ℕ, ◌+◌, List, [], ◌∷◌, ◌++◌, Option, None, Some, Bool, true, false, ◌||◌, ◌&&◌, cond, not, nat_le, nat_lt, is_some, length, map, filter, sum_by, refl, ap, ◌∙◌, sym, subst, arith, if◌then◌else◌, append_assoc, append-nil, inl, inr}
+use Rattle.std.proofs.lemmas.Grind.{common_steps}
+use Rattle.std.proofs.lemmas.List.{map-append}
+use Rattle.std.proofs.lemmas.List.Elements.{filter-append}
+use Rattle.std.proofs.lemmas.List.Folds.{list_any-append}
+use Rattle.std.proofs.lemmas.List.Sums.{sum_by-append}
+use Rattle.std.specs.List.{list_any, list_all, before_first}
+use Rattle.std.specs.Option.{option_map, option_or}
+use Rattle.xc_input.specs.declared.kind.Kind.{Kind}
+use Rattle.xc_input.specs.declared.fault.FaultKind.{FaultKind}
+use Rattle.xc_input.specs.declared.fault.FaultKind.TheVariants.{NulByte, NoItems, TwoBars, TooManyUses}
+use Rattle.xc_input.specs.declared.problem.Use.{Use}
+use Rattle.xc_input.specs.Problem.{use_count}
+use Rattle.xc_input.specs.Limits.{most_uses}
+use Rattle.xc_input.specs.Words.{has}
+use Rattle.xc_input.specs.Tokens.{tokens, parts, is_bar, is_skipped}
+use Rattle.xc_input.specs.Sheets.{Entry}
+use Rattle.xc_input.specs.inner.Sheets.{Sheet, names_of, with_uses}
+use Rattle.xc_input.proofs.GrammarLemmas.SheetGrammar.{named_of}
+use Rattle.xc_input.specs.Faults.{first, checks_of_each, name_of, item_checks, item_names, part_checks, Context, context_of, item_of, token_checks, has_primary}
+use Rattle.xc_input.specs.FirstFault.{line_number, content, is_kept, kept_uses, option_checks, content_checks, line_checks, line_fault, first_fault}
+use Rattle.xc_input.specs.inner.ColourNumbers.{numbered}
+use Rattle.xc_input.specs.inner.Stages.{entry, row_checks, with_part, row_of, no_row, context, written, Stage, no_stage, with_line, stage_from, stage_of}
+use Rattle.xc_input.specs.inner.Stages.{part_checks as row_part_checks, option_checks as tokens_checks, content_checks as stage_content, line_checks as stage_checks}
+use Rattle.xc_input.specs.Named.{Named}
+use Rattle.xc_input.specs.Text.{StandsFor}
+use Rattle.xc_input.proofs.GrammarLemmas.Standing.{read-stands, stands-read}
+use Rattle.xc_input.proofs.ValidLemmas.SheetValidity.{IsSheetOf}
+use Rattle.xc_input.proofs.FaultLemmas.Checks.{names_of-snoc, map-snoc, map-length}
+use Rattle.xc_input.proofs.OptionLemmas.Items.{ItemsBehind, behind-items}
+use Rattle.xc_input.proofs.GrammarLemmas.LawLemmas.{fault_from, end_fault, fault_or, R, S, P, at-bar, at-word, row-good, clear, lineuses, skips, keeps, drops, count-next, item-line, no-line, lines-good, good-lines}
+
+-- NUMBERED CHECKS
+first-numbered : {N A : Type 0} (n : N) (cs : List (A × Bool)) (rest : List ((N × A) × Bool))
+    → first (map (λ c. ((n, c.0), c.1)) cs ++ rest) ≡ option_or (option_map (λ k. (n, k)) (first cs)) (first rest)
+first-numbered n [] rest = refl
+first-numbered n (c ∷ cs) rest =
+    let P : Bool → Type 0 = λ t. (if t then Some (n, c.0) else first (map (λ d. ((n, d.0), d.1)) cs ++ rest))
+    ≡ option_or (option_map (λ k. (n, k)) (if t then Some c.0 else first cs)) (first rest) in
+    let h : P c.1 = (elim c.1 as P [ true ↦ refl | false ↦ first-numbered n cs rest ]) in h
+
+-- the checks of a line, behind lines with this content
+abbrev checks_of : Kind → List (List ℕ) → List ℕ → List (FaultKind × Bool)
+checks_of kind done line = (NulByte, has 0 line) ∷ (if is_skipped line then [] else content_checks kind done line)
+
+abbrev fault_behind : Kind → List (List ℕ) → List (List ℕ) → Option (ℕ × FaultKind)
+fault_behind kind before lines = first (checks_of_each (line_checks kind) before lines)
+
+unroll : (kind : Kind) (before : List (List ℕ)) (line : List ℕ) (lines : List (List ℕ))
+    → fault_behind kind before (line ∷ lines) ≡ fault_or (length before + 1)
+    (first (checks_of kind (content before) line)) (fault_behind kind (before ++ line ∷ []) lines)
+unroll kind before line lines = first-numbered (line_number (length before + 1))
+    (checks_of kind (content before) line) (checks_of_each (line_checks kind) (before ++ line ∷ []) lines)
+
+-- AN OPTION LINE
+pub tokens-checked : (c : Context) (before ts : List (List ℕ)) → tokens_checks c (map (item_of c) before) ts
+    ≡ checks_of_each (token_checks c) before ts
+tokens-checked c before [] = refl
+tokens-checked c before (t ∷ ts) =
+    ap (λ rest. token_checks c before t ++ rest) (ap (λ seen. tokens_checks c seen ts)
+    (sym (map-snoc (item_of c) before t)) ∙ tokens-checked c (before ++ t ∷ []) ts)
+
+kept-is : (kind : Kind) (names : List (List ℕ)) (primaries : ℕ) (ts : List (List ℕ))
+    → has_primary primaries (map (written names) ts) ≡ list_any
+    (λ t. nat_le (item_of (context kind names primaries) t) primaries) ts
+kept-is kind names primaries [] = refl
+kept-is kind names primaries (t ∷ ts) = ap (λ b. nat_le (item_of (context kind names primaries) t) primaries || b)
+    (kept-is kind names primaries ts)
+
+-- THE ITEM LINE
+pub names-snoc : (kind : Kind) (before : List (List ℕ)) (p : List ℕ) (t : Bool) → is_bar p ≡ t
+    → item_names kind (before ++ p ∷ []) ≡ item_names kind before ++ (if t then [] else name_of kind p ∷ [])
+names-snoc kind before p t f =
+    ap (map (name_of kind)) (filter-append (λ q. not (is_bar q)) before (p ∷ []))
+    ∙ map-append (name_of kind) (filter (λ q. not (is_bar q)) before) (filter (λ q. not (is_bar q)) (p ∷ []))
+    ∙ ap (λ ns. item_names kind before ++ ns) (ap (λ b. map (name_of kind) (cond (not b) (p ∷ []) [])) f ∙ one t)
+  where
+    one : (b : Bool) → map (name_of kind) (cond (not b) (p ∷ []) []) ≡ (if b then [] else name_of kind p ∷ [])
+    one true = refl
+    one false = refl
+
+pub barred-snoc : (before : List (List ℕ)) (p : List ℕ) (t : Bool) → is_bar p ≡ t
+    → list_any is_bar (before ++ p ∷ []) ≡ (list_any is_bar before || t)
+barred-snoc before p t f = list_any-append is_bar before (p ∷ []) ∙ ap (λ b. list_any is_bar before || (b || false)) f
+    ∙ ap (λ b. list_any is_bar before || b) (same t)
+  where
+    same : (b : Bool) → (b || false) ≡ b
+    same true = refl
+    same false = refl
+
+pub or-true : (b : Bool) → true ≡ (b || true)
+or-true true = refl
+or-true false = refl
+
+pub or-same : (b : Bool) → b ≡ (b || false)
+or-same true = refl
+or-same false = refl
+
+pub parts-checked : (kind : Kind) (entries : List Entry) (bar : Option ℕ) (before ps : List (List ℕ))
+    → names_of entries ≡ item_names kind before → is_some bar ≡ list_any is_bar before
+    → row_checks kind (R entries bar) ps ≡ checks_of_each (part_checks kind) before ps
+parts-checked kind entries bar before [] hn hb = refl
+parts-checked kind entries bar before (p ∷ ps) hn hb =
+    let now : row_part_checks kind (R entries bar) p ≡ part_checks kind before p =
+    λ i. if is_bar p then (TwoBars, hb i) ∷ [] else item_checks kind (hn i) (hb i) p in
+    let Q : Bool → Type 0 = λ t. is_bar p ≡ t → row_checks kind (with_part kind (R entries bar) p) ps
+    ≡ checks_of_each (part_checks kind) (before ++ p ∷ []) ps in
+    let h : Q (is_bar p) = (elim (is_bar p) as Q [
+      | true ↦ λ f. ap (λ row. row_checks kind row ps) (at-bar kind entries bar p f).1
+          ∙ parts-checked kind entries (Some (length entries)) (before ++ p ∷ []) ps (hn
+          ∙ sym (append-nil (item_names kind before)) ∙ sym (names-snoc kind before p true f))
+          (or-true (list_any is_bar before) ∙ sym (barred-snoc before p true f))
+      | false ↦ λ f. ap (λ row. row_checks kind row ps) (at-word kind entries bar p f).1
+          ∙ parts-checked kind (entries ++ entry kind (is_some bar) p ∷ []) bar (before ++ p ∷ []) ps
+          (names_of-snoc entries (entry kind (is_some bar) p) ∙ ap (λ ns. ns ++ name_of kind p ∷ []) hn
+          ∙ sym (names-snoc kind before p false f)) (hb ∙ or-same (list_any is_bar before)
+          ∙ sym (barred-snoc before p false f))
+    ]) in
+    (λ i. now i ++ h refl i)
+
+row-names : (kind : Kind) (entries : List Entry) (bar : Option ℕ) (before ps : List (List ℕ))
+    → names_of entries ≡ item_names kind before
+    → names_of (row_of kind (R entries bar) ps).entries ≡ item_names kind (before ++ ps)
+row-names kind entries bar before [] hn = hn ∙ ap (item_names kind) (sym (append-nil before))
+row-names kind entries bar before (p ∷ ps) hn =
+    let Q : Bool → Type 0 = λ t. is_bar p ≡ t → names_of (row_of kind (with_part kind (R entries bar) p) ps).entries
+    ≡ item_names kind ((before ++ p ∷ []) ++ ps) in
+    let h : Q (is_bar p) = (elim (is_bar p) as Q [
+      | true ↦ λ f. ap (λ row. names_of (row_of kind row ps).entries) (at-bar kind entries bar p f).1
+          ∙ row-names kind entries (Some (length entries)) (before ++ p ∷ []) ps (hn
+          ∙ sym (append-nil (item_names kind before)) ∙ sym (names-snoc kind before p true f))
+      | false ↦ λ f. ap (λ row. names_of (row_of kind row ps).entries) (at-word kind entries bar p f).1
+          ∙ row-names kind (entries ++ entry kind (is_some bar) p ∷ []) bar (before ++ p ∷ []) ps
+          (names_of-snoc entries (entry kind (is_some bar) p) ∙ ap (λ ns. ns ++ name_of kind p ∷ []) hn
+          ∙ sym (names-snoc kind before p false f))
+    ]) in
+    h refl ∙ ap (item_names kind) (append_assoc before (p ∷ []) ps)
+
+-- what an item line without a fault says
+pub context-is : (kind : Kind) (ps : List (List ℕ)) → first (row_checks kind no_row ps) ≡ None
+    → context_of kind ps ≡ context kind (names_of (row_of kind no_row ps).entries) (P (row_of kind no_row ps))
+context-is kind ps e =
+    let row = row_of kind no_row ps in
+    let g = row-good kind [] None ps e in
+    let items = behind-items kind ps (row_of kind no_row ps).entries (P (row_of kind no_row ps))
+    (subst (λ es. ItemsBehind kind [] None ps es (P (row_of kind no_row ps))) (sym g.1) g.2) in
+    λ i. context kind (sym (row-names kind [] None [] ps refl) i) (sym items.count i)
+
+-- CONTENT
+length-snoc : {A : Type 0} (n : ℕ) (xs : List A) (x : A) → n ≡ length xs → n + 1 ≡ length (xs ++ x ∷ [])
+length-snoc n xs x h = grind (arith, common_steps, h)
+
+content-snoc : (before : List (List ℕ)) (line : List ℕ) (t : Bool) → is_skipped line ≡ t
+    → content (before ++ line ∷ []) ≡ content before ++ cond (not t) (line ∷ []) []
+content-snoc before line t f = filter-append (λ l. not (is_skipped l)) before (line ∷ [])
+    ∙ ap (λ b. content before ++ cond (not b) (line ∷ []) []) f
+
+content-same : (before : List (List ℕ)) (line : List ℕ) (done : List (List ℕ)) → is_skipped line ≡ true
+    → content before ≡ done → content (before ++ line ∷ []) ≡ done
+content-same before line done f h = content-snoc before line true f ∙ append-nil (content before) ∙ h
+
+content-more : (before : List (List ℕ)) (line : List ℕ) (done : List (List ℕ)) → is_skipped line ≡ false
+    → content before ≡ done → content (before ++ line ∷ []) ≡ done ++ line ∷ []
+content-more before line done f h = content-snoc before line false f ∙ ap (λ ls. ls ++ line ∷ []) h
+
+uses-snoc : (c : Context) (os : List (List ℕ)) (line : List ℕ) (t : Bool) → is_kept c line ≡ t
+    → kept_uses c (os ++ line ∷ []) ≡ kept_uses c os + (if t then length (tokens line) else 0)
+uses-snoc c os line t f =
+    let split = ap (sum_uses) (filter-append (is_kept c) os (line ∷ [])
+    ∙ ap (λ b. filter (is_kept c) os ++ cond b (line ∷ []) []) f) in
+    split ∙ sum_by-append (λ l. length (tokens l)) (filter (is_kept c) os) (cond t (line ∷ []) [])
+    ∙ ap (λ n. kept_uses c os + n) (one t)
+  where
+    sum_uses : List (List ℕ) → ℕ
+    sum_uses ls = sum_by (λ l. length (tokens l)) ls
+
+    one : (b : Bool) → sum_by (λ l. length (tokens l)) (cond b (line ∷ []) []) ≡ (if b then length (tokens line) else 0)
+    one true = omega arith
+    one false = refl
+
+-- THE LINES BEHIND THE ITEM LINE
+module _ (kind : Kind) (entries : List Entry) (primaries : ℕ) (items : List ℕ)
+    (said : context_of kind (parts items) ≡ context kind (names_of entries) primaries) where
+  abbrev c : Context
+  c = context kind (names_of entries) primaries
+
+  checks-are : (options : List (List Use)) (colours : List (List ℕ)) (ignored : List ℕ) (os : List (List ℕ))
+      (line : List ℕ) → use_count options ≡ kept_uses c os
+      → stage_content kind (S entries primaries options colours ignored) line ≡ content_checks kind (items ∷ os) line
+  checks-are options colours ignored os line u =
+      let here : stage_content kind (S entries primaries options colours ignored) line ≡ option_checks c os line =
+      λ i. tokens-checked c [] (tokens line) i ++ (
+        TooManyUses,
+        kept-is kind (names_of entries) primaries (tokens line) i && nat_lt most_uses
+            (u i + length (tokens line)),
+      ) ∷ [] in
+      here ∙ ap (λ d. option_checks d os line) (sym said)
+
+  rest-is : (n : ℕ) (before lines os : List (List ℕ)) (options : List (List Use)) (colours : List (List ℕ))
+      (ignored : List ℕ) → n ≡ length before → content before ≡ items ∷ os → use_count options ≡ kept_uses c os
+      → fault_from kind n (S entries primaries options colours ignored) lines ≡ fault_behind kind before lines
+  rest-is n before [] os options colours ignored hn hb u = refl
+  rest-is n before (line ∷ lines) os options colours ignored hn hb u =
+      let same : first (stage_checks kind (S entries primaries options colours ignored) line)
+      ≡ first (checks_of kind (content before) line) =
+      ap (λ cs. first ((NulByte, has 0 line) ∷ (if is_skipped line then [] else cs)))
+      (checks-are options colours ignored os line u ∙ ap (λ d. content_checks kind d line) (sym hb)) in
+      let Next : Type 0 = fault_from kind (n + 1) (with_line kind (line_number (n + 1))
+      (S entries primaries options colours ignored) line) lines ≡ fault_behind kind (before ++ line ∷ []) lines in
+      let K : Bool → Type 0 = λ t. is_skipped line ≡ false → has_primary primaries
+      (lineuses kind entries primaries line) ≡ t → Next in
+      let kept : K (has_primary primaries (lineuses kind entries primaries line)) =
+      (elim (has_primary primaries (lineuses kind entries primaries line)) as K [
+        | true ↦ λ f g. ap (λ st. fault_from kind (n + 1) st lines)
+            (keeps kind entries primaries (line_number (n + 1)) options colours ignored line f g)
+            ∙ rest-is (n + 1) (before ++ line ∷ []) lines (os ++ line ∷ [])
+            (options ++ numbered colours (lineuses kind entries primaries line) ∷ [])
+            (with_uses colours (lineuses kind entries primaries line)) ignored
+            (length-snoc n before line hn) (content-more before line (items ∷ os) f hb)
+            (count-next kind entries primaries options colours line
+            ∙ (λ i. u i + map-length (written (names_of entries)) (tokens line) i)
+            ∙ sym (uses-snoc c os line true (sym (kept-is kind (names_of entries) primaries (tokens line)) ∙ g)))
+        | false ↦ λ f g. ap (λ st. fault_from kind (n + 1) st lines)
+            (drops kind entries primaries (line_number (n + 1)) options colours ignored line f g)
+            ∙ rest-is (n + 1) (before ++ line ∷ []) lines (os ++ line ∷ []) options colours
+            (ignored ++ line_number (n + 1) ∷ [])
+            (length-snoc n before line hn) (content-more before line (items ∷ os) f hb)
+            (u ∙ omega (
+              arith,
+              uses-snoc c os line false (sym
+                  (kept-is kind (names_of entries) primaries (tokens line)) ∙ g),
+            ))
+      ]) in
+      let Q : Bool → Type 0 = λ t. is_skipped line ≡ t → Next in
+      let next : Q (is_skipped line) = (elim (is_skipped line) as Q [
+        | true ↦ λ f. ap (λ st. fault_from kind (n + 1) st lines)
+            (skips kind entries primaries (line_number (n + 1)) options colours ignored line f)
+            ∙ rest-is (n + 1) (before ++ line ∷ []) lines os options colours ignored (length-snoc n before line hn)
+            (content-same before line (items ∷ os) f hb) u
+        | false ↦ λ f. kept f refl
+      ]) in
+      (λ i. fault_or (hn i + 1) (same i) (next refl i)) ∙ sym (unroll kind before line lines)
+
+-- the item line stays read
+module _ (kind : Kind) (entries : List Entry) (primaries : ℕ) where
+  stays-started : (n : ℕ) (lines : List (List ℕ)) (options : List (List Use)) (colours : List (List ℕ))
+      (ignored : List ℕ) → (stage_from kind n (S entries primaries options colours ignored) lines).started ≡ true
+  stays-started n [] options colours ignored = refl
+  stays-started n (line ∷ lines) options colours ignored =
+      let Next : Type 0 = (stage_from kind (n + 1) (with_line kind (line_number (n + 1))
+      (S entries primaries options colours ignored) line) lines).started ≡ true in
+      let K : Bool → Type 0 = λ t. is_skipped line ≡ false → has_primary primaries
+      (lineuses kind entries primaries line) ≡ t → Next in
+      let kept : K (has_primary primaries (lineuses kind entries primaries line)) =
+      (elim (has_primary primaries (lineuses kind entries primaries line)) as K [
+        | true ↦ λ f g. ap (λ st. (stage_from kind (n + 1) st lines).started)
+            (keeps kind entries primaries (line_number (n + 1)) options colours ignored line f g)
+            ∙ stays-started (n + 1) lines (options ++ numbered colours (lineuses kind entries primaries line) ∷ [])
+            (with_uses colours (lineuses kind entries primaries line)) ignored
+        | false ↦ λ f g. ap (λ st. (stage_from kind (n + 1) st lines).started)
+            (drops kind entries primaries (line_number (n + 1)) options colours ignored line f g)
+            ∙ stays-started (n + 1) lines options colours (ignored ++ line_number (n + 1) ∷ [])
+      ]) in
+      let Q : Bool → Type 0 = λ t. is_skipped line ≡ t → Next in
+      let next : Q (is_skipped line) = (elim (is_skipped line) as Q [
+        | true ↦ λ f. ap (λ st. (stage_from kind (n + 1) st lines).started)
+            (skips kind entries primaries (line_number (n + 1)) options colours ignored line f)
+            ∙ stays-started (n + 1) lines options colours ignored
+        | false ↦ λ f. kept f refl
+      ]) in next refl
+
+-- ALL LINES
+fault_or-same : (n : ℕ) (k : Option FaultKind) (a b : Option (ℕ × FaultKind)) → (k ≡ None → a ≡ b)
+    → fault_or n k a ≡ fault_or n k b
+fault_or-same n None a b h = h refl
+fault_or-same n (Some k) a b h = refl
+
+start-is : (kind : Kind) (n : ℕ) (before lines : List (List ℕ)) → n ≡ length before → content before ≡ []
+    → fault_from kind n no_stage lines ≡ fault_behind kind before lines
+start-is kind n before [] hn hb = refl
+start-is kind n before (line ∷ lines) hn hb =
+    let same : first (stage_checks kind no_stage line) ≡ first (checks_of kind (content before) line) =
+    ap (λ cs. first ((NulByte, has 0 line) ∷ (if is_skipped line then [] else cs)))
+    (parts-checked kind [] None [] (parts line) refl refl ∙ ap (λ d. content_checks kind d line) (sym hb)) in
+    let Next : Type 0 = fault_from kind (n + 1) (with_line kind (line_number (n + 1)) no_stage line) lines
+    ≡ fault_behind kind (before ++ line ∷ []) lines in
+    let next : first (stage_checks kind no_stage line) ≡ None → Next = λ e.
+    elim (clear kind no_stage line e).1 as (λ x. Next) [
+      | inl f ↦ ap (λ st. fault_from kind (n + 1) st lines) (no-line kind (line_number (n + 1)) line f)
+          ∙ start-is kind (n + 1) (before ++ line ∷ []) lines (length-snoc n before line hn)
+          (content-same before line [] f hb)
+      | inr h ↦ ap (λ st. fault_from kind (n + 1) st lines) (item-line kind (line_number (n + 1)) line h.0)
+          ∙ rest-is kind (row_of kind no_row (parts line)).entries (P (row_of kind no_row (parts line))) line
+          (context-is kind (parts line) h.1) (n + 1) (before ++ line ∷ []) lines [] [] [] []
+          (length-snoc n before line hn)
+          (content-more before line [] h.0 hb) refl
+    ] in
+    fault_or-same (n + 1) (first (stage_checks kind no_stage line)) _ _ next
+    ∙ (λ i. fault_or (hn i + 1) (same i) (fault_behind kind (before ++ line ∷ []) lines))
+    ∙ sym (unroll kind before line lines)
+
+pub line_fault-is : (kind : Kind) (lines : List (List ℕ)) → line_fault kind lines ≡ fault_from kind 0 no_stage lines
+line_fault-is kind lines = sym (start-is kind 0 [] lines refl refl)
+
+started-is : (kind : Kind) (n : ℕ) (lines : List (List ℕ)) → (stage_from kind n no_stage lines).started
+    ≡ not (list_all is_skipped lines)
+started-is kind n [] = refl
+started-is kind n (line ∷ lines) =
+    let Q : Bool → Type 0 = λ t. is_skipped line ≡ t → (stage_from kind (n + 1)
+    (with_line kind (line_number (n + 1)) no_stage line) lines).started ≡ not (t && list_all is_skipped lines) in
+    let h : Q (is_skipped line) = (elim (is_skipped line) as Q [
+      | true ↦ λ f. ap (λ st. (stage_from kind (n + 1) st lines).started) (no-line kind (line_number (n + 1)) line f)
+          ∙ started-is kind (n + 1) lines
+      | false ↦ λ f. ap (λ st. (stage_from kind (n + 1) st lines).started) (item-line kind (line_number (n + 1)) line f)
+          ∙ stays-started kind (row_of kind no_row (parts line)).entries (P (row_of kind no_row (parts line)))
+          (n + 1) lines [] [] []
+    ]) in h refl
+
+-- the fault of a whole text is that of its lines, or that the item line isn't there
+pub first_fault-is : (kind : Kind) (lines : List (List ℕ)) → first_fault kind lines
+    ≡ option_or (fault_from kind 0 no_stage lines) (end_fault (length lines) (stage_of kind lines).started)
+first_fault-is kind lines =
+    let last : (b : Bool) → (if b then Some (line_number (length lines + 1), NoItems) else None)
+    ≡ end_fault (length lines) (not b) = λ b. elim b as (λ t.
+    (if t then Some (line_number (length lines + 1), NoItems) else None)
+    ≡ end_fault (length lines) (not t)) [ true ↦ refl | false ↦ refl ] in
+    λ i. option_or (line_fault-is kind lines i) ((last (list_all is_skipped lines)
+    ∙ ap (end_fault (length lines)) (sym (started-is kind 0 lines))) i)
+
+end-none : (n : ℕ) (b : Bool) → end_fault n b ≡ None → b ≡ true
+end-none n true e = refl
+end-none n false e = absurd (cc)
+
+or-none : (o p : Option (ℕ × FaultKind)) → option_or o p ≡ None → (o ≡ None) × (p ≡ None)
+or-none None p e = (refl, e)
+or-none (Some q) p e = absurd (cc)
+
+-- a text with no fault stands for what its lines give
+pub stands : (kind : Kind) (lines : List (List ℕ)) → first_fault kind lines ≡ None
+    → IsSheetOf kind lines (stage_of kind lines).sheet (stage_of kind lines).ignored
+stands kind lines e =
+    let a = or-none (fault_from kind 0 no_stage lines) (end_fault (length lines) (stage_of kind lines).started)
+    (sym (first_fault-is kind lines) ∙ e) in
+    lines-good kind 0 lines a.0 (end-none (length lines) (stage_of kind lines).started a.1)
+
+pub faultless-stands : (kind : Kind) (lines : List (List ℕ)) → first_fault kind lines ≡ None
+    → StandsFor kind lines (named_of (stage_of kind lines).sheet) (stage_of kind lines).ignored
+faultless-stands kind lines e =
+    read-stands kind lines (named_of (stage_of kind lines).sheet) (stage_of kind lines).ignored
+    ((stage_of kind lines).sheet, refl, stands kind lines e)
+
+-- a text that stands for a problem has no fault, and this is what its lines give
+pub stands-only : (kind : Kind) (lines : List (List ℕ)) (named : Named) (ignored : List ℕ)
+    → StandsFor kind lines named ignored
+    → (first_fault kind lines ≡ None) × (named ≡ named_of (stage_of kind lines).sheet)
+    × (ignored ≡ (stage_of kind lines).ignored)
+stands-only kind lines named ignored h =
+    let r = stands-read kind lines named ignored h in
+    let g = good-lines kind 0 lines r.0 ignored r.2 in (
+      first_fault-is kind lines ∙ ap (λ o. option_or o (end_fault (length lines) (stage_of kind lines).started)) g.0
+          ∙ ap (end_fault (length lines)) (ap (λ (st : Stage). st.started) g.1),
+      r.1 ∙ ap (λ (st : Stage). named_of st.sheet) (sym g.1),
+      sym (ap (λ (st : Stage). st.ignored) g.1),
+    )

@@ -1,0 +1,96 @@
+-- The answer at the end of a text.
+use Rattle.std.proofs.Common.{◌≡◌, ◌≢◌, ◌≤◌, ◌+◌, ◌-◌, ◌^◌, min, ℕ, List, Option, None, Some, Bool, true, false, length, map, drop, All, refl, ap, ◌∙◌, sym, subst, arith, MatchOption}
+use Rattle.std.proofs.lemmas.List.{length-map}
+use Rattle.xc_input.specs.declared.kind.Kind.{Kind}
+use Rattle.xc_input.specs.declared.fault.InputError.{InputError}
+use Rattle.xc_input.specs.declared.fault.InputError.TheVariants.{Fault, Device, Memory}
+use Rattle.xc_input.specs.declared.builder.ProblemBuilder.{ProblemBuilder}
+use Rattle.xc_input.proofs.GrammarLemmas.SheetGrammar.{named_of}
+use Rattle.xc_input.specs.FirstFault.{line_number, first_fault}
+use Rattle.xc_input.specs.declared.fault.FaultKind.TheVariants.{NoItems}
+use Rattle.xc_input.specs.inner.Stages.{Stage, stage_of}
+use Rattle.xc_input.proofs.ValidLemmas.SheetValidity.{IsSheetOf}
+use Rattle.xc_input.specs.Text.{StandsFor}
+use Rattle.xc_input.specs.Named.{Named, IsSound}
+use Rattle.xc_input.specs.inner.Vectors.{named_from, IsOptional, AreOptionStarts}
+use Rattle.xc_input.specs.inner.Stored.{key_names}
+use Rattle.xc_input.specs.inner.Flat.{pieces}
+use Rattle.xc_input.specs.inner.Builders.{IsBuilder, stage_of_builder, sheet_of_builder, entry_of}
+use Rattle.xc_input.specs.inner.EndedLines.{AreWhole}
+use Rattle.xc_input.specs.Readings.{Reading, IsStateOf}
+use Rattle.xc_input.specs.inner.Feeding.{IsEndOf}
+use Rattle.xc_input.proofs.LineLemmas.Reading.{ends-at, end-is}
+use Rattle.xc_input.proofs.ValidLemmas.SoundSheets.{sheet-sound, primaries-within, item-names, named-is, behind-bounds}
+use Rattle.xc_input.proofs.ValidLemmas.ValidTexts.{valid}
+use Rattle.xc_input.proofs.GrammarLemmas.LawLemmas.{end_fault}
+use Rattle.xc_input.proofs.FaultLemmas.FirstFaults.{stands, stands-only}
+use Rattle.xc_input.proofs.GrammarLemmas.Standing.{read-stands}
+
+pub refutes : (kind : Kind) (lines : List (List ℕ)) (e : InputError) → IsEndOf kind lines e → e ≢ Memory → (p : Named) (ig : List ℕ) → StandsFor kind lines p ig → ⊥
+refutes kind lines (Fault n k) h f p ig s = let g : first_fault kind lines ≡ None =
+    (stands-only kind lines p ig s).0 in absurd (cc)
+refutes kind lines Device h f p ig s = absurd h
+refutes kind lines Memory h f p ig s = absurd (f refl)
+
+-- the problem that a draft holds
+abbrev pub named_by : ProblemBuilder → Named
+named_by d = named_from d.items.items d.primary d.uses.items d.starts.items d.colours.keys
+
+by-builder : (d : ProblemBuilder) → named_of (sheet_of_builder d) ≡ named_by d
+by-builder d = named-is d.items.items d.primary (pieces d.starts.items d.uses.items) (key_names d.colours.keys)
+
+module _ (v : Reading) (kind : Kind) (lines : List (List ℕ)) (o : Option InputError) (is : v ≡ record { kind = kind; lines = lines; error = o }) (h : IsStateOf kind lines o) where
+  pub refuses : (e : InputError) → o ≡ Some e → e ≢ Memory → (p : Named) (ig : List ℕ) → StandsFor v.kind v.lines p ig → ⊥
+  refuses e f w p ig s = refutes kind lines e (ends-at kind lines o e f h) w p ig (subst (λ (r : Reading). StandsFor r.kind r.lines p ig) is s)
+
+  module _ (f : o ≡ None) (d : ProblemBuilder) (m : MatchOption o (IsBuilder d × (stage_of_builder d ≡ stage_of kind lines)) (λ _. Unit {0})) where
+    whole : IsBuilder d × (stage_of_builder d ≡ stage_of kind lines)
+    whole = subst (λ q. MatchOption q (IsBuilder d × (stage_of_builder d ≡ stage_of kind lines)) (λ _. Unit {0})) f m
+
+    ended : (b : Bool) → d.started ≡ b → first_fault kind lines ≡ end_fault (length lines) b
+    ended b g = end-is kind lines b o f h (sym g ∙ ap (λ (st : Stage). st.started) whole.1)
+
+    pub no-items : d.started ≡ false → (count next : ℕ) → count ≡ line_number (length lines)
+        → next ≡ min (count + 1) (2 ^ 64 - 1) → first_fault v.kind v.lines ≡ Some (next, NoItems)
+    no-items g count next c s =
+        let e : line_number (length lines + 1) ≡ next = omega (arith, c, s) in
+        ap (λ (r : Reading). first_fault r.kind r.lines) is ∙ ended false g ∙ ap (λ m. Some (m, NoItems)) e
+
+    pub unstarted : d.started ≡ false → (p : Named) (ig : List ℕ) → StandsFor v.kind v.lines p ig → ⊥
+    unstarted g p ig s =
+        let a : first_fault kind lines ≡ end_fault (length lines) false = ended false g in
+        let t : StandsFor kind lines p ig = subst (λ (r : Reading). StandsFor r.kind r.lines p ig) is s in
+        let b : first_fault kind lines ≡ None = (stands-only kind lines p ig t).0 in absurd (cc)
+
+    written : d.started ≡ true → IsSheetOf kind lines (sheet_of_builder d) d.ignored.items
+    written g = subst (λ (st : Stage). IsSheetOf kind lines st.sheet st.ignored) (sym whole.1) (stands kind lines (ended true g))
+
+    pub accepts : d.started ≡ true → StandsFor v.kind v.lines (named_by d) d.ignored.items
+    accepts g = subst (λ (r : Reading). StandsFor r.kind r.lines (named_by d) d.ignored.items) (sym is)
+        (read-stands kind lines (named_by d) d.ignored.items (sheet_of_builder d, sym (by-builder d), written g))
+
+    pub alone : (p : Named) (ig : List ℕ) → StandsFor v.kind v.lines p ig → (p ≡ named_by d) × (ig ≡ d.ignored.items)
+    alone p ig s =
+        let t : StandsFor kind lines p ig = subst (λ (r : Reading). StandsFor r.kind r.lines p ig) is s in
+        let q = stands-only kind lines p ig t in (
+          q.1 ∙ ap named_of (ap (λ (st : Stage). st.sheet) (sym whole.1)) ∙ by-builder d,
+          q.2
+              ∙ ap (λ (st : Stage). st.ignored) (sym whole.1),
+        )
+
+    pub table-names : key_names d.names.keys ≡ map (λ x. x.name.items) d.items.items
+    table-names = whole.0.names ∙ item-names d.items.items
+
+    pub primary-within : d.started ≡ true → d.primary ≤ length d.items.items
+    primary-within g = omega (arith, primaries-within kind lines (sheet_of_builder d) d.ignored.items (written g), length-map d.items.items entry_of)
+
+    pub optional-behind : d.started ≡ true → All IsOptional (drop d.primary d.items.items)
+    optional-behind g = behind-bounds d.primary d.items.items (valid kind lines (sheet_of_builder d) d.ignored.items (written g)).bounds
+
+    pub starts-are : d.started ≡ true → AreOptionStarts d.starts.items d.uses.items
+    starts-are g = whole.0.starts g
+
+    pub is-sound : AreWhole lines → d.started ≡ true → IsSound (named_by d)
+    is-sound w g =
+        let few : length (key_names d.colours.keys) ≤ 10000000 = omega (arith, whole.0.few_colours, whole.0.few_uses) in
+        subst IsSound (by-builder d) (sheet-sound kind lines (sheet_of_builder d) d.ignored.items (written g) w few)

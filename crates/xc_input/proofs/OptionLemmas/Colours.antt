@@ -1,0 +1,146 @@
+-- A colour keeps the number that it has where it is met first.
+use Rattle.std.proofs.Common.{◌≡◌, ℕ, suc, ◌+◌, ◌<◌, ◌≤◌, List, [], ◌∷◌, ◌++◌, Option, None, Some, Bool, true, false}
+use Rattle.std.proofs.Common.{◌||◌, not, nat_lt, is_none, unwrap_or, length, map, take, append-nil, append_assoc, refl}
+use Rattle.std.proofs.Common.{sym, ap, subst, ◌∙◌, length-append, arith, if◌then◌else◌}
+use Rattle.xc_input.specs.declared.problem.Use.{Use}
+use Rattle.std.proofs.lemmas.Bool.Decides.{nat_tests}
+use Rattle.std.proofs.lemmas.Slice.Eq.{bytes_eq-Decides}
+use Rattle.std.proofs.Math.Seq.{take-append_seam}
+use Rattle.std.specs.List.{list_any, position, position_or_len}
+use Rattle.std.specs.Str.{bytes_eq}
+use Rattle.xc_input.specs.Words.{place}
+use Rattle.xc_input.specs.Sheets.{Written, with_colour, colour_number}
+use Rattle.xc_input.specs.inner.Sheets.{with_uses}
+use Rattle.xc_input.specs.inner.Builders.{items_of}
+use Rattle.xc_input.specs.inner.ColourNumbers.{numbered, use_behind}
+use Rattle.xc_input.proofs.FaultLemmas.Checks.{no-place, some-is}
+
+last-or-len : {A : Type 0} (p : A → Bool) (xs : List A) (x : A) → list_any p xs ≡ false → p x ≡ true → position_or_len p (xs ++ x ∷ []) ≡ length xs
+last-or-len p [] x e f = ap (λ t. if not t then 1 + 0 else 0) f
+last-or-len p (y ∷ ys) x e f =
+    let P : Bool → Type 0 = λ t. (t || list_any p ys) ≡ false → (if not t then 1 + position_or_len p (ys ++ x ∷ []) else 0) ≡ suc (length ys) in
+    let h : P (p y) = (elim (p y) as P [ true ↦ λ g. absurd (cc) | false ↦ λ g. let r : position_or_len p (ys ++ x ∷ []) ≡ length ys = last-or-len p ys x g f in omega arith ]) in h e
+
+pub last-position : {A : Type 0} (p : A → Bool) (xs : List A) (x : A) → position p xs ≡ None → p x ≡ true → position p (xs ++ x ∷ []) ≡ Some (length xs)
+last-position p xs x e f =
+    let at : position_or_len p (xs ++ x ∷ []) ≡ length xs = last-or-len p xs x (no-place p xs e) f in
+    let all : length (xs ++ x ∷ []) ≡ length xs + 1 = length-append xs (x ∷ []) in
+    let t : nat_lt (position_or_len p (xs ++ x ∷ [])) (length (xs ++ x ∷ [])) ≡ true = grind (arith, nat_tests) in
+    ap (λ b. if b then Some (position_or_len p (xs ++ x ∷ [])) else None) t ∙ ap Some at
+
+-- a place stays where more stands behind
+or-len-stays : {A : Type 0} (p : A → Bool) (xs ys : List A) → position_or_len p xs < length xs → position_or_len p (xs ++ ys) ≡ position_or_len p xs
+or-len-stays p [] ys h = absurd (omega (arith, h))
+or-len-stays p (x ∷ xs) ys h =
+    let P : Bool → Type 0 = λ t. (if not t then 1 + position_or_len p xs else 0) < suc (length xs) → (if not t then 1 + position_or_len p (xs ++ ys) else 0) ≡ (if not t then 1 + position_or_len p xs else 0) in
+    let g : P (p x) = (elim (p x) as P [ true ↦ λ h. refl | false ↦ λ h. ap (λ k. 1 + k) (or-len-stays p xs ys (omega (arith, h))) ]) in g h
+
+found : {A : Type 0} (p : A → Bool) (xs : List A) (i : ℕ) → position p xs ≡ Some i → (i < length xs) × (position_or_len p xs ≡ i)
+found p xs i e =
+    let P : Bool → Type 0 = λ t. nat_lt (position_or_len p xs) (length xs) ≡ t → (if t then Some (position_or_len p xs) else None) ≡ Some i → (i < length xs) × (position_or_len p xs ≡ i) in
+    let h : P (nat_lt (position_or_len p xs) (length xs)) = (elim (nat_lt (position_or_len p xs) (length xs)) as P [
+      | true ↦ λ f g. let z : position_or_len p xs ≡ i = cc in let l : position_or_len p xs < length xs = grind (arith, nat_tests) in (subst (λ n. n < length xs) z l, z)
+      | false ↦ λ f g. absurd (cc)
+    ]) in h refl e
+
+position-stays : {A : Type 0} (p : A → Bool) (xs ys : List A) (i : ℕ) → position p xs ≡ Some i → position p (xs ++ ys) ≡ Some i
+position-stays p xs ys i e =
+    let g = found p xs i e in
+    let k : position_or_len p (xs ++ ys) ≡ i = or-len-stays p xs ys (subst (λ n. n < length xs) (sym g.1) g.0) ∙ g.1 in
+    let l : position_or_len p (xs ++ ys) < length (xs ++ ys) = omega (arith, k, length-append xs ys, g.0) in
+    let t : nat_lt (position_or_len p (xs ++ ys)) (length (xs ++ ys)) ≡ true = grind (arith, nat_tests) in
+    ap (λ b. if b then Some (position_or_len p (xs ++ ys)) else None) t ∙ ap Some k
+
+-- a colour is none, or stands here
+abbrev pub Knows : List (List ℕ) → List ℕ → Type 0
+Knows cs [] = Unit {0}
+Knows cs (b ∷ bs) = (i : ℕ) × (place cs (b ∷ bs) ≡ Some i)
+
+none-is : {A : Type 0} (o : Option A) → is_none o ≡ true → o ≡ None
+none-is None e = refl
+none-is (Some x) e = absurd (cc)
+
+pub met : (cs : List (List ℕ)) (c : List ℕ) → Knows (with_colour cs c) c
+met cs [] = tt
+met cs (b ∷ bs) =
+    let P : Bool → Type 0 = λ t. is_none (place cs (b ∷ bs)) ≡ t → (i : ℕ) × (place (if t then cs ++ (b ∷ bs) ∷ [] else cs) (b ∷ bs) ≡ Some i) in
+    let h : P (is_none (place cs (b ∷ bs))) = (elim (is_none (place cs (b ∷ bs))) as P [
+      | true ↦ λ f. (length cs, last-position (bytes_eq (b ∷ bs)) cs (b ∷ bs) (none-is (place cs (b ∷ bs)) f) ((bytes_eq-Decides (b ∷ bs) (b ∷ bs)).1 refl))
+      | false ↦ λ f. some-is (place cs (b ∷ bs)) f
+    ]) in h refl
+
+knows-more : (cs : List (List ℕ)) (d c : List ℕ) → Knows cs c → Knows (with_colour cs d) c × (colour_number (with_colour cs d) c ≡ colour_number cs c)
+knows-more cs [] c k = (k, refl)
+knows-more cs (b ∷ bs) [] k = (tt, refl)
+knows-more cs (b ∷ bs) (x ∷ xs) k =
+    let P : Bool → Type 0 = λ t. ((i : ℕ) × (place (if t then cs ++ (b ∷ bs) ∷ [] else cs) (x ∷ xs) ≡ Some i))
+    × (unwrap_or (place (if t then cs ++ (b ∷ bs) ∷ [] else cs) (x ∷ xs)) 0 + 1 ≡ unwrap_or (place cs (x ∷ xs)) 0 + 1) in
+    let stays : place (cs ++ (b ∷ bs) ∷ []) (x ∷ xs) ≡ Some k.0 = position-stays (bytes_eq (x ∷ xs)) cs ((b ∷ bs) ∷ []) k.0 k.1 in
+    let h : P (is_none (place cs (b ∷ bs))) = (elim (is_none (place cs (b ∷ bs))) as P [
+      | true ↦ ((k.0, stays), ap (λ o. unwrap_or o 0 + 1) (stays ∙ sym k.1))
+      | false ↦ (k, refl)
+    ]) in h
+
+pub kept : (cs : List (List ℕ)) (us : List Written) (c : List ℕ) → Knows cs c
+    → colour_number (with_uses cs us) c ≡ colour_number cs c
+kept cs [] c k = refl
+kept cs (u ∷ us) c k = let m = knows-more cs u.colour c k in kept (with_colour cs u.colour) us c m.0 ∙ m.1
+
+-- uses of an option that is kept, each numbered as soon as it is met, behind options that used these colours
+abbrev pub numbered_in_turn : List (List ℕ) → List Written → List Use
+numbered_in_turn colours [] = []
+numbered_in_turn colours (u ∷ us) = use_behind colours u ∷ numbered_in_turn (with_colour colours u.colour) us
+
+pub in_turn : (cs : List (List ℕ)) (us : List Written) → numbered_in_turn cs us ≡ numbered cs us
+in_turn cs [] = refl
+in_turn cs (u ∷ us) =
+    let same = kept (with_colour cs u.colour) us u.colour (met cs u.colour) in
+    let later = in_turn (with_colour cs u.colour) us in
+    λ i. record { item = u.item; colour = sym same i } ∷ later i
+
+-- one use more
+pub in_turn_more : (cs : List (List ℕ)) (us : List Written) (u : Written)
+    → numbered_in_turn cs (us ++ u ∷ []) ≡ numbered_in_turn cs us ++ use_behind (with_uses cs us) u ∷ []
+in_turn_more cs [] u = refl
+in_turn_more cs (v ∷ us) u = ap (λ more. use_behind cs v ∷ more) (in_turn_more (with_colour cs v.colour) us u)
+
+pub with_more : (cs : List (List ℕ)) (us : List Written) (u : Written)
+    → with_uses cs (us ++ u ∷ []) ≡ with_colour (with_uses cs us) u.colour
+with_more cs [] u = refl
+with_more cs (v ∷ us) u = with_more (with_colour cs v.colour) us u
+
+-- as many as there were, with the same items
+pub in_turn_count : (cs : List (List ℕ)) (us : List Written) → length (numbered_in_turn cs us) ≡ length us
+in_turn_count cs [] = refl
+in_turn_count cs (u ∷ us) = ap suc (in_turn_count (with_colour cs u.colour) us)
+
+pub in_turn_items : (cs : List (List ℕ)) (us : List Written) → map (λ u. u.item) (numbered_in_turn cs us) ≡ items_of us
+in_turn_items cs [] = refl
+in_turn_items cs (u ∷ us) = ap (λ is. u.item ∷ is) (in_turn_items (with_colour cs u.colour) us)
+
+-- at most one colour more
+pub colours_more : (cs : List (List ℕ)) (c : List ℕ) → length (with_colour cs c) ≤ length cs + 1
+colours_more cs [] = omega arith
+colours_more cs (b ∷ bs) =
+    let P : Bool → Type 0 = λ t. length (if t then cs ++ (b ∷ bs) ∷ [] else cs) ≤ length cs + 1 in
+    (elim (is_none (place cs (b ∷ bs))) as P [
+      | true ↦ omega (arith, length-append cs ((b ∷ bs) ∷ []))
+      | false ↦ omega arith
+    ])
+
+-- the colours that were met stand first
+pub first_met : (cs : List (List ℕ)) (us : List Written) → take (length cs) (with_uses cs us) ≡ cs
+first_met cs us = let m = more us cs in ap (take (length cs)) m.1 ∙ take-append_seam cs m.0
+  where
+    new_or_not : (cs : List (List ℕ)) (c : List ℕ) → (d : List (List ℕ)) × (with_colour cs c ≡ cs ++ d)
+    new_or_not cs [] = ([], sym (append-nil cs))
+    new_or_not cs (b ∷ bs) =
+        let P : Bool → Type 0 = λ t. (d : List (List ℕ)) × ((if t then cs ++ (b ∷ bs) ∷ [] else cs) ≡ cs ++ d) in
+        (elim (is_none (place cs (b ∷ bs))) as P [ true ↦ ((b ∷ bs) ∷ [], refl) | false ↦ ([], sym (append-nil cs)) ])
+
+    more : (us : List Written) (cs : List (List ℕ)) → (d : List (List ℕ)) × (with_uses cs us ≡ cs ++ d)
+    more [] cs = ([], sym (append-nil cs))
+    more (u ∷ us) cs =
+        let first = new_or_not cs u.colour in
+        let others = more us (with_colour cs u.colour) in
+        (first.0 ++ others.0, others.1 ∙ ap (λ ds. ds ++ others.0) first.1 ∙ append_assoc cs first.0 others.0)

@@ -1,0 +1,88 @@
+-- Marks at the items of a line.
+use Rattle.std.proofs.Common.{◌≡◌, ◌≢◌, ℕ, zero, suc, ◌+◌, ◌-◌, ◌<◌, ◌≤◌, List, [], ◌∷◌, ◌++◌, Bool, true, false}
+use Rattle.std.proofs.Common.{true≢false, ◌||◌, nat_eq, length, map, get_or, set, take, drop, All, refl, ap, ◌∙◌, sym}
+use Rattle.std.proofs.Common.{subst, arith, length-set, Option, None, Some, position, IfSome}
+use Rattle.std.proofs.lemmas.Bool.Decides.{nat_tests}
+use Rattle.std.proofs.Math.Bool.{or-true, or-false}
+use Rattle.std.proofs.lemmas.Grind.{get_or-set_at}
+use Rattle.std.proofs.lemmas.List.{get_or-set_other}
+use Rattle.std.proofs.lemmas.List.Elements.{All-push}
+use Rattle.std.proofs.lemmas.List.Folds.{list_any-append}
+use Rattle.std.specs.List.{list_any}
+use Rattle.std.specs.Str.{bytes_eq}
+use Rattle.xc_input.proofs.ValidLemmas.ValidTexts.{in-range}
+use Rattle.xc_input.specs.declared.problem.Use.{Use}
+use Rattle.xc_input.specs.Sheets.{Written}
+use Rattle.xc_input.specs.inner.Builders.{AreMarks, IsMarkable, items_of}
+use Rattle.xc_input.proofs.FaultLemmas.Checks.{map-snoc}
+
+-- one item more
+pub mark : (marks : List Bool) (seen : List ℕ) (i : ℕ) → AreMarks marks seen → 1 ≤ i → i ≤ length marks → AreMarks (set marks (i - 1) true) (seen ++ i ∷ [])
+mark marks seen i are low high = λ k within.
+    let all : length (set marks (i - 1) true) ≡ length marks = length-set marks (i - 1) true in
+    let split : list_any (λ j. nat_eq j (k + 1)) (seen ++ i ∷ []) ≡ (list_any (λ j. nat_eq j (k + 1)) seen || (nat_eq i (k + 1) || false)) = list_any-append (λ j. nat_eq j (k + 1)) seen (i ∷ []) in
+    let P : Bool → Type 0 = λ t. nat_eq i (k + 1) ≡ t → get_or (set marks (i - 1) true) k false ≡ (list_any (λ j. nat_eq j (k + 1)) seen || (t || false)) in
+    let h : P (nat_eq i (k + 1)) = (elim (nat_eq i (k + 1)) as P [
+      | true ↦ λ e. let here : i ≡ k + 1 = grind (arith, nat_tests) in get_or-set_at marks (i - 1) k true false (omega (arith, here)) (omega (arith, low, high)) ∙ sym (or-true (list_any (λ j. nat_eq j (k + 1)) seen))
+      | false ↦ λ e. let there : i ≢ k + 1 = grind (arith, nat_tests) in
+          get_or-set_other marks (i - 1) k true false (λ same. there (omega (arith, same, low))) ∙ are k (omega (arith, within, all)) ∙ sym (or-false (list_any (λ j. nat_eq j (k + 1)) seen))
+    ]) in h refl ∙ sym split
+
+-- the item of one use more
+pub mark-more : (marks : List Bool) (us : List Written) (u : Written) → AreMarks marks (items_of us)
+    → IsMarkable (length marks) u.item → AreMarks (set marks (u.item - 1) true) (items_of (us ++ u ∷ []))
+mark-more marks us u are within =
+    subst (AreMarks (set marks (u.item - 1) true)) (sym (map-snoc (λ (w : Written). w.item) us u))
+    (mark marks (items_of us) u.item are within.0 within.1)
+
+pub markable-more : (marks : List Bool) (uses : List Use) (u : Use) → All (λ w. IsMarkable (length marks) w.item) uses
+    → IsMarkable (length marks) u.item
+    → All (λ w. IsMarkable (length (set marks (u.item - 1) true)) w.item) (uses ++ u ∷ [])
+markable-more marks uses u all within =
+    subst (λ n. All (λ (w : Use). IsMarkable n w.item) (uses ++ u ∷ [])) (sym (length-set marks (u.item - 1) true))
+    (All-push (λ (w : Use). IsMarkable (length marks) w.item) uses u all within)
+
+-- only items of these uses are marked
+abbrev pub AreAmong : List Bool → List Use → Type 0
+AreAmong marks uses = (k : ℕ) → k < length marks → get_or marks k false ≡ true
+    → list_any (λ i. nat_eq i (k + 1)) (map (λ u. u.item) uses) ≡ true
+
+-- how many are not marked
+abbrev pub unmarked_count : List Bool → ℕ
+unmarked_count [] = 0
+unmarked_count (true ∷ marks) = unmarked_count marks
+unmarked_count (false ∷ marks) = suc (unmarked_count marks)
+
+pub unmarked-few : (marks : List Bool) → unmarked_count marks ≤ length marks
+unmarked-few [] = omega arith
+unmarked-few (true ∷ marks) = omega (arith, unmarked-few marks)
+unmarked-few (false ∷ marks) = omega (arith, unmarked-few marks)
+
+-- a mark more is an unmarked one less
+pub unmarked-less : (marks : List Bool) (k : ℕ) → k < length marks → get_or marks k false ≡ false
+    → suc (unmarked_count (set marks k true)) ≡ unmarked_count marks
+unmarked-less [] k within e = absurd (omega (arith, within))
+unmarked-less (false ∷ marks) zero within e = refl
+unmarked-less (true ∷ marks) zero within e = absurd (true≢false e)
+unmarked-less (true ∷ marks) (suc k) within e = unmarked-less marks k (omega (arith, within)) e
+unmarked-less (false ∷ marks) (suc k) within e = ap suc (unmarked-less marks k (omega (arith, within)) e)
+
+-- the mark of the item at this place
+pub mark-at : (marks : List Bool) (names : List (List ℕ)) (name : List ℕ) (seen : List ℕ) (place : ℕ) → AreMarks marks seen → length marks ≡ length names → position (bytes_eq name) names ≡ Some place
+    → get_or marks place false ≡ list_any (λ i. nat_eq i (place + 1)) seen
+mark-at marks names name seen place are count e =
+    let within : place < length names = in-range (bytes_eq name) names place e in are place (omega (arith, within, count))
+
+-- a place among as many names as marks is that of a mark
+pub place-marked : (marks : List Bool) (names : List (List ℕ)) (name : List ℕ) (at : Option ℕ) → length marks ≡ length names → at ≡ position (bytes_eq name) names → IfSome at (λ k. k < length marks)
+place-marked marks names name None count e = tt
+place-marked marks names name (Some k) count e = let within : k < length names = in-range (bytes_eq name) names k (sym e) in omega (arith, within, count)
+
+written : (new old : List Bool) → length new ≡ length old → take (length new) (new ++ drop (length new) old) ≡ new
+written [] old e = refl
+written (x ∷ new) [] e = absurd (omega (arith, e))
+written (x ∷ new) (y ∷ old) e = ap (λ ms. x ∷ ms) (written new old (omega (arith, e)))
+
+-- marks that were written through a slice
+pub written-back : (n : ℕ) (new old : List Bool) → length new ≡ length old → n ≡ length old → take n (new ++ drop (length new) old) ≡ new
+written-back n new old e f = ap (λ m. take m (new ++ drop (length new) old)) (f ∙ sym e) ∙ written new old e

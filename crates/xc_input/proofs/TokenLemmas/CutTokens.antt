@@ -1,0 +1,104 @@
+-- A token that begins with a known name is cut behind the name.
+use Rattle.std.proofs.Common.{◌≡◌, ℕ, ◌-◌, ◌<◌, List, [], ◌∷◌, ◌++◌, Option, None, Some, Bool, true, false, length, get_or, take, drop, refl, ap, ap₂, ◌∙◌, sym, subst, arith, if◌then◌else◌, MatchOption, Bor, is_some, ◌&&◌}
+use Rattle.std.proofs.lemmas.List.{append-nil, take_all}
+use Rattle.std.specs.List.{list_any}
+use Rattle.xc_input.specs.Words.{has, before, after, place}
+use Rattle.xc_input.specs.Tokens.{is_space, tokens}
+use Rattle.xc_input.specs.declared.kind.Kind.{Kind}
+use Rattle.xc_input.specs.declared.tokens.Token.{Token}
+use Rattle.xc_input.specs.Faults.{is_plain}
+use Rattle.xc_input.specs.inner.Fronts.{drop_white, word, AtWhite}
+use Rattle.xc_input.specs.inner.CutTokens.{IsCutToken, IsCutBehind}
+use Rattle.xc_input.specs.inner.Builders.{AreNames}
+use Rattle.xc_input.proofs.GrammarLemmas.NoFault.{or-false, no-cut, cut-at}
+use Rattle.xc_input.proofs.TokenLemmas.TableNames.{stored-name, stored-solid}
+use Rattle.xc_input.proofs.OptionLemmas.OneToken.{at-none, at-some}
+use Rattle.xc_input.proofs.TokenLemmas.Bytes.{behind, cuts_first, take-word, drop-word}
+
+-- bytes without white space at the front of a text are the front of its first word
+word-onto : (xs ys : List ℕ) → list_any is_space xs ≡ false → word (xs ++ ys) ≡ xs ++ word ys
+word-onto [] ys h = refl
+word-onto (x ∷ xs) ys h =
+    let apart = or-false (is_space x) (list_any is_space xs) h in
+    ap (λ t. if t then [] else x ∷ word (xs ++ ys)) apart.0 ∙ ap (λ zs. x ∷ zs) (word-onto xs ys apart.1)
+
+behind-onto : (xs ys : List ℕ) → list_any is_space xs ≡ false → behind (xs ++ ys) ≡ behind ys
+behind-onto [] ys h = refl
+behind-onto (x ∷ xs) ys h =
+    let apart = or-false (is_space x) (list_any is_space xs) h in
+    ap (λ t. if t then x ∷ xs ++ ys else behind (xs ++ ys)) apart.0 ∙ behind-onto xs ys apart.1
+
+at-white : (ys : List ℕ) → AtWhite ys → (word ys ≡ []) × (behind ys ≡ ys)
+at-white [] w = (refl, refl)
+at-white (b ∷ bs) w = (ap (λ t. if t then [] else b ∷ word bs) w, ap (λ t. if t then b ∷ bs else behind bs) w)
+
+-- the first token of a line, by its text
+first-token : (line rest text others : List ℕ) → rest ≡ drop_white line → 0 < length rest → word rest ≡ text → behind rest ≡ others → (tokens line ≡ text ∷ tokens others) × (length others < length line)
+first-token line rest text others e some w b = cuts_first line rest text others e some (sym w ∙ sym (take-word rest)) (sym b ∙ sym (drop-word rest))
+
+pub cut-token : (names : List (List ℕ)) (line rest name back others : List ℕ) (k : ℕ) (t : Token) → AreNames names → rest ≡ drop_white line → 0 < length rest → rest ≡ name ++ back
+    → place names name ≡ Some k → t.name.now ≡ name → t.place ≡ Some k → IsCutBehind back t others
+    → (text : List ℕ) × (tokens line ≡ text ∷ tokens others) × (length others < length line) × IsCutToken names text t
+cut-token names line rest name back others k t all e some whole at is stands cut = by_colour t.colour refl
+  where
+    solid : list_any is_space name ≡ false
+    solid = stored-solid names name k all at
+
+    plain : has 58 name ≡ false
+    plain = (stored-name names name k all.named at).no_colon
+
+    by_colour : (c : Option (Bor (List ℕ))) → t.colour ≡ c → (text : List ℕ) × (tokens line ≡ text ∷ tokens others) × (length others < length line) × IsCutToken names text t
+    by_colour None none =
+        let m = at-none t.colour _ _ none cut in
+        let white = at-white back m.0 in
+        let first = first-token line rest name others e some
+        (ap word whole ∙ word-onto name back solid ∙ ap (λ ys. name ++ ys) white.0 ∙ append-nil name)
+        (ap behind whole ∙ behind-onto name back solid ∙ white.1 ∙ sym m.1) in
+        let own : before 58 name ≡ name = no-cut 58 name plain in (
+          name,
+          first.0,
+          first.1,
+          record {
+            name = is ∙ sym own;
+            place = stands ∙ sym at ∙ ap (place names) (sym own);
+            colour = subst (λ q. MatchOption q (has 58 name ≡ false) (λ c. (has 58 name ≡ true) × (c.now ≡ after 58 name))) (sym none) plain;
+          },
+        )
+    by_colour (Some c) here =
+        let m = at-some t.colour c _ _ here cut in
+        let more : List ℕ = m.0 in
+        let text : List ℕ = name ++ 58 ∷ word more in
+        let whole' : rest ≡ name ++ 58 ∷ more = whole ∙ ap (λ ys. name ++ ys) m.1 in
+        let first = first-token line rest text others e some
+        (ap word whole' ∙ word-onto name (58 ∷ more) solid)
+        (ap behind whole' ∙ behind-onto name (58 ∷ more) solid ∙ sym (drop-word more) ∙ sym m.3) in
+        let own = cut-at 58 name (word more) plain in (
+          text,
+          first.0,
+          first.1,
+          record {
+            name = is ∙ sym own.0;
+            place = stands ∙ sym at ∙ ap (place names) (sym own.0);
+            colour = subst (λ q. MatchOption q (has 58 text ≡ false) (λ c. (has 58 text ≡ true) × (c.now ≡ after 58 text))) (sym here) (own.2, m.2 ∙ sym own.1);
+          },
+        )
+
+-- a list by its first byte and a slice of the others
+pub by-first : (xs : List ℕ) (b : ℕ) → 0 < length xs → get_or xs 0 0 ≡ b → xs ≡ b ∷ take (length xs - 1) (drop 1 xs)
+by-first [] b h e = absurd (omega (arith, h))
+by-first (x ∷ xs) b h e = ap₂ (λ y ys. y ∷ ys) e (sym (take_all (length (x ∷ xs) - 1) xs (omega arith)))
+
+module _ (names : List (List ℕ)) (text : List ℕ) (t : Token) (cut : IsCutToken names text t) where
+  pub has-colour : is_some t.colour ≡ has 58 text
+  has-colour = by_colour t.colour refl
+    where
+      by_colour : (c : Option (Bor (List ℕ))) → t.colour ≡ c → is_some c ≡ has 58 text
+      by_colour None e = sym (at-none t.colour _ _ e cut.colour)
+      by_colour (Some c) e = sym (at-some t.colour c _ _ e cut.colour).0
+
+  -- whether it has a colour where none may have one, by a test of this
+  pub stray : (kind : Kind) (test b : Bool) → test ≡ (is_plain kind && is_some t.colour) → test ≡ b → (is_plain kind && has 58 text) ≡ b
+  stray kind test b e is = ap (λ x. is_plain kind && x) (sym has-colour) ∙ sym e ∙ is
+
+  pub named-at : (at : Option ℕ) → t.place ≡ at → place names t.name.now ≡ at
+  named-at at e = ap (place names) cut.name ∙ sym cut.place ∙ e
