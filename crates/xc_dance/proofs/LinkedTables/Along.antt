@@ -16,6 +16,7 @@ use Rattle.xc_dance.specs.inner.Links.OptionPlaces.{start_at}
 use Rattle.xc_dance.specs.inner.Links.UseNodes.{uses_behind, uses_before}
 use Rattle.xc_dance.proofs.MoveLemmas.Commits.{stood_before, first_use}
 use Rattle.xc_dance.proofs.LinkedTables.UsePlaces.{Segment, OptionNodes, option_nodes, use_cells, spacer_cells, place_at_use, behind_segment, before_segment}
+use Rattle.xc_dance.specs.declared.links.nodes.TheConstants.{SPACER}
 
 abbrev no_use : Use
 no_use = record { item = 0; colour = 0 }
@@ -100,9 +101,9 @@ next_at p x off q vs s t seg a h =
 pub record Behind (p : Puzzle) (i x place : ℕ) (s t : List Move) (q : ℕ) : Type 0 where
   pub within : q < length (layout p)
   -- a node: of the next use
-  pub node : top_at p t q < 2147483648 → IsNext p x (place + 1) (uses_behind p i x) s t q
+  pub node : top_at p t q < SPACER → IsNext p x (place + 1) (uses_behind p i x) s t q
   -- the spacer: all were committed
-  pub end : 2147483648 ≤ top_at p t q → (t ≡ after_uses p (uses_behind p i x) s) × (q ≡ spacer_place p x)
+  pub end : SPACER ≤ top_at p t q → (t ≡ after_uses p (uses_behind p i x) s) × (q ≡ spacer_place p x)
 
 behind_use : (p : Puzzle) (i x place q : ℕ) (s t : List Move) → IsLaid p →
     IsNext p x (place + 1) (uses_behind p i x) s t q → Behind p i x place s t q

@@ -32,6 +32,7 @@ use Rattle.xc_dance.proofs.LinkedTables.MarkedNodes.{stands_in}
 use Rattle.xc_dance.proofs.LinkedTables.Leaving.{met_at}
 use Rattle.xc_dance.proofs.LinkedTables.Regained.{Regaining, NextBack, next_back}
 use Rattle.xc_dance.proofs.LinkedTables.Spacers.{others_are, can_unhide_node}
+use Rattle.xc_dance.specs.declared.links.nodes.TheConstants.{MARK}
 
 -- ---- an option comes back into the lists of some of its items, whatever state these lists are in: what a step of unhide does where its neighbours are named
 
@@ -71,7 +72,7 @@ unhide_marked p col ln j o laid pos le o_pos name marked =
     let t : Nodes = nodes_from p ln col in
     let q_in : q < length (layout p) = slice_get_within (layout p) q here.node here.at in
     let long : length (map (top_in ln) (layout p)) ≡ length (layout p) = length-map (layout p) (top_in ln) in
-    let bad : get_or (map col (layout p)) q 0 ≢ 4294967295 → ⊥ = λ ne. ne (eqb-true (get_or (map col (layout p)) q 0) 4294967295 marked) in
+    let bad : get_or (map col (layout p)) q 0 ≢ MARK → ⊥ = λ ne. ne (eqb-true (get_or (map col (layout p)) q 0) MARK marked) in
     record {
       can = record { size = size_from p ln col; place = omega (arith, long, q_in); use_of = omega (arith, get_item p ln j o here o_pos, le, laid.small); places = λ ne. absurd (bad ne); few = λ ne. absurd (bad ne) };
       done = unhidden-marked t q marked;

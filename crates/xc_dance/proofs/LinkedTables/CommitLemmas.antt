@@ -21,6 +21,7 @@ use Rattle.xc_dance.proofs.LinkedTables.Sweep.{in_above}
 use Rattle.xc_dance.proofs.LinkedTables.UsePlaces.{held_of}
 use Rattle.xc_dance.proofs.MoveLemmas.Members.{element_of}
 use Rattle.xc_dance.proofs.MoveLemmas.Shortened.{rises_listed}
+use Rattle.xc_dance.specs.declared.links.nodes.TheConstants.{MARK}
 
 -- a number of an item's list is an option that holds the item
 in_list_held : (p : Puzzle) (t : List Move) (i x : ℕ) → is_in x (listed_numbers p t i) ≡ true →
@@ -82,7 +83,7 @@ open_unmarked p (Spend j ∷ t) i o c e = open_unmarked p t i o c e
 pub open_colour : (p : Puzzle) (t : List Move) (q o : ℕ) (u : Use) → slice_get (layout p) q ≡ Some (used o u) →
     is_open u.item t ≡ true → get_or (nodes_after p t).color q 0 ≡ u.colour
 open_colour p t q o u at e =
-    get_map (color_in p t) (layout p) q (used o u) at ∙ ap (λ b. cond b 4294967295 u.colour)
+    get_map (color_in p t) (layout p) q (used o u) at ∙ ap (λ b. cond b MARK u.colour)
     (open_unmarked p t u.item o u.colour e)
 
 pub after_open : (p : Puzzle) (u : Use) (t : List Move) → primary_count p < u.item → is_open u.item t ≡ true →

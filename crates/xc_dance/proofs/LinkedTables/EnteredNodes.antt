@@ -26,6 +26,7 @@ use Rattle.xc_dance.proofs.LinkedTables.LaidLemmas.{distinct_options, layout_ok,
 use Rattle.xc_dance.proofs.LinkedTables.PlaceLemmas.{length_front, tail_from, front, layout_small, get_behind}
 use Rattle.xc_dance.proofs.LinkedTables.LinkColumns.{get_map, same_nodes, column, put_link, column_same, get_link, set_link, set_top, get_len, map_same}
 use Rattle.xc_dance.proofs.MoveLemmas.Shortened.{rises_listed}
+use Rattle.xc_dance.specs.declared.links.nodes.TheConstants.{SPACER}
 
 -- ---- a line to which members come one by one, each as the last
 
@@ -238,7 +239,7 @@ pub record UseStep (p : Puzzle) (t : Nodes) (q o : ℕ) (u : Use) : Type 0 where
   pub item_small : u.item ≤ 100000
   pub item : slice_index t.top q < length t.top
   pub last : slice_index t.ulink (slice_index t.top q) < length t.top
-  pub few : slice_index t.top (slice_index t.top q) < 2147483648
+  pub few : slice_index t.top (slice_index t.top q) < SPACER
   pub done : entered t q ≡ nodes_from p (lines_of (take (q + 1) (layout p))) (color_in p [])
 
 pub use_step : (p : Puzzle) (q o : ℕ) (u : Use) → IsFit p → IsWithinLimits p → slice_get (layout p) q ≡ Some (used o u) →
@@ -279,7 +280,7 @@ spacer_step p q n e =
     nodes_same p (lines_of (take q (layout p))) (lines_of (take (q + 1) (layout p))) (color_in p [])
     (λ k. ap grown_all (sym (held_more k q (layout p) (spacer n) e ∙ append-nil (held k (take q (layout p))))))
 
-pub spacer_top : (p : Puzzle) (ln : ℕ → Line) (col : Node → ℕ) (q n : ℕ) → slice_get (layout p) q ≡ Some (spacer n) → slice_index (nodes_from p ln col).top q ≡ 2147483648 + n
+pub spacer_top : (p : Puzzle) (ln : ℕ → Line) (col : Node → ℕ) (q n : ℕ) → slice_get (layout p) q ≡ Some (spacer n) → slice_index (nodes_from p ln col).top q ≡ SPACER + n
 spacer_top p ln col q n e = get_map (top_in ln) (layout p) q (spacer n) e
 
 -- ---- behind the items' own nodes stand uses and spacers alone

@@ -31,6 +31,7 @@ use Rattle.xc_dance.proofs.LinkedTables.PlaceLemmas.{spacer_at, place_next}
 use Rattle.xc_dance.proofs.LinkedTables.LinkColumns.{same_nodes}
 use Rattle.xc_dance.proofs.LinkedTables.RingStep.{same_items}
 use Rattle.xc_dance.proofs.LinkedTables.Sweep.{last_below-more, last_of-more}
+use Rattle.xc_dance.specs.declared.links.nodes.TheConstants.{SPACER}
 
 -- ---- columns that are filled from the first cell on; what isn't filled yet is 0
 
@@ -126,8 +127,8 @@ own_row p zero le = (unused, refl, refl)
 own_row p (suc i) le = (own (suc i), head_is p (suc i) (omega arith) le, refl)
 
 pub spacer_row : (p : Puzzle) (o above below : ℕ) → above ≡ fixed_up p (spacer o) → below ≡ fixed_down p (spacer o) →
-    (let r : Row = record { top = 2147483648 + o; ulink = above; dlink = below; color = 0 } in r ≡ row_of p (spacer o))
-spacer_row p o above below e f = let row : ℕ → ℕ → Row = λ a b. record { top = 2147483648 + o; ulink = a; dlink = b; color = 0 } in ap₂ row e f
+    (let r : Row = record { top = SPACER + o; ulink = above; dlink = below; color = 0 } in r ≡ row_of p (spacer o))
+spacer_row p o above below e f = let row : ℕ → ℕ → Row = λ a b. record { top = SPACER + o; ulink = a; dlink = b; color = 0 } in ap₂ row e f
 
 -- ---- the item table as it is filled place by place
 

@@ -16,6 +16,7 @@ use Rattle.xc_dance.specs.inner.Links.OptionSpans.{spans_of}
 use Rattle.xc_input.proofs.lists.EachElement.{each_weaker}
 use Rattle.xc_dance.proofs.LinkedTables.LaidLemmas.{is_laid}
 use Rattle.xc_dance.proofs.LinkedTables.PlaceLemmas.{layout_small, has_spans}
+use Rattle.xc_dance.specs.declared.links.nodes.TheConstants.{MARK}
 
 -- ---- a valid problem is fit for the walks
 
@@ -48,15 +49,15 @@ sound_items : (p : Puzzle) (us : List Use) → IsSoundOption p us → AllByRecur
 sound_items p us s = each_weaker (IsSoundUse p) (InRange p) us (λ u h. (let a = h.0.0 in omega (arith, a), h.0.1)) (recursion_from_All (IsSoundUse p) us s.sound)
 
 -- the rules of a problem say nothing of the colours: they are to be below the mark
-pub is_fit : (p : Puzzle) → IsValid p → All (λ us. All (λ u. u.colour < 4294967295) us) p.options → length p.options < 2 ^ 30 → item_count p < 2 ^ 31 → length (layout p) < 2 ^ 31 → IsFit p
+pub is_fit : (p : Puzzle) → IsValid p → All (λ us. All (λ u. u.colour < MARK) us) p.options → length p.options < 2 ^ 30 → item_count p < 2 ^ 31 → length (layout p) < 2 ^ 31 → IsFit p
 is_fit p valid colours few small near =
     let sound : AllByRecursion (IsSoundOption p) p.options = recursion_from_All (IsSoundOption p) p.options valid.options in
     record {
       distinct = λ o. at_option AreDistinct p o tt (each_weaker (IsSoundOption p) AreDistinct p.options (λ us s. distinct_from us s.distinct) sound);
       items = λ o. at_option (λ us. AllByRecursion (InRange p) us) p o tt (each_weaker (IsSoundOption p) (λ us. AllByRecursion (InRange p) us) p.options (sound_items p) sound);
-      colours = λ o. at_option (λ us. AllByRecursion (λ u. u.colour < 4294967295) us) p o tt
-          (each_weaker (λ us. All (λ u. u.colour < 4294967295) us) (λ us. AllByRecursion (λ u. u.colour < 4294967295) us) p.options (λ us h. recursion_from_All (λ u. u.colour < 4294967295) us h)
-          (recursion_from_All (λ us. All (λ u. u.colour < 4294967295) us) p.options colours));
+      colours = λ o. at_option (λ us. AllByRecursion (λ u. u.colour < MARK) us) p o tt
+          (each_weaker (λ us. All (λ u. u.colour < MARK) us) (λ us. AllByRecursion (λ u. u.colour < MARK) us) p.options (λ us h. recursion_from_All (λ u. u.colour < MARK) us h)
+          (recursion_from_All (λ us. All (λ u. u.colour < MARK) us) p.options colours));
       few = few;
       small = small;
       near = near;

@@ -19,6 +19,7 @@ use Rattle.xc_dance.proofs.LinkedTables.LinkColumns.{member_of, same_at, set_lin
 use Rattle.xc_dance.proofs.LinkedTables.Sweep.{cut, with_line, IsLinkedFrom, put_at-other, cut-linked, stands, Swept, swept, swept_len, stay, cuts, up_after, down_after}
 use Rattle.xc_dance.proofs.MoveLemmas.ListLemmas.{length-listed}
 use Rattle.xc_dance.proofs.MoveLemmas.Shortened.{holds_use, holders}
+use Rattle.xc_dance.specs.declared.links.nodes.TheConstants.{MARK, SPACER}
 
 -- ---- one node of the table leaves its list or comes back: so does one member of its item's line
 
@@ -71,7 +72,7 @@ pub record Step (t u : Nodes) (q : ℕ) : Type 0 where
   pub back : CanUnhide (hidden t q) q
   pub done : hidden t q ≡ u
 
-pub step_open : (p : Puzzle) (col : Node → ℕ) (ln : ℕ → Line) (j o : ℕ) → IsLaid p → IsMember p j (ln j) o → (ln j).len < 2 ^ 31 → eqb (get_or (map (col) (layout p)) (link_place p j o) 0) 4294967295 ≡ false →
+pub step_open : (p : Puzzle) (col : Node → ℕ) (ln : ℕ → Line) (j o : ℕ) → IsLaid p → IsMember p j (ln j) o → (ln j).len < 2 ^ 31 → eqb (get_or (map (col) (layout p)) (link_place p j o) 0) MARK ≡ false →
     Step (nodes_from p ln col) (nodes_from p (with_line ln j (cut (ln j) o)) col) (link_place p j o)
 step_open p col ln j o laid m few color =
     let q = link_place p j o in
@@ -89,7 +90,7 @@ step_open p col ln j o laid m few color =
       done = is ∙ unlinked-is p col ln j o laid m;
     }
 
-pub step_marked : (p : Puzzle) (col : Node → ℕ) (ln : ℕ → Line) (q : ℕ) → q < length (layout p) → get_or (map (top_in ln) (layout p)) q 0 < 2147483648 → eqb (get_or (map (col) (layout p)) q 0) 4294967295 ≡ true → Step (nodes_from p ln col) (nodes_from p ln col) q
+pub step_marked : (p : Puzzle) (col : Node → ℕ) (ln : ℕ → Line) (q : ℕ) → q < length (layout p) → get_or (map (top_in ln) (layout p)) q 0 < SPACER → eqb (get_or (map (col) (layout p)) q 0) MARK ≡ true → Step (nodes_from p ln col) (nodes_from p ln col) q
 step_marked p col ln q within use_of color = grind (arith, common_steps, eqb-true, hidden-marked, length-map, unhidden-marked, size_from)
 
 -- ---- lines that stand for lists, and one member leaving

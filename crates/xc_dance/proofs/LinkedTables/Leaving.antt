@@ -32,6 +32,7 @@ use Rattle.xc_dance.proofs.MoveLemmas.Shortened.{rises_listed}
 use Rattle.xc_dance.proofs.MoveLemmas.Members.{element_of, in_filter, same_members, none_in}
 use Rattle.xc_dance.proofs.LinkedTables.MarkedNodes.{options_left, Met, each_met, stands_in, open_unmarked, color_is, colour_some, colour_small}
 use Rattle.xc_dance.proofs.LinkedTables.LaidLemmas.{IsOption}
+use Rattle.xc_dance.specs.declared.links.nodes.TheConstants.{MARK}
 
 -- ---- the options of an open item's list are met: their other uses stand in their lists or are marked, so they are ready to leave
 
@@ -89,9 +90,9 @@ own_ready p t i keep x laid fit opened pos le within =
     let x_pos : 0 < x = in_above 0 x (listed_numbers p t i) (rises_listed p t i) within in
     let named : Named p i x = element_of (Named p i) x (listed_numbers p t i) (numbers_named p t i) within in
     let c = colour_some (uses_of p x) i named in
-    let small : c.0 < 4294967295 = colour_small (uses_of p x) i c.0 (fit.colours x) c.1 in
+    let small : c.0 < MARK = colour_small (uses_of p x) i c.0 (fit.colours x) c.1 in
     let is : own_color p (color_in p t) i x ≡ c.0 =
-    color_is p t x i c.0 laid pos le x_pos named c.1 ∙ ap (λ b. cond b 4294967295 c.0) (open_unmarked p t i x c.0 opened) in
+    color_is p t x i c.0 laid pos le x_pos named c.1 ∙ ap (λ b. cond b MARK c.0) (open_unmarked p t i x c.0 opened) in
     grind (arith, common_steps, ne_eqb, test_is)
 
 -- options of the list, one after another

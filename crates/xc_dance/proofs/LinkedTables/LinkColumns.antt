@@ -15,6 +15,7 @@ use Rattle.xc_dance.specs.inner.Links.Lines.{Line}
 use Rattle.xc_dance.specs.inner.Links.Cells.{slot_of, link_at, fixed_up, fixed_down, top_in, ulink_in, dlink_in, nodes_from}
 use Rattle.xc_dance.specs.inner.Links.Laid.{Placed, IsLaid, IsName}
 use Rattle.xc_dance.proofs.LinkedTables.Sweep.{put_at-same, put_at-other, put_at, with_line}
+use Rattle.xc_dance.specs.declared.links.nodes.TheConstants.{MARK, SPACER}
 
 -- ---- columns that are maps of a layout, and one write to them
 
@@ -72,25 +73,25 @@ pub relinked-unlinked : (t : Nodes) (q : ℕ) → IsLinked t q → relinked (unl
 relinked-unlinked t q h = grind (arith, common_steps, get_or-set_kept, get_or-set_other, get_or-set_same, same_nodes, written_back)
 
 -- a marked node is passed over
-pub hidden-marked : (t : Nodes) (q : ℕ) → eqb (get_or t.color q 0) 4294967295 ≡ true → hidden t q ≡ t
+pub hidden-marked : (t : Nodes) (q : ℕ) → eqb (get_or t.color q 0) MARK ≡ true → hidden t q ≡ t
 hidden-marked t q e = ap (λ b. cond b t (unlinked t q)) e
 
-pub hidden-open : (t : Nodes) (q : ℕ) → eqb (get_or t.color q 0) 4294967295 ≡ false → hidden t q ≡ unlinked t q
+pub hidden-open : (t : Nodes) (q : ℕ) → eqb (get_or t.color q 0) MARK ≡ false → hidden t q ≡ unlinked t q
 hidden-open t q e = ap (λ b. cond b t (unlinked t q)) e
 
-pub unhidden-marked : (t : Nodes) (q : ℕ) → eqb (get_or t.color q 0) 4294967295 ≡ true → unhidden t q ≡ t
+pub unhidden-marked : (t : Nodes) (q : ℕ) → eqb (get_or t.color q 0) MARK ≡ true → unhidden t q ≡ t
 unhidden-marked t q e = ap (λ b. cond b t (relinked t q)) e
 
-pub unhidden-open : (t : Nodes) (q : ℕ) → eqb (get_or t.color q 0) 4294967295 ≡ false → unhidden t q ≡ relinked t q
+pub unhidden-open : (t : Nodes) (q : ℕ) → eqb (get_or t.color q 0) MARK ≡ false → unhidden t q ≡ relinked t q
 unhidden-open t q e = ap (λ b. cond b t (relinked t q)) e
 
 -- a step of unhide undoes that of hide
-pub unhidden-hidden : (t : Nodes) (q : ℕ) → (eqb (get_or t.color q 0) 4294967295 ≡ false → IsLinked t q) → unhidden (hidden t q) q ≡ t
+pub unhidden-hidden : (t : Nodes) (q : ℕ) → (eqb (get_or t.color q 0) MARK ≡ false → IsLinked t q) → unhidden (hidden t q) q ≡ t
 unhidden-hidden t q h =
-    let by : (b : Bool) → eqb (get_or t.color q 0) 4294967295 ≡ b → unhidden (hidden t q) q ≡ t = λ b. elim b as (λ b. eqb (get_or t.color q 0) 4294967295 ≡ b → unhidden (hidden t q) q ≡ t) [
+    let by : (b : Bool) → eqb (get_or t.color q 0) MARK ≡ b → unhidden (hidden t q) q ≡ t = λ b. elim b as (λ b. eqb (get_or t.color q 0) MARK ≡ b → unhidden (hidden t q) q ≡ t) [
       | true ↦ (λ e. ap (λ u. unhidden u q) (hidden-marked t q e) ∙ unhidden-marked t q e)
       | false ↦ (λ e. ap (λ u. unhidden u q) (hidden-open t q e) ∙ unhidden-open (unlinked t q) q e ∙ relinked-unlinked t q (h e))
-    ] in by (eqb (get_or t.color q 0) 4294967295) refl
+    ] in by (eqb (get_or t.color q 0) MARK) refl
 
 -- each step of a walk can be undone
 abbrev pub IsUndone : Nodes → List ℕ → Type 0
@@ -254,7 +255,7 @@ pub CanRelink-unlinked : (t : Nodes) (q : ℕ) → HasSize t (length t.top) → 
 CanRelink-unlinked t q size names linked few = grind (arith, common_steps, HasSize-unlinked, get_or-set_kept, get_or-set_other, get_or-set_same, length-set)
 
 -- so a step of unhide may be made there
-pub CanUnhide-unlinked : (t : Nodes) (q : ℕ) → HasSize t (length t.top) → NamesPlaces t q → IsLinked t q → get_or t.top q 0 < 2147483648 → get_or t.top (get_or t.top q 0) 0 < 2 ^ 31 → CanUnhide (unlinked t q) q
+pub CanUnhide-unlinked : (t : Nodes) (q : ℕ) → HasSize t (length t.top) → NamesPlaces t q → IsLinked t q → get_or t.top q 0 < SPACER → get_or t.top (get_or t.top q 0) 0 < 2 ^ 31 → CanUnhide (unlinked t q) q
 CanUnhide-unlinked t q size names linked use_of few = grind (arith, common_steps, CanRelink-unlinked, get_or-set_other)
 
 -- one place more at the end of a walk

@@ -28,6 +28,7 @@ use Rattle.xc_dance.proofs.LinkedTables.OneOption.{is_mark}
 use Rattle.xc_dance.proofs.LinkedTables.LaidLemmas.{IsOption, options_numbered}
 use Rattle.xc_dance.proofs.LinkedTables.OneList.{marked_list}
 use Rattle.xc_dance.proofs.MoveLemmas.Shortened.{rises_listed}
+use Rattle.xc_dance.specs.declared.links.nodes.TheConstants.{MARK}
 
 -- ---- the other uses of an option in an open item's list: each is in its own item's list, or marked
 
@@ -110,7 +111,7 @@ used_by p j o k (used m u) pos at e = grind (arith, common_steps)
 
 -- what stands in the colour cell of an option's node in item j's list
 pub color_is : (p : Puzzle) (t : List Move) (o j c : ℕ) → IsLaid p → 0 < j → j ≤ item_count p → 0 < o → Named p j o → colour_in (uses_of p o) j ≡ Some c →
-    get_or (map (color_in p t) (layout p)) (link_place p j o) 0 ≡ cond (is_marked p t j o c) 4294967295 c
+    get_or (map (color_in p t) (layout p)) (link_place p j o) 0 ≡ cond (is_marked p t j o c) MARK c
 color_is p t o j c laid jpos jle pos named has =
     let h = laid.there j o jpos jle (inr (pos, named)) in
     let u = used_by p j o (link_place p j o) h.node pos h.at h.slot in
@@ -119,8 +120,8 @@ color_is p t o j c laid jpos jle pos named has =
     grind (arith, common_steps, get_map)
 
 pub mark_is : (p : Puzzle) (t : List Move) (o j c : ℕ) → IsLaid p → 0 < j → j ≤ item_count p → 0 < o → Named p j o → colour_in (uses_of p o) j ≡ Some c →
-    is_mark p (color_in p t) o j ≡ eqb (cond (is_marked p t j o c) 4294967295 c) 4294967295
-mark_is p t o j c laid jpos jle pos named has = ap (λ v. eqb v 4294967295) (color_is p t o j c laid jpos jle pos named has)
+    is_mark p (color_in p t) o j ≡ eqb (cond (is_marked p t j o c) MARK c) MARK
+mark_is p t o j c laid jpos jle pos named has = ap (λ v. eqb v MARK) (color_is p t o j c laid jpos jle pos named has)
 
 -- ---- closed items
 
@@ -143,10 +144,10 @@ pub record Met (p : Puzzle) (t : List Move) (o j : ℕ) : Type 0 where
   pub opened : is_open j t ≡ true → (is_mark p (color_in p t) o j ≡ false) × (is_in o (listed_numbers p t j) ≡ true)
   pub shut : is_open j t ≡ false → is_mark p (color_in p t) o j ≡ true
 
-pub colour_small : (us : List Use) (j c : ℕ) → AllByRecursion (λ u. u.colour < 4294967295) us → colour_in us j ≡ Some c → c < 4294967295
+pub colour_small : (us : List Use) (j c : ℕ) → AllByRecursion (λ u. u.colour < MARK) us → colour_in us j ≡ Some c → c < MARK
 colour_small [] j c a e = cc
 colour_small (u ∷ us) j c a e =
-    elim (eqb u.item j) as (λ b. cond b (Some u.colour) (colour_in us j) ≡ Some c → c < 4294967295) [
+    elim (eqb u.item j) as (λ b. cond b (Some u.colour) (colour_in us j) ≡ Some c → c < MARK) [
       | true ↦ λ f. let same : u.colour ≡ c = same_Some u.colour c f in omega (arith, a.0, same)
       | false ↦ λ f. colour_small us j c a.1 f
     ] e
@@ -159,11 +160,11 @@ each_met p t j legal laid fit jpos jle =
           (λ o is h held.
           let named : Named p j o.number = ap (λ us. is_some (colour_in us j)) is.1 ∙ held in
           let c = colour_some (uses_of p o.number) j named in
-          let small : c.0 < 4294967295 = colour_small (uses_of p o.number) j c.0 (fit.colours o.number) c.1 in
+          let small : c.0 < MARK = colour_small (uses_of p o.number) j c.0 (fit.colours o.number) c.1 in
           let m : is_mark p (color_in p t) o.number j ≡ false =
           mark_is p t o.number j c.0 laid jpos jle is.0 named c.1
-          ∙ ap (λ b. eqb (cond b 4294967295 c.0) 4294967295) (open_unmarked p t j o.number c.0 e)
-          ∙ ne_eqb c.0 4294967295 (λ f. omega (arith, small, f)) in
+          ∙ ap (λ b. eqb (cond b MARK c.0) MARK) (open_unmarked p t j o.number c.0 e)
+          ∙ ne_eqb c.0 MARK (λ f. omega (arith, small, f)) in
           record { opened = λ _. (m, h held); shut = λ f. absurd (false≢true (sym f ∙ e)) })
           (options_left p t) (in_open p t j legal e)
       | false ↦ λ e.
@@ -178,7 +179,7 @@ each_met p t j legal laid fit jpos jle =
                 let same : c.0 ≡ has.0 = agrees_same has.0 c.0 (ap (agrees has.0) (sym at) ∙ h.1) in
                 let m : is_mark p (color_in p t) o.number j ≡ true =
                 mark_is p t o.number j c.0 laid jpos jle is.0 named c.1
-                ∙ ap (λ b. eqb (cond b 4294967295 c.0) 4294967295) (ap (is_marked p t j o.number) same ∙ h.0 held) in
+                ∙ ap (λ b. eqb (cond b MARK c.0) MARK) (ap (is_marked p t j o.number) same ∙ h.0 held) in
                 record { opened = λ f. absurd (false≢true (sym e ∙ f)); shut = λ _. m })
                 (options_left p t)
                 (each_both (λ o. holds o j ≡ true → is_marked p t j o.number has.0 ≡ true) (λ o. agrees has.0 (colour_at o j) ≡ true) _ (left p t) (λ o a b. (a, b)) (purified_marked p t j has.0 legal has.1) (left_agrees p t j has.0 has.1))
@@ -201,13 +202,13 @@ cond_at : (b : Bool) (f g : Node → ℕ) (n : Node) → cond b f g n ≡ cond b
 cond_at true f g n = refl
 cond_at false f g n = refl
 
-none_kept : (p : Puzzle) (i : ℕ) (keep : Option ℕ) (s : Option (ℕ × ℕ)) (v : ℕ) → v ≡ cond (slot_kept p i keep [] s) 4294967295 v
+none_kept : (p : Puzzle) (i : ℕ) (keep : Option ℕ) (s : Option (ℕ × ℕ)) (v : ℕ) → v ≡ cond (slot_kept p i keep [] s) MARK v
 none_kept p i keep None v = refl
-none_kept p i keep (Some s) v = elim (eqb s.0 i) as (λ a. v ≡ cond (a && false) 4294967295 v) [ true ↦ refl | false ↦ refl ]
+none_kept p i keep (Some s) v = elim (eqb s.0 i) as (λ a. v ≡ cond (a && false) MARK v) [ true ↦ refl | false ↦ refl ]
 
-pub marked_at : (p : Puzzle) (i : ℕ) (keep : Option ℕ) (now : Node → ℕ) (xs : List ℕ) (n : Node) → marked_list p i keep now xs n ≡ cond (slot_kept p i keep xs (slot_of n)) 4294967295 (now n)
+pub marked_at : (p : Puzzle) (i : ℕ) (keep : Option ℕ) (now : Node → ℕ) (xs : List ℕ) (n : Node) → marked_list p i keep now xs n ≡ cond (slot_kept p i keep xs (slot_of n)) MARK (now n)
 marked_at p i keep now [] n = grind (arith, common_steps, cond_at, none_kept)
-marked_at p i keep now (o ∷ xs) n = grind (arith, common_steps, cond_at, none_kept, marked_at p i keep (cond (is_kept p i keep o) (with_color now i o 4294967295) now) xs n)
+marked_at p i keep now (o ∷ xs) n = grind (arith, common_steps, cond_at, none_kept, marked_at p i keep (cond (is_kept p i keep o) (with_color now i o MARK) now) xs n)
 
 pub cover_colours : (p : Puzzle) (t : List Move) (i : ℕ) (n : Node) → color_in p (Cover i ∷ t) n ≡ color_in p t n
 cover_colours p t i unused = refl
@@ -217,7 +218,7 @@ cover_colours p t i _ = refl
 abbrev pub purify_start : Puzzle → List Move → ℕ → ℕ → Node → ℕ
 purify_start p t i c = with_color (color_in p t) i 0 c
 
-marks : (a b k : Bool) (v : ℕ) → cond (cond (a && b) true k) 4294967295 v ≡ cond (b && a) 4294967295 (cond k 4294967295 v)
+marks : (a b k : Bool) (v : ℕ) → cond (cond (a && b) true k) MARK v ≡ cond (b && a) MARK (cond k MARK v)
 marks true true k v = refl
 marks true false k v = refl
 marks false true k v = refl

@@ -27,6 +27,7 @@ use Rattle.xc_dance.proofs.LinkedTables.GoodLines.{Named, numbers_named}
 use Rattle.xc_dance.proofs.MoveLemmas.Shortened.{rises_listed}
 use Rattle.xc_dance.proofs.LinkedTables.PlaceLemmas.{use_here, spacer_here, place_next, get_behind, parted, there, use_at, spacer_at}
 use Rattle.xc_dance.proofs.LinkedTables.Sweep.{first_above-first}
+use Rattle.xc_dance.specs.declared.links.nodes.TheConstants.{SPACER}
 
 -- ---- what the tables answer, against what the moves make of the lists
 
@@ -172,8 +173,8 @@ on_the_way p t i (suc m) q laid fit pos held from to =
 -- one of the places from a node of option o on, up to the spacer behind the option
 record ToSpacer (p : Puzzle) (t : List Move) (o q : ℕ) : Type 0 where
   within : q < length (layout p)
-  next : get_or (nodes_after p t).top q 0 < 2147483648 → q + 1 ≤ spacer_place p o
-  number : 2147483648 ≤ get_or (nodes_after p t).top q 0 → get_or (nodes_after p t).top q 0 ≡ 2147483648 + o
+  next : get_or (nodes_after p t).top q 0 < SPACER → q + 1 ≤ spacer_place p o
+  number : SPACER ≤ get_or (nodes_after p t).top q 0 → get_or (nodes_after p t).top q 0 ≡ SPACER + o
 
 -- where an option's nodes end
 spacer_behind : (p : Puzzle) (i m : ℕ) (w : UsePlace p i m) → spacer_place p (suc m) ≡ start_at p m + length w.uses
@@ -207,7 +208,7 @@ to_spacer p t i (suc m) q laid fit pos held from to =
           let next = place_next p m w.uses w.uses_are in
           let at : q ≡ place_at p (m + 1) = omega (arith, ge, to, end, next) in
           let node : slice_get (layout p) q ≡ Some (spacer (m + 1)) = ap (slice_get (layout p)) at ∙ spacer_here p (m + 1) (omega (arith, some)) in
-          let top : get_or (nodes_after p t).top q 0 ≡ 2147483648 + (m + 1) = get_map (top_in (line_of p t)) (layout p) q (spacer (m + 1)) node in
+          let top : get_or (nodes_after p t).top q 0 ≡ SPACER + (m + 1) = get_map (top_in (line_of p t)) (layout p) q (spacer (m + 1)) node in
           record { within = slice_get_within (layout p) q (spacer (m + 1)) node; next = λ h. absurd (omega (arith, h, top)); number = λ h. omega (arith, top) }
     ] refl
 
@@ -219,8 +220,8 @@ name_used p i place x (inr h) at other = h
 -- what TOP tells at q, which is not past the spacer behind the node at the place
 pub record Seeks (p : Puzzle) (i place : ℕ) (top : List ℕ) (q : ℕ) : Type 0 where
   pub within : q < length (layout p)
-  pub low : get_or top q 0 < 2147483648 → (x : ℕ) → IsName p i x → place ≡ link_place p i x → q + 1 ≤ spacer_place p x
-  pub high : 2147483648 ≤ get_or top q 0 → (x : ℕ) → IsName p i x → place ≡ link_place p i x → Some (get_or top q 0 - 2147483648) ≡ named x
+  pub low : get_or top q 0 < SPACER → (x : ℕ) → IsName p i x → place ≡ link_place p i x → q + 1 ≤ spacer_place p x
+  pub high : SPACER ≤ get_or top q 0 → (x : ℕ) → IsName p i x → place ≡ link_place p i x → Some (get_or top q 0 - SPACER) ≡ named x
 
 pub seeks : (p : Puzzle) (t : List Move) (i place q : ℕ) → IsLaid p → IsFit p → IsNodeOf p i place → place ≢ i → place ≤ q → ((x : ℕ) → IsName p i x → place ≡ link_place p i x → q ≤ spacer_place p x) →
     Seeks p i place (nodes_after p t).top q

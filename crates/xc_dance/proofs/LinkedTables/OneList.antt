@@ -22,6 +22,7 @@ use Rattle.xc_dance.proofs.LinkedTables.GoodLines.{Named, AllGood}
 use Rattle.xc_dance.proofs.LinkedTables.OneOption.{is_mark, left_one, left_all, IsApart, AreReady, walked, ready_front, all_other, gone_count}
 use Rattle.xc_dance.proofs.LinkedTables.Spacers.{Turns, turns}
 use Rattle.xc_dance.proofs.LinkedTables.Walks.{costs-append}
+use Rattle.xc_dance.specs.declared.links.nodes.TheConstants.{MARK}
 
 -- ---- the colour of one node of the table
 
@@ -72,7 +73,7 @@ leavers p i keep xs = filter (λ o. not (is_kept p i keep o)) xs
 
 -- item i's nodes of the others are marked
 abbrev pub marked_list : Puzzle → ℕ → Option ℕ → (Node → ℕ) → List ℕ → Node → ℕ
-marked_list p i keep now xs = fold (λ now o. cond (is_kept p i keep o) (with_color now i o 4294967295) now) now xs
+marked_list p i keep now xs = fold (λ now o. cond (is_kept p i keep o) (with_color now i o MARK) now) now xs
 
 -- ---- what the walk writes
 
@@ -90,7 +91,7 @@ own_color p col i o = get_or (map col (layout p)) (link_place p i o) 0
 
 -- the node of option o in item i's own list isn't marked yet, and its colour tells whether it is kept
 pub record OwnReady (p : Puzzle) (col : Node → ℕ) (i : ℕ) (keep : Option ℕ) (o : ℕ) : Type 0 where
-  pub unmarked : eqb (own_color p col i o) 4294967295 ≡ false
+  pub unmarked : eqb (own_color p col i o) MARK ≡ false
   pub test : is_kept_colour keep (own_color p col i o) ≡ is_kept p i keep o
 
 -- each option's other uses are ready, and its own
@@ -119,7 +120,7 @@ pub record Passed (p : Puzzle) (i : ℕ) (col now : Node → ℕ) (xs : List ℕ
   pub own : (o : ℕ) → is_in o xs ≡ true → own_color p now i o ≡ own_color p col i o
 
 mark_by : (p : Puzzle) (col now : Node → ℕ) (o j : ℕ) → own_color p now j o ≡ own_color p col j o → is_mark p now o j ≡ is_mark p col o j
-mark_by p col now o j e = ap (λ v. eqb v 4294967295) e
+mark_by p col now o j e = ap (λ v. eqb v MARK) e
 
 all_same : (p : Puzzle) (i : ℕ) (col now : Node → ℕ) (xs : List ℕ) (lists : ℕ → List ℕ) (o : ℕ) (ln : ℕ → Line) (js : List ℕ) → 0 < o → Passed p i col now xs → IsApart i js → AreReady p col lists o js → left_all p now o ln js ≡ left_all p col o ln js
 all_same p i col now xs lists o ln [] pos same apart h = grind (arith, common_steps, mark_by)
@@ -150,28 +151,28 @@ kept_none v e = false≢true e
 
 -- a node of the colour kept is marked, and gets it back
 mark_step : (p : Puzzle) (now : Node → ℕ) (spans : List Span) (keep : Option ℕ) (ln : ℕ → Line) (i o : ℕ) → IsLaid p → Placed p i o → link_place p i o < length spans → is_kept_colour keep (own_color p now i o) ≡ true →
-    OneStep spans keep (nodes_from p ln now) (nodes_from p ln (with_color now i o 4294967295)) (link_place p i o) 1
+    OneStep spans keep (nodes_from p ln now) (nodes_from p ln (with_color now i o MARK)) (link_place p i o) 1
 mark_step p now spans None ln i o laid h near e = absurd (kept_none (own_color p now i o) e)
 mark_step p now spans (Some c) ln i o laid h near e =
     let keep : Option ℕ = Some c in
     let x = link_place p i o in
     let t : Nodes = nodes_from p ln now in
-    let u : Nodes = nodes_from p ln (with_color now i o 4294967295) in
+    let u : Nodes = nodes_from p ln (with_color now i o MARK) in
     let within = slice_get_within (layout p) x h.node h.at in
     let long : length t.color ≡ length (layout p) = length-map (layout p) now in
-    let long' : length u.color ≡ length (layout p) = length-map (layout p) (with_color now i o 4294967295) in
-    let is : with_colour t x 4294967295 ≡ u = coloured_is p now ln i o 4294967295 laid h in
+    let long' : length u.color ≡ length (layout p) = length-map (layout p) (with_color now i o MARK) in
+    let is : with_colour t x MARK ≡ u = coloured_is p now ln i o MARK laid h in
     let colour : own_color p now i o ≡ c = eqb-true (own_color p now i o) c e in
-    let marked : is_kept_mark keep (get_or u.color x 0) ≡ true = eq-eqb (get_or u.color x 0) 4294967295 (color_here p now i o 4294967295 h) in
+    let marked : is_kept_mark keep (get_or u.color x 0) ≡ true = eq-eqb (get_or u.color x 0) MARK (color_here p now i o MARK h) in
     grind (arith, common_steps, false≢true, same_nodes, written_back)
 
-no_mark : (keep : Option ℕ) (v : ℕ) → eqb v 4294967295 ≡ false → is_kept_mark keep v ≡ false
+no_mark : (keep : Option ℕ) (v : ℕ) → eqb v MARK ≡ false → is_kept_mark keep v ≡ false
 no_mark None v e = refl
 no_mark (Some c) v e = e
 
 -- any other one is hidden, and comes back
 hide_step : (p : Puzzle) (now : Node → ℕ) (spans : List Span) (keep : Option ℕ) (ln : ℕ → Line) (i o : ℕ) → HasSpans p spans → Placed p i o → 0 < o → Named p i o
-    → is_kept_colour keep (own_color p now i o) ≡ false → eqb (own_color p now i o) 4294967295 ≡ false → Turns p ln now spans o i →
+    → is_kept_colour keep (own_color p now i o) ≡ false → eqb (own_color p now i o) MARK ≡ false → Turns p ln now spans o i →
     OneStep spans keep (nodes_from p ln now) (nodes_from p (left_all p now o ln (other_items p o i)) now) (link_place p i o) (3 * gone_count p now i o)
 hide_step p now spans keep ln i o spanned h pos named other unmarked turns = grind (arith, common_steps, length-map, no_mark, slice_get_within, turns)
 
@@ -195,25 +196,25 @@ turn p col now spans i keep ln lists o xs laid spanned pos le o_pos good ready r
     let first : is_in o (o ∷ xs) ≡ true = ap (λ b. b || is_in o xs) (eq-eqb o o refl) in
     let same : own_color p now i o ≡ own_color p col i o = passed.own o first in
     let test : is_kept_colour keep (own_color p now i o) ≡ is_kept p i keep o = ap (is_kept_colour keep) same ∙ ready.3.test in
-    let unmarked : eqb (own_color p now i o) 4294967295 ≡ false = ap (λ v. eqb v 4294967295) same ∙ ready.3.unmarked in
+    let unmarked : eqb (own_color p now i o) MARK ≡ false = ap (λ v. eqb v MARK) same ∙ ready.3.unmarked in
     elim (is_kept p i keep o) as (λ b. is_kept p i keep o ≡ b → Turn p col now spans i keep ln o xs) [
       | true ↦ λ e. record {
         ln' = ln;
-        now' = with_color now i o 4294967295;
+        now' = with_color now i o MARK;
         lists' = lists;
-        step = subst (OneStep spans keep (nodes_from p ln now) (nodes_from p ln (with_color now i o 4294967295)) (link_place p i o)) (sym (ap (λ b. cond b 1 (3 * gone_count p col i o)) e))
+        step = subst (OneStep spans keep (nodes_from p ln now) (nodes_from p ln (with_color now i o MARK)) (link_place p i o)) (sym (ap (λ b. cond b 1 (3 * gone_count p col i o)) e))
             (mark_step p now spans keep ln i o laid here (spanned.within o i o_pos ready.0) (test ∙ e));
         own = refl;
         good = good;
         ready = ready.4;
         passed = record {
-          others = λ j x ne jpos jle xpos named. color_other p now i o 4294967295 j x (laid.there j x jpos jle (inr (xpos, named))) (ap (λ b. b && eqb x o) (ne_eqb j i ne)) ∙ passed.others j x ne jpos jle xpos named;
+          others = λ j x ne jpos jle xpos named. color_other p now i o MARK j x (laid.there j x jpos jle (inr (xpos, named))) (ap (λ b. b && eqb x o) (ne_eqb j i ne)) ∙ passed.others j x ne jpos jle xpos named;
           own = λ x f.
               let gt : o < x = in_above o x xs r f in
-              color_other p now i o 4294967295 i x (laid.there i x pos le (inr (omega (arith, gt), named_in x xs ready.4 f))) (and_right (eqb i i) (eqb x o) (ne_eqb x o (λ g. omega (arith, gt, g)))) ∙ passed.own x (in_more o x xs f);
+              color_other p now i o MARK i x (laid.there i x pos le (inr (omega (arith, gt), named_in x xs ready.4 f))) (and_right (eqb i i) (eqb x o) (ne_eqb x o (λ g. omega (arith, gt, g)))) ∙ passed.own x (in_more o x xs f);
         };
         lines = ap (λ b. left_list p col i ln (cond (not b) (o ∷ leavers p i keep xs) (leavers p i keep xs))) e;
-        colours = ap (λ b. marked_list p i keep (cond b (with_color now i o 4294967295) now) xs) e;
+        colours = ap (λ b. marked_list p i keep (cond b (with_color now i o MARK) now) xs) e;
       }
       | false ↦ λ e.
           let js = other_items p o i in
@@ -232,7 +233,7 @@ turn p col now spans i keep ln lists o xs laid spanned pos le o_pos good ready r
             ready = each_kept p col lists w.gone.lists' i keep o o xs (omega arith) r w.gone.kept ready.4;
             passed = record { others = passed.others; own = λ x f. passed.own x (in_more o x xs f) };
             lines = grind (arith, common_steps, all_same);
-            colours = ap (λ b. marked_list p i keep (cond b (with_color now i o 4294967295) now) xs) e;
+            colours = ap (λ b. marked_list p i keep (cond b (with_color now i o MARK) now) xs) e;
           }
     ] refl
   where

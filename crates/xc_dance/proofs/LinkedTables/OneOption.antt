@@ -13,13 +13,14 @@ use Rattle.xc_dance.proofs.LinkedTables.LinkColumns.{Stands, Stands-without, Res
 use Rattle.xc_dance.proofs.LinkedTables.GoodLines.{Step, step_open, step_marked, Named, IsGood, AllGood, member, all_good_cut, with_list}
 use Rattle.std.proofs.lemmas.Bool.{eqb-false}
 use Rattle.xc_dance.proofs.LinkedTables.Sweep.{other_items, cut, with_line}
+use Rattle.xc_dance.specs.declared.links.nodes.TheConstants.{MARK}
 
 line_by : (ln : ℕ → Line) (i j : ℕ) (l : Line) (b : Bool) → eqb j i ≡ b → with_line ln i l j ≡ cond b l (ln j)
 line_by ln i j l b e = grind (arith, common_steps)
 
 -- the node of option o in item j's list is marked
 abbrev pub is_mark : Puzzle → (Node → ℕ) → ℕ → ℕ → Bool
-is_mark p col o j = eqb (get_or (map (col) (layout p)) (link_place p j o) 0) 4294967295
+is_mark p col o j = eqb (get_or (map (col) (layout p)) (link_place p j o) 0) MARK
 
 pub line_here : (ln : ℕ → Line) (i : ℕ) (l : Line) → with_line ln i l i ≡ l
 line_here ln i l = line_by ln i i l true (eq-eqb i i refl)

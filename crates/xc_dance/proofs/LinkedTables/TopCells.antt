@@ -19,6 +19,7 @@ use Rattle.xc_dance.proofs.MoveLemmas.ListLemmas.{length-listed}
 use Rattle.xc_dance.proofs.LinkedTables.PlaceLemmas.{spacer_here, place_first, spacer_is, spacer_at}
 use Rattle.xc_dance.proofs.LinkedTables.MarkedNodes.{colour_small}
 use Rattle.xc_dance.proofs.LinkedTables.GoodLines.{numbers_few}
+use Rattle.xc_dance.specs.declared.links.nodes.TheConstants.{MARK, SPACER}
 
 -- ---- how cells are read, and that different cells read differently
 
@@ -36,11 +37,11 @@ negsuc_same v w e = cc
 pub color_same : (v w : ℕ) → color_read v ≡ color_read w → v ≡ w
 color_same v w e = grind (arith, common_steps, eqb-true, pos_same)
 
-pub read_small : (v : ℕ) → v < 2147483648 → top_read v ≡ pos v
-read_small v h = rw (lt-leb 2147483648 v h) refl
+pub read_small : (v : ℕ) → v < SPACER → top_read v ≡ pos v
+read_small v h = rw (lt-leb SPACER v h) refl
 
-pub read_large : (v : ℕ) → 2147483648 ≤ v → top_read v ≡ minus (v - 2147483648)
-read_large v h = let yes = le-leb 2147483648 v h in rw yes refl
+pub read_large : (v : ℕ) → SPACER ≤ v → top_read v ≡ minus (v - SPACER)
+read_large v h = let yes = le-leb SPACER v h in rw yes refl
 
 -- ---- cells that are read
 
@@ -73,7 +74,7 @@ minus_pos v zero e = refl
 minus_pos v (suc w) e = let f : pos v ≡ negsuc w = e in cc
 
 -- a number that reads as 0 may be one of two
-pub top_same : (v w : ℕ) → top_read v ≡ top_read w → (v ≡ w) ⊎ ((v ≡ 2147483648) ⊎ (w ≡ 2147483648))
+pub top_same : (v w : ℕ) → top_read v ≡ top_read w → (v ≡ w) ⊎ ((v ≡ SPACER) ⊎ (w ≡ SPACER))
 top_same v w e = grind (arith, common_steps, ltb-false, ltb-true, minus_pos, minus_same, pos_same, read_large, read_small)
 
 -- what the lemmas ask of each table
@@ -83,7 +84,7 @@ pub record IsSound (p : Puzzle) : Type 0 where
   pub items : item_count p < 2 ^ 31
 
 -- the first spacer alone has that number
-pub first_spacer : (p : Puzzle) (t : List Move) (q : ℕ) (n : Node) → IsSound p → slice_get (layout p) q ≡ Some n → top_in (line_of p t) n ≡ 2147483648 → q ≡ item_count p + 1
+pub first_spacer : (p : Puzzle) (t : List Move) (q : ℕ) (n : Node) → IsSound p → slice_get (layout p) q ≡ Some n → top_in (line_of p t) n ≡ SPACER → q ≡ item_count p + 1
 first_spacer p t q unused s e f = absurd (omega (arith, f))
 first_spacer p t q (own i) s e f = grind (arith, common_steps, length-listed)
 first_spacer p t q (spacer n) s e f =
@@ -93,11 +94,11 @@ first_spacer p t q (used o u) s e f =
     let r = s.laid.nodes.ranged q (used o u) u.item o e refl in
     absurd (omega (arith, f, r.1, s.items))
 
-pub top_at_first : (p : Puzzle) (t : List Move) (v : ℕ) → slice_get (nodes_after p t).top (item_count p + 1) ≡ Some v → v ≡ 2147483648
+pub top_at_first : (p : Puzzle) (t : List Move) (v : ℕ) → slice_get (nodes_after p t).top (item_count p + 1) ≡ Some v → v ≡ SPACER
 top_at_first p t v e =
     let here : slice_get (layout p) (item_count p + 1) ≡ Some (spacer 0) = ap (slice_get (layout p)) (sym (place_first p)) ∙ spacer_here p 0 (omega arith) in
-    let is : slice_get (nodes_after p t).top (item_count p + 1) ≡ Some 2147483648 = slice_get-map (top_in (line_of p t)) (layout p) (item_count p + 1) ∙ ap (option_map (top_in (line_of p t))) here in
-    same_Some v 2147483648 (sym e ∙ is)
+    let is : slice_get (nodes_after p t).top (item_count p + 1) ≡ Some SPACER = slice_get-map (top_in (line_of p t)) (layout p) (item_count p + 1) ∙ ap (option_map (top_in (line_of p t))) here in
+    same_Some v SPACER (sym e ∙ is)
 
 pub node_at : (p : Puzzle) (f : Node → ℕ) (q v : ℕ) → slice_get (map f (layout p)) q ≡ Some v → (n : Node) × (slice_get (layout p) q ≡ Some n) × (f n ≡ v)
 node_at p f q v e = grind (arith, common_steps, same_Some, slice_get-map)
@@ -149,8 +150,8 @@ minus_is : (n : ℕ) → minus n ≡ neg_ℤ (pos n)
 minus_is zero = refl
 minus_is (suc n) = refl
 
-spacer_top : (n : ℕ) → top_read (2147483648 + n) ≡ neg_ℤ (pos n)
-spacer_top n = let rest : 2147483648 + n - 2147483648 ≡ n = omega arith in read_large (2147483648 + n) (omega arith) ∙ ap minus rest ∙ minus_is n
+spacer_top : (n : ℕ) → top_read (SPACER + n) ≡ neg_ℤ (pos n)
+spacer_top n = let rest : SPACER + n - SPACER ≡ n = omega arith in read_large (SPACER + n) (omega arith) ∙ ap minus rest ∙ minus_is n
 
 map_at : {X Y : Type 0} (f g : X → Y) (o : Option X) → ((x : X) → o ≡ Some x → f x ≡ g x) → option_map f o ≡ option_map g o
 map_at f g None h = refl
@@ -180,8 +181,8 @@ ulink_cell p t q laid = grind (arith, common_steps, node_read)
 pub dlink_cell : (p : Puzzle) (t : List Move) (q : ℕ) → IsLaid p → option_map natural (slice_get (nodes_after p t).dlink q) ≡ field_of p t Dlink q
 dlink_cell p t q laid = grind (arith, common_steps, node_read)
 
-small_color : (v : ℕ) → v < 4294967295 → color_read v ≡ pos v
-small_color v h = rw (ne_eqb v 4294967295 (λ e. omega (arith, e, h))) refl
+small_color : (v : ℕ) → v < MARK → color_read v ≡ pos v
+small_color v h = rw (ne_eqb v MARK (λ e. omega (arith, e, h))) refl
 
 -- the items' own nodes are never read as marked
 pub color_own : (p : Puzzle) (t : List Move) (q : ℕ) → IsLaid p → q ≤ item_count p → option_map natural (slice_get (nodes_after p t).color q) ≡ field_of p t Color q
@@ -199,7 +200,7 @@ color_use p t q laid fit gt = node_read p (color_in p t) color_read (color_of p 
     by_node (spacer n) e = refl
     by_node (used o u) e =
         let small = colour_small (uses_of p o) u.item u.colour (fit.colours o) (laid.nodes.coloured q o u e) in
-        elim (is_marked p t u.item o u.colour) as (λ b. color_read (cond b 4294967295 u.colour) ≡ cond b (neg_ℤ (pos 1)) (pos u.colour)) [ true ↦ refl | false ↦ small_color u.colour small ]
+        elim (is_marked p t u.item o u.colour) as (λ b. color_read (cond b MARK u.colour) ≡ cond b (neg_ℤ (pos 1)) (pos u.colour)) [ true ↦ refl | false ↦ small_color u.colour small ]
 
 -- ---- bounds
 

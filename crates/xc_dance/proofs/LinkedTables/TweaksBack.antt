@@ -38,6 +38,7 @@ use Rattle.xc_dance.proofs.MoveLemmas.Members.{element_of}
 use Rattle.xc_dance.proofs.LinkedTables.UnmarkedNodes.{costs-are, hidden_color, unmarked_items}
 use Rattle.xc_dance.proofs.LinkedTables.MoveStep.{none_newest}
 use Rattle.xc_dance.proofs.LinkedTables.Regained.{Regaining, regaining, regained}
+use Rattle.xc_dance.specs.declared.links.nodes.TheConstants.{MARK}
 
 -- ---- the lines after some Tweaks of one item, from those before
 
@@ -112,7 +113,7 @@ one_writes p s spans false i legal fit may opened f =
     omega (arith, (tweak_made p s spans false i legal fit pos le may.2 opened).cost, hides)
 
 gone_alike : (p : Puzzle) (col now : Node → ℕ) (i o : ℕ) → map now (layout p) ≡ map col (layout p) → gone_count p now i o ≡ gone_count p col i o
-gone_alike p col now i o e = ap (λ (cs : List ℕ). length (filter (λ j. not (eqb (get_or cs (link_place p j o) 0) 4294967295)) (other_items p o i))) e
+gone_alike p col now i o e = ap (λ (cs : List ℕ). length (filter (λ j. not (eqb (get_or cs (link_place p j o) 0) MARK)) (other_items p o i))) e
 
 pub record Tweaked (p : Puzzle) (t : List Move) (covered : Bool) (i k : ℕ) : Type 0 where
   pub os : List ℕ

@@ -26,18 +26,19 @@ use Rattle.xc_dance.specs.inner.Links.Unmarked.{IsPlain, HasUnmarked, IsUnmarked
 use Rattle.xc_dance.proofs.LinkedTables.OneOption.{is_mark}
 use Rattle.xc_dance.proofs.LinkedTables.LinkColumns.{get_map}
 use Rattle.xc_dance.proofs.LinkedTables.PlaceLemmas.{spacer_at, there}
+use Rattle.xc_dance.specs.declared.links.nodes.TheConstants.{MARK, SPACER}
 
 -- ---- what steps of hide and unhide write: 3 at each node that isn't marked
 
 abbrev pub unmarked_costs : List ℕ → List ℕ → ℕ
 unmarked_costs color [] = 0
-unmarked_costs color (q ∷ qs) = cond (eqb (get_or color q 0) 4294967295) 0 3 + unmarked_costs color qs
+unmarked_costs color (q ∷ qs) = cond (eqb (get_or color q 0) MARK) 0 3 + unmarked_costs color qs
 
 pub hidden_color : (t : Nodes) (q : ℕ) → (hidden t q).color ≡ t.color
-hidden_color t q = elim (eqb (get_or t.color q 0) 4294967295) as (λ b. (cond b t (unlinked t q)).color ≡ t.color) [ true ↦ refl | false ↦ refl ]
+hidden_color t q = elim (eqb (get_or t.color q 0) MARK) as (λ b. (cond b t (unlinked t q)).color ≡ t.color) [ true ↦ refl | false ↦ refl ]
 
 pub unhidden_color : (t : Nodes) (q : ℕ) → (unhidden t q).color ≡ t.color
-unhidden_color t q = elim (eqb (get_or t.color q 0) 4294967295) as (λ b. (cond b t (relinked t q)).color ≡ t.color) [ true ↦ refl | false ↦ refl ]
+unhidden_color t q = elim (eqb (get_or t.color q 0) MARK) as (λ b. (cond b t (relinked t q)).color ≡ t.color) [ true ↦ refl | false ↦ refl ]
 
 -- steps that leave the colours as they are
 pub costs-are : (step : Nodes → ℕ → Nodes) → ((t : Nodes) (q : ℕ) → (step t q).color ≡ t.color) → (t : Nodes) (qs : List ℕ) → costs step hide_cost t qs ≡ unmarked_costs t.color qs
@@ -96,7 +97,7 @@ past_end f (n ∷ ns) zero le = absurd (omega (arith, le))
 past_end f (n ∷ ns) (suc q) le = past_end f ns q (omega (arith, le))
 
 -- behind the items none is marked
-unmarked_behind : (p : Puzzle) (t : List Move) (q : ℕ) → IsLaid p → AreLegal p t → IsPlain p → item_count p < q → get_or (nodes_after p t).color q 0 ≢ 4294967295
+unmarked_behind : (p : Puzzle) (t : List Move) (q : ℕ) → IsLaid p → AreLegal p t → IsPlain p → item_count p < q → get_or (nodes_after p t).color q 0 ≢ MARK
 unmarked_behind p t q laid legal plain gt =
     let zeroed : get_or (nodes_after p t).color q 0 ≡ 0 =
     elim (ltb q (length (layout p))) as (λ b. ltb q (length (layout p)) ≡ b → get_or (nodes_after p t).color q 0 ≡ 0) [
@@ -122,7 +123,7 @@ starts_behind p (suc o) i pos e =
     let low : item_count p < place_at p o = omega arith in
     omega (arith, at, low)
 
-by_node : (p : Puzzle) (t : List Move) (x : ℕ) (n : Node) → IsLaid p → AreLegal p t → IsPlain p → x < 2147483648 → slice_get (layout p) x ≡ Some n → HasUnmarked (nodes_after p t).color (span_of p n) x
+by_node : (p : Puzzle) (t : List Move) (x : ℕ) (n : Node) → IsLaid p → AreLegal p t → IsPlain p → x < SPACER → slice_get (layout p) x ≡ Some n → HasUnmarked (nodes_after p t).color (span_of p n) x
 by_node p t x (used o u) laid legal plain small e =
     let start = starts_behind p o u.item (laid.nodes.numbered x o u e) (ap is_some (laid.nodes.coloured x o u e)) in (
       (λ q from below. unmarked_behind p t q laid legal plain (omega (arith, used_behind p x o u laid e, from))),

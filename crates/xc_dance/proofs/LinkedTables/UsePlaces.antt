@@ -14,6 +14,7 @@ use Rattle.xc_dance.specs.inner.Links.OptionPlaces.{start_at, place_at}
 use Rattle.xc_dance.proofs.LinkedTables.LinkColumns.{get_map}
 use Rattle.xc_dance.proofs.LinkedTables.NodeOptions.{at_own}
 use Rattle.xc_dance.proofs.LinkedTables.PlaceLemmas.{use_here, spacer_here, place_next, use_at, spacer_at, option_get}
+use Rattle.xc_dance.specs.declared.links.nodes.TheConstants.{SPACER}
 
 -- ---- where an item stands among uses
 
@@ -92,7 +93,7 @@ use_cells p t o u q node = record {
 -- what they tell at the spacer behind option x, which is behind option m
 pub record SpacerCells (p : Puzzle) (t : List Move) (x m q : ℕ) : Type 0 where
   pub within : q < length (layout p)
-  pub top : get_or (nodes_after p t).top q 0 ≡ 2147483648 + x
+  pub top : get_or (nodes_after p t).top q 0 ≡ SPACER + x
   pub ulink : get_or (nodes_after p t).ulink q 0 ≡ spacer_place p m + 1
 
 pub spacer_cells : (p : Puzzle) (t : List Move) (x m q : ℕ) → x ≡ suc m → slice_get (layout p) q ≡ Some (spacer x) → SpacerCells p t x m q

@@ -8,6 +8,7 @@ use Rattle.std.proofs.lemmas.List.Sums.{fold-append}
 use Rattle.xc_dance.specs.declared.links.nodes.Nodes.{Nodes}
 use Rattle.xc_dance.specs.inner.Links.Steps.{followed, IsSpacer, places}
 use Rattle.xc_dance.specs.inner.Links.Walks.{costs, CanAll, CanFollow}
+use Rattle.xc_dance.specs.declared.links.nodes.TheConstants.{SPACER}
 
 -- ---- walks over nodes, under way and at their end: for hide and unhide, down a list and up, and down nodes that come back
 
@@ -57,12 +58,12 @@ both_reached {step} {writes} {t0} {ps} {t} {n} qs rs u m h same is paid = grind 
 -- what TOP tells at q: the spacer z, where nothing is left, or the next place before it
 pub record Tells (t u : Nodes) (q z : ℕ) (left : List ℕ) : Type 0 where
   pub within : q < length t.top
-  pub low : get_or t.top q 0 < 2147483648 → q ≢ z
-  pub at : 2147483648 ≤ get_or t.top q 0 → q ≡ z
-  pub none : 2147483648 ≤ get_or t.top q 0 → left ≡ []
-  pub is : 2147483648 ≤ get_or t.top q 0 → t ≡ u
+  pub low : get_or t.top q 0 < SPACER → q ≢ z
+  pub at : SPACER ≤ get_or t.top q 0 → q ≡ z
+  pub none : SPACER ≤ get_or t.top q 0 → left ≡ []
+  pub is : SPACER ≤ get_or t.top q 0 → t ≡ u
 
-pub tells : {step : Nodes → ℕ → Nodes} {writes : Nodes → ℕ → ℕ} {Can : Nodes → ℕ → Type 0} {t0 : Nodes} {all : List ℕ} {t : Nodes} {left : List ℕ} {n : ℕ} (q z : ℕ) → ((v : Nodes) (x : ℕ) → Can v x → (x < length v.top) × (get_or v.top x 0 < 2147483648))
+pub tells : {step : Nodes → ℕ → Nodes} {writes : Nodes → ℕ → ℕ} {Can : Nodes → ℕ → Type 0} {t0 : Nodes} {all : List ℕ} {t : Nodes} {left : List ℕ} {n : ℕ} (q z : ℕ) → ((v : Nodes) (x : ℕ) → Can v x → (x < length v.top) × (get_or v.top x 0 < SPACER))
     → (q ≡ z → left ≡ []) → (q ≢ z → (more : List ℕ) × (left ≡ q ∷ more)) → IsSpacer (fold step t0 all) z → Underway step writes Can t0 all t left n → Tells t (fold step t0 all) q z left
 tells {step} {writes} {Can} {t0} {all} {t} {left} {n} q z knows met on spacer h =
     let u : Nodes = fold step t0 all in

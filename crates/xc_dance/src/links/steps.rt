@@ -5,6 +5,7 @@ ghost use Rattle.std.specs.Prelude.{◌≡◌, ◌≢◌, false, ℕ, ◌+◌, �
 ghost use Rattle.xc_dance.specs.inner.Links.Columns.{values, columns};
 ghost use Rattle.xc_dance.specs.inner.Links.Steps.{HasSize, NamesPlaces, unlinked, relinked, hidden, hide_cost, hide_costs, CanHide, CanHideAll, places, unhidden, CanUnhide, CanUnhideAll, unhide_costs, others_of, hidden_node, unhidden_node, CanHideNode, CanUnhideNode};
 ghost use Rattle.xc_dance.specs.inner.Links.Unmarked.{AreUnmarked, IsUnmarked};
+ghost use Rattle.xc_dance.specs.declared.links.nodes.TheConstants.{MARK};
 
 use crate::links::cells::{Cell, Link, down_at, get_at, set_at, set_down_at, set_up_at, up_at};
 use crate::links::nodes::{MARK, SPACER};
@@ -72,7 +73,7 @@ fn hide_one(
     writes: &mut Writes,
 ) -> u64
     requires can { CanHide (columns top.old links.old color.now) q }
-    requires unmarked { marks ≡ false → slice_index (values color.now) q ≢ 4294967295 }
+    requires unmarked { marks ≡ false → slice_index (values color.now) q ≢ MARK }
     ensures done { columns top.new links.new color.now ≡ hidden (columns top.old links.old color.now) q }
     ensures cost { result ≡ hide_cost (columns top.old links.old color.now) q }
     ensures counted { writes.new.count ≡ writes.old.count + result }
@@ -153,7 +154,7 @@ fn unhide_one(
     writes: &mut Writes,
 ) -> u64
     requires can { CanUnhide (columns top.old links.old color.now) q }
-    requires unmarked { marks ≡ false → slice_index (values color.now) q ≢ 4294967295 }
+    requires unmarked { marks ≡ false → slice_index (values color.now) q ≢ MARK }
     requires near { q < 2 ^ 32 }
     ensures done { columns top.new links.new color.now ≡ unhidden (columns top.old links.old color.now) q }
     ensures cost { result ≡ hide_cost (columns top.old links.old color.now) q }

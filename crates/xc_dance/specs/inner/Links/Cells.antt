@@ -7,6 +7,7 @@ use Rattle.xc_dance.specs.Moves.{listed, purified}
 use Rattle.xc_dance.specs.Moves.{listed_numbers}
 use Rattle.xc_dance.specs.Fields.{Node, unused, own, spacer, used, layout, spacer_place, link_place, above, below_of, is_marked, first_of, last_of}
 use Rattle.xc_dance.specs.inner.Links.Lines.{Line}
+use Rattle.xc_dance.specs.declared.links.nodes.TheConstants.{MARK, SPACER}
 
 -- the item and the member that a node stands for, 0 being the item's own node
 abbrev pub slot_of : Node → Option (ℕ × ℕ)
@@ -39,7 +40,7 @@ fixed_down p (used o u) = 0
 abbrev pub top_in : (ℕ → Line) → Node → ℕ
 top_in ln unused = 0
 top_in ln (own i) = (ln i).len
-top_in ln (spacer n) = 2147483648 + n
+top_in ln (spacer n) = SPACER + n
 top_in ln (used o u) = u.item
 
 -- the number in the COLOR cell of a node, a mark being the greatest
@@ -47,7 +48,7 @@ abbrev pub color_in : Puzzle → List Move → Node → ℕ
 color_in p t unused = 0
 color_in p t (own i) = unwrap_or (purified i t) 0
 color_in p t (spacer n) = 0
-color_in p t (used o u) = if is_marked p t u.item o u.colour then 4294967295 else u.colour
+color_in p t (used o u) = if is_marked p t u.item o u.colour then MARK else u.colour
 
 -- the number in the ULINK cell of a node, by the lines
 abbrev pub ulink_in : Puzzle → (ℕ → Line) → Node → ℕ

@@ -5,6 +5,7 @@ use Rattle.std.specs.List.{AllByRecursion}
 use Rattle.xc_input.specs.declared.problem.Use.{Use}
 use Rattle.xc_dance.specs.Fields.{Node, own, used, layout, link_place}
 use Rattle.xc_dance.specs.inner.Links.Cells.{slot_of}
+use Rattle.xc_dance.specs.declared.links.nodes.TheConstants.{MARK}
 
 -- 0, or an option that holds item j
 abbrev pub IsName : Puzzle → ℕ → ℕ → Type 0
@@ -45,7 +46,7 @@ AreDistinct (u ∷ us) = (is_some (colour_in us u.item) ≡ false) × AreDistinc
 pub record IsFit (p : Puzzle) : Type 0 where
   pub distinct : (o : ℕ) → AreDistinct (uses_of p o)
   pub items : (o : ℕ) → AllByRecursion (λ u. (0 < u.item) × (u.item ≤ item_count p)) (uses_of p o)
-  pub colours : (o : ℕ) → AllByRecursion (λ u. u.colour < 4294967295) (uses_of p o)
+  pub colours : (o : ℕ) → AllByRecursion (λ u. u.colour < MARK) (uses_of p o)
   pub few : length p.options < 2 ^ 30
   pub small : item_count p < 2 ^ 31
   pub near : length (layout p) < 2 ^ 31

@@ -4,6 +4,7 @@ use Rattle.xc_dance.specs.declared.links.nodes.Nodes.{Nodes}
 use Rattle.xc_dance.specs.inner.Links.Span.{Span}
 use Rattle.xc_dance.specs.inner.Links.Steps.{HasSize, hide_costs, CanHideNode, CanUnhideNode, unhide_costs, others_of, hidden_node, list_of, unhidden_node, list_back}
 use Rattle.xc_dance.specs.inner.Links.Walks.{costs, CanFollow}
+use Rattle.xc_dance.specs.declared.links.nodes.TheConstants.{MARK}
 
 -- node q has this colour now
 abbrev pub with_colour : Nodes → ℕ → ℕ → Nodes
@@ -17,7 +18,7 @@ is_kept_colour (Some c) v = v == c
 -- the node was marked in place of being hidden
 abbrev pub is_kept_mark : Option ℕ → ℕ → Bool
 is_kept_mark None v = false
-is_kept_mark (Some c) v = v == 4294967295
+is_kept_mark (Some c) v = v == MARK
 
 -- the colour that a marked node gets back
 abbrev pub kept_colour : Option ℕ → ℕ
@@ -26,7 +27,7 @@ kept_colour (Some c) = c
 
 -- one step down: a node of the colour kept is marked, any other one hidden
 abbrev pub left_node : List Span → Option ℕ → Nodes → ℕ → Nodes
-left_node spans keep t p = if is_kept_colour keep (slice_index t.color p) then with_colour t p 4294967295 else hidden_node spans t p
+left_node spans keep t p = if is_kept_colour keep (slice_index t.color p) then with_colour t p MARK else hidden_node spans t p
 
 -- what one step down writes
 abbrev pub leave_cost : List Span → Option ℕ → Nodes → ℕ → ℕ

@@ -5,6 +5,7 @@ use Rattle.std.specs.List.{range_with_len}
 use Rattle.xc_dance.specs.declared.links.nodes.Nodes.{Nodes}
 use Rattle.xc_dance.specs.inner.Links.Span.{Span}
 use Rattle.xc_dance.specs.inner.Links.Walks.{costs, CanAll}
+use Rattle.xc_dance.specs.declared.links.nodes.TheConstants.{MARK, SPACER}
 
 -- all columns have n cells
 pub record HasSize (t : Nodes) (n : ℕ) : Type 0 where
@@ -34,11 +35,11 @@ relinked t q =
 
 -- a step of hide at node q, which passes over a marked node
 abbrev pub hidden : Nodes → ℕ → Nodes
-hidden t q = if slice_index t.color q == 4294967295 then t else unlinked t q
+hidden t q = if slice_index t.color q == MARK then t else unlinked t q
 
 -- what a step of hide writes
 abbrev pub hide_cost : Nodes → ℕ → ℕ
-hide_cost t q = if slice_index t.color q == 4294967295 then 0 else 3
+hide_cost t q = if slice_index t.color q == MARK then 0 else 3
 
 -- what a walk of hide writes
 abbrev pub hide_costs : Nodes → List ℕ → ℕ
@@ -48,9 +49,9 @@ hide_costs = costs hidden hide_cost
 pub record CanHide (t : Nodes) (q : ℕ) : Type 0 where
   pub size : HasSize t (length t.top)
   pub place : q < length t.top
-  pub use_of : slice_index t.top q < 2147483648
-  pub places : slice_index t.color q ≢ 4294967295 → NamesPlaces t q
-  pub some : slice_index t.color q ≢ 4294967295 → 0 < slice_index t.top (slice_index t.top q)
+  pub use_of : slice_index t.top q < SPACER
+  pub places : slice_index t.color q ≢ MARK → NamesPlaces t q
+  pub some : slice_index t.color q ≢ MARK → 0 < slice_index t.top (slice_index t.top q)
 
 -- a walk of hide may be made, each step at what the one before left
 abbrev pub CanHideAll : Nodes → List ℕ → Type 0
@@ -66,15 +67,15 @@ others p first end = places (p + 1) end ++ places first p
 
 -- a step of unhide at node q, which passes over a marked node
 abbrev pub unhidden : Nodes → ℕ → Nodes
-unhidden t q = if slice_index t.color q == 4294967295 then t else relinked t q
+unhidden t q = if slice_index t.color q == MARK then t else relinked t q
 
 -- a step of unhide may be made at q, which is no spacer
 pub record CanUnhide (t : Nodes) (q : ℕ) : Type 0 where
   pub size : HasSize t (length t.top)
   pub place : q < length t.top
-  pub use_of : slice_index t.top q < 2147483648
-  pub places : slice_index t.color q ≢ 4294967295 → NamesPlaces t q
-  pub few : slice_index t.color q ≢ 4294967295 → slice_index t.top (slice_index t.top q) < 2 ^ 31
+  pub use_of : slice_index t.top q < SPACER
+  pub places : slice_index t.color q ≢ MARK → NamesPlaces t q
+  pub few : slice_index t.color q ≢ MARK → slice_index t.top (slice_index t.top q) < 2 ^ 31
 
 -- a walk of unhide may be made, each step at what the one before left
 abbrev pub CanUnhideAll : Nodes → List ℕ → Type 0
@@ -100,7 +101,7 @@ hidden_node spans t p = fold hidden t (others_of spans p)
 pub record IsSpacer (t : Nodes) (z : ℕ) : Type 0 where
   pub size : HasSize t (length t.top)
   pub place : z < length t.top
-  pub top : 2147483648 ≤ slice_index t.top z
+  pub top : SPACER ≤ slice_index t.top z
 
 -- hide(p) may be made: once the nodes behind p are hidden, the spacer behind them leads to the option's first node
 pub record CanHideNode (spans : List Span) (t : Nodes) (p : ℕ) : Type 0 where

@@ -4,6 +4,7 @@ use Rattle.std.specs.List.{AllByRecursion}
 use Rattle.xc_input.specs.Problem.{Puzzle, uses_of}
 use Rattle.xc_dance.specs.inner.Links.Span.{Span}
 use Rattle.xc_dance.specs.inner.Links.Steps.{span_at}
+use Rattle.xc_dance.specs.declared.links.nodes.TheConstants.{MARK}
 
 -- no use has a colour
 abbrev pub IsPlain : Puzzle → Type 0
@@ -11,7 +12,7 @@ IsPlain p = (o : ℕ) → AllByRecursion (λ u. u.colour ≡ 0) (uses_of p o)
 
 -- no node from a to below b is marked
 abbrev pub AreUnmarked : List ℕ → ℕ → ℕ → Type 0
-AreUnmarked color a b = (q : ℕ) → a ≤ q → q < b → slice_index color q ≢ 4294967295
+AreUnmarked color a b = (q : ℕ) → a ≤ q → q < b → slice_index color q ≢ MARK
 
 -- no other node of node x's option is marked
 abbrev pub HasUnmarked : List ℕ → Span → ℕ → Type 0

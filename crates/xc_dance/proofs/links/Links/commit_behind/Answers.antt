@@ -11,6 +11,7 @@ use Rattle.xc_dance.proofs.LinkedTables.Along.{along_first, Behind, behind_at, I
 use Rattle.xc_dance.proofs.LinkedTables.Written.{written_then}
 use Rattle.xc_dance.proofs.links.Links.commit_behind.Goals as goal
 use Rattle.xc_dance.proofs.links.Links.commit_behind.Goals.{After-self, After-self-in-loop-self}
+use Rattle.xc_dance.specs.declared.links.nodes.TheConstants.{SPACER}
 
 fit : (c : After-self) → IsFit c.args.self.now.puzzle
 fit c = subst (λ (s : Linked). IsFit s.puzzle) c.self.view_is c.self.invariant.fitted.fit
@@ -80,7 +81,7 @@ top-j-requires c = at_top (goal.at.top-j-requires c).After-self-in-loop-self
 
 -- the next use, where TOP isn't that of a spacer
 next : (c : After-self-in-loop-self) (x : ℕ) → IsUseAt c.args.self.now.puzzle c.args.i x c.args.place →
-    get_or c.self-in-loop-self.inside.nodes.top c.loop-self.q 0 < 2147483648 →
+    get_or c.self-in-loop-self.inside.nodes.top c.loop-self.q 0 < SPACER →
     IsNext c.args.self.now.puzzle x (c.args.place + 1) (uses_behind c.args.self.now.puzzle c.args.i x)
     c.args.self.now.trail c.loop-self.self.trail c.loop-self.q
 next c x held low = let is = top_is c in (found c x held).node (omega (arith, is, low))
@@ -92,7 +93,7 @@ commit_node-requires c =
     let x = c.requires.0 in
     let told = c.top.ensures in
     let test = c.loop-self-test.true in
-    let low : get_or c.self-in-loop-self.inside.nodes.top c.loop-self.q 0 < 2147483648 = omega (arith, told, test) in
+    let low : get_or c.self-in-loop-self.inside.nodes.top c.loop-self.q 0 < SPACER = omega (arith, told, test) in
     let is = c.top-j.ensures ∙ top_is here in
     record {
       node = may_commit s.puzzle x (c.args.place + 1) (uses_behind s.puzzle c.args.i x)
@@ -118,7 +119,7 @@ loop-self-preserved c =
     let s = c.args.self.now in
     let told = c.top.ensures in
     let test = c.loop-self-test.true in
-    let low : get_or c.self-in-loop-self.inside.nodes.top c.loop-self.q 0 < 2147483648 = omega (arith, told, test) in
+    let low : get_or c.self-in-loop-self.inside.nodes.top c.loop-self.q 0 < SPACER = omega (arith, told, test) in
     let is = c.top-j.ensures ∙ top_is here in
     let step : (x : ℕ) → IsUseAt s.puzzle c.args.i x c.args.place →
     Committed s.puzzle (c.args.place + 1) (uses_behind s.puzzle c.args.i x)
@@ -141,6 +142,6 @@ returns-clause-committed c = λ x held.
     let is = top_is here in
     let told = c.top.ensures in
     let test = c.loop-self-test.false in
-    let high : 2147483648 ≤ top_at s.puzzle c.loop-self.self.trail c.loop-self.q = omega (arith, is, told, test) in
+    let high : SPACER ≤ top_at s.puzzle c.loop-self.self.trail c.loop-self.q = omega (arith, is, told, test) in
     let end = (found here x held).end high in
     (whole s.puzzle s.room c.loop-self.self _ c.loop-self.invariant.puzzle c.loop-self.invariant.room end.0, end.1)

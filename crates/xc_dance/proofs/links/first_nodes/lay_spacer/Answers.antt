@@ -7,6 +7,7 @@ use Rattle.xc_dance.specs.inner.Links.FirstNodes.{with_row}
 use Rattle.xc_dance.proofs.LinkedTables.PlaceLemmas.{spacer_here}
 use Rattle.xc_dance.proofs.LinkedTables.FirstTables.{laid_room, laid_more, spacer_row}
 use Rattle.xc_dance.proofs.links.first_nodes.lay_spacer.Goals as goal
+use Rattle.xc_dance.specs.declared.links.nodes.TheConstants.{SPACER}
 
 pub lay-requires : goal.lay-requires
 lay-requires c =
@@ -20,7 +21,7 @@ returns c =
     let p = c.args.problem.now.puzzle in
     let o = c.args.o in
     let q = c.args.place in
-    let row : Row = record { top = 2147483648 + o; ulink = c.args.above; dlink = c.last_node-below.result; color = 0 } in
+    let row : Row = record { top = SPACER + o; ulink = c.args.above; dlink = c.last_node-below.result; color = 0 } in
     let at = ap (slice_get (layout p)) c.requires.place ∙ spacer_here p o c.requires.option in
     c.lay.ensures ∙ ap (λ (t : Laying). with_row t row) c.requires.before
     ∙ laid_more p q (spacer o) row at

@@ -12,12 +12,13 @@ use Rattle.std.proofs.lemmas.Option.{slice_get-get_or}
 use Rattle.xc_dance.proofs.LinkedTables.EnteredNodes.{lines_of, UseStep, use_step, spacer_step, spacer_top, behind_items, none_entered, all_entered}
 use Rattle.xc_dance.proofs.links.first_nodes.link_uses.Goals as goal
 use Rattle.xc_dance.proofs.links.first_nodes.link_uses.Goals.{Then-top-lt-SPACER, then-top-lt-SPACER, else-top-lt-SPACER}
+use Rattle.xc_dance.specs.declared.links.nodes.TheConstants.{SPACER}
 
 abbrev so_far : Puzzle → ℕ → Nodes
 so_far p q = nodes_from p (lines_of (take q (layout p))) (color_in p [])
 
 -- the node at q is a use's where its TOP is small
-is_use : (p : Puzzle) (q : ℕ) (n : Node) → IsFit p → IsWithinLimits p → item_count p + 1 ≤ q → slice_get (layout p) q ≡ Some n → slice_index (so_far p q).top q < 2147483648 →
+is_use : (p : Puzzle) (q : ℕ) (n : Node) → IsFit p → IsWithinLimits p → item_count p + 1 ≤ q → slice_get (layout p) q ≡ Some n → slice_index (so_far p q).top q < SPACER →
     (o : ℕ) × (u : Use) × UseStep p (so_far p q) q o u
 is_use p q unused fit limits from e small = absurd (behind_items p q unused from e)
 is_use p q (own i) fit limits from e small = absurd (behind_items p q (own i) from e)
@@ -25,7 +26,7 @@ is_use p q (spacer n) fit limits from e small = let top = spacer_top p (lines_of
 is_use p q (used o u) fit limits from e small = (o, u, use_step p q o u fit limits e)
 
 -- and a spacer's where it isn't
-is_spacer : (p : Puzzle) (q : ℕ) (n : Node) → IsFit p → IsWithinLimits p → item_count p + 1 ≤ q → slice_get (layout p) q ≡ Some n → (slice_index (so_far p q).top q < 2147483648 → ⊥) → so_far p q ≡ so_far p (q + 1)
+is_spacer : (p : Puzzle) (q : ℕ) (n : Node) → IsFit p → IsWithinLimits p → item_count p + 1 ≤ q → slice_get (layout p) q ≡ Some n → (slice_index (so_far p q).top q < SPACER → ⊥) → so_far p q ≡ so_far p (q + 1)
 is_spacer p q unused fit limits from e large = absurd (behind_items p q unused from e)
 is_spacer p q (own i) fit limits from e large = absurd (behind_items p q (own i) from e)
 is_spacer p q (spacer n) fit limits from e large = spacer_step p q n e

@@ -7,6 +7,7 @@ use Rattle.xc_dance.specs.inner.Links.Steps.{hidden, hide_cost, hide_costs, CanH
 use Rattle.xc_dance.proofs.LinkedTables.Walks.{places_none, places_more, CanAll-append, underway, step_can, step_on, steps_end, both_reached, Reached, Tells, tells}
 use Rattle.xc_dance.proofs.links.steps.hide.Goals as goal
 use Rattle.xc_dance.proofs.links.steps.hide.Goals.{After-get_at}
+use Rattle.xc_dance.specs.declared.links.nodes.TheConstants.{SPACER}
 
 -- the walk up to the spacer, and the one from the first node on
 parts : (spans : List Span) (t : Nodes) (p : ℕ) → CanHideNode spans t p →
@@ -18,11 +19,11 @@ told : (c : After-get_at) → (let s = span_at c.args.spans.now c.args.p in
     Tells (columns c.loop-top.top c.loop-top.links c.args.color.now) (fold hidden (columns c.args.top.now c.args.links.now c.args.color.now) (places (c.args.p + 1) s.end)) c.loop-top.q s.end (places c.loop-top.q s.end))
 told c = grind (arith, common_steps, places_more, places_none, tells)
 
-high : (c : After-get_at) → 2147483648 ≤ c.get_at.result → 2147483648 ≤ get_or (columns c.loop-top.top c.loop-top.links c.args.color.now).top c.loop-top.q 0
+high : (c : After-get_at) → SPACER ≤ c.get_at.result → SPACER ≤ get_or (columns c.loop-top.top c.loop-top.links c.args.color.now).top c.loop-top.q 0
 high c h = let e = c.get_at.ensures in omega (arith, e, h)
 
 -- there is a step to make
-goes : (c : After-get_at) → c.get_at.result < 2147483648 → c.loop-top.q < (span_at c.args.spans.now c.args.p).end
+goes : (c : After-get_at) → c.get_at.result < SPACER → c.loop-top.q < (span_at c.args.spans.now c.args.p).end
 goes c low = let e = c.get_at.ensures in let ne = (told c).low (omega (arith, e, low)) in let to = c.loop-top.invariant.to in omega (arith, ne, to)
 
 pub loop-top-init : goal.loop-top-init
@@ -44,7 +45,7 @@ pub up_at-first-requires : goal.up_at-first-requires
 up_at-first-requires c = let at = (goal.at.up_at-first-requires c).After-get_at in grind (arith, common_steps, told at, high at)
 
 -- the spacer leads to the first node
-leads : (c : After-get_at) → 2147483648 ≤ c.get_at.result → (first : ℕ) → first ≡ get_or (columns c.loop-top.top c.loop-top.links c.args.color.now).ulink c.loop-top.q 0 → first ≡ (span_at c.args.spans.now c.args.p).first
+leads : (c : After-get_at) → SPACER ≤ c.get_at.result → (first : ℕ) → first ≡ get_or (columns c.loop-top.top c.loop-top.links c.args.color.now).ulink c.loop-top.q 0 → first ≡ (span_at c.args.spans.now c.args.p).first
 leads c met first is = grind (arith, common_steps, high c, told c)
 
 pub hide_range-below-requires-clause-can : goal.hide_range-below-requires-clause-can
@@ -61,7 +62,7 @@ hide_range-below-requires-clause-unmarked c = λ m q from below.
     ((c.requires.unmarked m).others c.args.p c.requires.span).1 q (omega (arith, first, from)) below
 
 -- both walks
-whole : (c : After-get_at) → 2147483648 ≤ c.get_at.result → (first : ℕ) → first ≡ get_or (columns c.loop-top.top c.loop-top.links c.args.color.now).ulink c.loop-top.q 0 → (u : Nodes) (m : ℕ) →
+whole : (c : After-get_at) → SPACER ≤ c.get_at.result → (first : ℕ) → first ≡ get_or (columns c.loop-top.top c.loop-top.links c.args.color.now).ulink c.loop-top.q 0 → (u : Nodes) (m : ℕ) →
     u ≡ fold hidden (columns c.loop-top.top c.loop-top.links c.args.color.now) (places first c.args.p) → m ≡ hide_costs (columns c.loop-top.top c.loop-top.links c.args.color.now) (places first c.args.p) →
     Reached hidden hide_cost (columns c.args.top.now c.args.links.now c.args.color.now) (others_of c.args.spans.now c.args.p) u (c.loop-top.above + m)
 whole c met first is u m done cost = both_reached _ _ u m (steps_end ((told c).none (high c met)) c.loop-top.invariant.walk) (ap (λ a. places a c.args.p) (leads c met first is)) done cost

@@ -8,6 +8,7 @@ use Rattle.xc_dance.specs.inner.Links.Steps.{unhidden, hide_cost, unhide_costs, 
 use Rattle.xc_dance.proofs.LinkedTables.Walks.{places_none, reverse-places, CanAll-append, underway, step_can, step_on, steps_end, both_reached, Reached, Tells, tells}
 use Rattle.xc_dance.proofs.links.steps.unhide.Goals as goal
 use Rattle.xc_dance.proofs.links.steps.unhide.Goals.{After-get_at}
+use Rattle.xc_dance.specs.declared.links.nodes.TheConstants.{SPACER}
 
 both : (p first end : ℕ) → reverse (others p first end) ≡ reverse (places first p) ++ reverse (places (p + 1) end)
 both p first end = reverse-append (places (p + 1) end) (places first p)
@@ -28,11 +29,11 @@ told : (c : After-get_at) → (let s = span_at c.args.spans.now c.args.p in
     Tells (columns c.loop-top.top c.loop-top.links c.args.color.now) (fold unhidden (columns c.args.top.now c.args.links.now c.args.color.now) (reverse (places s.first c.args.p))) c.loop-top.q (s.first - 1) (reverse (places s.first (c.loop-top.q + 1))))
 told c = grind (arith, common_steps, places_none, tells, next)
 
-high : (c : After-get_at) → 2147483648 ≤ c.get_at.result → 2147483648 ≤ get_or (columns c.loop-top.top c.loop-top.links c.args.color.now).top c.loop-top.q 0
+high : (c : After-get_at) → SPACER ≤ c.get_at.result → SPACER ≤ get_or (columns c.loop-top.top c.loop-top.links c.args.color.now).top c.loop-top.q 0
 high c h = let e = c.get_at.ensures in omega (arith, e, h)
 
 -- there is a step to make
-goes : (c : After-get_at) → c.get_at.result < 2147483648 → (span_at c.args.spans.now c.args.p).first ≤ c.loop-top.q
+goes : (c : After-get_at) → c.get_at.result < SPACER → (span_at c.args.spans.now c.args.p).first ≤ c.loop-top.q
 goes c low = let e = c.get_at.ensures in let ne = (told c).low (omega (arith, e, low)) in let from = c.loop-top.invariant.from in omega (arith, ne, from)
 
 pub loop-top-init : goal.loop-top-init
@@ -54,7 +55,7 @@ pub down_at-requires : goal.down_at-requires
 down_at-requires c = let at = (goal.at.down_at-requires c).After-get_at in grind (arith, common_steps, told at, high at)
 
 -- the spacer leads to the last node
-leads : (c : After-get_at) → 2147483648 ≤ c.get_at.result → (last : ℕ) → last ≡ get_or (columns c.loop-top.top c.loop-top.links c.args.color.now).dlink c.loop-top.q 0 → last + 1 ≡ (span_at c.args.spans.now c.args.p).end
+leads : (c : After-get_at) → SPACER ≤ c.get_at.result → (last : ℕ) → last ≡ get_or (columns c.loop-top.top c.loop-top.links c.args.color.now).dlink c.loop-top.q 0 → last + 1 ≡ (span_at c.args.spans.now c.args.p).end
 leads c met last is = grind (arith, common_steps, high c, told c)
 
 pub overflow_add-end : goal.overflow_add-end
@@ -76,7 +77,7 @@ unhide_range-above-requires-clause-unmarked c = λ m q from below.
     ((c.requires.unmarked m).others c.args.p c.requires.span).0 q from (omega (arith, end, below))
 
 -- both walks
-whole : (c : After-get_at) → 2147483648 ≤ c.get_at.result → (end : ℕ) → end ≡ (span_at c.args.spans.now c.args.p).end → (u : Nodes) (m : ℕ) →
+whole : (c : After-get_at) → SPACER ≤ c.get_at.result → (end : ℕ) → end ≡ (span_at c.args.spans.now c.args.p).end → (u : Nodes) (m : ℕ) →
     u ≡ fold unhidden (columns c.loop-top.top c.loop-top.links c.args.color.now) (reverse (places (c.args.p + 1) end)) → m ≡ unhide_costs (columns c.loop-top.top c.loop-top.links c.args.color.now) (reverse (places (c.args.p + 1) end)) →
     Reached unhidden hide_cost (columns c.args.top.now c.args.links.now c.args.color.now) (reverse (others_of c.args.spans.now c.args.p)) u (c.loop-top.below + m)
 whole c met end is u m done cost =
