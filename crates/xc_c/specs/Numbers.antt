@@ -3,7 +3,11 @@ use Rattle.std.specs.Prelude.{ℕ, ◌+◌, ◌*◌, ◌==◌, Option, None, Som
 use Rattle.xc_input.specs.declared.kind.Kind.{Kind}
 use Rattle.xc_input.specs.declared.kind.Kind.TheVariants.{Plain, Colours, Bounds}
 use Rattle.xc_input.specs.declared.fault.FaultKind.{FaultKind}
-use Rattle.xc_input.specs.declared.fault.FaultKind.TheVariants.{NoItems, NulByte, EmptyName, NameTooLong, BadByteInName, RepeatedName, TwoBars, BadBound, BoundOrder, BoundOnSecondary, UnknownItem, RepeatedInOption, ColourOnPrimary, BadColour, ColourNotHere, TooManyItems, TooManyUses}
+use Rattle.xc_input.specs.declared.fault.FaultKind.TheVariants.{NoItems, NulByte, EmptyName, NameTooLong, BadByteInName}
+use Rattle.xc_input.specs.declared.fault.FaultKind.TheVariants.{RepeatedName, TwoBars, BadBound, BoundOrder}
+use Rattle.xc_input.specs.declared.fault.FaultKind.TheVariants.{BoundOnSecondary, UnknownItem, RepeatedInOption}
+use Rattle.xc_input.specs.declared.fault.FaultKind.TheVariants.{ColourOnPrimary, BadColour, ColourNotHere, TooManyItems}
+use Rattle.xc_input.specs.declared.fault.FaultKind.TheVariants.{TooManyUses}
 
 -- the kind of a number: as `dlx1` reads a text, as `dlx2`, as `dlx3`
 abbrev pub numbered_kind : ℕ → Option Kind

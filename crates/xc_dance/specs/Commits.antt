@@ -1,5 +1,6 @@
 -- The moves of a level of a search, and where an option stands.
-use Rattle.std.specs.Prelude.{ℕ, ◌+◌, ◌-◌, ◌<◌, ◌≤◌, ◌≡◌, ◌⊎◌, ◌==◌, nat_le, Option, Some, None, option_map, unwrap_or, slice_get, List, [], ◌∷◌, ◌++◌, length, take, drop, if◌then◌else◌, All, Contains}
+use Rattle.std.specs.Prelude.{ℕ, ◌+◌, ◌-◌, ◌<◌, ◌≤◌, ◌≡◌, ◌⊎◌, ◌==◌, nat_le, Option, Some, None, option_map, unwrap_or}
+use Rattle.std.specs.Prelude.{slice_get, List, [], ◌∷◌, ◌++◌, length, take, drop, if◌then◌else◌, All, Contains}
 use Rattle.std.specs.List.{position_or_len}
 use Rattle.xc_input.specs.declared.problem.Use.{Use}
 use Rattle.xc_dance.specs.declared.dance.Move.{Move}

@@ -28,8 +28,8 @@ pub(crate) fn place_of(problem: &Problem, i: u32, o: u32) -> u32
     first_place(problem, o) + index_of(problem.option(o), i) as u32
 }
 
-/// The place of the first node of option `o`: behind the items' own nodes, a spacer, and the nodes of each option before
-/// it, with the spacer behind them.
+/// The place of the first node of option `o`: behind the items' own nodes, a spacer, and the nodes of each option
+/// before it, with the spacer behind them.
 #[tactic(auto, using(crate::proofs::LinkedTables::PlaceLemmas::option_place))]
 fn first_place(problem: &Problem, o: u32) -> u32
     requires { IsOption problem.now.puzzle o }

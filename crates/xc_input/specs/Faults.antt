@@ -1,11 +1,15 @@
 -- The faults of the parts of a line, as checks in their order.
-use Rattle.std.specs.Prelude.{ℕ, ◌+◌, length, List, [], ◌∷◌, ◌++◌, Bool, true, false, ◌||◌, ◌&&◌, Option, None, Some, nat_le, nat_lt, not, filter, is_none, map, unwrap_or, if◌then◌else◌}
+use Rattle.std.specs.Prelude.{ℕ, ◌+◌, length, List, [], ◌∷◌, ◌++◌, Bool, true, false, ◌||◌, ◌&&◌, Option, None, Some}
+use Rattle.std.specs.Prelude.{nat_le, nat_lt, not, filter, is_none, map, unwrap_or, if◌then◌else◌}
 use Prim.Native.Char.{code}
 use Rattle.std.specs.List.{list_any, before_first}
 use Rattle.xc_input.specs.declared.kind.Kind.{Kind}
 use Rattle.xc_input.specs.declared.kind.Kind.TheVariants.{Plain, Bounds}
 use Rattle.xc_input.specs.declared.fault.FaultKind.{FaultKind}
-use Rattle.xc_input.specs.declared.fault.FaultKind.TheVariants.{EmptyName, NameTooLong, BadByteInName, RepeatedName, TwoBars, BadBound, BoundOrder, BoundOnSecondary, UnknownItem, RepeatedInOption, ColourOnPrimary, BadColour, ColourNotHere, TooManyItems}
+use Rattle.xc_input.specs.declared.fault.FaultKind.TheVariants.{EmptyName, NameTooLong, BadByteInName, RepeatedName}
+use Rattle.xc_input.specs.declared.fault.FaultKind.TheVariants.{TwoBars, BadBound, BoundOrder, BoundOnSecondary}
+use Rattle.xc_input.specs.declared.fault.FaultKind.TheVariants.{UnknownItem, RepeatedInOption, ColourOnPrimary}
+use Rattle.xc_input.specs.declared.fault.FaultKind.TheVariants.{BadColour, ColourNotHere, TooManyItems}
 use Rattle.xc_input.specs.Limits.{most_items, longest_name, longest_colour}
 use Rattle.xc_input.specs.Words.{has, before, after, place, are_digits, number}
 use Rattle.xc_input.specs.Tokens.{is_bar}

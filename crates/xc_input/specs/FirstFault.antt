@@ -1,5 +1,6 @@
 -- The first fault of a text.
-use Rattle.std.specs.Prelude.{ℕ, ◌+◌, ◌-◌, ◌^◌, min, length, List, [], ◌∷◌, ◌++◌, Bool, ◌&&◌, Option, None, Some, nat_le, nat_lt, not, filter, map, sum_by, if◌then◌else◌}
+use Rattle.std.specs.Prelude.{ℕ, ◌+◌, ◌-◌, ◌^◌, min, length, List, [], ◌∷◌, ◌++◌, Bool, ◌&&◌, Option, None, Some}
+use Rattle.std.specs.Prelude.{nat_le, nat_lt, not, filter, map, sum_by, if◌then◌else◌}
 use Rattle.std.specs.List.{list_any, list_all}
 use Rattle.std.specs.Option.{option_or}
 use Rattle.xc_input.specs.declared.kind.Kind.{Kind}

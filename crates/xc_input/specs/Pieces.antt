@@ -1,5 +1,6 @@
 -- What a source gave, in the pieces that its reads gave it in, and what reading a problem from it promises.
-use Rattle.std.specs.Prelude.{◌≡◌, ◌≢◌, ◌⊎◌, ℕ, ◌<◌, List, [], ◌∷◌, ◌++◌, false, Option, None, IfSome, length, All, flat_map}
+use Rattle.std.specs.Prelude.{◌≡◌, ◌≢◌, ◌⊎◌, ℕ, ◌<◌, List, [], ◌∷◌, ◌++◌, false, Option, None, IfSome, length, All}
+use Rattle.std.specs.Prelude.{flat_map}
 use Prim.Native.Char.{code}
 use Rattle.std.specs.Io.KnownBytes.{Consumes}
 use Rattle.xc_input.specs.Calls.{Rose}

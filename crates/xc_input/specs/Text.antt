@@ -1,5 +1,6 @@
 -- THE GRAMMAR: which problem and which ignored lines a list of lines stands for.
-use Rattle.std.specs.Prelude.{◌≡◌, ◌≢◌, ℕ, ◌+◌, ◌<◌, ◌≤◌, length, List, [], ◌∷◌, ◌++◌, Bool, true, false, not, Some, ◌⊎◌, if◌then◌else◌, AllPairs, filter, map, flat_map}
+use Rattle.std.specs.Prelude.{◌≡◌, ◌≢◌, ℕ, ◌+◌, ◌<◌, ◌≤◌, length, List, [], ◌∷◌, ◌++◌, Bool, true, false, not, Some}
+use Rattle.std.specs.Prelude.{◌⊎◌, if◌then◌else◌, AllPairs, filter, map, flat_map}
 use Prim.Native.Char.{code}
 use Rattle.std.specs.List.{AllZip, before_first, after_first, list_any, enumerate_from}
 use Rattle.xc_input.specs.declared.kind.Kind.{Kind}

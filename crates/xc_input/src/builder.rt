@@ -96,7 +96,9 @@ impl ProblemBuilder {
     ) -> Result<(), LineError>
         requires { IsBuilder self.old }
         ensures judged { Judged (first (line_checks kind (stage_of_builder self.old) line.now)) result }
-        ensures taken { OnOk result (IsBuilder self.new × (stage_of_builder self.new ≡ with_line kind count (stage_of_builder self.old) line.now)) }
+        ensures taken { OnOk result
+            (IsBuilder self.new × (stage_of_builder self.new ≡ with_line kind count (stage_of_builder self.old)
+            line.now)) }
     {
         if has_byte(line, 0) {
             return Err(LineError::Fault(FaultKind::NulByte));
@@ -116,7 +118,12 @@ impl ProblemBuilder {
         requires sound { IsBuilder self.old }
         requires unstarted { self.old.started ≡ false }
         ensures judged { Judged (first (row_checks kind no_row (parts line.now))) result }
-        ensures taken { OnOk result (IsBuilder self.new × (stage_of_builder self.new ≡ record { started = true; sheet = with_row (sheet_of_builder self.old) (row_of kind no_row (parts line.now)); ignored = self.old.ignored.items })) }
+        ensures taken { OnOk result
+            (IsBuilder self.new × (stage_of_builder self.new ≡ record {
+              started = true;
+              sheet = with_row (sheet_of_builder self.old) (row_of kind no_row (parts line.now));
+              ignored = self.old.ignored.items;
+            })) }
     {
         let row = item_line(alloc, *self.names.hasher(), kind, line)?;
         let tables = Tables::new(alloc, &row)?;
@@ -131,7 +138,11 @@ impl ProblemBuilder {
         requires items { IsItemTable row }
         requires tables { AreTablesFor row tables }
         ensures sound { IsBuilder self.new }
-        ensures stage { stage_of_builder self.new ≡ record { started = true; sheet = with_row (sheet_of_builder self.old) (row_of_line row); ignored = self.old.ignored.items } }
+        ensures stage { stage_of_builder self.new ≡ record {
+          started = true;
+          sheet = with_row (sheet_of_builder self.old) (row_of_line row);
+          ignored = self.old.ignored.items;
+        } }
     {
         let ItemLine { names, items, bar } = row;
         let Tables {
@@ -161,7 +172,9 @@ impl ProblemBuilder {
         requires sound { IsBuilder self.old }
         requires started { self.old.started ≡ true }
         ensures judged { Judged (first (content_checks kind (stage_of_builder self.old) line.now)) result }
-        ensures taken { OnOk result (IsBuilder self.new × (stage_of_builder self.new ≡ with_option count (stage_of_builder self.old) (written_by (sheet_of_builder self.old) line.now))) }
+        ensures taken { OnOk result
+            (IsBuilder self.new × (stage_of_builder self.new ≡ with_option count (stage_of_builder self.old)
+            (written_by (sheet_of_builder self.old) line.now))) }
     {
         let start = self.uses.len();
         let met = self.colours.len();

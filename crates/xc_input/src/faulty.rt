@@ -108,7 +108,8 @@ fn faulty_among<'a>(
     requires named { AreNames (key_names names.now.keys) }
     requires marks { length marks.old ≡ length names.now.keys }
     requires unmarked { AreMarks marks.old [] }
-    ensures { Tells (IsAtFault tokens (token_checks (context kind (key_names names.now.keys) primary)) line.now) result }
+    ensures { Tells (IsAtFault tokens (token_checks (context kind (key_names names.now.keys) primary)) line.now)
+        result }
 {
     let mut rest = line;
     while let Some((token, others)) = next_word(rest) {

@@ -60,7 +60,10 @@ fn has_bounds(kind: Kind) -> bool
 
 /// The bounds of a prefix, or its first fault.
 fn bounds_of(prefix: &[u8], secondary: bool) -> Result<Bounds, FaultKind>
-    ensures { MatchResult result (λ b. (first (prefix_checks prefix.now secondary) ≡ None) × (b.low ≡ number (low_text prefix.now)) × (b.high ≡ number (high_text prefix.now))) (λ fault. first (prefix_checks prefix.now secondary) ≡ Some fault) }
+    ensures { MatchResult result
+        (λ b. (first (prefix_checks prefix.now secondary) ≡ None) × (b.low ≡ number (low_text prefix.now))
+        × (b.high ≡ number (high_text prefix.now)))
+        (λ fault. first (prefix_checks prefix.now secondary) ≡ Some fault) }
 {
     let (low_text, high_text) = halves(prefix);
     let Some(low) = number_of(low_text) else {
@@ -102,7 +105,10 @@ struct ItemToken<'a> {
 
 /// The name and the bounds of a token, or the first fault of its prefix.
 fn split_token(kind: Kind, secondary: bool, token: &[u8]) -> Result<ItemToken<'_>, FaultKind>
-    ensures { MatchResult result (λ t. (first (bound_checks kind secondary token.now) ≡ None) × (record { name = t.name.now; low = t.low; high = t.high } ≡ entry kind secondary token.now)) (λ fault. first (bound_checks kind secondary token.now) ≡ Some fault) }
+    ensures { MatchResult result
+        (λ t. (first (bound_checks kind secondary token.now) ≡ None)
+        × (record { name = t.name.now; low = t.low; high = t.high } ≡ entry kind secondary token.now))
+        (λ fault. first (bound_checks kind secondary token.now) ≡ Some fault) }
 {
     if has_bounds(kind) {
         let (prefix, name) = cut_at(token, b'|');
@@ -136,7 +142,8 @@ impl ItemLine {
         requires table { IsItemTable self.old }
         requires solid { list_any is_space part.now ≡ false }
         ensures judged { Judged (first (part_checks kind (row_of_line self.old) part.now)) result }
-        ensures added { OnOk result (IsItemTable self.new × (row_of_line self.new ≡ with_part kind (row_of_line self.old) part.now)) }
+        ensures added { OnOk result
+            (IsItemTable self.new × (row_of_line self.new ≡ with_part kind (row_of_line self.old) part.now)) }
     {
         if let [b'|', ..] = part {
             if self.bar.is_some() {
@@ -152,8 +159,11 @@ impl ItemLine {
     fn add_item(&mut self, alloc: Global, kind: Kind, token: &[u8]) -> Result<(), LineError>
         requires table { IsItemTable self.old }
         requires solid { list_any is_space token.now ≡ false }
-        ensures judged { Judged (first (item_checks kind (names_of (map entry_of self.old.items.items)) (is_some self.old.bar) token.now)) result }
-        ensures added { OnOk result (IsItemTable self.new × (map entry_of self.new.items.items ≡ map entry_of self.old.items.items ++ entry kind (is_some self.old.bar) token.now ∷ []) × (self.new.bar ≡ self.old.bar)) }
+        ensures judged { Judged (first
+            (item_checks kind (names_of (map entry_of self.old.items.items)) (is_some self.old.bar) token.now)) result }
+        ensures added { OnOk result
+            (IsItemTable self.new × (map entry_of self.new.items.items ≡ map entry_of self.old.items.items ++ entry kind
+            (is_some self.old.bar) token.now ∷ []) × (self.new.bar ≡ self.old.bar)) }
     {
         let token = split_token(kind, self.bar.is_some(), token)?;
         let ItemToken { name, low, high } = token;
@@ -180,7 +190,9 @@ fn push_item(
     high: u32,
 ) -> Result<(), LineError>
     ensures judged { Judged None result }
-    ensures added { OnOk result (map entry_of items.new.items ≡ map entry_of items.old.items ++ record { name = name.now; low = low; high = high } ∷ []) }
+    ensures added { OnOk result
+        (map entry_of items.new.items ≡ map entry_of items.old.items ++ record
+        { name = name.now; low = low; high = high } ∷ []) }
 {
     let name = Vec::from_slice(alloc, name)?;
     items.push(Item { name, low, high })?;

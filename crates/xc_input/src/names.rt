@@ -44,7 +44,8 @@ pub fn number_of_name(names: &NameSet, name: &[u8]) -> Option<u32>
 pub fn add_name(alloc: Global, names: &mut NameSet, name: &[u8]) -> Result<usize, LineError>
     requires { place (map (λ v. v.items) names.old.keys) name.now ≡ None }
     ensures judged { Judged None result }
-    ensures added { OnOk result (map (λ v. v.items) names.new.keys ≡ map (λ v. v.items) names.old.keys ++ name.now ∷ []) }
+    ensures added { OnOk result
+        (map (λ v. v.items) names.new.keys ≡ map (λ v. v.items) names.old.keys ++ name.now ∷ []) }
     ensures place { IfOk result (λ n. n ≡ length names.old.keys) }
 {
     let key = Vec::from_slice(alloc, name)?;

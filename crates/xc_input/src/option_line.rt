@@ -67,7 +67,11 @@ pub fn use_of<'a>(
 ) -> Result<WrittenUse<'a>, FaultKind>
     requires few { length marks.now ≤ most_items }
     requires marked { IfSome token.place (λ at. at < length marks.now) }
-    ensures judged { (names : List (List ℕ)) (text : List ℕ) (seen : List ℕ) → All IsName names → length marks.now ≡ length names → IsCutToken names text token.entry → AreMarks marks.now seen → MatchResult result (λ p. (first (token_checks (context kind names primary) seen text) ≡ None) × (written_of p ≡ written names text)) (λ fault. first (token_checks (context kind names primary) seen text) ≡ Some fault) }
+    ensures judged { (names : List (List ℕ)) (text : List ℕ) (seen : List ℕ) → All IsName names
+        → length marks.now ≡ length names → IsCutToken names text token.entry → AreMarks marks.now seen
+        → MatchResult result (λ p. (first (token_checks (context kind names primary) seen text) ≡ None)
+        × (written_of p ≡ written names text))
+        (λ fault. first (token_checks (context kind names primary) seen text) ≡ Some fault) }
     ensures within { IfOk result (λ p. IsMarkable (length marks.now) p.item) }
     ensures unmarked { IfOk result (λ p. get_or marks.now (p.item - 1) false ≡ false) }
 {
@@ -136,7 +140,8 @@ pub fn option_line(
     requires few_uses { length uses.old.items ≤ most_uses }
     requires few_colours { length (key_names colours.old.keys) ≤ length uses.old.items }
     requires distinct { AreDistinct (key_names colours.old.keys) }
-    ensures judged { Judged (first (option_checks (context kind (key_names names.now.keys) primary) [] (tokens line.now))) result }
+    ensures judged { Judged (first
+        (option_checks (context kind (key_names names.now.keys) primary) [] (tokens line.now))) result }
     ensures uses { OnOk result
         (uses.new.items ≡ uses.old.items ++ numbered (key_names colours.old.keys)
         (map (written (key_names names.now.keys)) (tokens line.now))) }

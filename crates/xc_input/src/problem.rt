@@ -1,7 +1,10 @@
 //! A problem as it was read.
 
-ghost use Rattle.std.specs.Prelude.{◌≡◌, ◌≢◌, ◌<◌, ◌≤◌, ℕ, suc, length, map, drop, take, sum_by, option_map, Some, All, IfSome, IfNone};
-ghost use Rattle.xc_input.specs.Problem.{IsValid, IsWithinLimits, IsSoundOption, AreSoundBounds, primary_count, item_count, option_count, IsItem, numbered_get, bounds_at, IsPrimary, IsSecondary, use_count, IsOption};
+ghost use Rattle.std.specs.Prelude.{◌≡◌, ◌≢◌, ◌<◌, ◌≤◌, ℕ, suc, length, map, drop, take, sum_by, option_map, Some, All};
+ghost use Rattle.std.specs.Prelude.{IfSome, IfNone};
+ghost use Rattle.xc_input.specs.Problem.{IsValid, IsWithinLimits, IsSoundOption, AreSoundBounds, primary_count};
+ghost use Rattle.xc_input.specs.Problem.{item_count, option_count, IsItem, numbered_get, bounds_at, IsPrimary};
+ghost use Rattle.xc_input.specs.Problem.{IsSecondary, use_count, IsOption};
 ghost use Rattle.xc_input.specs.Limits.{greatest_bound, most_uses};
 ghost use Rattle.xc_input.specs.ItemBounds.{bounds_of, secondary_bounds};
 ghost use Rattle.xc_input.specs.inner.Vectors.{IsOptional, AreOptionStarts, named_from};
@@ -145,7 +148,8 @@ impl Problem {
     pub fn all_items(&self) -> &[Item]
         ensures names { map (λ x. x.name.items) result.now ≡ self.now.names }
         ensures bounds { map bounds_of (take (primary_count self.now.puzzle) result.now) ≡ self.now.puzzle.bounds }
-        ensures secondary { All (λ x. bounds_of x ≡ secondary_bounds) (drop (primary_count self.now.puzzle) result.now) }
+        ensures secondary { All (λ x. bounds_of x ≡ secondary_bounds)
+            (drop (primary_count self.now.puzzle) result.now) }
     {
         self.items.as_slice()
     }

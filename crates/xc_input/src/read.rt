@@ -25,7 +25,8 @@ pub fn read_problem<S: Source>(
     source: &mut S,
 ) -> Result<Read, InputError>
     ensures valid { IfOk result (λ r. IsSound r.problem) }
-    ensures whole { IfOk result (λ r. IsWhole kind (S.state source.old) (S.state source.new) r.problem r.ignored.items) }
+    ensures whole { IfOk result
+        (λ r. IsWhole kind (S.state source.old) (S.state source.new) r.problem r.ignored.items) }
     ensures part { IfErr result (IsPart kind (S.state source.old) (S.state source.new)) }
 {
     let mut reader = Reader::with_seed(alloc, kind, source.seed());
@@ -68,7 +69,8 @@ fn feed(reader: &mut Reader, carry: &mut Vec<u8>, piece: &[u8]) -> Result<(), In
 
 /// The first line that ends in a piece, and what is left behind it.
 fn next_line(piece: &[u8]) -> Option<(&[u8], &[u8])>
-    ensures { MatchOption result (has 10 piece.now ≡ false) (λ p. (piece.now ≡ p.0.now ++ 10 ∷ p.1.now) × (has 10 p.0.now ≡ false)) }
+    ensures { MatchOption result (has 10 piece.now ≡ false)
+        (λ p. (piece.now ≡ p.0.now ++ 10 ∷ p.1.now) × (has 10 p.0.now ≡ false)) }
 {
     let (end, others) = cut_at(piece, b'\n');
     Some((end, others?))

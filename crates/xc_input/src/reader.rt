@@ -50,7 +50,8 @@ impl Model for Reader {
     ghost view = { λ r. record { kind = r.kind; lines = r.given.lines; error = r.error } };
 
     ghost invariant = { λ r. (r.count ≡ line_number (length r.given.lines)) × IsStateOf r.kind r.given.lines r.error
-        × MatchOption r.error (IsBuilder r.builder × (stage_of_builder r.builder ≡ stage_of r.kind r.given.lines)) (λ _. Unit {0})
+        × MatchOption r.error (IsBuilder r.builder × (stage_of_builder r.builder ≡ stage_of r.kind r.given.lines))
+        (λ _. Unit {0})
         × AreWhole r.given.lines };
 }
 
@@ -106,7 +107,9 @@ impl Reader {
     /// The problem that was read, or the first error.
     pub fn finish(self) -> Result<Read, InputError>
         ensures accepted { IfOk result (λ r. StandsFor self.kind self.lines r.problem r.ignored.items) }
-        ensures only { IfOk result (λ r. (p : Named) (ignored : List ℕ) → StandsFor self.kind self.lines p ignored → (p ≡ r.problem) × (ignored ≡ r.ignored.items)) }
+        ensures only { IfOk result
+            (λ r. (p : Named) (ignored : List ℕ) → StandsFor self.kind self.lines p ignored → (p ≡ r.problem)
+            × (ignored ≡ r.ignored.items)) }
         ensures valid { IfOk result (λ r. IsSound r.problem) }
         ensures first { IfErr result (IsErrorFor (first_fault self.kind self.lines)) }
         ensures refused { IfErr result (λ e. e ≢ InputError.Memory

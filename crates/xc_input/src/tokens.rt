@@ -1,6 +1,7 @@
 //! Cuts lines into tokens, and tokens into their parts.
 
-ghost use Rattle.std.specs.Prelude.{◌≡◌, ◌++◌, ◌∷◌, ◌<◌, ◌≤◌, [], ℕ, List, length, take, drop, MatchOption, map, false, true, None, Some, OnOk, IfOk, IfSome};
+ghost use Rattle.std.specs.Prelude.{◌≡◌, ◌++◌, ◌∷◌, ◌<◌, ◌≤◌, [], ℕ, List, length, take, drop, MatchOption, map, false};
+ghost use Rattle.std.specs.Prelude.{true, None, Some, OnOk, IfOk, IfSome};
 ghost use Rattle.xc_input.specs.Tokens.{is_space, tokens, parts, is_skipped};
 ghost use Rattle.xc_input.specs.inner.Fronts.{drop_white, word, StandsBefore};
 ghost use Rattle.xc_input.specs.Words.{has, before, after, place, are_digits};
@@ -61,7 +62,8 @@ fn word_len(line: &[u8]) -> usize
 #[inline]
 fn behind_name<'a>(names: &NameSet, at: usize, n: usize, text: &'a [u8]) -> Option<&'a [u8]>
     requires { AreNames (key_names names.now.keys) }
-    ensures { IfSome result (λ back. (n ≤ length text.now) × (back.now ≡ drop n text.now) × (place (key_names names.now.keys) (take n text.now) ≡ Some at)) }
+    ensures { IfSome result (λ back. (n ≤ length text.now) × (back.now ≡ drop n text.now)
+        × (place (key_names names.now.keys) (take n text.now) ≡ Some at)) }
 {
     let name = match names.get_index(at) {
         Some(name) => name.as_slice(),
@@ -125,7 +127,9 @@ pub fn next_token<'a>(
     line: &'a [u8],
 ) -> Option<(Token<'a>, &'a [u8])>
     requires { AreNames (key_names names.now.keys) }
-    ensures { MatchOption result (tokens line.now ≡ []) (λ p. (text : List ℕ) × (tokens line.now ≡ text ∷ tokens p.1.now) × (length p.1.now < length line.now) × IsCutToken (key_names names.now.keys) text p.0) }
+    ensures { MatchOption result (tokens line.now ≡ [])
+        (λ p. (text : List ℕ) × (tokens line.now ≡ text ∷ tokens p.1.now) × (length p.1.now < length line.now)
+        × IsCutToken (key_names names.now.keys) text p.0) }
 {
     let rest = skip_white(line);
     if rest.is_empty() {
@@ -178,7 +182,8 @@ pub fn has_byte(bytes: &[u8], byte: u8) -> bool
 /// What stands before and behind the first such byte: all and nothing where there is none.
 pub fn cut_at(bytes: &[u8], byte: u8) -> (&[u8], Option<&[u8]>)
     ensures front { result.0.now ≡ before byte bytes.now }
-    ensures back { MatchOption result.1 (has byte bytes.now ≡ false) (λ back. (has byte bytes.now ≡ true) × (back.now ≡ after byte bytes.now)) }
+    ensures back { MatchOption result.1 (has byte bytes.now ≡ false)
+        (λ back. (has byte bytes.now ≡ true) × (back.now ≡ after byte bytes.now)) }
 {
     match bytes.find_byte(byte) {
         None => (bytes, None),

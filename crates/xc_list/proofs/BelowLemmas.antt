@@ -1,5 +1,6 @@
 -- The parts of a search as they are written.
-use Rattle.std.proofs.Common.{◌≡◌, ℕ, zero, suc, Bool, true, false, Result, Ok, Err, Some, ◌+◌, ◌<◌, ◌≤◌, List, [], ◌∷◌, ◌++◌, length, take, drop, map, get_or, eqb, refl, sym, ap, ◌∙◌, append-nil, arith, subst}
+use Rattle.std.proofs.Common.{◌≡◌, ℕ, zero, suc, Bool, true, false, Result, Ok, Err, Some, ◌+◌, ◌<◌, ◌≤◌, List, [], ◌∷◌}
+use Rattle.std.proofs.Common.{◌++◌, length, take, drop, map, get_or, eqb, refl, sym, ap, ◌∙◌, append-nil, arith, subst}
 use Rattle.std.specs.Prelude.{All, IsErr, MatchResult, slice_get, option_map, flat_map, if◌then◌else◌}
 use Rattle.std.proofs.lemmas.Option.{slice_get-map, slice_get_read}
 use Rattle.std.specs.List.{AllByRecursion}
@@ -14,7 +15,8 @@ use Rattle.xc_input.specs.Named.{Named}
 use Rattle.xc_search.specs.declared.choice.Choice.{Choice}
 use Rattle.xc_search.specs.Cut.{IsPath, IsPathBy, below, numbers_on}
 use Rattle.xc_search.proofs.paths.Numbers.{below_run}
-use Rattle.xc_list.specs.Below.{most_counted, counted, end_behind, members_text, listing_text, AnswersParts, part_listing, ArePathsBy, TookParts, PartsBrokeOff, numbers_told}
+use Rattle.xc_list.specs.Below.{most_counted, counted, end_behind, members_text, listing_text, AnswersParts}
+use Rattle.xc_list.specs.Below.{part_listing, ArePathsBy, TookParts, PartsBrokeOff, numbers_told}
 use Rattle.xc_list.specs.inner.PartsBelow.{AnswersPart}
 use Rattle.xc_list.specs.Messages.{summary_text}
 use Rattle.xc_list.specs.declared.runs.End.{End}

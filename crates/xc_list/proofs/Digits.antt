@@ -1,5 +1,6 @@
 -- Numbers in decimal, digit by digit.
-use Rattle.std.proofs.Common.{◌≡◌, ℕ, ◌+◌, ◌*◌, ◌^◌, ◌<◌, ◌≤◌, ◌-◌, Bool, true, false, cond, ◌&&◌, nat_lt, Option, List, [], ◌∷◌, None, Some, length, drop, get_or, refl, arith, le_trans, le-ltb}
+use Rattle.std.proofs.Common.{◌≡◌, ℕ, ◌+◌, ◌*◌, ◌^◌, ◌<◌, ◌≤◌, ◌-◌, Bool, true, false, cond, ◌&&◌, nat_lt, Option, List}
+use Rattle.std.proofs.Common.{[], ◌∷◌, None, Some, length, drop, get_or, refl, arith, le_trans, le-ltb}
 use Rattle.std.specs.Char.{is_ascii_digit}
 use Rattle.xc_input.proofs.TokenLemmas.DecimalValues.{value_from}
 use Rattle.std.specs.List.{list_all}

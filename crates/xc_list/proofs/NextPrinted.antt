@@ -1,5 +1,6 @@
 -- A search that goes on to the next member that is printed.
-use Rattle.std.proofs.Common.{◌≡◌, ℕ, zero, suc, ◌+◌, ◌-◌, ◌<◌, ◌≤◌, false, List, [], ◌∷◌, ◌++◌, length, drop, refl, sym, ap, ap₂, ◌∙◌, append-nil, arith, subst, length-drop}
+use Rattle.std.proofs.Common.{◌≡◌, ℕ, zero, suc, ◌+◌, ◌-◌, ◌<◌, ◌≤◌, false, List, [], ◌∷◌, ◌++◌, length, drop, refl}
+use Rattle.std.proofs.Common.{sym, ap, ap₂, ◌∙◌, append-nil, arith, subst, length-drop}
 use Rattle.std.specs.Prelude.{if◌then◌else◌}
 use Rattle.std.proofs.lemmas.List.{drop-drop}
 use Rattle.xc_search.specs.declared.choice.Choice.{Choice}
@@ -26,14 +27,16 @@ next_of (x ∷ xs) (suc n) h =
 abbrev pub AreSilent : ℕ → ℕ → ℕ → Type 0
 AreSilent spacing k end = (j : ℕ) → k < j → j < end → is_printed spacing j ≡ false
 
-pub output_silent : (a : Named) (spacing k n : ℕ) → k + n ≤ length (members a.puzzle) → AreSilent spacing k (k + n + 1) → output a spacing (k + n) ≡ output a spacing k
+pub output_silent : (a : Named) (spacing k n : ℕ) → k + n ≤ length (members a.puzzle) → AreSilent spacing k (k + n + 1)
+    → output a spacing (k + n) ≡ output a spacing k
 output_silent a spacing k zero h s = let e : k + 0 ≡ k = omega arith in ap (output a spacing) e
 output_silent a spacing k (suc n) h s =
     let next = next_of (members a.puzzle) (k + n) (omega (arith, h)) in
     let e : k + suc n ≡ (k + n) + 1 = omega arith in
     ap (output a spacing) e
     ∙ output_next a spacing (k + n) next.0 (drop ((k + n) + 1) (members a.puzzle)) next.1
-    ∙ ap (λ b. output a spacing (k + n) ++ (if b then member_text a ((k + n) + 1, next.0) else [])) (s ((k + n) + 1) (omega arith) (omega arith))
+    ∙ ap (λ b. output a spacing (k + n) ++ (if b then member_text a ((k + n) + 1, next.0) else []))
+    (s ((k + n) + 1) (omega arith) (omega arith))
     ∙ append-nil (output a spacing (k + n))
     ∙ output_silent a spacing k n (omega (arith, h)) (λ j from below. s j from (omega (arith, below)))
 
@@ -42,7 +45,8 @@ pub record Reaches (a : Named) (spacing k n : ℕ) (o : Outlook) : Type 0 where
   pub next : drop (k + (n - 1)) (members a.puzzle) ≡ o.shown ∷ o.to_come
   pub same : output a spacing (k + (n - 1)) ≡ output a spacing k
 
-pub reaches : (a : Named) (spacing k n : ℕ) (o : Outlook) (s : List Choice) → o.to_come ≡ drop n (drop k (members a.puzzle)) → o.shown ≡ shown_after n (drop k (members a.puzzle)) s →
+pub reaches : (a : Named) (spacing k n : ℕ) (o : Outlook) (s : List Choice)
+    → o.to_come ≡ drop n (drop k (members a.puzzle)) → o.shown ≡ shown_after n (drop k (members a.puzzle)) s →
     0 < n → n ≤ length (drop k (members a.puzzle)) → AreSilent spacing k (k + n) → Reaches a spacing k n o
 reaches a spacing k n o s come shown some enough silent =
     let ms = members a.puzzle in
@@ -53,31 +57,43 @@ reaches a spacing k n o s come shown some enough silent =
       next =
           sym (drop-drop (n - 1) k ms)
           ∙ next.1
-          ∙ ap (λ m. m ∷ drop ((n - 1) + 1) (drop k ms)) (shown_next (n - 1) (drop k ms) s next.0 (drop ((n - 1) + 1) (drop k ms)) next.1 ∙ ap (λ j. shown_after j (drop k ms) s) last ∙ sym shown)
+          ∙ ap (λ m. m ∷ drop ((n - 1) + 1) (drop k ms))
+          (shown_next (n - 1) (drop k ms) s next.0 (drop ((n - 1) + 1) (drop k ms)) next.1
+          ∙ ap (λ j. shown_after j (drop k ms) s) last ∙ sym shown)
           ∙ ap (λ ms. o.shown ∷ ms) (ap (λ j. drop j (drop k ms)) last ∙ sym come);
-      same = output_silent a spacing k (n - 1) (omega (arith, enough, some, length-drop k ms)) (λ j from below. silent j from (omega (arith, below, end)));
+      same =
+          output_silent a spacing k (n - 1) (omega (arith, enough, some, length-drop k ms))
+          (λ j from below. silent j from (omega (arith, below, end)));
     }
 
 -- all members were passed over
-pub ends : (a : Named) (spacing k n passed limit : ℕ) → k ≤ length (members a.puzzle) → passed ≡ length (drop k (members a.puzzle)) → passed < n → AreSilent spacing k (k + n) →
+pub ends : (a : Named) (spacing k n passed limit : ℕ) → k ≤ length (members a.puzzle)
+    → passed ≡ length (drop k (members a.puzzle)) → passed < n → AreSilent spacing k (k + n) →
     (k + passed ≡ length (members a.puzzle)) × (output a spacing (k + passed) ≡ output a spacing k)
 ends a spacing k n passed limit within is less silent =
-    let all : k + passed ≡ length (members a.puzzle) = omega (arith, within, is, length-drop k (members a.puzzle)) in
-    (all, output_silent a spacing k passed (omega (arith, all)) (λ j from below. silent j from (omega (arith, below, less))))
+    let all : k + passed ≡ length (members a.puzzle) = omega (arith, within, is, length-drop k (members a.puzzle)) in (
+      all,
+      output_silent a spacing k passed (omega (arith, all))
+          (λ j from below. silent j from (omega (arith, below, less))),
+    )
 
 -- its text was taken, or broke off
-pub takes : (a : Named) (spacing k n : ℕ) (o : Outlook) (m : List Choice) (x y z : SinkState) → Reaches a spacing k n o → m ≡ o.shown → 0 < n →
+pub takes : (a : Named) (spacing k n : ℕ) (o : Outlook) (m : List Choice) (x y z : SinkState) → Reaches a spacing k n o
+    → m ≡ o.shown → 0 < n →
     Took x y (output a spacing k) → Took y z (printed_text a spacing (k + n, m)) → Took x z (output a spacing (k + n))
 takes a spacing k n o m x y z r is some so_far t =
     let last = k + (n - 1) in
     let end : last + 1 ≡ k + n = omega (arith, some) in
     let next : drop last (members a.puzzle) ≡ m ∷ o.to_come = r.next ∙ ap (λ m. m ∷ o.to_come) (sym is) in
     let grown : output a spacing last ++ printed_text a spacing (k + n, m) ≡ output a spacing (k + n) =
-    ap (λ j. output a spacing last ++ printed_text a spacing (j, m)) (sym end) ∙ sym (output_next a spacing last m o.to_come next) ∙ ap (output a spacing) end in
+    ap (λ j. output a spacing last ++ printed_text a spacing (j, m)) (sym end)
+    ∙ sym (output_next a spacing last m o.to_come next) ∙ ap (output a spacing) end in
     subst (Took x z) grown (then_took (subst (Took x y) (sym r.same) so_far) t)
 
-pub stops : (a : Named) (spacing limit k n : ℕ) (o : Outlook) (m : List Choice) (x y z : SinkState) → Reaches a spacing k n o → m ≡ o.shown → 0 < n → k + n ≤ limit →
-    Took x y (output a spacing k) → BrokeOff y z (printed_text a spacing (k + n, m)) → StoppedAt a spacing limit (k + n) x z
+pub stops : (a : Named) (spacing limit k n : ℕ) (o : Outlook) (m : List Choice) (x y z : SinkState)
+    → Reaches a spacing k n o → m ≡ o.shown → 0 < n → k + n ≤ limit →
+    Took x y (output a spacing k) → BrokeOff y z (printed_text a spacing (k + n, m))
+    → StoppedAt a spacing limit (k + n) x z
 stops a spacing limit k n o m x y z r is some within so_far b =
     let last = k + (n - 1) in
     let end : last + 1 ≡ k + n = omega (arith, some) in
@@ -86,20 +102,32 @@ stops a spacing limit k n o m x y z r is some within so_far b =
     (stopped a spacing limit last m o.to_come next (omega (arith, end, within)) (subst (Took x y) (sym r.same) so_far)
     (subst (λ j. BrokeOff y z (printed_text a spacing (j, m))) (sym end) b))
 
-pub stands : (a : Named) (spacing k n : ℕ) (o : Outlook) → Reaches a spacing k n o → 0 < n → StandsAt (members a.puzzle) (k + n) o
+pub stands : (a : Named) (spacing k n : ℕ) (o : Outlook) → Reaches a spacing k n o → 0 < n
+    → StandsAt (members a.puzzle) (k + n) o
 stands a spacing k n o r some =
     let end : k + (n - 1) + 1 ≡ k + n = omega (arith, some) in
-    subst (λ j. StandsAt (members a.puzzle) j o) end (λ _. at_next (members a.puzzle) (k + (n - 1)) _ _ r.next, rest_next (members a.puzzle) (k + (n - 1)) _ _ r.next)
+    subst (λ j. StandsAt (members a.puzzle) j o) end (
+      λ _. at_next (members a.puzzle) (k + (n - 1)) _ _ r.next,
+      rest_next (members a.puzzle) (k + (n - 1)) _ _
+          r.next,
+    )
 
-pub within : (a : Named) (spacing k n : ℕ) (o : Outlook) → Reaches a spacing k n o → 0 < n → k + n ≤ length (members a.puzzle)
+pub within : (a : Named) (spacing k n : ℕ) (o : Outlook) → Reaches a spacing k n o → 0 < n
+    → k + n ≤ length (members a.puzzle)
 within a spacing k n o r some = omega (arith, within_next (members a.puzzle) (k + (n - 1)) _ _ r.next, some)
 
 -- where there were no more, none is shown and none is to come
-pub none_left : (n : ℕ) (o p : Outlook) → p ≡ record o { to_come = drop n o.to_come; shown = shown_after n o.to_come o.shown } → length o.to_come < n → (p.shown ≡ []) × (p.to_come ≡ [])
-none_left n o p w h =
-    (ap (λ (o : Outlook). o.shown) w ∙ sym (shown_past n o.to_come o.shown h), ap (λ (o : Outlook). o.to_come) w ∙ drop_past n o.to_come (omega (arith, h)))
+pub none_left : (n : ℕ) (o p : Outlook)
+    → p ≡ record o { to_come = drop n o.to_come; shown = shown_after n o.to_come o.shown } → length o.to_come < n
+    → (p.shown ≡ []) × (p.to_come ≡ [])
+none_left n o p w h = (
+  ap (λ (o : Outlook). o.shown) w ∙ sym (shown_past n o.to_come o.shown h),
+  ap (λ (o : Outlook). o.to_come) w
+      ∙ drop_past n o.to_come (omega (arith, h)),
+)
 
-pub keeps : (o p q : Outlook) (ms : List (List Choice)) (m : List Choice) → q ≡ record p { to_come = ms; shown = m } → p ≡ record o { to_come = p.to_come; shown = p.shown } →
+pub keeps : (o p q : Outlook) (ms : List (List Choice)) (m : List Choice) → q ≡ record p { to_come = ms; shown = m }
+    → p ≡ record o { to_come = p.to_come; shown = p.shown } →
     q ≡ record o { to_come = q.to_come; shown = q.shown }
 keeps o p q ms m a b =
     let puzzle : q.puzzle ≡ o.puzzle = ap (λ (o : Outlook). o.puzzle) a ∙ ap (λ (o : Outlook). o.puzzle) b in

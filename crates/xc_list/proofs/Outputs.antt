@@ -1,5 +1,6 @@
 -- The output grows member by member.
-use Rattle.std.proofs.Common.{◌≡◌, ℕ, zero, suc, ◌+◌, ◌<◌, ◌≤◌, ◌-◌, Bool, true, false, cond, List, [], ◌∷◌, ◌++◌, Some, length, take, drop, filter, refl, sym, ap, ◌∙◌, append-nil, arith, subst, nat_lt, lt-ltb}
+use Rattle.std.proofs.Common.{◌≡◌, ℕ, zero, suc, ◌+◌, ◌<◌, ◌≤◌, ◌-◌, Bool, true, false, cond, List, [], ◌∷◌, ◌++◌, Some}
+use Rattle.std.proofs.Common.{length, take, drop, filter, refl, sym, ap, ◌∙◌, append-nil, arith, subst, nat_lt, lt-ltb}
 use Rattle.std.proofs.Math.Seq.{take-append_seam}
 use Rattle.std.specs.Prelude.{flat_map, slice_get, if◌then◌else◌}
 use Rattle.std.specs.List.{enumerate_from}
@@ -24,22 +25,27 @@ use Rattle.xc_input.specs.Problem.{Puzzle}
 use Rattle.xc_list.specs.Known.{IsKnownChoice}
 use Rattle.xc_list.proofs.OutputLemmas.KnownMembers.{members_known}
 
-pub take_next : {X : Type 0} (ms : List X) (k : ℕ) (m : X) (rest : List X) → drop k ms ≡ m ∷ rest → take (k + 1) ms ≡ take k ms ++ m ∷ []
+pub take_next : {X : Type 0} (ms : List X) (k : ℕ) (m : X) (rest : List X) → drop k ms ≡ m ∷ rest
+    → take (k + 1) ms ≡ take k ms ++ m ∷ []
 take_next [] zero m rest e = absurd (cc e)
 take_next [] (suc k) m rest e = absurd (cc e)
 take_next (x ∷ ms) zero m rest e = cc e
-take_next (x ∷ ms) (suc k) m rest e = let h : suc k + 1 ≡ suc (k + 1) = omega arith in ap (λ n. take n (x ∷ ms)) h ∙ ap (λ l. x ∷ l) (take_next ms k m rest e)
+take_next (x ∷ ms) (suc k) m rest e = let h : suc k + 1 ≡ suc (k + 1) = omega arith in ap (λ n. take n (x ∷ ms)) h
+    ∙ ap (λ l. x ∷ l) (take_next ms k m rest e)
 
-pub rest_next : {X : Type 0} (ms : List X) (k : ℕ) (m : X) (rest : List X) → drop k ms ≡ m ∷ rest → rest ≡ drop (k + 1) ms
+pub rest_next : {X : Type 0} (ms : List X) (k : ℕ) (m : X) (rest : List X) → drop k ms ≡ m ∷ rest
+    → rest ≡ drop (k + 1) ms
 rest_next [] zero m rest e = absurd (cc e)
 rest_next [] (suc k) m rest e = absurd (cc e)
 rest_next (x ∷ ms) zero m rest e = cc e
-rest_next (x ∷ ms) (suc k) m rest e = let h : suc (k + 1) ≡ suc k + 1 = omega arith in rest_next ms k m rest e ∙ ap (λ n. drop n (x ∷ ms)) h
+rest_next (x ∷ ms) (suc k) m rest e =
+    let h : suc (k + 1) ≡ suc k + 1 = omega arith in rest_next ms k m rest e ∙ ap (λ n. drop n (x ∷ ms)) h
 
 pub within_next : {X : Type 0} (ms : List X) (k : ℕ) (m : X) (rest : List X) → drop k ms ≡ m ∷ rest → k < length ms
 within_next ms k m rest e = grind (arith, common_steps)
 
-pub at_next : {X : Type 0} (ms : List X) (k : ℕ) (m : X) (rest : List X) → drop k ms ≡ m ∷ rest → numbered_get ms (k + 1) ≡ Some m
+pub at_next : {X : Type 0} (ms : List X) (k : ℕ) (m : X) (rest : List X) → drop k ms ≡ m ∷ rest
+    → numbered_get ms (k + 1) ≡ Some m
 at_next [] zero m rest e = absurd (cc e)
 at_next [] (suc k) m rest e = absurd (cc e)
 at_next (x ∷ ms) zero m rest e = cc e
@@ -54,7 +60,8 @@ pub enumerate_more : {X : Type 0} (n : ℕ) (xs : List X) (x : X) → enumerate_
 enumerate_more n [] x = grind (arith, common_steps)
 enumerate_more n (y ∷ xs) x = grind (arith, common_steps, enumerate_more (n + 1) xs x)
 
-text_more : (a : Named) (spacing : ℕ) (ms : List (List Choice)) (m : List Choice) → text_of a spacing (ms ++ m ∷ []) ≡ text_of a spacing ms ++ printed_text a spacing (1 + length ms, m)
+text_more : (a : Named) (spacing : ℕ) (ms : List (List Choice)) (m : List Choice)
+    → text_of a spacing (ms ++ m ∷ []) ≡ text_of a spacing ms ++ printed_text a spacing (1 + length ms, m)
 text_more a spacing ms m =
     let p = λ (nm : ℕ × List Choice). is_printed spacing nm.0 in
     ap (λ l. flat_map (member_text a) (filter p l)) (enumerate_more 1 ms m)
@@ -62,14 +69,17 @@ text_more a spacing ms m =
     ∙ flat_map-append (member_text a) (filter p (enumerate_from 1 ms)) (filter p ((1 + length ms, m) ∷ []))
     ∙ ap (λ l. text_of a spacing ms ++ l) (one (p (1 + length ms, m)) (member_text a (1 + length ms, m)) refl)
   where
-    one : (b : Bool) (t : List ℕ) → t ≡ t → flat_map (member_text a) (cond b ((1 + length ms, m) ∷ []) []) ≡ cond b (member_text a (1 + length ms, m)) []
+    one : (b : Bool) (t : List ℕ) → t ≡ t
+        → flat_map (member_text a) (cond b ((1 + length ms, m) ∷ []) []) ≡ cond b (member_text a (1 + length ms, m)) []
     one true t e = append-nil (member_text a (1 + length ms, m))
     one false t e = refl
 
-pub output_next : (a : Named) (spacing k : ℕ) (m : List Choice) (rest : List (List Choice)) → drop k (members a.puzzle) ≡ m ∷ rest
+pub output_next : (a : Named) (spacing k : ℕ) (m : List Choice) (rest : List (List Choice))
+    → drop k (members a.puzzle) ≡ m ∷ rest
     → output a spacing (k + 1) ≡ output a spacing k ++ printed_text a spacing (k + 1, m)
 output_next a spacing k m rest e =
-    let so_far : 1 + length (take k (members a.puzzle)) ≡ k + 1 = grind (arith, common_steps, within_next (members a.puzzle) k m rest e) in
+    let so_far : 1 + length (take k (members a.puzzle)) ≡ k + 1 =
+    grind (arith, common_steps, within_next (members a.puzzle) k m rest e) in
     ap (text_of a spacing) (take_next (members a.puzzle) k m rest e) ∙ text_more a spacing (take k (members a.puzzle)) m
     ∙ ap (λ n. output a spacing k ++ printed_text a spacing (n, m)) so_far
 
@@ -79,16 +89,21 @@ all_done [] (suc k) e h = absurd (omega (arith, h))
 all_done (x ∷ ms) zero e h = absurd (cc e)
 all_done (x ∷ ms) (suc k) e h = ap suc (all_done ms k e (omega (arith, h)))
 
-pub output_all : (a : Named) (spacing k limit : ℕ) → k ≡ length (members a.puzzle) → k ≤ limit → output a spacing limit ≡ output a spacing k
+pub output_all : (a : Named) (spacing k limit : ℕ) → k ≡ length (members a.puzzle) → k ≤ limit
+    → output a spacing limit ≡ output a spacing k
 output_all a spacing k limit e h =
     let same : take limit (members a.puzzle) ≡ take k (members a.puzzle) = grind (arith, common_steps) in
     ap (text_of a spacing) same
 
-pub stopped : (a : Named) (spacing limit k : ℕ) (m : List Choice) (rest : List (List Choice)) {x y z : SinkState} → drop k (members a.puzzle) ≡ m ∷ rest → k < limit
-    → Took x y (output a spacing k) → BrokeOff y z (printed_text a spacing (k + 1, m)) → StoppedAt a spacing limit (k + 1) x z
-stopped a spacing limit k m rest {x = x} {y = y} {z = z} e below so_far stop = by_case (is_printed spacing (k + 1)) refl stop
+pub stopped : (a : Named) (spacing limit k : ℕ) (m : List Choice) (rest : List (List Choice)) {x y z : SinkState}
+    → drop k (members a.puzzle) ≡ m ∷ rest → k < limit
+    → Took x y (output a spacing k) → BrokeOff y z (printed_text a spacing (k + 1, m))
+    → StoppedAt a spacing limit (k + 1) x z
+stopped a spacing limit k m rest {x = x} {y = y} {z = z} e below so_far stop =
+    by_case (is_printed spacing (k + 1)) refl stop
   where
-    by_case : (b : Bool) → is_printed spacing (k + 1) ≡ b → BrokeOff y z (if b then member_text a (k + 1, m) else []) → StoppedAt a spacing limit (k + 1) x z
+    by_case : (b : Bool) → is_printed spacing (k + 1) ≡ b → BrokeOff y z (if b then member_text a (k + 1, m) else [])
+        → StoppedAt a spacing limit (k + 1) x z
     by_case true p t =
         let back : k ≡ (k + 1) - 1 = omega arith in
         record {
@@ -100,9 +115,11 @@ stopped a spacing limit k m rest {x = x} {y = y} {z = z} e below so_far stop = b
         }
     by_case false p t = absurd (omega (arith, t.part))
 
-pub known_next : (p : Puzzle) (k : ℕ) (m : List Choice) (rest : List (List Choice)) → drop k (members p) ≡ m ∷ rest → All (IsKnownChoice p) m
+pub known_next : (p : Puzzle) (k : ℕ) (m : List Choice) (rest : List (List Choice)) → drop k (members p) ≡ m ∷ rest
+    → All (IsKnownChoice p) m
 known_next p k m rest e =
-    All-head (All (IsKnownChoice p)) m rest (subst (All (All (IsKnownChoice p))) e (All-drop (All (IsKnownChoice p)) k (members p) (members_known p)))
+    All-head (All (IsKnownChoice p)) m rest
+    (subst (All (All (IsKnownChoice p))) e (All-drop (All (IsKnownChoice p)) k (members p) (members_known p)))
 
 pub enumerate_append : {X : Type 0} (n : ℕ) (xs ys : List X) → enumerate_from n
     (xs ++ ys) ≡ enumerate_from n xs ++ enumerate_from (n + length xs) ys
@@ -112,13 +129,15 @@ enumerate_append n (x ∷ xs) ys =
     ap (λ l. (n, x) ∷ l) (enumerate_append (n + 1) xs ys ∙ ap (λ k. enumerate_from (n + 1) xs ++ enumerate_from k ys) e)
 
 -- the text of the members behind
-text_behind : (a : Named) (spacing : ℕ) (xs ys : List (List Choice)) → (tail : List ℕ) × (text_of a spacing (xs ++ ys) ≡ text_of a spacing xs ++ tail)
+text_behind : (a : Named) (spacing : ℕ) (xs ys : List (List Choice)) → (tail : List ℕ)
+    × (text_of a spacing (xs ++ ys) ≡ text_of a spacing xs ++ tail)
 text_behind a spacing xs ys =
     let p = λ (nm : ℕ × List Choice). is_printed spacing nm.0 in (
       flat_map (member_text a) (filter p (enumerate_from (1 + length xs) ys)),
       ap (λ l. flat_map (member_text a) (filter p l)) (enumerate_append 1 xs ys)
           ∙ ap (flat_map (member_text a)) (filter-append p (enumerate_from 1 xs) (enumerate_from (1 + length xs) ys))
-          ∙ flat_map-append (member_text a) (filter p (enumerate_from 1 xs)) (filter p (enumerate_from (1 + length xs) ys)),
+          ∙ flat_map-append (member_text a) (filter p (enumerate_from 1 xs))
+          (filter p (enumerate_from (1 + length xs) ys)),
     )
 
 pub take_split : {X : Type 0} (ms : List X) (k limit : ℕ) → k ≤ limit → take limit ms ≡ take k ms ++ drop k
@@ -129,37 +148,50 @@ take_split [] (suc k) (suc l) h = refl
 take_split (x ∷ ms) (suc k) (suc l) h = ap (λ r. x ∷ r) (take_split ms k l (omega (arith, h)))
 
 -- a smaller output stands before a larger one
-pub output_behind : (a : Named) (spacing k limit : ℕ) → k ≤ limit → (tail : List ℕ) × (output a spacing limit ≡ output a spacing k ++ tail)
+pub output_behind : (a : Named) (spacing k limit : ℕ) → k ≤ limit → (tail : List ℕ)
+    × (output a spacing limit ≡ output a spacing k ++ tail)
 output_behind a spacing k limit h =
     let behind = text_behind a spacing (take k (members a.puzzle)) (drop k (take limit (members a.puzzle))) in
-    let split : take limit (members a.puzzle) ≡ take k (members a.puzzle) ++ drop k (take limit (members a.puzzle)) = take_split (members a.puzzle) k limit h in
+    let split : take limit (members a.puzzle) ≡ take k (members a.puzzle) ++ drop k (take limit (members a.puzzle)) =
+    take_split (members a.puzzle) k limit h in
     (behind.0, ap (text_of a spacing) split ∙ behind.1)
 
-pub begins_front : (x y : SinkState) (text front tail : List ℕ) → text ≡ front ++ tail → Appends x.taken y.taken front → Begins x y text
-begins_front x y text front tail e p = (length front, subst (Appends x.taken y.taken) (sym (ap (take (length front)) e ∙ take-append_seam front tail)) p)
+pub begins_front : (x y : SinkState) (text front tail : List ℕ) → text ≡ front ++ tail → Appends x.taken y.taken front
+    → Begins x y text
+begins_front x y text front tail e p =
+    (length front, subst (Appends x.taken y.taken) (sym (ap (take (length front)) e ∙ take-append_seam front tail)) p)
 
 pub drop_at : {X : Type 0} (ms : List X) (k : ℕ) (m : X) → slice_get ms k ≡ Some m → drop k ms ≡ m ∷ drop (k + 1) ms
 drop_at [] k m e = absurd (cc e)
 drop_at (x ∷ ms) zero m e = let f : x ≡ m = cc e in ap (λ y. y ∷ ms) f
-drop_at (x ∷ ms) (suc k) m e = let h : suc (k + 1) ≡ suc k + 1 = omega arith in drop_at ms k m e ∙ ap (λ n. m ∷ drop n (x ∷ ms)) h
+drop_at (x ∷ ms) (suc k) m e =
+    let h : suc (k + 1) ≡ suc k + 1 = omega arith in drop_at ms k m e ∙ ap (λ n. m ∷ drop n (x ∷ ms)) h
 
-drop_before : {X : Type 0} (ms : List X) (t : ℕ) (m : X) → numbered_get ms t ≡ Some m → drop (t - 1) ms ≡ m ∷ drop ((t - 1) + 1) ms
+drop_before : {X : Type 0} (ms : List X) (t : ℕ) (m : X) → numbered_get ms t ≡ Some m
+    → drop (t - 1) ms ≡ m ∷ drop ((t - 1) + 1) ms
 drop_before ms zero m e = absurd (cc e)
-drop_before ms (suc k) m e = let h : k ≡ suc k - 1 = omega arith in ap (λ n. drop n ms) (sym h) ∙ drop_at ms k m e ∙ ap (λ n. m ∷ drop (n + 1) ms) h
+drop_before ms (suc k) m e = let h : k ≡ suc k - 1 = omega arith in ap (λ n. drop n ms) (sym h) ∙ drop_at ms k m e
+    ∙ ap (λ n. m ∷ drop (n + 1) ms) h
 
-pub stopped_begins : (a : Named) (spacing limit t : ℕ) (x z : SinkState) → StoppedAt a spacing limit t x z → Begins x z (output a spacing limit)
+pub stopped_begins : (a : Named) (spacing limit t : ℕ) (x z : SinkState) → StoppedAt a spacing limit t x z
+    → Begins x z (output a spacing limit)
 stopped_begins a spacing limit t x z s =
     let text : List ℕ = member_text a (t, s.member) in
     let again : (t - 1) + 1 ≡ t = omega (arith, s.within.0) in
-    let next : output a spacing ((t - 1) + 1) ≡ output a spacing (t - 1) ++ printed_text a spacing ((t - 1) + 1, s.member) =
-    output_next a spacing (t - 1) s.member (drop ((t - 1) + 1) (members a.puzzle)) (drop_before (members a.puzzle) t s.member s.is_member) in
-    let printed : printed_text a spacing ((t - 1) + 1, s.member) ≡ text = ap (λ n. printed_text a spacing (n, s.member)) again ∙ ap (λ b. if b then text else []) s.printed in
+    let next : output a spacing ((t - 1) + 1) ≡ output a spacing (t - 1) ++ printed_text a spacing
+    ((t - 1) + 1, s.member) =
+    output_next a spacing (t - 1) s.member (drop ((t - 1) + 1) (members a.puzzle))
+    (drop_before (members a.puzzle) t s.member s.is_member) in
+    let printed : printed_text a spacing ((t - 1) + 1, s.member) ≡ text =
+    ap (λ n. printed_text a spacing (n, s.member)) again ∙ ap (λ b. if b then text else []) s.printed in
     let b = output_behind a spacing ((t - 1) + 1) limit (omega (arith, again, s.within.1)) in
     let n : ℕ = s.stopped.2.many in
     let cut : text ≡ take n text ++ drop n text = take_drop text n in
     begins_front x z (output a spacing limit) (output a spacing (t - 1) ++ take n text) (drop n text ++ b.0)
-    (b.1 ∙ ap (λ l. l ++ b.0) (next ∙ ap (λ l. output a spacing (t - 1) ++ l) (printed ∙ cut)) ∙ regroup (output a spacing (t - 1)) (take n text) (drop n text) b.0)
-    (appends_more x.taken s.stopped.0.taken z.taken (output a spacing (t - 1)) (take n text) s.stopped.1.whole s.stopped.2.begun)
+    (b.1 ∙ ap (λ l. l ++ b.0) (next ∙ ap (λ l. output a spacing (t - 1) ++ l) (printed ∙ cut))
+    ∙ regroup (output a spacing (t - 1)) (take n text) (drop n text) b.0)
+    (appends_more x.taken s.stopped.0.taken z.taken (output a spacing (t - 1)) (take n text) s.stopped.1.whole
+    s.stopped.2.begun)
   where
     take_drop : (text : List ℕ) (n : ℕ) → text ≡ take n text ++ drop n text
     take_drop text n = grind (arith, common_steps)

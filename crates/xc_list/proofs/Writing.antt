@@ -1,5 +1,6 @@
 -- What a sink has taken, text after text.
-use Rattle.std.proofs.Common.{◌≡◌, ℕ, ◌+◌, ◌/◌, ◌%◌, ◌^◌, ◌<◌, ◌≤◌, List, [], ◌∷◌, ◌++◌, Result, Ok, Err, length, take, drop, get_or, sym, ap, ◌∙◌, append-nil, arith, subst, zero, suc, refl}
+use Rattle.std.proofs.Common.{◌≡◌, ℕ, ◌+◌, ◌/◌, ◌%◌, ◌^◌, ◌<◌, ◌≤◌, List, [], ◌∷◌, ◌++◌, Result, Ok, Err, length, take}
+use Rattle.std.proofs.Common.{drop, get_or, sym, ap, ◌∙◌, append-nil, arith, subst, zero, suc, refl}
 use Rattle.std.proofs.KnownBytes.{Appends-nil}
 use Rattle.xc_list.specs.inner.LineParts.{colour_text}
 use Rattle.std.specs.Prelude.{flat_map, IsErr, codes, decimal, ◌==◌}
@@ -17,15 +18,19 @@ use Rattle.xc_list.specs.Texts.{SinkState, Took, BrokeOff, Writes}
 use Rattle.xc_input.specs.Calls.{Rose}
 use Rattle.xc_list.proofs.TextLemmas.{appends_more}
 
-pub flat_map-take-more : {X : Type 0} (f : X → List ℕ) (xs : List X) (i : ℕ) (d : X) → i < length xs → flat_map f (take (i + 1) xs) ≡ flat_map f (take i xs) ++ f (get_or xs i d)
+pub flat_map-take-more : {X : Type 0} (f : X → List ℕ) (xs : List X) (i : ℕ) (d : X) → i < length xs
+    → flat_map f (take (i + 1) xs) ≡ flat_map f (take i xs) ++ f (get_or xs i d)
 flat_map-take-more f xs i d h =
     let more : take (i + 1) xs ≡ take i xs ++ (get_or xs i d ∷ []) = grind (arith, common_steps) in
-    ap (flat_map f) more ∙ flat_map-append f (take i xs) (get_or xs i d ∷ []) ∙ ap (λ l. flat_map f (take i xs) ++ l) (append-nil (f (get_or xs i d)))
+    ap (flat_map f) more ∙ flat_map-append f (take i xs) (get_or xs i d ∷ [])
+    ∙ ap (λ l. flat_map f (take i xs) ++ l) (append-nil (f (get_or xs i d)))
 
-pub flat_map-parts : {X : Type 0} (f : X → List ℕ) (xs : List X) (i : ℕ) (d : X) → i < length xs → flat_map f xs ≡ flat_map f (take i xs) ++ f (get_or xs i d) ++ flat_map f (drop (i + 1) xs)
+pub flat_map-parts : {X : Type 0} (f : X → List ℕ) (xs : List X) (i : ℕ) (d : X) → i < length xs
+    → flat_map f xs ≡ flat_map f (take i xs) ++ f (get_or xs i d) ++ flat_map f (drop (i + 1) xs)
 flat_map-parts f xs i d h =
     let all : xs ≡ take (i + 1) xs ++ drop (i + 1) xs = grind (arith, common_steps) in
-    ap (flat_map f) all ∙ flat_map-append f (take (i + 1) xs) (drop (i + 1) xs) ∙ ap (λ l. l ++ flat_map f (drop (i + 1) xs)) (flat_map-take-more f xs i d h)
+    ap (flat_map f) all ∙ flat_map-append f (take (i + 1) xs) (drop (i + 1) xs)
+    ∙ ap (λ l. l ++ flat_map f (drop (i + 1) xs)) (flat_map-take-more f xs i d h)
 
 pub took_nothing : (s : SinkState) → Took s s []
 took_nothing s = record { no_failure = refl; whole = Appends-nil s.taken; unflushed = refl }
@@ -44,7 +49,9 @@ then_broke {a = a} {b = b} {c = c} {s = s} {t = t} p q = record {
   last = q.last;
   many = length s + q.many;
   part = grind (arith, common_steps, q.part);
-  begun = subst (Appends a.taken c.taken) (sym (take-append-add s t q.many)) (appends_more a.taken b.taken c.taken s (take q.many t) p.whole q.begun);
+  begun =
+      subst (Appends a.taken c.taken) (sym (take-append-add s t q.many))
+      (appends_more a.taken b.taken c.taken s (take q.many t) p.whole q.begun);
   unflushed = q.unflushed ∙ p.unflushed;
 }
 
@@ -55,15 +62,18 @@ broke_before {a = a} {b = b} {s = s} t p = record {
   last = p.last;
   many = p.many;
   part = grind (arith, common_steps, p.part);
-  begun = subst (Appends a.taken b.taken) (sym (take-append-le p.many s t (grind (arith, common_steps, p.part)))) p.begun;
+  begun =
+      subst (Appends a.taken b.taken) (sym (take-append-le p.many s t (grind (arith, common_steps, p.part)))) p.begun;
   unflushed = p.unflushed;
 }
 
-pub then_writes : {E : Type 0} {a b : SinkState} {s : List ℕ} (c : SinkState) (t : List ℕ) (r : Result (Unit {0}) E) → Took a b s → Writes b c r t → Writes a c r (s ++ t)
+pub then_writes : {E : Type 0} {a b : SinkState} {s : List ℕ} (c : SinkState) (t : List ℕ) (r : Result (Unit {0}) E)
+    → Took a b s → Writes b c r t → Writes a c r (s ++ t)
 then_writes c t (Ok u) p q = then_took p q
 then_writes c t (Err e) p q = then_broke p q
 
-pub failed : {E : Type 0} {a b : SinkState} {s : List ℕ} (r : Result (Unit {0}) E) → IsErr r → BrokeOff a b s → Writes a b r s
+pub failed : {E : Type 0} {a b : SinkState} {s : List ℕ} (r : Result (Unit {0}) E) → IsErr r → BrokeOff a b s
+    → Writes a b r s
 failed (Ok u) is p = absurd (cc is)
 failed (Err e) is p = p
 
@@ -74,15 +84,18 @@ colour_text-some cs (suc c) h = grind (arith, nat_tests)
 pub loop_broke : {X : Type 0} {a b c : SinkState} (f : X → List ℕ) (xs : List X) (i : ℕ) (d : X) → i < length xs
     → Took a b (flat_map f (take i xs)) → BrokeOff b c (f (get_or xs i d)) → BrokeOff a c (flat_map f xs)
 loop_broke {a = a} {c = c} f xs i d h p q =
-    subst (BrokeOff a c) (sym (flat_map-parts f xs i d h)) (broke_before (flat_map f (drop (i + 1) xs)) (then_broke p q))
+    subst (BrokeOff a c) (sym (flat_map-parts f xs i d h))
+    (broke_before (flat_map f (drop (i + 1) xs)) (then_broke p q))
 
-pub option_texts : (f : Use → List ℕ) (item : ℕ) (all us before after : List Use) (p : ℕ) → us ≡ all → p ≡ position_or_len (λ u. u.item == item) us
+pub option_texts : (f : Use → List ℕ) (item : ℕ) (all us before after : List Use) (p : ℕ) → us ≡ all
+    → p ≡ position_or_len (λ u. u.item == item) us
     → before ≡ take p us → after ≡ drop p us → flat_map f (from_item item all) ≡ flat_map f after ++ flat_map f before
 option_texts f item all us before after p e at b a =
     let here : p ≡ position_or_len (λ u. u.item == item) all = at ∙ ap (position_or_len (λ u. u.item == item)) e in
     let back : after ≡ drop (position_or_len (λ u. u.item == item) all) all = cc (a, here, e) in
     let front : before ≡ take (position_or_len (λ u. u.item == item) all) all = cc (b, here, e) in
-    rw back (rw front (flat_map-append f (drop (position_or_len (λ u. u.item == item) all) all) (take (position_or_len (λ u. u.item == item) all) all)))
+    rw back (rw front (flat_map-append f (drop (position_or_len (λ u. u.item == item) all) all)
+    (take (position_or_len (λ u. u.item == item) all) all)))
 
 pub loop_took : {X : Type 0} {a b c : SinkState} (f : X → List ℕ) (xs : List X) (i : ℕ) (d : X) → i < length xs
     → Took a b (flat_map f (take i xs)) → Took b c (f (get_or xs i d)) → Took a c (flat_map f (take (i + 1) xs))

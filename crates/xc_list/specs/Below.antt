@@ -1,5 +1,6 @@
 -- The parts of a search as text, one behind another.
-use Rattle.std.specs.Prelude.{ℕ, ◌+◌, ◌-◌, ◌^◌, ◌≡◌, All, Bool, List, [], ◌∷◌, ◌++◌, length, map, min, take, flat_map, Some, Result, Ok, Err, slice_get, nat_lt, if◌then◌else◌}
+use Rattle.std.specs.Prelude.{ℕ, ◌+◌, ◌-◌, ◌^◌, ◌≡◌, All, Bool, List, [], ◌∷◌, ◌++◌, length, map, min, take, flat_map}
+use Rattle.std.specs.Prelude.{Some, Result, Ok, Err, slice_get, nat_lt, if◌then◌else◌}
 use Rattle.std.specs.List.{enumerate_from}
 use Rattle.xc_search.specs.declared.choice.Choice.{Choice}
 use Rattle.xc_input.specs.Problem.{Puzzle}

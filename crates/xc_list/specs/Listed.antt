@@ -1,5 +1,7 @@
 -- What the lines of a listing stand for, its first fault, and when a listed solution is a cover.
-use Rattle.std.specs.Prelude.{ℕ, is_some, filter_map, ◌+◌, ◌-◌, ◌^◌, ◌≡◌, ◌↔◌, Bool, false, not, ◌&&◌, ◌||◌, ◌==◌, min, List, [], ◌∷◌, codes, length, map, filter, take, Option, Some, None, IsTrue, if◌then◌else◌}
+use Rattle.std.specs.Prelude.{ℕ, is_some, filter_map, ◌+◌, ◌-◌, ◌^◌, ◌≡◌, ◌↔◌, Bool, false, not, ◌&&◌, ◌||◌, ◌==◌, min}
+use Rattle.std.specs.Prelude.{List, [], ◌∷◌, codes, length, map, filter, take, Option, Some, None, IsTrue}
+use Rattle.std.specs.Prelude.{if◌then◌else◌}
 use Rattle.std.specs.Option.{option_or}
 use Rattle.std.specs.Cmp.Lexicographic.{pointwise}
 use Rattle.std.specs.List.{list_any, range_with_len, AllZip, before_first}

@@ -1,5 +1,6 @@
 -- The listing as text.
-use Rattle.std.specs.Prelude.{ℕ, ◌%◌, Bool, not, ◌&&◌, ◌==◌, List, [], ◌++◌, filter, take, drop, flat_map, decimal, codes, Option, Some, None, if◌then◌else◌, unwrap_or}
+use Rattle.std.specs.Prelude.{ℕ, ◌%◌, Bool, not, ◌&&◌, ◌==◌, List, [], ◌++◌, filter, take, drop, flat_map, decimal}
+use Rattle.std.specs.Prelude.{codes, Option, Some, None, if◌then◌else◌, unwrap_or}
 use Rattle.std.specs.List.{position_or_len, enumerate_from}
 use Rattle.xc_input.specs.declared.problem.Use.{Use}
 use Rattle.xc_search.specs.declared.choice.Choice.{Choice}

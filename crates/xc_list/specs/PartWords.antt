@@ -1,5 +1,6 @@
 -- What the words of a run over parts ask for.
-use Rattle.std.specs.Prelude.{ℕ, ◌^◌, ◌≡◌, ◌<◌, All, Bool, List, [], ◌∷◌, Option, Some, None, option_map, option_and_then, codes, nat_lt, if◌then◌else◌}
+use Rattle.std.specs.Prelude.{ℕ, ◌^◌, ◌≡◌, ◌<◌, All, Bool, List, [], ◌∷◌, Option, Some, None, option_map}
+use Rattle.std.specs.Prelude.{option_and_then, codes, nat_lt, if◌then◌else◌}
 use Rattle.xc_list.specs.Below.{numbers_told}
 use Rattle.xc_list.specs.Settings.{long_number}
 

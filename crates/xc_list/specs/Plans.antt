@@ -1,5 +1,6 @@
 -- Plans as text: the parts of a search, a line each.
-use Rattle.std.specs.Prelude.{ℕ, ◌-◌, ◌^◌, ◌≡◌, List, [], ◌∷◌, ◌++◌, Option, Some, None, option_map, option_and_then, length, flat_map, decimal, codes, unwrap_or, Result, MatchResult}
+use Rattle.std.specs.Prelude.{ℕ, ◌-◌, ◌^◌, ◌≡◌, List, [], ◌∷◌, ◌++◌, Option, Some, None, option_map, option_and_then}
+use Rattle.std.specs.Prelude.{length, flat_map, decimal, codes, unwrap_or, Result, MatchResult}
 use Rattle.xc_dance.specs.declared.dance.Memory.{Memory}
 use Rattle.xc_search.specs.declared.choice.Choice.{Choice}
 use Rattle.xc_search.specs.Cut.{IsCutUpTo}

@@ -1,5 +1,6 @@
 -- What a run writes, and its end.
-use Rattle.std.specs.Prelude.{ℕ, ◌-◌, ◌≤◌, ◌≡◌, true, List, [], length, Some, Result, MatchResult, if◌then◌else◌, nat_lt}
+use Rattle.std.specs.Prelude.{ℕ, ◌-◌, ◌≤◌, ◌≡◌, true, List, [], length, Some, Result, MatchResult, if◌then◌else◌}
+use Rattle.std.specs.Prelude.{nat_lt}
 use Rattle.xc_list.specs.Texts.{SinkState, Took, BrokeOff, Behind}
 use Rattle.xc_dance.specs.declared.dance.Memory.{Memory}
 use Rattle.xc_search.specs.declared.choice.Choice.{Choice}

@@ -3,7 +3,8 @@ ghost use Rattle.std.specs.Prelude.{ℕ, ◌≡◌, ◌≤◌, ◌<◌, List, []
 ghost use Rattle.xc_search.specs.Room.{room_for};
 ghost use Rattle.xc_list.specs.Known.{IsKnownChoice};
 ghost use Rattle.xc_list.specs.Texts.{Took, BrokeOff, Writes};
-ghost use Rattle.xc_list.specs.Below.{most_counted, counted, end_behind, members_text, listing_text, numbers_told, AnswersParts};
+ghost use Rattle.xc_list.specs.Below.{most_counted, counted, end_behind, members_text, listing_text, numbers_told};
+ghost use Rattle.xc_list.specs.Below.{AnswersParts};
 ghost use Rattle.xc_list.specs.inner.PartsBelow.{AnswersPart};
 
 use crate::bodies::Bodies;

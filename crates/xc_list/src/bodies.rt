@@ -1,5 +1,6 @@
 //! Options as they are printed, laid out before the search.
-ghost use Rattle.std.specs.Prelude.{◌≡◌, ◌<◌, ◌≤◌, ◌^◌, [], ◌∷◌, ◌++◌, ◌-◌, ◌==◌, min, length, take, All, IfSome, IfOk, OnOk, OnErr, IsTrue, flat_map};
+ghost use Rattle.std.specs.Prelude.{◌≡◌, ◌<◌, ◌≤◌, ◌^◌, [], ◌∷◌, ◌++◌, ◌-◌, ◌==◌, min, length, take, All, IfSome, IfOk};
+ghost use Rattle.std.specs.Prelude.{OnOk, OnErr, IsTrue, flat_map};
 ghost use Rattle.std.specs.List.{position_or_len};
 ghost use Rattle.xc_input.specs.Problem.{uses_of, IsOption};
 ghost use Rattle.xc_input.specs.Named.{IsKnownUse};
@@ -134,7 +135,8 @@ fn text_of<'a>(problem: &Problem, layout: &'a Layout, o: u32) -> &'a [u8]
 fn cut_text<'a>(problem: &Problem, layout: &'a Layout, item: u32, o: u32) -> (&'a [u8], &'a [u8])
     requires laid { AreLaid problem.now problem.now.puzzle.options layout.now.texts.items layout.now.starts.items }
     requires known { IsOption problem.now.puzzle o }
-    ensures { flat_map (use_text problem.now) (from_item item (uses_of problem.now.puzzle o)) ≡ result.1.now ++ result.0.now }
+    ensures { flat_map (use_text problem.now) (from_item item (uses_of problem.now.puzzle o)) ≡ result.1.now ++
+        result.0.now }
 {
     let text = text_of(problem, layout, o);
     text.split_at(place_in_text(problem, uses_at(problem, o), item))

@@ -1,5 +1,6 @@
 //! Listings judged.
-ghost use Rattle.std.specs.Prelude.{◌≡◌, ◌≢◌, ◌<◌, ◌^◌, ℕ, List, [], codes, length, is_some, true, Some, All, IsTrue, OnOk, IfOk, IfErr, IfSome, MatchResult};
+ghost use Rattle.std.specs.Prelude.{◌≡◌, ◌≢◌, ◌<◌, ◌^◌, ℕ, List, [], codes, length, is_some, true, Some, All, IsTrue};
+ghost use Rattle.std.specs.Prelude.{OnOk, IfOk, IfErr, IfSome, MatchResult};
 ghost use Rattle.xc_input.specs.Named.{IsSound};
 ghost use Rattle.xc_input.specs.Lines.{lines_of};
 ghost use Rattle.xc_list.specs.ListingLines.{words_in};
@@ -148,7 +149,9 @@ impl<'a> Checker<'a> {
         requires open { is_some self.old.open_number ≡ true }
         requires known { class < length self.old.options.classes }
         ensures options { self.new.options ≡ self.old.options }
-        ensures takes { OnOk result ((words : List (List ℕ)) → IsClassOfBody self.old.options words (Some class) → Takes (Body words) self.old self.new) }
+        ensures takes { OnOk result
+            ((words : List (List ℕ)) → IsClassOfBody self.old.options words (Some class)
+            → Takes (Body words) self.old self.new) }
     {
         self.chosen.push(class)?;
         Ok(())
@@ -231,7 +234,8 @@ impl<'a> Checker<'a> {
 
     /// The verdicts, once all lines are judged.
     fn finish(mut self) -> Result<Vec<Verdict>, AllocError>
-        ensures { IfOk result (λ vs. (all : List (List ℕ)) (done : ℕ) → IsProgress all done [] self.entry → AreVerdicts self.entry.options.problem all vs.items) }
+        ensures { IfOk result (λ vs. (all : List (List ℕ)) (done : ℕ) → IsProgress all done [] self.entry
+            → AreVerdicts self.entry.options.problem all vs.items) }
     {
         self.end_solution()?;
         Ok(self.verdicts)

@@ -1,5 +1,6 @@
 //! What is told beside a listing.
-ghost use Rattle.std.specs.Prelude.{◌≡◌, ℕ, ◌+◌, ◌-◌, ◌<◌, ◌≤◌, ◌++◌, flat_map, OnErr, IsTrue, decimal, codes, ◌==◌, if◌then◌else◌};
+ghost use Rattle.std.specs.Prelude.{◌≡◌, ℕ, ◌+◌, ◌-◌, ◌<◌, ◌≤◌, ◌++◌, flat_map, OnErr, IsTrue, decimal, codes, ◌==◌};
+ghost use Rattle.std.specs.Prelude.{if◌then◌else◌};
 ghost use Rattle.xc_list.specs.Texts.{Writes};
 ghost use Rattle.xc_list.specs.Messages.{total_text, failed_text, summary_text, warning_text, word_fault_text};
 

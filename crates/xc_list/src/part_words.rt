@@ -44,7 +44,8 @@ fn with_paths(
 ) -> Result<Option<PartWords>, AllocError>
     ensures { IfOk result (λ found. MatchOption found
         ((parts : List (List ℕ)) → TellPaths (map (λ w. w.items) words.now) parts → ⊥)
-        (λ w. (w.listed ≡ listed) × TellPaths (map (λ w. w.items) words.now) (map (λ path. path.items) w.paths.items))) }
+        (λ w. (w.listed ≡ listed)
+        × TellPaths (map (λ w. w.items) words.now) (map (λ path. path.items) w.paths.items))) }
 {
     let Some(numbers) = branch_numbers(alloc, words)? else {
         return Ok(None);

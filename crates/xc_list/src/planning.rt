@@ -4,7 +4,8 @@ ghost use Rattle.xc_input.specs.Problem.{IsPrimary};
 ghost use Rattle.xc_search.specs.Cover.{members};
 ghost use Rattle.xc_search.specs.Room.{room_for};
 ghost use Rattle.xc_list.specs.Texts.{Writes};
-ghost use Rattle.xc_list.specs.Plans.{read_plan_words, with_numbers, place_text, step_text, part_text, WasPlanned, AnswersPlan};
+ghost use Rattle.xc_list.specs.Plans.{read_plan_words, with_numbers, place_text, step_text, part_text, WasPlanned};
+ghost use Rattle.xc_list.specs.Plans.{AnswersPlan};
 
 use crate::runs::End;
 use crate::sink::Sink;

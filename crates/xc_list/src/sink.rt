@@ -1,5 +1,6 @@
 //! Where bytes go.
-ghost use Rattle.std.specs.Prelude.{◌≡◌, ◌+◌, ◌-◌, ◌^◌, ◌<◌, ◌≤◌, ◌↔◌, ℕ, Bool, true, false, List, [], Option, Some, length, min, IfOk, IfErr, IsErr, IsOk, IsTrue, OnErr, is_err, OnOk, vec_capacity};
+ghost use Rattle.std.specs.Prelude.{◌≡◌, ◌+◌, ◌-◌, ◌^◌, ◌<◌, ◌≤◌, ◌↔◌, ℕ, Bool, true, false, List, [], Option, Some};
+ghost use Rattle.std.specs.Prelude.{length, min, IfOk, IfErr, IsErr, IsOk, IsTrue, OnErr, is_err, OnOk, vec_capacity};
 ghost use Rattle.std.specs.Io.KnownBytes.{WriteAppends, Keeps};
 ghost use Rattle.xc_list.specs.Texts.{SinkState};
 ghost use Rattle.xc_input.specs.Calls.{counted, is_failed_write};

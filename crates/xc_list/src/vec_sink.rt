@@ -1,5 +1,6 @@
 //! A sink over memory that grows.
-ghost use Rattle.std.specs.Prelude.{◌≡◌, ◌+◌, ◌≤◌, ◌<◌, ◌^◌, true, false, [], Some, length, IfOk, IsErr, IsOk, IsTrue, OnErr, OnOk, is_err, vec_len, vec_capacity};
+ghost use Rattle.std.specs.Prelude.{◌≡◌, ◌+◌, ◌≤◌, ◌<◌, ◌^◌, true, false, [], Some, length, IfOk, IsErr, IsOk, IsTrue};
+ghost use Rattle.std.specs.Prelude.{OnErr, OnOk, is_err, vec_len, vec_capacity};
 ghost use Rattle.std.specs.Io.KnownBytes.{WriteAppends, Keeps};
 ghost use Rattle.xc_input.specs.Calls.{counted, is_failed_write};
 

@@ -1,5 +1,6 @@
 -- Covers, and the sets of options that members of a listing stand for.
-use Rattle.std.specs.Prelude.{ℕ, ◌<◌, ◌≤◌, ◌≡◌, ◌≢◌, ◌↔◌, List, Some, is_some, All, AllPairs, Contains, count_by, filter_map, slice_get}
+use Rattle.std.specs.Prelude.{ℕ, ◌<◌, ◌≤◌, ◌≡◌, ◌≢◌, ◌↔◌, List, Some, is_some, All, AllPairs, Contains, count_by}
+use Rattle.std.specs.Prelude.{filter_map, slice_get}
 use Rattle.xc_input.specs.declared.problem.Bounds.{Bounds}
 use Rattle.xc_search.specs.declared.choice.Choice.{Choice}
 use Rattle.xc_input.specs.Problem.{Puzzle, bounds_at, uses_of, colour_in, IsSecondary, IsOption}

@@ -1,5 +1,6 @@
 -- A search cut into parts, along its own tree.
-use Rattle.std.specs.Prelude.{All, ℕ, suc, ◌-◌, ◌≡◌, Bool, ◌&&◌, ◌==◌, List, [], ◌∷◌, ◌++◌, map, flat_map, Option, Some, None, unwrap_or, option_map, option_and_then, slice_get, if◌then◌else◌}
+use Rattle.std.specs.Prelude.{All, ℕ, suc, ◌-◌, ◌≡◌, Bool, ◌&&◌, ◌==◌, List, [], ◌∷◌, ◌++◌, map, flat_map, Option, Some}
+use Rattle.std.specs.Prelude.{None, unwrap_or, option_map, option_and_then, slice_get, if◌then◌else◌}
 use Rattle.xc_search.specs.declared.choice.Choice.{Choice}
 use Rattle.xc_input.specs.Problem.{Puzzle}
 use Rattle.xc_search.specs.Listing.{Residual, Branch, whole, branch_item, branches_of, listing}

@@ -1,7 +1,8 @@
 -- The solutions of a problem, in order.
 use Rattle.xc_dance.specs.Moves.{agrees}
 use Rattle.xc_input.specs.declared.problem.Bounds.{Bounds}
-use Rattle.std.specs.Prelude.{ℕ, zero, suc, ◌+◌, ◌-◌, Bool, not, ◌&&◌, ◌||◌, ◌==◌, nat_lt, nat_le, List, [], ◌∷◌, ◌++◌, length, map, filter, take, find, flat_map, Option, Some, None, if◌then◌else◌}
+use Rattle.std.specs.Prelude.{ℕ, zero, suc, ◌+◌, ◌-◌, Bool, not, ◌&&◌, ◌||◌, ◌==◌, nat_lt, nat_le, List, [], ◌∷◌, ◌++◌}
+use Rattle.std.specs.Prelude.{length, map, filter, take, find, flat_map, Option, Some, None, if◌then◌else◌}
 use Rattle.std.specs.List.{list_all, enumerate_from, best_of}
 use Rattle.xc_input.specs.declared.problem.Use.{Use}
 use Rattle.xc_search.specs.declared.choice.Choice.{Choice}

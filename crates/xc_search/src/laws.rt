@@ -2,11 +2,16 @@
 ghost use Rattle.std.specs.Prelude.{ℕ, ◌≡◌, List, [], ◌∷◌, ◌++◌, All, map, flat_map, Some, None, Contains};
 ghost use Rattle.xc_input.specs.Problem.{Puzzle, Numbered, IsValid, numbered_options, holding};
 ghost use Rattle.xc_search.specs.Listing.{Wanted, Residual, whole, branch_item, level, listing};
-ghost use Rattle.xc_search.specs.Worked.{choice, seven_items, item_b, two_colours, once_or_twice, equal_options, missing_item, one_colour, up_to_twice, no_options, largest_bound, both_options, blank_secondary, bounds_and_colours, bound_beside_one};
-ghost use Rattle.xc_search.specs.Cover.{options_of, members, EachMemberCovers, EachCoverIsListed, EachCoverIsListedOnce, NoSetTwice};
+ghost use Rattle.xc_search.specs.Worked.{choice, seven_items, item_b, two_colours, once_or_twice, equal_options};
+ghost use Rattle.xc_search.specs.Worked.{missing_item, one_colour, up_to_twice, no_options, largest_bound};
+ghost use Rattle.xc_search.specs.Worked.{both_options, blank_secondary, bounds_and_colours, bound_beside_one};
+ghost use Rattle.xc_search.specs.Cover.{options_of, members, EachMemberCovers, EachCoverIsListed};
+ghost use Rattle.xc_search.specs.Cover.{EachCoverIsListedOnce, NoSetTwice};
 ghost use Rattle.xc_search.specs.Cut.{below, numbers_on, IsPath, IsCut};
 ghost use Rattle.xc_search.specs.declared.choice.Choice.{Choice};
-ghost use Rattle.xc_search.specs.Parts.{IsHeldOnce, part, in_problem, part_in_front, front_part, PartsJoin, PartsAreApart, PartsInOrder, PartsCover, PartsListCovers, PartsListOnce, AreKeptApart, AreKeptInOrder, ListsAlike, ListsPart};
+ghost use Rattle.xc_search.specs.Parts.{IsHeldOnce, part, in_problem, part_in_front, front_part, PartsJoin};
+ghost use Rattle.xc_search.specs.Parts.{PartsAreApart, PartsInOrder, PartsCover, PartsListCovers, PartsListOnce};
+ghost use Rattle.xc_search.specs.Parts.{AreKeptApart, AreKeptInOrder, ListsAlike, ListsPart};
 
 /// The listing is one level over itself.
 pub fn listing_unrolls()
@@ -56,9 +61,12 @@ pub fn parts_in_order()
 
 /// The parts that have such an item in front list the covers, each once, whichever item the search branches on first.
 pub fn parts_list_covers()
-    ensures covers { (p : Puzzle) → IsValid p → (w : Wanted) → Contains (whole p).items w → IsHeldOnce p w.item → PartsCover p w }
-    ensures listed { (p : Puzzle) → IsValid p → (w : Wanted) → Contains (whole p).items w → IsHeldOnce p w.item → PartsListCovers p w }
-    ensures once { (p : Puzzle) → IsValid p → (w : Wanted) → Contains (whole p).items w → IsHeldOnce p w.item → PartsListOnce p w }
+    ensures covers { (p : Puzzle) → IsValid p → (w : Wanted) → Contains (whole p).items w → IsHeldOnce p w.item
+        → PartsCover p w }
+    ensures listed { (p : Puzzle) → IsValid p → (w : Wanted) → Contains (whole p).items w → IsHeldOnce p w.item
+        → PartsListCovers p w }
+    ensures once { (p : Puzzle) → IsValid p → (w : Wanted) → Contains (whole p).items w → IsHeldOnce p w.item
+        → PartsListOnce p w }
 {}
 
 /// The listing is the same under other numbers that keep items apart and options in order.
@@ -126,7 +134,8 @@ pub fn worked_parts()
     ensures covers { map (λ x. map (λ m. in_problem seven_items 2 x (options_of m)) (members (part seven_items 2 x)))
         (holding 2 (numbered_options seven_items))
         ≡ [] ∷ ((5 ∷ 4 ∷ 1 ∷ []) ∷ []) ∷ [] }
-    ensures in_front { map (λ x. listing (part_in_front seven_items item_b x)) (holding 2 (numbered_options seven_items))
+    ensures in_front { map (λ x. listing (part_in_front seven_items item_b x))
+        (holding 2 (numbered_options seven_items))
         ≡ [] ∷ ((choice 2 (Some 5) 1 1 ∷ choice 1 (Some 4) 1 1 ∷ choice 3 (Some 1) 1 1 ∷ []) ∷ []) ∷ [] }
     ensures alone { map (λ x. members (front_part seven_items item_b x)) (holding 2 (numbered_options seven_items))
         ≡ [] ∷ ((choice 1 (Some 4) 1 1 ∷ choice 2 (Some 3) 1 1 ∷ choice 3 (Some 1) 1 1 ∷ []) ∷ []) ∷ [] }

@@ -1,5 +1,6 @@
 //! The stack of the search's levels, and the choices of a solution beside it.
-ghost use Rattle.std.specs.Prelude.{◌≡◌, ◌+◌, ◌<◌, ◌≤◌, [], ◌∷◌, ◌++◌, length, drop, map, vec_capacity, IfSome, IfOk, IsNone, All};
+ghost use Rattle.std.specs.Prelude.{◌≡◌, ◌+◌, ◌<◌, ◌≤◌, [], ◌∷◌, ◌++◌, length, drop, map, vec_capacity, IfSome, IfOk};
+ghost use Rattle.std.specs.Prelude.{IsNone, All};
 ghost use Rattle.xc_search.specs.inner.Levels.{chosen, choices_of, newest_begun, IsShown};
 
 use crate::choice::Choice;

@@ -1,5 +1,6 @@
 -- Words that ask for no parts.
-use Rattle.std.proofs.Common.{ℕ, ◌≡◌, ◌-◌, Bool, List, Option, None, Some, length, take, drop, map, sym, ap, ◌∙◌, arith, subst, length-drop}
+use Rattle.std.proofs.Common.{ℕ, ◌≡◌, ◌-◌, Bool, List, Option, None, Some, length, take, drop, map, sym, ap, ◌∙◌, arith}
+use Rattle.std.proofs.Common.{subst, length-drop}
 use Rattle.std.specs.Prelude.{MatchOption}
 use Rattle.std.proofs.lemmas.List.{drop-map}
 use Rattle.xc_list.specs.PartWords.{AskForParts}

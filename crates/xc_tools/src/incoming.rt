@@ -1,5 +1,6 @@
 //! The system's readers and files as sources.
-ghost use Rattle.std.specs.Prelude.{◌≡◌, true, ◌+◌, ◌-◌, ◌^◌, ◌<◌, ◌≤◌, None, length, is_err, option_map, unwrap_or, Some, IfOk, IsErr, OnErr, [], ◌∷◌, ◌++◌, take};
+ghost use Rattle.std.specs.Prelude.{◌≡◌, true, ◌+◌, ◌-◌, ◌^◌, ◌<◌, ◌≤◌, None, length, is_err, option_map, unwrap_or};
+ghost use Rattle.std.specs.Prelude.{Some, IfOk, IsErr, OnErr, [], ◌∷◌, ◌++◌, take};
 ghost use Rattle.std.specs.Io.KnownBytes.{ReadConsumes};
 ghost use Rattle.xc_input.specs.Calls.{counted};
 ghost use Rattle.xc_input.specs.Pieces.{SourceState};

@@ -5,7 +5,8 @@ ghost use Rattle.xc_list.specs.Texts.{BrokeOff, WasTold, Writes, Begins};
 ghost use Rattle.xc_list.specs.declared.checker.Verdict.{Verdict};
 ghost use Rattle.xc_tools.specs.Given.{GaveProblem};
 ghost use Rattle.xc_tools.specs.Solves.{seen, streams, TookAll, FailedBehind};
-ghost use Rattle.xc_tools.specs.Judges.{asked_kind, numbered_kind, verdict_text, judged_status, HasVerdicts, DidJudgeListing, DidAsAsked, DidJudge};
+ghost use Rattle.xc_tools.specs.Judges.{asked_kind, numbered_kind, verdict_text, judged_status, HasVerdicts};
+ghost use Rattle.xc_tools.specs.Judges.{DidJudgeListing, DidAsAsked, DidJudge};
 
 use crate::messages::{listing_fault, no_problem};
 use crate::status::{

@@ -1,8 +1,10 @@
 //! The system's writers as sinks that hold some bytes back.
-ghost use Rattle.std.specs.Prelude.{◌≡◌, ◌+◌, ◌-◌, ◌^◌, ◌<◌, ◌≤◌, ◌⊎◌, ◌↔◌, ◌&&◌, cond, true, false, length, nat_eq, is_err, IfOk, IsErr, IsTrue, OnErr, OnOk, MatchResult, [], take};
+ghost use Rattle.std.specs.Prelude.{◌≡◌, ◌+◌, ◌-◌, ◌^◌, ◌<◌, ◌≤◌, ◌⊎◌, ◌↔◌, ◌&&◌, cond, true, false, length, nat_eq};
+ghost use Rattle.std.specs.Prelude.{is_err, IfOk, IsErr, IsTrue, OnErr, OnOk, MatchResult, [], take};
 ghost use Rattle.std.specs.Io.KnownBytes.{append_known, Appends, Keeps, WriteAppends};
 ghost use Rattle.xc_input.specs.Calls.{counted, is_failed_write};
-ghost use Rattle.xc_tools.specs.Streams.{AskedAtMostOnce, BrokeLast, FlushedLast, answered, ends_line, early, is_flushed, IsLittle, passed_of};
+ghost use Rattle.xc_tools.specs.Streams.{AskedAtMostOnce, BrokeLast, FlushedLast, answered, ends_line, early};
+ghost use Rattle.xc_tools.specs.Streams.{is_flushed, IsLittle, passed_of};
 ghost use Rattle.xc_tools.specs.declared.system.Answer.TheVariants.{Failed, Part};
 
 mod held;
@@ -177,7 +179,8 @@ impl<W: SystemWriter + Drop> Outgoing<W> {
             ⊎ IsLittle self.new.by_line self.new.passed (length self.new.held)) }
         ensures by_line { self.new.by_line ≡ self.old.by_line }
         ensures passed { MatchResult result
-            (λ _. self.new.passed ≡ passed_of self.old.passed (length self.old.held + length bytes.now) (length self.new.held))
+            (λ _. self.new.passed ≡ passed_of self.old.passed (length self.old.held + length bytes.now)
+            (length self.new.held))
             (λ _. self.new.passed ≡ passed_of self.old.passed (length self.old.held) (length self.new.held)) }
         ensures failures { self.new.failures ≡ counted (is_err result) self.old.failures }
         ensures failed { self.new.failed ≡ is_err result }
@@ -295,7 +298,8 @@ impl<W: SystemWriter + Drop> Sink for Outgoing<W> {
         ensures bytes { Keeps
             (append_known (W.contents self.old.writer) self.old.held)
             (append_known (W.contents self.new.writer) self.new.held) }
-        ensures settled { OnOk result (IsTrue (nat_eq (length self.new.held) 0 && is_flushed (W.asked self.new.writer).last)) }
+        ensures settled { OnOk result
+            (IsTrue (nat_eq (length self.new.held) 0 && is_flushed (W.asked self.new.writer).last)) }
         ensures flushes { self.new.flushes.count ≡ self.old.flushes.count + 1 }
 
         // Where the system fails this fails; after a failure it isn't asked.

@@ -30,7 +30,8 @@ fn asked_plan(words: &[Vec<u8>]) -> Option<(Kind, PlanWords)>
 pub(crate) fn flush_plan<O: Sink, E: Sink>(out: &mut O, err: &mut E) -> u8
     ensures kept { Keeps (O.state out.old).taken (O.state out.new).taken }
     ensures flushed_once { (O.state out.new).flushes ≡ (O.state out.old).flushes + 1 }
-    ensures did { ((result ≡ 0) × ((O.state out.new).failures ≡ (O.state out.old).failures) × IsTrue (O.state out.new).settled)
+    ensures did { ((result ≡ 0) × ((O.state out.new).failures ≡ (O.state out.old).failures)
+        × IsTrue (O.state out.new).settled)
         ⊎ ((result ≡ 3) × Rose (O.state out.old).failures (O.state out.new).failures × IsTrue (O.state out.new).failed
         × WasTold (E.state err.old) (E.state err.new) (codes "Write failed.\n")) }
 {
@@ -44,7 +45,8 @@ pub(crate) fn flush_plan<O: Sink, E: Sink>(out: &mut O, err: &mut E) -> u8
 fn flush_limited_plan<O: Sink, E: Sink>(out: &mut O, err: &mut E) -> u8
     ensures kept { Keeps (O.state out.old).taken (O.state out.new).taken }
     ensures flushed_once { (O.state out.new).flushes ≡ (O.state out.old).flushes + 1 }
-    ensures did { ((result ≡ 5) × ((O.state out.new).failures ≡ (O.state out.old).failures) × IsTrue (O.state out.new).settled
+    ensures did { ((result ≡ 5) × ((O.state out.new).failures ≡ (O.state out.old).failures)
+        × IsTrue (O.state out.new).settled
         × WasTold (E.state err.old) (E.state err.new) (codes "The limit of parts was met.\n"))
         ⊎ ((result ≡ 3) × Rose (O.state out.old).failures (O.state out.new).failures × IsTrue (O.state out.new).failed
         × WasTold (E.state err.old) (E.state err.new) (codes "Write failed.\n")) }

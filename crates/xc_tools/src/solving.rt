@@ -20,7 +20,8 @@ use xc_list::{End, Sink, Words, run, summary, warnings, word_fault};
 fn finish<O: Sink, E: Sink>(end: &End, out: &mut O, err: &mut E) -> u8
     ensures kept { Keeps (O.state out.old).taken (O.state out.new).taken }
     ensures flushed_once { (O.state out.new).flushes ≡ (O.state out.old).flushes + 1 }
-    ensures did { ((result ≡ 0) × ((O.state out.new).failures ≡ (O.state out.old).failures) × IsTrue (O.state out.new).settled
+    ensures did { ((result ≡ 0) × ((O.state out.new).failures ≡ (O.state out.old).failures)
+        × IsTrue (O.state out.new).settled
         × Took (E.state err.old) (E.state err.new) (summary_text end.now))
         ⊎ ((result ≡ 3) × Rose (O.state out.old).failures (O.state out.new).failures × IsTrue (O.state out.new).failed
         × WasTold (E.state err.old) (E.state err.new) (codes "Write failed.\n"))

@@ -1,5 +1,6 @@
 -- Along an option's nodes: which uses were committed where a walk over them stands, and what it finds there.
-use Rattle.std.proofs.Common.{Bool, true, false, ltb, ltb-true, ltb-false, ℕ, ◌≡◌, ◌+◌, ◌-◌, ◌<◌, ◌≤◌, List, [], ◌∷◌, length, drop, get_or, Some, refl, sym, ap, ◌∙◌, arith, subst, length-drop, length-take}
+use Rattle.std.proofs.Common.{Bool, true, false, ltb, ltb-true, ltb-false, ℕ, ◌≡◌, ◌+◌, ◌-◌, ◌<◌, ◌≤◌, List, [], ◌∷◌}
+use Rattle.std.proofs.Common.{length, drop, get_or, Some, refl, sym, ap, ◌∙◌, arith, subst, length-drop, length-take}
 use Rattle.std.specs.Prelude.{slice_get}
 use Rattle.std.proofs.lemmas.Option.{slice_get-get_or}
 use Rattle.xc_input.specs.declared.problem.Use.{Use}
@@ -15,7 +16,8 @@ use Rattle.xc_dance.specs.inner.Links.Laid.{IsLaid, IsFit}
 use Rattle.xc_dance.specs.inner.Links.OptionPlaces.{start_at}
 use Rattle.xc_dance.specs.inner.Links.UseNodes.{uses_behind, uses_before}
 use Rattle.xc_dance.proofs.MoveLemmas.Commits.{stood_before, first_use}
-use Rattle.xc_dance.proofs.LinkedTables.UsePlaces.{Segment, OptionNodes, option_nodes, use_cells, spacer_cells, place_at_use, behind_segment, before_segment}
+use Rattle.xc_dance.proofs.LinkedTables.UsePlaces.{Segment, OptionNodes, option_nodes, use_cells, spacer_cells}
+use Rattle.xc_dance.proofs.LinkedTables.UsePlaces.{place_at_use, behind_segment, before_segment}
 use Rattle.xc_dance.specs.declared.links.nodes.TheConstants.{SPACER}
 
 abbrev no_use : Use

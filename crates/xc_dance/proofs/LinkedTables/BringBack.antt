@@ -1,5 +1,8 @@
--- Down the nodes that Tweaks of one item took off: each option comes back into the lists of its other items, and into its own.
-use Rattle.std.proofs.Common.{◌≡◌, ◌≢◌, ℕ, ◌+◌, ◌<◌, ◌≤◌, ◌^◌, true, false, cond, ◌||◌, eqb, List, [], ◌∷◌, length, map, fold, get_or, set, refl, ap, sym, subst, ◌∙◌, arith, eqb-true, eq-eqb, ◌*◌, inr, Bool, not, ◌&&◌, ◌++◌, filter, reverse, ap₂, ne_eqb}
+-- Down the nodes that Tweaks of one item took off: each option comes back into the lists of its other items, and into
+-- its own.
+use Rattle.std.proofs.Common.{◌≡◌, ◌≢◌, ℕ, ◌+◌, ◌<◌, ◌≤◌, ◌^◌, true, false, cond, ◌||◌, eqb, List, [], ◌∷◌, length, map}
+use Rattle.std.proofs.Common.{fold, get_or, set, refl, ap, sym, subst, ◌∙◌, arith, eqb-true, eq-eqb, ◌*◌, inr, Bool}
+use Rattle.std.proofs.Common.{not, ◌&&◌, ◌++◌, filter, reverse, ap₂, ne_eqb}
 use Rattle.std.specs.List.{list_any}
 use Rattle.std.proofs.lemmas.Grind.{common_steps}
 use Rattle.std.proofs.lemmas.Bool.{false≢true, eqb-false, and_parts}
@@ -10,8 +13,10 @@ use Rattle.xc_input.specs.Problem.{Puzzle, item_count, uses_of}
 use Rattle.xc_dance.specs.declared.links.nodes.Nodes.{Nodes}
 use Rattle.xc_dance.specs.Fields.{Node, layout, link_place, is_in, unused, own, spacer, used}
 use Rattle.xc_dance.specs.inner.Links.Lines.{Line}
-use Rattle.xc_dance.specs.inner.Links.Steps.{relinked, unhidden, CanUnhide, CanUnhideAll, CanUnhideNode, others_of, unhide_costs}
-use Rattle.xc_dance.specs.inner.Links.Cells.{fixed_up, fixed_down, top_in, nodes_from, ulink_in, dlink_in, color_in, line_of}
+use Rattle.xc_dance.specs.inner.Links.Steps.{relinked, unhidden, CanUnhide, CanUnhideAll, CanUnhideNode, others_of}
+use Rattle.xc_dance.specs.inner.Links.Steps.{unhide_costs}
+use Rattle.xc_dance.specs.inner.Links.Cells.{fixed_up, fixed_down, top_in, nodes_from, ulink_in, dlink_in, color_in}
+use Rattle.xc_dance.specs.inner.Links.Cells.{line_of}
 use Rattle.xc_dance.specs.inner.Links.Laid.{IsName, IsLaid, Placed}
 use Rattle.xc_dance.specs.declared.dance.Move.{Move}
 use Rattle.xc_dance.specs.inner.Links.Span.{Span}
@@ -20,10 +25,14 @@ use Rattle.xc_dance.specs.inner.Links.Tweaking.{unhidden_unless}
 use Rattle.xc_dance.specs.inner.Links.TweaksBack.{with_ulink, brought_back, bring_back_cost, CanBringBack}
 use Rattle.xc_dance.specs.inner.Links.Others.{before_use, behind_use}
 use Rattle.xc_dance.specs.inner.Links.Made.{IsFitted}
-use Rattle.xc_dance.proofs.LinkedTables.LinkColumns.{same_nodes, unhidden-open, unhidden-marked, set_link, set_top, get_item, size_from, node_cells, map_same, Stands, get_down}
-use Rattle.xc_dance.proofs.LinkedTables.OneOption.{is_mark, IsApart, AllApart, changed_one, changed_all, one_other, gone_count, all_at, line_here, line_there}
-use Rattle.xc_dance.proofs.LinkedTables.Sweep.{mended, with_line, in_above, by_first, put_at-same, put_at-other, put_at, other_items}
-use Rattle.xc_dance.proofs.LinkedTables.OtherItems.{out_of, or_swap, leaves, in_others, others_apart, own_apart, item_range}
+use Rattle.xc_dance.proofs.LinkedTables.LinkColumns.{same_nodes, unhidden-open, unhidden-marked, set_link, set_top}
+use Rattle.xc_dance.proofs.LinkedTables.LinkColumns.{get_item, size_from, node_cells, map_same, Stands, get_down}
+use Rattle.xc_dance.proofs.LinkedTables.OneOption.{is_mark, IsApart, AllApart, changed_one, changed_all, one_other}
+use Rattle.xc_dance.proofs.LinkedTables.OneOption.{gone_count, all_at, line_here, line_there}
+use Rattle.xc_dance.proofs.LinkedTables.Sweep.{mended, with_line, in_above, by_first, put_at-same, put_at-other, put_at}
+use Rattle.xc_dance.proofs.LinkedTables.Sweep.{other_items}
+use Rattle.xc_dance.proofs.LinkedTables.OtherItems.{out_of, or_swap, leaves, in_others, others_apart, own_apart}
+use Rattle.xc_dance.proofs.LinkedTables.OtherItems.{item_range}
 use Rattle.xc_dance.proofs.LinkedTables.UnmarkedNodes.{costs-are, unhidden_color, unmarked-reverse, unmarked_items}
 use Rattle.xc_dance.proofs.LinkedTables.GoodLines.{IsMember, Named, IsGood, member, all_good, numbers_named}
 use Rattle.xc_dance.proofs.MoveLemmas.Members.{element_of}
@@ -34,7 +43,8 @@ use Rattle.xc_dance.proofs.LinkedTables.Regained.{Regaining, NextBack, next_back
 use Rattle.xc_dance.proofs.LinkedTables.Spacers.{others_are, can_unhide_node}
 use Rattle.xc_dance.specs.declared.links.nodes.TheConstants.{MARK}
 
--- ---- an option comes back into the lists of some of its items, whatever state these lists are in: what a step of unhide does where its neighbours are named
+-- ---- an option comes back into the lists of some of its items, whatever state these lists are in: what a step of
+-- unhide does where its neighbours are named
 
 -- what a step needs of option o, which comes back into item j's line
 pub record IsReturner (p : Puzzle) (j : ℕ) (l : Line) (o : ℕ) : Type 0 where
@@ -47,7 +57,8 @@ pub record Unhidden (t u : Nodes) (q : ℕ) : Type 0 where
   pub can : CanUnhide t q
   pub done : unhidden t q ≡ u
 
-pub unhide_open : (p : Puzzle) (col : Node → ℕ) (ln : ℕ → Line) (j o : ℕ) → IsLaid p → 0 < j → j ≤ item_count p → 0 < o → IsReturner p j (ln j) o → is_mark p col o j ≡ false →
+pub unhide_open : (p : Puzzle) (col : Node → ℕ) (ln : ℕ → Line) (j o : ℕ) → IsLaid p → 0 < j → j ≤ item_count p → 0 < o
+    → IsReturner p j (ln j) o → is_mark p col o j ≡ false →
     Unhidden (nodes_from p ln col) (nodes_from p (with_line ln j (mended (ln j) o)) col) (link_place p j o)
 unhide_open p col ln j o laid pos le o_pos m unmarked =
     let q = link_place p j o in
@@ -57,24 +68,45 @@ unhide_open p col ln j o laid pos le o_pos m unmarked =
     let few : (ln j).len < 2 ^ 31 = m.few in
     let count : get_or t.top (get_or t.top q 0) 0 ≡ (ln j).len = ap (λ k. get_or t.top k 0) c.item ∙ c.len in
     record {
-      can = record { size = size_from p ln col; place = c.names.place; use_of = omega (arith, item, le, laid.small); places = λ _. c.names; few = λ _. omega (arith, count, few) };
-      done = unhidden-open t q unmarked ∙ same_nodes (relinked t q) (nodes_from p (with_line ln j (mended (ln j) o)) col)
-          (ap (λ i. set t.top i (get_or t.top i 0 + 1)) c.item ∙ ap (λ n. set t.top j (n + 1)) c.len ∙ sym (set_top p ln j (mended (ln j) o) laid pos le))
-          (ap (λ k. set t.ulink k q) c.down ∙ sym (set_link p (λ k x. (ln k).up x) (fixed_up p) j ((ln j).down o) o laid c.below))
-          (ap (λ k. set t.dlink k q) c.up ∙ sym (set_link p (λ k x. (ln k).down x) (fixed_down p) j ((ln j).up o) o laid c.above))
+      can =
+          record {
+            size = size_from p ln col;
+            place = c.names.place;
+            use_of = omega (arith, item, le, laid.small);
+            places = λ _. c.names;
+            few = λ _. omega (arith, count, few);
+          };
+      done =
+          unhidden-open t q unmarked ∙ same_nodes (relinked t q) (nodes_from p (with_line ln j (mended (ln j) o)) col)
+          (ap (λ i. set t.top i (get_or t.top i 0 + 1)) c.item ∙ ap (λ n. set t.top j (n + 1)) c.len
+          ∙ sym (set_top p ln j (mended (ln j) o) laid pos le))
+          (ap (λ k. set t.ulink k q) c.down
+          ∙ sym (set_link p (λ k x. (ln k).up x) (fixed_up p) j ((ln j).down o) o laid c.below))
+          (ap (λ k. set t.dlink k q) c.up
+          ∙ sym (set_link p (λ k x. (ln k).down x) (fixed_down p) j ((ln j).up o) o laid c.above))
           refl;
     }
 
-pub unhide_marked : (p : Puzzle) (col : Node → ℕ) (ln : ℕ → Line) (j o : ℕ) → IsLaid p → 0 < j → j ≤ item_count p → 0 < o → IsName p j o → is_mark p col o j ≡ true → Unhidden (nodes_from p ln col) (nodes_from p ln col) (link_place p j o)
+pub unhide_marked : (p : Puzzle) (col : Node → ℕ) (ln : ℕ → Line) (j o : ℕ) → IsLaid p → 0 < j → j ≤ item_count p
+    → 0 < o → IsName p j o → is_mark p col o j ≡ true
+    → Unhidden (nodes_from p ln col) (nodes_from p ln col) (link_place p j o)
 unhide_marked p col ln j o laid pos le o_pos name marked =
     let here = laid.there j o pos le name in
     let q = link_place p j o in
     let t : Nodes = nodes_from p ln col in
     let q_in : q < length (layout p) = slice_get_within (layout p) q here.node here.at in
     let long : length (map (top_in ln) (layout p)) ≡ length (layout p) = length-map (layout p) (top_in ln) in
-    let bad : get_or (map col (layout p)) q 0 ≢ MARK → ⊥ = λ ne. ne (eqb-true (get_or (map col (layout p)) q 0) MARK marked) in
+    let bad : get_or (map col (layout p)) q 0 ≢ MARK → ⊥ =
+    λ ne. ne (eqb-true (get_or (map col (layout p)) q 0) MARK marked) in
     record {
-      can = record { size = size_from p ln col; place = omega (arith, long, q_in); use_of = omega (arith, get_item p ln j o here o_pos, le, laid.small); places = λ ne. absurd (bad ne); few = λ ne. absurd (bad ne) };
+      can =
+          record {
+            size = size_from p ln col;
+            place = omega (arith, long, q_in);
+            use_of = omega (arith, get_item p ln j o here o_pos, le, laid.small);
+            places = λ ne. absurd (bad ne);
+            few = λ ne. absurd (bad ne);
+          };
       done = unhidden-marked t q marked;
     }
 
@@ -104,7 +136,8 @@ pub record UnhiddenAll (t u : Nodes) (qs : List ℕ) : Type 0 where
   pub can : CanUnhideAll t qs
   pub done : fold unhidden t qs ≡ u
 
-pub unhidden_walk : (p : Puzzle) (col : Node → ℕ) (ln : ℕ → Line) (o : ℕ) (js : List ℕ) → IsLaid p → 0 < o → AllApart js → ((j : ℕ) → is_in j js ≡ true → Returning p col ln o j) →
+pub unhidden_walk : (p : Puzzle) (col : Node → ℕ) (ln : ℕ → Line) (o : ℕ) (js : List ℕ) → IsLaid p → 0 < o → AllApart js
+    → ((j : ℕ) → is_in j js ≡ true → Returning p col ln o j) →
     UnhiddenAll (nodes_from p ln col) (nodes_from p (back_all p col o ln js) col) (map (λ j. link_place p j o) js)
 unhidden_walk p col ln o [] laid pos apart h = record { can = tt; done = refl }
 unhidden_walk p col ln o (j ∷ js) laid pos apart h =
@@ -113,17 +146,24 @@ unhidden_walk p col ln o (j ∷ js) laid pos apart h =
     let t : Nodes = nodes_from p ln col in
     let here = h j (ap (λ b. b || is_in j js) (eq-eqb j j refl)) in
     let first : Unhidden t (nodes_from p (back_one p col o ln j) col) q =
-    elim (is_mark p col o j) as (λ b. is_mark p col o j ≡ b → Unhidden t (nodes_from p (cond b ln (with_line ln j (mended (ln j) o))) col) q) [
+    elim (is_mark p col o j) as
+    (λ b. is_mark p col o j ≡ b → Unhidden t (nodes_from p (cond b ln (with_line ln j (mended (ln j) o))) col) q) [
       | true ↦ λ e. unhide_marked p col ln j o laid here.pos here.le pos here.name e
       | false ↦ λ e. unhide_open p col ln j o laid here.pos here.le pos (here.returner e) e
     ] refl in
     let rest = unhidden_walk p col (back_one p col o ln j) o js laid pos apart.1 (λ k e.
     let r = h k (ap (λ b. eqb j k || b) e ∙ or-true (eqb j k)) in
     let same : back_one p col o ln j k ≡ ln k = one_other mended p col o ln j k (apart_in j k js apart.0 e) in
-    record { pos = r.pos; le = r.le; name = r.name; returner = λ u. subst (λ (l : Line). IsReturner p k l o) (sym same) (r.returner u) }) in
+    record {
+      pos = r.pos;
+      le = r.le;
+      name = r.name;
+      returner = λ u. subst (λ (l : Line). IsReturner p k l o) (sym same) (r.returner u);
+    }) in
     grind (arith, common_steps)
 
--- ---- down the nodes that Tweaks of one item took off: each option comes back into the lists of its other items, and under the node above it into its own
+-- ---- down the nodes that Tweaks of one item took off: each option comes back into the lists of its other items, and
+-- under the node above it into its own
 
 -- ---- lists turned round
 
@@ -133,7 +173,8 @@ in_push k x (y ∷ ys) = ap (λ b. eqb y k || b) (in_push k x ys) ∙ or_swap (e
 
 pub in_reverse : (k : ℕ) (xs : List ℕ) → is_in k (reverse xs) ≡ is_in k xs
 in_reverse k [] = refl
-in_reverse k (x ∷ xs) = ap (is_in k) (reverse-append (x ∷ []) xs) ∙ in_push k x (reverse xs) ∙ ap (λ b. eqb x k || b) (in_reverse k xs)
+in_reverse k (x ∷ xs) =
+    ap (is_in k) (reverse-append (x ∷ []) xs) ∙ in_push k x (reverse xs) ∙ ap (λ b. eqb x k || b) (in_reverse k xs)
 
 apart_push : (k x : ℕ) (xs : List ℕ) → IsApart k xs → x ≢ k → IsApart k (xs ++ x ∷ [])
 apart_push k x [] h ne = (ne, tt)
@@ -149,7 +190,9 @@ all_push x (y ∷ ys) h e =
 
 pub apart_reverse : (xs : List ℕ) → AllApart xs → AllApart (reverse xs)
 apart_reverse [] h = tt
-apart_reverse (x ∷ xs) h = subst AllApart (sym (reverse-append (x ∷ []) xs)) (all_push x (reverse xs) (apart_reverse xs h.1) (in_reverse x xs ∙ out_of x xs h.0))
+apart_reverse (x ∷ xs) h =
+    subst AllApart (sym (reverse-append (x ∷ []) xs))
+    (all_push x (reverse xs) (apart_reverse xs h.1) (in_reverse x xs ∙ out_of x xs h.0))
 
 -- ---- the lines on the way
 
@@ -161,9 +204,12 @@ to_come p t covered i j os = cond covered [] (filter (leaves p (color_in p t) i 
 abbrev pub is_below : Line → ℕ → List ℕ → Bool
 is_below l x os = list_any (λ o. eqb (l.down o) x) os
 
-pub record BringingBack (p : Puzzle) (t : List Move) (covered : Bool) (i : ℕ) (ln : ℕ → Line) (os : List ℕ) : Type 0 where
-  pub others : (j : ℕ) → 0 < j → j ≤ item_count p → j ≢ i → Regaining (line_of p t j) (ln j) (to_come p t covered i j os)
-  pub few : (j : ℕ) → 0 < j → j ≤ item_count p → j ≢ i → (ln j).len + length (to_come p t covered i j os) ≡ (line_of p t j).len
+pub record BringingBack (p : Puzzle) (t : List Move) (covered : Bool) (i : ℕ) (ln : ℕ → Line) (os : List ℕ) : Type
+    0 where
+  pub others : (j : ℕ) → 0 < j → j ≤ item_count p → j ≢ i
+      → Regaining (line_of p t j) (ln j) (to_come p t covered i j os)
+  pub few : (j : ℕ) → 0 < j → j ≤ item_count p → j ≢ i
+      → (ln j).len + length (to_come p t covered i j os) ≡ (line_of p t j).len
   pub own_down : (x : ℕ) → (ln i).down x ≡ (line_of p t i).down x
   pub own_up : (x : ℕ) → is_below (line_of p t i) x os ≡ false → (ln i).up x ≡ (line_of p t i).up x
 
@@ -172,22 +218,28 @@ pub record BringingBack (p : Puzzle) (t : List Move) (covered : Bool) (i : ℕ) 
 abbrev pub raised : Line → ℕ → Line
 raised l o = record { len = l.len; up = put_at l.up (l.down o) o; down = l.down }
 
-pub top_kept : (ln : ℕ → Line) (i : ℕ) (l : Line) (n : Node) → l.len ≡ (ln i).len → top_in (with_line ln i l) n ≡ top_in ln n
+pub top_kept : (ln : ℕ → Line) (i : ℕ) (l : Line) (n : Node) → l.len ≡ (ln i).len
+    → top_in (with_line ln i l) n ≡ top_in ln n
 top_kept ln i l unused e = grind (arith, common_steps, eqb-true)
 top_kept ln i l (spacer m) e = grind (arith, common_steps, eqb-true)
 top_kept ln i l (used o u) e = grind (arith, common_steps, eqb-true)
 top_kept ln i l (own k) e = grind (arith, common_steps, eqb-true)
 
-pub down_kept : (p : Puzzle) (ln : ℕ → Line) (i : ℕ) (l : Line) (n : Node) → ((x : ℕ) → l.down x ≡ (ln i).down x) → dlink_in p (with_line ln i l) n ≡ dlink_in p ln n
+pub down_kept : (p : Puzzle) (ln : ℕ → Line) (i : ℕ) (l : Line) (n : Node) → ((x : ℕ) → l.down x ≡ (ln i).down x)
+    → dlink_in p (with_line ln i l) n ≡ dlink_in p ln n
 down_kept p ln i l n h = grind (arith, common_steps, eqb-true)
 
 raised_is : (p : Puzzle) (col : Node → ℕ) (ln : ℕ → Line) (i o : ℕ) → IsLaid p → Placed p i ((ln i).down o) →
-    with_ulink (nodes_from p ln col) (link_place p i ((ln i).down o)) (link_place p i o) ≡ nodes_from p (with_line ln i (raised (ln i) o)) col
+    with_ulink (nodes_from p ln col) (link_place p i ((ln i).down o)) (link_place p i o) ≡ nodes_from p
+    (with_line ln i (raised (ln i) o)) col
 raised_is p col ln i o laid h =
-    same_nodes (with_ulink (nodes_from p ln col) (link_place p i ((ln i).down o)) (link_place p i o)) (nodes_from p (with_line ln i (raised (ln i) o)) col)
-    (sym (map_same (top_in ln) (top_in (with_line ln i (raised (ln i) o))) (layout p) (λ k n e. top_kept ln i (raised (ln i) o) n refl)))
+    same_nodes (with_ulink (nodes_from p ln col) (link_place p i ((ln i).down o)) (link_place p i o))
+    (nodes_from p (with_line ln i (raised (ln i) o)) col)
+    (sym (map_same (top_in ln) (top_in (with_line ln i (raised (ln i) o))) (layout p)
+    (λ k n e. top_kept ln i (raised (ln i) o) n refl)))
     (sym (set_link p (λ k x. (ln k).up x) (fixed_up p) i ((ln i).down o) o laid h))
-    (sym (map_same (dlink_in p ln) (dlink_in p (with_line ln i (raised (ln i) o))) (layout p) (λ k n e. down_kept p ln i (raised (ln i) o) n (λ x. refl))))
+    (sym (map_same (dlink_in p ln) (dlink_in p (with_line ln i (raised (ln i) o))) (layout p)
+    (λ k n e. down_kept p ln i (raised (ln i) o) n (λ x. refl))))
     refl
 
 -- ---- one step
@@ -201,16 +253,24 @@ abbrev pub back_writes : Puzzle → (Node → ℕ) → Bool → ℕ → ℕ → 
 back_writes p col covered i o = cond covered 0 (3 * gone_count p col i o)
 
 -- the lines when the option is back in the lists of its other items
-pub record Opened (p : Puzzle) (t : List Move) (spans : List Span) (covered : Bool) (i : ℕ) (ln : ℕ → Line) (o : ℕ) (os : List ℕ) : Type 0 where
+pub record Opened (p : Puzzle) (t : List Move) (spans : List Span) (covered : Bool) (i : ℕ) (ln : ℕ → Line) (o : ℕ)
+    (os : List ℕ) : Type 0 where
   pub ln1 : ℕ → Line
-  pub can : covered ≡ false → (link_place p i o < length spans) × CanUnhideNode spans (nodes_from p ln (color_in p t)) (link_place p i o)
-  pub done : unhidden_unless spans covered (nodes_from p ln (color_in p t)) (link_place p i o) ≡ nodes_from p ln1 (color_in p t)
+  pub can : covered ≡ false → (link_place p i o < length spans)
+      × CanUnhideNode spans (nodes_from p ln (color_in p t)) (link_place p i o)
+  pub done : unhidden_unless spans covered (nodes_from p ln (color_in p t)) (link_place p i o) ≡ nodes_from p ln1
+      (color_in p t)
   pub own : ln1 i ≡ ln i
-  pub cost : cond covered 0 (unhide_costs (nodes_from p ln (color_in p t)) (reverse (others_of spans (link_place p i o)))) ≡ back_writes p (color_in p t) covered i o
-  pub others : (j : ℕ) → 0 < j → j ≤ item_count p → j ≢ i → Regaining (line_of p t j) (ln1 j) (to_come p t covered i j os)
-  pub few : (j : ℕ) → 0 < j → j ≤ item_count p → j ≢ i → (ln1 j).len + length (to_come p t covered i j os) ≡ (line_of p t j).len
+  pub cost : cond covered 0
+      (unhide_costs (nodes_from p ln (color_in p t)) (reverse (others_of spans (link_place p i o)))) ≡ back_writes p
+      (color_in p t) covered i o
+  pub others : (j : ℕ) → 0 < j → j ≤ item_count p → j ≢ i
+      → Regaining (line_of p t j) (ln1 j) (to_come p t covered i j os)
+  pub few : (j : ℕ) → 0 < j → j ≤ item_count p → j ≢ i
+      → (ln1 j).len + length (to_come p t covered i j os) ≡ (line_of p t j).len
 
-opened_covered : (p : Puzzle) (t : List Move) (spans : List Span) (i : ℕ) (ln : ℕ → Line) (o : ℕ) (os : List ℕ) → BringingBack p t true i ln (o ∷ os) → Opened p t spans true i ln o os
+opened_covered : (p : Puzzle) (t : List Move) (spans : List Span) (i : ℕ) (ln : ℕ → Line) (o : ℕ) (os : List ℕ)
+    → BringingBack p t true i ln (o ∷ os) → Opened p t spans true i ln o os
 opened_covered p t spans i ln o os h = grind (arith, common_steps, false≢true)
 
 apart_behind : (js ks : List ℕ) → AllApart (js ++ ks) → AllApart ks
@@ -221,7 +281,8 @@ in_behind : (j : ℕ) (js ks : List ℕ) → is_in j ks ≡ true → is_in j (js
 in_behind j [] ks e = e
 in_behind j (i ∷ js) ks e = ap (λ b. eqb i j || b) (in_behind j js ks e) ∙ or-true (eqb i j)
 
-opened_open : (p : Puzzle) (t : List Move) (spans : List Span) (i : ℕ) (ln : ℕ → Line) (o : ℕ) (os : List ℕ) → AreLegal p t → IsFitted p spans → is_open i t ≡ true → 0 < o → Named p i o → is_in o (listed_numbers p t i) ≡ true
+opened_open : (p : Puzzle) (t : List Move) (spans : List Span) (i : ℕ) (ln : ℕ → Line) (o : ℕ) (os : List ℕ)
+    → AreLegal p t → IsFitted p spans → is_open i t ≡ true → 0 < o → Named p i o → is_in o (listed_numbers p t i) ≡ true
     → BringingBack p t false i ln (o ∷ os) → Opened p t spans false i ln o os
 opened_open p t spans i ln o os legal fit opened o_pos named within h =
     let col = color_in p t in
@@ -231,9 +292,12 @@ opened_open p t spans i ln o os legal fit opened o_pos named within h =
     let t0 : Nodes = nodes_from p ln col in
     let back = reverse js in
     let apart : AllApart back = apart_reverse js (others_apart p o i fit.fit) in
-    let comes : (j : ℕ) → leaves p col i j o ≡ true → 0 < j → j ≤ item_count p → j ≢ i → NextBack (line_of p t j) (ln j) o (filter (leaves p col i j) os) = λ j e pos le ne.
+    let comes : (j : ℕ) → leaves p col i j o ≡ true → 0 < j → j ≤ item_count p → j ≢ i
+    → NextBack (line_of p t j) (ln j) o (filter (leaves p col i j) os) = λ j e pos le ne.
     next_back (line_of p t j) (ln j) o (filter (leaves p col i j) os)
-    (subst (Regaining (line_of p t j) (ln j)) (ap (λ b. cond b (o ∷ filter (leaves p col i j) os) (filter (leaves p col i j) os)) e) (h.others j pos le ne)) in
+    (subst (Regaining (line_of p t j) (ln j))
+    (ap (λ b. cond b (o ∷ filter (leaves p col i j) os) (filter (leaves p col i j) os)) e)
+    (h.others j pos le ne)) in
     let returning : (j : ℕ) → is_in j js ≡ true → Returning p col ln o j = λ j in_js.
     let both = and_parts _ _ (sym (in_others p o i j (fit.fit.distinct o)) ∙ in_js) in
     let j_named : Named p j o = both.1 in
@@ -247,9 +311,12 @@ opened_open p t spans i ln o os legal fit opened o_pos named within h =
           let leave : leaves p col i j o ≡ true = ap₂ (λ a b. a && not b) in_js un in
           let nb = comes j leave r.0 r.1 ne in
           let met = met_at p t i j o legal laid fit.fit opened r.0 r.1 within j_named in
-          let j_open : is_open j t ≡ true = elim (is_open j t) as (λ b. is_open j t ≡ b → b ≡ true) [ true ↦ λ f. refl | false ↦ λ f. absurd (false≢true (sym un ∙ met.shut f)) ] refl in
+          let j_open : is_open j t ≡ true =
+          elim (is_open j t) as (λ b. is_open j t ≡ b → b ≡ true)
+          [ true ↦ λ f. refl | false ↦ λ f. absurd (false≢true (sym un ∙ met.shut f)) ] refl in
           let st : Stands (listed_numbers p t j) o = stands_in o (listed_numbers p t j) (met.opened j_open).1 in
-          let good : IsGood p j (line_of p t j) (st.ys ++ o ∷ st.zs) = subst (IsGood p j (line_of p t j)) st.is (all_good p t fit.fit j r.0 r.1) in
+          let good : IsGood p j (line_of p t j) (st.ys ++ o ∷ st.zs) =
+          subst (IsGood p j (line_of p t j)) st.is (all_good p t fit.fit j r.0 r.1) in
           let m : IsMember p j (line_of p t j) o = member p j (line_of p t j) st.ys o st.zs r.0 r.1 good in
           let count = h.few j r.0 r.1 ne in
           let all : (line_of p t j).len ≡ length (st.ys ++ o ∷ st.zs) = good.len in
@@ -263,46 +330,62 @@ opened_open p t spans i ln o os legal fit opened o_pos named within h =
     } in
     let w = unhidden_walk p col ln o back laid o_pos apart (λ j e. returning j (sym (in_reverse j js) ∙ e)) in
     let before = before_use i (uses_of p o) in
-    let mid = unhidden_walk p col ln o (reverse before) laid o_pos (apart_reverse before (apart_behind (behind_use i (uses_of p o)) before (others_apart p o i fit.fit)))
+    let mid =
+    unhidden_walk p col ln o (reverse before) laid o_pos
+    (apart_reverse before (apart_behind (behind_use i (uses_of p o)) before (others_apart p o i fit.fit)))
     (λ j e. returning j (in_behind j (behind_use i (uses_of p o)) before (sym (in_reverse j before) ∙ e))) in
     let place : ℕ → ℕ = λ j. link_place p j o in
     let ln1 : ℕ → Line = back_all p col o ln back in
     let at : (j : ℕ) → ln1 j ≡ cond (leaves p col i j o) (mended (ln j) o) (ln j) = λ j.
-    all_at mended p col o ln back j apart ∙ ap (λ b. cond (b && not (is_mark p col o j)) (mended (ln j) o) (ln j)) (in_reverse j js) in
-    let nodes : reverse (others_of spans x) ≡ map (λ j. link_place p j o) back = ap reverse (others_are p spans o i fit.spanned o_pos named) ∙ map_reverse (λ j. link_place p j o) js in
+    all_at mended p col o ln back j apart
+    ∙ ap (λ b. cond (b && not (is_mark p col o j)) (mended (ln j) o) (ln j)) (in_reverse j js) in
+    let nodes : reverse (others_of spans x) ≡ map (λ j. link_place p j o) back =
+    ap reverse (others_are p spans o i fit.spanned o_pos named) ∙ map_reverse (λ j. link_place p j o) js in
     record {
       ln1 = ln1;
       can = λ e. (
         fit.spanned.within o i o_pos named,
         can_unhide_node p (back_all p col o ln (reverse before)) col t0 spans o i fit.spanned o_pos named
-            (subst (CanUnhideAll t0) (sym (map_reverse place js)) w.can) (ap (fold unhidden t0) (map_reverse place before) ∙ mid.done),
+            (subst (CanUnhideAll t0) (sym (map_reverse place js)) w.can)
+            (ap (fold unhidden t0) (map_reverse place before) ∙ mid.done),
       );
       done = ap (fold unhidden t0) nodes ∙ w.done;
-      own = at i ∙ ap (λ b. cond (b && not (is_mark p col o i)) (mended (ln i) o) (ln i)) (out_of i js (own_apart p i o fit.fit));
+      own =
+          at i ∙ ap (λ b. cond (b && not (is_mark p col o i)) (mended (ln i) o) (ln i))
+          (out_of i js (own_apart p i o fit.fit));
       cost = grind (arith, common_steps, costs-are, others_are, unhidden_color, unmarked-reverse, unmarked_items);
       others = λ j pos le ne.
-          elim (leaves p col i j o) as (λ b. leaves p col i j o ≡ b → Regaining (line_of p t j) (ln1 j) (filter (leaves p col i j) os)) [
-            | true ↦ λ e. subst (λ (l : Line). Regaining (line_of p t j) l (filter (leaves p col i j) os)) (sym (at j ∙ ap (λ b. cond b (mended (ln j) o) (ln j)) e)) (comes j e pos le ne).next
+          elim (leaves p col i j o) as
+          (λ b. leaves p col i j o ≡ b → Regaining (line_of p t j) (ln1 j) (filter (leaves p col i j) os)) [
+            | true ↦ λ e. subst (λ (l : Line). Regaining (line_of p t j) l (filter (leaves p col i j) os))
+                (sym (at j ∙ ap (λ b. cond b (mended (ln j) o) (ln j)) e)) (comes j e pos le ne).next
             | false ↦ λ e. grind (arith, common_steps)
           ] refl;
       few = λ j pos le ne.
           let count = h.few j pos le ne in
-          elim (leaves p col i j o) as (λ b. leaves p col i j o ≡ b → (ln1 j).len + length (filter (leaves p col i j) os) ≡ (line_of p t j).len) [
+          elim (leaves p col i j o) as
+          (λ b. leaves p col i j o ≡ b
+          → (ln1 j).len + length (filter (leaves p col i j) os) ≡ (line_of p t j).len) [
             | true ↦ λ e. grind (arith, common_steps)
             | false ↦ λ e. grind (arith, common_steps)
           ] refl;
     }
 
-pub record BringBackStep (p : Puzzle) (t : List Move) (spans : List Span) (covered : Bool) (i : ℕ) (ln : ℕ → Line) (o : ℕ) (os : List ℕ) : Type 0 where
+pub record BringBackStep (p : Puzzle) (t : List Move) (spans : List Span) (covered : Bool) (i : ℕ) (ln : ℕ → Line)
+    (o : ℕ) (os : List ℕ) : Type 0 where
   pub ln' : ℕ → Line
   pub can : CanBringBack spans covered (nodes_from p ln (color_in p t)) (link_place p i o)
-  pub done : brought_back spans covered (nodes_from p ln (color_in p t)) (link_place p i o) ≡ nodes_from p ln' (color_in p t)
+  pub done : brought_back spans covered (nodes_from p ln (color_in p t)) (link_place p i o) ≡ nodes_from p ln'
+      (color_in p t)
   pub bringing : BringingBack p t covered i ln' os
   pub len : (ln' i).len ≡ (ln i).len
-  pub cost : bring_back_cost spans covered (nodes_from p ln (color_in p t)) (link_place p i o) ≡ 1 + back_writes p (color_in p t) covered i o
+  pub cost : bring_back_cost spans covered (nodes_from p ln (color_in p t)) (link_place p i o) ≡ 1 + back_writes p
+      (color_in p t) covered i o
 
-by_opened : (p : Puzzle) (t : List Move) (spans : List Span) (covered : Bool) (i : ℕ) (ln : ℕ → Line) (o : ℕ) (os : List ℕ) → IsFitted p spans → 0 < i → i ≤ item_count p → is_in o (listed_numbers p t i) ≡ true
-    → BringingBack p t covered i ln (o ∷ os) → Opened p t spans covered i ln o os → BringBackStep p t spans covered i ln o os
+by_opened : (p : Puzzle) (t : List Move) (spans : List Span) (covered : Bool) (i : ℕ) (ln : ℕ → Line) (o : ℕ)
+    (os : List ℕ) → IsFitted p spans → 0 < i → i ≤ item_count p → is_in o (listed_numbers p t i) ≡ true
+    → BringingBack p t covered i ln (o ∷ os) → Opened p t spans covered i ln o os
+    → BringBackStep p t spans covered i ln o os
 by_opened p t spans covered i ln o os fit pos le within h m1 =
     let col = color_in p t in
     let laid = fit.laid in
@@ -316,7 +399,8 @@ by_opened p t spans covered i ln o os fit pos le within h m1 =
     let m : IsMember p i l o = member p i l st.ys o st.zs pos le good in
     let down_is : (ln1 i).down o ≡ l.down o = ap (λ (k : Line). k.down o) m1.own ∙ h.own_down o in
     let here = laid.there i o pos le m.name in
-    let below : Placed p i ((ln1 i).down o) = laid.there i ((ln1 i).down o) pos le (subst (IsName p i) (sym down_is) m.below) in
+    let below : Placed p i ((ln1 i).down o) =
+    laid.there i ((ln1 i).down o) pos le (subst (IsName p i) (sym down_is) m.below) in
     let w : Line = raised (ln1 i) o in
     let ln' : ℕ → Line = with_line ln1 i w in
     let at_i : ln' i ≡ w = line_here ln1 i w in
@@ -330,12 +414,18 @@ by_opened p t spans covered i ln o os fit pos le within h m1 =
       can = record {
         unhide = m1.can;
         place = subst (λ (u : Nodes). x < length u.dlink) (sym m1.done) (omega (arith, x_in, down_long));
-        below = subst (λ (u : Nodes). get_or u.dlink x 0 < length u.ulink) (sym m1.done) (omega (arith, d_in, up_long, leads));
+        below =
+            subst (λ (u : Nodes). get_or u.dlink x 0 < length u.ulink) (sym m1.done)
+            (omega (arith, d_in, up_long, leads));
       };
-      done = ap (λ (u : Nodes). with_ulink u (get_or u.dlink x 0) x) m1.done ∙ ap (λ k. with_ulink t1 k x) leads ∙ raised_is p col ln1 i o laid below;
+      done = ap (λ (u : Nodes). with_ulink u (get_or u.dlink x 0) x) m1.done ∙ ap (λ k. with_ulink t1 k x) leads
+          ∙ raised_is p col ln1 i o laid below;
       bringing = record {
-        others = λ j jpos jle ne. subst (λ (k : Line). Regaining (line_of p t j) k (to_come p t covered i j os)) (sym (line_there ln1 i j w ne)) (m1.others j jpos jle ne);
-        few = λ j jpos jle ne. let a = m1.few j jpos jle ne in let b = ap (λ (k : Line). k.len) (line_there ln1 i j w ne) in omega (arith, a, b);
+        others =
+            λ j jpos jle ne. subst (λ (k : Line). Regaining (line_of p t j) k (to_come p t covered i j os))
+            (sym (line_there ln1 i j w ne)) (m1.others j jpos jle ne);
+        few = λ j jpos jle ne. let a = m1.few j jpos jle ne in let b =
+            ap (λ (k : Line). k.len) (line_there ln1 i j w ne) in omega (arith, a, b);
         own_down = λ y. ap (λ (k : Line). k.down y) at_i ∙ ap (λ (k : Line). k.down y) m1.own ∙ h.own_down y;
         own_up = λ y e.
             ap (λ (k : Line). k.up y) at_i
@@ -350,7 +440,31 @@ by_opened p t spans covered i ln o os fit pos le within h m1 =
       cost = ap (λ n. 1 + n) m1.cost;
     }
 
-pub bring_back_step : (p : Puzzle) (t : List Move) (spans : List Span) (covered : Bool) (i : ℕ) (ln : ℕ → Line) (o : ℕ) (os : List ℕ) → AreLegal p t → IsFitted p spans → 0 < i → i ≤ item_count p → is_open i t ≡ not covered → is_in o (listed_numbers p t i) ≡ true
+pub bring_back_step : (p : Puzzle) (t : List Move) (spans : List Span) (covered : Bool) (i : ℕ) (ln : ℕ → Line) (o : ℕ)
+    (os : List ℕ) → AreLegal p t → IsFitted p spans → 0 < i → i ≤ item_count p → is_open i t ≡ not covered
+    → is_in o (listed_numbers p t i) ≡ true
     → BringingBack p t covered i ln (o ∷ os) → BringBackStep p t spans covered i ln o os
-bring_back_step p t spans true i ln o os legal fit pos le shut within h = grind (arith, common_steps, by_opened, element_of, in_above, numbers_named, opened_covered, opened_open, rises_listed)
-bring_back_step p t spans false i ln o os legal fit pos le opened within h = grind (arith, common_steps, by_opened, element_of, in_above, numbers_named, opened_covered, opened_open, rises_listed)
+bring_back_step p t spans true i ln o os legal fit pos le shut within h =
+    grind (
+      arith,
+      common_steps,
+      by_opened,
+      element_of,
+      in_above,
+      numbers_named,
+      opened_covered,
+      opened_open,
+      rises_listed,
+    )
+bring_back_step p t spans false i ln o os legal fit pos le opened within h =
+    grind (
+      arith,
+      common_steps,
+      by_opened,
+      element_of,
+      in_above,
+      numbers_named,
+      opened_covered,
+      opened_open,
+      rises_listed,
+    )

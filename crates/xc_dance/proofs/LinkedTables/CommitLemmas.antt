@@ -1,5 +1,6 @@
 -- Which node is which use, and what stands below a node.
-use Rattle.std.proofs.Common.{Bool, Some, ap₂, subst, [], eqb-true, le-leb, ◌≡◌, ℕ, ◌<◌, ◌⊎◌, inl, inr, true, false, cond, eqb, List, ◌∷◌, length, get_or, refl, ap, sym, ◌∙◌, arith, eq-eqb}
+use Rattle.std.proofs.Common.{Bool, Some, ap₂, subst, [], eqb-true, le-leb, ◌≡◌, ℕ, ◌<◌, ◌⊎◌, inl, inr, true, false}
+use Rattle.std.proofs.Common.{cond, eqb, List, ◌∷◌, length, get_or, refl, ap, sym, ◌∙◌, arith, eq-eqb}
 use Rattle.std.specs.Prelude.{is_some, slice_get, Contains, unwrap_or}
 use Rattle.std.proofs.lemmas.Grind.{common_steps}
 use Rattle.std.proofs.lemmas.List.{length-map}
@@ -28,7 +29,8 @@ in_list_held : (p : Puzzle) (t : List Move) (i x : ℕ) → is_in x (listed_numb
     is_some (colour_in (uses_of p x) i) ≡ true
 in_list_held p t i x e = grind (arith, common_steps, element_of, numbers_named, e)
 
-pub in_list_name : (p : Puzzle) (t : List Move) (i x : ℕ) → is_in x (listed_numbers p t i) ≡ true → (0 < x) × (is_some (colour_in (uses_of p x) i) ≡ true)
+pub in_list_name : (p : Puzzle) (t : List Move) (i x : ℕ) → is_in x (listed_numbers p t i) ≡ true → (0 < x)
+    × (is_some (colour_in (uses_of p x) i) ≡ true)
 in_list_name p t i x e = (in_above 0 x (listed_numbers p t i) (rises_listed p t i) e, in_list_held p t i x e)
 
 listed_name : (p : Puzzle) (t : List Move) (i x : ℕ) → (x ≡ 0) ⊎ Contains (listed_numbers p t i) x → IsName p i x

@@ -1,5 +1,7 @@
 -- The nodes of uses enter the lists of their items one by one, until the table is that of no moves.
-use Rattle.std.proofs.Common.{◌≡◌, ℕ, ◌+◌, ◌<◌, ◌≤◌, List, [], ◌∷◌, ◌++◌, length, fold, refl, sym, subst, ◌∙◌, arith, zero, suc, true, false, cond, eqb, map, take, Some, ap, eqb-true, eq-eqb, ◌-◌, inl, Bool, get_or, set, ne_eqb, filter}
+use Rattle.std.proofs.Common.{◌≡◌, ℕ, ◌+◌, ◌<◌, ◌≤◌, List, [], ◌∷◌, ◌++◌, length, fold, refl, sym, subst, ◌∙◌, arith}
+use Rattle.std.proofs.Common.{zero, suc, true, false, cond, eqb, map, take, Some, ap, eqb-true, eq-eqb, ◌-◌, inl, Bool}
+use Rattle.std.proofs.Common.{get_or, set, ne_eqb, filter}
 use Rattle.std.specs.List.{AllByRecursion, range_with_len}
 use Rattle.std.specs.Prelude.{slice_get, is_some, flat_map, slice_index}
 use Rattle.std.proofs.lemmas.Grind.{common_steps}
@@ -18,13 +20,16 @@ use Rattle.xc_dance.specs.Moves.{listed_numbers, listed}
 use Rattle.xc_dance.specs.Fields.{Node, own, spacer, used, layout, nodes_of, is_in, link_place}
 use Rattle.xc_dance.specs.inner.Links.Laid.{IsFit, AreDistinct, IsName, Placed, IsLaid}
 use Rattle.xc_dance.specs.declared.links.nodes.Nodes.{Nodes}
-use Rattle.xc_dance.specs.inner.Links.Cells.{top_in, color_in, fixed_up, fixed_down, nodes_from, ulink_in, dlink_in, line_of, up_of, down_of, nodes_after}
+use Rattle.xc_dance.specs.inner.Links.Cells.{top_in, color_in, fixed_up, fixed_down, nodes_from, ulink_in, dlink_in}
+use Rattle.xc_dance.specs.inner.Links.Cells.{line_of, up_of, down_of, nodes_after}
 use Rattle.xc_input.proofs.lists.EachElement.{each-append, each_at}
-use Rattle.xc_dance.proofs.LinkedTables.Sweep.{put_at-same, put_at-other, put_at, IsLinkedFrom, with_line, Swept, swept, stay, cuts, stay_all, leave_none}
+use Rattle.xc_dance.proofs.LinkedTables.Sweep.{put_at-same, put_at-other, put_at, IsLinkedFrom, with_line, Swept, swept}
+use Rattle.xc_dance.proofs.LinkedTables.Sweep.{stay, cuts, stay_all, leave_none}
 use Rattle.xc_dance.proofs.Copied.{take_more-get}
 use Rattle.xc_dance.proofs.LinkedTables.LaidLemmas.{distinct_options, layout_ok, is_laid}
 use Rattle.xc_dance.proofs.LinkedTables.PlaceLemmas.{length_front, tail_from, front, layout_small, get_behind}
-use Rattle.xc_dance.proofs.LinkedTables.LinkColumns.{get_map, same_nodes, column, put_link, column_same, get_link, set_link, set_top, get_len, map_same}
+use Rattle.xc_dance.proofs.LinkedTables.LinkColumns.{get_map, same_nodes, column, put_link, column_same, get_link}
+use Rattle.xc_dance.proofs.LinkedTables.LinkColumns.{set_link, set_top, get_len, map_same}
 use Rattle.xc_dance.proofs.MoveLemmas.Shortened.{rises_listed}
 use Rattle.xc_dance.specs.declared.links.nodes.TheConstants.{SPACER}
 
@@ -47,9 +52,11 @@ len_from l (x ∷ xs) = let rest = len_from (grown l x) xs in omega (arith, rest
 pub grown_len : (xs : List ℕ) → (grown_all xs).len ≡ length xs
 grown_len xs = let h = len_from blank xs in omega (arith, h)
 
-pub last_from : (P : ℕ → Type 0) (l : Line) (xs : List ℕ) → P (l.up 0) → AllByRecursion P xs → P ((fold grown l xs).up 0)
+pub last_from : (P : ℕ → Type 0) (l : Line) (xs : List ℕ) → P (l.up 0) → AllByRecursion P xs
+    → P ((fold grown l xs).up 0)
 last_from P l [] h a = h
-last_from P l (x ∷ xs) h a = last_from P (grown l x) xs (subst P (sym (put_at-same (put_at l.up x (l.up 0)) 0 x 0 refl)) a.0) a.1
+last_from P l (x ∷ xs) h a =
+    last_from P (grown l x) xs (subst P (sym (put_at-same (put_at l.up x (l.up 0)) 0 x 0 refl)) a.0) a.1
 
 -- the last member is one of them, if there is one
 pub grown_last : (P : ℕ → Type 0) (xs : List ℕ) → P 0 → AllByRecursion P xs → P ((grown_all xs).up 0)
@@ -64,18 +71,23 @@ pub last_low : (l : Line) (a o : ℕ) (xs ys : List ℕ) → IsLinkedFrom l a xs
 last_low l a o [] ys h r = let e = h.1 in let lt = r.0 in omega (arith, e, lt)
 last_low l a o (x ∷ xs) ys h r = last_low l x o xs ys h.3 r.1
 
-pub linked_more : (l : Line) (a o : ℕ) (xs : List ℕ) → IsLinkedFrom l a xs → l.up 0 < o → l.down o ≡ 0 → IsLinkedFrom (grown l o) a (xs ++ o ∷ [])
+pub linked_more : (l : Line) (a o : ℕ) (xs : List ℕ) → IsLinkedFrom l a xs → l.up 0 < o → l.down o ≡ 0
+    → IsLinkedFrom (grown l o) a (xs ++ o ∷ [])
 linked_more l a o [] h lt none = grind (arith, common_steps, last_high, put_at-other, put_at-same)
-linked_more l a o (x ∷ xs) h lt none = grind (arith, common_steps, last_high, put_at-other, put_at-same, linked_more l x o xs h.3 lt none)
+linked_more l a o (x ∷ xs) h lt none =
+    grind (arith, common_steps, last_high, put_at-other, put_at-same, linked_more l x o xs h.3 lt none)
 
-pub linked_from : (l : Line) (xs ys : List ℕ) → IsLinkedFrom l 0 xs → Rises 0 (xs ++ ys) → ((x : ℕ) → l.up 0 < x → l.down x ≡ 0) → IsLinkedFrom (fold grown l ys) 0 (xs ++ ys)
+pub linked_from : (l : Line) (xs ys : List ℕ) → IsLinkedFrom l 0 xs → Rises 0 (xs ++ ys)
+    → ((x : ℕ) → l.up 0 < x → l.down x ≡ 0) → IsLinkedFrom (fold grown l ys) 0 (xs ++ ys)
 linked_from l xs [] h r none = subst (IsLinkedFrom l 0) (sym (append-nil xs)) h
 linked_from l xs (y ∷ ys) h r none =
     let lt = last_low l 0 y xs ys h r in
     let last : (grown l y).up 0 ≡ y = put_at-same (put_at l.up y (l.up 0)) 0 y 0 refl in
     subst (IsLinkedFrom (fold grown (grown l y) ys) 0) (append_assoc xs (y ∷ []) ys)
-    (linked_from (grown l y) (xs ++ y ∷ []) ys (linked_more l 0 y xs h lt (none y lt)) (subst (Rises 0) (sym (append_assoc xs (y ∷ []) ys)) r)
-    (λ x high. put_at-other l.down (l.up 0) y x (λ e. omega (arith, e, lt, last, high)) ∙ none x (omega (arith, lt, last, high))))
+    (linked_from (grown l y) (xs ++ y ∷ []) ys (linked_more l 0 y xs h lt (none y lt))
+    (subst (Rises 0) (sym (append_assoc xs (y ∷ []) ys)) r)
+    (λ x high. put_at-other l.down (l.up 0) y x (λ e. omega (arith, e, lt, last, high))
+    ∙ none x (omega (arith, lt, last, high))))
 
 pub grown_linked : (xs : List ℕ) → Rises 0 xs → IsLinkedFrom (grown_all xs) 0 xs
 grown_linked xs r = linked_from blank [] xs (refl, refl) r (λ x h. refl)
@@ -95,7 +107,9 @@ lines_of ns j = grown_all (held j ns)
 
 pub length-held : (j : ℕ) (ns : List Node) → length (held j ns) ≤ length ns
 length-held j [] = omega arith
-length-held j (used o u ∷ ns) = let h = length-held j ns in elim (eqb u.item j) as (λ b. length (cond b (o ∷ held j ns) (held j ns)) ≤ suc (length ns)) [ true ↦ omega (arith, h) | false ↦ omega (arith, h) ]
+length-held j (used o u ∷ ns) = let h = length-held j ns in
+    elim (eqb u.item j) as (λ b. length (cond b (o ∷ held j ns) (held j ns)) ≤ suc (length ns))
+    [ true ↦ omega (arith, h) | false ↦ omega (arith, h) ]
 length-held j (_ ∷ ns) = let h = length-held j ns in omega (arith, h)
 
 pub lines_few : (j : ℕ) (ns : List Node) → (lines_of ns j).len ≤ length ns
@@ -107,11 +121,13 @@ held-append j (used o u ∷ ms) ns = grind (arith, common_steps, held-append j m
 held-append j (_ ∷ ms) ns = grind (arith, common_steps, held-append j ms ns)
 
 -- what one node more adds
-pub held_more : (j k : ℕ) (ns : List Node) (n : Node) → slice_get ns k ≡ Some n → held j (take (k + 1) ns) ≡ held j (take k ns) ++ held j (n ∷ [])
+pub held_more : (j k : ℕ) (ns : List Node) (n : Node) → slice_get ns k ≡ Some n
+    → held j (take (k + 1) ns) ≡ held j (take k ns) ++ held j (n ∷ [])
 held_more j k ns n e = ap (held j) (take_more-get ns k n e) ∙ held-append j (take k ns) (n ∷ [])
 
 -- a fact of each option by its node
-pub held_each : (P : ℕ → Type 0) (j : ℕ) (ns : List Node) → ((k o : ℕ) (u : Use) → slice_get ns k ≡ Some (used o u) → u.item ≡ j → P o) → AllByRecursion P (held j ns)
+pub held_each : (P : ℕ → Type 0) (j : ℕ) (ns : List Node)
+    → ((k o : ℕ) (u : Use) → slice_get ns k ≡ Some (used o u) → u.item ≡ j → P o) → AllByRecursion P (held j ns)
 held_each P j [] h = tt
 held_each P j (used o u ∷ ns) h =
     elim (eqb u.item j) as (λ b. eqb u.item j ≡ b → AllByRecursion P (cond b (o ∷ held j ns) (held j ns))) [
@@ -140,22 +156,29 @@ held_none p j = grind (arith, common_steps, length_front, owns_hold_none)
 pub absent_none : (j o : ℕ) (us : List Use) → is_some (colour_in us j) ≡ false → held j (map (used o) us) ≡ []
 absent_none j o [] e = refl
 absent_none j o (u ∷ us) e =
-    elim (eqb u.item j) as (λ b. is_some (cond b (Some u.colour) (colour_in us j)) ≡ false → cond b (o ∷ held j (map (used o) us)) (held j (map (used o) us)) ≡ []) [
+    elim (eqb u.item j) as (λ b. is_some (cond b (Some u.colour) (colour_in us j)) ≡ false
+    → cond b (o ∷ held j (map (used o) us)) (held j (map (used o) us)) ≡ []) [
       | true ↦ λ f. absurd (false≢true (sym f))
       | false ↦ λ f. absent_none j o us f
     ] e
 
 -- an option that holds an item has one node of it
-pub one_use : (j o : ℕ) (us : List Use) → AreDistinct us → held j (map (used o) us) ≡ cond (is_some (colour_in us j)) (o ∷ []) []
+pub one_use : (j o : ℕ) (us : List Use) → AreDistinct us
+    → held j (map (used o) us) ≡ cond (is_some (colour_in us j)) (o ∷ []) []
 one_use j o [] d = grind (arith, common_steps, absent_none, eqb-true)
 one_use j o (u ∷ us) d = grind (arith, common_steps, absent_none, eqb-true, one_use j o us d.1)
 
-pub options_hold : (j : ℕ) (os : List Numbered) → AllByRecursion (λ (x : Numbered). AreDistinct x.uses) os → held j (flat_map nodes_of os) ≡ map (λ (o : Numbered). o.number) (holding j os)
+pub options_hold : (j : ℕ) (os : List Numbered) → AllByRecursion (λ (x : Numbered). AreDistinct x.uses) os
+    → held j (flat_map nodes_of os) ≡ map (λ (o : Numbered). o.number) (holding j os)
 options_hold j [] d = refl
 options_hold j (x ∷ os) d =
     held-append j (nodes_of x) (flat_map nodes_of os)
-    ∙ ap (λ l. l ++ held j (flat_map nodes_of os)) (held-append j (map (used x.number) x.uses) (spacer x.number ∷ []) ∙ append-nil (held j (map (used x.number) x.uses)) ∙ one_use j x.number x.uses d.0)
-    ∙ elim (is_some (colour_in x.uses j)) as (λ b. cond b (x.number ∷ []) [] ++ held j (flat_map nodes_of os) ≡ map (λ (o : Numbered). o.number) (cond b (x ∷ holding j os) (holding j os))) [
+    ∙ ap (λ l. l ++ held j (flat_map nodes_of os))
+    (held-append j (map (used x.number) x.uses) (spacer x.number ∷ [])
+    ∙ append-nil (held j (map (used x.number) x.uses)) ∙ one_use j x.number x.uses d.0)
+    ∙ elim (is_some (colour_in x.uses j)) as
+    (λ b. cond b (x.number ∷ []) [] ++ held j (flat_map nodes_of os) ≡ map (λ (o : Numbered). o.number)
+    (cond b (x ∷ holding j os) (holding j os))) [
       | true ↦ ap (λ l. x.number ∷ l) (options_hold j os d.1)
       | false ↦ options_hold j os d.1
     ]
@@ -166,13 +189,15 @@ owns_none j (i ∷ js) ns = owns_none j js ns
 
 -- in the end each item's list is that of all options
 pub held_all : (p : Puzzle) (j : ℕ) → IsFit p → held j (layout p) ≡ listed_numbers p [] j
-held_all p j fit = owns_none j (range_with_len 1 (item_count p)) (tail_from 0 p.options) ∙ options_hold j (numbered_options p) (distinct_options p fit)
+held_all p j fit = owns_none j (range_with_len 1 (item_count p)) (tail_from 0 p.options)
+    ∙ options_hold j (numbered_options p) (distinct_options p fit)
 
 -- ---- a use's node enters its item's list: so does its option the item's line
 
 -- ---- tables of lines that are the same
 
-pub nodes_same : (p : Puzzle) (ln lm : ℕ → Line) (col : Node → ℕ) → ((j : ℕ) → ln j ≡ lm j) → nodes_from p ln col ≡ nodes_from p lm col
+pub nodes_same : (p : Puzzle) (ln lm : ℕ → Line) (col : Node → ℕ) → ((j : ℕ) → ln j ≡ lm j)
+    → nodes_from p ln col ≡ nodes_from p lm col
 nodes_same p ln lm col h = ap (λ (lines : ℕ → Line). nodes_from p lines col) (fun_ext h)
 
 -- ---- one node enters
@@ -182,7 +207,9 @@ written_twice : (f : ℕ → ℕ → ℕ) (j : ℕ) (g : ℕ → ℕ) (o : ℕ) 
     put_link (put_link f j g) j (put_at (put_link f j g j) 0 o) k x ≡ put_link f j (put_at g 0 o) k x
 written_twice f j g o k x = grind (arith, common_steps, eq-eqb)
 
-entered-is : (p : Puzzle) (ln : ℕ → Line) (col : Node → ℕ) (q o : ℕ) (u : Use) → IsLaid p → slice_get (layout p) q ≡ Some (used o u) → Placed p u.item o → Placed p u.item 0 → Placed p u.item ((ln u.item).up 0) → (0 < u.item) × (u.item ≤ item_count p) →
+entered-is : (p : Puzzle) (ln : ℕ → Line) (col : Node → ℕ) (q o : ℕ) (u : Use) → IsLaid p
+    → slice_get (layout p) q ≡ Some (used o u) → Placed p u.item o → Placed p u.item 0
+    → Placed p u.item ((ln u.item).up 0) → (0 < u.item) × (u.item ≤ item_count p) →
     entered (nodes_from p ln col) q ≡ nodes_from p (with_line ln u.item (grown (ln u.item) o)) col
 entered-is p ln col q o u laid e here head last item =
     let j = u.item in
@@ -195,19 +222,23 @@ entered-is p ln col q o u laid e here head last item =
     let i = get_or tops q 0 in
     let is_q : link_place p j o ≡ q = laid.unique q (used o u) j o e refl in
     let is_i : i ≡ j = get_map (top_in ln) (layout p) q (used o u) e in
-    let is_u : get_or ups i 0 ≡ link_place p j v = ap (λ k. get_or ups k 0) is_i ∙ get_link p up (fixed_up p) j 0 head in
+    let is_u : get_or ups i 0 ≡ link_place p j v =
+    ap (λ k. get_or ups k 0) is_i ∙ get_link p up (fixed_up p) j 0 head in
     let count : get_or tops j 0 ≡ (ln j).len = get_len p ln j laid item.0 item.1 in
     let more = grown (ln j) o in
     let once = put_link up j (put_at (up j) o v) in
     same_nodes (entered (nodes_from p ln col) q) (nodes_from p (with_line ln j more) col)
-    (ap (λ k. set tops k (get_or tops k 0 + 1)) is_i ∙ ap (λ n. set tops j (n + 1)) count ∙ sym (set_top p ln j more laid item.0 item.1))
+    (ap (λ k. set tops k (get_or tops k 0 + 1)) is_i ∙ ap (λ n. set tops j (n + 1)) count
+    ∙ sym (set_top p ln j more laid item.0 item.1))
     (ap (λ k. set (set ups q (get_or ups i 0)) k q) is_i
     ∙ ap (λ w. set (set ups q w) j q) is_u
     ∙ ap (λ k. set (set ups k (link_place p j v)) j k) (sym is_q)
     ∙ ap (λ l. set l j (link_place p j o)) (sym (set_link p up (fixed_up p) j o v laid here))
     ∙ sym (set_link p once (fixed_up p) j 0 o laid head)
-    ∙ column_same p (put_link up j (put_at (put_at (up j) o v) 0 o)) (put_link once j (put_at (once j) 0 o)) (fixed_up p) (written_twice up j (put_at (up j) o v) o))
-    (ap (λ w. set downs w q) is_u ∙ ap (set downs (link_place p j v)) (sym is_q) ∙ sym (set_link p down (fixed_down p) j v o laid last))
+    ∙ column_same p (put_link up j (put_at (put_at (up j) o v) 0 o)) (put_link once j (put_at (once j) 0 o))
+    (fixed_up p) (written_twice up j (put_at (up j) o v) o))
+    (ap (λ w. set downs w q) is_u ∙ ap (set downs (link_place p j v)) (sym is_q)
+    ∙ sym (set_link p down (fixed_down p) j v o laid last))
     refl
 
 -- ---- the nodes so far
@@ -218,19 +249,27 @@ take_get (suc k) i [] x e = cc
 take_get (suc k) zero (y ∷ xs) x e = e
 take_get (suc k) (suc i) (y ∷ xs) x e = take_get k i xs x e
 
-use_name : (p : Puzzle) (k o j : ℕ) (u : Use) → IsFit p → slice_get (layout p) k ≡ Some (used o u) → u.item ≡ j → IsName p j o
+use_name : (p : Puzzle) (k o j : ℕ) (u : Use) → IsFit p → slice_get (layout p) k ≡ Some (used o u) → u.item ≡ j
+    → IsName p j o
 use_name p k o j u fit e same = grind (arith, common_steps, each_at, layout_ok)
 
 -- an item's line once one node more is entered
 line_then : (p : Puzzle) (q o : ℕ) (u : Use) → slice_get (layout p) q ≡ Some (used o u) → (k : ℕ) →
-    with_line (lines_of (take q (layout p))) u.item (grown (lines_of (take q (layout p)) u.item) o) k ≡ lines_of (take (q + 1) (layout p)) k
+    with_line (lines_of (take q (layout p))) u.item (grown (lines_of (take q (layout p)) u.item) o) k ≡ lines_of
+    (take (q + 1) (layout p)) k
 line_then p q o u e k =
     let ns = take q (layout p) in
     let j = u.item in
     let l : Line = grown (lines_of ns j) o in
     let m : Line = lines_of ns k in
-    let make : Bool → Line = λ b. record { len = cond b l.len m.len; up = λ x. cond b (l.up x) (m.up x); down = λ x. cond b (l.down x) (m.down x) } in
-    let next : held k (take (q + 1) (layout p)) ≡ held k ns ++ cond (eqb j k) (o ∷ []) [] = held_more k q (layout p) (used o u) e in
+    let make : Bool → Line =
+    λ b. record {
+      len = cond b l.len m.len;
+      up = λ x. cond b (l.up x) (m.up x);
+      down = λ x. cond b (l.down x) (m.down x);
+    } in
+    let next : held k (take (q + 1) (layout p)) ≡ held k ns ++ cond (eqb j k) (o ∷ []) [] =
+    held_more k q (layout p) (used o u) e in
     grind (arith, common_steps, append-nil, eq-eqb, eqb-false, eqb-true, grown_more, ne_eqb)
 
 -- what entering the node at q asks, and what it gives
@@ -242,7 +281,8 @@ pub record UseStep (p : Puzzle) (t : Nodes) (q o : ℕ) (u : Use) : Type 0 where
   pub few : slice_index t.top (slice_index t.top q) < SPACER
   pub done : entered t q ≡ nodes_from p (lines_of (take (q + 1) (layout p))) (color_in p [])
 
-pub use_step : (p : Puzzle) (q o : ℕ) (u : Use) → IsFit p → IsWithinLimits p → slice_get (layout p) q ≡ Some (used o u) →
+pub use_step : (p : Puzzle) (q o : ℕ) (u : Use) → IsFit p → IsWithinLimits p
+    → slice_get (layout p) q ≡ Some (used o u) →
     UseStep p (nodes_from p (lines_of (take q (layout p))) (color_in p [])) q o u
 use_step p q o u fit limits e =
     let j = u.item in
@@ -255,11 +295,16 @@ use_step p q o u fit limits e =
     let long : length tops ≡ length (layout p) = length-map (layout p) (top_in ln) in
     let here = laid.there j o range.0 range.1 (use_name p q o j u fit e refl) in
     let head = laid.there j 0 range.0 range.1 (inl refl) in
-    let name : IsName p j ((ln j).up 0) = grown_last (IsName p j) (held j ns) (inl refl) (held_each (IsName p j) j ns (λ k x v f same. use_name p k x j v fit (take_get q k (layout p) (used x v) f) same)) in
+    let name : IsName p j ((ln j).up 0) =
+    grown_last (IsName p j) (held j ns) (inl refl)
+    (held_each (IsName p j) j ns
+    (λ k x v f same. use_name p k x j v fit (take_get q k (layout p) (used x v) f) same)) in
     let last = laid.there j ((ln j).up 0) range.0 range.1 name in
     let is_i : get_or tops q 0 ≡ j = get_map (top_in ln) (layout p) q (used o u) e in
-    let is_u : get_or ups (get_or tops q 0) 0 ≡ link_place p j ((ln j).up 0) = ap (λ k. get_or ups k 0) is_i ∙ get_link p (λ k x. (ln k).up x) (fixed_up p) j 0 head in
-    let count : get_or tops (get_or tops q 0) 0 ≡ (ln j).len = ap (λ k. get_or tops k 0) is_i ∙ get_len p ln j laid range.0 range.1 in
+    let is_u : get_or ups (get_or tops q 0) 0 ≡ link_place p j ((ln j).up 0) =
+    ap (λ k. get_or ups k 0) is_i ∙ get_link p (λ k x. (ln k).up x) (fixed_up p) j 0 head in
+    let count : get_or tops (get_or tops q 0) 0 ≡ (ln j).len =
+    ap (λ k. get_or tops k 0) is_i ∙ get_len p ln j laid range.0 range.1 in
     let within = slice_get_within (layout p) q (used o u) e in
     let size = length-take-le q (layout p) (omega (arith, within)) in
     let few = lines_few j ns in
@@ -270,17 +315,20 @@ use_step p q o u fit limits e =
       last = omega (arith, is_u, long, slice_get_within (layout p) (link_place p j ((ln j).up 0)) last.node last.at);
       few = omega (arith, count, few, size, layout_small p limits, within);
       done = entered-is p ln (color_in p []) q o u laid e here head last range
-          ∙ nodes_same p (with_line ln j (grown (ln j) o)) (lines_of (take (q + 1) (layout p))) (color_in p []) (line_then p q o u e);
+          ∙ nodes_same p (with_line ln j (grown (ln j) o)) (lines_of (take (q + 1) (layout p))) (color_in p [])
+          (line_then p q o u e);
     }
 
 -- a spacer enters no list
 pub spacer_step : (p : Puzzle) (q n : ℕ) → slice_get (layout p) q ≡ Some (spacer n) →
-    nodes_from p (lines_of (take q (layout p))) (color_in p []) ≡ nodes_from p (lines_of (take (q + 1) (layout p))) (color_in p [])
+    nodes_from p (lines_of (take q (layout p))) (color_in p []) ≡ nodes_from p (lines_of (take (q + 1) (layout p)))
+    (color_in p [])
 spacer_step p q n e =
     nodes_same p (lines_of (take q (layout p))) (lines_of (take (q + 1) (layout p))) (color_in p [])
     (λ k. ap grown_all (sym (held_more k q (layout p) (spacer n) e ∙ append-nil (held k (take q (layout p))))))
 
-pub spacer_top : (p : Puzzle) (ln : ℕ → Line) (col : Node → ℕ) (q n : ℕ) → slice_get (layout p) q ≡ Some (spacer n) → slice_index (nodes_from p ln col).top q ≡ SPACER + n
+pub spacer_top : (p : Puzzle) (ln : ℕ → Line) (col : Node → ℕ) (q n : ℕ) → slice_get (layout p) q ≡ Some (spacer n)
+    → slice_index (nodes_from p ln col).top q ≡ SPACER + n
 spacer_top p ln col q n e = get_map (top_in ln) (layout p) q (spacer n) e
 
 -- ---- behind the items' own nodes stand uses and spacers alone
@@ -296,9 +344,13 @@ all_used o (u ∷ us) = (tt, all_used o us)
 
 all_behind : (os : List Numbered) → AllByRecursion IsUseOrSpacer (flat_map nodes_of os)
 all_behind [] = tt
-all_behind (x ∷ os) = each-append IsUseOrSpacer (nodes_of x) (flat_map nodes_of os) (each-append IsUseOrSpacer (map (used x.number) x.uses) (spacer x.number ∷ []) (all_used x.number x.uses) (tt, tt)) (all_behind os)
+all_behind (x ∷ os) =
+    each-append IsUseOrSpacer (nodes_of x) (flat_map nodes_of os)
+    (each-append IsUseOrSpacer (map (used x.number) x.uses) (spacer x.number ∷ []) (all_used x.number x.uses)
+    (tt, tt)) (all_behind os)
 
-pub behind_items : (p : Puzzle) (q : ℕ) (n : Node) → item_count p + 1 ≤ q → slice_get (layout p) q ≡ Some n → IsUseOrSpacer n
+pub behind_items : (p : Puzzle) (q : ℕ) (n : Node) → item_count p + 1 ≤ q → slice_get (layout p) q ≡ Some n
+    → IsUseOrSpacer n
 behind_items p q n le e =
     let size = length_front p in
     each_at IsUseOrSpacer (tail_from 0 p.options) (q - (item_count p + 1)) n (tt, all_behind (numbered_options p))
@@ -310,12 +362,17 @@ behind_items p q n le e =
 along : (xs : List ℕ) → Rises 0 xs → Swept (grown_all xs) (grown_all xs) 0 xs xs
 along xs r =
     let l = grown_all xs in
-    let s : Swept l (cuts l (filter (λ x. false) xs)) 0 xs (stay (λ x. false) xs) = swept l 0 xs (λ x. false) (grown_linked xs r) in
-    subst (λ ks. Swept l l 0 xs ks) (stay_all xs) (subst (λ ys. Swept l (cuts l ys) 0 xs (stay (λ x. false) xs)) (leave_none xs) s)
+    let s : Swept l (cuts l (filter (λ x. false) xs)) 0 xs (stay (λ x. false) xs) =
+    swept l 0 xs (λ x. false) (grown_linked xs r) in
+    subst (λ ks. Swept l l 0 xs ks) (stay_all xs)
+    (subst (λ ys. Swept l (cuts l ys) 0 xs (stay (λ x. false) xs)) (leave_none xs) s)
 
 -- before the first use's node, all lists are empty
-pub none_entered : (p : Puzzle) → nodes_from p blanks (color_in p []) ≡ nodes_from p (lines_of (take (item_count p + 1) (layout p))) (color_in p [])
-none_entered p = nodes_same p blanks (lines_of (take (item_count p + 1) (layout p))) (color_in p []) (λ j. ap grown_all (sym (held_none p j)))
+pub none_entered : (p : Puzzle)
+    → nodes_from p blanks (color_in p []) ≡ nodes_from p (lines_of (take (item_count p + 1) (layout p))) (color_in p [])
+none_entered p =
+    nodes_same p blanks (lines_of (take (item_count p + 1) (layout p))) (color_in p [])
+    (λ j. ap grown_all (sym (held_none p j)))
 
 abbrev whole : Puzzle → ℕ → Line
 whole p j = grown_all (listed_numbers p [] j)
@@ -324,30 +381,37 @@ up_is : (p : Puzzle) (j o : ℕ) → is_in o (listed_numbers p [] j) ≡ true �
 up_is p j zero e pos = absurd (omega (arith, pos))
 up_is p j (suc o) e pos = (along (listed_numbers p [] j) (rises_listed p [] j)).up_in (suc o) e
 
-down_is : (p : Puzzle) (j o : ℕ) → is_in o (listed_numbers p [] j) ≡ true → 0 < o → (whole p j).down o ≡ down_of p [] j o
+down_is : (p : Puzzle) (j o : ℕ) → is_in o (listed_numbers p [] j) ≡ true → 0 < o
+    → (whole p j).down o ≡ down_of p [] j o
 down_is p j zero e pos = absurd (omega (arith, pos))
-down_is p j (suc o) e pos = (along (listed_numbers p [] j) (rises_listed p [] j)).down_in (suc o) (λ z. omega (arith, z)) e
+down_is p j (suc o) e pos =
+    (along (listed_numbers p [] j) (rises_listed p [] j)).down_in (suc o) (λ z. omega (arith, z)) e
 
-in_list : (p : Puzzle) (q o : ℕ) (u : Use) → IsFit p → slice_get (layout p) q ≡ Some (used o u) → is_in o (listed_numbers p [] u.item) ≡ true
+in_list : (p : Puzzle) (q o : ℕ) (u : Use) → IsFit p → slice_get (layout p) q ≡ Some (used o u)
+    → is_in o (listed_numbers p [] u.item) ≡ true
 in_list p q o u fit e = ap (is_in o) (sym (held_all p u.item fit)) ∙ held_in (layout p) q o u e
 
 top_is : (p : Puzzle) (n : Node) → top_in (whole p) n ≡ top_in (line_of p []) n
 top_is p (own i) = grown_len (listed_numbers p [] i) ∙ length-map (listed p [] i) (λ o. o.number)
 top_is p _ = refl
 
-ulink_is : (p : Puzzle) (q : ℕ) (n : Node) → IsFit p → slice_get (layout p) q ≡ Some n → ulink_in p (whole p) n ≡ ulink_in p (line_of p []) n
+ulink_is : (p : Puzzle) (q : ℕ) (n : Node) → IsFit p → slice_get (layout p) q ≡ Some n
+    → ulink_in p (whole p) n ≡ ulink_in p (line_of p []) n
 ulink_is p q (own i) fit e = ap (link_place p i) (along (listed_numbers p [] i) (rises_listed p [] i)).last
 ulink_is p q (used o u) fit e = grind (arith, common_steps, each_at, in_list, layout_ok, up_is)
 ulink_is p q _ fit e = refl
 
-dlink_is : (p : Puzzle) (q : ℕ) (n : Node) → IsFit p → slice_get (layout p) q ≡ Some n → dlink_in p (whole p) n ≡ dlink_in p (line_of p []) n
+dlink_is : (p : Puzzle) (q : ℕ) (n : Node) → IsFit p → slice_get (layout p) q ≡ Some n
+    → dlink_in p (whole p) n ≡ dlink_in p (line_of p []) n
 dlink_is p q (own i) fit e = ap (link_place p i) (along (listed_numbers p [] i) (rises_listed p [] i)).first
 dlink_is p q (used o u) fit e = grind (arith, common_steps, down_is, each_at, in_list, layout_ok)
 dlink_is p q _ fit e = refl
 
-pub all_entered : (p : Puzzle) (n : ℕ) → IsFit p → length (layout p) ≤ n → nodes_from p (lines_of (take n (layout p))) (color_in p []) ≡ nodes_after p []
+pub all_entered : (p : Puzzle) (n : ℕ) → IsFit p → length (layout p) ≤ n
+    → nodes_from p (lines_of (take n (layout p))) (color_in p []) ≡ nodes_after p []
 all_entered p n fit le =
-    nodes_same p (lines_of (take n (layout p))) (whole p) (color_in p []) (λ j. ap (λ ns. lines_of ns j) (take_all n (layout p) le) ∙ ap grown_all (held_all p j fit))
+    nodes_same p (lines_of (take n (layout p))) (whole p) (color_in p [])
+    (λ j. ap (λ ns. lines_of ns j) (take_all n (layout p) le) ∙ ap grown_all (held_all p j fit))
     ∙ same_nodes (nodes_from p (whole p) (color_in p [])) (nodes_after p [])
     (map_same (top_in (line_of p [])) (top_in (whole p)) (layout p) (λ q m e. top_is p m))
     (map_same (ulink_in p (line_of p [])) (ulink_in p (whole p)) (layout p) (λ q m e. ulink_is p q m fit e))

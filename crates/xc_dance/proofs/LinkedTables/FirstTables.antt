@@ -11,7 +11,8 @@ use Rattle.std.proofs.lemmas.List.FromFn.{length-range_with_len}
 use Rattle.std.proofs.lemmas.List.Elements.{recursion_from_All}
 use Rattle.std.proofs.lemmas.Bool.{lt-leb}
 use Rattle.xc_input.specs.declared.problem.Use.{Use}
-use Rattle.xc_input.specs.Problem.{Puzzle, item_count, option_count, primary_count, high_at, low_at, IsValid, AreSoundBounds}
+use Rattle.xc_input.specs.Problem.{Puzzle, item_count, option_count, primary_count, high_at, low_at, IsValid}
+use Rattle.xc_input.specs.Problem.{AreSoundBounds}
 use Rattle.std.proofs.lemmas.List.{length-map, map-append}
 use Rattle.std.proofs.lemmas.Option.{slice_get_within}
 use Rattle.std.proofs.Math.Seq.{take-length}
@@ -20,7 +21,8 @@ use Rattle.xc_dance.specs.inner.Links.FirstNodes.{filled, blanks, rows_of, no_ro
 use Rattle.xc_dance.proofs.Copied.{take_more-get}
 use Rattle.xc_dance.specs.declared.links.nodes.Nodes.{Nodes}
 use Rattle.xc_dance.specs.declared.links.nodes.Row.{Row}
-use Rattle.xc_dance.specs.Fields.{Node, unused, own, spacer, layout, spacer_place, last_below, first_above, first_of, last_of, ring_of, ring_head, left_of, right_of}
+use Rattle.xc_dance.specs.Fields.{Node, unused, own, spacer, layout, spacer_place, last_below, first_above, first_of}
+use Rattle.xc_dance.specs.Fields.{last_of, ring_of, ring_head, left_of, right_of}
 use Rattle.xc_dance.specs.inner.Links.Cells.{top_in, ulink_in, dlink_in, color_in, fixed_up, fixed_down, nodes_from}
 use Rattle.xc_dance.specs.inner.Links.OptionPlaces.{place_at}
 use Rattle.xc_dance.specs.inner.Links.ItemCells.{bound_at, slack_at, items_after, llink_at, rlink_at}
@@ -49,25 +51,29 @@ length-filled f [] k = refl
 length-filled f (n ∷ ns) zero = ap suc (length-filled f ns zero)
 length-filled f (n ∷ ns) (suc k) = ap suc (length-filled f ns k)
 
-set_suc : {X : Type 0} (f : X → ℕ) (ns : List X) (k : ℕ) (n : X) → slice_get ns k ≡ Some n → set (filled f ns k) k (f n) ≡ filled f ns (suc k)
+set_suc : {X : Type 0} (f : X → ℕ) (ns : List X) (k : ℕ) (n : X) → slice_get ns k ≡ Some n
+    → set (filled f ns k) k (f n) ≡ filled f ns (suc k)
 set_suc f [] k n e = cc
 set_suc f (m ∷ ns) zero n e = ap (λ v. v ∷ filled f ns 0) (ap f (sym (same_Some m n e)))
 set_suc f (m ∷ ns) (suc k) n e = ap (λ l. f m ∷ l) (set_suc f ns k n e)
 
 -- one cell more
-pub filled_more : {X : Type 0} (f : X → ℕ) (ns : List X) (k : ℕ) (n : X) (v : ℕ) → slice_get ns k ≡ Some n → v ≡ f n → set (filled f ns k) k v ≡ filled f ns (k + 1)
+pub filled_more : {X : Type 0} (f : X → ℕ) (ns : List X) (k : ℕ) (n : X) (v : ℕ) → slice_get ns k ≡ Some n → v ≡ f n
+    → set (filled f ns k) k v ≡ filled f ns (k + 1)
 filled_more f ns k n v e is = grind (arith, common_steps, set_suc)
 
 pub range_get : (a n k : ℕ) → k < n → slice_get (range_with_len a n) k ≡ Some (a + k)
 range_get a zero k lt = absurd (omega (arith, lt))
 range_get a (suc n) zero lt = let z : a ≡ a + 0 = omega arith in ap Some z
-range_get a (suc n) (suc k) lt = let s : a + 1 + k ≡ a + suc k = omega arith in range_get (a + 1) n k (omega (arith, lt)) ∙ ap Some s
+range_get a (suc n) (suc k) lt =
+    let s : a + 1 + k ≡ a + suc k = omega arith in range_get (a + 1) n k (omega (arith, lt)) ∙ ap Some s
 
 -- ---- the node table as it is laid node by node
 
 -- what stands in a node's cells where all lists are empty
 abbrev pub row_of : Puzzle → Node → Row
-row_of p n = record { top = top_in blanks n; ulink = ulink_in p blanks n; dlink = dlink_in p blanks n; color = color_in p [] n }
+row_of p n =
+    record { top = top_in blanks n; ulink = ulink_in p blanks n; dlink = dlink_in p blanks n; color = color_in p [] n }
 
 rows_more : (p : Puzzle) (ns : List Node) (n : Node)
     → (with_row (record { count = 0; nodes = rows_of p ns }) (row_of p n)).nodes ≡ rows_of p (ns ++ n ∷ [])
@@ -113,7 +119,8 @@ up_next p o le =
     let is : place_at p o + 1 ≡ fixed_up p (spacer (suc o)) = omega (arith, spacer_at p o le) in
     is ∙ ap (λ n. fixed_up p (spacer n)) s
 
-pub down_next : (p : Puzzle) (o : ℕ) (us : List Use) → o < option_count p → slice_get p.options o ≡ Some us → place_at p o + length us ≡ fixed_down p (spacer o)
+pub down_next : (p : Puzzle) (o : ℕ) (us : List Use) → o < option_count p → slice_get p.options o ≡ Some us
+    → place_at p o + length us ≡ fixed_down p (spacer o)
 down_next p o us lt e =
     let here = spacer_at p (o + 1) (omega (arith, lt)) in
     let is : place_at p o + length us ≡ spacer_place p (o + 1) - 1 = omega (arith, here, place_next p o us e) in
@@ -122,13 +129,15 @@ down_next p o us lt e =
 -- ---- the rows
 
 -- the unused node and an item's own node
-pub own_row : (p : Puzzle) (i : ℕ) → i ≤ item_count p → (n : Node) × (slice_get (layout p) i ≡ Some n) × (let r : Row = record { top = 0; ulink = i; dlink = i; color = 0 } in r ≡ row_of p n)
+pub own_row : (p : Puzzle) (i : ℕ) → i ≤ item_count p → (n : Node) × (slice_get (layout p) i ≡ Some n)
+    × (let r : Row = record { top = 0; ulink = i; dlink = i; color = 0 } in r ≡ row_of p n)
 own_row p zero le = (unused, refl, refl)
 own_row p (suc i) le = (own (suc i), head_is p (suc i) (omega arith) le, refl)
 
 pub spacer_row : (p : Puzzle) (o above below : ℕ) → above ≡ fixed_up p (spacer o) → below ≡ fixed_down p (spacer o) →
     (let r : Row = record { top = SPACER + o; ulink = above; dlink = below; color = 0 } in r ≡ row_of p (spacer o))
-spacer_row p o above below e f = let row : ℕ → ℕ → Row = λ a b. record { top = SPACER + o; ulink = a; dlink = b; color = 0 } in ap₂ row e f
+spacer_row p o above below e f =
+    let row : ℕ → ℕ → Row = λ a b. record { top = SPACER + o; ulink = a; dlink = b; color = 0 } in ap₂ row e f
 
 -- ---- the item table as it is filled place by place
 
@@ -141,11 +150,14 @@ column_none f n = ap zeros (sym (length-range_with_len 0 n)) ∙ filled_none f (
 pub column_len : (f : ℕ → ℕ) (n k : ℕ) → length (filled f (range_with_len 0 n) k) ≡ n
 column_len f n k = length-filled f (range_with_len 0 n) k ∙ length-range_with_len 0 n
 
-pub column_more : (f : ℕ → ℕ) (n k v : ℕ) → k < n → v ≡ f k → set (filled f (range_with_len 0 n) k) k v ≡ filled f (range_with_len 0 n) (k + 1)
-column_more f n k v lt is = let z : 0 + k ≡ k = omega arith in filled_more f (range_with_len 0 n) k k v (range_get 0 n k lt ∙ ap Some z) is
+pub column_more : (f : ℕ → ℕ) (n k v : ℕ) → k < n → v ≡ f k
+    → set (filled f (range_with_len 0 n) k) k v ≡ filled f (range_with_len 0 n) (k + 1)
+column_more f n k v lt is =
+    let z : 0 + k ≡ k = omega arith in filled_more f (range_with_len 0 n) k k v (range_get 0 n k lt ∙ ap Some z) is
 
 pub column_all : (f : ℕ → ℕ) (n k : ℕ) → n ≤ k → filled f (range_with_len 0 n) k ≡ map f (range_with_len 0 n)
-column_all f n k le = let size = length-range_with_len 0 n in filled_all f (range_with_len 0 n) k (omega (arith, size, le))
+column_all f n k le =
+    let size = length-range_with_len 0 n in filled_all f (range_with_len 0 n) k (omega (arith, size, le))
 
 pub rings_linked : (p : Puzzle) (k : ℕ) → item_count p + 2 ≤ k → linked_to p k ≡ bound_to p 1
 rings_linked p k le = grind (arith, common_steps, column_all, same_items)
@@ -159,7 +171,9 @@ bound_is p i = rw (ne_eqb (i + 1) 0 (λ z. omega (arith, z))) (omega arith)
 pub slack_is : (p : Puzzle) (i : ℕ) → high_at p (i + 1) - low_at p (i + 1) ≡ slack_at p (i + 1)
 slack_is p i = rw (ne_eqb (i + 1) 0 (λ z. omega (arith, z))) refl
 
-low_high : (bs : List Bounds) (k : ℕ) → AllByRecursion AreSoundBounds bs → (unwrap_or (slice_get bs k) (record { low = 0; high = 0 })).low ≤ (unwrap_or (slice_get bs k) (record { low = 0; high = 0 })).high
+low_high : (bs : List Bounds) (k : ℕ) → AllByRecursion AreSoundBounds bs
+    → (unwrap_or (slice_get bs k) (record { low = 0; high = 0 })).low ≤
+    (unwrap_or (slice_get bs k) (record { low = 0; high = 0 })).high
 low_high [] k a = omega arith
 low_high (b ∷ bs) zero a = a.0.0
 low_high (b ∷ bs) (suc k) a = low_high bs k a.1
@@ -174,7 +188,8 @@ low_most p (suc k) valid = low_high p.bounds k (recursion_from_All AreSoundBound
 
 none_below : (other i a n : ℕ) → i ≤ a → last_below other i (range_with_len a n) ≡ other
 none_below other i a zero le = refl
-none_below other i a (suc n) le = let no : ltb a i ≡ false = le-ltb a i le in rw no (none_below other i (a + 1) n (omega arith))
+none_below other i a (suc n) le =
+    let no : ltb a i ≡ false = le-ltb a i le in rw no (none_below other i (a + 1) n (omega arith))
 
 below_in : (other i a n : ℕ) → a < i → i ≤ a + n → last_below other i (range_with_len a n) ≡ i - 1
 below_in other i a zero lt le = absurd (omega (arith, lt, le))
@@ -182,24 +197,28 @@ below_in other i a (suc n) lt le =
     last_below-more other i a (range_with_len (a + 1) n) lt
     ∙ elim (ltb (a + 1) i) as (λ b. ltb (a + 1) i ≡ b → last_below a i (range_with_len (a + 1) n) ≡ i - 1) [
       | true ↦ λ e. below_in a i (a + 1) n (ltb-true (a + 1) i e) (omega (arith, le))
-      | false ↦ λ e. let ge = ltb-false (a + 1) i e in none_below a i (a + 1) n (omega (arith, ge)) ∙ omega (arith, ge, lt)
+      | false ↦ λ e. let ge =
+          ltb-false (a + 1) i e in none_below a i (a + 1) n (omega (arith, ge)) ∙ omega (arith, ge, lt)
     ] refl
 
 above_in : (other i a n : ℕ) → a ≤ i + 1 → i + 1 < a + n → first_above other i (range_with_len a n) ≡ i + 1
 above_in other i a zero le lt = absurd (omega (arith, le, lt))
 above_in other i a (suc n) le lt =
-    elim (ltb i a) as (λ b. ltb i a ≡ b → unwrap_or (cond b (Some a) (find (λ k. nat_lt i k) (range_with_len (a + 1) n))) other ≡ i + 1) [
+    elim (ltb i a) as (λ b. ltb i a ≡ b
+    → unwrap_or (cond b (Some a) (find (λ k. nat_lt i k) (range_with_len (a + 1) n))) other ≡ i + 1) [
       | true ↦ λ e. let h = ltb-true i a e in omega (arith, h, le)
       | false ↦ λ e. let h = ltb-false i a e in above_in other i (a + 1) n (omega (arith, h)) (omega (arith, lt))
     ] refl
 
 none_above : (other i a n : ℕ) → a + n ≤ i + 1 → first_above other i (range_with_len a n) ≡ other
 none_above other i a zero le = refl
-none_above other i a (suc n) le = let no : ltb i a ≡ false = le-ltb i a (omega (arith, le)) in rw no (none_above other i (a + 1) n (omega (arith, le)))
+none_above other i a (suc n) le = let no : ltb i a ≡ false = le-ltb i a (omega (arith, le)) in
+    rw no (none_above other i (a + 1) n (omega (arith, le)))
 
 last_in : (other a n : ℕ) → last_of other (range_with_len a (suc n)) ≡ a + n
 last_in other a zero = last_of-more other a [] ∙ omega arith
-last_in other a (suc n) = let s : a + 1 + n ≡ a + suc n = omega arith in last_of-more other a (range_with_len (a + 1) (suc n)) ∙ last_in a (a + 1) n ∙ s
+last_in other a (suc n) = let s : a + 1 + n ≡ a + suc n = omega arith in
+    last_of-more other a (range_with_len (a + 1) (suc n)) ∙ last_in a (a + 1) n ∙ s
 
 -- ---- the rings
 
@@ -214,10 +233,19 @@ high_test : (i n : ℕ) → n < i → nat_le i n ≡ false
 high_test i n lt = lt-leb i n lt
 
 low_ring : (p : Puzzle) (i : ℕ) → i ≤ primary_count p → ring_of p [] i ≡ range_with_len 1 (primary_count p)
-low_ring p i le = keep (cond (nat_le i (primary_count p)) (range_with_len 1 (primary_count p)) (range_with_len (primary_count p + 1) p.secondary)) ∙ ap (λ b. cond b (range_with_len 1 (primary_count p)) (range_with_len (primary_count p + 1) p.secondary)) (low_test i (primary_count p) le)
+low_ring p i le =
+    keep (cond (nat_le i (primary_count p)) (range_with_len 1 (primary_count p))
+    (range_with_len (primary_count p + 1) p.secondary))
+    ∙ ap (λ b. cond b (range_with_len 1 (primary_count p)) (range_with_len (primary_count p + 1) p.secondary))
+    (low_test i (primary_count p) le)
 
-high_ring : (p : Puzzle) (i : ℕ) → primary_count p < i → ring_of p [] i ≡ range_with_len (primary_count p + 1) p.secondary
-high_ring p i lt = keep (cond (nat_le i (primary_count p)) (range_with_len 1 (primary_count p)) (range_with_len (primary_count p + 1) p.secondary)) ∙ ap (λ b. cond b (range_with_len 1 (primary_count p)) (range_with_len (primary_count p + 1) p.secondary)) (high_test i (primary_count p) lt)
+high_ring : (p : Puzzle) (i : ℕ) → primary_count p < i
+    → ring_of p [] i ≡ range_with_len (primary_count p + 1) p.secondary
+high_ring p i lt =
+    keep (cond (nat_le i (primary_count p)) (range_with_len 1 (primary_count p))
+    (range_with_len (primary_count p + 1) p.secondary))
+    ∙ ap (λ b. cond b (range_with_len 1 (primary_count p)) (range_with_len (primary_count p + 1) p.secondary))
+    (high_test i (primary_count p) lt)
 
 low_head : (p : Puzzle) (i : ℕ) → i ≤ primary_count p → ring_head p i ≡ 0
 low_head p i le = ap (λ b. cond b 0 (item_count p + 1)) (low_test i (primary_count p) le)
@@ -225,17 +253,23 @@ low_head p i le = ap (λ b. cond b 0 (item_count p + 1)) (low_test i (primary_co
 high_head : (p : Puzzle) (i : ℕ) → primary_count p < i → ring_head p i ≡ item_count p + 1
 high_head p i lt = ap (λ b. cond b 0 (item_count p + 1)) (high_test i (primary_count p) lt)
 
-low_left : (p : Puzzle) (i : ℕ) → i ≤ primary_count p → left_of p [] i ≡ last_below 0 i (range_with_len 1 (primary_count p))
+low_left : (p : Puzzle) (i : ℕ) → i ≤ primary_count p
+    → left_of p [] i ≡ last_below 0 i (range_with_len 1 (primary_count p))
 low_left p i le = ap (λ h. last_below h i (ring_of p [] i)) (low_head p i le) ∙ ap (last_below 0 i) (low_ring p i le)
 
-high_left : (p : Puzzle) (i : ℕ) → primary_count p < i → left_of p [] i ≡ last_below (item_count p + 1) i (range_with_len (primary_count p + 1) p.secondary)
-high_left p i lt = ap (λ h. last_below h i (ring_of p [] i)) (high_head p i lt) ∙ ap (last_below (item_count p + 1) i) (high_ring p i lt)
+high_left : (p : Puzzle) (i : ℕ) → primary_count p < i
+    → left_of p [] i ≡ last_below (item_count p + 1) i (range_with_len (primary_count p + 1) p.secondary)
+high_left p i lt = ap (λ h. last_below h i (ring_of p [] i)) (high_head p i lt)
+    ∙ ap (last_below (item_count p + 1) i) (high_ring p i lt)
 
-low_right : (p : Puzzle) (i : ℕ) → i ≤ primary_count p → right_of p [] i ≡ first_above 0 i (range_with_len 1 (primary_count p))
+low_right : (p : Puzzle) (i : ℕ) → i ≤ primary_count p
+    → right_of p [] i ≡ first_above 0 i (range_with_len 1 (primary_count p))
 low_right p i le = ap (λ h. first_above h i (ring_of p [] i)) (low_head p i le) ∙ ap (first_above 0 i) (low_ring p i le)
 
-high_right : (p : Puzzle) (i : ℕ) → primary_count p < i → right_of p [] i ≡ first_above (item_count p + 1) i (range_with_len (primary_count p + 1) p.secondary)
-high_right p i lt = ap (λ h. first_above h i (ring_of p [] i)) (high_head p i lt) ∙ ap (first_above (item_count p + 1) i) (high_ring p i lt)
+high_right : (p : Puzzle) (i : ℕ) → primary_count p < i
+    → right_of p [] i ≡ first_above (item_count p + 1) i (range_with_len (primary_count p + 1) p.secondary)
+high_right p i lt = ap (λ h. first_above h i (ring_of p [] i)) (high_head p i lt)
+    ∙ ap (first_above (item_count p + 1) i) (high_ring p i lt)
 
 -- ---- the cells
 
@@ -245,15 +279,23 @@ inner_left p i ne le = rw (ne_eqb i 0 ne, low_test i (item_count p) le) refl
 inner_right : (p : Puzzle) (i : ℕ) → i ≢ 0 → i ≤ item_count p → rlink_at p [] i ≡ right_of p [] i
 inner_right p i ne le = rw (ne_eqb i 0 ne, low_test i (item_count p) le) refl
 
-end_left : (p : Puzzle) (i : ℕ) → item_count p < i → llink_at p [] i ≡ last_of (item_count p + 1) (range_with_len (primary_count p + 1) p.secondary)
-end_left p i lt = rw (ne_eqb i 0 (λ z. omega (arith, z, lt)), high_test i (item_count p) lt) (ap (last_of (item_count p + 1)) (high_ring p (primary_count p + 1) (omega arith)))
+end_left : (p : Puzzle) (i : ℕ) → item_count p < i
+    → llink_at p [] i ≡ last_of (item_count p + 1) (range_with_len (primary_count p + 1) p.secondary)
+end_left p i lt =
+    rw (ne_eqb i 0 (λ z. omega (arith, z, lt)), high_test i (item_count p) lt)
+    (ap (last_of (item_count p + 1)) (high_ring p (primary_count p + 1) (omega arith)))
 
-end_right : (p : Puzzle) (i : ℕ) → item_count p < i → rlink_at p [] i ≡ first_of (item_count p + 1) (range_with_len (primary_count p + 1) p.secondary)
-end_right p i lt = rw (ne_eqb i 0 (λ z. omega (arith, z, lt)), high_test i (item_count p) lt) (ap (first_of (item_count p + 1)) (high_ring p (primary_count p + 1) (omega arith)))
+end_right : (p : Puzzle) (i : ℕ) → item_count p < i
+    → rlink_at p [] i ≡ first_of (item_count p + 1) (range_with_len (primary_count p + 1) p.secondary)
+end_right p i lt =
+    rw (ne_eqb i 0 (λ z. omega (arith, z, lt)), high_test i (item_count p) lt)
+    (ap (first_of (item_count p + 1)) (high_ring p (primary_count p + 1) (omega arith)))
 
 -- a fact by which of two numbers is greater
 by_size : (P : Type 0) (m n : ℕ) → (m ≤ n → P) → (n < m → P) → P
-by_size P m n low high = elim (ltb n m) as (λ b. ltb n m ≡ b → P) [ true ↦ λ e. high (ltb-true n m e) | false ↦ λ e. low (ltb-false n m e) ] refl
+by_size P m n low high =
+    elim (ltb n m) as (λ b. ltb n m ≡ b → P)
+    [ true ↦ λ e. high (ltb-true n m e) | false ↦ λ e. low (ltb-false n m e) ] refl
 
 last_primary : (n : ℕ) → last_of 0 (range_with_len 1 n) ≡ n
 last_primary zero = refl
@@ -264,14 +306,27 @@ last_secondary other a zero ne = absurd (ne refl)
 last_secondary other a (suc n) ne = last_in other a n ∙ omega arith
 
 pub left_head : (p : Puzzle) (i : ℕ) → i ≡ 0 → primary_count p ≡ llink_at p [] i
-left_head p i e = sym (ap (llink_at p []) e ∙ ap (last_of 0) (low_ring p 0 (omega arith)) ∙ last_primary (primary_count p))
+left_head p i e =
+    sym (ap (llink_at p []) e ∙ ap (last_of 0) (low_ring p 0 (omega arith)) ∙ last_primary (primary_count p))
 
 -- the first secondary item, or the head of the secondary items where there is none
 pub left_first : (p : Puzzle) (i : ℕ) → i ≡ primary_count p + 1 → item_count p + 1 ≡ llink_at p [] i
 left_first p i e = grind (arith, common_steps, by_size, end_left, high_left, inner_left, none_below)
 
 pub left_inner : (p : Puzzle) (i : ℕ) → i ≢ 0 → i ≢ primary_count p + 1 → i ≤ item_count p + 1 → i - 1 ≡ llink_at p [] i
-left_inner p i nz ne le = grind (arith, common_steps, below_in, by_size, end_left, high_left, inner_left, last_secondary, low_left, none_below)
+left_inner p i nz ne le =
+    grind (
+      arith,
+      common_steps,
+      below_in,
+      by_size,
+      end_left,
+      high_left,
+      inner_left,
+      last_secondary,
+      low_left,
+      none_below,
+    )
 
 pub right_last : (p : Puzzle) (i : ℕ) → i ≡ primary_count p → 0 ≡ rlink_at p [] i
 right_last p i e = grind (arith, common_steps, by_size, inner_right, low_right, low_ring, none_above)
@@ -283,14 +338,28 @@ first_secondary a (suc n) = refl
 pub right_head : (p : Puzzle) (i : ℕ) → i ≡ item_count p + 1 → primary_count p + 1 ≡ rlink_at p [] i
 right_head p i e =
     let same : item_count p + 1 ≡ primary_count p + 1 + p.secondary = omega arith in
-    sym (end_right p i (omega (arith, e)) ∙ ap (λ n. first_of n (range_with_len (primary_count p + 1) p.secondary)) same ∙ first_secondary (primary_count p + 1) p.secondary)
+    sym (end_right p i (omega (arith, e)) ∙ ap (λ n. first_of n (range_with_len (primary_count p + 1) p.secondary)) same
+    ∙ first_secondary (primary_count p + 1) p.secondary)
 
 first_primary : (n : ℕ) → n ≢ 0 → first_of 0 (range_with_len 1 n) ≡ 1
 first_primary zero ne = absurd (ne refl)
 first_primary (suc n) ne = refl
 
-pub right_inner : (p : Puzzle) (i : ℕ) → i ≢ primary_count p → i ≢ item_count p + 1 → i ≤ item_count p + 1 → i + 1 ≡ rlink_at p [] i
-right_inner p i ne nl le = grind (arith, common_steps, above_in, by_size, first_primary, high_right, inner_right, low_right, low_ring, none_above)
+pub right_inner : (p : Puzzle) (i : ℕ) → i ≢ primary_count p → i ≢ item_count p + 1 → i ≤ item_count p + 1
+    → i + 1 ≡ rlink_at p [] i
+right_inner p i ne nl le =
+    grind (
+      arith,
+      common_steps,
+      above_in,
+      by_size,
+      first_primary,
+      high_right,
+      inner_right,
+      low_right,
+      low_ring,
+      none_above,
+    )
 
 -- the columns of the item table, as they are filled
 pub ruleset item_columns = (column_none, column_len, column_more, rings_linked, same_items)

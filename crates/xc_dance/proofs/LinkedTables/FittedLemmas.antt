@@ -1,12 +1,14 @@
 -- A problem that was read is fit for the walks and fits into the tables.
-use Rattle.std.proofs.Common.{◌≡◌, ◌≢◌, ℕ, zero, suc, ◌<◌, ◌≤◌, ◌^◌, false, List, [], ◌∷◌, length, get_or, refl, sym, arith, ne_eqb, subst}
+use Rattle.std.proofs.Common.{◌≡◌, ◌≢◌, ℕ, zero, suc, ◌<◌, ◌≤◌, ◌^◌, false, List, [], ◌∷◌, length, get_or, refl, sym}
+use Rattle.std.proofs.Common.{arith, ne_eqb, subst}
 use Rattle.xc_input.specs.declared.problem.Bounds.{Bounds}
 use Rattle.std.specs.Prelude.{is_some, slice_get, unwrap_or, All, AllPairs}
 use Rattle.std.specs.List.{AllByRecursion}
 use Rattle.std.proofs.lemmas.List.Elements.{recursion_from_All}
 use Rattle.std.proofs.lemmas.Grind.{common_steps}
 use Rattle.xc_input.specs.declared.problem.Use.{Use}
-use Rattle.xc_input.specs.Problem.{Puzzle, colour_in, uses_of, item_count, IsValid, IsSoundOption, IsSoundUse, high_at, IsWithinLimits}
+use Rattle.xc_input.specs.Problem.{Puzzle, colour_in, uses_of, item_count, IsValid, IsSoundOption, IsSoundUse, high_at}
+use Rattle.xc_input.specs.Problem.{IsWithinLimits}
 use Rattle.xc_input.specs.Named.{AreColoursKnown}
 use Rattle.xc_dance.specs.inner.Links.Laid.{AreDistinct, IsFit}
 use Rattle.xc_dance.specs.inner.Links.Span.{Span}
@@ -20,7 +22,8 @@ use Rattle.xc_dance.specs.declared.links.nodes.TheConstants.{MARK}
 
 -- ---- a valid problem is fit for the walks
 
-absent : (us : List Use) (i : ℕ) (d : Use) → ((j : ℕ) → j < length us → i ≢ (get_or us j d).item) → is_some (colour_in us i) ≡ false
+absent : (us : List Use) (i : ℕ) (d : Use) → ((j : ℕ) → j < length us → i ≢ (get_or us j d).item)
+    → is_some (colour_in us i) ≡ false
 absent [] i d h = refl
 absent (u ∷ us) i d h =
     let ne : u.item ≢ i = λ e. h 0 (omega arith) (sym e) in
@@ -33,7 +36,8 @@ distinct_from (u ∷ us) h = (
   distinct_from us (λ i j d a b. h (suc i) (suc j) d (omega (arith, a)) (omega (arith, b))),
 )
 
-at_place : (P : List Use → Type 0) (os : List (List Use)) (k : ℕ) → P [] → AllByRecursion P os → P (unwrap_or (slice_get os k) [])
+at_place : (P : List Use → Type 0) (os : List (List Use)) (k : ℕ) → P [] → AllByRecursion P os
+    → P (unwrap_or (slice_get os k) [])
 at_place P [] k nil a = nil
 at_place P (us ∷ os) zero nil a = a.0
 at_place P (us ∷ os) (suc k) nil a = at_place P os k nil a.1
@@ -46,17 +50,26 @@ abbrev InRange : Puzzle → Use → Type 0
 InRange p u = (0 < u.item) × (u.item ≤ item_count p)
 
 sound_items : (p : Puzzle) (us : List Use) → IsSoundOption p us → AllByRecursion (InRange p) us
-sound_items p us s = each_weaker (IsSoundUse p) (InRange p) us (λ u h. (let a = h.0.0 in omega (arith, a), h.0.1)) (recursion_from_All (IsSoundUse p) us s.sound)
+sound_items p us s =
+    each_weaker (IsSoundUse p) (InRange p) us (λ u h. (let a = h.0.0 in omega (arith, a), h.0.1))
+    (recursion_from_All (IsSoundUse p) us s.sound)
 
 -- the rules of a problem say nothing of the colours: they are to be below the mark
-pub is_fit : (p : Puzzle) → IsValid p → All (λ us. All (λ u. u.colour < MARK) us) p.options → length p.options < 2 ^ 30 → item_count p < 2 ^ 31 → length (layout p) < 2 ^ 31 → IsFit p
+pub is_fit : (p : Puzzle) → IsValid p → All (λ us. All (λ u. u.colour < MARK) us) p.options → length p.options < 2 ^ 30
+    → item_count p < 2 ^ 31 → length (layout p) < 2 ^ 31 → IsFit p
 is_fit p valid colours few small near =
-    let sound : AllByRecursion (IsSoundOption p) p.options = recursion_from_All (IsSoundOption p) p.options valid.options in
+    let sound : AllByRecursion (IsSoundOption p) p.options =
+    recursion_from_All (IsSoundOption p) p.options valid.options in
     record {
-      distinct = λ o. at_option AreDistinct p o tt (each_weaker (IsSoundOption p) AreDistinct p.options (λ us s. distinct_from us s.distinct) sound);
-      items = λ o. at_option (λ us. AllByRecursion (InRange p) us) p o tt (each_weaker (IsSoundOption p) (λ us. AllByRecursion (InRange p) us) p.options (sound_items p) sound);
+      distinct =
+          λ o. at_option AreDistinct p o tt
+          (each_weaker (IsSoundOption p) AreDistinct p.options (λ us s. distinct_from us s.distinct) sound);
+      items =
+          λ o. at_option (λ us. AllByRecursion (InRange p) us) p o tt
+          (each_weaker (IsSoundOption p) (λ us. AllByRecursion (InRange p) us) p.options (sound_items p) sound);
       colours = λ o. at_option (λ us. AllByRecursion (λ u. u.colour < MARK) us) p o tt
-          (each_weaker (λ us. All (λ u. u.colour < MARK) us) (λ us. AllByRecursion (λ u. u.colour < MARK) us) p.options (λ us h. recursion_from_All (λ u. u.colour < MARK) us h)
+          (each_weaker (λ us. All (λ u. u.colour < MARK) us) (λ us. AllByRecursion (λ u. u.colour < MARK) us) p.options
+          (λ us h. recursion_from_All (λ u. u.colour < MARK) us h)
           (recursion_from_All (λ us. All (λ u. u.colour < MARK) us) p.options colours));
       few = few;
       small = small;
@@ -65,17 +78,21 @@ is_fit p valid colours few small near =
 
 -- ---- a problem that was read fits into the tables
 
-pub known_fit : (colours : List (List ℕ)) (p : Puzzle) → IsValid p → IsWithinLimits p → AreColoursKnown colours p.options → length colours ≤ 10000000 → IsFit p
+pub known_fit : (colours : List (List ℕ)) (p : Puzzle) → IsValid p → IsWithinLimits p
+    → AreColoursKnown colours p.options → length colours ≤ 10000000 → IsFit p
 known_fit colours p valid limits known few = grind (arith, common_steps, is_fit, layout_small)
 
-high_most : (bs : List Bounds) (k : ℕ) → AllByRecursion (λ (b : Bounds). b.high ≤ 999999999) bs → (unwrap_or (slice_get bs k) (record { low = 0; high = 0 })).high ≤ 999999999
+high_most : (bs : List Bounds) (k : ℕ) → AllByRecursion (λ (b : Bounds). b.high ≤ 999999999) bs
+    → (unwrap_or (slice_get bs k) (record { low = 0; high = 0 })).high ≤ 999999999
 high_most [] k a = omega arith
 high_most (b ∷ bs) zero a = a.0
 high_most (b ∷ bs) (suc k) a = high_most bs k a.1
 
 high_small : (p : Puzzle) (i : ℕ) → IsWithinLimits p → high_at p i < 2 ^ 31
 high_small p zero limits = omega arith
-high_small p (suc k) limits = let h = high_most p.bounds k (recursion_from_All (λ (b : Bounds). b.high ≤ 999999999) p.bounds limits.bounds) in omega (arith, h)
+high_small p (suc k) limits = let h =
+    high_most p.bounds k (recursion_from_All (λ (b : Bounds). b.high ≤ 999999999) p.bounds limits.bounds) in
+    omega (arith, h)
 
 pub fitted : (p : Puzzle) (spans : List Span) → IsWithinLimits p → IsFit p → spans ≡ spans_of p → IsFitted p spans
 fitted p spans limits fit is =

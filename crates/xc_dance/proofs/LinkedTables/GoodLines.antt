@@ -1,5 +1,7 @@
 -- Lines that stand for lists: a member leaves, a node leaves with it, and the lines after moves are such lines.
-use Rattle.std.proofs.Common.{◌≡◌, ◌≢◌, ℕ, ◌-◌, ◌<◌, ◌≤◌, ◌^◌, true, false, eqb, length, map, get_or, set, Some, refl, ap, ap₂, sym, subst, ◌∙◌, arith, eqb-true, ◌+◌, ◌⊎◌, inl, inr, Bool, cond, List, [], ◌∷◌, ◌++◌, length-append, filter, Option, None}
+use Rattle.std.proofs.Common.{◌≡◌, ◌≢◌, ℕ, ◌-◌, ◌<◌, ◌≤◌, ◌^◌, true, false, eqb, length, map, get_or, set, Some, refl}
+use Rattle.std.proofs.Common.{ap, ap₂, sym, subst, ◌∙◌, arith, eqb-true, ◌+◌, ◌⊎◌, inl, inr, Bool, cond, List, [], ◌∷◌}
+use Rattle.std.proofs.Common.{◌++◌, length-append, filter, Option, None}
 use Rattle.std.specs.Prelude.{slice_get, is_some}
 use Rattle.std.specs.List.{AllByRecursion}
 use Rattle.std.proofs.lemmas.Grind.{common_steps}
@@ -10,13 +12,18 @@ use Rattle.xc_dance.specs.declared.links.nodes.Nodes.{Nodes}
 use Rattle.xc_dance.specs.Fields.{Node, own, layout, link_place}
 use Rattle.xc_dance.specs.inner.Links.Lines.{Line}
 use Rattle.xc_dance.specs.inner.Links.Steps.{unlinked, CanHide, CanUnhide, hidden, unhidden}
-use Rattle.xc_dance.specs.inner.Links.Cells.{slot_of, fixed_up, fixed_down, top_in, nodes_from, line_of, link_at, ulink_in, dlink_in}
+use Rattle.xc_dance.specs.inner.Links.Cells.{slot_of, fixed_up, fixed_down, top_in, nodes_from, line_of, link_at}
+use Rattle.xc_dance.specs.inner.Links.Cells.{ulink_in, dlink_in}
 use Rattle.xc_dance.specs.inner.Links.Laid.{IsName, IsLaid, IsFit}
 use Rattle.xc_dance.specs.declared.dance.Move.{Move}
 use Rattle.xc_dance.specs.Moves.{listed_numbers, listed}
 use Rattle.xc_input.proofs.lists.EachElement.{each-map, each_weaker}
-use Rattle.xc_dance.proofs.LinkedTables.LinkColumns.{member_of, same_at, set_link, set_top, size_from, NodeCells, node_cells, get_up, get_down, CanUnhide-unlinked, same_nodes, hidden-open, hidden-marked, unhidden-marked, unhidden-hidden, IsLinked, map_same}
-use Rattle.xc_dance.proofs.LinkedTables.Sweep.{cut, with_line, IsLinkedFrom, put_at-other, cut-linked, stands, Swept, swept, swept_len, stay, cuts, up_after, down_after}
+use Rattle.xc_dance.proofs.LinkedTables.LinkColumns.{member_of, same_at, set_link, set_top, size_from, NodeCells}
+use Rattle.xc_dance.proofs.LinkedTables.LinkColumns.{node_cells, get_up, get_down, CanUnhide-unlinked, same_nodes}
+use Rattle.xc_dance.proofs.LinkedTables.LinkColumns.{hidden-open, hidden-marked, unhidden-marked, unhidden-hidden}
+use Rattle.xc_dance.proofs.LinkedTables.LinkColumns.{IsLinked, map_same}
+use Rattle.xc_dance.proofs.LinkedTables.Sweep.{cut, with_line, IsLinkedFrom, put_at-other, cut-linked, stands, Swept}
+use Rattle.xc_dance.proofs.LinkedTables.Sweep.{swept, swept_len, stay, cuts, up_after, down_after}
 use Rattle.xc_dance.proofs.MoveLemmas.ListLemmas.{length-listed}
 use Rattle.xc_dance.proofs.MoveLemmas.Shortened.{holds_use, holders}
 use Rattle.xc_dance.specs.declared.links.nodes.TheConstants.{MARK, SPACER}
@@ -36,7 +43,8 @@ pub record IsMember (p : Puzzle) (j : ℕ) (l : Line) (o : ℕ) : Type 0 where
   pub down_back : l.up (l.down o) ≡ o
   pub some : 0 < l.len
 
-pub member_cells : (p : Puzzle) (col : Node → ℕ) (ln : ℕ → Line) (j o : ℕ) → IsLaid p → IsMember p j (ln j) o → NodeCells p ln col j o
+pub member_cells : (p : Puzzle) (col : Node → ℕ) (ln : ℕ → Line) (j o : ℕ) → IsLaid p → IsMember p j (ln j) o
+    → NodeCells p ln col j o
 member_cells p col ln j o laid m = node_cells p ln col j o laid m.item.0 m.item.1 m.pos m.name m.above m.below
 
 pub unlinked-is : (p : Puzzle) (col : Node → ℕ) (ln : ℕ → Line) (j o : ℕ) → IsLaid p → IsMember p j (ln j) o →
@@ -45,12 +53,16 @@ unlinked-is p col ln j o laid m =
     let c = member_cells p col ln j o laid m in
     let t : Nodes = nodes_from p ln col in
     same_nodes (unlinked t (link_place p j o)) (nodes_from p (with_line ln j (cut (ln j) o)) col)
-    (ap (λ i. set t.top i (get_or t.top i 0 - 1)) c.item ∙ ap (λ n. set t.top j (n - 1)) c.len ∙ sym (set_top p ln j (cut (ln j) o) laid m.item.0 m.item.1))
-    (ap₂ (set t.ulink) c.down c.up ∙ sym (set_link p (λ k x. (ln k).up x) (fixed_up p) j ((ln j).down o) ((ln j).up o) laid c.below))
-    (ap₂ (set t.dlink) c.up c.down ∙ sym (set_link p (λ k x. (ln k).down x) (fixed_down p) j ((ln j).up o) ((ln j).down o) laid c.above))
+    (ap (λ i. set t.top i (get_or t.top i 0 - 1)) c.item ∙ ap (λ n. set t.top j (n - 1)) c.len
+    ∙ sym (set_top p ln j (cut (ln j) o) laid m.item.0 m.item.1))
+    (ap₂ (set t.ulink) c.down c.up
+    ∙ sym (set_link p (λ k x. (ln k).up x) (fixed_up p) j ((ln j).down o) ((ln j).up o) laid c.below))
+    (ap₂ (set t.dlink) c.up c.down
+    ∙ sym (set_link p (λ k x. (ln k).down x) (fixed_down p) j ((ln j).up o) ((ln j).down o) laid c.above))
     refl
 
-pub linked-is : (p : Puzzle) (col : Node → ℕ) (ln : ℕ → Line) (j o : ℕ) → IsLaid p → IsMember p j (ln j) o → IsLinked (nodes_from p ln col) (link_place p j o)
+pub linked-is : (p : Puzzle) (col : Node → ℕ) (ln : ℕ → Line) (j o : ℕ) → IsLaid p → IsMember p j (ln j) o
+    → IsLinked (nodes_from p ln col) (link_place p j o)
 linked-is p col ln j o laid m =
     let c = member_cells p col ln j o laid m in
     let t : Nodes = nodes_from p ln col in
@@ -59,7 +71,9 @@ linked-is p col ln j o laid m =
     let pos : 0 < o = m.pos in
     let some : 0 < (ln j).len = m.some in
     let not_head : j ≢ q = λ e.
-    let same : own j ≡ here.node = same_at (layout p) q (own j) here.node (subst (λ k. slice_get (layout p) k ≡ Some (own j)) e (laid.head j m.item.0 m.item.1)) here.at in
+    let same : own j ≡ here.node =
+    same_at (layout p) q (own j) here.node
+    (subst (λ k. slice_get (layout p) k ≡ Some (own j)) e (laid.head j m.item.0 m.item.1)) here.at in
     let z : 0 ≡ o = ap member_of (ap slot_of same ∙ here.slot) in absurd (omega arith) in
     grind (arith, common_steps, get_down, get_up)
 
@@ -72,7 +86,8 @@ pub record Step (t u : Nodes) (q : ℕ) : Type 0 where
   pub back : CanUnhide (hidden t q) q
   pub done : hidden t q ≡ u
 
-pub step_open : (p : Puzzle) (col : Node → ℕ) (ln : ℕ → Line) (j o : ℕ) → IsLaid p → IsMember p j (ln j) o → (ln j).len < 2 ^ 31 → eqb (get_or (map (col) (layout p)) (link_place p j o) 0) MARK ≡ false →
+pub step_open : (p : Puzzle) (col : Node → ℕ) (ln : ℕ → Line) (j o : ℕ) → IsLaid p → IsMember p j (ln j) o
+    → (ln j).len < 2 ^ 31 → eqb (get_or (map (col) (layout p)) (link_place p j o) 0) MARK ≡ false →
     Step (nodes_from p ln col) (nodes_from p (with_line ln j (cut (ln j) o)) col) (link_place p j o)
 step_open p col ln j o laid m few color =
     let q = link_place p j o in
@@ -84,14 +99,27 @@ step_open p col ln j o laid m few color =
     let item = c.item in
     let count : get_or tb.top (get_or tb.top q 0) 0 ≡ (ln j).len = ap (λ k. get_or tb.top k 0) c.item ∙ c.len in
     record {
-      can = record { size = size; place = c.names.place; use_of = omega (arith, item, m.item.1, laid.small); places = λ ne. c.names; some = λ ne. linked.some };
+      can =
+          record {
+            size = size;
+            place = c.names.place;
+            use_of = omega (arith, item, m.item.1, laid.small);
+            places = λ ne. c.names;
+            some = λ ne. linked.some;
+          };
       undone = unhidden-hidden tb q (λ e. linked);
-      back = subst (λ (u : Nodes). CanUnhide u q) (sym is) (CanUnhide-unlinked tb q size c.names linked (omega (arith, item, m.item.1, laid.small)) (omega (arith, count, few)));
+      back =
+          subst (λ (u : Nodes). CanUnhide u q) (sym is)
+          (CanUnhide-unlinked tb q size c.names linked (omega (arith, item, m.item.1, laid.small))
+          (omega (arith, count, few)));
       done = is ∙ unlinked-is p col ln j o laid m;
     }
 
-pub step_marked : (p : Puzzle) (col : Node → ℕ) (ln : ℕ → Line) (q : ℕ) → q < length (layout p) → get_or (map (top_in ln) (layout p)) q 0 < SPACER → eqb (get_or (map (col) (layout p)) q 0) MARK ≡ true → Step (nodes_from p ln col) (nodes_from p ln col) q
-step_marked p col ln q within use_of color = grind (arith, common_steps, eqb-true, hidden-marked, length-map, unhidden-marked, size_from)
+pub step_marked : (p : Puzzle) (col : Node → ℕ) (ln : ℕ → Line) (q : ℕ) → q < length (layout p)
+    → get_or (map (top_in ln) (layout p)) q 0 < SPACER → eqb (get_or (map (col) (layout p)) q 0) MARK ≡ true
+    → Step (nodes_from p ln col) (nodes_from p ln col) q
+step_marked p col ln q within use_of color =
+    grind (arith, common_steps, eqb-true, hidden-marked, length-map, unhidden-marked, size_from)
 
 -- ---- lines that stand for lists, and one member leaving
 
@@ -105,20 +133,25 @@ pub record IsGood (p : Puzzle) (j : ℕ) (l : Line) (xs : List ℕ) : Type 0 whe
   pub len : l.len ≡ length xs
   pub few : length xs < 2 ^ 31
 
-up_name : (p : Puzzle) (j : ℕ) (l : Line) (a : ℕ) (ys : List ℕ) (o : ℕ) (zs : List ℕ) → IsName p j a → IsLinkedFrom l a (ys ++ o ∷ zs) → AllByRecursion (Named p j) (ys ++ o ∷ zs) → IsName p j (l.up o)
+up_name : (p : Puzzle) (j : ℕ) (l : Line) (a : ℕ) (ys : List ℕ) (o : ℕ) (zs : List ℕ) → IsName p j a
+    → IsLinkedFrom l a (ys ++ o ∷ zs) → AllByRecursion (Named p j) (ys ++ o ∷ zs) → IsName p j (l.up o)
 up_name p j l a [] o zs n h named = subst (IsName p j) (sym h.2) n
-up_name p j l a (y ∷ ys) o zs n h named = up_name p j l y ys o zs (inr (let lt : a < y = h.0 in omega arith, named.0)) h.3 named.1
+up_name p j l a (y ∷ ys) o zs n h named =
+    up_name p j l y ys o zs (inr (let lt : a < y = h.0 in omega arith, named.0)) h.3 named.1
 
-down_name : (p : Puzzle) (j : ℕ) (l : Line) (a : ℕ) (ys : List ℕ) (o : ℕ) (zs : List ℕ) → IsLinkedFrom l a (ys ++ o ∷ zs) → AllByRecursion (Named p j) (ys ++ o ∷ zs) → IsName p j (l.down o)
+down_name : (p : Puzzle) (j : ℕ) (l : Line) (a : ℕ) (ys : List ℕ) (o : ℕ) (zs : List ℕ)
+    → IsLinkedFrom l a (ys ++ o ∷ zs) → AllByRecursion (Named p j) (ys ++ o ∷ zs) → IsName p j (l.down o)
 down_name p j l a [] o [] h named = inl h.3.0
-down_name p j l a [] o (z ∷ zs) h named = let lt : o < z = h.3.0 in subst (IsName p j) (sym h.3.1) (inr (omega arith, named.1.0))
+down_name p j l a [] o (z ∷ zs) h named =
+    let lt : o < z = h.3.0 in subst (IsName p j) (sym h.3.1) (inr (omega arith, named.1.0))
 down_name p j l a (y ∷ ys) o zs h named = down_name p j l y ys o zs h.3 named.1
 
 up_back : (l : Line) (a : ℕ) (ys : List ℕ) (o : ℕ) (zs : List ℕ) → IsLinkedFrom l a (ys ++ o ∷ zs) → l.down (l.up o) ≡ o
 up_back l a [] o zs h = ap l.down h.2 ∙ h.1
 up_back l a (y ∷ ys) o zs h = up_back l y ys o zs h.3
 
-down_back : (l : Line) (a : ℕ) (ys : List ℕ) (o : ℕ) (zs : List ℕ) → IsLinkedFrom l a (ys ++ o ∷ zs) → l.up (l.down o) ≡ o
+down_back : (l : Line) (a : ℕ) (ys : List ℕ) (o : ℕ) (zs : List ℕ) → IsLinkedFrom l a (ys ++ o ∷ zs)
+    → l.up (l.down o) ≡ o
 down_back l a [] o [] h = ap l.up h.3.0 ∙ h.3.1
 down_back l a [] o (z ∷ zs) h = ap l.up h.3.1 ∙ h.3.2
 down_back l a (y ∷ ys) o zs h = down_back l y ys o zs h.3
@@ -127,23 +160,28 @@ above : (l : Line) (a : ℕ) (ys : List ℕ) (o : ℕ) (zs : List ℕ) → IsLin
 above l a [] o zs h = h.0
 above l a (y ∷ ys) o zs h = let lt : a < y = h.0 in let r = above l y ys o zs h.3 in omega arith
 
-named_at : (p : Puzzle) (j : ℕ) (ys : List ℕ) (o : ℕ) (zs : List ℕ) → AllByRecursion (Named p j) (ys ++ o ∷ zs) → Named p j o
+named_at : (p : Puzzle) (j : ℕ) (ys : List ℕ) (o : ℕ) (zs : List ℕ) → AllByRecursion (Named p j) (ys ++ o ∷ zs)
+    → Named p j o
 named_at p j [] o zs h = h.0
 named_at p j (y ∷ ys) o zs h = named_at p j ys o zs h.1
 
-pub member : (p : Puzzle) (j : ℕ) (l : Line) (ys : List ℕ) (o : ℕ) (zs : List ℕ) → 0 < j → j ≤ item_count p → IsGood p j l (ys ++ o ∷ zs) → IsMember p j l o
-member p j l ys o zs pos le g = grind (arith, common_steps, down_back, down_name, length-append, named_at, up_back, up_name)
+pub member : (p : Puzzle) (j : ℕ) (l : Line) (ys : List ℕ) (o : ℕ) (zs : List ℕ) → 0 < j → j ≤ item_count p
+    → IsGood p j l (ys ++ o ∷ zs) → IsMember p j l o
+member p j l ys o zs pos le g =
+    grind (arith, common_steps, down_back, down_name, length-append, named_at, up_back, up_name)
 
 higher : (l : Line) (a : ℕ) (ys : List ℕ) (o : ℕ) (zs : List ℕ) → IsLinkedFrom l a (ys ++ o ∷ zs) → a ≤ l.up o
 higher l a [] o zs h = let e = h.2 in omega arith
 higher l a (y ∷ ys) o zs h = let r = higher l y ys o zs h.3 in let lt : a < y = h.0 in omega arith
 
-lower : (l : Line) (a : ℕ) (ys : List ℕ) (o : ℕ) (zs : List ℕ) → IsLinkedFrom l a (ys ++ o ∷ zs) → (l.down o ≡ 0) ⊎ (o < l.down o)
+lower : (l : Line) (a : ℕ) (ys : List ℕ) (o : ℕ) (zs : List ℕ) → IsLinkedFrom l a (ys ++ o ∷ zs) → (l.down o ≡ 0)
+    ⊎ (o < l.down o)
 lower l a [] o [] h = inl h.3.0
 lower l a [] o (z ∷ zs) h = let lt : o < z = h.3.0 in let e = h.3.1 in inr (omega arith)
 lower l a (y ∷ ys) o zs h = lower l y ys o zs h.3
 
-cut_anywhere : (l : Line) (a : ℕ) (ys : List ℕ) (o : ℕ) (zs : List ℕ) → IsLinkedFrom l a (ys ++ o ∷ zs) → IsLinkedFrom (cut l o) a (ys ++ zs)
+cut_anywhere : (l : Line) (a : ℕ) (ys : List ℕ) (o : ℕ) (zs : List ℕ) → IsLinkedFrom l a (ys ++ o ∷ zs)
+    → IsLinkedFrom (cut l o) a (ys ++ zs)
 cut_anywhere l a [] o zs h = cut-linked l a o zs h
 cut_anywhere l a (y ∷ ys) o zs h =
     let lt : a < y = h.0 in
@@ -156,11 +194,13 @@ cut_anywhere l a (y ∷ ys) o zs h =
       cut_anywhere l y ys o zs h.3,
     )
 
-each_without : {X : Type 0} (P : X → Type 0) (ys : List X) (o : X) (zs : List X) → AllByRecursion P (ys ++ o ∷ zs) → AllByRecursion P (ys ++ zs)
+each_without : {X : Type 0} (P : X → Type 0) (ys : List X) (o : X) (zs : List X) → AllByRecursion P (ys ++ o ∷ zs)
+    → AllByRecursion P (ys ++ zs)
 each_without P [] o zs h = h.1
 each_without P (y ∷ ys) o zs h = (h.0, each_without P ys o zs h.1)
 
-pub good_cut : (p : Puzzle) (j : ℕ) (l : Line) (ys : List ℕ) (o : ℕ) (zs : List ℕ) → IsGood p j l (ys ++ o ∷ zs) → IsGood p j (cut l o) (ys ++ zs)
+pub good_cut : (p : Puzzle) (j : ℕ) (l : Line) (ys : List ℕ) (o : ℕ) (zs : List ℕ) → IsGood p j l (ys ++ o ∷ zs)
+    → IsGood p j (cut l o) (ys ++ zs)
 good_cut p j l ys o zs g = grind (arith, common_steps, cut_anywhere, each_without, length-append)
 
 -- ---- all items
@@ -171,12 +211,19 @@ AllGood p ln lists = (j : ℕ) → 0 < j → j ≤ item_count p → IsGood p j (
 abbrev pub with_list : (ℕ → List ℕ) → ℕ → List ℕ → ℕ → List ℕ
 with_list lists j xs k = cond (eqb k j) xs (lists k)
 
-pub all_good_cut : (p : Puzzle) (ln : ℕ → Line) (lists : ℕ → List ℕ) (j : ℕ) (ys : List ℕ) (o : ℕ) (zs : List ℕ) → 0 < j → j ≤ item_count p → lists j ≡ ys ++ o ∷ zs → AllGood p ln lists →
+pub all_good_cut : (p : Puzzle) (ln : ℕ → Line) (lists : ℕ → List ℕ) (j : ℕ) (ys : List ℕ) (o : ℕ) (zs : List ℕ) → 0 < j
+    → j ≤ item_count p → lists j ≡ ys ++ o ∷ zs → AllGood p ln lists →
     AllGood p (with_line ln j (cut (ln j) o)) (with_list lists j (ys ++ zs))
 all_good_cut p ln lists j ys o zs pos le is good k kpos kle =
-    let own : IsGood p j (cut (ln j) o) (ys ++ zs) = good_cut p j (ln j) ys o zs (subst (IsGood p j (ln j)) is (good j pos le)) in
+    let own : IsGood p j (cut (ln j) o) (ys ++ zs) =
+    good_cut p j (ln j) ys o zs (subst (IsGood p j (ln j)) is (good j pos le)) in
     let l : Line = cut (ln j) o in
-    let make : Bool → Line = λ b. record { len = cond b l.len (ln k).len; up = λ x. cond b (l.up x) ((ln k).up x); down = λ x. cond b (l.down x) ((ln k).down x) } in
+    let make : Bool → Line =
+    λ b. record {
+      len = cond b l.len (ln k).len;
+      up = λ x. cond b (l.up x) ((ln k).up x);
+      down = λ x. cond b (l.down x) ((ln k).down x);
+    } in
     elim (eqb k j) as (λ b. eqb k j ≡ b → IsGood p k (make b) (cond b (ys ++ zs) (lists k))) [
       | true ↦ λ e. subst (λ i. IsGood p i l (ys ++ zs)) (sym (eqb-true k j e)) own
       | false ↦ λ e. good k kpos kle
@@ -206,32 +253,45 @@ pub line_is : (l m : Line) → m.len ≡ l.len → ((x : ℕ) → m.up x ≡ l.u
 line_is l m len up down = grind (arith, common_steps, fun_ext)
 
 -- the line that loses what a move takes is that after the move
-pub line_after : (p : Puzzle) (t : List Move) (m : Move) (j : ℕ) (ks : List ℕ) → SameCut p t m j ks → line_of p (m ∷ t) j ≡ cuts (line_of p t j) ks
+pub line_after : (p : Puzzle) (t : List Move) (m : Move) (j : ℕ) (ks : List ℕ) → SameCut p t m j ks
+    → line_of p (m ∷ t) j ≡ cuts (line_of p t j) ks
 line_after p t m j ks c =
     let xs = listed_numbers p t j in
     let l : Line = cuts (line_of p t j) (filter c.test xs) in
-    let s : Swept (line_of p t j) l 0 xs (listed_numbers p (m ∷ t) j) = subst (Swept (line_of p t j) l 0 xs) (sym c.stay_is) (swept (line_of p t j) 0 xs c.test (stands p t j)) in
+    let s : Swept (line_of p t j) l 0 xs (listed_numbers p (m ∷ t) j) =
+    subst (Swept (line_of p t j) l 0 xs) (sym c.stay_is) (swept (line_of p t j) 0 xs c.test (stands p t j)) in
     let long : length (listed_numbers p t j) ≡ length (listed p t j) = length-map (listed p t j) (λ o. o.number) in
-    let long' : length (listed_numbers p (m ∷ t) j) ≡ length (listed p (m ∷ t) j) = length-map (listed p (m ∷ t) j) (λ o. o.number) in
+    let long' : length (listed_numbers p (m ∷ t) j) ≡ length (listed p (m ∷ t) j) =
+    length-map (listed p (m ∷ t) j) (λ o. o.number) in
     let len : l.len ≡ 0 + length (stay c.test xs) = swept_len (line_of p t j) xs c.test 0 (omega (arith, long)) in
     let stay_len : length (listed_numbers p (m ∷ t) j) ≡ length (stay c.test xs) = ap length c.stay_is in
-    line_is l (line_of p (m ∷ t) j) (omega (arith, long', len, stay_len)) (up_after p t m j l s) (down_after p t m j l s) ∙ ap (cuts (line_of p t j)) (sym c.cut_is)
+    line_is l (line_of p (m ∷ t) j) (omega (arith, long', len, stay_len)) (up_after p t m j l s)
+    (down_after p t m j l s) ∙ ap (cuts (line_of p t j)) (sym c.cut_is)
 
 -- ---- tables of the same lines
 
-link_same : (p : Puzzle) (f g : ℕ → ℕ → ℕ) (fixed : ℕ) (s : Option (ℕ × ℕ)) → ((j x : ℕ) → s ≡ Some (j, x) → g j x ≡ f j x) → link_at p g fixed s ≡ link_at p f fixed s
+link_same : (p : Puzzle) (f g : ℕ → ℕ → ℕ) (fixed : ℕ) (s : Option (ℕ × ℕ))
+    → ((j x : ℕ) → s ≡ Some (j, x) → g j x ≡ f j x) → link_at p g fixed s ≡ link_at p f fixed s
 link_same p f g fixed None h = refl
 link_same p f g fixed (Some s) h = ap (link_place p s.0) (h s.0 s.1 refl)
 
-top_same : (p : Puzzle) (ln rn : ℕ → Line) (k : ℕ) (n : Node) → ((j x : ℕ) → slot_of n ≡ Some (j, x) → rn j ≡ ln j) → top_in rn n ≡ top_in ln n
+top_same : (p : Puzzle) (ln rn : ℕ → Line) (k : ℕ) (n : Node) → ((j x : ℕ) → slot_of n ≡ Some (j, x) → rn j ≡ ln j)
+    → top_in rn n ≡ top_in ln n
 top_same p ln rn k (own i) h = ap (λ (l : Line). l.len) (h i 0 refl)
 top_same p ln rn k _ h = refl
 
-pub tables_same : (p : Puzzle) (ln rn : ℕ → Line) (col now : Node → ℕ) → IsLaid p → ((j : ℕ) → (0 < j) × (j ≤ item_count p) → rn j ≡ ln j) → ((k : ℕ) (n : Node) → slice_get (layout p) k ≡ Some n → now n ≡ col n) → nodes_from p rn now ≡ nodes_from p ln col
+pub tables_same : (p : Puzzle) (ln rn : ℕ → Line) (col now : Node → ℕ) → IsLaid p
+    → ((j : ℕ) → (0 < j) × (j ≤ item_count p) → rn j ≡ ln j)
+    → ((k : ℕ) (n : Node) → slice_get (layout p) k ≡ Some n → now n ≡ col n) → nodes_from p rn now ≡ nodes_from p ln col
 tables_same p ln rn col now laid h colours =
-    let at : (k : ℕ) (n : Node) → slice_get (layout p) k ≡ Some n → (j x : ℕ) → slot_of n ≡ Some (j, x) → rn j ≡ ln j = λ k n e j x f. h j (laid.nodes.ranged k n j x e f) in
+    let at : (k : ℕ) (n : Node) → slice_get (layout p) k ≡ Some n → (j x : ℕ) → slot_of n ≡ Some (j, x) → rn j ≡ ln j =
+    λ k n e j x f. h j (laid.nodes.ranged k n j x e f) in
     same_nodes (nodes_from p rn now) (nodes_from p ln col)
     (map_same (top_in ln) (top_in rn) (layout p) (λ k n e. top_same p ln rn k n (at k n e)))
-    (map_same (ulink_in p ln) (ulink_in p rn) (layout p) (λ k n e. link_same p (λ j x. (ln j).up x) (λ j x. (rn j).up x) (fixed_up p n) (slot_of n) (λ j x f. ap (λ (l : Line). l.up x) (at k n e j x f))))
-    (map_same (dlink_in p ln) (dlink_in p rn) (layout p) (λ k n e. link_same p (λ j x. (ln j).down x) (λ j x. (rn j).down x) (fixed_down p n) (slot_of n) (λ j x f. ap (λ (l : Line). l.down x) (at k n e j x f))))
+    (map_same (ulink_in p ln) (ulink_in p rn) (layout p)
+    (λ k n e. link_same p (λ j x. (ln j).up x) (λ j x. (rn j).up x) (fixed_up p n) (slot_of n)
+    (λ j x f. ap (λ (l : Line). l.up x) (at k n e j x f))))
+    (map_same (dlink_in p ln) (dlink_in p rn) (layout p)
+    (λ k n e. link_same p (λ j x. (ln j).down x) (λ j x. (rn j).down x) (fixed_down p n) (slot_of n)
+    (λ j x f. ap (λ (l : Line). l.down x) (at k n e j x f))))
     (map_same col now (layout p) colours)

@@ -1,5 +1,8 @@
--- Cover and Purify: a walk down an open item's list and back, from the node table after moves to that after one move more.
-use Rattle.std.proofs.Common.{◌≡◌, ℕ, zero, suc, ◌<◌, ◌≤◌, ◌^◌, List, [], ◌∷◌, ◌++◌, length, map, get_or, reverse, refl, ap, ap₂, sym, ◌∙◌, arith, inl, inr, ◌+◌, ◌*◌, true, false, eqb, filter, Option, Some, subst, eqb-true, not, fold, None, eq-eqb, ne_eqb}
+-- Cover and Purify: a walk down an open item's list and back, from the node table after moves to that after one move
+-- more.
+use Rattle.std.proofs.Common.{◌≡◌, ℕ, zero, suc, ◌<◌, ◌≤◌, ◌^◌, List, [], ◌∷◌, ◌++◌, length, map, get_or, reverse, refl}
+use Rattle.std.proofs.Common.{ap, ap₂, sym, ◌∙◌, arith, inl, inr, ◌+◌, ◌*◌, true, false, eqb, filter, Option, Some}
+use Rattle.std.proofs.Common.{subst, eqb-true, not, fold, None, eq-eqb, ne_eqb}
 use Rattle.std.specs.List.{AllByRecursion}
 use Rattle.std.specs.Prelude.{slice_get, unwrap_or}
 use Rattle.std.proofs.lemmas.Grind.{common_steps}
@@ -20,17 +23,23 @@ use Rattle.xc_dance.specs.inner.Lists.Losing.{is_kept}
 use Rattle.xc_dance.specs.inner.Links.Others.{HasSpans}
 use Rattle.xc_dance.specs.Cost.{leaving, cost_of, marking}
 use Rattle.xc_dance.specs.declared.dance.Move.TheVariants.{Cover, Purify}
-use Rattle.xc_dance.specs.inner.Links.ListWalks.{left_node, back_node, with_colour, IsWalk, IsWalkBack, CanHideList, CanUnhideList, walk_costs, back_costs}
+use Rattle.xc_dance.specs.inner.Links.ListWalks.{left_node, back_node, with_colour, IsWalk, IsWalkBack, CanHideList}
+use Rattle.xc_dance.specs.inner.Links.ListWalks.{CanUnhideList, walk_costs, back_costs}
 use Rattle.xc_dance.specs.inner.Links.Purifying.{purified_list, unpurified_list, CanPurify, CanUnpurify}
 use Rattle.xc_dance.specs.inner.Links.Made.{IsFitted}
 use Rattle.xc_input.proofs.lists.Filters.{filter_same}
 use Rattle.xc_input.proofs.lists.EachElement.{each_weaker}
-use Rattle.xc_dance.proofs.LinkedTables.LinkColumns.{get_up, get_down, get_len, get_map, same_nodes, written_back, size_from}
-use Rattle.xc_dance.proofs.LinkedTables.GoodLines.{Named, numbers_few, numbers_named, all_good, SameCut, line_after, tables_same}
+use Rattle.xc_dance.proofs.LinkedTables.LinkColumns.{get_up, get_down, get_len, get_map, same_nodes, written_back}
+use Rattle.xc_dance.proofs.LinkedTables.LinkColumns.{size_from}
+use Rattle.xc_dance.proofs.LinkedTables.GoodLines.{Named, numbers_few, numbers_named, all_good, SameCut, line_after}
+use Rattle.xc_dance.proofs.LinkedTables.GoodLines.{tables_same}
 use Rattle.xc_dance.proofs.LinkedTables.Sweep.{stands, IsLinkedFrom, Rises-filter, in_above, filter_numbers, leave_none}
-use Rattle.xc_dance.proofs.LinkedTables.OneList.{Listed, step_costs, left_list, leavers, marked_list, Passed, walked_table, listed_walk, coloured_is, color_other}
+use Rattle.xc_dance.proofs.LinkedTables.OneList.{Listed, step_costs, left_list, leavers, marked_list, Passed}
+use Rattle.xc_dance.proofs.LinkedTables.OneList.{walked_table, listed_walk, coloured_is, color_other}
 use Rattle.xc_dance.proofs.LinkedTables.OtherItems.{leaves, list_at, each_apart}
-use Rattle.xc_dance.proofs.LinkedTables.Leaving.{exchanged, costs_split, leaving_is, each_ready, AreOf, TakesOut, cut_others, cut_own, listed_options, takes_cover, own_cover, takes_purify, own_purify}
+use Rattle.xc_dance.proofs.LinkedTables.Leaving.{exchanged, costs_split, leaving_is, each_ready, AreOf, TakesOut}
+use Rattle.xc_dance.proofs.LinkedTables.Leaving.{cut_others, cut_own, listed_options, takes_cover, own_cover}
+use Rattle.xc_dance.proofs.LinkedTables.Leaving.{takes_purify, own_purify}
 use Rattle.xc_dance.proofs.MoveLemmas.Members.{in_filter, element_of}
 use Rattle.xc_dance.proofs.MoveLemmas.Shortened.{rises_listed}
 use Rattle.xc_dance.proofs.MoveLemmas.StateLemmas.{open_unpurified}
@@ -42,10 +51,12 @@ use Rattle.xc_dance.proofs.LinkedTables.LaidLemmas.{IsOption}
 above_zero : (l : Line) (a : ℕ) (xs : List ℕ) (x : ℕ) → IsLinkedFrom l a (x ∷ xs) → 0 < x
 above_zero l a xs x h = let lt : a < x = h.0 in omega arith
 
-follow_down : (p : Puzzle) (ln : ℕ → Line) (i a : ℕ) (xs : List ℕ) → IsLaid p → 0 < i → i ≤ item_count p → AllByRecursion (Named p i) xs → IsLinkedFrom (ln i) a xs →
+follow_down : (p : Puzzle) (ln : ℕ → Line) (i a : ℕ) (xs : List ℕ) → IsLaid p → 0 < i → i ≤ item_count p
+    → AllByRecursion (Named p i) xs → IsLinkedFrom (ln i) a xs →
     followed (map (dlink_in p ln) (layout p)) (length xs) (link_place p i ((ln i).down a)) ≡ map (link_place p i) xs
 follow_down p ln i a [] laid pos le named h = grind (arith, common_steps, above_zero, get_down)
-follow_down p ln i a (o ∷ xs) laid pos le named h = grind (arith, common_steps, above_zero, get_down, follow_down p ln i o xs laid pos le named.1 h.3)
+follow_down p ln i a (o ∷ xs) laid pos le named h =
+    grind (arith, common_steps, above_zero, get_down, follow_down p ln i o xs laid pos le named.1 h.3)
 
 abbrev led : List ℕ → ℕ → ℕ → ℕ
 led f zero q = q
@@ -59,8 +70,10 @@ followed_push : (f : List ℕ) (n q : ℕ) → followed f (suc n) q ≡ followed
 followed_push f zero q = refl
 followed_push f (suc n) q = ap (λ qs. q ∷ qs) (followed_push f n (get_or f q 0))
 
-follow_up : (p : Puzzle) (ln : ℕ → Line) (i a : ℕ) (xs : List ℕ) → IsLaid p → 0 < i → i ≤ item_count p → AllByRecursion (Named p i) xs → IsLinkedFrom (ln i) a xs →
-    (followed (map (ulink_in p ln) (layout p)) (length xs) (link_place p i ((ln i).up 0)) ≡ reverse (map (link_place p i) xs))
+follow_up : (p : Puzzle) (ln : ℕ → Line) (i a : ℕ) (xs : List ℕ) → IsLaid p → 0 < i → i ≤ item_count p
+    → AllByRecursion (Named p i) xs → IsLinkedFrom (ln i) a xs →
+    (followed (map (ulink_in p ln) (layout p)) (length xs) (link_place p i ((ln i).up 0)) ≡ reverse
+    (map (link_place p i) xs))
     × (led (map (ulink_in p ln) (layout p)) (length xs) (link_place p i ((ln i).up 0)) ≡ link_place p i a)
 follow_up p ln i a [] laid pos le named h = (refl, ap (link_place p i) h.1)
 follow_up p ln i a (o ∷ xs) laid pos le named h =
@@ -68,88 +81,116 @@ follow_up p ln i a (o ∷ xs) laid pos le named h =
     let q0 = link_place p i ((ln i).up 0) in
     let here = laid.there i o pos le (inr (above_zero (ln i) a xs o h, named.0)) in
     let rest = follow_up p ln i o xs laid pos le named.1 h.3 in (
-      followed_push links (length xs) q0 ∙ ap₂ (λ qs q. qs ++ q ∷ []) rest.0 rest.1 ∙ sym (reverse-append (link_place p i o ∷ []) (map (link_place p i) xs)),
-      led_push links (length xs) q0 ∙ ap (λ q. get_or links q 0) rest.1 ∙ get_up p ln i o here ∙ ap (link_place p i) h.2,
+      followed_push links (length xs) q0 ∙ ap₂ (λ qs q. qs ++ q ∷ []) rest.0 rest.1
+          ∙ sym (reverse-append (link_place p i o ∷ []) (map (link_place p i) xs)),
+      led_push links (length xs) q0 ∙ ap (λ q. get_or links q 0) rest.1 ∙ get_up p ln i o here
+          ∙ ap (link_place p i) h.2,
     )
 
 -- item i's own node
 pub own_placed : (p : Puzzle) (i : ℕ) → IsLaid p → 0 < i → i ≤ item_count p → Placed p i 0
 own_placed p i laid pos le = laid.there i 0 pos le (inl refl)
 
-pub long_is : (p : Puzzle) (t : List Move) (i : ℕ) → IsLaid p → 0 < i → i ≤ item_count p → get_or (nodes_after p t).top i 0 ≡ length (listed_numbers p t i)
+pub long_is : (p : Puzzle) (t : List Move) (i : ℕ) → IsLaid p → 0 < i → i ≤ item_count p
+    → get_or (nodes_after p t).top i 0 ≡ length (listed_numbers p t i)
 long_is p t i laid pos le = get_len p (line_of p t) i laid pos le ∙ sym (length-map (listed p t i) (λ o. o.number))
 
-pub list_is : (p : Puzzle) (t : List Move) (i : ℕ) → IsLaid p → 0 < i → i ≤ item_count p → list_of (nodes_after p t) i ≡ map (link_place p i) (listed_numbers p t i)
+pub list_is : (p : Puzzle) (t : List Move) (i : ℕ) → IsLaid p → 0 < i → i ≤ item_count p
+    → list_of (nodes_after p t) i ≡ map (link_place p i) (listed_numbers p t i)
 list_is p t i laid pos le =
-    ap₂ (followed (nodes_after p t).dlink) (long_is p t i laid pos le) (get_down p (line_of p t) i 0 (own_placed p i laid pos le))
+    ap₂ (followed (nodes_after p t).dlink) (long_is p t i laid pos le)
+    (get_down p (line_of p t) i 0 (own_placed p i laid pos le))
     ∙ follow_down p (line_of p t) i 0 (listed_numbers p t i) laid pos le (numbers_named p t i) (stands p t i)
 
-pub back_is : (p : Puzzle) (t : List Move) (i : ℕ) → IsLaid p → 0 < i → i ≤ item_count p → list_back (nodes_after p t) i ≡ reverse (map (link_place p i) (listed_numbers p t i))
+pub back_is : (p : Puzzle) (t : List Move) (i : ℕ) → IsLaid p → 0 < i → i ≤ item_count p
+    → list_back (nodes_after p t) i ≡ reverse (map (link_place p i) (listed_numbers p t i))
 back_is p t i laid pos le =
-    ap₂ (followed (nodes_after p t).ulink) (long_is p t i laid pos le) (get_up p (line_of p t) i 0 (own_placed p i laid pos le))
+    ap₂ (followed (nodes_after p t).ulink) (long_is p t i laid pos le)
+    (get_up p (line_of p t) i 0 (own_placed p i laid pos le))
     ∙ (follow_up p (line_of p t) i 0 (listed_numbers p t i) laid pos le (numbers_named p t i) (stands p t i)).0
 
-pub in_table : (p : Puzzle) (t : List Move) (i : ℕ) → IsLaid p → 0 < i → i ≤ item_count p → i < length (nodes_after p t).top
+pub in_table : (p : Puzzle) (t : List Move) (i : ℕ) → IsLaid p → 0 < i → i ≤ item_count p
+    → i < length (nodes_after p t).top
 in_table p t i laid pos le = grind (arith, common_steps, length-map, slice_get_within)
 
-pub few_in : (p : Puzzle) (t : List Move) (i : ℕ) → IsLaid p → IsFit p → 0 < i → i ≤ item_count p → get_or (nodes_after p t).top i 0 < 2 ^ 30
+pub few_in : (p : Puzzle) (t : List Move) (i : ℕ) → IsLaid p → IsFit p → 0 < i → i ≤ item_count p
+    → get_or (nodes_after p t).top i 0 < 2 ^ 30
 few_in p t i laid fit pos le =
     omega (arith, long_is p t i laid pos le, numbers_few p t i, fit.few)
 
--- ---- a walk down an open item's list leads from the node table after moves to that after one move more, and the walk back up from there to the one before
+-- ---- a walk down an open item's list leads from the node table after moves to that after one move more, and the walk
+-- back up from there to the one before
 
 -- from these colours on, the move m hides the options of item i's list but those that are kept, and marks these
 pub record Hides (p : Puzzle) (t : List Move) (m : Move) (i : ℕ) (keep : Option ℕ) (start : Node → ℕ) : Type 0 where
   pub passed : Passed p i (color_in p t) start (listed_numbers p t i)
   pub takes : TakesOut p t m i (leavers p i keep (listed_numbers p t i))
   pub own : listed_numbers p (m ∷ t) i ≡ listed_numbers p t i
-  pub colours : (k : ℕ) (n : Node) → slice_get (layout p) k ≡ Some n → color_in p (m ∷ t) n ≡ marked_list p i keep start (listed_numbers p t i) n
+  pub colours : (k : ℕ) (n : Node) → slice_get (layout p) k ≡ Some n
+      → color_in p (m ∷ t) n ≡ marked_list p i keep start (listed_numbers p t i) n
 
-pub leavers_of : (p : Puzzle) (t : List Move) (i : ℕ) (keep : Option ℕ) → AreOf p t i (leavers p i keep (listed_numbers p t i))
+pub leavers_of : (p : Puzzle) (t : List Move) (i : ℕ) (keep : Option ℕ)
+    → AreOf p t i (leavers p i keep (listed_numbers p t i))
 leavers_of p t i keep = grind (arith, common_steps, Rises-filter, and_parts, in_filter, rises_listed)
 
 -- what leaves each line is what the move takes from it
-pub hides_cut : (p : Puzzle) (t : List Move) (m : Move) (i : ℕ) (keep : Option ℕ) (start : Node → ℕ) (j : ℕ) → AreLegal p t → IsLaid p → IsFit p → is_open i t ≡ true → Hides p t m i keep start → (0 < j) × (j ≤ item_count p) →
+pub hides_cut : (p : Puzzle) (t : List Move) (m : Move) (i : ℕ) (keep : Option ℕ) (start : Node → ℕ) (j : ℕ)
+    → AreLegal p t → IsLaid p → IsFit p → is_open i t ≡ true → Hides p t m i keep start → (0 < j) × (j ≤ item_count p) →
     SameCut p t m j (filter (leaves p (color_in p t) i j) (leavers p i keep (listed_numbers p t i)))
 hides_cut p t m i keep start j legal laid fit opened h r =
     let gs = leavers p i keep (listed_numbers p t i) in
     let of = leavers_of p t i keep in
     elim (eqb j i) as (λ b. eqb j i ≡ b → SameCut p t m j (filter (leaves p (color_in p t) i j) gs)) [
-      | true ↦ λ e. subst (λ k. SameCut p t m k (filter (leaves p (color_in p t) i k) gs)) (sym (eqb-true j i e)) (cut_own p t m i gs fit of.rise h.own)
+      | true ↦ λ e. subst (λ k. SameCut p t m k (filter (leaves p (color_in p t) i k) gs)) (sym (eqb-true j i e))
+          (cut_own p t m i gs fit of.rise h.own)
       | false ↦ λ e. cut_others p t m i j gs legal laid fit opened r of h.takes (eqb-false j i e)
     ] refl
 
-hides_table : (p : Puzzle) (t : List Move) (m : Move) (i : ℕ) (keep : Option ℕ) (start : Node → ℕ) → AreLegal p t → IsLaid p → IsFit p → is_open i t ≡ true → Hides p t m i keep start →
+hides_table : (p : Puzzle) (t : List Move) (m : Move) (i : ℕ) (keep : Option ℕ) (start : Node → ℕ) → AreLegal p t
+    → IsLaid p → IsFit p → is_open i t ≡ true → Hides p t m i keep start →
     nodes_after p (m ∷ t) ≡ walked_table p (color_in p t) start i keep (line_of p t) (listed_numbers p t i)
 hides_table p t m i keep start legal laid fit opened h =
     let gs = leavers p i keep (listed_numbers p t i) in
-    tables_same p (left_list p (color_in p t) i (line_of p t) gs) (line_of p (m ∷ t)) (marked_list p i keep start (listed_numbers p t i)) (color_in p (m ∷ t)) laid
-    (λ j r. line_after p t m j (filter (leaves p (color_in p t) i j) gs) (hides_cut p t m i keep start j legal laid fit opened h r) ∙ sym (list_at p (color_in p t) i (line_of p t) gs j (each_apart p i gs fit)))
+    tables_same p (left_list p (color_in p t) i (line_of p t) gs) (line_of p (m ∷ t))
+    (marked_list p i keep start (listed_numbers p t i)) (color_in p (m ∷ t)) laid
+    (λ j r. line_after p t m j (filter (leaves p (color_in p t) i j) gs)
+    (hides_cut p t m i keep start j legal laid fit opened h r)
+    ∙ sym (list_at p (color_in p t) i (line_of p t) gs j (each_apart p i gs fit)))
     h.colours
 
 -- what the walk writes: a cell for each option that is kept, three for each node that leaves
 abbrev pub hide_writes : Puzzle → List Move → Move → ℕ → Option ℕ → ℕ
 hide_writes p t m i keep = length (filter (is_kept p i keep) (listed_numbers p t i)) + 3 * leaving p t m
 
-hides_cost : (p : Puzzle) (t : List Move) (m : Move) (i : ℕ) (keep : Option ℕ) (start : Node → ℕ) → AreLegal p t → IsLaid p → IsFit p → is_open i t ≡ true → Hides p t m i keep start →
+hides_cost : (p : Puzzle) (t : List Move) (m : Move) (i : ℕ) (keep : Option ℕ) (start : Node → ℕ) → AreLegal p t
+    → IsLaid p → IsFit p → is_open i t ≡ true → Hides p t m i keep start →
     step_costs p (color_in p t) i keep (listed_numbers p t i) ≡ hide_writes p t m i keep
 hides_cost p t m i keep start legal laid fit opened h =
     let gs = leavers p i keep (listed_numbers p t i) in
-    let all = leaving_is p t m (λ j. filter (leaves p (color_in p t) i j) gs) (λ j r. hides_cut p t m i keep start j legal laid fit opened h r) in
+    let all =
+    leaving_is p t m (λ j. filter (leaves p (color_in p t) i j) gs)
+    (λ j r. hides_cut p t m i keep start j legal laid fit opened h r) in
     omega (arith, all, exchanged p (color_in p t) i gs fit, costs_split p (color_in p t) i keep (listed_numbers p t i))
 
 -- the walk down i's list and the walk back, where they lead to the tables after the move m
 abbrev pub HideStep : Puzzle → List Move → List Span → Move → ℕ → Option ℕ → (Node → ℕ) → Type 0
-HideStep p t spans m i keep start = Listed p (color_in p t) start spans i keep (line_of p t) 0 (listed_numbers p t i) (nodes_after p (m ∷ t)) (hide_writes p t m i keep)
+HideStep p t spans m i keep start =
+    Listed p (color_in p t) start spans i keep (line_of p t) 0 (listed_numbers p t i) (nodes_after p (m ∷ t))
+    (hide_writes p t m i keep)
 
-pub hide_step : (p : Puzzle) (t : List Move) (spans : List Span) (m : Move) (i : ℕ) (keep : Option ℕ) (start : Node → ℕ) → AreLegal p t → IsLaid p → HasSpans p spans → IsFit p → 0 < i → i ≤ item_count p → is_open i t ≡ true
+pub hide_step : (p : Puzzle) (t : List Move) (spans : List Span) (m : Move) (i : ℕ) (keep : Option ℕ) (start : Node → ℕ)
+    → AreLegal p t → IsLaid p → HasSpans p spans → IsFit p → 0 < i → i ≤ item_count p → is_open i t ≡ true
     → Hides p t m i keep start → HideStep p t spans m i keep start
 hide_step p t spans m i keep start legal laid spanned fit pos le opened h =
     let xs = listed_numbers p t i in
-    let w = listed_walk p (color_in p t) start spans i keep (line_of p t) (listed_numbers p t) 0 xs laid spanned pos le (all_good p t fit) (stands p t i)
+    let w =
+    listed_walk p (color_in p t) start spans i keep (line_of p t) (listed_numbers p t) 0 xs laid spanned pos le
+    (all_good p t fit) (stands p t i)
     (each_ready p t i keep xs legal laid fit opened pos le (λ x e. e)) (rises_listed p t i) h.passed in
     let L : Nodes → ℕ → Type 0 = Listed p (color_in p t) start spans i keep (line_of p t) 0 xs in
-    subst (λ u. L u (hide_writes p t m i keep)) (sym (hides_table p t m i keep start legal laid fit opened h)) (subst (L (walked_table p (color_in p t) start i keep (line_of p t) xs)) (hides_cost p t m i keep start legal laid fit opened h) w)
+    subst (λ u. L u (hide_writes p t m i keep)) (sym (hides_table p t m i keep start legal laid fit opened h))
+    (subst (L (walked_table p (color_in p t) start i keep (line_of p t) xs))
+    (hides_cost p t m i keep start legal laid fit opened h) w)
 
 -- ---- cover and Purify: from the node table after moves to that after one move more, and back
 
@@ -158,10 +199,13 @@ hide_step p t spans m i keep start legal laid spanned fit pos le opened h =
 pub cover_hides : (p : Puzzle) (t : List Move) (i : ℕ) → Hides p t (Cover i) i None (color_in p t)
 cover_hides p t i = grind (arith, common_steps, cover_colours, marked_none, own_cover, takes_cover)
 
-purify_passed : (p : Puzzle) (t : List Move) (i c : ℕ) → IsLaid p → 0 < i → i ≤ item_count p → Passed p i (color_in p t) (purify_start p t i c) (listed_numbers p t i)
-purify_passed p t i c laid pos le = grind (arith, common_steps, color_other, element_of, eq-eqb, in_above, ne_eqb, numbers_named, rises_listed)
+purify_passed : (p : Puzzle) (t : List Move) (i c : ℕ) → IsLaid p → 0 < i → i ≤ item_count p
+    → Passed p i (color_in p t) (purify_start p t i c) (listed_numbers p t i)
+purify_passed p t i c laid pos le =
+    grind (arith, common_steps, color_other, element_of, eq-eqb, in_above, ne_eqb, numbers_named, rises_listed)
 
-pub purify_hides : (p : Puzzle) (t : List Move) (i c : ℕ) → AreLegal p t → IsLaid p → 0 < i → i ≤ item_count p → is_open i t ≡ true → Hides p t (Purify i c) i (Some c) (purify_start p t i c)
+pub purify_hides : (p : Puzzle) (t : List Move) (i c : ℕ) → AreLegal p t → IsLaid p → 0 < i → i ≤ item_count p
+    → is_open i t ≡ true → Hides p t (Purify i c) i (Some c) (purify_start p t i c)
 purify_hides p t i c legal laid pos le opened = record {
   passed = purify_passed p t i c laid pos le;
   takes = takes_purify p t i c legal opened;
@@ -171,23 +215,32 @@ purify_hides p t i c legal laid pos le opened = record {
 
 -- ---- the walks as the code makes them
 
-pub record WalkMade (p : Puzzle) (t : List Move) (spans : List Span) (m : Move) (i : ℕ) (keep : Option ℕ) (start : Node → ℕ) : Type 0 where
+pub record WalkMade (p : Puzzle) (t : List Move) (spans : List Span) (m : Move) (i : ℕ) (keep : Option ℕ)
+    (start : Node → ℕ) : Type 0 where
   pub can : CanHideList spans keep (nodes_from p (line_of p t) start) i
-  pub done : fold (left_node spans keep) (nodes_from p (line_of p t) start) (list_of (nodes_after p t) i) ≡ nodes_after p (m ∷ t)
+  pub done : fold (left_node spans keep) (nodes_from p (line_of p t) start) (list_of (nodes_after p t) i) ≡ nodes_after
+      p (m ∷ t)
   pub can_back : CanUnhideList spans keep (nodes_after p (m ∷ t)) i
-  pub undone : fold (back_node spans keep) (nodes_after p (m ∷ t)) (list_back (nodes_after p (m ∷ t)) i) ≡ nodes_from p (line_of p t) start
-  pub costs : walk_costs spans keep (nodes_from p (line_of p t) start) (list_of (nodes_after p t) i) ≡ hide_writes p t m i keep
-  pub costs_back : back_costs spans keep (nodes_after p (m ∷ t)) (list_back (nodes_after p (m ∷ t)) i) ≡ hide_writes p t m i keep
+  pub undone : fold (back_node spans keep) (nodes_after p (m ∷ t)) (list_back (nodes_after p (m ∷ t)) i) ≡ nodes_from p
+      (line_of p t) start
+  pub costs : walk_costs spans keep (nodes_from p (line_of p t) start) (list_of (nodes_after p t) i) ≡ hide_writes p t
+      m i keep
+  pub costs_back : back_costs spans keep (nodes_after p (m ∷ t)) (list_back (nodes_after p (m ∷ t)) i) ≡ hide_writes p t
+      m i keep
 
-pub walk_made : (p : Puzzle) (t : List Move) (spans : List Span) (m : Move) (i : ℕ) (keep : Option ℕ) (start : Node → ℕ) → AreLegal p t → IsFitted p spans → 0 < i → i ≤ item_count p → is_open i t ≡ true → Hides p t m i keep start → WalkMade p t spans m i keep start
+pub walk_made : (p : Puzzle) (t : List Move) (spans : List Span) (m : Move) (i : ℕ) (keep : Option ℕ) (start : Node → ℕ)
+    → AreLegal p t → IsFitted p spans → 0 < i → i ≤ item_count p → is_open i t ≡ true → Hides p t m i keep start
+    → WalkMade p t spans m i keep start
 walk_made p t spans m i keep start legal f pos le opened h =
     let laid = f.laid in
     let fit = f.fit in
     let s = hide_step p t spans m i keep start legal laid f.spanned fit pos le opened h in
     let next = m ∷ t in
     let down : list_of (nodes_after p t) i ≡ map (link_place p i) (listed_numbers p t i) = list_is p t i laid pos le in
-    let up : list_back (nodes_after p next) i ≡ reverse (map (link_place p i) (listed_numbers p t i)) = back_is p next i laid pos le ∙ ap (λ ks. reverse (map (link_place p i) ks)) h.own in
-    let first : get_or (nodes_after p t).dlink i 0 ≡ link_place p i ((line_of p t i).down 0) = get_down p (line_of p t) i 0 (own_placed p i laid pos le) in
+    let up : list_back (nodes_after p next) i ≡ reverse (map (link_place p i) (listed_numbers p t i)) =
+    back_is p next i laid pos le ∙ ap (λ ks. reverse (map (link_place p i) ks)) h.own in
+    let first : get_or (nodes_after p t).dlink i 0 ≡ link_place p i ((line_of p t i).down 0) =
+    get_down p (line_of p t) i 0 (own_placed p i laid pos le) in
     let last : get_or (nodes_after p next).ulink i 0 ≡ link_place p i ((line_of p t i).up 0) =
     get_up p (line_of p next) i 0 (own_placed p i laid pos le) ∙ ap (λ ks. link_place p i (last_of 0 ks)) h.own in
     let t0 : Nodes = nodes_from p (line_of p t) start in
@@ -196,14 +249,19 @@ walk_made p t spans m i keep start legal f pos le opened h =
         place = in_table p t i laid pos le;
         size = size_from p (line_of p t) start;
         few = few_in p t i laid fit pos le;
-        walk = subst (λ q. IsWalk spans keep t0 q (list_of (nodes_after p t) i)) (sym first) (subst (IsWalk spans keep t0 (link_place p i ((line_of p t i).down 0))) (sym down) s.walk);
+        walk =
+            subst (λ q. IsWalk spans keep t0 q (list_of (nodes_after p t) i)) (sym first)
+            (subst (IsWalk spans keep t0 (link_place p i ((line_of p t i).down 0))) (sym down) s.walk);
       };
       done = ap (fold (left_node spans keep) t0) down ∙ s.done;
       can_back = record {
         place = in_table p next i laid pos le;
         size = size_from p (line_of p next) (color_in p next);
         few = few_in p next i laid fit pos le;
-        walk = subst (λ q. IsWalkBack spans keep (nodes_after p next) q (list_back (nodes_after p next) i)) (sym last) (subst (IsWalkBack spans keep (nodes_after p next) (link_place p i ((line_of p t i).up 0))) (sym up) s.back);
+        walk =
+            subst (λ q. IsWalkBack spans keep (nodes_after p next) q (list_back (nodes_after p next) i)) (sym last)
+            (subst (IsWalkBack spans keep (nodes_after p next) (link_place p i ((line_of p t i).up 0))) (sym up)
+            s.back);
       };
       undone = ap (fold (back_node spans keep) (nodes_after p next)) up ∙ s.undone;
       costs = ap (walk_costs spans keep t0) down ∙ s.costs;
@@ -217,35 +275,45 @@ pub record PurifyMade (p : Puzzle) (t : List Move) (spans : List Span) (i c : �
   pub done : purified_list spans c (nodes_after p t) i ≡ nodes_after p (Purify i c ∷ t)
   pub can_back : CanUnpurify spans c (nodes_after p (Purify i c ∷ t)) i
   pub undone : unpurified_list spans c (nodes_after p (Purify i c ∷ t)) i ≡ nodes_after p t
-  pub cost : walk_costs spans (Some c) (with_colour (nodes_after p t) i c) (list_of (nodes_after p t) i) + 1 ≡ cost_of p t (Purify i c)
-  pub cost_back : back_costs spans (Some c) (nodes_after p (Purify i c ∷ t)) (list_back (nodes_after p (Purify i c ∷ t)) i) + 1 ≡ cost_of p t (Purify i c)
+  pub cost : walk_costs spans (Some c) (with_colour (nodes_after p t) i c) (list_of (nodes_after p t) i) + 1 ≡ cost_of p
+      t (Purify i c)
+  pub cost_back : back_costs spans (Some c) (nodes_after p (Purify i c ∷ t))
+      (list_back (nodes_after p (Purify i c ∷ t)) i) + 1 ≡ cost_of p t (Purify i c)
 
 -- the options kept are those that are marked
-kept_marked : (p : Puzzle) (t : List Move) (i c : ℕ) → AreLegal p t → is_open i t ≡ true → length (filter (is_kept p i (Some c)) (listed_numbers p t i)) ≡ marking p t i c
+kept_marked : (p : Puzzle) (t : List Move) (i c : ℕ) → AreLegal p t → is_open i t ≡ true
+    → length (filter (is_kept p i (Some c)) (listed_numbers p t i)) ≡ marking p t i c
 kept_marked p t i c legal opened =
     let os = listed p t i in
     let kept : List Numbered = filter (λ o. is_kept p i (Some c) o.number) os in
     ap length (sym (filter_numbers (is_kept p i (Some c)) os))
     ∙ length-map kept (λ o. o.number)
     ∙ ap length (filter_same (λ o. is_kept p i (Some c) o.number) (λ o. not (is_other_colour c (colour_at o i))) os
-    (each_weaker (IsOption p) (λ o. is_kept p i (Some c) o.number ≡ not (is_other_colour c (colour_at o i))) os (λ o is. ap (λ us. not (is_other_colour c (colour_in us i))) is.1) (listed_options p t i legal opened)))
+    (each_weaker (IsOption p) (λ o. is_kept p i (Some c) o.number ≡ not (is_other_colour c (colour_at o i))) os
+    (λ o is. ap (λ us. not (is_other_colour c (colour_in us i))) is.1) (listed_options p t i legal opened)))
 
 -- a Cover keeps none
 pub cover_writes : (p : Puzzle) (t : List Move) (i : ℕ) → hide_writes p t (Cover i) i None + 2 ≡ cost_of p t (Cover i)
 cover_writes p t i = let none = ap length (leave_none (listed_numbers p t i)) in omega (arith, none)
 
-pub purify_made : (p : Puzzle) (t : List Move) (spans : List Span) (i c : ℕ) → AreLegal p t → IsFitted p spans → 0 < i → i ≤ item_count p → is_open i t ≡ true → PurifyMade p t spans i c
+pub purify_made : (p : Puzzle) (t : List Move) (spans : List Span) (i c : ℕ) → AreLegal p t → IsFitted p spans → 0 < i
+    → i ≤ item_count p → is_open i t ≡ true → PurifyMade p t spans i c
 purify_made p t spans i c legal f pos le opened =
     let laid = f.laid in
-    let w = walk_made p t spans (Purify i c) i (Some c) (purify_start p t i c) legal f pos le opened (purify_hides p t i c legal laid pos le opened) in
+    let w =
+    walk_made p t spans (Purify i c) i (Some c) (purify_start p t i c) legal f pos le opened
+    (purify_hides p t i c legal laid pos le opened) in
     let t0 : Nodes = nodes_after p t in
     let t1 : Nodes = nodes_from p (line_of p t) (purify_start p t i c) in
     let next : Nodes = nodes_after p (Purify i c ∷ t) in
-    let start : with_colour t0 i c ≡ t1 = coloured_is p (color_in p t) (line_of p t) i 0 c laid (own_placed p i laid pos le) in
+    let start : with_colour t0 i c ≡ t1 =
+    coloured_is p (color_in p t) (line_of p t) i 0 c laid (own_placed p i laid pos le) in
     let within : i < length (layout p) = slice_get_within (layout p) i (own i) (laid.head i pos le) in
     let long : length (map (color_in p t) (layout p)) ≡ length (layout p) = length-map (layout p) (color_in p t) in
-    let long' : length (map (purify_start p t i c) (layout p)) ≡ length (layout p) = length-map (layout p) (purify_start p t i c) in
+    let long' : length (map (purify_start p t i c) (layout p)) ≡ length (layout p) =
+    length-map (layout p) (purify_start p t i c) in
     let marked = kept_marked p t i c legal opened in
-    let none : get_or t0.color i 0 ≡ 0 = get_map (color_in p t) (layout p) i (own i) (laid.head i pos le) ∙ ap (λ o. unwrap_or o 0) (open_unpurified i t opened) in
+    let none : get_or t0.color i 0 ≡ 0 = get_map (color_in p t) (layout p) i (own i) (laid.head i pos le)
+    ∙ ap (λ o. unwrap_or o 0) (open_unpurified i t opened) in
     let back : fold (back_node spans (Some c)) next (list_back next i) ≡ t1 = w.undone in
     grind (arith, common_steps, same_nodes, written_back)

@@ -1,5 +1,8 @@
--- Options that leave an open item's list: what they meet, what they take out of the other lists, and how many nodes leave.
-use Rattle.std.proofs.Common.{◌≡◌, ℕ, ◌<◌, ◌≤◌, true, false, not, cond, ◌||◌, eqb, List, [], ◌∷◌, map, Option, Some, None, refl, ap, sym, ◌∙◌, arith, eqb-true, eq-eqb, ne_eqb, ◌≢◌, ◌&&◌, filter, zero, suc, ◌+◌, Bool, length, ap₂, ◌-◌, ◌*◌, drop, take}
+-- Options that leave an open item's list: what they meet, what they take out of the other lists, and how many nodes
+-- leave.
+use Rattle.std.proofs.Common.{◌≡◌, ℕ, ◌<◌, ◌≤◌, true, false, not, cond, ◌||◌, eqb, List, [], ◌∷◌, map, Option, Some}
+use Rattle.std.proofs.Common.{None, refl, ap, sym, ◌∙◌, arith, eqb-true, eq-eqb, ne_eqb, ◌≢◌, ◌&&◌, filter, zero, suc}
+use Rattle.std.proofs.Common.{◌+◌, Bool, length, ap₂, ◌-◌, ◌*◌, drop, take}
 use Rattle.std.specs.Prelude.{is_some, sum_by}
 use Rattle.std.specs.List.{AllByRecursion, range_with_len}
 use Rattle.std.proofs.lemmas.Grind.{common_steps}
@@ -21,7 +24,8 @@ use Rattle.xc_dance.specs.Cost.{leaving}
 use Rattle.xc_dance.specs.declared.dance.Move.TheVariants.{Cover, Purify, Tweak}
 use Rattle.xc_input.proofs.lists.EachElement.{each-filter, each_both, each-map, each_weaker}
 use Rattle.xc_input.proofs.lists.Filters.{filter_same}
-use Rattle.xc_dance.proofs.LinkedTables.Sweep.{other_items, in_above, Rises, Rises-filter, stay, stay_all, leave_none, goes, without_numbers, filter_numbers, drop_numbers}
+use Rattle.xc_dance.proofs.LinkedTables.Sweep.{other_items, in_above, Rises, Rises-filter, stay, stay_all, leave_none}
+use Rattle.xc_dance.proofs.LinkedTables.Sweep.{goes, without_numbers, filter_numbers, drop_numbers}
 use Rattle.xc_dance.proofs.LinkedTables.LinkColumns.{Stands}
 use Rattle.xc_dance.proofs.MoveLemmas.OpenLists.{listed_open}
 use Rattle.xc_dance.proofs.LinkedTables.GoodLines.{Named, numbers_named, SameCut}
@@ -30,24 +34,31 @@ use Rattle.xc_dance.proofs.LinkedTables.OneList.{own_color, OwnReady, EachReady,
 use Rattle.xc_dance.proofs.LinkedTables.OtherItems.{in_others, others_apart, item_range, own_apart, leaves, out_of}
 use Rattle.xc_dance.proofs.MoveLemmas.Shortened.{rises_listed}
 use Rattle.xc_dance.proofs.MoveLemmas.Members.{element_of, in_filter, same_members, none_in}
-use Rattle.xc_dance.proofs.LinkedTables.MarkedNodes.{options_left, Met, each_met, stands_in, open_unmarked, color_is, colour_some, colour_small}
+use Rattle.xc_dance.proofs.LinkedTables.MarkedNodes.{options_left, Met, each_met, stands_in, open_unmarked, color_is}
+use Rattle.xc_dance.proofs.LinkedTables.MarkedNodes.{colour_some, colour_small}
 use Rattle.xc_dance.proofs.LinkedTables.LaidLemmas.{IsOption}
 use Rattle.xc_dance.specs.declared.links.nodes.TheConstants.{MARK}
 
--- ---- the options of an open item's list are met: their other uses stand in their lists or are marked, so they are ready to leave
+-- ---- the options of an open item's list are met: their other uses stand in their lists or are marked, so they are
+-- ready to leave
 
 -- an option of an open item's list, and another item that it holds
-pub met_at : (p : Puzzle) (t : List Move) (i j x : ℕ) → AreLegal p t → IsLaid p → IsFit p → is_open i t ≡ true → 0 < j → j ≤ item_count p → is_in x (listed_numbers p t i) ≡ true → Named p j x → Met p t x j
+pub met_at : (p : Puzzle) (t : List Move) (i j x : ℕ) → AreLegal p t → IsLaid p → IsFit p → is_open i t ≡ true → 0 < j
+    → j ≤ item_count p → is_in x (listed_numbers p t i) ≡ true → Named p j x → Met p t x j
 met_at p t i j x legal laid fit opened pos le within named =
     let list : listed p t i ≡ holding i (left p t) = listed_open p t legal i opened in
     let each : AllByRecursion (λ o. Named p j o.number → Met p t o.number j) (left p t) =
-    each_both (IsOption p) (λ o. holds o j ≡ true → Met p t o.number j) (λ o. Named p j o.number → Met p t o.number j) (left p t)
-    (λ o is h n. h (ap (λ us. is_some (colour_in us j)) (sym is.1) ∙ n)) (options_left p t) (each_met p t j legal laid fit pos le) in
-    let listed_each : AllByRecursion (λ x. Named p j x → Met p t x j) (map (λ o. o.number) (holding i (left p t))) = grind (arith, common_steps, each-filter, each-map) in
+    each_both (IsOption p) (λ o. holds o j ≡ true → Met p t o.number j) (λ o. Named p j o.number → Met p t o.number j)
+    (left p t)
+    (λ o is h n. h (ap (λ us. is_some (colour_in us j)) (sym is.1) ∙ n)) (options_left p t)
+    (each_met p t j legal laid fit pos le) in
+    let listed_each : AllByRecursion (λ x. Named p j x → Met p t x j) (map (λ o. o.number) (holding i (left p t))) =
+    grind (arith, common_steps, each-filter, each-map) in
     grind (arith, common_steps, element_of)
 
 ready_by : (p : Puzzle) (col : Node → ℕ) (lists : ℕ → List ℕ) (o : ℕ) (js : List ℕ)
-    → ((j : ℕ) → is_in j js ≡ true → (0 < j) × (j ≤ item_count p) × Named p j o × (is_mark p col o j ≡ false → Stands (lists j) o)) → AllApart js → AreReady p col lists o js
+    → ((j : ℕ) → is_in j js ≡ true → (0 < j) × (j ≤ item_count p) × Named p j o
+    × (is_mark p col o j ≡ false → Stands (lists j) o)) → AllApart js → AreReady p col lists o js
 ready_by p col lists o [] h apart = tt
 ready_by p col lists o (j ∷ js) h apart =
     let here = h j (ap (λ b. b || is_in j js) (eq-eqb j j refl)) in (
@@ -60,7 +71,8 @@ ready_by p col lists o (j ∷ js) h apart =
     )
 
 -- its other uses are ready to leave
-pub ready_at : (p : Puzzle) (t : List Move) (i x : ℕ) → AreLegal p t → IsLaid p → IsFit p → is_open i t ≡ true → is_in x (listed_numbers p t i) ≡ true → AreReady p (color_in p t) (listed_numbers p t) x (other_items p x i)
+pub ready_at : (p : Puzzle) (t : List Move) (i x : ℕ) → AreLegal p t → IsLaid p → IsFit p → is_open i t ≡ true
+    → is_in x (listed_numbers p t i) ≡ true → AreReady p (color_in p t) (listed_numbers p t) x (other_items p x i)
 ready_at p t i x legal laid fit opened within =
     ready_by p (color_in p t) (listed_numbers p t) x (other_items p x i)
     (λ j e.
@@ -80,12 +92,14 @@ ready_at p t i x legal laid fit opened within =
 eqb_turn : (a b : ℕ) → eqb a b ≡ eqb b a
 eqb_turn a b = grind (arith, common_steps, eq-eqb, eqb-false, eqb-true, ne_eqb)
 
-test_is : (p : Puzzle) (i : ℕ) (keep : Option ℕ) (x c : ℕ) → colour_in (uses_of p x) i ≡ Some c → is_kept_colour keep c ≡ is_kept p i keep x
+test_is : (p : Puzzle) (i : ℕ) (keep : Option ℕ) (x c : ℕ) → colour_in (uses_of p x) i ≡ Some c
+    → is_kept_colour keep c ≡ is_kept p i keep x
 test_is p i None x c e = refl
 test_is p i (Some d) x c e = eqb_turn c d ∙ sym (not-not (eqb d c)) ∙ sym (ap (λ o. not (is_other_colour d o)) e)
 
 -- its own node isn't marked, and tells whether it is kept
-pub own_ready : (p : Puzzle) (t : List Move) (i : ℕ) (keep : Option ℕ) (x : ℕ) → IsLaid p → IsFit p → is_open i t ≡ true → 0 < i → i ≤ item_count p → is_in x (listed_numbers p t i) ≡ true → OwnReady p (color_in p t) i keep x
+pub own_ready : (p : Puzzle) (t : List Move) (i : ℕ) (keep : Option ℕ) (x : ℕ) → IsLaid p → IsFit p → is_open i t ≡ true
+    → 0 < i → i ≤ item_count p → is_in x (listed_numbers p t i) ≡ true → OwnReady p (color_in p t) i keep x
 own_ready p t i keep x laid fit opened pos le within =
     let x_pos : 0 < x = in_above 0 x (listed_numbers p t i) (rises_listed p t i) within in
     let named : Named p i x = element_of (Named p i) x (listed_numbers p t i) (numbers_named p t i) within in
@@ -96,8 +110,10 @@ own_ready p t i keep x laid fit opened pos le within =
     grind (arith, common_steps, ne_eqb, test_is)
 
 -- options of the list, one after another
-pub each_ready : (p : Puzzle) (t : List Move) (i : ℕ) (keep : Option ℕ) (xs : List ℕ) → AreLegal p t → IsLaid p → IsFit p → is_open i t ≡ true → 0 < i → i ≤ item_count p
-    → ((x : ℕ) → is_in x xs ≡ true → is_in x (listed_numbers p t i) ≡ true) → EachReady p (color_in p t) (listed_numbers p t) i keep xs
+pub each_ready : (p : Puzzle) (t : List Move) (i : ℕ) (keep : Option ℕ) (xs : List ℕ) → AreLegal p t → IsLaid p
+    → IsFit p → is_open i t ≡ true → 0 < i → i ≤ item_count p
+    → ((x : ℕ) → is_in x xs ≡ true → is_in x (listed_numbers p t i) ≡ true)
+    → EachReady p (color_in p t) (listed_numbers p t) i keep xs
 each_ready p t i keep [] legal laid fit opened pos le h = tt
 each_ready p t i keep (x ∷ xs) legal laid fit opened pos le h =
     let within : is_in x (listed_numbers p t i) ≡ true = h x (ap (λ b. b || is_in x xs) (eq-eqb x x refl)) in (
@@ -105,10 +121,12 @@ each_ready p t i keep (x ∷ xs) legal laid fit opened pos le h =
       ready_at p t i x legal laid fit opened within,
       own_apart p i x fit,
       own_ready p t i keep x laid fit opened pos le within,
-      each_ready p t i keep xs legal laid fit opened pos le (λ z e. h z (elim (eqb x z) as (λ b. (b || is_in z xs) ≡ true) [ true ↦ refl | false ↦ e ])),
+      each_ready p t i keep xs legal laid fit opened pos le
+          (λ z e. h z (elim (eqb x z) as (λ b. (b || is_in z xs) ≡ true) [ true ↦ refl | false ↦ e ])),
     )
 
--- ---- options that leave an open item's list take their other uses out of the lists of the open items, and of no others
+-- ---- options that leave an open item's list take their other uses out of the lists of the open items, and of no
+-- others
 
 -- options of item i's list, in order
 pub record AreOf (p : Puzzle) (t : List Move) (i : ℕ) (gs : List ℕ) : Type 0 where
@@ -120,68 +138,96 @@ InRange p j = (0 < j) × (j ≤ item_count p)
 
 -- a move that takes these options out of the lists of the open items but i
 pub record TakesOut (p : Puzzle) (t : List Move) (m : Move) (i : ℕ) (gs : List ℕ) : Type 0 where
-  pub others : (j : ℕ) → j ≢ i → listed_numbers p (m ∷ t) j ≡ cond (is_open j t) (stay (λ x. is_in x gs) (listed_numbers p t j)) (listed_numbers p t j)
+  pub others : (j : ℕ) → j ≢ i
+      → listed_numbers p (m ∷ t) j ≡ cond (is_open j t) (stay (λ x. is_in x gs) (listed_numbers p t j))
+      (listed_numbers p t j)
 
-leaves_by : (p : Puzzle) (t : List Move) (i j x : ℕ) → IsFit p → leaves p (color_in p t) i j x ≡ ((not (eqb j i) && is_some (colour_in (uses_of p x) j)) && not (is_mark p (color_in p t) x j))
+leaves_by : (p : Puzzle) (t : List Move) (i j x : ℕ) → IsFit p
+    → leaves p (color_in p t) i j x ≡
+    ((not (eqb j i) && is_some (colour_in (uses_of p x) j)) && not (is_mark p (color_in p t) x j))
 leaves_by p t i j x fit = ap (λ b. b && not (is_mark p (color_in p t) x j)) (in_others p x i j (fit.distinct x))
 
 -- from a closed item's list none leaves
-pub leaves_shut : (p : Puzzle) (t : List Move) (i j : ℕ) (gs : List ℕ) → AreLegal p t → IsLaid p → IsFit p → is_open i t ≡ true → InRange p j → AreOf p t i gs → is_open j t ≡ false → filter (leaves p (color_in p t) i j) gs ≡ []
+pub leaves_shut : (p : Puzzle) (t : List Move) (i j : ℕ) (gs : List ℕ) → AreLegal p t → IsLaid p → IsFit p
+    → is_open i t ≡ true → InRange p j → AreOf p t i gs → is_open j t ≡ false
+    → filter (leaves p (color_in p t) i j) gs ≡ []
 leaves_shut p t i j gs legal laid fit opened r of shut =
     none_in (leaves p (color_in p t) i j) 0 gs (Rises-filter (leaves p (color_in p t) i j) 0 gs of.rise)
     (λ x e. leaves_by p t i j x fit
-    ∙ elim (is_some (colour_in (uses_of p x) j)) as (λ b. is_some (colour_in (uses_of p x) j) ≡ b → ((not (eqb j i) && b) && not (is_mark p (color_in p t) x j)) ≡ false) [
-      | true ↦ λ n. ap (λ b. (not (eqb j i) && true) && not b) ((met_at p t i j x legal laid fit opened r.0 r.1 (of.among x e) n).shut shut) ∙ and-false (not (eqb j i) && true)
+    ∙ elim (is_some (colour_in (uses_of p x) j)) as
+    (λ b. is_some (colour_in (uses_of p x) j) ≡ b
+    → ((not (eqb j i) && b) && not (is_mark p (color_in p t) x j)) ≡ false) [
+      | true ↦ λ n. ap (λ b. (not (eqb j i) && true) && not b)
+          ((met_at p t i j x legal laid fit opened r.0 r.1 (of.among x e) n).shut shut)
+          ∙ and-false (not (eqb j i) && true)
       | false ↦ λ n. ap (λ b. b && not (is_mark p (color_in p t) x j)) (and-false (not (eqb j i)))
     ] refl)
 
 -- nor from the list that is walked
-pub leaves_own : (p : Puzzle) (t : List Move) (i : ℕ) (gs : List ℕ) → IsFit p → Rises 0 gs → filter (leaves p (color_in p t) i i) gs ≡ []
+pub leaves_own : (p : Puzzle) (t : List Move) (i : ℕ) (gs : List ℕ) → IsFit p → Rises 0 gs
+    → filter (leaves p (color_in p t) i i) gs ≡ []
 leaves_own p t i gs fit rise =
     none_in (leaves p (color_in p t) i i) 0 gs (Rises-filter (leaves p (color_in p t) i i) 0 gs rise)
-    (λ x e. leaves_by p t i i x fit ∙ ap (λ b. (not b && is_some (colour_in (uses_of p x) i)) && not (is_mark p (color_in p t) x i)) (eq-eqb i i refl))
+    (λ x e. leaves_by p t i i x fit
+    ∙ ap (λ b. (not b && is_some (colour_in (uses_of p x) i)) && not (is_mark p (color_in p t) x i))
+    (eq-eqb i i refl))
 
 -- from an open item's list those of them that it has
-pub leaves_open : (p : Puzzle) (t : List Move) (i j : ℕ) (gs : List ℕ) → AreLegal p t → IsLaid p → IsFit p → is_open i t ≡ true → InRange p j → AreOf p t i gs → j ≢ i → is_open j t ≡ true →
+pub leaves_open : (p : Puzzle) (t : List Move) (i j : ℕ) (gs : List ℕ) → AreLegal p t → IsLaid p → IsFit p
+    → is_open i t ≡ true → InRange p j → AreOf p t i gs → j ≢ i → is_open j t ≡ true →
     filter (leaves p (color_in p t) i j) gs ≡ filter (λ x. is_in x gs) (listed_numbers p t j)
 leaves_open p t i j gs legal laid fit opened r of ne j_open =
-    same_members 0 _ _ (Rises-filter (leaves p (color_in p t) i j) 0 gs of.rise) (Rises-filter (λ x. is_in x gs) 0 (listed_numbers p t j) (rises_listed p t j))
+    same_members 0 _ _ (Rises-filter (leaves p (color_in p t) i j) 0 gs of.rise)
+    (Rises-filter (λ x. is_in x gs) 0 (listed_numbers p t j) (rises_listed p t j))
     (λ x.
     in_filter (leaves p (color_in p t) i j) x gs
-    ∙ elim (is_in x gs) as (λ b. is_in x gs ≡ b → (leaves p (color_in p t) i j x && b) ≡ (b && is_in x (listed_numbers p t j))) [
+    ∙ elim (is_in x gs) as (λ b. is_in x gs ≡ b
+    → (leaves p (color_in p t) i j x && b) ≡ (b && is_in x (listed_numbers p t j))) [
       | true ↦ λ e.
-          ap (λ b. b && true) (leaves_by p t i j x fit ∙ ap (λ b. (not b && is_some (colour_in (uses_of p x) j)) && not (is_mark p (color_in p t) x j)) (ne_eqb j i ne))
-          ∙ elim (is_some (colour_in (uses_of p x) j)) as (λ b. is_some (colour_in (uses_of p x) j) ≡ b → ((b && not (is_mark p (color_in p t) x j)) && true) ≡ is_in x (listed_numbers p t j)) [
+          ap (λ b. b && true) (leaves_by p t i j x fit
+          ∙ ap (λ b. (not b && is_some (colour_in (uses_of p x) j)) && not (is_mark p (color_in p t) x j))
+          (ne_eqb j i ne))
+          ∙ elim (is_some (colour_in (uses_of p x) j)) as
+          (λ b. is_some (colour_in (uses_of p x) j) ≡ b
+          → ((b && not (is_mark p (color_in p t) x j)) && true) ≡ is_in x (listed_numbers p t j)) [
             | true ↦ λ n.
                 let met = (met_at p t i j x legal laid fit opened r.0 r.1 (of.among x e) n).opened j_open in
                 ap (λ b. (true && not b) && true) met.0 ∙ sym met.1
-            | false ↦ λ n. elim (is_in x (listed_numbers p t j)) as (λ b. is_in x (listed_numbers p t j) ≡ b → false ≡ b) [
-              | true ↦ λ f. absurd (false≢true (sym n ∙ element_of (Named p j) x (listed_numbers p t j) (numbers_named p t j) f))
-              | false ↦ λ f. refl
-            ] refl
+            | false ↦ λ n. elim (is_in x (listed_numbers p t j)) as
+                (λ b. is_in x (listed_numbers p t j) ≡ b → false ≡ b) [
+                  | true ↦ λ f. absurd (false≢true
+                      (sym n ∙ element_of (Named p j) x (listed_numbers p t j) (numbers_named p t j) f))
+                  | false ↦ λ f. refl
+                ] refl
           ] refl
       | false ↦ λ e. and-false (leaves p (color_in p t) i j x)
     ] refl
     ∙ sym (in_filter (λ x. is_in x gs) x (listed_numbers p t j)))
 
 -- so each other item's line loses what the move takes
-pub cut_others : (p : Puzzle) (t : List Move) (m : Move) (i j : ℕ) (gs : List ℕ) → AreLegal p t → IsLaid p → IsFit p → is_open i t ≡ true → InRange p j → AreOf p t i gs → TakesOut p t m i gs → j ≢ i → SameCut p t m j (filter (leaves p (color_in p t) i j) gs)
+pub cut_others : (p : Puzzle) (t : List Move) (m : Move) (i j : ℕ) (gs : List ℕ) → AreLegal p t → IsLaid p → IsFit p
+    → is_open i t ≡ true → InRange p j → AreOf p t i gs → TakesOut p t m i gs → j ≢ i
+    → SameCut p t m j (filter (leaves p (color_in p t) i j) gs)
 cut_others p t m i j gs legal laid fit opened r of takes ne =
     elim (is_open j t) as (λ b. is_open j t ≡ b → SameCut p t m j (filter (leaves p (color_in p t) i j) gs)) [
       | true ↦ λ e. record {
         test = λ x. is_in x gs;
         cut_is = leaves_open p t i j gs legal laid fit opened r of ne e;
-        stay_is = takes.others j ne ∙ ap (λ b. cond b (stay (λ x. is_in x gs) (listed_numbers p t j)) (listed_numbers p t j)) e;
+        stay_is = takes.others j ne
+            ∙ ap (λ b. cond b (stay (λ x. is_in x gs) (listed_numbers p t j)) (listed_numbers p t j)) e;
       }
       | false ↦ λ e. record {
         test = λ x. false;
         cut_is = leaves_shut p t i j gs legal laid fit opened r of e ∙ sym (leave_none (listed_numbers p t j));
-        stay_is = takes.others j ne ∙ ap (λ b. cond b (stay (λ x. is_in x gs) (listed_numbers p t j)) (listed_numbers p t j)) e ∙ sym (stay_all (listed_numbers p t j));
+        stay_is = takes.others j ne
+            ∙ ap (λ b. cond b (stay (λ x. is_in x gs) (listed_numbers p t j)) (listed_numbers p t j)) e
+            ∙ sym (stay_all (listed_numbers p t j));
       }
     ] refl
 
 -- and its own none, where the move takes none from it
-pub cut_own : (p : Puzzle) (t : List Move) (m : Move) (i : ℕ) (gs : List ℕ) → IsFit p → Rises 0 gs → listed_numbers p (m ∷ t) i ≡ listed_numbers p t i → SameCut p t m i (filter (leaves p (color_in p t) i i) gs)
+pub cut_own : (p : Puzzle) (t : List Move) (m : Move) (i : ℕ) (gs : List ℕ) → IsFit p → Rises 0 gs
+    → listed_numbers p (m ∷ t) i ≡ listed_numbers p t i → SameCut p t m i (filter (leaves p (color_in p t) i i) gs)
 cut_own p t m i gs fit rise same = record {
   test = λ x. false;
   cut_is = leaves_own p t i gs fit rise ∙ sym (leave_none (listed_numbers p t i));
@@ -201,7 +247,9 @@ sum_is_total f a (suc n) = sum_by-cons f a (range_with_len (a + 1) n) ∙ ap (λ
 
 pub total_same : (f g : ℕ → ℕ) (a n : ℕ) → ((j : ℕ) → a ≤ j → j < a + n → f j ≡ g j) → total f a n ≡ total g a n
 total_same f g a zero h = refl
-total_same f g a (suc n) h = ap₂ (λ x y. x + y) (h a (omega arith) (omega arith)) (total_same f g (a + 1) n (λ j u v. h j (omega (arith, u)) (omega (arith, v))))
+total_same f g a (suc n) h =
+    ap₂ (λ x y. x + y) (h a (omega arith) (omega arith))
+    (total_same f g (a + 1) n (λ j u v. h j (omega (arith, u)) (omega (arith, v))))
 
 pub total_plus : (f g : ℕ → ℕ) (a n : ℕ) → total (λ j. f j + g j) a n ≡ total f a n + total g a n
 total_plus f g a zero = refl
@@ -220,8 +268,10 @@ pub total_point : (k v a n : ℕ) → a ≤ k → k < a + n → total (λ j. con
 total_point k v a zero u w = absurd (omega (arith, u, w))
 total_point k v a (suc n) u w =
     elim (eqb k a) as (λ b. eqb k a ≡ b → cond b v 0 + total (λ j. cond (eqb k j) v 0) (a + 1) n ≡ v) [
-      | true ↦ λ e. let same = eqb-true k a e in let r = total_none k v (a + 1) n (omega (arith, same)) in omega (arith, r)
-      | false ↦ λ e. let ne = eqb-false k a e in let r = total_point k v (a + 1) n (omega (arith, u, ne)) (omega (arith, w)) in omega (arith, r)
+      | true ↦ λ e. let same =
+          eqb-true k a e in let r = total_none k v (a + 1) n (omega (arith, same)) in omega (arith, r)
+      | false ↦ λ e. let ne = eqb-false k a e in let r =
+          total_point k v (a + 1) n (omega (arith, u, ne)) (omega (arith, w)) in omega (arith, r)
     ] refl
 
 -- the members that pass a test and the others are all
@@ -241,13 +291,17 @@ length_one true x xs = omega arith
 length_one false x xs = omega arith
 
 -- the items in a list, counted over all items
-pub counted_over : (n : ℕ) (f : ℕ → Bool) (js : List ℕ) → AllApart js → ((k : ℕ) → is_in k js ≡ true → (1 ≤ k) × (k < 1 + n)) → length (filter f js) ≡ total (λ j. one_if (is_in j js && f j)) 1 n
+pub counted_over : (n : ℕ) (f : ℕ → Bool) (js : List ℕ) → AllApart js
+    → ((k : ℕ) → is_in k js ≡ true → (1 ≤ k) × (k < 1 + n))
+    → length (filter f js) ≡ total (λ j. one_if (is_in j js && f j)) 1 n
 counted_over n f [] apart within = sym (total_zero 1 n)
 counted_over n f (j ∷ js) apart within =
     let rest = counted_over n f js apart.1 (λ k e. within k (ap (λ b. eqb j k || b) e ∙ or-true (eqb j k))) in
     let here = within j (ap (λ b. b || is_in j js) (eq-eqb j j refl)) in
     let sum = total_plus (λ k. cond (eqb j k) (one_if (f j)) 0) (λ k. one_if (is_in k js && f k)) 1 n in
-    let same : total (λ k. one_if ((eqb j k || is_in k js) && f k)) 1 n ≡ total (λ k. cond (eqb j k) (one_if (f j)) 0 + one_if (is_in k js && f k)) 1 n = grind (arith, common_steps, eqb-true, out_of, total_same) in
+    let same : total (λ k. one_if ((eqb j k || is_in k js) && f k)) 1 n ≡ total
+    (λ k. cond (eqb j k) (one_if (f j)) 0 + one_if (is_in k js && f k)) 1 n =
+    grind (arith, common_steps, eqb-true, out_of, total_same) in
     omega (arith, rest, total_point j (one_if (f j)) 1 n here.0 here.1, sum, same, length_one (f j) j (filter f js))
 
 -- ---- some options
@@ -257,37 +311,47 @@ total_gone p col i [] = 0
 total_gone p col i (o ∷ os) = gone_count p col i o + total_gone p col i os
 
 -- option by option or item by item
-pub exchanged : (p : Puzzle) (col : Node → ℕ) (i : ℕ) (os : List ℕ) → IsFit p → total_gone p col i os ≡ total (λ j. length (filter (leaves p col i j) os)) 1 (item_count p)
+pub exchanged : (p : Puzzle) (col : Node → ℕ) (i : ℕ) (os : List ℕ) → IsFit p
+    → total_gone p col i os ≡ total (λ j. length (filter (leaves p col i j) os)) 1 (item_count p)
 exchanged p col i [] fit = sym (total_zero 1 (item_count p))
 exchanged p col i (o ∷ os) fit =
     let n = item_count p in
     let here : gone_count p col i o ≡ total (λ j. cond (leaves p col i j o) 1 0) 1 n =
     counted_over n (λ j. not (is_mark p col o j)) (other_items p o i) (others_apart p o i fit)
     (λ k e.
-    let named : is_some (colour_in (uses_of p o) k) ≡ true = (and_parts _ _ (sym (in_others p o i k (fit.distinct o)) ∙ e)).1 in
+    let named : is_some (colour_in (uses_of p o) k) ≡ true =
+    (and_parts _ _ (sym (in_others p o i k (fit.distinct o)) ∙ e)).1 in
     let r = item_range p (uses_of p o) k (fit.items o) named in
     (omega (arith, r.0), omega (arith, r.1))) in
     let sum = total_plus (λ j. cond (leaves p col i j o) 1 0) (λ j. length (filter (leaves p col i j) os)) 1 n in
-    let same : total (λ j. length (cond (leaves p col i j o) (o ∷ filter (leaves p col i j) os) (filter (leaves p col i j) os))) 1 n ≡ total (λ j. cond (leaves p col i j o) 1 0 + length (filter (leaves p col i j) os)) 1 n = grind (arith, common_steps, length_one, total_same) in
+    let same : total (λ j. length
+    (cond (leaves p col i j o) (o ∷ filter (leaves p col i j) os) (filter (leaves p col i j) os))) 1 n ≡ total
+    (λ j. cond (leaves p col i j o) 1 0 + length (filter (leaves p col i j) os)) 1 n =
+    grind (arith, common_steps, length_one, total_same) in
     omega (arith, here, exchanged p col i os fit, sum, same)
 
 -- the walk's costs: 1 for each option kept, 3 for each node that leaves
-pub costs_split : (p : Puzzle) (col : Node → ℕ) (i : ℕ) (keep : Option ℕ) (xs : List ℕ) → step_costs p col i keep xs ≡ length (filter (is_kept p i keep) xs) + 3 * total_gone p col i (leavers p i keep xs)
+pub costs_split : (p : Puzzle) (col : Node → ℕ) (i : ℕ) (keep : Option ℕ) (xs : List ℕ)
+    → step_costs p col i keep xs ≡ length (filter (is_kept p i keep) xs) + 3 * total_gone p col i (leavers p i keep xs)
 costs_split p col i keep [] = grind (arith, common_steps)
 costs_split p col i keep (o ∷ xs) = grind (arith, common_steps, costs_split p col i keep xs)
 
 -- ---- what a move takes from all lists
 
-pub leaving_is : (p : Puzzle) (t : List Move) (m : Move) (k : ℕ → List ℕ) → ((j : ℕ) → (0 < j) × (j ≤ item_count p) → SameCut p t m j (k j)) → leaving p t m ≡ total (λ j. length (k j)) 1 (item_count p)
+pub leaving_is : (p : Puzzle) (t : List Move) (m : Move) (k : ℕ → List ℕ)
+    → ((j : ℕ) → (0 < j) × (j ≤ item_count p) → SameCut p t m j (k j))
+    → leaving p t m ≡ total (λ j. length (k j)) 1 (item_count p)
 leaving_is p t m k cuts =
     sum_is_total (λ j. length (listed p t j) - length (listed p (m ∷ t) j)) 1 (item_count p)
     ∙ total_same (λ j. length (listed p t j) - length (listed p (m ∷ t) j)) (λ j. length (k j)) 1 (item_count p)
     (λ j u v.
     let c = cuts j (omega (arith, u), omega (arith, v)) in
     let a : length (listed_numbers p t j) ≡ length (listed p t j) = length-map (listed p t j) (λ o. o.number) in
-    let b : length (listed_numbers p (m ∷ t) j) ≡ length (listed p (m ∷ t) j) = length-map (listed p (m ∷ t) j) (λ o. o.number) in
+    let b : length (listed_numbers p (m ∷ t) j) ≡ length (listed p (m ∷ t) j) =
+    length-map (listed p (m ∷ t) j) (λ o. o.number) in
     let gone : length (k j) ≡ length (filter c.test (listed_numbers p t j)) = ap length c.cut_is in
-    let left : length (listed_numbers p (m ∷ t) j) ≡ length (filter (λ x. not (c.test x)) (listed_numbers p t j)) = ap length c.stay_is in
+    let left : length (listed_numbers p (m ∷ t) j) ≡ length (filter (λ x. not (c.test x)) (listed_numbers p t j)) =
+    ap length c.stay_is in
     omega (arith, a, b, gone, left, parts c.test (listed_numbers p t j)))
 
 -- ---- what each move takes out of the lists of the other items, in option numbers
@@ -296,11 +360,14 @@ goes_is : (gone : List Numbered) (x : ℕ) → goes gone x ≡ is_in x (map (λ 
 goes_is [] x = refl
 goes_is (o ∷ os) x = ap (λ b. eqb o.number x || b) (goes_is os x)
 
-pub takes_listed : (p : Puzzle) (t : List Move) (m : Move) (i : ℕ) (gone : List Numbered) (gs : List ℕ) → map (λ o. o.number) gone ≡ gs
-    → ((j : ℕ) → j ≢ i → listed p (m ∷ t) j ≡ cond (is_open j t) (without gone (listed p t j)) (listed p t j)) → TakesOut p t m i gs
+pub takes_listed : (p : Puzzle) (t : List Move) (m : Move) (i : ℕ) (gone : List Numbered) (gs : List ℕ)
+    → map (λ o. o.number) gone ≡ gs
+    → ((j : ℕ) → j ≢ i → listed p (m ∷ t) j ≡ cond (is_open j t) (without gone (listed p t j)) (listed p t j))
+    → TakesOut p t m i gs
 takes_listed p t m i gone gs is h = grind (arith, common_steps, filter_agree, goes_is, without_numbers)
 
-pub listed_options : (p : Puzzle) (t : List Move) (i : ℕ) → AreLegal p t → is_open i t ≡ true → AllByRecursion (IsOption p) (listed p t i)
+pub listed_options : (p : Puzzle) (t : List Move) (i : ℕ) → AreLegal p t → is_open i t ≡ true
+    → AllByRecursion (IsOption p) (listed p t i)
 listed_options p t i legal opened = grind (arith, common_steps, each-filter, listed_open, options_left)
 
 -- ---- Cover
@@ -308,27 +375,36 @@ listed_options p t i legal opened = grind (arith, common_steps, each-filter, lis
 pub leavers_all : (p : Puzzle) (i : ℕ) (xs : List ℕ) → leavers p i None xs ≡ xs
 leavers_all p i xs = stay_all xs
 
-pub takes_cover : (p : Puzzle) (t : List Move) (i : ℕ) → TakesOut p t (Cover i) i (leavers p i None (listed_numbers p t i))
+pub takes_cover : (p : Puzzle) (t : List Move) (i : ℕ)
+    → TakesOut p t (Cover i) i (leavers p i None (listed_numbers p t i))
 takes_cover p t i = grind (arith, common_steps, leavers_all, ne_eqb, takes_listed)
 
 pub own_cover : (p : Puzzle) (t : List Move) (i : ℕ) → listed_numbers p (Cover i ∷ t) i ≡ listed_numbers p t i
-own_cover p t i = ap (λ b. map (λ o. o.number) (cond (not b && is_open i t) (without (listed p t i) (listed p t i)) (listed p t i))) (eq-eqb i i refl)
+own_cover p t i =
+    ap (λ b. map (λ o. o.number) (cond (not b && is_open i t) (without (listed p t i) (listed p t i)) (listed p t i)))
+    (eq-eqb i i refl)
 
 -- ---- Purify
 
-others_numbers : (p : Puzzle) (i c : ℕ) (os : List Numbered) → AllByRecursion (IsOption p) os → map (λ o. o.number) (other_colours i c os) ≡ leavers p i (Some c) (map (λ o. o.number) os)
+others_numbers : (p : Puzzle) (i c : ℕ) (os : List Numbered) → AllByRecursion (IsOption p) os
+    → map (λ o. o.number) (other_colours i c os) ≡ leavers p i (Some c) (map (λ o. o.number) os)
 others_numbers p i c os a =
     let f : ℕ → Bool = λ x. not (is_kept p i (Some c) x) in
     ap (map (λ o. o.number)) (filter_same (λ o. is_other_colour c (colour_at o i)) (λ o. f o.number) os
     (each_weaker (IsOption p) (λ o. is_other_colour c (colour_at o i) ≡ f o.number) os
-    (λ o is. sym (not-not (is_other_colour c (colour_in (uses_of p o.number) i)) ∙ ap (λ us. is_other_colour c (colour_in us i)) is.1)) a))
+    (λ o is. sym (not-not (is_other_colour c (colour_in (uses_of p o.number) i))
+    ∙ ap (λ us. is_other_colour c (colour_in us i)) is.1)) a))
     ∙ filter_numbers f os
 
-pub takes_purify : (p : Puzzle) (t : List Move) (i c : ℕ) → AreLegal p t → is_open i t ≡ true → TakesOut p t (Purify i c) i (leavers p i (Some c) (listed_numbers p t i))
+pub takes_purify : (p : Puzzle) (t : List Move) (i c : ℕ) → AreLegal p t → is_open i t ≡ true
+    → TakesOut p t (Purify i c) i (leavers p i (Some c) (listed_numbers p t i))
 takes_purify p t i c legal opened = grind (arith, common_steps, listed_options, ne_eqb, others_numbers, takes_listed)
 
 pub own_purify : (p : Puzzle) (t : List Move) (i c : ℕ) → listed_numbers p (Purify i c ∷ t) i ≡ listed_numbers p t i
-own_purify p t i c = ap (λ b. map (λ o. o.number) (cond (not b && is_open i t) (without (other_colours i c (listed p t i)) (listed p t i)) (listed p t i))) (eq-eqb i i refl)
+own_purify p t i c =
+    ap (λ b. map (λ o. o.number)
+    (cond (not b && is_open i t) (without (other_colours i c (listed p t i)) (listed p t i)) (listed p t i)))
+    (eq-eqb i i refl)
 
 -- ---- Tweak
 
@@ -341,15 +417,20 @@ take_numbers : (os : List Numbered) → map (λ o. o.number) (take 1 os) ≡ fir
 take_numbers [] = refl
 take_numbers (o ∷ os) = refl
 
-pub takes_tweak : (p : Puzzle) (t : List Move) (i : ℕ) → is_open i t ≡ true → TakesOut p t (Tweak i) i (first_alone (listed_numbers p t i))
+pub takes_tweak : (p : Puzzle) (t : List Move) (i : ℕ) → is_open i t ≡ true
+    → TakesOut p t (Tweak i) i (first_alone (listed_numbers p t i))
 takes_tweak p t i opened =
-    takes_listed p t (Tweak i) i (take 1 (listed p t i)) (first_alone (listed_numbers p t i)) (take_numbers (listed p t i))
+    takes_listed p t (Tweak i) i (take 1 (listed p t i)) (first_alone (listed_numbers p t i))
+    (take_numbers (listed p t i))
     (λ j ne.
-    ap (λ b. cond b (drop 1 (listed p t i)) (cond (is_open i t && is_open j t) (without (take 1 (listed p t i)) (listed p t j)) (listed p t j))) (ne_eqb j i ne)
+    ap (λ b. cond b (drop 1 (listed p t i))
+    (cond (is_open i t && is_open j t) (without (take 1 (listed p t i)) (listed p t j)) (listed p t j)))
+    (ne_eqb j i ne)
     ∙ ap (λ b. cond (b && is_open j t) (without (take 1 (listed p t i)) (listed p t j)) (listed p t j)) opened)
 
 -- a closed item's Tweak takes none out of other lists
-pub tweak_others : (p : Puzzle) (t : List Move) (i j : ℕ) → is_open i t ≡ false → j ≢ i → listed_numbers p (Tweak i ∷ t) j ≡ listed_numbers p t j
+pub tweak_others : (p : Puzzle) (t : List Move) (i j : ℕ) → is_open i t ≡ false → j ≢ i
+    → listed_numbers p (Tweak i ∷ t) j ≡ listed_numbers p t j
 tweak_others p t i j shut ne = grind (arith, common_steps, ne_eqb)
 
 pub tweak_own : (p : Puzzle) (t : List Move) (i : ℕ) → listed_numbers p (Tweak i ∷ t) i ≡ drop 1 (listed_numbers p t i)

@@ -1,18 +1,23 @@
 -- The columns of the node table, one write to them, and steps of hide that undo one another.
-use Rattle.std.proofs.Common.{◌≡◌, ◌≢◌, ℕ, zero, suc, List, [], ◌∷◌, map, get_or, set, Some, refl, ap, ap₂, arith, ◌<◌, Bool, true, false, cond, eqb, reverse, fold, ◌∙◌, length, ◌≤◌, Option, None, sym, eqb-true, eq-eqb, ne_eqb, ◌^◌, ◌++◌}
+use Rattle.std.proofs.Common.{◌≡◌, ◌≢◌, ℕ, zero, suc, List, [], ◌∷◌, map, get_or, set, Some, refl, ap, ap₂, arith, ◌<◌}
+use Rattle.std.proofs.Common.{Bool, true, false, cond, eqb, reverse, fold, ◌∙◌, length, ◌≤◌, Option, None, sym}
+use Rattle.std.proofs.Common.{eqb-true, eq-eqb, ne_eqb, ◌^◌, ◌++◌}
 use Rattle.std.specs.Prelude.{slice_get}
 use Rattle.std.proofs.lemmas.Option.{same_Some, slice_get_within}
 use Rattle.std.proofs.lemmas.Grind.{common_steps}
-use Rattle.std.proofs.lemmas.List.{get_or-set_same, get_or-set_other, set-set, set-get_or, reverse-append, length-map, length-set, map-set}
+use Rattle.std.proofs.lemmas.List.{get_or-set_same, get_or-set_other, set-set, set-get_or, reverse-append, length-map}
+use Rattle.std.proofs.lemmas.List.{length-set, map-set}
 use Rattle.std.proofs.lemmas.List.Sums.{fold-append}
 use Rattle.std.proofs.Math.Path.{fun_ext}
 use Rattle.std.proofs.Math.Seq.{map-set_same}
 use Rattle.xc_input.specs.Problem.{Puzzle, item_count}
 use Rattle.xc_dance.specs.declared.links.nodes.Nodes.{Nodes}
-use Rattle.xc_dance.specs.inner.Links.Steps.{unlinked, relinked, hidden, unhidden, HasSize, NamesPlaces, CanHideAll, CanUnhide, CanUnhideAll}
+use Rattle.xc_dance.specs.inner.Links.Steps.{unlinked, relinked, hidden, unhidden, HasSize, NamesPlaces, CanHideAll}
+use Rattle.xc_dance.specs.inner.Links.Steps.{CanUnhide, CanUnhideAll}
 use Rattle.xc_dance.specs.Fields.{Node, own, used, layout, link_place}
 use Rattle.xc_dance.specs.inner.Links.Lines.{Line}
-use Rattle.xc_dance.specs.inner.Links.Cells.{slot_of, link_at, fixed_up, fixed_down, top_in, ulink_in, dlink_in, nodes_from}
+use Rattle.xc_dance.specs.inner.Links.Cells.{slot_of, link_at, fixed_up, fixed_down, top_in, ulink_in, dlink_in}
+use Rattle.xc_dance.specs.inner.Links.Cells.{nodes_from}
 use Rattle.xc_dance.specs.inner.Links.Laid.{Placed, IsLaid, IsName}
 use Rattle.xc_dance.proofs.LinkedTables.Sweep.{put_at-same, put_at-other, put_at, with_line}
 use Rattle.xc_dance.specs.declared.links.nodes.TheConstants.{MARK, SPACER}
@@ -22,12 +27,14 @@ use Rattle.xc_dance.specs.declared.links.nodes.TheConstants.{MARK, SPACER}
 -- a write to one cell is one to the list of the cells' values, and none to other values beside them
 pub ruleset one_written = (map-set, map-set_same)
 
-pub get_map : {X : Type 0} (f : X → ℕ) (ns : List X) (k : ℕ) (n : X) → slice_get ns k ≡ Some n → get_or (map f ns) k 0 ≡ f n
+pub get_map : {X : Type 0} (f : X → ℕ) (ns : List X) (k : ℕ) (n : X) → slice_get ns k ≡ Some n
+    → get_or (map f ns) k 0 ≡ f n
 get_map f [] k n e = cc
 get_map f (m ∷ ns) zero n e = ap f (same_Some m n e)
 get_map f (m ∷ ns) (suc k) n e = get_map f ns k n e
 
-pub map_same : {X : Type 0} (f g : X → ℕ) (ns : List X) → ((q : ℕ) (n : X) → slice_get ns q ≡ Some n → g n ≡ f n) → map g ns ≡ map f ns
+pub map_same : {X : Type 0} (f g : X → ℕ) (ns : List X) → ((q : ℕ) (n : X) → slice_get ns q ≡ Some n → g n ≡ f n)
+    → map g ns ≡ map f ns
 map_same f g [] h = refl
 map_same f g (m ∷ ns) h = ap₂ (λ x xs. x ∷ xs) (h 0 m refl) (map_same f g ns (λ q n e. h (suc q) n e))
 
@@ -70,7 +77,8 @@ pub record IsLinked (t : Nodes) (q : ℕ) : Type 0 where
 
 -- a node that left its list goes back to where it was
 pub relinked-unlinked : (t : Nodes) (q : ℕ) → IsLinked t q → relinked (unlinked t q) q ≡ t
-relinked-unlinked t q h = grind (arith, common_steps, get_or-set_kept, get_or-set_other, get_or-set_same, same_nodes, written_back)
+relinked-unlinked t q h =
+    grind (arith, common_steps, get_or-set_kept, get_or-set_other, get_or-set_same, same_nodes, written_back)
 
 -- a marked node is passed over
 pub hidden-marked : (t : Nodes) (q : ℕ) → eqb (get_or t.color q 0) MARK ≡ true → hidden t q ≡ t
@@ -86,11 +94,14 @@ pub unhidden-open : (t : Nodes) (q : ℕ) → eqb (get_or t.color q 0) MARK ≡ 
 unhidden-open t q e = ap (λ b. cond b t (relinked t q)) e
 
 -- a step of unhide undoes that of hide
-pub unhidden-hidden : (t : Nodes) (q : ℕ) → (eqb (get_or t.color q 0) MARK ≡ false → IsLinked t q) → unhidden (hidden t q) q ≡ t
+pub unhidden-hidden : (t : Nodes) (q : ℕ) → (eqb (get_or t.color q 0) MARK ≡ false → IsLinked t q)
+    → unhidden (hidden t q) q ≡ t
 unhidden-hidden t q h =
-    let by : (b : Bool) → eqb (get_or t.color q 0) MARK ≡ b → unhidden (hidden t q) q ≡ t = λ b. elim b as (λ b. eqb (get_or t.color q 0) MARK ≡ b → unhidden (hidden t q) q ≡ t) [
+    let by : (b : Bool) → eqb (get_or t.color q 0) MARK ≡ b → unhidden (hidden t q) q ≡ t =
+    λ b. elim b as (λ b. eqb (get_or t.color q 0) MARK ≡ b → unhidden (hidden t q) q ≡ t) [
       | true ↦ (λ e. ap (λ u. unhidden u q) (hidden-marked t q e) ∙ unhidden-marked t q e)
-      | false ↦ (λ e. ap (λ u. unhidden u q) (hidden-open t q e) ∙ unhidden-open (unlinked t q) q e ∙ relinked-unlinked t q (h e))
+      | false ↦ (λ e. ap (λ u. unhidden u q) (hidden-open t q e) ∙ unhidden-open (unlinked t q) q e
+          ∙ relinked-unlinked t q (h e))
     ] in by (eqb (get_or t.color q 0) MARK) refl
 
 -- each step of a walk can be undone
@@ -99,9 +110,11 @@ IsUndone t [] = Unit {0}
 IsUndone t (q ∷ qs) = (unhidden (hidden t q) q ≡ t) × IsUndone (hidden t q) qs
 
 -- unhide, from the last place back, undoes hide
-pub fold-unhidden-reverse : (t : Nodes) (qs : List ℕ) → IsUndone t qs → fold unhidden (fold hidden t qs) (reverse qs) ≡ t
+pub fold-unhidden-reverse : (t : Nodes) (qs : List ℕ) → IsUndone t qs
+    → fold unhidden (fold hidden t qs) (reverse qs) ≡ t
 fold-unhidden-reverse t [] h = grind (arith, common_steps, fold-append, reverse-append)
-fold-unhidden-reverse t (q ∷ qs) h = grind (arith, common_steps, fold-append, reverse-append, fold-unhidden-reverse (hidden t q) qs h.1)
+fold-unhidden-reverse t (q ∷ qs) h =
+    grind (arith, common_steps, fold-append, reverse-append, fold-unhidden-reverse (hidden t q) qs h.1)
 
 -- ---- the columns of links and counts of a table of lines, and one write to them
 
@@ -116,16 +129,21 @@ column p f fixed = map (λ n. link_at p f (fixed n) (slot_of n)) (layout p)
 abbrev pub put_link : (ℕ → ℕ → ℕ) → ℕ → (ℕ → ℕ) → ℕ → ℕ → ℕ
 put_link f j g k x = cond (eqb k j) (g x) (f k x)
 
-at_slot : (p : Puzzle) (f : ℕ → ℕ → ℕ) (fixed : ℕ) (s : Option (ℕ × ℕ)) (j x : ℕ) → s ≡ Some (j, x) → link_at p f fixed s ≡ link_place p j (f j x)
+at_slot : (p : Puzzle) (f : ℕ → ℕ → ℕ) (fixed : ℕ) (s : Option (ℕ × ℕ)) (j x : ℕ) → s ≡ Some (j, x)
+    → link_at p f fixed s ≡ link_place p j (f j x)
 at_slot p f fixed s j x e = ap (link_at p f fixed) e
 
-pub get_link : (p : Puzzle) (f : ℕ → ℕ → ℕ) (fixed : Node → ℕ) (j x : ℕ) → Placed p j x → get_or (column p f fixed) (link_place p j x) 0 ≡ link_place p j (f j x)
-get_link p f fixed j x h = get_map (λ n. link_at p f (fixed n) (slot_of n)) (layout p) (link_place p j x) h.node h.at ∙ at_slot p f (fixed h.node) (slot_of h.node) j x h.slot
+pub get_link : (p : Puzzle) (f : ℕ → ℕ → ℕ) (fixed : Node → ℕ) (j x : ℕ) → Placed p j x
+    → get_or (column p f fixed) (link_place p j x) 0 ≡ link_place p j (f j x)
+get_link p f fixed j x h = get_map (λ n. link_at p f (fixed n) (slot_of n)) (layout p) (link_place p j x) h.node h.at
+    ∙ at_slot p f (fixed h.node) (slot_of h.node) j x h.slot
 
-pub get_up : (p : Puzzle) (ln : ℕ → Line) (j x : ℕ) → Placed p j x → get_or (map (ulink_in p ln) (layout p)) (link_place p j x) 0 ≡ link_place p j ((ln j).up x)
+pub get_up : (p : Puzzle) (ln : ℕ → Line) (j x : ℕ) → Placed p j x
+    → get_or (map (ulink_in p ln) (layout p)) (link_place p j x) 0 ≡ link_place p j ((ln j).up x)
 get_up p ln j x h = get_link p (λ k y. (ln k).up y) (fixed_up p) j x h
 
-pub get_down : (p : Puzzle) (ln : ℕ → Line) (j x : ℕ) → Placed p j x → get_or (map (dlink_in p ln) (layout p)) (link_place p j x) 0 ≡ link_place p j ((ln j).down x)
+pub get_down : (p : Puzzle) (ln : ℕ → Line) (j x : ℕ) → Placed p j x
+    → get_or (map (dlink_in p ln) (layout p)) (link_place p j x) 0 ≡ link_place p j ((ln j).down x)
 get_down p ln j x h = get_link p (λ k y. (ln k).down y) (fixed_down p) j x h
 
 other_slot : (p : Puzzle) (f : ℕ → ℕ → ℕ) (j x v : ℕ) (fixed : ℕ) (s : Option (ℕ × ℕ)) → (s ≡ Some (j, x) → ⊥) →
@@ -136,7 +154,9 @@ other_slot p f j x v fixed (Some s) ne = grind (arith, common_steps, eqb-true, p
 pub set_link : (p : Puzzle) (f : ℕ → ℕ → ℕ) (fixed : Node → ℕ) (j x v : ℕ) → IsLaid p → Placed p j x →
     column p (put_link f j (put_at (f j) x v)) fixed ≡ set (column p f fixed) (link_place p j x) (link_place p j v)
 set_link p f fixed j x v laid h =
-    map_put (λ n. link_at p f (fixed n) (slot_of n)) (λ n. link_at p (put_link f j (put_at (f j) x v)) (fixed n) (slot_of n)) (layout p) (link_place p j x) (link_place p j v)
+    map_put (λ n. link_at p f (fixed n) (slot_of n))
+    (λ n. link_at p (put_link f j (put_at (f j) x v)) (fixed n) (slot_of n)) (layout p) (link_place p j x)
+    (link_place p j v)
     (λ q n at ne. other_slot p f j x v (fixed n) (slot_of n) (λ e. ne (sym (laid.unique q n j x at e))))
     (λ n at.
     let same : n ≡ h.node = same_at (layout p) (link_place p j x) n h.node at h.at in
@@ -152,7 +172,8 @@ top_other : (ln : ℕ → Line) (j : ℕ) (l : Line) (n : Node) → (n ≡ own j
 top_other ln j l (own i) ne = let no : eqb i j ≡ false = ne_eqb i j (λ e. ne (ap own e)) in rw no refl
 top_other ln j l _ ne = refl
 
-pub set_top : (p : Puzzle) (ln : ℕ → Line) (j : ℕ) (l : Line) → IsLaid p → 0 < j → j ≤ item_count p → map (top_in (with_line ln j l)) (layout p) ≡ set (map (top_in ln) (layout p)) j l.len
+pub set_top : (p : Puzzle) (ln : ℕ → Line) (j : ℕ) (l : Line) → IsLaid p → 0 < j → j ≤ item_count p
+    → map (top_in (with_line ln j l)) (layout p) ≡ set (map (top_in ln) (layout p)) j l.len
 set_top p ln j l laid pos le =
     map_put (top_in ln) (top_in (with_line ln j l)) (layout p) j l.len
     (λ q n at ne. top_other ln j l n (λ e. ne (sym (laid.unique q n j 0 at (own_slot n j e)))))
@@ -160,7 +181,8 @@ set_top p ln j l laid pos le =
     let same : n ≡ own j = same_at (layout p) j n (own j) at (laid.head j pos le) in
     ap (top_in (with_line ln j l)) same ∙ (let e : eqb j j ≡ true = eq-eqb j j refl in rw e refl))
 
-pub get_len : (p : Puzzle) (ln : ℕ → Line) (j : ℕ) → IsLaid p → 0 < j → j ≤ item_count p → get_or (map (top_in ln) (layout p)) j 0 ≡ (ln j).len
+pub get_len : (p : Puzzle) (ln : ℕ → Line) (j : ℕ) → IsLaid p → 0 < j → j ≤ item_count p
+    → get_or (map (top_in ln) (layout p)) j 0 ≡ (ln j).len
 get_len p ln j laid pos le = get_map (top_in ln) (layout p) j (own j) (laid.head j pos le)
 
 abbrev pub item_of : Option (ℕ × ℕ) → ℕ
@@ -177,10 +199,13 @@ item_at ln (own i) j o e pos = let z : 0 ≡ o = ap member_of e in absurd (omega
 item_at ln (used k u) j o e pos = ap item_of e
 item_at ln _ j o e pos = cc
 
-pub get_item : (p : Puzzle) (ln : ℕ → Line) (j o : ℕ) → Placed p j o → 0 < o → get_or (map (top_in ln) (layout p)) (link_place p j o) 0 ≡ j
-get_item p ln j o h pos = get_map (top_in ln) (layout p) (link_place p j o) h.node h.at ∙ item_at ln h.node j o h.slot pos
+pub get_item : (p : Puzzle) (ln : ℕ → Line) (j o : ℕ) → Placed p j o → 0 < o
+    → get_or (map (top_in ln) (layout p)) (link_place p j o) 0 ≡ j
+get_item p ln j o h pos =
+    get_map (top_in ln) (layout p) (link_place p j o) h.node h.at ∙ item_at ln h.node j o h.slot pos
 
-pub size_from : (p : Puzzle) (ln : ℕ → Line) (col : Node → ℕ) → HasSize (nodes_from p ln col) (length (nodes_from p ln col).top)
+pub size_from : (p : Puzzle) (ln : ℕ → Line) (col : Node → ℕ)
+    → HasSize (nodes_from p ln col) (length (nodes_from p ln col).top)
 size_from p ln col = grind (arith, common_steps, length-map)
 
 -- what stands in the cells of member o's node in item j's list, where the members beside it have nodes too
@@ -193,7 +218,8 @@ pub record NodeCells (p : Puzzle) (ln : ℕ → Line) (col : Node → ℕ) (j o 
   pub len : get_or (nodes_from p ln col).top j 0 ≡ (ln j).len
   pub names : NamesPlaces (nodes_from p ln col) (link_place p j o)
 
-pub node_cells : (p : Puzzle) (ln : ℕ → Line) (col : Node → ℕ) (j o : ℕ) → IsLaid p → 0 < j → j ≤ item_count p → 0 < o → IsName p j o → IsName p j ((ln j).up o) → IsName p j ((ln j).down o) → NodeCells p ln col j o
+pub node_cells : (p : Puzzle) (ln : ℕ → Line) (col : Node → ℕ) (j o : ℕ) → IsLaid p → 0 < j → j ≤ item_count p → 0 < o
+    → IsName p j o → IsName p j ((ln j).up o) → IsName p j ((ln j).down o) → NodeCells p ln col j o
 node_cells p ln col j o laid pos le o_pos name name_up name_down =
     let q = link_place p j o in
     let here = laid.there j o pos le name in
@@ -214,11 +240,18 @@ node_cells p ln col j o laid pos le o_pos name name_up name_down =
       down = down;
       item = item;
       len = get_len p ln j laid pos le;
-      names = record { place = omega (arith, long, q_in); top = omega (arith, long, j_in, item); above = omega (arith, long, u_in, up); below = omega (arith, long, d_in, down) };
+      names =
+          record {
+            place = omega (arith, long, q_in);
+            top = omega (arith, long, j_in, item);
+            above = omega (arith, long, u_in, up);
+            below = omega (arith, long, d_in, down);
+          };
     }
 
 -- columns of links that lead the same way
-pub column_same : (p : Puzzle) (f g : ℕ → ℕ → ℕ) (fixed : Node → ℕ) → ((j x : ℕ) → g j x ≡ f j x) → column p g fixed ≡ column p f fixed
+pub column_same : (p : Puzzle) (f g : ℕ → ℕ → ℕ) (fixed : Node → ℕ) → ((j x : ℕ) → g j x ≡ f j x)
+    → column p g fixed ≡ column p f fixed
 column_same p f g fixed h = ap (λ k. column p k fixed) (fun_ext (λ j. fun_ext (h j)))
 
 -- ---- steps of hide that can be undone, one after another
@@ -230,10 +263,12 @@ pub record Stands (xs : List ℕ) (q : ℕ) : Type 0 where
   pub is : xs ≡ ys ++ q ∷ zs
 
 -- another element still stands in the list
-without_at : (ys : List ℕ) (q : ℕ) (zs : List ℕ) (r : ℕ) → r ≢ q → (as' bs : List ℕ) → ys ++ q ∷ zs ≡ as' ++ r ∷ bs → Stands (ys ++ zs) r
+without_at : (ys : List ℕ) (q : ℕ) (zs : List ℕ) (r : ℕ) → r ≢ q → (as' bs : List ℕ) → ys ++ q ∷ zs ≡ as' ++ r ∷ bs
+    → Stands (ys ++ zs) r
 without_at [] q zs r ne [] bs e = let same : r ≡ q = cc in absurd (ne same)
 without_at [] q zs r ne (a ∷ as') bs e = let tail : zs ≡ as' ++ r ∷ bs = cc in record { ys = as'; zs = bs; is = tail }
-without_at (y ∷ ys) q zs r ne [] bs e = let head : y ≡ r = cc in record { ys = []; zs = ys ++ zs; is = ap (λ k. k ∷ (ys ++ zs)) head }
+without_at (y ∷ ys) q zs r ne [] bs e =
+    let head : y ≡ r = cc in record { ys = []; zs = ys ++ zs; is = ap (λ k. k ∷ (ys ++ zs)) head }
 without_at (y ∷ ys) q zs r ne (a ∷ as') bs e =
     let tail : ys ++ q ∷ zs ≡ as' ++ r ∷ bs = cc in
     let s : Stands (ys ++ zs) r = without_at ys q zs r ne as' bs tail in
@@ -251,20 +286,25 @@ pub record CanRelink (t : Nodes) (q : ℕ) : Type 0 where
   pub names : NamesPlaces t q
   pub few : get_or t.top (get_or t.top q 0) 0 < 2 ^ 31
 
-pub CanRelink-unlinked : (t : Nodes) (q : ℕ) → HasSize t (length t.top) → NamesPlaces t q → IsLinked t q → get_or t.top (get_or t.top q 0) 0 < 2 ^ 31 → CanRelink (unlinked t q) q
-CanRelink-unlinked t q size names linked few = grind (arith, common_steps, HasSize-unlinked, get_or-set_kept, get_or-set_other, get_or-set_same, length-set)
+pub CanRelink-unlinked : (t : Nodes) (q : ℕ) → HasSize t (length t.top) → NamesPlaces t q → IsLinked t q
+    → get_or t.top (get_or t.top q 0) 0 < 2 ^ 31 → CanRelink (unlinked t q) q
+CanRelink-unlinked t q size names linked few =
+    grind (arith, common_steps, HasSize-unlinked, get_or-set_kept, get_or-set_other, get_or-set_same, length-set)
 
 -- so a step of unhide may be made there
-pub CanUnhide-unlinked : (t : Nodes) (q : ℕ) → HasSize t (length t.top) → NamesPlaces t q → IsLinked t q → get_or t.top q 0 < SPACER → get_or t.top (get_or t.top q 0) 0 < 2 ^ 31 → CanUnhide (unlinked t q) q
+pub CanUnhide-unlinked : (t : Nodes) (q : ℕ) → HasSize t (length t.top) → NamesPlaces t q → IsLinked t q
+    → get_or t.top q 0 < SPACER → get_or t.top (get_or t.top q 0) 0 < 2 ^ 31 → CanUnhide (unlinked t q) q
 CanUnhide-unlinked t q size names linked use_of few = grind (arith, common_steps, CanRelink-unlinked, get_or-set_other)
 
 -- one place more at the end of a walk
-CanUnhideAll-push : (t : Nodes) (ps : List ℕ) (q : ℕ) → CanUnhideAll t ps → CanUnhide (fold unhidden t ps) q → CanUnhideAll t (ps ++ q ∷ [])
+CanUnhideAll-push : (t : Nodes) (ps : List ℕ) (q : ℕ) → CanUnhideAll t ps → CanUnhide (fold unhidden t ps) q
+    → CanUnhideAll t (ps ++ q ∷ [])
 CanUnhideAll-push t [] q h c = (c, tt)
 CanUnhideAll-push t (p ∷ ps) q h c = (h.0, CanUnhideAll-push (unhidden t p) ps q h.1 c)
 
 -- the walk back, one node more
-pub back_more : (t : Nodes) (q : ℕ) (qs : List ℕ) → IsUndone (hidden t q) qs → CanUnhideAll (fold hidden (hidden t q) qs) (reverse qs) → CanUnhide (hidden t q) q
+pub back_more : (t : Nodes) (q : ℕ) (qs : List ℕ) → IsUndone (hidden t q) qs
+    → CanUnhideAll (fold hidden (hidden t q) qs) (reverse qs) → CanUnhide (hidden t q) q
     → CanUnhideAll (fold hidden t (q ∷ qs)) (reverse (q ∷ qs))
 back_more t q qs undone back can = grind (arith, common_steps, CanUnhideAll-push, fold-unhidden-reverse, reverse-append)
 

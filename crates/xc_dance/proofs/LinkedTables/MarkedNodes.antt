@@ -1,5 +1,7 @@
 -- Which nodes are marked, and the colours after Cover and Purify.
-use Rattle.std.proofs.Common.{◌≡◌, ℕ, ◌<◌, ◌≤◌, ◌⊎◌, inl, inr, Bool, true, false, not, cond, ◌&&◌, ◌||◌, eqb, List, [], ◌∷◌, map, get_or, Some, None, refl, ap, ap₂, sym, subst, ◌∙◌, arith, eqb-true, eq-eqb, ne_eqb, Option}
+use Rattle.std.proofs.Common.{◌≡◌, ℕ, ◌<◌, ◌≤◌, ◌⊎◌, inl, inr, Bool, true, false, not, cond, ◌&&◌, ◌||◌, eqb, List, []}
+use Rattle.std.proofs.Common.{◌∷◌, map, get_or, Some, None, refl, ap, ap₂, sym, subst, ◌∙◌, arith, eqb-true, eq-eqb}
+use Rattle.std.proofs.Common.{ne_eqb, Option}
 use Rattle.std.specs.Prelude.{is_some, slice_get, nat_lt}
 use Rattle.std.specs.List.{AllByRecursion}
 use Rattle.std.proofs.lemmas.Grind.{common_steps}
@@ -7,7 +9,8 @@ use Rattle.std.proofs.lemmas.Bool.{false≢true, eqb-false}
 use Rattle.std.proofs.lemmas.Option.{same_Some}
 use Rattle.std.proofs.Math.Bool.{not-not}
 use Rattle.xc_input.specs.declared.problem.Use.{Use}
-use Rattle.xc_input.specs.Problem.{Puzzle, Numbered, numbered_options, item_count, colour_in, colour_at, uses_of, holds, holding}
+use Rattle.xc_input.specs.Problem.{Puzzle, Numbered, numbered_options, item_count, colour_in, colour_at, uses_of, holds}
+use Rattle.xc_input.specs.Problem.{holding}
 use Rattle.xc_dance.specs.declared.dance.Move.{Move}
 use Rattle.xc_dance.specs.declared.dance.Move.TheVariants.{Cover, Purify, Tweak, Spend}
 use Rattle.xc_dance.specs.Moves.{listed, is_open, is_covered, purified, AreLegal, listed_numbers, agrees}
@@ -35,7 +38,8 @@ use Rattle.xc_dance.specs.declared.links.nodes.TheConstants.{MARK}
 -- ---- facts of each option left
 
 -- a fact of all options is one of those left
-pub all_left : (P : Numbered → Type 0) (p : Puzzle) (t : List Move) → AllByRecursion P (numbered_options p) → AllByRecursion P (left p t)
+pub all_left : (P : Numbered → Type 0) (p : Puzzle) (t : List Move) → AllByRecursion P (numbered_options p)
+    → AllByRecursion P (left p t)
 all_left P p [] a = a
 all_left P p (m ∷ t) a = kept P p t m (all_left P p t a)
 
@@ -44,15 +48,19 @@ options_left p t = all_left (IsOption p) p t (options_numbered p)
 
 -- ---- membership
 
-holding_in : (j : ℕ) (os : List Numbered) → AllByRecursion (λ o. holds o j ≡ true → is_in o.number (map (λ x. x.number) (holding j os)) ≡ true) os
+holding_in : (j : ℕ) (os : List Numbered)
+    → AllByRecursion (λ o. holds o j ≡ true → is_in o.number (map (λ x. x.number) (holding j os)) ≡ true) os
 holding_in j [] = grind (arith, common_steps, each_weaker, false≢true, is_in-first)
 holding_in j (x ∷ os) = grind (arith, common_steps, each_weaker, false≢true, is_in-first, holding_in j os)
 
 -- an option left that holds an open item is in its list
-pub in_open : (p : Puzzle) (t : List Move) (j : ℕ) → AreLegal p t → is_open j t ≡ true → AllByRecursion (λ o. holds o j ≡ true → is_in o.number (listed_numbers p t j) ≡ true) (left p t)
+pub in_open : (p : Puzzle) (t : List Move) (j : ℕ) → AreLegal p t → is_open j t ≡ true
+    → AllByRecursion (λ o. holds o j ≡ true → is_in o.number (listed_numbers p t j) ≡ true) (left p t)
 in_open p t j legal opened =
     let same : listed p t j ≡ holding j (left p t) = listed_open p t legal j opened in
-    subst (λ (os : List Numbered). AllByRecursion (λ o. holds o j ≡ true → is_in o.number (map (λ x. x.number) os) ≡ true) (left p t)) (sym same) (holding_in j (left p t))
+    subst (λ (os : List Numbered). AllByRecursion
+    (λ o. holds o j ≡ true → is_in o.number (map (λ x. x.number) os) ≡ true) (left p t)) (sym same)
+    (holding_in j (left p t))
 
 pub stands_in : (x : ℕ) (xs : List ℕ) → is_in x xs ≡ true → Stands xs x
 stands_in x [] e = absurd (false≢true e)
@@ -69,8 +77,10 @@ pub open_unmarked : (p : Puzzle) (t : List Move) (j o c : ℕ) → is_open j t �
 open_unmarked p [] j o c e = refl
 open_unmarked p (Cover k ∷ t) j o c e = open_unmarked p t j o c (and_right _ _ e)
 open_unmarked p (Purify k d ∷ t) j o c e =
-    elim (eqb k j) as (λ b. eqb k j ≡ b → cond ((b && eqb d c) && is_in o (listed_numbers p t j)) true (is_marked p t j o c) ≡ false) [
-      | true ↦ λ f. let same : eqb j k ≡ true = eq-eqb j k (sym (eqb-true k j f)) in absurd (false≢true (sym (ap not same) ∙ and_left (not (eqb j k)) (is_open j t) e))
+    elim (eqb k j) as (λ b. eqb k j ≡ b
+    → cond ((b && eqb d c) && is_in o (listed_numbers p t j)) true (is_marked p t j o c) ≡ false) [
+      | true ↦ λ f. let same : eqb j k ≡ true = eq-eqb j k (sym (eqb-true k j f)) in
+          absurd (false≢true (sym (ap not same) ∙ and_left (not (eqb j k)) (is_open j t) e))
       | false ↦ λ f. open_unmarked p t j o c (and_right _ _ e)
     ] refl
 open_unmarked p (_ ∷ t) j o c e = open_unmarked p t j o c e
@@ -80,71 +90,89 @@ true_either true = refl
 true_either false = refl
 
 -- the nodes of a purified item that are left are marked
-pub purified_marked : (p : Puzzle) (t : List Move) (j c : ℕ) → AreLegal p t → purified j t ≡ Some c → AllByRecursion (λ o. holds o j ≡ true → is_marked p t j o.number c ≡ true) (left p t)
+pub purified_marked : (p : Puzzle) (t : List Move) (j c : ℕ) → AreLegal p t → purified j t ≡ Some c
+    → AllByRecursion (λ o. holds o j ≡ true → is_marked p t j o.number c ≡ true) (left p t)
 purified_marked p [] j c legal e = cc
-purified_marked p (Cover k ∷ t) j c legal e = kept (λ o. holds o j ≡ true → is_marked p t j o.number c ≡ true) p t (Cover k) (purified_marked p t j c legal.1 e)
+purified_marked p (Cover k ∷ t) j c legal e =
+    kept (λ o. holds o j ≡ true → is_marked p t j o.number c ≡ true) p t (Cover k) (purified_marked p t j c legal.1 e)
 purified_marked p (Purify k d ∷ t) j c legal e =
-    elim (eqb j k) as (λ b. eqb j k ≡ b → cond b (Some d) (purified j t) ≡ Some c → AllByRecursion (λ o. holds o j ≡ true → is_marked p (Purify k d ∷ t) j o.number c ≡ true) (left p (Purify k d ∷ t))) [
+    elim (eqb j k) as (λ b. eqb j k ≡ b → cond b (Some d) (purified j t) ≡ Some c
+    → AllByRecursion (λ o. holds o j ≡ true → is_marked p (Purify k d ∷ t) j o.number c ≡ true)
+    (left p (Purify k d ∷ t))) [
       | true ↦ λ f g.
           let same : j ≡ k = eqb-true j k f in
           let item : eqb k j ≡ true = eq-eqb k j (sym same) in
           let colour : eqb d c ≡ true = eq-eqb d c (same_Some d c g) in
           let opened : is_open j t ≡ true = ap (λ i. is_open i t) same ∙ legal.0.1 in
           kept (λ o. holds o j ≡ true → is_marked p (Purify k d ∷ t) j o.number c ≡ true) p t (Purify k d)
-          (each_weaker (λ o. holds o j ≡ true → is_in o.number (listed_numbers p t j) ≡ true) (λ o. holds o j ≡ true → is_marked p (Purify k d ∷ t) j o.number c ≡ true) (left p t)
+          (each_weaker (λ o. holds o j ≡ true → is_in o.number (listed_numbers p t j) ≡ true)
+          (λ o. holds o j ≡ true → is_marked p (Purify k d ∷ t) j o.number c ≡ true) (left p t)
           (λ o h held. rw (item, colour, h held) refl) (in_open p t j legal.1 opened))
       | false ↦ λ f g.
           kept (λ o. holds o j ≡ true → is_marked p (Purify k d ∷ t) j o.number c ≡ true) p t (Purify k d)
-          (each_weaker (λ o. holds o j ≡ true → is_marked p t j o.number c ≡ true) (λ o. holds o j ≡ true → is_marked p (Purify k d ∷ t) j o.number c ≡ true) (left p t)
-          (λ o h held. ap (cond ((eqb k j && eqb d c) && is_in o.number (listed_numbers p t j)) true) (h held) ∙ true_either _) (purified_marked p t j c legal.1 g))
+          (each_weaker (λ o. holds o j ≡ true → is_marked p t j o.number c ≡ true)
+          (λ o. holds o j ≡ true → is_marked p (Purify k d ∷ t) j o.number c ≡ true) (left p t)
+          (λ o h held. ap (cond ((eqb k j && eqb d c) && is_in o.number (listed_numbers p t j)) true) (h held)
+          ∙ true_either _) (purified_marked p t j c legal.1 g))
     ] refl e
-purified_marked p (Tweak k ∷ t) j c legal e = kept (λ o. holds o j ≡ true → is_marked p t j o.number c ≡ true) p t (Tweak k) (purified_marked p t j c legal.1 e)
+purified_marked p (Tweak k ∷ t) j c legal e =
+    kept (λ o. holds o j ≡ true → is_marked p t j o.number c ≡ true) p t (Tweak k) (purified_marked p t j c legal.1 e)
 purified_marked p (Spend k ∷ t) j c legal e = purified_marked p t j c legal.1 e
 
 -- ---- a node's colour cell
 
-used_by : (p : Puzzle) (j o k : ℕ) (n : Node) → 0 < o → slice_get (layout p) k ≡ Some n → slot_of n ≡ Some (j, o) → (u : Use) × (slice_get (layout p) k ≡ Some (used o u)) × (u.item ≡ j)
+used_by : (p : Puzzle) (j o k : ℕ) (n : Node) → 0 < o → slice_get (layout p) k ≡ Some n → slot_of n ≡ Some (j, o)
+    → (u : Use) × (slice_get (layout p) k ≡ Some (used o u)) × (u.item ≡ j)
 used_by p j o k unused pos at e = grind (arith, common_steps)
 used_by p j o k (spacer n) pos at e = grind (arith, common_steps)
 used_by p j o k (own i) pos at e = grind (arith, common_steps)
 used_by p j o k (used m u) pos at e = grind (arith, common_steps)
 
 -- what stands in the colour cell of an option's node in item j's list
-pub color_is : (p : Puzzle) (t : List Move) (o j c : ℕ) → IsLaid p → 0 < j → j ≤ item_count p → 0 < o → Named p j o → colour_in (uses_of p o) j ≡ Some c →
+pub color_is : (p : Puzzle) (t : List Move) (o j c : ℕ) → IsLaid p → 0 < j → j ≤ item_count p → 0 < o → Named p j o
+    → colour_in (uses_of p o) j ≡ Some c →
     get_or (map (color_in p t) (layout p)) (link_place p j o) 0 ≡ cond (is_marked p t j o c) MARK c
 color_is p t o j c laid jpos jle pos named has =
     let h = laid.there j o jpos jle (inr (pos, named)) in
     let u = used_by p j o (link_place p j o) h.node pos h.at h.slot in
-    let colour : colour_in (uses_of p o) u.0.item ≡ Some u.0.colour = laid.nodes.coloured (link_place p j o) o u.0 u.1 in
+    let colour : colour_in (uses_of p o) u.0.item ≡ Some u.0.colour =
+    laid.nodes.coloured (link_place p j o) o u.0 u.1 in
     let same : u.0.colour ≡ c = same_Some u.0.colour c (sym colour ∙ ap (colour_in (uses_of p o)) u.2 ∙ has) in
     grind (arith, common_steps, get_map)
 
-pub mark_is : (p : Puzzle) (t : List Move) (o j c : ℕ) → IsLaid p → 0 < j → j ≤ item_count p → 0 < o → Named p j o → colour_in (uses_of p o) j ≡ Some c →
+pub mark_is : (p : Puzzle) (t : List Move) (o j c : ℕ) → IsLaid p → 0 < j → j ≤ item_count p → 0 < o → Named p j o
+    → colour_in (uses_of p o) j ≡ Some c →
     is_mark p (color_in p t) o j ≡ eqb (cond (is_marked p t j o c) MARK c) MARK
 mark_is p t o j c laid jpos jle pos named has = ap (λ v. eqb v MARK) (color_is p t o j c laid jpos jle pos named has)
 
 -- ---- closed items
 
-pub closed : (j : ℕ) (t : List Move) → is_open j t ≡ false → (is_covered j t ≡ true) ⊎ ((c : ℕ) × (purified j t ≡ Some c))
+pub closed : (j : ℕ) (t : List Move) → is_open j t ≡ false → (is_covered j t ≡ true)
+    ⊎ ((c : ℕ) × (purified j t ≡ Some c))
 closed j t e = by (is_covered j t) (purified j t) refl refl
   where
-    by : (b : Bool) (o : Option ℕ) → is_covered j t ≡ b → purified j t ≡ o → (is_covered j t ≡ true) ⊎ ((c : ℕ) × (purified j t ≡ Some c))
+    by : (b : Bool) (o : Option ℕ) → is_covered j t ≡ b → purified j t ≡ o → (is_covered j t ≡ true)
+        ⊎ ((c : ℕ) × (purified j t ≡ Some c))
     by true o f g = inl f
     by false (Some c) f g = inr (c, g)
     by false None f g = absurd (false≢true (sym (open_is t j ∙ e) ∙ ap₂ (λ b o. not b && not (is_some o)) f g))
 
 pub colour_some : (us : List Use) (j : ℕ) → is_some (colour_in us j) ≡ true → (c : ℕ) × (colour_in us j ≡ Some c)
-colour_some us j e = elim (colour_in us j) as (λ o. is_some o ≡ true → (c : ℕ) × (o ≡ Some c)) [ None ↦ λ f. absurd (false≢true f) | Some c ↦ λ f. (c, refl) ] e
+colour_some us j e =
+    elim (colour_in us j) as (λ o. is_some o ≡ true → (c : ℕ) × (o ≡ Some c))
+    [ None ↦ λ f. absurd (false≢true f) | Some c ↦ λ f. (c, refl) ] e
 
 agrees_same : (c d : ℕ) → agrees c (Some d) ≡ true → d ≡ c
 agrees_same c d e = sym (eqb-true c d (and_right (nat_lt 0 c) (eqb c d) e))
 
--- an option left: each item that it holds is open and has it in its list, unmarked; or is purified, and the node is marked
+-- an option left: each item that it holds is open and has it in its list, unmarked; or is purified, and the node is
+-- marked
 pub record Met (p : Puzzle) (t : List Move) (o j : ℕ) : Type 0 where
   pub opened : is_open j t ≡ true → (is_mark p (color_in p t) o j ≡ false) × (is_in o (listed_numbers p t j) ≡ true)
   pub shut : is_open j t ≡ false → is_mark p (color_in p t) o j ≡ true
 
-pub colour_small : (us : List Use) (j c : ℕ) → AllByRecursion (λ u. u.colour < MARK) us → colour_in us j ≡ Some c → c < MARK
+pub colour_small : (us : List Use) (j c : ℕ) → AllByRecursion (λ u. u.colour < MARK) us → colour_in us j ≡ Some c
+    → c < MARK
 colour_small [] j c a e = cc
 colour_small (u ∷ us) j c a e =
     elim (eqb u.item j) as (λ b. cond b (Some u.colour) (colour_in us j) ≡ Some c → c < MARK) [
@@ -152,11 +180,14 @@ colour_small (u ∷ us) j c a e =
       | false ↦ λ f. colour_small us j c a.1 f
     ] e
 
-pub each_met : (p : Puzzle) (t : List Move) (j : ℕ) → AreLegal p t → IsLaid p → IsFit p → 0 < j → j ≤ item_count p → AllByRecursion (λ o. holds o j ≡ true → Met p t o.number j) (left p t)
+pub each_met : (p : Puzzle) (t : List Move) (j : ℕ) → AreLegal p t → IsLaid p → IsFit p → 0 < j → j ≤ item_count p
+    → AllByRecursion (λ o. holds o j ≡ true → Met p t o.number j) (left p t)
 each_met p t j legal laid fit jpos jle =
-    elim (is_open j t) as (λ b. is_open j t ≡ b → AllByRecursion (λ o. holds o j ≡ true → Met p t o.number j) (left p t)) [
+    elim (is_open j t) as (λ b. is_open j t ≡ b
+    → AllByRecursion (λ o. holds o j ≡ true → Met p t o.number j) (left p t)) [
       | true ↦ λ e.
-          each_both (IsOption p) (λ o. holds o j ≡ true → is_in o.number (listed_numbers p t j) ≡ true) (λ o. holds o j ≡ true → Met p t o.number j) (left p t)
+          each_both (IsOption p) (λ o. holds o j ≡ true → is_in o.number (listed_numbers p t j) ≡ true)
+          (λ o. holds o j ≡ true → Met p t o.number j) (left p t)
           (λ o is h held.
           let named : Named p j o.number = ap (λ us. is_some (colour_in us j)) is.1 ∙ held in
           let c = colour_some (uses_of p o.number) j named in
@@ -169,9 +200,11 @@ each_met p t j legal laid fit jpos jle =
           (options_left p t) (in_open p t j legal e)
       | false ↦ λ e.
           elim (closed j t e) [
-            | inl covered ↦ each_weaker (λ o. holds o j ≡ false) (λ o. holds o j ≡ true → Met p t o.number j) (left p t) (λ o no held. absurd (false≢true (sym no ∙ held))) (left_free p t j covered)
+            | inl covered ↦ each_weaker (λ o. holds o j ≡ false) (λ o. holds o j ≡ true → Met p t o.number j) (left p t)
+                (λ o no held. absurd (false≢true (sym no ∙ held))) (left_free p t j covered)
             | inr has ↦
-                each_both (IsOption p) (λ o. (holds o j ≡ true → is_marked p t j o.number has.0 ≡ true) × (agrees has.0 (colour_at o j) ≡ true)) (λ o. holds o j ≡ true → Met p t o.number j) (left p t)
+                each_both (IsOption p) (λ o. (holds o j ≡ true → is_marked p t j o.number has.0 ≡ true)
+                × (agrees has.0 (colour_at o j) ≡ true)) (λ o. holds o j ≡ true → Met p t o.number j) (left p t)
                 (λ o is h held.
                 let named : Named p j o.number = ap (λ us. is_some (colour_in us j)) is.1 ∙ held in
                 let c = colour_some (uses_of p o.number) j named in
@@ -182,7 +215,9 @@ each_met p t j legal laid fit jpos jle =
                 ∙ ap (λ b. eqb (cond b MARK c.0) MARK) (ap (is_marked p t j o.number) same ∙ h.0 held) in
                 record { opened = λ f. absurd (false≢true (sym e ∙ f)); shut = λ _. m })
                 (options_left p t)
-                (each_both (λ o. holds o j ≡ true → is_marked p t j o.number has.0 ≡ true) (λ o. agrees has.0 (colour_at o j) ≡ true) _ (left p t) (λ o a b. (a, b)) (purified_marked p t j has.0 legal has.1) (left_agrees p t j has.0 has.1))
+                (each_both (λ o. holds o j ≡ true → is_marked p t j o.number has.0 ≡ true)
+                (λ o. agrees has.0 (colour_at o j) ≡ true) _ (left p t) (λ o a b. (a, b))
+                (purified_marked p t j has.0 legal has.1) (left_agrees p t j has.0 has.1))
           ]
     ] refl
 
@@ -202,13 +237,23 @@ cond_at : (b : Bool) (f g : Node → ℕ) (n : Node) → cond b f g n ≡ cond b
 cond_at true f g n = refl
 cond_at false f g n = refl
 
-none_kept : (p : Puzzle) (i : ℕ) (keep : Option ℕ) (s : Option (ℕ × ℕ)) (v : ℕ) → v ≡ cond (slot_kept p i keep [] s) MARK v
+none_kept : (p : Puzzle) (i : ℕ) (keep : Option ℕ) (s : Option (ℕ × ℕ)) (v : ℕ)
+    → v ≡ cond (slot_kept p i keep [] s) MARK v
 none_kept p i keep None v = refl
 none_kept p i keep (Some s) v = elim (eqb s.0 i) as (λ a. v ≡ cond (a && false) MARK v) [ true ↦ refl | false ↦ refl ]
 
-pub marked_at : (p : Puzzle) (i : ℕ) (keep : Option ℕ) (now : Node → ℕ) (xs : List ℕ) (n : Node) → marked_list p i keep now xs n ≡ cond (slot_kept p i keep xs (slot_of n)) MARK (now n)
+pub marked_at : (p : Puzzle) (i : ℕ) (keep : Option ℕ) (now : Node → ℕ) (xs : List ℕ) (n : Node)
+    → marked_list p i keep now xs n ≡ cond (slot_kept p i keep xs (slot_of n)) MARK (now n)
 marked_at p i keep now [] n = grind (arith, common_steps, cond_at, none_kept)
-marked_at p i keep now (o ∷ xs) n = grind (arith, common_steps, cond_at, none_kept, marked_at p i keep (cond (is_kept p i keep o) (with_color now i o MARK) now) xs n)
+marked_at p i keep now (o ∷ xs) n =
+    grind (
+      arith,
+      common_steps,
+      cond_at,
+      none_kept,
+      marked_at p i keep
+          (cond (is_kept p i keep o) (with_color now i o MARK) now) xs n,
+    )
 
 pub cover_colours : (p : Puzzle) (t : List Move) (i : ℕ) (n : Node) → color_in p (Cover i ∷ t) n ≡ color_in p t n
 cover_colours p t i unused = refl
@@ -224,8 +269,12 @@ marks true false k v = refl
 marks false true k v = refl
 marks false false k v = refl
 
-pub purify_colours : (p : Puzzle) (t : List Move) (i c : ℕ) → IsLaid p → (k : ℕ) (n : Node) → slice_get (layout p) k ≡ Some n → color_in p (Purify i c ∷ t) n ≡ marked_list p i (Some c) (purify_start p t i c) (listed_numbers p t i) n
+pub purify_colours : (p : Puzzle) (t : List Move) (i c : ℕ) → IsLaid p → (k : ℕ) (n : Node)
+    → slice_get (layout p) k ≡ Some n
+    → color_in p (Purify i c ∷ t) n ≡ marked_list p i (Some c) (purify_start p t i c) (listed_numbers p t i) n
 purify_colours p t i c laid k unused at = grind (arith, common_steps, marked_at, marks)
 purify_colours p t i c laid k (spacer m) at = grind (arith, common_steps, marked_at, marks)
-purify_colours p t i c laid k (own j) at = grind (arith, common_steps, eq-eqb, eqb-false, eqb-true, marked_at, marks, ne_eqb, not-not, not_in, rises_listed)
-purify_colours p t i c laid k (used o u) at = grind (arith, common_steps, eq-eqb, eqb-false, eqb-true, marked_at, marks, ne_eqb, not-not, not_in, rises_listed)
+purify_colours p t i c laid k (own j) at =
+    grind (arith, common_steps, eq-eqb, eqb-false, eqb-true, marked_at, marks, ne_eqb, not-not, not_in, rises_listed)
+purify_colours p t i c laid k (used o u) at =
+    grind (arith, common_steps, eq-eqb, eqb-false, eqb-true, marked_at, marks, ne_eqb, not-not, not_in, rises_listed)

@@ -1,5 +1,8 @@
--- From one move to the next: the tables after moves let the next legal move be made, and are then those after it; and back.
-use Rattle.std.proofs.Common.{◌≡◌, ℕ, ◌+◌, ◌-◌, cond, eqb, List, ◌∷◌, refl, ap, ◌≢◌, ◌<◌, ◌≤◌, Bool, true, false, not, ◌||◌, [], length, get_or, sym, subst, ◌∙◌, arith, eqb-true, eq-eqb, ne_eqb, None, ◌++◌, reverse}
+-- From one move to the next: the tables after moves let the next legal move be made, and are then those after it; and
+-- back.
+use Rattle.std.proofs.Common.{◌≡◌, ℕ, ◌+◌, ◌-◌, cond, eqb, List, ◌∷◌, refl, ap, ◌≢◌, ◌<◌, ◌≤◌, Bool, true, false, not}
+use Rattle.std.proofs.Common.{◌||◌, [], length, get_or, sym, subst, ◌∙◌, arith, eqb-true, eq-eqb, ne_eqb, None, ◌++◌}
+use Rattle.std.proofs.Common.{reverse}
 use Rattle.std.proofs.lemmas.Grind.{common_steps}
 use Rattle.std.proofs.lemmas.Bool.{false≢true}
 use Rattle.std.proofs.lemmas.List.{reverse-append, length-reverse}
@@ -13,13 +16,16 @@ use Rattle.xc_dance.specs.inner.Links.Rings.{is_off}
 use Rattle.xc_dance.specs.inner.Links.Span.{Span}
 use Rattle.xc_dance.specs.inner.Links.Cells.{color_in, nodes_after, line_of}
 use Rattle.xc_dance.specs.inner.Links.Laid.{IsLaid}
-use Rattle.xc_dance.specs.inner.Links.Made.{nodes_made, items_made, nodes_unmade, items_unmade, CanMake, CanUnmake, made_cost, unmade_cost, IsFitted}
+use Rattle.xc_dance.specs.inner.Links.Made.{nodes_made, items_made, nodes_unmade, items_unmade, CanMake, CanUnmake}
+use Rattle.xc_dance.specs.inner.Links.Made.{made_cost, unmade_cost, IsFitted}
 use Rattle.xc_dance.specs.Cost.{cost_of, cost_of_newest}
 use Rattle.xc_dance.specs.inner.Links.Taken.{CanNote, taken_nodes, noted, IsRecalled}
 use Rattle.xc_dance.specs.declared.links.nodes.Nodes.{Nodes}
 use Rattle.xc_dance.specs.declared.links.items.Items.{Items}
-use Rattle.xc_dance.proofs.LinkedTables.RingStep.{same_items, row_same, still_llink, still_rlink, row_get, row_len, still_left, spend_step}
-use Rattle.xc_dance.proofs.LinkedTables.Turned.{side, leftwards, rightwards, way_beside, way_next, way_back, beside_place, beside_covered, ring_step}
+use Rattle.xc_dance.proofs.LinkedTables.RingStep.{same_items, row_same, still_llink, still_rlink, row_get, row_len}
+use Rattle.xc_dance.proofs.LinkedTables.RingStep.{still_left, spend_step}
+use Rattle.xc_dance.proofs.LinkedTables.Turned.{side, leftwards, rightwards, way_beside, way_next, way_back}
+use Rattle.xc_dance.proofs.LinkedTables.Turned.{beside_place, beside_covered, ring_step}
 use Rattle.xc_dance.proofs.MoveLemmas.StateLemmas.{open_uncovered, open_or_covered}
 use Rattle.xc_dance.proofs.LinkedTables.Sweep.{leave_none, stay_all}
 use Rattle.xc_dance.proofs.LinkedTables.GoodLines.{SameCut, line_after, tables_same}
@@ -39,7 +45,8 @@ still_items p t m s =
     same_items (items_after p (m ∷ t)) (items_after p t)
     (row_same (llink_at p t) (llink_at p (m ∷ t)) (item_count p + 2) (λ q h. still_llink p t m q s.covered))
     (row_same (rlink_at p t) (rlink_at p (m ∷ t)) (item_count p + 2) (λ q h. still_rlink p t m q s.covered))
-    (row_same (bound_at p t) (bound_at p (m ∷ t)) (primary_count p + 1) (λ q h. ap (λ n. cond (eqb q 0) 0 (high_at p q - n)) (s.spent q)))
+    (row_same (bound_at p t) (bound_at p (m ∷ t)) (primary_count p + 1)
+    (λ q h. ap (λ n. cond (eqb q 0) 0 (high_at p q - n)) (s.spent q)))
     refl
 
 -- ---- whether an item is covered, read from its ring
@@ -49,16 +56,22 @@ pub record IsPast (p : Puzzle) (t : List Move) (i : ℕ) : Type 0 where
   pub place : left_of p t i < item_count p + 2
   pub past : rlink_at p t (left_of p t i) ≢ i
 
-still_past : (p : Puzzle) (t : List Move) (m : Move) (i : ℕ) → left_of p (m ∷ t) i ≡ left_of p t i → ((q : ℕ) → rlink_at p (m ∷ t) q ≡ rlink_at p t q) → IsPast p t i → IsPast p (m ∷ t) i
+still_past : (p : Puzzle) (t : List Move) (m : Move) (i : ℕ) → left_of p (m ∷ t) i ≡ left_of p t i
+    → ((q : ℕ) → rlink_at p (m ∷ t) q ≡ rlink_at p t q) → IsPast p t i → IsPast p (m ∷ t) i
 still_past p t m i l r h = grind (arith, common_steps)
 
-pub past_covered : (p : Puzzle) (t : List Move) (i : ℕ) → AreLegal p t → 0 < i → i ≤ item_count p → is_covered i t ≡ true → IsPast p t i
+pub past_covered : (p : Puzzle) (t : List Move) (i : ℕ) → AreLegal p t → 0 < i → i ≤ item_count p
+    → is_covered i t ≡ true → IsPast p t i
 past_covered p [] i legal pos le e = absurd (false≢true e)
 past_covered p (Purify j c ∷ t) i legal pos le e =
-    still_past p t (Purify j c) i (still_left p t (Purify j c) i (λ q. refl)) (λ q. still_rlink p t (Purify j c) q (λ q. refl)) (past_covered p t i legal.1 pos le e)
+    still_past p t (Purify j c) i (still_left p t (Purify j c) i (λ q. refl))
+    (λ q. still_rlink p t (Purify j c) q (λ q. refl)) (past_covered p t i legal.1 pos le e)
 past_covered p (Tweak j ∷ t) i legal pos le e =
-    still_past p t (Tweak j) i (still_left p t (Tweak j) i (λ q. refl)) (λ q. still_rlink p t (Tweak j) q (λ q. refl)) (past_covered p t i legal.1 pos le e)
-past_covered p (Spend j ∷ t) i legal pos le e = still_past p t (Spend j) i (still_left p t (Spend j) i (λ q. refl)) (λ q. still_rlink p t (Spend j) q (λ q. refl)) (past_covered p t i legal.1 pos le e)
+    still_past p t (Tweak j) i (still_left p t (Tweak j) i (λ q. refl)) (λ q. still_rlink p t (Tweak j) q (λ q. refl))
+    (past_covered p t i legal.1 pos le e)
+past_covered p (Spend j ∷ t) i legal pos le e =
+    still_past p t (Spend j) i (still_left p t (Spend j) i (λ q. refl)) (λ q. still_rlink p t (Spend j) q (λ q. refl))
+    (past_covered p t i legal.1 pos le e)
 past_covered p (Cover k ∷ t) i legal pos le e =
     let k_pos : 0 < k = let h = legal.0.0.0 in omega (arith, h) in
     let k_le : k ≤ item_count p = legal.0.0.1 in
@@ -70,17 +83,23 @@ past_covered p (Cover k ∷ t) i legal pos le e =
       | true ↦ λ f g.
           let same : i ≡ k = eqb-true i k f in
           let un_i : is_covered i t ≡ false = ap (λ j. is_covered j t) same ∙ un in
-          let l_in : l < item_count p + 2 = beside_place p t (side p i) l (way_beside p (rightwards p) t i pos le un_i).0 in
-          let leads : rlink_at p (Cover i ∷ t) l ≡ right_of p t i = way_next p (rightwards p) t i pos le un_i l l_in ∙ ap (λ v. cond v (right_of p t i) (rlink_at p t l)) (eq-eqb l l refl) in
+          let l_in : l < item_count p + 2 =
+          beside_place p t (side p i) l (way_beside p (rightwards p) t i pos le un_i).0 in
+          let leads : rlink_at p (Cover i ∷ t) l ≡ right_of p t i = way_next p (rightwards p) t i pos le un_i l l_in
+          ∙ ap (λ v. cond v (right_of p t i) (rlink_at p t l)) (eq-eqb l l refl) in
           record {
             place = subst (λ j. j < item_count p + 2) (sym same_l) l_in;
-            past = λ h. (way_beside p (leftwards p) t i pos le un_i).1 (sym leads ∙ ap (λ j. rlink_at p (Cover j ∷ t) l) same ∙ ap (rlink_at p next) (sym same_l) ∙ h);
+            past =
+                λ h. (way_beside p (leftwards p) t i pos le un_i).1
+                (sym leads ∙ ap (λ j. rlink_at p (Cover j ∷ t) l) same ∙ ap (rlink_at p next) (sym same_l) ∙ h);
           }
       | false ↦ λ f g.
           let before = past_covered p t i legal.1 pos le g in
           let r = right_of p t k in
-          let r_ne : i ≢ r = beside_covered p t (side p k) r i (way_beside p (leftwards p) t k k_pos k_le un).0 pos le g in
-          let leads : rlink_at p next l ≡ cond (eqb l (left_of p t k)) r (rlink_at p t l) = way_next p (rightwards p) t k k_pos k_le un l before.place in
+          let r_ne : i ≢ r =
+          beside_covered p t (side p k) r i (way_beside p (leftwards p) t k k_pos k_le un).0 pos le g in
+          let leads : rlink_at p next l ≡ cond (eqb l (left_of p t k)) r (rlink_at p t l) =
+          way_next p (rightwards p) t k k_pos k_le un l before.place in
           let no : (v : Bool) → cond v r (rlink_at p t l) ≢ i = λ v. elim v as (λ v. cond v r (rlink_at p t l) ≢ i) [
             | true ↦ λ h. r_ne (sym h)
             | false ↦ before.past
@@ -101,13 +120,19 @@ pub off_is : (p : Puzzle) (t : List Move) (i : ℕ) → AreLegal p t → 0 < i �
 off_is p t i legal pos le =
     let n = item_count p + 2 in
     let l = left_of p t i in
-    let get_l : get_or (items_after p t).llink i 0 ≡ l = row_get (llink_at p t) n i (omega (arith, le)) ∙ (leftwards p).at_item t i pos le in
+    let get_l : get_or (items_after p t).llink i 0 ≡ l =
+    row_get (llink_at p t) n i (omega (arith, le)) ∙ (leftwards p).at_item t i pos le in
     let both : (l < n) × (eqb (rlink_at p t l) i ≡ not (is_covered i t)) =
     elim (is_covered i t) as (λ b. is_covered i t ≡ b → (l < n) × (eqb (rlink_at p t l) i ≡ not b)) [
       | true ↦ λ e. let h = past_covered p t i legal pos le e in (h.place, ne_eqb (rlink_at p t l) i h.past)
-      | false ↦ λ e. (beside_place p t (side p i) l (way_beside p (rightwards p) t i pos le e).0, eq-eqb (rlink_at p t l) i (way_back p (rightwards p) t i pos le e))
+      | false ↦ λ e. (
+        beside_place p t (side p i) l (way_beside p (rightwards p) t i pos le e).0,
+        eq-eqb
+            (rlink_at p t l) i (way_back p (rightwards p) t i pos le e),
+      )
     ] refl in
-    let get_r : get_or (items_after p t).rlink (get_or (items_after p t).llink i 0) 0 ≡ rlink_at p t l = ap (λ k. get_or (items_after p t).rlink k 0) get_l ∙ row_get (rlink_at p t) n l both.0 in
+    let get_r : get_or (items_after p t).rlink (get_or (items_after p t).llink i 0) 0 ≡ rlink_at p t l =
+    ap (λ k. get_or (items_after p t).rlink k 0) get_l ∙ row_get (rlink_at p t) n l both.0 in
     grind (arith, common_steps, row_len)
 
 -- ---- the tables after moves let the next legal move be made, and are then those after it; and back
@@ -122,20 +147,24 @@ pub record MoveStep (p : Puzzle) (t : List Move) (spans : List Span) (m : Move) 
   pub nodes : nodes_made spans (nodes_after p t) (items_after p t) m ≡ nodes_after p (m ∷ t)
   pub items : items_made (items_after p t) m ≡ items_after p (m ∷ t)
   pub can_back : (x : ℕ) → IsTakenOff p t m x → CanUnmake spans (nodes_after p (m ∷ t)) (items_after p (m ∷ t)) m x
-  pub nodes_back : (x : ℕ) → IsTakenOff p t m x → nodes_unmade spans (nodes_after p (m ∷ t)) (items_after p (m ∷ t)) m x ≡ nodes_after p t
+  pub nodes_back : (x : ℕ) → IsTakenOff p t m x
+      → nodes_unmade spans (nodes_after p (m ∷ t)) (items_after p (m ∷ t)) m x ≡ nodes_after p t
   pub items_back : items_unmade (items_after p (m ∷ t)) m ≡ items_after p t
   pub can_note : CanNote (nodes_after p t) m
   pub cost : made_cost spans (nodes_after p t) (items_after p t) m ≡ cost_of p t m
-  pub cost_back : (x : ℕ) → IsTakenOff p t m x → unmade_cost spans (nodes_after p (m ∷ t)) (items_after p (m ∷ t)) m x ≡ cost_of p t m
+  pub cost_back : (x : ℕ) → IsTakenOff p t m x
+      → unmade_cost spans (nodes_after p (m ∷ t)) (items_after p (m ∷ t)) m x ≡ cost_of p t m
 
-covered_step : (p : Puzzle) (t : List Move) (spans : List Span) (i : ℕ) → AreLegal p t → IsLegal p t (Cover i) → IsFitted p spans → MoveStep p t spans (Cover i)
+covered_step : (p : Puzzle) (t : List Move) (spans : List Span) (i : ℕ) → AreLegal p t → IsLegal p t (Cover i)
+    → IsFitted p spans → MoveStep p t spans (Cover i)
 covered_step p t spans i legal may f =
     let pos : 0 < i = let h = may.0.0 in omega (arith, h) in
     let w = walk_made p t spans (Cover i) i None (color_in p t) legal f pos may.0.1 may.1 (cover_hides p t i) in
     let r = ring_step p t i may in
     grind (arith, common_steps, cover_writes)
 
-purified_step : (p : Puzzle) (t : List Move) (spans : List Span) (i c : ℕ) → AreLegal p t → IsLegal p t (Purify i c) → IsFitted p spans → MoveStep p t spans (Purify i c)
+purified_step : (p : Puzzle) (t : List Move) (spans : List Span) (i c : ℕ) → AreLegal p t → IsLegal p t (Purify i c)
+    → IsFitted p spans → MoveStep p t spans (Purify i c)
 purified_step p t spans i c legal may f =
     let pos : 0 < i = let h = may.0.0 in omega (arith, h) in
     let w = purify_made p t spans i c legal f pos may.0.1 may.1 in
@@ -148,17 +177,26 @@ spent_colours p t i unused = refl
 spent_colours p t i _ = refl
 
 spent_cut : (p : Puzzle) (t : List Move) (i j : ℕ) → SameCut p t (Spend i) j []
-spent_cut p t i j = record { test = λ x. false; cut_is = sym (leave_none (listed_numbers p t j)); stay_is = sym (stay_all (listed_numbers p t j)) }
+spent_cut p t i j =
+    record {
+      test = λ x. false;
+      cut_is = sym (leave_none (listed_numbers p t j));
+      stay_is = sym (stay_all (listed_numbers p t j));
+    }
 
 spent_nodes : (p : Puzzle) (t : List Move) (i : ℕ) → IsLaid p → nodes_after p (Spend i ∷ t) ≡ nodes_after p t
-spent_nodes p t i laid = tables_same p (line_of p t) (line_of p (Spend i ∷ t)) (color_in p t) (color_in p (Spend i ∷ t)) laid (λ j r. line_after p t (Spend i) j [] (spent_cut p t i j)) (λ k n at. spent_colours p t i n)
+spent_nodes p t i laid =
+    tables_same p (line_of p t) (line_of p (Spend i ∷ t)) (color_in p t) (color_in p (Spend i ∷ t)) laid
+    (λ j r. line_after p t (Spend i) j [] (spent_cut p t i j)) (λ k n at. spent_colours p t i n)
 
-spent_step : (p : Puzzle) (t : List Move) (spans : List Span) (i : ℕ) → AreLegal p t → IsLegal p t (Spend i) → IsFitted p spans → MoveStep p t spans (Spend i)
+spent_step : (p : Puzzle) (t : List Move) (spans : List Span) (i : ℕ) → AreLegal p t → IsLegal p t (Spend i)
+    → IsFitted p spans → MoveStep p t spans (Spend i)
 spent_step p t spans i legal may f =
     let s = spend_step p t i may (f.bounds i) in
     grind (arith, common_steps, spent_nodes)
 
-tweaked_step : (p : Puzzle) (t : List Move) (spans : List Span) (i : ℕ) → AreLegal p t → IsLegal p t (Tweak i) → IsFitted p spans → MoveStep p t spans (Tweak i)
+tweaked_step : (p : Puzzle) (t : List Move) (spans : List Span) (i : ℕ) → AreLegal p t → IsLegal p t (Tweak i)
+    → IsFitted p spans → MoveStep p t spans (Tweak i)
 tweaked_step p t spans i legal may f =
     let next = Tweak i ∷ t in
     let pos : 0 < i = let h = may.0.0 in omega (arith, h) in
@@ -169,7 +207,8 @@ tweaked_step p t spans i legal may f =
     let still = still_items p t (Tweak i) (record { covered = λ q. refl; spent = λ q. refl }) in
     grind (arith, common_steps)
 
-pub move_step : (p : Puzzle) (t : List Move) (spans : List Span) (m : Move) → AreLegal p t → IsLegal p t m → IsFitted p spans → MoveStep p t spans m
+pub move_step : (p : Puzzle) (t : List Move) (spans : List Span) (m : Move) → AreLegal p t → IsLegal p t m
+    → IsFitted p spans → MoveStep p t spans m
 move_step p t spans (Cover i) legal may f = covered_step p t spans i legal may f
 move_step p t spans (Purify i c) legal may f = purified_step p t spans i c legal may f
 move_step p t spans (Tweak i) legal may f = tweaked_step p t spans i legal may f
@@ -184,17 +223,22 @@ pub record Makes (p : Puzzle) (t : List Move) (m : Move) (spans : List Span) (ol
   pub items : items_made ring m ≡ items_after p (m ∷ t)
   pub cost : made_cost spans old ring m ≡ cost_of p t m
 
-pub makes : {p : Puzzle} {t : List Move} {spans spans' : List Span} {nodes : Nodes} {items : Items} {m : Move} → spans' ≡ spans → nodes ≡ nodes_after p t → items ≡ items_after p t → MoveStep p t spans m → Makes p t m spans' nodes items
+pub makes : {p : Puzzle} {t : List Move} {spans spans' : List Span} {nodes : Nodes} {items : Items} {m : Move}
+    → spans' ≡ spans → nodes ≡ nodes_after p t → items ≡ items_after p t → MoveStep p t spans m
+    → Makes p t m spans' nodes items
 makes {p} {t} {spans} {spans'} {nodes} {items} {m} a b c s = grind (arith, common_steps)
 
 -- what its undoing makes of them, k being the node that it took off
-pub record Unmakes (p : Puzzle) (t : List Move) (m : Move) (k : ℕ) (spans : List Span) (old : Nodes) (ring : Items) : Type 0 where
+pub record Unmakes (p : Puzzle) (t : List Move) (m : Move) (k : ℕ) (spans : List Span) (old : Nodes) (ring : Items) :
+    Type 0 where
   pub can : CanUnmake spans old ring m k
   pub nodes : nodes_unmade spans old ring m k ≡ nodes_after p t
   pub items : items_unmade ring m ≡ items_after p t
   pub cost : unmade_cost spans old ring m k ≡ cost_of p t m
 
-pub unmakes : {p : Puzzle} {t : List Move} {spans spans' : List Span} {nodes : Nodes} {items : Items} {m : Move} (k : ℕ) → spans' ≡ spans → nodes ≡ nodes_after p (m ∷ t) → items ≡ items_after p (m ∷ t) → IsTakenOff p t m k → MoveStep p t spans m
+pub unmakes : {p : Puzzle} {t : List Move} {spans spans' : List Span} {nodes : Nodes} {items : Items} {m : Move} (k : ℕ)
+    → spans' ≡ spans → nodes ≡ nodes_after p (m ∷ t) → items ≡ items_after p (m ∷ t) → IsTakenOff p t m k
+    → MoveStep p t spans m
     → Unmakes p t m k spans' nodes items
 unmakes {p} {t} {spans} {spans'} {nodes} {items} {m} k a b c off s = grind (arith, common_steps)
 
@@ -216,8 +260,10 @@ abbrev pub FirstLed : Puzzle → List Move → Move → Type 0
 FirstLed p t (Tweak i) = get_or (nodes_after p t).dlink i 0 ≡ link_place p i (first_of 0 (listed_numbers p t i))
 FirstLed p t _ = Unit {0}
 
-pub first_led : (p : Puzzle) (t : List Move) (spans : List Span) (m : Move) → IsLegal p t m → IsFitted p spans → FirstLed p t m
-first_led p t spans (Tweak i) may f = let pos : 0 < i = let h = may.0.0 in omega (arith, h) in get_down p (line_of p t) i 0 (own_placed p i f.laid pos may.0.1)
+pub first_led : (p : Puzzle) (t : List Move) (spans : List Span) (m : Move) → IsLegal p t m → IsFitted p spans
+    → FirstLed p t m
+first_led p t spans (Tweak i) may f = let pos : 0 < i = let h = may.0.0 in omega (arith, h) in
+    get_down p (line_of p t) i 0 (own_placed p i f.laid pos may.0.1)
 first_led p t spans _ may f = tt
 
 pub taken_few : (p : Puzzle) (t : List Move) → length (taken_nodes p t) ≤ length t
@@ -225,11 +271,14 @@ taken_few p [] = omega arith
 taken_few p (Tweak i ∷ t) = omega (arith, taken_few p t)
 taken_few p (_ ∷ t) = omega (arith, taken_few p t)
 
-pub taken_short : (p : Puzzle) (xs : List ℕ) (moves : List Move) → reverse xs ≡ taken_nodes p (reverse moves) → length xs ≤ length moves
+pub taken_short : (p : Puzzle) (xs : List ℕ) (moves : List Move) → reverse xs ≡ taken_nodes p (reverse moves)
+    → length xs ≤ length moves
 taken_short p xs moves e = grind (arith, common_steps, length-reverse, taken_few)
 
 -- the node is the first that item i's own node leads to
-pub taken_then : (p : Puzzle) (t : List Move) (nodes : Nodes) (old new : List ℕ) (m : Move) → FirstLed p t m → nodes ≡ nodes_after p t → reverse old ≡ taken_nodes p t → new ≡ noted old nodes m → reverse new ≡ taken_nodes p (m ∷ t)
+pub taken_then : (p : Puzzle) (t : List Move) (nodes : Nodes) (old new : List ℕ) (m : Move) → FirstLed p t m
+    → nodes ≡ nodes_after p t → reverse old ≡ taken_nodes p t → new ≡ noted old nodes m
+    → reverse new ≡ taken_nodes p (m ∷ t)
 taken_then p t nodes old new (Tweak i) led a b e = grind (arith, common_steps, reverse-append)
 taken_then p t nodes old new _ led a b e = grind (arith, common_steps, reverse-append)
 
@@ -237,6 +286,7 @@ pub record Recalled (p : Puzzle) (t : List Move) (m : Move) (new : List ℕ) (x 
   pub off : IsTakenOff p t m x
   pub taken : reverse new ≡ taken_nodes p t
 
-pub recalled : (p : Puzzle) (t : List Move) (m : Move) (old new : List ℕ) (x : ℕ) → reverse old ≡ taken_nodes p (m ∷ t) → IsRecalled old new m x → Recalled p t m new x
+pub recalled : (p : Puzzle) (t : List Move) (m : Move) (old new : List ℕ) (x : ℕ) → reverse old ≡ taken_nodes p (m ∷ t)
+    → IsRecalled old new m x → Recalled p t m new x
 recalled p t (Tweak i) old new x a e = grind (arith, common_steps, reverse-append)
 recalled p t _ old new x a e = grind (arith, common_steps, reverse-append)

@@ -1,5 +1,7 @@
 -- What the tables answer: the node by which an option uses an item, the option of a node, and the links downwards.
-use Rattle.std.proofs.Common.{◌≡◌, ℕ, zero, suc, ◌+◌, ◌-◌, ◌<◌, ◌≤◌, Bool, true, false, not, cond, eqb, List, [], ◌∷◌, length, get_or, Some, None, filter, refl, ap₂, subst, arith, eqb-true, ne_eqb, le-leb, ◌≢◌, ◌⊎◌, inl, inr, ltb, Option, ap, sym, ◌∙◌, eq-eqb, ltb-true, ltb-false}
+use Rattle.std.proofs.Common.{◌≡◌, ℕ, zero, suc, ◌+◌, ◌-◌, ◌<◌, ◌≤◌, Bool, true, false, not, cond, eqb, List, [], ◌∷◌}
+use Rattle.std.proofs.Common.{length, get_or, Some, None, filter, refl, ap₂, subst, arith, eqb-true, ne_eqb, le-leb}
+use Rattle.std.proofs.Common.{◌≢◌, ◌⊎◌, inl, inr, ltb, Option, ap, sym, ◌∙◌, eq-eqb, ltb-true, ltb-false}
 use Rattle.std.specs.Prelude.{is_some, unwrap_or, slice_get, Contains}
 use Rattle.std.specs.List.{range_with_len, AllByRecursion}
 use Rattle.std.proofs.lemmas.Grind.{common_steps}
@@ -11,9 +13,12 @@ use Rattle.xc_dance.specs.declared.links.nodes.Nodes.{Nodes}
 use Rattle.xc_dance.specs.Linked.{Linked}
 use Rattle.std.proofs.lemmas.List.{length-map}
 use Rattle.xc_dance.specs.declared.dance.Move.TheVariants.{Purify, Spend}
-use Rattle.xc_dance.specs.Moves.{purified, spends, AreLegal, listed, next_above, open_items, listed_numbers, IsOpenPrimary}
-use Rattle.xc_dance.specs.Fields.{own, layout, first_above, ring_of, spacer, used, spacer_place, is_in, below_of, link_place}
-use Rattle.xc_dance.specs.inner.Links.Cells.{top_in, color_in, line_of, nodes_after, slot_of, link_at, fixed_down, dlink_in}
+use Rattle.xc_dance.specs.Moves.{purified, spends, AreLegal, listed, next_above, open_items, listed_numbers}
+use Rattle.xc_dance.specs.Moves.{IsOpenPrimary}
+use Rattle.xc_dance.specs.Fields.{own, layout, first_above, ring_of, spacer, used, spacer_place, is_in, below_of}
+use Rattle.xc_dance.specs.Fields.{link_place}
+use Rattle.xc_dance.specs.inner.Links.Cells.{top_in, color_in, line_of, nodes_after, slot_of, link_at, fixed_down}
+use Rattle.xc_dance.specs.inner.Links.Cells.{dlink_in}
 use Rattle.xc_dance.specs.inner.Links.ItemCells.{items_after, bound_at, rlink_at}
 use Rattle.xc_dance.specs.inner.Links.Laid.{IsLaid, IsName, IsFit}
 use Rattle.xc_dance.specs.inner.Links.Answered.{named, IsNodeOf}
@@ -25,7 +30,8 @@ use Rattle.xc_dance.proofs.MoveLemmas.StateLemmas.{open_or_covered, open_uncover
 use Rattle.xc_dance.proofs.LinkedTables.LaidLemmas.{placed, head_is}
 use Rattle.xc_dance.proofs.LinkedTables.GoodLines.{Named, numbers_named}
 use Rattle.xc_dance.proofs.MoveLemmas.Shortened.{rises_listed}
-use Rattle.xc_dance.proofs.LinkedTables.PlaceLemmas.{use_here, spacer_here, place_next, get_behind, parted, there, use_at, spacer_at}
+use Rattle.xc_dance.proofs.LinkedTables.PlaceLemmas.{use_here, spacer_here, place_next, get_behind, parted, there}
+use Rattle.xc_dance.proofs.LinkedTables.PlaceLemmas.{use_at, spacer_at}
 use Rattle.xc_dance.proofs.LinkedTables.Sweep.{first_above-first}
 use Rattle.xc_dance.specs.declared.links.nodes.TheConstants.{SPACER}
 
@@ -38,7 +44,8 @@ spent_within p [] i legal = grind (arith, common_steps, eqb-true)
 spent_within p (Spend j ∷ t) i legal = grind (arith, common_steps, eqb-true, spent_within p t i legal.1)
 spent_within p (_ ∷ t) i legal = grind (arith, common_steps, eqb-true, spent_within p t i legal.1)
 
-pub bound_here : (p : Puzzle) (t : List Move) (i : ℕ) → IsPrimary p i → get_or (items_after p t).bound i 0 ≡ high_at p i - spends i t
+pub bound_here : (p : Puzzle) (t : List Move) (i : ℕ) → IsPrimary p i
+    → get_or (items_after p t).bound i 0 ≡ high_at p i - spends i t
 bound_here p t i is = grind (arith, common_steps, ne_eqb, row_get)
 
 pub bound_place : (p : Puzzle) (t : List Move) (i : ℕ) → IsPrimary p i → i < length (items_after p t).bound
@@ -49,10 +56,12 @@ bound_place p t i is = let long = row_len (bound_at p t) (primary_count p + 1) i
 pub own_place : (p : Puzzle) (i : ℕ) → IsLaid p → 0 < i → i ≤ item_count p → i < length (layout p)
 own_place p i laid pos le = slice_get_within (layout p) i (own i) (laid.head i pos le)
 
-pub own_top : (p : Puzzle) (t : List Move) (i : ℕ) → IsLaid p → 0 < i → i ≤ item_count p → get_or (nodes_after p t).top i 0 ≡ length (listed p t i)
+pub own_top : (p : Puzzle) (t : List Move) (i : ℕ) → IsLaid p → 0 < i → i ≤ item_count p
+    → get_or (nodes_after p t).top i 0 ≡ length (listed p t i)
 own_top p t i laid pos le = get_map (top_in (line_of p t)) (layout p) i (own i) (laid.head i pos le)
 
-pub own_color : (p : Puzzle) (t : List Move) (i : ℕ) → IsLaid p → 0 < i → i ≤ item_count p → get_or (nodes_after p t).color i 0 ≡ unwrap_or (purified i t) 0
+pub own_color : (p : Puzzle) (t : List Move) (i : ℕ) → IsLaid p → 0 < i → i ≤ item_count p
+    → get_or (nodes_after p t).color i 0 ≡ unwrap_or (purified i t) 0
 own_color p t i laid pos le = get_map (color_in p t) (layout p) i (own i) (laid.head i pos le)
 
 -- ---- states
@@ -66,7 +75,8 @@ purified_above p (Purify j d ∷ t) i c legal e =
     ] e
 purified_above p (_ ∷ t) i c legal e = purified_above p t i c legal.1 e
 
-pub purified_read : (p : Puzzle) (t : List Move) (i : ℕ) → AreLegal p t → not (eqb (unwrap_or (purified i t) 0) 0) ≡ is_some (purified i t)
+pub purified_read : (p : Puzzle) (t : List Move) (i : ℕ) → AreLegal p t
+    → not (eqb (unwrap_or (purified i t) 0) 0) ≡ is_some (purified i t)
 purified_read p t i legal = grind (arith, common_steps, ne_eqb, purified_above)
 
 -- ---- the number above, with 0 for none
@@ -78,16 +88,19 @@ above_named n xs = grind (arith, common_steps, ne_eqb, next_above-gt)
 
 primary_unpurified : (p : Puzzle) (t : List Move) (i : ℕ) → AreLegal p t → i ≤ primary_count p → purified i t ≡ None
 primary_unpurified p [] i legal le = grind (arith, common_steps, ne_eqb)
-primary_unpurified p (Purify j c ∷ t) i legal le = grind (arith, common_steps, ne_eqb, primary_unpurified p t i legal.1 le)
+primary_unpurified p (Purify j c ∷ t) i legal le =
+    grind (arith, common_steps, ne_eqb, primary_unpurified p t i legal.1 le)
 primary_unpurified p (_ ∷ t) i legal le = grind (arith, common_steps, ne_eqb, primary_unpurified p t i legal.1 le)
 
-same_filter : (f g : ℕ → Bool) (a n : ℕ) → ((k : ℕ) → k < a + n → f k ≡ g k) → filter f (range_with_len a n) ≡ filter g (range_with_len a n)
+same_filter : (f g : ℕ → Bool) (a n : ℕ) → ((k : ℕ) → k < a + n → f k ≡ g k)
+    → filter f (range_with_len a n) ≡ filter g (range_with_len a n)
 same_filter f g a zero h = refl
 same_filter f g a (suc n) h =
     ap₂ (λ b l. cond b (a ∷ l) l) (h a (omega arith)) (same_filter f g (a + 1) n (λ k lt. h k (omega (arith, lt))))
 
 -- the first ring's items are the open primary ones
-pub ring_open : (p : Puzzle) (t : List Move) (i : ℕ) → AreLegal p t → i ≤ primary_count p → ring_of p t i ≡ open_items p t
+pub ring_open : (p : Puzzle) (t : List Move) (i : ℕ) → AreLegal p t → i ≤ primary_count p
+    → ring_of p t i ≡ open_items p t
 ring_open p t i legal le = grind (arith, common_steps, le-leb, open_or_covered, primary_unpurified, same_filter)
 
 -- ---- the node by which an option uses an item, the option of a node, and the links downwards by option numbers
@@ -128,7 +141,8 @@ use_place p i m fit held =
     let k = length r.before in
     let s : suc m ≡ m + 1 = omega arith in
     let uses_are = there p.options m i held in
-    let use_is : slice_get us k ≡ Some r.use_of = ap (λ l. slice_get l k) r.is ∙ get_behind r.before (r.use_of ∷ r.behind) k 0 (omega arith) in
+    let use_is : slice_get us k ≡ Some r.use_of =
+    ap (λ l. slice_get l k) r.is ∙ get_behind r.before (r.use_of ∷ r.behind) k 0 (omega arith) in
     record {
       uses = us;
       index = k;
@@ -139,14 +153,16 @@ use_place p i m fit held =
       place = ap₂ (link_place p) (sym r.item) s ∙ use_at p m k us r.use_of fit uses_are use_is;
     }
 
-pub starts_below : (p : Puzzle) (i o : ℕ) → IsFit p → 0 < o → is_some (colour_in (uses_of p o) i) ≡ true → start_at p (o - 1) ≤ link_place p i o
+pub starts_below : (p : Puzzle) (i o : ℕ) → IsFit p → 0 < o → is_some (colour_in (uses_of p o) i) ≡ true
+    → start_at p (o - 1) ≤ link_place p i o
 starts_below p i zero fit pos held = absurd (omega (arith, pos))
 starts_below p i (suc m) fit pos held =
     let w = use_place p i m fit held in
     let same : suc m - 1 ≡ m = omega arith in
     subst (λ n. start_at p n ≤ link_place p i (suc m)) (sym same) (omega (arith, w.place))
 
-pub on_the_way : (p : Puzzle) (t : List Move) (i o q : ℕ) → IsLaid p → IsFit p → 0 < o → is_some (colour_in (uses_of p o) i) ≡ true → start_at p (o - 1) ≤ q → q ≤ link_place p i o → OnTheWay p t i o q
+pub on_the_way : (p : Puzzle) (t : List Move) (i o q : ℕ) → IsLaid p → IsFit p → 0 < o
+    → is_some (colour_in (uses_of p o) i) ≡ true → start_at p (o - 1) ≤ q → q ≤ link_place p i o → OnTheWay p t i o q
 on_the_way p t i zero q laid fit pos held from to = absurd (omega (arith, pos))
 on_the_way p t i (suc m) q laid fit pos held from to =
     let w = use_place p i m fit held in
@@ -159,9 +175,12 @@ on_the_way p t i (suc m) q laid fit pos held from to =
     let d : Use = record { item = 0; colour = 0 } in
     let u = get_or w.uses k d in
     let use_is : slice_get w.uses k ≡ Some u = slice_get-get_or w.uses k d (omega (arith, first, to, place, long)) in
-    let node : slice_get (layout p) q ≡ Some (used (m + 1) u) = use_here p m k q w.uses u w.uses_are use_is (omega (arith, first)) in
-    let top : get_or (nodes_after p t).top q 0 ≡ u.item = get_map (top_in (line_of p t)) (layout p) q (used (m + 1) u) node in
-    let here : u.item ≡ i → link_place p i (suc m) ≡ q = λ e. laid.unique q (used (m + 1) u) i (suc m) node (ap₂ (λ a b. Some (a, b)) e s) in
+    let node : slice_get (layout p) q ≡ Some (used (m + 1) u) =
+    use_here p m k q w.uses u w.uses_are use_is (omega (arith, first)) in
+    let top : get_or (nodes_after p t).top q 0 ≡ u.item =
+    get_map (top_in (line_of p t)) (layout p) q (used (m + 1) u) node in
+    let here : u.item ≡ i → link_place p i (suc m) ≡ q =
+    λ e. laid.unique q (used (m + 1) u) i (suc m) node (ap₂ (λ a b. Some (a, b)) e s) in
     let its_item : q ≡ link_place p i (suc m) → u.item ≡ i = λ e.
     let at : k ≡ w.index = omega (arith, e, place) in
     let one : Some u ≡ Some w.use_of = sym use_is ∙ ap (slice_get w.uses) at ∙ w.use_is in
@@ -184,36 +203,51 @@ spacer_behind p i m w =
     let next = place_next p m w.uses w.uses_are in
     ap (spacer_place p) (sym s) ∙ omega (arith, spacer_at p (m + 1) (omega (arith, some)), next)
 
-to_spacer : (p : Puzzle) (t : List Move) (i o q : ℕ) → IsLaid p → IsFit p → 0 < o → is_some (colour_in (uses_of p o) i) ≡ true → link_place p i o ≤ q → q ≤ spacer_place p o → ToSpacer p t o q
+to_spacer : (p : Puzzle) (t : List Move) (i o q : ℕ) → IsLaid p → IsFit p → 0 < o
+    → is_some (colour_in (uses_of p o) i) ≡ true → link_place p i o ≤ q → q ≤ spacer_place p o → ToSpacer p t o q
 to_spacer p t i zero q laid fit pos held from to = absurd (omega (arith, pos))
 to_spacer p t i (suc m) q laid fit pos held from to =
     let w = use_place p i m fit held in
     let place = w.place in
     let end = spacer_behind p i m w in
-    elim (ltb q (start_at p m + length w.uses)) as (λ b. ltb q (start_at p m + length w.uses) ≡ b → ToSpacer p t (suc m) q) [
+    elim (ltb q (start_at p m + length w.uses)) as
+    (λ b. ltb q (start_at p m + length w.uses) ≡ b → ToSpacer p t (suc m) q) [
       | true ↦ λ e.
           let lt = ltb-true q (start_at p m + length w.uses) e in
           let k = q - start_at p m in
           let d : Use = record { item = 0; colour = 0 } in
           let u = get_or w.uses k d in
           let use_is : slice_get w.uses k ≡ Some u = slice_get-get_or w.uses k d (omega (arith, from, lt, place)) in
-          let node : slice_get (layout p) q ≡ Some (used (m + 1) u) = use_here p m k q w.uses u w.uses_are use_is (omega (arith, from, place)) in
-          let top : get_or (nodes_after p t).top q 0 ≡ u.item = get_map (top_in (line_of p t)) (layout p) q (used (m + 1) u) node in
+          let node : slice_get (layout p) q ≡ Some (used (m + 1) u) =
+          use_here p m k q w.uses u w.uses_are use_is (omega (arith, from, place)) in
+          let top : get_or (nodes_after p t).top q 0 ≡ u.item =
+          get_map (top_in (line_of p t)) (layout p) q (used (m + 1) u) node in
           let most = (laid.nodes.ranged q (used (m + 1) u) u.item (m + 1) node refl).1 in
           let small = laid.small in
-          record { within = slice_get_within (layout p) q (used (m + 1) u) node; next = λ h. omega (arith, lt, end); number = λ h. absurd (omega (arith, h, top, most, small)) }
+          record {
+            within = slice_get_within (layout p) q (used (m + 1) u) node;
+            next = λ h. omega (arith, lt, end);
+            number = λ h. absurd (omega (arith, h, top, most, small));
+          }
       | false ↦ λ e.
           let ge = ltb-false q (start_at p m + length w.uses) e in
           let some = slice_get_within p.options m w.uses w.uses_are in
           let next = place_next p m w.uses w.uses_are in
           let at : q ≡ place_at p (m + 1) = omega (arith, ge, to, end, next) in
-          let node : slice_get (layout p) q ≡ Some (spacer (m + 1)) = ap (slice_get (layout p)) at ∙ spacer_here p (m + 1) (omega (arith, some)) in
-          let top : get_or (nodes_after p t).top q 0 ≡ SPACER + (m + 1) = get_map (top_in (line_of p t)) (layout p) q (spacer (m + 1)) node in
-          record { within = slice_get_within (layout p) q (spacer (m + 1)) node; next = λ h. absurd (omega (arith, h, top)); number = λ h. omega (arith, top) }
+          let node : slice_get (layout p) q ≡ Some (spacer (m + 1)) =
+          ap (slice_get (layout p)) at ∙ spacer_here p (m + 1) (omega (arith, some)) in
+          let top : get_or (nodes_after p t).top q 0 ≡ SPACER + (m + 1) =
+          get_map (top_in (line_of p t)) (layout p) q (spacer (m + 1)) node in
+          record {
+            within = slice_get_within (layout p) q (spacer (m + 1)) node;
+            next = λ h. absurd (omega (arith, h, top));
+            number = λ h. omega (arith, top);
+          }
     ] refl
 
 -- a node that isn't the item's own is of an option
-name_used : (p : Puzzle) (i place x : ℕ) → IsName p i x → place ≡ link_place p i x → place ≢ i → (0 < x) × (is_some (colour_in (uses_of p x) i) ≡ true)
+name_used : (p : Puzzle) (i place x : ℕ) → IsName p i x → place ≡ link_place p i x → place ≢ i → (0 < x)
+    × (is_some (colour_in (uses_of p x) i) ≡ true)
 name_used p i place x (inl z) at other = absurd (other (at ∙ ap (link_place p i) z))
 name_used p i place x (inr h) at other = h
 
@@ -221,9 +255,11 @@ name_used p i place x (inr h) at other = h
 pub record Seeks (p : Puzzle) (i place : ℕ) (top : List ℕ) (q : ℕ) : Type 0 where
   pub within : q < length (layout p)
   pub low : get_or top q 0 < SPACER → (x : ℕ) → IsName p i x → place ≡ link_place p i x → q + 1 ≤ spacer_place p x
-  pub high : SPACER ≤ get_or top q 0 → (x : ℕ) → IsName p i x → place ≡ link_place p i x → Some (get_or top q 0 - SPACER) ≡ named x
+  pub high : SPACER ≤ get_or top q 0 → (x : ℕ) → IsName p i x → place ≡ link_place p i x
+      → Some (get_or top q 0 - SPACER) ≡ named x
 
-pub seeks : (p : Puzzle) (t : List Move) (i place q : ℕ) → IsLaid p → IsFit p → IsNodeOf p i place → place ≢ i → place ≤ q → ((x : ℕ) → IsName p i x → place ≡ link_place p i x → q ≤ spacer_place p x) →
+pub seeks : (p : Puzzle) (t : List Move) (i place q : ℕ) → IsLaid p → IsFit p → IsNodeOf p i place → place ≢ i
+    → place ≤ q → ((x : ℕ) → IsName p i x → place ≡ link_place p i x → q ≤ spacer_place p x) →
     Seeks p i place (nodes_after p t).top q
 seeks p t i place q laid fit node other from to =
     let tells : (x : ℕ) → IsName p i x → place ≡ link_place p i x → ToSpacer p t x q = λ x name at.
@@ -249,9 +285,11 @@ above_name p t i n = by_next (next_above n ns) refl
 
     by_next : (o : Option ℕ) → next_above n ns ≡ o → IsName p i (unwrap_or o 0)
     by_next None e = inl refl
-    by_next (Some k) e = let gt = next_above-gt n k ns e in inr (omega (arith, gt), found (Named p i) ns k (numbers_named p t i) e)
+    by_next (Some k) e =
+        let gt = next_above-gt n k ns e in inr (omega (arith, gt), found (Named p i) ns k (numbers_named p t i) e)
 
-pub own_down : (p : Puzzle) (t : List Move) (i : ℕ) → IsLaid p → 0 < i → i ≤ item_count p → get_or (nodes_after p t).dlink i 0 ≡ link_place p i (first_above 0 0 (listed_numbers p t i))
+pub own_down : (p : Puzzle) (t : List Move) (i : ℕ) → IsLaid p → 0 < i → i ≤ item_count p
+    → get_or (nodes_after p t).dlink i 0 ≡ link_place p i (first_above 0 0 (listed_numbers p t i))
 own_down p t i laid pos le =
     get_map (dlink_in p (line_of p t)) (layout p) i (own i) (laid.head i pos le)
     ∙ ap (link_place p i) (sym (first_above-first 0 0 0 (listed_numbers p t i) (omega arith) (rises_listed p t i)))
@@ -265,7 +303,8 @@ pub record OwnNode (p : Puzzle) (t : List Move) (i : ℕ) (n : Nodes) : Type 0 w
   pub color : get_or n.color i 0 ≡ unwrap_or (purified i t) 0
   pub down : get_or n.dlink i 0 ≡ link_place p i (first_above 0 0 (listed_numbers p t i))
 
-pub own_node : (p : Puzzle) (t : List Move) (i : ℕ) (n : Nodes) (v : Linked) (m k : ℕ) → n ≡ nodes_after p t → IsLaid p → record { puzzle = p; trail = t; room = m; written = k } ≡ v → IsItem v.puzzle i → OwnNode p t i n
+pub own_node : (p : Puzzle) (t : List Move) (i : ℕ) (n : Nodes) (v : Linked) (m k : ℕ) → n ≡ nodes_after p t → IsLaid p
+    → record { puzzle = p; trail = t; room = m; written = k } ≡ v → IsItem v.puzzle i → OwnNode p t i n
 own_node p t i n v m k is laid seen item =
     let here : IsItem p i = subst (λ (w : Linked). IsItem w.puzzle i) (sym seen) item in
     let place = own_place p i laid here.0 here.1 in
@@ -281,11 +320,13 @@ own_node p t i n v m k is laid seen item =
 pub contained : (xs : List ℕ) (x : ℕ) → Contains xs x → is_in x xs ≡ true
 contained xs x h = grind (arith, common_steps, eq-eqb)
 
-below_now : (p : Puzzle) (t : List Move) (i o : ℕ) → is_in o (listed_numbers p t i) ≡ true → below_of p t i o ≡ first_above 0 o (listed_numbers p t i)
+below_now : (p : Puzzle) (t : List Move) (i o : ℕ) → is_in o (listed_numbers p t i) ≡ true
+    → below_of p t i o ≡ first_above 0 o (listed_numbers p t i)
 below_now p [] i o e = refl
 below_now p (m ∷ t) i o e = ap (λ b. cond b (first_above 0 o (listed_numbers p (m ∷ t) i)) (below_of p t i o)) e
 
-pub use_down : (p : Puzzle) (t : List Move) (i o : ℕ) → IsLaid p → 0 < i → i ≤ item_count p → 0 < o → is_some (colour_in (uses_of p o) i) ≡ true → is_in o (listed_numbers p t i) ≡ true →
+pub use_down : (p : Puzzle) (t : List Move) (i o : ℕ) → IsLaid p → 0 < i → i ≤ item_count p → 0 < o
+    → is_some (colour_in (uses_of p o) i) ≡ true → is_in o (listed_numbers p t i) ≡ true →
     get_or (nodes_after p t).dlink (link_place p i o) 0 ≡ link_place p i (first_above 0 o (listed_numbers p t i))
 use_down p t i zero laid pos le some held e = absurd (omega (arith, some))
 use_down p t i (suc m) laid pos le some held e =
@@ -294,18 +335,24 @@ use_down p t i (suc m) laid pos le some held e =
     ∙ ap (link_at p (λ j x. (line_of p t j).down x) (fixed_down p q.node)) q.slot
     ∙ ap (link_place p i) (below_now p t i (suc m) e)
 
-pub node_within : (p : Puzzle) (i o : ℕ) → IsLaid p → 0 < i → i ≤ item_count p → IsName p i o → link_place p i o < length (layout p)
-node_within p i o laid pos le name = let q = laid.there i o pos le name in slice_get_within (layout p) (link_place p i o) q.node q.at
+pub node_within : (p : Puzzle) (i o : ℕ) → IsLaid p → 0 < i → i ≤ item_count p → IsName p i o
+    → link_place p i o < length (layout p)
+node_within p i o laid pos le name =
+    let q = laid.there i o pos le name in slice_get_within (layout p) (link_place p i o) q.node q.at
 
 -- ---- the ring of primary items
 
-pub open_right : (p : Puzzle) (t : List Move) (i : ℕ) → AreLegal p t → (i ≡ 0) ⊎ IsOpenPrimary p t i → get_or (items_after p t).rlink i 0 ≡ first_above 0 i (open_items p t)
-open_right p t i legal (inl z) = grind (arith, common_steps, Rises-filter, Rises-range, first_above-first, le-leb, ring_open, row_get)
+pub open_right : (p : Puzzle) (t : List Move) (i : ℕ) → AreLegal p t → (i ≡ 0) ⊎ IsOpenPrimary p t i
+    → get_or (items_after p t).rlink i 0 ≡ first_above 0 i (open_items p t)
+open_right p t i legal (inl z) =
+    grind (arith, common_steps, Rises-filter, Rises-range, first_above-first, le-leb, ring_open, row_get)
 open_right p t i legal (inr h) = grind (arith, common_steps, ne_eqb, open_uncovered, right_now, ring_open, row_get)
 
-pub open_place : (p : Puzzle) (t : List Move) (i : ℕ) → (i ≡ 0) ⊎ IsOpenPrimary p t i → i < length (items_after p t).rlink
+pub open_place : (p : Puzzle) (t : List Move) (i : ℕ) → (i ≡ 0) ⊎ IsOpenPrimary p t i
+    → i < length (items_after p t).rlink
 open_place p t i (inl z) = let long = row_len (rlink_at p t) (item_count p + 2) in omega (arith, long, z)
-open_place p t i (inr h) = let long = row_len (rlink_at p t) (item_count p + 2) in let low = h.0.1 in omega (arith, long, low)
+open_place p t i (inr h) =
+    let long = row_len (rlink_at p t) (item_count p + 2) in let low = h.0.1 in omega (arith, long, low)
 
 -- the next number is one of them
 pub next_contained : (n k : ℕ) (xs : List ℕ) → next_above n xs ≡ Some k → Contains xs k

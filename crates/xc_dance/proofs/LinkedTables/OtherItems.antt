@@ -1,5 +1,6 @@
 -- The other items of an option: what its leaving does to the line of each, and that they are apart.
-use Rattle.std.proofs.Common.{◌≡◌, ℕ, Bool, true, false, not, cond, ◌&&◌, ◌||◌, eqb, List, [], ◌∷◌, map, filter, Some, refl, ap, sym, ◌∙◌, eqb-true, eq-eqb, ne_eqb, arith, ◌≢◌, ◌<◌, ◌≤◌, ◌++◌}
+use Rattle.std.proofs.Common.{◌≡◌, ℕ, Bool, true, false, not, cond, ◌&&◌, ◌||◌, eqb, List, [], ◌∷◌, map, filter, Some}
+use Rattle.std.proofs.Common.{refl, ap, sym, ◌∙◌, eqb-true, eq-eqb, ne_eqb, arith, ◌≢◌, ◌<◌, ◌≤◌, ◌++◌}
 use Rattle.std.specs.Prelude.{is_some}
 use Rattle.std.specs.List.{AllByRecursion}
 use Rattle.std.proofs.lemmas.Grind.{common_steps}
@@ -28,27 +29,36 @@ items_of [] k = grind (arith, common_steps)
 items_of (u ∷ us) k = grind (arith, common_steps, items_of us k)
 
 -- the other items are those that the option holds, but i
-pub others_by : (us : List Use) (i k : ℕ) → AreDistinct us → (is_in k (behind_use i us) || is_in k (before_use i us)) ≡ (not (eqb k i) && is_some (colour_in us k))
+pub others_by : (us : List Use) (i k : ℕ) → AreDistinct us
+    → (is_in k (behind_use i us) || is_in k (before_use i us)) ≡ (not (eqb k i) && is_some (colour_in us k))
 others_by [] i k d = elim (eqb k i) as (λ b. false ≡ (not b && false)) [ true ↦ refl | false ↦ refl ]
 others_by (u ∷ us) i k d =
-    elim (eqb u.item i) as (λ b. eqb u.item i ≡ b → (is_in k (cond b (map (λ v. v.item) us) (behind_use i us)) || is_in k (cond b [] (u.item ∷ before_use i us))) ≡ (not (eqb k i) && is_some (cond (eqb u.item k) (Some u.colour) (colour_in us k)))) [
+    elim (eqb u.item i) as (λ b. eqb u.item i ≡ b
+    → (is_in k (cond b (map (λ v. v.item) us) (behind_use i us)) || is_in k (cond b [] (u.item ∷ before_use i us)))
+    ≡ (not (eqb k i) && is_some (cond (eqb u.item k) (Some u.colour) (colour_in us k)))) [
       | true ↦ λ e.
           let at_i : u.item ≡ i = eqb-true u.item i e in
           or-false (is_in k (map (λ v. v.item) us)) ∙ items_of us k
-          ∙ elim (eqb u.item k) as (λ c. eqb u.item k ≡ c → is_some (colour_in us k) ≡ (not (eqb k i) && is_some (cond c (Some u.colour) (colour_in us k)))) [
+          ∙ elim (eqb u.item k) as
+          (λ c. eqb u.item k ≡ c → is_some (colour_in us k) ≡
+          (not (eqb k i) && is_some (cond c (Some u.colour) (colour_in us k)))) [
             | true ↦ λ f. grind (arith, common_steps, eq-eqb, eqb-true)
             | false ↦ λ f. grind (arith, common_steps, eqb-false, ne_eqb)
           ] refl
       | false ↦ λ e.
           or_swap (is_in k (behind_use i us)) (eqb u.item k) (is_in k (before_use i us))
-          ∙ elim (eqb u.item k) as (λ c. eqb u.item k ≡ c → (c || (is_in k (behind_use i us) || is_in k (before_use i us))) ≡ (not (eqb k i) && is_some (cond c (Some u.colour) (colour_in us k)))) [
+          ∙ elim (eqb u.item k) as
+          (λ c. eqb u.item k ≡ c → (c || (is_in k (behind_use i us) || is_in k (before_use i us))) ≡
+          (not (eqb k i) && is_some (cond c (Some u.colour) (colour_in us k)))) [
             | true ↦ λ f. grind (arith, common_steps, eqb-false, eqb-true, ne_eqb)
             | false ↦ λ f. others_by us i k d.1
           ] refl
     ] refl
 
-pub in_others : (p : Puzzle) (o i k : ℕ) → AreDistinct (uses_of p o) → is_in k (other_items p o i) ≡ (not (eqb k i) && is_some (colour_in (uses_of p o) k))
-in_others p o i k d = list_any-append (λ j. eqb j k) (behind_use i (uses_of p o)) (before_use i (uses_of p o)) ∙ others_by (uses_of p o) i k d
+pub in_others : (p : Puzzle) (o i k : ℕ) → AreDistinct (uses_of p o)
+    → is_in k (other_items p o i) ≡ (not (eqb k i) && is_some (colour_in (uses_of p o) k))
+in_others p o i k d = list_any-append (λ j. eqb j k) (behind_use i (uses_of p o)) (before_use i (uses_of p o))
+    ∙ others_by (uses_of p o) i k d
 
 -- ---- apart
 
@@ -72,9 +82,11 @@ abbrev pub EachApart : Puzzle → ℕ → List ℕ → Type 0
 EachApart p i [] = Unit {0}
 EachApart p i (o ∷ os) = AllApart (other_items p o i) × EachApart p i os
 
-pub list_at : (p : Puzzle) (col : Node → ℕ) (i : ℕ) (ln : ℕ → Line) (os : List ℕ) (k : ℕ) → EachApart p i os → left_list p col i ln os k ≡ cuts (ln k) (filter (leaves p col i k) os)
+pub list_at : (p : Puzzle) (col : Node → ℕ) (i : ℕ) (ln : ℕ → Line) (os : List ℕ) (k : ℕ) → EachApart p i os
+    → left_list p col i ln os k ≡ cuts (ln k) (filter (leaves p col i k) os)
 list_at p col i ln [] k apart = grind (arith, common_steps, all_at)
-list_at p col i ln (o ∷ os) k apart = grind (arith, common_steps, all_at, list_at p col i (left_all p col o ln (other_items p o i)) os k apart.1)
+list_at p col i ln (o ∷ os) k apart =
+    grind (arith, common_steps, all_at, list_at p col i (left_all p col o ln (other_items p o i)) os k apart.1)
 
 -- ---- the other items of an option are apart from each other and from its own
 
@@ -82,7 +94,8 @@ apart_insert : (x k : ℕ) (xs ys : List ℕ) → k ≢ x → IsApart x (xs ++ y
 apart_insert x k [] ys ne h = (ne, h)
 apart_insert x k (y ∷ xs) ys ne h = (h.0, apart_insert x k xs ys ne h.1)
 
-all_insert : (k : ℕ) (xs ys : List ℕ) → (is_in k xs || is_in k ys) ≡ false → AllApart (xs ++ ys) → AllApart (xs ++ k ∷ ys)
+all_insert : (k : ℕ) (xs ys : List ℕ) → (is_in k xs || is_in k ys) ≡ false → AllApart (xs ++ ys)
+    → AllApart (xs ++ k ∷ ys)
 all_insert k [] ys e h = (apart_from k ys e, h)
 all_insert k (x ∷ xs) ys e h =
     elim (eqb x k) as (λ b. eqb x k ≡ b → ((b || is_in k xs) || is_in k ys) ≡ false → AllApart (x ∷ (xs ++ k ∷ ys))) [
@@ -100,7 +113,8 @@ append_none (x ∷ xs) h = grind (arith, common_steps, append_none xs h.1)
 
 others_apart_of : (us : List Use) (i : ℕ) → AreDistinct us → AllApart (behind_use i us ++ before_use i us)
 others_apart_of [] i d = grind (arith, common_steps, all_insert, append_none, items_apart, others_by)
-others_apart_of (u ∷ us) i d = grind (arith, common_steps, all_insert, append_none, items_apart, others_by, others_apart_of us i d.1)
+others_apart_of (u ∷ us) i d =
+    grind (arith, common_steps, all_insert, append_none, items_apart, others_by, others_apart_of us i d.1)
 
 pub others_apart : (p : Puzzle) (o i : ℕ) → IsFit p → AllApart (other_items p o i)
 others_apart p o i fit = others_apart_of (uses_of p o) i (fit.distinct o)
@@ -109,14 +123,19 @@ pub each_apart : (p : Puzzle) (i : ℕ) (os : List ℕ) → IsFit p → EachApar
 each_apart p i [] fit = tt
 each_apart p i (o ∷ os) fit = (others_apart p o i fit, each_apart p i os fit)
 
-pub item_range : (p : Puzzle) (us : List Use) (j : ℕ) → AllByRecursion (λ u. (0 < u.item) × (u.item ≤ item_count p)) us → is_some (colour_in us j) ≡ true → (0 < j) × (j ≤ item_count p)
+pub item_range : (p : Puzzle) (us : List Use) (j : ℕ) → AllByRecursion (λ u. (0 < u.item) × (u.item ≤ item_count p)) us
+    → is_some (colour_in us j) ≡ true → (0 < j) × (j ≤ item_count p)
 item_range p [] j a e = absurd (false≢true e)
 item_range p (u ∷ us) j a e =
-    elim (eqb u.item j) as (λ b. eqb u.item j ≡ b → is_some (cond b (Some u.colour) (colour_in us j)) ≡ true → (0 < j) × (j ≤ item_count p)) [
-      | true ↦ λ f g. let same : u.item ≡ j = eqb-true u.item j f in (omega (arith, a.0.0, same), omega (arith, a.0.1, same))
+    elim (eqb u.item j) as (λ b. eqb u.item j ≡ b → is_some (cond b (Some u.colour) (colour_in us j)) ≡ true → (0 < j)
+    × (j ≤ item_count p)) [
+      | true ↦ λ f g. let same : u.item ≡ j =
+          eqb-true u.item j f in (omega (arith, a.0.0, same), omega (arith, a.0.1, same))
       | false ↦ λ f g. item_range p us j a.1 g
     ] refl e
 
 -- the item itself isn't among them
 pub own_apart : (p : Puzzle) (i o : ℕ) → IsFit p → IsApart i (other_items p o i)
-own_apart p i o fit = apart_from i (other_items p o i) (in_others p o i i (fit.distinct o) ∙ ap (λ b. not b && is_some (colour_in (uses_of p o) i)) (eq-eqb i i refl))
+own_apart p i o fit =
+    apart_from i (other_items p o i)
+    (in_others p o i i (fit.distinct o) ∙ ap (λ b. not b && is_some (colour_in (uses_of p o) i)) (eq-eqb i i refl))

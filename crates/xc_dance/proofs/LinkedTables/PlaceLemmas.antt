@@ -1,17 +1,22 @@
 -- Where the nodes of each option stand in the node table, between which spacers, and its span.
-use Rattle.std.proofs.Common.{◌≡◌, ℕ, zero, suc, ◌+◌, ◌≤◌, List, [], ◌∷◌, ◌++◌, length, map, Some, refl, ap, sym, ◌∙◌, arith, ◌<◌, get_or, false, subst, ne_eqb, eq-eqb, eqb-true, ◌-◌, true, cond, eqb, ap₂, lt-ltb}
+use Rattle.std.proofs.Common.{◌≡◌, ℕ, zero, suc, ◌+◌, ◌≤◌, List, [], ◌∷◌, ◌++◌, length, map, Some, refl, ap, sym, ◌∙◌}
+use Rattle.std.proofs.Common.{arith, ◌<◌, get_or, false, subst, ne_eqb, eq-eqb, eqb-true, ◌-◌, true, cond, eqb, ap₂}
+use Rattle.std.proofs.Common.{lt-ltb}
 use Rattle.xc_input.proofs.OptionLemmas.NumberedOptions.{numbered_from}
 use Rattle.std.specs.Prelude.{slice_get, flat_map, option_map, sum_by, unwrap_or, is_some}
 use Rattle.std.specs.List.{range_with_len}
 use Rattle.std.proofs.lemmas.Grind.{common_steps}
-use Rattle.std.proofs.lemmas.Option.{slice_get-map, same_Some, slice_get-get_or, slice_get_within, get_or_from_slice_get}
+use Rattle.std.proofs.lemmas.Option.{slice_get-map, same_Some, slice_get-get_or, slice_get_within}
+use Rattle.std.proofs.lemmas.Option.{get_or_from_slice_get}
 use Rattle.std.proofs.lemmas.List.{length-map, length-append, append_assoc}
 use Rattle.std.proofs.lemmas.List.Sums.{sum_by-cons}
 use Rattle.std.proofs.lemmas.List.FromFn.{length-map-range_with_len}
 use Rattle.std.proofs.lemmas.Bool.{false≢true}
 use Rattle.xc_input.specs.declared.problem.Use.{Use}
-use Rattle.xc_input.specs.Problem.{Puzzle, numbered_get, uses_of, item_count, option_count, IsWithinLimits, Numbered, numbered_options, colour_in}
-use Rattle.xc_dance.specs.Fields.{Node, spacer, used, nodes_of, unused, own, layout, is_spacer, spacer_place, link_place}
+use Rattle.xc_input.specs.Problem.{Puzzle, numbered_get, uses_of, item_count, option_count, IsWithinLimits, Numbered}
+use Rattle.xc_input.specs.Problem.{numbered_options, colour_in}
+use Rattle.xc_dance.specs.Fields.{Node, spacer, used, nodes_of, unused, own, layout, is_spacer, spacer_place}
+use Rattle.xc_dance.specs.Fields.{link_place}
 use Rattle.xc_dance.specs.inner.Links.OptionPlaces.{reach, place_at, start_at}
 use Rattle.xc_dance.specs.inner.Links.Laid.{IsFit}
 use Rattle.xc_dance.specs.inner.Links.Span.{Span}
@@ -27,7 +32,8 @@ use Rattle.xc_dance.proofs.MoveLemmas.OptionsRise.{NumbersRise-from, NumbersRise
 
 -- ---- lists in two parts
 
-pub get_front : {X : Type 0} (xs ys : List X) (k : ℕ) (x : X) → slice_get xs k ≡ Some x → slice_get (xs ++ ys) k ≡ Some x
+pub get_front : {X : Type 0} (xs ys : List X) (k : ℕ) (x : X) → slice_get xs k ≡ Some x
+    → slice_get (xs ++ ys) k ≡ Some x
 get_front [] ys k x e = cc
 get_front (a ∷ xs) ys zero x e = e
 get_front (a ∷ xs) ys (suc k) x e = get_front xs ys k x e
@@ -37,7 +43,8 @@ get_behind [] ys n k e = let z : n ≡ k = omega (arith, e) in ap (slice_get ys)
 get_behind (a ∷ xs) ys zero k e = absurd (omega (arith, e))
 get_behind (a ∷ xs) ys (suc n) k e = get_behind xs ys n k (omega (arith, e))
 
-pub get_used : (o : ℕ) (us : List Use) (k : ℕ) (u : Use) → slice_get us k ≡ Some u → slice_get (map (used o) us) k ≡ Some (used o u)
+pub get_used : (o : ℕ) (us : List Use) (k : ℕ) (u : Use) → slice_get us k ≡ Some u
+    → slice_get (map (used o) us) k ≡ Some (used o u)
 get_used o us k u e = slice_get-map (used o) us k ∙ ap (option_map (used o)) e
 
 -- ---- the part from the first spacer on
@@ -46,10 +53,13 @@ abbrev pub tail_from : ℕ → List (List Use) → List Node
 tail_from n os = spacer n ∷ flat_map nodes_of (numbered_from (n + 1) os)
 
 -- behind the first option's nodes the same begins anew
-pub next_tail : (n : ℕ) (us : List Use) (os : List (List Use)) → flat_map nodes_of (numbered_from (n + 1) (us ∷ os)) ≡ map (used (n + 1)) us ++ tail_from (n + 1) os
-next_tail n us os = append_assoc (map (used (n + 1)) us) (spacer (n + 1) ∷ []) (flat_map nodes_of (numbered_from (n + 1 + 1) os))
+pub next_tail : (n : ℕ) (us : List Use) (os : List (List Use))
+    → flat_map nodes_of (numbered_from (n + 1) (us ∷ os)) ≡ map (used (n + 1)) us ++ tail_from (n + 1) os
+next_tail n us os =
+    append_assoc (map (used (n + 1)) us) (spacer (n + 1) ∷ []) (flat_map nodes_of (numbered_from (n + 1 + 1) os))
 
-pub spacer_get : (n o : ℕ) (os : List (List Use)) → o ≤ length os → slice_get (tail_from n os) (reach os o) ≡ Some (spacer (n + o))
+pub spacer_get : (n o : ℕ) (os : List (List Use)) → o ≤ length os
+    → slice_get (tail_from n os) (reach os o) ≡ Some (spacer (n + o))
 spacer_get n zero [] le = let z : n ≡ n + 0 = omega arith in ap (λ k. Some (spacer k)) z
 spacer_get n zero (us ∷ os) le = let z : n ≡ n + 0 = omega arith in ap (λ k. Some (spacer k)) z
 spacer_get n (suc o) [] le = absurd (omega (arith, le))
@@ -58,10 +68,12 @@ spacer_get n (suc o) (us ∷ os) le =
     let s : n + 1 + o ≡ n + suc o = omega arith in
     ap (slice_get (tail_from n (us ∷ os))) at
     ∙ ap (λ l. slice_get l (length us + reach os o)) (next_tail n us os)
-    ∙ get_behind (map (used (n + 1)) us) (tail_from (n + 1) os) (length us + reach os o) (reach os o) (omega (arith, length-map us (used (n + 1))))
+    ∙ get_behind (map (used (n + 1)) us) (tail_from (n + 1) os) (length us + reach os o) (reach os o)
+    (omega (arith, length-map us (used (n + 1))))
     ∙ spacer_get (n + 1) o os (omega (arith, le)) ∙ ap (λ k. Some (spacer k)) s
 
-pub use_get : (n o k : ℕ) (os : List (List Use)) (us : List Use) (u : Use) → slice_get os o ≡ Some us → slice_get us k ≡ Some u →
+pub use_get : (n o k : ℕ) (os : List (List Use)) (us : List Use) (u : Use) → slice_get os o ≡ Some us
+    → slice_get us k ≡ Some u →
     slice_get (tail_from n os) (reach os o + 1 + k) ≡ Some (used (n + o + 1) u)
 use_get n o k [] us u e f = cc
 use_get n zero k (vs ∷ os) us u e f =
@@ -69,14 +81,16 @@ use_get n zero k (vs ∷ os) us u e f =
     let s : n + 1 ≡ n + 0 + 1 = omega arith in
     ap (slice_get (tail_from n (vs ∷ os))) at
     ∙ ap (λ l. slice_get l k) (next_tail n vs os)
-    ∙ get_front (map (used (n + 1)) vs) (tail_from (n + 1) os) k (used (n + 1) u) (get_used (n + 1) vs k u (ap (λ l. slice_get l k) (same_Some vs us e) ∙ f))
+    ∙ get_front (map (used (n + 1)) vs) (tail_from (n + 1) os) k (used (n + 1) u)
+    (get_used (n + 1) vs k u (ap (λ l. slice_get l k) (same_Some vs us e) ∙ f))
     ∙ ap (λ j. Some (used j u)) s
 use_get n (suc o) k (vs ∷ os) us u e f =
     let at : length vs + 1 + reach os o + 1 + k ≡ suc (length vs + (reach os o + 1 + k)) = omega arith in
     let s : n + 1 + o + 1 ≡ n + suc o + 1 = omega arith in
     ap (slice_get (tail_from n (vs ∷ os))) at
     ∙ ap (λ l. slice_get l (length vs + (reach os o + 1 + k))) (next_tail n vs os)
-    ∙ get_behind (map (used (n + 1)) vs) (tail_from (n + 1) os) (length vs + (reach os o + 1 + k)) (reach os o + 1 + k) (omega (arith, length-map vs (used (n + 1))))
+    ∙ get_behind (map (used (n + 1)) vs) (tail_from (n + 1) os) (length vs + (reach os o + 1 + k)) (reach os o + 1 + k)
+    (omega (arith, length-map vs (used (n + 1))))
     ∙ use_get (n + 1) o k os us u e f ∙ ap (λ j. Some (used j u)) s
 
 pub length_tail : (n : ℕ) (os : List (List Use)) → length (tail_from n os) ≡ reach os (length os) + 1
@@ -87,14 +101,16 @@ pub reach_zero : (os : List (List Use)) → reach os 0 ≡ 0
 reach_zero [] = refl
 reach_zero (us ∷ os) = refl
 
-pub reach_next : (os : List (List Use)) (o : ℕ) (us : List Use) → slice_get os o ≡ Some us → reach os (o + 1) ≡ reach os o + length us + 1
+pub reach_next : (os : List (List Use)) (o : ℕ) (us : List Use) → slice_get os o ≡ Some us
+    → reach os (o + 1) ≡ reach os o + length us + 1
 reach_next [] o us e = grind (arith, common_steps, reach_zero, same_Some)
 reach_next (vs ∷ os) zero us e = grind (arith, common_steps, reach_zero, same_Some)
 reach_next (vs ∷ os) (suc o) us e = grind (arith, common_steps, reach_zero, same_Some, reach_next os o us e)
 
 pub reach_most : (os : List (List Use)) → reach os (length os) ≡ sum_by (λ us. length us) os + length os
 reach_most [] = refl
-reach_most (us ∷ os) = let rest = reach_most os in let sum = sum_by-cons (λ (vs : List Use). length vs) us os in omega (arith, rest, sum)
+reach_most (us ∷ os) =
+    let rest = reach_most os in let sum = sum_by-cons (λ (vs : List Use). length vs) us os in omega (arith, rest, sum)
 
 -- the uses of an option that there is
 pub uses_here : (p : Puzzle) (o : ℕ) (us : List Use) → numbered_get p.options o ≡ Some us → us ≡ uses_of p o
@@ -120,13 +136,15 @@ spacer_here p o le =
     get_behind (front p) (tail_from 0 p.options) (place_at p o) (reach p.options o) (omega (arith, length_front p))
     ∙ spacer_get 0 o p.options le ∙ ap (λ k. Some (spacer k)) z
 
-pub use_here : (p : Puzzle) (o k n : ℕ) (us : List Use) (u : Use) → slice_get p.options o ≡ Some us → slice_get us k ≡ Some u → n ≡ place_at p o + 1 + k → slice_get (layout p) n ≡ Some (used (o + 1) u)
+pub use_here : (p : Puzzle) (o k n : ℕ) (us : List Use) (u : Use) → slice_get p.options o ≡ Some us
+    → slice_get us k ≡ Some u → n ≡ place_at p o + 1 + k → slice_get (layout p) n ≡ Some (used (o + 1) u)
 use_here p o k n us u e f at =
     let z : 0 + o + 1 ≡ o + 1 = omega arith in
     get_behind (front p) (tail_from 0 p.options) n (reach p.options o + 1 + k) (omega (arith, length_front p, at))
     ∙ use_get 0 o k p.options us u e f ∙ ap (λ j. Some (used j u)) z
 
-pub place_next : (p : Puzzle) (o : ℕ) (us : List Use) → slice_get p.options o ≡ Some us → place_at p (o + 1) ≡ place_at p o + 1 + length us
+pub place_next : (p : Puzzle) (o : ℕ) (us : List Use) → slice_get p.options o ≡ Some us
+    → place_at p (o + 1) ≡ place_at p o + 1 + length us
 place_next p o us e = let h = reach_next p.options o us e in omega (arith, h)
 
 pub place_first : (p : Puzzle) → place_at p 0 ≡ item_count p + 1
@@ -138,7 +156,8 @@ layout_len p =
 
 -- ---- an option that there is
 
-pub option_get : (p : Puzzle) (o : ℕ) (us : List Use) → o < option_count p → us ≡ uses_of p (o + 1) → slice_get p.options o ≡ Some us
+pub option_get : (p : Puzzle) (o : ℕ) (us : List Use) → o < option_count p → us ≡ uses_of p (o + 1)
+    → slice_get p.options o ≡ Some us
 option_get p o us lt is =
     let e = slice_get-get_or p.options o [] lt in
     e ∙ ap Some (sym (is ∙ uses_at p o (get_or p.options o []) e))
@@ -147,7 +166,8 @@ pub reach_grows : (os : List (List Use)) (o n : ℕ) → o ≤ n → n ≤ lengt
 reach_grows [] o n le most = omega arith
 reach_grows (us ∷ os) zero n le most = omega arith
 reach_grows (us ∷ os) (suc o) zero le most = absurd (omega (arith, le))
-reach_grows (us ∷ os) (suc o) (suc n) le most = let rest = reach_grows os o n (omega (arith, le)) (omega (arith, most)) in omega (arith, rest)
+reach_grows (us ∷ os) (suc o) (suc n) le most =
+    let rest = reach_grows os o n (omega (arith, le)) (omega (arith, most)) in omega (arith, rest)
 
 pub layout_small : (p : Puzzle) → IsWithinLimits p → length (layout p) ≤ 20100002
 layout_small p limits = grind (arith, common_steps, layout_len, reach_most)
@@ -163,7 +183,8 @@ pub record OptionFits (p : Puzzle) (o : ℕ) (us : List Use) : Type 0 where
   pub within : place_at p (o + 1) < length (layout p)
   pub small : length (layout p) ≤ 20100002
 
-pub option_fits : (p : Puzzle) (o : ℕ) (us : List Use) → IsWithinLimits p → o < option_count p → us ≡ uses_of p (o + 1) → OptionFits p o us
+pub option_fits : (p : Puzzle) (o : ℕ) (us : List Use) → IsWithinLimits p → o < option_count p → us ≡ uses_of p (o + 1)
+    → OptionFits p o us
 option_fits p o us limits lt is = grind (arith, common_steps, layout_small, option_get, place_next, place_within)
 
 -- ---- a spacer stands at one place, and so does each use
@@ -176,25 +197,36 @@ pub own_no_spacer : (s : ℕ) (js : List ℕ) → NonePass (is_spacer s) (map ow
 own_no_spacer s [] = tt
 own_no_spacer s (j ∷ js) = (refl, own_no_spacer s js)
 
-pub flat_no_spacer : (s n : ℕ) (os : List Numbered) → s ≤ n → NumbersRise n os → NonePass (is_spacer s) (flat_map nodes_of os)
+pub flat_no_spacer : (s n : ℕ) (os : List Numbered) → s ≤ n → NumbersRise n os
+    → NonePass (is_spacer s) (flat_map nodes_of os)
 flat_no_spacer s n [] le r = tt
 flat_no_spacer s n (x ∷ os) le r =
     each-append (λ m. is_spacer s m ≡ false) (nodes_of x) (flat_map nodes_of os)
-    (each-append (λ m. is_spacer s m ≡ false) (map (used x.number) x.uses) (spacer x.number ∷ []) (used_no_spacer s x.number x.uses) (ne_eqb x.number s (λ e. omega (arith, e, le, r.0)), tt))
+    (each-append (λ m. is_spacer s m ≡ false) (map (used x.number) x.uses) (spacer x.number ∷ [])
+    (used_no_spacer s x.number x.uses) (ne_eqb x.number s (λ e. omega (arith, e, le, r.0)), tt))
     (flat_no_spacer s x.number os (omega (arith, le, r.0)) r.1)
 
 pub flat_one_spacer : (s n : ℕ) (os : List Numbered) → NumbersRise n os → OnePasses (is_spacer s) (flat_map nodes_of os)
 flat_one_spacer s n [] r = tt
 flat_one_spacer s n (x ∷ os) r =
-    subst (OnePasses (is_spacer s)) (sym (append_assoc (map (used x.number) x.uses) (spacer x.number ∷ []) (flat_map nodes_of os)))
-    (one_right (is_spacer s) (map (used x.number) x.uses) (spacer x.number ∷ flat_map nodes_of os) (used_no_spacer s x.number x.uses)
-    ((λ e. let same = eqb-true x.number s e in flat_no_spacer s x.number os (omega (arith, same)) r.1), flat_one_spacer s x.number os r.1))
+    subst (OnePasses (is_spacer s))
+    (sym (append_assoc (map (used x.number) x.uses) (spacer x.number ∷ []) (flat_map nodes_of os)))
+    (one_right (is_spacer s) (map (used x.number) x.uses) (spacer x.number ∷ flat_map nodes_of os)
+    (used_no_spacer s x.number x.uses) (
+      (λ e. let same = eqb-true x.number s e in flat_no_spacer s x.number os (omega (arith, same)) r.1),
+      flat_one_spacer
+          s x.number os r.1,
+    ))
 
 pub spacer_one : (p : Puzzle) (s : ℕ) → OnePasses (is_spacer s) (layout p)
 spacer_one p s = (
   (λ e. absurd (false≢true e)),
-  one_right (is_spacer s) (map own (range_with_len 1 (item_count p))) (tail_from 0 p.options) (own_no_spacer s (range_with_len 1 (item_count p)))
-      ((λ e. let same = eqb-true 0 s e in flat_no_spacer s 0 (numbered_options p) (omega (arith, same)) (NumbersRise-from 0 p.options)), flat_one_spacer s 0 (numbered_options p) (NumbersRise-from 0 p.options)),
+  one_right (is_spacer s) (map own (range_with_len 1 (item_count p))) (tail_from 0 p.options)
+      (own_no_spacer s (range_with_len 1 (item_count p))) (
+        (λ e. let same = eqb-true 0 s e in flat_no_spacer s 0 (numbered_options p) (omega (arith, same))
+            (NumbersRise-from 0 p.options)),
+        flat_one_spacer s 0 (numbered_options p) (NumbersRise-from 0 p.options),
+      ),
 )
 
 -- where a spacer stands is its place
@@ -205,10 +237,13 @@ pub spacer_at : (p : Puzzle) (o : ℕ) → o ≤ option_count p → spacer_place
 spacer_at p o le = spacer_is p (place_at p o) o (spacer_here p o le)
 
 -- where a use's node stands is its place
-pub use_at : (p : Puzzle) (o k : ℕ) (us : List Use) (u : Use) → IsFit p → slice_get p.options o ≡ Some us → slice_get us k ≡ Some u → link_place p u.item (o + 1) ≡ place_at p o + 1 + k
+pub use_at : (p : Puzzle) (o k : ℕ) (us : List Use) (u : Use) → IsFit p → slice_get p.options o ≡ Some us
+    → slice_get us k ≡ Some u → link_place p u.item (o + 1) ≡ place_at p o + 1 + k
 use_at p o k us u fit e f =
     let s : o + 1 ≡ suc o = omega arith in
-    ap (link_place p u.item) s ∙ place_is p (place_at p o + 1 + k) (suc o) u fit (use_here p o k (place_at p o + 1 + k) us u e f refl ∙ ap (λ j. Some (used j u)) s)
+    ap (link_place p u.item) s
+    ∙ place_is p (place_at p o + 1 + k) (suc o) u fit
+    (use_here p o k (place_at p o + 1 + k) us u e f refl ∙ ap (λ j. Some (used j u)) s)
 
 -- ---- each node of an option has the option's span
 
@@ -227,8 +262,17 @@ pub record Parted (us : List Use) (i : ℕ) : Type 0 where
 pub parted : (us : List Use) (i : ℕ) → is_some (colour_in us i) ≡ true → Parted us i
 parted [] i e = absurd (false≢true e)
 parted (u ∷ us) i e =
-    elim (eqb u.item i) as (λ b. eqb u.item i ≡ b → is_some (cond b (Some u.colour) (colour_in us i)) ≡ true → Parted (u ∷ us) i) [
-      | true ↦ λ same f. record { before = []; use_of = u; behind = us; is = refl; item = eqb-true u.item i same; items_before = rw same refl; items_behind = rw same refl }
+    elim (eqb u.item i) as (λ b. eqb u.item i ≡ b → is_some (cond b (Some u.colour) (colour_in us i)) ≡ true
+    → Parted (u ∷ us) i) [
+      | true ↦ λ same f. record {
+        before = [];
+        use_of = u;
+        behind = us;
+        is = refl;
+        item = eqb-true u.item i same;
+        items_before = rw same refl;
+        items_behind = rw same refl;
+      }
       | false ↦ λ other f.
           let r = parted us i f in
           record {
@@ -245,39 +289,51 @@ parted (u ∷ us) i e =
 -- ---- places in a row
 
 -- the nodes of these uses stand one behind another from place a on
-pub row : (p : Puzzle) (o a n : ℕ) (us : List Use) → n ≡ length us → ((k : ℕ) (u : Use) → slice_get us k ≡ Some u → link_place p u.item o ≡ a + k) →
+pub row : (p : Puzzle) (o a n : ℕ) (us : List Use) → n ≡ length us
+    → ((k : ℕ) (u : Use) → slice_get us k ≡ Some u → link_place p u.item o ≡ a + k) →
     range_with_len a n ≡ map (λ j. link_place p j o) (map (λ v. v.item) us)
 row p o a n [] e at = let z : n ≡ 0 = omega (arith, e) in ap (range_with_len a) z
 row p o a zero (u ∷ us) e at = absurd (omega (arith, e))
 row p o a (suc n) (u ∷ us) e at =
     let z : a + 0 ≡ a = omega arith in
     ap₂ (λ x xs. x ∷ xs) (sym (at 0 u refl ∙ z))
-    (row p o (a + 1) n us (omega (arith, e)) (λ k v f. (let s : a + suc k ≡ a + 1 + k = omega arith in at (suc k) v f ∙ s)))
+    (row p o (a + 1) n us (omega (arith, e))
+    (λ k v f. (let s : a + suc k ≡ a + 1 + k = omega arith in at (suc k) v f ∙ s)))
 
 -- ---- one option
 
 -- the span of a use's node
-pub span_here : (p : Puzzle) (o k : ℕ) (us : List Use) (u : Use) → o < option_count p → slice_get p.options o ≡ Some us → slice_get us k ≡ Some u → (d : Span) →
-    get_or (spans_of p) (place_at p o + 1 + k) d ≡ (let s : Span = record { first = place_at p o + 1; end = place_at p o + 1 + length us } in s)
+pub span_here : (p : Puzzle) (o k : ℕ) (us : List Use) (u : Use) → o < option_count p → slice_get p.options o ≡ Some us
+    → slice_get us k ≡ Some u → (d : Span) →
+    get_or (spans_of p) (place_at p o + 1 + k) d ≡
+    (let s : Span = record { first = place_at p o + 1; end = place_at p o + 1 + length us } in s)
 span_here p o k us u lt e f d =
     let at = use_here p o k (place_at p o + 1 + k) us u e f refl in
-    let first : spacer_place p (o + 1 - 1) + 1 ≡ place_at p o + 1 = (let z : o + 1 - 1 ≡ o = omega arith in ap (λ n. spacer_place p n + 1) z ∙ ap (λ n. n + 1) (spacer_at p o (omega (arith, lt)))) in
-    let end : spacer_place p (o + 1) ≡ place_at p o + 1 + length us = spacer_at p (o + 1) (omega (arith, lt)) ∙ place_next p o us e in
+    let first : spacer_place p (o + 1 - 1) + 1 ≡ place_at p o + 1 =
+    (let z : o + 1 - 1 ≡ o =
+    omega arith in ap (λ n. spacer_place p n + 1) z ∙ ap (λ n. n + 1) (spacer_at p o (omega (arith, lt)))) in
+    let end : spacer_place p (o + 1) ≡ place_at p o + 1 + length us =
+    spacer_at p (o + 1) (omega (arith, lt)) ∙ place_next p o us e in
     let span : ℕ → ℕ → Span = λ a b. record { first = a; end = b } in
-    get_or_from_slice_get (spans_of p) (place_at p o + 1 + k) (span_of p (used (o + 1) u)) d (slice_get-map (span_of p) (layout p) (place_at p o + 1 + k) ∙ ap (option_map (span_of p)) at)
+    get_or_from_slice_get (spans_of p) (place_at p o + 1 + k) (span_of p (used (o + 1) u)) d
+    (slice_get-map (span_of p) (layout p) (place_at p o + 1 + k) ∙ ap (option_map (span_of p)) at)
     ∙ ap₂ span first end
 
 -- the places behind the node of a use, and those before it
-behind_all : (p : Puzzle) (o x : ℕ) (before behind us : List Use) (u : Use) → IsFit p → slice_get p.options o ≡ Some us → us ≡ before ++ u ∷ behind → x ≡ place_at p o + 1 + length before →
+behind_all : (p : Puzzle) (o x : ℕ) (before behind us : List Use) (u : Use) → IsFit p → slice_get p.options o ≡ Some us
+    → us ≡ before ++ u ∷ behind → x ≡ place_at p o + 1 + length before →
     places (x + 1) (place_at p o + 1 + length us) ≡ map (λ j. link_place p j (o + 1)) (map (λ v. v.item) behind)
 behind_all p o x before behind us u fit e is at =
     let a = place_at p o + 1 in
     let size = ap length is ∙ length-append before (u ∷ behind) in
     row p (o + 1) (x + 1) (a + length us - (x + 1)) behind (omega (arith, size, at))
     (λ k v f. (let n : a + (length before + suc k) ≡ x + 1 + k = omega (arith, at) in
-    use_at p o (length before + suc k) us v fit e (ap (λ l. slice_get l (length before + suc k)) is ∙ get_behind before (u ∷ behind) (length before + suc k) (suc k) refl ∙ f) ∙ n))
+    use_at p o (length before + suc k) us v fit e
+    (ap (λ l. slice_get l (length before + suc k)) is
+    ∙ get_behind before (u ∷ behind) (length before + suc k) (suc k) refl ∙ f) ∙ n))
 
-before_all : (p : Puzzle) (o x : ℕ) (before behind us : List Use) (u : Use) → IsFit p → slice_get p.options o ≡ Some us → us ≡ before ++ u ∷ behind → x ≡ place_at p o + 1 + length before →
+before_all : (p : Puzzle) (o x : ℕ) (before behind us : List Use) (u : Use) → IsFit p → slice_get p.options o ≡ Some us
+    → us ≡ before ++ u ∷ behind → x ≡ place_at p o + 1 + length before →
     places (place_at p o + 1) x ≡ map (λ j. link_place p j (o + 1)) (map (λ v. v.item) before)
 before_all p o x before behind us u fit e is at =
     let a = place_at p o + 1 in
@@ -285,7 +341,8 @@ before_all p o x before behind us u fit e is at =
     (λ k v f. use_at p o k us v fit e (ap (λ l. slice_get l k) is ∙ get_front before (u ∷ behind) k v f))
 
 -- an option that holds an item is there
-pub there : (os : List (List Use)) (k i : ℕ) → is_some (colour_in (unwrap_or (slice_get os k) []) i) ≡ true → slice_get os k ≡ Some (unwrap_or (slice_get os k) [])
+pub there : (os : List (List Use)) (k i : ℕ) → is_some (colour_in (unwrap_or (slice_get os k) []) i) ≡ true
+    → slice_get os k ≡ Some (unwrap_or (slice_get os k) [])
 there [] k i e = absurd (false≢true e)
 there (us ∷ os) zero i e = refl
 there (us ∷ os) (suc k) i e = there os k i e
@@ -295,7 +352,8 @@ pub record SpanOf (p : Puzzle) (o i : ℕ) : Type 0 where
   pub within : link_place p i o < length (spans_of p)
 
 -- an option stands from behind the spacer before it to that behind it
-between : (p : Puzzle) (o i : ℕ) (us : List Use) → IsFit p → slice_get p.options o ≡ Some us → uses_of p (o + 1) ≡ us → (r : Parted us i) → link_place p i (o + 1) ≡ place_at p o + 1 + length r.before →
+between : (p : Puzzle) (o i : ℕ) (us : List Use) → IsFit p → slice_get p.options o ≡ Some us → uses_of p (o + 1) ≡ us
+    → (r : Parted us i) → link_place p i (o + 1) ≡ place_at p o + 1 + length r.before →
     IsSpanOf p (o + 1) i (let s : Span = record { first = place_at p o + 1; end = place_at p o + 1 + length us } in s)
 between p o i us fit e is r place =
     let a = place_at p o + 1 in
@@ -309,26 +367,39 @@ between p o i us fit e is r place =
     record {
       from = omega (arith, place);
       below = omega (arith, place, ap length r.is ∙ length-append r.before (r.use_of ∷ r.behind));
-      before = before_all p o x r.before r.behind us r.use_of fit e r.is place ∙ ap (map (λ j. link_place p j (o + 1))) (sym r.items_before ∙ ap (before_use i) (sym is));
-      behind = behind_all p o x r.before r.behind us r.use_of fit e r.is place ∙ ap (map (λ j. link_place p j (o + 1))) (sym r.items_behind ∙ ap (behind_use i) (sym is));
+      before = before_all p o x r.before r.behind us r.use_of fit e r.is place
+          ∙ ap (map (λ j. link_place p j (o + 1))) (sym r.items_before ∙ ap (before_use i) (sym is));
+      behind = behind_all p o x r.before r.behind us r.use_of fit e r.is place
+          ∙ ap (map (λ j. link_place p j (o + 1))) (sym r.items_behind ∙ ap (behind_use i) (sym is));
       some = omega arith;
-      first = ap (slice_get (layout p)) start ∙ spacer_here p o (omega (arith, lt)) ∙ ap (λ n. Some (spacer n)) (sym same);
-      down = ap (λ n. fixed_down p (spacer n) + 1) same ∙ ap (λ b. cond b (spacer_place p (o + 1) - 1) 0 + 1) (lt-ltb o (option_count p) lt) ∙ omega (arith, at_next, next);
+      first =
+          ap (slice_get (layout p)) start ∙ spacer_here p o (omega (arith, lt)) ∙ ap (λ n. Some (spacer n)) (sym same);
+      down = ap (λ n. fixed_down p (spacer n) + 1) same
+          ∙ ap (λ b. cond b (spacer_place p (o + 1) - 1) 0 + 1) (lt-ltb o (option_count p) lt)
+          ∙ omega (arith, at_next, next);
       last = ap (slice_get (layout p)) (sym next) ∙ spacer_here p (o + 1) (omega (arith, lt));
       up = ap (λ n. fixed_up p (spacer n)) s ∙ ap (λ n. n + 1) (spacer_at p o (omega (arith, lt)));
     }
 
-pub leads : (p : Puzzle) (o i : ℕ) (us : List Use) → IsFit p → slice_get p.options o ≡ Some us → uses_of p (o + 1) ≡ us → is_some (colour_in us i) ≡ true → SpanOf p (o + 1) i
+pub leads : (p : Puzzle) (o i : ℕ) (us : List Use) → IsFit p → slice_get p.options o ≡ Some us → uses_of p (o + 1) ≡ us
+    → is_some (colour_in us i) ≡ true → SpanOf p (o + 1) i
 leads p o i us fit e is some =
     let r = parted us i some in
     let k = length r.before in
     let lt : o < option_count p = slice_get_within p.options o us e in
-    let use_get : slice_get us k ≡ Some r.use_of = ap (λ l. slice_get l k) r.is ∙ get_behind r.before (r.use_of ∷ r.behind) k 0 (omega arith) in
-    let place : link_place p i (o + 1) ≡ place_at p o + 1 + k = ap (λ j. link_place p j (o + 1)) (sym r.item) ∙ use_at p o k us r.use_of fit e use_get in
+    let use_get : slice_get us k ≡ Some r.use_of =
+    ap (λ l. slice_get l k) r.is ∙ get_behind r.before (r.use_of ∷ r.behind) k 0 (omega arith) in
+    let place : link_place p i (o + 1) ≡ place_at p o + 1 + k =
+    ap (λ j. link_place p j (o + 1)) (sym r.item) ∙ use_at p o k us r.use_of fit e use_get in
     let d : Span = record { first = 0; end = 0 } in
     record {
-      span = subst (IsSpanOf p (o + 1) i) (sym (ap (span_at (spans_of p)) place ∙ span_here p o k us r.use_of lt e use_get d)) (between p o i us fit e is r place);
-      within = let here = slice_get_within (layout p) (place_at p o + 1 + k) (used (o + 1) r.use_of) (use_here p o k (place_at p o + 1 + k) us r.use_of e use_get refl) in
+      span =
+          subst (IsSpanOf p (o + 1) i)
+          (sym (ap (span_at (spans_of p)) place ∙ span_here p o k us r.use_of lt e use_get d))
+          (between p o i us fit e is r place);
+      within = let here =
+          slice_get_within (layout p) (place_at p o + 1 + k) (used (o + 1) r.use_of)
+          (use_here p o k (place_at p o + 1 + k) us r.use_of e use_get refl) in
           let size = length-map (layout p) (span_of p) in omega (arith, here, size, place);
     }
 

@@ -1,13 +1,19 @@
--- Members that left one line from top to bottom come back in the same order: each finds its neighbours of before, and at the end the line is as it was.
-use Rattle.std.proofs.Common.{◌≡◌, ◌≢◌, ℕ, ◌<◌, ◌≤◌, ◌⊎◌, Bool, true, false, not, cond, ◌&&◌, List, [], ◌∷◌, filter, refl, ap, ap₂, sym, subst, ◌∙◌, arith}
+-- Members that left one line from top to bottom come back in the same order: each finds its neighbours of before, and
+-- at the end the line is as it was.
+use Rattle.std.proofs.Common.{◌≡◌, ◌≢◌, ℕ, ◌<◌, ◌≤◌, ◌⊎◌, Bool, true, false, not, cond, ◌&&◌, List, [], ◌∷◌, filter}
+use Rattle.std.proofs.Common.{refl, ap, ap₂, sym, subst, ◌∙◌, arith}
 use Rattle.std.proofs.lemmas.Grind.{common_steps}
 use Rattle.std.proofs.lemmas.Bool.{false≢true}
 use Rattle.xc_dance.specs.inner.Links.Lines.{Line}
 use Rattle.xc_dance.specs.Fields.{last_below, first_above, first_of, last_of, is_in}
-use Rattle.xc_dance.proofs.LinkedTables.Sweep.{in_more, Rises, Rises-filter, Swept, swept, stay, cuts, rises, not_in, in_above, is_in-first, is_in-other, by_first, put_at-same, put_at-other, last_below-none, last_below-self, last_below-more, last_of-more, first_above-first, first_above-more, mended, IsLinkedFrom}
+use Rattle.xc_dance.proofs.LinkedTables.Sweep.{in_more, Rises, Rises-filter, Swept, swept, stay, cuts, rises, not_in}
+use Rattle.xc_dance.proofs.LinkedTables.Sweep.{in_above, is_in-first, is_in-other, by_first, put_at-same, put_at-other}
+use Rattle.xc_dance.proofs.LinkedTables.Sweep.{last_below-none, last_below-self, last_below-more, last_of-more}
+use Rattle.xc_dance.proofs.LinkedTables.Sweep.{first_above-first, first_above-more, mended, IsLinkedFrom}
 use Rattle.xc_dance.proofs.MoveLemmas.Members.{in_filter}
 
--- The members before xs are back, a being the last of them and b the last of them that had stayed; those of xs that pass the test are still gone.
+-- The members before xs are back, a being the last of them and b the last of them that had stayed; those of xs that
+-- pass the test are still gone.
 pub record Held (l m : Line) (a b : ℕ) (xs : List ℕ) (g : ℕ → Bool) : Type 0 where
   pub le : b ≤ a
   pub up_first : m.up (first_of 0 xs) ≡ a
@@ -33,17 +39,39 @@ near b z zs g r = grind (arith, common_steps, Rises-filter, last_below-none, las
 stay_first : (y : ℕ) (ys : List ℕ) (g : ℕ → Bool) → g y ≡ false → stay g (y ∷ ys) ≡ y ∷ stay g ys
 stay_first y ys g e = ap (λ c. cond (not c) (y ∷ stay g ys) (stay g ys)) e
 
-up_next : (l m : Line) (a b y : ℕ) (ys : List ℕ) (g : ℕ → Bool) → Rises y ys → 0 < y → g y ≡ false → Held l m a b (y ∷ ys) g → m.up (first_of 0 ys) ≡ y
+up_next : (l m : Line) (a b y : ℕ) (ys : List ℕ) (g : ℕ → Bool) → Rises y ys → 0 < y → g y ≡ false
+    → Held l m a b (y ∷ ys) g → m.up (first_of 0 ys) ≡ y
 up_next l m a b y [] g r pos e h = grind (arith, common_steps, in_more, is_in-first, last_below-more, near, stay_first)
-up_next l m a b y (z ∷ zs) g r pos e h = grind (arith, common_steps, in_more, is_in-first, last_below-more, near, stay_first)
+up_next l m a b y (z ∷ zs) g r pos e h =
+    grind (arith, common_steps, in_more, is_in-first, last_below-more, near, stay_first)
 
-pub pass_on : (l m : Line) (a b y : ℕ) (ys : List ℕ) (g : ℕ → Bool) → IsLinkedFrom l a (y ∷ ys) → g y ≡ false → Held l m a b (y ∷ ys) g → Held l m y y ys g
-pass_on l m a b y ys g linked e h = grind (arith, common_steps, Rises-filter, by_first, first_above-first, first_above-more, in_above, in_more, is_in-first, is_in-other, last_below-more, last_of-more, not_in, rises, stay_first, up_next)
+pub pass_on : (l m : Line) (a b y : ℕ) (ys : List ℕ) (g : ℕ → Bool) → IsLinkedFrom l a (y ∷ ys) → g y ≡ false
+    → Held l m a b (y ∷ ys) g → Held l m y y ys g
+pass_on l m a b y ys g linked e h =
+    grind (
+      arith,
+      common_steps,
+      Rises-filter,
+      by_first,
+      first_above-first,
+      first_above-more,
+      in_above,
+      in_more,
+      is_in-first,
+      is_in-other,
+      last_below-more,
+      last_of-more,
+      not_in,
+      rises,
+      stay_first,
+      up_next,
+    )
 
 -- ---- a member that was gone comes back
 
 -- it finds its neighbours of before
-pub finds : (l m : Line) (a b y : ℕ) (ys : List ℕ) (g : ℕ → Bool) → IsLinkedFrom l a (y ∷ ys) → g y ≡ true → Held l m a b (y ∷ ys) g → (m.up y ≡ l.up y) × (m.down y ≡ l.down y)
+pub finds : (l m : Line) (a b y : ℕ) (ys : List ℕ) (g : ℕ → Bool) → IsLinkedFrom l a (y ∷ ys) → g y ≡ true
+    → Held l m a b (y ∷ ys) g → (m.up y ≡ l.up y) × (m.down y ≡ l.down y)
 finds l m a b y ys g linked e h = (h.up_first ∙ sym linked.2, h.down_gone y (is_in-first y ys) e)
 
 stay_gone : (y : ℕ) (ys : List ℕ) (g : ℕ → Bool) → g y ≡ true → stay g (y ∷ ys) ≡ stay g ys
@@ -54,8 +82,24 @@ not_next : (x : ℕ) (ys : List ℕ) → x ≢ 0 → is_in x ys ≡ false → x 
 not_next x [] nz f s = nz s
 not_next x (z ∷ zs) nz f s = false≢true (sym f ∙ ap (λ k. is_in x (k ∷ zs)) (sym s) ∙ is_in-first x zs)
 
-pub come_back : (l m : Line) (a b y : ℕ) (ys : List ℕ) (g : ℕ → Bool) → IsLinkedFrom l a (y ∷ ys) → g y ≡ true → Held l m a b (y ∷ ys) g → Held l (mended m y) y b ys g
-come_back l m a b y ys g linked e h = grind (arith, common_steps, by_first, finds, in_above, in_more, is_in-other, next_is, not_next, put_at-other, put_at-same, rises, stay_gone)
+pub come_back : (l m : Line) (a b y : ℕ) (ys : List ℕ) (g : ℕ → Bool) → IsLinkedFrom l a (y ∷ ys) → g y ≡ true
+    → Held l m a b (y ∷ ys) g → Held l (mended m y) y b ys g
+come_back l m a b y ys g linked e h =
+    grind (
+      arith,
+      common_steps,
+      by_first,
+      finds,
+      in_above,
+      in_more,
+      is_in-other,
+      next_is,
+      not_next,
+      put_at-other,
+      put_at-same,
+      rises,
+      stay_gone,
+    )
 
 -- ---- the end
 
@@ -77,19 +121,24 @@ pub record Regaining (l m : Line) (ks : List ℕ) : Type 0 where
   pub held : Held l m a b xs g
   pub left : filter g xs ≡ ks
 
-first_up : (l m : Line) (xs : List ℕ) (g : ℕ → Bool) → IsLinkedFrom l 0 xs → Swept l m 0 xs (stay g xs) → m.up (first_of 0 xs) ≡ 0
+first_up : (l m : Line) (xs : List ℕ) (g : ℕ → Bool) → IsLinkedFrom l 0 xs → Swept l m 0 xs (stay g xs)
+    → m.up (first_of 0 xs) ≡ 0
 first_up l m [] g linked s = s.last
 first_up l m (y ∷ ys) g linked s = s.up_in y (is_in-first y ys) ∙ near 0 y ys g (rises l y ys linked.3)
 
 -- before the first comes back
-pub regaining : (l : Line) (xs : List ℕ) (g : ℕ → Bool) → IsLinkedFrom l 0 xs → Regaining l (cuts l (filter g xs)) (filter g xs)
+pub regaining : (l : Line) (xs : List ℕ) (g : ℕ → Bool) → IsLinkedFrom l 0 xs
+    → Regaining l (cuts l (filter g xs)) (filter g xs)
 regaining l xs g linked =
     let m : Line = cuts l (filter g xs) in
     let s : Swept l m 0 xs (stay g xs) = swept l 0 xs g linked in
     let r : Rises 0 xs = rises l 0 xs linked in
-    let pass : (x : ℕ) → g x ≡ false → is_in x xs ≡ true → is_in x (stay g xs) ≡ true = λ x e f. in_filter (λ x. not (g x)) x xs ∙ ap₂ (λ c d. not c && d) e f in
-    let fail : (x : ℕ) → g x ≡ true → is_in x (stay g xs) ≡ false = λ x e. in_filter (λ x. not (g x)) x xs ∙ ap (λ c. not c && is_in x xs) e in
-    let absent : (x : ℕ) → is_in x xs ≡ false → is_in x (stay g xs) ≡ false = λ x f. in_filter (λ x. not (g x)) x xs ∙ ap (λ d. not (g x) && d) f ∙ elim (g x) as (λ c. (not c && false) ≡ false) [ true ↦ refl | false ↦ refl ] in
+    let pass : (x : ℕ) → g x ≡ false → is_in x xs ≡ true → is_in x (stay g xs) ≡ true =
+    λ x e f. in_filter (λ x. not (g x)) x xs ∙ ap₂ (λ c d. not c && d) e f in
+    let fail : (x : ℕ) → g x ≡ true → is_in x (stay g xs) ≡ false =
+    λ x e. in_filter (λ x. not (g x)) x xs ∙ ap (λ c. not c && is_in x xs) e in
+    let absent : (x : ℕ) → is_in x xs ≡ false → is_in x (stay g xs) ≡ false = λ x f. in_filter (λ x. not (g x)) x xs
+    ∙ ap (λ d. not (g x) && d) f ∙ elim (g x) as (λ c. (not c && false) ≡ false) [ true ↦ refl | false ↦ refl ] in
     grind (arith, common_steps, first_up, in_above)
 
 -- the next that comes back is reached over those that had stayed
@@ -98,7 +147,8 @@ pub record NextBack (l m : Line) (k : ℕ) (ks : List ℕ) : Type 0 where
   pub down : m.down k ≡ l.down k
   pub next : Regaining l (mended m k) ks
 
-reached : (l m : Line) (a b : ℕ) (xs : List ℕ) (g : ℕ → Bool) (k : ℕ) (ks : List ℕ) → IsLinkedFrom l a xs → Held l m a b xs g → filter g xs ≡ k ∷ ks → NextBack l m k ks
+reached : (l m : Line) (a b : ℕ) (xs : List ℕ) (g : ℕ → Bool) (k : ℕ) (ks : List ℕ) → IsLinkedFrom l a xs
+    → Held l m a b xs g → filter g xs ≡ k ∷ ks → NextBack l m k ks
 reached l m a b [] g k ks linked h e = cc
 reached l m a b (y ∷ ys) g k ks linked h e =
     elim (g y) as (λ c. g y ≡ c → cond c (y ∷ filter g ys) (filter g ys) ≡ k ∷ ks → NextBack l m k ks) [
@@ -109,7 +159,16 @@ reached l m a b (y ∷ ys) g k ks linked h e =
           subst (λ z. NextBack l m z ks) first (record {
             up = found.0;
             down = found.1;
-            next = record { a = y; b = b; xs = ys; g = g; linked = linked.3; held = come_back l m a b y ys g linked f h; left = rest };
+            next =
+                record {
+                  a = y;
+                  b = b;
+                  xs = ys;
+                  g = g;
+                  linked = linked.3;
+                  held = come_back l m a b y ys g linked f h;
+                  left = rest;
+                };
           })
       | false ↦ λ f i. reached l m y y ys g k ks linked.3 (pass_on l m a b y ys g linked f h) i
     ] refl e
@@ -117,7 +176,8 @@ reached l m a b (y ∷ ys) g k ks linked h e =
 pub next_back : (l m : Line) (k : ℕ) (ks : List ℕ) → Regaining l m (k ∷ ks) → NextBack l m k ks
 next_back l m k ks r = reached l m r.a r.b r.xs r.g k ks r.linked r.held r.left
 
-ended : (l m : Line) (a b : ℕ) (xs : List ℕ) (g : ℕ → Bool) → IsLinkedFrom l a xs → Held l m a b xs g → filter g xs ≡ [] → SameLinks l m
+ended : (l m : Line) (a b : ℕ) (xs : List ℕ) (g : ℕ → Bool) → IsLinkedFrom l a xs → Held l m a b xs g → filter g xs ≡ []
+    → SameLinks l m
 ended l m a b [] g linked h e = all_back l m a b g linked h
 ended l m a b (y ∷ ys) g linked h e =
     elim (g y) as (λ c. g y ≡ c → cond c (y ∷ filter g ys) (filter g ys) ≡ [] → SameLinks l m) [

@@ -1,5 +1,6 @@
 -- Cover and Spend on the item table.
-use Rattle.std.proofs.Common.{◌≡◌, ◌≢◌, ℕ, zero, suc, ◌+◌, ◌-◌, ◌<◌, ◌^◌, List, [], ◌∷◌, length, map, get_or, set, refl, ap, sym, ◌∙◌, arith, cond, eqb, false, eq-eqb, ne_eqb, Some}
+use Rattle.std.proofs.Common.{◌≡◌, ◌≢◌, ℕ, zero, suc, ◌+◌, ◌-◌, ◌<◌, ◌^◌, List, [], ◌∷◌, length, map, get_or, set, refl}
+use Rattle.std.proofs.Common.{ap, sym, ◌∙◌, arith, cond, eqb, false, eq-eqb, ne_eqb, Some}
 use Rattle.std.proofs.lemmas.Grind.{common_steps}
 use Rattle.std.specs.List.{range_with_len}
 use Rattle.std.specs.Prelude.{slice_get}
@@ -20,8 +21,10 @@ use Rattle.std.proofs.lemmas.List.Elements.{filter_agree}
 pub record SpendStep (p : Puzzle) (t : List Move) (i : ℕ) : Type 0 where
   pub can : (i < length (items_after p t).bound) × (0 < get_or (items_after p t).bound i 0)
   pub done : with_bound (items_after p t) i (get_or (items_after p t).bound i 0 - 1) ≡ items_after p (Spend i ∷ t)
-  pub can_back : (i < length (items_after p (Spend i ∷ t)).bound) × (get_or (items_after p (Spend i ∷ t)).bound i 0 < 2 ^ 31)
-  pub undone : with_bound (items_after p (Spend i ∷ t)) i (get_or (items_after p (Spend i ∷ t)).bound i 0 + 1) ≡ items_after p t
+  pub can_back : (i < length (items_after p (Spend i ∷ t)).bound)
+      × (get_or (items_after p (Spend i ∷ t)).bound i 0 < 2 ^ 31)
+  pub undone : with_bound (items_after p (Spend i ∷ t)) i (get_or (items_after p (Spend i ∷ t)).bound i 0 + 1) ≡
+      items_after p t
 
 -- ---- columns over places in a row
 
@@ -39,36 +42,45 @@ row_get f n q h = get_or-map-range_with_len f 0 n q q 0 h (omega arith)
 row_at : (n q m : ℕ) → slice_get (range_with_len 0 n) q ≡ Some m → m ≡ q
 row_at n q m e = let r = range_get 0 n q m e in omega (arith, r)
 
-pub row_put : (f g : ℕ → ℕ) (n k v : ℕ) → ((q : ℕ) → q < n → q ≢ k → g q ≡ f q) → g k ≡ v → map g (range_with_len 0 n) ≡ set (map f (range_with_len 0 n)) k v
+pub row_put : (f g : ℕ → ℕ) (n k v : ℕ) → ((q : ℕ) → q < n → q ≢ k → g q ≡ f q) → g k ≡ v
+    → map g (range_with_len 0 n) ≡ set (map f (range_with_len 0 n)) k v
 row_put f g n k v rest here = grind (arith, common_steps, length-range_with_len, map_put, row_at, slice_get_within)
 
-pub row_same : (f g : ℕ → ℕ) (n : ℕ) → ((q : ℕ) → q < n → g q ≡ f q) → map g (range_with_len 0 n) ≡ map f (range_with_len 0 n)
+pub row_same : (f g : ℕ → ℕ) (n : ℕ) → ((q : ℕ) → q < n → g q ≡ f q)
+    → map g (range_with_len 0 n) ≡ map f (range_with_len 0 n)
 row_same f g n h = grind (arith, common_steps, length-range_with_len, map_same, row_at, slice_get_within)
 
 -- ---- rings
 
-pub left_now : (p : Puzzle) (t : List Move) (q : ℕ) → is_covered q t ≡ false → left_of p t q ≡ last_below (ring_head p q) q (ring_of p t q)
+pub left_now : (p : Puzzle) (t : List Move) (q : ℕ) → is_covered q t ≡ false
+    → left_of p t q ≡ last_below (ring_head p q) q (ring_of p t q)
 left_now p [] q e = refl
 left_now p (m ∷ t) q e = ap (λ b. cond b (left_of p t q) (last_below (ring_head p q) q (ring_of p (m ∷ t) q))) e
 
-pub right_now : (p : Puzzle) (t : List Move) (q : ℕ) → is_covered q t ≡ false → right_of p t q ≡ first_above (ring_head p q) q (ring_of p t q)
+pub right_now : (p : Puzzle) (t : List Move) (q : ℕ) → is_covered q t ≡ false
+    → right_of p t q ≡ first_above (ring_head p q) q (ring_of p t q)
 right_now p [] q e = refl
 right_now p (m ∷ t) q e = ap (λ b. cond b (right_of p t q) (first_above (ring_head p q) q (ring_of p (m ∷ t) q))) e
 
 -- a move that covers no item
-still_ring : (p : Puzzle) (t : List Move) (m : Move) (i : ℕ) → ((q : ℕ) → is_covered q (m ∷ t) ≡ is_covered q t) → ring_of p (m ∷ t) i ≡ ring_of p t i
+still_ring : (p : Puzzle) (t : List Move) (m : Move) (i : ℕ) → ((q : ℕ) → is_covered q (m ∷ t) ≡ is_covered q t)
+    → ring_of p (m ∷ t) i ≡ ring_of p t i
 still_ring p t m i s = grind (arith, common_steps, filter_agree)
 
-pub still_left : (p : Puzzle) (t : List Move) (m : Move) (q : ℕ) → ((q : ℕ) → is_covered q (m ∷ t) ≡ is_covered q t) → left_of p (m ∷ t) q ≡ left_of p t q
+pub still_left : (p : Puzzle) (t : List Move) (m : Move) (q : ℕ) → ((q : ℕ) → is_covered q (m ∷ t) ≡ is_covered q t)
+    → left_of p (m ∷ t) q ≡ left_of p t q
 still_left p t m q s = grind (arith, common_steps, left_now, still_ring)
 
-pub still_right : (p : Puzzle) (t : List Move) (m : Move) (q : ℕ) → ((q : ℕ) → is_covered q (m ∷ t) ≡ is_covered q t) → right_of p (m ∷ t) q ≡ right_of p t q
+pub still_right : (p : Puzzle) (t : List Move) (m : Move) (q : ℕ) → ((q : ℕ) → is_covered q (m ∷ t) ≡ is_covered q t)
+    → right_of p (m ∷ t) q ≡ right_of p t q
 still_right p t m q s = grind (arith, common_steps, right_now, still_ring)
 
-pub still_llink : (p : Puzzle) (t : List Move) (m : Move) (q : ℕ) → ((q : ℕ) → is_covered q (m ∷ t) ≡ is_covered q t) → llink_at p (m ∷ t) q ≡ llink_at p t q
+pub still_llink : (p : Puzzle) (t : List Move) (m : Move) (q : ℕ) → ((q : ℕ) → is_covered q (m ∷ t) ≡ is_covered q t)
+    → llink_at p (m ∷ t) q ≡ llink_at p t q
 still_llink p t m q s = grind (arith, common_steps, still_left, still_ring)
 
-pub still_rlink : (p : Puzzle) (t : List Move) (m : Move) (q : ℕ) → ((q : ℕ) → is_covered q (m ∷ t) ≡ is_covered q t) → rlink_at p (m ∷ t) q ≡ rlink_at p t q
+pub still_rlink : (p : Puzzle) (t : List Move) (m : Move) (q : ℕ) → ((q : ℕ) → is_covered q (m ∷ t) ≡ is_covered q t)
+    → rlink_at p (m ∷ t) q ≡ rlink_at p t q
 still_rlink p t m q s = grind (arith, common_steps, still_right, still_ring)
 
 pub same_items : (s t : Items) → s.llink ≡ t.llink → s.rlink ≡ t.rlink → s.bound ≡ t.bound → s.slack ≡ t.slack → s ≡ t
@@ -83,7 +95,8 @@ spends_own : (t : List Move) (i : ℕ) → spends i (Spend i ∷ t) ≡ 1 + spen
 spends_own t i = rw (eq-eqb i i refl) refl
 
 bound_other : (p : Puzzle) (t : List Move) (i q : ℕ) → q ≢ i → bound_at p (Spend i ∷ t) q ≡ bound_at p t q
-bound_other p t i q ne = let z : 0 + spends q t ≡ spends q t = omega arith in rw (ne_eqb q i ne) (ap (λ n. cond (eqb q 0) 0 (high_at p q - n)) z)
+bound_other p t i q ne = let z : 0 + spends q t ≡ spends q t = omega arith in
+    rw (ne_eqb q i ne) (ap (λ n. cond (eqb q 0) 0 (high_at p q - n)) z)
 
 pub spend_step : (p : Puzzle) (t : List Move) (i : ℕ) → IsLegal p t (Spend i) → high_at p i < 2 ^ 31 → SpendStep p t i
 spend_step p t i may few =
@@ -92,12 +105,20 @@ spend_step p t i may few =
     let within : i < n = let h = may.0.1 in omega (arith, h) in
     let lt = may.1 in
     let next = Spend i ∷ t in
-    let before : get_or (items_after p t).bound i 0 ≡ high_at p i - spends i t = row_get (bound_at p t) n i within ∙ bound_own p t i pos in
-    let after : get_or (items_after p next).bound i 0 ≡ high_at p i - (1 + spends i t) = row_get (bound_at p next) n i within ∙ bound_own p next i pos ∙ ap (λ k. high_at p i - k) (spends_own t i) in
-    let llinks : (items_after p next).llink ≡ (items_after p t).llink = row_same (llink_at p t) (llink_at p next) (item_count p + 2) (λ q h. still_llink p t (Spend i) q (λ k. refl)) in
-    let rlinks : (items_after p next).rlink ≡ (items_after p t).rlink = row_same (rlink_at p t) (rlink_at p next) (item_count p + 2) (λ q h. still_rlink p t (Spend i) q (λ k. refl)) in
-    let down : bound_at p next i ≡ get_or (items_after p t).bound i 0 - 1 = bound_own p next i pos ∙ ap (λ k. high_at p i - k) (spends_own t i) ∙ omega (arith, before) in
-    let up : bound_at p t i ≡ get_or (items_after p next).bound i 0 + 1 = bound_own p t i pos ∙ omega (arith, after, lt) in
-    let bounds : (items_after p next).bound ≡ set (items_after p t).bound i (get_or (items_after p t).bound i 0 - 1) = row_put (bound_at p t) (bound_at p next) n i _ (λ q h ne. bound_other p t i q ne) down in
-    let back : (items_after p t).bound ≡ set (items_after p next).bound i (get_or (items_after p next).bound i 0 + 1) = row_put (bound_at p next) (bound_at p t) n i _ (λ q h ne. sym (bound_other p t i q ne)) up in
+    let before : get_or (items_after p t).bound i 0 ≡ high_at p i - spends i t =
+    row_get (bound_at p t) n i within ∙ bound_own p t i pos in
+    let after : get_or (items_after p next).bound i 0 ≡ high_at p i - (1 + spends i t) =
+    row_get (bound_at p next) n i within ∙ bound_own p next i pos ∙ ap (λ k. high_at p i - k) (spends_own t i) in
+    let llinks : (items_after p next).llink ≡ (items_after p t).llink =
+    row_same (llink_at p t) (llink_at p next) (item_count p + 2) (λ q h. still_llink p t (Spend i) q (λ k. refl)) in
+    let rlinks : (items_after p next).rlink ≡ (items_after p t).rlink =
+    row_same (rlink_at p t) (rlink_at p next) (item_count p + 2) (λ q h. still_rlink p t (Spend i) q (λ k. refl)) in
+    let down : bound_at p next i ≡ get_or (items_after p t).bound i 0 - 1 =
+    bound_own p next i pos ∙ ap (λ k. high_at p i - k) (spends_own t i) ∙ omega (arith, before) in
+    let up : bound_at p t i ≡ get_or (items_after p next).bound i 0 + 1 =
+    bound_own p t i pos ∙ omega (arith, after, lt) in
+    let bounds : (items_after p next).bound ≡ set (items_after p t).bound i (get_or (items_after p t).bound i 0 - 1) =
+    row_put (bound_at p t) (bound_at p next) n i _ (λ q h ne. bound_other p t i q ne) down in
+    let back : (items_after p t).bound ≡ set (items_after p next).bound i (get_or (items_after p next).bound i 0 + 1) =
+    row_put (bound_at p next) (bound_at p t) n i _ (λ q h ne. sym (bound_other p t i q ne)) up in
     grind (arith, common_steps, row_len, same_items)

@@ -1,5 +1,6 @@
 -- The spacers round an option lead to its ends, whatever lists its nodes stand in.
-use Rattle.std.proofs.Common.{◌≡◌, ℕ, ◌+◌, ◌-◌, ◌<◌, List, [], ◌∷◌, ◌++◌, map, fold, reverse, get_or, Some, ap, sym, subst, ◌∙◌, arith, ◌*◌}
+use Rattle.std.proofs.Common.{◌≡◌, ℕ, ◌+◌, ◌-◌, ◌<◌, List, [], ◌∷◌, ◌++◌, map, fold, reverse, get_or, Some, ap, sym}
+use Rattle.std.proofs.Common.{subst, ◌∙◌, arith, ◌*◌}
 use Rattle.std.proofs.lemmas.Grind.{common_steps}
 use Rattle.std.specs.Prelude.{slice_get}
 use Rattle.std.proofs.lemmas.List.{length-map, map-append}
@@ -11,24 +12,32 @@ use Rattle.xc_dance.specs.Fields.{Node, spacer, layout, link_place}
 use Rattle.xc_dance.specs.inner.Links.Lines.{Line}
 use Rattle.xc_dance.specs.inner.Links.Cells.{ulink_in, dlink_in, nodes_from}
 use Rattle.xc_dance.specs.inner.Links.Others.{behind_use, before_use, HasSpans}
-use Rattle.xc_dance.specs.inner.Links.Steps.{hidden, unhidden, CanHideAll, CanUnhideAll, places, span_at, others_of, IsSpacer, CanHideNode, CanUnhideNode, hidden_node, unhidden_node, hide_costs, unhide_costs}
+use Rattle.xc_dance.specs.inner.Links.Steps.{hidden, unhidden, CanHideAll, CanUnhideAll, places, span_at, others_of}
+use Rattle.xc_dance.specs.inner.Links.Steps.{IsSpacer, CanHideNode, CanUnhideNode, hidden_node, unhidden_node}
+use Rattle.xc_dance.specs.inner.Links.Steps.{hide_costs, unhide_costs}
 use Rattle.xc_dance.proofs.LinkedTables.GoodLines.{Named}
 use Rattle.xc_dance.proofs.LinkedTables.LinkColumns.{size_from, get_map, IsUndone, fold-unhidden-reverse}
 use Rattle.xc_dance.proofs.LinkedTables.OneOption.{Walked, left_all, gone_count}
 use Rattle.std.proofs.lemmas.Option.{slice_get_within}
-use Rattle.xc_dance.proofs.LinkedTables.UnmarkedNodes.{costs-are, hidden_color, unhidden_color, unmarked-reverse, unmarked_items}
+use Rattle.xc_dance.proofs.LinkedTables.UnmarkedNodes.{costs-are, hidden_color, unhidden_color, unmarked-reverse}
+use Rattle.xc_dance.proofs.LinkedTables.UnmarkedNodes.{unmarked_items}
 use Rattle.xc_dance.proofs.LinkedTables.Sweep.{other_items}
 
 -- the nodes round that of item i are those of the option's other items
-pub others_are : (p : Puzzle) (spans : List Span) (o i : ℕ) → HasSpans p spans → 0 < o → Named p i o → others_of spans (link_place p i o) ≡ map (λ j. link_place p j o) (other_items p o i)
+pub others_are : (p : Puzzle) (spans : List Span) (o i : ℕ) → HasSpans p spans → 0 < o → Named p i o
+    → others_of spans (link_place p i o) ≡ map (λ j. link_place p j o) (other_items p o i)
 others_are p spans o i spanned pos named = grind (arith, common_steps, map-append)
 
-spacer_in : (p : Puzzle) (ln : ℕ → Line) (col : Node → ℕ) (z n : ℕ) → slice_get (layout p) z ≡ Some (spacer n) → IsSpacer (nodes_from p ln col) z
+spacer_in : (p : Puzzle) (ln : ℕ → Line) (col : Node → ℕ) (z n : ℕ) → slice_get (layout p) z ≡ Some (spacer n)
+    → IsSpacer (nodes_from p ln col) z
 spacer_in p ln col z n e = grind (arith, common_steps, get_map, length-map, size_from, slice_get_within)
 
--- the nodes of an option can be hidden, if the lists of the items behind i are as these lines say when the spacer is met
-pub can_hide_node : (p : Puzzle) (ln ln' : ℕ → Line) (col : Node → ℕ) (spans : List Span) (o i : ℕ) → HasSpans p spans → 0 < o → Named p i o → CanHideAll (nodes_from p ln col) (map (λ j. link_place p j o) (other_items p o i)) →
-    fold hidden (nodes_from p ln col) (map (λ j. link_place p j o) (behind_use i (uses_of p o))) ≡ nodes_from p ln' col → CanHideNode spans (nodes_from p ln col) (link_place p i o)
+-- the nodes of an option can be hidden, if the lists of the items behind i are as these lines say when the spacer is
+-- met
+pub can_hide_node : (p : Puzzle) (ln ln' : ℕ → Line) (col : Node → ℕ) (spans : List Span) (o i : ℕ) → HasSpans p spans
+    → 0 < o → Named p i o → CanHideAll (nodes_from p ln col) (map (λ j. link_place p j o) (other_items p o i)) →
+    fold hidden (nodes_from p ln col) (map (λ j. link_place p j o) (behind_use i (uses_of p o))) ≡ nodes_from p ln' col
+    → CanHideNode spans (nodes_from p ln col) (link_place p i o)
 can_hide_node p ln ln' col spans o i spanned pos named can mid =
     let t : Nodes = nodes_from p ln col in
     let x = link_place p i o in
@@ -40,24 +49,31 @@ can_hide_node p ln ln' col spans o i spanned pos named can mid =
       within = s.below;
       near = omega (arith, slice_get_within (layout p) end _ s.last, spanned.near);
       spacer = subst (λ (u : Nodes). IsSpacer u end) (sym met) (spacer_in p ln' col end o s.last);
-      first = ap (λ (u : Nodes). get_or u.ulink end 0) met ∙ get_map (ulink_in p ln') (layout p) end (spacer o) s.last ∙ s.up;
+      first = ap (λ (u : Nodes). get_or u.ulink end 0) met ∙ get_map (ulink_in p ln') (layout p) end (spacer o) s.last
+          ∙ s.up;
     }
 
 -- they can come back, if the lists of the items before i are as these lines say then
-pub can_unhide_node : (p : Puzzle) (ln' : ℕ → Line) (col : Node → ℕ) (t : Nodes) (spans : List Span) (o i : ℕ) → HasSpans p spans → 0 < o → Named p i o → CanUnhideAll t (reverse (map (λ j. link_place p j o) (other_items p o i))) →
-    fold unhidden t (reverse (map (λ j. link_place p j o) (before_use i (uses_of p o)))) ≡ nodes_from p ln' col → CanUnhideNode spans t (link_place p i o)
+pub can_unhide_node : (p : Puzzle) (ln' : ℕ → Line) (col : Node → ℕ) (t : Nodes) (spans : List Span) (o i : ℕ)
+    → HasSpans p spans → 0 < o → Named p i o
+    → CanUnhideAll t (reverse (map (λ j. link_place p j o) (other_items p o i))) →
+    fold unhidden t (reverse (map (λ j. link_place p j o) (before_use i (uses_of p o)))) ≡ nodes_from p ln' col
+    → CanUnhideNode spans t (link_place p i o)
 can_unhide_node p ln' col t spans o i spanned pos named can mid =
     let x = link_place p i o in
     let s = spanned.span o i pos named in
     let first = (span_at spans x).first in
-    let met : fold unhidden t (reverse (places first x)) ≡ nodes_from p ln' col = ap (λ qs. fold unhidden t (reverse qs)) s.before ∙ mid in
+    let met : fold unhidden t (reverse (places first x)) ≡ nodes_from p ln' col =
+    ap (λ qs. fold unhidden t (reverse qs)) s.before ∙ mid in
     record {
       steps = subst (λ qs. CanUnhideAll t (reverse qs)) (sym (others_are p spans o i spanned pos named)) can;
       from = s.some;
       within = s.from;
       near = omega (arith, slice_get_within (layout p) (span_at spans x).end _ s.last, spanned.near);
-      spacer = subst (λ (u : Nodes). IsSpacer u (first - 1)) (sym met) (spacer_in p ln' col (first - 1) (o - 1) s.first);
-      last = ap (λ (u : Nodes). get_or u.dlink (first - 1) 0 + 1) met ∙ ap (λ n. n + 1) (get_map (dlink_in p ln') (layout p) (first - 1) (spacer (o - 1)) s.first) ∙ s.down;
+      spacer =
+          subst (λ (u : Nodes). IsSpacer u (first - 1)) (sym met) (spacer_in p ln' col (first - 1) (o - 1) s.first);
+      last = ap (λ (u : Nodes). get_or u.dlink (first - 1) 0 + 1) met
+          ∙ ap (λ n. n + 1) (get_map (dlink_in p ln') (layout p) (first - 1) (spacer (o - 1)) s.first) ∙ s.down;
     }
 
 undone_behind : (t : Nodes) (qs rs : List ℕ) → IsUndone t (qs ++ rs) → IsUndone (fold hidden t qs) rs
@@ -68,11 +84,31 @@ undone_behind t (q ∷ qs) rs h = undone_behind (hidden t q) qs rs h.1
 pub record Turns (p : Puzzle) (ln : ℕ → Line) (col : Node → ℕ) (spans : List Span) (o i : ℕ) : Type 0 where
   pub hide : CanHideNode spans (nodes_from p ln col) (link_place p i o)
   pub unhide : CanUnhideNode spans (nodes_from p (left_all p col o ln (other_items p o i)) col) (link_place p i o)
-  pub done : hidden_node spans (nodes_from p ln col) (link_place p i o) ≡ nodes_from p (left_all p col o ln (other_items p o i)) col
-  pub undone : unhidden_node spans (nodes_from p (left_all p col o ln (other_items p o i)) col) (link_place p i o) ≡ nodes_from p ln col
+  pub done : hidden_node spans (nodes_from p ln col) (link_place p i o) ≡ nodes_from p
+      (left_all p col o ln (other_items p o i)) col
+  pub undone : unhidden_node spans (nodes_from p (left_all p col o ln (other_items p o i)) col) (link_place p i o) ≡
+      nodes_from p ln col
   pub cost : hide_costs (nodes_from p ln col) (others_of spans (link_place p i o)) ≡ 3 * gone_count p col i o
-  pub cost_back : unhide_costs (nodes_from p (left_all p col o ln (other_items p o i)) col) (reverse (others_of spans (link_place p i o))) ≡ 3 * gone_count p col i o
+  pub cost_back : unhide_costs (nodes_from p (left_all p col o ln (other_items p o i)) col)
+      (reverse (others_of spans (link_place p i o))) ≡ 3 * gone_count p col i o
 
-pub turns : (p : Puzzle) (ln : ℕ → Line) (col : Node → ℕ) (lists : ℕ → List ℕ) (spans : List Span) (o i : ℕ) → HasSpans p spans → 0 < o → Named p i o → Walked p col ln lists o (other_items p o i) →
+pub turns : (p : Puzzle) (ln : ℕ → Line) (col : Node → ℕ) (lists : ℕ → List ℕ) (spans : List Span) (o i : ℕ)
+    → HasSpans p spans → 0 < o → Named p i o → Walked p col ln lists o (other_items p o i) →
     Walked p col ln lists o (behind_use i (uses_of p o)) → Turns p ln col spans o i
-turns p ln col lists spans o i spanned pos named w mid = grind (arith, common_steps, can_hide_node, can_unhide_node, costs-are, fold-append, fold-unhidden-reverse, hidden_color, map-append, others_are, unhidden_color, undone_behind, unmarked-reverse, unmarked_items)
+turns p ln col lists spans o i spanned pos named w mid =
+    grind (
+      arith,
+      common_steps,
+      can_hide_node,
+      can_unhide_node,
+      costs-are,
+      fold-append,
+      fold-unhidden-reverse,
+      hidden_color,
+      map-append,
+      others_are,
+      unhidden_color,
+      undone_behind,
+      unmarked-reverse,
+      unmarked_items,
+    )

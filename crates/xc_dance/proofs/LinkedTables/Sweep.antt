@@ -1,5 +1,7 @@
 -- Lines: one member leaves or comes back, many leave from top to bottom, and what a move makes of the line of a list.
-use Rattle.std.proofs.Common.{◌≡◌, ◌≢◌, ℕ, ◌+◌, ◌<◌, ◌≤◌, Bool, true, false, not, ◌||◌, eqb, ltb, nat_lt, List, [], ◌∷◌, length, filter, fold, Some, None, refl, ap, sym, ◌∙◌, arith, eqb-true, eq-eqb, ne_eqb, lt-ltb, le-ltb, zero, suc, cond, map, drop, subst}
+use Rattle.std.proofs.Common.{◌≡◌, ◌≢◌, ℕ, ◌+◌, ◌<◌, ◌≤◌, Bool, true, false, not, ◌||◌, eqb, ltb, nat_lt, List, [], ◌∷◌}
+use Rattle.std.proofs.Common.{length, filter, fold, Some, None, refl, ap, sym, ◌∙◌, arith, eqb-true, eq-eqb, ne_eqb}
+use Rattle.std.proofs.Common.{lt-ltb, le-ltb, zero, suc, cond, map, drop, subst}
 use Rattle.std.specs.Prelude.{◌-◌, ◌==◌, ◌&&◌, ◌++◌, Option, if◌then◌else◌, unwrap_or}
 use Rattle.std.specs.List.{last_or, list_any}
 use Rattle.std.proofs.lemmas.Grind.{common_steps}
@@ -105,16 +107,19 @@ last_of-more a y zs = last_or_some y a zs
 
 none_below : (x n : ℕ) (xs : List ℕ) → x ≤ n → Rises n xs → filter (λ k. nat_lt k x) xs ≡ []
 none_below x n [] h r = refl
-none_below x n (y ∷ ys) h r = let no : ltb y x ≡ false = le-ltb y x (omega (arith, r.0)) in rw no (none_below x y ys (omega (arith, r.0)) r.1)
+none_below x n (y ∷ ys) h r =
+    let no : ltb y x ≡ false = le-ltb y x (omega (arith, r.0)) in rw no (none_below x y ys (omega (arith, r.0)) r.1)
 
 pub last_below-none : (a x n : ℕ) (xs : List ℕ) → x ≤ n → Rises n xs → last_below a x xs ≡ a
 last_below-none a x n xs h r = ap (λ ks. unwrap_or (last_or None ks) a) (none_below x n xs h r)
 
 pub last_below-self : (a y : ℕ) (ys : List ℕ) → Rises y ys → last_below a y (y ∷ ys) ≡ a
-last_below-self a y ys r = let no : ltb y y ≡ false = le-ltb y y (omega arith) in rw no (last_below-none a y y ys (omega arith) r)
+last_below-self a y ys r =
+    let no : ltb y y ≡ false = le-ltb y y (omega arith) in rw no (last_below-none a y y ys (omega arith) r)
 
 pub last_below-more : (a x y : ℕ) (ys : List ℕ) → y < x → last_below a x (y ∷ ys) ≡ last_below y x ys
-last_below-more a x y ys h = let yes : ltb y x ≡ true = lt-ltb y x h in rw yes (last_or_some y a (filter (λ k. nat_lt k x) ys))
+last_below-more a x y ys h =
+    let yes : ltb y x ≡ true = lt-ltb y x h in rw yes (last_or_some y a (filter (λ k. nat_lt k x) ys))
 
 pub first_above-first : (o x n : ℕ) (xs : List ℕ) → x ≤ n → Rises n xs → first_above o x xs ≡ first_of o xs
 first_above-first o x n [] h r = refl
@@ -133,8 +138,13 @@ IsLinkedFrom-same : (l m : Line) (a : ℕ) (xs : List ℕ)
     → IsLinkedFrom l a xs → IsLinkedFrom m a xs
 IsLinkedFrom-same l m a [] down up last h = (down a (omega arith) ∙ h.0, last ∙ h.1)
 IsLinkedFrom-same l m a (x ∷ xs) down up last h =
-    let lt : a < x = h.0 in
-    (lt, down a (omega arith) ∙ h.1, up x lt ∙ h.2, IsLinkedFrom-same l m x xs (λ k le. down k (omega arith)) (λ k le. up k (omega arith)) last h.3)
+    let lt : a < x = h.0 in (
+      lt,
+      down a (omega arith) ∙ h.1,
+      up x lt
+          ∙ h.2,
+      IsLinkedFrom-same l m x xs (λ k le. down k (omega arith)) (λ k le. up k (omega arith)) last h.3,
+    )
 
 pub cut-linked : (l : Line) (a y : ℕ) (ys : List ℕ) → IsLinkedFrom l a (y ∷ ys) → IsLinkedFrom (cut l y) a ys
 cut-linked l a y [] h = (
@@ -180,7 +190,9 @@ pub record Swept (l m : Line) (a : ℕ) (xs ks : List ℕ) : Type 0 where
 
 -- a fact by whether a number is the first of a list
 pub by_first : (P : Type 0) (y x : ℕ) → (y ≡ x → P) → (y ≢ x → P) → P
-by_first P y x same other = elim (eqb y x) as (λ b. eqb y x ≡ b → P) [ true ↦ λ e. same (eqb-true y x e) | false ↦ λ e. other (eqb-false y x e) ] refl
+by_first P y x same other =
+    elim (eqb y x) as (λ b. eqb y x ≡ b → P)
+    [ true ↦ λ e. same (eqb-true y x e) | false ↦ λ e. other (eqb-false y x e) ] refl
 
 pub in_rest : (y x : ℕ) (ys : List ℕ) → y ≢ x → is_in x (y ∷ ys) ≡ true → is_in x ys ≡ true
 in_rest y x ys ne e = sym (is_in-other y x ys ne) ∙ e
@@ -188,7 +200,8 @@ in_rest y x ys ne e = sym (is_in-other y x ys ne) ∙ e
 pub out_rest : (y x : ℕ) (ys : List ℕ) → is_in x (y ∷ ys) ≡ false → y ≢ x
 out_rest y x ys e same = false≢true (sym e ∙ ap (λ k. is_in x (k ∷ ys)) same ∙ is_in-first x ys)
 
-first_leaves : (l m : Line) (a y : ℕ) (ys ks : List ℕ) → IsLinkedFrom l a (y ∷ ys) → Rises a ks → Rises y ks → Swept (cut l y) m a ys ks → Swept l m a (y ∷ ys) ks
+first_leaves : (l m : Line) (a y : ℕ) (ys ks : List ℕ) → IsLinkedFrom l a (y ∷ ys) → Rises a ks → Rises y ks
+    → Swept (cut l y) m a ys ks → Swept l m a (y ∷ ys) ks
 first_leaves l m a y ys ks h ra ry s =
     let lt : a < y = h.0 in
     let is_u : l.up y ≡ a = h.2 in
@@ -210,7 +223,8 @@ first_leaves l m a y ys ks h ra ry s =
       last = s.last;
     }
 
-first_stays : (l m : Line) (a y : ℕ) (ys ks : List ℕ) → IsLinkedFrom l a (y ∷ ys) → Rises y ks → Swept l m y ys ks → Swept l m a (y ∷ ys) (y ∷ ks)
+first_stays : (l m : Line) (a y : ℕ) (ys ks : List ℕ) → IsLinkedFrom l a (y ∷ ys) → Rises y ks → Swept l m y ys ks
+    → Swept l m a (y ∷ ys) (y ∷ ks)
 first_stays l m a y ys ks h ry s =
     let lt : a < y = h.0 in
     let r : Rises y ys = rises l y ys h.3 in
@@ -224,26 +238,50 @@ first_stays l m a y ys ks h ry s =
       linked = (lt, at_a, at_y, s.linked);
       up_in = λ x e. by_first (m.up x ≡ last_below a x (y ∷ ks)) y x
           (λ same. ap m.up (sym same) ∙ at_y ∙ sym (last_below-self a y ks ry) ∙ ap (λ k. last_below a k (y ∷ ks)) same)
-          (λ ne. let within = in_rest y x ys ne e in s.up_in x within ∙ sym (last_below-more a x y ks (in_above y x ys r within)));
+          (λ ne. let within =
+          in_rest y x ys ne e in s.up_in x within ∙ sym (last_below-more a x y ks (in_above y x ys r within)));
       up_out = λ x nz' e. let ne : y ≢ x = out_rest y x ys e in s.up_out x nz' (sym (is_in-other y x ys ne) ∙ e);
       down_in = λ x ne e. by_first (m.down x ≡ first_above 0 x (y ∷ ks)) y x
-          (λ same. ap m.down (sym same) ∙ s.first ∙ sym (first_above-first 0 x y ks (omega arith) ry) ∙ sym (first_above-more 0 x y ks (omega arith)))
+          (λ same. ap m.down (sym same) ∙ s.first ∙ sym (first_above-first 0 x y ks (omega arith) ry)
+          ∙ sym (first_above-more 0 x y ks (omega arith)))
           (λ ne'. let within = in_rest y x ks ne' e in
           let gt : y < x = in_above y x ks ry within in
           s.down_in x (λ f. ne' (sym f)) within ∙ sym (first_above-more 0 x y ks (omega arith)));
-      down_out = λ x ne e. let ne' : y ≢ x = out_rest y x ks e in s.down_out x (λ f. ne' (sym f)) (sym (is_in-other y x ks ne') ∙ e);
+      down_out = λ x ne e. let ne' : y ≢ x = out_rest y x ks e in
+          s.down_out x (λ f. ne' (sym f)) (sym (is_in-other y x ks ne') ∙ e);
       first = at_a;
       last = s.last ∙ sym (last_of-more a y ks);
     }
 
-pub swept : (l : Line) (a : ℕ) (xs : List ℕ) (g : ℕ → Bool) → IsLinkedFrom l a xs → Swept l (cuts l (filter g xs)) a xs (stay g xs)
+pub swept : (l : Line) (a : ℕ) (xs : List ℕ) (g : ℕ → Bool) → IsLinkedFrom l a xs
+    → Swept l (cuts l (filter g xs)) a xs (stay g xs)
 swept l a [] g h = grind (arith, common_steps, cut-linked, false≢true, first_leaves, first_stays, rises)
-swept l a (y ∷ ys) g h = grind (arith, common_steps, cut-linked, false≢true, first_leaves, first_stays, rises, swept (cut l y) a ys g (cut-linked l a y ys h), swept l y ys g h.3)
+swept l a (y ∷ ys) g h =
+    grind (
+      arith,
+      common_steps,
+      cut-linked,
+      false≢true,
+      first_leaves,
+      first_stays,
+      rises,
+      swept (cut l y) a ys g
+          (cut-linked l a y ys h),
+      swept l y ys g h.3,
+    )
 
 -- how many are left
-pub swept_len : (l : Line) (xs : List ℕ) (g : ℕ → Bool) (n : ℕ) → l.len ≡ n + length xs → (cuts l (filter g xs)).len ≡ n + length (stay g xs)
+pub swept_len : (l : Line) (xs : List ℕ) (g : ℕ → Bool) (n : ℕ) → l.len ≡ n + length xs
+    → (cuts l (filter g xs)).len ≡ n + length (stay g xs)
 swept_len l [] g n e = grind (arith, common_steps)
-swept_len l (y ∷ ys) g n e = grind (arith, common_steps, swept_len (cut l y) ys g n (omega (arith, e)), swept_len l ys g (n + 1) (omega (arith, e)))
+swept_len l (y ∷ ys) g n e =
+    grind (
+      arith,
+      common_steps,
+      swept_len (cut l y) ys g n (omega (arith, e)),
+      swept_len l ys g (n + 1)
+          (omega (arith, e)),
+    )
 
 -- a number that isn't in is not taken out
 pub stay_same : (i : ℕ) (xs : List ℕ) → (is_in i xs ≡ true → ⊥) → stay (λ x. eqb x i) xs ≡ xs
@@ -268,8 +306,10 @@ linked_by l a (y ∷ ys) r up down first last =
       first,
       up y here ∙ last_below-self a y ys r.1,
       linked_by l y ys r.1
-          (λ x e. let lt = in_above y x ys r.1 e in let ne : y ≢ x = λ s. omega arith in up x (is_in-other y x ys ne ∙ e) ∙ last_below-more a x y ys lt)
-          (λ x e. let lt = in_above y x ys r.1 e in let ne : y ≢ x = λ s. omega arith in down x (is_in-other y x ys ne ∙ e) ∙ first_above-more 0 x y ys (omega arith))
+          (λ x e. let lt = in_above y x ys r.1 e in let ne : y ≢ x = λ s. omega arith in up x
+          (is_in-other y x ys ne ∙ e) ∙ last_below-more a x y ys lt)
+          (λ x e. let lt = in_above y x ys r.1 e in let ne : y ≢ x = λ s. omega arith in down x
+          (is_in-other y x ys ne ∙ e) ∙ first_above-more 0 x y ys (omega arith))
           (down y here ∙ first_above-more 0 y y ys (omega arith) ∙ first_above-first 0 y y ys (omega arith) r.1)
           (last ∙ last_of-more a y ys),
     )
@@ -279,7 +319,8 @@ linked_by l a (y ∷ ys) r up down first last =
 abbrev numbers_of : List Numbered → List ℕ
 numbers_of os = map (λ o. o.number) os
 
-pub filter_numbers : (g : ℕ → Bool) (os : List Numbered) → numbers_of (filter (λ o. g o.number) os) ≡ filter g (numbers_of os)
+pub filter_numbers : (g : ℕ → Bool) (os : List Numbered)
+    → numbers_of (filter (λ o. g o.number) os) ≡ filter g (numbers_of os)
 filter_numbers g os = sym (filter-map g (λ o. o.number) os)
 
 abbrev pub goes : List Numbered → ℕ → Bool
@@ -298,7 +339,9 @@ leave_none (x ∷ xs) = leave_none xs
 
 pub others_stay : (x n : ℕ) (ys : List ℕ) → x ≤ n → Rises n ys → stay (λ y. eqb y x) ys ≡ ys
 others_stay x n [] le r = refl
-others_stay x n (y ∷ ys) le r = rw (ne_eqb y x (λ e. omega (arith, e, r.0, le))) (ap (λ ks. y ∷ ks) (others_stay x y ys (omega (arith, r.0, le)) r.1))
+others_stay x n (y ∷ ys) le r =
+    rw (ne_eqb y x (λ e. omega (arith, e, r.0, le)))
+    (ap (λ ks. y ∷ ks) (others_stay x y ys (omega (arith, r.0, le)) r.1))
 
 pub drop_first : (n : ℕ) (xs : List ℕ) → Rises n xs → drop 1 xs ≡ stay (λ x. eqb x (first_of 0 xs)) xs
 drop_first n [] r = refl
@@ -319,7 +362,8 @@ pub drop_numbers : (os : List Numbered) → numbers_of (drop 1 os) ≡ drop 1 (n
 drop_numbers [] = refl
 drop_numbers (o ∷ os) = refl
 
-pub shrinks : (p : Puzzle) (t : List Move) (m : Move) (i : ℕ) → Rises 0 (listed_numbers p t i) → Shrinks (listed_numbers p t i) (listed_numbers p (m ∷ t) i)
+pub shrinks : (p : Puzzle) (t : List Move) (m : Move) (i : ℕ) → Rises 0 (listed_numbers p t i)
+    → Shrinks (listed_numbers p t i) (listed_numbers p (m ∷ t) i)
 shrinks p t (Cover j) i r = grind (arith, common_steps, by_case, drop_first, drop_numbers, eqb-true, same_list)
 shrinks p t (Purify j c) i r = grind (arith, common_steps, by_case, drop_first, drop_numbers, eqb-true, same_list)
 shrinks p t (Tweak j) i r = grind (arith, common_steps, by_case, drop_first, drop_numbers, eqb-true, same_list)
@@ -327,15 +371,20 @@ shrinks p t (Spend j) i r = grind (arith, common_steps, by_case, drop_first, dro
 
 -- ---- the line after a move
 
-pub up_after : (p : Puzzle) (t : List Move) (m : Move) (j : ℕ) (l : Line) → Swept (line_of p t j) l 0 (listed_numbers p t j) (listed_numbers p (m ∷ t) j) → (x : ℕ) → up_of p (m ∷ t) j x ≡ l.up x
+pub up_after : (p : Puzzle) (t : List Move) (m : Move) (j : ℕ) (l : Line)
+    → Swept (line_of p t j) l 0 (listed_numbers p t j) (listed_numbers p (m ∷ t) j) → (x : ℕ)
+    → up_of p (m ∷ t) j x ≡ l.up x
 up_after p t m j l s zero = grind (arith, common_steps)
 up_after p t m j l s (suc x) = grind (arith, common_steps)
 
-pub down_after : (p : Puzzle) (t : List Move) (m : Move) (j : ℕ) (l : Line) → Swept (line_of p t j) l 0 (listed_numbers p t j) (listed_numbers p (m ∷ t) j) → (x : ℕ) → down_of p (m ∷ t) j x ≡ l.down x
+pub down_after : (p : Puzzle) (t : List Move) (m : Move) (j : ℕ) (l : Line)
+    → Swept (line_of p t j) l 0 (listed_numbers p t j) (listed_numbers p (m ∷ t) j) → (x : ℕ)
+    → down_of p (m ∷ t) j x ≡ l.down x
 down_after p t m j l s zero = grind (arith, common_steps)
 down_after p t m j l s (suc x) = grind (arith, common_steps)
 
-linked_same : (l m : Line) (a : ℕ) (xs : List ℕ) → ((x : ℕ) → m.up x ≡ l.up x) → ((x : ℕ) → m.down x ≡ l.down x) → IsLinkedFrom l a xs → IsLinkedFrom m a xs
+linked_same : (l m : Line) (a : ℕ) (xs : List ℕ) → ((x : ℕ) → m.up x ≡ l.up x) → ((x : ℕ) → m.down x ≡ l.down x)
+    → IsLinkedFrom l a xs → IsLinkedFrom m a xs
 linked_same l m a [] up down h = (down a ∙ h.0, up 0 ∙ h.1)
 linked_same l m a (x ∷ xs) up down h = (h.0, down a ∙ h.1, up x ∙ h.2, linked_same l m x xs up down h.3)
 
@@ -352,5 +401,7 @@ stands p (m ∷ t) j =
     let xs = listed_numbers p t j in
     let sh = shrinks p t m j (rises_listed p t j) in
     let l : Line = cuts (line_of p t j) (filter sh.test xs) in
-    let s : Swept (line_of p t j) l 0 xs (listed_numbers p (m ∷ t) j) = subst (Swept (line_of p t j) l 0 xs) (sym sh.is) (swept (line_of p t j) 0 xs sh.test (stands p t j)) in
-    linked_same l (line_of p (m ∷ t) j) 0 (listed_numbers p (m ∷ t) j) (up_after p t m j l s) (down_after p t m j l s) s.linked
+    let s : Swept (line_of p t j) l 0 xs (listed_numbers p (m ∷ t) j) =
+    subst (Swept (line_of p t j) l 0 xs) (sym sh.is) (swept (line_of p t j) 0 xs sh.test (stands p t j)) in
+    linked_same l (line_of p (m ∷ t) j) 0 (listed_numbers p (m ∷ t) j) (up_after p t m j l s) (down_after p t m j l s)
+    s.linked

@@ -1,5 +1,7 @@
 -- What a cell that is read is, and that different cells read differently.
-use Rattle.std.proofs.Common.{◌≡◌, ℕ, suc, List, [], ◌∷◌, Option, Some, None, refl, ap, ap₂, eqb-true, ◌-◌, ◌<◌, ◌≤◌, le-leb, arith, ◌⊎◌, inl, inr, zero, ◌+◌, ◌^◌, map, sym, ◌∙◌, ltb-true, ltb-false, ◌≢◌, true, false, cond, eqb, leb, ltb, length, ne_eqb, leb-true, lt-ltb, le-ltb}
+use Rattle.std.proofs.Common.{◌≡◌, ℕ, suc, List, [], ◌∷◌, Option, Some, None, refl, ap, ap₂, eqb-true, ◌-◌, ◌<◌, ◌≤◌}
+use Rattle.std.proofs.Common.{le-leb, arith, ◌⊎◌, inl, inr, zero, ◌+◌, ◌^◌, map, sym, ◌∙◌, ltb-true, ltb-false, ◌≢◌}
+use Rattle.std.proofs.Common.{true, false, cond, eqb, leb, ltb, length, ne_eqb, leb-true, lt-ltb, le-ltb}
 use Rattle.std.specs.Prelude.{ℤ, pos, negsuc, slice_get, option_map, neg_ℤ}
 use Rattle.std.specs.List.{range_with_len}
 use Rattle.std.proofs.lemmas.Grind.{common_steps}
@@ -9,7 +11,8 @@ use Rattle.std.proofs.lemmas.List.{length-map}
 use Rattle.xc_input.specs.Problem.{Puzzle, item_count, primary_count, high_at, low_at, uses_of}
 use Rattle.xc_dance.specs.inner.Links.Read.{color_read, top_read, minus}
 use Rattle.xc_dance.specs.declared.dance.Move.{Move}
-use Rattle.xc_dance.specs.Fields.{Node, unused, own, spacer, used, layout, field_of, top_of, color_of, item_cell, primary_cell, ring_of, left_of, right_of, first_of, last_of, is_marked}
+use Rattle.xc_dance.specs.Fields.{Node, unused, own, spacer, used, layout, field_of, top_of, color_of, item_cell}
+use Rattle.xc_dance.specs.Fields.{primary_cell, ring_of, left_of, right_of, first_of, last_of, is_marked}
 use Rattle.xc_dance.specs.inner.Links.Cells.{top_in, line_of, nodes_after, color_in}
 use Rattle.xc_dance.specs.inner.Links.Laid.{IsLaid, IsFit}
 use Rattle.xc_dance.specs.declared.links.field.Field.TheVariants.{Llink, Rlink, Bound, Slack, Top, Ulink, Dlink, Color}
@@ -45,7 +48,8 @@ read_large v h = let yes = le-leb SPACER v h in rw yes refl
 
 -- ---- cells that are read
 
-pub read_same : (g : ℕ → ℤ) (x y : Option ℕ) → ((v w : ℕ) → x ≡ Some v → y ≡ Some w → g v ≡ g w → v ≡ w) → option_map g x ≡ option_map g y → x ≡ y
+pub read_same : (g : ℕ → ℤ) (x y : Option ℕ) → ((v w : ℕ) → x ≡ Some v → y ≡ Some w → g v ≡ g w → v ≡ w)
+    → option_map g x ≡ option_map g y → x ≡ y
 read_same g None None h e = refl
 read_same g None (Some w) h e = cc
 read_same g (Some v) None h e = cc
@@ -75,7 +79,8 @@ minus_pos v (suc w) e = let f : pos v ≡ negsuc w = e in cc
 
 -- a number that reads as 0 may be one of two
 pub top_same : (v w : ℕ) → top_read v ≡ top_read w → (v ≡ w) ⊎ ((v ≡ SPACER) ⊎ (w ≡ SPACER))
-top_same v w e = grind (arith, common_steps, ltb-false, ltb-true, minus_pos, minus_same, pos_same, read_large, read_small)
+top_same v w e =
+    grind (arith, common_steps, ltb-false, ltb-true, minus_pos, minus_same, pos_same, read_large, read_small)
 
 -- what the lemmas ask of each table
 pub record IsSound (p : Puzzle) : Type 0 where
@@ -84,7 +89,8 @@ pub record IsSound (p : Puzzle) : Type 0 where
   pub items : item_count p < 2 ^ 31
 
 -- the first spacer alone has that number
-pub first_spacer : (p : Puzzle) (t : List Move) (q : ℕ) (n : Node) → IsSound p → slice_get (layout p) q ≡ Some n → top_in (line_of p t) n ≡ SPACER → q ≡ item_count p + 1
+pub first_spacer : (p : Puzzle) (t : List Move) (q : ℕ) (n : Node) → IsSound p → slice_get (layout p) q ≡ Some n
+    → top_in (line_of p t) n ≡ SPACER → q ≡ item_count p + 1
 first_spacer p t q unused s e f = absurd (omega (arith, f))
 first_spacer p t q (own i) s e f = grind (arith, common_steps, length-listed)
 first_spacer p t q (spacer n) s e f =
@@ -94,20 +100,28 @@ first_spacer p t q (used o u) s e f =
     let r = s.laid.nodes.ranged q (used o u) u.item o e refl in
     absurd (omega (arith, f, r.1, s.items))
 
-pub top_at_first : (p : Puzzle) (t : List Move) (v : ℕ) → slice_get (nodes_after p t).top (item_count p + 1) ≡ Some v → v ≡ SPACER
+pub top_at_first : (p : Puzzle) (t : List Move) (v : ℕ) → slice_get (nodes_after p t).top (item_count p + 1) ≡ Some v
+    → v ≡ SPACER
 top_at_first p t v e =
-    let here : slice_get (layout p) (item_count p + 1) ≡ Some (spacer 0) = ap (slice_get (layout p)) (sym (place_first p)) ∙ spacer_here p 0 (omega arith) in
-    let is : slice_get (nodes_after p t).top (item_count p + 1) ≡ Some SPACER = slice_get-map (top_in (line_of p t)) (layout p) (item_count p + 1) ∙ ap (option_map (top_in (line_of p t))) here in
+    let here : slice_get (layout p) (item_count p + 1) ≡ Some (spacer 0) =
+    ap (slice_get (layout p)) (sym (place_first p)) ∙ spacer_here p 0 (omega arith) in
+    let is : slice_get (nodes_after p t).top (item_count p + 1) ≡ Some SPACER =
+    slice_get-map (top_in (line_of p t)) (layout p) (item_count p + 1)
+    ∙ ap (option_map (top_in (line_of p t))) here in
     same_Some v SPACER (sym e ∙ is)
 
-pub node_at : (p : Puzzle) (f : Node → ℕ) (q v : ℕ) → slice_get (map f (layout p)) q ≡ Some v → (n : Node) × (slice_get (layout p) q ≡ Some n) × (f n ≡ v)
+pub node_at : (p : Puzzle) (f : Node → ℕ) (q v : ℕ) → slice_get (map f (layout p)) q ≡ Some v → (n : Node)
+    × (slice_get (layout p) q ≡ Some n) × (f n ≡ v)
 node_at p f q v e = grind (arith, common_steps, same_Some, slice_get-map)
 
 pub top_cells : (p q : Puzzle) (t s : List Move) (k : ℕ) → IsSound p → IsSound q → item_count p ≡ item_count q →
-    option_map top_read (slice_get (nodes_after p t).top k) ≡ option_map top_read (slice_get (nodes_after q s).top k) → slice_get (nodes_after p t).top k ≡ slice_get (nodes_after q s).top k
-top_cells p q t s k a b items e = read_same top_read (slice_get (nodes_after p t).top k) (slice_get (nodes_after q s).top k) by_value e
+    option_map top_read (slice_get (nodes_after p t).top k) ≡ option_map top_read (slice_get (nodes_after q s).top k)
+    → slice_get (nodes_after p t).top k ≡ slice_get (nodes_after q s).top k
+top_cells p q t s k a b items e =
+    read_same top_read (slice_get (nodes_after p t).top k) (slice_get (nodes_after q s).top k) by_value e
   where
-    by_value : (v w : ℕ) → slice_get (nodes_after p t).top k ≡ Some v → slice_get (nodes_after q s).top k ≡ Some w → top_read v ≡ top_read w → v ≡ w
+    by_value : (v w : ℕ) → slice_get (nodes_after p t).top k ≡ Some v → slice_get (nodes_after q s).top k ≡ Some w
+        → top_read v ≡ top_read w → v ≡ w
     by_value v w f g h =
         elim (top_same v w h) [
           | inl same ↦ same
@@ -115,11 +129,13 @@ top_cells p q t s k a b items e = read_same top_read (slice_get (nodes_after p t
             | inl is ↦
                 (let n = node_at p (top_in (line_of p t)) k v f in
                 let at = first_spacer p t k n.0 a n.1 (n.2 ∙ is) in
-                is ∙ sym (top_at_first q s w (ap (slice_get (nodes_after q s).top) (sym (at ∙ ap (λ m. m + 1) items)) ∙ g)))
+                is ∙ sym (top_at_first q s w
+                (ap (slice_get (nodes_after q s).top) (sym (at ∙ ap (λ m. m + 1) items)) ∙ g)))
             | inr is ↦
                 (let n = node_at q (top_in (line_of q s)) k w g in
                 let at = first_spacer q s k n.0 b n.1 (n.2 ∙ is) in
-                top_at_first p t v (ap (slice_get (nodes_after p t).top) (sym (at ∙ ap (λ m. m + 1) (sym items))) ∙ f) ∙ sym is)
+                top_at_first p t v (ap (slice_get (nodes_after p t).top) (sym (at ∙ ap (λ m. m + 1) (sym items))) ∙ f)
+                ∙ sym is)
           ]
         ]
 
@@ -135,14 +151,23 @@ row_at_zero f n q = let z : 0 + q ≡ q = omega arith in row_read f 0 n q ∙ ap
 
 -- the columns from 0 to the items and one more
 item_row : (p : Puzzle) (inner : ℕ → ℕ) (first last q : ℕ) →
-    option_map natural (slice_get (map (λ k. cond (eqb k 0) first (cond (leb k (item_count p)) (inner k) last)) (range_with_len 0 (item_count p + 2))) q) ≡ item_cell p q inner first last
-item_row p inner first last q = grind (arith, common_steps, eqb-false, eqb-true, le-ltb, leb-false, leb-true, lt-ltb, row_at_zero)
+    option_map natural (slice_get
+    (map (λ k. cond (eqb k 0) first (cond (leb k (item_count p)) (inner k) last))
+    (range_with_len 0 (item_count p + 2))) q) ≡ item_cell p q inner first last
+item_row p inner first last q =
+    grind (arith, common_steps, eqb-false, eqb-true, le-ltb, leb-false, leb-true, lt-ltb, row_at_zero)
 
-pub llink_read : (p : Puzzle) (t : List Move) (q : ℕ) → option_map natural (slice_get (items_after p t).llink q) ≡ field_of p t Llink q
-llink_read p t q = item_row p (left_of p t) (last_of 0 (ring_of p t 0)) (last_of (item_count p + 1) (ring_of p t (primary_count p + 1))) q
+pub llink_read : (p : Puzzle) (t : List Move) (q : ℕ)
+    → option_map natural (slice_get (items_after p t).llink q) ≡ field_of p t Llink q
+llink_read p t q =
+    item_row p (left_of p t) (last_of 0 (ring_of p t 0))
+    (last_of (item_count p + 1) (ring_of p t (primary_count p + 1))) q
 
-pub rlink_read : (p : Puzzle) (t : List Move) (q : ℕ) → option_map natural (slice_get (items_after p t).rlink q) ≡ field_of p t Rlink q
-rlink_read p t q = item_row p (right_of p t) (first_of 0 (ring_of p t 0)) (first_of (item_count p + 1) (ring_of p t (primary_count p + 1))) q
+pub rlink_read : (p : Puzzle) (t : List Move) (q : ℕ)
+    → option_map natural (slice_get (items_after p t).rlink q) ≡ field_of p t Rlink q
+rlink_read p t q =
+    item_row p (right_of p t) (first_of 0 (ring_of p t 0))
+    (first_of (item_count p + 1) (ring_of p t (primary_count p + 1))) q
 
 -- ---- the node table
 
@@ -151,20 +176,27 @@ minus_is zero = refl
 minus_is (suc n) = refl
 
 spacer_top : (n : ℕ) → top_read (SPACER + n) ≡ neg_ℤ (pos n)
-spacer_top n = let rest : SPACER + n - SPACER ≡ n = omega arith in read_large (SPACER + n) (omega arith) ∙ ap minus rest ∙ minus_is n
+spacer_top n = let rest : SPACER + n - SPACER ≡ n = omega arith in read_large (SPACER + n) (omega arith) ∙ ap minus rest
+    ∙ minus_is n
 
-map_at : {X Y : Type 0} (f g : X → Y) (o : Option X) → ((x : X) → o ≡ Some x → f x ≡ g x) → option_map f o ≡ option_map g o
+map_at : {X Y : Type 0} (f g : X → Y) (o : Option X) → ((x : X) → o ≡ Some x → f x ≡ g x)
+    → option_map f o ≡ option_map g o
 map_at f g None h = refl
 map_at f g (Some x) h = ap Some (h x refl)
 
-map_twice : {X Y Z : Type 0} (f : X → Y) (g : Y → Z) (o : Option X) → option_map g (option_map f o) ≡ option_map (λ x. g (f x)) o
+map_twice : {X Y Z : Type 0} (f : X → Y) (g : Y → Z) (o : Option X)
+    → option_map g (option_map f o) ≡ option_map (λ x. g (f x)) o
 map_twice f g None = refl
 map_twice f g (Some x) = refl
 
-node_read : (p : Puzzle) (f : Node → ℕ) (g : ℕ → ℤ) (h : Node → ℤ) (q : ℕ) → ((n : Node) → slice_get (layout p) q ≡ Some n → g (f n) ≡ h n) → option_map g (slice_get (map f (layout p)) q) ≡ option_map h (slice_get (layout p) q)
-node_read p f g h q same = ap (option_map g) (slice_get-map f (layout p) q) ∙ map_twice f g (slice_get (layout p) q) ∙ map_at (λ n. g (f n)) h (slice_get (layout p) q) same
+node_read : (p : Puzzle) (f : Node → ℕ) (g : ℕ → ℤ) (h : Node → ℤ) (q : ℕ)
+    → ((n : Node) → slice_get (layout p) q ≡ Some n → g (f n) ≡ h n)
+    → option_map g (slice_get (map f (layout p)) q) ≡ option_map h (slice_get (layout p) q)
+node_read p f g h q same = ap (option_map g) (slice_get-map f (layout p) q) ∙ map_twice f g (slice_get (layout p) q)
+    ∙ map_at (λ n. g (f n)) h (slice_get (layout p) q) same
 
-pub top_cell : (p : Puzzle) (t : List Move) (q : ℕ) → IsLaid p → IsFit p → item_count p < 2 ^ 31 → option_map top_read (slice_get (nodes_after p t).top q) ≡ field_of p t Top q
+pub top_cell : (p : Puzzle) (t : List Move) (q : ℕ) → IsLaid p → IsFit p → item_count p < 2 ^ 31
+    → option_map top_read (slice_get (nodes_after p t).top q) ≡ field_of p t Top q
 top_cell p t q laid fit few = node_read p (top_in (line_of p t)) top_read (top_of p t) q by_node
   where
     by_node : (n : Node) → slice_get (layout p) q ≡ Some n → top_read (top_in (line_of p t) n) ≡ top_of p t n
@@ -173,22 +205,27 @@ top_cell p t q laid fit few = node_read p (top_in (line_of p t)) top_read (top_o
         let long = length-map (listed p t i) (λ o. o.number) in
         read_small (length (listed p t i)) (omega (arith, long, numbers_few p t i, fit.few))
     by_node (spacer n) e = spacer_top n
-    by_node (used o u) e = let r = laid.nodes.ranged q (used o u) u.item o e refl in read_small u.item (omega (arith, r.1, few))
+    by_node (used o u) e =
+        let r = laid.nodes.ranged q (used o u) u.item o e refl in read_small u.item (omega (arith, r.1, few))
 
-pub ulink_cell : (p : Puzzle) (t : List Move) (q : ℕ) → IsLaid p → option_map natural (slice_get (nodes_after p t).ulink q) ≡ field_of p t Ulink q
+pub ulink_cell : (p : Puzzle) (t : List Move) (q : ℕ) → IsLaid p
+    → option_map natural (slice_get (nodes_after p t).ulink q) ≡ field_of p t Ulink q
 ulink_cell p t q laid = grind (arith, common_steps, node_read)
 
-pub dlink_cell : (p : Puzzle) (t : List Move) (q : ℕ) → IsLaid p → option_map natural (slice_get (nodes_after p t).dlink q) ≡ field_of p t Dlink q
+pub dlink_cell : (p : Puzzle) (t : List Move) (q : ℕ) → IsLaid p
+    → option_map natural (slice_get (nodes_after p t).dlink q) ≡ field_of p t Dlink q
 dlink_cell p t q laid = grind (arith, common_steps, node_read)
 
 small_color : (v : ℕ) → v < MARK → color_read v ≡ pos v
 small_color v h = rw (ne_eqb v MARK (λ e. omega (arith, e, h))) refl
 
 -- the items' own nodes are never read as marked
-pub color_own : (p : Puzzle) (t : List Move) (q : ℕ) → IsLaid p → q ≤ item_count p → option_map natural (slice_get (nodes_after p t).color q) ≡ field_of p t Color q
+pub color_own : (p : Puzzle) (t : List Move) (q : ℕ) → IsLaid p → q ≤ item_count p
+    → option_map natural (slice_get (nodes_after p t).color q) ≡ field_of p t Color q
 color_own p t q laid le = grind (arith, common_steps, eqb-false, eqb-true, node_read)
 
-pub color_use : (p : Puzzle) (t : List Move) (q : ℕ) → IsLaid p → IsFit p → item_count p < q → option_map color_read (slice_get (nodes_after p t).color q) ≡ field_of p t Color q
+pub color_use : (p : Puzzle) (t : List Move) (q : ℕ) → IsLaid p → IsFit p → item_count p < q
+    → option_map color_read (slice_get (nodes_after p t).color q) ≡ field_of p t Color q
 color_use p t q laid fit gt = node_read p (color_in p t) color_read (color_of p t) q by_node
   where
     by_node : (n : Node) → slice_get (layout p) q ≡ Some n → color_read (color_in p t n) ≡ color_of p t n
@@ -200,15 +237,21 @@ color_use p t q laid fit gt = node_read p (color_in p t) color_read (color_of p 
     by_node (spacer n) e = refl
     by_node (used o u) e =
         let small = colour_small (uses_of p o) u.item u.colour (fit.colours o) (laid.nodes.coloured q o u e) in
-        elim (is_marked p t u.item o u.colour) as (λ b. color_read (cond b MARK u.colour) ≡ cond b (neg_ℤ (pos 1)) (pos u.colour)) [ true ↦ refl | false ↦ small_color u.colour small ]
+        elim (is_marked p t u.item o u.colour) as
+        (λ b. color_read (cond b MARK u.colour) ≡ cond b (neg_ℤ (pos 1)) (pos u.colour))
+        [ true ↦ refl | false ↦ small_color u.colour small ]
 
 -- ---- bounds
 
-bound_row : (p : Puzzle) (f : ℕ → ℕ) (q : ℕ) → q ≢ 0 → option_map natural (slice_get (map (λ k. cond (eqb k 0) 0 (f k)) (range_with_len 0 (primary_count p + 1))) q) ≡ primary_cell p q (f q)
+bound_row : (p : Puzzle) (f : ℕ → ℕ) (q : ℕ) → q ≢ 0
+    → option_map natural (slice_get (map (λ k. cond (eqb k 0) 0 (f k)) (range_with_len 0 (primary_count p + 1))) q) ≡
+    primary_cell p q (f q)
 bound_row p f q ne = grind (arith, common_steps, le-ltb, leb-false, leb-true, lt-ltb, ne_eqb, row_at_zero)
 
-pub bound_read : (p : Puzzle) (t : List Move) (q : ℕ) → q ≢ 0 → option_map natural (slice_get (items_after p t).bound q) ≡ field_of p t Bound q
+pub bound_read : (p : Puzzle) (t : List Move) (q : ℕ) → q ≢ 0
+    → option_map natural (slice_get (items_after p t).bound q) ≡ field_of p t Bound q
 bound_read p t q ne = bound_row p (λ k. high_at p k - spends k t) q ne
 
-pub slack_read : (p : Puzzle) (t : List Move) (q : ℕ) → q ≢ 0 → option_map natural (slice_get (items_after p t).slack q) ≡ field_of p t Slack q
+pub slack_read : (p : Puzzle) (t : List Move) (q : ℕ) → q ≢ 0
+    → option_map natural (slice_get (items_after p t).slack q) ≡ field_of p t Slack q
 slack_read p t q ne = bound_row p (λ k. high_at p k - low_at p k) q ne

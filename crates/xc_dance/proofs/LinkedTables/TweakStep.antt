@@ -1,5 +1,7 @@
 -- Tweak: from the node table after moves to that after one move more, and back.
-use Rattle.std.proofs.Common.{◌≡◌, ◌≢◌, ℕ, ◌+◌, ◌*◌, ◌<◌, ◌≤◌, ◌^◌, Bool, true, false, not, cond, eqb, List, [], ◌∷◌, length, filter, get_or, reverse, refl, ap, sym, subst, ◌∙◌, arith, eqb-true, eq-eqb, ne_eqb}
+use Rattle.std.proofs.Common.{◌≡◌, ◌≢◌, ℕ, ◌+◌, ◌*◌, ◌<◌, ◌≤◌, ◌^◌, Bool, true, false, not, cond, eqb, List, [], ◌∷◌}
+use Rattle.std.proofs.Common.{length, filter, get_or, reverse, refl, ap, sym, subst, ◌∙◌, arith, eqb-true, eq-eqb}
+use Rattle.std.proofs.Common.{ne_eqb}
 use Rattle.std.proofs.lemmas.Grind.{common_steps}
 use Rattle.std.specs.List.{AllByRecursion}
 use Rattle.std.proofs.lemmas.Bool.{eqb-false, false≢true}
@@ -12,19 +14,26 @@ use Rattle.xc_input.specs.Problem.{Puzzle, item_count, uses_of}
 use Rattle.xc_dance.specs.Moves.{listed, is_open, AreLegal, listed_numbers}
 use Rattle.xc_dance.specs.Fields.{Node, unused, own, layout, link_place, first_of, is_in}
 use Rattle.xc_dance.specs.inner.Links.Lines.{Line}
-use Rattle.xc_dance.specs.inner.Links.Steps.{HasSize, NamesPlaces, unlinked, relinked, others_of, CanHideNode, CanUnhideNode, hide_costs, unhide_costs}
-use Rattle.xc_dance.specs.inner.Links.Tweaking.{hidden_unless, unhidden_unless, tweaked, untweaked, CanTweak, CanTweakAt, CanUntweak, tweak_cost, untweak_cost}
+use Rattle.xc_dance.specs.inner.Links.Steps.{HasSize, NamesPlaces, unlinked, relinked, others_of, CanHideNode}
+use Rattle.xc_dance.specs.inner.Links.Steps.{CanUnhideNode, hide_costs, unhide_costs}
+use Rattle.xc_dance.specs.inner.Links.Tweaking.{hidden_unless, unhidden_unless, tweaked, untweaked, CanTweak}
+use Rattle.xc_dance.specs.inner.Links.Tweaking.{CanTweakAt, CanUntweak, tweak_cost, untweak_cost}
 use Rattle.xc_dance.specs.inner.Links.Cells.{color_in, dlink_in, nodes_from, nodes_after, line_of}
 use Rattle.xc_dance.specs.inner.Links.Others.{before_use, behind_use}
 use Rattle.xc_dance.specs.inner.Links.Made.{IsFitted}
 use Rattle.std.proofs.lemmas.Option.{slice_get_within}
 use Rattle.xc_dance.proofs.LinkedTables.LinkColumns.{relinked-unlinked, CanRelink-unlinked, get_down, size_from}
-use Rattle.xc_dance.proofs.LinkedTables.GoodLines.{IsMember, unlinked-is, linked-is, member_cells, Named, IsGood, AllGood, member, all_good, numbers_named, SameCut, line_after, tables_same}
-use Rattle.xc_dance.proofs.LinkedTables.Sweep.{Rises, stay, cuts, is_in-first, drop_first, stay_all, leave_none, cut, with_line, other_items}
+use Rattle.xc_dance.proofs.LinkedTables.GoodLines.{IsMember, unlinked-is, linked-is, member_cells, Named, IsGood}
+use Rattle.xc_dance.proofs.LinkedTables.GoodLines.{AllGood, member, all_good, numbers_named, SameCut, line_after}
+use Rattle.xc_dance.proofs.LinkedTables.GoodLines.{tables_same}
+use Rattle.xc_dance.proofs.LinkedTables.Sweep.{Rises, stay, cuts, is_in-first, drop_first, stay_all, leave_none, cut}
+use Rattle.xc_dance.proofs.LinkedTables.Sweep.{with_line, other_items}
 use Rattle.xc_dance.proofs.LinkedTables.OneOption.{left_all, walked, ready_front, all_other, line_here, line_there}
 use Rattle.xc_dance.proofs.LinkedTables.Spacers.{turns}
 use Rattle.xc_dance.proofs.LinkedTables.OtherItems.{leaves, list_at, each_apart, own_apart}
-use Rattle.xc_dance.proofs.LinkedTables.Leaving.{ready_at, AreOf, cut_others, leaves_own, total, total_same, total_plus, total_zero, total_point, exchanged, leaving_is, first_alone, takes_tweak, tweak_others, tweak_own}
+use Rattle.xc_dance.proofs.LinkedTables.Leaving.{ready_at, AreOf, cut_others, leaves_own, total, total_same, total_plus}
+use Rattle.xc_dance.proofs.LinkedTables.Leaving.{total_zero, total_point, exchanged, leaving_is, first_alone}
+use Rattle.xc_dance.proofs.LinkedTables.Leaving.{takes_tweak, tweak_others, tweak_own}
 use Rattle.xc_dance.specs.Cost.{cost_of, leaving}
 use Rattle.xc_dance.proofs.LinkedTables.HideMoves.{own_placed}
 use Rattle.xc_dance.proofs.MoveLemmas.Shortened.{rises_listed}
@@ -53,7 +62,8 @@ tweak_colours p t i _ = refl
 
 one_only : (o n : ℕ) (os : List ℕ) → o ≤ n → Rises n os → filter (λ x. eqb x o) os ≡ []
 one_only o n [] le r = refl
-one_only o n (x ∷ xs) le r = let ne : eqb x o ≡ false = ne_eqb x o (λ e. omega (arith, e, r.0, le)) in rw ne (one_only o x xs (omega (arith, r.0, le)) r.1)
+one_only o n (x ∷ xs) le r = let ne : eqb x o ≡ false = ne_eqb x o (λ e. omega (arith, e, r.0, le)) in
+    rw ne (one_only o x xs (omega (arith, r.0, le)) r.1)
 
 -- its own line loses the first
 pub tweak_cut : (p : Puzzle) (t : List Move) (i : ℕ) (f : HasFirst p t i) → SameCut p t (Tweak i) i (f.o ∷ [])
@@ -63,7 +73,8 @@ tweak_cut p t i f =
       test = λ x. eqb x f.o;
       cut_is =
           ap (λ ks. f.o ∷ ks) (sym (one_only f.o f.o f.os (omega arith) r.1))
-          ∙ ap (λ b. cond b (f.o ∷ filter (λ x. eqb x f.o) f.os) (filter (λ x. eqb x f.o) f.os)) (sym (eq-eqb f.o f.o refl))
+          ∙ ap (λ b. cond b (f.o ∷ filter (λ x. eqb x f.o) f.os) (filter (λ x. eqb x f.o) f.os))
+          (sym (eq-eqb f.o f.o refl))
           ∙ ap (filter (λ x. eqb x f.o)) (sym f.is);
       stay_is =
           tweak_own p t i ∙ drop_first 0 (listed_numbers p t i) (rises_listed p t i)
@@ -78,7 +89,8 @@ tweak_shut p t i j shut ne = record {
   stay_is = tweak_others p t i j shut ne ∙ sym (stay_all (listed_numbers p t j));
 }
 
-pub first_of-list : (p : Puzzle) (t : List Move) (i : ℕ) → HasFirst p t i → AreOf p t i (first_alone (listed_numbers p t i))
+pub first_of-list : (p : Puzzle) (t : List Move) (i : ℕ) → HasFirst p t i
+    → AreOf p t i (first_alone (listed_numbers p t i))
 first_of-list p t i f =
     let r : Rises 0 (f.o ∷ f.os) = subst (Rises 0) f.is (rises_listed p t i) in
     grind (arith, common_steps, false≢true)
@@ -97,14 +109,20 @@ pub record Mid (p : Puzzle) (t : List Move) (spans : List Span) (covered : Bool)
   pub none : ks i ≡ []
   pub cut : (j : ℕ) → (0 < j) × (j ≤ item_count p) → j ≢ i → SameCut p t (Tweak i) j (ks j)
   pub line : (j : ℕ) → ln j ≡ cuts (line_of p t j) (ks j)
-  pub hide : covered ≡ false → (link_place p i o < length spans) × CanHideNode spans (nodes_after p t) (link_place p i o)
+  pub hide : covered ≡ false → (link_place p i o < length spans)
+      × CanHideNode spans (nodes_after p t) (link_place p i o)
   pub done : hidden_unless spans covered (nodes_after p t) (link_place p i o) ≡ nodes_from p ln (color_in p t)
-  pub unhide : covered ≡ false → (link_place p i o < length spans) × CanUnhideNode spans (nodes_from p ln (color_in p t)) (link_place p i o)
+  pub unhide : covered ≡ false → (link_place p i o < length spans)
+      × CanUnhideNode spans (nodes_from p ln (color_in p t)) (link_place p i o)
   pub undone : unhidden_unless spans covered (nodes_from p ln (color_in p t)) (link_place p i o) ≡ nodes_after p t
-  pub cost : cond covered 0 (hide_costs (nodes_after p t) (others_of spans (link_place p i o))) ≡ 3 * total (λ j. length (ks j)) 1 (item_count p)
-  pub cost_back : cond covered 0 (unhide_costs (nodes_from p ln (color_in p t)) (reverse (others_of spans (link_place p i o)))) ≡ 3 * total (λ j. length (ks j)) 1 (item_count p)
+  pub cost : cond covered 0 (hide_costs (nodes_after p t) (others_of spans (link_place p i o))) ≡ 3 * total
+      (λ j. length (ks j)) 1 (item_count p)
+  pub cost_back : cond covered 0
+      (unhide_costs (nodes_from p ln (color_in p t)) (reverse (others_of spans (link_place p i o)))) ≡ 3 * total
+      (λ j. length (ks j)) 1 (item_count p)
 
-mid_covered : (p : Puzzle) (t : List Move) (spans : List Span) (i : ℕ) → IsFitted p spans → is_open i t ≡ false → (f : HasFirst p t i) → Mid p t spans true i f.o
+mid_covered : (p : Puzzle) (t : List Move) (spans : List Span) (i : ℕ) → IsFitted p spans → is_open i t ≡ false
+    → (f : HasFirst p t i) → Mid p t spans true i f.o
 mid_covered p t spans i fit shut f = record {
   ln = line_of p t;
   lists = listed_numbers p t;
@@ -123,7 +141,8 @@ mid_covered p t spans i fit shut f = record {
   cost_back = let z = total_zero 1 (item_count p) in omega (arith, z);
 }
 
-mid_open : (p : Puzzle) (t : List Move) (spans : List Span) (i : ℕ) → AreLegal p t → IsFitted p spans → is_open i t ≡ true → 0 < i → i ≤ item_count p → (f : HasFirst p t i) → Mid p t spans false i f.o
+mid_open : (p : Puzzle) (t : List Move) (spans : List Span) (i : ℕ) → AreLegal p t → IsFitted p spans
+    → is_open i t ≡ true → 0 < i → i ≤ item_count p → (f : HasFirst p t i) → Mid p t spans false i f.o
 mid_open p t spans i legal fit opened pos le f =
     let o = f.o in
     let laid = fit.laid in
@@ -132,11 +151,15 @@ mid_open p t spans i legal fit opened pos le f =
     let js = other_items p o i in
     let x = link_place p i o in
     let r : Rises 0 (o ∷ f.os) = subst (Rises 0) f.is (rises_listed p t i) in
-    let within : is_in o (listed_numbers p t i) ≡ true = subst (λ ks. is_in o ks ≡ true) (sym f.is) (is_in-first o f.os) in
+    let within : is_in o (listed_numbers p t i) ≡ true =
+    subst (λ ks. is_in o ks ≡ true) (sym f.is) (is_in-first o f.os) in
     let named : Named p i o = (subst (λ ks. AllByRecursion (Named p i) ks) f.is (numbers_named p t i)).0 in
     let ready = ready_at p t i o legal laid fit.fit opened within in
     let w = walked p col (line_of p t) (listed_numbers p t) o js laid r.0 (all_good p t fit.fit) ready in
-    let mid = walked p col (line_of p t) (listed_numbers p t) o (behind_use i (uses_of p o)) laid r.0 (all_good p t fit.fit) (ready_front p col (listed_numbers p t) o (behind_use i (uses_of p o)) (before_use i (uses_of p o)) ready) in
+    let mid =
+    walked p col (line_of p t) (listed_numbers p t) o (behind_use i (uses_of p o)) laid r.0 (all_good p t fit.fit)
+    (ready_front p col (listed_numbers p t) o (behind_use i (uses_of p o)) (before_use i (uses_of p o))
+    ready) in
     let both = turns p (line_of p t) col (listed_numbers p t) spans o i spanned r.0 named w mid in
     let apart = own_apart p i o fit.fit in
     let of = first_of-list p t i f in
@@ -152,7 +175,8 @@ mid_open p t spans i legal fit opened pos le f =
       none = leaves_own p t i (o ∷ []) fit.fit (r.0, tt);
       cut = λ j rj ne.
           let cut_j : SameCut p t (Tweak i) j (filter (leaves p col i j) (first_alone (listed_numbers p t i))) =
-          cut_others p t (Tweak i) i j (first_alone (listed_numbers p t i)) legal laid fit.fit opened rj of (takes_tweak p t i opened) ne in
+          cut_others p t (Tweak i) i j (first_alone (listed_numbers p t i)) legal laid fit.fit opened rj of
+          (takes_tweak p t i opened) ne in
           subst (λ ks. SameCut p t (Tweak i) j (filter (leaves p col i j) ks)) one cut_j;
       line = λ j. list_at p col i (line_of p t) (o ∷ []) j (each_apart p i (o ∷ []) fit.fit);
       hide = λ e. (spanned.within o i r.0 named, both.hide);
@@ -168,13 +192,18 @@ mid_open p t spans i legal fit opened pos le f =
 pub record TweakMade (p : Puzzle) (t : List Move) (spans : List Span) (covered : Bool) (i : ℕ) : Type 0 where
   pub can : CanTweak spans covered (nodes_after p t) i
   pub done : tweaked spans covered (nodes_after p t) i ≡ nodes_after p (Tweak i ∷ t)
-  pub can_back : CanUntweak spans covered (nodes_after p (Tweak i ∷ t)) (link_place p i (first_of 0 (listed_numbers p t i)))
-  pub undone : untweaked spans covered (nodes_after p (Tweak i ∷ t)) (link_place p i (first_of 0 (listed_numbers p t i))) ≡ nodes_after p t
+  pub can_back : CanUntweak spans covered (nodes_after p (Tweak i ∷ t))
+      (link_place p i (first_of 0 (listed_numbers p t i)))
+  pub undone : untweaked spans covered (nodes_after p (Tweak i ∷ t))
+      (link_place p i (first_of 0 (listed_numbers p t i))) ≡ nodes_after p t
   pub cost : tweak_cost spans covered (nodes_after p t) i ≡ cost_of p t (Tweak i)
-  pub cost_back : untweak_cost spans covered (nodes_after p (Tweak i ∷ t)) (link_place p i (first_of 0 (listed_numbers p t i))) ≡ cost_of p t (Tweak i)
+  pub cost_back : untweak_cost spans covered (nodes_after p (Tweak i ∷ t))
+      (link_place p i (first_of 0 (listed_numbers p t i))) ≡ cost_of p t (Tweak i)
 
 -- one node leaves i's list, and those of the other lines
-leaving_tweak : (p : Puzzle) (t : List Move) (spans : List Span) (covered : Bool) (i : ℕ) → 0 < i → i ≤ item_count p → (f : HasFirst p t i) → (mid : Mid p t spans covered i f.o) → leaving p t (Tweak i) ≡ 1 + total (λ j. length (mid.ks j)) 1 (item_count p)
+leaving_tweak : (p : Puzzle) (t : List Move) (spans : List Span) (covered : Bool) (i : ℕ) → 0 < i → i ≤ item_count p
+    → (f : HasFirst p t i) → (mid : Mid p t spans covered i f.o)
+    → leaving p t (Tweak i) ≡ 1 + total (λ j. length (mid.ks j)) 1 (item_count p)
 leaving_tweak p t spans covered i pos le f mid =
     let n = item_count p in
     let k : ℕ → List ℕ = λ j. cond (eqb i j) (f.o ∷ []) (mid.ks j) in
@@ -183,15 +212,18 @@ leaving_tweak p t spans covered i pos le f mid =
       | true ↦ λ e. subst (λ m. SameCut p t (Tweak i) m (f.o ∷ [])) (eqb-true i j e) (tweak_cut p t i f)
       | false ↦ λ e. mid.cut j r (λ g. eqb-false i j e (sym g))
     ] refl) in
-    let split : total (λ j. length (k j)) 1 n ≡ total (λ j. cond (eqb i j) 1 0 + length (mid.ks j)) 1 n = total_same _ _ 1 n (λ j u v.
+    let split : total (λ j. length (k j)) 1 n ≡ total (λ j. cond (eqb i j) 1 0 + length (mid.ks j)) 1 n =
+    total_same _ _ 1 n (λ j u v.
     elim (eqb i j) as (λ b. eqb i j ≡ b → length (cond b (f.o ∷ []) (mid.ks j)) ≡ cond b 1 0 + length (mid.ks j)) [
-      | true ↦ λ e. let z : length (mid.ks j) ≡ 0 = ap (λ m. length (mid.ks m)) (sym (eqb-true i j e)) ∙ ap length mid.none in omega (arith, z)
+      | true ↦ λ e. let z : length (mid.ks j) ≡ 0 =
+          ap (λ m. length (mid.ks m)) (sym (eqb-true i j e)) ∙ ap length mid.none in omega (arith, z)
       | false ↦ λ e. omega arith
     ] refl) in
     let sum = total_plus (λ j. cond (eqb i j) 1 0) (λ j. length (mid.ks j)) 1 n in
     omega (arith, all, split, sum, total_point i 1 1 n (omega (arith, pos)) (omega (arith, le)))
 
-by_mid : (p : Puzzle) (t : List Move) (spans : List Span) (covered : Bool) (i : ℕ) → IsFitted p spans → 0 < i → i ≤ item_count p → (f : HasFirst p t i) → Mid p t spans covered i f.o → TweakMade p t spans covered i
+by_mid : (p : Puzzle) (t : List Move) (spans : List Span) (covered : Bool) (i : ℕ) → IsFitted p spans → 0 < i
+    → i ≤ item_count p → (f : HasFirst p t i) → Mid p t spans covered i f.o → TweakMade p t spans covered i
 by_mid p t spans covered i fit pos le f mid =
     let o = f.o in
     let gone = leaving_tweak p t spans covered i pos le f mid in
@@ -204,23 +236,29 @@ by_mid p t spans covered i fit pos le f mid =
     let l : Line = cut (mid.ln i) o in
     let good : IsGood p i (mid.ln i) (o ∷ f.os) = subst (IsGood p i (mid.ln i)) (mid.list ∙ f.is) (mid.good i pos le) in
     let m : IsMember p i (mid.ln i) o = member p i (mid.ln i) [] o f.os pos le good in
-    let few : (mid.ln i).len < 2 ^ 31 = let a : (mid.ln i).len ≡ length (o ∷ f.os) = good.len in let b : length (o ∷ f.os) < 2 ^ 31 = good.few in omega arith in
+    let few : (mid.ln i).len < 2 ^ 31 = let a : (mid.ln i).len ≡ length (o ∷ f.os) = good.len in
+    let b : length (o ∷ f.os) < 2 ^ 31 = good.few in omega arith in
     let linked = linked-is p col mid.ln i o laid m in
     let cells = member_cells p col mid.ln i o laid m in
     let names = cells.names in
     let size = size_from p mid.ln col in
-    let count : get_or u.top (get_or u.top x 0) 0 ≡ (mid.ln i).len = ap (λ k. get_or u.top k 0) cells.item ∙ cells.len in
+    let count : get_or u.top (get_or u.top x 0) 0 ≡ (mid.ln i).len =
+    ap (λ k. get_or u.top k 0) cells.item ∙ cells.len in
     let out : unlinked u x ≡ nodes_from p (with_line mid.ln i l) col = unlinked-is p col mid.ln i o laid m in
     let end : next ≡ nodes_from p (with_line mid.ln i l) col =
     tables_same p (with_line mid.ln i l) (line_of p (Tweak i ∷ t)) col (color_in p (Tweak i ∷ t)) laid
     (λ j r. elim (eqb j i) as (λ b. eqb j i ≡ b → line_of p (Tweak i ∷ t) j ≡ with_line mid.ln i l j) [
       | true ↦ λ e. subst (λ k. line_of p (Tweak i ∷ t) k ≡ with_line mid.ln i l k) (sym (eqb-true j i e))
-          (line_after p t (Tweak i) i (o ∷ []) (tweak_cut p t i f) ∙ sym (line_here mid.ln i l ∙ ap (λ (k : Line). cut k o) mid.own))
-      | false ↦ λ e. let ne : j ≢ i = eqb-false j i e in line_after p t (Tweak i) j (mid.ks j) (mid.cut j r ne) ∙ sym (line_there mid.ln i j l ne ∙ mid.line j)
+          (line_after p t (Tweak i) i (o ∷ []) (tweak_cut p t i f)
+          ∙ sym (line_here mid.ln i l ∙ ap (λ (k : Line). cut k o) mid.own))
+      | false ↦ λ e. let ne : j ≢ i = eqb-false j i e in line_after p t (Tweak i) j (mid.ks j) (mid.cut j r ne)
+          ∙ sym (line_there mid.ln i j l ne ∙ mid.line j)
     ] refl)
     (λ k n at. tweak_colours p t i n) in
-    let first : get_or t0.dlink i 0 ≡ x = get_down p (line_of p t) i 0 (own_placed p i laid pos le) ∙ ap (λ ks. link_place p i (first_of 0 ks)) f.is in
-    let taken : link_place p i (first_of 0 (listed_numbers p t i)) ≡ x = ap (λ ks. link_place p i (first_of 0 ks)) f.is in
+    let first : get_or t0.dlink i 0 ≡ x =
+    get_down p (line_of p t) i 0 (own_placed p i laid pos le) ∙ ap (λ ks. link_place p i (first_of 0 ks)) f.is in
+    let taken : link_place p i (first_of 0 (listed_numbers p t i)) ≡ x =
+    ap (λ ks. link_place p i (first_of 0 ks)) f.is in
     let down_long : length t0.dlink ≡ length (layout p) = length-map (layout p) (dlink_in p (line_of p t)) in
     let back = CanRelink-unlinked u x size names linked (omega (arith, count, few)) in
     let same : unlinked u x ≡ next = out ∙ sym end in
@@ -233,18 +271,29 @@ by_mid p t spans covered i fit pos le f mid =
         names = subst (λ (v : Nodes). NamesPlaces v x) (sym mid.done) names;
         some = subst (λ (v : Nodes). 0 < get_or v.top (get_or v.top x 0) 0) (sym mid.done) linked.some;
       });
-      done = ap (λ k. unlinked (hidden_unless spans covered t0 k) k) first ∙ ap (λ (v : Nodes). unlinked v x) mid.done ∙ same;
+      done = ap (λ k. unlinked (hidden_unless spans covered t0 k) k) first ∙ ap (λ (v : Nodes). unlinked v x) mid.done
+          ∙ same;
       can_back = subst (CanUntweak spans covered next) (sym taken) (record {
         size = subst (λ (v : Nodes). HasSize v (length v.top)) same back.size;
         names = subst (λ (v : Nodes). NamesPlaces v x) same back.names;
         few = subst (λ (v : Nodes). get_or v.top (get_or v.top x 0) 0 < 2 ^ 31) same back.few;
-        unhide = subst (λ (v : Nodes). covered ≡ false → (x < length spans) × CanUnhideNode spans v x) (sym again) mid.unhide;
+        unhide =
+            subst (λ (v : Nodes). covered ≡ false → (x < length spans) × CanUnhideNode spans v x) (sym again)
+            mid.unhide;
       });
-      undone = ap (untweaked spans covered next) taken ∙ ap (λ (v : Nodes). unhidden_unless spans covered v x) again ∙ mid.undone;
-      cost = let a = ap (λ k. cond covered 0 (hide_costs t0 (others_of spans k))) first in let b = mid.cost in omega (arith, a, b, gone);
-      cost_back = let a = ap (untweak_cost spans covered next) taken in let b = ap (λ (v : Nodes). cond covered 0 (unhide_costs v (reverse (others_of spans x)))) again in let c = mid.cost_back in omega (arith, a, b, c, gone);
+      undone = ap (untweaked spans covered next) taken ∙ ap (λ (v : Nodes). unhidden_unless spans covered v x) again
+          ∙ mid.undone;
+      cost = let a = ap (λ k. cond covered 0 (hide_costs t0 (others_of spans k))) first in let b = mid.cost in
+          omega (arith, a, b, gone);
+      cost_back = let a = ap (untweak_cost spans covered next) taken in let b =
+          ap (λ (v : Nodes). cond covered 0 (unhide_costs v (reverse (others_of spans x)))) again in let c =
+          mid.cost_back in omega (arith, a, b, c, gone);
     }
 
-pub tweak_made : (p : Puzzle) (t : List Move) (spans : List Span) (covered : Bool) (i : ℕ) → AreLegal p t → IsFitted p spans → 0 < i → i ≤ item_count p → 0 < length (listed p t i) → is_open i t ≡ not covered → TweakMade p t spans covered i
-tweak_made p t spans true i legal fit pos le some shut = let f = has_first p t i some in by_mid p t spans true i fit pos le f (mid_covered p t spans i fit shut f)
-tweak_made p t spans false i legal fit pos le some opened = let f = has_first p t i some in by_mid p t spans false i fit pos le f (mid_open p t spans i legal fit opened pos le f)
+pub tweak_made : (p : Puzzle) (t : List Move) (spans : List Span) (covered : Bool) (i : ℕ) → AreLegal p t
+    → IsFitted p spans → 0 < i → i ≤ item_count p → 0 < length (listed p t i) → is_open i t ≡ not covered
+    → TweakMade p t spans covered i
+tweak_made p t spans true i legal fit pos le some shut =
+    let f = has_first p t i some in by_mid p t spans true i fit pos le f (mid_covered p t spans i fit shut f)
+tweak_made p t spans false i legal fit pos le some opened = let f = has_first p t i some in
+    by_mid p t spans false i fit pos le f (mid_open p t spans i legal fit opened pos le f)

@@ -1,5 +1,7 @@
 -- Some Tweaks of one item undone at once: the lines before and after them, the whole way down, and the node table.
-use Rattle.std.proofs.Common.{◌≡◌, ◌≢◌, ℕ, zero, suc, ◌+◌, ◌*◌, ◌<◌, ◌≤◌, Bool, true, false, not, cond, eqb, List, [], ◌∷◌, ◌++◌, length, map, filter, drop, reverse, get_or, refl, ap, sym, subst, ◌∙◌, arith, length-append, inr, ◌||◌, fold, ap₂, eq-eqb, ◌^◌, eqb-true}
+use Rattle.std.proofs.Common.{◌≡◌, ◌≢◌, ℕ, zero, suc, ◌+◌, ◌*◌, ◌<◌, ◌≤◌, Bool, true, false, not, cond, eqb, List, []}
+use Rattle.std.proofs.Common.{◌∷◌, ◌++◌, length, map, filter, drop, reverse, get_or, refl, ap, sym, subst, ◌∙◌, arith}
+use Rattle.std.proofs.Common.{length-append, inr, ◌||◌, fold, ap₂, eq-eqb, ◌^◌, eqb-true}
 use Rattle.std.proofs.lemmas.Grind.{common_steps}
 use Rattle.std.proofs.lemmas.List.{reverse-append, append_assoc, map-append, length-map}
 use Rattle.std.proofs.lemmas.List.Sums.{fold-append}
@@ -15,22 +17,30 @@ use Rattle.xc_dance.specs.Moves.{is_open, AreLegal, IsLegal, listed_numbers, lis
 use Rattle.xc_dance.specs.Fields.{Node, layout, link_place, is_in, first_of, own}
 use Rattle.xc_dance.specs.inner.Links.Lines.{Line}
 use Rattle.xc_dance.specs.inner.Links.Taken.{taken_nodes}
-use Rattle.xc_dance.specs.inner.Links.Cells.{color_in, line_of, nodes_after, dlink_in, nodes_from, fixed_down, top_in, ulink_in}
+use Rattle.xc_dance.specs.inner.Links.Cells.{color_in, line_of, nodes_after, dlink_in, nodes_from, fixed_down, top_in}
+use Rattle.xc_dance.specs.inner.Links.Cells.{ulink_in}
 use Rattle.xc_dance.specs.inner.Links.Made.{IsFitted}
 use Rattle.xc_dance.specs.declared.links.nodes.Nodes.{Nodes}
 use Rattle.xc_dance.specs.Cost.{cost_of, cost_of_newest, undo_tweaks_cost}
 use Rattle.xc_dance.specs.inner.Links.Steps.{hide_costs, others_of, followed}
-use Rattle.xc_dance.specs.inner.Links.TweaksBack.{brought_back, CanBringBackAll, bring_back_costs, with_top, with_dlink, untweaked_all, untweak_all_cost, CanUntweakAll}
+use Rattle.xc_dance.specs.inner.Links.TweaksBack.{brought_back, CanBringBackAll, bring_back_costs, with_top, with_dlink}
+use Rattle.xc_dance.specs.inner.Links.TweaksBack.{untweaked_all, untweak_all_cost, CanUntweakAll}
 use Rattle.xc_dance.specs.inner.Links.Laid.{IsLaid}
 use Rattle.xc_input.proofs.lists.Filters.{length-filter-le}
-use Rattle.xc_dance.proofs.LinkedTables.Sweep.{other_items, cut, cuts, is_in-first, in_above, IsLinkedFrom, Rises, rises, by_first, put_at-same, put_at-other, cut-linked, stands, leave_none, put_at, with_line}
+use Rattle.xc_dance.proofs.LinkedTables.Sweep.{other_items, cut, cuts, is_in-first, in_above, IsLinkedFrom, Rises}
+use Rattle.xc_dance.proofs.LinkedTables.Sweep.{rises, by_first, put_at-same, put_at-other, cut-linked, stands}
+use Rattle.xc_dance.proofs.LinkedTables.Sweep.{leave_none, put_at, with_line}
 use Rattle.xc_dance.proofs.LinkedTables.LinkColumns.{map_same, get_down, same_nodes, set_link, set_top, get_len}
 use Rattle.xc_dance.proofs.LinkedTables.OtherItems.{leaves}
-use Rattle.xc_dance.proofs.LinkedTables.GoodLines.{SameCut, line_after, Named, numbers_named, numbers_few, tables_same, line_is}
-use Rattle.xc_dance.proofs.LinkedTables.Leaving.{cut_others, first_alone, takes_tweak, tweak_own, AreOf, leaves_open, leaves_shut}
+use Rattle.xc_dance.proofs.LinkedTables.GoodLines.{SameCut, line_after, Named, numbers_named, numbers_few, tables_same}
+use Rattle.xc_dance.proofs.LinkedTables.GoodLines.{line_is}
+use Rattle.xc_dance.proofs.LinkedTables.Leaving.{cut_others, first_alone, takes_tweak, tweak_own, AreOf, leaves_open}
+use Rattle.xc_dance.proofs.LinkedTables.Leaving.{leaves_shut}
 use Rattle.xc_dance.proofs.LinkedTables.Spacers.{others_are}
-use Rattle.xc_dance.proofs.LinkedTables.TweakStep.{tweak_made, HasFirst, has_first, tweak_cut, tweak_shut, tweak_colours, first_of-list}
-use Rattle.xc_dance.proofs.LinkedTables.BringBack.{to_come, back_writes, BringingBack, bring_back_step, is_below, top_kept, down_kept}
+use Rattle.xc_dance.proofs.LinkedTables.TweakStep.{tweak_made, HasFirst, has_first, tweak_cut, tweak_shut}
+use Rattle.xc_dance.proofs.LinkedTables.TweakStep.{tweak_colours, first_of-list}
+use Rattle.xc_dance.proofs.LinkedTables.BringBack.{to_come, back_writes, BringingBack, bring_back_step, is_below}
+use Rattle.xc_dance.proofs.LinkedTables.BringBack.{top_kept, down_kept}
 use Rattle.xc_dance.proofs.LinkedTables.OneOption.{gone_count, line_there, line_here}
 use Rattle.xc_dance.proofs.LinkedTables.HideMoves.{own_placed}
 use Rattle.xc_dance.proofs.MoveLemmas.Shortened.{rises_listed}
@@ -52,7 +62,8 @@ tweaks (suc k) i t = Tweak i ∷ tweaks k i t
 pub record TweakedLines (p : Puzzle) (t s : List Move) (covered : Bool) (i : ℕ) (os : List ℕ) : Type 0 where
   pub list : listed_numbers p t i ≡ os ++ listed_numbers p s i
   pub own : line_of p s i ≡ cuts (line_of p t i) os
-  pub others : (j : ℕ) → 0 < j → j ≤ item_count p → j ≢ i → line_of p s j ≡ cuts (line_of p t j) (to_come p t covered i j os)
+  pub others : (j : ℕ) → 0 < j → j ≤ item_count p → j ≢ i
+      → line_of p s j ≡ cuts (line_of p t j) (to_come p t covered i j os)
   pub colours : (n : Node) → color_in p s n ≡ color_in p t n
   pub opened : is_open i s ≡ is_open i t
   pub taken : taken_nodes p s ≡ reverse (map (link_place p i) os) ++ taken_nodes p t
@@ -61,26 +72,35 @@ pub none_yet : (p : Puzzle) (t : List Move) (covered : Bool) (i j : ℕ) → to_
 none_yet p t true i j = refl
 none_yet p t false i j = refl
 
-tweak_open : (p : Puzzle) (t : List Move) (spans : List Span) (i j : ℕ) → AreLegal p t → IsFitted p spans → is_open i t ≡ true → (f : HasFirst p t i) → 0 < j → j ≤ item_count p → j ≢ i → SameCut p t (Tweak i) j (filter (leaves p (color_in p t) i j) (f.o ∷ []))
+tweak_open : (p : Puzzle) (t : List Move) (spans : List Span) (i j : ℕ) → AreLegal p t → IsFitted p spans
+    → is_open i t ≡ true → (f : HasFirst p t i) → 0 < j → j ≤ item_count p → j ≢ i
+    → SameCut p t (Tweak i) j (filter (leaves p (color_in p t) i j) (f.o ∷ []))
 tweak_open p t spans i j legal fit opened f pos le ne =
     subst (λ ks. SameCut p t (Tweak i) j (filter (leaves p (color_in p t) i j) ks)) (ap first_alone f.is)
-    (cut_others p t (Tweak i) i j (first_alone (listed_numbers p t i)) legal fit.laid fit.fit opened (pos, le) (first_of-list p t i f) (takes_tweak p t i opened) ne)
+    (cut_others p t (Tweak i) i j (first_alone (listed_numbers p t i)) legal fit.laid fit.fit opened (pos, le)
+    (first_of-list p t i f) (takes_tweak p t i opened) ne)
 
 -- one Tweak more
-more_others : (p : Puzzle) (t s : List Move) (spans : List Span) (covered : Bool) (i : ℕ) (os : List ℕ) → AreLegal p s → IsFitted p spans → is_open i t ≡ not covered → (f : HasFirst p s i) → TweakedLines p t s covered i os
-    → (j : ℕ) → 0 < j → j ≤ item_count p → j ≢ i → line_of p (Tweak i ∷ s) j ≡ cuts (line_of p t j) (to_come p t covered i j (os ++ f.o ∷ []))
+more_others : (p : Puzzle) (t s : List Move) (spans : List Span) (covered : Bool) (i : ℕ) (os : List ℕ) → AreLegal p s
+    → IsFitted p spans → is_open i t ≡ not covered → (f : HasFirst p s i) → TweakedLines p t s covered i os
+    → (j : ℕ) → 0 < j → j ≤ item_count p → j ≢ i
+    → line_of p (Tweak i ∷ s) j ≡ cuts (line_of p t j) (to_come p t covered i j (os ++ f.o ∷ []))
 more_others p t s spans true i os legal fit shut f h j pos le ne =
     line_after p s (Tweak i) j [] (tweak_shut p s i j (h.opened ∙ shut) ne) ∙ h.others j pos le ne
 more_others p t s spans false i os legal fit opened f h j pos le ne =
     let col = color_in p t in
     let o = f.o in
-    let same : map (color_in p s) (layout p) ≡ map col (layout p) = map_same col (color_in p s) (layout p) (λ k n e. h.colours n) in
-    let test : filter (leaves p (color_in p s) i j) (o ∷ []) ≡ filter (leaves p col i j) (o ∷ []) = grind (arith, common_steps) in
+    let same : map (color_in p s) (layout p) ≡ map col (layout p) =
+    map_same col (color_in p s) (layout p) (λ k n e. h.colours n) in
+    let test : filter (leaves p (color_in p s) i j) (o ∷ []) ≡ filter (leaves p col i j) (o ∷ []) =
+    grind (arith, common_steps) in
     let l = line_of p t j in
     let before = filter (leaves p col i j) os in
     let one = filter (leaves p col i j) (o ∷ []) in
-    let cut_one : SameCut p s (Tweak i) j one = subst (SameCut p s (Tweak i) j) test (tweak_open p s spans i j legal fit (h.opened ∙ opened) f pos le ne) in
-    let all : cuts l (filter (leaves p col i j) (os ++ o ∷ [])) ≡ cuts (cuts l before) one = ap (cuts l) (filter-append (leaves p col i j) os (o ∷ [])) ∙ fold-append cut l before one in
+    let cut_one : SameCut p s (Tweak i) j one =
+    subst (SameCut p s (Tweak i) j) test (tweak_open p s spans i j legal fit (h.opened ∙ opened) f pos le ne) in
+    let all : cuts l (filter (leaves p col i j) (os ++ o ∷ [])) ≡ cuts (cuts l before) one =
+    ap (cuts l) (filter-append (leaves p col i j) os (o ∷ [])) ∙ fold-append cut l before one in
     line_after p s (Tweak i) j one cut_one ∙ ap (λ (m : Line). cuts m one) (h.others j pos le ne) ∙ sym all
 
 -- ---- what the Tweaks wrote
@@ -90,11 +110,15 @@ abbrev pub tweak_writes : Puzzle → (Node → ℕ) → Bool → ℕ → List �
 tweak_writes p col covered i [] = 0
 tweak_writes p col covered i (o ∷ os) = (3 + back_writes p col covered i o) + tweak_writes p col covered i os
 
-tweak_writes-append : (p : Puzzle) (col : Node → ℕ) (covered : Bool) (i : ℕ) (os : List ℕ) (o : ℕ) → tweak_writes p col covered i (os ++ o ∷ []) ≡ (3 + back_writes p col covered i o) + tweak_writes p col covered i os
+tweak_writes-append : (p : Puzzle) (col : Node → ℕ) (covered : Bool) (i : ℕ) (os : List ℕ) (o : ℕ)
+    → tweak_writes p col covered i (os ++ o ∷ []) ≡ (3 + back_writes p col covered i o) + tweak_writes p col
+    covered i os
 tweak_writes-append p col covered i [] o = refl
 tweak_writes-append p col covered i (x ∷ xs) o = let r = tweak_writes-append p col covered i xs o in omega (arith, r)
 
-one_writes : (p : Puzzle) (s : List Move) (spans : List Span) (covered : Bool) (i : ℕ) → AreLegal p s → IsFitted p spans → IsLegal p s (Tweak i) → is_open i s ≡ not covered → (f : HasFirst p s i) → cost_of p s (Tweak i) ≡ 3 + back_writes p (color_in p s) covered i f.o
+one_writes : (p : Puzzle) (s : List Move) (spans : List Span) (covered : Bool) (i : ℕ) → AreLegal p s → IsFitted p spans
+    → IsLegal p s (Tweak i) → is_open i s ≡ not covered → (f : HasFirst p s i)
+    → cost_of p s (Tweak i) ≡ 3 + back_writes p (color_in p s) covered i f.o
 one_writes p s spans true i legal fit may shut f =
     let pos : 0 < i = let h = may.0.0 in omega (arith, h) in
     sym (tweak_made p s spans true i legal fit pos may.0.1 may.2 shut).cost
@@ -105,15 +129,20 @@ one_writes p s spans false i legal fit may opened f =
     let col = color_in p s in
     let t0 : Nodes = nodes_after p s in
     let js = other_items p o i in
-    let within : is_in o (listed_numbers p s i) ≡ true = subst (λ ks. is_in o ks ≡ true) (sym f.is) (is_in-first o f.os) in
+    let within : is_in o (listed_numbers p s i) ≡ true =
+    subst (λ ks. is_in o ks ≡ true) (sym f.is) (is_in-first o f.os) in
     let named : Named p i o = element_of (Named p i) o (listed_numbers p s i) (numbers_named p s i) within in
     let o_pos : 0 < o = in_above 0 o (listed_numbers p s i) (rises_listed p s i) within in
-    let first : get_or t0.dlink i 0 ≡ link_place p i o = get_down p (line_of p s) i 0 (own_placed p i fit.laid pos le) ∙ ap (λ ks. link_place p i (first_of 0 ks)) f.is in
-    let hides : hide_costs t0 (others_of spans (get_or t0.dlink i 0)) ≡ 3 * gone_count p col i o = grind (arith, common_steps, costs-are, hidden_color, others_are, unmarked_items) in
+    let first : get_or t0.dlink i 0 ≡ link_place p i o = get_down p (line_of p s) i 0 (own_placed p i fit.laid pos le)
+    ∙ ap (λ ks. link_place p i (first_of 0 ks)) f.is in
+    let hides : hide_costs t0 (others_of spans (get_or t0.dlink i 0)) ≡ 3 * gone_count p col i o =
+    grind (arith, common_steps, costs-are, hidden_color, others_are, unmarked_items) in
     omega (arith, (tweak_made p s spans false i legal fit pos le may.2 opened).cost, hides)
 
-gone_alike : (p : Puzzle) (col now : Node → ℕ) (i o : ℕ) → map now (layout p) ≡ map col (layout p) → gone_count p now i o ≡ gone_count p col i o
-gone_alike p col now i o e = ap (λ (cs : List ℕ). length (filter (λ j. not (eqb (get_or cs (link_place p j o) 0) MARK)) (other_items p o i))) e
+gone_alike : (p : Puzzle) (col now : Node → ℕ) (i o : ℕ) → map now (layout p) ≡ map col (layout p)
+    → gone_count p now i o ≡ gone_count p col i o
+gone_alike p col now i o e =
+    ap (λ (cs : List ℕ). length (filter (λ j. not (eqb (get_or cs (link_place p j o) 0) MARK)) (other_items p o i))) e
 
 pub record Tweaked (p : Puzzle) (t : List Move) (covered : Bool) (i k : ℕ) : Type 0 where
   pub os : List ℕ
@@ -121,7 +150,8 @@ pub record Tweaked (p : Puzzle) (t : List Move) (covered : Bool) (i k : ℕ) : T
   pub lines : TweakedLines p t (tweaks k i t) covered i os
   pub costs : cost_of_newest k p (tweaks k i t) ≡ tweak_writes p (color_in p t) covered i os
 
-pub tweaked_lines : (p : Puzzle) (t : List Move) (spans : List Span) (covered : Bool) (i k : ℕ) → AreLegal p (tweaks k i t) → IsFitted p spans → is_open i t ≡ not covered → Tweaked p t covered i k
+pub tweaked_lines : (p : Puzzle) (t : List Move) (spans : List Span) (covered : Bool) (i k : ℕ)
+    → AreLegal p (tweaks k i t) → IsFitted p spans → is_open i t ≡ not covered → Tweaked p t covered i k
 tweaked_lines p t spans covered i zero legal fit opened = record {
   os = [];
   count = refl;
@@ -149,13 +179,17 @@ tweaked_lines p t spans covered i (suc k) legal fit opened =
       count = let a = length-append os (o ∷ []) in let b = before.count in omega (arith, a, b);
       costs =
           let one = one_writes p s spans covered i legal.1 fit legal.0 (h.opened ∙ opened) f in
-          let same : map (color_in p s) (layout p) ≡ map (color_in p t) (layout p) = map_same (color_in p t) (color_in p s) (layout p) (λ m n e. h.colours n) in
-          let alike : back_writes p (color_in p s) covered i o ≡ back_writes p (color_in p t) covered i o = ap (λ n. cond covered 0 (3 * n)) (gone_alike p (color_in p t) (color_in p s) i o same) in
+          let same : map (color_in p s) (layout p) ≡ map (color_in p t) (layout p) =
+          map_same (color_in p t) (color_in p s) (layout p) (λ m n e. h.colours n) in
+          let alike : back_writes p (color_in p s) covered i o ≡ back_writes p (color_in p t) covered i o =
+          ap (λ n. cond covered 0 (3 * n)) (gone_alike p (color_in p t) (color_in p s) i o same) in
           let rest = before.costs in
           omega (arith, one, alike, rest, tweak_writes-append p (color_in p t) covered i os o);
       lines = record {
-        list = h.list ∙ ap (λ ks. os ++ ks) f.is ∙ sym (append_assoc os (o ∷ []) f.os) ∙ ap (λ ks. (os ++ o ∷ []) ++ ks) (sym rest);
-        own = line_after p s (Tweak i) i (o ∷ []) (tweak_cut p s i f) ∙ ap (λ (m : Line). cut m o) h.own ∙ sym (fold-append cut (line_of p t i) os (o ∷ []));
+        list = h.list ∙ ap (λ ks. os ++ ks) f.is ∙ sym (append_assoc os (o ∷ []) f.os)
+            ∙ ap (λ ks. (os ++ o ∷ []) ++ ks) (sym rest);
+        own = line_after p s (Tweak i) i (o ∷ []) (tweak_cut p s i f) ∙ ap (λ (m : Line). cut m o) h.own
+            ∙ sym (fold-append cut (line_of p t i) os (o ∷ []));
         others = more_others p t s spans covered i os legal.1 fit opened f h;
         colours = λ n. tweak_colours p s i n ∙ h.colours n;
         opened = h.opened;
@@ -163,23 +197,31 @@ tweaked_lines p t spans covered i (suc k) legal fit opened =
       };
     }
 
--- ---- all the way down: the nodes that k Tweaks of one item took off come back, and the lines are then those of before the Tweaks
+-- ---- all the way down: the nodes that k Tweaks of one item took off come back, and the lines are then those of before
+-- the Tweaks
 
 -- what the steps write
 abbrev pub bring_back_writes : Puzzle → (Node → ℕ) → Bool → ℕ → List ℕ → ℕ
 bring_back_writes p col covered i [] = 0
 bring_back_writes p col covered i (o ∷ os) = (1 + back_writes p col covered i o) + bring_back_writes p col covered i os
 
-pub record BringBackWalk (p : Puzzle) (t : List Move) (spans : List Span) (covered : Bool) (i : ℕ) (ln : ℕ → Line) (a : ℕ) (os : List ℕ) : Type 0 where
+pub record BringBackWalk (p : Puzzle) (t : List Move) (spans : List Span) (covered : Bool) (i : ℕ) (ln : ℕ → Line)
+    (a : ℕ) (os : List ℕ) : Type 0 where
   pub end : ℕ → Line
-  pub walk : CanBringBackAll spans covered (nodes_from p ln (color_in p t)) (link_place p i ((line_of p t i).down a)) (map (link_place p i) os)
-  pub done : fold (brought_back spans covered) (nodes_from p ln (color_in p t)) (map (link_place p i) os) ≡ nodes_from p end (color_in p t)
+  pub walk : CanBringBackAll spans covered (nodes_from p ln (color_in p t)) (link_place p i ((line_of p t i).down a))
+      (map (link_place p i) os)
+  pub done : fold (brought_back spans covered) (nodes_from p ln (color_in p t)) (map (link_place p i) os) ≡ nodes_from p
+      end (color_in p t)
   pub bringing : BringingBack p t covered i end []
   pub len : (end i).len ≡ (ln i).len
-  pub costs : bring_back_costs spans covered (nodes_from p ln (color_in p t)) (map (link_place p i) os) ≡ bring_back_writes p (color_in p t) covered i os
+  pub costs : bring_back_costs spans covered (nodes_from p ln (color_in p t)) (map (link_place p i) os) ≡
+      bring_back_writes p (color_in p t) covered i os
 
-pub bring_back_walk : (p : Puzzle) (t : List Move) (spans : List Span) (covered : Bool) (i : ℕ) (ln : ℕ → Line) (a : ℕ) (os rest : List ℕ) → AreLegal p t → IsFitted p spans → 0 < i → i ≤ item_count p → is_open i t ≡ not covered
-    → ((x : ℕ) → is_in x os ≡ true → is_in x (listed_numbers p t i) ≡ true) → IsLinkedFrom (line_of p t i) a (os ++ rest) → BringingBack p t covered i ln os → BringBackWalk p t spans covered i ln a os
+pub bring_back_walk : (p : Puzzle) (t : List Move) (spans : List Span) (covered : Bool) (i : ℕ) (ln : ℕ → Line) (a : ℕ)
+    (os rest : List ℕ) → AreLegal p t → IsFitted p spans → 0 < i → i ≤ item_count p → is_open i t ≡ not covered
+    → ((x : ℕ) → is_in x os ≡ true → is_in x (listed_numbers p t i) ≡ true)
+    → IsLinkedFrom (line_of p t i) a (os ++ rest) → BringingBack p t covered i ln os
+    → BringBackWalk p t spans covered i ln a os
 bring_back_walk p t spans covered i ln a [] rest legal fit pos le opened among linked h = record {
   end = ln;
   walk = tt;
@@ -198,18 +240,25 @@ bring_back_walk p t spans covered i ln a (o ∷ os) rest legal fit pos le opened
     let s = bring_back_step p t spans covered i ln o os legal fit pos le opened within h in
     let t0 : Nodes = nodes_from p ln col in
     let t1 : Nodes = nodes_from p s.ln' col in
-    let rest' = bring_back_walk p t spans covered i s.ln' o os rest legal fit pos le opened (λ z e. among z (elim (eqb o z) as (λ b. (b || is_in z os) ≡ true) [ true ↦ refl | false ↦ e ])) linked.3 s.bringing in
+    let rest' =
+    bring_back_walk p t spans covered i s.ln' o os rest legal fit pos le opened
+    (λ z e. among z (elim (eqb o z) as (λ b. (b || is_in z os) ≡ true) [ true ↦ refl | false ↦ e ])) linked.3
+    s.bringing in
     let x_in = slice_get_within (layout p) x here.node here.at in
     let long : length t1.dlink ≡ length (layout p) = length-map (layout p) (dlink_in p s.ln') in
-    let next : get_or t1.dlink x 0 ≡ link_place p i ((line_of p t i).down o) = get_down p s.ln' i o here ∙ ap (link_place p i) (s.bringing.own_down o) in
+    let next : get_or t1.dlink x 0 ≡ link_place p i ((line_of p t i).down o) =
+    get_down p s.ln' i o here ∙ ap (link_place p i) (s.bringing.own_down o) in
     let places = map (link_place p i) os in
     let first : link_place p i ((line_of p t i).down a) ≡ x = ap (link_place p i) linked.1 in
     grind (arith, common_steps)
 
 -- the nodes that come back, by the links of the table before
-pub bring_back_follow : (p : Puzzle) (t : List Move) (spans : List Span) (i : ℕ) (ln : ℕ → Line) (a : ℕ) (os rest : List ℕ) → IsFitted p spans → 0 < i → i ≤ item_count p
-    → ((x : ℕ) → is_in x os ≡ true → is_in x (listed_numbers p t i) ≡ true) → IsLinkedFrom (line_of p t i) a (os ++ rest) → ((x : ℕ) → (ln i).down x ≡ (line_of p t i).down x)
-    → followed (nodes_from p ln (color_in p t)).dlink (length os) (link_place p i ((line_of p t i).down a)) ≡ map (link_place p i) os
+pub bring_back_follow : (p : Puzzle) (t : List Move) (spans : List Span) (i : ℕ) (ln : ℕ → Line) (a : ℕ)
+    (os rest : List ℕ) → IsFitted p spans → 0 < i → i ≤ item_count p
+    → ((x : ℕ) → is_in x os ≡ true → is_in x (listed_numbers p t i) ≡ true)
+    → IsLinkedFrom (line_of p t i) a (os ++ rest) → ((x : ℕ) → (ln i).down x ≡ (line_of p t i).down x)
+    → followed (nodes_from p ln (color_in p t)).dlink (length os) (link_place p i ((line_of p t i).down a)) ≡ map
+    (link_place p i) os
 bring_back_follow p t spans i ln a [] rest fit pos le among linked down = refl
 bring_back_follow p t spans i ln a (o ∷ os) rest fit pos le among linked down =
     let t0 : Nodes = nodes_from p ln (color_in p t) in
@@ -218,30 +267,40 @@ bring_back_follow p t spans i ln a (o ∷ os) rest fit pos le among linked down 
     let o_pos : 0 < o = in_above 0 o (listed_numbers p t i) (rises_listed p t i) within in
     let here = fit.laid.there i o pos le (inr (o_pos, named)) in
     let first : link_place p i ((line_of p t i).down a) ≡ link_place p i o = ap (link_place p i) linked.1 in
-    let next : get_or t0.dlink (link_place p i o) 0 ≡ link_place p i ((line_of p t i).down o) = get_down p ln i o here ∙ ap (link_place p i) (down o) in
+    let next : get_or t0.dlink (link_place p i o) 0 ≡ link_place p i ((line_of p t i).down o) =
+    get_down p ln i o here ∙ ap (link_place p i) (down o) in
     ap₂ (λ q qs. q ∷ qs) first
     (ap (λ q. followed t0.dlink (length os) (get_or t0.dlink q 0)) first ∙ ap (followed t0.dlink (length os)) next
-    ∙ bring_back_follow p t spans i ln o os rest fit pos le (λ z e. among z (elim (eqb o z) as (λ b. (b || is_in z os) ≡ true) [ true ↦ refl | false ↦ e ])) linked.3 down)
+    ∙ bring_back_follow p t spans i ln o os rest fit pos le
+    (λ z e. among z (elim (eqb o z) as (λ b. (b || is_in z os) ≡ true) [ true ↦ refl | false ↦ e ])) linked.3 down)
 
 -- ---- some Tweaks of one item undone at once: from the node table after them to that before
 
 -- ---- the lines of other items are being regained
 
 -- what comes back to item j's list, by a test of its members
-come_is : (p : Puzzle) (t : List Move) (spans : List Span) (covered : Bool) (i j : ℕ) (os : List ℕ) → AreLegal p t → IsFitted p spans → is_open i t ≡ not covered → AreOf p t i os → 0 < j → j ≤ item_count p → j ≢ i →
+come_is : (p : Puzzle) (t : List Move) (spans : List Span) (covered : Bool) (i j : ℕ) (os : List ℕ) → AreLegal p t
+    → IsFitted p spans → is_open i t ≡ not covered → AreOf p t i os → 0 < j → j ≤ item_count p → j ≢ i →
     (f : ℕ → Bool) × (to_come p t covered i j os ≡ filter f (listed_numbers p t j))
 come_is p t spans true i j os legal fit shut of pos le ne = (λ x. false, sym (leave_none (listed_numbers p t j)))
 come_is p t spans false i j os legal fit opened of pos le ne =
-    elim (is_open j t) as (λ b. is_open j t ≡ b → (f : ℕ → Bool) × (filter (leaves p (color_in p t) i j) os ≡ filter f (listed_numbers p t j))) [
+    elim (is_open j t) as (λ b. is_open j t ≡ b → (f : ℕ → Bool)
+    × (filter (leaves p (color_in p t) i j) os ≡ filter f (listed_numbers p t j))) [
       | true ↦ λ e. (λ x. is_in x os, leaves_open p t i j os legal fit.laid fit.fit opened (pos, le) of ne e)
-      | false ↦ λ e. (λ x. false, leaves_shut p t i j os legal fit.laid fit.fit opened (pos, le) of e ∙ sym (leave_none (listed_numbers p t j)))
+      | false ↦ λ e. (
+        λ x. false,
+        leaves_shut p t i j os legal fit.laid fit.fit opened (pos, le) of e
+            ∙ sym (leave_none (listed_numbers p t j)),
+      )
     ] refl
 
-start_other : (p : Puzzle) (t : List Move) (spans : List Span) (covered : Bool) (i j : ℕ) (os : List ℕ) → AreLegal p t → IsFitted p spans → is_open i t ≡ not covered → AreOf p t i os → 0 < j → j ≤ item_count p → j ≢ i →
+start_other : (p : Puzzle) (t : List Move) (spans : List Span) (covered : Bool) (i j : ℕ) (os : List ℕ) → AreLegal p t
+    → IsFitted p spans → is_open i t ≡ not covered → AreOf p t i os → 0 < j → j ≤ item_count p → j ≢ i →
     Regaining (line_of p t j) (cuts (line_of p t j) (to_come p t covered i j os)) (to_come p t covered i j os)
 start_other p t spans covered i j os legal fit opened of pos le ne =
     let come = come_is p t spans covered i j os legal fit opened of pos le ne in
-    subst (λ ks. Regaining (line_of p t j) (cuts (line_of p t j) ks) ks) (sym come.1) (regaining (line_of p t j) (listed_numbers p t j) come.0 (stands p t j))
+    subst (λ ks. Regaining (line_of p t j) (cuts (line_of p t j) ks) ks) (sym come.1)
+    (regaining (line_of p t j) (listed_numbers p t j) come.0 (stands p t j))
 
 cuts_len : (l : Line) (ks : List ℕ) → length ks ≤ l.len → (cuts l ks).len + length ks ≡ l.len
 cuts_len l [] h = omega arith
@@ -253,17 +312,22 @@ rises_part : (n : ℕ) (os rest : List ℕ) → Rises n (os ++ rest) → Rises n
 rises_part n [] rest r = tt
 rises_part n (o ∷ os) rest r = (r.0, rises_part o os rest r.1)
 
-below_same : (l c : Line) (x n : ℕ) (os : List ℕ) → Rises n os → ((y : ℕ) → y ≢ 0 → c.down y ≡ l.down y) → is_below c x os ≡ is_below l x os
+below_same : (l c : Line) (x n : ℕ) (os : List ℕ) → Rises n os → ((y : ℕ) → y ≢ 0 → c.down y ≡ l.down y)
+    → is_below c x os ≡ is_below l x os
 below_same l c x n [] r h = refl
-below_same l c x n (o ∷ os) r h = ap₂ (λ d b. eqb d x || b) (h o (λ z. omega (arith, z, r.0))) (below_same l c x o os r.1 h)
+below_same l c x n (o ∷ os) r h =
+    ap₂ (λ d b. eqb d x || b) (h o (λ z. omega (arith, z, r.0))) (below_same l c x o os r.1 h)
 
-own_cuts : (l : Line) (os rest : List ℕ) → IsLinkedFrom l 0 (os ++ rest) → ((x : ℕ) → x ≢ 0 → (cuts l os).down x ≡ l.down x) × ((x : ℕ) → is_below l x os ≡ false → (cuts l os).up x ≡ l.up x)
+own_cuts : (l : Line) (os rest : List ℕ) → IsLinkedFrom l 0 (os ++ rest)
+    → ((x : ℕ) → x ≢ 0 → (cuts l os).down x ≡ l.down x)
+    × ((x : ℕ) → is_below l x os ≡ false → (cuts l os).up x ≡ l.up x)
 own_cuts l [] rest linked = ((λ x nz. refl), (λ x e. refl))
 own_cuts l (o ∷ os) rest linked =
     let u : l.up o ≡ 0 = linked.2 in
     let c : Line = cut l o in
     let r = own_cuts c os rest (cut-linked l 0 o (os ++ rest) linked) in
-    let down_c : (x : ℕ) → x ≢ 0 → c.down x ≡ l.down x = λ x nz. put_at-other l.down (l.up o) (l.down o) x (λ e. nz (e ∙ u)) in
+    let down_c : (x : ℕ) → x ≢ 0 → c.down x ≡ l.down x =
+    λ x nz. put_at-other l.down (l.up o) (l.down o) x (λ e. nz (e ∙ u)) in
     let rise : Rises o os = rises_part o os rest (rises l 0 (o ∷ (os ++ rest)) linked).1 in (
       (λ x nz. r.0 x nz ∙ down_c x nz),
       (λ x e.
@@ -277,14 +341,19 @@ own_cuts l (o ∷ os) rest linked =
 abbrev lowered : Line → ℕ → Line
 lowered l o = record { len = l.len; up = l.up; down = put_at l.down 0 o }
 
-up_kept : (p : Puzzle) (ln : ℕ → Line) (i : ℕ) (l : Line) (n : Node) → ((x : ℕ) → l.up x ≡ (ln i).up x) → ulink_in p (with_line ln i l) n ≡ ulink_in p ln n
+up_kept : (p : Puzzle) (ln : ℕ → Line) (i : ℕ) (l : Line) (n : Node) → ((x : ℕ) → l.up x ≡ (ln i).up x)
+    → ulink_in p (with_line ln i l) n ≡ ulink_in p ln n
 up_kept p ln i l n h = grind (arith, common_steps, eqb-true)
 
-lowered_is : (p : Puzzle) (col : Node → ℕ) (ln : ℕ → Line) (i o : ℕ) → IsLaid p → 0 < i → i ≤ item_count p → with_dlink (nodes_from p ln col) i (link_place p i o) ≡ nodes_from p (with_line ln i (lowered (ln i) o)) col
+lowered_is : (p : Puzzle) (col : Node → ℕ) (ln : ℕ → Line) (i o : ℕ) → IsLaid p → 0 < i → i ≤ item_count p
+    → with_dlink (nodes_from p ln col) i (link_place p i o) ≡ nodes_from p (with_line ln i (lowered (ln i) o)) col
 lowered_is p col ln i o laid pos le =
-    same_nodes (with_dlink (nodes_from p ln col) i (link_place p i o)) (nodes_from p (with_line ln i (lowered (ln i) o)) col)
-    (sym (map_same (top_in ln) (top_in (with_line ln i (lowered (ln i) o))) (layout p) (λ k n e. top_kept ln i (lowered (ln i) o) n refl)))
-    (sym (map_same (ulink_in p ln) (ulink_in p (with_line ln i (lowered (ln i) o))) (layout p) (λ k n e. up_kept p ln i (lowered (ln i) o) n (λ x. refl))))
+    same_nodes (with_dlink (nodes_from p ln col) i (link_place p i o))
+    (nodes_from p (with_line ln i (lowered (ln i) o)) col)
+    (sym (map_same (top_in ln) (top_in (with_line ln i (lowered (ln i) o))) (layout p)
+    (λ k n e. top_kept ln i (lowered (ln i) o) n refl)))
+    (sym (map_same (ulink_in p ln) (ulink_in p (with_line ln i (lowered (ln i) o))) (layout p)
+    (λ k n e. up_kept p ln i (lowered (ln i) o) n (λ x. refl))))
     (sym (set_link p (λ k x. (ln k).down x) (fixed_down p) i 0 o laid (own_placed p i laid pos le)))
     refl
 
@@ -292,17 +361,21 @@ lowered_is p col ln i o laid pos le =
 abbrev longer : Line → ℕ → Line
 longer l n = record { len = n; up = l.up; down = l.down }
 
-longer_is : (p : Puzzle) (col : Node → ℕ) (ln : ℕ → Line) (i n : ℕ) → IsLaid p → 0 < i → i ≤ item_count p → with_top (nodes_from p ln col) i n ≡ nodes_from p (with_line ln i (longer (ln i) n)) col
+longer_is : (p : Puzzle) (col : Node → ℕ) (ln : ℕ → Line) (i n : ℕ) → IsLaid p → 0 < i → i ≤ item_count p
+    → with_top (nodes_from p ln col) i n ≡ nodes_from p (with_line ln i (longer (ln i) n)) col
 longer_is p col ln i n laid pos le =
     same_nodes (with_top (nodes_from p ln col) i n) (nodes_from p (with_line ln i (longer (ln i) n)) col)
     (sym (set_top p ln i (longer (ln i) n) laid pos le))
-    (sym (map_same (ulink_in p ln) (ulink_in p (with_line ln i (longer (ln i) n))) (layout p) (λ k m e. up_kept p ln i (longer (ln i) n) m (λ x. refl))))
-    (sym (map_same (dlink_in p ln) (dlink_in p (with_line ln i (longer (ln i) n))) (layout p) (λ k m e. down_kept p ln i (longer (ln i) n) m (λ x. refl))))
+    (sym (map_same (ulink_in p ln) (ulink_in p (with_line ln i (longer (ln i) n))) (layout p)
+    (λ k m e. up_kept p ln i (longer (ln i) n) m (λ x. refl))))
+    (sym (map_same (dlink_in p ln) (dlink_in p (with_line ln i (longer (ln i) n))) (layout p)
+    (λ k m e. down_kept p ln i (longer (ln i) n) m (λ x. refl))))
     refl
 
 -- ---- all together
 
-come_few : (p : Puzzle) (t : List Move) (spans : List Span) (covered : Bool) (i j : ℕ) (os : List ℕ) → AreLegal p t → IsFitted p spans → is_open i t ≡ not covered → AreOf p t i os → 0 < j → j ≤ item_count p → j ≢ i →
+come_few : (p : Puzzle) (t : List Move) (spans : List Span) (covered : Bool) (i j : ℕ) (os : List ℕ) → AreLegal p t
+    → IsFitted p spans → is_open i t ≡ not covered → AreOf p t i os → 0 < j → j ≤ item_count p → j ≢ i →
     length (to_come p t covered i j os) ≤ (line_of p t j).len
 come_few p t spans covered i j os legal fit opened of pos le ne =
     let come = come_is p t spans covered i j os legal fit opened of pos le ne in
@@ -314,16 +387,20 @@ abbrev pub first_place : Puzzle → List Move → ℕ → ℕ
 first_place p t i = link_place p i (first_of 0 (listed_numbers p t i))
 
 -- k Tweaks of item i, x being the first node that they took off, can be undone at once
-pub record Undoes (spans : List Span) (covered : Bool) (nodes : Nodes) (i x k : ℕ) (after : Nodes) (cost : ℕ) : Type 0 where
+pub record Undoes (spans : List Span) (covered : Bool) (nodes : Nodes) (i x k : ℕ) (after : Nodes) (cost : ℕ) : Type
+    0 where
   pub can : CanUntweakAll spans covered nodes i x k
   pub done : untweaked_all spans covered nodes i x k ≡ after
   pub paid : untweak_all_cost spans covered nodes i x k ≡ cost
 
 abbrev pub TweaksBack : Puzzle → List Move → List Span → Bool → ℕ → ℕ → Type 0
-TweaksBack p t spans covered i k = Undoes spans covered (nodes_after p (tweaks k i t)) i (first_place p t i) k (nodes_after p t) (undo_tweaks_cost k p (tweaks k i t))
+TweaksBack p t spans covered i k =
+    Undoes spans covered (nodes_after p (tweaks k i t)) i (first_place p t i) k (nodes_after p t)
+    (undo_tweaks_cost k p (tweaks k i t))
 
 -- each step writes two cells less than the Tweak did
-fewer : (p : Puzzle) (col : Node → ℕ) (covered : Bool) (i : ℕ) (os : List ℕ) → bring_back_writes p col covered i os + 2 * length os ≡ tweak_writes p col covered i os
+fewer : (p : Puzzle) (col : Node → ℕ) (covered : Bool) (i : ℕ) (os : List ℕ)
+    → bring_back_writes p col covered i os + 2 * length os ≡ tweak_writes p col covered i os
 fewer p col covered i [] = refl
 fewer p col covered i (o ∷ os) = let r = fewer p col covered i os in omega (arith, r)
 
@@ -331,8 +408,10 @@ some_more : (os : List ℕ) (k : ℕ) → length os ≡ k → 0 < k → (o : ℕ
 some_more [] k e h = absurd (omega (arith, e, h))
 some_more (o ∷ os) k e h = (o, (os, refl))
 
-by_lines : (p : Puzzle) (t : List Move) (spans : List Span) (covered : Bool) (i k o : ℕ) (os : List ℕ) → AreLegal p t → IsFitted p spans → 0 < i → i ≤ item_count p → is_open i t ≡ not covered
-    → length (o ∷ os) ≡ k → cost_of_newest k p (tweaks k i t) ≡ tweak_writes p (color_in p t) covered i (o ∷ os) → TweakedLines p t (tweaks k i t) covered i (o ∷ os) → TweaksBack p t spans covered i k
+by_lines : (p : Puzzle) (t : List Move) (spans : List Span) (covered : Bool) (i k o : ℕ) (os : List ℕ) → AreLegal p t
+    → IsFitted p spans → 0 < i → i ≤ item_count p → is_open i t ≡ not covered
+    → length (o ∷ os) ≡ k → cost_of_newest k p (tweaks k i t) ≡ tweak_writes p (color_in p t) covered i (o ∷ os)
+    → TweakedLines p t (tweaks k i t) covered i (o ∷ os) → TweaksBack p t spans covered i k
 by_lines p t spans covered i k o os legal fit pos le opened count costs h =
     let s = tweaks k i t in
     let laid = fit.laid in
@@ -343,7 +422,8 @@ by_lines p t spans covered i k o os legal fit pos le opened count costs h =
     let linked : IsLinkedFrom l 0 (all ++ rest) = subst (IsLinkedFrom l 0) h.list (stands p t i) in
     let rise : Rises 0 (all ++ rest) = rises l 0 (all ++ rest) linked in
     let among : (x : ℕ) → is_in x all ≡ true → is_in x (listed_numbers p t i) ≡ true = λ x e.
-    subst (λ ks. is_in x ks ≡ true) (sym h.list) (list_any-append (λ y. eqb y x) all rest ∙ ap (λ b. b || is_in x rest) e) in
+    subst (λ ks. is_in x ks ≡ true) (sym h.list)
+    (list_any-append (λ y. eqb y x) all rest ∙ ap (λ b. b || is_in x rest) e) in
     let of : AreOf p t i all = record { rise = rises_part 0 all rest rise; among = among } in
     let lnS : ℕ → Line = line_of p s in
     let lost_own = own_cuts l all rest linked in
@@ -354,17 +434,26 @@ by_lines p t spans covered i k o os legal fit pos le opened count costs h =
     let x = link_place p i o in
     let T : Nodes = nodes_after p s in
     let t0 : Nodes = nodes_from p ln0 col in
-    let same_col : T ≡ nodes_from p lnS col = same_nodes T (nodes_from p lnS col) refl refl refl (map_same col (color_in p s) (layout p) (λ m n e. h.colours n)) in
-    let start : with_dlink T i x ≡ t0 = ap (λ (u : Nodes). with_dlink u i x) same_col ∙ lowered_is p col lnS i o laid pos le in
+    let same_col : T ≡ nodes_from p lnS col =
+    same_nodes T (nodes_from p lnS col) refl refl refl
+    (map_same col (color_in p s) (layout p) (λ m n e. h.colours n)) in
+    let start : with_dlink T i x ≡ t0 =
+    ap (λ (u : Nodes). with_dlink u i x) same_col ∙ lowered_is p col lnS i o laid pos le in
     let down0 : (y : ℕ) → (ln0 i).down y ≡ l.down y = λ y.
     ap (λ (m : Line). m.down y) at_i
     ∙ by_first (put_at (lnS i).down 0 o y ≡ l.down y) 0 y
     (λ z. put_at-same (lnS i).down 0 o y (sym z) ∙ sym linked.1 ∙ ap l.down z)
-    (λ nz. put_at-other (lnS i).down 0 o y (λ z. nz (sym z)) ∙ ap (λ (m : Line). m.down y) h.own ∙ lost_own.0 y (λ z. nz (sym z))) in
+    (λ nz. put_at-other (lnS i).down 0 o y (λ z. nz (sym z)) ∙ ap (λ (m : Line). m.down y) h.own
+    ∙ lost_own.0 y (λ z. nz (sym z))) in
     let bringing : BringingBack p t covered i ln0 all = record {
-      others = λ j jpos jle ne. subst (λ (m : Line). Regaining (line_of p t j) m (to_come p t covered i j all)) (sym (line_there lnS i j w ne ∙ h.others j jpos jle ne)) (start_other p t spans covered i j all legal fit opened of jpos jle ne);
+      others =
+          λ j jpos jle ne. subst (λ (m : Line). Regaining (line_of p t j) m (to_come p t covered i j all))
+          (sym (line_there lnS i j w ne ∙ h.others j jpos jle ne))
+          (start_other p t spans covered i j all legal fit opened of jpos jle ne);
       few = λ j jpos jle ne.
-          let a = cuts_len (line_of p t j) (to_come p t covered i j all) (come_few p t spans covered i j all legal fit opened of jpos jle ne) in
+          let a =
+          cuts_len (line_of p t j) (to_come p t covered i j all)
+          (come_few p t spans covered i j all legal fit opened of jpos jle ne) in
           let b = ap (λ (m : Line). m.len) (h.others j jpos jle ne) in
           omega (arith, a, b, ap (λ (m : Line). m.len) (line_there lnS i j w ne));
       own_down = down0;
@@ -373,15 +462,20 @@ by_lines p t spans covered i k o os legal fit pos le opened count costs h =
     let cw = bring_back_walk p t spans covered i ln0 0 all rest legal fit pos le opened among linked bringing in
     let lead : link_place p i (l.down 0) ≡ x = ap (link_place p i) linked.1 in
     let follow : followed t0.dlink k x ≡ map (link_place p i) all =
-    ap₂ (followed t0.dlink) (sym count) (sym lead) ∙ bring_back_follow p t spans i ln0 0 all rest fit pos le among linked down0 in
-    let follow' : followed (with_dlink T i x).dlink k x ≡ map (link_place p i) all = ap (λ (u : Nodes). followed u.dlink k x) start ∙ follow in
-    let fold_is : fold (brought_back spans covered) (with_dlink T i x) (followed (with_dlink T i x).dlink k x) ≡ nodes_from p cw.end col = grind (arith, common_steps) in
+    ap₂ (followed t0.dlink) (sym count) (sym lead)
+    ∙ bring_back_follow p t spans i ln0 0 all rest fit pos le among linked down0 in
+    let follow' : followed (with_dlink T i x).dlink k x ≡ map (link_place p i) all =
+    ap (λ (u : Nodes). followed u.dlink k x) start ∙ follow in
+    let fold_is : fold (brought_back spans covered) (with_dlink T i x) (followed (with_dlink T i x).dlink k x) ≡
+    nodes_from p cw.end col = grind (arith, common_steps) in
     let within : i < length (layout p) = slice_get_within (layout p) i (own i) (laid.head i pos le) in
-    let top_long : length (map (top_in cw.end) (layout p)) ≡ length (layout p) = length-map (layout p) (top_in cw.end) in
+    let top_long : length (map (top_in cw.end) (layout p)) ≡ length (layout p) =
+    length-map (layout p) (top_in cw.end) in
     let down_long : length T.dlink ≡ length (layout p) = length-map (layout p) (dlink_in p lnS) in
     let len_end : get_or (nodes_from p cw.end col).top i 0 ≡ (cw.end i).len = get_len p cw.end i laid pos le in
     let long_l : length (listed_numbers p t i) ≡ l.len = length-map (listed p t i) (λ o. o.number) in
-    let long_list : length (listed_numbers p t i) ≡ length all + length rest = ap length h.list ∙ length-append all rest in
+    let long_list : length (listed_numbers p t i) ≡ length all + length rest =
+    ap length h.list ∙ length-append all rest in
     let lost : (cuts l all).len + length all ≡ l.len = cuts_len l all (omega (arith, long_l, long_list)) in
     let end_len : (cw.end i).len ≡ (lnS i).len = cw.len ∙ ap (λ (m : Line). m.len) at_i in
     let own_len : (lnS i).len ≡ (cuts l all).len = ap (λ (m : Line). m.len) h.own in
@@ -393,23 +487,34 @@ by_lines p t spans covered i k o os legal fit pos le opened count costs h =
     ∙ tables_same p (line_of p t) (with_line cw.end i (longer (cw.end i) n)) col col laid
     (λ j r. elim (eqb j i) as (λ b. eqb j i ≡ b → with_line cw.end i (longer (cw.end i) n) j ≡ line_of p t j) [
       | true ↦ λ e. subst (λ m. with_line cw.end i (longer (cw.end i) n) m ≡ line_of p t m) (sym (eqb-true j i e))
-          (line_here cw.end i (longer (cw.end i) n) ∙ line_is l (longer (cw.end i) n) (omega (arith, len_end, end_len, own_len, lost, count)) (λ y. cw.bringing.own_up y refl) cw.bringing.own_down)
+          (line_here cw.end i (longer (cw.end i) n)
+          ∙ line_is l (longer (cw.end i) n) (omega (arith, len_end, end_len, own_len, lost, count))
+          (λ y. cw.bringing.own_up y refl) cw.bringing.own_down)
       | false ↦ λ e.
           let ne : j ≢ i = eqb-false j i e in
-          let back = regained (line_of p t j) (cw.end j) (subst (Regaining (line_of p t j) (cw.end j)) (none_yet p t covered i j) (cw.bringing.others j r.0 r.1 ne)) in
+          let back =
+          regained (line_of p t j) (cw.end j)
+          (subst (Regaining (line_of p t j) (cw.end j)) (none_yet p t covered i j)
+          (cw.bringing.others j r.0 r.1 ne)) in
           let few = cw.bringing.few j r.0 r.1 ne in
           let none = ap length (none_yet p t covered i j) in
-          line_there cw.end i j (longer (cw.end i) n) ne ∙ line_is (line_of p t j) (cw.end j) (omega (arith, few, none)) back.up back.down
+          line_there cw.end i j (longer (cw.end i) n) ne
+          ∙ line_is (line_of p t j) (cw.end j) (omega (arith, few, none)) back.up back.down
     ] refl)
     (λ m k e. refl) in
-    subst (λ y. Undoes spans covered T i y k (nodes_after p t) (undo_tweaks_cost k p s)) (sym (ap (λ ks. link_place p i (first_of 0 ks)) first)) (record {
+    subst (λ y. Undoes spans covered T i y k (nodes_after p t) (undo_tweaks_cost k p s))
+    (sym (ap (λ ks. link_place p i (first_of 0 ks)) first)) (record {
       can = record {
         place = omega (arith, within, down_long);
-        bring_back = subst (λ (u : Nodes). CanBringBackAll spans covered u x (followed (with_dlink T i x).dlink k x)) (sym start)
-            (subst (λ qs. CanBringBackAll spans covered t0 x qs) (sym follow') (subst (λ q. CanBringBackAll spans covered t0 q (map (link_place p i) all)) lead cw.walk));
+        bring_back =
+            subst (λ (u : Nodes). CanBringBackAll spans covered u x (followed (with_dlink T i x).dlink k x)) (sym start)
+            (subst (λ qs. CanBringBackAll spans covered t0 x qs) (sym follow')
+            (subst (λ q. CanBringBackAll spans covered t0 q (map (link_place p i) all)) lead cw.walk));
         many = omega (arith, count, long_list, most, fit_few);
         top = subst (λ (u : Nodes). i < length u.top) (sym fold_is) (omega (arith, within, top_long));
-        few = subst (λ (u : Nodes). get_or u.top i 0 < 2 ^ 31) (sym fold_is) (omega (arith, len_end, end_len, own_len, lost, long_l, most, fit_few));
+        few =
+            subst (λ (u : Nodes). get_or u.top i 0 < 2 ^ 31) (sym fold_is)
+            (omega (arith, len_end, end_len, own_len, lost, long_l, most, fit_few));
       };
       done = ap (λ (u : Nodes). with_top u i (get_or u.top i 0 + k)) fold_is ∙ end;
       paid =
@@ -417,8 +522,12 @@ by_lines p t spans covered i k o os legal fit pos le opened count costs h =
           omega (arith, walk, fewer p col covered i all, costs, count);
     })
 
-pub tweaks_back : (p : Puzzle) (t : List Move) (spans : List Span) (covered : Bool) (i k : ℕ) → AreLegal p (tweaks k i t) → AreLegal p t → IsFitted p spans → 0 < i → i ≤ item_count p → is_open i t ≡ not covered → 0 < k → TweaksBack p t spans covered i k
+pub tweaks_back : (p : Puzzle) (t : List Move) (spans : List Span) (covered : Bool) (i k : ℕ)
+    → AreLegal p (tweaks k i t) → AreLegal p t → IsFitted p spans → 0 < i → i ≤ item_count p → is_open i t ≡ not covered
+    → 0 < k → TweaksBack p t spans covered i k
 tweaks_back p t spans covered i k legal before fit pos le opened some =
     let tw = tweaked_lines p t spans covered i k legal fit opened in
     let f = some_more tw.os k tw.count some in
-    by_lines p t spans covered i k f.0 f.1.0 before fit pos le opened (ap length (sym f.1.1) ∙ tw.count) (tw.costs ∙ ap (tweak_writes p (color_in p t) covered i) f.1.1) (subst (TweakedLines p t (tweaks k i t) covered i) f.1.1 tw.lines)
+    by_lines p t spans covered i k f.0 f.1.0 before fit pos le opened (ap length (sym f.1.1) ∙ tw.count)
+    (tw.costs ∙ ap (tweak_writes p (color_in p t) covered i) f.1.1)
+    (subst (TweakedLines p t (tweaks k i t) covered i) f.1.1 tw.lines)

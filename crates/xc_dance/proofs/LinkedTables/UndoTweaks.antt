@@ -1,8 +1,10 @@
 -- The newest moves are Tweaks of one item: what their undoing at once finds, and what it leaves.
-use Rattle.std.proofs.Common.{◌≡◌, ℕ, zero, suc, ◌+◌, ◌-◌, ◌<◌, ◌≤◌, inr, Bool, true, not, List, [], ◌∷◌, ◌++◌, length, map, drop, take, reverse, get_or, refl, ap, ap₂, sym, subst, ◌∙◌, arith, length-append}
+use Rattle.std.proofs.Common.{◌≡◌, ℕ, zero, suc, ◌+◌, ◌-◌, ◌<◌, ◌≤◌, inr, Bool, true, not, List, [], ◌∷◌, ◌++◌, length}
+use Rattle.std.proofs.Common.{map, drop, take, reverse, get_or, refl, ap, ap₂, sym, subst, ◌∙◌, arith, length-append}
 use Rattle.std.proofs.lemmas.Grind.{common_steps}
 use Rattle.std.specs.Prelude.{replicate}
-use Rattle.std.proofs.lemmas.List.{reverse-append, reverse-reverse, length-reverse, length-drop, length-map, get_or_default, take-append-drop, get_or-append-add}
+use Rattle.std.proofs.lemmas.List.{reverse-append, reverse-reverse, length-reverse, length-drop, length-map}
+use Rattle.std.proofs.lemmas.List.{get_or_default, take-append-drop, get_or-append-add}
 use Rattle.std.proofs.Math.Seq.{drop-append_seam, take-append_seam}
 use Rattle.xc_dance.specs.declared.dance.Move.{Move}
 use Rattle.xc_dance.specs.declared.dance.Move.TheVariants.{Tweak}
@@ -51,16 +53,19 @@ purified_same (suc k) i j t = purified_same k i j t
 
 items_same : (p : Puzzle) (k i : ℕ) (t : List Move) → items_after p (tweaks k i t) ≡ items_after p t
 items_same p zero i t = refl
-items_same p (suc k) i t = still_items p (tweaks k i t) (Tweak i) (record { covered = λ q. refl; spent = λ q. refl }) ∙ items_same p k i t
+items_same p (suc k) i t =
+    still_items p (tweaks k i t) (Tweak i) (record { covered = λ q. refl; spent = λ q. refl }) ∙ items_same p k i t
 
 -- the last of a list, turned round
-pub turned_drop : {X : Type 0} (xs : List X) (k : ℕ) → k ≤ length xs → reverse (take (length xs - k) xs) ≡ drop k (reverse xs)
+pub turned_drop : {X : Type 0} (xs : List X) (k : ℕ) → k ≤ length xs
+    → reverse (take (length xs - k) xs) ≡ drop k (reverse xs)
 turned_drop xs k h =
     let m = length xs - k in
     let a = take m xs in
     let b = drop m xs in
     let whole : reverse xs ≡ reverse b ++ reverse a = ap reverse (sym (take-append-drop m xs)) ∙ reverse-append a b in
-    let long : length (reverse b) ≡ k = let u = length-reverse b in let v = length-drop m xs in omega (arith, u, v, h) in
+    let long : length (reverse b) ≡ k =
+    let u = length-reverse b in let v = length-drop m xs in omega (arith, u, v, h) in
     sym (drop-append_seam (reverse b) (reverse a)) ∙ ap₂ drop long (sym whole)
 
 -- the nodes that they took off stand last
@@ -69,13 +74,15 @@ pub record TakenLast (p : Puzzle) (t : List Move) (i k : ℕ) (xs : List ℕ) : 
   pub first : get_or xs (length xs - k) 0 ≡ first_place p t i
   pub rest : reverse (take (length xs - k) xs) ≡ taken_nodes p t
 
-taken_last : (p : Puzzle) (t : List Move) (covered : Bool) (i k : ℕ) (xs : List ℕ) → 0 < k → Tweaked p t covered i k → reverse xs ≡ taken_nodes p (tweaks k i t) → TakenLast p t i k xs
+taken_last : (p : Puzzle) (t : List Move) (covered : Bool) (i k : ℕ) (xs : List ℕ) → 0 < k → Tweaked p t covered i k
+    → reverse xs ≡ taken_nodes p (tweaks k i t) → TakenLast p t i k xs
 taken_last p t covered i k xs some tw e =
     let os = tw.os in
     let places = map (link_place p i) os in
     let b = taken_nodes p t in
     let is : xs ≡ reverse b ++ places =
-    sym (reverse-reverse xs) ∙ ap reverse (e ∙ tw.lines.taken) ∙ reverse-append (reverse places) b ∙ ap (λ ys. reverse b ++ ys) (reverse-reverse places) in
+    sym (reverse-reverse xs) ∙ ap reverse (e ∙ tw.lines.taken) ∙ reverse-append (reverse places) b
+    ∙ ap (λ ys. reverse b ++ ys) (reverse-reverse places) in
     let long : length xs ≡ length (reverse b) + length places = ap length is ∙ length-append (reverse b) places in
     let count : length places ≡ k = length-map os (link_place p i) ∙ tw.count in
     let at : length xs - k ≡ length (reverse b) = omega (arith, long, count) in
@@ -84,10 +91,12 @@ taken_last p t covered i k xs some tw e =
       first =
           ap₂ (λ ys n. get_or ys n 0) is (at ∙ omega arith) ∙ get_or-append-add (reverse b) places 0 0
           ∙ first_place os tw.count (tw.lines.list);
-      rest = ap₂ (λ n ys. reverse (take n ys)) at is ∙ ap reverse (take-append_seam (reverse b) places) ∙ reverse-reverse b;
+      rest = ap₂ (λ n ys. reverse (take n ys)) at is ∙ ap reverse (take-append_seam (reverse b) places)
+          ∙ reverse-reverse b;
     }
   where
-    first_place : (os : List ℕ) → length os ≡ k → listed_numbers p t i ≡ os ++ listed_numbers p (tweaks k i t) i → get_or (map (link_place p i) os) 0 0 ≡ link_place p i (first_of 0 (listed_numbers p t i))
+    first_place : (os : List ℕ) → length os ≡ k → listed_numbers p t i ≡ os ++ listed_numbers p (tweaks k i t) i
+        → get_or (map (link_place p i) os) 0 0 ≡ link_place p i (first_of 0 (listed_numbers p t i))
     first_place [] c l = absurd (omega (arith, c, some))
     first_place (o ∷ os) c l = ap (λ ks. link_place p i (first_of 0 ks)) (sym l)
 
@@ -96,7 +105,8 @@ pub record FirstNode (p : Puzzle) (s t : List Move) (i : ℕ) : Type 0 where
   pub within : first_place p t i < length (nodes_after p s).top
   pub item : get_or (nodes_after p s).top (first_place p t i) 0 ≡ i
 
-first_node : (p : Puzzle) (s t : List Move) (i : ℕ) (os rest : List ℕ) → IsLaid p → 0 < i → i ≤ item_count p → 0 < length os → listed_numbers p t i ≡ os ++ rest → FirstNode p s t i
+first_node : (p : Puzzle) (s t : List Move) (i : ℕ) (os rest : List ℕ) → IsLaid p → 0 < i → i ≤ item_count p
+    → 0 < length os → listed_numbers p t i ≡ os ++ rest → FirstNode p s t i
 first_node p s t i [] rest laid pos le some l = absurd (omega (arith, some))
 first_node p s t i (o ∷ os) rest laid pos le some l =
     let is : first_of 0 (listed_numbers p t i) ≡ o = ap (first_of 0) l in
@@ -105,7 +115,8 @@ first_node p s t i (o ∷ os) rest laid pos le some l =
     let named : Named p i o = element_of (Named p i) o (listed_numbers p t i) (numbers_named p t i) in_list in
     let here = laid.there i o pos le (inr (o_pos, named)) in
     let at = slice_get_within (layout p) (link_place p i o) here.node here.at in
-    let long : length (map (top_in (line_of p s)) (layout p)) ≡ length (layout p) = length-map (layout p) (top_in (line_of p s)) in
+    let long : length (map (top_in (line_of p s)) (layout p)) ≡ length (layout p) =
+    length-map (layout p) (top_in (line_of p s)) in
     record {
       within = subst (λ n. link_place p i n < length (nodes_after p s).top) (sym is) (omega (arith, at, long));
       item = ap (λ n. get_or (nodes_after p s).top (link_place p i n) 0) is ∙ get_item p (line_of p s) i o here o_pos;
@@ -118,10 +129,13 @@ pub record Found (p : Puzzle) (s t : List Move) (spans : List Span) (i k : ℕ) 
   pub node : FirstNode p s t i
   pub tell : CanTell (items_after p s) i
   pub off : is_off (items_after p s) i ≡ is_covered i t
-  pub back : Undoes spans (is_covered i t) (nodes_after p s) i (first_place p t i) k (nodes_after p t) (undo_tweaks_cost k p s)
+  pub back : Undoes spans (is_covered i t) (nodes_after p s) i (first_place p t i) k (nodes_after p t)
+      (undo_tweaks_cost k p s)
   pub items : items_after p s ≡ items_after p t
 
-found_by : (p : Puzzle) (t : List Move) (spans : List Span) (i k : ℕ) (xs : List ℕ) → AreLegal p (tweaks (suc k) i t) → IsFitted p spans → reverse xs ≡ taken_nodes p (tweaks (suc k) i t) → Found p (tweaks (suc k) i t) t spans i (suc k) xs
+found_by : (p : Puzzle) (t : List Move) (spans : List Span) (i k : ℕ) (xs : List ℕ) → AreLegal p (tweaks (suc k) i t)
+    → IsFitted p spans → reverse xs ≡ taken_nodes p (tweaks (suc k) i t)
+    → Found p (tweaks (suc k) i t) t spans i (suc k) xs
 found_by p t spans i k xs legal fit e =
     let s = tweaks (suc k) i t in
     let may = legal.0 in
@@ -136,28 +150,39 @@ found_by p t spans i k xs legal fit e =
     record {
       legal = before;
       taken = taken_last p t covered i (suc k) xs some tw e;
-      node = first_node p s t i tw.os (listed_numbers p s i) fit.laid pos le (let c = tw.count in omega (arith, c)) tw.lines.list;
+      node =
+          first_node p s t i tw.os (listed_numbers p s i) fit.laid pos le (let c = tw.count in omega (arith, c))
+          tw.lines.list;
       tell = (off.place, off.left);
       off = off.is ∙ covered_same (suc k) i i t;
       back = tweaks_back p t spans covered i (suc k) legal before fit pos le opened some;
       items = items_same p (suc k) i t;
     }
 
-pub tweaks_found : (p : Puzzle) (s : List Move) (spans : List Span) (k : ℕ) (xs : List ℕ) → AreTweaks k s → AreLegal p s → IsFitted p spans → reverse xs ≡ taken_nodes p s → (1 ≤ k) × ((i : ℕ) × Found p s (drop k s) spans i k xs)
+pub tweaks_found : (p : Puzzle) (s : List Move) (spans : List Span) (k : ℕ) (xs : List ℕ) → AreTweaks k s → AreLegal p s
+    → IsFitted p spans → reverse xs ≡ taken_nodes p s → (1 ≤ k) × ((i : ℕ) × Found p s (drop k s) spans i k xs)
 tweaks_found p s spans zero xs are legal fit e = absurd (let h = are.0 in omega (arith, h))
 tweaks_found p s spans (suc k) xs are legal fit e =
     let i = are.2.0 in
     let t = drop (suc k) s in
-    let is : s ≡ tweaks (suc k) i t = tweaks_are (suc k) i s are.1 are.2.1 in
-    (are.0, (i, subst (λ r. Found p r t spans i (suc k) xs) (sym is) (found_by p t spans i k xs (subst (AreLegal p) is legal) fit (e ∙ ap (taken_nodes p) is))))
+    let is : s ≡ tweaks (suc k) i t = tweaks_are (suc k) i s are.1 are.2.1 in (
+      are.0,
+      (
+        i,
+        subst (λ r. Found p r t spans i (suc k) xs) (sym is)
+            (found_by p t spans i k xs (subst (AreLegal p) is legal) fit (e ∙ ap (taken_nodes p) is)),
+      ),
+    )
 
 -- ---- as the code reads them
 
-pub node_is : {p : Puzzle} {s t : List Move} {spans : List Span} {i k n x : ℕ} {xs : List ℕ} → Found p s t spans i k xs → 1 ≤ k → x ≡ get_or xs (n - k) x → n ≡ length xs → x ≡ first_place p t i
+pub node_is : {p : Puzzle} {s t : List Move} {spans : List Span} {i k n x : ℕ} {xs : List ℕ} → Found p s t spans i k xs
+    → 1 ≤ k → x ≡ get_or xs (n - k) x → n ≡ length xs → x ≡ first_place p t i
 node_is {k = k} {x = x} {xs = xs} f some read long = grind (arith, common_steps, get_or_default)
 
 -- the first node that they took off, and its item, as they were read from the tables
-pub record IsRead (p : Puzzle) (s t : List Move) (spans : List Span) (i k : ℕ) (xs : List ℕ) (nodes : Nodes) (items : Items) (x j : ℕ) : Type 0 where
+pub record IsRead (p : Puzzle) (s t : List Move) (spans : List Span) (i k : ℕ) (xs : List ℕ) (nodes : Nodes)
+    (items : Items) (x j : ℕ) : Type 0 where
   pub found : Found p s t spans i k xs
   pub node : x ≡ first_place p t i
   pub item : j ≡ i
@@ -165,14 +190,20 @@ pub record IsRead (p : Puzzle) (s t : List Move) (spans : List Span) (i k : ℕ)
   pub items_are : items ≡ items_after p s
   pub tell : CanTell items j
 
-pub read : {p : Puzzle} {s t : List Move} {spans : List Span} {i k : ℕ} {xs : List ℕ} {nodes : Nodes} {items : Items} {x j : ℕ} → Found p s t spans i k xs → x ≡ first_place p t i → nodes ≡ nodes_after p s → items ≡ items_after p s → j ≡ get_or nodes.top x 0
+pub read : {p : Puzzle} {s t : List Move} {spans : List Span} {i k : ℕ} {xs : List ℕ} {nodes : Nodes} {items : Items}
+    {x j : ℕ} → Found p s t spans i k xs → x ≡ first_place p t i → nodes ≡ nodes_after p s → items ≡ items_after p s
+    → j ≡ get_or nodes.top x 0
     → IsRead p s t spans i k xs nodes items x j
 read {p = p} {s = s} {j = j} f node nodes_are items_are at = grind (arith, common_steps)
 
 -- so the code may undo them at once
-pub undoes : {p : Puzzle} {s t : List Move} {spans spans' : List Span} {i k : ℕ} {xs : List ℕ} {nodes : Nodes} {items : Items} {x j : ℕ} {covered : Bool} → IsRead p s t spans i k xs nodes items x j → spans' ≡ spans → covered ≡ is_off items j
+pub undoes : {p : Puzzle} {s t : List Move} {spans spans' : List Span} {i k : ℕ} {xs : List ℕ} {nodes : Nodes}
+    {items : Items} {x j : ℕ} {covered : Bool} → IsRead p s t spans i k xs nodes items x j → spans' ≡ spans
+    → covered ≡ is_off items j
     → Undoes spans' covered nodes j x k (nodes_after p t) (undo_tweaks_cost k p s)
 undoes {p} {s} {t} {spans} {spans'} {i} {k} {xs} {nodes} {items} {x} {j} {covered} r a b = grind (arith, common_steps)
 
-pub trail_left : (xs ys : List Move) (n k : ℕ) → ys ≡ take (n - k) xs → n ≡ length xs → k ≤ length (reverse xs) → reverse ys ≡ drop k (reverse xs)
-trail_left xs ys n k e long h = ap reverse (e ∙ ap (λ m. take (m - k) xs) long) ∙ turned_drop xs k (let d = length-reverse xs in omega (arith, h, d))
+pub trail_left : (xs ys : List Move) (n k : ℕ) → ys ≡ take (n - k) xs → n ≡ length xs → k ≤ length (reverse xs)
+    → reverse ys ≡ drop k (reverse xs)
+trail_left xs ys n k e long h = ap reverse (e ∙ ap (λ m. take (m - k) xs) long)
+    ∙ turned_drop xs k (let d = length-reverse xs in omega (arith, h, d))

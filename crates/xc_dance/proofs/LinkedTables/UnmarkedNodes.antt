@@ -1,5 +1,7 @@
 -- What steps write at nodes that aren't marked, and where no node of an option is.
-use Rattle.std.proofs.Common.{◌≡◌, ℕ, ◌+◌, ◌*◌, true, false, not, cond, eqb, List, [], ◌∷◌, ◌++◌, length, map, filter, get_or, reverse, refl, ap, ◌∙◌, arith, fold, ◌≢◌, zero, suc, ◌-◌, ◌<◌, ◌≤◌, Bool, ltb, Option, Some, None, sym, subst, ltb-true, ltb-false, eqb-true, ne_eqb}
+use Rattle.std.proofs.Common.{◌≡◌, ℕ, ◌+◌, ◌*◌, true, false, not, cond, eqb, List, [], ◌∷◌, ◌++◌, length, map, filter}
+use Rattle.std.proofs.Common.{get_or, reverse, refl, ap, ◌∙◌, arith, fold, ◌≢◌, zero, suc, ◌-◌, ◌<◌, ◌≤◌, Bool, ltb}
+use Rattle.std.proofs.Common.{Option, Some, None, sym, subst, ltb-true, ltb-false, eqb-true, ne_eqb}
 use Rattle.std.specs.Prelude.{slice_get, is_some}
 use Rattle.std.specs.List.{AllByRecursion}
 use Rattle.std.proofs.lemmas.Grind.{common_steps}
@@ -35,31 +37,42 @@ unmarked_costs color [] = 0
 unmarked_costs color (q ∷ qs) = cond (eqb (get_or color q 0) MARK) 0 3 + unmarked_costs color qs
 
 pub hidden_color : (t : Nodes) (q : ℕ) → (hidden t q).color ≡ t.color
-hidden_color t q = elim (eqb (get_or t.color q 0) MARK) as (λ b. (cond b t (unlinked t q)).color ≡ t.color) [ true ↦ refl | false ↦ refl ]
+hidden_color t q =
+    elim (eqb (get_or t.color q 0) MARK) as (λ b. (cond b t (unlinked t q)).color ≡ t.color)
+    [ true ↦ refl | false ↦ refl ]
 
 pub unhidden_color : (t : Nodes) (q : ℕ) → (unhidden t q).color ≡ t.color
-unhidden_color t q = elim (eqb (get_or t.color q 0) MARK) as (λ b. (cond b t (relinked t q)).color ≡ t.color) [ true ↦ refl | false ↦ refl ]
+unhidden_color t q =
+    elim (eqb (get_or t.color q 0) MARK) as (λ b. (cond b t (relinked t q)).color ≡ t.color)
+    [ true ↦ refl | false ↦ refl ]
 
 -- steps that leave the colours as they are
-pub costs-are : (step : Nodes → ℕ → Nodes) → ((t : Nodes) (q : ℕ) → (step t q).color ≡ t.color) → (t : Nodes) (qs : List ℕ) → costs step hide_cost t qs ≡ unmarked_costs t.color qs
+pub costs-are : (step : Nodes → ℕ → Nodes) → ((t : Nodes) (q : ℕ) → (step t q).color ≡ t.color)
+    → (t : Nodes) (qs : List ℕ) → costs step hide_cost t qs ≡ unmarked_costs t.color qs
 costs-are step same t [] = refl
-costs-are step same t (q ∷ qs) = ap (λ n. hide_cost t q + n) (costs-are step same (step t q) qs ∙ ap (λ c. unmarked_costs c qs) (same t q))
+costs-are step same t (q ∷ qs) =
+    ap (λ n. hide_cost t q + n) (costs-are step same (step t q) qs ∙ ap (λ c. unmarked_costs c qs) (same t q))
 
-pub colors-are : (step : Nodes → ℕ → Nodes) → ((t : Nodes) (q : ℕ) → (step t q).color ≡ t.color) → (t : Nodes) (qs : List ℕ) → (fold step t qs).color ≡ t.color
+pub colors-are : (step : Nodes → ℕ → Nodes) → ((t : Nodes) (q : ℕ) → (step t q).color ≡ t.color)
+    → (t : Nodes) (qs : List ℕ) → (fold step t qs).color ≡ t.color
 colors-are step same t [] = refl
 colors-are step same t (q ∷ qs) = colors-are step same (step t q) qs ∙ same t q
 
-unmarked-append : (color ps qs : List ℕ) → unmarked_costs color (ps ++ qs) ≡ unmarked_costs color ps + unmarked_costs color qs
+unmarked-append : (color ps qs : List ℕ)
+    → unmarked_costs color (ps ++ qs) ≡ unmarked_costs color ps + unmarked_costs color qs
 unmarked-append color [] qs = omega arith
 unmarked-append color (p ∷ ps) qs = let r = unmarked-append color ps qs in omega (arith, r)
 
 -- back it is the same
 pub unmarked-reverse : (color qs : List ℕ) → unmarked_costs color (reverse qs) ≡ unmarked_costs color qs
 unmarked-reverse color [] = grind (arith, common_steps, reverse-append, unmarked-append)
-unmarked-reverse color (q ∷ qs) = grind (arith, common_steps, reverse-append, unmarked-append, unmarked-reverse color qs)
+unmarked-reverse color (q ∷ qs) =
+    grind (arith, common_steps, reverse-append, unmarked-append, unmarked-reverse color qs)
 
 -- for option o's nodes in the lists of the items js
-pub unmarked_items : (p : Puzzle) (col : Node → ℕ) (o : ℕ) (js : List ℕ) → unmarked_costs (map col (layout p)) (map (λ j. link_place p j o) js) ≡ 3 * length (filter (λ j. not (is_mark p col o j)) js)
+pub unmarked_items : (p : Puzzle) (col : Node → ℕ) (o : ℕ) (js : List ℕ)
+    → unmarked_costs (map col (layout p)) (map (λ j. link_place p j o) js) ≡ 3 * length
+    (filter (λ j. not (is_mark p col o j)) js)
 unmarked_items p col o [] = grind (arith, common_steps)
 unmarked_items p col o (j ∷ js) = grind (arith, common_steps, unmarked_items p col o js)
 
@@ -81,7 +94,8 @@ never_marked p [] i o legal = grind (arith, common_steps, ne_eqb)
 never_marked p (Purify j d ∷ t) i o legal = grind (arith, common_steps, ne_eqb, never_marked p t i o legal.1)
 never_marked p (_ ∷ t) i o legal = grind (arith, common_steps, ne_eqb, never_marked p t i o legal.1)
 
-no_color : (p : Puzzle) (t : List Move) (q : ℕ) (n : Node) → IsLaid p → AreLegal p t → IsPlain p → item_count p < q → slice_get (layout p) q ≡ Some n → color_in p t n ≡ 0
+no_color : (p : Puzzle) (t : List Move) (q : ℕ) (n : Node) → IsLaid p → AreLegal p t → IsPlain p → item_count p < q
+    → slice_get (layout p) q ≡ Some n → color_in p t n ≡ 0
 no_color p t q (own i) laid legal plain gt e =
     let at : i ≡ q = laid.unique q (own i) i 0 e refl in
     let r = laid.nodes.ranged q (own i) i 0 e refl in
@@ -97,7 +111,8 @@ past_end f (n ∷ ns) zero le = absurd (omega (arith, le))
 past_end f (n ∷ ns) (suc q) le = past_end f ns q (omega (arith, le))
 
 -- behind the items none is marked
-unmarked_behind : (p : Puzzle) (t : List Move) (q : ℕ) → IsLaid p → AreLegal p t → IsPlain p → item_count p < q → get_or (nodes_after p t).color q 0 ≢ MARK
+unmarked_behind : (p : Puzzle) (t : List Move) (q : ℕ) → IsLaid p → AreLegal p t → IsPlain p → item_count p < q
+    → get_or (nodes_after p t).color q 0 ≢ MARK
 unmarked_behind p t q laid legal plain gt =
     let zeroed : get_or (nodes_after p t).color q 0 ≡ 0 =
     elim (ltb q (length (layout p))) as (λ b. ltb q (length (layout p)) ≡ b → get_or (nodes_after p t).color q 0 ≡ 0) [
@@ -111,10 +126,12 @@ unmarked_behind p t q laid legal plain gt =
 
 -- ---- the spans
 
-pub used_behind : (p : Puzzle) (x o : ℕ) (u : Use) → IsLaid p → slice_get (layout p) x ≡ Some (used o u) → item_count p < x
+pub used_behind : (p : Puzzle) (x o : ℕ) (u : Use) → IsLaid p → slice_get (layout p) x ≡ Some (used o u)
+    → item_count p < x
 used_behind p x o u laid e = grind (arith, common_steps, eqb-false, eqb-true, ltb-false, ltb-true)
 
-pub starts_behind : (p : Puzzle) (o i : ℕ) → 0 < o → is_some (colour_in (uses_of p o) i) ≡ true → item_count p < spacer_place p (o - 1)
+pub starts_behind : (p : Puzzle) (o i : ℕ) → 0 < o → is_some (colour_in (uses_of p o) i) ≡ true
+    → item_count p < spacer_place p (o - 1)
 starts_behind p zero i pos e = absurd (omega (arith, pos))
 starts_behind p (suc o) i pos e =
     let lt : o < option_count p = slice_get_within p.options o _ (there p.options o i e) in
@@ -123,25 +140,31 @@ starts_behind p (suc o) i pos e =
     let low : item_count p < place_at p o = omega arith in
     omega (arith, at, low)
 
-by_node : (p : Puzzle) (t : List Move) (x : ℕ) (n : Node) → IsLaid p → AreLegal p t → IsPlain p → x < SPACER → slice_get (layout p) x ≡ Some n → HasUnmarked (nodes_after p t).color (span_of p n) x
+by_node : (p : Puzzle) (t : List Move) (x : ℕ) (n : Node) → IsLaid p → AreLegal p t → IsPlain p → x < SPACER
+    → slice_get (layout p) x ≡ Some n → HasUnmarked (nodes_after p t).color (span_of p n) x
 by_node p t x (used o u) laid legal plain small e =
     let start = starts_behind p o u.item (laid.nodes.numbered x o u e) (ap is_some (laid.nodes.coloured x o u e)) in (
       (λ q from below. unmarked_behind p t q laid legal plain (omega (arith, used_behind p x o u laid e, from))),
       (λ q from below. unmarked_behind p t q laid legal plain (omega (arith, start, from))),
     )
-by_node p t x _ laid legal plain small e = (λ q from below. absurd (omega (arith, below)), λ q from below. absurd (omega (arith, small, from, below)))
+by_node p t x _ laid legal plain small e =
+    (λ q from below. absurd (omega (arith, below)), λ q from below. absurd (omega (arith, small, from, below)))
 
 -- no node of an option is marked
-pub plain_unmarked : (p : Puzzle) (t : List Move) → AreLegal p t → IsFitted p (spans_of p) → IsPlain p → IsUnmarked (spans_of p) (nodes_after p t).color
+pub plain_unmarked : (p : Puzzle) (t : List Move) → AreLegal p t → IsFitted p (spans_of p) → IsPlain p
+    → IsUnmarked (spans_of p) (nodes_after p t).color
 plain_unmarked p t legal fitted plain = record {
   others = λ x lt.
       let here = slice_get-get_or (layout p) x unused (omega (arith, lt, length-map (layout p) (span_of p))) in
       let d : Span = record { first = 0; end = 0 } in
-      subst (λ (s : Span). HasUnmarked (nodes_after p t).color s x) (sym (span_at (layout p) (span_of p) x (get_or (layout p) x unused) d here))
-      (by_node p t x (get_or (layout p) x unused) fitted.laid legal plain (omega (arith, lt, length-map (layout p) (span_of p), fitted.fit.near)) here);
+      subst (λ (s : Span). HasUnmarked (nodes_after p t).color s x)
+      (sym (span_at (layout p) (span_of p) x (get_or (layout p) x unused) d here))
+      (by_node p t x (get_or (layout p) x unused) fitted.laid legal plain
+      (omega (arith, lt, length-map (layout p) (span_of p), fitted.fit.near)) here);
 }
   where
-    span_at : (ns : List Node) (f : Node → Span) (k : ℕ) (n : Node) (d : Span) → slice_get ns k ≡ Some n → get_or (map f ns) k d ≡ f n
+    span_at : (ns : List Node) (f : Node → Span) (k : ℕ) (n : Node) (d : Span) → slice_get ns k ≡ Some n
+        → get_or (map f ns) k d ≡ f n
     span_at [] f k n d e = cc
     span_at (m ∷ ns) f zero n d e = ap f (same_node m n e)
       where
@@ -150,22 +173,32 @@ plain_unmarked p t legal fitted plain = record {
     span_at (m ∷ ns) f (suc k) n d e = span_at ns f k n d e
 
 -- the same for the tables of a keeper
-pub kept_unmarked : (p : Puzzle) (t : List Move) (coloured : Bool) (spans : List Span) (nodes : Nodes) → AreLegal p t → IsFitted p (spans_of p) → spans ≡ spans_of p → nodes ≡ nodes_after p t → (coloured ≡ false → IsPlain p) →
+pub kept_unmarked : (p : Puzzle) (t : List Move) (coloured : Bool) (spans : List Span) (nodes : Nodes) → AreLegal p t
+    → IsFitted p (spans_of p) → spans ≡ spans_of p → nodes ≡ nodes_after p t → (coloured ≡ false → IsPlain p) →
     coloured ≡ false → IsUnmarked spans nodes.color
 kept_unmarked p t coloured spans nodes legal fitted a b plain none =
-    subst (λ (x : List Span). IsUnmarked x nodes.color) (sym a) (subst (λ (x : Nodes). IsUnmarked (spans_of p) x.color) (sym b) (plain_unmarked p t legal fitted (plain none)))
+    subst (λ (x : List Span). IsUnmarked x nodes.color) (sym a)
+    (subst (λ (x : Nodes). IsUnmarked (spans_of p) x.color) (sym b) (plain_unmarked p t legal fitted (plain none)))
 
 -- ---- the walks
 
-kept_color : (step : Nodes → ℕ → Nodes) → ((t : Nodes) (q : ℕ) → (step t q).color ≡ t.color) → (spans : List Span) (t u : Nodes) (qs : List ℕ) → u ≡ fold step t qs → IsUnmarked spans t.color → IsUnmarked spans u.color
-kept_color step same spans t u qs done = subst (IsUnmarked spans) (sym (ap (λ (v : Nodes). v.color) done ∙ colors-are step same t qs))
+kept_color : (step : Nodes → ℕ → Nodes) → ((t : Nodes) (q : ℕ) → (step t q).color ≡ t.color)
+    → (spans : List Span) (t u : Nodes) (qs : List ℕ) → u ≡ fold step t qs → IsUnmarked spans t.color
+    → IsUnmarked spans u.color
+kept_color step same spans t u qs done =
+    subst (IsUnmarked spans) (sym (ap (λ (v : Nodes). v.color) done ∙ colors-are step same t qs))
 
 -- a step down that keeps no colour marks none
-pub left_unmarked : (spans : List Span) (marks : Bool) (keep : Option ℕ) (t u : Nodes) (x : ℕ) → u ≡ left_node spans keep t x → (marks ≡ false → keep ≡ None) → (marks ≡ false → IsUnmarked spans t.color) →
+pub left_unmarked : (spans : List Span) (marks : Bool) (keep : Option ℕ) (t u : Nodes) (x : ℕ)
+    → u ≡ left_node spans keep t x → (marks ≡ false → keep ≡ None) → (marks ≡ false → IsUnmarked spans t.color) →
     marks ≡ false → IsUnmarked spans u.color
-left_unmarked spans marks keep t u x done none h m = kept_color hidden hidden_color spans t u (others_of spans x) (done ∙ ap (λ k. left_node spans k t x) (none m)) (h m)
+left_unmarked spans marks keep t u x done none h m =
+    kept_color hidden hidden_color spans t u (others_of spans x) (done ∙ ap (λ k. left_node spans k t x) (none m)) (h m)
 
 -- nor does a step up
-pub back_unmarked : (spans : List Span) (marks : Bool) (keep : Option ℕ) (t u : Nodes) (x : ℕ) → u ≡ back_node spans keep t x → (marks ≡ false → keep ≡ None) → (marks ≡ false → IsUnmarked spans t.color) →
+pub back_unmarked : (spans : List Span) (marks : Bool) (keep : Option ℕ) (t u : Nodes) (x : ℕ)
+    → u ≡ back_node spans keep t x → (marks ≡ false → keep ≡ None) → (marks ≡ false → IsUnmarked spans t.color) →
     marks ≡ false → IsUnmarked spans u.color
-back_unmarked spans marks keep t u x done none h m = kept_color unhidden unhidden_color spans t u (reverse (others_of spans x)) (done ∙ ap (λ k. back_node spans k t x) (none m)) (h m)
+back_unmarked spans marks keep t u x done none h m =
+    kept_color unhidden unhidden_color spans t u (reverse (others_of spans x))
+    (done ∙ ap (λ k. back_node spans k t x) (none m)) (h m)

@@ -1,5 +1,7 @@
 -- The nodes of an option's uses, and what the tables tell there: for calls that go over an option by its nodes.
-use Rattle.std.proofs.Common.{◌≡◌, ℕ, zero, suc, ◌+◌, ◌-◌, ◌<◌, ◌≤◌, true, false, cond, not, eqb, List, [], ◌∷◌, length, get_or, drop, take, Some, Option, refl, ap, sym, ◌∙◌, arith, subst, eqb-true, eq-eqb, ne_eqb}
+use Rattle.std.proofs.Common.{◌≡◌, ℕ, zero, suc, ◌+◌, ◌-◌, ◌<◌, ◌≤◌, true, false, cond, not, eqb, List, [], ◌∷◌, length}
+use Rattle.std.proofs.Common.{get_or, drop, take, Some, Option, refl, ap, sym, ◌∙◌, arith, subst, eqb-true, eq-eqb}
+use Rattle.std.proofs.Common.{ne_eqb}
 use Rattle.std.specs.Prelude.{is_some, unwrap_or, slice_get, option_map}
 use Rattle.std.proofs.lemmas.Option.{slice_get_within, slice_get-get_or}
 use Rattle.xc_input.specs.declared.problem.Use.{Use}
@@ -54,7 +56,8 @@ of_held (u ∷ us) i h =
 
 -- where the uses of option x stand, which is behind option m
 pub record OptionNodes (p : Puzzle) (x m : ℕ) : Type 0 where
-  pub node : (k : ℕ) (u : Use) → slice_get (uses_of p x) k ≡ Some u → slice_get (layout p) (start_at p m + k) ≡ Some (used x u)
+  pub node : (k : ℕ) (u : Use) → slice_get (uses_of p x) k ≡ Some u
+      → slice_get (layout p) (start_at p m + k) ≡ Some (used x u)
   pub place : (k : ℕ) (u : Use) → slice_get (uses_of p x) k ≡ Some u → link_place p u.item x ≡ start_at p m + k
   pub behind : slice_get (layout p) (start_at p m + length (uses_of p x)) ≡ Some (spacer x)
   pub end : spacer_place p x ≡ start_at p m + length (uses_of p x)
@@ -69,7 +72,8 @@ option_nodes_at p x m fit known s =
     record {
       node = λ k u e. use_here p m k (start_at p m + k) us u here e refl ∙ ap (λ n. Some (used n u)) (sym s);
       place = λ k u e. ap (link_place p u.item) s ∙ use_at p m k us u fit here e;
-      behind = ap (slice_get (layout p)) at_end ∙ spacer_here p (m + 1) (omega (arith, known.1, s)) ∙ ap (λ n. Some (spacer n)) (sym s);
+      behind = ap (slice_get (layout p)) at_end ∙ spacer_here p (m + 1) (omega (arith, known.1, s))
+          ∙ ap (λ n. Some (spacer n)) (sym s);
       end = ap (spacer_place p) s ∙ spacer_at p (m + 1) (omega (arith, known.1, s)) ∙ sym at_end;
       first = ap (λ n. n + 1) (spacer_at p m (omega (arith, known.1, s)));
     }
@@ -84,7 +88,8 @@ pub record UseCells (p : Puzzle) (t : List Move) (u : Use) (q : ℕ) : Type 0 wh
   pub within : q < length (layout p)
   pub top : get_or (nodes_after p t).top q 0 ≡ u.item
 
-pub use_cells : (p : Puzzle) (t : List Move) (o : ℕ) (u : Use) (q : ℕ) → slice_get (layout p) q ≡ Some (used o u) → UseCells p t u q
+pub use_cells : (p : Puzzle) (t : List Move) (o : ℕ) (u : Use) (q : ℕ) → slice_get (layout p) q ≡ Some (used o u)
+    → UseCells p t u q
 use_cells p t o u q node = record {
   within = slice_get_within (layout p) q (used o u) node;
   top = get_map (top_in (line_of p t)) (layout p) q (used o u) node;
@@ -96,7 +101,8 @@ pub record SpacerCells (p : Puzzle) (t : List Move) (x m q : ℕ) : Type 0 where
   pub top : get_or (nodes_after p t).top q 0 ≡ SPACER + x
   pub ulink : get_or (nodes_after p t).ulink q 0 ≡ spacer_place p m + 1
 
-pub spacer_cells : (p : Puzzle) (t : List Move) (x m q : ℕ) → x ≡ suc m → slice_get (layout p) q ≡ Some (spacer x) → SpacerCells p t x m q
+pub spacer_cells : (p : Puzzle) (t : List Move) (x m q : ℕ) → x ≡ suc m → slice_get (layout p) q ≡ Some (spacer x)
+    → SpacerCells p t x m q
 spacer_cells p t x m q s node = record {
   within = slice_get_within (layout p) q (spacer x) node;
   top = get_map (top_in (line_of p t)) (layout p) q (spacer x) node;
@@ -111,19 +117,25 @@ above_zero (suc y) e = omega arith
 
 slot_number : (i y : ℕ) (n : Node) → slot_of n ≡ Some (i, y) → 0 < y → number_of n ≡ y
 slot_number i y unused e h = cc
-slot_number i y (own j) e h = let zero_is : 0 ≡ y = ap (λ (s : Option (ℕ × ℕ)). (unwrap_or s (0, 0)).1) e in absurd (omega (arith, h, zero_is))
+slot_number i y (own j) e h =
+    let zero_is : 0 ≡ y = ap (λ (s : Option (ℕ × ℕ)). (unwrap_or s (0, 0)).1) e in absurd (omega (arith, h, zero_is))
 slot_number i y (spacer n) e h = cc
 slot_number i y (used n u) e h = ap (λ (s : Option (ℕ × ℕ)). (unwrap_or s (0, 0)).1) e
 
 -- the option at the place where one uses an item, and none at the item's own node
-pub option_there : (p : Puzzle) (i y : ℕ) → IsLaid p → 0 < i → i ≤ item_count p → IsName p i y → option_at p i (link_place p i y) ≡ named y
+pub option_there : (p : Puzzle) (i y : ℕ) → IsLaid p → 0 < i → i ≤ item_count p → IsName p i y
+    → option_at p i (link_place p i y) ≡ named y
 option_there p i y laid pos le name =
     elim (eqb y 0) as (λ b. eqb y 0 ≡ b → option_at p i (link_place p i y) ≡ named y) [
-      | true ↦ λ e. (let z = eqb-true y 0 e in subst (λ y. option_at p i (link_place p i y) ≡ named y) (sym z) (rw (eq-eqb i i refl) refl))
+      | true ↦ λ e. (let z = eqb-true y 0 e in subst (λ y. option_at p i (link_place p i y) ≡ named y) (sym z)
+          (rw (eq-eqb i i refl) refl))
       | false ↦ λ e.
           let q = laid.there i y pos le name in
-          let other : eqb (link_place p i y) i ≡ false = ne_eqb (link_place p i y) i (λ h. let z : eqb y 0 ≡ true = eq-eqb y 0 (at_own p i y pos le name (sym h)) in cc (z, e)) in
-          rw (other, e) (ap (λ o. Some (unwrap_or (option_map number_of o) 0)) q.at ∙ ap Some (slot_number i y q.node q.slot (above_zero y e)))
+          let other : eqb (link_place p i y) i ≡ false =
+          ne_eqb (link_place p i y) i
+          (λ h. let z : eqb y 0 ≡ true = eq-eqb y 0 (at_own p i y pos le name (sym h)) in cc (z, e)) in
+          rw (other, e) (ap (λ o. Some (unwrap_or (option_map number_of o) 0)) q.at
+          ∙ ap Some (slot_number i y q.node q.slot (above_zero y e)))
     ] refl
 
 -- ---- uses that stand side by side
@@ -145,7 +157,8 @@ get_taken (suc n) k [] x e = cc
 get_taken (suc n) zero (y ∷ ys) x e = e
 get_taken (suc n) (suc k) (y ∷ ys) x e = get_taken n k ys x e
 
-pub behind_segment : (p : Puzzle) (i x m : ℕ) → OptionNodes p x m → Segment p x (start_at p m + (place_in i (uses_of p x) + 1)) (drop (place_in i (uses_of p x) + 1) (uses_of p x))
+pub behind_segment : (p : Puzzle) (i x m : ℕ) → OptionNodes p x m
+    → Segment p x (start_at p m + (place_in i (uses_of p x) + 1)) (drop (place_in i (uses_of p x) + 1) (uses_of p x))
 behind_segment p i x m o =
     let n = place_in i (uses_of p x) + 1 in
     record {
@@ -154,8 +167,10 @@ behind_segment p i x m o =
           ap (slice_get (layout p)) at ∙ o.node (n + k) u (sym (get_dropped n k (uses_of p x)) ∙ e);
     }
 
-pub before_segment : (p : Puzzle) (i x m : ℕ) → OptionNodes p x m → Segment p x (start_at p m) (take (place_in i (uses_of p x)) (uses_of p x))
-before_segment p i x m o = record { node = λ k u e. o.node k u (get_taken (place_in i (uses_of p x)) k (uses_of p x) u e) }
+pub before_segment : (p : Puzzle) (i x m : ℕ) → OptionNodes p x m
+    → Segment p x (start_at p m) (take (place_in i (uses_of p x)) (uses_of p x))
+before_segment p i x m o =
+    record { node = λ k u e. o.node k u (get_taken (place_in i (uses_of p x)) k (uses_of p x) u e) }
 
 -- the node of item i stands behind as many of the option's nodes as uses stand before it
 pub place_held : (p : Puzzle) (i x m : ℕ) → OptionNodes p x m → place_in i (uses_of p x) < length (uses_of p x) →
@@ -164,7 +179,9 @@ place_held p i x m o holds =
     let us = uses_of p x in
     let k = place_in i us in
     let d : Use = record { item = 0; colour = 0 } in
-    ap (λ j. link_place p j x) (sym (item_there us i d holds)) ∙ o.place k (get_or us k d) (slice_get-get_or us k d holds)
+    ap (λ j. link_place p j x) (sym (item_there us i d holds))
+    ∙ o.place k (get_or us k d) (slice_get-get_or us k d holds)
 
-pub place_at_use : (p : Puzzle) (i x m q : ℕ) → OptionNodes p x m → IsUseAt p i x q → q ≡ start_at p m + place_in i (uses_of p x)
+pub place_at_use : (p : Puzzle) (i x m q : ℕ) → OptionNodes p x m → IsUseAt p i x q
+    → q ≡ start_at p m + place_in i (uses_of p x)
 place_at_use p i x m q o u = u.at ∙ place_held p i x m o u.holds

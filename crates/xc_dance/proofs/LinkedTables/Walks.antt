@@ -1,5 +1,6 @@
 -- Walks over nodes, under way and at their end, along links and over places in a row.
-use Rattle.std.proofs.Common.{◌≡◌, ◌≢◌, ℕ, zero, suc, ◌+◌, ◌<◌, ◌≤◌, true, false, eqb, List, [], ◌∷◌, ◌++◌, length, get_or, drop, fold, refl, ap, sym, subst, ◌∙◌, arith, eqb-true, ◌-◌, reverse}
+use Rattle.std.proofs.Common.{◌≡◌, ◌≢◌, ℕ, zero, suc, ◌+◌, ◌<◌, ◌≤◌, true, false, eqb, List, [], ◌∷◌, ◌++◌, length}
+use Rattle.std.proofs.Common.{get_or, drop, fold, refl, ap, sym, subst, ◌∙◌, arith, eqb-true, ◌-◌, reverse}
 use Rattle.std.specs.List.{range_with_len}
 use Rattle.std.proofs.lemmas.Grind.{common_steps}
 use Rattle.std.proofs.lemmas.Bool.{eqb-false}
@@ -10,48 +11,65 @@ use Rattle.xc_dance.specs.inner.Links.Steps.{followed, IsSpacer, places}
 use Rattle.xc_dance.specs.inner.Links.Walks.{costs, CanAll, CanFollow}
 use Rattle.xc_dance.specs.declared.links.nodes.TheConstants.{SPACER}
 
--- ---- walks over nodes, under way and at their end: for hide and unhide, down a list and up, and down nodes that come back
+-- ---- walks over nodes, under way and at their end: for hide and unhide, down a list and up, and down nodes that come
+-- back
 
 -- ---- steps at the places of a list
 
 -- a walk in two parts
-pub CanAll-append : (step : Nodes → ℕ → Nodes) (Can : Nodes → ℕ → Type 0) (t : Nodes) (ps qs : List ℕ) → CanAll step Can t (ps ++ qs) → CanAll step Can t ps × CanAll step Can (fold step t ps) qs
+pub CanAll-append : (step : Nodes → ℕ → Nodes) (Can : Nodes → ℕ → Type 0) (t : Nodes) (ps qs : List ℕ)
+    → CanAll step Can t (ps ++ qs) → CanAll step Can t ps × CanAll step Can (fold step t ps) qs
 CanAll-append step Can t [] qs h = (tt, h)
 CanAll-append step Can t (p ∷ ps) qs h = let r = CanAll-append step Can (step t p) ps qs h.1 in ((h.0, r.0), r.1)
 
-pub costs-append : (step : Nodes → ℕ → Nodes) (writes : Nodes → ℕ → ℕ) (t : Nodes) (ps qs : List ℕ) → costs step writes t (ps ++ qs) ≡ costs step writes t ps + costs step writes (fold step t ps) qs
+pub costs-append : (step : Nodes → ℕ → Nodes) (writes : Nodes → ℕ → ℕ) (t : Nodes) (ps qs : List ℕ)
+    → costs step writes t (ps ++ qs) ≡ costs step writes t ps + costs step writes (fold step t ps) qs
 costs-append step writes t [] qs = omega arith
 costs-append step writes t (p ∷ ps) qs = let e = costs-append step writes (step t p) ps qs in omega (arith, e)
 
 -- n cells were written on the way from table t0 to t, and the steps that are left lead to the end of all
-pub record Underway (step : Nodes → ℕ → Nodes) (writes : Nodes → ℕ → ℕ) (Can : Nodes → ℕ → Type 0) (t0 : Nodes) (all : List ℕ) (t : Nodes) (left : List ℕ) (n : ℕ) : Type 0 where
+pub record Underway (step : Nodes → ℕ → Nodes) (writes : Nodes → ℕ → ℕ) (Can : Nodes → ℕ → Type 0) (t0 : Nodes)
+    (all : List ℕ) (t : Nodes) (left : List ℕ) (n : ℕ) : Type 0 where
   pub can : CanAll step Can t left
   pub done : fold step t left ≡ fold step t0 all
   pub cost : n + costs step writes t left ≡ costs step writes t0 all
 
 -- the table that was reached, and what was written
-pub record Reached (step : Nodes → ℕ → Nodes) (writes : Nodes → ℕ → ℕ) (t0 : Nodes) (all : List ℕ) (t : Nodes) (n : ℕ) : Type 0 where
+pub record Reached (step : Nodes → ℕ → Nodes) (writes : Nodes → ℕ → ℕ) (t0 : Nodes) (all : List ℕ) (t : Nodes) (n : ℕ) :
+    Type 0 where
   pub done : t ≡ fold step t0 all
   pub cost : n ≡ costs step writes t0 all
 
-pub underway : {step : Nodes → ℕ → Nodes} {Can : Nodes → ℕ → Type 0} (writes : Nodes → ℕ → ℕ) (t0 : Nodes) (all left : List ℕ) → left ≡ all → CanAll step Can t0 all → Underway step writes Can t0 all t0 left 0
-underway {step} {Can} writes t0 all left e can = subst (λ qs. Underway step writes Can t0 all t0 qs 0) (sym e) (record { can = can; done = refl; cost = omega arith })
+pub underway : {step : Nodes → ℕ → Nodes} {Can : Nodes → ℕ → Type 0} (writes : Nodes → ℕ → ℕ) (t0 : Nodes)
+    (all left : List ℕ) → left ≡ all → CanAll step Can t0 all → Underway step writes Can t0 all t0 left 0
+underway {step} {Can} writes t0 all left e can =
+    subst (λ qs. Underway step writes Can t0 all t0 qs 0) (sym e)
+    (record { can = can; done = refl; cost = omega arith })
 
 -- the first step of those that are left
-pub step_can : {step : Nodes → ℕ → Nodes} {writes : Nodes → ℕ → ℕ} {Can : Nodes → ℕ → Type 0} {t0 : Nodes} {all : List ℕ} {t : Nodes} {left : List ℕ} {n : ℕ} (q : ℕ) (more : List ℕ) → left ≡ q ∷ more → Underway step writes Can t0 all t left n → Can t q
+pub step_can : {step : Nodes → ℕ → Nodes} {writes : Nodes → ℕ → ℕ} {Can : Nodes → ℕ → Type 0} {t0 : Nodes}
+    {all : List ℕ} {t : Nodes} {left : List ℕ} {n : ℕ} (q : ℕ) (more : List ℕ) → left ≡ q ∷ more
+    → Underway step writes Can t0 all t left n → Can t q
 step_can {step} {writes} {Can} {t0} {all} {t} {left} {n} q more e h = (subst (CanAll step Can t) e h.can).0
 
-pub step_on : {step : Nodes → ℕ → Nodes} {writes : Nodes → ℕ → ℕ} {Can : Nodes → ℕ → Type 0} {t0 : Nodes} {all : List ℕ} {t : Nodes} {left : List ℕ} {n : ℕ} (q : ℕ) (more : List ℕ) (u : Nodes) (m : ℕ)
-    → left ≡ q ∷ more → u ≡ step t q → m ≡ writes t q → Underway step writes Can t0 all t left n → Underway step writes Can t0 all u more (n + m)
+pub step_on : {step : Nodes → ℕ → Nodes} {writes : Nodes → ℕ → ℕ} {Can : Nodes → ℕ → Type 0} {t0 : Nodes} {all : List ℕ}
+    {t : Nodes} {left : List ℕ} {n : ℕ} (q : ℕ) (more : List ℕ) (u : Nodes) (m : ℕ)
+    → left ≡ q ∷ more → u ≡ step t q → m ≡ writes t q → Underway step writes Can t0 all t left n
+    → Underway step writes Can t0 all u more (n + m)
 step_on {step} {writes} {Can} {t0} {all} {t} {left} {n} q more u m e is paid h = grind (arith, common_steps)
 
-pub steps_end : {step : Nodes → ℕ → Nodes} {writes : Nodes → ℕ → ℕ} {Can : Nodes → ℕ → Type 0} {t0 : Nodes} {all : List ℕ} {t : Nodes} {left : List ℕ} {n : ℕ} → left ≡ [] → Underway step writes Can t0 all t left n → Reached step writes t0 all t n
+pub steps_end : {step : Nodes → ℕ → Nodes} {writes : Nodes → ℕ → ℕ} {Can : Nodes → ℕ → Type 0} {t0 : Nodes}
+    {all : List ℕ} {t : Nodes} {left : List ℕ} {n : ℕ} → left ≡ [] → Underway step writes Can t0 all t left n
+    → Reached step writes t0 all t n
 steps_end {step} {writes} {Can} {t0} {all} {t} {left} {n} e h = grind (arith, common_steps)
 
 -- one walk behind another
-pub both_reached : {step : Nodes → ℕ → Nodes} {writes : Nodes → ℕ → ℕ} {t0 : Nodes} {ps : List ℕ} {t : Nodes} {n : ℕ} (qs rs : List ℕ) (u : Nodes) (m : ℕ) → Reached step writes t0 ps t n → rs ≡ qs → u ≡ fold step t rs → m ≡ costs step writes t rs
+pub both_reached : {step : Nodes → ℕ → Nodes} {writes : Nodes → ℕ → ℕ} {t0 : Nodes} {ps : List ℕ} {t : Nodes} {n : ℕ}
+    (qs rs : List ℕ) (u : Nodes) (m : ℕ) → Reached step writes t0 ps t n → rs ≡ qs → u ≡ fold step t rs
+    → m ≡ costs step writes t rs
     → Reached step writes t0 (ps ++ qs) u (n + m)
-both_reached {step} {writes} {t0} {ps} {t} {n} qs rs u m h same is paid = grind (arith, common_steps, costs-append, fold-append)
+both_reached {step} {writes} {t0} {ps} {t} {n} qs rs u m h same is paid =
+    grind (arith, common_steps, costs-append, fold-append)
 
 -- ---- up to a spacer
 
@@ -63,8 +81,11 @@ pub record Tells (t u : Nodes) (q z : ℕ) (left : List ℕ) : Type 0 where
   pub none : SPACER ≤ get_or t.top q 0 → left ≡ []
   pub is : SPACER ≤ get_or t.top q 0 → t ≡ u
 
-pub tells : {step : Nodes → ℕ → Nodes} {writes : Nodes → ℕ → ℕ} {Can : Nodes → ℕ → Type 0} {t0 : Nodes} {all : List ℕ} {t : Nodes} {left : List ℕ} {n : ℕ} (q z : ℕ) → ((v : Nodes) (x : ℕ) → Can v x → (x < length v.top) × (get_or v.top x 0 < SPACER))
-    → (q ≡ z → left ≡ []) → (q ≢ z → (more : List ℕ) × (left ≡ q ∷ more)) → IsSpacer (fold step t0 all) z → Underway step writes Can t0 all t left n → Tells t (fold step t0 all) q z left
+pub tells : {step : Nodes → ℕ → Nodes} {writes : Nodes → ℕ → ℕ} {Can : Nodes → ℕ → Type 0} {t0 : Nodes} {all : List ℕ}
+    {t : Nodes} {left : List ℕ} {n : ℕ} (q z : ℕ)
+    → ((v : Nodes) (x : ℕ) → Can v x → (x < length v.top) × (get_or v.top x 0 < SPACER))
+    → (q ≡ z → left ≡ []) → (q ≢ z → (more : List ℕ) × (left ≡ q ∷ more)) → IsSpacer (fold step t0 all) z
+    → Underway step writes Can t0 all t left n → Tells t (fold step t0 all) q z left
 tells {step} {writes} {Can} {t0} {all} {t} {left} {n} q z knows met on spacer h =
     let u : Nodes = fold step t0 all in
     elim (eqb q z) as (λ b. eqb q z ≡ b → Tells t u q z left) [
@@ -79,38 +100,55 @@ length-followed links zero p = refl
 length-followed links (suc n) p = ap suc (length-followed links n (get_or links p 0))
 
 -- the same of a walk along m links from node x, which is at node p, k nodes on
-pub record Following (step : Nodes → ℕ → Nodes) (writes : Nodes → ℕ → ℕ) (Can : Nodes → ℕ → Type 0) (links : Nodes → List ℕ) (t0 : Nodes) (m x : ℕ) (t : Nodes) (p k n : ℕ) : Type 0 where
+pub record Following (step : Nodes → ℕ → Nodes) (writes : Nodes → ℕ → ℕ) (Can : Nodes → ℕ → Type 0)
+    (links : Nodes → List ℕ) (t0 : Nodes) (m x : ℕ) (t : Nodes) (p k n : ℕ) : Type 0 where
   pub walk : CanFollow step Can links t p (drop k (followed (links t0) m x))
   pub done : fold step t (drop k (followed (links t0) m x)) ≡ fold step t0 (followed (links t0) m x)
   pub cost : n + costs step writes t (drop k (followed (links t0) m x)) ≡ costs step writes t0 (followed (links t0) m x)
 
 -- the node that it is at comes first of those that are left
-pub record Here (step : Nodes → ℕ → Nodes) (Can : Nodes → ℕ → Type 0) (links : Nodes → List ℕ) (all : List ℕ) (t : Nodes) (p k : ℕ) : Type 0 where
+pub record Here (step : Nodes → ℕ → Nodes) (Can : Nodes → ℕ → Type 0) (links : Nodes → List ℕ) (all : List ℕ)
+    (t : Nodes) (p k : ℕ) : Type 0 where
   pub first : drop k all ≡ p ∷ drop (k + 1) all
   pub can : Can t p
   pub within : (u : Nodes) → u ≡ step t p → p < length (links u)
   pub next : CanFollow step Can links (step t p) (get_or (links (step t p)) p 0) (drop (k + 1) all)
 
-pub follow_here : {step : Nodes → ℕ → Nodes} {writes : Nodes → ℕ → ℕ} {Can : Nodes → ℕ → Type 0} {links : Nodes → List ℕ} {t0 : Nodes} {m x : ℕ} {t : Nodes} {p k n : ℕ} → k < m → Following step writes Can links t0 m x t p k n → Here step Can links (followed (links t0) m x) t p k
+pub follow_here : {step : Nodes → ℕ → Nodes} {writes : Nodes → ℕ → ℕ} {Can : Nodes → ℕ → Type 0}
+    {links : Nodes → List ℕ} {t0 : Nodes} {m x : ℕ} {t : Nodes} {p k n : ℕ} → k < m
+    → Following step writes Can links t0 m x t p k n → Here step Can links (followed (links t0) m x) t p k
 follow_here {step} {writes} {Can} {links} {t0} {m} {x} {t} {p} {k} {n} lt h =
     let all : List ℕ = followed (links t0) m x in
-    let at : drop k all ≡ get_or all k 0 ∷ drop (k + 1) all = drop_more all k 0 (omega (arith, length-followed (links t0) m x, lt)) in
-    let first : drop k all ≡ p ∷ drop (k + 1) all = at ∙ ap (λ y. y ∷ drop (k + 1) all) (sym (subst (CanFollow step Can links t p) at h.walk).0) in
+    let at : drop k all ≡ get_or all k 0 ∷ drop (k + 1) all =
+    drop_more all k 0 (omega (arith, length-followed (links t0) m x, lt)) in
+    let first : drop k all ≡ p ∷ drop (k + 1) all =
+    at ∙ ap (λ y. y ∷ drop (k + 1) all) (sym (subst (CanFollow step Can links t p) at h.walk).0) in
     let w : CanFollow step Can links t p (p ∷ drop (k + 1) all) = subst (CanFollow step Can links t p) first h.walk in
-    record { first = first; can = w.1; within = λ u is. subst (λ (v : Nodes). p < length (links v)) (sym is) w.2; next = w.3 }
+    record {
+      first = first;
+      can = w.1;
+      within = λ u is. subst (λ (v : Nodes). p < length (links v)) (sym is) w.2;
+      next = w.3;
+    }
 
-pub follow_on : {step : Nodes → ℕ → Nodes} {writes : Nodes → ℕ → ℕ} {Can : Nodes → ℕ → Type 0} {links : Nodes → List ℕ} {t0 : Nodes} {m x : ℕ} {t : Nodes} {p k n : ℕ} (u : Nodes) (q w : ℕ) → k < m → u ≡ step t p → q ≡ get_or (links u) p 0 → w ≡ writes t p
+pub follow_on : {step : Nodes → ℕ → Nodes} {writes : Nodes → ℕ → ℕ} {Can : Nodes → ℕ → Type 0} {links : Nodes → List ℕ}
+    {t0 : Nodes} {m x : ℕ} {t : Nodes} {p k n : ℕ} (u : Nodes) (q w : ℕ) → k < m → u ≡ step t p
+    → q ≡ get_or (links u) p 0 → w ≡ writes t p
     → Following step writes Can links t0 m x t p k n → Following step writes Can links t0 m x u q (k + 1) (n + w)
 follow_on {step} {writes} {Can} {links} {t0} {m} {x} {t} {p} {k} {n} u q w lt is to paid h =
     let here = follow_here lt h in
     let rest : List ℕ = drop (k + 1) (followed (links t0) m x) in
     let next : q ≡ get_or (links (step t p)) p 0 = to ∙ ap (λ (v : Nodes). get_or (links v) p 0) is in
-    let whole : costs step writes t (drop k (followed (links t0) m x)) ≡ writes t p + costs step writes (step t p) rest = ap (costs step writes t) here.first in
+    let whole : costs step writes t (drop k (followed (links t0) m x)) ≡ writes t p + costs step writes (step t p) rest
+    = ap (costs step writes t) here.first in
     let cost = h.cost in
     grind (arith, common_steps)
 
-pub follow_end : {step : Nodes → ℕ → Nodes} {writes : Nodes → ℕ → ℕ} {Can : Nodes → ℕ → Type 0} {links : Nodes → List ℕ} {t0 : Nodes} {m x : ℕ} {t : Nodes} {p k n : ℕ} → m ≤ k → Following step writes Can links t0 m x t p k n → Reached step writes t0 (followed (links t0) m x) t n
-follow_end {step} {writes} {Can} {links} {t0} {m} {x} {t} {p} {k} {n} le h = grind (arith, common_steps, drop_all, length-followed)
+pub follow_end : {step : Nodes → ℕ → Nodes} {writes : Nodes → ℕ → ℕ} {Can : Nodes → ℕ → Type 0} {links : Nodes → List ℕ}
+    {t0 : Nodes} {m x : ℕ} {t : Nodes} {p k n : ℕ} → m ≤ k → Following step writes Can links t0 m x t p k n
+    → Reached step writes t0 (followed (links t0) m x) t n
+follow_end {step} {writes} {Can} {links} {t0} {m} {x} {t} {p} {k} {n} le h =
+    grind (arith, common_steps, drop_all, length-followed)
 
 -- ---- places in a row, one by one
 

@@ -1,5 +1,6 @@
 -- The lists before any move, filled option by option.
-use Rattle.std.proofs.Common.{ℕ, zero, suc, ◌≡◌, ◌≢◌, ◌+◌, ◌<◌, Bool, true, false, cond, eqb, List, [], ◌∷◌, ◌++◌, length, get_or, set, map, take, replicate, refl, ap, ap₂, sym, ◌∙◌, arith}
+use Rattle.std.proofs.Common.{ℕ, zero, suc, ◌≡◌, ◌≢◌, ◌+◌, ◌<◌, Bool, true, false, cond, eqb, List, [], ◌∷◌, ◌++◌}
+use Rattle.std.proofs.Common.{length, get_or, set, map, take, replicate, refl, ap, ap₂, sym, ◌∙◌, arith}
 use Rattle.xc_input.proofs.OptionLemmas.NumberedOptions.{numbered_from}
 use Rattle.std.proofs.lemmas.Grind.{common_steps}
 use Rattle.std.specs.Prelude.{AllPairs}
@@ -24,21 +25,27 @@ pub enlisted_none : (o n : ℕ) (ls : List (List ℕ)) → enlisted_from [] o n 
 enlisted_none o n [] = refl
 enlisted_none o n (l ∷ ls) = ap (λ ks. l ∷ ks) (enlisted_none o (n + 1) ls)
 
-enlisted_above : (us : List Use) (u : Use) (o n : ℕ) (ls : List (List ℕ)) → u.item < n → enlisted_from us o n ls ≡ enlisted_from (us ++ u ∷ []) o n ls
+enlisted_above : (us : List Use) (u : Use) (o n : ℕ) (ls : List (List ℕ)) → u.item < n
+    → enlisted_from us o n ls ≡ enlisted_from (us ++ u ∷ []) o n ls
 enlisted_above us u o n [] lt = grind (arith, common_steps, has_use_other)
-enlisted_above us u o n (l ∷ ls) lt = grind (arith, common_steps, has_use_other, enlisted_above us u o (n + 1) ls (omega (arith, lt)))
+enlisted_above us u o n (l ∷ ls) lt =
+    grind (arith, common_steps, has_use_other, enlisted_above us u o (n + 1) ls (omega (arith, lt)))
 
 -- the item of one more use has the option
-pub enlisted_more : (us : List Use) (u : Use) (o n k : ℕ) (ls : List (List ℕ)) → n + k ≡ u.item → has_use us u.item ≡ false → k < length ls →
-    set (enlisted_from us o n ls) k (list_at (enlisted_from us o n ls) k ++ o ∷ []) ≡ enlisted_from (us ++ u ∷ []) o n ls
+pub enlisted_more : (us : List Use) (u : Use) (o n k : ℕ) (ls : List (List ℕ)) → n + k ≡ u.item
+    → has_use us u.item ≡ false → k < length ls →
+    set (enlisted_from us o n ls) k (list_at (enlisted_from us o n ls) k ++ o ∷ []) ≡ enlisted_from
+    (us ++ u ∷ []) o n ls
 enlisted_more us u o n k [] e new lt = refl
 enlisted_more us u o n zero (l ∷ ls) e new lt = grind (arith, common_steps, enlisted_above, has_use_here)
 enlisted_more us u o n (suc k) (l ∷ ls) e new lt =
     let other : u.item ≢ n = omega (arith, e) in
-    ap₂ (λ k ks. k ∷ ks) (ap (λ b. cond b (l ++ o ∷ []) l) (sym (has_use_other us u n other))) (enlisted_more us u o (n + 1) k ls (omega (arith, e)) new (omega (arith, lt)))
+    ap₂ (λ k ks. k ∷ ks) (ap (λ b. cond b (l ++ o ∷ []) l) (sym (has_use_other us u n other)))
+    (enlisted_more us u o (n + 1) k ls (omega (arith, e)) new (omega (arith, lt)))
 
 -- the uses before one are of other items
-pub new_use : (us : List Use) (k : ℕ) (u0 : Use) → AllPairs (λ u v. u.item ≢ v.item) us → k < length us → has_use (take k us) (get_or us k u0).item ≡ false
+pub new_use : (us : List Use) (k : ℕ) (u0 : Use) → AllPairs (λ u v. u.item ≢ v.item) us → k < length us
+    → has_use (take k us) (get_or us k u0).item ≡ false
 new_use us k u0 distinct lt =
     list_any_none (λ v. eqb v.item (get_or us k u0).item) (take k us)
     (λ m d within. (let front : m < k = omega (arith, within, length-take-le k us (omega (arith, lt))) in
@@ -54,29 +61,37 @@ new_use us k u0 distinct lt =
 abbrev pub lists_of : Puzzle → List (List Use) → List (List ℕ)
 lists_of p os = map (λ i. map (λ o. o.number) (holding i (numbered_from 1 os))) (range_with_len 1 (item_count p))
 
-enlisted_range : (us : List Use) (o : ℕ) (f g : ℕ → List ℕ) → ((i : ℕ) → cond (has_use us i) (f i ++ o ∷ []) (f i) ≡ g i) → (a n : ℕ) →
+enlisted_range : (us : List Use) (o : ℕ) (f g : ℕ → List ℕ)
+    → ((i : ℕ) → cond (has_use us i) (f i ++ o ∷ []) (f i) ≡ g i) → (a n : ℕ) →
     enlisted_from us o a (map f (range_with_len a n)) ≡ map g (range_with_len a n)
 enlisted_range us o f g h a zero = refl
 enlisted_range us o f g h a (suc n) = ap₂ (λ l ls. l ∷ ls) (h a) (enlisted_range us o f g h (a + 1) n)
 
-numbered_more : (os : List (List Use)) (us : List Use) (n : ℕ) → numbered_from n (os ++ us ∷ []) ≡ numbered_from n os ++ (record { number = n + length os; uses = us }) ∷ []
+numbered_more : (os : List (List Use)) (us : List Use) (n : ℕ)
+    → numbered_from n (os ++ us ∷ []) ≡ numbered_from n os ++ (record { number = n + length os; uses = us }) ∷ []
 numbered_more [] us n = grind (arith, common_steps)
 numbered_more (vs ∷ os) us n = grind (arith, common_steps, numbered_more os us (n + 1))
 
-at_end : (front : List ℕ) (x : Numbered) (n : ℕ) → n ≡ x.number → (b : Bool) → cond b (front ++ n ∷ []) front ≡ front ++ map (λ (o : Numbered). o.number) (cond b (x ∷ []) [])
+at_end : (front : List ℕ) (x : Numbered) (n : ℕ) → n ≡ x.number → (b : Bool)
+    → cond b (front ++ n ∷ []) front ≡ front ++ map (λ (o : Numbered). o.number) (cond b (x ∷ []) [])
 at_end front x n e true = ap (λ k. front ++ k ∷ []) e
 at_end front x n e false = sym (append-nil front)
 
-filled_more : (os : List (List Use)) (us : List Use) (i : ℕ) → cond (has_use us i) (map (λ o. o.number) (holding i (numbered_from 1 os)) ++ (length os + 1) ∷ []) (map (λ o. o.number) (holding i (numbered_from 1 os))) ≡ map (λ o. o.number) (holding i (numbered_from 1 (os ++ us ∷ [])))
+filled_more : (os : List (List Use)) (us : List Use) (i : ℕ)
+    → cond (has_use us i) (map (λ o. o.number) (holding i (numbered_from 1 os)) ++ (length os + 1) ∷ [])
+    (map (λ o. o.number) (holding i (numbered_from 1 os))) ≡ map (λ o. o.number)
+    (holding i (numbered_from 1 (os ++ us ∷ [])))
 filled_more os us i = grind (arith, common_steps, at_end, filter-append, holds_use, map-append, numbered_more)
 
-pub lists_more : (p : Puzzle) (os : List (List Use)) (us : List Use) (o : ℕ) → o ≡ length os + 1 → enlisted us o (lists_of p os) ≡ lists_of p (os ++ us ∷ [])
+pub lists_more : (p : Puzzle) (os : List (List Use)) (us : List Use) (o : ℕ) → o ≡ length os + 1
+    → enlisted us o (lists_of p os) ≡ lists_of p (os ++ us ∷ [])
 lists_more p os us o e = grind (arith, common_steps, enlisted_range, filled_more)
 
 pub lists_none : (p : Puzzle) → replicate (item_count p) [] ≡ lists_of p []
 lists_none p = empty 1 (item_count p)
   where
-    empty : (a n : ℕ) → replicate n [] ≡ map (λ i. map (λ (o : Numbered). o.number) (holding i (numbered_from 1 []))) (range_with_len a n)
+    empty : (a n : ℕ) → replicate n [] ≡ map (λ i. map (λ (o : Numbered). o.number) (holding i (numbered_from 1 [])))
+        (range_with_len a n)
     empty a zero = refl
     empty a (suc n) = ap (λ ls. [] ∷ ls) (empty (a + 1) n)
 

@@ -1,5 +1,6 @@
 -- Going back to a mark.
-use Rattle.std.proofs.Common.{ℕ, suc, ◌≡◌, ◌≤◌, true, false, cond, leb, List, [], ◌∷◌, length, refl, ap, ap₂, ◌∙◌, arith, le-leb}
+use Rattle.std.proofs.Common.{ℕ, suc, ◌≡◌, ◌≤◌, true, false, cond, leb, List, [], ◌∷◌, length, refl, ap, ap₂, ◌∙◌}
+use Rattle.std.proofs.Common.{arith, le-leb}
 use Rattle.std.proofs.lemmas.Grind.{common_steps}
 use Rattle.std.proofs.lemmas.Bool.{lt-leb, leb-true, leb-false}
 use Rattle.xc_dance.specs.declared.lists.undo_log.Removed.{Removed}
@@ -7,12 +8,15 @@ use Rattle.xc_dance.specs.inner.Lists.Versions.{Versions}
 use Rattle.xc_dance.specs.inner.Lists.Taking.{restored, still_taken, lists_at_marks, AreMarks, IsPutBack}
 
 -- nothing above the mark
-pub restored_at : (k : ℕ) (es : List Removed) (ls : List (List ℕ)) → length es ≤ k → (restored k es ls ≡ ls) × (still_taken k es ≡ es)
+pub restored_at : (k : ℕ) (es : List Removed) (ls : List (List ℕ)) → length es ≤ k → (restored k es ls ≡ ls)
+    × (still_taken k es ≡ es)
 restored_at k [] ls le = grind (arith, common_steps, lt-leb)
 restored_at k (e ∷ es) ls le = grind (arith, common_steps, lt-leb)
 
 -- what is taken after the mark doesn't count
-pub restored_more : (rooms : List ℕ) (k : ℕ) (e : Removed) (es : List Removed) (new old : List (List ℕ)) → k ≤ length es → IsPutBack rooms e new old → (restored k (e ∷ es) new ≡ restored k es old) × (still_taken k (e ∷ es) ≡ still_taken k es)
+pub restored_more : (rooms : List ℕ) (k : ℕ) (e : Removed) (es : List Removed) (new old : List (List ℕ)) → k ≤ length es
+    → IsPutBack rooms e new old → (restored k (e ∷ es) new ≡ restored k es old)
+    × (still_taken k (e ∷ es) ≡ still_taken k es)
 restored_more rooms k e es new old le back = grind (arith, common_steps, le-leb)
 
 -- how much is still taken
@@ -25,7 +29,8 @@ length-still_taken k (e ∷ es) le =
     ] refl
 
 -- the lists at the marks stay where a number is taken
-pub marks_more : (rooms : List ℕ) (ks : List ℕ) (e : Removed) (es : List Removed) (new old : List (List ℕ)) → AreMarks ks (length es) → IsPutBack rooms e new old → lists_at_marks ks (e ∷ es) new ≡ lists_at_marks ks es old
+pub marks_more : (rooms : List ℕ) (ks : List ℕ) (e : Removed) (es : List Removed) (new old : List (List ℕ))
+    → AreMarks ks (length es) → IsPutBack rooms e new old → lists_at_marks ks (e ∷ es) new ≡ lists_at_marks ks es old
 marks_more rooms [] e es new old marks back = grind (arith, common_steps, restored_more)
 marks_more rooms (k ∷ ks) e es new old marks back = grind (arith, common_steps, restored_more)
 
@@ -33,18 +38,21 @@ pub marks_weaker : (ks : List ℕ) (m n : ℕ) → m ≤ n → AreMarks ks m →
 marks_weaker [] m n le marks = tt
 marks_weaker (k ∷ ks) m n le marks = (omega (arith, le, marks.0), marks.1)
 
-pub length-lists_at_marks : (ks : List ℕ) (es : List Removed) (ls : List (List ℕ)) → length (lists_at_marks ks es ls) ≡ length ks
+pub length-lists_at_marks : (ks : List ℕ) (es : List Removed) (ls : List (List ℕ))
+    → length (lists_at_marks ks es ls) ≡ length ks
 length-lists_at_marks [] es ls = refl
 length-lists_at_marks (k ∷ ks) es ls = ap suc (length-lists_at_marks ks (still_taken k es) (restored k es ls))
 
 -- a mark that was just made
-pub marks_new : (k : ℕ) (ks : List ℕ) (es : List Removed) (ls : List (List ℕ)) → length es ≤ k → lists_at_marks (k ∷ ks) es ls ≡ ls ∷ lists_at_marks ks es ls
+pub marks_new : (k : ℕ) (ks : List ℕ) (es : List Removed) (ls : List (List ℕ)) → length es ≤ k
+    → lists_at_marks (k ∷ ks) es ls ≡ ls ∷ lists_at_marks ks es ls
 marks_new k ks es ls le = let at = restored_at k es ls le in rw (at.0, at.1) refl
 
 versions : List (List ℕ) → List (List (List ℕ)) → ℕ → Versions
 versions ls ms r = record { lists = ls; marked = ms; room = r }
 
 pub same_versions : {ls ls' : List (List ℕ)} {ms ms' : List (List (List ℕ))} {r r' : ℕ} → ls ≡ ls' → ms ≡ ms' → r ≡ r' →
-    let a : Versions = record { lists = ls; marked = ms; room = r } in let b : Versions = record { lists = ls'; marked = ms'; room = r' } in a ≡ b
+    let a : Versions = record { lists = ls; marked = ms; room = r } in let b : Versions =
+    record { lists = ls'; marked = ms'; room = r' } in a ≡ b
 unfolding versions
 same_versions {ls} {ls'} {ms} {ms'} {r} {r'} p q e = ap₂ (λ l m. versions l m r) p q ∙ ap (λ n. versions ls' ms' n) e

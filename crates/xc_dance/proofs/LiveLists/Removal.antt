@@ -1,5 +1,7 @@
 -- A number that is taken out of a list that rises, and put back.
-use Rattle.std.proofs.Common.{ℕ, zero, suc, ◌≡◌, ◌≢◌, ◌+◌, ◌<◌, ◌≤◌, Bool, true, false, eqb, ltb, ltb-true, ltb-false, List, [], ◌∷◌, length, get_or, set, refl, ap, sym, arith, eq-eqb, ne_eqb, vec_capacity, sum_by}
+use Rattle.std.proofs.Common.{ℕ, zero, suc, ◌≡◌, ◌≢◌, ◌+◌, ◌<◌, ◌≤◌, Bool, true, false, eqb, ltb, ltb-true, ltb-false}
+use Rattle.std.proofs.Common.{List, [], ◌∷◌, length, get_or, set, refl, ap, sym, arith, eq-eqb, ne_eqb, vec_capacity}
+use Rattle.std.proofs.Common.{sum_by}
 use Rattle.std.proofs.lemmas.Grind.{common_steps}
 use Rattle.std.specs.List.{insert, remove}
 use Rattle.std.specs.Global.{Vec}
@@ -29,7 +31,8 @@ above n (y ∷ ys) zero r lt = r.0
 above n (y ∷ ys) (suc k) r lt = let later = above y ys k r.1 (omega (arith, lt)) in omega (arith, r.0, later)
 
 -- the number goes from its place
-pub less-remove : (n : ℕ) (xs : List ℕ) (k : ℕ) → Rises n xs → k < length xs → less (get_or xs k 0 ∷ []) xs ≡ remove xs k
+pub less-remove : (n : ℕ) (xs : List ℕ) (k : ℕ) → Rises n xs → k < length xs
+    → less (get_or xs k 0 ∷ []) xs ≡ remove xs k
 less-remove n [] k r lt = absurd (omega (arith, lt))
 less-remove n (y ∷ ys) zero r lt = grind (arith, common_steps, eq-eqb, less-below)
 less-remove n (y ∷ ys) (suc k) r lt =
@@ -38,12 +41,14 @@ less-remove n (y ∷ ys) (suc k) r lt =
     let here : eqb x y ≡ false = ne_eqb x y (omega (arith, behind)) in
     rw here (ap (λ l. y ∷ l) (less-remove y ys k r.1 (omega (arith, lt))))
 
-pub insert-remove : {X : Type 0} (xs : List X) (k : ℕ) (d : X) → k < length xs → insert (remove xs k) k (get_or xs k d) ≡ xs
+pub insert-remove : {X : Type 0} (xs : List X) (k : ℕ) (d : X) → k < length xs
+    → insert (remove xs k) k (get_or xs k d) ≡ xs
 insert-remove [] k d lt = absurd (omega (arith, lt))
 insert-remove (y ∷ ys) zero d lt = refl
 insert-remove (y ∷ ys) (suc k) d lt = ap (λ l. y ∷ l) (insert-remove ys k d (omega (arith, lt)))
 
-pub rises_weakly : (n : ℕ) (xs : List ℕ) → Rises n xs → (i j : ℕ) → i ≤ j → j < length xs → get_or xs i 0 ≤ get_or xs j 0
+pub rises_weakly : (n : ℕ) (xs : List ℕ) → Rises n xs → (i j : ℕ) → i ≤ j → j < length xs
+    → get_or xs i 0 ≤ get_or xs j 0
 rises_weakly n [] r i j le lt = absurd (omega (arith, lt))
 rises_weakly n (y ∷ ys) r zero zero le lt = omega arith
 rises_weakly n (y ∷ ys) r zero (suc j) le lt = let a = above y ys j r.1 (omega (arith, lt)) in omega (arith, a)
@@ -51,7 +56,8 @@ rises_weakly n (y ∷ ys) r (suc i) zero le lt = absurd (omega (arith, le))
 rises_weakly n (y ∷ ys) r (suc i) (suc j) le lt = rises_weakly y ys r.1 i j (omega (arith, le)) (omega (arith, lt))
 
 -- a search that found another place says that the number is absent
-pub less-not_found : (x i : ℕ) (xs : List ℕ) → ((k : ℕ) → k < i → get_or xs k 0 < x) → ((k : ℕ) → i ≤ k → k < length xs → x < get_or xs k 0) → less (x ∷ []) xs ≡ xs
+pub less-not_found : (x i : ℕ) (xs : List ℕ) → ((k : ℕ) → k < i → get_or xs k 0 < x)
+    → ((k : ℕ) → i ≤ k → k < length xs → x < get_or xs k 0) → less (x ∷ []) xs ≡ xs
 less-not_found x i xs below above = less-absent x xs (λ k lt. by_side k lt (ltb k i) refl)
   where
     by_side : (k : ℕ) → k < length xs → (b : Bool) → ltb k i ≡ b → get_or xs k 0 ≢ x
@@ -63,29 +69,40 @@ less-not_found x i xs below above = less-absent x xs (λ k lt. by_side k lt (ltb
 pub numbers_of-set : (ls : List (Vec ℕ)) (k : ℕ) (v : Vec ℕ) → numbers_of (set ls k v) ≡ set (numbers_of ls) k v.items
 numbers_of-set ls k v = map-set (λ (l : Vec ℕ). l.items) ls k v
 
-pub list_at-numbers_of : (ls : List (Vec ℕ)) (k : ℕ) (d : Vec ℕ) → k < length ls → list_at (numbers_of ls) k ≡ (get_or ls k d).items
+pub list_at-numbers_of : (ls : List (Vec ℕ)) (k : ℕ) (d : Vec ℕ) → k < length ls
+    → list_at (numbers_of ls) k ≡ (get_or ls k d).items
 list_at-numbers_of ls k d lt = get_or-map (λ (l : Vec ℕ). l.items) ls k d [] lt
 
-pub rooms_of-set : (ls : List (Vec ℕ)) (k : ℕ) (v d : Vec ℕ) → vec_capacity v ≡ vec_capacity (get_or ls k d) → rooms_of (set ls k v) ≡ rooms_of ls
+pub rooms_of-set : (ls : List (Vec ℕ)) (k : ℕ) (v d : Vec ℕ) → vec_capacity v ≡ vec_capacity (get_or ls k d)
+    → rooms_of (set ls k v) ≡ rooms_of ls
 rooms_of-set ls k v d e = map-set_same (λ (l : Vec ℕ). vec_capacity l) ls k v d e
 
-pub room_at : (ls : List (Vec ℕ)) (k : ℕ) (d : Vec ℕ) → k < length ls → get_or (rooms_of ls) k 0 ≡ vec_capacity (get_or ls k d)
+pub room_at : (ls : List (Vec ℕ)) (k : ℕ) (d : Vec ℕ) → k < length ls
+    → get_or (rooms_of ls) k 0 ≡ vec_capacity (get_or ls k d)
 room_at ls k d lt = get_or-map (λ (l : Vec ℕ). vec_capacity l) ls k d 0 lt
 
 -- ---- a list among lists
 
 -- a number that was removed from its list can be put back
-pub removed : (rooms : List ℕ) (ls : List (List ℕ)) (list place number : ℕ) → list < length ls → place < length (list_at ls list) →
+pub removed : (rooms : List ℕ) (ls : List (List ℕ)) (list place number : ℕ) → list < length ls
+    → place < length (list_at ls list) →
     get_or (list_at ls list) place 0 ≡ number → length (list_at ls list) ≤ get_or rooms list 0 →
-    IsPutBack rooms (record { place = place; list = list; number = number }) (set ls list (remove (list_at ls list) place)) ls
-removed rooms ls list place number lt within is fits = grind (arith, common_steps, get_or-set_same, insert-remove, length-remove, length-set, set-get_or, set-set)
+    IsPutBack rooms (record { place = place; list = list; number = number })
+    (set ls list (remove (list_at ls list) place)) ls
+removed rooms ls list place number lt within is fits =
+    grind (arith, common_steps, get_or-set_same, insert-remove, length-remove, length-set, set-get_or, set-set)
 
 -- as a vector's row is changed
-pub row_removed : (ls : List (Vec ℕ)) (new : Vec ℕ) (list place number : ℕ) (row : Vec ℕ) → list < length ls → row ≡ get_or ls list row →
-    place < length row.items → get_or row.items place 0 ≡ number → new.items ≡ remove row.items place → length row.items ≤ vec_capacity row →
-    IsPutBack (rooms_of ls) (record { place = place; list = list; number = number }) (numbers_of (set ls list new)) (numbers_of ls)
-row_removed ls new list place number row lt is_row within is gone fits = grind (arith, common_steps, length-map, list_at-numbers_of, numbers_of-set, removed, room_at)
+pub row_removed : (ls : List (Vec ℕ)) (new : Vec ℕ) (list place number : ℕ) (row : Vec ℕ) → list < length ls
+    → row ≡ get_or ls list row →
+    place < length row.items → get_or row.items place 0 ≡ number → new.items ≡ remove row.items place
+    → length row.items ≤ vec_capacity row →
+    IsPutBack (rooms_of ls) (record { place = place; list = list; number = number }) (numbers_of (set ls list new))
+    (numbers_of ls)
+row_removed ls new list place number row lt is_row within is gone fits =
+    grind (arith, common_steps, length-map, list_at-numbers_of, numbers_of-set, removed, room_at)
 
 -- there is one number more after one was put back
-pub sum-put_back : (rooms : List ℕ) (e : Removed) (ls : List (List ℕ)) → HasRoom rooms e ls → sum_by length (put_back e ls) ≡ sum_by length ls + 1
+pub sum-put_back : (rooms : List ℕ) (e : Removed) (ls : List (List ℕ)) → HasRoom rooms e ls
+    → sum_by length (put_back e ls) ≡ sum_by length ls + 1
 sum-put_back rooms e ls h = grind (arith, common_steps, length-insert, sum_by-set)

@@ -1,5 +1,6 @@
 -- Commits of uses, one after another: what is legal and fits behind them did before.
-use Rattle.std.proofs.Common.{ℕ, suc, ◌≡◌, ◌+◌, ◌-◌, ◌<◌, ◌≤◌, true, false, cond, leb, eqb, List, [], ◌∷◌, ◌++◌, length, drop, take, refl, sym, ap, ◌∙◌, arith, get_or, Some, drop-cons, length-drop}
+use Rattle.std.proofs.Common.{ℕ, suc, ◌≡◌, ◌+◌, ◌-◌, ◌<◌, ◌≤◌, true, false, cond, leb, eqb, List, [], ◌∷◌, ◌++◌, length}
+use Rattle.std.proofs.Common.{drop, take, refl, sym, ap, ◌∙◌, arith, get_or, Some, drop-cons, length-drop}
 use Rattle.std.specs.Prelude.{unwrap_or}
 use Rattle.std.proofs.Math.Seq.{take-length}
 use Rattle.xc_input.specs.declared.problem.Use.{Use}
@@ -12,22 +13,29 @@ use Rattle.xc_dance.specs.Commits.{CanStand, after_spend, after_use, after_uses,
 
 legal_after_spend : (p : Puzzle) (i : ℕ) (t : List Move) → AreLegal p (after_spend p i t) → AreLegal p t
 legal_after_spend p i t =
-    elim (eqb (high_at p i - spends i (Spend i ∷ t)) 0) as (λ b. AreLegal p (cond b (Cover i ∷ Spend i ∷ t) (Spend i ∷ t)) → AreLegal p t) [
+    elim (eqb (high_at p i - spends i (Spend i ∷ t)) 0) as
+    (λ b. AreLegal p (cond b (Cover i ∷ Spend i ∷ t) (Spend i ∷ t)) → AreLegal p t) [
       | true ↦ λ l. l.1.1
       | false ↦ λ l. l.1
     ]
 
 pub legal_after_use : (p : Puzzle) (u : Use) (t : List Move) → AreLegal p (after_use p u t) → AreLegal p t
 legal_after_use p u t =
-    elim (leb u.item (primary_count p)) as (λ b. AreLegal p (cond b (after_spend p u.item t) (cond (eqb u.colour 0) (Cover u.item ∷ t) (cond (is_open u.item t) (Purify u.item u.colour ∷ t) t))) → AreLegal p t) [
+    elim (leb u.item (primary_count p)) as
+    (λ b. AreLegal p (cond b (after_spend p u.item t)
+    (cond (eqb u.colour 0) (Cover u.item ∷ t) (cond (is_open u.item t) (Purify u.item u.colour ∷ t) t)))
+    → AreLegal p t) [
       | true ↦ legal_after_spend p u.item t
-      | false ↦ elim (eqb u.colour 0) as (λ b. AreLegal p (cond b (Cover u.item ∷ t) (cond (is_open u.item t) (Purify u.item u.colour ∷ t) t)) → AreLegal p t) [
-        | true ↦ λ l. l.1
-        | false ↦ elim (is_open u.item t) as (λ b. AreLegal p (cond b (Purify u.item u.colour ∷ t) t) → AreLegal p t) [
-          | true ↦ λ l. l.1
-          | false ↦ λ l. l
-        ]
-      ]
+      | false ↦ elim (eqb u.colour 0) as
+          (λ b. AreLegal p (cond b (Cover u.item ∷ t) (cond (is_open u.item t) (Purify u.item u.colour ∷ t) t))
+          → AreLegal p t) [
+            | true ↦ λ l. l.1
+            | false ↦ elim (is_open u.item t) as
+                (λ b. AreLegal p (cond b (Purify u.item u.colour ∷ t) t) → AreLegal p t) [
+                  | true ↦ λ l. l.1
+                  | false ↦ λ l. l
+                ]
+          ]
     ]
 
 pub legal_after_uses : (p : Puzzle) (us : List Use) (t : List Move) → AreLegal p (after_uses p us t) → AreLegal p t
@@ -36,22 +44,27 @@ legal_after_uses p (u ∷ us) t l = legal_after_use p u t (legal_after_uses p us
 
 longer_spend : (p : Puzzle) (i : ℕ) (t : List Move) → length t ≤ length (after_spend p i t)
 longer_spend p i t =
-    elim (eqb (high_at p i - spends i (Spend i ∷ t)) 0) as (λ b. length t ≤ length (cond b (Cover i ∷ Spend i ∷ t) (Spend i ∷ t))) [
+    elim (eqb (high_at p i - spends i (Spend i ∷ t)) 0) as
+    (λ b. length t ≤ length (cond b (Cover i ∷ Spend i ∷ t) (Spend i ∷ t))) [
       | true ↦ omega arith
       | false ↦ omega arith
     ]
 
 longer_use : (p : Puzzle) (u : Use) (t : List Move) → length t ≤ length (after_use p u t)
 longer_use p u t =
-    elim (leb u.item (primary_count p)) as (λ b. length t ≤ length (cond b (after_spend p u.item t) (cond (eqb u.colour 0) (Cover u.item ∷ t) (cond (is_open u.item t) (Purify u.item u.colour ∷ t) t)))) [
+    elim (leb u.item (primary_count p)) as
+    (λ b. length t ≤ length (cond b (after_spend p u.item t)
+    (cond (eqb u.colour 0) (Cover u.item ∷ t) (cond (is_open u.item t) (Purify u.item u.colour ∷ t) t)))) [
       | true ↦ longer_spend p u.item t
-      | false ↦ elim (eqb u.colour 0) as (λ b. length t ≤ length (cond b (Cover u.item ∷ t) (cond (is_open u.item t) (Purify u.item u.colour ∷ t) t))) [
-        | true ↦ omega arith
-        | false ↦ elim (is_open u.item t) as (λ b. length t ≤ length (cond b (Purify u.item u.colour ∷ t) t)) [
-          | true ↦ omega arith
-          | false ↦ omega arith
-        ]
-      ]
+      | false ↦ elim (eqb u.colour 0) as
+          (λ b. length t ≤ length (cond b (Cover u.item ∷ t)
+          (cond (is_open u.item t) (Purify u.item u.colour ∷ t) t))) [
+            | true ↦ omega arith
+            | false ↦ elim (is_open u.item t) as (λ b. length t ≤ length (cond b (Purify u.item u.colour ∷ t) t)) [
+              | true ↦ omega arith
+              | false ↦ omega arith
+            ]
+          ]
     ]
 
 longer_uses : (p : Puzzle) (us : List Use) (t : List Move) → length t ≤ length (after_uses p us t)
@@ -59,17 +72,22 @@ longer_uses p [] t = omega arith
 longer_uses p (u ∷ us) t = omega (arith, longer_use p u t, longer_uses p us (after_use p u t))
 
 -- what may stand behind uses may stand before them
-pub stood_before : (p : Puzzle) (room : ℕ) (us : List Use) (t : List Move) → CanStand p room (after_uses p us t) → CanStand p room t
-stood_before p room us t c = record { legal = legal_after_uses p us t c.legal; fits = omega (arith, longer_uses p us t, c.fits) }
+pub stood_before : (p : Puzzle) (room : ℕ) (us : List Use) (t : List Move) → CanStand p room (after_uses p us t)
+    → CanStand p room t
+stood_before p room us t c =
+    record { legal = legal_after_uses p us t c.legal; fits = omega (arith, longer_uses p us t, c.fits) }
 
-pub after_uses-append : (p : Puzzle) (us vs : List Use) (t : List Move) → after_uses p (us ++ vs) t ≡ after_uses p vs (after_uses p us t)
+pub after_uses-append : (p : Puzzle) (us vs : List Use) (t : List Move)
+    → after_uses p (us ++ vs) t ≡ after_uses p vs (after_uses p us t)
 after_uses-append p [] vs t = refl
 after_uses-append p (u ∷ us) vs t = after_uses-append p us vs (after_use p u t)
 
-pub first_use : (p : Puzzle) (us : List Use) (k : ℕ) (d : Use) (t : List Move) → k < length us → after_uses p (drop k us) t ≡ after_uses p (drop (k + 1) us) (after_use p (get_or us k d) t)
+pub first_use : (p : Puzzle) (us : List Use) (k : ℕ) (d : Use) (t : List Move) → k < length us
+    → after_uses p (drop k us) t ≡ after_uses p (drop (k + 1) us) (after_use p (get_or us k d) t)
 first_use p us k d t h =
     let next : suc k ≡ k + 1 = omega arith in
-    ap (λ vs. after_uses p vs t) (drop-cons us k d h) ∙ ap (λ n. after_uses p (drop n us) (after_use p (get_or us k d) t)) next
+    ap (λ vs. after_uses p vs t) (drop-cons us k d h)
+    ∙ ap (λ n. after_uses p (drop n us) (after_use p (get_or us k d) t)) next
 
 -- the state once these uses were committed
 abbrev pub committed : List Use → Dancing → Dancing
@@ -77,7 +95,8 @@ committed us s = record s { trail = after_uses s.puzzle us s.trail }
 
 -- in state s the use at place k comes first
 pub at_use : (s : Dancing) (us : List Use) (k : ℕ) (d : Use) → k < length us →
-    committed (drop k us) s ≡ committed (drop (k + 1) us) (record s { trail = after_use s.puzzle (get_or us k d) s.trail })
+    committed (drop k us) s ≡ committed (drop (k + 1) us)
+    (record s { trail = after_use s.puzzle (get_or us k d) s.trail })
 at_use s us k d h = ap (λ t. record s { trail = t }) (first_use s.puzzle us k d s.trail h)
 
 -- after the uses behind the place k come those before it

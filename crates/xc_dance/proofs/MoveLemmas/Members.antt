@@ -1,5 +1,6 @@
 -- Members of lists of numbers: lists that rise and have the same members are the same.
-use Rattle.std.proofs.Common.{◌≡◌, ℕ, ◌≤◌, Bool, true, false, ◌&&◌, ◌||◌, eqb, List, [], ◌∷◌, filter, refl, ap, ap₂, sym, subst, ◌∙◌, arith, eqb-true}
+use Rattle.std.proofs.Common.{◌≡◌, ℕ, ◌≤◌, Bool, true, false, ◌&&◌, ◌||◌, eqb, List, [], ◌∷◌, filter, refl, ap, ap₂}
+use Rattle.std.proofs.Common.{sym, subst, ◌∙◌, arith, eqb-true}
 use Rattle.std.proofs.lemmas.Grind.{common_steps}
 use Rattle.std.specs.List.{AllByRecursion}
 use Rattle.std.proofs.lemmas.Bool.{eqb-false, false≢true}
@@ -47,7 +48,8 @@ same_members n (x ∷ xs) (y ∷ ys) r s h =
     ] refl))
 
 -- nothing passes
-pub none_in : (f : ℕ → Bool) (n : ℕ) (xs : List ℕ) → Rises n (filter f xs) → ((x : ℕ) → is_in x xs ≡ true → f x ≡ false) → filter f xs ≡ []
+pub none_in : (f : ℕ → Bool) (n : ℕ) (xs : List ℕ) → Rises n (filter f xs) → ((x : ℕ) → is_in x xs ≡ true → f x ≡ false)
+    → filter f xs ≡ []
 none_in f n xs r h = same_members n (filter f xs) [] r tt (λ x. in_filter f x xs
     ∙ elim (is_in x xs) as (λ b. is_in x xs ≡ b → (f x && b) ≡ false) [
       | true ↦ λ e. ap (λ b. b && true) (h x e)

@@ -11,7 +11,8 @@ next_first n [] r = refl
 next_first n (x ∷ xs) r = rw (lt-ltb n x r.0) refl
 
 -- behind a number that was found
-pub next_found : (n : ℕ) (xs : List ℕ) (k : ℕ) → Rises n xs → k < length xs → next_above (get_or xs k 0) xs ≡ slice_get xs (suc k)
+pub next_found : (n : ℕ) (xs : List ℕ) (k : ℕ) → Rises n xs → k < length xs
+    → next_above (get_or xs k 0) xs ≡ slice_get xs (suc k)
 next_found n [] k r lt = refl
 next_found n (x ∷ xs) zero r lt = rw (le-ltb x x (omega arith)) (next_first x xs r.1)
 next_found n (x ∷ xs) (suc k) r lt =
@@ -19,9 +20,11 @@ next_found n (x ∷ xs) (suc k) r lt =
     rw (le-ltb (get_or xs k 0) x (omega (arith, behind))) (next_found x xs k r.1 (omega (arith, lt)))
 
 -- at the place where a number would stand
-pub next_at : (o : ℕ) (xs : List ℕ) (k : ℕ) → ((m : ℕ) → m < k → get_or xs m 0 < o) → ((m : ℕ) → k ≤ m → m < length xs → o < get_or xs m 0) → k ≤ length xs → next_above o xs ≡ slice_get xs k
+pub next_at : (o : ℕ) (xs : List ℕ) (k : ℕ) → ((m : ℕ) → m < k → get_or xs m 0 < o)
+    → ((m : ℕ) → k ≤ m → m < length xs → o < get_or xs m 0) → k ≤ length xs → next_above o xs ≡ slice_get xs k
 next_at o [] k below above le = refl
 next_at o (x ∷ xs) zero below above le = rw (lt-ltb o x (above 0 (omega arith) (omega arith))) refl
 next_at o (x ∷ xs) (suc k) below above le =
     rw (le-ltb o x (let h = below 0 (omega arith) in omega (arith, h)))
-    (next_at o xs k (λ m lt. below (suc m) (omega (arith, lt))) (λ m ge lt. above (suc m) (omega (arith, ge)) (omega (arith, lt))) (omega (arith, le)))
+    (next_at o xs k (λ m lt. below (suc m) (omega (arith, lt)))
+    (λ m ge lt. above (suc m) (omega (arith, ge)) (omega (arith, lt))) (omega (arith, le)))

@@ -1,5 +1,7 @@
 -- An open item's list is the options left that hold it.
-use Rattle.std.proofs.Common.{ℕ, ◌≡◌, ◌<◌, ◌≤◌, Bool, true, false, cond, not, ◌&&◌, eqb, List, [], ◌∷◌, filter, take, drop, Option, Some, None, refl, sym, ap, ap₂, ◌∙◌, arith, eqb-true, eq-eqb, lt-ltb, ne_eqb, IsTrue}
+use Rattle.std.proofs.Common.{ℕ, ◌≡◌, ◌<◌, ◌≤◌, Bool, true, false, cond, not, ◌&&◌, eqb, List, [], ◌∷◌, filter, take}
+use Rattle.std.proofs.Common.{drop, Option, Some, None, refl, sym, ap, ap₂, ◌∙◌, arith, eqb-true, eq-eqb, lt-ltb}
+use Rattle.std.proofs.Common.{ne_eqb, IsTrue}
 use Rattle.std.proofs.lemmas.Grind.{common_steps}
 use Rattle.std.proofs.lemmas.List.Elements.{filter_agree}
 use Rattle.std.specs.Prelude.{nat_lt, is_some}
@@ -36,31 +38,46 @@ before k n h = ne_eqb n k (λ e. omega (arith, h, e))
 -- an option below all of a list isn't in it
 not_among : (x : Numbered) (n : ℕ) (os : List Numbered) → x.number ≤ n → NumbersRise n os → is_among os x ≡ false
 not_among x n [] h r = refl
-not_among x n (o ∷ os) h r = rw (other o.number x.number (omega (arith, r.0))) (not_among x o.number os (omega (arith, r.0)) r.1)
+not_among x n (o ∷ os) h r =
+    rw (other o.number x.number (omega (arith, r.0))) (not_among x o.number os (omega (arith, r.0)) r.1)
 
 -- among those that pass is who passes
-pub among_filter : (q : Numbered → Bool) (n : ℕ) (os : List Numbered) → NumbersRise n os → AllByRecursion (λ o. is_among (filter q os) o ≡ q o) os
+pub among_filter : (q : Numbered → Bool) (n : ℕ) (os : List Numbered) → NumbersRise n os
+    → AllByRecursion (λ o. is_among (filter q os) o ≡ q o) os
 among_filter q n [] r = tt
 among_filter q n (x ∷ os) r =
     let self : eqb x.number x.number ≡ true = eq-eqb _ _ refl in
-    elim (q x) as (λ b. (is_among (cond b (x ∷ filter q os) (filter q os)) x ≡ b) × AllByRecursion (λ o. is_among (cond b (x ∷ filter q os) (filter q os)) o ≡ q o) os) [
-      | true ↦ (rw self refl, each_both (λ o. x.number < o.number) (λ o. is_among (filter q os) o ≡ q o) (λ o. is_among (x ∷ filter q os) o ≡ q o) os (λ o h e. rw (before o.number x.number h) e) (above x.number os r.1) (among_filter q x.number os r.1))
-      | false ↦ (not_among x x.number (filter q os) (omega arith) (NumbersRise-filter q x.number os r.1), among_filter q x.number os r.1)
+    elim (q x) as (λ b. (is_among (cond b (x ∷ filter q os) (filter q os)) x ≡ b)
+    × AllByRecursion (λ o. is_among (cond b (x ∷ filter q os) (filter q os)) o ≡ q o) os) [
+      | true ↦ (
+        rw self refl,
+        each_both (λ o. x.number < o.number) (λ o. is_among (filter q os) o ≡ q o)
+            (λ o. is_among (x ∷ filter q os) o ≡ q o) os (λ o h e. rw (before o.number x.number h) e)
+            (above x.number os r.1) (among_filter q x.number os r.1),
+      )
+      | false ↦ (
+        not_among x x.number (filter q os) (omega arith) (NumbersRise-filter q x.number os r.1),
+        among_filter q
+            x.number os r.1,
+      )
     ]
 
-pub without_filter : (q : Numbered → Bool) (n : ℕ) (os : List Numbered) → NumbersRise n os → without (filter q os) os ≡ filter (λ o. not (q o)) os
+pub without_filter : (q : Numbered → Bool) (n : ℕ) (os : List Numbered) → NumbersRise n os
+    → without (filter q os) os ≡ filter (λ o. not (q o)) os
 without_filter q n os r = filter_same _ _ os (each_weaker _ _ os (λ o e. ap not e) (among_filter q n os r))
 
 pub without_first : (n : ℕ) (os : List Numbered) → NumbersRise n os → without (take 1 os) os ≡ drop 1 os
 without_first n [] r = refl
 without_first n (x ∷ os) r =
     let self : eqb x.number x.number ≡ true = eq-eqb _ _ refl in
-    rw self (keep_all (λ o. not (is_among (x ∷ []) o)) os (each_weaker _ _ os (λ o h. rw (before o.number x.number h) refl) (above x.number os r.1)))
+    rw self (keep_all (λ o. not (is_among (x ∷ []) o)) os
+    (each_weaker _ _ os (λ o h. rw (before o.number x.number h) refl) (above x.number os r.1)))
 
 -- ---- the lists
 
 -- two filters of the options left: what passes q goes from those that hold i
-gone : (q : Numbered → Bool) (i : ℕ) (os : List Numbered) → NumbersRise 0 os → without (filter q os) (holding i os) ≡ holding i (filter (λ o. not (q o)) os)
+gone : (q : Numbered → Bool) (i : ℕ) (os : List Numbered) → NumbersRise 0 os
+    → without (filter q os) (holding i os) ≡ holding i (filter (λ o. not (q o)) os)
 gone q i os r = filter_swap _ _ os ∙ ap (holding i) (without_filter q 0 os r)
 
 stays_if : (c d : ℕ) → 0 < c → not (true && not (eqb c d)) ≡ (nat_lt 0 c && eqb c d)
@@ -70,17 +87,20 @@ agree_test : (c : ℕ) (o : Option ℕ) → 0 < c → not (is_some o && is_other
 agree_test c None h = refl
 agree_test c (Some d) h = stays_if c d h
 
-purified_gone : (i j c : ℕ) (os : List Numbered) → 0 < c → NumbersRise 0 os → without (other_colours j c (holding j os)) (holding i os) ≡ holding i (filter (λ o. agrees c (colour_at o j)) os)
+purified_gone : (i j c : ℕ) (os : List Numbered) → 0 < c → NumbersRise 0 os
+    → without (other_colours j c (holding j os)) (holding i os) ≡ holding i (filter (λ o. agrees c (colour_at o j)) os)
 purified_gone i j c os h r =
     ap (λ g. without g (holding i os)) (filter_both (λ o. is_other_colour c (colour_at o j)) (λ o. holds o j) os)
     ∙ gone (λ o. holds o j && is_other_colour c (colour_at o j)) i os r
     ∙ ap (holding i) (filter_agree _ _ (λ o. agree_test c (colour_at o j) h) os)
 
-tweaked_closed : (p : Puzzle) (t : List Move) (i j : ℕ) → is_open i t ≡ true → listed p t i ≡ holding i (left p t) → (is_open j t ≡ true → listed p t j ≡ holding j (left p t)) →
+tweaked_closed : (p : Puzzle) (t : List Move) (i j : ℕ) → is_open i t ≡ true → listed p t i ≡ holding i (left p t)
+    → (is_open j t ≡ true → listed p t j ≡ holding j (left p t)) →
     eqb i j ≡ false → listed p (Tweak j ∷ t) i ≡ holding i (left p (Tweak j ∷ t))
 tweaked_closed p t i j opened at_i at_j e = grind (arith, common_steps, filter_swap)
 
-tweaked_itself : (p : Puzzle) (t : List Move) (i j : ℕ) → is_open i t ≡ true → (is_open j t ≡ true → listed p t j ≡ holding j (left p t)) →
+tweaked_itself : (p : Puzzle) (t : List Move) (i j : ℕ) → is_open i t ≡ true
+    → (is_open j t ≡ true → listed p t j ≡ holding j (left p t)) →
     i ≡ j → listed p (Tweak j ∷ t) i ≡ holding i (left p (Tweak j ∷ t))
 tweaked_itself p t i j opened at_j e =
     let j_open : is_open j t ≡ true = ap (λ k. is_open k t) (sym e) ∙ opened in
@@ -90,11 +110,13 @@ tweaked_itself p t i j opened at_j e =
     ∙ sym (without_first 0 (holding j (left p t)) (NumbersRise-filter (λ o. holds o j) 0 (left p t) (left_rises p t)))
     ∙ filter_swap _ _ (left p t))
 
-tweaked : (p : Puzzle) (t : List Move) (i j : ℕ) → is_open i t ≡ true → listed p t i ≡ holding i (left p t) → (is_open j t ≡ true → listed p t j ≡ holding j (left p t)) →
+tweaked : (p : Puzzle) (t : List Move) (i j : ℕ) → is_open i t ≡ true → listed p t i ≡ holding i (left p t)
+    → (is_open j t ≡ true → listed p t j ≡ holding j (left p t)) →
     listed p (Tweak j ∷ t) i ≡ holding i (left p (Tweak j ∷ t))
 tweaked p t i j opened at_i at_j = grind (arith, common_steps, eqb-true, tweaked_closed, tweaked_itself)
 
-pub listed_open : (p : Puzzle) (t : List Move) → AreLegal p t → (i : ℕ) → IsTrue (is_open i t) → listed p t i ≡ holding i (left p t)
+pub listed_open : (p : Puzzle) (t : List Move) → AreLegal p t → (i : ℕ) → IsTrue (is_open i t)
+    → listed p t i ≡ holding i (left p t)
 listed_open p [] legal i opened = refl
 listed_open p (Cover j ∷ t) legal i opened =
     rw opened
@@ -102,7 +124,8 @@ listed_open p (Cover j ∷ t) legal i opened =
     ∙ gone (λ o. holds o j) i (left p t) (left_rises p t))
 listed_open p (Purify j c ∷ t) legal i opened =
     rw opened
-    (ap₂ (λ g os. without (other_colours j c g) os) (listed_open p t legal.1 j legal.0.1) (listed_open p t legal.1 i (and_right _ _ opened))
+    (ap₂ (λ g os. without (other_colours j c g) os) (listed_open p t legal.1 j legal.0.1)
+    (listed_open p t legal.1 i (and_right _ _ opened))
     ∙ purified_gone i j c (left p t) legal.0.2 (left_rises p t))
 listed_open p (Tweak j ∷ t) legal i opened =
     tweaked p t i j opened (listed_open p t legal.1 i opened) (λ o. listed_open p t legal.1 j o)

@@ -1,5 +1,7 @@
 -- The lists after moves, as filters of the lists before.
-use Rattle.std.proofs.Common.{ℕ, zero, suc, ◌≡◌, ◌≢◌, ◌+◌, ◌-◌, ◌<◌, ◌≤◌, Bool, true, false, not, cond, eqb, ◌&&◌, ◌||◌, List, [], ◌∷◌, length, get_or, set, filter, map, take, drop, Some, None, refl, ap, ap₂, sym, ◌∙◌, arith, subst, eq-eqb, eqb-true}
+use Rattle.std.proofs.Common.{ℕ, zero, suc, ◌≡◌, ◌≢◌, ◌+◌, ◌-◌, ◌<◌, ◌≤◌, Bool, true, false, not, cond, eqb, ◌&&◌, ◌||◌}
+use Rattle.std.proofs.Common.{List, [], ◌∷◌, length, get_or, set, filter, map, take, drop, Some, None, refl, ap, ap₂}
+use Rattle.std.proofs.Common.{sym, ◌∙◌, arith, subst, eq-eqb, eqb-true}
 use Rattle.xc_input.proofs.OptionLemmas.NumberedOptions.{numbered_from}
 use Rattle.std.proofs.lemmas.Grind.{common_steps}
 use Rattle.std.specs.Prelude.{All, IsTrue, is_some, unwrap_or, slice_get}
@@ -27,7 +29,8 @@ each_drop : {X : Type 0} (P : X → Type 0) (xs : List X) → AllByRecursion P x
 each_drop P [] h = tt
 each_drop P (x ∷ xs) h = h.1
 
-each_if : {X : Type 0} (P : X → Type 0) (b : Bool) (xs ys : List X) → AllByRecursion P xs → AllByRecursion P ys → AllByRecursion P (cond b xs ys)
+each_if : {X : Type 0} (P : X → Type 0) (b : Bool) (xs ys : List X) → AllByRecursion P xs → AllByRecursion P ys
+    → AllByRecursion P (cond b xs ys)
 each_if P true xs ys g h = g
 each_if P false xs ys g h = h
 
@@ -39,13 +42,16 @@ pub holds_use : (us : List Use) (i : ℕ) → is_some (colour_in us i) ≡ has_u
 holds_use [] i = grind (arith, common_steps)
 holds_use (u ∷ us) i = grind (arith, common_steps, holds_use us i)
 
-drop_cons : {X : Type 0} (all : List X) (m : ℕ) (x : X) (xs : List X) → drop m all ≡ x ∷ xs → (slice_get all m ≡ Some x) × (drop (suc m) all ≡ xs)
+drop_cons : {X : Type 0} (all : List X) (m : ℕ) (x : X) (xs : List X) → drop m all ≡ x ∷ xs → (slice_get all m ≡ Some x)
+    × (drop (suc m) all ≡ xs)
 drop_cons [] zero x xs e = absurd (cc e)
 drop_cons [] (suc m) x xs e = absurd (cc e)
-drop_cons (y ∷ all) zero x xs e = ((let same : y ≡ x = cc e in ap (λ z. Some z) same), (let same : all ≡ xs = cc e in same))
+drop_cons (y ∷ all) zero x xs e =
+    ((let same : y ≡ x = cc e in ap (λ z. Some z) same), (let same : all ≡ xs = cc e in same))
 drop_cons (y ∷ all) (suc m) x xs e = drop_cons all m x xs e
 
-first_holders : (p : Puzzle) (i n : ℕ) (os : List (List Use)) (m : ℕ) → n ≡ suc m → drop m p.options ≡ os → AllByRecursion (IsHolder p i) (filter (λ o. holds o i) (numbered_from n os))
+first_holders : (p : Puzzle) (i n : ℕ) (os : List (List Use)) (m : ℕ) → n ≡ suc m → drop m p.options ≡ os
+    → AllByRecursion (IsHolder p i) (filter (λ o. holds o i) (numbered_from n os))
 first_holders p i n [] m e at = tt
 first_holders p i n (us ∷ os) m e at =
     let here = drop_cons p.options m us os at in
@@ -57,19 +63,28 @@ first_holders p i n (us ∷ os) m e at =
 pub holders : (p : Puzzle) (t : List Move) (i : ℕ) → AllByRecursion (IsHolder p i) (listed p t i)
 holders p [] i = first_holders p i 1 p.options zero refl refl
 holders p (Cover j ∷ t) i =
-    each_if (IsHolder p i) (not (eqb i j) && is_open i t) _ _ (each-filter (IsHolder p i) _ (listed p t i) (holders p t i)) (holders p t i)
+    each_if (IsHolder p i) (not (eqb i j) && is_open i t) _ _
+    (each-filter (IsHolder p i) _ (listed p t i) (holders p t i)) (holders p t i)
 holders p (Purify j c ∷ t) i =
-    each_if (IsHolder p i) (not (eqb i j) && is_open i t) _ _ (each-filter (IsHolder p i) _ (listed p t i) (holders p t i)) (holders p t i)
+    each_if (IsHolder p i) (not (eqb i j) && is_open i t) _ _
+    (each-filter (IsHolder p i) _ (listed p t i) (holders p t i)) (holders p t i)
 holders p (Tweak j ∷ t) i = by_item (holders p t i) (eqb i j) refl
   where
-    by_item : AllByRecursion (IsHolder p i) (listed p t i) → (b : Bool) → eqb i j ≡ b → AllByRecursion (IsHolder p i) (cond b (drop 1 (listed p t j)) (cond (is_open j t && is_open i t) (without (take 1 (listed p t j)) (listed p t i)) (listed p t i)))
-    by_item h true q = subst (λ k. AllByRecursion (IsHolder p i) (drop 1 (listed p t k))) (eqb-true i j q) (each_drop (IsHolder p i) (listed p t i) h)
-    by_item h false q = each_if (IsHolder p i) (is_open j t && is_open i t) _ _ (each-filter (IsHolder p i) _ (listed p t i) h) h
+    by_item : AllByRecursion (IsHolder p i) (listed p t i) → (b : Bool) → eqb i j ≡ b
+        → AllByRecursion (IsHolder p i)
+        (cond b (drop 1 (listed p t j))
+        (cond (is_open j t && is_open i t) (without (take 1 (listed p t j)) (listed p t i)) (listed p t i)))
+    by_item h true q =
+        subst (λ k. AllByRecursion (IsHolder p i) (drop 1 (listed p t k))) (eqb-true i j q)
+        (each_drop (IsHolder p i) (listed p t i) h)
+    by_item h false q =
+        each_if (IsHolder p i) (is_open j t && is_open i t) _ _ (each-filter (IsHolder p i) _ (listed p t i) h) h
 holders p (Spend j ∷ t) i = holders p t i
 
 -- ---- the numbers rise
 
-rises_filter : (q : Numbered → Bool) (n : ℕ) (xs : List Numbered) → Rises n (map (λ o. o.number) xs) → Rises n (map (λ o. o.number) (filter q xs))
+rises_filter : (q : Numbered → Bool) (n : ℕ) (xs : List Numbered) → Rises n (map (λ o. o.number) xs)
+    → Rises n (map (λ o. o.number) (filter q xs))
 rises_filter q n [] h = grind (arith, common_steps, Rises-weaker)
 rises_filter q n (x ∷ xs) h = grind (arith, common_steps, Rises-weaker, rises_filter q x.number xs h.1)
 
@@ -77,7 +92,8 @@ rises_drop : (n : ℕ) (xs : List Numbered) → Rises n (map (λ o. o.number) xs
 rises_drop n [] h = tt
 rises_drop n (x ∷ xs) h = Rises-weaker n x.number (map (λ o. o.number) xs) (omega (arith, h.0)) h.1
 
-rises_if : (n : ℕ) (b : Bool) (xs ys : List Numbered) → Rises n (map (λ o. o.number) xs) → Rises n (map (λ o. o.number) ys) → Rises n (map (λ o. o.number) (cond b xs ys))
+rises_if : (n : ℕ) (b : Bool) (xs ys : List Numbered) → Rises n (map (λ o. o.number) xs)
+    → Rises n (map (λ o. o.number) ys) → Rises n (map (λ o. o.number) (cond b xs ys))
 rises_if n true xs ys g h = g
 rises_if n false xs ys g h = h
 
@@ -87,16 +103,23 @@ rises_from n (us ∷ os) = (omega arith, rises_from (n + 1) os)
 
 pub rises_listed : (p : Puzzle) (t : List Move) (i : ℕ) → Rises 0 (listed_numbers p t i)
 rises_listed p [] i = grind (arith, common_steps, eqb-true, rises_drop, rises_filter, rises_from, rises_if)
-rises_listed p (Cover j ∷ t) i = grind (arith, common_steps, eqb-true, rises_drop, rises_filter, rises_from, rises_if, rises_listed p t i)
-rises_listed p (Purify j c ∷ t) i = grind (arith, common_steps, eqb-true, rises_drop, rises_filter, rises_from, rises_if, rises_listed p t i)
-rises_listed p (Tweak j ∷ t) i = grind (arith, common_steps, eqb-true, rises_drop, rises_filter, rises_from, rises_if, rises_listed p t i)
-rises_listed p (Spend j ∷ t) i = grind (arith, common_steps, eqb-true, rises_drop, rises_filter, rises_from, rises_if, rises_listed p t i)
+rises_listed p (Cover j ∷ t) i =
+    grind (arith, common_steps, eqb-true, rises_drop, rises_filter, rises_from, rises_if, rises_listed p t i)
+rises_listed p (Purify j c ∷ t) i =
+    grind (arith, common_steps, eqb-true, rises_drop, rises_filter, rises_from, rises_if, rises_listed p t i)
+rises_listed p (Tweak j ∷ t) i =
+    grind (arith, common_steps, eqb-true, rises_drop, rises_filter, rises_from, rises_if, rises_listed p t i)
+rises_listed p (Spend j ∷ t) i =
+    grind (arith, common_steps, eqb-true, rises_drop, rises_filter, rises_from, rises_if, rises_listed p t i)
 
 -- ---- the lists of all items
 
-all_hold : (p : Puzzle) (i : ℕ) (xs : List Numbered) → AllByRecursion (IsHolder p i) xs → All (λ o. IsTrue (has_use (uses_of p o) i)) (map (λ o. o.number) xs)
+all_hold : (p : Puzzle) (i : ℕ) (xs : List Numbered) → AllByRecursion (IsHolder p i) xs
+    → All (λ o. IsTrue (has_use (uses_of p o) i)) (map (λ o. o.number) xs)
 all_hold p i [] h = All-nil _
-all_hold p i (x ∷ xs) h = All-cons (λ o. IsTrue (has_use (uses_of p o) i)) x.number (map (λ o. o.number) xs) (ap (λ us. has_use us i) h.0.0 ∙ h.0.1) (all_hold p i xs h.1)
+all_hold p i (x ∷ xs) h =
+    All-cons (λ o. IsTrue (has_use (uses_of p o) i)) x.number (map (λ o. o.number) xs)
+    (ap (λ us. has_use us i) h.0.0 ∙ h.0.1) (all_hold p i xs h.1)
 
 lists_from : (p : Puzzle) (t : List Move) (a n : ℕ) → AreListsFrom p a (map (listed_numbers p t) (range_with_len a n))
 lists_from p t a zero = tt
@@ -105,20 +128,26 @@ lists_from p t a (suc n) = ((rises_listed p t a, all_hold p a (listed p t a) (ho
 pub lists_hold : (p : Puzzle) (t : List Move) → AreLists p (lists_after p t)
 lists_hold p t = (length-map-range_with_len (listed_numbers p t) 1 (item_count p), lists_from p t 1 (item_count p))
 
-pub list_after : (p : Puzzle) (t : List Move) (i : ℕ) → 1 ≤ i → i ≤ item_count p → list_at (lists_after p t) (i - 1) ≡ listed_numbers p t i
-list_after p t i low high = get_or-map-range_with_len (listed_numbers p t) 1 (item_count p) (i - 1) i [] (omega (arith, low, high)) (omega (arith, low))
+pub list_after : (p : Puzzle) (t : List Move) (i : ℕ) → 1 ≤ i → i ≤ item_count p
+    → list_at (lists_after p t) (i - 1) ≡ listed_numbers p t i
+list_after p t i low high =
+    get_or-map-range_with_len (listed_numbers p t) 1 (item_count p) (i - 1) i [] (omega (arith, low, high))
+    (omega (arith, low))
 
 -- ---- what goes, by its numbers
 
-among_numbers : (gone : List Numbered) (o : Numbered) → is_among gone o ≡ list_any (λ g. eqb g o.number) (map (λ x. x.number) gone)
+among_numbers : (gone : List Numbered) (o : Numbered)
+    → is_among gone o ≡ list_any (λ g. eqb g o.number) (map (λ x. x.number) gone)
 among_numbers [] o = refl
 among_numbers (x ∷ gone) o = ap (λ b. eqb x.number o.number || b) (among_numbers gone o)
 
-less_without : (gone xs : List Numbered) → map (λ o. o.number) (without gone xs) ≡ less (map (λ o. o.number) gone) (map (λ o. o.number) xs)
+less_without : (gone xs : List Numbered)
+    → map (λ o. o.number) (without gone xs) ≡ less (map (λ o. o.number) gone) (map (λ o. o.number) xs)
 less_without gone [] = grind (arith, common_steps, among_numbers)
 less_without gone (x ∷ xs) = grind (arith, common_steps, among_numbers, less_without gone xs)
 
-lose_range : (t : List Move) (j : ℕ) (gone : List ℕ) (f g : ℕ → List ℕ) → ((i : ℕ) → cond (not (eqb i j) && is_open i t) (less gone (f i)) (f i) ≡ g i) → (a n : ℕ) →
+lose_range : (t : List Move) (j : ℕ) (gone : List ℕ) (f g : ℕ → List ℕ)
+    → ((i : ℕ) → cond (not (eqb i j) && is_open i t) (less gone (f i)) (f i) ≡ g i) → (a n : ℕ) →
     lose_from t j gone a (map f (range_with_len a n)) ≡ map g (range_with_len a n)
 lose_range t j gone f g h a zero = refl
 lose_range t j gone f g h a (suc n) = ap₂ (λ l ls. l ∷ ls) (h a) (lose_range t j gone f g h (a + 1) n)
@@ -129,40 +158,55 @@ keep_all : (xs : List ℕ) → filter (λ o. true) xs ≡ xs
 keep_all [] = refl
 keep_all (x ∷ xs) = ap (λ l. x ∷ l) (keep_all xs)
 
-losing : (gone xs : List Numbered) (b : Bool) → cond b (less (map (λ o. o.number) gone) (map (λ o. o.number) xs)) (map (λ o. o.number) xs) ≡ map (λ o. o.number) (cond b (without gone xs) xs)
+losing : (gone xs : List Numbered) (b : Bool)
+    → cond b (less (map (λ o. o.number) gone) (map (λ o. o.number) xs)) (map (λ o. o.number) xs) ≡ map (λ o. o.number)
+    (cond b (without gone xs) xs)
 losing gone xs true = sym (less_without gone xs)
 losing gone xs false = refl
 
 pub lists_covered : (p : Puzzle) (t : List Move) (j : ℕ) → 1 ≤ j → j ≤ item_count p →
-    lose t j (filter (λ o. not (is_kept p j None o)) (list_at (lists_after p t) (j - 1))) (lists_after p t) ≡ lists_after p (Cover j ∷ t)
+    lose t j (filter (λ o. not (is_kept p j None o)) (list_at (lists_after p t) (j - 1))) (lists_after p t) ≡
+    lists_after p (Cover j ∷ t)
 lists_covered p t j low high =
     ap (λ l. lose t j l (lists_after p t)) (keep_all (list_at (lists_after p t) (j - 1)) ∙ list_after p t j low high)
-    ∙ lose_range t j (listed_numbers p t j) (listed_numbers p t) (listed_numbers p (Cover j ∷ t)) (λ i. losing (listed p t j) (listed p t i) (not (eqb i j) && is_open i t)) 1 (item_count p)
+    ∙ lose_range t j (listed_numbers p t j) (listed_numbers p t) (listed_numbers p (Cover j ∷ t))
+    (λ i. losing (listed p t j) (listed p t i) (not (eqb i j) && is_open i t)) 1 (item_count p)
 
-other_numbers : (p : Puzzle) (j c : ℕ) (xs : List Numbered) → AllByRecursion (IsHolder p j) xs → filter (λ o. not (is_kept p j (Some c) o)) (map (λ o. o.number) xs) ≡ map (λ o. o.number) (other_colours j c xs)
+other_numbers : (p : Puzzle) (j c : ℕ) (xs : List Numbered) → AllByRecursion (IsHolder p j) xs
+    → filter (λ o. not (is_kept p j (Some c) o)) (map (λ o. o.number) xs) ≡ map (λ o. o.number) (other_colours j c xs)
 other_numbers p j c [] h = grind (arith, common_steps, not-not)
 other_numbers p j c (x ∷ xs) h = grind (arith, common_steps, not-not, other_numbers p j c xs h.1)
 
 pub lists_purified : (p : Puzzle) (t : List Move) (j c : ℕ) → 1 ≤ j → j ≤ item_count p →
-    lose t j (filter (λ o. not (is_kept p j (Some c) o)) (list_at (lists_after p t) (j - 1))) (lists_after p t) ≡ lists_after p (Purify j c ∷ t)
+    lose t j (filter (λ o. not (is_kept p j (Some c) o)) (list_at (lists_after p t) (j - 1))) (lists_after p t) ≡
+    lists_after p (Purify j c ∷ t)
 lists_purified p t j c low high =
-    ap (λ l. lose t j l (lists_after p t)) (ap (λ l. filter (λ o. not (is_kept p j (Some c) o)) l) (list_after p t j low high) ∙ other_numbers p j c (listed p t j) (holders p t j))
-    ∙ lose_range t j (map (λ o. o.number) (other_colours j c (listed p t j))) (listed_numbers p t) (listed_numbers p (Purify j c ∷ t)) (λ i. losing (other_colours j c (listed p t j)) (listed p t i) (not (eqb i j) && is_open i t)) 1 (item_count p)
+    ap (λ l. lose t j l (lists_after p t))
+    (ap (λ l. filter (λ o. not (is_kept p j (Some c) o)) l) (list_after p t j low high)
+    ∙ other_numbers p j c (listed p t j) (holders p t j))
+    ∙ lose_range t j (map (λ o. o.number) (other_colours j c (listed p t j))) (listed_numbers p t)
+    (listed_numbers p (Purify j c ∷ t))
+    (λ i. losing (other_colours j c (listed p t j)) (listed p t i) (not (eqb i j) && is_open i t)) 1 (item_count p)
 
 -- ---- Tweak
 
-same_range : (f g : ℕ → List ℕ) (a n : ℕ) → ((i : ℕ) → a ≤ i → f i ≡ g i) → map f (range_with_len a n) ≡ map g (range_with_len a n)
+same_range : (f g : ℕ → List ℕ) (a n : ℕ) → ((i : ℕ) → a ≤ i → f i ≡ g i)
+    → map f (range_with_len a n) ≡ map g (range_with_len a n)
 same_range f g a zero h = refl
-same_range f g a (suc n) h = ap₂ (λ l ls. l ∷ ls) (h a (omega arith)) (same_range f g (a + 1) n (λ i le. h i (omega (arith, le))))
+same_range f g a (suc n) h =
+    ap₂ (λ l ls. l ∷ ls) (h a (omega arith)) (same_range f g (a + 1) n (λ i le. h i (omega (arith, le))))
 
-set_range : (f g : ℕ → List ℕ) (a n k : ℕ) (v : List ℕ) → ((i : ℕ) → i ≢ a + k → f i ≡ g i) → v ≡ g (a + k) → set (map f (range_with_len a n)) k v ≡ map g (range_with_len a n)
+set_range : (f g : ℕ → List ℕ) (a n k : ℕ) (v : List ℕ) → ((i : ℕ) → i ≢ a + k → f i ≡ g i) → v ≡ g (a + k)
+    → set (map f (range_with_len a n)) k v ≡ map g (range_with_len a n)
 set_range f g a zero k v h e = refl
 set_range f g a (suc n) zero v h e = grind (arith, common_steps, same_range)
 set_range f g a (suc n) (suc k) v h e =
     let at : a + suc k ≡ (a + 1) + k = omega arith in
-    ap₂ (λ l ls. l ∷ ls) (h a (omega arith)) (set_range f g (a + 1) n k v (λ i ne. h i (omega (arith, ne))) (e ∙ ap g at))
+    ap₂ (λ l ls. l ∷ ls) (h a (omega arith))
+    (set_range f g (a + 1) n k v (λ i ne. h i (omega (arith, ne))) (e ∙ ap g at))
 
-first_number : (xs : List Numbered) → 0 < length xs → map (λ o. o.number) (take 1 xs) ≡ get_or (map (λ o. o.number) xs) 0 0 ∷ []
+first_number : (xs : List Numbered) → 0 < length xs
+    → map (λ o. o.number) (take 1 xs) ≡ get_or (map (λ o. o.number) xs) 0 0 ∷ []
 first_number [] lt = absurd (omega (arith, lt))
 first_number (x ∷ xs) lt = refl
 
@@ -178,33 +222,51 @@ length_numbers (x ∷ xs) = ap suc (length_numbers xs)
 abbrev pub first_hidden : List Move → ℕ → ℕ → List (List ℕ) → List (List ℕ)
 first_hidden t j x ls = cond (is_open j t) (lose t j (x ∷ []) ls) ls
 
-pub first_hidden_lists : (p : Puzzle) (t : List Move) (j x : ℕ) (ls : List (List ℕ)) → AreLists p ls → AreLists p (first_hidden t j x ls)
+pub first_hidden_lists : (p : Puzzle) (t : List Move) (j x : ℕ) (ls : List (List ℕ)) → AreLists p ls
+    → AreLists p (first_hidden t j x ls)
 first_hidden_lists p t j x ls h = grind (arith, common_steps, length-lose_from, lists-lose_from)
 
-own_list : (t : List Move) (j x : ℕ) (ls : List (List ℕ)) → 1 ≤ j → list_at (first_hidden t j x ls) (j - 1) ≡ list_at ls (j - 1)
+own_list : (t : List Move) (j x : ℕ) (ls : List (List ℕ)) → 1 ≤ j
+    → list_at (first_hidden t j x ls) (j - 1) ≡ list_at ls (j - 1)
 own_list t j x ls low = grind (arith, common_steps, lose_other)
 
-pub lists_tweaked : (p : Puzzle) (t : List Move) (j x : ℕ) → 1 ≤ j → j ≤ item_count p → 0 < length (listed p t j) → x ≡ get_or (listed_numbers p t j) 0 0 →
-    set (first_hidden t j x (lists_after p t)) (j - 1) (less (x ∷ []) (list_at (first_hidden t j x (lists_after p t)) (j - 1))) ≡ lists_after p (Tweak j ∷ t)
+pub lists_tweaked : (p : Puzzle) (t : List Move) (j x : ℕ) → 1 ≤ j → j ≤ item_count p → 0 < length (listed p t j)
+    → x ≡ get_or (listed_numbers p t j) 0 0 →
+    set (first_hidden t j x (lists_after p t)) (j - 1)
+    (less (x ∷ []) (list_at (first_hidden t j x (lists_after p t)) (j - 1))) ≡ lists_after p (Tweak j ∷ t)
 lists_tweaked p t j x low high some is =
-    ap₂ (λ ls l. set ls (j - 1) (less (x ∷ []) l)) hidden (own_list t j x (lists_after p t) low ∙ list_after p t j low high)
-    ∙ set_range unhidden (listed_numbers p (Tweak j ∷ t)) 1 (item_count p) (j - 1) (less (x ∷ []) (listed_numbers p t j)) others here
+    ap₂ (λ ls l. set ls (j - 1) (less (x ∷ []) l)) hidden
+    (own_list t j x (lists_after p t) low ∙ list_after p t j low high)
+    ∙ set_range unhidden (listed_numbers p (Tweak j ∷ t)) 1 (item_count p) (j - 1)
+    (less (x ∷ []) (listed_numbers p t j)) others here
   where
     unhidden : ℕ → List ℕ
-    unhidden i = cond (is_open j t) (cond (not (eqb i j) && is_open i t) (less (x ∷ []) (listed_numbers p t i)) (listed_numbers p t i)) (listed_numbers p t i)
+    unhidden i =
+        cond (is_open j t) (cond (not (eqb i j) && is_open i t) (less (x ∷ []) (listed_numbers p t i))
+        (listed_numbers p t i)) (listed_numbers p t i)
 
     hidden : first_hidden t j x (lists_after p t) ≡ map unhidden (range_with_len 1 (item_count p))
-    hidden = elim (is_open j t) as (λ b. cond b (lose t j (x ∷ []) (lists_after p t)) (lists_after p t) ≡ map (λ i. cond b (cond (not (eqb i j) && is_open i t) (less (x ∷ []) (listed_numbers p t i)) (listed_numbers p t i)) (listed_numbers p t i)) (range_with_len 1 (item_count p))) [
-      | true ↦ lose_range t j (x ∷ []) (listed_numbers p t) (λ i. cond (not (eqb i j) && is_open i t) (less (x ∷ []) (listed_numbers p t i)) (listed_numbers p t i)) (λ i. refl) 1 (item_count p)
-      | false ↦ refl
-    ]
+    hidden =
+        elim (is_open j t) as (λ b. cond b (lose t j (x ∷ []) (lists_after p t)) (lists_after p t) ≡ map
+        (λ i. cond b (cond (not (eqb i j) && is_open i t) (less (x ∷ []) (listed_numbers p t i))
+        (listed_numbers p t i)) (listed_numbers p t i)) (range_with_len 1 (item_count p))) [
+          | true ↦ lose_range t j (x ∷ []) (listed_numbers p t)
+              (λ i. cond (not (eqb i j) && is_open i t) (less (x ∷ []) (listed_numbers p t i)) (listed_numbers p t i))
+              (λ i. refl) 1 (item_count p)
+          | false ↦ refl
+        ]
 
     others : (i : ℕ) → i ≢ 1 + (j - 1) → unhidden i ≡ listed_numbers p (Tweak j ∷ t) i
     others i ne =
         let differs : eqb i j ≡ false = ne_eqb i j (omega (arith, ne, low)) in
-        let first : map (λ o. o.number) (take 1 (listed p t j)) ≡ x ∷ [] = first_number (listed p t j) some ∙ ap (λ n. n ∷ []) (sym is) in
-        let tweaked = ap (λ g. cond (is_open i t) (less g (listed_numbers p t i)) (listed_numbers p t i)) (sym first) ∙ losing (take 1 (listed p t j)) (listed p t i) (is_open i t) in
-        rw differs (elim (is_open j t) as (λ b. cond b (cond (is_open i t) (less (x ∷ []) (listed_numbers p t i)) (listed_numbers p t i)) (listed_numbers p t i) ≡ map (λ o. o.number) (cond (b && is_open i t) (without (take 1 (listed p t j)) (listed p t i)) (listed p t i))) [
+        let first : map (λ o. o.number) (take 1 (listed p t j)) ≡ x ∷ [] =
+        first_number (listed p t j) some ∙ ap (λ n. n ∷ []) (sym is) in
+        let tweaked = ap (λ g. cond (is_open i t) (less g (listed_numbers p t i)) (listed_numbers p t i)) (sym first)
+        ∙ losing (take 1 (listed p t j)) (listed p t i) (is_open i t) in
+        rw differs (elim (is_open j t) as
+        (λ b. cond b (cond (is_open i t) (less (x ∷ []) (listed_numbers p t i)) (listed_numbers p t i))
+        (listed_numbers p t i) ≡ map (λ o. o.number)
+        (cond (b && is_open i t) (without (take 1 (listed p t j)) (listed p t i)) (listed p t i))) [
           | true ↦ tweaked
           | false ↦ refl
         ])
@@ -215,6 +277,7 @@ lists_tweaked p t j x low high some is =
         let self : eqb j j ≡ true = eq-eqb j j refl in
         let row = listed_numbers p t j in
         let whole : 0 < length row = omega (arith, some, length_numbers (listed p t j)) in
-        let gone : less (x ∷ []) row ≡ drop 1 row = ap (λ n. less (n ∷ []) row) is ∙ less-remove 0 row 0 (rises_listed p t j) whole in
+        let gone : less (x ∷ []) row ≡ drop 1 row =
+        ap (λ n. less (n ∷ []) row) is ∙ less-remove 0 row 0 (rises_listed p t j) whole in
         let new : map (λ o. o.number) (drop 1 (listed p t j)) ≡ listed_numbers p (Tweak j ∷ t) j = rw self refl in
         gone ∙ other_numbers_of (listed p t j) ∙ new ∙ ap (λ k. listed_numbers p (Tweak j ∷ t) k) at

@@ -1,5 +1,7 @@
 -- The states of items after moves.
-use Rattle.std.proofs.Common.{ℕ, zero, suc, ◌≡◌, ◌≢◌, ◌+◌, ◌-◌, ◌<◌, ◌≤◌, Bool, true, false, not, cond, ◌&&◌, eqb, List, [], ◌∷◌, Some, None, refl, ap, sym, set, get_or, ltb, ltb-true, ltb-false, ◌∙◌, arith, eqb-true, eq-eqb}
+use Rattle.std.proofs.Common.{ℕ, zero, suc, ◌≡◌, ◌≢◌, ◌+◌, ◌-◌, ◌<◌, ◌≤◌, Bool, true, false, not, cond, ◌&&◌, eqb, List}
+use Rattle.std.proofs.Common.{[], ◌∷◌, Some, None, refl, ap, sym, set, get_or, ltb, ltb-true, ltb-false, ◌∙◌, arith}
+use Rattle.std.proofs.Common.{eqb-true, eq-eqb}
 use Rattle.xc_input.specs.declared.problem.Bounds.{Bounds}
 use Rattle.std.proofs.lemmas.Grind.{common_steps}
 use Rattle.std.proofs.lemmas.List.{length-set, get_or-set_same, get_or-set_other, get_or_default}
@@ -29,8 +31,12 @@ open_by_state i t s e = told t ∙ ap (λ s. is_open_state s) e
   where
     told : (t : List Move) → is_open i t ≡ is_open_state (state_of i t)
     told [] = refl
-    told (Cover j ∷ t) = elim (eqb i j) as (λ b. (not b && is_open i t) ≡ is_open_state (cond b Covered (state_of i t))) [ true ↦ refl | false ↦ told t ]
-    told (Purify j c ∷ t) = elim (eqb i j) as (λ b. (not b && is_open i t) ≡ is_open_state (cond b Purified (state_of i t))) [ true ↦ refl | false ↦ told t ]
+    told (Cover j ∷ t) =
+        elim (eqb i j) as (λ b. (not b && is_open i t) ≡ is_open_state (cond b Covered (state_of i t)))
+        [ true ↦ refl | false ↦ told t ]
+    told (Purify j c ∷ t) =
+        elim (eqb i j) as (λ b. (not b && is_open i t) ≡ is_open_state (cond b Purified (state_of i t)))
+        [ true ↦ refl | false ↦ told t ]
     told (_ ∷ t) = told t
 
 pub open_state : (i : ℕ) (t : List Move) → is_open i t ≡ true → state_of i t ≡ Open
@@ -54,15 +60,20 @@ open_unpurified i t e = none (purified i t) (and_parts _ _ (open_is t i ∙ e)).
     none (Some c) h = cc
 
 pub open_or_covered : (i : ℕ) (t : List Move) → purified i t ≡ None → is_open i t ≡ not (is_covered i t)
-open_or_covered i t e = sym (open_is t i) ∙ ap (λ o. not (is_covered i t) && not (is_some o)) e ∙ and-true (not (is_covered i t))
+open_or_covered i t e =
+    sym (open_is t i) ∙ ap (λ o. not (is_covered i t) && not (is_some o)) e ∙ and-true (not (is_covered i t))
 
 -- one item gets another state
-pub set_state : (p : Puzzle) (t u : List Move) (states : List ItemState) (i : ℕ) (s : ItemState) → AreStates p t states → 1 ≤ i → i ≤ item_count p →
-    ((k : ℕ) → k + 1 ≢ i → state_of (k + 1) t ≡ state_of (k + 1) u) → state_of i u ≡ s → AreStates p u (set states (i - 1) s)
-set_state p t u states i s are low high others here = grind (arith, common_steps, eq-eqb, eqb-true, get_or-set_other, get_or-set_same, length-set)
+pub set_state : (p : Puzzle) (t u : List Move) (states : List ItemState) (i : ℕ) (s : ItemState) → AreStates p t states
+    → 1 ≤ i → i ≤ item_count p →
+    ((k : ℕ) → k + 1 ≢ i → state_of (k + 1) t ≡ state_of (k + 1) u) → state_of i u ≡ s
+    → AreStates p u (set states (i - 1) s)
+set_state p t u states i s are low high others here =
+    grind (arith, common_steps, eq-eqb, eqb-true, get_or-set_other, get_or-set_same, length-set)
 
 -- what was read at the item's place is its state
-pub state_at : (p : Puzzle) (t : List Move) (states : List ItemState) (i : ℕ) (r : ItemState) → AreStates p t states → 1 ≤ i → i ≤ item_count p → r ≡ get_or states (i - 1) r → state_of i t ≡ r
+pub state_at : (p : Puzzle) (t : List Move) (states : List ItemState) (i : ℕ) (r : ItemState) → AreStates p t states
+    → 1 ≤ i → i ≤ item_count p → r ≡ get_or states (i - 1) r → state_of i t ≡ r
 state_at p t states i r are low high read = grind (arith, common_steps, get_or_default)
 
 pub closed_state : (s : ItemState) → (s ≡ Open → ⊥) → is_open_state s ≡ false
@@ -73,23 +84,35 @@ pub unpurified_state : (s : ItemState) → (s ≡ Purified → ⊥) → is_purif
 unpurified_state Purified h = absurd (h refl)
 unpurified_state _ h = refl
 
-pub purified_by_state : (p : Puzzle) (i : ℕ) (t : List Move) → AreLegal p t → is_some (purified i t) ≡ is_purified_state (state_of i t)
+pub purified_by_state : (p : Puzzle) (i : ℕ) (t : List Move) → AreLegal p t
+    → is_some (purified i t) ≡ is_purified_state (state_of i t)
 purified_by_state p i [] legal = grind (arith, common_steps, eqb-true, open_unpurified)
-purified_by_state p i (Cover j ∷ t) legal = grind (arith, common_steps, eqb-true, open_unpurified, purified_by_state p i t legal.1)
-purified_by_state p i (Purify j c ∷ t) legal = grind (arith, common_steps, eqb-true, open_unpurified, purified_by_state p i t legal.1)
-purified_by_state p i (_ ∷ t) legal = grind (arith, common_steps, eqb-true, open_unpurified, purified_by_state p i t legal.1)
+purified_by_state p i (Cover j ∷ t) legal =
+    grind (arith, common_steps, eqb-true, open_unpurified, purified_by_state p i t legal.1)
+purified_by_state p i (Purify j c ∷ t) legal =
+    grind (arith, common_steps, eqb-true, open_unpurified, purified_by_state p i t legal.1)
+purified_by_state p i (_ ∷ t) legal =
+    grind (arith, common_steps, eqb-true, open_unpurified, purified_by_state p i t legal.1)
 
 -- ---- the next open item
 
-pub next_open_step : (t : List Move) (n a len : ℕ) → is_open (n + 1) t ≡ false → next_above n (filter (λ i. is_open i t) (range_with_len a len)) ≡ next_above (n + 1) (filter (λ i. is_open i t) (range_with_len a len))
+pub next_open_step : (t : List Move) (n a len : ℕ) → is_open (n + 1) t ≡ false
+    → next_above n (filter (λ i. is_open i t) (range_with_len a len)) ≡ next_above (n + 1)
+    (filter (λ i. is_open i t) (range_with_len a len))
 next_open_step t n a zero e = grind (arith, common_steps, ltb-false, ltb-true)
 next_open_step t n a (suc len) e = grind (arith, common_steps, ltb-false, ltb-true, next_open_step t n (a + 1) len e)
 
-pub next_open_here : (t : List Move) (n a len : ℕ) → is_open (n + 1) t ≡ true → a ≤ n + 1 → n + 1 < a + len → next_above n (filter (λ i. is_open i t) (range_with_len a len)) ≡ Some (n + 1)
+pub next_open_here : (t : List Move) (n a len : ℕ) → is_open (n + 1) t ≡ true → a ≤ n + 1 → n + 1 < a + len
+    → next_above n (filter (λ i. is_open i t) (range_with_len a len)) ≡ Some (n + 1)
 next_open_here t n a zero e low high = absurd (omega (arith, low, high))
-next_open_here t n a (suc len) e low high = by_place (λ more less. next_open_here t n (a + 1) len e more less) (eqb a (n + 1)) refl
+next_open_here t n a (suc len) e low high =
+    by_place (λ more less. next_open_here t n (a + 1) len e more less) (eqb a (n + 1)) refl
   where
-    by_place : (a + 1 ≤ n + 1 → n + 1 < a + 1 + len → next_above n (filter (λ i. is_open i t) (range_with_len (a + 1) len)) ≡ Some (n + 1)) → (b : Bool) → eqb a (n + 1) ≡ b → next_above n (cond (is_open a t) (a ∷ filter (λ i. is_open i t) (range_with_len (a + 1) len)) (filter (λ i. is_open i t) (range_with_len (a + 1) len))) ≡ Some (n + 1)
+    by_place : (a + 1 ≤ n + 1 → n + 1 < a + 1 + len
+        → next_above n (filter (λ i. is_open i t) (range_with_len (a + 1) len)) ≡ Some (n + 1)) → (b : Bool)
+        → eqb a (n + 1) ≡ b → next_above n
+        (cond (is_open a t) (a ∷ filter (λ i. is_open i t) (range_with_len (a + 1) len))
+        (filter (λ i. is_open i t) (range_with_len (a + 1) len))) ≡ Some (n + 1)
     by_place later true q =
         let same : a ≡ n + 1 = eqb-true a (n + 1) q in
         let above : ltb n a ≡ true = lt-ltb n a (omega (arith, same)) in
@@ -99,14 +122,18 @@ next_open_here t n a (suc len) e low high = by_place (λ more less. next_open_he
         let other : a ≢ n + 1 = λ e. (let y = eq-eqb a (n + 1) e in cc) in
         let before : ltb n a ≡ false = le-ltb n a (omega (arith, other, low)) in
         let rest = later (omega (arith, other, low)) (omega (arith, high)) in
-        elim (is_open a t) as (λ b. next_above n (cond b (a ∷ filter (λ i. is_open i t) (range_with_len (a + 1) len)) (filter (λ i. is_open i t) (range_with_len (a + 1) len))) ≡ Some (n + 1)) [
+        elim (is_open a t) as (λ b. next_above n
+        (cond b (a ∷ filter (λ i. is_open i t) (range_with_len (a + 1) len))
+        (filter (λ i. is_open i t) (range_with_len (a + 1) len))) ≡ Some (n + 1)) [
           | true ↦ rw before rest
           | false ↦ rest
         ]
 
-pub next_open_none : (t : List Move) (n a len : ℕ) → a + len ≤ n + 1 → next_above n (filter (λ i. is_open i t) (range_with_len a len)) ≡ None
+pub next_open_none : (t : List Move) (n a len : ℕ) → a + len ≤ n + 1
+    → next_above n (filter (λ i. is_open i t) (range_with_len a len)) ≡ None
 next_open_none t n a zero le = grind (arith, common_steps, le-ltb)
-next_open_none t n a (suc len) le = grind (arith, common_steps, le-ltb, next_open_none t n (a + 1) len (omega (arith, le)))
+next_open_none t n a (suc len) le =
+    grind (arith, common_steps, le-ltb, next_open_none t n (a + 1) len (omega (arith, le)))
 
 -- what a step to the next place tells
 pub ruleset next_open = (next_open_step, next_open_here, next_open_none)
@@ -116,6 +143,7 @@ pub ruleset next_open = (next_open_step, next_open_here, next_open_none)
 pub high_within : (p : Puzzle) (i : ℕ) → IsWithinLimits p → high_at p i ≤ 999999999
 high_within p i limits = by_item (numbered_get p.bounds i) refl
   where
-    by_item : (o : Option Bounds) → numbered_get p.bounds i ≡ o → (unwrap_or (numbered_get p.bounds i) (record { low = 0; high = 0 })).high ≤ 999999999
+    by_item : (o : Option Bounds) → numbered_get p.bounds i ≡ o
+        → (unwrap_or (numbered_get p.bounds i) (record { low = 0; high = 0 })).high ≤ 999999999
     by_item None e = rw e (omega arith)
     by_item (Some b) e = rw e (at_number (λ (b : Bounds). b.high ≤ 999999999) p.bounds i b limits.bounds e)

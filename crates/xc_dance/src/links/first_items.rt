@@ -1,6 +1,7 @@
 //! The item table before any move.
 ghost use Rattle.std.specs.Prelude.{◌≡◌, ◌≤◌, ◌+◌, [], IfOk};
-ghost use Rattle.xc_input.specs.Problem.{IsValid, IsWithinLimits, IsPrimary, item_count, primary_count, high_at, low_at};
+ghost use Rattle.xc_input.specs.Problem.{IsValid, IsWithinLimits, IsPrimary, item_count, primary_count, high_at};
+ghost use Rattle.xc_input.specs.Problem.{low_at};
 ghost use Rattle.xc_dance.specs.inner.Links.ItemCells.{llink_at, rlink_at, items_after};
 ghost use Rattle.xc_dance.specs.inner.Links.FirstItems.{linked_to, bound_to};
 

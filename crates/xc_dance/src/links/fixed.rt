@@ -1,6 +1,7 @@
 //! What no move changes: the counts of the items, and where the nodes of the options stand.
 ghost use Rattle.std.specs.Prelude.{◌≡◌, false, ◌-◌, ◌≤◌, ◌↔◌, IsTrue, IfOk};
-ghost use Rattle.xc_input.specs.Problem.{IsValid, IsWithinLimits, IsItem, IsPrimary, IsSecondary, item_count, primary_count, IsOption};
+ghost use Rattle.xc_input.specs.Problem.{IsValid, IsWithinLimits, IsItem, IsPrimary, IsSecondary, item_count};
+ghost use Rattle.xc_input.specs.Problem.{primary_count, IsOption};
 ghost use Rattle.xc_dance.specs.inner.Links.Laid.{IsFit};
 ghost use Rattle.xc_dance.specs.inner.Links.OptionPlaces.{start_at};
 ghost use Rattle.xc_dance.specs.inner.Links.OptionSpans.{spans_of};

@@ -1,5 +1,6 @@
 //! The item table.
-ghost use Rattle.std.specs.Prelude.{◌≡◌, ℕ, ◌+◌, ◌-◌, ◌^◌, ◌<◌, ◌≤◌, List, length, slice_index, slice_set, replicate, IfOk, IsTrue, ◌↔◌};
+ghost use Rattle.std.specs.Prelude.{◌≡◌, ℕ, ◌+◌, ◌-◌, ◌^◌, ◌<◌, ◌≤◌, List, length, slice_index, slice_set, replicate};
+ghost use Rattle.std.specs.Prelude.{IfOk, IsTrue, ◌↔◌};
 
 use crate::links::cells::Column;
 use crate::links::writes::Writes;
@@ -19,7 +20,12 @@ impl Items {
 
     /// Items whose cells are all 0.
     pub(crate) fn new(alloc: Global, items: u32, primary: u32) -> Result<Items, AllocError>
-        ensures { IfOk result (λ t. t ≡ record { llink = replicate (items + 2) 0; rlink = replicate (items + 2) 0; bound = replicate (primary + 1) 0; slack = replicate (primary + 1) 0 }) }
+        ensures { IfOk result (λ t. t ≡ record {
+          llink = replicate (items + 2) 0;
+          rlink = replicate (items + 2) 0;
+          bound = replicate (primary + 1) 0;
+          slack = replicate (primary + 1) 0;
+        }) }
     {
         let places = items as usize + 2;
         let bounds = primary as usize + 1;

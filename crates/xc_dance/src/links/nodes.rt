@@ -1,4 +1,5 @@
-//! The node table. Names and numbers of steps are those of section 7.2.2.1 of The Art of Computer Programming, Volume 4B.
+//! The node table. Names and numbers of steps are those of section 7.2.2.1 of The Art of Computer Programming, Volume
+//! 4B.
 ghost use Rattle.std.specs.Prelude.{◌≡◌, ℕ, ◌+◌, ◌-◌, ◌*◌, ◌<◌, ◌≤◌, ◌^◌, length, slice_index, slice_get, fold, None};
 ghost use Rattle.std.specs.Prelude.{Some, false, if◌then◌else◌, IfOk, IsTrue, ◌↔◌};
 
@@ -20,9 +21,9 @@ pub(crate) const MARK: u32 = 0xffff_ffff;
 /// The number that a spacer's TOP is kept behind. TOP of every other node is below it.
 pub(crate) const SPACER: u32 = 0x8000_0000;
 
-/// The nodes, of sixteen bytes each: four cells of 32 bits, so that more of them stay near the processor. Their links lie in
-/// pairs, since each step reads both; TOP and COLOR lie apart, since a walk down a list reads neither. Contracts see four
-/// columns.
+/// The nodes, of sixteen bytes each: four cells of 32 bits, so that more of them stay near the processor. Their links
+/// lie in pairs, since each step reads both; TOP and COLOR lie apart, since a walk down a list reads neither. Contracts
+/// see four columns.
 #[derive(Drop)]
 pub(crate) struct Nodes {
     top: Vec<Cell>,
@@ -116,10 +117,12 @@ impl Rows {
 impl Nodes {
     ghost use Rattle.xc_dance.specs.inner.Links.FirstNodes.{entered};
     ghost use Rattle.xc_dance.specs.inner.Links.Steps.{HasSize, list_of, list_back};
-    ghost use Rattle.xc_dance.specs.inner.Links.ListWalks.{left_node, back_node, walk_costs, back_costs, CanHideList, CanUnhideList, with_colour};
+    ghost use Rattle.xc_dance.specs.inner.Links.ListWalks.{left_node, back_node, walk_costs, back_costs, CanHideList};
+    ghost use Rattle.xc_dance.specs.inner.Links.ListWalks.{CanUnhideList, with_colour};
     ghost use Rattle.xc_dance.specs.inner.Links.Unmarked.{IsUnmarked};
     ghost use Rattle.xc_dance.specs.inner.Links.Purifying.{purified_list, unpurified_list, CanPurify, CanUnpurify};
-    ghost use Rattle.xc_dance.specs.inner.Links.Tweaking.{tweaked, untweaked, tweak_cost, untweak_cost, CanTweak, CanUntweak};
+    ghost use Rattle.xc_dance.specs.inner.Links.Tweaking.{tweaked, untweaked, tweak_cost, untweak_cost, CanTweak};
+    ghost use Rattle.xc_dance.specs.inner.Links.Tweaking.{CanUntweak};
     ghost use Rattle.xc_dance.specs.inner.Links.TweaksBack.{untweaked_all, untweak_all_cost, CanUntweakAll};
 
     /// TOP of node q; LEN of an item's own node.
@@ -247,8 +250,8 @@ impl Nodes {
         unhide_list(top, links, color, spans, i, None, false, writes)
     }
 
-    /// Purifies item i with the colour c, as Algorithm C does. The colour stands at the item's own node, so that it can be read
-    /// whether an item is purified.
+    /// Purifies item i with the colour c, as Algorithm C does. The colour stands at the item's own node, so that it can
+    /// be read whether an item is purified.
     #[inline(always)]
     pub(crate) fn purify(&mut self, spans: &Spans, i: u32, c: u32, writes: &mut Writes) -> u64
         requires can { CanPurify spans.now c self.old i }
@@ -275,8 +278,8 @@ impl Nodes {
         count + 1
     }
 
-    /// Takes the first node off the list of item i, and hides its option unless i is covered: tweak of Algorithm M, and tweak'
-    /// where i is covered. The node keeps its links.
+    /// Takes the first node off the list of item i, and hides its option unless i is covered: tweak of Algorithm M, and
+    /// tweak' where i is covered. The node keeps its links.
     #[inline(always)]
     pub(crate) fn tweak(
         &mut self,
@@ -321,8 +324,8 @@ impl Nodes {
         count + 3
     }
 
-    /// Undoes k Tweaks of item i, x being the first node that they took off. It is untweak of Algorithm M: DLINK of each node
-    /// still leads to the next that was taken off, so one walk down brings all of them back.
+    /// Undoes k Tweaks of item i, x being the first node that they took off. It is untweak of Algorithm M: DLINK of
+    /// each node still leads to the next that was taken off, so one walk down brings all of them back.
     #[inline(always)]
     pub(crate) fn untweak_all(
         &mut self,

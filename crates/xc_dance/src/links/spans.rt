@@ -1,4 +1,5 @@
-//! Where the option of each node stands, as contracts speak of it. It takes no memory: a walk finds the ends by the spacers.
+//! Where the option of each node stands, as contracts speak of it. It takes no memory: a walk finds the ends by the
+//! spacers.
 ghost use Rattle.std.specs.Prelude.{◌≡◌};
 ghost use Rattle.xc_dance.specs.inner.Links.OptionSpans.{spans_of};
 

@@ -1,9 +1,13 @@
-//! Steps over the nodes of one option: hide and unhide. The walks take the tables as slices, so that their bases stay in
-//! registers: behind a vector each would be loaded anew after every write. The compiler's output has eleven instructions for a
-//! node that is hidden or comes back, with four loads and three stores, no bounds check and no call.
-ghost use Rattle.std.specs.Prelude.{◌≡◌, ◌≢◌, false, ℕ, ◌+◌, ◌-◌, ◌*◌, ◌<◌, ◌≤◌, ◌^◌, length, slice_index, fold, reverse};
+//! Steps over the nodes of one option: hide and unhide. The walks take the tables as slices, so that their bases stay
+//! in registers: behind a vector each would be loaded anew after every write. The compiler's output has eleven
+//! instructions for a node that is hidden or comes back, with four loads and three stores, no bounds check and no call.
+ghost use Rattle.std.specs.Prelude.{◌≡◌, ◌≢◌, false, ℕ, ◌+◌, ◌-◌, ◌*◌, ◌<◌, ◌≤◌, ◌^◌, length, slice_index, fold};
+ghost use Rattle.std.specs.Prelude.{reverse};
 ghost use Rattle.xc_dance.specs.inner.Links.Columns.{values, columns};
-ghost use Rattle.xc_dance.specs.inner.Links.Steps.{HasSize, NamesPlaces, unlinked, relinked, hidden, hide_cost, hide_costs, CanHide, CanHideAll, places, unhidden, CanUnhide, CanUnhideAll, unhide_costs, others_of, hidden_node, unhidden_node, CanHideNode, CanUnhideNode};
+ghost use Rattle.xc_dance.specs.inner.Links.Steps.{HasSize, NamesPlaces, unlinked, relinked, hidden, hide_cost};
+ghost use Rattle.xc_dance.specs.inner.Links.Steps.{hide_costs, CanHide, CanHideAll, places, unhidden, CanUnhide};
+ghost use Rattle.xc_dance.specs.inner.Links.Steps.{CanUnhideAll, unhide_costs, others_of, hidden_node, unhidden_node};
+ghost use Rattle.xc_dance.specs.inner.Links.Steps.{CanHideNode, CanUnhideNode};
 ghost use Rattle.xc_dance.specs.inner.Links.Unmarked.{AreUnmarked, IsUnmarked};
 ghost use Rattle.xc_dance.specs.declared.links.nodes.TheConstants.{MARK};
 
@@ -23,7 +27,8 @@ pub(crate) fn unlink(
 )
     requires size { HasSize (columns top.old links.old color.now) (length (columns top.old links.old color.now).top) }
     requires places { NamesPlaces (columns top.old links.old color.now) q }
-    requires some { 0 < slice_index (columns top.old links.old color.now).top (slice_index (columns top.old links.old color.now).top q) }
+    requires some { 0 < slice_index (columns top.old links.old color.now).top
+        (slice_index (columns top.old links.old color.now).top q) }
     ensures done { columns top.new links.new color.now ≡ unlinked (columns top.old links.old color.now) q }
     ensures counted { writes.new.count ≡ writes.old.count + 3 }
 {
@@ -47,7 +52,8 @@ pub(crate) fn relink(
 )
     requires size { HasSize (columns top.old links.old color.now) (length (columns top.old links.old color.now).top) }
     requires places { NamesPlaces (columns top.old links.old color.now) q }
-    requires few { slice_index (columns top.old links.old color.now).top (slice_index (columns top.old links.old color.now).top q) < 2 ^ 31 }
+    requires few { slice_index (columns top.old links.old color.now).top
+        (slice_index (columns top.old links.old color.now).top q) < 2 ^ 31 }
     requires near { q < 2 ^ 32 }
     ensures done { columns top.new links.new color.now ≡ relinked (columns top.old links.old color.now) q }
     ensures counted { writes.new.count ≡ writes.old.count + 3 }
@@ -61,8 +67,8 @@ pub(crate) fn relink(
     set_at(top, i, count + 1, writes);
 }
 
-/// A step of hide. `marks` tells whether a node of an option may be marked. It is a constant where this is inlined, so that two
-/// loops stand, one without the test.
+/// A step of hide. `marks` tells whether a node of an option may be marked. It is a constant where this is inlined, so
+/// that two loops stand, one without the test.
 #[inline(always)]
 fn hide_one(
     top: &mut [Cell],
@@ -100,7 +106,8 @@ fn hide_range(
     requires can { CanHideAll (columns top.old links.old color.now) (places a b) }
     requires unmarked { marks ≡ false → AreUnmarked (values color.now) a b }
     requires near { b ≤ 2 ^ 32 }
-    ensures done { columns top.new links.new color.now ≡ fold hidden (columns top.old links.old color.now) (places a b) }
+    ensures done { columns top.new links.new color.now ≡ fold hidden (columns top.old links.old color.now)
+        (places a b) }
     ensures cost { result ≡ hide_costs (columns top.old links.old color.now) (places a b) }
     ensures counted { writes.new.count ≡ writes.old.count + result }
     ensures few { result ≤ 3 * (b - a) }
@@ -112,8 +119,8 @@ fn hide_range(
     count
 }
 
-/// Hides the other nodes of the option of node p, as hide, (13), does, and hide' of Algorithm C, which passes over marked nodes:
-/// from behind p to the spacer, which leads to the option's first node, and from there to before p.
+/// Hides the other nodes of the option of node p, as hide, (13), does, and hide' of Algorithm C, which passes over
+/// marked nodes: from behind p to the spacer, which leads to the option's first node, and from there to before p.
 #[inline(always)]
 pub(crate) fn hide(
     top: &mut [Cell],
@@ -182,7 +189,8 @@ fn unhide_range(
     requires can { CanUnhideAll (columns top.old links.old color.now) (reverse (places a b)) }
     requires unmarked { marks ≡ false → AreUnmarked (values color.now) a b }
     requires near { b ≤ 2 ^ 32 }
-    ensures done { columns top.new links.new color.now ≡ fold unhidden (columns top.old links.old color.now) (reverse (places a b)) }
+    ensures done { columns top.new links.new color.now ≡ fold unhidden (columns top.old links.old color.now)
+        (reverse (places a b)) }
     ensures cost { result ≡ unhide_costs (columns top.old links.old color.now) (reverse (places a b)) }
     ensures counted { writes.new.count ≡ writes.old.count + result }
     ensures few { result ≤ 3 * (b - a) }
@@ -194,7 +202,8 @@ fn unhide_range(
     count
 }
 
-/// Puts back what `hide` took out, as unhide, (15), does, from the last back, so that each node finds its neighbours of before: the spacer before the option leads to its last node.
+/// Puts back what `hide` took out, as unhide, (15), does, from the last back, so that each node finds its neighbours of
+/// before: the spacer before the option leads to its last node.
 #[inline(always)]
 pub(crate) fn unhide(
     top: &mut [Cell],
@@ -208,7 +217,8 @@ pub(crate) fn unhide(
     requires span { p < length spans.now }
     requires can { CanUnhideNode spans.now (columns top.old links.old color.now) p }
     requires unmarked { marks ≡ false → IsUnmarked spans.now (values color.now) }
-    ensures done { columns top.new links.new color.now ≡ unhidden_node spans.now (columns top.old links.old color.now) p }
+    ensures done { columns top.new links.new color.now ≡ unhidden_node spans.now
+        (columns top.old links.old color.now) p }
     ensures cost { result ≡ unhide_costs (columns top.old links.old color.now) (reverse (others_of spans.now p)) }
     ensures few { result ≤ 3 * 2 ^ 32 }
     ensures counted { writes.new.count ≡ writes.old.count + result }

@@ -1,9 +1,11 @@
 //! Tweaks: the option of a first node is hidden and comes back, alone or with those that were tweaked off behind it.
 ghost use Rattle.std.specs.Prelude.{◌≡◌, ℕ, ◌+◌, ◌*◌, ◌<◌, ◌≤◌, ◌^◌, length, fold, reverse, false, if◌then◌else◌};
 ghost use Rattle.xc_dance.specs.inner.Links.Columns.{values, columns};
-ghost use Rattle.xc_dance.specs.inner.Links.Steps.{hide_costs, CanHideNode, CanUnhideNode, unhide_costs, others_of, followed};
+ghost use Rattle.xc_dance.specs.inner.Links.Steps.{hide_costs, CanHideNode, CanUnhideNode, unhide_costs, others_of};
+ghost use Rattle.xc_dance.specs.inner.Links.Steps.{followed};
 ghost use Rattle.xc_dance.specs.inner.Links.Tweaking.{hidden_unless, unhidden_unless};
-ghost use Rattle.xc_dance.specs.inner.Links.TweaksBack.{brought_back, bring_back_cost, CanBringBack, CanBringBackAll, bring_back_costs};
+ghost use Rattle.xc_dance.specs.inner.Links.TweaksBack.{brought_back, bring_back_cost, CanBringBack, CanBringBackAll};
+ghost use Rattle.xc_dance.specs.inner.Links.TweaksBack.{bring_back_costs};
 ghost use Rattle.xc_dance.specs.inner.Links.Unmarked.{IsUnmarked};
 
 use crate::links::cells::{Cell, Link, down, set_up};
@@ -23,10 +25,13 @@ pub(crate) fn hide_unless(
     marks: bool,
     writes: &mut Writes,
 ) -> u64
-    requires can { covered ≡ false → (x < length spans.now) × CanHideNode spans.now (columns top.old links.old color.now) x }
+    requires can { covered ≡ false → (x < length spans.now)
+        × CanHideNode spans.now (columns top.old links.old color.now) x }
     requires unmarked { marks ≡ false → IsUnmarked spans.now (values color.now) }
-    ensures done { columns top.new links.new color.now ≡ hidden_unless spans.now covered (columns top.old links.old color.now) x }
-    ensures cost { result ≡ (if covered then 0 else hide_costs (columns top.old links.old color.now) (others_of spans.now x)) }
+    ensures done { columns top.new links.new color.now ≡ hidden_unless spans.now covered
+        (columns top.old links.old color.now) x }
+    ensures cost { result ≡ (if covered then 0 else hide_costs (columns top.old links.old color.now)
+        (others_of spans.now x)) }
     ensures few { result ≤ 3 * 2 ^ 32 }
     ensures counted { writes.new.count ≡ writes.old.count + result }
 {
@@ -52,10 +57,13 @@ pub(crate) fn unhide_unless(
     marks: bool,
     writes: &mut Writes,
 ) -> u64
-    requires can { covered ≡ false → (x < length spans.now) × CanUnhideNode spans.now (columns top.old links.old color.now) x }
+    requires can { covered ≡ false → (x < length spans.now)
+        × CanUnhideNode spans.now (columns top.old links.old color.now) x }
     requires unmarked { marks ≡ false → IsUnmarked spans.now (values color.now) }
-    ensures done { columns top.new links.new color.now ≡ unhidden_unless spans.now covered (columns top.old links.old color.now) x }
-    ensures cost { result ≡ (if covered then 0 else unhide_costs (columns top.old links.old color.now) (reverse (others_of spans.now x))) }
+    ensures done { columns top.new links.new color.now ≡ unhidden_unless spans.now covered
+        (columns top.old links.old color.now) x }
+    ensures cost { result ≡ (if covered then 0 else unhide_costs (columns top.old links.old color.now)
+        (reverse (others_of spans.now x))) }
     ensures few { result ≤ 3 * 2 ^ 32 }
     ensures counted { writes.new.count ≡ writes.old.count + result }
 {
@@ -84,7 +92,8 @@ fn bring_back_one(
 ) -> u64
     requires can { CanBringBack spans.now covered (columns top.old links.old color.now) p }
     requires unmarked { marks ≡ false → IsUnmarked spans.now (values color.now) }
-    ensures done { columns top.new links.new color.now ≡ brought_back spans.now covered (columns top.old links.old color.now) p }
+    ensures done { columns top.new links.new color.now ≡ brought_back spans.now covered
+        (columns top.old links.old color.now) p }
     ensures cost { result ≡ bring_back_cost spans.now covered (columns top.old links.old color.now) p }
     ensures few { result ≤ 3 * 2 ^ 32 + 1 }
     ensures counted { writes.new.count ≡ writes.old.count + result }
@@ -109,10 +118,13 @@ pub(crate) fn bring_back(
     writes: &mut Writes,
 ) -> u64
     requires many { k < 2 ^ 30 }
-    requires can { CanBringBackAll spans.now covered (columns top.old links.old color.now) x (followed (columns top.old links.old color.now).dlink k x) }
+    requires can { CanBringBackAll spans.now covered (columns top.old links.old color.now) x
+        (followed (columns top.old links.old color.now).dlink k x) }
     requires unmarked { marks ≡ false → IsUnmarked spans.now (values color.now) }
-    ensures done { columns top.new links.new color.now ≡ fold (brought_back spans.now covered) (columns top.old links.old color.now) (followed (columns top.old links.old color.now).dlink k x) }
-    ensures cost { result ≡ bring_back_costs spans.now covered (columns top.old links.old color.now) (followed (columns top.old links.old color.now).dlink k x) }
+    ensures done { columns top.new links.new color.now ≡ fold (brought_back spans.now covered)
+        (columns top.old links.old color.now) (followed (columns top.old links.old color.now).dlink k x) }
+    ensures cost { result ≡ bring_back_costs spans.now covered (columns top.old links.old color.now)
+        (followed (columns top.old links.old color.now).dlink k x) }
     ensures few_writes { result ≤ 3 * 2 ^ 62 + 2 ^ 30 }
     ensures counted { writes.new.count ≡ writes.old.count + result }
 {

@@ -1,9 +1,11 @@
-//! Walks down the list of an item and back up. The nodes of a colour that is kept are marked on the way, the options of the
-//! others hidden.
+//! Walks down the list of an item and back up. The nodes of a colour that is kept are marked on the way, the options of
+//! the others hidden.
 ghost use Rattle.std.specs.Prelude.{◌≡◌, ℕ, ◌+◌, ◌-◌, ◌*◌, ◌<◌, ◌≤◌, ◌^◌, length, slice_index, fold, None, false};
 ghost use Rattle.xc_dance.specs.inner.Links.Columns.{values, columns};
 ghost use Rattle.xc_dance.specs.inner.Links.Steps.{list_of, list_back};
-ghost use Rattle.xc_dance.specs.inner.Links.ListWalks.{is_kept_colour, left_node, leave_cost, back_node, back_cost, CanLeave, CanReturn, walk_costs, back_costs, CanHideList, CanUnhideList};
+ghost use Rattle.xc_dance.specs.inner.Links.ListWalks.{is_kept_colour, left_node, leave_cost, back_node, back_cost};
+ghost use Rattle.xc_dance.specs.inner.Links.ListWalks.{CanLeave, CanReturn, walk_costs, back_costs, CanHideList};
+ghost use Rattle.xc_dance.specs.inner.Links.ListWalks.{CanUnhideList};
 ghost use Rattle.xc_dance.specs.inner.Links.Unmarked.{IsUnmarked};
 
 use crate::links::cells::{Cell, Link, down, get, set, up};
@@ -38,7 +40,8 @@ fn leave(
 ) -> u64
     requires can { CanLeave spans.now keep (columns top.old links.old color.old) p }
     requires unmarked { marks ≡ false → IsUnmarked spans.now (values color.old) }
-    ensures done { columns top.new links.new color.new ≡ left_node spans.now keep (columns top.old links.old color.old) p }
+    ensures done { columns top.new links.new color.new ≡ left_node spans.now keep
+        (columns top.old links.old color.old) p }
     ensures cost { result ≡ leave_cost spans.now keep (columns top.old links.old color.old) p }
     ensures few { result ≤ 3 * 2 ^ 32 }
     ensures counted { writes.new.count ≡ writes.old.count + result }
@@ -64,7 +67,8 @@ fn come_back(
 ) -> u64
     requires can { CanReturn spans.now keep (columns top.old links.old color.old) p }
     requires unmarked { marks ≡ false → IsUnmarked spans.now (values color.old) }
-    ensures done { columns top.new links.new color.new ≡ back_node spans.now keep (columns top.old links.old color.old) p }
+    ensures done { columns top.new links.new color.new ≡ back_node spans.now keep
+        (columns top.old links.old color.old) p }
     ensures cost { result ≡ back_cost spans.now keep (columns top.old links.old color.old) p }
     ensures few { result ≤ 3 * 2 ^ 32 }
     ensures counted { writes.new.count ≡ writes.old.count + result }
@@ -78,8 +82,8 @@ fn come_back(
     unhide(top, links, color, spans, p, marks, writes)
 }
 
-/// Goes down the list of item i: its nodes of the colour kept are marked, the others are hidden. It is the loop of cover where no
-/// colour is kept, and of purify where one is.
+/// Goes down the list of item i: its nodes of the colour kept are marked, the others are hidden. It is the loop of
+/// cover where no colour is kept, and of purify where one is.
 #[inline(always)]
 pub(crate) fn hide_list(
     top: &mut [Cell],
@@ -94,8 +98,10 @@ pub(crate) fn hide_list(
     requires can { CanHideList spans.now keep (columns top.old links.old color.old) i }
     requires unmarked { marks ≡ false → IsUnmarked spans.now (values color.old) }
     requires none { marks ≡ false → keep ≡ None }
-    ensures done { columns top.new links.new color.new ≡ fold (left_node spans.now keep) (columns top.old links.old color.old) (list_of (columns top.old links.old color.old) i) }
-    ensures cost { result ≡ walk_costs spans.now keep (columns top.old links.old color.old) (list_of (columns top.old links.old color.old) i) }
+    ensures done { columns top.new links.new color.new ≡ fold (left_node spans.now keep)
+        (columns top.old links.old color.old) (list_of (columns top.old links.old color.old) i) }
+    ensures cost { result ≡ walk_costs spans.now keep (columns top.old links.old color.old)
+        (list_of (columns top.old links.old color.old) i) }
     ensures few_writes { result ≤ 3 * 2 ^ 62 }
     ensures counted { writes.new.count ≡ writes.old.count + result }
 {
@@ -120,8 +126,10 @@ pub(crate) fn hide_among_marks(
     writes: &mut Writes,
 ) -> u64
     requires { CanHideList spans.now keep (columns top.old links.old color.old) i }
-    ensures done { columns top.new links.new color.new ≡ fold (left_node spans.now keep) (columns top.old links.old color.old) (list_of (columns top.old links.old color.old) i) }
-    ensures cost { result ≡ walk_costs spans.now keep (columns top.old links.old color.old) (list_of (columns top.old links.old color.old) i) }
+    ensures done { columns top.new links.new color.new ≡ fold (left_node spans.now keep)
+        (columns top.old links.old color.old) (list_of (columns top.old links.old color.old) i) }
+    ensures cost { result ≡ walk_costs spans.now keep (columns top.old links.old color.old)
+        (list_of (columns top.old links.old color.old) i) }
     ensures few_writes { result ≤ 3 * 2 ^ 62 }
     ensures counted { writes.new.count ≡ writes.old.count + result }
 {
@@ -143,8 +151,10 @@ pub(crate) fn unhide_list(
     requires can { CanUnhideList spans.now keep (columns top.old links.old color.old) i }
     requires unmarked { marks ≡ false → IsUnmarked spans.now (values color.old) }
     requires none { marks ≡ false → keep ≡ None }
-    ensures done { columns top.new links.new color.new ≡ fold (back_node spans.now keep) (columns top.old links.old color.old) (list_back (columns top.old links.old color.old) i) }
-    ensures cost { result ≡ back_costs spans.now keep (columns top.old links.old color.old) (list_back (columns top.old links.old color.old) i) }
+    ensures done { columns top.new links.new color.new ≡ fold (back_node spans.now keep)
+        (columns top.old links.old color.old) (list_back (columns top.old links.old color.old) i) }
+    ensures cost { result ≡ back_costs spans.now keep (columns top.old links.old color.old)
+        (list_back (columns top.old links.old color.old) i) }
     ensures few_writes { result ≤ 3 * 2 ^ 62 }
     ensures counted { writes.new.count ≡ writes.old.count + result }
 {
@@ -169,8 +179,10 @@ pub(crate) fn unhide_among_marks(
     writes: &mut Writes,
 ) -> u64
     requires { CanUnhideList spans.now keep (columns top.old links.old color.old) i }
-    ensures done { columns top.new links.new color.new ≡ fold (back_node spans.now keep) (columns top.old links.old color.old) (list_back (columns top.old links.old color.old) i) }
-    ensures cost { result ≡ back_costs spans.now keep (columns top.old links.old color.old) (list_back (columns top.old links.old color.old) i) }
+    ensures done { columns top.new links.new color.new ≡ fold (back_node spans.now keep)
+        (columns top.old links.old color.old) (list_back (columns top.old links.old color.old) i) }
+    ensures cost { result ≡ back_costs spans.now keep (columns top.old links.old color.old)
+        (list_back (columns top.old links.old color.old) i) }
     ensures few_writes { result ≤ 3 * 2 ^ 62 }
     ensures counted { writes.new.count ≡ writes.old.count + result }
 {

@@ -30,7 +30,8 @@ fn tweak(standing: &Trail, live: &mut OptionLists, item: u32)
     requires item { IsItem standing.now.puzzle item }
     requires lists { live.old.lists ≡ lists_after standing.now.puzzle standing.now.trail }
     requires option { 0 < length (list_at live.old.lists (item - 1)) }
-    ensures { live.new ≡ record live.old { lists = lists_after standing.now.puzzle (Move.Tweak item ∷ standing.now.trail) } }
+    ensures { live.new ≡ record live.old
+        { lists = lists_after standing.now.puzzle (Move.Tweak item ∷ standing.now.trail) } }
 {
     let first = live.list(item - 1)[0];
     hide_if_open(standing, live, item, first);
@@ -42,7 +43,11 @@ fn tweak(standing: &Trail, live: &mut OptionLists, item: u32)
 fn hide_options(standing: &Trail, live: &mut OptionLists, item: u32, kept: Option<u32>)
     requires item { IsItem standing.now.puzzle item }
     requires lists { AreLists standing.now.puzzle live.old.lists }
-    ensures { live.new ≡ record live.old { lists = lose standing.now.trail item (filter (λ o. not (is_kept standing.now.puzzle item kept o)) (list_at live.old.lists (item - 1))) live.old.lists } }
+    ensures { live.new ≡ record live.old {
+      lists = lose standing.now.trail item
+          (filter (λ o. not (is_kept standing.now.puzzle item kept o)) (list_at live.old.lists (item - 1)))
+          live.old.lists;
+    } }
 {
     for at in 0..live.list(item - 1).len() {
         let option = live.list(item - 1)[at];
@@ -70,7 +75,10 @@ fn hide_if_open(standing: &Trail, live: &mut OptionLists, item: u32, option: u32
     requires item { IsItem standing.now.puzzle item }
     requires option { IsOption standing.now.puzzle option }
     requires lists { AreLists standing.now.puzzle live.old.lists }
-    ensures { live.new ≡ record live.old { lists = if is_open item standing.now.trail then lose standing.now.trail item (option ∷ []) live.old.lists else live.old.lists } }
+    ensures { live.new ≡ record live.old {
+      lists = if is_open item standing.now.trail then lose standing.now.trail item (option ∷ []) live.old.lists else
+          live.old.lists;
+    } }
 {
     if standing.is_open(item) {
         hide(standing, live, item, option);

@@ -1,7 +1,9 @@
 //! Lists of option numbers that can go back to how they were.
-ghost use Rattle.std.specs.Prelude.{◌≡◌, ◌+◌, ◌<◌, [], ◌∷◌, length, reverse, slice_index, slice_set, sum_by, vec_capacity, IfOk, IfSome, IsNone, MatchOption};
+ghost use Rattle.std.specs.Prelude.{◌≡◌, ◌+◌, ◌<◌, [], ◌∷◌, length, reverse, slice_index, slice_set, sum_by};
+ghost use Rattle.std.specs.Prelude.{vec_capacity, IfOk, IfSome, IsNone, MatchOption};
 ghost use Rattle.xc_dance.specs.inner.Lists.Rising.{Rises};
-ghost use Rattle.xc_dance.specs.inner.Lists.Taking.{numbers_of, rooms_of, list_at, less, put_back, restored, still_taken, HasRoom, IsPutBack, Fits};
+ghost use Rattle.xc_dance.specs.inner.Lists.Taking.{numbers_of, rooms_of, list_at, less, put_back, restored};
+ghost use Rattle.xc_dance.specs.inner.Lists.Taking.{still_taken, HasRoom, IsPutBack, Fits};
 
 use std::alloc::{AllocError, Global};
 use std::marker::Model;
@@ -87,7 +89,8 @@ impl OptionLists {
     pub(crate) fn take_out(&mut self, list: u32, number: u32)
         requires list { list < length self.old.lists }
         requires rises { Rises 0 (list_at self.old.lists list) }
-        ensures { self.new ≡ record self.old { lists = slice_set self.old.lists list (less (number ∷ []) (list_at self.old.lists list)) } }
+        ensures { self.new ≡ record self.old
+            { lists = slice_set self.old.lists list (less (number ∷ []) (list_at self.old.lists list)) } }
     {
         if let Some(place) = remove(&mut self.lists, list, number) {
             self.taken.push_reserved(Removed {
@@ -125,10 +128,13 @@ fn total(lists: &[Vec<u32>]) -> Option<usize>
 fn remove(lists: &mut Vec<Vec<u32>>, list: u32, number: u32) -> Option<usize>
     requires list { list < length lists.old.items }
     requires rises { Rises 0 (list_at (numbers_of lists.old.items) list) }
-    ensures lists { numbers_of lists.new.items ≡ slice_set (numbers_of lists.old.items) list (less (number ∷ []) (list_at (numbers_of lists.old.items) list)) }
+    ensures lists { numbers_of lists.new.items ≡ slice_set (numbers_of lists.old.items) list
+        (less (number ∷ []) (list_at (numbers_of lists.old.items) list)) }
     ensures rooms { rooms_of lists.new.items ≡ rooms_of lists.old.items }
     ensures none { IsNone result → numbers_of lists.new.items ≡ numbers_of lists.old.items }
-    ensures back { IfSome result (λ place. IsPutBack (rooms_of lists.old.items) (record { place = place; list = list; number = number }) (numbers_of lists.new.items) (numbers_of lists.old.items)) }
+    ensures back { IfSome result
+        (λ place. IsPutBack (rooms_of lists.old.items) (record { place = place; list = list; number = number })
+        (numbers_of lists.new.items) (numbers_of lists.old.items)) }
 {
     let row = &mut lists[list as usize];
     let place = place_of(row.as_slice(), number)?;
@@ -139,7 +145,8 @@ fn remove(lists: &mut Vec<Vec<u32>>, list: u32, number: u32) -> Option<usize>
 /// The place of the number, if it is there.
 fn place_of(numbers: &[u32], number: u32) -> Option<usize>
     requires { Rises 0 numbers.now }
-    ensures { MatchOption result (less (number ∷ []) numbers.now ≡ numbers.now) (λ place. (place < length numbers.now) × (slice_index numbers.now place ≡ number)) }
+    ensures { MatchOption result (less (number ∷ []) numbers.now ≡ numbers.now)
+        (λ place. (place < length numbers.now) × (slice_index numbers.now place ≡ number)) }
 {
     match numbers.binary_search(&number) {
         Ok(place) => Some(place),
@@ -164,7 +171,8 @@ fn restore(lists: &mut Vec<Vec<u32>>, taken: &mut Vec<Removed>, mark: usize)
     ensures taken { reverse taken.new.items ≡ still_taken mark (reverse taken.old.items) }
     ensures fits { Fits (rooms_of lists.new.items) (reverse taken.new.items) (numbers_of lists.new.items) }
     ensures room { vec_capacity taken.new ≡ vec_capacity taken.old }
-    ensures count { length taken.new.items + sum_by length (numbers_of lists.new.items) ≡ length taken.old.items + sum_by length (numbers_of lists.old.items) }
+    ensures count { length taken.new.items + sum_by length (numbers_of lists.new.items) ≡ length taken.old.items +
+        sum_by length (numbers_of lists.old.items) }
 {
     while taken.len() > mark {
         if let Some(entry) = taken.pop() {

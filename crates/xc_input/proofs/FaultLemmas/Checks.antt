@@ -1,5 +1,7 @@
 -- Checks in their order.
-use Rattle.std.proofs.Common.{◌≡◌, ℕ, suc, ◌+◌, ◌<◌, ◌≤◌, List, [], ◌∷◌, ◌++◌, Option, None, Some, Bool, true, false, ◌||◌, not, nat_lt, is_none, is_some, length, map, position, refl, ap, ◌∙◌, sym, subst, arith, if◌then◌else◌, Result, Ok, Err, Vec, Global, vec_len}
+use Rattle.std.proofs.Common.{◌≡◌, ℕ, suc, ◌+◌, ◌<◌, ◌≤◌, List, [], ◌∷◌, ◌++◌, Option, None, Some, Bool, true, false}
+use Rattle.std.proofs.Common.{◌||◌, not, nat_lt, is_none, is_some, length, map, position, refl, ap, ◌∙◌, sym, subst}
+use Rattle.std.proofs.Common.{arith, if◌then◌else◌, Result, Ok, Err, Vec, Global, vec_len}
 use Rattle.std.proofs.lemmas.Bool.Decides.{nat_tests}
 use Rattle.std.specs.List.{list_any, position_or_len}
 use Rattle.std.specs.Str.{bytes_eq}
@@ -25,14 +27,16 @@ use Rattle.xc_input.proofs.TokenLemmas.Bytes.{not_false, position-map}
 pub first-front : {A : Type 0} (a b : List (A × Bool)) (k : A) → first a ≡ Some k → first (a ++ b) ≡ Some k
 first-front [] b k e = absurd (cc)
 first-front (c ∷ cs) b k e =
-    let P : Bool → Type 0 = λ t. (if t then Some c.0 else first cs) ≡ Some k → (if t then Some c.0 else first (cs ++ b)) ≡ Some k in
+    let P : Bool → Type 0 =
+    λ t. (if t then Some c.0 else first cs) ≡ Some k → (if t then Some c.0 else first (cs ++ b)) ≡ Some k in
     let h : P c.1 = (elim c.1 as P [ true ↦ λ f. f | false ↦ λ f. first-front cs b k f ]) in h e
 
 -- where none of the first ones holds, the later ones decide
 pub first-back : {A : Type 0} (a b : List (A × Bool)) → first a ≡ None → first (a ++ b) ≡ first b
 first-back [] b e = refl
 first-back (c ∷ cs) b e =
-    let P : Bool → Type 0 = λ t. (if t then Some c.0 else first cs) ≡ None → (if t then Some c.0 else first (cs ++ b)) ≡ first b in
+    let P : Bool → Type 0 =
+    λ t. (if t then Some c.0 else first cs) ≡ None → (if t then Some c.0 else first (cs ++ b)) ≡ first b in
     let h : P c.1 = (elim c.1 as P [ true ↦ λ f. absurd (cc) | false ↦ λ f. first-back cs b f ]) in h e
 
 pub first-all : {A : Type 0} (a b : List (A × Bool)) → first a ≡ None → first b ≡ None → first (a ++ b) ≡ None
@@ -47,7 +51,8 @@ some-is None e = absurd (cc)
 some-is (Some x) e = (x, refl)
 
 -- the answer that a caller hands on
-pub hands-on : (S T : Type 0) (a : Option FaultKind) (p q : List (FaultKind × Bool)) (e : LineError) → a ≡ first (p ++ q) → Judged {T = S} (first p) (Err e) → Judged {T = T} a (Err e)
+pub hands-on : (S T : Type 0) (a : Option FaultKind) (p q : List (FaultKind × Bool)) (e : LineError)
+    → a ≡ first (p ++ q) → Judged {T = S} (first p) (Err e) → Judged {T = T} a (Err e)
 hands-on S T a p q (Fault k) f h = f ∙ first-front p q k h
 hands-on S T a p q Memory f h = tt
 
@@ -64,32 +69,74 @@ names_of-length [] = refl
 names_of-length (e ∷ es) = ap suc (names_of-length es)
 
 -- a token of the item line, behind these entries
-module _ (kind : Kind) (entries : List Entry) (bar : Option ℕ) (sec : Bool) (token : List ℕ) (s : sec ≡ is_some bar) where
-  pub bad-bound : (k : FaultKind) → first (bound_checks kind sec token) ≡ Some k → first (item_checks kind (names_of entries) (is_some bar) token) ≡ Some k
-  bad-bound k e = first-front (bound_checks kind (is_some bar) token) (name_checks (name_of kind token) ++ (RepeatedName, not (is_none (place (names_of entries) (name_of kind token)))) ∷ (TooManyItems, not (nat_lt (length (names_of entries)) most_items)) ∷ []) k
+module _ (kind : Kind) (entries : List Entry) (bar : Option ℕ) (sec : Bool) (token : List ℕ)
+    (s : sec ≡ is_some bar) where
+  pub bad-bound : (k : FaultKind) → first (bound_checks kind sec token) ≡ Some k
+      → first (item_checks kind (names_of entries) (is_some bar) token) ≡ Some k
+  bad-bound k e =
+      first-front (bound_checks kind (is_some bar) token)
+      (name_checks (name_of kind token) ++
+      (RepeatedName, not (is_none (place (names_of entries) (name_of kind token)))) ∷
+      (TooManyItems, not (nat_lt (length (names_of entries)) most_items)) ∷ []) k
       (ap (λ b. first (bound_checks kind b token)) (sym s) ∙ e)
 
-  module _ (name : List ℕ) (low high : ℕ) (t : (first (bound_checks kind sec token) ≡ None) × (record { name = name; low = low; high = high } ≡ entry kind sec token)) where
-    behind : first (item_checks kind (names_of entries) (is_some bar) token) ≡ first (name_checks name ++ (RepeatedName, not (is_none (place (names_of entries) name))) ∷ (TooManyItems, not (nat_lt (length (names_of entries)) most_items)) ∷ [])
-    behind = first-back (bound_checks kind (is_some bar) token) (name_checks (name_of kind token) ++ (RepeatedName, not (is_none (place (names_of entries) (name_of kind token)))) ∷ (TooManyItems, not (nat_lt (length (names_of entries)) most_items)) ∷ []) (ap (λ b. first (bound_checks kind b token)) (sym s) ∙ t.0)
-        ∙ ap (λ (e : Entry). first (name_checks e.name ++ (RepeatedName, not (is_none (place (names_of entries) e.name))) ∷ (TooManyItems, not (nat_lt (length (names_of entries)) most_items)) ∷ [])) (sym t.1)
+  module _ (name : List ℕ) (low high : ℕ)
+      (t : (first (bound_checks kind sec token) ≡ None)
+      × (record { name = name; low = low; high = high } ≡ entry kind sec token)) where
+    behind : first (item_checks kind (names_of entries) (is_some bar) token) ≡ first
+        (name_checks name ++ (RepeatedName, not (is_none (place (names_of entries) name))) ∷
+        (TooManyItems, not (nat_lt (length (names_of entries)) most_items)) ∷ [])
+    behind =
+        first-back (bound_checks kind (is_some bar) token)
+        (name_checks (name_of kind token) ++
+        (RepeatedName, not (is_none (place (names_of entries) (name_of kind token)))) ∷
+        (TooManyItems, not (nat_lt (length (names_of entries)) most_items)) ∷ [])
+        (ap (λ b. first (bound_checks kind b token)) (sym s) ∙ t.0)
+        ∙ ap (λ (e : Entry). first
+        (name_checks e.name ++ (RepeatedName, not (is_none (place (names_of entries) e.name))) ∷
+        (TooManyItems, not (nat_lt (length (names_of entries)) most_items)) ∷ [])) (sym t.1)
 
-    pub bad-name : (o : Option FaultKind) (k : FaultKind) → o ≡ first (name_checks name) → o ≡ Some k → first (item_checks kind (names_of entries) (is_some bar) token) ≡ Some k
-    bad-name o k f e = behind ∙ first-front (name_checks name) ((RepeatedName, not (is_none (place (names_of entries) name))) ∷ (TooManyItems, not (nat_lt (length (names_of entries)) most_items)) ∷ []) k (sym f ∙ e)
+    pub bad-name : (o : Option FaultKind) (k : FaultKind) → o ≡ first (name_checks name) → o ≡ Some k
+        → first (item_checks kind (names_of entries) (is_some bar) token) ≡ Some k
+    bad-name o k f e = behind
+        ∙ first-front (name_checks name)
+        ((RepeatedName, not (is_none (place (names_of entries) name))) ∷
+        (TooManyItems, not (nat_lt (length (names_of entries)) most_items)) ∷ []) k (sym f ∙ e)
 
-    module _ (o : Option FaultKind) (f : o ≡ first (name_checks name)) (e : o ≡ None) (keys : List (List ℕ)) (link : keys ≡ names_of entries) (at : Option ℕ) (is : at ≡ place keys name) where
-      past-name : first (item_checks kind (names_of entries) (is_some bar) token) ≡ (if not (is_none at) then Some RepeatedName else (if not (nat_lt (length (names_of entries)) most_items) then Some TooManyItems else None))
-      past-name = behind ∙ first-back (name_checks name) ((RepeatedName, not (is_none (place (names_of entries) name))) ∷ (TooManyItems, not (nat_lt (length (names_of entries)) most_items)) ∷ []) (sym f ∙ e)
-          ∙ ap (λ q. if not (is_none q) then Some RepeatedName else (if not (nat_lt (length (names_of entries)) most_items) then Some TooManyItems else None)) (sym (is ∙ ap (λ ns. place ns name) link))
+    module _ (o : Option FaultKind) (f : o ≡ first (name_checks name)) (e : o ≡ None) (keys : List (List ℕ))
+        (link : keys ≡ names_of entries) (at : Option ℕ) (is : at ≡ place keys name) where
+      past-name : first (item_checks kind (names_of entries) (is_some bar) token) ≡
+          (if not (is_none at) then Some RepeatedName else
+          (if not (nat_lt (length (names_of entries)) most_items) then Some TooManyItems else None))
+      past-name =
+          behind ∙ first-back (name_checks name)
+          ((RepeatedName, not (is_none (place (names_of entries) name))) ∷
+          (TooManyItems, not (nat_lt (length (names_of entries)) most_items)) ∷ []) (sym f ∙ e)
+          ∙ ap (λ q. if not (is_none q) then Some RepeatedName else
+          (if not (nat_lt (length (names_of entries)) most_items) then Some TooManyItems else None))
+          (sym (is ∙ ap (λ ns. place ns name) link))
 
-      pub at-new : (b : Bool) → b ≡ is_some at → b ≡ false → first (item_checks kind (names_of entries) (is_some bar) token) ≡ (if not (nat_lt (length (names_of entries)) most_items) then Some TooManyItems else None)
-      at-new b g h = past-name ∙ ap (λ q. if not (is_none q) then Some RepeatedName else (if not (nat_lt (length (names_of entries)) most_items) then Some TooManyItems else None)) (none-is at (sym g ∙ h))
+      pub at-new : (b : Bool) → b ≡ is_some at → b ≡ false
+          → first (item_checks kind (names_of entries) (is_some bar) token) ≡
+          (if not (nat_lt (length (names_of entries)) most_items) then Some TooManyItems else None)
+      at-new b g h = past-name
+          ∙ ap (λ q. if not (is_none q) then Some RepeatedName else
+          (if not (nat_lt (length (names_of entries)) most_items) then Some TooManyItems else None))
+          (none-is at (sym g ∙ h))
 
-      pub too-many : (b : Bool) (n : ℕ) → b ≡ is_some at → b ≡ false → n ≡ length entries → 100000 ≤ n → first (item_checks kind (names_of entries) (is_some bar) token) ≡ Some TooManyItems
-      too-many b n g h l m = at-new b g h ∙ ap (λ t. if not t then Some TooManyItems else None) (let c : length (names_of entries) ≡ length entries = names_of-length entries in let d : nat_lt (length (names_of entries)) most_items ≡ false = grind (arith, nat_tests) in d)
+      pub too-many : (b : Bool) (n : ℕ) → b ≡ is_some at → b ≡ false → n ≡ length entries → 100000 ≤ n
+          → first (item_checks kind (names_of entries) (is_some bar) token) ≡ Some TooManyItems
+      too-many b n g h l m = at-new b g h
+          ∙ ap (λ t. if not t then Some TooManyItems else None)
+          (let c : length (names_of entries) ≡ length entries = names_of-length entries in let d : nat_lt
+          (length (names_of entries)) most_items ≡ false = grind (arith, nat_tests) in d)
 
-      pub no-fault : (b : Bool) (n : ℕ) → b ≡ is_some at → b ≡ false → n ≡ length entries → n < 100000 → first (item_checks kind (names_of entries) (is_some bar) token) ≡ None
-      no-fault b n g h l m = at-new b g h ∙ ap (λ t. if not t then Some TooManyItems else None) (let c : length (names_of entries) ≡ length entries = names_of-length entries in let d : nat_lt (length (names_of entries)) most_items ≡ true = grind (arith, nat_tests) in d)
+      pub no-fault : (b : Bool) (n : ℕ) → b ≡ is_some at → b ≡ false → n ≡ length entries → n < 100000
+          → first (item_checks kind (names_of entries) (is_some bar) token) ≡ None
+      no-fault b n g h l m = at-new b g h
+          ∙ ap (λ t. if not t then Some TooManyItems else None)
+          (let c : length (names_of entries) ≡ length entries = names_of-length entries in let d : nat_lt
+          (length (names_of entries)) most_items ≡ true = grind (arith, nat_tests) in d)
 
 pub map-snoc : {A B : Type 0} (f : A → B) (xs : List A) (x : A) → map f (xs ++ x ∷ []) ≡ map f xs ++ f x ∷ []
 map-snoc f [] x = refl
@@ -102,20 +149,34 @@ map-length f (x ∷ xs) = ap suc (map-length f xs)
 found : {A : Type 0} (p : A → Bool) (xs : List A) → list_any p xs ≡ true → position_or_len p xs < length xs
 found p [] f = absurd (cc)
 found p (x ∷ xs) f =
-    let P : Bool → Type 0 = λ t. (t || list_any p xs) ≡ true → (if not t then 1 + position_or_len p xs else 0) < length (x ∷ xs) in
-    let h : P (p x) = (elim (p x) as P [ true ↦ λ g. omega arith | false ↦ λ g. let r : position_or_len p xs < length xs = found p xs g in omega arith ]) in h f
+    let P : Bool → Type 0 =
+    λ t. (t || list_any p xs) ≡ true → (if not t then 1 + position_or_len p xs else 0) < length (x ∷ xs) in
+    let h : P (p x) =
+    (elim (p x) as P [
+      | true ↦ λ g. omega arith
+      | false ↦ λ g. let r : position_or_len p xs < length xs = found p xs
+          g in omega arith
+    ]) in h f
 
 -- a place that isn't there
 pub no-place : {A : Type 0} (p : A → Bool) (xs : List A) → position p xs ≡ None → list_any p xs ≡ false
-no-place p xs e = not_false (list_any p xs) (λ f. let lt : position_or_len p xs < length xs = found p xs f in let t : nat_lt (position_or_len p xs) (length xs) ≡ true = grind (arith, nat_tests) in
-    let g : position p xs ≡ Some (position_or_len p xs) = ap (λ b. if b then Some (position_or_len p xs) else None) t in absurd (cc))
+no-place p xs e =
+    not_false (list_any p xs)
+    (λ f. let lt : position_or_len p xs < length xs =
+    found p xs f in let t : nat_lt (position_or_len p xs) (length xs) ≡ true = grind (arith, nat_tests) in
+    let g : position p xs ≡ Some (position_or_len p xs) =
+    ap (λ b. if b then Some (position_or_len p xs) else None) t in absurd (cc))
 
 -- the keys behind one that is new
-pub new-key : (keys : List (Vec ℕ Global)) (k : Vec ℕ Global) (all : List (Vec ℕ Global)) (name : List ℕ) → position (bytes_eq name) (key_names keys) ≡ None → k.items ≡ name
-    → all ≡ (if list_any (λ v. bytes_eq k.items v.items) keys then keys else keys ++ k ∷ []) → key_names all ≡ key_names keys ++ name ∷ []
+pub new-key : (keys : List (Vec ℕ Global)) (k : Vec ℕ Global) (all : List (Vec ℕ Global)) (name : List ℕ)
+    → position (bytes_eq name) (key_names keys) ≡ None → k.items ≡ name
+    → all ≡ (if list_any (λ v. bytes_eq k.items v.items) keys then keys else keys ++ k ∷ [])
+    → key_names all ≡ key_names keys ++ name ∷ []
 new-key keys k all name e f g =
-    let out : list_any (λ v. bytes_eq name v.items) keys ≡ false = no-place (λ v. bytes_eq name v.items) keys (sym (position-map (bytes_eq name) (λ v. v.items) keys) ∙ e) in
-    let out' : list_any (λ v. bytes_eq k.items v.items) keys ≡ false = ap (λ n. list_any (λ (v : Vec ℕ Global). bytes_eq n v.items) keys) f ∙ out in
+    let out : list_any (λ v. bytes_eq name v.items) keys ≡ false =
+    no-place (λ v. bytes_eq name v.items) keys (sym (position-map (bytes_eq name) (λ v. v.items) keys) ∙ e) in
+    let out' : list_any (λ v. bytes_eq k.items v.items) keys ≡ false =
+    ap (λ n. list_any (λ (v : Vec ℕ Global). bytes_eq n v.items) keys) f ∙ out in
     let h : all ≡ keys ++ k ∷ [] = g ∙ ap (λ b. if b then keys else keys ++ k ∷ []) out' in
     ap key_names h ∙ map-snoc (λ (v : Vec ℕ Global). v.items) keys k ∙ ap (λ n. key_names keys ++ n ∷ []) f
 
@@ -124,36 +185,61 @@ pub judged-on : (T : Type 0) (a : Option FaultKind) (r : Result T LineError) →
 judged-on T a r e j = subst (λ f. Judged f r) (sym e) j
 
 -- one item more
-pub grown : (kind : Kind) (bar : Option ℕ) (sec : Bool) (token : List ℕ) → sec ≡ is_some bar → (P : List (List ℕ) → Type 0) (keys keys' : List (List ℕ)) (items items' : List Item) (e : Entry) → e ≡ entry kind sec token → (keys ≡ names_of (map entry_of items)) × (length items ≤ most_items) × P keys
+pub grown : (kind : Kind) (bar : Option ℕ) (sec : Bool) (token : List ℕ) → sec ≡ is_some bar
+    → (P : List (List ℕ) → Type 0) (keys keys' : List (List ℕ)) (items items' : List Item) (e : Entry)
+    → e ≡ entry kind sec token → (keys ≡ names_of (map entry_of items)) × (length items ≤ most_items) × P keys
     → P keys' → keys' ≡ keys ++ e.name ∷ [] → length items < 100000 → map entry_of items' ≡ map entry_of items ++ e ∷ []
-    → ((keys' ≡ names_of (map entry_of items')) × (length items' ≤ most_items) × P keys') × (map entry_of items' ≡ map entry_of items ++ entry kind (is_some bar) token ∷ [])
+    → ((keys' ≡ names_of (map entry_of items')) × (length items' ≤ most_items) × P keys')
+    × (map entry_of items' ≡ map entry_of items ++ entry kind (is_some bar) token ∷ [])
 grown kind bar sec token s P keys keys' items items' e is n p k m all =
-    let l : length items' ≡ length items + 1 = sym (map-length entry_of items') ∙ ap length all ∙ grind (arith, common_steps, map-length entry_of items) in (
-      (k ∙ ap (λ ns. ns ++ e.name ∷ []) n.0 ∙ sym (names_of-snoc (map entry_of items) e) ∙ ap names_of (sym all), omega arith, p),
+    let l : length items' ≡ length items + 1 =
+    sym (map-length entry_of items') ∙ ap length all ∙ grind (arith, common_steps, map-length entry_of items) in (
+      (
+        k ∙ ap (λ ns. ns ++ e.name ∷ []) n.0 ∙ sym (names_of-snoc (map entry_of items) e)
+            ∙ ap names_of (sym all),
+        omega arith,
+        p,
+      ),
       all ∙ ap (λ d. map entry_of items ++ d ∷ []) (is ∙ ap (λ b. entry kind b token) s),
     )
 
 -- a step of the loop over the parts
-pub row-step : (kind : Kind) (row next : Row) (line : List (List ℕ)) (part : List ℕ) (parts : List (List ℕ)) (a : Option FaultKind) (b : Row) → a ≡ first (row_checks kind row line) → b ≡ row_of kind row line
-    → line ≡ part ∷ parts → first (part_checks kind row part) ≡ None → next ≡ with_part kind row part → (a ≡ first (row_checks kind next parts)) × (b ≡ row_of kind next parts)
+pub row-step : (kind : Kind) (row next : Row) (line : List (List ℕ)) (part : List ℕ) (parts : List (List ℕ))
+    (a : Option FaultKind) (b : Row) → a ≡ first (row_checks kind row line) → b ≡ row_of kind row line
+    → line ≡ part ∷ parts → first (part_checks kind row part) ≡ None → next ≡ with_part kind row part
+    → (a ≡ first (row_checks kind next parts)) × (b ≡ row_of kind next parts)
 row-step kind row next line part parts a b e f l g h = (
-  e ∙ ap (λ ps. first (row_checks kind row ps)) l ∙ first-back (part_checks kind row part) (row_checks kind (with_part kind row part) parts) g ∙ ap (λ q. first (row_checks kind q parts)) (sym h),
+  e ∙ ap (λ ps. first (row_checks kind row ps)) l
+      ∙ first-back (part_checks kind row part) (row_checks kind (with_part kind row part) parts) g
+      ∙ ap (λ q. first (row_checks kind q parts)) (sym h),
   f ∙ ap (row_of kind row) l ∙ ap (λ q. row_of kind q parts) (sym h),
 )
 
-pub row-stop : (S T : Type 0) (kind : Kind) (row : Row) (line : List (List ℕ)) (part : List ℕ) (parts : List (List ℕ)) (a : Option FaultKind) (e : LineError) → a ≡ first (row_checks kind row line)
+pub row-stop : (S T : Type 0) (kind : Kind) (row : Row) (line : List (List ℕ)) (part : List ℕ) (parts : List (List ℕ))
+    (a : Option FaultKind) (e : LineError) → a ≡ first (row_checks kind row line)
     → line ≡ part ∷ parts → Judged {T = S} (first (part_checks kind row part)) (Err e) → Judged {T = T} a (Err e)
-row-stop S T kind row line part parts a e f l j = hands-on S T a (part_checks kind row part) (row_checks kind (with_part kind row part) parts) e (f ∙ ap (λ ps. first (row_checks kind row ps)) l) j
+row-stop S T kind row line part parts a e f l j =
+    hands-on S T a (part_checks kind row part) (row_checks kind (with_part kind row part) parts) e
+    (f ∙ ap (λ ps. first (row_checks kind row ps)) l) j
 
 pub last-place : {A : Type 0} (p : A → Bool) (xs : List A) → list_any p xs ≡ false → position_or_len p xs ≡ length xs
 last-place p [] e = refl
 last-place p (x ∷ xs) e =
-    let P : Bool → Type 0 = λ t. (t || list_any p xs) ≡ false → (if not t then 1 + position_or_len p xs else 0) ≡ suc (length xs) in
-    let h : P (p x) = (elim (p x) as P [ true ↦ λ g. absurd (cc) | false ↦ λ g. let r : position_or_len p xs ≡ length xs = last-place p xs g in omega arith ]) in h e
+    let P : Bool → Type 0 =
+    λ t. (t || list_any p xs) ≡ false → (if not t then 1 + position_or_len p xs else 0) ≡ suc (length xs) in
+    let h : P (p x) =
+    (elim (p x) as P [
+      | true ↦ λ g. absurd (cc)
+      | false ↦ λ g. let r : position_or_len p xs ≡ length xs = last-place
+          p xs g in omega arith
+    ]) in h e
 
-pub new-place-is : (keys : List (Vec ℕ Global)) (k : Vec ℕ Global) (name : List ℕ) → position (bytes_eq name) (key_names keys) ≡ None → k.items ≡ name → position_or_len (λ v. bytes_eq k.items v.items) keys ≡ length keys
+pub new-place-is : (keys : List (Vec ℕ Global)) (k : Vec ℕ Global) (name : List ℕ)
+    → position (bytes_eq name) (key_names keys) ≡ None → k.items ≡ name
+    → position_or_len (λ v. bytes_eq k.items v.items) keys ≡ length keys
 new-place-is keys k name e f =
-    last-place (λ v. bytes_eq k.items v.items) keys (ap (λ n. list_any (λ (v : Vec ℕ Global). bytes_eq n v.items) keys) f
+    last-place (λ v. bytes_eq k.items v.items) keys
+    (ap (λ n. list_any (λ (v : Vec ℕ Global). bytes_eq n v.items) keys) f
     ∙ no-place (λ v. bytes_eq name v.items) keys (sym (position-map (bytes_eq name) (λ v. v.items) keys) ∙ e))
 
 pub items-length : {A : Type 0} (v : Vec A Global) → vec_len v ≡ length v.items
@@ -162,7 +248,8 @@ items-length v = grind (arith, common_steps)
 pub length-items : (v : Vec Item Global) → vec_len v ≡ length (map entry_of v.items)
 length-items v = items-length v ∙ sym (map-length entry_of v.items)
 
-pub IsErr-judged : (T S : Type 0) (a : Option FaultKind) (r : Result T LineError) (e : LineError) (P : LineError → Type 0) → IsErrAnd r P → ((x : LineError) → P x → x ≡ e) → Judged {T = S} a (Err e) → Judged a r
+pub IsErr-judged : (T S : Type 0) (a : Option FaultKind) (r : Result T LineError) (e : LineError)
+    (P : LineError → Type 0) → IsErrAnd r P → ((x : LineError) → P x → x ≡ e) → Judged {T = S} a (Err e) → Judged a r
 IsErr-judged T S a (Ok x) e P h f j = absurd h
 IsErr-judged T S a (Err (Fault k)) e P h f j = subst (λ d. Judged {T = S} a (Err d)) (sym (f (Fault k) h)) j
 IsErr-judged T S a (Err Memory) e P h f j = tt

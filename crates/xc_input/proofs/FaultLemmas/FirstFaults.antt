@@ -1,5 +1,7 @@
 -- The first fault of a text is the first one of its lines as they are read, one after another.
-use Rattle.std.proofs.Common.{◌≡◌, ℕ, ◌+◌, List, [], ◌∷◌, ◌++◌, Option, None, Some, Bool, true, false, ◌||◌, ◌&&◌, cond, not, nat_le, nat_lt, is_some, length, map, filter, sum_by, refl, ap, ◌∙◌, sym, subst, arith, if◌then◌else◌, append_assoc, append-nil, inl, inr}
+use Rattle.std.proofs.Common.{◌≡◌, ℕ, ◌+◌, List, [], ◌∷◌, ◌++◌, Option, None, Some, Bool, true, false, ◌||◌, ◌&&◌, cond}
+use Rattle.std.proofs.Common.{not, nat_le, nat_lt, is_some, length, map, filter, sum_by, refl, ap, ◌∙◌, sym, subst}
+use Rattle.std.proofs.Common.{arith, if◌then◌else◌, append_assoc, append-nil, inl, inr}
 use Rattle.std.proofs.lemmas.Grind.{common_steps}
 use Rattle.std.proofs.lemmas.List.{map-append}
 use Rattle.std.proofs.lemmas.List.Elements.{filter-append}
@@ -18,18 +20,24 @@ use Rattle.xc_input.specs.Tokens.{tokens, parts, is_bar, is_skipped}
 use Rattle.xc_input.specs.Sheets.{Entry}
 use Rattle.xc_input.specs.inner.Sheets.{Sheet, names_of, with_uses}
 use Rattle.xc_input.proofs.GrammarLemmas.SheetGrammar.{named_of}
-use Rattle.xc_input.specs.Faults.{first, checks_of_each, name_of, item_checks, item_names, part_checks, Context, context_of, item_of, token_checks, has_primary}
-use Rattle.xc_input.specs.FirstFault.{line_number, content, is_kept, kept_uses, option_checks, content_checks, line_checks, line_fault, first_fault}
+use Rattle.xc_input.specs.Faults.{first, checks_of_each, name_of, item_checks, item_names, part_checks, Context}
+use Rattle.xc_input.specs.Faults.{context_of, item_of, token_checks, has_primary}
+use Rattle.xc_input.specs.FirstFault.{line_number, content, is_kept, kept_uses, option_checks, content_checks}
+use Rattle.xc_input.specs.FirstFault.{line_checks, line_fault, first_fault}
 use Rattle.xc_input.specs.inner.ColourNumbers.{numbered}
-use Rattle.xc_input.specs.inner.Stages.{entry, row_checks, with_part, row_of, no_row, context, written, Stage, no_stage, with_line, stage_from, stage_of}
-use Rattle.xc_input.specs.inner.Stages.{part_checks as row_part_checks, option_checks as tokens_checks, content_checks as stage_content, line_checks as stage_checks}
+use Rattle.xc_input.specs.inner.Stages.{entry, row_checks, with_part, row_of, no_row, context, written, Stage, no_stage}
+use Rattle.xc_input.specs.inner.Stages.{with_line, stage_from, stage_of}
+use Rattle.xc_input.specs.inner.Stages.{part_checks as row_part_checks, option_checks as tokens_checks}
+use Rattle.xc_input.specs.inner.Stages.{content_checks as stage_content, line_checks as stage_checks}
 use Rattle.xc_input.specs.Named.{Named}
 use Rattle.xc_input.specs.Text.{StandsFor}
 use Rattle.xc_input.proofs.GrammarLemmas.Standing.{read-stands, stands-read}
 use Rattle.xc_input.proofs.ValidLemmas.SheetValidity.{IsSheetOf}
 use Rattle.xc_input.proofs.FaultLemmas.Checks.{names_of-snoc, map-snoc, map-length}
 use Rattle.xc_input.proofs.OptionLemmas.Items.{ItemsBehind, behind-items}
-use Rattle.xc_input.proofs.GrammarLemmas.LawLemmas.{fault_from, end_fault, fault_or, R, S, P, at-bar, at-word, row-good, clear, lineuses, skips, keeps, drops, count-next, item-line, no-line, lines-good, good-lines}
+use Rattle.xc_input.proofs.GrammarLemmas.LawLemmas.{fault_from, end_fault, fault_or, R, S, P, at-bar, at-word, row-good}
+use Rattle.xc_input.proofs.GrammarLemmas.LawLemmas.{clear, lineuses, skips, keeps, drops, count-next, item-line}
+use Rattle.xc_input.proofs.GrammarLemmas.LawLemmas.{no-line, lines-good, good-lines}
 
 -- NUMBERED CHECKS
 first-numbered : {N A : Type 0} (n : N) (cs : List (A × Bool)) (rest : List ((N × A) × Bool))

@@ -1,15 +1,19 @@
 -- Checks that don't hold, and what they say of a token.
-use Rattle.std.proofs.Common.{◌≡◌, ℕ, ◌<◌, ◌≤◌, List, [], ◌∷◌, ◌++◌, Option, None, Some, Bool, true, false, ◌||◌, ◌&&◌, not, nat_lt, nat_le, nat_eq, is_none, length, refl, ap, ◌∙◌, sym, subst, arith, if◌then◌else◌, inl, inr, ◌⊎◌}
+use Rattle.std.proofs.Common.{◌≡◌, ℕ, ◌<◌, ◌≤◌, List, [], ◌∷◌, ◌++◌, Option, None, Some, Bool, true, false, ◌||◌, ◌&&◌}
+use Rattle.std.proofs.Common.{not, nat_lt, nat_le, nat_eq, is_none, length, refl, ap, ◌∙◌, sym, subst, arith}
+use Rattle.std.proofs.Common.{if◌then◌else◌, inl, inr, ◌⊎◌}
 use Rattle.xc_input.specs.inner.BoundTexts.{low_text, high_text}
 use Rattle.std.specs.Char.{is_ascii_digit}
 use Rattle.std.proofs.lemmas.Bool.Decides.{nat_tests}
 use Rattle.std.proofs.lemmas.Bool.{eqb-true}
 use Rattle.xc_input.specs.declared.kind.Kind.{Kind}
 use Rattle.xc_input.specs.declared.fault.FaultKind.{FaultKind}
-use Rattle.xc_input.specs.declared.fault.FaultKind.TheVariants.{EmptyName, NameTooLong, BadByteInName, RepeatedName, BadBound, BoundOrder, BoundOnSecondary, TooManyItems}
+use Rattle.xc_input.specs.declared.fault.FaultKind.TheVariants.{EmptyName, NameTooLong, BadByteInName, RepeatedName}
+use Rattle.xc_input.specs.declared.fault.FaultKind.TheVariants.{BadBound, BoundOrder, BoundOnSecondary, TooManyItems}
 use Rattle.xc_input.specs.Words.{has, before, after, place, are_digits, number}
 use Rattle.xc_input.specs.Sheets.{Entry}
-use Rattle.xc_input.specs.Faults.{first, is_bounds, name_checks, has_prefix, name_of, prefix_checks, bound_checks, item_checks}
+use Rattle.xc_input.specs.Faults.{first, is_bounds, name_checks, has_prefix, name_of, prefix_checks, bound_checks}
+use Rattle.xc_input.specs.Faults.{item_checks}
 use Rattle.xc_input.specs.inner.Stages.{entry}
 use Rattle.xc_input.specs.Limits.{most_items}
 use Rattle.xc_input.specs.Named.{IsName}
@@ -21,14 +25,17 @@ use Rattle.std.specs.List.{list_all}
 pub split : {A : Type 0} (a b : List (A × Bool)) → first (a ++ b) ≡ None → (first a ≡ None) × (first b ≡ None)
 split [] b e = (refl, e)
 split (c ∷ cs) b e =
-    let P : Bool → Type 0 = λ t. (if t then Some c.0 else first (cs ++ b)) ≡ None → ((if t then Some c.0 else first cs) ≡ None) × (first b ≡ None) in
+    let P : Bool → Type 0 = λ t. (if t then Some c.0 else first (cs ++ b)) ≡ None
+    → ((if t then Some c.0 else first cs) ≡ None) × (first b ≡ None) in
     let h : P c.1 = (elim c.1 as P [ true ↦ λ f. absurd (cc) | false ↦ λ f. split cs b f ]) in h e
 
-pub head : {A : Type 0} (k : A) (b : Bool) (cs : List (A × Bool)) → first ((k, b) ∷ cs) ≡ None → (b ≡ false) × (first cs ≡ None)
+pub head : {A : Type 0} (k : A) (b : Bool) (cs : List (A × Bool)) → first ((k, b) ∷ cs) ≡ None → (b ≡ false)
+    × (first cs ≡ None)
 head k true cs e = absurd (cc)
 head k false cs e = (refl, e)
 
-pub cons : {A : Type 0} (k : A) (b : Bool) (cs : List (A × Bool)) → b ≡ false → first cs ≡ None → first ((k, b) ∷ cs) ≡ None
+pub cons : {A : Type 0} (k : A) (b : Bool) (cs : List (A × Bool)) → b ≡ false → first cs ≡ None
+    → first ((k, b) ∷ cs) ≡ None
 cons k b cs e f = ap (λ t. if t then Some k else first cs) e ∙ f
 
 pub or-false : (a b : Bool) → (a || b) ≡ false → (a ≡ false) × (b ≡ false)
@@ -60,7 +67,9 @@ not-true false e = refl
 -- NAMES
 pub name-good : (name : List ℕ) → first (name_checks name) ≡ None → IsName name
 name-good name e =
-    let a = head EmptyName (nat_lt (length name) 1) ((NameTooLong, nat_lt 32 (length name)) ∷ (BadByteInName, has 58 name || has 124 name) ∷ []) e in
+    let a =
+    head EmptyName (nat_lt (length name) 1)
+    ((NameTooLong, nat_lt 32 (length name)) ∷ (BadByteInName, has 58 name || has 124 name) ∷ []) e in
     let b = head NameTooLong (nat_lt 32 (length name)) ((BadByteInName, has 58 name || has 124 name) ∷ []) a.1 in
     let c = head BadByteInName (has 58 name || has 124 name) [] b.1 in
     let d = or-false (has 58 name) (has 124 name) c.0 in
@@ -74,49 +83,68 @@ good-name name g =
     let l : length name ≤ 32 = g.short in
     let a : nat_lt (length name) 1 ≡ false = grind (arith, nat_tests) in
     let b : nat_lt 32 (length name) ≡ false = grind (arith, nat_tests) in
-    cons EmptyName (nat_lt (length name) 1) ((NameTooLong, nat_lt 32 (length name)) ∷ (BadByteInName, has 58 name || has 124 name) ∷ []) a
+    cons EmptyName (nat_lt (length name) 1)
+    ((NameTooLong, nat_lt 32 (length name)) ∷ (BadByteInName, has 58 name || has 124 name) ∷ []) a
     (cons NameTooLong (nat_lt 32 (length name)) ((BadByteInName, has 58 name || has 124 name) ∷ []) b
-    (cons BadByteInName (has 58 name || has 124 name) [] (or-both (has 58 name) (has 124 name) g.no_colon g.no_bar) refl))
+    (cons BadByteInName (has 58 name || has 124 name) []
+    (or-both (has 58 name) (has 124 name) g.no_colon g.no_bar) refl))
 
 -- CUTTING AT A BYTE
-pub cut-is : (b : ℕ) (xs : List ℕ) → has b xs ≡ true → (xs ≡ before b xs ++ b ∷ after b xs) × (has b (before b xs) ≡ false)
+pub cut-is : (b : ℕ) (xs : List ℕ) → has b xs ≡ true → (xs ≡ before b xs ++ b ∷ after b xs)
+    × (has b (before b xs) ≡ false)
 cut-is b [] e = absurd (cc)
 cut-is b (x ∷ xs) e =
-    let P : Bool → Type 0 = λ t. nat_eq x b ≡ t → (t || has b xs) ≡ true → (x ∷ xs ≡ (if t then [] else x ∷ before b xs) ++ b ∷ (if t then xs else after b xs)) × (has b (if t then [] else x ∷ before b xs) ≡ false) in
+    let P : Bool → Type 0 = λ t. nat_eq x b ≡ t → (t || has b xs) ≡ true
+    → (x ∷ xs ≡ (if t then [] else x ∷ before b xs) ++ b ∷ (if t then xs else after b xs))
+    × (has b (if t then [] else x ∷ before b xs) ≡ false) in
     let h : P (nat_eq x b) = (elim (nat_eq x b) as P [
       | true ↦ λ f g. (ap (λ y. y ∷ xs) (eqb-true x b f), refl)
-      | false ↦ λ f g. let r : (xs ≡ before b xs ++ b ∷ after b xs) × (has b (before b xs) ≡ false) = cut-is b xs g in (ap (λ ys. x ∷ ys) r.0, ap (λ t. t || has b (before b xs)) f ∙ r.1)
+      | false ↦ λ f g. let r : (xs ≡ before b xs ++ b ∷ after b xs) × (has b (before b xs) ≡ false) =
+          cut-is b xs g in (ap (λ ys. x ∷ ys) r.0, ap (λ t. t || has b (before b xs)) f ∙ r.1)
     ]) in h refl e
 
 pub no-cut : (b : ℕ) (xs : List ℕ) → has b xs ≡ false → before b xs ≡ xs
 no-cut b [] e = refl
 no-cut b (x ∷ xs) e =
     let P : Bool → Type 0 = λ t. (t || has b xs) ≡ false → (if t then [] else x ∷ before b xs) ≡ x ∷ xs in
-    let h : P (nat_eq x b) = (elim (nat_eq x b) as P [ true ↦ λ g. absurd (cc) | false ↦ λ g. ap (λ ys. x ∷ ys) (no-cut b xs g) ]) in h e
+    let h : P (nat_eq x b) =
+    (elim (nat_eq x b) as P [ true ↦ λ g. absurd (cc) | false ↦ λ g. ap (λ ys. x ∷ ys) (no-cut b xs g) ]) in h e
 
 same-byte : (b : ℕ) → nat_eq b b ≡ true
 same-byte b = grind (arith, nat_tests)
 
-pub cut-at : (b : ℕ) (p q : List ℕ) → has b p ≡ false → (before b (p ++ b ∷ q) ≡ p) × (after b (p ++ b ∷ q) ≡ q) × (has b (p ++ b ∷ q) ≡ true)
-cut-at b [] q e = (ap (λ t. if t then [] else b ∷ before b q) (same-byte b), ap (λ t. if t then q else after b q) (same-byte b), ap (λ t. t || has b q) (same-byte b))
+pub cut-at : (b : ℕ) (p q : List ℕ) → has b p ≡ false → (before b (p ++ b ∷ q) ≡ p) × (after b (p ++ b ∷ q) ≡ q)
+    × (has b (p ++ b ∷ q) ≡ true)
+cut-at b [] q e = (
+  ap (λ t. if t then [] else b ∷ before b q) (same-byte b),
+  ap (λ t. if t then q else after b q) (same-byte b),
+  ap
+      (λ t. t || has b q) (same-byte b),
+)
 cut-at b (x ∷ p) q e =
-    let P : Bool → Type 0 = λ t. (t || has b p) ≡ false → ((if t then [] else x ∷ before b (p ++ b ∷ q)) ≡ x ∷ p) × ((if t then p ++ b ∷ q else after b (p ++ b ∷ q)) ≡ q) × ((t || has b (p ++ b ∷ q)) ≡ true) in
+    let P : Bool → Type 0 = λ t. (t || has b p) ≡ false → ((if t then [] else x ∷ before b (p ++ b ∷ q)) ≡ x ∷ p)
+    × ((if t then p ++ b ∷ q else after b (p ++ b ∷ q)) ≡ q) × ((t || has b (p ++ b ∷ q)) ≡ true) in
     let h : P (nat_eq x b) = (elim (nat_eq x b) as P [
       | true ↦ λ g. absurd (cc)
-      | false ↦ λ g. let r : (before b (p ++ b ∷ q) ≡ p) × (after b (p ++ b ∷ q) ≡ q) × (has b (p ++ b ∷ q) ≡ true) = cut-at b p q g in (ap (λ ys. x ∷ ys) r.0, r.1, r.2)
+      | false ↦ λ g. let r : (before b (p ++ b ∷ q) ≡ p) × (after b (p ++ b ∷ q) ≡ q) × (has b (p ++ b ∷ q) ≡ true) =
+          cut-at b p q g in (ap (λ ys. x ∷ ys) r.0, r.1, r.2)
     ]) in h e
 
 -- NUMBERS
 digit-no-colon : (x : ℕ) → is_ascii_digit x ≡ true → nat_eq x 58 ≡ false
-digit-no-colon x e = let a = and-true (nat_le 48 x) (nat_le x 57) e in let b : nat_le x 57 ≡ true = a.1 in grind (arith, nat_tests)
+digit-no-colon x e =
+    let a = and-true (nat_le 48 x) (nat_le x 57) e in let b : nat_le x 57 ≡ true = a.1 in grind (arith, nat_tests)
 
 digits-no-colon : (xs : List ℕ) → list_all is_ascii_digit xs ≡ true → has 58 xs ≡ false
 digits-no-colon [] e = refl
 digits-no-colon (x ∷ xs) e =
-    let a = and-true (is_ascii_digit x) (list_all is_ascii_digit xs) e in or-both (nat_eq x 58) (has 58 xs) (digit-no-colon x a.0) (digits-no-colon xs a.1)
+    let a = and-true (is_ascii_digit x) (list_all is_ascii_digit xs) e in
+    or-both (nat_eq x 58) (has 58 xs) (digit-no-colon x a.0) (digits-no-colon xs a.1)
 
 pub number-no-colon : (text : List ℕ) → are_digits 9 text ≡ true → has 58 text ≡ false
-number-no-colon text e = digits-no-colon text (and-true (nat_le 1 (length text) && nat_le (length text) 9) (list_all is_ascii_digit text) e).1
+number-no-colon text e =
+    digits-no-colon text (and-true (nat_le 1 (length text) && nat_le (length text) 9)
+    (list_all is_ascii_digit text) e).1
 
 -- BOUNDS
 texts : (prefix : List ℕ) → are_digits 9 (low_text prefix) ≡ true → are_digits 9 (high_text prefix) ≡ true
@@ -138,13 +166,16 @@ bounds-are prefix low high (inl h) =
     let u : high_text prefix ≡ prefix = ap (λ t. if t then after 58 prefix else prefix) g in
     (ap (are_digits 9) l ∙ h.0, ap (are_digits 9) u ∙ h.0, ap number l ∙ h.1, ap number u ∙ h.2)
 bounds-are prefix low high (inr h) =
-    let c : (before 58 (h.0 ++ 58 ∷ h.1) ≡ h.0) × (after 58 (h.0 ++ 58 ∷ h.1) ≡ h.1) × (has 58 (h.0 ++ 58 ∷ h.1) ≡ true) = cut-at 58 h.0 h.1 (number-no-colon h.0 h.3) in
+    let c : (before 58 (h.0 ++ 58 ∷ h.1) ≡ h.0) × (after 58 (h.0 ++ 58 ∷ h.1) ≡ h.1)
+    × (has 58 (h.0 ++ 58 ∷ h.1) ≡ true) = cut-at 58 h.0 h.1 (number-no-colon h.0 h.3) in
     let l : low_text prefix ≡ h.0 = ap (before 58) h.2 ∙ c.0 in
-    let u : high_text prefix ≡ h.1 = ap (λ x. if has 58 x then after 58 x else x) h.2 ∙ ap (λ t. if t then after 58 (h.0 ++ 58 ∷ h.1) else h.0 ++ 58 ∷ h.1) c.2 ∙ c.1 in
+    let u : high_text prefix ≡ h.1 = ap (λ x. if has 58 x then after 58 x else x) h.2
+    ∙ ap (λ t. if t then after 58 (h.0 ++ 58 ∷ h.1) else h.0 ++ 58 ∷ h.1) c.2 ∙ c.1 in
     (ap (are_digits 9) l ∙ h.3, ap (are_digits 9) u ∙ h.4, ap number l ∙ h.5, ap number u ∙ h.6)
 
 pub bounds-good : (prefix : List ℕ) (sec : Bool) → first (prefix_checks prefix sec) ≡ None
-    → AreBounds prefix (number (low_text prefix)) (number (high_text prefix)) × (1 ≤ number (high_text prefix)) × (number (low_text prefix) ≤ number (high_text prefix)) × (sec ≡ false)
+    → AreBounds prefix (number (low_text prefix)) (number (high_text prefix)) × (1 ≤ number (high_text prefix))
+    × (number (low_text prefix) ≤ number (high_text prefix)) × (sec ≡ false)
 bounds-good prefix sec e =
     let low : ℕ = number (low_text prefix) in
     let high : ℕ = number (high_text prefix) in
@@ -154,16 +185,22 @@ bounds-good prefix sec e =
       nat_lt (number (high_text prefix)) 1 || nat_lt (number (high_text prefix))
           (number (low_text prefix)),
     ) ∷ (BoundOnSecondary, sec) ∷ []) e in
-    let b = head BoundOrder (nat_lt (number (high_text prefix)) 1 || nat_lt (number (high_text prefix)) (number (low_text prefix))) ((BoundOnSecondary, sec) ∷ []) a.1 in
+    let b =
+    head BoundOrder (nat_lt (number (high_text prefix)) 1 || nat_lt (number (high_text prefix))
+    (number (low_text prefix))) ((BoundOnSecondary, sec) ∷ []) a.1 in
     let c = head BoundOnSecondary sec [] b.1 in
     let n = and-true (are_digits 9 (low_text prefix)) (are_digits 9 (high_text prefix))
     (not-false (are_digits 9 (low_text prefix) && are_digits 9 (high_text prefix)) a.0) in
-    let o = or-false (nat_lt (number (high_text prefix)) 1) (nat_lt (number (high_text prefix)) (number (low_text prefix))) b.0 in
+    let o =
+    or-false (nat_lt (number (high_text prefix)) 1)
+    (nat_lt (number (high_text prefix)) (number (low_text prefix))) b.0 in
     let o0 : nat_lt (number (high_text prefix)) 1 ≡ false = o.0 in
     let o1 : nat_lt (number (high_text prefix)) (number (low_text prefix)) ≡ false = o.1 in
     (texts prefix n.0 n.1, grind (arith, nat_tests), grind (arith, nat_tests), c.0)
 
-pub good-bounds : (prefix : List ℕ) (low high : ℕ) → AreBounds prefix low high → 1 ≤ high → low ≤ high → (first (prefix_checks prefix false) ≡ None) × (number (low_text prefix) ≡ low) × (number (high_text prefix) ≡ high)
+pub good-bounds : (prefix : List ℕ) (low high : ℕ) → AreBounds prefix low high → 1 ≤ high → low ≤ high
+    → (first (prefix_checks prefix false) ≡ None) × (number (low_text prefix) ≡ low)
+    × (number (high_text prefix) ≡ high)
 good-bounds prefix low high h p q =
     let n : (are_digits 9 (low_text prefix) ≡ true) × (are_digits 9 (high_text prefix) ≡ true)
     × (number (low_text prefix) ≡ low) × (number (high_text prefix) ≡ high) = bounds-are prefix low high h in
@@ -178,7 +215,10 @@ good-bounds prefix low high h p q =
                 (number (low_text prefix)),
           ) ∷ (BoundOnSecondary, false) ∷ [])
           (ap not (and-both (are_digits 9 (low_text prefix)) (are_digits 9 (high_text prefix)) n.0 n.1))
-          (cons BoundOrder (nat_lt (number (high_text prefix)) 1 || nat_lt (number (high_text prefix)) (number (low_text prefix))) ((BoundOnSecondary, false) ∷ []) (or-both (nat_lt (number (high_text prefix)) 1) (nat_lt (number (high_text prefix)) (number (low_text prefix))) a b) refl),
+          (cons BoundOrder (nat_lt (number (high_text prefix)) 1 || nat_lt (number (high_text prefix))
+          (number (low_text prefix))) ((BoundOnSecondary, false) ∷ [])
+          (or-both (nat_lt (number (high_text prefix)) 1)
+          (nat_lt (number (high_text prefix)) (number (low_text prefix))) a b) refl),
       lo,
       hi,
     )
@@ -186,50 +226,74 @@ good-bounds prefix low high h p q =
 -- ITEMS
 module _ (kind : Kind) (names : List (List ℕ)) (sec : Bool) (token : List ℕ) where
   abbrev rest : List ℕ → List (FaultKind × Bool)
-  rest name = (RepeatedName, not (is_none (place names name))) ∷ (TooManyItems, not (nat_lt (length names) most_items)) ∷ []
+  rest name =
+      (RepeatedName, not (is_none (place names name))) ∷ (TooManyItems, not (nat_lt (length names) most_items)) ∷ []
 
   none-of : (o : Option ℕ) → not (is_none o) ≡ false → o ≡ None
   none-of None e = refl
   none-of (Some n) e = absurd (cc)
 
-  shape : (t : Bool) → has_prefix kind token ≡ t → first (bound_checks kind sec token) ≡ None → IsBare sec token (entry kind sec token) ⊎ IsBounded kind sec token (entry kind sec token)
+  shape : (t : Bool) → has_prefix kind token ≡ t → first (bound_checks kind sec token) ≡ None
+      → IsBare sec token (entry kind sec token) ⊎ IsBounded kind sec token (entry kind sec token)
   shape true f e =
       let b = and-true (is_bounds kind) (has 124 token) f in
       let c = cut-is 124 token b.1 in
-      let g = bounds-good (before 124 token) sec (ap (λ t. first (if t then prefix_checks (before 124 token) sec else [])) (sym f) ∙ e) in
+      let g =
+      bounds-good (before 124 token) sec
+      (ap (λ t. first (if t then prefix_checks (before 124 token) sec else [])) (sym f) ∙ e) in
       let nm : name_of kind token ≡ after 124 token = ap (λ t. if t then after 124 token else token) f in
-      let lo : (entry kind sec token).low ≡ number (low_text (before 124 token)) = ap (λ t. if t then number (low_text (before 124 token)) else (if sec then 0 else 1)) f in
-      let hi : (entry kind sec token).high ≡ number (high_text (before 124 token)) = ap (λ t. if t then number (high_text (before 124 token)) else 1) f in
+      let lo : (entry kind sec token).low ≡ number (low_text (before 124 token)) =
+      ap (λ t. if t then number (low_text (before 124 token)) else (if sec then 0 else 1)) f in
+      let hi : (entry kind sec token).high ≡ number (high_text (before 124 token)) =
+      ap (λ t. if t then number (high_text (before 124 token)) else 1) f in
       inr (
         before 124 token,
         b.0,
         g.3,
         c.1,
         c.0 ∙ ap (λ n. before 124 token ++ 124 ∷ n) (sym nm),
-        subst (λ h. AreBounds (before 124 token) (entry kind sec token).low h) (sym hi) (subst (λ l. AreBounds (before 124 token) l (number (high_text (before 124 token)))) (sym lo) g.0),
+        subst (λ h. AreBounds (before 124 token) (entry kind sec token).low h) (sym hi)
+            (subst (λ l. AreBounds (before 124 token) l (number (high_text (before 124 token)))) (sym lo) g.0),
         subst (λ h. 1 ≤ h) (sym hi) g.1,
-        subst (λ h. (entry kind sec token).low ≤ h) (sym hi) (subst (λ l. l ≤ number (high_text (before 124 token))) (sym lo) g.2),
+        subst (λ h. (entry kind sec token).low ≤ h) (sym hi)
+            (subst (λ l. l ≤ number (high_text (before 124 token))) (sym lo) g.2),
       )
   shape false f e =
-      inl (sym (ap (λ t. if t then after 124 token else token) f), ap (λ t. if t then number (low_text (before 124 token)) else (if sec then 0 else 1)) f, ap (λ t. if t then number (high_text (before 124 token)) else 1) f)
+      inl (
+        sym (ap (λ t. if t then after 124 token else token) f),
+        ap
+            (λ t. if t then number (low_text (before 124 token)) else (if sec then 0 else 1)) f,
+        ap
+            (λ t. if t then number (high_text (before 124 token)) else 1) f,
+      )
 
-  form : first (bound_checks kind sec token) ≡ None → IsBare sec token (entry kind sec token) ⊎ IsBounded kind sec token (entry kind sec token)
+  form : first (bound_checks kind sec token) ≡ None → IsBare sec token (entry kind sec token)
+      ⊎ IsBounded kind sec token (entry kind sec token)
   form e = shape (has_prefix kind token) refl e
 
   -- a token with no fault stands for its item
-  pub item-good : first (item_checks kind names sec token) ≡ None → IsEntry kind sec token (entry kind sec token) × (place names (entry kind sec token).name ≡ None) × (length names < most_items)
+  pub item-good : first (item_checks kind names sec token) ≡ None → IsEntry kind sec token (entry kind sec token)
+      × (place names (entry kind sec token).name ≡ None) × (length names < most_items)
   item-good e =
       let a = split (bound_checks kind sec token) (name_checks (name_of kind token) ++ rest (name_of kind token)) e in
       let b = split (name_checks (name_of kind token)) (rest (name_of kind token)) a.1 in
-      let c = head RepeatedName (not (is_none (place names (name_of kind token)))) ((TooManyItems, not (nat_lt (length names) most_items)) ∷ []) b.1 in
+      let c =
+      head RepeatedName (not (is_none (place names (name_of kind token))))
+      ((TooManyItems, not (nat_lt (length names) most_items)) ∷ []) b.1 in
       let d = head TooManyItems (not (nat_lt (length names) most_items)) [] c.1 in
-      let lt : nat_lt (length names) most_items ≡ true = not-false (nat_lt (length names) most_items) d.0 in
-      ((name-good (name_of kind token) b.0, form a.0), none-of (place names (name_of kind token)) c.0, grind (arith, nat_tests))
+      let lt : nat_lt (length names) most_items ≡ true = not-false (nat_lt (length names) most_items) d.0 in (
+        (name-good (name_of kind token) b.0, form a.0),
+        none-of (place names (name_of kind token)) c.0,
+        grind
+            (arith, nat_tests),
+      )
 
   -- a token that stands for an item stands for no other, and has no fault
-  known : (e : Entry) → IsBare sec token e ⊎ IsBounded kind sec token e → IsName e.name → (e ≡ entry kind sec token) × (first (bound_checks kind sec token) ≡ None)
+  known : (e : Entry) → IsBare sec token e ⊎ IsBounded kind sec token e → IsName e.name → (e ≡ entry kind sec token)
+      × (first (bound_checks kind sec token) ≡ None)
   known e (inl h) n =
-      let f : has_prefix kind token ≡ false = ap (λ x. is_bounds kind && x) (ap (has 124) h.0 ∙ n.no_bar) ∙ and-false (is_bounds kind) in (
+      let f : has_prefix kind token ≡ false =
+      ap (λ x. is_bounds kind && x) (ap (has 124) h.0 ∙ n.no_bar) ∙ and-false (is_bounds kind) in (
         (λ i. record {
           name = (sym h.0 ∙ sym (ap (λ t. if t then after 124 token else token) f)) i;
           low = (h.1 ∙ sym (ap (λ t. if t then number (low_text (before 124 token)) else (if sec then 0 else 1)) f)) i;
@@ -245,20 +309,29 @@ module _ (kind : Kind) (names : List (List ℕ)) (sec : Bool) (token : List ℕ)
       let g = good-bounds h.0 e.low e.high h.5 h.6 h.7 in (
         (λ i. record {
           name = (sym (c.1) ∙ ap (after 124) (sym h.4) ∙ sym (ap (λ t. if t then after 124 token else token) f)) i;
-          low = (sym g.1 ∙ ap (λ x. number (low_text x)) (sym bf) ∙ sym (ap (λ t. if t then number (low_text (before 124 token)) else (if sec then 0 else 1)) f)) i;
-          high = (sym g.2 ∙ ap (λ x. number (high_text x)) (sym bf) ∙ sym (ap (λ t. if t then number (high_text (before 124 token)) else 1) f)) i;
+          low =
+              (sym g.1 ∙ ap (λ x. number (low_text x)) (sym bf)
+              ∙ sym (ap (λ t. if t then number (low_text (before 124 token)) else (if sec then 0 else 1)) f)) i;
+          high =
+              (sym g.2 ∙ ap (λ x. number (high_text x)) (sym bf)
+              ∙ sym (ap (λ t. if t then number (high_text (before 124 token)) else 1) f)) i;
         }),
-        ap (λ t. first (if t then prefix_checks (before 124 token) sec else [])) f ∙ ap (λ x. first (prefix_checks x sec)) bf ∙ ap (λ s. first (prefix_checks h.0 s)) h.2 ∙ g.0,
+        ap (λ t. first (if t then prefix_checks (before 124 token) sec else [])) f
+            ∙ ap (λ x. first (prefix_checks x sec)) bf ∙ ap (λ s. first (prefix_checks h.0 s)) h.2 ∙ g.0,
       )
 
-  pub good-item : (e : Entry) → IsEntry kind sec token e → place names e.name ≡ None → length names < most_items → (e ≡ entry kind sec token) × (first (item_checks kind names sec token) ≡ None)
+  pub good-item : (e : Entry) → IsEntry kind sec token e → place names e.name ≡ None → length names < most_items
+      → (e ≡ entry kind sec token) × (first (item_checks kind names sec token) ≡ None)
   good-item e h p l =
       let k = known e h.1 h.0 in
       let nm : e.name ≡ name_of kind token = ap (λ x. x.name) k.0 in
       let lt : nat_lt (length names) most_items ≡ true = grind (arith, nat_tests) in (
         k.0,
         first-back (bound_checks kind sec token) (name_checks (name_of kind token) ++ rest (name_of kind token)) k.1
-            ∙ first-back (name_checks (name_of kind token)) (rest (name_of kind token)) (good-name (name_of kind token) (subst IsName nm h.0))
-            ∙ cons RepeatedName (not (is_none (place names (name_of kind token)))) ((TooManyItems, not (nat_lt (length names) most_items)) ∷ []) (ap (λ o. not (is_none o)) (ap (place names) (sym nm) ∙ p))
+            ∙ first-back (name_checks (name_of kind token)) (rest (name_of kind token))
+            (good-name (name_of kind token) (subst IsName nm h.0))
+            ∙ cons RepeatedName (not (is_none (place names (name_of kind token))))
+            ((TooManyItems, not (nat_lt (length names) most_items)) ∷ [])
+            (ap (λ o. not (is_none o)) (ap (place names) (sym nm) ∙ p))
             (cons TooManyItems (not (nat_lt (length names) most_items)) [] (ap not lt) refl),
       )

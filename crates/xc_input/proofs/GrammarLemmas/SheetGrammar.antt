@@ -1,5 +1,6 @@
 -- The grammar line by line, as a text is read: what was read before a line goes on to the next.
-use Rattle.std.specs.Prelude.{◌≡◌, ◌≢◌, ℕ, ◌+◌, ◌-◌, ◌≤◌, map, length, List, [], ◌∷◌, true, false, ◌⊎◌, AllPairs, take, drop}
+use Rattle.std.specs.Prelude.{◌≡◌, ◌≢◌, ℕ, ◌+◌, ◌-◌, ◌≤◌, map, length, List, [], ◌∷◌, true, false, ◌⊎◌, AllPairs, take}
+use Rattle.std.specs.Prelude.{drop}
 use Rattle.std.specs.List.{AllZip, before_first, after_first}
 use Rattle.xc_input.specs.declared.kind.Kind.{Kind}
 use Rattle.xc_input.specs.declared.problem.Bounds.{Bounds}

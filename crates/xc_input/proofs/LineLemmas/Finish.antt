@@ -1,5 +1,6 @@
 -- The answer at the end of a text.
-use Rattle.std.proofs.Common.{◌≡◌, ◌≢◌, ◌≤◌, ◌+◌, ◌-◌, ◌^◌, min, ℕ, List, Option, None, Some, Bool, true, false, length, map, drop, All, refl, ap, ◌∙◌, sym, subst, arith, MatchOption}
+use Rattle.std.proofs.Common.{◌≡◌, ◌≢◌, ◌≤◌, ◌+◌, ◌-◌, ◌^◌, min, ℕ, List, Option, None, Some, Bool, true, false, length}
+use Rattle.std.proofs.Common.{map, drop, All, refl, ap, ◌∙◌, sym, subst, arith, MatchOption}
 use Rattle.std.proofs.lemmas.List.{length-map}
 use Rattle.xc_input.specs.declared.kind.Kind.{Kind}
 use Rattle.xc_input.specs.declared.fault.InputError.{InputError}
@@ -26,7 +27,8 @@ use Rattle.xc_input.proofs.GrammarLemmas.LawLemmas.{end_fault}
 use Rattle.xc_input.proofs.FaultLemmas.FirstFaults.{stands, stands-only}
 use Rattle.xc_input.proofs.GrammarLemmas.Standing.{read-stands}
 
-pub refutes : (kind : Kind) (lines : List (List ℕ)) (e : InputError) → IsEndOf kind lines e → e ≢ Memory → (p : Named) (ig : List ℕ) → StandsFor kind lines p ig → ⊥
+pub refutes : (kind : Kind) (lines : List (List ℕ)) (e : InputError) → IsEndOf kind lines e → e ≢ Memory
+    → (p : Named) (ig : List ℕ) → StandsFor kind lines p ig → ⊥
 refutes kind lines (Fault n k) h f p ig s = let g : first_fault kind lines ≡ None =
     (stands-only kind lines p ig s).0 in absurd (cc)
 refutes kind lines Device h f p ig s = absurd h
@@ -39,11 +41,16 @@ named_by d = named_from d.items.items d.primary d.uses.items d.starts.items d.co
 by-builder : (d : ProblemBuilder) → named_of (sheet_of_builder d) ≡ named_by d
 by-builder d = named-is d.items.items d.primary (pieces d.starts.items d.uses.items) (key_names d.colours.keys)
 
-module _ (v : Reading) (kind : Kind) (lines : List (List ℕ)) (o : Option InputError) (is : v ≡ record { kind = kind; lines = lines; error = o }) (h : IsStateOf kind lines o) where
-  pub refuses : (e : InputError) → o ≡ Some e → e ≢ Memory → (p : Named) (ig : List ℕ) → StandsFor v.kind v.lines p ig → ⊥
-  refuses e f w p ig s = refutes kind lines e (ends-at kind lines o e f h) w p ig (subst (λ (r : Reading). StandsFor r.kind r.lines p ig) is s)
+module _ (v : Reading) (kind : Kind) (lines : List (List ℕ)) (o : Option InputError)
+    (is : v ≡ record { kind = kind; lines = lines; error = o }) (h : IsStateOf kind lines o) where
+  pub refuses : (e : InputError) → o ≡ Some e → e ≢ Memory → (p : Named) (ig : List ℕ)
+      → StandsFor v.kind v.lines p ig → ⊥
+  refuses e f w p ig s =
+      refutes kind lines e (ends-at kind lines o e f h) w p ig
+      (subst (λ (r : Reading). StandsFor r.kind r.lines p ig) is s)
 
-  module _ (f : o ≡ None) (d : ProblemBuilder) (m : MatchOption o (IsBuilder d × (stage_of_builder d ≡ stage_of kind lines)) (λ _. Unit {0})) where
+  module _ (f : o ≡ None) (d : ProblemBuilder)
+      (m : MatchOption o (IsBuilder d × (stage_of_builder d ≡ stage_of kind lines)) (λ _. Unit {0})) where
     whole : IsBuilder d × (stage_of_builder d ≡ stage_of kind lines)
     whole = subst (λ q. MatchOption q (IsBuilder d × (stage_of_builder d ≡ stage_of kind lines)) (λ _. Unit {0})) f m
 
@@ -63,7 +70,9 @@ module _ (v : Reading) (kind : Kind) (lines : List (List ℕ)) (o : Option Input
         let b : first_fault kind lines ≡ None = (stands-only kind lines p ig t).0 in absurd (cc)
 
     written : d.started ≡ true → IsSheetOf kind lines (sheet_of_builder d) d.ignored.items
-    written g = subst (λ (st : Stage). IsSheetOf kind lines st.sheet st.ignored) (sym whole.1) (stands kind lines (ended true g))
+    written g =
+        subst (λ (st : Stage). IsSheetOf kind lines st.sheet st.ignored) (sym whole.1)
+        (stands kind lines (ended true g))
 
     pub accepts : d.started ≡ true → StandsFor v.kind v.lines (named_by d) d.ignored.items
     accepts g = subst (λ (r : Reading). StandsFor r.kind r.lines (named_by d) d.ignored.items) (sym is)
@@ -82,10 +91,17 @@ module _ (v : Reading) (kind : Kind) (lines : List (List ℕ)) (o : Option Input
     table-names = whole.0.names ∙ item-names d.items.items
 
     pub primary-within : d.started ≡ true → d.primary ≤ length d.items.items
-    primary-within g = omega (arith, primaries-within kind lines (sheet_of_builder d) d.ignored.items (written g), length-map d.items.items entry_of)
+    primary-within g =
+        omega (
+          arith,
+          primaries-within kind lines (sheet_of_builder d) d.ignored.items (written g),
+          length-map
+              d.items.items entry_of,
+        )
 
     pub optional-behind : d.started ≡ true → All IsOptional (drop d.primary d.items.items)
-    optional-behind g = behind-bounds d.primary d.items.items (valid kind lines (sheet_of_builder d) d.ignored.items (written g)).bounds
+    optional-behind g =
+        behind-bounds d.primary d.items.items (valid kind lines (sheet_of_builder d) d.ignored.items (written g)).bounds
 
     pub starts-are : d.started ≡ true → AreOptionStarts d.starts.items d.uses.items
     starts-are g = whole.0.starts g

@@ -1,5 +1,6 @@
 -- What a source gave, piece after piece.
-use Rattle.std.proofs.Common.{◌≡◌, ℕ, ◌<◌, List, [], ◌∷◌, ◌++◌, Option, None, Some, Result, Ok, Err, IfSome, IfOk, IfErr, length, take, refl, sym, ap, subst, ◌∙◌, append_assoc, append-nil, arith, inl, inr}
+use Rattle.std.proofs.Common.{◌≡◌, ℕ, ◌<◌, List, [], ◌∷◌, ◌++◌, Option, None, Some, Result, Ok, Err, IfSome, IfOk}
+use Rattle.std.proofs.Common.{IfErr, length, take, refl, sym, ap, subst, ◌∙◌, append_assoc, append-nil, arith, inl, inr}
 use Rattle.xc_input.proofs.LineLemmas.TextLines.{lines_of-all, last-of-part}
 use Rattle.xc_input.specs.FirstFault.{line_fault}
 use Rattle.xc_input.specs.inner.EndedLines.{ended}
@@ -21,10 +22,18 @@ use Rattle.xc_input.specs.Pieces.{SourceState, Gave, GaveAll, IsOpen, IsWhole, I
 use Rattle.xc_input.proofs.LineLemmas.Sources.{error-ends}
 
 pub gave_nothing : (s : SourceState) → Gave s s []
-gave_nothing s = record { told = Consumes-nil s.rest; pieces = []; some = grind (arith, common_steps); added = sym (append-nil s.given); whole = refl }
+gave_nothing s =
+    record {
+      told = Consumes-nil s.rest;
+      pieces = [];
+      some = grind (arith, common_steps);
+      added = sym (append-nil s.given);
+      whole = refl;
+    }
 
 -- one read more gave some bytes
-pub gave_more : (a b c : SourceState) (bytes piece : List ℕ) → Gave a b bytes → 0 < length piece → Consumes b.rest c.rest piece → c.given ≡ b.given ++ piece ∷ [] → Gave a c (bytes ++ piece)
+pub gave_more : (a b c : SourceState) (bytes piece : List ℕ) → Gave a b bytes → 0 < length piece
+    → Consumes b.rest c.rest piece → c.given ≡ b.given ++ piece ∷ [] → Gave a c (bytes ++ piece)
 gave_more a b c bytes piece g some told e =
     let one : All (λ p. 0 < length p) (piece ∷ []) = grind (arith, common_steps) in
     record {
@@ -32,32 +41,54 @@ gave_more a b c bytes piece g some told e =
       pieces = g.pieces ++ piece ∷ [];
       some = All-append (λ p. 0 < length p) g.pieces (piece ∷ []) g.some one;
       added = e ∙ ap (λ l. l ++ piece ∷ []) g.added ∙ append_assoc a.given g.pieces (piece ∷ []);
-      whole = flat_map-append (λ p. p) g.pieces (piece ∷ []) ∙ ap (λ l. l ++ (piece ++ [])) g.whole ∙ ap (λ l. bytes ++ l) (append-nil piece);
+      whole = flat_map-append (λ p. p) g.pieces (piece ∷ []) ∙ ap (λ l. l ++ (piece ++ [])) g.whole
+          ∙ ap (λ l. bytes ++ l) (append-nil piece);
     }
 
 -- a read failed
-pub gave_kept : (a b c : SourceState) (bytes : List ℕ) → Gave a b bytes → Keeps b.rest c.rest → c.given ≡ b.given → Gave a c bytes
+pub gave_kept : (a b c : SourceState) (bytes : List ℕ) → Gave a b bytes → Keeps b.rest c.rest → c.given ≡ b.given
+    → Gave a c bytes
 gave_kept a b c bytes g kept e =
-    record { told = Consumes-kept a.rest b.rest c.rest bytes g.told kept; pieces = g.pieces; some = g.some; added = e ∙ g.added; whole = g.whole }
+    record {
+      told = Consumes-kept a.rest b.rest c.rest bytes g.told kept;
+      pieces = g.pieces;
+      some = g.some;
+      added = e
+          ∙ g.added;
+      whole = g.whole;
+    }
 
-at-end : (old now : Option (List ℕ)) (bytes : List ℕ) → Consumes old now bytes → IsAtEnd now → IfSome old (λ rest. rest ≡ bytes)
+at-end : (old now : Option (List ℕ)) (bytes : List ℕ) → Consumes old now bytes → IsAtEnd now
+    → IfSome old (λ rest. rest ≡ bytes)
 at-end None now bytes p e = tt
 at-end (Some all) None bytes p e = absurd p
 at-end (Some all) (Some left) bytes p e = p ∙ ap (λ xs. bytes ++ xs) e ∙ append-nil bytes
 
 -- the last read gave nothing
-pub gave_end : (a b c : SourceState) (bytes buf : List ℕ) (n : ℕ) → n ≡ 0 → Gave a b bytes → c.failures ≡ a.failures → Consumes b.rest c.rest (take n buf) → IsAtEnd c.rest
+pub gave_end : (a b c : SourceState) (bytes buf : List ℕ) (n : ℕ) → n ≡ 0 → Gave a b bytes → c.failures ≡ a.failures
+    → Consumes b.rest c.rest (take n buf) → IsAtEnd c.rest
     → c.given ≡ b.given ++ take n buf ∷ [] → GaveAll a c bytes
 gave_end a b c bytes buf n e g same told end f =
-    let all = subst (Consumes a.rest c.rest) (ap (λ k. bytes ++ take k buf) e ∙ append-nil bytes) (Consumes-trans a.rest b.rest c.rest bytes (take n buf) g.told told) in
-    record { no_failure = same; told = at-end a.rest c.rest bytes all end; before = b; gave = g; ended = f ∙ ap (λ k. b.given ++ take k buf ∷ []) e }
+    let all =
+    subst (Consumes a.rest c.rest) (ap (λ k. bytes ++ take k buf) e ∙ append-nil bytes)
+    (Consumes-trans a.rest b.rest c.rest bytes (take n buf) g.told told) in
+    record {
+      no_failure = same;
+      told = at-end a.rest c.rest bytes all end;
+      before = b;
+      gave = g;
+      ended = f
+          ∙ ap (λ k. b.given ++ take k buf ∷ []) e;
+    }
 
 -- the answer at the end of the input
-pub whole-last : (kind : Kind) (a c : SourceState) (bytes : List ℕ) (r : Result Read InputError) → EndsAs kind (lines_of bytes) r → GaveAll a c bytes → IfOk r (λ x. IsWhole kind a c x.problem x.ignored.items)
+pub whole-last : (kind : Kind) (a c : SourceState) (bytes : List ℕ) (r : Result Read InputError)
+    → EndsAs kind (lines_of bytes) r → GaveAll a c bytes → IfOk r (λ x. IsWhole kind a c x.problem x.ignored.items)
 whole-last kind a c bytes (Ok x) h g = record { bytes = bytes; gave = g; text = h.accepted }
 whole-last kind a c bytes (Err e) h g = tt
 
-pub part-last : (kind : Kind) (a c : SourceState) (bytes : List ℕ) (r : Result Read InputError) → EndsAs kind (lines_of bytes) r → (result_err r ≡ Some Memory → IsOpen bytes) → GaveAll a c bytes
+pub part-last : (kind : Kind) (a c : SourceState) (bytes : List ℕ) (r : Result Read InputError)
+    → EndsAs kind (lines_of bytes) r → (result_err r ≡ Some Memory → IsOpen bytes) → GaveAll a c bytes
     → IfErr r (IsPart kind a c)
 part-last kind a c bytes (Ok x) h m g = tt
 part-last kind a c bytes (Err (Fault n k)) h m g = (bytes, inl (g, h.first))
@@ -65,7 +96,8 @@ part-last kind a c bytes (Err Device) h m g = absurd h.first
 part-last kind a c bytes (Err Memory) h m g = (bytes, g.no_failure, inr (g, m refl))
 
 -- what is carried on ends within a line
-pub open-carry : (reading : Reading) (carry : List ℕ) → IsBetween reading carry → 0 < length carry → IsOpen (fed reading carry)
+pub open-carry : (reading : Reading) (carry : List ℕ) → IsBetween reading carry → 0 < length carry
+    → IsOpen (fed reading carry)
 open-carry reading carry between some =
     let last = last-of-part carry between.partial some in (
       ended reading.lines ++ last.0,
@@ -75,13 +107,16 @@ open-carry reading carry between some =
     )
 
 -- a fault that came before the end
-pub part-spoiled : (kind : Kind) (a b : SourceState) (bytes : List ℕ) (e : InputError) → Spoils kind bytes e → Gave a b bytes → b.failures ≡ a.failures → IsPart kind a b e
-part-spoiled kind a b bytes (Fault n k) h g same = (bytes, inr (g, same, λ more. error-ends kind (lines_of (bytes ++ more)) (Fault n k) (h more)))
+pub part-spoiled : (kind : Kind) (a b : SourceState) (bytes : List ℕ) (e : InputError) → Spoils kind bytes e
+    → Gave a b bytes → b.failures ≡ a.failures → IsPart kind a b e
+part-spoiled kind a b bytes (Fault n k) h g same =
+    (bytes, inr (g, same, λ more. error-ends kind (lines_of (bytes ++ more)) (Fault n k) (h more)))
 part-spoiled kind a b bytes Device h g same = absurd (h [])
 part-spoiled kind a b bytes Memory h g same = (bytes, same, inl g)
 
 -- a read that failed
-pub part-failed : (kind : Kind) (a b c : SourceState) (reading : Reading) (carry : List ℕ) → reading.kind ≡ kind → IsBetween reading carry → Gave a b (fed reading carry) → b.failures ≡ a.failures
+pub part-failed : (kind : Kind) (a b c : SourceState) (reading : Reading) (carry : List ℕ) → reading.kind ≡ kind
+    → IsBetween reading carry → Gave a b (fed reading carry) → b.failures ≡ a.failures
     → Rose b.failures c.failures → Keeps b.rest c.rest → c.given ≡ b.given → IsPart kind a c Device
 part-failed kind a b c reading carry is between g same rose kept e =
     let none : line_fault kind reading.lines ≡ None = rw is at between.no_fault in (

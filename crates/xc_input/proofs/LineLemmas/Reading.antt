@@ -1,5 +1,6 @@
 -- The first fault of lines and one more.
-use Rattle.std.proofs.Common.{◌≡◌, ℕ, ◌+◌, ◌-◌, ◌^◌, List, [], ◌∷◌, ◌++◌, Option, None, Some, Err, Bool, length, refl, ap, ◌∙◌, sym, subst, arith, min, MatchOption, if◌then◌else◌}
+use Rattle.std.proofs.Common.{◌≡◌, ℕ, ◌+◌, ◌-◌, ◌^◌, List, [], ◌∷◌, ◌++◌, Option, None, Some, Err, Bool, length, refl}
+use Rattle.std.proofs.Common.{ap, ◌∙◌, sym, subst, arith, min, MatchOption, if◌then◌else◌}
 use Rattle.std.proofs.lemmas.Grind.{common_steps}
 use Rattle.xc_input.specs.declared.kind.Kind.{Kind}
 use Rattle.xc_input.specs.declared.fault.FaultKind.{FaultKind}
@@ -22,7 +23,8 @@ use Rattle.xc_input.proofs.GrammarLemmas.LawLemmas.{fault_from, fault_or, end_fa
 use Rattle.xc_input.proofs.FaultLemmas.FirstFaults.{line_fault-is, first_fault-is}
 
 -- a fault stays the first one, whatever follows
-fault_or-stays : (n : ℕ) (k : Option FaultKind) (a b : Option (ℕ × FaultKind)) (p : ℕ × FaultKind) → (a ≡ Some p → b ≡ Some p) → fault_or n k a ≡ Some p → fault_or n k b ≡ Some p
+fault_or-stays : (n : ℕ) (k : Option FaultKind) (a b : Option (ℕ × FaultKind)) (p : ℕ × FaultKind)
+    → (a ≡ Some p → b ≡ Some p) → fault_or n k a ≡ Some p → fault_or n k b ≡ Some p
 fault_or-stays n None a b p h e = h e
 fault_or-stays n (Some k) a b p h e = e
 
@@ -30,29 +32,37 @@ fault-stays : (kind : Kind) (n : ℕ) (stage : Stage) (lines more : List (List �
     → fault_from kind n stage lines ≡ Some p → fault_from kind n stage (lines ++ more) ≡ Some p
 fault-stays kind n stage [] more p e = absurd (cc)
 fault-stays kind n stage (line ∷ lines) more p e =
-    fault_or-stays (n + 1) (first (line_checks kind stage line)) _ _ p (fault-stays kind (n + 1) (with_line kind (line_number (n + 1)) stage line) lines more p) e
+    fault_or-stays (n + 1) (first (line_checks kind stage line)) _ _ p
+    (fault-stays kind (n + 1) (with_line kind (line_number (n + 1)) stage line) lines more p) e
 
-fault_or-none : (n m : ℕ) (k l : Option FaultKind) (a b : Option (ℕ × FaultKind)) → (a ≡ None → b ≡ fault_or m l None) → fault_or n k a ≡ None → fault_or n k b ≡ fault_or m l None
+fault_or-none : (n m : ℕ) (k l : Option FaultKind) (a b : Option (ℕ × FaultKind)) → (a ≡ None → b ≡ fault_or m l None)
+    → fault_or n k a ≡ None → fault_or n k b ≡ fault_or m l None
 fault_or-none n m None l a b h e = h e
 fault_or-none n m (Some k) l a b h e = absurd (cc)
 
 -- with no fault so far, it is that of the next line
-next-fault : (kind : Kind) (n : ℕ) (stage : Stage) (lines : List (List ℕ)) (line : List ℕ) → fault_from kind n stage lines ≡ None
-    → fault_from kind n stage (lines ++ line ∷ []) ≡ fault_or (n + length (lines ++ line ∷ [])) (first (line_checks kind (stage_from kind n stage lines) line)) None
+next-fault : (kind : Kind) (n : ℕ) (stage : Stage) (lines : List (List ℕ)) (line : List ℕ)
+    → fault_from kind n stage lines ≡ None
+    → fault_from kind n stage (lines ++ line ∷ []) ≡ fault_or (n + length (lines ++ line ∷ []))
+    (first (line_checks kind (stage_from kind n stage lines) line)) None
 next-fault kind n stage [] line e = refl
 next-fault kind n stage (l ∷ lines) line e =
     let next : Stage = with_line kind (line_number (n + 1)) stage l in
     let num : (n + 1) + length (lines ++ line ∷ []) ≡ n + length ((l ∷ lines) ++ line ∷ []) = omega arith in
-    fault_or-none (n + 1) (n + length ((l ∷ lines) ++ line ∷ [])) (first (line_checks kind stage l)) (first (line_checks kind (stage_from kind (n + 1) next lines) line)) _ _
-    (λ h. next-fault kind (n + 1) next lines line h ∙ ap (λ m. fault_or m (first (line_checks kind (stage_from kind (n + 1) next lines) line)) None) num) e
+    fault_or-none (n + 1) (n + length ((l ∷ lines) ++ line ∷ [])) (first (line_checks kind stage l))
+    (first (line_checks kind (stage_from kind (n + 1) next lines) line)) _ _
+    (λ h. next-fault kind (n + 1) next lines line h
+    ∙ ap (λ m. fault_or m (first (line_checks kind (stage_from kind (n + 1) next lines) line)) None) num) e
 
 stage-snoc : (kind : Kind) (n : ℕ) (stage : Stage) (lines : List (List ℕ)) (line : List ℕ)
-    → stage_from kind n stage (lines ++ line ∷ []) ≡ with_line kind (line_number (n + length (lines ++ line ∷ []))) (stage_from kind n stage lines) line
+    → stage_from kind n stage (lines ++ line ∷ []) ≡ with_line kind (line_number (n + length (lines ++ line ∷ [])))
+    (stage_from kind n stage lines) line
 stage-snoc kind n stage [] line = refl
 stage-snoc kind n stage (l ∷ lines) line =
     let next : Stage = with_line kind (line_number (n + 1)) stage l in
     let num : (n + 1) + length (lines ++ line ∷ []) ≡ n + length ((l ∷ lines) ++ line ∷ []) = omega arith in
-    stage-snoc kind (n + 1) next lines line ∙ ap (λ m. with_line kind (line_number m) (stage_from kind (n + 1) next lines) line) num
+    stage-snoc kind (n + 1) next lines line
+    ∙ ap (λ m. with_line kind (line_number m) (stage_from kind (n + 1) next lines) line) num
 
 -- and so does the first fault of lines
 pub line-stays : (kind : Kind) (lines more : List (List ℕ)) (p : ℕ × FaultKind) → line_fault kind lines ≡ Some p
@@ -60,21 +70,26 @@ pub line-stays : (kind : Kind) (lines more : List (List ℕ)) (p : ℕ × FaultK
 line-stays kind lines more p h = line_fault-is kind (lines ++ more)
     ∙ fault-stays kind 0 no_stage lines more p (sym (line_fault-is kind lines) ∙ h)
 
-IsErrorOf-stays : (kind : Kind) (lines : List (List ℕ)) (line : List ℕ) (e : InputError) → IsErrorOf kind lines e → IsErrorOf kind (lines ++ line ∷ []) e
+IsErrorOf-stays : (kind : Kind) (lines : List (List ℕ)) (line : List ℕ) (e : InputError) → IsErrorOf kind lines e
+    → IsErrorOf kind (lines ++ line ∷ []) e
 IsErrorOf-stays kind lines line (Fault n k) h = line-stays kind lines (line ∷ []) (n, k) h
 IsErrorOf-stays kind lines line Device h = h
 IsErrorOf-stays kind lines line Memory h = tt
 
 -- one line more, after an error
-pub stays : (kind : Kind) (old new : List (List ℕ)) (line : List ℕ) (o : Option InputError) (e : InputError) → new ≡ old ++ line ∷ [] → o ≡ Some e → IsStateOf kind old o → IsErrorOf kind new e
-stays kind old new line o e f g h = subst (λ ls. IsErrorOf kind ls e) (sym f) (IsErrorOf-stays kind old line e (subst (IsStateOf kind old) g h))
+pub stays : (kind : Kind) (old new : List (List ℕ)) (line : List ℕ) (o : Option InputError) (e : InputError)
+    → new ≡ old ++ line ∷ [] → o ≡ Some e → IsStateOf kind old o → IsErrorOf kind new e
+stays kind old new line o e f g h =
+    subst (λ ls. IsErrorOf kind ls e) (sym f) (IsErrorOf-stays kind old line e (subst (IsStateOf kind old) g h))
 
-pub counts : (old new : List (List ℕ)) (line : List ℕ) (count next : ℕ) → new ≡ old ++ line ∷ [] → count ≡ line_number (length old) → next ≡ min (count + 1) (2 ^ 64 - 1) → next ≡ line_number (length new)
+pub counts : (old new : List (List ℕ)) (line : List ℕ) (count next : ℕ) → new ≡ old ++ line ∷ []
+    → count ≡ line_number (length old) → next ≡ min (count + 1) (2 ^ 64 - 1) → next ≡ line_number (length new)
 counts old new line count next f g h =
     let e : length new ≡ length old + 1 = ap length f ∙ grind (arith, common_steps) in omega arith
 
 -- one line more, with no error so far
-module _ (kind : Kind) (old new : List (List ℕ)) (line : List ℕ) (f : new ≡ old ++ line ∷ []) (o : Option InputError) (g : o ≡ None) (h : IsStateOf kind old o) (d : ProblemBuilder)
+module _ (kind : Kind) (old new : List (List ℕ)) (line : List ℕ) (f : new ≡ old ++ line ∷ []) (o : Option InputError)
+    (g : o ≡ None) (h : IsStateOf kind old o) (d : ProblemBuilder)
     (s : MatchOption o (IsBuilder d × (stage_of_builder d ≡ stage_of kind old)) (λ _. Unit {0})) where
   pub sound : IsBuilder d × (stage_of_builder d ≡ stage_of kind old)
   sound = subst (λ q. MatchOption q (IsBuilder d × (stage_of_builder d ≡ stage_of kind old)) (λ _. Unit {0})) g s
@@ -84,21 +99,28 @@ module _ (kind : Kind) (old new : List (List ℕ)) (line : List ℕ) (f : new �
       let num : 0 + length (old ++ line ∷ []) ≡ length new = omega (arith, ap length f) in
       ap (line_fault kind) f ∙ line_fault-is kind (old ++ line ∷ [])
       ∙ next-fault kind 0 no_stage old line (sym (line_fault-is kind old) ∙ subst (IsStateOf kind old) g h)
-      ∙ ap (λ m. fault_or m (first (line_checks kind (stage_of kind old) line)) None) num ∙ ap (λ st. fault_or (length new) (first (line_checks kind st line)) None) (sym sound.1)
+      ∙ ap (λ m. fault_or m (first (line_checks kind (stage_of kind old) line)) None) num
+      ∙ ap (λ st. fault_or (length new) (first (line_checks kind st line)) None) (sym sound.1)
 
-  pub fails : (count : ℕ) (e : LineError) (T : Type 0) → count ≡ line_number (length new) → Judged {T = T} (first (line_checks kind (stage_of_builder d) line)) (Err e) → IsErrorOf kind new (error_at count e)
+  pub fails : (count : ℕ) (e : LineError) (T : Type 0) → count ≡ line_number (length new)
+      → Judged {T = T} (first (line_checks kind (stage_of_builder d) line)) (Err e)
+      → IsErrorOf kind new (error_at count e)
   fails count (Bad k) T c j = fault-is ∙ ap (λ q. fault_or (length new) q None) j ∙ ap (λ m. Some (m, k)) (sym c)
   fails count NoMemory T c j = tt
 
   pub goes : first (line_checks kind (stage_of_builder d) line) ≡ None → line_fault kind new ≡ None
   goes j = fault-is ∙ ap (λ q. fault_or (length new) q None) j
 
-  pub stage-is : (count : ℕ) (d' : ProblemBuilder) → count ≡ line_number (length new) → IsBuilder d' × (stage_of_builder d' ≡ with_line kind count (stage_of_builder d) line) → IsBuilder d' × (stage_of_builder d' ≡ stage_of kind new)
+  pub stage-is : (count : ℕ) (d' : ProblemBuilder) → count ≡ line_number (length new) → IsBuilder d'
+      × (stage_of_builder d' ≡ with_line kind count (stage_of_builder d) line) → IsBuilder d'
+      × (stage_of_builder d' ≡ stage_of kind new)
   stage-is count d' c t =
       let num : 0 + length (old ++ line ∷ []) ≡ length new = omega (arith, ap length f) in (
         t.0,
-        t.1 ∙ ap (λ m. with_line kind m (stage_of_builder d) line) c ∙ ap (λ st. with_line kind (line_number (length new)) st line) sound.1
-            ∙ ap (λ m. with_line kind (line_number m) (stage_of kind old) line) (sym num) ∙ sym (stage-snoc kind 0 no_stage old line) ∙ ap (stage_of kind) (sym f),
+        t.1 ∙ ap (λ m. with_line kind m (stage_of_builder d) line) c
+            ∙ ap (λ st. with_line kind (line_number (length new)) st line) sound.1
+            ∙ ap (λ m. with_line kind (line_number m) (stage_of kind old) line) (sym num)
+            ∙ sym (stage-snoc kind 0 no_stage old line) ∙ ap (stage_of kind) (sym f),
       )
 
 -- the end of the text
@@ -107,12 +129,14 @@ pub fault-ends : (kind : Kind) (lines : List (List ℕ)) (p : ℕ × FaultKind) 
 fault-ends kind lines p h =
     ap (λ q. option_or q (if list_all is_skipped lines then Some (line_number (length lines + 1), NoItems) else None)) h
 
-pub ends-at : (kind : Kind) (lines : List (List ℕ)) (o : Option InputError) (e : InputError) → o ≡ Some e → IsStateOf kind lines o → IsEndOf kind lines e
+pub ends-at : (kind : Kind) (lines : List (List ℕ)) (o : Option InputError) (e : InputError) → o ≡ Some e
+    → IsStateOf kind lines o → IsEndOf kind lines e
 ends-at kind lines o (Fault n k) f h = fault-ends kind lines (n, k) (subst (IsStateOf kind lines) f h)
 ends-at kind lines o Device f h = subst (IsStateOf kind lines) f h
 ends-at kind lines o Memory f h = tt
 
-pub end-is : (kind : Kind) (lines : List (List ℕ)) (b : Bool) (o : Option InputError) → o ≡ None → IsStateOf kind lines o → b ≡ (stage_of kind lines).started → first_fault kind lines ≡ end_fault (length lines) b
+pub end-is : (kind : Kind) (lines : List (List ℕ)) (b : Bool) (o : Option InputError) → o ≡ None
+    → IsStateOf kind lines o → b ≡ (stage_of kind lines).started → first_fault kind lines ≡ end_fault (length lines) b
 end-is kind lines b o f h s =
     let g : fault_from kind 0 no_stage lines ≡ None = sym (line_fault-is kind lines)
     ∙ subst (IsStateOf kind lines) f h in

@@ -12,7 +12,8 @@ use Rattle.xc_input.proofs.LineLemmas.Finish.{refutes}
 use Rattle.xc_input.proofs.LineLemmas.TextLines.{lines_of-ended, lines_of-part}
 use Rattle.std.proofs.lemmas.List.{nil_from_length}
 
-pub ends-as : (kind now : Kind) (lines told : List (List ℕ)) (r : Result Read InputError) → now ≡ kind → told ≡ lines → EndsAs now told r → EndsAs kind lines r
+pub ends-as : (kind now : Kind) (lines told : List (List ℕ)) (r : Result Read InputError) → now ≡ kind → told ≡ lines
+    → EndsAs now told r → EndsAs kind lines r
 ends-as kind now lines told r e f h = subst (λ k. EndsAs k lines r) e (subst (λ ls. EndsAs now ls r) f h)
 
 -- the error of a line is that of the text
@@ -21,14 +22,25 @@ error-ends kind lines (Fault n k) h = fault-ends kind lines (n, k) h
 error-ends kind lines Device h = h
 error-ends kind lines Memory h = tt
 
-pub line-ends : (kind : Kind) (lines : List (List ℕ)) (e : InputError) → IsErrorOf kind lines e → EndsAs kind lines (Err e)
-line-ends kind lines e h = record { accepted = tt; only = tt; first = error-ends kind lines e h; refused = refutes kind lines e (error-ends kind lines e h) }
+pub line-ends : (kind : Kind) (lines : List (List ℕ)) (e : InputError) → IsErrorOf kind lines e
+    → EndsAs kind lines (Err e)
+line-ends kind lines e h =
+    record {
+      accepted = tt;
+      only = tt;
+      first = error-ends kind lines e h;
+      refused = refutes kind lines e (error-ends kind lines e h);
+    }
 
 -- the lines of what was fed
-pub no-part : (reading : Reading) (carry : List ℕ) → IsBetween reading carry → length carry ≡ 0 → reading.lines ≡ lines_of (fed reading carry)
+pub no-part : (reading : Reading) (carry : List ℕ) → IsBetween reading carry → length carry ≡ 0
+    → reading.lines ≡ lines_of (fed reading carry)
 no-part reading carry between none =
-    sym (lines_of-ended reading.lines carry between.whole ∙ ap (λ xs. reading.lines ++ lines_of xs) (nil_from_length carry none) ∙ append-nil reading.lines)
+    sym (lines_of-ended reading.lines carry between.whole
+    ∙ ap (λ xs. reading.lines ++ lines_of xs) (nil_from_length carry none) ∙ append-nil reading.lines)
 
-pub last-part : (reading : Reading) (carry : List ℕ) (after : List (List ℕ)) → IsBetween reading carry → 0 < length carry → after ≡ reading.lines ++ carry ∷ [] → after ≡ lines_of (fed reading carry)
+pub last-part : (reading : Reading) (carry : List ℕ) (after : List (List ℕ)) → IsBetween reading carry
+    → 0 < length carry → after ≡ reading.lines ++ carry ∷ [] → after ≡ lines_of (fed reading carry)
 last-part reading carry after between some e =
-    e ∙ sym (lines_of-ended reading.lines carry between.whole ∙ ap (λ ls. reading.lines ++ ls) (lines_of-part carry between.partial some))
+    e ∙ sym (lines_of-ended reading.lines carry between.whole
+    ∙ ap (λ ls. reading.lines ++ ls) (lines_of-part carry between.partial some))

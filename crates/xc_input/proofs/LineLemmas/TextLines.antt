@@ -1,5 +1,6 @@
 -- What a text's lines are, once some of them were handed on.
-use Rattle.std.proofs.Common.{◌≡◌, ◌≢◌, ℕ, ◌<◌, List, [], ◌∷◌, ◌++◌, true, false, nat_eq, if◌then◌else◌, Result, Ok, Err, length, refl, sym, ap, ◌∙◌, subst, append_assoc, append-nil, arith}
+use Rattle.std.proofs.Common.{◌≡◌, ◌≢◌, ℕ, ◌<◌, List, [], ◌∷◌, ◌++◌, true, false, nat_eq, if◌then◌else◌, Result, Ok}
+use Rattle.std.proofs.Common.{Err, length, refl, sym, ap, ◌∙◌, subst, append_assoc, append-nil, arith}
 use Rattle.std.proofs.lemmas.Bool.Decides.{nat_tests}
 use Rattle.std.specs.List.{onto_first}
 use Rattle.std.proofs.lemmas.List.Folds.{list_any-append}
@@ -22,18 +23,21 @@ AreWhole-append : (ls ms : List (List ℕ)) → AreWhole ls → AreWhole ms → 
 AreWhole-append [] ms p q = q
 AreWhole-append (l ∷ ls) ms p q = (p.0, AreWhole-append ls ms p.1 q)
 
-pub whole-more : (old new : List (List ℕ)) (line : List ℕ) → new ≡ old ++ line ∷ [] → AreWhole old → has 10 line ≡ false → AreWhole new
+pub whole-more : (old new : List (List ℕ)) (line : List ℕ) → new ≡ old ++ line ∷ [] → AreWhole old → has 10 line ≡ false
+    → AreWhole new
 whole-more old new line e w l = subst AreWhole (sym e) (AreWhole-append old (line ∷ []) w (l, tt))
 
 ended-append : (ls ms : List (List ℕ)) → ended (ls ++ ms) ≡ ended ls ++ ended ms
 ended-append [] ms = refl
-ended-append (l ∷ ls) ms = ap (λ xs. l ++ 10 ∷ xs) (ended-append ls ms) ∙ sym (append_assoc l (10 ∷ ended ls) (ended ms))
+ended-append (l ∷ ls) ms =
+    ap (λ xs. l ++ 10 ∷ xs) (ended-append ls ms) ∙ sym (append_assoc l (10 ∷ ended ls) (ended ms))
 
 other : (x : ℕ) (a b : List (List ℕ)) → nat_eq x 10 ≡ false → (if nat_eq x 10 then a else b) ≡ b
 other x a b h = ap (λ t. if t then a else b) h
 
 -- a piece is cut at its first line feed
-pub line-cut : (piece end others : List ℕ) → end ≡ before 10 piece → (has 10 piece ≡ true) × (others ≡ after 10 piece) → (piece ≡ end ++ 10 ∷ others) × (has 10 end ≡ false)
+pub line-cut : (piece end others : List ℕ) → end ≡ before 10 piece → (has 10 piece ≡ true) × (others ≡ after 10 piece)
+    → (piece ≡ end ++ 10 ∷ others) × (has 10 end ≡ false)
 line-cut piece end others e h =
     let cut = cut-is 10 piece h.0 in
     (cut.0 ∙ (λ i. sym e i ++ 10 ∷ sym h.1 i), ap (has 10) e ∙ cut.1)
@@ -44,19 +48,23 @@ no_feed x h = grind (arith, nat_tests)
 -- a line and its line feed at the front
 lines_of-line : (l rest : List ℕ) → has 10 l ≡ false → lines_of (l ++ 10 ∷ rest) ≡ l ∷ lines_of rest
 lines_of-line [] rest h = refl
-lines_of-line (x ∷ l) rest h = let apart = or-false (nat_eq x 10) (has 10 l) h in other x _ _ apart.0 ∙ ap (onto_first x) (lines_of-line l rest apart.1)
+lines_of-line (x ∷ l) rest h = let apart = or-false (nat_eq x 10) (has 10 l) h in other x _ _ apart.0
+    ∙ ap (onto_first x) (lines_of-line l rest apart.1)
 
-pub lines_of-ended : (ls : List (List ℕ)) (rest : List ℕ) → AreWhole ls → lines_of (ended ls ++ rest) ≡ ls ++ lines_of rest
+pub lines_of-ended : (ls : List (List ℕ)) (rest : List ℕ) → AreWhole ls
+    → lines_of (ended ls ++ rest) ≡ ls ++ lines_of rest
 lines_of-ended [] rest h = refl
 lines_of-ended (l ∷ ls) rest h =
-    ap lines_of (append_assoc l (10 ∷ ended ls) rest) ∙ lines_of-line l (ended ls ++ rest) h.0 ∙ ap (λ ms. l ∷ ms) (lines_of-ended ls rest h.1)
+    ap lines_of (append_assoc l (10 ∷ ended ls) rest) ∙ lines_of-line l (ended ls ++ rest) h.0
+    ∙ ap (λ ms. l ∷ ms) (lines_of-ended ls rest h.1)
 
 -- lines that line feeds end
 pub lines_of-all : (ls : List (List ℕ)) → AreWhole ls → lines_of (ended ls) ≡ ls
 lines_of-all ls h = ap lines_of (sym (append-nil (ended ls))) ∙ lines_of-ended ls [] h ∙ append-nil ls
 
 -- the last byte of a part of a line
-pub last-of-part : (part : List ℕ) → has 10 part ≡ false → 0 < length part → (front : List ℕ) × (last : ℕ) × (part ≡ front ++ last ∷ []) × (last ≢ 10)
+pub last-of-part : (part : List ℕ) → has 10 part ≡ false → 0 < length part → (front : List ℕ) × (last : ℕ)
+    × (part ≡ front ++ last ∷ []) × (last ≢ 10)
 last-of-part [] h p = absurd (omega arith)
 last-of-part (x ∷ []) h p = ([], x, refl, no_feed x (or-false (nat_eq x 10) false h).0)
 last-of-part (x ∷ y ∷ l) h p =
@@ -67,43 +75,71 @@ last-of-part (x ∷ y ∷ l) h p =
 pub lines_of-part : (l : List ℕ) → has 10 l ≡ false → 0 < length l → lines_of l ≡ l ∷ []
 lines_of-part [] h p = absurd (omega arith)
 lines_of-part (x ∷ []) h p = other x _ _ (or-false (nat_eq x 10) false h).0
-lines_of-part (x ∷ y ∷ l) h p = let apart = or-false (nat_eq x 10) (has 10 (y ∷ l)) h in other x _ _ apart.0 ∙ ap (onto_first x) (lines_of-part (y ∷ l) apart.1 (omega arith))
+lines_of-part (x ∷ y ∷ l) h p = let apart = or-false (nat_eq x 10) (has 10 (y ∷ l)) h in other x _ _ apart.0
+    ∙ ap (onto_first x) (lines_of-part (y ∷ l) apart.1 (omega arith))
 
 -- an error of some lines is that of all
-IsErrorOf-more : (kind : Kind) (ls ms : List (List ℕ)) (e : InputError) → IsErrorOf kind ls e → IsErrorOf kind (ls ++ ms) e
+IsErrorOf-more : (kind : Kind) (ls ms : List (List ℕ)) (e : InputError) → IsErrorOf kind ls e
+    → IsErrorOf kind (ls ++ ms) e
 IsErrorOf-more kind ls ms (Fault n k) h = line-stays kind ls ms (n, k) h
 IsErrorOf-more kind ls ms Device h = h
 IsErrorOf-more kind ls ms Memory h = tt
 
-Spoils-ended : (kind : Kind) (ls : List (List ℕ)) (e : InputError) (bytes : List ℕ) → AreWhole ls → bytes ≡ ended ls → IsErrorOf kind ls e → Spoils kind bytes e
+Spoils-ended : (kind : Kind) (ls : List (List ℕ)) (e : InputError) (bytes : List ℕ) → AreWhole ls → bytes ≡ ended ls
+    → IsErrorOf kind ls e → Spoils kind bytes e
 Spoils-ended kind ls e bytes w f h =
-    λ more. subst (λ ms. IsErrorOf kind ms e) (sym (ap (λ bs. lines_of (bs ++ more)) f ∙ lines_of-ended ls more w)) (IsErrorOf-more kind ls (lines_of more) e h)
+    λ more. subst (λ ms. IsErrorOf kind ms e) (sym (ap (λ bs. lines_of (bs ++ more)) f ∙ lines_of-ended ls more w))
+    (IsErrorOf-more kind ls (lines_of more) e h)
 
-pub Spoils-more : (kind : Kind) (bytes more all : List ℕ) (e : InputError) → all ≡ bytes ++ more → Spoils kind bytes e → Spoils kind all e
-Spoils-more kind bytes more all e f h = λ others. subst (λ bs. IsErrorOf kind (lines_of bs) e) (sym (ap (λ bs. bs ++ others) f ∙ append_assoc bytes more others)) (h (more ++ others))
+pub Spoils-more : (kind : Kind) (bytes more all : List ℕ) (e : InputError) → all ≡ bytes ++ more → Spoils kind bytes e
+    → Spoils kind all e
+Spoils-more kind bytes more all e f h =
+    λ others. subst (λ bs. IsErrorOf kind (lines_of bs) e)
+    (sym (ap (λ bs. bs ++ others) f ∙ append_assoc bytes more others)) (h (more ++ others))
 
 -- the answer to a line that ends
-bytes-are : (old new : Reading) (carry end whole : List ℕ) → whole ≡ carry ++ end → new.lines ≡ old.lines ++ whole ∷ [] → (fed old carry ++ end) ++ 10 ∷ [] ≡ ended new.lines
+bytes-are : (old new : Reading) (carry end whole : List ℕ) → whole ≡ carry ++ end → new.lines ≡ old.lines ++ whole ∷ []
+    → (fed old carry ++ end) ++ 10 ∷ [] ≡ ended new.lines
 bytes-are old new carry end whole f g =
-    let a : (fed old carry ++ end) ++ 10 ∷ [] ≡ (ended old.lines ++ (carry ++ end)) ++ 10 ∷ [] = ap (λ bs. bs ++ 10 ∷ []) (append_assoc (ended old.lines) carry end) in
-    let b : (ended old.lines ++ (carry ++ end)) ++ 10 ∷ [] ≡ ended old.lines ++ ((carry ++ end) ++ 10 ∷ []) = append_assoc (ended old.lines) (carry ++ end) (10 ∷ []) in
-    a ∙ b ∙ ap (λ w. ended old.lines ++ (w ++ 10 ∷ [])) (sym f) ∙ sym (ended-append old.lines (whole ∷ [])) ∙ ap ended (sym g)
+    let a : (fed old carry ++ end) ++ 10 ∷ [] ≡ (ended old.lines ++ (carry ++ end)) ++ 10 ∷ [] =
+    ap (λ bs. bs ++ 10 ∷ []) (append_assoc (ended old.lines) carry end) in
+    let b : (ended old.lines ++ (carry ++ end)) ++ 10 ∷ [] ≡ ended old.lines ++ ((carry ++ end) ++ 10 ∷ []) =
+    append_assoc (ended old.lines) (carry ++ end) (10 ∷ []) in
+    a ∙ b ∙ ap (λ w. ended old.lines ++ (w ++ 10 ∷ [])) (sym f) ∙ sym (ended-append old.lines (whole ∷ []))
+    ∙ ap ended (sym g)
 
-pub ends : (old new : Reading) (carry end whole left : List ℕ) (r : Result (Unit {0}) InputError) → IsBetween old carry → has 10 end ≡ false → whole ≡ carry ++ end → new.kind ≡ old.kind
-    → new.lines ≡ old.lines ++ whole ∷ [] → new.error ≡ result_err r → IsStateOf new.kind new.lines (result_err r) → left ≡ [] → Ended old new carry end left r
+pub ends : (old new : Reading) (carry end whole left : List ℕ) (r : Result (Unit {0}) InputError) → IsBetween old carry
+    → has 10 end ≡ false → whole ≡ carry ++ end → new.kind ≡ old.kind
+    → new.lines ≡ old.lines ++ whole ∷ [] → new.error ≡ result_err r → IsStateOf new.kind new.lines (result_err r)
+    → left ≡ [] → Ended old new carry end left r
 ends old new carry end whole left (Ok x) b l f k g e s n =
     let lack : has 10 whole ≡ false = ap (has 10) f ∙ lacks-append 10 carry end b.partial l in
     let w : AreWhole new.lines = whole-more old.lines new.lines whole g b.whole lack in
     record {
-      bytes = ap (λ xs. ended new.lines ++ xs) n ∙ append-nil (ended new.lines) ∙ sym (bytes-are old new carry end whole f g);
+      bytes = ap (λ xs. ended new.lines ++ xs) n ∙ append-nil (ended new.lines)
+          ∙ sym (bytes-are old new carry end whole f g);
       state = record { no_error = e; no_fault = s; whole = w; partial = ap (has 10) n };
       err = tt;
     }
 ends old new carry end whole left (Err x) b l f k g e s n =
     let lack : has 10 whole ≡ false = ap (has 10) f ∙ lacks-append 10 carry end b.partial l in
     let w : AreWhole new.lines = whole-more old.lines new.lines whole g b.whole lack in
-    record { bytes = tt; state = tt; err = subst (λ kind. Spoils kind ((fed old carry ++ end) ++ 10 ∷ []) x) k (Spoils-ended new.kind new.lines x _ w (bytes-are old new carry end whole f g) s) }
+    record {
+      bytes = tt;
+      state = tt;
+      err =
+          subst (λ kind. Spoils kind ((fed old carry ++ end) ++ 10 ∷ []) x) k
+          (Spoils-ended new.kind new.lines x _ w (bytes-are old new carry end whole f g) s);
+    }
 
 -- a piece of a line is carried on
-pub between-more : (reading : Reading) (carry rest new : List ℕ) → IsBetween reading carry → has 10 rest ≡ false → new ≡ carry ++ rest → IsBetween reading new
-between-more reading carry rest new b l e = record { no_error = b.no_error; no_fault = b.no_fault; whole = b.whole; partial = ap (has 10) e ∙ lacks-append 10 carry rest b.partial l }
+pub between-more : (reading : Reading) (carry rest new : List ℕ) → IsBetween reading carry → has 10 rest ≡ false
+    → new ≡ carry ++ rest → IsBetween reading new
+between-more reading carry rest new b l e =
+    record {
+      no_error = b.no_error;
+      no_fault = b.no_fault;
+      whole = b.whole;
+      partial = ap (has 10) e
+          ∙ lacks-append 10 carry rest b.partial l;
+    }

@@ -15,13 +15,21 @@ use Rattle.xc_input.specs.inner.Builders.{items_of}
 use Rattle.xc_input.specs.inner.ColourNumbers.{numbered, use_behind}
 use Rattle.xc_input.proofs.FaultLemmas.Checks.{no-place, some-is}
 
-last-or-len : {A : Type 0} (p : A → Bool) (xs : List A) (x : A) → list_any p xs ≡ false → p x ≡ true → position_or_len p (xs ++ x ∷ []) ≡ length xs
+last-or-len : {A : Type 0} (p : A → Bool) (xs : List A) (x : A) → list_any p xs ≡ false → p x ≡ true
+    → position_or_len p (xs ++ x ∷ []) ≡ length xs
 last-or-len p [] x e f = ap (λ t. if not t then 1 + 0 else 0) f
 last-or-len p (y ∷ ys) x e f =
-    let P : Bool → Type 0 = λ t. (t || list_any p ys) ≡ false → (if not t then 1 + position_or_len p (ys ++ x ∷ []) else 0) ≡ suc (length ys) in
-    let h : P (p y) = (elim (p y) as P [ true ↦ λ g. absurd (cc) | false ↦ λ g. let r : position_or_len p (ys ++ x ∷ []) ≡ length ys = last-or-len p ys x g f in omega arith ]) in h e
+    let P : Bool → Type 0 = λ t. (t || list_any p ys) ≡ false
+    → (if not t then 1 + position_or_len p (ys ++ x ∷ []) else 0) ≡ suc (length ys) in
+    let h : P (p y) =
+    (elim (p y) as P [
+      | true ↦ λ g. absurd (cc)
+      | false ↦ λ g. let r : position_or_len p (ys ++ x ∷ []) ≡ length ys =
+          last-or-len p ys x g f in omega arith
+    ]) in h e
 
-pub last-position : {A : Type 0} (p : A → Bool) (xs : List A) (x : A) → position p xs ≡ None → p x ≡ true → position p (xs ++ x ∷ []) ≡ Some (length xs)
+pub last-position : {A : Type 0} (p : A → Bool) (xs : List A) (x : A) → position p xs ≡ None → p x ≡ true
+    → position p (xs ++ x ∷ []) ≡ Some (length xs)
 last-position p xs x e f =
     let at : position_or_len p (xs ++ x ∷ []) ≡ length xs = last-or-len p xs x (no-place p xs e) f in
     let all : length (xs ++ x ∷ []) ≡ length xs + 1 = length-append xs (x ∷ []) in
@@ -29,21 +37,31 @@ last-position p xs x e f =
     ap (λ b. if b then Some (position_or_len p (xs ++ x ∷ [])) else None) t ∙ ap Some at
 
 -- a place stays where more stands behind
-or-len-stays : {A : Type 0} (p : A → Bool) (xs ys : List A) → position_or_len p xs < length xs → position_or_len p (xs ++ ys) ≡ position_or_len p xs
+or-len-stays : {A : Type 0} (p : A → Bool) (xs ys : List A) → position_or_len p xs < length xs
+    → position_or_len p (xs ++ ys) ≡ position_or_len p xs
 or-len-stays p [] ys h = absurd (omega (arith, h))
 or-len-stays p (x ∷ xs) ys h =
-    let P : Bool → Type 0 = λ t. (if not t then 1 + position_or_len p xs else 0) < suc (length xs) → (if not t then 1 + position_or_len p (xs ++ ys) else 0) ≡ (if not t then 1 + position_or_len p xs else 0) in
-    let g : P (p x) = (elim (p x) as P [ true ↦ λ h. refl | false ↦ λ h. ap (λ k. 1 + k) (or-len-stays p xs ys (omega (arith, h))) ]) in g h
+    let P : Bool → Type 0 = λ t. (if not t then 1 + position_or_len p xs else 0) < suc (length xs)
+    → (if not t then 1 + position_or_len p (xs ++ ys) else 0) ≡ (if not t then 1 + position_or_len p xs else 0) in
+    let g : P (p x) =
+    (elim (p x) as P [
+      | true ↦ λ h. refl
+      | false ↦ λ h. ap (λ k. 1 + k) (or-len-stays p xs ys (omega (arith, h)))
+    ]) in g h
 
-found : {A : Type 0} (p : A → Bool) (xs : List A) (i : ℕ) → position p xs ≡ Some i → (i < length xs) × (position_or_len p xs ≡ i)
+found : {A : Type 0} (p : A → Bool) (xs : List A) (i : ℕ) → position p xs ≡ Some i → (i < length xs)
+    × (position_or_len p xs ≡ i)
 found p xs i e =
-    let P : Bool → Type 0 = λ t. nat_lt (position_or_len p xs) (length xs) ≡ t → (if t then Some (position_or_len p xs) else None) ≡ Some i → (i < length xs) × (position_or_len p xs ≡ i) in
+    let P : Bool → Type 0 = λ t. nat_lt (position_or_len p xs) (length xs) ≡ t
+    → (if t then Some (position_or_len p xs) else None) ≡ Some i → (i < length xs) × (position_or_len p xs ≡ i) in
     let h : P (nat_lt (position_or_len p xs) (length xs)) = (elim (nat_lt (position_or_len p xs) (length xs)) as P [
-      | true ↦ λ f g. let z : position_or_len p xs ≡ i = cc in let l : position_or_len p xs < length xs = grind (arith, nat_tests) in (subst (λ n. n < length xs) z l, z)
+      | true ↦ λ f g. let z : position_or_len p xs ≡ i = cc in let l : position_or_len p xs < length xs =
+          grind (arith, nat_tests) in (subst (λ n. n < length xs) z l, z)
       | false ↦ λ f g. absurd (cc)
     ]) in h refl e
 
-position-stays : {A : Type 0} (p : A → Bool) (xs ys : List A) (i : ℕ) → position p xs ≡ Some i → position p (xs ++ ys) ≡ Some i
+position-stays : {A : Type 0} (p : A → Bool) (xs ys : List A) (i : ℕ) → position p xs ≡ Some i
+    → position p (xs ++ ys) ≡ Some i
 position-stays p xs ys i e =
     let g = found p xs i e in
     let k : position_or_len p (xs ++ ys) ≡ i = or-len-stays p xs ys (subst (λ n. n < length xs) (sym g.1) g.0) ∙ g.1 in
@@ -63,19 +81,27 @@ none-is (Some x) e = absurd (cc)
 pub met : (cs : List (List ℕ)) (c : List ℕ) → Knows (with_colour cs c) c
 met cs [] = tt
 met cs (b ∷ bs) =
-    let P : Bool → Type 0 = λ t. is_none (place cs (b ∷ bs)) ≡ t → (i : ℕ) × (place (if t then cs ++ (b ∷ bs) ∷ [] else cs) (b ∷ bs) ≡ Some i) in
+    let P : Bool → Type 0 = λ t. is_none (place cs (b ∷ bs)) ≡ t → (i : ℕ)
+    × (place (if t then cs ++ (b ∷ bs) ∷ [] else cs) (b ∷ bs) ≡ Some i) in
     let h : P (is_none (place cs (b ∷ bs))) = (elim (is_none (place cs (b ∷ bs))) as P [
-      | true ↦ λ f. (length cs, last-position (bytes_eq (b ∷ bs)) cs (b ∷ bs) (none-is (place cs (b ∷ bs)) f) ((bytes_eq-Decides (b ∷ bs) (b ∷ bs)).1 refl))
+      | true ↦ λ f. (
+        length cs,
+        last-position (bytes_eq (b ∷ bs)) cs (b ∷ bs) (none-is (place cs (b ∷ bs)) f)
+            ((bytes_eq-Decides (b ∷ bs) (b ∷ bs)).1 refl),
+      )
       | false ↦ λ f. some-is (place cs (b ∷ bs)) f
     ]) in h refl
 
-knows-more : (cs : List (List ℕ)) (d c : List ℕ) → Knows cs c → Knows (with_colour cs d) c × (colour_number (with_colour cs d) c ≡ colour_number cs c)
+knows-more : (cs : List (List ℕ)) (d c : List ℕ) → Knows cs c → Knows (with_colour cs d) c
+    × (colour_number (with_colour cs d) c ≡ colour_number cs c)
 knows-more cs [] c k = (k, refl)
 knows-more cs (b ∷ bs) [] k = (tt, refl)
 knows-more cs (b ∷ bs) (x ∷ xs) k =
     let P : Bool → Type 0 = λ t. ((i : ℕ) × (place (if t then cs ++ (b ∷ bs) ∷ [] else cs) (x ∷ xs) ≡ Some i))
-    × (unwrap_or (place (if t then cs ++ (b ∷ bs) ∷ [] else cs) (x ∷ xs)) 0 + 1 ≡ unwrap_or (place cs (x ∷ xs)) 0 + 1) in
-    let stays : place (cs ++ (b ∷ bs) ∷ []) (x ∷ xs) ≡ Some k.0 = position-stays (bytes_eq (x ∷ xs)) cs ((b ∷ bs) ∷ []) k.0 k.1 in
+    × (unwrap_or (place (if t then cs ++ (b ∷ bs) ∷ [] else cs) (x ∷ xs)) 0 + 1 ≡ unwrap_or (place cs (x ∷ xs)) 0
+    + 1) in
+    let stays : place (cs ++ (b ∷ bs) ∷ []) (x ∷ xs) ≡ Some k.0 =
+    position-stays (bytes_eq (x ∷ xs)) cs ((b ∷ bs) ∷ []) k.0 k.1 in
     let h : P (is_none (place cs (b ∷ bs))) = (elim (is_none (place cs (b ∷ bs))) as P [
       | true ↦ ((k.0, stays), ap (λ o. unwrap_or o 0 + 1) (stays ∙ sym k.1))
       | false ↦ (k, refl)

@@ -20,7 +20,8 @@ use Rattle.std.specs.List.{list_any}
 use Rattle.xc_input.specs.Sheets.{Written, number_uses, colour_number}
 use Rattle.xc_input.specs.inner.Sheets.{names_of, with_uses}
 use Rattle.xc_input.specs.Faults.{first, has_primary}
-use Rattle.xc_input.specs.inner.Stages.{option_checks, row_checks, no_row, context, written, content_checks, with_option, written_by}
+use Rattle.xc_input.specs.inner.Stages.{option_checks, row_checks, no_row, context, written, content_checks}
+use Rattle.xc_input.specs.inner.Stages.{with_option, written_by}
 use Rattle.xc_input.specs.Limits.{most_uses, most_items}
 use Rattle.xc_input.specs.inner.Builders.{AreMarks, AreDistinct, AreNames, IsBuilder, stage_of_builder}
 use Rattle.xc_input.specs.inner.Builders.{sheet_of_builder, entry_of}
@@ -33,25 +34,31 @@ use Rattle.xc_input.proofs.OptionLemmas.FlatParts.{option-more, all-uses}
 use Rattle.xc_input.proofs.FaultLemmas.Checks.{first-back, map-length, names_of-length}
 
 -- the number of a colour that was added last
-pub new-number : (old new : List (List ℕ)) (colour : List ℕ) (n : ℕ) → 0 < length colour → place old colour ≡ None → new ≡ old ++ colour ∷ [] → n ≡ length old → n + 1 ≡ colour_number new colour
+pub new-number : (old new : List (List ℕ)) (colour : List ℕ) (n : ℕ) → 0 < length colour → place old colour ≡ None
+    → new ≡ old ++ colour ∷ [] → n ≡ length old → n + 1 ≡ colour_number new colour
 new-number old new [] n h e f g = absurd (omega arith)
 new-number old new (b ∷ bs) n h e f g =
-    let is : place new (b ∷ bs) ≡ Some (length old) = ap (λ cs. place cs (b ∷ bs)) f ∙ last-position (bytes_eq (b ∷ bs)) old (b ∷ bs) e ((bytes_eq-Decides (b ∷ bs) (b ∷ bs)).1 refl) in
+    let is : place new (b ∷ bs) ≡ Some (length old) = ap (λ cs. place cs (b ∷ bs)) f
+    ∙ last-position (bytes_eq (b ∷ bs)) old (b ∷ bs) e ((bytes_eq-Decides (b ∷ bs) (b ∷ bs)).1 refl) in
     ap (λ m. m + 1) g ∙ ap (λ o. unwrap_or o 0 + 1) (sym is)
 
 pub keys-count : (d : ProblemBuilder) → IsBuilder d → length d.marks.items ≡ length d.names.keys
 keys-count d s =
-    let a : length (key_names d.names.keys) ≡ length d.names.keys = map-length (λ (v : Vec ℕ Global). v.items) d.names.keys in
+    let a : length (key_names d.names.keys) ≡ length d.names.keys =
+    map-length (λ (v : Vec ℕ Global). v.items) d.names.keys in
     let b : length (key_names d.names.keys) ≡ length (names_of (map entry_of d.items.items)) = ap length s.names in
-    let e : length (names_of (map entry_of d.items.items)) ≡ length (map entry_of d.items.items) = names_of-length (map entry_of d.items.items) in
+    let e : length (names_of (map entry_of d.items.items)) ≡ length (map entry_of d.items.items) =
+    names_of-length (map entry_of d.items.items) in
     let g : length (map entry_of d.items.items) ≡ length d.items.items = map-length entry_of d.items.items in
     let m : length d.marks.items ≡ length d.items.items = s.marks in omega arith
 
 pub keys-few : (d : ProblemBuilder) → IsBuilder d → length d.names.keys ≤ most_items
 keys-few d s =
-    let a : length (key_names d.names.keys) ≡ length d.names.keys = map-length (λ (v : Vec ℕ Global). v.items) d.names.keys in
+    let a : length (key_names d.names.keys) ≡ length d.names.keys =
+    map-length (λ (v : Vec ℕ Global). v.items) d.names.keys in
     let b : length (key_names d.names.keys) ≡ length (names_of (map entry_of d.items.items)) = ap length s.names in
-    let e : length (names_of (map entry_of d.items.items)) ≡ length (map entry_of d.items.items) = names_of-length (map entry_of d.items.items) in
+    let e : length (names_of (map entry_of d.items.items)) ≡ length (map entry_of d.items.items) =
+    names_of-length (map entry_of d.items.items) in
     let g : length (map entry_of d.items.items) ≡ length d.items.items = map-length entry_of d.items.items in
     let m : length d.items.items ≤ most_items = s.few_items in omega arith
 
@@ -101,10 +108,24 @@ module _ (kind : Kind) (d : ProblemBuilder) (line : List ℕ) (s : IsBuilder d) 
 
   -- the checks of the tokens, and then that of the whole line
   pub content-is : first (content_checks kind (stage_of_builder d) line)
-      ≡ first (option_checks (context kind (key_names d.names.keys) d.primary) [] (tokens line) ++ (TooManyUses, has_primary d.primary (written_by (sheet_of_builder d) line) && nat_lt most_uses (use_count (pieces d.starts.items d.uses.items) + length (tokens line))) ∷ [])
+      ≡ first (option_checks (context kind (key_names d.names.keys) d.primary) [] (tokens line) ++ (
+        TooManyUses,
+        has_primary d.primary (written_by (sheet_of_builder d) line) && nat_lt most_uses
+            (use_count (pieces d.starts.items d.uses.items) + length (tokens line)),
+      ) ∷ [])
   content-is =
-      ap (λ b. first (if b then option_checks (context kind (names_of (map entry_of d.items.items)) d.primary) [] (tokens line) ++ (TooManyUses, has_primary d.primary (written_by (sheet_of_builder d) line) && nat_lt most_uses (use_count (pieces d.starts.items d.uses.items) + length (tokens line))) ∷ [] else row_checks kind no_row (parts line))) t
-      ∙ ap (λ ns. first (option_checks (context kind ns d.primary) [] (tokens line) ++ (TooManyUses, has_primary d.primary (written_by (sheet_of_builder d) line) && nat_lt most_uses (use_count (pieces d.starts.items d.uses.items) + length (tokens line))) ∷ [])) (sym s.names)
+      ap (λ b. first (if b then option_checks (context kind (names_of (map entry_of d.items.items)) d.primary) []
+      (tokens line) ++ (
+        TooManyUses,
+        has_primary d.primary (written_by (sheet_of_builder d) line) && nat_lt
+            most_uses (use_count (pieces d.starts.items d.uses.items) + length (tokens line)),
+      ) ∷ [] else row_checks
+      kind no_row (parts line))) t
+      ∙ ap (λ ns. first (option_checks (context kind ns d.primary) [] (tokens line) ++ (
+        TooManyUses,
+        has_primary d.primary (written_by (sheet_of_builder d) line) && nat_lt most_uses
+            (use_count (pieces d.starts.items d.uses.items) + length (tokens line)),
+      ) ∷ [])) (sym s.names)
 
   module _ (us : List Written) (are : us ≡ map (written (key_names d.names.keys)) (tokens line)) where
     pub by-parts : written_by (sheet_of_builder d) line ≡ us
@@ -117,8 +138,14 @@ module _ (kind : Kind) (d : ProblemBuilder) (line : List ℕ) (s : IsBuilder d) 
       whole-line =
           let n : length (tokens line) ≡ length us =
           sym (length-map (tokens line) (written (key_names d.names.keys))) ∙ ap length (sym are) in
-          content-is ∙ first-back (option_checks (context kind (key_names d.names.keys) d.primary) [] (tokens line)) ((TooManyUses, has_primary d.primary (written_by (sheet_of_builder d) line) && nat_lt most_uses (use_count (pieces d.starts.items d.uses.items) + length (tokens line))) ∷ []) ok
-          ∙ (λ i. if (ap (has_primary d.primary) by-parts ∙ sym p) i && nat_lt most_uses (uses-counted i + n i) then Some TooManyUses else None)
+          content-is ∙ first-back (option_checks (context kind (key_names d.names.keys) d.primary) [] (tokens line))
+          ((
+            TooManyUses,
+            has_primary d.primary (written_by (sheet_of_builder d) line) && nat_lt most_uses
+                (use_count (pieces d.starts.items d.uses.items) + length (tokens line)),
+          ) ∷ []) ok
+          ∙ (λ i. if (ap (has_primary d.primary) by-parts ∙ sym p) i && nat_lt most_uses (uses-counted i + n i) then
+          Some TooManyUses else None)
 
       pub no-primary : b ≡ false → first (content_checks kind (stage_of_builder d) line) ≡ None
       no-primary e = whole-line
@@ -160,13 +187,18 @@ module _ (kind : Kind) (d : ProblemBuilder) (line : List ℕ) (s : IsBuilder d) 
           option-more d.starts.items d.uses.items (numbered (key_names d.colours.keys) us) (length d'.uses.items)
           (s.starts t) (let n : length d'.uses.items ≡ length d.uses.items + length us = new-length in omega arith)
 
-      pub taken : IsBuilder d' × (stage_of_builder d' ≡ with_option count (stage_of_builder d) (written_by (sheet_of_builder d) line))
+      pub taken : IsBuilder d'
+          × (stage_of_builder d' ≡ with_option count (stage_of_builder d) (written_by (sheet_of_builder d) line))
       taken = (
         record {
-          names = subst (λ k. key_names k.keys ≡ names_of (map entry_of d'.items.items)) (sym same.1) (subst (λ k. key_names d.names.keys ≡ names_of (map entry_of k.items)) (sym same.2) s.names);
+          names =
+              subst (λ k. key_names k.keys ≡ names_of (map entry_of d'.items.items)) (sym same.1)
+              (subst (λ k. key_names d.names.keys ≡ names_of (map entry_of k.items)) (sym same.2) s.names);
           named = subst (λ k. AreNames (key_names k.keys)) (sym same.1) s.named;
           few_items = subst (λ k. length k.items ≤ most_items) (sym same.2) s.few_items;
-          starts = λ _. subst (λ xs. AreOptionStarts xs d'.uses.items) (sym starts) (subst (AreOptionStarts (d.starts.items ++ length d'.uses.items ∷ [])) (sym uses) cut.0);
+          starts =
+              λ _. subst (λ xs. AreOptionStarts xs d'.uses.items) (sym starts)
+              (subst (AreOptionStarts (d.starts.items ++ length d'.uses.items ∷ [])) (sym uses) cut.0);
           unstarted = λ e. absurd (let f : d'.started ≡ true = same.0 ∙ t in cc);
           few_uses = let n : length d'.uses.items ≡ length d.uses.items + length us = new-length in omega arith;
           marks = marks;
@@ -199,11 +231,14 @@ module _ (kind : Kind) (d : ProblemBuilder) (line : List ℕ) (s : IsBuilder d) 
               sheet = record {
                 entries = map entry_of d.items.items;
                 primaries = d.primary;
-                options = pieces d.starts.items d.uses.items ++ numbered (key_names d.colours.keys) (written_by (sheet_of_builder d) line) ∷ [];
+                options =
+                    pieces d.starts.items d.uses.items ++ numbered (key_names d.colours.keys)
+                    (written_by (sheet_of_builder d) line) ∷ [];
                 colours = with_uses (key_names d.colours.keys) (written_by (sheet_of_builder d) line);
               };
               ignored = d.ignored.items;
-            } else record { started = true; sheet = sheet_of_builder d; ignored = d.ignored.items ++ count ∷ [] }) (ap (has_primary d.primary) by-parts ∙ sym p ∙ e)),
+            } else record { started = true; sheet = sheet_of_builder d; ignored = d.ignored.items ++ count ∷ [] })
+            (ap (has_primary d.primary) by-parts ∙ sym p ∙ e)),
       )
 
     module _ (b : Bool) (p : b ≡ has_primary d.primary us) (e : b ≡ false) (count : ℕ) (d' : ProblemBuilder)

@@ -1,5 +1,7 @@
 -- Options kept flat.
-use Rattle.std.proofs.Common.{ℕ, zero, suc, ◌≡◌, ◌+◌, ◌-◌, ◌<◌, ◌≤◌, List, [], ◌∷◌, ◌++◌, length, map, take, drop, get_or, sum_by, All, Some, refl, sym, subst, ap, ap₂, ◌∙◌, arith, length-append, length-drop}
+use Rattle.std.proofs.Common.{ℕ, zero, suc, ◌≡◌, ◌+◌, ◌-◌, ◌<◌, ◌≤◌, List, [], ◌∷◌, ◌++◌, length, map, take, drop}
+use Rattle.std.proofs.Common.{get_or, sum_by, All, Some, refl, sym, subst, ap, ap₂, ◌∙◌, arith, length-append}
+use Rattle.std.proofs.Common.{length-drop}
 use Rattle.std.proofs.lemmas.List.{take-append-le, drop-append-le, length-take-le, get_or-drop}
 use Rattle.std.proofs.lemmas.List.Sums.{sum_by-cons}
 use Rattle.std.proofs.Math.Seq.{drop-append_seam, take-length}
@@ -10,31 +12,38 @@ use Rattle.xc_input.specs.inner.Flat.{pieces, AreStarts}
 use Rattle.xc_input.specs.Problem.{numbered_get, use_count}
 use Rattle.xc_input.specs.inner.Vectors.{AreOptionStarts}
 
-pub slice_get-map : {X Y : Type 0} (f : X → Y) (xs : List X) (i : ℕ) (d : X) → i < length xs → slice_get (map f xs) i ≡ Some (f (get_or xs i d))
+pub slice_get-map : {X Y : Type 0} (f : X → Y) (xs : List X) (i : ℕ) (d : X) → i < length xs
+    → slice_get (map f xs) i ≡ Some (f (get_or xs i d))
 slice_get-map f [] i d h = absurd (omega (arith, h))
 slice_get-map f (x ∷ xs) zero d h = refl
 slice_get-map f (x ∷ xs) (suc i) d h = slice_get-map f xs i d (omega (arith, h))
 
-pub slice_get-map-take : {X Y : Type 0} (f : X → Y) (n : ℕ) (xs : List X) (i : ℕ) (d : X) → i < n → i < length xs → slice_get (map f (take n xs)) i ≡ Some (f (get_or xs i d))
+pub slice_get-map-take : {X Y : Type 0} (f : X → Y) (n : ℕ) (xs : List X) (i : ℕ) (d : X) → i < n → i < length xs
+    → slice_get (map f (take n xs)) i ≡ Some (f (get_or xs i d))
 slice_get-map-take f zero xs i d h k = absurd (omega (arith, h))
 slice_get-map-take f (suc n) [] i d h k = absurd (omega (arith, k))
 slice_get-map-take f (suc n) (x ∷ xs) zero d h k = refl
-slice_get-map-take f (suc n) (x ∷ xs) (suc i) d h k = slice_get-map-take f n xs i d (omega (arith, h)) (omega (arith, k))
+slice_get-map-take f (suc n) (x ∷ xs) (suc i) d h k =
+    slice_get-map-take f n xs i d (omega (arith, h)) (omega (arith, k))
 
-pub length-pieces : {X : Type 0} (starts : List ℕ) (us : List X) → AreStarts starts (length us) → length (pieces starts us) + 1 ≡ length starts
+pub length-pieces : {X : Type 0} (starts : List ℕ) (us : List X) → AreStarts starts (length us)
+    → length (pieces starts us) + 1 ≡ length starts
 length-pieces [] us h = absurd h
 length-pieces (a ∷ []) us h = omega arith
 length-pieces (a ∷ b ∷ starts) us h = omega (arith, length-pieces (b ∷ starts) us h.1)
 
 -- a part lies within the list
-pub start_range : (starts : List ℕ) (n k : ℕ) → AreStarts starts n → k + 1 < length starts → (get_or starts k 0 ≤ get_or starts (suc k) 0) × (get_or starts (suc k) 0 ≤ n)
+pub start_range : (starts : List ℕ) (n k : ℕ) → AreStarts starts n → k + 1 < length starts
+    → (get_or starts k 0 ≤ get_or starts (suc k) 0) × (get_or starts (suc k) 0 ≤ n)
 start_range [] n k h l = absurd h
 start_range (a ∷ []) n k h l = absurd (omega (arith, l))
 start_range (a ∷ b ∷ []) n zero h l = (h.0, omega (arith, h.1))
-start_range (a ∷ b ∷ c ∷ starts) n zero h l = let later = start_range (b ∷ c ∷ starts) n zero h.1 (omega arith) in (h.0, omega (arith, later.0, later.1))
+start_range (a ∷ b ∷ c ∷ starts) n zero h l =
+    let later = start_range (b ∷ c ∷ starts) n zero h.1 (omega arith) in (h.0, omega (arith, later.0, later.1))
 start_range (a ∷ b ∷ starts) n (suc k) h l = start_range (b ∷ starts) n k h.1 (omega (arith, l))
 
-pub piece_at : {X : Type 0} (starts : List ℕ) (us : List X) (k : ℕ) → k + 1 < length starts → slice_get (pieces starts us) k ≡ Some (slice_range us (get_or starts k 0) (get_or starts (suc k) 0))
+pub piece_at : {X : Type 0} (starts : List ℕ) (us : List X) (k : ℕ) → k + 1 < length starts
+    → slice_get (pieces starts us) k ≡ Some (slice_range us (get_or starts k 0) (get_or starts (suc k) 0))
 piece_at [] us k h = absurd (omega (arith, h))
 piece_at (a ∷ []) us k h = absurd (omega (arith, h))
 piece_at (a ∷ b ∷ starts) us zero h = refl
@@ -50,28 +59,34 @@ length-map-take f (suc n) [] h = absurd (omega (arith, h))
 length-map-take f (suc n) (x ∷ xs) h = ap suc (length-map-take f n xs (omega (arith, h)))
 
 -- the part between two starts that were read
-pub part_range : (starts : List ℕ) (n k a b : ℕ) → AreStarts starts n → k + 1 < length starts → a ≡ get_or starts k 0 → b ≡ get_or starts (suc k) 0 → (a ≤ b) × (b ≤ n)
-part_range starts n k a b h l e f = let r = start_range starts n k h l in (omega (arith, r.0, e, f), omega (arith, r.1, f))
+pub part_range : (starts : List ℕ) (n k a b : ℕ) → AreStarts starts n → k + 1 < length starts → a ≡ get_or starts k 0
+    → b ≡ get_or starts (suc k) 0 → (a ≤ b) × (b ≤ n)
+part_range starts n k a b h l e f =
+    let r = start_range starts n k h l in (omega (arith, r.0, e, f), omega (arith, r.1, f))
 
-pub option_part : {X : Type 0} (starts : List ℕ) (us : List X) (o a b : ℕ) → AreStarts starts (length us) → 1 ≤ o → o < length starts → a ≡ get_or starts (o - 1) a → b ≡ get_or starts o b →
+pub option_part : {X : Type 0} (starts : List ℕ) (us : List X) (o a b : ℕ) → AreStarts starts (length us) → 1 ≤ o
+    → o < length starts → a ≡ get_or starts (o - 1) a → b ≡ get_or starts o b →
     (a ≤ b) × (b ≤ length us) × (numbered_get (pieces starts us) o ≡ Some (slice_range us a b))
 option_part starts us zero a b h l m e f = absurd (omega (arith, l))
 option_part starts us (suc k) a b h l m e f =
     let before : suc k - 1 ≡ k = omega arith in
     let in_front : k < length starts = omega (arith, m) in
     let two : k + 1 < length starts = omega (arith, m) in
-    let from : a ≡ get_or starts k 0 = e ∙ ap (λ n. get_or starts n a) before ∙ get_or_default_zero starts k a in_front in
+    let from : a ≡ get_or starts k 0 =
+    e ∙ ap (λ n. get_or starts n a) before ∙ get_or_default_zero starts k a in_front in
     let to : b ≡ get_or starts (suc k) 0 = f ∙ get_or_default_zero starts (suc k) b m in
     let range = part_range starts (length us) k a b h two from to in
     (range.0, range.1, piece_at starts us k two ∙ ap₂ (λ x y. Some (slice_range us x y)) (sym from) (sym to))
 
-pub slice-front : {X : Type 0} (us vs : List X) (a b : ℕ) → a ≤ b → b ≤ length us → slice_range (us ++ vs) a b ≡ slice_range us a b
+pub slice-front : {X : Type 0} (us vs : List X) (a b : ℕ) → a ≤ b → b ≤ length us
+    → slice_range (us ++ vs) a b ≡ slice_range us a b
 slice-front us vs a b h l =
     let whole : length (drop a us) ≡ length us - a = length-drop a us in
     let room : b - a ≤ length (drop a us) = omega arith in
     ap (take (b - a)) (drop-append-le a us vs (omega arith)) ∙ take-append-le (b - a) (drop a us) vs room
 
-slice-back : {X : Type 0} (us vs : List X) (a n : ℕ) → a ≡ length us → n ≡ length us + length vs → slice_range (us ++ vs) a n ≡ vs
+slice-back : {X : Type 0} (us vs : List X) (a n : ℕ) → a ≡ length us → n ≡ length us + length vs
+    → slice_range (us ++ vs) a n ≡ vs
 slice-back us vs a n e f =
     let count : n - a ≡ length vs = omega arith in
     (λ i. take (count i) (drop (e i) (us ++ vs))) ∙ ap (take (length vs)) (drop-append_seam us vs) ∙ take-length vs
@@ -81,8 +96,10 @@ starts-low a [] n h = omega (arith, h)
 starts-low a (b ∷ starts) n h = let later = starts-low b starts n h.1 in omega (arith, h.0, later)
 
 -- one part more
-pub pieces-snoc : {X : Type 0} (a : ℕ) (starts : List ℕ) (us vs : List X) (n : ℕ) → AreStarts (a ∷ starts) (length us) → n ≡ length us + length vs
-    → AreStarts (a ∷ starts ++ n ∷ []) (length (us ++ vs)) × (pieces (a ∷ starts ++ n ∷ []) (us ++ vs) ≡ pieces (a ∷ starts) us ++ vs ∷ [])
+pub pieces-snoc : {X : Type 0} (a : ℕ) (starts : List ℕ) (us vs : List X) (n : ℕ) → AreStarts (a ∷ starts) (length us)
+    → n ≡ length us + length vs
+    → AreStarts (a ∷ starts ++ n ∷ []) (length (us ++ vs))
+    × (pieces (a ∷ starts ++ n ∷ []) (us ++ vs) ≡ pieces (a ∷ starts) us ++ vs ∷ [])
 pieces-snoc a [] us vs n h e =
     let all : length (us ++ vs) ≡ length us + length vs = length-append us vs in
     ((omega (arith, h, e), e ∙ sym all), ap (λ p. p ∷ []) (slice-back us vs a n h e))
@@ -92,7 +109,8 @@ pieces-snoc a (b ∷ starts) us vs n h e =
     ((h.0, later.0), λ i. same i ∷ later.1 i)
 
 -- the parts have as many elements as stand behind the first start
-pieces-total : {X : Type 0} (a : ℕ) (starts : List ℕ) (us : List X) → AreStarts (a ∷ starts) (length us) → sum_by (λ p. length p) (pieces (a ∷ starts) us) + a ≡ length us
+pieces-total : {X : Type 0} (a : ℕ) (starts : List ℕ) (us : List X) → AreStarts (a ∷ starts) (length us)
+    → sum_by (λ p. length p) (pieces (a ∷ starts) us) + a ≡ length us
 pieces-total a [] us h = omega (arith, h)
 pieces-total a (b ∷ starts) us h =
     let later : sum_by (λ p. length p) (pieces (b ∷ starts) us) + b ≡ length us = pieces-total b starts us h.1 in
@@ -112,17 +130,20 @@ all-uses (a ∷ starts) us h =
 
 -- one option more
 pub option-more : (starts : List ℕ) (us vs : List Use) (n : ℕ) → AreOptionStarts starts us → n ≡ length us + length vs
-    → AreOptionStarts (starts ++ n ∷ []) (us ++ vs) × (pieces (starts ++ n ∷ []) (us ++ vs) ≡ pieces starts us ++ vs ∷ [])
+    → AreOptionStarts (starts ++ n ∷ []) (us ++ vs)
+    × (pieces (starts ++ n ∷ []) (us ++ vs) ≡ pieces starts us ++ vs ∷ [])
 option-more [] us vs n h e = absurd h.1
 option-more (a ∷ starts) us vs n h e = let more = pieces-snoc a starts us vs n h.1 e in ((h.0, more.0), more.1)
 
-pub slice_get-map-some : {X Y : Type 0} (f : X → Y) (xs : List X) (i : ℕ) (x : X) → Some x ≡ slice_get xs i → slice_get (map f xs) i ≡ Some (f x)
+pub slice_get-map-some : {X Y : Type 0} (f : X → Y) (xs : List X) (i : ℕ) (x : X) → Some x ≡ slice_get xs i
+    → slice_get (map f xs) i ≡ Some (f x)
 slice_get-map-some f [] i x e = absurd (cc)
 slice_get-map-some f (y ∷ xs) zero x e = let same : x ≡ y = cc in ap (λ z. Some (f z)) (sym same)
 slice_get-map-some f (y ∷ xs) (suc i) x e = slice_get-map-some f xs i x e
 
 -- what holds of the elements behind the first n
-pub behind-at : {X : Type 0} (P : X → Type 0) (n : ℕ) (xs : List X) (i : ℕ) (d : X) → All P (drop n xs) → n ≤ i → i < length xs → P (get_or xs i d)
+pub behind-at : {X : Type 0} (P : X → Type 0) (n : ℕ) (xs : List X) (i : ℕ) (d : X) → All P (drop n xs) → n ≤ i
+    → i < length xs → P (get_or xs i d)
 behind-at P n xs i d all low high =
     let place : n + (i - n) ≡ i = omega (arith, low) in
     let within : i - n < length (drop n xs) = omega (arith, length-drop n xs, low, high) in

@@ -17,15 +17,22 @@ use Rattle.xc_input.specs.inner.Builders.{AreMarks, IsMarkable, items_of}
 use Rattle.xc_input.proofs.FaultLemmas.Checks.{map-snoc}
 
 -- one item more
-pub mark : (marks : List Bool) (seen : List ℕ) (i : ℕ) → AreMarks marks seen → 1 ≤ i → i ≤ length marks → AreMarks (set marks (i - 1) true) (seen ++ i ∷ [])
+pub mark : (marks : List Bool) (seen : List ℕ) (i : ℕ) → AreMarks marks seen → 1 ≤ i → i ≤ length marks
+    → AreMarks (set marks (i - 1) true) (seen ++ i ∷ [])
 mark marks seen i are low high = λ k within.
     let all : length (set marks (i - 1) true) ≡ length marks = length-set marks (i - 1) true in
-    let split : list_any (λ j. nat_eq j (k + 1)) (seen ++ i ∷ []) ≡ (list_any (λ j. nat_eq j (k + 1)) seen || (nat_eq i (k + 1) || false)) = list_any-append (λ j. nat_eq j (k + 1)) seen (i ∷ []) in
-    let P : Bool → Type 0 = λ t. nat_eq i (k + 1) ≡ t → get_or (set marks (i - 1) true) k false ≡ (list_any (λ j. nat_eq j (k + 1)) seen || (t || false)) in
+    let split : list_any (λ j. nat_eq j (k + 1)) (seen ++ i ∷ []) ≡
+    (list_any (λ j. nat_eq j (k + 1)) seen || (nat_eq i (k + 1) || false)) =
+    list_any-append (λ j. nat_eq j (k + 1)) seen (i ∷ []) in
+    let P : Bool → Type 0 = λ t. nat_eq i (k + 1) ≡ t
+    → get_or (set marks (i - 1) true) k false ≡ (list_any (λ j. nat_eq j (k + 1)) seen || (t || false)) in
     let h : P (nat_eq i (k + 1)) = (elim (nat_eq i (k + 1)) as P [
-      | true ↦ λ e. let here : i ≡ k + 1 = grind (arith, nat_tests) in get_or-set_at marks (i - 1) k true false (omega (arith, here)) (omega (arith, low, high)) ∙ sym (or-true (list_any (λ j. nat_eq j (k + 1)) seen))
+      | true ↦ λ e. let here : i ≡ k + 1 = grind (arith, nat_tests) in
+          get_or-set_at marks (i - 1) k true false (omega (arith, here)) (omega (arith, low, high))
+          ∙ sym (or-true (list_any (λ j. nat_eq j (k + 1)) seen))
       | false ↦ λ e. let there : i ≢ k + 1 = grind (arith, nat_tests) in
-          get_or-set_other marks (i - 1) k true false (λ same. there (omega (arith, same, low))) ∙ are k (omega (arith, within, all)) ∙ sym (or-false (list_any (λ j. nat_eq j (k + 1)) seen))
+          get_or-set_other marks (i - 1) k true false (λ same. there (omega (arith, same, low)))
+          ∙ are k (omega (arith, within, all)) ∙ sym (or-false (list_any (λ j. nat_eq j (k + 1)) seen))
     ]) in h refl ∙ sym split
 
 -- the item of one use more
@@ -68,15 +75,19 @@ unmarked-less (true ∷ marks) (suc k) within e = unmarked-less marks k (omega (
 unmarked-less (false ∷ marks) (suc k) within e = ap suc (unmarked-less marks k (omega (arith, within)) e)
 
 -- the mark of the item at this place
-pub mark-at : (marks : List Bool) (names : List (List ℕ)) (name : List ℕ) (seen : List ℕ) (place : ℕ) → AreMarks marks seen → length marks ≡ length names → position (bytes_eq name) names ≡ Some place
+pub mark-at : (marks : List Bool) (names : List (List ℕ)) (name : List ℕ) (seen : List ℕ) (place : ℕ)
+    → AreMarks marks seen → length marks ≡ length names → position (bytes_eq name) names ≡ Some place
     → get_or marks place false ≡ list_any (λ i. nat_eq i (place + 1)) seen
 mark-at marks names name seen place are count e =
-    let within : place < length names = in-range (bytes_eq name) names place e in are place (omega (arith, within, count))
+    let within : place < length names =
+    in-range (bytes_eq name) names place e in are place (omega (arith, within, count))
 
 -- a place among as many names as marks is that of a mark
-pub place-marked : (marks : List Bool) (names : List (List ℕ)) (name : List ℕ) (at : Option ℕ) → length marks ≡ length names → at ≡ position (bytes_eq name) names → IfSome at (λ k. k < length marks)
+pub place-marked : (marks : List Bool) (names : List (List ℕ)) (name : List ℕ) (at : Option ℕ)
+    → length marks ≡ length names → at ≡ position (bytes_eq name) names → IfSome at (λ k. k < length marks)
 place-marked marks names name None count e = tt
-place-marked marks names name (Some k) count e = let within : k < length names = in-range (bytes_eq name) names k (sym e) in omega (arith, within, count)
+place-marked marks names name (Some k) count e =
+    let within : k < length names = in-range (bytes_eq name) names k (sym e) in omega (arith, within, count)
 
 written : (new old : List Bool) → length new ≡ length old → take (length new) (new ++ drop (length new) old) ≡ new
 written [] old e = refl
@@ -84,5 +95,6 @@ written (x ∷ new) [] e = absurd (omega (arith, e))
 written (x ∷ new) (y ∷ old) e = ap (λ ms. x ∷ ms) (written new old (omega (arith, e)))
 
 -- marks that were written through a slice
-pub written-back : (n : ℕ) (new old : List Bool) → length new ≡ length old → n ≡ length old → take n (new ++ drop (length new) old) ≡ new
+pub written-back : (n : ℕ) (new old : List Bool) → length new ≡ length old → n ≡ length old
+    → take n (new ++ drop (length new) old) ≡ new
 written-back n new old e f = ap (λ m. take m (new ++ drop (length new) old)) (f ∙ sym e) ∙ written new old e

@@ -1,5 +1,7 @@
 -- Where a byte stands in a list.
-use Rattle.std.proofs.Common.{cond, filter, zero, ◌^◌, ◌≡◌, ℕ, suc, ◌+◌, ◌-◌, ◌<◌, ◌≤◌, List, [], ◌∷◌, ◌++◌, None, Some, Bool, length, get_or, take, drop, refl, sym, ap, ◌∙◌, arith, subst, map, length-drop, nat_eq, position, not, nat_lt, append_assoc, if◌then◌else◌, ◌||◌, ◌&&◌, true, false}
+use Rattle.std.proofs.Common.{cond, filter, zero, ◌^◌, ◌≡◌, ℕ, suc, ◌+◌, ◌-◌, ◌<◌, ◌≤◌, List, [], ◌∷◌, ◌++◌, None, Some}
+use Rattle.std.proofs.Common.{Bool, length, get_or, take, drop, refl, sym, ap, ◌∙◌, arith, subst, map, length-drop}
+use Rattle.std.proofs.Common.{nat_eq, position, not, nat_lt, append_assoc, if◌then◌else◌, ◌||◌, ◌&&◌, true, false}
 use Rattle.std.proofs.Math.Nat.{pow-le-pow_right}
 use Rattle.std.specs.List.{position_or_len, list_all, onto_first, slice_split}
 use Rattle.std.proofs.lemmas.Bool.{eqb-true}
@@ -12,29 +14,47 @@ use Rattle.xc_input.specs.inner.Fronts.{drop_white, word, StandsBefore}
 use Rattle.std.specs.Prelude.{flat_map}
 
 -- a byte that isn't found
-pub has-all : (b : ℕ) (xs : List ℕ) → ((k : ℕ) → k < length xs → nat_eq (get_or xs k 0) b ≡ false) → (has b xs ≡ false) × (before b xs ≡ xs)
+pub has-all : (b : ℕ) (xs : List ℕ) → ((k : ℕ) → k < length xs → nat_eq (get_or xs k 0) b ≡ false) → (has b xs ≡ false)
+    × (before b xs ≡ xs)
 has-all b [] h = (refl, refl)
 has-all b (x ∷ xs) h =
     let first : nat_eq x b ≡ false = h 0 (omega arith) in
-    let rest : (has b xs ≡ false) × (before b xs ≡ xs) = has-all b xs (λ k p. h (suc k) (omega arith)) in
-    (ap (λ t. t || has b xs) first ∙ rest.0, ap (λ t. if t then [] else x ∷ before b xs) first ∙ ap (λ ys. x ∷ ys) rest.1)
+    let rest : (has b xs ≡ false) × (before b xs ≡ xs) = has-all b xs (λ k p. h (suc k) (omega arith)) in (
+      ap (λ t. t || has b xs) first ∙ rest.0,
+      ap (λ t. if t then [] else x ∷ before b xs) first
+          ∙ ap (λ ys. x ∷ ys) rest.1,
+    )
 
 -- a byte that is found first at i
-pub has-at : (b : ℕ) (xs : List ℕ) (i : ℕ) → i < length xs → ((k : ℕ) → k < i → nat_eq (get_or xs k 0) b ≡ false) → nat_eq (get_or xs i 0) b ≡ true
+pub has-at : (b : ℕ) (xs : List ℕ) (i : ℕ) → i < length xs → ((k : ℕ) → k < i → nat_eq (get_or xs k 0) b ≡ false)
+    → nat_eq (get_or xs i 0) b ≡ true
     → (has b xs ≡ true) × (take i xs ≡ before b xs) × (drop (suc i) xs ≡ after b xs)
 has-at b [] i p h e = absurd (omega arith)
-has-at b (x ∷ xs) zero p h e = (ap (λ t. t || has b xs) e, sym (ap (λ t. if t then [] else x ∷ before b xs) e), sym (ap (λ t. if t then xs else after b xs) e))
+has-at b (x ∷ xs) zero p h e = (
+  ap (λ t. t || has b xs) e,
+  sym (ap (λ t. if t then [] else x ∷ before b xs) e),
+  sym
+      (ap (λ t. if t then xs else after b xs) e),
+)
 has-at b (x ∷ xs) (suc i) p h e =
     let first : nat_eq x b ≡ false = h 0 (omega arith) in
-    let rest : (has b xs ≡ true) × (take i xs ≡ before b xs) × (drop (suc i) xs ≡ after b xs) = has-at b xs i (omega arith) (λ k q. h (suc k) (omega arith)) e in
-    (ap (λ t. t || has b xs) first ∙ rest.0, ap (λ ys. x ∷ ys) rest.1 ∙ sym (ap (λ t. if t then [] else x ∷ before b xs) first), rest.2 ∙ sym (ap (λ t. if t then xs else after b xs) first))
+    let rest : (has b xs ≡ true) × (take i xs ≡ before b xs) × (drop (suc i) xs ≡ after b xs) =
+    has-at b xs i (omega arith) (λ k q. h (suc k) (omega arith)) e in (
+      ap (λ t. t || has b xs) first ∙ rest.0,
+      ap (λ ys. x ∷ ys) rest.1
+          ∙ sym (ap (λ t. if t then [] else x ∷ before b xs) first),
+      rest.2
+          ∙ sym (ap (λ t. if t then xs else after b xs) first),
+    )
 
-place-map : {A B : Type 0} (p : B → Bool) (f : A → B) (xs : List A) → position_or_len p (map f xs) ≡ position_or_len (λ x. p (f x)) xs
+place-map : {A B : Type 0} (p : B → Bool) (f : A → B) (xs : List A)
+    → position_or_len p (map f xs) ≡ position_or_len (λ x. p (f x)) xs
 place-map p f [] = refl
 place-map p f (x ∷ xs) = ap (λ n. if not (p (f x)) then 1 + n else 0) (place-map p f xs)
 
 -- the place of a value in a list, as seen through f
-pub position-map : {A B : Type 0} (p : B → Bool) (f : A → B) (xs : List A) → position p (map f xs) ≡ position (λ x. p (f x)) xs
+pub position-map : {A B : Type 0} (p : B → Bool) (f : A → B) (xs : List A)
+    → position p (map f xs) ≡ position (λ x. p (f x)) xs
 position-map p f xs = λ i. (if nat_lt (place-map p f xs i) (length-map xs f i) then Some (place-map p f xs i) else None)
 
 -- what stands from the first white space on
@@ -89,7 +109,8 @@ tokens-cons b bs =
 pub tokens-drop_white : (xs : List ℕ) → tokens (drop_white xs) ≡ tokens xs
 tokens-drop_white [] = refl
 tokens-drop_white (b ∷ bs) =
-    let P : Bool → Type 0 = λ t. is_space b ≡ t → tokens (if t then drop_white bs else b ∷ bs) ≡ (if t then tokens bs else onto b bs (tokens bs)) in
+    let P : Bool → Type 0 = λ t. is_space b ≡ t
+    → tokens (if t then drop_white bs else b ∷ bs) ≡ (if t then tokens bs else onto b bs (tokens bs)) in
     let h : P (is_space b) = (elim (is_space b) as P [
       | true ↦ λ e. tokens-drop_white bs
       | false ↦
@@ -102,7 +123,12 @@ pub drop_white-first : (xs : List ℕ) (b : ℕ) (bs : List ℕ) → drop_white 
 drop_white-first [] b bs e = absurd (cc)
 drop_white-first (x ∷ xs) b bs e =
     let P : Bool → Type 0 = λ t. is_space x ≡ t → (if t then drop_white xs else x ∷ xs) ≡ b ∷ bs → is_space b ≡ false in
-    let h : P (is_space x) = (elim (is_space x) as P [ true ↦ λ f g. drop_white-first xs b bs g | false ↦ λ f g. let same : x ≡ b = cc in ap is_space (sym same) ∙ f ]) in h refl e
+    let h : P (is_space x) =
+    (elim (is_space x) as P [
+      | true ↦ λ f g. drop_white-first xs b bs g
+      | false ↦ λ f g. let same : x ≡ b = cc in ap
+          is_space (sym same) ∙ f
+    ]) in h refl e
 
 -- a byte that is no white space begins the first token
 pub tokens-first : (b : ℕ) (bs : List ℕ) → is_space b ≡ false → tokens (b ∷ bs) ≡ (b ∷ word bs) ∷ tokens (behind bs)
@@ -110,8 +136,12 @@ tokens-first b [] e = tokens-cons b [] ∙ ap (λ t. if t then [] else onto b []
 tokens-first b (c ∷ cs) e =
     let start : tokens (b ∷ c ∷ cs) ≡ onto b (c ∷ cs) (tokens (c ∷ cs)) = tokens-cons b (c ∷ cs)
     ∙ ap (λ t. if t then tokens (c ∷ cs) else onto b (c ∷ cs) (tokens (c ∷ cs))) e in
-    let P : Bool → Type 0 = λ t. is_space c ≡ t → (if t then (b ∷ []) ∷ tokens (c ∷ cs) else onto_first b (tokens (c ∷ cs))) ≡ (b ∷ (if t then [] else c ∷ word cs)) ∷ tokens (if t then c ∷ cs else behind cs) in
-    let h : P (is_space c) = (elim (is_space c) as P [ true ↦ λ f. refl | false ↦ λ f. ap (onto_first b) (tokens-first c cs f) ]) in start ∙ h refl
+    let P : Bool → Type 0 = λ t. is_space c ≡ t
+    → (if t then (b ∷ []) ∷ tokens (c ∷ cs) else onto_first b (tokens (c ∷ cs))) ≡
+    (b ∷ (if t then [] else c ∷ word cs)) ∷ tokens (if t then c ∷ cs else behind cs) in
+    let h : P (is_space c) =
+    (elim (is_space c) as P [ true ↦ λ f. refl | false ↦ λ f. ap (onto_first b) (tokens-first c cs f) ]) in start
+    ∙ h refl
 
 -- whether what stands behind leading white space begins no item or option: it is empty, or a comment
 abbrev pub starts_nothing : List ℕ → Bool
@@ -127,22 +157,26 @@ pub skipped-front : (line front : List ℕ) → front ≡ drop_white line → st
 skipped-front line [] e = ap (λ ts. list_all is_bar (take 1 ts)) (ap tokens e ∙ tokens-drop_white line)
 skipped-front line (b ∷ bs) e =
     let dark : is_space b ≡ false = drop_white-first line b bs (sym e) in
-    sym (and-one (nat_eq b 124)) ∙ ap (λ ts. list_all is_bar (take 1 ts)) (sym (tokens-first b bs dark) ∙ ap tokens e ∙ tokens-drop_white line)
+    sym (and-one (nat_eq b 124))
+    ∙ ap (λ ts. list_all is_bar (take 1 ts)) (sym (tokens-first b bs dark) ∙ ap tokens e ∙ tokens-drop_white line)
 
-pub skipped-first : (line front : List ℕ) → front ≡ drop_white line → 1 ≤ length front → nat_eq (get_or front 0 0) 124 ≡ is_skipped line
+pub skipped-first : (line front : List ℕ) → front ≡ drop_white line → 1 ≤ length front
+    → nat_eq (get_or front 0 0) 124 ≡ is_skipped line
 skipped-first line [] e h = absurd (omega (arith, h))
 skipped-first line (b ∷ bs) e h = skipped-front line (b ∷ bs) e
 
 pub take-word : (xs : List ℕ) → take (length (word xs)) xs ≡ word xs
 take-word [] = refl
 take-word (b ∷ bs) =
-    let P : Bool → Type 0 = λ t. take (length (if t then [] else b ∷ word bs)) (b ∷ bs) ≡ (if t then [] else b ∷ word bs) in
+    let P : Bool → Type 0 =
+    λ t. take (length (if t then [] else b ∷ word bs)) (b ∷ bs) ≡ (if t then [] else b ∷ word bs) in
     (elim (is_space b) as P [ true ↦ refl | false ↦ ap (λ ys. b ∷ ys) (take-word bs) ])
 
 pub drop-word : (xs : List ℕ) → drop (length (word xs)) xs ≡ behind xs
 drop-word [] = refl
 drop-word (b ∷ bs) =
-    let P : Bool → Type 0 = λ t. drop (length (if t then [] else b ∷ word bs)) (b ∷ bs) ≡ (if t then b ∷ bs else behind bs) in
+    let P : Bool → Type 0 =
+    λ t. drop (length (if t then [] else b ∷ word bs)) (b ∷ bs) ≡ (if t then b ∷ bs else behind bs) in
     (elim (is_space b) as P [ true ↦ refl | false ↦ drop-word bs ])
 
 pub drop_white-length : (xs : List ℕ) → length (drop_white xs) ≤ length xs
@@ -170,7 +204,8 @@ cut-stands line rest front back n e f g =
     )
 
 -- cutting at the first white space behind leading white space gives the first token
-pub cuts_first : (line rest front back : List ℕ) → rest ≡ drop_white line → 0 < length rest → front ≡ take (length (word rest)) rest → back ≡ drop (length (word rest)) rest
+pub cuts_first : (line rest front back : List ℕ) → rest ≡ drop_white line → 0 < length rest
+    → front ≡ take (length (word rest)) rest → back ≡ drop (length (word rest)) rest
     → (tokens line ≡ front ∷ tokens back) × (length back < length line)
 cuts_first line [] front back e h f g = absurd (omega arith)
 cuts_first line (b ∷ bs) front back e h f g =
@@ -180,19 +215,30 @@ cuts_first line (b ∷ bs) front back e h f g =
     let f' : front ≡ b ∷ word bs = f ∙ take-word (b ∷ bs) ∙ w in
     let g' : back ≡ behind bs = g ∙ drop-word (b ∷ bs) ∙ v in
     let n : length (word (b ∷ bs)) ≡ suc (length (word bs)) = ap length w in
-    let m : length back ≡ length (b ∷ bs) - length (word (b ∷ bs)) = ap length g ∙ length-drop (length (word (b ∷ bs))) (b ∷ bs) in
-    let l : length (b ∷ bs) ≤ length line = subst (λ xs. length xs ≤ length line) (sym e) (drop_white-length line) in
-    (sym (tokens-drop_white line) ∙ ap tokens (sym e) ∙ tokens-first b bs dark ∙ (λ i. sym f' i ∷ tokens (sym g' i)), omega (arith, m, n, l))
+    let m : length back ≡ length (b ∷ bs) - length (word (b ∷ bs)) =
+    ap length g ∙ length-drop (length (word (b ∷ bs))) (b ∷ bs) in
+    let l : length (b ∷ bs) ≤ length line = subst (λ xs. length xs ≤ length line) (sym e) (drop_white-length line) in (
+      sym (tokens-drop_white line) ∙ ap tokens (sym e) ∙ tokens-first b bs dark
+          ∙ (λ i. sym f' i ∷ tokens (sym g' i)),
+      omega (arith, m, n, l),
+    )
 
 -- behind a bar, the rest of its token and what follows are the parts of the bytes behind it
 word-parts : (bs : List ℕ) → split_bars (word bs) ++ flat_map split_bars (tokens (behind bs)) ≡ parts bs
 word-parts [] = refl
 word-parts (c ∷ cs) =
-    let P : Bool → Type 0 = λ t. is_space c ≡ t → split_bars (if t then [] else c ∷ word cs) ++ flat_map split_bars (tokens (if t then c ∷ cs else behind cs)) ≡ parts (c ∷ cs) in
-    let h : P (is_space c) = (elim (is_space c) as P [ true ↦ λ e. refl | false ↦ λ e. ap (flat_map split_bars) (sym (tokens-first c cs e)) ]) in h refl
+    let P : Bool → Type 0 = λ t. is_space c ≡ t
+    → split_bars (if t then [] else c ∷ word cs) ++ flat_map split_bars (tokens (if t then c ∷ cs else behind cs)) ≡
+    parts (c ∷ cs) in
+    let h : P (is_space c) =
+    (elim (is_space c) as P [
+      | true ↦ λ e. refl
+      | false ↦ λ e. ap (flat_map split_bars) (sym (tokens-first c cs e))
+    ]) in h refl
 
 -- cutting behind a bar gives the first part
-pub cuts_bar : (line rest front back : List ℕ) → rest ≡ drop_white line → 0 < length rest → get_or rest 0 0 ≡ 124 → front ≡ take 1 rest → back ≡ drop 1 rest
+pub cuts_bar : (line rest front back : List ℕ) → rest ≡ drop_white line → 0 < length rest → get_or rest 0 0 ≡ 124
+    → front ≡ take 1 rest → back ≡ drop 1 rest
     → (parts line ≡ front ∷ parts back) × (length back < length line)
 cuts_bar line [] front back e h b f g = absurd (omega arith)
 cuts_bar line (b ∷ bs) front back e h is f g =
@@ -201,20 +247,25 @@ cuts_bar line (b ∷ bs) front back e h is f g =
     let m : length back ≡ length bs = ap length g in
     let all : parts line ≡ (124 ∷ []) ∷ parts bs =
     ap (flat_map split_bars) (sym (tokens-drop_white line) ∙ ap tokens (sym e) ∙ tokens-first b bs dark)
-    ∙ ap (λ x. split_bars (x ∷ word bs) ++ flat_map split_bars (tokens (behind bs))) is ∙ ap (λ ps. (124 ∷ []) ∷ ps) (word-parts bs) in
+    ∙ ap (λ x. split_bars (x ∷ word bs) ++ flat_map split_bars (tokens (behind bs))) is
+    ∙ ap (λ ps. (124 ∷ []) ∷ ps) (word-parts bs) in
     let f' : front ≡ 124 ∷ [] = f ∙ ap (λ x. x ∷ []) is in
     (all ∙ (λ i. sym f' i ∷ parts (sym g i)), omega arith)
 
 -- cutting at white space gives the first part, where it is no bar
-pub cuts_part : (line rest front back : List ℕ) → rest ≡ drop_white line → 0 < length rest → nat_eq (get_or rest 0 0) 124 ≡ false → front ≡ take (length (word rest)) rest → back ≡ drop (length (word rest)) rest
+pub cuts_part : (line rest front back : List ℕ) → rest ≡ drop_white line → 0 < length rest
+    → nat_eq (get_or rest 0 0) 124 ≡ false → front ≡ take (length (word rest)) rest
+    → back ≡ drop (length (word rest)) rest
     → (parts line ≡ front ∷ parts back) × (length back < length line)
 cuts_part line [] front back e h n f g = absurd (omega arith)
 cuts_part line (b ∷ bs) front back e h n f g =
     let dark : is_space b ≡ false = drop_white-first line b bs (sym e) in
     let w : word (b ∷ bs) ≡ b ∷ word bs = ap (λ t. if t then [] else b ∷ word bs) dark in
     let f' : front ≡ b ∷ word bs = f ∙ take-word (b ∷ bs) ∙ w in
-    let one : split_bars front ≡ front ∷ [] = ap split_bars f' ∙ ap (λ t. if t then (124 ∷ []) ∷ split_bars (word bs) else (b ∷ word bs) ∷ []) n ∙ ap (λ x. x ∷ []) (sym f') in
-    let cut : (tokens line ≡ front ∷ tokens back) × (length back < length line) = cuts_first line (b ∷ bs) front back e h f g in
+    let one : split_bars front ≡ front ∷ [] = ap split_bars f'
+    ∙ ap (λ t. if t then (124 ∷ []) ∷ split_bars (word bs) else (b ∷ word bs) ∷ []) n ∙ ap (λ x. x ∷ []) (sym f') in
+    let cut : (tokens line ≡ front ∷ tokens back) × (length back < length line) =
+    cuts_first line (b ∷ bs) front back e h f g in
     (ap (flat_map split_bars) cut.0 ∙ ap (λ ps. ps ++ flat_map split_bars (tokens back)) one, cut.1)
 
 pub not_false : (b : Bool) → (b ≡ true → ⊥) → b ≡ false

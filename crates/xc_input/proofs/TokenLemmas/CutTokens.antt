@@ -1,5 +1,7 @@
 -- A token that begins with a known name is cut behind the name.
-use Rattle.std.proofs.Common.{◌≡◌, ℕ, ◌-◌, ◌<◌, List, [], ◌∷◌, ◌++◌, Option, None, Some, Bool, true, false, length, get_or, take, drop, refl, ap, ap₂, ◌∙◌, sym, subst, arith, if◌then◌else◌, MatchOption, Bor, is_some, ◌&&◌}
+use Rattle.std.proofs.Common.{◌≡◌, ℕ, ◌-◌, ◌<◌, List, [], ◌∷◌, ◌++◌, Option, None, Some, Bool, true, false, length}
+use Rattle.std.proofs.Common.{get_or, take, drop, refl, ap, ap₂, ◌∙◌, sym, subst, arith, if◌then◌else◌, MatchOption}
+use Rattle.std.proofs.Common.{Bor, is_some, ◌&&◌}
 use Rattle.std.proofs.lemmas.List.{append-nil, take_all}
 use Rattle.std.specs.List.{list_any}
 use Rattle.xc_input.specs.Words.{has, before, after, place}
@@ -33,10 +35,13 @@ at-white [] w = (refl, refl)
 at-white (b ∷ bs) w = (ap (λ t. if t then [] else b ∷ word bs) w, ap (λ t. if t then b ∷ bs else behind bs) w)
 
 -- the first token of a line, by its text
-first-token : (line rest text others : List ℕ) → rest ≡ drop_white line → 0 < length rest → word rest ≡ text → behind rest ≡ others → (tokens line ≡ text ∷ tokens others) × (length others < length line)
-first-token line rest text others e some w b = cuts_first line rest text others e some (sym w ∙ sym (take-word rest)) (sym b ∙ sym (drop-word rest))
+first-token : (line rest text others : List ℕ) → rest ≡ drop_white line → 0 < length rest → word rest ≡ text
+    → behind rest ≡ others → (tokens line ≡ text ∷ tokens others) × (length others < length line)
+first-token line rest text others e some w b =
+    cuts_first line rest text others e some (sym w ∙ sym (take-word rest)) (sym b ∙ sym (drop-word rest))
 
-pub cut-token : (names : List (List ℕ)) (line rest name back others : List ℕ) (k : ℕ) (t : Token) → AreNames names → rest ≡ drop_white line → 0 < length rest → rest ≡ name ++ back
+pub cut-token : (names : List (List ℕ)) (line rest name back others : List ℕ) (k : ℕ) (t : Token) → AreNames names
+    → rest ≡ drop_white line → 0 < length rest → rest ≡ name ++ back
     → place names name ≡ Some k → t.name.now ≡ name → t.place ≡ Some k → IsCutBehind back t others
     → (text : List ℕ) × (tokens line ≡ text ∷ tokens others) × (length others < length line) × IsCutToken names text t
 cut-token names line rest name back others k t all e some whole at is stands cut = by_colour t.colour refl
@@ -47,7 +52,8 @@ cut-token names line rest name back others k t all e some whole at is stands cut
     plain : has 58 name ≡ false
     plain = (stored-name names name k all.named at).no_colon
 
-    by_colour : (c : Option (Bor (List ℕ))) → t.colour ≡ c → (text : List ℕ) × (tokens line ≡ text ∷ tokens others) × (length others < length line) × IsCutToken names text t
+    by_colour : (c : Option (Bor (List ℕ))) → t.colour ≡ c → (text : List ℕ) × (tokens line ≡ text ∷ tokens others)
+        × (length others < length line) × IsCutToken names text t
     by_colour None none =
         let m = at-none t.colour _ _ none cut in
         let white = at-white back m.0 in
@@ -61,7 +67,9 @@ cut-token names line rest name back others k t all e some whole at is stands cut
           record {
             name = is ∙ sym own;
             place = stands ∙ sym at ∙ ap (place names) (sym own);
-            colour = subst (λ q. MatchOption q (has 58 name ≡ false) (λ c. (has 58 name ≡ true) × (c.now ≡ after 58 name))) (sym none) plain;
+            colour =
+                subst (λ q. MatchOption q (has 58 name ≡ false) (λ c. (has 58 name ≡ true) × (c.now ≡ after 58 name)))
+                (sym none) plain;
           },
         )
     by_colour (Some c) here =
@@ -79,7 +87,9 @@ cut-token names line rest name back others k t all e some whole at is stands cut
           record {
             name = is ∙ sym own.0;
             place = stands ∙ sym at ∙ ap (place names) (sym own.0);
-            colour = subst (λ q. MatchOption q (has 58 text ≡ false) (λ c. (has 58 text ≡ true) × (c.now ≡ after 58 text))) (sym here) (own.2, m.2 ∙ sym own.1);
+            colour =
+                subst (λ q. MatchOption q (has 58 text ≡ false) (λ c. (has 58 text ≡ true) × (c.now ≡ after 58 text)))
+                (sym here) (own.2, m.2 ∙ sym own.1);
           },
         )
 
@@ -97,7 +107,8 @@ module _ (names : List (List ℕ)) (text : List ℕ) (t : Token) (cut : IsCutTok
       by_colour (Some c) e = sym (at-some t.colour c _ _ e cut.colour).0
 
   -- whether it has a colour where none may have one, by a test of this
-  pub stray : (kind : Kind) (test b : Bool) → test ≡ (is_plain kind && is_some t.colour) → test ≡ b → (is_plain kind && has 58 text) ≡ b
+  pub stray : (kind : Kind) (test b : Bool) → test ≡ (is_plain kind && is_some t.colour) → test ≡ b
+      → (is_plain kind && has 58 text) ≡ b
   stray kind test b e is = ap (λ x. is_plain kind && x) (sym has-colour) ∙ sym e ∙ is
 
   pub named-at : (at : Option ℕ) → t.place ≡ at → place names t.name.now ≡ at

@@ -14,17 +14,22 @@ at_place P (y ∷ ys) zero x all e = subst P (some_same y x e) (All-head P y ys 
     some_same y x e = cc e
 at_place P (y ∷ ys) (suc k) x all e = at_place P ys k x (All-tail P y ys all) e
 
-pub at_number : {X : Type 0} (P : X → Type 0) (xs : List X) (i : ℕ) (x : X) → All P xs → numbered_get xs i ≡ Some x → P x
+pub at_number : {X : Type 0} (P : X → Type 0) (xs : List X) (i : ℕ) (x : X) → All P xs
+    → numbered_get xs i ≡ Some x → P x
 at_number P xs zero x all e = absurd (cc e)
 at_number P xs (suc k) x all e = at_place P xs k x all e
 
 both : {X : Type 0} (P Q : X → Type 0) (xs : List X) → All P xs → All Q xs → All (λ x. P x × Q x) xs
 both P Q [] p q = All-nil _
-both P Q (x ∷ xs) p q = All-cons (λ x. P x × Q x) x xs (All-head P x xs p, All-head Q x xs q) (both P Q xs (All-tail P x xs p) (All-tail Q x xs q))
+both P Q (x ∷ xs) p q =
+    All-cons (λ x. P x × Q x) x xs (All-head P x xs p, All-head Q x xs q)
+    (both P Q xs (All-tail P x xs p) (All-tail Q x xs q))
 
-pub known_option : (p : Puzzle) (colours : List (List ℕ)) (o : ℕ) (us : List Use) → IsValid p → AreColoursKnown colours p.options → numbered_get p.options o ≡ Some us
+pub known_option : (p : Puzzle) (colours : List (List ℕ)) (o : ℕ) (us : List Use) → IsValid p
+    → AreColoursKnown colours p.options → numbered_get p.options o ≡ Some us
     → All (λ u. IsItem p u.item × (u.colour ≤ length colours)) us
 known_option p colours o us valid coloured e =
     let sound = at_number (IsSoundOption p) p.options o us valid.options e in
     let known = at_number (λ us. All (λ u. u.colour ≤ length colours) us) p.options o us coloured e in
-    both (λ u. IsItem p u.item) (λ u. u.colour ≤ length colours) us (All-weaker (IsSoundUse p) (λ u. IsItem p u.item) (λ u s. s.0) us sound.sound) known
+    both (λ u. IsItem p u.item) (λ u. u.colour ≤ length colours) us
+    (All-weaker (IsSoundUse p) (λ u. IsItem p u.item) (λ u s. s.0) us sound.sound) known

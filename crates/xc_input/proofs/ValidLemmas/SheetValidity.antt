@@ -35,7 +35,8 @@ HaveBounds (suc n) (e ∷ es) = (e.low ≤ e.high) × (1 ≤ e.high) × (e.high 
 
 -- a use, among so many items, primary items and colours
 abbrev pub IsWithin : ℕ → ℕ → ℕ → Use → Type 0
-IsWithin count primaries colours u = (1 ≤ u.item) × (u.item ≤ count) × (u.item ≤ primaries → u.colour ≡ 0) × (u.colour ≤ colours)
+IsWithin count primaries colours u =
+    (1 ≤ u.item) × (u.item ≤ count) × (u.item ≤ primaries → u.colour ≡ 0) × (u.colour ≤ colours)
 
 abbrev pub AreWithin : ℕ → ℕ → ℕ → List Use → Type 0
 AreWithin count primaries colours [] = Unit {0}
@@ -52,7 +53,8 @@ UsesPrimary primaries (u ∷ us) = (u.item ≤ primaries) ⊎ UsesPrimary primar
 
 abbrev pub AreValid : ℕ → ℕ → ℕ → List (List Use) → Type 0
 AreValid count primaries colours [] = Unit {0}
-AreValid count primaries colours (o ∷ os) = AreWithin count primaries colours o × AreFresh [] o × UsesPrimary primaries o × AreValid count primaries colours os
+AreValid count primaries colours (o ∷ os) =
+    AreWithin count primaries colours o × AreFresh [] o × UsesPrimary primaries o × AreValid count primaries colours os
 
 -- each name has the right form
 abbrev pub HaveNames : List Entry → Type 0
@@ -71,7 +73,8 @@ pub record IsSoundSheet (p : Sheet) : Type 0 where
 
 -- an option keeps its number of uses
 pub numbered-length : (colours : List (List ℕ)) (us : List Written) → length (numbered colours us) ≡ length us
-numbered-length colours us = each-once (λ u. record { item = u.item; colour = colour_number (with_uses colours us) u.colour }) us
+numbered-length colours us =
+    each-once (λ u. record { item = u.item; colour = colour_number (with_uses colours us) u.colour }) us
   where
     each-once : (f : Written → Use) (us : List Written) → length (map f us) ≡ length us
     each-once f [] = refl

@@ -1,36 +1,50 @@
 -- What holds of each two elements of a list, the one before the other.
-use Rattle.std.proofs.Common.{ℕ, zero, suc, ◌≡◌, ◌+◌, ◌<◌, List, [], ◌∷◌, ◌++◌, map, take, Some, refl, sym, ◌∙◌, arith, subst, ◌⊎◌, inl, inr}
+use Rattle.std.proofs.Common.{ℕ, zero, suc, ◌≡◌, ◌+◌, ◌<◌, List, [], ◌∷◌, ◌++◌, map, take, Some, refl, sym, ◌∙◌, arith}
+use Rattle.std.proofs.Common.{subst, ◌⊎◌, inl, inr}
 use Rattle.std.specs.Prelude.{flat_map, slice_get, AllPairs}
 use Rattle.std.specs.List.{AllByRecursion, enumerate_from}
 use Rattle.std.proofs.lemmas.List.Elements.{All-from_recursion, recursion_from_All}
 use Rattle.std.proofs.lemmas.List.Kept.{AllPairs-cons}
 use Rattle.xc_input.proofs.lists.EachElement.{each-append}
-use Rattle.xc_input.proofs.lists.Members.{IsIn, in-map, in-flat_map, in-take, in-enumerated, in-slice_get, each_in, each_from}
+use Rattle.xc_input.proofs.lists.Members.{IsIn, in-map, in-flat_map, in-take, in-enumerated, in-slice_get, each_in}
+use Rattle.xc_input.proofs.lists.Members.{each_from}
 
 -- `AllPairs` by recursion
 abbrev pub EachTwo : {X : Type 0} → (X → X → Type 0) → List X → Type 0
 EachTwo R [] = Unit {0}
 EachTwo R (x ∷ xs) = AllByRecursion (R x) xs × EachTwo R xs
 
-pub EachTwo-append : {X : Type 0} (R : X → X → Type 0) (xs ys : List X) → EachTwo R xs → EachTwo R ys → ((x y : X) → IsIn xs x → IsIn ys y → R x y) → EachTwo R (xs ++ ys)
+pub EachTwo-append : {X : Type 0} (R : X → X → Type 0) (xs ys : List X) → EachTwo R xs → EachTwo R ys
+    → ((x y : X) → IsIn xs x → IsIn ys y → R x y) → EachTwo R (xs ++ ys)
 EachTwo-append R [] ys a b h = b
-EachTwo-append R (x ∷ xs) ys a b h =
-    (each-append (R x) xs ys a.0 (each_from (R x) ys (λ y k. h x y (inl refl) k)), EachTwo-append R xs ys a.1 b (λ v y j k. h v y (inr j) k))
+EachTwo-append R (x ∷ xs) ys a b h = (
+  each-append (R x) xs ys a.0 (each_from (R x) ys (λ y k. h x y (inl refl) k)),
+  EachTwo-append R xs ys a.1 b
+      (λ v y j k. h v y (inr j) k),
+)
 
-pub EachTwo-map : {X Y : Type 0} (R : Y → Y → Type 0) (f : X → Y) (xs : List X) → EachTwo (λ a b. R (f a) (f b)) xs → EachTwo R (map f xs)
+pub EachTwo-map : {X Y : Type 0} (R : Y → Y → Type 0) (f : X → Y) (xs : List X) → EachTwo (λ a b. R (f a) (f b)) xs
+    → EachTwo R (map f xs)
 EachTwo-map R f [] a = tt
-EachTwo-map R f (x ∷ xs) a =
-    (each_from (R (f x)) (map f xs) (λ y k. let from = in-map f xs y k in subst (R (f x)) from.2 (each_in (λ b. R (f x) (f b)) xs from.0 a.0 from.1)), EachTwo-map R f xs a.1)
+EachTwo-map R f (x ∷ xs) a = (
+  each_from (R (f x)) (map f xs)
+      (λ y k. let from = in-map f xs y k in subst (R (f x)) from.2
+      (each_in (λ b. R (f x) (f b)) xs from.0 a.0 from.1)),
+  EachTwo-map R f xs a.1,
+)
 
 -- two elements of one piece, or of two pieces
-pub EachTwo-flat_map : {X Y : Type 0} (R : Y → Y → Type 0) (f : X → List Y) (xs : List X) → ((x : X) → IsIn xs x → EachTwo R (f x)) →
+pub EachTwo-flat_map : {X Y : Type 0} (R : Y → Y → Type 0) (f : X → List Y) (xs : List X)
+    → ((x : X) → IsIn xs x → EachTwo R (f x)) →
     EachTwo (λ a b. (y z : Y) → IsIn (f a) y → IsIn (f b) z → R y z) xs → EachTwo R (flat_map f xs)
 EachTwo-flat_map R f [] one two = tt
 EachTwo-flat_map {Y = Y} R f (x ∷ xs) one two =
     EachTwo-append R (f x) (flat_map f xs) (one x (inl refl)) (EachTwo-flat_map R f xs (λ y k. one y (inr k)) two.1)
-    (λ y z j k. let from = in-flat_map f xs z k in each_in (λ b. (y z : Y) → IsIn (f x) y → IsIn (f b) z → R y z) xs from.0 two.0 from.1 y z j from.2)
+    (λ y z j k. let from = in-flat_map f xs z k in each_in (λ b. (y z : Y) → IsIn (f x) y → IsIn (f b) z → R y z) xs
+    from.0 two.0 from.1 y z j from.2)
 
-pub EachTwo-at : {X : Type 0} (R : X → X → Type 0) (xs : List X) (j k : ℕ) (x y : X) → EachTwo R xs → j < k → slice_get xs j ≡ Some x → slice_get xs k ≡ Some y → R x y
+pub EachTwo-at : {X : Type 0} (R : X → X → Type 0) (xs : List X) (j k : ℕ) (x y : X) → EachTwo R xs → j < k
+    → slice_get xs j ≡ Some x → slice_get xs k ≡ Some y → R x y
 EachTwo-at R [] j k x y a l e f = cc
 EachTwo-at R (z ∷ xs) zero zero x y a l e f = absurd (omega (arith, l))
 EachTwo-at R (z ∷ xs) zero (suc k) x y a l e f =
@@ -40,30 +54,44 @@ EachTwo-at R (z ∷ xs) (suc j) (suc k) x y a l e f = EachTwo-at R xs j k x y a.
 
 pub AllPairs-from_each_two : {X : Type 0} (R : X → X → Type 0) (xs : List X) → EachTwo R xs → AllPairs R xs
 AllPairs-from_each_two R [] a = λ i j d l m. absurd (omega (arith, m))
-AllPairs-from_each_two R (x ∷ xs) a = AllPairs-cons R x xs (All-from_recursion (R x) xs a.0) (AllPairs-from_each_two R xs a.1)
+AllPairs-from_each_two R (x ∷ xs) a =
+    AllPairs-cons R x xs (All-from_recursion (R x) xs a.0) (AllPairs-from_each_two R xs a.1)
 
 pub each_two_from_AllPairs : {X : Type 0} (R : X → X → Type 0) (xs : List X) → AllPairs R xs → EachTwo R xs
 each_two_from_AllPairs R [] a = tt
-each_two_from_AllPairs R (x ∷ xs) a =
-    (recursion_from_All (R x) xs (λ k d l. a 0 (suc k) d (omega arith) (omega (arith, l))), each_two_from_AllPairs R xs (λ i j d l m. a (suc i) (suc j) d (omega (arith, l)) (omega (arith, m))))
+each_two_from_AllPairs R (x ∷ xs) a = (
+  recursion_from_All (R x) xs (λ k d l. a 0 (suc k) d (omega arith) (omega (arith, l))),
+  each_two_from_AllPairs R xs
+      (λ i j d l m. a (suc i) (suc j) d (omega (arith, l)) (omega (arith, m))),
+)
 
-pub EachTwo-weaker : {X : Type 0} (R Q : X → X → Type 0) (xs : List X) → ((x y : X) → IsIn xs x → IsIn xs y → R x y → Q x y) → EachTwo R xs → EachTwo Q xs
+pub EachTwo-weaker : {X : Type 0} (R Q : X → X → Type 0) (xs : List X)
+    → ((x y : X) → IsIn xs x → IsIn xs y → R x y → Q x y) → EachTwo R xs → EachTwo Q xs
 EachTwo-weaker R Q [] h a = tt
-EachTwo-weaker R Q (x ∷ xs) h a =
-    (each_from (Q x) xs (λ y k. h x y (inl refl) (inr k) (each_in (R x) xs y a.0 k)), EachTwo-weaker R Q xs (λ y z j k. h y z (inr j) (inr k)) a.1)
+EachTwo-weaker R Q (x ∷ xs) h a = (
+  each_from (Q x) xs (λ y k. h x y (inl refl) (inr k) (each_in (R x) xs y a.0 k)),
+  EachTwo-weaker R Q xs
+      (λ y z j k. h y z (inr j) (inr k)) a.1,
+)
 
 pub EachTwo-take : {X : Type 0} (R : X → X → Type 0) (n : ℕ) (xs : List X) → EachTwo R xs → EachTwo R (take n xs)
 EachTwo-take R zero xs a = tt
 EachTwo-take R (suc n) [] a = tt
-EachTwo-take R (suc n) (x ∷ xs) a = (each_from (R x) (take n xs) (λ y k. each_in (R x) xs y a.0 (in-take n xs y k)), EachTwo-take R n xs a.1)
+EachTwo-take R (suc n) (x ∷ xs) a =
+    (each_from (R x) (take n xs) (λ y k. each_in (R x) xs y a.0 (in-take n xs y k)), EachTwo-take R n xs a.1)
 
-pub EachTwo-enumerated : {X : Type 0} (R : X → X → Type 0) (k : ℕ) (xs : List X) → EachTwo R xs → EachTwo (λ (a b : ℕ × X). R a.1 b.1) (enumerate_from k xs)
+pub EachTwo-enumerated : {X : Type 0} (R : X → X → Type 0) (k : ℕ) (xs : List X) → EachTwo R xs
+    → EachTwo (λ (a b : ℕ × X). R a.1 b.1) (enumerate_from k xs)
 EachTwo-enumerated R k [] a = tt
-EachTwo-enumerated {X = X} R k (x ∷ xs) a =
-    (each_from (λ (b : ℕ × X). R x b.1) (enumerate_from (k + 1) xs) (λ b j. each_in (R x) xs b.1 a.0 (in-enumerated (k + 1) xs b j)), EachTwo-enumerated R (k + 1) xs a.1)
+EachTwo-enumerated {X = X} R k (x ∷ xs) a = (
+  each_from (λ (b : ℕ × X). R x b.1) (enumerate_from (k + 1) xs)
+      (λ b j. each_in (R x) xs b.1 a.0 (in-enumerated (k + 1) xs b j)),
+  EachTwo-enumerated R (k + 1) xs a.1,
+)
 
 -- of two members the one or the other stands first, or they are one
-pub EachTwo-of : {X : Type 0} (R : X → X → Type 0) (xs : List X) (x y : X) → EachTwo R xs → IsIn xs x → IsIn xs y → (x ≡ y) ⊎ (R x y ⊎ R y x)
+pub EachTwo-of : {X : Type 0} (R : X → X → Type 0) (xs : List X) (x y : X) → EachTwo R xs → IsIn xs x → IsIn xs y
+    → (x ≡ y) ⊎ (R x y ⊎ R y x)
 EachTwo-of R [] x y a h k = absurd h
 EachTwo-of R (z ∷ xs) x y a (inl h) (inl k) = inl (sym h ∙ k)
 EachTwo-of R (z ∷ xs) x y a (inl h) (inr k) = inr (inl (subst (λ v. R v y) h (each_in (R z) xs y a.0 k)))

@@ -9,24 +9,29 @@ abbrev pub first_changed : {X : Type 0} → (X → X) → List X → List X
 first_changed f [] = []
 first_changed f (x ∷ xs) = f x ∷ xs
 
-last_changed : {X : Type 0} (f : X → X) (rs : List X) (r d : X) (n : ℕ) → n ≡ length rs → set (reverse (r ∷ rs)) n (f (get_or (reverse (r ∷ rs)) n d)) ≡ reverse (f r ∷ rs)
+last_changed : {X : Type 0} (f : X → X) (rs : List X) (r d : X) (n : ℕ) → n ≡ length rs
+    → set (reverse (r ∷ rs)) n (f (get_or (reverse (r ∷ rs)) n d)) ≡ reverse (f r ∷ rs)
 last_changed f rs r d n h =
     let seam : n ≡ length (reverse rs) = h ∙ sym (length-reverse rs) in
     let turned : reverse (r ∷ rs) ≡ reverse rs ++ r ∷ [] = reverse-append (r ∷ []) rs in
-    let last : get_or (reverse (r ∷ rs)) n d ≡ r = ap₂ (λ l k. get_or l k d) turned seam ∙ get_or-append_seam (reverse rs) r [] d in
+    let last : get_or (reverse (r ∷ rs)) n d ≡ r =
+    ap₂ (λ l k. get_or l k d) turned seam ∙ get_or-append_seam (reverse rs) r [] d in
     ap₂ (λ l k. set l k (f (get_or (reverse (r ∷ rs)) n d))) turned seam
     ∙ ap (λ x. set (reverse rs ++ r ∷ []) (length (reverse rs)) (f x)) last
     ∙ set-append_seam (reverse rs) r [] (f r)
     ∙ sym (reverse-append (f r ∷ []) rs)
 
 turned_changed : {X : Type 0} (f : X → X) (rs : List X) (d : X) → 0 < length rs →
-    reverse (set (reverse rs) (length (reverse rs) - 1) (f (get_or (reverse rs) (length (reverse rs) - 1) d))) ≡ first_changed f rs
+    reverse (set (reverse rs) (length (reverse rs) - 1) (f (get_or (reverse rs) (length (reverse rs) - 1) d))) ≡
+    first_changed f rs
 turned_changed f [] d h = absurd (omega (arith, h))
-turned_changed f (r ∷ rs) d h = ap reverse (last_changed f rs r d _ (omega (arith, length-reverse (r ∷ rs)))) ∙ reverse-reverse (f r ∷ rs)
+turned_changed f (r ∷ rs) d h =
+    ap reverse (last_changed f rs r d _ (omega (arith, length-reverse (r ∷ rs)))) ∙ reverse-reverse (f r ∷ rs)
 
 -- the last element of a list is the first of the list turned round
 pub newest_changed : {X : Type 0} (f : X → X) (xs : List X) (d : X) → 0 < length xs →
     reverse (set xs (length xs - 1) (f (get_or xs (length xs - 1) d))) ≡ first_changed f (reverse xs)
 newest_changed f xs d h =
-    subst (λ ys. reverse (set ys (length ys - 1) (f (get_or ys (length ys - 1) d))) ≡ first_changed f (reverse xs)) (reverse-reverse xs)
+    subst (λ ys. reverse (set ys (length ys - 1) (f (get_or ys (length ys - 1) d))) ≡ first_changed f (reverse xs))
+    (reverse-reverse xs)
     (turned_changed f (reverse xs) d (omega (arith, h, length-reverse xs)))

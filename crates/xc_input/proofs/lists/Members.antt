@@ -1,5 +1,6 @@
 -- Members of lists, and what holds of each two of them.
-use Rattle.std.proofs.Common.{ℕ, zero, suc, ◌≡◌, ◌+◌, ◌<◌, Bool, true, false, cond, List, [], ◌∷◌, ◌++◌, length, map, filter, take, get_or, Some, refl, sym, ap, ◌∙◌, arith, subst, ◌⊎◌, inl, inr}
+use Rattle.std.proofs.Common.{ℕ, zero, suc, ◌≡◌, ◌+◌, ◌<◌, Bool, true, false, cond, List, [], ◌∷◌, ◌++◌, length, map}
+use Rattle.std.proofs.Common.{filter, take, get_or, Some, refl, sym, ap, ◌∙◌, arith, subst, ◌⊎◌, inl, inr}
 use Rattle.std.specs.Prelude.{flat_map, slice_get, Contains}
 use Rattle.std.specs.List.{AllByRecursion, enumerate_from}
 
@@ -14,7 +15,11 @@ pub in-filter : {X : Type 0} (p : X → Bool) (xs : List X) (x : X) → IsIn (fi
 in-filter p [] x h = absurd h
 in-filter p (y ∷ ys) x h =
     elim (p y) as (λ b. p y ≡ b → IsIn (cond b (y ∷ filter p ys) (filter p ys)) x → IsIn (y ∷ ys) x × (p x ≡ true)) [
-      | true ↦ λ e k. elim k [ inl q ↦ (inl q, subst (λ z. p z ≡ true) q e) | inr q ↦ let later = in-filter p ys x q in (inr later.0, later.1) ]
+      | true ↦ λ e k. elim k [
+        | inl q ↦ (inl q, subst (λ z. p z ≡ true) q e)
+        | inr q ↦ let later = in-filter p ys x q in
+            (inr later.0, later.1)
+      ]
       | false ↦ λ e k. let later = in-filter p ys x k in (inr later.0, later.1)
     ] refl h
 
@@ -53,12 +58,14 @@ in-append [] ys x h = inr h
 in-append (z ∷ xs) ys x (inl q) = inl (inl q)
 in-append (z ∷ xs) ys x (inr q) = elim (in-append xs ys x q) [ inl k ↦ inl (inr k) | inr k ↦ inr k ]
 
-pub flat_map-in : {X Y : Type 0} (f : X → List Y) (xs : List X) (x : X) (z : Y) → IsIn xs x → IsIn (f x) z → IsIn (flat_map f xs) z
+pub flat_map-in : {X Y : Type 0} (f : X → List Y) (xs : List X) (x : X) (z : Y) → IsIn xs x → IsIn (f x) z
+    → IsIn (flat_map f xs) z
 flat_map-in f [] x z h k = absurd h
 flat_map-in f (y ∷ ys) x z (inl q) k = append-in_left (f y) (flat_map f ys) z (subst (λ v. IsIn (f v) z) (sym q) k)
 flat_map-in f (y ∷ ys) x z (inr q) k = append-in_right (f y) (flat_map f ys) z (flat_map-in f ys x z q k)
 
-pub in-flat_map : {X Y : Type 0} (f : X → List Y) (xs : List X) (z : Y) → IsIn (flat_map f xs) z → (x : X) × IsIn xs x × IsIn (f x) z
+pub in-flat_map : {X Y : Type 0} (f : X → List Y) (xs : List X) (z : Y) → IsIn (flat_map f xs) z → (x : X) × IsIn xs x
+    × IsIn (f x) z
 in-flat_map f [] z h = absurd h
 in-flat_map f (y ∷ ys) z h = elim (in-append (f y) (flat_map f ys) z h) [
   | inl k ↦ (y, inl refl, k)

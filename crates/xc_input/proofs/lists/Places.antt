@@ -15,7 +15,8 @@ pub get_seam : {X : Type 0} (xs : List X) (y : X) → slice_get (xs ++ y ∷ [])
 get_seam [] y = refl
 get_seam (x ∷ xs) y = get_seam xs y
 
-pub get_numbered : {X : Type 0} (a : ℕ) (xs : List X) (k : ℕ) (x : X) → slice_get xs k ≡ Some x → slice_get (enumerate_from a xs) k ≡ Some (a + k, x)
+pub get_numbered : {X : Type 0} (a : ℕ) (xs : List X) (k : ℕ) (x : X) → slice_get xs k ≡ Some x
+    → slice_get (enumerate_from a xs) k ≡ Some (a + k, x)
 get_numbered a [] k x e = cc
 get_numbered a (y ∷ xs) zero x e =
     let same : y ≡ x = cc in
@@ -46,7 +47,8 @@ slice_get-drop xs zero = refl
 slice_get-drop [] (suc m) = refl
 slice_get-drop (x ∷ xs) (suc m) = slice_get-drop xs m
 
-pub before_some : {X : Type 0} (xs : List X) (m : ℕ) (x : X) → slice_get xs (suc m) ≡ Some x → (y : X) × (slice_get xs m ≡ Some y)
+pub before_some : {X : Type 0} (xs : List X) (m : ℕ) (x : X) → slice_get xs (suc m) ≡ Some x → (y : X)
+    × (slice_get xs m ≡ Some y)
 before_some [] m x e = cc
 before_some (y ∷ xs) zero x e = (y, refl)
 before_some (y ∷ xs) (suc m) x e = before_some xs m x e

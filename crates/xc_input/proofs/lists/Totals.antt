@@ -1,5 +1,6 @@
 -- Sums over numbers in a row.
-use Rattle.std.proofs.Common.{ℕ, zero, suc, ◌≡◌, ◌≢◌, ◌+◌, ◌<◌, ◌≤◌, Bool, true, false, cond, eqb, List, [], ◌∷◌, refl, sym, ap, arith, subst, eqb-true, eq-eqb, ne_eqb}
+use Rattle.std.proofs.Common.{ℕ, zero, suc, ◌≡◌, ◌≢◌, ◌+◌, ◌<◌, ◌≤◌, Bool, true, false, cond, eqb, List, [], ◌∷◌, refl}
+use Rattle.std.proofs.Common.{sym, ap, arith, subst, eqb-true, eq-eqb, ne_eqb}
 use Rattle.std.specs.List.{range_with_len}
 
 abbrev pub total : (ℕ → ℕ) → List ℕ → ℕ
@@ -14,11 +15,15 @@ pub total_le : (f g : ℕ → ℕ) (xs : List ℕ) → ((i : ℕ) → f i ≤ g 
 total_le f g [] h = omega arith
 total_le f g (x ∷ xs) h = omega (arith, h x, total_le f g xs h)
 
-pub total_less : (f g : ℕ → ℕ) (j a n : ℕ) → a ≤ j → j < a + n → ((i : ℕ) → f i ≤ g i) → f j < g j → total f (range_with_len a n) < total g (range_with_len a n)
+pub total_less : (f g : ℕ → ℕ) (j a n : ℕ) → a ≤ j → j < a + n → ((i : ℕ) → f i ≤ g i) → f j < g j
+    → total f (range_with_len a n) < total g (range_with_len a n)
 total_less f g j a zero h k le lt = absurd (omega (arith, h, k))
-total_less f g j a (suc n) h k le lt = by_case (eqb a j) refl (λ l. total_less f g j (a + 1) n l (omega (arith, k)) le lt)
+total_less f g j a (suc n) h k le lt =
+    by_case (eqb a j) refl (λ l. total_less f g j (a + 1) n l (omega (arith, k)) le lt)
   where
-    by_case : (b : Bool) → eqb a j ≡ b → (a + 1 ≤ j → total f (range_with_len (a + 1) n) < total g (range_with_len (a + 1) n)) → total f (range_with_len a (suc n)) < total g (range_with_len a (suc n))
+    by_case : (b : Bool) → eqb a j ≡ b
+        → (a + 1 ≤ j → total f (range_with_len (a + 1) n) < total g (range_with_len (a + 1) n))
+        → total f (range_with_len a (suc n)) < total g (range_with_len a (suc n))
     by_case true i later =
         let here : f a < g a = subst (λ x. f x < g x) (sym (eqb-true a j i)) lt in
         omega (arith, here, total_le f g (range_with_len (a + 1) n) le)
@@ -40,15 +45,18 @@ total_two f g (x ∷ xs) = omega (arith, total_two f g xs)
 
 total_none : (j a n : ℕ) → j < a → total (λ i. one_if (eqb j i)) (range_with_len a n) ≡ 0
 total_none j a zero h = refl
-total_none j a (suc n) h = let apart : eqb j a ≡ false = ne_eqb j a (λ e. omega (arith, h, e)) in omega (arith, ap one_if apart, total_none j (a + 1) n (omega (arith, h)))
+total_none j a (suc n) h = let apart : eqb j a ≡ false = ne_eqb j a (λ e. omega (arith, h, e)) in
+    omega (arith, ap one_if apart, total_none j (a + 1) n (omega (arith, h)))
 
 pub total_once : (j a n : ℕ) → total (λ i. one_if (eqb j i)) (range_with_len a n) ≤ 1
 total_once j a zero = omega arith
-total_once j a (suc n) = elim (eqb j a) as (λ b. eqb j a ≡ b → one_if b + total (λ i. one_if (eqb j i)) (range_with_len (a + 1) n) ≤ 1) [
-  | true ↦ λ e. omega (arith, total_none j (a + 1) n (omega (arith, eqb-true j a e)))
-  | false ↦ λ e. omega (arith, total_once j (a + 1) n)
-] refl
+total_once j a (suc n) =
+    elim (eqb j a) as (λ b. eqb j a ≡ b → one_if b + total (λ i. one_if (eqb j i)) (range_with_len (a + 1) n) ≤ 1) [
+      | true ↦ λ e. omega (arith, total_none j (a + 1) n (omega (arith, eqb-true j a e)))
+      | false ↦ λ e. omega (arith, total_once j (a + 1) n)
+    ] refl
 
-pub total_shifted : (f : ℕ → ℕ) (a n : ℕ) → total f (range_with_len (a + 1) n) ≡ total (λ i. f (i + 1)) (range_with_len a n)
+pub total_shifted : (f : ℕ → ℕ) (a n : ℕ)
+    → total f (range_with_len (a + 1) n) ≡ total (λ i. f (i + 1)) (range_with_len a n)
 total_shifted f a zero = refl
 total_shifted f a (suc n) = omega (arith, total_shifted f (a + 1) n)

@@ -1,4 +1,5 @@
--- No public clause cites this module. Options kept in one list of uses, with the places where they start and at last the length.
+-- No public clause cites this module. Options kept in one list of uses, with the places where they start and at last
+-- the length.
 use Rattle.std.specs.Prelude.{ℕ, ◌≤◌, ◌≡◌, List, [], ◌∷◌, slice_range}
 
 -- the parts from each start to the next

@@ -1,18 +1,21 @@
 -- No public clause cites this module. The lines of a text, one after another: what the reader knows after each, and the
 -- checks of the next one by it.
-use Rattle.std.specs.Prelude.{ℕ, ◌+◌, length, List, [], ◌∷◌, ◌++◌, Bool, true, false, ◌&&◌, Option, None, Some, not, nat_eq, nat_lt, fold, is_none, is_some, map, unwrap_or, if◌then◌else◌}
+use Rattle.std.specs.Prelude.{ℕ, ◌+◌, length, List, [], ◌∷◌, ◌++◌, Bool, true, false, ◌&&◌, Option, None, Some, not}
+use Rattle.std.specs.Prelude.{nat_eq, nat_lt, fold, is_none, is_some, map, unwrap_or, if◌then◌else◌}
 use Prim.Native.Char.{code}
 use Rattle.std.specs.List.{list_any}
 use Rattle.xc_input.specs.Problem.{use_count}
 use Rattle.xc_input.specs.declared.kind.Kind.{Kind}
 use Rattle.xc_input.specs.declared.fault.FaultKind.{FaultKind}
-use Rattle.xc_input.specs.declared.fault.FaultKind.TheVariants.{TwoBars, UnknownItem, RepeatedInOption, ColourOnPrimary, BadColour, ColourNotHere, NulByte, TooManyUses}
+use Rattle.xc_input.specs.declared.fault.FaultKind.TheVariants.{TwoBars, UnknownItem, RepeatedInOption, ColourOnPrimary}
+use Rattle.xc_input.specs.declared.fault.FaultKind.TheVariants.{BadColour, ColourNotHere, NulByte, TooManyUses}
 use Rattle.xc_input.specs.Limits.{most_uses}
 use Rattle.xc_input.specs.Words.{has, before, after, place, number}
 use Rattle.xc_input.specs.Tokens.{tokens, parts, is_bar, is_skipped}
 use Rattle.xc_input.specs.Sheets.{Entry, Written, number_uses}
 use Rattle.xc_input.specs.inner.Sheets.{Sheet, names_of, with_uses}
-use Rattle.xc_input.specs.Faults.{Context, is_plain, name_checks, has_prefix, name_of, bound_texts, item_checks, is_bad_colour, has_primary}
+use Rattle.xc_input.specs.Faults.{Context, is_plain, name_checks, has_prefix, name_of, bound_texts, item_checks}
+use Rattle.xc_input.specs.Faults.{is_bad_colour, has_primary}
 use Rattle.xc_input.specs.FirstFault.{line_number}
 
 -- AN ITEM LINE

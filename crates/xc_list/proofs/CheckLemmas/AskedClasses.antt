@@ -1,6 +1,7 @@
 -- How often classes are asked, by numbers of classes and by options.
 use Rattle.std.proofs.lemmas.Option.{slice_get_within}
-use Rattle.std.proofs.Common.{ℕ, zero, suc, ◌≡◌, ◌+◌, ◌<◌, ◌≤◌, Bool, true, false, cond, ◌==◌, List, [], ◌∷◌, length, get_or, replicate, Some, refl, sym, ap, ap₂, ◌∙◌, arith, subst, eqb-true, eq-eqb}
+use Rattle.std.proofs.Common.{ℕ, zero, suc, ◌≡◌, ◌+◌, ◌<◌, ◌≤◌, Bool, true, false, cond, ◌==◌, List, [], ◌∷◌, length}
+use Rattle.std.proofs.Common.{get_or, replicate, Some, refl, sym, ap, ap₂, ◌∙◌, arith, subst, eqb-true, eq-eqb}
 use Rattle.std.specs.Prelude.{slice_get, nat_le, count_by}
 use Rattle.std.specs.List.{AllByRecursion, AllZip}
 use Rattle.std.proofs.lemmas.Bool.{leb-true, le-leb}
@@ -14,39 +15,56 @@ use Rattle.xc_list.proofs.CheckLemmas.DecidedByClasses.{alike-classes}
 use Rattle.xc_list.proofs.CheckLemmas.CountedClasses.{slice_get-at}
 use Rattle.xc_list.proofs.CheckLemmas.HeldItems.{raised-at}
 
-same_class : (b : Classes) → AreClasses b.problem.puzzle b.classes → (j k q o : ℕ) → IsOfClass b j q → IsOfClass b k o → (j == k) ≡ alike b.problem.puzzle o q
+same_class : (b : Classes) → AreClasses b.problem.puzzle b.classes → (j k q o : ℕ) → IsOfClass b j q → IsOfClass b k o
+    → (j == k) ≡ alike b.problem.puzzle o q
 same_class b are j k q o h g = by_place (j == k) refl
   where
     by_place : (v : Bool) → (j == k) ≡ v → v ≡ alike b.problem.puzzle o q
     by_place true e =
-        let both : Some (class_at b.problem.puzzle q) ≡ Some (class_at b.problem.puzzle o) = sym h.1 ∙ ap (slice_get b.classes) (eqb-true j k e) ∙ g.1 in
+        let both : Some (class_at b.problem.puzzle q) ≡ Some (class_at b.problem.puzzle o) =
+        sym h.1 ∙ ap (slice_get b.classes) (eqb-true j k e) ∙ g.1 in
         let class : class_at b.problem.puzzle q ≡ class_at b.problem.puzzle o = cc in
-        sym (subst (λ us. same_uses (class_at b.problem.puzzle o) us ≡ true) (sym class) (same_uses-itself (class_at b.problem.puzzle o)))
+        sym (subst (λ us. same_uses (class_at b.problem.puzzle o) us ≡ true) (sym class)
+        (same_uses-itself (class_at b.problem.puzzle o)))
     by_place false e = by_uses (alike b.problem.puzzle o q) refl
       where
         by_uses : (w : Bool) → alike b.problem.puzzle o q ≡ w → false ≡ w
         by_uses true f =
             let class = same_uses-are (class_at b.problem.puzzle o) (class_at b.problem.puzzle q) f in
-            let place = one_place b.classes j k (class_at b.problem.puzzle q) are.distinct h.1 (g.1 ∙ ap (λ us. Some us) class) in
+            let place =
+            one_place b.classes j k (class_at b.problem.puzzle q) are.distinct h.1
+            (g.1 ∙ ap (λ us. Some us) class) in
             absurd (let t = eq-eqb j k place in cc)
         by_uses false f = refl
 
 -- a class is asked as often as its options stand among those taken
-pub counted_classes : (b : Classes) → AreClasses b.problem.puzzle b.classes → (k o : ℕ) → IsOfClass b k o → (ks reps : List ℕ) → AllZip (IsOfClass b) ks reps → counted (λ j. j == k) ks ≡ counted (alike b.problem.puzzle o) reps
+pub counted_classes : (b : Classes) → AreClasses b.problem.puzzle b.classes → (k o : ℕ) → IsOfClass b k o
+    → (ks reps : List ℕ) → AllZip (IsOfClass b) ks reps
+    → counted (λ j. j == k) ks ≡ counted (alike b.problem.puzzle o) reps
 counted_classes b are k o g [] [] z = refl
 counted_classes b are k o g [] (q ∷ reps) z = absurd z
 counted_classes b are k o g (j ∷ ks) [] z = absurd z
-counted_classes b are k o g (j ∷ ks) (q ∷ reps) z = ap₂ (λ t n. cond t 1 0 + n) (same_class b are j k q o z.0 g) (counted_classes b are k o g ks reps z.1)
+counted_classes b are k o g (j ∷ ks) (q ∷ reps) z =
+    ap₂ (λ t n. cond t 1 0 + n) (same_class b are j k q o z.0 g) (counted_classes b are k o g ks reps z.1)
 
-pub asked-at : (b : Classes) → AreClasses b.problem.puzzle b.classes → (k o : ℕ) → IsOfClass b k o → (ks reps : List ℕ) → AllZip (IsOfClass b) ks reps →
+pub asked-at : (b : Classes) → AreClasses b.problem.puzzle b.classes → (k o : ℕ) → IsOfClass b k o → (ks reps : List ℕ)
+    → AllZip (IsOfClass b) ks reps →
     get_or (raised ks (replicate (length b.classes) 0)) k 0 ≡ counted (alike b.problem.puzzle o) reps
 asked-at b are k o g ks reps z =
     let m = length b.classes in
     let below : k < m = slice_get_within b.classes k (class_at b.problem.puzzle o) g.1 in
-    omega (arith, raised-at ks (replicate m 0) k (omega (arith, below, length-replicate {A = ℕ} m 0)), get_or-replicate {A = ℕ} m k 0 0 below, counted_classes b are k o g ks reps z)
+    omega (
+      arith,
+      raised-at ks (replicate m 0) k (omega (arith, below, length-replicate {A = ℕ} m 0)),
+      get_or-replicate
+          {A = ℕ} m k 0 0 below,
+      counted_classes b are k o g ks reps z,
+    )
 
-pub members-at : (b : Classes) (k o : ℕ) → IsOfClass b k o → class_size b.problem.puzzle (uses_at b.classes k) ≡ counted (alike b.problem.puzzle o) (numbers b.problem.puzzle)
-members-at b k o g = ap (class_size b.problem.puzzle) (slice_get-at b.classes k (class_at b.problem.puzzle o) [] g.1) ∙ is_counted (alike b.problem.puzzle o) (numbers b.problem.puzzle)
+pub members-at : (b : Classes) (k o : ℕ) → IsOfClass b k o
+    → class_size b.problem.puzzle (uses_at b.classes k) ≡ counted (alike b.problem.puzzle o) (numbers b.problem.puzzle)
+members-at b k o g = ap (class_size b.problem.puzzle) (slice_get-at b.classes k (class_at b.problem.puzzle o) [] g.1)
+    ∙ is_counted (alike b.problem.puzzle o) (numbers b.problem.puzzle)
 
 -- an option that passes a test, with its class
 record IsFound (b : Classes) (P : ℕ → Type 0) (q : ℕ → Bool) : Type 0 where
@@ -56,7 +74,8 @@ record IsFound (b : Classes) (P : ℕ → Type 0) (q : ℕ → Bool) : Type 0 wh
   pub holds : P class
   pub passes : q option ≡ true
 
-found : (b : Classes) (P : ℕ → Type 0) (q : ℕ → Bool) (ks reps : List ℕ) → AllZip (IsOfClass b) ks reps → AllByRecursion P ks → 0 < counted q reps → IsFound b P q
+found : (b : Classes) (P : ℕ → Type 0) (q : ℕ → Bool) (ks reps : List ℕ) → AllZip (IsOfClass b) ks reps
+    → AllByRecursion P ks → 0 < counted q reps → IsFound b P q
 found b P q [] [] z a l = absurd (omega (arith, l))
 found b P q [] (o ∷ reps) z a l = absurd z
 found b P q (k ∷ ks) [] z a l = absurd z
@@ -68,14 +87,24 @@ found b P q (k ∷ ks) (o ∷ reps) z a l = by_test (λ m. found b P q ks reps z
 
 -- whether a class is asked no more often than it has options
 abbrev pub IsRoomFor : Classes → List ℕ → ℕ → Type 0
-IsRoomFor b ks k = nat_le (get_or (raised ks (replicate (length b.classes) 0)) k 0) (class_size b.problem.puzzle (uses_at b.classes k)) ≡ true
+IsRoomFor b ks k =
+    nat_le (get_or (raised ks (replicate (length b.classes) 0)) k 0)
+    (class_size b.problem.puzzle (uses_at b.classes k)) ≡ true
 
-pub asked_by_classes : (b : Classes) → AreClasses b.problem.puzzle b.classes → (ks reps : List ℕ) → AllZip (IsOfClass b) ks reps → AllByRecursion (IsRoomFor b ks) ks →
+pub asked_by_classes : (b : Classes) → AreClasses b.problem.puzzle b.classes → (ks reps : List ℕ)
+    → AllZip (IsOfClass b) ks reps → AllByRecursion (IsRoomFor b ks) ks →
     (r : ℕ) → count_by (alike b.problem.puzzle r) reps ≤ count_by (alike b.problem.puzzle r) (numbers b.problem.puzzle)
 asked_by_classes b are ks reps z a r =
-    omega (arith, is_counted (alike b.problem.puzzle r) reps, is_counted (alike b.problem.puzzle r) (numbers b.problem.puzzle), by_count (counted (alike b.problem.puzzle r) reps) refl)
+    omega (
+      arith,
+      is_counted (alike b.problem.puzzle r) reps,
+      is_counted (alike b.problem.puzzle r)
+          (numbers b.problem.puzzle),
+      by_count (counted (alike b.problem.puzzle r) reps) refl,
+    )
   where
-    by_count : (n : ℕ) → counted (alike b.problem.puzzle r) reps ≡ n → counted (alike b.problem.puzzle r) reps ≤ counted (alike b.problem.puzzle r) (numbers b.problem.puzzle)
+    by_count : (n : ℕ) → counted (alike b.problem.puzzle r) reps ≡ n
+        → counted (alike b.problem.puzzle r) reps ≤ counted (alike b.problem.puzzle r) (numbers b.problem.puzzle)
     by_count zero e = omega (arith, e)
     by_count (suc n) e =
         let p = b.problem.puzzle in
@@ -90,8 +119,18 @@ asked_by_classes b are ks reps z a r =
           leb-true _ _ f.holds,
         )
 
-pub classes_by_asked : (b : Classes) → AreClasses b.problem.puzzle b.classes → (ks reps : List ℕ) → AllZip (IsOfClass b) ks reps →
-    ((r : ℕ) → count_by (alike b.problem.puzzle r) reps ≤ count_by (alike b.problem.puzzle r) (numbers b.problem.puzzle)) → (k o : ℕ) → IsOfClass b k o → IsRoomFor b ks k
+pub classes_by_asked : (b : Classes) → AreClasses b.problem.puzzle b.classes → (ks reps : List ℕ)
+    → AllZip (IsOfClass b) ks reps →
+    ((r : ℕ) → count_by (alike b.problem.puzzle r) reps ≤ count_by (alike b.problem.puzzle r)
+    (numbers b.problem.puzzle)) → (k o : ℕ) → IsOfClass b k o → IsRoomFor b ks k
 classes_by_asked b are ks reps z h k o g =
     let p = b.problem.puzzle in
-    le-leb _ _ (omega (arith, h o, is_counted (alike p o) reps, is_counted (alike p o) (numbers p), asked-at b are k o g ks reps z, members-at b k o g))
+    le-leb _ _ (omega (
+      arith,
+      h o,
+      is_counted (alike p o) reps,
+      is_counted (alike p o) (numbers p),
+      asked-at b are k o g
+          ks reps z,
+      members-at b k o g,
+    ))

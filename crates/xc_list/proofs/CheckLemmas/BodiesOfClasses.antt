@@ -1,5 +1,6 @@
 -- Which bodies stand for which uses, by classes.
-use Rattle.std.proofs.Common.{ℕ, ◌≡◌, ◌<◌, true, ◌==◌, ◌&&◌, List, [], ◌∷◌, length, map, take, drop, sym, ap, ap₂, ◌∙◌, arith, refl, eqb-true, eq-eqb}
+use Rattle.std.proofs.Common.{ℕ, ◌≡◌, ◌<◌, true, ◌==◌, ◌&&◌, List, [], ◌∷◌, length, map, take, drop, sym, ap, ap₂, ◌∙◌}
+use Rattle.std.proofs.Common.{arith, refl, eqb-true, eq-eqb}
 use Rattle.std.specs.Prelude.{All}
 use Rattle.std.specs.Bool.{Decides}
 use Rattle.std.specs.Str.{bytes_eq}
@@ -23,25 +24,31 @@ texts-same : (vs ws : List (List ℕ)) → Decides (pointwise bytes_eq vs ws) (v
 texts-same vs ws = slice_eq-Decides bytes_eq-Decides vs ws (pointwise bytes_eq vs ws) refl
 
 -- what `is_body` says
-pub body-is : (p : Named) (words : List (List ℕ)) (us : List Use) → is_body p words us ≡ true → (k : ℕ) × (k < length us) × (map (use_word p) (rotated_at k us) ≡ words)
+pub body-is : (p : Named) (words : List (List ℕ)) (us : List Use) → is_body p words us ≡ true → (k : ℕ)
+    × (k < length us) × (map (use_word p) (rotated_at k us) ≡ words)
 body-is p words us h =
-    let k = in-any (λ k. pointwise bytes_eq (map (use_word p) (rotated_at k us)) words) (range_with_len 0 (length us)) h in
+    let k =
+    in-any (λ k. pointwise bytes_eq (map (use_word p) (rotated_at k us)) words) (range_with_len 0 (length us)) h in
     let l = in-range 0 (length us) k.0 k.1 in
     (k.0, omega (arith, l.1), (texts-same (map (use_word p) (rotated_at k.0 us)) words).0 k.2)
 
-pub is-body : (p : Named) (words : List (List ℕ)) (us : List Use) (k : ℕ) → k < length us → map (use_word p) (rotated_at k us) ≡ words → is_body p words us ≡ true
+pub is-body : (p : Named) (words : List (List ℕ)) (us : List Use) (k : ℕ) → k < length us
+    → map (use_word p) (rotated_at k us) ≡ words → is_body p words us ≡ true
 is-body p words us k l e =
     any-in (λ k. pointwise bytes_eq (map (use_word p) (rotated_at k us)) words) (range_with_len 0 (length us)) k
-    (range-in 0 (length us) k (omega arith) (omega (arith, l))) ((texts-same (map (use_word p) (rotated_at k us)) words).1 e)
+    (range-in 0 (length us) k (omega arith) (omega (arith, l)))
+    ((texts-same (map (use_word p) (rotated_at k us)) words).1 e)
 
 -- A body that stands for uses stands for all of their class.
-pub body-alike : (p : Named) (words : List (List ℕ)) (us vs : List Use) → DifferInItems us → DifferInItems vs → class_of us ≡ class_of vs → is_body p words us ≡ true → is_body p words vs ≡ true
+pub body-alike : (p : Named) (words : List (List ℕ)) (us vs : List Use) → DifferInItems us → DifferInItems vs
+    → class_of us ≡ class_of vs → is_body p words us ≡ true → is_body p words vs ≡ true
 body-alike p words us vs d e q h =
     let k = body-is p words us h in
     let j = turned-alike us vs k.0 d e q k.1 in
     is-body p words vs j.0 j.1 (ap (map (use_word p)) (sym j.2) ∙ k.2)
 
-pub same_uses_by_words : (p : Named) → IsSound p → (us vs : List Use) → All (IsKnownUse p) us → All (IsKnownUse p) vs → map (use_word p) us ≡ map (use_word p) vs → us ≡ vs
+pub same_uses_by_words : (p : Named) → IsSound p → (us vs : List Use) → All (IsKnownUse p) us → All (IsKnownUse p) vs
+    → map (use_word p) us ≡ map (use_word p) vs → us ≡ vs
 same_uses_by_words p s [] [] a b e = refl
 same_uses_by_words p s [] (v ∷ vs) a b e = cc
 same_uses_by_words p s (u ∷ us) [] a b e = cc
@@ -55,12 +62,15 @@ pub All-turned : {X : Type 0} (P : X → Type 0) (k : ℕ) (xs : List X) → All
 All-turned P k xs all = All-append P (drop k xs) (take k xs) (All-drop P k xs all) (All-take P k xs all)
 
 -- What one body stands for is of one class.
-pub body-class : (p : Named) (words : List (List ℕ)) → IsSound p → (us vs : List Use) → All (IsKnownUse p) us → All (IsKnownUse p) vs → DifferInItems us → DifferInItems vs →
+pub body-class : (p : Named) (words : List (List ℕ)) → IsSound p → (us vs : List Use) → All (IsKnownUse p) us
+    → All (IsKnownUse p) vs → DifferInItems us → DifferInItems vs →
     is_body p words us ≡ true → is_body p words vs ≡ true → class_of us ≡ class_of vs
 body-class p words s us vs a b d e h k =
     let i = body-is p words us h in
     let j = body-is p words vs k in
-    let same = same_uses_by_words p s (rotated_at i.0 us) (rotated_at j.0 vs) (All-turned (IsKnownUse p) i.0 us a) (All-turned (IsKnownUse p) j.0 vs b) (i.2 ∙ sym j.2) in
+    let same =
+    same_uses_by_words p s (rotated_at i.0 us) (rotated_at j.0 vs) (All-turned (IsKnownUse p) i.0 us a)
+    (All-turned (IsKnownUse p) j.0 vs b) (i.2 ∙ sym j.2) in
     sym (class-turned i.0 us d) ∙ ap class_of same ∙ class-turned j.0 vs e
 
 -- ---- equal uses
@@ -72,7 +82,8 @@ use-decides a b = (λ h. are h, λ e. is e)
     are : (a.item == b.item && a.colour == b.colour) ≡ true → a ≡ b
     are h =
         let parts = and_parts (a.item == b.item) (a.colour == b.colour) h in
-        ap₂ (λ i c. let r : Use = record { item = i; colour = c } in r) (eqb-true a.item b.item parts.0) (eqb-true a.colour b.colour parts.1)
+        ap₂ (λ i c. let r : Use = record { item = i; colour = c } in r) (eqb-true a.item b.item parts.0)
+        (eqb-true a.colour b.colour parts.1)
 
     is : a ≡ b → (a.item == b.item && a.colour == b.colour) ≡ true
     is e =

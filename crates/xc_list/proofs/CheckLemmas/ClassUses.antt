@@ -13,7 +13,8 @@ use Rattle.xc_list.proofs.CheckLemmas.BodiesOfClasses.{All-turned}
 use Rattle.xc_list.proofs.CheckLemmas.DecidedByClasses.{option-known}
 
 -- the classes of all options are those of the problem
-pub classes-whole : (p : Puzzle) (classes : List (List Use)) (counts : List ℕ) → AreClassesTo p (option_count p) classes counts → AreClasses p classes
+pub classes-whole : (p : Puzzle) (classes : List (List Use)) (counts : List ℕ)
+    → AreClassesTo p (option_count p) classes counts → AreClasses p classes
 classes-whole p classes counts a = record {
   distinct = a.distinct;
   whole = λ o h. a.whole o h.0 h.1;
@@ -21,9 +22,11 @@ classes-whole p classes counts a = record {
 }
 
 -- the uses of a class can be told
-pub known-uses : (p : Named) (keys : List (Vec Use Global)) (counts : List ℕ) → IsOptionIndex p keys counts → (k : ℕ) (v : Vec Use Global) → Some v ≡ slice_get keys k → All (IsKnownUse p) v.items
+pub known-uses : (p : Named) (keys : List (Vec Use Global)) (counts : List ℕ) → IsOptionIndex p keys counts
+    → (k : ℕ) (v : Vec Use Global) → Some v ≡ slice_get keys k → All (IsKnownUse p) v.items
 known-uses p keys counts b k v e =
     let u = b.complete.used k v.items (slice_get-map-some (λ v. v.items) keys k v e) in
     let us = uses_of p.puzzle u.0 in
     let j = class-place us in
-    subst (All (IsKnownUse p)) (sym j.1 ∙ u.3) (All-turned (IsKnownUse p) j.0 us (option-known p b.sound u.0 (u.1, u.2)))
+    subst (All (IsKnownUse p)) (sym j.1 ∙ u.3)
+    (All-turned (IsKnownUse p) j.0 us (option-known p b.sound u.0 (u.1, u.2)))

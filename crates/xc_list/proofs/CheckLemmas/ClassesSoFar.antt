@@ -1,5 +1,7 @@
 -- One option more among the classes.
-use Rattle.std.proofs.Common.{ℕ, zero, suc, ◌≡◌, ◌≢◌, ◌+◌, ◌≤◌, Bool, true, false, cond, List, [], ◌∷◌, ◌++◌, map, get_or, Some, ◌⊎◌, refl, sym, ap, ap₂, ◌∙◌, arith, subst, inl, inr, ◌==◌, eqb-true, eq-eqb}
+use Rattle.std.proofs.Common.{ℕ, zero, suc, ◌≡◌, ◌≢◌, ◌+◌, ◌≤◌, Bool, true, false, cond, List, [], ◌∷◌, ◌++◌, map}
+use Rattle.std.proofs.Common.{get_or, Some, ◌⊎◌, refl, sym, ap, ap₂, ◌∙◌, arith, subst, inl, inr, ◌==◌, eqb-true}
+use Rattle.std.proofs.Common.{eq-eqb}
 use Rattle.std.specs.Prelude.{slice_get, Contains}
 use Rattle.std.proofs.Math.ListN.{set}
 use Rattle.std.proofs.lemmas.List.Elements.{Contains-append_left, Contains-push}
@@ -8,7 +10,8 @@ use Rattle.xc_input.specs.declared.problem.Use.{Use}
 use Rattle.xc_input.specs.Problem.{Puzzle}
 use Rattle.xc_input.proofs.FaultLemmas.Checks.{map-snoc}
 use Rattle.xc_input.proofs.TokenLemmas.Bytes.{not_false}
-use Rattle.xc_input.proofs.lists.Members.{IsIn, each_in, in-append, in-contains, contains-in, in-slice_get, slice_get-in}
+use Rattle.xc_input.proofs.lists.Members.{IsIn, each_in, in-append, in-contains, contains-in, in-slice_get}
+use Rattle.xc_input.proofs.lists.Members.{slice_get-in}
 use Rattle.xc_input.proofs.lists.EachTwo.{EachTwo, EachTwo-append, each_two_from_AllPairs, AllPairs-from_each_two}
 use Rattle.std.specs.List.{range_with_len}
 use Rattle.xc_list.specs.inner.Classes.{class_at, same_uses}
@@ -23,13 +26,16 @@ counted-append p (x ∷ xs) ys = omega (arith, counted-append p xs ys)
 
 -- no more of the first n options are of a class than there are
 pub members-few : (p : Puzzle) (n : ℕ) (us : List Use) → class_size_to p n us ≤ n
-members-few p n us = omega (arith, count_by-le-length (λ o. same_uses us (class_at p o)) (range_with_len 1 n), length-range 1 n)
+members-few p n us =
+    omega (arith, count_by-le-length (λ o. same_uses us (class_at p o)) (range_with_len 1 n), length-range 1 n)
 
-members-suc : (p : Puzzle) (n : ℕ) (us : List Use) → class_size_to p (suc n) us ≡ class_size_to p n us + cond (same_uses us (class_at p (suc n))) 1 0
+members-suc : (p : Puzzle) (n : ℕ) (us : List Use)
+    → class_size_to p (suc n) us ≡ class_size_to p n us + cond (same_uses us (class_at p (suc n))) 1 0
 members-suc p n us =
     let last : 1 + n ≡ suc n = omega arith in
     let more : counted test (range_with_len 1 (suc n)) ≡ counted test (range_with_len 1 n) + counted test (suc n ∷ []) =
-    ap (counted test) (range-more 1 n ∙ ap (λ k. range_with_len 1 n ++ k ∷ []) last) ∙ counted-append test (range_with_len 1 n) (suc n ∷ []) in
+    ap (counted test) (range-more 1 n ∙ ap (λ k. range_with_len 1 n ++ k ∷ []) last)
+    ∙ counted-append test (range_with_len 1 n) (suc n ∷ []) in
     omega (arith, is_counted test (range_with_len 1 (suc n)), is_counted test (range_with_len 1 n), more)
   where
     test : ℕ → Bool
@@ -41,25 +47,33 @@ module _ (f g : List Use → ℕ) (x : List Use) (same : (us : List Use) → us 
   others [] h = refl
   others (us ∷ classes) h = ap₂ (λ n ns. n ∷ ns) (same us (h us (inl refl))) (others classes (λ vs k. h vs (inr k)))
 
-  counts-found : (classes : List (List Use)) (k n : ℕ) → EachTwo (λ a b. a ≢ b) classes → slice_get classes k ≡ Some x → n ≡ g x → set (map f classes) k n ≡ map g classes
+  counts-found : (classes : List (List Use)) (k n : ℕ) → EachTwo (λ a b. a ≢ b) classes → slice_get classes k ≡ Some x
+      → n ≡ g x → set (map f classes) k n ≡ map g classes
   counts-found [] k n d e h = cc
   counts-found (us ∷ classes) zero n d e h =
       let here : us ≡ x = cc in
-      ap₂ (λ n ns. n ∷ ns) (h ∙ ap g (sym here)) (others classes (λ vs k q. each_in (λ b. us ≢ b) classes vs d.0 k (here ∙ sym q)))
+      ap₂ (λ n ns. n ∷ ns) (h ∙ ap g (sym here))
+      (others classes (λ vs k q. each_in (λ b. us ≢ b) classes vs d.0 k (here ∙ sym q)))
   counts-found (us ∷ classes) (suc k) n d e h =
-      ap₂ (λ n ns. n ∷ ns) (same us (each_in (λ b. us ≢ b) classes x d.0 (in-slice_get classes k x e))) (counts-found classes k n d.1 e h)
+      ap₂ (λ n ns. n ∷ ns) (same us (each_in (λ b. us ≢ b) classes x d.0 (in-slice_get classes k x e)))
+      (counts-found classes k n d.1 e h)
 
-  counts-new : (classes : List (List Use)) (n : ℕ) → (IsIn classes x → ⊥) → n ≡ g x → map f classes ++ n ∷ [] ≡ map g (classes ++ x ∷ [])
-  counts-new classes n h e = ap₂ (λ ns m. ns ++ m ∷ []) (others classes (λ us k q. h (subst (IsIn classes) q k))) e ∙ sym (map-snoc g classes x)
+  counts-new : (classes : List (List Use)) (n : ℕ) → (IsIn classes x → ⊥) → n ≡ g x
+      → map f classes ++ n ∷ [] ≡ map g (classes ++ x ∷ [])
+  counts-new classes n h e = ap₂ (λ ns m. ns ++ m ∷ []) (others classes (λ us k q. h (subst (IsIn classes) q k))) e
+      ∙ sym (map-snoc g classes x)
 
-count_at : (f : List Use → ℕ) (classes : List (List Use)) (k d : ℕ) (x : List Use) → slice_get classes k ≡ Some x → get_or (map f classes) k d ≡ f x
+count_at : (f : List Use → ℕ) (classes : List (List Use)) (k d : ℕ) (x : List Use) → slice_get classes k ≡ Some x
+    → get_or (map f classes) k d ≡ f x
 count_at f [] k d x e = cc
 count_at f (us ∷ classes) zero d x e = (let here : us ≡ x = cc in ap f here)
 count_at f (us ∷ classes) (suc k) d x e = count_at f classes k d x e
 
 -- the count of a class
-pub members_at : (p : Puzzle) (n : ℕ) (classes : List (List Use)) (counts : List ℕ) (k d : ℕ) (us : List Use) → AreClassesTo p n classes counts → slice_get classes k ≡ Some us → get_or counts k d ≡ class_size_to p n us
-members_at p n classes counts k d us a e = ap (λ cs. get_or cs k d) a.counted ∙ count_at (class_size_to p n) classes k d us e
+pub members_at : (p : Puzzle) (n : ℕ) (classes : List (List Use)) (counts : List ℕ) (k d : ℕ) (us : List Use)
+    → AreClassesTo p n classes counts → slice_get classes k ≡ Some us → get_or counts k d ≡ class_size_to p n us
+members_at p n classes counts k d us a e =
+    ap (λ cs. get_or cs k d) a.counted ∙ count_at (class_size_to p n) classes k d us e
 
 module _ (p : Puzzle) (n : ℕ) where
   abbrev added : List Use
@@ -68,12 +82,15 @@ module _ (p : Puzzle) (n : ℕ) where
   same_members : (us : List Use) → us ≢ added → class_size_to p n us ≡ class_size_to p (suc n) us
   same_members us ne =
       let other : same_uses us added ≡ false = not_false (same_uses us added) (λ q. ne (same_uses-are us added q)) in
-      let all : class_size_to p (suc n) us ≡ class_size_to p n us + cond false 1 0 = subst (λ t. class_size_to p (suc n) us ≡ class_size_to p n us + cond t 1 0) other (members-suc p n us) in
+      let all : class_size_to p (suc n) us ≡ class_size_to p n us + cond false 1 0 =
+      subst (λ t. class_size_to p (suc n) us ≡ class_size_to p n us + cond t 1 0) other (members-suc p n us) in
       omega (arith, all)
 
   one_member : class_size_to p (suc n) added ≡ class_size_to p n added + 1
   one_member =
-      let all : class_size_to p (suc n) added ≡ class_size_to p n added + cond true 1 0 = subst (λ t. class_size_to p (suc n) added ≡ class_size_to p n added + cond t 1 0) (same_uses-itself added) (members-suc p n added) in
+      let all : class_size_to p (suc n) added ≡ class_size_to p n added + cond true 1 0 =
+      subst (λ t. class_size_to p (suc n) added ≡ class_size_to p n added + cond t 1 0) (same_uses-itself added)
+      (members-suc p n added) in
       omega (arith, all)
 
   by_last : {X : ℕ → Type 0} → ((o : ℕ) → 1 ≤ o → o ≤ n → X o) → X (suc n) → (o : ℕ) → 1 ≤ o → o ≤ suc n → X o
@@ -81,19 +98,26 @@ module _ (p : Puzzle) (n : ℕ) where
     where
       by_case : (t : Bool) → (o == suc n) ≡ t → X o
       by_case true e = subst X (sym (eqb-true o (suc n) e)) last
-      by_case false e = before o l (let ne : o ≢ suc n = λ q. (let z = eq-eqb o (suc n) q in cc) in omega (arith, ne, m))
+      by_case false e =
+          before o l (let ne : o ≢ suc n = λ q. (let z = eq-eqb o (suc n) q in cc) in omega (arith, ne, m))
 
   -- an option of a class that there is
-  pub classes-found : (classes : List (List Use)) (counts : List ℕ) (k c : ℕ) → AreClassesTo p n classes counts → slice_get classes k ≡ Some added → c ≡ class_size_to p n added → AreClassesTo p (suc n) classes (set counts k (c + 1))
+  pub classes-found : (classes : List (List Use)) (counts : List ℕ) (k c : ℕ) → AreClassesTo p n classes counts
+      → slice_get classes k ≡ Some added → c ≡ class_size_to p n added
+      → AreClassesTo p (suc n) classes (set counts k (c + 1))
   classes-found classes counts k c a e h = record {
     distinct = a.distinct;
-    whole = by_last {X = λ o. Contains classes (class_at p o)} a.whole (contains-in classes added (in-slice_get classes k added e));
+    whole =
+        by_last {X = λ o. Contains classes (class_at p o)} a.whole
+        (contains-in classes added (in-slice_get classes k added e));
     used = λ j us q. (let u = a.used j us q in let m = u.2 in (u.0, u.1, omega (arith, m), u.3));
     counted = ap (λ cs. set cs k (c + 1)) a.counted
-        ∙ counts-found (class_size_to p n) (class_size_to p (suc n)) added same_members classes k (c + 1) (each_two_from_AllPairs (λ (a b : List Use). a ≢ b) classes a.distinct) e (omega (arith, h, one_member));
+        ∙ counts-found (class_size_to p n) (class_size_to p (suc n)) added same_members classes k (c + 1)
+        (each_two_from_AllPairs (λ (a b : List Use). a ≢ b) classes a.distinct) e (omega (arith, h, one_member));
   }
 
-  no-members : (classes : List (List Use)) (counts : List ℕ) → AreClassesTo p n classes counts → (IsIn classes added → ⊥) → class_size_to p n added ≡ 0
+  no-members : (classes : List (List Use)) (counts : List ℕ) → AreClassesTo p n classes counts
+      → (IsIn classes added → ⊥) → class_size_to p n added ≡ 0
   no-members classes counts a h = is_counted test (range_with_len 1 n) ∙ none (range_with_len 1 n) other
     where
       test : ℕ → Bool
@@ -101,24 +125,38 @@ module _ (p : Puzzle) (n : ℕ) where
 
       none : (xs : List ℕ) → ((o : ℕ) → IsIn xs o → test o ≡ false) → counted test xs ≡ 0
       none [] f = refl
-      none (o ∷ xs) f = let later = none xs (λ q k. f q (inr k)) in let rest : cond false 1 0 + counted test xs ≡ 0 = omega (arith, later) in subst (λ t. cond t 1 0 + counted test xs ≡ 0) (sym (f o (inl refl))) rest
+      none (o ∷ xs) f = let later = none xs (λ q k. f q (inr k)) in let rest : cond false 1 0 + counted test xs ≡ 0 =
+          omega (arith, later) in subst (λ t. cond t 1 0 + counted test xs ≡ 0) (sym (f o (inl refl))) rest
 
       other : (o : ℕ) → IsIn (range_with_len 1 n) o → test o ≡ false
       other o k = not_false (test o) (λ q.
           let l = in-range 1 n o k in
-          h (in-contains classes added (subst (Contains classes) (sym (same_uses-are added (class_at p o) q)) (a.whole o l.0 (omega (arith, l.1))))))
+          h (in-contains classes added
+          (subst (Contains classes) (sym (same_uses-are added (class_at p o) q))
+          (a.whole o l.0 (omega (arith, l.1))))))
 
   -- an option of a new class
-  pub classes-new : (classes all : List (List Use)) (counts more : List ℕ) → AreClassesTo p n classes counts → (IsIn classes added → ⊥) → all ≡ classes ++ added ∷ [] → more ≡ counts ++ 1 ∷ [] → AreClassesTo p (suc n) all more
+  pub classes-new : (classes all : List (List Use)) (counts more : List ℕ) → AreClassesTo p n classes counts
+      → (IsIn classes added → ⊥) → all ≡ classes ++ added ∷ [] → more ≡ counts ++ 1 ∷ []
+      → AreClassesTo p (suc n) all more
   classes-new classes all counts more a h q r = rw (q, r) (record {
     distinct = AllPairs-from_each_two (λ (a b : List Use). a ≢ b) (classes ++ added ∷ [])
-        (EachTwo-append (λ a b. a ≢ b) classes (added ∷ []) (each_two_from_AllPairs (λ (a b : List Use). a ≢ b) classes a.distinct) (tt, tt) (λ us vs j k e. elim k [ inl z ↦ h (subst (IsIn classes) (e ∙ sym z) j) | inr z ↦ absurd z ]));
-    whole = by_last {X = λ o. Contains (classes ++ added ∷ []) (class_at p o)} (λ o l m. Contains-append_left classes (added ∷ []) (class_at p o) (a.whole o l m)) (Contains-push classes added);
+        (EachTwo-append (λ a b. a ≢ b) classes (added ∷ [])
+        (each_two_from_AllPairs (λ (a b : List Use). a ≢ b) classes a.distinct) (tt, tt)
+        (λ us vs j k e. elim k [ inl z ↦ h (subst (IsIn classes) (e ∙ sym z) j) | inr z ↦ absurd z ]));
+    whole =
+        by_last {X = λ o. Contains (classes ++ added ∷ []) (class_at p o)}
+        (λ o l m. Contains-append_left classes (added ∷ []) (class_at p o) (a.whole o l m))
+        (Contains-push classes added);
     used = λ k us e. used_one us (in-append classes (added ∷ []) us (in-slice_get (classes ++ added ∷ []) k us e));
-    counted = ap (λ cs. cs ++ 1 ∷ []) a.counted ∙ counts-new (class_size_to p n) (class_size_to p (suc n)) added same_members classes 1 h (omega (arith, no-members classes counts a h, one_member));
+    counted = ap (λ cs. cs ++ 1 ∷ []) a.counted
+        ∙ counts-new (class_size_to p n) (class_size_to p (suc n)) added same_members classes 1 h
+        (omega (arith, no-members classes counts a h, one_member));
   })
     where
-      used_one : (us : List Use) → IsIn classes us ⊎ IsIn (added ∷ []) us → (o : ℕ) × (1 ≤ o) × (o ≤ suc n) × (class_at p o ≡ us)
-      used_one us (inl k) = let j = slice_get-in classes us k in let u = a.used j.0 us j.1 in let m = u.2 in (u.0, u.1, omega (arith, m), u.3)
+      used_one : (us : List Use) → IsIn classes us ⊎ IsIn (added ∷ []) us → (o : ℕ) × (1 ≤ o) × (o ≤ suc n)
+          × (class_at p o ≡ us)
+      used_one us (inl k) = let j = slice_get-in classes us k in let u = a.used j.0 us j.1 in let m = u.2 in
+          (u.0, u.1, omega (arith, m), u.3)
       used_one us (inr (inl z)) = (suc n, omega arith, omega arith, z)
       used_one us (inr (inr z)) = absurd z

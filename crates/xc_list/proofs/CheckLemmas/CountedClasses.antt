@@ -1,8 +1,12 @@
 -- What classes add to the counts, and that the counts are 0 again once they were cleared.
-use Rattle.std.proofs.Common.{ℕ, zero, suc, ◌≡◌, ◌≢◌, ◌+◌, ◌<◌, ◌≤◌, ◌⊎◌, inl, inr, drop, ltb, ltb-true, ltb-false, Bool, true, false, cond, ◌==◌, List, [], ◌∷◌, ◌++◌, length, get_or, set, take, replicate, Some, refl, sym, ap, ◌∙◌, arith, subst, eqb-true, eq-eqb}
+use Rattle.std.proofs.Common.{ℕ, zero, suc, ◌≡◌, ◌≢◌, ◌+◌, ◌<◌, ◌≤◌, ◌⊎◌, inl, inr, drop, ltb, ltb-true, ltb-false}
+use Rattle.std.proofs.Common.{Bool, true, false, cond, ◌==◌, List, [], ◌∷◌, ◌++◌, length, get_or, set, take, replicate}
+use Rattle.std.proofs.Common.{Some, refl, sym, ap, ◌∙◌, arith, subst, eqb-true, eq-eqb}
 use Rattle.std.specs.Prelude.{slice_get, All}
 use Rattle.std.specs.List.{AllByRecursion}
-use Rattle.std.proofs.lemmas.List.{append-nil, append_assoc, get_or-set_same, get_or-set_other, length-set, length-take-le, length-replicate, get_or-replicate, get_or_past, ext_get_or, take_more}
+use Rattle.std.proofs.lemmas.List.{append-nil, append_assoc, get_or-set_same, get_or-set_other, length-set}
+use Rattle.std.proofs.lemmas.List.{length-take-le, length-replicate, get_or-replicate, get_or_past, ext_get_or}
+use Rattle.std.proofs.lemmas.List.{take_more}
 use Rattle.std.proofs.lemmas.List.Elements.{All-weaker, recursion_from_All}
 use Rattle.std.proofs.lemmas.Option.{slice_get-get_or}
 use Rattle.xc_input.specs.declared.problem.Use.{Use}
@@ -15,7 +19,9 @@ use Rattle.xc_list.specs.inner.CoverCounts.{added, coloured, cleared, raised, lo
 use Rattle.xc_list.proofs.CheckLemmas.DifferentOptions.{counted}
 use Rattle.xc_list.proofs.CheckLemmas.Rotations.{DifferInItems, differ-turned, class-place, halves}
 use Rattle.xc_list.proofs.CheckLemmas.DecidedByClasses.{option-sound, option-differs}
-use Rattle.xc_list.proofs.CheckLemmas.HeldItems.{AreItems, held, added-at, added-append, coloured-append, cleared-append, raised-append, lowered-append, raised-at, length-raised, length-lowered, length-added, held_once, each_take}
+use Rattle.xc_list.proofs.CheckLemmas.HeldItems.{AreItems, held, added-at, added-append, coloured-append}
+use Rattle.xc_list.proofs.CheckLemmas.HeldItems.{cleared-append, raised-append, lowered-append, raised-at}
+use Rattle.xc_list.proofs.CheckLemmas.HeldItems.{length-raised, length-lowered, length-added, held_once, each_take}
 
 -- ---- the uses of a class
 
@@ -29,15 +35,18 @@ slice_get-at (y ∷ xs) zero x d e = cc
 slice_get-at (y ∷ xs) (suc k) x d e = slice_get-at xs k x d e
 
 -- known uses are of the items that there are
-pub known_items : (p : Named) (us : List Use) (n : ℕ) → n ≡ item_count p.puzzle → All (IsKnownUse p) us → All (λ u. (1 ≤ u.item) × (u.item ≤ n)) us
-known_items p us n e = All-weaker (IsKnownUse p) (λ u. (1 ≤ u.item) × (u.item ≤ n)) (λ u h. (h.0.0, omega (arith, h.0.1, e))) us
+pub known_items : (p : Named) (us : List Use) (n : ℕ) → n ≡ item_count p.puzzle → All (IsKnownUse p) us
+    → All (λ u. (1 ≤ u.item) × (u.item ≤ n)) us
+known_items p us n e =
+    All-weaker (IsKnownUse p) (λ u. (1 ≤ u.item) × (u.item ≤ n)) (λ u h. (h.0.0, omega (arith, h.0.1, e))) us
 
 pub class-differs : (us : List Use) → DifferInItems us → DifferInItems (class_of us)
 class-differs us d =
     let turn = class-place us in
     subst DifferInItems (sym turn.1) (differ-turned turn.0 us d)
 
-pub classes_usable : (b : Classes) → IsSound b.problem → AreClasses b.problem.puzzle b.classes → AreUsable (item_count b.problem.puzzle) b.classes
+pub classes_usable : (b : Classes) → IsSound b.problem → AreClasses b.problem.puzzle b.classes
+    → AreUsable (item_count b.problem.puzzle) b.classes
 classes_usable b s are k l =
     let p = b.problem.puzzle in
     let n = item_count p in
@@ -46,7 +55,9 @@ classes_usable b s are k l =
     let turn = class-place us in
     let is : rotated_at turn.0 us ≡ uses_at b.classes k = sym turn.1 ∙ one.2 in
     let sound = option-sound p s.valid one.0 one.1 in
-    let items : AreItems n us = each_weaker (IsSoundUse p) (λ u. (1 ≤ u.item) × (u.item ≤ n)) us (λ u h. h.0) (recursion_from_All (IsSoundUse p) us sound.sound) in
+    let items : AreItems n us =
+    each_weaker (IsSoundUse p) (λ u. (1 ≤ u.item) × (u.item ≤ n)) us (λ u h. h.0)
+    (recursion_from_All (IsSoundUse p) us sound.sound) in
     let whole : AreItems n (take turn.0 us ++ drop turn.0 us) = subst (AreItems n) (sym (halves turn.0 us)) items in (
       subst (AreItems n) is (each_turned (λ u. (1 ≤ u.item) × (u.item ≤ n)) (take turn.0 us) (drop turn.0 us) whole),
       subst DifferInItems one.2 (class-differs us (option-differs p s.valid one.0 one.1)),
@@ -54,45 +65,67 @@ classes_usable b s are k l =
 
 -- ---- the uses of classes
 
-pub uses_in-more : (classes : List (List Use)) (ks : List ℕ) (k : ℕ) → uses_in classes (ks ++ k ∷ []) ≡ uses_in classes ks ++ uses_at classes k
+pub uses_in-more : (classes : List (List Use)) (ks : List ℕ) (k : ℕ)
+    → uses_in classes (ks ++ k ∷ []) ≡ uses_in classes ks ++ uses_at classes k
 uses_in-more classes [] k = append-nil (uses_at classes k)
-uses_in-more classes (j ∷ ks) k = ap (λ us. uses_at classes j ++ us) (uses_in-more classes ks k) ∙ sym (append_assoc (uses_at classes j) (uses_in classes ks) (uses_at classes k))
+uses_in-more classes (j ∷ ks) k = ap (λ us. uses_at classes j ++ us) (uses_in-more classes ks k)
+    ∙ sym (append_assoc (uses_at classes j) (uses_in classes ks) (uses_at classes k))
 
 -- where the class at place i has the uses us
-uses_in-take : (classes : List (List Use)) (ks : List ℕ) (i : ℕ) (us : List Use) → i < length ks → slice_get classes (get_or ks i 0) ≡ Some us → uses_in classes (take (i + 1) ks) ≡ uses_in classes (take i ks) ++ us
+uses_in-take : (classes : List (List Use)) (ks : List ℕ) (i : ℕ) (us : List Use) → i < length ks
+    → slice_get classes (get_or ks i 0) ≡ Some us
+    → uses_in classes (take (i + 1) ks) ≡ uses_in classes (take i ks) ++ us
 uses_in-take classes ks i us l e =
-    ap (uses_in classes) (take_more ks i 0 l) ∙ uses_in-more classes (take i ks) (get_or ks i 0) ∙ ap (λ vs. uses_in classes (take i ks) ++ vs) (slice_get-at classes (get_or ks i 0) us [] e)
+    ap (uses_in classes) (take_more ks i 0 l) ∙ uses_in-more classes (take i ks) (get_or ks i 0)
+    ∙ ap (λ vs. uses_in classes (take i ks) ++ vs) (slice_get-at classes (get_or ks i 0) us [] e)
 
-pub added_class_more : (classes : List (List Use)) (ks : List ℕ) (i : ℕ) (us : List Use) (ts : List ℕ) → i < length ks → slice_get classes (get_or ks i 0) ≡ Some us →
+pub added_class_more : (classes : List (List Use)) (ks : List ℕ) (i : ℕ) (us : List Use) (ts : List ℕ) → i < length ks
+    → slice_get classes (get_or ks i 0) ≡ Some us →
     added (uses_in classes (take (i + 1) ks)) ts ≡ added us (added (uses_in classes (take i ks)) ts)
-added_class_more classes ks i us ts l e = ap (λ vs. added vs ts) (uses_in-take classes ks i us l e) ∙ added-append (uses_in classes (take i ks)) us ts
+added_class_more classes ks i us ts l e =
+    ap (λ vs. added vs ts) (uses_in-take classes ks i us l e) ∙ added-append (uses_in classes (take i ks)) us ts
 
-pub coloured_class_more : (classes : List (List Use)) (ks : List ℕ) (i : ℕ) (us : List Use) (cs : List ℕ) → i < length ks → slice_get classes (get_or ks i 0) ≡ Some us →
+pub coloured_class_more : (classes : List (List Use)) (ks : List ℕ) (i : ℕ) (us : List Use) (cs : List ℕ)
+    → i < length ks → slice_get classes (get_or ks i 0) ≡ Some us →
     coloured (uses_in classes (take (i + 1) ks)) cs ≡ coloured us (coloured (uses_in classes (take i ks)) cs)
-coloured_class_more classes ks i us cs l e = ap (λ vs. coloured vs cs) (uses_in-take classes ks i us l e) ∙ coloured-append (uses_in classes (take i ks)) us cs
+coloured_class_more classes ks i us cs l e =
+    ap (λ vs. coloured vs cs) (uses_in-take classes ks i us l e) ∙ coloured-append (uses_in classes (take i ks)) us cs
 
-pub cleared_class_more : (classes : List (List Use)) (ks : List ℕ) (i : ℕ) (us : List Use) (ts : List ℕ) → i < length ks → slice_get classes (get_or ks i 0) ≡ Some us →
+pub cleared_class_more : (classes : List (List Use)) (ks : List ℕ) (i : ℕ) (us : List Use) (ts : List ℕ) → i < length ks
+    → slice_get classes (get_or ks i 0) ≡ Some us →
     cleared (uses_in classes (take (i + 1) ks)) ts ≡ cleared us (cleared (uses_in classes (take i ks)) ts)
-cleared_class_more classes ks i us ts l e = ap (λ vs. cleared vs ts) (uses_in-take classes ks i us l e) ∙ cleared-append (uses_in classes (take i ks)) us ts
+cleared_class_more classes ks i us ts l e =
+    ap (λ vs. cleared vs ts) (uses_in-take classes ks i us l e) ∙ cleared-append (uses_in classes (take i ks)) us ts
 
 abbrev pub AreBelow : ℕ → List ℕ → Type 0
 AreBelow n ks = AllByRecursion (λ k. k < n) ks
 
-pub items_in : (n : ℕ) (classes : List (List Use)) (ks : List ℕ) → AreUsable n classes → AreBelow (length classes) ks → AreItems n (uses_in classes ks)
+pub items_in : (n : ℕ) (classes : List (List Use)) (ks : List ℕ) → AreUsable n classes → AreBelow (length classes) ks
+    → AreItems n (uses_in classes ks)
 items_in n classes [] h a = tt
-items_in n classes (k ∷ ks) h a = each-append (λ u. (1 ≤ u.item) × (u.item ≤ n)) (uses_at classes k) (uses_in classes ks) (h k a.0).0 (items_in n classes ks h a.1)
+items_in n classes (k ∷ ks) h a =
+    each-append (λ u. (1 ≤ u.item) × (u.item ≤ n)) (uses_at classes k) (uses_in classes ks) (h k a.0).0
+    (items_in n classes ks h a.1)
 
 pub held-append : (i : ℕ) (us vs : List Use) → held i (us ++ vs) ≡ held i us + held i vs
 held-append i [] vs = omega arith
 held-append i (u ∷ us) vs = omega (arith, held-append i us vs)
 
 -- no item is held more often than there are classes
-held_few : (n i : ℕ) (classes : List (List Use)) (ks : List ℕ) → AreUsable n classes → AreBelow (length classes) ks → held i (uses_in classes ks) ≤ length ks
+held_few : (n i : ℕ) (classes : List (List Use)) (ks : List ℕ) → AreUsable n classes → AreBelow (length classes) ks
+    → held i (uses_in classes ks) ≤ length ks
 held_few n i classes [] h a = omega arith
 held_few n i classes (k ∷ ks) h a =
-    omega (arith, held-append i (uses_at classes k) (uses_in classes ks), held_once i (uses_at classes k) (h k a.0).1, held_few n i classes ks h a.1)
+    omega (
+      arith,
+      held-append i (uses_at classes k) (uses_in classes ks),
+      held_once i (uses_at classes k) (h k a.0).1,
+      held_few n i classes ks h a.1,
+    )
 
-pub added_few : (n : ℕ) (classes : List (List Use)) (ks : List ℕ) (i k : ℕ) → AreUsable n classes → AreBelow (length classes) ks → i ≤ length ks → get_or (added (uses_in classes (take i ks)) (replicate n 0)) k 0 ≤ i
+pub added_few : (n : ℕ) (classes : List (List Use)) (ks : List ℕ) (i k : ℕ) → AreUsable n classes
+    → AreBelow (length classes) ks → i ≤ length ks
+    → get_or (added (uses_in classes (take i ks)) (replicate n 0)) k 0 ≤ i
 added_few n classes ks i k h a l = by_case (ltb k n) refl
   where
     before : AreBelow (length classes) (take i ks)
@@ -103,7 +136,8 @@ added_few n classes ks i k h a l = by_case (ltb k n) refl
         let below : k < n = ltb-true k n q in
         omega (
           arith,
-          added-at n (uses_in classes (take i ks)) (replicate n 0) k (items_in n classes (take i ks) h before) (sym (length-replicate {A = ℕ} n 0)) below,
+          added-at n (uses_in classes (take i ks)) (replicate n 0) k (items_in n classes (take i ks) h before)
+              (sym (length-replicate {A = ℕ} n 0)) below,
           get_or-replicate {A = ℕ} n k 0 0 below,
           held_few n (suc k) classes (take i ks) h before,
           length-take-le i ks l,
@@ -112,16 +146,24 @@ added_few n classes ks i k h a l = by_case (ltb k n) refl
         omega (
           arith,
           get_or_past (added (uses_in classes (take i ks)) (replicate n 0)) k 0
-              (omega (arith, ltb-false k n q, length-added (uses_in classes (take i ks)) (replicate n 0), length-replicate {A = ℕ} n 0)),
+              (omega (
+                arith,
+                ltb-false k n q,
+                length-added (uses_in classes (take i ks)) (replicate n 0),
+                length-replicate {A = ℕ} n 0,
+              )),
         )
 
 -- ---- how often classes are asked
 
-pub raised_more : (ks : List ℕ) (i : ℕ) (ns : List ℕ) → i < length ks → raised (take (i + 1) ks) ns ≡ raised (get_or ks i 0 ∷ []) (raised (take i ks) ns)
+pub raised_more : (ks : List ℕ) (i : ℕ) (ns : List ℕ) → i < length ks
+    → raised (take (i + 1) ks) ns ≡ raised (get_or ks i 0 ∷ []) (raised (take i ks) ns)
 raised_more ks i ns l = ap (λ js. raised js ns) (take_more ks i 0 l) ∙ raised-append (take i ks) (get_or ks i 0 ∷ []) ns
 
-pub lowered_more : (ks : List ℕ) (i : ℕ) (ns : List ℕ) → i < length ks → lowered (take (i + 1) ks) ns ≡ lowered (get_or ks i 0 ∷ []) (lowered (take i ks) ns)
-lowered_more ks i ns l = ap (λ js. lowered js ns) (take_more ks i 0 l) ∙ lowered-append (take i ks) (get_or ks i 0 ∷ []) ns
+pub lowered_more : (ks : List ℕ) (i : ℕ) (ns : List ℕ) → i < length ks
+    → lowered (take (i + 1) ks) ns ≡ lowered (get_or ks i 0 ∷ []) (lowered (take i ks) ns)
+lowered_more ks i ns l =
+    ap (λ js. lowered js ns) (take_more ks i 0 l) ∙ lowered-append (take i ks) (get_or ks i 0 ∷ []) ns
 
 counted-le : (p : ℕ → Bool) (xs : List ℕ) → counted p xs ≤ length xs
 counted-le p [] = omega arith
@@ -130,24 +172,34 @@ counted-le p (x ∷ xs) = elim (p x) as (λ b. cond b 1 0 + counted p xs ≤ suc
   | false ↦ omega (arith, counted-le p xs)
 ]
 
-pub raised_few : (n : ℕ) (ks : List ℕ) (i k : ℕ) → k < n → i ≤ length ks → get_or (raised (take i ks) (replicate n 0)) k 0 ≤ i
+pub raised_few : (n : ℕ) (ks : List ℕ) (i k : ℕ) → k < n → i ≤ length ks
+    → get_or (raised (take i ks) (replicate n 0)) k 0 ≤ i
 raised_few n ks i k l m =
-    omega (arith, raised-at (take i ks) (replicate n 0) k (omega (arith, l, length-replicate {A = ℕ} n 0)), get_or-replicate {A = ℕ} n k 0 0 l, counted-le (λ j. j == k) (take i ks), length-take-le i ks m)
+    omega (
+      arith,
+      raised-at (take i ks) (replicate n 0) k (omega (arith, l, length-replicate {A = ℕ} n 0)),
+      get_or-replicate {A = ℕ} n k 0 0 l,
+      counted-le (λ j. j == k) (take i ks),
+      length-take-le i ks m,
+    )
 
 -- ---- all 0 again
 
-lowered-at : (ks ns : List ℕ) (k : ℕ) → k < length ns → (get_or ns k 0 ≡ 0) ⊎ (0 < counted (λ j. j == k) ks) → get_or (lowered ks ns) k 0 ≡ 0
+lowered-at : (ks ns : List ℕ) (k : ℕ) → k < length ns → (get_or ns k 0 ≡ 0) ⊎ (0 < counted (λ j. j == k) ks)
+    → get_or (lowered ks ns) k 0 ≡ 0
 lowered-at [] ns k l (inl h) = h
 lowered-at [] ns k l (inr h) = absurd (omega (arith, h))
 lowered-at (j ∷ ks) ns k l h =
     lowered-at ks (set ns j 0) k (omega (arith, l, length-set ns j 0)) (here (j == k) refl h)
   where
-    here : (v : Bool) → (j == k) ≡ v → (get_or ns k 0 ≡ 0) ⊎ (0 < cond (j == k) 1 0 + counted (λ j. j == k) ks) → (get_or (set ns j 0) k 0 ≡ 0) ⊎ (0 < counted (λ j. j == k) ks)
+    here : (v : Bool) → (j == k) ≡ v → (get_or ns k 0 ≡ 0) ⊎ (0 < cond (j == k) 1 0 + counted (λ j. j == k) ks)
+        → (get_or (set ns j 0) k 0 ≡ 0) ⊎ (0 < counted (λ j. j == k) ks)
     here true q _ = inl (subst (λ i. get_or (set ns i 0) k 0 ≡ 0) (sym (eqb-true j k q)) (get_or-set_same ns k 0 0 l))
     here false q h =
         let apart : k ≢ j = λ z. (let t = eq-eqb j k (sym z) in cc) in
         let same = get_or-set_other ns j k 0 0 apart in
-        elim (subst (λ b. (get_or ns k 0 ≡ 0) ⊎ (0 < cond b 1 0 + counted (λ j. j == k) ks)) q h) [ inl z ↦ inl (same ∙ z) | inr z ↦ inr (omega (arith, z)) ]
+        elim (subst (λ b. (get_or ns k 0 ≡ 0) ⊎ (0 < cond b 1 0 + counted (λ j. j == k) ks)) q h)
+        [ inl z ↦ inl (same ∙ z) | inr z ↦ inr (omega (arith, z)) ]
 
 zero_or : (m n : ℕ) → m ≡ 0 + n → (m ≡ 0) ⊎ (0 < n)
 zero_or m zero e = inl (omega (arith, e))
@@ -158,14 +210,20 @@ lowered_again n ks =
     ext_get_or 0 (lowered ks ns) (replicate n 0) (length-lowered ks ns ∙ length-raised ks (replicate n 0))
     (λ k l. let below : k < n = omega (arith, l, size) in
     lowered-at ks ns k (omega (arith, below, length-raised ks (replicate n 0), length-replicate {A = ℕ} n 0))
-    (zero_or (get_or ns k 0) (counted (λ j. j == k) ks) (omega (arith, raised-at ks (replicate n 0) k (omega (arith, below, length-replicate {A = ℕ} n 0)), get_or-replicate {A = ℕ} n k 0 0 below)))
+    (zero_or (get_or ns k 0) (counted (λ j. j == k) ks)
+    (omega (
+      arith,
+      raised-at ks (replicate n 0) k (omega (arith, below, length-replicate {A = ℕ} n 0)),
+      get_or-replicate {A = ℕ} n k 0 0 below,
+    )))
     ∙ sym (get_or-replicate {A = ℕ} n k 0 0 below))
   where
     ns : List ℕ
     ns = raised ks (replicate n 0)
 
     size : length (lowered ks (raised ks (replicate n 0))) ≡ n
-    size = length-lowered ks (raised ks (replicate n 0)) ∙ length-raised ks (replicate n 0) ∙ length-replicate {A = ℕ} n 0
+    size =
+        length-lowered ks (raised ks (replicate n 0)) ∙ length-raised ks (replicate n 0) ∙ length-replicate {A = ℕ} n 0
 
 -- ---- between solutions
 

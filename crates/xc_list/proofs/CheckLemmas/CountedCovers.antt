@@ -3,7 +3,9 @@ use Rattle.std.proofs.lemmas.Bool.{and_parts}
 use Rattle.xc_input.specs.declared.problem.Bounds.{Bounds}
 use Rattle.std.specs.Cmp.Derive.{both_true}
 use Rattle.std.proofs.lemmas.Option.{slice_get_within}
-use Rattle.std.proofs.Common.{ℕ, zero, suc, ◌≡◌, ◌≢◌, ◌-◌, ◌<◌, ◌≤◌, ◌⊎◌, inl, inr, Bool, true, false, not, ◌&&◌, ◌||◌, ◌==◌, List, [], ◌∷◌, length, get_or, replicate, Some, None, refl, sym, ap, ◌∙◌, arith, subst, eqb-true, eq-eqb, ne_eqb}
+use Rattle.std.proofs.Common.{ℕ, zero, suc, ◌≡◌, ◌≢◌, ◌-◌, ◌<◌, ◌≤◌, ◌⊎◌, inl, inr, Bool, true, false, not, ◌&&◌, ◌||◌}
+use Rattle.std.proofs.Common.{◌==◌, List, [], ◌∷◌, length, get_or, replicate, Some, None, refl, sym, ap, ◌∙◌, arith}
+use Rattle.std.proofs.Common.{subst, eqb-true, eq-eqb, ne_eqb}
 use Rattle.std.specs.Prelude.{Option, slice_get, nat_le}
 use Rattle.std.specs.List.{AllByRecursion, AllZip, list_all}
 use Rattle.std.proofs.lemmas.Bool.{leb-true, le-leb}
@@ -15,10 +17,13 @@ use Rattle.xc_search.specs.Cover.{times_held}
 use Rattle.xc_input.proofs.lists.Members.{IsIn, each_in, each_from}
 use Rattle.xc_input.proofs.lists.EachElement.{each_weaker, each-append, each_front}
 use Rattle.xc_list.specs.inner.Classes.{Classes, AreClasses, IsOfClass, IsCoverOfClasses, class_at, class_size}
-use Rattle.xc_list.specs.inner.CoverCounts.{added, coloured, raised, uses_at, uses_in, short_of, agrees, is_met, is_class_met}
+use Rattle.xc_list.specs.inner.CoverCounts.{added, coloured, raised, uses_at, uses_in, short_of, agrees, is_met}
+use Rattle.xc_list.specs.inner.CoverCounts.{is_class_met}
 use Rattle.xc_list.proofs.CheckLemmas.ShortItems.{short_none, none_short}
 use Rattle.xc_list.proofs.CheckLemmas.HeldItems.{AreItems, added-at}
-use Rattle.xc_list.proofs.CheckLemmas.LastColours.{given, gathered, last_or, length-given, coloured-at, given-gathered, length-gathered, given-each, each-given, AgreeAt, gathered-agree, agree-gathered, IsLast, agree-last, last-agree}
+use Rattle.xc_list.proofs.CheckLemmas.LastColours.{given, gathered, last_or, length-given, coloured-at, given-gathered}
+use Rattle.xc_list.proofs.CheckLemmas.LastColours.{length-gathered, given-each, each-given, AgreeAt, gathered-agree}
+use Rattle.xc_list.proofs.CheckLemmas.LastColours.{agree-gathered, IsLast, agree-last, last-agree}
 use Rattle.xc_list.proofs.CheckLemmas.CountedClasses.{AreBelow, classes_usable, items_in}
 use Rattle.xc_list.proofs.CheckLemmas.AskedClasses.{IsRoomFor, asked_by_classes, classes_by_asked}
 
@@ -54,10 +59,12 @@ pub record IsSolution (b : Classes) (stored : List Bounds) (cs ks reps : List �
 below_classes : (b : Classes) (ks reps : List ℕ) → AllZip (IsOfClass b) ks reps → AreBelow (length b.classes) ks
 below_classes b [] reps z = tt
 below_classes b (k ∷ ks) [] z = absurd z
-below_classes b (k ∷ ks) (o ∷ reps) z = (slice_get_within b.classes k (class_at b.problem.puzzle o) z.0.1, below_classes b ks reps z.1)
+below_classes b (k ∷ ks) (o ∷ reps) z =
+    (slice_get_within b.classes k (class_at b.problem.puzzle o) z.0.1, below_classes b ks reps z.1)
 
 abbrev pub AreMet : Classes → List Bounds → List ℕ → List ℕ → Type 0
-AreMet b stored cs ks = AllByRecursion (λ u. is_met stored (times_after b ks) (colours_after b ks cs) u ≡ true) (uses_in b.classes ks)
+AreMet b stored cs ks =
+    AllByRecursion (λ u. is_met stored (times_after b ks) (colours_after b ks cs) u ≡ true) (uses_in b.classes ks)
 
 abbrev pub AreAsked : Classes → List ℕ → Type 0
 AreAsked b ks = AllByRecursion (IsRoomFor b ks) ks
@@ -95,7 +102,8 @@ last_agrees t c d (inr e) =
     let same : (d == c) ≡ true = eq-eqb d c e.1 in
     elim (t == 1) as (λ v. (v || (not (d == 0) && d == c)) ≡ true) [ true ↦ refl | false ↦ rw (some, same) refl ]
 
-each_class : (b : Classes) (P : ℕ → Type 0) (ks reps : List ℕ) → ((k o : ℕ) → IsOfClass b k o → P k) → AllZip (IsOfClass b) ks reps → AllByRecursion P ks
+each_class : (b : Classes) (P : ℕ → Type 0) (ks reps : List ℕ) → ((k o : ℕ) → IsOfClass b k o → P k)
+    → AllZip (IsOfClass b) ks reps → AllByRecursion P ks
 each_class b P [] reps h z = tt
 each_class b P (k ∷ ks) [] h z = absurd z
 each_class b P (k ∷ ks) (o ∷ reps) h z = (h k o z.0, each_class b P ks reps h z.1)
@@ -104,20 +112,30 @@ each_class b P (k ∷ ks) (o ∷ reps) h z = (h k o z.0, each_class b P ks reps 
 
 module _ (b : Classes) (stored : List Bounds) (cs ks reps : List ℕ) (s : IsSolution b stored cs ks reps) where
   items : AreItems (item_count b.problem.puzzle) (uses_in b.classes ks)
-  items = items_in (item_count b.problem.puzzle) b.classes ks (classes_usable b s.sound s.classes) (below_classes b ks reps s.taken)
+  items =
+      items_in (item_count b.problem.puzzle) b.classes ks (classes_usable b s.sound s.classes)
+      (below_classes b ks reps s.taken)
 
   gives : (i : ℕ) → given i (uses_in b.classes ks) ≡ gathered b.problem.puzzle i reps
   gives i = given-gathered i b ks reps s.sound s.taken
 
-  time : (k : ℕ) → k < item_count b.problem.puzzle → get_or (times_after b ks) k 0 ≡ length (given (suc k) (uses_in b.classes ks))
+  time : (k : ℕ) → k < item_count b.problem.puzzle
+      → get_or (times_after b ks) k 0 ≡ length (given (suc k) (uses_in b.classes ks))
   time k l =
       let n = item_count b.problem.puzzle in
-      omega (arith, added-at n (uses_in b.classes ks) (replicate n 0) k items (sym (length-replicate {A = ℕ} n 0)) l, get_or-replicate {A = ℕ} n k 0 0 l, length-given (suc k) (uses_in b.classes ks))
+      omega (
+        arith,
+        added-at n (uses_in b.classes ks) (replicate n 0) k items (sym (length-replicate {A = ℕ} n 0)) l,
+        get_or-replicate {A = ℕ} n k 0 0 l,
+        length-given (suc k) (uses_in b.classes ks),
+      )
 
-  held_time : (k : ℕ) → k < item_count b.problem.puzzle → get_or (times_after b ks) k 0 ≡ times_held b.problem.puzzle (suc k) reps
+  held_time : (k : ℕ) → k < item_count b.problem.puzzle
+      → get_or (times_after b ks) k 0 ≡ times_held b.problem.puzzle (suc k) reps
   held_time k l = time k l ∙ ap length (gives (suc k)) ∙ length-gathered b.problem.puzzle (suc k) reps
 
-  colour : (k : ℕ) → k < item_count b.problem.puzzle → get_or (colours_after b ks cs) k 0 ≡ last_or (get_or cs k 0) (given (suc k) (uses_in b.classes ks))
+  colour : (k : ℕ) → k < item_count b.problem.puzzle
+      → get_or (colours_after b ks cs) k 0 ≡ last_or (get_or cs k 0) (given (suc k) (uses_in b.classes ks))
   colour k l = coloured-at (item_count b.problem.puzzle) (uses_in b.classes ks) cs k items (sym s.size) l
 
   primaries : length stored ≡ length b.problem.puzzle.bounds
@@ -128,39 +146,58 @@ module _ (b : Classes) (stored : List Bounds) (cs ks reps : List ℕ) (s : IsSol
 
   -- ---- from the counts
 
-  met_at : (k : ℕ) → AreMet b stored cs ks → AllByRecursion (λ u. u.item ≡ suc k → agrees (slice_get stored k) (get_or (times_after b ks) k 0) (get_or (colours_after b ks cs) k 0) u.colour ≡ true) (uses_in b.classes ks)
+  met_at : (k : ℕ) → AreMet b stored cs ks
+      → AllByRecursion (λ u. u.item ≡ suc k
+      → agrees (slice_get stored k) (get_or (times_after b ks) k 0) (get_or (colours_after b ks cs) k 0) u.colour ≡
+      true) (uses_in b.classes ks)
   met_at k a =
       each_weaker (λ u. is_met stored (times_after b ks) (colours_after b ks cs) u ≡ true)
-      (λ u. u.item ≡ suc k → agrees (slice_get stored k) (get_or (times_after b ks) k 0) (get_or (colours_after b ks cs) k 0) u.colour ≡ true) (uses_in b.classes ks)
-      (λ u h e. let at : u.item - 1 ≡ k = omega (arith, e) in subst (λ j. agrees (slice_get stored j) (get_or (times_after b ks) j 0) (get_or (colours_after b ks cs) j 0) u.colour ≡ true) at h) a
+      (λ u. u.item ≡ suc k → agrees (slice_get stored k) (get_or (times_after b ks) k 0)
+      (get_or (colours_after b ks cs) k 0) u.colour ≡ true) (uses_in b.classes ks)
+      (λ u h e. let at : u.item - 1 ≡ k = omega (arith, e) in subst
+      (λ j. agrees (slice_get stored j) (get_or (times_after b ks) j 0) (get_or (colours_after b ks cs) j 0)
+      u.colour ≡ true) at h) a
 
-  high : AreMet b stored cs ks → (k : ℕ) (x : Bounds) → slice_get stored k ≡ Some x → get_or (times_after b ks) k 0 ≤ x.high
+  high : AreMet b stored cs ks → (k : ℕ) (x : Bounds) → slice_get stored k ≡ Some x
+      → get_or (times_after b ks) k 0 ≤ x.high
   high a k x e =
       by_given (given (suc k) (uses_in b.classes ks)) (time k (is_item k x e))
       (given-each (λ c. get_or (times_after b ks) k 0 ≤ x.high) (suc k) (uses_in b.classes ks)
-      (each_weaker (λ u. u.item ≡ suc k → agrees (slice_get stored k) (get_or (times_after b ks) k 0) (get_or (colours_after b ks cs) k 0) u.colour ≡ true)
-      (λ u. u.item ≡ suc k → get_or (times_after b ks) k 0 ≤ x.high) (uses_in b.classes ks) (λ u h q. top u (h q)) (met_at k a)))
+      (each_weaker (λ u. u.item ≡ suc k
+      → agrees (slice_get stored k) (get_or (times_after b ks) k 0) (get_or (colours_after b ks cs) k 0) u.colour
+      ≡ true)
+      (λ u. u.item ≡ suc k → get_or (times_after b ks) k 0 ≤ x.high) (uses_in b.classes ks) (λ u h q. top u (h q))
+      (met_at k a)))
     where
-      top : (u : Use) → agrees (slice_get stored k) (get_or (times_after b ks) k 0) (get_or (colours_after b ks cs) k 0) u.colour ≡ true → get_or (times_after b ks) k 0 ≤ x.high
+      top : (u : Use) → agrees (slice_get stored k) (get_or (times_after b ks) k 0) (get_or (colours_after b ks cs) k 0)
+          u.colour ≡ true → get_or (times_after b ks) k 0 ≤ x.high
       top u h =
-          let here : agrees (Some x) (get_or (times_after b ks) k 0) (get_or (colours_after b ks cs) k 0) u.colour ≡ true =
+          let here : agrees (Some x) (get_or (times_after b ks) k 0) (get_or (colours_after b ks cs) k 0) u.colour
+          ≡ true =
           subst (λ o. agrees o (get_or (times_after b ks) k 0) (get_or (colours_after b ks cs) k 0) u.colour ≡ true) e h
           in leb-true _ _ here
 
-      by_given : (g : List ℕ) → get_or (times_after b ks) k 0 ≡ length g → AllByRecursion (λ c. get_or (times_after b ks) k 0 ≤ x.high) g → get_or (times_after b ks) k 0 ≤ x.high
+      by_given : (g : List ℕ) → get_or (times_after b ks) k 0 ≡ length g
+          → AllByRecursion (λ c. get_or (times_after b ks) k 0 ≤ x.high) g → get_or (times_after b ks) k 0 ≤ x.high
       by_given [] t h = omega (arith, t)
       by_given (c ∷ g) t h = h.0
 
-  agree_at : AreMet b stored cs ks → (k : ℕ) → k < item_count b.problem.puzzle → slice_get stored k ≡ None → AgreeAt b.problem.puzzle (suc k) reps
+  agree_at : AreMet b stored cs ks → (k : ℕ) → k < item_count b.problem.puzzle → slice_get stored k ≡ None
+      → AgreeAt b.problem.puzzle (suc k) reps
   agree_at a k l e =
       agree-gathered b.problem.puzzle (suc k) reps
       (last-agree (get_or cs k 0) (gathered b.problem.puzzle (suc k) reps)
       (subst (λ g. AllByRecursion (IsLast (get_or cs k 0) g) g) (gives (suc k))
       (given-each (IsLast (get_or cs k 0) (given (suc k) (uses_in b.classes ks))) (suc k) (uses_in b.classes ks)
-      (each_weaker (λ u. u.item ≡ suc k → agrees (slice_get stored k) (get_or (times_after b ks) k 0) (get_or (colours_after b ks cs) k 0) u.colour ≡ true)
-      (λ u. u.item ≡ suc k → IsLast (get_or cs k 0) (given (suc k) (uses_in b.classes ks)) u.colour) (uses_in b.classes ks) (λ u h q. last u (h q)) (met_at k a)))))
+      (each_weaker (λ u. u.item ≡ suc k
+      → agrees (slice_get stored k) (get_or (times_after b ks) k 0) (get_or (colours_after b ks cs) k 0) u.colour
+      ≡ true)
+      (λ u. u.item ≡ suc k → IsLast (get_or cs k 0) (given (suc k) (uses_in b.classes ks)) u.colour)
+      (uses_in b.classes ks) (λ u h q. last u (h q)) (met_at k a)))))
     where
-      last : (u : Use) → agrees (slice_get stored k) (get_or (times_after b ks) k 0) (get_or (colours_after b ks cs) k 0) u.colour ≡ true → IsLast (get_or cs k 0) (given (suc k) (uses_in b.classes ks)) u.colour
+      last : (u : Use) → agrees (slice_get stored k) (get_or (times_after b ks) k 0)
+          (get_or (colours_after b ks cs) k 0) u.colour ≡ true
+          → IsLast (get_or cs k 0) (given (suc k) (uses_in b.classes ks)) u.colour
       last u h =
           let here : agrees None (get_or (times_after b ks) k 0) (get_or (colours_after b ks cs) k 0) u.colour ≡ true =
           subst (λ o. agrees o (get_or (times_after b ks) k 0) (get_or (colours_after b ks cs) k 0) u.colour ≡ true) e h
@@ -170,14 +207,16 @@ module _ (b : Classes) (stored : List Bounds) (cs ks reps : List ℕ) (s : IsSol
             | inr q ↦ inr (q.0, q.1 ∙ colour k l)
           ]
 
-  cover : short_of stored (times_after b ks) ≡ 0 → AreMet b stored cs ks → AreAsked b ks → IsCoverOfClasses b.problem.puzzle reps
+  cover : short_of stored (times_after b ks) ≡ 0 → AreMet b stored cs ks → AreAsked b ks
+      → IsCoverOfClasses b.problem.puzzle reps
   cover short met rooms = record {
     asked = asked_by_classes b s.classes ks reps s.taken rooms;
     within = within;
     agree = λ j k a q i c d l e f sec y z. agree i sec j k a q c d l e f y z;
   }
     where
-      within : (i : ℕ) (d : Bounds) → bounds_at b.problem.puzzle i ≡ Some d → (d.low ≤ times_held b.problem.puzzle i reps) × (times_held b.problem.puzzle i reps ≤ d.high)
+      within : (i : ℕ) (d : Bounds) → bounds_at b.problem.puzzle i ≡ Some d
+          → (d.low ≤ times_held b.problem.puzzle i reps) × (times_held b.problem.puzzle i reps ≤ d.high)
       within zero d e = cc
       within (suc k) d e =
           let here : slice_get stored k ≡ Some d = ap (λ l. slice_get l k) s.bounds ∙ e in
@@ -190,14 +229,16 @@ module _ (b : Classes) (stored : List Bounds) (cs ks reps : List ℕ) (s : IsSol
 
   -- ---- to the counts
 
-  limited : IsCoverOfClasses b.problem.puzzle reps → (k : ℕ) (x : Bounds) → slice_get stored k ≡ Some x → (x.low ≤ get_or (times_after b ks) k 0) × (get_or (times_after b ks) k 0 ≤ x.high)
+  limited : IsCoverOfClasses b.problem.puzzle reps → (k : ℕ) (x : Bounds) → slice_get stored k ≡ Some x
+      → (x.low ≤ get_or (times_after b ks) k 0) × (get_or (times_after b ks) k 0 ≤ x.high)
   limited h k x e =
       let at : bounds_at b.problem.puzzle (suc k) ≡ Some x = ap (λ l. slice_get l k) (sym s.bounds) ∙ e in
       let t = held_time k (is_item k x e) in
       let two = h.within (suc k) x at in
       (omega (arith, t, two.0), omega (arith, t, two.1))
 
-  met_one : IsCoverOfClasses b.problem.puzzle reps → (u : Use) → IsIn (uses_in b.classes ks) u → is_met stored (times_after b ks) (colours_after b ks cs) u ≡ true
+  met_one : IsCoverOfClasses b.problem.puzzle reps → (u : Use) → IsIn (uses_in b.classes ks) u
+      → is_met stored (times_after b ks) (colours_after b ks cs) u ≡ true
   met_one h u m = by_limit (slice_get stored (u.item - 1)) refl
     where
       known : (1 ≤ u.item) × (u.item ≤ item_count b.problem.puzzle)
@@ -209,31 +250,43 @@ module _ (b : Classes) (stored : List Bounds) (cs ks reps : List ℕ) (s : IsSol
       is : u.item ≡ suc (u.item - 1)
       is = omega (arith, known)
 
-      last : slice_get stored (u.item - 1) ≡ None → IsLast (get_or cs (u.item - 1) 0) (given (suc (u.item - 1)) (uses_in b.classes ks)) u.colour
+      last : slice_get stored (u.item - 1) ≡ None
+          → IsLast (get_or cs (u.item - 1) 0) (given (suc (u.item - 1)) (uses_in b.classes ks)) u.colour
       last e =
           let i = suc (u.item - 1) in
           let p = b.problem.puzzle in
           let d = get_or cs (u.item - 1) 0 in
-          let sec : IsSecondary p i = (omega (arith, none_past stored (u.item - 1) e, primaries), omega (arith, known)) in
+          let sec : IsSecondary p i =
+          (omega (arith, none_past stored (u.item - 1) e, primaries), omega (arith, known)) in
           let agree : AgreeAt p i reps = λ j k a q c d l e f y z. h.agree j k a q i c d l e f sec y z in
           let lasts : AllByRecursion (IsLast d (given i (uses_in b.classes ks))) (given i (uses_in b.classes ks)) =
-          subst (λ g. AllByRecursion (IsLast d g) g) (sym (gives i)) (agree-last d (gathered p i reps) (gathered-agree p i reps agree))
+          subst (λ g. AllByRecursion (IsLast d g) g) (sym (gives i))
+          (agree-last d (gathered p i reps) (gathered-agree p i reps agree))
           in
           each_in (λ v. v.item ≡ i → IsLast d (given i (uses_in b.classes ks)) v.colour) (uses_in b.classes ks) u
           (each-given (IsLast d (given i (uses_in b.classes ks))) i (uses_in b.classes ks) lasts) m is
 
-      by_limit : (v : Option Bounds) → slice_get stored (u.item - 1) ≡ v → agrees (slice_get stored (u.item - 1)) (get_or (times_after b ks) (u.item - 1) 0) (get_or (colours_after b ks cs) (u.item - 1) 0) u.colour ≡ true
+      by_limit : (v : Option Bounds) → slice_get stored (u.item - 1) ≡ v
+          → agrees (slice_get stored (u.item - 1)) (get_or (times_after b ks) (u.item - 1) 0)
+          (get_or (colours_after b ks cs) (u.item - 1) 0) u.colour ≡ true
       by_limit (Some x) e =
           let two = limited h (u.item - 1) x e in
           rw e (le-leb _ _ two.1)
       by_limit None e =
-          rw e (last_agrees (get_or (times_after b ks) (u.item - 1) 0) (get_or (colours_after b ks cs) (u.item - 1) 0) u.colour
-          (elim (last e) [ inl q ↦ inl (time (u.item - 1) l ∙ q) | inr q ↦ inr (q.0, q.1 ∙ sym (colour (u.item - 1) l)) ]))
+          rw e (last_agrees (get_or (times_after b ks) (u.item - 1) 0) (get_or (colours_after b ks cs) (u.item - 1) 0)
+          u.colour
+          (elim (last e) [
+            | inl q ↦ inl (time (u.item - 1) l ∙ q)
+            | inr q ↦ inr
+                (q.0, q.1 ∙ sym (colour (u.item - 1) l))
+          ]))
 
-  counts : IsCoverOfClasses b.problem.puzzle reps → (short_of stored (times_after b ks) ≡ 0) × AreMet b stored cs ks × AreAsked b ks
+  counts : IsCoverOfClasses b.problem.puzzle reps → (short_of stored (times_after b ks) ≡ 0) × AreMet b stored cs ks
+      × AreAsked b ks
   counts h = (
     none_short stored (times_after b ks) (λ k x e. (limited h k x e).0),
-    each_from (λ u. is_met stored (times_after b ks) (colours_after b ks cs) u ≡ true) (uses_in b.classes ks) (met_one h),
+    each_from (λ u. is_met stored (times_after b ks) (colours_after b ks cs) u ≡ true) (uses_in b.classes ks)
+        (met_one h),
     each_class b (IsRoomFor b ks) ks reps (classes_by_asked b s.classes ks reps s.taken h.asked) s.taken,
   )
 
@@ -241,24 +294,39 @@ module _ (b : Classes) (stored : List Bounds) (cs ks reps : List ℕ) (s : IsSol
 
 -- whether the counts agree
 abbrev pub is_counted_cover : Classes → List Bounds → List ℕ → List ℕ → Bool
-is_counted_cover b stored cs ks = short_of stored (times_after b ks) == 0 && list_all (is_class_met b stored (times_after b ks) (colours_after b ks cs) (asked_after b ks)) ks
+is_counted_cover b stored cs ks =
+    short_of stored (times_after b ks) == 0 && list_all
+    (is_class_met b stored (times_after b ks) (colours_after b ks cs) (asked_after b ks)) ks
 
-classes_parts : (b : Classes) (stored : List Bounds) (ts ds ns js : List ℕ) → AllByRecursion (λ k. is_class_met b stored ts ds ns k ≡ true) js →
-    AllByRecursion (λ k. nat_le (get_or ns k 0) (class_size b.problem.puzzle (uses_at b.classes k)) ≡ true) js × AllByRecursion (λ u. is_met stored ts ds u ≡ true) (uses_in b.classes js)
+classes_parts : (b : Classes) (stored : List Bounds) (ts ds ns js : List ℕ)
+    → AllByRecursion (λ k. is_class_met b stored ts ds ns k ≡ true) js →
+    AllByRecursion (λ k. nat_le (get_or ns k 0) (class_size b.problem.puzzle (uses_at b.classes k)) ≡ true) js
+    × AllByRecursion (λ u. is_met stored ts ds u ≡ true) (uses_in b.classes js)
 classes_parts b stored ts ds ns [] a = (tt, tt)
 classes_parts b stored ts ds ns (k ∷ js) a =
-    let here = and_parts (nat_le (get_or ns k 0) (class_size b.problem.puzzle (uses_at b.classes k))) (list_all (is_met stored ts ds) (uses_at b.classes k)) a.0 in
-    let later = classes_parts b stored ts ds ns js a.1 in
-    ((here.0, later.0), each-append (λ u. is_met stored ts ds u ≡ true) (uses_at b.classes k) (uses_in b.classes js) (each_passes (is_met stored ts ds) (uses_at b.classes k) here.1) later.1)
+    let here =
+    and_parts (nat_le (get_or ns k 0) (class_size b.problem.puzzle (uses_at b.classes k)))
+    (list_all (is_met stored ts ds) (uses_at b.classes k)) a.0 in
+    let later = classes_parts b stored ts ds ns js a.1 in (
+      (here.0, later.0),
+      each-append (λ u. is_met stored ts ds u ≡ true) (uses_at b.classes k) (uses_in b.classes js)
+          (each_passes (is_met stored ts ds) (uses_at b.classes k) here.1) later.1,
+    )
 
-parts_classes : (b : Classes) (stored : List Bounds) (ts ds ns js : List ℕ) → AllByRecursion (λ k. nat_le (get_or ns k 0) (class_size b.problem.puzzle (uses_at b.classes k)) ≡ true) js →
-    AllByRecursion (λ u. is_met stored ts ds u ≡ true) (uses_in b.classes js) → AllByRecursion (λ k. is_class_met b stored ts ds ns k ≡ true) js
+parts_classes : (b : Classes) (stored : List Bounds) (ts ds ns js : List ℕ)
+    → AllByRecursion (λ k. nat_le (get_or ns k 0) (class_size b.problem.puzzle (uses_at b.classes k)) ≡ true) js →
+    AllByRecursion (λ u. is_met stored ts ds u ≡ true) (uses_in b.classes js)
+    → AllByRecursion (λ k. is_class_met b stored ts ds ns k ≡ true) js
 parts_classes b stored ts ds ns [] a m = tt
 parts_classes b stored ts ds ns (k ∷ js) a m =
-    let two = each_front (λ u. is_met stored ts ds u ≡ true) (uses_at b.classes k) (uses_in b.classes js) m in
-    (both_true a.0 (passes_each (is_met stored ts ds) (uses_at b.classes k) two.0), parts_classes b stored ts ds ns js a.1 two.1)
+    let two = each_front (λ u. is_met stored ts ds u ≡ true) (uses_at b.classes k) (uses_in b.classes js) m in (
+      both_true a.0 (passes_each (is_met stored ts ds) (uses_at b.classes k) two.0),
+      parts_classes b stored ts ds ns js
+          a.1 two.1,
+    )
 
-pub counted-cover : (b : Classes) (stored : List Bounds) (cs ks reps : List ℕ) → IsSolution b stored cs ks reps → is_counted_cover b stored cs ks ≡ true → IsCoverOfClasses b.problem.puzzle reps
+pub counted-cover : (b : Classes) (stored : List Bounds) (cs ks reps : List ℕ) → IsSolution b stored cs ks reps
+    → is_counted_cover b stored cs ks ≡ true → IsCoverOfClasses b.problem.puzzle reps
 counted-cover b stored cs ks reps s h =
     let ts = times_after b ks in
     let ds = colours_after b ks cs in
@@ -267,7 +335,8 @@ counted-cover b stored cs ks reps s h =
     let parts = classes_parts b stored ts ds ns ks (each_passes (is_class_met b stored ts ds ns) ks two.1) in
     cover b stored cs ks reps s (eqb-true (short_of stored ts) 0 two.0) parts.1 parts.0
 
-pub cover-counted : (b : Classes) (stored : List Bounds) (cs ks reps : List ℕ) → IsSolution b stored cs ks reps → IsCoverOfClasses b.problem.puzzle reps → is_counted_cover b stored cs ks ≡ true
+pub cover-counted : (b : Classes) (stored : List Bounds) (cs ks reps : List ℕ) → IsSolution b stored cs ks reps
+    → IsCoverOfClasses b.problem.puzzle reps → is_counted_cover b stored cs ks ≡ true
 cover-counted b stored cs ks reps s h =
     let ts = times_after b ks in
     let ds = colours_after b ks cs in

@@ -1,5 +1,7 @@
 -- The words of a choice line.
-use Rattle.std.proofs.Common.{◌≡◌, ℕ, suc, ◌-◌, ◌<◌, Bool, true, false, not, ◌||◌, ◌&&◌, nat_eq, nat_le, nat_lt, slice_index, List, [], ◌∷◌, ◌++◌, length, take, drop, Option, Some, None, refl, sym, ap, ◌∙◌, append_assoc, arith, length-append, if◌then◌else◌}
+use Rattle.std.proofs.Common.{◌≡◌, ℕ, suc, ◌-◌, ◌<◌, Bool, true, false, not, ◌||◌, ◌&&◌, nat_eq, nat_le, nat_lt}
+use Rattle.std.proofs.Common.{slice_index, List, [], ◌∷◌, ◌++◌, length, take, drop, Option, Some, None, refl, sym, ap}
+use Rattle.std.proofs.Common.{◌∙◌, append_assoc, arith, length-append, if◌then◌else◌}
 use Rattle.std.specs.List.{list_all, list_any, onto_first}
 use Rattle.std.proofs.lemmas.Bool.Decides.{nat_tests}
 use Rattle.std.proofs.lemmas.Bool.{eq-eqb}
@@ -24,16 +26,19 @@ last_byte b x front =
     ∙ (λ i. if nat_eq (at_seam front x i) b then Some (take-append_seam front (x ∷ []) i) else None)
 
 pub last_is : (b x : ℕ) (text front : List ℕ) → text ≡ front ++ x ∷ [] → x ≡ b → Some front ≡ before_last b text
-last_is b x text front e f = sym (ap (before_last b) e ∙ last_byte b x front ∙ ap (λ t. if t then Some front else None) (eq-eqb x b f))
+last_is b x text front e f =
+    sym (ap (before_last b) e ∙ last_byte b x front ∙ ap (λ t. if t then Some front else None) (eq-eqb x b f))
 
 pub last_differs : (b x : ℕ) (text front : List ℕ) → text ≡ front ++ x ∷ [] → (x ≡ b → ⊥) → None ≡ before_last b text
-last_differs b x text front e f = sym (ap (before_last b) e ∙ last_byte b x front ∙ ap (λ t. if t then Some front else None) (differs x b f))
+last_differs b x text front e f =
+    sym (ap (before_last b) e ∙ last_byte b x front ∙ ap (λ t. if t then Some front else None) (differs x b f))
 
 -- WORDS OF A TEXT
 -- whether what is left of words is words; fresh: no byte of the first one was seen
 abbrev pub words_from : Bool → List ℕ → Bool
 words_from fresh [] = not fresh
-words_from fresh (b ∷ text) = if nat_eq b 32 then not fresh && words_from true text else not (is_space b) && words_from false text
+words_from fresh (b ∷ text) =
+    if nat_eq b 32 then not fresh && words_from true text else not (is_space b) && words_from false text
 
 not_zero : (n : ℕ) → nat_eq (suc n) 0 ≡ false
 not_zero n = grind (arith, nat_tests)
@@ -45,7 +50,8 @@ spaced-word : (b : ℕ) (word : List ℕ) → is_space b ≡ true → is_word (b
 spaced-word b word e = some_byte b word ∙ ap (λ t. not (t || list_any is_space word)) e
 
 longer-word : (x b : ℕ) (word : List ℕ) → is_space x ≡ false → is_word (x ∷ b ∷ word) ≡ is_word (b ∷ word)
-longer-word x b word e = some_byte x (b ∷ word) ∙ ap (λ t. not (t || list_any is_space (b ∷ word))) e ∙ sym (some_byte b word)
+longer-word x b word e =
+    some_byte x (b ∷ word) ∙ ap (λ t. not (t || list_any is_space (b ∷ word))) e ∙ sym (some_byte b word)
 
 one-byte : (x : ℕ) → is_space x ≡ false → is_word (x ∷ []) ≡ true
 one-byte x e = some_byte x [] ∙ ap (λ t. not (t || false)) e
@@ -54,19 +60,29 @@ spaced : (b : ℕ) (ws : List (List ℕ)) → is_space b ≡ true → list_all i
 spaced b [] e = ap (λ t. t && true) (spaced-word b [] e)
 spaced b (w ∷ ws) e = ap (λ t. t && list_all is_word ws) (spaced-word b w e)
 
-longer : (x b : ℕ) (ws : List (List ℕ)) → is_space x ≡ false → list_all is_word (onto_first x (onto_first b ws)) ≡ list_all is_word (onto_first b ws)
+longer : (x b : ℕ) (ws : List (List ℕ)) → is_space x ≡ false
+    → list_all is_word (onto_first x (onto_first b ws)) ≡ list_all is_word (onto_first b ws)
 longer x b [] e = ap (λ t. t && true) (longer-word x b [] e)
 longer x b (w ∷ ws) e = ap (λ t. t && list_all is_word ws) (longer-word x b w e)
 
-both : (text : List ℕ) → (list_all is_word (words_in text) ≡ words_from true text) × ((x : ℕ) → is_space x ≡ false → list_all is_word (onto_first x (words_in text)) ≡ words_from false text)
+both : (text : List ℕ) → (list_all is_word (words_in text) ≡ words_from true text)
+    × ((x : ℕ) → is_space x ≡ false → list_all is_word (onto_first x (words_in text)) ≡ words_from false text)
 both [] = (refl, λ x e. ap (λ t. t && true) (one-byte x e))
 both (b ∷ text) =
-    let later : (list_all is_word (words_in text) ≡ words_from true text) × ((x : ℕ) → is_space x ≡ false → list_all is_word (onto_first x (words_in text)) ≡ words_from false text) = both text in
-    let S : Bool → Type 0 = λ s. is_space b ≡ s → list_all is_word (onto_first b (words_in text)) ≡ (not s && words_from false text) in
-    let step : S (is_space b) = (elim (is_space b) as S [ true ↦ λ e. spaced b (words_in text) e | false ↦ λ e. later.1 b e ]) in
-    let P : Bool → Type 0 = λ t. list_all is_word (if t then [] ∷ words_in text else onto_first b (words_in text)) ≡ (if t then not true && words_from true text else not (is_space b) && words_from false text) in
+    let later : (list_all is_word (words_in text) ≡ words_from true text)
+    × ((x : ℕ) → is_space x ≡ false → list_all is_word (onto_first x (words_in text)) ≡ words_from false text) =
+    both text in
+    let S : Bool → Type 0 =
+    λ s. is_space b ≡ s → list_all is_word (onto_first b (words_in text)) ≡ (not s && words_from false text) in
+    let step : S (is_space b) =
+    (elim (is_space b) as S [ true ↦ λ e. spaced b (words_in text) e | false ↦ λ e. later.1 b e ]) in
+    let P : Bool → Type 0 =
+    λ t. list_all is_word (if t then [] ∷ words_in text else onto_first b (words_in text)) ≡
+    (if t then not true && words_from true text else not (is_space b) && words_from false text) in
     let h : P (nat_eq b 32) = (elim (nat_eq b 32) as P [ true ↦ refl | false ↦ step refl ]) in
-    let Q : ℕ → Bool → Type 0 = λ x t. list_all is_word (onto_first x (if t then [] ∷ words_in text else onto_first b (words_in text))) ≡ (if t then not false && words_from true text else not (is_space b) && words_from false text) in
+    let Q : ℕ → Bool → Type 0 =
+    λ x t. list_all is_word (onto_first x (if t then [] ∷ words_in text else onto_first b (words_in text))) ≡
+    (if t then not false && words_from true text else not (is_space b) && words_from false text) in
     let g : (x : ℕ) → is_space x ≡ false → Q x (nat_eq b 32) = λ x e. elim (nat_eq b 32) as (Q x) [
       | true ↦ ap (λ t. t && list_all is_word (words_in text)) (one-byte x e) ∙ later.0
       | false ↦ longer x b (words_in text) e ∙ step refl
@@ -78,12 +94,16 @@ all_words text = (both text).0
 
 -- BODIES
 -- what stands before three words
-pub before_three : (words bs : List (List ℕ)) (a b c : List ℕ) → 0 < length bs → words ≡ ((bs ++ a ∷ []) ++ b ∷ []) ++ c ∷ [] →
+pub before_three : (words bs : List (List ℕ)) (a b c : List ℕ) → 0 < length bs
+    → words ≡ ((bs ++ a ∷ []) ++ b ∷ []) ++ c ∷ [] →
     body_of_words words ≡ (if list_all is_word words && is_ending (a ∷ b ∷ c ∷ []) then Some bs else None)
 before_three words bs a b c l e =
-    let flat : words ≡ bs ++ (a ∷ b ∷ c ∷ []) = e ∙ ap (λ ws. ws ++ c ∷ []) (append_assoc bs (a ∷ []) (b ∷ [])) ∙ append_assoc bs (a ∷ b ∷ []) (c ∷ []) in
+    let flat : words ≡ bs ++ (a ∷ b ∷ c ∷ []) =
+    e ∙ ap (λ ws. ws ++ c ∷ []) (append_assoc bs (a ∷ []) (b ∷ [])) ∙ append_assoc bs (a ∷ b ∷ []) (c ∷ []) in
     let size : length words - 3 ≡ length bs = omega (arith, ap length flat, length-append bs (a ∷ b ∷ c ∷ [])) in
     let some : nat_le 1 (length words - 3) ≡ true = grind (arith, nat_tests) in
-    let front : take (length words - 3) words ≡ bs = (λ i. take (size i) (flat i)) ∙ take-append_seam bs (a ∷ b ∷ c ∷ []) in
-    let back : drop (length words - 3) words ≡ a ∷ b ∷ c ∷ [] = (λ i. drop (size i) (flat i)) ∙ drop-append_seam bs (a ∷ b ∷ c ∷ []) in
+    let front : take (length words - 3) words ≡ bs =
+    (λ i. take (size i) (flat i)) ∙ take-append_seam bs (a ∷ b ∷ c ∷ []) in
+    let back : drop (length words - 3) words ≡ a ∷ b ∷ c ∷ [] =
+    (λ i. drop (size i) (flat i)) ∙ drop-append_seam bs (a ∷ b ∷ c ∷ []) in
     λ i. if some i && list_all is_word words && is_ending (back i) then Some (front i) else None

@@ -1,5 +1,7 @@
 -- Texts cut at a byte, and what is left of their lines and words.
-use Rattle.std.proofs.Common.{◌≡◌, ℕ, zero, suc, ◌+◌, ◌-◌, ◌<◌, Bool, true, false, nat_eq, List, [], ◌∷◌, ◌++◌, length, take, drop, get_or, refl, sym, ap, ◌∙◌, append_assoc, add-one, arith, if◌then◌else◌, Option, None, MatchOption, subst}
+use Rattle.std.proofs.Common.{◌≡◌, ℕ, zero, suc, ◌+◌, ◌-◌, ◌<◌, Bool, true, false, nat_eq, List, [], ◌∷◌, ◌++◌, length}
+use Rattle.std.proofs.Common.{take, drop, get_or, refl, sym, ap, ◌∙◌, append_assoc, add-one, arith, if◌then◌else◌}
+use Rattle.std.proofs.Common.{Option, None, MatchOption, subst}
 use Rattle.std.specs.List.{onto_first}
 use Rattle.std.proofs.lemmas.Bool.{eqb-true}
 use Rattle.xc_input.specs.Words.{has, before, after}
@@ -11,7 +13,8 @@ use Rattle.xc_list.specs.ListingLines.{words_in}
 
 -- CUTTING
 -- a text cut at its first such byte
-pub first_cut : (b : ℕ) (xs ys : List ℕ) (k : ℕ) → ys ≡ take (length xs - (k + 1)) (drop (k + 1) xs) → k < length xs → ((j : ℕ) → j < k → nat_eq (get_or xs j 0) b ≡ false) → nat_eq (get_or xs k 0) b ≡ true
+pub first_cut : (b : ℕ) (xs ys : List ℕ) (k : ℕ) → ys ≡ take (length xs - (k + 1)) (drop (k + 1) xs) → k < length xs
+    → ((j : ℕ) → j < k → nat_eq (get_or xs j 0) b ≡ false) → nat_eq (get_or xs k 0) b ≡ true
     → (has b (take k xs) ≡ false) × (xs ≡ take k xs ++ b ∷ ys)
 first_cut b xs ys k e l h g =
     let f : (has b xs ≡ true) × (take k xs ≡ before b xs) × (drop (suc k) xs ≡ after b xs) = has-at b xs k l h g in
@@ -19,16 +22,20 @@ first_cut b xs ys k e l h g =
     let rest : ys ≡ after b xs = whole xs ys (k + 1) e ∙ ap (λ n. drop n xs) (add-one k) ∙ f.2 in
     (ap (has b) f.1 ∙ cut.1, cut.0 ∙ (λ i. sym f.1 i ++ b ∷ sym rest i))
 
-at_last : (b : ℕ) (xs : List ℕ) (k : ℕ) → k < length xs → ((j : ℕ) → k < j → j < length xs → nat_eq (get_or xs j 0) b ≡ false) → nat_eq (get_or xs k 0) b ≡ true
+at_last : (b : ℕ) (xs : List ℕ) (k : ℕ) → k < length xs
+    → ((j : ℕ) → k < j → j < length xs → nat_eq (get_or xs j 0) b ≡ false) → nat_eq (get_or xs k 0) b ≡ true
     → (xs ≡ take k xs ++ b ∷ drop (suc k) xs) × (has b (drop (suc k) xs) ≡ false)
 at_last b [] k l h g = absurd (omega (arith, l))
-at_last b (x ∷ xs) zero l h g = (ap (λ y. y ∷ xs) (eqb-true x b g), (has-all b xs (λ j p. h (suc j) (omega arith) (omega (arith, p)))).0)
+at_last b (x ∷ xs) zero l h g =
+    (ap (λ y. y ∷ xs) (eqb-true x b g), (has-all b xs (λ j p. h (suc j) (omega arith) (omega (arith, p)))).0)
 at_last b (x ∷ xs) (suc k) l h g =
-    let r : (xs ≡ take k xs ++ b ∷ drop (suc k) xs) × (has b (drop (suc k) xs) ≡ false) = at_last b xs k (omega (arith, l)) (λ j p q. h (suc j) (omega (arith, p)) (omega (arith, q))) g in
+    let r : (xs ≡ take k xs ++ b ∷ drop (suc k) xs) × (has b (drop (suc k) xs) ≡ false) =
+    at_last b xs k (omega (arith, l)) (λ j p q. h (suc j) (omega (arith, p)) (omega (arith, q))) g in
     (ap (λ ys. x ∷ ys) r.0, r.1)
 
 -- a text cut at its last such byte
-pub last_cut : (b : ℕ) (xs ys : List ℕ) (k : ℕ) → ys ≡ take (length xs - (k + 1)) (drop (k + 1) xs) → k < length xs → ((j : ℕ) → k < j → j < length xs → nat_eq (get_or xs j 0) b ≡ false) → nat_eq (get_or xs k 0) b ≡ true
+pub last_cut : (b : ℕ) (xs ys : List ℕ) (k : ℕ) → ys ≡ take (length xs - (k + 1)) (drop (k + 1) xs) → k < length xs
+    → ((j : ℕ) → k < j → j < length xs → nat_eq (get_or xs j 0) b ≡ false) → nat_eq (get_or xs k 0) b ≡ true
     → (has b ys ≡ false) × (xs ≡ take k xs ++ b ∷ ys)
 last_cut b xs ys k e l h g =
     let f = at_last b xs k l h g in
@@ -36,8 +43,10 @@ last_cut b xs ys k e l h g =
     (ap (has b) rest ∙ f.1, f.0 ∙ ap (λ zs. take k xs ++ b ∷ zs) (sym rest))
 
 -- LINES
-pub first_line : (text line rest : List ℕ) → has 10 line ≡ false → text ≡ line ++ 10 ∷ rest → lines_of text ≡ line ∷ lines_of rest
-first_line text line rest h e = ap lines_of (e ∙ sym (append_assoc line (10 ∷ []) rest)) ∙ lines_of-ended (line ∷ []) rest (h, tt)
+pub first_line : (text line rest : List ℕ) → has 10 line ≡ false → text ≡ line ++ 10 ∷ rest
+    → lines_of text ≡ line ∷ lines_of rest
+first_line text line rest h e =
+    ap lines_of (e ∙ sym (append_assoc line (10 ∷ []) rest)) ∙ lines_of-ended (line ∷ []) rest (h, tt)
 
 -- WORDS
 other : (x : ℕ) (a b : List (List ℕ)) → nat_eq x 32 ≡ false → (if nat_eq x 32 then a else b) ≡ b
@@ -45,13 +54,16 @@ other x a b h = ap (λ t. if t then a else b) h
 
 pub one_word : (word : List ℕ) → has 32 word ≡ false → words_in word ≡ word ∷ []
 one_word [] h = refl
-one_word (x ∷ word) h = let apart = or-false (nat_eq x 32) (has 32 word) h in other x _ _ apart.0 ∙ ap (onto_first x) (one_word word apart.1)
+one_word (x ∷ word) h = let apart = or-false (nat_eq x 32) (has 32 word) h in other x _ _ apart.0
+    ∙ ap (onto_first x) (one_word word apart.1)
 
 first : (word rest : List ℕ) → has 32 word ≡ false → words_in (word ++ 32 ∷ rest) ≡ word ∷ words_in rest
 first [] rest h = refl
-first (x ∷ word) rest h = let apart = or-false (nat_eq x 32) (has 32 word) h in other x _ _ apart.0 ∙ ap (onto_first x) (first word rest apart.1)
+first (x ∷ word) rest h = let apart = or-false (nat_eq x 32) (has 32 word) h in other x _ _ apart.0
+    ∙ ap (onto_first x) (first word rest apart.1)
 
-pub first_word : (text word rest : List ℕ) → has 32 word ≡ false → text ≡ word ++ 32 ∷ rest → words_in text ≡ word ∷ words_in rest
+pub first_word : (text word rest : List ℕ) → has 32 word ≡ false → text ≡ word ++ 32 ∷ rest
+    → words_in text ≡ word ∷ words_in rest
 first_word text word rest h e = ap words_in e ∙ first word rest h
 
 onto_first-some : (x : ℕ) (ws : List (List ℕ)) → 0 < length (onto_first x ws)
@@ -72,13 +84,17 @@ onto_first-append x (v ∷ vs) ws l = refl
 last : (front word : List ℕ) → has 32 word ≡ false → words_in (front ++ 32 ∷ word) ≡ words_in front ++ word ∷ []
 last [] word h = ap (λ ws. [] ∷ ws) (one_word word h)
 last (x ∷ front) word h =
-    let P : Bool → Type 0 = λ t. (if t then [] ∷ words_in (front ++ 32 ∷ word) else onto_first x (words_in (front ++ 32 ∷ word))) ≡ (if t then [] ∷ words_in front else onto_first x (words_in front)) ++ word ∷ [] in
+    let P : Bool → Type 0 =
+    λ t. (if t then [] ∷ words_in (front ++ 32 ∷ word) else onto_first x (words_in (front ++ 32 ∷ word))) ≡
+    (if t then [] ∷ words_in front else onto_first x (words_in front)) ++ word ∷ [] in
     elim (nat_eq x 32) as P [
       | true ↦ ap (λ ws. [] ∷ ws) (last front word h)
-      | false ↦ ap (onto_first x) (last front word h) ∙ onto_first-append x (words_in front) (word ∷ []) (some_words front)
+      | false ↦ ap (onto_first x) (last front word h)
+          ∙ onto_first-append x (words_in front) (word ∷ []) (some_words front)
     ]
 
-pub last_word : (text front word : List ℕ) → has 32 word ≡ false → text ≡ front ++ 32 ∷ word → words_in text ≡ words_in front ++ word ∷ []
+pub last_word : (text front word : List ℕ) → has 32 word ≡ false → text ≡ front ++ 32 ∷ word
+    → words_in text ≡ words_in front ++ word ∷ []
 last_word text front word h e = ap words_in e ∙ last front word h
 
 -- what holds where nothing was cut

@@ -1,5 +1,7 @@
--- Different options in place of options that are alike: there are such exactly where no class is asked more often than it has members.
-use Rattle.std.proofs.Common.{ℕ, zero, suc, ◌≡◌, ◌≢◌, ◌+◌, ◌<◌, ◌≤◌, Bool, true, false, cond, not, ◌==◌, List, [], ◌∷◌, length, filter, Some, refl, sym, ap, ap₂, ◌∙◌, arith, subst, inl, inr, ne_eqb, eq-eqb}
+-- Different options in place of options that are alike: there are such exactly where no class is asked more often than
+-- it has members.
+use Rattle.std.proofs.Common.{ℕ, zero, suc, ◌≡◌, ◌≢◌, ◌+◌, ◌<◌, ◌≤◌, Bool, true, false, cond, not, ◌==◌, List, [], ◌∷◌}
+use Rattle.std.proofs.Common.{length, filter, Some, refl, sym, ap, ap₂, ◌∙◌, arith, subst, inl, inr, ne_eqb, eq-eqb}
 use Rattle.std.specs.Prelude.{slice_get, count_by}
 use Rattle.std.specs.List.{AllZip}
 use Rattle.std.proofs.lemmas.List.Sums.{length-filter}
@@ -13,10 +15,11 @@ counted p (x ∷ xs) = cond (p x) 1 0 + counted p xs
 
 pub counted-length : (p : ℕ → Bool) (xs : List ℕ) → length (filter p xs) ≡ counted p xs
 counted-length p [] = refl
-counted-length p (x ∷ xs) = elim (p x) as (λ b. length (cond b (x ∷ filter p xs) (filter p xs)) ≡ cond b 1 0 + counted p xs) [
-  | true ↦ omega (arith, counted-length p xs)
-  | false ↦ omega (arith, counted-length p xs)
-]
+counted-length p (x ∷ xs) =
+    elim (p x) as (λ b. length (cond b (x ∷ filter p xs) (filter p xs)) ≡ cond b 1 0 + counted p xs) [
+      | true ↦ omega (arith, counted-length p xs)
+      | false ↦ omega (arith, counted-length p xs)
+    ]
 
 pub is_counted : (p : ℕ → Bool) (xs : List ℕ) → count_by p xs ≡ counted p xs
 is_counted p xs = sym (length-filter p xs) ∙ counted-length p xs
@@ -31,15 +34,17 @@ filter_alike p q (x ∷ xs) h = ap₂ (λ b ys. cond b (x ∷ ys) ys) (h x) (fil
 
 pub count_filter_le : (q t : ℕ → Bool) (xs : List ℕ) → counted q (filter t xs) ≤ counted q xs
 count_filter_le q t [] = omega arith
-count_filter_le q t (x ∷ xs) = elim (t x) as (λ b. counted q (cond b (x ∷ filter t xs) (filter t xs)) ≤ cond (q x) 1 0 + counted q xs) [
-  | true ↦ omega (arith, count_filter_le q t xs)
-  | false ↦ omega (arith, count_filter_le q t xs)
-]
+count_filter_le q t (x ∷ xs) =
+    elim (t x) as (λ b. counted q (cond b (x ∷ filter t xs) (filter t xs)) ≤ cond (q x) 1 0 + counted q xs) [
+      | true ↦ omega (arith, count_filter_le q t xs)
+      | false ↦ omega (arith, count_filter_le q t xs)
+    ]
 
 abbrev isnt : ℕ → ℕ → Bool
 isnt o x = not (x == o)
 
-pub count_without : (q : ℕ → Bool) (xs : List ℕ) (o : ℕ) → IsIn xs o → counted q (filter (isnt o) xs) + cond (q o) 1 0 ≤ counted q xs
+pub count_without : (q : ℕ → Bool) (xs : List ℕ) (o : ℕ) → IsIn xs o
+    → counted q (filter (isnt o) xs) + cond (q o) 1 0 ≤ counted q xs
 count_without q [] o h = absurd h
 count_without q (x ∷ xs) o (inl e) =
     let gone : (x == o) ≡ true = eq-eqb x o e in
@@ -47,17 +52,22 @@ count_without q (x ∷ xs) o (inl e) =
     rw (gone, here) (omega (arith, count_filter_le q (isnt o) xs))
 count_without q (x ∷ xs) o (inr h) =
     let later = count_without q xs o h in
-    elim (x == o) as (λ b. counted q (cond (not b) (x ∷ filter (isnt o) xs) (filter (isnt o) xs)) + cond (q o) 1 0 ≤ cond (q x) 1 0 + counted q xs) [
+    elim (x == o) as (λ b. counted q (cond (not b) (x ∷ filter (isnt o) xs) (filter (isnt o) xs)) + cond (q o) 1 0 ≤
+    cond (q x) 1 0 + counted q xs) [
       | true ↦ omega (arith, later)
       | false ↦ omega (arith, later)
     ]
 
 -- Different members of a list are, of each sort, no more than the list has.
-pub count_within : (q : ℕ → Bool) (s all : List ℕ) → EachTwo (λ a b. a ≢ b) s → ((x : ℕ) → IsIn s x → IsIn all x) → counted q s ≤ counted q all
+pub count_within : (q : ℕ → Bool) (s all : List ℕ) → EachTwo (λ a b. a ≢ b) s → ((x : ℕ) → IsIn s x → IsIn all x)
+    → counted q s ≤ counted q all
 count_within q [] all d h = omega arith
 count_within q (o ∷ s) all d h =
-    let apart : (x : ℕ) → IsIn s x → isnt o x ≡ true = λ x k. (let ne : x ≢ o = λ e. each_in (λ b. o ≢ b) s x d.0 k (sym e) in let t : (x == o) ≡ false = ne_eqb x o ne in ap not t) in
-    let later = count_within q s (filter (isnt o) all) d.1 (λ x k. filter-in (isnt o) all x (h x (inr k)) (apart x k)) in
+    let apart : (x : ℕ) → IsIn s x → isnt o x ≡ true =
+    λ x k. (let ne : x ≢ o = λ e. each_in (λ b. o ≢ b) s x d.0 k (sym e) in let t : (x == o) ≡ false = ne_eqb x o ne
+    in ap not t) in
+    let later =
+    count_within q s (filter (isnt o) all) d.1 (λ x k. filter-in (isnt o) all x (h x (inr k)) (apart x k)) in
     omega (arith, later, count_without q all o (h o (inl refl)))
 
 -- an equivalence of numbers
@@ -83,7 +93,8 @@ abbrev pub AreAlike : (ℕ → ℕ → Bool) → List ℕ → List ℕ → Type 
 AreAlike same reps s = AllZip (λ r o. same r o ≡ true) reps s
 
 -- how often a class is asked for in lists that are alike
-pub count_alike : (same : ℕ → ℕ → Bool) → IsLikeness same → (r : ℕ) (reps s : List ℕ) → AreAlike same reps s → counted (same r) reps ≡ counted (same r) s
+pub count_alike : (same : ℕ → ℕ → Bool) → IsLikeness same → (r : ℕ) (reps s : List ℕ) → AreAlike same reps s
+    → counted (same r) reps ≡ counted (same r) s
 count_alike same classes r [] [] z = refl
 count_alike same classes r [] (o ∷ s) z = absurd z
 count_alike same classes r (q ∷ reps) [] z = absurd z
@@ -99,9 +110,11 @@ count_alike same classes r (q ∷ reps) (o ∷ s) z =
     in ap₂ (λ b n. cond b 1 0 + n) here (count_alike same classes r reps s z.1)
 
 -- No class is asked more often than it has members.
-pub asked_within : (same : ℕ → ℕ → Bool) → IsLikeness same → (all reps s : List ℕ) → AreAlike same reps s → AreApart s → ((o : ℕ) → IsIn s o → IsIn all o) →
+pub asked_within : (same : ℕ → ℕ → Bool) → IsLikeness same → (all reps s : List ℕ) → AreAlike same reps s → AreApart s
+    → ((o : ℕ) → IsIn s o → IsIn all o) →
     (r : ℕ) → counted (same r) reps ≤ counted (same r) all
-asked_within same classes all reps s z d h r = omega (arith, count_alike same classes r reps s z, count_within (same r) s all d h)
+asked_within same classes all reps s z d h r =
+    omega (arith, count_alike same classes r reps s z, count_within (same r) s all d h)
 
 pub slice_get_there : (xs : List ℕ) (n : ℕ) → n < length xs → (x : ℕ) × (slice_get xs n ≡ Some x)
 slice_get_there [] n l = absurd (omega (arith, l))
@@ -112,12 +125,16 @@ pub EachTwo-filter : (t : ℕ → Bool) (xs : List ℕ) → AreApart xs → AreA
 EachTwo-filter t [] a = tt
 EachTwo-filter t (x ∷ xs) a =
     elim (t x) as (λ b. AreApart (cond b (x ∷ filter t xs) (filter t xs))) [
-      | true ↦ (each_from (λ b. x ≢ b) (filter t xs) (λ y k. each_in (λ b. x ≢ b) xs y a.0 (in-filter t xs y k).0), EachTwo-filter t xs a.1)
+      | true ↦ (
+        each_from (λ b. x ≢ b) (filter t xs) (λ y k. each_in (λ b. x ≢ b) xs y a.0 (in-filter t xs y k).0),
+        EachTwo-filter t xs a.1,
+      )
       | false ↦ EachTwo-filter t xs a.1
     ]
 
 -- one number at two places of a list without repetition
-pub places_differ : (xs : List ℕ) (j k o : ℕ) → AreApart xs → j < k → slice_get xs j ≡ Some o → slice_get xs k ≡ Some o → ⊥
+pub places_differ : (xs : List ℕ) (j k o : ℕ) → AreApart xs → j < k → slice_get xs j ≡ Some o
+    → slice_get xs k ≡ Some o → ⊥
 places_differ xs j k o a l e f = EachTwo-at (λ a b. a ≢ b) xs j k o o a l e f refl
 
 -- the place of o among those of its class is below the number of times that the class is asked
@@ -130,7 +147,8 @@ pub record IsGiving (same : ℕ → ℕ → Bool) (all reps s : List ℕ) : Type
   pub apart : AreApart s
   pub places : (o : ℕ) → IsIn s o → HasPlace same all reps o
 
-give_one : (same : ℕ → ℕ → Bool) → IsLikeness same → (all : List ℕ) → AreApart all → (r : ℕ) (reps s : List ℕ) → IsGiving same all reps s →
+give_one : (same : ℕ → ℕ → Bool) → IsLikeness same → (all : List ℕ) → AreApart all → (r : ℕ) (reps s : List ℕ)
+    → IsGiving same all reps s →
     (o : ℕ) → slice_get (filter (same r) all) (counted (same r) reps) ≡ Some o → IsGiving same all (r ∷ reps) (o ∷ s)
 give_one same classes all d r reps s g o e = record {
   alike = (of_class, g.alike);
@@ -152,7 +170,12 @@ give_one same classes all d r reps s g o e = record {
     e_own = subst (λ xs. slice_get xs (counted (same r) reps) ≡ Some o) (filter_alike (same r) (same o) all as_one) e
 
     mine : HasPlace same all (r ∷ reps) o
-    mine = (counted (same r) reps, (let asks : same o r ≡ true = classes.back r o of_class in rw asks (omega (arith, count_same (same r) (same o) reps as_one))), e_own)
+    mine = (
+      counted (same r) reps,
+      (let asks : same o r ≡ true = classes.back r o of_class in rw asks
+          (omega (arith, count_same (same r) (same o) reps as_one))),
+      e_own,
+    )
 
     later : (x : ℕ) → IsIn s x → HasPlace same all (r ∷ reps) x
     later x k = let p = g.places x k in (p.0, omega (arith, p.1), p.2)
@@ -165,7 +188,8 @@ give_one same classes all d r reps s g o e = record {
 
 pub give : (same : ℕ → ℕ → Bool) → IsLikeness same → (all : List ℕ) → AreApart all → (reps : List ℕ) →
     ((r : ℕ) → IsIn reps r → counted (same r) reps ≤ counted (same r) all) → (s : List ℕ) × IsGiving same all reps s
-give same classes all d [] h = ([], record { alike = tt; known = λ o k. absurd k; apart = tt; places = λ o k. absurd k })
+give same classes all d [] h =
+    ([], record { alike = tt; known = λ o k. absurd k; apart = tt; places = λ o k. absurd k })
 give same classes all d (r ∷ reps) h =
     let later = give same classes all d reps (λ q k. omega (arith, h q (inr k))) in
     let room : counted (same r) reps < length (filter (same r) all) = enough in

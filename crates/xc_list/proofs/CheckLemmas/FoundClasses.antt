@@ -1,5 +1,6 @@
 -- Classes found by their uses.
-use Rattle.std.proofs.Common.{ℕ, suc, ◌≡◌, ◌<◌, if◌then◌else◌, Option, Bool, true, false, List, [], ◌∷◌, ◌++◌, length, map, get_or, position, Some, None, refl, sym, ap, ◌∙◌, arith, subst}
+use Rattle.std.proofs.Common.{ℕ, suc, ◌≡◌, ◌<◌, if◌then◌else◌, Option, Bool, true, false, List, [], ◌∷◌, ◌++◌, length}
+use Rattle.std.proofs.Common.{map, get_or, position, Some, None, refl, sym, ap, ◌∙◌, arith, subst}
 use Rattle.std.specs.Prelude.{Vec, IsTrue, slice_get, unwrap_or}
 use Rattle.std.specs.Bool.{Decides}
 use Rattle.std.specs.Cmp.Lexicographic.{pointwise}
@@ -20,7 +21,8 @@ use Rattle.xc_list.specs.Output.{rotated_at, use_word}
 use Rattle.xc_list.specs.Listed.{is_body, is_known, stands_for}
 use Rattle.xc_list.specs.inner.Classes.{IsOfClass, IsClassOfBody, class_of, class_at}
 use Rattle.xc_list.specs.inner.OptionIndex.{HaveWords, IsReading, IsOptionIndex, key_uses}
-use Rattle.xc_list.proofs.CheckLemmas.Rotations.{DifferInItems, class-place, class-turned, turned-alike, differ-turned, turned-differ}
+use Rattle.xc_list.proofs.CheckLemmas.Rotations.{DifferInItems, class-place, class-turned, turned-alike, differ-turned}
+use Rattle.xc_list.proofs.CheckLemmas.Rotations.{turned-differ}
 use Rattle.xc_list.proofs.CheckLemmas.BodiesOfClasses.{All-turned, body-is, is-body, same_uses_by_words}
 use Rattle.xc_list.proofs.CheckLemmas.ListedNumbers.{any-in, in-any}
 use Rattle.xc_list.proofs.CheckLemmas.DecidedByClasses.{option-differs, option-known}
@@ -31,28 +33,43 @@ module _ (E : Use → Use → Bool) (decides : (a b : Use) → Decides (E a b) (
   same-uses us vs = slice_eq-Decides decides us vs (pointwise E us vs) refl
 
   -- uses that are found among the keys
-  pub found-key : (us : List Use) (keys : List (Vec Use Global)) (k : ℕ) → position (λ v. pointwise E us v.items) keys ≡ Some k → (k < length (key_uses keys)) × (slice_get (key_uses keys) k ≡ Some us)
+  pub found-key : (us : List Use) (keys : List (Vec Use Global)) (k : ℕ)
+      → position (λ v. pointwise E us v.items) keys ≡ Some k → (k < length (key_uses keys))
+      × (slice_get (key_uses keys) k ≡ Some us)
   found-key us keys k e =
-      let at = position-Some (pointwise E us) (key_uses keys) k [] (position-map (pointwise E us) (λ v. v.items) keys ∙ e) in
-      (at.0, slice_get-get_or (key_uses keys) k [] at.0 ∙ ap (λ x. Some x) (sym ((same-uses us (get_or (key_uses keys) k [])).0 at.1)))
+      let at =
+      position-Some (pointwise E us) (key_uses keys) k [] (position-map (pointwise E us) (λ v. v.items) keys ∙ e) in (
+        at.0,
+        slice_get-get_or (key_uses keys) k [] at.0
+            ∙ ap (λ x. Some x) (sym ((same-uses us (get_or (key_uses keys) k [])).0 at.1)),
+      )
 
-  absent : (us : List Use) (keys : List (Vec Use Global)) → position (λ v. pointwise E us v.items) keys ≡ None → list_any (pointwise E us) (key_uses keys) ≡ false
+  absent : (us : List Use) (keys : List (Vec Use Global)) → position (λ v. pointwise E us v.items) keys ≡ None
+      → list_any (pointwise E us) (key_uses keys) ≡ false
   absent us keys e = no-place (pointwise E us) (key_uses keys) (position-map (pointwise E us) (λ v. v.items) keys ∙ e)
 
   -- uses that aren't
-  pub lost-key : (us : List Use) (keys : List (Vec Use Global)) → position (λ v. pointwise E us v.items) keys ≡ None → IsIn (key_uses keys) us → ⊥
-  lost-key us keys e h = (let a = absent us keys e in let b = any-in (pointwise E us) (key_uses keys) us h ((same-uses us us).1 refl) in cc)
+  pub lost-key : (us : List Use) (keys : List (Vec Use Global)) → position (λ v. pointwise E us v.items) keys ≡ None
+      → IsIn (key_uses keys) us → ⊥
+  lost-key us keys e h =
+      (let a =
+      absent us keys e in let b = any-in (pointwise E us) (key_uses keys) us h ((same-uses us us).1 refl) in cc)
 
   -- the keys behind new ones
-  pub new-uses : (keys : List (Vec Use Global)) (k : Vec Use Global) (all : List (Vec Use Global)) (us : List Use) → position (λ v. pointwise E us v.items) keys ≡ None → k.items ≡ us
-      → all ≡ (if list_any (λ v. pointwise E k.items v.items) keys then keys else keys ++ k ∷ []) → key_uses all ≡ key_uses keys ++ us ∷ []
+  pub new-uses : (keys : List (Vec Use Global)) (k : Vec Use Global) (all : List (Vec Use Global)) (us : List Use)
+      → position (λ v. pointwise E us v.items) keys ≡ None → k.items ≡ us
+      → all ≡ (if list_any (λ v. pointwise E k.items v.items) keys then keys else keys ++ k ∷ [])
+      → key_uses all ≡ key_uses keys ++ us ∷ []
   new-uses keys k all us e f g =
       let out = no-place (λ v. pointwise E us v.items) keys e in
-      let here : list_any (λ v. pointwise E k.items v.items) keys ≡ false = ap (λ n. list_any (λ (v : Vec Use Global). pointwise E n v.items) keys) f ∙ out in
-      ap key_uses (g ∙ ap (λ b. if b then keys else keys ++ k ∷ []) here) ∙ map-snoc (λ (v : Vec Use Global). v.items) keys k ∙ ap (λ n. key_uses keys ++ n ∷ []) f
+      let here : list_any (λ v. pointwise E k.items v.items) keys ≡ false =
+      ap (λ n. list_any (λ (v : Vec Use Global). pointwise E n v.items) keys) f ∙ out in
+      ap key_uses (g ∙ ap (λ b. if b then keys else keys ++ k ∷ []) here)
+      ∙ map-snoc (λ (v : Vec Use Global). v.items) keys k ∙ ap (λ n. key_uses keys ++ n ∷ []) f
 
 -- an option that a body stands for
-known-as : (p : Named) → IsSound p → (words : List (List ℕ)) → is_known p words ≡ true → (o : ℕ) × IsOption p.puzzle o × (k : ℕ) × HaveWords p words (rotated_at k (uses_of p.puzzle o))
+known-as : (p : Named) → IsSound p → (words : List (List ℕ)) → is_known p words ≡ true → (o : ℕ) × IsOption p.puzzle o
+    × (k : ℕ) × HaveWords p words (rotated_at k (uses_of p.puzzle o))
 known-as p s words h =
     let x = in-any (is_body p words) p.puzzle.options h in
     let at = slice_get-in p.puzzle.options x.0 x.1 in
@@ -61,8 +78,15 @@ known-as p s words h =
     let within = slice_get_within p.puzzle.options at.0 x.0 at.1 in
     let known : IsOption p.puzzle o = (omega arith, omega (arith, within)) in
     let body : is_body p words (uses_of p.puzzle o) ≡ true = ap (is_body p words) uses ∙ x.2 in
-    let k = body-is p words (uses_of p.puzzle o) body in
-    (o, known, k.0, record { known = All-turned (IsKnownUse p) k.0 (uses_of p.puzzle o) (option-known p s o known); words_so = k.2 })
+    let k = body-is p words (uses_of p.puzzle o) body in (
+      o,
+      known,
+      k.0,
+      record {
+        known = All-turned (IsKnownUse p) k.0 (uses_of p.puzzle o) (option-known p s o known);
+        words_so = k.2;
+      },
+    )
 
 one_value : (o : Option (List Use)) (a b : List Use) → o ≡ Some a → o ≡ Some b → a ≡ b
 one_value o a b e f = let both : Some a ≡ Some b = sym e ∙ f in cc
@@ -70,37 +94,51 @@ one_value o a b e f = let both : Some a ≡ Some b = sym e ∙ f in cc
 module _ (p : Named) (keys : List (Vec Use Global)) (counts : List ℕ) (b : IsOptionIndex p keys counts) where
   -- a body that no uses have the words of
   pub no-uses : (words : List (List ℕ)) → ((us : List Use) → HaveWords p words us → ⊥) → is_known p words ≡ false
-  no-uses words none = not_false (is_known p words) (λ h. let o = known-as p b.sound words h in none (rotated_at o.2 (uses_of p.puzzle o.0)) o.3)
+  no-uses words none =
+      not_false (is_known p words)
+      (λ h. let o = known-as p b.sound words h in none (rotated_at o.2 (uses_of p.puzzle o.0)) o.3)
 
   -- a body of uses that are of no class
-  pub no-class : (words : List (List ℕ)) (us : List Use) → HaveWords p words us → (IsIn (key_uses keys) (class_of us) → ⊥) → is_known p words ≡ false
+  pub no-class : (words : List (List ℕ)) (us : List Use) → HaveWords p words us
+      → (IsIn (key_uses keys) (class_of us) → ⊥) → is_known p words ≡ false
   no-class words us have none = not_false (is_known p words) (λ h.
       let o = known-as p b.sound words h in
       let vs = uses_of p.puzzle o.0 in
-      let same : rotated_at o.2 vs ≡ us = same_uses_by_words p b.sound (rotated_at o.2 vs) us o.3.known have.known (o.3.words_so ∙ sym have.words_so) in
-      let class : class_at p.puzzle o.0 ≡ class_of us = sym (class-turned o.2 vs (option-differs p.puzzle b.sound.valid o.0 o.1)) ∙ ap class_of same in
-      none (subst (IsIn (key_uses keys)) class (in-contains (key_uses keys) (class_at p.puzzle o.0) (b.complete.whole o.0 o.1.0 o.1.1))))
+      let same : rotated_at o.2 vs ≡ us =
+      same_uses_by_words p b.sound (rotated_at o.2 vs) us o.3.known have.known (o.3.words_so ∙ sym have.words_so) in
+      let class : class_at p.puzzle o.0 ≡ class_of us =
+      sym (class-turned o.2 vs (option-differs p.puzzle b.sound.valid o.0 o.1)) ∙ ap class_of same in
+      none (subst (IsIn (key_uses keys)) class
+      (in-contains (key_uses keys) (class_at p.puzzle o.0) (b.complete.whole o.0 o.1.0 o.1.1))))
 
   -- a body of uses of this class
-  pub its-class : (words : List (List ℕ)) (us : List Use) (k : ℕ) → HaveWords p words us → 0 < length us → (k < length (key_uses keys)) × (slice_get (key_uses keys) k ≡ Some (class_of us))
+  pub its-class : (words : List (List ℕ)) (us : List Use) (k : ℕ) → HaveWords p words us → 0 < length us
+      → (k < length (key_uses keys)) × (slice_get (key_uses keys) k ≡ Some (class_of us))
       → IsClassOfBody (record { problem = p; classes = key_uses keys }) words (Some k)
   its-class words us k have l at = (at.0, λ o h. of_option o h)
     where
-      of_option : (o : ℕ) → IsOfClass (record { problem = p; classes = key_uses keys }) k o → IsTrue (stands_for p words o)
+      of_option : (o : ℕ) → IsOfClass (record { problem = p; classes = key_uses keys }) k o
+          → IsTrue (stands_for p words o)
       of_option o h =
           let vs = uses_of p.puzzle o in
           let differ = option-differs p.puzzle b.sound.valid o h.0 in
           let class = one_value (slice_get (key_uses keys) k) (class_of us) (class_of vs) at.1 h.1 in
           let x = class-place us in
           let y = class-place vs in
-          let own_differ : DifferInItems us = turned-differ x.0 us (subst (λ v. DifferInItems v) (sym y.1 ∙ sym class ∙ x.1) (differ-turned y.0 vs differ)) in
+          let own_differ : DifferInItems us =
+          turned-differ x.0 us (subst (λ v. DifferInItems v) (sym y.1 ∙ sym class ∙ x.1)
+          (differ-turned y.0 vs differ)) in
           let j = turned-alike us vs 0 own_differ differ class l in
           is-body p words vs j.0 j.1 (ap (map (use_word p)) (sym j.2 ∙ append-nil us) ∙ have.words_so)
 
   -- what a look-up of the class of a body's uses says
-  pub class-found : (E : Use → Use → Bool) → ((a b : Use) → Decides (E a b) (a ≡ b)) → (words : List (List ℕ)) (us class : List Use) (r : Option ℕ) → HaveWords p words us → 0 < length us → class ≡ class_of us
-      → r ≡ position (λ v. pointwise E class v.items) keys → IsClassOfBody (record { problem = p; classes = key_uses keys }) words r
-  class-found E decides words us class None have l e f = no-class words us have (λ h. lost-key E decides class keys (sym f) (subst (IsIn (key_uses keys)) (sym e) h))
+  pub class-found : (E : Use → Use → Bool) → ((a b : Use) → Decides (E a b) (a ≡ b))
+      → (words : List (List ℕ)) (us class : List Use) (r : Option ℕ) → HaveWords p words us → 0 < length us
+      → class ≡ class_of us
+      → r ≡ position (λ v. pointwise E class v.items) keys
+      → IsClassOfBody (record { problem = p; classes = key_uses keys }) words r
+  class-found E decides words us class None have l e f =
+      no-class words us have (λ h. lost-key E decides class keys (sym f) (subst (IsIn (key_uses keys)) (sym e) h))
   class-found E decides words us class (Some k) have l e f =
       let at = found-key E decides class keys k (sym f) in its-class words us k have l (at.0, at.1 ∙ ap (λ x. Some x) e)
 
@@ -110,10 +148,12 @@ some-uses p text [] h = (let w = words-some text in let e : [] ≡ words_in text
 some-uses p text (u ∷ us) h = omega arith
 
 -- what was read or wasn't
-pub was_read : (p : Named) (words : List (List ℕ)) (r : Bool) (us : List Use) → r ≡ true → IsReading p words r us → HaveWords p words us
+pub was_read : (p : Named) (words : List (List ℕ)) (r : Bool) (us : List Use) → r ≡ true → IsReading p words r us
+    → HaveWords p words us
 was_read p words true us e h = h
 was_read p words false us e h = cc
 
-pub not_read : (p : Named) (words : List (List ℕ)) (r : Bool) (us : List Use) → r ≡ false → IsReading p words r us → (vs : List Use) → HaveWords p words vs → ⊥
+pub not_read : (p : Named) (words : List (List ℕ)) (r : Bool) (us : List Use) → r ≡ false → IsReading p words r us
+    → (vs : List Use) → HaveWords p words vs → ⊥
 not_read p words true us e h = cc
 not_read p words false us e h = h

@@ -1,5 +1,7 @@
 -- What uses add to the counts of their items.
-use Rattle.std.proofs.Common.{ℕ, zero, suc, ◌≡◌, ◌≢◌, ◌+◌, ◌-◌, ◌<◌, ◌≤◌, Bool, true, false, cond, ◌==◌, List, [], ◌∷◌, ◌++◌, length, get_or, set, take, refl, sym, ap, ap₂, ◌∙◌, arith, subst, eqb-true, ne_eqb, eq-eqb}
+use Rattle.std.proofs.Common.{ℕ, zero, suc, ◌≡◌, ◌≢◌, ◌+◌, ◌-◌, ◌<◌, ◌≤◌, Bool, true, false, cond, ◌==◌, List, [], ◌∷◌}
+use Rattle.std.proofs.Common.{◌++◌, length, get_or, set, take, refl, sym, ap, ap₂, ◌∙◌, arith, subst, eqb-true, ne_eqb}
+use Rattle.std.proofs.Common.{eq-eqb}
 use Rattle.std.specs.List.{AllByRecursion}
 use Rattle.std.proofs.lemmas.List.{get_or-set_same, get_or-set_other, length-set, take_more}
 use Rattle.xc_input.specs.declared.problem.Use.{Use}
@@ -35,7 +37,8 @@ pub length-lowered : (ks ns : List ℕ) → length (lowered ks ns) ≡ length ns
 length-lowered [] ns = refl
 length-lowered (k ∷ ks) ns = length-lowered ks (set ns k 0) ∙ length-set ns k 0
 
-pub raised-at : (ks ns : List ℕ) (k : ℕ) → k < length ns → get_or (raised ks ns) k 0 ≡ get_or ns k 0 + counted (λ j. j == k) ks
+pub raised-at : (ks ns : List ℕ) (k : ℕ) → k < length ns
+    → get_or (raised ks ns) k 0 ≡ get_or ns k 0 + counted (λ j. j == k) ks
 raised-at [] ns k l = omega arith
 raised-at (j ∷ ks) ns k l =
     let later = raised-at ks (set ns j (get_or ns j 0 + 1)) k (omega (arith, l, length-set ns j (get_or ns j 0 + 1))) in
@@ -44,7 +47,8 @@ raised-at (j ∷ ks) ns k l =
     here : (v : Bool) → (j == k) ≡ v → get_or (set ns j (get_or ns j 0 + 1)) k 0 ≡ get_or ns k 0 + cond (j == k) 1 0
     here true q =
         let at : j ≡ k = eqb-true j k q in
-        let value : get_or (set ns k (get_or ns k 0 + 1)) k 0 ≡ get_or ns k 0 + 1 = get_or-set_same ns k (get_or ns k 0 + 1) 0 l in
+        let value : get_or (set ns k (get_or ns k 0 + 1)) k 0 ≡ get_or ns k 0 + 1 =
+        get_or-set_same ns k (get_or ns k 0 + 1) 0 l in
         rw q (subst (λ i. get_or (set ns i (get_or ns i 0 + 1)) k 0 ≡ get_or ns k 0 + 1) (sym at) value)
     here false q =
         let apart : k ≢ j = λ z. (let t = eq-eqb j k (sym z) in cc) in
@@ -53,14 +57,16 @@ raised-at (j ∷ ks) ns k l =
 -- ---- uses
 
 pub added-append : (us vs : List Use) (ts : List ℕ) → added (us ++ vs) ts ≡ added vs (added us ts)
-added-append us vs ts = ap (λ ks. raised ks ts) (map-append (λ u. u.item - 1) us vs) ∙ raised-append (item_places us) (item_places vs) ts
+added-append us vs ts =
+    ap (λ ks. raised ks ts) (map-append (λ u. u.item - 1) us vs) ∙ raised-append (item_places us) (item_places vs) ts
 
 pub coloured-append : (us vs : List Use) (cs : List ℕ) → coloured (us ++ vs) cs ≡ coloured vs (coloured us cs)
 coloured-append [] vs cs = refl
 coloured-append (u ∷ us) vs cs = coloured-append us vs (set cs (u.item - 1) u.colour)
 
 pub cleared-append : (us vs : List Use) (ts : List ℕ) → cleared (us ++ vs) ts ≡ cleared vs (cleared us ts)
-cleared-append us vs ts = ap (λ ks. lowered ks ts) (map-append (λ u. u.item - 1) us vs) ∙ lowered-append (item_places us) (item_places vs) ts
+cleared-append us vs ts =
+    ap (λ ks. lowered ks ts) (map-append (λ u. u.item - 1) us vs) ∙ lowered-append (item_places us) (item_places vs) ts
 
 pub length-added : (us : List Use) (ts : List ℕ) → length (added us ts) ≡ length ts
 length-added us ts = length-raised (item_places us) ts
@@ -80,8 +86,10 @@ held-places n (u ∷ us) k a =
     ap₂ (λ t m. cond t 1 0 + m) same (held-places n us k a.1)
 
 -- at the place of each item
-pub added-at : (n : ℕ) (us : List Use) (ts : List ℕ) (k : ℕ) → AreItems n us → n ≡ length ts → k < n → get_or (added us ts) k 0 ≡ get_or ts k 0 + held (suc k) us
-added-at n us ts k a e l = raised-at (item_places us) ts k (omega (arith, e, l)) ∙ ap (λ m. get_or ts k 0 + m) (held-places n us k a)
+pub added-at : (n : ℕ) (us : List Use) (ts : List ℕ) (k : ℕ) → AreItems n us → n ≡ length ts → k < n
+    → get_or (added us ts) k 0 ≡ get_or ts k 0 + held (suc k) us
+added-at n us ts k a e l =
+    raised-at (item_places us) ts k (omega (arith, e, l)) ∙ ap (λ m. get_or ts k 0 + m) (held-places n us k a)
 
 -- ---- different items
 
@@ -102,7 +110,8 @@ held_once i (u ∷ us) d = by_case (held_once i us d.1) (u.item == i) refl
     by_case later false q = rw q (omega (arith, later))
 
 -- the item of a use isn't held by those before it
-pub not_before : (us : List Use) (k : ℕ) (d : Use) → DifferInItems us → k < length us → held (get_or us k d).item (take k us) ≡ 0
+pub not_before : (us : List Use) (k : ℕ) (d : Use) → DifferInItems us → k < length us
+    → held (get_or us k d).item (take k us) ≡ 0
 not_before [] k d a l = absurd (omega (arith, l))
 not_before (u ∷ us) zero d a l = refl
 not_before (u ∷ us) (suc k) d a l =
@@ -121,8 +130,11 @@ each_take P (suc n) [] a = tt
 each_take P (suc n) (x ∷ xs) a = (a.0, each_take P n xs a.1)
 
 -- one use more
-pub added_more : (us : List Use) (k : ℕ) (d : Use) (ts : List ℕ) → k < length us → added (take (k + 1) us) ts ≡ added (get_or us k d ∷ []) (added (take k us) ts)
+pub added_more : (us : List Use) (k : ℕ) (d : Use) (ts : List ℕ) → k < length us
+    → added (take (k + 1) us) ts ≡ added (get_or us k d ∷ []) (added (take k us) ts)
 added_more us k d ts l = ap (λ vs. added vs ts) (take_more us k d l) ∙ added-append (take k us) (get_or us k d ∷ []) ts
 
-pub coloured_more : (us : List Use) (k : ℕ) (d : Use) (cs : List ℕ) → k < length us → coloured (take (k + 1) us) cs ≡ coloured (get_or us k d ∷ []) (coloured (take k us) cs)
-coloured_more us k d cs l = ap (λ vs. coloured vs cs) (take_more us k d l) ∙ coloured-append (take k us) (get_or us k d ∷ []) cs
+pub coloured_more : (us : List Use) (k : ℕ) (d : Use) (cs : List ℕ) → k < length us
+    → coloured (take (k + 1) us) cs ≡ coloured (get_or us k d ∷ []) (coloured (take k us) cs)
+coloured_more us k d cs l =
+    ap (λ vs. coloured vs cs) (take_more us k d l) ∙ coloured-append (take k us) (get_or us k d ∷ []) cs

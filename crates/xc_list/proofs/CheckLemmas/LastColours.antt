@@ -1,5 +1,7 @@
 -- The colours that options give an item, in turn.
-use Rattle.std.proofs.Common.{ℕ, zero, suc, ◌≡◌, ◌≢◌, ◌+◌, ◌-◌, ◌<◌, ◌⊎◌, inl, inr, Bool, true, false, cond, ◌==◌, List, [], ◌∷◌, ◌++◌, length, get_or, set, Some, None, refl, sym, ap, ap₂, ◌∙◌, arith, subst, eqb-true, ne_eqb, eq-eqb}
+use Rattle.std.proofs.Common.{ℕ, zero, suc, ◌≡◌, ◌≢◌, ◌+◌, ◌-◌, ◌<◌, ◌⊎◌, inl, inr, Bool, true, false, cond, ◌==◌, List}
+use Rattle.std.proofs.Common.{[], ◌∷◌, ◌++◌, length, get_or, set, Some, None, refl, sym, ap, ap₂, ◌∙◌, arith, subst}
+use Rattle.std.proofs.Common.{eqb-true, ne_eqb, eq-eqb}
 use Rattle.std.specs.Prelude.{Option, slice_get, is_some}
 use Rattle.std.specs.List.{AllByRecursion, AllZip}
 use Rattle.std.proofs.lemmas.List.{get_or-set_same, get_or-set_other, length-set}
@@ -36,28 +38,37 @@ last_or d (c ∷ cs) = last_or c cs
 
 pub length-given : (i : ℕ) (us : List Use) → length (given i us) ≡ held i us
 length-given i [] = refl
-length-given i (u ∷ us) = elim (u.item == i) as (λ b. length (cond b (u.colour ∷ given i us) (given i us)) ≡ cond b 1 0 + held i us) [
-  | true ↦ omega (arith, length-given i us)
-  | false ↦ omega (arith, length-given i us)
-]
+length-given i (u ∷ us) =
+    elim (u.item == i) as (λ b. length (cond b (u.colour ∷ given i us) (given i us)) ≡ cond b 1 0 + held i us) [
+      | true ↦ omega (arith, length-given i us)
+      | false ↦ omega (arith, length-given i us)
+    ]
 
 given-append : (i : ℕ) (us vs : List Use) → given i (us ++ vs) ≡ given i us ++ given i vs
 given-append i [] vs = refl
-given-append i (u ∷ us) vs = elim (u.item == i) as (λ b. cond b (u.colour ∷ given i (us ++ vs)) (given i (us ++ vs)) ≡ cond b (u.colour ∷ given i us) (given i us) ++ given i vs) [
-  | true ↦ ap (λ cs. u.colour ∷ cs) (given-append i us vs)
-  | false ↦ given-append i us vs
-]
+given-append i (u ∷ us) vs =
+    elim (u.item == i) as (λ b. cond b (u.colour ∷ given i (us ++ vs)) (given i (us ++ vs)) ≡ cond b
+    (u.colour ∷ given i us) (given i us) ++ given i vs) [
+      | true ↦ ap (λ cs. u.colour ∷ cs) (given-append i us vs)
+      | false ↦ given-append i us vs
+    ]
 
 -- the colour that was given last
-pub coloured-at : (n : ℕ) (us : List Use) (cs : List ℕ) (k : ℕ) → AreItems n us → n ≡ length cs → k < n → get_or (coloured us cs) k 0 ≡ last_or (get_or cs k 0) (given (suc k) us)
+pub coloured-at : (n : ℕ) (us : List Use) (cs : List ℕ) (k : ℕ) → AreItems n us → n ≡ length cs → k < n
+    → get_or (coloured us cs) k 0 ≡ last_or (get_or cs k 0) (given (suc k) us)
 coloured-at n [] cs k a e l = refl
 coloured-at n (u ∷ us) cs k a e l =
-    coloured-at n us (set cs (u.item - 1) u.colour) k a.1 (e ∙ sym (length-set cs (u.item - 1) u.colour)) l ∙ here (u.item == suc k) refl
+    coloured-at n us (set cs (u.item - 1) u.colour) k a.1 (e ∙ sym (length-set cs (u.item - 1) u.colour)) l
+    ∙ here (u.item == suc k) refl
   where
-    here : (v : Bool) → (u.item == suc k) ≡ v → last_or (get_or (set cs (u.item - 1) u.colour) k 0) (given (suc k) us) ≡ last_or (get_or cs k 0) (cond (u.item == suc k) (u.colour ∷ given (suc k) us) (given (suc k) us))
+    here : (v : Bool) → (u.item == suc k) ≡ v
+        → last_or (get_or (set cs (u.item - 1) u.colour) k 0) (given (suc k) us) ≡ last_or (get_or cs k 0)
+        (cond (u.item == suc k) (u.colour ∷ given (suc k) us) (given (suc k) us))
     here true q =
         let at : u.item - 1 ≡ k = omega (arith, eqb-true u.item (suc k) q) in
-        let value : get_or (set cs (u.item - 1) u.colour) k 0 ≡ u.colour = subst (λ i. get_or (set cs i u.colour) k 0 ≡ u.colour) (sym at) (get_or-set_same cs k u.colour 0 (omega (arith, l, e))) in
+        let value : get_or (set cs (u.item - 1) u.colour) k 0 ≡ u.colour =
+        subst (λ i. get_or (set cs i u.colour) k 0 ≡ u.colour) (sym at)
+        (get_or-set_same cs k u.colour 0 (omega (arith, l, e))) in
         rw q (ap (λ d. last_or d (given (suc k) us)) value)
     here false q =
         let ne : u.item ≢ suc k = λ z. (let t = eq-eqb u.item (suc k) z in cc) in
@@ -78,7 +89,8 @@ given_once i [] d = refl
 given_once i (u ∷ us) d = by_case (given_once i us d.1) (u.item == i) refl
   where
     by_case : given i us ≡ with_some (colour_in us i) [] → (v : Bool) → (u.item == i) ≡ v →
-        cond (u.item == i) (u.colour ∷ given i us) (given i us) ≡ with_some (cond (u.item == i) (Some u.colour) (colour_in us i)) []
+        cond (u.item == i) (u.colour ∷ given i us) (given i us) ≡ with_some
+        (cond (u.item == i) (Some u.colour) (colour_in us i)) []
     by_case later true q =
         let none = given_none i us (subst (λ j. AllByRecursion (λ v. j ≢ v.item) us) (eqb-true u.item i q) d.0) in
         rw q (ap (λ cs. u.colour ∷ cs) none)
@@ -88,7 +100,8 @@ with_some-append : (c : Option ℕ) (cs : List ℕ) → with_some c [] ++ cs ≡
 with_some-append None cs = refl
 with_some-append (Some c) cs = refl
 
-pub given-gathered : (i : ℕ) (b : Classes) (ks reps : List ℕ) → IsSound b.problem → AllZip (IsOfClass b) ks reps → given i (uses_in b.classes ks) ≡ gathered b.problem.puzzle i reps
+pub given-gathered : (i : ℕ) (b : Classes) (ks reps : List ℕ) → IsSound b.problem → AllZip (IsOfClass b) ks reps
+    → given i (uses_in b.classes ks) ≡ gathered b.problem.puzzle i reps
 given-gathered i b [] [] s z = refl
 given-gathered i b [] (o ∷ reps) s z = absurd z
 given-gathered i b (k ∷ ks) [] s z = absurd z
@@ -97,10 +110,14 @@ given-gathered i b (k ∷ ks) (o ∷ reps) s z =
     let differ = option-differs p s.valid o z.0.0 in
     let is : uses_at b.classes k ≡ class_at p o = slice_get-at b.classes k (class_at p o) [] z.0.1 in
     let colour = colour-class i (uses_of p o) differ in
-    let here : given i (uses_at b.classes k) ≡ with_some (colour_in (uses_of p o) i) [] = ap (given i) is ∙ class_once p o i differ ∙ ap (λ c. with_some c []) colour in
-    given-append i (uses_at b.classes k) (uses_in b.classes ks) ∙ ap₂ (λ x y. x ++ y) here (given-gathered i b ks reps s z.1) ∙ with_some-append (colour_in (uses_of p o) i) (gathered p i reps)
+    let here : given i (uses_at b.classes k) ≡ with_some (colour_in (uses_of p o) i) [] =
+    ap (given i) is ∙ class_once p o i differ ∙ ap (λ c. with_some c []) colour in
+    given-append i (uses_at b.classes k) (uses_in b.classes ks)
+    ∙ ap₂ (λ x y. x ++ y) here (given-gathered i b ks reps s z.1)
+    ∙ with_some-append (colour_in (uses_of p o) i) (gathered p i reps)
   where
-    class_once : (p : Puzzle) (o i : ℕ) → DifferInItems (uses_of p o) → given i (class_at p o) ≡ with_some (colour_in (class_at p o) i) []
+    class_once : (p : Puzzle) (o i : ℕ) → DifferInItems (uses_of p o)
+        → given i (class_at p o) ≡ with_some (colour_in (class_at p o) i) []
     class_once p o i d = given_once i (class_at p o) (class-differs (uses_of p o) d)
 
 length-with_some : (c : Option ℕ) (cs : List ℕ) → length (with_some c cs) ≡ cond (is_some c) 1 0 + length cs
@@ -117,35 +134,46 @@ length-gathered p i reps = by_count reps ∙ sym (is_counted (λ o. is_some (col
 -- ---- each colour
 
 -- what holds of the colour of each use of item i
-pub given-each : (P : ℕ → Type 0) (i : ℕ) (us : List Use) → AllByRecursion (λ u. u.item ≡ i → P u.colour) us → AllByRecursion P (given i us)
+pub given-each : (P : ℕ → Type 0) (i : ℕ) (us : List Use) → AllByRecursion (λ u. u.item ≡ i → P u.colour) us
+    → AllByRecursion P (given i us)
 given-each P i [] a = tt
 given-each P i (u ∷ us) a = by_case (given-each P i us a.1) (u.item == i) refl
   where
-    by_case : AllByRecursion P (given i us) → (v : Bool) → (u.item == i) ≡ v → AllByRecursion P (cond (u.item == i) (u.colour ∷ given i us) (given i us))
+    by_case : AllByRecursion P (given i us) → (v : Bool) → (u.item == i) ≡ v
+        → AllByRecursion P (cond (u.item == i) (u.colour ∷ given i us) (given i us))
     by_case later true q = rw q (a.0 (eqb-true u.item i q), later)
     by_case later false q = rw q later
 
-pub each-given : (P : ℕ → Type 0) (i : ℕ) (us : List Use) → AllByRecursion P (given i us) → AllByRecursion (λ u. u.item ≡ i → P u.colour) us
+pub each-given : (P : ℕ → Type 0) (i : ℕ) (us : List Use) → AllByRecursion P (given i us)
+    → AllByRecursion (λ u. u.item ≡ i → P u.colour) us
 each-given P i [] a = tt
 each-given P i (u ∷ us) a = by_case (u.item == i) refl a (λ h. each-given P i us h)
   where
-    by_case : (v : Bool) → (u.item == i) ≡ v → AllByRecursion P (cond (u.item == i) (u.colour ∷ given i us) (given i us)) →
-        (AllByRecursion P (given i us) → AllByRecursion (λ u. u.item ≡ i → P u.colour) us) → AllByRecursion (λ u. u.item ≡ i → P u.colour) (u ∷ us)
-    by_case true q h later = let parts : AllByRecursion P (u.colour ∷ given i us) = (rw q at h) in ((λ e. parts.0), later parts.1)
+    by_case : (v : Bool) → (u.item == i) ≡ v
+        → AllByRecursion P (cond (u.item == i) (u.colour ∷ given i us) (given i us)) →
+        (AllByRecursion P (given i us) → AllByRecursion (λ u. u.item ≡ i → P u.colour) us)
+        → AllByRecursion (λ u. u.item ≡ i → P u.colour) (u ∷ us)
+    by_case true q h later =
+        let parts : AllByRecursion P (u.colour ∷ given i us) = (rw q at h) in ((λ e. parts.0), later parts.1)
     by_case false q h later =
         let rest : AllByRecursion P (given i us) = (rw q at h) in
         ((λ e. absurd (let t = eq-eqb u.item i e in cc)), later rest)
 
 -- what holds of the colour of each option that holds item i
-gathered-each : (P : ℕ → Type 0) (p : Puzzle) (i : ℕ) (reps : List ℕ) → ((k o c : ℕ) → slice_get reps k ≡ Some o → colour_in (uses_of p o) i ≡ Some c → P c) → AllByRecursion P (gathered p i reps)
+gathered-each : (P : ℕ → Type 0) (p : Puzzle) (i : ℕ) (reps : List ℕ)
+    → ((k o c : ℕ) → slice_get reps k ≡ Some o → colour_in (uses_of p o) i ≡ Some c → P c)
+    → AllByRecursion P (gathered p i reps)
 gathered-each P p i [] h = tt
-gathered-each P p i (o ∷ reps) h = by_case (gathered-each P p i reps (λ k q c e f. h (suc k) q c e f)) (colour_in (uses_of p o) i) refl
+gathered-each P p i (o ∷ reps) h =
+    by_case (gathered-each P p i reps (λ k q c e f. h (suc k) q c e f)) (colour_in (uses_of p o) i) refl
   where
-    by_case : AllByRecursion P (gathered p i reps) → (v : Option ℕ) → colour_in (uses_of p o) i ≡ v → AllByRecursion P (with_some v (gathered p i reps))
+    by_case : AllByRecursion P (gathered p i reps) → (v : Option ℕ) → colour_in (uses_of p o) i ≡ v
+        → AllByRecursion P (with_some v (gathered p i reps))
     by_case later None q = later
     by_case later (Some c) q = (h 0 o c refl q, later)
 
-gathered-at : (P : ℕ → Type 0) (p : Puzzle) (i : ℕ) (reps : List ℕ) (k o c : ℕ) → AllByRecursion P (gathered p i reps) → slice_get reps k ≡ Some o → colour_in (uses_of p o) i ≡ Some c → P c
+gathered-at : (P : ℕ → Type 0) (p : Puzzle) (i : ℕ) (reps : List ℕ) (k o c : ℕ) → AllByRecursion P (gathered p i reps)
+    → slice_get reps k ≡ Some o → colour_in (uses_of p o) i ≡ Some c → P c
 gathered-at P p i [] k o c a e f = cc
 gathered-at P p i (q ∷ reps) zero o c a e f =
     let same : q ≡ o = cc in
@@ -164,15 +192,20 @@ Agree c d = (c ≡ d) × (0 < c)
 
 -- at each two places the colours of item i agree
 abbrev pub AgreeAt : Puzzle → ℕ → List ℕ → Type 0
-AgreeAt p i reps = (j k a b c d : ℕ) → j < k → slice_get reps j ≡ Some a → slice_get reps k ≡ Some b → colour_in (uses_of p a) i ≡ Some c → colour_in (uses_of p b) i ≡ Some d → Agree c d
+AgreeAt p i reps = (j k a b c d : ℕ) → j < k → slice_get reps j ≡ Some a → slice_get reps k ≡ Some b
+    → colour_in (uses_of p a) i ≡ Some c → colour_in (uses_of p b) i ≡ Some d → Agree c d
 
 pub gathered-agree : (p : Puzzle) (i : ℕ) (reps : List ℕ) → AgreeAt p i reps → EachTwo Agree (gathered p i reps)
 gathered-agree p i [] h = tt
-gathered-agree p i (o ∷ reps) h = by_case (gathered-agree p i reps (λ j k a b c d l e f x y. h (suc j) (suc k) a b c d (omega (arith, l)) e f x y)) (colour_in (uses_of p o) i) refl
+gathered-agree p i (o ∷ reps) h =
+    by_case (gathered-agree p i reps (λ j k a b c d l e f x y. h (suc j) (suc k) a b c d (omega (arith, l)) e f x y))
+    (colour_in (uses_of p o) i) refl
   where
-    by_case : EachTwo Agree (gathered p i reps) → (v : Option ℕ) → colour_in (uses_of p o) i ≡ v → EachTwo Agree (with_some v (gathered p i reps))
+    by_case : EachTwo Agree (gathered p i reps) → (v : Option ℕ) → colour_in (uses_of p o) i ≡ v
+        → EachTwo Agree (with_some v (gathered p i reps))
     by_case later None q = later
-    by_case later (Some c) q = (gathered-each (Agree c) p i reps (λ k b d e f. h 0 (suc k) o b c d (omega arith) refl e q f), later)
+    by_case later (Some c) q =
+        (gathered-each (Agree c) p i reps (λ k b d e f. h 0 (suc k) o b c d (omega arith) refl e q f), later)
 
 pub agree-gathered : (p : Puzzle) (i : ℕ) (reps : List ℕ) → EachTwo Agree (gathered p i reps) → AgreeAt p i reps
 agree-gathered p i [] h j k a b c d l e f x y = cc
@@ -223,11 +256,13 @@ last-agree d (x ∷ y ∷ cs) h = each_two (x ∷ y ∷ cs) (all (x ∷ y ∷ cs
     one c (inl e) = absurd (omega (arith, e))
     one c (inr e) = e
 
-    all : (ds : List ℕ) → AllByRecursion (IsLast d (x ∷ y ∷ cs)) ds → AllByRecursion (λ c. (0 < c) × (c ≡ last_or d (x ∷ y ∷ cs))) ds
+    all : (ds : List ℕ) → AllByRecursion (IsLast d (x ∷ y ∷ cs)) ds
+        → AllByRecursion (λ c. (0 < c) × (c ≡ last_or d (x ∷ y ∷ cs))) ds
     all [] a = tt
     all (c ∷ ds) a = (one c a.0, all ds a.1)
 
-    row : (c : ℕ) → (0 < c) × (c ≡ last_or d (x ∷ y ∷ cs)) → (ds : List ℕ) → AllByRecursion (λ c. (0 < c) × (c ≡ last_or d (x ∷ y ∷ cs))) ds → AllByRecursion (Agree c) ds
+    row : (c : ℕ) → (0 < c) × (c ≡ last_or d (x ∷ y ∷ cs)) → (ds : List ℕ)
+        → AllByRecursion (λ c. (0 < c) × (c ≡ last_or d (x ∷ y ∷ cs))) ds → AllByRecursion (Agree c) ds
     row c g [] a = tt
     row c g (e ∷ ds) a = ((g.1 ∙ sym a.0.1, g.0), row c g ds a.1)
 

@@ -1,5 +1,6 @@
 -- Numbers in a row, and what stands at a number.
-use Rattle.std.proofs.Common.{ℕ, zero, suc, ◌≡◌, ◌≢◌, ◌⊎◌, ◌+◌, ◌<◌, ◌≤◌, Bool, true, false, ◌||◌, List, [], ◌∷◌, ◌++◌, length, get_or, Some, refl, sym, ap, ◌∙◌, arith, inl, inr}
+use Rattle.std.proofs.Common.{ℕ, zero, suc, ◌≡◌, ◌≢◌, ◌⊎◌, ◌+◌, ◌<◌, ◌≤◌, Bool, true, false, ◌||◌, List, [], ◌∷◌, ◌++◌}
+use Rattle.std.proofs.Common.{length, get_or, Some, refl, sym, ap, ◌∙◌, arith, inl, inr}
 use Rattle.std.specs.Prelude.{slice_get, unwrap_or, All, AllPairs}
 use Rattle.std.specs.List.{list_any, range_with_len}
 use Rattle.std.proofs.lemmas.Bool.{cases_lt, cases_eq}
@@ -19,15 +20,25 @@ in-range a (suc n) k (inr h) = let later = in-range (a + 1) n k h in (omega (ari
 
 pub range-in : (a n k : ℕ) → a ≤ k → k < a + n → IsIn (range_with_len a n) k
 range-in a zero k l m = absurd (omega (arith, l, m))
-range-in a (suc n) k l m = elim (cases_eq a k) [ inl e ↦ inl e | inr ne ↦ inr (range-in (a + 1) n k (omega (arith, l, ne)) (omega (arith, m))) ]
+range-in a (suc n) k l m =
+    elim (cases_eq a k) [
+      | inl e ↦ inl e
+      | inr ne ↦ inr
+          (range-in (a + 1) n k (omega (arith, l, ne)) (omega (arith, m)))
+    ]
 
 pub range-apart : (a n : ℕ) → EachTwo (λ j k. j ≢ k) (range_with_len a n)
 range-apart a zero = tt
-range-apart a (suc n) = (each_from (λ k. a ≢ k) (range_with_len (a + 1) n) (λ k h e. let l = in-range (a + 1) n k h in omega (arith, l.0, e)), range-apart (a + 1) n)
+range-apart a (suc n) = (
+  each_from (λ k. a ≢ k) (range_with_len (a + 1) n)
+      (λ k h e. let l = in-range (a + 1) n k h in omega (arith, l.0, e)),
+  range-apart (a + 1) n,
+)
 
 pub range-more : (a n : ℕ) → range_with_len a (suc n) ≡ range_with_len a n ++ (a + n) ∷ []
 range-more a zero = let e : a ≡ a + 0 = omega arith in ap (λ k. k ∷ []) e
-range-more a (suc n) = let e : (a + 1) + n ≡ a + suc n = omega arith in ap (λ r. a ∷ r) (range-more (a + 1) n ∙ ap (λ k. range_with_len (a + 1) n ++ k ∷ []) e)
+range-more a (suc n) = let e : (a + 1) + n ≡ a + suc n = omega arith in
+    ap (λ r. a ∷ r) (range-more (a + 1) n ∙ ap (λ k. range_with_len (a + 1) n ++ k ∷ []) e)
 
 pub length-range : (a n : ℕ) → length (range_with_len a n) ≡ n
 length-range a zero = refl
@@ -38,7 +49,8 @@ length-range a (suc n) = ap suc (length-range (a + 1) n)
 pub any-in : {X : Type 0} (p : X → Bool) (xs : List X) (x : X) → IsIn xs x → p x ≡ true → list_any p xs ≡ true
 any-in p [] x h e = absurd h
 any-in p (y ∷ ys) x (inl q) e = let f : p y ≡ true = ap p q ∙ e in ap (λ t. t || list_any p ys) f
-any-in p (y ∷ ys) x (inr h) e = let later = any-in p ys x h e in elim (p y) as (λ t. (t || list_any p ys) ≡ true) [ true ↦ refl | false ↦ later ]
+any-in p (y ∷ ys) x (inr h) e =
+    let later = any-in p ys x h e in elim (p y) as (λ t. (t || list_any p ys) ≡ true) [ true ↦ refl | false ↦ later ]
 
 pub in-any : {X : Type 0} (p : X → Bool) (xs : List X) → list_any p xs ≡ true → (x : X) × IsIn xs x × (p x ≡ true)
 in-any p [] h = cc
@@ -51,16 +63,20 @@ in-any {X} p (x ∷ xs) h =
 
 -- ---- what stands at a number
 
-pub numbered_some : {X : Type 0} (xs : List X) (i : ℕ) (d : X) → 1 ≤ i → i ≤ length xs → numbered_get xs i ≡ Some (unwrap_or (numbered_get xs i) d)
+pub numbered_some : {X : Type 0} (xs : List X) (i : ℕ) (d : X) → 1 ≤ i → i ≤ length xs
+    → numbered_get xs i ≡ Some (unwrap_or (numbered_get xs i) d)
 numbered_some xs zero d h l = absurd (omega (arith, h))
-numbered_some xs (suc k) d h l = slice_get-get_or xs k d (omega (arith, l)) ∙ ap (λ x. Some x) (sym (unwrap_or-slice_get xs k d))
+numbered_some xs (suc k) d h l =
+    slice_get-get_or xs k d (omega (arith, l)) ∙ ap (λ x. Some x) (sym (unwrap_or-slice_get xs k d))
 
 -- what holds of all texts holds of the one at a number
-pub at_bytes : (P : List ℕ → Type 0) (texts : List (List ℕ)) (i : ℕ) → 1 ≤ i → i ≤ length texts → All P texts → P (bytes_at texts i)
+pub at_bytes : (P : List ℕ → Type 0) (texts : List (List ℕ)) (i : ℕ) → 1 ≤ i → i ≤ length texts → All P texts
+    → P (bytes_at texts i)
 at_bytes P texts i h l all = at_number P texts i (bytes_at texts i) all (numbered_some texts i [] h l)
 
 -- an element stands at one place where none stands twice
-pub one_place : {X : Type 0} (xs : List X) (j k : ℕ) (x : X) → AllPairs (λ a b. a ≢ b) xs → slice_get xs j ≡ Some x → slice_get xs k ≡ Some x → j ≡ k
+pub one_place : {X : Type 0} (xs : List X) (j k : ℕ) (x : X) → AllPairs (λ a b. a ≢ b) xs → slice_get xs j ≡ Some x
+    → slice_get xs k ≡ Some x → j ≡ k
 one_place xs j k x apart e f = by_order (cases_lt j k) (cases_lt k j)
   where
     at : (i : ℕ) → slice_get xs i ≡ Some x → get_or xs i x ≡ x
@@ -71,7 +87,8 @@ one_place xs j k x apart e f = by_order (cases_lt j k) (cases_lt k j)
     by_order (inr l) (inl m) = absurd (apart k j x m (slice_get_within xs j x e) (at k f ∙ sym (at j e)))
     by_order (inr l) (inr m) = omega (arith, l, m)
 
-pub one_number : {X : Type 0} (xs : List X) (i j : ℕ) (x : X) → AllPairs (λ a b. a ≢ b) xs → numbered_get xs i ≡ Some x → numbered_get xs j ≡ Some x → i ≡ j
+pub one_number : {X : Type 0} (xs : List X) (i j : ℕ) (x : X) → AllPairs (λ a b. a ≢ b) xs → numbered_get xs i ≡ Some x
+    → numbered_get xs j ≡ Some x → i ≡ j
 one_number xs zero j x apart e f = cc
 one_number xs (suc i) zero x apart e f = cc
 one_number xs (suc i) (suc j) x apart e f = ap suc (one_place xs i j x apart e f)

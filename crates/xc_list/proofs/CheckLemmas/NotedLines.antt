@@ -1,5 +1,6 @@
 -- Lines that were met, and their classes.
-use Rattle.std.proofs.Common.{ℕ, ◌≡◌, ◌<◌, ◌∙◌, length, List, Option, Some, None, get_or, eqb-true, eq-eqb, ◌==◌, true, refl, sym, subst, inl, inr}
+use Rattle.std.proofs.Common.{ℕ, ◌≡◌, ◌<◌, ◌∙◌, length, List, Option, Some, None, get_or, eqb-true, eq-eqb, ◌==◌, true}
+use Rattle.std.proofs.Common.{refl, sym, subst, inl, inr}
 use Rattle.std.specs.Prelude.{All, IfSome}
 use Rattle.std.proofs.lemmas.List.Elements.{All-set, All-contains}
 use Rattle.std.proofs.lemmas.Slice.Eq.{slice_eq-Decides}
@@ -9,14 +10,20 @@ use Rattle.xc_list.specs.inner.Classes.{Classes}
 use Rattle.xc_list.specs.inner.SeenLines.{IsFoundIn, IsNotedIn, IsClassOfLine, IsRightly}
 
 -- at a line's own class
-of_class : (b : Classes) (l : SeenLine) (line : List ℕ) (o : Option ℕ) (class : ℕ) → o ≡ Some class → l.line.items ≡ line → IfSome o (IsClassOfLine b l.line.items) → IsClassOfLine b line class
+of_class : (b : Classes) (l : SeenLine) (line : List ℕ) (o : Option ℕ) (class : ℕ) → o ≡ Some class
+    → l.line.items ≡ line → IfSome o (IsClassOfLine b l.line.items) → IsClassOfLine b line class
 of_class b l line None class e f h = cc
-of_class b l line (Some k) class e f h = (let same : k ≡ class = cc in subst (λ x. IsClassOfLine b x class) f (subst (IsClassOfLine b l.line.items) same h))
+of_class b l line (Some k) class e f h =
+    (let same : k ≡ class = cc in subst (λ x. IsClassOfLine b x class) f (subst (IsClassOfLine b l.line.items) same h))
 
 -- a line that stands at a place is found there
-pub found-at : (lines : List SeenLine) (place : ℕ) (l : SeenLine) (line text : List ℕ) → place < length lines → l ≡ get_or lines place l → pointwise (λ a b. a == b) text line ≡ true → text ≡ l.line.items → IfSome l.class (IsFoundIn lines line)
+pub found-at : (lines : List SeenLine) (place : ℕ) (l : SeenLine) (line text : List ℕ) → place < length lines
+    → l ≡ get_or lines place l → pointwise (λ a b. a == b) text line ≡ true → text ≡ l.line.items
+    → IfSome l.class (IsFoundIn lines line)
 found-at lines place l line text within at equal is =
-    let same = (slice_eq-Decides (λ (a b : ℕ). (eqb-true a b, eq-eqb a b)) text line (pointwise (λ a b. a == b) text line) refl).0 equal in
+    let same =
+    (slice_eq-Decides (λ (a b : ℕ). (eqb-true a b, eq-eqb a b)) text line (pointwise (λ a b. a == b) text line)
+    refl).0 equal in
     some l.class (λ k e. (l, (place, within, sym at), sym is ∙ same, e))
   where
     some : (o : Option ℕ) → ((k : ℕ) → o ≡ Some k → IsFoundIn lines line k) → IfSome o (IsFoundIn lines line)
@@ -24,15 +31,22 @@ found-at lines place l line text within at equal is =
     some (Some k) f = f k refl
 
 -- what is found is right
-pub found-rightly : (b : Classes) (lines : List SeenLine) (line : List ℕ) (r : Option ℕ) → All (IsRightly b) lines → IfSome r (IsFoundIn lines line) → IfSome r (IsClassOfLine b line)
+pub found-rightly : (b : Classes) (lines : List SeenLine) (line : List ℕ) (r : Option ℕ) → All (IsRightly b) lines
+    → IfSome r (IsFoundIn lines line) → IfSome r (IsClassOfLine b line)
 found-rightly b lines line None all h = tt
-found-rightly b lines line (Some k) all h = of_class b h.0 line h.0.class k h.3 h.2 (All-contains (IsRightly b) lines h.0 all h.1)
+found-rightly b lines line (Some k) all h =
+    of_class b h.0 line h.0.class k h.3 h.2 (All-contains (IsRightly b) lines h.0 all h.1)
 
-rightly : (b : Classes) (l : SeenLine) (line : List ℕ) (class : ℕ) (o : Option ℕ) → IsClassOfLine b line class → IfSome o (λ k. (k ≡ class) × (l.line.items ≡ line)) → IfSome o (IsClassOfLine b l.line.items)
+rightly : (b : Classes) (l : SeenLine) (line : List ℕ) (class : ℕ) (o : Option ℕ) → IsClassOfLine b line class
+    → IfSome o (λ k. (k ≡ class) × (l.line.items ≡ line)) → IfSome o (IsClassOfLine b l.line.items)
 rightly b l line class None is h = tt
-rightly b l line class (Some k) is h = subst (λ x. IsClassOfLine b x k) (sym h.1) (subst (IsClassOfLine b line) (sym h.0) is)
+rightly b l line class (Some k) is h =
+    subst (λ x. IsClassOfLine b x k) (sym h.1) (subst (IsClassOfLine b line) (sym h.0) is)
 
 -- what is noted rightly stays right
-pub noted-rightly : (b : Classes) (old new : List SeenLine) (line : List ℕ) (class : ℕ) → IsClassOfLine b line class → IsNotedIn old line class new → All (IsRightly b) old → All (IsRightly b) new
+pub noted-rightly : (b : Classes) (old new : List SeenLine) (line : List ℕ) (class : ℕ) → IsClassOfLine b line class
+    → IsNotedIn old line class new → All (IsRightly b) old → All (IsRightly b) new
 noted-rightly b old new line class is (inl same) all = subst (All (IsRightly b)) (sym same) all
-noted-rightly b old new line class is (inr h) all = subst (All (IsRightly b)) (sym h.3) (All-set (IsRightly b) old h.0 h.1 (rightly b h.1 line class h.1.class is h.2) all)
+noted-rightly b old new line class is (inr h) all =
+    subst (All (IsRightly b)) (sym h.3)
+    (All-set (IsRightly b) old h.0 h.1 (rightly b h.1 line class h.1.class is h.2) all)

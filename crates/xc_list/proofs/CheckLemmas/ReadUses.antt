@@ -1,5 +1,7 @@
 -- The uses that have a body's words.
-use Rattle.std.proofs.Common.{ℕ, zero, suc, ◌≡◌, ◌⊎◌, ◌<◌, ◌≤◌, Bool, true, false, List, [], ◌∷◌, ◌++◌, length, map, Option, MatchOption, Bor, Some, None, refl, sym, ap, ap₂, ◌∙◌, arith, append-nil, inl, inr}
+use Rattle.std.proofs.Common.{ℕ, zero, suc, ◌≡◌, ◌⊎◌, ◌<◌, ◌≤◌, Bool, true, false, List, [], ◌∷◌, ◌++◌, length, map}
+use Rattle.std.proofs.Common.{Option, MatchOption, Bor, Some, None, refl, sym, ap, ap₂, ◌∙◌, arith, append-nil, inl}
+use Rattle.std.proofs.Common.{inr}
 use Rattle.xc_list.specs.inner.LineParts.{colour_text}
 use Rattle.std.specs.Prelude.{All}
 use Rattle.std.proofs.lemmas.List.Elements.{All-head, All-tail}
@@ -19,10 +21,15 @@ use Rattle.xc_list.proofs.CheckLemmas.ListedNumbers.{numbered_some, at_bytes, on
 -- a name, and a colour's text behind it
 coloured : (colours : List (List ℕ)) (name : List ℕ) (c : ℕ) → has 58 name ≡ false → c ≤ length colours
     → ((c ≡ 0) × (name ++ colour_text colours c ≡ name) × (has 58 (name ++ colour_text colours c) ≡ false))
-    ⊎ ((numbered_get colours c ≡ Some (bytes_at colours c)) × (name ++ colour_text colours c ≡ name ++ 58 ∷ bytes_at colours c))
+    ⊎ ((numbered_get colours c ≡ Some (bytes_at colours c))
+    × (name ++ colour_text colours c ≡ name ++ 58 ∷ bytes_at colours c))
 coloured colours name zero h l = inl (refl, append-nil name, ap (has 58) (append-nil name) ∙ h)
 coloured colours name (suc c) h l =
-    inr (numbered_some colours (suc c) [] (omega arith) l, ap (λ t. name ++ t) (colour_text-some colours (suc c) (omega arith)))
+    inr (
+      numbered_some colours (suc c) [] (omega arith) l,
+      ap (λ t. name ++ t)
+          (colour_text-some colours (suc c) (omega arith)),
+    )
 
 module _ (p : Named) (s : IsSound p) (u : Use) (known : IsKnownUse p u) where
   within : u.item ≤ length p.names
@@ -38,22 +45,29 @@ module _ (p : Named) (s : IsSound p) (u : Use) (known : IsKnownUse p u) where
   pub plain-word : has 58 (use_word p u) ≡ false → (numbered_get p.names u.item ≡ Some (use_word p u)) × (u.colour ≡ 0)
   plain-word h = elim (coloured p.colours (bytes_at p.names u.item) u.colour no_colon known.1) [
     | inl q ↦ (named ∙ ap (λ t. Some t) (sym q.1), q.0)
-    | inr q ↦ absurd (let cut = cut-at 58 (bytes_at p.names u.item) (bytes_at p.colours u.colour) no_colon in let e : true ≡ false = sym cut.2 ∙ ap (has 58) (sym q.1) ∙ h in cc)
+    | inr q ↦ absurd (let cut = cut-at 58 (bytes_at p.names u.item) (bytes_at p.colours u.colour) no_colon in let e :
+        true ≡ false = sym cut.2 ∙ ap (has 58) (sym q.1) ∙ h in cc)
   ]
 
   -- what stands before and behind the first colon of a word
-  pub cut-word : (front back : List ℕ) → has 58 front ≡ false → use_word p u ≡ front ++ 58 ∷ back → (numbered_get p.names u.item ≡ Some front) × (numbered_get p.colours u.colour ≡ Some back)
+  pub cut-word : (front back : List ℕ) → has 58 front ≡ false → use_word p u ≡ front ++ 58 ∷ back
+      → (numbered_get p.names u.item ≡ Some front) × (numbered_get p.colours u.colour ≡ Some back)
   cut-word front back h e = elim (coloured p.colours (bytes_at p.names u.item) u.colour no_colon known.1) [
-    | inl q ↦ absurd (let cut = cut-at 58 front back h in let f : true ≡ false = sym cut.2 ∙ ap (has 58) (sym e) ∙ q.2 in cc)
+    | inl q ↦ absurd (let cut = cut-at 58 front back h in let f : true ≡ false = sym cut.2 ∙ ap (has 58) (sym e)
+        ∙ q.2 in cc)
     | inr q ↦
         let own = cut-at 58 (bytes_at p.names u.item) (bytes_at p.colours u.colour) no_colon in
         let cut = cut-at 58 front back h in
-        let same : bytes_at p.names u.item ++ 58 ∷ bytes_at p.colours u.colour ≡ front ++ 58 ∷ back = sym q.1 ∙ e in
-        (named ∙ ap (λ t. Some t) (sym own.0 ∙ ap (before 58) same ∙ cut.0), q.0 ∙ ap (λ t. Some t) (sym own.1 ∙ ap (after 58) same ∙ cut.1))
+        let same : bytes_at p.names u.item ++ 58 ∷ bytes_at p.colours u.colour ≡ front ++ 58 ∷ back = sym q.1 ∙ e in (
+          named ∙ ap (λ t. Some t) (sym own.0 ∙ ap (before 58) same ∙ cut.0),
+          q.0
+              ∙ ap (λ t. Some t) (sym own.1 ∙ ap (after 58) same ∙ cut.1),
+        )
   ]
 
 -- uses with one word are one
-pub one_word : (p : Named) → IsSound p → (u v : Use) → IsKnownUse p u → IsKnownUse p v → use_word p u ≡ use_word p v → u ≡ v
+pub one_word : (p : Named) → IsSound p → (u v : Use) → IsKnownUse p u → IsKnownUse p v → use_word p u ≡ use_word p v
+    → u ≡ v
 one_word p s u v a b e = by_colon (has 58 (use_word p u)) refl
   where
     same : u.item ≡ v.item → u.colour ≡ v.colour → u ≡ v
@@ -63,7 +77,8 @@ one_word p s u v a b e = by_colon (has 58 (use_word p u)) refl
     by_colon false h =
         let x = plain-word p s u a h in
         let y = plain-word p s v b (ap (has 58) (sym e) ∙ h) in
-        same (one_number p.names u.item v.item (use_word p v) s.named.distinct (x.0 ∙ ap (λ t. Some t) e) y.0) (x.1 ∙ sym y.1)
+        same (one_number p.names u.item v.item (use_word p v) s.named.distinct (x.0 ∙ ap (λ t. Some t) e) y.0)
+        (x.1 ∙ sym y.1)
     by_colon true h =
         let cut = cut-is 58 (use_word p u) h in
         let x = cut-word p s u a (before 58 (use_word p u)) (after 58 (use_word p u)) cut.1 cut.0 in
@@ -77,19 +92,26 @@ one_word p s u v a b e = by_colon (has 58 (use_word p u)) refl
 abbrev pub AreRead : Named → List ℕ → List ℕ → List Use → Type 0
 AreRead p body text us = All (IsKnownUse p) us × (map (use_word p) us ++ words_in text ≡ words_in body)
 
-word-at : (p : Named) (vs : List Use) (a : List (List ℕ)) (w : List ℕ) (b : List (List ℕ)) → All (IsKnownUse p) vs → map (use_word p) vs ≡ a ++ w ∷ b → (u : Use) × IsKnownUse p u × (use_word p u ≡ w)
+word-at : (p : Named) (vs : List Use) (a : List (List ℕ)) (w : List ℕ) (b : List (List ℕ)) → All (IsKnownUse p) vs
+    → map (use_word p) vs ≡ a ++ w ∷ b → (u : Use) × IsKnownUse p u × (use_word p u ≡ w)
 word-at p [] [] w b all e = cc
 word-at p [] (v ∷ a) w b all e = cc
 word-at p (u ∷ vs) [] w b all e = (u, All-head (IsKnownUse p) u vs all, cc)
 word-at p (u ∷ vs) (v ∷ a) w b all e = word-at p vs a w b (All-tail (IsKnownUse p) u vs all) cc
 
 -- no uses have the words of the body where none has a word of it
-pub read-none : (p : Named) (body text word : List ℕ) (words : List (List ℕ)) (us : List Use) → AreRead p body text us → words_in text ≡ word ∷ words → IsUseOfWord p word None → (vs : List Use) → HaveWords p (words_in body) vs → ⊥
+pub read-none : (p : Named) (body text word : List ℕ) (words : List (List ℕ)) (us : List Use) → AreRead p body text us
+    → words_in text ≡ word ∷ words → IsUseOfWord p word None → (vs : List Use) → HaveWords p (words_in body) vs → ⊥
 read-none p body text word words us r e h vs have =
-    let u = word-at p vs (map (use_word p) us) word words have.known (have.words_so ∙ sym r.1 ∙ ap (λ ws. map (use_word p) us ++ ws) e) in
+    let u =
+    word-at p vs (map (use_word p) us) word words have.known
+    (have.words_so ∙ sym r.1 ∙ ap (λ ws. map (use_word p) us ++ ws) e) in
     h u.0 u.1 u.2
 
 -- a cut gives a first word
-pub first_word : (text word : List ℕ) (rest : Option (Bor (List ℕ))) → MatchOption rest (words_in text ≡ word ∷ []) (λ r. (words_in text ≡ word ∷ words_in r.now) × (length r.now < length text)) → (words : List (List ℕ)) × (words_in text ≡ word ∷ words)
+pub first_word : (text word : List ℕ) (rest : Option (Bor (List ℕ)))
+    → MatchOption rest (words_in text ≡ word ∷ [])
+    (λ r. (words_in text ≡ word ∷ words_in r.now) × (length r.now < length text)) → (words : List (List ℕ))
+    × (words_in text ≡ word ∷ words)
 first_word text word None h = ([], h)
 first_word text word (Some r) h = (words_in r.now, h.0)

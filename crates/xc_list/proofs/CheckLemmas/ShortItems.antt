@@ -1,12 +1,14 @@
 -- How many items are held too seldom.
-use Rattle.std.proofs.Common.{ℕ, zero, suc, ◌≡◌, ◌≢◌, ◌+◌, ◌<◌, ◌≤◌, Bool, true, false, List, [], ◌∷◌, length, get_or, set, replicate, Some, refl, sym, cond, arith, subst, ltb-true, ltb-false, lt-ltb, le-ltb}
+use Rattle.std.proofs.Common.{ℕ, zero, suc, ◌≡◌, ◌≢◌, ◌+◌, ◌<◌, ◌≤◌, Bool, true, false, List, [], ◌∷◌, length, get_or}
+use Rattle.std.proofs.Common.{set, replicate, Some, refl, sym, cond, arith, subst, ltb-true, ltb-false, lt-ltb, le-ltb}
 use Rattle.xc_input.specs.declared.problem.Bounds.{Bounds}
 use Rattle.std.proofs.lemmas.List.Recursion.{is_sum_by}
 use Rattle.std.specs.Prelude.{slice_get, nat_lt, count_by}
 use Rattle.xc_list.specs.inner.CoverCounts.{short_of}
 
 -- an item reaches its lower bound
-pub short_reached : (bs : List Bounds) (ts : List ℕ) (k t : ℕ) (d : Bounds) → k < length ts → t ≡ get_or ts k t → k < length bs → t + 1 ≡ (get_or bs k d).low →
+pub short_reached : (bs : List Bounds) (ts : List ℕ) (k t : ℕ) (d : Bounds) → k < length ts → t ≡ get_or ts k t
+    → k < length bs → t + 1 ≡ (get_or bs k d).low →
     short_of bs (set ts k (t + 1)) + 1 ≡ short_of bs ts
 short_reached [] ts k t d l e m r = absurd (omega (arith, m))
 short_reached (b ∷ bs) [] k t d l e m r = absurd (omega (arith, l))
@@ -14,10 +16,12 @@ short_reached (b ∷ bs) (x ∷ ts) zero t d l e m r =
     let after : nat_lt (t + 1) b.low ≡ false = le-ltb _ _ (omega (arith, r)) in
     let before : nat_lt x b.low ≡ true = lt-ltb _ _ (omega (arith, r, e)) in
     rw (after, before) (omega arith)
-short_reached (b ∷ bs) (x ∷ ts) (suc k) t d l e m r = omega (arith, short_reached bs ts k t d (omega (arith, l)) e (omega (arith, m)) r)
+short_reached (b ∷ bs) (x ∷ ts) (suc k) t d l e m r =
+    omega (arith, short_reached bs ts k t d (omega (arith, l)) e (omega (arith, m)) r)
 
 -- an item is held once more and doesn't reach it
-pub short_kept : (bs : List Bounds) (ts : List ℕ) (k t : ℕ) (d : Bounds) → k < length ts → t ≡ get_or ts k t → (k < length bs → t + 1 ≢ (get_or bs k d).low) →
+pub short_kept : (bs : List Bounds) (ts : List ℕ) (k t : ℕ) (d : Bounds) → k < length ts → t ≡ get_or ts k t
+    → (k < length bs → t + 1 ≢ (get_or bs k d).low) →
     short_of bs (set ts k (t + 1)) ≡ short_of bs ts
 short_kept [] ts k t d l e r = refl
 short_kept (b ∷ bs) [] k t d l e r = absurd (omega (arith, l))
@@ -29,10 +33,12 @@ short_kept (b ∷ bs) (x ∷ ts) zero t d l e r =
       | false ↦ λ q. le-ltb _ _ (omega (arith, ltb-false x b.low q, e))
     ] refl
     in rw same refl
-short_kept (b ∷ bs) (x ∷ ts) (suc k) t d l e r = omega (arith, short_kept bs ts k t d (omega (arith, l)) e (λ m. r (omega (arith, m))))
+short_kept (b ∷ bs) (x ∷ ts) (suc k) t d l e r =
+    omega (arith, short_kept bs ts k t d (omega (arith, l)) e (λ m. r (omega (arith, m))))
 
 -- no item is held too seldom
-pub short_none : (bs : List Bounds) (ts : List ℕ) → short_of bs ts ≡ 0 → (k : ℕ) (b : Bounds) → slice_get bs k ≡ Some b → b.low ≤ get_or ts k 0
+pub short_none : (bs : List Bounds) (ts : List ℕ) → short_of bs ts ≡ 0 → (k : ℕ) (b : Bounds) → slice_get bs k ≡ Some b
+    → b.low ≤ get_or ts k 0
 short_none [] ts h k b e = cc
 short_none (x ∷ bs) [] h zero b e =
     let same : x ≡ b = cc in
@@ -51,7 +57,8 @@ short_none (x ∷ bs) (t ∷ ts) h zero b e =
     by_case false q = ltb-false t x.low q
 short_none (x ∷ bs) (t ∷ ts) h (suc k) b e = short_none bs ts (omega (arith, h)) k b e
 
-pub none_short : (bs : List Bounds) (ts : List ℕ) → ((k : ℕ) (b : Bounds) → slice_get bs k ≡ Some b → b.low ≤ get_or ts k 0) → short_of bs ts ≡ 0
+pub none_short : (bs : List Bounds) (ts : List ℕ)
+    → ((k : ℕ) (b : Bounds) → slice_get bs k ≡ Some b → b.low ≤ get_or ts k 0) → short_of bs ts ≡ 0
 none_short [] ts h = refl
 none_short (x ∷ bs) [] h =
     let here : nat_lt 0 x.low ≡ false = le-ltb _ _ (h 0 x refl) in

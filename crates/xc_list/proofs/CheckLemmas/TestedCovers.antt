@@ -1,12 +1,15 @@
 -- Options are a cover exactly where the tests of its conditions say so.
-use Rattle.std.proofs.Common.{ℕ, zero, suc, ◌≡◌, ◌≢◌, ◌+◌, ◌-◌, ◌<◌, ◌≤◌, Bool, true, false, cond, ◌==◌, List, [], ◌∷◌, Option, Some, None, refl, sym, ap, ◌∙◌, arith, subst, inl, inr, eqb-true, eq-eqb, ne_eqb, ltb, leb}
+use Rattle.std.proofs.Common.{ℕ, zero, suc, ◌≡◌, ◌≢◌, ◌+◌, ◌-◌, ◌<◌, ◌≤◌, Bool, true, false, cond, ◌==◌, List, [], ◌∷◌}
+use Rattle.std.proofs.Common.{Option, Some, None, refl, sym, ap, ◌∙◌, arith, subst, inl, inr, eqb-true, eq-eqb, ne_eqb}
+use Rattle.std.proofs.Common.{ltb, leb}
 use Rattle.std.specs.Prelude.{All, AllPairs, Contains, IsTrue, ◌↔◌, nat_le, nat_lt, ◌||◌}
 use Rattle.std.specs.List.{list_all, list_any, AllByRecursion}
 use Rattle.std.proofs.lemmas.Bool.Decides.{nat_tests}
 use Rattle.std.proofs.lemmas.List.Elements.{recursion_from_All}
 use Rattle.xc_input.specs.declared.problem.Use.{Use}
 use Rattle.xc_input.specs.declared.problem.Bounds.{Bounds}
-use Rattle.xc_input.specs.Problem.{Puzzle, IsValid, IsItem, IsOption, IsSecondary, IsSoundUse, bounds_at, colour_in, item_count, primary_count, uses_of}
+use Rattle.xc_input.specs.Problem.{Puzzle, IsValid, IsItem, IsOption, IsSecondary, IsSoundUse, bounds_at, colour_in}
+use Rattle.xc_input.specs.Problem.{item_count, primary_count, uses_of}
 use Rattle.xc_search.specs.Cover.{IsCover, times_held}
 use Rattle.xc_input.proofs.FaultLemmas.BooleanTests.{and_left, and_right}
 use Rattle.xc_input.proofs.lists.EachTwo.{EachTwo}
@@ -30,10 +33,12 @@ passes-at f (y ∷ xs) x h (inr q) = passes-at f xs x (and_right _ _ h) q
 -- ---- colours
 
 -- a colour of an item is given by a use
-use_of_colour : (us : List Use) (i c : ℕ) → colour_in us i ≡ Some c → (u : Use) × IsIn us u × (u.item ≡ i) × (u.colour ≡ c)
+use_of_colour : (us : List Use) (i c : ℕ) → colour_in us i ≡ Some c → (u : Use) × IsIn us u × (u.item ≡ i)
+    × (u.colour ≡ c)
 use_of_colour [] i c h = cc
 use_of_colour (u ∷ us) i c h =
-    elim (u.item == i) as (λ b. (u.item == i) ≡ b → cond b (Some u.colour) (colour_in us i) ≡ Some c → (v : Use) × IsIn (u ∷ us) v × (v.item ≡ i) × (v.colour ≡ c)) [
+    elim (u.item == i) as (λ b. (u.item == i) ≡ b → cond b (Some u.colour) (colour_in us i) ≡ Some c → (v : Use)
+    × IsIn (u ∷ us) v × (v.item ≡ i) × (v.colour ≡ c)) [
       | true ↦ λ e k. let same : u.colour ≡ c = cc in (u, inl refl, eqb-true _ _ e, same)
       | false ↦ λ e k. let later = use_of_colour us i c k in (later.0, inr later.1, later.2, later.3)
     ] refl h
@@ -66,7 +71,8 @@ colour_met None c h = refl
 
 -- ---- bounds
 
-within_bounds : (o : Option Bounds) (b : Bounds) (t : ℕ) → o ≡ Some b → is_within o t ≡ true → (b.low ≤ t) × (t ≤ b.high)
+within_bounds : (o : Option Bounds) (b : Bounds) (t : ℕ) → o ≡ Some b → is_within o t ≡ true → (b.low ≤ t)
+    × (t ≤ b.high)
 within_bounds (Some x) b t e h =
     let same : x ≡ b = cc in
     let low : nat_le x.low t ≡ true = and_left (nat_le x.low t) (nat_le t x.high) h in
@@ -86,19 +92,22 @@ agreed p a b i c d h apart second in_a in_b =
     let all : are_uses_met (primary_count p) (uses_of p b) (uses_of p a) ≡ true = rw other at h in
     let u = use_of_colour (uses_of p a) i c in_a in
     let met = passes-at (is_use_met (primary_count p) (uses_of p b)) (uses_of p a) u.0 all u.1 in
-    let behind : nat_le u.0.item (primary_count p) ≡ false = (let item = u.2 in let above = second.0 in grind (arith, nat_tests)) in
+    let behind : nat_le u.0.item (primary_count p) ≡ false =
+    (let item = u.2 in let above = second.0 in grind (arith, nat_tests)) in
     let colour : is_colour_met (colour_in (uses_of p b) u.0.item) u.0.colour ≡ true = rw behind at met in
     let r = met_colour _ u.0.colour d colour (ap (colour_in (uses_of p b)) u.2 ∙ in_b) in
     (sym u.3 ∙ r.0, subst (λ n. 0 < n) u.3 r.1)
 
 -- and where they give each secondary item one colour, they agree
 agree : (p : Puzzle) → IsValid p → (a b : ℕ) → IsOption p a →
-    ((i c d : ℕ) → a ≢ b → IsSecondary p i → colour_in (uses_of p a) i ≡ Some c → colour_in (uses_of p b) i ≡ Some d → (c ≡ d) × (0 < c)) →
+    ((i c d : ℕ) → a ≢ b → IsSecondary p i → colour_in (uses_of p a) i ≡ Some c → colour_in (uses_of p b) i ≡ Some d
+    → (c ≡ d) × (0 < c)) →
     do_agree p a b ≡ true
 agree p v a b known h =
     elim (a == b) as (λ t. (a == b) ≡ t → (t || are_uses_met (primary_count p) (uses_of p b) (uses_of p a)) ≡ true) [
       | true ↦ λ e. refl
-      | false ↦ λ e. each-passes (is_use_met (primary_count p) (uses_of p b)) (uses_of p a) (λ u k. met u k (λ z. let t = eq-eqb a b z in cc))
+      | false ↦ λ e. each-passes (is_use_met (primary_count p) (uses_of p b)) (uses_of p a)
+          (λ u k. met u k (λ z. let t = eq-eqb a b z in cc))
     ] refl
   where
     differ : DifferInItems (uses_of p a)
@@ -109,15 +118,21 @@ agree p v a b known h =
 
     met : (u : Use) → IsIn (uses_of p a) u → a ≢ b → is_use_met (primary_count p) (uses_of p b) u ≡ true
     met u k apart =
-        let sound = each_in (IsSoundUse p) (uses_of p a) u (recursion_from_All (IsSoundUse p) (uses_of p a) (option-sound p v a known).sound) k in
-        elim (nat_le u.item (primary_count p)) as (λ t. nat_le u.item (primary_count p) ≡ t → (t || is_colour_met (colour_in (uses_of p b) u.item) u.colour) ≡ true) [
+        let sound =
+        each_in (IsSoundUse p) (uses_of p a) u
+        (recursion_from_All (IsSoundUse p) (uses_of p a) (option-sound p v a known).sound) k in
+        elim (nat_le u.item (primary_count p)) as
+        (λ t. nat_le u.item (primary_count p) ≡ t
+        → (t || is_colour_met (colour_in (uses_of p b) u.item) u.colour) ≡ true) [
           | true ↦ λ e. refl
-          | false ↦ λ e. colour_met (colour_in (uses_of p b) u.item) u.colour (λ d q. h u.item u.colour d apart (above u (sound.0) e) (colour_of_use (uses_of p a) u differ k) q)
+          | false ↦ λ e. colour_met (colour_in (uses_of p b) u.item) u.colour
+              (λ d q. h u.item u.colour d apart (above u (sound.0) e) (colour_of_use (uses_of p a) u differ k) q)
         ] refl
 
 -- ---- different numbers
 -- a number that stands again behind the first
-pub stands_again : (x : ℕ) (others rest : List ℕ) → rest ≡ x ∷ others → list_any (λ y. y == x) others ≡ true → EachTwo (λ a b. a ≢ b) rest → ⊥
+pub stands_again : (x : ℕ) (others rest : List ℕ) → rest ≡ x ∷ others → list_any (λ y. y == x) others ≡ true
+    → EachTwo (λ a b. a ≢ b) rest → ⊥
 stands_again x others rest e h apart = again others h (subst (EachTwo (λ a b. a ≢ b)) e apart).0
   where
     again : (ys : List ℕ) → list_any (λ y. y == x) ys ≡ true → AllByRecursion (λ y. x ≢ y) ys → ⊥
@@ -129,13 +144,15 @@ stands_again x others rest e h apart = again others h (subst (EachTwo (λ a b. a
         ] refl k
 
 -- one that doesn't
-pub stands_alone : (x : ℕ) (others rest : List ℕ) → rest ≡ x ∷ others → list_any (λ y. y == x) others ≡ false → EachTwo (λ a b. a ≢ b) others → EachTwo (λ a b. a ≢ b) rest
+pub stands_alone : (x : ℕ) (others rest : List ℕ) → rest ≡ x ∷ others → list_any (λ y. y == x) others ≡ false
+    → EachTwo (λ a b. a ≢ b) others → EachTwo (λ a b. a ≢ b) rest
 stands_alone x others rest e h apart = subst (EachTwo (λ a b. a ≢ b)) (sym e) (alone others h, apart)
   where
     alone : (ys : List ℕ) → list_any (λ y. y == x) ys ≡ false → AllByRecursion (λ y. x ≢ y) ys
     alone [] k = tt
     alone (y ∷ ys) k =
-        elim (y == x) as (λ t. (y == x) ≡ t → (t || list_any (λ z. z == x) ys) ≡ false → AllByRecursion (λ z. x ≢ z) (y ∷ ys)) [
+        elim (y == x) as (λ t. (y == x) ≡ t → (t || list_any (λ z. z == x) ys) ≡ false
+        → AllByRecursion (λ z. x ≢ z) (y ∷ ys)) [
           | true ↦ λ q m. cc
           | false ↦ λ q m. (λ z. (let t = eq-eqb _ _ (sym z) in cc), alone ys m)
         ] refl k
@@ -151,17 +168,21 @@ cover_from_tests p s known apart held all = record {
   distinct = apart;
   within = λ i b e. within i b e;
   agree = λ a b i c d in_a in_b second other e f.
-      agreed p a b i c d (passes-at (do_agree p a) s b (passes-at (λ a. list_all (do_agree p a) s) s a all (in-contains s a in_a)) (in-contains s b in_b)) second other e f;
+      agreed p a b i c d (passes-at (do_agree p a) s b
+      (passes-at (λ a. list_all (do_agree p a) s) s a all (in-contains s a in_a)) (in-contains s b in_b)) second
+      other e f;
 }
   where
     within : (i : ℕ) (b : Bounds) → bounds_at p i ≡ Some b → (b.low ≤ times_held p i s) × (times_held p i s ≤ b.high)
     within zero b e = cc
     within (suc k) b e =
         let one_more : k + 1 ≡ suc k = omega arith in
-        within_bounds (bounds_at p (suc k)) b (times_held p (suc k) s) e (subst (λ n. is_held_within p s n ≡ true) one_more (held k (slice_get_within p.bounds k b e)))
+        within_bounds (bounds_at p (suc k)) b (times_held p (suc k) s) e
+        (subst (λ n. is_held_within p s n ≡ true) one_more (held k (slice_get_within p.bounds k b e)))
 
 -- and of a cover they say so
-pub tests_of_cover : (p : Puzzle) → IsValid p → (s : List ℕ) → IsCover p s → list_all (λ a. list_all (do_agree p a) s) s ≡ true
+pub tests_of_cover : (p : Puzzle) → IsValid p → (s : List ℕ) → IsCover p s
+    → list_all (λ a. list_all (do_agree p a) s) s ≡ true
 tests_of_cover p v s c =
     each-passes (λ a. list_all (do_agree p a) s) s (λ a in_a. each-passes (do_agree p a) s (λ b in_b.
     agree p v a b (each_in (IsOption p) s a (recursion_from_All (IsOption p) s c.known) in_a)

@@ -1,7 +1,8 @@
 -- Texts of options laid out one behind another.
 use Rattle.std.proofs.Math.Seq.{take-append_seam}
 use Rattle.xc_list.specs.inner.LineParts.{use_text}
-use Rattle.std.proofs.Common.{ℕ, zero, suc, ◌≡◌, ◌+◌, ◌-◌, ◌<◌, ◌≤◌, List, [], ◌∷◌, ◌++◌, length, map, take, drop, get_or, Some, refl, sym, ap, ap₂, ◌∙◌, arith, length-append}
+use Rattle.std.proofs.Common.{ℕ, zero, suc, ◌≡◌, ◌+◌, ◌-◌, ◌<◌, ◌≤◌, List, [], ◌∷◌, ◌++◌, length, map, take, drop}
+use Rattle.std.proofs.Common.{get_or, Some, refl, sym, ap, ap₂, ◌∙◌, arith, length-append}
 use Rattle.std.specs.Prelude.{◌==◌, flat_map, slice_range, unwrap_or}
 use Rattle.std.specs.List.{position_or_len}
 use Rattle.std.proofs.lemmas.Grind.{common_steps}
@@ -16,22 +17,27 @@ use Rattle.xc_list.proofs.Writing.{flat_map-parts}
 use Rattle.xc_list.specs.inner.Layout.{AreLaid, uses_text}
 
 -- as many starts as options, and the length
-pub laid-count : (a : Named) (os : List (List Use)) (texts starts : List ℕ) → AreLaid a os texts starts → length starts ≡ length os + 1
+pub laid-count : (a : Named) (os : List (List Use)) (texts starts : List ℕ) → AreLaid a os texts starts
+    → length starts ≡ length os + 1
 laid-count a os texts starts l =
     omega (arith, length-pieces starts texts l.rising, ap length l.parts, map-length (uses_text a) os)
 
-numbered-map : (f : List Use → List ℕ) (os : List (List Use)) (o : ℕ) → 1 ≤ o → o ≤ length os → numbered_get (map f os) o ≡ Some (f (unwrap_or (numbered_get os o) []))
+numbered-map : (f : List Use → List ℕ) (os : List (List Use)) (o : ℕ) → 1 ≤ o → o ≤ length os
+    → numbered_get (map f os) o ≡ Some (f (unwrap_or (numbered_get os o) []))
 numbered-map f os zero h l = absurd (omega (arith, h))
 numbered-map f [] (suc k) h l = absurd (omega (arith, l))
 numbered-map f (us ∷ os) (suc zero) h l = refl
 numbered-map f (us ∷ os) (suc (suc k)) h l = numbered-map f os (suc k) (omega arith) (omega (arith, l))
 
 -- the text between two starts that were read
-pub laid_part : (a : Named) (os : List (List Use)) (texts starts : List ℕ) (o x y : ℕ) → AreLaid a os texts starts → (1 ≤ o) × (o ≤ length os) → x ≡ get_or starts (o - 1) x → y ≡ get_or starts o y
+pub laid_part : (a : Named) (os : List (List Use)) (texts starts : List ℕ) (o x y : ℕ) → AreLaid a os texts starts
+    → (1 ≤ o) × (o ≤ length os) → x ≡ get_or starts (o - 1) x → y ≡ get_or starts o y
     → (x ≤ y) × (y ≤ length texts) × (slice_range texts x y ≡ uses_text a (unwrap_or (numbered_get os o) []))
 laid_part a os texts starts o x y l known e f =
-    let part = option_part starts texts o x y l.rising known.0 (omega (arith, known.1, laid-count a os texts starts l)) e f in
-    let text : Some (slice_range texts x y) ≡ Some (uses_text a (unwrap_or (numbered_get os o) [])) = sym part.2 ∙ ap (λ ts. numbered_get ts o) l.parts ∙ numbered-map (uses_text a) os o known.0 known.1 in
+    let part =
+    option_part starts texts o x y l.rising known.0 (omega (arith, known.1, laid-count a os texts starts l)) e f in
+    let text : Some (slice_range texts x y) ≡ Some (uses_text a (unwrap_or (numbered_get os o) [])) =
+    sym part.2 ∙ ap (λ ts. numbered_get ts o) l.parts ∙ numbered-map (uses_text a) os o known.0 known.1 in
     (part.0, part.1, cc text)
 
 take_drop : (us : List Use) (n : ℕ) → us ≡ take n us ++ drop n us
@@ -42,7 +48,8 @@ text-cut : (a : Named) (us : List Use) (n : ℕ) → uses_text a us ≡ uses_tex
 text-cut a us n = ap (uses_text a) (take_drop us n) ∙ flat_map-append (use_text a) (take n us) (drop n us)
 
 -- one use more is within the text
-pub length-more : (a : Named) (us : List Use) (i : ℕ) (d : Use) → i < length us → length (uses_text a (take i us)) + length (use_text a (get_or us i d)) ≤ length (uses_text a us)
+pub length-more : (a : Named) (us : List Use) (i : ℕ) (d : Use) → i < length us
+    → length (uses_text a (take i us)) + length (use_text a (get_or us i d)) ≤ length (uses_text a us)
 length-more a us i d h =
     omega (
       arith,
@@ -55,7 +62,8 @@ drop-front : (xs ys : List ℕ) → drop (length xs) (xs ++ ys) ≡ ys
 drop-front xs ys = grind (arith, common_steps)
 
 -- where an item's use starts in the text of uses that were read
-pub cut_within : (a : Named) (item : ℕ) (us all : List Use) (text : List ℕ) (place : ℕ) → us ≡ all → text ≡ uses_text a all
+pub cut_within : (a : Named) (item : ℕ) (us all : List Use) (text : List ℕ) (place : ℕ) → us ≡ all
+    → text ≡ uses_text a all
     → place ≡ length (uses_text a (take (position_or_len (λ u. u.item == item) us) us)) → place ≤ length text
 cut_within a item us all text place e f at =
     let cut = ap length (text-cut a us (position_or_len (λ u. u.item == item) us)) in
@@ -65,12 +73,15 @@ cut_within a item us all text place e f at =
       cut,
       ap length f,
       ap (λ vs. length (uses_text a vs)) e,
-      length-append (uses_text a (take (position_or_len (λ u. u.item == item) us) us)) (uses_text a (drop (position_or_len (λ u. u.item == item) us) us)),
+      length-append (uses_text a (take (position_or_len (λ u. u.item == item) us) us))
+          (uses_text a (drop (position_or_len (λ u. u.item == item) us) us)),
     )
 
 -- the text behind that place and the text before it are those of the uses from the item's on, cyclically
-pub cut_gives : (a : Named) (item : ℕ) (us all : List Use) (text before after : List ℕ) (place : ℕ) → us ≡ all → text ≡ uses_text a all
-    → place ≡ length (uses_text a (take (position_or_len (λ u. u.item == item) us) us)) → before ≡ take place text → after ≡ drop place text
+pub cut_gives : (a : Named) (item : ℕ) (us all : List Use) (text before after : List ℕ) (place : ℕ) → us ≡ all
+    → text ≡ uses_text a all
+    → place ≡ length (uses_text a (take (position_or_len (λ u. u.item == item) us) us)) → before ≡ take place text
+    → after ≡ drop place text
     → flat_map (use_text a) (from_item item all) ≡ after ++ before
 cut_gives a item us all text before after place e f at b d =
     let p = position_or_len (λ u. u.item == item) us in
@@ -84,10 +95,14 @@ cut_gives a item us all text before after place e f at b d =
     ∙ ap₂ (λ x y. x ++ y) (sym after_is) (sym before_is)
 
 -- one option more
-pub laid_more : (a : Named) (os : List (List Use)) (us : List Use) (texts more starts : List ℕ) (n : ℕ) → AreLaid a os texts starts → more ≡ texts ++ uses_text a us → n ≡ length more → AreLaid a (os ++ us ∷ []) more (starts ++ n ∷ [])
+pub laid_more : (a : Named) (os : List (List Use)) (us : List Use) (texts more starts : List ℕ) (n : ℕ)
+    → AreLaid a os texts starts → more ≡ texts ++ uses_text a us → n ≡ length more
+    → AreLaid a (os ++ us ∷ []) more (starts ++ n ∷ [])
 laid_more a os us texts more [] n l e f = absurd l.rising
 laid_more a os us texts more (x ∷ starts) n l e f =
-    let part = pieces-snoc x starts texts (uses_text a us) n l.rising (f ∙ ap length e ∙ length-append texts (uses_text a us)) in
+    let part =
+    pieces-snoc x starts texts (uses_text a us) n l.rising
+    (f ∙ ap length e ∙ length-append texts (uses_text a us)) in
     rw e (record {
       rising = part.0;
       parts = part.1 ∙ ap (λ ts. ts ++ uses_text a us ∷ []) l.parts ∙ sym (map-snoc (uses_text a) os us);

@@ -1,12 +1,15 @@
 -- What is printed for a problem is a listing without a fault, and each listed solution is a cover.
-use Rattle.std.proofs.Common.{◌≡◌, ◌≢◌, ℕ, ◌+◌, ◌^◌, ◌<◌, ◌≤◌, true, false, cond, not, List, [], ◌∷◌, ◌++◌, Option, None, Some, length, map, take, filter, get_or, min, ◌-◌, refl, sym, ap, ◌∙◌, arith, subst, append-nil}
+use Rattle.std.proofs.Common.{◌≡◌, ◌≢◌, ℕ, ◌+◌, ◌^◌, ◌<◌, ◌≤◌, true, false, cond, not, List, [], ◌∷◌, ◌++◌, Option}
+use Rattle.std.proofs.Common.{None, Some, length, map, take, filter, get_or, min, ◌-◌, refl, sym, ap, ◌∙◌, arith, subst}
+use Rattle.std.proofs.Common.{append-nil}
 use Rattle.xc_list.proofs.CheckLemmas.ListedSolutions.{listed_solutions}
 use Rattle.xc_list.specs.inner.Listings.{Listing, before_listing, listing_of}
 use Rattle.std.specs.Prelude.{All, Contains, IsTrue, MatchOption, codes, flat_map, ◌==◌, if◌then◌else◌}
 use Rattle.std.specs.List.{AllZip, enumerate_from, cons_option}
 use Rattle.std.proofs.lemmas.Bool.Decides.{nat_tests}
 use Rattle.std.proofs.lemmas.List.{length-take}
-use Rattle.std.proofs.lemmas.List.Elements.{All-nil, All-cons, All-head, All-tail, All-map, All-take, All-filter, All-weaker, All-contains, All-contains_itself}
+use Rattle.std.proofs.lemmas.List.Elements.{All-nil, All-cons, All-head, All-tail, All-map, All-take, All-filter}
+use Rattle.std.proofs.lemmas.List.Elements.{All-weaker, All-contains, All-contains_itself}
 use Rattle.xc_input.specs.Named.{Named, IsSound}
 use Rattle.xc_input.specs.Lines.{lines_of}
 use Rattle.xc_search.specs.declared.choice.Choice.{Choice}
@@ -20,10 +23,13 @@ use Rattle.xc_list.specs.declared.checker.Verdict.{Verdict}
 use Rattle.xc_list.specs.declared.checker.ListingFault.{ListingFault}
 use Rattle.xc_list.specs.declared.checker.ListingFault.TheVariants.{BadLine, UnknownOption, Memory}
 use Rattle.std.specs.Option.{option_or}
-use Rattle.xc_list.specs.Listed.{Solution, IsVerdictOn, AreVerdicts, IsListingFault, stands_for, is_known, fault_in_lines, fault_in_listing, solutions_of, IsListedCover}
+use Rattle.xc_list.specs.Listed.{Solution, IsVerdictOn, AreVerdicts, IsListingFault, stands_for, is_known}
+use Rattle.xc_list.specs.Listed.{fault_in_lines, fault_in_listing, solutions_of, IsListedCover}
 use Rattle.xc_list.proofs.OutputLemmas.KnownMembers.{members_known}
 use Rattle.xc_list.proofs.OutputLemmas.CountedMembers.{IsCounted, members_counted}
-use Rattle.xc_list.proofs.OutputLemmas.OutputLines.{choice_words, choice_line, header_line, output_lines, IsPrintable, IsPrintableMember, lines_of-members, read-choice_line, read-header_line}
+use Rattle.xc_list.proofs.OutputLemmas.OutputLines.{choice_words, choice_line, header_line, output_lines, IsPrintable}
+use Rattle.xc_list.proofs.OutputLemmas.OutputLines.{IsPrintableMember, lines_of-members, read-choice_line}
+use Rattle.xc_list.proofs.OutputLemmas.OutputLines.{read-header_line}
 use Rattle.xc_list.proofs.OutputLemmas.ChoiceBodies.{IsTold, told}
 
 record IsReadable (p : Named) (c : Choice) : Type 0 where
@@ -41,7 +47,8 @@ record IsReadableMember (p : Named) (nm : ℕ × List Choice) : Type 0 where
 abbrev line : ℕ → ℕ
 line n = min (n + 1) (2 ^ 64 - 1)
 
-no_fault-choices : (p : Named) (n : ℕ) (m : List Choice) (rest : List (List ℕ)) → 0 < n → All (IsReadable p) m → ((k : ℕ) → 0 < k → fault_in_lines p k rest ≡ None)
+no_fault-choices : (p : Named) (n : ℕ) (m : List Choice) (rest : List (List ℕ)) → 0 < n → All (IsReadable p) m
+    → ((k : ℕ) → 0 < k → fault_in_lines p k rest ≡ None)
     → fault_in_lines p n (map (choice_line p) m ++ rest) ≡ None
 no_fault-choices p n [] rest h all later = later n h
 no_fault-choices p n (c ∷ m) rest h all later =
@@ -52,10 +59,12 @@ no_fault-choices p n (c ∷ m) rest h all later =
     (fault_in_lines p (n + 1) (map (choice_line p) m ++ rest))) (read-choice_line p c first.printable).0
     ∙ ap (λ t. option_or (fault_said p t (line n) (Body (choice_words p c)))
     (fault_in_lines p (n + 1) (map (choice_line p) m ++ rest))) begun
-    ∙ ap (λ t. option_or (if t then None else Some (UnknownOption (line n))) (fault_in_lines p (n + 1) (map (choice_line p) m ++ rest))) first.told.accepted
+    ∙ ap (λ t. option_or (if t then None else Some (UnknownOption (line n)))
+    (fault_in_lines p (n + 1) (map (choice_line p) m ++ rest))) first.told.accepted
     ∙ no_fault-choices p (n + 1) m rest (omega arith) (All-tail (IsReadable p) c m all) later
 
-no_fault-members : (p : Named) (n : ℕ) (nms : List (ℕ × List Choice)) → All (IsReadableMember p) nms → fault_in_lines p n (output_lines p nms) ≡ None
+no_fault-members : (p : Named) (n : ℕ) (nms : List (ℕ × List Choice)) → All (IsReadableMember p) nms
+    → fault_in_lines p n (output_lines p nms) ≡ None
 no_fault-members p n [] all = refl
 no_fault-members p n (nm ∷ nms) all =
     let first : IsReadableMember p nm = All-head (IsReadableMember p) nm nms all in
@@ -63,7 +72,8 @@ no_fault-members p n (nm ∷ nms) all =
     ∙ ap (λ l. option_or (fault_said p (not (n == 0)) (line n) l)
     (fault_in_lines p (n + 1) (map (choice_line p) nm.1 ++ output_lines p nms)))
     (read-header_line nm.0 first.number)
-    ∙ no_fault-choices p (n + 1) nm.1 (output_lines p nms) (omega arith) first.choices (λ k h. no_fault-members p k nms (All-tail (IsReadableMember p) nm nms all))
+    ∙ no_fault-choices p (n + 1) nm.1 (output_lines p nms) (omega arith) first.choices
+    (λ k h. no_fault-members p k nms (All-tail (IsReadableMember p) nm nms all))
 
 -- ---- what is listed
 
@@ -74,34 +84,44 @@ abbrev in_parts : List (List (List ℕ)) → List Solution → Listing
 in_parts loose solutions = record { loose = loose; solutions = solutions }
 
 listing_of-choices : (p : Named) (m : List Choice) (rest : List (List ℕ)) → All (IsReadable p) m
-    → listing_of (map (choice_line p) m ++ rest) ≡ in_parts (map (choice_words p) m ++ (listing_of rest).loose) (listing_of rest).solutions
+    → listing_of (map (choice_line p) m ++ rest) ≡ in_parts (map (choice_words p) m ++ (listing_of rest).loose)
+    (listing_of rest).solutions
 listing_of-choices p [] rest all = refl
 listing_of-choices p (c ∷ m) rest all =
     let first : IsReadable p c = All-head (IsReadable p) c m all in
     ap (λ l. before_listing l (listing_of (map (choice_line p) m ++ rest))) (read-choice_line p c first.printable).0
     ∙ ap (before_listing (Body (choice_words p c))) (listing_of-choices p m rest (All-tail (IsReadable p) c m all))
 
-listing_of-members : (p : Named) (nms : List (ℕ × List Choice)) → All (IsReadableMember p) nms → listing_of (output_lines p nms) ≡ in_parts [] (map (solution_of p) nms)
+listing_of-members : (p : Named) (nms : List (ℕ × List Choice)) → All (IsReadableMember p) nms
+    → listing_of (output_lines p nms) ≡ in_parts [] (map (solution_of p) nms)
 listing_of-members p [] all = refl
 listing_of-members p (nm ∷ nms) all =
     let first : IsReadableMember p nm = All-head (IsReadableMember p) nm nms all in
     let words : List (List (List ℕ)) = map (choice_words p) nm.1 in
-    ap (λ l. before_listing l (listing_of (map (choice_line p) nm.1 ++ output_lines p nms))) (read-header_line nm.0 first.number)
+    ap (λ l. before_listing l (listing_of (map (choice_line p) nm.1 ++ output_lines p nms)))
+    (read-header_line nm.0 first.number)
     ∙ ap (before_listing (Header nm.0)) (listing_of-choices p nm.1 (output_lines p nms) first.choices)
-    ∙ ap (λ (l : Listing). before_listing (Header nm.0) (in_parts (words ++ l.loose) l.solutions)) (listing_of-members p nms (All-tail (IsReadableMember p) nm nms all))
+    ∙ ap (λ (l : Listing). before_listing (Header nm.0) (in_parts (words ++ l.loose) l.solutions))
+    (listing_of-members p nms (All-tail (IsReadableMember p) nm nms all))
     ∙ ap (λ ws. before_listing (Header nm.0) (in_parts ws (map (solution_of p) nms))) (append-nil words)
 
 -- ---- covers
 
-each_stands : (p : Named) (m : List Choice) → All (IsReadable p) m → AllZip (λ words o. IsTrue (stands_for p words o)) (filter (is_known p) (map (choice_words p) m)) (options_of m)
+each_stands : (p : Named) (m : List Choice) → All (IsReadable p) m
+    → AllZip (λ words o. IsTrue (stands_for p words o)) (filter (is_known p) (map (choice_words p) m)) (options_of m)
 each_stands p [] all = tt
-each_stands p (c ∷ m) all = by_option c.option (choice_words p c) (All-head (IsReadable p) c m all).told.stands (each_stands p m (All-tail (IsReadable p) c m all))
+each_stands p (c ∷ m) all =
+    by_option c.option (choice_words p c) (All-head (IsReadable p) c m all).told.stands
+    (each_stands p m (All-tail (IsReadable p) c m all))
   where
     rest : List (List (List ℕ))
     rest = filter (is_known p) (map (choice_words p) m)
 
-    by_option : (o : Option ℕ) (words : List (List ℕ)) → MatchOption o (is_known p words ≡ false) (λ j. (is_known p words ≡ true) × (stands_for p words j ≡ true))
-        → AllZip (λ words o. IsTrue (stands_for p words o)) rest (options_of m) → AllZip (λ words o. IsTrue (stands_for p words o)) (cond (is_known p words) (words ∷ rest) rest) (cons_option o (options_of m))
+    by_option : (o : Option ℕ) (words : List (List ℕ))
+        → MatchOption o (is_known p words ≡ false) (λ j. (is_known p words ≡ true) × (stands_for p words j ≡ true))
+        → AllZip (λ words o. IsTrue (stands_for p words o)) rest (options_of m)
+        → AllZip (λ words o. IsTrue (stands_for p words o)) (cond (is_known p words) (words ∷ rest) rest)
+        (cons_option o (options_of m))
     by_option None words h later = rw h later
     by_option (Some j) words h later = rw h.0 (h.1, later)
 
@@ -109,13 +129,23 @@ listed_cover : (p : Named) (nm : ℕ × List Choice) → IsReadableMember p nm �
 listed_cover p nm h = (options_of nm.1, each_stands p nm.1 h.choices, h.cover)
 
 readable_covers : (p : Named) (nms : List (ℕ × List Choice)) → All (IsReadableMember p) nms
-    → (fault_in_listing p (lines_of (flat_map (member_text p) nms)) ≡ None) × All (λ s. IsListedCover p s.bodies) (solutions_of (lines_of (flat_map (member_text p) nms)))
+    → (fault_in_listing p (lines_of (flat_map (member_text p) nms)) ≡ None)
+    × All (λ s. IsListedCover p s.bodies) (solutions_of (lines_of (flat_map (member_text p) nms)))
 readable_covers p nms all =
     let lines : lines_of (flat_map (member_text p) nms) ≡ output_lines p nms =
-    lines_of-members p nms (All-weaker (IsReadableMember p) (IsPrintableMember p) (λ nm h. record { number = h.number; choices = All-weaker (IsReadable p) (IsPrintable p) (λ c r. r.printable) nm.1 h.choices }) nms all) in
-    let solutions : solutions_of (lines_of (flat_map (member_text p) nms)) ≡ map (solution_of p) nms = ap solutions_of lines ∙ sym (listed_solutions (output_lines p nms)) ∙ ap (λ (l : Listing). l.solutions) (listing_of-members p nms all) in (
+    lines_of-members p nms (All-weaker (IsReadableMember p) (IsPrintableMember p)
+    (λ nm h. record {
+      number = h.number;
+      choices = All-weaker (IsReadable p) (IsPrintable p) (λ c r. r.printable) nm.1 h.choices;
+    }) nms all) in
+    let solutions : solutions_of (lines_of (flat_map (member_text p) nms)) ≡ map (solution_of p) nms =
+    ap solutions_of lines ∙ sym (listed_solutions (output_lines p nms))
+    ∙ ap (λ (l : Listing). l.solutions) (listing_of-members p nms all) in (
       ap (fault_in_listing p) lines ∙ no_fault-members p 0 nms all,
-      subst (All (λ s. IsListedCover p s.bodies)) (sym solutions) (All-map (λ s. IsListedCover p s.bodies) (solution_of p) nms (All-weaker (IsReadableMember p) (λ nm. IsListedCover p (solution_of p nm).bodies) (listed_cover p) nms all)),
+      subst (All (λ s. IsListedCover p s.bodies)) (sym solutions)
+          (All-map (λ s. IsListedCover p s.bodies) (solution_of p) nms
+          (All-weaker (IsReadableMember p) (λ nm. IsListedCover p (solution_of p nm).bodies) (listed_cover p)
+          nms all)),
     )
 
 -- ---- members
@@ -124,46 +154,72 @@ readable_covers p nms all =
 abbrev IsNumberedMember : Named → ℕ × List Choice → Type 0
 IsNumberedMember p nm = (nm.0 < 2 ^ 64) × Contains (members p.puzzle) nm.1
 
-readable : (p : Named) → IsSound p → All (λ n. n ≢ codes "null") p.names → (c : Choice) → IsKnownChoice p.puzzle c → IsCounted (length p.puzzle.options + 1) c → IsReadable p c
+readable : (p : Named) → IsSound p → All (λ n. n ≢ codes "null") p.names → (c : Choice) → IsKnownChoice p.puzzle c
+    → IsCounted (length p.puzzle.options + 1) c → IsReadable p c
 readable p sound none c known counted =
     let said : IsTold p c.item c.option = told p sound none c known in
-    record { printable = record { some = said.some; plain = said.plain; k = omega (arith, counted.k, sound.limits.options); n = omega (arith, counted.n, sound.limits.options) }; told = said }
+    record {
+      printable = record {
+        some = said.some;
+        plain = said.plain;
+        k = omega (arith, counted.k, sound.limits.options);
+        n = omega (arith, counted.n, sound.limits.options);
+      };
+      told = said;
+    }
 
-readable_member : (p : Named) → IsSound p → All (λ n. n ≢ codes "null") p.names → (nm : ℕ × List Choice) → IsNumberedMember p nm → IsReadableMember p nm
+readable_member : (p : Named) → IsSound p → All (λ n. n ≢ codes "null") p.names → (nm : ℕ × List Choice)
+    → IsNumberedMember p nm → IsReadableMember p nm
 readable_member p sound none nm h =
-    let known : All (IsKnownChoice p.puzzle) nm.1 = All-contains (All (IsKnownChoice p.puzzle)) (members p.puzzle) nm.1 (members_known p.puzzle) h.1 in
-    let counted : All (IsCounted (length p.puzzle.options + 1)) nm.1 = All-contains (All (IsCounted (length p.puzzle.options + 1))) (members p.puzzle) nm.1 (members_counted p.puzzle) h.1 in
+    let known : All (IsKnownChoice p.puzzle) nm.1 =
+    All-contains (All (IsKnownChoice p.puzzle)) (members p.puzzle) nm.1 (members_known p.puzzle) h.1 in
+    let counted : All (IsCounted (length p.puzzle.options + 1)) nm.1 =
+    All-contains (All (IsCounted (length p.puzzle.options + 1))) (members p.puzzle) nm.1
+    (members_counted p.puzzle) h.1 in
     record {
       number = h.0;
       choices = λ k d l. readable p sound none (get_or nm.1 k d) (known k d l) (counted k d l);
-      cover = All-contains (λ m. IsCover p.puzzle (options_of m)) (members p.puzzle) nm.1 (each_member_covers p.puzzle sound.valid) h.1;
+      cover =
+          All-contains (λ m. IsCover p.puzzle (options_of m)) (members p.puzzle) nm.1
+          (each_member_covers p.puzzle sound.valid) h.1;
     }
 
 -- any members with any numbers
-pub members_are_covers : (p : Named) → IsSound p → All (λ n. n ≢ codes "null") p.names → (nms : List (ℕ × List Choice)) → All (IsNumberedMember p) nms
-    → (fault_in_listing p (lines_of (flat_map (member_text p) nms)) ≡ None) × All (λ s. IsListedCover p s.bodies) (solutions_of (lines_of (flat_map (member_text p) nms)))
-members_are_covers p sound none nms all = readable_covers p nms (All-weaker (IsNumberedMember p) (IsReadableMember p) (readable_member p sound none) nms all)
+pub members_are_covers : (p : Named) → IsSound p → All (λ n. n ≢ codes "null") p.names → (nms : List (ℕ × List Choice))
+    → All (IsNumberedMember p) nms
+    → (fault_in_listing p (lines_of (flat_map (member_text p) nms)) ≡ None)
+    × All (λ s. IsListedCover p s.bodies) (solutions_of (lines_of (flat_map (member_text p) nms)))
+members_are_covers p sound none nms all =
+    readable_covers p nms (All-weaker (IsNumberedMember p) (IsReadableMember p) (readable_member p sound none) nms all)
 
-each_numbered : {X : Type 0} (P : X → Type 0) (a b : ℕ) (xs : List X) → a + length xs ≤ b → All P xs → All (λ kx. (kx.0 < b) × P kx.1) (enumerate_from a xs)
+each_numbered : {X : Type 0} (P : X → Type 0) (a b : ℕ) (xs : List X) → a + length xs ≤ b → All P xs
+    → All (λ kx. (kx.0 < b) × P kx.1) (enumerate_from a xs)
 each_numbered P a b [] h all = All-nil (λ kx. (kx.0 < b) × P kx.1)
 each_numbered P a b (x ∷ xs) h all =
-    All-cons (λ kx. (kx.0 < b) × P kx.1) (a, x) (enumerate_from (a + 1) xs) (omega (arith, h), All-head P x xs all) (each_numbered P (a + 1) b xs (omega (arith, h)) (All-tail P x xs all))
+    All-cons (λ kx. (kx.0 < b) × P kx.1) (a, x) (enumerate_from (a + 1) xs) (omega (arith, h), All-head P x xs all)
+    (each_numbered P (a + 1) b xs (omega (arith, h)) (All-tail P x xs all))
 
-pub outputs_are_covers : (p : Named) → IsSound p → All (λ n. n ≢ codes "null") p.names → (spacing limit : ℕ) → limit < 2 ^ 64
-    → (fault_in_listing p (lines_of (output p spacing limit)) ≡ None) × All (λ s. IsListedCover p s.bodies) (solutions_of (lines_of (output p spacing limit)))
+pub outputs_are_covers : (p : Named) → IsSound p → All (λ n. n ≢ codes "null") p.names → (spacing limit : ℕ)
+    → limit < 2 ^ 64
+    → (fault_in_listing p (lines_of (output p spacing limit)) ≡ None)
+    × All (λ s. IsListedCover p s.bodies) (solutions_of (lines_of (output p spacing limit)))
 outputs_are_covers p sound none spacing limit h =
     members_are_covers p sound none (filter (λ nm. is_printed spacing nm.0) (enumerate_from 1 first))
     (All-filter (λ nm. is_printed spacing nm.0) (IsNumberedMember p) (enumerate_from 1 first)
-    (each_numbered (Contains (members p.puzzle)) 1 (2 ^ 64) first (omega (arith, h, length-take limit (members p.puzzle))) (All-take (Contains (members p.puzzle)) limit (members p.puzzle) (All-contains_itself (members p.puzzle)))))
+    (each_numbered (Contains (members p.puzzle)) 1 (2 ^ 64) first
+    (omega (arith, h, length-take limit (members p.puzzle)))
+    (All-take (Contains (members p.puzzle)) limit (members p.puzzle) (All-contains_itself (members p.puzzle)))))
   where
     first : List (List Choice)
     first = take limit (members p.puzzle)
 
 -- ---- what is said of an output
 
-pub wants_memory : (p : Named) (listing : List ℕ) (spacing limit : ℕ) (e : ListingFault) → IsSound p → All (λ n. n ≢ codes "null") p.names → limit < 2 ^ 64 → listing ≡ output p spacing limit
+pub wants_memory : (p : Named) (listing : List ℕ) (spacing limit : ℕ) (e : ListingFault) → IsSound p
+    → All (λ n. n ≢ codes "null") p.names → limit < 2 ^ 64 → listing ≡ output p spacing limit
     → IsListingFault p (lines_of listing) e → e ≡ Memory
-wants_memory p listing spacing limit e sound none fits is first = by_fault e (subst (λ text. IsListingFault p (lines_of text) e) is first)
+wants_memory p listing spacing limit e sound none fits is first =
+    by_fault e (subst (λ text. IsListingFault p (lines_of text) e) is first)
   where
     no_fault : fault_in_listing p (lines_of (output p spacing limit)) ≡ None
     no_fault = (outputs_are_covers p sound none spacing limit fits).0
@@ -173,14 +229,19 @@ wants_memory p listing spacing limit e sound none fits is first = by_fault e (su
     by_fault (UnknownOption n) first = absurd (cc (no_fault, first))
     by_fault Memory first = refl
 
-each_yes : (p : Named) (ss : List Solution) (vs : List Verdict) → All (λ s. IsListedCover p s.bodies) ss → AllZip (IsVerdictOn p) ss vs → All (λ v. IsTrue v.cover) vs
+each_yes : (p : Named) (ss : List Solution) (vs : List Verdict) → All (λ s. IsListedCover p s.bodies) ss
+    → AllZip (IsVerdictOn p) ss vs → All (λ v. IsTrue v.cover) vs
 each_yes p [] [] covers h = All-nil (λ v. IsTrue v.cover)
 each_yes p [] (v ∷ vs) covers h = absurd h
 each_yes p (s ∷ ss) [] covers h = absurd h
 each_yes p (s ∷ ss) (v ∷ vs) covers h =
-    All-cons (λ v. IsTrue v.cover) v vs (h.0.1.1 (All-head (λ s. IsListedCover p s.bodies) s ss covers)) (each_yes p ss vs (All-tail (λ s. IsListedCover p s.bodies) s ss covers) h.1)
+    All-cons (λ v. IsTrue v.cover) v vs (h.0.1.1 (All-head (λ s. IsListedCover p s.bodies) s ss covers))
+    (each_yes p ss vs (All-tail (λ s. IsListedCover p s.bodies) s ss covers) h.1)
 
-pub all_yes : (p : Named) (listing : List ℕ) (spacing limit : ℕ) (vs : List Verdict) → IsSound p → All (λ n. n ≢ codes "null") p.names → limit < 2 ^ 64 → listing ≡ output p spacing limit
+pub all_yes : (p : Named) (listing : List ℕ) (spacing limit : ℕ) (vs : List Verdict) → IsSound p
+    → All (λ n. n ≢ codes "null") p.names → limit < 2 ^ 64 → listing ≡ output p spacing limit
     → AreVerdicts p (lines_of listing) vs → All (λ v. IsTrue v.cover) vs
 all_yes p listing spacing limit vs sound none fits is verdicts =
-    each_yes p (solutions_of (lines_of (output p spacing limit))) vs (outputs_are_covers p sound none spacing limit fits).1 (subst (λ text. AreVerdicts p (lines_of text) vs) is verdicts)
+    each_yes p (solutions_of (lines_of (output p spacing limit))) vs
+    (outputs_are_covers p sound none spacing limit fits).1
+    (subst (λ text. AreVerdicts p (lines_of text) vs) is verdicts)

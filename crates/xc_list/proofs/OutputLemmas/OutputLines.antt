@@ -1,5 +1,6 @@
 -- The lines of an output.
-use Rattle.std.proofs.Common.{◌≡◌, ℕ, false, ◌^◌, ◌<◌, ◌≤◌, List, [], ◌∷◌, ◌++◌, Option, None, Some, length, map, refl, sym, ap, ◌∙◌, append_assoc, append-nil}
+use Rattle.std.proofs.Common.{◌≡◌, ℕ, false, ◌^◌, ◌<◌, ◌≤◌, List, [], ◌∷◌, ◌++◌, Option, None, Some, length, map, refl}
+use Rattle.std.proofs.Common.{sym, ap, ◌∙◌, append_assoc, append-nil}
 use Rattle.xc_list.specs.inner.LineParts.{use_text, branch_text}
 use Rattle.std.specs.Prelude.{All, codes, decimal, flat_map}
 use Rattle.std.proofs.lemmas.List.Elements.{All-head, All-tail}
@@ -13,7 +14,8 @@ use Rattle.xc_input.proofs.LineLemmas.TextLines.{lines_of-ended}
 use Rattle.xc_search.specs.declared.choice.Choice.{Choice}
 use Rattle.xc_list.specs.Output.{bytes_at, from_item, use_word, body_text, choice_text, member_text}
 use Rattle.xc_list.specs.inner.ReadLines.{Header, Body, read}
-use Rattle.xc_list.proofs.OutputLemmas.ReadLines.{IsPlain, spaced, ending_words, read-header, no_feed-header, read-choice}
+use Rattle.xc_list.proofs.OutputLemmas.ReadLines.{IsPlain, spaced, ending_words, read-header, no_feed-header}
+use Rattle.xc_list.proofs.OutputLemmas.ReadLines.{read-choice}
 
 -- the words of a choice before its counts
 abbrev pub body_words : Named → ℕ → Option ℕ → List (List ℕ)
@@ -49,7 +51,8 @@ pub record IsPrintableMember (p : Named) (nm : ℕ × List Choice) : Type 0 wher
 
 spaced-append : (a b : List (List ℕ)) → spaced (a ++ b) ≡ spaced a ++ spaced b
 spaced-append [] b = refl
-spaced-append (w ∷ a) b = ap (λ t. 32 ∷ w ++ t) (spaced-append a b) ∙ ap (λ t. 32 ∷ t) (sym (append_assoc w (spaced a) (spaced b)))
+spaced-append (w ∷ a) b =
+    ap (λ t. 32 ∷ w ++ t) (spaced-append a b) ∙ ap (λ t. 32 ∷ t) (sym (append_assoc w (spaced a) (spaced b)))
 
 uses-spaced : (p : Named) (us : List Use) → flat_map (use_text p) us ≡ spaced (map (use_word p) us)
 uses-spaced p [] = refl
@@ -82,7 +85,8 @@ member-ended p nm =
     ∙ sym (append_assoc (decimal nm.0) (codes ":") (10 ∷ flat_map (choice_text p) nm.1))
     ∙ ap (λ t. (decimal nm.0 ++ codes ":") ++ 10 ∷ t) (choices-ended p nm.1)
 
-pub read-choice_line : (p : Named) (c : Choice) → IsPrintable p c → (read (choice_line p c) ≡ Body (choice_words p c)) × (has 10 (choice_line p c) ≡ false)
+pub read-choice_line : (p : Named) (c : Choice) → IsPrintable p c → (read (choice_line p c) ≡ Body (choice_words p c))
+    × (has 10 (choice_line p c) ≡ false)
 read-choice_line p c h = read-choice (choice_words p c) c.k c.n h.some h.plain h.k h.n
 
 pub read-header_line : (n : ℕ) → n < 2 ^ 64 → read (header_line n) ≡ Header n
@@ -90,12 +94,15 @@ read-header_line n h = read-header n h
 
 choices-whole : (p : Named) (m : List Choice) → All (IsPrintable p) m → AreWhole (map (choice_line p) m)
 choices-whole p [] all = tt
-choices-whole p (c ∷ m) all = ((read-choice_line p c (All-head (IsPrintable p) c m all)).1, choices-whole p m (All-tail (IsPrintable p) c m all))
+choices-whole p (c ∷ m) all =
+    ((read-choice_line p c (All-head (IsPrintable p) c m all)).1, choices-whole p m (All-tail (IsPrintable p) c m all))
 
-pub lines_of-members : (p : Named) (nms : List (ℕ × List Choice)) → All (IsPrintableMember p) nms → lines_of (flat_map (member_text p) nms) ≡ output_lines p nms
+pub lines_of-members : (p : Named) (nms : List (ℕ × List Choice)) → All (IsPrintableMember p) nms
+    → lines_of (flat_map (member_text p) nms) ≡ output_lines p nms
 lines_of-members p [] all = refl
 lines_of-members p (nm ∷ nms) all =
     let first : IsPrintableMember p nm = All-head (IsPrintableMember p) nm nms all in
     ap (λ t. lines_of (t ++ flat_map (member_text p) nms)) (member-ended p nm)
-    ∙ lines_of-ended (member_lines p nm) (flat_map (member_text p) nms) (no_feed-header nm.0 first.number, choices-whole p nm.1 first.choices)
+    ∙ lines_of-ended (member_lines p nm) (flat_map (member_text p) nms)
+    (no_feed-header nm.0 first.number, choices-whole p nm.1 first.choices)
     ∙ ap (λ ls. member_lines p nm ++ ls) (lines_of-members p nms (All-tail (IsPrintableMember p) nm nms all))

@@ -1,5 +1,7 @@
 -- What the lines of an output are read as.
-use Rattle.std.proofs.Common.{◌≡◌, ℕ, ◌+◌, ◌-◌, ◌*◌, ◌/◌, ◌%◌, ◌^◌, ◌<◌, ◌≤◌, Bool, true, false, not, ◌&&◌, nat_lt, nat_eq, List, [], ◌∷◌, ◌++◌, Option, None, Some, length, take, drop, refl, sym, ap, ◌∙◌, subst, arith, length-append, lt-ltb}
+use Rattle.std.proofs.Common.{◌≡◌, ℕ, ◌+◌, ◌-◌, ◌*◌, ◌/◌, ◌%◌, ◌^◌, ◌<◌, ◌≤◌, Bool, true, false, not, ◌&&◌, nat_lt}
+use Rattle.std.proofs.Common.{nat_eq, List, [], ◌∷◌, ◌++◌, Option, None, Some, length, take, drop, refl, sym, ap, ◌∙◌}
+use Rattle.std.proofs.Common.{subst, arith, length-append, lt-ltb}
 use Rattle.xc_input.proofs.TokenLemmas.DecimalValues.{value_from}
 use Rattle.std.specs.Prelude.{All, codes, decimal, nat_le, ◌==◌, if◌then◌else◌}
 use Rattle.std.specs.Io.BufRead.{ends_with_byte}
@@ -16,7 +18,8 @@ use Rattle.std.specs.Char.{is_ascii_digit}
 use Rattle.xc_list.specs.Settings.{long_number}
 use Rattle.xc_list.proofs.CheckLemmas.CutBodies.{last_byte}
 use Rattle.xc_list.proofs.Digits.{some_digits}
-use Rattle.xc_list.specs.ListingLines.{words_in, before_last, solution_number, header_number, is_word, is_closing, is_ending, body_of_words, body_of}
+use Rattle.xc_list.specs.ListingLines.{words_in, before_last, solution_number, header_number, is_word, is_closing}
+use Rattle.xc_list.specs.ListingLines.{is_ending, body_of_words, body_of}
 use Rattle.xc_input.specs.Words.{are_digits}
 use Rattle.xc_list.specs.inner.ReadLines.{Line, Header, Body, Other, read}
 
@@ -36,16 +39,23 @@ digit_of : (d : ℕ) → d < 10 → is_ascii_digit (48 + d) ≡ true
 digit_of d h = grind (arith, nat_tests)
 
 one_digit : (n : ℕ) → n < 10 → AreDigitsOf n ((48 + n) ∷ [])
-one_digit n h = record { some = omega arith; digits = and-both (is_ascii_digit (48 + n)) true (digit_of n h) refl; value = omega arith }
+one_digit n h =
+    record {
+      some = omega arith;
+      digits = and-both (is_ascii_digit (48 + n)) true (digit_of n h) refl;
+      value = omega arith;
+    }
 
 one_more : (n : ℕ) (ds : List ℕ) → 10 ≤ n → AreDigitsOf (n / 10) ds → AreDigitsOf n (ds ++ (48 + n % 10) ∷ [])
 one_more n ds h known =
     let last : n % 10 < 10 = omega arith in
-    let end : list_all is_ascii_digit ((48 + n % 10) ∷ []) ≡ true = and-both (is_ascii_digit (48 + n % 10)) true (digit_of (n % 10) last) refl in
+    let end : list_all is_ascii_digit ((48 + n % 10) ∷ []) ≡ true =
+    and-both (is_ascii_digit (48 + n % 10)) true (digit_of (n % 10) last) refl in
     let front = known.value in
     record {
       some = omega (arith, length-append ds ((48 + n % 10) ∷ []), known.some);
-      digits = list_all-append is_ascii_digit ds ((48 + n % 10) ∷ []) ∙ and-both (list_all is_ascii_digit ds) (list_all is_ascii_digit ((48 + n % 10) ∷ [])) known.digits end;
+      digits = list_all-append is_ascii_digit ds ((48 + n % 10) ∷ [])
+          ∙ and-both (list_all is_ascii_digit ds) (list_all is_ascii_digit ((48 + n % 10) ∷ [])) known.digits end;
       value = value_from-append 0 ds ((48 + n % 10) ∷ []) ∙ ap (λ v. v * 10 + ((48 + n % 10) - 48)) front ∙ back n;
     }
   where
@@ -55,19 +65,24 @@ one_more n ds h known =
 decimal_digits : (n : ℕ) → n < 2 ^ 64 → AreDigitsOf n (decimal n)
 decimal_digits n h = decimal_by_steps AreDigitsOf one_digit one_more n h
 
-are_digits-is : (most : ℕ) (text : List ℕ) → 1 ≤ length text → length text ≤ most → list_all is_ascii_digit text ≡ true → are_digits most text ≡ true
+are_digits-is : (most : ℕ) (text : List ℕ) → 1 ≤ length text → length text ≤ most → list_all is_ascii_digit text ≡ true
+    → are_digits most text ≡ true
 are_digits-is most text h k e =
     let a : nat_le 1 (length text) ≡ true = grind (arith, nat_tests) in
     let b : nat_le (length text) most ≡ true = grind (arith, nat_tests) in
-    and-both (nat_le 1 (length text) && nat_le (length text) most) (list_all is_ascii_digit text) (and-both (nat_le 1 (length text)) (nat_le (length text) most) a b) e
+    and-both (nat_le 1 (length text) && nat_le (length text) most) (list_all is_ascii_digit text)
+    (and-both (nat_le 1 (length text)) (nat_le (length text) most) a b) e
 
 -- a number below 10 ^ k has at most k digits
 are_digits-decimal : (k n : ℕ) → 0 < k → n < 10 ^ k → n < 2 ^ 64 → are_digits k (decimal n) ≡ true
-are_digits-decimal k n h l m = let known = decimal_digits n m in are_digits-is k (decimal n) known.some (length-decimal-le k n h l m) known.digits
+are_digits-decimal k n h l m =
+    let known = decimal_digits n m in are_digits-is k (decimal n) known.some (length-decimal-le k n h l m) known.digits
 
-lacks : (p q : ℕ → Bool) → ((b : ℕ) → p b ≡ true → q b ≡ false) → (bs : List ℕ) → list_all p bs ≡ true → list_any q bs ≡ false
+lacks : (p q : ℕ → Bool) → ((b : ℕ) → p b ≡ true → q b ≡ false) → (bs : List ℕ) → list_all p bs ≡ true
+    → list_any q bs ≡ false
 lacks p q apart [] h = refl
-lacks p q apart (b ∷ bs) h = let both = and-true (p b) (list_all p bs) h in or-both (q b) (list_any q bs) (apart b both.0) (lacks p q apart bs both.1)
+lacks p q apart (b ∷ bs) h = let both = and-true (p b) (list_all p bs) h in
+    or-both (q b) (list_any q bs) (apart b both.0) (lacks p q apart bs both.1)
 
 digit-no_space : (b : ℕ) → is_ascii_digit b ≡ true → is_space b ≡ false
 digit-no_space b h = grind (arith, nat_tests)
@@ -86,7 +101,8 @@ before_last-last b front = last_byte b b front ∙ ap (λ t. if t then Some fron
 solution_number-decimal : (n : ℕ) → n < 2 ^ 64 → solution_number (decimal n) ≡ Some n
 solution_number-decimal n h =
     let known = decimal_digits n h in
-    let short : nat_le (length (decimal n)) 20 ≡ true = (let l = length-decimal-le 20 n (omega arith) (omega (arith, h)) h in grind (arith, nat_tests)) in
+    let short : nat_le (length (decimal n)) 20 ≡ true =
+    (let l = length-decimal-le 20 n (omega arith) (omega (arith, h)) h in grind (arith, nat_tests)) in
     let test : (list_all is_ascii_digit (decimal n) && nat_lt (value_from 0 (decimal n)) (2 ^ 64)) ≡ true =
     and-both (list_all is_ascii_digit (decimal n)) (nat_lt (value_from 0 (decimal n)) (2 ^ 64)) known.digits
     (ap (λ v. nat_lt v (2 ^ 64)) known.value ∙ lt-ltb n (2 ^ 64) h) in
@@ -96,8 +112,13 @@ solution_number-decimal n h =
 pub read-header : (n : ℕ) → n < 2 ^ 64 → read (decimal n ++ codes ":") ≡ Header n
 read-header n h =
     let number : header_number (decimal n ++ 58 ∷ []) ≡ Some n =
-    ap (λ o. elim o as (λ _. Option ℕ) [ None ↦ None | Some text ↦ solution_number text ]) (before_last-last 58 (decimal n)) ∙ solution_number-decimal n h in
-    ap (λ o. elim o as (λ _. Line) [ Some m ↦ Header m | None ↦ elim (body_of (decimal n ++ 58 ∷ [])) as (λ _. Line) [ Some words ↦ Body words | None ↦ Other ] ]) number
+    ap (λ o. elim o as (λ _. Option ℕ) [ None ↦ None | Some text ↦ solution_number text ])
+    (before_last-last 58 (decimal n)) ∙ solution_number-decimal n h in
+    ap (λ o. elim o as (λ _. Line) [
+      | Some m ↦ Header m
+      | None ↦ elim (body_of (decimal n ++ 58 ∷ [])) as (λ _. Line)
+          [ Some words ↦ Body words | None ↦ Other ]
+    ]) number
 
 -- ---- words
 
@@ -115,7 +136,9 @@ is_word-plain w plain =
 
 are_words : (ws : List (List ℕ)) → All IsPlain ws → list_all is_word ws ≡ true
 are_words [] plain = refl
-are_words (w ∷ ws) plain = and-both (is_word w) (list_all is_word ws) (is_word-plain w (All-head IsPlain w ws plain)) (are_words ws (All-tail IsPlain w ws plain))
+are_words (w ∷ ws) plain =
+    and-both (is_word w) (list_all is_word ws) (is_word-plain w (All-head IsPlain w ws plain))
+    (are_words ws (All-tail IsPlain w ws plain))
 
 -- words with a space before each
 abbrev pub spaced : List (List ℕ) → List ℕ
@@ -130,34 +153,42 @@ words_in-front : (w rest : List ℕ) → list_any is_space w ≡ false → words
 words_in-front [] rest h = refl
 words_in-front (b ∷ w) rest h =
     let both = or-false (is_space b) (list_any is_space w) h in
-    ap (λ t. if t then [] ∷ words_in (w ++ 32 ∷ rest) else onto_first b (words_in (w ++ 32 ∷ rest))) (no_space-not_32 b both.0) ∙ ap (onto_first b) (words_in-front w rest both.1)
+    ap (λ t. if t then [] ∷ words_in (w ++ 32 ∷ rest) else onto_first b (words_in (w ++ 32 ∷ rest)))
+    (no_space-not_32 b both.0) ∙ ap (onto_first b) (words_in-front w rest both.1)
 
 words_in-last : (w : List ℕ) → list_any is_space w ≡ false → words_in (w ++ []) ≡ w ∷ []
 words_in-last [] h = refl
 words_in-last (b ∷ w) h =
     let both = or-false (is_space b) (list_any is_space w) h in
-    ap (λ t. if t then [] ∷ words_in (w ++ []) else onto_first b (words_in (w ++ []))) (no_space-not_32 b both.0) ∙ ap (onto_first b) (words_in-last w both.1)
+    ap (λ t. if t then [] ∷ words_in (w ++ []) else onto_first b (words_in (w ++ []))) (no_space-not_32 b both.0)
+    ∙ ap (onto_first b) (words_in-last w both.1)
 
 words_in-spaced : (w : List ℕ) (ws : List (List ℕ)) → IsPlain w → All IsPlain ws → words_in (w ++ spaced ws) ≡ w ∷ ws
 words_in-spaced w [] plain others = words_in-last w plain.no_space
 words_in-spaced w (v ∷ ws) plain others =
-    words_in-front w (v ++ spaced ws) plain.no_space ∙ ap (λ vs. w ∷ vs) (words_in-spaced v ws (All-head IsPlain v ws others) (All-tail IsPlain v ws others))
+    words_in-front w (v ++ spaced ws) plain.no_space
+    ∙ ap (λ vs. w ∷ vs) (words_in-spaced v ws (All-head IsPlain v ws others) (All-tail IsPlain v ws others))
 
 no_feed-spaced : (ws : List (List ℕ)) → All IsPlain ws → has 10 (spaced ws) ≡ false
 no_feed-spaced [] plain = refl
 no_feed-spaced (w ∷ ws) plain =
     let first : IsPlain w = All-head IsPlain w ws plain in
-    list_any-append (λ x. nat_eq x 10) w (spaced ws) ∙ or-both (has 10 w) (has 10 (spaced ws)) first.no_feed (no_feed-spaced ws (All-tail IsPlain w ws plain))
+    list_any-append (λ x. nat_eq x 10) w (spaced ws)
+    ∙ or-both (has 10 w) (has 10 (spaced ws)) first.no_feed (no_feed-spaced ws (All-tail IsPlain w ws plain))
 
-body_of_words-is : (body ending : List (List ℕ)) → 1 ≤ length body → length ending ≡ 3 → list_all is_word (body ++ ending) ≡ true → is_ending ending ≡ true → body_of_words (body ++ ending) ≡ Some body
+body_of_words-is : (body ending : List (List ℕ)) → 1 ≤ length body → length ending ≡ 3
+    → list_all is_word (body ++ ending) ≡ true → is_ending ending ≡ true → body_of_words (body ++ ending) ≡ Some body
 body_of_words-is body ending some three words ends =
     let k : length (body ++ ending) - 3 ≡ length body = omega (arith, length-append body ending, three) in
     let a : nat_le 1 (length body) ≡ true = grind (arith, nat_tests) in
-    let test : (nat_le 1 (length body) && list_all is_word (body ++ ending) && is_ending (drop (length body) (body ++ ending))) ≡ true =
-    and-both (nat_le 1 (length body) && list_all is_word (body ++ ending)) (is_ending (drop (length body) (body ++ ending)))
+    let test : (nat_le 1 (length body) && list_all is_word (body ++ ending) && is_ending
+    (drop (length body) (body ++ ending))) ≡ true =
+    and-both (nat_le 1 (length body) && list_all is_word (body ++ ending))
+    (is_ending (drop (length body) (body ++ ending)))
     (and-both (nat_le 1 (length body)) (list_all is_word (body ++ ending)) a words)
     (ap is_ending (drop-append_seam body ending) ∙ ends) in
-    ap (λ k. if nat_le 1 k && list_all is_word (body ++ ending) && is_ending (drop k (body ++ ending)) then Some (take k (body ++ ending)) else None) k
+    ap (λ k. if nat_le 1 k && list_all is_word (body ++ ending) && is_ending (drop k (body ++ ending)) then Some
+    (take k (body ++ ending)) else None) k
     ∙ ap (λ t. if t then Some (take (length body) (body ++ ending)) else None) test
     ∙ ap Some (take-append_seam body ending)
 
@@ -168,7 +199,12 @@ abbrev pub ending_words : ℕ → ℕ → List (List ℕ)
 ending_words k n = (codes "(" ++ decimal k) ∷ codes "of" ∷ (decimal n ++ codes ")") ∷ []
 
 plain-digits : (ds : List ℕ) → 1 ≤ length ds → list_all is_ascii_digit ds ≡ true → IsPlain ds
-plain-digits ds some digits = record { some = some; no_space = lacks is_ascii_digit is_space digit-no_space ds digits; no_feed = lacks is_ascii_digit (λ x. nat_eq x 10) digit-no_feed ds digits }
+plain-digits ds some digits =
+    record {
+      some = some;
+      no_space = lacks is_ascii_digit is_space digit-no_space ds digits;
+      no_feed = lacks is_ascii_digit (λ x. nat_eq x 10) digit-no_feed ds digits;
+    }
 
 plain-append : (v w : List ℕ) → IsPlain v → list_any is_space w ≡ false → has 10 w ≡ false → IsPlain (v ++ w)
 plain-append v w plain space feed = record {
@@ -183,18 +219,24 @@ plain-ending k n h l =
     let last = decimal_digits n l in
     let ks : IsPlain (decimal k) = plain-digits (decimal k) first.some first.digits in
     let ns : IsPlain (decimal n) = plain-digits (decimal n) last.some last.digits in
-    let opening : IsPlain (codes "(" ++ decimal k) = plain-append (codes "(") (decimal k) (record { some = omega arith; no_space = refl; no_feed = refl }) ks.no_space ks.no_feed in
+    let opening : IsPlain (codes "(" ++ decimal k) =
+    plain-append (codes "(") (decimal k) (record { some = omega arith; no_space = refl; no_feed = refl })
+    ks.no_space ks.no_feed in
     let middle : IsPlain (codes "of") = record { some = omega arith; no_space = refl; no_feed = refl } in
     let closing : IsPlain (decimal n ++ codes ")") = plain-append (decimal n) (codes ")") ns refl refl in
     All-cons IsPlain (codes "(" ++ decimal k) (codes "of" ∷ (decimal n ++ codes ")") ∷ []) opening
-    (All-cons IsPlain (codes "of") ((decimal n ++ codes ")") ∷ []) middle (All-cons IsPlain (decimal n ++ codes ")") [] closing (All-nil IsPlain)))
+    (All-cons IsPlain (codes "of") ((decimal n ++ codes ")") ∷ []) middle
+    (All-cons IsPlain (decimal n ++ codes ")") [] closing (All-nil IsPlain)))
 
 is_ending-words : (k n : ℕ) → k < 10 ^ 10 → n < 10 ^ 10 → is_ending (ending_words k n) ≡ true
 is_ending-words k n h l =
     let ks : are_digits 10 (decimal k) ≡ true = are_digits-decimal 10 k (omega arith) h (omega (arith, h)) in
     let ns : are_digits 10 (decimal n) ≡ true = are_digits-decimal 10 n (omega arith) l (omega (arith, l)) in
-    let closing : is_closing (decimal n ++ 41 ∷ []) ≡ true = ap (λ o. elim o as (λ _. Bool) [ None ↦ false | Some digits ↦ are_digits 10 digits ]) (before_last-last 41 (decimal n)) ∙ ns in
-    and-both (are_digits 10 (decimal k) && true) (is_closing (decimal n ++ 41 ∷ [])) (and-both (are_digits 10 (decimal k)) true ks refl) closing
+    let closing : is_closing (decimal n ++ 41 ∷ []) ≡ true =
+    ap (λ o. elim o as (λ _. Bool) [ None ↦ false | Some digits ↦ are_digits 10 digits ])
+    (before_last-last 41 (decimal n)) ∙ ns in
+    and-both (are_digits 10 (decimal k) && true) (is_closing (decimal n ++ 41 ∷ []))
+    (and-both (are_digits 10 (decimal k)) true ks refl) closing
 
 -- no header begins with a space
 no_header : (line : List ℕ) → header_number (32 ∷ line) ≡ None
@@ -210,19 +252,28 @@ no_header (b ∷ line) =
     subst (Q (ends_with_byte 58 text)) (sym n) h
   where
     not_digits : (front : List ℕ) → solution_number (32 ∷ front) ≡ None
-    not_digits front = elim (nat_le (length (32 ∷ front)) 20) as (λ t. (if t then long_number (32 ∷ front) else None) ≡ None) [ true ↦ refl | false ↦ refl ]
+    not_digits front =
+        elim (nat_le (length (32 ∷ front)) 20) as (λ t. (if t then long_number (32 ∷ front) else None) ≡ None)
+        [ true ↦ refl | false ↦ refl ]
 
 pub read-choice : (body : List (List ℕ)) (k n : ℕ) → 1 ≤ length body → All IsPlain body → k < 10 ^ 10 → n < 10 ^ 10
     → (read (spaced (body ++ ending_words k n)) ≡ Body body) × (has 10 (spaced (body ++ ending_words k n)) ≡ false)
 read-choice [] k n some plain h l = absurd (omega (arith, some))
 read-choice (w ∷ body) k n some plain h l =
     let ends : All IsPlain (ending_words k n) = plain-ending k n (omega (arith, h)) (omega (arith, l)) in
-    let all : All IsPlain ((w ∷ body) ++ ending_words k n) = All-append IsPlain (w ∷ body) (ending_words k n) plain ends in
+    let all : All IsPlain ((w ∷ body) ++ ending_words k n) =
+    All-append IsPlain (w ∷ body) (ending_words k n) plain ends in
     let cut : words_in (w ++ spaced (body ++ ending_words k n)) ≡ w ∷ (body ++ ending_words k n) =
-    words_in-spaced w (body ++ ending_words k n) (All-head IsPlain w (body ++ ending_words k n) all) (All-tail IsPlain w (body ++ ending_words k n) all) in
+    words_in-spaced w (body ++ ending_words k n) (All-head IsPlain w (body ++ ending_words k n) all)
+    (All-tail IsPlain w (body ++ ending_words k n) all) in
     let is : body_of_words (words_in (w ++ spaced (body ++ ending_words k n))) ≡ Some (w ∷ body) =
-    ap body_of_words cut ∙ body_of_words-is (w ∷ body) (ending_words k n) (omega arith) refl (are_words ((w ∷ body) ++ ending_words k n) all) (is_ending-words k n h l) in (
-      ap (λ o. elim o as (λ _. Line) [ Some m ↦ Header m | None ↦ elim (body_of (spaced ((w ∷ body) ++ ending_words k n))) as (λ _. Line) [ Some words ↦ Body words | None ↦ Other ] ]) (no_header (w ++ spaced (body ++ ending_words k n)))
+    ap body_of_words cut ∙ body_of_words-is (w ∷ body) (ending_words k n) (omega arith) refl
+    (are_words ((w ∷ body) ++ ending_words k n) all) (is_ending-words k n h l) in (
+      ap (λ o. elim o as (λ _. Line) [
+        | Some m ↦ Header m
+        | None ↦ elim (body_of (spaced ((w ∷ body) ++ ending_words k n))) as (λ _. Line)
+            [ Some words ↦ Body words | None ↦ Other ]
+      ]) (no_header (w ++ spaced (body ++ ending_words k n)))
           ∙ ap (λ o. elim o as (λ _. Line) [ Some words ↦ Body words | None ↦ Other ]) is,
       no_feed-spaced ((w ∷ body) ++ ending_words k n) all,
     )
@@ -231,4 +282,5 @@ pub no_feed-header : (n : ℕ) → n < 2 ^ 64 → has 10 (decimal n ++ codes ":"
 no_feed-header n h =
     let known = decimal_digits n h in
     let ns : IsPlain (decimal n) = plain-digits (decimal n) known.some known.digits in
-    list_any-append (λ x. nat_eq x 10) (decimal n) (codes ":") ∙ or-both (has 10 (decimal n)) (has 10 (codes ":")) ns.no_feed refl
+    list_any-append (λ x. nat_eq x 10) (decimal n) (codes ":")
+    ∙ or-both (has 10 (decimal n)) (has 10 (codes ":")) ns.no_feed refl

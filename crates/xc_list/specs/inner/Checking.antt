@@ -1,11 +1,13 @@
 -- No public clause cites this module. What the checker makes of the lines of a listing, one by one.
-use Rattle.std.specs.Prelude.{ℕ, ◌+◌, ◌-◌, ◌^◌, ◌≡◌, ◌==◌, not, min, List, [], ◌∷◌, ◌++◌, filter, Option, Some, None, is_some}
+use Rattle.std.specs.Prelude.{ℕ, ◌+◌, ◌-◌, ◌^◌, ◌≡◌, ◌==◌, not, min, List, [], ◌∷◌, ◌++◌, filter, Option, Some, None}
+use Rattle.std.specs.Prelude.{is_some}
 use Rattle.xc_list.specs.inner.Listings.{Listing, listing_of}
 use Rattle.std.specs.List.{AllZip}
 use Rattle.xc_list.specs.ListingLines.{words_in}
 use Rattle.xc_list.specs.inner.ReadLines.{Line, read}
 use Rattle.xc_list.specs.inner.ReadLines as lines
-use Rattle.xc_list.specs.Listed.{Solution, is_known, fault_in_listing, fault_in_lines, IsVerdictOn, AreVerdicts, IsListingFault}
+use Rattle.xc_list.specs.Listed.{Solution, is_known, fault_in_listing, fault_in_lines, IsVerdictOn, AreVerdicts}
+use Rattle.xc_list.specs.Listed.{IsListingFault}
 use Rattle.xc_list.specs.inner.Classes.{Classes, IsClassOfBody}
 use Rattle.xc_list.specs.declared.checker.Verdict.{Verdict}
 use Rattle.xc_list.specs.declared.checker.ListingFault.{ListingFault}
@@ -55,7 +57,8 @@ pub record AreAllTaken (all : List (List ℕ)) (s : Progress) : Type 0 where
 abbrev pub Closes : Progress → Progress → Type 0
 Closes old new = (vs : List Verdict) × (new.verdicts ≡ old.verdicts ++ vs)
     × ((bodies : List (List (List ℕ))) → AreChosen old.options bodies old.chosen
-    → AllZip (IsVerdictOn old.options.problem) (with_later old.open_number bodies (record { loose = []; solutions = [] })) vs)
+    → AllZip (IsVerdictOn old.options.problem)
+    (with_later old.open_number bodies (record { loose = []; solutions = [] })) vs)
 
 -- a line that says this was taken
 abbrev pub Takes : Line → Progress → Progress → Type 0

@@ -1,6 +1,7 @@
 -- No public clause cites this module. Options whose uses are rotations of each other are of one class. When options, of
 -- which some may be of one class, can be replaced by different ones of their classes that are a cover: by counting.
-use Rattle.std.specs.Prelude.{ℕ, ◌<◌, ◌≤◌, ◌≡◌, ◌≢◌, Bool, false, ◌&&◌, ◌==◌, min, AllPairs, Contains, IsTrue, List, length, map, count_by, slice_get, Option, Some, None, unwrap_or}
+use Rattle.std.specs.Prelude.{ℕ, ◌<◌, ◌≤◌, ◌≡◌, ◌≢◌, Bool, false, ◌&&◌, ◌==◌, min, AllPairs, Contains, IsTrue, List}
+use Rattle.std.specs.Prelude.{length, map, count_by, slice_get, Option, Some, None, unwrap_or}
 use Rattle.xc_input.specs.declared.problem.Bounds.{Bounds}
 use Rattle.std.specs.Cmp.Lexicographic.{pointwise}
 use Rattle.std.specs.List.{reduce, range_with_len}

@@ -1,5 +1,6 @@
 -- No public clause cites this module. What an index of options stores, and how it finds uses by words.
-use Rattle.std.specs.Prelude.{ℕ, ◌≤◌, ◌≡◌, ◌≢◌, List, Vec, map, count_by, slice_get, Bool, true, false, Option, None, Some, All, AllPairs, Contains}
+use Rattle.std.specs.Prelude.{ℕ, ◌≤◌, ◌≡◌, ◌≢◌, List, Vec, map, count_by, slice_get, Bool, true, false, Option, None}
+use Rattle.std.specs.Prelude.{Some, All, AllPairs, Contains}
 use Rattle.std.specs.declared.alloc.Global.{Global}
 use Rattle.xc_input.specs.declared.problem.Use.{Use}
 use Rattle.xc_input.specs.Problem.{Puzzle, option_count}

@@ -1,9 +1,11 @@
 //! Counts over one solution.
-ghost use Rattle.std.specs.Prelude.{◌≡◌, ◌≢◌, ℕ, ◌+◌, ◌-◌, ◌^◌, ◌<◌, ◌≤◌, ◌==◌, ◌&&◌, List, [], ◌∷◌, length, replicate, slice_index, slice_set, All, AllPairs, IfOk};
+ghost use Rattle.std.specs.Prelude.{◌≡◌, ◌≢◌, ℕ, ◌+◌, ◌-◌, ◌^◌, ◌<◌, ◌≤◌, ◌==◌, ◌&&◌, List, [], ◌∷◌, length, replicate};
+ghost use Rattle.std.specs.Prelude.{slice_index, slice_set, All, AllPairs, IfOk};
 ghost use Rattle.std.specs.List.{list_all};
 ghost use Rattle.xc_input.specs.Problem.{item_count};
 ghost use Rattle.xc_list.specs.inner.Classes.{IsIndexed};
-ghost use Rattle.xc_list.specs.inner.CoverCounts.{added, coloured, cleared, raised, lowered, uses_in, short_of, is_met, is_class_met};
+ghost use Rattle.xc_list.specs.inner.CoverCounts.{added, coloured, cleared, raised, lowered, uses_in, short_of, is_met};
+ghost use Rattle.xc_list.specs.inner.CoverCounts.{is_class_met};
 
 use crate::checker::option_index::OptionIndex;
 use std::alloc::{AllocError, Global};
@@ -109,7 +111,8 @@ impl Counts {
         requires needed { needed ≡ short_of bounds.now self.old.times.items }
         requires known { All (λ k. k < length options.now.classes) chosen.now }
         ensures times { self.new.times.items ≡ added (uses_in options.now.classes chosen.now) self.old.times.items }
-        ensures colours { self.new.colours.items ≡ coloured (uses_in options.now.classes chosen.now) self.old.colours.items }
+        ensures colours { self.new.colours.items ≡ coloured (uses_in options.now.classes chosen.now)
+            self.old.colours.items }
         ensures asked { self.new.asked.items ≡ raised chosen.now self.old.asked.items }
         ensures short { self.new.short ≡ short_of bounds.now self.new.times.items }
     {
@@ -126,7 +129,8 @@ impl Counts {
         requires colours { length self.now.colours.items ≡ item_count options.now.problem.puzzle }
         requires asked { length self.now.asked.items ≡ length options.now.classes }
         requires known { class < length options.now.classes }
-        ensures { result ≡ is_class_met options.now bounds.now self.now.times.items self.now.colours.items self.now.asked.items class }
+        ensures { result ≡ is_class_met options.now bounds.now self.now.times.items self.now.colours.items
+            self.now.asked.items class }
     {
         self.asked[class] <= options.size(class) && self.are_met(bounds, options.uses(class))
     }
@@ -137,7 +141,9 @@ impl Counts {
         requires colours { length self.now.colours.items ≡ item_count options.now.problem.puzzle }
         requires asked { length self.now.asked.items ≡ length options.now.classes }
         requires known { All (λ k. k < length options.now.classes) chosen.now }
-        ensures { result ≡ list_all (is_class_met options.now bounds.now self.now.times.items self.now.colours.items self.now.asked.items) chosen.now }
+        ensures { result ≡ list_all
+            (is_class_met options.now bounds.now self.now.times.items self.now.colours.items self.now.asked.items)
+            chosen.now }
     {
         chosen
             .iter()
@@ -155,7 +161,9 @@ impl Counts {
         requires colours { length self.now.colours.items ≡ item_count options.now.problem.puzzle }
         requires asked { length self.now.asked.items ≡ length options.now.classes }
         requires known { All (λ k. k < length options.now.classes) chosen.now }
-        ensures { result ≡ (self.now.short == 0 && list_all (is_class_met options.now bounds.now self.now.times.items self.now.colours.items self.now.asked.items) chosen.now) }
+        ensures { result ≡ (self.now.short == 0 && list_all
+            (is_class_met options.now bounds.now self.now.times.items self.now.colours.items self.now.asked.items)
+            chosen.now) }
     {
         self.short == 0 && self.are_classes_met(bounds, options, chosen)
     }

@@ -45,7 +45,8 @@ impl Model for CoverCounter {
 impl CoverCounter {
     /// For solutions of the problem, whose options are of so many classes.
     pub fn new(alloc: Global, problem: &Problem, classes: usize) -> Result<CoverCounter, AllocError>
-        ensures { IfOk result (λ t. t ≡ record { bounds = problem.now.puzzle.bounds; items = item_count problem.now.puzzle; classes = classes }) }
+        ensures { IfOk result (λ t. t ≡ record
+            { bounds = problem.now.puzzle.bounds; items = item_count problem.now.puzzle; classes = classes }) }
     {
         let bounds = primary_bounds(alloc, problem)?;
         let needed = needed(&bounds);
@@ -63,7 +64,8 @@ impl CoverCounter {
         requires places { self.old ≡ places_of options.now }
         requires known { All (λ k. k < length options.now.classes) chosen.now }
         ensures same { self.new ≡ self.old }
-        ensures decided { (reps : List ℕ) → AllZip (IsOfClass options.now) chosen.now reps → IsTrue result ↔ IsCoverOfClasses options.now.problem.puzzle reps }
+        ensures decided { (reps : List ℕ) → AllZip (IsOfClass options.now) chosen.now reps
+            → IsTrue result ↔ IsCoverOfClasses options.now.problem.puzzle reps }
     {
         self.counts
             .count(&self.bounds, self.needed, options, chosen);

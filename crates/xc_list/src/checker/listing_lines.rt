@@ -6,7 +6,8 @@ ghost use Rattle.std.specs.Char.{is_ascii_digit};
 ghost use Rattle.xc_input.specs.Words.{has};
 ghost use Rattle.xc_input.specs.Lines.{lines_of};
 ghost use Rattle.xc_input.specs.Tokens.{is_space};
-ghost use Rattle.xc_list.specs.ListingLines.{words_in, before_last, solution_number, header_number, is_word, is_opening, is_closing, is_ending, body_of_words, body_of};
+ghost use Rattle.xc_list.specs.ListingLines.{words_in, before_last, solution_number, header_number, is_word};
+ghost use Rattle.xc_list.specs.ListingLines.{is_opening, is_closing, is_ending, body_of_words, body_of};
 ghost use Rattle.xc_input.specs.Words.{are_digits};
 ghost use Rattle.xc_list.specs.inner.ReadLines.{read};
 ghost use Rattle.xc_list.specs.inner.Checking.{line_said};
@@ -24,7 +25,8 @@ pub enum ListingLine<'a> {
 
 /// A text cut at its first such byte.
 pub fn cut_first(text: &[u8], byte: u8) -> Option<(&[u8], &[u8])>
-    ensures { MatchOption result (has byte text.now ≡ false) (λ p. (has byte p.0.now ≡ false) × (text.now ≡ p.0.now ++ byte ∷ p.1.now)) }
+    ensures { MatchOption result (has byte text.now ≡ false)
+        (λ p. (has byte p.0.now ≡ false) × (text.now ≡ p.0.now ++ byte ∷ p.1.now)) }
 {
     let k = text.find_byte(byte)?;
     Some((&text[..k], &text[k + 1..]))
@@ -44,7 +46,8 @@ pub fn cut_line(text: &[u8]) -> (&[u8], &[u8])
 
 /// The first word of a text whose words single spaces part, and what is left behind that space.
 pub fn cut_word(text: &[u8]) -> (&[u8], Option<&[u8]>)
-    ensures { MatchOption result.1 (words_in text.now ≡ result.0.now ∷ []) (λ rest. (words_in text.now ≡ result.0.now ∷ words_in rest.now) × (length rest.now < length text.now)) }
+    ensures { MatchOption result.1 (words_in text.now ≡ result.0.now ∷ [])
+        (λ rest. (words_in text.now ≡ result.0.now ∷ words_in rest.now) × (length rest.now < length text.now)) }
 {
     match cut_first(text, b' ') {
         Some((word, rest)) => (word, Some(rest)),
@@ -163,7 +166,8 @@ fn are_words(text: &[u8]) -> bool
 
 /// A text without its last word, and that word.
 fn cut_last_word(text: &[u8]) -> Option<(&[u8], &[u8])>
-    ensures { MatchOption result (words_in text.now ≡ text.now ∷ []) (λ p. words_in text.now ≡ words_in p.0.now ++ p.1.now ∷ []) }
+    ensures { MatchOption result (words_in text.now ≡ text.now ∷ [])
+        (λ p. words_in text.now ≡ words_in p.0.now ++ p.1.now ∷ []) }
 {
     let k = text.rfind_byte(b' ')?;
     Some((&text[..k], &text[k + 1..]))

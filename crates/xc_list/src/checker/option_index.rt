@@ -147,7 +147,8 @@ impl<'a> OptionIndex<'a> {
     /// How many options are of a class.
     pub fn size(&self, class: usize) -> usize
         requires { class < length self.now.classes }
-        ensures { (us : _) → slice_get self.now.classes class ≡ Some us → result ≡ class_size self.now.problem.puzzle us }
+        ensures { (us : _) → slice_get self.now.classes class ≡ Some us
+            → result ≡ class_size self.now.problem.puzzle us }
     {
         self.sizes[class]
     }
@@ -179,7 +180,8 @@ impl<'a> OptionIndex<'a> {
 
     /// Whether a primary item has this name.
     fn is_primary(&self, name: &[u8]) -> bool
-        ensures { result ≡ list_any (bytes_eq name.now) (take (primary_count self.now.problem.puzzle) self.now.problem.names) }
+        ensures { result ≡ list_any (bytes_eq name.now)
+            (take (primary_count self.now.problem.puzzle) self.now.problem.names) }
     {
         match self.problem.find(name) {
             Some(item) => item <= self.problem.primary(),

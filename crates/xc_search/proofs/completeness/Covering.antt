@@ -2,20 +2,26 @@
 use Rattle.xc_dance.specs.Moves.{agrees}
 use Rattle.xc_search.specs.inner.Sizes.{size_of}
 use Rattle.xc_input.specs.declared.problem.Bounds.{Bounds}
-use Rattle.std.proofs.Common.{ℕ, zero, suc, ◌≡◌, ◌≢◌, ◌+◌, ◌<◌, ◌≤◌, Bool, true, false, cond, ◌||◌, eqb, List, [], ◌∷◌, length, map, Some, None, refl, sym, ap, ◌∙◌, arith, subst, ◌⊎◌, inl, inr, eqb-true, ltb-true, leb-true}
+use Rattle.std.proofs.Common.{ℕ, zero, suc, ◌≡◌, ◌≢◌, ◌+◌, ◌<◌, ◌≤◌, Bool, true, false, cond, ◌||◌, eqb, List, [], ◌∷◌}
+use Rattle.std.proofs.Common.{length, map, Some, None, refl, sym, ap, ◌∙◌, arith, subst, ◌⊎◌, inl, inr, eqb-true}
+use Rattle.std.proofs.Common.{ltb-true, leb-true}
 use Rattle.std.specs.Prelude.{nat_le, is_some}
 use Rattle.std.specs.List.{AllByRecursion, list_all, cons_option}
 use Rattle.std.proofs.lemmas.List.Elements.{All-from_recursion}
 use Rattle.std.proofs.lemmas.List.Sums.{sum_by-cons}
 use Rattle.xc_input.specs.declared.problem.Use.{Use}
 use Rattle.xc_search.specs.declared.choice.Choice.{Choice}
-use Rattle.xc_input.specs.Problem.{Puzzle, Numbered, numbered_options, primary_count, option_count, colour_in, colour_at, holds, uses_of, bounds_at, IsSecondary, IsValid, holding}
-use Rattle.xc_search.specs.Listing.{Wanted, Residual, Branch, whole, item_left, pick, none, branch_item, branch_count, branches_of, level, listing_to, listing}
+use Rattle.xc_input.specs.Problem.{Puzzle, Numbered, numbered_options, primary_count, option_count, colour_in}
+use Rattle.xc_input.specs.Problem.{colour_at, holds, uses_of, bounds_at, IsSecondary, IsValid, holding}
+use Rattle.xc_search.specs.Listing.{Wanted, Residual, Branch, whole, item_left, pick, none, branch_item, branch_count}
+use Rattle.xc_search.specs.Listing.{branches_of, level, listing_to, listing}
 use Rattle.xc_search.specs.Cover.{IsCover, times_held, options_of, members, EachMemberCovers}
 use Rattle.xc_input.proofs.lists.Members.{IsIn, in-map, each_in, each_from, in-contains}
 use Rattle.xc_search.proofs.completeness.Solved.{count, beside, AreBeside, IsMet, Solves, solves_pick, solves_none}
-use Rattle.xc_search.proofs.completeness.Proper.{IsProper, find-in, sound_items, low_items, proper_pick, proper_none, proper_whole}
-use Rattle.xc_search.proofs.listing.EachBranch.{IsTaken, IsNone, in-branches, in-level, no_items_left, branch_item-in, less_behind}
+use Rattle.xc_search.proofs.completeness.Proper.{IsProper, find-in, sound_items, low_items, proper_pick, proper_none}
+use Rattle.xc_search.proofs.completeness.Proper.{proper_whole}
+use Rattle.xc_search.proofs.listing.EachBranch.{IsTaken, IsNone, in-branches, in-level, no_items_left, branch_item-in}
+use Rattle.xc_search.proofs.listing.EachBranch.{less_behind}
 use Rattle.xc_input.proofs.lists.EachTwo.{EachTwo, EachTwo-map, AllPairs-from_each_two, EachTwo-weaker, EachTwo-of}
 use Rattle.std.proofs.lemmas.List.{nil_from_length}
 use Rattle.xc_input.proofs.FaultLemmas.BooleanTests.{and_left, and_right, or_other}
@@ -27,7 +33,8 @@ number_of o = o.number
 -- ---- a branch back
 
 -- no item of the same number needs more
-free_items : (n : ℕ) (r : Residual) (w : Wanted) → IsProper n r → IsIn r.items w → w.low ≡ 0 → AllByRecursion (λ v. eqb v.item w.item ≡ true → v.low ≡ 0) r.items
+free_items : (n : ℕ) (r : Residual) (w : Wanted) → IsProper n r → IsIn r.items w → w.low ≡ 0
+    → AllByRecursion (λ v. eqb v.item w.item ≡ true → v.low ≡ 0) r.items
 free_items n r w p h e =
     each_from (λ v. eqb v.item w.item ≡ true → v.low ≡ 0) r.items (λ v k same.
     let one = find-in 0 r.items w p.items_rise h in
@@ -40,11 +47,13 @@ free_items n r w p h e =
 abbrev Solution : ℕ → Residual → List Choice → Type 0
 Solution n r m = (s : List Numbered) × Solves n r s × (options_of m ≡ map number_of s)
 
-solution_back : (n : ℕ) (r : Residual) (w : Wanted) (b : Branch) (l : List Choice) → IsProper n r → IsIn r.items w → IsTaken r w b ⊎ IsNone r w b → Solution n b.next l → Solution n r (b.choice ∷ l)
+solution_back : (n : ℕ) (r : Residual) (w : Wanted) (b : Branch) (l : List Choice) → IsProper n r → IsIn r.items w
+    → IsTaken r w b ⊎ IsNone r w b → Solution n b.next l → Solution n r (b.choice ∷ l)
 solution_back n r w b l p h (inl t) s =
     let solved : Solves n (pick r w.item t.x) s.0 = subst (λ z. Solves n z s.0) t.next s.1 in (
       t.x ∷ s.0,
-      solves_pick n w.item r t.x s.0 p.options_rise (sound_items n r p) (λ j v e. low_items n r j v p e) t.known t.at solved,
+      solves_pick n w.item r t.x s.0 p.options_rise (sound_items n r p) (λ j v e. low_items n r j v p e) t.known t.at
+          solved,
       ap (λ o. cons_option o (options_of l)) t.option ∙ ap (λ ks. t.x.number ∷ ks) s.2,
     )
 solution_back n r w b l p h (inr t) s =
@@ -54,7 +63,8 @@ solution_back n r w b l p h (inr t) s =
       ap (λ o. cons_option o (options_of l)) t.option ∙ s.2,
     )
 
-pub proper_behind : (n : ℕ) (r : Residual) (w : Wanted) (b : Branch) → IsProper n r → IsIn (branches_of r w) b → IsProper n b.next
+pub proper_behind : (n : ℕ) (r : Residual) (w : Wanted) (b : Branch) → IsProper n r → IsIn (branches_of r w) b
+    → IsProper n b.next
 proper_behind n r w b p h = elim (in-branches r w b h) [
   | inl t ↦ subst (λ z. IsProper n z) (sym t.next) (proper_pick n w.item r t.x p)
   | inr t ↦ subst (λ z. IsProper n z) (sym t.next) (proper_none n w.item r p)
@@ -62,12 +72,17 @@ proper_behind n r w b p h = elim (in-branches r w b h) [
 
 -- nothing is left to do
 solution_end : (n : ℕ) (r : Residual) (m : List Choice) → r.items ≡ [] → IsIn ([] ∷ []) m → Solution n r m
-solution_end n r m e (inl q) =
-    ([], record { chosen = tt; met = subst (λ ws. AllByRecursion (IsMet []) ws) (sym e) tt; agreed = tt }, ap options_of (sym q))
+solution_end n r m e (inl q) = (
+  [],
+  record { chosen = tt; met = subst (λ ws. AllByRecursion (IsMet []) ws) (sym e) tt; agreed = tt },
+  ap options_of
+      (sym q),
+)
 solution_end n r m e (inr q) = absurd q
 
 -- each member is a solution
-pub members_solve : (n d : ℕ) (r : Residual) (m : List Choice) → IsProper n r → size_of r ≤ d → IsIn (listing_to d r) m → Solution n r m
+pub members_solve : (n d : ℕ) (r : Residual) (m : List Choice) → IsProper n r → size_of r ≤ d → IsIn (listing_to d r) m
+    → Solution n r m
 unfolding listing_to
 members_solve n zero r m p l k = solution_end n r m (nil_from_length r.items (omega (arith, l))) k
 members_solve n (suc d) r m p l k =
@@ -77,12 +92,14 @@ members_solve n (suc d) r m p l k =
           let at = in-level (listing_to d) w r m j in
           let less = less_behind r w at.0 e at.2 in
           let s = members_solve n d at.0.next at.1 (proper_behind n r w at.0 p at.2) (omega (arith, less, l)) at.3 in
-          subst (λ z. Solution n r z) at.4 (solution_back n r w at.0 at.1 p (branch_item-in r w e) (in-branches r w at.0 at.2) s)
+          subst (λ z. Solution n r z) at.4
+          (solution_back n r w at.0 at.1 p (branch_item-in r w e) (in-branches r w at.0 at.2) s)
     ] refl k
 
 -- ---- a solution of the whole problem is a cover
 
-held_count : (p : Puzzle) (i : ℕ) (s : List Numbered) → AllByRecursion (IsIn (numbered_options p)) s → times_held p i (map number_of s) ≡ count i s
+held_count : (p : Puzzle) (i : ℕ) (s : List Numbered) → AllByRecursion (IsIn (numbered_options p)) s
+    → times_held p i (map number_of s) ≡ count i s
 held_count p i [] a = refl
 held_count p i (o ∷ s) a =
     sum_by-cons (λ k. cond (is_some (colour_in (uses_of p k) i)) 1 0) o.number (map number_of s)
@@ -94,55 +111,70 @@ held_count p i (o ∷ s) a =
     one_more true = omega arith
     one_more false = omega arith
 
-two_beside : (n : ℕ) (s : List Numbered) → AreBeside n s → EachTwo (λ x y. (x.number ≢ y.number) × (beside n x y ≡ true)) s
+two_beside : (n : ℕ) (s : List Numbered) → AreBeside n s
+    → EachTwo (λ x y. (x.number ≢ y.number) × (beside n x y ≡ true)) s
 two_beside n [] a = tt
 two_beside n (x ∷ s) a = (a.0, two_beside n s a.1)
 
 -- the use of an item above n agrees
-agrees_at : (n : ℕ) (us : List Use) (y : Numbered) (i c : ℕ) → list_all (λ u. nat_le u.item n || agrees u.colour (colour_at y u.item)) us ≡ true → nat_le i n ≡ false → colour_in us i ≡ Some c → agrees c (colour_at y i) ≡ true
+agrees_at : (n : ℕ) (us : List Use) (y : Numbered) (i c : ℕ)
+    → list_all (λ u. nat_le u.item n || agrees u.colour (colour_at y u.item)) us ≡ true → nat_le i n ≡ false
+    → colour_in us i ≡ Some c → agrees c (colour_at y i) ≡ true
 agrees_at n [] y i c a h e = cc
 agrees_at n (u ∷ us) y i c a h e =
-    elim (eqb u.item i) as (λ b. eqb u.item i ≡ b → cond b (Some u.colour) (colour_in us i) ≡ Some c → agrees c (colour_at y i) ≡ true) [
+    elim (eqb u.item i) as (λ b. eqb u.item i ≡ b → cond b (Some u.colour) (colour_in us i) ≡ Some c
+    → agrees c (colour_at y i) ≡ true) [
       | true ↦ λ q k.
           let item = eqb-true u.item i q in
           let colour : u.colour ≡ c = cc in
           let above : nat_le u.item n ≡ false = ap (λ j. nat_le j n) item ∙ h in
           let here = or_other _ _ above (and_left _ _ a) in
-          subst (λ d. agrees d (colour_at y i) ≡ true) colour (subst (λ j. agrees u.colour (colour_at y j) ≡ true) item here)
+          subst (λ d. agrees d (colour_at y i) ≡ true) colour
+          (subst (λ j. agrees u.colour (colour_at y j) ≡ true) item here)
       | false ↦ λ q k. agrees_at n us y i c (and_right _ _ a) h k
     ] refl e
 
 agreed_colours : (c d : ℕ) → agrees c (Some d) ≡ true → (c ≡ d) × (0 < c)
 agreed_colours c d e = (eqb-true c d (and_right _ _ e), ltb-true 0 c (and_left _ _ e))
 
-colour_of : (p : Puzzle) (a i c : ℕ) (o : Numbered) → IsIn (numbered_options p) o → o.number ≡ a → colour_in (uses_of p a) i ≡ Some c → colour_at o i ≡ Some c
+colour_of : (p : Puzzle) (a i c : ℕ) (o : Numbered) → IsIn (numbered_options p) o → o.number ≡ a
+    → colour_in (uses_of p a) i ≡ Some c → colour_at o i ≡ Some c
 colour_of p a i c o h e k = subst (λ us. colour_in us i ≡ Some c) (ap (uses_of p) (sym e) ∙ uses_known p o h) k
 
-pub bounded : (p : Puzzle) (i : ℕ) (b : Bounds) → bounds_at p i ≡ Some b → (w : Wanted) × IsIn (whole p).items w × (w.item ≡ i) × (w.low ≡ b.low) × (w.high ≡ b.high)
+pub bounded : (p : Puzzle) (i : ℕ) (b : Bounds) → bounds_at p i ≡ Some b → (w : Wanted) × IsIn (whole p).items w
+    × (w.item ≡ i) × (w.low ≡ b.low) × (w.high ≡ b.high)
 bounded p zero b e = cc
 bounded p (suc j) b e = let at = at_item 0 p.bounds j b e in (at.0, at.1, omega (arith, at.2), at.3, at.4)
 
-within_bounds : (p : Puzzle) (s : List Numbered) (i : ℕ) (b : Bounds) → Solves (primary_count p) (whole p) s → bounds_at p i ≡ Some b → (b.low ≤ times_held p i (map number_of s)) × (times_held p i (map number_of s) ≤ b.high)
+within_bounds : (p : Puzzle) (s : List Numbered) (i : ℕ) (b : Bounds) → Solves (primary_count p) (whole p) s
+    → bounds_at p i ≡ Some b → (b.low ≤ times_held p i (map number_of s)) × (times_held p i (map number_of s) ≤ b.high)
 within_bounds p s i b solved e =
     let at = bounded p i b e in
     let m = each_in (IsMet s) (whole p).items at.0 solved.met at.1 in
-    let same : times_held p i (map number_of s) ≡ count at.0.item s = held_count p i s solved.chosen ∙ ap (λ j. count j s) (sym at.2) in
+    let same : times_held p i (map number_of s) ≡ count at.0.item s =
+    held_count p i s solved.chosen ∙ ap (λ j. count j s) (sym at.2) in
     (omega (arith, same, m.0, at.3), omega (arith, same, m.1, at.4))
 
 abbrev IsBeside : ℕ → Numbered → Numbered → Type 0
 IsBeside n x y = (x.number ≢ y.number) × (beside n x y ≡ true)
 
-colours_agree : (p : Puzzle) (x y : Numbered) (i c d : ℕ) → IsBeside (primary_count p) x y → IsSecondary p i → colour_at x i ≡ Some c → colour_at y i ≡ Some d → (c ≡ d) × (0 < c)
+colours_agree : (p : Puzzle) (x y : Numbered) (i c d : ℕ) → IsBeside (primary_count p) x y → IsSecondary p i
+    → colour_at x i ≡ Some c → colour_at y i ≡ Some d → (c ≡ d) × (0 < c)
 colours_agree p x y i c d t secondary e f =
     let above : nat_le i (primary_count p) ≡ false = above_n i (primary_count p) secondary.0 in
     agreed_colours c d (subst (λ o. agrees c o ≡ true) f (agrees_at (primary_count p) x.uses y i c t.1 above e))
   where
     above_n : (i n : ℕ) → n < i → nat_le i n ≡ false
-    above_n i n h = elim (nat_le i n) as (λ b. nat_le i n ≡ b → b ≡ false) [ true ↦ λ e. absurd (omega (arith, h, leb-true i n e)) | false ↦ λ e. refl ] refl
+    above_n i n h =
+        elim (nat_le i n) as (λ b. nat_le i n ≡ b → b ≡ false)
+        [ true ↦ λ e. absurd (omega (arith, h, leb-true i n e)) | false ↦ λ e. refl ] refl
 
-pub solution_covers : (p : Puzzle) (s : List Numbered) → Solves (primary_count p) (whole p) s → IsCover p (map number_of s)
+pub solution_covers : (p : Puzzle) (s : List Numbered) → Solves (primary_count p) (whole p) s
+    → IsCover p (map number_of s)
 solution_covers p s solved = record {
-  known = All-from_recursion (λ o. (1 ≤ o) × (o ≤ option_count p)) (map number_of s) (each_from (λ o. (1 ≤ o) × (o ≤ option_count p)) (map number_of s) (λ k h.
+  known =
+      All-from_recursion (λ o. (1 ≤ o) × (o ≤ option_count p)) (map number_of s)
+      (each_from (λ o. (1 ≤ o) × (o ≤ option_count p)) (map number_of s) (λ k h.
       let from = in-map number_of s k h in
       let at = numbered_at 0 p.options from.0 (known from.0 from.1) in
       (omega (arith, from.2, at.1), omega (arith, from.2, at.1, at.2))));
@@ -158,7 +190,8 @@ solution_covers p s solved = record {
         | inl q ↦ absurd (apart (cc (x.2, y.2, q)))
         | inr q ↦ elim q [
           | inl t ↦ colours_agree p x.0 y.0 i c d t secondary at_x at_y
-          | inr t ↦ let back = colours_agree p y.0 x.0 i d c t secondary at_y at_x in (sym back.0, omega (arith, back.0, back.1))
+          | inr t ↦ let back =
+              colours_agree p y.0 x.0 i d c t secondary at_y at_x in (sym back.0, omega (arith, back.0, back.1))
         ]
       ];
 }

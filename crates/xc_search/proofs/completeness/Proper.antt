@@ -1,11 +1,14 @@
 -- What holds of the whole problem, and of all that its branches leave.
-use Rattle.std.proofs.Common.{ℕ, ◌≡◌, ◌≢◌, ◌+◌, ◌-◌, ◌<◌, ◌≤◌, Bool, true, false, cond, not, ◌&&◌, eqb, List, [], ◌∷◌, length, map, filter, find, Some, refl, sym, ap, ◌∙◌, arith, subst, inl, inr, eqb-true, eq-eqb, lt-ltb, ltb-true, ne_eqb}
+use Rattle.std.proofs.Common.{ℕ, ◌≡◌, ◌≢◌, ◌+◌, ◌-◌, ◌<◌, ◌≤◌, Bool, true, false, cond, not, ◌&&◌, eqb, List, [], ◌∷◌}
+use Rattle.std.proofs.Common.{length, map, filter, find, Some, refl, sym, ap, ◌∙◌, arith, subst, inl, inr, eqb-true}
+use Rattle.std.proofs.Common.{eq-eqb, lt-ltb, ltb-true, ne_eqb}
 use Rattle.xc_search.proofs.Spent.{less_one}
 use Rattle.xc_input.specs.declared.problem.Bounds.{Bounds}
 use Rattle.std.specs.Prelude.{nat_lt, nat_le}
 use Rattle.std.specs.List.{AllByRecursion}
 use Rattle.std.proofs.lemmas.List.Elements.{recursion_from_All}
-use Rattle.xc_input.specs.Problem.{Puzzle, Numbered, primary_count, holds, AreSoundBounds, IsSoundUse, IsSoundOption, IsValid}
+use Rattle.xc_input.specs.Problem.{Puzzle, Numbered, primary_count, holds, AreSoundBounds, IsSoundUse, IsSoundOption}
+use Rattle.xc_input.specs.Problem.{IsValid}
 use Rattle.xc_search.specs.Listing.{Wanted, Residual, wanted_from, whole, spend_one, item_left, stays, pick, none}
 use Rattle.xc_input.proofs.lists.Members.{IsIn, in-filter, filter-in, in-map, map-in, each_in, each_from, in-contains}
 use Rattle.xc_dance.proofs.MoveLemmas.OptionsRise.{NumbersRise, NumbersRise-filter, options_rise}
@@ -26,7 +29,8 @@ pub record IsProper (n : ℕ) (r : Residual) : Type 0 where
   -- an item that is left is primary and can be met
   pub sound : (w : Wanted) → IsIn r.items w → (w.item ≤ n) × (w.low ≤ w.high) × (0 < w.high)
   -- a primary item of an option that is left is left
-  pub items_left : (o : Numbered) (j : ℕ) → IsIn r.options o → j ≤ n → holds o j ≡ true → (w : Wanted) × IsIn r.items w × (w.item ≡ j)
+  pub items_left : (o : Numbered) (j : ℕ) → IsIn r.options o → j ≤ n → holds o j ≡ true → (w : Wanted) × IsIn r.items w
+      × (w.item ≡ j)
   -- an option that is left has a primary item
   pub one_primary : (o : Numbered) → IsIn r.options o → (j : ℕ) × (j ≤ n) × (holds o j ≡ true)
 
@@ -44,13 +48,17 @@ ItemsRise-filter p n (w ∷ ws) r = elim (p w) as (λ b. ItemsRise n (cond b (w 
 ]
 
 pub item-spend_one : (x : Numbered) (w : Wanted) → (spend_one x w).item ≡ w.item
-item-spend_one x w = elim (holds x w.item) as (λ b. (cond b (less_one w) w).item ≡ w.item) [ true ↦ refl | false ↦ refl ]
+item-spend_one x w =
+    elim (holds x w.item) as (λ b. (cond b (less_one w) w).item ≡ w.item) [ true ↦ refl | false ↦ refl ]
 
 ItemsRise-spend : (x : Numbered) (n : ℕ) (ws : List Wanted) → ItemsRise n ws → ItemsRise n (map (spend_one x) ws)
 ItemsRise-spend x n [] r = tt
 ItemsRise-spend x n (w ∷ ws) r =
-    let same = item-spend_one x w in
-    (omega (arith, r.0, same), ItemsRise-weaker (spend_one x w).item w.item (map (spend_one x) ws) (omega (arith, same)) (ItemsRise-spend x w.item ws r.1))
+    let same = item-spend_one x w in (
+      omega (arith, r.0, same),
+      ItemsRise-weaker (spend_one x w).item w.item (map (spend_one x) ws) (omega (arith, same))
+          (ItemsRise-spend x w.item ws r.1),
+    )
 
 above_item : (n : ℕ) (ws : List Wanted) (w : Wanted) → ItemsRise n ws → IsIn ws w → n < w.item
 above_item n [] w r h = absurd h
@@ -58,7 +66,8 @@ above_item n (v ∷ ws) w r (inl q) = subst (λ (z : Wanted). n < z.item) q r.0
 above_item n (v ∷ ws) w r (inr q) = let later = above_item v.item ws w r.1 q in omega (arith, later, r.0)
 
 -- `item_left` finds the items that are left, and no others
-pub find-in : (n : ℕ) (ws : List Wanted) (w : Wanted) → ItemsRise n ws → IsIn ws w → find (λ v. eqb v.item w.item) ws ≡ Some w
+pub find-in : (n : ℕ) (ws : List Wanted) (w : Wanted) → ItemsRise n ws → IsIn ws w
+    → find (λ v. eqb v.item w.item) ws ≡ Some w
 find-in n [] w r h = absurd h
 find-in n (v ∷ ws) w r (inl q) =
     let same : eqb v.item w.item ≡ true = eq-eqb _ _ (ap (λ (z : Wanted). z.item) q) in
@@ -71,14 +80,16 @@ find-in n (v ∷ ws) w r (inr q) =
 pub in-find : (ws : List Wanted) (j : ℕ) (w : Wanted) → find (λ v. eqb v.item j) ws ≡ Some w → IsIn ws w × (w.item ≡ j)
 in-find [] j w e = cc
 in-find (v ∷ ws) j w e =
-    elim (eqb v.item j) as (λ b. eqb v.item j ≡ b → cond b (Some v) (find (λ v. eqb v.item j) ws) ≡ Some w → IsIn (v ∷ ws) w × (w.item ≡ j)) [
+    elim (eqb v.item j) as (λ b. eqb v.item j ≡ b → cond b (Some v) (find (λ v. eqb v.item j) ws) ≡ Some w
+    → IsIn (v ∷ ws) w × (w.item ≡ j)) [
       | true ↦ λ i k. let same : v ≡ w = cc in (inl same, subst (λ (z : Wanted). z.item ≡ j) same (eqb-true _ _ i))
       | false ↦ λ i k. let later = in-find ws j w k in (inr later.0, later.1)
     ] refl e
 
 -- the facts that `solves_pick` asks for
 pub sound_items : (n : ℕ) (r : Residual) → IsProper n r → AllByRecursion (IsSound n r) r.items
-sound_items n r p = each_from (IsSound n r) r.items (λ w k. let s = p.sound w k in (s.0, s.1, s.2, find-in 0 r.items w p.items_rise k))
+sound_items n r p =
+    each_from (IsSound n r) r.items (λ w k. let s = p.sound w k in (s.0, s.1, s.2, find-in 0 r.items w p.items_rise k))
 
 pub low_items : (n : ℕ) (r : Residual) (j : ℕ) (w : Wanted) → IsProper n r → item_left r j ≡ Some w → j ≤ n
 low_items n r j w p e = let found = in-find r.items j w e in let s = p.sound w found.0 in omega (arith, s.0, found.1)
@@ -93,37 +104,46 @@ goes_on r i x o = not (holds o i && nat_le o.number x.number) && stays r x o
 pub proper_pick : (n i : ℕ) (r : Residual) (x : Numbered) → IsProper n r → IsProper n (pick r i x)
 proper_pick n i r x p = record {
   options_rise = NumbersRise-filter (goes_on r i x) 0 r.options p.options_rise;
-  items_rise = ItemsRise-filter (λ w. nat_lt 0 w.high) 0 (map (spend_one x) r.items) (ItemsRise-spend x 0 r.items p.items_rise);
+  items_rise =
+      ItemsRise-filter (λ w. nat_lt 0 w.high) 0 (map (spend_one x) r.items) (ItemsRise-spend x 0 r.items p.items_rise);
   sound = λ w k.
       let found = in-filter (λ w. nat_lt 0 w.high) (map (spend_one x) r.items) w k in
       let from = in-map (spend_one x) r.items w found.0 in
-      let within = subst (λ (z : Wanted). (z.item ≤ n) × (z.low ≤ z.high)) from.2 (spent from.0 (p.sound from.0 from.1)) in
+      let within =
+      subst (λ (z : Wanted). (z.item ≤ n) × (z.low ≤ z.high)) from.2 (spent from.0 (p.sound from.0 from.1)) in
       (within.0, within.1, ltb-true 0 w.high found.1);
   items_left = λ o j k l h.
       let found = in-filter (goes_on r i x) r.options o k in
       let w = p.items_left o j found.0 l h in
       let here : holds o w.0.item ≡ true = subst (λ z. holds o z ≡ true) (sym w.2) h in (
         spend_one x w.0,
-        filter-in (λ w. nat_lt 0 w.high) (map (spend_one x) r.items) (spend_one x w.0) (map-in (spend_one x) r.items w.0 w.1) (still o w.0 w.1 (and_right _ _ found.1) here),
+        filter-in (λ w. nat_lt 0 w.high) (map (spend_one x) r.items) (spend_one x w.0)
+            (map-in (spend_one x) r.items w.0 w.1) (still o w.0 w.1 (and_right _ _ found.1) here),
         item-spend_one x w.0 ∙ w.2,
       );
   one_primary = λ o k. p.one_primary o (in-filter (goes_on r i x) r.options o k).0;
 }
   where
-    spent : (w : Wanted) → (w.item ≤ n) × (w.low ≤ w.high) × (0 < w.high) → ((spend_one x w).item ≤ n) × ((spend_one x w).low ≤ (spend_one x w).high)
-    spent w s = elim (holds x w.item) as (λ b. ((cond b (less_one w) w).item ≤ n) × ((cond b (less_one w) w).low ≤ (cond b (less_one w) w).high)) [
-      | true ↦ (s.0, omega (arith, s.1))
-      | false ↦ (s.0, s.1)
-    ]
+    spent : (w : Wanted) → (w.item ≤ n) × (w.low ≤ w.high) × (0 < w.high) → ((spend_one x w).item ≤ n)
+        × ((spend_one x w).low ≤ (spend_one x w).high)
+    spent w s =
+        elim (holds x w.item) as
+        (λ b. ((cond b (less_one w) w).item ≤ n) × ((cond b (less_one w) w).low ≤ (cond b (less_one w) w).high)) [
+          | true ↦ (s.0, omega (arith, s.1))
+          | false ↦ (s.0, s.1)
+        ]
 
-    still : (o : Numbered) (w : Wanted) → IsIn r.items w → stays r x o ≡ true → holds o w.item ≡ true → nat_lt 0 (spend_one x w).high ≡ true
-    still o w k stay here = elim (holds x w.item) as (λ b. holds x w.item ≡ b → nat_lt 0 (cond b (less_one w) w).high ≡ true) [
-      | true ↦ λ e. elim (nat_lt 1 w.high) as (λ c. nat_lt 1 w.high ≡ c → nat_lt 0 (w.high - 1) ≡ true) [
-        | true ↦ λ f. let more = ltb-true 1 w.high f in lt-ltb 0 (w.high - 1) (omega (arith, more))
-        | false ↦ λ f. let gone : holds o w.item ≡ false = used_up r x o w stay e (find-in 0 r.items w p.items_rise k) f in cc
-      ] refl
-      | false ↦ λ e. let s = p.sound w k in lt-ltb 0 w.high s.2
-    ] refl
+    still : (o : Numbered) (w : Wanted) → IsIn r.items w → stays r x o ≡ true → holds o w.item ≡ true
+        → nat_lt 0 (spend_one x w).high ≡ true
+    still o w k stay here =
+        elim (holds x w.item) as (λ b. holds x w.item ≡ b → nat_lt 0 (cond b (less_one w) w).high ≡ true) [
+          | true ↦ λ e. elim (nat_lt 1 w.high) as (λ c. nat_lt 1 w.high ≡ c → nat_lt 0 (w.high - 1) ≡ true) [
+            | true ↦ λ f. let more = ltb-true 1 w.high f in lt-ltb 0 (w.high - 1) (omega (arith, more))
+            | false ↦ λ f. let gone : holds o w.item ≡ false =
+                used_up r x o w stay e (find-in 0 r.items w p.items_rise k) f in cc
+          ] refl
+          | false ↦ λ e. let s = p.sound w k in lt-ltb 0 w.high s.2
+        ] refl
 
 -- where none is
 pub proper_none : (n i : ℕ) (r : Residual) → IsProper n r → IsProper n (none r i)
@@ -133,8 +153,12 @@ proper_none n i r p = record {
   sound = λ w k. p.sound w (in-filter (λ w. not (eqb w.item i)) r.items w k).0;
   items_left = λ o j k l h.
       let found = in-filter (λ o. not (holds o i)) r.options o k in
-      let w = p.items_left o j found.0 l h in
-      (w.0, filter-in (λ w. not (eqb w.item i)) r.items w.0 w.1 (other o w.0.item found.1 (subst (λ z. holds o z ≡ true) (sym w.2) h)), w.2);
+      let w = p.items_left o j found.0 l h in (
+        w.0,
+        filter-in (λ w. not (eqb w.item i)) r.items w.0 w.1
+            (other o w.0.item found.1 (subst (λ z. holds o z ≡ true) (sym w.2) h)),
+        w.2,
+      );
   one_primary = λ o k. p.one_primary o (in-filter (λ o. not (holds o i)) r.options o k).0;
 }
   where
@@ -149,34 +173,40 @@ proper_none n i r p = record {
 
 -- ---- the whole problem
 
-has_item : (k : ℕ) (bs : List Bounds) (j : ℕ) → k < j → j ≤ k + length bs → (w : Wanted) × IsIn (wanted_from (k + 1) bs) w × (w.item ≡ j)
+has_item : (k : ℕ) (bs : List Bounds) (j : ℕ) → k < j → j ≤ k + length bs → (w : Wanted)
+    × IsIn (wanted_from (k + 1) bs) w × (w.item ≡ j)
 has_item k [] j h l = absurd (omega (arith, h, l))
-has_item k (b ∷ bs) j h l = elim (eqb (k + 1) j) as (λ c. eqb (k + 1) j ≡ c → (w : Wanted) × IsIn (wanted_from (k + 1) (b ∷ bs)) w × (w.item ≡ j)) [
-  | true ↦ λ e. (record { item = k + 1; low = b.low; high = b.high }, inl refl, eqb-true _ _ e)
-  | false ↦ λ e.
-      let apart : k + 1 ≢ j = λ s. let same : eqb (k + 1) j ≡ true = eq-eqb _ _ s in cc in
-      let later = has_item (k + 1) bs j (omega (arith, h, apart)) (omega (arith, l)) in
-      (later.0, inr later.1, later.2)
-] refl
+has_item k (b ∷ bs) j h l =
+    elim (eqb (k + 1) j) as (λ c. eqb (k + 1) j ≡ c → (w : Wanted) × IsIn (wanted_from (k + 1) (b ∷ bs)) w
+    × (w.item ≡ j)) [
+      | true ↦ λ e. (record { item = k + 1; low = b.low; high = b.high }, inl refl, eqb-true _ _ e)
+      | false ↦ λ e.
+          let apart : k + 1 ≢ j = λ s. let same : eqb (k + 1) j ≡ true = eq-eqb _ _ s in cc in
+          let later = has_item (k + 1) bs j (omega (arith, h, apart)) (omega (arith, l)) in
+          (later.0, inr later.1, later.2)
+    ] refl
 
 ItemsRise-from : (k : ℕ) (bs : List Bounds) → ItemsRise k (wanted_from (k + 1) bs)
 ItemsRise-from k [] = tt
 ItemsRise-from k (b ∷ bs) = (omega arith, ItemsRise-from (k + 1) bs)
 
-sound_from : (k : ℕ) (bs : List Bounds) (w : Wanted) → AllByRecursion AreSoundBounds bs → IsIn (wanted_from (k + 1) bs) w → (w.item ≤ k + length bs) × (w.low ≤ w.high) × (0 < w.high)
+sound_from : (k : ℕ) (bs : List Bounds) (w : Wanted) → AllByRecursion AreSoundBounds bs
+    → IsIn (wanted_from (k + 1) bs) w → (w.item ≤ k + length bs) × (w.low ≤ w.high) × (0 < w.high)
 sound_from k [] w a h = absurd h
 sound_from k (b ∷ bs) w a (inl q) =
     let item = ap (λ (z : Wanted). z.item) q in
     let low = ap (λ (z : Wanted). z.low) q in
     let high = ap (λ (z : Wanted). z.high) q in
     (omega (arith, item), omega (arith, low, high, a.0.0), omega (arith, high, a.0.1))
-sound_from k (b ∷ bs) w a (inr q) = let later = sound_from (k + 1) bs w a.1 q in (omega (arith, later.0), later.1, later.2)
+sound_from k (b ∷ bs) w a (inr q) =
+    let later = sound_from (k + 1) bs w a.1 q in (omega (arith, later.0), later.1, later.2)
 
 pub proper_whole : (p : Puzzle) → IsValid p → IsProper (primary_count p) (whole p)
 proper_whole p v = record {
   options_rise = options_rise p;
   items_rise = ItemsRise-from 0 p.bounds;
-  sound = λ w k. let s = sound_from 0 p.bounds w (recursion_from_All AreSoundBounds p.bounds v.bounds) k in (omega (arith, s.0), s.1, s.2);
+  sound = λ w k. let s = sound_from 0 p.bounds w (recursion_from_All AreSoundBounds p.bounds v.bounds) k in
+      (omega (arith, s.0), s.1, s.2);
   items_left = λ o j k l h.
       let by = held_by o.uses j h in
       let s = option_sound p 0 p.options o (recursion_from_All (IsSoundOption p) p.options v.options) k in

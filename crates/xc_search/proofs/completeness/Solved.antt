@@ -1,5 +1,7 @@
 -- Selections that solve what is left: one branch back.
-use Rattle.std.proofs.Common.{ℕ, suc, ◌≡◌, ◌≢◌, ◌-◌, ◌<◌, ◌≤◌, Bool, true, false, cond, not, ◌&&◌, ◌||◌, eqb, List, [], ◌∷◌, length, map, filter, Some, None, refl, sym, ap, ap₂, ◌∙◌, arith, subst, eqb-true, lt-ltb, le-ltb, ltb-false, le-leb}
+use Rattle.std.proofs.Common.{ℕ, suc, ◌≡◌, ◌≢◌, ◌-◌, ◌<◌, ◌≤◌, Bool, true, false, cond, not, ◌&&◌, ◌||◌, eqb, List, []}
+use Rattle.std.proofs.Common.{◌∷◌, length, map, filter, Some, None, refl, sym, ap, ap₂, ◌∙◌, arith, subst, eqb-true}
+use Rattle.std.proofs.Common.{lt-ltb, le-ltb, ltb-false, le-leb}
 use Rattle.xc_search.proofs.Spent.{less_one}
 use Rattle.std.specs.Prelude.{nat_lt, nat_le, is_some}
 use Rattle.std.specs.List.{AllByRecursion, list_all}
@@ -42,32 +44,40 @@ IsSound n r w = (w.item ≤ n) × (w.low ≤ w.high) × (0 < w.high) × (item_le
 
 -- ---- the use of an item
 
-pub use_passes : (f : Use → Bool) (us : List Use) (j : ℕ) → list_all f us ≡ true → is_some (colour_in us j) ≡ true → (u : Use) × (u.item ≡ j) × (f u ≡ true)
+pub use_passes : (f : Use → Bool) (us : List Use) (j : ℕ) → list_all f us ≡ true → is_some (colour_in us j) ≡ true
+    → (u : Use) × (u.item ≡ j) × (f u ≡ true)
 use_passes f [] j all held = cc
 use_passes f (u ∷ us) j all held =
-    elim (eqb u.item j) as (λ b. eqb u.item j ≡ b → is_some (cond b (Some u.colour) (colour_in us j)) ≡ true → (u : Use) × (u.item ≡ j) × (f u ≡ true)) [
+    elim (eqb u.item j) as (λ b. eqb u.item j ≡ b → is_some (cond b (Some u.colour) (colour_in us j)) ≡ true → (u : Use)
+    × (u.item ≡ j) × (f u ≡ true)) [
       | true ↦ λ e k. (u, eqb-true _ _ e, and_left _ _ all)
       | false ↦ λ e k. use_passes f us j (and_right _ _ all) k
     ] refl held
 
 -- an item that x uses up is held by no option that stays
-pub used_up : (r : Residual) (x y : Numbered) (w : Wanted) → stays r x y ≡ true → holds x w.item ≡ true → item_left r w.item ≡ Some w → nat_lt 1 w.high ≡ false → holds y w.item ≡ false
+pub used_up : (r : Residual) (x y : Numbered) (w : Wanted) → stays r x y ≡ true → holds x w.item ≡ true
+    → item_left r w.item ≡ Some w → nat_lt 1 w.high ≡ false → holds y w.item ≡ false
 used_up r x y w stay held left full =
     let passed = use_passes (λ u. may_stay (item_left r u.item) u y) x.uses w.item stay held in
     let u = passed.0 in
-    let at : may_stay (item_left r w.item) u y ≡ true = subst (λ j. may_stay (item_left r j) u y ≡ true) passed.1 passed.2 in
+    let at : may_stay (item_left r w.item) u y ≡ true =
+    subst (λ j. may_stay (item_left r j) u y ≡ true) passed.1 passed.2 in
     let at_w : may_stay (Some w) u y ≡ true = subst (λ o. may_stay o u y ≡ true) left at in
     let free : not (holds y u.item) ≡ true = subst (λ b. (b || not (holds y u.item)) ≡ true) full at_w in
     let free_w : not (holds y w.item) ≡ true = subst (λ j. not (holds y j) ≡ true) passed.1 free in
     elim (holds y w.item) as (λ b. not b ≡ true → b ≡ false) [ true ↦ λ e. sym e | false ↦ λ e. refl ] free_w
 
 -- whoever stays agrees above n
-stays_beside : (n : ℕ) (r : Residual) (y : Numbered) (us : List Use) → ((j : ℕ) (w : Wanted) → item_left r j ≡ Some w → j ≤ n) →
-    list_all (λ u. may_stay (item_left r u.item) u y) us ≡ true → list_all (λ u. nat_le u.item n || agrees u.colour (colour_at y u.item)) us ≡ true
+stays_beside : (n : ℕ) (r : Residual) (y : Numbered) (us : List Use)
+    → ((j : ℕ) (w : Wanted) → item_left r j ≡ Some w → j ≤ n) →
+    list_all (λ u. may_stay (item_left r u.item) u y) us ≡ true
+    → list_all (λ u. nat_le u.item n || agrees u.colour (colour_at y u.item)) us ≡ true
 stays_beside n r y [] low e = refl
 stays_beside n r y (u ∷ us) low e =
     ap₂ (λ a b. a && b)
-    (elim (item_left r u.item) as (λ o. item_left r u.item ≡ o → may_stay o u y ≡ true → (nat_le u.item n || agrees u.colour (colour_at y u.item)) ≡ true) [
+    (elim (item_left r u.item) as
+    (λ o. item_left r u.item ≡ o → may_stay o u y ≡ true
+    → (nat_le u.item n || agrees u.colour (colour_at y u.item)) ≡ true) [
       | Some w ↦ λ i k. rw (le-leb u.item n (low u.item w i)) refl
       | None ↦ λ i k. rw k (or-true (nat_le u.item n))
     ] refl (and_left _ _ e))
@@ -80,16 +90,28 @@ none_hold j (y ∷ s) a = rw a.0 (none_hold j s a.1)
 -- ---- one branch back
 
 met_back : (x : Numbered) (s : List Numbered) (ws : List Wanted) →
-    AllByRecursion (λ w. (w.low ≤ w.high) × (0 < w.high) × (holds x w.item ≡ true → nat_lt 1 w.high ≡ false → count w.item s ≡ 0)) ws →
+    AllByRecursion (λ w. (w.low ≤ w.high) × (0 < w.high)
+    × (holds x w.item ≡ true → nat_lt 1 w.high ≡ false → count w.item s ≡ 0)) ws →
     AllByRecursion (IsMet s) (filter (λ w. nat_lt 0 w.high) (map (spend_one x) ws)) → AllByRecursion (IsMet (x ∷ s)) ws
 met_back x s [] a m = tt
 met_back x s (w ∷ ws) a m =
     let pos : Wanted → Bool = λ v. nat_lt 0 v.high in
     let c = count w.item s in
-    let one = elim (holds x w.item) as (λ b. holds x w.item ≡ b → AllByRecursion (IsMet s) (filter (λ v. nat_lt 0 v.high) (cond b (less_one w) w ∷ map (spend_one x) ws)) →
-    (w.low ≤ length (cond b (x ∷ holding w.item s) (holding w.item s))) × (length (cond b (x ∷ holding w.item s) (holding w.item s)) ≤ w.high) × AllByRecursion (IsMet s) (filter (λ v. nat_lt 0 v.high) (map (spend_one x) ws))) [
-      | true ↦ λ h k. elim (nat_lt 0 (w.high - 1)) as (λ d. nat_lt 0 (w.high - 1) ≡ d → AllByRecursion (IsMet s) (cond d (less_one w ∷ filter (λ v. nat_lt 0 v.high) (map (spend_one x) ws)) (filter (λ v. nat_lt 0 v.high) (map (spend_one x) ws))) →
-          (w.low ≤ suc (length (holding w.item s))) × (suc (length (holding w.item s)) ≤ w.high) × AllByRecursion (IsMet s) (filter (λ v. nat_lt 0 v.high) (map (spend_one x) ws))) [
+    let one =
+    elim (holds x w.item) as
+    (λ b. holds x w.item ≡ b
+    → AllByRecursion (IsMet s)
+    (filter (λ v. nat_lt 0 v.high) (cond b (less_one w) w ∷ map (spend_one x) ws)) →
+    (w.low ≤ length (cond b (x ∷ holding w.item s) (holding w.item s)))
+    × (length (cond b (x ∷ holding w.item s) (holding w.item s)) ≤ w.high)
+    × AllByRecursion (IsMet s) (filter (λ v. nat_lt 0 v.high) (map (spend_one x) ws))) [
+      | true ↦ λ h k. elim (nat_lt 0 (w.high - 1)) as
+          (λ d. nat_lt 0 (w.high - 1) ≡ d
+          → AllByRecursion (IsMet s)
+          (cond d (less_one w ∷ filter (λ v. nat_lt 0 v.high) (map (spend_one x) ws))
+          (filter (λ v. nat_lt 0 v.high) (map (spend_one x) ws))) →
+          (w.low ≤ suc (length (holding w.item s))) × (suc (length (holding w.item s)) ≤ w.high)
+          × AllByRecursion (IsMet s) (filter (λ v. nat_lt 0 v.high) (map (spend_one x) ws))) [
             | true ↦ λ e q. (omega (arith, q.0.0), omega (arith, q.0.1, a.0.1), q.1)
             | false ↦ λ e q.
                 let small = ltb-false 0 (w.high - 1) e in
@@ -102,19 +124,32 @@ met_back x s (w ∷ ws) a m =
     ((one.0, one.1), met_back x s ws a.1 one.2)
 
 -- A selection that solves what is left by taking x solves with x what was left before.
-pub solves_pick : (n i : ℕ) (r : Residual) (x : Numbered) (s : List Numbered) → NumbersRise 0 r.options → AllByRecursion (IsSound n r) r.items → ((j : ℕ) (w : Wanted) → item_left r j ≡ Some w → j ≤ n) →
+pub solves_pick : (n i : ℕ) (r : Residual) (x : Numbered) (s : List Numbered) → NumbersRise 0 r.options
+    → AllByRecursion (IsSound n r) r.items → ((j : ℕ) (w : Wanted) → item_left r j ≡ Some w → j ≤ n) →
     IsIn r.options x → holds x i ≡ true → Solves n (pick r i x) s → Solves n r (x ∷ s)
 solves_pick n i r x s rising sound low in_x at solved =
-    let passes : AllByRecursion (λ y. IsIn r.options y × ((not (holds y i && nat_le y.number x.number) && stays r x y) ≡ true)) s =
-    each_weaker (IsIn (pick r i x).options) (λ y. IsIn r.options y × ((not (holds y i && nat_le y.number x.number) && stays r x y) ≡ true)) s
+    let passes : AllByRecursion
+    (λ y. IsIn r.options y × ((not (holds y i && nat_le y.number x.number) && stays r x y) ≡ true)) s =
+    each_weaker (IsIn (pick r i x).options)
+    (λ y. IsIn r.options y × ((not (holds y i && nat_le y.number x.number) && stays r x y) ≡ true)) s
     (λ y k. in-filter (λ y. not (holds y i && nat_le y.number x.number) && stays r x y) r.options y k) solved.chosen in
     record {
       chosen = (in_x, each_weaker _ (IsIn r.options) s (λ y k. k.0) passes);
       met = met_back x s r.items
           (each_weaker (IsSound n r) _ r.items
-          (λ w k. (k.1, k.2, λ h full. ap length (none_hold w.item s (each_weaker _ (λ y. holds y w.item ≡ false) s (λ y q. used_up r x y w (and_right _ _ q.1) h k.3 full) passes)))) sound)
+          (λ w k. (
+            k.1,
+            k.2,
+            λ h full. ap length
+                (none_hold w.item s (each_weaker _ (λ y. holds y w.item ≡ false) s
+                (λ y q. used_up r x y w (and_right _ _ q.1) h k.3 full) passes)),
+          )) sound)
           solved.met;
-      agreed = (each_weaker _ (λ y. (x.number ≢ y.number) × (beside n x y ≡ true)) s (λ y q. (apart y q.0 (and_left _ _ q.1), stays_beside n r y x.uses low (and_right _ _ q.1))) passes, solved.agreed);
+      agreed = (
+        each_weaker _ (λ y. (x.number ≢ y.number) × (beside n x y ≡ true)) s
+            (λ y q. (apart y q.0 (and_left _ _ q.1), stays_beside n r y x.uses low (and_right _ _ q.1))) passes,
+        solved.agreed,
+      );
     }
   where
     apart : (y : Numbered) → IsIn r.options y → not (holds y i && nat_le y.number x.number) ≡ true → x.number ≢ y.number
@@ -125,11 +160,15 @@ solves_pick n i r x s rising sound low in_x at solved =
         let clash : not (true && true) ≡ true = rw (here, not_above) at e in
         cc
 
-none_back : (i : ℕ) (s : List Numbered) (ws : List Wanted) → count i s ≡ 0 → AllByRecursion (λ w. eqb w.item i ≡ true → w.low ≡ 0) ws →
+none_back : (i : ℕ) (s : List Numbered) (ws : List Wanted) → count i s ≡ 0
+    → AllByRecursion (λ w. eqb w.item i ≡ true → w.low ≡ 0) ws →
     AllByRecursion (IsMet s) (filter (λ w. not (eqb w.item i)) ws) → AllByRecursion (IsMet s) ws
 none_back i s [] z free m = tt
 none_back i s (w ∷ ws) z free m =
-    elim (eqb w.item i) as (λ b. eqb w.item i ≡ b → AllByRecursion (IsMet s) (cond (not b) (w ∷ filter (λ w. not (eqb w.item i)) ws) (filter (λ w. not (eqb w.item i)) ws)) → AllByRecursion (IsMet s) (w ∷ ws)) [
+    elim (eqb w.item i) as (λ b. eqb w.item i ≡ b
+    → AllByRecursion (IsMet s)
+    (cond (not b) (w ∷ filter (λ w. not (eqb w.item i)) ws) (filter (λ w. not (eqb w.item i)) ws))
+    → AllByRecursion (IsMet s) (w ∷ ws)) [
       | true ↦ λ e q.
           let zero_here : count w.item s ≡ 0 = ap (λ j. count j s) (eqb-true _ _ e) ∙ z in
           let zero_low = free.0 e in
@@ -138,12 +177,17 @@ none_back i s (w ∷ ws) z free m =
     ] refl m
 
 -- A selection that solves what is left without item i solves what was left before, where i need not be held.
-pub solves_none : (n i : ℕ) (r : Residual) (s : List Numbered) → AllByRecursion (λ w. eqb w.item i ≡ true → w.low ≡ 0) r.items → Solves n (none r i) s → Solves n r s
+pub solves_none : (n i : ℕ) (r : Residual) (s : List Numbered)
+    → AllByRecursion (λ w. eqb w.item i ≡ true → w.low ≡ 0) r.items → Solves n (none r i) s → Solves n r s
 solves_none n i r s free solved =
     let passes : AllByRecursion (λ y. IsIn r.options y × (not (holds y i) ≡ true)) s =
-    each_weaker (IsIn (none r i).options) (λ y. IsIn r.options y × (not (holds y i) ≡ true)) s (λ y k. in-filter (λ o. not (holds o i)) r.options y k) solved.chosen in
+    each_weaker (IsIn (none r i).options) (λ y. IsIn r.options y × (not (holds y i) ≡ true)) s
+    (λ y k. in-filter (λ o. not (holds o i)) r.options y k) solved.chosen in
     record {
       chosen = each_weaker _ (IsIn r.options) s (λ y k. k.0) passes;
-      met = none_back i s r.items (ap length (none_hold i s (each_weaker _ (λ y. holds y i ≡ false) s (λ y k. not-true (holds y i) k.1) passes))) free solved.met;
+      met =
+          none_back i s r.items (ap length
+          (none_hold i s (each_weaker _ (λ y. holds y i ≡ false) s (λ y k. not-true (holds y i) k.1) passes))) free
+          solved.met;
       agreed = solved.agreed;
     }

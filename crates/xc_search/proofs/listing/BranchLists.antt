@@ -1,5 +1,6 @@
 -- The branches of an item in their order.
-use Rattle.std.proofs.Common.{ℕ, suc, ◌≡◌, ◌+◌, ◌<◌, ◌≤◌, true, false, cond, eqb, List, [], ◌∷◌, ◌++◌, length, map, take, drop, Some, None, refl, ap, ◌∙◌, arith, eqb-true, eq-eqb, length-append}
+use Rattle.std.proofs.Common.{ℕ, suc, ◌≡◌, ◌+◌, ◌<◌, ◌≤◌, true, false, cond, eqb, List, [], ◌∷◌, ◌++◌, length, map}
+use Rattle.std.proofs.Common.{take, drop, Some, None, refl, ap, ◌∙◌, arith, eqb-true, eq-eqb, length-append}
 use Rattle.std.proofs.lemmas.Option.{slice_get-map}
 use Rattle.std.specs.Prelude.{slice_get, option_map}
 use Rattle.std.specs.List.{enumerate_from}
@@ -10,33 +11,60 @@ use Rattle.std.proofs.lemmas.List.FromFn.{length-enumerate_from}
 use Rattle.xc_input.proofs.lists.Places.{get_left, get_seam, get_numbered, get_take, not_some}
 
 abbrev picks : Residual → Wanted → List Branch
-picks r w = map (take_branch r w.item (branch_count r w)) (enumerate_from 1 (take (branch_count r w) (holding w.item r.options)))
+picks r w =
+    map (take_branch r w.item (branch_count r w))
+    (enumerate_from 1 (take (branch_count r w) (holding w.item r.options)))
 
-length-picks : (r : Residual) (w : Wanted) → length (picks r w) ≡ length (take (branch_count r w) (holding w.item r.options))
+length-picks : (r : Residual) (w : Wanted)
+    → length (picks r w) ≡ length (take (branch_count r w) (holding w.item r.options))
 length-picks r w = length-map _ (take_branch r w.item (branch_count r w)) ∙ length-enumerate_from 1 _
 
-pub branch_takes : (r : Residual) (w : Wanted) (k : ℕ) (x : Numbered) → k < branch_count r w → slice_get (holding w.item r.options) k ≡ Some x →
+pub branch_takes : (r : Residual) (w : Wanted) (k : ℕ) (x : Numbered) → k < branch_count r w
+    → slice_get (holding w.item r.options) k ≡ Some x →
     slice_get (branches_of r w) k ≡ Some (take_branch r w.item (branch_count r w) (1 + k, x))
 branch_takes r w k x h e =
     get_left (picks r w) _ k _
-    (slice_get-map (take_branch r w.item (branch_count r w)) (enumerate_from 1 (take (branch_count r w) (holding w.item r.options))) k
+    (slice_get-map (take_branch r w.item (branch_count r w))
+    (enumerate_from 1 (take (branch_count r w) (holding w.item r.options))) k
     ∙ ap (option_map (take_branch r w.item (branch_count r w)))
-    (get_numbered 1 (take (branch_count r w) (holding w.item r.options)) k x (get_take (branch_count r w) (holding w.item r.options) k h ∙ e)))
+    (get_numbered 1 (take (branch_count r w) (holding w.item r.options)) k x
+    (get_take (branch_count r w) (holding w.item r.options) k h ∙ e)))
 
 -- a branch behind the last option takes none
-pub branch_none : (r : Residual) (w : Wanted) (k : ℕ) → k < branch_count r w → slice_get (holding w.item r.options) k ≡ None →
-    (slice_get (branches_of r w) k ≡ Some (none_branch r w.item (branch_count r w))) × (k ≡ length (holding w.item r.options)) × (branch_count r w ≡ suc k)
+pub branch_none : (r : Residual) (w : Wanted) (k : ℕ) → k < branch_count r w
+    → slice_get (holding w.item r.options) k ≡ None →
+    (slice_get (branches_of r w) k ≡ Some (none_branch r w.item (branch_count r w)))
+    × (k ≡ length (holding w.item r.options)) × (branch_count r w ≡ suc k)
 branch_none r w k h e =
     let past = not_some (holding w.item r.options) k e in
     let not_wanted : w.low ≡ 0 = omega (arith, past, h) in
     let test : eqb w.low 0 ≡ true = eq-eqb w.low 0 not_wanted in
-    let last : k ≡ length (picks r w) = omega (arith, length-picks r w, length-take (branch_count r w) (holding w.item r.options), past, h) in
-    (rw (test, last) (get_seam (picks r w) (none_branch r w.item (branch_count r w))), omega (arith, past, h), omega (arith, past, h))
+    let last : k ≡ length (picks r w) =
+    omega (arith, length-picks r w, length-take (branch_count r w) (holding w.item r.options), past, h) in (
+      rw (test, last) (get_seam (picks r w) (none_branch r w.item (branch_count r w))),
+      omega (arith, past, h),
+      omega
+          (arith, past, h),
+    )
 
 pub branches_end : (r : Residual) (w : Wanted) → drop (branch_count r w) (branches_of r w) ≡ []
 branches_end r w =
     drop_all (branch_count r w) (branches_of r w)
-    (elim (eqb w.low 0) as (λ b. eqb w.low 0 ≡ b → length (picks r w ++ cond b (none_branch r w.item (branch_count r w) ∷ []) []) ≤ branch_count r w) [
-      | true ↦ λ e. omega (arith, length-append (picks r w) (none_branch r w.item (branch_count r w) ∷ []), length-picks r w, length-take (branch_count r w) (holding w.item r.options), eqb-true w.low 0 e)
-      | false ↦ λ e. omega (arith, length-append (picks r w) [], length-picks r w, length-take (branch_count r w) (holding w.item r.options))
+    (elim (eqb w.low 0) as (λ b. eqb w.low 0 ≡ b
+    → length (picks r w ++ cond b (none_branch r w.item (branch_count r w) ∷ []) []) ≤ branch_count r w) [
+      | true ↦ λ e. omega (
+        arith,
+        length-append (picks r w) (none_branch r w.item (branch_count r w) ∷ []),
+        length-picks
+            r w,
+        length-take (branch_count r w) (holding w.item r.options),
+        eqb-true w.low 0 e,
+      )
+      | false ↦ λ e. omega (
+        arith,
+        length-append (picks r w) [],
+        length-picks r w,
+        length-take (branch_count r w)
+            (holding w.item r.options),
+      )
     ] refl)

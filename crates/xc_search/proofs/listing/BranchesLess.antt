@@ -1,35 +1,49 @@
 -- Each branch leaves less.
-use Rattle.std.proofs.Common.{ℕ, suc, ◌≡◌, ◌<◌, Bool, true, false, cond, not, ◌&&◌, List, [], ◌∷◌, length, map, filter, Some, refl, ap, arith, inl, inr, subst, le-leb, eq-eqb, eqb}
+use Rattle.std.proofs.Common.{ℕ, suc, ◌≡◌, ◌<◌, Bool, true, false, cond, not, ◌&&◌, List, [], ◌∷◌, length, map, filter}
+use Rattle.std.proofs.Common.{Some, refl, ap, arith, inl, inr, subst, le-leb, eq-eqb, eqb}
 use Rattle.xc_search.specs.inner.Sizes.{size_of}
 use Rattle.std.specs.Prelude.{nat_lt, nat_le}
 use Rattle.std.specs.List.{AllByRecursion, best_of}
 use Rattle.xc_input.specs.Problem.{Numbered, holds, holding}
-use Rattle.xc_search.specs.Listing.{Wanted, Residual, branch_count, branch_item, first_least, spend_one, stays, pick, take_branch, none_branch, branches_of}
+use Rattle.xc_search.specs.Listing.{Wanted, Residual, branch_count, branch_item, first_least, spend_one, stays, pick}
+use Rattle.xc_search.specs.Listing.{take_branch, none_branch, branches_of}
 use Rattle.xc_input.proofs.lists.Filters.{length-filter-le, length-filter-cons}
 use Rattle.xc_input.proofs.lists.Members.{IsIn}
 use Rattle.xc_input.proofs.lists.EachElement.{each_weaker, each-append, each-map, each-numbered}
 use Rattle.std.proofs.lemmas.List.{length-map}
 
 -- a test that each option of item i fails for itself leaves one out
-pub less_options : (i : ℕ) (q : Numbered → Numbered → Bool) → ((x : Numbered) → holds x i ≡ true → q x x ≡ false) → (os : List Numbered) → AllByRecursion (λ x. length (filter (q x) os) < length os) (holding i os)
+pub less_options : (i : ℕ) (q : Numbered → Numbered → Bool) → ((x : Numbered) → holds x i ≡ true → q x x ≡ false)
+    → (os : List Numbered) → AllByRecursion (λ x. length (filter (q x) os) < length os) (holding i os)
 less_options i q fails [] = tt
 less_options i q fails (o ∷ os) =
     let later : AllByRecursion (λ x. length (filter (q x) (o ∷ os)) < suc (length os)) (holding i os) =
-    each_weaker (λ x. length (filter (q x) os) < length os) (λ x. length (filter (q x) (o ∷ os)) < suc (length os)) (holding i os)
+    each_weaker (λ x. length (filter (q x) os) < length os) (λ x. length (filter (q x) (o ∷ os)) < suc (length os))
+    (holding i os)
     (λ x h. omega (arith, length-filter-cons (q x) o os, h)) (less_options i q fails os) in
-    elim (holds o i) as (λ b. holds o i ≡ b → AllByRecursion (λ x. length (filter (q x) (o ∷ os)) < suc (length os)) (cond b (o ∷ holding i os) (holding i os))) [
+    elim (holds o i) as (λ b. holds o i ≡ b
+    → AllByRecursion (λ x. length (filter (q x) (o ∷ os)) < suc (length os))
+    (cond b (o ∷ holding i os) (holding i os))) [
       | true ↦ λ e. (rw (fails o e) (omega (arith, length-filter-le (q o) os)), later)
       | false ↦ λ e. later
     ] refl
 
 picks_less : (r : Residual) (i : ℕ) → AllByRecursion (λ x. size_of (pick r i x) < size_of r) (holding i r.options)
 picks_less r i =
-    each_weaker (λ x. length (pick r i x).options < length r.options) (λ x. size_of (pick r i x) < size_of r) (holding i r.options)
-    (λ x h. omega (arith, length-filter-le (λ w. nat_lt 0 w.high) (map (spend_one x) r.items), length-map r.items (spend_one x), h))
+    each_weaker (λ x. length (pick r i x).options < length r.options) (λ x. size_of (pick r i x) < size_of r)
+    (holding i r.options)
+    (λ x h. omega (
+      arith,
+      length-filter-le (λ w. nat_lt 0 w.high) (map (spend_one x) r.items),
+      length-map r.items
+          (spend_one x),
+      h,
+    ))
     (less_options i (λ x o. not (holds o i && nat_le o.number x.number) && stays r x o)
     (λ x e. rw (e, le-leb x.number x.number (omega arith))) r.options)
 
-pub less_items : (w : Wanted) (ws : List Wanted) → IsIn ws w → length (filter (λ v. not (eqb v.item w.item)) ws) < length ws
+pub less_items : (w : Wanted) (ws : List Wanted) → IsIn ws w
+    → length (filter (λ v. not (eqb v.item w.item)) ws) < length ws
 less_items w [] h = absurd h
 less_items w (v ∷ vs) (inl e) =
     let same : eqb v.item w.item ≡ true = eq-eqb _ _ (ap (λ (x : Wanted). x.item) e) in
@@ -51,13 +65,23 @@ least_is_one count (v ∷ vs) w e =
     let same : best_of (λ x best. nat_lt (count x) (count best)) v vs ≡ w = cc in
     subst (λ x. IsIn (v ∷ vs) x) same (best_is_one (λ x best. nat_lt (count x) (count best)) v vs)
 
-pub branches_less : (r : Residual) (w : Wanted) → branch_item r ≡ Some w → AllByRecursion (λ b. size_of b.next < size_of r) (branches_of r w)
+pub branches_less : (r : Residual) (w : Wanted) → branch_item r ≡ Some w
+    → AllByRecursion (λ b. size_of b.next < size_of r) (branches_of r w)
 branches_less r w e =
     let n = branch_count r w in
     each-append (λ b. size_of b.next < size_of r) _ _
     (each-map (λ b. size_of b.next < size_of r) (take_branch r w.item n) _
     (each-numbered (λ x. size_of (pick r w.item x) < size_of r) n 1 (holding w.item r.options) (picks_less r w.item)))
-    (elim (eqb w.low 0) as (λ c. AllByRecursion (λ b. size_of b.next < size_of r) (cond c (none_branch r w.item n ∷ []) [])) [
-      | true ↦ (omega (arith, less_items w r.items (least_is_one (branch_count r) r.items w e), length-filter-le (λ o. not (holds o w.item)) r.options), tt)
+    (elim (eqb w.low 0) as (λ c. AllByRecursion (λ b. size_of b.next < size_of r)
+    (cond c (none_branch r w.item n ∷ []) [])) [
+      | true ↦ (
+        omega (
+          arith,
+          less_items w r.items (least_is_one (branch_count r) r.items w e),
+          length-filter-le
+              (λ o. not (holds o w.item)) r.options,
+        ),
+        tt,
+      )
       | false ↦ tt
     ])

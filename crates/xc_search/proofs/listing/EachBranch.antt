@@ -1,11 +1,14 @@
 -- The branches of an item, one by one.
-use Rattle.std.proofs.Common.{ℕ, ◌≡◌, ◌<◌, true, false, cond, eqb, List, [], ◌∷◌, map, take, Some, None, refl, sym, ap, subst, ◌⊎◌, inl, inr, eqb-true, eq-eqb}
+use Rattle.std.proofs.Common.{ℕ, ◌≡◌, ◌<◌, true, false, cond, eqb, List, [], ◌∷◌, map, take, Some, None, refl, sym, ap}
+use Rattle.std.proofs.Common.{subst, ◌⊎◌, inl, inr, eqb-true, eq-eqb}
 use Rattle.xc_search.specs.inner.Sizes.{size_of}
 use Rattle.std.specs.List.{enumerate_from}
 use Rattle.xc_search.specs.declared.choice.Choice.{Choice}
 use Rattle.xc_input.specs.Problem.{Numbered, holds, holding}
-use Rattle.xc_search.specs.Listing.{Wanted, Residual, Branch, branch_count, branch_item, first_least, pick, none, take_branch, none_branch, branches_of, level}
-use Rattle.xc_input.proofs.lists.Members.{IsIn, in-filter, in-append, append-in_left, append-in_right, in-map, map-in, in-flat_map, flat_map-in, in-take, in-enumerated, enumerated-in, each_in}
+use Rattle.xc_search.specs.Listing.{Wanted, Residual, Branch, branch_count, branch_item, first_least, pick, none}
+use Rattle.xc_search.specs.Listing.{take_branch, none_branch, branches_of, level}
+use Rattle.xc_input.proofs.lists.Members.{IsIn, in-filter, in-append, append-in_left, append-in_right, in-map, map-in}
+use Rattle.xc_input.proofs.lists.Members.{in-flat_map, flat_map-in, in-take, in-enumerated, enumerated-in, each_in}
 use Rattle.xc_search.proofs.listing.BranchesLess.{least_is_one, branches_less}
 
 -- a branch takes an option of the item
@@ -23,7 +26,9 @@ pub record IsNone (r : Residual) (w : Wanted) (b : Branch) : Type 0 where
   pub option : b.choice.option ≡ None
 
 abbrev pub takes : Residual → Wanted → List Branch
-takes r w = map (take_branch r w.item (branch_count r w)) (enumerate_from 1 (take (branch_count r w) (holding w.item r.options)))
+takes r w =
+    map (take_branch r w.item (branch_count r w))
+    (enumerate_from 1 (take (branch_count r w) (holding w.item r.options)))
 
 abbrev pub nones : Residual → Wanted → List Branch
 nones r w = cond (eqb w.low 0) (none_branch r w.item (branch_count r w) ∷ []) []
@@ -33,7 +38,8 @@ in-takes r w b h =
     let n = branch_count r w in
     let from = in-map (take_branch r w.item n) (enumerate_from 1 (take n (holding w.item r.options))) b h in
     let x = from.0.1 in
-    let held = in-take n (holding w.item r.options) x (in-enumerated 1 (take n (holding w.item r.options)) from.0 from.1) in
+    let held =
+    in-take n (holding w.item r.options) x (in-enumerated 1 (take n (holding w.item r.options)) from.0 from.1) in
     let found = in-filter (λ o. holds o w.item) r.options x held in
     record {
       x = x;
@@ -45,27 +51,40 @@ in-takes r w b h =
 
 pub in-nones : (r : Residual) (w : Wanted) (b : Branch) → IsIn (nones r w) b → IsNone r w b
 in-nones r w b h =
-    elim (eqb w.low 0) as (λ c. eqb w.low 0 ≡ c → IsIn (cond c (none_branch r w.item (branch_count r w) ∷ []) []) b → IsNone r w b) [
+    elim (eqb w.low 0) as (λ c. eqb w.low 0 ≡ c → IsIn (cond c (none_branch r w.item (branch_count r w) ∷ []) []) b
+    → IsNone r w b) [
       | true ↦ λ e k. elim k [
-        | inl q ↦ record { free = eqb-true _ _ e; next = sym (ap (λ (z : Branch). z.next) q); option = sym (ap (λ (z : Branch). z.choice.option) q) }
+        | inl q ↦ record {
+          free = eqb-true _ _ e;
+          next = sym (ap (λ (z : Branch). z.next) q);
+          option = sym (ap (λ (z : Branch). z.choice.option) q);
+        }
         | inr q ↦ absurd q
       ]
       | false ↦ λ e k. absurd k
     ] refl h
 
 pub in-branches : (r : Residual) (w : Wanted) (b : Branch) → IsIn (branches_of r w) b → IsTaken r w b ⊎ IsNone r w b
-in-branches r w b h = elim (in-append (takes r w) (nones r w) b h) [ inl k ↦ inl (in-takes r w b k) | inr k ↦ inr (in-nones r w b k) ]
+in-branches r w b h =
+    elim (in-append (takes r w) (nones r w) b h) [ inl k ↦ inl (in-takes r w b k) | inr k ↦ inr (in-nones r w b k) ]
 
-pub takes-in : (r : Residual) (w : Wanted) (x : Numbered) → IsIn (take (branch_count r w) (holding w.item r.options)) x → (k : ℕ) × IsIn (branches_of r w) (take_branch r w.item (branch_count r w) (k, x))
+pub takes-in : (r : Residual) (w : Wanted) (x : Numbered) → IsIn (take (branch_count r w) (holding w.item r.options)) x
+    → (k : ℕ) × IsIn (branches_of r w) (take_branch r w.item (branch_count r w) (k, x))
 takes-in r w x h =
     let n = branch_count r w in
-    let at = enumerated-in 1 (take n (holding w.item r.options)) x h in
-    (at.0, append-in_left (takes r w) (nones r w) _ (map-in (take_branch r w.item n) (enumerate_from 1 (take n (holding w.item r.options))) (at.0, x) at.1))
+    let at = enumerated-in 1 (take n (holding w.item r.options)) x h in (
+      at.0,
+      append-in_left (takes r w) (nones r w) _
+          (map-in (take_branch r w.item n) (enumerate_from 1 (take n (holding w.item r.options))) (at.0, x) at.1),
+    )
 
-pub nones-in : (r : Residual) (w : Wanted) → w.low ≡ 0 → IsIn (branches_of r w) (none_branch r w.item (branch_count r w))
+pub nones-in : (r : Residual) (w : Wanted) → w.low ≡ 0
+    → IsIn (branches_of r w) (none_branch r w.item (branch_count r w))
 nones-in r w e =
     let here : eqb w.low 0 ≡ true = eq-eqb _ _ e in
-    append-in_right (takes r w) (nones r w) _ (subst (λ c. IsIn (cond c (none_branch r w.item (branch_count r w) ∷ []) []) (none_branch r w.item (branch_count r w))) (sym here) (inl refl))
+    append-in_right (takes r w) (nones r w) _
+    (subst (λ c. IsIn (cond c (none_branch r w.item (branch_count r w) ∷ []) [])
+    (none_branch r w.item (branch_count r w))) (sym here) (inl refl))
 
 -- ---- one level
 
@@ -74,15 +93,18 @@ abbrev pub behind : (Residual → List (List Choice)) → Branch → List (List 
 behind rest b = map (λ m. b.choice ∷ m) (rest b.next)
 
 -- a member of a level is a branch's choice and a member behind it
-pub in-level : (rest : Residual → List (List Choice)) (w : Wanted) (r : Residual) (m : List Choice) → IsIn (level rest (Some w) r) m →
+pub in-level : (rest : Residual → List (List Choice)) (w : Wanted) (r : Residual) (m : List Choice)
+    → IsIn (level rest (Some w) r) m →
     (b : Branch) × (l : List Choice) × IsIn (branches_of r w) b × IsIn (rest b.next) l × (b.choice ∷ l ≡ m)
 in-level rest w r m h =
     let at = in-flat_map (behind rest) (branches_of r w) m h in
     let from = in-map (λ l. at.0.choice ∷ l) (rest at.0.next) m at.2 in
     (at.0, from.0, at.1, from.1, from.2)
 
-pub level-in : (rest : Residual → List (List Choice)) (w : Wanted) (r : Residual) (b : Branch) (l : List Choice) → IsIn (branches_of r w) b → IsIn (rest b.next) l → IsIn (level rest (Some w) r) (b.choice ∷ l)
-level-in rest w r b l h k = flat_map-in (behind rest) (branches_of r w) b (b.choice ∷ l) h (map-in (λ l. b.choice ∷ l) (rest b.next) l k)
+pub level-in : (rest : Residual → List (List Choice)) (w : Wanted) (r : Residual) (b : Branch) (l : List Choice)
+    → IsIn (branches_of r w) b → IsIn (rest b.next) l → IsIn (level rest (Some w) r) (b.choice ∷ l)
+level-in rest w r b l h k =
+    flat_map-in (behind rest) (branches_of r w) b (b.choice ∷ l) h (map-in (λ l. b.choice ∷ l) (rest b.next) l k)
 
 -- with no branch item no item is left
 pub no_items_left : (count : Wanted → ℕ) (ws : List Wanted) → first_least count ws ≡ None → ws ≡ []
@@ -92,5 +114,6 @@ no_items_left count (w ∷ ws) e = cc
 pub branch_item-in : (r : Residual) (w : Wanted) → branch_item r ≡ Some w → IsIn r.items w
 branch_item-in r w e = least_is_one (branch_count r) r.items w e
 
-pub less_behind : (r : Residual) (w : Wanted) (b : Branch) → branch_item r ≡ Some w → IsIn (branches_of r w) b → size_of b.next < size_of r
+pub less_behind : (r : Residual) (w : Wanted) (b : Branch) → branch_item r ≡ Some w → IsIn (branches_of r w) b
+    → size_of b.next < size_of r
 less_behind r w b e h = each_in (λ b. size_of b.next < size_of r) (branches_of r w) b (branches_less r w e) h

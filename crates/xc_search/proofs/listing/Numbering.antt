@@ -1,5 +1,6 @@
 -- Options with their numbers, and items with their bounds.
-use Rattle.std.proofs.Common.{ℕ, zero, suc, ◌≡◌, ◌+◌, ◌<◌, ◌≤◌, List, [], ◌∷◌, length, Some, refl, ap, ◌∙◌, arith, subst, sym, inl, inr}
+use Rattle.std.proofs.Common.{ℕ, zero, suc, ◌≡◌, ◌+◌, ◌<◌, ◌≤◌, List, [], ◌∷◌, length, Some, refl, ap, ◌∙◌, arith}
+use Rattle.std.proofs.Common.{subst, sym, inl, inr}
 use Rattle.xc_input.proofs.OptionLemmas.NumberedOptions.{numbered_from}
 use Rattle.xc_input.specs.declared.problem.Bounds.{Bounds}
 use Rattle.std.proofs.lemmas.List.Elements.{recursion_from_All}
@@ -11,7 +12,8 @@ use Rattle.xc_search.specs.Listing.{Wanted, wanted_from}
 use Rattle.xc_input.proofs.lists.Members.{IsIn, each_from}
 
 -- an option with its number
-pub numbered_at : (k : ℕ) (os : List (List Use)) (o : Numbered) → IsIn (numbered_from (k + 1) os) o → (j : ℕ) × (o.number ≡ k + suc j) × (j < length os) × (slice_get os j ≡ Some o.uses)
+pub numbered_at : (k : ℕ) (os : List (List Use)) (o : Numbered) → IsIn (numbered_from (k + 1) os) o → (j : ℕ)
+    × (o.number ≡ k + suc j) × (j < length os) × (slice_get os j ≡ Some o.uses)
 numbered_at k [] o h = absurd h
 numbered_at k (us ∷ os) o (inl q) =
     let same = ap (λ (z : Numbered). z.number) q in
@@ -20,12 +22,15 @@ numbered_at k (us ∷ os) o (inr q) =
     let later = numbered_at (k + 1) os o q in
     (suc later.0, omega (arith, later.1), omega (arith, later.2), later.3)
 
-pub at_number : (k : ℕ) (os : List (List Use)) (j : ℕ) → j < length os → (o : Numbered) × IsIn (numbered_from (k + 1) os) o × (o.number ≡ k + suc j)
+pub at_number : (k : ℕ) (os : List (List Use)) (j : ℕ) → j < length os → (o : Numbered)
+    × IsIn (numbered_from (k + 1) os) o × (o.number ≡ k + suc j)
 at_number k [] j h = absurd (omega (arith, h))
 at_number k (us ∷ os) zero h = (record { number = k + 1; uses = us }, inl refl, omega arith)
-at_number k (us ∷ os) (suc j) h = let later = at_number (k + 1) os j (omega (arith, h)) in (later.0, inr later.1, omega (arith, later.2))
+at_number k (us ∷ os) (suc j) h =
+    let later = at_number (k + 1) os j (omega (arith, h)) in (later.0, inr later.1, omega (arith, later.2))
 
-pub option_sound : (p : Puzzle) (k : ℕ) (os : List (List Use)) (o : Numbered) → AllByRecursion (IsSoundOption p) os → IsIn (numbered_from (k + 1) os) o → IsSoundOption p o.uses
+pub option_sound : (p : Puzzle) (k : ℕ) (os : List (List Use)) (o : Numbered) → AllByRecursion (IsSoundOption p) os
+    → IsIn (numbered_from (k + 1) os) o → IsSoundOption p o.uses
 option_sound p k [] o a h = absurd h
 option_sound p k (us ∷ os) o a (inl q) = subst (λ (z : Numbered). IsSoundOption p z.uses) q a.0
 option_sound p k (us ∷ os) o a (inr q) = option_sound p (k + 1) os o a.1 q
@@ -54,18 +59,35 @@ all_options p v = each_from (IsOption p) (numbered_options p) is_option
         }
 
 -- an item with its bounds
-pub with_bounds : (k : ℕ) (bs : List Bounds) (w : Wanted) → IsIn (wanted_from (k + 1) bs) w → (j : ℕ) × (b : Bounds) × (w.item ≡ k + suc j) × (j < length bs) × (slice_get bs j ≡ Some b) × (w.low ≡ b.low) × (w.high ≡ b.high)
+pub with_bounds : (k : ℕ) (bs : List Bounds) (w : Wanted) → IsIn (wanted_from (k + 1) bs) w → (j : ℕ) × (b : Bounds)
+    × (w.item ≡ k + suc j) × (j < length bs) × (slice_get bs j ≡ Some b) × (w.low ≡ b.low) × (w.high ≡ b.high)
 with_bounds k [] w h = absurd h
 with_bounds k (b ∷ bs) w (inl q) =
-    let same = ap (λ (z : Wanted). z.item) q in
-    (zero, b, omega (arith, same), omega arith, refl, sym (ap (λ (z : Wanted). z.low) q), sym (ap (λ (z : Wanted). z.high) q))
+    let same = ap (λ (z : Wanted). z.item) q in (
+      zero,
+      b,
+      omega (arith, same),
+      omega arith,
+      refl,
+      sym (ap (λ (z : Wanted). z.low) q),
+      sym
+          (ap (λ (z : Wanted). z.high) q),
+    )
 with_bounds k (b ∷ bs) w (inr q) =
     let later = with_bounds (k + 1) bs w q in
     (suc later.0, later.1, omega (arith, later.2), omega (arith, later.3), later.4, later.5, later.6)
 
-pub at_item : (k : ℕ) (bs : List Bounds) (j : ℕ) (b : Bounds) → slice_get bs j ≡ Some b → (w : Wanted) × IsIn (wanted_from (k + 1) bs) w × (w.item ≡ k + suc j) × (w.low ≡ b.low) × (w.high ≡ b.high)
+pub at_item : (k : ℕ) (bs : List Bounds) (j : ℕ) (b : Bounds) → slice_get bs j ≡ Some b → (w : Wanted)
+    × IsIn (wanted_from (k + 1) bs) w × (w.item ≡ k + suc j) × (w.low ≡ b.low) × (w.high ≡ b.high)
 at_item k [] j b e = cc
 at_item k (c ∷ bs) zero b e =
-    let same : c ≡ b = cc in
-    (record { item = k + 1; low = c.low; high = c.high }, inl refl, omega arith, ap (λ (z : Bounds). z.low) same, ap (λ (z : Bounds). z.high) same)
-at_item k (c ∷ bs) (suc j) b e = let later = at_item (k + 1) bs j b e in (later.0, inr later.1, omega (arith, later.2), later.3, later.4)
+    let same : c ≡ b = cc in (
+      record { item = k + 1; low = c.low; high = c.high },
+      inl refl,
+      omega arith,
+      ap (λ (z : Bounds). z.low) same,
+      ap
+          (λ (z : Bounds). z.high) same,
+    )
+at_item k (c ∷ bs) (suc j) b e =
+    let later = at_item (k + 1) bs j b e in (later.0, inr later.1, omega (arith, later.2), later.3, later.4)

@@ -9,7 +9,9 @@ pub listing_unrolled : (r : Residual) → listing r ≡ level listing (branch_it
 unfolding listing listing_to
 listing_unrolled r =
     by_depth {level = level} {to = listing_to} (record {
-      local = λ f g w r same. flat_map-same _ _ (branches_of r w) (each_weaker (λ b. f b.next ≡ g b.next) _ (branches_of r w) (λ b e. ap (map (λ m. b.choice ∷ m)) e) same);
+      local =
+          λ f g w r same. flat_map-same _ _ (branches_of r w)
+          (each_weaker (λ b. f b.next ≡ g b.next) _ (branches_of r w) (λ b e. ap (map (λ m. b.choice ∷ m)) e) same);
       last = λ f r. refl;
       next = λ depth r. refl;
     }) r

@@ -1,5 +1,7 @@
 -- A branch of a level, by its moves and by what is left.
-use Rattle.std.proofs.Common.{ℕ, zero, suc, ◌≡◌, ◌≢◌, ◌+◌, ◌-◌, ◌<◌, ◌≤◌, Bool, true, false, cond, not, ◌&&◌, eqb, List, [], ◌∷◌, ◌++◌, length, map, filter, take, drop, Some, refl, sym, ap, ◌∙◌, arith, subst, eq-eqb, ne_eqb, le-leb, get_or}
+use Rattle.std.proofs.Common.{ℕ, zero, suc, ◌≡◌, ◌≢◌, ◌+◌, ◌-◌, ◌<◌, ◌≤◌, Bool, true, false, cond, not, ◌&&◌, eqb, List}
+use Rattle.std.proofs.Common.{[], ◌∷◌, ◌++◌, length, map, filter, take, drop, Some, refl, sym, ap, ◌∙◌, arith, subst}
+use Rattle.std.proofs.Common.{eq-eqb, ne_eqb, le-leb, get_or}
 use Rattle.std.proofs.lemmas.List.Elements.{filter_agree, recursion_from_All}
 use Rattle.std.proofs.lemmas.Option.{slice_get-get_or, slice_get_within}
 use Rattle.std.specs.Prelude.{nat_le, slice_get}
@@ -17,12 +19,14 @@ use Rattle.xc_dance.specs.Commits.{after_spend, after_use, after_uses, others, p
 use Rattle.xc_search.specs.inner.Commits.{tweaked, after_none}
 use Rattle.xc_search.specs.inner.Levels.{IsNode}
 use Rattle.xc_dance.proofs.MoveLemmas.OpenLists.{listed_open}
-use Rattle.xc_search.proofs.residual.PickedByUses.{dec, commit_uses, uses_committed, AreWanted, as_residual, still_wanted, is_wanted}
+use Rattle.xc_search.proofs.residual.PickedByUses.{dec, commit_uses, uses_committed, AreWanted, as_residual}
+use Rattle.xc_search.proofs.residual.PickedByUses.{still_wanted, is_wanted}
 use Rattle.xc_search.proofs.residual.EachMove.{residual_spend, residual_cover}
 use Rattle.xc_search.proofs.residual.ReadyUses.{Ready, AreReady, ready_after, ready_later, commit_all}
 use Rattle.xc_search.proofs.residual.LeftAreReady.{left_options, of_left, ready_left}
 use Rattle.xc_search.proofs.residual.CyclicUses.{placed, apart_turned, committed_picks, cut}
-use Rattle.xc_search.proofs.moves.LegalTweaks.{branch_cut, legal_branch, items_tweaked, open_tweaked, purified_tweaked, spends_tweaked, left_closed, left_open}
+use Rattle.xc_search.proofs.moves.LegalTweaks.{branch_cut, legal_branch, items_tweaked, open_tweaked, purified_tweaked}
+use Rattle.xc_search.proofs.moves.LegalTweaks.{spends_tweaked, left_closed, left_open}
 use Rattle.xc_input.proofs.lists.EachElement.{each_weaker, each-filter, each_passes, each_at, each_turned, each_both}
 use Rattle.xc_input.proofs.lists.Filters.{filter_both}
 use Rattle.xc_input.proofs.FaultLemmas.BooleanTests.{only_rest}
@@ -31,16 +35,21 @@ use Rattle.xc_search.proofs.listing.Numbering.{IsOption}
 
 -- ---- an option is taken
 
-ready_behind : (p : Puzzle) (u v : Use) (t : List Move) (m : ℕ) → u.item ≤ primary_count p → eqb u.item v.item ≡ false → Ready p t v → Ready p (tweaked m u.item (after_spend p u.item t)) v
+ready_behind : (p : Puzzle) (u v : Use) (t : List Move) (m : ℕ) → u.item ≤ primary_count p → eqb u.item v.item ≡ false
+    → Ready p t v → Ready p (tweaked m u.item (after_spend p u.item t)) v
 ready_behind p u v t m h e r =
-    let apart : eqb v.item u.item ≡ false = ne_eqb v.item u.item (λ i. let same : eqb u.item v.item ≡ true = eq-eqb u.item v.item (sym i) in cc (e, same)) in
+    let apart : eqb v.item u.item ≡ false =
+    ne_eqb v.item u.item (λ i. let same : eqb u.item v.item ≡ true = eq-eqb u.item v.item (sym i) in cc
+    (e, same)) in
     let it_is : after_use p u t ≡ after_spend p u.item t = rw (le-leb u.item (primary_count p) h) refl in
     let s = after_spend p u.item t in
-    ready_later p s (tweaked m u.item s) v (open_tweaked v.item m u.item s) (purified_tweaked v.item m u.item s) (spends_tweaked v.item m u.item s)
+    ready_later p s (tweaked m u.item s) v (open_tweaked v.item m u.item s) (purified_tweaked v.item m u.item s)
+    (spends_tweaked v.item m u.item s)
     (subst (λ s. Ready p s v) it_is (ready_after p u t v apart r))
 
 pub record Taken (p : Puzzle) (t : List Move) (m i : ℕ) (x : Numbered) : Type 0 where
-  pub residual : residual_of p (after_uses p (others i x.uses) (tweaked m i (after_spend p i t))) ≡ pick (residual_of p t) i x
+  pub residual : residual_of p (after_uses p (others i x.uses) (tweaked m i (after_spend p i t))) ≡ pick
+      (residual_of p t) i x
   pub legal : AreLegal p (after_uses p (others i x.uses) (tweaked m i (after_spend p i t)))
   pub wanted : AreWanted (wanted_after p (after_uses p (others i x.uses) (tweaked m i (after_spend p i t))))
   pub option : IsOption p x
@@ -48,35 +57,47 @@ pub record Taken (p : Puzzle) (t : List Move) (m i : ℕ) (x : Numbered) : Type 
   pub held : holds x i ≡ true
   pub items : AllByRecursion (λ (u : Use). IsItem p u.item) x.uses
 
-taken_at : (p : Puzzle) (t : List Move) (k m : ℕ) (x : Numbered) (u : Use) (us vs : List Use) → IsOption p x → IsNode p t u.item → slice_get (holding u.item (left p t)) k ≡ Some x →
+taken_at : (p : Puzzle) (t : List Move) (k m : ℕ) (x : Numbered) (u : Use) (us vs : List Use) → IsOption p x
+    → IsNode p t u.item → slice_get (holding u.item (left p t)) k ≡ Some x →
     (high_at p u.item - spends u.item (Spend u.item ∷ t) ≢ 0 → m ≡ suc k) → m ≤ suc k → x.uses ≡ us ++ u ∷ vs →
-    (residual_of p (after_uses p (vs ++ us) (tweaked m u.item (after_spend p u.item t))) ≡ pick (residual_of p t) u.item x)
+    (residual_of p (after_uses p (vs ++ us) (tweaked m u.item (after_spend p u.item t))) ≡ pick (residual_of p t)
+    u.item x)
     × AreLegal p (after_uses p (vs ++ us) (tweaked m u.item (after_spend p u.item t)))
     × AreWanted (wanted_after p (after_uses p (vs ++ us) (tweaked m u.item (after_spend p u.item t))))
 taken_at p t k m x u us vs option n e h le w =
     let s = tweaked m u.item (after_spend p u.item t) in
     let within = slice_get_within (holding u.item (left p t)) k x e in
-    let apart : AreApart (u ∷ vs ++ us) = apart_turned us (u ∷ vs) (subst AreApart w (apart_from_pairs x.uses option.sound.distinct)) in
-    let ready : AreReady p t (u ∷ vs ++ us) = each_turned (λ u. Ready p t u) us (u ∷ vs) (subst (AreReady p t) w (ready_left p t u.item k x n.searchable.legal n.searchable.wanted option e)) in
+    let apart : AreApart (u ∷ vs ++ us) =
+    apart_turned us (u ∷ vs) (subst AreApart w (apart_from_pairs x.uses option.sound.distinct)) in
+    let ready : AreReady p t (u ∷ vs ++ us) =
+    each_turned (λ u. Ready p t u) us (u ∷ vs)
+    (subst (AreReady p t) w (ready_left p t u.item k x n.searchable.legal n.searchable.wanted option e)) in
     let before = branch_cut p u t k m x n e h (legal_branch p k u.item t n (omega (arith, within))) in
     let rest = commit_all p (vs ++ us) s apart.1
-    (each_both (λ v. eqb u.item v.item ≡ false) (λ v. Ready p t v) (λ v. Ready p s v) (vs ++ us) (λ v a r. ready_behind p u v t m n.item.1 a r) apart.0 ready.1)
+    (each_both (λ v. eqb u.item v.item ≡ false) (λ v. Ready p t v) (λ v. Ready p s v) (vs ++ us)
+    (λ v a r. ready_behind p u v t m n.item.1 a r) apart.0 ready.1)
     (legal_branch p m u.item t n (omega (arith, within, le)))
     (subst (λ r. AreWanted r.items) (sym before) (still_wanted u.item (wanted_after p t))) in (
-      rest.residual ∙ ap (commit_uses (vs ++ us)) before ∙ uses_committed (u ∷ vs ++ us) (cut (residual_of p t) u.item x.number) apart n.searchable.wanted ∙ committed_picks (residual_of p t) u.item x us (u ∷ vs) w,
+      rest.residual ∙ ap (commit_uses (vs ++ us)) before
+          ∙ uses_committed (u ∷ vs ++ us) (cut (residual_of p t) u.item x.number) apart n.searchable.wanted
+          ∙ committed_picks (residual_of p t) u.item x us (u ∷ vs) w,
       rest.legal,
       rest.wanted,
     )
 
-pub taken : (p : Puzzle) (t : List Move) (i k m : ℕ) (x : Numbered) → IsNode p t i → slice_get (holding i (left p t)) k ≡ Some x →
+pub taken : (p : Puzzle) (t : List Move) (i k m : ℕ) (x : Numbered) → IsNode p t i
+    → slice_get (holding i (left p t)) k ≡ Some x →
     (high_at p i - spends i (Spend i ∷ t) ≢ 0 → m ≡ suc k) → m ≤ suc k → Taken p t m i x
 taken p t i k m x n e h le =
     let option = of_left (IsOption p) i k (left p t) x (left_options p n.searchable.valid t) e in
-    let held : holds x i ≡ true = each_at (λ o. holds o i ≡ true) (holding i (left p t)) k x (each_passes (λ o. holds o i) (left p t)) e in
+    let held : holds x i ≡ true =
+    each_at (λ o. holds o i ≡ true) (holding i (left p t)) k x (each_passes (λ o. holds o i) (left p t)) e in
     let pl = placed i x.uses held in
     let us = take (place_in i x.uses) x.uses in
     let vs = drop (place_in i x.uses + 1) x.uses in
-    let all = subst (λ j. IsNode p t j → slice_get (holding j (left p t)) k ≡ Some x → (high_at p j - spends j (Spend j ∷ t) ≢ 0 → m ≡ suc k) →
+    let all =
+    subst (λ j. IsNode p t j → slice_get (holding j (left p t)) k ≡ Some x
+    → (high_at p j - spends j (Spend j ∷ t) ≢ 0 → m ≡ suc k) →
     (residual_of p (after_uses p (vs ++ us) (tweaked m j (after_spend p j t))) ≡ pick (residual_of p t) j x)
     × AreLegal p (after_uses p (vs ++ us) (tweaked m j (after_spend p j t)))
     × AreWanted (wanted_after p (after_uses p (vs ++ us) (tweaked m j (after_spend p j t))))) pl.at
@@ -88,29 +109,37 @@ taken p t i k m x n e h le =
       option = option;
       within = pl.within;
       held = held;
-      items = each_weaker (IsSoundUse p) (λ (u : Use). IsItem p u.item) x.uses (λ u s. s.0) (recursion_from_All (IsSoundUse p) x.uses option.sound.sound);
+      items =
+          each_weaker (IsSoundUse p) (λ (u : Use). IsItem p u.item) x.uses (λ u s. s.0)
+          (recursion_from_All (IsSoundUse p) x.uses option.sound.sound);
     }
 
 -- ---- no option is taken
 
-none_dec : (i : ℕ) (ws : List Wanted) → filter (λ w. not (eqb w.item i)) (map (dec i) ws) ≡ filter (λ w. not (eqb w.item i)) ws
+none_dec : (i : ℕ) (ws : List Wanted)
+    → filter (λ w. not (eqb w.item i)) (map (dec i) ws) ≡ filter (λ w. not (eqb w.item i)) ws
 none_dec i [] = refl
 none_dec i (w ∷ ws) = by_case (eqb w.item i) refl (none_dec i ws)
   where
-    by_case : (b : Bool) → eqb w.item i ≡ b → filter (λ w. not (eqb w.item i)) (map (dec i) ws) ≡ filter (λ w. not (eqb w.item i)) ws → filter (λ w. not (eqb w.item i)) (map (dec i) (w ∷ ws)) ≡ filter (λ w. not (eqb w.item i)) (w ∷ ws)
+    by_case : (b : Bool) → eqb w.item i ≡ b
+        → filter (λ w. not (eqb w.item i)) (map (dec i) ws) ≡ filter (λ w. not (eqb w.item i)) ws
+        → filter (λ w. not (eqb w.item i)) (map (dec i) (w ∷ ws)) ≡ filter (λ w. not (eqb w.item i)) (w ∷ ws)
     by_case true e later = rw (e, e) later
     by_case false e later = rw (e, e) (ap (λ vs. w ∷ vs) later)
 
 -- tweaks of an open item take only options that hold it
-rest_tweaked : (p : Puzzle) (m i : ℕ) (s : List Move) → AreLegal p (tweaked m i s) → is_open i s ≡ true → listed p s i ≡ holding i (left p s) → m ≤ length (holding i (left p s)) →
+rest_tweaked : (p : Puzzle) (m i : ℕ) (s : List Move) → AreLegal p (tweaked m i s) → is_open i s ≡ true
+    → listed p s i ≡ holding i (left p s) → m ≤ length (holding i (left p s)) →
     filter (λ o. not (holds o i)) (left p (tweaked m i s)) ≡ filter (λ o. not (holds o i)) (left p s)
 rest_tweaked p zero i s l o h k = refl
 rest_tweaked p (suc m) i s l o h k =
     let d : Numbered = record { number = 0; uses = [] } in
     let x = get_or (holding i (left p s)) m d in
-    ap (filter (λ o. not (holds o i))) (left_open p m i s x l.1 o h (slice_get-get_or (holding i (left p s)) m d (omega (arith, k))))
+    ap (filter (λ o. not (holds o i)))
+    (left_open p m i s x l.1 o h (slice_get-get_or (holding i (left p s)) m d (omega (arith, k))))
     ∙ filter_both (λ o. not (holds o i)) (λ o. not (holds o i && nat_le o.number x.number)) (left p s)
-    ∙ filter_agree (λ o. not (holds o i && nat_le o.number x.number) && not (holds o i)) (λ o. not (holds o i)) (λ o. only_rest (holds o i) (nat_le o.number x.number)) (left p s)
+    ∙ filter_agree (λ o. not (holds o i && nat_le o.number x.number) && not (holds o i)) (λ o. not (holds o i))
+    (λ o. only_rest (holds o i) (nat_le o.number x.number)) (left p s)
 
 spent_none : (p : Puzzle) (t : List Move) (i : ℕ) → none (residual_of p (Spend i ∷ t)) i ≡ none (residual_of p t) i
 spent_none p t i = ap (λ r. none r i) (residual_spend p t i) ∙ as_residual _ _ _ _ (none_dec i (wanted_after p t)) refl
@@ -119,7 +148,8 @@ pub none_taken : (p : Puzzle) (t : List Move) (i m : ℕ) → IsNode p t i → m
     residual_of p (after_none i (tweaked m i (after_spend p i t))) ≡ none (residual_of p t) i
 none_taken p t i m n h = by_case (eqb (high_at p i - spends i (Spend i ∷ t)) 0) refl
   where
-    by_case : (b : Bool) → eqb (high_at p i - spends i (Spend i ∷ t)) 0 ≡ b → residual_of p (after_none i (tweaked m i (after_spend p i t))) ≡ none (residual_of p t) i
+    by_case : (b : Bool) → eqb (high_at p i - spends i (Spend i ∷ t)) 0 ≡ b
+        → residual_of p (after_none i (tweaked m i (after_spend p i t))) ≡ none (residual_of p t) i
     by_case true c =
         let s : List Move = Cover i ∷ Spend i ∷ t in
         let it_is : after_spend p i t ≡ s = rw c refl in
@@ -136,15 +166,19 @@ none_taken p t i m n h = by_case (eqb (high_at p i - spends i (Spend i ∷ t)) 0
         let it_is : after_spend p i t ≡ s = rw c refl in
         let stays_open : is_open i (tweaked m i s) ≡ true = open_tweaked i m i s ∙ n.is_open in
         let covers : after_none i (tweaked m i s) ≡ Cover i ∷ tweaked m i s = rw stays_open refl in
-        let legal : AreLegal p (tweaked m i s) = subst (λ s. AreLegal p (tweaked m i s)) it_is (legal_branch p m i t n h) in
+        let legal : AreLegal p (tweaked m i s) =
+        subst (λ s. AreLegal p (tweaked m i s)) it_is (legal_branch p m i t n h) in
         ap (λ s. residual_of p (after_none i (tweaked m i s))) it_is
         ∙ ap (residual_of p) covers
         ∙ residual_cover p (tweaked m i s) i
-        ∙ as_residual _ _ _ _ (ap (filter (λ w. not (eqb w.item i))) (items_tweaked p m i s)) (rest_tweaked p m i s legal n.is_open (listed_open p t n.searchable.legal i n.is_open) h)
+        ∙ as_residual _ _ _ _ (ap (filter (λ w. not (eqb w.item i))) (items_tweaked p m i s))
+        (rest_tweaked p m i s legal n.is_open (listed_open p t n.searchable.legal i n.is_open) h)
         ∙ spent_none p t i
 
 pub legal_after_none : (p : Puzzle) (i : ℕ) (t : List Move) → IsItem p i → AreLegal p t → AreLegal p (after_none i t)
-legal_after_none p i t h l = elim (is_open i t) as (λ b. is_open i t ≡ b → AreLegal p (cond b (Cover i ∷ t) t)) [ true ↦ λ e. ((h, e), l) | false ↦ λ e. l ] refl
+legal_after_none p i t h l =
+    elim (is_open i t) as (λ b. is_open i t ≡ b → AreLegal p (cond b (Cover i ∷ t) t))
+    [ true ↦ λ e. ((h, e), l) | false ↦ λ e. l ] refl
 
 pub none_wanted : (r : Residual) (i : ℕ) → AreWanted r.items → AreWanted (none r i).items
 none_wanted r i a = each-filter (λ w. is_wanted w ≡ true) (λ w. not (eqb w.item i)) r.items a

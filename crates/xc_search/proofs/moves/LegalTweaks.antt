@@ -1,5 +1,7 @@
 -- Opening a level, and tweaks of its item.
-use Rattle.std.proofs.Common.{ℕ, zero, suc, ◌≡◌, ◌≢◌, ◌-◌, ◌<◌, ◌≤◌, Bool, true, false, cond, not, ◌&&◌, eqb, leb, List, [], ◌∷◌, length, filter, take, drop, Some, None, refl, sym, ap, ◌∙◌, arith, subst, eqb-true, eq-eqb, le-leb, lt-ltb, le-ltb, leb-true, length-drop}
+use Rattle.std.proofs.Common.{ℕ, zero, suc, ◌≡◌, ◌≢◌, ◌-◌, ◌<◌, ◌≤◌, Bool, true, false, cond, not, ◌&&◌, eqb, leb, List}
+use Rattle.std.proofs.Common.{[], ◌∷◌, length, filter, take, drop, Some, None, refl, sym, ap, ◌∙◌, arith, subst}
+use Rattle.std.proofs.Common.{eqb-true, eq-eqb, le-leb, lt-ltb, le-ltb, leb-true, length-drop}
 use Rattle.std.proofs.lemmas.Bool.{lt-leb, eqb-false}
 use Rattle.std.proofs.lemmas.List.Elements.{filter_agree}
 use Rattle.std.specs.Prelude.{nat_lt, nat_le, slice_get}
@@ -50,10 +52,19 @@ listed_tweaked p (suc m) i s =
     let same : eqb i i ≡ true = eq-eqb i i refl in
     rw same (ap (drop 1) (listed_tweaked p m i s) ∙ drop_one m (listed p s i))
 
-pub legal_tweaked : (p : Puzzle) (m i : ℕ) (s : List Move) → AreLegal p s → IsItem p i → purified i s ≡ None → m ≤ length (listed p s i) → AreLegal p (tweaked m i s)
+pub legal_tweaked : (p : Puzzle) (m i : ℕ) (s : List Move) → AreLegal p s → IsItem p i → purified i s ≡ None
+    → m ≤ length (listed p s i) → AreLegal p (tweaked m i s)
 legal_tweaked p zero i s l h q k = l
-legal_tweaked p (suc m) i s l h q k =
-    ((h, purified_tweaked i m i s ∙ q, omega (arith, ap length (listed_tweaked p m i s), length-drop m (listed p s i), k)), legal_tweaked p m i s l h q (omega (arith, k)))
+legal_tweaked p (suc m) i s l h q k = (
+  (
+    h,
+    purified_tweaked i m i s
+        ∙ q,
+    omega (arith, ap length (listed_tweaked p m i s), length-drop m (listed p s i), k),
+  ),
+  legal_tweaked p m i s
+      l h q (omega (arith, k)),
+)
 
 pub left_closed : (p : Puzzle) (m i : ℕ) (s : List Move) → is_open i s ≡ false → left p (tweaked m i s) ≡ left p s
 left_closed p zero i s e = refl
@@ -67,31 +78,44 @@ none_below : (i n : ℕ) (os : List Numbered) → NumbersRise n os → filter (�
 none_below i n [] r = refl
 none_below i n (o ∷ os) r =
     let above : leb o.number n ≡ false = lt-leb o.number n r.0 in
-    rw above (elim (holds o i) as (λ b. cond (b && false) (o ∷ filter (λ o. holds o i && nat_le o.number n) os) (filter (λ o. holds o i && nat_le o.number n) os) ≡ []) [
+    rw above (elim (holds o i) as
+    (λ b. cond (b && false) (o ∷ filter (λ o. holds o i && nat_le o.number n) os)
+    (filter (λ o. holds o i && nat_le o.number n) os) ≡ []) [
       | true ↦ none_below i n os (NumbersRise-weaker n o.number os (omega (arith, r.0)) r.1)
       | false ↦ none_below i n os (NumbersRise-weaker n o.number os (omega (arith, r.0)) r.1)
     ])
 
-first_below : (i n : ℕ) (os : List Numbered) (x : Numbered) → NumbersRise n os → slice_get (holding i os) 0 ≡ Some x → filter (λ o. holds o i && nat_le o.number x.number) os ≡ take 1 (holding i os)
+first_below : (i n : ℕ) (os : List Numbered) (x : Numbered) → NumbersRise n os → slice_get (holding i os) 0 ≡ Some x
+    → filter (λ o. holds o i && nat_le o.number x.number) os ≡ take 1 (holding i os)
 first_below i n [] x r e = cc
 first_below i n (o ∷ os) x r e =
-    elim (holds o i) as (λ b. slice_get (cond b (o ∷ holding i os) (holding i os)) 0 ≡ Some x → cond (b && nat_le o.number x.number) (o ∷ filter (λ o. holds o i && nat_le o.number x.number) os) (filter (λ o. holds o i && nat_le o.number x.number) os) ≡ take 1 (cond b (o ∷ holding i os) (holding i os))) [
+    elim (holds o i) as (λ b. slice_get (cond b (o ∷ holding i os) (holding i os)) 0 ≡ Some x
+    → cond (b && nat_le o.number x.number) (o ∷ filter (λ o. holds o i && nat_le o.number x.number) os)
+    (filter (λ o. holds o i && nat_le o.number x.number) os) ≡ take 1
+    (cond b (o ∷ holding i os) (holding i os))) [
       | true ↦ λ f.
           let same : o ≡ x = cc in
-          let itself : leb o.number x.number ≡ true = le-leb o.number x.number (omega (arith, ap (λ (y : Numbered). y.number) same)) in
-          rw itself (ap (λ ys. o ∷ ys) (ap (λ (y : Numbered). filter (λ o. holds o i && nat_le o.number y.number) os) (sym same) ∙ none_below i o.number os r.1))
+          let itself : leb o.number x.number ≡ true =
+          le-leb o.number x.number (omega (arith, ap (λ (y : Numbered). y.number) same)) in
+          rw itself (ap (λ ys. o ∷ ys)
+          (ap (λ (y : Numbered). filter (λ o. holds o i && nat_le o.number y.number) os) (sym same)
+          ∙ none_below i o.number os r.1))
       | false ↦ λ f. first_below i o.number os x r.1 f
     ] e
 
-without_head : (i n : ℕ) (os : List Numbered) (x : Numbered) → NumbersRise n os → slice_get (holding i os) 0 ≡ Some x → without (take 1 (holding i os)) os ≡ filter (λ o. not (holds o i && nat_le o.number x.number)) os
-without_head i n os x r e = ap (λ g. without g os) (sym (first_below i n os x r e)) ∙ without_filter (λ o. holds o i && nat_le o.number x.number) n os r
+without_head : (i n : ℕ) (os : List Numbered) (x : Numbered) → NumbersRise n os → slice_get (holding i os) 0 ≡ Some x
+    → without (take 1 (holding i os)) os ≡ filter (λ o. not (holds o i && nat_le o.number x.number)) os
+without_head i n os x r e = ap (λ g. without g os) (sym (first_below i n os x r e))
+    ∙ without_filter (λ o. holds o i && nat_le o.number x.number) n os r
 
-pub rise_above : (n : ℕ) (os : List Numbered) (m : ℕ) (x : Numbered) → NumbersRise n os → slice_get os m ≡ Some x → n < x.number
+pub rise_above : (n : ℕ) (os : List Numbered) (m : ℕ) (x : Numbered) → NumbersRise n os → slice_get os m ≡ Some x
+    → n < x.number
 rise_above n [] m x r e = cc
 rise_above n (o ∷ os) zero x r e = let same : o ≡ x = cc in omega (arith, r.0, ap (λ (y : Numbered). y.number) same)
 rise_above n (o ∷ os) (suc m) x r e = let later = rise_above o.number os m x r.1 e in omega (arith, r.0, later)
 
-pub rise_step : (n : ℕ) (os : List Numbered) (m : ℕ) (y x : Numbered) → NumbersRise n os → slice_get os m ≡ Some y → slice_get os (suc m) ≡ Some x → y.number < x.number
+pub rise_step : (n : ℕ) (os : List Numbered) (m : ℕ) (y x : Numbered) → NumbersRise n os → slice_get os m ≡ Some y
+    → slice_get os (suc m) ≡ Some x → y.number < x.number
 rise_step n [] m y x r d e = cc
 rise_step n (o ∷ os) zero y x r d e =
     let same : o ≡ y = cc in
@@ -104,11 +128,13 @@ cut_more false b c h = refl
 cut_more true false c h = refl
 cut_more true true c h = rw (h refl) refl
 
-left_tweak : (p : Puzzle) (i : ℕ) (t : List Move) → is_open i t ≡ true → left p (Tweak i ∷ t) ≡ without (take 1 (holding i (left p t))) (left p t)
+left_tweak : (p : Puzzle) (i : ℕ) (t : List Move) → is_open i t ≡ true
+    → left p (Tweak i ∷ t) ≡ without (take 1 (holding i (left p t))) (left p t)
 left_tweak p i t o = rw o refl
 
 -- m + 1 tweaks take the options up to that at place m
-pub left_open : (p : Puzzle) (m i : ℕ) (s : List Move) (x : Numbered) → AreLegal p (tweaked m i s) → is_open i s ≡ true → listed p s i ≡ holding i (left p s) → slice_get (holding i (left p s)) m ≡ Some x →
+pub left_open : (p : Puzzle) (m i : ℕ) (s : List Move) (x : Numbered) → AreLegal p (tweaked m i s) → is_open i s ≡ true
+    → listed p s i ≡ holding i (left p s) → slice_get (holding i (left p s)) m ≡ Some x →
     left p (tweaked (suc m) i s) ≡ filter (λ o. not (holds o i && nat_le o.number x.number)) (left p s)
 left_open p zero i s x l o h e = rw o (without_head i 0 (left p s) x (left_rises p s) e)
 left_open p (suc m) i s x l o h e =
@@ -116,49 +142,66 @@ left_open p (suc m) i s x l o h e =
     let t = tweaked (suc m) i s in
     let here : is_open i t ≡ true = open_tweaked i (suc m) i s ∙ o in
     let head : slice_get (holding i (left p t)) 0 ≡ Some x =
-    ap (λ os. slice_get os 0) (sym (listed_open p t l i here) ∙ listed_tweaked p (suc m) i s ∙ ap (drop (suc m)) h) ∙ slice_get-drop (holding i (left p s)) (suc m) ∙ e in
-    let fewer = rise_step 0 (holding i (left p s)) m before.0 x (NumbersRise-filter (λ o. holds o i) 0 (left p s) (left_rises p s)) before.1 e in
+    ap (λ os. slice_get os 0) (sym (listed_open p t l i here) ∙ listed_tweaked p (suc m) i s ∙ ap (drop (suc m)) h)
+    ∙ slice_get-drop (holding i (left p s)) (suc m) ∙ e in
+    let fewer =
+    rise_step 0 (holding i (left p s)) m before.0 x
+    (NumbersRise-filter (λ o. holds o i) 0 (left p s) (left_rises p s)) before.1 e in
     left_tweak p i t here
     ∙ (without_head i 0 (left p t) x (left_rises p t) head
     ∙ ap (filter (λ o. not (holds o i && nat_le o.number x.number))) (left_open p m i s before.0 l.1 o h before.1)
-    ∙ filter_both (λ o. not (holds o i && nat_le o.number x.number)) (λ o. not (holds o i && nat_le o.number before.0.number)) (left p s)
+    ∙ filter_both (λ o. not (holds o i && nat_le o.number x.number))
+    (λ o. not (holds o i && nat_le o.number before.0.number)) (left p s)
     ∙ filter_agree _ _ (λ o. cut_more (holds o i) (nat_le o.number before.0.number) (nat_le o.number x.number)
     (λ b. le-leb o.number x.number (omega (arith, leb-true o.number before.0.number b, fewer)))) (left p s))
 
 -- ---- a level is begun at an open primary item
 
-pub listed_after_spend : (p : Puzzle) (i : ℕ) (t : List Move) → IsNode p t i → listed p (after_spend p i t) i ≡ holding i (left p t)
+pub listed_after_spend : (p : Puzzle) (i : ℕ) (t : List Move) → IsNode p t i
+    → listed p (after_spend p i t) i ≡ holding i (left p t)
 listed_after_spend p i t n =
-    elim (eqb (high_at p i - spends i (Spend i ∷ t)) 0) as (λ b. listed p (cond b (Cover i ∷ Spend i ∷ t) (Spend i ∷ t)) i ≡ holding i (left p t)) [
+    elim (eqb (high_at p i - spends i (Spend i ∷ t)) 0) as
+    (λ b. listed p (cond b (Cover i ∷ Spend i ∷ t) (Spend i ∷ t)) i ≡ holding i (left p t)) [
       | true ↦ let same : eqb i i ≡ true = eq-eqb i i refl in rw same (listed_open p t n.searchable.legal i n.is_open)
       | false ↦ listed_open p t n.searchable.legal i n.is_open
     ]
 
 purified_after_spend : (p : Puzzle) (i : ℕ) (t : List Move) → purified i (after_spend p i t) ≡ purified i t
 purified_after_spend p i t =
-    elim (eqb (high_at p i - spends i (Spend i ∷ t)) 0) as (λ b. purified i (cond b (Cover i ∷ Spend i ∷ t) (Spend i ∷ t)) ≡ purified i t) [ true ↦ refl | false ↦ refl ]
+    elim (eqb (high_at p i - spends i (Spend i ∷ t)) 0) as
+    (λ b. purified i (cond b (Cover i ∷ Spend i ∷ t) (Spend i ∷ t)) ≡ purified i t) [ true ↦ refl | false ↦ refl ]
 
 pub legal_node : (p : Puzzle) (i : ℕ) (t : List Move) → IsNode p t i → AreLegal p (after_spend p i t)
-legal_node p i t n = legal_opening p i t n.searchable.legal n.item n.is_open (has_left p t i n.searchable.wanted n.item n.is_open)
+legal_node p i t n =
+    legal_opening p i t n.searchable.legal n.item n.is_open (has_left p t i n.searchable.wanted n.item n.is_open)
 
-pub legal_branch : (p : Puzzle) (m i : ℕ) (t : List Move) → IsNode p t i → m ≤ length (holding i (left p t)) → AreLegal p (tweaked m i (after_spend p i t))
+pub legal_branch : (p : Puzzle) (m i : ℕ) (t : List Move) → IsNode p t i → m ≤ length (holding i (left p t))
+    → AreLegal p (tweaked m i (after_spend p i t))
 legal_branch p m i t n h =
     let item : IsItem p i = (n.item.0, omega (arith, n.item.1)) in
-    legal_tweaked p m i (after_spend p i t) (legal_node p i t n) item (purified_after_spend p i t ∙ primary_pure p i t n.searchable.legal n.item.1) (omega (arith, h, ap length (listed_after_spend p i t n)))
+    legal_tweaked p m i (after_spend p i t) (legal_node p i t n) item
+    (purified_after_spend p i t ∙ primary_pure p i t n.searchable.legal n.item.1)
+    (omega (arith, h, ap length (listed_after_spend p i t n)))
 
-pub listed_branch : (p : Puzzle) (m i : ℕ) (t : List Move) → IsNode p t i → listed p (tweaked m i (after_spend p i t)) i ≡ drop m (holding i (left p t))
+pub listed_branch : (p : Puzzle) (m i : ℕ) (t : List Move) → IsNode p t i
+    → listed p (tweaked m i (after_spend p i t)) i ≡ drop m (holding i (left p t))
 listed_branch p m i t n = listed_tweaked p m i (after_spend p i t) ∙ ap (drop m) (listed_after_spend p i t n)
 
 -- before option x at place k of the item's list is committed for the other items
-pub branch_cut : (p : Puzzle) (u : Use) (t : List Move) (k m : ℕ) (x : Numbered) → IsNode p t u.item → slice_get (holding u.item (left p t)) k ≡ Some x →
-    (high_at p u.item - spends u.item (Spend u.item ∷ t) ≢ 0 → m ≡ suc k) → AreLegal p (tweaked k u.item (after_spend p u.item t)) →
+pub branch_cut : (p : Puzzle) (u : Use) (t : List Move) (k m : ℕ) (x : Numbered) → IsNode p t u.item
+    → slice_get (holding u.item (left p t)) k ≡ Some x →
+    (high_at p u.item - spends u.item (Spend u.item ∷ t) ≢ 0 → m ≡ suc k)
+    → AreLegal p (tweaked k u.item (after_spend p u.item t)) →
     residual_of p (tweaked m u.item (after_spend p u.item t)) ≡ commit_use u (cut (residual_of p t) u.item x.number)
 branch_cut p u t k m x n e h l = by_case (eqb (high_at p u.item - spends u.item (Spend u.item ∷ t)) 0) refl
   where
-    by_case : (b : Bool) → eqb (high_at p u.item - spends u.item (Spend u.item ∷ t)) 0 ≡ b → residual_of p (tweaked m u.item (after_spend p u.item t)) ≡ commit_use u (cut (residual_of p t) u.item x.number)
+    by_case : (b : Bool) → eqb (high_at p u.item - spends u.item (Spend u.item ∷ t)) 0 ≡ b
+        → residual_of p (tweaked m u.item (after_spend p u.item t)) ≡ commit_use u
+        (cut (residual_of p t) u.item x.number)
     by_case true c =
         let some_left = has_left p t u.item n.searchable.wanted n.item n.is_open in
-        let not_more : nat_lt 1 (high_at p u.item - spends u.item t) ≡ false = le-ltb 1 (high_at p u.item - spends u.item t) (omega (arith, eqb-true _ _ c, spent_self u.item t)) in
+        let not_more : nat_lt 1 (high_at p u.item - spends u.item t) ≡ false =
+        le-ltb 1 (high_at p u.item - spends u.item t) (omega (arith, eqb-true _ _ c, spent_self u.item t)) in
         let s : List Move = Cover u.item ∷ Spend u.item ∷ t in
         let it_is : after_spend p u.item t ≡ s = rw c refl in
         let same : eqb u.item u.item ≡ true = eq-eqb u.item u.item refl in
@@ -168,21 +211,29 @@ branch_cut p u t k m x n e h l = by_case (eqb (high_at p u.item - spends u.item 
         ∙ as_residual _ _ _ _ (items_tweaked p m u.item s) (left_closed p m u.item s closed)
         ∙ ap (residual_of p) (sym it_is) ∙ commits
         ∙ as_residual _ _ _ _ refl
-        (filter_agree (may_stay (item_left (residual_of p t) u.item) u) (λ o. not (holds o u.item && nat_le o.number x.number) && may_stay (item_left (residual_of p t) u.item) u o)
-        (λ o. rw (found_wanted p t u.item n.item n.is_open, not_more) (sym (only_rest (holds o u.item) (nat_le o.number x.number)))) (left p t)
-        ∙ sym (filter_both (may_stay (item_left (residual_of p t) u.item) u) (λ o. not (holds o u.item && nat_le o.number x.number)) (left p t)))
+        (filter_agree (may_stay (item_left (residual_of p t) u.item) u)
+        (λ o. not (holds o u.item && nat_le o.number x.number) && may_stay (item_left (residual_of p t) u.item) u o)
+        (λ o. rw (found_wanted p t u.item n.item n.is_open, not_more)
+        (sym (only_rest (holds o u.item) (nat_le o.number x.number)))) (left p t)
+        ∙ sym (filter_both (may_stay (item_left (residual_of p t) u.item) u)
+        (λ o. not (holds o u.item && nat_le o.number x.number)) (left p t)))
     by_case false c =
         let some_left = has_left p t u.item n.searchable.wanted n.item n.is_open in
         let not_zero : high_at p u.item - spends u.item (Spend u.item ∷ t) ≢ 0 = eqb-false _ _ c in
-        let is_more : nat_lt 1 (high_at p u.item - spends u.item t) ≡ true = lt-ltb 1 (high_at p u.item - spends u.item t) (omega (arith, not_zero, spent_self u.item t)) in
+        let is_more : nat_lt 1 (high_at p u.item - spends u.item t) ≡ true =
+        lt-ltb 1 (high_at p u.item - spends u.item t) (omega (arith, not_zero, spent_self u.item t)) in
         let s : List Move = Spend u.item ∷ t in
         let it_is : after_spend p u.item t ≡ s = rw c refl in
         let commits = opening_commits p u t n.searchable.wanted n.item n.is_open some_left in
-        let items : wanted_after p s ≡ (commit_use u (residual_of p t)).items = ap (λ (r : Residual). r.items) (ap (residual_of p) (sym it_is) ∙ commits) in
+        let items : wanted_after p s ≡ (commit_use u (residual_of p t)).items =
+        ap (λ (r : Residual). r.items) (ap (residual_of p) (sym it_is) ∙ commits) in
         let legal : AreLegal p (tweaked k u.item s) = subst (λ s. AreLegal p (tweaked k u.item s)) it_is l in
         ap (λ s. residual_of p (tweaked m u.item s)) it_is
         ∙ ap (λ m. residual_of p (tweaked m u.item s)) (h not_zero)
         ∙ as_residual _ _ _ _ (items_tweaked p (suc k) u.item s ∙ items)
         (left_open p k u.item s x legal n.is_open (listed_open p t n.searchable.legal u.item n.is_open) e
-        ∙ sym (keep_all (may_stay (item_left (residual_of p t) u.item) u) (filter (λ o. not (holds o u.item && nat_le o.number x.number)) (left p t))
-        (each_of_all (λ o. may_stay (item_left (residual_of p t) u.item) u o ≡ true) (filter (λ o. not (holds o u.item && nat_le o.number x.number)) (left p t)) (λ o. rw (found_wanted p t u.item n.item n.is_open, is_more) refl))))
+        ∙ sym (keep_all (may_stay (item_left (residual_of p t) u.item) u)
+        (filter (λ o. not (holds o u.item && nat_le o.number x.number)) (left p t))
+        (each_of_all (λ o. may_stay (item_left (residual_of p t) u.item) u o ≡ true)
+        (filter (λ o. not (holds o u.item && nat_le o.number x.number)) (left p t))
+        (λ o. rw (found_wanted p t u.item n.item n.is_open, is_more) refl))))

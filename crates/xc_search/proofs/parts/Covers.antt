@@ -1,14 +1,17 @@
 -- The covers of a problem are those of its parts, and no two parts share one.
-use Rattle.std.proofs.Common.{ℕ, ◌≡◌, ◌≢◌, ◌≤◌, true, false, not, ◌||◌, eqb, List, [], ◌∷◌, length, map, filter, refl, sym, ap, ap₂, ◌∙◌, arith, subst, inl, inr, eqb-true, eq-eqb}
+use Rattle.std.proofs.Common.{ℕ, ◌≡◌, ◌≢◌, ◌≤◌, true, false, not, ◌||◌, eqb, List, [], ◌∷◌, length, map, filter, refl}
+use Rattle.std.proofs.Common.{sym, ap, ap₂, ◌∙◌, arith, subst, inl, inr, eqb-true, eq-eqb}
 use Rattle.std.specs.Prelude.{Contains}
 use Rattle.std.specs.List.{AllByRecursion}
 use Rattle.std.proofs.lemmas.List.Elements.{recursion_from_All}
 use Rattle.xc_input.specs.Problem.{Puzzle, Numbered, numbered_options, holds, IsValid, holding}
 use Rattle.xc_search.specs.Cover.{IsCover, SameSet}
-use Rattle.xc_search.specs.Parts.{IsHeldOnce, is_in_part, part_options, part, number_in_problem, in_problem, IsPartCover, PartsJoin, PartsAreApart}
+use Rattle.xc_search.specs.Parts.{IsHeldOnce, is_in_part, part_options, part, number_in_problem, in_problem}
+use Rattle.xc_search.specs.Parts.{IsPartCover, PartsJoin, PartsAreApart}
 use Rattle.xc_dance.proofs.MoveLemmas.OptionsRise.{options_rise}
 use Rattle.xc_search.proofs.completeness.Covering.{bounded}
-use Rattle.xc_input.proofs.lists.Members.{IsIn, in-filter, filter-in, in-map, in-slice_get, each_in, in-contains, contains-in}
+use Rattle.xc_input.proofs.lists.Members.{IsIn, in-filter, filter-in, in-map, in-slice_get, each_in, in-contains}
+use Rattle.xc_input.proofs.lists.Members.{contains-in}
 use Rattle.xc_search.proofs.completeness.Complete.{is_held}
 use Rattle.xc_search.proofs.completeness.Passing.{passing, two_pass}
 use Rattle.xc_search.proofs.completeness.Whole.{is_listed, listed_in, in_listed, option_of, covers_whole}
@@ -27,7 +30,8 @@ one_of : (xs : List Numbered) → 1 ≤ length xs → (x : Numbered) × IsIn xs 
 one_of [] h = absurd (omega (arith, h))
 one_of (x ∷ xs) h = (x, inl refl)
 
-pub the_one : (p : Puzzle) (i : ℕ) (s : List ℕ) → IsValid p → IsHeldOnce p i → IsCover p s → (x : Numbered) × IsOne p i s x
+pub the_one : (p : Puzzle) (i : ℕ) (s : List ℕ) → IsValid p → IsHeldOnce p i → IsCover p s → (x : Numbered)
+    × IsOne p i s x
 the_one p i s v once c =
     let w = bounded p i (record { low = 1; high = 1 }) once in
     let met = (covers_whole p s v c).met w.0 w.1 in
@@ -41,13 +45,15 @@ the_one p i s v once c =
         taken = listed_in s x.0.number (and_right _ _ found.1);
         only = λ y h at taken.
             let held : is_held (is_listed s) i y ≡ true = rw (at, in_listed s y.number taken) refl in
-            let twice : y.number ≢ x.0.number → 2 ≤ passing (is_held (is_listed s) i) (numbered_options p) = λ apart. two_pass (is_held (is_listed s) i) (numbered_options p) y x.0 h found.0 held found.1 apart in
+            let twice : y.number ≢ x.0.number → 2 ≤ passing (is_held (is_listed s) i) (numbered_options p) =
+            λ apart. two_pass (is_held (is_listed s) i) (numbered_options p) y x.0 h found.0 held found.1 apart in
             grind (arith, twice, met.1, times, w.4);
       },
     )
 
 -- numbers of which each is one under f
-before : (f : ℕ → ℕ) (P : ℕ → Type 0) (s : List ℕ) → ((o : ℕ) → IsIn s o → (k : ℕ) × P k × (f k ≡ o)) → (t : List ℕ) × AllByRecursion P t × (s ≡ map f t)
+before : (f : ℕ → ℕ) (P : ℕ → Type 0) (s : List ℕ) → ((o : ℕ) → IsIn s o → (k : ℕ) × P k × (f k ≡ o)) → (t : List ℕ)
+    × AllByRecursion P t × (s ≡ map f t)
 before f P [] h = ([], tt, refl)
 before f P (o ∷ s) h =
     let here = h o (inl refl) in
@@ -55,7 +61,8 @@ before f P (o ∷ s) h =
     (here.0 ∷ later.0, (here.1, later.1), ap₂ (λ a t. a ∷ t) (sym here.2) later.2)
 
 -- each option of a cover is in the part of the one that holds the item
-in_its_part : (p : Puzzle) (i : ℕ) (s : List ℕ) (x : Numbered) → IsCover p s → IsOne p i s x → (o : ℕ) → IsIn s o → (k : ℕ) × IsNumber (part p i x) k × (number_in_problem p i x k ≡ o)
+in_its_part : (p : Puzzle) (i : ℕ) (s : List ℕ) (x : Numbered) → IsCover p s → IsOne p i s x → (o : ℕ) → IsIn s o
+    → (k : ℕ) × IsNumber (part p i x) k × (number_in_problem p i x k ≡ o)
 in_its_part p i s x c one o h =
     let known = each_in (IsNumber p) s o (recursion_from_All (IsNumber p) s c.known) h in
     let y = option_of p o known.0 known.1 in
@@ -86,13 +93,18 @@ parts_join p v i once s = (there, λ h. subst (IsCover p) (sym h.1.3) (cover_of_
         )
 
 -- the option of a part is in each cover of it
-own_option : (p : Puzzle) (i : ℕ) (x : Numbered) (t : List ℕ) → IsValid p → IsHeldOnce p i → IsCover (part p i x) t → IsIn (in_problem p i x t) x.number
+own_option : (p : Puzzle) (i : ℕ) (x : Numbered) (t : List ℕ) → IsValid p → IsHeldOnce p i → IsCover (part p i x) t
+    → IsIn (in_problem p i x t) x.number
 own_option p i x t v once c =
     let one = the_one p i (in_problem p i x t) v once (cover_of_problem p i x t c) in
     let from = in-map (number_in_problem p i x) t one.0.number one.1.taken in
-    let at = at_place p i x from.0 (each_in (IsNumber (part p i x)) t from.0 (recursion_from_All (IsNumber (part p i x)) t c.known) from.1) in
-    let found = in-filter (is_in_part i x) (numbered_options p) at.1 (in-slice_get (part_options p i x) at.0 at.1 at.3) in
-    let is : at.1 ≡ one.0 = same_number 0 (numbered_options p) at.1 one.0 (options_rise p) found.0 one.1.known (sym at.4 ∙ from.2) in
+    let at =
+    at_place p i x from.0 (each_in (IsNumber (part p i x)) t from.0
+    (recursion_from_All (IsNumber (part p i x)) t c.known) from.1) in
+    let found =
+    in-filter (is_in_part i x) (numbered_options p) at.1 (in-slice_get (part_options p i x) at.0 at.1 at.3) in
+    let is : at.1 ≡ one.0 =
+    same_number 0 (numbered_options p) at.1 one.0 (options_rise p) found.0 one.1.known (sym at.4 ∙ from.2) in
     let same = or_other _ _ (ap not one.1.at) (subst (λ o. is_in_part i x o ≡ true) is found.1) in
     subst (IsIn (in_problem p i x t)) (eqb-true one.0.number x.number same) one.1.taken
 
@@ -106,7 +118,8 @@ apart_by_parts p v i once x y h k t u c d same =
     let one = the_one p i (in_problem p i y u) v once (cover_of_problem p i y u d) in
     let there = (same x.number).0 (contains-in (in_problem p i x t) x.number (own_option p i x t v once c)) in
     same_number 0 (numbered_options p) x y (options_rise p) ofx.0 ofy.0
-    (one.1.only x ofx.0 ofx.1 (in-contains (in_problem p i y u) x.number there) ∙ sym (one.1.only y ofy.0 ofy.1 (own_option p i y u v once d)))
+    (one.1.only x ofx.0 ofx.1 (in-contains (in_problem p i y u) x.number there)
+    ∙ sym (one.1.only y ofy.0 ofy.1 (own_option p i y u v once d)))
 
 pub parts_are_apart : (p : Puzzle) → IsValid p → (i : ℕ) → IsHeldOnce p i → PartsAreApart p i
 parts_are_apart p v i once x y s t h k same =

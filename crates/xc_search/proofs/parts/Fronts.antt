@@ -1,5 +1,6 @@
 -- A part lists the same where it is a problem of its own, with its item in front.
-use Rattle.std.proofs.Common.{ℕ, zero, suc, ◌≡◌, ◌≢◌, ◌+◌, ◌<◌, ◌≤◌, true, false, cond, not, eqb, List, [], ◌∷◌, map, filter, Some, refl, sym, ap, ap₂, ◌∙◌, arith, eqb-true, ne_eqb}
+use Rattle.std.proofs.Common.{ℕ, zero, suc, ◌≡◌, ◌≢◌, ◌+◌, ◌<◌, ◌≤◌, true, false, cond, not, eqb, List, [], ◌∷◌, map}
+use Rattle.std.proofs.Common.{filter, Some, refl, sym, ap, ap₂, ◌∙◌, arith, eqb-true, ne_eqb}
 use Rattle.xc_input.proofs.OptionLemmas.NumberedOptions.{numbered_from}
 use Rattle.xc_input.specs.declared.problem.Bounds.{Bounds}
 use Rattle.std.specs.Prelude.{slice_get, option_map, unwrap_or, Contains}
@@ -10,7 +11,9 @@ use Rattle.std.proofs.lemmas.List.Elements.{recursion_from_All}
 use Rattle.xc_input.specs.declared.problem.Use.{Use}
 use Rattle.xc_input.specs.Problem.{Puzzle, Numbered, numbered_options, IsSoundUse, IsValid}
 use Rattle.xc_search.specs.Listing.{Wanted, wanted_from, whole, listing}
-use Rattle.xc_search.specs.Parts.{part, part_options, part_in_front, number_in_problem, renumber_use, renumber_option, renumber_item, renumber, AreKeptApart, AreKeptInOrder, front_number, front_item, front_part, ListsPart}
+use Rattle.xc_search.specs.Parts.{part, part_options, part_in_front, number_in_problem, renumber_use, renumber_option}
+use Rattle.xc_search.specs.Parts.{renumber_item, renumber, AreKeptApart, AreKeptInOrder, front_number, front_item}
+use Rattle.xc_search.specs.Parts.{front_part, ListsPart}
 use Rattle.xc_input.proofs.lists.EachElement.{each_weaker}
 use Rattle.xc_input.proofs.lists.Members.{each_in, each_from, in-contains}
 use Rattle.xc_search.proofs.listing.Numbering.{numbered_at, IsOption, all_options, with_bounds}
@@ -38,45 +41,63 @@ item_before i n h k = grind (arith, nat_tests)
 abbrev bounds_of : Wanted → Bounds
 bounds_of v = record { low = v.low; high = v.high }
 
-items_behind : (i n : ℕ) (bs : List Bounds) → 1 ≤ i → i < n → map (renumber_item (front_item i)) (wanted_from n (map bounds_of (filter (is_other i) (wanted_from n bs)))) ≡ filter (is_other i) (wanted_from n bs)
+items_behind : (i n : ℕ) (bs : List Bounds) → 1 ≤ i → i < n
+    → map (renumber_item (front_item i)) (wanted_from n (map bounds_of (filter (is_other i) (wanted_from n bs)))) ≡
+    filter (is_other i) (wanted_from n bs)
 items_behind i n [] h k = refl
 items_behind i n (b ∷ bs) h k =
     let kept : eqb n i ≡ false = ne_eqb n i (λ e. omega (arith, k, e)) in
-    rw kept (ap₂ (λ j vs. let v : Wanted = record { item = j; low = b.low; high = b.high } in v ∷ vs) (item_behind i n h k) (items_behind i (n + 1) bs h (omega (arith, k))))
+    rw kept (ap₂ (λ j vs. let v : Wanted = record { item = j; low = b.low; high = b.high } in v ∷ vs)
+    (item_behind i n h k) (items_behind i (n + 1) bs h (omega (arith, k))))
 
-items_before : (i n : ℕ) (bs : List Bounds) → 1 ≤ n → n ≤ i → map (renumber_item (front_item i)) (wanted_from (n + 1) (map bounds_of (filter (is_other i) (wanted_from n bs)))) ≡ filter (is_other i) (wanted_from n bs)
+items_before : (i n : ℕ) (bs : List Bounds) → 1 ≤ n → n ≤ i
+    → map (renumber_item (front_item i)) (wanted_from (n + 1) (map bounds_of (filter (is_other i) (wanted_from n bs))))
+    ≡ filter (is_other i) (wanted_from n bs)
 items_before i n [] h k = refl
 items_before i n (b ∷ bs) h k =
     let rest = filter (is_other i) (wanted_from (n + 1) bs) in
     let here : Wanted = record { item = n; low = b.low; high = b.high } in
-    elim (eqb n i) as (λ c. eqb n i ≡ c → map (renumber_item (front_item i)) (wanted_from (n + 1) (map bounds_of (cond (not c) (here ∷ rest) rest))) ≡ cond (not c) (here ∷ rest) rest) [
+    elim (eqb n i) as (λ c. eqb n i ≡ c
+    → map (renumber_item (front_item i)) (wanted_from (n + 1) (map bounds_of (cond (not c) (here ∷ rest) rest))) ≡
+    cond (not c) (here ∷ rest) rest) [
       | true ↦ λ e. items_behind i (n + 1) bs (omega (arith, h, k)) (omega (arith, eqb-true n i e))
       | false ↦ λ e.
           let apart : n ≢ i = grind (arith, nat_tests, e) in
-          ap₂ (λ j vs. let v : Wanted = record { item = j; low = b.low; high = b.high } in v ∷ vs) (item_before i n h (omega (arith, k, apart))) (items_before i (n + 1) bs (omega arith) (omega (arith, k, apart)))
+          ap₂ (λ j vs. let v : Wanted = record { item = j; low = b.low; high = b.high } in v ∷ vs)
+          (item_before i n h (omega (arith, k, apart)))
+          (items_before i (n + 1) bs (omega arith) (omega (arith, k, apart)))
     ] refl
 
 -- ---- options
 
-uses_back : (i : ℕ) (us : List Use) → 1 ≤ i → AllByRecursion (λ u. 1 ≤ u.item) us → map (renumber_use (front_item i)) (map (renumber_use (front_number i)) us) ≡ us
+uses_back : (i : ℕ) (us : List Use) → 1 ≤ i → AllByRecursion (λ u. 1 ≤ u.item) us
+    → map (renumber_use (front_item i)) (map (renumber_use (front_number i)) us) ≡ us
 uses_back i [] h a = refl
-uses_back i (u ∷ us) h a = ap₂ (λ j vs. let v : Use = record { item = j; colour = u.colour } in v ∷ vs) (back_in_place i u.item h a.0) (uses_back i us h a.1)
+uses_back i (u ∷ us) h a =
+    ap₂ (λ j vs. let v : Use = record { item = j; colour = u.colour } in v ∷ vs) (back_in_place i u.item h a.0)
+    (uses_back i us h a.1)
 
-options_back : (i k : ℕ) (g : ℕ → ℕ) (os : List Numbered) → 1 ≤ i → ((j : ℕ) (o : Numbered) → slice_get os j ≡ Some o → g (k + suc j) ≡ o.number) → AllByRecursion (λ o. AllByRecursion (λ u. 1 ≤ u.item) o.uses) os →
-    map (renumber_option (front_item i) g) (numbered_from (k + 1) (map (λ o. map (renumber_use (front_number i)) o.uses) os)) ≡ os
+options_back : (i k : ℕ) (g : ℕ → ℕ) (os : List Numbered) → 1 ≤ i
+    → ((j : ℕ) (o : Numbered) → slice_get os j ≡ Some o → g (k + suc j) ≡ o.number)
+    → AllByRecursion (λ o. AllByRecursion (λ u. 1 ≤ u.item) o.uses) os →
+    map (renumber_option (front_item i) g)
+    (numbered_from (k + 1) (map (λ o. map (renumber_use (front_number i)) o.uses) os)) ≡ os
 options_back i k g [] h numbers a = refl
 options_back i k g (o ∷ os) h numbers a =
     let later : (j : ℕ) (y : Numbered) → slice_get os j ≡ Some y → g ((k + 1) + suc j) ≡ y.number =
     λ j y e. let next : (k + 1) + suc j ≡ k + suc (suc j) = omega arith in ap g next ∙ numbers (suc j) y e in
     ap₂ (λ z zs. z ∷ zs)
-    (ap₂ (λ n us. let z : Numbered = record { number = n; uses = us } in z) (numbers zero o refl) (uses_back i o.uses h a.0))
+    (ap₂ (λ n us. let z : Numbered = record { number = n; uses = us } in z) (numbers zero o refl)
+    (uses_back i o.uses h a.0))
     (options_back i (k + 1) g os h later a.1)
 
 -- ---- the part
 
-pub parts_are_listed : (p : Puzzle) → IsValid p → (w : Wanted) → Contains (whole p).items w → (x : Numbered) → ListsPart p w x
+pub parts_are_listed : (p : Puzzle) → IsValid p → (w : Wanted) → Contains (whole p).items w → (x : Numbered)
+    → ListsPart p w x
 parts_are_listed p v w h x =
-    ap listing (sym same) ∙ listing_renumbered (front_item w.item) (number_in_problem p w.item x) (items_apart w.item one) (whole (front_part p w x)) order
+    ap listing (sym same) ∙ listing_renumbered (front_item w.item) (number_in_problem p w.item x)
+    (items_apart w.item one) (whole (front_part p w x)) order
   where
     one : 1 ≤ w.item
     one = let at = with_bounds 0 p.bounds w (in-contains (whole p).items w h) in omega (arith, at.2)
@@ -84,7 +105,8 @@ parts_are_listed p v w h x =
     known : (y : Numbered) → Contains (whole (front_part p w x)).options y → IsNumber (part p w.item x) y.number
     known y k =
         let at = numbered_at 0 (front_part p w x).options y (in-contains (whole (front_part p w x)).options y k) in
-        let one_length = length-map (part_options p w.item x) (λ (o : Numbered). map (renumber_use (front_number w.item)) o.uses) in
+        let one_length =
+        length-map (part_options p w.item x) (λ (o : Numbered). map (renumber_use (front_number w.item)) o.uses) in
         let other_length = length-map (part_options p w.item x) (λ (o : Numbered). o.uses) in
         (omega (arith, at.1), omega (arith, at.1, at.2, one_length, other_length))
 
@@ -94,11 +116,13 @@ parts_are_listed p v w h x =
     uses_known : AllByRecursion (λ o. AllByRecursion (λ u. 1 ≤ u.item) o.uses) (part_options p w.item x)
     uses_known = each_from _ (part_options p w.item x) (λ o k.
         let option = each_in (IsOption p) (numbered_options p) o (all_options p v) (in_whole p w.item x o k) in
-        each_weaker (IsSoundUse p) (λ u. 1 ≤ u.item) o.uses (λ u s. s.0.0) (recursion_from_All (IsSoundUse p) o.uses option.sound.sound))
+        each_weaker (IsSoundUse p) (λ u. 1 ≤ u.item) o.uses (λ u s. s.0.0)
+        (recursion_from_All (IsSoundUse p) o.uses option.sound.sound))
 
     same : renumber (front_item w.item) (number_in_problem p w.item x) (whole (front_part p w x)) ≡ part_in_front p w x
     same = as_residual _ _ _ _
         (ap (λ vs. w ∷ vs) (items_before w.item 1 p.bounds (omega arith) one))
         (options_back w.item 0 (number_in_problem p w.item x) (part_options p w.item x) one
-        (λ j o e. let next : 0 + suc j ≡ suc j = omega arith in ap (number_in_problem p w.item x) next ∙ ap (λ z. unwrap_or (option_map (λ (o : Numbered). o.number) z) 0) e)
+        (λ j o e. let next : 0 + suc j ≡ suc j = omega arith in ap (number_in_problem p w.item x) next
+        ∙ ap (λ z. unwrap_or (option_map (λ (o : Numbered). o.number) z) 0) e)
         uses_known)

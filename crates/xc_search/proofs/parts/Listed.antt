@@ -6,11 +6,13 @@ use Rattle.xc_search.specs.declared.choice.Choice.{Choice}
 use Rattle.xc_input.specs.Problem.{Puzzle, Numbered, numbered_options, primary_count, holds, holding, IsValid}
 use Rattle.xc_search.specs.Listing.{Wanted, whole, pick, listing}
 use Rattle.xc_search.specs.Cover.{IsCover, options_of}
-use Rattle.xc_search.specs.Parts.{IsHeldOnce, is_in_part, part_in_front, IsPartMember, PartsCover, PartsListCovers, PartsListOnce}
+use Rattle.xc_search.specs.Parts.{IsHeldOnce, is_in_part, part_in_front, IsPartMember, PartsCover, PartsListCovers}
+use Rattle.xc_search.specs.Parts.{PartsListOnce}
 use Rattle.xc_dance.proofs.MoveLemmas.OptionsRise.{NumbersRise-filter, options_rise}
 use Rattle.xc_search.proofs.completeness.Covering.{members_solve, solution_covers}
 use Rattle.xc_input.proofs.lists.EachTwo.{EachTwo}
-use Rattle.xc_input.proofs.lists.Members.{IsIn, in-filter, filter-in, in-map, map-in, in-slice_get, slice_get-in, in-contains, contains-in}
+use Rattle.xc_input.proofs.lists.Members.{IsIn, in-filter, filter-in, in-map, map-in, in-slice_get, slice_get-in}
+use Rattle.xc_input.proofs.lists.Members.{in-contains, contains-in}
 use Rattle.xc_search.proofs.completeness.Complete.{IsFirst, covers_pick, listed_for, member_pick}
 use Rattle.xc_search.proofs.completeness.Once.{Differ, all_differ, one_place}
 use Rattle.xc_search.proofs.completeness.Proper.{proper_whole, proper_pick, sound_items, low_items}
@@ -22,7 +24,8 @@ use Rattle.xc_search.proofs.parts.OneBranch.{only_choice}
 use Rattle.xc_search.proofs.residual.NumberedOnce.{same_number}
 
 -- the members of a part: its option's choice, and a member behind it
-branch : (p : Puzzle) → IsValid p → (w : Wanted) → Contains (whole p).items w → IsHeldOnce p w.item → (x : Numbered) → IsIn (holding w.item (numbered_options p)) x →
+branch : (p : Puzzle) → IsValid p → (w : Wanted) → Contains (whole p).items w → IsHeldOnce p w.item → (x : Numbered)
+    → IsIn (holding w.item (numbered_options p)) x →
     listing (part_in_front p w x) ≡ map (λ m. only_choice w.item x ∷ m) (listing (pick (whole p) w.item x))
 branch p v w h once x k =
     let wanted = in-contains (whole p).items w h in
@@ -30,19 +33,28 @@ branch p v w h once x k =
     let at = in-filter (λ o. holds o w.item) (numbered_options p) x k in
     part_branch p w x (record { proper = proper_whole p v; wanted = wanted; once = bounds.1; at = at.1 }) bounds.0 k
 
-pub parts_cover : (p : Puzzle) → IsValid p → (w : Wanted) → Contains (whole p).items w → IsHeldOnce p w.item → PartsCover p w
+pub parts_cover : (p : Puzzle) → IsValid p → (w : Wanted) → Contains (whole p).items w → IsHeldOnce p w.item
+    → PartsCover p w
 unfolding listing
 parts_cover p v w h once x k m t =
     let n = primary_count p in
     let proper = proper_whole p v in
     let held = in-contains (holding w.item (numbered_options p)) x t.0 in
     let found = in-filter (λ o. holds o w.item) (numbered_options p) x held in
-    let from = in-map (λ m. only_choice w.item x ∷ m) (listing (pick (whole p) w.item x)) m (subst (λ ms. IsIn ms m) (branch p v w h once x held) (in-slice_get (listing (part_in_front p w x)) k m t.1)) in
-    let s = members_solve n (size_of (pick (whole p) w.item x)) (pick (whole p) w.item x) from.0 (proper_pick n w.item (whole p) x proper) (omega arith) from.1 in
-    let solved = solves_pick n w.item (whole p) x s.0 proper.options_rise (sound_items n (whole p) proper) (λ j u e. low_items n (whole p) j u proper e) found.0 found.1 s.1 in
+    let from =
+    in-map (λ m. only_choice w.item x ∷ m) (listing (pick (whole p) w.item x)) m
+    (subst (λ ms. IsIn ms m) (branch p v w h once x held)
+    (in-slice_get (listing (part_in_front p w x)) k m t.1)) in
+    let s =
+    members_solve n (size_of (pick (whole p) w.item x)) (pick (whole p) w.item x) from.0
+    (proper_pick n w.item (whole p) x proper) (omega arith) from.1 in
+    let solved =
+    solves_pick n w.item (whole p) x s.0 proper.options_rise (sound_items n (whole p) proper)
+    (λ j u e. low_items n (whole p) j u proper e) found.0 found.1 s.1 in
     subst (IsCover p) (ap (λ ks. x.number ∷ ks) (sym s.2) ∙ ap options_of from.2) (solution_covers p (x ∷ s.0) solved)
 
-pub parts_list_covers : (p : Puzzle) → IsValid p → (w : Wanted) → Contains (whole p).items w → IsHeldOnce p w.item → PartsListCovers p w
+pub parts_list_covers : (p : Puzzle) → IsValid p → (w : Wanted) → Contains (whole p).items w → IsHeldOnce p w.item
+    → PartsListCovers p w
 unfolding listing
 parts_list_covers p v w h once s c =
     let n = primary_count p in
@@ -50,30 +62,56 @@ parts_list_covers p v w h once s c =
     let covers = covers_whole p s v c in
     let x = the_one p w.item s v once c in
     let first : IsFirst (whole p) (is_listed s) w.item x.0 =
-    record { known = x.1.known; at = x.1.at; taken = in_listed s x.0.number x.1.taken; first = λ y j at e. omega (arith, x.1.only y j at (listed_in s y.number e)) } in
+    record {
+      known = x.1.known;
+      at = x.1.at;
+      taken = in_listed s x.0.number x.1.taken;
+      first = λ y j at e. omega (arith, x.1.only y j at (listed_in s y.number e));
+    } in
     let q = pick (whole p) w.item x.0 in
-    let m = listed_for n (size_of q) q (is_listed s) (proper_pick n w.item (whole p) x.0 proper) (covers_pick n (whole p) (is_listed s) w.item x.0 proper covers first) (omega arith) in
-    let whole_m = member_pick n (whole p) (is_listed s) w.item x.0 (only_choice w.item x.0) m.0 proper covers first refl m.2 in
+    let m =
+    listed_for n (size_of q) q (is_listed s) (proper_pick n w.item (whole p) x.0 proper)
+    (covers_pick n (whole p) (is_listed s) w.item x.0 proper covers first) (omega arith) in
+    let whole_m =
+    member_pick n (whole p) (is_listed s) w.item x.0 (only_choice w.item x.0) m.0 proper covers first refl m.2 in
     let held = filter-in (λ o. holds o w.item) (numbered_options p) x.0 x.1.known x.1.at in
-    let listed = subst (λ ms. IsIn ms (only_choice w.item x.0 ∷ m.0)) (sym (branch p v w h once x.0 held)) (map-in (λ m. only_choice w.item x.0 ∷ m) (listing q) m.0 m.1) in
-    let at = slice_get-in (listing (part_in_front p w x.0)) (only_choice w.item x.0 ∷ m.0) listed in
-    (x.0, at.0, only_choice w.item x.0 ∷ m.0, (contains-in (holding w.item (numbered_options p)) x.0 held, at.1), same_set p s (only_choice w.item x.0 ∷ m.0) c whole_m)
+    let listed =
+    subst (λ ms. IsIn ms (only_choice w.item x.0 ∷ m.0)) (sym (branch p v w h once x.0 held))
+    (map-in (λ m. only_choice w.item x.0 ∷ m) (listing q) m.0 m.1) in
+    let at = slice_get-in (listing (part_in_front p w x.0)) (only_choice w.item x.0 ∷ m.0) listed in (
+      x.0,
+      at.0,
+      only_choice w.item x.0 ∷ m.0,
+      (contains-in (holding w.item (numbered_options p)) x.0 held, at.1),
+      same_set p s (only_choice w.item x.0 ∷ m.0) c whole_m,
+    )
 
 part_differs : (p : Puzzle) (w : Wanted) (x : Numbered) → EachTwo Differ (listing (part_in_front p w x))
 unfolding listing
-part_differs p w x = all_differ (size_of (part_in_front p w x)) (part_in_front p w x) (NumbersRise-filter (is_in_part w.item x) 0 (numbered_options p) (options_rise p))
+part_differs p w x =
+    all_differ (size_of (part_in_front p w x)) (part_in_front p w x)
+    (NumbersRise-filter (is_in_part w.item x) 0 (numbered_options p) (options_rise p))
 
-pub parts_list_once : (p : Puzzle) → IsValid p → (w : Wanted) → Contains (whole p).items w → IsHeldOnce p w.item → PartsListOnce p w
-parts_list_once p v w h once x y j k l m t u same =
-    (xy, one_place (listing (part_in_front p w y)) (part_differs p w y) j k l m (subst (λ z. slice_get (listing (part_in_front p w z)) j ≡ Some l) xy t.1) u.1 same)
+pub parts_list_once : (p : Puzzle) → IsValid p → (w : Wanted) → Contains (whole p).items w → IsHeldOnce p w.item
+    → PartsListOnce p w
+parts_list_once p v w h once x y j k l m t u same = (
+  xy,
+  one_place (listing (part_in_front p w y)) (part_differs p w y) j k l m
+      (subst (λ z. slice_get (listing (part_in_front p w z)) j ≡ Some l) xy t.1) u.1 same,
+)
   where
-    of_item : (z : Numbered) → Contains (holding w.item (numbered_options p)) z → IsIn (numbered_options p) z × (holds z w.item ≡ true)
-    of_item z c = in-filter (λ o. holds o w.item) (numbered_options p) z (in-contains (holding w.item (numbered_options p)) z c)
+    of_item : (z : Numbered) → Contains (holding w.item (numbered_options p)) z → IsIn (numbered_options p) z
+        × (holds z w.item ≡ true)
+    of_item z c =
+        in-filter (λ o. holds o w.item) (numbered_options p) z (in-contains (holding w.item (numbered_options p)) z c)
 
     own : (z : Numbered) (i : ℕ) (n : List Choice) → IsPartMember p w z i n → IsIn (options_of n) z.number
     own z i n c =
         let held = in-contains (holding w.item (numbered_options p)) z c.0 in
-        let from = in-map (λ m. only_choice w.item z ∷ m) (listing (pick (whole p) w.item z)) n (subst (λ ms. IsIn ms n) (branch p v w h once z held) (in-slice_get (listing (part_in_front p w z)) i n c.1)) in
+        let from =
+        in-map (λ m. only_choice w.item z ∷ m) (listing (pick (whole p) w.item z)) n
+        (subst (λ ms. IsIn ms n) (branch p v w h once z held)
+        (in-slice_get (listing (part_in_front p w z)) i n c.1)) in
         subst (λ m. IsIn (options_of m) z.number) from.2 (inl refl)
 
     xy : x ≡ y
@@ -81,6 +119,8 @@ parts_list_once p v w h once x y j k l m t u same =
         let one = the_one p w.item (options_of m) v once (parts_cover p v w h once y k m u) in
         let from_x = of_item x t.0 in
         let from_y = of_item y u.0 in
-        let in_m = in-contains (options_of m) x.number ((same x.number).0 (contains-in (options_of l) x.number (own x j l t))) in
+        let in_m =
+        in-contains (options_of m) x.number
+        ((same x.number).0 (contains-in (options_of l) x.number (own x j l t))) in
         same_number 0 (numbered_options p) x y (options_rise p) from_x.0 from_y.0
         (one.1.only x from_x.0 from_x.1 in_m ∙ sym (one.1.only y from_y.0 from_y.1 (own y k m u)))

@@ -1,18 +1,22 @@
 -- The options of a part by their numbers in it: a set of them is a cover of the part where it is one of the problem.
-use Rattle.std.proofs.Common.{ℕ, zero, suc, ◌≡◌, ◌≢◌, ◌+◌, ◌<◌, ◌≤◌, cond, List, [], ◌∷◌, map, Some, None, refl, sym, ap, ap₂, ◌∙◌, arith, subst}
+use Rattle.std.proofs.Common.{ℕ, zero, suc, ◌≡◌, ◌≢◌, ◌+◌, ◌<◌, ◌≤◌, cond, List, [], ◌∷◌, map, Some, None, refl, sym}
+use Rattle.std.proofs.Common.{ap, ap₂, ◌∙◌, arith, subst}
 use Rattle.std.specs.Prelude.{is_some, slice_get, option_map, unwrap_or}
 use Rattle.std.specs.List.{AllByRecursion}
 use Rattle.std.proofs.lemmas.List.{length-map}
 use Rattle.std.proofs.lemmas.Option.{slice_get-map, slice_get_within}
 use Rattle.std.proofs.lemmas.List.Elements.{All-from_recursion, recursion_from_All}
 use Rattle.std.proofs.lemmas.List.Sums.{sum_by-cons}
-use Rattle.xc_input.specs.Problem.{Puzzle, Numbered, numbered_options, option_count, colour_in, uses_of, IsSoundOption, IsValid}
+use Rattle.xc_input.specs.Problem.{Puzzle, Numbered, numbered_options, option_count, colour_in, uses_of, IsSoundOption}
+use Rattle.xc_input.specs.Problem.{IsValid}
 use Rattle.xc_search.specs.Cover.{IsCover, times_held}
 use Rattle.xc_search.specs.Parts.{is_in_part, part_options, part, number_in_problem, in_problem}
 use Rattle.xc_dance.proofs.MoveLemmas.OptionsRise.{NumbersRise-filter, options_rise}
 use Rattle.xc_input.proofs.lists.EachElement.{each_weaker, each-map}
-use Rattle.xc_input.proofs.lists.EachTwo.{EachTwo, EachTwo-map, EachTwo-at, EachTwo-weaker, AllPairs-from_each_two, each_two_from_AllPairs}
-use Rattle.xc_input.proofs.lists.Members.{IsIn, in-filter, in-map, map-in, in-slice_get, slice_get-in, each_in, each_from, in-contains, contains-in}
+use Rattle.xc_input.proofs.lists.EachTwo.{EachTwo, EachTwo-map, EachTwo-at, EachTwo-weaker, AllPairs-from_each_two}
+use Rattle.xc_input.proofs.lists.EachTwo.{each_two_from_AllPairs}
+use Rattle.xc_input.proofs.lists.Members.{IsIn, in-filter, in-map, map-in, in-slice_get, slice_get-in, each_in}
+use Rattle.xc_input.proofs.lists.Members.{each_from, in-contains, contains-in}
 use Rattle.xc_input.proofs.lists.Places.{not_some}
 use Rattle.xc_search.proofs.completeness.Once.{two_rise}
 use Rattle.xc_search.proofs.listing.Numbering.{numbered_at, uses_known, IsOption, all_options}
@@ -22,7 +26,14 @@ pub in_whole : (p : Puzzle) (i : ℕ) (x o : Numbered) → IsIn (part_options p 
 in_whole p i x o h = (in-filter (is_in_part i x) (numbered_options p) o h).0
 
 pub parts_are_valid : (p : Puzzle) → IsValid p → (i : ℕ) (x : Numbered) → IsValid (part p i x)
-parts_are_valid p v i x = record { one_primary = v.one_primary; bounds = v.bounds; options = All-from_recursion (IsSoundOption (part p i x)) _ (each-map (IsSoundOption (part p i x)) (λ o. o.uses) (part_options p i x) each) }
+parts_are_valid p v i x =
+    record {
+      one_primary = v.one_primary;
+      bounds = v.bounds;
+      options =
+          All-from_recursion (IsSoundOption (part p i x)) _
+          (each-map (IsSoundOption (part p i x)) (λ o. o.uses) (part_options p i x) each);
+    }
   where
     each : AllByRecursion (λ o. IsSoundOption (part p i x) o.uses) (part_options p i x)
     each = each_from _ (part_options p i x) (λ o h.
@@ -30,12 +41,16 @@ parts_are_valid p v i x = record { one_primary = v.one_primary; bounds = v.bound
         record { sound = s.sound; distinct = s.distinct; one_primary = s.one_primary })
 
 -- its uses are the same under both numbers
-pub same_uses : (p : Puzzle) (i : ℕ) (x : Numbered) (k : ℕ) → uses_of (part p i x) k ≡ uses_of p (number_in_problem p i x k)
+pub same_uses : (p : Puzzle) (i : ℕ) (x : Numbered) (k : ℕ)
+    → uses_of (part p i x) k ≡ uses_of p (number_in_problem p i x k)
 same_uses p i x zero = refl
 same_uses p i x (suc k) =
     let os = part_options p i x in
     ap (λ us. unwrap_or us []) (slice_get-map (λ (o : Numbered). o.uses) os k)
-    ∙ elim (slice_get os k) as (λ g. slice_get os k ≡ g → unwrap_or (option_map (λ (o : Numbered). o.uses) g) [] ≡ uses_of p (unwrap_or (option_map (λ (o : Numbered). o.number) g) 0)) [
+    ∙ elim (slice_get os k) as
+    (λ g. slice_get os k ≡ g
+    → unwrap_or (option_map (λ (o : Numbered). o.uses) g) [] ≡ uses_of p
+    (unwrap_or (option_map (λ (o : Numbered). o.number) g) 0)) [
       | None ↦ λ e. refl
       | Some o ↦ λ e. sym (uses_known p o (in_whole p i x o (in-slice_get os k o e)))
     ] refl
@@ -45,58 +60,79 @@ IsNumber p k = (1 ≤ k) × (k ≤ option_count p)
 
 -- the option of a number
 pub at_place : (p : Puzzle) (i : ℕ) (x : Numbered) (k : ℕ) → IsNumber (part p i x) k →
-    (j : ℕ) × (o : Numbered) × (k ≡ suc j) × (slice_get (part_options p i x) j ≡ Some o) × (number_in_problem p i x k ≡ o.number)
+    (j : ℕ) × (o : Numbered) × (k ≡ suc j) × (slice_get (part_options p i x) j ≡ Some o)
+    × (number_in_problem p i x k ≡ o.number)
 at_place p i x zero h = absurd (omega (arith, h.0))
 at_place p i x (suc j) h =
     let os = part_options p i x in
-    elim (slice_get os j) as (λ g. slice_get os j ≡ g → (l : ℕ) × (o : Numbered) × (suc j ≡ suc l) × (slice_get os l ≡ Some o) × (number_in_problem p i x (suc j) ≡ o.number)) [
+    elim (slice_get os j) as
+    (λ g. slice_get os j ≡ g → (l : ℕ) × (o : Numbered) × (suc j ≡ suc l) × (slice_get os l ≡ Some o)
+    × (number_in_problem p i x (suc j) ≡ o.number)) [
       | None ↦ λ e. absurd (omega (arith, h.1, not_some os j e, length-map os (λ (o : Numbered). o.uses)))
       | Some o ↦ λ e. (j, o, refl, e, ap (λ g. unwrap_or (option_map (λ (o : Numbered). o.number) g) 0) e)
     ] refl
 
-pub number_of_option : (p : Puzzle) (i : ℕ) (x o : Numbered) → IsIn (part_options p i x) o → (k : ℕ) × IsNumber (part p i x) k × (number_in_problem p i x k ≡ o.number)
+pub number_of_option : (p : Puzzle) (i : ℕ) (x o : Numbered) → IsIn (part_options p i x) o → (k : ℕ)
+    × IsNumber (part p i x) k × (number_in_problem p i x k ≡ o.number)
 number_of_option p i x o h =
     let os = part_options p i x in
-    let at = slice_get-in os o h in
-    (suc at.0, (omega arith, omega (arith, slice_get_within os at.0 o at.1, length-map os (λ (o : Numbered). o.uses))), ap (λ g. unwrap_or (option_map (λ (o : Numbered). o.number) g) 0) at.1)
+    let at = slice_get-in os o h in (
+      suc at.0,
+      (omega arith, omega (arith, slice_get_within os at.0 o at.1, length-map os (λ (o : Numbered). o.uses))),
+      ap (λ g. unwrap_or (option_map (λ (o : Numbered). o.number) g) 0) at.1,
+    )
 
 -- the numbers rise as in the problem
-pub numbers_rise : (p : Puzzle) (i : ℕ) (x : Numbered) (j k : ℕ) → IsNumber (part p i x) j → IsNumber (part p i x) k → j < k → number_in_problem p i x j < number_in_problem p i x k
+pub numbers_rise : (p : Puzzle) (i : ℕ) (x : Numbered) (j k : ℕ) → IsNumber (part p i x) j → IsNumber (part p i x) k
+    → j < k → number_in_problem p i x j < number_in_problem p i x k
 numbers_rise p i x j k a b less =
     let os = part_options p i x in
     let at = at_place p i x j a in
     let to = at_place p i x k b in
     let rise = two_rise 0 os (NumbersRise-filter (is_in_part i x) 0 (numbered_options p) (options_rise p)) in
-    let above = EachTwo-at (λ (y z : Numbered). y.number < z.number) os at.0 to.0 at.1 to.1 rise (omega (arith, less, at.2, to.2)) at.3 to.3 in
+    let above =
+    EachTwo-at (λ (y z : Numbered). y.number < z.number) os at.0 to.0 at.1 to.1 rise
+    (omega (arith, less, at.2, to.2)) at.3 to.3 in
     omega (arith, above, at.4, to.4)
 
 -- two options of one number are one
-same_place : (p : Puzzle) (i : ℕ) (x : Numbered) (j k : ℕ) → IsNumber (part p i x) j → IsNumber (part p i x) k → number_in_problem p i x j ≡ number_in_problem p i x k → j ≡ k
+same_place : (p : Puzzle) (i : ℕ) (x : Numbered) (j k : ℕ) → IsNumber (part p i x) j → IsNumber (part p i x) k
+    → number_in_problem p i x j ≡ number_in_problem p i x k → j ≡ k
 same_place p i x j k a b e = grind (arith, e, numbers_rise p i x j k a b, numbers_rise p i x k j b a)
 
 -- ---- covers
 
-same_times : (p : Puzzle) (i : ℕ) (x : Numbered) (j : ℕ) (t : List ℕ) → times_held (part p i x) j t ≡ times_held p j (in_problem p i x t)
+same_times : (p : Puzzle) (i : ℕ) (x : Numbered) (j : ℕ) (t : List ℕ)
+    → times_held (part p i x) j t ≡ times_held p j (in_problem p i x t)
 same_times p i x j [] = refl
 same_times p i x j (k ∷ t) =
     sum_by-cons (λ o. cond (is_some (colour_in (uses_of (part p i x) o) j)) 1 0) k t
     ∙ ap₂ (λ us n. cond (is_some (colour_in us j)) 1 0 + n) (same_uses p i x k) (same_times p i x j t)
-    ∙ sym (sum_by-cons (λ o. cond (is_some (colour_in (uses_of p o) j)) 1 0) (number_in_problem p i x k) (in_problem p i x t))
+    ∙ sym (sum_by-cons (λ o. cond (is_some (colour_in (uses_of p o) j)) 1 0) (number_in_problem p i x k)
+    (in_problem p i x t))
 
 distinct_before : (f : ℕ → ℕ) (t : List ℕ) → EachTwo (λ a b. a ≢ b) (map f t) → EachTwo (λ a b. a ≢ b) t
 distinct_before f [] a = tt
-distinct_before f (k ∷ t) a = (each_from (λ b. k ≢ b) t (λ b h e. each_in (λ c. f k ≢ c) (map f t) (f b) a.0 (map-in f t b h) (ap f e)), distinct_before f t a.1)
+distinct_before f (k ∷ t) a = (
+  each_from (λ b. k ≢ b) t (λ b h e. each_in (λ c. f k ≢ c) (map f t) (f b) a.0 (map-in f t b h) (ap f e)),
+  distinct_before f t a.1,
+)
 
-pub cover_of_problem : (p : Puzzle) (i : ℕ) (x : Numbered) (t : List ℕ) → IsCover (part p i x) t → IsCover p (in_problem p i x t)
+pub cover_of_problem : (p : Puzzle) (i : ℕ) (x : Numbered) (t : List ℕ) → IsCover (part p i x) t
+    → IsCover p (in_problem p i x t)
 cover_of_problem p i x t c = record {
   known = All-from_recursion (IsNumber p) (in_problem p i x t) (each-map (IsNumber p) (number_in_problem p i x) t
       (each_weaker (IsNumber (part p i x)) (λ k. IsNumber p (number_in_problem p i x k)) t (λ k h.
       let at = at_place p i x k h in
-      let from = numbered_at 0 p.options at.1 (in_whole p i x at.1 (in-slice_get (part_options p i x) at.0 at.1 at.3)) in
+      let from =
+      numbered_at 0 p.options at.1 (in_whole p i x at.1 (in-slice_get (part_options p i x) at.0 at.1 at.3)) in
       (omega (arith, at.4, from.1), omega (arith, at.4, from.1, from.2))) known));
-  distinct = AllPairs-from_each_two (λ a b. a ≢ b) (in_problem p i x t) (EachTwo-map (λ a b. a ≢ b) (number_in_problem p i x) t
+  distinct =
+      AllPairs-from_each_two (λ a b. a ≢ b) (in_problem p i x t) (EachTwo-map (λ a b. a ≢ b) (number_in_problem p i x) t
       (EachTwo-weaker (λ a b. a ≢ b) (λ a b. number_in_problem p i x a ≢ number_in_problem p i x b) t
-      (λ a b h k apart e. apart (same_place p i x a b (each_in (IsNumber (part p i x)) t a known h) (each_in (IsNumber (part p i x)) t b known k) e))
+      (λ a b h k apart e. apart
+      (same_place p i x a b (each_in (IsNumber (part p i x)) t a known h)
+      (each_in (IsNumber (part p i x)) t b known k) e))
       (each_two_from_AllPairs (λ a b. a ≢ b) t c.distinct)));
   within = λ j b e. subst (λ n. (b.low ≤ n) × (n ≤ b.high)) (same_times p i x j t) (c.within j b e);
   agree = λ a b j d e h k apart secondary f g.
@@ -111,10 +147,14 @@ cover_of_problem p i x t c = record {
     known : AllByRecursion (IsNumber (part p i x)) t
     known = recursion_from_All (IsNumber (part p i x)) t c.known
 
-pub cover_of_part : (p : Puzzle) (i : ℕ) (x : Numbered) (t : List ℕ) → AllByRecursion (IsNumber (part p i x)) t → IsCover p (in_problem p i x t) → IsCover (part p i x) t
+pub cover_of_part : (p : Puzzle) (i : ℕ) (x : Numbered) (t : List ℕ) → AllByRecursion (IsNumber (part p i x)) t
+    → IsCover p (in_problem p i x t) → IsCover (part p i x) t
 cover_of_part p i x t known c = record {
   known = All-from_recursion (IsNumber (part p i x)) t known;
-  distinct = AllPairs-from_each_two (λ a b. a ≢ b) t (distinct_before (number_in_problem p i x) t (each_two_from_AllPairs (λ a b. a ≢ b) (in_problem p i x t) c.distinct));
+  distinct =
+      AllPairs-from_each_two (λ a b. a ≢ b) t
+      (distinct_before (number_in_problem p i x) t
+      (each_two_from_AllPairs (λ a b. a ≢ b) (in_problem p i x t) c.distinct));
   within = λ j b e. subst (λ n. (b.low ≤ n) × (n ≤ b.high)) (sym (same_times p i x j t)) (c.within j b e);
   agree = λ a b j d e h k apart secondary f g.
       let in_t = in-contains t a h in
@@ -122,7 +162,8 @@ cover_of_part p i x t known c = record {
       c.agree (number_in_problem p i x a) (number_in_problem p i x b) j d e
       (contains-in (in_problem p i x t) _ (map-in (number_in_problem p i x) t a in_t))
       (contains-in (in_problem p i x t) _ (map-in (number_in_problem p i x) t b in_u))
-      (λ q. apart (same_place p i x a b (each_in (IsNumber (part p i x)) t a known in_t) (each_in (IsNumber (part p i x)) t b known in_u) q))
+      (λ q. apart (same_place p i x a b (each_in (IsNumber (part p i x)) t a known in_t)
+      (each_in (IsNumber (part p i x)) t b known in_u) q))
       secondary
       (subst (λ us. colour_in us j ≡ Some d) (same_uses p i x a) f)
       (subst (λ us. colour_in us j ≡ Some e) (same_uses p i x b) g);

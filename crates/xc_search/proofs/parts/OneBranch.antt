@@ -1,12 +1,15 @@
 -- The listing of what is left where its first item is to be held once and one option holds it.
-use Rattle.std.proofs.Common.{ℕ, ◌≡◌, ◌-◌, ◌<◌, ◌≤◌, true, false, cond, eqb, List, [], ◌∷◌, length, map, filter, Some, refl, sym, ap, ◌∙◌, arith, subst, ◌⊎◌, inl, inr, ltb-true, ltb-false, lt-ltb, le-leb, ne_eqb}
+use Rattle.std.proofs.Common.{ℕ, ◌≡◌, ◌-◌, ◌<◌, ◌≤◌, true, false, cond, eqb, List, [], ◌∷◌, length, map, filter, Some}
+use Rattle.std.proofs.Common.{refl, sym, ap, ◌∙◌, arith, subst, ◌⊎◌, inl, inr, ltb-true, ltb-false, lt-ltb, le-leb}
+use Rattle.std.proofs.Common.{ne_eqb}
 use Rattle.xc_search.proofs.Spent.{less_one}
 use Rattle.std.specs.Prelude.{nat_lt, flat_map}
 use Rattle.std.specs.List.{best_of}
 use Rattle.std.proofs.lemmas.List.{append-nil}
 use Rattle.xc_search.specs.declared.choice.Choice.{Choice}
 use Rattle.xc_input.specs.Problem.{Numbered, holds, holding}
-use Rattle.xc_search.specs.Listing.{Wanted, Residual, branch_count, branch_item, first_least, spend_one, pick, take_branch, branches_of, level, listing}
+use Rattle.xc_search.specs.Listing.{Wanted, Residual, branch_count, branch_item, first_least, spend_one, pick}
+use Rattle.xc_search.specs.Listing.{take_branch, branches_of, level, listing}
 use Rattle.xc_input.proofs.lists.Filters.{filter_swap, length-filter-le}
 use Rattle.xc_input.proofs.lists.Members.{IsIn, in-filter, filter-in, map-in, each_in}
 use Rattle.xc_search.proofs.completeness.Proper.{goes_on}
@@ -20,30 +23,37 @@ abbrev best : (Wanted → ℕ) → Wanted → List Wanted → Wanted
 best count w ws = best_of (λ x b. nat_lt (count x) (count b)) w ws
 
 -- no other has fewer
-best_least : (count : Wanted → ℕ) (w : Wanted) (ws : List Wanted) (v : Wanted) → IsIn (w ∷ ws) v → count (best count w ws) ≤ count v
+best_least : (count : Wanted → ℕ) (w : Wanted) (ws : List Wanted) (v : Wanted) → IsIn (w ∷ ws) v
+    → count (best count w ws) ≤ count v
 best_least count w [] v (inl q) = omega (arith, ap count q)
 best_least count w [] v (inr q) = absurd q
-best_least count w (u ∷ us) v h = elim (nat_lt (count u) (count w)) as (λ b. nat_lt (count u) (count w) ≡ b → count (best count (cond b u w) us) ≤ count v) [
-  | true ↦ λ e. elim h [
-    | inl q ↦ omega (arith, ltb-true (count u) (count w) e, best_least count u us u (inl refl), ap count q)
-    | inr q ↦ best_least count u us v q
-  ]
-  | false ↦ λ e. elim h [
-    | inl q ↦ best_least count w us v (inl q)
-    | inr q ↦ elim q [
-      | inl k ↦ omega (arith, ltb-false (count u) (count w) e, best_least count w us w (inl refl), ap count k)
-      | inr k ↦ best_least count w us v (inr k)
-    ]
-  ]
-] refl
+best_least count w (u ∷ us) v h =
+    elim (nat_lt (count u) (count w)) as
+    (λ b. nat_lt (count u) (count w) ≡ b → count (best count (cond b u w) us) ≤ count v) [
+      | true ↦ λ e. elim h [
+        | inl q ↦ omega (arith, ltb-true (count u) (count w) e, best_least count u us u (inl refl), ap count q)
+        | inr q ↦ best_least count u us v q
+      ]
+      | false ↦ λ e. elim h [
+        | inl q ↦ best_least count w us v (inl q)
+        | inr q ↦ elim q [
+          | inl k ↦ omega (arith, ltb-false (count u) (count w) e, best_least count w us w (inl refl), ap count k)
+          | inr k ↦ best_least count w us v (inr k)
+        ]
+      ]
+    ] refl
 
 -- it is the first, or has fewer than the first
-best_first : (count : Wanted → ℕ) (w : Wanted) (ws : List Wanted) → (best count w ws ≡ w) ⊎ (count (best count w ws) < count w)
+best_first : (count : Wanted → ℕ) (w : Wanted) (ws : List Wanted) → (best count w ws ≡ w)
+    ⊎ (count (best count w ws) < count w)
 best_first count w [] = inl refl
-best_first count w (u ∷ us) = elim (nat_lt (count u) (count w)) as (λ b. nat_lt (count u) (count w) ≡ b → (best count (cond b u w) us ≡ w) ⊎ (count (best count (cond b u w) us) < count w)) [
-  | true ↦ λ e. inr (omega (arith, ltb-true (count u) (count w) e, best_least count u us u (inl refl)))
-  | false ↦ λ e. best_first count w us
-] refl
+best_first count w (u ∷ us) =
+    elim (nat_lt (count u) (count w)) as
+    (λ b. nat_lt (count u) (count w) ≡ b → (best count (cond b u w) us ≡ w)
+    ⊎ (count (best count (cond b u w) us) < count w)) [
+      | true ↦ λ e. inr (omega (arith, ltb-true (count u) (count w) e, best_least count u us u (inl refl)))
+      | false ↦ λ e. best_first count w us
+    ] refl
 
 -- ---- an item without branches
 
@@ -61,30 +71,46 @@ nothing_listed r v h e = listing_unrolled r ∙ by_items r.items refl h
     by_items (w ∷ ws) q k =
         let z = best (branch_count r) w ws in
         let none_left : branch_count r z ≡ 0 = omega (arith, e, best_least (branch_count r) w ws v k) in
-        ap (λ vs. level listing (first_least (branch_count r) vs) r) q ∙ ap (flat_map (behind listing)) (no_branches r z none_left)
+        ap (λ vs. level listing (first_least (branch_count r) vs) r) q
+        ∙ ap (flat_map (behind listing)) (no_branches r z none_left)
 
 -- It stays without where an option is taken.
-still_short : (r : Residual) (i : ℕ) (x : Numbered) (v : Wanted) → IsIn (holding i r.options) x → IsIn r.items v → v.low ≤ v.high → branch_count r v ≡ 0 →
+still_short : (r : Residual) (i : ℕ) (x : Numbered) (v : Wanted) → IsIn (holding i r.options) x → IsIn r.items v
+    → v.low ≤ v.high → branch_count r v ≡ 0 →
     IsIn (pick r i x).items (spend_one x v) × (branch_count (pick r i x) (spend_one x v) ≡ 0)
 still_short r i x v h k sound e =
-    let kept = by_holding in
-    (filter-in (λ w. nat_lt 0 w.high) (map (spend_one x) r.items) (spend_one x v) (map-in (spend_one x) r.items v k) kept.0, kept.1)
+    let kept = by_holding in (
+      filter-in (λ w. nat_lt 0 w.high) (map (spend_one x) r.items) (spend_one x v) (map-in (spend_one x) r.items v k)
+          kept.0,
+      kept.1,
+    )
   where
     swap : length (holding v.item (pick r i x).options) ≡ length (filter (goes_on r i x) (holding v.item r.options))
     swap = ap length (filter_swap (λ o. holds o v.item) (goes_on r i x) r.options)
 
-    fewer : holds x v.item ≡ true → length (filter (goes_on r i x) (holding v.item r.options)) < length (holding v.item r.options)
+    fewer : holds x v.item ≡ true
+        → length (filter (goes_on r i x) (holding v.item r.options)) < length (holding v.item r.options)
     fewer at =
         let found = in-filter (λ o. holds o i) r.options x h in
-        each_in (λ (y : Numbered). length (filter (goes_on r i y) (holding v.item r.options)) < length (holding v.item r.options)) (holding i (holding v.item r.options)) x
-        (less_options i (goes_on r i) (λ y q. rw (q, le-leb y.number y.number (omega arith))) (holding v.item r.options))
-        (filter-in (λ o. holds o i) (holding v.item r.options) x (filter-in (λ o. holds o v.item) r.options x found.0 at) found.1)
+        each_in (λ (y : Numbered). length (filter (goes_on r i y) (holding v.item r.options)) < length
+        (holding v.item r.options)) (holding i (holding v.item r.options)) x
+        (less_options i (goes_on r i) (λ y q. rw (q, le-leb y.number y.number (omega arith)))
+        (holding v.item r.options))
+        (filter-in (λ o. holds o i) (holding v.item r.options) x
+        (filter-in (λ o. holds o v.item) r.options x found.0 at) found.1)
 
     by_holding : (nat_lt 0 (spend_one x v).high ≡ true) × (branch_count (pick r i x) (spend_one x v) ≡ 0)
-    by_holding = elim (holds x v.item) as (λ b. holds x v.item ≡ b → (nat_lt 0 (cond b (less_one v) v).high ≡ true) × (branch_count (pick r i x) (cond b (less_one v) v) ≡ 0)) [
-      | true ↦ λ at. (lt-ltb 0 (v.high - 1) (omega (arith, e, sound, fewer at)), omega (arith, e, swap, fewer at))
-      | false ↦ λ at. (lt-ltb 0 v.high (omega (arith, e, sound)), omega (arith, e, swap, length-filter-le (goes_on r i x) (holding v.item r.options)))
-    ] refl
+    by_holding =
+        elim (holds x v.item) as
+        (λ b. holds x v.item ≡ b → (nat_lt 0 (cond b (less_one v) v).high ≡ true)
+        × (branch_count (pick r i x) (cond b (less_one v) v) ≡ 0)) [
+          | true ↦ λ at. (lt-ltb 0 (v.high - 1) (omega (arith, e, sound, fewer at)), omega (arith, e, swap, fewer at))
+          | false ↦ λ at. (
+            lt-ltb 0 v.high (omega (arith, e, sound)),
+            omega
+                (arith, e, swap, length-filter-le (goes_on r i x) (holding v.item r.options)),
+          )
+        ] refl
 
 -- ---- one branch
 
@@ -92,10 +118,12 @@ still_short r i x v h k sound e =
 abbrev pub only_choice : ℕ → Numbered → Choice
 only_choice i x = record { item = i; option = Some x.number; k = 1; n = 1 }
 
-pub one_branch : (r : Residual) (w : Wanted) (ws : List Wanted) (x : Numbered) → r.items ≡ w ∷ ws → w.low ≡ 1 → holding w.item r.options ≡ x ∷ [] → ((v : Wanted) → IsIn r.items v → v.low ≤ v.high) →
+pub one_branch : (r : Residual) (w : Wanted) (ws : List Wanted) (x : Numbered) → r.items ≡ w ∷ ws → w.low ≡ 1
+    → holding w.item r.options ≡ x ∷ [] → ((v : Wanted) → IsIn r.items v → v.low ≤ v.high) →
     listing r ≡ map (λ m. only_choice w.item x ∷ m) (listing (pick r w.item x))
 one_branch r w ws x first low held sound =
-    listing_unrolled r ∙ ap (λ vs. level listing (first_least (branch_count r) vs) r) first ∙ by_best (best_first (branch_count r) w ws)
+    listing_unrolled r ∙ ap (λ vs. level listing (first_least (branch_count r) vs) r) first
+    ∙ by_best (best_first (branch_count r) w ws)
   where
     one : branch_count r w ≡ 1
     one = omega (arith, low, ap length held)
@@ -103,12 +131,18 @@ one_branch r w ws x first low held sound =
     only : branches_of r w ≡ take_branch r w.item 1 (1, x) ∷ []
     only = let needed : eqb w.low 0 ≡ false = ne_eqb w.low 0 (λ q. omega (arith, low, q)) in rw (one, held, needed) refl
 
-    by_best : (best (branch_count r) w ws ≡ w) ⊎ (branch_count r (best (branch_count r) w ws) < branch_count r w) → level listing (Some (best (branch_count r) w ws)) r ≡ map (λ m. only_choice w.item x ∷ m) (listing (pick r w.item x))
-    by_best (inl q) = ap (λ v. flat_map (behind listing) (branches_of r v)) q ∙ ap (flat_map (behind listing)) only ∙ append-nil _
+    by_best : (best (branch_count r) w ws ≡ w) ⊎ (branch_count r (best (branch_count r) w ws) < branch_count r w)
+        → level listing (Some (best (branch_count r) w ws)) r ≡ map (λ m. only_choice w.item x ∷ m)
+        (listing (pick r w.item x))
+    by_best (inl q) =
+        ap (λ v. flat_map (behind listing) (branches_of r v)) q ∙ ap (flat_map (behind listing)) only ∙ append-nil _
     by_best (inr less) =
         let z = best (branch_count r) w ws in
         let none_left : branch_count r z ≡ 0 = omega (arith, one, less) in
-        let known : IsIn r.items z = subst (λ vs. IsIn vs z) (sym first) (least_is_one (branch_count r) (w ∷ ws) z refl) in
-        let short = still_short r w.item x z (subst (λ os. IsIn os x) (sym held) (inl refl)) known (sound z known) none_left in
+        let known : IsIn r.items z =
+        subst (λ vs. IsIn vs z) (sym first) (least_is_one (branch_count r) (w ∷ ws) z refl) in
+        let short =
+        still_short r w.item x z (subst (λ os. IsIn os x) (sym held) (inl refl)) known (sound z known) none_left in
         ap (flat_map (behind listing)) (no_branches r z none_left)
-        ∙ sym (ap (map (λ m. only_choice w.item x ∷ m)) (nothing_listed (pick r w.item x) (spend_one x z) short.0 short.1))
+        ∙ sym (ap (map (λ m. only_choice w.item x ∷ m))
+        (nothing_listed (pick r w.item x) (spend_one x z) short.0 short.1))

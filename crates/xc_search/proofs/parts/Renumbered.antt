@@ -2,7 +2,9 @@
 use Rattle.xc_dance.specs.Moves.{agrees}
 use Rattle.xc_search.proofs.Spent.{less_one, count_of}
 use Rattle.xc_search.specs.inner.Sizes.{size_of}
-use Rattle.std.proofs.Common.{ℕ, zero, suc, ◌≡◌, ◌+◌, true, false, cond, not, ◌&&◌, ◌||◌, eqb, List, [], ◌∷◌, ◌++◌, length, map, filter, find, take, Option, Some, None, refl, sym, ap, ap₂, ◌∙◌, arith, subst, ◌⊎◌, inl, inr}
+use Rattle.std.proofs.Common.{ℕ, zero, suc, ◌≡◌, ◌+◌, true, false, cond, not, ◌&&◌, ◌||◌, eqb, List, [], ◌∷◌, ◌++◌}
+use Rattle.std.proofs.Common.{length, map, filter, find, take, Option, Some, None, refl, sym, ap, ap₂, ◌∙◌, arith}
+use Rattle.std.proofs.Common.{subst, ◌⊎◌, inl, inr}
 use Rattle.std.specs.Prelude.{nat_lt, nat_le, is_some, flat_map, option_map}
 use Rattle.std.specs.List.{best_of, enumerate_from, list_all}
 use Rattle.std.proofs.lemmas.Bool.Decides.{nat_tests}
@@ -11,8 +13,11 @@ use Rattle.std.proofs.lemmas.List.Elements.{filter_agree}
 use Rattle.xc_input.specs.declared.problem.Use.{Use}
 use Rattle.xc_search.specs.declared.choice.Choice.{Choice}
 use Rattle.xc_input.specs.Problem.{Numbered, colour_in, holds, holding}
-use Rattle.xc_search.specs.Listing.{Wanted, Residual, Branch, branch_count, branch_item, first_least, spend_one, may_stay, item_left, pick, none, take_branch, none_branch, branches_of, level, listing_to, listing}
-use Rattle.xc_search.specs.Parts.{renumber_use, renumber_option, renumber_item, renumber, renumber_choice, AreKeptApart, AreKeptInOrder, ListsAlike}
+use Rattle.xc_search.specs.Listing.{Wanted, Residual, Branch, branch_count, branch_item, first_least, spend_one}
+use Rattle.xc_search.specs.Listing.{may_stay, item_left, pick, none, take_branch, none_branch, branches_of, level}
+use Rattle.xc_search.specs.Listing.{listing_to, listing}
+use Rattle.xc_search.specs.Parts.{renumber_use, renumber_option, renumber_item, renumber, renumber_choice, AreKeptApart}
+use Rattle.xc_search.specs.Parts.{AreKeptInOrder, ListsAlike}
 use Rattle.xc_input.proofs.lists.Filters.{filter-map, filter_same, map-same, map-map}
 use Rattle.xc_input.proofs.lists.Members.{IsIn, in-filter, in-take, each_from, contains-in}
 use Rattle.xc_search.proofs.completeness.Proper.{goes_on}
@@ -34,18 +39,26 @@ module _ (f g : ℕ → ℕ) (apart : AreKeptApart f) where
   same_holds : (o : Numbered) (i : ℕ) → holds (renumber_option f g o) (f i) ≡ holds o i
   same_holds o i = ap is_some (same_colour o.uses i)
 
-  same_holding : (os : List Numbered) (i : ℕ) → holding (f i) (map (renumber_option f g) os) ≡ map (renumber_option f g) (holding i os)
-  same_holding os i = filter-map (λ o. holds o (f i)) (renumber_option f g) os ∙ ap (map (renumber_option f g)) (filter_agree _ _ (λ o. same_holds o i) os)
+  same_holding : (os : List Numbered) (i : ℕ)
+      → holding (f i) (map (renumber_option f g) os) ≡ map (renumber_option f g) (holding i os)
+  same_holding os i = filter-map (λ o. holds o (f i)) (renumber_option f g) os
+      ∙ ap (map (renumber_option f g)) (filter_agree _ _ (λ o. same_holds o i) os)
 
   same_count : (r : Residual) (w : Wanted) → branch_count (renumber f g r) (renumber_item f w) ≡ branch_count r w
-  same_count r w = ap (λ n. count_of n w.low) (ap length (same_holding r.options w.item) ∙ length-map (holding w.item r.options) (renumber_option f g))
+  same_count r w =
+      ap (λ n. count_of n w.low)
+      (ap length (same_holding r.options w.item) ∙ length-map (holding w.item r.options) (renumber_option f g))
 
   same_best : (c d : Wanted → ℕ) (w : Wanted) (ws : List Wanted) → ((v : Wanted) → c (renumber_item f v) ≡ d v) →
-      best_of (λ x b. nat_lt (c x) (c b)) (renumber_item f w) (map (renumber_item f) ws) ≡ renumber_item f (best_of (λ x b. nat_lt (d x) (d b)) w ws)
+      best_of (λ x b. nat_lt (c x) (c b)) (renumber_item f w) (map (renumber_item f) ws) ≡ renumber_item f
+      (best_of (λ x b. nat_lt (d x) (d b)) w ws)
   same_best c d w [] h = refl
   same_best c d w (v ∷ ws) h =
-      ap₂ (λ m n. best_of (λ x b. nat_lt (c x) (c b)) (cond (nat_lt m n) (renumber_item f v) (renumber_item f w)) (map (renumber_item f) ws)) (h v) (h w)
-      ∙ elim (nat_lt (d v) (d w)) as (λ t. best_of (λ x b. nat_lt (c x) (c b)) (cond t (renumber_item f v) (renumber_item f w)) (map (renumber_item f) ws) ≡ renumber_item f (best_of (λ x b. nat_lt (d x) (d b)) (cond t v w) ws)) [
+      ap₂ (λ m n. best_of (λ x b. nat_lt (c x) (c b)) (cond (nat_lt m n) (renumber_item f v) (renumber_item f w))
+      (map (renumber_item f) ws)) (h v) (h w)
+      ∙ elim (nat_lt (d v) (d w)) as
+      (λ t. best_of (λ x b. nat_lt (c x) (c b)) (cond t (renumber_item f v) (renumber_item f w))
+      (map (renumber_item f) ws) ≡ renumber_item f (best_of (λ x b. nat_lt (d x) (d b)) (cond t v w) ws)) [
         | true ↦ same_best c d v ws h
         | false ↦ same_best c d w ws h
       ]
@@ -53,38 +66,53 @@ module _ (f g : ℕ → ℕ) (apart : AreKeptApart f) where
   same_branch_item : (r : Residual) → branch_item (renumber f g r) ≡ option_map (renumber_item f) (branch_item r)
   same_branch_item r = by_items r.items
     where
-      by_items : (ws : List Wanted) → first_least (branch_count (renumber f g r)) (map (renumber_item f) ws) ≡ option_map (renumber_item f) (first_least (branch_count r) ws)
+      by_items : (ws : List Wanted)
+          → first_least (branch_count (renumber f g r)) (map (renumber_item f) ws) ≡ option_map (renumber_item f)
+          (first_least (branch_count r) ws)
       by_items [] = refl
-      by_items (w ∷ ws) = ap (λ v. Some v) (same_best (branch_count (renumber f g r)) (branch_count r) w ws (same_count r))
+      by_items (w ∷ ws) =
+          ap (λ v. Some v) (same_best (branch_count (renumber f g r)) (branch_count r) w ws (same_count r))
 
   -- ---- what is left
 
-  same_left : (ws : List Wanted) (j : ℕ) → find (λ w. eqb w.item (f j)) (map (renumber_item f) ws) ≡ option_map (renumber_item f) (find (λ w. eqb w.item j) ws)
+  same_left : (ws : List Wanted) (j : ℕ)
+      → find (λ w. eqb w.item (f j)) (map (renumber_item f) ws) ≡ option_map (renumber_item f)
+      (find (λ w. eqb w.item j) ws)
   same_left [] j = refl
   same_left (w ∷ ws) j =
       ap₂ (λ b o. cond b (Some (renumber_item f w)) o) (same_item w.item j) (same_left ws j)
-      ∙ elim (eqb w.item j) as (λ b. cond b (Some (renumber_item f w)) (option_map (renumber_item f) (find (λ w. eqb w.item j) ws)) ≡ option_map (renumber_item f) (cond b (Some w) (find (λ w. eqb w.item j) ws))) [ true ↦ refl | false ↦ refl ]
+      ∙ elim (eqb w.item j) as
+      (λ b. cond b (Some (renumber_item f w)) (option_map (renumber_item f) (find (λ w. eqb w.item j) ws)) ≡
+      option_map (renumber_item f) (cond b (Some w) (find (λ w. eqb w.item j) ws)))
+      [ true ↦ refl | false ↦ refl ]
 
-  same_stay : (left : Option Wanted) (u : Use) (o : Numbered) → may_stay (option_map (renumber_item f) left) (renumber_use f u) (renumber_option f g o) ≡ may_stay left u o
+  same_stay : (left : Option Wanted) (u : Use) (o : Numbered)
+      → may_stay (option_map (renumber_item f) left) (renumber_use f u) (renumber_option f g o) ≡ may_stay left u o
   same_stay (Some w) u o = ap (λ b. nat_lt 1 w.high || not b) (same_holds o u.item)
   same_stay None u o = ap (agrees u.colour) (same_colour o.uses u.item)
 
   same_stays : (r : Residual) (us : List Use) (o : Numbered) →
-      list_all (λ u. may_stay (item_left (renumber f g r) u.item) u (renumber_option f g o)) (map (renumber_use f) us) ≡ list_all (λ u. may_stay (item_left r u.item) u o) us
+      list_all (λ u. may_stay (item_left (renumber f g r) u.item) u (renumber_option f g o)) (map (renumber_use f) us) ≡
+      list_all (λ u. may_stay (item_left r u.item) u o) us
   same_stays r [] o = refl
   same_stays r (u ∷ us) o =
-      ap₂ (λ a b. a && b) (ap (λ left. may_stay left (renumber_use f u) (renumber_option f g o)) (same_left r.items u.item) ∙ same_stay (item_left r u.item) u o) (same_stays r us o)
+      ap₂ (λ a b. a && b) (ap (λ left. may_stay left (renumber_use f u) (renumber_option f g o))
+      (same_left r.items u.item) ∙ same_stay (item_left r u.item) u o) (same_stays r us o)
 
-  same_spend : (x : Numbered) (w : Wanted) → spend_one (renumber_option f g x) (renumber_item f w) ≡ renumber_item f (spend_one x w)
+  same_spend : (x : Numbered) (w : Wanted)
+      → spend_one (renumber_option f g x) (renumber_item f w) ≡ renumber_item f (spend_one x w)
   same_spend x w =
       ap (λ b. cond b (less_one (renumber_item f w)) (renumber_item f w)) (same_holds x w.item)
-      ∙ elim (holds x w.item) as (λ b. cond b (less_one (renumber_item f w)) (renumber_item f w) ≡ renumber_item f (cond b (less_one w) w)) [ true ↦ refl | false ↦ refl ]
+      ∙ elim (holds x w.item) as
+      (λ b. cond b (less_one (renumber_item f w)) (renumber_item f w) ≡ renumber_item f (cond b (less_one w) w))
+      [ true ↦ refl | false ↦ refl ]
 
   -- options in order, of which some are left
   abbrev InOrder : List Numbered → Type 0
   InOrder os = (x y : Numbered) → IsIn os x → IsIn os y → nat_le (g x.number) (g y.number) ≡ nat_le x.number y.number
 
-  same_pick : (r : Residual) (i : ℕ) (x : Numbered) → InOrder r.options → IsIn r.options x → pick (renumber f g r) (f i) (renumber_option f g x) ≡ renumber f g (pick r i x)
+  same_pick : (r : Residual) (i : ℕ) (x : Numbered) → InOrder r.options → IsIn r.options x
+      → pick (renumber f g r) (f i) (renumber_option f g x) ≡ renumber f g (pick r i x)
   same_pick r i x order h = as_residual _ _ _ _
       (ap (filter is_wanted) (map-map (renumber_item f) (spend_one (renumber_option f g x)) r.items
       ∙ map-same _ (λ w. renumber_item f (spend_one x w)) r.items (same_spend x)
@@ -96,39 +124,51 @@ module _ (f g : ℕ → ℕ) (apart : AreKeptApart f) where
 
   same_none : (r : Residual) (i : ℕ) → none (renumber f g r) (f i) ≡ renumber f g (none r i)
   same_none r i = as_residual _ _ _ _
-      (filter-map (λ w. not (eqb w.item (f i))) (renumber_item f) r.items ∙ ap (map (renumber_item f)) (filter_agree _ _ (λ w. ap not (same_item w.item i)) r.items))
-      (filter-map (λ o. not (holds o (f i))) (renumber_option f g) r.options ∙ ap (map (renumber_option f g)) (filter_agree _ _ (λ o. ap not (same_holds o i)) r.options))
+      (filter-map (λ w. not (eqb w.item (f i))) (renumber_item f) r.items
+      ∙ ap (map (renumber_item f)) (filter_agree _ _ (λ w. ap not (same_item w.item i)) r.items))
+      (filter-map (λ o. not (holds o (f i))) (renumber_option f g) r.options
+      ∙ ap (map (renumber_option f g)) (filter_agree _ _ (λ o. ap not (same_holds o i)) r.options))
 
   -- ---- branches
 
   abbrev renumber_branch : Branch → Branch
   renumber_branch b = record { choice = renumber_choice f g b.choice; next = renumber f g b.next }
 
-  same_takes : (r : Residual) (i n k : ℕ) (xs : List Numbered) → InOrder r.options → ((x : Numbered) → IsIn xs x → IsIn r.options x) →
-      map (take_branch (renumber f g r) (f i) n) (enumerate_from k (map (renumber_option f g) xs)) ≡ map renumber_branch (map (take_branch r i n) (enumerate_from k xs))
+  same_takes : (r : Residual) (i n k : ℕ) (xs : List Numbered) → InOrder r.options
+      → ((x : Numbered) → IsIn xs x → IsIn r.options x) →
+      map (take_branch (renumber f g r) (f i) n) (enumerate_from k (map (renumber_option f g) xs)) ≡ map renumber_branch
+      (map (take_branch r i n) (enumerate_from k xs))
   same_takes r i n k [] order h = refl
   same_takes r i n k (x ∷ xs) order h =
-      ap₂ (λ z bs. let b : Branch = record { choice = renumber_choice f g (take_branch r i n (k, x)).choice; next = z } in b ∷ bs)
+      ap₂ (λ z bs. let b : Branch = record { choice = renumber_choice f g (take_branch r i n (k, x)).choice; next = z }
+      in b ∷ bs)
       (same_pick r i x order (h x (inl refl)))
       (same_takes r i n (k + 1) xs order (λ y j. h y (inr j)))
 
-  same_branches : (r : Residual) (w : Wanted) → InOrder r.options → branches_of (renumber f g r) (renumber_item f w) ≡ map renumber_branch (branches_of r w)
+  same_branches : (r : Residual) (w : Wanted) → InOrder r.options
+      → branches_of (renumber f g r) (renumber_item f w) ≡ map renumber_branch (branches_of r w)
   same_branches r w order =
       let n = branch_count r w in
       let hs = holding w.item r.options in
-      ap₂ (λ n os. map (take_branch (renumber f g r) (f w.item) n) (enumerate_from 1 (take n os)) ++ cond (eqb w.low 0) (none_branch (renumber f g r) (f w.item) n ∷ []) []) (same_count r w) (same_holding r.options w.item)
+      ap₂ (λ n os. map (take_branch (renumber f g r) (f w.item) n) (enumerate_from 1 (take n os)) ++ cond (eqb w.low 0)
+      (none_branch (renumber f g r) (f w.item) n ∷ []) []) (same_count r w) (same_holding r.options w.item)
       ∙ ap₂ (λ a b. a ++ b)
-      (ap (λ os. map (take_branch (renumber f g r) (f w.item) n) (enumerate_from 1 os)) (take-map (renumber_option f g) n hs)
-      ∙ same_takes r w.item n 1 (take n hs) order (λ x h. (in-filter (λ o. holds o w.item) r.options x (in-take n hs x h)).0))
-      (elim (eqb w.low 0) as (λ b. cond b (none_branch (renumber f g r) (f w.item) n ∷ []) [] ≡ map renumber_branch (cond b (none_branch r w.item n ∷ []) [])) [
-        | true ↦ ap (λ z. let b : Branch = record { choice = renumber_choice f g (none_branch r w.item n).choice; next = z } in b ∷ []) (same_none r w.item)
+      (ap (λ os. map (take_branch (renumber f g r) (f w.item) n) (enumerate_from 1 os))
+      (take-map (renumber_option f g) n hs)
+      ∙ same_takes r w.item n 1 (take n hs) order
+      (λ x h. (in-filter (λ o. holds o w.item) r.options x (in-take n hs x h)).0))
+      (elim (eqb w.low 0) as (λ b. cond b (none_branch (renumber f g r) (f w.item) n ∷ []) [] ≡ map renumber_branch
+      (cond b (none_branch r w.item n ∷ []) [])) [
+        | true ↦ ap (λ z. let b : Branch = record
+            { choice = renumber_choice f g (none_branch r w.item n).choice; next = z } in b ∷ []) (same_none r w.item)
         | false ↦ refl
       ])
       ∙ sym (map-append renumber_branch (takes r w) (nones r w))
 
   -- ---- levels
 
-  same_behind : (rest : Residual → List (List Choice)) (bs : List Branch) → ((b : Branch) → IsIn bs b → rest (renumber f g b.next) ≡ map (map (renumber_choice f g)) (rest b.next)) →
+  same_behind : (rest : Residual → List (List Choice)) (bs : List Branch)
+      → ((b : Branch) → IsIn bs b → rest (renumber f g b.next) ≡ map (map (renumber_choice f g)) (rest b.next)) →
       flat_map (behind rest) (map renumber_branch bs) ≡ map (map (renumber_choice f g)) (flat_map (behind rest) bs)
   same_behind rest [] h = refl
   same_behind rest (b ∷ bs) h =
@@ -139,16 +179,22 @@ module _ (f g : ℕ → ℕ) (apart : AreKeptApart f) where
       (same_behind rest bs (λ c k. h c (inr k)))
       ∙ sym (map-append (map (renumber_choice f g)) (behind rest b) (flat_map (behind rest) bs))
 
-  was_left : (r : Residual) (w : Wanted) (b : Branch) (o : Numbered) → IsTaken r w b ⊎ IsNone r w b → IsIn b.next.options o → IsIn r.options o
-  was_left r w b o (inl t) h = (in-filter (goes_on r w.item t.x) r.options o (subst (λ (z : Residual). IsIn z.options o) t.next h)).0
-  was_left r w b o (inr t) h = (in-filter (λ o. not (holds o w.item)) r.options o (subst (λ (z : Residual). IsIn z.options o) t.next h)).0
+  was_left : (r : Residual) (w : Wanted) (b : Branch) (o : Numbered) → IsTaken r w b ⊎ IsNone r w b
+      → IsIn b.next.options o → IsIn r.options o
+  was_left r w b o (inl t) h =
+      (in-filter (goes_on r w.item t.x) r.options o (subst (λ (z : Residual). IsIn z.options o) t.next h)).0
+  was_left r w b o (inr t) h =
+      (in-filter (λ o. not (holds o w.item)) r.options o (subst (λ (z : Residual). IsIn z.options o) t.next h)).0
 
-  same_listing : (d : ℕ) (r : Residual) → InOrder r.options → listing_to d (renumber f g r) ≡ map (map (renumber_choice f g)) (listing_to d r)
+  same_listing : (d : ℕ) (r : Residual) → InOrder r.options
+      → listing_to d (renumber f g r) ≡ map (map (renumber_choice f g)) (listing_to d r)
   unfolding listing_to
   same_listing zero r order = refl
   same_listing (suc d) r order =
       ap (λ o. level (listing_to d) o (renumber f g r)) (same_branch_item r)
-      ∙ elim (branch_item r) as (λ o. level (listing_to d) (option_map (renumber_item f) o) (renumber f g r) ≡ map (map (renumber_choice f g)) (level (listing_to d) o r)) [
+      ∙ elim (branch_item r) as
+      (λ o. level (listing_to d) (option_map (renumber_item f) o) (renumber f g r) ≡ map (map (renumber_choice f g))
+      (level (listing_to d) o r)) [
         | None ↦ refl
         | Some w ↦ ap (flat_map (behind (listing_to d))) (same_branches r w order)
             ∙ same_behind (listing_to d) (branches_of r w) (λ b h.
@@ -159,10 +205,12 @@ module _ (f g : ℕ → ℕ) (apart : AreKeptApart f) where
 pub listing_renumbered : (f g : ℕ → ℕ) → AreKeptApart f → (r : Residual) → AreKeptInOrder g r.options → ListsAlike f g r
 unfolding listing
 listing_renumbered f g apart r order =
-    ap (λ d. listing_to d (renumber f g r)) (ap₂ (λ a b. a + b) (length-map r.items (renumber_item f)) (length-map r.options (renumber_option f g)))
+    ap (λ d. listing_to d (renumber f g r))
+    (ap₂ (λ a b. a + b) (length-map r.items (renumber_item f)) (length-map r.options (renumber_option f g)))
     ∙ same_listing f g apart (size_of r) r in_order
   where
-    in_order : (x y : Numbered) → IsIn r.options x → IsIn r.options y → nat_le (g x.number) (g y.number) ≡ nat_le x.number y.number
+    in_order : (x y : Numbered) → IsIn r.options x → IsIn r.options y
+        → nat_le (g x.number) (g y.number) ≡ nat_le x.number y.number
     in_order x y h k =
         let up = order x y (contains-in r.options x h) (contains-in r.options y k) in
         let down = order y x (contains-in r.options y k) (contains-in r.options x h) in

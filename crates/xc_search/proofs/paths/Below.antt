@@ -1,5 +1,6 @@
 -- What a path leaves is what the search has there.
-use Rattle.std.proofs.Common.{ℕ, ◌≡◌, ◌-◌, Bool, true, cond, eqb, ◌&&◌, List, [], ◌∷◌, ◌++◌, map, Option, Some, None, refl, sym, ap, ap₂, ◌∙◌, subst, eq-eqb}
+use Rattle.std.proofs.Common.{ℕ, ◌≡◌, ◌-◌, Bool, true, cond, eqb, ◌&&◌, List, [], ◌∷◌, ◌++◌, map, Option, Some, None}
+use Rattle.std.proofs.Common.{refl, sym, ap, ap₂, ◌∙◌, subst, eq-eqb}
 use Rattle.std.specs.Prelude.{All, slice_get, unwrap_or, option_map, option_and_then}
 use Rattle.xc_search.specs.declared.choice.Choice.{Choice}
 use Rattle.xc_dance.specs.declared.dance.Move.{Move}
@@ -19,8 +20,10 @@ at_end : (o : Option Residual) → option_and_then (left_by []) o ≡ o
 at_end None = refl
 at_end (Some r) = refl
 
-further : (path : List Choice) (c : Choice) → ((r : Residual) → left_by (path ++ c ∷ []) r ≡ option_and_then (left_by_one c) (left_by path r)) →
-    (o : Option Residual) → option_and_then (left_by (path ++ c ∷ [])) o ≡ option_and_then (left_by_one c) (option_and_then (left_by path) o)
+further : (path : List Choice) (c : Choice)
+    → ((r : Residual) → left_by (path ++ c ∷ []) r ≡ option_and_then (left_by_one c) (left_by path r)) →
+    (o : Option Residual) → option_and_then (left_by (path ++ c ∷ [])) o ≡ option_and_then (left_by_one c)
+    (option_and_then (left_by path) o)
 further path c more None = refl
 further path c more (Some r) = more r
 
@@ -42,20 +45,24 @@ has_its_choice b =
 pub branches_same : (p : Puzzle) (t : List Move) → branches_left (residual_of p t) ≡ branches_at p t
 branches_same p t = by_case (branch_item (residual_of p t)) refl
   where
-    by_case : (o : Option Wanted) → branch_item (residual_of p t) ≡ o → branches_left (residual_of p t) ≡ branches_at p t
+    by_case : (o : Option Wanted) → branch_item (residual_of p t) ≡ o
+        → branches_left (residual_of p t) ≡ branches_at p t
     by_case None e = rw e refl
     by_case (Some w) e = rw e refl
 
-led_by_one : (p : Puzzle) (t : List Move) (l : Level) → IsLed p t l → left_by_one (chosen p l) (residual_of p (oldest l.mark t)) ≡ Some (residual_of p t)
+led_by_one : (p : Puzzle) (t : List Move) (l : Level) → IsLed p t l
+    → left_by_one (chosen p l) (residual_of p (oldest l.mark t)) ≡ Some (residual_of p t)
 led_by_one p t l a =
     let b = a.branch in
-    ap (λ bs. option_and_then (λ b. cond (has_choice (chosen p l) b) (Some b.next) None) (slice_get bs (l.begun - 1))) (branches_same p (oldest l.mark t))
+    ap (λ bs. option_and_then (λ b. cond (has_choice (chosen p l) b) (Some b.next) None) (slice_get bs (l.begun - 1)))
+    (branches_same p (oldest l.mark t))
     ∙ ap (option_and_then (λ b. cond (has_choice (chosen p l) b) (Some b.next) None)) a.at
     ∙ ap (λ c. cond (has_choice c b) (Some b.next) None) a.choice
     ∙ ap (λ x. cond x (Some b.next) None) (has_its_choice b)
     ∙ ap Some (sym a.next)
 
-pub led_left : (p : Puzzle) (t : List Move) (ls : List Level) → AreLed p [] t ls → left_by (choices_of p ls) (whole p) ≡ Some (residual_of p t)
+pub led_left : (p : Puzzle) (t : List Move) (ls : List Level) → AreLed p [] t ls
+    → left_by (choices_of p ls) (whole p) ≡ Some (residual_of p t)
 led_left p t [] a = ap Some (sym (no_moves_leave_all p)) ∙ ap (λ t. Some (residual_of p t)) (sym a)
 led_left p t (l ∷ ls) a =
     ap (λ path. left_by path (whole p)) (choices_more p l ls)
@@ -67,14 +74,18 @@ pub led_path : (p : Puzzle) (t : List Move) (ls : List Level) → AreLed p [] t 
 led_path p t ls a = (residual_of p t, led_left p t ls a)
 
 -- what comes is what is below the path, and then what the levels have to give
-pub comes_below : (p : Puzzle) (t : List Move) (ls : List Level) → AreLed p [] t ls → coming p t ls true ≡ below p (choices_of p ls) ++ to_give p t ls
+pub comes_below : (p : Puzzle) (t : List Move) (ls : List Level) → AreLed p [] t ls
+    → coming p t ls true ≡ below p (choices_of p ls) ++ to_give p t ls
 comes_below p t ls a =
-    sym (ap (λ o. unwrap_or (option_map (λ r. map (λ m. choices_of p ls ++ m) (listing r)) o) [] ++ to_give p t ls) (led_left p t ls a))
+    sym (ap (λ o. unwrap_or (option_map (λ r. map (λ m. choices_of p ls ++ m) (listing r)) o) [] ++ to_give p t ls)
+    (led_left p t ls a))
 
 -- the items of the choices are primary
-pub primary_choices : (p : Puzzle) (t : List Move) (ls : List Level) → AreStacked p t ls → All (λ (c : Choice). IsPrimary p c.item) (choices_of p ls)
+pub primary_choices : (p : Puzzle) (t : List Move) (ls : List Level) → AreStacked p t ls
+    → All (λ (c : Choice). IsPrimary p c.item) (choices_of p ls)
 primary_choices p t [] a = All-nil (λ (c : Choice). IsPrimary p c.item)
 primary_choices p t (l ∷ ls) a =
     let is : Choice → Type 0 = λ c. IsPrimary p c.item in
     subst (All is) (sym (choices_more p l ls))
-    (All-append is (choices_of p ls) (chosen p l ∷ []) (primary_choices p (oldest l.mark t) ls a.2) (All-cons is (chosen p l) [] a.0.node.item (All-nil is)))
+    (All-append is (choices_of p ls) (chosen p l ∷ []) (primary_choices p (oldest l.mark t) ls a.2)
+    (All-cons is (chosen p l) [] a.0.node.item (All-nil is)))

@@ -1,5 +1,6 @@
 -- The way down a path.
-use Rattle.std.proofs.Common.{ℕ, ◌≡◌, ◌+◌, ◌-◌, ◌<◌, true, cond, List, [], ◌∷◌, ◌++◌, length, take, drop, get_or, map, Option, Some, None, refl, sym, ap, ap₂, ◌∙◌, arith, subst, append-nil}
+use Rattle.std.proofs.Common.{ℕ, ◌≡◌, ◌+◌, ◌-◌, ◌<◌, true, cond, List, [], ◌∷◌, ◌++◌, length, take, drop, get_or, map}
+use Rattle.std.proofs.Common.{Option, Some, None, refl, sym, ap, ap₂, ◌∙◌, arith, subst, append-nil}
 use Rattle.std.specs.Prelude.{slice_get, option_and_then}
 use Rattle.std.proofs.lemmas.Grind.{common_steps}
 use Rattle.std.proofs.lemmas.List.{map-append, map-id}
@@ -15,10 +16,13 @@ use Rattle.xc_search.specs.Cut.{has_choice, left_by_one, below, IsPathBy}
 use Rattle.xc_search.specs.inner.Commits.{oldest}
 use Rattle.xc_search.specs.inner.Residual.{residual_of}
 use Rattle.xc_search.specs.inner.Sizes.{size_of}
-use Rattle.xc_search.specs.inner.Levels.{IsLevel, IsLevelAt, IsNode, IsSearchable, IsShallow, IsStanding, IsEntered, MayBegin, first_level, begun_level, after_branch, taken, branches_at, chosen, coming, behind}
+use Rattle.xc_search.specs.inner.Levels.{IsLevel, IsLevelAt, IsNode, IsSearchable, IsShallow, IsStanding, IsEntered}
+use Rattle.xc_search.specs.inner.Levels.{MayBegin, first_level, begun_level, after_branch, taken, branches_at, chosen}
+use Rattle.xc_search.specs.inner.Levels.{coming, behind}
 use Rattle.xc_search.specs.inner.Descent.{LeadsTo, Leads, IsDown}
 use Rattle.xc_search.proofs.residual.BranchItemLeft.{no_moves_leave_all}
-use Rattle.xc_search.proofs.stacked.NextLevel.{Extends, ext_uses, ext_after_none, ext_after_spend, ext_whole, oldest-oldest, first_stands}
+use Rattle.xc_search.proofs.stacked.NextLevel.{Extends, ext_uses, ext_after_none, ext_after_spend, ext_whole}
+use Rattle.xc_search.proofs.stacked.NextLevel.{oldest-oldest, first_stands}
 use Rattle.xc_search.proofs.stacked.Start.{starts_standing}
 use Rattle.xc_search.proofs.stacked.Depth.{shallow_first}
 use Rattle.xc_search.proofs.paths.Below.{branches_same, has_its_choice, left_by_more}

@@ -8,7 +8,8 @@ use Rattle.xc_input.specs.Problem.{Puzzle}
 use Rattle.xc_dance.specs.Dancing.{Dancing}
 use Rattle.xc_dance.specs.Commits.{after_spend, option_at}
 use Rattle.xc_search.specs.inner.Commits.{oldest}
-use Rattle.xc_search.specs.inner.Levels.{Levels, AreStacked, IsBegun, IsEntered, branches_at, first_level, begun_level, newest_begun, after_branch}
+use Rattle.xc_search.specs.inner.Levels.{Levels, AreStacked, IsBegun, IsEntered, branches_at, first_level, begun_level}
+use Rattle.xc_search.specs.inner.Levels.{newest_begun, after_branch}
 use Rattle.xc_search.specs.inner.Paths.{AreLed, KeepsPath, ground}
 use Rattle.xc_search.proofs.stacked.NextLevel.{ext_after_spend, ext_whole, oldest-oldest}
 use Rattle.xc_search.proofs.stacked.LoopSteps.{with_level}
@@ -18,7 +19,8 @@ led_ground p u t [] a = a
 led_ground p u t (l ∷ ls) a = led_ground p u (oldest l.mark t) ls a.1
 
 -- a branch was begun
-pub led_begun : (p : Puzzle) (u t s : List Move) (l k : Level) (ls : List Level) → IsBegun p t l s k → AreLed p u (oldest l.mark t) ls → AreLed p u s (k ∷ ls)
+pub led_begun : (p : Puzzle) (u t s : List Move) (l k : Level) (ls : List Level) → IsBegun p t l s k
+    → AreLed p u (oldest l.mark t) ls → AreLed p u s (k ∷ ls)
 led_begun p u t s l k ls b a =
     let under : oldest k.mark s ≡ oldest l.mark t = ap (λ n. oldest n s) b.mark ∙ b.below in
     let place : k.begun - 1 ≡ l.begun = omega (arith, b.begun) in (
@@ -31,55 +33,73 @@ led_begun p u t s l k ls b a =
       subst (λ v. AreLed p u v ls) (sym under) a,
     )
 
-keeps_at : (d e : Dancing) (ls ks : Levels) → d.puzzle ≡ e.puzzle → ((u : List Move) → AreLed d.puzzle u d.trail ls.levels → AreLed d.puzzle u e.trail ks.levels) → KeepsPath d ls e ks
+keeps_at : (d e : Dancing) (ls ks : Levels) → d.puzzle ≡ e.puzzle
+    → ((u : List Move) → AreLed d.puzzle u d.trail ls.levels → AreLed d.puzzle u e.trail ks.levels)
+    → KeepsPath d ls e ks
 keeps_at d e ls ks same f = λ u a. subst (λ p. AreLed p u e.trail ks.levels) same (f u a)
 
 -- the first branch of a new level
 pub keeps_first : (d e f h : Dancing) (ls ks : Levels) (i n : ℕ) (l : Level) (b : Begun) →
     e ≡ record d { trail = after_spend d.puzzle i d.trail } → l ≡ first_level d.puzzle d.trail i n →
     f ≡ record e { trail = f.trail } → IsEntered e.puzzle e.trail l f.trail (begun_level b l) →
-    h ≡ record f { trail = after_branch f.puzzle i (option_at f.puzzle i b.place) f.trail } → ks ≡ with_level (begun_level b l) ls → KeepsPath d ls h ks
+    h ≡ record f { trail = after_branch f.puzzle i (option_at f.puzzle i b.place) f.trail }
+    → ks ≡ with_level (begun_level b l) ls → KeepsPath d ls h ks
 keeps_first d e f h ls ks i n l b ed el ef entered eh ek =
     let made : h ≡ record e { trail = after_branch e.puzzle l.item (option_at e.puzzle l.item b.place) f.trail } =
     eh ∙ ap (λ (f : Dancing). record f { trail = after_branch f.puzzle i (option_at f.puzzle i b.place) f.trail }) ef
-    ∙ ap (λ (l : Level). record e { trail = after_branch e.puzzle l.item (option_at e.puzzle l.item b.place) f.trail }) (sym el) in
-    let begun : IsBegun e.puzzle e.trail l h.trail (begun_level b l) = subst (λ (h : Dancing). IsBegun e.puzzle e.trail l h.trail (begun_level b l)) (sym made) entered.begun in
+    ∙ ap (λ (l : Level). record e { trail = after_branch e.puzzle l.item (option_at e.puzzle l.item b.place) f.trail })
+    (sym el) in
+    let begun : IsBegun e.puzzle e.trail l h.trail (begun_level b l) =
+    subst (λ (h : Dancing). IsBegun e.puzzle e.trail l h.trail (begun_level b l)) (sym made) entered.begun in
     let same : e.puzzle ≡ d.puzzle = ap (λ (s : Dancing). s.puzzle) ed in
     let under : oldest l.mark e.trail ≡ d.trail =
-    ap₂ (λ (l : Level) (e : Dancing). oldest l.mark e.trail) el ed ∙ ext_whole (after_spend d.puzzle i d.trail) d.trail (ext_after_spend d.puzzle i d.trail) in
+    ap₂ (λ (l : Level) (e : Dancing). oldest l.mark e.trail) el ed
+    ∙ ext_whole (after_spend d.puzzle i d.trail) d.trail (ext_after_spend d.puzzle i d.trail) in
     keeps_at d h ls ks (sym same ∙ sym (ap (λ (s : Dancing). s.puzzle) made))
     (λ u a. subst (λ js. AreLed d.puzzle u h.trail js) (sym (ap (λ (s : Levels). s.levels) ek))
-    (led_begun d.puzzle u e.trail h.trail l (begun_level b l) ls.levels (subst (λ p. IsBegun p e.trail l h.trail (begun_level b l)) same begun)
+    (led_begun d.puzzle u e.trail h.trail l (begun_level b l) ls.levels
+    (subst (λ p. IsBegun p e.trail l h.trail (begun_level b l)) same begun)
     (subst (λ t. AreLed d.puzzle u t ls.levels) (sym under) a)))
 
 -- a level without branches
 pub keeps_over : (d e f : Dancing) (ls : Levels) (i n : ℕ) (l : Level) →
-    e ≡ record d { trail = after_spend d.puzzle i d.trail } → l ≡ first_level d.puzzle d.trail i n → f ≡ record e { trail = oldest l.mark e.trail } → KeepsPath d ls f ls
+    e ≡ record d { trail = after_spend d.puzzle i d.trail } → l ≡ first_level d.puzzle d.trail i n
+    → f ≡ record e { trail = oldest l.mark e.trail } → KeepsPath d ls f ls
 keeps_over d e f ls i n l ed el ef =
     let same : f.puzzle ≡ d.puzzle = ap (λ (s : Dancing). s.puzzle) ef ∙ ap (λ (s : Dancing). s.puzzle) ed in
     let under : f.trail ≡ d.trail =
-    ap (λ (s : Dancing). s.trail) ef ∙ ap₂ (λ (l : Level) (e : Dancing). oldest l.mark e.trail) el ed ∙ ext_whole (after_spend d.puzzle i d.trail) d.trail (ext_after_spend d.puzzle i d.trail) in
+    ap (λ (s : Dancing). s.trail) ef ∙ ap₂ (λ (l : Level) (e : Dancing). oldest l.mark e.trail) el ed
+    ∙ ext_whole (after_spend d.puzzle i d.trail) d.trail (ext_after_spend d.puzzle i d.trail) in
     keeps_at d f ls ls (sym same) (λ u a. subst (λ t. AreLed d.puzzle u t ls.levels) (sym under) a)
 
 -- the next branch of the newest level
-pub keeps_next : (d e f h : Dancing) (l : Level) (b : Begun) (vs ks : Levels) → AreStacked d.puzzle d.trail vs.levels → vs.levels ≡ l ∷ drop 1 vs.levels →
-    e ≡ record d { trail = oldest l.base d.trail } → f ≡ record e { trail = f.trail } → IsEntered e.puzzle e.trail l f.trail (begun_level b l) →
-    h ≡ record f { trail = after_branch f.puzzle l.item (option_at f.puzzle l.item b.place) f.trail } → ks ≡ record vs { levels = newest_begun b vs.levels } → KeepsPath d vs h ks
+pub keeps_next : (d e f h : Dancing) (l : Level) (b : Begun) (vs ks : Levels) → AreStacked d.puzzle d.trail vs.levels
+    → vs.levels ≡ l ∷ drop 1 vs.levels →
+    e ≡ record d { trail = oldest l.base d.trail } → f ≡ record e { trail = f.trail }
+    → IsEntered e.puzzle e.trail l f.trail (begun_level b l) →
+    h ≡ record f { trail = after_branch f.puzzle l.item (option_at f.puzzle l.item b.place) f.trail }
+    → ks ≡ record vs { levels = newest_begun b vs.levels } → KeepsPath d vs h ks
 keeps_next d e f h l b vs ks stacked top ed ef entered eh ek =
     let p = d.puzzle in
     let t = d.trail in
     let js = drop 1 vs.levels in
     let at : f ≡ record d { trail = f.trail } = ef ∙ ap (λ (e : Dancing). record e { trail = f.trail }) ed in
     let made : h ≡ record d { trail = after_branch p l.item (option_at p l.item b.place) f.trail } =
-    eh ∙ ap (λ (f : Dancing). record f { trail = after_branch f.puzzle l.item (option_at f.puzzle l.item b.place) f.trail }) at in
-    let begun : IsBegun p (oldest l.base t) l (after_branch p l.item (option_at p l.item b.place) f.trail) (begun_level b l) =
-    subst (λ (e : Dancing). IsBegun e.puzzle e.trail l (after_branch e.puzzle l.item (option_at e.puzzle l.item b.place) f.trail) (begun_level b l)) ed entered.begun in
+    eh ∙ ap (λ (f : Dancing). record f
+    { trail = after_branch f.puzzle l.item (option_at f.puzzle l.item b.place) f.trail }) at in
+    let begun : IsBegun p (oldest l.base t) l (after_branch p l.item (option_at p l.item b.place) f.trail)
+    (begun_level b l) =
+    subst (λ (e : Dancing). IsBegun e.puzzle e.trail l
+    (after_branch e.puzzle l.item (option_at e.puzzle l.item b.place) f.trail) (begun_level b l)) ed
+    entered.begun in
     let here = subst (AreStacked p t) top stacked in
-    let under : oldest l.mark (oldest l.base t) ≡ oldest l.mark t = oldest-oldest l.mark l.base t here.0.within.0 here.0.within.1 in
+    let under : oldest l.mark (oldest l.base t) ≡ oldest l.mark t =
+    oldest-oldest l.mark l.base t here.0.within.0 here.0.within.1 in
     let levels : ks.levels ≡ begun_level b l ∷ js = ap (λ (s : Levels). s.levels) ek ∙ ap (newest_begun b) top in
     keeps_at d h vs ks (sym (ap (λ (s : Dancing). s.puzzle) made))
     (λ u a. subst (λ ms. AreLed p u h.trail ms) (sym levels)
-    (led_begun p u (oldest l.base t) h.trail l (begun_level b l) js (subst (λ (h : Dancing). IsBegun p (oldest l.base t) l h.trail (begun_level b l)) (sym made) begun)
+    (led_begun p u (oldest l.base t) h.trail l (begun_level b l) js
+    (subst (λ (h : Dancing). IsBegun p (oldest l.base t) l h.trail (begun_level b l)) (sym made) begun)
     (subst (λ v. AreLed p u v js) (sym under) (subst (AreLed p u t) top a).1)))
 
 -- the newest level ended
@@ -88,4 +108,5 @@ pub keeps_back : (d e : Dancing) (l : Level) (vs ks : Levels) → vs.levels ≡ 
 keeps_back d e l vs ks top ed ek =
     keeps_at d e vs ks (sym (ap (λ (s : Dancing). s.puzzle) ed))
     (λ u a. subst (λ js. AreLed d.puzzle u e.trail js) (sym (ap (λ (s : Levels). s.levels) ek))
-    (subst (λ t. AreLed d.puzzle u t (drop 1 vs.levels)) (sym (ap (λ (s : Dancing). s.trail) ed)) (subst (AreLed d.puzzle u d.trail) top a).1))
+    (subst (λ t. AreLed d.puzzle u t (drop 1 vs.levels)) (sym (ap (λ (s : Dancing). s.trail) ed))
+    (subst (AreLed d.puzzle u d.trail) top a).1))

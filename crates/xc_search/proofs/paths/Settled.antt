@@ -1,5 +1,6 @@
 -- What is known of a node that was tried.
-use Rattle.std.proofs.Common.{◌≡◌, ◌<◌, Bool, true, false, List, [], ◌++◌, map, Option, Some, None, refl, sym, ap, ◌∙◌, arith, subst, append-nil}
+use Rattle.std.proofs.Common.{◌≡◌, ◌<◌, Bool, true, false, List, [], ◌++◌, map, Option, Some, None, refl, sym, ap, ◌∙◌}
+use Rattle.std.proofs.Common.{arith, subst, append-nil}
 use Rattle.std.proofs.lemmas.List.{map-id}
 use Rattle.xc_dance.specs.declared.dance.Move.{Move}
 use Rattle.xc_search.specs.declared.level.Level.{Level}
@@ -27,32 +28,39 @@ pub stands_behind : (p : Puzzle) (t : List Move) (ls : List Level) → AreStacke
 stands_behind p t ls a = record { stacked = a; searchable = λ e. cc; shallow = λ e. cc }
 
 -- a node without a solution
-pub goes_behind : (d e : Dancing) (ls : Levels) → e ≡ d → IsStanding d.puzzle d.trail ls.levels true → listing (residual_of d.puzzle d.trail) ≡ [] →
+pub goes_behind : (d e : Dancing) (ls : Levels) → e ≡ d → IsStanding d.puzzle d.trail ls.levels true
+    → listing (residual_of d.puzzle d.trail) ≡ [] →
     GoesOn d ls true e ls false × (visits e.puzzle e.trail ls.levels < ahead d.puzzle d.trail ls.levels true)
 goes_behind d e ls same s none =
-    subst (λ (e : Dancing). GoesOn d ls true e ls false × (visits e.puzzle e.trail ls.levels < ahead d.puzzle d.trail ls.levels true)) (sym same) (
+    subst (λ (e : Dancing). GoesOn d ls true e ls false
+    × (visits e.puzzle e.trail ls.levels < ahead d.puzzle d.trail ls.levels true)) (sym same) (
       record {
         still = (refl, refl);
         standing = stands_behind d.puzzle d.trail ls.levels s.stacked;
-        members = ap (λ ms. map (λ m. choices_of d.puzzle ls.levels ++ m) ms ++ to_give d.puzzle d.trail ls.levels) none;
+        members =
+            ap (λ ms. map (λ m. choices_of d.puzzle ls.levels ++ m) ms ++ to_give d.puzzle d.trail ls.levels) none;
       },
       omega (arith, some_work (residual_of d.puzzle d.trail)),
     )
 
 -- it finds nothing where nothing is left
-pub nothing_listed : (p : Puzzle) (t : List Move) (ls : List Level) → ls ≡ [] → coming p t ls true ≡ [] → listing (residual_of p t) ≡ []
+pub nothing_listed : (p : Puzzle) (t : List Move) (ls : List Level) → ls ≡ [] → coming p t ls true ≡ []
+    → listing (residual_of p t) ≡ []
 nothing_listed p t ls e none =
     let ms = listing (residual_of p t) in
     sym (append-nil (map (λ m. choices_of p [] ++ m) ms) ∙ map-id ms) ∙ ap (λ ls. coming p t ls true) (sym e) ∙ none
 
 -- and comes back to the node
-pub comes_back : (d e f : Dancing) (ls ks : Levels) → ls.levels ≡ [] → e ≡ record d { trail = e.trail } → KeepsPath d ls e ks → f ≡ record e { trail = ground e.trail ks.levels } → f ≡ d
+pub comes_back : (d e f : Dancing) (ls ks : Levels) → ls.levels ≡ [] → e ≡ record d { trail = e.trail }
+    → KeepsPath d ls e ks → f ≡ record e { trail = ground e.trail ks.levels } → f ≡ d
 comes_back d e f ls ks none ed keeps ef =
     let here : AreLed d.puzzle d.trail d.trail ls.levels = subst (AreLed d.puzzle d.trail d.trail) (sym none) refl in
-    ef ∙ ap (λ (s : Dancing). record s { trail = ground e.trail ks.levels }) ed ∙ ap (λ t. record d { trail = t }) (led_ground e.puzzle d.trail e.trail ks.levels (keeps d.trail here))
+    ef ∙ ap (λ (s : Dancing). record s { trail = ground e.trail ks.levels }) ed
+    ∙ ap (λ t. record d { trail = t }) (led_ground e.puzzle d.trail e.trail ks.levels (keeps d.trail here))
 
 -- what was to come begins with what is below the part's path
-pub part_below : (d e : Dancing) (ls ks js : Levels) (down : Bool) (o : Uncut) → IsPart d ls down e ks → AreLed e.puzzle [] e.trail ks.levels →
+pub part_below : (d e : Dancing) (ls ks js : Levels) (down : Bool) (o : Uncut) → IsPart d ls down e ks
+    → AreLed e.puzzle [] e.trail ks.levels →
     js ≡ record ks { shown = choices_of e.puzzle ks.levels } →
     record { puzzle = d.puzzle; to_come = coming d.puzzle d.trail ls.levels down; path = ls.shown; room = d.room } ≡ o →
     o.to_come ≡ below o.puzzle js.shown ++ to_give e.puzzle e.trail js.levels

@@ -1,5 +1,6 @@
 -- The branch item by the lists is that of what is left.
-use Rattle.std.proofs.Common.{ℕ, suc, ◌≡◌, ◌+◌, ◌-◌, true, false, cond, List, [], ◌∷◌, length, map, filter, Option, Some, refl, sym, ap, ap₂, ◌∙◌, arith}
+use Rattle.std.proofs.Common.{ℕ, suc, ◌≡◌, ◌+◌, ◌-◌, true, false, cond, List, [], ◌∷◌, length, map, filter, Option}
+use Rattle.std.proofs.Common.{Some, refl, sym, ap, ap₂, ◌∙◌, arith}
 use Rattle.xc_search.proofs.Spent.{count_of}
 use Rattle.xc_input.specs.declared.problem.Bounds.{Bounds}
 use Rattle.std.specs.Prelude.{nat_lt, option_map, slice_get, unwrap_or}
@@ -20,24 +21,32 @@ best_same : (f g : Wanted → ℕ) (w : Wanted) (ws : List Wanted) → f w ≡ g
     best_of (λ x b. nat_lt (f x) (f b)) w ws ≡ best_of (λ x b. nat_lt (g x) (g b)) w ws
 best_same f g w [] e a = refl
 best_same f g w (v ∷ vs) e a =
-    rw (e, a.0) (elim (nat_lt (g v) (g w)) as (λ c. best_of (λ x b. nat_lt (f x) (f b)) (cond c v w) vs ≡ best_of (λ x b. nat_lt (g x) (g b)) (cond c v w) vs) [
+    rw (e, a.0) (elim (nat_lt (g v) (g w)) as
+    (λ c. best_of (λ x b. nat_lt (f x) (f b)) (cond c v w) vs ≡ best_of (λ x b. nat_lt (g x) (g b))
+    (cond c v w) vs) [
       | true ↦ best_same f g v vs a.0 a.1
       | false ↦ best_same f g w vs e a.1
     ])
 
 each_open : (p : Puzzle) (t : List Move) → AllByRecursion (λ i. is_open i t ≡ true) (open_items p t)
-each_open p t = recursion_from_All (λ i. is_open i t ≡ true) (open_items p t) (filter_passes (λ i. is_open i t) (range_with_len 1 (primary_count p)))
+each_open p t =
+    recursion_from_All (λ i. is_open i t ≡ true) (open_items p t)
+    (filter_passes (λ i. is_open i t) (range_with_len 1 (primary_count p)))
 
-counts_same : (p : Puzzle) (t : List Move) → AreLegal p t → AllByRecursion (λ w. branches_after p t w ≡ branch_count (residual_of p t) w) (wanted_after p t)
+counts_same : (p : Puzzle) (t : List Move) → AreLegal p t
+    → AllByRecursion (λ w. branches_after p t w ≡ branch_count (residual_of p t) w) (wanted_after p t)
 counts_same p t legal =
     each-map (λ w. branches_after p t w ≡ branch_count (residual_of p t) w) (wanted_at p t) (open_items p t)
-    (each_weaker _ _ (open_items p t) (λ i o. ap (λ os. count_of (length os) (wanted_at p t i).low) (listed_open p t legal i o)) (each_open p t))
+    (each_weaker _ _ (open_items p t)
+    (λ i o. ap (λ os. count_of (length os) (wanted_at p t i).low) (listed_open p t legal i o)) (each_open p t))
 
 best_counts : (f g : Wanted → ℕ) (w : Wanted) (ws : List Wanted) → f w ≡ g w → AllByRecursion (λ v. f v ≡ g v) ws →
     f (best_of (λ x b. nat_lt (f x) (f b)) w ws) ≡ g (best_of (λ x b. nat_lt (f x) (f b)) w ws)
 best_counts f g w [] e a = e
 best_counts f g w (v ∷ vs) e a =
-    elim (nat_lt (f v) (f w)) as (λ c. f (best_of (λ x b. nat_lt (f x) (f b)) (cond c v w) vs) ≡ g (best_of (λ x b. nat_lt (f x) (f b)) (cond c v w) vs)) [
+    elim (nat_lt (f v) (f w)) as
+    (λ c. f (best_of (λ x b. nat_lt (f x) (f b)) (cond c v w) vs) ≡ g
+    (best_of (λ x b. nat_lt (f x) (f b)) (cond c v w) vs)) [
       | true ↦ best_counts f g v vs a.0 a.1
       | false ↦ best_counts f g w vs e a.1
     ]
@@ -58,7 +67,8 @@ abbrev pub choice_of : Residual → Option (ℕ × ℕ)
 choice_of r = option_map (λ w. (w.item, branch_count r w)) (branch_item r)
 
 pub choice_is_branch_item : (p : Puzzle) (t : List Move) → AreLegal p t → choice_after p t ≡ choice_of (residual_of p t)
-choice_is_branch_item p t legal = least_with_count (branches_after p t) (branch_count (residual_of p t)) (wanted_after p t) (counts_same p t legal)
+choice_is_branch_item p t legal =
+    least_with_count (branches_after p t) (branch_count (residual_of p t)) (wanted_after p t) (counts_same p t legal)
 
 -- ---- no moves leave all
 
@@ -78,8 +88,10 @@ wanted_shift all (b ∷ bs) k h =
     let same : k ≡ k + 0 = omega arith in
     let here : at all (k + 1) ≡ Some b = numbered_get-at all (k + 1) k refl ∙ ap (slice_get all) same ∙ h 0 in
     ap₂ (λ w ws. w ∷ ws)
-    (ap (λ o. let x = unwrap_or o nothing in let w : Wanted = record { item = k + 1; low = x.low; high = x.high } in w) (sym here))
-    (wanted_shift all bs (k + 1) (λ j. let next : (k + 1) + j ≡ k + suc j = omega arith in ap (slice_get all) next ∙ h (suc j)))
+    (ap (λ o. let x = unwrap_or o nothing in let w : Wanted = record { item = k + 1; low = x.low; high = x.high } in w)
+    (sym here))
+    (wanted_shift all bs (k + 1)
+    (λ j. let next : (k + 1) + j ≡ k + suc j = omega arith in ap (slice_get all) next ∙ h (suc j)))
 
 minus_zero : (n : ℕ) → n - 0 ≡ n
 minus_zero n = omega arith
@@ -92,6 +104,9 @@ pub no_moves_leave_all : (p : Puzzle) → residual_of p [] ≡ whole p
 no_moves_leave_all p =
     let items : wanted_after p [] ≡ wanted_from 1 p.bounds =
     ap (map (wanted_at p [])) (all_open (range_with_len 1 (primary_count p)))
-    ∙ map-same (wanted_at p []) (wanted_of p.bounds) _ (λ i. ap₂ (λ l h. let w : Wanted = record { item = i; low = l; high = h } in w) (minus_zero (low_at p i)) (minus_zero (high_at p i)))
-    ∙ sym (wanted_shift p.bounds p.bounds 0 (λ j. let same : 0 + j ≡ j = omega arith in ap (slice_get p.bounds) same)) in
+    ∙ map-same (wanted_at p []) (wanted_of p.bounds) _
+    (λ i. ap₂ (λ l h. let w : Wanted = record { item = i; low = l; high = h } in w) (minus_zero (low_at p i))
+    (minus_zero (high_at p i)))
+    ∙ sym (wanted_shift p.bounds p.bounds 0
+    (λ j. let same : 0 + j ≡ j = omega arith in ap (slice_get p.bounds) same)) in
     ap (λ ws. let r : Residual = record { items = ws; options = numbered_options p } in r) items

@@ -1,5 +1,6 @@
 -- Taking an option: its branch item's use first, the others cyclically after it.
-use Rattle.std.proofs.Common.{ℕ, suc, ◌≡◌, ◌+◌, ◌<◌, Bool, true, false, cond, not, ◌&&◌, ◌||◌, eqb, List, [], ◌∷◌, ◌++◌, length, filter, take, drop, Some, refl, sym, ap, ◌∙◌, arith, eqb-true, eq-eqb, ne_eqb}
+use Rattle.std.proofs.Common.{ℕ, suc, ◌≡◌, ◌+◌, ◌<◌, Bool, true, false, cond, not, ◌&&◌, ◌||◌, eqb, List, [], ◌∷◌, ◌++◌}
+use Rattle.std.proofs.Common.{length, filter, take, drop, Some, refl, sym, ap, ◌∙◌, arith, eqb-true, eq-eqb, ne_eqb}
 use Rattle.xc_search.proofs.Spent.{less_one}
 use Rattle.std.proofs.lemmas.List.Elements.{filter_agree}
 use Rattle.std.specs.Prelude.{nat_le, is_some}
@@ -51,12 +52,17 @@ placed i (u ∷ us) h = by_case (eqb u.item i) refl (λ l. placed i us l)
 
 -- ---- the order of the uses doesn't matter
 
-held_append : (us vs : List Use) (j : ℕ) → is_some (colour_in (us ++ vs) j) ≡ (is_some (colour_in us j) || is_some (colour_in vs j))
+held_append : (us vs : List Use) (j : ℕ)
+    → is_some (colour_in (us ++ vs) j) ≡ (is_some (colour_in us j) || is_some (colour_in vs j))
 held_append [] vs j = refl
-held_append (u ∷ us) vs j = elim (eqb u.item j) as (λ b. is_some (cond b (Some u.colour) (colour_in (us ++ vs) j)) ≡ (is_some (cond b (Some u.colour) (colour_in us j)) || is_some (colour_in vs j))) [ true ↦ refl | false ↦ held_append us vs j ]
+held_append (u ∷ us) vs j =
+    elim (eqb u.item j) as (λ b. is_some (cond b (Some u.colour) (colour_in (us ++ vs) j)) ≡
+    (is_some (cond b (Some u.colour) (colour_in us j)) || is_some (colour_in vs j)))
+    [ true ↦ refl | false ↦ held_append us vs j ]
 
 held_turned : (us vs : List Use) (j : ℕ) → is_some (colour_in (us ++ vs) j) ≡ is_some (colour_in (vs ++ us) j)
-held_turned us vs j = held_append us vs j ∙ or_comm (is_some (colour_in us j)) (is_some (colour_in vs j)) ∙ sym (held_append vs us j)
+held_turned us vs j =
+    held_append us vs j ∙ or_comm (is_some (colour_in us j)) (is_some (colour_in vs j)) ∙ sym (held_append vs us j)
 
 all_turned : {X : Type 0} (f : X → Bool) (us vs : List X) → list_all f (us ++ vs) ≡ list_all f (vs ++ us)
 all_turned f us vs = list_all-append f us vs ∙ and_comm (list_all f us) (list_all f vs) ∙ sym (list_all-append f vs us)
@@ -85,7 +91,8 @@ join [] vs a b c = b
 join (u ∷ us) vs a b c = (each-append (Apart u) us vs a.0 c.0, join us vs a.1 b c.1)
 
 apart_sym : (u v : Use) → Apart u v → Apart v u
-apart_sym u v e = ne_eqb v.item u.item (λ i. let same : eqb u.item v.item ≡ true = eq-eqb u.item v.item (sym i) in cc (e, same))
+apart_sym u v e =
+    ne_eqb v.item u.item (λ i. let same : eqb u.item v.item ≡ true = eq-eqb u.item v.item (sym i) in cc (e, same))
 
 cross_empty : (vs : List Use) → AreCross vs []
 cross_empty [] = tt
@@ -108,9 +115,13 @@ apart_turned us vs a = join vs us (apart_back us vs a) (apart_front us vs a) (cr
 abbrev pub cut : Residual → ℕ → ℕ → Residual
 cut r i n = record { items = r.items; options = filter (λ o. not (holds o i && nat_le o.number n)) r.options }
 
-pub committed_picks : (r : Residual) (i : ℕ) (x : Numbered) (us vs : List Use) → x.uses ≡ us ++ vs → committed (vs ++ us) (cut r i x.number) ≡ pick r i x
+pub committed_picks : (r : Residual) (i : ℕ) (x : Numbered) (us vs : List Use) → x.uses ≡ us ++ vs
+    → committed (vs ++ us) (cut r i x.number) ≡ pick r i x
 committed_picks r i x us vs e = as_residual _ _ _ _
     (ap (filter is_wanted) (map-same (spend_uses (vs ++ us)) (spend_one x) r.items
-    (λ w. ap (λ b. cond b (less_one w) w) (held_turned vs us w.item ∙ ap (λ ws. is_some (colour_in ws w.item)) (sym e)))))
+    (λ w. ap (λ b. cond b (less_one w) w)
+    (held_turned vs us w.item ∙ ap (λ ws. is_some (colour_in ws w.item)) (sym e)))))
     (filter_both (all_stay (cut r i x.number) (vs ++ us)) (λ o. not (holds o i && nat_le o.number x.number)) r.options
-    ∙ filter_agree _ _ (λ o. ap (λ b. not (holds o i && nat_le o.number x.number) && b) (all_turned (λ u. may_stay (item_left r u.item) u o) vs us ∙ ap (λ ws. list_all (λ u. may_stay (item_left r u.item) u o) ws) (sym e))) r.options)
+    ∙ filter_agree _ _ (λ o. ap (λ b. not (holds o i && nat_le o.number x.number) && b)
+    (all_turned (λ u. may_stay (item_left r u.item) u o) vs us
+    ∙ ap (λ ws. list_all (λ u. may_stay (item_left r u.item) u o) ws) (sym e))) r.options)

@@ -1,5 +1,6 @@
 -- The branch item by a walk over the open items.
-use Rattle.std.proofs.Common.{ℕ, ◌≡◌, ◌-◌, Bool, false, cond, ltb, nat_lt, List, [], ◌∷◌, map, filter, Some, None, refl, sym, ap, ◌∙◌, arith, le-ltb}
+use Rattle.std.proofs.Common.{ℕ, ◌≡◌, ◌-◌, Bool, false, cond, ltb, nat_lt, List, [], ◌∷◌, map, filter, Some, None, refl}
+use Rattle.std.proofs.Common.{sym, ap, ◌∙◌, arith, le-ltb}
 use Rattle.std.specs.Prelude.{option_map}
 use Rattle.std.specs.List.{range_with_len, best_of}
 use Rattle.xc_dance.specs.declared.dance.Move.{Move}
@@ -11,14 +12,17 @@ use Rattle.xc_search.proofs.residual.LeftAreReady.{has_left}
 use Rattle.xc_dance.specs.Moves.{next_above, is_open, open_items, spends, IsOpenPrimary}
 use Rattle.xc_search.specs.Residuals.{wanted_at, wanted_after, branches_after, choice_after}
 use Rattle.xc_dance.specs.inner.Lists.Rising.{Rises}
-use Rattle.xc_dance.proofs.MoveLemmas.ListLemmas.{Rises-range, Rises-filter, above_all, next_above-split, next_above-none, found_open}
+use Rattle.xc_dance.proofs.MoveLemmas.ListLemmas.{Rises-range, Rises-filter, above_all, next_above-split}
+use Rattle.xc_dance.proofs.MoveLemmas.ListLemmas.{next_above-none, found_open}
 
 -- of these items and w the first with the fewest branches
 abbrev pub best_from : Puzzle → List Move → Wanted → List ℕ → Wanted
-best_from p t w is = best_of (λ x best. nat_lt (branches_after p t x) (branches_after p t best)) w (map (wanted_at p t) is)
+best_from p t w is =
+    best_of (λ x best. nat_lt (branches_after p t x) (branches_after p t best)) w (map (wanted_at p t) is)
 
 pub open_rises : (p : Puzzle) (t : List Move) → Rises 0 (open_items p t)
-open_rises p t = Rises-filter (λ i. is_open i t) 0 (range_with_len 1 (primary_count p)) (Rises-range 0 (primary_count p))
+open_rises p t =
+    Rises-filter (λ i. is_open i t) 0 (range_with_len 1 (primary_count p)) (Rises-range 0 (primary_count p))
 
 pub next_open : (p : Puzzle) (t : List Move) (n k : ℕ) → next_above n (open_items p t) ≡ Some k → IsOpenPrimary p t k
 next_open p t n k e =
@@ -26,37 +30,45 @@ next_open p t n k e =
     ((found.0, omega (arith, found.1)), found.2)
 
 -- the items above the first are the rest
-first_open : (p : Puzzle) (t : List Move) (k : ℕ) → next_above 0 (open_items p t) ≡ Some k → open_items p t ≡ k ∷ filter (λ j. ltb k j) (open_items p t)
-first_open p t k e = sym (above_all 0 (open_items p t) (open_rises p t)) ∙ next_above-split 0 0 k (open_items p t) (open_rises p t) e
+first_open : (p : Puzzle) (t : List Move) (k : ℕ) → next_above 0 (open_items p t) ≡ Some k
+    → open_items p t ≡ k ∷ filter (λ j. ltb k j) (open_items p t)
+first_open p t k e =
+    sym (above_all 0 (open_items p t) (open_rises p t)) ∙ next_above-split 0 0 k (open_items p t) (open_rises p t) e
 
 pub choice_first : (p : Puzzle) (t : List Move) (k : ℕ) → next_above 0 (open_items p t) ≡ Some k →
-    first_least (branches_after p t) (wanted_after p t) ≡ Some (best_from p t (wanted_at p t k) (filter (λ j. ltb k j) (open_items p t)))
+    first_least (branches_after p t) (wanted_after p t) ≡ Some
+    (best_from p t (wanted_at p t k) (filter (λ j. ltb k j) (open_items p t)))
 choice_first p t k e = ap (λ is. first_least (branches_after p t) (map (wanted_at p t) is)) (first_open p t k e)
 
 pub choice_none : (p : Puzzle) (t : List Move) → next_above 0 (open_items p t) ≡ None → choice_after p t ≡ None
 choice_none p t e =
     let none_open = sym (above_all 0 (open_items p t) (open_rises p t)) ∙ next_above-none 0 (open_items p t) e in
-    ap (λ is. option_map (λ w. (w.item, branches_after p t w)) (first_least (branches_after p t) (map (wanted_at p t) is))) none_open
+    ap (λ is. option_map (λ w. (w.item, branches_after p t w))
+    (first_least (branches_after p t) (map (wanted_at p t) is))) none_open
 
 abbrev pub fewer : Puzzle → List Move → ℕ → ℕ → Bool
 fewer p t k i = nat_lt (branches_after p t (wanted_at p t k)) (branches_after p t (wanted_at p t i))
 
 -- one item more
 pub choice_next : (p : Puzzle) (t : List Move) (i n k : ℕ) (b : Bool) →
-    first_least (branches_after p t) (wanted_after p t) ≡ Some (best_from p t (wanted_at p t i) (filter (λ j. ltb n j) (open_items p t))) →
+    first_least (branches_after p t) (wanted_after p t) ≡ Some
+    (best_from p t (wanted_at p t i) (filter (λ j. ltb n j) (open_items p t))) →
     next_above n (open_items p t) ≡ Some k → fewer p t k i ≡ b →
-    first_least (branches_after p t) (wanted_after p t) ≡ Some (best_from p t (cond b (wanted_at p t k) (wanted_at p t i)) (filter (λ j. ltb k j) (open_items p t)))
+    first_least (branches_after p t) (wanted_after p t) ≡ Some
+    (best_from p t (cond b (wanted_at p t k) (wanted_at p t i)) (filter (λ j. ltb k j) (open_items p t)))
 choice_next p t i n k b best e f =
     best
     ∙ ap (λ is. Some (best_from p t (wanted_at p t i) is)) (next_above-split 0 n k (open_items p t) (open_rises p t) e)
-    ∙ ap (λ c. Some (best_from p t (cond c (wanted_at p t k) (wanted_at p t i)) (filter (λ j. ltb k j) (open_items p t)))) f
+    ∙ ap (λ c. Some (best_from p t (cond c (wanted_at p t k) (wanted_at p t i))
+    (filter (λ j. ltb k j) (open_items p t)))) f
 
 pub choice_last : (p : Puzzle) (t : List Move) (i n : ℕ) → next_above n (open_items p t) ≡ None →
     best_from p t (wanted_at p t i) (filter (λ j. ltb n j) (open_items p t)) ≡ wanted_at p t i
 choice_last p t i n e = ap (best_from p t (wanted_at p t i)) (next_above-none n (open_items p t) e)
 
 -- an item without branches stays the best
-pub choice_settled : (p : Puzzle) (t : List Move) (i : ℕ) (is : List ℕ) → branches_after p t (wanted_at p t i) ≡ 0 → best_from p t (wanted_at p t i) is ≡ wanted_at p t i
+pub choice_settled : (p : Puzzle) (t : List Move) (i : ℕ) (is : List ℕ) → branches_after p t (wanted_at p t i) ≡ 0
+    → best_from p t (wanted_at p t i) is ≡ wanted_at p t i
 choice_settled p t i [] e = refl
 choice_settled p t i (k ∷ is) e =
     let not_fewer : fewer p t k i ≡ false = le-ltb _ _ (omega (arith, e)) in
@@ -64,13 +76,18 @@ choice_settled p t i (k ∷ is) e =
 
 -- no later item is better
 pub choice_done : (p : Puzzle) (t : List Move) (i n count : ℕ) →
-    first_least (branches_after p t) (wanted_after p t) ≡ Some (best_from p t (wanted_at p t i) (filter (λ j. ltb n j) (open_items p t))) →
-    count ≡ branches_after p t (wanted_at p t i) → best_from p t (wanted_at p t i) (filter (λ j. ltb n j) (open_items p t)) ≡ wanted_at p t i → Some (i, count) ≡ choice_after p t
+    first_least (branches_after p t) (wanted_after p t) ≡ Some
+    (best_from p t (wanted_at p t i) (filter (λ j. ltb n j) (open_items p t))) →
+    count ≡ branches_after p t (wanted_at p t i)
+    → best_from p t (wanted_at p t i) (filter (λ j. ltb n j) (open_items p t)) ≡ wanted_at p t i
+    → Some (i, count) ≡ choice_after p t
 choice_done p t i n count best counted stays =
-    ap (λ c. Some (i, c)) counted ∙ sym (ap (λ o. option_map (λ w. (w.item, branches_after p t w)) o) (best ∙ ap Some stays))
+    ap (λ c. Some (i, c)) counted
+    ∙ sym (ap (λ o. option_map (λ w. (w.item, branches_after p t w)) o) (best ∙ ap Some stays))
 
 -- where each is to be held once, an open item is to be held once more
-pub once_more : (p : Puzzle) (t : List Move) (i : ℕ) → IsOnce p × AreAllWanted (wanted_after p t) → IsOpenPrimary p t i → low_at p i - spends i t ≡ 1
+pub once_more : (p : Puzzle) (t : List Move) (i : ℕ) → IsOnce p × AreAllWanted (wanted_after p t) → IsOpenPrimary p t i
+    → low_at p i - spends i t ≡ 1
 once_more p t i h o =
     let bounds = h.0 i o.0 in
     omega (arith, bounds.0, bounds.1, has_left p t i h.1 o.0 o.1)

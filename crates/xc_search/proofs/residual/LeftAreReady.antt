@@ -1,5 +1,7 @@
 -- The uses of an option that is left are ready to be committed.
-use Rattle.std.proofs.Common.{ℕ, zero, suc, ◌≡◌, ◌-◌, ◌<◌, ◌≤◌, Bool, true, false, cond, not, ◌&&◌, eqb, leb, List, [], ◌∷◌, filter, find, Option, Some, None, refl, ap, ◌∙◌, arith, subst, eqb-true, ltb-true, leb-true, ◌||◌}
+use Rattle.std.proofs.Common.{ℕ, zero, suc, ◌≡◌, ◌-◌, ◌<◌, ◌≤◌, Bool, true, false, cond, not, ◌&&◌, eqb, leb, List, []}
+use Rattle.std.proofs.Common.{◌∷◌, filter, find, Option, Some, None, refl, ap, ◌∙◌, arith, subst, eqb-true, ltb-true}
+use Rattle.std.proofs.Common.{leb-true, ◌||◌}
 use Rattle.std.proofs.lemmas.Bool.{leb-false}
 use Rattle.std.proofs.lemmas.List.Elements.{recursion_from_All}
 use Rattle.std.specs.Prelude.{nat_lt, is_some, slice_get}
@@ -7,7 +9,8 @@ use Rattle.std.specs.List.{AllByRecursion}
 use Rattle.xc_input.specs.declared.problem.Use.{Use}
 use Rattle.xc_dance.specs.declared.dance.Move.{Move}
 use Rattle.xc_dance.specs.declared.dance.Move.TheVariants.{Cover, Purify, Tweak, Spend}
-use Rattle.xc_input.specs.Problem.{Puzzle, Numbered, primary_count, holds, colour_at, colour_in, high_at, IsPrimary, IsSoundUse, IsValid}
+use Rattle.xc_input.specs.Problem.{Puzzle, Numbered, primary_count, holds, colour_at, colour_in, high_at, IsPrimary}
+use Rattle.xc_input.specs.Problem.{IsSoundUse, IsValid}
 use Rattle.xc_search.specs.Listing.{Wanted}
 use Rattle.xc_dance.specs.inner.Left.{left}
 use Rattle.xc_dance.specs.Moves.{is_open, is_covered, purified, spends, AreLegal, agrees}
@@ -27,26 +30,35 @@ left_options p v (m ∷ t) = kept (IsOption p) p t m (left_options p v t)
 
 open_if : (j : ℕ) (t : List Move) → is_covered j t ≡ false → purified j t ≡ None → is_open j t ≡ true
 open_if j [] c q = refl
-open_if j (Cover k ∷ t) c q = elim (eqb j k) as (λ b. (b || is_covered j t) ≡ false → (not b && is_open j t) ≡ true) [ true ↦ λ e. cc | false ↦ λ e. open_if j t e q ] c
-open_if j (Purify k d ∷ t) c q = elim (eqb j k) as (λ b. cond b (Some d) (purified j t) ≡ None → (not b && is_open j t) ≡ true) [ true ↦ λ e. cc | false ↦ λ e. open_if j t c e ] q
+open_if j (Cover k ∷ t) c q =
+    elim (eqb j k) as (λ b. (b || is_covered j t) ≡ false → (not b && is_open j t) ≡ true)
+    [ true ↦ λ e. cc | false ↦ λ e. open_if j t e q ] c
+open_if j (Purify k d ∷ t) c q =
+    elim (eqb j k) as (λ b. cond b (Some d) (purified j t) ≡ None → (not b && is_open j t) ≡ true)
+    [ true ↦ λ e. cc | false ↦ λ e. open_if j t c e ] q
 open_if j (Tweak k ∷ t) c q = open_if j t c q
 open_if j (Spend k ∷ t) c q = open_if j t c q
 
 closed_if : (j d : ℕ) (t : List Move) → purified j t ≡ Some d → is_open j t ≡ false
 closed_if j d [] q = cc
-closed_if j d (Cover k ∷ t) q = elim (eqb j k) as (λ b. (not b && is_open j t) ≡ false) [ true ↦ refl | false ↦ closed_if j d t q ]
-closed_if j d (Purify k c ∷ t) q = elim (eqb j k) as (λ b. cond b (Some c) (purified j t) ≡ Some d → (not b && is_open j t) ≡ false) [ true ↦ λ e. refl | false ↦ λ e. closed_if j d t e ] q
+closed_if j d (Cover k ∷ t) q =
+    elim (eqb j k) as (λ b. (not b && is_open j t) ≡ false) [ true ↦ refl | false ↦ closed_if j d t q ]
+closed_if j d (Purify k c ∷ t) q =
+    elim (eqb j k) as (λ b. cond b (Some c) (purified j t) ≡ Some d → (not b && is_open j t) ≡ false)
+    [ true ↦ λ e. refl | false ↦ λ e. closed_if j d t e ] q
 closed_if j d (Tweak k ∷ t) q = closed_if j d t q
 closed_if j d (Spend k ∷ t) q = closed_if j d t q
 
 -- only a secondary item is purified
-pub purified_second : (p : Puzzle) (j d : ℕ) (t : List Move) → AreLegal p t → purified j t ≡ Some d → primary_count p < j
+pub purified_second : (p : Puzzle) (j d : ℕ) (t : List Move) → AreLegal p t → purified j t ≡ Some d
+    → primary_count p < j
 purified_second p j d [] l q = cc
 purified_second p j d (Cover k ∷ t) l q = purified_second p j d t l.1 q
-purified_second p j d (Purify k c ∷ t) l q = elim (eqb j k) as (λ b. eqb j k ≡ b → cond b (Some c) (purified j t) ≡ Some d → primary_count p < j) [
-  | true ↦ λ i e. let same : j ≡ k = eqb-true j k i in omega (arith, same, l.0.0.0)
-  | false ↦ λ i e. purified_second p j d t l.1 e
-] refl q
+purified_second p j d (Purify k c ∷ t) l q =
+    elim (eqb j k) as (λ b. eqb j k ≡ b → cond b (Some c) (purified j t) ≡ Some d → primary_count p < j) [
+      | true ↦ λ i e. let same : j ≡ k = eqb-true j k i in omega (arith, same, l.0.0.0)
+      | false ↦ λ i e. purified_second p j d t l.1 e
+    ] refl q
 purified_second p j d (Tweak k ∷ t) l q = purified_second p j d t l.1 q
 purified_second p j d (Spend k ∷ t) l q = purified_second p j d t l.1 q
 
@@ -57,7 +69,8 @@ primary_pure p j t l h = by_case (purified j t) refl
     by_case None e = e
     by_case (Some d) e = absurd (omega (arith, purified_second p j d t l e, h))
 
-found_holds : (P : Wanted → Type 0) (q : Wanted → Bool) (ws : List Wanted) (w : Wanted) → AllByRecursion P ws → find q ws ≡ Some w → P w
+found_holds : (P : Wanted → Type 0) (q : Wanted → Bool) (ws : List Wanted) (w : Wanted) → AllByRecursion P ws
+    → find q ws ≡ Some w → P w
 found_holds P q [] w a e = cc
 found_holds P q (v ∷ vs) w a e = elim (q v) as (λ b. cond b (Some v) (find q vs) ≡ Some w → P w) [
   | true ↦ λ f. let same : v ≡ w = cc in subst P same a.0
@@ -65,9 +78,12 @@ found_holds P q (v ∷ vs) w a e = elim (q v) as (λ b. cond b (Some v) (find q 
 ] e
 
 -- an open primary item has something left to spend
-pub has_left : (p : Puzzle) (t : List Move) (j : ℕ) → AreWanted (wanted_after p t) → IsPrimary p j → is_open j t ≡ true → spends j t < high_at p j
+pub has_left : (p : Puzzle) (t : List Move) (j : ℕ) → AreWanted (wanted_after p t) → IsPrimary p j → is_open j t ≡ true
+    → spends j t < high_at p j
 has_left p t j a h o =
-    let some_left : is_wanted (wanted_at p t j) ≡ true = found_holds (λ w. is_wanted w ≡ true) (λ w. eqb w.item j) (wanted_after p t) (wanted_at p t j) a (found_wanted p t j h o) in
+    let some_left : is_wanted (wanted_at p t j) ≡ true =
+    found_holds (λ w. is_wanted w ≡ true) (λ w. eqb w.item j) (wanted_after p t) (wanted_at p t j) a
+    (found_wanted p t j h o) in
     omega (arith, ltb-true 0 (high_at p j - spends j t) some_left)
 
 -- ---- ready
@@ -76,9 +92,12 @@ ne_zero : (n : ℕ) → eqb n 0 ≡ false → 0 < n
 ne_zero zero e = cc
 ne_zero (suc n) e = omega arith
 
-each_holding : (P : Numbered → Type 0) (i : ℕ) (os : List Numbered) → AllByRecursion P os → AllByRecursion P (filter (λ o. holds o i) os)
+each_holding : (P : Numbered → Type 0) (i : ℕ) (os : List Numbered) → AllByRecursion P os
+    → AllByRecursion P (filter (λ o. holds o i) os)
 each_holding P i [] a = tt
-each_holding P i (o ∷ os) a = elim (holds o i) as (λ b. AllByRecursion P (cond b (o ∷ filter (λ o. holds o i) os) (filter (λ o. holds o i) os))) [ true ↦ (a.0, each_holding P i os a.1) | false ↦ each_holding P i os a.1 ]
+each_holding P i (o ∷ os) a =
+    elim (holds o i) as (λ b. AllByRecursion P (cond b (o ∷ filter (λ o. holds o i) os) (filter (λ o. holds o i) os)))
+    [ true ↦ (a.0, each_holding P i os a.1) | false ↦ each_holding P i os a.1 ]
 
 record IsFree (t : List Move) (x : Numbered) : Type 0 where
   uncovered : (j : ℕ) → is_covered j t ≡ true → holds x j ≡ false
@@ -90,7 +109,8 @@ agree_colour d c e = elim (nat_lt 0 d) as (λ b. nat_lt 0 d ≡ b → (b && eqb 
   | false ↦ λ i f. cc
 ] refl e
 
-not_covered : (t : List Move) (x : Numbered) (u : Use) → IsFree t x → colour_at x u.item ≡ Some u.colour → is_covered u.item t ≡ false
+not_covered : (t : List Move) (x : Numbered) (u : Use) → IsFree t x → colour_at x u.item ≡ Some u.colour
+    → is_covered u.item t ≡ false
 not_covered t x u f e = by_case (is_covered u.item t) refl
   where
     by_case : (b : Bool) → is_covered u.item t ≡ b → is_covered u.item t ≡ false
@@ -99,7 +119,8 @@ not_covered t x u f e = by_case (is_covered u.item t) refl
         cc (f.uncovered u.item c, held)
     by_case false c = c
 
-ready_use : (p : Puzzle) (t : List Move) (x : Numbered) (u : Use) → AreLegal p t → AreWanted (wanted_after p t) → IsFree t x → IsSoundUse p u → colour_at x u.item ≡ Some u.colour → Ready p t u
+ready_use : (p : Puzzle) (t : List Move) (x : Numbered) (u : Use) → AreLegal p t → AreWanted (wanted_after p t)
+    → IsFree t x → IsSoundUse p u → colour_at x u.item ≡ Some u.colour → Ready p t u
 ready_use p t x u l a f s e = by_kind (leb u.item (primary_count p)) refl (purified u.item t) refl
   where
     by_colour : primary_count p < u.item → (b : Bool) → eqb u.colour 0 ≡ b → is_open u.item t ≡ true → Ready p t u
@@ -111,20 +132,25 @@ ready_use p t x u l a f s e = by_kind (leb u.item (primary_count p)) refl (purif
         let within : u.item ≤ primary_count p = leb-true u.item (primary_count p) h in
         let o = open_if u.item t (not_covered t x u f e) (primary_pure p u.item t l within) in
         primary (s.0.0, within) o (has_left p t u.item a (s.0.0, within) o)
-    by_kind false h None i = by_colour (leb-false u.item (primary_count p) h) (eqb u.colour 0) refl (open_if u.item t (not_covered t x u f e) i)
+    by_kind false h None i =
+        by_colour (leb-false u.item (primary_count p) h) (eqb u.colour 0) refl
+        (open_if u.item t (not_covered t x u f e) i)
     by_kind false h (Some d) i =
         let same = agree_colour d u.colour (subst (λ o. agrees d o ≡ true) e (f.agreeing u.item d i)) in
         same_colour (leb-false u.item (primary_count p) h, s.0.1) same.1 (closed_if u.item d t i) (i ∙ ap Some same.0)
 
-pub of_left : (P : Numbered → Type 0) (i k : ℕ) (os : List Numbered) (x : Numbered) → AllByRecursion P os → slice_get (filter (λ o. holds o i) os) k ≡ Some x → P x
+pub of_left : (P : Numbered → Type 0) (i k : ℕ) (os : List Numbered) (x : Numbered) → AllByRecursion P os
+    → slice_get (filter (λ o. holds o i) os) k ≡ Some x → P x
 of_left P i k os x a e = each_at P (filter (λ o. holds o i) os) k x (each_holding P i os a) e
 
-pub ready_left : (p : Puzzle) (t : List Move) (i k : ℕ) (x : Numbered) → AreLegal p t → AreWanted (wanted_after p t) → IsOption p x → slice_get (filter (λ o. holds o i) (left p t)) k ≡ Some x → AreReady p t x.uses
+pub ready_left : (p : Puzzle) (t : List Move) (i k : ℕ) (x : Numbered) → AreLegal p t → AreWanted (wanted_after p t)
+    → IsOption p x → slice_get (filter (λ o. holds o i) (left p t)) k ≡ Some x → AreReady p t x.uses
 ready_left p t i k x l a option e =
     let free : IsFree t x = record {
       uncovered = λ j c. of_left (λ o. holds o j ≡ false) i k (left p t) x (left_free p t j c) e;
       agreeing = λ j d c. of_left (λ o. agrees d (colour_at o j) ≡ true) i k (left p t) x (left_agrees p t j d c) e;
     } in
-    each_both (IsSoundUse p) (λ u. colour_in x.uses u.item ≡ Some u.colour) (λ u. Ready p t u) x.uses (λ u s c. ready_use p t x u l a free s c)
+    each_both (IsSoundUse p) (λ u. colour_in x.uses u.item ≡ Some u.colour) (λ u. Ready p t u) x.uses
+    (λ u s c. ready_use p t x u l a free s c)
     (recursion_from_All (IsSoundUse p) x.uses option.sound.sound)
     (own_colours x.uses (apart_from_pairs x.uses option.sound.distinct))

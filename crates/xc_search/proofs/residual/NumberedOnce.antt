@@ -9,9 +9,12 @@ above_in n [] o r h = absurd h
 above_in n (y ∷ ys) o r (inl e) = subst (λ (z : Numbered). n < z.number) e r.0
 above_in n (y ∷ ys) o r (inr h) = let later = above_in y.number ys o r.1 h in omega (arith, later, r.0)
 
-pub same_number : (n : ℕ) (os : List Numbered) (x y : Numbered) → NumbersRise n os → IsIn os x → IsIn os y → x.number ≡ y.number → x ≡ y
+pub same_number : (n : ℕ) (os : List Numbered) (x y : Numbered) → NumbersRise n os → IsIn os x → IsIn os y
+    → x.number ≡ y.number → x ≡ y
 same_number n [] x y r h k e = absurd h
 same_number n (o ∷ os) x y r (inl h) (inl k) e = sym h ∙ k
-same_number n (o ∷ os) x y r (inl h) (inr k) e = let later = above_in o.number os y r.1 k in let i = ap (λ (z : Numbered). z.number) h in absurd (omega (arith, later, i, e))
-same_number n (o ∷ os) x y r (inr h) (inl k) e = let later = above_in o.number os x r.1 h in let i = ap (λ (z : Numbered). z.number) k in absurd (omega (arith, later, i, e))
+same_number n (o ∷ os) x y r (inl h) (inr k) e = let later = above_in o.number os y r.1 k in let i =
+    ap (λ (z : Numbered). z.number) h in absurd (omega (arith, later, i, e))
+same_number n (o ∷ os) x y r (inr h) (inl k) e = let later = above_in o.number os x r.1 h in let i =
+    ap (λ (z : Numbered). z.number) k in absurd (omega (arith, later, i, e))
 same_number n (o ∷ os) x y r (inr h) (inr k) e = same_number o.number os x y r.1 h k e

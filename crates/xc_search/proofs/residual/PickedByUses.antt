@@ -1,5 +1,6 @@
 -- Taking an option use by use comes to `pick`.
-use Rattle.std.proofs.Common.{ℕ, ◌≡◌, Bool, true, false, cond, ◌&&◌, eqb, List, [], ◌∷◌, map, filter, find, Option, Some, refl, sym, ap, ap₂, ◌∙◌, subst, eqb-true, eq-eqb, ne_eqb}
+use Rattle.std.proofs.Common.{ℕ, ◌≡◌, Bool, true, false, cond, ◌&&◌, eqb, List, [], ◌∷◌, map, filter, find, Option}
+use Rattle.std.proofs.Common.{Some, refl, sym, ap, ap₂, ◌∙◌, subst, eqb-true, eq-eqb, ne_eqb}
 use Rattle.xc_search.proofs.Spent.{less_one}
 use Rattle.std.specs.Prelude.{nat_lt, is_some}
 use Rattle.std.specs.List.{AllByRecursion, list_all}
@@ -49,19 +50,23 @@ AreWanted ws = AllByRecursion (λ w. is_wanted w ≡ true) ws
 not_held : (j : ℕ) (us : List Use) → AllByRecursion (λ v. eqb j v.item ≡ false) us → is_some (colour_in us j) ≡ false
 not_held j [] a = refl
 not_held j (u ∷ us) a =
-    let apart : eqb u.item j ≡ false = ne_eqb u.item j (λ e. let same : eqb j u.item ≡ true = eq-eqb j u.item (sym e) in cc (a.0, same)) in
+    let apart : eqb u.item j ≡ false =
+    ne_eqb u.item j (λ e. let same : eqb j u.item ≡ true = eq-eqb j u.item (sym e) in cc (a.0, same)) in
     rw apart (not_held j us a.1)
 
 pub still_wanted : (j : ℕ) (ws : List Wanted) → AreWanted (filter is_wanted (map (dec j) ws))
 still_wanted j [] = tt
 still_wanted j (w ∷ ws) =
-    elim (is_wanted (dec j w)) as (λ b. is_wanted (dec j w) ≡ b → AreWanted (cond b (dec j w ∷ filter is_wanted (map (dec j) ws)) (filter is_wanted (map (dec j) ws)))) [
+    elim (is_wanted (dec j w)) as
+    (λ b. is_wanted (dec j w) ≡ b
+    → AreWanted (cond b (dec j w ∷ filter is_wanted (map (dec j) ws)) (filter is_wanted (map (dec j) ws)))) [
       | true ↦ λ e. (e, still_wanted j ws)
       | false ↦ λ e. still_wanted j ws
     ] refl
 
 -- one item
-kept_head : (p : Wanted → Bool) (f : Wanted → Wanted) (c : Bool) (v x : Wanted) (front rest : List Wanted) → p v ≡ c → (c ≡ true → f v ≡ x) → p x ≡ c → filter p (map f front) ≡ rest →
+kept_head : (p : Wanted → Bool) (f : Wanted → Wanted) (c : Bool) (v x : Wanted) (front rest : List Wanted) → p v ≡ c
+    → (c ≡ true → f v ≡ x) → p x ≡ c → filter p (map f front) ≡ rest →
     filter p (map f (cond (p v) (v ∷ front) front)) ≡ cond (p x) (x ∷ rest) rest
 kept_head p f true v x front rest e g i same = rw (e, i, g refl, i) (ap (λ vs. x ∷ vs) same)
 kept_head p f false v x front rest e g i same = rw (e, i) same
@@ -71,38 +76,53 @@ spends_true u us w e =
     let same : eqb u.item w.item ≡ true = eq-eqb _ _ (sym (eqb-true _ _ e)) in
     rw same refl
 
-spends_other : (u : Use) (us : List Use) (w : Wanted) → eqb w.item u.item ≡ false → spend_uses (u ∷ us) w ≡ spend_uses us w
+spends_other : (u : Use) (us : List Use) (w : Wanted) → eqb w.item u.item ≡ false
+    → spend_uses (u ∷ us) w ≡ spend_uses us w
 spends_other u us w e =
-    let apart : eqb u.item w.item ≡ false = ne_eqb _ _ (λ i. let same : eqb w.item u.item ≡ true = eq-eqb _ _ (sym i) in cc) in
+    let apart : eqb u.item w.item ≡ false =
+    ne_eqb _ _ (λ i. let same : eqb w.item u.item ≡ true = eq-eqb _ _ (sym i) in cc) in
     rw apart refl
 
-item_more : (u : Use) (us : List Use) (w : Wanted) (front rest : List Wanted) → AllByRecursion (λ v. eqb u.item v.item ≡ false) us → is_wanted w ≡ true → filter is_wanted (map (spend_uses us) front) ≡ rest →
-    filter is_wanted (map (spend_uses us) (cond (is_wanted (dec u.item w)) (dec u.item w ∷ front) front)) ≡ cond (is_wanted (spend_uses (u ∷ us) w)) (spend_uses (u ∷ us) w ∷ rest) rest
+item_more : (u : Use) (us : List Use) (w : Wanted) (front rest : List Wanted)
+    → AllByRecursion (λ v. eqb u.item v.item ≡ false) us → is_wanted w ≡ true
+    → filter is_wanted (map (spend_uses us) front) ≡ rest →
+    filter is_wanted (map (spend_uses us) (cond (is_wanted (dec u.item w)) (dec u.item w ∷ front) front)) ≡ cond
+    (is_wanted (spend_uses (u ∷ us) w)) (spend_uses (u ∷ us) w ∷ rest) rest
 item_more u us w front rest a h same = by_case (eqb w.item u.item) refl
   where
     by_case : (b : Bool) → eqb w.item u.item ≡ b →
-        filter is_wanted (map (spend_uses us) (cond (is_wanted (dec u.item w)) (dec u.item w ∷ front) front)) ≡ cond (is_wanted (spend_uses (u ∷ us) w)) (spend_uses (u ∷ us) w ∷ rest) rest
+        filter is_wanted (map (spend_uses us) (cond (is_wanted (dec u.item w)) (dec u.item w ∷ front) front)) ≡ cond
+        (is_wanted (spend_uses (u ∷ us) w)) (spend_uses (u ∷ us) w ∷ rest) rest
     by_case true e =
-        let untouched : is_some (colour_in us w.item) ≡ false = subst (λ j. is_some (colour_in us j) ≡ false) (sym (eqb-true _ _ e)) (not_held u.item us a) in
+        let untouched : is_some (colour_in us w.item) ≡ false =
+        subst (λ j. is_some (colour_in us j) ≡ false) (sym (eqb-true _ _ e)) (not_held u.item us a) in
         rw (e, spends_true u us w e)
-        (kept_head is_wanted (spend_uses us) (is_wanted (less_one w)) (less_one w) (less_one w) front rest refl (λ _. rw untouched refl) refl same)
+        (kept_head is_wanted (spend_uses us) (is_wanted (less_one w)) (less_one w) (less_one w) front rest refl
+        (λ _. rw untouched refl) refl same)
     by_case false e =
         rw (e, spends_other u us w e, h) (ap (λ vs. cond (is_wanted (spend_uses us w)) (spend_uses us w ∷ vs) vs) same)
 
 -- the items
-items_more : (u : Use) (us : List Use) (ws : List Wanted) → AllByRecursion (λ v. eqb u.item v.item ≡ false) us → AreWanted ws →
-    filter is_wanted (map (spend_uses us) (filter is_wanted (map (dec u.item) ws))) ≡ filter is_wanted (map (spend_uses (u ∷ us)) ws)
+items_more : (u : Use) (us : List Use) (ws : List Wanted) → AllByRecursion (λ v. eqb u.item v.item ≡ false) us
+    → AreWanted ws →
+    filter is_wanted (map (spend_uses us) (filter is_wanted (map (dec u.item) ws))) ≡ filter is_wanted
+    (map (spend_uses (u ∷ us)) ws)
 items_more u us [] a h = refl
 items_more u us (w ∷ ws) a h = item_more u us w _ _ a h.0 (items_more u us ws a h.1)
 
-other_head : (j k : ℕ) (w : Wanted) (front : List Wanted) (rest : Option Wanted) → eqb j k ≡ false → is_wanted w ≡ true → find (λ w. eqb w.item k) front ≡ rest →
+other_head : (j k : ℕ) (w : Wanted) (front : List Wanted) (rest : Option Wanted) → eqb j k ≡ false → is_wanted w ≡ true
+    → find (λ w. eqb w.item k) front ≡ rest →
     find (λ w. eqb w.item k) (cond (is_wanted (dec j w)) (dec j w ∷ front) front) ≡ cond (eqb w.item k) (Some w) rest
 other_head j k w front rest e h same = by_case (eqb w.item j) refl
   where
-    by_case : (b : Bool) → eqb w.item j ≡ b → find (λ w. eqb w.item k) (cond (is_wanted (dec j w)) (dec j w ∷ front) front) ≡ cond (eqb w.item k) (Some w) rest
+    by_case : (b : Bool) → eqb w.item j ≡ b
+        → find (λ w. eqb w.item k) (cond (is_wanted (dec j w)) (dec j w ∷ front) front) ≡ cond (eqb w.item k)
+        (Some w) rest
     by_case true i =
         let not_k : eqb w.item k ≡ false = subst (λ n. eqb n k ≡ false) (sym (eqb-true _ _ i)) e in
-        rw (i, not_k) (elim (is_wanted (less_one w)) as (λ c. find (λ w. eqb w.item k) (cond c (less_one w ∷ front) front) ≡ rest) [ true ↦ rw not_k same | false ↦ same ])
+        rw (i, not_k) (elim (is_wanted (less_one w)) as
+        (λ c. find (λ w. eqb w.item k) (cond c (less_one w ∷ front) front) ≡ rest)
+        [ true ↦ rw not_k same | false ↦ same ])
     by_case false i = rw (i, h) (ap (λ o. cond (eqb w.item k) (Some w) o) same)
 
 -- what is left of other items
@@ -111,18 +131,22 @@ left_same : (j k : ℕ) (ws : List Wanted) → eqb j k ≡ false → AreWanted w
 left_same j k [] e h = refl
 left_same j k (w ∷ ws) e h = other_head j k w _ _ e h.0 (left_same j k ws e h.1)
 
-stay_same : (u : Use) (us : List Use) (r : Residual) (o : Numbered) → AllByRecursion (λ v. eqb u.item v.item ≡ false) us → AreWanted r.items →
+stay_same : (u : Use) (us : List Use) (r : Residual) (o : Numbered) → AllByRecursion (λ v. eqb u.item v.item ≡ false) us
+    → AreWanted r.items →
     all_stay (commit_use u r) us o ≡ all_stay r us o
 stay_same u [] r o a h = refl
 stay_same u (v ∷ us) r o a h =
     ap₂ (λ x y. may_stay x v o && y) (left_same u.item v.item r.items a.0 h) (stay_same u us r o a.1 h)
 
-pub as_residual : (a b : List Wanted) (c d : List Numbered) → a ≡ b → c ≡ d → ◌≡◌ {A = Residual} (record { items = a; options = c }) (record { items = b; options = d })
+pub as_residual : (a b : List Wanted) (c d : List Numbered) → a ≡ b → c ≡ d
+    → ◌≡◌ {A = Residual} (record { items = a; options = c }) (record { items = b; options = d })
 as_residual a b c d e f = ap₂ (λ x y. let r : Residual = record { items = x; options = y } in r) e f
 
-pub uses_committed : (us : List Use) (r : Residual) → AreApart us → AreWanted r.items → commit_uses us r ≡ committed us r
+pub uses_committed : (us : List Use) (r : Residual) → AreApart us → AreWanted r.items
+    → commit_uses us r ≡ committed us r
 uses_committed [] r a h =
-    as_residual r.items _ r.options _ (sym (ap (filter is_wanted) (map-id r.items) ∙ keep_all is_wanted r.items h)) (sym (keep_all (λ x. true) r.options (each_of_all (λ x. true ≡ true) r.options (λ x. refl))))
+    as_residual r.items _ r.options _ (sym (ap (filter is_wanted) (map-id r.items) ∙ keep_all is_wanted r.items h))
+    (sym (keep_all (λ x. true) r.options (each_of_all (λ x. true ≡ true) r.options (λ x. refl))))
 uses_committed (u ∷ us) r a h =
     uses_committed us (commit_use u r) a.1 (still_wanted u.item r.items)
     ∙ as_residual _ _ _ _ (items_more u us r.items a.0 h)

@@ -1,5 +1,7 @@
 -- The uses of an option left can be committed, and committing one is what `commit_use` says.
-use Rattle.std.proofs.Common.{ℕ, zero, suc, ◌≡◌, ◌+◌, ◌-◌, ◌<◌, ◌≤◌, Bool, true, false, cond, not, eqb, leb, List, [], ◌∷◌, map, filter, find, Option, Some, None, refl, sym, ap, ◌∙◌, arith, subst, eqb-true, eq-eqb, ne_eqb, le-leb, lt-ltb, le-ltb}
+use Rattle.std.proofs.Common.{ℕ, zero, suc, ◌≡◌, ◌+◌, ◌-◌, ◌<◌, ◌≤◌, Bool, true, false, cond, not, eqb, leb, List, []}
+use Rattle.std.proofs.Common.{◌∷◌, map, filter, find, Option, Some, None, refl, sym, ap, ◌∙◌, arith, subst, eqb-true}
+use Rattle.std.proofs.Common.{eq-eqb, ne_eqb, le-leb, lt-ltb, le-ltb}
 use Rattle.xc_search.proofs.Spent.{less_one}
 use Rattle.std.proofs.lemmas.Bool.{lt-leb, eqb-false}
 use Rattle.std.proofs.lemmas.List.Elements.{filter_agree}
@@ -15,8 +17,10 @@ use Rattle.xc_dance.specs.Moves.{is_open, purified, spends, open_items, AreLegal
 use Rattle.xc_search.specs.Residuals.{wanted_at, wanted_after}
 use Rattle.xc_search.specs.inner.Residual.{residual_of}
 use Rattle.xc_dance.specs.Commits.{after_spend, after_use, after_uses}
-use Rattle.xc_search.proofs.residual.PickedByUses.{dec, is_wanted, commit_use, commit_uses, AreWanted, as_residual, still_wanted}
-use Rattle.xc_search.proofs.residual.EachMove.{residual_spend, residual_cover, residual_purify, residual_cover_secondary, in_range}
+use Rattle.xc_search.proofs.residual.PickedByUses.{dec, is_wanted, commit_use, commit_uses, AreWanted, as_residual}
+use Rattle.xc_search.proofs.residual.PickedByUses.{still_wanted}
+use Rattle.xc_search.proofs.residual.EachMove.{residual_spend, residual_cover, residual_purify}
+use Rattle.xc_search.proofs.residual.EachMove.{residual_cover_secondary, in_range}
 use Rattle.xc_dance.proofs.MoveLemmas.LeftOptions.{left_agrees}
 use Rattle.xc_input.proofs.lists.EachElement.{each_weaker, each-map, each_of_all, each_both, each-filter}
 use Rattle.xc_input.proofs.lists.Filters.{filter_same, keep_all}
@@ -26,45 +30,59 @@ pub data Ready (p : Puzzle) (t : List Move) (u : Use) : Type 0 where
   primary : IsPrimary p u.item → is_open u.item t ≡ true → spends u.item t < high_at p u.item → Ready p t u
   blank : IsSecondary p u.item → u.colour ≡ 0 → is_open u.item t ≡ true → Ready p t u
   coloured : IsSecondary p u.item → 0 < u.colour → is_open u.item t ≡ true → Ready p t u
-  same_colour : IsSecondary p u.item → 0 < u.colour → is_open u.item t ≡ false → purified u.item t ≡ Some u.colour → Ready p t u
+  same_colour : IsSecondary p u.item → 0 < u.colour → is_open u.item t ≡ false → purified u.item t ≡ Some u.colour
+      → Ready p t u
 
 -- ---- other items keep what they have
 
 after_use-same : {X : Type 0} (f : List Move → X) (p : Puzzle) (u : Use) (t : List Move) →
-    ((s : List Move) → f (Cover u.item ∷ s) ≡ f s) → ((s : List Move) → f (Purify u.item u.colour ∷ s) ≡ f s) → ((s : List Move) → f (Spend u.item ∷ s) ≡ f s) →
+    ((s : List Move) → f (Cover u.item ∷ s) ≡ f s) → ((s : List Move) → f (Purify u.item u.colour ∷ s) ≡ f s)
+    → ((s : List Move) → f (Spend u.item ∷ s) ≡ f s) →
     f (after_use p u t) ≡ f t
 after_use-same f p u t a b c =
-    elim (leb u.item (primary_count p)) as (λ x. f (cond x (after_spend p u.item t) (cond (eqb u.colour 0) (Cover u.item ∷ t) (cond (is_open u.item t) (Purify u.item u.colour ∷ t) t))) ≡ f t) [
-      | true ↦ elim (eqb (high_at p u.item - spends u.item (Spend u.item ∷ t)) 0) as (λ x. f (cond x (Cover u.item ∷ Spend u.item ∷ t) (Spend u.item ∷ t)) ≡ f t) [
-        | true ↦ a (Spend u.item ∷ t) ∙ c t
-        | false ↦ c t
-      ]
-      | false ↦ elim (eqb u.colour 0) as (λ x. f (cond x (Cover u.item ∷ t) (cond (is_open u.item t) (Purify u.item u.colour ∷ t) t)) ≡ f t) [
-        | true ↦ a t
-        | false ↦ elim (is_open u.item t) as (λ x. f (cond x (Purify u.item u.colour ∷ t) t) ≡ f t) [
-          | true ↦ b t
-          | false ↦ refl
-        ]
-      ]
+    elim (leb u.item (primary_count p)) as
+    (λ x. f (cond x (after_spend p u.item t)
+    (cond (eqb u.colour 0) (Cover u.item ∷ t) (cond (is_open u.item t) (Purify u.item u.colour ∷ t) t)))
+    ≡ f t) [
+      | true ↦ elim (eqb (high_at p u.item - spends u.item (Spend u.item ∷ t)) 0) as
+          (λ x. f (cond x (Cover u.item ∷ Spend u.item ∷ t) (Spend u.item ∷ t)) ≡ f t) [
+            | true ↦ a (Spend u.item ∷ t) ∙ c t
+            | false ↦ c t
+          ]
+      | false ↦ elim (eqb u.colour 0) as
+          (λ x. f (cond x (Cover u.item ∷ t) (cond (is_open u.item t) (Purify u.item u.colour ∷ t) t)) ≡ f t) [
+            | true ↦ a t
+            | false ↦ elim (is_open u.item t) as (λ x. f (cond x (Purify u.item u.colour ∷ t) t) ≡ f t) [
+              | true ↦ b t
+              | false ↦ refl
+            ]
+          ]
     ]
 
-pub open_same : (p : Puzzle) (u : Use) (t : List Move) (j : ℕ) → eqb j u.item ≡ false → is_open j (after_use p u t) ≡ is_open j t
+pub open_same : (p : Puzzle) (u : Use) (t : List Move) (j : ℕ) → eqb j u.item ≡ false
+    → is_open j (after_use p u t) ≡ is_open j t
 open_same p u t j e = after_use-same (is_open j) p u t (λ s. rw e refl) (λ s. rw e refl) (λ s. refl)
 
-pub purified_same : (p : Puzzle) (u : Use) (t : List Move) (j : ℕ) → eqb j u.item ≡ false → purified j (after_use p u t) ≡ purified j t
+pub purified_same : (p : Puzzle) (u : Use) (t : List Move) (j : ℕ) → eqb j u.item ≡ false
+    → purified j (after_use p u t) ≡ purified j t
 purified_same p u t j e = after_use-same (purified j) p u t (λ s. refl) (λ s. rw e refl) (λ s. refl)
 
-pub spends_same : (p : Puzzle) (u : Use) (t : List Move) (j : ℕ) → eqb j u.item ≡ false → spends j (after_use p u t) ≡ spends j t
+pub spends_same : (p : Puzzle) (u : Use) (t : List Move) (j : ℕ) → eqb j u.item ≡ false
+    → spends j (after_use p u t) ≡ spends j t
 spends_same p u t j e = after_use-same (spends j) p u t (λ s. refl) (λ s. refl) (λ s. rw e (omega arith))
 
-pub ready_later : (p : Puzzle) (t s : List Move) (v : Use) → is_open v.item s ≡ is_open v.item t → purified v.item s ≡ purified v.item t → spends v.item s ≡ spends v.item t → Ready p t v → Ready p s v
+pub ready_later : (p : Puzzle) (t s : List Move) (v : Use) → is_open v.item s ≡ is_open v.item t
+    → purified v.item s ≡ purified v.item t → spends v.item s ≡ spends v.item t → Ready p t v → Ready p s v
 ready_later p t s v a b c (primary h i k) = primary h (a ∙ i) (omega (arith, c, k))
 ready_later p t s v a b c (blank h i k) = blank h i (a ∙ k)
 ready_later p t s v a b c (coloured h i k) = coloured h i (a ∙ k)
 ready_later p t s v a b c (same_colour h i k l) = same_colour h i (a ∙ k) (b ∙ l)
 
-pub ready_after : (p : Puzzle) (u : Use) (t : List Move) (v : Use) → eqb v.item u.item ≡ false → Ready p t v → Ready p (after_use p u t) v
-ready_after p u t v e r = ready_later p t (after_use p u t) v (open_same p u t v.item e) (purified_same p u t v.item e) (spends_same p u t v.item e) r
+pub ready_after : (p : Puzzle) (u : Use) (t : List Move) (v : Use) → eqb v.item u.item ≡ false → Ready p t v
+    → Ready p (after_use p u t) v
+ready_after p u t v e r =
+    ready_later p t (after_use p u t) v (open_same p u t v.item e) (purified_same p u t v.item e)
+    (spends_same p u t v.item e) r
 
 -- ---- the moves are legal
 
@@ -79,9 +97,11 @@ spent_behind p i t =
       | false ↦ omega (arith, spent_self i t)
     ]
 
-pub legal_opening : (p : Puzzle) (i : ℕ) (t : List Move) → AreLegal p t → IsPrimary p i → is_open i t ≡ true → spends i t < high_at p i → AreLegal p (after_spend p i t)
+pub legal_opening : (p : Puzzle) (i : ℕ) (t : List Move) → AreLegal p t → IsPrimary p i → is_open i t ≡ true
+    → spends i t < high_at p i → AreLegal p (after_spend p i t)
 legal_opening p i t l h o k =
-    elim (eqb (high_at p i - spends i (Spend i ∷ t)) 0) as (λ x. AreLegal p (cond x (Cover i ∷ Spend i ∷ t) (Spend i ∷ t))) [
+    elim (eqb (high_at p i - spends i (Spend i ∷ t)) 0) as
+    (λ x. AreLegal p (cond x (Cover i ∷ Spend i ∷ t) (Spend i ∷ t))) [
       | true ↦ (((h.0, omega (arith, h.1)), o), ((h, k), l))
       | false ↦ ((h, k), l)
     ]
@@ -104,33 +124,44 @@ legal_commit p u t l (same_colour h c o q) =
 -- ---- one use
 
 found_from : (p : Puzzle) (t : List Move) (j a n : ℕ) → a ≤ j → j < a + n → is_open j t ≡ true →
-    find (λ w. eqb w.item j) (map (wanted_at p t) (filter (λ i. is_open i t) (range_with_len a n))) ≡ Some (wanted_at p t j)
+    find (λ w. eqb w.item j) (map (wanted_at p t) (filter (λ i. is_open i t) (range_with_len a n))) ≡ Some
+    (wanted_at p t j)
 found_from p t j a zero h k o = absurd (omega (arith, h, k))
 found_from p t j a (suc n) h k o = by_case (eqb a j) refl (λ l. found_from p t j (a + 1) n l (omega (arith, k)) o)
   where
-    by_case : (b : Bool) → eqb a j ≡ b → (a + 1 ≤ j → find (λ w. eqb w.item j) (map (wanted_at p t) (filter (λ i. is_open i t) (range_with_len (a + 1) n))) ≡ Some (wanted_at p t j)) →
-        find (λ w. eqb w.item j) (map (wanted_at p t) (cond (is_open a t) (a ∷ filter (λ i. is_open i t) (range_with_len (a + 1) n)) (filter (λ i. is_open i t) (range_with_len (a + 1) n)))) ≡ Some (wanted_at p t j)
+    by_case : (b : Bool) → eqb a j ≡ b
+        → (a + 1 ≤ j → find (λ w. eqb w.item j)
+        (map (wanted_at p t) (filter (λ i. is_open i t) (range_with_len (a + 1) n))) ≡ Some (wanted_at p t j)) →
+        find (λ w. eqb w.item j)
+        (map (wanted_at p t) (cond (is_open a t) (a ∷ filter (λ i. is_open i t) (range_with_len (a + 1) n))
+        (filter (λ i. is_open i t) (range_with_len (a + 1) n)))) ≡ Some (wanted_at p t j)
     by_case true e later =
         let same : a ≡ j = eqb-true a j e in
         let opened_a : is_open a t ≡ true = ap (λ i. is_open i t) same ∙ o in
         rw (opened_a, e) (ap (λ i. Some (wanted_at p t i)) same)
     by_case false e later =
         let found = later (omega (arith, h, eqb-false a j e)) in
-        elim (is_open a t) as (λ b. find (λ w. eqb w.item j) (map (wanted_at p t) (cond b (a ∷ filter (λ i. is_open i t) (range_with_len (a + 1) n)) (filter (λ i. is_open i t) (range_with_len (a + 1) n)))) ≡ Some (wanted_at p t j)) [
+        elim (is_open a t) as (λ b. find (λ w. eqb w.item j)
+        (map (wanted_at p t) (cond b (a ∷ filter (λ i. is_open i t) (range_with_len (a + 1) n))
+        (filter (λ i. is_open i t) (range_with_len (a + 1) n)))) ≡ Some (wanted_at p t j)) [
           | true ↦ rw e found
           | false ↦ found
         ]
 
-pub found_wanted : (p : Puzzle) (t : List Move) (j : ℕ) → IsPrimary p j → is_open j t ≡ true → item_left (residual_of p t) j ≡ Some (wanted_at p t j)
+pub found_wanted : (p : Puzzle) (t : List Move) (j : ℕ) → IsPrimary p j → is_open j t ≡ true
+    → item_left (residual_of p t) j ≡ Some (wanted_at p t j)
 found_wanted p t j h o = found_from p t j 1 (primary_count p) h.0 (omega (arith, h.1)) o
 
-pub not_found : (p : Puzzle) (t : List Move) (j : ℕ) → primary_count p < j → AllByRecursion (λ w. eqb w.item j ≡ false) (wanted_after p t)
+pub not_found : (p : Puzzle) (t : List Move) (j : ℕ) → primary_count p < j
+    → AllByRecursion (λ w. eqb w.item j ≡ false) (wanted_after p t)
 not_found p t j h =
     each-map (λ w. eqb w.item j ≡ false) (wanted_at p t) (open_items p t)
     (each-filter (λ i. eqb i j ≡ false) (λ i. is_open i t) (range_with_len 1 (primary_count p))
-    (each_weaker (λ i. i < 1 + primary_count p) (λ i. eqb i j ≡ false) (range_with_len 1 (primary_count p)) (λ i l. ne_eqb i j (λ e. omega (arith, l, h, e))) (in_range 1 (primary_count p))))
+    (each_weaker (λ i. i < 1 + primary_count p) (λ i. eqb i j ≡ false) (range_with_len 1 (primary_count p))
+    (λ i l. ne_eqb i j (λ e. omega (arith, l, h, e))) (in_range 1 (primary_count p))))
 
-none_found : (j : ℕ) (ws : List Wanted) → AllByRecursion (λ w. eqb w.item j ≡ false) ws → find (λ w. eqb w.item j) ws ≡ None
+none_found : (j : ℕ) (ws : List Wanted) → AllByRecursion (λ w. eqb w.item j ≡ false) ws
+    → find (λ w. eqb w.item j) ws ≡ None
 none_found j [] a = refl
 none_found j (w ∷ ws) a = rw a.0 (none_found j ws a.1)
 
@@ -139,8 +170,11 @@ dec_nothing j [] a = refl
 dec_nothing j (w ∷ ws) a = rw a.0 (ap (λ vs. w ∷ vs) (dec_nothing j ws a.1))
 
 -- the items keep their bounds where the item isn't primary
-second_items : (p : Puzzle) (t : List Move) (j : ℕ) → primary_count p < j → AreWanted (wanted_after p t) → wanted_after p t ≡ filter is_wanted (map (dec j) (wanted_after p t))
-second_items p t j h a = sym (ap (filter is_wanted) (dec_nothing j (wanted_after p t) (not_found p t j h)) ∙ keep_all is_wanted (wanted_after p t) a)
+second_items : (p : Puzzle) (t : List Move) (j : ℕ) → primary_count p < j → AreWanted (wanted_after p t)
+    → wanted_after p t ≡ filter is_wanted (map (dec j) (wanted_after p t))
+second_items p t j h a =
+    sym (ap (filter is_wanted) (dec_nothing j (wanted_after p t) (not_found p t j h))
+    ∙ keep_all is_wanted (wanted_after p t) a)
 
 blank_agrees : (o : Option ℕ) → not (is_some o) ≡ agrees 0 o
 blank_agrees None = refl
@@ -148,12 +182,16 @@ blank_agrees (Some d) = refl
 
 -- every item that is left is as the Spends leave it
 pub as_spent : (p : Puzzle) (t : List Move) → AllByRecursion (λ w. w ≡ wanted_at p t w.item) (wanted_after p t)
-as_spent p t = each-map (λ w. w ≡ wanted_at p t w.item) (wanted_at p t) (open_items p t) (each_of_all _ (open_items p t) (λ i. refl))
+as_spent p t =
+    each-map (λ w. w ≡ wanted_at p t w.item) (wanted_at p t) (open_items p t)
+    (each_of_all _ (open_items p t) (λ i. refl))
 
-covered_item : (j : ℕ) (w : Wanted) → is_wanted w ≡ true → (eqb w.item j ≡ true → w.high ≡ 1) → not (eqb (dec j w).item j) ≡ is_wanted (dec j w)
+covered_item : (j : ℕ) (w : Wanted) → is_wanted w ≡ true → (eqb w.item j ≡ true → w.high ≡ 1)
+    → not (eqb (dec j w).item j) ≡ is_wanted (dec j w)
 covered_item j w a h = by_case (eqb w.item j) refl
   where
-    by_case : (b : Bool) → eqb w.item j ≡ b → not (eqb (cond (eqb w.item j) (less_one w) w).item j) ≡ is_wanted (cond (eqb w.item j) (less_one w) w)
+    by_case : (b : Bool) → eqb w.item j ≡ b
+        → not (eqb (cond (eqb w.item j) (less_one w) w).item j) ≡ is_wanted (cond (eqb w.item j) (less_one w) w)
     by_case true e = rw (e, e) (sym (le-ltb 0 (w.high - 1) (omega (arith, h e))))
     by_case false e = rw (e, e) (sym a)
 
@@ -164,38 +202,50 @@ kept_item j w a h = by_case (eqb w.item j) refl
     by_case true e = rw e (lt-ltb 0 (w.high - 1) (omega (arith, h e)))
     by_case false e = rw e a
 
-pub high_of : (p : Puzzle) (t : List Move) (j : ℕ) (w : Wanted) → w ≡ wanted_at p t w.item → eqb w.item j ≡ true → w.high ≡ high_at p j - spends j t
+pub high_of : (p : Puzzle) (t : List Move) (j : ℕ) (w : Wanted) → w ≡ wanted_at p t w.item → eqb w.item j ≡ true
+    → w.high ≡ high_at p j - spends j t
 high_of p t j w e i = ap (λ (v : Wanted). v.high) e ∙ ap (λ k. high_at p k - spends k t) (eqb-true w.item j i)
 
-pub opening_commits : (p : Puzzle) (u : Use) (t : List Move) → AreWanted (wanted_after p t) → IsPrimary p u.item → is_open u.item t ≡ true → spends u.item t < high_at p u.item →
+pub opening_commits : (p : Puzzle) (u : Use) (t : List Move) → AreWanted (wanted_after p t) → IsPrimary p u.item
+    → is_open u.item t ≡ true → spends u.item t < high_at p u.item →
     residual_of p (after_spend p u.item t) ≡ commit_use u (residual_of p t)
 opening_commits p u t a h o k = by_case (eqb (high_at p u.item - spends u.item (Spend u.item ∷ t)) 0) refl
   where
-    by_case : (b : Bool) → eqb (high_at p u.item - spends u.item (Spend u.item ∷ t)) 0 ≡ b → residual_of p (cond (eqb (high_at p u.item - spends u.item (Spend u.item ∷ t)) 0) (Cover u.item ∷ Spend u.item ∷ t) (Spend u.item ∷ t)) ≡ commit_use u (residual_of p t)
+    by_case : (b : Bool) → eqb (high_at p u.item - spends u.item (Spend u.item ∷ t)) 0 ≡ b
+        → residual_of p (cond (eqb (high_at p u.item - spends u.item (Spend u.item ∷ t)) 0)
+        (Cover u.item ∷ Spend u.item ∷ t) (Spend u.item ∷ t)) ≡ commit_use u (residual_of p t)
     by_case true e =
         let last : high_at p u.item - spends u.item t ≡ 1 = omega (arith, eqb-true _ _ e, spent_self u.item t, k) in
-        let not_more : nat_lt 1 (high_at p u.item - spends u.item t) ≡ false = le-ltb 1 (high_at p u.item - spends u.item t) (omega (arith, last)) in
+        let not_more : nat_lt 1 (high_at p u.item - spends u.item t) ≡ false =
+        le-ltb 1 (high_at p u.item - spends u.item t) (omega (arith, last)) in
         rw e
         (residual_cover p (Spend u.item ∷ t) u.item ∙ ap (λ r. none r u.item) (residual_spend p t u.item)
         ∙ as_residual _ _ _ _
         (filter_same (λ w. not (eqb w.item u.item)) is_wanted (map (dec u.item) (wanted_after p t))
         (each-map (λ w. not (eqb w.item u.item) ≡ is_wanted w) (dec u.item) (wanted_after p t)
-        (each_both (λ w. w ≡ wanted_at p t w.item) (λ w. is_wanted w ≡ true) (λ w. not (eqb (dec u.item w).item u.item) ≡ is_wanted (dec u.item w)) (wanted_after p t)
+        (each_both (λ w. w ≡ wanted_at p t w.item) (λ w. is_wanted w ≡ true)
+        (λ w. not (eqb (dec u.item w).item u.item) ≡ is_wanted (dec u.item w)) (wanted_after p t)
         (λ w z i. covered_item u.item w i (λ q. high_of p t u.item w z q ∙ last)) (as_spent p t) a)))
-        (filter_agree (λ o. not (holds o u.item)) (may_stay (item_left (residual_of p t) u.item) u) (λ x. rw (found_wanted p t u.item h o, not_more) refl) (left p t)))
+        (filter_agree (λ o. not (holds o u.item)) (may_stay (item_left (residual_of p t) u.item) u)
+        (λ x. rw (found_wanted p t u.item h o, not_more) refl) (left p t)))
     by_case false e =
         let more : 1 < high_at p u.item - spends u.item t = omega (arith, eqb-false _ _ e, spent_self u.item t, k) in
-        let is_more : nat_lt 1 (high_at p u.item - spends u.item t) ≡ true = lt-ltb 1 (high_at p u.item - spends u.item t) more in
+        let is_more : nat_lt 1 (high_at p u.item - spends u.item t) ≡ true =
+        lt-ltb 1 (high_at p u.item - spends u.item t) more in
         rw e
         (residual_spend p t u.item
         ∙ as_residual _ _ _ _
         (sym (keep_all is_wanted (map (dec u.item) (wanted_after p t))
         (each-map (λ w. is_wanted w ≡ true) (dec u.item) (wanted_after p t)
-        (each_both (λ w. w ≡ wanted_at p t w.item) (λ w. is_wanted w ≡ true) (λ w. is_wanted (dec u.item w) ≡ true) (wanted_after p t)
+        (each_both (λ w. w ≡ wanted_at p t w.item) (λ w. is_wanted w ≡ true) (λ w. is_wanted (dec u.item w) ≡ true)
+        (wanted_after p t)
         (λ w z i. kept_item u.item w i (λ q. omega (arith, high_of p t u.item w z q, more))) (as_spent p t) a))))
-        (sym (keep_all (may_stay (item_left (residual_of p t) u.item) u) (left p t) (each_of_all (λ x. may_stay (item_left (residual_of p t) u.item) u x ≡ true) (left p t) (λ x. rw (found_wanted p t u.item h o, is_more) refl)))))
+        (sym (keep_all (may_stay (item_left (residual_of p t) u.item) u) (left p t)
+        (each_of_all (λ x. may_stay (item_left (residual_of p t) u.item) u x ≡ true) (left p t)
+        (λ x. rw (found_wanted p t u.item h o, is_more) refl)))))
 
-pub commit_one : (p : Puzzle) (u : Use) (t : List Move) → AreWanted (wanted_after p t) → Ready p t u → residual_of p (after_use p u t) ≡ commit_use u (residual_of p t)
+pub commit_one : (p : Puzzle) (u : Use) (t : List Move) → AreWanted (wanted_after p t) → Ready p t u
+    → residual_of p (after_use p u t) ≡ commit_use u (residual_of p t)
 commit_one p u t a (primary h o k) = rw (le-leb u.item (primary_count p) h.1) (opening_commits p u t a h o k)
 commit_one p u t a (blank h c o) =
     let second : leb u.item (primary_count p) ≡ false = lt-leb u.item (primary_count p) h.0 in
@@ -204,7 +254,8 @@ commit_one p u t a (blank h c o) =
     (residual_cover_secondary p t u.item h.0
     ∙ as_residual _ _ _ _ (second_items p t u.item h.0 a)
     (filter_agree (λ x. not (holds x u.item)) (may_stay (item_left (residual_of p t) u.item) u)
-    (λ x. rw (none_found u.item (wanted_after p t) (not_found p t u.item h.0), c) (blank_agrees (colour_at x u.item))) (left p t)))
+    (λ x. rw (none_found u.item (wanted_after p t) (not_found p t u.item h.0), c) (blank_agrees (colour_at x u.item)))
+    (left p t)))
 commit_one p u t a (coloured h c o) =
     let second : leb u.item (primary_count p) ≡ false = lt-leb u.item (primary_count p) h.0 in
     let colour : eqb u.colour 0 ≡ false = ne_eqb u.colour 0 (λ e. omega (arith, c, e)) in
@@ -219,8 +270,10 @@ commit_one p u t a (same_colour h c o q) =
     rw (second, colour, o)
     (as_residual _ _ _ _ (second_items p t u.item h.0 a)
     (sym (keep_all (may_stay (item_left (residual_of p t) u.item) u) (left p t)
-    (each_weaker (λ x. agrees u.colour (colour_at x u.item) ≡ true) (λ x. may_stay (item_left (residual_of p t) u.item) u x ≡ true) (left p t)
-    (λ x e. rw (none_found u.item (wanted_after p t) (not_found p t u.item h.0)) e) (left_agrees p t u.item u.colour q)))))
+    (each_weaker (λ x. agrees u.colour (colour_at x u.item) ≡ true)
+    (λ x. may_stay (item_left (residual_of p t) u.item) u x ≡ true) (left p t)
+    (λ x e. rw (none_found u.item (wanted_after p t) (not_found p t u.item h.0)) e)
+    (left_agrees p t u.item u.colour q)))))
 
 -- ---- all uses
 
@@ -232,13 +285,16 @@ pub record Committed (p : Puzzle) (us : List Use) (t : List Move) : Type 0 where
   pub legal : AreLegal p (after_uses p us t)
   pub wanted : AreWanted (wanted_after p (after_uses p us t))
 
-pub commit_all : (p : Puzzle) (us : List Use) (t : List Move) → AreApart us → AreReady p t us → AreLegal p t → AreWanted (wanted_after p t) → Committed p us t
+pub commit_all : (p : Puzzle) (us : List Use) (t : List Move) → AreApart us → AreReady p t us → AreLegal p t
+    → AreWanted (wanted_after p t) → Committed p us t
 commit_all p [] t d r l a = record { residual = refl; legal = l; wanted = a }
 commit_all p (u ∷ us) t d r l a =
     let one = commit_one p u t a r.0 in
     let rest = commit_all p us (after_use p u t) d.1
     (each_both (λ v. eqb u.item v.item ≡ false) (λ v. Ready p t v) (λ v. Ready p (after_use p u t) v) us
-    (λ v e q. ready_after p u t v (ne_eqb v.item u.item (λ i. let same : eqb u.item v.item ≡ true = eq-eqb u.item v.item (sym i) in cc (e, same))) q) d.0 r.1)
+    (λ v e q. ready_after p u t v
+    (ne_eqb v.item u.item (λ i. let same : eqb u.item v.item ≡ true = eq-eqb u.item v.item (sym i) in cc (e, same)))
+    q) d.0 r.1)
     (legal_commit p u t l r.0)
     (subst (λ r. AreWanted r.items) (sym one) (still_wanted u.item (wanted_after p t))) in
     record { residual = rest.residual ∙ ap (commit_uses us) one; legal = rest.legal; wanted = rest.wanted }

@@ -15,30 +15,57 @@ use Rattle.xc_input.proofs.lists.Totals.{total, total_le, total_less, total_same
 abbrev high_in : List Bounds → ℕ → ℕ
 high_in bs k = (unwrap_or (slice_get bs k) (record { low = 0; high = 0 })).high
 
-total_highs : (bs : List Bounds) → total (high_in bs) (range_with_len 0 (length bs)) ≡ sum_by (λ (b : Bounds). b.high) bs
+total_highs : (bs : List Bounds)
+    → total (high_in bs) (range_with_len 0 (length bs)) ≡ sum_by (λ (b : Bounds). b.high) bs
 total_highs [] = refl
 total_highs (b ∷ bs) =
-    let next : (i : ℕ) → high_in (b ∷ bs) (i + 1) ≡ high_in bs i = (λ i. let same : i + 1 ≡ suc i = omega arith in ap (high_in (b ∷ bs)) same) in
-    omega (arith, total_shifted (high_in (b ∷ bs)) 0 (length bs), total_same (λ i. high_in (b ∷ bs) (i + 1)) (high_in bs) (range_with_len 0 (length bs)) next, total_highs bs, sum_by-cons (λ (b : Bounds). b.high) b bs)
+    let next : (i : ℕ) → high_in (b ∷ bs) (i + 1) ≡ high_in bs i =
+    (λ i. let same : i + 1 ≡ suc i = omega arith in ap (high_in (b ∷ bs)) same) in
+    omega (
+      arith,
+      total_shifted (high_in (b ∷ bs)) 0 (length bs),
+      total_same (λ i. high_in (b ∷ bs) (i + 1))
+          (high_in bs) (range_with_len 0 (length bs)) next,
+      total_highs bs,
+      sum_by-cons (λ (b : Bounds). b.high) b bs,
+    )
 
 total_high_at : (p : Puzzle) → total (high_at p) (range_with_len 1 (primary_count p)) ≡ high_total p
 total_high_at p =
-    let each : (i : ℕ) → high_at p (i + 1) ≡ high_in p.bounds i = (λ i. let same : i + 1 ≡ suc i = omega arith in ap (high_at p) same) in
-    omega (arith, total_shifted (high_at p) 0 (primary_count p), total_same (λ i. high_at p (i + 1)) (high_in p.bounds) (range_with_len 0 (primary_count p)) each, total_highs p.bounds)
+    let each : (i : ℕ) → high_at p (i + 1) ≡ high_in p.bounds i =
+    (λ i. let same : i + 1 ≡ suc i = omega arith in ap (high_at p) same) in
+    omega (
+      arith,
+      total_shifted (high_at p) 0 (primary_count p),
+      total_same (λ i. high_at p (i + 1)) (high_in p.bounds)
+          (range_with_len 0 (primary_count p)) each,
+      total_highs p.bounds,
+    )
 
 -- what the Spends that stand leave of the bounds
 abbrev all_bounds : Puzzle → List Move → ℕ
 all_bounds p t = total (λ i. high_at p i - spends i t) (range_with_len 1 (primary_count p))
 
 spends_within : (p : Puzzle) (t : List Move) → AreLegal p t → spendings t + all_bounds p t ≤ high_total p
-spends_within p [] l = omega (arith, total_le (λ i. high_at p i - 0) (high_at p) (range_with_len 1 (primary_count p)) (λ i. omega arith), total_high_at p)
+spends_within p [] l =
+    omega (
+      arith,
+      total_le (λ i. high_at p i - 0) (high_at p) (range_with_len 1 (primary_count p)) (λ i. omega arith),
+      total_high_at p,
+    )
 spends_within p (Cover j ∷ t) l = spends_within p t l.1
 spends_within p (Purify j c ∷ t) l = spends_within p t l.1
 spends_within p (Tweak j ∷ t) l = spends_within p t l.1
 spends_within p (Spend j ∷ t) l =
     let same : eqb j j ≡ true = eq-eqb j j refl in
     let itself : spends j (Spend j ∷ t) ≡ 1 + spends j t = rw same refl in
-    omega (arith, spends_within p t l.1, total_less (λ i. high_at p i - spends i (Spend j ∷ t)) (λ i. high_at p i - spends i t) j 1 (primary_count p) l.0.0.0 (omega (arith, l.0.0.1)) (λ i. omega arith) (omega (arith, itself, l.0.1)))
+    omega (
+      arith,
+      spends_within p t l.1,
+      total_less (λ i. high_at p i - spends i (Spend j ∷ t))
+          (λ i. high_at p i - spends i t) j 1 (primary_count p) l.0.0.0 (omega (arith, l.0.0.1)) (λ i. omega arith)
+          (omega (arith, itself, l.0.1)),
+    )
 
 pub few_spendings : (p : Puzzle) (t : List Move) → AreLegal p t → spendings t ≤ high_total p
 few_spendings p t l = omega (arith, spends_within p t l)

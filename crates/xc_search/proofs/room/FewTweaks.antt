@@ -1,5 +1,6 @@
 -- No more tweaks than uses.
-use Rattle.std.proofs.Common.{ℕ, suc, ◌≡◌, ◌+◌, ◌≤◌, Bool, true, false, cond, ◌&&◌, eqb, List, [], ◌∷◌, length, take, drop, Some, refl, ap, arith, eqb-true, eq-eqb, length-drop}
+use Rattle.std.proofs.Common.{ℕ, suc, ◌≡◌, ◌+◌, ◌≤◌, Bool, true, false, cond, ◌&&◌, eqb, List, [], ◌∷◌, length, take}
+use Rattle.std.proofs.Common.{drop, Some, refl, ap, arith, eqb-true, eq-eqb, length-drop}
 use Rattle.xc_input.proofs.OptionLemmas.NumberedOptions.{numbered_from}
 use Rattle.std.proofs.lemmas.List.Sums.{sum_by-cons}
 use Rattle.std.specs.Prelude.{is_some, sum_by}
@@ -11,7 +12,8 @@ use Rattle.xc_input.specs.Problem.{Puzzle, Numbered, numbered_options, colour_in
 use Rattle.xc_dance.specs.Moves.{listed, is_open, without, AreLegal}
 use Rattle.xc_search.specs.inner.Sparing.{uses_in}
 use Rattle.xc_input.proofs.lists.Filters.{length-filter-le}
-use Rattle.xc_input.proofs.lists.Totals.{total, total_zero, total_le, total_less, one_if, total_same, total_two, total_once}
+use Rattle.xc_input.proofs.lists.Totals.{total, total_zero, total_le, total_less, one_if, total_same, total_two}
+use Rattle.xc_input.proofs.lists.Totals.{total_once}
 
 abbrev pub tweakings : List Move → ℕ
 tweakings [] = 0
@@ -20,7 +22,8 @@ tweakings (Purify j c ∷ t) = tweakings t
 tweakings (Tweak j ∷ t) = suc (tweakings t)
 tweakings (Spend j ∷ t) = tweakings t
 
-cond_le : {X : Type 0} (b : Bool) (xs ys zs : List X) → length xs ≤ length zs → length ys ≤ length zs → length (cond b xs ys) ≤ length zs
+cond_le : {X : Type 0} (b : Bool) (xs ys zs : List X) → length xs ≤ length zs → length ys ≤ length zs
+    → length (cond b xs ys) ≤ length zs
 cond_le true xs ys zs h k = h
 cond_le false xs ys zs h k = k
 
@@ -32,7 +35,10 @@ shrinks : (p : Puzzle) (t : List Move) (m : Move) (i : ℕ) → length (listed p
 shrinks p t (Cover j) i = cond_le _ _ _ _ (length-filter-le _ (listed p t i)) (le_same (length (listed p t i)))
 shrinks p t (Purify j c) i = cond_le _ _ _ _ (length-filter-le _ (listed p t i)) (le_same (length (listed p t i)))
 shrinks p t (Tweak j) i =
-    elim (eqb i j) as (λ b. eqb i j ≡ b → length (cond b (drop 1 (listed p t j)) (cond (is_open j t && is_open i t) (without (take 1 (listed p t j)) (listed p t i)) (listed p t i))) ≤ length (listed p t i)) [
+    elim (eqb i j) as (λ b. eqb i j ≡ b
+    → length (cond b (drop 1 (listed p t j))
+    (cond (is_open j t && is_open i t) (without (take 1 (listed p t j)) (listed p t i)) (listed p t i))) ≤
+    length (listed p t i)) [
       | true ↦ λ e. omega (arith, length-drop 1 (listed p t j), ap (λ k. length (listed p t k)) (eqb-true i j e))
       | false ↦ λ e. cond_le _ _ _ _ (length-filter-le _ (listed p t i)) (le_same (length (listed p t i)))
     ] refl
@@ -43,37 +49,65 @@ all_listed p t = total (λ i. length (listed p t i)) (range_with_len 1 (item_cou
 
 tweaks_listed : (p : Puzzle) (t : List Move) → AreLegal p t → tweakings t + all_listed p t ≤ all_listed p []
 tweaks_listed p [] l = omega arith
-tweaks_listed p (Cover j ∷ t) l = omega (arith, tweaks_listed p t l.1, total_le (λ i. length (listed p (Cover j ∷ t) i)) (λ i. length (listed p t i)) (range_with_len 1 (item_count p)) (λ i. shrinks p t (Cover j) i))
-tweaks_listed p (Purify j c ∷ t) l = omega (arith, tweaks_listed p t l.1, total_le (λ i. length (listed p (Purify j c ∷ t) i)) (λ i. length (listed p t i)) (range_with_len 1 (item_count p)) (λ i. shrinks p t (Purify j c) i))
+tweaks_listed p (Cover j ∷ t) l =
+    omega (
+      arith,
+      tweaks_listed p t l.1,
+      total_le (λ i. length (listed p (Cover j ∷ t) i)) (λ i. length (listed p t i))
+          (range_with_len 1 (item_count p)) (λ i. shrinks p t (Cover j) i),
+    )
+tweaks_listed p (Purify j c ∷ t) l =
+    omega (
+      arith,
+      tweaks_listed p t l.1,
+      total_le (λ i. length (listed p (Purify j c ∷ t) i))
+          (λ i. length (listed p t i)) (range_with_len 1 (item_count p)) (λ i. shrinks p t (Purify j c) i),
+    )
 tweaks_listed p (Tweak j ∷ t) l =
     let same : eqb j j ≡ true = eq-eqb j j refl in
     let itself : listed p (Tweak j ∷ t) j ≡ drop 1 (listed p t j) = rw same (refl {a = drop 1 (listed p t j)}) in
-    omega (arith, tweaks_listed p t l.1, total_less (λ i. length (listed p (Tweak j ∷ t) i)) (λ i. length (listed p t i)) j 1 (item_count p) l.0.0.0 (omega (arith, l.0.0.1)) (λ i. shrinks p t (Tweak j) i) (omega (arith, ap length itself, length-drop 1 (listed p t j), l.0.2)))
+    omega (
+      arith,
+      tweaks_listed p t l.1,
+      total_less (λ i. length (listed p (Tweak j ∷ t) i))
+          (λ i. length (listed p t i)) j 1 (item_count p) l.0.0.0 (omega (arith, l.0.0.1))
+          (λ i. shrinks p t (Tweak j) i)
+          (omega (arith, ap length itself, length-drop 1 (listed p t j), l.0.2)),
+    )
 tweaks_listed p (Spend j ∷ t) l = tweaks_listed p t l.1
 
-held_le : (u : Use) (us : List Use) (i : ℕ) → one_if (is_some (colour_in (u ∷ us) i)) ≤ one_if (eqb u.item i) + one_if (is_some (colour_in us i))
-held_le u us i = elim (eqb u.item i) as (λ b. one_if (is_some (cond b (Some u.colour) (colour_in us i))) ≤ one_if b + one_if (is_some (colour_in us i))) [ true ↦ omega arith | false ↦ omega arith ]
+held_le : (u : Use) (us : List Use) (i : ℕ)
+    → one_if (is_some (colour_in (u ∷ us) i)) ≤ one_if (eqb u.item i) + one_if (is_some (colour_in us i))
+held_le u us i =
+    elim (eqb u.item i) as (λ b. one_if (is_some (cond b (Some u.colour) (colour_in us i))) ≤ one_if b + one_if
+    (is_some (colour_in us i))) [ true ↦ omega arith | false ↦ omega arith ]
 
 held_few : (us : List Use) (a n : ℕ) → total (λ i. one_if (is_some (colour_in us i))) (range_with_len a n) ≤ length us
 held_few [] a n = omega (arith, total_zero (range_with_len a n))
 held_few (u ∷ us) a n =
     omega (
       arith,
-      total_le (λ i. one_if (is_some (colour_in (u ∷ us) i))) (λ i. one_if (eqb u.item i) + one_if (is_some (colour_in us i))) (range_with_len a n) (held_le u us),
+      total_le (λ i. one_if (is_some (colour_in (u ∷ us) i)))
+          (λ i. one_if (eqb u.item i) + one_if (is_some (colour_in us i))) (range_with_len a n) (held_le u us),
       total_two (λ i. one_if (eqb u.item i)) (λ i. one_if (is_some (colour_in us i))) (range_with_len a n),
       total_once u.item a n,
       held_few us a n,
     )
 
-holding_more : (o : Numbered) (os : List Numbered) (i : ℕ) → length (holding i (o ∷ os)) ≡ one_if (is_some (colour_in o.uses i)) + length (holding i os)
-holding_more o os i = elim (is_some (colour_in o.uses i)) as (λ b. length (cond b (o ∷ holding i os) (holding i os)) ≡ one_if b + length (holding i os)) [ true ↦ omega arith | false ↦ omega arith ]
+holding_more : (o : Numbered) (os : List Numbered) (i : ℕ)
+    → length (holding i (o ∷ os)) ≡ one_if (is_some (colour_in o.uses i)) + length (holding i os)
+holding_more o os i =
+    elim (is_some (colour_in o.uses i)) as
+    (λ b. length (cond b (o ∷ holding i os) (holding i os)) ≡ one_if b + length (holding i os))
+    [ true ↦ omega arith | false ↦ omega arith ]
 
 held_all : (os : List Numbered) (a n : ℕ) → total (λ i. length (holding i os)) (range_with_len a n) ≤ uses_in os
 held_all [] a n = omega (arith, total_zero (range_with_len a n))
 held_all (o ∷ os) a n =
     omega (
       arith,
-      total_same (λ i. length (holding i (o ∷ os))) (λ i. one_if (is_some (colour_in o.uses i)) + length (holding i os)) (range_with_len a n) (holding_more o os),
+      total_same (λ i. length (holding i (o ∷ os))) (λ i. one_if (is_some (colour_in o.uses i)) + length (holding i os))
+          (range_with_len a n) (holding_more o os),
       total_two (λ i. one_if (is_some (colour_in o.uses i))) (λ i. length (holding i os)) (range_with_len a n),
       held_few o.uses a n,
       held_all os a n,
@@ -84,4 +118,5 @@ uses_whole k [] = refl
 uses_whole k (us ∷ os) = omega (arith, uses_whole (k + 1) os, sum_by-cons (λ (us : List Use). length us) us os)
 
 pub few_tweakings : (p : Puzzle) (t : List Move) → AreLegal p t → tweakings t ≤ use_count p.options
-few_tweakings p t l = omega (arith, tweaks_listed p t l, held_all (numbered_options p) 1 (item_count p), uses_whole 1 p.options)
+few_tweakings p t l =
+    omega (arith, tweaks_listed p t l, held_all (numbered_options p) 1 (item_count p), uses_whole 1 p.options)

@@ -1,5 +1,7 @@
 -- The Spends of a search are no more than the uses of the options that were taken and the items that were left out.
-use Rattle.std.proofs.Common.{ℕ, zero, suc, ◌≡◌, ◌+◌, ◌-◌, ◌<◌, ◌≤◌, Bool, true, false, cond, not, ◌&&◌, eqb, leb, List, [], ◌∷◌, length, map, filter, take, drop, Some, refl, sym, ap, ◌∙◌, arith, subst, le-leb, length-append, length-drop}
+use Rattle.std.proofs.Common.{ℕ, zero, suc, ◌≡◌, ◌+◌, ◌-◌, ◌<◌, ◌≤◌, Bool, true, false, cond, not, ◌&&◌, eqb, leb, List}
+use Rattle.std.proofs.Common.{[], ◌∷◌, length, map, filter, take, drop, Some, refl, sym, ap, ◌∙◌, arith, subst, le-leb}
+use Rattle.std.proofs.Common.{length-append, length-drop}
 use Rattle.std.specs.Prelude.{slice_get, nat_lt, nat_le}
 use Rattle.std.specs.List.{range_with_len}
 use Rattle.xc_input.specs.declared.problem.Use.{Use}
@@ -27,19 +29,30 @@ spent_tweaked zero i s = refl
 spent_tweaked (suc m) i s = spent_tweaked m i s
 
 pub spent_after_spend : (p : Puzzle) (i : ℕ) (t : List Move) → spendings (after_spend p i t) ≡ suc (spendings t)
-spent_after_spend p i t = elim (eqb (high_at p i - spends i (Spend i ∷ t)) 0) as (λ b. spendings (cond b (Cover i ∷ Spend i ∷ t) (Spend i ∷ t)) ≡ suc (spendings t)) [ true ↦ refl | false ↦ refl ]
+spent_after_spend p i t =
+    elim (eqb (high_at p i - spends i (Spend i ∷ t)) 0) as
+    (λ b. spendings (cond b (Cover i ∷ Spend i ∷ t) (Spend i ∷ t)) ≡ suc (spendings t))
+    [ true ↦ refl | false ↦ refl ]
 
 spent_after_none : (i : ℕ) (t : List Move) → spendings (after_none i t) ≡ spendings t
-spent_after_none i t = elim (is_open i t) as (λ b. spendings (cond b (Cover i ∷ t) t) ≡ spendings t) [ true ↦ refl | false ↦ refl ]
+spent_after_none i t =
+    elim (is_open i t) as (λ b. spendings (cond b (Cover i ∷ t) t) ≡ spendings t) [ true ↦ refl | false ↦ refl ]
 
 spent_use : (p : Puzzle) (u : Use) (t : List Move) → spendings (after_use p u t) ≤ suc (spendings t)
 spent_use p u t =
-    elim (leb u.item (primary_count p)) as (λ x. spendings (cond x (after_spend p u.item t) (cond (eqb u.colour 0) (Cover u.item ∷ t) (cond (is_open u.item t) (Purify u.item u.colour ∷ t) t))) ≤ suc (spendings t)) [
+    elim (leb u.item (primary_count p)) as
+    (λ x. spendings (cond x (after_spend p u.item t)
+    (cond (eqb u.colour 0) (Cover u.item ∷ t) (cond (is_open u.item t) (Purify u.item u.colour ∷ t) t))) ≤ suc
+    (spendings t)) [
       | true ↦ omega (arith, spent_after_spend p u.item t)
-      | false ↦ elim (eqb u.colour 0) as (λ x. spendings (cond x (Cover u.item ∷ t) (cond (is_open u.item t) (Purify u.item u.colour ∷ t) t)) ≤ suc (spendings t)) [
-        | true ↦ omega arith
-        | false ↦ elim (is_open u.item t) as (λ x. spendings (cond x (Purify u.item u.colour ∷ t) t) ≤ suc (spendings t)) [ true ↦ omega arith | false ↦ omega arith ]
-      ]
+      | false ↦ elim (eqb u.colour 0) as
+          (λ x. spendings (cond x (Cover u.item ∷ t) (cond (is_open u.item t) (Purify u.item u.colour ∷ t) t)) ≤ suc
+          (spendings t)) [
+            | true ↦ omega arith
+            | false ↦ elim (is_open u.item t) as
+                (λ x. spendings (cond x (Purify u.item u.colour ∷ t) t) ≤ suc (spendings t))
+                [ true ↦ omega arith | false ↦ omega arith ]
+          ]
     ]
 
 spent_uses : (p : Puzzle) (us : List Use) (t : List Move) → spendings (after_uses p us t) ≤ length us + spendings t
@@ -47,30 +60,49 @@ spent_uses p [] t = omega arith
 spent_uses p (u ∷ us) t = omega (arith, spent_uses p us (after_use p u t), spent_use p u t)
 
 others_less : (i : ℕ) (us : List Use) → place_in i us < length us → length (others i us) < length us
-others_less i us h = omega (arith, length-append (drop (place_in i us + 1) us) (take (place_in i us) us), length-drop (place_in i us + 1) us, length-take (place_in i us) us, h)
+others_less i us h =
+    omega (
+      arith,
+      length-append (drop (place_in i us + 1) us) (take (place_in i us) us),
+      length-drop (place_in i us + 1)
+          us,
+      length-take (place_in i us) us,
+      h,
+    )
 
 -- ---- uses of the options left
 
 fewer_uses : (q : Numbered → Bool) (os : List Numbered) → uses_in (filter q os) ≤ uses_in os
 fewer_uses q [] = omega arith
-fewer_uses q (o ∷ os) = elim (q o) as (λ b. uses_in (cond b (o ∷ filter q os) (filter q os)) ≤ length o.uses + uses_in os) [ true ↦ omega (arith, fewer_uses q os) | false ↦ omega (arith, fewer_uses q os) ]
+fewer_uses q (o ∷ os) =
+    elim (q o) as (λ b. uses_in (cond b (o ∷ filter q os) (filter q os)) ≤ length o.uses + uses_in os)
+    [ true ↦ omega (arith, fewer_uses q os) | false ↦ omega (arith, fewer_uses q os) ]
 
-without_uses : (q : Numbered → Bool) (i k : ℕ) (x : Numbered) (os : List Numbered) → slice_get (holding i os) k ≡ Some x → q x ≡ false → uses_in (filter q os) + length x.uses ≤ uses_in os
+without_uses : (q : Numbered → Bool) (i k : ℕ) (x : Numbered) (os : List Numbered) → slice_get (holding i os) k ≡ Some x
+    → q x ≡ false → uses_in (filter q os) + length x.uses ≤ uses_in os
 without_uses q i k x [] e f = cc
 without_uses q i k x (o ∷ os) e f = by_case (holds o i) refl k e (λ k e. without_uses q i k x os e f)
   where
-    more : uses_in (filter q os) + length x.uses ≤ uses_in os → uses_in (filter q (o ∷ os)) + length x.uses ≤ length o.uses + uses_in os
-    more h = elim (q o) as (λ b. uses_in (cond b (o ∷ filter q os) (filter q os)) + length x.uses ≤ length o.uses + uses_in os) [ true ↦ omega (arith, h) | false ↦ omega (arith, h) ]
+    more : uses_in (filter q os) + length x.uses ≤ uses_in os
+        → uses_in (filter q (o ∷ os)) + length x.uses ≤ length o.uses + uses_in os
+    more h =
+        elim (q o) as (λ b. uses_in (cond b (o ∷ filter q os) (filter q os)) + length x.uses ≤ length o.uses + uses_in
+        os) [ true ↦ omega (arith, h) | false ↦ omega (arith, h) ]
 
-    by_case : (b : Bool) → holds o i ≡ b → (k : ℕ) → slice_get (cond (holds o i) (o ∷ holding i os) (holding i os)) k ≡ Some x → ((k : ℕ) → slice_get (holding i os) k ≡ Some x → uses_in (filter q os) + length x.uses ≤ uses_in os) →
+    by_case : (b : Bool) → holds o i ≡ b → (k : ℕ)
+        → slice_get (cond (holds o i) (o ∷ holding i os) (holding i os)) k ≡ Some x
+        → ((k : ℕ) → slice_get (holding i os) k ≡ Some x → uses_in (filter q os) + length x.uses ≤ uses_in os) →
         uses_in (filter q (o ∷ os)) + length x.uses ≤ length o.uses + uses_in os
-    by_case false h k e later = more (later k (subst (λ b. slice_get (cond b (o ∷ holding i os) (holding i os)) k ≡ Some x) h e))
+    by_case false h k e later =
+        more (later k (subst (λ b. slice_get (cond b (o ∷ holding i os) (holding i os)) k ≡ Some x) h e))
     by_case true h zero e later =
-        let first : slice_get (o ∷ holding i os) 0 ≡ Some x = subst (λ b. slice_get (cond b (o ∷ holding i os) (holding i os)) 0 ≡ Some x) h e in
+        let first : slice_get (o ∷ holding i os) 0 ≡ Some x =
+        subst (λ b. slice_get (cond b (o ∷ holding i os) (holding i os)) 0 ≡ Some x) h e in
         let same : o ≡ x = cc in
         let goes : q o ≡ false = ap q same ∙ f in
         rw goes (omega (arith, fewer_uses q os, ap (λ (y : Numbered). length y.uses) same))
-    by_case true h (suc k) e later = more (later k (subst (λ b. slice_get (cond b (o ∷ holding i os) (holding i os)) (suc k) ≡ Some x) h e))
+    by_case true h (suc k) e later =
+        more (later k (subst (λ b. slice_get (cond b (o ∷ holding i os) (holding i os)) (suc k) ≡ Some x) h e))
 
 open_is : (p : Puzzle) (t : List Move) → length (open_items p t) ≡ length (residual_of p t).items
 open_is p t = sym (length-map (open_items p t) (wanted_at p t))
@@ -78,17 +110,28 @@ open_is p t = sym (length-map (open_items p t) (wanted_at p t))
 -- ---- nodes
 
 pub sparing_first : (p : Puzzle) → IsSparing p []
-sparing_first p = omega (arith, uses_whole 1 p.options, length-filter-le (λ i. is_open i []) (range_with_len 1 (primary_count p)), length-range_with_len 1 (primary_count p))
+sparing_first p =
+    omega (
+      arith,
+      uses_whole 1 p.options,
+      length-filter-le (λ i. is_open i []) (range_with_len 1 (primary_count p)),
+      length-range_with_len 1 (primary_count p),
+    )
 
-pub sparing_taken : (p : Puzzle) (t : List Move) (i k m : ℕ) (x : Numbered) → IsSparing p t → slice_get (holding i (left p t)) k ≡ Some x → holds x i ≡ true → place_in i x.uses < length x.uses →
-    residual_of p (after_uses p (others i x.uses) (tweaked m i (after_spend p i t))) ≡ pick (residual_of p t) i x → IsSparing p (after_uses p (others i x.uses) (tweaked m i (after_spend p i t)))
+pub sparing_taken : (p : Puzzle) (t : List Move) (i k m : ℕ) (x : Numbered) → IsSparing p t
+    → slice_get (holding i (left p t)) k ≡ Some x → holds x i ≡ true → place_in i x.uses < length x.uses →
+    residual_of p (after_uses p (others i x.uses) (tweaked m i (after_spend p i t))) ≡ pick (residual_of p t) i x
+    → IsSparing p (after_uses p (others i x.uses) (tweaked m i (after_spend p i t)))
 sparing_taken p t i k m x s e held within r =
     let ground = tweaked m i (after_spend p i t) in
     let u = after_uses p (others i x.uses) ground in
     let itself : leb x.number x.number ≡ true = le-leb x.number x.number (omega arith) in
-    let goes : (not (holds x i && nat_le x.number x.number) && stays (residual_of p t) x x) ≡ false = rw (held, itself) refl in
-    let items : length (residual_of p u).items ≡ length (pick (residual_of p t) i x).items = ap (λ (r : Residual). length r.items) r in
-    let options : uses_in (left p u) ≡ uses_in (pick (residual_of p t) i x).options = ap (λ (r : Residual). uses_in r.options) r in
+    let goes : (not (holds x i && nat_le x.number x.number) && stays (residual_of p t) x x) ≡ false =
+    rw (held, itself) refl in
+    let items : length (residual_of p u).items ≡ length (pick (residual_of p t) i x).items =
+    ap (λ (r : Residual). length r.items) r in
+    let options : uses_in (left p u) ≡ uses_in (pick (residual_of p t) i x).options =
+    ap (λ (r : Residual). uses_in r.options) r in
     omega (
       arith,
       s,
@@ -102,16 +145,21 @@ sparing_taken p t i k m x s e held within r =
       length-filter-le (λ w. nat_lt 0 w.high) (map (spend_one x) (wanted_after p t)),
       length-map (wanted_after p t) (spend_one x),
       options,
-      without_uses (λ o. not (holds o i && nat_le o.number x.number) && stays (residual_of p t) x o) i k x (left p t) e goes,
+      without_uses (λ o. not (holds o i && nat_le o.number x.number) && stays (residual_of p t) x o) i k x (left p t)
+          e goes,
     )
 
-pub sparing_none : (p : Puzzle) (t : List Move) (i m : ℕ) → IsSparing p t → branch_item (residual_of p t) ≡ Some (wanted_at p t i) →
-    residual_of p (after_none i (tweaked m i (after_spend p i t))) ≡ none (residual_of p t) i → IsSparing p (after_none i (tweaked m i (after_spend p i t)))
+pub sparing_none : (p : Puzzle) (t : List Move) (i m : ℕ) → IsSparing p t
+    → branch_item (residual_of p t) ≡ Some (wanted_at p t i) →
+    residual_of p (after_none i (tweaked m i (after_spend p i t))) ≡ none (residual_of p t) i
+    → IsSparing p (after_none i (tweaked m i (after_spend p i t)))
 sparing_none p t i m s b r =
     let ground = tweaked m i (after_spend p i t) in
     let u = after_none i ground in
-    let items : length (residual_of p u).items ≡ length (none (residual_of p t) i).items = ap (λ (r : Residual). length r.items) r in
-    let options : uses_in (left p u) ≡ uses_in (none (residual_of p t) i).options = ap (λ (r : Residual). uses_in r.options) r in
+    let items : length (residual_of p u).items ≡ length (none (residual_of p t) i).items =
+    ap (λ (r : Residual). length r.items) r in
+    let options : uses_in (left p u) ≡ uses_in (none (residual_of p t) i).options =
+    ap (λ (r : Residual). uses_in r.options) r in
     omega (
       arith,
       s,
@@ -122,11 +170,21 @@ sparing_none p t i m s b r =
       open_is p t,
       items,
       options,
-      less_items (wanted_at p t i) (wanted_after p t) (least_is_one (branch_count (residual_of p t)) (wanted_after p t) (wanted_at p t i) b),
+      less_items (wanted_at p t i) (wanted_after p t)
+          (least_is_one (branch_count (residual_of p t)) (wanted_after p t) (wanted_at p t i) b),
       fewer_uses (λ o. not (holds o i)) (left p t),
     )
 
 -- also while a level is open and no branch was begun
-pub sparing_after_spend : (p : Puzzle) (t : List Move) (i : ℕ) → IsSparing p t → branch_item (residual_of p t) ≡ Some (wanted_at p t i) → spendings (after_spend p i t) ≤ use_count p.options + primary_count p
+pub sparing_after_spend : (p : Puzzle) (t : List Move) (i : ℕ) → IsSparing p t
+    → branch_item (residual_of p t) ≡ Some (wanted_at p t i)
+    → spendings (after_spend p i t) ≤ use_count p.options + primary_count p
 sparing_after_spend p t i s b =
-    omega (arith, s, spent_after_spend p i t, open_is p t, less_items (wanted_at p t i) (wanted_after p t) (least_is_one (branch_count (residual_of p t)) (wanted_after p t) (wanted_at p t i) b))
+    omega (
+      arith,
+      s,
+      spent_after_spend p i t,
+      open_is p t,
+      less_items (wanted_at p t i) (wanted_after p t)
+          (least_is_one (branch_count (residual_of p t)) (wanted_after p t) (wanted_at p t i) b),
+    )

@@ -17,5 +17,6 @@ all_moves (Tweak j ∷ t) = omega (arith, all_moves t)
 all_moves (Spend j ∷ t) = omega (arith, all_moves t)
 
 -- a trail of a search has room
-pub has_room : (p : Puzzle) (t : List Move) → AreLegal p t → spendings t ≤ use_count p.options + primary_count p → length t ≤ room_for p
+pub has_room : (p : Puzzle) (t : List Move) → AreLegal p t → spendings t ≤ use_count p.options + primary_count p
+    → length t ≤ room_for p
 has_room p t l s = omega (arith, all_moves t, few_closings p t l, few_tweakings p t l, s)

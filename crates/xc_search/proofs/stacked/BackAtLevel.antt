@@ -1,5 +1,6 @@
 -- Back at a level, and its end.
-use Rattle.std.proofs.Common.{suc, ◌≡◌, ◌+◌, ◌<◌, ◌≤◌, List, [], ◌∷◌, ◌++◌, length, take, drop, sym, ap, ap₂, ◌∙◌, arith, subst, length-append}
+use Rattle.std.proofs.Common.{suc, ◌≡◌, ◌+◌, ◌<◌, ◌≤◌, List, [], ◌∷◌, ◌++◌, length, take, drop, sym, ap, ap₂, ◌∙◌}
+use Rattle.std.proofs.Common.{arith, subst, length-append}
 use Rattle.std.proofs.lemmas.List.{take_at, length-replicate}
 use Rattle.std.specs.Prelude.{replicate}
 use Rattle.xc_dance.specs.declared.dance.Move.{Move}
@@ -10,7 +11,8 @@ use Rattle.xc_search.specs.Listing.{branch_count}
 use Rattle.xc_dance.specs.Moves.{AreTweaks}
 use Rattle.xc_search.specs.Residuals.{wanted_at}
 use Rattle.xc_search.specs.inner.Residual.{residual_of}
-use Rattle.xc_search.specs.inner.Levels.{branches_at, members_of, IsLevelAt, IsLevel, IsShallow, AreStacked, choices_of, to_give}
+use Rattle.xc_search.specs.inner.Levels.{branches_at, members_of, IsLevelAt, IsLevel, IsShallow, AreStacked, choices_of}
+use Rattle.xc_search.specs.inner.Levels.{to_give}
 use Rattle.xc_dance.specs.Commits.{after_spend}
 use Rattle.xc_search.specs.inner.Commits.{oldest, tweaked}
 use Rattle.xc_search.specs.inner.Ahead.{cost, work, visits}
@@ -19,7 +21,8 @@ use Rattle.xc_search.proofs.listing.BranchLists.{branches_end}
 use Rattle.xc_search.proofs.stacked.NextLevel.{ext_after_spend, ext_longer, length-oldest, oldest-oldest, branches_here}
 
 pub returned : (p : Puzzle) (t : List Move) (l : Level) (ls : List Level) → AreStacked p t (l ∷ ls) →
-    AreStacked p (oldest l.base t) (l ∷ ls) × (to_give p (oldest l.base t) (l ∷ ls) ≡ to_give p t (l ∷ ls)) × (visits p (oldest l.base t) (l ∷ ls) ≡ visits p t (l ∷ ls)) × (l.base ≡ length (oldest l.base t))
+    AreStacked p (oldest l.base t) (l ∷ ls) × (to_give p (oldest l.base t) (l ∷ ls) ≡ to_give p t (l ∷ ls))
+    × (visits p (oldest l.base t) (l ∷ ls) ≡ visits p t (l ∷ ls)) × (l.base ≡ length (oldest l.base t))
 returned p t l ls stacked =
     let is_level = stacked.0 in
     let s = oldest l.base t in
@@ -47,25 +50,37 @@ returned p t l ls stacked =
     )
 
 -- a level whose branches were all begun gives nothing more
-pub finished : (p : Puzzle) (t : List Move) (l : Level) (ls : List Level) → AreStacked p t (l ∷ ls) → l.count ≤ l.begun →
+pub finished : (p : Puzzle) (t : List Move) (l : Level) (ls : List Level) → AreStacked p t (l ∷ ls)
+    → l.count ≤ l.begun →
     (to_give p t (l ∷ ls) ≡ to_give p (oldest l.mark t) ls) × (visits p (oldest l.mark t) ls < visits p t (l ∷ ls))
 finished p t l ls stacked h =
     let is_level = stacked.0 in
     let u = oldest l.mark t in
     let w = wanted_at p u l.item in
     let all : l.begun ≡ branch_count (residual_of p u) w = omega (arith, is_level.count, is_level.begun, h) in
-    let none : drop l.begun (branches_at p u) ≡ [] = ap₂ (λ n bs. drop n bs) all (branches_here p u w is_level.branch) ∙ branches_end (residual_of p u) w in
+    let none : drop l.begun (branches_at p u) ≡ [] =
+    ap₂ (λ n bs. drop n bs) all (branches_here p u w is_level.branch) ∙ branches_end (residual_of p u) w in
     (ap (λ bs. members_of (choices_of p ls) bs ++ to_give p u ls) none, omega arith)
 
 -- its tweaks are the newest moves
-pub closing : (p : Puzzle) (t : List Move) (l : Level) → IsLevel p t l → l.base ≡ length t → (0 < l.tweaks → AreTweaks l.tweaks t) × (l.mark + l.tweaks ≤ length t)
+pub closing : (p : Puzzle) (t : List Move) (l : Level) → IsLevel p t l → l.base ≡ length t
+    → (0 < l.tweaks → AreTweaks l.tweaks t) × (l.mark + l.tweaks ≤ length t)
 closing p t l is_level whole =
     let u = oldest l.mark t in
     let s = after_spend p l.item u in
     let t_is : t ≡ tweaked l.tweaks l.item s = sym (ap (λ n. oldest n t) whole ∙ oldest_all t) ∙ is_level.base in
-    let long : length t ≡ l.tweaks + length s = ap length t_is ∙ length-append (replicate l.tweaks (Tweak l.item)) s ∙ ap (λ n. n + length s) (length-replicate l.tweaks (Tweak l.item)) in
+    let long : length t ≡ l.tweaks + length s = ap length t_is ∙ length-append (replicate l.tweaks (Tweak l.item)) s
+    ∙ ap (λ n. n + length s) (length-replicate l.tweaks (Tweak l.item)) in
     let mark_is : length u ≡ l.mark = length-oldest l.mark t (omega (arith, is_level.within)) in
     let longer = ext_longer s u (ext_after_spend p l.item u) in (
-      (λ h. (h, omega (arith, long), (l.item, ap (take l.tweaks) t_is ∙ take_at (replicate l.tweaks (Tweak l.item)) s l.tweaks (length-replicate l.tweaks (Tweak l.item))))),
+      (λ h. (
+        h,
+        omega (arith, long),
+        (
+          l.item,
+          ap (take l.tweaks) t_is
+              ∙ take_at (replicate l.tweaks (Tweak l.item)) s l.tweaks (length-replicate l.tweaks (Tweak l.item)),
+        ),
+      )),
       omega (arith, long, longer, mark_is),
     )

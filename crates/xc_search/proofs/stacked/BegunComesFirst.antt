@@ -1,36 +1,50 @@
 -- Once a branch was begun, what it leaves comes first.
-use Rattle.std.proofs.Common.{suc, ◌≡◌, ◌<◌, true, List, [], ◌∷◌, ◌++◌, map, drop, reverse, sym, ap, ap₂, ◌∙◌, arith, subst, append_assoc}
+use Rattle.std.proofs.Common.{suc, ◌≡◌, ◌<◌, true, List, [], ◌∷◌, ◌++◌, map, drop, reverse, sym, ap, ap₂, ◌∙◌, arith}
+use Rattle.std.proofs.Common.{subst, append_assoc}
 use Rattle.std.proofs.lemmas.List.{reverse-append, map-append}
 use Rattle.xc_dance.specs.declared.dance.Move.{Move}
 use Rattle.xc_search.specs.declared.level.Level.{Level}
 use Rattle.xc_input.specs.Problem.{Puzzle}
 use Rattle.xc_search.specs.Listing.{listing}
 use Rattle.xc_search.specs.inner.Residual.{residual_of}
-use Rattle.xc_search.specs.inner.Levels.{branches_at, members_of, IsShallow, AreStacked, chosen, choices_of, to_give, coming, IsBegun}
+use Rattle.xc_search.specs.inner.Levels.{branches_at, members_of, IsShallow, AreStacked, chosen, choices_of, to_give}
+use Rattle.xc_search.specs.inner.Levels.{coming, IsBegun}
 use Rattle.xc_search.specs.inner.Commits.{oldest}
 use Rattle.xc_search.specs.inner.Ahead.{cost, work, visits, ahead}
 use Rattle.xc_input.proofs.lists.Filters.{map-same}
 use Rattle.xc_input.proofs.lists.Places.{drop_at}
 
-pub choices_more : (p : Puzzle) (k : Level) (ls : List Level) → choices_of p (k ∷ ls) ≡ choices_of p ls ++ chosen p k ∷ []
+pub choices_more : (p : Puzzle) (k : Level) (ls : List Level)
+    → choices_of p (k ∷ ls) ≡ choices_of p ls ++ chosen p k ∷ []
 choices_more p k ls = ap (map (chosen p)) (reverse-append (k ∷ []) ls) ∙ map-append (chosen p) (reverse ls) (k ∷ [])
 
-pub begun_coming : (p : Puzzle) (t s : List Move) (l k : Level) (ls : List Level) → AreStacked p t (l ∷ ls) → IsBegun p t l s k →
-    (coming p s (k ∷ ls) true ≡ to_give p t (l ∷ ls)) × AreStacked p s (k ∷ ls) × (ahead p s (k ∷ ls) true < visits p t (l ∷ ls))
+pub begun_coming : (p : Puzzle) (t s : List Move) (l k : Level) (ls : List Level) → AreStacked p t (l ∷ ls)
+    → IsBegun p t l s k →
+    (coming p s (k ∷ ls) true ≡ to_give p t (l ∷ ls)) × AreStacked p s (k ∷ ls)
+    × (ahead p s (k ∷ ls) true < visits p t (l ∷ ls))
 begun_coming p t s l k ls stacked b =
     let u = oldest l.mark t in
     let before = choices_of p ls in
     let rest = drop (suc l.begun) (branches_at p u) in
     let next : drop l.begun (branches_at p u) ≡ b.branch ∷ rest = drop_at (branches_at p u) l.begun b.branch b.at in
     let under : oldest k.mark s ≡ u = ap (λ n. oldest n s) b.mark ∙ b.below in
-    let still : drop k.begun (branches_at p (oldest k.mark s)) ≡ rest = ap₂ (λ n v. drop n (branches_at p v)) b.begun under in
-    let one : map (λ m. choices_of p (k ∷ ls) ++ m) (listing (residual_of p s)) ≡ map (λ m. before ++ b.branch.choice ∷ m) (listing b.branch.next) =
+    let still : drop k.begun (branches_at p (oldest k.mark s)) ≡ rest =
+    ap₂ (λ n v. drop n (branches_at p v)) b.begun under in
+    let one : map (λ m. choices_of p (k ∷ ls) ++ m) (listing (residual_of p s)) ≡ map
+    (λ m. before ++ b.branch.choice ∷ m) (listing b.branch.next) =
     ap (λ r. map (λ m. choices_of p (k ∷ ls) ++ m) (listing r)) b.next
     ∙ map-same (λ m. choices_of p (k ∷ ls) ++ m) (λ m. before ++ b.branch.choice ∷ m) (listing b.branch.next)
-    (λ m. ap (λ c. c ++ m) (choices_more p k ls) ∙ append_assoc before (chosen p k ∷ []) m ∙ ap (λ c. before ++ c ∷ m) b.choice) in (
+    (λ m. ap (λ c. c ++ m) (choices_more p k ls) ∙ append_assoc before (chosen p k ∷ []) m
+    ∙ ap (λ c. before ++ c ∷ m) b.choice) in (
       ap₂ (λ x y. x ++ y) one (ap₂ (λ bs v. members_of before bs ++ to_give p v ls) still under)
-          ∙ sym (append_assoc (map (λ m. before ++ b.branch.choice ∷ m) (listing b.branch.next)) (members_of before rest) (to_give p u ls))
+          ∙ sym (append_assoc (map (λ m. before ++ b.branch.choice ∷ m) (listing b.branch.next))
+          (members_of before rest) (to_give p u ls))
           ∙ ap (λ bs. members_of before bs ++ to_give p u ls) (sym next),
-      (b.level, subst (λ v. IsShallow p v ls) (sym under) stacked.1, subst (λ v. AreStacked p v ls) (sym under) stacked.2),
+      (
+        b.level,
+        subst (λ v. IsShallow p v ls) (sym under) stacked.1,
+        subst (λ v. AreStacked p v ls) (sym under)
+            stacked.2,
+      ),
       omega (arith, ap (cost work) next, ap (cost work) still, ap work b.next, ap (λ v. visits p v ls) under),
     )

@@ -35,13 +35,22 @@ spent_above (Tweak j ∷ ms) t = spent_above ms t
 spent_above (Spend j ∷ ms) t = omega (arith, spent_above ms t)
 
 spent_oldest : (n : ℕ) (t : List Move) → spendings (oldest n t) ≤ spendings t
-spent_oldest n t = omega (arith, spent_above (take (length t - n) t) (oldest n t), ap spendings (take-append-drop (length t - n) t))
+spent_oldest n t =
+    omega (arith, spent_above (take (length t - n) t) (oldest n t), ap spendings (take-append-drop (length t - n) t))
 
 pub depth : (p : Puzzle) (t : List Move) (ls : List Level) → AreStacked p t ls → length ls ≤ spendings t
 depth p t [] s = omega arith
 depth p t (l ∷ ls) s =
     let u = oldest l.mark t in
-    omega (arith, depth p u ls s.2, spent_oldest l.base t, ap spendings s.0.base, spent_tweaked l.tweaks l.item (after_spend p l.item u), spent_after_spend p l.item u)
+    omega (
+      arith,
+      depth p u ls s.2,
+      spent_oldest l.base t,
+      ap spendings s.0.base,
+      spent_tweaked l.tweaks l.item
+          (after_spend p l.item u),
+      spent_after_spend p l.item u,
+    )
 
 pub shallow_first : (p : Puzzle) → IsShallow p [] []
 shallow_first p =
@@ -54,17 +63,40 @@ shallow_first p =
     )
 
 -- a branch leaves less than there was at its level
-pub shallower : (p : Puzzle) (t s : List Move) (l k : Level) (ls : List Level) → AreStacked p t (l ∷ ls) → IsBegun p t l s k → IsShallow p s (k ∷ ls)
+pub shallower : (p : Puzzle) (t s : List Move) (l k : Level) (ls : List Level) → AreStacked p t (l ∷ ls)
+    → IsBegun p t l s k → IsShallow p s (k ∷ ls)
 shallower p t s l k ls stacked b =
     let r = residual_of p (oldest l.mark t) in
     let w = wanted_at p (oldest l.mark t) l.item in
     let there = sym (ap (λ bs. slice_get bs l.begun) (branches_here p (oldest l.mark t) w stacked.0.branch)) ∙ b.at in
-    omega (arith, stacked.1, each_at (λ b. size_of b.next < size_of r) (branches_of r w) l.begun b.branch (branches_less r w stacked.0.branch) there, ap size_of b.next)
+    omega (
+      arith,
+      stacked.1,
+      each_at (λ b. size_of b.next < size_of r) (branches_of r w) l.begun b.branch
+          (branches_less r w stacked.0.branch) there,
+      ap size_of b.next,
+    )
 
 -- what has a branch item isn't empty
-some_left : (p : Puzzle) (t : List Move) (i : ℕ) → branch_item (residual_of p t) ≡ Some (wanted_at p t i) → 0 < size_of (residual_of p t)
-some_left p t i b = omega (arith, less_items (wanted_at p t i) (wanted_after p t) (least_is_one (branch_count (residual_of p t)) (wanted_after p t) (wanted_at p t i) b))
+some_left : (p : Puzzle) (t : List Move) (i : ℕ) → branch_item (residual_of p t) ≡ Some (wanted_at p t i)
+    → 0 < size_of (residual_of p t)
+some_left p t i b =
+    omega (
+      arith,
+      less_items (wanted_at p t i) (wanted_after p t)
+          (least_is_one (branch_count (residual_of p t)) (wanted_after p t) (wanted_at p t i) b),
+    )
 
 -- before another level is begun there is room for it
-pub depth_at : (p : Puzzle) (t : List Move) (ls : List Level) (i : ℕ) → AreStacked p t ls → IsShallow p t ls → IsNode p t i → branch_item (residual_of p t) ≡ Some (wanted_at p t i) → length ls < most_levels p
-depth_at p t ls i s h n b = omega (arith, h, some_left p t i b, depth p t ls s, spent_after_spend p i t, few_spendings p (after_spend p i t) (legal_node p i t n))
+pub depth_at : (p : Puzzle) (t : List Move) (ls : List Level) (i : ℕ) → AreStacked p t ls → IsShallow p t ls
+    → IsNode p t i → branch_item (residual_of p t) ≡ Some (wanted_at p t i) → length ls < most_levels p
+depth_at p t ls i s h n b =
+    omega (
+      arith,
+      h,
+      some_left p t i b,
+      depth p t ls s,
+      spent_after_spend p i t,
+      few_spendings p (after_spend p i t)
+          (legal_node p i t n),
+    )

@@ -1,5 +1,6 @@
 -- The next branch of a level.
-use Rattle.std.proofs.Common.{ℕ, suc, ◌≡◌, ◌≢◌, ◌+◌, ◌-◌, ◌<◌, ◌≤◌, Bool, true, false, cond, eqb, List, ◌∷◌, length, min, Some, None, refl, sym, ap, ap₂, ◌∙◌, arith, subst, eqb-true}
+use Rattle.std.proofs.Common.{ℕ, suc, ◌≡◌, ◌≢◌, ◌+◌, ◌-◌, ◌<◌, ◌≤◌, Bool, true, false, cond, eqb, List, ◌∷◌, length}
+use Rattle.std.proofs.Common.{min, Some, None, refl, sym, ap, ap₂, ◌∙◌, arith, subst, eqb-true}
 use Rattle.std.proofs.lemmas.Option.{slice_get_within}
 use Rattle.std.specs.Prelude.{slice_get, option_map, replicate}
 use Rattle.xc_search.specs.declared.choice.Choice.{Choice}
@@ -21,7 +22,9 @@ use Rattle.xc_search.proofs.moves.OldestMoves.{oldest_all}
 use Rattle.xc_search.proofs.listing.BranchLists.{branch_takes, branch_none}
 use Rattle.xc_search.proofs.moves.BranchMoves.{taken, none_taken, legal_after_none, none_wanted}
 use Rattle.xc_search.proofs.moves.LegalTweaks.{legal_branch}
-use Rattle.xc_search.proofs.stacked.NextLevel.{at_own, own_place, Extends, ext_trans, ext_after_spend, ext_uses, ext_after_none, ext_oldest, ext_whole, ext_longer, length-oldest, branches_here}
+use Rattle.xc_search.proofs.stacked.NextLevel.{at_own, own_place, Extends, ext_trans, ext_after_spend, ext_uses}
+use Rattle.xc_search.proofs.stacked.NextLevel.{ext_after_none, ext_oldest, ext_whole, ext_longer, length-oldest}
+use Rattle.xc_search.proofs.stacked.NextLevel.{branches_here}
 
 ext_tweaked : (m i : ℕ) (s : List Move) → Extends (tweaked m i s) s
 ext_tweaked m i s = (replicate m (Tweak i), refl)
@@ -35,16 +38,30 @@ covered_walks p u i e = by_case (eqb (high_at p i - spends i (Spend i ∷ u)) 0)
 
 -- the level after the option at place q was taken, with m tweaks, where n moves stand before the branch
 abbrev pub with_option : ℕ → Level → ℕ → ℕ → Level
-with_option n l m q = record { mark = l.mark; base = n; item = l.item; place = q; begun = l.begun + 1; count = l.count; tweaks = m; walks = l.walks }
+with_option n l m q =
+    record {
+      mark = l.mark;
+      base = n;
+      item = l.item;
+      place = q;
+      begun = l.begun + 1;
+      count = l.count;
+      tweaks = m;
+      walks = l.walks;
+    }
 
-pub begins_take : (p : Puzzle) (t : List Move) (l : Level) (x : Numbered) (m q : ℕ) → IsLevel p t l → l.begun < l.count → option_at p l.item q ≡ Some x.number → IsPlace p l.item q →
+pub begins_take : (p : Puzzle) (t : List Move) (l : Level) (x : Numbered) (m q : ℕ) → IsLevel p t l → l.begun < l.count
+    → option_at p l.item q ≡ Some x.number → IsPlace p l.item q →
     slice_get (options_at p (oldest l.mark t) l.item) l.begun ≡ Some x → m ≡ cond l.walks l.tweaks (l.tweaks + 1) →
-    IsBegun p t l (after_uses p (others l.item x.uses) (tweaked m l.item (after_spend p l.item (oldest l.mark t)))) (with_option (length (tweaked m l.item (after_spend p l.item (oldest l.mark t)))) l m q)
+    IsBegun p t l (after_uses p (others l.item x.uses) (tweaked m l.item (after_spend p l.item (oldest l.mark t))))
+    (with_option (length (tweaked m l.item (after_spend p l.item (oldest l.mark t)))) l m q)
 begins_take p t l x m q is_level more at place e hm = by_case l.walks refl
   where
-    begins : (m ≤ suc l.begun) → (high_at p l.item - spends l.item (Spend l.item ∷ oldest l.mark t) ≢ 0 → m ≡ suc l.begun) →
+    begins : (m ≤ suc l.begun)
+        → (high_at p l.item - spends l.item (Spend l.item ∷ oldest l.mark t) ≢ 0 → m ≡ suc l.begun) →
         m ≡ cond l.walks 0 (min (l.begun + 1) (length (options_at p (oldest l.mark t) l.item))) →
-        IsBegun p t l (after_uses p (others l.item x.uses) (tweaked m l.item (after_spend p l.item (oldest l.mark t)))) (with_option (length (tweaked m l.item (after_spend p l.item (oldest l.mark t)))) l m q)
+        IsBegun p t l (after_uses p (others l.item x.uses) (tweaked m l.item (after_spend p l.item (oldest l.mark t))))
+        (with_option (length (tweaked m l.item (after_spend p l.item (oldest l.mark t)))) l m q)
     begins le h tw =
         let u = oldest l.mark t in
         let r = residual_of p u in
@@ -52,20 +69,25 @@ begins_take p t l x m q is_level more at place e hm = by_case l.walks refl
         let ground = tweaked m l.item (after_spend p l.item u) in
         let s = after_uses p (others l.item x.uses) ground in
         let took = taken p u l.item l.begun m x is_level.node e h le in
-        let ext_ground : Extends ground u = ext_trans ground (after_spend p l.item u) u (ext_tweaked m l.item (after_spend p l.item u)) (ext_after_spend p l.item u) in
+        let ext_ground : Extends ground u =
+        ext_trans ground (after_spend p l.item u) u (ext_tweaked m l.item (after_spend p l.item u))
+        (ext_after_spend p l.item u) in
         let ext_s : Extends s ground = ext_uses p (others l.item x.uses) ground in
         let mark_is : length u ≡ l.mark = length-oldest l.mark t (omega (arith, is_level.within)) in
-        let under : oldest l.mark s ≡ u = ap (λ n. oldest n s) (sym mark_is) ∙ ext_whole s u (ext_trans s ground u ext_s ext_ground) in
+        let under : oldest l.mark s ≡ u =
+        ap (λ n. oldest n s) (sym mark_is) ∙ ext_whole s u (ext_trans s ground u ext_s ext_ground) in
         let b = take_branch r l.item (branch_count r w) (1 + l.begun, x) in
         let next : 1 + l.begun ≡ l.begun + 1 = omega arith in
         let n_is : l.count ≡ branch_count r w = is_level.count in
         let k = with_option (length ground) l m q in
         let it_is : chosen p k ≡ b.choice =
         ap (λ o. let choice : Choice = record { item = l.item; option = o; k = l.begun + 1; n = l.count } in choice) at
-        ∙ ap₂ (λ a c. let choice : Choice = record { item = l.item; option = Some x.number; k = a; n = c } in choice) (sym next) n_is in
+        ∙ ap₂ (λ a c. let choice : Choice = record { item = l.item; option = Some x.number; k = a; n = c } in choice)
+        (sym next) n_is in
         record {
           branch = b;
-          at = ap (λ bs. slice_get bs l.begun) (branches_here p u w is_level.branch) ∙ branch_takes r w l.begun x (omega (arith, more, n_is)) e;
+          at = ap (λ bs. slice_get bs l.begun) (branches_here p u w is_level.branch)
+              ∙ branch_takes r w l.begun x (omega (arith, more, n_is)) e;
           next = took.residual;
           choice = it_is;
           begun = omega arith;
@@ -79,7 +101,9 @@ begins_take p t l x m q is_level more at place e hm = by_case l.walks refl
             begun = omega (arith, more);
             walking = is_level.walking;
             tweaks = tw;
-            option = at ∙ sym (ap (option_map (λ o. o.number)) (numbered_get-at (options_at p u l.item) (l.begun + 1) l.begun refl ∙ e));
+            option =
+                at ∙ sym (ap (option_map (λ o. o.number))
+                (numbered_get-at (options_at p u l.item) (l.begun + 1) l.begun refl ∙ e));
             place = place;
             base = ext_whole s ground ext_s;
           });
@@ -87,11 +111,16 @@ begins_take p t l x m q is_level more at place e hm = by_case l.walks refl
             valid = is_level.node.searchable.valid;
             legal = took.legal;
             wanted = took.wanted;
-            sparing = sparing_taken p u l.item l.begun m x is_level.node.searchable.sparing e took.held took.within took.residual;
+            sparing =
+                sparing_taken p u l.item l.begun m x is_level.node.searchable.sparing e took.held took.within
+                took.residual;
           };
         }
 
-    by_case : (b : Bool) → l.walks ≡ b → IsBegun p t l (after_uses p (others l.item x.uses) (tweaked m l.item (after_spend p l.item (oldest l.mark t)))) (with_option (length (tweaked m l.item (after_spend p l.item (oldest l.mark t)))) l m q)
+    by_case : (b : Bool) → l.walks ≡ b
+        → IsBegun p t l (after_uses p (others l.item x.uses)
+        (tweaked m l.item (after_spend p l.item (oldest l.mark t))))
+        (with_option (length (tweaked m l.item (after_spend p l.item (oldest l.mark t)))) l m q)
     by_case true c =
         let stood : l.tweaks ≡ 0 = is_level.tweaks ∙ rw c refl in
         let m_is : m ≡ 0 = hm ∙ rw c stood in
@@ -99,17 +128,20 @@ begins_take p t l x m q is_level more at place e hm = by_case l.walks refl
         begins (omega (arith, m_is)) (λ h. absurd (h used_up)) (m_is ∙ rw c refl)
     by_case false c =
         let within = slice_get_within (options_at p (oldest l.mark t) l.item) l.begun x e in
-        let stood : l.tweaks ≡ min l.begun (length (options_at p (oldest l.mark t) l.item)) = is_level.tweaks ∙ rw c refl in
+        let stood : l.tweaks ≡ min l.begun (length (options_at p (oldest l.mark t) l.item)) =
+        is_level.tweaks ∙ rw c refl in
         let m_is : m ≡ l.tweaks + 1 = hm ∙ rw c refl in
         let all : m ≡ l.begun + 1 = omega (arith, m_is, stood, within) in
         begins (omega (arith, all)) (λ h. omega (arith, all)) (rw c (omega (arith, all, within)))
 
-pub few_tweaks : (p : Puzzle) (u t : List Move) (l : Level) → IsLevelAt p u t l → l.tweaks ≤ length (options_at p u l.item)
+pub few_tweaks : (p : Puzzle) (u t : List Move) (l : Level) → IsLevelAt p u t l
+    → l.tweaks ≤ length (options_at p u l.item)
 few_tweaks p u t l is_level = by_case l.walks refl
   where
     by_case : (b : Bool) → l.walks ≡ b → l.tweaks ≤ length (options_at p u l.item)
     by_case true c = let stood : l.tweaks ≡ 0 = is_level.tweaks ∙ rw c refl in omega (arith, stood)
-    by_case false c = let stood : l.tweaks ≡ min l.begun (length (options_at p u l.item)) = is_level.tweaks ∙ rw c refl in omega (arith, stood)
+    by_case false c = let stood : l.tweaks ≡ min l.begun (length (options_at p u l.item)) = is_level.tweaks
+        ∙ rw c refl in omega (arith, stood)
 
 same_tweaks : (b : Bool) (k n : ℕ) → k ≡ n → cond b 0 (min k n) ≡ cond b 0 (min (k + 1) n)
 same_tweaks true k n e = refl
@@ -117,7 +149,17 @@ same_tweaks false k n e = omega (arith, e)
 
 -- the level after its branch of none was begun
 abbrev pub with_none : Level → Level
-with_none l = record { mark = l.mark; base = l.base; item = l.item; place = l.item; begun = l.begun + 1; count = l.count; tweaks = l.tweaks; walks = l.walks }
+with_none l =
+    record {
+      mark = l.mark;
+      base = l.base;
+      item = l.item;
+      place = l.item;
+      begun = l.begun + 1;
+      count = l.count;
+      tweaks = l.tweaks;
+      walks = l.walks;
+    }
 
 pub begins_none : (p : Puzzle) (t : List Move) (l : Level) → IsLevel p t l → l.base ≡ length t → l.begun < l.count →
     slice_get (options_at p (oldest l.mark t) l.item) l.begun ≡ None →
@@ -134,13 +176,16 @@ begins_none p t l is_level whole more e =
     let ext_s : Extends s t = ext_after_none l.item t in
     let under : oldest l.mark s ≡ u = ext_oldest l.mark s t ext_s (omega (arith, is_level.within)) in
     let b = none_branch r l.item (branch_count r w) in
-    let left_is : residual_of p s ≡ b.next = ap (λ t. residual_of p (after_none l.item t)) t_is ∙ none_taken p u l.item l.tweaks is_level.node few in
+    let left_is : residual_of p s ≡ b.next =
+    ap (λ t. residual_of p (after_none l.item t)) t_is ∙ none_taken p u l.item l.tweaks is_level.node few in
     let item : IsItem p l.item = (is_level.node.item.0, omega (arith, is_level.node.item.1)) in
     let legal_t : AreLegal p t = subst (AreLegal p) (sym t_is) (legal_branch p l.tweaks l.item u is_level.node few) in
     let k = with_none l in
     let it_is : chosen p k ≡ b.choice =
-    ap (λ o. let choice : Choice = record { item = l.item; option = o; k = l.begun + 1; n = l.count } in choice) (at_own p l.item)
-    ∙ ap₂ (λ a c. let choice : Choice = record { item = l.item; option = None; k = a; n = c } in choice) (omega (arith, last.2)) is_level.count in
+    ap (λ o. let choice : Choice = record { item = l.item; option = o; k = l.begun + 1; n = l.count } in choice)
+    (at_own p l.item)
+    ∙ ap₂ (λ a c. let choice : Choice = record { item = l.item; option = None; k = a; n = c } in choice)
+    (omega (arith, last.2)) is_level.count in
     record {
       branch = b;
       at = ap (λ bs. slice_get bs l.begun) (branches_here p u w is_level.branch) ∙ last.0;
@@ -157,7 +202,9 @@ begins_none p t l is_level whole more e =
         begun = omega (arith, more);
         walking = is_level.walking;
         tweaks = is_level.tweaks ∙ same_tweaks l.walks l.begun (length (options_at p u l.item)) last.1;
-        option = at_own p l.item ∙ sym (ap (option_map (λ o. o.number)) (numbered_get-at (options_at p u l.item) (l.begun + 1) l.begun refl ∙ e));
+        option = at_own p l.item
+            ∙ sym (ap (option_map (λ o. o.number))
+            (numbered_get-at (options_at p u l.item) (l.begun + 1) l.begun refl ∙ e));
         place = own_place p l.item;
         base = ext_oldest l.base s t ext_s (omega (arith, whole)) ∙ is_level.base;
       });
@@ -165,6 +212,9 @@ begins_none p t l is_level whole more e =
         valid = is_level.node.searchable.valid;
         legal = legal_after_none p l.item t item legal_t;
         wanted = subst (λ r. AreAllWanted r.items) (sym left_is) (none_wanted r l.item is_level.node.searchable.wanted);
-        sparing = subst (λ t. IsSparing p (after_none l.item t)) (sym t_is) (sparing_none p u l.item l.tweaks is_level.node.searchable.sparing is_level.branch (none_taken p u l.item l.tweaks is_level.node few));
+        sparing =
+            subst (λ t. IsSparing p (after_none l.item t)) (sym t_is)
+            (sparing_none p u l.item l.tweaks is_level.node.searchable.sparing is_level.branch
+            (none_taken p u l.item l.tweaks is_level.node few));
       };
     }

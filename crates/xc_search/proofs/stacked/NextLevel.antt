@@ -1,5 +1,7 @@
 -- What one step of the search does to the levels.
-use Rattle.std.proofs.Common.{ℕ, zero, suc, ◌≡◌, ◌+◌, ◌-◌, ◌<◌, ◌≤◌, true, false, cond, eqb, leb, List, [], ◌∷◌, ◌++◌, length, map, take, drop, min, Option, Some, None, refl, sym, ap, ap₂, ◌∙◌, arith, subst, eq-eqb, ne_eqb, ◌≢◌, append_assoc, append-nil, length-append, length-drop}
+use Rattle.std.proofs.Common.{ℕ, zero, suc, ◌≡◌, ◌+◌, ◌-◌, ◌<◌, ◌≤◌, true, false, cond, eqb, leb, List, [], ◌∷◌, ◌++◌}
+use Rattle.std.proofs.Common.{length, map, take, drop, min, Option, Some, None, refl, sym, ap, ap₂, ◌∙◌, arith, subst}
+use Rattle.std.proofs.Common.{eq-eqb, ne_eqb, ◌≢◌, append_assoc, append-nil, length-append, length-drop}
 use Rattle.std.specs.Prelude.{option_map, flat_map, unwrap_or, slice_get}
 use Rattle.std.specs.List.{AllByRecursion, range_with_len}
 use Rattle.xc_input.specs.declared.problem.Use.{Use}
@@ -12,7 +14,8 @@ use Rattle.xc_search.specs.Listing.{Wanted, Branch, branches_of, branch_count, b
 use Rattle.xc_dance.specs.Moves.{is_open, spends, open_items, AreLegal}
 use Rattle.xc_search.specs.Residuals.{wanted_at, wanted_after, choice_after}
 use Rattle.xc_search.specs.inner.Residual.{residual_of}
-use Rattle.xc_search.specs.inner.Levels.{branches_at, members_of, IsSearchable, options_at, IsLevelAt, IsShallow, AreStacked, IsPlace, choices_of, to_give, coming, first_level}
+use Rattle.xc_search.specs.inner.Levels.{branches_at, members_of, IsSearchable, options_at, IsLevelAt, IsShallow}
+use Rattle.xc_search.specs.inner.Levels.{AreStacked, IsPlace, choices_of, to_give, coming, first_level}
 use Rattle.xc_dance.specs.Fields.{link_place, layout}
 use Rattle.xc_dance.specs.Commits.{option_at, number_of, after_spend, after_use, after_uses}
 use Rattle.xc_search.specs.inner.Commits.{oldest, after_none, walks}
@@ -42,7 +45,8 @@ oldest-append n (m ∷ ms) t h =
 
 pub oldest-oldest : (m n : ℕ) (t : List Move) → m ≤ n → n ≤ length t → oldest m (oldest n t) ≡ oldest m t
 oldest-oldest m n t h k =
-    sym (ap (oldest m) (sym (take-append-drop (length t - n) t)) ∙ oldest-append m (take (length t - n) t) (oldest n t) (omega (arith, length-oldest n t k, h)))
+    sym (ap (oldest m) (sym (take-append-drop (length t - n) t))
+    ∙ oldest-append m (take (length t - n) t) (oldest n t) (omega (arith, length-oldest n t k, h)))
 
 -- ---- moves on top
 
@@ -53,30 +57,37 @@ pub ext_trans : (r s t : List Move) → Extends r s → Extends s t → Extends 
 ext_trans r s t a b = (a.0 ++ b.0, a.1 ∙ ap (λ x. a.0 ++ x) b.1 ∙ sym (append_assoc a.0 b.0 t))
 
 pub ext_after_spend : (p : Puzzle) (i : ℕ) (t : List Move) → Extends (after_spend p i t) t
-ext_after_spend p i t = elim (eqb (high_at p i - spends i (Spend i ∷ t)) 0) as (λ b. Extends (cond b (Cover i ∷ Spend i ∷ t) (Spend i ∷ t)) t) [
-  | true ↦ (Cover i ∷ Spend i ∷ [], refl)
-  | false ↦ (Spend i ∷ [], refl)
-]
+ext_after_spend p i t =
+    elim (eqb (high_at p i - spends i (Spend i ∷ t)) 0) as
+    (λ b. Extends (cond b (Cover i ∷ Spend i ∷ t) (Spend i ∷ t)) t) [
+      | true ↦ (Cover i ∷ Spend i ∷ [], refl)
+      | false ↦ (Spend i ∷ [], refl)
+    ]
 
 ext_use : (p : Puzzle) (u : Use) (t : List Move) → Extends (after_use p u t) t
 ext_use p u t =
-    elim (leb u.item (primary_count p)) as (λ x. Extends (cond x (after_spend p u.item t) (cond (eqb u.colour 0) (Cover u.item ∷ t) (cond (is_open u.item t) (Purify u.item u.colour ∷ t) t))) t) [
+    elim (leb u.item (primary_count p)) as
+    (λ x. Extends (cond x (after_spend p u.item t)
+    (cond (eqb u.colour 0) (Cover u.item ∷ t) (cond (is_open u.item t) (Purify u.item u.colour ∷ t) t))) t) [
       | true ↦ ext_after_spend p u.item t
-      | false ↦ elim (eqb u.colour 0) as (λ x. Extends (cond x (Cover u.item ∷ t) (cond (is_open u.item t) (Purify u.item u.colour ∷ t) t)) t) [
-        | true ↦ (Cover u.item ∷ [], refl)
-        | false ↦ elim (is_open u.item t) as (λ x. Extends (cond x (Purify u.item u.colour ∷ t) t) t) [
-          | true ↦ (Purify u.item u.colour ∷ [], refl)
-          | false ↦ ([], refl)
-        ]
-      ]
+      | false ↦ elim (eqb u.colour 0) as
+          (λ x. Extends (cond x (Cover u.item ∷ t) (cond (is_open u.item t) (Purify u.item u.colour ∷ t) t)) t) [
+            | true ↦ (Cover u.item ∷ [], refl)
+            | false ↦ elim (is_open u.item t) as (λ x. Extends (cond x (Purify u.item u.colour ∷ t) t) t) [
+              | true ↦ (Purify u.item u.colour ∷ [], refl)
+              | false ↦ ([], refl)
+            ]
+          ]
     ]
 
 pub ext_uses : (p : Puzzle) (us : List Use) (t : List Move) → Extends (after_uses p us t) t
 ext_uses p [] t = ([], refl)
-ext_uses p (u ∷ us) t = ext_trans (after_uses p us (after_use p u t)) (after_use p u t) t (ext_uses p us (after_use p u t)) (ext_use p u t)
+ext_uses p (u ∷ us) t =
+    ext_trans (after_uses p us (after_use p u t)) (after_use p u t) t (ext_uses p us (after_use p u t)) (ext_use p u t)
 
 pub ext_after_none : (i : ℕ) (t : List Move) → Extends (after_none i t) t
-ext_after_none i t = elim (is_open i t) as (λ x. Extends (cond x (Cover i ∷ t) t) t) [ true ↦ (Cover i ∷ [], refl) | false ↦ ([], refl) ]
+ext_after_none i t =
+    elim (is_open i t) as (λ x. Extends (cond x (Cover i ∷ t) t) t) [ true ↦ (Cover i ∷ [], refl) | false ↦ ([], refl) ]
 
 pub ext_oldest : (n : ℕ) (s t : List Move) → Extends s t → n ≤ length t → oldest n s ≡ oldest n t
 ext_oldest n s t e h = ap (oldest n) e.1 ∙ oldest-append n e.0 t h
@@ -91,14 +102,22 @@ ext_longer s t e = omega (arith, ap length e.1, length-append e.0 t)
 
 range_from : (a n : ℕ) → AllByRecursion (λ i. a ≤ i) (range_with_len a n)
 range_from a zero = tt
-range_from a (suc n) = (omega arith, each_weaker (λ i. a + 1 ≤ i) (λ i. a ≤ i) (range_with_len (a + 1) n) (λ i h. omega (arith, h)) (range_from (a + 1) n))
+range_from a (suc n) = (
+  omega arith,
+  each_weaker (λ i. a + 1 ≤ i) (λ i. a ≤ i) (range_with_len (a + 1) n) (λ i h. omega (arith, h))
+      (range_from (a + 1) n),
+)
 
-all_primary : (p : Puzzle) (t : List Move) → AllByRecursion (λ w. IsPrimary p w.item × (is_open w.item t ≡ true)) (wanted_after p t)
+all_primary : (p : Puzzle) (t : List Move)
+    → AllByRecursion (λ w. IsPrimary p w.item × (is_open w.item t ≡ true)) (wanted_after p t)
 all_primary p t =
     let is = range_with_len 1 (primary_count p) in
     each-map (λ w. IsPrimary p w.item × (is_open w.item t ≡ true)) (wanted_at p t) (open_items p t)
-    (each_both (λ i. IsPrimary p i) (λ i. is_open i t ≡ true) (λ i. IsPrimary p i × (is_open i t ≡ true)) (open_items p t) (λ i a b. (a, b))
-    (each-filter (λ i. IsPrimary p i) (λ i. is_open i t) is (each_both (λ i. 1 ≤ i) (λ i. i < 1 + primary_count p) (λ i. IsPrimary p i) is (λ i a b. (a, omega (arith, b))) (range_from 1 (primary_count p)) (in_range 1 (primary_count p))))
+    (each_both (λ i. IsPrimary p i) (λ i. is_open i t ≡ true) (λ i. IsPrimary p i × (is_open i t ≡ true))
+    (open_items p t) (λ i a b. (a, b))
+    (each-filter (λ i. IsPrimary p i) (λ i. is_open i t) is
+    (each_both (λ i. 1 ≤ i) (λ i. i < 1 + primary_count p) (λ i. IsPrimary p i) is (λ i a b. (a, omega (arith, b)))
+    (range_from 1 (primary_count p)) (in_range 1 (primary_count p))))
     (each_passes (λ i. is_open i t) is))
 
 pub record Chosen (p : Puzzle) (t : List Move) (i n : ℕ) : Type 0 where
@@ -110,17 +129,24 @@ pub record Chosen (p : Puzzle) (t : List Move) (i n : ℕ) : Type 0 where
 first_of_pair : (a b : ℕ × ℕ) → Some a ≡ Some b → (a.0 ≡ b.0) × (a.1 ≡ b.1)
 first_of_pair a b e = let same : a ≡ b = cc in (ap (λ (x : ℕ × ℕ). x.0) same, ap (λ (x : ℕ × ℕ). x.1) same)
 
-pub chosen_item : (p : Puzzle) (t : List Move) (i n : ℕ) → AreLegal p t → choice_after p t ≡ Some (i, n) → Chosen p t i n
+pub chosen_item : (p : Puzzle) (t : List Move) (i n : ℕ) → AreLegal p t → choice_after p t ≡ Some (i, n)
+    → Chosen p t i n
 chosen_item p t i n l e = by_case (branch_item (residual_of p t)) refl (sym (choice_is_branch_item p t l) ∙ e)
   where
-    by_case : (o : Option Wanted) → branch_item (residual_of p t) ≡ o → choice_of (residual_of p t) ≡ Some (i, n) → Chosen p t i n
-    by_case None b c = let none : choice_of (residual_of p t) ≡ None = ap (option_map (λ w. (w.item, branch_count (residual_of p t) w))) b in cc (none, c)
+    by_case : (o : Option Wanted) → branch_item (residual_of p t) ≡ o → choice_of (residual_of p t) ≡ Some (i, n)
+        → Chosen p t i n
+    by_case None b c = let none : choice_of (residual_of p t) ≡ None =
+        ap (option_map (λ w. (w.item, branch_count (residual_of p t) w))) b in cc (none, c)
     by_case (Some w) b c =
-        let some : choice_of (residual_of p t) ≡ Some (w.item, branch_count (residual_of p t) w) = ap (option_map (λ w. (w.item, branch_count (residual_of p t) w))) b in
+        let some : choice_of (residual_of p t) ≡ Some (w.item, branch_count (residual_of p t) w) =
+        ap (option_map (λ w. (w.item, branch_count (residual_of p t) w))) b in
         let parts = first_of_pair (w.item, branch_count (residual_of p t) w) (i, n) (sym some ∙ c) in
         let one = least_is_one (branch_count (residual_of p t)) (wanted_after p t) w b in
-        let here = each_in (λ w. IsPrimary p w.item × (is_open w.item t ≡ true)) (wanted_after p t) w (all_primary p t) one in
-        let as_is : w ≡ wanted_at p t i = each_in (λ w. w ≡ wanted_at p t w.item) (wanted_after p t) w (as_spent p t) one ∙ ap (wanted_at p t) parts.0 in
+        let here =
+        each_in (λ w. IsPrimary p w.item × (is_open w.item t ≡ true)) (wanted_after p t) w (all_primary p t) one in
+        let as_is : w ≡ wanted_at p t i =
+        each_in (λ w. w ≡ wanted_at p t w.item) (wanted_after p t) w (as_spent p t) one
+        ∙ ap (wanted_at p t) parts.0 in
         record {
           branch = b ∙ ap Some as_is;
           count = sym parts.1 ∙ ap (branch_count (residual_of p t)) as_is;
@@ -128,30 +154,38 @@ chosen_item p t i n l e = by_case (branch_item (residual_of p t)) refl (sym (cho
           is_open = ap (λ i. is_open i t) (sym parts.0) ∙ here.1;
         }
 
-pub chosen_none : (p : Puzzle) (t : List Move) → AreLegal p t → choice_after p t ≡ None → branch_item (residual_of p t) ≡ None
+pub chosen_none : (p : Puzzle) (t : List Move) → AreLegal p t → choice_after p t ≡ None
+    → branch_item (residual_of p t) ≡ None
 chosen_none p t l e = by_case (branch_item (residual_of p t)) refl (sym (choice_is_branch_item p t l) ∙ e)
   where
-    by_case : (o : Option Wanted) → branch_item (residual_of p t) ≡ o → choice_of (residual_of p t) ≡ None → branch_item (residual_of p t) ≡ None
+    by_case : (o : Option Wanted) → branch_item (residual_of p t) ≡ o → choice_of (residual_of p t) ≡ None
+        → branch_item (residual_of p t) ≡ None
     by_case None b c = b
     by_case (Some w) b c =
-        let some : choice_of (residual_of p t) ≡ Some (w.item, branch_count (residual_of p t) w) = ap (option_map (λ w. (w.item, branch_count (residual_of p t) w))) b in cc (some, c)
+        let some : choice_of (residual_of p t) ≡ Some (w.item, branch_count (residual_of p t) w) =
+        ap (option_map (λ w. (w.item, branch_count (residual_of p t) w))) b in cc (some, c)
 
 -- ---- what is left is searched
 
-pub branches_here : (p : Puzzle) (t : List Move) (w : Wanted) → branch_item (residual_of p t) ≡ Some w → branches_at p t ≡ branches_of (residual_of p t) w
+pub branches_here : (p : Puzzle) (t : List Move) (w : Wanted) → branch_item (residual_of p t) ≡ Some w
+    → branches_at p t ≡ branches_of (residual_of p t) w
 branches_here p t w e = rw e refl
 
 -- no primary item is left: one member, with no more choices
-pub solution : (p : Puzzle) (t : List Move) (ls : List Level) → AreLegal p t → choice_after p t ≡ None → coming p t ls true ≡ choices_of p ls ∷ to_give p t ls
+pub solution : (p : Puzzle) (t : List Move) (ls : List Level) → AreLegal p t → choice_after p t ≡ None
+    → coming p t ls true ≡ choices_of p ls ∷ to_give p t ls
 solution p t ls l e =
-    let one : listing (residual_of p t) ≡ [] ∷ [] = listing_unrolled (residual_of p t) ∙ ap (λ o. level listing o (residual_of p t)) (chosen_none p t l e) in
+    let one : listing (residual_of p t) ≡ [] ∷ [] =
+    listing_unrolled (residual_of p t) ∙ ap (λ o. level listing o (residual_of p t)) (chosen_none p t l e) in
     ap (λ ms. map (λ m. choices_of p ls ++ m) ms ++ to_give p t ls) one
     ∙ ap (λ m. m ∷ to_give p t ls) (append-nil (choices_of p ls))
 
-members_all : (before : List Choice) (bs : List Branch) → map (λ m. before ++ m) (flat_map (λ b. map (λ m. b.choice ∷ m) (listing b.next)) bs) ≡ members_of before bs
+members_all : (before : List Choice) (bs : List Branch)
+    → map (λ m. before ++ m) (flat_map (λ b. map (λ m. b.choice ∷ m) (listing b.next)) bs) ≡ members_of before bs
 members_all before [] = refl
 members_all before (b ∷ bs) =
-    map-append (λ m. before ++ m) (map (λ m. b.choice ∷ m) (listing b.next)) (flat_map (λ b. map (λ m. b.choice ∷ m) (listing b.next)) bs)
+    map-append (λ m. before ++ m) (map (λ m. b.choice ∷ m) (listing b.next))
+    (flat_map (λ b. map (λ m. b.choice ∷ m) (listing b.next)) bs)
     ∙ ap₂ (λ x y. x ++ y) (map-map (λ m. b.choice ∷ m) (λ m. before ++ m) (listing b.next)) (members_all before bs)
 
 -- at an item's own node stands no option
@@ -187,7 +221,8 @@ first_stands p t i n here c =
     }
 
 -- a level is begun
-pub descended : (p : Puzzle) (t : List Move) (ls : List Level) (i n : ℕ) → IsSearchable p t → IsShallow p t ls → Chosen p t i n → AreStacked p t ls →
+pub descended : (p : Puzzle) (t : List Move) (ls : List Level) (i n : ℕ) → IsSearchable p t → IsShallow p t ls
+    → Chosen p t i n → AreStacked p t ls →
     AreStacked p (after_spend p i t) (first_level p t i n ∷ ls)
     × (coming p t ls true ≡ to_give p (after_spend p i t) (first_level p t i n ∷ ls))
     × (visits p (after_spend p i t) (first_level p t i n ∷ ls) < ahead p t ls true)
@@ -197,12 +232,22 @@ descended p t ls i n here sh c stacked =
     let ext = ext_after_spend p i t in
     let under : oldest (length t) s ≡ t = ext_whole s t ext in
     let is_level : IsLevelAt p t s f = first_stands p t i n here c in
-    let unrolled : listing (residual_of p t) ≡ flat_map (λ b. map (λ m. b.choice ∷ m) (listing b.next)) (branches_at p t) =
-    listing_unrolled (residual_of p t) ∙ ap (λ o. level listing o (residual_of p t)) c.branch ∙ ap (flat_map (λ b. map (λ m. b.choice ∷ m) (listing b.next))) (sym (branches_here p t (wanted_at p t i) c.branch)) in
+    let unrolled : listing (residual_of p t) ≡ flat_map (λ b. map (λ m. b.choice ∷ m) (listing b.next))
+    (branches_at p t) =
+    listing_unrolled (residual_of p t) ∙ ap (λ o. level listing o (residual_of p t)) c.branch
+    ∙ ap (flat_map (λ b. map (λ m. b.choice ∷ m) (listing b.next)))
+    (sym (branches_here p t (wanted_at p t i) c.branch)) in
     let worked : work (residual_of p t) ≡ suc (suc (cost work (branches_at p t))) =
-    work_unrolled (residual_of p t) ∙ ap (λ o. work_level work o (residual_of p t)) c.branch ∙ ap (λ bs. suc (suc (cost work bs))) (sym (branches_here p t (wanted_at p t i) c.branch)) in (
-      (subst (λ u. IsLevelAt p u s f) (sym under) is_level, subst (λ u. IsShallow p u ls) (sym under) sh, subst (λ u. AreStacked p u ls) (sym under) stacked),
-      ap (λ ms. map (λ m. choices_of p ls ++ m) ms ++ to_give p t ls) unrolled ∙ ap (λ ms. ms ++ to_give p t ls) (members_all (choices_of p ls) (branches_at p t))
+    work_unrolled (residual_of p t) ∙ ap (λ o. work_level work o (residual_of p t)) c.branch
+    ∙ ap (λ bs. suc (suc (cost work bs))) (sym (branches_here p t (wanted_at p t i) c.branch)) in (
+      (
+        subst (λ u. IsLevelAt p u s f) (sym under) is_level,
+        subst (λ u. IsShallow p u ls) (sym under) sh,
+        subst
+            (λ u. AreStacked p u ls) (sym under) stacked,
+      ),
+      ap (λ ms. map (λ m. choices_of p ls ++ m) ms ++ to_give p t ls) unrolled
+          ∙ ap (λ ms. ms ++ to_give p t ls) (members_all (choices_of p ls) (branches_at p t))
           ∙ ap (λ u. members_of (choices_of p ls) (branches_at p u) ++ to_give p u ls) (sym under),
       omega (arith, worked, ap (λ u. cost work (branches_at p u)) under, ap (λ u. visits p u ls) under),
     )

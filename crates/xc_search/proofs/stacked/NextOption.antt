@@ -1,5 +1,7 @@
 -- The option that a level's next branch takes.
-use Rattle.std.proofs.Common.{inl, inr, cond, Option, ℕ, zero, suc, ◌≡◌, ◌<◌, ◌≤◌, Bool, true, false, ltb, List, [], ◌∷◌, length, map, drop, min, Some, None, refl, sym, ap, ap₂, ◌∙◌, arith, lt-ltb, le-ltb, get_or}
+use Rattle.std.proofs.Common.{inl, inr, cond, Option, ℕ, zero, suc, ◌≡◌, ◌<◌, ◌≤◌, Bool, true, false, ltb, List, []}
+use Rattle.std.proofs.Common.{◌∷◌, length, map, drop, min, Some, None, refl, sym, ap, ap₂, ◌∙◌, arith, lt-ltb, le-ltb}
+use Rattle.std.proofs.Common.{get_or}
 use Rattle.std.proofs.lemmas.Option.{slice_get_within, slice_get-get_or}
 use Rattle.std.proofs.lemmas.List.{length-map}
 use Rattle.std.specs.Prelude.{unwrap_or, slice_get, option_map, Contains}
@@ -22,12 +24,14 @@ abbrev number_of : Numbered → ℕ
 number_of o = o.number
 
 -- of numbers that rise from n the first is the first above n
-first_above : (n : ℕ) (os : List Numbered) → NumbersRise n os → next_above n (map number_of os) ≡ option_map number_of (slice_get os 0)
+first_above : (n : ℕ) (os : List Numbered) → NumbersRise n os
+    → next_above n (map number_of os) ≡ option_map number_of (slice_get os 0)
 first_above n [] r = refl
 first_above n (o ∷ os) r = rw (lt-ltb n o.number r.0) refl
 
 -- above the number at place k is that at the next place
-above_place : (n m : ℕ) (os : List Numbered) (k : ℕ) (y : Numbered) → NumbersRise n os → slice_get os k ≡ Some y → next_above y.number (map number_of os) ≡ option_map number_of (slice_get os (suc k))
+above_place : (n m : ℕ) (os : List Numbered) (k : ℕ) (y : Numbered) → NumbersRise n os → slice_get os k ≡ Some y
+    → next_above y.number (map number_of os) ≡ option_map number_of (slice_get os (suc k))
 above_place n m [] k y r e = cc
 above_place n m (o ∷ os) zero y r e =
     let same : o ≡ y = cc in
@@ -42,30 +46,41 @@ above_place n m (o ∷ os) (suc k) y r e =
 rise_drop : (n m : ℕ) (os : List Numbered) → NumbersRise n os → NumbersRise n (drop m os)
 rise_drop n zero os r = r
 rise_drop n (suc m) [] r = r
-rise_drop n (suc m) (o ∷ os) r = NumbersRise-weaker n o.number (drop m os) (omega (arith, r.0)) (rise_drop o.number m os r.1)
+rise_drop n (suc m) (o ∷ os) r =
+    NumbersRise-weaker n o.number (drop m os) (omega (arith, r.0)) (rise_drop o.number m os r.1)
 
 rises_at : (p : Puzzle) (u : List Move) (i : ℕ) → NumbersRise 0 (options_at p u i)
 rises_at p u i = NumbersRise-filter (λ o. holds o i) 0 (left p u) (left_rises p u)
 
 -- what the level's list is before its next branch
-list_is : (p : Puzzle) (t : List Move) (l : Level) → IsLevel p t l → l.base ≡ length t → listed p t l.item ≡ drop l.tweaks (options_at p (oldest l.mark t) l.item)
+list_is : (p : Puzzle) (t : List Move) (l : Level) → IsLevel p t l → l.base ≡ length t
+    → listed p t l.item ≡ drop l.tweaks (options_at p (oldest l.mark t) l.item)
 list_is p t l is_level whole =
     let u = oldest l.mark t in
-    let t_is : t ≡ tweaked l.tweaks l.item (after_spend p l.item u) = sym (ap (λ n. oldest n t) whole ∙ oldest_all t) ∙ is_level.base in
+    let t_is : t ≡ tweaked l.tweaks l.item (after_spend p l.item u) =
+    sym (ap (λ n. oldest n t) whole ∙ oldest_all t) ∙ is_level.base in
     ap (λ t. listed p t l.item) t_is ∙ listed_branch p l.tweaks l.item u is_level.node
 
-few_begun : (p : Puzzle) (u t : List Move) (l : Level) → IsLevelAt p u t l → l.begun < l.count → l.begun ≤ length (options_at p u l.item)
+few_begun : (p : Puzzle) (u t : List Move) (l : Level) → IsLevelAt p u t l → l.begun < l.count
+    → l.begun ≤ length (options_at p u l.item)
 few_begun p u t l is_level more = omega (arith, is_level.count, more)
 
-some_before : (p : Puzzle) (u t : List Move) (l : Level) (k : ℕ) → IsLevelAt p u t l → l.begun < l.count → l.begun ≡ suc k → (y : Numbered) × (slice_get (options_at p u l.item) k ≡ Some y) × (taken p l ≡ Some y.number)
+some_before : (p : Puzzle) (u t : List Move) (l : Level) (k : ℕ) → IsLevelAt p u t l → l.begun < l.count
+    → l.begun ≡ suc k → (y : Numbered) × (slice_get (options_at p u l.item) k ≡ Some y) × (taken p l ≡ Some y.number)
 some_before p u t l k is_level more e =
     let d : Numbered = record { number = 0; uses = [] } in
     let within : k < length (options_at p u l.item) = omega (arith, few_begun p u t l is_level more, e) in
-    let at : slice_get (options_at p u l.item) k ≡ Some (get_or (options_at p u l.item) k d) = slice_get-get_or (options_at p u l.item) k d within in
-    (get_or (options_at p u l.item) k d, at, is_level.option ∙ ap (option_map (λ o. o.number)) (ap (numbered_get (options_at p u l.item)) e ∙ at))
+    let at : slice_get (options_at p u l.item) k ≡ Some (get_or (options_at p u l.item) k d) =
+    slice_get-get_or (options_at p u l.item) k d within in (
+      get_or (options_at p u l.item) k d,
+      at,
+      is_level.option
+          ∙ ap (option_map (λ o. o.number)) (ap (numbered_get (options_at p u l.item)) e ∙ at),
+    )
 
 -- the first of the list, where it isn't walked or no branch was begun
-pub first_is : (p : Puzzle) (t : List Move) (l : Level) → IsLevel p t l → l.base ≡ length t → l.begun < l.count → (l.walks ≡ true → taken p l ≡ None) →
+pub first_is : (p : Puzzle) (t : List Move) (l : Level) → IsLevel p t l → l.base ≡ length t → l.begun < l.count
+    → (l.walks ≡ true → taken p l ≡ None) →
     next_above 0 (listed_numbers p t l.item) ≡ next_number p t l
 first_is p t l is_level whole more h =
     let u = oldest l.mark t in
@@ -77,18 +92,22 @@ first_is p t l is_level whole more h =
   where
     by_begun : (k : ℕ) → l.begun ≡ k → l.walks ≡ true → l.begun ≡ 0
     by_begun zero e c = e
-    by_begun (suc k) e c = let before = some_before p (oldest l.mark t) t l k is_level more e in let none : taken p l ≡ None = h c in cc (none, before.2)
+    by_begun (suc k) e c = let before = some_before p (oldest l.mark t) t l k is_level more e in
+        let none : taken p l ≡ None = h c in cc (none, before.2)
 
     by_case : (b : Bool) → l.walks ≡ b → l.tweaks ≡ l.begun
     by_case true c = let stood : l.tweaks ≡ 0 = is_level.tweaks ∙ rw c refl in stood ∙ sym (by_begun l.begun refl c)
-    by_case false c = let stood : l.tweaks ≡ min l.begun (length (options_at p (oldest l.mark t) l.item)) = is_level.tweaks ∙ rw c refl in omega (arith, stood, few_begun p (oldest l.mark t) t l is_level more)
+    by_case false c = let stood : l.tweaks ≡ min l.begun (length (options_at p (oldest l.mark t) l.item)) =
+        is_level.tweaks ∙ rw c refl in omega (arith, stood, few_begun p (oldest l.mark t) t l is_level more)
 
-number_at : (os : List Numbered) (k d : ℕ) (y : Numbered) → slice_get os k ≡ Some y → get_or (map number_of os) k d ≡ y.number
+number_at : (os : List Numbered) (k d : ℕ) (y : Numbered) → slice_get os k ≡ Some y
+    → get_or (map number_of os) k d ≡ y.number
 number_at [] k d y e = cc
 number_at (o ∷ os) zero d y e = let same : o ≡ y = cc in ap number_of same
 number_at (o ∷ os) (suc k) d y e = number_at os k d y e
 
-walked : (p : Puzzle) (t : List Move) (l : Level) (o k : ℕ) → IsLevel p t l → l.base ≡ length t → l.begun < l.count → l.walks ≡ true → taken p l ≡ Some o → l.begun ≡ suc k →
+walked : (p : Puzzle) (t : List Move) (l : Level) (o k : ℕ) → IsLevel p t l → l.base ≡ length t → l.begun < l.count
+    → l.walks ≡ true → taken p l ≡ Some o → l.begun ≡ suc k →
     (next_above o (listed_numbers p t l.item) ≡ next_number p t l) × Contains (listed_numbers p t l.item) o
 walked p t l o k is_level whole more c e b =
     let u = oldest l.mark t in
@@ -98,17 +117,28 @@ walked p t l o k is_level whole more c e b =
     let stood : l.tweaks ≡ 0 = is_level.tweaks ∙ rw c refl in
     let list : listed p t l.item ≡ os = list_is p t l is_level whole ∙ ap (λ m. drop m os) stood in
     let within = slice_get_within os k before.0 before.1 in (
-      ap₂ (λ n xs. next_above n (map number_of xs)) (sym number_is) list ∙ above_place 0 0 os k before.0 (rises_at p u l.item) before.1 ∙ ap (λ n. option_map number_of (slice_get os n)) (sym b),
-      (k, omega (arith, ap (λ xs. length (map number_of xs)) list, length-map os number_of, within), ap (λ xs. get_or (map number_of xs) k o) list ∙ number_at os k o before.0 before.1 ∙ number_is),
+      ap₂ (λ n xs. next_above n (map number_of xs)) (sym number_is) list
+          ∙ above_place 0 0 os k before.0 (rises_at p u l.item) before.1
+          ∙ ap (λ n. option_map number_of (slice_get os n)) (sym b),
+      (
+        k,
+        omega (arith, ap (λ xs. length (map number_of xs)) list, length-map os number_of, within),
+        ap
+            (λ xs. get_or (map number_of xs) k o) list ∙ number_at os k o before.0 before.1 ∙ number_is,
+      ),
     )
 
 -- the next of the list, where it is walked
-pub below_is : (p : Puzzle) (t : List Move) (l : Level) (o : ℕ) → IsLevel p t l → l.base ≡ length t → l.begun < l.count → l.walks ≡ true → taken p l ≡ Some o →
+pub below_is : (p : Puzzle) (t : List Move) (l : Level) (o : ℕ) → IsLevel p t l → l.base ≡ length t → l.begun < l.count
+    → l.walks ≡ true → taken p l ≡ Some o →
     (next_above o (listed_numbers p t l.item) ≡ next_number p t l) × Contains (listed_numbers p t l.item) o
 below_is p t l o is_level whole more c e = by_begun l.begun refl
   where
-    by_begun : (k : ℕ) → l.begun ≡ k → (next_above o (listed_numbers p t l.item) ≡ next_number p t l) × Contains (listed_numbers p t l.item) o
-    by_begun zero b = let none : taken p l ≡ None = is_level.option ∙ ap (λ n. option_map (λ o. o.number) (numbered_get (options_at p (oldest l.mark t) l.item) n)) b in cc (none, e)
+    by_begun : (k : ℕ) → l.begun ≡ k → (next_above o (listed_numbers p t l.item) ≡ next_number p t l)
+        × Contains (listed_numbers p t l.item) o
+    by_begun zero b = let none : taken p l ≡ None = is_level.option
+        ∙ ap (λ n. option_map (λ o. o.number) (numbered_get (options_at p (oldest l.mark t) l.item) n)) b in
+        cc (none, e)
     by_begun (suc k) b = walked p t l o k is_level whole more c e b
 
 -- what stands where the code looks below for the next branch's option, and what stands below it
@@ -117,17 +147,25 @@ pub record Seeking (p : Puzzle) (t : List Move) (l : Level) (q : ℕ) : Type 0 w
   pub listed : IsListedAt p t l.item x q
   pub next : next_above x (listed_numbers p t l.item) ≡ next_number p t l
 
-pub seeking : (p : Puzzle) (t : List Move) (l : Level) → IsLevel p t l → l.base ≡ length t → l.begun < l.count → Seeking p t l (cond l.walks l.place l.item)
+pub seeking : (p : Puzzle) (t : List Move) (l : Level) → IsLevel p t l → l.base ≡ length t → l.begun < l.count
+    → Seeking p t l (cond l.walks l.place l.item)
 seeking p t l is_level whole more = by_case l.walks refl
   where
     at_first : (q : ℕ) → q ≡ link_place p l.item 0 → (l.walks ≡ true → taken p l ≡ None) → Seeking p t l q
-    at_first q at none = record { x = 0; listed = record { listed = inl refl; at = at }; next = first_is p t l is_level whole more none }
+    at_first q at none =
+        record { x = 0; listed = record { listed = inl refl; at = at }; next = first_is p t l is_level whole more none }
 
     by_option : (o : Option ℕ) → taken p l ≡ o → l.walks ≡ true → Seeking p t l l.place
     by_option None e c = at_first l.place (is_level.place ∙ ap (λ o. link_place p l.item (unwrap_or o 0)) e) (λ _. e)
     by_option (Some o) e c =
         let below = below_is p t l o is_level whole more c e in
-        record { x = o; listed = record { listed = inr below.1; at = is_level.place ∙ ap (λ o. link_place p l.item (unwrap_or o 0)) e }; next = below.0 }
+        record {
+          x = o;
+          listed = record
+              { listed = inr below.1; at = is_level.place ∙ ap (λ o. link_place p l.item (unwrap_or o 0)) e };
+          next =
+              below.0;
+        }
 
     by_case : (b : Bool) → l.walks ≡ b → Seeking p t l (cond b l.place l.item)
     by_case true c = by_option (taken p l) refl c

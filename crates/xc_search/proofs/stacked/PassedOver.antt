@@ -1,5 +1,6 @@
 -- A search that goes on over many members.
-use Rattle.std.proofs.Common.{ℕ, zero, suc, ◌≡◌, ◌+◌, ◌<◌, ◌≤◌, Bool, false, List, [], ◌∷◌, ◌++◌, length, drop, min, refl, sym, ap, ap₂, ◌∙◌, arith, subst}
+use Rattle.std.proofs.Common.{ℕ, zero, suc, ◌≡◌, ◌+◌, ◌<◌, ◌≤◌, Bool, false, List, [], ◌∷◌, ◌++◌, length, drop, min}
+use Rattle.std.proofs.Common.{refl, sym, ap, ap₂, ◌∙◌, arith, subst}
 use Rattle.std.proofs.lemmas.Grind.{common_steps}
 use Rattle.std.proofs.lemmas.List.{drop-map, length-map}
 use Rattle.xc_search.specs.declared.choice.Choice.{Choice}
@@ -12,7 +13,8 @@ rest_behind : {X : Type 0} (n : ℕ) (ms : List X) (m : X) (rest : List X) → d
 rest_behind zero [] m rest e = absurd (cc e)
 rest_behind (suc n) [] m rest e = absurd (cc e)
 rest_behind zero (x ∷ ms) m rest e = cc e
-rest_behind (suc n) (x ∷ ms) m rest e = let h : suc (n + 1) ≡ suc n + 1 = omega arith in rest_behind n ms m rest e ∙ ap (λ k. drop k (x ∷ ms)) h
+rest_behind (suc n) (x ∷ ms) m rest e =
+    let h : suc (n + 1) ≡ suc n + 1 = omega arith in rest_behind n ms m rest e ∙ ap (λ k. drop k (x ∷ ms)) h
 
 within_behind : {X : Type 0} (n : ℕ) (ms : List X) (m : X) (rest : List X) → drop n ms ≡ m ∷ rest → n < length ms
 within_behind n ms m rest e = grind (arith, common_steps)
@@ -30,11 +32,13 @@ drop_past zero (x ∷ ms) h = absurd (omega (arith, h))
 drop_past (suc n) (x ∷ ms) h = drop_past n ms (omega (arith, h))
 
 -- the member behind the first n is shown after one more
-pub shown_next : (n : ℕ) (ms : List (List Choice)) (s m : List Choice) (rest : List (List Choice)) → drop n ms ≡ m ∷ rest → m ≡ shown_after (n + 1) ms s
+pub shown_next : (n : ℕ) (ms : List (List Choice)) (s m : List Choice) (rest : List (List Choice))
+    → drop n ms ≡ m ∷ rest → m ≡ shown_after (n + 1) ms s
 shown_next zero [] s m rest e = absurd (cc e)
 shown_next (suc n) [] s m rest e = absurd (cc e)
 shown_next zero (x ∷ ms) s m rest e = cc e
-shown_next (suc n) (x ∷ ms) s m rest e = let h : suc (n + 1) ≡ suc n + 1 = omega arith in shown_next n ms x m rest e ∙ ap (λ k. shown_after k (x ∷ ms) s) h
+shown_next (suc n) (x ∷ ms) s m rest e =
+    let h : suc (n + 1) ≡ suc n + 1 = omega arith in shown_next n ms x m rest e ∙ ap (λ k. shown_after k (x ∷ ms) s) h
 
 -- none is shown where there are fewer
 pub shown_past : (n : ℕ) (ms : List (List Choice)) (s : List Choice) → length ms < n → [] ≡ shown_after n ms s
@@ -44,23 +48,32 @@ shown_past zero (x ∷ ms) s h = absurd (omega (arith, h))
 shown_past (suc n) (x ∷ ms) s h = shown_past n ms x (omega (arith, h))
 
 -- From levels ls in state d a search went on over n members to levels ks in state e.
-pub record WentOver (d : Dancing) (ls : Levels) (down : Bool) (n : ℕ) (e : Dancing) (ks : Levels) (below : Bool) : Type 0 where
+pub record WentOver (d : Dancing) (ls : Levels) (down : Bool) (n : ℕ) (e : Dancing) (ks : Levels) (below : Bool) : Type
+    0 where
   pub still : (e ≡ record d { trail = e.trail }) × (ks ≡ record ls { levels = ks.levels })
   pub standing : IsStanding e.puzzle e.trail ks.levels below
   pub come : coming e.puzzle e.trail ks.levels below ≡ drop n (coming d.puzzle d.trail ls.levels down)
-  pub shown : choices_of e.puzzle ks.levels ≡ shown_after n (coming d.puzzle d.trail ls.levels down) (choices_of d.puzzle ls.levels)
+  pub shown : choices_of e.puzzle ks.levels ≡ shown_after n (coming d.puzzle d.trail ls.levels down)
+      (choices_of d.puzzle ls.levels)
 
 -- and there were as many
-pub record WentOverAll (d : Dancing) (ls : Levels) (down : Bool) (n : ℕ) (e : Dancing) (ks : Levels) (below : Bool) : Type 0 where
+pub record WentOverAll (d : Dancing) (ls : Levels) (down : Bool) (n : ℕ) (e : Dancing) (ks : Levels) (below : Bool) :
+    Type 0 where
   pub over : WentOver d ls down n e ks below
   pub within : n ≤ length (coming d.puzzle d.trail ls.levels down)
 
-then_still : (d e f : Dancing) (ls ks js : Levels) → (e ≡ record d { trail = e.trail }) × (ks ≡ record ls { levels = ks.levels }) →
-    (f ≡ record e { trail = f.trail }) × (js ≡ record ks { levels = js.levels }) → (f ≡ record d { trail = f.trail }) × (js ≡ record ls { levels = js.levels })
-then_still d e f ls ks js a b =
-    (b.0 ∙ ap (λ (s : Dancing). record s { trail = f.trail }) a.0, b.1 ∙ ap (λ (s : Levels). record s { levels = js.levels }) a.1)
+then_still : (d e f : Dancing) (ls ks js : Levels) → (e ≡ record d { trail = e.trail })
+    × (ks ≡ record ls { levels = ks.levels }) →
+    (f ≡ record e { trail = f.trail }) × (js ≡ record ks { levels = js.levels }) → (f ≡ record d { trail = f.trail })
+    × (js ≡ record ls { levels = js.levels })
+then_still d e f ls ks js a b = (
+  b.0 ∙ ap (λ (s : Dancing). record s { trail = f.trail }) a.0,
+  b.1
+      ∙ ap (λ (s : Levels). record s { levels = js.levels }) a.1,
+)
 
-pub went_on : (d e f : Dancing) (ls ks js : Levels) (down below : Bool) (n : ℕ) → WentOverAll d ls down n e ks below → IsReached e ks below f js →
+pub went_on : (d e f : Dancing) (ls ks js : Levels) (down below : Bool) (n : ℕ) → WentOverAll d ls down n e ks below
+    → IsReached e ks below f js →
     WentOverAll d ls down (n + 1) f js false
 went_on d e f ls ks js down below n a r =
     let ms = coming d.puzzle d.trail ls.levels down in
@@ -76,16 +89,20 @@ went_on d e f ls ks js down below n a r =
     }
 
 -- there were no more
-pub went_past : (d e f : Dancing) (ls ks js : Levels) (down below : Bool) (n many : ℕ) → WentOverAll d ls down n e ks below → IsDone e ks below f js → n < many →
+pub went_past : (d e f : Dancing) (ls ks js : Levels) (down below : Bool) (n many : ℕ)
+    → WentOverAll d ls down n e ks below → IsDone e ks below f js → n < many →
     WentOver d ls down many f js false × (n ≡ min many (length (coming d.puzzle d.trail ls.levels down)))
 went_past d e f ls ks js down below n many a r less =
     let ms = coming d.puzzle d.trail ls.levels down in
     let all = all_behind n ms (sym a.over.come ∙ r.members) a.within in (
       record {
         still = then_still d e f ls ks js a.over.still r.still;
-        standing = subst (λ ls. IsStanding f.puzzle f.trail ls false) (sym r.ended) (record { stacked = tt; searchable = λ h. cc; shallow = λ h. cc });
+        standing =
+            subst (λ ls. IsStanding f.puzzle f.trail ls false) (sym r.ended)
+            (record { stacked = tt; searchable = λ h. cc; shallow = λ h. cc });
         come = ap (λ ls. coming f.puzzle f.trail ls false) r.ended ∙ sym (drop_past many ms (omega (arith, all, less)));
-        shown = ap (choices_of _) r.ended ∙ shown_past many ms (choices_of d.puzzle ls.levels) (omega (arith, all, less));
+        shown =
+            ap (choices_of _) r.ended ∙ shown_past many ms (choices_of d.puzzle ls.levels) (omega (arith, all, less));
       },
       omega (arith, all, less),
     )

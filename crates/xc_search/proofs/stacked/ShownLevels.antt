@@ -1,5 +1,6 @@
 -- The levels of a search show their options.
-use Rattle.std.proofs.Common.{ℕ, zero, suc, ◌≡◌, ◌<◌, List, [], ◌∷◌, length, reverse, Option, Some, None, refl, sym, ap, ◌∙◌, arith, subst}
+use Rattle.std.proofs.Common.{ℕ, zero, suc, ◌≡◌, ◌<◌, List, [], ◌∷◌, length, reverse, Option, Some, None, refl, sym, ap}
+use Rattle.std.proofs.Common.{◌∙◌, arith, subst}
 use Rattle.std.specs.Prelude.{All, IfSome, option_map, slice_get, unwrap_or}
 use Rattle.std.specs.List.{AllByRecursion}
 use Rattle.std.proofs.lemmas.List.Elements.{All-from_recursion, recursion_from_All}
@@ -24,10 +25,12 @@ level_shown p u t l is_level = record {
   option = by_begun l.begun refl;
 }
   where
-    shows : (o : Option ℕ) → taken p l ≡ o → IfSome o (λ x. IsUseAt p l.item x l.place) → IfSome (taken p l) (λ x. IsUseAt p l.item x l.place)
+    shows : (o : Option ℕ) → taken p l ≡ o → IfSome o (λ x. IsUseAt p l.item x l.place)
+        → IfSome (taken p l) (λ x. IsUseAt p l.item x l.place)
     shows o e h = subst (λ o. IfSome o (λ x. IsUseAt p l.item x l.place)) (sym e) h
 
-    by_option : (k : ℕ) (o : Option Numbered) → slice_get (options_at p u l.item) k ≡ o → taken p l ≡ option_map (λ (o : Numbered). o.number) o → IfSome (taken p l) (λ x. IsUseAt p l.item x l.place)
+    by_option : (k : ℕ) (o : Option Numbered) → slice_get (options_at p u l.item) k ≡ o
+        → taken p l ≡ option_map (λ (o : Numbered). o.number) o → IfSome (taken p l) (λ x. IsUseAt p l.item x l.place)
     by_option k None e h = shows None h tt
     by_option k (Some x) e h =
         let took = branch.taken p u l.item k (suc k) x is_level.node e (λ _. refl) (omega arith) in
@@ -35,14 +38,20 @@ level_shown p u t l is_level = record {
         shows (Some x.number) h (record {
           known = took.option.known;
           holds = subst (λ (us : List Use). place_in l.item us < length us) own took.within;
-          items = All-from_recursion (λ (u : Use). IsItem p u.item) (uses_of p x.number) (subst (λ us. AllByRecursion (λ (u : Use). IsItem p u.item) us) own took.items);
+          items =
+              All-from_recursion (λ (u : Use). IsItem p u.item) (uses_of p x.number)
+              (subst (λ us. AllByRecursion (λ (u : Use). IsItem p u.item) us) own took.items);
           at = is_level.place ∙ ap (λ o. link_place p l.item (unwrap_or o 0)) h;
         })
 
     by_begun : (n : ℕ) → l.begun ≡ n → IfSome (taken p l) (λ x. IsUseAt p l.item x l.place)
-    by_begun zero e = shows None (is_level.option ∙ ap (λ n. option_map (λ (o : Numbered). o.number) (numbered_get (options_at p u l.item) n)) e) tt
+    by_begun zero e =
+        shows None (is_level.option
+        ∙ ap (λ n. option_map (λ (o : Numbered). o.number) (numbered_get (options_at p u l.item) n)) e) tt
     by_begun (suc k) e =
-        by_option k (slice_get (options_at p u l.item) k) refl (is_level.option ∙ ap (λ n. option_map (λ (o : Numbered). o.number) (numbered_get (options_at p u l.item) n)) e)
+        by_option k (slice_get (options_at p u l.item) k) refl
+        (is_level.option ∙ ap (λ n. option_map (λ (o : Numbered). o.number)
+        (numbered_get (options_at p u l.item) n)) e)
 
 each_shown : (p : Puzzle) (t : List Move) (ls : List Level) → AreStacked p t ls → AllByRecursion (IsShown p) ls
 each_shown p t [] s = tt
@@ -59,4 +68,5 @@ each_back P (x ∷ xs) a =
 
 -- from the oldest on too
 pub shown_back : (p : Puzzle) (ls : List Level) → All (IsShown p) (reverse ls) → All (IsShown p) ls
-shown_back p ls a = All-from_recursion (IsShown p) ls (each_back (IsShown p) ls (recursion_from_All (IsShown p) (reverse ls) a))
+shown_back p ls a =
+    All-from_recursion (IsShown p) ls (each_back (IsShown p) ls (recursion_from_All (IsShown p) (reverse ls) a))

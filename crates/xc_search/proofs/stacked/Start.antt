@@ -1,5 +1,6 @@
 -- A search begins with all members to come.
-use Rattle.std.proofs.Common.{ℕ, ◌≡◌, ◌+◌, true, List, [], ◌∷◌, ◌++◌, map, sym, ap, ap₂, ◌∙◌, arith, subst, lt-ltb, append-nil}
+use Rattle.std.proofs.Common.{ℕ, ◌≡◌, ◌+◌, true, List, [], ◌∷◌, ◌++◌, map, sym, ap, ap₂, ◌∙◌, arith, subst, lt-ltb}
+use Rattle.std.proofs.Common.{append-nil}
 use Rattle.xc_input.specs.declared.problem.Bounds.{Bounds}
 use Rattle.std.proofs.lemmas.List.{map-id}
 use Rattle.std.proofs.lemmas.List.Elements.{recursion_from_All}
@@ -21,10 +22,19 @@ wanted_at_first : (i : ℕ) (bs : List Bounds) → AllByRecursion AreSoundBounds
 wanted_at_first i [] a = tt
 wanted_at_first i (b ∷ bs) a = (lt-ltb 0 b.high (omega (arith, a.0)), wanted_at_first (i + 1) bs a.1)
 
-pub starts_standing : (p : Puzzle) (t : List Move) (ls : List Level) → IsValid p → t ≡ [] → ls ≡ [] → IsStanding p t ls true
+pub starts_standing : (p : Puzzle) (t : List Move) (ls : List Level) → IsValid p → t ≡ [] → ls ≡ []
+    → IsStanding p t ls true
 starts_standing p t ls v et el =
-    let wanted : AreAllWanted (wanted_after p []) = subst (λ (r : Residual). AreAllWanted r.items) (sym (no_moves_leave_all p)) (wanted_at_first 1 p.bounds (recursion_from_All AreSoundBounds p.bounds v.bounds)) in
-    let made : IsStanding p [] [] true = record { stacked = tt; searchable = λ e. record { valid = v; legal = tt; wanted = wanted; sparing = sparing_first p }; shallow = λ e. shallow_first p } in
+    let wanted : AreAllWanted (wanted_after p []) =
+    subst (λ (r : Residual). AreAllWanted r.items) (sym (no_moves_leave_all p))
+    (wanted_at_first 1 p.bounds (recursion_from_All AreSoundBounds p.bounds v.bounds)) in
+    let made : IsStanding p [] [] true =
+    record {
+      stacked = tt;
+      searchable = λ e. record
+          { valid = v; legal = tt; wanted = wanted; sparing = sparing_first p };
+      shallow = λ e. shallow_first p;
+    } in
     subst (λ t. IsStanding p t ls true) (sym et) (subst (λ ls. IsStanding p [] ls true) (sym el) made)
 
 pub starts_coming : (p : Puzzle) (t : List Move) (ls : List Level) → t ≡ [] → ls ≡ [] → coming p t ls true ≡ members p

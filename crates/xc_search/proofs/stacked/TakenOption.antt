@@ -1,5 +1,6 @@
 -- What the code of a branch asks and gives.
-use Rattle.std.proofs.Common.{ℕ, suc, ◌≡◌, ◌≢◌, ◌+◌, ◌-◌, ◌<◌, ◌≤◌, Bool, true, false, cond, List, ◌∷◌, length, min, Option, Some, None, refl, sym, ap, ◌∙◌, arith, subst}
+use Rattle.std.proofs.Common.{ℕ, suc, ◌≡◌, ◌≢◌, ◌+◌, ◌-◌, ◌<◌, ◌≤◌, Bool, true, false, cond, List, ◌∷◌, length, min}
+use Rattle.std.proofs.Common.{Option, Some, None, refl, sym, ap, ◌∙◌, arith, subst}
 use Rattle.std.proofs.lemmas.Option.{slice_get_within}
 use Rattle.std.proofs.lemmas.List.Elements.{All-from_recursion}
 use Rattle.std.specs.Prelude.{slice_get, option_map}
@@ -11,7 +12,8 @@ use Rattle.xc_search.specs.declared.level.Level.{Level}
 use Rattle.xc_input.specs.Problem.{Puzzle, Numbered, high_at, IsItem, option_count, uses_of}
 use Rattle.xc_dance.specs.Dancing.{Dancing}
 use Rattle.xc_dance.specs.Moves.{spends, AreLegal, IsLegal}
-use Rattle.xc_search.specs.inner.Levels.{options_at, IsLevel, IsBegun, IsEntered, IsPlace, CanBranch, after_branch, next_number}
+use Rattle.xc_search.specs.inner.Levels.{options_at, IsLevel, IsBegun, IsEntered, IsPlace, CanBranch, after_branch}
+use Rattle.xc_search.specs.inner.Levels.{next_number}
 use Rattle.xc_dance.specs.Commits.{option_at, after_spend, after_uses, others, place_in}
 use Rattle.xc_search.specs.inner.Commits.{oldest, tweaked, after_none}
 use Rattle.xc_search.proofs.moves.OldestMoves.{oldest_all}
@@ -25,14 +27,20 @@ record Taking (p : Puzzle) (t : List Move) (l : Level) (o m q : ℕ) : Type 0 wh
   pub known : (1 ≤ o) × (o ≤ option_count p)
   pub holds : place_in l.item (uses_of p o) < length (uses_of p o)
   pub items : AllByRecursion (λ (u : Use). IsItem p u.item) (uses_of p o)
-  pub legal : AreLegal p (after_uses p (others l.item (uses_of p o)) (tweaked m l.item (after_spend p l.item (oldest l.mark t))))
-  pub begun : IsBegun p t l (after_uses p (others l.item (uses_of p o)) (tweaked m l.item (after_spend p l.item (oldest l.mark t)))) (with_option (length (tweaked m l.item (after_spend p l.item (oldest l.mark t)))) l m q)
+  pub legal : AreLegal p (after_uses p (others l.item (uses_of p o))
+      (tweaked m l.item (after_spend p l.item (oldest l.mark t))))
+  pub begun : IsBegun p t l
+      (after_uses p (others l.item (uses_of p o)) (tweaked m l.item (after_spend p l.item (oldest l.mark t))))
+      (with_option (length (tweaked m l.item (after_spend p l.item (oldest l.mark t)))) l m q)
 
-taking_at : (p : Puzzle) (t : List Move) (l : Level) (x : Numbered) (m q : ℕ) → IsLevel p t l → l.begun < l.count → option_at p l.item q ≡ Some x.number → IsPlace p l.item q →
-    slice_get (options_at p (oldest l.mark t) l.item) l.begun ≡ Some x → m ≡ cond l.walks l.tweaks (l.tweaks + 1) → Taking p t l x.number m q
+taking_at : (p : Puzzle) (t : List Move) (l : Level) (x : Numbered) (m q : ℕ) → IsLevel p t l → l.begun < l.count
+    → option_at p l.item q ≡ Some x.number → IsPlace p l.item q →
+    slice_get (options_at p (oldest l.mark t) l.item) l.begun ≡ Some x → m ≡ cond l.walks l.tweaks (l.tweaks + 1)
+    → Taking p t l x.number m q
 taking_at p t l x m q is_level more at place e hm = by_case l.walks refl
   where
-    made : (m ≤ suc l.begun) → (high_at p l.item - spends l.item (Spend l.item ∷ oldest l.mark t) ≢ 0 → m ≡ suc l.begun) → Taking p t l x.number m q
+    made : (m ≤ suc l.begun) → (high_at p l.item - spends l.item (Spend l.item ∷ oldest l.mark t) ≢ 0 → m ≡ suc l.begun)
+        → Taking p t l x.number m q
     made le h =
         let u = oldest l.mark t in
         let took = taken p u l.item l.begun m x is_level.node e h le in
@@ -41,8 +49,13 @@ taking_at p t l x m q is_level more at place e hm = by_case l.walks refl
           known = took.option.known;
           holds = subst (λ (us : List Use). place_in l.item us < length us) own took.within;
           items = subst (λ us. AllByRecursion (λ (u : Use). IsItem p u.item) us) own took.items;
-          legal = subst (λ us. AreLegal p (after_uses p (others l.item us) (tweaked m l.item (after_spend p l.item u)))) own took.legal;
-          begun = subst (λ us. IsBegun p t l (after_uses p (others l.item us) (tweaked m l.item (after_spend p l.item u))) (with_option (length (tweaked m l.item (after_spend p l.item u))) l m q)) own (begins_take p t l x m q is_level more at place e hm);
+          legal =
+              subst (λ us. AreLegal p (after_uses p (others l.item us) (tweaked m l.item (after_spend p l.item u)))) own
+              took.legal;
+          begun =
+              subst (λ us. IsBegun p t l (after_uses p (others l.item us) (tweaked m l.item (after_spend p l.item u)))
+              (with_option (length (tweaked m l.item (after_spend p l.item u))) l m q)) own
+              (begins_take p t l x m q is_level more at place e hm);
         }
 
     by_case : (b : Bool) → l.walks ≡ b → Taking p t l x.number m q
@@ -53,12 +66,14 @@ taking_at p t l x m q is_level more at place e hm = by_case l.walks refl
         made (omega (arith, m_is)) (λ h. absurd (h used_up))
     by_case false c =
         let within = slice_get_within (options_at p (oldest l.mark t) l.item) l.begun x e in
-        let stood : l.tweaks ≡ min l.begun (length (options_at p (oldest l.mark t) l.item)) = is_level.tweaks ∙ rw c refl in
+        let stood : l.tweaks ≡ min l.begun (length (options_at p (oldest l.mark t) l.item)) =
+        is_level.tweaks ∙ rw c refl in
         let m_is : m ≡ l.tweaks + 1 = hm ∙ rw c refl in
         let all : m ≡ l.begun + 1 = omega (arith, m_is, stood, within) in
         made (omega (arith, all)) (λ h. omega (arith, all))
 
-some_option : (o : Option Numbered) (n : ℕ) → option_map (λ (x : Numbered). x.number) o ≡ Some n → (x : Numbered) × (o ≡ Some x) × (x.number ≡ n)
+some_option : (o : Option Numbered) (n : ℕ) → option_map (λ (x : Numbered). x.number) o ≡ Some n → (x : Numbered)
+    × (o ≡ Some x) × (x.number ≡ n)
 some_option None n e = cc
 some_option (Some x) n e = let same : x.number ≡ n = cc in (x, refl, same)
 
@@ -66,17 +81,22 @@ no_option : (o : Option Numbered) → option_map (λ (x : Numbered). x.number) o
 no_option None e = refl
 no_option (Some x) e = cc
 
-taking : (p : Puzzle) (t : List Move) (l : Level) (o m q : ℕ) → IsLevel p t l → l.begun < l.count → next_number p t l ≡ Some o → option_at p l.item q ≡ Some o → IsPlace p l.item q → m ≡ cond l.walks l.tweaks (l.tweaks + 1) → Taking p t l o m q
+taking : (p : Puzzle) (t : List Move) (l : Level) (o m q : ℕ) → IsLevel p t l → l.begun < l.count
+    → next_number p t l ≡ Some o → option_at p l.item q ≡ Some o → IsPlace p l.item q
+    → m ≡ cond l.walks l.tweaks (l.tweaks + 1) → Taking p t l o m q
 taking p t l o m q is_level more e at place hm =
     let found = some_option (slice_get (options_at p (oldest l.mark t) l.item) l.begun) o e in
-    subst (λ n. Taking p t l n m q) found.2 (taking_at p t l found.0 m q is_level more (at ∙ ap Some (sym found.2)) place found.1 hm)
+    subst (λ n. Taking p t l n m q) found.2
+    (taking_at p t l found.0 m q is_level more (at ∙ ap Some (sym found.2)) place found.1 hm)
 
 -- a level's item is one
 level_item : (p : Puzzle) (t : List Move) (l : Level) → IsLevel p t l → IsItem p l.item
 level_item p t l is_level = omega (arith, is_level.node.item)
 
 -- with the tweaks of a branch that takes option o, which stands at place q, it is entered
-pub entered_option : (d e : Dancing) (l : Level) (o m q : ℕ) → IsLevel d.puzzle d.trail l → l.begun < l.count → next_number d.puzzle d.trail l ≡ Some o → option_at d.puzzle l.item q ≡ Some o → IsPlace d.puzzle l.item q → m ≡ cond l.walks l.tweaks (l.tweaks + 1) →
+pub entered_option : (d e : Dancing) (l : Level) (o m q : ℕ) → IsLevel d.puzzle d.trail l → l.begun < l.count
+    → next_number d.puzzle d.trail l ≡ Some o → option_at d.puzzle l.item q ≡ Some o → IsPlace d.puzzle l.item q
+    → m ≡ cond l.walks l.tweaks (l.tweaks + 1) →
     e ≡ record d { trail = tweaked m l.item (after_spend d.puzzle l.item (oldest l.mark d.trail)) } →
     IsEntered d.puzzle d.trail l e.trail (with_option (length e.trail) l m q)
 entered_option d e l o m q is_level more next at place hm stands =
@@ -87,19 +107,29 @@ entered_option d e l o m q is_level more next at place hm stands =
     subst (λ (e : Dancing). IsEntered p t l e.trail (with_option (length e.trail) l m q)) (sym stands) (record {
       can = subst (λ v. CanBranch p l.item v g) (sym at) (record {
         item = level_item p t l is_level;
-        option = record { known = all.known; holds = all.holds; items = All-from_recursion (λ (u : Use). IsItem p u.item) (uses_of p o) all.items };
+        option =
+            record {
+              known = all.known;
+              holds = all.holds;
+              items = All-from_recursion (λ (u : Use). IsItem p u.item) (uses_of p o) all.items;
+            };
         stands = record {
           legal = all.legal;
-          room = has_room p (after_uses p (others l.item (uses_of p o)) g) all.begun.searchable.legal (omega (arith, all.begun.searchable.sparing));
+          room =
+              has_room p (after_uses p (others l.item (uses_of p o)) g) all.begun.searchable.legal
+              (omega (arith, all.begun.searchable.sparing));
         };
       });
       begun = subst (λ v. IsBegun p t l (after_branch p l.item v g) (with_option (length g) l m q)) (sym at) all.begun;
     })
 
 -- a branch that takes no option is entered by no move
-pub entered_none : (p : Puzzle) (t : List Move) (l : Level) → IsLevel p t l → l.base ≡ length t → l.begun < l.count → next_number p t l ≡ None → IsEntered p t l t (with_none l)
+pub entered_none : (p : Puzzle) (t : List Move) (l : Level) → IsLevel p t l → l.base ≡ length t → l.begun < l.count
+    → next_number p t l ≡ None → IsEntered p t l t (with_none l)
 entered_none p t l is_level whole more e =
-    let begun = begins_none p t l is_level whole more (no_option (slice_get (options_at p (oldest l.mark t) l.item) l.begun) e) in
+    let begun =
+    begins_none p t l is_level whole more
+    (no_option (slice_get (options_at p (oldest l.mark t) l.item) l.begun) e) in
     record {
       can = subst (λ v. CanBranch p l.item v t) (sym (at_own p l.item)) (record {
         item = level_item p t l is_level;
@@ -113,11 +143,13 @@ entered_none p t l is_level whole more e =
     }
 
 -- the ground of a level
-pub ground_is : (p : Puzzle) (t : List Move) (l : Level) → IsLevel p t l → l.base ≡ length t → t ≡ tweaked l.tweaks l.item (after_spend p l.item (oldest l.mark t))
+pub ground_is : (p : Puzzle) (t : List Move) (l : Level) → IsLevel p t l → l.base ≡ length t
+    → t ≡ tweaked l.tweaks l.item (after_spend p l.item (oldest l.mark t))
 ground_is p t l is_level whole = sym (ap (λ n. oldest n t) whole ∙ oldest_all t) ∙ is_level.base
 
 -- another tweak may be made where an option is left
-pub may_tweak : (p : Puzzle) (t : List Move) (l : Level) (o : ℕ) → IsLevel p t l → l.base ≡ length t → l.begun < l.count → l.walks ≡ false → next_number p t l ≡ Some o → IsLegal p t (Tweak l.item) × (l.tweaks ≡ l.begun)
+pub may_tweak : (p : Puzzle) (t : List Move) (l : Level) (o : ℕ) → IsLevel p t l → l.base ≡ length t → l.begun < l.count
+    → l.walks ≡ false → next_number p t l ≡ Some o → IsLegal p t (Tweak l.item) × (l.tweaks ≡ l.begun)
 may_tweak p t l o is_level whole more c e =
     let u = oldest l.mark t in
     let found = some_option (slice_get (options_at p u l.item) l.begun) o e in

@@ -5,7 +5,8 @@ use Rattle.xc_search.specs.Listing.{Residual, Branch, branches_of, branch_item}
 use Rattle.xc_search.specs.inner.Ahead.{cost, work_level, work_to, work}
 use Rattle.xc_search.proofs.listing.ByDepth.{by_depth}
 
-cost-same : (f g : Residual → ℕ) (bs : List Branch) → AllByRecursion (λ b. f b.next ≡ g b.next) bs → cost f bs ≡ cost g bs
+cost-same : (f g : Residual → ℕ) (bs : List Branch) → AllByRecursion (λ b. f b.next ≡ g b.next) bs
+    → cost f bs ≡ cost g bs
 cost-same f g [] a = refl
 cost-same f g (b ∷ bs) a = ap₂ (λ m n. suc (m + n)) a.0 (cost-same f g bs a.1)
 

@@ -67,7 +67,8 @@ pub record EntersBranch (d : Dancing) (ls : Levels) (down : Bool) (e : Dancing) 
 pub record IsReached (d : Dancing) (ls : Levels) (down : Bool) (e : Dancing) (ks : Levels) : Type 0 where
   pub still : (e ≡ record d { trail = e.trail }) × (ks ≡ record ls { levels = ks.levels })
   pub stacked : AreStacked e.puzzle e.trail ks.levels
-  pub members : coming d.puzzle d.trail ls.levels down ≡ choices_of e.puzzle ks.levels ∷ to_give e.puzzle e.trail ks.levels
+  pub members : coming d.puzzle d.trail ls.levels down ≡ choices_of e.puzzle ks.levels ∷ to_give e.puzzle e.trail
+      ks.levels
 
 -- It reached its end: nothing was left.
 pub record IsDone (d : Dancing) (ls : Levels) (down : Bool) (e : Dancing) (ks : Levels) : Type 0 where

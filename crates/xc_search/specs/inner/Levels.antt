@@ -1,5 +1,7 @@
 -- No public clause cites this module. The levels of a search.
-use Rattle.std.specs.Prelude.{◌<◌, ℕ, suc, All, IfSome, ◌+◌, ◌≤◌, ◌≡◌, Bool, true, false, nat_lt, min, List, [], ◌∷◌, ◌++◌, length, map, drop, reverse, Option, Some, None, option_map, unwrap_or, slice_get, flat_map, if◌then◌else◌}
+use Rattle.std.specs.Prelude.{◌<◌, ℕ, suc, All, IfSome, ◌+◌, ◌≤◌, ◌≡◌, Bool, true, false, nat_lt, min, List, [], ◌∷◌}
+use Rattle.std.specs.Prelude.{◌++◌, length, map, drop, reverse, Option, Some, None, option_map, unwrap_or, slice_get}
+use Rattle.std.specs.Prelude.{flat_map, if◌then◌else◌}
 use Rattle.xc_search.specs.inner.Sizes.{size_of}
 use Rattle.std.specs.List.{AllByRecursion}
 use Rattle.xc_search.specs.declared.choice.Choice.{Choice}
@@ -7,7 +9,8 @@ use Rattle.xc_dance.specs.declared.dance.Move.{Move}
 use Rattle.xc_search.specs.declared.level.Level.{Level}
 use Rattle.xc_search.specs.declared.level.Begun.{Begun}
 use Rattle.xc_input.specs.declared.problem.Use.{Use}
-use Rattle.xc_input.specs.Problem.{Puzzle, Numbered, IsValid, IsItem, IsPrimary, IsOption, numbered_get, holding, uses_of, option_count, primary_count}
+use Rattle.xc_input.specs.Problem.{Puzzle, Numbered, IsValid, IsItem, IsPrimary, IsOption, numbered_get, holding}
+use Rattle.xc_input.specs.Problem.{uses_of, option_count, primary_count}
 use Rattle.xc_search.specs.Listing.{Wanted, Branch, branch_item, branch_count, branches_of, listing}
 use Rattle.xc_dance.specs.Moves.{is_open, AreLegal}
 use Rattle.xc_search.specs.Residuals.{wanted_at, wanted_after}
@@ -166,7 +169,8 @@ pub record IsBegun (p : Puzzle) (t : List Move) (l : Level) (s : List Move) (k :
   pub level : IsLevel p s k
   pub searchable : IsSearchable p s
 
--- the moves of a branch at item i: the other uses of the option that it takes are committed, or without one the item is covered
+-- the moves of a branch at item i: the other uses of the option that it takes are committed, or without one the item is
+-- covered
 abbrev pub after_branch : Puzzle → ℕ → Option ℕ → List Move → List Move
 after_branch p i None t = after_none i t
 after_branch p i (Some o) t = after_uses p (others i (uses_of p o)) t

@@ -1,5 +1,6 @@
 //! A search below a path of the search's tree.
-ghost use Rattle.std.specs.Prelude.{◌≡◌, ◌+◌, ◌<◌, ◌≤◌, List, [], length, true, false, None, Some, IfSome, IsNone, IfOk, IfErr, vec_capacity};
+ghost use Rattle.std.specs.Prelude.{◌≡◌, ◌+◌, ◌<◌, ◌≤◌, List, [], length, true, false, None, Some, IfSome, IsNone};
+ghost use Rattle.std.specs.Prelude.{IfOk, IfErr, vec_capacity};
 ghost use Rattle.xc_input.specs.Problem.{IsValid};
 ghost use Rattle.xc_search.specs.Listing.{branch_item, branch_count};
 ghost use Rattle.xc_search.specs.Residuals.{wanted_at};

@@ -5,4 +5,5 @@ use Rattle.layer_tests.proofs.keepers.is_list.Given as goal
 
 abbrev pub invariant-loop-o : goal.invariant-loop-o
 invariant-loop-o g l =
-    (x : ℕ) → l.at ≡ Some x → Contains (listed_numbers (g.D.Dance.state l.dance).puzzle (g.D.Dance.state l.dance).trail l.i) x
+    (x : ℕ) → l.at ≡ Some x → Contains
+    (listed_numbers (g.D.Dance.state l.dance).puzzle (g.D.Dance.state l.dance).trail l.i) x

@@ -9,4 +9,5 @@ two_tweaks i s t e = subst (AreTweaks 2) (sym e) (omega arith, omega arith, (i, 
 
 pub undo_tweaks-requires : goal.undo_tweaks-requires
 undo_tweaks-requires g c =
-    two_tweaks c.args.i _ (g.D.Dance.state c.args.dance.now).trail (c.in_ok-second.ensures.made refl ∙ ap (λ s. Tweak c.args.i ∷ s) (c.in_ok-first.ensures.made refl))
+    two_tweaks c.args.i _ (g.D.Dance.state c.args.dance.now).trail
+    (c.in_ok-second.ensures.made refl ∙ ap (λ s. Tweak c.args.i ∷ s) (c.in_ok-first.ensures.made refl))

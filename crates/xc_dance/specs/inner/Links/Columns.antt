@@ -1,4 +1,5 @@
--- No public clause cites this module. The node table as contracts see it: column by column, however its cells lie in memory.
+-- No public clause cites this module. The node table as contracts see it: column by column, however its cells lie in
+-- memory.
 use Rattle.std.specs.Prelude.{ℕ, List, map}
 use Rattle.xc_dance.specs.declared.links.cells.Cell.{Cell}
 use Rattle.xc_dance.specs.declared.links.cells.Link.{Link}

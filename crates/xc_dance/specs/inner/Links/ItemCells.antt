@@ -11,13 +11,15 @@ use Rattle.xc_dance.specs.Fields.{ring_of, left_of, right_of, first_of, last_of}
 abbrev pub llink_at : Puzzle → List Move → ℕ → ℕ
 llink_at p t q =
     if q == 0 then last_of 0 (ring_of p t 0)
-    else (if nat_le q (item_count p) then left_of p t q else last_of (item_count p + 1) (ring_of p t (primary_count p + 1)))
+    else (if nat_le q (item_count p) then left_of p t q else last_of (item_count p + 1)
+    (ring_of p t (primary_count p + 1)))
 
 -- the number in the RLINK cell at a place, heads included
 abbrev pub rlink_at : Puzzle → List Move → ℕ → ℕ
 rlink_at p t q =
     if q == 0 then first_of 0 (ring_of p t 0)
-    else (if nat_le q (item_count p) then right_of p t q else first_of (item_count p + 1) (ring_of p t (primary_count p + 1)))
+    else (if nat_le q (item_count p) then right_of p t q else first_of (item_count p + 1)
+    (ring_of p t (primary_count p + 1)))
 
 -- the number in the BOUND cell at a place
 abbrev pub bound_at : Puzzle → List Move → ℕ → ℕ

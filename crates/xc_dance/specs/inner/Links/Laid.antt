@@ -20,16 +20,19 @@ pub record Placed (p : Puzzle) (j x : ℕ) : Type 0 where
 -- the nodes of the table are of items and of options
 pub record HasSoundNodes (p : Puzzle) : Type 0 where
   -- a slot is of an item
-  pub ranged : (k : ℕ) (n : Node) (j x : ℕ) → slice_get (layout p) k ≡ Some n → slot_of n ≡ Some (j, x) → (0 < j) × (j ≤ item_count p)
+  pub ranged : (k : ℕ) (n : Node) (j x : ℕ) → slice_get (layout p) k ≡ Some n → slot_of n ≡ Some (j, x) → (0 < j)
+      × (j ≤ item_count p)
   -- options are numbered from 1
   pub numbered : (k o : ℕ) (u : Use) → slice_get (layout p) k ≡ Some (used o u) → 0 < o
   -- a node has its use's colour
-  pub coloured : (k o : ℕ) (u : Use) → slice_get (layout p) k ≡ Some (used o u) → colour_in (uses_of p o) u.item ≡ Some u.colour
+  pub coloured : (k o : ℕ) (u : Use) → slice_get (layout p) k ≡ Some (used o u)
+      → colour_in (uses_of p o) u.item ≡ Some u.colour
 
 -- each slot stands where its links say, and nothing else stands there
 pub record IsLaid (p : Puzzle) : Type 0 where
   -- a slot stands at one place
-  pub unique : (k : ℕ) (n : Node) (j x : ℕ) → slice_get (layout p) k ≡ Some n → slot_of n ≡ Some (j, x) → link_place p j x ≡ k
+  pub unique : (k : ℕ) (n : Node) (j x : ℕ) → slice_get (layout p) k ≡ Some n → slot_of n ≡ Some (j, x)
+      → link_place p j x ≡ k
   -- and each that there is stands there
   pub there : (j x : ℕ) → 0 < j → j ≤ item_count p → IsName p j x → Placed p j x
   pub head : (j : ℕ) → 0 < j → j ≤ item_count p → slice_get (layout p) j ≡ Some (own j)

@@ -1,8 +1,10 @@
 -- No public clause cites this module. A walk over a list, which may keep the nodes of one colour.
-use Rattle.std.specs.Prelude.{Bool, false, Option, Some, None, ℕ, ◌<◌, ◌≡◌, ◌==◌, List, length, slice_index, slice_set, if◌then◌else◌, ◌^◌, reverse}
+use Rattle.std.specs.Prelude.{Bool, false, Option, Some, None, ℕ, ◌<◌, ◌≡◌, ◌==◌, List, length, slice_index, slice_set}
+use Rattle.std.specs.Prelude.{if◌then◌else◌, ◌^◌, reverse}
 use Rattle.xc_dance.specs.declared.links.nodes.Nodes.{Nodes}
 use Rattle.xc_dance.specs.inner.Links.Span.{Span}
-use Rattle.xc_dance.specs.inner.Links.Steps.{HasSize, hide_costs, CanHideNode, CanUnhideNode, unhide_costs, others_of, hidden_node, list_of, unhidden_node, list_back}
+use Rattle.xc_dance.specs.inner.Links.Steps.{HasSize, hide_costs, CanHideNode, CanUnhideNode, unhide_costs, others_of}
+use Rattle.xc_dance.specs.inner.Links.Steps.{hidden_node, list_of, unhidden_node, list_back}
 use Rattle.xc_dance.specs.inner.Links.Walks.{costs, CanFollow}
 use Rattle.xc_dance.specs.declared.links.nodes.TheConstants.{MARK}
 
@@ -27,7 +29,8 @@ kept_colour (Some c) = c
 
 -- one step down: a node of the colour kept is marked, any other one hidden
 abbrev pub left_node : List Span → Option ℕ → Nodes → ℕ → Nodes
-left_node spans keep t p = if is_kept_colour keep (slice_index t.color p) then with_colour t p MARK else hidden_node spans t p
+left_node spans keep t p =
+    if is_kept_colour keep (slice_index t.color p) then with_colour t p MARK else hidden_node spans t p
 
 -- what one step down writes
 abbrev pub leave_cost : List Span → Option ℕ → Nodes → ℕ → ℕ
@@ -35,11 +38,13 @@ leave_cost spans keep t p = if is_kept_colour keep (slice_index t.color p) then 
 
 -- one step up: a marked node gets its colour back, any other one is unhidden
 abbrev pub back_node : List Span → Option ℕ → Nodes → ℕ → Nodes
-back_node spans keep t p = if is_kept_mark keep (slice_index t.color p) then with_colour t p (kept_colour keep) else unhidden_node spans t p
+back_node spans keep t p =
+    if is_kept_mark keep (slice_index t.color p) then with_colour t p (kept_colour keep) else unhidden_node spans t p
 
 -- what one step up writes
 abbrev pub back_cost : List Span → Option ℕ → Nodes → ℕ → ℕ
-back_cost spans keep t p = if is_kept_mark keep (slice_index t.color p) then 1 else unhide_costs t (reverse (others_of spans p))
+back_cost spans keep t p =
+    if is_kept_mark keep (slice_index t.color p) then 1 else unhide_costs t (reverse (others_of spans p))
 
 -- a step down may be made at p
 pub record CanLeave (spans : List Span) (keep : Option ℕ) (t : Nodes) (p : ℕ) : Type 0 where

@@ -6,7 +6,8 @@ use Rattle.xc_dance.specs.declared.links.nodes.Nodes.{Nodes}
 use Rattle.xc_dance.specs.inner.Links.Span.{Span}
 use Rattle.xc_dance.specs.declared.links.items.Items.{Items}
 use Rattle.xc_input.specs.Problem.{Puzzle, high_at}
-use Rattle.xc_dance.specs.inner.Links.ListWalks.{left_node, back_node, CanHideList, CanUnhideList, with_colour, walk_costs, back_costs}
+use Rattle.xc_dance.specs.inner.Links.ListWalks.{left_node, back_node, CanHideList, CanUnhideList, with_colour}
+use Rattle.xc_dance.specs.inner.Links.ListWalks.{walk_costs, back_costs}
 use Rattle.xc_dance.specs.inner.Links.Steps.{list_of, list_back}
 use Rattle.xc_dance.specs.inner.Links.Purifying.{purified_list, unpurified_list, CanPurify, CanUnpurify}
 use Rattle.xc_dance.specs.inner.Links.Tweaking.{tweaked, untweaked, tweak_cost, untweak_cost, CanTweak, CanUntweak}

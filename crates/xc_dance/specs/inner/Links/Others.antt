@@ -1,5 +1,7 @@
--- No public clause cites this module. The other items of an option, cyclically from behind one of them, and the spans in which their nodes stand.
-use Rattle.std.specs.Prelude.{ℕ, ◌+◌, ◌-◌, ◌<◌, ◌≤◌, ◌^◌, ◌≡◌, ◌==◌, true, Some, List, [], ◌∷◌, length, map, is_some, slice_get, if◌then◌else◌}
+-- No public clause cites this module. The other items of an option, cyclically from behind one of them, and the spans
+-- in which their nodes stand.
+use Rattle.std.specs.Prelude.{ℕ, ◌+◌, ◌-◌, ◌<◌, ◌≤◌, ◌^◌, ◌≡◌, ◌==◌, true, Some, List, [], ◌∷◌, length, map, is_some}
+use Rattle.std.specs.Prelude.{slice_get, if◌then◌else◌}
 use Rattle.xc_input.specs.declared.problem.Use.{Use}
 use Rattle.xc_dance.specs.inner.Links.Span.{Span}
 use Rattle.xc_input.specs.Problem.{Puzzle, colour_in, uses_of}
@@ -17,7 +19,8 @@ abbrev pub behind_use : ℕ → List Use → List ℕ
 behind_use i [] = []
 behind_use i (u ∷ us) = if u.item == i then map (λ v. v.item) us else behind_use i us
 
--- option o stands in this span, between two spacers that lead to its ends, with the nodes of its other items round that of item i
+-- option o stands in this span, between two spacers that lead to its ends, with the nodes of its other items round that
+-- of item i
 pub record IsSpanOf (p : Puzzle) (o i : ℕ) (s : Span) : Type 0 where
   pub from : s.first ≤ link_place p i o
   pub below : link_place p i o < s.end
@@ -31,6 +34,7 @@ pub record IsSpanOf (p : Puzzle) (o i : ℕ) (s : Span) : Type 0 where
 
 -- each node of an option has the option's span, and every place is below 2 ^ 31
 pub record HasSpans (p : Puzzle) (spans : List Span) : Type 0 where
-  pub span : (o i : ℕ) → 0 < o → is_some (colour_in (uses_of p o) i) ≡ true → IsSpanOf p o i (span_at spans (link_place p i o))
+  pub span : (o i : ℕ) → 0 < o → is_some (colour_in (uses_of p o) i) ≡ true
+      → IsSpanOf p o i (span_at spans (link_place p i o))
   pub near : length (layout p) < 2 ^ 31
   pub within : (o i : ℕ) → 0 < o → is_some (colour_in (uses_of p o) i) ≡ true → link_place p i o < length spans

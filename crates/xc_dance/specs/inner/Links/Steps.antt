@@ -1,5 +1,6 @@
 -- No public clause cites this module. One step of a walk over the node table, and the walk round one option.
-use Rattle.std.specs.Prelude.{ℕ, ◌+◌, ◌-◌, ◌<◌, ◌≤◌, ◌≡◌, ◌≢◌, ◌==◌, List, [], ◌∷◌, ◌++◌, length, slice_index, slice_set, if◌then◌else◌, fold, ◌^◌, reverse}
+use Rattle.std.specs.Prelude.{ℕ, ◌+◌, ◌-◌, ◌<◌, ◌≤◌, ◌≡◌, ◌≢◌, ◌==◌, List, [], ◌∷◌, ◌++◌, length, slice_index}
+use Rattle.std.specs.Prelude.{slice_set, if◌then◌else◌, fold, ◌^◌, reverse}
 use Rattle.std.proofs.Common.{zero, suc, get_or}
 use Rattle.std.specs.List.{range_with_len}
 use Rattle.xc_dance.specs.declared.links.nodes.Nodes.{Nodes}
@@ -25,13 +26,23 @@ pub record NamesPlaces (t : Nodes) (q : ℕ) : Type 0 where
 abbrev pub unlinked : Nodes → ℕ → Nodes
 unlinked t q =
     let u = slice_index t.ulink q in let d = slice_index t.dlink q in let i = slice_index t.top q in
-    record { top = slice_set t.top i (slice_index t.top i - 1); ulink = slice_set t.ulink d u; dlink = slice_set t.dlink u d; color = t.color }
+    record {
+      top = slice_set t.top i (slice_index t.top i - 1);
+      ulink = slice_set t.ulink d u;
+      dlink = slice_set t.dlink u d;
+      color = t.color;
+    }
 
 -- node q goes back into its list
 abbrev pub relinked : Nodes → ℕ → Nodes
 relinked t q =
     let u = slice_index t.ulink q in let d = slice_index t.dlink q in let i = slice_index t.top q in
-    record { top = slice_set t.top i (slice_index t.top i + 1); ulink = slice_set t.ulink d q; dlink = slice_set t.dlink u q; color = t.color }
+    record {
+      top = slice_set t.top i (slice_index t.top i + 1);
+      ulink = slice_set t.ulink d q;
+      dlink = slice_set t.dlink u q;
+      color = t.color;
+    }
 
 -- a step of hide at node q, which passes over a marked node
 abbrev pub hidden : Nodes → ℕ → Nodes
@@ -109,7 +120,8 @@ pub record CanHideNode (spans : List Span) (t : Nodes) (p : ℕ) : Type 0 where
   pub within : p < (span_at spans p).end
   pub near : (span_at spans p).end < 2 ^ 31
   pub spacer : IsSpacer (fold hidden t (places (p + 1) (span_at spans p).end)) (span_at spans p).end
-  pub first : slice_index (fold hidden t (places (p + 1) (span_at spans p).end)).ulink (span_at spans p).end ≡ (span_at spans p).first
+  pub first : slice_index (fold hidden t (places (p + 1) (span_at spans p).end)).ulink (span_at spans p).end ≡
+      (span_at spans p).first
 
 -- n nodes from p downwards
 abbrev pub followed : List ℕ → ℕ → ℕ → List ℕ
@@ -131,7 +143,8 @@ pub record CanUnhideNode (spans : List Span) (t : Nodes) (p : ℕ) : Type 0 wher
   pub within : (span_at spans p).first ≤ p
   pub near : (span_at spans p).end < 2 ^ 31
   pub spacer : IsSpacer (fold unhidden t (reverse (places (span_at spans p).first p))) ((span_at spans p).first - 1)
-  pub last : slice_index (fold unhidden t (reverse (places (span_at spans p).first p))).dlink ((span_at spans p).first - 1) + 1 ≡ (span_at spans p).end
+  pub last : slice_index (fold unhidden t (reverse (places (span_at spans p).first p))).dlink
+      ((span_at spans p).first - 1) + 1 ≡ (span_at spans p).end
 
 -- the nodes of i's list from bottom to top, by its links and its length
 abbrev pub list_back : Nodes → ℕ → List ℕ

@@ -2,7 +2,8 @@
 use Rattle.std.specs.Prelude.{Bool, false, ℕ, ◌+◌, ◌<◌, ◌≡◌, List, length, slice_index, if◌then◌else◌, ◌^◌, reverse}
 use Rattle.xc_dance.specs.declared.links.nodes.Nodes.{Nodes}
 use Rattle.xc_dance.specs.inner.Links.Span.{Span}
-use Rattle.xc_dance.specs.inner.Links.Steps.{HasSize, NamesPlaces, unlinked, relinked, hide_costs, CanHideNode, CanUnhideNode, unhide_costs, others_of, hidden_node, unhidden_node}
+use Rattle.xc_dance.specs.inner.Links.Steps.{HasSize, NamesPlaces, unlinked, relinked, hide_costs, CanHideNode}
+use Rattle.xc_dance.specs.inner.Links.Steps.{CanUnhideNode, unhide_costs, others_of, hidden_node, unhidden_node}
 
 -- where item i isn't covered, the option of node x is hidden first
 abbrev pub hidden_unless : List Span → Bool → Nodes → ℕ → Nodes

@@ -1,5 +1,6 @@
 -- No public clause cites this module. Many Tweaks undone at once, downwards.
-use Rattle.std.specs.Prelude.{Bool, false, ℕ, ◌+◌, ◌<◌, ◌≡◌, List, length, slice_index, slice_set, if◌then◌else◌, fold, ◌^◌, reverse}
+use Rattle.std.specs.Prelude.{Bool, false, ℕ, ◌+◌, ◌<◌, ◌≡◌, List, length, slice_index, slice_set, if◌then◌else◌, fold}
+use Rattle.std.specs.Prelude.{◌^◌, reverse}
 use Rattle.xc_dance.specs.declared.links.nodes.Nodes.{Nodes}
 use Rattle.xc_dance.specs.inner.Links.Span.{Span}
 use Rattle.xc_dance.specs.inner.Links.Steps.{CanUnhideNode, unhide_costs, others_of, followed}
@@ -20,7 +21,8 @@ with_top t q v = record { top = slice_set t.top q v; ulink = t.ulink; dlink = t.
 
 -- one step: node p's option is unhidden, unless its item is covered, and what stands below p has p above it
 abbrev pub brought_back : List Span → Bool → Nodes → ℕ → Nodes
-brought_back spans covered t p = with_ulink (unhidden_unless spans covered t p) (slice_index (unhidden_unless spans covered t p).dlink p) p
+brought_back spans covered t p =
+    with_ulink (unhidden_unless spans covered t p) (slice_index (unhidden_unless spans covered t p).dlink p) p
 
 -- what that writes
 abbrev pub bring_back_cost : List Span → Bool → Nodes → ℕ → ℕ
@@ -34,7 +36,8 @@ pub record CanBringBack (spans : List Span) (covered : Bool) (t : Nodes) (p : �
 
 -- steps can be made at the nodes ps one after another, and each is where the one before leads to
 abbrev pub CanBringBackAll : List Span → Bool → Nodes → ℕ → List ℕ → Type 0
-CanBringBackAll spans covered = CanFollow (brought_back spans covered) (CanBringBack spans covered) (λ (t : Nodes). t.dlink)
+CanBringBackAll spans covered =
+    CanFollow (brought_back spans covered) (CanBringBack spans covered) (λ (t : Nodes). t.dlink)
 
 -- what that writes
 abbrev pub bring_back_costs : List Span → Bool → Nodes → List ℕ → ℕ
@@ -48,12 +51,15 @@ untweaked_all spans covered t i x k =
 
 -- what that writes
 abbrev pub untweak_all_cost : List Span → Bool → Nodes → ℕ → ℕ → ℕ → ℕ
-untweak_all_cost spans covered t i x k = bring_back_costs spans covered (with_dlink t i x) (followed (with_dlink t i x).dlink k x) + 2
+untweak_all_cost spans covered t i x k =
+    bring_back_costs spans covered (with_dlink t i x) (followed (with_dlink t i x).dlink k x) + 2
 
 -- that may be done
 pub record CanUntweakAll (spans : List Span) (covered : Bool) (t : Nodes) (i x k : ℕ) : Type 0 where
   pub place : i < length t.dlink
   pub bring_back : CanBringBackAll spans covered (with_dlink t i x) x (followed (with_dlink t i x).dlink k x)
   pub many : k < 2 ^ 30
-  pub top : i < length (fold (brought_back spans covered) (with_dlink t i x) (followed (with_dlink t i x).dlink k x)).top
-  pub few : slice_index (fold (brought_back spans covered) (with_dlink t i x) (followed (with_dlink t i x).dlink k x)).top i < 2 ^ 31
+  pub top : i < length (fold (brought_back spans covered) (with_dlink t i x)
+      (followed (with_dlink t i x).dlink k x)).top
+  pub few : slice_index (fold (brought_back spans covered) (with_dlink t i x)
+      (followed (with_dlink t i x).dlink k x)).top i < 2 ^ 31

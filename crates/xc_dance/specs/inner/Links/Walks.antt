@@ -16,4 +16,5 @@ CanAll step Can t (q ∷ qs) = Can t q × CanAll step Can (step t q) qs
 abbrev pub CanFollow : (Nodes → ℕ → Nodes) → (Nodes → ℕ → Type 0) → (Nodes → List ℕ) → Nodes → ℕ → List ℕ → Type 0
 CanFollow step Can links t p [] = Unit {0}
 CanFollow step Can links t p (x ∷ xs) =
-    (p ≡ x) × Can t x × (x < length (links (step t x))) × CanFollow step Can links (step t x) (slice_index (links (step t x)) x) xs
+    (p ≡ x) × Can t x × (x < length (links (step t x)))
+    × CanFollow step Can links (step t x) (slice_index (links (step t x)) x) xs

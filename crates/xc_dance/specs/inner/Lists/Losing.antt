@@ -1,5 +1,6 @@
 -- No public clause cites this module. Lists of option numbers, one for each item, from item 1 on, that lose options.
-use Rattle.std.specs.Prelude.{ℕ, ◌+◌, ◌≡◌, Bool, false, not, ◌&&◌, ◌==◌, List, [], ◌∷◌, ◌++◌, map, Option, Some, None, if◌then◌else◌, All, length, IsTrue, ⊤}
+use Rattle.std.specs.Prelude.{ℕ, ◌+◌, ◌≡◌, Bool, false, not, ◌&&◌, ◌==◌, List, [], ◌∷◌, ◌++◌, map, Option, Some, None}
+use Rattle.std.specs.Prelude.{if◌then◌else◌, All, length, IsTrue, ⊤}
 use Rattle.std.specs.List.{list_any, range_with_len}
 use Rattle.xc_input.specs.declared.problem.Use.{Use}
 use Rattle.xc_input.specs.Problem.{Puzzle, item_count, uses_of, colour_in}

@@ -1,5 +1,6 @@
 -- No public clause cites this module. Taking numbers out of lists, and putting them back.
-use Rattle.std.specs.Prelude.{ℕ, ◌<◌, ◌≤◌, not, ◌==◌, nat_le, filter, map, vec_capacity, List, [], ◌∷◌, length, slice_set, slice_index_or, ◌≡◌, if◌then◌else◌, ⊤}
+use Rattle.std.specs.Prelude.{ℕ, ◌<◌, ◌≤◌, not, ◌==◌, nat_le, filter, map, vec_capacity, List, [], ◌∷◌, length}
+use Rattle.std.specs.Prelude.{slice_set, slice_index_or, ◌≡◌, if◌then◌else◌, ⊤}
 use Rattle.std.specs.List.{insert, list_any}
 use Rattle.std.specs.Global.{Vec}
 use Rattle.xc_dance.specs.declared.lists.undo_log.Removed.{Removed}
@@ -47,7 +48,8 @@ AreMarks (k ∷ ks) n = (k ≤ n) × AreMarks ks k
 -- its list is there, reaches to its place and has room for it
 abbrev pub HasRoom : List ℕ → Removed → List (List ℕ) → Type 0
 HasRoom rooms e lists =
-    (e.list < length lists) × (e.place ≤ length (list_at lists e.list)) × (length (list_at lists e.list) < slice_index_or rooms e.list 0)
+    (e.list < length lists) × (e.place ≤ length (list_at lists e.list))
+    × (length (list_at lists e.list) < slice_index_or rooms e.list 0)
 
 -- put back into the new lists it gives the old ones
 abbrev pub IsPutBack : List ℕ → Removed → List (List ℕ) → List (List ℕ) → Type 0

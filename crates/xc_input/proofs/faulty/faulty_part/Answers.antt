@@ -3,7 +3,8 @@ use Rattle.xc_input.specs.Tokens.{parts}
 use Rattle.xc_input.specs.Faults.{first, part_checks}
 use Rattle.xc_input.specs.inner.Stages.{Row}
 use Rattle.xc_input.specs.inner.Builders.{row_of_line}
-use Rattle.xc_input.proofs.FaultyLemmas.{IsRowOf, read-start, read-stands, read-on, read-stop, read-end, row-checks, row-more}
+use Rattle.xc_input.proofs.FaultyLemmas.{IsRowOf, read-start, read-stands, read-on, read-stop, read-end, row-checks}
+use Rattle.xc_input.proofs.FaultyLemmas.{row-more}
 use Rattle.xc_input.proofs.TokenLemmas.Unbroken.{part-solid}
 use Rattle.xc_input.proofs.faulty.faulty_part.Goals as goal
 
@@ -17,18 +18,24 @@ loop-part-init c = (
 )
 
 pub add-requires-clause-solid : goal.add-requires-clause-solid
-add-requires-clause-solid c = part-solid c.loop-part.rest.now c.in-Some.part.now (parts c.in-Some.others.now) c.in-Some.ensures.0
+add-requires-clause-solid c =
+    part-solid c.loop-part.rest.now c.in-Some.part.now (parts c.in-Some.others.now) c.in-Some.ensures.0
 
 pub cut_out-requires : goal.cut_out-requires
-cut_out-requires c = read-stands parts (part_checks c.args.kind) c.args.line.now c.loop-part.rest.now c.in-Some.part.now c.in-Some.others.now c.loop-part.invariant.1 c.loop-part.invariant.3 c.in-Some.ensures.2
+cut_out-requires c =
+    read-stands parts (part_checks c.args.kind) c.args.line.now c.loop-part.rest.now c.in-Some.part.now
+    c.in-Some.others.now c.loop-part.invariant.1 c.loop-part.invariant.3 c.in-Some.ensures.2
 
 pub returns-in-Err-Fault : goal.returns-in-Err-Fault
 returns-in-Err-Fault c =
     let others = c.loop-part.invariant.1 in
-    read-stop parts (part_checks c.args.kind) c.args.line.now c.loop-part.rest.now c.in-Some.part.now c.in-Some.others.now others c.in-Err-Fault.fault c.cut_out.result c.loop-part.invariant.3 c.in-Some.ensures.0
-    (ap first (sym (row-checks c.args.kind (row_of_line c.loop-part.items) others c.in-Some.part.now c.loop-part.invariant.2))
+    read-stop parts (part_checks c.args.kind) c.args.line.now c.loop-part.rest.now c.in-Some.part.now
+    c.in-Some.others.now others c.in-Err-Fault.fault c.cut_out.result c.loop-part.invariant.3 c.in-Some.ensures.0
+    (ap first (sym (row-checks c.args.kind (row_of_line c.loop-part.items) others c.in-Some.part.now
+    c.loop-part.invariant.2))
     ∙ (rw c.in-Err-Fault.field-0-is at c.in-Err-Fault.ensures.judged))
-    c.cut_out.ensures.place c.cut_out.ensures.token c.cut_out.ensures.behind (cc (c.cut_out.ensures.kind, c.in-Err-Fault.fault-is))
+    c.cut_out.ensures.place c.cut_out.ensures.token c.cut_out.ensures.behind
+    (cc (c.cut_out.ensures.kind, c.in-Err-Fault.fault-is))
 
 pub loop-part-preserved : goal.loop-part-preserved
 loop-part-preserved c =
@@ -38,10 +45,13 @@ loop-part-preserved c =
       others ++ part ∷ [],
       subst (λ (row : Row). IsRowOf c.args.kind row (others ++ part ∷ [])) (sym c.in-Ok.ensures.added.1)
           (row-more c.args.kind (row_of_line c.loop-part.items) others part c.loop-part.invariant.2),
-      read-on parts (part_checks c.args.kind) c.args.line.now c.loop-part.rest.now part c.in-Some.others.now others c.loop-part.invariant.3 c.in-Some.ensures.0 c.in-Some.ensures.2
+      read-on parts (part_checks c.args.kind) c.args.line.now c.loop-part.rest.now part c.in-Some.others.now others
+          c.loop-part.invariant.3 c.in-Some.ensures.0 c.in-Some.ensures.2
           (ap first (sym (row-checks c.args.kind (row_of_line c.loop-part.items) others part c.loop-part.invariant.2))
           ∙ c.in-Ok.ensures.judged),
     )
 
 pub returns : goal.returns
-returns c = read-end parts (part_checks c.args.kind) c.args.line.now c.loop-part.rest.now c.loop-part.invariant.1 c.loop-part.invariant.3 c.in_default.ensures
+returns c =
+    read-end parts (part_checks c.args.kind) c.args.line.now c.loop-part.rest.now c.loop-part.invariant.1
+    c.loop-part.invariant.3 c.in_default.ensures

@@ -9,13 +9,17 @@ pub returns-then-is_empty-clause-ended : goal.returns-then-is_empty-clause-ended
 returns-then-is_empty-clause-ended c =
     let len : length c.args.carry.now.items ≡ 0 = grind (arith, nat_tests, c.args.carry.now.ok.0) in
     let none : c.args.carry.now.items ≡ [] = nil_from_length _ len in
-    ends _ _ _ _ _ _ _ c.requires.state c.requires.piece (sym (ap (λ xs. xs ++ c.args.end.now) none)) c.line.ensures.kind c.line.ensures.given c.line.ensures.error c.line.ensures.state none
+    ends _ _ _ _ _ _ _ c.requires.state c.requires.piece (sym (ap (λ xs. xs ++ c.args.end.now) none))
+    c.line.ensures.kind c.line.ensures.given c.line.ensures.error c.line.ensures.state none
 
 pub line-outcome-requires : goal.line-outcome-requires
 line-outcome-requires c =
-    let whole : c.as_slice.result.now ≡ c.args.carry.now.items ++ c.args.end.now = c.as_slice.ensures.value ∙ c.in_ok-extend_from_slice.ensures.items in
+    let whole : c.as_slice.result.now ≡ c.args.carry.now.items ++ c.args.end.now =
+    c.as_slice.ensures.value ∙ c.in_ok-extend_from_slice.ensures.items in
     ap (has 10) whole ∙ lacks-append 10 c.args.carry.now.items c.args.end.now c.requires.state.partial c.requires.piece
 
 pub returns-clause-ended : goal.returns-clause-ended
 returns-clause-ended c =
-    ends _ _ _ _ _ _ _ c.requires.state c.requires.piece (c.as_slice.ensures.value ∙ c.in_ok-extend_from_slice.ensures.items) c.line-outcome.ensures.kind c.line-outcome.ensures.given c.line-outcome.ensures.error c.line-outcome.ensures.state c.clear.ensures.items
+    ends _ _ _ _ _ _ _ c.requires.state c.requires.piece
+    (c.as_slice.ensures.value ∙ c.in_ok-extend_from_slice.ensures.items) c.line-outcome.ensures.kind
+    c.line-outcome.ensures.given c.line-outcome.ensures.error c.line-outcome.ensures.state c.clear.ensures.items

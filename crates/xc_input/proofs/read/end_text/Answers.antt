@@ -9,18 +9,30 @@ pub returns-then-is_empty-clause-answer : goal.returns-then-is_empty-clause-answ
 returns-then-is_empty-clause-answer c =
     let none : length c.args.carry.now ≡ 0 = grind (arith, nat_tests) in
     ends-as _ _ _ _ _ refl (no-part c.args.reader c.args.carry.now c.requires none)
-    (record { accepted = c.finish.ensures.accepted; only = c.finish.ensures.only; first = c.finish.ensures.first; refused = c.finish.ensures.refused })
+    (record {
+      accepted = c.finish.ensures.accepted;
+      only = c.finish.ensures.only;
+      first = c.finish.ensures.first;
+      refused = c.finish.ensures.refused;
+    })
 
 pub returns-in_err-line-clause-answer : goal.returns-in_err-line-clause-answer
 returns-in_err-line-clause-answer c =
     let error = err_from_is_err_and c.from_residual.result c.from_residual.ensures.1 in
     let some : 0 < length c.args.carry.now = grind (arith, nat_tests) in
-    rw (error.1, error.2) (ends-as _ _ _ _ _ c.in_err-line.ensures.kind (last-part c.args.reader c.args.carry.now _ c.requires some c.in_err-line.ensures.given)
+    rw (error.1, error.2) (ends-as _ _ _ _ _ c.in_err-line.ensures.kind
+    (last-part c.args.reader c.args.carry.now _ c.requires some c.in_err-line.ensures.given)
     (line-ends _ _ c.in_err-line.field-0.0 c.in_err-line.ensures.state))
 
 -- behind a last line
 pub returns-clause-answer : goal.returns-clause-answer
 returns-clause-answer c =
     let some : 0 < length c.args.carry.now = grind (arith, nat_tests) in
-    ends-as _ _ _ _ _ c.in_ok-line.ensures.kind (last-part c.args.reader c.args.carry.now _ c.requires some c.in_ok-line.ensures.given)
-    (record { accepted = c.finish-2.ensures.accepted; only = c.finish-2.ensures.only; first = c.finish-2.ensures.first; refused = c.finish-2.ensures.refused })
+    ends-as _ _ _ _ _ c.in_ok-line.ensures.kind
+    (last-part c.args.reader c.args.carry.now _ c.requires some c.in_ok-line.ensures.given)
+    (record {
+      accepted = c.finish-2.ensures.accepted;
+      only = c.finish-2.ensures.only;
+      first = c.finish-2.ensures.first;
+      refused = c.finish-2.ensures.refused;
+    })

@@ -10,11 +10,15 @@ returns-in_err-end_line-clause-err c =
     let error = err_from_is_err_and c.from_residual.result c.from_residual.ensures.1 in
     let before = fed c.loop-end.reader c.loop-end.carry.items in
     let split : c.loop-end.rest.now ≡ c.in-Some.end.now ++ 10 ∷ c.in-Some.others.now = c.in-Some.ensures.0 in
-    let all : fed c.args.reader.now c.args.carry.now.items ++ c.args.piece.now ≡ ((before ++ c.in-Some.end.now) ++ 10 ∷ []) ++ c.in-Some.others.now =
+    let all : fed c.args.reader.now c.args.carry.now.items ++ c.args.piece.now ≡
+    ((before ++ c.in-Some.end.now) ++ 10 ∷ []) ++ c.in-Some.others.now =
     sym c.loop-end.invariant.2 ∙ ap (λ xs. before ++ xs) split ∙ grind (arith, common_steps) in
-    rw (error.1, error.2) (subst (λ kind. Spoils kind (fed c.args.reader.now c.args.carry.now.items ++ c.args.piece.now) c.in_err-end_line.field-0.0) c.loop-end.invariant.1
+    rw (error.1, error.2) (subst
+    (λ kind. Spoils kind (fed c.args.reader.now c.args.carry.now.items ++ c.args.piece.now)
+    c.in_err-end_line.field-0.0) c.loop-end.invariant.1
     (Spoils-more _ _ c.in-Some.others.now _ c.in_err-end_line.field-0.0 all c.in_err-end_line.ensures.ended.err))
 
 pub returns-clause-state : goal.returns-clause-state
 returns-clause-state c =
-    between-more c.loop-end.reader c.loop-end.carry.items c.loop-end.rest.now c.extend_from_slice.new.self.items c.loop-end.invariant.0 c.in_default.ensures c.in_ok-extend_from_slice.ensures.items
+    between-more c.loop-end.reader c.loop-end.carry.items c.loop-end.rest.now c.extend_from_slice.new.self.items
+    c.loop-end.invariant.0 c.in_default.ensures c.in_ok-extend_from_slice.ensures.items

@@ -4,10 +4,12 @@ use Rattle.xc_input.proofs.TokenLemmas.Bytes.{has-all, has-at, not_false, whole}
 use Rattle.xc_input.proofs.tokens.cut_at.Goals as goal
 
 pub returns-in-None-clause-front : goal.returns-in-None-clause-front
-returns-in-None-clause-front c = sym (has-all c.args.byte c.args.bytes.now (λ k p. not_false _ (c.in-None.ensures k (omega arith) p))).1
+returns-in-None-clause-front c =
+    sym (has-all c.args.byte c.args.bytes.now (λ k p. not_false _ (c.in-None.ensures k (omega arith) p))).1
 
 pub returns-in-None-clause-back : goal.returns-in-None-clause-back
-returns-in-None-clause-back c = (has-all c.args.byte c.args.bytes.now (λ k p. not_false _ (c.in-None.ensures k (omega arith) p))).0
+returns-in-None-clause-back c =
+    (has-all c.args.byte c.args.bytes.now (λ k p. not_false _ (c.in-None.ensures k (omega arith) p))).0
 
 pub returns-in-Some-clause-front : goal.returns-in-Some-clause-front
 returns-in-Some-clause-front c =
@@ -17,6 +19,12 @@ returns-in-Some-clause-front c =
 pub returns-in-Some-clause-back : goal.returns-in-Some-clause-back
 returns-in-Some-clause-back c =
     let h = c.in-Some.ensures in
-    let f : (has c.args.byte c.args.bytes.now ≡ true) × (take c.in-Some.i c.args.bytes.now ≡ before c.args.byte c.args.bytes.now) × (drop (suc c.in-Some.i) c.args.bytes.now ≡ after c.args.byte c.args.bytes.now) =
-    has-at c.args.byte c.args.bytes.now c.in-Some.i h.0.high (λ k p. not_false _ (h.0.before k (omega arith) p)) h.1 in
-    (f.0, whole c.args.bytes.now _ (c.in-Some.i + 1) refl ∙ ap (λ n. drop n c.args.bytes.now) (add-one c.in-Some.i) ∙ f.2)
+    let f : (has c.args.byte c.args.bytes.now ≡ true)
+    × (take c.in-Some.i c.args.bytes.now ≡ before c.args.byte c.args.bytes.now)
+    × (drop (suc c.in-Some.i) c.args.bytes.now ≡ after c.args.byte c.args.bytes.now) =
+    has-at c.args.byte c.args.bytes.now c.in-Some.i h.0.high (λ k p. not_false _ (h.0.before k (omega arith) p))
+    h.1 in (
+      f.0,
+      whole c.args.bytes.now _ (c.in-Some.i + 1) refl
+          ∙ ap (λ n. drop n c.args.bytes.now) (add-one c.in-Some.i) ∙ f.2,
+    )

@@ -4,9 +4,11 @@ use Rattle.xc_input.specs.Words.{has}
 use Rattle.xc_input.proofs.TokenLemmas.Bytes.{has-all, has-at, not_false}
 use Rattle.xc_input.proofs.tokens.has_byte.Goals as goal
 
-by-place : (byte : ℕ) (bytes : List ℕ) (at : Option ℕ) → IsFirstByte (is_byte byte) bytes at → is_some at ≡ has byte bytes
+by-place : (byte : ℕ) (bytes : List ℕ) (at : Option ℕ) → IsFirstByte (is_byte byte) bytes at
+    → is_some at ≡ has byte bytes
 by-place byte bytes None h = sym (has-all byte bytes (λ k p. not_false _ (h k (omega arith) p))).0
-by-place byte bytes (Some i) h = sym (has-at byte bytes i h.0.high (λ k p. not_false _ (h.0.before k (omega arith) p)) h.1).0
+by-place byte bytes (Some i) h =
+    sym (has-at byte bytes i h.0.high (λ k p. not_false _ (h.0.before k (omega arith) p)) h.1).0
 
 pub returns : goal.returns
 returns c = c.is_some.ensures ∙ by-place c.args.byte c.args.bytes.now c.find_byte.result c.find_byte.ensures

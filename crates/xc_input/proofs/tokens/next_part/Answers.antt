@@ -9,7 +9,9 @@ use Rattle.xc_input.proofs.tokens.next_part.Goals as goal
 pub returns-then-is_empty : goal.returns-then-is_empty
 returns-then-is_empty c =
     let none : length c.skip_white-rest.result.now ≡ 0 = grind (arith, nat_tests) in
-    ap (flat_map split_bars) (sym (tokens-drop_white c.args.line.now) ∙ ap tokens (sym c.skip_white-rest.ensures) ∙ ap tokens (nil_from_length _ none))
+    ap (flat_map split_bars)
+    (sym (tokens-drop_white c.args.line.now) ∙ ap tokens (sym c.skip_white-rest.ensures)
+    ∙ ap tokens (nil_from_length _ none))
 
 pub returns : goal.returns
 returns c =
@@ -22,5 +24,7 @@ returns c =
 pub returns-then-rest-eq124 : goal.returns-then-rest-eq124
 returns-then-rest-eq124 c =
     let some : 0 < length c.skip_white-rest.result.now = grind (arith, nat_tests) in
-    let h = cuts_bar _ _ _ _ c.skip_white-rest.ensures some c.if-rest-eq124.true c.split_at.ensures.front c.split_at.ensures.back in
+    let h =
+    cuts_bar _ _ _ _ c.skip_white-rest.ensures some c.if-rest-eq124.true c.split_at.ensures.front
+    c.split_at.ensures.back in
     (h.0, h.1, cut-stands _ _ _ _ 1 c.skip_white-rest.ensures c.split_at.ensures.front c.split_at.ensures.back)

@@ -10,7 +10,8 @@ use Rattle.xc_input.proofs.tokens.next_token.Goals as goal
 pub returns-then-is_empty : goal.returns-then-is_empty
 returns-then-is_empty c =
     let none : length c.skip_white-rest.result.now ≡ 0 = grind (arith, nat_tests) in
-    sym (tokens-drop_white c.args.line.now) ∙ ap tokens (sym c.skip_white-rest.ensures) ∙ ap tokens (nil_from_length _ none)
+    sym (tokens-drop_white c.args.line.now) ∙ ap tokens (sym c.skip_white-rest.ensures)
+    ∙ ap tokens (nil_from_length _ none)
 
 pub returns-in-Some-cut_behind : goal.returns-in-Some-cut_behind
 returns-in-Some-cut_behind c =
@@ -19,12 +20,17 @@ returns-in-Some-cut_behind c =
     let some : 0 < length rest = grind (arith, nat_tests) in
     let known = c.in-Some.ensures in
     let cut = c.in-Some-cut_behind.ensures in
-    cut-token (key_names c.args.names.now.keys) c.args.line.now rest (take n rest) c.in-Some.behind.now c.in-Some-cut_behind.cut.1.now c.guess-at.result.0 c.in-Some-cut_behind.cut.0 c.requires c.skip_white-rest.ensures some
-    (sym (take-append-drop n rest) ∙ ap (λ back. take n rest ++ back) (sym known.1)) known.2 cut.name.0 cut.name.1 cut.cut
+    cut-token (key_names c.args.names.now.keys) c.args.line.now rest (take n rest) c.in-Some.behind.now
+    c.in-Some-cut_behind.cut.1.now c.guess-at.result.0 c.in-Some-cut_behind.cut.0 c.requires
+    c.skip_white-rest.ensures some
+    (sym (take-append-drop n rest) ∙ ap (λ back. take n rest ++ back) (sym known.1)) known.2 cut.name.0 cut.name.1
+    cut.cut
 
 pub returns : goal.returns
 returns c =
     let some : 0 < length c.skip_white-rest.result.now = grind (arith, nat_tests) in
-    let h = cuts_first _ _ _ _ c.skip_white-rest.ensures some (c.split_at.ensures.front ∙ ap (λ n. take n c.skip_white-rest.result.now) c.word_len.ensures.value)
+    let h =
+    cuts_first _ _ _ _ c.skip_white-rest.ensures some
+    (c.split_at.ensures.front ∙ ap (λ n. take n c.skip_white-rest.result.now) c.word_len.ensures.value)
     (c.split_at.ensures.back ∙ ap (λ n. drop n c.skip_white-rest.result.now) c.word_len.ensures.value) in
     (c.split_at.result.0.now, h.0, h.1, c.looked_up.ensures)

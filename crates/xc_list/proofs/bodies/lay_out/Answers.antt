@@ -9,6 +9,8 @@ pub loop-o-preserved : goal.loop-o-preserved
 loop-o-preserved c =
     let options = c.args.problem.now.puzzle.options in
     let o = c.loop-o.o in
-    let here : slice_get options o ≡ Some c.option.result.now = sym (numbered_get-at options (o + 1) o (omega arith)) ∙ c.option.ensures.value in
-    subst (λ os. AreLaid c.args.problem.now os c.add_option.new.texts.bytes.items c.add_option.new.starts.items) (sym (take_more-get options o c.option.result.now here))
+    let here : slice_get options o ≡ Some c.option.result.now =
+    sym (numbered_get-at options (o + 1) o (omega arith)) ∙ c.option.ensures.value in
+    subst (λ os. AreLaid c.args.problem.now os c.add_option.new.texts.bytes.items c.add_option.new.starts.items)
+    (sym (take_more-get options o c.option.result.now here))
     (c.in_ok-add_option.ensures (take o options) c.loop-o.invariant)

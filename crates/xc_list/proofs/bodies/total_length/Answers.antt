@@ -1,4 +1,5 @@
-use Rattle.std.proofs.Common.{arith, ◌≡◌, ◌+◌, ◌-◌, ◌^◌, ◌++◌, length, min, take, [], ◌∷◌, ap, sym, ◌∙◌, subst, length-append, append-nil, Some}
+use Rattle.std.proofs.Common.{arith, ◌≡◌, ◌+◌, ◌-◌, ◌^◌, ◌++◌, length, min, take, [], ◌∷◌, ap, sym, ◌∙◌, subst}
+use Rattle.std.proofs.Common.{length-append, append-nil, Some}
 use Rattle.std.specs.Prelude.{slice_get, flat_map}
 use Rattle.std.proofs.lemmas.Grind.{common_steps}
 use Rattle.std.proofs.lemmas.List.Concat.{flat_map-append}
@@ -13,9 +14,13 @@ loop-o-preserved c =
     let options = p.puzzle.options in
     let o = c.loop-o.o in
     let us = c.option.result.now in
-    let here : slice_get options o ≡ Some us = sym (numbered_get-at options (o + 1) o (omega arith)) ∙ c.option.ensures.value in
-    let more : flat_map (uses_text p) (take (o + 1) options) ≡ flat_map (uses_text p) (take o options) ++ uses_text p us =
-    ap (flat_map (uses_text p)) (take_more-get options o us here) ∙ flat_map-append (uses_text p) (take o options) (us ∷ []) ∙ ap (λ t. flat_map (uses_text p) (take o options) ++ t) (append-nil (uses_text p us)) in
+    let here : slice_get options o ≡ Some us =
+    sym (numbered_get-at options (o + 1) o (omega arith)) ∙ c.option.ensures.value in
+    let more : flat_map (uses_text p) (take (o + 1) options) ≡ flat_map (uses_text p) (take o options) ++
+    uses_text p us =
+    ap (flat_map (uses_text p)) (take_more-get options o us here)
+    ∙ flat_map-append (uses_text p) (take o options) (us ∷ [])
+    ∙ ap (λ t. flat_map (uses_text p) (take o options) ++ t) (append-nil (uses_text p us)) in
     omega (
       arith,
       c.loop-o.invariant,
@@ -29,4 +34,5 @@ pub returns : goal.returns
 returns c =
     let options = c.args.problem.now.puzzle.options in
     let all : take c.loop-o.o options ≡ options = grind (arith, common_steps) in
-    subst (λ os. c.loop-o.total ≡ min (length (flat_map (uses_text c.args.problem.now) os)) (2 ^ 64 - 1)) all c.loop-o.invariant
+    subst (λ os. c.loop-o.total ≡ min (length (flat_map (uses_text c.args.problem.now) os)) (2 ^ 64 - 1)) all
+    c.loop-o.invariant

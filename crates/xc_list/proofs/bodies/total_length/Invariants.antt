@@ -4,4 +4,5 @@ use Rattle.xc_list.specs.inner.Layout.{uses_text}
 use Rattle.xc_list.proofs.bodies.total_length.Given as goal
 
 abbrev pub invariant-loop-o : goal.invariant-loop-o
-invariant-loop-o l = l.total ≡ min (length (flat_map (uses_text l.problem) (take l.o l.problem.puzzle.options))) (2 ^ 64 - 1)
+invariant-loop-o l =
+    l.total ≡ min (length (flat_map (uses_text l.problem) (take l.o l.problem.puzzle.options))) (2 ^ 64 - 1)

@@ -11,17 +11,23 @@ pub returns-then-contains : goal.returns-then-contains
 returns-then-contains c = (
   λ h. cc,
   λ apart. absurd (stands_again c.in-Some.first.now c.in-Some.others.now c.loop-first.rest.now c.in-Some.ensures.cases.0
-      (sym c.contains.ensures.value ∙ c.if-contains.true) (c.loop-first.invariant.left (each_two_from_AllPairs _ c.args.options.now apart))),
+      (sym c.contains.ensures.value ∙ c.if-contains.true)
+      (c.loop-first.invariant.left (each_two_from_AllPairs _ c.args.options.now apart))),
 )
 
 pub loop-first-preserved : goal.loop-first-preserved
 loop-first-preserved c = record {
-  all = λ apart. c.loop-first.invariant.all (stands_alone c.in-Some.first.now c.in-Some.others.now c.loop-first.rest.now c.in-Some.ensures.cases.0
+  all =
+      λ apart. c.loop-first.invariant.all
+      (stands_alone c.in-Some.first.now c.in-Some.others.now c.loop-first.rest.now c.in-Some.ensures.cases.0
       (sym c.contains.ensures.value ∙ c.if-contains.false) apart);
   left = λ apart. (subst (EachTwo (λ a b. a ≢ b)) c.in-Some.ensures.cases.0 (c.loop-first.invariant.left apart)).1;
 }
 
 pub returns : goal.returns
 returns c =
-    let none = no_number c.loop-first.rest.now c.in_default.ensures.cases in
-    (λ h. AllPairs-from_each_two _ c.args.options.now (c.loop-first.invariant.all (subst (EachTwo (λ a b. a ≢ b)) (sym none) tt)), λ apart. refl)
+    let none = no_number c.loop-first.rest.now c.in_default.ensures.cases in (
+      λ h. AllPairs-from_each_two _ c.args.options.now
+          (c.loop-first.invariant.all (subst (EachTwo (λ a b. a ≢ b)) (sym none) tt)),
+      λ apart. refl,
+    )

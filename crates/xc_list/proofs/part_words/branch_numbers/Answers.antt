@@ -9,7 +9,8 @@ returns-in_default c =
     let none : branch_number w ≡ None = cc (c.branch_number.ensures, c.deref.ensures.value, c.in_default.is) in
     none_told (map (λ w. w.items) c.args.words.now) c.loop-word.word-index c.loop-word.numbers.items w
     c.loop-word.invariant.all
-    (word_at (λ w. w.items) c.args.words.now c.loop-word.word-index c.word-item.result c.loop-word-test.true c.word-item.is)
+    (word_at (λ w. w.items) c.args.words.now c.loop-word.word-index c.word-item.result c.loop-word-test.true
+    c.word-item.is)
     none
 
 pub loop-word-preserved : goal.loop-word-preserved
@@ -20,6 +21,7 @@ loop-word-preserved c =
     record {
       all = one_told (map (λ w. w.items) c.args.words.now) c.loop-word.word-index c.loop-word.numbers.items w
           c.push.new.self.items c.in-Some.number c.loop-word.invariant.all
-          (word_at (λ w. w.items) c.args.words.now c.loop-word.word-index c.word-item.result c.loop-word-test.true c.word-item.is)
+          (word_at (λ w. w.items) c.args.words.now c.loop-word.word-index c.word-item.result c.loop-word-test.true
+          c.word-item.is)
           one c.in_ok-push.ensures.items;
     }

@@ -8,19 +8,25 @@ part : (g : _) (c : After-path g) → IsPath c.args.problem.now.puzzle c.path.re
     × (c.loop-found.cut.to_come ≡ below c.args.problem.now.puzzle c.path.result.now ++ c.next.new.self.to_come)
 part g c =
     part_of c.args.problem.now.puzzle c.path.result.now c.loop-found.cut c.next.new.self
-    (ap (λ (u : Uncut). u.puzzle) c.loop-found.invariant.still ∙ c.requires.puzzle) c.path.ensures (c.next.ensures.path c.in-Part.is) (c.next.ensures.part c.in-Part.is)
+    (ap (λ (u : Uncut). u.puzzle) c.loop-found.invariant.still ∙ c.requires.puzzle) c.path.ensures
+    (c.next.ensures.path c.in-Part.is) (c.next.ensures.part c.in-Part.is)
 
 pub returns-in-Err-clause-plan : goal.returns-in-Err-clause-plan
 returns-in-Err-clause-plan g c =
     let at = part g (goal.at.returns-in-Err-clause-plan g c).After-path in
-    planned_broke c.args.problem.now c.loop-found.found c.path.result.now c.loop-found.cut.to_come c.next.new.self.to_come _ _ _
+    planned_broke c.args.problem.now c.loop-found.found c.path.result.now c.loop-found.cut.to_come
+    c.next.new.self.to_come _ _ _
     c.loop-found.invariant.planned at.0 at.1 c.in-Err.ensures
 
 pub loop-found-preserved : goal.loop-found-preserved
 loop-found-preserved g c =
     let at = part g (goal.at.loop-found-preserved g c).After-path in
     record {
-      still = c.next.ensures.still ∙ ap (λ (u : Uncut). record u { to_come = c.next.new.self.to_come; path = c.next.new.self.path }) c.loop-found.invariant.still;
-      planned = planned_more c.args.problem.now c.loop-found.found c.path.result.now c.loop-found.cut.to_come c.next.new.self.to_come _ _ _
+      still = c.next.ensures.still
+          ∙ ap (λ (u : Uncut). record u { to_come = c.next.new.self.to_come; path = c.next.new.self.path })
+          c.loop-found.invariant.still;
+      planned =
+          planned_more c.args.problem.now c.loop-found.found c.path.result.now c.loop-found.cut.to_come
+          c.next.new.self.to_come _ _ _
           c.loop-found.invariant.planned at.0 at.1 c.in-Ok.ensures;
     }

@@ -7,4 +7,6 @@ returns-in_err-write_name g c =
     (broke_before _ (then_broke c.in_ok-write_all.ensures c.in_err-write_name.ensures))
 
 pub returns : goal.returns
-returns g c = then_writes _ _ c.write_place.result (then_took c.in_ok-write_all.ensures c.in_ok-write_name.ensures) c.write_place.ensures
+returns g c =
+    then_writes _ _ c.write_place.result (then_took c.in_ok-write_all.ensures c.in_ok-write_name.ensures)
+    c.write_place.ensures

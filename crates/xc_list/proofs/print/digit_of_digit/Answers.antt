@@ -21,5 +21,7 @@ are_bytes k n h l (suc (suc (suc (suc (suc (suc (suc (suc i)))))))) = omega arit
 pub returns : goal.returns
 returns c =
     let bytes : c.to_le_bytes.result ≡ front_of c.args.k c.args.n =
-    c.to_le_bytes.ensures ∙ le_bytes_8 (front_of c.args.k c.args.n) _ refl (are_bytes c.args.k c.args.n c.requires.0 c.requires.1) (omega (arith, c.from_le_bytes-zeros.ensures)) in
-    rw (decimal_digit c.args.k c.requires.0, decimal_digit c.args.n c.requires.1) (ap (λ text. text ++ 41 ∷ 10 ∷ []) (c.copy_from_slice.ensures.after ∙ bytes))
+    c.to_le_bytes.ensures ∙ le_bytes_8 (front_of c.args.k c.args.n) _ refl
+    (are_bytes c.args.k c.args.n c.requires.0 c.requires.1) (omega (arith, c.from_le_bytes-zeros.ensures)) in
+    rw (decimal_digit c.args.k c.requires.0, decimal_digit c.args.n c.requires.1)
+    (ap (λ text. text ++ 41 ∷ 10 ∷ []) (c.copy_from_slice.ensures.after ∙ bytes))

@@ -2,7 +2,9 @@ use Rattle.xc_list.proofs.Writing.{then_took, then_broke, broke_before, then_wri
 use Rattle.xc_list.proofs.print.write_branch_in_pieces.Goals as goal
 
 pub returns-in_err-write_numbered : goal.returns-in_err-write_numbered
-returns-in_err-write_numbered g c = failed c.from_residual.result c.from_residual.ensures.0 (broke_before _ (broke_before _ c.in_err-write_numbered.ensures))
+returns-in_err-write_numbered g c =
+    failed c.from_residual.result c.from_residual.ensures.0
+    (broke_before _ (broke_before _ c.in_err-write_numbered.ensures))
 
 pub returns-in_err-write_number : goal.returns-in_err-write_number
 returns-in_err-write_number g c =
@@ -11,4 +13,5 @@ returns-in_err-write_number g c =
 
 pub returns : goal.returns
 returns g c =
-    then_writes _ _ c.write_all.result (then_took c.in_ok-write_numbered.ensures c.in_ok-write_number.ensures) c.write_all.ensures
+    then_writes _ _ c.write_all.result (then_took c.in_ok-write_numbered.ensures c.in_ok-write_number.ensures)
+    c.write_all.ensures

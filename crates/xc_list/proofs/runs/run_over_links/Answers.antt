@@ -6,4 +6,5 @@ pub returns-in_err-links-clause-right : goal.returns-in_err-links-clause-right
 returns-in_err-links-clause-right g c = each_member_covers c.args.problem.now.puzzle c.most_moves.ensures.valid
 
 pub returns-in_err-links-clause-complete : goal.returns-in_err-links-clause-complete
-returns-in_err-links-clause-complete g c = each_cover_is_listed_once c.args.problem.now.puzzle c.most_moves.ensures.valid
+returns-in_err-links-clause-complete g c =
+    each_cover_is_listed_once c.args.problem.now.puzzle c.most_moves.ensures.valid

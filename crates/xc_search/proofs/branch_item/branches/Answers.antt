@@ -6,4 +6,10 @@ pub overflow_add-result : goal.overflow_add-result
 overflow_add-result g c =
     let p = (g.D.Dance.state c.args.dance.now).puzzle in
     let t = (g.D.Dance.state c.args.dance.now).trail in
-    grind (arith, length-listed p t c.args.i, c.len-len.ensures, c.requires.same, c.item-item.ensures.whole.limits.options)
+    grind (
+      arith,
+      length-listed p t c.args.i,
+      c.len-len.ensures,
+      c.requires.same,
+      c.item-item.ensures.whole.limits.options,
+    )

@@ -1,23 +1,28 @@
-use Rattle.std.proofs.Common.{arith, ℕ, List, ◌-◌, ◌<◌, ◌≡◌, sym, ◌∙◌, true, false, lt-ltb, le-ltb, Some, None, filter, ltb}
+use Rattle.std.proofs.Common.{arith, ℕ, List, ◌-◌, ◌<◌, ◌≡◌, sym, ◌∙◌, true, false, lt-ltb, le-ltb, Some, None, filter}
+use Rattle.std.proofs.Common.{ltb}
 use Rattle.xc_dance.specs.Moves.{next_above, open_items}
 use Rattle.xc_dance.specs.declared.dance.Move.{Move}
 use Rattle.xc_input.specs.Problem.{Puzzle, primary_count}
 use Rattle.xc_search.specs.Residuals.{branches_after, wanted_at}
-use Rattle.xc_search.proofs.residual.FirstFewest.{next_open, choice_first, choice_none, choice_next, choice_last, choice_settled, choice_done, fewer, once_more}
+use Rattle.xc_search.proofs.residual.FirstFewest.{next_open, choice_first, choice_none, choice_next, choice_last}
+use Rattle.xc_search.proofs.residual.FirstFewest.{choice_settled, choice_done, fewer, once_more}
 use Rattle.xc_dance.proofs.MoveLemmas.ListLemmas.{next_above-gt}
 use Rattle.xc_search.proofs.branch_item.choose_by.Goals as goal
 
 -- the next open item stands further on
-nearer : (p : Puzzle) (t : List Move) (n k : ℕ) → next_above n (open_items p t) ≡ Some k → primary_count p - k < primary_count p - n
+nearer : (p : Puzzle) (t : List Move) (n k : ℕ) → next_above n (open_items p t) ≡ Some k
+    → primary_count p - k < primary_count p - n
 nearer p t n k e = omega (arith, next_above-gt n k (open_items p t) e, next_open p t n k e)
 
 pub returns-in_err-item-clause-choice : goal.returns-in_err-item-clause-choice
 returns-in_err-item-clause-choice g c =
-    c.from_residual.ensures ∙ sym (choice_none c.args.problem.now.puzzle (g.D.Dance.state c.args.dance.now).trail (cc (c.in_err-item.ensures)))
+    c.from_residual.ensures ∙ sym
+    (choice_none c.args.problem.now.puzzle (g.D.Dance.state c.args.dance.now).trail (cc (c.in_err-item.ensures)))
 
 pub count-fewest-requires-clause-open : goal.count-fewest-requires-clause-open
 count-fewest-requires-clause-open g c =
-    next_open c.args.problem.now.puzzle (g.D.Dance.state c.args.dance.now).trail 0 c.in_ok-item.item (cc (c.in_ok-item.ensures))
+    next_open c.args.problem.now.puzzle (g.D.Dance.state c.args.dance.now).trail 0 c.in_ok-item.item
+    (cc (c.in_ok-item.ensures))
 
 pub count-fewest-requires-clause-once : goal.count-fewest-requires-clause-once
 count-fewest-requires-clause-once g c h =
@@ -38,44 +43,53 @@ loop-fewest-init g c =
 
 pub count-n-requires-clause-open : goal.count-n-requires-clause-open
 count-n-requires-clause-open g c =
-    next_open c.args.problem.now.puzzle (g.D.Dance.state c.args.dance.now).trail c.loop-fewest.at c.in-Some.next (cc (c.in-Some.ensures))
+    next_open c.args.problem.now.puzzle (g.D.Dance.state c.args.dance.now).trail c.loop-fewest.at c.in-Some.next
+    (cc (c.in-Some.ensures))
 
 pub count-n-requires-clause-once : goal.count-n-requires-clause-once
 count-n-requires-clause-once g c h =
     let p = c.args.problem.now.puzzle in
     let t = (g.D.Dance.state c.args.dance.now).trail in
-    once_more p t c.in-Some.next (c.requires.once h) (next_open p t c.loop-fewest.at c.in-Some.next (cc (c.in-Some.ensures)))
+    once_more p t c.in-Some.next (c.requires.once h)
+    (next_open p t c.loop-fewest.at c.in-Some.next (cc (c.in-Some.ensures)))
 
 pub loop-fewest-smaller-then-n-fewest : goal.loop-fewest-smaller-then-n-fewest
 loop-fewest-smaller-then-n-fewest g c =
-    nearer c.args.problem.now.puzzle (g.D.Dance.state c.args.dance.now).trail c.loop-fewest.at c.in-Some.next (cc (c.in-Some.ensures))
+    nearer c.args.problem.now.puzzle (g.D.Dance.state c.args.dance.now).trail c.loop-fewest.at c.in-Some.next
+    (cc (c.in-Some.ensures))
 
 pub loop-fewest-preserved-then-n-fewest : goal.loop-fewest-preserved-then-n-fewest
 loop-fewest-preserved-then-n-fewest g c =
     let p = c.args.problem.now.puzzle in
     let t = (g.D.Dance.state c.args.dance.now).trail in
     let e : next_above c.loop-fewest.at (open_items p t) ≡ Some c.in-Some.next = cc (c.in-Some.ensures) in
-    let better : fewer p t c.in-Some.next c.loop-fewest.item ≡ true = lt-ltb _ _ (omega (arith, c.count-n.ensures, c.loop-fewest.invariant.counted)) in
+    let better : fewer p t c.in-Some.next c.loop-fewest.item ≡ true =
+    lt-ltb _ _ (omega (arith, c.count-n.ensures, c.loop-fewest.invariant.counted)) in
     record {
       at_open = next_open p t c.loop-fewest.at c.in-Some.next e;
       counted = c.count-n.ensures;
-      best = choice_next p t c.loop-fewest.item c.loop-fewest.at c.in-Some.next true c.loop-fewest.invariant.best e better;
+      best =
+          choice_next p t c.loop-fewest.item c.loop-fewest.at c.in-Some.next true c.loop-fewest.invariant.best e better;
     }
 
 pub loop-fewest-smaller : goal.loop-fewest-smaller
 loop-fewest-smaller g c =
-    nearer c.args.problem.now.puzzle (g.D.Dance.state c.args.dance.now).trail c.loop-fewest.at c.in-Some.next (cc (c.in-Some.ensures))
+    nearer c.args.problem.now.puzzle (g.D.Dance.state c.args.dance.now).trail c.loop-fewest.at c.in-Some.next
+    (cc (c.in-Some.ensures))
 
 pub loop-fewest-preserved : goal.loop-fewest-preserved
 loop-fewest-preserved g c =
     let p = c.args.problem.now.puzzle in
     let t = (g.D.Dance.state c.args.dance.now).trail in
     let e : next_above c.loop-fewest.at (open_items p t) ≡ Some c.in-Some.next = cc (c.in-Some.ensures) in
-    let not_better : fewer p t c.in-Some.next c.loop-fewest.item ≡ false = le-ltb _ _ (omega (arith, c.count-n.ensures, c.loop-fewest.invariant.counted)) in
+    let not_better : fewer p t c.in-Some.next c.loop-fewest.item ≡ false =
+    le-ltb _ _ (omega (arith, c.count-n.ensures, c.loop-fewest.invariant.counted)) in
     record {
       at_open = next_open p t c.loop-fewest.at c.in-Some.next e;
       counted = c.loop-fewest.invariant.counted;
-      best = choice_next p t c.loop-fewest.item c.loop-fewest.at c.in-Some.next false c.loop-fewest.invariant.best e not_better;
+      best =
+          choice_next p t c.loop-fewest.item c.loop-fewest.at c.in-Some.next false c.loop-fewest.invariant.best e
+          not_better;
     }
 
 pub returns-in_default-clause-choice : goal.returns-in_default-clause-choice
@@ -84,12 +98,15 @@ returns-in_default-clause-choice g c =
     let t = (g.D.Dance.state c.args.dance.now).trail in
     let i = c.loop-fewest.item in
     let e : next_above c.loop-fewest.at (open_items p t) ≡ None = cc (c.in_default.ensures) in
-    choice_done p t i c.loop-fewest.at c.loop-fewest.fewest c.loop-fewest.invariant.best c.loop-fewest.invariant.counted (choice_last p t i c.loop-fewest.at e)
+    choice_done p t i c.loop-fewest.at c.loop-fewest.fewest c.loop-fewest.invariant.best c.loop-fewest.invariant.counted
+    (choice_last p t i c.loop-fewest.at e)
 
 pub returns-clause-choice : goal.returns-clause-choice
 returns-clause-choice g c =
     let p = c.args.problem.now.puzzle in
     let t = (g.D.Dance.state c.args.dance.now).trail in
     let i = c.loop-fewest.item in
-    let none : branches_after p t (wanted_at p t i) ≡ 0 = omega (arith, c.loop-fewest-test.false, c.loop-fewest.invariant.counted) in
-    choice_done p t i c.loop-fewest.at c.loop-fewest.fewest c.loop-fewest.invariant.best c.loop-fewest.invariant.counted (choice_settled p t i (filter (λ j. ltb c.loop-fewest.at j) (open_items p t)) none)
+    let none : branches_after p t (wanted_at p t i) ≡ 0 =
+    omega (arith, c.loop-fewest-test.false, c.loop-fewest.invariant.counted) in
+    choice_done p t i c.loop-fewest.at c.loop-fewest.fewest c.loop-fewest.invariant.best c.loop-fewest.invariant.counted
+    (choice_settled p t i (filter (λ j. ltb c.loop-fewest.at j) (open_items p t)) none)

@@ -14,7 +14,8 @@ invariant-loop-fewest g l =
       at_open : IsOpenPrimary p t l.at;
       counted : l.fewest ≡ branches_after p t (wanted_at p t l.item);
       -- the best so far, with the open items still to come
-      best : first_least (branches_after p t) (wanted_after p t) ≡ Some (best_from p t (wanted_at p t l.item) (filter (λ j. ltb l.at j) (open_items p t)));
+      best : first_least (branches_after p t) (wanted_after p t) ≡ Some
+          (best_from p t (wanted_at p t l.item) (filter (λ j. ltb l.at j) (open_items p t)));
     }
 
 abbrev pub decreases-loop-fewest : goal.decreases-loop-fewest

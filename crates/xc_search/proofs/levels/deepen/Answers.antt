@@ -8,27 +8,32 @@ use Rattle.xc_search.specs.declared.levels.Below.TheVariants.{Branch}
 use Rattle.xc_search.proofs.paths.Led.{keeps_first, keeps_over}
 use Rattle.xc_search.proofs.stacked.Depth.{depth_at}
 use Rattle.xc_search.proofs.stacked.NextLevel.{chosen_item}
-use Rattle.xc_search.proofs.stacked.LoopSteps.{finds, node_at, with_level, begins_at, may_enter, enters_first, passes_over}
+use Rattle.xc_search.proofs.stacked.LoopSteps.{finds, node_at, with_level, begins_at, may_enter, enters_first}
+use Rattle.xc_search.proofs.stacked.LoopSteps.{passes_over}
 use Rattle.xc_search.proofs.levels.deepen.Goals as goal
 use Rattle.xc_search.proofs.levels.deepen.Goals.{In-Some, After-undo_to, After-push}
 
-chose : (g : _) (c : In-Some g) → choice_after c.args.position.now.puzzle c.args.position.now.trail ≡ Some (c.in-Some.item, c.in-Some.count)
+chose : (g : _) (c : In-Some g)
+    → choice_after c.args.position.now.puzzle c.args.position.now.trail ≡ Some (c.in-Some.item, c.in-Some.count)
 chose g c = cc (c.choose.ensures.choice, c.in-Some.is)
 
 pub returns-in_default-clause-reached : goal.returns-in_default-clause-reached
 returns-in_default-clause-reached g c _ =
-    let none : choice_after c.args.position.now.puzzle c.args.position.now.trail ≡ None = cc (c.choose.ensures.choice, c.in_default.is) in
+    let none : choice_after c.args.position.now.puzzle c.args.position.now.trail ≡ None =
+    cc (c.choose.ensures.choice, c.in_default.is) in
     finds c.args.position.now c.args.stack.now c.requires.standing none
 
 pub descend-level-requires-clause-node : goal.descend-level-requires-clause-node
 descend-level-requires-clause-node g c =
     let s = c.args.position.now in
-    node_at s.puzzle s.trail c.args.stack.now.levels c.in-Some.item c.in-Some.count c.requires.standing (chose g (goal.at.descend-level-requires-clause-node g c).In-Some)
+    node_at s.puzzle s.trail c.args.stack.now.levels c.in-Some.item c.in-Some.count c.requires.standing
+    (chose g (goal.at.descend-level-requires-clause-node g c).In-Some)
 
 pub descend-level-requires-clause-branch : goal.descend-level-requires-clause-branch
 descend-level-requires-clause-branch g c =
     let s = c.args.position.now in
-    (chosen_item s.puzzle s.trail c.in-Some.item c.in-Some.count (c.requires.standing.searchable refl).legal (chose g (goal.at.descend-level-requires-clause-branch g c).In-Some)).branch
+    (chosen_item s.puzzle s.trail c.in-Some.item c.in-Some.count (c.requires.standing.searchable refl).legal
+    (chose g (goal.at.descend-level-requires-clause-branch g c).In-Some)).branch
 
 pub push-requires : goal.push-requires
 push-requires g c =
@@ -38,7 +43,12 @@ push-requires g c =
     let e = chose g (goal.at.push-requires g c).In-Some in
     let node = node_at s.puzzle s.trail ls i c.in-Some.count c.requires.standing e in
     let chosen = chosen_item s.puzzle s.trail i c.in-Some.count (c.requires.standing.searchable refl).legal e in
-    omega (arith, c.requires.levels_fit, depth_at s.puzzle s.trail ls i c.requires.standing.stacked (c.requires.standing.shallow refl) node chosen.branch)
+    omega (
+      arith,
+      c.requires.levels_fit,
+      depth_at s.puzzle s.trail ls i c.requires.standing.stacked
+          (c.requires.standing.shallow refl) node chosen.branch,
+    )
 
 pub undo_to-requires : goal.undo_to-requires
 undo_to-requires g c =
@@ -70,8 +80,11 @@ returns-then-count-eq0-clause-fewer g c _ = (over g c).1
 pub enter-branch-requires : goal.enter-branch-requires
 enter-branch-requires g c = record {
   number = ap (λ (l : Level). l.begun + 1) (sym c.descend-level.ensures.level);
-  ready = may_enter c.args.position.now c.descend-level.new.self c.args.stack.now c.in-Some.item c.in-Some.count c.descend-level.result
-      c.requires.standing (chose g (goal.at.enter-branch-requires g c).In-Some) c.descend-level.ensures.trail c.descend-level.ensures.level (omega (arith, c.if-count-eq0.false));
+  ready =
+      may_enter c.args.position.now c.descend-level.new.self c.args.stack.now c.in-Some.item c.in-Some.count
+      c.descend-level.result
+      c.requires.standing (chose g (goal.at.enter-branch-requires g c).In-Some) c.descend-level.ensures.trail
+      c.descend-level.ensures.level (omega (arith, c.if-count-eq0.false));
 }
 
 deeper : (g : _) (c : After-push g) →
@@ -80,7 +93,8 @@ deeper : (g : _) (c : After-push g) →
 deeper g c =
     enters_first c.args.position.now c.descend-level.new.self c.enter-branch.new.self c.args.stack.now
     c.push.new.self c.in-Some.item c.in-Some.count c.descend-level.result c.enter-branch.result
-    c.requires.standing (cc (c.choose.ensures.choice, c.in-Some.is)) c.descend-level.ensures.trail c.descend-level.ensures.level
+    c.requires.standing (cc (c.choose.ensures.choice, c.in-Some.is)) c.descend-level.ensures.trail
+    c.descend-level.ensures.level
     c.enter-branch.ensures.still c.enter-branch.ensures.entered (c.push.ensures ∙ ap (λ l. with_level l
     c.args.stack.now) c.begin_level.ensures)
 

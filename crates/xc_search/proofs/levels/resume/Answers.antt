@@ -8,10 +8,19 @@ use Rattle.xc_search.proofs.levels.resume.Goals as goal
 use Rattle.xc_search.proofs.levels.resume.Goals.{In-Some, After-begin, After-pop}
 
 pub loop-level-init : goal.loop-level-init
-loop-level-init g c = record { goes_on = GoesOn-refl c.args.position.now c.args.stack.now false c.requires.standing; path = λ u a. a; less = omega arith }
+loop-level-init g c =
+    record {
+      goes_on = GoesOn-refl c.args.position.now c.args.stack.now false c.requires.standing;
+      path = λ u a. a;
+      less = omega arith;
+    }
 
-stacked : (g : _) (c : In-Some g) → AreStacked c.loop-level.position.puzzle c.loop-level.position.trail (c.in-Some.level.now ∷ drop 1 c.loop-level.stack.levels)
-stacked g c = subst (AreStacked c.loop-level.position.puzzle c.loop-level.position.trail) c.in-Some.ensures.some c.loop-level.invariant.goes_on.standing.stacked
+stacked : (g : _) (c : In-Some g)
+    → AreStacked c.loop-level.position.puzzle c.loop-level.position.trail
+    (c.in-Some.level.now ∷ drop 1 c.loop-level.stack.levels)
+stacked g c =
+    subst (AreStacked c.loop-level.position.puzzle c.loop-level.position.trail) c.in-Some.ensures.some
+    c.loop-level.invariant.goes_on.standing.stacked
 
 pub enter_next-branch-requires-clause-stacked : goal.enter_next-branch-requires-clause-stacked
 enter_next-branch-requires-clause-stacked g c = (
@@ -32,11 +41,14 @@ on g c =
     c.loop-level.invariant.goes_on.standing.stacked c.in-Some.ensures.some c.enter_next-branch.ensures.still
     c.enter_next-branch.ensures.entered c.begin.ensures
 
-back : (g : _) (c : After-pop g) → GoesOn c.loop-level.position c.loop-level.stack false c.end_level.new.position c.pop.new.self false
-    × (visits c.end_level.new.position.puzzle c.end_level.new.position.trail c.pop.new.self.levels < visits c.loop-level.position.puzzle c.loop-level.position.trail c.loop-level.stack.levels)
+back : (g : _) (c : After-pop g)
+    → GoesOn c.loop-level.position c.loop-level.stack false c.end_level.new.position c.pop.new.self false
+    × (visits c.end_level.new.position.puzzle c.end_level.new.position.trail c.pop.new.self.levels < visits
+    c.loop-level.position.puzzle c.loop-level.position.trail c.loop-level.stack.levels)
 back g c =
     goes_back c.loop-level.position c.end_level.new.position c.in-Some.level.now c.loop-level.stack c.pop.new.self
-    c.loop-level.invariant.goes_on.standing.stacked c.in-Some.ensures.some c.if-level.false c.end_level.ensures c.pop.ensures
+    c.loop-level.invariant.goes_on.standing.stacked c.in-Some.ensures.some c.if-level.false c.end_level.ensures
+    c.pop.ensures
 
 pub returns-then-level-clause-resumed : goal.returns-then-level-clause-resumed
 returns-then-level-clause-resumed g c =
@@ -60,7 +72,8 @@ pub loop-level-preserved : goal.loop-level-preserved
 loop-level-preserved g c = record {
   goes_on = GoesOn-trans _ _ _ _ _ _ false false false c.loop-level.invariant.goes_on (back g c).0;
   path = λ u a.
-      keeps_back c.loop-level.position c.end_level.new.position c.in-Some.level.now c.loop-level.stack c.pop.new.self c.in-Some.ensures.some c.end_level.ensures c.pop.ensures u
+      keeps_back c.loop-level.position c.end_level.new.position c.in-Some.level.now c.loop-level.stack c.pop.new.self
+      c.in-Some.ensures.some c.end_level.ensures c.pop.ensures u
       (c.loop-level.invariant.path u a);
   less = omega (arith, (back g c).1, c.loop-level.invariant.less);
 }

@@ -8,7 +8,8 @@ abbrev pub invariant-loop-level : goal.invariant-loop-level
 invariant-loop-level g l = record {
   goes_on : GoesOn l.initial.position l.initial.stack false l.position l.stack false;
   path : KeepsPath l.initial.position l.initial.stack l.position l.stack;
-  less : visits l.position.puzzle l.position.trail l.stack.levels ≤ visits l.initial.position.puzzle l.initial.position.trail l.initial.stack.levels;
+  less : visits l.position.puzzle l.position.trail l.stack.levels ≤ visits l.initial.position.puzzle
+      l.initial.position.trail l.initial.stack.levels;
 }
 
 abbrev pub decreases-loop-level : goal.decreases-loop-level

@@ -13,8 +13,10 @@ of_none : {T N : Type 0} (o : Option T) (P : T → Type 0) → None ≡ o → N 
 of_none o P is n = rw (← is) n
 
 pub returns-in-Some-clause-begins : goal.returns-in-Some-clause-begins
-returns-in-Some-clause-begins g c = of_words _ _ c.in-Some.kind c.in-Some.ensures (judged_begins c.in-Some.kind _ _ _ _ _ c.judge_kind.ensures.did)
+returns-in-Some-clause-begins g c =
+    of_words _ _ c.in-Some.kind c.in-Some.ensures (judged_begins c.in-Some.kind _ _ _ _ _ c.judge_kind.ensures.did)
 
 pub returns-in-None-clause-did : goal.returns-in-None-clause-did
 returns-in-None-clause-did g c =
-    of_none _ _ c.in-None.ensures (c.refuse.ensures.status, refl, record { told = c.refuse.ensures.told; unread = refl; unwritten = refl })
+    of_none _ _ c.in-None.ensures
+    (c.refuse.ensures.status, refl, record { told = c.refuse.ensures.told; unread = refl; unwritten = refl })

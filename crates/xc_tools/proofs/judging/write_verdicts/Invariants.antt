@@ -6,4 +6,5 @@ use Rattle.xc_tools.proofs.judging.write_verdicts.Given as goal
 
 -- the texts so far were taken, and no failure came
 abbrev pub invariant-loop-verdict : goal.invariant-loop-verdict
-invariant-loop-verdict g l = Took (g.S.Sink.state l.fn.sink) (g.S.Sink.state l.sink) (flat_map verdict_text (take l.verdict-index l.verdicts))
+invariant-loop-verdict g l =
+    Took (g.S.Sink.state l.fn.sink) (g.S.Sink.state l.sink) (flat_map verdict_text (take l.verdict-index l.verdicts))

@@ -9,4 +9,5 @@ of_words r P w is (inl k) = inl k
 of_words r P w is (inr p) = inr (rw (← is) p)
 
 pub returns-in-Ok-clause-begins : goal.returns-in-Ok-clause-begins
-returns-in-Ok-clause-begins g c = of_words _ _ c.in-Ok.words c.in-Ok.ensures (run_begins _ c.in-Ok.words _ _ _ _ _ _ _ c.solve_words.ensures.did)
+returns-in-Ok-clause-begins g c =
+    of_words _ _ c.in-Ok.words c.in-Ok.ensures (run_begins _ c.in-Ok.words _ _ _ _ _ _ _ c.solve_words.ensures.did)

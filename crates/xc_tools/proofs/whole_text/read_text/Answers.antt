@@ -8,13 +8,18 @@ pub returns-then-n-eq0-clause-whole : goal.returns-then-n-eq0-clause-whole
 returns-then-n-eq0-clause-whole g c =
     let end : c.in_ok-n.n ≡ 0 = grind (arith, common_steps, c.if-n-eq0.true) in
     let some : 0 < length c.read.new.buf = omega arith in
-    gave_end _ _ _ _ c.read.new.buf c.in_ok-n.n end c.reading.invariant.1 (c.in_ok-n.ensures.failures ∙ c.reading.invariant.0) c.in_ok-n.ensures.bytes.0 (c.in_ok-n.ensures.bytes.1 end some)
+    gave_end _ _ _ _ c.read.new.buf c.in_ok-n.n end c.reading.invariant.1
+    (c.in_ok-n.ensures.failures ∙ c.reading.invariant.0) c.in_ok-n.ensures.bytes.0
+    (c.in_ok-n.ensures.bytes.1 end some)
     c.in_ok-n.ensures.given
 
 pub reading-preserved : goal.reading-preserved
 reading-preserved g c =
-    let more : c.extend_from_slice.new.self.items ≡ c.reading.text.items ++ take c.in_ok-n.n c.read.new.buf = c.in_ok-extend_from_slice.ensures.items in
-    let some : 0 < length (take c.in_ok-n.n c.read.new.buf) = grind (arith, common_steps, c.if-n-eq0.false, c.in_ok-n.ensures.bound) in (
+    let more : c.extend_from_slice.new.self.items ≡ c.reading.text.items ++ take c.in_ok-n.n c.read.new.buf =
+    c.in_ok-extend_from_slice.ensures.items in
+    let some : 0 < length (take c.in_ok-n.n c.read.new.buf) =
+    grind (arith, common_steps, c.if-n-eq0.false, c.in_ok-n.ensures.bound) in (
       c.in_ok-n.ensures.failures ∙ c.reading.invariant.0,
-      subst (Gave (g.S.Source.state c.args.source.now) (g.S.Source.state c.read.new.self)) (sym more) (gave_more _ _ _ _ _ c.reading.invariant.1 some c.in_ok-n.ensures.bytes.0 c.in_ok-n.ensures.given),
+      subst (Gave (g.S.Source.state c.args.source.now) (g.S.Source.state c.read.new.self)) (sym more)
+          (gave_more _ _ _ _ _ c.reading.invariant.1 some c.in_ok-n.ensures.bytes.0 c.in_ok-n.ensures.given),
     )

@@ -4,8 +4,10 @@ use Rattle.xc_input.specs.Problem.{Puzzle}
 use Rattle.xc_dance.specs.Moves.{next_above}
 use Rattle.xc_dance.specs.Fields.{link_place}
 use Rattle.xc_dance.specs.Commits.{IsListedAt, IsUseAt}
-use Rattle.xc_dance.proofs.LinkedTables.ListedPlaces.{list_of, next_of_own, option_use, next_of_option, next_use, place_tells}
-use Rattle.xc_dance.proofs.dance.Dance.node_below.Goals.{Else-place-items, In-Some, In-None, then-place-items, else-place-items}
+use Rattle.xc_dance.proofs.LinkedTables.ListedPlaces.{list_of, next_of_own, option_use, next_of_option, next_use}
+use Rattle.xc_dance.proofs.LinkedTables.ListedPlaces.{place_tells}
+use Rattle.xc_dance.proofs.dance.Dance.node_below.Goals.{Else-place-items, In-Some, In-None, then-place-items}
+use Rattle.xc_dance.proofs.dance.Dance.node_below.Goals.{else-place-items}
 use Rattle.xc_dance.proofs.dance.Dance.node_below.Goals as goal
 
 -- ---- at an option's place

@@ -9,7 +9,8 @@ use Rattle.xc_dance.specs.inner.Links.Cells.{nodes_after, top_in, ulink_in, line
 use Rattle.xc_dance.specs.inner.Links.Laid.{IsFit}
 use Rattle.xc_dance.specs.inner.Links.OptionPlaces.{start_at}
 use Rattle.xc_dance.specs.inner.Links.UseNodes.{uses_before}
-use Rattle.xc_dance.proofs.LinkedTables.Along.{along_first, before_at, Leads, leads, IsNext, nodes_told, may_commit, Committed, one_committed, whole}
+use Rattle.xc_dance.proofs.LinkedTables.Along.{along_first, before_at, Leads, leads, IsNext, nodes_told, may_commit}
+use Rattle.xc_dance.proofs.LinkedTables.Along.{Committed, one_committed, whole}
 use Rattle.xc_dance.proofs.LinkedTables.Written.{written_then}
 use Rattle.xc_dance.proofs.links.Links.commit_before.Goals as goal
 use Rattle.xc_dance.proofs.links.Links.commit_before.Goals.{After-self, After-self-in-loop-q}

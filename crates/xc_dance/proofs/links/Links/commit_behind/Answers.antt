@@ -7,7 +7,8 @@ use Rattle.xc_dance.specs.Linked.{Linked}
 use Rattle.xc_dance.specs.inner.Links.Cells.{nodes_after, top_in, line_of}
 use Rattle.xc_dance.specs.inner.Links.Laid.{IsLaid, IsFit}
 use Rattle.xc_dance.specs.inner.Links.UseNodes.{uses_behind}
-use Rattle.xc_dance.proofs.LinkedTables.Along.{along_first, Behind, behind_at, IsNext, top_at, nodes_told, may_commit, Committed, one_committed, whole}
+use Rattle.xc_dance.proofs.LinkedTables.Along.{along_first, Behind, behind_at, IsNext, top_at, nodes_told, may_commit}
+use Rattle.xc_dance.proofs.LinkedTables.Along.{Committed, one_committed, whole}
 use Rattle.xc_dance.proofs.LinkedTables.Written.{written_then}
 use Rattle.xc_dance.proofs.links.Links.commit_behind.Goals as goal
 use Rattle.xc_dance.proofs.links.Links.commit_behind.Goals.{After-self, After-self-in-loop-self}

@@ -7,7 +7,8 @@ use Rattle.xc_dance.proofs.links.Links.option_at.Given as goal
 abbrev pub invariant-loop-end : goal.invariant-loop-end
 invariant-loop-end l = record {
   from : l.place ≤ l.end;
-  to : (x : ℕ) → IsName l.self-inside.fixed l.i x → l.place ≡ link_place l.self-inside.fixed l.i x → l.end ≤ spacer_place l.self-inside.fixed x;
+  to : (x : ℕ) → IsName l.self-inside.fixed l.i x → l.place ≡ link_place l.self-inside.fixed l.i x
+      → l.end ≤ spacer_place l.self-inside.fixed x;
 }
 
 abbrev pub decreases-loop-end : goal.decreases-loop-end

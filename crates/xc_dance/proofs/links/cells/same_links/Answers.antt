@@ -9,7 +9,8 @@ use Rattle.xc_dance.specs.contracts.links.cells.LinkPartialEq.TheImpl.{ghosts}
 use Rattle.xc_dance.specs.inner.Links.Columns.{ups, downs}
 use Rattle.xc_dance.proofs.links.cells.same_links.Goals as goal
 
-by_columns : (xs ys : List Link) → pointwise ghosts.eq xs ys ≡ (bytes_eq (ups xs) (ups ys) && bytes_eq (downs xs) (downs ys))
+by_columns : (xs ys : List Link)
+    → pointwise ghosts.eq xs ys ≡ (bytes_eq (ups xs) (ups ys) && bytes_eq (downs xs) (downs ys))
 by_columns [] [] = refl
 by_columns [] (y ∷ ys) = refl
 by_columns (x ∷ xs) [] = refl

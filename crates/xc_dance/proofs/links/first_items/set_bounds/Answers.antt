@@ -13,8 +13,10 @@ pub set-requires : goal.set-requires
 set-requires c = grind (arith, common_steps, column_len)
 
 -- the item has the bounds of its number
-bounds_here : (c : After-item-item) → bounds_at c.args.problem.now.puzzle (c.loop-i.i + 1) ≡ Some (bounds_of c.item-item.result.now)
-bounds_here c = c.item-item.ensures.bounds (omega arith, omega (arith, c.loop-i-test.true, c.primary-i-end.ensures.value))
+bounds_here : (c : After-item-item)
+    → bounds_at c.args.problem.now.puzzle (c.loop-i.i + 1) ≡ Some (bounds_of c.item-item.result.now)
+bounds_here c =
+    c.item-item.ensures.bounds (omega arith, omega (arith, c.loop-i-test.true, c.primary-i-end.ensures.value))
 
 high_here : (c : After-item-item) → c.item-item.result.now.high ≡ high_at c.args.problem.now.puzzle (c.loop-i.i + 1)
 high_here c = sym (ap (λ (b : Option Bounds). (unwrap_or b (record { low = 0; high = 0 })).high) (bounds_here c))

@@ -12,7 +12,8 @@ fits : (c : After-option) → OptionFits c.args.problem.now.puzzle c.loop-o.o c.
 fits c =
     let p = c.args.problem.now.puzzle in
     let within : c.loop-o.o < option_count p = omega (arith, c.loop-o-test.true, c.options-o-end.ensures.value) in
-    option_fits p c.loop-o.o c.option.result.now c.requires within (uses_here p (c.loop-o.o + 1) _ c.option.ensures.value)
+    option_fits p c.loop-o.o c.option.result.now c.requires within
+    (uses_here p (c.loop-o.o + 1) _ c.option.ensures.value)
 
 pub overflow_cast-start : goal.overflow_cast-start
 overflow_cast-start c =
@@ -31,7 +32,8 @@ pub loop-o-preserved : goal.loop-o-preserved
 loop-o-preserved c =
     let o = c.loop-o.o in
     record {
-      starts = c.in_ok-push.ensures.items ∙ ap (λ l. l ++ c.loop-o.start ∷ []) c.loop-o.invariant.starts ∙ ap (λ v. starts_to c.args.problem.now.puzzle o ++ v ∷ []) c.loop-o.invariant.start
+      starts = c.in_ok-push.ensures.items ∙ ap (λ l. l ++ c.loop-o.start ∷ []) c.loop-o.invariant.starts
+          ∙ ap (λ v. starts_to c.args.problem.now.puzzle o ++ v ∷ []) c.loop-o.invariant.start
           ∙ sym (map-range_with_len_more (start_at c.args.problem.now.puzzle) 0 o o (omega arith));
       start = grind (arith, common_steps, option_place);
     }

@@ -3,28 +3,36 @@ use Rattle.std.proofs.lemmas.Grind.{common_steps}
 use Rattle.xc_dance.specs.declared.links.nodes.Nodes.{Nodes}
 use Rattle.xc_dance.specs.inner.Links.Columns.{columns}
 use Rattle.xc_dance.specs.inner.Links.Span.{Span}
-use Rattle.xc_dance.specs.inner.Links.Steps.{hidden, hide_cost, hide_costs, CanHide, CanHideAll, CanHideNode, places, span_at, others_of}
-use Rattle.xc_dance.proofs.LinkedTables.Walks.{places_none, places_more, CanAll-append, underway, step_can, step_on, steps_end, both_reached, Reached, Tells, tells}
+use Rattle.xc_dance.specs.inner.Links.Steps.{hidden, hide_cost, hide_costs, CanHide, CanHideAll, CanHideNode, places}
+use Rattle.xc_dance.specs.inner.Links.Steps.{span_at, others_of}
+use Rattle.xc_dance.proofs.LinkedTables.Walks.{places_none, places_more, CanAll-append, underway, step_can, step_on}
+use Rattle.xc_dance.proofs.LinkedTables.Walks.{steps_end, both_reached, Reached, Tells, tells}
 use Rattle.xc_dance.proofs.links.steps.hide.Goals as goal
 use Rattle.xc_dance.proofs.links.steps.hide.Goals.{After-get_at}
 use Rattle.xc_dance.specs.declared.links.nodes.TheConstants.{SPACER}
 
 -- the walk up to the spacer, and the one from the first node on
 parts : (spans : List Span) (t : Nodes) (p : ℕ) → CanHideNode spans t p →
-    CanHideAll t (places (p + 1) (span_at spans p).end) × CanHideAll (fold hidden t (places (p + 1) (span_at spans p).end)) (places (span_at spans p).first p)
-parts spans t p can = CanAll-append hidden CanHide t (places (p + 1) (span_at spans p).end) (places (span_at spans p).first p) can.steps
+    CanHideAll t (places (p + 1) (span_at spans p).end)
+    × CanHideAll (fold hidden t (places (p + 1) (span_at spans p).end)) (places (span_at spans p).first p)
+parts spans t p can =
+    CanAll-append hidden CanHide t (places (p + 1) (span_at spans p).end) (places (span_at spans p).first p) can.steps
 
 -- what TOP tells
 told : (c : After-get_at) → (let s = span_at c.args.spans.now c.args.p in
-    Tells (columns c.loop-top.top c.loop-top.links c.args.color.now) (fold hidden (columns c.args.top.now c.args.links.now c.args.color.now) (places (c.args.p + 1) s.end)) c.loop-top.q s.end (places c.loop-top.q s.end))
+    Tells (columns c.loop-top.top c.loop-top.links c.args.color.now)
+    (fold hidden (columns c.args.top.now c.args.links.now c.args.color.now) (places (c.args.p + 1) s.end))
+    c.loop-top.q s.end (places c.loop-top.q s.end))
 told c = grind (arith, common_steps, places_more, places_none, tells)
 
-high : (c : After-get_at) → SPACER ≤ c.get_at.result → SPACER ≤ get_or (columns c.loop-top.top c.loop-top.links c.args.color.now).top c.loop-top.q 0
+high : (c : After-get_at) → SPACER ≤ c.get_at.result
+    → SPACER ≤ get_or (columns c.loop-top.top c.loop-top.links c.args.color.now).top c.loop-top.q 0
 high c h = let e = c.get_at.ensures in omega (arith, e, h)
 
 -- there is a step to make
 goes : (c : After-get_at) → c.get_at.result < SPACER → c.loop-top.q < (span_at c.args.spans.now c.args.p).end
-goes c low = let e = c.get_at.ensures in let ne = (told c).low (omega (arith, e, low)) in let to = c.loop-top.invariant.to in omega (arith, ne, to)
+goes c low = let e = c.get_at.ensures in let ne = (told c).low (omega (arith, e, low)) in let to =
+    c.loop-top.invariant.to in omega (arith, ne, to)
 
 pub loop-top-init : goal.loop-top-init
 loop-top-init c = grind (arith, common_steps, underway, parts)
@@ -33,42 +41,64 @@ pub get_at-requires : goal.get_at-requires
 get_at-requires c = grind (arith, common_steps, places_more, places_none, tells)
 
 pub hide_one-above-requires-clause-can : goal.hide_one-above-requires-clause-can
-hide_one-above-requires-clause-can c = grind (arith, common_steps, places_more, step_can, goes (goal.at.hide_one-above-requires-clause-can c).After-get_at)
+hide_one-above-requires-clause-can c =
+    grind (arith, common_steps, places_more, step_can, goes (goal.at.hide_one-above-requires-clause-can c).After-get_at)
 
 pub hide_one-above-requires-clause-unmarked : goal.hide_one-above-requires-clause-unmarked
-hide_one-above-requires-clause-unmarked c = λ m. ((c.requires.unmarked m).others c.args.p c.requires.span).0 c.loop-top.q (omega (arith, c.loop-top.invariant.behind)) (goes (goal.at.hide_one-above-requires-clause-unmarked c).After-get_at c.loop-top-test.true)
+hide_one-above-requires-clause-unmarked c =
+    λ m. ((c.requires.unmarked m).others c.args.p c.requires.span).0 c.loop-top.q
+    (omega (arith, c.loop-top.invariant.behind))
+    (goes (goal.at.hide_one-above-requires-clause-unmarked c).After-get_at c.loop-top-test.true)
 
 pub loop-top-preserved : goal.loop-top-preserved
-loop-top-preserved c = grind (arith, common_steps, places_more, step_on, goes (goal.at.loop-top-preserved c).After-get_at)
+loop-top-preserved c =
+    grind (arith, common_steps, places_more, step_on, goes (goal.at.loop-top-preserved c).After-get_at)
 
 pub up_at-first-requires : goal.up_at-first-requires
-up_at-first-requires c = let at = (goal.at.up_at-first-requires c).After-get_at in grind (arith, common_steps, told at, high at)
+up_at-first-requires c =
+    let at = (goal.at.up_at-first-requires c).After-get_at in grind (arith, common_steps, told at, high at)
 
 -- the spacer leads to the first node
-leads : (c : After-get_at) → SPACER ≤ c.get_at.result → (first : ℕ) → first ≡ get_or (columns c.loop-top.top c.loop-top.links c.args.color.now).ulink c.loop-top.q 0 → first ≡ (span_at c.args.spans.now c.args.p).first
+leads : (c : After-get_at) → SPACER ≤ c.get_at.result → (first : ℕ)
+    → first ≡ get_or (columns c.loop-top.top c.loop-top.links c.args.color.now).ulink c.loop-top.q 0
+    → first ≡ (span_at c.args.spans.now c.args.p).first
 leads c met first is = grind (arith, common_steps, high c, told c)
 
 pub hide_range-below-requires-clause-can : goal.hide_range-below-requires-clause-can
 hide_range-below-requires-clause-can c =
     let at = (goal.at.hide_range-below-requires-clause-can c).After-get_at in
     let t : Nodes = columns c.loop-top.top c.loop-top.links c.args.color.now in
-    subst (λ a. CanHideAll t (places a c.args.p)) (sym (leads at c.loop-top-test.false c.up_at-first.result c.up_at-first.ensures))
-    (subst (λ (u : Nodes). CanHideAll u (places (span_at c.args.spans.now c.args.p).first c.args.p)) (sym ((told at).is (high at c.loop-top-test.false)))
+    subst (λ a. CanHideAll t (places a c.args.p))
+    (sym (leads at c.loop-top-test.false c.up_at-first.result c.up_at-first.ensures))
+    (subst (λ (u : Nodes). CanHideAll u (places (span_at c.args.spans.now c.args.p).first c.args.p))
+    (sym ((told at).is (high at c.loop-top-test.false)))
     (parts c.args.spans.now (columns c.args.top.now c.args.links.now c.args.color.now) c.args.p c.requires.can).1)
 
 pub hide_range-below-requires-clause-unmarked : goal.hide_range-below-requires-clause-unmarked
 hide_range-below-requires-clause-unmarked c = λ m q from below.
-    let first = leads (goal.at.hide_range-below-requires-clause-unmarked c).After-get_at c.loop-top-test.false c.up_at-first.result c.up_at-first.ensures in
+    let first =
+    leads (goal.at.hide_range-below-requires-clause-unmarked c).After-get_at c.loop-top-test.false
+    c.up_at-first.result c.up_at-first.ensures in
     ((c.requires.unmarked m).others c.args.p c.requires.span).1 q (omega (arith, first, from)) below
 
 -- both walks
-whole : (c : After-get_at) → SPACER ≤ c.get_at.result → (first : ℕ) → first ≡ get_or (columns c.loop-top.top c.loop-top.links c.args.color.now).ulink c.loop-top.q 0 → (u : Nodes) (m : ℕ) →
-    u ≡ fold hidden (columns c.loop-top.top c.loop-top.links c.args.color.now) (places first c.args.p) → m ≡ hide_costs (columns c.loop-top.top c.loop-top.links c.args.color.now) (places first c.args.p) →
-    Reached hidden hide_cost (columns c.args.top.now c.args.links.now c.args.color.now) (others_of c.args.spans.now c.args.p) u (c.loop-top.above + m)
-whole c met first is u m done cost = both_reached _ _ u m (steps_end ((told c).none (high c met)) c.loop-top.invariant.walk) (ap (λ a. places a c.args.p) (leads c met first is)) done cost
+whole : (c : After-get_at) → SPACER ≤ c.get_at.result → (first : ℕ)
+    → first ≡ get_or (columns c.loop-top.top c.loop-top.links c.args.color.now).ulink c.loop-top.q 0
+    → (u : Nodes) (m : ℕ) →
+    u ≡ fold hidden (columns c.loop-top.top c.loop-top.links c.args.color.now) (places first c.args.p)
+    → m ≡ hide_costs (columns c.loop-top.top c.loop-top.links c.args.color.now) (places first c.args.p) →
+    Reached hidden hide_cost (columns c.args.top.now c.args.links.now c.args.color.now)
+    (others_of c.args.spans.now c.args.p) u (c.loop-top.above + m)
+whole c met first is u m done cost =
+    both_reached _ _ u m (steps_end ((told c).none (high c met)) c.loop-top.invariant.walk)
+    (ap (λ a. places a c.args.p) (leads c met first is)) done cost
 
 pub returns-clause-done : goal.returns-clause-done
-returns-clause-done c = (whole (goal.at.returns-clause-done c).After-get_at c.loop-top-test.false _ c.up_at-first.ensures _ _ c.hide_range-below.ensures.done c.hide_range-below.ensures.cost).done
+returns-clause-done c =
+    (whole (goal.at.returns-clause-done c).After-get_at c.loop-top-test.false _ c.up_at-first.ensures _ _
+    c.hide_range-below.ensures.done c.hide_range-below.ensures.cost).done
 
 pub returns-clause-cost : goal.returns-clause-cost
-returns-clause-cost c = (whole (goal.at.returns-clause-cost c).After-get_at c.loop-top-test.false _ c.up_at-first.ensures _ _ c.hide_range-below.ensures.done c.hide_range-below.ensures.cost).cost
+returns-clause-cost c =
+    (whole (goal.at.returns-clause-cost c).After-get_at c.loop-top-test.false _ c.up_at-first.ensures _ _
+    c.hide_range-below.ensures.done c.hide_range-below.ensures.cost).cost

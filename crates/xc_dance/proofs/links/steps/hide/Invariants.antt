@@ -9,7 +9,8 @@ abbrev pub invariant-loop-top : goal.invariant-loop-top
 invariant-loop-top l =
     let end = (span_at l.spans l.p).end in
     record {
-      walk : Underway hidden hide_cost CanHide (columns l.initial.top l.initial.links l.color) (places (l.p + 1) end) (columns l.top l.links l.color) (places l.q end) l.above;
+      walk : Underway hidden hide_cost CanHide (columns l.initial.top l.initial.links l.color) (places (l.p + 1) end)
+          (columns l.top l.links l.color) (places l.q end) l.above;
       behind : l.p < l.q;
       to : l.q ≤ end;
       counted : l.writes.count ≡ l.initial.writes.count + l.above;

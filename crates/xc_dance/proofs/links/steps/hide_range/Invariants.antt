@@ -6,7 +6,8 @@ use Rattle.xc_dance.proofs.links.steps.hide_range.Given as goal
 
 abbrev pub invariant-loop-q : goal.invariant-loop-q
 invariant-loop-q l = record {
-  walk : Underway hidden hide_cost CanHide (columns l.initial.top l.initial.links l.color) (places l.a l.b) (columns l.top l.links l.color) (places l.q l.b) l.count;
+  walk : Underway hidden hide_cost CanHide (columns l.initial.top l.initial.links l.color) (places l.a l.b)
+      (columns l.top l.links l.color) (places l.q l.b) l.count;
   counted : l.writes.count ≡ l.initial.writes.count + l.count;
   few : l.count ≤ 3 * (l.q - l.a);
 }

@@ -9,7 +9,8 @@ abbrev pub invariant-loop-top : goal.invariant-loop-top
 invariant-loop-top l =
     let first = (span_at l.spans l.p).first in
     record {
-      walk : Underway unhidden hide_cost CanUnhide (columns l.initial.top l.initial.links l.color) (reverse (places first l.p)) (columns l.top l.links l.color) (reverse (places first (l.q + 1))) l.below;
+      walk : Underway unhidden hide_cost CanUnhide (columns l.initial.top l.initial.links l.color)
+          (reverse (places first l.p)) (columns l.top l.links l.color) (reverse (places first (l.q + 1))) l.below;
       before : l.q < l.p;
       from : first ≤ l.q + 1;
       counted : l.writes.count ≡ l.initial.writes.count + l.below;

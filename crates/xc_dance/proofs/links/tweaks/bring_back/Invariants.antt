@@ -9,7 +9,9 @@ abbrev pub invariant-loop : goal.invariant-loop
 invariant-loop l =
     let old : Nodes = columns l.fn.top l.fn.links l.color in
     record {
-      walk : Following (brought_back l.spans l.covered) (bring_back_cost l.spans l.covered) (CanBringBack l.spans l.covered) (λ (t : Nodes). t.dlink) old l.k l.x (columns l.top l.links l.color) l.p l.counter l.count;
+      walk : Following (brought_back l.spans l.covered) (bring_back_cost l.spans l.covered)
+          (CanBringBack l.spans l.covered) (λ (t : Nodes). t.dlink) old l.k l.x (columns l.top l.links l.color) l.p
+          l.counter l.count;
       counted : l.writes.count ≡ l.initial.writes.count + l.count;
       few : l.count ≤ (3 * 2 ^ 32 + 1) * l.counter;
     }

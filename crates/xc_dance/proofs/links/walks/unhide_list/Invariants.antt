@@ -11,7 +11,9 @@ abbrev pub invariant-loop : goal.invariant-loop
 invariant-loop l =
     let old : Nodes = columns l.fn.top l.fn.links l.fn.color in
     record {
-      walk : Following (back_node l.spans l.keep) (back_cost l.spans l.keep) (CanReturn l.spans l.keep) (λ (t : Nodes). t.ulink) old (slice_index old.top l.i) (slice_index old.ulink l.i) (columns l.top l.links l.color) l.p l.counter l.count;
+      walk : Following (back_node l.spans l.keep) (back_cost l.spans l.keep) (CanReturn l.spans l.keep)
+          (λ (t : Nodes). t.ulink) old (slice_index old.top l.i) (slice_index old.ulink l.i)
+          (columns l.top l.links l.color) l.p l.counter l.count;
       unmarked : l.marks ≡ false → IsUnmarked l.spans (values l.color);
       counted : l.writes.count ≡ l.initial.writes.count + l.count;
       few : l.count ≤ 3 * 2 ^ 32 * l.counter;

@@ -6,7 +6,8 @@ use Rattle.xc_input.specs.Problem.{item_count}
 use Rattle.xc_dance.specs.inner.Lists.Taking.{list_at}
 use Rattle.xc_dance.specs.inner.Lists.Rising.{Rises}
 use Rattle.xc_dance.proofs.LiveLists.Marks.{same_versions}
-use Rattle.xc_dance.proofs.LiveLists.OptionsLost.{hidden_from, hidden_none, hidden_more, hidden_same, hidden_all, length-hidden_from, lists-hidden_from, list_of}
+use Rattle.xc_dance.proofs.LiveLists.OptionsLost.{hidden_from, hidden_none, hidden_more, hidden_same, hidden_all}
+use Rattle.xc_dance.proofs.LiveLists.OptionsLost.{length-hidden_from, lists-hidden_from, list_of}
 use Rattle.xc_dance.proofs.lists.hide.hide.Goals as goal
 
 pub loop-u-init : goal.loop-u-init
@@ -28,7 +29,9 @@ take_out-requires-clause-rises c =
     let hidden = hidden_from t c.args.item (take i us) c.args.option 1 c.args.live.now.lists in
     let size = length-hidden_from t c.args.item (take i us) c.args.option 1 c.args.live.now.lists in
     let lt : k < length hidden = omega (arith, item.0, item.1, problem, size, c.requires.lists.0) in
-    let is = list_of p 1 k hidden (lists-hidden_from p t c.args.item (take i us) c.args.option 1 c.args.live.now.lists c.requires.lists.1) lt in
+    let is =
+    list_of p 1 k hidden (lists-hidden_from p t c.args.item (take i us) c.args.option 1 c.args.live.now.lists
+    c.requires.lists.1) lt in
     let P : List (List ℕ) → Type 0 = λ l. Rises 0 (list_at l k) in
     subst P (sym c.loop-u.invariant.lists) is.0
 

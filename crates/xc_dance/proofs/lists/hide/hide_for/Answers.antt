@@ -17,7 +17,8 @@ pub hide_options-requires-clause-lists : goal.hide_options-requires-clause-lists
 hide_options-requires-clause-lists c = held c.args.standing.now.puzzle c.args.standing.now.trail _ c.requires.lists
 
 pub hide_options-requires-in-Purify-clause-lists : goal.hide_options-requires-in-Purify-clause-lists
-hide_options-requires-in-Purify-clause-lists c = held c.args.standing.now.puzzle c.args.standing.now.trail _ c.requires.lists
+hide_options-requires-in-Purify-clause-lists c =
+    held c.args.standing.now.puzzle c.args.standing.now.trail _ c.requires.lists
 
 pub tweak-requires-clause-option : goal.tweak-requires-clause-option
 tweak-requires-clause-option c = grind (arith, common_steps, length_numbers, list_after)
@@ -32,7 +33,8 @@ returns-in-Cover c =
     let lists = ap (λ (v : Versions). v.lists) c.hide_options.ensures
     ∙ ap (λ l. lose t i (filter (λ o. not (is_kept p i None o)) (list_at l (i - 1))) l) c.requires.lists
     ∙ lists_covered p t i legal.0.0 legal.0.1 ∙ ap (λ m. lists_after p (m ∷ t)) (sym c.in-Cover.is) in
-    same_versions lists (ap (λ (v : Versions). v.marked) c.hide_options.ensures) (ap (λ (v : Versions). v.room) c.hide_options.ensures)
+    same_versions lists (ap (λ (v : Versions). v.marked) c.hide_options.ensures)
+    (ap (λ (v : Versions). v.room) c.hide_options.ensures)
 
 pub returns-in-Purify : goal.returns-in-Purify
 returns-in-Purify c =
@@ -42,6 +44,9 @@ returns-in-Purify c =
     let P : Move → Type 0 = λ m. IsLegal p t m in
     let legal = subst P c.in-Purify.is c.requires.legal in
     let lists = ap (λ (v : Versions). v.lists) c.hide_options-in-Purify.ensures
-    ∙ ap (λ l. lose t i (filter (λ o. not (is_kept p i (Some c.in-Purify.colour) o)) (list_at l (i - 1))) l) c.requires.lists
-    ∙ lists_purified p t i c.in-Purify.colour (omega (arith, legal.0.0)) legal.0.1 ∙ ap (λ m. lists_after p (m ∷ t)) (sym c.in-Purify.is) in
-    same_versions lists (ap (λ (v : Versions). v.marked) c.hide_options-in-Purify.ensures) (ap (λ (v : Versions). v.room) c.hide_options-in-Purify.ensures)
+    ∙ ap (λ l. lose t i (filter (λ o. not (is_kept p i (Some c.in-Purify.colour) o)) (list_at l (i - 1))) l)
+    c.requires.lists
+    ∙ lists_purified p t i c.in-Purify.colour (omega (arith, legal.0.0)) legal.0.1
+    ∙ ap (λ m. lists_after p (m ∷ t)) (sym c.in-Purify.is) in
+    same_versions lists (ap (λ (v : Versions). v.marked) c.hide_options-in-Purify.ensures)
+    (ap (λ (v : Versions). v.room) c.hide_options-in-Purify.ensures)

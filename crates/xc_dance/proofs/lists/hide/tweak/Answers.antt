@@ -6,7 +6,8 @@ use Rattle.xc_dance.specs.inner.Lists.Taking.{list_at}
 use Rattle.xc_dance.specs.inner.Lists.Losing.{lists_after}
 use Rattle.xc_dance.proofs.LiveLists.Marks.{same_versions}
 use Rattle.xc_dance.proofs.LiveLists.OptionsLost.{list_of, known_option}
-use Rattle.xc_dance.proofs.MoveLemmas.Shortened.{lists_hold, list_after, length_numbers, first_hidden, first_hidden_lists, lists_tweaked}
+use Rattle.xc_dance.proofs.MoveLemmas.Shortened.{lists_hold, list_after, length_numbers, first_hidden}
+use Rattle.xc_dance.proofs.MoveLemmas.Shortened.{first_hidden_lists, lists_tweaked}
 use Rattle.xc_dance.proofs.lists.hide.tweak.Goals as goal
 
 pub hide_if_open-requires-clause-option : goal.hide_if_open-requires-clause-option
@@ -15,9 +16,12 @@ hide_if_open-requires-clause-option c =
     let t = c.args.standing.now.trail in
     let i = c.args.item in
     let are = lists_hold p t in
-    let row : c.list.result.now ≡ list_at (lists_after p t) (i - 1) = c.list.ensures ∙ ap (λ l. list_at l (i - 1)) c.requires.lists in
-    let list = list_of p 1 (i - 1) (lists_after p t) are.1 (omega (arith, are.0, c.requires.item.0, c.requires.item.1)) in
-    let some : 0 < length (list_at (lists_after p t) (i - 1)) = omega (arith, c.requires.option, ap (λ l. length l) c.list.ensures, ap (λ l. length l) row) in
+    let row : c.list.result.now ≡ list_at (lists_after p t) (i - 1) =
+    c.list.ensures ∙ ap (λ l. list_at l (i - 1)) c.requires.lists in
+    let list =
+    list_of p 1 (i - 1) (lists_after p t) are.1 (omega (arith, are.0, c.requires.item.0, c.requires.item.1)) in
+    let some : 0 < length (list_at (lists_after p t) (i - 1)) =
+    omega (arith, c.requires.option, ap (λ l. length l) c.list.ensures, ap (λ l. length l) row) in
     rw row (known_option p (get_or (list_at (lists_after p t) (i - 1)) 0 0) (1 + (i - 1)) (list.1 0 0 some))
 
 pub hide_if_open-requires-clause-lists : goal.hide_if_open-requires-clause-lists
@@ -27,7 +31,8 @@ pub take_out-requires-clause-list : goal.take_out-requires-clause-list
 take_out-requires-clause-list c =
     let p = c.args.standing.now.puzzle in
     let t = c.args.standing.now.trail in
-    let now = ap (λ (v : Versions). v.lists) c.hide_if_open.ensures ∙ ap (λ l. first_hidden t c.args.item (get_or c.list.result.now 0 0) l) c.requires.lists in
+    let now = ap (λ (v : Versions). v.lists) c.hide_if_open.ensures
+    ∙ ap (λ l. first_hidden t c.args.item (get_or c.list.result.now 0 0) l) c.requires.lists in
     let are = first_hidden_lists p t c.args.item (get_or c.list.result.now 0 0) (lists_after p t) (lists_hold p t) in
     omega (arith, ap (λ l. length l) now, are.0, c.requires.item.0, c.requires.item.1)
 
@@ -36,10 +41,12 @@ take_out-requires-clause-rises c =
     let p = c.args.standing.now.puzzle in
     let t = c.args.standing.now.trail in
     let i = c.args.item in
-    let now = ap (λ (v : Versions). v.lists) c.hide_if_open.ensures ∙ ap (λ l. first_hidden t i (get_or c.list.result.now 0 0) l) c.requires.lists in
+    let now = ap (λ (v : Versions). v.lists) c.hide_if_open.ensures
+    ∙ ap (λ l. first_hidden t i (get_or c.list.result.now 0 0) l) c.requires.lists in
     let are = first_hidden_lists p t i (get_or c.list.result.now 0 0) (lists_after p t) (lists_hold p t) in
     let P : List (List ℕ) → Type 0 = λ l. Rises 0 (list_at l (i - 1)) in
-    subst P (sym now) (list_of p 1 (i - 1) (first_hidden t i (get_or c.list.result.now 0 0) (lists_after p t)) are.1 (omega (arith, are.0, c.requires.item.0, c.requires.item.1))).0
+    subst P (sym now) (list_of p 1 (i - 1) (first_hidden t i (get_or c.list.result.now 0 0) (lists_after p t)) are.1
+    (omega (arith, are.0, c.requires.item.0, c.requires.item.1))).0
 
 pub returns : goal.returns
 returns c = grind (arith, common_steps, length_numbers, list_after, lists_tweaked, same_versions)

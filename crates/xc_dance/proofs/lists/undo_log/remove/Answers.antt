@@ -1,6 +1,7 @@
 use Rattle.std.proofs.Common.{arith, ◌≡◌}
 use Rattle.std.proofs.lemmas.Grind.{common_steps}
-use Rattle.xc_dance.proofs.LiveLists.Removal.{numbers_of-set, list_at-numbers_of, rooms_of-set, less-remove, row_removed}
+use Rattle.xc_dance.proofs.LiveLists.Removal.{numbers_of-set, list_at-numbers_of, rooms_of-set, less-remove}
+use Rattle.xc_dance.proofs.LiveLists.Removal.{row_removed}
 use Rattle.xc_dance.proofs.lists.undo_log.remove.Goals as goal
 
 pub returns-clause-lists : goal.returns-clause-lists
@@ -14,4 +15,6 @@ returns-clause-back c =
     let row = c.index_mut-row.result.now in
     let same : c.as_slice.result.now ≡ row.items = c.as_slice.ensures.value in
     let place = c.in_ok-place.place in
-    row_removed c.args.lists.now.items c.remove.new.self c.args.list place c.args.number row c.requires.list c.index_mut-row.ensures.value (rw (← same) c.in_ok-place.ensures.0) (rw (← same) c.in_ok-place.ensures.1) c.remove.ensures.items (omega (arith, row.ok))
+    row_removed c.args.lists.now.items c.remove.new.self c.args.list place c.args.number row c.requires.list
+    c.index_mut-row.ensures.value (rw (← same) c.in_ok-place.ensures.0) (rw (← same) c.in_ok-place.ensures.1)
+    c.remove.ensures.items (omega (arith, row.ok))

@@ -5,7 +5,8 @@ use Rattle.xc_input.proofs.lists.Places.{drop_at}
 use Rattle.xc_input.proofs.options.OptionsIterator.next.Goals as goal
 
 -- what is left begins with the element of the next number
-next_stands_first : {X : Type 0} (xs : List X) (k n : ℕ) (x : X) → n ≡ k + 1 → numbered_get xs n ≡ Some x → drop k xs ≡ x ∷ drop n xs
+next_stands_first : {X : Type 0} (xs : List X) (k n : ℕ) (x : X) → n ≡ k + 1 → numbered_get xs n ≡ Some x
+    → drop k xs ≡ x ∷ drop n xs
 next_stands_first xs k n x after found =
     let one_more : suc k ≡ n = omega (arith, after) in
     drop_at xs k x (sym (numbered_get-at xs n k after) ∙ found) ∙ ap (λ m. x ∷ drop m xs) one_more

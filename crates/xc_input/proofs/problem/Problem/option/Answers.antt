@@ -18,14 +18,23 @@ index-requires-2 c = grind (arith, common_steps, length-pieces)
 
 -- the option's uses, between its start and the next
 part : (c : After-deref) → (let us = c.deref.result.now in let a = c.index.result.now in let b = c.index-2.result.now in
-    (a ≤ b) × (b ≤ length us) × (numbered_get (pieces c.self.inside.starts.items c.self.inside.uses.items) c.args.o ≡ Some (slice_range us a b)))
+    (a ≤ b) × (b ≤ length us)
+    × (numbered_get (pieces c.self.inside.starts.items c.self.inside.uses.items) c.args.o ≡ Some
+    (slice_range us a b)))
 part c =
     let starts = c.self.inside.starts.items in
     let us = c.self.inside.uses.items in
     let count = ap (λ (v : Named). option_count v.puzzle) c.self.view_is in
-    let r = option_part starts us c.args.o c.index.result.now c.index-2.result.now c.self.invariant.starts.1 c.requires.known.0
-    (omega (arith, length-pieces starts us c.self.invariant.starts.1, count, c.requires.known.1)) c.index.ensures c.index-2.ensures in
-    (r.0, omega (arith, r.1, ap length c.deref.ensures.value), r.2 ∙ ap (λ xs. Some (slice_range xs c.index.result.now c.index-2.result.now)) (sym c.deref.ensures.value))
+    let r =
+    option_part starts us c.args.o c.index.result.now c.index-2.result.now c.self.invariant.starts.1
+    c.requires.known.0
+    (omega (arith, length-pieces starts us c.self.invariant.starts.1, count, c.requires.known.1)) c.index.ensures
+    c.index-2.ensures in (
+      r.0,
+      omega (arith, r.1, ap length c.deref.ensures.value),
+      r.2
+          ∙ ap (λ xs. Some (slice_range xs c.index.result.now c.index-2.result.now)) (sym c.deref.ensures.value),
+    )
 
 pub slice_bounds-result-count : goal.slice_bounds-result-count
 slice_bounds-result-count c = (part (goal.at.slice_bounds-result-count c).After-deref).0
@@ -42,9 +51,12 @@ slice_bounds-result-end c =
 
 pub returns-clause-value : goal.returns-clause-value
 returns-clause-value c =
-    ap (λ (v : Named). numbered_get v.puzzle.options c.args.o) (sym c.self.view_is) ∙ (part (goal.at.returns-clause-value c).After-deref).2
+    ap (λ (v : Named). numbered_get v.puzzle.options c.args.o) (sym c.self.view_is)
+    ∙ (part (goal.at.returns-clause-value c).After-deref).2
 
 pub returns-clause-known : goal.returns-clause-known
 returns-clause-known c =
-    subst (λ (v : Named). All (IsKnownUse v) (slice_range c.deref.result.now c.index.result.now c.index-2.result.now)) c.self.view_is
-    (known_option _ (key_names c.self.inside.colours.keys) c.args.o _ c.self.invariant.sound.valid c.self.invariant.sound.coloured (part (goal.at.returns-clause-known c).After-deref).2)
+    subst (λ (v : Named). All (IsKnownUse v) (slice_range c.deref.result.now c.index.result.now c.index-2.result.now))
+    c.self.view_is
+    (known_option _ (key_names c.self.inside.colours.keys) c.args.o _ c.self.invariant.sound.valid
+    c.self.invariant.sound.coloured (part (goal.at.returns-clause-known c).After-deref).2)

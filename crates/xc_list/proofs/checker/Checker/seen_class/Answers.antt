@@ -8,4 +8,5 @@ pub returns-in-32 : goal.returns-in-32
 returns-in-32 c =
     let i = c.self.inside in
     subst (λ (s : Progress). IfSome c.class_of.result (IsClassOfLine s.options c.args.line.now)) c.self.view_is
-    (found-rightly i.options i.seen.lines.items c.args.line.now c.class_of.result c.self.invariant.seen c.class_of.ensures)
+    (found-rightly i.options i.seen.lines.items c.args.line.now c.class_of.result c.self.invariant.seen
+    c.class_of.ensures)

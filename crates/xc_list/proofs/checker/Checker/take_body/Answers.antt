@@ -16,27 +16,64 @@ invariant_of-self-in-Ok-Some c =
     let i = c.self.inside in
     let words = words_in c.args.body.now in
     let said : read c.args.line.now ≡ Body words = c.requires in
-    let class : IsClassOfLine i.options c.args.line.now c.in-Ok-Some.class = (words, said, subst (IsClassOfBody i.options words) c.in-Ok-Some.field-0-is c.in-Ok-Some.ensures.class) in
-    let seen = noted-rightly i.options i.seen.lines.items c.note.new.self.lines.items c.args.line.now c.in-Ok-Some.class class c.note.ensures c.self.invariant.seen in
-    subst (λ (b : Classes). record { places : i.counter ≡ places_of b; indexed : IsIndexed b; known : All (λ k. k < length b.classes) i.chosen.items; seen : All (IsRightly b) c.note.new.self.lines.items }) (sym c.class_of.ensures.same)
-    (record { places = c.self.invariant.places; indexed = c.self.invariant.indexed; known = c.self.invariant.known; seen = seen })
+    let class : IsClassOfLine i.options c.args.line.now c.in-Ok-Some.class =
+    (words, said, subst (IsClassOfBody i.options words) c.in-Ok-Some.field-0-is c.in-Ok-Some.ensures.class) in
+    let seen =
+    noted-rightly i.options i.seen.lines.items c.note.new.self.lines.items c.args.line.now c.in-Ok-Some.class class
+    c.note.ensures c.self.invariant.seen in
+    subst (λ (b : Classes). record {
+      places : i.counter ≡ places_of b;
+      indexed : IsIndexed b;
+      known : All (λ k. k < length b.classes) i.chosen.items;
+      seen : All (IsRightly b) c.note.new.self.lines.items;
+    }) (sym c.class_of.ensures.same)
+    (record {
+      places = c.self.invariant.places;
+      indexed = c.self.invariant.indexed;
+      known = c.self.invariant.known;
+      seen = seen;
+    })
 
 pub returns-in_ok-take_class-in-Ok-Some-clause-takes : goal.returns-in_ok-take_class-in-Ok-Some-clause-takes
 returns-in_ok-take_class-in-Ok-Some-clause-takes c =
     let i = c.self.inside in
     let words = words_in c.args.body.now in
-    let s : Progress = record { options = i.options; open_number = i.open_number; chosen = i.chosen.items; verdicts = i.verdicts.items } in
-    let class : IsClassOfBody c.class_of.new.self words (Some c.in-Ok-Some.class) = subst (λ (b : Classes). IsClassOfBody b words (Some c.in-Ok-Some.class)) (sym c.class_of.ensures.same) (subst (IsClassOfBody i.options words) c.in-Ok-Some.field-0-is c.in-Ok-Some.ensures.class) in
-    subst (λ (u : Progress). Takes (Body words) u c.take_class.new.self) (ap (λ (b : Classes). record s { options = b }) c.class_of.ensures.same ∙ c.self.view_is) (c.in_ok-take_class-in-Ok-Some.ensures.takes words class)
+    let s : Progress =
+    record {
+      options = i.options;
+      open_number = i.open_number;
+      chosen = i.chosen.items;
+      verdicts = i.verdicts.items;
+    } in
+    let class : IsClassOfBody c.class_of.new.self words (Some c.in-Ok-Some.class) =
+    subst (λ (b : Classes). IsClassOfBody b words (Some c.in-Ok-Some.class)) (sym c.class_of.ensures.same)
+    (subst (IsClassOfBody i.options words) c.in-Ok-Some.field-0-is c.in-Ok-Some.ensures.class) in
+    subst (λ (u : Progress). Takes (Body words) u c.take_class.new.self)
+    (ap (λ (b : Classes). record s { options = b }) c.class_of.ensures.same ∙ c.self.view_is)
+    (c.in_ok-take_class-in-Ok-Some.ensures.takes words class)
 
 pub returns-in-Ok-None-clause-takes : goal.returns-in-Ok-None-clause-takes
 returns-in-Ok-None-clause-takes c =
     let i = c.self.inside in
     let words = words_in c.args.body.now in
-    let s : Progress = record { options = i.options; open_number = i.open_number; chosen = i.chosen.items; verdicts = i.verdicts.items } in
-    let t : Progress = record { options = c.class_of.new.self; open_number = i.open_number; chosen = i.chosen.items; verdicts = i.verdicts.items } in
+    let s : Progress =
+    record {
+      options = i.options;
+      open_number = i.open_number;
+      chosen = i.chosen.items;
+      verdicts = i.verdicts.items;
+    } in
+    let t : Progress =
+    record {
+      options = c.class_of.new.self;
+      open_number = i.open_number;
+      chosen = i.chosen.items;
+      verdicts = i.verdicts.items;
+    } in
     let some : is_some s.open_number ≡ true = c.is_none.ensures ∙ ap not c.if-is_none.false in
-    let other : IsClassOfBody s.options words None = subst (IsClassOfBody s.options words) c.in-Ok-None.field-0-is c.in-Ok-None.ensures.class in
-    let none : is_none s.options.problem words ≡ true = ap (λ (b : Classes). is_none b.problem words) (sym c.class_of.ensures.same) ∙ sym c.if-is_none-2.ensures in
+    let other : IsClassOfBody s.options words None =
+    subst (IsClassOfBody s.options words) c.in-Ok-None.field-0-is c.in-Ok-None.ensures.class in
+    let none : is_none s.options.problem words ≡ true =
+    ap (λ (b : Classes). is_none b.problem words) (sym c.class_of.ensures.same) ∙ sym c.if-is_none-2.ensures in
     subst (λ (u : Progress). Takes (Body words) u t) c.self.view_is
     (moved (Body words) s s t (none_taken s words other none some) (sym c.class_of.ensures.same) refl refl refl)

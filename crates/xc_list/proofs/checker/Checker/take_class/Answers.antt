@@ -9,6 +9,14 @@ pub returns-clause-takes : goal.returns-clause-takes
 returns-clause-takes c = λ words class. (
     let s = c.args.self.now in
     let i = c.self.inside in
-    let own : Progress = record { options = i.options; open_number = i.open_number; chosen = i.chosen.items; verdicts = i.verdicts.items } in
-    subst (λ (u : Progress). IsClassOfBody u.options words (Some c.args.class) → is_some u.open_number ≡ true → Takes (Body words) u (record own { chosen = c.push.new.self.items })) c.self.view_is
-    (λ k o. class_taken own words c.args.class c.push.new.self.items c.self.invariant.indexed.classes k o c.in_ok-push.ensures.items) class c.requires.open)
+    let own : Progress =
+    record {
+      options = i.options;
+      open_number = i.open_number;
+      chosen = i.chosen.items;
+      verdicts = i.verdicts.items;
+    } in
+    subst (λ (u : Progress). IsClassOfBody u.options words (Some c.args.class) → is_some u.open_number ≡ true
+    → Takes (Body words) u (record own { chosen = c.push.new.self.items })) c.self.view_is
+    (λ k o. class_taken own words c.args.class c.push.new.self.items c.self.invariant.indexed.classes k o
+    c.in_ok-push.ensures.items) class c.requires.open)

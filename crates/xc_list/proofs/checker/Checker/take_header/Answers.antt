@@ -8,5 +8,7 @@ pub returns-clause-takes : goal.returns-clause-takes
 returns-clause-takes c =
     let n = c.args.number in
     let v = c.self.view_is in
-    moved (Header n) c.args.self.now _ _ (header_taken c.args.self.now c.end_solution.new.self n c.in_ok-end_solution.ensures.closes)
-    (sym c.end_solution.ensures.options ∙ sym (ap (λ (t : Progress). t.options) v)) refl (sym c.clear.ensures.items) (sym (ap (λ (t : Progress). t.verdicts) v))
+    moved (Header n) c.args.self.now _ _
+    (header_taken c.args.self.now c.end_solution.new.self n c.in_ok-end_solution.ensures.closes)
+    (sym c.end_solution.ensures.options ∙ sym (ap (λ (t : Progress). t.options) v)) refl (sym c.clear.ensures.items)
+    (sym (ap (λ (t : Progress). t.verdicts) v))

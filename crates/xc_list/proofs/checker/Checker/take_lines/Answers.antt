@@ -29,7 +29,8 @@ returns-clause-taken c =
     let none = ends c.loop-rest.rest.now _ c.is_empty.ensures c.loop-rest-test.false in
     record {
       done = so_far.done;
-      progress = subst (λ (ls : List (List ℕ)). IsProgress (lines_of c.args.listing.now) so_far.done ls c.loop-rest.self)
+      progress =
+          subst (λ (ls : List (List ℕ)). IsProgress (lines_of c.args.listing.now) so_far.done ls c.loop-rest.self)
           none so_far.progress;
     }
 

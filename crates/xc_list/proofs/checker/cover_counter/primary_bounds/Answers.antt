@@ -13,7 +13,11 @@ loop-i-preserved c =
     let i = c.loop-i.i in
     let blank : Bounds = record { low = 0; high = 0 } in
     let item = c.item.result.now in
-    let is_primary : IsPrimary c.args.problem.now.puzzle (i + 1) = (omega arith, omega (arith, c.primary-i-end.ensures.value, c.loop-i-test.true)) in
-    let read : get_or bounds i blank ≡ bounds_of item = slice_get-at bounds i (bounds_of item) blank (sym (numbered_get-at bounds (i + 1) i refl) ∙ c.item.ensures.bounds is_primary) in
-    c.in_ok-push.ensures.items ∙ ap (λ l. l ++ c.bounds.result ∷ []) c.loop-i.invariant ∙ ap (λ b. take i bounds ++ b ∷ []) (c.bounds.ensures ∙ sym read)
+    let is_primary : IsPrimary c.args.problem.now.puzzle (i + 1) =
+    (omega arith, omega (arith, c.primary-i-end.ensures.value, c.loop-i-test.true)) in
+    let read : get_or bounds i blank ≡ bounds_of item =
+    slice_get-at bounds i (bounds_of item) blank
+    (sym (numbered_get-at bounds (i + 1) i refl) ∙ c.item.ensures.bounds is_primary) in
+    c.in_ok-push.ensures.items ∙ ap (λ l. l ++ c.bounds.result ∷ []) c.loop-i.invariant
+    ∙ ap (λ b. take i bounds ++ b ∷ []) (c.bounds.ensures ∙ sym read)
     ∙ sym (take_more bounds i blank (omega (arith, c.primary-i-end.ensures.value, c.loop-i-test.true)))

@@ -4,9 +4,12 @@ use Rattle.xc_list.proofs.CheckLemmas.CutLines.{first_cut, none-cut}
 use Rattle.xc_list.proofs.checker.listing_lines.cut_first.Goals as goal
 
 pub returns-in_err-k : goal.returns-in_err-k
-returns-in_err-k c = none-cut _ _ _ c.from_residual.ensures (has-all c.args.byte c.args.text.now (λ k p. not_false _ (c.in_err-k.ensures k (omega arith) p))).0
+returns-in_err-k c =
+    none-cut _ _ _ c.from_residual.ensures
+    (has-all c.args.byte c.args.text.now (λ k p. not_false _ (c.in_err-k.ensures k (omega arith) p))).0
 
 pub returns : goal.returns
 returns c =
     let h = c.in_ok-k.ensures in
-    first_cut c.args.byte c.args.text.now _ c.in_ok-k.k refl h.0.high (λ k p. not_false _ (h.0.before k (omega arith) p)) h.1
+    first_cut c.args.byte c.args.text.now _ c.in_ok-k.k refl h.0.high
+    (λ k p. not_false _ (h.0.before k (omega arith) p)) h.1

@@ -5,8 +5,11 @@ use Rattle.xc_list.proofs.checker.listing_lines.cut_word.Goals as goal
 
 pub returns-in-Some : goal.returns-in-Some
 returns-in-Some c =
-    let e = c.in-Some.ensures.1 in
-    (first_word c.args.text.now c.in-Some.word.now c.in-Some.rest.now c.in-Some.ensures.0 e, grind (arith, common_steps, e))
+    let e = c.in-Some.ensures.1 in (
+      first_word c.args.text.now c.in-Some.word.now c.in-Some.rest.now c.in-Some.ensures.0 e,
+      grind
+          (arith, common_steps, e),
+    )
 
 pub returns-in-None : goal.returns-in-None
 returns-in-None c = one_word c.args.text.now c.in-None.ensures

@@ -14,8 +14,10 @@ next : (o : ℕ) → suc o ≡ o + 1
 next o = omega arith
 
 -- the uses that were turned are the option's class
-option_class : (p : Puzzle) (o : ℕ) (us turned slice : List Use) → numbered_get p.options (o + 1) ≡ Some us → turned ≡ class_of us → slice ≡ turned → slice ≡ class_at p (suc o)
-option_class p o us turned slice e f g = g ∙ f ∙ ap (λ (z : Option (List Use)). class_of (unwrap_or z [])) (sym e) ∙ ap (class_at p) (sym (next o))
+option_class : (p : Puzzle) (o : ℕ) (us turned slice : List Use) → numbered_get p.options (o + 1) ≡ Some us
+    → turned ≡ class_of us → slice ≡ turned → slice ≡ class_at p (suc o)
+option_class p o us turned slice e f g =
+    g ∙ f ∙ ap (λ (z : Option (List Use)). class_of (unwrap_or z [])) (sym e) ∙ ap (class_at p) (sym (next o))
 
 pub overflow_add-index_mut : goal.overflow_add-index_mut
 overflow_add-index_mut c =
@@ -23,8 +25,17 @@ overflow_add-index_mut c =
     let classes = key_uses c.args.classes.now.keys in
     let us = c.as_slice.result.now in
     let at = found-key _ use-decides us c.args.classes.now.keys c.in-Some.class (sym c.in-Some.ensures.index) in
-    let count = members_at p c.args.o classes c.args.sizes.now.items c.in-Some.class c.index_mut.result.now us c.requires.before at.1 in
-    omega (arith, c.index_mut.ensures.value, count, members-few p c.args.o us, c.requires.option, c.requires.limits.options)
+    let count =
+    members_at p c.args.o classes c.args.sizes.now.items c.in-Some.class c.index_mut.result.now us c.requires.before
+    at.1 in
+    omega (
+      arith,
+      c.index_mut.ensures.value,
+      count,
+      members-few p c.args.o us,
+      c.requires.option,
+      c.requires.limits.options,
+    )
 
 pub returns-in-Some : goal.returns-in-Some
 returns-in-Some c =
@@ -35,11 +46,14 @@ returns-in-Some c =
     let k = c.in-Some.class in
     let n = c.index_mut.result.now in
     let us = c.as_slice.result.now in
-    let is = option_class p o c.option.result.now c.rotate.new.rotated.items us c.option.ensures.value c.in_ok-rotate.ensures c.as_slice.ensures.value in
+    let is =
+    option_class p o c.option.result.now c.rotate.new.rotated.items us c.option.ensures.value c.in_ok-rotate.ensures
+    c.as_slice.ensures.value in
     let at = found-key _ use-decides us c.args.classes.now.keys k (sym c.in-Some.ensures.index) in
     let here : slice_get classes k ≡ Some (class_at p (suc o)) = at.1 ∙ ap (λ x. Some x) is in
     subst (λ m. AreClassesTo p m classes (slice_set counts k (n + 1))) (next o)
-    (classes-found p o classes counts k n c.requires.before here (c.index_mut.ensures.value ∙ members_at p o classes counts k n (class_at p (suc o)) c.requires.before here))
+    (classes-found p o classes counts k n c.requires.before here
+    (c.index_mut.ensures.value ∙ members_at p o classes counts k n (class_at p (suc o)) c.requires.before here))
 
 pub returns-in_ok-push-in-None : goal.returns-in_ok-push-in-None
 returns-in_ok-push-in-None c =
@@ -47,8 +61,16 @@ returns-in_ok-push-in-None c =
     let o = c.args.o in
     let keys = c.args.classes.now.keys in
     let us = c.as_slice.result.now in
-    let is = option_class p o c.option.result.now c.rotate.new.rotated.items us c.option.ensures.value c.in_ok-rotate.ensures c.as_slice.ensures.value in
-    let all = new-uses _ use-decides keys c.in_ok-from_slice-in-None.field-0 c.insert.new.self.keys us (sym c.in-None.ensures.index) (c.in_ok-from_slice-in-None.ensures.items ∙ c.as_slice-in-None.ensures.value ∙ sym c.as_slice.ensures.value) c.in_ok-insert-in-None.ensures.keys in
+    let is =
+    option_class p o c.option.result.now c.rotate.new.rotated.items us c.option.ensures.value c.in_ok-rotate.ensures
+    c.as_slice.ensures.value in
+    let all =
+    new-uses _ use-decides keys c.in_ok-from_slice-in-None.field-0 c.insert.new.self.keys us
+    (sym c.in-None.ensures.index)
+    (c.in_ok-from_slice-in-None.ensures.items ∙ c.as_slice-in-None.ensures.value ∙ sym c.as_slice.ensures.value)
+    c.in_ok-insert-in-None.ensures.keys in
     subst (λ m. AreClassesTo p m (key_uses c.insert.new.self.keys) c.push.new.self.items) (next o)
-    (classes-new p o (key_uses keys) (key_uses c.insert.new.self.keys) c.args.sizes.now.items c.push.new.self.items c.requires.before
-    (λ h. lost-key _ use-decides us keys (sym c.in-None.ensures.index) (subst (IsIn (key_uses keys)) (sym is) h)) (all ∙ ap (λ x. key_uses keys ++ x ∷ []) is) c.in_ok-push-in-None.ensures.items)
+    (classes-new p o (key_uses keys) (key_uses c.insert.new.self.keys) c.args.sizes.now.items c.push.new.self.items
+    c.requires.before
+    (λ h. lost-key _ use-decides us keys (sym c.in-None.ensures.index) (subst (IsIn (key_uses keys)) (sym is) h))
+    (all ∙ ap (λ x. key_uses keys ++ x ∷ []) is) c.in_ok-push-in-None.ensures.items)

@@ -16,17 +16,27 @@ invariant_of-result g c =
     let most = ap (λ (s : Dancing). most_levels s.puzzle) c.new-3.ensures ∙ ap most_levels c.requires.same in
     record {
       standing = subst (λ (s : Dancing). IsStanding s.puzzle s.trail c.in-Ok.stack.levels true) (sym c.new-3.ensures)
-          (starts_standing d.puzzle d.trail c.in-Ok.stack.levels (subst IsValid (sym c.requires.same) c.most_levels-most.ensures.valid) c.requires.none (ap (λ (s : Levels). s.levels) c.in-Ok.ensures));
-      led = subst (AreLed c.new-3.result.puzzle [] c.new-3.result.trail) (sym (ap (λ (s : Levels). s.levels) c.in-Ok.ensures)) (ap (λ (s : Dancing). s.trail) c.new-3.ensures ∙ c.requires.none);
+          (starts_standing d.puzzle d.trail c.in-Ok.stack.levels
+          (subst IsValid (sym c.requires.same) c.most_levels-most.ensures.valid) c.requires.none
+          (ap (λ (s : Levels). s.levels) c.in-Ok.ensures));
+      led =
+          subst (AreLed c.new-3.result.puzzle [] c.new-3.result.trail)
+          (sym (ap (λ (s : Levels). s.levels) c.in-Ok.ensures))
+          (ap (λ (s : Dancing). s.trail) c.new-3.ensures ∙ c.requires.none);
       untried = ap (λ (s : Levels). s.levels) c.in-Ok-new.ensures;
       levels_fit = omega (arith, c.most_levels-most.ensures.value, ap (λ (s : Levels). s.room) c.in-Ok.ensures, most);
-      trial_fits = omega (arith, c.most_levels-most.ensures.value, ap (λ (s : Levels). s.room) c.in-Ok-new.ensures, most);
+      trial_fits =
+          omega (arith, c.most_levels-most.ensures.value, ap (λ (s : Levels). s.room) c.in-Ok-new.ensures, most);
     }
 
 pub returns-clause-begun : goal.returns-clause-begun
 returns-clause-begun g c =
     let d = g.D.Dance.state c.args.dance in
-    let uncut : Puzzle → List (List Choice) → List Choice → ℕ → Uncut = λ p ms path room. record { puzzle = p; to_come = ms; path = path; room = room } in
-    ap (λ (s : Dancing). uncut s.puzzle (coming s.puzzle s.trail c.in-Ok.stack.levels true) c.in-Ok.stack.shown s.room) c.new-3.ensures
-    ∙ ap₂ (λ ms path. uncut d.puzzle ms path d.room) (starts_coming d.puzzle d.trail c.in-Ok.stack.levels c.requires.none (ap (λ (s : Levels). s.levels) c.in-Ok.ensures)) (ap (λ (s : Levels). s.shown) c.in-Ok.ensures)
+    let uncut : Puzzle → List (List Choice) → List Choice → ℕ → Uncut =
+    λ p ms path room. record { puzzle = p; to_come = ms; path = path; room = room } in
+    ap (λ (s : Dancing). uncut s.puzzle (coming s.puzzle s.trail c.in-Ok.stack.levels true) c.in-Ok.stack.shown s.room)
+    c.new-3.ensures
+    ∙ ap₂ (λ ms path. uncut d.puzzle ms path d.room)
+    (starts_coming d.puzzle d.trail c.in-Ok.stack.levels c.requires.none
+    (ap (λ (s : Levels). s.levels) c.in-Ok.ensures)) (ap (λ (s : Levels). s.shown) c.in-Ok.ensures)
     ∙ ap (λ p. uncut p (members p) [] d.room) c.requires.same

@@ -9,12 +9,14 @@ use Rattle.xc_search.proofs.position.Position.commit_branch.Goals.{Then-place-it
 
 -- at the item's own node
 none : (g : _) (c : Then-place-item g) → option_at c.args.self.now.puzzle c.args.item c.args.place ≡ None
-none g c = ap (option_at c.args.self.now.puzzle c.args.item) c.if-place-item.true ∙ at_own c.args.self.now.puzzle c.args.item
+none g c =
+    ap (option_at c.args.self.now.puzzle c.args.item) c.if-place-item.true ∙ at_own c.args.self.now.puzzle c.args.item
 
 some : (g : _) (c : Else-place-item g) → (o : _) × (option_at c.args.self.now.puzzle c.args.item c.args.place ≡ Some o)
 some g c = at_other c.args.self.now.puzzle c.args.item c.args.place c.if-place-item.false
 
-can : (g : _) (c : Else-place-item g) → CanBranch c.args.self.now.puzzle c.args.item (Some (some g c).0) c.args.self.now.trail
+can : (g : _) (c : Else-place-item g)
+    → CanBranch c.args.self.now.puzzle c.args.item (Some (some g c).0) c.args.self.now.trail
 can g c = subst (λ o. CanBranch c.args.self.now.puzzle c.args.item o c.args.self.now.trail) (some g c).1 c.requires.can
 
 use_at : (g : _) (c : Else-place-item g) → IsUseAt c.args.self.now.puzzle c.args.item (some g c).0 c.args.place
@@ -29,7 +31,8 @@ use_at g c =
 
 pub cover_if_open-requires-clause-room : goal.cover_if_open-requires-clause-room
 cover_if_open-requires-clause-room g c =
-    (subst (λ o. CanBranch c.args.self.now.puzzle c.args.item o c.args.self.now.trail) (none g (goal.at.cover_if_open-requires-clause-room g c).Then-place-item) c.requires.can).stands.room
+    (subst (λ o. CanBranch c.args.self.now.puzzle c.args.item o c.args.self.now.trail)
+    (none g (goal.at.cover_if_open-requires-clause-room g c).Then-place-item) c.requires.can).stands.room
 
 pub commit-requires-clause-can : goal.commit-requires-clause-can
 commit-requires-clause-can g c =
@@ -40,7 +43,8 @@ pub returns-then-place-item : goal.returns-then-place-item
 returns-then-place-item g c =
     let s = c.args.self.now in
     c.cover_if_open.ensures
-    ∙ ap (λ o. record s { trail = after_branch s.puzzle c.args.item o s.trail }) (sym (none g (goal.at.returns-then-place-item g c).Then-place-item))
+    ∙ ap (λ o. record s { trail = after_branch s.puzzle c.args.item o s.trail })
+    (sym (none g (goal.at.returns-then-place-item g c).Then-place-item))
 
 pub returns-else-place-item : goal.returns-else-place-item
 returns-else-place-item g c =

@@ -12,6 +12,9 @@ returns-clause-entered g c =
     let m = c.tweak-tweaks.result in
     let q = c.args.place in
     let next = c.requires.some.1 in
-    subst (λ n. IsEntered d.puzzle d.trail l e.trail (begun_level (record { base = c.height-base.result; place = q; begun = n; tweaks = m }) l)) (sym c.requires.number)
+    subst (λ n. IsEntered d.puzzle d.trail l e.trail
+    (begun_level (record { base = c.height-base.result; place = q; begun = n; tweaks = m }) l))
+    (sym c.requires.number)
     (subst (λ n. IsEntered d.puzzle d.trail l e.trail (with_option n l m q)) (sym c.height-base.ensures)
-    (entered_option d e l c.requires.some.0 m q c.requires.ready.level c.requires.ready.more next (c.requires.option ∙ next) c.requires.place c.tweak-tweaks.ensures.tweaks c.tweak-tweaks.ensures.trail))
+    (entered_option d e l c.requires.some.0 m q c.requires.ready.level c.requires.ready.more next
+    (c.requires.option ∙ next) c.requires.place c.tweak-tweaks.ensures.tweaks c.tweak-tweaks.ensures.trail))

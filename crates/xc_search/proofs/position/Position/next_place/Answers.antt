@@ -12,18 +12,24 @@ node_below-requires-clause-place g c =
       | then-level w ↦ w.above-is ∙ sym (ap (λ b. cond b l.place l.item) w.if-level.true)
       | else-level w ↦ w.above-is ∙ sym (ap (λ b. cond b l.place l.item) w.if-level.false)
     ] in
-    let s = subst (Seeking c.args.self.now.puzzle c.args.self.now.trail l) (sym above) (seeking c.args.self.now.puzzle c.args.self.now.trail l c.requires.ready.level c.requires.ready.whole c.requires.ready.more) in
+    let s =
+    subst (Seeking c.args.self.now.puzzle c.args.self.now.trail l) (sym above)
+    (seeking c.args.self.now.puzzle c.args.self.now.trail l c.requires.ready.level c.requires.ready.whole
+    c.requires.ready.more) in
     (s.x, s.listed)
 
 -- where the code looked below
-sought : (g : _) (c : After-node_below g) → Seeking c.args.self.now.puzzle c.args.self.now.trail c.args.level.now c.if-level.above
+sought : (g : _) (c : After-node_below g)
+    → Seeking c.args.self.now.puzzle c.args.self.now.trail c.args.level.now c.if-level.above
 sought g c =
     let l = c.args.level.now in
     let above : c.if-level.above ≡ cond l.walks l.place l.item = elim c.if-level.branch [
       | then-level w ↦ w.above-is ∙ sym (ap (λ b. cond b l.place l.item) w.if-level.true)
       | else-level w ↦ w.above-is ∙ sym (ap (λ b. cond b l.place l.item) w.if-level.false)
     ] in
-    subst (Seeking c.args.self.now.puzzle c.args.self.now.trail l) (sym above) (seeking c.args.self.now.puzzle c.args.self.now.trail l c.requires.ready.level c.requires.ready.whole c.requires.ready.more)
+    subst (Seeking c.args.self.now.puzzle c.args.self.now.trail l) (sym above)
+    (seeking c.args.self.now.puzzle c.args.self.now.trail l c.requires.ready.level c.requires.ready.whole
+    c.requires.ready.more)
 
 pub returns-clause-option : goal.returns-clause-option
 returns-clause-option g c = let s = sought g c in c.node_below.ensures.option s.x s.listed ∙ s.next
@@ -32,4 +38,5 @@ pub returns-clause-place : goal.returns-clause-place
 returns-clause-place g c =
     let s = sought g c in
     c.node_below.ensures.place s.x s.listed
-    ∙ ap (λ o. link_place c.args.self.now.puzzle c.args.level.now.item (unwrap_or o 0)) (sym (c.node_below.ensures.option s.x s.listed))
+    ∙ ap (λ o. link_place c.args.self.now.puzzle c.args.level.now.item (unwrap_or o 0))
+    (sym (c.node_below.ensures.option s.x s.listed))

@@ -15,15 +15,26 @@ use Rattle.xc_search.proofs.search.Search.new.Goals as goal
 pub invariant_of-result : goal.invariant_of-result
 invariant_of-result g c = record {
   standing = subst (λ (s : Dancing). IsStanding s.puzzle s.trail c.in-Ok.stack.levels true) (sym c.new-2.ensures)
-      (starts_standing (g.D.Dance.state c.args.dance).puzzle (g.D.Dance.state c.args.dance).trail c.in-Ok.stack.levels (subst IsValid (sym c.requires.same) c.most_levels-most.ensures.valid) c.requires.none (ap (λ (s : Levels). s.levels) c.in-Ok.ensures));
-  levels_fit = omega (arith, c.most_levels-most.ensures.value, ap (λ (s : Levels). s.room) c.in-Ok.ensures, ap (λ (s : Dancing). most_levels s.puzzle) c.new-2.ensures, ap most_levels c.requires.same);
+      (starts_standing (g.D.Dance.state c.args.dance).puzzle (g.D.Dance.state c.args.dance).trail c.in-Ok.stack.levels
+      (subst IsValid (sym c.requires.same) c.most_levels-most.ensures.valid) c.requires.none
+      (ap (λ (s : Levels). s.levels) c.in-Ok.ensures));
+  levels_fit =
+      omega (
+        arith,
+        c.most_levels-most.ensures.value,
+        ap (λ (s : Levels). s.room) c.in-Ok.ensures,
+        ap
+            (λ (s : Dancing). most_levels s.puzzle) c.new-2.ensures,
+        ap most_levels c.requires.same,
+      );
 }
 
 pub returns-clause-begun : goal.returns-clause-begun
 returns-clause-begun g c =
     let ls = ap (λ (s : Levels). s.levels) c.in-Ok.ensures in
     let d = g.D.Dance.state c.args.dance in
-    let outlook : Puzzle → List (List Choice) → List Choice → ℕ → Outlook = λ p ms m room. record { puzzle = p; to_come = ms; shown = m; room = room } in
+    let outlook : Puzzle → List (List Choice) → List Choice → ℕ → Outlook =
+    λ p ms m room. record { puzzle = p; to_come = ms; shown = m; room = room } in
     ap (λ (s : Dancing). outlook s.puzzle
     (behind c.in-Ok.stack.before (coming s.puzzle s.trail c.in-Ok.stack.levels true)) c.in-Ok.stack.shown s.room)
     c.new-2.ensures
@@ -43,4 +54,5 @@ pub returns-in_default-clause-right : goal.returns-in_default-clause-right
 returns-in_default-clause-right g c = each_member_covers c.args.problem.now.puzzle c.most_levels-most.ensures.valid
 
 pub returns-in_default-clause-complete : goal.returns-in_default-clause-complete
-returns-in_default-clause-complete g c = each_cover_is_listed_once c.args.problem.now.puzzle c.most_levels-most.ensures.valid
+returns-in_default-clause-complete g c =
+    each_cover_is_listed_once c.args.problem.now.puzzle c.most_levels-most.ensures.valid

@@ -7,10 +7,14 @@ use Rattle.xc_search.proofs.search.Search.passed.Goals.{After-ended}
 past : (g : _) (c : After-ended g) →
     WentOver c.self.inside.position c.self.inside.stack c.self.inside.down c.args.many c.advance.new.position
     c.advance.new.stack false
-    × (c.loop-passed.passed ≡ min c.args.many (length (coming c.self.inside.position.puzzle c.self.inside.position.trail c.self.inside.stack.levels c.self.inside.down)))
+    × (c.loop-passed.passed ≡ min c.args.many
+    (length (coming c.self.inside.position.puzzle c.self.inside.position.trail c.self.inside.stack.levels
+    c.self.inside.down)))
 past g c =
-    went_past c.self.inside.position c.loop-passed.position c.advance.new.position c.self.inside.stack c.loop-passed.stack c.advance.new.stack
-    c.self.inside.down c.loop-passed.down c.loop-passed.passed c.args.many c.loop-passed.invariant (c.advance.ensures.done c.in-Done.is) c.loop-passed-test.true
+    went_past c.self.inside.position c.loop-passed.position c.advance.new.position c.self.inside.stack
+    c.loop-passed.stack c.advance.new.stack
+    c.self.inside.down c.loop-passed.down c.loop-passed.passed c.args.many c.loop-passed.invariant
+    (c.advance.ensures.done c.in-Done.is) c.loop-passed-test.true
 
 pub returns-in-Done-clause-went : goal.returns-in-Done-clause-went
 returns-in-Done-clause-went g c =
@@ -29,8 +33,10 @@ returns-in-Done-clause-count g c =
 
 pub loop-passed-preserved : goal.loop-passed-preserved
 loop-passed-preserved g c =
-    went_on c.self.inside.position c.loop-passed.position c.advance.new.position c.self.inside.stack c.loop-passed.stack c.advance.new.stack
-    c.self.inside.down c.loop-passed.down c.loop-passed.passed c.loop-passed.invariant (c.advance.ensures.reached c.in-Solution.is)
+    went_on c.self.inside.position c.loop-passed.position c.advance.new.position c.self.inside.stack c.loop-passed.stack
+    c.advance.new.stack
+    c.self.inside.down c.loop-passed.down c.loop-passed.passed c.loop-passed.invariant
+    (c.advance.ensures.reached c.in-Solution.is)
 
 pub returns-clause-went : goal.returns-clause-went
 returns-clause-went g c =

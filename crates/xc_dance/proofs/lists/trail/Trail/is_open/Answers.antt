@@ -12,8 +12,12 @@ state c = grind (arith, common_steps, state_at)
 
 pub returns-in-Open : goal.returns-in-Open
 returns-in-Open c =
-    sym (ap (λ (v : Dancing). is_open c.args.item v.trail) (sym c.self.view_is) ∙ open_by_state c.args.item (reverse c.self.inside.moves.items) _ (state (goal.at.returns-in-Open c).After-index) ∙ ap (λ s. is_open_state s) c.in-Open.is)
+    sym (ap (λ (v : Dancing). is_open c.args.item v.trail) (sym c.self.view_is)
+    ∙ open_by_state c.args.item (reverse c.self.inside.moves.items) _
+    (state (goal.at.returns-in-Open c).After-index) ∙ ap (λ s. is_open_state s) c.in-Open.is)
 
 pub returns-in_default : goal.returns-in_default
 returns-in_default c =
-    sym (ap (λ (v : Dancing). is_open c.args.item v.trail) (sym c.self.view_is) ∙ open_by_state c.args.item (reverse c.self.inside.moves.items) _ (state (goal.at.returns-in_default c).After-index) ∙ closed_state c.index.result.now c.in_default.not-Open)
+    sym (ap (λ (v : Dancing). is_open c.args.item v.trail) (sym c.self.view_is)
+    ∙ open_by_state c.args.item (reverse c.self.inside.moves.items) _
+    (state (goal.at.returns-in_default c).After-index) ∙ closed_state c.index.result.now c.in_default.not-Open)

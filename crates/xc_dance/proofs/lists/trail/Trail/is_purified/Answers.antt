@@ -13,8 +13,13 @@ state c = grind (arith, common_steps, state_at)
 
 pub returns-in-Purified : goal.returns-in-Purified
 returns-in-Purified c =
-    sym (ap (λ (v : Dancing). is_some (purified c.args.item v.trail)) (sym c.self.view_is) ∙ purified_by_state c.self.inside.table c.args.item (reverse c.self.inside.moves.items) c.self.invariant.legal ∙ ap (λ s. is_purified_state s) (state (goal.at.returns-in-Purified c).After-index ∙ c.in-Purified.is))
+    sym (ap (λ (v : Dancing). is_some (purified c.args.item v.trail)) (sym c.self.view_is)
+    ∙ purified_by_state c.self.inside.table c.args.item (reverse c.self.inside.moves.items) c.self.invariant.legal
+    ∙ ap (λ s. is_purified_state s) (state (goal.at.returns-in-Purified c).After-index ∙ c.in-Purified.is))
 
 pub returns-in_default : goal.returns-in_default
 returns-in_default c =
-    sym (ap (λ (v : Dancing). is_some (purified c.args.item v.trail)) (sym c.self.view_is) ∙ purified_by_state c.self.inside.table c.args.item (reverse c.self.inside.moves.items) c.self.invariant.legal ∙ ap (λ s. is_purified_state s) (state (goal.at.returns-in_default c).After-index) ∙ unpurified_state c.index.result.now c.in_default.not-Purified)
+    sym (ap (λ (v : Dancing). is_some (purified c.args.item v.trail)) (sym c.self.view_is)
+    ∙ purified_by_state c.self.inside.table c.args.item (reverse c.self.inside.moves.items) c.self.invariant.legal
+    ∙ ap (λ s. is_purified_state s) (state (goal.at.returns-in_default c).After-index)
+    ∙ unpurified_state c.index.result.now c.in_default.not-Purified)

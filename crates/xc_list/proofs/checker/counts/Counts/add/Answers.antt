@@ -3,19 +3,30 @@ use Rattle.std.proofs.lemmas.List.Elements.{recursion_from_All}
 use Rattle.xc_input.specs.declared.problem.Use.{Use}
 use Rattle.xc_input.proofs.lists.EachTwo.{each_two_from_AllPairs}
 use Rattle.xc_list.specs.inner.CoverCounts.{added, coloured}
-use Rattle.xc_list.proofs.CheckLemmas.HeldItems.{AreItems, held, each_take, added-at, length-added, length-coloured, not_before, added_more, coloured_more}
+use Rattle.xc_list.proofs.CheckLemmas.HeldItems.{AreItems, held, each_take, added-at, length-added, length-coloured}
+use Rattle.xc_list.proofs.CheckLemmas.HeldItems.{not_before, added_more, coloured_more}
 use Rattle.xc_list.proofs.checker.counts.Counts.add.Goals as goal
 
 pub hold-requires-clause-item : goal.hold-requires-clause-item
 hold-requires-clause-item c =
     let blank : Use = record { item = 0; colour = 0 } in
-    let known = c.requires.items c.loop-u.u-index blank c.loop-u-test.true in
-    (omega (arith, known.0), omega (arith, known.1, ap length c.loop-u.invariant.times, length-added (take c.loop-u.u-index c.args.uses.now) c.args.self.now.times.items))
+    let known = c.requires.items c.loop-u.u-index blank c.loop-u-test.true in (
+      omega (arith, known.0),
+      omega (
+        arith,
+        known.1,
+        ap length c.loop-u.invariant.times,
+        length-added (take c.loop-u.u-index c.args.uses.now)
+            c.args.self.now.times.items,
+      ),
+    )
 
 pub hold-requires-clause-colours : goal.hold-requires-clause-colours
 hold-requires-clause-colours c =
-    ap length c.loop-u.invariant.colours ∙ length-coloured (take c.loop-u.u-index c.args.uses.now) c.args.self.now.colours.items ∙ c.requires.colours
-    ∙ sym (ap length c.loop-u.invariant.times ∙ length-added (take c.loop-u.u-index c.args.uses.now) c.args.self.now.times.items)
+    ap length c.loop-u.invariant.colours
+    ∙ length-coloured (take c.loop-u.u-index c.args.uses.now) c.args.self.now.colours.items ∙ c.requires.colours
+    ∙ sym (ap length c.loop-u.invariant.times
+    ∙ length-added (take c.loop-u.u-index c.args.uses.now) c.args.self.now.times.items)
 
 pub hold-requires-clause-few : goal.hold-requires-clause-few
 hold-requires-clause-few c =
@@ -25,10 +36,14 @@ hold-requires-clause-few c =
     let k = c.loop-u.u-index in
     let u = get_or us k blank in
     let known = c.requires.items k blank c.loop-u-test.true in
-    let items : AreItems (length ts) (take k us) = each_take (λ v. (1 ≤ v.item) × (v.item ≤ length ts)) k us (recursion_from_All (λ v. (1 ≤ v.item) × (v.item ≤ length ts)) us c.requires.items) in
+    let items : AreItems (length ts) (take k us) =
+    each_take (λ v. (1 ≤ v.item) × (v.item ≤ length ts)) k us
+    (recursion_from_All (λ v. (1 ≤ v.item) × (v.item ≤ length ts)) us c.requires.items) in
     let at = added-at (length ts) (take k us) ts (u.item - 1) items refl (omega (arith, known)) in
     let is : suc (u.item - 1) ≡ u.item = omega (arith, known) in
-    let none : held (suc (u.item - 1)) (take k us) ≡ 0 = ap (λ i. held i (take k us)) is ∙ not_before us k blank (each_two_from_AllPairs (λ v w. v.item ≢ w.item) us c.requires.distinct) c.loop-u-test.true in
+    let none : held (suc (u.item - 1)) (take k us) ≡ 0 = ap (λ i. held i (take k us)) is
+    ∙ not_before us k blank (each_two_from_AllPairs (λ v w. v.item ≢ w.item) us c.requires.distinct)
+    c.loop-u-test.true in
     omega (arith, ap (λ l. get_or l (u.item - 1) 0) c.loop-u.invariant.times, at, none, c.requires.few (u.item - 1))
 
 pub loop-u-preserved : goal.loop-u-preserved
@@ -37,8 +52,10 @@ loop-u-preserved c =
     let us = c.args.uses.now in
     let k = c.loop-u.u-index in
     record {
-      times = c.hold.ensures.times ∙ ap (added (get_or us k blank ∷ [])) c.loop-u.invariant.times ∙ sym (added_more us k blank c.args.self.now.times.items c.loop-u-test.true);
-      colours = c.hold.ensures.colours ∙ ap (coloured (get_or us k blank ∷ [])) c.loop-u.invariant.colours ∙ sym (coloured_more us k blank c.args.self.now.colours.items c.loop-u-test.true);
+      times = c.hold.ensures.times ∙ ap (added (get_or us k blank ∷ [])) c.loop-u.invariant.times
+          ∙ sym (added_more us k blank c.args.self.now.times.items c.loop-u-test.true);
+      colours = c.hold.ensures.colours ∙ ap (coloured (get_or us k blank ∷ [])) c.loop-u.invariant.colours
+          ∙ sym (coloured_more us k blank c.args.self.now.colours.items c.loop-u-test.true);
       asked = c.hold.ensures.asked ∙ c.loop-u.invariant.asked;
       short = c.hold.ensures.short;
     }

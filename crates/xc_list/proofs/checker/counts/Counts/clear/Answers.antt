@@ -8,8 +8,12 @@ pub clear_uses-requires : goal.clear_uses-requires
 clear_uses-requires c =
     let b = c.args.options.now in
     let before = uses_in b.classes (take c.loop-class.class-index c.args.chosen.now) in
-    let size = ap length c.loop-class.invariant.times ∙ length-cleared before c.args.self.now.times.items ∙ c.requires.times in
-    record { items = known_items b.problem c.uses.result.now (length c.loop-class.self.times.items) size c.uses.ensures.known }
+    let size =
+    ap length c.loop-class.invariant.times ∙ length-cleared before c.args.self.now.times.items ∙ c.requires.times in
+    record {
+      items = known_items b.problem c.uses.result.now (length c.loop-class.self.times.items) size
+          c.uses.ensures.known;
+    }
 
 pub loop-class-preserved : goal.loop-class-preserved
 loop-class-preserved c =
@@ -18,7 +22,11 @@ loop-class-preserved c =
     let i = c.loop-class.class-index in
     let us = c.uses.result.now in
     record {
-      times = c.clear_uses.ensures.times ∙ ap (cleared us) c.loop-class.invariant.times ∙ sym (cleared_class_more b.classes ks i us c.args.self.now.times.items c.loop-class-test.true c.uses.ensures.value);
+      times = c.clear_uses.ensures.times ∙ ap (cleared us) c.loop-class.invariant.times
+          ∙ sym (cleared_class_more b.classes ks i us c.args.self.now.times.items c.loop-class-test.true
+          c.uses.ensures.value);
       colours = c.clear_uses.ensures.colours ∙ c.loop-class.invariant.colours;
-      asked = ap (λ v. v.items) c.clear_uses.ensures.asked ∙ ap (lowered (get_or ks i 0 ∷ [])) c.loop-class.invariant.asked ∙ sym (lowered_more ks i c.args.self.now.asked.items c.loop-class-test.true);
+      asked = ap (λ v. v.items) c.clear_uses.ensures.asked
+          ∙ ap (lowered (get_or ks i 0 ∷ [])) c.loop-class.invariant.asked
+          ∙ sym (lowered_more ks i c.args.self.now.asked.items c.loop-class-test.true);
     }

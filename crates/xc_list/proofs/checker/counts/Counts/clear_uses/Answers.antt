@@ -9,7 +9,13 @@ pub index_mut-requires : goal.index_mut-requires
 index_mut-requires c =
     let blank : Use = record { item = 0; colour = 0 } in
     let known = c.requires.items c.loop-u.u-index blank c.loop-u-test.true in
-    omega (arith, known, ap length c.loop-u.invariant.times, length-cleared (take c.loop-u.u-index c.args.uses.now) c.args.self.now.times.items)
+    omega (
+      arith,
+      known,
+      ap length c.loop-u.invariant.times,
+      length-cleared (take c.loop-u.u-index c.args.uses.now)
+          c.args.self.now.times.items,
+    )
 
 pub loop-u-preserved : goal.loop-u-preserved
 loop-u-preserved c =
@@ -18,7 +24,9 @@ loop-u-preserved c =
     let k = c.loop-u.u-index in
     let ts = c.args.self.now.times.items in
     record {
-      times = ap (cleared (get_or us k blank ∷ [])) c.loop-u.invariant.times ∙ sym (ap (λ vs. cleared vs ts) (take_more us k blank c.loop-u-test.true) ∙ cleared-append (take k us) (get_or us k blank ∷ []) ts);
+      times = ap (cleared (get_or us k blank ∷ [])) c.loop-u.invariant.times
+          ∙ sym (ap (λ vs. cleared vs ts) (take_more us k blank c.loop-u-test.true)
+          ∙ cleared-append (take k us) (get_or us k blank ∷ []) ts);
       colours = c.loop-u.invariant.colours;
       asked = c.loop-u.invariant.asked;
     }

@@ -1,4 +1,5 @@
-use Rattle.std.proofs.Common.{ℕ, List, arith, ◌≡◌, ◌+◌, ◌<◌, ◌≢◌, [], ◌∷◌, length, get_or, set, take, replicate, sym, ◌∙◌, ap, subst}
+use Rattle.std.proofs.Common.{ℕ, List, arith, ◌≡◌, ◌+◌, ◌<◌, ◌≢◌, [], ◌∷◌, length, get_or, set, take, replicate, sym}
+use Rattle.std.proofs.Common.{◌∙◌, ap, subst}
 use Rattle.std.proofs.lemmas.List.{get_or_default, length-replicate}
 use Rattle.std.proofs.lemmas.List.Elements.{recursion_from_All}
 use Rattle.xc_input.specs.declared.problem.Use.{Use}
@@ -7,7 +8,8 @@ use Rattle.xc_input.proofs.lists.EachTwo.{AllPairs-from_each_two}
 use Rattle.xc_list.specs.inner.CoverCounts.{item_places, added, coloured, raised, uses_at, uses_in}
 use Rattle.xc_list.proofs.CheckLemmas.HeldItems.{length-raised, length-coloured}
 use Rattle.xc_list.proofs.CheckLemmas.Rotations.{DifferInItems}
-use Rattle.xc_list.proofs.CheckLemmas.CountedClasses.{AreBelow, known_items, classes_usable, slice_get-at, added_few, added_class_more, coloured_class_more, raised_few, raised_more}
+use Rattle.xc_list.proofs.CheckLemmas.CountedClasses.{AreBelow, known_items, classes_usable, slice_get-at, added_few}
+use Rattle.xc_list.proofs.CheckLemmas.CountedClasses.{added_class_more, coloured_class_more, raised_few, raised_more}
 use Rattle.xc_list.proofs.checker.counts.Counts.count.Goals as goal
 
 -- counted from n zeros on
@@ -17,7 +19,9 @@ size_counted n ks ns now e h = ap length h ∙ length-raised ks ns ∙ ap length
 pub index_mut-requires : goal.index_mut-requires
 index_mut-requires c =
     let i = c.loop-class.class-index in
-    let size = size_counted (length c.args.options.now.classes) (take i c.args.chosen.now) c.args.self.now.asked.items c.loop-class.self.asked.items c.requires.asked c.loop-class.invariant.asked in
+    let size =
+    size_counted (length c.args.options.now.classes) (take i c.args.chosen.now) c.args.self.now.asked.items
+    c.loop-class.self.asked.items c.requires.asked c.loop-class.invariant.asked in
     omega (arith, c.requires.known i 0 c.loop-class-test.true, size)
 
 pub overflow_add-index_mut : goal.overflow_add-index_mut
@@ -28,9 +32,12 @@ overflow_add-index_mut c =
     let k = get_or ks i 0 in
     let asked = c.loop-class.self.asked.items in
     let known : k < n = c.requires.known i 0 c.loop-class-test.true in
-    let same : asked ≡ raised (take i ks) (replicate n 0) = c.loop-class.invariant.asked ∙ ap (raised (take i ks)) c.requires.asked in
-    let size : length asked ≡ n = size_counted n (take i ks) c.args.self.now.asked.items asked c.requires.asked c.loop-class.invariant.asked in
-    let read : c.index_mut.result.now ≡ get_or asked k 0 = c.index_mut.ensures.value ∙ get_or_default asked k c.index_mut.result.now 0 (omega (arith, known, size)) in
+    let same : asked ≡ raised (take i ks) (replicate n 0) =
+    c.loop-class.invariant.asked ∙ ap (raised (take i ks)) c.requires.asked in
+    let size : length asked ≡ n =
+    size_counted n (take i ks) c.args.self.now.asked.items asked c.requires.asked c.loop-class.invariant.asked in
+    let read : c.index_mut.result.now ≡ get_or asked k 0 =
+    c.index_mut.ensures.value ∙ get_or_default asked k c.index_mut.result.now 0 (omega (arith, known, size)) in
     let few = raised_few n ks i k known (omega (arith, c.loop-class-test.true)) in
     omega (arith, read, ap (λ l. get_or l k 0) same, few, c.loop-class-test.true)
 
@@ -38,7 +45,9 @@ pub add-requires-clause-items : goal.add-requires-clause-items
 add-requires-clause-items c =
     let b = c.args.options.now in
     let before = uses_in b.classes (take c.loop-class.class-index c.args.chosen.now) in
-    known_items b.problem c.uses.result.now (length c.loop-class.self.times.items) (size_counted (item_count b.problem.puzzle) (item_places before) c.args.self.now.times.items c.loop-class.self.times.items c.requires.times c.loop-class.invariant.times) c.uses.ensures.known
+    known_items b.problem c.uses.result.now (length c.loop-class.self.times.items)
+    (size_counted (item_count b.problem.puzzle) (item_places before) c.args.self.now.times.items
+    c.loop-class.self.times.items c.requires.times c.loop-class.invariant.times) c.uses.ensures.known
 
 pub add-requires-clause-distinct : goal.add-requires-clause-distinct
 add-requires-clause-distinct c =
@@ -47,7 +56,9 @@ add-requires-clause-distinct c =
     let k = get_or c.args.chosen.now i 0 in
     let us = c.uses.result.now in
     let is : uses_at b.classes k ≡ us = slice_get-at b.classes k us [] c.uses.ensures.value in
-    let usable = classes_usable b c.requires.indexed.sound c.requires.indexed.classes k (c.requires.known i 0 c.loop-class-test.true) in
+    let usable =
+    classes_usable b c.requires.indexed.sound c.requires.indexed.classes k
+    (c.requires.known i 0 c.loop-class-test.true) in
     AllPairs-from_each_two (λ (u v : Use). u.item ≢ v.item) us (subst DifferInItems is usable.1)
 
 pub add-requires-clause-colours : goal.add-requires-clause-colours
@@ -55,7 +66,8 @@ add-requires-clause-colours c =
     let b = c.args.options.now in
     let before = uses_in b.classes (take c.loop-class.class-index c.args.chosen.now) in
     ap length c.loop-class.invariant.colours ∙ length-coloured before c.args.self.now.colours.items ∙ c.requires.colours
-    ∙ sym (size_counted (item_count b.problem.puzzle) (item_places before) c.args.self.now.times.items c.loop-class.self.times.items c.requires.times c.loop-class.invariant.times)
+    ∙ sym (size_counted (item_count b.problem.puzzle) (item_places before) c.args.self.now.times.items
+    c.loop-class.self.times.items c.requires.times c.loop-class.invariant.times)
 
 pub add-requires-clause-few : goal.add-requires-clause-few
 add-requires-clause-few c = λ k.
@@ -63,7 +75,8 @@ add-requires-clause-few c = λ k.
     let n = item_count b.problem.puzzle in
     let ks = c.args.chosen.now in
     let i = c.loop-class.class-index in
-    let same : c.loop-class.self.times.items ≡ added (uses_in b.classes (take i ks)) (replicate n 0) = c.loop-class.invariant.times ∙ ap (added (uses_in b.classes (take i ks))) c.requires.times in
+    let same : c.loop-class.self.times.items ≡ added (uses_in b.classes (take i ks)) (replicate n 0) =
+    c.loop-class.invariant.times ∙ ap (added (uses_in b.classes (take i ks))) c.requires.times in
     let usable = classes_usable b c.requires.indexed.sound c.requires.indexed.classes in
     let below : AreBelow (length b.classes) ks = recursion_from_All (λ j. j < length b.classes) ks c.requires.known in
     let few = added_few n b.classes ks i k usable below (omega (arith, c.loop-class-test.true)) in
@@ -78,12 +91,21 @@ loop-class-preserved c =
     let us = c.uses.result.now in
     let asked = c.loop-class.self.asked.items in
     let n = length b.classes in
-    let size : length asked ≡ n = size_counted n (take i ks) c.args.self.now.asked.items asked c.requires.asked c.loop-class.invariant.asked in
+    let size : length asked ≡ n =
+    size_counted n (take i ks) c.args.self.now.asked.items asked c.requires.asked c.loop-class.invariant.asked in
     let known : k < n = c.requires.known i 0 c.loop-class-test.true in
-    let read : set asked k (c.index_mut.result.now + 1) ≡ set asked k (get_or asked k 0 + 1) = ap (λ m. set asked k (m + 1)) (c.index_mut.ensures.value ∙ get_or_default asked k c.index_mut.result.now 0 (omega (arith, known, size))) in
+    let read : set asked k (c.index_mut.result.now + 1) ≡ set asked k (get_or asked k 0 + 1) =
+    ap (λ m. set asked k (m + 1))
+    (c.index_mut.ensures.value
+    ∙ get_or_default asked k c.index_mut.result.now 0 (omega (arith, known, size))) in
     record {
-      times = c.add.ensures.times ∙ ap (added us) c.loop-class.invariant.times ∙ sym (added_class_more b.classes ks i us c.args.self.now.times.items c.loop-class-test.true c.uses.ensures.value);
-      colours = c.add.ensures.colours ∙ ap (coloured us) c.loop-class.invariant.colours ∙ sym (coloured_class_more b.classes ks i us c.args.self.now.colours.items c.loop-class-test.true c.uses.ensures.value);
-      asked = ap (λ v. v.items) c.add.ensures.asked ∙ read ∙ ap (raised (k ∷ [])) c.loop-class.invariant.asked ∙ sym (raised_more ks i c.args.self.now.asked.items c.loop-class-test.true);
+      times = c.add.ensures.times ∙ ap (added us) c.loop-class.invariant.times
+          ∙ sym (added_class_more b.classes ks i us c.args.self.now.times.items c.loop-class-test.true
+          c.uses.ensures.value);
+      colours = c.add.ensures.colours ∙ ap (coloured us) c.loop-class.invariant.colours
+          ∙ sym (coloured_class_more b.classes ks i us c.args.self.now.colours.items c.loop-class-test.true
+          c.uses.ensures.value);
+      asked = ap (λ v. v.items) c.add.ensures.asked ∙ read ∙ ap (raised (k ∷ [])) c.loop-class.invariant.asked
+          ∙ sym (raised_more ks i c.args.self.now.asked.items c.loop-class-test.true);
       short = c.add.ensures.short;
     }

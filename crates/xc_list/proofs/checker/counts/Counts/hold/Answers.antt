@@ -2,17 +2,30 @@ use Rattle.std.proofs.Common.{arith, ◌≢◌, ◌+◌, ◌-◌, ◌<◌, lengt
 use Rattle.xc_input.specs.declared.problem.Bounds.{Bounds}
 use Rattle.xc_list.proofs.CheckLemmas.ShortItems.{short_reached, short_kept}
 use Rattle.xc_list.proofs.checker.counts.Counts.hold.Goals as goal
-use Rattle.xc_list.proofs.checker.counts.Counts.hold.Goals.{else-place-bounds-via-then-place-bounds+else-times-bounds, else-place-bounds-via-else-place-bounds}
+use Rattle.xc_list.proofs.checker.counts.Counts.hold.Goals.{else-place-bounds-via-then-place-bounds+else-times-bounds}
+use Rattle.xc_list.proofs.checker.counts.Counts.hold.Goals.{else-place-bounds-via-else-place-bounds}
 
 pub overflow_sub-self : goal.overflow_sub-self
 overflow_sub-self c =
     let blank : Bounds = record { low = 0; high = 0 } in
-    omega (arith, c.requires.short, short_reached c.args.bounds.now c.args.self.now.times.items (c.args.u.item - 1) c.index.result.now blank (omega (arith, c.requires.item)) c.index.ensures c.if-place-bounds.true c.if-times-bounds.true)
+    omega (
+      arith,
+      c.requires.short,
+      short_reached c.args.bounds.now c.args.self.now.times.items (c.args.u.item - 1)
+          c.index.result.now blank (omega (arith, c.requires.item)) c.index.ensures c.if-place-bounds.true
+          c.if-times-bounds.true,
+    )
 
 pub returns-then-times-bounds-clause-short : goal.returns-then-times-bounds-clause-short
 returns-then-times-bounds-clause-short c =
     let blank : Bounds = record { low = 0; high = 0 } in
-    omega (arith, c.requires.short, short_reached c.args.bounds.now c.args.self.now.times.items (c.args.u.item - 1) c.index.result.now blank (omega (arith, c.requires.item)) c.index.ensures c.if-place-bounds.true c.if-times-bounds.true)
+    omega (
+      arith,
+      c.requires.short,
+      short_reached c.args.bounds.now c.args.self.now.times.items (c.args.u.item - 1)
+          c.index.result.now blank (omega (arith, c.requires.item)) c.index.ensures c.if-place-bounds.true
+          c.if-times-bounds.true,
+    )
 
 pub returns-else-place-bounds-clause-short : goal.returns-else-place-bounds-clause-short
 returns-else-place-bounds-clause-short c =
@@ -23,4 +36,6 @@ returns-else-place-bounds-clause-short c =
       | else-place-bounds-via-then-place-bounds+else-times-bounds w ↦ λ q. w.if-times-bounds.false q
       | else-place-bounds-via-else-place-bounds w ↦ λ q. absurd (omega (arith, w.if-place-bounds.false, m))
     ]
-    in c.requires.short ∙ sym (short_kept c.args.bounds.now c.args.self.now.times.items k c.index.result.now blank (omega (arith, c.requires.item)) c.index.ensures kept)
+    in c.requires.short ∙ sym
+    (short_kept c.args.bounds.now c.args.self.now.times.items k c.index.result.now blank
+    (omega (arith, c.requires.item)) c.index.ensures kept)

@@ -3,45 +3,56 @@ use Rattle.xc_input.specs.Problem.{item_count}
 use Rattle.xc_list.specs.inner.CoverCounts.{Places, item_places, uses_in, added, raised, lowered, short_of}
 use Rattle.xc_list.proofs.CheckLemmas.HeldItems.{length-raised, length-added, length-coloured}
 use Rattle.xc_list.proofs.CheckLemmas.CountedClasses.{lowered_back}
-use Rattle.xc_list.proofs.CheckLemmas.CountedCovers.{IsSolution, times_after, asked_after, is_counted_cover, counted-cover, cover-counted}
+use Rattle.xc_list.proofs.CheckLemmas.CountedCovers.{IsSolution, times_after, asked_after, is_counted_cover}
+use Rattle.xc_list.proofs.CheckLemmas.CountedCovers.{counted-cover, cover-counted}
 use Rattle.xc_list.proofs.checker.cover_counter.CoverCounter.is_cover.Goals as goal
 
 -- what was counted from zeros and then forgotten is as before
-forgotten : (ks ns : List ℕ) {now after : List ℕ} → ns ≡ replicate (length ns) 0 → now ≡ raised ks ns → after ≡ lowered ks now → after ≡ ns
+forgotten : (ks ns : List ℕ) {now after : List ℕ} → ns ≡ replicate (length ns) 0 → now ≡ raised ks ns
+    → after ≡ lowered ks now → after ≡ ns
 forgotten ks ns z e h = h ∙ ap (lowered ks) e ∙ lowered_back (length ns) ks ns z
 
 pub is_cover-cover-requires-clause-times : goal.is_cover-cover-requires-clause-times
 is_cover-cover-requires-clause-times c =
     let us = uses_in c.args.options.now.classes c.args.chosen.now in
-    ap length c.count.ensures.times ∙ length-added us c.self.inside.counts.times.items ∙ ap (λ (v : Places). v.items) (c.self.view_is ∙ c.requires.places)
+    ap length c.count.ensures.times ∙ length-added us c.self.inside.counts.times.items
+    ∙ ap (λ (v : Places). v.items) (c.self.view_is ∙ c.requires.places)
 
 pub is_cover-cover-requires-clause-colours : goal.is_cover-cover-requires-clause-colours
 is_cover-cover-requires-clause-colours c =
     let us = uses_in c.args.options.now.classes c.args.chosen.now in
-    ap length c.count.ensures.colours ∙ length-coloured us c.self.inside.counts.colours.items ∙ c.self.invariant.colours ∙ ap (λ (v : Places). v.items) (c.self.view_is ∙ c.requires.places)
+    ap length c.count.ensures.colours ∙ length-coloured us c.self.inside.counts.colours.items ∙ c.self.invariant.colours
+    ∙ ap (λ (v : Places). v.items) (c.self.view_is ∙ c.requires.places)
 
 pub is_cover-cover-requires-clause-asked : goal.is_cover-cover-requires-clause-asked
 is_cover-cover-requires-clause-asked c =
-    ap length c.count.ensures.asked ∙ length-raised c.args.chosen.now c.self.inside.counts.asked.items ∙ ap (λ (v : Places). v.classes) (c.self.view_is ∙ c.requires.places)
+    ap length c.count.ensures.asked ∙ length-raised c.args.chosen.now c.self.inside.counts.asked.items
+    ∙ ap (λ (v : Places). v.classes) (c.self.view_is ∙ c.requires.places)
 
 pub clear-requires-clause-times : goal.clear-requires-clause-times
 clear-requires-clause-times c =
     let us = uses_in c.args.options.now.classes c.args.chosen.now in
-    ap length c.count.ensures.times ∙ length-added us c.self.inside.counts.times.items ∙ ap (λ (v : Places). v.items) (c.self.view_is ∙ c.requires.places)
+    ap length c.count.ensures.times ∙ length-added us c.self.inside.counts.times.items
+    ∙ ap (λ (v : Places). v.items) (c.self.view_is ∙ c.requires.places)
 
 pub clear-requires-clause-asked : goal.clear-requires-clause-asked
 clear-requires-clause-asked c =
-    ap length c.count.ensures.asked ∙ length-raised c.args.chosen.now c.self.inside.counts.asked.items ∙ ap (λ (v : Places). v.classes) (c.self.view_is ∙ c.requires.places)
+    ap length c.count.ensures.asked ∙ length-raised c.args.chosen.now c.self.inside.counts.asked.items
+    ∙ ap (λ (v : Places). v.classes) (c.self.view_is ∙ c.requires.places)
 
 pub invariant_of-self : goal.invariant_of-self
 invariant_of-self c =
     let us = uses_in c.args.options.now.classes c.args.chosen.now in
     let old = c.self.inside.counts in
-    let times = forgotten (item_places us) old.times.items c.self.invariant.times c.count.ensures.times c.clear.ensures.times in
-    let asked = forgotten c.args.chosen.now old.asked.items c.self.invariant.asked c.count.ensures.asked c.clear.ensures.asked in
+    let times =
+    forgotten (item_places us) old.times.items c.self.invariant.times c.count.ensures.times c.clear.ensures.times in
+    let asked =
+    forgotten c.args.chosen.now old.asked.items c.self.invariant.asked c.count.ensures.asked
+    c.clear.ensures.asked in
     record {
       times = subst (λ ts. ts ≡ replicate {A = ℕ} (length ts) 0) (sym times) c.self.invariant.times;
-      colours = ap (λ v. length v.items) c.clear.ensures.colours ∙ ap length c.count.ensures.colours ∙ length-coloured us old.colours.items ∙ c.self.invariant.colours ∙ sym (ap length times);
+      colours = ap (λ v. length v.items) c.clear.ensures.colours ∙ ap length c.count.ensures.colours
+          ∙ length-coloured us old.colours.items ∙ c.self.invariant.colours ∙ sym (ap length times);
       asked = subst (λ ns. ns ≡ replicate {A = ℕ} (length ns) 0) (sym asked) c.self.invariant.asked;
       needed = c.self.invariant.needed ∙ ap (short_of c.self.inside.bounds.items) (sym times);
     }
@@ -50,9 +61,13 @@ pub returns-clause-same : goal.returns-clause-same
 returns-clause-same c =
     let us = uses_in c.args.options.now.classes c.args.chosen.now in
     let old = c.self.inside.counts in
-    let times = forgotten (item_places us) old.times.items c.self.invariant.times c.count.ensures.times c.clear.ensures.times in
-    let asked = forgotten c.args.chosen.now old.asked.items c.self.invariant.asked c.count.ensures.asked c.clear.ensures.asked in
-    ap₂ (λ i k. let v : Places = record { bounds = c.self.inside.bounds.items; items = i; classes = k } in v) (ap length times) (ap length asked) ∙ c.self.view_is
+    let times =
+    forgotten (item_places us) old.times.items c.self.invariant.times c.count.ensures.times c.clear.ensures.times in
+    let asked =
+    forgotten c.args.chosen.now old.asked.items c.self.invariant.asked c.count.ensures.asked
+    c.clear.ensures.asked in
+    ap₂ (λ i k. let v : Places = record { bounds = c.self.inside.bounds.items; items = i; classes = k } in v)
+    (ap length times) (ap length asked) ∙ c.self.view_is
 
 pub returns-clause-decided : goal.returns-clause-decided
 returns-clause-decided c = λ reps z.
@@ -64,11 +79,14 @@ returns-clause-decided c = λ reps z.
     let stored = c.self.inside.bounds.items in
     let cs = old.colours.items in
     let places = c.self.view_is ∙ c.requires.places in
-    let zeros : old.times.items ≡ replicate n 0 = c.self.invariant.times ∙ ap (λ (v : Places). replicate v.items 0) places in
-    let nones : old.asked.items ≡ replicate (length b.classes) 0 = c.self.invariant.asked ∙ ap (λ (v : Places). replicate v.classes 0) places in
+    let zeros : old.times.items ≡ replicate n 0 =
+    c.self.invariant.times ∙ ap (λ (v : Places). replicate v.items 0) places in
+    let nones : old.asked.items ≡ replicate (length b.classes) 0 =
+    c.self.invariant.asked ∙ ap (λ (v : Places). replicate v.classes 0) places in
     let times : c.count.new.self.times.items ≡ times_after b ks = c.count.ensures.times ∙ ap (added us) zeros in
     let asked : c.count.new.self.asked.items ≡ asked_after b ks = c.count.ensures.asked ∙ ap (raised ks) nones in
-    let short : c.count.new.self.short ≡ short_of stored (times_after b ks) = c.count.ensures.short ∙ ap₂ short_of c.deref.ensures.value times in
+    let short : c.count.new.self.short ≡ short_of stored (times_after b ks) =
+    c.count.ensures.short ∙ ap₂ short_of c.deref.ensures.value times in
     let solution : IsSolution b stored cs ks reps = record {
       sound = c.requires.indexed.sound;
       classes = c.requires.indexed.classes;
@@ -78,5 +96,8 @@ returns-clause-decided c = λ reps z.
     } in
     let is : c.is_cover-cover.result ≡ is_counted_cover b stored cs ks =
     c.is_cover-cover.ensures ∙ simp (short, c.deref-2.ensures.value, times, c.count.ensures.colours, asked)
-    in
-    (λ h. counted-cover b stored cs ks reps solution (sym is ∙ h), λ h. is ∙ cover-counted b stored cs ks reps solution h)
+    in (
+      λ h. counted-cover b stored cs ks reps solution (sym is ∙ h),
+      λ h. is
+          ∙ cover-counted b stored cs ks reps solution h,
+    )

@@ -17,5 +17,6 @@ invariant_of-result c =
       times = again n c.in_ok-counts.counts.times.items e.times;
       colours = e.colours ∙ sym (ap length e.times ∙ length-replicate {A = ℕ} n 0);
       asked = again c.args.classes c.in_ok-counts.counts.asked.items e.asked;
-      needed = c.needed-needed.ensures ∙ ap (count_by (λ b. nat_lt 0 b.low)) c.deref.ensures.value ∙ short_begun stored ∙ sym (ap (short_of stored) e.times ∙ short_zeros stored n);
+      needed = c.needed-needed.ensures ∙ ap (count_by (λ b. nat_lt 0 b.low)) c.deref.ensures.value ∙ short_begun stored
+          ∙ sym (ap (short_of stored) e.times ∙ short_zeros stored n);
     }

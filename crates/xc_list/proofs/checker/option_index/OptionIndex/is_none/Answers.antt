@@ -6,16 +6,24 @@ use Rattle.xc_list.proofs.CheckLemmas.NumberedTexts.{none-of-three}
 use Rattle.xc_list.proofs.checker.option_index.OptionIndex.is_none.Goals as goal
 
 -- what a cut says where something is left
-cut-some : {text : Bor (List ℕ)} (same word : Bor (List ℕ)) (rest : Option (Bor (List ℕ))) (left : Bor (List ℕ)) → text ≡ same → rest ≡ Some left
-    → MatchOption rest (words_in text.now ≡ word.now ∷ []) (λ r. (words_in text.now ≡ word.now ∷ words_in r.now) × (length r.now < length text.now)) → words_in same.now ≡ word.now ∷ words_in left.now
+cut-some : {text : Bor (List ℕ)} (same word : Bor (List ℕ)) (rest : Option (Bor (List ℕ))) (left : Bor (List ℕ))
+    → text ≡ same → rest ≡ Some left
+    → MatchOption rest (words_in text.now ≡ word.now ∷ [])
+    (λ r. (words_in text.now ≡ word.now ∷ words_in r.now) × (length r.now < length text.now))
+    → words_in same.now ≡ word.now ∷ words_in left.now
 cut-some {text} same word rest left q e h =
     ap (λ (r : Bor (List ℕ)). words_in r.now) (sym q)
-    ∙ (MatchOption-at_some (words_in text.now ≡ word.now ∷ []) (λ r. (words_in text.now ≡ word.now ∷ words_in r.now) × (length r.now < length text.now)) left e h).0
+    ∙ (MatchOption-at_some (words_in text.now ≡ word.now ∷ [])
+    (λ r. (words_in text.now ≡ word.now ∷ words_in r.now) × (length r.now < length text.now)) left e h).0
 
 pub returns-in_default-Some-cut_word : goal.returns-in_default-Some-cut_word
 returns-in_default-Some-cut_word c =
     let last = c.in_default-Some-cut_word.field-0-1 in
-    let one = cut-some c.args.body c.cut_word.result.0 c.cut_word.result.1 c.in_default-Some.rest refl c.in_default-Some.is-1 c.cut_word.ensures in
-    let two = cut-some c.in_default-Some.rest c.cut_word-2.result.0 c.cut_word-2.result.1 last c.in_default-Some.rest-is c.in_default-Some-cut_word.is-1 c.cut_word-2.ensures in
+    let one =
+    cut-some c.args.body c.cut_word.result.0 c.cut_word.result.1 c.in_default-Some.rest refl c.in_default-Some.is-1
+    c.cut_word.ensures in
+    let two =
+    cut-some c.in_default-Some.rest c.cut_word-2.result.0 c.cut_word-2.result.1 last c.in_default-Some.rest-is
+    c.in_default-Some-cut_word.is-1 c.cut_word-2.ensures in
     none-of-three c.args.self.now.problem c.cut_word.result.0.now c.cut_word-2.result.0.now last.now
     ∙ ap (is_none c.args.self.now.problem) (ap (λ ws. c.cut_word.result.0.now ∷ ws) (sym two) ∙ sym one)

@@ -7,13 +7,20 @@ use Rattle.xc_list.proofs.checker.option_index.OptionIndex.new.Goals as goal
 pub invariant_of-result : goal.invariant_of-result
 invariant_of-result c =
     let p = c.args.problem.now in
-    let all : c.loop-o.o ≡ option_count p.puzzle = omega (arith, c.loop-o-test.false, c.loop-o.auto.o-end, c.options-o-end.ensures.value) in
+    let all : c.loop-o.o ≡ option_count p.puzzle =
+    omega (arith, c.loop-o-test.false, c.loop-o.auto.o-end, c.options-o-end.ensures.value) in
     record {
       sound = c.options-o-end.ensures.whole;
-      complete = subst (λ n. AreClassesTo p.puzzle n (key_uses c.loop-o.classes.keys) c.loop-o.sizes.items) all c.loop-o.invariant;
+      complete =
+          subst (λ n. AreClassesTo p.puzzle n (key_uses c.loop-o.classes.keys) c.loop-o.sizes.items) all
+          c.loop-o.invariant;
     }
 
 pub returns-clause-indexed : goal.returns-clause-indexed
 returns-clause-indexed c =
     let i = invariant_of-result c in
-    record { sound = i.sound; classes = classes-whole c.args.problem.now.puzzle (key_uses c.loop-o.classes.keys) c.loop-o.sizes.items i.complete }
+    record {
+      sound = i.sound;
+      classes =
+          classes-whole c.args.problem.now.puzzle (key_uses c.loop-o.classes.keys) c.loop-o.sizes.items i.complete;
+    }

@@ -10,4 +10,5 @@ returns-clause-known c =
     let b = c.self.inside in
     subst (λ (v : Classes). All (IsKnownUse v.problem) c.as_slice.result.now) c.self.view_is
     (subst (All (IsKnownUse b.problem.now)) (sym c.as_slice.ensures.value)
-    (known-uses b.problem.now b.classes.keys b.sizes.items c.self.invariant c.args.class c.in-Some.uses.now c.in-Some.ensures.key))
+    (known-uses b.problem.now b.classes.keys b.sizes.items c.self.invariant c.args.class c.in-Some.uses.now
+    c.in-Some.ensures.key))
