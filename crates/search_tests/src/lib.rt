@@ -1,0 +1,17 @@
+//! Tests of searches, cuts and searches below paths. They use public calls alone. The gate tries them beside
+//! the proofs of the libraries that they don't use.
+#![tactic(auto)]
+
+// What is there for callers.
+#[cfg(test)]
+mod callers;
+
+// Searches.
+#[cfg(test)]
+mod below;
+#[cfg(test)]
+mod closing;
+#[cfg(test)]
+mod cutting;
+#[cfg(test)]
+mod searching;
