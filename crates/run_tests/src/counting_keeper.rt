@@ -89,19 +89,31 @@ impl Dance for Counting {
     }
 }
 
-/// The keeper that comes back from a run by these words, into a sink that takes so many bytes.
+/// The keeper that comes back from a run by these words.
 fn run_counted(
     alloc: Global,
     problem: &Problem,
     words: Words,
-    room: usize,
+    tray: &mut Tray,
 ) -> Result<Counting, Fail> {
     let links = Links::new(alloc, problem, most_moves(problem))?;
-    let mut tray = Tray::new(alloc, 1, room, false)?;
     let counting = Counting { links, calls: NONE };
-    let (back, end) = run_over(alloc, counting, problem, words, &mut tray);
-    end?;
-    Ok(back)
+    let (back, end) = run_over(alloc, counting, problem, words, tray);
+    match end {
+        Ok(_) => Ok(back),
+        Err(_) => Err(Fail::new("no memory")),
+    }
+}
+
+/// The calls that a run makes into a sink that takes so many bytes.
+fn calls_of_run(
+    alloc: Global,
+    problem: &Problem,
+    words: Words,
+    room: usize,
+) -> Result<Calls, Fail> {
+    let mut tray = Tray::new(alloc, 1, room, false)?;
+    Ok(run_counted(alloc, problem, words, &mut tray)?.calls)
 }
 
 /// The calls of a search that is asked so often for its next solution, and closed.
@@ -117,20 +129,26 @@ fn calls_of_steps(alloc: Global, problem: &Problem, steps: usize) -> Result<Call
     Ok(search.close().calls)
 }
 
-/// How many moves a run over the colours makes; 0 where the tables that come back aren't as built.
-fn moves_made(alloc: Global) -> Result<u64, Fail> {
-    let problem = problem(alloc, Kind::Colours, COLOURED)?;
-    let back = run_counted(alloc, &problem, ALL, 1000)?;
-    if are_as_built(alloc, &problem, &back.links)? {
+/// How many moves a run makes; 0 where the tables that come back aren't as built.
+fn moves_made(alloc: Global, problem: &Problem, tray: &mut Tray) -> Result<u64, Fail> {
+    let back = run_counted(alloc, problem, ALL, tray)?;
+    if are_as_built(alloc, problem, &back.links)? {
         Ok(back.calls.made)
     } else {
         Ok(0)
     }
 }
 
+/// Whether a run over the colours makes at least the moves of its solution.
+fn moves_enough(alloc: Global, tray: &mut Tray) -> Result<bool, Fail> {
+    let problem = problem(alloc, Kind::Colours, COLOURED)?;
+    Ok(moves_made(alloc, &problem, tray)? >= 8)
+}
+
 #[test]
 fn a_run_moves_the_dance_that_it_is_given(rt: HostRuntime) -> Result<(), Fail> {
-    assert!(rt; moves_made(rt.alloc())? >= 8);
+    let mut tray = Tray::new(rt.alloc(), 1, 1000, false)?;
+    assert!(rt; moves_enough(rt.alloc(), &mut tray)?);
     Ok(())
 }
 
@@ -143,25 +161,32 @@ fn a_search_that_is_done_makes_no_move(rt: HostRuntime) -> Result<(), Fail> {
     Ok(())
 }
 
-/// Whether runs at each limit up to the last solution make the calls of as many steps of a search, and a
-/// run without a limit those of one step more.
-fn goes_no_further(alloc: Global, kind: Kind, text: &[u8], solutions: u8) -> Result<bool, Fail> {
-    let problem = problem(alloc, kind, text)?;
-    let solutions = solutions as usize;
-    for steps in 0..solutions + 1 {
-        let calls = calls_of_steps(alloc, &problem, steps)?;
-        for spacing in [0, 1, 2] {
-            let words = Words {
-                spacing,
-                limit: steps as u64,
-            };
-            if run_counted(alloc, &problem, words, 1000)?.calls != calls {
-                return Ok(false);
-            }
+/// Whether runs with this limit make the calls of as many steps of a search, whatever they print.
+fn goes_as_far(alloc: Global, problem: &Problem, steps: usize) -> Result<bool, Fail> {
+    let calls = calls_of_steps(alloc, problem, steps)?;
+    for spacing in [0, 1, 2] {
+        let words = Words {
+            spacing,
+            limit: steps as u64,
+        };
+        if calls_of_run(alloc, problem, words, 1000)? != calls {
+            return Ok(false);
         }
     }
-    let back = run_counted(alloc, &problem, ALL, 1000)?;
-    Ok(back.calls == calls_of_steps(alloc, &problem, solutions + 1)?)
+    Ok(true)
+}
+
+/// Whether runs at each limit up to the last solution make the calls of as many steps of a search, and a
+/// run without a limit those of one step more.
+fn goes_no_further(alloc: Global, problem: &Problem, solutions: u8) -> Result<bool, Fail> {
+    let solutions = solutions as usize;
+    for steps in 0..solutions + 1 {
+        if !goes_as_far(alloc, problem, steps)? {
+            return Ok(false);
+        }
+    }
+    let calls = calls_of_run(alloc, problem, ALL, 1000)?;
+    Ok(calls == calls_of_steps(alloc, problem, solutions + 1)?)
 }
 
 #[test]
@@ -173,7 +198,8 @@ fn a_run_searches_no_further_than_its_limit(rt: HostRuntime) -> Result<(), Fail>
         (Kind::Bounds, ALONE, 4),
     ];
     for (kind, text, solutions) in &rows {
-        assert!(rt; goes_no_further(rt.alloc(), *kind, text, *solutions)?);
+        let problem = problem(rt.alloc(), *kind, text)?;
+        assert!(rt; goes_no_further(rt.alloc(), &problem, *solutions)?);
     }
     Ok(())
 }
@@ -183,8 +209,8 @@ fn a_run_searches_no_further_than_its_limit(rt: HostRuntime) -> Result<(), Fail>
 fn a_run_searches_no_further_than_a_failed_write(rt: HostRuntime) -> Result<(), Fail> {
     let problem = problem(rt.alloc(), Kind::Plain, THREE_ALIKE)?;
     for (room, steps) in [(0, 1), (14, 1), (15, 2), (29, 2), (30, 3), (44, 3)] {
-        let back = run_counted(rt.alloc(), &problem, ALL, room)?;
-        assert!(rt; back.calls == calls_of_steps(rt.alloc(), &problem, steps)?);
+        let calls = calls_of_run(rt.alloc(), &problem, ALL, room)?;
+        assert!(rt; calls == calls_of_steps(rt.alloc(), &problem, steps)?);
     }
     Ok(())
 }

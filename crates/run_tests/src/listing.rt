@@ -1,4 +1,6 @@
 //! Worked problems: runs over live lists and over linked tables list the same and end alike.
+ghost use Rattle.std.specs.Prelude.{◌<◌};
+
 use crate::ends::{ALL, end_over_links, end_over_lists};
 use fixtures::{
     ALONE, ALONE_LISTING, COLOURED, COLOURED_LISTING, SEVEN, SEVEN_LISTING, THREE_ALIKE,
@@ -6,7 +8,7 @@ use fixtures::{
 };
 use std::alloc::Global;
 use std::test::Fail;
-use xc_input::Kind;
+use xc_input::{Kind, Problem};
 use xc_list::{End, Tray, Words, run};
 
 /// What is asked of a worked problem.
@@ -21,15 +23,38 @@ pub struct Row<'a> {
     pub zero: bool,
 }
 
+/// Whether a run over live lists lists this and ends so.
+fn by_lists(
+    alloc: Global,
+    problem: &Problem,
+    row: &Row,
+    listing: &[u8],
+    end: End,
+) -> Result<bool, Fail> {
+    let mut tray = Tray::new(alloc, 1, row.room, row.zero)?;
+    let ended = end_over_lists(alloc, problem, row.words, &mut tray)?;
+    Ok(tray.bytes() == listing && ended == end)
+}
+
+/// Whether a run over linked tables lists this, ends so, and leaves them as built.
+fn by_links(
+    alloc: Global,
+    problem: &Problem,
+    row: &Row,
+    listing: &[u8],
+    end: End,
+) -> Result<bool, Fail> {
+    let mut tray = Tray::new(alloc, 1, row.room, row.zero)?;
+    let ended = end_over_links(alloc, problem, row.words, &mut tray)?;
+    Ok(tray.bytes() == listing && ended == Some(end))
+}
+
 /// Fails unless runs over both keepers list this, end so, and leave linked tables as built.
 pub fn gives(alloc: Global, row: &Row, listing: &[u8], end: End) -> Result<(), Fail> {
     let problem = problem(alloc, row.kind, row.text)?;
-    let mut plain = Tray::new(alloc, 1, row.room, row.zero)?;
-    let mut linked = Tray::new(alloc, 1, row.room, row.zero)?;
-    let by_lists = end_over_lists(alloc, &problem, row.words, &mut plain)?;
-    let by_links = end_over_links(alloc, &problem, row.words, &mut linked)?;
-    let alike = plain.bytes() == listing && linked.bytes() == listing;
-    if alike && by_lists == end && by_links == Some(end) {
+    if by_lists(alloc, &problem, row, listing, end)?
+        && by_links(alloc, &problem, row, listing, end)?
+    {
         Ok(())
     } else {
         Err(Fail::new("another listing or end"))
@@ -60,12 +85,17 @@ fn all(alloc: Global, kind: Kind, text: &[u8], listing: &[u8], count: u64) -> Re
     asked(alloc, kind, text, ALL, listing, End::Done(count))
 }
 
+/// Whether a run that makes a keeper of its own lists the cover of seven items.
+fn lists_seven(alloc: Global, tray: &mut Tray) -> Result<bool, Fail> {
+    let problem = problem(alloc, Kind::Plain, SEVEN)?;
+    let end = run(alloc, &problem, ALL, tray);
+    Ok(end == Ok(End::Done(1)) && tray.bytes() == SEVEN_LISTING)
+}
+
 #[test]
 fn a_run_of_its_own(rt: HostRuntime) -> Result<(), Fail> {
-    let problem = problem(rt.alloc(), Kind::Plain, SEVEN)?;
     let mut tray = Tray::new(rt.alloc(), 3, 100, false)?;
-    assert!(rt; run(rt.alloc(), &problem, ALL, &mut tray) == Ok(End::Done(1)));
-    assert!(rt; tray.bytes() == SEVEN_LISTING);
+    assert!(rt; lists_seven(rt.alloc(), &mut tray)?);
     Ok(())
 }
 
@@ -154,33 +184,54 @@ fn long_names(alloc: Global) -> Result<Vec<u8>, Fail> {
     Ok(text)
 }
 
-/// Whether the runs list all solutions alike into trays of small and of large steps.
-fn alike_by_each_step(alloc: Global, kind: Kind, text: &[u8]) -> Result<bool, Fail> {
-    let problem = problem(alloc, kind, text)?;
-    let mut small = Tray::new(alloc, 1, 1000, false)?;
-    let mut large = Tray::new(alloc, 1000, 1000, false)?;
-    let _end = end_over_links(alloc, &problem, ALL, &mut small)?;
-    let _end = end_over_links(alloc, &problem, ALL, &mut large)?;
-    Ok(small.bytes() == large.bytes())
+/// What a run lists into a tray that takes so many bytes a write.
+fn listed(alloc: Global, problem: &Problem, step: usize) -> Result<Tray, Fail>
+    requires { 0 < step }
+{
+    let mut tray = Tray::new(alloc, step, 1000, false)?;
+    let _end = end_over_links(alloc, problem, ALL, &mut tray)?;
+    Ok(tray)
 }
 
-#[test]
-fn two_digits(rt: HostRuntime) -> Result<(), Fail> {
-    let alloc = rt.alloc();
-    let text = long_names(alloc)?;
-    assert!(rt; alike_by_each_step(alloc, Kind::Colours, &text)?);
+fn is_listed(alloc: Global, problem: &Problem, step: usize, listing: &[u8]) -> Result<bool, Fail>
+    requires { 0 < step }
+{
+    let tray = listed(alloc, problem, step)?;
+    Ok(tray.bytes() == listing)
+}
+
+/// Whether the runs list all solutions alike into trays of small and of large steps.
+fn alike_by_each_step(alloc: Global, problem: &Problem) -> Result<bool, Fail> {
+    let small = listed(alloc, problem, 1)?;
+    is_listed(alloc, problem, 1000, small.bytes())
+}
+
+fn are_alike(alloc: Global, text: &[u8]) -> Result<bool, Fail> {
+    let problem = problem(alloc, Kind::Colours, text)?;
+    alike_by_each_step(alloc, &problem)
+}
+
+/// Fails unless the ninth of the ten solutions of these names is listed so, and the tenth of the eleven.
+fn ninth_and_tenth(alloc: Global, text: &[u8]) -> Result<(), Fail> {
     let words = Words {
         spacing: 9,
         limit: 10,
     };
     let ninth = b"9:\n z y:b (1 of 1)\n a_rather_long_name its_colour:i (9 of 11)\n";
-    asked(alloc, Kind::Colours, &text, words, ninth, End::Limit(10))?;
-    let tenth = b"10:\n z y:b (1 of 1)\n a_rather_long_name its_colour:j (10 of 11)\n";
+    asked(alloc, Kind::Colours, text, words, ninth, End::Limit(10))?;
     let words = Words {
         spacing: 10,
         limit: u64::MAX,
     };
-    asked(alloc, Kind::Colours, &text, words, tenth, End::Done(11))
+    let tenth = b"10:\n z y:b (1 of 1)\n a_rather_long_name its_colour:j (10 of 11)\n";
+    asked(alloc, Kind::Colours, text, words, tenth, End::Done(11))
+}
+
+#[test]
+fn two_digits(rt: HostRuntime) -> Result<(), Fail> {
+    let text = long_names(rt.alloc())?;
+    assert!(rt; are_alike(rt.alloc(), &text)?);
+    ninth_and_tenth(rt.alloc(), &text)
 }
 
 #[test]

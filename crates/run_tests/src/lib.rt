@@ -1,0 +1,18 @@
+//! Tests of runs over live lists, over linked tables and over a keeper that counts: what they list, how they
+//! end, and which moves they make. They use public calls alone, so they stand on top, where no library is
+//! proved a second time for them.
+#![tactic(auto)]
+
+// Helpers.
+#[cfg(test)]
+mod ends;
+
+// What runs list, and how they end.
+#[cfg(test)]
+mod failing_writes;
+#[cfg(test)]
+mod listing;
+
+// The calls that runs make.
+#[cfg(test)]
+mod counting_keeper;
