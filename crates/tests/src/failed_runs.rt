@@ -9,70 +9,127 @@ use xc_input::{Feed, Kind};
 use xc_list::{Flushes, Sink, Tray, WriteFailed};
 use xc_tools::{judge, solve};
 
+/// The status of `solve` on a text, of which the read of this number fails.
+fn solved<O: Sink, E: Sink>(
+    alloc: Global,
+    text: &[u8],
+    fails_at: Option<u64>,
+    out: &mut O,
+    err: &mut E,
+) -> Result<u8, Fail> {
+    let words = gathered(alloc, &[b"m1"])?;
+    let mut input = Feed::new(text, 1, fails_at);
+    Ok(solve(alloc, Kind::Plain, &words, &mut input, out, err))
+}
+
+/// A run of which a read fails, or a write behind so many bytes, and what it lists and tells.
+#[derive(Clone, Copy)]
+struct Failing {
+    fails_at: Option<u64>,
+    room: usize,
+    listed: &'static [u8],
+    told: &'static [u8],
+}
+
+/// Whether it lists so with status 3.
+fn lists_so(alloc: Global, run: &Failing, err: &mut Tray) -> Result<bool, Fail> {
+    let mut out = Tray::new(alloc, 1, run.room, false)?;
+    let status = solved(alloc, SEVEN, run.fails_at, &mut out, err)?;
+    Ok(status == 3 && out.bytes() == run.listed)
+}
+
+fn fails_so(alloc: Global, run: &Failing) -> Result<bool, Fail> {
+    let mut err = Tray::new(alloc, 1, 100, false)?;
+    Ok(lists_so(alloc, run, &mut err)? && err.bytes() == run.told)
+}
+
+/// Whether a run lists all and has status 3 where its last line isn't taken.
+fn lists_all_unheard(alloc: Global) -> Result<bool, Fail> {
+    let mut err = Tray::new(alloc, 1, 0, true)?;
+    let run = Failing {
+        fails_at: None,
+        room: 100,
+        listed: SEVEN_LISTING,
+        told: b"",
+    };
+    lists_so(alloc, &run, &mut err)
+}
+
 #[test]
 fn reads_and_writes_that_fail(rt: HostRuntime) -> Result<(), Fail> {
-    let alloc = rt.alloc();
-    let words = gathered(alloc, &[b"m1"])?;
-
-    let mut out = Tray::new(alloc, 1, 5, false)?;
-    let mut err = Tray::new(alloc, 1, 100, false)?;
-    let mut input = Feed::new(SEVEN, 1, None);
-    assert!(rt; solve(alloc, Kind::Plain, &words, &mut input, &mut out, &mut err) == 3);
-    assert!(rt; out.bytes() == b"1:\n a".as_slice());
-    assert!(rt; err.bytes() == b"Write failed at solution 1.\n".as_slice());
-
-    let mut out = Tray::new(alloc, 1, 100, false)?;
-    let mut err = Tray::new(alloc, 1, 100, false)?;
-    let mut input = Feed::new(SEVEN, 1, Some(7));
-    assert!(rt; solve(alloc, Kind::Plain, &words, &mut input, &mut out, &mut err) == 3);
-    assert!(rt; out.bytes() == b"".as_slice());
-    assert!(rt; err.bytes() == b"Read failed.\n".as_slice());
-
-    let mut err = Tray::new(alloc, 1, 0, true)?;
-    let mut input = Feed::new(SEVEN, 1, None);
-    assert!(rt; solve(alloc, Kind::Plain, &words, &mut input, &mut out, &mut err) == 3);
-    assert!(rt; out.bytes().len() == 47);
+    let runs = [
+        Failing {
+            fails_at: None,
+            room: 5,
+            listed: b"1:\n a",
+            told: b"Write failed at solution 1.\n",
+        },
+        Failing {
+            fails_at: Some(7),
+            room: 100,
+            listed: b"",
+            told: b"Read failed.\n",
+        },
+    ];
+    for run in &runs {
+        assert!(rt; fails_so(rt.alloc(), run)?);
+    }
+    assert!(rt; lists_all_unheard(rt.alloc())?);
     Ok(())
+}
+
+/// The status of `judge` by these words.
+fn judged<O: Sink>(
+    alloc: Global,
+    words: &[&[u8]],
+    problem: &mut Feed,
+    listing: &mut Feed,
+    out: &mut O,
+    err: &mut Tray,
+) -> Result<u8, Fail> {
+    let words = gathered(alloc, words)?;
+    Ok(judge(alloc, &words, problem, listing, out, err))
+}
+
+/// Whether the verdicts break off so, with status 3, where the sink takes so many bytes.
+fn judges_so(
+    alloc: Global,
+    fails_at: [Option<u64>; 2],
+    room: usize,
+    verdicts: &[u8],
+    err: &mut Tray,
+) -> Result<bool, Fail> {
+    let mut problem = Feed::new(COLOURED, 1000, fails_at[0]);
+    let mut listing = Feed::new(COLOURED_LISTING, 20, fails_at[1]);
+    let mut out = Tray::new(alloc, 1, room, false)?;
+    let status = judged(
+        alloc,
+        &[b"PROBLEM"],
+        &mut problem,
+        &mut listing,
+        &mut out,
+        err,
+    )?;
+    Ok(status == 3 && out.bytes() == verdicts)
+}
+
+fn judge_fails_so(
+    alloc: Global,
+    fails_at: [Option<u64>; 2],
+    room: usize,
+    verdicts: &[u8],
+    told: &[u8],
+) -> Result<bool, Fail> {
+    let mut err = Tray::new(alloc, 1, 100, false)?;
+    Ok(judges_so(alloc, fails_at, room, verdicts, &mut err)? && err.bytes() == told)
 }
 
 #[test]
 fn reads_and_writes_of_the_judge_that_fail(rt: HostRuntime) -> Result<(), Fail> {
-    let alloc = rt.alloc();
-    let words = gathered(alloc, &[b"PROBLEM"])?;
-    for (problem_fails, listing_fails) in [(Some(1), None), (None, Some(2))] {
-        let mut problem = Feed::new(COLOURED, 1000, problem_fails);
-        let mut listing = Feed::new(COLOURED_LISTING, 20, listing_fails);
-        let mut out = Tray::new(alloc, 1, 100, false)?;
-        let mut err = Tray::new(alloc, 1, 100, false)?;
-        assert!(rt;
-            judge(
-                alloc,
-                &words,
-                &mut problem,
-                &mut listing,
-                &mut out,
-                &mut err
-            ) == 3
-        );
-        assert!(rt; out.bytes() == b"".as_slice());
-        assert!(rt; err.bytes() == b"Read failed.\n".as_slice());
-    }
-    let mut problem = Feed::new(COLOURED, 1000, None);
-    let mut listing = Feed::new(COLOURED_LISTING, 1000, None);
-    let mut out = Tray::new(alloc, 1, 4, false)?;
-    let mut err = Tray::new(alloc, 1, 100, false)?;
-    assert!(rt;
-        judge(
-            alloc,
-            &words,
-            &mut problem,
-            &mut listing,
-            &mut out,
-            &mut err
-        ) == 3
-    );
-    assert!(rt; out.bytes() == b"1: c".as_slice());
-    assert!(rt; err.bytes() == b"Write failed.\n".as_slice());
+    let read = b"Read failed.\n";
+    assert!(rt; judge_fails_so(rt.alloc(), [Some(1), None], 100, b"", read)?);
+    assert!(rt; judge_fails_so(rt.alloc(), [None, Some(2)], 100, b"", read)?);
+    assert!(rt; judge_fails_so(rt.alloc(), [None, None], 4, b"1: c", b"Write failed.\n")?);
     Ok(())
 }
 
@@ -122,54 +179,56 @@ impl Sink for Unflushed {
     }
 }
 
+/// Whether the one call that failed was the flush, behind this text.
+fn is_unflushed(out: &Unflushed, text: &[u8]) -> bool {
+    out.bytes.as_slice() == text && out.failures == 1 && out.failed
+}
+
+/// Whether a listing that is taken and not flushed is whole.
+fn is_listed_unflushed(alloc: Global, err: &mut Tray) -> Result<bool, Fail> {
+    let mut out = Unflushed::new(alloc);
+    let status = solved(alloc, SEVEN, None, &mut out, err)?;
+    Ok(status == 3 && is_unflushed(&out, SEVEN_LISTING))
+}
+
 #[test]
 fn a_flush_that_fails(rt: HostRuntime) -> Result<(), Fail> {
-    let alloc = rt.alloc();
-    let words = gathered(alloc, &[b"m1"])?;
-    let mut input = Feed::new(SEVEN, 1000, None);
-    let mut out = Unflushed::new(alloc);
-    let mut err = Tray::new(alloc, 1, 100, false)?;
-    assert!(rt; solve(alloc, Kind::Plain, &words, &mut input, &mut out, &mut err) == 3);
-    assert!(rt; out.bytes.as_slice() == SEVEN_LISTING);
-    assert!(rt; out.failures == 1 && out.failed);
+    let mut err = Tray::new(rt.alloc(), 1, 100, false)?;
+    assert!(rt; is_listed_unflushed(rt.alloc(), &mut err)?);
     assert!(rt; err.bytes() == b"Write failed.\n".as_slice());
     Ok(())
+}
+
+/// Whether verdicts that are taken and not flushed are whole.
+fn is_judged_unflushed(alloc: Global, err: &mut Tray) -> Result<bool, Fail> {
+    let mut problem = Feed::new(SEVEN, 1000, None);
+    let mut listing = Feed::new(SEVEN_LISTING, 1000, None);
+    let mut out = Unflushed::new(alloc);
+    let words: [&[u8]; 2] = [b"PROBLEM", b"1"];
+    let status = judged(alloc, &words, &mut problem, &mut listing, &mut out, err)?;
+    Ok(status == 3 && is_unflushed(&out, b"1: cover\n"))
 }
 
 #[test]
 fn a_flush_of_verdicts_that_fails(rt: HostRuntime) -> Result<(), Fail> {
-    let alloc = rt.alloc();
-    let words = gathered(alloc, &[b"PROBLEM", b"1"])?;
-    let mut problem = Feed::new(SEVEN, 1000, None);
-    let mut listing = Feed::new(SEVEN_LISTING, 1000, None);
-    let mut out = Unflushed::new(alloc);
-    let mut err = Tray::new(alloc, 1, 100, false)?;
-    let status = judge(
-        alloc,
-        &words,
-        &mut problem,
-        &mut listing,
-        &mut out,
-        &mut err,
-    );
-    assert!(rt; status == 3);
-    assert!(rt; out.bytes.as_slice() == b"1: cover\n".as_slice());
-    assert!(rt; out.failures == 1 && out.failed);
+    let mut err = Tray::new(rt.alloc(), 1, 100, false)?;
+    assert!(rt; is_judged_unflushed(rt.alloc(), &mut err)?);
     assert!(rt; err.bytes() == b"Write failed.\n".as_slice());
     Ok(())
 }
 
+/// The status of a run that nobody hears.
+fn unheard(alloc: Global, text: &[u8], err: &mut Tray) -> Result<u8, Fail> {
+    let mut out = Tray::new(alloc, 1, 100, false)?;
+    solved(alloc, text, None, &mut out, err)
+}
+
 #[test]
 fn messages_that_nobody_takes(rt: HostRuntime) -> Result<(), Fail> {
-    let alloc = rt.alloc();
-    let words = gathered(alloc, &[b"m1"])?;
     let rows: [(&[u8], u8); 2] = [(SEVEN, 3), (b"A B\nA B A\n", 2)];
     for &(text, status) in &rows {
-        let mut out = Tray::new(alloc, 1, 100, false)?;
-        let mut err = Tray::new(alloc, 1, 0, false)?;
-        let mut input = Feed::new(text, 1, None);
-        assert!(rt; solve(alloc, Kind::Plain, &words, &mut input, &mut out, &mut err) == status);
-        assert!(rt; err.bytes().is_empty());
+        let mut err = Tray::new(rt.alloc(), 1, 0, false)?;
+        assert!(rt; unheard(rt.alloc(), text, &mut err)? == status && err.bytes().is_empty());
     }
     Ok(())
 }
