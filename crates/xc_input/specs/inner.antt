@@ -10,3 +10,4 @@ pub mod BoundTexts
 pub mod ColourNumbers
 pub mod Stages
 pub mod Sheets
+pub mod GuessedWords

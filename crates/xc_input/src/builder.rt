@@ -9,7 +9,7 @@ ghost use Rattle.xc_input.specs.Tokens.{parts};
 ghost use Rattle.xc_input.specs.inner.Builders.{Judged, IsBuilder, IsItemTable, AreMarks, AreTablesFor, row_of_line};
 ghost use Rattle.xc_input.specs.inner.Builders.{stage_of_builder, sheet_of_builder};
 
-use crate::guess::Guesses;
+use crate::guess::{ColourGuesses, Guesses};
 use crate::item_line::{ItemLine, item_line};
 use crate::limits::MOST_USES;
 use crate::line_error::LineError;
@@ -31,7 +31,7 @@ pub struct ProblemBuilder {
     pub primary: u32,
     pub marks: Vec<bool>,
     pub colours: NameSet,
-    pub colour_guesses: Guesses,
+    pub colour_guesses: ColourGuesses,
     pub uses: Vec<Use>,
     pub starts: Vec<u32>,
     pub ignored: Vec<u64>,
@@ -42,7 +42,7 @@ pub struct ProblemBuilder {
 #[derive(Drop)]
 pub struct Tables {
     pub guesses: Guesses,
-    pub colour_guesses: Guesses,
+    pub colour_guesses: ColourGuesses,
     pub marks: Vec<bool>,
     pub starts: Vec<u32>,
 }
@@ -53,7 +53,7 @@ impl Tables {
         ensures { IfOk result (λ t. AreTablesFor row.now t) }
     {
         let guesses = Guesses::new(alloc, &row.names)?;
-        let colour_guesses = Guesses::later(alloc)?;
+        let colour_guesses = ColourGuesses::new(alloc)?;
         let marks = no_marks(alloc, row.items.len())?;
         let starts = vec![in alloc; 0]?;
         Ok(Tables {
@@ -79,7 +79,7 @@ impl ProblemBuilder {
             primary: 0,
             marks: Vec::new(alloc),
             colours: no_names(alloc, seed),
-            colour_guesses: Guesses::none(alloc),
+            colour_guesses: ColourGuesses::none(alloc),
             uses: Vec::new(alloc),
             starts: Vec::new(alloc),
             ignored: Vec::new(alloc),
@@ -114,6 +114,7 @@ impl ProblemBuilder {
     }
 
     /// Takes the item line.
+    #[inline(never)]
     fn take_items(&mut self, alloc: Global, kind: Kind, line: &[u8]) -> Result<(), LineError>
         requires sound { IsBuilder self.old }
         requires unstarted { self.old.started ≡ false }

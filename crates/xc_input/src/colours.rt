@@ -1,38 +1,64 @@
 //! The colours that were met, and their numbers.
 
-ghost use Rattle.std.specs.Prelude.{◌≡◌, ◌≤◌, ◌+◌, None, OnOk, IfOk, length};
+ghost use Rattle.std.specs.Prelude.{◌≡◌, ◌≤◌, ◌+◌, None, Some, OnOk, IfOk, IfSome, length};
 ghost use Rattle.xc_input.specs.Limits.{most_items, most_uses};
 ghost use Rattle.xc_input.specs.Sheets.{with_colour, colour_number};
 ghost use Rattle.xc_input.specs.Words.{place};
 ghost use Rattle.xc_input.specs.inner.Builders.{Judged, AreDistinct};
 ghost use Rattle.xc_input.specs.inner.Stored.{key_names};
 
-use crate::guess::Guesses;
+use crate::guess::ColourGuesses;
 use crate::line_error::LineError;
 use crate::names::{NameSet, add_name, place_of};
 use std::alloc::Global;
 
-/// The place of a colour, which is mostly guessed.
-fn known_colour(colours: &NameSet, guesses: &mut Guesses, colour: &[u8]) -> Option<usize>
+/// The place of a colour, if it is the one that was guessed. Most have one byte.
+#[inline(always)]
+fn guessed_colour(colours: &NameSet, guesses: &ColourGuesses, colour: &[u8]) -> Option<usize>
     requires { AreDistinct (key_names colours.now.keys) }
+    ensures { IfSome result (λ at. place (key_names colours.now.keys) colour.now ≡ Some at) }
+{
+    if let [byte] = colour {
+        let at = guesses.learned_byte(*byte);
+        return match colours.get_index(at)?.as_slice() {
+            [known] if *known == *byte => Some(at),
+            _ => None,
+        };
+    }
+    let at = guesses.learned(colour);
+    if colours.get_index(at)?.as_slice() == colour {
+        return Some(at);
+    }
+    None
+}
+
+/// The place of a colour, which is guessed from now on.
+#[inline(never)]
+fn found_colour(colours: &NameSet, guesses: &mut ColourGuesses, colour: &[u8]) -> Option<usize>
     ensures { result ≡ place (key_names colours.now.keys) colour.now }
 {
-    let at = guesses.learned(colour);
-    if let Some(known) = colours.get_index(at) {
-        if known.as_slice() == colour {
-            return Some(at);
-        }
-    }
     let place = place_of(colours, colour)?;
     guesses.learn(colour, place);
     Some(place)
+}
+
+/// The place of a colour, which is mostly guessed.
+#[inline(always)]
+fn known_colour(colours: &NameSet, guesses: &mut ColourGuesses, colour: &[u8]) -> Option<usize>
+    requires { AreDistinct (key_names colours.now.keys) }
+    ensures { result ≡ place (key_names colours.now.keys) colour.now }
+{
+    if let Some(at) = guessed_colour(colours, guesses, colour) {
+        return Some(at);
+    }
+    found_colour(colours, guesses, colour)
 }
 
 /// The number of a colour, which is a new one where it wasn't met yet.
 pub fn number_colour(
     alloc: Global,
     colours: &mut NameSet,
-    guesses: &mut Guesses,
+    guesses: &mut ColourGuesses,
     colour: &[u8],
 ) -> Result<u32, LineError>
     requires few { length (key_names colours.old.keys) ≤ most_uses + most_items }

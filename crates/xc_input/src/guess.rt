@@ -1,77 +1,152 @@
-//! Guesses at the name that a text begins with. They may be wrong: whoever takes one looks at it.
+//! Guesses at the name that a text begins with, and at the place of a colour. They may be wrong: whoever
+//! takes one looks at it.
 //!
 //! The bytes of a name are taken as a number eight at a time, where a hash takes one at a time; the
-//! names of a problem are short and few beside their uses, so most guesses are right.
+//! names of a problem are short and few beside their uses, so most guesses are right. A name of up to
+//! seven bytes is known by its number alone.
 
-ghost use Rattle.std.specs.Prelude.{◌≤◌};
+ghost use Rattle.std.specs.Prelude.{◌≡◌, ◌≤◌, ◌+◌, ◌*◌, ◌%◌, ◌^◌, [], Some, IfOk, IfSome, length, take, slice_get};
+ghost use Rattle.xc_input.specs.inner.GuessedWords.{word_number, IsWordOf, AreWords};
+ghost use Rattle.xc_input.specs.inner.Stored.{key_names};
 
 use crate::limits::{LONGEST_NAME, MOST_ITEMS, MOST_USES};
 use crate::names::NameSet;
 use std::alloc::{AllocError, Global};
 
-/// A place of a name for each number of a table.
+/// A place of a name for each number of a table, and the number of each short name.
 #[derive(Drop)]
 pub struct Guesses {
-    places: Vec<u32>,
+    pub places: Vec<u32>,
+    pub words: Vec<u64>,
 }
 
 impl Guesses {
     /// For no names.
-    pub fn none(alloc: Global) -> Guesses {
+    pub fn none(alloc: Global) -> Guesses
+        ensures { result.words.items ≡ [] }
+    {
         Guesses {
             places: Vec::new(alloc),
+            words: Vec::new(alloc),
         }
     }
 
     /// For these names.
-    pub fn new(alloc: Global, names: &NameSet) -> Result<Guesses, AllocError> {
-        let few = names.len().min(MOST_ITEMS);
-        let mut places = vec![in alloc; 0; (few * 16).min(1 << 18)]?;
-        for i in 0..few {
-            if let Some(name) = names.get_index(i) {
-                let number = number(word(name.as_slice()).0, places.len());
-                if let Some(place) = places.get_mut(number) {
-                    *place = i as u32;
-                }
-            }
-        }
-        Ok(Guesses { places })
+    pub fn new(alloc: Global, names: &NameSet) -> Result<Guesses, AllocError>
+        ensures { IfOk result (λ g. AreWords (key_names names.now.keys) g.words.items) }
+    {
+        let words = words_of(alloc, names)?;
+        let places = places_of(alloc, names, words.as_slice())?;
+        Ok(Guesses { places, words })
     }
 
-    /// For names that are still to be met.
-    pub fn later(alloc: Global) -> Result<Guesses, AllocError> {
+    /// The place of the name of this number.
+    #[inline(always)]
+    pub fn known(&self, word: u64) -> Option<usize>
+        ensures { IfSome result (λ at. slice_get self.now.words.items at ≡ Some word) }
+    {
+        let at = *self.places.get(number(word, self.places.len()))? as usize;
+        if *self.words.get(at)? != word {
+            return None;
+        }
+        Some(at)
+    }
+
+    /// The place and the length of the name of more than seven bytes that a text may begin with.
+    pub fn guess(&self, text: &[u8]) -> (usize, usize) {
+        let (bytes, len) = long_word(text);
+        match self.places.get(number(bytes, self.places.len())) {
+            Some(place) => (*place as usize, len),
+            None => (0, len),
+        }
+    }
+}
+
+/// A place of a colour for each number of a table.
+#[derive(Drop)]
+pub struct ColourGuesses {
+    places: Vec<u32>,
+}
+
+impl ColourGuesses {
+    /// For no colours.
+    pub fn none(alloc: Global) -> ColourGuesses {
+        ColourGuesses {
+            places: Vec::new(alloc),
+        }
+    }
+
+    /// For colours that are still to be met.
+    pub fn new(alloc: Global) -> Result<ColourGuesses, AllocError> {
         let places = vec![in alloc; 0; 4096]?;
-        Ok(Guesses { places })
+        Ok(ColourGuesses { places })
     }
 
     /// Guesses this place for the colour from now on.
     pub fn learn(&mut self, colour: &[u8], place: usize) {
-        let number = number(colour_bytes(colour), self.places.len());
+        let number = self.number(colour);
         if let Some(known) = self.places.get_mut(number) {
             *known = place.min(MOST_USES) as u32;
         }
     }
 
     /// The place that was learned last for such a colour.
-    #[inline(always)]
     pub fn learned(&self, colour: &[u8]) -> usize {
-        self.place(colour_bytes(colour))
+        self.place(self.number(colour))
     }
 
-    /// The place and the length of the name that a text may begin with.
+    /// The place that was learned last for the colour of this byte.
     #[inline(always)]
-    pub fn guess(&self, text: &[u8]) -> (usize, usize) {
-        let (bytes, len) = word(text);
-        (self.place(bytes), len)
+    pub fn learned_byte(&self, byte: u8) -> usize {
+        self.place(byte as usize)
     }
 
     #[inline(always)]
-    fn place(&self, bytes: u64) -> usize {
-        match self.places.get(number(bytes, self.places.len())) {
+    fn place(&self, number: usize) -> usize {
+        match self.places.get(number) {
             Some(place) => *place as usize,
             None => 0,
         }
     }
+
+    /// The number of a colour: the byte itself where it has one.
+    fn number(&self, colour: &[u8]) -> usize {
+        match colour {
+            [a] => *a as usize,
+            _ => number(first_bytes(colour), self.places.len()),
+        }
+    }
+}
+
+/// The numbers of the names, 0 for one of more than seven bytes.
+fn words_of(alloc: Global, names: &NameSet) -> Result<Vec<u64>, AllocError>
+    ensures { IfOk result (λ v. AreWords (key_names names.now.keys) v.items) }
+{
+    let mut words = Vec::new(alloc);
+    while let Some(name) = names.get_index(words.len()) {
+        words.push(short_number(name.as_slice()))?;
+    }
+    Ok(words)
+}
+
+/// A table of places, where a place stands at the number of its name.
+fn places_of(alloc: Global, names: &NameSet, words: &[u64]) -> Result<Vec<u32>, AllocError> {
+    let few = names.len().min(MOST_ITEMS);
+    let mut places = vec![in alloc; 0; (few * 16).min(1 << 18)]?;
+    for i in 0..few {
+        let bytes = match words.get(i) {
+            Some(word) if *word != 0 => *word,
+            _ => match names.get_index(i) {
+                Some(name) => long_word(name.as_slice()).0,
+                None => 0,
+            },
+        };
+        let number = number(bytes, places.len());
+        if let Some(place) = places.get_mut(number) {
+            *place = i as u32;
+        }
+    }
+    Ok(places)
 }
 
 /// A number below the size, for the bytes of a word: the high bits of a product with an odd number
@@ -82,22 +157,76 @@ fn number(bytes: u64, size: usize) -> usize {
     ((product >> 32).wrapping_mul(size as u64) >> 32) as usize
 }
 
-/// The bytes at the front of a text before its first colon or byte that is at most a space, as many as a
-/// name has at most, as a number, and how many they are.
+/// The number of the word of up to seven bytes that a text begins with, up to a colon or a byte that is at
+/// most a space, and its length; or of another front of the text.
 #[inline(always)]
-fn word(text: &[u8]) -> (u64, usize) {
-    let first = first_bytes(text);
+pub fn short_word(text: &[u8]) -> Option<(u64, usize)>
+    ensures { IfSome result (λ p. (p.1 ≤ length text.now) × (p.0 ≡ word_number (take p.1 text.now))) }
+{
+    let [a, b, c, d, e, f, g, h, ..] = text else {
+        return Some(last_word(text));
+    };
+    let first = u64::from_le_bytes([*a, *b, *c, *d, *e, *f, *g, *h]);
     let end = end_bits(first);
     if end == 0 {
-        return long_word(text, first);
+        return None;
     }
-    (first & bits_below(end), bytes_below(end))
+    let n = end.trailing_zeros() as usize / 8 % 8;
+    Some((front_number(first, n), n))
 }
 
-/// The same where none of the first eight bytes ends the word. It stands apart, as few names are so long.
+/// The number of as many of the first eight bytes of a text, which are given as a number.
+#[inline(always)]
+fn front_number(first: u64, n: usize) -> u64
+    requires { n ≤ 7 }
+    ensures { result ≡ first % 2 ^ (8 * n) + 2 ^ (8 * n) }
+{
+    let bit = 1u64 << (8 * n);
+    (first & (bit - 1)) + bit
+}
+
+/// The same of a text of fewer than eight bytes.
 #[inline(never)]
-fn long_word(text: &[u8], first: u64) -> (u64, usize) {
-    let mut number = first;
+fn last_word(text: &[u8]) -> (u64, usize)
+    ensures within { result.1 ≤ length text.now }
+    ensures word { result.0 ≡ word_number (take result.1 text.now) }
+{
+    let mut n = 0;
+    while n < text.len() && n < 7 && text[n] > b' ' && text[n] != b':' {
+        n += 1;
+    }
+    (word_of(&text[..n]), n)
+}
+
+/// A number that no other text has; 0 for a text of more than seven bytes.
+fn short_number(text: &[u8]) -> u64
+    ensures { IsWordOf text.now result }
+{
+    if text.len() > 7 {
+        return 0;
+    }
+    word_of(text)
+}
+
+/// The number of a word.
+fn word_of(bytes: &[u8]) -> u64
+    requires { length bytes.now ≤ 7 }
+    ensures { result ≡ word_number bytes.now }
+{
+    let mut number = 1;
+    let mut n = bytes.len();
+    while n > 0 {
+        n -= 1;
+        number = number * 256 + u64::from(bytes[n]);
+    }
+    number
+}
+
+/// The bytes at the front of a text of more than seven, before its first colon or byte that is at most a
+/// space, as many as a name has at most, as a number, and how many they are.
+#[inline(never)]
+fn long_word(text: &[u8]) -> (u64, usize) {
+    let mut number = first_bytes(text);
     let mut len = 8;
     for at in 1..LONGEST_NAME / 8 {
         if text.len() <= 8 * at {
@@ -119,16 +248,6 @@ fn long_word(text: &[u8], first: u64) -> (u64, usize) {
         }
     }
     (number, len)
-}
-
-/// The bytes of a colour, as a number. Most have one or two.
-#[inline(always)]
-fn colour_bytes(colour: &[u8]) -> u64 {
-    match colour {
-        [a] => u64::from(*a),
-        [a, b] => u64::from(u16::from_le_bytes([*a, *b])),
-        _ => first_bytes(colour),
-    }
 }
 
 /// The first eight bytes of a text, as a number.

@@ -41,6 +41,7 @@ pub fn number_of_name(names: &NameSet, name: &[u8]) -> Option<u32>
 }
 
 /// Adds a new name, and gives its place.
+#[inline(never)]
 pub fn add_name(alloc: Global, names: &mut NameSet, name: &[u8]) -> Result<usize, LineError>
     requires { place (map (λ v. v.items) names.old.keys) name.now ≡ None }
     ensures judged { Judged None result }

@@ -13,10 +13,11 @@ ghost use Rattle.xc_input.specs.declared.fault.FaultKind.TheVariants.{UnknownIte
 ghost use Rattle.xc_input.specs.Named.{IsName};
 ghost use Rattle.xc_input.specs.inner.Builders.{AreNames, AreDistinct, Judged, written_of, AreMarks, IsMarkable};
 ghost use Rattle.xc_input.specs.inner.CutTokens.{IsCutToken};
+ghost use Rattle.xc_input.specs.inner.GuessedWords.{AreWords};
 ghost use Rattle.xc_input.specs.inner.Stored.{key_names};
 
 use crate::colours::number_colour;
-use crate::guess::Guesses;
+use crate::guess::{ColourGuesses, Guesses};
 use crate::item_line::name_fault;
 use crate::limits::LONGEST_COLOUR;
 use crate::line_error::LineError;
@@ -101,7 +102,7 @@ pub fn use_of<'a>(
 fn add_use(
     alloc: Global,
     colours: &mut NameSet,
-    guesses: &mut Guesses,
+    guesses: &mut ColourGuesses,
     uses: &mut Vec<Use>,
     written: WrittenUse,
 ) -> Result<(), LineError>
@@ -129,12 +130,13 @@ pub fn option_line(
     primary: u32,
     marks: &mut [bool],
     colours: &mut NameSet,
-    colour_guesses: &mut Guesses,
+    colour_guesses: &mut ColourGuesses,
     uses: &mut Vec<Use>,
     line: &[u8],
 ) -> Result<(), LineError>
     requires few { length names.now.keys ≤ most_items }
     requires named { AreNames (key_names names.now.keys) }
+    requires words { AreWords (key_names names.now.keys) guesses.now.words.items }
     requires marks { length marks.old ≡ length names.now.keys }
     requires unmarked { AreMarks marks.old [] }
     requires few_uses { length uses.old.items ≤ most_uses }

@@ -7,10 +7,11 @@ ghost use Rattle.xc_input.specs.inner.Fronts.{drop_white, word, StandsBefore};
 ghost use Rattle.xc_input.specs.Words.{has, before, after, place, are_digits};
 ghost use Rattle.xc_input.specs.Limits.{most_uses};
 ghost use Rattle.xc_input.specs.inner.Builders.{AreNames, Judged};
-ghost use Rattle.xc_input.specs.inner.CutTokens.{IsCutToken, IsCutBehind};
+ghost use Rattle.xc_input.specs.inner.CutTokens.{IsCutToken, IsCutBehind, StandsFirst};
+ghost use Rattle.xc_input.specs.inner.GuessedWords.{AreWords};
 ghost use Rattle.xc_input.specs.inner.Stored.{key_names};
 
-use crate::guess::Guesses;
+use crate::guess::{Guesses, short_word};
 use crate::names::{NameSet, place_of};
 use bstr::ByteSlice;
 
@@ -47,6 +48,7 @@ pub fn is_skipped_line(line: &[u8]) -> bool
 }
 
 /// How many bytes stand before the first white space.
+#[inline(never)]
 fn word_len(line: &[u8]) -> usize
     ensures value { result ≡ length (word line.now) }
     ensures within { result ≤ length line.now }
@@ -56,6 +58,19 @@ fn word_len(line: &[u8]) -> usize
         n += 1;
     }
     n
+}
+
+/// The same of a text that mostly has one byte before its first white space, as a colour.
+#[inline(always)]
+fn colour_len(text: &[u8]) -> usize
+    ensures value { result ≡ length (word text.now) }
+    ensures within { result ≤ length text.now }
+{
+    match text {
+        [only] if !is_white(*only) => 1,
+        [first, second, ..] if !is_white(*first) && is_white(*second) => 1,
+        _ => word_len(text),
+    }
 }
 
 /// What stands behind the name of this place and length, where a text begins with it.
@@ -98,7 +113,7 @@ fn cut_behind<'a>(name: &'a [u8], at: usize, behind: &'a [u8]) -> Option<(Token<
     };
     match behind {
         [first, more @ ..] if *first == b':' => {
-            let (colour, others) = more.split_at(word_len(more));
+            let (colour, others) = more.split_at(colour_len(more));
             let colour = Some(colour);
             Some((Token { colour, ..bare }, others))
         }
@@ -120,20 +135,59 @@ pub fn looked_up<'a>(names: &NameSet, token: &'a [u8]) -> Token<'a>
     }
 }
 
+/// The token that a text begins with, where its name is a short one that the guesses know, and what is left
+/// behind it.
+#[inline(always)]
+fn known_token<'a>(guesses: &Guesses, text: &'a [u8]) -> Option<(Token<'a>, &'a [u8])>
+    ensures { (names : List (List ℕ)) → AreNames names → AreWords names guesses.now.words.items
+        → IfSome result (λ p. StandsFirst names text.now p.0 p.1.now) }
+{
+    let (word, n) = short_word(text)?;
+    let at = guesses.known(word)?;
+    cut_behind(&text[..n], at, &text[n..])
+}
+
 /// The first token, cut at its colon, and what is left behind it.
+#[inline(always)]
 pub fn next_token<'a>(
     names: &NameSet,
     guesses: &Guesses,
     line: &'a [u8],
 ) -> Option<(Token<'a>, &'a [u8])>
-    requires { AreNames (key_names names.now.keys) }
+    requires names { AreNames (key_names names.now.keys) }
+    requires words { AreWords (key_names names.now.keys) guesses.now.words.items }
     ensures { MatchOption result (tokens line.now ≡ [])
-        (λ p. (text : List ℕ) × (tokens line.now ≡ text ∷ tokens p.1.now) × (length p.1.now < length line.now)
-        × IsCutToken (key_names names.now.keys) text p.0) }
+        (λ p. StandsFirst (key_names names.now.keys) line.now p.0 p.1.now) }
+{
+    let rest = match line {
+        [] => return None,
+        [first, more @ ..] if is_white(*first) => more,
+        _ => line,
+    };
+    if let Some(cut) = known_token(guesses, rest) {
+        return Some(cut);
+    }
+    other_token(names, guesses, line)
+}
+
+/// The same where the first token isn't at the front, or its name isn't a short one.
+#[inline(never)]
+fn other_token<'a>(
+    names: &NameSet,
+    guesses: &Guesses,
+    line: &'a [u8],
+) -> Option<(Token<'a>, &'a [u8])>
+    requires names { AreNames (key_names names.now.keys) }
+    requires words { AreWords (key_names names.now.keys) guesses.now.words.items }
+    ensures { MatchOption result (tokens line.now ≡ [])
+        (λ p. StandsFirst (key_names names.now.keys) line.now p.0 p.1.now) }
 {
     let rest = skip_white(line);
     if rest.is_empty() {
         return None;
+    }
+    if let Some(cut) = known_token(guesses, rest) {
+        return Some(cut);
     }
     let (at, n) = guesses.guess(rest);
     if let Some(behind) = behind_name(names, at, n, rest) {

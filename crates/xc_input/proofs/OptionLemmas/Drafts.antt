@@ -26,6 +26,7 @@ use Rattle.xc_input.specs.Limits.{most_uses, most_items}
 use Rattle.xc_input.specs.inner.Builders.{AreMarks, AreDistinct, AreNames, IsBuilder, stage_of_builder}
 use Rattle.xc_input.specs.inner.Builders.{sheet_of_builder, entry_of}
 use Rattle.xc_input.specs.inner.Stored.{key_names}
+use Rattle.xc_input.specs.inner.GuessedWords.{AreWords}
 use Rattle.xc_input.specs.inner.Flat.{pieces}
 use Rattle.xc_input.specs.inner.Vectors.{AreOptionStarts}
 use Rattle.std.proofs.lemmas.List.{length-map, take-map}
@@ -166,6 +167,7 @@ module _ (kind : Kind) (d : ProblemBuilder) (line : List ℕ) (s : IsBuilder d) 
     module _ (b : Bool) (p : b ≡ has_primary d.primary us) (e : b ≡ true) (count : ℕ) (d' : ProblemBuilder)
         (same : (d'.started ≡ d.started) × (d'.names ≡ d.names) × (d'.items ≡ d.items) × (d'.primary ≡ d.primary)
         × (d'.ignored ≡ d.ignored))
+        (words : AreWords (key_names d'.names.keys) d'.guesses.words.items)
         (uses : d'.uses.items ≡ d.uses.items ++ numbered (key_names d.colours.keys) us)
         (colours : key_names d'.colours.keys ≡ with_uses (key_names d.colours.keys) us)
         (marks : length d'.marks.items ≡ length d'.items.items) (unmarked : AreMarks d'.marks.items [])
@@ -205,6 +207,7 @@ module _ (kind : Kind) (d : ProblemBuilder) (line : List ℕ) (s : IsBuilder d) 
           unmarked = unmarked;
           few_colours = few;
           distinct_colours = distinct;
+          words = words;
         },
         (λ i. record {
           started = (same.0 ∙ t) i;
@@ -244,6 +247,7 @@ module _ (kind : Kind) (d : ProblemBuilder) (line : List ℕ) (s : IsBuilder d) 
     module _ (b : Bool) (p : b ≡ has_primary d.primary us) (e : b ≡ false) (count : ℕ) (d' : ProblemBuilder)
         (same : (d'.started ≡ d.started) × (d'.names ≡ d.names) × (d'.items ≡ d.items) × (d'.primary ≡ d.primary)
         × (d'.starts ≡ d.starts))
+        (words : AreWords (key_names d'.names.keys) d'.guesses.words.items)
         (uses : d'.uses.items ≡ d.uses.items) (colours : key_names d'.colours.keys ≡ key_names d.colours.keys)
         (marks : length d'.marks.items ≡ length d'.items.items) (unmarked : AreMarks d'.marks.items [])
         (ignored : d'.ignored.items ≡ d.ignored.items ++ count ∷ []) where
@@ -267,6 +271,7 @@ module _ (kind : Kind) (d : ProblemBuilder) (line : List ℕ) (s : IsBuilder d) 
               subst (λ xs. length (key_names d'.colours.keys) ≤ length xs) (sym uses)
               (subst (λ cs. length cs ≤ length d.uses.items) (sym colours) s.few_colours);
           distinct_colours = subst AreDistinct (sym colours) s.distinct_colours;
+          words = words;
         },
         (λ i. record {
           started = (same.0 ∙ t) i;

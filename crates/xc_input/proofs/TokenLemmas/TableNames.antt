@@ -148,6 +148,14 @@ behind-known now (Some x) N keys text name v k n all e m same h =
       known-front keys text (take n text) (drop n text) v k n all e (m ∙ ap length same) cut front,
     )
 
+-- texts of one byte
+pub one-byte : (xs ys : List ℕ) → length xs ≡ 1 → length ys ≡ 1 → get_or xs 0 0 ≡ get_or ys 0 0 → xs ≡ ys
+one-byte (x ∷ []) (y ∷ []) p q e = ap (λ z. z ∷ []) e
+one-byte [] ys p q e = absurd (omega (arith, p))
+one-byte (x ∷ x₂ ∷ xs) ys p q e = absurd (omega (arith, p))
+one-byte (x ∷ []) [] p q e = absurd (omega (arith, q))
+one-byte (x ∷ []) (y ∷ y₂ ∷ ys) p q e = absurd (omega (arith, q))
+
 -- NUMBERS OF NAMES
 found : (names : List (List ℕ)) (name : List ℕ) (at : Option ℕ) → place names name ≡ at
     → IfSome (option_map suc at) (λ i. numbered_get names i ≡ Some name)

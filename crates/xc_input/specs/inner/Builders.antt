@@ -15,6 +15,7 @@ use Rattle.xc_input.specs.declared.builder.Tables.{Tables}
 use Rattle.xc_input.specs.Named.{IsName}
 use Rattle.xc_input.specs.Tokens.{is_space}
 use Rattle.xc_input.specs.inner.Flat.{pieces}
+use Rattle.xc_input.specs.inner.GuessedWords.{AreWords}
 use Rattle.xc_input.specs.inner.Vectors.{AreOptionStarts}
 use Rattle.xc_input.specs.inner.Stored.{key_names}
 use Rattle.xc_input.specs.inner.Stages.{Stage, Row}
@@ -93,12 +94,14 @@ pub record IsBuilder (d : ProblemBuilder) : Type 0 where
   pub unmarked : AreMarks d.marks.items []
   pub few_colours : length (key_names d.colours.keys) ≤ length d.uses.items
   pub distinct_colours : AreDistinct (key_names d.colours.keys)
+  pub words : AreWords (key_names d.names.keys) d.guesses.words.items
 
 -- what is kept beside these items before any option
 pub record AreTablesFor (row : ItemLine) (t : Tables) : Type 0 where
   pub marks : length t.marks.items ≡ length row.items.items
   pub unmarked : AreMarks t.marks.items []
   pub starts : t.starts.items ≡ 0 ∷ []
+  pub words : AreWords (key_names row.names.keys) t.guesses.words.items
 
 -- the error of the line of this number
 abbrev pub error_at : ℕ → LineError → InputError

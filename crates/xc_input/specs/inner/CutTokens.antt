@@ -1,8 +1,9 @@
 -- No public clause cites this module. How a token of an option line is cut at its colon.
-use Rattle.std.specs.Prelude.{◌≡◌, ℕ, List, ◌∷◌, true, false, length, drop, MatchOption}
+use Rattle.std.specs.Prelude.{◌≡◌, ℕ, ◌<◌, List, ◌∷◌, true, false, length, drop, MatchOption}
 use Prim.Native.Char.{code}
 use Rattle.xc_input.specs.declared.tokens.Token.{Token}
 use Rattle.xc_input.specs.Words.{has, before, after, place}
+use Rattle.xc_input.specs.Tokens.{tokens}
 use Rattle.xc_input.specs.inner.Fronts.{word, AtWhite}
 
 -- a token's text is cut at its first colon, and the name in front of it has this place among the names
@@ -16,3 +17,8 @@ pub record IsCutToken (names : List (List ℕ)) (text : List ℕ) (t : Token) : 
 abbrev pub IsCutBehind : List ℕ → Token → List ℕ → Type 0
 IsCutBehind behind t rest = MatchOption t.colour (AtWhite behind × (rest ≡ behind))
     (λ c. (more : List ℕ) × (behind ≡ code ":" ∷ more) × (c.now ≡ word more) × (rest ≡ drop (length (word more)) more))
+
+-- the first token of a line is cut so among these names, and what is left behind it
+abbrev pub StandsFirst : List (List ℕ) → List ℕ → Token → List ℕ → Type 0
+StandsFirst names line t rest =
+    (text : List ℕ) × (tokens line ≡ text ∷ tokens rest) × (length rest < length line) × IsCutToken names text t

@@ -6,7 +6,7 @@ use Rattle.xc_input.proofs.tokens.cut_behind.Goals as goal
 pub returns-in-len1-up-clause-cut : goal.returns-in-len1-up-clause-cut
 returns-in-len1-up-clause-cut c =
     let more = take (length c.args.behind.now - 1) (drop 1 c.args.behind.now) in
-    let count = c.word_len.ensures.value in (
+    let count = c.colour_len.ensures.value in (
       more,
       by-first c.args.behind.now 58 (omega (arith, c.in-len1-up.len_at_least)) c.if-first-eq58.true,
       c.split_at.ensures.front ∙ ap (λ n. take n more) count ∙ take-word more,

@@ -82,6 +82,7 @@ returns-then-not-has_primary_use-clause-taken c =
     let d = c.args.self.now in
     left-out c.args.kind d c.args.line.now c.requires.sound c.requires.started (us h) refl c.has_primary_use.result
     (primary h) c.if-not-has_primary_use.true c.args.count _ (refl, refl, refl, refl, refl)
+    c.requires.sound.words
     (uses-before d.uses.items c.option_line.new.uses.items c.truncate.new.self.items (key_names d.colours.keys) (us h)
     c.len-start.result c.truncate.ensures.items (c.len-start.ensures ∙ items-length d.uses)
     c.in_ok-option_line.ensures.uses)
@@ -114,6 +115,7 @@ returns-clause-taken c =
     let d = c.args.self.now in
     taken c.args.kind d c.args.line.now c.requires.sound c.requires.started (us h) refl c.has_primary_use.result
     (primary h) c.if-not-has_primary_use.false c.args.count _ (refl, refl, refl, refl, refl)
+    c.requires.sound.words
     c.in_ok-option_line.ensures.uses c.in_ok-option_line.ensures.colours (all_marks o c.requires.sound)
     (subst (λ ms. AreMarks ms []) (sym (back o)) c.in_ok-option_line.ensures.unmarked)
     c.in_ok-option_line.ensures.few_colours

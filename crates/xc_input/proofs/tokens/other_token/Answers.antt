@@ -4,8 +4,9 @@ use Rattle.std.proofs.lemmas.List.{nil_from_length, take-append-drop}
 use Rattle.xc_input.specs.Tokens.{tokens}
 use Rattle.xc_input.specs.inner.Stored.{key_names}
 use Rattle.xc_input.proofs.TokenLemmas.CutTokens.{cut-token}
+use Rattle.xc_input.proofs.TokenLemmas.KnownTokens.{behind-all-white}
 use Rattle.xc_input.proofs.TokenLemmas.Bytes.{cuts_first, tokens-drop_white}
-use Rattle.xc_input.proofs.tokens.next_token.Goals as goal
+use Rattle.xc_input.proofs.tokens.other_token.Goals as goal
 
 pub returns-then-is_empty : goal.returns-then-is_empty
 returns-then-is_empty c =
@@ -18,13 +19,19 @@ returns-in-Some-cut_behind c =
     let rest = c.skip_white-rest.result.now in
     let n = c.guess-at.result.1 in
     let some : 0 < length rest = grind (arith, nat_tests) in
-    let known = c.in-Some.ensures in
+    let known = c.in-Some-behind_name.ensures in
     let cut = c.in-Some-cut_behind.ensures in
-    cut-token (key_names c.args.names.now.keys) c.args.line.now rest (take n rest) c.in-Some.behind.now
-    c.in-Some-cut_behind.cut.1.now c.guess-at.result.0 c.in-Some-cut_behind.cut.0 c.requires
+    cut-token (key_names c.args.names.now.keys) c.args.line.now rest (take n rest) c.in-Some-behind_name.behind.now
+    c.in-Some-cut_behind.cut.1.now c.guess-at.result.0 c.in-Some-cut_behind.cut.0 c.requires.names
     c.skip_white-rest.ensures some
     (sym (take-append-drop n rest) ∙ ap (λ back. take n rest ++ back) (sym known.1)) known.2 cut.name.0 cut.name.1
     cut.cut
+
+pub returns-in-Some : goal.returns-in-Some
+returns-in-Some c =
+    behind-all-white (key_names c.args.names.now.keys) c.args.line.now c.skip_white-rest.result.now
+    c.in-Some.cut.1.now c.in-Some.cut.0 c.skip_white-rest.ensures
+    (c.in-Some.ensures (key_names c.args.names.now.keys) c.requires.names c.requires.words)
 
 pub returns : goal.returns
 returns c =

@@ -1,0 +1,66 @@
+-- A text that begins with a short name that is known by its number.
+use Rattle.std.proofs.Common.{◌≡◌, ℕ, ◌<◌, ◌≤◌, List, [], ◌∷◌, ◌++◌, Option, None, Some, IfSome, Bor, Bool}
+use Rattle.std.proofs.Common.{true, false, length, get_or, take, drop, ap, ◌∙◌, sym, arith, if◌then◌else◌, slice_get}
+use Rattle.std.proofs.lemmas.List.{take-append-drop, length-take}
+use Rattle.std.proofs.lemmas.Option.{slice_get_within, slice_get-get_or, get_or_from_slice_get}
+use Rattle.std.specs.List.{list_any}
+use Rattle.xc_input.specs.Tokens.{is_space, tokens}
+use Rattle.xc_input.specs.Words.{place}
+use Rattle.xc_input.specs.declared.tokens.Token.{Token}
+use Rattle.xc_input.specs.inner.Fronts.{drop_white}
+use Rattle.xc_input.specs.inner.Builders.{AreNames}
+use Rattle.xc_input.specs.inner.CutTokens.{IsCutBehind, StandsFirst}
+use Rattle.xc_input.specs.inner.GuessedWords.{word_number, AreBytes, AreWords}
+use Rattle.xc_input.proofs.GrammarLemmas.NoFault.{or-false}
+use Rattle.xc_input.proofs.TokenLemmas.Bytes.{tokens-drop_white}
+use Rattle.xc_input.proofs.TokenLemmas.CutTokens.{cut-token}
+use Rattle.xc_input.proofs.TokenLemmas.TableNames.{known-place, stored-name, stored-solid}
+use Rattle.xc_input.proofs.TokenLemmas.WordNumbers.{bytes-taken}
+
+-- what begins with bytes that are no white space stands behind no white space
+solid-front : (xs ys : List ℕ) → 1 ≤ length xs → list_any is_space xs ≡ false → drop_white (xs ++ ys) ≡ xs ++ ys
+solid-front [] ys some solid = absurd (omega (arith, some))
+solid-front (x ∷ xs) ys some solid =
+    ap (λ t. if t then drop_white (xs ++ ys) else x ∷ xs ++ ys) (or-false (is_space x) (list_any is_space xs) solid).0
+
+pub known-first : (names : List (List ℕ)) (words text back : List ℕ) (n at number : ℕ) → AreNames names
+    → AreWords names words → AreBytes text → back ≡ drop n text → n ≤ length text → number ≡ word_number (take n text)
+    → slice_get words at ≡ Some number → (r : Option (Token × Bor (List ℕ)))
+    → IfSome r (λ p. (p.0.name.now ≡ take n text) × (p.0.place ≡ Some at))
+    → IfSome r (λ p. IsCutBehind back p.0 p.1.now)
+    → IfSome r (λ p. StandsFirst names text p.0 p.1.now)
+known-first names words text back n at number all own bytes behind within is known None named cut = tt
+known-first names words text back n at number all own bytes behind within is known (Some p) named cut =
+    let low : at < length words = slice_get_within words at number known in
+    let read : get_or words at 0 ≡ number = get_or_from_slice_get words at number 0 known in
+    let name : take n text ≡ get_or names at [] =
+    own.own at low (take n text) (bytes-taken n text bytes) (sym is ∙ sym read) in
+    let stands : place names (take n text) ≡ Some at =
+    known-place names (take n text) at all
+    (slice_get-get_or names at [] (omega (arith, low, own.few)) ∙ ap Some (sym name)) in
+    let some : 1 ≤ length (take n text) = (stored-name names (take n text) at all.named stands).some in
+    let whole : text ≡ take n text ++ back =
+    sym (take-append-drop n text) ∙ ap (λ ys. take n text ++ ys) (sym behind) in
+    let front : text ≡ drop_white text =
+    whole ∙ sym (solid-front (take n text) back some (stored-solid names (take n text) at all stands))
+    ∙ ap drop_white (sym whole) in
+    cut-token names text text (take n text) back p.1.now at p.0 all front
+    (omega (arith, some, length-take n text)) whole stands named.0 named.1 cut
+
+-- a line's first token, by what stands behind white space
+pub behind-white : (names : List (List ℕ)) (line rest others : List ℕ) (t : Token) → tokens line ≡ tokens rest
+    → length rest ≤ length line → StandsFirst names rest t others → StandsFirst names line t others
+behind-white names line rest others t same fewer h = (h.0, same ∙ h.1, omega (arith, h.2, fewer), h.3)
+
+shorter : (xs : List ℕ) → length (drop_white xs) ≤ length xs
+shorter [] = omega arith
+shorter (b ∷ bs) =
+    let P : Bool → Type 0 = λ t. length (if t then drop_white bs else b ∷ bs) ≤ length (b ∷ bs) in
+    (elim (is_space b) as P [ true ↦ omega (arith, shorter bs) | false ↦ omega arith ])
+
+-- a line's first token, by the line without the white space that it begins with
+pub behind-all-white : (names : List (List ℕ)) (line rest others : List ℕ) (t : Token) → rest ≡ drop_white line
+    → StandsFirst names rest t others → StandsFirst names line t others
+behind-all-white names line rest others t e h =
+    behind-white names line rest others t (sym (tokens-drop_white line) ∙ ap tokens (sym e))
+    (omega (arith, ap length e, shorter line)) h
