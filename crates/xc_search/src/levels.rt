@@ -75,7 +75,7 @@ pub fn end_level<D: Dance>(position: &mut Position<D>, level: &Level)
 {
     if level.tweaks > 0 {
         position.undo_to(level.base);
-        position.undo_tweaks(level.tweaks);
+        position.undo_tweaks(level.tweaks as usize);
     }
     position.undo_to(level.mark);
 }
@@ -193,7 +193,7 @@ pub fn unwind<D: Dance>(position: &mut Position<D>, mut stack: Stack)
     while let Some(level) = stack.top() {
         if level.tweaks > 0 {
             position.undo_to(level.base);
-            position.undo_tweaks(level.tweaks);
+            position.undo_tweaks(level.tweaks as usize);
         }
         position.undo_to(level.mark);
         stack.pop();
