@@ -1,7 +1,8 @@
 -- The parts of a search as they are written.
 use Rattle.std.proofs.Common.{◌≡◌, ℕ, zero, suc, Bool, true, false, Result, Ok, Err, Some, ◌+◌, ◌<◌, ◌≤◌, List, [], ◌∷◌}
 use Rattle.std.proofs.Common.{◌++◌, length, take, drop, map, get_or, eqb, refl, sym, ap, ◌∙◌, append-nil, arith, subst}
-use Rattle.std.specs.Prelude.{All, IsErr, MatchResult, slice_get, option_map, flat_map, if◌then◌else◌}
+use Rattle.std.specs.Prelude.{All, IsErr, MatchResult, slice_get, option_map, flat_map, min, if◌then◌else◌}
+use Rattle.std.proofs.lemmas.Bool.Decides.{nat_tests}
 use Rattle.std.proofs.lemmas.Option.{slice_get-map, slice_get_read}
 use Rattle.std.specs.List.{AllByRecursion}
 use Rattle.std.specs.List.{enumerate_from}
@@ -15,8 +16,8 @@ use Rattle.xc_input.specs.Named.{Named}
 use Rattle.xc_search.specs.declared.choice.Choice.{Choice}
 use Rattle.xc_search.specs.Cut.{IsPath, IsPathBy, below, numbers_on}
 use Rattle.xc_search.proofs.paths.Numbers.{below_run}
-use Rattle.xc_list.specs.Below.{most_counted, counted, end_behind, members_text, listing_text, AnswersParts}
-use Rattle.xc_list.specs.Below.{part_listing, ArePathsBy, TookParts, PartsBrokeOff, numbers_told}
+use Rattle.xc_list.specs.Below.{most_counted, end_behind, members_text, listing_text, AnswersParts}
+use Rattle.xc_list.specs.Below.{part_listing, ArePathsBy, OfParts, numbers_told}
 use Rattle.xc_list.specs.inner.PartsBelow.{AnswersPart}
 use Rattle.xc_list.specs.Messages.{summary_text}
 use Rattle.xc_list.specs.declared.runs.End.{End}
@@ -109,30 +110,29 @@ one_more : (f : List Choice → List ℕ) (plan : List (List Choice)) (path : Li
     (plan ++ path ∷ []) ≡ flat_map f plan ++ f path
 one_more f plan path = flat_map-append f plan (path ∷ []) ∙ ap (λ xs. flat_map f plan ++ xs) (append-nil (f path))
 
-pub no_parts : (a : Named) (listed : _) (s : SinkState) → TookParts a listed [] s s
+pub no_parts : (a : Named) (listed : _) (s : SinkState) → OfParts a listed [] Took s s
 no_parts a listed s = record {
   plan = [];
   paths = record { paths = All-nil (IsPath a.puzzle); told = refl };
-  taken =
-      took_nothing s;
+  said = took_nothing s;
 }
 
 pub parts_more : (a : Named) (listed : _) (parts : List (List ℕ)) (numbers : List ℕ)
-    (path : List Choice) {x y z : SinkState} → TookParts a listed parts x y → IsPathBy a.puzzle numbers path →
-    Took y z (part_listing a listed path) → TookParts a listed (parts ++ numbers ∷ []) x z
+    (path : List Choice) {x y z : SinkState} → OfParts a listed parts Took x y → IsPathBy a.puzzle numbers path →
+    Took y z (part_listing a listed path) → OfParts a listed (parts ++ numbers ∷ []) Took x z
 parts_more a listed parts numbers path {x = x} {z = z} so is took = record {
   plan = so.plan ++ path ∷ [];
   paths = paths_more a.puzzle parts numbers so.plan path so.paths is;
-  taken = subst (Took x z) (sym (one_more (part_listing a listed) so.plan path)) (then_took so.taken took);
+  said = subst (Took x z) (sym (one_more (part_listing a listed) so.plan path)) (then_took so.said took);
 }
 
 pub parts_broke : (a : Named) (listed : _) (parts : List (List ℕ)) (numbers : List ℕ)
-    (path : List Choice) {x y z : SinkState} → TookParts a listed parts x y → IsPathBy a.puzzle numbers path →
-    BrokeOff y z (part_listing a listed path) → PartsBrokeOff a listed (parts ++ numbers ∷ []) x z
+    (path : List Choice) {x y z : SinkState} → OfParts a listed parts Took x y → IsPathBy a.puzzle numbers path →
+    BrokeOff y z (part_listing a listed path) → OfParts a listed (parts ++ numbers ∷ []) BrokeOff x z
 parts_broke a listed parts numbers path {x = x} {z = z} so is broke = record {
   plan = so.plan ++ path ∷ [];
   paths = paths_more a.puzzle parts numbers so.plan path so.paths is;
-  taken = subst (BrokeOff x z) (sym (one_more (part_listing a listed) so.plan path)) (then_broke so.taken broke);
+  said = subst (BrokeOff x z) (sym (one_more (part_listing a listed) so.plan path)) (then_broke so.said broke);
 }
 
 pub failed_count : {X E : Type 0} {a b : SinkState} {s : List ℕ} (r : Result X E) → IsErr r → BrokeOff a b s →
@@ -140,20 +140,24 @@ pub failed_count : {X E : Type 0} {a b : SinkState} {s : List ℕ} (r : Result X
 failed_count (Ok n) is p = absurd (cc is)
 failed_count (Err e) is p = p
 
+-- a run ends alike by all members and by as many of them as are counted
+end_counted : (n many : ℕ) → n ≡ min most_counted many → end_behind n ≡ end_behind many
+end_counted n many e = grind (arith, nat_tests)
+
 -- the text of a part, where it isn't listed and where it is
 pub counted_only : (a : Named) (listed : Bool) (ms : List (List Choice)) (end : End) (n : ℕ) → end ≡ end_behind n →
-    n ≡ counted ms → listed ≡ false →
+    n ≡ min most_counted (length ms) → listed ≡ false →
     summary_text end ≡ listing_text a listed ms
 counted_only a listed ms end n e count is =
-    ap summary_text (e ∙ ap end_behind count) ∙ sym
-    (ap (λ b. (if b then members_text a ms else []) ++ summary_text (end_behind (counted ms))) is)
+    ap summary_text (e ∙ end_counted n (length ms) count) ∙ sym
+    (ap (λ b. (if b then members_text a ms else []) ++ summary_text (end_behind (length ms))) is)
 
 pub counted_behind : (a : Named) (listed : Bool) (ms : List (List Choice)) (end : End) (n : ℕ) → end ≡ end_behind n →
-    n ≡ counted ms → listed ≡ true →
+    n ≡ min most_counted (length ms) → listed ≡ true →
     members_text a ms ++ summary_text end ≡ listing_text a listed ms
 counted_behind a listed ms end n e count is =
-    ap (λ end. members_text a ms ++ summary_text end) (e ∙ ap end_behind count) ∙ sym
-    (ap (λ b. (if b then members_text a ms else []) ++ summary_text (end_behind (counted ms))) is)
+    ap (λ end. members_text a ms ++ summary_text end) (e ∙ end_counted n (length ms) count) ∙ sym
+    (ap (λ b. (if b then members_text a ms else []) ++ summary_text (end_behind (length ms))) is)
 
 taken_at : {X : Type 0} (xs : List X) (i : ℕ) (x : X) → slice_get xs i ≡ Some x → take (i + 1) xs ≡ take i xs ++ x ∷ []
 taken_at [] i x e = absurd (cc e)
@@ -164,14 +168,14 @@ taken_at (y ∷ xs) (suc i) x e = let h : suc i + 1 ≡ suc (i + 1) = omega arit
 -- where a run over parts ended
 ended_at : (a : Named) (listed : Bool) (parts : List (List ℕ)) (i : ℕ) (numbers : List ℕ)
     (fault : PartFault) {x y : SinkState} (z : SinkState) → slice_get parts i ≡ Some numbers →
-    TookParts a listed (take i parts) x y → AnswersPart a listed numbers y z (Err fault) →
+    OfParts a listed (take i parts) Took x y → AnswersPart a listed numbers y z (Err fault) →
     AnswersParts a listed parts x z (Err (record { written = i; fault = fault }))
-ended_at a listed parts i numbers Memory {x = x} z at so same = subst (TookParts a listed (take i parts) x)
+ended_at a listed parts i numbers Memory {x = x} z at so same = subst (OfParts a listed (take i parts) Took x)
     (sym same) so
 ended_at a listed parts i numbers NoPath {x = x} z at so none =
-    (subst (TookParts a listed (take i parts) x) (sym none.0) so, (numbers, at, none.1))
+    (subst (OfParts a listed (take i parts) Took x) (sym none.0) so, (numbers, at, none.1))
 ended_at a listed parts i numbers WriteFailed {x = x} z at so broke =
-    subst (λ ns. PartsBrokeOff a listed ns x z) (sym (taken_at parts i numbers at))
+    subst (λ ns. OfParts a listed ns BrokeOff x z) (sym (taken_at parts i numbers at))
     (parts_broke a listed (take i parts) numbers broke.0 so broke.1 broke.2)
 
 answers_as : (a : Named) (listed : Bool) (ns numbers : List ℕ) (y z : SinkState)
@@ -183,7 +187,7 @@ answers_as a listed ns numbers y z r s e f did = subst (λ ns. AnswersPart a lis
 pub parts_ended : (a : Named) (listed : Bool) (parts : List (List ℕ)) (i : ℕ) (ns numbers : List ℕ)
     (r : Result (Unit {0}) PartFault) (fault : PartFault) (x y z : SinkState) →
     slice_get parts i ≡ Some numbers → ns ≡ numbers → r ≡ Err fault →
-    TookParts a listed (take i parts) x y → AnswersPart a listed ns y z r → AnswersParts a listed parts x z
+    OfParts a listed (take i parts) Took x y → AnswersPart a listed ns y z r → AnswersParts a listed parts x z
     (Err (record { written = i; fault = fault }))
 parts_ended a listed parts i ns numbers r fault x y z at e f so did = ended_at a listed parts i numbers fault z at so
     (answers_as a listed ns numbers y z r (Err fault) e f did)
@@ -192,10 +196,11 @@ parts_ended a listed parts i ns numbers r fault x y z at e f so did = ended_at a
 pub parts_on : (a : Named) (listed : Bool) (parts : List (List ℕ)) (i : ℕ) (ns numbers : List ℕ)
     (r : Result (Unit {0}) PartFault) (u : Unit {0}) (x y z : SinkState) →
     slice_get parts i ≡ Some numbers → ns ≡ numbers → r ≡ Ok u →
-    TookParts a listed (take i parts) x y → AnswersPart a listed ns y z r → TookParts a listed (take (i + 1) parts) x z
+    OfParts a listed (take i parts) Took x y → AnswersPart a listed ns y z r →
+    OfParts a listed (take (i + 1) parts) Took x z
 parts_on a listed parts i ns numbers r u x y z at e f so did =
     let this = answers_as a listed ns numbers y z r (Ok u) e f did in
-    subst (λ ns. TookParts a listed ns x z) (sym (taken_at parts i numbers at))
+    subst (λ ns. OfParts a listed ns Took x z) (sym (taken_at parts i numbers at))
     (parts_more a listed (take i parts) numbers this.0 so this.1 this.2)
 
 -- the numbers of the path at a place

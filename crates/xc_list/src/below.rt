@@ -1,9 +1,9 @@
 //! Parts of a search, one behind another.
-ghost use Rattle.std.specs.Prelude.{ℕ, ◌≡◌, ◌≤◌, ◌<◌, List, [], All, IfOk, MatchOption, MatchResult, map};
+ghost use Rattle.std.specs.Prelude.{ℕ, ◌≡◌, ◌≤◌, ◌<◌, List, [], All, IfOk, MatchOption, MatchResult, length, map, min};
 ghost use Rattle.xc_search.specs.Room.{room_for};
 ghost use Rattle.xc_list.specs.Known.{IsKnownChoice};
 ghost use Rattle.xc_list.specs.Texts.{Took, BrokeOff, Writes};
-ghost use Rattle.xc_list.specs.Below.{most_counted, counted, end_behind, members_text, listing_text, numbers_told};
+ghost use Rattle.xc_list.specs.Below.{most_counted, end_behind, members_text, listing_text, numbers_told};
 ghost use Rattle.xc_list.specs.Below.{AnswersParts};
 ghost use Rattle.xc_list.specs.inner.PartsBelow.{AnswersPart};
 
@@ -71,7 +71,7 @@ fn write_each<'a, D: Dance, S: Sink>(
 ) -> Result<u64, SinkFault>
     requires known { All (All (IsKnownChoice bodies.now.puzzle)) search.old.to_come }
     ensures still { search.new ≡ record search.old { to_come = search.new.to_come; shown = search.new.shown } }
-    ensures count { IfOk result (λ n. n ≡ counted search.old.to_come) }
+    ensures count { IfOk result (λ n. n ≡ min most_counted (length search.old.to_come)) }
     ensures wrote { MatchResult result
         (λ _. Took (S.state sink.old) (S.state sink.new) (members_text bodies.now search.old.to_come))
         (λ _. BrokeOff (S.state sink.old) (S.state sink.new) (members_text bodies.now search.old.to_come)) }

@@ -1,18 +1,13 @@
 -- What a whole run over parts of a search does.
-use Rattle.std.specs.Prelude.{ℕ, ◌+◌, ◌≡◌, ◌⊎◌, Bool, List, ◌∷◌, Some, codes, take, flat_map}
+use Rattle.std.specs.Prelude.{ℕ, ◌+◌, ◌≡◌, ◌⊎◌, Bool, List, ◌∷◌, Some, codes, take}
 use Rattle.xc_input.specs.declared.kind.Kind.{Kind}
 use Rattle.xc_input.specs.Named.{Named}
-use Rattle.xc_search.specs.declared.choice.Choice.{Choice}
-use Rattle.xc_list.specs.Below.{part_listing, ArePathsBy, TookParts, PartsBrokeOff, HasNoPathAt}
+use Rattle.xc_list.specs.Below.{OfParts, HasNoPathAt}
 use Rattle.xc_list.specs.PartWords.{AskForParts}
-use Rattle.xc_list.specs.Texts.{SinkState, WasTold}
+use Rattle.xc_list.specs.Texts.{SinkState, Took, BrokeOff, WasTold}
 use Rattle.xc_tools.specs.Given.{GaveProblem}
 use Rattle.xc_tools.specs.Judges.{numbered_kind}
 use Rattle.xc_tools.specs.Solves.{Streams, TookAll, FailedBehind, IsRefused, HasNoProblem}
-
--- what is told of wrong words
-abbrev pub parts_usage : List ℕ
-parts_usage = codes "Usage: dlx_below 1|2|3 m0|m1 {BRANCH.. 0}..\n"
 
 -- words ask for these parts of a problem of this kind
 pub record AskPartsOf (words : List (List ℕ)) (kind : Kind) (listed : Bool) (parts : List (List ℕ)) : Type 0 where
@@ -22,39 +17,32 @@ pub record AskPartsOf (words : List (List ℕ)) (kind : Kind) (listed : Bool) (p
   pub is_kind : numbered_kind number ≡ Some kind
   pub asks : AskForParts rest listed parts
 
--- 0: the output took the parts, one behind another.
-pub record HasParts (a : Named) (listed : Bool) (parts : List (List ℕ)) (out_old out_new : SinkState) : Type 0 where
-  pub plan : List (List Choice)
-  pub paths : ArePathsBy a.puzzle parts plan
-  pub taken : TookAll out_old out_new (flat_map (part_listing a listed) plan)
-
 -- 5: the search has no path with the numbers of a part, and the output took those before it. It was told.
 pub record NamesNoPath (a : Named) (listed : Bool) (parts : List (List ℕ))
     (out_old out_new err_old err_new : SinkState) : Type 0 where
   pub written : ℕ
-  pub taken : TookParts a listed (take written parts) out_old out_new
+  pub taken : OfParts a listed (take written parts) Took out_old out_new
   pub none : HasNoPathAt a.puzzle parts written
   pub told : WasTold err_old err_new (codes "No such path.\n")
 
 -- 3: a write of a part failed, or the flush behind the last. It was told.
 pub record PartsUnwritten (a : Named) (listed : Bool) (parts : List (List ℕ))
     (out_old out_new err_old err_new : SinkState) : Type 0 where
-  pub failed : ((n : ℕ) × PartsBrokeOff a listed (take (n + 1) parts) out_old out_new)
-      ⊎ ((plan : List (List Choice)) × ArePathsBy a.puzzle parts plan
-      × FailedBehind out_old out_new (flat_map (part_listing a listed) plan))
+  pub failed : ((n : ℕ) × OfParts a listed (take (n + 1) parts) BrokeOff out_old out_new)
+      ⊎ OfParts a listed parts FailedBehind out_old out_new
   pub told : WasTold err_old err_new (codes "Write failed.\n")
 
 -- 4: there was no memory for a part's search, and the output took those before it. It was told.
 pub record PartsWithoutMemory (a : Named) (listed : Bool) (parts : List (List ℕ))
     (out_old out_new err_old err_new : SinkState) : Type 0 where
   pub written : ℕ
-  pub taken : TookParts a listed (take written parts) out_old out_new
+  pub taken : OfParts a listed (take written parts) Took out_old out_new
   pub told : WasTold err_old err_new (codes "Out of memory.\n")
 
--- What listing the parts of a problem did, by the status.
+-- What listing the parts of a problem did, by the status: at 0 the output took the parts, one behind another.
 abbrev pub DidListParts : Bool → List (List ℕ) → ℕ → SinkState → SinkState → SinkState → SinkState → Named → Type 0
 DidListParts listed parts status out_old out_new err_old err_new a =
-    ((status ≡ 0) × HasParts a listed parts out_old out_new)
+    ((status ≡ 0) × OfParts a listed parts TookAll out_old out_new)
     ⊎ ((status ≡ 5) × NamesNoPath a listed parts out_old out_new err_old err_new)
     ⊎ ((status ≡ 3) × PartsUnwritten a listed parts out_old out_new err_old err_new)
     ⊎ ((status ≡ 4) × PartsWithoutMemory a listed parts out_old out_new err_old err_new)
@@ -76,7 +64,8 @@ AskForNone words = (kind : Kind) (listed : Bool) (parts : List (List ℕ)) → A
 -- What a run over parts did, by its words and its status: they ask for none; or there was no memory to read them; or
 -- they were read.
 abbrev pub DidPartsWords : {S O E : Type 0} → List (List ℕ) → ℕ → Streams S O E → Streams S O E → Type 0
-DidPartsWords words status old new = ((status ≡ 1) × AskForNone words × IsRefused parts_usage old new)
+DidPartsWords words status old new =
+    ((status ≡ 1) × AskForNone words × IsRefused (codes "Usage: dlx_below 1|2|3 m0|m1 {BRANCH.. 0}..\n") old new)
     ⊎ ((status ≡ 4) × IsRefused (codes "Out of memory.\n") old new)
     ⊎ ((kind : Kind) × (listed : Bool) × (parts : List (List ℕ)) × AskPartsOf words kind listed parts
     × DidPartsAsAsked kind listed parts status old new)

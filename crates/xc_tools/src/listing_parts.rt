@@ -1,8 +1,8 @@
 //! A whole run over parts of a search.
-ghost use Rattle.std.specs.Prelude.{◌≡◌, map};
+ghost use Rattle.std.specs.Prelude.{◌≡◌, map, codes};
 ghost use Rattle.xc_list.specs.Texts.{WasTold};
 ghost use Rattle.xc_tools.specs.Solves.{streams};
-ghost use Rattle.xc_tools.specs.Parts.{parts_usage, DidListParts, DidPartsAsAsked, DidPartsWords};
+ghost use Rattle.xc_tools.specs.Parts.{DidListParts, DidPartsAsAsked, DidPartsWords};
 
 use crate::judging::numbered_kind;
 use crate::messages::no_problem;
@@ -15,7 +15,8 @@ use xc_list::{PartFault, PartWords, Sink, list_parts};
 /// Tells which words there are.
 fn refuse_words<E: Sink>(err: &mut E) -> u8
     ensures status { result ≡ 1 }
-    ensures told { WasTold (E.state err.old) (E.state err.new) parts_usage }
+    ensures told { WasTold (E.state err.old) (E.state err.new)
+        (codes "Usage: dlx_below 1|2|3 m0|m1 {BRANCH.. 0}..\n") }
 {
     refuse(
         BAD_WORDS,
