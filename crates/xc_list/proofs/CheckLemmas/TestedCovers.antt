@@ -1,15 +1,14 @@
 -- Options are a cover exactly where the tests of its conditions say so.
-use Rattle.std.proofs.Common.{ℕ, zero, suc, ◌≡◌, ◌≢◌, ◌+◌, ◌-◌, ◌<◌, ◌≤◌, Bool, true, false, cond, ◌==◌, List, [], ◌∷◌}
+use Rattle.std.proofs.Common.{ℕ, zero, suc, ◌≡◌, ◌≢◌, ◌+◌, ◌<◌, ◌≤◌, Bool, true, false, cond, ◌==◌, List, [], ◌∷◌}
 use Rattle.std.proofs.Common.{Option, Some, None, refl, sym, ap, ◌∙◌, arith, subst, inl, inr, eqb-true, eq-eqb, ne_eqb}
-use Rattle.std.proofs.Common.{ltb, leb}
-use Rattle.std.specs.Prelude.{All, AllPairs, Contains, IsTrue, ◌↔◌, nat_le, nat_lt, ◌||◌}
+use Rattle.std.specs.Prelude.{All, AllPairs, nat_le, ◌||◌}
 use Rattle.std.specs.List.{list_all, list_any, AllByRecursion}
 use Rattle.std.proofs.lemmas.Bool.Decides.{nat_tests}
 use Rattle.std.proofs.lemmas.List.Elements.{recursion_from_All}
 use Rattle.xc_input.specs.declared.problem.Use.{Use}
 use Rattle.xc_input.specs.declared.problem.Bounds.{Bounds}
 use Rattle.xc_input.specs.Problem.{Puzzle, IsValid, IsItem, IsOption, IsSecondary, IsSoundUse, bounds_at, colour_in}
-use Rattle.xc_input.specs.Problem.{item_count, primary_count, uses_of}
+use Rattle.xc_input.specs.Problem.{primary_count, uses_of}
 use Rattle.xc_search.specs.Cover.{IsCover, times_held}
 use Rattle.xc_input.proofs.FaultLemmas.BooleanTests.{and_left, and_right}
 use Rattle.xc_input.proofs.lists.EachTwo.{EachTwo}

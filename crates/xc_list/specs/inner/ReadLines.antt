@@ -1,5 +1,5 @@
 -- No public clause cites this module. What a line of a listing says.
-use Rattle.std.specs.Prelude.{ℕ, List, Option, Some, None}
+use Rattle.std.specs.Prelude.{ℕ, List, Some, None}
 use Rattle.xc_list.specs.ListingLines.{header_number, body_of}
 
 -- what a line is: a header with its number, a choice line with its body, or neither

@@ -1,4 +1,4 @@
-use Rattle.std.proofs.Common.{ℕ, true, refl, ◌∙◌, sym}
+use Rattle.std.proofs.Common.{refl, ◌∙◌, sym}
 use Rattle.xc_list.proofs.CheckLemmas.TestedCovers.{cover_from_tests, tests_of_cover}
 use Rattle.xc_list.proofs.cover.is_cover.Goals as goal
 
