@@ -11,7 +11,7 @@ use Rattle.xc_search.specs.declared.choice.Choice.{Choice}
 use Rattle.xc_input.specs.Problem.{numbered_get}
 use Rattle.xc_input.specs.Named.{Named}
 use Rattle.xc_search.specs.Cover.{members}
-use Rattle.xc_list.specs.Output.{text_of, output, is_printed, member_text}
+use Rattle.xc_list.specs.Output.{output, is_printed, member_text}
 use Rattle.xc_list.specs.declared.runs.End.TheVariants.{Done, Limit}
 use Rattle.xc_list.specs.Runs.{StoppedAt, end_of}
 use Rattle.xc_list.specs.inner.Ends.{printed_text}
@@ -59,6 +59,10 @@ pub enumerate_more : {X : Type 0} (n : ℕ) (xs : List X) (x : X) → enumerate_
     (xs ++ x ∷ []) ≡ enumerate_from n xs ++ (n + length xs, x) ∷ []
 enumerate_more n [] x = grind (arith, common_steps)
 enumerate_more n (y ∷ xs) x = grind (arith, common_steps, enumerate_more (n + 1) xs x)
+
+-- the text of these members, numbered from 1, as far as they are printed
+abbrev text_of : Named → ℕ → List (List Choice) → List ℕ
+text_of a spacing ms = flat_map (member_text a) (filter (λ nm. is_printed spacing nm.0) (enumerate_from 1 ms))
 
 text_more : (a : Named) (spacing : ℕ) (ms : List (List Choice)) (m : List Choice)
     → text_of a spacing (ms ++ m ∷ []) ≡ text_of a spacing ms ++ printed_text a spacing (1 + length ms, m)

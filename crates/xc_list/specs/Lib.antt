@@ -1,5 +1,4 @@
 pub mod Below
-pub mod Built
 pub mod Known
 pub mod Listed
 pub mod ListingLines

@@ -51,10 +51,6 @@ fault_in_lines p n [] = None
 fault_in_lines p n (l ∷ lines) =
     option_or (fault_in_line p (not (n == 0)) (min (n + 1) (2 ^ 64 - 1)) l) (fault_in_lines p (n + 1) lines)
 
--- the first fault of all lines of a listing
-abbrev pub fault_in_listing : Named → List (List ℕ) → Option ListingFault
-fault_in_listing p lines = fault_in_lines p 0 lines
-
 -- a listed solution: its header's number and the bodies of its choice lines
 pub record Solution : Type 0 where
   pub number : ℕ
@@ -82,7 +78,7 @@ IsVerdictOn p s v = (v.number ≡ s.number) × (IsTrue v.cover ↔ IsListedCover
 abbrev pub AreVerdicts : Named → List (List ℕ) → List Verdict → Type 0
 AreVerdicts p lines vs = AllZip (IsVerdictOn p) (solutions_of lines) vs
 
--- an answer in place of verdicts: want of memory, or the first fault
+-- an answer in place of verdicts: want of memory, or the first fault of all lines
 abbrev pub IsListingFault : Named → List (List ℕ) → ListingFault → Type 0
 IsListingFault p lines Memory = Unit {0}
-IsListingFault p lines fault = fault_in_listing p lines ≡ Some fault
+IsListingFault p lines fault = fault_in_lines p 0 lines ≡ Some fault

@@ -1,7 +1,6 @@
 -- The lines of a listing: headers, and choice lines with their bodies.
 use Rattle.std.specs.Prelude.{ℕ, ◌-◌, Bool, false, not, ◌&&◌, ◌==◌, nat_le, List, [], ◌∷◌, codes, length, take, drop}
 use Rattle.std.specs.Prelude.{Option, Some, None, if◌then◌else◌}
-use Rattle.std.specs.Char.{is_ascii_digit}
 use Rattle.std.specs.Io.BufRead.{ends_with_byte}
 use Rattle.std.specs.List.{list_all, list_any, slice_split}
 use Rattle.std.specs.Str.{byte, bytes_eq}
@@ -17,13 +16,10 @@ words_in text = slice_split (λ b. b == byte " ") text
 abbrev pub before_last : ℕ → List ℕ → Option (List ℕ)
 before_last b text = if ends_with_byte b text then Some (take (length text - 1) text) else None
 
--- the number of one to twenty digits, where it fits
-abbrev pub solution_number : List ℕ → Option ℕ
-solution_number text = if nat_le (length text) 20 then long_number text else None
-
--- a header's number: digits and a colon, and nothing else
+-- a header's number, where it fits: one to twenty digits and a colon, and nothing else
 abbrev pub header_number : List ℕ → Option ℕ
-header_number line = elim (before_last (byte ":") line) [ None ↦ None | Some text ↦ solution_number text ]
+header_number line = elim (before_last (byte ":") line)
+    [ None ↦ None | Some text ↦ if nat_le (length text) 20 then long_number text else None ]
 
 -- one byte or more, and no white space
 abbrev pub is_word : List ℕ → Bool

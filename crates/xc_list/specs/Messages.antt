@@ -10,15 +10,11 @@ abbrev pub total_text : ℕ → List ℕ → List ℕ
 total_text n tail =
     codes "Altogether " ++ decimal n ++ (if n == 1 then codes " solution" else codes " solutions") ++ tail
 
--- the solution whose write failed
-abbrev pub failed_text : ℕ → List ℕ
-failed_text n = codes "Write failed at solution " ++ decimal n ++ codes ".\n"
-
--- the last line of a run
+-- the last line of a run: how many solutions there are, or the one whose write failed
 abbrev pub summary_text : End → List ℕ
 summary_text (Done n) = total_text n (codes ".\n")
 summary_text (Limit n) = total_text n (codes " (limit).\n")
-summary_text (WriteFailed n) = failed_text n
+summary_text (WriteFailed n) = codes "Write failed at solution " ++ decimal n ++ codes ".\n"
 
 -- the line for an ignored option, which stood on line n
 abbrev pub warning_text : ℕ → List ℕ

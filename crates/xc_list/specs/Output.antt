@@ -42,10 +42,7 @@ member_text a nm = decimal nm.0 ++ codes ":\n" ++ flat_map (choice_text a) nm.1
 abbrev pub is_printed : ℕ → ℕ → Bool
 is_printed spacing n = not (spacing == 0) && n % spacing == 0
 
--- the text of these members, numbered from 1, as far as they are printed
-abbrev pub text_of : Named → ℕ → List (List Choice) → List ℕ
-text_of a spacing ms = flat_map (member_text a) (filter (λ nm. is_printed spacing nm.0) (enumerate_from 1 ms))
-
--- the text of the first members up to the limit that are printed
+-- the text of the first members up to the limit, numbered from 1, that are printed
 abbrev pub output : Named → ℕ → ℕ → List ℕ
-output a spacing limit = text_of a spacing (take limit (members a.puzzle))
+output a spacing limit = let numbered = enumerate_from 1 (take limit (members a.puzzle)) in
+    flat_map (member_text a) (filter (λ nm. is_printed spacing nm.0) numbered)

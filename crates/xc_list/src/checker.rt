@@ -7,7 +7,7 @@ ghost use Rattle.xc_list.specs.ListingLines.{words_in};
 ghost use Rattle.xc_list.specs.inner.ReadLines.{read, Header, Body};
 ghost use Rattle.xc_list.specs.inner.Classes.{IsClassOfBody};
 ghost use Rattle.xc_list.specs.inner.SeenLines.{IsClassOfLine};
-ghost use Rattle.xc_list.specs.Listed.{fault_in_listing, AreVerdicts, IsListingFault};
+ghost use Rattle.xc_list.specs.Listed.{fault_in_lines, AreVerdicts, IsListingFault};
 ghost use Rattle.xc_list.specs.inner.Checking.{IsProgress, AreAllTaken, Closes, Takes, Refuses};
 ghost use Rattle.xc_list.specs.Output.{output};
 ghost use Rattle.xc_list.specs.declared.checker.ListingFault.TheVariants.{Memory};
@@ -244,7 +244,7 @@ impl<'a> Checker<'a> {
 
 /// The verdicts on the solutions of a listing, or its first fault.
 pub fn check(alloc: Global, problem: &Problem, listing: &[u8]) -> Result<Vec<Verdict>, ListingFault>
-    ensures accepted { IfOk result (λ vs. fault_in_listing problem.now (lines_of listing.now) ≡ None) }
+    ensures accepted { IfOk result (λ vs. fault_in_lines problem.now 0 (lines_of listing.now) ≡ None) }
     ensures verdicts { IfOk result (λ vs. AreVerdicts problem.now (lines_of listing.now) vs.items) }
     ensures fault { IfErr result (IsListingFault problem.now (lines_of listing.now)) }
 

@@ -2,7 +2,7 @@
 ghost use Rattle.std.specs.Prelude.{◌≡◌, ℕ, ◌+◌, ◌-◌, ◌<◌, ◌≤◌, ◌++◌, flat_map, OnErr, IsTrue, decimal, codes, ◌==◌};
 ghost use Rattle.std.specs.Prelude.{if◌then◌else◌};
 ghost use Rattle.xc_list.specs.Texts.{Writes};
-ghost use Rattle.xc_list.specs.Messages.{total_text, failed_text, summary_text, warning_text, word_fault_text};
+ghost use Rattle.xc_list.specs.Messages.{total_text, summary_text, warning_text, word_fault_text};
 
 use crate::line::write_line;
 use crate::runs::End;
@@ -24,7 +24,8 @@ fn write_total<'a, S: Sink>(n: u64, tail: &'a [u8], sink: &mut S) -> Result<(), 
 }
 
 fn write_failed<S: Sink>(n: u64, sink: &mut S) -> Result<(), SinkFault>
-    ensures { Writes (S.state sink.old) (S.state sink.new) result (failed_text n) }
+    ensures { Writes (S.state sink.old) (S.state sink.new) result
+        (codes "Write failed at solution " ++ decimal n ++ codes ".\n") }
 {
     write_line(sink, b"Write failed at solution ", n, &[b".\n"])
 }

@@ -7,7 +7,7 @@ ghost use Rattle.xc_list.specs.Output.{is_printed};
 ghost use Rattle.xc_list.specs.Known.{IsKnownChoice};
 ghost use Rattle.xc_list.specs.Runs.{IsRun, AnswersRun, solutions_found};
 ghost use Rattle.xc_list.specs.inner.Ends.{printed_text, WentTo};
-ghost use Rattle.xc_list.specs.Built.{AreAsBuilt};
+ghost use Rattle.xc_dance.specs.Same.{IsSame};
 
 use crate::bodies::Bodies;
 use crate::print::write_member;
@@ -171,7 +171,7 @@ pub fn run_over_links<S: Sink>(
     words: Words,
     sink: &mut S,
 ) -> Result<(Links, Result<End, Memory>), Memory>
-    ensures built { IfOk result (λ back. AreAsBuilt problem.now.puzzle back.0) }
+    ensures built { IfOk result (λ back. IsSame back.0.puzzle back.0.trail problem.now.puzzle []) }
     ensures run { MatchResult result (λ back. AnswersRun problem.now words.spacing words.limit
         (S.state sink.old) (S.state sink.new) back.1) (λ _. Took (S.state sink.old) (S.state sink.new) []) }
     ensures right { EachMemberCovers problem.now.puzzle }

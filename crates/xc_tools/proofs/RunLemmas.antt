@@ -10,8 +10,9 @@ use Rattle.xc_input.specs.declared.kind.Kind.{Kind}
 use Rattle.xc_input.specs.Named.{Named}
 use Rattle.xc_input.specs.Pieces.{SourceState}
 use Rattle.xc_list.specs.declared.runs.End.{End}
+use Rattle.xc_list.specs.declared.runs.End.TheVariants.{WriteFailed}
 use Rattle.xc_list.specs.declared.words.Words.{Words}
-use Rattle.xc_list.specs.Messages.{warning_text, summary_text, failed_text}
+use Rattle.xc_list.specs.Messages.{warning_text, summary_text}
 use Rattle.xc_list.specs.Output.{output}
 use Rattle.xc_list.specs.Runs.{end_of}
 use Rattle.xc_list.specs.Texts.{SinkState, Took, BrokeOff, WasTold, Behind, Begins}
@@ -78,7 +79,7 @@ failed_more : (place : FailedAt) (a : Named) (ignored : List ℕ) (w : Words) (o
     → IsFailed place a [] w out_old out_new mid new → IsFailed place a ignored w out_old out_new old new
 failed_more warning a ignored w out_old out_new old mid new took h = absurd (omega (arith, h.1.part))
 failed_more (solution n) a ignored w out_old out_new old mid new took h =
-    (h.0, behind_more WasTold old mid new (flat_map warning_text ignored) (failed_text n) took h.1)
+    (h.0, behind_more WasTold old mid new (flat_map warning_text ignored) (summary_text (WriteFailed n)) took h.1)
 failed_more flush a ignored w out_old out_new old mid new took h =
     (h.0, behind_more WasTold old mid new (flat_map warning_text ignored) (codes "Write failed.\n") took h.1)
 failed_more last_line a ignored w out_old out_new old mid new took h =

@@ -9,7 +9,7 @@ use Rattle.xc_input.specs.Named.{Named}
 use Rattle.xc_input.specs.Lines.{lines_of}
 use Rattle.xc_input.specs.Calls.{Rose}
 use Rattle.xc_input.specs.Pieces.{SourceState, GaveAll}
-use Rattle.xc_list.specs.Listed.{fault_in_listing, AreVerdicts}
+use Rattle.xc_list.specs.Listed.{fault_in_lines, AreVerdicts}
 use Rattle.xc_list.specs.Texts.{BrokeOff, WasTold}
 use Rattle.xc_list.specs.declared.checker.Verdict.{Verdict}
 use Rattle.xc_list.specs.declared.checker.ListingFault.{ListingFault}
@@ -22,18 +22,13 @@ abbrev pub numbered_kind : List ℕ → Option Kind
 numbered_kind word =
     if bytes_eq word (codes "1") then Some Plain
     else if bytes_eq word (codes "2") then Some Colours
-    else if bytes_eq word (codes "3") then Some Bounds
-    else None
+    else if bytes_eq word (codes "3") then Some Bounds else None
 
 -- the kind that the words ask for: those of a problem's file and perhaps a number
 abbrev pub asked_kind : List (List ℕ) → Option Kind
 asked_kind (file ∷ []) = Some Bounds
 asked_kind (file ∷ number ∷ []) = numbered_kind number
 asked_kind _ = None
-
--- what is told of wrong words
-abbrev pub usage_text : List ℕ
-usage_text = codes "Usage: dlxcheck PROBLEM [1|2|3]\n"
 
 -- what is told of a listing that gets no verdicts
 abbrev pub listing_fault_text : ListingFault → List ℕ
@@ -45,22 +40,18 @@ listing_fault_text Memory = codes "Out of memory.\n"
 abbrev pub verdict_text : Verdict → List ℕ
 verdict_text v = decimal v.number ++ (if v.cover then codes ": cover\n" else codes ": not a cover\n")
 
--- 0 where each verdict is yes, else 5
-abbrev pub judged_status : List Verdict → ℕ
-judged_status vs = if list_all (λ v. v.cover) vs then 0 else 5
-
 -- A source gave a listing without a fault, and these are the verdicts on it.
 pub record HasVerdicts (a : Named) (vs : List Verdict) (old new : SourceState) : Type 0 where
   pub listing : List ℕ
   pub gave : GaveAll old new listing
-  pub no_fault : fault_in_listing a (lines_of listing) ≡ None
+  pub no_fault : fault_in_lines a 0 (lines_of listing) ≡ None
   pub verdicts : AreVerdicts a (lines_of listing) vs
 
--- 0, 5: the output took the verdicts, the status is theirs, and nothing was told.
+-- 0, 5: the output took the verdicts, the status is 0 where each is yes and else 5, and nothing was told.
 pub record IsJudged {L O E : Type 0} (a : Named) (status : ℕ) (old new : Streams L O E) : Type 0 where
   pub verdicts : List Verdict
   pub right : HasVerdicts a verdicts old.input.state new.input.state
-  pub is_status : judged_status verdicts ≡ status
+  pub is_status : (if list_all (λ v. v.cover) verdicts then 0 else 5) ≡ status
   pub taken : TookAll old.out.state new.out.state (flat_map verdict_text verdicts)
   pub quiet : new.err ≡ old.err
 
@@ -69,7 +60,7 @@ pub record IsFaulty {L O E : Type 0} (a : Named) (old new : Streams L O E) : Typ
   pub listing : List ℕ
   pub gave : GaveAll old.input.state new.input.state listing
   pub fault : ListingFault
-  pub first : fault_in_listing a (lines_of listing) ≡ Some fault
+  pub first : fault_in_lines a 0 (lines_of listing) ≡ Some fault
   pub told : WasTold old.err.state new.err.state (listing_fault_text fault)
   pub unwritten : new.out ≡ old.out
 
@@ -111,5 +102,5 @@ DidAsAsked kind status problem_old problem_new old new =
 abbrev pub DidJudge : {P L O E : Type 0} → List (List ℕ) → ℕ → Seen P SourceState → Seen P SourceState
     → Streams L O E → Streams L O E → Type 0
 DidJudge words status problem_old problem_new old new = MatchOption (asked_kind words)
-    ((status ≡ 1) × (problem_new ≡ problem_old) × IsRefused usage_text old new)
+    ((status ≡ 1) × (problem_new ≡ problem_old) × IsRefused (codes "Usage: dlxcheck PROBLEM [1|2|3]\n") old new)
     (λ kind. DidAsAsked kind status problem_old.state problem_new.state old new)

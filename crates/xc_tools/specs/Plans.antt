@@ -18,10 +18,6 @@ asked_plan [] = None
 asked_plan (kind ∷ numbers) =
     option_and_then (λ k. option_map (λ w. (k, w)) (read_plan_words numbers)) (numbered_kind kind)
 
--- what is told of wrong words
-abbrev pub usage_text : List ℕ
-usage_text = codes "Usage: dlx_parts 1|2|3 BUDGET [SIZE [LIMIT]]\n"
-
 -- 0: the output took the lines of a plan whose paths are a cut of the problem's listing.
 pub record HasPlan (a : Named) (out_old out_new : SinkState) : Type 0 where
   pub plan : List (List Choice)
@@ -71,4 +67,5 @@ DidPlanAsAsked ask status old new =
 -- What a run of the planner did, by its words and its status, which is 1 exactly where the words ask for no plan.
 abbrev pub DidPlanWords : {S O E : Type 0} → List (List ℕ) → ℕ → Streams S O E → Streams S O E → Type 0
 DidPlanWords words status old new = MatchOption (asked_plan words)
-    ((status ≡ 1) × IsRefused usage_text old new) (λ asked. DidPlanAsAsked asked status old new)
+    ((status ≡ 1) × IsRefused (codes "Usage: dlx_parts 1|2|3 BUDGET [SIZE [LIMIT]]\n") old new)
+    (λ asked. DidPlanAsAsked asked status old new)

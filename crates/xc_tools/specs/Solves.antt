@@ -7,7 +7,8 @@ use Rattle.xc_input.specs.declared.fault.InputError.{InputError}
 use Rattle.xc_input.specs.Named.{Named}
 use Rattle.xc_input.specs.Pieces.{SourceState, IsPart}
 use Rattle.xc_list.specs.declared.words.Words.{Words}
-use Rattle.xc_list.specs.Messages.{warning_text, summary_text, failed_text, word_fault_text}
+use Rattle.xc_list.specs.declared.runs.End.TheVariants.{WriteFailed}
+use Rattle.xc_list.specs.Messages.{warning_text, summary_text, word_fault_text}
 use Rattle.xc_list.specs.Output.{output}
 use Rattle.xc_list.specs.Runs.{StoppedAt, end_of}
 use Rattle.xc_list.specs.Settings.{read_words}
@@ -68,7 +69,7 @@ abbrev pub IsFailed : FailedAt → Named → List ℕ → Words → SinkState �
 IsFailed warning a ignored w out_old out_new err_old err_new =
     Took out_old out_new [] × BrokeOff err_old err_new (flat_map warning_text ignored)
 IsFailed (solution n) a ignored w out_old out_new err_old err_new = StoppedAt a w.spacing w.limit n out_old out_new
-    × Behind (flat_map warning_text ignored) WasTold err_old err_new (failed_text n)
+    × Behind (flat_map warning_text ignored) WasTold err_old err_new (summary_text (WriteFailed n))
 IsFailed flush a ignored w out_old out_new err_old err_new = FailedBehind out_old out_new (output a w.spacing w.limit)
     × Behind (flat_map warning_text ignored) WasTold err_old err_new (codes "Write failed.\n")
 IsFailed last_line a ignored w out_old out_new err_old err_new = TookAll out_old out_new (output a w.spacing w.limit)

@@ -42,14 +42,12 @@ abbrev pub AskedAtMostOnce : Asked → Asked → Type 0
 AskedAtMostOnce old new = (new ≡ old) ⊎ ((a : Answer) × (is_failure a ≡ false) × (new ≡ answered a old))
 
 -- Calls were made; the last one was a flush, and none failed.
-pub record FlushedLast (old new : Asked) : Type 0 where
-  pub none : new.failures ≡ old.failures
-  pub last : new.last ≡ Flushed
+abbrev pub FlushedLast : Asked → Asked → Type 0
+FlushedLast old new = (new.failures ≡ old.failures) × (new.last ≡ Flushed)
 
 -- Calls were made; the last one failed, and no other.
-pub record BrokeLast (old new : Asked) : Type 0 where
-  pub one : Rose old.failures new.failures
-  pub last : new.last ≡ Failed
+abbrev pub BrokeLast : Asked → Asked → Type 0
+BrokeLast old new = Rose old.failures new.failures × (new.last ≡ Failed)
 
 -- whether a text ends behind a line feed
 abbrev pub ends_line : List ℕ → Bool

@@ -1,11 +1,12 @@
 //! A whole run of the judge.
-ghost use Rattle.std.specs.Prelude.{◌≡◌, ◌⊎◌, IsSomeAnd, map, List, codes, flat_map};
+ghost use Rattle.std.specs.Prelude.{◌≡◌, ◌⊎◌, IsSomeAnd, map, List, codes, flat_map, if◌then◌else◌};
+ghost use Rattle.std.specs.List.{list_all};
 ghost use Rattle.std.specs.Io.KnownBytes.{Keeps};
 ghost use Rattle.xc_list.specs.Texts.{BrokeOff, WasTold, Writes, Begins};
 ghost use Rattle.xc_list.specs.declared.checker.Verdict.{Verdict};
 ghost use Rattle.xc_tools.specs.Given.{GaveProblem};
 ghost use Rattle.xc_tools.specs.Solves.{seen, streams, TookAll, FailedBehind};
-ghost use Rattle.xc_tools.specs.Judges.{asked_kind, numbered_kind, verdict_text, judged_status, HasVerdicts};
+ghost use Rattle.xc_tools.specs.Judges.{asked_kind, numbered_kind, verdict_text, HasVerdicts};
 ghost use Rattle.xc_tools.specs.Judges.{DidJudgeListing, DidAsAsked, DidJudge};
 
 use crate::messages::{listing_fault, no_problem};
@@ -63,7 +64,7 @@ fn write_verdicts<S: Sink>(verdicts: &[Verdict], sink: &mut S) -> Result<(), Sin
 /// The status where these verdicts were told.
 fn judged_status(verdicts: &[Verdict]) -> u8
     ensures only { (result ≡ 0) ⊎ (result ≡ 5) }
-    ensures value { result ≡ judged_status verdicts.now }
+    ensures value { result ≡ (if list_all (λ v. v.cover) verdicts.now then 0 else 5) }
 {
     for verdict in verdicts {
         if !verdict.cover {
@@ -75,7 +76,7 @@ fn judged_status(verdicts: &[Verdict]) -> u8
 
 /// Writes and flushes the verdicts.
 fn tell_verdicts<O: Sink, E: Sink>(verdicts: &[Verdict], out: &mut O, err: &mut E) -> u8
-    ensures did { ((judged_status verdicts.now ≡ result)
+    ensures did { (((if list_all (λ v. v.cover) verdicts.now then 0 else 5) ≡ result)
         × TookAll (O.state out.old) (O.state out.new) (flat_map verdict_text verdicts.now) × (err.new ≡ err.old))
         ⊎ ((result ≡ 3) × (BrokeOff (O.state out.old) (O.state out.new) (flat_map verdict_text verdicts.now)
         ⊎ FailedBehind (O.state out.old) (O.state out.new) (flat_map verdict_text verdicts.now))

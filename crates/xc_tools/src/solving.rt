@@ -1,8 +1,9 @@
 //! A whole run of a program.
 ghost use Rattle.std.specs.Prelude.{◌≡◌, ◌⊎◌, ◌+◌, IsOkAnd, IsTrue, [], map, codes};
 ghost use Rattle.std.specs.Io.KnownBytes.{Keeps};
-ghost use Rattle.xc_list.specs.Messages.{failed_text, summary_text};
+ghost use Rattle.xc_list.specs.Messages.{summary_text};
 ghost use Rattle.xc_list.specs.Output.{output};
+ghost use Rattle.xc_list.specs.declared.runs.End.TheVariants.{WriteFailed};
 ghost use Rattle.xc_list.specs.Settings.{read_words};
 ghost use Rattle.xc_list.specs.Texts.{Took, BrokeOff, WasTold, Begins};
 ghost use Rattle.xc_input.specs.Calls.{Rose};
@@ -41,7 +42,7 @@ fn finish<O: Sink, E: Sink>(end: &End, out: &mut O, err: &mut E) -> u8
 /// Tells at which solution a write failed, as far as that goes, and gives the status of that: 3.
 fn tell_failed_write<E: Sink>(solution: u64, err: &mut E) -> u8
     ensures status { result ≡ 3 }
-    ensures told { WasTold (E.state err.old) (E.state err.new) (failed_text solution) }
+    ensures told { WasTold (E.state err.old) (E.state err.new) (summary_text (WriteFailed solution)) }
 {
     let _ = summary(&End::WriteFailed(solution), err);
     FAILED

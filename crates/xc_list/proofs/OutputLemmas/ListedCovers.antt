@@ -24,7 +24,7 @@ use Rattle.xc_list.specs.declared.checker.ListingFault.{ListingFault}
 use Rattle.xc_list.specs.declared.checker.ListingFault.TheVariants.{BadLine, UnknownOption, Memory}
 use Rattle.std.specs.Option.{option_or}
 use Rattle.xc_list.specs.Listed.{Solution, IsVerdictOn, AreVerdicts, IsListingFault, stands_for, is_known}
-use Rattle.xc_list.specs.Listed.{fault_in_lines, fault_in_listing, solutions_of, IsListedCover}
+use Rattle.xc_list.specs.Listed.{fault_in_lines, solutions_of, IsListedCover}
 use Rattle.xc_list.proofs.OutputLemmas.KnownMembers.{members_known}
 use Rattle.xc_list.proofs.OutputLemmas.CountedMembers.{IsCounted, members_counted}
 use Rattle.xc_list.proofs.OutputLemmas.OutputLines.{choice_words, choice_line, header_line, output_lines, IsPrintable}
@@ -129,7 +129,7 @@ listed_cover : (p : Named) (nm : ℕ × List Choice) → IsReadableMember p nm �
 listed_cover p nm h = (options_of nm.1, each_stands p nm.1 h.choices, h.cover)
 
 readable_covers : (p : Named) (nms : List (ℕ × List Choice)) → All (IsReadableMember p) nms
-    → (fault_in_listing p (lines_of (flat_map (member_text p) nms)) ≡ None)
+    → (fault_in_lines p 0 (lines_of (flat_map (member_text p) nms)) ≡ None)
     × All (λ s. IsListedCover p s.bodies) (solutions_of (lines_of (flat_map (member_text p) nms)))
 readable_covers p nms all =
     let lines : lines_of (flat_map (member_text p) nms) ≡ output_lines p nms =
@@ -141,7 +141,7 @@ readable_covers p nms all =
     let solutions : solutions_of (lines_of (flat_map (member_text p) nms)) ≡ map (solution_of p) nms =
     ap solutions_of lines ∙ sym (listed_solutions (output_lines p nms))
     ∙ ap (λ (l : Listing). l.solutions) (listing_of-members p nms all) in (
-      ap (fault_in_listing p) lines ∙ no_fault-members p 0 nms all,
+      ap (fault_in_lines p 0) lines ∙ no_fault-members p 0 nms all,
       subst (All (λ s. IsListedCover p s.bodies)) (sym solutions)
           (All-map (λ s. IsListedCover p s.bodies) (solution_of p) nms
           (All-weaker (IsReadableMember p) (λ nm. IsListedCover p (solution_of p nm).bodies) (listed_cover p)
@@ -187,7 +187,7 @@ readable_member p sound none nm h =
 -- any members with any numbers
 pub members_are_covers : (p : Named) → IsSound p → All (λ n. n ≢ codes "null") p.names → (nms : List (ℕ × List Choice))
     → All (IsNumberedMember p) nms
-    → (fault_in_listing p (lines_of (flat_map (member_text p) nms)) ≡ None)
+    → (fault_in_lines p 0 (lines_of (flat_map (member_text p) nms)) ≡ None)
     × All (λ s. IsListedCover p s.bodies) (solutions_of (lines_of (flat_map (member_text p) nms)))
 members_are_covers p sound none nms all =
     readable_covers p nms (All-weaker (IsNumberedMember p) (IsReadableMember p) (readable_member p sound none) nms all)
@@ -201,7 +201,7 @@ each_numbered P a b (x ∷ xs) h all =
 
 pub outputs_are_covers : (p : Named) → IsSound p → All (λ n. n ≢ codes "null") p.names → (spacing limit : ℕ)
     → limit < 2 ^ 64
-    → (fault_in_listing p (lines_of (output p spacing limit)) ≡ None)
+    → (fault_in_lines p 0 (lines_of (output p spacing limit)) ≡ None)
     × All (λ s. IsListedCover p s.bodies) (solutions_of (lines_of (output p spacing limit)))
 outputs_are_covers p sound none spacing limit h =
     members_are_covers p sound none (filter (λ nm. is_printed spacing nm.0) (enumerate_from 1 first))
@@ -221,7 +221,7 @@ pub wants_memory : (p : Named) (listing : List ℕ) (spacing limit : ℕ) (e : L
 wants_memory p listing spacing limit e sound none fits is first =
     by_fault e (subst (λ text. IsListingFault p (lines_of text) e) is first)
   where
-    no_fault : fault_in_listing p (lines_of (output p spacing limit)) ≡ None
+    no_fault : fault_in_lines p 0 (lines_of (output p spacing limit)) ≡ None
     no_fault = (outputs_are_covers p sound none spacing limit fits).0
 
     by_fault : (e : ListingFault) → IsListingFault p (lines_of (output p spacing limit)) e → e ≡ Memory

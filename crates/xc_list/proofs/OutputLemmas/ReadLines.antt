@@ -18,7 +18,7 @@ use Rattle.std.specs.Char.{is_ascii_digit}
 use Rattle.xc_list.specs.Settings.{long_number}
 use Rattle.xc_list.proofs.CheckLemmas.CutBodies.{last_byte}
 use Rattle.xc_list.proofs.Digits.{some_digits}
-use Rattle.xc_list.specs.ListingLines.{words_in, before_last, solution_number, header_number, is_word, is_closing}
+use Rattle.xc_list.specs.ListingLines.{words_in, before_last, header_number, is_word, is_closing}
 use Rattle.xc_list.specs.ListingLines.{is_ending, body_of_words, body_of}
 use Rattle.xc_input.specs.Words.{are_digits}
 use Rattle.xc_list.specs.inner.ReadLines.{Line, Header, Body, Other, read}
@@ -97,6 +97,10 @@ same b = grind (arith, nat_tests)
 
 before_last-last : (b : ℕ) (front : List ℕ) → before_last b (front ++ b ∷ []) ≡ Some front
 before_last-last b front = last_byte b b front ∙ ap (λ t. if t then Some front else None) (same b)
+
+-- the number of one to twenty digits, where it fits
+abbrev solution_number : List ℕ → Option ℕ
+solution_number text = if nat_le (length text) 20 then long_number text else None
 
 solution_number-decimal : (n : ℕ) → n < 2 ^ 64 → solution_number (decimal n) ≡ Some n
 solution_number-decimal n h =

@@ -6,7 +6,7 @@ use Rattle.std.specs.List.{AllZip}
 use Rattle.xc_list.specs.ListingLines.{words_in}
 use Rattle.xc_list.specs.inner.ReadLines.{Line, read}
 use Rattle.xc_list.specs.inner.ReadLines as lines
-use Rattle.xc_list.specs.Listed.{Solution, is_known, fault_in_listing, fault_in_lines, IsVerdictOn, AreVerdicts}
+use Rattle.xc_list.specs.Listed.{Solution, is_known, fault_in_lines, IsVerdictOn, AreVerdicts}
 use Rattle.xc_list.specs.Listed.{IsListingFault}
 use Rattle.xc_list.specs.inner.Classes.{Classes, IsClassOfBody}
 use Rattle.xc_list.specs.declared.checker.Verdict.{Verdict}
@@ -46,7 +46,7 @@ pub record IsProgress (all : List (List ℕ)) (done : ℕ) (rest : List (List �
   pub verdicts : (vs : List Verdict)
       → AllZip (IsVerdictOn s.options.problem) (with_later s.open_number bodies (listing_of rest)) vs
       → AreVerdicts s.options.problem all (s.verdicts ++ vs)
-  pub no_fault : fault_in_listing s.options.problem all ≡ fault_in_lines s.options.problem done rest
+  pub no_fault : fault_in_lines s.options.problem 0 all ≡ fault_in_lines s.options.problem done rest
 
 -- All of these lines are judged.
 pub record AreAllTaken (all : List (List ℕ)) (s : Progress) : Type 0 where

@@ -1,12 +1,14 @@
 //! The lines of a listing.
-ghost use Rattle.std.specs.Prelude.{◌≡◌, ◌<◌, ◌++◌, ◌∷◌, [], false, length, MatchOption, IfSome, option_map, codes};
+ghost use Rattle.std.specs.Prelude.{◌≡◌, ◌<◌, ◌++◌, ◌∷◌, [], None, false, nat_le, length, if◌then◌else◌, MatchOption};
+ghost use Rattle.std.specs.Prelude.{IfSome, option_map, codes};
 ghost use Rattle.std.specs.Str.{bytes_eq};
 ghost use Rattle.std.specs.List.{list_all};
 ghost use Rattle.std.specs.Char.{is_ascii_digit};
 ghost use Rattle.xc_input.specs.Words.{has};
 ghost use Rattle.xc_input.specs.Lines.{lines_of};
 ghost use Rattle.xc_input.specs.Tokens.{is_space};
-ghost use Rattle.xc_list.specs.ListingLines.{words_in, before_last, solution_number, header_number, is_word};
+ghost use Rattle.xc_list.specs.Settings.{long_number};
+ghost use Rattle.xc_list.specs.ListingLines.{words_in, before_last, header_number, is_word};
 ghost use Rattle.xc_list.specs.ListingLines.{is_opening, is_closing, is_ending, body_of_words, body_of};
 ghost use Rattle.xc_input.specs.Words.{are_digits};
 ghost use Rattle.xc_list.specs.inner.ReadLines.{read};
@@ -87,7 +89,7 @@ fn are_digits(text: &[u8], most: usize) -> bool
 
 /// The number of one to twenty digits, where it fits.
 fn solution_number(text: &[u8]) -> Option<u64>
-    ensures { result ≡ solution_number text.now }
+    ensures { result ≡ (if nat_le (length text.now) 20 then long_number text.now else None) }
 {
     if 20 < text.len() {
         None
