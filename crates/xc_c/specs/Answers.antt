@@ -3,18 +3,19 @@ use Rattle.std.specs.Prelude.{◌≡◌, ◌≢◌, ◌⊎◌, ℕ, List, ◌++�
 use Rattle.std.specs.Prelude.{MatchOption, if◌then◌else◌}
 use Rattle.xc_input.specs.declared.kind.Kind.{Kind}
 use Rattle.xc_input.specs.declared.fault.FaultKind.{FaultKind}
+use Rattle.xc_input.specs.Problem.{numbered_get}
 use Rattle.xc_input.specs.Lines.{lines_of}
 use Rattle.xc_input.specs.FirstFault.{first_fault}
 use Rattle.xc_input.specs.Named.{Named}
 use Rattle.xc_input.specs.Text.{StandsFor}
 use Rattle.xc_search.specs.Cover.{members, EachMemberCovers, EachCoverIsListedOnce}
 use Rattle.xc_list.specs.Output.{output}
-use Rattle.xc_c.specs.Numbers.{numbered_kind, fault_number}
+use Rattle.xc_c.specs.Numbers.{numbered_kind, faults}
 
 -- a fault is told by its status, 3, its line and its number; that there is none by zeros
 abbrev pub IsTold : Option (ℕ × FaultKind) → ℕ → ℕ → ℕ → Type 0
 IsTold None status line fault = (status ≡ 0) × (line ≡ 0) × (fault ≡ 0)
-IsTold (Some found) status line fault = (status ≡ 3) × (line ≡ found.0) × (fault ≡ fault_number found.1)
+IsTold (Some found) status line fault = (status ≡ 3) × (line ≡ found.0) × (numbered_get faults fault ≡ Some found.1)
 
 -- nothing is told, at this status
 abbrev pub IsUntold : ℕ → ℕ → ℕ → ℕ → Type 0

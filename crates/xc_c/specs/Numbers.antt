@@ -1,5 +1,5 @@
 -- The numbers by which kinds, faults and versions are told.
-use Rattle.std.specs.Prelude.{ℕ, ◌+◌, ◌*◌, ◌==◌, Option, None, Some, if◌then◌else◌}
+use Rattle.std.specs.Prelude.{ℕ, ◌+◌, ◌*◌, ◌==◌, List, [], ◌∷◌, Option, None, Some, if◌then◌else◌}
 use Rattle.xc_input.specs.declared.kind.Kind.{Kind}
 use Rattle.xc_input.specs.declared.kind.Kind.TheVariants.{Plain, Colours, Bounds}
 use Rattle.xc_input.specs.declared.fault.FaultKind.{FaultKind}
@@ -14,25 +14,11 @@ abbrev pub numbered_kind : ℕ → Option Kind
 numbered_kind n =
     if n == 1 then Some Plain else if n == 2 then Some Colours else if n == 3 then Some Bounds else None
 
--- the number of a fault, as in the table of faults
-abbrev pub fault_number : FaultKind → ℕ
-fault_number NoItems = 1
-fault_number NulByte = 2
-fault_number EmptyName = 3
-fault_number NameTooLong = 4
-fault_number BadByteInName = 5
-fault_number RepeatedName = 6
-fault_number TwoBars = 7
-fault_number BadBound = 8
-fault_number BoundOrder = 9
-fault_number BoundOnSecondary = 10
-fault_number UnknownItem = 11
-fault_number RepeatedInOption = 12
-fault_number ColourOnPrimary = 13
-fault_number BadColour = 14
-fault_number ColourNotHere = 15
-fault_number TooManyItems = 16
-fault_number TooManyUses = 17
+-- the faults in the order of their numbers, from 1, as in the table of faults
+abbrev pub faults : List FaultKind
+faults = NoItems ∷ NulByte ∷ EmptyName ∷ NameTooLong ∷ BadByteInName ∷ RepeatedName ∷ TwoBars ∷ BadBound ∷ BoundOrder
+    ∷ BoundOnSecondary ∷ UnknownItem ∷ RepeatedInOption ∷ ColourOnPrimary ∷ BadColour ∷ ColourNotHere ∷ TooManyItems
+    ∷ TooManyUses ∷ []
 
 -- the number of a version
 abbrev pub version_number : ℕ → ℕ → ℕ → ℕ

@@ -1,6 +1,7 @@
 //! The numbers by which kinds, faults and statuses are told.
-ghost use Rattle.std.specs.Prelude.{◌≡◌};
-ghost use Rattle.xc_c.specs.Numbers.{fault_number, numbered_kind};
+ghost use Rattle.std.specs.Prelude.{◌≡◌, Some};
+ghost use Rattle.xc_input.specs.Problem.{numbered_get};
+ghost use Rattle.xc_c.specs.Numbers.{faults, numbered_kind};
 ghost use Rattle.xc_c.specs.inner.Statuses.{error_status};
 
 use xc_input::{FaultKind, InputError, Kind};
@@ -32,7 +33,7 @@ pub(crate) fn numbered_kind(number: u32) -> Option<Kind>
 
 /// The number of a fault.
 pub(crate) fn fault_number(fault: FaultKind) -> u32
-    ensures { result ≡ fault_number fault }
+    ensures { numbered_get faults result ≡ Some fault }
 {
     match fault {
         FaultKind::NoItems => 1,
