@@ -4,6 +4,7 @@ pub mod Digits
 pub mod OutputLemmas
 pub mod NextPrinted
 pub mod Outputs
+pub mod PageLemmas
 pub mod PartWordLemmas
 pub mod Planned
 pub mod TextLemmas

@@ -5,6 +5,7 @@ pub mod CoverCounts
 pub mod Ends
 pub mod Layout
 pub mod OptionIndex
+pub mod Pages
 pub mod PartsBelow
 pub mod SeenLines
 pub mod LineParts

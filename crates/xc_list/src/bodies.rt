@@ -1,14 +1,16 @@
 //! Options as they are printed, laid out before the search.
-ghost use Rattle.std.specs.Prelude.{◌≡◌, ◌<◌, ◌≤◌, ◌^◌, [], ◌∷◌, ◌++◌, ◌-◌, ◌==◌, min, length, take, All, IfSome, IfOk};
-ghost use Rattle.std.specs.Prelude.{OnOk, OnErr, IsTrue, flat_map};
+ghost use Rattle.std.specs.Prelude.{◌≡◌, ◌<◌, ◌≤◌, ◌^◌, [], ◌∷◌, ◌++◌, ◌-◌, ◌==◌, min, length, take, drop, All};
+ghost use Rattle.std.specs.Prelude.{IfSome, IfOk};
+ghost use Rattle.std.specs.Prelude.{◌+◌, OnOk, OnErr, IsTrue, IsNone, flat_map};
 ghost use Rattle.std.specs.List.{position_or_len};
 ghost use Rattle.xc_input.specs.Problem.{uses_of, IsOption};
 ghost use Rattle.xc_input.specs.Named.{IsKnownUse};
 ghost use Rattle.xc_list.specs.Texts.{Writes};
 ghost use Rattle.xc_list.specs.Output.{from_item};
 ghost use Rattle.xc_list.specs.inner.LineParts.{use_text};
-ghost use Rattle.xc_list.specs.inner.Layout.{AreLaid, uses_text};
+ghost use Rattle.xc_list.specs.inner.Layout.{AreLaid, ArePadded, uses_text};
 
+use crate::page::{ROOM, put_part};
 use crate::sink::{Sink, Tray};
 use crate::uses::{colour_of, name_of, uses_at, write_option, write_uses};
 use crate::write::{SinkFault, write_all};
@@ -100,40 +102,89 @@ fn add_option(
     }
 }
 
+/// How many bytes stand behind the texts, so that a short one can be read at once.
+const PADDING: usize = 16;
+
 /// The texts of a problem's options, if there is memory for them.
 fn lay_out(alloc: Global, problem: &Problem) -> Result<Layout, Memory>
-    ensures { IfOk result (λ l. AreLaid problem.now problem.now.puzzle.options l.texts.items l.starts.items) }
+    ensures { IfOk result (λ l. ArePadded problem.now problem.now.puzzle.options l.texts.items l.starts.items) }
 {
-    let mut texts = Tray::new(alloc, usize::MAX, total_length(problem), false)?;
+    let room = total_length(problem).saturating_add(PADDING);
+    let mut tray = Tray::new(alloc, usize::MAX, room, false)?;
     let mut starts = Vec::with_capacity(alloc, problem.options() as usize + 1)?;
     let Ok(()) = starts.push(0) else {
         return Err(Memory);
     };
     for o in 0..problem.options() {
-        add_option(problem, problem.option(o + 1), &mut texts, &mut starts)?;
+        add_option(problem, problem.option(o + 1), &mut tray, &mut starts)?;
     }
-    Ok(Layout {
-        texts: texts.into_bytes(),
-        starts,
-    })
+    let mut texts = tray.into_bytes();
+    texts.extend_from_slice(&[0; PADDING])?;
+    Ok(Layout { texts, starts })
+}
+
+/// Where the text of an option stands among the texts, and how long it is.
+#[inline(always)]
+fn span_of(problem: &Problem, layout: &Layout, o: u32) -> (usize, usize)
+    requires laid { ArePadded problem.now problem.now.puzzle.options layout.now.texts.items layout.now.starts.items }
+    requires known { IsOption problem.now.puzzle o }
+    ensures text { take result.1 (drop result.0 layout.now.texts.items)
+        ≡ uses_text problem.now (uses_of problem.now.puzzle o) }
+    ensures within { result.0 + result.1 + 16 ≤ length layout.now.texts.items }
+    ensures few { result.0 + result.1 < 2 ^ 32 }
+{
+    let from = layout.starts[o as usize - 1] as usize;
+    let to = layout.starts[o as usize] as usize;
+    (from, to - from)
 }
 
 /// The text of an option.
 #[inline(always)]
 fn text_of<'a>(problem: &Problem, layout: &'a Layout, o: u32) -> &'a [u8]
-    requires laid { AreLaid problem.now problem.now.puzzle.options layout.now.texts.items layout.now.starts.items }
+    requires laid { ArePadded problem.now problem.now.puzzle.options layout.now.texts.items layout.now.starts.items }
     requires known { IsOption problem.now.puzzle o }
     ensures { result.now ≡ uses_text problem.now (uses_of problem.now.puzzle o) }
 {
-    let from = layout.starts[o as usize - 1] as usize;
-    let to = layout.starts[o as usize] as usize;
-    &layout.texts[from..to]
+    let (from, count) = span_of(problem, layout, o);
+    &layout.texts[from..from + count]
+}
+
+/// Puts the text of an option on a page, cut before an item's use, the part behind the cut first; none
+/// where there is no room for it and a little more.
+#[inline(always)]
+fn put_text(
+    problem: &Problem,
+    layout: &Layout,
+    item: u32,
+    o: u32,
+    page: &mut [u8],
+    at: usize,
+) -> Option<usize>
+    requires laid { ArePadded problem.now problem.now.puzzle.options layout.now.texts.items layout.now.starts.items }
+    requires known { IsOption problem.now.puzzle o }
+    requires room { (at ≤ 4096) × (length page.old ≡ 4096) }
+    ensures put { IfSome result (λ to. take to page.new ≡ take at page.old
+        ++ flat_map (use_text problem.now) (from_item item (uses_of problem.now.puzzle o))) }
+    ensures end { IfSome result (λ to. (at ≤ to) × (to + 16 ≤ 4096)) }
+    ensures none { IsNone result → page.new ≡ page.old }
+    ensures size { length page.new ≡ 4096 }
+{
+    let (from, count) = span_of(problem, layout, o);
+    if at + count + 16 > ROOM {
+        return None;
+    }
+    let place = place_in_text(problem, uses_at(problem, o), item);
+    put_part(page, at, &layout.texts, from + place, count - place);
+    if place > 0 {
+        put_part(page, at + (count - place), &layout.texts, from, place);
+    }
+    Some(at + count)
 }
 
 /// The text of an option, cut before an item's use.
 #[inline(always)]
 fn cut_text<'a>(problem: &Problem, layout: &'a Layout, item: u32, o: u32) -> (&'a [u8], &'a [u8])
-    requires laid { AreLaid problem.now problem.now.puzzle.options layout.now.texts.items layout.now.starts.items }
+    requires laid { ArePadded problem.now problem.now.puzzle.options layout.now.texts.items layout.now.starts.items }
     requires known { IsOption problem.now.puzzle o }
     ensures { flat_map (use_text problem.now) (from_item item (uses_of problem.now.puzzle o)) ≡ result.1.now ++
         result.0.now }
@@ -153,14 +204,14 @@ pub struct Bodies<'a> {
 impl<'a> Model for Bodies<'a> {
     ghost use Rattle.std.specs.Prelude.{IfSome};
     ghost use Rattle.xc_input.specs.Named.{Named};
-    ghost use Rattle.xc_list.specs.inner.Layout.{AreLaid};
+    ghost use Rattle.xc_list.specs.inner.Layout.{ArePadded};
 
     ghost Value = { Named };
 
     ghost view = { λ b. b.problem.now };
 
     ghost invariant = { λ b. IfSome b.layout (λ l.
-        AreLaid b.problem.now b.problem.now.puzzle.options l.texts.items l.starts.items) };
+        ArePadded b.problem.now b.problem.now.puzzle.options l.texts.items l.starts.items) };
 }
 
 impl<'a> Bodies<'a> {
@@ -189,6 +240,24 @@ impl<'a> Bodies<'a> {
         ensures { result.now ≡ self.now }
     {
         self.problem
+    }
+
+    /// Puts an option's uses on a page, cyclically from an item's; none where they aren't laid out, or
+    /// there is no room for them and a little more.
+    #[inline(always)]
+    pub fn put_option(&self, item: u32, o: u32, page: &mut [u8], at: usize) -> Option<usize>
+        requires known { IsOption self.now.puzzle o }
+        requires room { (at ≤ 4096) × (length page.old ≡ 4096) }
+        ensures put { IfSome result (λ to. take to page.new ≡ take at page.old
+            ++ flat_map (use_text self.now) (from_item item (uses_of self.now.puzzle o))) }
+        ensures end { IfSome result (λ to. (at ≤ to) × (to + 16 ≤ 4096)) }
+        ensures none { IsNone result → page.new ≡ page.old }
+        ensures size { length page.new ≡ 4096 }
+    {
+        match &self.layout {
+            Some(layout) => put_text(self.problem, layout, item, o, page, at),
+            None => None,
+        }
     }
 
     /// Writes an option's uses, cyclically from an item's.

@@ -19,6 +19,7 @@ mod flushes;
 pub mod laws;
 mod line;
 mod messages;
+mod page;
 mod part_words;
 mod planning;
 mod print;

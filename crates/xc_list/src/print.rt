@@ -1,12 +1,15 @@
 //! Solutions as text.
-ghost use Rattle.std.specs.Prelude.{◌≡◌, ◌<◌, ◌≤◌, ◌++◌, All, flat_map, OnErr, IsTrue, codes};
+ghost use Rattle.std.specs.Prelude.{◌≡◌, ◌+◌, ◌<◌, ◌≤◌, ◌++◌, All, flat_map, OnErr, IsTrue, codes, length, take, drop};
+ghost use Rattle.std.specs.Prelude.{IfOk, IfSome, IsNone, MatchResult};
 ghost use Rattle.xc_list.specs.Texts.{Writes};
 ghost use Rattle.xc_input.specs.Problem.{IsItem};
 ghost use Rattle.xc_list.specs.Output.{bytes_at, body_text, choice_text, member_text};
 ghost use Rattle.xc_list.specs.inner.LineParts.{branch_text};
+ghost use Rattle.xc_list.specs.inner.Pages.{IsPut, held_text};
 ghost use Rattle.xc_list.specs.Known.{IsKnownChoice};
 
 use crate::bodies::Bodies;
+use crate::page::{Held, put_bytes, put_header};
 use crate::sink::Sink;
 use crate::uses::write_name;
 use crate::write::{SinkFault, write_all, write_number, write_numbered};
@@ -165,6 +168,157 @@ pub fn write_member<S: Sink>(
     write_number(sink, number)?;
     write_all(sink, b":\n")?;
     write_choices(bodies, choices, sink)
+}
+
+/// Puts branch and number of branches on a page, to the end of the line, where the branch has one digit
+/// or two and the number two; none else.
+#[inline(never)]
+fn put_long_branch(page: &mut [u8], at: usize, k: u32, n: u32) -> Option<usize>
+    requires { at + 16 ≤ length page.old }
+    ensures put { IfSome result (λ to. take to page.new ≡ take at page.old ++ branch_text k n) }
+    ensures end { IfSome result (λ to. (at ≤ to) × (to ≤ at + 16)) }
+    ensures none { IsNone result → page.new ≡ page.old }
+    ensures size { length page.new ≡ length page.old }
+{
+    if 10 <= n && n < 100 {
+        if k < 10 {
+            put_bytes(page, at, &digit_of_two_digits(k as u8, n as u8));
+            return Some(at + 11);
+        }
+        if k < 100 {
+            put_bytes(page, at, &two_digits_of_two_digits(k as u8, n as u8));
+            return Some(at + 12);
+        }
+    }
+    None
+}
+
+/// Puts branch and number of branches on a page, to the end of the line, unless one has three digits
+/// or more.
+#[inline(always)]
+fn put_branch(page: &mut [u8], at: usize, k: u32, n: u32) -> Option<usize>
+    requires { at + 16 ≤ length page.old }
+    ensures put { IfSome result (λ to. take to page.new ≡ take at page.old ++ branch_text k n) }
+    ensures end { IfSome result (λ to. (at ≤ to) × (to ≤ at + 16)) }
+    ensures none { IsNone result → page.new ≡ page.old }
+    ensures size { length page.new ≡ length page.old }
+{
+    if k < 10 && n < 10 {
+        put_bytes(page, at, &digit_of_digit(k as u8, n as u8));
+        return Some(at + 10);
+    }
+    put_long_branch(page, at, k, n)
+}
+
+/// Puts the line of a choice on a page, if it is one that takes an option and there is room for it.
+#[inline(always)]
+fn put_choice(bodies: &Bodies, choice: &Choice, page: &mut [u8], at: usize) -> Option<usize>
+    requires known { IsKnownChoice bodies.now.puzzle choice.now }
+    requires room { (at ≤ 4096) × (length page.old ≡ 4096) }
+    ensures put { IfSome result (λ to. take to page.new ≡ take at page.old ++ choice_text bodies.now choice.now) }
+    ensures end { IfSome result (λ to. (at ≤ to) × (to ≤ 4096)) }
+    ensures none { IsNone result → take at page.new ≡ take at page.old }
+    ensures size { length page.new ≡ 4096 }
+{
+    let Some(o) = choice.option else {
+        return None;
+    };
+    match bodies.put_option(choice.item, o, page, at) {
+        Some(to) => put_branch(page, to, choice.k, choice.n),
+        None => None,
+    }
+}
+
+/// Writes what a page holds and the line of a choice.
+#[inline(never)]
+fn write_past<S: Sink>(
+    bodies: &Bodies,
+    choice: &Choice,
+    page: &[u8],
+    held: Held,
+    sink: &mut S,
+) -> Result<(), SinkFault>
+    requires known { IsKnownChoice bodies.now.puzzle choice.now }
+    requires within { (held.from ≤ held.to) × (held.to ≤ length page.now) }
+    ensures { Writes (S.state sink.old) (S.state sink.new)
+        result (held_text page.now held.from held.to ++ choice_text bodies.now choice.now) }
+{
+    write_all(sink, &page[held.from..held.to])?;
+    write_choice(bodies, choice, sink)
+}
+
+/// Puts the line of a choice behind what a page holds, or writes both.
+#[inline(always)]
+fn put_line<S: Sink>(
+    bodies: &Bodies,
+    choice: &Choice,
+    page: &mut [u8],
+    held: Held,
+    sink: &mut S,
+) -> Result<Held, SinkFault>
+    requires known { IsKnownChoice bodies.now.puzzle choice.now }
+    requires size { length page.old ≡ 4096 }
+    requires within { (held.from ≤ held.to) × (held.to ≤ 4096) }
+    ensures put { IsPut (S.state sink.old) (S.state sink.new) (held_text page.old held.from held.to)
+        result page.new (choice_text bodies.now choice.now) }
+    ensures within { IfOk result (λ h. (h.from ≤ h.to) × (h.to ≤ 4096)) }
+    ensures size { length page.new ≡ 4096 }
+{
+    if let Some(to) = put_choice(bodies, choice, page, held.to) {
+        return Ok(Held {
+            from: held.from,
+            to,
+        });
+    }
+    write_past(bodies, choice, page, held, sink)?;
+    Ok(Held { from: 0, to: 0 })
+}
+
+/// Puts the lines of choices behind what a page holds.
+#[inline(always)]
+fn put_lines<S: Sink>(
+    bodies: &Bodies,
+    choices: &[Choice],
+    page: &mut [u8],
+    start: Held,
+    sink: &mut S,
+) -> Result<Held, SinkFault>
+    requires known { All (IsKnownChoice bodies.now.puzzle) choices.now }
+    requires size { length page.old ≡ 4096 }
+    requires within { (start.from ≤ start.to) × (start.to ≤ 4096) }
+    ensures put { IsPut (S.state sink.old) (S.state sink.new) (held_text page.old start.from start.to)
+        result page.new (flat_map (choice_text bodies.now) choices.now) }
+    ensures within { IfOk result (λ h. (h.from ≤ h.to) × (h.to ≤ 4096)) }
+    ensures size { length page.new ≡ 4096 }
+{
+    let mut held = start;
+    for choice in choices {
+        let next = put_line(bodies, choice, page, held, sink)?;
+        held = next;
+    }
+    Ok(held)
+}
+
+/// Writes a solution as `write_member` does, but puts its lines together on a page and lets the sink
+/// take them at once.
+// Out of line: among the search's values too few would be left in registers.
+#[inline(never)]
+pub fn write_by_page<S: Sink>(
+    number: u64,
+    choices: &[Choice],
+    bodies: &Bodies,
+    page: &mut [u8],
+    sink: &mut S,
+) -> Result<(), SinkFault>
+    requires known { All (IsKnownChoice bodies.now.puzzle) choices.now }
+    requires size { length page.old ≡ 4096 }
+    ensures written { Writes (S.state sink.old) (S.state sink.new)
+        result (member_text bodies.now (number, choices.now)) }
+    ensures size { length page.new ≡ 4096 }
+{
+    let header = put_header(page, number);
+    let held = put_lines(bodies, choices, page, header, sink)?;
+    write_all(sink, &page[held.from..held.to])
 }
 
 /// Writes a solution: its number, and a line for each choice.

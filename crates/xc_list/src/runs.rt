@@ -1,5 +1,6 @@
 //! A run over a search.
-ghost use Rattle.std.specs.Prelude.{◌≡◌, ℕ, ◌+◌, ◌-◌, ◌<◌, ◌≤◌, false, [], All, IfOk, IsTrue, MatchResult, OnErr};
+ghost use Rattle.std.specs.Prelude.{◌≡◌, ℕ, ◌+◌, ◌-◌, ◌<◌, ◌≤◌, false, [], All, IfOk, IsTrue, MatchResult};
+ghost use Rattle.std.specs.Prelude.{OnErr, length};
 ghost use Rattle.xc_list.specs.Texts.{Writes, Took};
 ghost use Rattle.xc_search.specs.Cover.{members, EachMemberCovers, EachCoverIsListedOnce};
 ghost use Rattle.xc_search.specs.Room.{room_for};
@@ -10,7 +11,8 @@ ghost use Rattle.xc_list.specs.inner.Ends.{printed_text, WentTo};
 ghost use Rattle.xc_dance.specs.Same.{IsSame};
 
 use crate::bodies::Bodies;
-use crate::print::write_member;
+use crate::page::ROOM;
+use crate::print::write_by_page;
 use crate::sink::Sink;
 use crate::words::Words;
 use crate::write::SinkFault;
@@ -54,14 +56,17 @@ fn write_printed<S: Sink>(
     number: u64,
     choices: &[Choice],
     bodies: &Bodies,
+    page: &mut [u8],
     sink: &mut S,
 ) -> Result<(), SinkFault>
-    requires { All (IsKnownChoice bodies.now.puzzle) choices.now }
-    ensures { Writes (S.state sink.old) (S.state sink.new)
+    requires known { All (IsKnownChoice bodies.now.puzzle) choices.now }
+    requires size { length page.old ≡ 4096 }
+    ensures written { Writes (S.state sink.old) (S.state sink.new)
         result (printed_text bodies.now spacing (number, choices.now)) }
+    ensures size { length page.new ≡ 4096 }
 {
     if is_printed(spacing, number) {
-        write_member(number, choices, bodies, sink)
+        write_by_page(number, choices, bodies, page, sink)
     } else {
         Ok(())
     }
@@ -97,6 +102,7 @@ fn write_members<'a, D: Dance, S: Sink>(
     ensures run { IsRun bodies.now words.now.spacing words.now.limit
         (S.state sink.old) (S.state sink.new) result }
 {
+    let mut page = [0; ROOM];
     let mut found = 0;
     while found < words.limit {
         let steps = steps_to_printed(words.spacing, found, words.limit);
@@ -105,7 +111,14 @@ fn write_members<'a, D: Dance, S: Sink>(
             return End::Done(found + passed);
         }
         let number = found + steps;
-        match write_printed(words.spacing, number, search.choices(), bodies, sink) {
+        match write_printed(
+            words.spacing,
+            number,
+            search.choices(),
+            bodies,
+            &mut page,
+            sink,
+        ) {
             Ok(()) => {}
             Err(_) => return End::WriteFailed(number),
         }

@@ -1,8 +1,10 @@
 -- Texts of options laid out one behind another.
 use Rattle.std.proofs.Math.Seq.{take-append_seam}
+use Rattle.std.proofs.lemmas.List.{drop-append-le, take-append-le, drop-take, drop-drop, take-take, length-take}
 use Rattle.xc_list.specs.inner.LineParts.{use_text}
 use Rattle.std.proofs.Common.{ℕ, zero, suc, ◌≡◌, ◌+◌, ◌-◌, ◌<◌, ◌≤◌, List, [], ◌∷◌, ◌++◌, length, map, take, drop}
-use Rattle.std.proofs.Common.{get_or, Some, refl, sym, ap, ap₂, ◌∙◌, arith, length-append}
+use Rattle.std.proofs.Common.{get_or, Some, refl, sym, ap, ap₂, ◌∙◌, arith, subst, length-append, length-drop}
+use Rattle.std.proofs.Common.{append_assoc, append-nil}
 use Rattle.std.specs.Prelude.{◌==◌, flat_map, slice_range, unwrap_or}
 use Rattle.std.specs.List.{position_or_len}
 use Rattle.std.proofs.lemmas.Grind.{common_steps}
@@ -14,7 +16,7 @@ use Rattle.xc_input.proofs.FaultLemmas.Checks.{map-length, map-snoc}
 use Rattle.xc_input.proofs.OptionLemmas.FlatParts.{length-pieces, option_part, pieces-snoc}
 use Rattle.xc_list.specs.Output.{from_item}
 use Rattle.xc_list.proofs.Writing.{flat_map-parts}
-use Rattle.xc_list.specs.inner.Layout.{AreLaid, uses_text}
+use Rattle.xc_list.specs.inner.Layout.{AreLaid, ArePadded, uses_text}
 
 -- as many starts as options, and the length
 pub laid-count : (a : Named) (os : List (List Use)) (texts starts : List ℕ) → AreLaid a os texts starts
@@ -110,3 +112,72 @@ laid_more a os us texts more (x ∷ starts) n l e f =
 
 pub length-same : (xs ys : List ℕ) → Some xs ≡ Some ys → length ys ≡ length xs
 length-same xs ys e = (let f : xs ≡ ys = cc e in ap length (sym f))
+
+front_part : (laid padding : List ℕ) (x y : ℕ) → x ≤ y → y ≤ length laid
+    → take (y - x) (drop x (laid ++ padding)) ≡ take (y - x) (drop x laid)
+front_part laid padding x y h l =
+    let within : y - x ≤ length (drop x laid) = omega (arith, length-drop x laid, h, l) in
+    ap (take (y - x)) (drop-append-le x laid padding (omega (arith, h, l)))
+    ∙ take-append-le (y - x) (drop x laid) padding within
+
+-- the text between two starts that were read, where 16 bytes more stand behind the texts
+pub padded_part : (a : Named) (os : List (List Use)) (texts starts : List ℕ) (o x y : ℕ) → ArePadded a os texts starts
+    → (1 ≤ o) × (o ≤ length os) → x ≡ get_or starts (o - 1) x → y ≡ get_or starts o y
+    → (x ≤ y) × (y + 16 ≤ length texts)
+    × (take (y - x) (drop x texts) ≡ uses_text a (unwrap_or (numbered_get os o) []))
+padded_part a os texts starts o x y p known e f =
+    let part = laid_part a os p.laid starts o x y p.are_laid known e f in (
+      part.0,
+      omega (arith, part.1, p.long, ap length p.whole, length-append p.laid p.padding),
+      ap (λ ts. take (y - x) (drop x ts)) p.whole ∙ front_part p.laid p.padding x y part.0 part.1 ∙ part.2,
+    )
+
+span-length : (texts : List ℕ) (from count : ℕ) → from + count + 16 ≤ length texts
+    → length (take count (drop from texts)) ≡ count
+span-length texts from count h = omega (arith, length-take count (drop from texts), length-drop from texts, h)
+
+-- where an item's use starts in a text is within it
+pub cut_in_span : (a : Named) (item : ℕ) (us all : List Use) (texts : List ℕ) (from count place : ℕ) → us ≡ all
+    → take count (drop from texts) ≡ uses_text a all
+    → place ≡ length (uses_text a (take (position_or_len (λ u. u.item == item) us) us))
+    → from + count + 16 ≤ length texts → place ≤ count
+cut_in_span a item us all texts from count place e f at h =
+    let within = cut_within a item us all (take count (drop from texts)) place e f at in
+    omega (arith, within, span-length texts from count h)
+
+-- nothing is put where nothing stands before the cut
+pub nothing_put : (page texts : List ℕ) (n place : ℕ) → place ≤ 0
+    → take (n + place) page ≡ take n page ++ take place texts
+nothing_put page texts n place h =
+    let none : place ≡ 0 = omega (arith, h) in
+    let same : n + 0 ≡ n = omega arith in
+    subst (λ k. take (n + k) page ≡ take n page ++ take k texts) (sym none)
+    (ap (λ k. take k page) same ∙ sym (append-nil (take n page)))
+
+-- the part behind the cut is put on a page, and then the part before it
+pub text_put : (a : Named) (item : ℕ) (us all : List Use) (texts page one two : List ℕ) (at from count place : ℕ)
+    → us ≡ all → take count (drop from texts) ≡ uses_text a all
+    → place ≡ length (uses_text a (take (position_or_len (λ u. u.item == item) us) us))
+    → from + count + 16 ≤ length texts
+    → take (at + (count - place)) one ≡ take at page ++ take (count - place) (drop (from + place) texts)
+    → take (at + (count - place) + place) two ≡ take (at + (count - place)) one ++ take place (drop from texts)
+    → take (at + count) two ≡ take at page ++ flat_map (use_text a) (from_item item all)
+text_put a item us all texts page one two at from count place e f there h first second =
+    let within : place ≤ count = cut_in_span a item us all texts from count place e f there h in
+    let text : List ℕ = take count (drop from texts) in
+    let before : take place (drop from texts) ≡ take place text =
+    sym (take-take place count (drop from texts) within) in
+    let sum : place + (count - place) ≡ count = omega (arith, within) in
+    let behind : take (count - place) (drop (from + place) texts) ≡ drop place text =
+    ap (take (count - place)) (sym (drop-drop place from texts))
+    ∙ sym (drop-take place (count - place) (drop from texts))
+    ∙ ap (λ n. drop place (take n (drop from texts))) sum in
+    let turned =
+    cut_gives a item us all text (take place (drop from texts)) (take (count - place) (drop (from + place) texts)) place
+    e f there before behind in
+    let end : at + (count - place) + place ≡ at + count = omega (arith, within) in
+    ap (λ n. take n two) (sym end)
+    ∙ second
+    ∙ ap (λ t. t ++ take place (drop from texts)) first
+    ∙ append_assoc (take at page) (take (count - place) (drop (from + place) texts)) (take place (drop from texts))
+    ∙ ap (λ t. take at page ++ t) (sym turned)

@@ -1,5 +1,5 @@
 -- No public clause cites this module. The texts of options laid out one behind another.
-use Rattle.std.specs.Prelude.{ℕ, ◌≡◌, List, length, map, flat_map}
+use Rattle.std.specs.Prelude.{ℕ, ◌≡◌, ◌≤◌, List, ◌++◌, length, map, flat_map}
 use Rattle.xc_list.specs.inner.LineParts.{use_text}
 use Rattle.xc_input.specs.declared.problem.Use.{Use}
 use Rattle.xc_input.specs.inner.Flat.{pieces, AreStarts}
@@ -13,3 +13,11 @@ uses_text a us = flat_map (use_text a) us
 pub record AreLaid (a : Named) (options : List (List Use)) (texts starts : List ℕ) : Type 0 where
   pub rising : AreStarts starts (length texts)
   pub parts : pieces starts texts ≡ map (uses_text a) options
+
+-- the same with at least 16 bytes behind the texts, so that each of them can be read by 16 bytes
+pub record ArePadded (a : Named) (options : List (List Use)) (texts starts : List ℕ) : Type 0 where
+  pub laid : List ℕ
+  pub padding : List ℕ
+  pub long : 16 ≤ length padding
+  pub whole : texts ≡ laid ++ padding
+  pub are_laid : AreLaid a options laid starts

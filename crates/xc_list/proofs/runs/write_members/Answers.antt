@@ -22,9 +22,9 @@ at g c enough =
     c.steps_to_printed-steps.ensures.some (omega (arith, enough, c.pass-passed.ensures.count, had))
     c.steps_to_printed-steps.ensures.silent
 
-pub write_printed-requires : goal.write_printed-requires
-write_printed-requires g c =
-    let to = at g (goal.at.write_printed-requires g c).After-pass-passed c.if-passed-steps.false in
+pub write_printed-requires-clause-known : goal.write_printed-requires-clause-known
+write_printed-requires-clause-known g c =
+    let to = at g (goal.at.write_printed-requires-clause-known g c).After-pass-passed c.if-passed-steps.false in
     All-same (IsKnownChoice c.args.bodies.now.puzzle) c.choices.result.now c.pass-passed.new.self.shown
     c.choices.ensures
     (known_next c.args.bodies.now.puzzle (c.loop-found.found + (c.steps_to_printed-steps.result - 1)) _ _ to.next)
@@ -35,7 +35,7 @@ returns-in-Err-clause-run g c =
     let steps = c.steps_to_printed-steps.ensures in
     stops c.args.bodies.now c.args.words.now.spacing c.args.words.now.limit c.loop-found.found
     c.steps_to_printed-steps.result c.pass-passed.new.self c.choices.result.now _ _ _
-    to c.choices.ensures steps.some steps.within c.loop-found.invariant.taken c.in-Err.ensures
+    to c.choices.ensures steps.some steps.within c.loop-found.invariant.taken c.in-Err.ensures.written
 
 pub returns-in-Err-clause-went : goal.returns-in-Err-clause-went
 returns-in-Err-clause-went g c =
@@ -83,5 +83,5 @@ loop-found-preserved g c =
       below = steps.within;
       taken =
           takes a spacing c.loop-found.found c.steps_to_printed-steps.result c.pass-passed.new.self c.choices.result.now
-          _ _ _ to c.choices.ensures steps.some c.loop-found.invariant.taken c.in-Ok.ensures;
+          _ _ _ to c.choices.ensures steps.some c.loop-found.invariant.taken c.in-Ok.ensures.written;
     }

@@ -1,0 +1,142 @@
+-- A text that is put together on a page.
+use Rattle.std.proofs.Common.{◌≡◌, ℕ, ◌+◌, ◌-◌, ◌<◌, ◌≤◌, List, [], ◌++◌, length, take, drop, sym, ap, ◌∙◌, arith}
+use Rattle.std.proofs.Common.{subst, append-nil, append_assoc, ◌∷◌, get_or, decimal}
+use Rattle.std.proofs.Math.Seq.{drop-cons, take-append-add}
+use Rattle.std.proofs.lemmas.List.{drop-append-le, take-take, length-take, length-take-le, drop-set, drop-set-add}
+use Rattle.std.proofs.lemmas.Simd.{take_more_put_chunk, length-chunk}
+use Rattle.std.proofs.lemmas.Slice.{between_is}
+use Rattle.std.specs.Prelude.{slice_set}
+use lib.Lanes.{put_chunk, chunk}
+use Rattle.std.specs.Prelude.{Result, Ok, Err, IsErr, flat_map}
+use Rattle.xc_list.specs.Texts.{SinkState, Took, BrokeOff, Writes}
+use Rattle.xc_list.specs.inner.Pages.{Puts, IsPut, held_text}
+use Rattle.xc_list.specs.declared.page.Held.{Held}
+use Rattle.xc_list.proofs.Writing.{then_took, then_broke, took_nothing, broke_before, flat_map-parts}
+use Rattle.xc_list.proofs.Writing.{flat_map-take-more}
+
+-- a text put on the page is held behind what was held
+pub held_more : (page more text : List ℕ) (from to end : ℕ) → from ≤ to → to ≤ length page
+    → take end more ≡ take to page ++ text → held_text more from end ≡ held_text page from to ++ text
+held_more page more text from to end h l e =
+    let long : from ≤ length (take to page) = omega (arith, length-take to page, h, l) in
+    ap (drop from) e ∙ drop-append-le from (take to page) text long
+
+-- and the sink was not asked
+pub puts_held : (s : SinkState) (before after text : List ℕ) → after ≡ before ++ text → Puts s s before after text
+puts_held s before after text e = record { front = []; took = took_nothing s; whole = sym e }
+
+pub puts_nothing : (s : SinkState) (before : List ℕ) → Puts s s before before []
+puts_nothing s before = record { front = []; took = took_nothing s; whole = append-nil before }
+
+-- the sink took all
+pub puts_out : {a b : SinkState} {before text : List ℕ} → Took a b (before ++ text) → Puts a b before [] text
+puts_out {before = before} {text = text} t =
+    record { front = before ++ text; took = t; whole = sym (append-nil (before ++ text)) }
+
+pub then_puts : {a b c : SinkState} {x y z t u : List ℕ} → Puts a b x y t → Puts b c y z u → Puts a c x z (t ++ u)
+then_puts {x = x} {y = y} {z = z} {t = t} {u = u} p q = record {
+  front = p.front ++ q.front;
+  took = then_took p.took q.took;
+  whole =
+      sym (append_assoc x t u)
+      ∙ ap (λ w. w ++ u) p.whole
+      ∙ append_assoc p.front y u
+      ∙ ap (λ w. p.front ++ w) q.whole
+      ∙ sym (append_assoc p.front q.front z);
+}
+
+-- the sink broke off in what was held with a text behind it
+pub puts_broke : {a b c : SinkState} {x y t : List ℕ} (u : List ℕ) → Puts a b x y t → BrokeOff b c (y ++ u)
+    → BrokeOff a c (x ++ (t ++ u))
+puts_broke {a = a} {c = c} {x = x} {y = y} {t = t} u p q =
+    subst (BrokeOff a c)
+    (sym (append_assoc p.front y u) ∙ ap (λ w. w ++ u) (sym p.whole) ∙ append_assoc x t u)
+    (then_broke p.took q)
+
+-- a short part, put by one store of 16 bytes
+pub short_put : (page text : List ℕ) (at from count : ℕ) → count ≤ 16 → at + count + 16 ≤ length page
+    → from + count + 16 ≤ length text
+    → take (at + count) (put_chunk at page (chunk from 16 text)) ≡ take at page ++ take count (drop from text)
+short_put page text at from count few room long =
+    let piece : List ℕ = chunk from 16 text in
+    let put : List ℕ = put_chunk at page piece in
+    let m : length piece ≡ 16 = length-chunk from 16 text (omega (arith, long)) in
+    let whole : take (at + 16) put ≡ take at page ++ piece =
+    take_more_put_chunk at page piece (at + 16) (omega (arith, m)) (omega (arith, room)) in
+    let front : length (take at page) ≡ at = length-take-le at page (omega (arith, room)) in
+    let place : at + count ≡ length (take at page) + count = omega (arith, front) in
+    sym (take-take (at + count) (at + 16) put (omega (arith, few)))
+    ∙ ap (take (at + count)) whole
+    ∙ ap (λ n. take n (take at page ++ piece)) place
+    ∙ take-append-add (take at page) piece count
+    ∙ ap (λ t. take at page ++ t) (take-take count 16 (drop from text) few)
+
+colon_line : (page : List ℕ) → length page ≡ 4096
+    → take 2 (drop 20 (slice_set (slice_set page 20 58) 21 10)) ≡ 58 ∷ 10 ∷ []
+colon_line page size =
+    let a : drop 20 (slice_set (slice_set page 20 58) 21 10) ≡ slice_set (drop 20 (slice_set page 20 58)) 1 10 =
+    drop-set-add 20 (slice_set page 20 58) 1 10 in
+    let b : drop 20 (slice_set page 20 58) ≡ 58 ∷ drop 21 page = drop-set page 20 58 (omega (arith, size)) in
+    let d : drop 21 page ≡ get_or page 21 0 ∷ drop 22 page = drop-cons page 21 0 (omega (arith, size)) in
+    ap (take 2) (a ∙ ap (λ l. slice_set l 1 10) (b ∙ ap (λ l. 58 ∷ l) d))
+
+-- digits that end at the place of the colon
+pub header_held : (page put digits : List ℕ) (from : ℕ) → length page ≡ 4096 → from + length digits ≡ 20
+    → drop from put ≡ digits ++ drop 20 (slice_set (slice_set page 20 58) 21 10)
+    → held_text put from 22 ≡ digits ++ 58 ∷ 10 ∷ []
+header_held page put digits from size ends e =
+    let behind : List ℕ = drop 20 (slice_set (slice_set page 20 58) 21 10) in
+    let count : 22 - from ≡ length digits + 2 = omega (arith, ends) in
+    sym (between_is put from 22)
+    ∙ ap (take (22 - from)) e
+    ∙ ap (λ n. take n (digits ++ behind)) count
+    ∙ take-append-add digits behind 2
+    ∙ ap (λ t. digits ++ t) (colon_line page size)
+
+pub put_failed : {E : Type 0} (a b : SinkState) (before text page : List ℕ) (r : Result Held E) → IsErr r
+    → BrokeOff a b (before ++ text) → IsPut a b before r page text
+put_failed a b before text page (Ok h) is p = absurd (cc is)
+put_failed a b before text page (Err e) is p = p
+
+-- what a page held before a line that it did not take
+pub kept_text : {a b : SinkState} (page more text : List ℕ) (from to : ℕ) → take to more ≡ take to page
+    → BrokeOff a b (held_text more from to ++ text) → BrokeOff a b (held_text page from to ++ text)
+kept_text {a = a} {b = b} page more text from to e p = subst (λ t. BrokeOff a b (drop from t ++ text)) e p
+
+pub kept_out : {a b : SinkState} (page more text : List ℕ) (from to : ℕ) → take to more ≡ take to page
+    → Took a b (held_text more from to ++ text) → Puts a b (held_text page from to) [] text
+kept_out {a = a} {b = b} page more text from to e p =
+    puts_out (subst (λ t. Took a b (drop from t ++ text)) e p)
+
+-- one text more
+pub lines_put : {X : Type 0} {a b c : SinkState} {before held next : List ℕ} (f : X → List ℕ) (xs : List X) (i : ℕ)
+    (d : X) → i < length xs → Puts a b before held (flat_map f (take i xs)) → Puts b c held next (f (get_or xs i d))
+    → Puts a c before next (flat_map f (take (i + 1) xs))
+lines_put {a = a} {c = c} {before = before} {next = next} f xs i d h p q =
+    subst (Puts a c before next) (sym (flat_map-take-more f xs i d h)) (then_puts p q)
+
+pub lines_broke : {X : Type 0} {a b c : SinkState} {before held : List ℕ} (f : X → List ℕ) (xs : List X) (i : ℕ) (d : X)
+    → i < length xs → Puts a b before held (flat_map f (take i xs)) → BrokeOff b c (held ++ f (get_or xs i d))
+    → BrokeOff a c (before ++ flat_map f xs)
+lines_broke {a = a} {c = c} {before = before} f xs i d h p q =
+    let some : List ℕ = flat_map f (take i xs) ++ f (get_or xs i d) in
+    let rest : List ℕ = flat_map f (drop (i + 1) xs) in
+    let broke : BrokeOff a c ((before ++ some) ++ rest) = broke_before rest (puts_broke (f (get_or xs i d)) p q) in
+    subst (BrokeOff a c) (append_assoc before some rest ∙ ap (λ t. before ++ t) (sym (flat_map-parts f xs i d h))) broke
+
+pub lines_all : {X : Type 0} {a b : SinkState} {before held : List ℕ} (f : X → List ℕ) (xs : List X) (i : ℕ)
+    → take i xs ≡ xs → Puts a b before held (flat_map f (take i xs)) → Puts a b before held (flat_map f xs)
+lines_all {a = a} {b = b} {before = before} {held = held} f xs i all p =
+    subst (λ ys. Puts a b before held (flat_map f ys)) all p
+
+pub member_broke : {a b : SinkState} (head held lines : List ℕ) → held ≡ head → BrokeOff a b (held ++ lines)
+    → BrokeOff a b (head ++ lines)
+member_broke {a = a} {b = b} head held lines e p = subst (λ h. BrokeOff a b (h ++ lines)) e p
+
+-- what a page holds at last is written
+pub puts_writes : {E : Type 0} {a b : SinkState} (c : SinkState) (head before held piece lines : List ℕ)
+    (r : Result (Unit {0}) E) → before ≡ head → piece ≡ held → Puts a b before held lines → Writes b c r piece → Writes a c r (head ++ lines)
+puts_writes {a = a} {b = b} c head before held piece lines (Ok u) e f p w =
+    subst (Took a c) (sym p.whole ∙ ap (λ h. h ++ lines) e) (then_took p.took (subst (Took b c) f w))
+puts_writes {a = a} {b = b} c head before held piece lines (Err x) e f p w =
+    subst (BrokeOff a c) (sym p.whole ∙ ap (λ h. h ++ lines) e) (then_broke p.took (subst (BrokeOff b c) f w))

@@ -1,0 +1,23 @@
+use Rattle.std.proofs.Common.{arith, refl}
+use Rattle.xc_list.specs.Output.{choice_text}
+use Rattle.xc_list.specs.inner.Pages.{held_text}
+use Rattle.xc_list.proofs.PageLemmas.{held_more, kept_out, kept_text, puts_held, put_failed}
+use Rattle.xc_list.proofs.print.put_line.Goals as goal
+
+pub returns-in-Some-clause-put : goal.returns-in-Some-clause-put
+returns-in-Some-clause-put g c =
+    puts_held (g.S.Sink.state c.args.sink.now) _ _ _
+    (held_more c.args.page.now c.put_choice.new.page _ c.args.held.from c.args.held.to c.in-Some.to c.requires.within.0
+    (omega (arith, c.requires.within.1, c.requires.size)) c.in-Some.ensures.put)
+
+pub returns-in_err-write_past-clause-put : goal.returns-in_err-write_past-clause-put
+returns-in_err-write_past-clause-put g c =
+    put_failed _ _ (held_text c.args.page.now c.args.held.from c.args.held.to)
+    (choice_text c.args.bodies.now c.args.choice.now) _ c.from_residual.result c.from_residual.ensures.0
+    (kept_text c.args.page.now c.put_choice.new.page _ c.args.held.from c.args.held.to
+    (c.in_default.ensures.none refl) c.in_err-write_past.ensures)
+
+pub returns-clause-put : goal.returns-clause-put
+returns-clause-put g c =
+    kept_out c.args.page.now c.put_choice.new.page _ c.args.held.from c.args.held.to (c.in_default.ensures.none refl)
+    c.in_ok-write_past.ensures
