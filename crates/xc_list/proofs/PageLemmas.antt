@@ -1,6 +1,6 @@
 -- A text that is put together on a page.
 use Rattle.std.proofs.Common.{◌≡◌, ℕ, ◌+◌, ◌-◌, ◌<◌, ◌≤◌, List, [], ◌++◌, length, take, drop, sym, ap, ◌∙◌, arith}
-use Rattle.std.proofs.Common.{subst, append-nil, append_assoc, ◌∷◌, get_or, decimal}
+use Rattle.std.proofs.Common.{subst, append-nil, append_assoc, ◌∷◌, get_or}
 use Rattle.std.proofs.Math.Seq.{drop-cons, take-append-add}
 use Rattle.std.proofs.lemmas.List.{drop-append-le, take-take, length-take, length-take-le, drop-set, drop-set-add}
 use Rattle.std.proofs.lemmas.Simd.{take_more_put_chunk, length-chunk}
@@ -135,7 +135,8 @@ member_broke {a = a} {b = b} head held lines e p = subst (λ h. BrokeOff a b (h 
 
 -- what a page holds at last is written
 pub puts_writes : {E : Type 0} {a b : SinkState} (c : SinkState) (head before held piece lines : List ℕ)
-    (r : Result (Unit {0}) E) → before ≡ head → piece ≡ held → Puts a b before held lines → Writes b c r piece → Writes a c r (head ++ lines)
+    (r : Result (Unit {0}) E) → before ≡ head → piece ≡ held → Puts a b before held lines → Writes b c r piece
+    → Writes a c r (head ++ lines)
 puts_writes {a = a} {b = b} c head before held piece lines (Ok u) e f p w =
     subst (Took a c) (sym p.whole ∙ ap (λ h. h ++ lines) e) (then_took p.took (subst (Took b c) f w))
 puts_writes {a = a} {b = b} c head before held piece lines (Err x) e f p w =

@@ -1,6 +1,6 @@
 //! Options as they are printed, laid out before the search.
 ghost use Rattle.std.specs.Prelude.{◌≡◌, ◌<◌, ◌≤◌, ◌^◌, [], ◌∷◌, ◌++◌, ◌-◌, ◌==◌, min, length, take, drop, All};
-ghost use Rattle.std.specs.Prelude.{IfSome, IfOk};
+ghost use Rattle.std.specs.Prelude.{IfSome, IfOk, map};
 ghost use Rattle.std.specs.Prelude.{◌+◌, OnOk, OnErr, IsTrue, IsNone, flat_map};
 ghost use Rattle.std.specs.List.{position_or_len};
 ghost use Rattle.xc_input.specs.Problem.{uses_of, IsOption};
@@ -8,7 +8,7 @@ ghost use Rattle.xc_input.specs.Named.{IsKnownUse};
 ghost use Rattle.xc_list.specs.Texts.{Writes};
 ghost use Rattle.xc_list.specs.Output.{from_item};
 ghost use Rattle.xc_list.specs.inner.LineParts.{use_text};
-ghost use Rattle.xc_list.specs.inner.Layout.{AreLaid, ArePadded, uses_text};
+ghost use Rattle.xc_list.specs.inner.Layout.{AreLaid, ArePadded, first_item, uses_text};
 
 use crate::page::{ROOM, put_part};
 use crate::sink::{Sink, Tray};
@@ -19,11 +19,14 @@ use std::marker::Model;
 use xc_dance::Memory;
 use xc_input::{Problem, Use};
 
-/// The texts of options one behind another, with the places where they start and at last the length.
+/// The texts of options one behind another, with the places where they start and at last the length of
+/// all, and behind them a few bytes more.
 #[derive(Drop)]
 struct Layout {
     texts: Vec<u8>,
     starts: Vec<u32>,
+    /// The item of each option's first use.
+    firsts: Vec<u32>,
 }
 
 /// How long the text of a use is.
@@ -102,12 +105,44 @@ fn add_option(
     }
 }
 
+/// The item of an option's first use.
+fn first_of(uses: &[Use]) -> u32
+    ensures { result ≡ first_item uses.now }
+{
+    match uses {
+        [] => 0,
+        [first, ..] => first.item,
+    }
+}
+
+/// Notes the item of one more option's first use.
+fn add_first(uses: &[Use], firsts: &mut Vec<u32>) -> Result<(), Memory>
+    ensures { OnOk result (firsts.new.items ≡ firsts.old.items ++ first_item uses.now ∷ []) }
+{
+    match firsts.push(first_of(uses)) {
+        Ok(()) => Ok(()),
+        Err(_) => Err(Memory),
+    }
+}
+
+/// The items of all options' first uses.
+fn first_items(alloc: Global, problem: &Problem) -> Result<Vec<u32>, Memory>
+    ensures { IfOk result (λ firsts. firsts.items ≡ map first_item problem.now.puzzle.options) }
+{
+    let mut firsts = Vec::with_capacity(alloc, problem.options() as usize)?;
+    for o in 0..problem.options() {
+        add_first(problem.option(o + 1), &mut firsts)?;
+    }
+    Ok(firsts)
+}
+
 /// How many bytes stand behind the texts, so that a short one can be read at once.
 const PADDING: usize = 16;
 
 /// The texts of a problem's options, if there is memory for them.
 fn lay_out(alloc: Global, problem: &Problem) -> Result<Layout, Memory>
-    ensures { IfOk result (λ l. ArePadded problem.now problem.now.puzzle.options l.texts.items l.starts.items) }
+    ensures laid { IfOk result (λ l. ArePadded problem.now problem.now.puzzle.options l.texts.items l.starts.items) }
+    ensures firsts { IfOk result (λ l. l.firsts.items ≡ map first_item problem.now.puzzle.options) }
 {
     let room = total_length(problem).saturating_add(PADDING);
     let mut tray = Tray::new(alloc, usize::MAX, room, false)?;
@@ -118,9 +153,14 @@ fn lay_out(alloc: Global, problem: &Problem) -> Result<Layout, Memory>
     for o in 0..problem.options() {
         add_option(problem, problem.option(o + 1), &mut tray, &mut starts)?;
     }
+    let firsts = first_items(alloc, problem)?;
     let mut texts = tray.into_bytes();
     texts.extend_from_slice(&[0; PADDING])?;
-    Ok(Layout { texts, starts })
+    Ok(Layout {
+        texts,
+        starts,
+        firsts,
+    })
 }
 
 /// Where the text of an option stands among the texts, and how long it is.
@@ -161,6 +201,7 @@ fn put_text(
     at: usize,
 ) -> Option<usize>
     requires laid { ArePadded problem.now problem.now.puzzle.options layout.now.texts.items layout.now.starts.items }
+    requires firsts { layout.now.firsts.items ≡ map first_item problem.now.puzzle.options }
     requires known { IsOption problem.now.puzzle o }
     requires room { (at ≤ 4096) × (length page.old ≡ 4096) }
     ensures put { IfSome result (λ to. take to page.new ≡ take at page.old
@@ -172,6 +213,11 @@ fn put_text(
     let (from, count) = span_of(problem, layout, o);
     if at + count + 16 > ROOM {
         return None;
+    }
+    let first = layout.firsts[o as usize - 1];
+    if first == item {
+        put_part(page, at, &layout.texts, from, count);
+        return Some(at + count);
     }
     let place = place_in_text(problem, uses_at(problem, o), item);
     put_part(page, at, &layout.texts, from + place, count - place);
@@ -202,16 +248,19 @@ pub struct Bodies<'a> {
 }
 
 impl<'a> Model for Bodies<'a> {
-    ghost use Rattle.std.specs.Prelude.{IfSome};
+    ghost use Rattle.std.specs.Prelude.{◌≡◌, IfSome, map};
     ghost use Rattle.xc_input.specs.Named.{Named};
-    ghost use Rattle.xc_list.specs.inner.Layout.{ArePadded};
+    ghost use Rattle.xc_list.specs.inner.Layout.{ArePadded, first_item};
 
     ghost Value = { Named };
 
     ghost view = { λ b. b.problem.now };
 
-    ghost invariant = { λ b. IfSome b.layout (λ l.
-        ArePadded b.problem.now b.problem.now.puzzle.options l.texts.items l.starts.items) };
+    ghost invariant = { λ b. record {
+      laid : IfSome b.layout (λ l.
+          ArePadded b.problem.now b.problem.now.puzzle.options l.texts.items l.starts.items);
+      firsts : IfSome b.layout (λ l. l.firsts.items ≡ map first_item b.problem.now.puzzle.options);
+    } };
 }
 
 impl<'a> Bodies<'a> {

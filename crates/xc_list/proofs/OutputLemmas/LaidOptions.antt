@@ -4,10 +4,11 @@ use Rattle.std.proofs.lemmas.List.{drop-append-le, take-append-le, drop-take, dr
 use Rattle.xc_list.specs.inner.LineParts.{use_text}
 use Rattle.std.proofs.Common.{ℕ, zero, suc, ◌≡◌, ◌+◌, ◌-◌, ◌<◌, ◌≤◌, List, [], ◌∷◌, ◌++◌, length, map, take, drop}
 use Rattle.std.proofs.Common.{get_or, Some, refl, sym, ap, ap₂, ◌∙◌, arith, subst, length-append, length-drop}
-use Rattle.std.proofs.Common.{append_assoc, append-nil}
+use Rattle.std.proofs.Common.{eq-eqb, append_assoc, append-nil}
 use Rattle.std.specs.Prelude.{◌==◌, flat_map, slice_range, unwrap_or}
 use Rattle.std.specs.List.{position_or_len}
 use Rattle.std.proofs.lemmas.Grind.{common_steps}
+use Rattle.std.proofs.lemmas.List.Sums.{position_or_len_is}
 use Rattle.std.proofs.lemmas.List.Concat.{flat_map-append}
 use Rattle.xc_input.specs.declared.problem.Use.{Use}
 use Rattle.xc_input.specs.Problem.{numbered_get}
@@ -16,7 +17,7 @@ use Rattle.xc_input.proofs.FaultLemmas.Checks.{map-length, map-snoc}
 use Rattle.xc_input.proofs.OptionLemmas.FlatParts.{length-pieces, option_part, pieces-snoc}
 use Rattle.xc_list.specs.Output.{from_item}
 use Rattle.xc_list.proofs.Writing.{flat_map-parts}
-use Rattle.xc_list.specs.inner.Layout.{AreLaid, ArePadded, uses_text}
+use Rattle.xc_list.specs.inner.Layout.{AreLaid, ArePadded, first_item, uses_text}
 
 -- as many starts as options, and the length
 pub laid-count : (a : Named) (os : List (List Use)) (texts starts : List ℕ) → AreLaid a os texts starts
@@ -181,3 +182,33 @@ text_put a item us all texts page one two at from count place e f there h first 
     ∙ ap (λ t. t ++ take place (drop from texts)) first
     ∙ append_assoc (take at page) (take (count - place) (drop (from + place) texts)) (take place (drop from texts))
     ∙ ap (λ t. take at page ++ t) (sym turned)
+
+firsts-at : (os : List (List Use)) (j x : ℕ) → j < length os
+    → get_or (map first_item os) j x ≡ first_item (unwrap_or (numbered_get os (suc j)) [])
+firsts-at [] j x h = absurd (omega (arith, h))
+firsts-at (us ∷ os) zero x h = refl
+firsts-at (us ∷ os) (suc j) x h = firsts-at os j x (omega (arith, h))
+
+-- the item of an option's first use, as it was read
+pub first_read : (os : List (List Use)) (firsts : List ℕ) (o x : ℕ) → firsts ≡ map first_item os
+    → (1 ≤ o) × (o ≤ length os) → x ≡ get_or firsts (o - 1) x
+    → first_item (unwrap_or (numbered_get os o) []) ≡ x
+first_read os firsts o x e known at =
+    let o_is : suc (o - 1) ≡ o = omega (arith, known.0) in
+    let here : o - 1 < length os = omega (arith, known.0, known.1) in
+    sym (at
+    ∙ ap (λ fs. get_or fs (o - 1) x) e
+    ∙ firsts-at os (o - 1) x here
+    ∙ ap (λ n. first_item (unwrap_or (numbered_get os n) [])) o_is)
+
+-- from its first use's item on an option stands in file order
+pub from_first : (item : ℕ) (us : List Use) → first_item us ≡ item → from_item item us ≡ us
+from_first item [] e = refl
+from_first item (u ∷ us) e =
+    let at : position_or_len (λ v. v.item == item) (u ∷ us) ≡ 0 =
+    position_or_len_is (λ v. v.item == item) (u ∷ us) 0 (record { item = 0; colour = 0 }) (omega arith)
+    (λ k h. absurd (omega (arith, h))) (λ h. eq-eqb u.item item e) in
+    ap (λ n. drop n (u ∷ us) ++ take n (u ∷ us)) at ∙ append-nil (u ∷ us)
+
+pub firsts-length : (os : List (List Use)) (firsts : List ℕ) → firsts ≡ map first_item os → length firsts ≡ length os
+firsts-length os firsts e = ap length e ∙ map-length first_item os

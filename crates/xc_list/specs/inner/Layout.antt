@@ -1,5 +1,5 @@
 -- No public clause cites this module. The texts of options laid out one behind another.
-use Rattle.std.specs.Prelude.{ℕ, ◌≡◌, ◌≤◌, List, ◌++◌, length, map, flat_map}
+use Rattle.std.specs.Prelude.{ℕ, ◌≡◌, ◌≤◌, List, [], ◌∷◌, ◌++◌, length, map, flat_map}
 use Rattle.xc_list.specs.inner.LineParts.{use_text}
 use Rattle.xc_input.specs.declared.problem.Use.{Use}
 use Rattle.xc_input.specs.inner.Flat.{pieces, AreStarts}
@@ -21,3 +21,8 @@ pub record ArePadded (a : Named) (options : List (List Use)) (texts starts : Lis
   pub long : 16 ≤ length padding
   pub whole : texts ≡ laid ++ padding
   pub are_laid : AreLaid a options laid starts
+
+-- the item of an option's first use; 0 where it has none
+abbrev pub first_item : List Use → ℕ
+first_item [] = 0
+first_item (u ∷ us) = u.item
