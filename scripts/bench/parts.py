@@ -1,75 +1,129 @@
 #!/usr/bin/env python3
-"""parts.py PROGRAM PROBLEM N..: what a search in at least N parts costs beside the search in one, and how even it is.
+"""parts.py [--parts N] [--rounds K] [--core C] PROGRAM PROBLEM..: what a search in parts costs beside the search in one.
 
-Prints a row for each N, in processor seconds, but for the planning of three rounds the least: the whole, the parts and
-what cut the search, the planning, the sum over the parts divided by the whole, what of it as many starts of the program
-take, the least part, the median, and the greatest, with how many times the mean it is. Nothing is listed. The parts are
-run one behind another by this process, so a program's start is in their seconds, and the start of Python isn't. The
-number of solutions has to be that of the whole.
+For each problem the search is cut into at least N parts (1000), and K times (3), in turn, the whole is counted by its
+program, the parts in a row by one process of dlx-below, with the words that dlx-run gives it, all of them by dlx-run,
+and each by a process of its own. Printed is a row of processor seconds, each the least of its rounds: the whole, how
+many parts and what cut the search, the planning, the sum over the parts in a row divided by the whole, the least part
+of these, the median, and the greatest, with how many times the mean it is; then what dlx-run takes by itself for a
+part, and the sum over processes of their own divided by the whole. Nothing is listed. The numbers of solutions have to
+agree.
+
+A part is over where its line comes. So that the clock is read at once, and not while the next part is searched, all is
+bound to one core (the last), and this process goes before whatever else would run there, for which it has to be root's.
 """
 
+import argparse
 import os
 import statistics
 import subprocess
 import sys
 import tempfile
+import time
 
 TOP = os.path.dirname(os.path.dirname(os.path.dirname(os.path.abspath(__file__))))
 sys.path.insert(0, os.path.join(TOP, "python"))
 
 from helgrothy import parts, programs  # noqa: E402
+from helgrothy.parts.below import NAME, words_of_parts  # noqa: E402
 
-RUNS = 3
+FIRST = os.sched_param(1)
 
 
-def whole(program, text):
+def ended(process):
+    """The processor seconds of a process, whose status has to be 0."""
+    _, status, used = os.wait4(process.pid, 0)
+    process.returncode = status
+    assert status == 0, process.args[:3]
+    return used.ru_utime + used.ru_stime
+
+
+def whole(program, problem):
     """The processor seconds of a search in one, and its last line."""
-    with tempfile.TemporaryFile() as given:
-        given.write(text)
-        given.seek(0)
-        process = subprocess.Popen([programs.find(program)], stdin=given, stderr=subprocess.PIPE)
-        told = process.stderr.read().decode()
-        _, status, used = os.wait4(process.pid, 0)
-        process.returncode = status
-    assert status == 0, told
-    return used.ru_utime + used.ru_stime, told.splitlines()[-1]
+    with open(problem) as given:
+        process = subprocess.Popen([programs.find(program)], stdin=given, stderr=subprocess.PIPE, text=True)
+    with process.stderr as told:
+        last = told.read().splitlines()[-1]
+    return ended(process), last
 
 
-def part(folder, number):
-    """The processor seconds of a part."""
-    seconds = parts.run(folder, number, []).seconds
+def row(folder, problem, numbers):
+    """The processor seconds of parts in a row, and those that were over at each part's end, of the first one twice.
+
+    Before its first end lies the start of the process, too.
+    """
+    with open(problem) as given:
+        command = [programs.find(NAME), *words_of_parts(folder, numbers[:1] + numbers, [])]
+        process = subprocess.Popen(command, stdin=given, stdout=subprocess.PIPE, bufsize=0)
+    clock = (~process.pid << 3) | 2
+    ends = []
+    os.sched_setscheduler(0, os.SCHED_FIFO, FIRST)
+    with process.stdout as told:
+        while lines := told.read(1 << 16):
+            ends += [time.clock_gettime(clock)] * lines.count(b"\n")
+    os.sched_setscheduler(0, os.SCHED_OTHER, os.sched_param(0))
+    assert len(ends) == len(numbers) + 1
+    return ended(process) - (ends[1] - ends[0]), ends
+
+
+def by_command(folder):
+    """The processor seconds of dlx-run and its program over all parts."""
+    return ended(subprocess.Popen([sys.executable, "-m", "helgrothy.parts", "dlx-run", folder.path, "all"]))
+
+
+def by_itself(folder, number):
+    """The processor seconds and solutions of a part in a process of its own."""
     os.remove(folder.done(number))
-    return seconds
+    record = parts.run(folder, number, [])
+    return record.seconds, record.solutions
+
+
+def measure(program, problem, count, rounds):
+    with open(problem, "rb") as file:
+        text = file.read()
+    with tempfile.TemporaryDirectory() as top:
+        before = sum(os.times()[:4])
+        folder = parts.split(program, text, os.path.join(top, "parts"), count)
+        planning = sum(os.times()[:4]) - before
+        numbers = [part.number for part in folder.plan.parts]
+        runs = []
+        for _ in range(rounds):
+            total, told = whole(program, problem)
+            in_row, ends = row(folder, problem, numbers)
+            commanded = by_command(folder)
+            apart = [by_itself(folder, number) for number in numbers]
+            assert f"Altogether {sum(found for _, found in apart)} solution" in told
+            runs.append((total, in_row, commanded, sum(seconds for seconds, _ in apart), ends))
+            for number in numbers:
+                os.remove(folder.done(number))
+    total, in_row, commanded, apart = (min(run[k] for run in runs) for k in range(4))
+    # A part's end is seen late, if not at once; so each end is that of the round that saw it first.
+    ends = [min(several) for several in zip(*(run[4] for run in runs))]
+    seconds = [after - before for before, after in zip(ends, ends[1:])]
+    least, middle, greatest = (1000 * f(seconds) for f in (min, statistics.median, max))
+    name = os.path.basename(problem).removesuffix(".dlx")
+    print(
+        f"| {name}, {total:.2f} s | {len(numbers):,} | `{folder.plan.by}` | {planning:.1f} s | {in_row / total:.2f} "
+        f"| {least:.1f} ms | {middle:.1f} ms | {greatest:.1f} ms, {greatest * len(numbers) / sum(seconds) / 1000:.1f} "
+        f"| {1000 * (commanded - in_row) / len(numbers):.1f} ms | {apart / total:.2f} |",
+        flush=True,
+    )
 
 
 def main():
-    program, problem, counts = sys.argv[1], sys.argv[2], [int(word) for word in sys.argv[3:]]
-    with open(problem, "rb") as file:
-        text = file.read()
-    print("| whole | parts | planning | sum | starts | least | median | greatest |")
-    print("|---|---|---|---|---|---|---|---|", flush=True)
-    for count in counts:
-        with tempfile.TemporaryDirectory() as top:
-            before = sum(os.times()[:4])
-            folder = parts.split(program, text, os.path.join(top, "parts"), count)
-            planning = sum(os.times()[:4]) - before
-            numbers = [part.number for part in folder.plan.parts]
-            runs = []
-            for _ in range(RUNS):
-                total, told = whole(program, text)
-                seconds = [part(folder, number) for number in numbers]
-                runs.append((total, seconds, [whole(program, b"A\nA\n")[0] for _ in numbers]))
-            solutions = sum(parts.run(folder, number, []).solutions for number in numbers)
-            assert f"Altogether {solutions} solution" in told
-            total = min(run[0] for run in runs)
-            seconds, starts = ([min(several) for several in zip(*(run[k] for run in runs))] for k in (1, 2))
-            shortest, middle, longest = (f(seconds) for f in (min, statistics.median, max))
-            print(
-                f"| {total:.2f} s | {len(seconds)}, {folder.plan.by} | {planning:.1f} s | {sum(seconds) / total:.2f} "
-                f"| {sum(starts) / total:.2f} | {1000 * shortest:.1f} ms | {1000 * middle:.1f} ms "
-                f"| {1000 * longest:.0f} ms, {longest * len(seconds) / sum(seconds):.1f} |",
-                flush=True,
-            )
+    parser = argparse.ArgumentParser(description=__doc__, formatter_class=argparse.RawDescriptionHelpFormatter)
+    parser.add_argument("--parts", type=int, default=1000)
+    parser.add_argument("--rounds", type=int, default=3)
+    parser.add_argument("--core", type=int, default=max(os.sched_getaffinity(0)))
+    parser.add_argument("program")
+    parser.add_argument("problem", nargs="+")
+    given = parser.parse_args()
+    os.sched_setaffinity(0, {given.core})
+    os.environ["PYTHONPATH"] = os.path.join(TOP, "python")
+    print("| Search | Parts | Cut by | Planning | Sum | Least | Median | Greatest | `dlx-run` | Apart |")
+    print("|---|---|---|---|---|---|---|---|---|---|", flush=True)
+    for problem in given.problem:
+        measure(given.program, problem, given.parts, given.rounds)
 
 
 main()

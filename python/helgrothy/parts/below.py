@@ -40,6 +40,12 @@ def batches(folder: Folder, numbers: Sequence[int]) -> Iterator[List[int]]:
         yield batch
 
 
+def words_of_parts(folder: Folder, numbers: Sequence[int], words: List[str]) -> List[str]:
+    """The program's words for these parts."""
+    branches = [str(k) for n in numbers for k in [*(choice.k for choice in folder.part(n).path), 0]]
+    return [str(folder.plan.kind), "m1" if words else "m0", *branches]
+
+
 class Below:
     """A process that runs parts one behind another. As a context manager it leaves none behind.
 
@@ -49,8 +55,7 @@ class Below:
     def __init__(self, folder: Folder, numbers: Sequence[int], words: List[str]) -> None:
         self._folder = folder
         self._words = words
-        branches = [str(k) for n in numbers for k in [*(choice.k for choice in folder.part(n).path), 0]]
-        command = [find(NAME), str(folder.plan.kind), "m1" if words else "m0", *branches]
+        command = [find(NAME), *words_of_parts(folder, numbers, words)]
         with open(os.path.join(folder.path, PROBLEM), "rb") as problem:
             self._process = start(command, stdin=problem, stdout=subprocess.PIPE, stderr=subprocess.PIPE)
         self._rest = b""
