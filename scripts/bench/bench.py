@@ -1,14 +1,16 @@
 #!/usr/bin/env python3
-"""bench.py FOLDER [--c FOLDER]... [--c-alone] [--repeat K] [--only NAME,..] [--most SECONDS]
+"""bench.py FOLDER [--c NAME=FOLDER].. [--c-alone] [--repeat K] [--core C] [--only NAME,..] [--most SECONDS] [--page PAGE]
 
 Counts the solutions of the problems that problems.py wrote into FOLDER, by the programs that `make all` built and,
 beside them, by other solvers: C programs dlx1, dlx2 and dlx3 in each folder given by --c, and, where they are
 installed, clasp and Gecode (fzn-gecode), as 0-1 problems that are made from the same texts, and Sage's dancing links
-(sage), for problems of kind 1. All take turns. Told are ratios of CPU time, ours to theirs, the median of K runs (3):
-below 1 ours is faster. A run of theirs may take so many seconds (60); where it takes longer, the ratio is at most the
-one told. --c-alone leaves all but C out. Then come the ratios of the most memory held, those of printing (the time of a
-run that prints each solution less that of one that counts them), and how time and memory grow with the problem. Each
-run has to end with the problem's number of solutions.
+(sage), for problems of kind 1. All take turns, on one core where --core gives its number. Told are ratios of CPU time,
+ours to theirs, the median of K runs (3), or of at most 3 where one of each took more than 15 seconds together: below 1
+ours is faster. A run of theirs may take so many seconds (60); where it takes longer, the ratio is at most the one told.
+--c-alone leaves all but C out. Then come the ratios of the most memory held, those of printing (the time of a run that
+prints each solution less that of one that counts them), and how time and memory grow with the problem. Each run has to
+end with the problem's number of solutions. With --page the tables take the places of those with the same heads in a
+page, once all are there.
 """
 
 import argparse
@@ -19,6 +21,7 @@ import resource
 import shutil
 import statistics
 import subprocess
+import sys
 import tempfile
 from collections import defaultdict
 
@@ -28,6 +31,9 @@ HERE = os.path.dirname(os.path.abspath(__file__))
 TOP = os.path.dirname(os.path.dirname(HERE))
 
 
+MEAN = "geometric mean"
+# Of turns of more than so many seconds of CPU time so few are taken.
+LONG, FEW = 15, 3
 # Problems with many solutions, for the time of printing.
 PRINTED = ("matchings14", "latin5", "prism20", "two_factors6x8")
 
@@ -164,70 +170,106 @@ def measured(solver, problem, text, most, times, memory, words=()):
     return True
 
 
+def turns(repeat):
+    """So many turns, or fewer of long ones, whose times are steadier."""
+    start = os.times()
+    for turn in range(repeat):
+        yield turn
+        took = sum(os.times()[2:4]) - sum(start[2:4])
+        if turn + 1 >= FEW and took > (turn + 1) * LONG:
+            return
+
+
 def mean(ratios):
     return math.exp(statistics.fmean(map(math.log, ratios)))
 
 
-def compare(folder, solvers, only, repeat, most):
-    """The table of ratios, a row for each problem."""
-    ours, others = solvers[0], solvers[1:]
-    print("| Problem | Kind |" + "".join(f" {other.name} |" for other in others))
-    print("|---|---|" + "---|" * len(others))
-    ratios, memories = defaultdict(list), defaultdict(list)
+def compare(folder, ours, in_c, installed, only, repeat, most):
+    """The tables of ratios, a row for each problem: one of all solvers in C, and one of each other solver."""
+    found = {}
     for problem in problems.PROBLEMS:
-        if only and problem.name not in only:
+        if not only or problem.name in only:
+            solvers = [s for s in (ours, *in_c, *installed) if problem.kind in s.kinds]
+            found[problem] = one_problem(folder, problem, solvers, repeat, most)
+    if in_c:
+        yield table(["Problem", "Program"], in_c, found, [MEAN, f"memory, {MEAN}"])
+    for solver in installed:
+        cells = {problem: ratios for problem, ratios in found.items() if problem.kind in solver.kinds}
+        yield table(["Problem"], [solver], cells, [MEAN])
+
+
+def one_problem(folder, problem, solvers, repeat, most):
+    """By each solver's name its ratio as it is written, and where the time is long enough that and the memory's."""
+    text = os.path.join(folder, problem.name + ".dlx")
+    times, memory = defaultdict(list), defaultdict(list)
+    ours, late = solvers[0], set()
+    for _ in turns(repeat):
+        for solver in solvers:
+            limit = 3600 if solver is ours else most
+            if solver.name not in late and not measured(
+                solver, problem, text, limit, times[solver.name], memory[solver.name]
+            ):
+                late.add(solver.name)
+    own = statistics.median(times[ours.name])
+    found = {}
+    for other in solvers[1:]:
+        if other.name in late:
+            found[other.name] = f"< {own / most:.3f}", None, None
             continue
-        text = os.path.join(folder, problem.name + ".dlx")
-        times, memory = defaultdict(list), defaultdict(list)
-        late = set()
-        for _ in range(repeat):
-            for solver in solvers:
-                limit = 3600 if solver is ours else most
-                if solver.name not in late and problem.kind in solver.kinds:
-                    if not measured(solver, problem, text, limit, times[solver.name], memory[solver.name]):
-                        late.add(solver.name)
-        own = statistics.median(times[ours.name])
-        cells = []
-        for other in others:
-            if problem.kind not in other.kinds:
-                cells.append("")
-                continue
-            if other.name in late:
-                cells.append(f"< {own / most:.3f}")
-                continue
-            ratio = max(own, 0.001) / max(statistics.median(times[other.name]), 0.001)
-            cells.append(f"{ratio:.2f}" if ratio >= 0.1 else f"{ratio:.3f}")
-            if own >= 0.01:
-                ratios[other.name].append(ratio)
-                memories[other.name].append(max(memory[ours.name]) / max(memory[other.name]))
-        print(f"| {problem.name} | {problem.kind} |" + "".join(f" {cell} |" for cell in cells), flush=True)
-    for title, found in (("mean", ratios), ("memory, mean", memories)):
-        print(f"| **{title}** | |" + "".join(f" {mean(found[o.name]):.2f} |" if found[o.name] else " |" for o in others))
+        ratio = max(own, 0.001) / max(statistics.median(times[other.name]), 0.001)
+        is_long = own >= 0.01
+        found[other.name] = (
+            f"{ratio:.2f}" if ratio >= 0.1 else f"{ratio:.3f}",
+            ratio if is_long else None,
+            max(memory[ours.name]) / max(memory[other.name]) if is_long else None,
+        )
+    seconds = ", ".join(f"{s.name} {statistics.median(times[s.name]):.2f} s" for s in solvers if s.name not in late)
+    print(f"{problem.name}: {seconds}", file=sys.stderr, flush=True)
+    return found
 
 
-def list_all(folder, solvers, only, repeat, most):
+def table(head, others, found, means):
+    lines = line(head + [other.name for other in others])
+    for problem, cells in found.items():
+        start = [problem.name, f"`dlx{problem.kind}`"][: len(head)]
+        lines += line(start + [cells[other.name][0] for other in others])
+    for k, title in enumerate(means, 1):
+        ratios = [[cells[other.name][k] for cells in found.values() if cells[other.name][k]] for other in others]
+        lines += line([f"**{title}**", ""][: len(head)] + [f"{mean(r):.2f}" if r else "" for r in ratios])
+    return lines[:1] + ["|" + "---|" * (len(head) + len(others))] + lines[1:]
+
+
+def line(cells):
+    return ["|" + "|".join(f" {cell} " if cell else " " for cell in cells) + "|"]
+
+
+def list_all(folder, ours, in_c, only, repeat, most):
     """The table of the ratios of printing."""
-    ours, others = solvers[0], solvers[1:]
-    print("\n| Printing |" + "".join(f" {other.name} |" for other in others))
-    print("|---|" + "---|" * len(others))
+    lines = line(["Printing"] + [other.name for other in in_c]) + ["|---|" + "---|" * len(in_c)]
     for problem in problems.PROBLEMS:
         if problem.name not in PRINTED or (only and problem.name not in only):
             continue
         text = os.path.join(folder, problem.name + ".dlx")
         times = defaultdict(list)
-        for _ in range(repeat):
-            for solver in solvers:
+        for _ in turns(repeat):
+            for solver in (ours, *in_c):
                 for words in ((), ("m1",)):
                     if not measured(solver, problem, text, most, times[solver.name, words], [], words):
                         raise SystemExit(f"{solver.name} on {problem.name}: it took more than {most} seconds")
-        cost = {s.name: statistics.median(times[s.name, ("m1",)]) - statistics.median(times[s.name, ()]) for s in solvers}
-        print(f"| {problem.name} |" + "".join(f" {cost[ours.name] / cost[o.name]:.2f} |" for o in others), flush=True)
+        cost = {
+            s.name: statistics.median(times[s.name, ("m1",)]) - statistics.median(times[s.name, ()])
+            for s in (ours, *in_c)
+        }
+        lines += line([problem.name] + [f"{cost[ours.name] / max(cost[o.name], 0.001):.2f}" for o in in_c])
+    return lines
 
 
-def grow(solvers, most):
+def grow(ours, in_c, most):
     """How time and memory for each use grow from 100,000 uses to 10,000,000, nearly all of it reading."""
-    print("\n| Uses |" + "".join(f" {s.name}: time a use | memory a use |" for s in solvers))
-    print("|---|" + "---|---|" * len(solvers))
+    solvers = [ours, *in_c]
+    lines = line(["Uses"] + [f"{s.name}: {what} a use" for s in solvers for what in ("time", "memory")])
+    # The name stands once.
+    lines = [re.sub(r"(\| (\w+): time a use) \| \2: ", r"\1 | ", lines[0])] + ["|---|" + "---|---|" * len(solvers)]
     first = {}
     with tempfile.NamedTemporaryFile("w") as file:
         for options in (10000, 100000, 1000000):
@@ -243,27 +285,51 @@ def grow(solvers, most):
                 done = Run([os.path.join(solver.folder.format(1), "dlx1")], most, file.name)
                 now = done.seconds / options, done.memory / options
                 cells += [f"{a / b:.2f}" for a, b in zip(now, first.setdefault(solver.name, now))]
-            print(f"| {10 * options} | " + " | ".join(cells) + " |", flush=True)
+            lines += line([str(10 * options), *cells])
+    return lines
+
+
+def put(page, made):
+    """Puts a table in the place of that with the same head."""
+    with open(page, encoding="utf-8") as file:
+        lines = file.read().split("\n")
+    if made[0] not in lines:
+        raise SystemExit(f"{page} has no table with the head {made[0]}")
+    at = lines.index(made[0])
+    end = next(k for k in range(at, len(lines)) if not lines[k].startswith("|"))
+    with open(page, "w", encoding="utf-8") as file:
+        file.write("\n".join(lines[:at] + made + lines[end:]))
 
 
 def main():
     parser = argparse.ArgumentParser(description=__doc__, formatter_class=argparse.RawDescriptionHelpFormatter)
     parser.add_argument("folder")
-    parser.add_argument("--c", action="append", default=[])
+    parser.add_argument("--c", action="append", default=[], type=lambda word: word.rpartition("=")[::2])
     parser.add_argument("--c-alone", action="store_true")
     parser.add_argument("--repeat", type=int, default=3)
+    parser.add_argument("--core", type=int)
     parser.add_argument("--only", default="")
     parser.add_argument("--most", type=int, default=60)
+    parser.add_argument("--page")
     given = parser.parse_args()
+    if given.core is not None:
+        os.sched_setaffinity(0, {given.core})
     ours = Exact("ours", os.path.join(TOP, "crates", "dlx{0}", "out"))
-    in_c = [Exact(os.path.basename(os.path.abspath(folder)), os.path.abspath(folder)) for folder in given.c]
+    in_c = [Exact(name or os.path.basename(os.path.abspath(folder)), os.path.abspath(folder)) for name, folder in given.c]
     installed = (Clasp(), "clasp"), (Gecode(), "fzn-gecode"), (Sage(), "sage")
-    others = [solver for solver, program in installed if shutil.which(program)]
-    others = [] if given.c_alone else others
+    installed = [solver for solver, program in installed if shutil.which(program) and not given.c_alone]
     only = set(filter(None, given.only.split(",")))
-    compare(given.folder, [ours] + in_c + others, only, given.repeat, given.most)
-    list_all(given.folder, [ours] + in_c, only, given.repeat, given.most)
-    grow([ours] + in_c, given.most)
+    made = []
+    for lines in compare(given.folder, ours, in_c, installed, only, given.repeat, given.most):
+        made.append(lines)
+        print("\n".join(lines), end="\n\n", flush=True)
+    if in_c:
+        made.append(list_all(given.folder, ours, in_c, only, given.repeat, given.most))
+        print("\n".join(made[-1]), end="\n\n", flush=True)
+        made.append(grow(ours, in_c, given.most))
+        print("\n".join(made[-1]), flush=True)
+    for lines in made if given.page else ():
+        put(given.page, lines)
 
 
 main()
