@@ -26,6 +26,7 @@ import tempfile
 from collections import defaultdict
 
 import problems
+from page import put
 
 HERE = os.path.dirname(os.path.abspath(__file__))
 TOP = os.path.dirname(os.path.dirname(HERE))
@@ -287,18 +288,6 @@ def grow(ours, in_c, most):
                 cells += [f"{a / b:.2f}" for a, b in zip(now, first.setdefault(solver.name, now))]
             lines += line([str(10 * options), *cells])
     return lines
-
-
-def put(page, made):
-    """Puts a table in the place of that with the same head."""
-    with open(page, encoding="utf-8") as file:
-        lines = file.read().split("\n")
-    if made[0] not in lines:
-        raise SystemExit(f"{page} has no table with the head {made[0]}")
-    at = lines.index(made[0])
-    end = next(k for k in range(at, len(lines)) if not lines[k].startswith("|"))
-    with open(page, "w", encoding="utf-8") as file:
-        file.write("\n".join(lines[:at] + made + lines[end:]))
 
 
 def main():

@@ -1,5 +1,5 @@
 #!/usr/bin/env python3
-"""parts.py [--parts N] [--rounds K] [--core C] PROGRAM PROBLEM..: what a search in parts costs beside the search in one.
+"""parts.py [--parts N] [--rounds K] [--core C] [--page PAGE] PROGRAM PROBLEM..: what a search in parts costs.
 
 For each problem the search is cut into at least N parts (1000), and K times (3), in turn, the whole is counted by its
 program, the parts in a row by one process of dlx-below, with the words that dlx-run gives it, all of them by dlx-run,
@@ -7,7 +7,7 @@ and each by a process of its own. Printed is a row of processor seconds, each th
 many parts and what cut the search, the planning, the sum over the parts in a row divided by the whole, the least part
 of these, the median, and the greatest, with how many times the mean it is; then what dlx-run takes by itself for a
 part, and the sum over processes of their own divided by the whole. Nothing is listed. The numbers of solutions have to
-agree.
+agree. With --page the rows take the place of those of the table with the same head in a page.
 
 A part is over where its line comes. So that the clock is read at once, and not while the next part is searched, all is
 bound to one core (the last), and this process goes before whatever else would run there, for which it has to be root's.
@@ -26,7 +26,12 @@ sys.path.insert(0, os.path.join(TOP, "python"))
 
 from helgrothy import parts, programs  # noqa: E402
 from helgrothy.parts.below import NAME, words_of_parts  # noqa: E402
+from page import put  # noqa: E402
 
+HEAD = [
+    "| Search | Parts | Cut by | Planning | Sum | Least | Median | Greatest | `dlx-run` | Apart |",
+    "|---|---|---|---|---|---|---|---|---|---|",
+]
 FIRST = os.sched_param(1)
 
 
@@ -102,11 +107,10 @@ def measure(program, problem, count, rounds):
     seconds = [after - before for before, after in zip(ends, ends[1:])]
     least, middle, greatest = (1000 * f(seconds) for f in (min, statistics.median, max))
     name = os.path.basename(problem).removesuffix(".dlx")
-    print(
+    return (
         f"| {name}, {total:.2f} s | {len(numbers):,} | `{folder.plan.by}` | {planning:.1f} s | {in_row / total:.2f} "
         f"| {least:.1f} ms | {middle:.1f} ms | {greatest:.1f} ms, {greatest * len(numbers) / sum(seconds) / 1000:.1f} "
-        f"| {1000 * (commanded - in_row) / len(numbers):.1f} ms | {apart / total:.2f} |",
-        flush=True,
+        f"| {1000 * (commanded - in_row) / len(numbers):.1f} ms | {apart / total:.2f} |"
     )
 
 
@@ -115,15 +119,19 @@ def main():
     parser.add_argument("--parts", type=int, default=1000)
     parser.add_argument("--rounds", type=int, default=3)
     parser.add_argument("--core", type=int, default=max(os.sched_getaffinity(0)))
+    parser.add_argument("--page")
     parser.add_argument("program")
     parser.add_argument("problem", nargs="+")
     given = parser.parse_args()
     os.sched_setaffinity(0, {given.core})
     os.environ["PYTHONPATH"] = os.path.join(TOP, "python")
-    print("| Search | Parts | Cut by | Planning | Sum | Least | Median | Greatest | `dlx-run` | Apart |")
-    print("|---|---|---|---|---|---|---|---|---|---|", flush=True)
+    lines = HEAD.copy()
+    print("\n".join(lines), flush=True)
     for problem in given.problem:
-        measure(given.program, problem, given.parts, given.rounds)
+        lines.append(measure(given.program, problem, given.parts, given.rounds))
+        print(lines[-1], flush=True)
+    if given.page:
+        put(given.page, lines)
 
 
 main()

@@ -1,0 +1,13 @@
+"""Tables of a page."""
+
+
+def put(page, made):
+    """Puts a table, as its lines, in the place of that with the same head."""
+    with open(page, encoding="utf-8") as file:
+        lines = file.read().split("\n")
+    if made[0] not in lines:
+        raise SystemExit(f"{page} has no table with the head {made[0]}")
+    at = lines.index(made[0])
+    end = next(k for k in range(at, len(lines)) if not lines[k].startswith("|"))
+    with open(page, "w", encoding="utf-8") as file:
+        file.write("\n".join(lines[:at] + made + lines[end:]))
