@@ -189,8 +189,8 @@ def compare(folder, ours, in_c, installed, only, repeat, most):
     """The tables of ratios, a row for each problem: one of all solvers in C, and one of each other solver."""
     found = {}
     for problem in problems.PROBLEMS:
-        if not only or problem.name in only:
-            solvers = [s for s in (ours, *in_c, *installed) if problem.kind in s.kinds]
+        solvers = [s for s in (ours, *in_c, *installed) if problem.kind in s.kinds]
+        if len(solvers) > 1 and (not only or problem.name in only):
             found[problem] = one_problem(folder, problem, solvers, repeat, most)
     if in_c:
         yield table(["Problem", "Program"], in_c, found, [MEAN, f"memory, {MEAN}"])
