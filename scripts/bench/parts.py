@@ -102,9 +102,8 @@ def measure(program, problem, count, rounds):
             for number in numbers:
                 os.remove(folder.done(number))
     total, in_row, commanded, apart = (min(run[k] for run in runs) for k in range(4))
-    # A part's end is seen late, if not at once; so each end is that of the round that saw it first.
-    ends = [min(several) for several in zip(*(run[4] for run in runs))]
-    seconds = [after - before for before, after in zip(ends, ends[1:])]
+    several = ([after - before for before, after in zip(run[4], run[4][1:])] for run in runs)
+    seconds = [min(took) for took in zip(*several)]
     least, middle, greatest = (1000 * f(seconds) for f in (min, statistics.median, max))
     name = os.path.basename(problem).removesuffix(".dlx")
     return (
