@@ -7,7 +7,8 @@ use std::process::ExitCode;
 use xc_input::Kind;
 use xc_tools::{Direct, Incoming, Outgoing, out_of_memory, random_seed, solve, words};
 
-/// What the program reads.
+/// What the program reads. A script tries what it refuses (`tests/statuses.sh`): a test in here would see this
+/// constant, and not what `main` does with it.
 const KIND: Kind = Kind::Plain;
 
 fn main(rt: HostRuntime) -> ExitCode {
@@ -17,6 +18,7 @@ fn main(rt: HostRuntime) -> ExitCode {
 /// Solves what comes on standard input, and gives the status.
 fn run(rt: &HostRuntime) -> Result<u8, AllocError> {
     let mut input = Incoming::new(Some(rt.stdin()), random_seed(rt));
+    // Taken before the words are judged: where there is no memory for it the status is 4, whatever they are.
     let mut out = Outgoing::new(rt.alloc(), rt.stdout(), rt.stdout().is_terminal())?;
     let mut err = Direct::new(rt.stderr());
     let words = words(rt)?;

@@ -14,6 +14,7 @@ fn main(rt: HostRuntime) -> ExitCode {
 /// Solves what comes on standard input, and gives the status.
 fn run(rt: &HostRuntime) -> Result<u8, AllocError> {
     let mut input = Incoming::new(Some(rt.stdin()), random_seed(rt));
+    // Taken before the words are judged: where there is no memory for it the status is 4, whatever they are.
     let mut out = Outgoing::new(rt.alloc(), rt.stdout(), rt.stdout().is_terminal())?;
     let mut err = Direct::new(rt.stderr());
     let words = words(rt)?;

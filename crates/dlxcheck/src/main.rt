@@ -18,6 +18,7 @@ fn main(rt: HostRuntime) -> ExitCode {
 fn run(rt: &HostRuntime) -> Result<u8, AllocError> {
     let seed = random_seed(rt);
     let mut listing = Incoming::new(Some(rt.stdin()), seed);
+    // Taken before the words are judged: where there is no memory for it the status is 4, whatever they are.
     let mut out = Outgoing::new(rt.alloc(), rt.stdout(), rt.stdout().is_terminal())?;
     let mut err = Direct::new(rt.stderr());
     let words = words(rt)?;

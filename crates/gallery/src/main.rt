@@ -1,4 +1,5 @@
-//! Counts the solutions of the problems in `examples`.
+//! Counts the solutions of the problems in `examples`: a program of its own, since the gate compares what a program
+//! prints.
 #![tactic(auto)]
 
 use std::fs;

@@ -2,6 +2,9 @@
 //! `bindings/c/helgrothy.h`. Each answers a status: 0 where all was done, 1 where a search met its
 //! limit, 2 where a listing is longer than its buffer, 3 for a text with a fault, 4 for want of memory,
 //! 5 for a number of no kind. Names are hashed by the fixed seed.
+//!
+//! A call keeps nothing: no handle to a search and the problem that it borrows can be both exported and proved
+//! (`docs/DECISIONS.md`).
 #![tactic(auto)]
 
 ghost use Rattle.std.specs.Prelude.{◌≡◌};

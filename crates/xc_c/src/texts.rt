@@ -99,6 +99,8 @@ fn list_problem(
     ensures right { OnOk result (EachMemberCovers problem.now.puzzle) }
     ensures complete { OnOk result (EachCoverIsListedOnce problem.now.puzzle) }
 {
+    // Not over the caller's buffer: after a run a caller knows a sink's `state`, and not that it holds the same `&mut`
+    // still.
     let mut tray = Tray::new(alloc, usize::MAX, buffer.len(), false)?;
     let end = run(alloc, problem, words, &mut tray)?;
     let listing = tray.bytes();

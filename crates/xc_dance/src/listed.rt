@@ -8,7 +8,7 @@ use crate::dance::Dance;
 use std::marker::Model;
 
 /// The options of an item's list that are still to come, by their numbers, in file order. The dance is
-/// lent meanwhile, so no move is made.
+/// lent meanwhile, so no move is made; a search, which moves at each option, goes by `node_below`.
 #[derive(Drop)]
 pub struct Listed<'a, D: Dance> {
     dance: &'a D,

@@ -193,6 +193,7 @@ impl ProblemBuilder {
         )?;
         if !has_primary_use(&self.uses[start..], self.primary) {
             self.uses.truncate(start);
+            // Colours are numbered by first use over the options that are kept.
             self.colours.truncate(met);
             self.ignored.push(count)?;
             return Ok(());

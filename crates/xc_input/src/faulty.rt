@@ -20,7 +20,8 @@ use crate::tokens::{has_byte, is_skipped_line, looked_up, next_part, next_word};
 use crate::{FaultKind, Kind};
 use std::alloc::{AllocError, Global};
 
-/// A token that is at fault. Its line is `before`, `token` and `behind`, one after another.
+/// A token that is at fault. Its line is `before`, `token` and `behind`, one after another: the token alone would not
+/// tell its place, since the same bytes may stand in a line twice.
 #[derive(Clone, Copy, Debug, PartialEq, Eq)]
 pub struct FaultyToken<'a> {
     /// What stands before the token, so that the token's place in the line is this length.
@@ -37,6 +38,7 @@ pub struct FaultyToken<'a> {
 /// of the item line where there is none yet. `None` where no token is at fault: the line may have no
 /// fault, or one that is none of a token's (`NoItems`, `NulByte`, `TooManyUses`); it may be blank or a
 /// comment; or the line of `items` may have a fault itself. Names hash by the seed.
+// A call of its own, since a reader keeps no line: nothing is paid for it where a text has no fault.
 pub fn faulty_token<'a>(
     alloc: Global,
     seed: Seed,

@@ -76,7 +76,7 @@ impl ColourGuesses {
         }
     }
 
-    /// For colours that are still to be met.
+    /// For colours that are still to be met. The table has a fixed size, and learns a colour when it is met again.
     pub fn new(alloc: Global) -> Result<ColourGuesses, AllocError> {
         let places = vec![in alloc; 0; 4096]?;
         Ok(ColourGuesses { places })
@@ -158,7 +158,8 @@ fn number(bytes: u64, size: usize) -> usize {
 }
 
 /// The number of the word of up to seven bytes that a text begins with, up to a colon or a byte that is at
-/// most a space, and its length; or of another front of the text.
+/// most a space, and its length; or of another front of the text. The length comes from the text alone, so the start
+/// of the next token doesn't wait for a table.
 #[inline(always)]
 pub fn short_word(text: &[u8]) -> Option<(u64, usize)>
     ensures { IfSome result (λ p. (p.1 ≤ length text.now) × (p.0 ≡ word_number (take p.1 text.now))) }

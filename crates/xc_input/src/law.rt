@@ -3,7 +3,8 @@
 ghost use Rattle.xc_input.specs.Law.{FaultlessStand, StandForOne, StandAlso};
 ghost use Rattle.xc_input.specs.declared.kind.Kind.TheVariants.{Plain, Colours, Bounds};
 
-/// A text has a first fault or stands for one problem, and never both.
+/// A text has a first fault or stands for one problem, and never both. It ties the checks to the grammar, so that a
+/// slip in one of the two, which nothing else would show, breaks a proof.
 pub fn fault_or_problem()
     ensures stands { FaultlessStand }
     ensures one { StandForOne }

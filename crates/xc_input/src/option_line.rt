@@ -59,7 +59,8 @@ fn fault_of_unknown(name: &[u8]) -> FaultKind
     name_fault(name).unwrap_or(FaultKind::UnknownItem)
 }
 
-/// The use of a token, behind uses of the marked items, or its first fault.
+/// The use of a token, behind uses of the marked items, or its first fault. Its tests go in the order of a list,
+/// `token_checks` of `specs/Faults.antt`: the order is data there, and this is proved against it.
 pub fn use_of<'a>(
     kind: Kind,
     primary: u32,
@@ -79,6 +80,7 @@ pub fn use_of<'a>(
     if is_not_here(kind, &token) {
         return Err(FaultKind::ColourNotHere);
     }
+    // Looked up before it is judged: the names of items have no fault, so only a name that no item has is checked.
     let Some(place) = token.place else {
         return Err(fault_of_unknown(token.name));
     };

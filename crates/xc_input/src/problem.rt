@@ -1,4 +1,5 @@
-//! A problem as it was read.
+//! A problem as it was read. That it is sound its model alone doesn't show: most calls tell it beside their answers, so
+//! that none is made for that alone.
 
 ghost use Rattle.std.specs.Prelude.{◌≡◌, ◌≢◌, ◌<◌, ◌≤◌, ℕ, suc, length, map, drop, take, sum_by, option_map, Some, All};
 ghost use Rattle.std.specs.Prelude.{IfSome, IfNone};

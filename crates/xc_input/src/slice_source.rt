@@ -12,6 +12,7 @@ use std::fmt;
 
 /// A source over bytes that are in memory. Each read gives as many of them as the buffer has room
 /// for, and none fails. It tells its bytes.
+/// A type of its own, since contracts ask what a source gave, which a `&[u8]` alone can't tell.
 #[derive(Drop)]
 pub struct SliceSource<'a> {
     left: &'a [u8],

@@ -34,6 +34,8 @@ pub trait Source {
 
     /// The seed by which the names that it gives are hashed: the fixed one, unless the source says
     /// otherwise, as those of the programs do, whose texts may be written to be slow.
+    // The source tells it, since who makes it knows where its text comes from. Provided, since to ask for it would
+    // break the sources that callers have; `Seeded` gives one to any of them.
     fn seed(&self) -> Seed {
         Seed::FIXED
     }

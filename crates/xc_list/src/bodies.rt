@@ -21,11 +21,13 @@ use xc_input::{Problem, Use};
 
 /// The texts of options one behind another, with the places where they start and at last the length of
 /// all, and behind them a few bytes more.
+/// With ends of lines that are made at once, a listing took between a fourth and two fifths of the time of one in
+/// pieces.
 #[derive(Drop)]
 struct Layout {
     texts: Vec<u8>,
     starts: Vec<u32>,
-    /// The item of each option's first use.
+    /// The item of each option's first use. Where it is the branch item, as in most lines, the uses aren't read.
     firsts: Vec<u32>,
 }
 
@@ -96,6 +98,8 @@ fn add_option(
     let Ok(()) = write_uses(problem, uses, texts) else {
         return Err(Memory);
     };
+    // Of texts longer than 2^32 - 1 bytes nothing is laid out: options are written use by use, and the listing is the
+    // same.
     let Ok(end) = u32::try_from(texts.bytes().len()) else {
         return Err(Memory);
     };
@@ -211,6 +215,7 @@ fn put_text(
     ensures size { length page.new ≡ 4096 }
 {
     let (from, count) = span_of(problem, layout, o);
+    // 16 bytes more: a short text is stored with bytes behind it, and the line's end follows.
     if at + count + 16 > ROOM {
         return None;
     }

@@ -253,6 +253,8 @@ pub fn check(alloc: Global, problem: &Problem, listing: &[u8]) -> Result<Vec<Ver
         → listing.now ≡ output problem.now spacing limit
         → MatchResult result (λ vs. All (λ v. IsTrue v.cover) vs.items) (λ e. e ≡ Memory) }
 {
+    // Lines that were met are known again, by a place for each 64 bytes of the listing: the judge then takes half the
+    // time or less.
     let mut checker = Checker::new(alloc, problem, (listing.len() / 64).min(MOST_PLACES))?;
     checker.take_lines(listing)?;
     Ok(checker.finish()?)

@@ -10,7 +10,8 @@ use xc_input::{Problem, Use};
 /// Whether options with these numbers are a cover of the problem: each is one of the problem's, none
 /// stands twice, each primary item is held as often as its bounds say, and two options that hold the
 /// same secondary item give it the same colour. It takes no memory, and reads the uses of the options
-/// once for each primary item and once for each option.
+/// once for each primary item and once for each option. So it answers yes or no and nothing else; `check`, which
+/// counts, judges many large sets faster.
 pub fn is_cover(problem: &Problem, options: &[u32]) -> bool
     ensures { IsTrue result ↔ IsCover problem.now.puzzle options.now }
 {

@@ -38,7 +38,8 @@ fn write_body<S: Sink>(bodies: &Bodies, choice: &Choice, sink: &mut S) -> Result
 }
 
 /// The end of a line: branch and number of branches, of one digit each. Eight of its bytes are made
-/// at once, so that they can be copied at once.
+/// at once, so that they can be copied at once: made one by one they were read back before they had come to memory,
+/// for which the processor waits.
 #[inline(always)]
 fn digit_of_digit(k: u8, n: u8) -> [u8; 10]
     requires { (k < 10) × (n < 10) }
@@ -300,7 +301,7 @@ fn put_lines<S: Sink>(
 }
 
 /// Writes a solution as `write_member` does, but puts its lines together on a page and lets the sink
-/// take them at once.
+/// take them at once. With three writes a line these took two fifths of what printing takes.
 // Out of line: among the search's values too few would be left in registers.
 #[inline(never)]
 pub fn write_by_page<S: Sink>(
@@ -318,6 +319,7 @@ pub fn write_by_page<S: Sink>(
 {
     let header = put_header(page, number);
     let held = put_lines(bodies, choices, page, header, sink)?;
+    // Written here, and not kept until the page is full: so a write that fails is one of this solution's.
     write_all(sink, &page[held.from..held.to])
 }
 

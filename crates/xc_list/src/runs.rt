@@ -73,7 +73,7 @@ fn write_printed<S: Sink>(
 }
 
 /// How many solutions on from `found` the next one to print stands; where the limit comes before
-/// it, how many are left up to the limit.
+/// it, how many are left up to the limit. So a count is one call of `pass`, whose loop keeps its state in registers.
 fn steps_to_printed(spacing: u64, found: u64, limit: u64) -> u64
     requires { found < limit }
     ensures some { 0 < result }
@@ -207,6 +207,7 @@ pub fn run<S: Sink>(
     ensures right { EachMemberCovers problem.now.puzzle }
     ensures complete { EachCoverIsListedOnce problem.now.puzzle }
 {
+    // Through the call that hands its tables back, so that what it promises of them holds of what the programs do.
     let (_, end) = run_over_links(alloc, problem, words, sink)?;
     end
 }

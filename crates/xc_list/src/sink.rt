@@ -1,4 +1,5 @@
-//! Where bytes go.
+//! Where bytes go. To contracts a sink is one value, so that a clause says what changes of it and nothing of what
+//! stays.
 ghost use Rattle.std.specs.Prelude.{◌≡◌, ◌+◌, ◌-◌, ◌^◌, ◌<◌, ◌≤◌, ◌↔◌, ℕ, Bool, true, false, List, [], Option, Some};
 ghost use Rattle.std.specs.Prelude.{length, min, IfOk, IfErr, IsErr, IsOk, IsTrue, OnErr, is_err, OnOk, vec_capacity};
 ghost use Rattle.std.specs.Io.KnownBytes.{WriteAppends, Keeps};

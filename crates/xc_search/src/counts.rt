@@ -6,7 +6,8 @@ ghost use Rattle.xc_search.specs.inner.MostLevels.{high_total, most_levels, IsOn
 
 use xc_input::Problem;
 
-/// How many moves a search of the problem has on its trail at most: twice the items and twice the uses.
+/// How many moves a search of the problem has on its trail at most: twice the items and twice the uses. It is public,
+/// so that a caller can give a dance the room that a search asks for.
 pub fn most_moves(problem: &Problem) -> usize
     ensures value { result ≡ room_for problem.now.puzzle }
     ensures valid { IsValid problem.now.puzzle }
@@ -35,7 +36,8 @@ pub fn most_levels(problem: &Problem) -> usize
     by_size.min(count_spends(problem))
 }
 
-/// Whether each primary item is to be held exactly once.
+/// Whether each primary item is to be held exactly once. It is found out once, when a search begins. To find it out
+/// never would be slower and as right, so no contract refuses that.
 pub fn is_once(problem: &Problem) -> bool
     ensures { result ≡ true → IsOnce problem.now.puzzle }
 {

@@ -30,7 +30,8 @@ pub enum Cutting {
     Done,
 }
 
-/// How long a part's search may be.
+/// How long a part's search may be. With 20,000 nodes for both, the 6 by 10 pentominoes fall into 668 parts, the
+/// greatest 3.9 times the mean; with 2,048 and 10,000 into 1,159, the greatest 40 times.
 #[derive(Clone, Copy)]
 struct Bounds {
     /// So many nodes a trial visits.
@@ -267,7 +268,8 @@ fn open_node<D: Dance>(position: &mut Position<D>, stack: &mut Stack) -> Settled
     }
 }
 
-/// Searches the node within a budget of nodes, and comes back to it.
+/// Searches the node within a budget of nodes, and comes back to it. A second stack over the same dance: nothing is
+/// replayed, and the search's own steps keep that a part is a node of the tree.
 fn try_node<D: Dance>(position: &mut Position<D>, trial: &mut Stack, budget: u64) -> Trial
     requires standing { IsStanding position.old.puzzle position.old.trail trial.old.levels true }
     requires untried { trial.old.levels ≡ [] }

@@ -43,7 +43,8 @@ pub fn parts_are_valid()
     ensures { (p : Puzzle) → IsValid p → (i : ℕ) (x : Numbered) → IsValid (part p i x) }
 {}
 
-/// The covers of a problem are those of its parts by an item that is to be held exactly once.
+/// The covers of a problem are those of its parts by an item that is to be held exactly once. These parts keep the
+/// items of the problem, so that both ask for the same.
 pub fn parts_join()
     ensures { (p : Puzzle) → IsValid p → (i : ℕ) → IsHeldOnce p i → PartsJoin p i }
 {}
@@ -53,7 +54,8 @@ pub fn parts_are_apart()
     ensures { (p : Puzzle) → IsValid p → (i : ℕ) → IsHeldOnce p i → PartsAreApart p i }
 {}
 
-/// Where the search branches on such an item first, the parts that have it in front list the members in order.
+/// Where the search branches on such an item first, the parts that have it in front list the members in order. In these
+/// the options keep their numbers, so that one that is taken leaves what it leaves in the problem.
 pub fn parts_in_order()
     ensures { (p : Puzzle) → IsValid p → (w : Wanted) → branch_item (whole p) ≡ Some w →
         IsHeldOnce p w.item → PartsInOrder p w }

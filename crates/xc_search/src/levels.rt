@@ -13,7 +13,8 @@ use crate::search::Step;
 use crate::stack::Stack;
 use xc_dance::Dance;
 
-/// A branch that was entered, and whose moves are still to be made.
+/// A branch that was entered, and whose moves are still to be made: in the search's loop at one place, since a large
+/// function is taken in only where one call of it stands.
 #[derive(Clone, Copy)]
 pub struct Entered {
     pub item: u32,
@@ -74,6 +75,8 @@ pub fn end_level<D: Dance>(position: &mut Position<D>, level: &Level)
     ensures { position.new ≡ record position.old { trail = oldest level.now.mark position.old.trail } }
 {
     if level.tweaks > 0 {
+        // Not set apart, though rare: as a call that takes the state by value and gives it back, this took 1.07 of the
+        // instructions on bounded queens.
         position.undo_to(level.base);
         position.undo_tweaks(level.tweaks as usize);
     }
@@ -114,6 +117,7 @@ pub fn resume<D: Dance>(position: &mut Position<D>, stack: &mut Stack) -> Option
     ensures done { IsNone result → IsDone position.old stack.old false position.new stack.new }
     ensures path { IsNone result → KeepsPath position.old stack.old position.new stack.new }
 {
+    // A level that goes on and a level that ends are two paths: 0.95 of the instructions where options have two uses.
     while let Some(level) = stack.top() {
         if level.begun < level.count {
             let item = level.item;
@@ -165,7 +169,8 @@ fn go_on<D: Dance>(position: &mut Position<D>, stack: &mut Stack, down: bool) ->
 }
 
 /// Goes on to the next solution, or to the end. `down`: what is left wasn't searched yet.
-// No wish to be inlined: its one call is, and then after what it calls was taken in, which leaves more in registers.
+// No wish to be inlined: its one call is, and then after what it calls was taken in, which leaves more in registers
+// and took 0.955 of the instructions in the programs as they are built.
 pub fn advance<D: Dance>(position: &mut Position<D>, stack: &mut Stack, down: bool) -> Step
     requires standing { IsStanding position.old.puzzle position.old.trail stack.old.levels down }
     requires levels_fit { most_levels position.old.puzzle ≤ stack.old.room }

@@ -16,7 +16,8 @@ use std::marker::Model;
 use xc_dance::{Dance, Move};
 use xc_input::Problem;
 
-/// A dance with the problem that it is of. Its trail has room for each search of the problem.
+/// A dance with the problem that it is of. Its trail has room for each search of the problem. Both are known of it, so
+/// no step asks for them or hands them on.
 #[derive(Drop)]
 pub struct Position<'a, D: Dance> {
     dance: D,

@@ -66,6 +66,8 @@ impl<'a, D: Dance> Search<'a, D> {
 
     /// Begins a search over a dance that has no moves and room for `2 * items + 2 * uses` of them.
     /// All memory is taken here: where there is none, the dance comes back as it was.
+    // Before the first move, so that a search answers `Solution` or `Done` and nothing else, and want of memory means
+    // that nothing was written.
     pub fn new(alloc: Global, dance: D, problem: &'a Problem) -> Result<Search<'a, D>, (D, Memory)>
         requires same { (D.state dance).puzzle ≡ problem.now.puzzle }
         requires none { (D.state dance).trail ≡ [] }
@@ -120,6 +122,7 @@ impl<'a, D: Dance> Search<'a, D> {
         } }
         ensures count { result ≡ min many (length self.old.to_come) }
     {
+        // Told apart here: in the loop's function this test alone took 0.07 more of the instructions.
         if many == 0 {
             return 0;
         }
@@ -128,7 +131,9 @@ impl<'a, D: Dance> Search<'a, D> {
 
     /// The search after `pass`, beside its answer. It takes the search by value, so that its loop holds
     /// the bases and lengths of all tables as values of its own: behind a reference each would be
-    /// loaded anew after each write to a table.
+    /// loaded anew after each write to a table. By itself that took 0.99 of the instructions.
+    // It holds while no address of the state leaves the loop: what stands out of line there takes slices, and all else
+    // asks to be inlined. Together with what follows from it this took 0.90 over thirteen problems.
     #[inline(never)]
     fn passed(self, many: u64) -> (Search<'a, D>, u64)
         requires some { 0 < many }
@@ -143,6 +148,7 @@ impl<'a, D: Dance> Search<'a, D> {
             mut stack,
             mut down,
         } = self;
+        // Here, round the loop that finds the next solution, and not round this call: 0.98 of the instructions.
         for passed in 0..many {
             match advance(&mut position, &mut stack, down) {
                 Step::Solution => down = false,
@@ -173,6 +179,7 @@ impl<'a, D: Dance> Search<'a, D> {
     }
 
     /// A search without levels, which has ended and shows nothing.
+    // Out of line, as what shows choices: what is taken into the search's loop must not grow very large.
     #[inline(never)]
     fn ended(position: Position<'a, D>, mut stack: Stack) -> Search<'a, D>
         requires none { stack.levels ≡ [] }

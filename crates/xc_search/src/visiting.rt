@@ -10,6 +10,8 @@ use xc_dance::Dance;
 impl<'a, D: Dance> Search<'a, D> {
     /// Calls `visit` with the choices of each solution to come, in turn, until it answers false. It is
     /// true where no call did, and then no solution is left; else the search stands at the last one.
+    // With what the closure was called can be said over its states alone: so the contract goes from one to the next,
+    // by `Visits`.
     pub fn for_each<F: FnMut(&[Choice]) -> bool>(&mut self, mut visit: F) -> bool
         requires { F.IsAlwaysCallable visit }
         ensures still { self.new ≡ record self.old { to_come = self.new.to_come; shown = self.new.shown } }

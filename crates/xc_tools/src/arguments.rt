@@ -32,7 +32,8 @@ fn word<R: Env + AllocGlobal>(rt: &R, place: usize) -> Result<Option<Vec<u8>>, A
 }
 
 /// The words behind the program's name, by their bytes; the name isn't looked at. One that isn't UTF-8 is
-/// answered as want of memory.
+/// answered as want of memory. They are asked for one by one: `env::args` would fail as a whole where the program's
+/// name isn't UTF-8.
 pub fn words<R: Env + AllocGlobal>(rt: &R) -> Result<Vec<Vec<u8>>, AllocError> {
     let mut words = Vec::new(rt.alloc());
     for place in 1..usize::MAX {

@@ -98,6 +98,8 @@ impl<R: SystemReader + Drop> Source for Incoming<R> {
         ensures asked { self.old.failures ≡ 0 → 0 < self.old.left → option_map R.asked self.new.reader
             ≡ option_map (answered (answer_of Whole result)) (option_map R.asked self.old.reader) }
     {
+        // A failure isn't tried again, nor is EINTR, which a socket with a time limit gives where a stopped program
+        // goes on.
         if self.failures > 0 || self.left == 0 {
             return Err(self.fail());
         }

@@ -1,4 +1,5 @@
-//! A whole run of the judge.
+//! A whole run of the judge. What it did is one relation by its status, in place of eighteen clauses, most of them
+//! twice.
 ghost use Rattle.std.specs.Prelude.{◌≡◌, ◌⊎◌, IsSomeAnd, map, List, codes, flat_map, if◌then◌else◌};
 ghost use Rattle.std.specs.List.{list_all};
 ghost use Rattle.std.specs.Io.KnownBytes.{Keeps};
@@ -104,6 +105,7 @@ fn judge_listing<L: Source, O: Sink, E: Sink>(
         (streams L.state O.state E.state listing.old out.old err.old)
         (streams L.state O.state E.state listing.new out.new err.new) }
 {
+    // Held in memory whole, since all of it has to be without fault before the first verdict is written.
     let text = match read_text(alloc, listing) {
         Ok(text) => text,
         Err(TextError::Device) => return refuse(FAILED, b"Read failed.\n", err),

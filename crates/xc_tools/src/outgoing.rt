@@ -62,6 +62,8 @@ fn pass_on<W: SystemWriter>(writer: &mut W, bytes: &[u8]) -> usize
 fn calm_behind(by_line: bool, passed: usize, held: usize) -> usize
     ensures { result ≡ early by_line passed - held }
 {
+    // An eighth, so that a slow search shows its first solutions, and a fast one makes a call for each 64 KB after
+    // some ninety small ones.
     let early = if by_line { 0 } else { ROOM.min(passed / 8) };
     early.saturating_sub(held)
 }
@@ -171,6 +173,8 @@ impl<W: SystemWriter + Drop> Outgoing<W> {
 
     /// Passes on, by one call, what is held back and these bytes behind it, and holds back what was not
     /// taken. Where the call fails, these bytes are let go of.
+    // One call at most, so no rule is needed for a failure behind a part of the bytes: an `Err` leaves what was held
+    // before.
     fn pass_with(&mut self, bytes: &[u8]) -> Result<(), WriteFailed>
         requires room { length self.old.held + length bytes.now ≤ 65536 }
         requires some { 0 < length bytes.now }

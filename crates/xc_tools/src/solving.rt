@@ -1,4 +1,5 @@
-//! A whole run of a program.
+//! A whole run of a program. What it did is one relation by its status: as clauses, one a fact, there were sixteen,
+//! most of them twice, and what holds at a status had to be gathered from all.
 ghost use Rattle.std.specs.Prelude.{◌≡◌, ◌⊎◌, ◌+◌, IsOkAnd, IsTrue, [], map, codes};
 ghost use Rattle.std.specs.Io.KnownBytes.{Keeps};
 ghost use Rattle.xc_list.specs.Messages.{summary_text};
@@ -29,6 +30,7 @@ fn finish<O: Sink, E: Sink>(end: &End, out: &mut O, err: &mut E) -> u8
         ⊎ ((result ≡ 3) × ((O.state out.new).failures ≡ (O.state out.old).failures) × IsTrue (O.state out.new).settled
         × BrokeOff (E.state err.old) (E.state err.new) (summary_text end.now)) }
 {
+    // Status 0 needs this by contract: a flush takes no bytes, so the bytes alone would not show that it failed.
     match out.flush() {
         Ok(()) => {}
         Err(_) => return refuse(FAILED, b"Write failed.\n", err),

@@ -59,7 +59,7 @@ pub trait SystemWriter {
         ensures asked { asked self.new ≡ answered (answer_of Flushed result) (asked self.old) };
 }
 
-/// A reader or writer of std, whose calls are counted.
+/// A reader or writer of std, whose calls are counted. That each makes one call of std's, and no other, is read below.
 #[derive(Drop)]
 pub struct System<T: Drop> {
     stream: T,

