@@ -13,6 +13,7 @@ use Rattle.xc_list.specs.inner.Pages.{Puts, IsPut, held_text}
 use Rattle.xc_list.specs.declared.page.Held.{Held}
 use Rattle.xc_list.proofs.Writing.{then_took, then_broke, took_nothing, broke_before, flat_map-parts}
 use Rattle.xc_list.proofs.Writing.{flat_map-take-more}
+use Rattle.xc_input.proofs.TokenLemmas.Separators.{COLON}
 
 -- a text put on the page is held behind what was held
 pub held_more : (page more text : List ℕ) (from to end : ℕ) → from ≤ to → to ≤ length page
@@ -72,20 +73,20 @@ short_put page text at from count few room long =
     ∙ ap (λ t. take at page ++ t) (take-take count 16 (drop from text) few)
 
 colon_line : (page : List ℕ) → length page ≡ 4096
-    → take 2 (drop 20 (slice_set (slice_set page 20 58) 21 10)) ≡ 58 ∷ 10 ∷ []
+    → take 2 (drop 20 (slice_set (slice_set page 20 COLON) 21 10)) ≡ COLON ∷ 10 ∷ []
 colon_line page size =
-    let a : drop 20 (slice_set (slice_set page 20 58) 21 10) ≡ slice_set (drop 20 (slice_set page 20 58)) 1 10 =
-    drop-set-add 20 (slice_set page 20 58) 1 10 in
-    let b : drop 20 (slice_set page 20 58) ≡ 58 ∷ drop 21 page = drop-set page 20 58 (omega (arith, size)) in
+    let a : drop 20 (slice_set (slice_set page 20 COLON) 21 10) ≡ slice_set (drop 20 (slice_set page 20 COLON)) 1 10 =
+    drop-set-add 20 (slice_set page 20 COLON) 1 10 in
+    let b : drop 20 (slice_set page 20 COLON) ≡ COLON ∷ drop 21 page = drop-set page 20 COLON (omega (arith, size)) in
     let d : drop 21 page ≡ get_or page 21 0 ∷ drop 22 page = drop-cons page 21 0 (omega (arith, size)) in
-    ap (take 2) (a ∙ ap (λ l. slice_set l 1 10) (b ∙ ap (λ l. 58 ∷ l) d))
+    ap (take 2) (a ∙ ap (λ l. slice_set l 1 10) (b ∙ ap (λ l. COLON ∷ l) d))
 
 -- digits that end at the place of the colon
 pub header_held : (page put digits : List ℕ) (from : ℕ) → length page ≡ 4096 → from + length digits ≡ 20
-    → drop from put ≡ digits ++ drop 20 (slice_set (slice_set page 20 58) 21 10)
-    → held_text put from 22 ≡ digits ++ 58 ∷ 10 ∷ []
+    → drop from put ≡ digits ++ drop 20 (slice_set (slice_set page 20 COLON) 21 10)
+    → held_text put from 22 ≡ digits ++ COLON ∷ 10 ∷ []
 header_held page put digits from size ends e =
-    let behind : List ℕ = drop 20 (slice_set (slice_set page 20 58) 21 10) in
+    let behind : List ℕ = drop 20 (slice_set (slice_set page 20 COLON) 21 10) in
     let count : 22 - from ≡ length digits + 2 = omega (arith, ends) in
     sym (between_is put from 22)
     ∙ ap (take (22 - from)) e

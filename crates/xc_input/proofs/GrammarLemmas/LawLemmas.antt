@@ -24,7 +24,7 @@ use Rattle.xc_input.specs.Faults.{first, is_plain, name_checks, item_checks, is_
 use Rattle.xc_input.specs.inner.Stages.{entry, Row, no_row, part_checks, with_part, row_checks, row_of, item_number}
 use Rattle.xc_input.specs.inner.Stages.{token_checks, option_checks, written, context, Stage, no_stage, content_checks}
 use Rattle.xc_input.specs.inner.Stages.{line_checks, with_option, with_line, stage_from, stage_of}
-use Rattle.xc_input.specs.Limits.{most_uses}
+use Rattle.xc_input.specs.Limits.{longest_colour, most_uses}
 use Rattle.xc_input.specs.FirstFault.{line_number}
 use Rattle.xc_input.specs.Named.{IsName, IsColour}
 use Rattle.xc_input.specs.Text.{IsUse}
@@ -35,6 +35,7 @@ use Rattle.xc_input.proofs.GrammarLemmas.NoFault.{split, head, cons, or-false, o
 use Rattle.xc_input.proofs.GrammarLemmas.NoFault.{good-name, cut-is, no-cut, cut-at, item-good, good-item}
 use Rattle.xc_input.proofs.OptionLemmas.OneToken.{none-after}
 use Rattle.std.specs.Option.{option_map, option_or}
+use Rattle.xc_input.proofs.TokenLemmas.Separators.{COLON}
 
 -- the first fault of lines, behind n lines that gave this
 abbrev pub fault_from : Kind → ℕ → Stage → List (List ℕ) → Option (ℕ × FaultKind)
@@ -180,28 +181,29 @@ module _ (kind : Kind) (names : List (List ℕ)) (primaries : ℕ) (seen token :
   abbrev tail : List ℕ → List (FaultKind × Bool)
   tail name = (UnknownItem, is_none (place names name)) ∷
       (RepeatedInOption, list_any (λ i. nat_eq i (item_number names name)) seen) ∷
-      (ColourOnPrimary, has 58 token && not (nat_lt primaries (item_number names name))) ∷
-      (BadColour, has 58 token && is_bad_colour (after 58 token)) ∷ []
+      (ColourOnPrimary, has COLON token && not (nat_lt primaries (item_number names name))) ∷
+      (BadColour, has COLON token && is_bad_colour (after COLON token)) ∷ []
 
-  use-form : (t : Bool) → has 58 token ≡ t → (is_plain kind && has 58 token) ≡ false
-      → (has 58 token && not (nat_lt primaries (item_number names (before 58 token)))) ≡ false
-      → (has 58 token && is_bad_colour (after 58 token)) ≡ false
-      → ((token ≡ before 58 token) × (after 58 token ≡ []))
-      ⊎ ((token ≡ before 58 token ++ 58 ∷ after 58 token) × (is_plain kind ≡ false)
-      × (primaries < item_number names (before 58 token)) × IsColour (after 58 token))
-  use-form false f a b c = inl (sym (no-cut 58 token f), none-after 58 token f)
+  use-form : (t : Bool) → has COLON token ≡ t → (is_plain kind && has COLON token) ≡ false
+      → (has COLON token && not (nat_lt primaries (item_number names (before COLON token)))) ≡ false
+      → (has COLON token && is_bad_colour (after COLON token)) ≡ false
+      → ((token ≡ before COLON token) × (after COLON token ≡ []))
+      ⊎ ((token ≡ before COLON token ++ COLON ∷ after COLON token) × (is_plain kind ≡ false)
+      × (primaries < item_number names (before COLON token)) × IsColour (after COLON token))
+  use-form false f a b c = inl (sym (no-cut COLON token f), none-after COLON token f)
   use-form true f a b c =
       let p : (is_plain kind && true) ≡ false = ap (λ t. is_plain kind && t) (sym f) ∙ a in
-      let l : not (nat_lt primaries (item_number names (before 58 token))) ≡ false =
-      ap (λ t. t && not (nat_lt primaries (item_number names (before 58 token)))) (sym f) ∙ b in
-      let l' : nat_lt primaries (item_number names (before 58 token)) ≡ true =
-      not-false (nat_lt primaries (item_number names (before 58 token))) l in
-      let d : is_bad_colour (after 58 token) ≡ false = ap (λ t. t && is_bad_colour (after 58 token)) (sym f) ∙ c in
-      let o = or-false (nat_lt (length (after 58 token)) 1) (nat_lt 8 (length (after 58 token))) d in
-      let o0 : nat_lt (length (after 58 token)) 1 ≡ false = o.0 in
-      let o1 : nat_lt 8 (length (after 58 token)) ≡ false = o.1 in
+      let l : not (nat_lt primaries (item_number names (before COLON token))) ≡ false =
+      ap (λ t. t && not (nat_lt primaries (item_number names (before COLON token)))) (sym f) ∙ b in
+      let l' : nat_lt primaries (item_number names (before COLON token)) ≡ true =
+      not-false (nat_lt primaries (item_number names (before COLON token))) l in
+      let d : is_bad_colour (after COLON token) ≡ false =
+      ap (λ t. t && is_bad_colour (after COLON token)) (sym f) ∙ c in
+      let o = or-false (nat_lt (length (after COLON token)) 1) (nat_lt longest_colour (length (after COLON token))) d in
+      let o0 : nat_lt (length (after COLON token)) 1 ≡ false = o.0 in
+      let o1 : nat_lt longest_colour (length (after COLON token)) ≡ false = o.1 in
       inr (
-        (cut-is 58 token f).0,
+        (cut-is COLON token f).0,
         plain-off (is_plain kind) p,
         grind (arith, nat_tests),
         (grind (arith, nat_tests), grind (arith, nat_tests)),
@@ -209,93 +211,95 @@ module _ (kind : Kind) (names : List (List ℕ)) (primaries : ℕ) (seen token :
 
   pub use-good : first (token_checks (context kind names primaries) seen token) ≡ None
       → IsUse (context kind names primaries) token (written names token)
-      × (list_any (λ i. nat_eq i (item_number names (before 58 token))) seen ≡ false)
+      × (list_any (λ i. nat_eq i (item_number names (before COLON token))) seen ≡ false)
   use-good e =
-      let name : List ℕ = before 58 token in
+      let name : List ℕ = before COLON token in
       let a =
-      head ColourNotHere (is_plain kind && has 58 token)
-      (name_checks (before 58 token) ++ tail (before 58 token)) e in
-      let b = split (name_checks (before 58 token)) (tail (before 58 token)) a.1 in
+      head ColourNotHere (is_plain kind && has COLON token)
+      (name_checks (before COLON token) ++ tail (before COLON token)) e in
+      let b = split (name_checks (before COLON token)) (tail (before COLON token)) a.1 in
       let c =
-      head UnknownItem (is_none (place names (before 58 token)))
-      ((RepeatedInOption, list_any (λ i. nat_eq i (item_number names (before 58 token))) seen) ∷
-      (ColourOnPrimary, has 58 token && not (nat_lt primaries (item_number names (before 58 token)))) ∷
-      (BadColour, has 58 token && is_bad_colour (after 58 token)) ∷ []) b.1 in
+      head UnknownItem (is_none (place names (before COLON token)))
+      ((RepeatedInOption, list_any (λ i. nat_eq i (item_number names (before COLON token))) seen) ∷
+      (ColourOnPrimary, has COLON token && not (nat_lt primaries (item_number names (before COLON token)))) ∷
+      (BadColour, has COLON token && is_bad_colour (after COLON token)) ∷ []) b.1 in
       let d =
-      head RepeatedInOption (list_any (λ i. nat_eq i (item_number names (before 58 token))) seen)
-      ((ColourOnPrimary, has 58 token && not (nat_lt primaries (item_number names (before 58 token)))) ∷
-      (BadColour, has 58 token && is_bad_colour (after 58 token)) ∷ []) c.1 in
+      head RepeatedInOption (list_any (λ i. nat_eq i (item_number names (before COLON token))) seen)
+      ((ColourOnPrimary, has COLON token && not (nat_lt primaries (item_number names (before COLON token)))) ∷
+      (BadColour, has COLON token && is_bad_colour (after COLON token)) ∷ []) c.1 in
       let f =
-      head ColourOnPrimary (has 58 token && not (nat_lt primaries (item_number names (before 58 token))))
-      ((BadColour, has 58 token && is_bad_colour (after 58 token)) ∷ []) d.1 in
-      let g = head BadColour (has 58 token && is_bad_colour (after 58 token)) [] f.1 in
-      let i = some-is (place names (before 58 token)) c.0 in (
+      head ColourOnPrimary (has COLON token && not (nat_lt primaries (item_number names (before COLON token))))
+      ((BadColour, has COLON token && is_bad_colour (after COLON token)) ∷ []) d.1 in
+      let g = head BadColour (has COLON token && is_bad_colour (after COLON token)) [] f.1 in
+      let i = some-is (place names (before COLON token)) c.0 in (
         (
-          before 58 token,
+          before COLON token,
           i.0,
-          name-good (before 58 token) b.0,
+          name-good (before COLON token) b.0,
           i.1,
           ap (λ o. unwrap_or o 0 + 1) i.1,
           use-form
-              (has 58 token) refl a.0 f.0 g.0,
+              (has COLON token) refl a.0 f.0 g.0,
         ),
         d.0,
       )
 
   use-parts : (name : List ℕ) (i : ℕ) (u : Written) → IsName name → place names name ≡ Some i → u.item ≡ i + 1
-      → before 58 token ≡ name → after 58 token ≡ u.colour → list_any (λ j. nat_eq j u.item) seen ≡ false
-      → (is_plain kind && has 58 token) ≡ false
-      → (has 58 token && not (nat_lt primaries (item_number names (before 58 token)))) ≡ false
-      → (has 58 token && is_bad_colour (after 58 token)) ≡ false
+      → before COLON token ≡ name → after COLON token ≡ u.colour → list_any (λ j. nat_eq j u.item) seen ≡ false
+      → (is_plain kind && has COLON token) ≡ false
+      → (has COLON token && not (nat_lt primaries (item_number names (before COLON token)))) ≡ false
+      → (has COLON token && is_bad_colour (after COLON token)) ≡ false
       → (u ≡ written names token) × (first (token_checks (context kind names primaries) seen token) ≡ None)
   use-parts name i u n p q bf af once a b c =
-      let it : item_number names (before 58 token) ≡ u.item =
+      let it : item_number names (before COLON token) ≡ u.item =
       ap (λ x. unwrap_or (place names x) 0 + 1) bf ∙ ap (λ o. unwrap_or o 0 + 1) p ∙ sym q in (
         (λ j. record { item = sym it j; colour = sym af j }),
-        cons ColourNotHere (is_plain kind && has 58 token) (name_checks (before 58 token) ++ tail (before 58 token)) a
-            (first-all (name_checks (before 58 token)) (tail (before 58 token))
-            (good-name (before 58 token) (subst IsName (sym bf) n))
-            (cons UnknownItem (is_none (place names (before 58 token)))
-            ((RepeatedInOption, list_any (λ i. nat_eq i (item_number names (before 58 token))) seen) ∷
-            (ColourOnPrimary, has 58 token && not (nat_lt primaries (item_number names (before 58 token)))) ∷
-            (BadColour, has 58 token && is_bad_colour (after 58 token)) ∷ [])
+        cons ColourNotHere (is_plain kind && has COLON token)
+            (name_checks (before COLON token) ++ tail (before COLON token)) a
+            (first-all (name_checks (before COLON token)) (tail (before COLON token))
+            (good-name (before COLON token) (subst IsName (sym bf) n))
+            (cons UnknownItem (is_none (place names (before COLON token)))
+            ((RepeatedInOption, list_any (λ i. nat_eq i (item_number names (before COLON token))) seen) ∷
+            (ColourOnPrimary, has COLON token && not (nat_lt primaries (item_number names (before COLON token)))) ∷
+            (BadColour, has COLON token && is_bad_colour (after COLON token)) ∷ [])
             (ap (λ x. is_none (place names x)) bf ∙ ap is_none p)
-            (cons RepeatedInOption (list_any (λ i. nat_eq i (item_number names (before 58 token))) seen)
-            ((ColourOnPrimary, has 58 token && not (nat_lt primaries (item_number names (before 58 token)))) ∷
-            (BadColour, has 58 token && is_bad_colour (after 58 token)) ∷ [])
+            (cons RepeatedInOption (list_any (λ i. nat_eq i (item_number names (before COLON token))) seen)
+            ((ColourOnPrimary, has COLON token && not (nat_lt primaries (item_number names (before COLON token)))) ∷
+            (BadColour, has COLON token && is_bad_colour (after COLON token)) ∷ [])
             (ap (λ m. list_any (λ j. nat_eq j m) seen) it ∙ once)
-            (cons ColourOnPrimary (has 58 token && not (nat_lt primaries (item_number names (before 58 token))))
-            ((BadColour, has 58 token && is_bad_colour (after 58 token)) ∷ []) b
-            (cons BadColour (has 58 token && is_bad_colour (after 58 token)) [] c refl))))),
+            (cons ColourOnPrimary (has COLON token && not (nat_lt primaries (item_number names (before COLON token))))
+            ((BadColour, has COLON token && is_bad_colour (after COLON token)) ∷ []) b
+            (cons BadColour (has COLON token && is_bad_colour (after COLON token)) [] c refl))))),
       )
 
   pub good-use : (u : Written) → IsUse (context kind names primaries) token u
       → list_any (λ j. nat_eq j u.item) seen ≡ false → (u ≡ written names token)
       × (first (token_checks (context kind names primaries) seen token) ≡ None)
   good-use u (name, i, n, p, q, inl h) once =
-      let no : has 58 token ≡ false = ap (has 58) h.0 ∙ n.no_colon in
-      use-parts name i u n p q (no-cut 58 token no ∙ h.0) (none-after 58 token no ∙ sym h.1) once
+      let no : has COLON token ≡ false = ap (has COLON) h.0 ∙ n.no_colon in
+      use-parts name i u n p q (no-cut COLON token no ∙ h.0) (none-after COLON token no ∙ sym h.1) once
       (ap (λ t. is_plain kind && t) no ∙ and-false (is_plain kind))
-      (ap (λ t. t && not (nat_lt primaries (item_number names (before 58 token)))) no)
-      (ap (λ t. t && is_bad_colour (after 58 token)) no)
+      (ap (λ t. t && not (nat_lt primaries (item_number names (before COLON token)))) no)
+      (ap (λ t. t && is_bad_colour (after COLON token)) no)
   good-use u (name, i, n, p, q, inr h) once =
-      let c = cut-at 58 name u.colour n.no_colon in
-      let bf : before 58 token ≡ name = ap (before 58) h.0 ∙ c.0 in
-      let af : after 58 token ≡ u.colour = ap (after 58) h.0 ∙ c.1 in
-      let it : item_number names (before 58 token) ≡ u.item =
+      let c = cut-at COLON name u.colour n.no_colon in
+      let bf : before COLON token ≡ name = ap (before COLON) h.0 ∙ c.0 in
+      let af : after COLON token ≡ u.colour = ap (after COLON) h.0 ∙ c.1 in
+      let it : item_number names (before COLON token) ≡ u.item =
       ap (λ x. unwrap_or (place names x) 0 + 1) bf ∙ ap (λ o. unwrap_or o 0 + 1) p ∙ sym q in
       let lt : primaries < u.item = h.2 in
       let s : 1 ≤ length u.colour = h.3.0 in
-      let l : length u.colour ≤ 8 = h.3.1 in
+      let l : length u.colour ≤ longest_colour = h.3.1 in
       let x : nat_lt primaries u.item ≡ true = grind (arith, nat_tests) in
       let y : nat_lt (length u.colour) 1 ≡ false = grind (arith, nat_tests) in
-      let z : nat_lt 8 (length u.colour) ≡ false = grind (arith, nat_tests) in
-      use-parts name i u n p q bf af once (ap (λ t. t && has 58 token) h.1)
-      (ap (λ m. has 58 token && not (nat_lt primaries m)) it ∙ ap (λ t. has 58 token && not t) x
-      ∙ and-false (has 58 token))
-      (ap (λ k. has 58 token && is_bad_colour k) af
-      ∙ ap (λ t. has 58 token && t) (or-both (nat_lt (length u.colour) 1) (nat_lt 8 (length u.colour)) y z)
-      ∙ and-false (has 58 token))
+      let z : nat_lt longest_colour (length u.colour) ≡ false = grind (arith, nat_tests) in
+      use-parts name i u n p q bf af once (ap (λ t. t && has COLON token) h.1)
+      (ap (λ m. has COLON token && not (nat_lt primaries m)) it ∙ ap (λ t. has COLON token && not t) x
+      ∙ and-false (has COLON token))
+      (ap (λ k. has COLON token && is_bad_colour k) af
+      ∙ ap (λ t. has COLON token && t)
+      (or-both (nat_lt (length u.colour) 1) (nat_lt longest_colour (length u.colour)) y z)
+      ∙ and-false (has COLON token))
 
 -- tokens with no fault are uses
 pub uses-good : (kind : Kind) (names : List (List ℕ)) (primaries : ℕ) (seen : List ℕ) (ts : List (List ℕ))
@@ -305,7 +309,7 @@ uses-good kind names primaries seen [] e = refl
 uses-good kind names primaries seen (t ∷ ts) e =
     let a =
     split (token_checks (context kind names primaries) seen t)
-    (option_checks (context kind names primaries) (seen ++ item_number names (before 58 t) ∷ []) ts) e in
+    (option_checks (context kind names primaries) (seen ++ item_number names (before COLON t) ∷ []) ts) e in
     let g = use-good kind names primaries seen t a.0 in (
       written names t,
       map (written names) ts,
@@ -313,7 +317,7 @@ uses-good kind names primaries seen (t ∷ ts) e =
       g.0,
       g.1,
       uses-good kind names primaries
-          (seen ++ item_number names (before 58 t) ∷ []) ts a.1,
+          (seen ++ item_number names (before COLON t) ∷ []) ts a.1,
     )
 
 pub good-uses : (kind : Kind) (names : List (List ℕ)) (primaries : ℕ) (seen : List ℕ) (ts : List (List ℕ))
@@ -323,12 +327,12 @@ good-uses kind names primaries seen [] us h = (h, refl)
 good-uses kind names primaries seen (t ∷ ts) us h =
     let g = good-use kind names primaries seen t h.0 h.3 h.4 in
     let r =
-    good-uses kind names primaries (seen ++ item_number names (before 58 t) ∷ []) ts h.1
+    good-uses kind names primaries (seen ++ item_number names (before COLON t) ∷ []) ts h.1
     (subst (λ i. UsesBehind (context kind names primaries) (seen ++ i ∷ []) ts h.1) (ap (λ u. u.item) g.0)
     h.5) in (
       h.2 ∙ (λ i. g.0 i ∷ r.0 i),
       first-all (token_checks (context kind names primaries) seen t)
-          (option_checks (context kind names primaries) (seen ++ item_number names (before 58 t) ∷ []) ts) g.1 r.1,
+          (option_checks (context kind names primaries) (seen ++ item_number names (before COLON t) ∷ []) ts) g.1 r.1,
     )
 
 -- THE LINES

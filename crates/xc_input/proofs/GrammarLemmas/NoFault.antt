@@ -15,11 +15,12 @@ use Rattle.xc_input.specs.Sheets.{Entry}
 use Rattle.xc_input.specs.Faults.{first, is_bounds, name_checks, has_prefix, name_of, prefix_checks, bound_checks}
 use Rattle.xc_input.specs.Faults.{item_checks}
 use Rattle.xc_input.specs.inner.Stages.{entry}
-use Rattle.xc_input.specs.Limits.{most_items}
+use Rattle.xc_input.specs.Limits.{longest_name, most_items}
 use Rattle.xc_input.specs.Named.{IsName}
 use Rattle.xc_input.specs.Text.{AreBounds, IsBare, IsBounded, IsEntry}
 use Rattle.xc_input.proofs.FaultLemmas.Checks.{first-back}
 use Rattle.std.specs.List.{list_all}
+use Rattle.xc_input.proofs.TokenLemmas.Separators.{COLON, BAR}
 
 -- of checks none of which holds
 pub split : {A : Type 0} (a b : List (A × Bool)) → first (a ++ b) ≡ None → (first a ≡ None) × (first b ≡ None)
@@ -69,25 +70,27 @@ pub name-good : (name : List ℕ) → first (name_checks name) ≡ None → IsNa
 name-good name e =
     let a =
     head EmptyName (nat_lt (length name) 1)
-    ((NameTooLong, nat_lt 32 (length name)) ∷ (BadByteInName, has 58 name || has 124 name) ∷ []) e in
-    let b = head NameTooLong (nat_lt 32 (length name)) ((BadByteInName, has 58 name || has 124 name) ∷ []) a.1 in
-    let c = head BadByteInName (has 58 name || has 124 name) [] b.1 in
-    let d = or-false (has 58 name) (has 124 name) c.0 in
+    ((NameTooLong, nat_lt longest_name (length name)) ∷ (BadByteInName, has COLON name || has BAR name) ∷ []) e in
+    let b =
+    head NameTooLong (nat_lt longest_name (length name)) ((BadByteInName, has COLON name || has BAR name) ∷ [])
+    a.1 in
+    let c = head BadByteInName (has COLON name || has BAR name) [] b.1 in
+    let d = or-false (has COLON name) (has BAR name) c.0 in
     let a0 : nat_lt (length name) 1 ≡ false = a.0 in
-    let b0 : nat_lt 32 (length name) ≡ false = b.0 in
+    let b0 : nat_lt longest_name (length name) ≡ false = b.0 in
     record { some = grind (arith, nat_tests); short = grind (arith, nat_tests); no_colon = d.0; no_bar = d.1 }
 
 pub good-name : (name : List ℕ) → IsName name → first (name_checks name) ≡ None
 good-name name g =
     let s : 1 ≤ length name = g.some in
-    let l : length name ≤ 32 = g.short in
+    let l : length name ≤ longest_name = g.short in
     let a : nat_lt (length name) 1 ≡ false = grind (arith, nat_tests) in
-    let b : nat_lt 32 (length name) ≡ false = grind (arith, nat_tests) in
+    let b : nat_lt longest_name (length name) ≡ false = grind (arith, nat_tests) in
     cons EmptyName (nat_lt (length name) 1)
-    ((NameTooLong, nat_lt 32 (length name)) ∷ (BadByteInName, has 58 name || has 124 name) ∷ []) a
-    (cons NameTooLong (nat_lt 32 (length name)) ((BadByteInName, has 58 name || has 124 name) ∷ []) b
-    (cons BadByteInName (has 58 name || has 124 name) []
-    (or-both (has 58 name) (has 124 name) g.no_colon g.no_bar) refl))
+    ((NameTooLong, nat_lt longest_name (length name)) ∷ (BadByteInName, has COLON name || has BAR name) ∷ []) a
+    (cons NameTooLong (nat_lt longest_name (length name)) ((BadByteInName, has COLON name || has BAR name) ∷ []) b
+    (cons BadByteInName (has COLON name || has BAR name) []
+    (or-both (has COLON name) (has BAR name) g.no_colon g.no_bar) refl))
 
 -- CUTTING AT A BYTE
 pub cut-is : (b : ℕ) (xs : List ℕ) → has b xs ≡ true → (xs ≡ before b xs ++ b ∷ after b xs)
@@ -131,17 +134,17 @@ cut-at b (x ∷ p) q e =
     ]) in h e
 
 -- NUMBERS
-digit-no-colon : (x : ℕ) → is_ascii_digit x ≡ true → nat_eq x 58 ≡ false
+digit-no-colon : (x : ℕ) → is_ascii_digit x ≡ true → nat_eq x COLON ≡ false
 digit-no-colon x e =
     let a = and-true (nat_le 48 x) (nat_le x 57) e in let b : nat_le x 57 ≡ true = a.1 in grind (arith, nat_tests)
 
-digits-no-colon : (xs : List ℕ) → list_all is_ascii_digit xs ≡ true → has 58 xs ≡ false
+digits-no-colon : (xs : List ℕ) → list_all is_ascii_digit xs ≡ true → has COLON xs ≡ false
 digits-no-colon [] e = refl
 digits-no-colon (x ∷ xs) e =
     let a = and-true (is_ascii_digit x) (list_all is_ascii_digit xs) e in
-    or-both (nat_eq x 58) (has 58 xs) (digit-no-colon x a.0) (digits-no-colon xs a.1)
+    or-both (nat_eq x COLON) (has COLON xs) (digit-no-colon x a.0) (digits-no-colon xs a.1)
 
-pub number-no-colon : (text : List ℕ) → are_digits 9 text ≡ true → has 58 text ≡ false
+pub number-no-colon : (text : List ℕ) → are_digits 9 text ≡ true → has COLON text ≡ false
 number-no-colon text e =
     digits-no-colon text (and-true (nat_le 1 (length text) && nat_le (length text) 9)
     (list_all is_ascii_digit text) e).1
@@ -150,27 +153,27 @@ number-no-colon text e =
 texts : (prefix : List ℕ) → are_digits 9 (low_text prefix) ≡ true → are_digits 9 (high_text prefix) ≡ true
     → AreBounds prefix (number (low_text prefix)) (number (high_text prefix))
 texts prefix e f =
-    let P : Bool → Type 0 = λ t. has 58 prefix ≡ t → are_digits 9 (if t then after 58 prefix else prefix) ≡ true
-    → AreBounds prefix (number (low_text prefix)) (number (if t then after 58 prefix else prefix)) in
-    let h : P (has 58 prefix) = (elim (has 58 prefix) as P [
-      | true ↦ λ g k. inr (before 58 prefix, after 58 prefix, (cut-is 58 prefix g).0, e, k, refl, refl)
-      | false ↦ λ g k. inl (k, ap number (sym (no-cut 58 prefix g)), refl)
+    let P : Bool → Type 0 = λ t. has COLON prefix ≡ t → are_digits 9 (if t then after COLON prefix else prefix) ≡ true
+    → AreBounds prefix (number (low_text prefix)) (number (if t then after COLON prefix else prefix)) in
+    let h : P (has COLON prefix) = (elim (has COLON prefix) as P [
+      | true ↦ λ g k. inr (before COLON prefix, after COLON prefix, (cut-is COLON prefix g).0, e, k, refl, refl)
+      | false ↦ λ g k. inl (k, ap number (sym (no-cut COLON prefix g)), refl)
     ]) in h refl f
 
 bounds-are : (prefix : List ℕ) (low high : ℕ) → AreBounds prefix low high
     → (are_digits 9 (low_text prefix) ≡ true) × (are_digits 9 (high_text prefix) ≡ true)
     × (number (low_text prefix) ≡ low) × (number (high_text prefix) ≡ high)
 bounds-are prefix low high (inl h) =
-    let g : has 58 prefix ≡ false = number-no-colon prefix h.0 in
-    let l : low_text prefix ≡ prefix = no-cut 58 prefix g in
-    let u : high_text prefix ≡ prefix = ap (λ t. if t then after 58 prefix else prefix) g in
+    let g : has COLON prefix ≡ false = number-no-colon prefix h.0 in
+    let l : low_text prefix ≡ prefix = no-cut COLON prefix g in
+    let u : high_text prefix ≡ prefix = ap (λ t. if t then after COLON prefix else prefix) g in
     (ap (are_digits 9) l ∙ h.0, ap (are_digits 9) u ∙ h.0, ap number l ∙ h.1, ap number u ∙ h.2)
 bounds-are prefix low high (inr h) =
-    let c : (before 58 (h.0 ++ 58 ∷ h.1) ≡ h.0) × (after 58 (h.0 ++ 58 ∷ h.1) ≡ h.1)
-    × (has 58 (h.0 ++ 58 ∷ h.1) ≡ true) = cut-at 58 h.0 h.1 (number-no-colon h.0 h.3) in
-    let l : low_text prefix ≡ h.0 = ap (before 58) h.2 ∙ c.0 in
-    let u : high_text prefix ≡ h.1 = ap (λ x. if has 58 x then after 58 x else x) h.2
-    ∙ ap (λ t. if t then after 58 (h.0 ++ 58 ∷ h.1) else h.0 ++ 58 ∷ h.1) c.2 ∙ c.1 in
+    let c : (before COLON (h.0 ++ COLON ∷ h.1) ≡ h.0) × (after COLON (h.0 ++ COLON ∷ h.1) ≡ h.1)
+    × (has COLON (h.0 ++ COLON ∷ h.1) ≡ true) = cut-at COLON h.0 h.1 (number-no-colon h.0 h.3) in
+    let l : low_text prefix ≡ h.0 = ap (before COLON) h.2 ∙ c.0 in
+    let u : high_text prefix ≡ h.1 = ap (λ x. if has COLON x then after COLON x else x) h.2
+    ∙ ap (λ t. if t then after COLON (h.0 ++ COLON ∷ h.1) else h.0 ++ COLON ∷ h.1) c.2 ∙ c.1 in
     (ap (are_digits 9) l ∙ h.3, ap (are_digits 9) u ∙ h.4, ap number l ∙ h.5, ap number u ∙ h.6)
 
 pub bounds-good : (prefix : List ℕ) (sec : Bool) → first (prefix_checks prefix sec) ≡ None
@@ -236,35 +239,35 @@ module _ (kind : Kind) (names : List (List ℕ)) (sec : Bool) (token : List ℕ)
   shape : (t : Bool) → has_prefix kind token ≡ t → first (bound_checks kind sec token) ≡ None
       → IsBare sec token (entry kind sec token) ⊎ IsBounded kind sec token (entry kind sec token)
   shape true f e =
-      let b = and-true (is_bounds kind) (has 124 token) f in
-      let c = cut-is 124 token b.1 in
+      let b = and-true (is_bounds kind) (has BAR token) f in
+      let c = cut-is BAR token b.1 in
       let g =
-      bounds-good (before 124 token) sec
-      (ap (λ t. first (if t then prefix_checks (before 124 token) sec else [])) (sym f) ∙ e) in
-      let nm : name_of kind token ≡ after 124 token = ap (λ t. if t then after 124 token else token) f in
-      let lo : (entry kind sec token).low ≡ number (low_text (before 124 token)) =
-      ap (λ t. if t then number (low_text (before 124 token)) else (if sec then 0 else 1)) f in
-      let hi : (entry kind sec token).high ≡ number (high_text (before 124 token)) =
-      ap (λ t. if t then number (high_text (before 124 token)) else 1) f in
+      bounds-good (before BAR token) sec
+      (ap (λ t. first (if t then prefix_checks (before BAR token) sec else [])) (sym f) ∙ e) in
+      let nm : name_of kind token ≡ after BAR token = ap (λ t. if t then after BAR token else token) f in
+      let lo : (entry kind sec token).low ≡ number (low_text (before BAR token)) =
+      ap (λ t. if t then number (low_text (before BAR token)) else (if sec then 0 else 1)) f in
+      let hi : (entry kind sec token).high ≡ number (high_text (before BAR token)) =
+      ap (λ t. if t then number (high_text (before BAR token)) else 1) f in
       inr (
-        before 124 token,
+        before BAR token,
         b.0,
         g.3,
         c.1,
-        c.0 ∙ ap (λ n. before 124 token ++ 124 ∷ n) (sym nm),
-        subst (λ h. AreBounds (before 124 token) (entry kind sec token).low h) (sym hi)
-            (subst (λ l. AreBounds (before 124 token) l (number (high_text (before 124 token)))) (sym lo) g.0),
+        c.0 ∙ ap (λ n. before BAR token ++ BAR ∷ n) (sym nm),
+        subst (λ h. AreBounds (before BAR token) (entry kind sec token).low h) (sym hi)
+            (subst (λ l. AreBounds (before BAR token) l (number (high_text (before BAR token)))) (sym lo) g.0),
         subst (λ h. 1 ≤ h) (sym hi) g.1,
         subst (λ h. (entry kind sec token).low ≤ h) (sym hi)
-            (subst (λ l. l ≤ number (high_text (before 124 token))) (sym lo) g.2),
+            (subst (λ l. l ≤ number (high_text (before BAR token))) (sym lo) g.2),
       )
   shape false f e =
       inl (
-        sym (ap (λ t. if t then after 124 token else token) f),
+        sym (ap (λ t. if t then after BAR token else token) f),
         ap
-            (λ t. if t then number (low_text (before 124 token)) else (if sec then 0 else 1)) f,
+            (λ t. if t then number (low_text (before BAR token)) else (if sec then 0 else 1)) f,
         ap
-            (λ t. if t then number (high_text (before 124 token)) else 1) f,
+            (λ t. if t then number (high_text (before BAR token)) else 1) f,
       )
 
   form : first (bound_checks kind sec token) ≡ None → IsBare sec token (entry kind sec token)
@@ -293,30 +296,30 @@ module _ (kind : Kind) (names : List (List ℕ)) (sec : Bool) (token : List ℕ)
       × (first (bound_checks kind sec token) ≡ None)
   known e (inl h) n =
       let f : has_prefix kind token ≡ false =
-      ap (λ x. is_bounds kind && x) (ap (has 124) h.0 ∙ n.no_bar) ∙ and-false (is_bounds kind) in (
+      ap (λ x. is_bounds kind && x) (ap (has BAR) h.0 ∙ n.no_bar) ∙ and-false (is_bounds kind) in (
         (λ i. record {
-          name = (sym h.0 ∙ sym (ap (λ t. if t then after 124 token else token) f)) i;
-          low = (h.1 ∙ sym (ap (λ t. if t then number (low_text (before 124 token)) else (if sec then 0 else 1)) f)) i;
-          high = (h.2 ∙ sym (ap (λ t. if t then number (high_text (before 124 token)) else 1) f)) i;
+          name = (sym h.0 ∙ sym (ap (λ t. if t then after BAR token else token) f)) i;
+          low = (h.1 ∙ sym (ap (λ t. if t then number (low_text (before BAR token)) else (if sec then 0 else 1)) f)) i;
+          high = (h.2 ∙ sym (ap (λ t. if t then number (high_text (before BAR token)) else 1) f)) i;
         }),
-        ap (λ t. first (if t then prefix_checks (before 124 token) sec else [])) f,
+        ap (λ t. first (if t then prefix_checks (before BAR token) sec else [])) f,
       )
   known e (inr h) n =
       let p : List ℕ = h.0 in
-      let c = cut-at 124 h.0 e.name h.3 in
-      let f : has_prefix kind token ≡ true = and-both (is_bounds kind) (has 124 token) h.1 (ap (has 124) h.4 ∙ c.2) in
-      let bf : before 124 token ≡ h.0 = ap (before 124) h.4 ∙ c.0 in
+      let c = cut-at BAR h.0 e.name h.3 in
+      let f : has_prefix kind token ≡ true = and-both (is_bounds kind) (has BAR token) h.1 (ap (has BAR) h.4 ∙ c.2) in
+      let bf : before BAR token ≡ h.0 = ap (before BAR) h.4 ∙ c.0 in
       let g = good-bounds h.0 e.low e.high h.5 h.6 h.7 in (
         (λ i. record {
-          name = (sym (c.1) ∙ ap (after 124) (sym h.4) ∙ sym (ap (λ t. if t then after 124 token else token) f)) i;
+          name = (sym (c.1) ∙ ap (after BAR) (sym h.4) ∙ sym (ap (λ t. if t then after BAR token else token) f)) i;
           low =
               (sym g.1 ∙ ap (λ x. number (low_text x)) (sym bf)
-              ∙ sym (ap (λ t. if t then number (low_text (before 124 token)) else (if sec then 0 else 1)) f)) i;
+              ∙ sym (ap (λ t. if t then number (low_text (before BAR token)) else (if sec then 0 else 1)) f)) i;
           high =
               (sym g.2 ∙ ap (λ x. number (high_text x)) (sym bf)
-              ∙ sym (ap (λ t. if t then number (high_text (before 124 token)) else 1) f)) i;
+              ∙ sym (ap (λ t. if t then number (high_text (before BAR token)) else 1) f)) i;
         }),
-        ap (λ t. first (if t then prefix_checks (before 124 token) sec else [])) f
+        ap (λ t. first (if t then prefix_checks (before BAR token) sec else [])) f
             ∙ ap (λ x. first (prefix_checks x sec)) bf ∙ ap (λ s. first (prefix_checks h.0 s)) h.2 ∙ g.0,
       )
 

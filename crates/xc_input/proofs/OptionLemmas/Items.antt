@@ -24,6 +24,7 @@ use Rattle.xc_input.proofs.FaultLemmas.Checks.{no-place}
 use Rattle.xc_input.proofs.GrammarLemmas.NoFault.{or-false, or-both}
 use Rattle.xc_input.proofs.TokenLemmas.Bytes.{not_false}
 use Rattle.xc_input.proofs.TokenLemmas.TableNames.{apart}
+use Rattle.xc_input.proofs.TokenLemmas.Separators.{BAR}
 
 -- parts of the item line, behind items of these names and perhaps a bar with so many before it, stand for these items,
 -- of which so many are primary
@@ -50,9 +51,9 @@ after-cons p ps false f =
     let next : (1 + position_or_len is_bar ps) + 1 ≡ suc (position_or_len is_bar ps + 1) = omega arith in
     ap (λ b. drop (cond (not b) (1 + position_or_len is_bar ps) 0 + 1) (p ∷ ps)) f ∙ ap (λ n. drop n (p ∷ ps)) next
 
-named : (p name : List ℕ) → p ≡ name → has 124 name ≡ false → is_bar p ≡ false
+named : (p name : List ℕ) → p ≡ name → has BAR name ≡ false → is_bar p ≡ false
 named [] name e h = refl
-named (x ∷ xs) name e h = (or-false (nat_eq x 124) (has 124 xs) (ap (has 124) e ∙ h)).0
+named (x ∷ xs) name e h = (or-false (nat_eq x BAR) (has BAR xs) (ap (has BAR) e ∙ h)).0
 
 no-bar : (kind : Kind) (p : List ℕ) (e : Entry) → IsEntry kind true p e → is_bar p ≡ false
 no-bar kind p e (name, inl h) = named p e.name h.0 name.no_bar

@@ -16,6 +16,7 @@ use Rattle.xc_input.specs.inner.Builders.{items_of}
 use Rattle.xc_input.specs.Named.{IsName}
 use Rattle.xc_input.proofs.FaultLemmas.Checks.{first-front, first-back, map-snoc}
 use Rattle.xc_input.proofs.GrammarLemmas.NoFault.{good-name}
+use Rattle.xc_input.proofs.TokenLemmas.Separators.{COLON}
 
 -- what follows the checks of the name, where the item is known by its place
 abbrev later : ℕ → List ℕ → Option ℕ → Bool → List ℕ → Option FaultKind
@@ -41,24 +42,24 @@ first-known (c ∷ a) k cs = ap (λ r. if c.1 then Some c.0 else r) (first-known
 module _ (kind : Kind) (names : List (List ℕ)) (primary : ℕ) (seen : List ℕ) (token : List ℕ) where
   abbrev others : List ℕ → List (FaultKind × Bool)
   others name = (RepeatedInOption, list_any (λ i. nat_eq i (item_number names name)) seen) ∷
-      (ColourOnPrimary, has 58 token && not (nat_lt primary (item_number names name))) ∷
-      (BadColour, has 58 token && is_bad_colour (after 58 token)) ∷ []
+      (ColourOnPrimary, has COLON token && not (nat_lt primary (item_number names name))) ∷
+      (BadColour, has COLON token && is_bad_colour (after COLON token)) ∷ []
 
   -- a colour stands where none may
-  pub not-here : (is_plain kind && has 58 token) ≡ true
+  pub not-here : (is_plain kind && has COLON token) ≡ true
       → first (token_checks (context kind names primary) seen token) ≡ Some ColourNotHere
   not-here e =
       ap (λ t. if t then Some ColourNotHere else first
-      (name_checks (before 58 token) ++ (UnknownItem, is_none (place names (before 58 token))) ∷ others
-      (before 58 token))) e
+      (name_checks (before COLON token) ++ (UnknownItem, is_none (place names (before COLON token))) ∷ others
+      (before COLON token))) e
 
-  module _ (allowed : (is_plain kind && has 58 token) ≡ false) (name : List ℕ) (is : name ≡ before 58 token) where
+  module _ (allowed : (is_plain kind && has COLON token) ≡ false) (name : List ℕ) (is : name ≡ before COLON token) where
     here : first (token_checks (context kind names primary) seen token) ≡ first
         (name_checks name ++ (UnknownItem, is_none (place names name)) ∷ others name)
     here =
         ap (λ t. if t then Some ColourNotHere else first
-        (name_checks (before 58 token) ++ (UnknownItem, is_none (place names (before 58 token))) ∷ others
-        (before 58 token))) allowed
+        (name_checks (before COLON token) ++ (UnknownItem, is_none (place names (before COLON token))) ∷ others
+        (before COLON token))) allowed
         ∙ ap (λ n. first (name_checks n ++ (UnknownItem, is_none (place names n)) ∷ others n)) (sym is)
 
     -- no item has the name
@@ -73,49 +74,49 @@ module _ (kind : Kind) (names : List (List ℕ)) (primary : ℕ) (seen : List �
         (m : marked ≡ list_any (λ i. nat_eq i (k + 1)) seen) where
       known : first (token_checks (context kind names primary) seen token)
           ≡ (if marked then Some RepeatedInOption else
-          (if has 58 token && not (nat_lt primary (k + 1)) then Some ColourOnPrimary else
-          (if has 58 token && is_bad_colour (after 58 token) then Some BadColour else None)))
+          (if has COLON token && not (nat_lt primary (k + 1)) then Some ColourOnPrimary else
+          (if has COLON token && is_bad_colour (after COLON token) then Some BadColour else None)))
       known =
           here ∙ first-back (name_checks name) ((UnknownItem, is_none (place names name)) ∷ others name)
-          (good-name name good) ∙ ap (λ p. later primary seen p (has 58 token) (after 58 token)) at
+          (good-name name good) ∙ ap (λ p. later primary seen p (has COLON token) (after COLON token)) at
           ∙ ap (λ t. if t then Some RepeatedInOption else
-          (if has 58 token && not (nat_lt primary (k + 1)) then Some ColourOnPrimary else
-          (if has 58 token && is_bad_colour (after 58 token) then Some BadColour else None))) (sym m)
+          (if has COLON token && not (nat_lt primary (k + 1)) then Some ColourOnPrimary else
+          (if has COLON token && is_bad_colour (after COLON token) then Some BadColour else None))) (sym m)
 
       pub repeated : marked ≡ true
           → first (token_checks (context kind names primary) seen token) ≡ Some RepeatedInOption
       repeated e =
           known ∙ ap (λ t. if t then Some RepeatedInOption else
-          (if has 58 token && not (nat_lt primary (k + 1)) then Some ColourOnPrimary else
-          (if has 58 token && is_bad_colour (after 58 token) then Some BadColour else None))) e
+          (if has COLON token && not (nat_lt primary (k + 1)) then Some ColourOnPrimary else
+          (if has COLON token && is_bad_colour (after COLON token) then Some BadColour else None))) e
 
       module _ (n : marked ≡ false) where
         once : first (token_checks (context kind names primary) seen token) ≡
-            (if has 58 token && not (nat_lt primary (k + 1)) then Some ColourOnPrimary else
-            (if has 58 token && is_bad_colour (after 58 token) then Some BadColour else None))
+            (if has COLON token && not (nat_lt primary (k + 1)) then Some ColourOnPrimary else
+            (if has COLON token && is_bad_colour (after COLON token) then Some BadColour else None))
         once =
             known ∙ ap (λ t. if t then Some RepeatedInOption else
-            (if has 58 token && not (nat_lt primary (k + 1)) then Some ColourOnPrimary else
-            (if has 58 token && is_bad_colour (after 58 token) then Some BadColour else None))) n
+            (if has COLON token && not (nat_lt primary (k + 1)) then Some ColourOnPrimary else
+            (if has COLON token && is_bad_colour (after COLON token) then Some BadColour else None))) n
 
-        item-is : item_number names (before 58 token) ≡ k + 1
+        item-is : item_number names (before COLON token) ≡ k + 1
         item-is = ap (λ x. item_number names x) (sym is) ∙ ap (λ p. unwrap_or p 0 + 1) at
 
-        pub bare : has 58 token ≡ false → (first (token_checks (context kind names primary) seen token) ≡ None)
+        pub bare : has COLON token ≡ false → (first (token_checks (context kind names primary) seen token) ≡ None)
             × (record { item = k + 1; colour = [] } ≡ written names token)
         bare q = (
           once ∙ ap (λ c. if c && not (nat_lt primary (k + 1)) then Some ColourOnPrimary else
-              (if c && is_bad_colour (after 58 token) then Some BadColour else None)) q,
-          λ x. record { item = sym item-is x; colour = sym (none-after 58 token q) x },
+              (if c && is_bad_colour (after COLON token) then Some BadColour else None)) q,
+          λ x. record { item = sym item-is x; colour = sym (none-after COLON token q) x },
         )
 
-        module _ (q : has 58 token ≡ true) (colour : List ℕ) (c : colour ≡ after 58 token) where
+        module _ (q : has COLON token ≡ true) (colour : List ℕ) (c : colour ≡ after COLON token) where
           judged : first (token_checks (context kind names primary) seen token) ≡
               (if not (nat_lt primary (k + 1)) then Some ColourOnPrimary else
               (if is_bad_colour colour then Some BadColour else None))
           judged =
               once ∙ ap (λ t. if t && not (nat_lt primary (k + 1)) then Some ColourOnPrimary else
-              (if t && is_bad_colour (after 58 token) then Some BadColour else None)) q
+              (if t && is_bad_colour (after COLON token) then Some BadColour else None)) q
               ∙ ap (λ xs. if not (nat_lt primary (k + 1)) then Some ColourOnPrimary else
               (if is_bad_colour xs then Some BadColour else None)) (sym c)
 
@@ -155,7 +156,7 @@ pub token-stop : (kind : Kind) (names : List (List ℕ)) (primary : ℕ) (seen t
 token-stop kind names primary seen token line others a k e l f =
     e ∙ ap (λ ts. first (option_checks (context kind names primary) seen ts)) l
     ∙ first-front (token_checks (context kind names primary) seen token)
-    (option_checks (context kind names primary) (seen ++ item_number names (before 58 token) ∷ []) others) k f
+    (option_checks (context kind names primary) (seen ++ item_number names (before COLON token) ∷ []) others) k f
 
 pub token-step : (kind : Kind) (names : List (List ℕ)) (primary : ℕ) (us : List Written) (token : List ℕ)
     (line others : List (List ℕ)) (a : Option FaultKind) (all : List Written) (u : Written)
@@ -165,11 +166,11 @@ pub token-step : (kind : Kind) (names : List (List ℕ)) (primary : ℕ) (us : L
     → (a ≡ first (option_checks (context kind names primary) (items_of (us ++ u ∷ [])) others))
     × (all ≡ (us ++ u ∷ []) ++ map (written names) others)
 token-step kind names primary us token line others a all u e f l g =
-    let is : items_of (us ++ u ∷ []) ≡ items_of us ++ item_number names (before 58 token) ∷ [] =
+    let is : items_of (us ++ u ∷ []) ≡ items_of us ++ item_number names (before COLON token) ∷ [] =
     map-snoc (λ (w : Written). w.item) us u ∙ ap (λ (w : Written). items_of us ++ w.item ∷ []) g.1 in (
       e ∙ ap (λ ts. first (option_checks (context kind names primary) (items_of us) ts)) l
           ∙ first-back (token_checks (context kind names primary) (items_of us) token)
-          (option_checks (context kind names primary) (items_of us ++ item_number names (before 58 token) ∷ [])
+          (option_checks (context kind names primary) (items_of us ++ item_number names (before COLON token) ∷ [])
           others) g.0
           ∙ ap (λ s. first (option_checks (context kind names primary) s others)) (sym is),
       f ∙ ap (λ ts. us ++ map (written names) ts) l

@@ -12,6 +12,7 @@ use Rattle.xc_input.specs.Words.{has, before, after}
 use Rattle.xc_input.specs.Tokens.{is_space, is_bar, is_skipped, parts, split_bars, tokens}
 use Rattle.xc_input.specs.inner.Fronts.{drop_white, word, StandsBefore}
 use Rattle.std.specs.Prelude.{flat_map}
+use Rattle.xc_input.proofs.TokenLemmas.Separators.{BAR}
 
 -- a byte that isn't found
 pub has-all : (b : ℕ) (xs : List ℕ) → ((k : ℕ) → k < length xs → nat_eq (get_or xs k 0) b ≡ false) → (has b xs ≡ false)
@@ -146,7 +147,7 @@ tokens-first b (c ∷ cs) e =
 -- whether what stands behind leading white space begins no item or option: it is empty, or a comment
 abbrev pub starts_nothing : List ℕ → Bool
 starts_nothing [] = true
-starts_nothing (b ∷ bs) = nat_eq b 124
+starts_nothing (b ∷ bs) = nat_eq b BAR
 
 and-one : (b : Bool) → (b && true) ≡ b
 and-one true = refl
@@ -157,11 +158,11 @@ pub skipped-front : (line front : List ℕ) → front ≡ drop_white line → st
 skipped-front line [] e = ap (λ ts. list_all is_bar (take 1 ts)) (ap tokens e ∙ tokens-drop_white line)
 skipped-front line (b ∷ bs) e =
     let dark : is_space b ≡ false = drop_white-first line b bs (sym e) in
-    sym (and-one (nat_eq b 124))
+    sym (and-one (nat_eq b BAR))
     ∙ ap (λ ts. list_all is_bar (take 1 ts)) (sym (tokens-first b bs dark) ∙ ap tokens e ∙ tokens-drop_white line)
 
 pub skipped-first : (line front : List ℕ) → front ≡ drop_white line → 1 ≤ length front
-    → nat_eq (get_or front 0 0) 124 ≡ is_skipped line
+    → nat_eq (get_or front 0 0) BAR ≡ is_skipped line
 skipped-first line [] e h = absurd (omega (arith, h))
 skipped-first line (b ∷ bs) e h = skipped-front line (b ∷ bs) e
 
@@ -237,7 +238,7 @@ word-parts (c ∷ cs) =
     ]) in h refl
 
 -- cutting behind a bar gives the first part
-pub cuts_bar : (line rest front back : List ℕ) → rest ≡ drop_white line → 0 < length rest → get_or rest 0 0 ≡ 124
+pub cuts_bar : (line rest front back : List ℕ) → rest ≡ drop_white line → 0 < length rest → get_or rest 0 0 ≡ BAR
     → front ≡ take 1 rest → back ≡ drop 1 rest
     → (parts line ≡ front ∷ parts back) × (length back < length line)
 cuts_bar line [] front back e h b f g = absurd (omega arith)
@@ -245,16 +246,16 @@ cuts_bar line (b ∷ bs) front back e h is f g =
     let dark : is_space b ≡ false = drop_white-first line b bs (sym e) in
     let l : length (b ∷ bs) ≤ length line = subst (λ xs. length xs ≤ length line) (sym e) (drop_white-length line) in
     let m : length back ≡ length bs = ap length g in
-    let all : parts line ≡ (124 ∷ []) ∷ parts bs =
+    let all : parts line ≡ (BAR ∷ []) ∷ parts bs =
     ap (flat_map split_bars) (sym (tokens-drop_white line) ∙ ap tokens (sym e) ∙ tokens-first b bs dark)
     ∙ ap (λ x. split_bars (x ∷ word bs) ++ flat_map split_bars (tokens (behind bs))) is
-    ∙ ap (λ ps. (124 ∷ []) ∷ ps) (word-parts bs) in
-    let f' : front ≡ 124 ∷ [] = f ∙ ap (λ x. x ∷ []) is in
+    ∙ ap (λ ps. (BAR ∷ []) ∷ ps) (word-parts bs) in
+    let f' : front ≡ BAR ∷ [] = f ∙ ap (λ x. x ∷ []) is in
     (all ∙ (λ i. sym f' i ∷ parts (sym g i)), omega arith)
 
 -- cutting at white space gives the first part, where it is no bar
 pub cuts_part : (line rest front back : List ℕ) → rest ≡ drop_white line → 0 < length rest
-    → nat_eq (get_or rest 0 0) 124 ≡ false → front ≡ take (length (word rest)) rest
+    → nat_eq (get_or rest 0 0) BAR ≡ false → front ≡ take (length (word rest)) rest
     → back ≡ drop (length (word rest)) rest
     → (parts line ≡ front ∷ parts back) × (length back < length line)
 cuts_part line [] front back e h n f g = absurd (omega arith)
@@ -263,7 +264,7 @@ cuts_part line (b ∷ bs) front back e h n f g =
     let w : word (b ∷ bs) ≡ b ∷ word bs = ap (λ t. if t then [] else b ∷ word bs) dark in
     let f' : front ≡ b ∷ word bs = f ∙ take-word (b ∷ bs) ∙ w in
     let one : split_bars front ≡ front ∷ [] = ap split_bars f'
-    ∙ ap (λ t. if t then (124 ∷ []) ∷ split_bars (word bs) else (b ∷ word bs) ∷ []) n ∙ ap (λ x. x ∷ []) (sym f') in
+    ∙ ap (λ t. if t then (BAR ∷ []) ∷ split_bars (word bs) else (b ∷ word bs) ∷ []) n ∙ ap (λ x. x ∷ []) (sym f') in
     let cut : (tokens line ≡ front ∷ tokens back) × (length back < length line) =
     cuts_first line (b ∷ bs) front back e h f g in
     (ap (flat_map split_bars) cut.0 ∙ ap (λ ps. ps ++ flat_map split_bars (tokens back)) one, cut.1)

@@ -16,6 +16,7 @@ use Rattle.xc_input.proofs.GrammarLemmas.NoFault.{or-false, no-cut, cut-at}
 use Rattle.xc_input.proofs.TokenLemmas.TableNames.{stored-name, stored-solid}
 use Rattle.xc_input.proofs.OptionLemmas.OneToken.{at-none, at-some}
 use Rattle.xc_input.proofs.TokenLemmas.Bytes.{behind, cuts_first, take-word, drop-word}
+use Rattle.xc_input.proofs.TokenLemmas.Separators.{COLON}
 
 -- bytes without white space at the front of a text are the front of its first word
 word-onto : (xs ys : List ℕ) → list_any is_space xs ≡ false → word (xs ++ ys) ≡ xs ++ word ys
@@ -49,7 +50,7 @@ cut-token names line rest name back others k t all e some whole at is stands cut
     solid : list_any is_space name ≡ false
     solid = stored-solid names name k all at
 
-    plain : has 58 name ≡ false
+    plain : has COLON name ≡ false
     plain = (stored-name names name k all.named at).no_colon
 
     by_colour : (c : Option (Bor (List ℕ))) → t.colour ≡ c → (text : List ℕ) × (tokens line ≡ text ∷ tokens others)
@@ -60,7 +61,7 @@ cut-token names line rest name back others k t all e some whole at is stands cut
         let first = first-token line rest name others e some
         (ap word whole ∙ word-onto name back solid ∙ ap (λ ys. name ++ ys) white.0 ∙ append-nil name)
         (ap behind whole ∙ behind-onto name back solid ∙ white.1 ∙ sym m.1) in
-        let own : before 58 name ≡ name = no-cut 58 name plain in (
+        let own : before COLON name ≡ name = no-cut COLON name plain in (
           name,
           first.0,
           first.1,
@@ -68,19 +69,21 @@ cut-token names line rest name back others k t all e some whole at is stands cut
             name = is ∙ sym own;
             place = stands ∙ sym at ∙ ap (place names) (sym own);
             colour =
-                subst (λ q. MatchOption q (has 58 name ≡ false) (λ c. (has 58 name ≡ true) × (c.now ≡ after 58 name)))
+                subst
+                (λ q. MatchOption q (has COLON name ≡ false)
+                (λ c. (has COLON name ≡ true) × (c.now ≡ after COLON name)))
                 (sym none) plain;
           },
         )
     by_colour (Some c) here =
         let m = at-some t.colour c _ _ here cut in
         let more : List ℕ = m.0 in
-        let text : List ℕ = name ++ 58 ∷ word more in
-        let whole' : rest ≡ name ++ 58 ∷ more = whole ∙ ap (λ ys. name ++ ys) m.1 in
+        let text : List ℕ = name ++ COLON ∷ word more in
+        let whole' : rest ≡ name ++ COLON ∷ more = whole ∙ ap (λ ys. name ++ ys) m.1 in
         let first = first-token line rest text others e some
-        (ap word whole' ∙ word-onto name (58 ∷ more) solid)
-        (ap behind whole' ∙ behind-onto name (58 ∷ more) solid ∙ sym (drop-word more) ∙ sym m.3) in
-        let own = cut-at 58 name (word more) plain in (
+        (ap word whole' ∙ word-onto name (COLON ∷ more) solid)
+        (ap behind whole' ∙ behind-onto name (COLON ∷ more) solid ∙ sym (drop-word more) ∙ sym m.3) in
+        let own = cut-at COLON name (word more) plain in (
           text,
           first.0,
           first.1,
@@ -88,7 +91,9 @@ cut-token names line rest name back others k t all e some whole at is stands cut
             name = is ∙ sym own.0;
             place = stands ∙ sym at ∙ ap (place names) (sym own.0);
             colour =
-                subst (λ q. MatchOption q (has 58 text ≡ false) (λ c. (has 58 text ≡ true) × (c.now ≡ after 58 text)))
+                subst
+                (λ q. MatchOption q (has COLON text ≡ false)
+                (λ c. (has COLON text ≡ true) × (c.now ≡ after COLON text)))
                 (sym here) (own.2, m.2 ∙ sym own.1);
           },
         )
@@ -99,16 +104,16 @@ by-first [] b h e = absurd (omega (arith, h))
 by-first (x ∷ xs) b h e = ap₂ (λ y ys. y ∷ ys) e (sym (take_all (length (x ∷ xs) - 1) xs (omega arith)))
 
 module _ (names : List (List ℕ)) (text : List ℕ) (t : Token) (cut : IsCutToken names text t) where
-  pub has-colour : is_some t.colour ≡ has 58 text
+  pub has-colour : is_some t.colour ≡ has COLON text
   has-colour = by_colour t.colour refl
     where
-      by_colour : (c : Option (Bor (List ℕ))) → t.colour ≡ c → is_some c ≡ has 58 text
+      by_colour : (c : Option (Bor (List ℕ))) → t.colour ≡ c → is_some c ≡ has COLON text
       by_colour None e = sym (at-none t.colour _ _ e cut.colour)
       by_colour (Some c) e = sym (at-some t.colour c _ _ e cut.colour).0
 
   -- whether it has a colour where none may have one, by a test of this
   pub stray : (kind : Kind) (test b : Bool) → test ≡ (is_plain kind && is_some t.colour) → test ≡ b
-      → (is_plain kind && has 58 text) ≡ b
+      → (is_plain kind && has COLON text) ≡ b
   stray kind test b e is = ap (λ x. is_plain kind && x) (sym has-colour) ∙ sym e ∙ is
 
   pub named-at : (at : Option ℕ) → t.place ≡ at → place names t.name.now ≡ at

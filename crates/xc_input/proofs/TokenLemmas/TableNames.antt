@@ -32,6 +32,7 @@ use Rattle.xc_input.proofs.GrammarLemmas.NoFault.{name-good, or-false}
 use Rattle.xc_input.proofs.FaultLemmas.Checks.{no-place}
 use Rattle.xc_input.proofs.TokenLemmas.Bytes.{not_false}
 use Rattle.xc_input.proofs.OptionLemmas.FlatParts.{slice_get-map-some}
+use Rattle.xc_input.proofs.TokenLemmas.Separators.{BAR}
 
 pub stored-name : (names : List (List ℕ)) (name : List ℕ) (k : ℕ) → All IsName names → place names name ≡ Some k
     → IsName name
@@ -71,9 +72,9 @@ pub name-solid : (kind : Kind) (secondary : Bool) (token name : List ℕ) (low h
     → record { name = name; low = low; high = high } ≡ entry kind secondary token → list_any is_space token ≡ false
     → list_any is_space name ≡ false
 name-solid kind secondary token name low high e h =
-    let P : Bool → Type 0 = λ t. list_any is_space (if t then after 124 token else token) ≡ false in
+    let P : Bool → Type 0 = λ t. list_any is_space (if t then after BAR token else token) ≡ false in
     let g : P (has_prefix kind token) =
-    (elim (has_prefix kind token) as P [ true ↦ after-solid 124 token h | false ↦ h ]) in
+    (elim (has_prefix kind token) as P [ true ↦ after-solid BAR token h | false ↦ h ]) in
     ap (λ (x : Entry). list_any is_space x.name) e ∙ g
 
 -- where no two names are the same, a name that was met at a place has no other

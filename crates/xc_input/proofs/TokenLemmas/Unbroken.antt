@@ -21,6 +21,7 @@ use Rattle.xc_input.specs.inner.EndedLines.{AreWhole}
 use Rattle.xc_input.proofs.GrammarLemmas.NoFault.{or-false, or-both}
 use Rattle.xc_input.specs.inner.Stages.{context}
 use Rattle.std.specs.Prelude.{flat_map}
+use Rattle.xc_input.proofs.TokenLemmas.Separators.{COLON, BAR}
 
 -- no byte of these passes the test
 abbrev AllLack : (ℕ → Bool) → List (List ℕ) → Type 0
@@ -77,10 +78,10 @@ lack-bars p [] h = tt
 lack-bars p (b ∷ bs) h =
     let apart = or-false (p b) (list_any p bs) h in
     let P : Bool → Type 0 =
-    λ t. nat_eq b 124 ≡ t → AllLack p (if t then (124 ∷ []) ∷ split_bars bs else (b ∷ bs) ∷ []) in
-    let g : P (nat_eq b 124) = (elim (nat_eq b 124) as P [
+    λ t. nat_eq b BAR ≡ t → AllLack p (if t then (BAR ∷ []) ∷ split_bars bs else (b ∷ bs) ∷ []) in
+    let g : P (nat_eq b BAR) = (elim (nat_eq b BAR) as P [
       | true ↦ λ e. (
-        or-both (p 124) false (subst (λ x. p x ≡ false) (eqb-true b 124 e) apart.0) refl,
+        or-both (p BAR) false (subst (λ x. p x ≡ false) (eqb-true b BAR e) apart.0) refl,
         lack-bars p bs
             apart.1,
       )
@@ -103,7 +104,7 @@ module _ (p : ℕ → Bool) (lacks : (line : List ℕ) → has 0 line ≡ false 
       → list_any p token ≡ false → list_any p e.name ≡ false
   lack-entry kind secondary token e (n, inl h) l = subst (λ xs. list_any p xs ≡ false) h.0 l
   lack-entry kind secondary token e (n, inr h) l =
-      lacks-behind p h.0 124 e.name (subst (λ xs. list_any p xs ≡ false) h.4 l)
+      lacks-behind p h.0 BAR e.name (subst (λ xs. list_any p xs ≡ false) h.4 l)
 
   lack-items : (kind : Kind) (names : List (List ℕ)) (bar : Option ℕ) (ps : List (List ℕ)) (es : List Entry) (n : ℕ)
       → ItemsBehind kind names bar ps es n → AllLack p ps → AllLack p (names_of es)
@@ -117,7 +118,7 @@ module _ (p : ℕ → Bool) (lacks : (line : List ℕ) → has 0 line ≡ false 
       → IsUse (context kind names primaries) token u → list_any p token ≡ false → list_any p u.colour ≡ false
   lack-use kind names primaries token u (name, i, n, q, r, inl h) l = ap (list_any p) h.1
   lack-use kind names primaries token u (name, i, n, q, r, inr h) l =
-      lacks-behind p name 58 u.colour (subst (λ xs. list_any p xs ≡ false) h.0 l)
+      lacks-behind p name COLON u.colour (subst (λ xs. list_any p xs ≡ false) h.0 l)
 
   lack-colour : (cs : List (List ℕ)) (c : List ℕ) → list_any p c ≡ false → AllLack p cs → AllLack p (with_colour cs c)
   lack-colour cs [] e h = h

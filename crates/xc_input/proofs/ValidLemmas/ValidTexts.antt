@@ -36,6 +36,7 @@ use Rattle.xc_input.proofs.GrammarLemmas.NoFault.{and-true}
 use Rattle.std.specs.Prelude.{flat_map}
 use Rattle.xc_input.specs.Faults.{has_primary}
 use Rattle.xc_input.specs.inner.Stages.{context}
+use Rattle.xc_input.proofs.TokenLemmas.Separators.{COLON, BAR}
 
 -- NUMBERS
 value-below : (n i : ℕ) (xs : List ℕ) → n < 10 ^ i → list_all is_ascii_digit xs ≡ true
@@ -44,7 +45,7 @@ value-below n i [] h e = let z : i + 0 ≡ i = omega arith in subst (λ k. n < 1
 value-below n i (x ∷ xs) h e =
     let a = and-true (is_ascii_digit x) (list_all is_ascii_digit xs) e in
     let b : nat_le x 57 ≡ true = (and-true (nat_le 48 x) (nat_le x 57) a.0).1 in
-    let c : x < 58 = grind (arith, nat_tests) in
+    let c : x < COLON = grind (arith, nat_tests) in
     let p : 10 ^ (i + 1) ≡ 10 ^ i * 10 = pow_more 10 i in
     let q : n * 10 + (x - 48) < 10 ^ (i + 1) = omega arith in
     let z : i + 1 + length xs ≡ i + length (x ∷ xs) = omega arith in
@@ -118,7 +119,7 @@ items-valid kind names (p ∷ ps) es n (inr h) m =
     (suc r.0, omega arith, subst (HaveBounds (suc r.0)) (sym h.2) (g.0, g.1, g.2, r.2), omega arith)
 
 -- the item line begins with an item
-first-part : (xs : List ℕ) (b : ℕ) (bs : List ℕ) → drop_white xs ≡ b ∷ bs → nat_eq b 124 ≡ false → (ps : List (List ℕ))
+first-part : (xs : List ℕ) (b : ℕ) (bs : List ℕ) → drop_white xs ≡ b ∷ bs → nat_eq b BAR ≡ false → (ps : List (List ℕ))
     × (parts xs ≡ (b ∷ word bs) ∷ ps)
 first-part xs b bs e f =
     let dark : is_space b ≡ false = drop_white-first xs b bs e in
@@ -126,7 +127,7 @@ first-part xs b bs e f =
     sym (tokens-drop_white xs) ∙ ap tokens e ∙ tokens-first b bs dark in (
       flat_map split_bars (tokens (behind bs)),
       ap (flat_map split_bars) t
-          ∙ ap (λ c. (if c then (124 ∷ []) ∷ split_bars (word bs) else (b ∷ word bs) ∷ []) ++ flat_map split_bars
+          ∙ ap (λ c. (if c then (BAR ∷ []) ∷ split_bars (word bs) else (b ∷ word bs) ∷ []) ++ flat_map split_bars
           (tokens (behind bs))) f,
     )
 
@@ -134,7 +135,7 @@ starts : (xs ys : List ℕ) → drop_white xs ≡ ys → is_skipped xs ≡ false
     × (parts xs ≡ p ∷ ps) × (is_bar p ≡ false)
 starts xs [] e f = let g : is_skipped xs ≡ true = sym (skipped-front xs [] (sym e)) in absurd (cc)
 starts xs (b ∷ bs) e f =
-    let g : nat_eq b 124 ≡ false = skipped-front xs (b ∷ bs) (sym e) ∙ f in
+    let g : nat_eq b BAR ≡ false = skipped-front xs (b ∷ bs) (sym e) ∙ f in
     let r = first-part xs b bs e g in (b ∷ word bs, r.0, r.1, g)
 
 from-first : (kind : Kind) (p : List ℕ) (ps : List (List ℕ)) (es : List Entry) (n : ℕ) → is_bar p ≡ false

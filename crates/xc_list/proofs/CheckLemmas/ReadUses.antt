@@ -15,15 +15,16 @@ use Rattle.xc_list.specs.Output.{bytes_at, use_word}
 use Rattle.xc_list.specs.inner.OptionIndex.{IsUseOfWord, HaveWords}
 use Rattle.xc_list.proofs.Writing.{colour_text-some}
 use Rattle.xc_list.proofs.CheckLemmas.ListedNumbers.{numbered_some, at_bytes, one_number}
+use Rattle.xc_input.proofs.TokenLemmas.Separators.{COLON}
 
 -- ---- the word of one use
 
 -- a name, and a colour's text behind it
-coloured : (colours : List (List ℕ)) (name : List ℕ) (c : ℕ) → has 58 name ≡ false → c ≤ length colours
-    → ((c ≡ 0) × (name ++ colour_text colours c ≡ name) × (has 58 (name ++ colour_text colours c) ≡ false))
+coloured : (colours : List (List ℕ)) (name : List ℕ) (c : ℕ) → has COLON name ≡ false → c ≤ length colours
+    → ((c ≡ 0) × (name ++ colour_text colours c ≡ name) × (has COLON (name ++ colour_text colours c) ≡ false))
     ⊎ ((numbered_get colours c ≡ Some (bytes_at colours c))
-    × (name ++ colour_text colours c ≡ name ++ 58 ∷ bytes_at colours c))
-coloured colours name zero h l = inl (refl, append-nil name, ap (has 58) (append-nil name) ∙ h)
+    × (name ++ colour_text colours c ≡ name ++ COLON ∷ bytes_at colours c))
+coloured colours name zero h l = inl (refl, append-nil name, ap (has COLON) (append-nil name) ∙ h)
 coloured colours name (suc c) h l =
     inr (
       numbered_some colours (suc c) [] (omega arith) l,
@@ -38,53 +39,55 @@ module _ (p : Named) (s : IsSound p) (u : Use) (known : IsKnownUse p u) where
   named : numbered_get p.names u.item ≡ Some (bytes_at p.names u.item)
   named = numbered_some p.names u.item [] known.0.0 within
 
-  no_colon : has 58 (bytes_at p.names u.item) ≡ false
+  no_colon : has COLON (bytes_at p.names u.item) ≡ false
   no_colon = (at_bytes IsName p.names u.item known.0.0 within s.named.names).no_colon
 
   -- a word without a colon is its item's name
-  pub plain-word : has 58 (use_word p u) ≡ false → (numbered_get p.names u.item ≡ Some (use_word p u)) × (u.colour ≡ 0)
+  pub plain-word : has COLON (use_word p u) ≡ false
+      → (numbered_get p.names u.item ≡ Some (use_word p u)) × (u.colour ≡ 0)
   plain-word h = elim (coloured p.colours (bytes_at p.names u.item) u.colour no_colon known.1) [
     | inl q ↦ (named ∙ ap (λ t. Some t) (sym q.1), q.0)
-    | inr q ↦ absurd (let cut = cut-at 58 (bytes_at p.names u.item) (bytes_at p.colours u.colour) no_colon in let e :
-        true ≡ false = sym cut.2 ∙ ap (has 58) (sym q.1) ∙ h in cc)
+    | inr q ↦ absurd (let cut = cut-at COLON (bytes_at p.names u.item) (bytes_at p.colours u.colour) no_colon in let e :
+        true ≡ false = sym cut.2 ∙ ap (has COLON) (sym q.1) ∙ h in cc)
   ]
 
   -- what stands before and behind the first colon of a word
-  pub cut-word : (front back : List ℕ) → has 58 front ≡ false → use_word p u ≡ front ++ 58 ∷ back
+  pub cut-word : (front back : List ℕ) → has COLON front ≡ false → use_word p u ≡ front ++ COLON ∷ back
       → (numbered_get p.names u.item ≡ Some front) × (numbered_get p.colours u.colour ≡ Some back)
   cut-word front back h e = elim (coloured p.colours (bytes_at p.names u.item) u.colour no_colon known.1) [
-    | inl q ↦ absurd (let cut = cut-at 58 front back h in let f : true ≡ false = sym cut.2 ∙ ap (has 58) (sym e)
+    | inl q ↦ absurd (let cut = cut-at COLON front back h in let f : true ≡ false = sym cut.2 ∙ ap (has COLON) (sym e)
         ∙ q.2 in cc)
     | inr q ↦
-        let own = cut-at 58 (bytes_at p.names u.item) (bytes_at p.colours u.colour) no_colon in
-        let cut = cut-at 58 front back h in
-        let same : bytes_at p.names u.item ++ 58 ∷ bytes_at p.colours u.colour ≡ front ++ 58 ∷ back = sym q.1 ∙ e in (
-          named ∙ ap (λ t. Some t) (sym own.0 ∙ ap (before 58) same ∙ cut.0),
+        let own = cut-at COLON (bytes_at p.names u.item) (bytes_at p.colours u.colour) no_colon in
+        let cut = cut-at COLON front back h in
+        let same : bytes_at p.names u.item ++ COLON ∷ bytes_at p.colours u.colour ≡ front ++ COLON ∷ back =
+        sym q.1 ∙ e in (
+          named ∙ ap (λ t. Some t) (sym own.0 ∙ ap (before COLON) same ∙ cut.0),
           q.0
-              ∙ ap (λ t. Some t) (sym own.1 ∙ ap (after 58) same ∙ cut.1),
+              ∙ ap (λ t. Some t) (sym own.1 ∙ ap (after COLON) same ∙ cut.1),
         )
   ]
 
 -- uses with one word are one
 pub one_word : (p : Named) → IsSound p → (u v : Use) → IsKnownUse p u → IsKnownUse p v → use_word p u ≡ use_word p v
     → u ≡ v
-one_word p s u v a b e = by_colon (has 58 (use_word p u)) refl
+one_word p s u v a b e = by_colon (has COLON (use_word p u)) refl
   where
     same : u.item ≡ v.item → u.colour ≡ v.colour → u ≡ v
     same i c = ap₂ (λ i c. let r : Use = record { item = i; colour = c } in r) i c
 
-    by_colon : (t : Bool) → has 58 (use_word p u) ≡ t → u ≡ v
+    by_colon : (t : Bool) → has COLON (use_word p u) ≡ t → u ≡ v
     by_colon false h =
         let x = plain-word p s u a h in
-        let y = plain-word p s v b (ap (has 58) (sym e) ∙ h) in
+        let y = plain-word p s v b (ap (has COLON) (sym e) ∙ h) in
         same (one_number p.names u.item v.item (use_word p v) s.named.distinct (x.0 ∙ ap (λ t. Some t) e) y.0)
         (x.1 ∙ sym y.1)
     by_colon true h =
-        let cut = cut-is 58 (use_word p u) h in
-        let x = cut-word p s u a (before 58 (use_word p u)) (after 58 (use_word p u)) cut.1 cut.0 in
-        let y = cut-word p s v b (before 58 (use_word p u)) (after 58 (use_word p u)) cut.1 (sym e ∙ cut.0) in
-        same (one_number p.names u.item v.item (before 58 (use_word p u)) s.named.distinct x.0 y.0)
-        (one_number p.colours u.colour v.colour (after 58 (use_word p u)) s.named.distinct_colours x.1 y.1)
+        let cut = cut-is COLON (use_word p u) h in
+        let x = cut-word p s u a (before COLON (use_word p u)) (after COLON (use_word p u)) cut.1 cut.0 in
+        let y = cut-word p s v b (before COLON (use_word p u)) (after COLON (use_word p u)) cut.1 (sym e ∙ cut.0) in
+        same (one_number p.names u.item v.item (before COLON (use_word p u)) s.named.distinct x.0 y.0)
+        (one_number p.colours u.colour v.colour (after COLON (use_word p u)) s.named.distinct_colours x.1 y.1)
 
 -- ---- the words of a body
 

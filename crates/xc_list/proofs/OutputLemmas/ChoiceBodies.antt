@@ -34,6 +34,7 @@ use Rattle.xc_list.specs.Listed.{is_body, stands_for, is_known, is_none}
 use Rattle.xc_list.proofs.Writing.{colour_text-some}
 use Rattle.xc_list.proofs.OutputLemmas.ReadLines.{IsPlain}
 use Rattle.xc_list.proofs.OutputLemmas.OutputLines.{body_words}
+use Rattle.xc_input.proofs.TokenLemmas.Separators.{COLON}
 
 -- ---- bytes
 
@@ -52,11 +53,11 @@ plain-colour p sound c h l =
     (at_bytes IsUnbroken p.colours c h l sound.named.unbroken_colours)
 
 -- a colour's text has no byte that breaks a word
-lacks-colour : (q : ℕ → Bool) (colours : List (List ℕ)) (c : ℕ) → q 58 ≡ false
+lacks-colour : (q : ℕ → Bool) (colours : List (List ℕ)) (c : ℕ) → q COLON ≡ false
     → (1 ≤ c → list_any q (bytes_at colours c) ≡ false) → list_any q (colour_text colours c) ≡ false
 lacks-colour q colours zero h k = refl
 lacks-colour q colours (suc c) h k = ap (list_any q) (colour_text-some colours (suc c) (omega arith))
-    ∙ or-both (q 58) (list_any q (bytes_at colours (suc c))) h (k (omega arith))
+    ∙ or-both (q COLON) (list_any q (bytes_at colours (suc c))) h (k (omega arith))
 
 plain-use : (p : Named) → IsSound p → (u : Use) → IsKnownUse p u → IsPlain (use_word p u)
 plain-use p sound u known =
@@ -159,7 +160,7 @@ not_null p sound none (u ∷ us) known w =
     let other : bytes_eq (use_word p u) (codes "null") ≡ false =
     not_false (bytes_eq (use_word p u) (codes "null")) (λ e.
     let is = (bytes_eq-Decides (use_word p u) (codes "null")).0 e in
-    let name = plain-word p sound u (All-head (IsKnownUse p) u us known) (ap (has 58) is) in
+    let name = plain-word p sound u (All-head (IsKnownUse p) u us known) (ap (has COLON) is) in
     at_number (λ n. n ≢ codes "null") p.names u.item (use_word p u) none name.0 is) in
     ap (λ t. t && pointwise bytes_eq (map (use_word p) us) (w ∷ [])) other
 

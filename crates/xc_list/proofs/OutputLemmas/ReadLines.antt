@@ -22,6 +22,7 @@ use Rattle.xc_list.specs.ListingLines.{words_in, before_last, header_number, is_
 use Rattle.xc_list.specs.ListingLines.{is_ending, body_of_words, body_of}
 use Rattle.xc_input.specs.Words.{are_digits}
 use Rattle.xc_list.specs.inner.ReadLines.{Line, Header, Body, Other, read}
+use Rattle.xc_input.proofs.TokenLemmas.Separators.{COLON}
 
 -- ---- digits
 
@@ -115,12 +116,12 @@ solution_number-decimal n h =
 
 pub read-header : (n : ℕ) → n < 2 ^ 64 → read (decimal n ++ codes ":") ≡ Header n
 read-header n h =
-    let number : header_number (decimal n ++ 58 ∷ []) ≡ Some n =
+    let number : header_number (decimal n ++ COLON ∷ []) ≡ Some n =
     ap (λ o. elim o as (λ _. Option ℕ) [ None ↦ None | Some text ↦ solution_number text ])
-    (before_last-last 58 (decimal n)) ∙ solution_number-decimal n h in
+    (before_last-last COLON (decimal n)) ∙ solution_number-decimal n h in
     ap (λ o. elim o as (λ _. Line) [
       | Some m ↦ Header m
-      | None ↦ elim (body_of (decimal n ++ 58 ∷ [])) as (λ _. Line)
+      | None ↦ elim (body_of (decimal n ++ COLON ∷ [])) as (λ _. Line)
           [ Some words ↦ Body words | None ↦ Other ]
     ]) number
 
@@ -250,10 +251,10 @@ no_header (b ∷ line) =
     let Q : Bool → ℕ → Type 0 = λ t m. (elim (if t then Some (take m text) else None) as (λ _. Option ℕ)
     [ None ↦ None | Some digits ↦ solution_number digits ]) ≡ None in
     let n : length text - 1 ≡ length (b ∷ line) = omega arith in
-    let h : Q (ends_with_byte 58 text) (length (b ∷ line)) =
-    (elim (ends_with_byte 58 text) as (λ t. Q t (length (b ∷ line)))
+    let h : Q (ends_with_byte COLON text) (length (b ∷ line)) =
+    (elim (ends_with_byte COLON text) as (λ t. Q t (length (b ∷ line)))
     [ true ↦ not_digits (take (length line) (b ∷ line)) | false ↦ refl ]) in
-    subst (Q (ends_with_byte 58 text)) (sym n) h
+    subst (Q (ends_with_byte COLON text)) (sym n) h
   where
     not_digits : (front : List ℕ) → solution_number (32 ∷ front) ≡ None
     not_digits front =

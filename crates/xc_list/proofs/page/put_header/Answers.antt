@@ -4,6 +4,7 @@ use Rattle.std.proofs.lemmas.List.{length-set}
 use Rattle.std.specs.Prelude.{slice_set}
 use Rattle.xc_list.proofs.PageLemmas.{header_held}
 use Rattle.xc_list.proofs.page.put_header.Goals as goal
+use Rattle.xc_input.proofs.TokenLemmas.Separators.{COLON}
 
 pub write_digits-from-requires : goal.write_digits-from-requires
 write_digits-from-requires c = (
@@ -11,8 +12,8 @@ write_digits-from-requires c = (
   omega (
     arith,
     c.requires,
-    length-set (slice_set c.args.page.now 20 58) 21 10,
-    length-set c.args.page.now 20 58,
+    length-set (slice_set c.args.page.now 20 COLON) 21 10,
+    length-set c.args.page.now 20 COLON,
   ),
 )
 

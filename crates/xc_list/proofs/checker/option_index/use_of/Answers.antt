@@ -4,12 +4,13 @@ use Rattle.xc_input.specs.Words.{has}
 use Rattle.xc_list.specs.inner.OptionIndex.{IsUseOfWord}
 use Rattle.xc_list.proofs.CheckLemmas.ReadUses.{plain-word, cut-word}
 use Rattle.xc_list.proofs.checker.option_index.use_of.Goals as goal
+use Rattle.xc_input.proofs.TokenLemmas.Separators.{COLON}
 
 pub returns-in_err-item-in-None : goal.returns-in_err-item-in-None
 returns-in_err-item-in-None c =
     subst (IsUseOfWord c.args.problem.now c.args.word.now) (sym c.from_residual.ensures) (λ u known e.
     c.in_err-item-in-None.ensures.none u.item
-    ((plain-word c.args.problem.now c.requires u known (ap (has 58) e ∙ c.in-None.ensures)).0 ∙ ap (λ t. Some t) e))
+    ((plain-word c.args.problem.now c.requires u known (ap (has COLON) e ∙ c.in-None.ensures)).0 ∙ ap (λ t. Some t) e))
 
 pub returns-in_err-item-in-Some : goal.returns-in_err-item-in-Some
 returns-in_err-item-in-Some c =
