@@ -154,6 +154,7 @@ class Case:
         self.seen[f"cut by {plan.by}"] += 1
         self.seen["branches left out"] += len(plan.left_out)
         self.seen["parts"] += self.count()
+        self.seen["paths"] += len(plan.paths)
         mishaps = [self.killed, self.twice, self.other_words, self.out_of_disk, self.changed]
         for mishap in self.rng.sample(mishaps, self.rng.randint(0, 3)):
             self.seen[mishap.__name__] += 1

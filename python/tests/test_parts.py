@@ -19,6 +19,7 @@ from helgrothy.errors import PartsFault
 from helgrothy.parts import progress
 from helgrothy.parts.__main__ import main
 from helgrothy.parts.folder import ranges
+from helgrothy.parts.plan import rows
 from helgrothy.parts.text import PartText, choice_lines
 
 COLOURS = ["a", "b", "red", "x:y", "|"]
@@ -100,6 +101,10 @@ class InParts(unittest.TestCase):
         """Where there is no planner, short runs of the program cut the search."""
         return mock.patch("helgrothy.parts.planner.find", side_effect=ProgramNotFound)
 
+    def apart(self):
+        """Where there is no dlx-below, each path is searched by a process of its own."""
+        return mock.patch("helgrothy.parts.runs.has", return_value=False)
+
     def queens(self, count: int = 4, by_planner: bool = False) -> parts.Folder:
         """Six queens in parts, all listed. The planner may give parts that are solutions, for which nothing is run."""
         lines = [" ".join([f"r{i}" for i in range(6)] + [f"c{i}" for i in range(6)] + ["|"])]
@@ -129,7 +134,8 @@ class Trees(InParts):
                     folder = self.split(kind, text, rng.choice([1, 2, 5, 20]))
                 self.assertEqual(folder.plan.by, "runs" if case % 2 else "dlx-plan")
                 for part in rng.sample(folder.plan.parts, len(folder.plan.parts)):
-                    parts.run(folder, part.number, ["m1"])
+                    with rng.choice([self.apart, contextlib.nullcontext])():
+                        parts.run(folder, part.number, ["m1"])
                 joined = parts.Joined(folder)
                 self.assertEqual(b"".join(joined.listing()), whole(kind, text, "m1")[0])
 
@@ -168,20 +174,47 @@ class Trees(InParts):
         self.assertGreater(len(by_planner.plan.left_out), 10)
         self.check_plan(by_planner)
         root = self.split(1, b"A B\nA\n", 5)
-        self.assertEqual([part.path for part in root.plan.parts], [()])
+        self.assertEqual(root.plan.paths, [()])
+
+    def test_rows_of_paths(self):
+        paths = [(parts.Choice("A", k, 500, k),) for k in range(1, 501)]
+        for count, some in ((20, paths), (33, paths), (5, paths[:3]), (1, paths[:7]), (7, paths[:7])):
+            cut = rows(some, count)
+            self.assertEqual([path for row in cut for path in row], some)
+            self.assertEqual(len(cut), min(count, len(some)))
+            self.assertLessEqual(max(map(len, cut)) - min(map(len, cut)), 1)
+        self.assertEqual(max(map(len, rows(paths, 1))), 100)
+        self.assertEqual([len(row) for row in rows([path * 4000 for path in paths], 2)], [2] * 250)
+        self.assertEqual([len(row) for row in rows([path * 20_000 for path in paths[:3]], 2)], [1] * 3)
+
+    def test_parts_of_several_paths(self):
+        folder = self.queens(2, by_planner=True)
+        self.assertEqual([len(part.paths) for part in folder.plan.parts], [2, 2])
+        self.assertEqual(folder.record(2).found, [1, 1])
+        self.check_plan(folder)
+        plan = folder.plan
+        row, other = plan.parts
+        for changed in ([*row.paths, other.paths[0]], row.paths[::-1], row.paths[:1], row.paths * 2, [()]):
+            with self.assertRaises(PartsFault):
+                changed_part = parts.Part(1, changed, 0.0)
+                parts.Plan(plan.program, plan.problem, plan.by, [changed_part, other], plan.left_out).check(
+                    parts.Tree(folder.problem, 1)
+                )
 
     def check_plan(self, folder):
         """Another plan than the folder's is refused, and so is a text that was changed."""
         plan = folder.plan
+        self.assertEqual(parts.Plan.read(plan.text()), plan)
         self.assertEqual(parts.Plan.read(plan.text()).text(), plan.text())
         tree = parts.Tree(folder.problem, 1)
         plan.check(tree)
         ps, left = plan.parts, plan.left_out
         some = next(at for at, part in enumerate(ps) if folder.record(part.number).solutions)
+        path = ps[some].paths[0]
         for changed in (ps[:some] + ps[some + 1 :], ps[::-1], [], ps[:1] * 2, [*ps, ps[-1]], ps[:1]):
             with self.assertRaises(PartsFault):
                 parts.Plan(plan.program, plan.problem, plan.by, changed, left).check(tree)
-        for changed in [[*left, ps[some].path], *([left[1:], [*left[1:], ps[some].path], left * 2] if left else [])]:
+        for changed in [[*left, path], *([left[1:], [*left[1:], path], left * 2] if left else [])]:
             with self.assertRaises(PartsFault):
                 parts.Plan(plan.program, plan.problem, plan.by, ps, changed).check(tree)
         changes = ("r0:1/6", "r0:1/7"), ("r0:1/6", "r1:1/6"), ("@2", "@3"), ("\nend ", "\nend 9"), ("dlx1", "dlx4")
@@ -189,16 +222,22 @@ class Trees(InParts):
             self.assertIn(old, plan.text())
             with self.assertRaises(PartsFault):
                 parts.Plan.read(plan.text().replace(old, new, 1)).check(tree)
+        for first, message in (
+            (b"helgrothy plan 2", "of another version: helgrothy plan 2, and not helgrothy plan 3"),
+            (b"helgrothy plan", "no whole plan"),
+            (b"3", "no whole plan"),
+        ):
+            with self.assertRaisesRegex(PartsFault, message):
+                parts.Plan.read(plan.text().replace(b"helgrothy plan 3", first))
 
     def test_numbers_of_parts(self):
         text = b"a b c d | x\n" + b"".join(b"%c x:%d\n" % (item, k) for item in b"abcd" for k in range(5))
-        for count, wanted in ((1, 1), (2, 5), (5, 5)):
+        for count, wanted in ((1, 1), (2, 2), (4, 4), (5, 5), (6, 5)):
             self.assertEqual(len(self.split(2, text, count).plan.parts), wanted)
-        self.assertEqual([part.path for part in parts.split("dlx2", text, self.path("p"), None, 9).plan.parts], [()])
+        self.assertEqual(parts.split("dlx2", text, self.path("p"), None, 9).plan.paths, [()])
         none = b"a b c | x\na\nb x\nc x\n"
-        self.assertEqual([part.path for part in self.split(1, none, 5).plan.parts], [()])
-        both = parts.split("dlx2", text, self.path("q"), 5, 9)
-        self.assertEqual([part.path for part in both.plan.parts], [()])
+        self.assertEqual(self.split(1, none, 5).plan.paths, [()])
+        self.assertEqual(parts.split("dlx2", text, self.path("q"), 5, 9).plan.paths, [()])
         planner = self.file("dlx-plan", b"#!/bin/sh\nwhile :; do :; done\n")
         os.chmod(planner, 0o755)
         with mock.patch("helgrothy.parts.planner.find", return_value=planner):
@@ -288,7 +327,8 @@ class Records(InParts):
             right[1:],
             right[:40] + b"\0" + right[41:],
             right.replace(b"(1 of 6)", b"(2 of 6)").replace(b"c", b"C", 1),
-            right.replace(b'"solutions": ', b'"solutions": 1'),
+            right.replace(b'"found": [', b'"found": [1'),
+            right.replace(b'"found": [', b'"found": [0, '),
             right.replace(b'["m1"]', b"[]"),
             right.replace(b'["m1"]', b'["t1"]'),
             right.replace(b'"dlx1"', b'"dlx2"'),
@@ -320,7 +360,7 @@ class Records(InParts):
         with open(folder.done(1), "rb") as file:
             right = file.read()
         for n in (b"17", b"9"):
-            self.file(folder.done(1), right.replace(b'"solutions": %d' % record.solutions, b'"solutions": ' + n))
+            self.file(folder.done(1), right.replace(b'"found": [%d' % record.solutions, b'"found": [' + n))
             self.assertIn("part 1 is doubtful: its record is damaged", self.reasons())
         self.assertEqual(parts.run(folder, 1, ["m1"]).solutions, record.solutions)
 

@@ -71,18 +71,17 @@ def _planned(tree: Tree, parts: Optional[int], seconds: Optional[float]) -> Opti
         planner = Planner(tree)
     except ProgramNotFound:
         return None
-    paths = planner.cut(parts, seconds)
-    if paths is None:
+    cut = planner.cut(parts, seconds)
+    if cut is None:
         return None
-    # Where there is no solution there is a part all the same.
-    paths = paths or [()]
-    return BY_PLANNER, [Part(number, path, 0.0) for number, path in enumerate(paths, 1)], left_out(tree, paths)
+    without = left_out(tree, [path for paths in cut for path in paths])
+    return BY_PLANNER, [Part(number, paths, 0.0) for number, paths in enumerate(cut, 1)], without
 
 
 def _grown(tree: Tree, program: str, parts: Optional[int], seconds: Optional[float]) -> _Cut:
     """The cut by short runs of the program. What it leaves out has no solution, as a search of a few nodes shows."""
     cut = grow(tree, program, parts, seconds)
-    without = left_out(tree, [part.path for part in cut])
+    without = left_out(tree, [path for part in cut for path in part.paths])
     for path in without:
         if not tree.node(path).is_barren():
             raise PartsFault("the cut leaves out a branch that may have solutions")

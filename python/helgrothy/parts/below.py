@@ -1,4 +1,4 @@
-"""Many parts run in one process, by the program dlx-below: it reads the problem once, and starts once for all of them."""
+"""Many parts run in one process, by the program dlx-below: it reads the problem once, and starts once for all."""
 
 from __future__ import annotations
 
@@ -14,13 +14,12 @@ from ..errors import ProgramFailed
 from ..guard import let_go, start
 from ..programs import find
 from .folder import PROBLEM, Folder, Output, Record
+from .plan import MOST_WORDS
 from .text import choice_lines
 
 NAME = "dlx-below"
 _CHUNK = 1 << 18
 _LAST_LINE = re.compile(rb"^Altogether (\d+) solutions?\.\n", re.MULTILINE)
-# A command has so many words at most, which every system lets through.
-_MOST_WORDS = 10_000
 # How a line ends that begins a solution. No other line ends so.
 _HEADER = b":\n"
 
@@ -30,8 +29,8 @@ def batches(folder: Folder, numbers: Sequence[int]) -> Iterator[List[int]]:
     batch: List[int] = []
     words = 0
     for number in numbers:
-        more = len(folder.part(number).path) + 1
-        if batch and words + more > _MOST_WORDS:
+        more = sum(len(path) + 1 for path in folder.part(number).paths)
+        if batch and words + more > MOST_WORDS:
             yield batch
             batch, words = [], 0
         batch.append(number)
@@ -42,7 +41,8 @@ def batches(folder: Folder, numbers: Sequence[int]) -> Iterator[List[int]]:
 
 def words_of_parts(folder: Folder, numbers: Sequence[int], words: List[str]) -> List[str]:
     """The program's words for these parts."""
-    branches = [str(k) for n in numbers for k in [*(choice.k for choice in folder.part(n).path), 0]]
+    paths = [path for number in numbers for path in folder.part(number).paths]
+    branches = [str(k) for path in paths for k in [*(choice.k for choice in path), 0]]
     return [str(folder.plan.kind), "m1" if words else "m0", *branches]
 
 
@@ -70,7 +70,8 @@ class Below:
     def run(self, number: int) -> Record:
         """The record of the next part."""
         with Output(self._folder, number) as output:
-            solutions = self._copy(output.file, choice_lines(self._folder.lines, self._folder.part(number).path))
+            paths = [choice_lines(self._folder.lines, path) for path in self._folder.part(number).paths]
+            found = [self._copy(output.file, path) for path in paths]
             before, self._seconds = self._seconds, self._used()
             summed = output.summed()
             record = Record(
@@ -78,7 +79,7 @@ class Below:
                 program=self._folder.plan.program,
                 words=self._words,
                 status=0,
-                solutions=solutions,
+                found=found,
                 seconds=max(self._seconds - before, 0.0),
                 problem=self._folder.plan.problem,
                 plan=self._folder.plan_digest,
@@ -90,7 +91,7 @@ class Below:
         return record
 
     def _copy(self, file: IO[bytes], path: bytes) -> int:
-        """Writes the next part's listing without the path before each solution, and tells how many there are."""
+        """Writes the next path's listing without the path before each solution, and tells how many there are."""
         while True:
             last = _LAST_LINE.search(self._rest)
             if last is not None:

@@ -2,11 +2,12 @@
 
     problem.dlx                         the problem's text, once
     plan                                a line for each part
-    00017.done                          the listing of part 17, and behind it a line with its record
+    00017.done                          the listings of part 17, and behind them a line with its record
     00017.failed                        why it failed
     00017.HOST.PROCESS.NUMBER.tmp       a run that goes on, or that was broken off
 
-A part is done when its `.done` stands. A run writes to a file of its own, which gets that name only behind status 0,
+A part's listings are those below its paths, each as it is numbered by itself and without the path. A part is done when
+its `.done` stands. A run writes to a file of its own, which gets that name only behind status 0,
 with the record in it, and once the disk has it. So no run can touch what another one made but by putting a whole
 listing with its record in its place.
 """
@@ -39,18 +40,26 @@ _JUST_NOW = 10.0
 
 @dataclass(frozen=True)
 class Record:
-    """What a run of a part gave. `listing` and `length` are digest and bytes of the listing that it stands behind."""
+    """What a run of a part gave.
+
+    `found` are the numbers of solutions below its paths, `listing` and `length` digest and bytes of the listings that
+    the record stands behind.
+    """
 
     part: int
     program: str
     words: List[str]
     status: int
-    solutions: int
+    found: List[int]
     seconds: float
     problem: str
     plan: str
     listing: str
     length: int
+
+    @property
+    def solutions(self) -> int:
+        return sum(self.found)
 
     def line(self) -> bytes:
         """The record's line, with its own digest at the end."""
@@ -157,6 +166,7 @@ class Folder:
             (record.program == self.plan.program, "is of another program"),
             (record.problem == self.plan.problem, "is of another problem"),
             (record.plan == self.plan_digest, "is of another plan"),
+            (len(record.found) == len(self.part(number).paths), "is of other paths"),
             (record.words in ([], ["m1"]), "has words that cut the part short"),
             (record.status == 0, "has another status than 0"),
         ):

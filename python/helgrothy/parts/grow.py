@@ -33,7 +33,7 @@ _ROOM = 10_000_000
 
 
 def grow(tree: Tree, program: str, parts: Optional[int] = None, seconds: Optional[float] = None) -> List[Part]:
-    """The parts of a problem: at least so many, where it has them, or such that none is judged to take longer.
+    """The parts of a problem, each of one path: at least so many, or such that none is judged to take longer.
 
     With both given, what comes first. Raises `ProgramNotFound` and `ProgramFailed`.
     """
@@ -153,7 +153,7 @@ class _Growth:
             if not self.cut_one(leaf):
                 self.closed.append(leaf)
         leaves = sorted([*self.open, *self.closed], key=lambda leaf: [choice.k for choice in leaf.path])
-        return [Part(number, leaf.path, leaf.size.seconds) for number, leaf in enumerate(leaves, 1)]
+        return [Part(number, [leaf.path], leaf.size.seconds) for number, leaf in enumerate(leaves, 1)]
 
     def is_enough(self) -> bool:
         if self.parts is not None and len(self.open) + len(self.closed) >= self.parts:

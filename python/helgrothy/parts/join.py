@@ -2,7 +2,7 @@
 
 from __future__ import annotations
 
-from typing import IO, Dict, Iterable, Iterator, List
+from typing import IO, Dict, Iterable, Iterator, List, Sequence, Tuple
 
 from ..errors import PartsFault
 from .folder import Doubt, Folder, Record, Summed, chunks, ranges
@@ -38,10 +38,10 @@ class Joined:
         """The listing of the whole; nothing where the parts were only counted."""
         number = 0
         for record in self._records if self.is_listed else []:
-            path = choice_lines(self._folder.lines, self._folder.part(record.part).path)
+            paths = [choice_lines(self._folder.lines, path) for path in self._folder.part(record.part).paths]
             try:
                 with open(self._folder.done(record.part), "rb") as file:
-                    yield from _renumbered(_checked(file, record), number, path)
+                    yield from _renumbered(_checked(file, record), number, _heads(paths, record.found))
             except (Doubt, FileNotFoundError):
                 raise NotJoined([f"part {record.part} was changed while it was read"]) from None
             number += record.solutions
@@ -87,20 +87,26 @@ def _checked(file: IO[bytes], record: Record) -> Iterator[bytes]:
     summed.compare(record)
 
 
-def _renumbered(listing: Iterable[bytes], before: int, path: bytes) -> Iterator[bytes]:
-    """A part's listing as a piece of the whole: its numbers go on, and its path stands in front of each solution."""
+def _heads(paths: Sequence[bytes], found: Sequence[int]) -> Iterator[Tuple[bytes, bytes]]:
+    """Of each solution of a part the number that it has there, below its path, and that path."""
+    for path, solutions in zip(paths, found):
+        for number in range(1, solutions + 1):
+            yield b"%d" % number, path
+
+
+def _renumbered(listing: Iterable[bytes], before: int, heads: Iterator[Tuple[bytes, bytes]]) -> Iterator[bytes]:
+    """A part's listings as a piece of the whole: numbers go on, and its path stands in front of each solution."""
     rest = b""
-    number = 0
+    number = before
     for chunk in listing:
         # Of the lines only a solution's first one ends with a colon.
         pieces = (rest + chunk).split(b":\n")
         rest = pieces.pop()
         made: List[bytes] = []
-        for piece in pieces:
+        for piece, (own, path) in zip(pieces, heads):
             number += 1
-            own = b"%d" % number
             if piece != own and not piece.endswith(b"\n" + own):
                 raise Doubt("its numbers aren't in order")
-            made.append(b"%s%d:\n%s" % (piece[: -len(own)], before + number, path))
+            made.append(b"%s%d:\n%s" % (piece[: -len(own)], number, path))
         yield b"".join(made)
     yield rest

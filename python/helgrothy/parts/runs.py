@@ -15,6 +15,7 @@ from ..programs import find, has
 from .below import NAME, Below, batches
 from .folder import Doubt, Failure, Folder, Output, Record, host, keep_failure, reason_of
 from .text import PartText
+from .tree import Path
 
 _LAST_LINE = re.compile(rb"Altogether (\d+) solutions?\.\n\Z")
 _WORD = re.compile(r"m0*([01])\Z")
@@ -34,10 +35,10 @@ def words_of(words: Sequence[str]) -> List[str]:
 def run_all(folder: Folder, numbers: Sequence[int], words: List[str]) -> Iterator[Tuple[int, Exception]]:
     """Runs parts that aren't done, and gives those that failed, with the reason.
 
-    Many in a row are run by one process, where the program for that is found.
+    Many paths in a row are searched by one process, where the program for that is found.
     """
     numbers = [number for number in numbers if not _is_done(folder, number, words)]
-    if len(numbers) > 1 and has(NAME):
+    if sum(len(folder.part(number).paths) for number in numbers) > 1 and has(NAME):
         for batch in batches(folder, numbers):
             yield from _run_batch(folder, batch, words)
     else:
@@ -118,29 +119,26 @@ class _Ended(NamedTuple):
     seconds: float
 
 
+class _Ran(NamedTuple):
+    solutions: int
+    seconds: float
+
+
 def _run(folder: Folder, number: int, words: List[str]) -> Record:
-    program = folder.plan.program
-    part = PartText(folder.lines, folder.plan.kind, folder.part(number).path)
+    paths = folder.part(number).paths
+    if len(paths) > 1 and has(NAME):
+        with Below(folder, [number], words) as below:
+            return below.run(number)
     with Output(folder, number) as output:
-        if part.is_solution:
-            # Nothing is left to search: the path is the one solution.
-            output.file.write(b"1:\n" if words else b"")
-            output.file.flush()
-            ended = _Ended(0, b"Altogether 1 solution.\n", 0.0)
-        else:
-            ended = _search([find(program), *words], part.text(), output.file)
-        told = _LAST_LINE.search(ended.told)
-        if ended.status != 0 or told is None:
-            raise ProgramFailed(program, ended.status, ended.told.decode("utf-8", "replace").strip())
-        solutions = int(told.group(1))
+        ran = [_run_path(folder, path, words, output.file) for path in paths]
         summed = output.summed()
         record = Record(
             part=number,
-            program=program,
+            program=folder.plan.program,
             words=words,
-            status=ended.status,
-            solutions=solutions,
-            seconds=ended.seconds,
+            status=0,
+            found=[path.solutions for path in ran],
+            seconds=sum(path.seconds for path in ran),
             problem=folder.plan.problem,
             plan=folder.plan_digest,
             listing=summed.digest,
@@ -149,6 +147,23 @@ def _run(folder: Folder, number: int, words: List[str]) -> Record:
         summed.compare(record)
         output.keep(record)
     return record
+
+
+def _run_path(folder: Folder, path: Path, words: List[str], out: IO[bytes]) -> _Ran:
+    """Writes the listing of what is left below a path, behind what the file has."""
+    program = folder.plan.program
+    part = PartText(folder.lines, folder.plan.kind, path)
+    if part.is_solution:
+        # Nothing is left to search: the path is the one solution.
+        out.seek(0, os.SEEK_END)
+        out.write(b"1:\n" if words else b"")
+        out.flush()
+        return _Ran(1, 0.0)
+    ended = _search([find(program), *words], part.text(), out)
+    told = _LAST_LINE.search(ended.told)
+    if ended.status != 0 or told is None:
+        raise ProgramFailed(program, ended.status, ended.told.decode("utf-8", "replace").strip())
+    return _Ran(int(told.group(1)), ended.seconds)
 
 
 def _search(command: List[str], text: Iterable[bytes], out: IO[bytes]) -> _Ended:
