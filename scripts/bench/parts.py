@@ -2,19 +2,22 @@
 """parts.py [--parts N] [--rounds K] [--core C] [--page PAGE] PROGRAM PROBLEM..: what a search in parts costs.
 
 For each problem the search is cut into at least N parts (1000), and K times (3), in turn, the whole is counted by its
-program, the parts in a row by one process of dlx-below, with the words that dlx-run gives it, all of them by dlx-run,
-and each by a process of its own. Printed is a row of processor seconds, each the least of its rounds: the whole, how
-many parts and what cut the search, the planning, the sum over the parts in a row divided by the whole, the least part
-of these, the median, and the greatest, with how many times the mean it is; then what dlx-run takes by itself for a
-part, and the sum over processes of their own divided by the whole. Nothing is listed. The numbers of solutions have to
-agree. With --page the rows take the place of those of the table with the same head in a page.
+program, the parts in a row by the processes of dlx-below that dlx-run has, with the words that it gives them, all of
+them by dlx-run, and each by a process of its own. Printed is a row of processor seconds, each the least of its rounds:
+the whole, how many parts of how many paths, what cut the search, the planning, the sum over the parts in a row divided
+by the whole, the least part of these, the median, and the greatest, with how many times the mean it is; then what
+dlx-run takes by itself for a part, and the sum over processes of their own divided by the whole. Nothing is listed. The
+numbers of solutions have to agree. With --page the rows take the place of those of the table with the same head in a
+page.
 
-A part is over where its line comes. So that the clock is read at once, and not while the next part is searched, all is
+A path is over where its line comes. So that the clock is read at once, and not while the next part is searched, all is
 bound to one core (the last), and this process goes before whatever else would run there, for which it has to be root's.
 """
 
 import argparse
+import itertools
 import os
+import resource
 import statistics
 import subprocess
 import sys
@@ -25,12 +28,12 @@ TOP = os.path.dirname(os.path.dirname(os.path.dirname(os.path.abspath(__file__))
 sys.path.insert(0, os.path.join(TOP, "python"))
 
 from helgrothy import parts, programs  # noqa: E402
-from helgrothy.parts.below import NAME, words_of_parts  # noqa: E402
+from helgrothy.parts.below import NAME, batches, words_of_parts  # noqa: E402
 from page import put  # noqa: E402
 
 HEAD = [
-    "| Search | Parts | Cut by | Planning | Sum | Least | Median | Greatest | `dlx-run` | Apart |",
-    "|---|---|---|---|---|---|---|---|---|---|",
+    "| Search | Parts | Paths | Cut by | Planning | Sum | Least | Median | Greatest | `dlx-run` | Apart |",
+    "|---|---|---|---|---|---|---|---|---|---|---|",
 ]
 FIRST = os.sched_param(1)
 
@@ -53,9 +56,9 @@ def whole(program, problem):
 
 
 def row(folder, problem, numbers):
-    """The processor seconds of parts in a row, and those that were over at each part's end, of the first one twice.
+    """The processor seconds of a process over parts in a row, and those of each part.
 
-    Before its first end lies the start of the process, too.
+    The first part is searched twice, since before its first end lies the start of the process, too.
     """
     with open(problem) as given:
         command = [programs.find(NAME), *words_of_parts(folder, numbers[:1] + numbers, [])]
@@ -67,8 +70,17 @@ def row(folder, problem, numbers):
         while lines := told.read(1 << 16):
             ends += [time.clock_gettime(clock)] * lines.count(b"\n")
     os.sched_setscheduler(0, os.SCHED_OTHER, os.sched_param(0))
-    assert len(ends) == len(numbers) + 1
-    return ended(process) - (ends[1] - ends[0]), ends
+    paths = [len(folder.part(number).paths) for number in numbers[:1] + numbers]
+    assert len(ends) == sum(paths)
+    ends = [ends[path - 1] for path in itertools.accumulate(paths)]
+    seconds = [after - before for before, after in zip(ends, ends[1:])]
+    return ended(process) - seconds[0], seconds
+
+
+def in_rows(folder, problem, numbers):
+    """The processor seconds of parts in a row by all processes, and those of each part."""
+    totals, seconds = zip(*(row(folder, problem, batch) for batch in batches(folder, numbers)))
+    return sum(totals), list(itertools.chain.from_iterable(seconds))
 
 
 def by_command(folder):
@@ -79,8 +91,10 @@ def by_command(folder):
 def by_itself(folder, number):
     """The processor seconds and solutions of a part in a process of its own."""
     os.remove(folder.done(number))
-    record = parts.run(folder, number, [])
-    return record.seconds, record.solutions
+    before = resource.getrusage(resource.RUSAGE_CHILDREN)
+    found = parts.run(folder, number, []).solutions
+    after = resource.getrusage(resource.RUSAGE_CHILDREN)
+    return after.ru_utime + after.ru_stime - before.ru_utime - before.ru_stime, found
 
 
 def measure(program, problem, count, rounds):
@@ -94,20 +108,20 @@ def measure(program, problem, count, rounds):
         runs = []
         for _ in range(rounds):
             total, told = whole(program, problem)
-            in_row, ends = row(folder, problem, numbers)
+            in_row, seconds = in_rows(folder, problem, numbers)
             commanded = by_command(folder)
             apart = [by_itself(folder, number) for number in numbers]
             assert f"Altogether {sum(found for _, found in apart)} solution" in told
-            runs.append((total, in_row, commanded, sum(seconds for seconds, _ in apart), ends))
+            runs.append((total, in_row, commanded, sum(took for took, _ in apart), seconds))
             for number in numbers:
                 os.remove(folder.done(number))
     total, in_row, commanded, apart = (min(run[k] for run in runs) for k in range(4))
-    several = ([after - before for before, after in zip(run[4], run[4][1:])] for run in runs)
-    seconds = [min(took) for took in zip(*several)]
+    seconds = [min(took) for took in zip(*(run[4] for run in runs))]
     least, middle, greatest = (1000 * f(seconds) for f in (min, statistics.median, max))
     name = os.path.basename(problem).removesuffix(".dlx")
     return (
-        f"| {name}, {total:.2f} s | {len(numbers):,} | `{folder.plan.by}` | {planning:.1f} s | {in_row / total:.2f} "
+        f"| {name}, {total:.2f} s | {len(numbers):,} | {len(folder.plan.paths):,} "
+        f"| `{folder.plan.by}` | {planning:.1f} s | {in_row / total:.2f} "
         f"| {least:.1f} ms | {middle:.1f} ms | {greatest:.1f} ms, {greatest * len(numbers) / sum(seconds) / 1000:.1f} "
         f"| {1000 * (commanded - in_row) / len(numbers):.1f} ms | {apart / total:.2f} |"
     )
