@@ -19,7 +19,7 @@ from helgrothy.errors import PartsFault
 from helgrothy.parts import progress
 from helgrothy.parts.__main__ import main
 from helgrothy.parts.folder import ranges
-from helgrothy.parts.plan import rows
+from helgrothy.parts.plan import path_words, rows
 from helgrothy.parts.text import PartText, choice_lines
 
 COLOURS = ["a", "b", "red", "x:y", "|"]
@@ -210,7 +210,7 @@ class Trees(InParts):
         plan.check(tree)
         ps, left = plan.parts, plan.left_out
         some = next(at for at, part in enumerate(ps) if folder.record(part.number).solutions)
-        path = ps[some].paths[0]
+        path = path_words(ps[some].paths[0])
         for changed in (ps[:some] + ps[some + 1 :], ps[::-1], [], ps[:1] * 2, [*ps, ps[-1]], ps[:1]):
             with self.assertRaises(PartsFault):
                 parts.Plan(plan.program, plan.problem, plan.by, changed, left).check(tree)

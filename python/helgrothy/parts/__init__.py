@@ -18,7 +18,7 @@ from ..errors import PartsFault, ProgramNotFound
 from .folder import Doubt, Folder, Record, refuse
 from .grow import grow
 from .join import Joined, NotJoined
-from .plan import BY_PLANNER, BY_RUNS, Part, Plan, digest, left_out
+from .plan import BY_PLANNER, BY_RUNS, Part, Plan, digest, left_out, path_words
 from .planner import Planner
 from .runs import run, words_of
 from .states import State, state
@@ -56,8 +56,8 @@ def split(
     if parts is None and seconds is None:
         parts = DEFAULT_PARTS
     tree = Tree(problem, int(program[-1]))
-    cut = _planned(tree, parts, seconds) or _grown(tree, program, parts, seconds)
-    Folder.create(folder, problem, Plan(program, digest(problem), *cut))
+    by, cut, without = _planned(tree, parts, seconds) or _grown(tree, program, parts, seconds)
+    Folder.create(folder, problem, Plan(program, digest(problem), by, cut, list(map(path_words, without))))
     return Folder(folder)
 
 

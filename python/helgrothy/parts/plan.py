@@ -34,7 +34,7 @@ _FIRST = "helgrothy plan 3"
 _OF_ANY_VERSION = re.compile(r"helgrothy plan [0-9]+\Z")
 _HEAD = 4
 _NEXT_PATH = " + "
-_LEFT_OUT = "-"
+_LEFT_OUT = "- "
 BY_PLANNER, BY_RUNS = "dlx-plan", "runs"
 # A part has so many paths at most, so that its record, with a number for each, stays short.
 _LONGEST_ROW = 100
@@ -69,14 +69,15 @@ def digest(content: bytes) -> str:
 class Plan:
     """The parts of a problem for a program, and the branches that were left out.
 
-    `problem` is the digest of the problem's text, `by` says what cut the search: `BY_PLANNER` or `BY_RUNS`.
+    `problem` is the digest of the problem's text, `by` says what cut the search: `BY_PLANNER` or `BY_RUNS`. A branch
+    that was left out is told by the words of its path: there may be many, and only `check` looks at them.
     """
 
     program: str
     problem: str
     by: str
     parts: Sequence[Part]
-    left_out: Sequence[Path] = ()
+    left_out: Sequence[str] = ()
 
     @property
     def kind(self) -> int:
@@ -90,10 +91,9 @@ class Plan:
     def text(self) -> bytes:
         lines = [_FIRST, f"program {self.program}", f"problem {self.problem}", f"by {self.by}"]
         for part in self.parts:
-            first, *others = part.paths
-            lines.append(_words(str(part.number), f"{part.seconds:.3f}", path=first))
-            lines[-1] += "".join(_NEXT_PATH + _words(path=path) for path in others)
-        lines.extend(_words(_LEFT_OUT, path=path) for path in self.left_out)
+            paths = _NEXT_PATH.join(map(path_words, part.paths))
+            lines.append(f"{part.number} {part.seconds:.3f} {paths}".rstrip())
+        lines.extend(_LEFT_OUT + words for words in self.left_out)
         lines.append(f"end {len(lines) - _HEAD}")
         return bytes_of("".join(f"{line}\n" for line in lines))
 
@@ -111,7 +111,7 @@ class Plan:
         body = lines[_HEAD:-2]
         count = sum(not line.startswith(_LEFT_OUT) for line in body)
         parts = [_part(number, line) for number, line in enumerate(body[:count], 1)]
-        return cls(program, problem, by, parts, [_left_out(line) for line in body[count:]])
+        return cls(program, problem, by, parts, [line[len(_LEFT_OUT) :] for line in body[count:]])
 
     def check(self, tree: Tree) -> None:
         """Raises `PartsFault` unless each branch of the search's tree is below one path, in order, or left out.
@@ -120,7 +120,7 @@ class Plan:
         """
         found, said = left_out(tree, self.paths), set(self.left_out)
         for path in found:
-            if path not in said:
+            if path_words(path) not in said:
                 raise PartsFault(f"the plan has no part below {_told(path)}")
         if len(found) != len(self.left_out):
             raise PartsFault("the plan leaves out what is none of its branches")
@@ -167,8 +167,9 @@ def choices_of(words: Sequence[str], line_of: Optional[Sequence[int]] = None) ->
     return tuple(path)
 
 
-def _words(*before: str, path: Path) -> str:
-    return " ".join([*before, *(f"{choice.item}:{choice.k}/{choice.n}@{choice.line}" for choice in path)])
+def path_words(path: Path) -> str:
+    """A path as a plan has it."""
+    return " ".join(f"{choice.item}:{choice.k}/{choice.n}@{choice.line}" for choice in path)
 
 
 def _part(number: int, line: str) -> Part:
@@ -179,13 +180,6 @@ def _part(number: int, line: str) -> Part:
     except (ValueError, IndexError):
         pass
     raise PartsFault(f"the plan's line of part {number} is damaged")
-
-
-def _left_out(line: str) -> Path:
-    words = line.split(" ")
-    if words[0] != _LEFT_OUT or len(words) < 2:
-        raise PartsFault("the plan's lines of what is left out are damaged")
-    return choices_of(words[1:])
 
 
 def _told(path: Path) -> str:
