@@ -1,11 +1,11 @@
 //! Whole runs over parts of a search.
 use crate::words::gathered;
-use fixtures::{SEVEN, TWICE};
+use fixtures::{SEVEN, THREE_ALIKE, TWICE};
 use std::alloc::Global;
 use std::test::Fail;
 use xc_input::Feed;
 use xc_list::Tray;
-use xc_tools::solve_parts;
+use xc_tools::{Outgoing, solve_parts};
 
 /// Whether `solve_parts` tells this of a problem.
 fn parts_give(
@@ -70,5 +70,49 @@ fn parts_that_are_refused(rt: HostRuntime) -> Result<(), Fail> {
             b"Line 1: no items.\n"
         )?
     );
+    Ok(())
+}
+
+/// The status of a run whose output holds some lines back, with what it passes on.
+fn passed_on(
+    alloc: Global,
+    words: &[&[u8]],
+    text: &[u8],
+    err: &mut Tray,
+) -> Result<(u8, Vec<u8>), Fail> {
+    let words = gathered(alloc, words)?;
+    let mut input = Feed::new(text, 100, None);
+    let mut passed = Vec::new(alloc);
+    let status = {
+        let mut out = Outgoing::new(alloc, &mut passed, false)?;
+        solve_parts(alloc, &words, &mut input, &mut out, err)
+    };
+    Ok((status, passed))
+}
+
+/// Whether a text is a part so many times.
+fn is_repeated(text: &[u8], part: &[u8], times: u64) -> bool {
+    let mut left = text;
+    for _ in 0..times {
+        match left.strip_prefix(part) {
+            Some(rest) => left = rest,
+            None => return false,
+        }
+    }
+    left.is_empty()
+}
+
+#[test]
+fn parts_before_a_refused_one_are_passed_on(rt: HostRuntime) -> Result<(), Fail> {
+    let part = b"1:\n A (1 of 3)\n2:\n A (2 of 3)\n3:\n A (3 of 3)\nAltogether 3 solutions.\n";
+    // Thirty times the whole search, of which the last listings are held back, and a path that it hasn't.
+    let mut words: [&[u8]; 34] = [b"0"; 34];
+    words[0] = b"1";
+    words[1] = b"m1";
+    words[32] = b"4";
+    let mut err = Tray::new(rt.alloc(), 100, 100, false)?;
+    let (status, passed) = passed_on(rt.alloc(), &words, THREE_ALIKE, &mut err)?;
+    assert!(rt; status == 5 && is_repeated(&passed, part, 30));
+    assert!(rt; err.bytes() == b"No such path.\n".as_slice());
     Ok(())
 }

@@ -1,11 +1,18 @@
--- Words that ask for no parts.
-use Rattle.std.proofs.Common.{ℕ, ◌≡◌, ◌-◌, Bool, List, Option, None, Some, length, take, drop, map, sym, ap, ◌∙◌, arith}
-use Rattle.std.proofs.Common.{subst, length-drop}
-use Rattle.std.specs.Prelude.{MatchOption}
+-- Words that ask for no parts, and how a run over parts ends.
+use Rattle.std.proofs.Common.{ℕ, ◌≡◌, ◌⊎◌, ◌+◌, ◌-◌, Bool, List, Option, None, Some, length, take, drop, map, sym, ap}
+use Rattle.std.proofs.Common.{◌∙◌, arith, subst, length-drop, inl, inr}
+use Rattle.std.specs.Prelude.{MatchOption, IsTrue, codes}
+use Rattle.std.specs.Io.KnownBytes.{Keeps}
 use Rattle.std.proofs.lemmas.List.{drop-map}
+use Rattle.xc_input.specs.Calls.{Rose}
+use Rattle.xc_input.specs.Named.{Named}
+use Rattle.xc_list.specs.Below.{OfParts, HasNoPathAt}
 use Rattle.xc_list.specs.PartWords.{AskForParts}
+use Rattle.xc_list.specs.Texts.{SinkState, Took, WasTold}
 use Rattle.xc_list.proofs.BelowLemmas.{take_long}
-use Rattle.xc_tools.specs.Parts.{AskForNone}
+use Rattle.xc_tools.specs.Parts.{AskForNone, DidListParts, PartsUnwritten}
+use Rattle.xc_tools.specs.Solves.{TookAll}
+use Rattle.xc_tools.proofs.RunLemmas.{took_all, failed_behind}
 
 -- the words behind the first
 pub behind_first : {X : Type 0} (words : List X) → take (length words - 1) (drop 1 words) ≡ drop 1 words
@@ -22,3 +29,77 @@ none_behind f words rest e none = λ kind listed parts asks.
     none listed parts
     (subst (λ ws. AskForParts ws listed parts)
     (sym (ap (drop 1) asks.all) ∙ drop-map f 1 words ∙ ap (map f) (sym e)) asks.asks)
+
+-- ---- how a run over parts ends, by the flush behind those that were written
+
+-- the flush succeeded
+flushed_parts : {a : Named} {listed : Bool} {parts : List (List ℕ)} {old mid : SinkState} (new : SinkState)
+    → OfParts a listed parts Took old mid → new.failures ≡ mid.failures → IsTrue new.settled
+    → Keeps mid.taken new.taken → new.flushes ≡ mid.flushes + 1 → OfParts a listed parts TookAll old new
+flushed_parts new of same settled kept flushed =
+    record { plan = of.plan; paths = of.paths; said = took_all new of.said same settled kept flushed }
+
+-- it failed
+unflushed_parts : {a : Named} {listed : Bool} {parts : List (List ℕ)} {old mid told told_new : SinkState}
+    (written : ℕ) (new : SinkState) → OfParts a listed (take written parts) Took old mid
+    → Rose mid.failures new.failures → IsTrue new.failed → Keeps mid.taken new.taken → new.flushes ≡ mid.flushes + 1
+    → WasTold told told_new (codes "Write failed.\n") → PartsUnwritten a listed parts old new told told_new
+unflushed_parts written new of rose last kept flushed told = record {
+  written = written;
+  failed = inr (record { plan = of.plan; paths = of.paths; said = failed_behind new of.said rose last kept flushed });
+  told = told;
+}
+
+pub all_parts : {a : Named} {listed : Bool} {parts : List (List ℕ)} {old mid told told_new : SinkState} {status : ℕ}
+    (new : SinkState) → OfParts a listed parts Took old mid
+    → Keeps mid.taken new.taken → new.flushes ≡ mid.flushes + 1
+    → ((status ≡ 0) × (new.failures ≡ mid.failures) × IsTrue new.settled)
+    ⊎ ((status ≡ 3) × Rose mid.failures new.failures × IsTrue new.failed
+    × WasTold told told_new (codes "Write failed.\n"))
+    → DidListParts listed parts status old new told told_new a
+all_parts new of kept flushed (inl h) = inl (h.0, flushed_parts new of h.1 h.2 kept flushed)
+all_parts {a = a} {listed = listed} {parts = parts} {old = old} {mid = mid} new of kept flushed (inr h) =
+    let all = subst (λ ps. OfParts a listed ps Took old mid)
+    (sym (take_long (length parts) parts (omega arith))) of in
+    inr (inr (inl (h.0, unflushed_parts (length parts) new all h.1 h.2 kept flushed h.3)))
+
+pub parts_before_no_path : {a : Named} {listed : Bool} {parts : List (List ℕ)} {old mid told told_new : SinkState}
+    {status : ℕ} (written : ℕ) (new : SinkState) → OfParts a listed (take written parts) Took old mid
+    → HasNoPathAt a.puzzle parts written → Keeps mid.taken new.taken → new.flushes ≡ mid.flushes + 1
+    → ((status ≡ 5) × (new.failures ≡ mid.failures) × IsTrue new.settled
+    × WasTold told told_new (codes "No such path.\n"))
+    ⊎ ((status ≡ 3) × Rose mid.failures new.failures × IsTrue new.failed
+    × WasTold told told_new (codes "Write failed.\n"))
+    → DidListParts listed parts status old new told told_new a
+parts_before_no_path written new of none kept flushed (inl h) =
+    inr (inl (
+      h.0,
+      record {
+        written = written;
+        taken = flushed_parts new of h.1 h.2 kept flushed;
+        none = none;
+        told = h.3;
+      },
+    ))
+parts_before_no_path written new of none kept flushed (inr h) =
+    inr (inr (inl (h.0, unflushed_parts written new of h.1 h.2 kept flushed h.3)))
+
+pub parts_before_no_memory : {a : Named} {listed : Bool} {parts : List (List ℕ)} {old mid told told_new : SinkState}
+    {status : ℕ} (written : ℕ) (new : SinkState) → OfParts a listed (take written parts) Took old mid
+    → Keeps mid.taken new.taken → new.flushes ≡ mid.flushes + 1
+    → ((status ≡ 4) × (new.failures ≡ mid.failures) × IsTrue new.settled
+    × WasTold told told_new (codes "Out of memory.\n"))
+    ⊎ ((status ≡ 3) × Rose mid.failures new.failures × IsTrue new.failed
+    × WasTold told told_new (codes "Write failed.\n"))
+    → DidListParts listed parts status old new told told_new a
+parts_before_no_memory written new of kept flushed (inl h) =
+    inr (inr (inr (
+      h.0,
+      record {
+        written = written;
+        taken = flushed_parts new of h.1 h.2 kept flushed;
+        told = h.3;
+      },
+    )))
+parts_before_no_memory written new of kept flushed (inr h) =
+    inr (inr (inl (h.0, unflushed_parts written new of h.1 h.2 kept flushed h.3)))

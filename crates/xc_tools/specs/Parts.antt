@@ -4,7 +4,7 @@ use Rattle.xc_input.specs.declared.kind.Kind.{Kind}
 use Rattle.xc_input.specs.Named.{Named}
 use Rattle.xc_list.specs.Below.{OfParts, HasNoPathAt}
 use Rattle.xc_list.specs.PartWords.{AskForParts}
-use Rattle.xc_list.specs.Texts.{SinkState, Took, BrokeOff, WasTold}
+use Rattle.xc_list.specs.Texts.{SinkState, BrokeOff, WasTold}
 use Rattle.xc_tools.specs.Given.{GaveProblem}
 use Rattle.xc_tools.specs.Judges.{numbered_kind}
 use Rattle.xc_tools.specs.Solves.{Streams, TookAll, FailedBehind, IsRefused, HasNoProblem}
@@ -21,22 +21,23 @@ pub record AskPartsOf (words : List (List ℕ)) (kind : Kind) (listed : Bool) (p
 pub record NamesNoPath (a : Named) (listed : Bool) (parts : List (List ℕ))
     (out_old out_new err_old err_new : SinkState) : Type 0 where
   pub written : ℕ
-  pub taken : OfParts a listed (take written parts) Took out_old out_new
+  pub taken : OfParts a listed (take written parts) TookAll out_old out_new
   pub none : HasNoPathAt a.puzzle parts written
   pub told : WasTold err_old err_new (codes "No such path.\n")
 
--- 3: a write of a part failed, or the flush behind the last. It was told.
+-- 3: a write of the part behind so many failed, or the flush behind these. It was told.
 pub record PartsUnwritten (a : Named) (listed : Bool) (parts : List (List ℕ))
     (out_old out_new err_old err_new : SinkState) : Type 0 where
-  pub failed : ((n : ℕ) × OfParts a listed (take (n + 1) parts) BrokeOff out_old out_new)
-      ⊎ OfParts a listed parts FailedBehind out_old out_new
+  pub written : ℕ
+  pub failed : OfParts a listed (take (written + 1) parts) BrokeOff out_old out_new
+      ⊎ OfParts a listed (take written parts) FailedBehind out_old out_new
   pub told : WasTold err_old err_new (codes "Write failed.\n")
 
 -- 4: there was no memory for a part's search, and the output took those before it. It was told.
 pub record PartsWithoutMemory (a : Named) (listed : Bool) (parts : List (List ℕ))
     (out_old out_new err_old err_new : SinkState) : Type 0 where
   pub written : ℕ
-  pub taken : OfParts a listed (take written parts) Took out_old out_new
+  pub taken : OfParts a listed (take written parts) TookAll out_old out_new
   pub told : WasTold err_old err_new (codes "Out of memory.\n")
 
 -- What listing the parts of a problem did, by the status: at 0 the output took the parts, one behind another.

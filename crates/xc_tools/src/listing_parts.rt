@@ -7,7 +7,9 @@ ghost use Rattle.xc_tools.specs.Parts.{DidListParts, DidPartsAsAsked, DidPartsWo
 use crate::judging::numbered_kind;
 use crate::messages::no_problem;
 use crate::planning::flush_plan;
-use crate::status::{BAD_WORDS, FAILED, NO_PATH, out_of_memory, refuse};
+use crate::status::{
+    BAD_WORDS, FAILED, NO_MEMORY, NO_PATH, flush_and_refuse, out_of_memory, refuse,
+};
 use std::alloc::Global;
 use xc_input::{Kind, Problem, Source, read_problem};
 use xc_list::{PartFault, PartWords, Sink, list_parts};
@@ -39,8 +41,8 @@ fn list_problem<O: Sink, E: Sink>(
     match list_parts(alloc, problem, &words.paths, words.listed, out) {
         Ok(()) => flush_plan(out, err),
         Err(end) => match end.fault {
-            PartFault::Memory => out_of_memory(err),
-            PartFault::NoPath => refuse(NO_PATH, b"No such path.\n", err),
+            PartFault::Memory => flush_and_refuse(NO_MEMORY, b"Out of memory.\n", out, err),
+            PartFault::NoPath => flush_and_refuse(NO_PATH, b"No such path.\n", out, err),
             PartFault::WriteFailed => refuse(FAILED, b"Write failed.\n", err),
         },
     }
@@ -70,7 +72,8 @@ fn list_read<S: Source, O: Sink, E: Sink>(
 /// is written for, `m1` for listings or `m0` for counts alone, and then the numbers of the branches on
 /// each part's path, with a 0 behind each path. It gives the status: 0 where all parts were written, 1
 /// for other words, 2 for a fault of the problem, 3 where a read or a write failed, 4 where memory was
-/// wanting, 5 where the search has no such path. Names are hashed by the input's seed.
+/// wanting, 5 where the search has no such path. Behind the parts that were written the output is flushed,
+/// unless a write failed. Names are hashed by the input's seed.
 pub fn solve_parts<S: Source, O: Sink, E: Sink>(
     alloc: Global,
     words: &[Vec<u8>],

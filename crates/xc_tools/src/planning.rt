@@ -8,7 +8,9 @@ ghost use Rattle.xc_tools.specs.Plans.{asked_plan, DidPlan, DidPlanAsAsked, DidP
 
 use crate::judging::numbered_kind;
 use crate::messages::no_problem;
-use crate::status::{BAD_WORDS, COMPLETE, FAILED, LIMIT_MET, out_of_memory, refuse};
+use crate::status::{
+    BAD_WORDS, COMPLETE, FAILED, LIMIT_MET, flush_and_refuse, out_of_memory, refuse,
+};
 use std::alloc::Global;
 use xc_dance::Memory;
 use xc_input::{Kind, Problem, Source, read_problem};
@@ -41,22 +43,6 @@ pub(crate) fn flush_plan<O: Sink, E: Sink>(out: &mut O, err: &mut E) -> u8
     }
 }
 
-/// Flushes a plan that met its limit, and tells that, or that the flush failed.
-fn flush_limited_plan<O: Sink, E: Sink>(out: &mut O, err: &mut E) -> u8
-    ensures kept { Keeps (O.state out.old).taken (O.state out.new).taken }
-    ensures flushed_once { (O.state out.new).flushes ≡ (O.state out.old).flushes + 1 }
-    ensures did { ((result ≡ 5) × ((O.state out.new).failures ≡ (O.state out.old).failures)
-        × IsTrue (O.state out.new).settled
-        × WasTold (E.state err.old) (E.state err.new) (codes "The limit of parts was met.\n"))
-        ⊎ ((result ≡ 3) × Rose (O.state out.old).failures (O.state out.new).failures × IsTrue (O.state out.new).failed
-        × WasTold (E.state err.old) (E.state err.new) (codes "Write failed.\n")) }
-{
-    match out.flush() {
-        Ok(()) => refuse(LIMIT_MET, b"The limit of parts was met.\n", err),
-        Err(_) => refuse(FAILED, b"Write failed.\n", err),
-    }
-}
-
 /// Writes the plan of a problem.
 fn plan_problem<O: Sink, E: Sink>(
     alloc: Global,
@@ -71,7 +57,9 @@ fn plan_problem<O: Sink, E: Sink>(
     match plan(alloc, problem, words, out) {
         Err(Memory) => out_of_memory(err),
         Ok(End::WriteFailed(_)) => refuse(FAILED, b"Write failed.\n", err),
-        Ok(End::Limit(_)) => flush_limited_plan(out, err),
+        Ok(End::Limit(_)) => {
+            flush_and_refuse(LIMIT_MET, b"The limit of parts was met.\n", out, err)
+        }
         Ok(End::Done(_)) => flush_plan(out, err),
     }
 }

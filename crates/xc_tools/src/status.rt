@@ -1,5 +1,7 @@
 //! The statuses that the programs end with.
-ghost use Rattle.std.specs.Prelude.{◌≡◌, codes};
+ghost use Rattle.std.specs.Prelude.{◌≡◌, ◌⊎◌, ◌+◌, IsTrue, codes};
+ghost use Rattle.std.specs.Io.KnownBytes.{Keeps};
+ghost use Rattle.xc_input.specs.Calls.{Rose};
 ghost use Rattle.xc_list.specs.Texts.{WasTold};
 
 use xc_list::{Sink, write_all};
@@ -36,4 +38,27 @@ pub fn out_of_memory<E: Sink>(err: &mut E) -> u8
     ensures told { WasTold (E.state err.old) (E.state err.new) (codes "Out of memory.\n") }
 {
     refuse(NO_MEMORY, b"Out of memory.\n", err)
+}
+
+/// Flushes the output, and then does what `refuse` does; where the flush fails, tells that, and gives the
+/// status of that: 3.
+pub(crate) fn flush_and_refuse<O: Sink, E: Sink>(
+    status: u8,
+    text: &[u8],
+    out: &mut O,
+    err: &mut E,
+) -> u8
+    ensures kept { Keeps (O.state out.old).taken (O.state out.new).taken }
+    ensures flushed_once { (O.state out.new).flushes ≡ (O.state out.old).flushes + 1 }
+    ensures did { ((result ≡ status) × ((O.state out.new).failures ≡ (O.state out.old).failures)
+        × IsTrue (O.state out.new).settled
+        × WasTold (E.state err.old) (E.state err.new) text.now)
+        ⊎ ((result ≡ 3) × Rose (O.state out.old).failures (O.state out.new).failures × IsTrue (O.state out.new).failed
+        × WasTold (E.state err.old) (E.state err.new) (codes "Write failed.\n")) }
+{
+    match out.flush() {
+        Ok(()) => {}
+        Err(_) => return refuse(FAILED, b"Write failed.\n", err),
+    }
+    refuse(status, text, err)
 }
