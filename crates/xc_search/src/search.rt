@@ -180,6 +180,7 @@ impl<'a, D: Dance> Search<'a, D> {
 
     /// A search without levels, which has ended and shows nothing.
     // Out of line, as what shows choices: what is taken into the search's loop must not grow very large.
+    #[cold]
     #[inline(never)]
     fn ended(position: Position<'a, D>, mut stack: Stack) -> Search<'a, D>
         requires none { stack.levels ≡ [] }

@@ -128,6 +128,7 @@ impl Stack {
     }
 
     /// Shows the choices that lead to the levels, and theirs, from the oldest level on.
+    #[cold]
     #[inline(never)]
     pub fn show_whole<D: Dance>(&mut self, position: &Position<D>)
         requires { All (IsShown position.now.puzzle) self.old.levels }

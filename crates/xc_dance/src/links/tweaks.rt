@@ -14,6 +14,7 @@ use crate::links::steps::{hide, unhide};
 use crate::links::writes::Writes;
 
 /// Hides the other nodes of the option of node x, unless x's item is covered.
+#[cold]
 #[inline(never)]
 pub(crate) fn hide_unless(
     top: &mut [Cell],
@@ -46,6 +47,7 @@ pub(crate) fn hide_unless(
 }
 
 /// Undoes `hide_unless`.
+#[cold]
 #[inline(never)]
 pub(crate) fn unhide_unless(
     top: &mut [Cell],
@@ -105,6 +107,7 @@ fn bring_back_one(
 }
 
 /// k such steps, from node x on.
+#[cold]
 #[inline(never)]
 pub(crate) fn bring_back(
     top: &mut [Cell],

@@ -115,6 +115,7 @@ pub(crate) fn hide_list(
 }
 
 /// `hide_list` with the test for marks, out of line: callers stay small.
+#[cold]
 #[inline(never)]
 pub(crate) fn hide_among_marks(
     top: &mut [Cell],
@@ -168,6 +169,7 @@ pub(crate) fn unhide_list(
 }
 
 /// `unhide_list` with the test for marks.
+#[cold]
 #[inline(never)]
 pub(crate) fn unhide_among_marks(
     top: &mut [Cell],
