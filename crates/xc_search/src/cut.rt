@@ -260,7 +260,7 @@ fn open_node<D: Dance>(position: &mut Position<D>, stack: &mut Stack) -> Settled
 {
     match deepen(position, stack) {
         Below::Branch(entered) => {
-            position.commit_branch(entered.item, entered.place);
+            position.commit_branch(entered.item, entered.place as u32);
             Settled::Opened
         }
         Below::Nothing => Settled::Barren,
@@ -339,7 +339,7 @@ fn visit_node<D: Dance>(position: &mut Position<D>, levels: &mut Stack, found: b
 {
     match deepen(position, levels) {
         Below::Branch(entered) => {
-            position.commit_branch(entered.item, entered.place);
+            position.commit_branch(entered.item, entered.place as u32);
             Visit {
                 found,
                 goes_on: true,
@@ -366,7 +366,7 @@ fn resumes<D: Dance>(position: &mut Position<D>, levels: &mut Stack) -> bool
 {
     match resume(position, levels) {
         Some(entered) => {
-            position.commit_branch(entered.item, entered.place);
+            position.commit_branch(entered.item, entered.place as u32);
             true
         }
         None => false,

@@ -1,5 +1,5 @@
 //! The levels of the search.
-ghost use Rattle.std.specs.Prelude.{◌≡◌, ◌+◌, ◌<◌, ◌≤◌, List, [], ◌∷◌, true, false, IfSome, IsNone};
+ghost use Rattle.std.specs.Prelude.{◌≡◌, ◌+◌, ◌<◌, ◌≤◌, ◌^◌, List, [], ◌∷◌, true, false, IfSome, IsNone};
 ghost use Rattle.xc_input.specs.Problem.{Puzzle};
 ghost use Rattle.xc_search.specs.inner.MostLevels.{most_levels};
 ghost use Rattle.xc_search.specs.inner.Levels.{AreStacked, IsStanding, IsEntered, begun_level};
@@ -18,8 +18,9 @@ use xc_dance::Dance;
 #[derive(Clone, Copy)]
 pub struct Entered {
     pub item: u32,
-    /// Where the option that it takes stands in the item's list; `item`, where it takes none.
-    pub place: u32,
+    /// Where the option that it takes stands in the item's list; `item`, where it takes none. An index, since the
+    /// compiler would pack two numbers of 32 bits into one word and take them apart again.
+    pub place: usize,
 }
 
 /// What stands below the levels.
@@ -45,6 +46,7 @@ pub fn deepen<D: Dance>(position: &mut Position<D>, stack: &mut Stack) -> Below
         EntersBranch position.old stack.old true position.new stack.new b.item b.place }
     ensures deeper_path { (b : Entered) → result ≡ Below.Branch b →
         KeepsPath position.old stack.old (branched position.new b.item b.place) stack.new }
+    ensures near { (b : Entered) → result ≡ Below.Branch b → b.place < 2 ^ 32 }
     ensures nothing { result ≡ Below.Nothing → GoesOn position.old stack.old true position.new stack.new false }
     ensures fewer { result ≡ Below.Nothing →
         work_left position.new stack.new false < work_left position.old stack.old true }
@@ -64,7 +66,7 @@ pub fn deepen<D: Dance>(position: &mut Position<D>, stack: &mut Stack) -> Below
     stack.push(level);
     Below::Branch(Entered {
         item,
-        place: branch.place,
+        place: branch.place as usize,
     })
 }
 
@@ -114,6 +116,7 @@ pub fn resume<D: Dance>(position: &mut Position<D>, stack: &mut Stack) -> Option
         EntersBranch position.old stack.old false position.new stack.new b.item b.place) }
     ensures resumed_path { IfSome result (λ b.
         KeepsPath position.old stack.old (branched position.new b.item b.place) stack.new) }
+    ensures near { IfSome result (λ b. b.place < 2 ^ 32) }
     ensures done { IsNone result → IsDone position.old stack.old false position.new stack.new }
     ensures path { IsNone result → KeepsPath position.old stack.old position.new stack.new }
 {
@@ -125,7 +128,7 @@ pub fn resume<D: Dance>(position: &mut Position<D>, stack: &mut Stack) -> Option
             stack.begin(branch);
             return Some(Entered {
                 item,
-                place: branch.place,
+                place: branch.place as usize,
             });
         }
         end_level(position, level);
@@ -152,6 +155,7 @@ fn go_on<D: Dance>(position: &mut Position<D>, stack: &mut Stack, down: bool) ->
     requires levels_fit { most_levels position.old.puzzle ≤ stack.old.room }
     ensures entered { (b : Entered) → result ≡ Next.Branch b →
         EntersBranch position.old stack.old down position.new stack.new b.item b.place }
+    ensures near { (b : Entered) → result ≡ Next.Branch b → b.place < 2 ^ 32 }
     ensures reached { result ≡ Next.Solution → IsReached position.old stack.old down position.new stack.new }
     ensures done { result ≡ Next.Nothing → IsDone position.old stack.old down position.new stack.new }
 {
@@ -180,7 +184,7 @@ pub fn advance<D: Dance>(position: &mut Position<D>, stack: &mut Stack, down: bo
     let mut descends = down;
     loop {
         match go_on(position, stack, descends) {
-            Next::Branch(entered) => position.commit_branch(entered.item, entered.place),
+            Next::Branch(entered) => position.commit_branch(entered.item, entered.place as u32),
             Next::Solution => return Step::Solution,
             Next::Nothing => return Step::Done,
         }

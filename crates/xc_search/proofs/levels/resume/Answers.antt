@@ -52,7 +52,8 @@ back g c =
 
 pub returns-then-level-clause-resumed : goal.returns-then-level-clause-resumed
 returns-then-level-clause-resumed g c =
-    goes_on_to _ _ _ _ _ _ false false _ _ c.loop-level.invariant.goes_on c.loop-level.invariant.less (on g c)
+    goes_on_to _ _ _ _ _ _ false false _ _ c.loop-level.invariant.goes_on c.loop-level.invariant.less (on g
+    (goal.at.returns-then-level-clause-resumed g c).After-begin)
 
 pub returns-then-level-clause-resumed_path : goal.returns-then-level-clause-resumed_path
 returns-then-level-clause-resumed_path g c =
