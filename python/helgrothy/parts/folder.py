@@ -6,10 +6,10 @@
     00017.failed                        why it failed
     00017.HOST.PROCESS.NUMBER.tmp       a run that goes on, or that was broken off
 
-A part's listings are those below its paths, each as it is numbered by itself and without the path. A part is done when
-its `.done` stands. A run writes to a file of its own, which gets that name only behind status 0,
-with the record in it, and once the disk has it. So no run can touch what another one made but by putting a whole
-listing with its record in its place.
+A part's listings are those below its paths, each numbered by itself and without the path. A part is done when its
+`.done` stands. A run writes to a file of its own, which gets that name only behind status 0, with the record in it, and
+once the disk has it. So no run can touch what another one made but by putting whole listings with their record in its
+place.
 """
 
 from __future__ import annotations
