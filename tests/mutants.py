@@ -67,7 +67,12 @@ def read(crate: str, path: Path) -> Edit:
 
 
 def owner(header: str) -> str:
-    """What the checker calls the methods' place: `FeedSource` for `impl<'a> Source for Feed<'a> {`."""
+    """What the checker calls the methods' place: `FeedSource` for `impl<'a> Source for Feed<'a> {`, and
+    `Outgoing+System+W` for `impl<W: Write> Outgoing<System<W>> {`.
+    """
+    nested = re.match(r"impl<.*> (\w+<\w+<\w+>>) {", header)
+    if nested:
+        return "+".join(re.findall(r"\w+", nested[1]))
     while (plain := re.sub(r"<[^<>]*>", "", header)) != header:
         header = plain
     words = re.match(r"(?:pub )?(?:impl|trait) +(?:[\w:]*?(\w+) +for +)?[\w:]*?(\w+)\b(?!::)", header)
