@@ -137,13 +137,13 @@ fn remove(lists: &mut Vec<Vec<u32>>, list: u32, number: u32) -> Option<usize>
         (numbers_of lists.new.items) (numbers_of lists.old.items)) }
 {
     let row = &mut lists[list as usize];
-    let place = place_of(row.as_slice(), number)?;
+    let place = place_in_list(row.as_slice(), number)?;
     let _ = row.remove(place);
     Some(place)
 }
 
 /// The place of the number, if it is there.
-fn place_of(numbers: &[u32], number: u32) -> Option<usize>
+fn place_in_list(numbers: &[u32], number: u32) -> Option<usize>
     requires { Rises 0 numbers.now }
     ensures { MatchOption result (less (number ∷ []) numbers.now ≡ numbers.now)
         (λ place. (place < length numbers.now) × (slice_index numbers.now place ≡ number)) }

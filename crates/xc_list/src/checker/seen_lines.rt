@@ -54,7 +54,7 @@ impl SeenLines {
     pub(crate) fn class_of(&self, line: &[u8]) -> Option<usize>
         ensures { IfSome result (IsFoundIn self.now.lines.items line.now) }
     {
-        let seen = self.lines.get(place_of(line, self.lines.len()))?;
+        let seen = self.lines.get(slot_of(line, self.lines.len()))?;
         if seen.line.as_slice() == line {
             seen.class
         } else {
@@ -66,7 +66,7 @@ impl SeenLines {
     pub(crate) fn note(&mut self, line: &[u8], class: usize)
         ensures { IsNotedIn self.old.lines.items line.now class self.new.lines.items }
     {
-        let place = place_of(line, self.lines.len());
+        let place = slot_of(line, self.lines.len());
         if let Some(seen) = self.lines.get_mut(place) {
             seen.put(line, class);
         }
@@ -76,7 +76,7 @@ impl SeenLines {
 /// A place below the size, where it is not 0, for a line: the high bits of its number, scaled. No seed
 /// is needed, since two lines of one place only cost that one of them is read again.
 #[inline]
-fn place_of(line: &[u8], size: usize) -> usize {
+fn slot_of(line: &[u8], size: usize) -> usize {
     ((number_of(line) >> 32).wrapping_mul(size as u64) >> 32) as usize
 }
 

@@ -9,5 +9,5 @@ returns-then-eq c =
     let at = c.in_ok-seen.ensures.lookup.3 in
     let l = c.in_ok-seen.seen.now in
     subst (λ (ls : List SeenLine). IfSome l.class (IsFoundIn ls c.args.line.now)) c.deref.ensures.value
-    (found-at c.deref.result.now c.place_of.result l c.args.line.now c.as_slice.result.now at.0 (at.1 l)
+    (found-at c.deref.result.now c.slot_of.result l c.args.line.now c.as_slice.result.now at.0 (at.1 l)
     (sym c.eq.ensures ∙ c.if-eq.true) c.as_slice.ensures.value)
