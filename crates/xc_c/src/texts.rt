@@ -41,6 +41,17 @@ pub(crate) fn first_fault(
     }
 }
 
+/// How many solutions a problem has, up to a limit.
+fn count_members(alloc: Global, problem: &Problem, limit: u64) -> Result<u64, Memory>
+    ensures count { IfOk result (λ count. count ≡ min limit (length (members problem.now.puzzle))) }
+    ensures right { OnOk result (EachMemberCovers problem.now.puzzle) }
+    ensures complete { OnOk result (EachCoverIsListedOnce problem.now.puzzle) }
+{
+    let links = Links::for_search(alloc, problem)?;
+    let mut search = Search::begin(alloc, links, problem)?;
+    Ok(search.pass(limit))
+}
+
 /// How many solutions the problem of a text has, up to a limit.
 pub(crate) fn count_solutions(
     alloc: Global,
@@ -52,14 +63,11 @@ pub(crate) fn count_solutions(
         (λ a. count ≡ min limit (length (members a.puzzle)))) }
     ensures error { IfErr result (IsErrorFor (first_fault kind (lines_of text.now))) }
 {
-    let problem = read_text(alloc, kind, text)?.problem;
-    let Ok(links) = Links::for_search(alloc, &problem) else {
-        return Err(InputError::Memory);
-    };
-    let Ok(mut search) = Search::begin(alloc, links, &problem) else {
-        return Err(InputError::Memory);
-    };
-    Ok(search.pass(limit))
+    let read = read_text(alloc, kind, text)?;
+    match count_members(alloc, &read.problem, limit) {
+        Ok(count) => Ok(count),
+        Err(_) => Err(InputError::Memory),
+    }
 }
 
 /// Puts a beginning of bytes into the front of a buffer, all of them where it has room, and says how

@@ -1,5 +1,6 @@
 //! Parts of a search, one behind another.
-ghost use Rattle.std.specs.Prelude.{ℕ, ◌≡◌, ◌≤◌, ◌<◌, List, [], All, IfOk, MatchOption, MatchResult, length, map, min};
+ghost use Rattle.std.specs.Prelude.{ℕ, ◌≡◌, ◌≤◌, ◌<◌, ◌++◌, ◌∷◌, List, [], All, IfOk, OnOk, MatchOption, MatchResult};
+ghost use Rattle.std.specs.Prelude.{length, map, min};
 ghost use Rattle.xc_search.specs.Room.{room_for};
 ghost use Rattle.xc_list.specs.Known.{IsKnownChoice};
 ghost use Rattle.xc_list.specs.Texts.{Took, BrokeOff, Writes};
@@ -39,6 +40,29 @@ pub struct PartsFault {
     pub fault: PartFault,
 }
 
+/// Takes one more number of a row, which goes on with the last path, or ends it.
+fn take_number(
+    alloc: Global,
+    number: u32,
+    path: &mut Vec<u32>,
+    paths: &mut Vec<Vec<u32>>,
+) -> Result<(), AllocError>
+    requires some { All (λ (path : List ℕ). All (λ n. 0 < n) path) (map (λ path. path.items) paths.old.items) }
+    requires front { All (λ n. 0 < n) path.old.items }
+    ensures told { OnOk result (numbers_told (map (λ path. path.items) paths.new.items) ++ path.new.items
+        ≡ (numbers_told (map (λ path. path.items) paths.old.items) ++ path.old.items) ++ number ∷ []) }
+    ensures some { OnOk result
+        (All (λ (path : List ℕ). All (λ n. 0 < n) path) (map (λ path. path.items) paths.new.items)) }
+    ensures front { OnOk result (All (λ n. 0 < n) path.new.items) }
+{
+    if number == 0 {
+        paths.push(replace(path, Vec::new(alloc)))?;
+    } else {
+        path.push(number)?;
+    }
+    Ok(())
+}
+
 /// The paths that stand in a row of branch numbers, where a 0 ends each: `1 2 0 3 0` are two. None where
 /// the last one isn't ended.
 pub fn read_paths(alloc: Global, numbers: &[u32]) -> Result<Option<Vec<Vec<u32>>>, AllocError>
@@ -50,11 +74,7 @@ pub fn read_paths(alloc: Global, numbers: &[u32]) -> Result<Option<Vec<Vec<u32>>
     let mut paths = Vec::new(alloc);
     let mut path = Vec::new(alloc);
     for number in numbers {
-        if *number == 0 {
-            paths.push(replace(&mut path, Vec::new(alloc)))?;
-        } else {
-            path.push(*number)?;
-        }
+        take_number(alloc, *number, &mut path, &mut paths)?;
     }
     if path.is_empty() {
         Ok(Some(paths))

@@ -135,6 +135,22 @@ fn write_parts<'a, D: Dance, S: Sink>(
     End::Limit(words.limit)
 }
 
+/// Writes the parts of a cut that was just begun, and lets it go.
+fn write_cut<S: Sink>(
+    mut cut: Cut<Links>,
+    problem: &Problem,
+    words: &PlanWords,
+    sink: &mut S,
+) -> End
+    requires puzzle { cut.puzzle ≡ problem.now.puzzle }
+    requires all { cut.to_come ≡ members problem.now.puzzle }
+    ensures plan { WasPlanned problem.now words.now.limit (S.state sink.old) (S.state sink.new) result }
+{
+    let end = write_parts(&mut cut, problem, words, sink);
+    let _links = cut.close();
+    end
+}
+
 /// Cuts the search of a problem into parts, writes a line for each up to the limit, and answers at
 /// how many it ended. Up to the end `Done` the paths of the lines are a cut of the problem's listing.
 /// Want of memory is answered with nothing written.
@@ -148,11 +164,7 @@ pub fn plan<S: Sink>(
 {
     let links = Links::new(alloc, problem, most_moves(problem))?;
     match Cut::new(alloc, links, problem) {
-        Ok(mut cut) => {
-            let end = write_parts(&mut cut, problem, &words, sink);
-            let _links = cut.close();
-            Ok(end)
-        }
+        Ok(cut) => Ok(write_cut(cut, problem, &words, sink)),
         Err((_, memory)) => Err(memory),
     }
 }
