@@ -1,7 +1,7 @@
 //! What is there for callers: sources, items and options in order, names and colours of uses.
 use fixtures::{COLOURED, SEVEN, problem};
 use std::test::Fail;
-use xc_input::{Kind, Problem, Seed, SliceSource, Use, read_problem};
+use xc_input::{Kind, Problem, Seed, SliceSource, Use, place_in, read_problem};
 
 #[test]
 fn a_slice_is_read_by_each_seed(rt: HostRuntime) {
@@ -81,4 +81,10 @@ fn an_item_is_its_copy(rt: HostRuntime) -> Result<(), Fail> {
     let problem = problem(rt.alloc(), Kind::Plain, SEVEN)?;
     assert!(rt; first_is_its_copy(&problem));
     Ok(())
+}
+
+#[test]
+fn the_place_of_an_item_among_uses(rt: HostRuntime) {
+    let uses = [Use { item: 3, colour: 0 }, Use { item: 1, colour: 2 }];
+    assert!(rt; place_in(&uses, 3) == 0 && place_in(&uses, 1) == 1 && place_in(&uses, 2) == 2);
 }

@@ -1,7 +1,7 @@
 -- The moves of a level of a search, and where an option stands.
 use Rattle.std.specs.Prelude.{ℕ, ◌+◌, ◌-◌, ◌<◌, ◌≤◌, ◌≡◌, ◌⊎◌, ◌==◌, nat_le, Option, Some, None, option_map, unwrap_or}
 use Rattle.std.specs.Prelude.{slice_get, List, [], ◌∷◌, ◌++◌, length, take, drop, if◌then◌else◌, All, Contains}
-use Rattle.std.specs.List.{position_or_len}
+use Rattle.xc_input.specs.UsePlaces.{place_in}
 use Rattle.xc_input.specs.declared.problem.Use.{Use}
 use Rattle.xc_dance.specs.declared.dance.Move.{Move}
 use Rattle.xc_dance.specs.declared.dance.Move.TheVariants.{Cover, Purify, Spend}
@@ -24,10 +24,6 @@ after_use p u t =
 abbrev pub after_uses : Puzzle → List Use → List Move → List Move
 after_uses p [] t = t
 after_uses p (u ∷ us) t = after_uses p us (after_use p u t)
-
--- where item i stands among uses; their number where it doesn't
-abbrev pub place_in : ℕ → List Use → ℕ
-place_in i us = position_or_len (λ u. u.item == i) us
 
 -- the uses after that of item i, and then those before it
 abbrev pub others : ℕ → List Use → List Use

@@ -2,30 +2,19 @@
 ghost use Rattle.std.specs.Prelude.{ℕ, ◌≡◌, ◌<◌, ◌-◌, length};
 ghost use Rattle.xc_input.specs.Problem.{IsOption, uses_of};
 ghost use Rattle.xc_dance.specs.Fields.{link_place};
-ghost use Rattle.xc_dance.specs.Commits.{IsUseAt, place_in};
+ghost use Rattle.xc_dance.specs.Commits.{IsUseAt};
+ghost use Rattle.xc_input.specs.UsePlaces.{place_in};
 ghost use Rattle.xc_dance.specs.inner.Links.OptionPlaces.{start_at};
 
-use xc_input::{Problem, Use};
-
-/// Where item `i` stands among uses; their number where it doesn't.
-pub(crate) fn index_of(uses: &[Use], i: u32) -> usize
-    ensures { result ≡ place_in i uses.now }
-{
-    for (k, u) in uses.iter().enumerate() {
-        if u.item == i {
-            return k;
-        }
-    }
-    uses.len()
-}
+use xc_input::{Problem, place_in};
 
 /// The place of the node by which option `o` uses item `i`.
-pub(crate) fn place_of(problem: &Problem, i: u32, o: u32) -> u32
+pub(crate) fn node_place(problem: &Problem, i: u32, o: u32) -> u32
     requires known { IsOption problem.now.puzzle o }
     requires holds { place_in i (uses_of problem.now.puzzle o) < length (uses_of problem.now.puzzle o) }
     ensures { result ≡ link_place problem.now.puzzle i o }
 {
-    first_place(problem, o) + index_of(problem.option(o), i) as u32
+    first_place(problem, o) + place_in(problem.option(o), i) as u32
 }
 
 /// The place of the first node of option `o`: behind the items' own nodes, a spacer, and the nodes of each option

@@ -37,6 +37,7 @@ mod seeded;
 mod slice_source;
 mod source;
 mod tokens;
+mod use_places;
 pub mod worked;
 
 pub use fault::{FaultKind, InputError};
@@ -51,3 +52,4 @@ pub use seed::{FoldingHasher, Seed};
 pub use seeded::Seeded;
 pub use slice_source::SliceSource;
 pub use source::{Feed, ReadFailed, Source};
+pub use use_places::place_in;

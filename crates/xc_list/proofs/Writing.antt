@@ -9,7 +9,7 @@ use Rattle.xc_list.specs.Output.{bytes_at, from_item}
 use Rattle.std.proofs.lemmas.Grind.{common_steps}
 use Rattle.std.proofs.lemmas.Bool.Decides.{nat_tests}
 use Rattle.xc_input.specs.declared.problem.Use.{Use}
-use Rattle.std.specs.List.{position_or_len}
+use Rattle.xc_input.specs.UsePlaces.{place_in}
 use Rattle.std.proofs.lemmas.List.Concat.{flat_map-append}
 use Rattle.std.proofs.Math.Seq.{take-append-add}
 use Rattle.std.proofs.lemmas.List.{take-append-le}
@@ -88,14 +88,14 @@ loop_broke {a = a} {c = c} f xs i d h p q =
     (broke_before (flat_map f (drop (i + 1) xs)) (then_broke p q))
 
 pub option_texts : (f : Use → List ℕ) (item : ℕ) (all us before after : List Use) (p : ℕ) → us ≡ all
-    → p ≡ position_or_len (λ u. u.item == item) us
+    → p ≡ place_in item us
     → before ≡ take p us → after ≡ drop p us → flat_map f (from_item item all) ≡ flat_map f after ++ flat_map f before
 option_texts f item all us before after p e at b a =
-    let here : p ≡ position_or_len (λ u. u.item == item) all = at ∙ ap (position_or_len (λ u. u.item == item)) e in
-    let back : after ≡ drop (position_or_len (λ u. u.item == item) all) all = cc (a, here, e) in
-    let front : before ≡ take (position_or_len (λ u. u.item == item) all) all = cc (b, here, e) in
-    rw back (rw front (flat_map-append f (drop (position_or_len (λ u. u.item == item) all) all)
-    (take (position_or_len (λ u. u.item == item) all) all)))
+    let here : p ≡ place_in item all = at ∙ ap (place_in item) e in
+    let back : after ≡ drop (place_in item all) all = cc (a, here, e) in
+    let front : before ≡ take (place_in item all) all = cc (b, here, e) in
+    rw back (rw front (flat_map-append f (drop (place_in item all) all)
+    (take (place_in item all) all)))
 
 pub loop_took : {X : Type 0} {a b c : SinkState} (f : X → List ℕ) (xs : List X) (i : ℕ) (d : X) → i < length xs
     → Took a b (flat_map f (take i xs)) → Took b c (f (get_or xs i d)) → Took a c (flat_map f (take (i + 1) xs))

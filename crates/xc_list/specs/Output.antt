@@ -1,8 +1,9 @@
 -- The listing as text.
 use Rattle.std.specs.Prelude.{ℕ, ◌%◌, Bool, not, ◌&&◌, ◌==◌, List, [], ◌++◌, filter, take, drop, flat_map, decimal}
 use Rattle.std.specs.Prelude.{codes, Option, Some, None, if◌then◌else◌, unwrap_or}
-use Rattle.std.specs.List.{position_or_len, enumerate_from}
+use Rattle.std.specs.List.{enumerate_from}
 use Rattle.xc_input.specs.declared.problem.Use.{Use}
+use Rattle.xc_input.specs.UsePlaces.{place_in}
 use Rattle.xc_search.specs.declared.choice.Choice.{Choice}
 use Rattle.xc_input.specs.Problem.{numbered_get, uses_of}
 use Rattle.xc_input.specs.Named.{Named}
@@ -18,7 +19,7 @@ rotated_at k xs = drop k xs ++ take k xs
 
 -- uses cyclically from item i's on
 abbrev pub from_item : ℕ → List Use → List Use
-from_item i us = rotated_at (position_or_len (λ u. u.item == i) us) us
+from_item i us = rotated_at (place_in i us) us
 
 -- the word of a use: its item's name, and its colour behind a colon
 abbrev pub use_word : Named → Use → List ℕ

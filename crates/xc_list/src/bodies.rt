@@ -2,8 +2,8 @@
 ghost use Rattle.std.specs.Prelude.{◌≡◌, ◌<◌, ◌≤◌, ◌^◌, [], ◌∷◌, ◌++◌, ◌-◌, ◌==◌, min, length, take, drop, All};
 ghost use Rattle.std.specs.Prelude.{IfSome, IfOk, map};
 ghost use Rattle.std.specs.Prelude.{◌+◌, OnOk, OnErr, IsTrue, IsNone, flat_map};
-ghost use Rattle.std.specs.List.{position_or_len};
 ghost use Rattle.xc_input.specs.Problem.{uses_of, IsOption};
+ghost use Rattle.xc_input.specs.UsePlaces.{place_in};
 ghost use Rattle.xc_input.specs.Named.{IsKnownUse};
 ghost use Rattle.xc_list.specs.Texts.{Writes};
 ghost use Rattle.xc_list.specs.Output.{from_item};
@@ -49,7 +49,7 @@ fn use_length(problem: &Problem, u: &Use) -> usize
 fn place_in_text(problem: &Problem, uses: &[Use], item: u32) -> usize
     requires known { All (IsKnownUse problem.now) uses.now }
     requires fits { length (uses_text problem.now uses.now) < 2 ^ 64 }
-    ensures { result ≡ length (uses_text problem.now (take (position_or_len (λ u. u.item == item) uses.now) uses.now)) }
+    ensures { result ≡ length (uses_text problem.now (take (place_in item uses.now) uses.now)) }
 {
     let mut place = 0;
     for u in uses {
@@ -130,7 +130,7 @@ fn add_first(uses: &[Use], firsts: &mut Vec<u32>) -> Result<(), Memory>
 }
 
 /// The items of all options' first uses.
-fn first_items(alloc: Global, problem: &Problem) -> Result<Vec<u32>, Memory>
+fn items_of_first_uses(alloc: Global, problem: &Problem) -> Result<Vec<u32>, Memory>
     ensures { IfOk result (λ firsts. firsts.items ≡ map first_item problem.now.puzzle.options) }
 {
     let mut firsts = Vec::with_capacity(alloc, problem.options() as usize)?;
@@ -157,7 +157,7 @@ fn lay_out(alloc: Global, problem: &Problem) -> Result<Layout, Memory>
     for o in 0..problem.options() {
         add_option(problem, problem.option(o + 1), &mut tray, &mut starts)?;
     }
-    let firsts = first_items(alloc, problem)?;
+    let firsts = items_of_first_uses(alloc, problem)?;
     let mut texts = tray.into_bytes();
     texts.extend_from_slice(&[0; PADDING])?;
     Ok(Layout {

@@ -1,6 +1,5 @@
 //! Uses as text.
-ghost use Rattle.std.specs.Prelude.{◌≡◌, ◌≤◌, ◌==◌, length, All, flat_map, OnErr, IsTrue};
-ghost use Rattle.std.specs.List.{position_or_len};
+ghost use Rattle.std.specs.Prelude.{◌≡◌, ◌≤◌, length, All, flat_map, OnErr, IsTrue};
 ghost use Rattle.xc_list.specs.Texts.{Writes};
 ghost use Rattle.xc_input.specs.Problem.{IsItem, uses_of, IsOption};
 ghost use Rattle.xc_input.specs.Named.{IsKnownUse, IsSound};
@@ -9,7 +8,7 @@ ghost use Rattle.xc_list.specs.inner.LineParts.{colour_text, use_text};
 
 use crate::sink::Sink;
 use crate::write::{SinkFault, write_all};
-use xc_input::{Problem, Use};
+use xc_input::{Problem, Use, place_in};
 
 /// The name of item `i`.
 pub fn name_of<'a>(problem: &'a Problem, i: u32) -> &'a [u8]
@@ -76,19 +75,6 @@ pub fn write_uses<S: Sink>(problem: &Problem, uses: &[Use], sink: &mut S) -> Res
     Ok(())
 }
 
-/// The place of an item's use.
-pub fn place_of(uses: &[Use], item: u32) -> usize
-    ensures place { result ≡ position_or_len (λ u. u.item == item) uses.now }
-    ensures within { result ≤ length uses.now }
-{
-    for (place, u) in uses.iter().enumerate() {
-        if u.item == item {
-            return place;
-        }
-    }
-    uses.len()
-}
-
 /// Writes an option's uses, cyclically from an item's.
 pub fn write_option<S: Sink>(
     problem: &Problem,
@@ -101,7 +87,7 @@ pub fn write_option<S: Sink>(
         result (flat_map (use_text problem.now) (from_item item (uses_of problem.now.puzzle o))) }
 {
     let uses = uses_at(problem, o);
-    let (before, after) = uses.split_at(place_of(uses, item));
+    let (before, after) = uses.split_at(place_in(uses, item));
     write_uses(problem, after, sink)?;
     write_uses(problem, before, sink)
 }

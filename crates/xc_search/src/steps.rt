@@ -2,7 +2,8 @@
 ghost use Rattle.std.specs.Prelude.{◌≡◌, ◌<◌, ◌≤◌, ◌∷◌, length, true, false, All};
 ghost use Rattle.xc_input.specs.Problem.{IsItem, uses_of, IsOption};
 ghost use Rattle.xc_search.specs.Room.{room_for};
-ghost use Rattle.xc_dance.specs.Commits.{after_spend, after_use, after_uses, place_in, others};
+ghost use Rattle.xc_dance.specs.Commits.{after_spend, after_use, after_uses, others};
+ghost use Rattle.xc_input.specs.UsePlaces.{place_in};
 ghost use Rattle.xc_search.specs.inner.Commits.{MayStand, oldest, after_none};
 
 use crate::position::Position;

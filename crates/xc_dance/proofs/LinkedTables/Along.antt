@@ -10,7 +10,8 @@ use Rattle.xc_dance.specs.declared.links.nodes.Nodes.{Nodes}
 use Rattle.xc_dance.specs.Dancing.{Dancing}
 use Rattle.xc_dance.specs.Linked.{Linked, dancing_of}
 use Rattle.xc_dance.specs.Fields.{used, layout, spacer_place}
-use Rattle.xc_dance.specs.Commits.{CanStand, IsUseAt, after_use, after_uses, place_in}
+use Rattle.xc_dance.specs.Commits.{CanStand, IsUseAt, after_use, after_uses}
+use Rattle.xc_input.specs.UsePlaces.{place_in}
 use Rattle.xc_dance.specs.inner.Links.Cells.{nodes_after}
 use Rattle.xc_dance.specs.inner.Links.Laid.{IsLaid, IsFit}
 use Rattle.xc_dance.specs.inner.Links.OptionPlaces.{start_at}

@@ -7,7 +7,8 @@ use Rattle.xc_input.specs.declared.problem.Use.{Use}
 use Rattle.xc_input.specs.Problem.{Puzzle, IsOption, numbered_get, uses_of, option_count}
 use Rattle.xc_input.specs.Named.{Named, IsSound}
 use Rattle.xc_dance.specs.Fields.{used, layout, link_place}
-use Rattle.xc_dance.specs.Commits.{place_in, IsUseAt}
+use Rattle.xc_dance.specs.Commits.{IsUseAt}
+use Rattle.xc_input.specs.UsePlaces.{place_in}
 use Rattle.xc_dance.specs.inner.Links.Laid.{IsFit}
 use Rattle.xc_dance.specs.inner.Links.OptionPlaces.{place_at, start_at}
 use Rattle.xc_dance.proofs.LinkedTables.FittedLemmas.{known_fit}

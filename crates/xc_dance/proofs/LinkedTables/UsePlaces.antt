@@ -8,7 +8,8 @@ use Rattle.xc_input.specs.declared.problem.Use.{Use}
 use Rattle.xc_input.specs.Problem.{Puzzle, item_count, IsOption, uses_of, colour_in}
 use Rattle.xc_dance.specs.declared.dance.Move.{Move}
 use Rattle.xc_dance.specs.Fields.{Node, used, spacer, unused, own, layout, spacer_place, link_place}
-use Rattle.xc_dance.specs.Commits.{place_in, IsUseAt, option_at, number_of}
+use Rattle.xc_dance.specs.Commits.{IsUseAt, option_at, number_of}
+use Rattle.xc_input.specs.UsePlaces.{place_in}
 use Rattle.xc_dance.specs.inner.Links.Cells.{top_in, ulink_in, line_of, nodes_after, slot_of}
 use Rattle.xc_dance.specs.inner.Links.Laid.{IsLaid, IsFit, IsName}
 use Rattle.xc_dance.specs.inner.Links.Answered.{named}

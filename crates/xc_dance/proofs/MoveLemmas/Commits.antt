@@ -9,7 +9,8 @@ use Rattle.xc_dance.specs.declared.dance.Move.TheVariants.{Cover, Purify, Spend}
 use Rattle.xc_input.specs.Problem.{Puzzle, primary_count, high_at, numbered_get, uses_of}
 use Rattle.xc_dance.specs.Dancing.{Dancing}
 use Rattle.xc_dance.specs.Moves.{AreLegal, is_open, spends}
-use Rattle.xc_dance.specs.Commits.{CanStand, after_spend, after_use, after_uses, place_in, others}
+use Rattle.xc_dance.specs.Commits.{CanStand, after_spend, after_use, after_uses, others}
+use Rattle.xc_input.specs.UsePlaces.{place_in}
 
 legal_after_spend : (p : Puzzle) (i : ℕ) (t : List Move) → AreLegal p (after_spend p i t) → AreLegal p t
 legal_after_spend p i t =

@@ -3,8 +3,9 @@ use Rattle.std.proofs.Common.{ℕ, suc, ◌+◌, ◌≡◌, ◌≢◌, ◌<◌, 
 use Rattle.std.proofs.Common.{length, take, drop, min, Some, None, refl, sym, ap, ap₂, ◌∙◌, arith, subst, inl, inr}
 use Rattle.std.proofs.Common.{eqb-true, eq-eqb}
 use Rattle.std.specs.Prelude.{map, not, fold}
-use Rattle.std.specs.List.{list_any, position_or_len}
+use Rattle.std.specs.List.{list_any}
 use Rattle.xc_input.specs.declared.problem.Use.{Use}
+use Rattle.xc_input.specs.UsePlaces.{place_in}
 use Rattle.xc_input.specs.Problem.{colour_in}
 use Rattle.xc_list.specs.Output.{rotated_at, from_item}
 use Rattle.xc_list.specs.inner.Classes.{least_of, class_of}
@@ -25,29 +26,26 @@ behind_item i (u ∷ us) = cond (u.item == i) (u ∷ us) (behind_item i us)
 abbrev pub turned_to : ℕ → List Use → List Use
 turned_to i us = behind_item i us ++ before_item i us
 
-abbrev pub place_of : ℕ → List Use → ℕ
-place_of i us = position_or_len (λ u. u.item == i) us
-
 -- a place behind a first use
-place_suc : (i : ℕ) (us : List Use) → 1 + place_of i us ≡ suc (place_of i us)
+place_suc : (i : ℕ) (us : List Use) → 1 + place_in i us ≡ suc (place_in i us)
 place_suc i us = omega arith
 
 from_item-turned : (i : ℕ) (us : List Use) → from_item i us ≡ turned_to i us
 from_item-turned i us = ap₂ (λ x y. x ++ y) (dropped us) (taken us)
   where
-    dropped : (us : List Use) → drop (place_of i us) us ≡ behind_item i us
+    dropped : (us : List Use) → drop (place_in i us) us ≡ behind_item i us
     dropped [] = refl
     dropped (u ∷ us) =
-        elim (u.item == i) as (λ t. drop (cond (not t) (1 + place_of i us) 0) (u ∷ us) ≡ cond t (u ∷ us)
+        elim (u.item == i) as (λ t. drop (cond (not t) (1 + place_in i us) 0) (u ∷ us) ≡ cond t (u ∷ us)
         (behind_item i us)) [
           | true ↦ refl
           | false ↦ ap (λ n. drop n (u ∷ us)) (place_suc i us) ∙ dropped us
         ]
 
-    taken : (us : List Use) → take (place_of i us) us ≡ before_item i us
+    taken : (us : List Use) → take (place_in i us) us ≡ before_item i us
     taken [] = refl
     taken (u ∷ us) =
-        elim (u.item == i) as (λ t. take (cond (not t) (1 + place_of i us) 0) (u ∷ us) ≡ cond t []
+        elim (u.item == i) as (λ t. take (cond (not t) (1 + place_in i us) 0) (u ∷ us) ≡ cond t []
         (u ∷ before_item i us)) [
           | true ↦ refl
           | false ↦ ap (λ n. take n (u ∷ us)) (place_suc i us) ∙ ap (λ z. u ∷ z) (taken us)
@@ -65,7 +63,7 @@ least_of-cons : (u v : Use) (us : List Use) → least_of (u ∷ v ∷ us) ≡ mi
 least_of-cons u v us = fold-min u.item v.item (map (λ w. w.item) us)
 
 -- the two pieces of a rotation, put behind nothing
-pub class_of-pieces : (us x y a b c : List Use) (k least : ℕ) → least ≡ least_of us → k ≡ place_of least us
+pub class_of-pieces : (us x y a b c : List Use) (k least : ℕ) → least ≡ least_of us → k ≡ place_in least us
     → y ≡ take k us → x ≡ drop k us → a ≡ [] → b ≡ a ++ x → c ≡ b ++ y → c ≡ class_of us
 class_of-pieces us x y a b c k least l p ey ex f g h =
     let front : b ≡ drop k us = g ∙ ap₂ (λ s t. s ++ t) f ex in
@@ -215,14 +213,14 @@ class-rotated (u ∷ a) b d =
     ∙ sym (class_of-turned ((u ∷ a) ++ b))
 
 -- turning to an item is a rotation
-pub turned_to-place : (i : ℕ) (us : List Use) → has i us ≡ true → (place_of i us < length us)
-    × (rotated_at (place_of i us) us ≡ turned_to i us)
+pub turned_to-place : (i : ℕ) (us : List Use) → has i us ≡ true → (place_in i us < length us)
+    × (rotated_at (place_in i us) us ≡ turned_to i us)
 turned_to-place i us h = (in_range us h, from_item-turned i us)
   where
-    in_range : (us : List Use) → has i us ≡ true → place_of i us < length us
+    in_range : (us : List Use) → has i us ≡ true → place_in i us < length us
     in_range [] h = cc
     in_range (u ∷ us) h =
-        elim (u.item == i) as (λ t. (t || has i us) ≡ true → cond (not t) (1 + place_of i us) 0 < suc (length us))
+        elim (u.item == i) as (λ t. (t || has i us) ≡ true → cond (not t) (1 + place_in i us) 0 < suc (length us))
         [ true ↦ λ k. omega arith | false ↦ λ k. omega (arith, in_range us k) ] h
 
 -- A rotation is what is turned to its first item.
@@ -274,7 +272,7 @@ has-turned i k us = has-swapped i (take k us) (drop k us) ∙ ap (has i) (halves
 
 -- a class is a rotation of the uses
 pub class-place : (us : List Use) → (k : ℕ) × (class_of us ≡ rotated_at k us)
-class-place us = (place_of (least_of us) us, refl)
+class-place us = (place_in (least_of us) us, refl)
 
 pub has-class : (i : ℕ) (us : List Use) → has i (class_of us) ≡ has i us
 has-class i us = let k = class-place us in ap (has i) k.1 ∙ has-turned i k.0 us
@@ -311,7 +309,7 @@ turned-alike us vs k d e q l = by_first (rotated_at k us) refl
         sym (has-turned u.item k us) ∙ ap (has u.item) z ∙ in-has (u ∷ rest) u (inl refl) in
         let other : has u.item vs ≡ true = sym (has-alike us vs u.item q) ∙ there in
         let at = turned_to-place u.item vs other in (
-          place_of u.item vs,
+          place_in u.item vs,
           at.0,
           sym own ∙ turned_to-turned u.item k us d there
               ∙ turned_to-alike us vs u.item d e q there ∙ sym at.1,

@@ -10,7 +10,7 @@ use Rattle.std.proofs.Common.{◌≡◌, ◌≢◌, ℕ, zero, suc, ◌+◌, ◌
 use Rattle.std.proofs.Common.{[], ◌∷◌, Option, None, Some, length, map, take, drop, get_or, refl, ap, ◌∙◌, arith}
 use Rattle.std.proofs.Common.{length-append}
 use Rattle.std.specs.Prelude.{All, codes, is_some, slice_get, MatchOption, ◌==◌, if◌then◌else◌}
-use Rattle.std.specs.List.{list_any, position_or_len, range_with_len}
+use Rattle.std.specs.List.{list_any, range_with_len}
 use Rattle.std.specs.Str.{bytes_eq}
 use Rattle.std.proofs.lemmas.List.{length-map, take-append-drop}
 use Rattle.std.proofs.lemmas.List.Elements.{All-nil, All-cons, All-head, All-map, All-weaker, All-from_get_or}
@@ -18,6 +18,7 @@ use Rattle.std.proofs.lemmas.List.Folds.{list_any-append, list_any_none}
 use Rattle.std.proofs.lemmas.Slice.Eq.{bytes_eq-Decides}
 use Rattle.std.proofs.lemmas.Option.{slice_get-get_or}
 use Rattle.xc_input.specs.declared.problem.Use.{Use}
+use Rattle.xc_input.specs.UsePlaces.{place_in}
 use Rattle.xc_input.specs.Problem.{IsPrimary, IsItem, numbered_get, uses_of, option_count, primary_count, colour_in}
 use Rattle.xc_input.specs.Problem.{IsOption}
 use Rattle.xc_input.specs.Named.{Named, IsKnownUse, IsSound, IsName, IsColour, IsUnbroken}
@@ -79,11 +80,11 @@ plain-use p sound u known =
 -- ---- rotations
 
 place-within : (i : ℕ) (us : List Use) → is_some (colour_in us i) ≡ true
-    → position_or_len (λ u. u.item == i) us < length us
+    → place_in i us < length us
 place-within i [] h = absurd (cc h)
 place-within i (u ∷ us) h =
     let P : Bool → Type 0 = λ t. is_some (if t then Some u.colour else colour_in us i) ≡ true
-    → (if not t then 1 + position_or_len (λ v. v.item == i) us else 0) < suc (length us) in
+    → (if not t then 1 + place_in i us else 0) < suc (length us) in
     let step : P (u.item == i) =
     (elim (u.item == i) as P [ true ↦ λ k. omega arith | false ↦ λ k. omega (arith, place-within i us k) ])
     in step h
@@ -135,7 +136,7 @@ told-option p sound i o h l held = record {
     words = body_words p i (Some o)
 
     k : ℕ
-    k = position_or_len (λ u. u.item == i) us
+    k = place_in i us
 
     within : k < length us
     within = place-within i us held

@@ -6,11 +6,11 @@ use Rattle.std.proofs.Common.{ℕ, zero, suc, ◌≡◌, ◌+◌, ◌-◌, ◌<�
 use Rattle.std.proofs.Common.{get_or, Some, refl, sym, ap, ap₂, ◌∙◌, arith, subst, length-append, length-drop}
 use Rattle.std.proofs.Common.{eq-eqb, append_assoc, append-nil}
 use Rattle.std.specs.Prelude.{◌==◌, flat_map, slice_range, unwrap_or}
-use Rattle.std.specs.List.{position_or_len}
 use Rattle.std.proofs.lemmas.Grind.{common_steps}
 use Rattle.std.proofs.lemmas.List.Sums.{position_or_len_is}
 use Rattle.std.proofs.lemmas.List.Concat.{flat_map-append}
 use Rattle.xc_input.specs.declared.problem.Use.{Use}
+use Rattle.xc_input.specs.UsePlaces.{place_in}
 use Rattle.xc_input.specs.Problem.{numbered_get}
 use Rattle.xc_input.specs.Named.{Named}
 use Rattle.xc_input.proofs.FaultLemmas.Checks.{map-length, map-snoc}
@@ -67,27 +67,27 @@ drop-front xs ys = grind (arith, common_steps)
 -- where an item's use starts in the text of uses that were read
 pub cut_within : (a : Named) (item : ℕ) (us all : List Use) (text : List ℕ) (place : ℕ) → us ≡ all
     → text ≡ uses_text a all
-    → place ≡ length (uses_text a (take (position_or_len (λ u. u.item == item) us) us)) → place ≤ length text
+    → place ≡ length (uses_text a (take (place_in item us) us)) → place ≤ length text
 cut_within a item us all text place e f at =
-    let cut = ap length (text-cut a us (position_or_len (λ u. u.item == item) us)) in
+    let cut = ap length (text-cut a us (place_in item us)) in
     omega (
       arith,
       at,
       cut,
       ap length f,
       ap (λ vs. length (uses_text a vs)) e,
-      length-append (uses_text a (take (position_or_len (λ u. u.item == item) us) us))
-          (uses_text a (drop (position_or_len (λ u. u.item == item) us) us)),
+      length-append (uses_text a (take (place_in item us) us))
+          (uses_text a (drop (place_in item us) us)),
     )
 
 -- the text behind that place and the text before it are those of the uses from the item's on, cyclically
 pub cut_gives : (a : Named) (item : ℕ) (us all : List Use) (text before after : List ℕ) (place : ℕ) → us ≡ all
     → text ≡ uses_text a all
-    → place ≡ length (uses_text a (take (position_or_len (λ u. u.item == item) us) us)) → before ≡ take place text
+    → place ≡ length (uses_text a (take (place_in item us) us)) → before ≡ take place text
     → after ≡ drop place text
     → flat_map (use_text a) (from_item item all) ≡ after ++ before
 cut_gives a item us all text before after place e f at b d =
-    let p = position_or_len (λ u. u.item == item) us in
+    let p = place_in item us in
     let front = uses_text a (take p us) in
     let back = uses_text a (drop p us) in
     let whole : text ≡ front ++ back = f ∙ ap (uses_text a) (sym e) ∙ text-cut a us p in
@@ -140,7 +140,7 @@ span-length texts from count h = omega (arith, length-take count (drop from text
 -- where an item's use starts in a text is within it
 pub cut_in_span : (a : Named) (item : ℕ) (us all : List Use) (texts : List ℕ) (from count place : ℕ) → us ≡ all
     → take count (drop from texts) ≡ uses_text a all
-    → place ≡ length (uses_text a (take (position_or_len (λ u. u.item == item) us) us))
+    → place ≡ length (uses_text a (take (place_in item us) us))
     → from + count + 16 ≤ length texts → place ≤ count
 cut_in_span a item us all texts from count place e f at h =
     let within = cut_within a item us all (take count (drop from texts)) place e f at in
@@ -158,7 +158,7 @@ nothing_put page texts n place h =
 -- the part behind the cut is put on a page, and then the part before it
 pub text_put : (a : Named) (item : ℕ) (us all : List Use) (texts page one two : List ℕ) (at from count place : ℕ)
     → us ≡ all → take count (drop from texts) ≡ uses_text a all
-    → place ≡ length (uses_text a (take (position_or_len (λ u. u.item == item) us) us))
+    → place ≡ length (uses_text a (take (place_in item us) us))
     → from + count + 16 ≤ length texts
     → take (at + (count - place)) one ≡ take at page ++ take (count - place) (drop (from + place) texts)
     → take (at + (count - place) + place) two ≡ take (at + (count - place)) one ++ take place (drop from texts)
@@ -205,7 +205,7 @@ first_read os firsts o x e known at =
 pub from_first : (item : ℕ) (us : List Use) → first_item us ≡ item → from_item item us ≡ us
 from_first item [] e = refl
 from_first item (u ∷ us) e =
-    let at : position_or_len (λ v. v.item == item) (u ∷ us) ≡ 0 =
+    let at : place_in item (u ∷ us) ≡ 0 =
     position_or_len_is (λ v. v.item == item) (u ∷ us) 0 (record { item = 0; colour = 0 }) (omega arith)
     (λ k h. absurd (omega (arith, h))) (λ h. eq-eqb u.item item e) in
     ap (λ n. drop n (u ∷ us) ++ take n (u ∷ us)) at ∙ append-nil (u ∷ us)

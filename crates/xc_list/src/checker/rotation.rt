@@ -3,9 +3,8 @@ ghost use Rattle.std.specs.Prelude.{◌≡◌, map, min, OnOk};
 ghost use Rattle.std.specs.List.{reduce};
 ghost use Rattle.xc_list.specs.inner.Classes.{class_of};
 
-use crate::uses::place_of;
 use std::alloc::AllocError;
-use xc_input::Use;
+use xc_input::{Use, place_in};
 
 /// The least item of uses, if there are any.
 fn least_item(uses: &[Use]) -> Option<u32>
@@ -19,7 +18,7 @@ fn least_item(uses: &[Use]) -> Option<u32>
 pub(crate) fn rotate(uses: &[Use], rotated: &mut Vec<Use>) -> Result<(), AllocError>
     ensures { OnOk result (rotated.new.items ≡ class_of uses.now) }
 {
-    let place = place_of(uses, least_item(uses).unwrap_or(0));
+    let place = place_in(uses, least_item(uses).unwrap_or(0));
     let (before, after) = uses.split_at(place);
     rotated.clear();
     rotated.extend_from_slice(after)?;

@@ -15,7 +15,8 @@ use Rattle.xc_dance.specs.Moves.{listed, is_open, spends, AreLegal}
 use Rattle.xc_search.specs.Residuals.{wanted_after}
 use Rattle.xc_search.specs.inner.Residual.{residual_of}
 use Rattle.xc_dance.specs.inner.Left.{left}
-use Rattle.xc_dance.specs.Commits.{after_spend, after_use, after_uses, others, place_in}
+use Rattle.xc_dance.specs.Commits.{after_spend, after_use, after_uses, others}
+use Rattle.xc_input.specs.UsePlaces.{place_in}
 use Rattle.xc_search.specs.inner.Commits.{tweaked, after_none}
 use Rattle.xc_search.specs.inner.Levels.{IsNode}
 use Rattle.xc_dance.proofs.MoveLemmas.OpenLists.{listed_open}

@@ -8,7 +8,7 @@ use Rattle.std.specs.List.{AllByRecursion, list_all}
 use Rattle.xc_input.specs.declared.problem.Use.{Use}
 use Rattle.xc_input.specs.Problem.{Numbered, colour_in, holds}
 use Rattle.xc_search.specs.Listing.{Residual, may_stay, item_left, pick, spend_one}
-use Rattle.xc_dance.specs.Commits.{place_in}
+use Rattle.xc_input.specs.UsePlaces.{place_in}
 use Rattle.xc_search.proofs.residual.PickedByUses.{is_wanted, spend_uses, all_stay, committed, as_residual}
 use Rattle.xc_input.proofs.lists.EachElement.{each-append, each_front}
 use Rattle.xc_input.proofs.lists.Filters.{filter_both, map-same}

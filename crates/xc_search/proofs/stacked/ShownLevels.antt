@@ -9,7 +9,8 @@ use Rattle.xc_input.specs.declared.problem.Use.{Use}
 use Rattle.xc_input.specs.Problem.{Puzzle, Numbered, IsItem, numbered_get, uses_of}
 use Rattle.xc_dance.specs.declared.dance.Move.{Move}
 use Rattle.xc_dance.specs.Fields.{link_place}
-use Rattle.xc_dance.specs.Commits.{IsUseAt, place_in}
+use Rattle.xc_dance.specs.Commits.{IsUseAt}
+use Rattle.xc_input.specs.UsePlaces.{place_in}
 use Rattle.xc_search.specs.declared.level.Level.{Level}
 use Rattle.xc_search.specs.inner.Commits.{oldest}
 use Rattle.xc_search.specs.inner.Levels.{taken, options_at, IsLevelAt, AreStacked, IsShown}

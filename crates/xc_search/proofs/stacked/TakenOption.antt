@@ -14,7 +14,8 @@ use Rattle.xc_dance.specs.Dancing.{Dancing}
 use Rattle.xc_dance.specs.Moves.{spends, AreLegal, IsLegal}
 use Rattle.xc_search.specs.inner.Levels.{options_at, IsLevel, IsBegun, IsEntered, IsPlace, CanBranch, after_branch}
 use Rattle.xc_search.specs.inner.Levels.{next_number}
-use Rattle.xc_dance.specs.Commits.{option_at, after_spend, after_uses, others, place_in}
+use Rattle.xc_dance.specs.Commits.{option_at, after_spend, after_uses, others}
+use Rattle.xc_input.specs.UsePlaces.{place_in}
 use Rattle.xc_search.specs.inner.Commits.{oldest, tweaked, after_none}
 use Rattle.xc_search.proofs.moves.OldestMoves.{oldest_all}
 use Rattle.xc_search.proofs.moves.BranchMoves.{taken}

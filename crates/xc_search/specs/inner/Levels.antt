@@ -17,7 +17,8 @@ use Rattle.xc_search.specs.Residuals.{wanted_at, wanted_after}
 use Rattle.xc_search.specs.inner.Residual.{residual_of}
 use Rattle.xc_dance.specs.inner.Left.{left}
 use Rattle.xc_dance.specs.Fields.{link_place}
-use Rattle.xc_dance.specs.Commits.{option_at, IsUseAt, after_spend, after_uses, others, place_in}
+use Rattle.xc_dance.specs.Commits.{option_at, IsUseAt, after_spend, after_uses, others}
+use Rattle.xc_input.specs.UsePlaces.{place_in}
 use Rattle.xc_search.specs.inner.Commits.{MayStand, after_none, oldest, tweaked, walks}
 use Rattle.xc_search.specs.inner.Sparing.{IsSparing}
 

@@ -2,7 +2,7 @@
 use Rattle.std.specs.Prelude.{ℕ, ◌+◌, List, take, drop}
 use Rattle.xc_input.specs.declared.problem.Use.{Use}
 use Rattle.xc_input.specs.Problem.{Puzzle, uses_of}
-use Rattle.xc_dance.specs.Commits.{place_in}
+use Rattle.xc_input.specs.UsePlaces.{place_in}
 
 -- the uses of option x behind that of item i
 abbrev pub uses_behind : Puzzle → ℕ → ℕ → List Use

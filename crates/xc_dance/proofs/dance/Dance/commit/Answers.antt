@@ -4,7 +4,7 @@ use Rattle.xc_input.specs.Problem.{Puzzle, uses_of, numbered_get}
 use Rattle.xc_dance.specs.Dancing.{Dancing}
 use Rattle.xc_dance.specs.Commits.{CanStand, IsUseAt, others}
 use Rattle.xc_dance.proofs.MoveLemmas.Commits.{committed, other_uses, stood_before}
-use Rattle.xc_dance.proofs.dance.Dance.commit.Goals.{After-index_of-at}
+use Rattle.xc_dance.proofs.dance.Dance.commit.Goals.{After-place_in-at}
 use Rattle.xc_dance.proofs.dance.Dance.commit.Goals as goal
 
 -- the state after the uses behind place k
@@ -12,11 +12,11 @@ abbrev behind : ℕ → List Use → Dancing → Dancing
 behind k us s = committed (take (length us - (k + 1)) (drop (k + 1) us)) s
 
 -- the state in the end is that after the uses behind, and then those before
-whole : (g : _) (c : After-index_of-at g) (x : ℕ) →
+whole : (g : _) (c : After-place_in-at g) (x : ℕ) →
     IsUseAt (g.Self.Dance.state c.args.self.now).puzzle c.args.i x c.args.place →
     (let s = g.Self.Dance.state c.args.self.now in
     let us = c.option-uses.result.now in
-    let k = c.index_of-at.result in
+    let k = c.place_in-at.result in
     committed (others c.args.i (uses_of s.puzzle x)) s ≡ committed (take k us) (behind k us s))
 whole g c x u =
     let s = g.Self.Dance.state c.args.self.now in
@@ -26,32 +26,32 @@ whole g c x u =
     ap (λ n. numbered_get s.puzzle.options n) (sym is)
     ∙ ap (λ (p : Puzzle). numbered_get p.options c.number_at.result) c.requires.same
     ∙ c.option-uses.ensures.value in
-    ap (λ t. record s { trail = t }) (other_uses s.puzzle c.args.i x _ _ s.trail found c.index_of-at.ensures)
+    ap (λ t. record s { trail = t }) (other_uses s.puzzle c.args.i x _ _ s.trail found c.place_in-at.ensures.value)
 
 -- it may stand
 abbrev Stands : Dancing → Type 0
 Stands s = CanStand s.puzzle s.room s.trail
 
-can : (g : _) (c : After-index_of-at g) →
+can : (g : _) (c : After-place_in-at g) →
     (let us = c.option-uses.result.now in
-    let k = c.index_of-at.result in
+    let k = c.place_in-at.result in
     Stands (committed (take k us) (behind k us (g.Self.Dance.state c.args.self.now))))
 can g c = let u = c.requires.can in subst Stands (whole g c u.0 u.1) u.2
 
 pub commit_uses-requires-clause-stands : goal.commit_uses-requires-clause-stands
 commit_uses-requires-clause-stands g c =
     let s = g.Self.Dance.state c.args.self.now in
-    stood_before s.puzzle s.room (take c.index_of-at.result c.option-uses.result.now) _
-    (can g (goal.at.commit_uses-requires-clause-stands g c).After-index_of-at)
+    stood_before s.puzzle s.room (take c.place_in-at.result c.option-uses.result.now) _
+    (can g (goal.at.commit_uses-requires-clause-stands g c).After-place_in-at)
 
 -- once the uses behind were committed, those before it lead to the end
 pub commit_uses-requires-2-clause-stands : goal.commit_uses-requires-2-clause-stands
 commit_uses-requires-2-clause-stands g c =
-    subst Stands (ap (committed (take c.index_of-at.result c.option-uses.result.now)) (sym c.commit_uses.ensures))
-    (can g (goal.at.commit_uses-requires-2-clause-stands g c).After-index_of-at)
+    subst Stands (ap (committed (take c.place_in-at.result c.option-uses.result.now)) (sym c.commit_uses.ensures))
+    (can g (goal.at.commit_uses-requires-2-clause-stands g c).After-place_in-at)
 
 pub returns : goal.returns
 returns g c = λ x u.
     c.commit_uses-2.ensures
-    ∙ ap (committed (take c.index_of-at.result c.option-uses.result.now)) c.commit_uses.ensures
-    ∙ sym (whole g (goal.at.returns g c).After-index_of-at x u)
+    ∙ ap (committed (take c.place_in-at.result c.option-uses.result.now)) c.commit_uses.ensures
+    ∙ sym (whole g (goal.at.returns g c).After-place_in-at x u)

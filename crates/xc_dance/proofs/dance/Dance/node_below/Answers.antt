@@ -55,16 +55,16 @@ used g c =
     next_use (g.Self.Dance.state c.args.self.now) c.args.problem.now c.args.i l.0 c.in-Some.o c.requires.same
     c.items.ensures.whole (some_next g c l.0 l.1)
 
-pub place_of-requires-clause-known : goal.place_of-requires-clause-known
-place_of-requires-clause-known g c = (used g c).known
+pub node_place-requires-clause-known : goal.node_place-requires-clause-known
+node_place-requires-clause-known g c = (used g c).known
 
-pub place_of-requires-clause-holds : goal.place_of-requires-clause-holds
-place_of-requires-clause-holds g c = (used g c).holds
+pub node_place-requires-clause-holds : goal.node_place-requires-clause-holds
+node_place-requires-clause-holds g c = (used g c).holds
 
 pub returns-in-Some-clause-place : goal.returns-in-Some-clause-place
 returns-in-Some-clause-place g c = λ x at.
     let is = some_next g (goal.at.returns-in-Some-clause-place g c).In-Some x at in
-    c.place_of.ensures
+    c.node_place.ensures
     ∙ ap (λ (p : Puzzle). link_place p c.args.i c.in-Some.o) (sym c.requires.same)
     ∙ ap (λ n. link_place (g.Self.Dance.state c.args.self.now).puzzle c.args.i (unwrap_or n 0)) (sym is)
 
@@ -72,8 +72,9 @@ pub returns-in-Some-clause-option : goal.returns-in-Some-clause-option
 returns-in-Some-clause-option g c = λ x at.
     let s = g.Self.Dance.state c.args.self.now in
     let is = some_next g (goal.at.returns-in-Some-clause-option g c).In-Some x at in
-    place_tells s c.args.problem.now c.args.i x c.place_of.result c.requires.same c.items.ensures.whole c.requires.item
-    (c.place_of.ensures
+    place_tells s c.args.problem.now c.args.i x c.node_place.result c.requires.same c.items.ensures.whole
+    c.requires.item
+    (c.node_place.ensures
     ∙ ap (λ (p : Puzzle). link_place p c.args.i c.in-Some.o) (sym c.requires.same)
     ∙ ap (λ n. link_place s.puzzle c.args.i (unwrap_or n 0)) (sym is))
 

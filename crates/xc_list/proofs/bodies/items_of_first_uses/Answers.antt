@@ -5,7 +5,7 @@ use Rattle.xc_input.proofs.FaultLemmas.Checks.{map-snoc}
 use Rattle.xc_input.proofs.OptionLemmas.FlatParts.{numbered_get-at}
 use Rattle.xc_dance.proofs.Copied.{take_more-get}
 use Rattle.xc_list.specs.inner.Layout.{first_item}
-use Rattle.xc_list.proofs.bodies.first_items.Goals as goal
+use Rattle.xc_list.proofs.bodies.items_of_first_uses.Goals as goal
 
 pub loop-o-preserved : goal.loop-o-preserved
 loop-o-preserved c =
