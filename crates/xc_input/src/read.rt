@@ -1,12 +1,12 @@
 //! Reads a problem from a source.
 
-ghost use Rattle.std.specs.Prelude.{◌≡◌, ◌<◌, ◌++◌, ◌∷◌, false, Some, length, OnOk, IfErr, IfOk, MatchOption};
+ghost use Rattle.std.specs.Prelude.{◌≡◌, ◌<◌, ◌++◌, [], ◌∷◌, false, Some, length, OnOk, IfErr, IfOk, MatchOption};
 ghost use Rattle.std.specs.Result.{result_err};
 ghost use Rattle.xc_input.specs.Words.{has};
 ghost use Rattle.xc_input.specs.Named.{IsSound};
 ghost use Rattle.xc_input.specs.inner.Feeding.{fed, IsBetween, Spoils, Ended, EndsAs};
 ghost use Rattle.xc_input.specs.Lines.{lines_of};
-ghost use Rattle.xc_input.specs.Pieces.{IsWhole, IsPart};
+ghost use Rattle.xc_input.specs.Pieces.{GaveAll, IsWhole, IsPart};
 
 use crate::reader::{Read, Reader};
 use crate::source::Source;
@@ -29,18 +29,54 @@ pub fn read_problem<S: Source>(
         (λ r. IsWhole kind (S.state source.old) (S.state source.new) r.problem r.ignored.items) }
     ensures part { IfErr result (IsPart kind (S.state source.old) (S.state source.new)) }
 {
-    let mut reader = Reader::with_seed(alloc, kind, source.seed());
-    let mut carry = Vec::new(alloc);
     let mut store = buffer(alloc)?;
-    let buf = store.as_mut_slice();
+    let mut carry = Vec::new(alloc);
+    let reader = Reader::with_seed(alloc, kind, source.seed());
+    read_through(source, store.as_mut_slice(), &mut carry, reader)
+}
+
+/// Reads the source by this reader, which was given nothing.
+// What owns the reader has few ways out, since the drop of all that it holds is proved at each.
+fn read_through<S: Source>(
+    source: &mut S,
+    buf: &mut [u8],
+    carry: &mut Vec<u8>,
+    mut reader: Reader,
+) -> Result<Read, InputError>
+    requires room { 0 < length buf.old }
+    requires state { IsBetween reader carry.old.items }
+    requires nothing { fed reader carry.old.items ≡ [] }
+    ensures valid { IfOk result (λ r. IsSound r.problem) }
+    ensures whole { IfOk result
+        (λ r. IsWhole reader.kind (S.state source.old) (S.state source.new) r.problem r.ignored.items) }
+    ensures part { IfErr result (IsPart reader.kind (S.state source.old) (S.state source.new)) }
+{
+    feed_all(source, buf, carry, &mut reader)?;
+    end_text(reader, carry.as_slice())
+}
+
+/// Hands on all that the source gives, a piece at a time.
+fn feed_all<S: Source>(
+    source: &mut S,
+    buf: &mut [u8],
+    carry: &mut Vec<u8>,
+    reader: &mut Reader,
+) -> Result<(), InputError>
+    requires room { 0 < length buf.old }
+    requires state { IsBetween reader.old carry.old.items }
+    requires nothing { fed reader.old carry.old.items ≡ [] }
+    ensures kind { reader.new.kind ≡ reader.old.kind }
+    ensures state { OnOk result (IsBetween reader.new carry.new.items) }
+    ensures all { OnOk result (GaveAll (S.state source.old) (S.state source.new) (fed reader.new carry.new.items)) }
+    ensures part { IfErr result (IsPart reader.old.kind (S.state source.old) (S.state source.new)) }
+{
     'reading: loop {
         let n = source.read(buf)?;
         if n == 0 {
-            break;
+            return Ok(());
         }
-        feed(&mut reader, &mut carry, &buf[..n])?;
+        feed(reader, carry, &buf[..n])?;
     }
-    end_text(reader, carry.as_slice())
 }
 
 /// A buffer of zeros.

@@ -20,6 +20,8 @@ use Rattle.xc_input.specs.inner.Feeding.{fed, IsBetween, Spoils, EndsAs}
 use Rattle.xc_input.specs.Lines.{lines_of}
 use Rattle.xc_input.specs.Pieces.{SourceState, Gave, GaveAll, IsOpen, IsWhole, IsPart}
 use Rattle.xc_input.proofs.LineLemmas.Sources.{error-ends}
+use Rattle.xc_input.specs.Words.{has}
+use Prim.Native.Char.{code}
 
 pub gave_nothing : (s : SourceState) → Gave s s []
 gave_nothing s =
@@ -94,6 +96,17 @@ part-last kind a c bytes (Ok x) h m g = tt
 part-last kind a c bytes (Err (Fault n k)) h m g = (bytes, inl (g, h.first))
 part-last kind a c bytes (Err Device) h m g = absurd h.first
 part-last kind a c bytes (Err Memory) h m g = (bytes, g.no_failure, inr (g, m refl))
+
+-- a reader that was given nothing, where nothing is carried on
+pub new-between : (reading : Reading) (carry : List ℕ) → reading.lines ≡ [] → reading.error ≡ None → carry ≡ []
+    → IsBetween reading carry
+new-between reading carry lines error none =
+    record {
+      no_error = error;
+      no_fault = ap (line_fault reading.kind) lines;
+      whole = rw lines tt;
+      partial = ap (has (code "\n")) none;
+    }
 
 -- what is carried on ends within a line
 pub open-carry : (reading : Reading) (carry : List ℕ) → IsBetween reading carry → 0 < length carry

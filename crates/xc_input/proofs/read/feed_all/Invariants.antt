@@ -1,12 +1,12 @@
 use Rattle.std.proofs.Common.{◌≡◌}
 use Rattle.xc_input.specs.inner.Feeding.{fed, IsBetween}
 use Rattle.xc_input.specs.Pieces.{Gave}
-use Rattle.xc_input.proofs.read.read_problem.Given as goal
+use Rattle.xc_input.proofs.read.feed_all.Given as goal
 
 -- what was read so far was handed on or is carried, and no read failed
 abbrev pub invariant-reading : goal.invariant-reading
 invariant-reading g l =
-    IsBetween l.reader l.carry.items × (l.reader.kind ≡ l.fn.kind)
+    IsBetween l.reader l.carry.items × (l.reader.kind ≡ l.fn.reader.kind)
     × ((g.S.Source.state l.source).failures ≡ (g.S.Source.state l.fn.source).failures)
     × Gave (g.S.Source.state l.fn.source) (g.S.Source.state l.source) (fed l.reader l.carry.items)
 

@@ -1,0 +1,37 @@
+use Rattle.std.proofs.Common.{◌++◌, ◌∙◌, ◌<◌, take, length, sym, subst, arith}
+use Rattle.std.proofs.lemmas.Grind.{common_steps}
+use Rattle.std.proofs.lemmas.Result.{err_from_is_err_and}
+use Rattle.xc_input.specs.inner.Feeding.{fed, Spoils}
+use Rattle.xc_input.specs.Pieces.{Gave}
+use Rattle.xc_input.proofs.LineLemmas.Pieces.{gave_more, part-spoiled, part-failed}
+use Rattle.xc_input.proofs.read.feed_all.Goals as goal
+
+pub returns-in_err-n-clause-part : goal.returns-in_err-n-clause-part
+returns-in_err-n-clause-part g c =
+    let error = err_from_is_err_and c.from_residual.result c.from_residual.ensures.1 in
+    rw (error.1, error.2) (part-failed c.args.reader.now.kind _ _ _ c.reading.reader c.reading.carry.items
+    c.reading.invariant.1 c.reading.invariant.0 c.reading.invariant.3 c.reading.invariant.2 c.in_err-n.ensures.failures
+    c.in_err-n.ensures.bytes c.in_err-n.ensures.given_kept)
+
+pub returns-in_err-feed-clause-part : goal.returns-in_err-feed-clause-part
+returns-in_err-feed-clause-part g c =
+    let error = err_from_is_err_and c.from_residual-in_err-feed.result c.from_residual-in_err-feed.ensures.1 in
+    let bytes = fed c.reading.reader c.reading.carry.items ++ take c.in_ok-n.n c.read.new.buf in
+    let some : 0 < length (take c.in_ok-n.n c.read.new.buf) =
+    grind (arith, common_steps, c.if-n-eq0.false, c.in_ok-n.ensures.bound) in
+    rw (error.1, error.2) (part-spoiled c.args.reader.now.kind _ _ bytes c.in_err-feed.field-0.0
+    (subst (λ kind. Spoils kind bytes c.in_err-feed.field-0.0) c.reading.invariant.1 c.in_err-feed.ensures.err)
+    (gave_more _ _ _ _ _ c.reading.invariant.3 some c.in_ok-n.ensures.bytes.0 c.in_ok-n.ensures.given)
+    (c.in_ok-n.ensures.failures ∙ c.reading.invariant.2))
+
+pub reading-preserved : goal.reading-preserved
+reading-preserved g c =
+    let some : 0 < length (take c.in_ok-n.n c.read.new.buf) =
+    grind (arith, common_steps, c.if-n-eq0.false, c.in_ok-n.ensures.bound) in (
+      c.in_ok-feed.ensures.state,
+      c.in_ok-feed.ensures.kind ∙ c.reading.invariant.1,
+      c.in_ok-n.ensures.failures ∙ c.reading.invariant.2,
+      subst (Gave (g.S.Source.state c.args.source.now) (g.S.Source.state c.read.new.self))
+          (sym c.in_ok-feed.ensures.fed)
+          (gave_more _ _ _ _ _ c.reading.invariant.3 some c.in_ok-n.ensures.bytes.0 c.in_ok-n.ensures.given),
+    )

@@ -1,0 +1,25 @@
+use Rattle.std.proofs.Common.{◌<◌, length, ap, subst}
+use Rattle.xc_input.specs.Lines.{lines_of}
+use Rattle.xc_input.specs.inner.Feeding.{fed, EndsAs}
+use Rattle.xc_input.proofs.LineLemmas.Sources.{ends-as}
+use Rattle.xc_input.proofs.LineLemmas.Pieces.{whole-last, part-last, open-carry}
+use Rattle.xc_input.proofs.read.read_through.Goals.{After-end_text}
+use Rattle.xc_input.proofs.read.read_through.Goals as goal
+
+-- what the answer at the end of the input says of what was fed
+as_fed : (g : _) (c : After-end_text g)
+    → EndsAs c.args.reader.kind (lines_of (fed c.feed_all.new.reader c.feed_all.new.carry.items)) c.end_text.result
+as_fed g c =
+    ends-as _ _ _ _ _ c.in_ok-feed_all.ensures.kind
+    (ap (λ xs. lines_of (fed c.feed_all.new.reader xs)) c.as_slice.ensures.value) c.end_text.ensures.answer
+
+pub returns-clause-whole : goal.returns-clause-whole
+returns-clause-whole g c =
+    whole-last c.args.reader.kind _ _ _ c.end_text.result (as_fed g c) c.in_ok-feed_all.ensures.all
+
+pub returns-clause-part : goal.returns-clause-part
+returns-clause-part g c =
+    let some = subst (λ carry. 0 < length carry) c.as_slice.ensures.value in
+    part-last c.args.reader.kind _ _ _ c.end_text.result (as_fed g c)
+    (λ short. open-carry _ _ c.in_ok-feed_all.ensures.state (some (c.end_text.ensures.memory short)))
+    c.in_ok-feed_all.ensures.all
