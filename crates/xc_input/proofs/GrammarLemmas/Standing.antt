@@ -1,6 +1,6 @@
 -- The grammar says the same line by line: what was read before a line goes on to the next.
 use Rattle.std.proofs.Common.{◌≡◌, ◌≢◌, ℕ, ◌+◌, ◌-◌, ◌≤◌, List, [], ◌∷◌, ◌++◌, Bool, true, false, cond, not, length}
-use Rattle.std.proofs.Common.{take, drop, map, filter, flat_map, refl, ap, ◌∙◌, sym, subst, arith, inl, inr, ◌⊎◌}
+use Rattle.std.proofs.Common.{take, drop, map, filter, flat_map, refl, ap, ◌∙◌, sym, subst, arith, inl, inr}
 use Rattle.std.proofs.lemmas.List.{length-append, length-drop, length-map, take-append-drop}
 use Rattle.std.proofs.lemmas.Slice.Zip.{AllZip-long}
 use Rattle.std.proofs.Math.Seq.{take-append_seam, drop-append_seam}
@@ -11,19 +11,19 @@ use Rattle.xc_input.specs.declared.problem.Bounds.{Bounds}
 use Rattle.xc_input.specs.declared.problem.Use.{Use}
 use Rattle.xc_input.specs.Limits.{most_items, most_uses}
 use Rattle.xc_input.specs.Words.{has}
-use Rattle.xc_input.specs.Tokens.{tokens, parts, is_bar, is_skipped}
+use Rattle.xc_input.specs.Tokens.{parts, is_bar, is_skipped}
 use Rattle.xc_input.specs.Sheets.{Entry, Written, with_colour, colour_number, number_uses}
 use Rattle.xc_input.specs.Named.{Named}
 use Rattle.xc_input.specs.Faults.{Context, has_primary}
 use Rattle.xc_input.specs.FirstFault.{line_number}
 use Rattle.xc_input.specs.Text.{IsEntry, IsOptionLine, StandsFor}
-use Rattle.xc_input.specs.Text.{AreItems as IsItemLine, AreOptions as HaveOptions}
+use Rattle.xc_input.specs.Text.{AreOptions as HaveOptions}
 use Rattle.xc_input.specs.inner.Sheets.{Sheet, names_of, with_uses}
 use Rattle.xc_input.proofs.GrammarLemmas.SheetGrammar.{AreItems, AreOptions, IsSheetFrom, IsRead, named_of}
 use Rattle.xc_input.specs.inner.Stages.{context}
 use Rattle.xc_input.proofs.ValidLemmas.SheetValidity.{so_far}
 use Rattle.xc_input.proofs.FaultLemmas.Checks.{names_of-length}
-use Rattle.xc_input.proofs.GrammarLemmas.NoFault.{or-false, or-both}
+use Rattle.std.proofs.lemmas.Bool.{or_parts, or_from}
 use Rattle.xc_input.proofs.OptionLemmas.Colours.{met, kept}
 
 -- CONTENT
@@ -116,7 +116,7 @@ module _ (c : Context) where
   all-lines n used cs [] os ig last room h = (refl, [], tt, h.1, (omega (arith, room), h.2, h.0))
   all-lines n used cs (line ∷ lines) os ig last room (z, inl (f, r)) =
       let q = all-lines (n + 1) used cs lines os ig last room r in (
-        or-both (has 0 line) (list_any (has 0) lines) z q.0,
+        or_from (has 0 line) (list_any (has 0) lines) z q.0,
         q.1,
         subst (λ ls. AllZip (IsOptionLine c) ls q.1) (sym (skip-content (n + 1) line lines f)) q.2,
         q.3,
@@ -124,7 +124,7 @@ module _ (c : Context) where
       )
   all-lines n used cs (line ∷ lines) os ig last room (z, inr (us, f, u, inl (others, none, i, r))) =
       let q = all-lines (n + 1) used cs lines os others last room r in (
-        or-both (has 0 line) (list_any (has 0) lines) z q.0,
+        or_from (has 0 line) (list_any (has 0) lines) z q.0,
         (line_number (n + 1), us) ∷ q.1,
         subst (λ ls. AllZip (IsOptionLine c) ls ((line_number (n + 1), us) ∷ q.1))
             (sym (keep-content (n + 1) line lines f)) ((refl, u.0, u.1), q.2),
@@ -133,7 +133,7 @@ module _ (c : Context) where
       )
   all-lines n used cs (line ∷ lines) os ig last room (z, inr (us, f, u, inr (others, prim, few, o, r))) =
       let q = all-lines (n + 1) (used + length us) (with_uses cs us) lines others ig last few r in (
-        or-both (has 0 line) (list_any (has 0) lines) z q.0,
+        or_from (has 0 line) (list_any (has 0) lines) z q.0,
         (line_number (n + 1), us) ∷ q.1,
         subst (λ ls. AllZip (IsOptionLine c) ls ((line_number (n + 1), us) ∷ q.1))
             (sym (keep-content (n + 1) line lines f)) ((refl, u.0, u.1), q.2),
@@ -205,7 +205,7 @@ module _ (c : Context) where
   line-by-line n used cs [] [] os ig last z a i k = (k.2, i, k.1)
   line-by-line n used cs [] (w ∷ ws) os ig last z a i k = absurd a
   line-by-line n used cs (line ∷ lines) ws os ig last z a i k =
-      let y = or-false (has 0 line) (list_any (has 0) lines) z in
+      let y = or_parts (has 0 line) (list_any (has 0) lines) z in
       let Q : Bool → Type 0 = λ t. is_skipped line ≡ t → AreOptions c (so_far n used cs) (line ∷ lines) os ig last in
       let h : Q (is_skipped line) = (elim (is_skipped line) as Q [
         | true ↦ λ f. (
@@ -238,7 +238,7 @@ finds : (kind : Kind) (n : ℕ) (lines : List (List ℕ)) (sheet : Sheet) (ignor
 finds kind n [] sheet ignored h = absurd h
 finds kind n (line ∷ lines) sheet ignored (z, inl (f, r)) =
     let q = finds kind (n + 1) lines sheet ignored r in (
-      or-both (has 0 line) (list_any (has 0) lines) z q.0,
+      or_from (has 0 line) (list_any (has 0) lines) z q.0,
       q.1,
       q.2,
       skip-content (n + 1) line lines f
@@ -251,7 +251,7 @@ finds kind n (line ∷ lines) sheet ignored (z, inl (f, r)) =
     )
 finds kind n (line ∷ lines) sheet ignored (z, inr (f, items, r)) =
     let w = all-lines (said kind sheet) (n + 1) 0 [] lines sheet.options ignored sheet.colours (omega arith) r in (
-      or-both (has 0 line) (list_any (has 0) lines) z w.0,
+      or_from (has 0 line) (list_any (has 0) lines) z w.0,
       (n + 1, line),
       content_from (n + 1 + 1) lines,
       keep-content (n + 1) line lines f,
@@ -266,7 +266,7 @@ found : (kind : Kind) (n : ℕ) (lines : List (List ℕ)) (sheet : Sheet) (ignor
     → IsFound kind n lines sheet ignored → IsSheetFrom kind n lines sheet ignored
 found kind n [] sheet ignored (z, item, rest, e, items, ws, a, i, k) = absurd (cc)
 found kind n (line ∷ lines) sheet ignored (z, item, rest, e, items, ws, a, i, k) =
-    let y = or-false (has 0 line) (list_any (has 0) lines) z in
+    let y = or_parts (has 0 line) (list_any (has 0) lines) z in
     let Q : Bool → Type 0 = λ t. is_skipped line ≡ t → IsSheetFrom kind n (line ∷ lines) sheet ignored in
     let h : Q (is_skipped line) = (elim (is_skipped line) as Q [
       | true ↦ λ f. (

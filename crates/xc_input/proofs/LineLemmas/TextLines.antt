@@ -13,11 +13,12 @@ use Rattle.xc_input.specs.Readings.{Reading, IsStateOf}
 use Rattle.xc_input.specs.inner.Feeding.{IsErrorOf, fed, IsBetween, Spoils, Ended}
 use Rattle.xc_input.specs.Lines.{lines_of}
 use Rattle.xc_input.specs.inner.EndedLines.{ended, AreWhole}
-use Rattle.xc_input.proofs.GrammarLemmas.NoFault.{or-false, or-both, cut-is}
+use Rattle.xc_input.proofs.GrammarLemmas.NoFault.{cut-is}
+use Rattle.std.proofs.lemmas.Bool.{or_parts, or_from}
 use Rattle.xc_input.proofs.LineLemmas.Reading.{line-stays}
 
 pub lacks-append : (b : ℕ) (xs ys : List ℕ) → has b xs ≡ false → has b ys ≡ false → has b (xs ++ ys) ≡ false
-lacks-append b xs ys p q = list_any-append (λ x. nat_eq x b) xs ys ∙ or-both (has b xs) (has b ys) p q
+lacks-append b xs ys p q = list_any-append (λ x. nat_eq x b) xs ys ∙ or_from (has b xs) (has b ys) p q
 
 AreWhole-append : (ls ms : List (List ℕ)) → AreWhole ls → AreWhole ms → AreWhole (ls ++ ms)
 AreWhole-append [] ms p q = q
@@ -48,7 +49,7 @@ no_feed x h = grind (arith, nat_tests)
 -- a line and its line feed at the front
 lines_of-line : (l rest : List ℕ) → has 10 l ≡ false → lines_of (l ++ 10 ∷ rest) ≡ l ∷ lines_of rest
 lines_of-line [] rest h = refl
-lines_of-line (x ∷ l) rest h = let apart = or-false (nat_eq x 10) (has 10 l) h in other x _ _ apart.0
+lines_of-line (x ∷ l) rest h = let apart = or_parts (nat_eq x 10) (has 10 l) h in other x _ _ apart.0
     ∙ ap (onto_first x) (lines_of-line l rest apart.1)
 
 pub lines_of-ended : (ls : List (List ℕ)) (rest : List ℕ) → AreWhole ls
@@ -66,16 +67,16 @@ lines_of-all ls h = ap lines_of (sym (append-nil (ended ls))) ∙ lines_of-ended
 pub last-of-part : (part : List ℕ) → has 10 part ≡ false → 0 < length part → (front : List ℕ) × (last : ℕ)
     × (part ≡ front ++ last ∷ []) × (last ≢ 10)
 last-of-part [] h p = absurd (omega arith)
-last-of-part (x ∷ []) h p = ([], x, refl, no_feed x (or-false (nat_eq x 10) false h).0)
+last-of-part (x ∷ []) h p = ([], x, refl, no_feed x (or_parts (nat_eq x 10) false h).0)
 last-of-part (x ∷ y ∷ l) h p =
-    let more = last-of-part (y ∷ l) (or-false (nat_eq x 10) (has 10 (y ∷ l)) h).1 (omega arith) in
+    let more = last-of-part (y ∷ l) (or_parts (nat_eq x 10) (has 10 (y ∷ l)) h).1 (omega arith) in
     (x ∷ more.0, more.1, ap (λ r. x ∷ r) more.2, more.3)
 
 -- a last line without its line feed
 pub lines_of-part : (l : List ℕ) → has 10 l ≡ false → 0 < length l → lines_of l ≡ l ∷ []
 lines_of-part [] h p = absurd (omega arith)
-lines_of-part (x ∷ []) h p = other x _ _ (or-false (nat_eq x 10) false h).0
-lines_of-part (x ∷ y ∷ l) h p = let apart = or-false (nat_eq x 10) (has 10 (y ∷ l)) h in other x _ _ apart.0
+lines_of-part (x ∷ []) h p = other x _ _ (or_parts (nat_eq x 10) false h).0
+lines_of-part (x ∷ y ∷ l) h p = let apart = or_parts (nat_eq x 10) (has 10 (y ∷ l)) h in other x _ _ apart.0
     ∙ ap (onto_first x) (lines_of-part (y ∷ l) apart.1 (omega arith))
 
 -- an error of some lines is that of all

@@ -21,7 +21,7 @@ use Rattle.xc_input.specs.Text.{IsEntry}
 use Rattle.xc_input.proofs.GrammarLemmas.SheetGrammar.{AreItems}
 use Rattle.xc_input.proofs.ValidLemmas.SheetValidity.{AllNew}
 use Rattle.xc_input.proofs.FaultLemmas.Checks.{no-place}
-use Rattle.xc_input.proofs.GrammarLemmas.NoFault.{or-false, or-both}
+use Rattle.std.proofs.lemmas.Bool.{or_parts, or_from}
 use Rattle.xc_input.proofs.TokenLemmas.Bytes.{not_false}
 use Rattle.xc_input.proofs.TokenLemmas.TableNames.{apart}
 use Rattle.xc_input.proofs.TokenLemmas.Separators.{BAR}
@@ -53,7 +53,7 @@ after-cons p ps false f =
 
 named : (p name : List ℕ) → p ≡ name → has BAR name ≡ false → is_bar p ≡ false
 named [] name e h = refl
-named (x ∷ xs) name e h = (or-false (nat_eq x BAR) (has BAR xs) (ap (has BAR) e ∙ h)).0
+named (x ∷ xs) name e h = (or_parts (nat_eq x BAR) (has BAR xs) (ap (has BAR) e ∙ h)).0
 
 no-bar : (kind : Kind) (p : List ℕ) (e : Entry) → IsEntry kind true p e → is_bar p ≡ false
 no-bar kind p e (name, inl h) = named p e.name h.0 name.no_bar
@@ -63,7 +63,7 @@ no-bar kind p e (name, inr h) = let f : true ≡ false = h.2 in absurd (cc)
 none-passes : {A : Type 0} (p : A → Bool) (xs : List A) → list_any p xs ≡ false → position_or_len p xs ≡ length xs
 none-passes p [] h = refl
 none-passes p (x ∷ xs) h =
-    let both = or-false (p x) (list_any p xs) h in
+    let both = or_parts (p x) (list_any p xs) h in
     let next : 1 + position_or_len p xs ≡ suc (position_or_len p xs) = omega arith in
     ap (λ b. cond (not b) (1 + position_or_len p xs) 0) both.0 ∙ next ∙ ap suc (none-passes p xs both.1)
 
@@ -78,8 +78,8 @@ still-new names x y none differ =
     let other : bytes_eq y x ≡ false = not_false (bytes_eq y x) (λ f. differ (sym ((bytes_eq-Decides y x).0 f))) in
     absent-is (bytes_eq y) (names ++ x ∷ [])
     (list_any-append (bytes_eq y) names (x ∷ [])
-    ∙ or-both (list_any (bytes_eq y) names) (list_any (bytes_eq y) (x ∷ [])) (no-place (bytes_eq y) names none)
-    (or-both (bytes_eq y x) false other refl))
+    ∙ or_from (list_any (bytes_eq y) names) (list_any (bytes_eq y) (x ∷ [])) (no-place (bytes_eq y) names none)
+    (or_from (bytes_eq y x) false other refl))
 
 all-new : (earlier xs : List (List ℕ)) → All (λ x. place earlier x ≡ None) xs → AllPairs (λ x y. x ≢ y) xs
     → AllNew earlier xs

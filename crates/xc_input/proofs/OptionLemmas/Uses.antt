@@ -10,7 +10,7 @@ use Rattle.xc_input.specs.Sheets.{Written}
 use Rattle.xc_input.specs.Faults.{Context}
 use Rattle.xc_input.specs.Text.{IsUse}
 use Rattle.xc_input.proofs.GrammarLemmas.SheetGrammar.{AreUses}
-use Rattle.xc_input.proofs.GrammarLemmas.NoFault.{or-false, or-both}
+use Rattle.std.proofs.lemmas.Bool.{or_parts, or_from}
 
 -- tokens, behind uses of these items, stand for these uses
 abbrev pub UsesBehind : Context → List ℕ → List (List ℕ) → List Written → Type 0
@@ -37,8 +37,8 @@ all-behind c seen (t ∷ ts) (u ∷ us) z p f =
     let other : nat_eq u.item v.item ≡ false =
     differ u.item v.item (p 0 (suc k) d (omega arith) (omega (arith, within))) in
     list_any-append (λ i. nat_eq i v.item) seen (u.item ∷ [])
-    ∙ or-both (list_any (λ i. nat_eq i v.item) seen) (list_any (λ i. nat_eq i v.item) (u.item ∷ []))
-    (f (suc k) d (omega (arith, within))) (or-both (nat_eq u.item v.item) false other refl) in
+    ∙ or_from (list_any (λ i. nat_eq i v.item) seen) (list_any (λ i. nat_eq i v.item) (u.item ∷ []))
+    (f (suc k) d (omega (arith, within))) (or_from (nat_eq u.item v.item) false other refl) in
     (u, us, refl, z.0, f 0 u (omega arith), all-behind c (seen ++ u.item ∷ []) ts us z.1 pairs fresh)
 
 pub uses-behind : (c : Context) (ts : List (List ℕ)) (us : List Written) → AreUses c ts us → UsesBehind c [] ts us
@@ -49,11 +49,11 @@ unlike : (front : List Written) (i : ℕ) → list_any (λ j. nat_eq j i) (map (
 unlike [] i e k d within same = absurd (omega (arith, within))
 unlike (u ∷ front) i e zero d within same =
     let other : nat_eq u.item i ≡ false =
-    (or-false (nat_eq u.item i) (list_any (λ j. nat_eq j i) (map (λ u. u.item) front)) e).0 in
+    (or_parts (nat_eq u.item i) (list_any (λ j. nat_eq j i) (map (λ u. u.item) front)) e).0 in
     let equal : nat_eq u.item i ≡ true = grind (arith, nat_tests, same) in
     true≢false (sym equal ∙ other)
 unlike (u ∷ front) i e (suc k) d within same =
-    unlike front i (or-false (nat_eq u.item i) (list_any (λ j. nat_eq j i) (map (λ u. u.item) front)) e).1 k d
+    unlike front i (or_parts (nat_eq u.item i) (list_any (λ j. nat_eq j i) (map (λ u. u.item) front)) e).1 k d
     (omega (arith, within)) same
 
 from-behind : (c : Context) (front : List Written) (ts : List (List ℕ)) (us : List Written)

@@ -12,7 +12,8 @@ use Rattle.xc_input.specs.Faults.{is_plain}
 use Rattle.xc_input.specs.inner.Fronts.{drop_white, word, AtWhite}
 use Rattle.xc_input.specs.inner.CutTokens.{IsCutToken, IsCutBehind}
 use Rattle.xc_input.specs.inner.Builders.{AreNames}
-use Rattle.xc_input.proofs.GrammarLemmas.NoFault.{or-false, no-cut, cut-at}
+use Rattle.xc_input.proofs.GrammarLemmas.NoFault.{no-cut, cut-at}
+use Rattle.std.proofs.lemmas.Bool.{or_parts}
 use Rattle.xc_input.proofs.TokenLemmas.TableNames.{stored-name, stored-solid}
 use Rattle.xc_input.proofs.OptionLemmas.OneToken.{at-none, at-some}
 use Rattle.xc_input.proofs.TokenLemmas.Bytes.{behind, cuts_first, take-word, drop-word}
@@ -22,13 +23,13 @@ use Rattle.xc_input.proofs.TokenLemmas.Separators.{COLON}
 word-onto : (xs ys : List ℕ) → list_any is_space xs ≡ false → word (xs ++ ys) ≡ xs ++ word ys
 word-onto [] ys h = refl
 word-onto (x ∷ xs) ys h =
-    let apart = or-false (is_space x) (list_any is_space xs) h in
+    let apart = or_parts (is_space x) (list_any is_space xs) h in
     ap (λ t. if t then [] else x ∷ word (xs ++ ys)) apart.0 ∙ ap (λ zs. x ∷ zs) (word-onto xs ys apart.1)
 
 behind-onto : (xs ys : List ℕ) → list_any is_space xs ≡ false → behind (xs ++ ys) ≡ behind ys
 behind-onto [] ys h = refl
 behind-onto (x ∷ xs) ys h =
-    let apart = or-false (is_space x) (list_any is_space xs) h in
+    let apart = or_parts (is_space x) (list_any is_space xs) h in
     ap (λ t. if t then x ∷ xs ++ ys else behind (xs ++ ys)) apart.0 ∙ behind-onto xs ys apart.1
 
 at-white : (ys : List ℕ) → AtWhite ys → (word ys ≡ []) × (behind ys ≡ ys)

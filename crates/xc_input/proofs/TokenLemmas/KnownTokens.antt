@@ -11,7 +11,7 @@ use Rattle.xc_input.specs.inner.Fronts.{drop_white}
 use Rattle.xc_input.specs.inner.Builders.{AreNames}
 use Rattle.xc_input.specs.inner.CutTokens.{IsCutBehind, StandsFirst}
 use Rattle.xc_input.specs.inner.GuessedWords.{word_number, AreBytes, AreWords}
-use Rattle.xc_input.proofs.GrammarLemmas.NoFault.{or-false}
+use Rattle.std.proofs.lemmas.Bool.{or_parts}
 use Rattle.xc_input.proofs.TokenLemmas.Bytes.{tokens-drop_white}
 use Rattle.xc_input.proofs.TokenLemmas.CutTokens.{cut-token}
 use Rattle.xc_input.proofs.TokenLemmas.TableNames.{known-place, stored-name, stored-solid}
@@ -21,7 +21,7 @@ use Rattle.xc_input.proofs.TokenLemmas.WordNumbers.{bytes-taken}
 solid-front : (xs ys : List ℕ) → 1 ≤ length xs → list_any is_space xs ≡ false → drop_white (xs ++ ys) ≡ xs ++ ys
 solid-front [] ys some solid = absurd (omega (arith, some))
 solid-front (x ∷ xs) ys some solid =
-    ap (λ t. if t then drop_white (xs ++ ys) else x ∷ xs ++ ys) (or-false (is_space x) (list_any is_space xs) solid).0
+    ap (λ t. if t then drop_white (xs ++ ys) else x ∷ xs ++ ys) (or_parts (is_space x) (list_any is_space xs) solid).0
 
 pub known-first : (names : List (List ℕ)) (words text back : List ℕ) (n at number : ℕ) → AreNames names
     → AreWords names words → AreBytes text → back ≡ drop n text → n ≤ length text → number ≡ word_number (take n text)

@@ -28,7 +28,8 @@ use Rattle.xc_input.specs.inner.Stored.{key_names}
 use Rattle.xc_input.specs.Faults.{first, name_checks, has_prefix}
 use Rattle.xc_input.specs.inner.Stages.{entry}
 use Rattle.xc_input.specs.Named.{IsName}
-use Rattle.xc_input.proofs.GrammarLemmas.NoFault.{name-good, or-false}
+use Rattle.xc_input.proofs.GrammarLemmas.NoFault.{name-good}
+use Rattle.std.proofs.lemmas.Bool.{or_parts}
 use Rattle.xc_input.proofs.FaultLemmas.Checks.{no-place}
 use Rattle.xc_input.proofs.TokenLemmas.Bytes.{not_false}
 use Rattle.xc_input.proofs.OptionLemmas.FlatParts.{slice_get-map-some}
@@ -63,7 +64,7 @@ names-more old new name fault all e f g none solid = subst AreNames (sym e) (rec
 after-solid : (b : ℕ) (xs : List ℕ) → list_any is_space xs ≡ false → list_any is_space (after b xs) ≡ false
 after-solid b [] h = h
 after-solid b (x ∷ xs) h =
-    let back = (or-false (is_space x) (list_any is_space xs) h).1 in
+    let back = (or_parts (is_space x) (list_any is_space xs) h).1 in
     let P : Bool → Type 0 = λ t. list_any is_space (if t then xs else after b xs) ≡ false in
     (elim (nat_eq x b) as P [ true ↦ back | false ↦ after-solid b xs back ])
 

@@ -18,7 +18,7 @@ use Rattle.xc_input.specs.Text.{IsEntry, IsUse}
 use Rattle.xc_input.proofs.GrammarLemmas.SheetGrammar.{AreOptions, IsSheetFrom}
 use Rattle.xc_input.proofs.ValidLemmas.SheetValidity.{IsSheetOf, so_far}
 use Rattle.xc_input.specs.inner.EndedLines.{AreWhole}
-use Rattle.xc_input.proofs.GrammarLemmas.NoFault.{or-false, or-both}
+use Rattle.std.proofs.lemmas.Bool.{or_parts, or_from}
 use Rattle.xc_input.specs.inner.Stages.{context}
 use Rattle.std.specs.Prelude.{flat_map}
 use Rattle.xc_input.proofs.TokenLemmas.Separators.{COLON, BAR}
@@ -36,25 +36,25 @@ AllLack-append p (t ∷ ts) us h g = (h.0, AllLack-append p ts us h.1 g)
 lacks-behind : (p : ℕ → Bool) (front : List ℕ) (b : ℕ) (back : List ℕ) → list_any p (front ++ b ∷ back) ≡ false
     → list_any p back ≡ false
 lacks-behind p front b back h =
-    let rest = (or-false (list_any p front) (list_any p (b ∷ back)) (sym (list_any-append p front (b ∷ back)) ∙ h)).1 in
-    (or-false (p b) (list_any p back) rest).1
+    let rest = (or_parts (list_any p front) (list_any p (b ∷ back)) (sym (list_any-append p front (b ∷ back)) ∙ h)).1 in
+    (or_parts (p b) (list_any p back) rest).1
 
 -- TOKENS
 lack-front : (p : ℕ → Bool) (b : ℕ) (ts : List (List ℕ)) → p b ≡ false → AllLack p ts → AllLack p (onto_first b ts)
-lack-front p b [] e h = (or-both (p b) false e refl, tt)
-lack-front p b (t ∷ ts) e h = (or-both (p b) (list_any p t) e h.0, h.1)
+lack-front p b [] e h = (or_from (p b) false e refl, tt)
+lack-front p b (t ∷ ts) e h = (or_from (p b) (list_any p t) e h.0, h.1)
 
 lack-onto : (p : ℕ → Bool) (b : ℕ) (bs : List ℕ) (ts : List (List ℕ)) → p b ≡ false → AllLack p ts
     → AllLack p (onto b bs ts)
-lack-onto p b [] ts e h = (or-both (p b) false e refl, h)
+lack-onto p b [] ts e h = (or_from (p b) false e refl, h)
 lack-onto p b (c ∷ cs) ts e h =
     let P : Bool → Type 0 = λ t. AllLack p (if t then (b ∷ []) ∷ ts else onto_first b ts) in
-    (elim (is_space c) as P [ true ↦ (or-both (p b) false e refl, h) | false ↦ lack-front p b ts e h ])
+    (elim (is_space c) as P [ true ↦ (or_from (p b) false e refl, h) | false ↦ lack-front p b ts e h ])
 
 lack-tokens : (p : ℕ → Bool) (xs : List ℕ) → list_any p xs ≡ false → AllLack p (tokens xs)
 lack-tokens p [] h = tt
 lack-tokens p (b ∷ bs) h =
-    let apart = or-false (p b) (list_any p bs) h in
+    let apart = or_parts (p b) (list_any p bs) h in
     let P : Bool → Type 0 = λ t. AllLack p (if t then tokens bs else onto b bs (tokens bs)) in
     subst (AllLack p) (sym (tokens-cons b bs)) (elim (is_space b) as P [
       | true ↦ lack-tokens p bs apart.1
@@ -76,12 +76,12 @@ lack-spaces (b ∷ bs) =
 lack-bars : (p : ℕ → Bool) (t : List ℕ) → list_any p t ≡ false → AllLack p (split_bars t)
 lack-bars p [] h = tt
 lack-bars p (b ∷ bs) h =
-    let apart = or-false (p b) (list_any p bs) h in
+    let apart = or_parts (p b) (list_any p bs) h in
     let P : Bool → Type 0 =
     λ t. nat_eq b BAR ≡ t → AllLack p (if t then (BAR ∷ []) ∷ split_bars bs else (b ∷ bs) ∷ []) in
     let g : P (nat_eq b BAR) = (elim (nat_eq b BAR) as P [
       | true ↦ λ e. (
-        or-both (p BAR) false (subst (λ x. p x ≡ false) (eqb-true b BAR e) apart.0) refl,
+        or_from (p BAR) false (subst (λ x. p x ≡ false) (eqb-true b BAR e) apart.0) refl,
         lack-bars p bs
             apart.1,
       )

@@ -28,7 +28,7 @@ use Rattle.xc_input.specs.Text.{IsUse}
 use Rattle.xc_input.proofs.ValidLemmas.SheetValidity.{IsSheetOf, HaveBounds, AreWithin, AreFresh, UsesPrimary, AreValid}
 use Rattle.xc_input.proofs.ValidLemmas.SheetValidity.{HaveNames, so_far}
 use Rattle.xc_input.proofs.FaultLemmas.Checks.{names_of-length}
-use Rattle.xc_input.proofs.GrammarLemmas.NoFault.{or-false}
+use Rattle.std.proofs.lemmas.Bool.{or_parts}
 use Rattle.xc_input.specs.inner.EndedLines.{AreWhole}
 use Rattle.xc_input.proofs.TokenLemmas.Unbroken.{unbroken}
 use Rattle.xc_input.proofs.ValidLemmas.ValidTexts.{valid}
@@ -43,11 +43,11 @@ unlike : (front : List Use) (i : ℕ) → list_any (λ j. nat_eq j i) (map (λ u
 unlike [] i e k d within same = absurd (omega (arith, within))
 unlike (u ∷ front) i e zero d within same =
     let other : nat_eq u.item i ≡ false =
-    (or-false (nat_eq u.item i) (list_any (λ j. nat_eq j i) (map (λ u. u.item) front)) e).0 in
+    (or_parts (nat_eq u.item i) (list_any (λ j. nat_eq j i) (map (λ u. u.item) front)) e).0 in
     let equal : nat_eq u.item i ≡ true = grind (arith, nat_tests, same) in
     true≢false (sym equal ∙ other)
 unlike (u ∷ front) i e (suc k) d within same =
-    unlike front i (or-false (nat_eq u.item i) (list_any (λ j. nat_eq j i) (map (λ u. u.item) front)) e).1 k d
+    unlike front i (or_parts (nat_eq u.item i) (list_any (λ j. nat_eq j i) (map (λ u. u.item) front)) e).1 k d
     (omega (arith, within)) same
 
 fresh-distinct : (front us : List Use) → AreFresh (map (λ u. u.item) front) us → AllPairs (λ u v. u.item ≢ v.item) front

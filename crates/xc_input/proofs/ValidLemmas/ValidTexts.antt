@@ -32,7 +32,7 @@ use Rattle.xc_input.proofs.ValidLemmas.SheetValidity.{AreWithin, AreFresh, UsesP
 use Rattle.xc_input.proofs.ValidLemmas.SheetValidity.{IsSoundSheet, so_far}
 use Rattle.std.specs.Str.{bytes_eq}
 use Rattle.xc_input.proofs.FaultLemmas.Checks.{some-is, names_of-length}
-use Rattle.xc_input.proofs.GrammarLemmas.NoFault.{and-true}
+use Rattle.std.proofs.lemmas.Bool.{and_parts}
 use Rattle.std.specs.Prelude.{flat_map}
 use Rattle.xc_input.specs.Faults.{has_primary}
 use Rattle.xc_input.specs.inner.Stages.{context}
@@ -43,8 +43,8 @@ value-below : (n i : ℕ) (xs : List ℕ) → n < 10 ^ i → list_all is_ascii_d
     → value_from n xs < 10 ^ (i + length xs)
 value-below n i [] h e = let z : i + 0 ≡ i = omega arith in subst (λ k. n < 10 ^ k) (sym z) h
 value-below n i (x ∷ xs) h e =
-    let a = and-true (is_ascii_digit x) (list_all is_ascii_digit xs) e in
-    let b : nat_le x 57 ≡ true = (and-true (nat_le 48 x) (nat_le x 57) a.0).1 in
+    let a = and_parts (is_ascii_digit x) (list_all is_ascii_digit xs) e in
+    let b : nat_le x 57 ≡ true = (and_parts (nat_le 48 x) (nat_le x 57) a.0).1 in
     let c : x < COLON = grind (arith, nat_tests) in
     let p : 10 ^ (i + 1) ≡ 10 ^ i * 10 = pow_more 10 i in
     let q : n * 10 + (x - 48) < 10 ^ (i + 1) = omega arith in
@@ -53,8 +53,8 @@ value-below n i (x ∷ xs) h e =
 
 number-below : (text : List ℕ) → are_digits 9 text ≡ true → number text ≤ greatest_bound
 number-below text e =
-    let a = and-true (nat_le 1 (length text) && nat_le (length text) 9) (list_all is_ascii_digit text) e in
-    let c : nat_le (length text) 9 ≡ true = (and-true (nat_le 1 (length text)) (nat_le (length text) 9) a.0).1 in
+    let a = and_parts (nat_le 1 (length text) && nat_le (length text) 9) (list_all is_ascii_digit text) e in
+    let c : nat_le (length text) 9 ≡ true = (and_parts (nat_le 1 (length text)) (nat_le (length text) 9) a.0).1 in
     let l : length text ≤ 9 = grind (arith, nat_tests) in
     let v : number text < 10 ^ (0 + length text) = value-below 0 0 text (omega arith) a.1 in
     let le : 0 + length text ≤ 9 = omega arith in
