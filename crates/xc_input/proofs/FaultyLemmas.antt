@@ -15,7 +15,8 @@ use Rattle.xc_input.specs.inner.Builders.{IsItemTable, entry_of}
 use Rattle.xc_input.specs.inner.Sheets.{names_of}
 use Rattle.xc_input.specs.inner.Stages.{Row, entry, with_part}
 use Rattle.xc_input.specs.inner.Stages.{part_checks as row_part_checks}
-use Rattle.xc_input.proofs.FaultLemmas.Checks.{first-front, first-back, names_of-snoc, names_of-length, map-length}
+use Rattle.xc_input.proofs.FaultLemmas.FirstChecks.{first-front, first-back}
+use Rattle.xc_input.proofs.FaultLemmas.Checks.{names_of-snoc, names_of-length, map-length}
 use Rattle.xc_input.proofs.FaultLemmas.FirstFaults.{names-snoc, barred-snoc, or-true, or-same}
 use Rattle.xc_input.proofs.GrammarLemmas.LawLemmas.{at-bar, at-word}
 

@@ -1,14 +1,15 @@
--- Checks in their order.
+-- Checks in their order, as `add_item`, `item_line` and `option_line` come to them.
 use Rattle.std.proofs.Common.{◌≡◌, ℕ, suc, ◌+◌, ◌<◌, ◌≤◌, List, [], ◌∷◌, ◌++◌, Option, None, Some, Bool, true, false}
 use Rattle.std.proofs.Common.{◌||◌, not, nat_lt, is_none, is_some, length, map, position, refl, ap, ◌∙◌, sym, subst}
 use Rattle.std.proofs.Common.{arith, if◌then◌else◌, Result, Ok, Err, Vec, Global, vec_len}
 use Rattle.std.proofs.lemmas.Bool.Decides.{nat_tests}
 use Rattle.std.specs.List.{list_any, position_or_len}
 use Rattle.std.specs.Str.{bytes_eq}
+use Rattle.std.proofs.lemmas.List.{map-append, length-map}
 use Rattle.std.specs.Result.{OnOk, IsErrAnd}
 use Rattle.xc_input.specs.declared.kind.Kind.{Kind}
 use Rattle.xc_input.specs.declared.fault.FaultKind.{FaultKind}
-use Rattle.xc_input.specs.declared.fault.FaultKind.TheVariants.{RepeatedName, TooManyItems}
+use Rattle.xc_input.specs.declared.fault.FaultKind.TheVariants.{TooManyItems}
 use Rattle.xc_input.specs.declared.line_error.LineError.{LineError}
 use Rattle.xc_input.specs.declared.line_error.LineError.TheVariants.{Fault, Memory}
 use Rattle.xc_input.specs.Words.{place}
@@ -22,25 +23,7 @@ use Rattle.xc_input.specs.inner.Builders.{Judged, entry_of}
 use Rattle.xc_input.specs.inner.Stored.{key_names}
 use Rattle.std.proofs.lemmas.Grind.{common_steps}
 use Rattle.xc_input.proofs.TokenLemmas.Bytes.{not_false, position-map}
-
--- a check that holds among the first ones
-pub first-front : {A : Type 0} (a b : List (A × Bool)) (k : A) → first a ≡ Some k → first (a ++ b) ≡ Some k
-first-front [] b k e = absurd (cc)
-first-front (c ∷ cs) b k e =
-    let P : Bool → Type 0 =
-    λ t. (if t then Some c.0 else first cs) ≡ Some k → (if t then Some c.0 else first (cs ++ b)) ≡ Some k in
-    let h : P c.1 = (elim c.1 as P [ true ↦ λ f. f | false ↦ λ f. first-front cs b k f ]) in h e
-
--- where none of the first ones holds, the later ones decide
-pub first-back : {A : Type 0} (a b : List (A × Bool)) → first a ≡ None → first (a ++ b) ≡ first b
-first-back [] b e = refl
-first-back (c ∷ cs) b e =
-    let P : Bool → Type 0 =
-    λ t. (if t then Some c.0 else first cs) ≡ None → (if t then Some c.0 else first (cs ++ b)) ≡ first b in
-    let h : P c.1 = (elim c.1 as P [ true ↦ λ f. absurd (cc) | false ↦ λ f. first-back cs b f ]) in h e
-
-pub first-all : {A : Type 0} (a b : List (A × Bool)) → first a ≡ None → first b ≡ None → first (a ++ b) ≡ None
-first-all a b e f = first-back a b e ∙ f
+use Rattle.xc_input.proofs.FaultLemmas.FirstChecks.{first-front, first-back, alone, behind_name, past-name}
 
 pub none-is : {A : Type 0} (o : Option A) → is_some o ≡ false → o ≡ None
 none-is None e = refl
@@ -61,12 +44,10 @@ OnOk-map (Ok x) A B h f = f h
 OnOk-map (Err e) A B h f = h
 
 pub names_of-snoc : (es : List Entry) (e : Entry) → names_of (es ++ e ∷ []) ≡ names_of es ++ e.name ∷ []
-names_of-snoc [] e = refl
-names_of-snoc (d ∷ es) e = ap (λ ns. d.name ∷ ns) (names_of-snoc es e)
+names_of-snoc es e = map-append (λ d. d.name) es (e ∷ [])
 
 pub names_of-length : (es : List Entry) → length (names_of es) ≡ length es
-names_of-length [] = refl
-names_of-length (e ∷ es) = ap suc (names_of-length es)
+names_of-length es = length-map es (λ e. e.name)
 
 -- a token of the item line, behind these entries
 module _ (kind : Kind) (entries : List Entry) (bar : Option ℕ) (sec : Bool) (token : List ℕ)
@@ -74,77 +55,51 @@ module _ (kind : Kind) (entries : List Entry) (bar : Option ℕ) (sec : Bool) (t
   pub bad-bound : (k : FaultKind) → first (bound_checks kind sec token) ≡ Some k
       → first (item_checks kind (names_of entries) (is_some bar) token) ≡ Some k
   bad-bound k e =
-      first-front (bound_checks kind (is_some bar) token)
-      (name_checks (name_of kind token) ++
-      (RepeatedName, not (is_none (place (names_of entries) (name_of kind token)))) ∷
-      (TooManyItems, not (nat_lt (length (names_of entries)) most_items)) ∷ []) k
+      first-front (bound_checks kind (is_some bar) token) (alone (names_of entries) (name_of kind token)) k
       (ap (λ b. first (bound_checks kind b token)) (sym s) ∙ e)
 
   module _ (name : List ℕ) (low high : ℕ)
       (t : (first (bound_checks kind sec token) ≡ None)
       × (record { name = name; low = low; high = high } ≡ entry kind sec token)) where
-    behind : first (item_checks kind (names_of entries) (is_some bar) token) ≡ first
-        (name_checks name ++ (RepeatedName, not (is_none (place (names_of entries) name))) ∷
-        (TooManyItems, not (nat_lt (length (names_of entries)) most_items)) ∷ [])
+    behind : first (item_checks kind (names_of entries) (is_some bar) token) ≡ first (alone (names_of entries) name)
     behind =
-        first-back (bound_checks kind (is_some bar) token)
-        (name_checks (name_of kind token) ++
-        (RepeatedName, not (is_none (place (names_of entries) (name_of kind token)))) ∷
-        (TooManyItems, not (nat_lt (length (names_of entries)) most_items)) ∷ [])
+        first-back (bound_checks kind (is_some bar) token) (alone (names_of entries) (name_of kind token))
         (ap (λ b. first (bound_checks kind b token)) (sym s) ∙ t.0)
-        ∙ ap (λ (e : Entry). first
-        (name_checks e.name ++ (RepeatedName, not (is_none (place (names_of entries) e.name))) ∷
-        (TooManyItems, not (nat_lt (length (names_of entries)) most_items)) ∷ [])) (sym t.1)
+        ∙ ap (λ (e : Entry). first (alone (names_of entries) e.name)) (sym t.1)
 
     pub bad-name : (o : Option FaultKind) (k : FaultKind) → o ≡ first (name_checks name) → o ≡ Some k
         → first (item_checks kind (names_of entries) (is_some bar) token) ≡ Some k
     bad-name o k f e = behind
-        ∙ first-front (name_checks name)
-        ((RepeatedName, not (is_none (place (names_of entries) name))) ∷
-        (TooManyItems, not (nat_lt (length (names_of entries)) most_items)) ∷ []) k (sym f ∙ e)
+        ∙ first-front (name_checks name) (behind_name (names_of entries) name) k (sym f ∙ e)
 
     module _ (o : Option FaultKind) (f : o ≡ first (name_checks name)) (e : o ≡ None) (keys : List (List ℕ))
         (link : keys ≡ names_of entries) (at : Option ℕ) (is : at ≡ place keys name) where
-      past-name : first (item_checks kind (names_of entries) (is_some bar) token) ≡
-          (if not (is_none at) then Some RepeatedName else
-          (if not (nat_lt (length (names_of entries)) most_items) then Some TooManyItems else None))
-      past-name =
-          behind ∙ first-back (name_checks name)
-          ((RepeatedName, not (is_none (place (names_of entries) name))) ∷
-          (TooManyItems, not (nat_lt (length (names_of entries)) most_items)) ∷ []) (sym f ∙ e)
-          ∙ ap (λ q. if not (is_none q) then Some RepeatedName else
-          (if not (nat_lt (length (names_of entries)) most_items) then Some TooManyItems else None))
-          (sym (is ∙ ap (λ ns. place ns name) link))
+      past : first (item_checks kind (names_of entries) (is_some bar) token) ≡ first
+          (behind_name (names_of entries) name)
+      past = behind ∙ past-name (names_of entries) name (sym f ∙ e)
 
-      pub at-new : (b : Bool) → b ≡ is_some at → b ≡ false
-          → first (item_checks kind (names_of entries) (is_some bar) token) ≡
-          (if not (nat_lt (length (names_of entries)) most_items) then Some TooManyItems else None)
-      at-new b g h = past-name
-          ∙ ap (λ q. if not (is_none q) then Some RepeatedName else
-          (if not (nat_lt (length (names_of entries)) most_items) then Some TooManyItems else None))
-          (none-is at (sym g ∙ h))
+      new : (b : Bool) → b ≡ is_some at → b ≡ false → place (names_of entries) name ≡ None
+      new b g h = ap (λ ns. place ns name) (sym link) ∙ sym is ∙ none-is at (sym g ∙ h)
 
       pub too-many : (b : Bool) (n : ℕ) → b ≡ is_some at → b ≡ false → n ≡ length entries → 100000 ≤ n
           → first (item_checks kind (names_of entries) (is_some bar) token) ≡ Some TooManyItems
-      too-many b n g h l m = at-new b g h
-          ∙ ap (λ t. if not t then Some TooManyItems else None)
-          (let c : length (names_of entries) ≡ length entries = names_of-length entries in let d : nat_lt
-          (length (names_of entries)) most_items ≡ false = grind (arith, nat_tests) in d)
+      too-many b n g h l m =
+          let c = names_of-length entries in
+          let d : nat_lt (length (names_of entries)) most_items ≡ false = grind (arith, nat_tests) in
+          past ∙ rw (new b g h, d)
 
       pub no-fault : (b : Bool) (n : ℕ) → b ≡ is_some at → b ≡ false → n ≡ length entries → n < 100000
           → first (item_checks kind (names_of entries) (is_some bar) token) ≡ None
-      no-fault b n g h l m = at-new b g h
-          ∙ ap (λ t. if not t then Some TooManyItems else None)
-          (let c : length (names_of entries) ≡ length entries = names_of-length entries in let d : nat_lt
-          (length (names_of entries)) most_items ≡ true = grind (arith, nat_tests) in d)
+      no-fault b n g h l m =
+          let c = names_of-length entries in
+          let d : nat_lt (length (names_of entries)) most_items ≡ true = grind (arith, nat_tests) in
+          past ∙ rw (new b g h, d)
 
 pub map-snoc : {A B : Type 0} (f : A → B) (xs : List A) (x : A) → map f (xs ++ x ∷ []) ≡ map f xs ++ f x ∷ []
-map-snoc f [] x = refl
-map-snoc f (y ∷ ys) x = ap (λ zs. f y ∷ zs) (map-snoc f ys x)
+map-snoc f xs x = map-append f xs (x ∷ [])
 
 pub map-length : {A B : Type 0} (f : A → B) (xs : List A) → length (map f xs) ≡ length xs
-map-length f [] = refl
-map-length f (x ∷ xs) = ap suc (map-length f xs)
+map-length f xs = length-map xs f
 
 found : {A : Type 0} (p : A → Bool) (xs : List A) → list_any p xs ≡ true → position_or_len p xs < length xs
 found p [] f = absurd (cc)

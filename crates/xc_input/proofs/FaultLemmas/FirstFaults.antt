@@ -1,13 +1,13 @@
--- The first fault of a text is the first one of its lines as they are read, one after another.
+-- For `line`, `finish` and the laws: the first fault of a text is the first one of its lines as they are read.
 use Rattle.std.proofs.Common.{◌≡◌, ℕ, ◌+◌, List, [], ◌∷◌, ◌++◌, Option, None, Some, Bool, true, false, ◌||◌, ◌&&◌, cond}
 use Rattle.std.proofs.Common.{not, nat_le, nat_lt, is_some, length, map, filter, sum_by, refl, ap, ◌∙◌, sym, subst}
-use Rattle.std.proofs.Common.{arith, if◌then◌else◌, append_assoc, append-nil, inl, inr}
+use Rattle.std.proofs.Common.{arith, if◌then◌else◌, append_assoc, append-nil}
 use Rattle.std.proofs.lemmas.Grind.{common_steps}
 use Rattle.std.proofs.lemmas.List.{map-append}
 use Rattle.std.proofs.lemmas.List.Elements.{filter-append}
 use Rattle.std.proofs.lemmas.List.Folds.{list_any-append}
 use Rattle.std.proofs.lemmas.List.Sums.{sum_by-append}
-use Rattle.std.specs.List.{list_any, list_all, before_first}
+use Rattle.std.specs.List.{list_any, list_all}
 use Rattle.std.specs.Option.{option_map, option_or}
 use Rattle.xc_input.specs.declared.kind.Kind.{Kind}
 use Rattle.xc_input.specs.declared.fault.FaultKind.{FaultKind}
@@ -18,15 +18,15 @@ use Rattle.xc_input.specs.Limits.{most_uses}
 use Rattle.xc_input.specs.Words.{has}
 use Rattle.xc_input.specs.Tokens.{tokens, parts, is_bar, is_skipped}
 use Rattle.xc_input.specs.Sheets.{Entry}
-use Rattle.xc_input.specs.inner.Sheets.{Sheet, names_of, with_uses}
+use Rattle.xc_input.specs.inner.Sheets.{names_of, with_uses}
 use Rattle.xc_input.proofs.GrammarLemmas.SheetGrammar.{named_of}
 use Rattle.xc_input.specs.Faults.{first, checks_of_each, name_of, item_checks, item_names, part_checks, Context}
 use Rattle.xc_input.specs.Faults.{context_of, item_of, token_checks, has_primary}
 use Rattle.xc_input.specs.FirstFault.{line_number, content, is_kept, kept_uses, option_checks, content_checks}
 use Rattle.xc_input.specs.FirstFault.{line_checks, line_fault, first_fault}
 use Rattle.xc_input.specs.inner.ColourNumbers.{numbered}
-use Rattle.xc_input.specs.inner.Stages.{entry, row_checks, with_part, row_of, no_row, context, written, Stage, no_stage}
-use Rattle.xc_input.specs.inner.Stages.{with_line, stage_from, stage_of}
+use Rattle.xc_input.specs.inner.Stages.{entry, row_checks, row_of, no_row, context, written, Stage, no_stage}
+use Rattle.xc_input.specs.inner.Stages.{stage_from, stage_of}
 use Rattle.xc_input.specs.inner.Stages.{part_checks as row_part_checks, option_checks as tokens_checks}
 use Rattle.xc_input.specs.inner.Stages.{content_checks as stage_content, line_checks as stage_checks}
 use Rattle.xc_input.specs.Named.{Named}
@@ -35,9 +35,9 @@ use Rattle.xc_input.proofs.GrammarLemmas.Standing.{read-stands, stands-read}
 use Rattle.xc_input.proofs.ValidLemmas.SheetValidity.{IsSheetOf}
 use Rattle.xc_input.proofs.FaultLemmas.Checks.{names_of-snoc, map-snoc, map-length}
 use Rattle.xc_input.proofs.OptionLemmas.Items.{ItemsBehind, behind-items}
-use Rattle.xc_input.proofs.GrammarLemmas.LawLemmas.{fault_from, end_fault, fault_or, R, S, P, at-bar, at-word, row-good}
-use Rattle.xc_input.proofs.GrammarLemmas.LawLemmas.{clear, lineuses, skips, keeps, drops, count-next, item-line}
-use Rattle.xc_input.proofs.GrammarLemmas.LawLemmas.{no-line, lines-good, good-lines}
+use Rattle.xc_input.proofs.GrammarLemmas.LawLemmas.{fault_from, end_fault, fault_or, R, S, P, row-good, by-part}
+use Rattle.xc_input.proofs.GrammarLemmas.LawLemmas.{by-line, clear, unskipped, lineuses, count-next, by-first-line}
+use Rattle.xc_input.proofs.GrammarLemmas.LawLemmas.{lines-good, good-lines}
 
 -- NUMBERED CHECKS
 first-numbered : {N A : Type 0} (n : N) (cs : List (A × Bool)) (rest : List ((N × A) × Bool))
@@ -112,38 +112,30 @@ parts-checked kind entries bar before [] hn hb = refl
 parts-checked kind entries bar before (p ∷ ps) hn hb =
     let now : row_part_checks kind (R entries bar) p ≡ part_checks kind before p =
     λ i. if is_bar p then (TwoBars, hb i) ∷ [] else item_checks kind (hn i) (hb i) p in
-    let Q : Bool → Type 0 = λ t. is_bar p ≡ t → row_checks kind (with_part kind (R entries bar) p) ps
-    ≡ checks_of_each (part_checks kind) (before ++ p ∷ []) ps in
-    let h : Q (is_bar p) = (elim (is_bar p) as Q [
-      | true ↦ λ f. ap (λ row. row_checks kind row ps) (at-bar kind entries bar p f).1
-          ∙ parts-checked kind entries (Some (length entries)) (before ++ p ∷ []) ps (hn
-          ∙ sym (append-nil (item_names kind before)) ∙ sym (names-snoc kind before p true f))
-          (or-true (list_any is_bar before) ∙ sym (barred-snoc before p true f))
-      | false ↦ λ f. ap (λ row. row_checks kind row ps) (at-word kind entries bar p f).1
-          ∙ parts-checked kind (entries ++ entry kind (is_some bar) p ∷ []) bar (before ++ p ∷ []) ps
-          (names_of-snoc entries (entry kind (is_some bar) p) ∙ ap (λ ns. ns ++ name_of kind p ∷ []) hn
-          ∙ sym (names-snoc kind before p false f)) (hb ∙ or-same (list_any is_bar before)
-          ∙ sym (barred-snoc before p false f))
-    ]) in
-    (λ i. now i ++ h refl i)
+    let rest = by-part kind entries bar p
+    (λ row. row_checks kind row ps ≡ checks_of_each (part_checks kind) (before ++ p ∷ []) ps)
+    (λ f. parts-checked kind entries (Some (length entries)) (before ++ p ∷ []) ps
+    (hn ∙ sym (append-nil (item_names kind before)) ∙ sym (names-snoc kind before p true f))
+    (or-true (list_any is_bar before) ∙ sym (barred-snoc before p true f)))
+    (λ f. parts-checked kind (entries ++ entry kind (is_some bar) p ∷ []) bar (before ++ p ∷ []) ps
+    (names_of-snoc entries (entry kind (is_some bar) p) ∙ ap (λ ns. ns ++ name_of kind p ∷ []) hn
+    ∙ sym (names-snoc kind before p false f)) (hb ∙ or-same (list_any is_bar before)
+    ∙ sym (barred-snoc before p false f))) in
+    (λ i. now i ++ rest i)
 
 row-names : (kind : Kind) (entries : List Entry) (bar : Option ℕ) (before ps : List (List ℕ))
     → names_of entries ≡ item_names kind before
     → names_of (row_of kind (R entries bar) ps).entries ≡ item_names kind (before ++ ps)
 row-names kind entries bar before [] hn = hn ∙ ap (item_names kind) (sym (append-nil before))
 row-names kind entries bar before (p ∷ ps) hn =
-    let Q : Bool → Type 0 = λ t. is_bar p ≡ t → names_of (row_of kind (with_part kind (R entries bar) p) ps).entries
-    ≡ item_names kind ((before ++ p ∷ []) ++ ps) in
-    let h : Q (is_bar p) = (elim (is_bar p) as Q [
-      | true ↦ λ f. ap (λ row. names_of (row_of kind row ps).entries) (at-bar kind entries bar p f).1
-          ∙ row-names kind entries (Some (length entries)) (before ++ p ∷ []) ps (hn
-          ∙ sym (append-nil (item_names kind before)) ∙ sym (names-snoc kind before p true f))
-      | false ↦ λ f. ap (λ row. names_of (row_of kind row ps).entries) (at-word kind entries bar p f).1
-          ∙ row-names kind (entries ++ entry kind (is_some bar) p ∷ []) bar (before ++ p ∷ []) ps
-          (names_of-snoc entries (entry kind (is_some bar) p) ∙ ap (λ ns. ns ++ name_of kind p ∷ []) hn
-          ∙ sym (names-snoc kind before p false f))
-    ]) in
-    h refl ∙ ap (item_names kind) (append_assoc before (p ∷ []) ps)
+    by-part kind entries bar p
+    (λ row. names_of (row_of kind row ps).entries ≡ item_names kind ((before ++ p ∷ []) ++ ps))
+    (λ f. row-names kind entries (Some (length entries)) (before ++ p ∷ []) ps
+    (hn ∙ sym (append-nil (item_names kind before)) ∙ sym (names-snoc kind before p true f)))
+    (λ f. row-names kind (entries ++ entry kind (is_some bar) p ∷ []) bar (before ++ p ∷ []) ps
+    (names_of-snoc entries (entry kind (is_some bar) p) ∙ ap (λ ns. ns ++ name_of kind p ∷ []) hn
+    ∙ sym (names-snoc kind before p false f)))
+    ∙ ap (item_names kind) (append_assoc before (p ∷ []) ps)
 
 -- what an item line without a fault says
 pub context-is : (kind : Kind) (ps : List (List ℕ)) → first (row_checks kind no_row ps) ≡ None
@@ -214,41 +206,25 @@ module _ (kind : Kind) (entries : List Entry) (primaries : ℕ) (items : List �
       ≡ first (checks_of kind (content before) line) =
       ap (λ cs. first ((NulByte, has 0 line) ∷ (if is_skipped line then [] else cs)))
       (checks-are options colours ignored os line u ∙ ap (λ d. content_checks kind d line) (sym hb)) in
-      let Next : Type 0 = fault_from kind (n + 1) (with_line kind (line_number (n + 1))
-      (S entries primaries options colours ignored) line) lines ≡ fault_behind kind (before ++ line ∷ []) lines in
-      let K : Bool → Type 0 = λ t. is_skipped line ≡ false → has_primary primaries
-      (lineuses kind entries primaries line) ≡ t → Next in
-      let kept : K (has_primary primaries (lineuses kind entries primaries line)) =
-      (elim (has_primary primaries (lineuses kind entries primaries line)) as K [
-        | true ↦ λ f g. ap (λ st. fault_from kind (n + 1) st lines)
-            (keeps kind entries primaries (line_number (n + 1)) options colours ignored line f g)
-            ∙ rest-is (n + 1) (before ++ line ∷ []) lines (os ++ line ∷ [])
-            (options ++ numbered colours (lineuses kind entries primaries line) ∷ [])
-            (with_uses colours (lineuses kind entries primaries line)) ignored
-            (length-snoc n before line hn) (content-more before line (items ∷ os) f hb)
-            (count-next kind entries primaries options colours line
-            ∙ (λ i. u i + map-length (written (names_of entries)) (tokens line) i)
-            ∙ sym (uses-snoc c os line true (sym (kept-is kind (names_of entries) primaries (tokens line)) ∙ g)))
-        | false ↦ λ f g. ap (λ st. fault_from kind (n + 1) st lines)
-            (drops kind entries primaries (line_number (n + 1)) options colours ignored line f g)
-            ∙ rest-is (n + 1) (before ++ line ∷ []) lines (os ++ line ∷ []) options colours
-            (ignored ++ line_number (n + 1) ∷ [])
-            (length-snoc n before line hn) (content-more before line (items ∷ os) f hb)
-            (u ∙ omega (
-              arith,
-              uses-snoc c os line false (sym
-                  (kept-is kind (names_of entries) primaries (tokens line)) ∙ g),
-            ))
-      ]) in
-      let Q : Bool → Type 0 = λ t. is_skipped line ≡ t → Next in
-      let next : Q (is_skipped line) = (elim (is_skipped line) as Q [
-        | true ↦ λ f. ap (λ st. fault_from kind (n + 1) st lines)
-            (skips kind entries primaries (line_number (n + 1)) options colours ignored line f)
-            ∙ rest-is (n + 1) (before ++ line ∷ []) lines os options colours ignored (length-snoc n before line hn)
-            (content-same before line (items ∷ os) f hb) u
-        | false ↦ λ f. kept f refl
-      ]) in
-      (λ i. fault_or (hn i + 1) (same i) (next refl i)) ∙ sym (unroll kind before line lines)
+      let behind = before ++ line ∷ [] in
+      let next = by-line kind entries primaries (line_number (n + 1)) options colours ignored line
+      (λ st. fault_from kind (n + 1) st lines ≡ fault_behind kind behind lines)
+      (λ f. rest-is (n + 1) behind lines os options colours ignored (length-snoc n before line hn)
+      (content-same before line (items ∷ os) f hb) u)
+      (λ f g. rest-is (n + 1) behind lines (os ++ line ∷ [])
+      (options ++ numbered colours (lineuses kind entries primaries line) ∷ [])
+      (with_uses colours (lineuses kind entries primaries line)) ignored
+      (length-snoc n before line hn) (content-more before line (items ∷ os) f hb)
+      (count-next kind entries primaries options colours line
+      ∙ (λ i. u i + map-length (written (names_of entries)) (tokens line) i)
+      ∙ sym (uses-snoc c os line true (sym (kept-is kind (names_of entries) primaries (tokens line)) ∙ g))))
+      (λ f g. rest-is (n + 1) behind lines (os ++ line ∷ []) options colours (ignored ++ line_number (n + 1) ∷ [])
+      (length-snoc n before line hn) (content-more before line (items ∷ os) f hb)
+      (u ∙ omega (
+        arith,
+        uses-snoc c os line false (sym (kept-is kind (names_of entries) primaries (tokens line)) ∙ g),
+      ))) in
+      (λ i. fault_or (hn i + 1) (same i) (next i)) ∙ sym (unroll kind before line lines)
 
 -- the item line stays read
 module _ (kind : Kind) (entries : List Entry) (primaries : ℕ) where
@@ -256,27 +232,12 @@ module _ (kind : Kind) (entries : List Entry) (primaries : ℕ) where
       (ignored : List ℕ) → (stage_from kind n (S entries primaries options colours ignored) lines).started ≡ true
   stays-started n [] options colours ignored = refl
   stays-started n (line ∷ lines) options colours ignored =
-      let Next : Type 0 = (stage_from kind (n + 1) (with_line kind (line_number (n + 1))
-      (S entries primaries options colours ignored) line) lines).started ≡ true in
-      let K : Bool → Type 0 = λ t. is_skipped line ≡ false → has_primary primaries
-      (lineuses kind entries primaries line) ≡ t → Next in
-      let kept : K (has_primary primaries (lineuses kind entries primaries line)) =
-      (elim (has_primary primaries (lineuses kind entries primaries line)) as K [
-        | true ↦ λ f g. ap (λ st. (stage_from kind (n + 1) st lines).started)
-            (keeps kind entries primaries (line_number (n + 1)) options colours ignored line f g)
-            ∙ stays-started (n + 1) lines (options ++ numbered colours (lineuses kind entries primaries line) ∷ [])
-            (with_uses colours (lineuses kind entries primaries line)) ignored
-        | false ↦ λ f g. ap (λ st. (stage_from kind (n + 1) st lines).started)
-            (drops kind entries primaries (line_number (n + 1)) options colours ignored line f g)
-            ∙ stays-started (n + 1) lines options colours (ignored ++ line_number (n + 1) ∷ [])
-      ]) in
-      let Q : Bool → Type 0 = λ t. is_skipped line ≡ t → Next in
-      let next : Q (is_skipped line) = (elim (is_skipped line) as Q [
-        | true ↦ λ f. ap (λ st. (stage_from kind (n + 1) st lines).started)
-            (skips kind entries primaries (line_number (n + 1)) options colours ignored line f)
-            ∙ stays-started (n + 1) lines options colours ignored
-        | false ↦ λ f. kept f refl
-      ]) in next refl
+      by-line kind entries primaries (line_number (n + 1)) options colours ignored line
+      (λ st. (stage_from kind (n + 1) st lines).started ≡ true)
+      (λ f. stays-started (n + 1) lines options colours ignored)
+      (λ f g. stays-started (n + 1) lines (options ++ numbered colours (lineuses kind entries primaries line) ∷ [])
+      (with_uses colours (lineuses kind entries primaries line)) ignored)
+      (λ f g. stays-started (n + 1) lines options colours (ignored ++ line_number (n + 1) ∷ []))
 
 -- ALL LINES
 fault_or-same : (n : ℕ) (k : Option FaultKind) (a b : Option (ℕ × FaultKind)) → (k ≡ None → a ≡ b)
@@ -291,19 +252,14 @@ start-is kind n before (line ∷ lines) hn hb =
     let same : first (stage_checks kind no_stage line) ≡ first (checks_of kind (content before) line) =
     ap (λ cs. first ((NulByte, has 0 line) ∷ (if is_skipped line then [] else cs)))
     (parts-checked kind [] None [] (parts line) refl refl ∙ ap (λ d. content_checks kind d line) (sym hb)) in
-    let Next : Type 0 = fault_from kind (n + 1) (with_line kind (line_number (n + 1)) no_stage line) lines
-    ≡ fault_behind kind (before ++ line ∷ []) lines in
-    let next : first (stage_checks kind no_stage line) ≡ None → Next = λ e.
-    elim (clear kind no_stage line e).1 as (λ x. Next) [
-      | inl f ↦ ap (λ st. fault_from kind (n + 1) st lines) (no-line kind (line_number (n + 1)) line f)
-          ∙ start-is kind (n + 1) (before ++ line ∷ []) lines (length-snoc n before line hn)
-          (content-same before line [] f hb)
-      | inr h ↦ ap (λ st. fault_from kind (n + 1) st lines) (item-line kind (line_number (n + 1)) line h.0)
-          ∙ rest-is kind (row_of kind no_row (parts line)).entries (P (row_of kind no_row (parts line))) line
-          (context-is kind (parts line) h.1) (n + 1) (before ++ line ∷ []) lines [] [] [] []
-          (length-snoc n before line hn)
-          (content-more before line [] h.0 hb) refl
-    ] in
+    let next = λ (e : first (stage_checks kind no_stage line) ≡ None).
+    by-first-line kind (line_number (n + 1)) line
+    (λ st. fault_from kind (n + 1) st lines ≡ fault_behind kind (before ++ line ∷ []) lines)
+    (λ f. start-is kind (n + 1) (before ++ line ∷ []) lines (length-snoc n before line hn)
+    (content-same before line [] f hb))
+    (λ f. rest-is kind (row_of kind no_row (parts line)).entries (P (row_of kind no_row (parts line))) line
+    (context-is kind (parts line) (unskipped kind no_stage line (clear kind no_stage line e) f)) (n + 1)
+    (before ++ line ∷ []) lines [] [] [] [] (length-snoc n before line hn) (content-more before line [] f hb) refl) in
     fault_or-same (n + 1) (first (stage_checks kind no_stage line)) _ _ next
     ∙ (λ i. fault_or (hn i + 1) (same i) (fault_behind kind (before ++ line ∷ []) lines))
     ∙ sym (unroll kind before line lines)
@@ -315,15 +271,11 @@ started-is : (kind : Kind) (n : ℕ) (lines : List (List ℕ)) → (stage_from k
     ≡ not (list_all is_skipped lines)
 started-is kind n [] = refl
 started-is kind n (line ∷ lines) =
-    let Q : Bool → Type 0 = λ t. is_skipped line ≡ t → (stage_from kind (n + 1)
-    (with_line kind (line_number (n + 1)) no_stage line) lines).started ≡ not (t && list_all is_skipped lines) in
-    let h : Q (is_skipped line) = (elim (is_skipped line) as Q [
-      | true ↦ λ f. ap (λ st. (stage_from kind (n + 1) st lines).started) (no-line kind (line_number (n + 1)) line f)
-          ∙ started-is kind (n + 1) lines
-      | false ↦ λ f. ap (λ st. (stage_from kind (n + 1) st lines).started) (item-line kind (line_number (n + 1)) line f)
-          ∙ stays-started kind (row_of kind no_row (parts line)).entries (P (row_of kind no_row (parts line)))
-          (n + 1) lines [] [] []
-    ]) in h refl
+    by-first-line kind (line_number (n + 1)) line
+    (λ st. (stage_from kind (n + 1) st lines).started ≡ not (is_skipped line && list_all is_skipped lines))
+    (λ f. rw f (started-is kind (n + 1) lines))
+    (λ f. rw f (stays-started kind (row_of kind no_row (parts line)).entries (P (row_of kind no_row (parts line)))
+    (n + 1) lines [] [] []))
 
 -- the fault of a whole text is that of its lines, or that the item line isn't there
 pub first_fault-is : (kind : Kind) (lines : List (List ℕ)) → first_fault kind lines

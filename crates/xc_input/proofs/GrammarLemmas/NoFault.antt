@@ -1,13 +1,13 @@
--- Checks that don't hold, and what they say of a token.
+-- Checks that don't hold, and what they say of a token: for `add_item`, `use_of` and `finish`.
 use Rattle.std.proofs.Common.{◌≡◌, ℕ, ◌<◌, ◌≤◌, List, [], ◌∷◌, ◌++◌, Option, None, Some, Bool, true, false, ◌||◌, ◌&&◌}
 use Rattle.std.proofs.Common.{not, nat_lt, nat_le, nat_eq, is_none, length, refl, ap, ◌∙◌, sym, subst, arith}
 use Rattle.std.proofs.Common.{if◌then◌else◌, inl, inr, ◌⊎◌}
 use Rattle.xc_input.specs.inner.BoundTexts.{low_text, high_text}
 use Rattle.std.specs.Char.{is_ascii_digit}
 use Rattle.std.proofs.lemmas.Bool.Decides.{nat_tests}
-use Rattle.std.proofs.lemmas.Bool.{eqb-true}
+use Rattle.std.proofs.lemmas.Bool.{eqb-true, or_parts, or_from, and_parts, and_from, not-false}
+use Rattle.std.proofs.Math.Bool.{and-false}
 use Rattle.xc_input.specs.declared.kind.Kind.{Kind}
-use Rattle.xc_input.specs.declared.fault.FaultKind.{FaultKind}
 use Rattle.xc_input.specs.declared.fault.FaultKind.TheVariants.{EmptyName, NameTooLong, BadByteInName, RepeatedName}
 use Rattle.xc_input.specs.declared.fault.FaultKind.TheVariants.{BadBound, BoundOrder, BoundOnSecondary, TooManyItems}
 use Rattle.xc_input.specs.Words.{has, before, after, place, are_digits, number}
@@ -18,79 +18,31 @@ use Rattle.xc_input.specs.inner.Stages.{entry}
 use Rattle.xc_input.specs.Limits.{longest_name, most_items}
 use Rattle.xc_input.specs.Named.{IsName}
 use Rattle.xc_input.specs.Text.{AreBounds, IsBare, IsBounded, IsEntry}
-use Rattle.xc_input.proofs.FaultLemmas.Checks.{first-back}
+use Rattle.xc_input.proofs.FaultLemmas.FirstChecks.{fails, first-back, split, alone, past-name}
 use Rattle.std.specs.List.{list_all}
 use Rattle.xc_input.proofs.TokenLemmas.Separators.{COLON, BAR}
-
--- of checks none of which holds
-pub split : {A : Type 0} (a b : List (A × Bool)) → first (a ++ b) ≡ None → (first a ≡ None) × (first b ≡ None)
-split [] b e = (refl, e)
-split (c ∷ cs) b e =
-    let P : Bool → Type 0 = λ t. (if t then Some c.0 else first (cs ++ b)) ≡ None
-    → ((if t then Some c.0 else first cs) ≡ None) × (first b ≡ None) in
-    let h : P c.1 = (elim c.1 as P [ true ↦ λ f. absurd (cc) | false ↦ λ f. split cs b f ]) in h e
-
-pub head : {A : Type 0} (k : A) (b : Bool) (cs : List (A × Bool)) → first ((k, b) ∷ cs) ≡ None → (b ≡ false)
-    × (first cs ≡ None)
-head k true cs e = absurd (cc)
-head k false cs e = (refl, e)
-
-pub cons : {A : Type 0} (k : A) (b : Bool) (cs : List (A × Bool)) → b ≡ false → first cs ≡ None
-    → first ((k, b) ∷ cs) ≡ None
-cons k b cs e f = ap (λ t. if t then Some k else first cs) e ∙ f
-
-pub or-false : (a b : Bool) → (a || b) ≡ false → (a ≡ false) × (b ≡ false)
-or-false true b e = absurd (cc)
-or-false false b e = (refl, e)
-
-pub and-false : (a : Bool) → (a && false) ≡ false
-and-false true = refl
-and-false false = refl
-
-pub or-both : (a b : Bool) → a ≡ false → b ≡ false → (a || b) ≡ false
-or-both a b e f = ap (λ t. t || b) e ∙ f
-
-pub and-true : (a b : Bool) → (a && b) ≡ true → (a ≡ true) × (b ≡ true)
-and-true true b e = (refl, e)
-and-true false b e = absurd (cc)
-
-pub and-both : (a b : Bool) → a ≡ true → b ≡ true → (a && b) ≡ true
-and-both a b e f = ap (λ t. t && b) e ∙ f
-
-pub not-false : (a : Bool) → not a ≡ false → a ≡ true
-not-false true e = refl
-not-false false e = absurd (cc)
-
-pub not-true : (a : Bool) → not a ≡ true → a ≡ false
-not-true true e = absurd (cc)
-not-true false e = refl
+-- by the names that other crates have for them
+pub use Rattle.std.proofs.lemmas.Bool.{or_parts as or-false, or_from as or-both, and_parts as and-true}
+pub use Rattle.std.proofs.lemmas.Bool.{and_from as and-both}
 
 -- NAMES
+-- a name by its three tests
+pub solid : (name : List ℕ) → nat_lt (length name) 1 ≡ false → nat_lt longest_name (length name) ≡ false
+    → (has COLON name || has BAR name) ≡ false → IsName name
+solid name a b c =
+    let d = or_parts (has COLON name) (has BAR name) c in
+    record { some = grind (arith, nat_tests); short = grind (arith, nat_tests); no_colon = d.0; no_bar = d.1 }
+
 pub name-good : (name : List ℕ) → first (name_checks name) ≡ None → IsName name
 name-good name e =
-    let a =
-    head EmptyName (nat_lt (length name) 1)
-    ((NameTooLong, nat_lt longest_name (length name)) ∷ (BadByteInName, has COLON name || has BAR name) ∷ []) e in
-    let b =
-    head NameTooLong (nat_lt longest_name (length name)) ((BadByteInName, has COLON name || has BAR name) ∷ [])
-    a.1 in
-    let c = head BadByteInName (has COLON name || has BAR name) [] b.1 in
-    let d = or-false (has COLON name) (has BAR name) c.0 in
-    let a0 : nat_lt (length name) 1 ≡ false = a.0 in
-    let b0 : nat_lt longest_name (length name) ≡ false = b.0 in
-    record { some = grind (arith, nat_tests); short = grind (arith, nat_tests); no_colon = d.0; no_bar = d.1 }
+    let no = fails (name_checks name) e in solid name (no EmptyName) (no NameTooLong) (no BadByteInName)
 
 pub good-name : (name : List ℕ) → IsName name → first (name_checks name) ≡ None
 good-name name g =
     let s : 1 ≤ length name = g.some in
     let l : length name ≤ longest_name = g.short in
     let a : nat_lt (length name) 1 ≡ false = grind (arith, nat_tests) in
-    let b : nat_lt longest_name (length name) ≡ false = grind (arith, nat_tests) in
-    cons EmptyName (nat_lt (length name) 1)
-    ((NameTooLong, nat_lt longest_name (length name)) ∷ (BadByteInName, has COLON name || has BAR name) ∷ []) a
-    (cons NameTooLong (nat_lt longest_name (length name)) ((BadByteInName, has COLON name || has BAR name) ∷ []) b
-    (cons BadByteInName (has COLON name || has BAR name) []
-    (or-both (has COLON name) (has BAR name) g.no_colon g.no_bar) refl))
+    let b : nat_lt longest_name (length name) ≡ false = grind (arith, nat_tests) in rw (a, b, g.no_colon, g.no_bar)
 
 -- CUTTING AT A BYTE
 pub cut-is : (b : ℕ) (xs : List ℕ) → has b xs ≡ true → (xs ≡ before b xs ++ b ∷ after b xs)
@@ -136,17 +88,17 @@ cut-at b (x ∷ p) q e =
 -- NUMBERS
 digit-no-colon : (x : ℕ) → is_ascii_digit x ≡ true → nat_eq x COLON ≡ false
 digit-no-colon x e =
-    let a = and-true (nat_le 48 x) (nat_le x 57) e in let b : nat_le x 57 ≡ true = a.1 in grind (arith, nat_tests)
+    let a = and_parts (nat_le 48 x) (nat_le x 57) e in let b : nat_le x 57 ≡ true = a.1 in grind (arith, nat_tests)
 
 digits-no-colon : (xs : List ℕ) → list_all is_ascii_digit xs ≡ true → has COLON xs ≡ false
 digits-no-colon [] e = refl
 digits-no-colon (x ∷ xs) e =
-    let a = and-true (is_ascii_digit x) (list_all is_ascii_digit xs) e in
-    or-both (nat_eq x COLON) (has COLON xs) (digit-no-colon x a.0) (digits-no-colon xs a.1)
+    let a = and_parts (is_ascii_digit x) (list_all is_ascii_digit xs) e in
+    or_from (nat_eq x COLON) (has COLON xs) (digit-no-colon x a.0) (digits-no-colon xs a.1)
 
 pub number-no-colon : (text : List ℕ) → are_digits 9 text ≡ true → has COLON text ≡ false
 number-no-colon text e =
-    digits-no-colon text (and-true (nat_le 1 (length text) && nat_le (length text) 9)
+    digits-no-colon text (and_parts (nat_le 1 (length text) && nat_le (length text) 9)
     (list_all is_ascii_digit text) e).1
 
 -- BOUNDS
@@ -182,56 +134,27 @@ pub bounds-good : (prefix : List ℕ) (sec : Bool) → first (prefix_checks pref
 bounds-good prefix sec e =
     let low : ℕ = number (low_text prefix) in
     let high : ℕ = number (high_text prefix) in
-    let a = head BadBound (not (are_digits 9 (low_text prefix) && are_digits 9 (high_text prefix)))
-    ((
-      BoundOrder,
-      nat_lt (number (high_text prefix)) 1 || nat_lt (number (high_text prefix))
-          (number (low_text prefix)),
-    ) ∷ (BoundOnSecondary, sec) ∷ []) e in
-    let b =
-    head BoundOrder (nat_lt (number (high_text prefix)) 1 || nat_lt (number (high_text prefix))
-    (number (low_text prefix))) ((BoundOnSecondary, sec) ∷ []) a.1 in
-    let c = head BoundOnSecondary sec [] b.1 in
-    let n = and-true (are_digits 9 (low_text prefix)) (are_digits 9 (high_text prefix))
-    (not-false (are_digits 9 (low_text prefix) && are_digits 9 (high_text prefix)) a.0) in
-    let o =
-    or-false (nat_lt (number (high_text prefix)) 1)
-    (nat_lt (number (high_text prefix)) (number (low_text prefix))) b.0 in
-    let o0 : nat_lt (number (high_text prefix)) 1 ≡ false = o.0 in
-    let o1 : nat_lt (number (high_text prefix)) (number (low_text prefix)) ≡ false = o.1 in
-    (texts prefix n.0 n.1, grind (arith, nat_tests), grind (arith, nat_tests), c.0)
+    let no = fails (prefix_checks prefix sec) e in
+    let n = and_parts (are_digits 9 (low_text prefix)) (are_digits 9 (high_text prefix)) (not-false _ (no BadBound)) in
+    let o = or_parts (nat_lt high 1) (nat_lt high low) (no BoundOrder) in
+    let o0 : nat_lt high 1 ≡ false = o.0 in
+    let o1 : nat_lt high low ≡ false = o.1 in
+    (texts prefix n.0 n.1, grind (arith, nat_tests), grind (arith, nat_tests), no BoundOnSecondary)
 
 pub good-bounds : (prefix : List ℕ) (low high : ℕ) → AreBounds prefix low high → 1 ≤ high → low ≤ high
     → (first (prefix_checks prefix false) ≡ None) × (number (low_text prefix) ≡ low)
     × (number (high_text prefix) ≡ high)
 good-bounds prefix low high h p q =
-    let n : (are_digits 9 (low_text prefix) ≡ true) × (are_digits 9 (high_text prefix) ≡ true)
-    × (number (low_text prefix) ≡ low) × (number (high_text prefix) ≡ high) = bounds-are prefix low high h in
+    let n = bounds-are prefix low high h in
     let lo : number (low_text prefix) ≡ low = n.2 in
     let hi : number (high_text prefix) ≡ high = n.3 in
     let a : nat_lt (number (high_text prefix)) 1 ≡ false = grind (arith, nat_tests) in
-    let b : nat_lt (number (high_text prefix)) (number (low_text prefix)) ≡ false = grind (arith, nat_tests) in (
-      cons BadBound (not (are_digits 9 (low_text prefix) && are_digits 9 (high_text prefix)))
-          ((
-            BoundOrder,
-            nat_lt (number (high_text prefix)) 1 || nat_lt (number (high_text prefix))
-                (number (low_text prefix)),
-          ) ∷ (BoundOnSecondary, false) ∷ [])
-          (ap not (and-both (are_digits 9 (low_text prefix)) (are_digits 9 (high_text prefix)) n.0 n.1))
-          (cons BoundOrder (nat_lt (number (high_text prefix)) 1 || nat_lt (number (high_text prefix))
-          (number (low_text prefix))) ((BoundOnSecondary, false) ∷ [])
-          (or-both (nat_lt (number (high_text prefix)) 1)
-          (nat_lt (number (high_text prefix)) (number (low_text prefix))) a b) refl),
-      lo,
-      hi,
-    )
+    let b : nat_lt (number (high_text prefix)) (number (low_text prefix)) ≡ false = grind (arith, nat_tests) in
+    (rw (n.0, n.1, a, b), lo, hi)
 
 -- ITEMS
-module _ (kind : Kind) (names : List (List ℕ)) (sec : Bool) (token : List ℕ) where
-  abbrev rest : List ℕ → List (FaultKind × Bool)
-  rest name =
-      (RepeatedName, not (is_none (place names name))) ∷ (TooManyItems, not (nat_lt (length names) most_items)) ∷ []
 
+module _ (kind : Kind) (names : List (List ℕ)) (sec : Bool) (token : List ℕ) where
   none-of : (o : Option ℕ) → not (is_none o) ≡ false → o ≡ None
   none-of None e = refl
   none-of (Some n) e = absurd (cc)
@@ -239,7 +162,7 @@ module _ (kind : Kind) (names : List (List ℕ)) (sec : Bool) (token : List ℕ)
   shape : (t : Bool) → has_prefix kind token ≡ t → first (bound_checks kind sec token) ≡ None
       → IsBare sec token (entry kind sec token) ⊎ IsBounded kind sec token (entry kind sec token)
   shape true f e =
-      let b = and-true (is_bounds kind) (has BAR token) f in
+      let b = and_parts (is_bounds kind) (has BAR token) f in
       let c = cut-is BAR token b.1 in
       let g =
       bounds-good (before BAR token) sec
@@ -270,23 +193,16 @@ module _ (kind : Kind) (names : List (List ℕ)) (sec : Bool) (token : List ℕ)
             (λ t. if t then number (high_text (before BAR token)) else 1) f,
       )
 
-  form : first (bound_checks kind sec token) ≡ None → IsBare sec token (entry kind sec token)
-      ⊎ IsBounded kind sec token (entry kind sec token)
-  form e = shape (has_prefix kind token) refl e
-
   -- a token with no fault stands for its item
   pub item-good : first (item_checks kind names sec token) ≡ None → IsEntry kind sec token (entry kind sec token)
       × (place names (entry kind sec token).name ≡ None) × (length names < most_items)
   item-good e =
-      let a = split (bound_checks kind sec token) (name_checks (name_of kind token) ++ rest (name_of kind token)) e in
-      let b = split (name_checks (name_of kind token)) (rest (name_of kind token)) a.1 in
-      let c =
-      head RepeatedName (not (is_none (place names (name_of kind token))))
-      ((TooManyItems, not (nat_lt (length names) most_items)) ∷ []) b.1 in
-      let d = head TooManyItems (not (nat_lt (length names) most_items)) [] c.1 in
-      let lt : nat_lt (length names) most_items ≡ true = not-false (nat_lt (length names) most_items) d.0 in (
-        (name-good (name_of kind token) b.0, form a.0),
-        none-of (place names (name_of kind token)) c.0,
+      let name = name_of kind token in
+      let a = split (bound_checks kind sec token) (alone names name) e in
+      let no = fails (alone names name) a.1 in
+      let lt : nat_lt (length names) most_items ≡ true = not-false _ (no TooManyItems) in (
+        (solid name (no EmptyName) (no NameTooLong) (no BadByteInName), shape (has_prefix kind token) refl a.0),
+        none-of (place names name) (no RepeatedName),
         grind
             (arith, nat_tests),
       )
@@ -307,7 +223,7 @@ module _ (kind : Kind) (names : List (List ℕ)) (sec : Bool) (token : List ℕ)
   known e (inr h) n =
       let p : List ℕ = h.0 in
       let c = cut-at BAR h.0 e.name h.3 in
-      let f : has_prefix kind token ≡ true = and-both (is_bounds kind) (has BAR token) h.1 (ap (has BAR) h.4 ∙ c.2) in
+      let f : has_prefix kind token ≡ true = and_from (is_bounds kind) (has BAR token) h.1 (ap (has BAR) h.4 ∙ c.2) in
       let bf : before BAR token ≡ h.0 = ap (before BAR) h.4 ∙ c.0 in
       let g = good-bounds h.0 e.low e.high h.5 h.6 h.7 in (
         (λ i. record {
@@ -330,11 +246,7 @@ module _ (kind : Kind) (names : List (List ℕ)) (sec : Bool) (token : List ℕ)
       let nm : e.name ≡ name_of kind token = ap (λ x. x.name) k.0 in
       let lt : nat_lt (length names) most_items ≡ true = grind (arith, nat_tests) in (
         k.0,
-        first-back (bound_checks kind sec token) (name_checks (name_of kind token) ++ rest (name_of kind token)) k.1
-            ∙ first-back (name_checks (name_of kind token)) (rest (name_of kind token))
-            (good-name (name_of kind token) (subst IsName nm h.0))
-            ∙ cons RepeatedName (not (is_none (place names (name_of kind token))))
-            ((TooManyItems, not (nat_lt (length names) most_items)) ∷ [])
-            (ap (λ o. not (is_none o)) (ap (place names) (sym nm) ∙ p))
-            (cons TooManyItems (not (nat_lt (length names) most_items)) [] (ap not lt) refl),
+        first-back (bound_checks kind sec token) (alone names (name_of kind token)) k.1
+            ∙ past-name names (name_of kind token) (good-name _ (subst IsName nm h.0))
+            ∙ rw (← nm, p, lt),
       )

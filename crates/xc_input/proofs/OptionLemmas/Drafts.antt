@@ -1,5 +1,5 @@
 -- Steps of a draft.
-use Rattle.std.proofs.Common.{◌≡◌, ℕ, ◌+◌, ◌-◌, ◌<◌, ◌≤◌, List, [], ◌∷◌, ◌++◌, None, Some, Bool, true, false, ◌&&◌}
+use Rattle.std.proofs.Common.{◌≡◌, ℕ, ◌+◌, ◌-◌, ◌<◌, ◌≤◌, List, [], ◌∷◌, ◌++◌, None, Some, Bool, true, false}
 use Rattle.std.proofs.Common.{◌||◌, nat_le, nat_lt, unwrap_or, length, map, take, drop, refl, ap, ◌∙◌, sym, subst}
 use Rattle.std.proofs.Common.{arith, if◌then◌else◌, Vec, Global, length-append}
 use Rattle.std.proofs.Math.Seq.{take-append_seam, drop-append_seam}
@@ -15,12 +15,12 @@ use Rattle.xc_input.specs.declared.fault.FaultKind.TheVariants.{TooManyUses}
 use Rattle.xc_input.specs.declared.problem.Use.{Use}
 use Rattle.xc_input.specs.declared.builder.ProblemBuilder.{ProblemBuilder}
 use Rattle.xc_input.specs.Words.{place}
-use Rattle.xc_input.specs.Tokens.{tokens, parts}
+use Rattle.xc_input.specs.Tokens.{tokens}
 use Rattle.std.specs.List.{list_any}
 use Rattle.xc_input.specs.Sheets.{Written, number_uses, colour_number}
 use Rattle.xc_input.specs.inner.Sheets.{names_of, with_uses}
 use Rattle.xc_input.specs.Faults.{first, has_primary}
-use Rattle.xc_input.specs.inner.Stages.{option_checks, row_checks, no_row, context, written, content_checks}
+use Rattle.xc_input.specs.inner.Stages.{option_checks, context, written, content_checks}
 use Rattle.xc_input.specs.inner.Stages.{with_option, written_by}
 use Rattle.xc_input.specs.Limits.{most_uses, most_items}
 use Rattle.xc_input.specs.inner.Builders.{AreMarks, AreDistinct, AreNames, IsBuilder, stage_of_builder}
@@ -32,7 +32,10 @@ use Rattle.xc_input.specs.inner.Vectors.{AreOptionStarts}
 use Rattle.std.proofs.lemmas.List.{length-map, take-map}
 use Rattle.xc_input.proofs.ValidLemmas.SheetValidity.{numbered-length}
 use Rattle.xc_input.proofs.OptionLemmas.FlatParts.{option-more, all-uses}
-use Rattle.xc_input.proofs.FaultLemmas.Checks.{first-back, map-length, names_of-length}
+use Rattle.xc_input.proofs.FaultLemmas.FirstChecks.{first-back}
+use Rattle.xc_input.specs.inner.Stages.{whole_checks}
+use Rattle.std.proofs.Math.Bool.{and-false}
+use Rattle.xc_input.proofs.FaultLemmas.Checks.{map-length, names_of-length}
 
 -- the number of a colour that was added last
 pub new-number : (old new : List (List ℕ)) (colour : List ℕ) (n : ℕ) → 0 < length colour → place old colour ≡ None
@@ -99,34 +102,15 @@ colours-before old new left us n e f g =
     ap key_names e ∙ sym (take-map (λ (v : Vec ℕ Global). v.items) n new) ∙ (λ i. take (m i) (g i))
     ∙ first_met (key_names old) us
 
-no-and : (b : Bool) → (if b && false then Some TooManyUses else None) ≡ None
-no-and true = refl
-no-and false = refl
-
 module _ (kind : Kind) (d : ProblemBuilder) (line : List ℕ) (s : IsBuilder d) (t : d.started ≡ true) where
   uses-counted : use_count (pieces d.starts.items d.uses.items) ≡ length d.uses.items
   uses-counted = all-uses d.starts.items d.uses.items (s.starts t)
 
   -- the checks of the tokens, and then that of the whole line
   pub content-is : first (content_checks kind (stage_of_builder d) line)
-      ≡ first (option_checks (context kind (key_names d.names.keys) d.primary) [] (tokens line) ++ (
-        TooManyUses,
-        has_primary d.primary (written_by (sheet_of_builder d) line) && nat_lt most_uses
-            (use_count (pieces d.starts.items d.uses.items) + length (tokens line)),
-      ) ∷ [])
-  content-is =
-      ap (λ b. first (if b then option_checks (context kind (names_of (map entry_of d.items.items)) d.primary) []
-      (tokens line) ++ (
-        TooManyUses,
-        has_primary d.primary (written_by (sheet_of_builder d) line) && nat_lt
-            most_uses (use_count (pieces d.starts.items d.uses.items) + length (tokens line)),
-      ) ∷ [] else row_checks
-      kind no_row (parts line))) t
-      ∙ ap (λ ns. first (option_checks (context kind ns d.primary) [] (tokens line) ++ (
-        TooManyUses,
-        has_primary d.primary (written_by (sheet_of_builder d) line) && nat_lt most_uses
-            (use_count (pieces d.starts.items d.uses.items) + length (tokens line)),
-      ) ∷ [])) (sym s.names)
+      ≡ first (option_checks (context kind (key_names d.names.keys) d.primary) [] (tokens line)
+      ++ whole_checks (sheet_of_builder d) line)
+  content-is = rw (t, s.names)
 
   module _ (us : List Written) (are : us ≡ map (written (key_names d.names.keys)) (tokens line)) where
     pub by-parts : written_by (sheet_of_builder d) line ≡ us
@@ -134,35 +118,34 @@ module _ (kind : Kind) (d : ProblemBuilder) (line : List ℕ) (s : IsBuilder d) 
 
     module _ (ok : first (option_checks (context kind (key_names d.names.keys) d.primary) [] (tokens line)) ≡ None)
         (b : Bool) (p : b ≡ has_primary d.primary us) where
-      whole-line : first (content_checks kind (stage_of_builder d) line) ≡
-          (if b && nat_lt most_uses (length d.uses.items + length us) then Some TooManyUses else None)
+      whole-line : first (content_checks kind (stage_of_builder d) line)
+          ≡ first (whole_checks (sheet_of_builder d) line)
       whole-line =
-          let n : length (tokens line) ≡ length us =
-          sym (length-map (tokens line) (written (key_names d.names.keys))) ∙ ap length (sym are) in
           content-is ∙ first-back (option_checks (context kind (key_names d.names.keys) d.primary) [] (tokens line))
-          ((
-            TooManyUses,
-            has_primary d.primary (written_by (sheet_of_builder d) line) && nat_lt most_uses
-                (use_count (pieces d.starts.items d.uses.items) + length (tokens line)),
-          ) ∷ []) ok
-          ∙ (λ i. if (ap (has_primary d.primary) by-parts ∙ sym p) i && nat_lt most_uses (uses-counted i + n i) then
-          Some TooManyUses else None)
+          (whole_checks (sheet_of_builder d) line) ok
+
+      kept : has_primary d.primary (written_by (sheet_of_builder d) line) ≡ b
+      kept = ap (has_primary d.primary) by-parts ∙ sym p
+
+      count : use_count (pieces d.starts.items d.uses.items) + length (tokens line) ≡ length d.uses.items + length us
+      count =
+          λ i. uses-counted i + (sym (length-map (tokens line) (written (key_names d.names.keys)))
+          ∙ ap length (sym are)) i
 
       pub no-primary : b ≡ false → first (content_checks kind (stage_of_builder d) line) ≡ None
-      no-primary e = whole-line
-          ∙ ap (λ c. if c && nat_lt most_uses (length d.uses.items + length us) then Some TooManyUses else None) e
+      no-primary e = whole-line ∙ rw (kept, e)
 
       pub too-long : b ≡ true → most_uses < length d.uses.items + length us
           → first (content_checks kind (stage_of_builder d) line) ≡ Some TooManyUses
-      too-long e h = whole-line
-          ∙ (let z : nat_lt most_uses (length d.uses.items + length us) ≡ true =
-          grind (arith, nat_tests) in λ i. if e i && z i then Some TooManyUses else None)
+      too-long e h =
+          let z : nat_lt most_uses (length d.uses.items + length us) ≡ true = grind (arith, nat_tests) in
+          whole-line ∙ rw (kept, count, e, z)
 
       pub fits : length d.uses.items + length us ≤ most_uses
           → first (content_checks kind (stage_of_builder d) line) ≡ None
       fits h =
-          whole-line ∙ (let z : nat_lt most_uses (length d.uses.items + length us) ≡ false = grind (arith, nat_tests) in
-          ap (λ c. if b && c then Some TooManyUses else None) z ∙ no-and b)
+          let z : nat_lt most_uses (length d.uses.items + length us) ≡ false = grind (arith, nat_tests) in
+          whole-line ∙ rw (kept, count, z, and-false b)
 
     module _ (b : Bool) (p : b ≡ has_primary d.primary us) (e : b ≡ true) (count : ℕ) (d' : ProblemBuilder)
         (same : (d'.started ≡ d.started) × (d'.names ≡ d.names) × (d'.items ≡ d.items) × (d'.primary ≡ d.primary)

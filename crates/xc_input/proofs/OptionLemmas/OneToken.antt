@@ -1,7 +1,7 @@
--- One token of an option line.
+-- One token of an option line, for `use_of` and the loop of `option_line`.
 use Rattle.std.proofs.Common.{arith, ◌<◌, ◌≤◌, ◌≡◌, ℕ, ◌+◌, List, [], ◌∷◌, ◌++◌, Option, None, Some, Bool, true, false}
-use Rattle.std.proofs.Common.{◌||◌, ◌&&◌, not, nat_lt, nat_eq, is_none, unwrap_or, map, refl, ap, ◌∙◌, sym, subst}
-use Rattle.std.proofs.Common.{if◌then◌else◌, MatchOption, Result, Ok, Err, append_assoc, is_ok}
+use Rattle.std.proofs.Common.{◌||◌, ◌&&◌, nat_lt, nat_eq, map, refl, ap, ◌∙◌, sym, subst}
+use Rattle.std.proofs.Common.{length, drop, if◌then◌else◌, MatchOption, Result, Ok, Err, append_assoc, is_ok}
 use Rattle.std.proofs.lemmas.Bool.Decides.{nat_tests}
 use Rattle.std.specs.List.{list_any}
 use Rattle.xc_input.specs.declared.kind.Kind.{Kind}
@@ -14,17 +14,10 @@ use Rattle.xc_input.specs.Faults.{first, is_plain, is_bad_colour, name_checks}
 use Rattle.xc_input.specs.inner.Stages.{token_checks, option_checks, item_number, written, context}
 use Rattle.xc_input.specs.inner.Builders.{items_of}
 use Rattle.xc_input.specs.Named.{IsName}
-use Rattle.xc_input.proofs.FaultLemmas.Checks.{first-front, first-back, map-snoc}
+use Rattle.xc_input.proofs.FaultLemmas.FirstChecks.{first-front, first-back}
+use Rattle.xc_input.proofs.FaultLemmas.Checks.{map-snoc}
 use Rattle.xc_input.proofs.GrammarLemmas.NoFault.{good-name}
 use Rattle.xc_input.proofs.TokenLemmas.Separators.{COLON}
-
--- what follows the checks of the name, where the item is known by its place
-abbrev later : ℕ → List ℕ → Option ℕ → Bool → List ℕ → Option FaultKind
-later primary seen at coloured colour =
-    (if is_none at then Some UnknownItem else
-    (if list_any (λ i. nat_eq i (unwrap_or at 0 + 1)) seen then Some RepeatedInOption else
-    (if coloured && not (nat_lt primary (unwrap_or at 0 + 1)) then Some ColourOnPrimary else
-    (if coloured && is_bad_colour colour then Some BadColour else None))))
 
 pub none-after : (b : ℕ) (xs : List ℕ) → has b xs ≡ false → after b xs ≡ []
 none-after b [] e = refl
@@ -33,119 +26,66 @@ none-after b (x ∷ xs) e =
     let h : P (nat_eq x b) =
     (elim (nat_eq x b) as P [ true ↦ λ f. absurd (cc) | false ↦ λ f. none-after b xs f ]) in h e
 
--- a check that holds hides the ones behind it
-first-known : {A : Type 0} (a : List (A × Bool)) (k : A) (cs : List (A × Bool))
-    → first (a ++ (k, true) ∷ cs) ≡ first (a ++ (k, true) ∷ [])
-first-known [] k cs = refl
-first-known (c ∷ a) k cs = ap (λ r. if c.1 then Some c.0 else r) (first-known a k cs)
-
 module _ (kind : Kind) (names : List (List ℕ)) (primary : ℕ) (seen : List ℕ) (token : List ℕ) where
-  abbrev others : List ℕ → List (FaultKind × Bool)
-  others name = (RepeatedInOption, list_any (λ i. nat_eq i (item_number names name)) seen) ∷
-      (ColourOnPrimary, has COLON token && not (nat_lt primary (item_number names name))) ∷
-      (BadColour, has COLON token && is_bad_colour (after COLON token)) ∷ []
+  -- the first fault
+  abbrev fault : Option FaultKind
+  fault = first (token_checks (context kind names primary) seen token)
+
+  -- the checks behind those of the name
+  abbrev past_name : List (FaultKind × Bool)
+  past_name = drop (1 + length (name_checks token)) (token_checks (context kind names primary) seen token)
+
+  pub past-name : (is_plain kind && has COLON token) ≡ false → first (name_checks (before COLON token)) ≡ None
+      → fault ≡ first past_name
+  past-name e f = rw e (first-back (name_checks (before COLON token)) past_name f)
 
   -- a colour stands where none may
-  pub not-here : (is_plain kind && has COLON token) ≡ true
-      → first (token_checks (context kind names primary) seen token) ≡ Some ColourNotHere
-  not-here e =
-      ap (λ t. if t then Some ColourNotHere else first
-      (name_checks (before COLON token) ++ (UnknownItem, is_none (place names (before COLON token))) ∷ others
-      (before COLON token))) e
+  pub not-here : (is_plain kind && has COLON token) ≡ true → fault ≡ Some ColourNotHere
+  not-here e = rw e
 
   module _ (allowed : (is_plain kind && has COLON token) ≡ false) (name : List ℕ) (is : name ≡ before COLON token) where
-    here : first (token_checks (context kind names primary) seen token) ≡ first
-        (name_checks name ++ (UnknownItem, is_none (place names name)) ∷ others name)
-    here =
-        ap (λ t. if t then Some ColourNotHere else first
-        (name_checks (before COLON token) ++ (UnknownItem, is_none (place names (before COLON token))) ∷ others
-        (before COLON token))) allowed
-        ∙ ap (λ n. first (name_checks n ++ (UnknownItem, is_none (place names n)) ∷ others n)) (sym is)
-
     -- no item has the name
-    pub unknown : (fault : FaultKind) → place names name ≡ None
-        → first (name_checks name ++ (UnknownItem, true) ∷ []) ≡ Some fault
-        → first (token_checks (context kind names primary) seen token) ≡ Some fault
-    unknown fault e f = here ∙ ap (λ p. first (name_checks name ++ (UnknownItem, is_none p) ∷ others name)) e
-        ∙ first-known (name_checks name) UnknownItem (others name) ∙ f
+    pub unknown : (k : FaultKind) → place names name ≡ None
+        → first (name_checks name ++ (UnknownItem, true) ∷ []) ≡ Some k → fault ≡ Some k
+    unknown k e f = rw (allowed, ← is, e) f
 
     -- the item at place k has it, and is marked or not
     module _ (good : IsName name) (k : ℕ) (at : place names name ≡ Some k) (marked : Bool)
         (m : marked ≡ list_any (λ i. nat_eq i (k + 1)) seen) where
-      known : first (token_checks (context kind names primary) seen token)
-          ≡ (if marked then Some RepeatedInOption else
-          (if has COLON token && not (nat_lt primary (k + 1)) then Some ColourOnPrimary else
-          (if has COLON token && is_bad_colour (after COLON token) then Some BadColour else None)))
-      known =
-          here ∙ first-back (name_checks name) ((UnknownItem, is_none (place names name)) ∷ others name)
-          (good-name name good) ∙ ap (λ p. later primary seen p (has COLON token) (after COLON token)) at
-          ∙ ap (λ t. if t then Some RepeatedInOption else
-          (if has COLON token && not (nat_lt primary (k + 1)) then Some ColourOnPrimary else
-          (if has COLON token && is_bad_colour (after COLON token) then Some BadColour else None))) (sym m)
+      past : fault ≡ first past_name
+      past = past-name allowed (good-name (before COLON token) (subst IsName is good))
 
-      pub repeated : marked ≡ true
-          → first (token_checks (context kind names primary) seen token) ≡ Some RepeatedInOption
-      repeated e =
-          known ∙ ap (λ t. if t then Some RepeatedInOption else
-          (if has COLON token && not (nat_lt primary (k + 1)) then Some ColourOnPrimary else
-          (if has COLON token && is_bad_colour (after COLON token) then Some BadColour else None))) e
+      pub repeated : marked ≡ true → fault ≡ Some RepeatedInOption
+      repeated e = past ∙ rw (← is, at, ← m, e)
 
       module _ (n : marked ≡ false) where
-        once : first (token_checks (context kind names primary) seen token) ≡
-            (if has COLON token && not (nat_lt primary (k + 1)) then Some ColourOnPrimary else
-            (if has COLON token && is_bad_colour (after COLON token) then Some BadColour else None))
-        once =
-            known ∙ ap (λ t. if t then Some RepeatedInOption else
-            (if has COLON token && not (nat_lt primary (k + 1)) then Some ColourOnPrimary else
-            (if has COLON token && is_bad_colour (after COLON token) then Some BadColour else None))) n
-
         item-is : item_number names (before COLON token) ≡ k + 1
-        item-is = ap (λ x. item_number names x) (sym is) ∙ ap (λ p. unwrap_or p 0 + 1) at
+        item-is = rw (← is, at)
 
-        pub bare : has COLON token ≡ false → (first (token_checks (context kind names primary) seen token) ≡ None)
+        pub bare : has COLON token ≡ false → (fault ≡ None)
             × (record { item = k + 1; colour = [] } ≡ written names token)
         bare q = (
-          once ∙ ap (λ c. if c && not (nat_lt primary (k + 1)) then Some ColourOnPrimary else
-              (if c && is_bad_colour (after COLON token) then Some BadColour else None)) q,
+          past ∙ rw (← is, at, ← m, n, q),
           λ x. record { item = sym item-is x; colour = sym (none-after COLON token q) x },
         )
 
         module _ (q : has COLON token ≡ true) (colour : List ℕ) (c : colour ≡ after COLON token) where
-          judged : first (token_checks (context kind names primary) seen token) ≡
-              (if not (nat_lt primary (k + 1)) then Some ColourOnPrimary else
-              (if is_bad_colour colour then Some BadColour else None))
-          judged =
-              once ∙ ap (λ t. if t && not (nat_lt primary (k + 1)) then Some ColourOnPrimary else
-              (if t && is_bad_colour (after COLON token) then Some BadColour else None)) q
-              ∙ ap (λ xs. if not (nat_lt primary (k + 1)) then Some ColourOnPrimary else
-              (if is_bad_colour xs then Some BadColour else None)) (sym c)
-
-          pub on-primary : k + 1 ≤ primary
-              → first (token_checks (context kind names primary) seen token) ≡ Some ColourOnPrimary
+          pub on-primary : k + 1 ≤ primary → fault ≡ Some ColourOnPrimary
           on-primary h =
-              judged ∙ (let z : nat_lt primary (k + 1) ≡ false = grind (arith, nat_tests) in ap
-              (λ t. if not t then Some ColourOnPrimary else
-              (if is_bad_colour colour then Some BadColour else None)) z)
+              let z : nat_lt primary (k + 1) ≡ false = grind (arith, nat_tests) in past ∙ rw (← is, at, ← m, n, q, z)
 
           module _ (h : primary < k + 1) where
-            on-secondary : first (token_checks (context kind names primary) seen token) ≡
-                (if is_bad_colour colour then Some BadColour else None)
-            on-secondary =
-                judged ∙ (let z : nat_lt primary (k + 1) ≡ true = grind (arith, nat_tests) in ap
-                (λ t. if not t then Some ColourOnPrimary else
-                (if is_bad_colour colour then Some BadColour else None)) z)
+            z : nat_lt primary (k + 1) ≡ true
+            z = grind (arith, nat_tests)
 
-            pub misfit : is_bad_colour colour ≡ true
-                → first (token_checks (context kind names primary) seen token) ≡ Some BadColour
-            misfit e = on-secondary ∙ ap (λ t. if t then Some BadColour else None) e
+            pub misfit : is_bad_colour colour ≡ true → fault ≡ Some BadColour
+            misfit e = past ∙ rw (← is, at, ← m, n, q, z, ← c, e)
 
-            pub coloured : is_bad_colour colour ≡ false
-                → (first (token_checks (context kind names primary) seen token) ≡ None)
+            pub coloured : is_bad_colour colour ≡ false → (fault ≡ None)
                 × (record { item = k + 1; colour = colour } ≡ written names token)
             coloured e = (
-              on-secondary ∙ ap (λ t. if t then Some BadColour else None) e,
-              λ x. record
-                  { item = sym item-is x; colour = c x },
+              past ∙ rw (← is, at, ← m, n, q, z, ← c, e),
+              λ x. record { item = sym item-is x; colour = c x },
             )
 
 -- a step of the loop over the tokens

@@ -111,14 +111,17 @@ with_row sheet row = record sheet { entries = row.entries; primaries = unwrap_or
 abbrev pub written_by : Sheet → List ℕ → List Written
 written_by sheet line = map (written (names_of sheet.entries)) (tokens line)
 
+-- the check of an option line as a whole, behind those of its tokens
+abbrev pub whole_checks : Sheet → List ℕ → List (FaultKind × Bool)
+whole_checks sheet line =
+    let kept = has_primary sheet.primaries (written_by sheet line) in
+    (TooManyUses, kept && nat_lt most_uses (use_count sheet.options + length (tokens line))) ∷ []
+
 -- a line that is neither blank nor a comment
 abbrev pub content_checks : Kind → Stage → List ℕ → List (FaultKind × Bool)
 content_checks kind stage line =
-    let sheet = stage.sheet in
-    let kept = has_primary sheet.primaries (written_by sheet line) in
-    let many = nat_lt most_uses (use_count sheet.options + length (tokens line)) in
-    let known = context kind (names_of sheet.entries) sheet.primaries in
-    (if stage.started then option_checks known [] (tokens line) ++ (TooManyUses, kept && many) ∷ []
+    let known = context kind (names_of stage.sheet.entries) stage.sheet.primaries in
+    (if stage.started then option_checks known [] (tokens line) ++ whole_checks stage.sheet line
     else row_checks kind no_row (parts line))
 
 -- the checks of a line

@@ -1,4 +1,4 @@
-use Rattle.std.proofs.Common.{◌≡◌, ◌++◌, [], refl, sym, ap, subst, inl}
+use Rattle.std.proofs.Common.{◌++◌, [], refl, subst, inl}
 use Rattle.std.proofs.lemmas.Result.{err_from_is_err_and}
 use Rattle.std.specs.Result.{IfOk, IfErr}
 use Rattle.xc_input.specs.inner.EndedLines.{ended}

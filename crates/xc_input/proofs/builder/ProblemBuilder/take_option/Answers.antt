@@ -1,15 +1,11 @@
 use Rattle.std.proofs.Common.{List, ◌≡◌, ◌∙◌, sym, ap, subst, map, take, drop, refl, arith, ◌+◌, length, [], ◌∷◌}
-use Rattle.std.proofs.Common.{nat_lt, ◌&&◌, ◌++◌, is_ok}
-use Rattle.xc_input.specs.Problem.{use_count}
-use Rattle.xc_input.specs.Limits.{most_uses}
+use Rattle.std.proofs.Common.{◌++◌, is_ok}
 use Rattle.xc_input.specs.Tokens.{tokens}
 use Rattle.xc_input.specs.Sheets.{Written}
 use Rattle.xc_input.specs.Faults.{has_primary}
-use Rattle.xc_input.specs.inner.Stages.{option_checks, context, written, written_by}
-use Rattle.xc_input.specs.declared.fault.FaultKind.TheVariants.{TooManyUses}
+use Rattle.xc_input.specs.inner.Stages.{option_checks, whole_checks, context, written}
 use Rattle.xc_input.specs.inner.Builders.{AreMarks, IsBuilder, sheet_of_builder}
 use Rattle.xc_input.specs.inner.Stored.{key_names}
-use Rattle.xc_input.specs.inner.Flat.{pieces}
 use Rattle.xc_input.proofs.FaultLemmas.Checks.{IsErr-judged, hands-on, items-length}
 use Rattle.xc_input.proofs.OptionLemmas.OneToken.{pushed}
 use Rattle.xc_input.proofs.OptionLemmas.Marks.{written-back}
@@ -25,12 +21,7 @@ returns-in_err-option_line-clause-judged c =
     (hands-on (Unit {0}) (Unit {0}) _
     (option_checks (context c.args.kind (key_names c.args.self.now.names.keys) c.args.self.now.primary) []
     (tokens c.args.line.now))
-    ((
-      TooManyUses,
-      has_primary c.args.self.now.primary (written_by (sheet_of_builder c.args.self.now) c.args.line.now)
-          && nat_lt most_uses (use_count (pieces c.args.self.now.starts.items c.args.self.now.uses.items) + length
-          (tokens c.args.line.now)),
-    ) ∷ [])
+    (whole_checks (sheet_of_builder c.args.self.now) c.args.line.now)
     c.in_err-option_line.field-0.0
     (content-is c.args.kind c.args.self.now c.args.line.now c.requires.sound c.requires.started)
     c.in_err-option_line.ensures.judged)

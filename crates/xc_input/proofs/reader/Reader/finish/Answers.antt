@@ -1,7 +1,7 @@
 use Rattle.std.proofs.Common.{◌∙◌, sym, subst}
 use Rattle.xc_input.specs.Named.{IsSound}
 use Rattle.xc_input.specs.Text.{StandsFor}
-use Rattle.xc_input.proofs.GrammarLemmas.NoFault.{not-true, not-false}
+use Rattle.std.proofs.lemmas.Bool.{not-true, not-false}
 use Rattle.xc_input.proofs.LineLemmas.Finish.{refuses, no-items, unstarted, accepts, alone, is-sound, table-names}
 use Rattle.xc_input.proofs.LineLemmas.Finish.{primary-within, optional-behind, starts-are}
 use Rattle.xc_input.proofs.reader.Reader.finish.Goals as goal
