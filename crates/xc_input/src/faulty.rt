@@ -5,9 +5,9 @@ ghost use Rattle.xc_input.specs.Tokens.{tokens, parts};
 ghost use Rattle.xc_input.specs.Faults.{first, checks_of_each, part_checks, token_checks, context_of};
 ghost use Rattle.xc_input.specs.FaultyTokens.{IsAtFault, IsFaulty, IsFaultyToken, Tells};
 ghost use Rattle.xc_input.specs.Limits.{most_items};
-ghost use Rattle.xc_input.specs.inner.Stages.{context};
+ghost use Rattle.xc_input.specs.inner.Stages.{context, no_row};
 ghost use Rattle.xc_input.specs.inner.Fronts.{StandsBefore};
-ghost use Rattle.xc_input.specs.inner.Builders.{AreNames, AreMarks};
+ghost use Rattle.xc_input.specs.inner.Builders.{AreNames, AreMarks, IsItemTable, row_of_line};
 ghost use Rattle.xc_input.specs.inner.Stored.{key_names};
 
 use crate::builder::no_marks;
@@ -67,6 +67,20 @@ fn faulty_part<'a>(
     ensures { IfOk result (Tells (IsFaulty kind None line.now)) }
 {
     let mut items = ItemLine::new(alloc, seed);
+    faulty_behind(alloc, kind, &mut items, line)
+}
+
+/// The first part of an item line that is at fault, which is added to no items.
+fn faulty_behind<'a>(
+    alloc: Global,
+    kind: Kind,
+    items: &mut ItemLine,
+    line: &'a [u8],
+) -> Result<Option<FaultyToken<'a>>, AllocError>
+    requires table { IsItemTable items.old }
+    requires none { row_of_line items.old ≡ no_row }
+    ensures { IfOk result (Tells (IsFaulty kind None line.now)) }
+{
     let mut rest = line;
     while let Some((part, others)) = next_part(rest) {
         match items.add(alloc, kind, part) {

@@ -6,13 +6,13 @@ use Rattle.xc_input.specs.inner.Builders.{row_of_line}
 use Rattle.xc_input.proofs.FaultyLemmas.{IsRowOf, read-start, read-stands, read-on, read-stop, read-end, row-checks}
 use Rattle.xc_input.proofs.FaultyLemmas.{row-more}
 use Rattle.xc_input.proofs.TokenLemmas.Unbroken.{part-solid}
-use Rattle.xc_input.proofs.faulty.faulty_part.Goals as goal
+use Rattle.xc_input.proofs.faulty.faulty_behind.Goals as goal
 
 pub loop-part-init : goal.loop-part-init
 loop-part-init c = (
-  c.new-items.ensures.table,
+  c.requires.table,
   [],
-  subst (λ (row : Row). IsRowOf c.args.kind row []) (sym c.new-items.ensures.row)
+  subst (λ (row : Row). IsRowOf c.args.kind row []) (sym c.requires.none)
       (record { names = refl; barred = refl }),
   read-start parts (part_checks c.args.kind) c.args.line.now,
 )
