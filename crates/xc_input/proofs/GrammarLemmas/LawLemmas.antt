@@ -32,7 +32,7 @@ use Rattle.xc_input.specs.Named.{IsName, IsColour}
 use Rattle.xc_input.specs.Text.{IsUse}
 use Rattle.xc_input.proofs.GrammarLemmas.SheetGrammar.{AreUses, AreOptions, IsSheetFrom}
 use Rattle.xc_input.proofs.ValidLemmas.SheetValidity.{numbered-length, so_far}
-use Rattle.std.proofs.lemmas.Bool.{or_parts, or_from, not-false}
+use Rattle.std.proofs.lemmas.Bool.{or_parts, not-false}
 use Rattle.std.proofs.Math.Bool.{and-true, and-false}
 use Rattle.xc_input.proofs.FaultLemmas.FirstChecks.{test, fails, first-all, split}
 use Rattle.xc_input.proofs.FaultLemmas.Checks.{some-is, names_of-snoc, names_of-length}

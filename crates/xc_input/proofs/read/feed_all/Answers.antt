@@ -1,8 +1,7 @@
-use Rattle.std.proofs.Common.{◌++◌, ◌∙◌, ◌<◌, take, length, sym, subst, arith}
+use Rattle.std.proofs.Common.{◌++◌, ◌∙◌, ◌<◌, take, length, subst, arith}
 use Rattle.std.proofs.lemmas.Grind.{common_steps}
 use Rattle.std.proofs.lemmas.Result.{err_from_is_err_and}
 use Rattle.xc_input.specs.inner.Feeding.{fed, Spoils}
-use Rattle.xc_input.specs.Pieces.{Gave}
 use Rattle.xc_input.proofs.LineLemmas.Pieces.{gave_more, part-spoiled, part-failed}
 use Rattle.xc_input.proofs.read.feed_all.Goals as goal
 
@@ -31,7 +30,6 @@ reading-preserved g c =
       c.in_ok-feed.ensures.state,
       c.in_ok-feed.ensures.kind ∙ c.reading.invariant.1,
       c.in_ok-n.ensures.failures ∙ c.reading.invariant.2,
-      subst (Gave (g.S.Source.state c.args.source.now) (g.S.Source.state c.read.new.self))
-          (sym c.in_ok-feed.ensures.fed)
+      rw c.in_ok-feed.ensures.fed
           (gave_more _ _ _ _ _ c.reading.invariant.3 some c.in_ok-n.ensures.bytes.0 c.in_ok-n.ensures.given),
     )

@@ -1,4 +1,4 @@
-use Rattle.std.proofs.Common.{◌∙◌, ap, sym, arith, length, ◌≡◌}
+use Rattle.std.proofs.Common.{sym, arith, length, ◌≡◌}
 use Rattle.xc_input.proofs.TokenLemmas.TableNames.{behind-known}
 use Rattle.xc_input.proofs.tokens.behind_name.Goals as goal
 
