@@ -1,13 +1,13 @@
 //! Large room, with ample memory: nothing gives up.
-use fixtures::{SMALL, problem};
-use std::test::Fail;
-use xc_dance::{Links, Lists};
+use crate::keepers::{links, lists};
+use fixtures::{SMALL, on_one};
+use xc_dance::Dance;
 use xc_input::Kind;
 
 #[test]
-fn room_for_two_million_moves(rt: HostRuntime) -> Result<(), Fail> {
-    let problem = problem(rt.alloc(), Kind::Plain, SMALL)?;
-    assert!(rt; Links::new(rt.alloc(), &problem, 2_000_000).is_ok());
-    assert!(rt; Lists::new(rt.alloc(), &problem, 2_000_000).is_ok());
-    Ok(())
+fn room_for_two_million_moves(rt: HostRuntime) {
+    let links = links(rt.alloc(), Kind::Plain, SMALL, 2_000_000);
+    assert!(rt; on_one(links, |links| links.room() == 2_000_000));
+    let lists = lists(rt.alloc(), Kind::Plain, SMALL, 2_000_000);
+    assert!(rt; on_one(lists, |lists| lists.room() == 2_000_000));
 }

@@ -1,10 +1,9 @@
 //! What is there for callers: an item's options, and errors that travel.
 ghost use Rattle.xc_input.specs.Problem.{IsItem};
 
-use crate::keepers::{after, links, on_one};
-use fixtures::{SEVEN, problem};
+use crate::keepers::{after, links};
+use fixtures::{SEVEN, on_one, on_problem};
 use std::alloc::Global;
-use std::test::Fail;
 use xc_dance::{Dance, Full, Links, Memory, Move, list_of};
 use xc_input::{Kind, Problem};
 
@@ -26,11 +25,17 @@ fn are_right_around_a_cover(links: &mut Links) -> bool {
 }
 
 #[test]
-fn options_of_an_item(rt: HostRuntime) -> Result<(), Fail> {
-    let problem = problem(rt.alloc(), Kind::Plain, SEVEN)?;
-    let links = Links::for_search(rt.alloc(), &problem).ok();
-    assert!(rt; problem.items() == 7 && on_one(links, are_right_around_a_cover));
-    Ok(())
+fn options_of_an_item(rt: HostRuntime) {
+    let alloc = rt.alloc();
+    assert!(rt;
+        on_problem(alloc, Kind::Plain, SEVEN, |problem| {
+            problem.items() == 7
+                && on_one(
+                    Links::for_search(alloc, problem).ok(),
+                    are_right_around_a_cover,
+                )
+        })
+    );
 }
 
 /// Whether errors, tables and a problem are shown so.
@@ -39,13 +44,20 @@ fn are_shown(alloc: Global, links: &Links, problem: &Problem, wanted: &str) -> b
     shown.is_ok_and(|shown| shown.as_str() == wanted)
 }
 
-#[test]
-fn errors_and_values_in_words(rt: HostRuntime) -> Result<(), Fail> {
-    let alloc = rt.alloc();
-    let problem = problem(alloc, Kind::Plain, SEVEN)?;
+/// Whether a problem and tables of seven items behind a move are shown so.
+fn are_shown_behind_a_move(alloc: Global, problem: &Problem, wanted: &str) -> bool {
     let links = after(links(alloc, Kind::Plain, SEVEN, 1), &[Move::Cover(1)]);
+    on_one(links, |links| are_shown(alloc, links, problem, wanted))
+}
+
+#[test]
+fn errors_and_values_in_words(rt: HostRuntime) {
+    let alloc = rt.alloc();
     let wanted = "out of memory, no room for another move, Links { moves: 1, room: 1 }, \
                   Problem { items: 7, primary: 7, options: 6, uses: 16 }";
-    assert!(rt; on_one(links, |links| are_shown(alloc, links, &problem, wanted)));
-    Ok(())
+    assert!(rt;
+        on_problem(alloc, Kind::Plain, SEVEN, |problem| {
+            are_shown_behind_a_move(alloc, problem, wanted)
+        })
+    );
 }

@@ -1,6 +1,6 @@
 //! A trail that is full.
-use crate::keepers::{alike, are_lists, links, lists, on_one, on_two};
-use fixtures::{SEVEN, SMALL};
+use crate::keepers::{alike, are_lists, links, lists, on_two};
+use fixtures::{SEVEN, SMALL, on_one};
 use xc_dance::{Dance, Full, Links, Move};
 use xc_input::Kind;
 

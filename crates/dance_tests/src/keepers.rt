@@ -17,18 +17,7 @@ pub fn lists(alloc: Global, kind: Kind, text: &[u8], room: usize) -> Option<List
     Lists::new(alloc, &problem, room).ok()
 }
 
-/// Does the work on a keeper that was made. The keeper is of any type, so that its drop is proved
-/// here and not in each test.
-pub fn on_one<D: Drop, F: Fn(&mut D) -> bool>(made: Option<D>, work: F) -> bool
-    requires { F.IsAlwaysCallable work }
-{
-    match made {
-        Some(mut one) => work(&mut one),
-        None => false,
-    }
-}
-
-/// Does the work on two keepers that were made.
+/// Does the work on two keepers that were made, as `on_one` does it on one.
 pub fn on_two<D: Drop, F: Fn(&mut D, &D) -> bool>(
     made: Option<D>,
     other: Option<D>,

@@ -1,6 +1,6 @@
 //! Every cell of linked tables as they are built.
-use crate::keepers::{links, on_one};
-use fixtures::COLOURED;
+use crate::keepers::links;
+use fixtures::{COLOURED, on_one};
 use std::alloc::Global;
 use xc_dance::{Field, Links};
 use xc_input::Kind;
