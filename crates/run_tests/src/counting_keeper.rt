@@ -3,9 +3,8 @@ ghost use Rattle.std.specs.Prelude.{◌≡◌, ◌<◌, ◌↔◌, ◌∷◌, le
 ghost use Rattle.xc_dance.specs.Moves.{IsLegal, AreTweaks};
 
 use crate::ends::{ALL, are_as_built};
-use fixtures::{ALONE, COLOURED, SEVEN, THREE_ALIKE, TWICE, problem};
+use fixtures::{ALONE, COLOURED, SEVEN, THREE_ALIKE, TWICE, on_one, on_problem};
 use std::alloc::Global;
-use std::test::Fail;
 use xc_dance::{Count, Dance, Full, Links, Move};
 use xc_input::{Kind, Problem};
 use xc_list::{Tray, Words, run_over};
@@ -89,148 +88,189 @@ impl Dance for Counting {
     }
 }
 
-/// The keeper that comes back from a run by these words.
+/// The keeper that comes back from a run by these words; None where there is no memory.
 fn run_counted(
     alloc: Global,
     problem: &Problem,
     words: Words,
     tray: &mut Tray,
-) -> Result<Counting, Fail> {
-    let links = Links::new(alloc, problem, most_moves(problem))?;
+) -> Option<Counting> {
+    let links = Links::new(alloc, problem, most_moves(problem)).ok()?;
     let counting = Counting { links, calls: NONE };
     let (back, end) = run_over(alloc, counting, problem, words, tray);
-    match end {
-        Ok(_) => Ok(back),
-        Err(_) => Err(Fail::new("no memory")),
-    }
+    if end.is_ok() { Some(back) } else { None }
+}
+
+/// The calls that a run makes.
+fn calls_into(alloc: Global, problem: &Problem, words: Words, tray: &mut Tray) -> Option<Calls> {
+    Some(run_counted(alloc, problem, words, tray)?.calls)
 }
 
 /// The calls that a run makes into a sink that takes so many bytes.
-fn calls_of_run(
-    alloc: Global,
-    problem: &Problem,
-    words: Words,
-    room: usize,
-) -> Result<Calls, Fail> {
-    let mut tray = Tray::new(alloc, 1, room, false)?;
-    Ok(run_counted(alloc, problem, words, &mut tray)?.calls)
+fn calls_of_run(alloc: Global, problem: &Problem, words: Words, room: usize) -> Option<Calls> {
+    let mut tray = Tray::new(alloc, 1, room, false).ok()?;
+    calls_into(alloc, problem, words, &mut tray)
+}
+
+/// A search over a keeper that counts.
+fn counted_search(alloc: Global, problem: &Problem) -> Option<Search<Counting>> {
+    let links = Links::new(alloc, problem, most_moves(problem)).ok()?;
+    Search::new(alloc, Counting { links, calls: NONE }, problem).ok()
 }
 
 /// The calls of a search that is asked so often for its next solution, and closed.
-fn calls_of_steps(alloc: Global, problem: &Problem, steps: usize) -> Result<Calls, Fail> {
-    let links = Links::new(alloc, problem, most_moves(problem))?;
-    let counting = Counting { links, calls: NONE };
-    let Ok(mut search) = Search::new(alloc, counting, problem) else {
-        return Err(Fail::new("no memory"));
-    };
+fn calls_of_steps(alloc: Global, problem: &Problem, steps: usize) -> Option<Calls> {
+    let mut search = counted_search(alloc, problem)?;
     for _step in 0..steps {
         let _ = search.next();
     }
-    Ok(search.close().calls)
+    Some(search.close().calls)
 }
 
-/// How many moves a run makes; 0 where the tables that come back aren't as built.
-fn moves_made(alloc: Global, problem: &Problem, tray: &mut Tray) -> Result<u64, Fail> {
-    let back = run_counted(alloc, problem, ALL, tray)?;
-    if are_as_built(alloc, problem, &back.links)? {
-        Ok(back.calls.made)
-    } else {
-        Ok(0)
-    }
-}
-
-/// Whether a run over the colours makes at least the moves of its solution.
-fn moves_enough(alloc: Global, tray: &mut Tray) -> Result<bool, Fail> {
-    let problem = problem(alloc, Kind::Colours, COLOURED)?;
-    Ok(moves_made(alloc, &problem, tray)? >= 8)
+/// Whether a run over the colours makes at least the moves of its solution, and the tables come back as built.
+fn moves_enough(alloc: Global, problem: &Problem, tray: &mut Tray) -> bool {
+    on_one(run_counted(alloc, problem, ALL, tray), |back| {
+        are_as_built(alloc, problem, &back.links) && back.calls.made >= 8
+    })
 }
 
 #[test]
-fn a_run_moves_the_dance_that_it_is_given(rt: HostRuntime) -> Result<(), Fail> {
-    let mut tray = Tray::new(rt.alloc(), 1, 1000, false)?;
-    assert!(rt; moves_enough(rt.alloc(), &mut tray)?);
-    Ok(())
+fn a_run_moves_the_dance_that_it_is_given(rt: HostRuntime) {
+    let alloc = rt.alloc();
+    assert!(rt;
+        on_problem(alloc, Kind::Colours, COLOURED, |problem| {
+            let tray = Tray::new(alloc, 1, 1000, false).ok();
+            on_one(tray, |tray| moves_enough(alloc, problem, tray))
+        })
+    );
+}
+
+/// Whether a search that is done makes no move at a further call.
+fn stays_done(alloc: Global, problem: &Problem) -> bool {
+    match calls_of_steps(alloc, problem, 2) {
+        Some(calls) => calls.made >= 8 && calls_of_steps(alloc, problem, 5) == Some(calls),
+        None => false,
+    }
 }
 
 // A move that is undone leaves nothing that a contract sees.
 #[test]
-fn a_search_that_is_done_makes_no_move(rt: HostRuntime) -> Result<(), Fail> {
-    let problem = problem(rt.alloc(), Kind::Colours, COLOURED)?;
-    let calls = calls_of_steps(rt.alloc(), &problem, 2)?;
-    assert!(rt; calls.made >= 8 && calls_of_steps(rt.alloc(), &problem, 5)? == calls);
-    Ok(())
+fn a_search_that_is_done_makes_no_move(rt: HostRuntime) {
+    let alloc = rt.alloc();
+    assert!(rt;
+        on_problem(
+            alloc,
+            Kind::Colours,
+            COLOURED,
+            |problem| stays_done(alloc, problem)
+        )
+    );
+}
+
+/// Whether a run makes the calls of as many steps of a search.
+fn makes_calls_of(
+    alloc: Global,
+    problem: &Problem,
+    words: Words,
+    room: usize,
+    steps: usize,
+) -> bool {
+    let calls = calls_of_run(alloc, problem, words, room);
+    calls.is_some() && calls == calls_of_steps(alloc, problem, steps)
 }
 
 /// Whether runs with this limit make the calls of as many steps of a search, whatever they print.
-fn goes_as_far(alloc: Global, problem: &Problem, steps: usize) -> Result<bool, Fail> {
-    let calls = calls_of_steps(alloc, problem, steps)?;
-    for spacing in [0, 1, 2] {
+fn goes_as_far(alloc: Global, problem: &Problem, steps: usize) -> bool {
+    for spacing in 0..3 {
         let words = Words {
             spacing,
             limit: steps as u64,
         };
-        if calls_of_run(alloc, problem, words, 1000)? != calls {
-            return Ok(false);
+        if !makes_calls_of(alloc, problem, words, 1000, steps) {
+            return false;
         }
     }
-    Ok(true)
+    true
 }
 
 /// Whether runs at each limit up to the last solution make the calls of as many steps of a search, and a
 /// run without a limit those of one step more.
-fn goes_no_further(alloc: Global, problem: &Problem, solutions: u8) -> Result<bool, Fail> {
+fn goes_no_further(alloc: Global, problem: &Problem, solutions: u8) -> bool {
     let solutions = solutions as usize;
     for steps in 0..solutions + 1 {
-        if !goes_as_far(alloc, problem, steps)? {
-            return Ok(false);
+        if !goes_as_far(alloc, problem, steps) {
+            return false;
         }
     }
-    let calls = calls_of_run(alloc, problem, ALL, 1000)?;
-    Ok(calls == calls_of_steps(alloc, problem, solutions + 1)?)
+    makes_calls_of(alloc, problem, ALL, 1000, solutions + 1)
+}
+
+/// Problems of each kind, and how many solutions they have.
+const KINDS: [(Kind, &[u8], u8); 4] = [
+    (Kind::Plain, SEVEN, 1),
+    (Kind::Colours, COLOURED, 1),
+    (Kind::Bounds, TWICE, 3),
+    (Kind::Bounds, ALONE, 4),
+];
+
+#[test]
+fn a_run_searches_no_further_than_its_limit(rt: HostRuntime) {
+    let alloc = rt.alloc();
+    for (kind, text, solutions) in &KINDS {
+        assert!(rt;
+            on_problem(alloc, *kind, *text, |problem| {
+                goes_no_further(alloc, problem, *solutions)
+            })
+        );
+    }
+}
+
+/// How many bytes a sink takes, and how many steps a run makes then: the text of each of the three solutions has
+/// 15 bytes.
+const FAILED: [(usize, usize); 6] = [(0, 1), (14, 1), (15, 2), (29, 2), (30, 3), (44, 3)];
+
+#[test]
+fn a_run_searches_no_further_than_a_failed_write(rt: HostRuntime) {
+    let alloc = rt.alloc();
+    for (room, steps) in &FAILED {
+        assert!(rt;
+            on_problem(alloc, Kind::Plain, THREE_ALIKE, |problem| {
+                makes_calls_of(alloc, problem, ALL, *room, *steps)
+            })
+        );
+    }
+}
+
+/// The calls of each number of steps. The first level makes a tweak before each of its first two branches, the
+/// second level one where an option is left for it: docs/SEARCH.md.
+const TWEAKED: [[u64; 3]; 6] = [
+    [0, 0, 0],
+    [5, 3, 2],
+    [5, 3, 2],
+    [8, 5, 2],
+    [9, 6, 2],
+    [9, 6, 2],
+];
+
+/// Whether a search of so many steps makes these calls.
+fn is_tweaked(alloc: Global, problem: &Problem, steps: usize, calls: [u64; 3]) -> bool {
+    let [made, undone, at_once] = calls;
+    let wanted = Calls {
+        made,
+        undone,
+        at_once,
+    };
+    calls_of_steps(alloc, problem, steps) == Some(wanted)
 }
 
 #[test]
-fn a_run_searches_no_further_than_its_limit(rt: HostRuntime) -> Result<(), Fail> {
-    let rows: [(Kind, &[u8], u8); 4] = [
-        (Kind::Plain, SEVEN, 1),
-        (Kind::Colours, COLOURED, 1),
-        (Kind::Bounds, TWICE, 3),
-        (Kind::Bounds, ALONE, 4),
-    ];
-    for (kind, text, solutions) in &rows {
-        let problem = problem(rt.alloc(), *kind, text)?;
-        assert!(rt; goes_no_further(rt.alloc(), &problem, *solutions)?);
+fn a_level_undoes_its_tweaks_at_once(rt: HostRuntime) {
+    let alloc = rt.alloc();
+    for (steps, calls) in TWEAKED.iter().enumerate() {
+        assert!(rt;
+            on_problem(alloc, Kind::Bounds, ALONE, |problem| {
+                is_tweaked(alloc, problem, steps, *calls)
+            })
+        );
     }
-    Ok(())
-}
-
-// The text of each of the three solutions has 15 bytes.
-#[test]
-fn a_run_searches_no_further_than_a_failed_write(rt: HostRuntime) -> Result<(), Fail> {
-    let problem = problem(rt.alloc(), Kind::Plain, THREE_ALIKE)?;
-    for (room, steps) in [(0, 1), (14, 1), (15, 2), (29, 2), (30, 3), (44, 3)] {
-        let calls = calls_of_run(rt.alloc(), &problem, ALL, room)?;
-        assert!(rt; calls == calls_of_steps(rt.alloc(), &problem, steps)?);
-    }
-    Ok(())
-}
-
-// The first level makes a tweak before each of its first two branches, the second level one where an option
-// is left for it: docs/SEARCH.md.
-#[test]
-fn a_level_undoes_its_tweaks_at_once(rt: HostRuntime) -> Result<(), Fail> {
-    let problem = problem(rt.alloc(), Kind::Bounds, ALONE)?;
-    let rows: [[u64; 3]; 6] = [
-        [0, 0, 0],
-        [5, 3, 2],
-        [5, 3, 2],
-        [8, 5, 2],
-        [9, 6, 2],
-        [9, 6, 2],
-    ];
-    for (steps, [made, undone, at_once]) in rows.iter().enumerate() {
-        let calls = calls_of_steps(rt.alloc(), &problem, steps)?;
-        assert!(rt; calls.made == *made && calls.undone == *undone && calls.at_once == *at_once);
-    }
-    Ok(())
 }

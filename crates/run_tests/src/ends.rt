@@ -1,7 +1,7 @@
 //! How runs over both keepers end.
+use fixtures::on_one;
 use std::alloc::Global;
-use std::test::Fail;
-use xc_dance::{Links, Lists};
+use xc_dance::{Links, Lists, Memory};
 use xc_input::Problem;
 use xc_list::{End, Tray, Words, run_over};
 use xc_search::most_moves;
@@ -12,15 +12,16 @@ pub const ALL: Words = Words {
     limit: u64::MAX,
 };
 
+/// The end of a run over live lists; None where there is no memory.
 pub fn end_over_lists(
     alloc: Global,
     problem: &Problem,
     words: Words,
     tray: &mut Tray,
-) -> Result<End, Fail> {
-    let lists = Lists::new(alloc, problem, most_moves(problem))?;
+) -> Option<End> {
+    let lists = Lists::new(alloc, problem, most_moves(problem)).ok()?;
     let (_, end) = run_over(alloc, lists, problem, words, tray);
-    Ok(end?)
+    end.ok()
 }
 
 fn run_over_new_links(
@@ -28,28 +29,29 @@ fn run_over_new_links(
     problem: &Problem,
     words: Words,
     tray: &mut Tray,
-) -> Result<(Links, End), Fail> {
-    let links = Links::new(alloc, problem, most_moves(problem))?;
-    let (links, end) = run_over(alloc, links, problem, words, tray);
-    Ok((links, end?))
+) -> Option<(Links, Result<End, Memory>)> {
+    let links = Links::new(alloc, problem, most_moves(problem)).ok()?;
+    Some(run_over(alloc, links, problem, words, tray))
 }
 
-pub fn are_as_built(alloc: Global, problem: &Problem, links: &Links) -> Result<bool, Fail> {
-    let built = Links::new(alloc, problem, 0)?;
-    Ok(links.same(&built))
+pub fn are_as_built(alloc: Global, problem: &Problem, links: &Links) -> bool {
+    on_one(
+        Links::new(alloc, problem, 0).ok(),
+        |built| links.same(built),
+    )
 }
 
-/// The end of a run over linked tables; None where those that come back aren't as built.
+/// The end of a run over linked tables; None where those that come back aren't as built, too.
 pub fn end_over_links(
     alloc: Global,
     problem: &Problem,
     words: Words,
     tray: &mut Tray,
-) -> Result<Option<End>, Fail> {
+) -> Option<End> {
     let (links, end) = run_over_new_links(alloc, problem, words, tray)?;
-    if are_as_built(alloc, problem, &links)? {
-        Ok(Some(end))
+    if are_as_built(alloc, problem, &links) {
+        end.ok()
     } else {
-        Ok(None)
+        None
     }
 }

@@ -18,13 +18,13 @@ fn breaks_off(
     end: End,
 ) -> Result<(), Fail> {
     let begun = listing.get(..room).unwrap_or(listing);
-    for zero in [false, true] {
+    for zero in &[false, true] {
         let row = Row {
             kind: Kind::Plain,
             text,
             words,
             room,
-            zero,
+            zero: *zero,
         };
         gives(alloc, &row, begun, end)?;
     }

@@ -4,7 +4,7 @@ ghost use Rattle.std.specs.Prelude.{◌<◌};
 use crate::ends::{ALL, end_over_links, end_over_lists};
 use fixtures::{
     ALONE, ALONE_LISTING, COLOURED, COLOURED_LISTING, SEVEN, SEVEN_LISTING, THREE_ALIKE,
-    THREE_LISTING, TWICE, TWICE_LISTING, problem,
+    THREE_LISTING, TWICE, TWICE_LISTING, on_one, on_problem,
 };
 use std::alloc::Global;
 use std::test::Fail;
@@ -24,37 +24,25 @@ pub struct Row<'a> {
 }
 
 /// Whether a run over live lists lists this and ends so.
-fn by_lists(
-    alloc: Global,
-    problem: &Problem,
-    row: &Row,
-    listing: &[u8],
-    end: End,
-) -> Result<bool, Fail> {
-    let mut tray = Tray::new(alloc, 1, row.room, row.zero)?;
-    let ended = end_over_lists(alloc, problem, row.words, &mut tray)?;
-    Ok(tray.bytes() == listing && ended == end)
+fn by_lists(alloc: Global, problem: &Problem, row: &Row, listing: &[u8], end: End) -> bool {
+    on_one(Tray::new(alloc, 1, row.room, row.zero).ok(), |tray| {
+        end_over_lists(alloc, problem, row.words, tray) == Some(end) && tray.bytes() == listing
+    })
 }
 
 /// Whether a run over linked tables lists this, ends so, and leaves them as built.
-fn by_links(
-    alloc: Global,
-    problem: &Problem,
-    row: &Row,
-    listing: &[u8],
-    end: End,
-) -> Result<bool, Fail> {
-    let mut tray = Tray::new(alloc, 1, row.room, row.zero)?;
-    let ended = end_over_links(alloc, problem, row.words, &mut tray)?;
-    Ok(tray.bytes() == listing && ended == Some(end))
+fn by_links(alloc: Global, problem: &Problem, row: &Row, listing: &[u8], end: End) -> bool {
+    on_one(Tray::new(alloc, 1, row.room, row.zero).ok(), |tray| {
+        end_over_links(alloc, problem, row.words, tray) == Some(end) && tray.bytes() == listing
+    })
 }
 
 /// Fails unless runs over both keepers list this, end so, and leave linked tables as built.
 pub fn gives(alloc: Global, row: &Row, listing: &[u8], end: End) -> Result<(), Fail> {
-    let problem = problem(alloc, row.kind, row.text)?;
-    if by_lists(alloc, &problem, row, listing, end)?
-        && by_links(alloc, &problem, row, listing, end)?
-    {
+    let given = on_problem(alloc, row.kind, row.text, |problem| {
+        by_lists(alloc, problem, row, listing, end) && by_links(alloc, problem, row, listing, end)
+    });
+    if given {
         Ok(())
     } else {
         Err(Fail::new("another listing or end"))
@@ -86,17 +74,19 @@ fn all(alloc: Global, kind: Kind, text: &[u8], listing: &[u8], count: u64) -> Re
 }
 
 /// Whether a run that makes a keeper of its own lists the cover of seven items.
-fn lists_seven(alloc: Global, tray: &mut Tray) -> Result<bool, Fail> {
-    let problem = problem(alloc, Kind::Plain, SEVEN)?;
-    let end = run(alloc, &problem, ALL, tray);
-    Ok(end == Ok(End::Done(1)) && tray.bytes() == SEVEN_LISTING)
+fn lists_seven(alloc: Global, problem: &Problem, tray: &mut Tray) -> bool {
+    run(alloc, problem, ALL, tray) == Ok(End::Done(1)) && tray.bytes() == SEVEN_LISTING
 }
 
 #[test]
-fn a_run_of_its_own(rt: HostRuntime) -> Result<(), Fail> {
-    let mut tray = Tray::new(rt.alloc(), 3, 100, false)?;
-    assert!(rt; lists_seven(rt.alloc(), &mut tray)?);
-    Ok(())
+fn a_run_of_its_own(rt: HostRuntime) {
+    let alloc = rt.alloc();
+    assert!(rt;
+        on_problem(alloc, Kind::Plain, SEVEN, |problem| {
+            let tray = Tray::new(alloc, 3, 100, false).ok();
+            on_one(tray, |tray| lists_seven(alloc, problem, tray))
+        })
+    );
 }
 
 #[test]
@@ -185,30 +175,22 @@ fn long_names(alloc: Global) -> Result<Vec<u8>, Fail> {
 }
 
 /// What a run lists into a tray that takes so many bytes a write.
-fn listed(alloc: Global, problem: &Problem, step: usize) -> Result<Tray, Fail>
+fn listed(alloc: Global, problem: &Problem, step: usize) -> Option<Tray>
     requires { 0 < step }
 {
-    let mut tray = Tray::new(alloc, step, 1000, false)?;
+    let mut tray = Tray::new(alloc, step, 1000, false).ok()?;
     let _end = end_over_links(alloc, problem, ALL, &mut tray)?;
-    Ok(tray)
-}
-
-fn is_listed(alloc: Global, problem: &Problem, step: usize, listing: &[u8]) -> Result<bool, Fail>
-    requires { 0 < step }
-{
-    let tray = listed(alloc, problem, step)?;
-    Ok(tray.bytes() == listing)
+    Some(tray)
 }
 
 /// Whether the runs list all solutions alike into trays of small and of large steps.
-fn alike_by_each_step(alloc: Global, problem: &Problem) -> Result<bool, Fail> {
-    let small = listed(alloc, problem, 1)?;
-    is_listed(alloc, problem, 1000, small.bytes())
-}
-
-fn are_alike(alloc: Global, text: &[u8]) -> Result<bool, Fail> {
-    let problem = problem(alloc, Kind::Colours, text)?;
-    alike_by_each_step(alloc, &problem)
+fn are_alike(alloc: Global, problem: &Problem) -> bool {
+    on_one(listed(alloc, problem, 1), |small| {
+        on_one(
+            listed(alloc, problem, 1000),
+            |large| large.bytes() == small.bytes(),
+        )
+    })
 }
 
 /// Fails unless the ninth of the ten solutions of these names is listed so, and the tenth of the eleven.
@@ -229,22 +211,42 @@ fn ninth_and_tenth(alloc: Global, text: &[u8]) -> Result<(), Fail> {
 
 #[test]
 fn two_digits(rt: HostRuntime) -> Result<(), Fail> {
-    let text = long_names(rt.alloc())?;
-    assert!(rt; are_alike(rt.alloc(), &text)?);
-    ninth_and_tenth(rt.alloc(), &text)
+    let alloc = rt.alloc();
+    let text = long_names(alloc)?;
+    assert!(rt;
+        on_problem(
+            alloc,
+            Kind::Colours,
+            &text,
+            |problem| are_alike(alloc, problem)
+        )
+    );
+    ninth_and_tenth(alloc, &text)
+}
+
+/// One item in so many options.
+fn all_alike(alloc: Global, options: u32) -> Result<Vec<u8>, Fail> {
+    let mut text = Vec::from_slice(alloc, b"A\n")?;
+    for _ in 0..options {
+        text.extend_from_slice(b"A\n")?;
+    }
+    Ok(text)
 }
 
 #[test]
 fn three_digits(rt: HostRuntime) -> Result<(), Fail> {
-    let alloc = rt.alloc();
-    let mut text = Vec::from_slice(alloc, b"A\n")?;
-    for _ in 0..101 {
-        text.extend_from_slice(b"A\n")?;
-    }
+    let text = all_alike(rt.alloc(), 101)?;
     let words = Words {
         spacing: 50,
         limit: u64::MAX,
     };
     let listing = b"50:\n A (50 of 101)\n100:\n A (100 of 101)\n";
-    asked(alloc, Kind::Plain, &text, words, listing, End::Done(101))
+    asked(
+        rt.alloc(),
+        Kind::Plain,
+        &text,
+        words,
+        listing,
+        End::Done(101),
+    )
 }
