@@ -1,5 +1,5 @@
 //! The search: a stack of levels over a dance.
-ghost use Rattle.std.specs.Prelude.{◌≡◌, ◌<◌, ◌≤◌, [], ◌∷◌, ◌++◌, drop, length, min, IfOk, IfErr};
+ghost use Rattle.std.specs.Prelude.{◌≡◌, ◌<◌, ◌≤◌, [], ◌∷◌, drop, length, min, false, IfOk, IfErr};
 ghost use Rattle.xc_search.specs.Outlook.{shown_after};
 ghost use Rattle.xc_search.specs.Room.{room_for};
 ghost use Rattle.xc_search.specs.Cover.{members, EachMemberCovers, EachCoverIsListedOnce};
@@ -33,6 +33,13 @@ pub enum Step {
 /// as it stands, where its dance may; `close` gives the dance back.
 #[derive(Drop)]
 pub struct Search<'a, D: Dance> {
+    standing: Standing<'a, D>,
+}
+
+/// Where a search stands.
+// It has no model, so that the contract of `passed` names its fields.
+#[derive(Drop)]
+struct Standing<'a, D: Dance> {
     position: Position<'a, D>,
     stack: Stack,
     /// What is left wasn't searched yet.
@@ -47,23 +54,20 @@ impl<'a, D: Dance> Model for Search<'a, D> {
 
     ghost Value = { Outlook };
 
-    ghost view = { λ s. record {
-      puzzle = s.position.puzzle;
-      to_come = behind s.stack.before (coming s.position.puzzle s.position.trail s.stack.levels s.down);
-      shown = s.stack.shown;
-      room = s.position.room;
+    ghost view = { λ s. let at = s.standing in record {
+      puzzle = at.position.puzzle;
+      to_come = behind at.stack.before (coming at.position.puzzle at.position.trail at.stack.levels at.down);
+      shown = at.stack.shown;
+      room = at.position.room;
     } };
 
-    ghost invariant = { λ s. record {
-      standing : IsStanding s.position.puzzle s.position.trail s.stack.levels s.down;
-      levels_fit : most_levels s.position.puzzle ≤ s.stack.room;
+    ghost invariant = { λ s. let at = s.standing in record {
+      standing : IsStanding at.position.puzzle at.position.trail at.stack.levels at.down;
+      levels_fit : most_levels at.position.puzzle ≤ at.stack.room;
     } };
 }
 
 impl<'a, D: Dance> Search<'a, D> {
-    ghost use Rattle.xc_search.specs.inner.Levels.{behind, choices_of, coming, IsStanding};
-    ghost use Rattle.xc_search.specs.inner.MostLevels.{most_levels};
-
     /// Begins a search over a dance that has no moves and room for `2 * items + 2 * uses` of them.
     /// All memory is taken here: where there is none, the dance comes back as it was.
     // Before the first move, so that a search answers `Solution` or `Done` and nothing else, and want of memory means
@@ -87,9 +91,11 @@ impl<'a, D: Dance> Search<'a, D> {
             return Err((dance, Memory));
         };
         Ok(Search {
-            position: Position::new(dance, problem),
-            stack,
-            down: true,
+            standing: Standing {
+                position: Position::new(dance, problem),
+                stack,
+                down: true,
+            },
         })
     }
 
@@ -97,7 +103,7 @@ impl<'a, D: Dance> Search<'a, D> {
     pub fn choices(&self) -> &[Choice]
         ensures { result.now ≡ self.now.shown }
     {
-        self.stack.choices()
+        self.standing.stack.choices()
     }
 
     /// Goes on to the next solution, which `choices` then gives. After `Done` it answers `Done`
@@ -126,24 +132,50 @@ impl<'a, D: Dance> Search<'a, D> {
         if many == 0 {
             return 0;
         }
-        replace_with(self, many, Search::passed)
+        let standing = &mut self.standing;
+        let passed = replace_with(standing, many, Standing::passed);
+        // Shown behind that call, and not in it.
+        if passed < many {
+            standing.stack.show_none();
+        } else {
+            standing.stack.show_whole(&standing.position);
+        }
+        passed
     }
 
-    /// The search after `pass`, beside its answer. It takes the search by value, so that its loop holds
-    /// the bases and lengths of all tables as values of its own: behind a reference each would be
-    /// loaded anew after each write to a table. By itself that took 0.99 of the instructions.
+    /// Undoes every move and gives the dance back, after any answer of `next`.
+    pub fn close(self) -> D
+        ensures { D.state result ≡ record { puzzle = self.entry.puzzle; trail = []; room = self.entry.room } }
+    {
+        let Standing {
+            mut position,
+            stack,
+            down: _,
+        } = self.standing;
+        unwind(&mut position, stack);
+        position.into_dance()
+    }
+}
+
+impl<'a, D: Dance> Standing<'a, D> {
+    ghost use Rattle.xc_search.specs.inner.Ahead.{Passed};
+    ghost use Rattle.xc_search.specs.inner.Levels.{IsStanding};
+    ghost use Rattle.xc_search.specs.inner.MostLevels.{most_levels};
+
+    /// Goes on by so many solutions, or over all where fewer are left, and tells by how many. It takes the search by
+    /// value, so that its loop holds the bases and lengths of all tables as values of its own: behind a reference each
+    /// would be loaded anew after each write to a table. By itself that took 0.99 of the instructions.
     // It holds while no address of the state leaves the loop: what stands out of line there takes slices, and all else
     // asks to be inlined. Together with what follows from it this took 0.90 over thirteen problems.
     #[inline(never)]
-    fn passed(self, many: u64) -> (Search<'a, D>, u64)
+    fn passed(self, many: u64) -> (Standing<'a, D>, u64)
         requires some { 0 < many }
-        ensures went { result.0 ≡ record self.entry {
-          to_come = drop many self.entry.to_come;
-          shown = shown_after many self.entry.to_come self.entry.shown;
-        } }
-        ensures count { result.1 ≡ min many (length self.entry.to_come) }
+        requires standing { IsStanding self.position.puzzle self.position.trail self.stack.levels self.down }
+        requires levels_fit { most_levels self.position.puzzle ≤ self.stack.room }
+        ensures { Passed self.entry.position self.entry.stack self.entry.down many result.1
+            result.0.position result.0.stack result.0.down }
     {
-        let Search {
+        let Standing {
             mut position,
             mut stack,
             mut down,
@@ -152,64 +184,32 @@ impl<'a, D: Dance> Search<'a, D> {
         for passed in 0..many {
             match advance(&mut position, &mut stack, down) {
                 Step::Solution => down = false,
-                Step::Done => return (Search::ended(position, stack), passed),
+                Step::Done => return (Standing::ended(position, stack), passed),
             }
         }
-        (Search::showing(position, stack, down), many)
+        (
+            Standing {
+                position,
+                stack,
+                down,
+            },
+            many,
+        )
     }
 
-    /// A search whose levels stand, and which shows the choices down to the newest.
-    #[inline(always)]
-    fn showing(position: Position<'a, D>, mut stack: Stack, down: bool) -> Search<'a, D>
-        requires standing { IsStanding position.puzzle position.trail stack.levels down }
-        requires levels_fit { most_levels position.puzzle ≤ stack.room }
-        ensures { result ≡ record {
-          puzzle = position.entry.puzzle;
-          to_come = behind stack.before (coming position.entry.puzzle position.entry.trail stack.levels down);
-          shown = stack.before ++ choices_of position.entry.puzzle stack.levels;
-          room = position.entry.room;
-        } }
-    {
-        stack.show_whole(&position);
-        Search {
-            position,
-            stack,
-            down,
-        }
-    }
-
-    /// A search without levels, which has ended and shows nothing.
-    // Out of line, as what shows choices: what is taken into the search's loop must not grow very large.
+    /// Where a search stands that has ended.
+    // Out of line, so that the compiler takes the end for less likely than the steps: else 1.026 of the instructions.
     #[cold]
     #[inline(never)]
-    fn ended(position: Position<'a, D>, mut stack: Stack) -> Search<'a, D>
-        requires none { stack.levels ≡ [] }
-        requires levels_fit { most_levels position.puzzle ≤ stack.room }
-        ensures { result ≡ record {
-          puzzle = position.entry.puzzle;
-          to_come = [];
-          shown = [];
-          room = position.entry.room;
-        } }
+    fn ended(position: Position<'a, D>, stack: Stack) -> Standing<'a, D>
+        ensures position { result.position ≡ position.entry }
+        ensures stack { result.stack ≡ stack }
+        ensures down { result.down ≡ false }
     {
-        stack.show_none();
-        Search {
+        Standing {
             position,
             stack,
             down: false,
         }
-    }
-
-    /// Undoes every move and gives the dance back, after any answer of `next`.
-    pub fn close(self) -> D
-        ensures { D.state result ≡ record { puzzle = self.entry.puzzle; trail = []; room = self.entry.room } }
-    {
-        let Search {
-            mut position,
-            stack,
-            down: _,
-        } = self;
-        unwind(&mut position, stack);
-        position.into_dance()
     }
 }

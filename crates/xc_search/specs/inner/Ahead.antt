@@ -1,11 +1,13 @@
 -- No public clause cites this module. How much work a search has ahead, and what a step of its loop does.
-use Rattle.std.specs.Prelude.{ℕ, zero, suc, ◌+◌, ◌<◌, ◌≡◌, Bool, true, false, List, [], ◌∷◌, drop, Option, Some, None}
+use Rattle.std.specs.Prelude.{ℕ, zero, suc, ◌+◌, ◌<◌, ◌≤◌, ◌≡◌, Bool, true, false, List, [], ◌∷◌, drop, length}
+use Rattle.std.specs.Prelude.{Option, Some, None}
 use Rattle.xc_search.specs.inner.Sizes.{size_of}
 use Rattle.xc_dance.specs.declared.dance.Move.{Move}
 use Rattle.xc_search.specs.declared.level.Level.{Level}
 use Rattle.xc_input.specs.Problem.{Puzzle}
 use Rattle.xc_search.specs.Listing.{Wanted, Residual, Branch, branch_item, branches_of}
 use Rattle.xc_search.specs.inner.Residual.{residual_of}
+use Rattle.xc_search.specs.Outlook.{shown_after}
 use Rattle.xc_dance.specs.Dancing.{Dancing}
 use Rattle.xc_dance.specs.Commits.{option_at}
 use Rattle.xc_search.specs.inner.Commits.{oldest}
@@ -75,3 +77,27 @@ pub record IsDone (d : Dancing) (ls : Levels) (down : Bool) (e : Dancing) (ks : 
   pub still : (e ≡ record d { trail = e.trail }) × (ks ≡ record ls { levels = ks.levels })
   pub ended : ks.levels ≡ []
   pub members : coming d.puzzle d.trail ls.levels down ≡ []
+
+-- It went over n members: the choices of ks are the last of them.
+pub record WentOver (d : Dancing) (ls : Levels) (down : Bool) (n : ℕ) (e : Dancing) (ks : Levels) (below : Bool) : Type
+    0 where
+  pub still : (e ≡ record d { trail = e.trail }) × (ks ≡ record ls { levels = ks.levels })
+  pub standing : IsStanding e.puzzle e.trail ks.levels below
+  pub come : coming e.puzzle e.trail ks.levels below ≡ drop n (coming d.puzzle d.trail ls.levels down)
+  pub shown : choices_of e.puzzle ks.levels ≡ shown_after n (coming d.puzzle d.trail ls.levels down)
+      (choices_of d.puzzle ls.levels)
+  pub within : n ≤ length (coming d.puzzle d.trail ls.levels down)
+
+-- It went over n members, and reached its end.
+pub record WentPast (d : Dancing) (ls : Levels) (down : Bool) (n : ℕ) (e : Dancing) (ks : Levels) : Type 0 where
+  pub still : (e ≡ record d { trail = e.trail }) × (ks ≡ record ls { levels = ks.levels })
+  pub ended : ks.levels ≡ []
+  pub count : n ≡ length (coming d.puzzle d.trail ls.levels down)
+
+-- It was to go over so many members, and went over n.
+pub record Passed (d : Dancing) (ls : Levels) (down : Bool) (many n : ℕ) (e : Dancing) (ks : Levels) (below : Bool) :
+    Type 0 where
+  pub within : n ≤ many
+  pub over : n ≡ many → WentOver d ls down many e ks below
+  pub past : n < many → WentPast d ls down n e ks
+  pub ended : n < many → below ≡ false

@@ -14,7 +14,7 @@ use crate::choice::Choice;
 use crate::counts::most_levels;
 use crate::level::{Level, begin_level};
 use crate::position::Position;
-use crate::search::Search;
+use crate::search::{Search, Standing};
 use crate::stack::Stack;
 use std::alloc::Global;
 use xc_dance::Dance;
@@ -141,9 +141,11 @@ impl<'a, D: Dance> Search<'a, D> {
         }
         match Stack::behind(alloc, most, path) {
             Ok(stack) => Ok(Search {
-                position,
-                stack,
-                down: true,
+                standing: Standing {
+                    position,
+                    stack,
+                    down: true,
+                },
             }),
             Err(_) => Err((give_back(position), PathFault::Memory)),
         }
