@@ -1,5 +1,6 @@
 pub mod BackAtLevel
 pub mod BegunComesFirst
+pub mod CountedOver
 pub mod Depth
 pub mod LoopSteps
 pub mod NextBranch

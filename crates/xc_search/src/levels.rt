@@ -1,15 +1,17 @@
 //! The levels of the search.
-ghost use Rattle.std.specs.Prelude.{◌≡◌, ◌+◌, ◌<◌, ◌≤◌, ◌^◌, List, [], ◌∷◌, true, false, IfSome, IsNone};
+ghost use Rattle.std.specs.Prelude.{◌≡◌, ◌+◌, ◌<◌, ◌≤◌, ◌^◌, List, [], ◌∷◌, true, false, None};
+ghost use Rattle.std.specs.Prelude.{IfSome, IsNone};
 ghost use Rattle.xc_input.specs.Problem.{Puzzle};
 ghost use Rattle.xc_search.specs.inner.MostLevels.{most_levels};
 ghost use Rattle.xc_search.specs.inner.Levels.{AreStacked, IsStanding, IsEntered, begun_level};
 ghost use Rattle.xc_search.specs.inner.Commits.{oldest};
-ghost use Rattle.xc_search.specs.inner.Ahead.{work_left, GoesOn, EntersBranch, IsReached, IsDone, branched};
+ghost use Rattle.xc_search.specs.inner.Ahead.{work_left, GoesOn, EntersBranch, IsDone, branched};
+ghost use Rattle.xc_search.specs.inner.Ahead.{EntersOver, StandsOver, EndsOver};
+ghost use Rattle.xc_search.specs.Residuals.{choice_after};
 ghost use Rattle.xc_search.specs.inner.Paths.{KeepsPath};
 
 use crate::level::{Begun, Level, begin_level};
 use crate::position::Position;
-use crate::search::Step;
 use crate::stack::Stack;
 use xc_dance::Dance;
 
@@ -40,8 +42,8 @@ pub enum Below {
 pub fn deepen<D: Dance>(position: &mut Position<D>, stack: &mut Stack) -> Below
     requires standing { IsStanding position.old.puzzle position.old.trail stack.old.levels true }
     requires levels_fit { most_levels position.old.puzzle ≤ stack.old.room }
-    ensures reached { result ≡ Below.Solution → IsReached position.old stack.old true position.new stack.new }
     ensures same { result ≡ Below.Solution → (position.new ≡ position.old) × (stack.new ≡ stack.old) }
+    ensures solved { result ≡ Below.Solution → choice_after position.old.puzzle position.old.trail ≡ None }
     ensures deeper { (b : Entered) → result ≡ Below.Branch b →
         EntersBranch position.old stack.old true position.new stack.new b.item b.place }
     ensures deeper_path { (b : Entered) → result ≡ Below.Branch b →
@@ -148,22 +150,28 @@ enum Next {
     Nothing,
 }
 
-/// Enters the next branch, a first one where what is left wasn't searched yet (`down`).
+/// Enters the next branch, a first one where what is left has any. A solution is passed over where `more` are to be,
+/// and is one of them.
 #[inline(always)]
-fn go_on<D: Dance>(position: &mut Position<D>, stack: &mut Stack, down: bool) -> Next
-    requires standing { IsStanding position.old.puzzle position.old.trail stack.old.levels down }
+fn go_on<D: Dance>(position: &mut Position<D>, stack: &mut Stack, more: &mut u64) -> Next
+    requires standing { IsStanding position.old.puzzle position.old.trail stack.old.levels true }
     requires levels_fit { most_levels position.old.puzzle ≤ stack.old.room }
     ensures entered { (b : Entered) → result ≡ Next.Branch b →
-        EntersBranch position.old stack.old down position.new stack.new b.item b.place }
+        EntersOver position.old stack.old more.old position.new stack.new more.new b.item b.place }
     ensures near { (b : Entered) → result ≡ Next.Branch b → b.place < 2 ^ 32 }
-    ensures reached { result ≡ Next.Solution → IsReached position.old stack.old down position.new stack.new }
-    ensures done { result ≡ Next.Nothing → IsDone position.old stack.old down position.new stack.new }
+    ensures stands { result ≡ Next.Solution →
+        StandsOver position.old stack.old more.old position.new stack.new more.new }
+    ensures done { result ≡ Next.Nothing →
+        EndsOver position.old stack.old more.old position.new stack.new more.new }
 {
-    if down {
-        match deepen(position, stack) {
-            Below::Branch(entered) => return Next::Branch(entered),
-            Below::Nothing => {}
-            Below::Solution => return Next::Solution,
+    match deepen(position, stack) {
+        Below::Branch(entered) => return Next::Branch(entered),
+        Below::Nothing => {}
+        Below::Solution => {
+            if *more == 0 {
+                return Next::Solution;
+            }
+            *more -= 1;
         }
     }
     match resume(position, stack) {
@@ -172,23 +180,25 @@ fn go_on<D: Dance>(position: &mut Position<D>, stack: &mut Stack, down: bool) ->
     }
 }
 
-/// Goes on to the next solution, or to the end. `down`: what is left wasn't searched yet.
+/// Passes over so many solutions and stands at the next. Where there is none, all levels have ended, and it tells how
+/// many were not there to be passed over. A search that stands at a solution finds that one again, as the first.
+// One loop for all of them, which at each turn first asks for what is below, so that no flag tells whether that was
+// searched: 0.992 of the instructions over thirteen problems.
 // No wish to be inlined: its one call is, and then after what it calls was taken in, which leaves more in registers
 // and took 0.955 of the instructions in the programs as they are built.
-pub fn advance<D: Dance>(position: &mut Position<D>, stack: &mut Stack, down: bool) -> Step
-    requires standing { IsStanding position.old.puzzle position.old.trail stack.old.levels down }
+pub fn advance<D: Dance>(position: &mut Position<D>, stack: &mut Stack, many: u64) -> Option<u64>
+    requires standing { IsStanding position.old.puzzle position.old.trail stack.old.levels true }
     requires levels_fit { most_levels position.old.puzzle ≤ stack.old.room }
-    ensures reached { result ≡ Step.Solution → IsReached position.old stack.old down position.new stack.new }
-    ensures done { result ≡ Step.Done → IsDone position.old stack.old down position.new stack.new }
+    ensures stands { IsNone result → StandsOver position.old stack.old many position.new stack.new 0 }
+    ensures ended { IfSome result (λ more. EndsOver position.old stack.old many position.new stack.new more) }
 {
-    let mut descends = down;
+    let mut more = many;
     loop {
-        match go_on(position, stack, descends) {
+        match go_on(position, stack, &mut more) {
             Next::Branch(entered) => position.commit_branch(entered.item, entered.place as u32),
-            Next::Solution => return Step::Solution,
-            Next::Nothing => return Step::Done,
+            Next::Solution => return None,
+            Next::Nothing => return Some(more),
         }
-        descends = true;
     }
 }
 

@@ -1,5 +1,6 @@
 //! The search: a stack of levels over a dance.
-ghost use Rattle.std.specs.Prelude.{◌≡◌, ◌<◌, ◌≤◌, [], ◌∷◌, drop, length, min, false, IfOk, IfErr};
+ghost use Rattle.std.specs.Prelude.{◌≡◌, ◌≢◌, ◌+◌, ◌<◌, ◌≤◌, [], ◌∷◌, drop, length, min, true, false};
+ghost use Rattle.std.specs.Prelude.{IfOk, IfErr};
 ghost use Rattle.xc_search.specs.Outlook.{shown_after};
 ghost use Rattle.xc_search.specs.Room.{room_for};
 ghost use Rattle.xc_search.specs.Cover.{members, EachMemberCovers, EachCoverIsListedOnce};
@@ -47,8 +48,9 @@ struct Standing<'a, D: Dance> {
 }
 
 impl<'a, D: Dance> Model for Search<'a, D> {
-    ghost use Rattle.std.specs.Prelude.{◌≡◌, ◌≤◌};
+    ghost use Rattle.std.specs.Prelude.{◌≡◌, ◌≢◌, ◌≤◌, [], false};
     ghost use Rattle.xc_search.specs.Outlook.{Outlook};
+    ghost use Rattle.xc_search.specs.inner.Ahead.{IsSolved};
     ghost use Rattle.xc_search.specs.inner.MostLevels.{most_levels};
     ghost use Rattle.xc_search.specs.inner.Levels.{behind, coming, IsStanding};
 
@@ -63,6 +65,7 @@ impl<'a, D: Dance> Model for Search<'a, D> {
 
     ghost invariant = { λ s. let at = s.standing in record {
       standing : IsStanding at.position.puzzle at.position.trail at.stack.levels at.down;
+      solved : at.down ≡ false → at.stack.levels ≢ [] → IsSolved at.position.puzzle at.position.trail at.stack.levels;
       levels_fit : most_levels at.position.puzzle ≤ at.stack.room;
     } };
 }
@@ -133,8 +136,12 @@ impl<'a, D: Dance> Search<'a, D> {
             return 0;
         }
         let standing = &mut self.standing;
+        if standing.has_ended() {
+            standing.stack.show_none();
+            return 0;
+        }
         let passed = replace_with(standing, many, Standing::passed);
-        // Shown behind that call, and not in it.
+        // Shown behind that call, and not in it: so the search isn't handed on by value once more.
         if passed < many {
             standing.stack.show_none();
         } else {
@@ -158,9 +165,18 @@ impl<'a, D: Dance> Search<'a, D> {
 }
 
 impl<'a, D: Dance> Standing<'a, D> {
-    ghost use Rattle.xc_search.specs.inner.Ahead.{Passed};
+    ghost use Rattle.xc_search.specs.inner.Ahead.{Passed, IsSolved};
     ghost use Rattle.xc_search.specs.inner.Levels.{IsStanding};
     ghost use Rattle.xc_search.specs.inner.MostLevels.{most_levels};
+
+    /// Whether no level stands, and what is left was searched.
+    #[inline(always)]
+    fn has_ended(&self) -> bool
+        ensures ended { result ≡ true → (self.now.down ≡ false) × (self.now.stack.levels ≡ []) }
+        ensures goes_on { result ≡ false → self.now.down ≡ false → self.now.stack.levels ≢ [] }
+    {
+        !self.down && self.stack.top().is_none()
+    }
 
     /// Goes on by so many solutions, or over all where fewer are left, and tells by how many. It takes the search by
     /// value, so that its loop holds the bases and lengths of all tables as values of its own: behind a reference each
@@ -170,7 +186,8 @@ impl<'a, D: Dance> Standing<'a, D> {
     #[inline(never)]
     fn passed(self, many: u64) -> (Standing<'a, D>, u64)
         requires some { 0 < many }
-        requires standing { IsStanding self.position.puzzle self.position.trail self.stack.levels self.down }
+        requires standing { IsStanding self.position.puzzle self.position.trail self.stack.levels true }
+        requires solved { self.down ≡ false → IsSolved self.position.puzzle self.position.trail self.stack.levels }
         requires levels_fit { most_levels self.position.puzzle ≤ self.stack.room }
         ensures { Passed self.entry.position self.entry.stack self.entry.down many result.1
             result.0.position result.0.stack result.0.down }
@@ -178,38 +195,33 @@ impl<'a, D: Dance> Standing<'a, D> {
         let Standing {
             mut position,
             mut stack,
-            mut down,
+            down,
         } = self;
-        // Here, round the loop that finds the next solution, and not round this call: 0.98 of the instructions.
-        for passed in 0..many {
-            match advance(&mut position, &mut stack, down) {
-                Step::Solution => down = false,
-                Step::Done => return (Standing::ended(position, stack), passed),
-            }
-        }
+        // Where it stands at a solution, it finds that one again.
+        let more = if down { many - 1 } else { many };
+        let passed = match advance(&mut position, &mut stack, more) {
+            None => many,
+            Some(more) => fewer(many, more),
+        };
         (
             Standing {
                 position,
                 stack,
-                down,
+                down: false,
             },
-            many,
+            passed,
         )
     }
+}
 
-    /// Where a search stands that has ended.
-    // Out of line, so that the compiler takes the end for less likely than the steps: else 1.026 of the instructions.
-    #[cold]
-    #[inline(never)]
-    fn ended(position: Position<'a, D>, stack: Stack) -> Standing<'a, D>
-        ensures position { result.position ≡ position.entry }
-        ensures stack { result.stack ≡ stack }
-        ensures down { result.down ≡ false }
-    {
-        Standing {
-            position,
-            stack,
-            down: false,
-        }
-    }
+/// How many solutions were passed over of `many`, where the search then ended and `more` lacked beside the last.
+// A call for its coldness alone: else the compiler takes a search's end for as likely as a step of its loop, 1.021 of
+// the instructions.
+#[cold]
+#[inline(never)]
+fn fewer(many: u64, more: u64) -> u64
+    requires { more < many }
+    ensures { result + 1 + more ≡ many }
+{
+    many - 1 - more
 }

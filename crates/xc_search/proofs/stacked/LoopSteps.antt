@@ -1,6 +1,6 @@
 -- The steps of the search's loop.
 use Rattle.std.proofs.Common.{ℕ, ◌≡◌, ◌+◌, ◌-◌, ◌<◌, ◌≤◌, Bool, true, false, List, ◌∷◌, length, drop, length-drop, refl}
-use Rattle.std.proofs.Common.{Some, None, sym, ap, ◌∙◌, arith, subst}
+use Rattle.std.proofs.Common.{Some, sym, ap, ◌∙◌, arith, subst}
 use Rattle.std.proofs.lemmas.List.{drop-drop}
 use Rattle.xc_dance.specs.declared.dance.Move.{Move}
 use Rattle.xc_search.specs.declared.level.Level.{Level}
@@ -14,9 +14,9 @@ use Rattle.xc_search.specs.inner.Commits.{oldest}
 use Rattle.xc_search.specs.inner.Levels.{Levels, IsNode, IsLevel, AreStacked, to_give, IsStanding, MayBegin}
 use Rattle.xc_search.specs.inner.Levels.{IsBegun, IsEntered, IsPlace, CanBranch, after_branch, first_level}
 use Rattle.xc_search.specs.inner.Levels.{begun_level, newest_begun}
-use Rattle.xc_search.specs.inner.Ahead.{visits, ahead, GoesOn, EntersBranch, branched, IsReached}
+use Rattle.xc_search.specs.inner.Ahead.{visits, ahead, GoesOn, EntersBranch, branched}
 use Rattle.xc_search.proofs.moves.OldestMoves.{oldest_all}
-use Rattle.xc_search.proofs.stacked.NextLevel.{solution, descended, chosen_item, oldest-oldest}
+use Rattle.xc_search.proofs.stacked.NextLevel.{descended, chosen_item, oldest-oldest}
 use Rattle.xc_search.proofs.stacked.BackAtLevel.{returned, finished, closing}
 use Rattle.xc_search.proofs.stacked.BegunComesFirst.{begun_coming}
 use Rattle.xc_search.proofs.stacked.Depth.{shallower}
@@ -36,15 +36,6 @@ GoesOn-trans d e f ls ks js x y z a b = record {
   standing = b.standing;
   members = a.members ∙ b.members;
 }
-
-pub finds : (d : Dancing) (ls : Levels) → IsStanding d.puzzle d.trail ls.levels true
-    → choice_after d.puzzle d.trail ≡ None → IsReached d ls true d ls
-finds d ls s e =
-    record {
-      still = (refl, refl);
-      stacked = s.stacked;
-      members = solution d.puzzle d.trail ls.levels (s.searchable refl).legal e;
-    }
 
 pub node_at : (p : Puzzle) (t : List Move) (ls : List Level) (i n : ℕ) → IsStanding p t ls true
     → choice_after p t ≡ Some (i, n) → IsNode p t i

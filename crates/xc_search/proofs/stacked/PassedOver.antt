@@ -1,13 +1,17 @@
 -- A search that goes on over many members.
-use Rattle.std.proofs.Common.{ℕ, zero, suc, ◌≡◌, ◌+◌, ◌<◌, ◌≤◌, Bool, false, List, [], ◌∷◌, ◌++◌, length, drop, min}
-use Rattle.std.proofs.Common.{refl, sym, ap, ap₂, ◌∙◌, arith}
+use Rattle.std.proofs.Common.{ℕ, zero, suc, ◌≡◌, ◌+◌, ◌<◌, ◌≤◌, Bool, true, false, List, [], ◌∷◌, ◌++◌, length, drop}
+use Rattle.std.proofs.Common.{min, refl, sym, ap, ap₂, ◌∙◌, arith, subst}
 use Rattle.std.proofs.lemmas.Grind.{common_steps}
 use Rattle.std.proofs.lemmas.List.{drop-map, length-map}
 use Rattle.xc_search.specs.declared.choice.Choice.{Choice}
 use Rattle.xc_dance.specs.Dancing.{Dancing}
 use Rattle.xc_search.specs.Outlook.{Outlook, shown_after}
+use Rattle.xc_input.specs.Problem.{Puzzle}
+use Rattle.xc_dance.specs.declared.dance.Move.{Move}
+use Rattle.xc_search.specs.declared.level.Level.{Level}
 use Rattle.xc_search.specs.inner.Levels.{Levels, coming, behind, choices_of}
-use Rattle.xc_search.specs.inner.Ahead.{IsReached, IsDone, WentOver, WentPast}
+use Rattle.xc_search.specs.inner.Ahead.{IsSolved, StandsOver, EndsOver, WentOver, WentPast}
+use Rattle.xc_search.proofs.stacked.NextLevel.{solution}
 
 rest_behind : {X : Type 0} (n : ℕ) (ms : List X) (m : X) (rest : List X) → drop n ms ≡ m ∷ rest → rest ≡ drop (n + 1) ms
 rest_behind zero [] m rest e = absurd (cc e)
@@ -47,7 +51,8 @@ shown_past (suc n) [] s h = refl
 shown_past zero (x ∷ ms) s h = absurd (omega (arith, h))
 shown_past (suc n) (x ∷ ms) s h = shown_past n ms x (omega (arith, h))
 
-then_still : (d e f : Dancing) (ls ks js : Levels) → (e ≡ record d { trail = e.trail })
+-- what stays over two steps
+pub then_still : (d e f : Dancing) (ls ks js : Levels) → (e ≡ record d { trail = e.trail })
     × (ks ≡ record ls { levels = ks.levels }) →
     (f ≡ record e { trail = f.trail }) × (js ≡ record ks { levels = js.levels }) → (f ≡ record d { trail = f.trail })
     × (js ≡ record ls { levels = js.levels })
@@ -57,27 +62,63 @@ then_still d e f ls ks js a b = (
       ∙ ap (λ (s : Levels). record s { levels = js.levels }) a.1,
 )
 
-pub went_on : (d e f : Dancing) (ls ks js : Levels) (down below : Bool) (n : ℕ) → WentOver d ls down n e ks below
-    → IsReached e ks below f js → WentOver d ls down (n + 1) f js false
-went_on d e f ls ks js down below n a r =
+-- it stands at the member behind the first n
+pub went_to : (d e : Dancing) (ls ks : Levels) (down : Bool) (n : ℕ) → (e ≡ record d { trail = e.trail })
+    × (ks ≡ record ls { levels = ks.levels }) → IsSolved e.puzzle e.trail ks.levels →
+    drop n (coming d.puzzle d.trail ls.levels down) ≡ coming e.puzzle e.trail ks.levels true
+    → WentOver d ls down (n + 1) e ks
+went_to d e ls ks down n still at come =
     let ms = coming d.puzzle d.trail ls.levels down in
-    let next = sym a.come ∙ r.members in
+    let next = come ∙ solution e.puzzle e.trail ks.levels (at.standing.searchable refl).legal at.none in
     record {
-      still = then_still d e f ls ks js a.still r.still;
-      standing = record { stacked = r.stacked; searchable = λ h. cc; shallow = λ h. cc };
+      still = still;
+      solved = at;
       come = rest_behind n ms _ _ next;
       shown = shown_next n ms (choices_of d.puzzle ls.levels) _ _ next;
       within = omega (arith, within_behind n ms _ _ next);
     }
 
+-- The search stands at a solution where what is left was searched: it finds that one again, and passes over one more.
+pub record HasToPass (p : Puzzle) (t : List Move) (ls : List Level) (down : Bool) (many more : ℕ) : Type 0 where
+  pub first : down ≡ true → many ≡ more + 1
+  pub again : down ≡ false → (many ≡ more) × IsSolved p t ls
+
+-- and does so
+pub went_over : (d e : Dancing) (ls ks : Levels) (down : Bool) (many more : ℕ) → 0 < many
+    → HasToPass d.puzzle d.trail ls.levels down many more → StandsOver d ls more e ks 0 → WentOver d ls down many e ks
+went_over d e ls ks true many more some has at =
+    subst (λ n. WentOver d ls true n e ks) (sym (has.first refl))
+    (went_to d e ls ks true more at.over.still at.solved at.over.members)
+went_over d e ls ks false many more some has at = by_many many refl
+  where
+    by_many : (n : ℕ) → many ≡ n → WentOver d ls false many e ks
+    by_many zero h = absurd (omega (arith, some, h))
+    by_many (suc n) h =
+        let was = (has.again refl).1 in
+        let found = solution d.puzzle d.trail ls.levels (was.standing.searchable refl).legal was.none in
+        let ms = coming d.puzzle d.trail ls.levels true in
+        let over : drop n (coming d.puzzle d.trail ls.levels false) ≡ drop more ms =
+        ap (drop (suc n)) (sym found) ∙ ap (λ n. drop n ms) (sym h ∙ (has.again refl).0) in
+        let all : n + 1 ≡ many = omega (arith, h) in
+        subst (λ n. WentOver d ls false n e ks) all
+        (went_to d e ls ks false n at.over.still at.solved (over ∙ at.over.members))
+
 -- there were no more
-pub went_past : (d e f : Dancing) (ls ks js : Levels) (down below : Bool) (n : ℕ) → WentOver d ls down n e ks below
-    → IsDone e ks below f js → WentPast d ls down n f js
-went_past d e f ls ks js down below n a r = record {
-  still = then_still d e f ls ks js a.still r.still;
-  ended = r.ended;
-  count = all_behind n (coming d.puzzle d.trail ls.levels down) (sym a.come ∙ r.members) a.within;
-}
+pub went_past : (d e : Dancing) (ls ks : Levels) (down : Bool) (many more n lacks : ℕ)
+    → HasToPass d.puzzle d.trail ls.levels down many more → EndsOver d ls more e ks lacks →
+    (lacks < many) × (n + 1 + lacks ≡ many → WentPast d ls down n e ks)
+went_past d e ls ks true many more n lacks has ends =
+    let first = has.first refl in (
+      omega (arith, first, ends.count),
+      λ h. record { still = ends.still; ended = ends.ended; count = omega (arith, h, first, ends.count) },
+    )
+went_past d e ls ks false many more n lacks has ends =
+    let again = has.again refl in
+    let found =
+    ap length (solution d.puzzle d.trail ls.levels (again.1.standing.searchable refl).legal again.1.none) in (
+      omega (arith, again.0, found, ends.count),
+      λ h. record { still = ends.still; ended = ends.ended; count = omega (arith, h, again.0, found, ends.count) },
+    )
 
 -- a member is shown behind the choices before it
 shown_behind : (n : ℕ) (before : List Choice) (ms : List (List Choice)) (s t : List Choice) → 0 < n → n ≤ length ms →
@@ -92,8 +133,8 @@ abbrev outlook : List (List Choice) → List Choice → Dancing → Outlook
 outlook ms m s = record { puzzle = s.puzzle; to_come = ms; shown = m; room = s.room }
 
 -- what the search then stands for
-pub outlook_over : (d e : Dancing) (ls ks : Levels) (down below : Bool) (n : ℕ) (o : Outlook) → 0 < n →
-    WentOver d ls down n e ks below →
+pub outlook_over : (d e : Dancing) (ls ks : Levels) (down : Bool) (n : ℕ) (o : Outlook) → 0 < n →
+    WentOver d ls down n e ks →
     record {
       puzzle = d.puzzle;
       to_come = behind ls.before (coming d.puzzle d.trail ls.levels down);
@@ -102,15 +143,15 @@ pub outlook_over : (d e : Dancing) (ls ks : Levels) (down below : Bool) (n : ℕ
     } ≡ o →
     record {
       puzzle = e.puzzle;
-      to_come = behind ks.before (coming e.puzzle e.trail ks.levels below);
+      to_come = behind ks.before (coming e.puzzle e.trail ks.levels false);
       shown = ks.before ++ choices_of e.puzzle ks.levels;
       room = e.room;
     }
     ≡ record o { to_come = drop n o.to_come; shown = shown_after n o.to_come o.shown }
-outlook_over d e ls ks down below n o some w is =
+outlook_over d e ls ks down n o some w is =
     let ms = coming d.puzzle d.trail ls.levels down in
     let same : ks.before ≡ ls.before = ap (λ (s : Levels). s.before) w.still.1 in
-    ap (λ before. outlook (behind before (coming e.puzzle e.trail ks.levels below))
+    ap (λ before. outlook (behind before (coming e.puzzle e.trail ks.levels false))
     (before ++ choices_of e.puzzle ks.levels) e) same
     ∙ ap₂ (λ ms m. outlook (behind ls.before ms) (ls.before ++ m) e) w.come w.shown
     ∙ ap₂ (λ ms m. outlook ms m e) (sym (drop-map (λ m. ls.before ++ m) n ms))

@@ -8,10 +8,11 @@ use Rattle.xc_input.specs.Problem.{Puzzle}
 use Rattle.xc_search.specs.Listing.{Wanted, Residual, Branch, branch_item, branches_of}
 use Rattle.xc_search.specs.inner.Residual.{residual_of}
 use Rattle.xc_search.specs.Outlook.{shown_after}
+use Rattle.xc_search.specs.Residuals.{choice_after}
 use Rattle.xc_dance.specs.Dancing.{Dancing}
 use Rattle.xc_dance.specs.Commits.{option_at}
 use Rattle.xc_search.specs.inner.Commits.{oldest}
-use Rattle.xc_search.specs.inner.Levels.{Levels, AreStacked, IsStanding, coming, choices_of, to_give, branches_at}
+use Rattle.xc_search.specs.inner.Levels.{Levels, IsStanding, coming, choices_of, branches_at}
 use Rattle.xc_search.specs.inner.Levels.{IsPlace, CanBranch, after_branch}
 
 -- the work of these branches, each by the work of what it leaves
@@ -65,25 +66,48 @@ pub record EntersBranch (d : Dancing) (ls : Levels) (down : Bool) (e : Dancing) 
   pub goes_on : GoesOn d ls down (branched e i q) ks true
   pub less : work_left (branched e i q) ks true < work_left d ls down
 
--- It reached a solution: the choices of ks are the next member.
-pub record IsReached (d : Dancing) (ls : Levels) (down : Bool) (e : Dancing) (ks : Levels) : Type 0 where
-  pub still : (e ≡ record d { trail = e.trail }) × (ks ≡ record ls { levels = ks.levels })
-  pub stacked : AreStacked e.puzzle e.trail ks.levels
-  pub members : coming d.puzzle d.trail ls.levels down ≡ choices_of e.puzzle ks.levels ∷ to_give e.puzzle e.trail
-      ks.levels
-
 -- It reached its end: nothing was left.
 pub record IsDone (d : Dancing) (ls : Levels) (down : Bool) (e : Dancing) (ks : Levels) : Type 0 where
   pub still : (e ≡ record d { trail = e.trail }) × (ks ≡ record ls { levels = ks.levels })
   pub ended : ks.levels ≡ []
   pub members : coming d.puzzle d.trail ls.levels down ≡ []
 
--- It went over n members: the choices of ks are the last of them.
-pub record WentOver (d : Dancing) (ls : Levels) (down : Bool) (n : ℕ) (e : Dancing) (ks : Levels) (below : Bool) : Type
-    0 where
+-- a solution is left: the choices of the levels are a member
+pub record IsSolved (p : Puzzle) (t : List Move) (ls : List Level) : Type 0 where
+  pub standing : IsStanding p t ls true
+  pub none : choice_after p t ≡ None
+
+-- It was to pass over m members, what is left first, and is still to pass over n of them.
+pub record GoesOver (d : Dancing) (ls : Levels) (m : ℕ) (e : Dancing) (ks : Levels) (n : ℕ) : Type 0 where
   pub still : (e ≡ record d { trail = e.trail }) × (ks ≡ record ls { levels = ks.levels })
-  pub standing : IsStanding e.puzzle e.trail ks.levels below
-  pub come : coming e.puzzle e.trail ks.levels below ≡ drop n (coming d.puzzle d.trail ls.levels down)
+  pub standing : IsStanding e.puzzle e.trail ks.levels true
+  pub members : drop m (coming d.puzzle d.trail ls.levels true) ≡ drop n (coming e.puzzle e.trail ks.levels true)
+  pub count : m + length (coming e.puzzle e.trail ks.levels true) ≡ n + length (coming d.puzzle d.trail ls.levels true)
+
+-- It entered a branch, whose moves are still to be made.
+pub record EntersOver (d : Dancing) (ls : Levels) (m : ℕ) (e : Dancing) (ks : Levels) (n i q : ℕ) : Type 0 where
+  pub can : CanBranch e.puzzle i (option_at e.puzzle i q) e.trail
+  pub place : IsPlace e.puzzle i q
+  pub over : GoesOver d ls m (branched e i q) ks n
+  pub less : work_left (branched e i q) ks true < work_left d ls true
+
+-- It passed over all, and stands at the next.
+pub record StandsOver (d : Dancing) (ls : Levels) (m : ℕ) (e : Dancing) (ks : Levels) (n : ℕ) : Type 0 where
+  pub over : GoesOver d ls m e ks n
+  pub none : n ≡ 0
+  pub solved : IsSolved e.puzzle e.trail ks.levels
+
+-- It reached its end: so many were not there.
+pub record EndsOver (d : Dancing) (ls : Levels) (m : ℕ) (e : Dancing) (ks : Levels) (n : ℕ) : Type 0 where
+  pub still : (e ≡ record d { trail = e.trail }) × (ks ≡ record ls { levels = ks.levels })
+  pub ended : ks.levels ≡ []
+  pub count : m ≡ n + length (coming d.puzzle d.trail ls.levels true)
+
+-- It went over n members: the choices of ks are the last of them.
+pub record WentOver (d : Dancing) (ls : Levels) (down : Bool) (n : ℕ) (e : Dancing) (ks : Levels) : Type 0 where
+  pub still : (e ≡ record d { trail = e.trail }) × (ks ≡ record ls { levels = ks.levels })
+  pub solved : IsSolved e.puzzle e.trail ks.levels
+  pub come : coming e.puzzle e.trail ks.levels false ≡ drop n (coming d.puzzle d.trail ls.levels down)
   pub shown : choices_of e.puzzle ks.levels ≡ shown_after n (coming d.puzzle d.trail ls.levels down)
       (choices_of d.puzzle ls.levels)
   pub within : n ≤ length (coming d.puzzle d.trail ls.levels down)
@@ -94,10 +118,10 @@ pub record WentPast (d : Dancing) (ls : Levels) (down : Bool) (n : ℕ) (e : Dan
   pub ended : ks.levels ≡ []
   pub count : n ≡ length (coming d.puzzle d.trail ls.levels down)
 
--- It was to go over so many members, and went over n.
+-- It was to go over so many members, and went over n. What is left was searched then.
 pub record Passed (d : Dancing) (ls : Levels) (down : Bool) (many n : ℕ) (e : Dancing) (ks : Levels) (below : Bool) :
     Type 0 where
   pub within : n ≤ many
-  pub over : n ≡ many → WentOver d ls down many e ks below
+  pub over : n ≡ many → WentOver d ls down many e ks
   pub past : n < many → WentPast d ls down n e ks
-  pub ended : n < many → below ≡ false
+  pub searched : below ≡ false

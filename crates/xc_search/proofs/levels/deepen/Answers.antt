@@ -1,4 +1,4 @@
-use Rattle.std.proofs.Common.{arith, ◌≡◌, ◌<◌, ◌∙◌, None, Some, true, false, refl, sym, ap, subst, ◌+◌}
+use Rattle.std.proofs.Common.{arith, ◌≡◌, ◌<◌, ◌∙◌, Some, true, false, refl, sym, ap, subst, ◌+◌}
 use Rattle.xc_search.specs.declared.level.Level.{Level}
 use Rattle.xc_search.specs.Residuals.{choice_after}
 use Rattle.xc_search.specs.inner.Ahead.{GoesOn, EntersBranch, branched, visits, ahead}
@@ -8,7 +8,7 @@ use Rattle.xc_search.specs.declared.levels.Below.TheVariants.{Branch}
 use Rattle.xc_search.proofs.paths.Led.{keeps_first, keeps_over}
 use Rattle.xc_search.proofs.stacked.Depth.{depth_at}
 use Rattle.xc_search.proofs.stacked.NextLevel.{chosen_item}
-use Rattle.xc_search.proofs.stacked.LoopSteps.{finds, node_at, with_level, begins_at, may_enter, enters_first}
+use Rattle.xc_search.proofs.stacked.LoopSteps.{node_at, with_level, begins_at, may_enter, enters_first}
 use Rattle.xc_search.proofs.stacked.LoopSteps.{passes_over}
 use Rattle.xc_search.proofs.levels.deepen.Goals as goal
 use Rattle.xc_search.proofs.levels.deepen.Goals.{In-Some, After-undo_to, After-push}
@@ -17,11 +17,8 @@ chose : (g : _) (c : In-Some g)
     → choice_after c.args.position.now.puzzle c.args.position.now.trail ≡ Some (c.in-Some.item, c.in-Some.count)
 chose g c = cc (c.choose.ensures.choice, c.in-Some.is)
 
-pub returns-in_default-clause-reached : goal.returns-in_default-clause-reached
-returns-in_default-clause-reached g c _ =
-    let none : choice_after c.args.position.now.puzzle c.args.position.now.trail ≡ None =
-    cc (c.choose.ensures.choice, c.in_default.is) in
-    finds c.args.position.now c.args.stack.now c.requires.standing none
+pub returns-in_default-clause-solved : goal.returns-in_default-clause-solved
+returns-in_default-clause-solved g c _ = cc (c.choose.ensures.choice, c.in_default.is)
 
 pub descend-level-requires-clause-node : goal.descend-level-requires-clause-node
 descend-level-requires-clause-node g c =

@@ -34,6 +34,7 @@ invariant_of-result g c =
       standing =
           down_standing e.puzzle c.args.numbers.now c.go_down.new.path.items e.trail c.in-Ok-behind.stack.levels
           (here g at) (ap (λ (s : Levels). s.levels) stack);
+      solved = λ h. cc;
       levels_fit = omega (
         arith,
         c.most_levels-most.ensures.value,

@@ -18,6 +18,7 @@ invariant_of-result g c = record {
       (starts_standing (g.D.Dance.state c.args.dance).puzzle (g.D.Dance.state c.args.dance).trail c.in-Ok.stack.levels
       (subst IsValid (sym c.requires.same) c.most_levels-most.ensures.valid) c.requires.none
       (ap (λ (s : Levels). s.levels) c.in-Ok.ensures));
+  solved = λ h. cc;
   levels_fit =
       omega (
         arith,

@@ -10,7 +10,7 @@ show_whole-requires g c =
     let all : c.replace_with-passed.result ≡ c.args.many =
     omega (arith, c.if-passed-many.false, c.replace_with-passed.ensures.within) in
     all_shown at.position.puzzle at.position.trail at.stack.levels
-    (c.replace_with-passed.ensures.over all).standing.stacked
+    (c.replace_with-passed.ensures.over all).solved.standing.stacked
 
 pub returns-clause-went : goal.returns-clause-went
 returns-clause-went g c =
@@ -21,12 +21,12 @@ returns-clause-went g c =
     elim c.if-passed-many.branch [
       | then-passed-many w ↦
           let less : passed < c.args.many = w.if-passed-many.true in
-          rw (w.self-inside-is, w.show_none.ensures, did.ended less)
+          rw (w.self-inside-is, w.show_none-then-passed-many.ensures, did.searched)
           (outlook_past was.position at.position was.stack at.stack was.down passed c.args.many c.args.self.now
           (did.past less) less c.self.view_is).0
       | else-passed-many w ↦
           let all : passed ≡ c.args.many = omega (arith, w.if-passed-many.false, did.within) in
-          rw (w.self-inside-is, w.show_whole.ensures)
-          (outlook_over was.position at.position was.stack at.stack was.down at.down c.args.many c.args.self.now
+          rw (w.self-inside-is, w.show_whole.ensures, did.searched)
+          (outlook_over was.position at.position was.stack at.stack was.down c.args.many c.args.self.now
           (omega (arith, c.if-many-eq0.false)) (did.over all) c.self.view_is)
     ]

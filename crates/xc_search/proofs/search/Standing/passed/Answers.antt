@@ -1,34 +1,50 @@
-use Rattle.std.proofs.Common.{◌≡◌, arith, subst}
-use Rattle.xc_search.specs.inner.Ahead.{WentOver}
-use Rattle.xc_search.proofs.stacked.PassedOver.{went_on, went_past}
+use Rattle.std.proofs.Common.{◌≡◌, ◌+◌, arith, sym, refl}
+use Rattle.xc_search.proofs.stacked.PassedOver.{HasToPass, went_over, went_past}
 use Rattle.xc_search.proofs.search.Standing.passed.Goals as goal
+use Rattle.xc_search.proofs.search.Standing.passed.Goals.{then-down, else-down, in-None, in-Some, Joined-down}
 
-pub returns-in-Done : goal.returns-in-Done
-returns-in-Done g c = record {
-  within = omega (arith, c.loop-passed-test.true);
-  over = λ all. absurd (omega (arith, all, c.loop-passed-test.true));
-  past = λ less. rw (c.ended.ensures.position, c.ended.ensures.stack)
-      (went_past c.args.self.position c.loop-passed.position c.advance.new.position c.args.self.stack
-      c.loop-passed.stack c.advance.new.stack c.args.self.down c.loop-passed.down c.loop-passed.passed
-      c.loop-passed.invariant (c.advance.ensures.done c.in-Done.is));
-  ended = λ less. c.ended.ensures.down;
-}
+has : (g : _) (c : Joined-down g) → HasToPass c.args.self.position.puzzle c.args.self.position.trail
+    c.args.self.stack.levels c.args.self.down c.args.many c.if-down.more
+has g c =
+    elim c.if-down.branch [
+      | then-down w ↦ record {
+        first = λ _. omega (arith, w.more-is, c.requires.some);
+        again = λ h. absurd (cc (h, w.if-down.true));
+      }
+      | else-down w ↦ record {
+        first = λ h. absurd (cc (h, w.if-down.false));
+        again = λ h. (sym w.more-is, c.requires.solved h);
+      }
+    ]
 
-pub loop-passed-preserved : goal.loop-passed-preserved
-loop-passed-preserved g c =
-    went_on c.args.self.position c.loop-passed.position c.advance.new.position c.args.self.stack c.loop-passed.stack
-    c.advance.new.stack c.args.self.down c.loop-passed.down c.loop-passed.passed c.loop-passed.invariant
-    (c.advance.ensures.reached c.in-Solution.is)
+pub fewer-passed-requires : goal.fewer-passed-requires
+fewer-passed-requires g c =
+    let s = c.args.self in
+    let has = has g (goal.at.fewer-passed-requires g c).Joined-down in
+    (went_past s.position c.advance.new.position s.stack c.advance.new.stack s.down c.args.many c.if-down.more 0
+    c.in-Some.more has c.in-Some.ensures.ended).0
 
 pub returns : goal.returns
 returns g c =
-    let end : c.loop-passed.passed ≡ c.args.many =
-    omega (arith, c.loop-passed.auto.passed-end, c.loop-passed-test.false) in
-    record {
-      within = omega arith;
-      over = λ _. subst
-          (λ n. WentOver c.args.self.position c.args.self.stack c.args.self.down n c.loop-passed.position
-          c.loop-passed.stack c.loop-passed.down) end c.loop-passed.invariant;
-      past = λ less. absurd (omega (arith, less));
-      ended = λ less. absurd (omega (arith, less));
-    }
+    let s = c.args.self in
+    let has = has g (goal.at.returns g c).Joined-down in
+    elim c.match-advance.branch [
+      | in-None w ↦ record {
+        within = omega (arith, w.passed-is);
+        over = λ _. went_over s.position c.advance.new.position s.stack c.advance.new.stack s.down c.args.many
+            c.if-down.more c.requires.some has (w.in-None.ensures.stands refl);
+        past = λ less. absurd (omega (arith, less, w.passed-is));
+        searched = refl;
+      }
+      | in-Some w ↦
+          let past = went_past s.position c.advance.new.position s.stack c.advance.new.stack s.down c.args.many
+          c.if-down.more c.match-advance.passed w.in-Some.more has w.in-Some.ensures.ended in
+          let count : c.match-advance.passed + 1 + w.in-Some.more ≡ c.args.many =
+          omega (arith, w.passed-is, w.fewer-passed.ensures) in
+          record {
+            within = omega (arith, count);
+            over = λ all. absurd (omega (arith, all, count));
+            past = λ _. past.1 count;
+            searched = refl;
+          }
+    ]
