@@ -61,7 +61,7 @@ pub fn choose_next<D: Dance>(dance: &D, problem: &Problem, once: bool) -> Option
 
 /// The number of branches of an open item; if `once`, it is to be held exactly once more.
 #[inline(always)]
-fn count<D: Dance>(dance: &D, problem: &Problem, i: u32, once: bool) -> u32
+fn branches_of<D: Dance>(dance: &D, problem: &Problem, i: u32, once: bool) -> u32
     requires same { (D.state dance.now).puzzle ≡ problem.now.puzzle }
     requires open { IsOpenPrimary problem.now.puzzle (D.state dance.now).trail i }
     requires once { once ≡ true → low_at problem.now.puzzle i - spends i (D.state dance.now).trail ≡ 1 }
@@ -87,13 +87,13 @@ fn choose_by<D: Dance>(dance: &D, problem: &Problem, once: bool) -> Option<(u32,
     ensures few { IfSome result (λ c. c.1 < 2 ^ 32) }
 {
     let mut item = dance.open_after(0)?;
-    let mut fewest = count(dance, problem, item, once);
+    let mut fewest = branches_of(dance, problem, item, once);
     let mut at = item;
     while fewest > 0 {
         let Some(next) = dance.open_after(at) else {
             return Some((item, fewest as usize));
         };
-        let n = count(dance, problem, next, once);
+        let n = branches_of(dance, problem, next, once);
         if n < fewest {
             item = next;
             fewest = n;

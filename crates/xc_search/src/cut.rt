@@ -33,7 +33,7 @@ pub enum Cutting {
 /// How long a part's search may be. With 20,000 nodes for both, the 6 by 10 pentominoes fall into 668 parts, the
 /// greatest 3.9 times the mean; with 2,048 and 10,000 into 1,159, the greatest 40 times.
 #[derive(Clone, Copy)]
-struct Bounds {
+struct Allowance {
     /// So many nodes a trial visits.
     budget: u64,
     /// So many nodes a part is judged to have at most.
@@ -155,7 +155,7 @@ impl<'a, D: Dance> Cut<'a, D> {
             &mut self.stack,
             &mut self.trial,
             self.down,
-            Bounds { budget, size },
+            Allowance { budget, size },
         );
         self.stack.show(&self.position);
         self.down = false;
@@ -183,7 +183,7 @@ fn next_part<D: Dance>(
     stack: &mut Stack,
     trial: &mut Stack,
     down: bool,
-    bounds: Bounds,
+    allowed: Allowance,
 ) -> Cutting
     requires standing { IsStanding position.old.puzzle position.old.trail stack.old.levels down }
     requires levels_fit { most_levels position.old.puzzle ≤ stack.old.room }
@@ -198,7 +198,7 @@ fn next_part<D: Dance>(
     let mut descends = down;
     loop {
         if descends {
-            match settle(position, stack, trial, bounds) {
+            match settle(position, stack, trial, allowed) {
                 Settled::Opened => continue,
                 Settled::Barren => {}
                 Settled::Part => return Cutting::Part,
@@ -216,7 +216,7 @@ fn settle<D: Dance>(
     position: &mut Position<D>,
     stack: &mut Stack,
     trial: &mut Stack,
-    bounds: Bounds,
+    allowed: Allowance,
 ) -> Settled
     requires standing { IsStanding position.old.puzzle position.old.trail stack.old.levels true }
     requires levels_fit { most_levels position.old.puzzle ≤ stack.old.room }
@@ -232,11 +232,11 @@ fn settle<D: Dance>(
     ensures path { KeepsPath position.old stack.old position.new stack.new }
     ensures trial { trial.new ≡ trial.old }
 {
-    match try_node(position, trial, bounds.budget) {
+    match try_node(position, trial, allowed.budget) {
         Trial::Barren => Settled::Barren,
         Trial::Ended => Settled::Part,
         Trial::Unended(nodes) => {
-            if nodes <= bounds.size {
+            if nodes <= allowed.size {
                 Settled::Part
             } else {
                 open_node(position, stack)

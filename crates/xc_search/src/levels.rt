@@ -127,7 +127,7 @@ pub fn resume<D: Dance>(position: &mut Position<D>, stack: &mut Stack) -> Option
         if level.begun < level.count {
             let item = level.item;
             let branch = enter_next(position, level);
-            stack.begin(branch);
+            stack.note_branch(branch);
             return Some(Entered {
                 item,
                 place: branch.place as usize,

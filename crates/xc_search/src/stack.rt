@@ -88,7 +88,7 @@ impl Stack {
 
     /// Notes the branch that the newest level began, where the level stands.
     #[inline(always)]
-    pub fn begin(&mut self, branch: Begun)
+    pub fn note_branch(&mut self, branch: Begun)
         requires { 0 < length self.old.levels }
         ensures { self.new ≡ record self.old { levels = newest_begun branch self.old.levels } }
     {

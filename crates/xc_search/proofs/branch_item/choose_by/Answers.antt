@@ -19,13 +19,13 @@ returns-in_err-item-clause-choice g c =
     c.from_residual.ensures ∙ sym
     (choice_none c.args.problem.now.puzzle (g.D.Dance.state c.args.dance.now).trail (cc (c.in_err-item.ensures)))
 
-pub count-fewest-requires-clause-open : goal.count-fewest-requires-clause-open
-count-fewest-requires-clause-open g c =
+pub branches_of-fewest-requires-clause-open : goal.branches_of-fewest-requires-clause-open
+branches_of-fewest-requires-clause-open g c =
     next_open c.args.problem.now.puzzle (g.D.Dance.state c.args.dance.now).trail 0 c.in_ok-item.item
     (cc (c.in_ok-item.ensures))
 
-pub count-fewest-requires-clause-once : goal.count-fewest-requires-clause-once
-count-fewest-requires-clause-once g c h =
+pub branches_of-fewest-requires-clause-once : goal.branches_of-fewest-requires-clause-once
+branches_of-fewest-requires-clause-once g c h =
     let p = c.args.problem.now.puzzle in
     let t = (g.D.Dance.state c.args.dance.now).trail in
     once_more p t c.in_ok-item.item (c.requires.once h) (next_open p t 0 c.in_ok-item.item (cc (c.in_ok-item.ensures)))
@@ -37,17 +37,17 @@ loop-fewest-init g c =
     let e : next_above 0 (open_items p t) ≡ Some c.in_ok-item.item = cc (c.in_ok-item.ensures) in
     record {
       at_open = next_open p t 0 c.in_ok-item.item e;
-      counted = c.count-fewest.ensures;
+      counted = c.branches_of-fewest.ensures;
       best = choice_first p t c.in_ok-item.item e;
     }
 
-pub count-n-requires-clause-open : goal.count-n-requires-clause-open
-count-n-requires-clause-open g c =
+pub branches_of-n-requires-clause-open : goal.branches_of-n-requires-clause-open
+branches_of-n-requires-clause-open g c =
     next_open c.args.problem.now.puzzle (g.D.Dance.state c.args.dance.now).trail c.loop-fewest.at c.in-Some.next
     (cc (c.in-Some.ensures))
 
-pub count-n-requires-clause-once : goal.count-n-requires-clause-once
-count-n-requires-clause-once g c h =
+pub branches_of-n-requires-clause-once : goal.branches_of-n-requires-clause-once
+branches_of-n-requires-clause-once g c h =
     let p = c.args.problem.now.puzzle in
     let t = (g.D.Dance.state c.args.dance.now).trail in
     once_more p t c.in-Some.next (c.requires.once h)
@@ -64,10 +64,10 @@ loop-fewest-preserved-then-n-fewest g c =
     let t = (g.D.Dance.state c.args.dance.now).trail in
     let e : next_above c.loop-fewest.at (open_items p t) ≡ Some c.in-Some.next = cc (c.in-Some.ensures) in
     let better : fewer p t c.in-Some.next c.loop-fewest.item ≡ true =
-    lt-ltb _ _ (omega (arith, c.count-n.ensures, c.loop-fewest.invariant.counted)) in
+    lt-ltb _ _ (omega (arith, c.branches_of-n.ensures, c.loop-fewest.invariant.counted)) in
     record {
       at_open = next_open p t c.loop-fewest.at c.in-Some.next e;
-      counted = c.count-n.ensures;
+      counted = c.branches_of-n.ensures;
       best =
           choice_next p t c.loop-fewest.item c.loop-fewest.at c.in-Some.next true c.loop-fewest.invariant.best e better;
     }
@@ -83,7 +83,7 @@ loop-fewest-preserved g c =
     let t = (g.D.Dance.state c.args.dance.now).trail in
     let e : next_above c.loop-fewest.at (open_items p t) ≡ Some c.in-Some.next = cc (c.in-Some.ensures) in
     let not_better : fewer p t c.in-Some.next c.loop-fewest.item ≡ false =
-    le-ltb _ _ (omega (arith, c.count-n.ensures, c.loop-fewest.invariant.counted)) in
+    le-ltb _ _ (omega (arith, c.branches_of-n.ensures, c.loop-fewest.invariant.counted)) in
     record {
       at_open = next_open p t c.loop-fewest.at c.in-Some.next e;
       counted = c.loop-fewest.invariant.counted;

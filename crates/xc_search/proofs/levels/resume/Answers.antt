@@ -5,7 +5,7 @@ use Rattle.xc_search.specs.inner.Ahead.{GoesOn, EntersBranch, branched, visits}
 use Rattle.xc_search.proofs.paths.Led.{keeps_next, keeps_back}
 use Rattle.xc_search.proofs.stacked.LoopSteps.{GoesOn-refl, GoesOn-trans, goes_on_to, enters, goes_back}
 use Rattle.xc_search.proofs.levels.resume.Goals as goal
-use Rattle.xc_search.proofs.levels.resume.Goals.{In-Some, After-begin, After-pop}
+use Rattle.xc_search.proofs.levels.resume.Goals.{In-Some, After-note_branch, After-pop}
 
 pub loop-level-init : goal.loop-level-init
 loop-level-init g c =
@@ -32,14 +32,14 @@ enter_next-branch-requires-clause-stacked g c = (
 pub enter_next-branch-requires-clause-more : goal.enter_next-branch-requires-clause-more
 enter_next-branch-requires-clause-more g c = c.if-level.true
 
-on : (g : _) (c : After-begin g) → EntersBranch c.loop-level.position c.loop-level.stack false
-    c.enter_next-branch.new.position c.begin.new.self
+on : (g : _) (c : After-note_branch g) → EntersBranch c.loop-level.position c.loop-level.stack false
+    c.enter_next-branch.new.position c.note_branch.new.self
     c.in-Some.level.now.item c.enter_next-branch.result.place
 on g c =
     enters c.loop-level.position c.enter_next-branch.new.position c.in-Some.level.now c.enter_next-branch.result
-    c.loop-level.stack c.begin.new.self
+    c.loop-level.stack c.note_branch.new.self
     c.loop-level.invariant.goes_on.standing.stacked c.in-Some.ensures.some c.enter_next-branch.ensures.still
-    c.enter_next-branch.ensures.entered c.begin.ensures
+    c.enter_next-branch.ensures.entered c.note_branch.ensures
 
 back : (g : _) (c : After-pop g)
     → GoesOn c.loop-level.position c.loop-level.stack false c.end_level.new.position c.pop.new.self false
@@ -53,7 +53,7 @@ back g c =
 pub returns-then-level-clause-resumed : goal.returns-then-level-clause-resumed
 returns-then-level-clause-resumed g c =
     goes_on_to _ _ _ _ _ _ false false _ _ c.loop-level.invariant.goes_on c.loop-level.invariant.less (on g
-    (goal.at.returns-then-level-clause-resumed g c).After-begin)
+    (goal.at.returns-then-level-clause-resumed g c).After-note_branch)
 
 pub returns-then-level-clause-resumed_path : goal.returns-then-level-clause-resumed_path
 returns-then-level-clause-resumed_path g c =
@@ -61,9 +61,9 @@ returns-then-level-clause-resumed_path g c =
     let l = c.in-Some.level.now in
     let f = c.enter_next-branch.new.position in
     let next = keeps_next d (record d { trail = oldest l.base d.trail }) f (branched f l.item
-    c.enter_next-branch.result.place) l c.enter_next-branch.result c.loop-level.stack c.begin.new.self
+    c.enter_next-branch.result.place) l c.enter_next-branch.result c.loop-level.stack c.note_branch.new.self
     c.loop-level.invariant.goes_on.standing.stacked c.in-Some.ensures.some refl c.enter_next-branch.ensures.still
-    c.enter_next-branch.ensures.entered refl c.begin.ensures in
+    c.enter_next-branch.ensures.entered refl c.note_branch.ensures in
     λ u a. next u (c.loop-level.invariant.path u a)
 
 pub loop-level-smaller : goal.loop-level-smaller

@@ -5,7 +5,7 @@ use Rattle.xc_input.proofs.FaultLemmas.Checks.{items-length}
 use Rattle.xc_search.specs.declared.level.Level.{Level}
 use Rattle.xc_input.proofs.lists.LastChanged.{newest_changed, first_changed}
 use Rattle.xc_search.specs.inner.Levels.{begun_level, Levels}
-use Rattle.xc_search.proofs.stack.Stack.begin.Goals as goal
+use Rattle.xc_search.proofs.stack.Stack.note_branch.Goals as goal
 
 pub invariant_of-self : goal.invariant_of-self
 invariant_of-self c =
