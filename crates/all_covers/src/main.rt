@@ -3,7 +3,7 @@
 #![tactic(auto)]
 
 use anyhow::Result;
-use helgrothy::{Choice, Incoming, Kind, Links, Search, random_seed, read_problem};
+use helgrothy::{Choice, Incoming, Kind, Links, Problem, Search, random_seed, read_problem};
 use std::io;
 
 /// Prints the numbers of a solution's options, to the end of the line.
@@ -28,11 +28,16 @@ fn print_covers(rt: &impl Print, search: &mut Search<Links>) -> io::Result<()> {
     Ok(())
 }
 
+/// Searches a problem, and prints a line for each of its solutions.
+fn search_covers(rt: &HostRuntime, problem: &Problem) -> Result<()> {
+    let links = Links::for_search(rt.alloc(), problem)?;
+    let mut search = Search::begin(rt.alloc(), links, problem)?;
+    print_covers(rt, &mut search)?;
+    Ok(())
+}
+
 fn main(rt: HostRuntime) -> Result<()> {
     let mut input = Incoming::new(Some(rt.stdin()), random_seed(&rt));
-    let problem = read_problem(rt.alloc(), Kind::Plain, &mut input)?.problem;
-    let links = Links::for_search(rt.alloc(), &problem)?;
-    let mut search = Search::begin(rt.alloc(), links, &problem)?;
-    print_covers(&rt, &mut search)?;
-    Ok(())
+    let read = read_problem(rt.alloc(), Kind::Plain, &mut input)?;
+    search_covers(&rt, &read.problem)
 }
