@@ -1,10 +1,10 @@
 //! Searches below the parts of a cut.
-use fixtures::{ALONE, COLOURED, SEVEN, THREE_ALIKE, TWICE, problem};
+use crate::made::{below, cut, refused, search};
+use fixtures::{ALONE, COLOURED, SEVEN, THREE_ALIKE, TWICE, on_problem};
 use std::alloc::Global;
-use std::test::Fail;
 use xc_dance::{Dance, Lists};
 use xc_input::{Kind, Problem};
-use xc_search::{Cut, Cutting, PathFault, Search, Step, most_moves};
+use xc_search::{Choice, Cut, Cutting, PathFault, Search, Step};
 
 /// Whether a search ends behind members that another has to come next.
 fn goes_along(below: &mut Search<Lists>, whole: &mut Search<Lists>) -> bool {
@@ -19,19 +19,23 @@ fn goes_along(below: &mut Search<Lists>, whole: &mut Search<Lists>) -> bool {
     false
 }
 
-/// Whether the search below this path has the members to come that the whole one has next.
+/// Whether the search below the path of these numbers has the members to come that the whole one has next.
 fn lists_part(
     alloc: Global,
     problem: &Problem,
     numbers: &[u32],
     whole: &mut Search<Lists>,
-) -> Result<bool, Fail> {
-    let lists = Lists::new(alloc, problem, most_moves(problem))?;
-    let Ok(mut below) = Search::below(alloc, lists, problem, numbers) else {
-        return Ok(false);
+) -> bool {
+    let Some(mut below) = below(alloc, problem, numbers) else {
+        return false;
     };
     let along = below.choices().is_empty() && goes_along(&mut below, whole);
-    Ok(below.close().moves().is_empty() && along)
+    below.close().moves().is_empty() && along
+}
+
+/// The numbers of a path's choices.
+fn numbers_of(alloc: Global, path: &[Choice]) -> Option<Vec<u32>> {
+    path.iter().map(|choice| choice.k).collect(alloc).ok()
 }
 
 /// Whether the searches below the parts of a cut have the members that a search has to come, in turn.
@@ -41,82 +45,91 @@ fn lists_parts(
     cut: &mut Cut<Lists>,
     budget: u64,
     whole: &mut Search<Lists>,
-) -> Result<bool, Fail> {
+) -> bool {
     for _ in 0..1000 {
         if cut.next(budget, 0) == Cutting::Done {
-            return Ok(whole.next() == Step::Done);
+            return whole.next() == Step::Done;
         }
-        let mut numbers = Vec::new(alloc);
-        for choice in cut.path() {
-            numbers.push(choice.k)?;
-        }
-        if !lists_part(alloc, problem, &numbers, whole)? {
-            return Ok(false);
+        let Some(numbers) = numbers_of(alloc, cut.path()) else {
+            return false;
+        };
+        if !lists_part(alloc, problem, &numbers, whole) {
+            return false;
         }
     }
-    Ok(false)
+    false
+}
+
+/// Whether the parts of a cut have all members of a problem's search, in turn.
+fn have_all(alloc: Global, problem: &Problem, cut: &mut Cut<Lists>, budget: u64) -> bool {
+    let Some(mut whole) = search(alloc, problem) else {
+        return false;
+    };
+    lists_parts(alloc, problem, cut, budget, &mut whole)
 }
 
 /// Whether the parts within a budget have all members of a problem's search, in turn.
-fn are_whole(alloc: Global, problem: &Problem, budget: u64) -> Result<bool, Fail> {
-    let lists = Lists::new(alloc, problem, most_moves(problem))?;
-    let others = Lists::new(alloc, problem, most_moves(problem))?;
-    let Ok(mut whole) = Search::new(alloc, lists, problem) else {
-        return Err(Fail::new("no memory"));
+fn are_whole(alloc: Global, problem: &Problem, budget: u64) -> bool {
+    let Some(mut cut) = cut(alloc, problem) else {
+        return false;
     };
-    let Ok(mut cut) = Cut::new(alloc, others, problem) else {
-        let _lists = whole.close();
-        return Err(Fail::new("no memory"));
-    };
-    let all = lists_parts(alloc, problem, &mut cut, budget, &mut whole);
-    let _lists = whole.close();
-    let _others = cut.close();
+    let all = have_all(alloc, problem, &mut cut, budget);
+    let _lists = cut.close();
     all
 }
 
-/// Whether the parts within each budget have all members of a text's search, in turn.
-fn are_whole_by_each(alloc: Global, kind: Kind, text: &[u8]) -> Result<bool, Fail> {
-    let problem = problem(alloc, kind, text)?;
+/// Whether the parts within each budget have all members of a problem's search, in turn.
+fn are_whole_by_each(alloc: Global, problem: &Problem) -> bool {
     for budget in 0..20 {
-        if !are_whole(alloc, &problem, budget)? {
-            return Ok(false);
+        if !are_whole(alloc, problem, budget) {
+            return false;
         }
     }
-    Ok(true)
+    true
+}
+
+const KINDS: [(Kind, &[u8]); 5] = [
+    (Kind::Plain, SEVEN),
+    (Kind::Plain, THREE_ALIKE),
+    (Kind::Colours, COLOURED),
+    (Kind::Bounds, TWICE),
+    (Kind::Bounds, ALONE),
+];
+
+#[test]
+fn parts_of_each_kind(rt: HostRuntime) {
+    let alloc = rt.alloc();
+    for (kind, text) in &KINDS {
+        assert!(rt;
+            on_problem(
+                alloc,
+                *kind,
+                *text,
+                |problem| are_whole_by_each(alloc, problem)
+            )
+        );
+    }
 }
 
 /// Whether there is no search below this path, and the dance comes back without moves.
-fn is_refused(alloc: Global, problem: &Problem, numbers: &[u32]) -> Result<bool, Fail> {
-    let lists = Lists::new(alloc, problem, most_moves(problem))?;
-    match Search::below(alloc, lists, problem, numbers) {
-        Ok(search) => {
-            let _lists = search.close();
-            Ok(false)
-        }
-        Err((lists, fault)) => Ok(fault == PathFault::NoPath && lists.moves().is_empty()),
+fn is_refused(alloc: Global, problem: &Problem, numbers: &[u32]) -> bool {
+    match refused(alloc, problem, numbers) {
+        Some((lists, fault)) => fault == PathFault::NoPath && lists.moves().is_empty(),
+        None => false,
     }
 }
 
-#[test]
-fn parts_of_each_kind(rt: HostRuntime) -> Result<(), Fail> {
-    let kinds = [
-        (Kind::Plain, SEVEN),
-        (Kind::Plain, THREE_ALIKE),
-        (Kind::Colours, COLOURED),
-        (Kind::Bounds, TWICE),
-        (Kind::Bounds, ALONE),
-    ];
-    for (kind, text) in kinds {
-        assert!(rt; are_whole_by_each(rt.alloc(), kind, text)?);
-    }
-    Ok(())
-}
+/// Numbers that are no path of the search over seven items.
+const NO_PATHS: [&[u32]; 5] = [&[0], &[3], &[2, 2], &[2, 1, 1, 1], &[2, 1, 0]];
 
 #[test]
-fn no_such_path(rt: HostRuntime) -> Result<(), Fail> {
-    let problem = problem(rt.alloc(), Kind::Plain, SEVEN)?;
-    for numbers in [&[0u32] as &[u32], &[3], &[2, 2], &[2, 1, 1, 1], &[2, 1, 0]] {
-        assert!(rt; is_refused(rt.alloc(), &problem, numbers)?);
+fn no_such_path(rt: HostRuntime) {
+    let alloc = rt.alloc();
+    for numbers in &NO_PATHS {
+        assert!(rt;
+            on_problem(alloc, Kind::Plain, SEVEN, |problem| {
+                is_refused(alloc, problem, *numbers)
+            })
+        );
     }
-    Ok(())
 }

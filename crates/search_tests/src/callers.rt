@@ -1,5 +1,5 @@
 //! What is there for callers: the room of a search, and searches with no counting.
-use fixtures::{SEVEN, THREE_ALIKE, problem};
+use fixtures::{SEVEN, THREE_ALIKE, on_problem, problem};
 use std::alloc::Global;
 use std::test::Fail;
 use xc_dance::{Dance, Links, Lists, Memory};
@@ -16,18 +16,25 @@ fn room_of<D: Dance + Drop>(made: Result<D, Memory>) -> Option<usize> {
 }
 
 #[test]
-fn room_for_each_search(rt: HostRuntime) -> Result<(), Fail> {
-    let problem = problem(rt.alloc(), Kind::Plain, SEVEN)?;
-    let most = Some(most_moves(&problem));
-    assert!(rt; room_of(Links::for_search(rt.alloc(), &problem)) == most);
-    assert!(rt; room_of(Lists::for_search(rt.alloc(), &problem)) == most);
-    Ok(())
+fn room_for_each_search(rt: HostRuntime) {
+    let alloc = rt.alloc();
+    assert!(rt;
+        on_problem(alloc, Kind::Plain, SEVEN, |problem| {
+            let most = Some(most_moves(problem));
+            room_of(Links::for_search(alloc, problem)) == most
+                && room_of(Lists::for_search(alloc, problem)) == most
+        })
+    );
 }
 
-/// How many options the solutions of a problem have in all. The search is let go.
-fn options_in_all(alloc: Global, problem: &Problem) -> Result<usize, Fail> {
+/// A search over linked tables.
+fn begun<'a>(alloc: Global, problem: &'a Problem) -> Result<Search<'a, Links>, Fail> {
     let links = Links::for_search(alloc, problem)?;
-    let mut search = Search::begin(alloc, links, problem)?;
+    Ok(Search::begin(alloc, links, problem)?)
+}
+
+/// How many options the solutions that a search has to come have in all.
+fn options_in_all(search: &mut Search<Links>) -> usize {
     let mut options: usize = 0;
     for _ in 0..100 {
         let Some(choices) = search.next_solution() else {
@@ -35,19 +42,25 @@ fn options_in_all(alloc: Global, problem: &Problem) -> Result<usize, Fail> {
         };
         options = options.saturating_add(choices.len());
     }
-    Ok(options)
+    options
+}
+
+/// How many options the solutions of a problem have in all. The search is let go.
+fn options_of(alloc: Global, problem: &Problem) -> Result<usize, Fail> {
+    let mut search = begun(alloc, problem)?;
+    Ok(options_in_all(&mut search))
 }
 
 /// How many options the solutions of a text have in all.
-fn options_of(alloc: Global, text: &[u8]) -> Result<usize, Fail> {
+fn options_of_text(alloc: Global, text: &[u8]) -> Result<usize, Fail> {
     let problem = problem(alloc, Kind::Plain, text)?;
-    options_in_all(alloc, &problem)
+    options_of(alloc, &problem)
 }
 
 #[test]
 fn solutions_one_by_one(rt: HostRuntime) -> Result<(), Fail> {
-    assert!(rt; options_of(rt.alloc(), SEVEN)? == 3);
-    assert!(rt; options_of(rt.alloc(), THREE_ALIKE)? == 3);
+    assert!(rt; options_of_text(rt.alloc(), SEVEN)? == 3);
+    assert!(rt; options_of_text(rt.alloc(), THREE_ALIKE)? == 3);
     Ok(())
 }
 
@@ -61,17 +74,21 @@ fn visit(search: &mut Search<Links>, most: usize) -> (usize, bool) {
     (most - left.min(most), all && search.choices().is_empty())
 }
 
-/// What a new search visits.
+/// What a new search over a problem visits.
 fn visited(alloc: Global, problem: &Problem, most: usize) -> Result<(usize, bool), Fail> {
-    let links = Links::for_search(alloc, problem)?;
-    let mut search = Search::begin(alloc, links, problem)?;
+    let mut search = begun(alloc, problem)?;
     Ok(visit(&mut search, most))
+}
+
+/// What a search over three equal options visits.
+fn visited_of_three(alloc: Global, most: usize) -> Result<(usize, bool), Fail> {
+    let problem = problem(alloc, Kind::Plain, THREE_ALIKE)?;
+    visited(alloc, &problem, most)
 }
 
 #[test]
 fn solutions_until_enough(rt: HostRuntime) -> Result<(), Fail> {
-    let alike = problem(rt.alloc(), Kind::Plain, THREE_ALIKE)?;
-    assert!(rt; visited(rt.alloc(), &alike, 2)? == (2, false));
-    assert!(rt; visited(rt.alloc(), &alike, 9)? == (3, true));
+    assert!(rt; visited_of_three(rt.alloc(), 2)? == (2, false));
+    assert!(rt; visited_of_three(rt.alloc(), 9)? == (3, true));
     Ok(())
 }

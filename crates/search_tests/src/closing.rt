@@ -1,9 +1,8 @@
 //! A search that is closed after any number of steps gives its tables as they were built.
 ghost use Rattle.std.specs.Prelude.{◌≡◌, ◌+◌, ◌≤◌};
 
-use fixtures::{ALONE, COLOURED, TWICE, problem};
+use fixtures::{ALONE, COLOURED, TWICE, on_one, on_problem};
 use std::alloc::Global;
-use std::test::Fail;
 use xc_dance::Links;
 use xc_input::{Kind, Problem};
 use xc_search::{Search, Step, most_moves};
@@ -22,91 +21,82 @@ fn go_on(search: &mut Search<Links>, steps: usize) -> usize
 }
 
 /// Whether tables are as they were built.
-fn are_as_built(alloc: Global, problem: &Problem, links: &Links) -> Result<bool, Fail> {
-    let built = Links::for_search(alloc, problem)?;
-    Ok(links.same(&built))
+fn are_as_built(alloc: Global, problem: &Problem, links: &Links) -> bool {
+    on_one(
+        Links::for_search(alloc, problem).ok(),
+        |built| links.same(built),
+    )
 }
 
-/// The tables of a search that is closed after some steps, and how many solutions it saw.
-fn closed(alloc: Global, problem: &Problem, steps: usize) -> Result<(Links, usize), Fail> {
-    let links = Links::for_search(alloc, problem)?;
-    let Ok(mut search) = Search::new(alloc, links, problem) else {
-        return Err(Fail::new("no memory"));
-    };
-    let found = go_on(&mut search, steps);
-    Ok((search.close(), found))
+fn search<'a>(alloc: Global, problem: &'a Problem) -> Option<Search<'a, Links>> {
+    let links = Links::for_search(alloc, problem).ok()?;
+    Search::new(alloc, links, problem).ok()
 }
 
 /// Whether a search that is closed after some steps saw so many solutions, and gives the tables
 /// as they were built.
-fn closes(alloc: Global, problem: &Problem, steps: usize, solutions: usize) -> Result<bool, Fail> {
-    let (links, found) = closed(alloc, problem, steps)?;
-    Ok(found == solutions && are_as_built(alloc, problem, &links)?)
+fn closes(alloc: Global, problem: &Problem, steps: usize, solutions: usize) -> bool {
+    let Some(mut search) = search(alloc, problem) else {
+        return false;
+    };
+    let found = go_on(&mut search, steps);
+    are_as_built(alloc, problem, &search.close()) && found == solutions
 }
 
 /// Whether a search that is closed gives the tables as they were built, after each number of steps
 /// to the end, one past it, and one more.
-fn closes_at_each_step(alloc: Global, problem: &Problem, solutions: u8) -> Result<bool, Fail> {
+fn closes_at_each_step(alloc: Global, problem: &Problem, solutions: u8) -> bool {
     let solutions = solutions as usize;
     for steps in 0..solutions + 3 {
-        if !closes(alloc, problem, steps, steps.min(solutions))? {
-            return Ok(false);
+        if !closes(alloc, problem, steps, steps.min(solutions)) {
+            return false;
         }
     }
-    Ok(true)
+    true
 }
 
 /// Whether the searches of a text have at most so many moves, and give their tables as they were built.
-fn all_close(
-    alloc: Global,
-    kind: Kind,
-    text: &[u8],
-    moves: usize,
-    solutions: u8,
-) -> Result<bool, Fail> {
-    let problem = problem(alloc, kind, text)?;
-    let closed = closes_at_each_step(alloc, &problem, solutions)?;
-    Ok(closed && most_moves(&problem) == moves)
+fn all_close(alloc: Global, kind: Kind, text: &[u8], moves: usize, solutions: u8) -> bool {
+    on_problem(alloc, kind, text, |problem| {
+        closes_at_each_step(alloc, problem, solutions) && most_moves(problem) == moves
+    })
 }
 
 #[test]
-fn colours_close(rt: HostRuntime) -> Result<(), Fail> {
-    assert!(rt; all_close(rt.alloc(), Kind::Colours, COLOURED, 38, 1)?);
-    Ok(())
+fn colours_close(rt: HostRuntime) {
+    assert!(rt; all_close(rt.alloc(), Kind::Colours, COLOURED, 38, 1));
 }
 
 #[test]
-fn bounds_close(rt: HostRuntime) -> Result<(), Fail> {
-    assert!(rt; all_close(rt.alloc(), Kind::Bounds, TWICE, 12, 3)?);
-    Ok(())
+fn bounds_close(rt: HostRuntime) {
+    assert!(rt; all_close(rt.alloc(), Kind::Bounds, TWICE, 12, 3));
 }
 
 // Its fourth solution is the branch of none, above two tweaks.
 #[test]
-fn none_above_tweaks_closes(rt: HostRuntime) -> Result<(), Fail> {
-    assert!(rt; all_close(rt.alloc(), Kind::Bounds, ALONE, 6, 4)?);
-    Ok(())
+fn none_above_tweaks_closes(rt: HostRuntime) {
+    assert!(rt; all_close(rt.alloc(), Kind::Bounds, ALONE, 6, 4));
 }
 
 /// The tables of a search: by `close` where it began, and at once where there was no memory for it.
-fn handed_back(alloc: Global, problem: &Problem) -> Result<Links, Fail> {
-    let links = Links::for_search(alloc, problem)?;
-    Ok(match Search::begin(alloc, links, problem) {
+fn handed_back(alloc: Global, problem: &Problem) -> Option<Links> {
+    let links = Links::for_search(alloc, problem).ok()?;
+    Some(match Search::begin(alloc, links, problem) {
         Ok(search) => search.close(),
         Err(none) => none.into_dance(),
     })
 }
 
-/// Whether they come back as they were built.
-fn comes_back(alloc: Global, problem: &Problem) -> Result<bool, Fail> {
-    let links = handed_back(alloc, problem)?;
-    are_as_built(alloc, problem, &links)
-}
-
 // A test can't refuse the memory of a search: `rt try --test --fail-alloc N -- hands_back` does.
 #[test]
-fn a_search_begins_or_hands_back_its_dance(rt: HostRuntime) -> Result<(), Fail> {
-    let problem = problem(rt.alloc(), Kind::Bounds, ALONE)?;
-    assert!(rt; comes_back(rt.alloc(), &problem)?);
-    Ok(())
+fn a_search_begins_or_hands_back_its_dance(rt: HostRuntime) {
+    let alloc = rt.alloc();
+    assert!(rt;
+        on_problem(alloc, Kind::Bounds, ALONE, |problem| {
+            on_one(
+                handed_back(alloc, problem),
+                |links| are_as_built(alloc, problem, links)
+            )
+        })
+    );
 }

@@ -1,10 +1,10 @@
 //! A search cut into parts.
-use fixtures::{ALONE, COLOURED, SEVEN, THREE_ALIKE, TWICE, problem};
+use crate::made::{cut, search};
+use fixtures::{ALONE, COLOURED, SEVEN, THREE_ALIKE, TWICE, on_problem};
 use std::alloc::Global;
-use std::test::Fail;
 use xc_dance::{Dance, Lists};
 use xc_input::{Kind, Problem};
-use xc_search::{Choice, Cut, Cutting, Search, Step, most_moves};
+use xc_search::{Choice, Cut, Cutting, Search, Step};
 
 /// Goes over the members that begin with a path, and tells whether the search is done.
 fn goes_over(search: &mut Search<Lists>, path: &[Choice]) -> bool {
@@ -34,32 +34,34 @@ fn lists_by_parts(search: &mut Search<Lists>, cut: &mut Cut<Lists>, budget: u64)
     false
 }
 
-/// Whether parts within a budget list a problem.
-fn is_cut(alloc: Global, problem: &Problem, budget: u64) -> Result<bool, Fail> {
-    let lists = Lists::new(alloc, problem, most_moves(problem))?;
-    let others = Lists::new(alloc, problem, most_moves(problem))?;
-    let Ok(mut search) = Search::new(alloc, lists, problem) else {
-        return Err(Fail::new("no memory"));
+/// Whether the parts of a cut list a problem.
+fn list_all(alloc: Global, problem: &Problem, cut: &mut Cut<Lists>, budget: u64) -> bool {
+    let Some(mut search) = search(alloc, problem) else {
+        return false;
     };
-    let Ok(mut cut) = Cut::new(alloc, others, problem) else {
-        let _lists = search.close();
-        return Err(Fail::new("no memory"));
-    };
-    let begun = search.next() == Step::Solution && cut.path().is_empty();
-    let listed = lists_by_parts(&mut search, &mut cut, budget) && cut.path().is_empty();
-    let _lists = search.close();
-    Ok(cut.close().moves().is_empty() && begun && listed)
+    search.next() == Step::Solution
+        && cut.path().is_empty()
+        && lists_by_parts(&mut search, cut, budget)
+        && cut.path().is_empty()
 }
 
-/// Whether parts within each budget list a text's problem.
-fn is_cut_by_each(alloc: Global, kind: Kind, text: &[u8]) -> Result<bool, Fail> {
-    let problem = problem(alloc, kind, text)?;
+/// Whether parts within a budget list a problem.
+fn is_cut(alloc: Global, problem: &Problem, budget: u64) -> bool {
+    let Some(mut cut) = cut(alloc, problem) else {
+        return false;
+    };
+    let listed = list_all(alloc, problem, &mut cut, budget);
+    cut.close().moves().is_empty() && listed
+}
+
+/// Whether parts within each budget list a problem.
+fn is_cut_by_each(alloc: Global, problem: &Problem) -> bool {
     for budget in 0..20 {
-        if !is_cut(alloc, &problem, budget)? {
-            return Ok(false);
+        if !is_cut(alloc, problem, budget) {
+            return false;
         }
     }
-    Ok(true)
+    true
 }
 
 /// How many parts are left within a budget.
@@ -73,36 +75,44 @@ fn count_left(cut: &mut Cut<Lists>, budget: u64) -> usize {
 }
 
 /// How many parts there are within a budget.
-fn count_parts(alloc: Global, problem: &Problem, budget: u64) -> Result<usize, Fail> {
-    let lists = Lists::new(alloc, problem, most_moves(problem))?;
-    let Ok(mut cut) = Cut::new(alloc, lists, problem) else {
-        return Err(Fail::new("no memory"));
-    };
+fn count_parts(alloc: Global, problem: &Problem, budget: u64) -> Option<usize> {
+    let mut cut = cut(alloc, problem)?;
     let parts = count_left(&mut cut, budget);
     let _lists = cut.close();
-    Ok(parts)
+    Some(parts)
 }
 
+const KINDS: [(Kind, &[u8]); 5] = [
+    (Kind::Plain, SEVEN),
+    (Kind::Plain, THREE_ALIKE),
+    (Kind::Colours, COLOURED),
+    (Kind::Bounds, TWICE),
+    (Kind::Bounds, ALONE),
+];
+
 #[test]
-fn parts_of_each_kind(rt: HostRuntime) -> Result<(), Fail> {
-    let kinds = [
-        (Kind::Plain, SEVEN),
-        (Kind::Plain, THREE_ALIKE),
-        (Kind::Colours, COLOURED),
-        (Kind::Bounds, TWICE),
-        (Kind::Bounds, ALONE),
-    ];
-    for (kind, text) in kinds {
-        assert!(rt; is_cut_by_each(rt.alloc(), kind, text)?);
+fn parts_of_each_kind(rt: HostRuntime) {
+    let alloc = rt.alloc();
+    for (kind, text) in &KINDS {
+        assert!(rt;
+            on_problem(
+                alloc,
+                *kind,
+                *text,
+                |problem| is_cut_by_each(alloc, problem)
+            )
+        );
     }
-    Ok(())
 }
 
 #[test]
-fn as_many_as_the_budget_allows(rt: HostRuntime) -> Result<(), Fail> {
-    let problem = problem(rt.alloc(), Kind::Plain, THREE_ALIKE)?;
-    assert!(rt; count_parts(rt.alloc(), &problem, 0)? == 3);
-    assert!(rt; count_parts(rt.alloc(), &problem, 3)? == 3);
-    assert!(rt; count_parts(rt.alloc(), &problem, 4)? == 1);
-    Ok(())
+fn as_many_as_the_budget_allows(rt: HostRuntime) {
+    let alloc = rt.alloc();
+    assert!(rt;
+        on_problem(alloc, Kind::Plain, THREE_ALIKE, |problem| {
+            count_parts(alloc, problem, 0) == Some(3)
+                && count_parts(alloc, problem, 3) == Some(3)
+                && count_parts(alloc, problem, 4) == Some(1)
+        })
+    );
 }

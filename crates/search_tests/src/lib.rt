@@ -6,6 +6,10 @@
 #[cfg(test)]
 mod callers;
 
+// Helpers.
+#[cfg(test)]
+mod made;
+
 // Searches.
 #[cfg(test)]
 mod below;

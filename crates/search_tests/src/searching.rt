@@ -1,10 +1,10 @@
 //! A search over live lists.
-use fixtures::{SEVEN, THREE_ALIKE, problem};
+use crate::made::search;
+use fixtures::{SEVEN, THREE_ALIKE, on_problem};
 use std::alloc::Global;
-use std::test::Fail;
 use xc_dance::{Dance, Lists};
 use xc_input::{Kind, Problem};
-use xc_search::{Choice, Search, Step, choose, most_moves};
+use xc_search::{Choice, Search, Step, choose};
 
 /// Whether a search has no choices at first, finds this solution alone, and then stays done.
 fn finds_alone(search: &mut Search<Lists>, wanted: &[Choice]) -> bool {
@@ -25,23 +25,28 @@ fn choice(item: u32, option: u32, k: u32, n: u32) -> Choice {
     }
 }
 
-/// Whether a search over lists begins at the first item, has one solution, and undoes all moves.
-fn solves_seven_items(alloc: Global, problem: &Problem) -> Result<bool, Fail> {
+/// Whether a search finds the cover of seven items alone, and undoes all moves.
+fn solves_seven_items(mut search: Search<Lists>) -> bool {
     let wanted = [choice(1, 4, 2, 2), choice(2, 5, 1, 1), choice(3, 1, 1, 1)];
-    let lists = Lists::new(alloc, problem, most_moves(problem))?;
-    let first = choose(&lists, problem);
-    let Ok(mut search) = Search::new(alloc, lists, problem) else {
-        return Err(Fail::new("no memory"));
-    };
     let found = finds_alone(&mut search, &wanted);
-    Ok(search.close().moves().is_empty() && found && first == Some((1, 2)))
+    search.close().moves().is_empty() && found
+}
+
+/// The item on which lists that are as built branch, and in how many branches.
+fn first_chosen(alloc: Global, problem: &Problem) -> Option<(u32, u32)> {
+    let lists = Lists::new(alloc, problem, 0).ok()?;
+    choose(&lists, problem)
 }
 
 #[test]
-fn one_cover_of_seven_items(rt: HostRuntime) -> Result<(), Fail> {
-    let problem = problem(rt.alloc(), Kind::Plain, SEVEN)?;
-    assert!(rt; solves_seven_items(rt.alloc(), &problem)?);
-    Ok(())
+fn one_cover_of_seven_items(rt: HostRuntime) {
+    let alloc = rt.alloc();
+    assert!(rt;
+        on_problem(alloc, Kind::Plain, SEVEN, |problem| {
+            first_chosen(alloc, problem) == Some((1, 2))
+                && search(alloc, problem).is_some_and(solves_seven_items)
+        })
+    );
 }
 
 /// Whether a search passes over two solutions, shows the second, and then over the one that is left.
@@ -52,18 +57,17 @@ fn passes_over_three(search: &mut Search<Lists>) -> bool {
         && search.choices().is_empty()
 }
 
-fn passes_over_all(alloc: Global, problem: &Problem) -> Result<bool, Fail> {
-    let lists = Lists::new(alloc, problem, most_moves(problem))?;
-    let Ok(mut search) = Search::new(alloc, lists, problem) else {
-        return Err(Fail::new("no memory"));
-    };
+fn passes_over_all(mut search: Search<Lists>) -> bool {
     let passed = passes_over_three(&mut search);
-    Ok(search.close().moves().is_empty() && passed)
+    search.close().moves().is_empty() && passed
 }
 
 #[test]
-fn three_passed_over(rt: HostRuntime) -> Result<(), Fail> {
-    let problem = problem(rt.alloc(), Kind::Plain, THREE_ALIKE)?;
-    assert!(rt; passes_over_all(rt.alloc(), &problem)?);
-    Ok(())
+fn three_passed_over(rt: HostRuntime) {
+    let alloc = rt.alloc();
+    assert!(rt;
+        on_problem(alloc, Kind::Plain, THREE_ALIKE, |problem| {
+            search(alloc, problem).is_some_and(passes_over_all)
+        })
+    );
 }
