@@ -1,10 +1,8 @@
 //! Whole runs whose reads, writes or flushes fail.
 ghost use Rattle.std.specs.Prelude.{None, false};
 
-use crate::words::gathered;
-use fixtures::{COLOURED, COLOURED_LISTING, SEVEN, SEVEN_LISTING};
+use fixtures::{COLOURED, COLOURED_LISTING, SEVEN, SEVEN_LISTING, gathered, on_one};
 use std::alloc::Global;
-use std::test::Fail;
 use xc_input::{Feed, Kind};
 use xc_list::{Flushes, Sink, Tray, WriteFailed};
 use xc_tools::{judge, solve};
@@ -16,10 +14,10 @@ fn solved<O: Sink, E: Sink>(
     fails_at: Option<u64>,
     out: &mut O,
     err: &mut E,
-) -> Result<u8, Fail> {
-    let words = gathered(alloc, &[b"m1"])?;
+) -> Option<u8> {
+    let words = gathered(alloc, &[b"m1"]).ok()?;
     let mut input = Feed::new(text, 1, fails_at);
-    Ok(solve(alloc, Kind::Plain, &words, &mut input, out, err))
+    Some(solve(alloc, Kind::Plain, &words, &mut input, out, err))
 }
 
 /// A run of which a read fails, or a write behind so many bytes, and what it lists and tells.
@@ -32,50 +30,58 @@ struct Failing {
 }
 
 /// Whether it lists so with status 3.
-fn lists_so(alloc: Global, run: &Failing, err: &mut Tray) -> Result<bool, Fail> {
-    let mut out = Tray::new(alloc, 1, run.room, false)?;
-    let status = solved(alloc, SEVEN, run.fails_at, &mut out, err)?;
-    Ok(status == 3 && out.bytes() == run.listed)
-}
-
-fn fails_so(alloc: Global, run: &Failing) -> Result<bool, Fail> {
-    let mut err = Tray::new(alloc, 1, 100, false)?;
-    Ok(lists_so(alloc, run, &mut err)? && err.bytes() == run.told)
-}
-
-/// Whether a run lists all and has status 3 where its last line isn't taken.
-fn lists_all_unheard(alloc: Global) -> Result<bool, Fail> {
-    let mut err = Tray::new(alloc, 1, 0, true)?;
-    let run = Failing {
-        fails_at: None,
-        room: 100,
-        listed: SEVEN_LISTING,
-        told: b"",
+fn lists_so(alloc: Global, run: &Failing, err: &mut Tray) -> bool {
+    let Ok(mut out) = Tray::new(alloc, 1, run.room, false) else {
+        return false;
     };
-    lists_so(alloc, &run, &mut err)
+    solved(alloc, SEVEN, run.fails_at, &mut out, err) == Some(3) && out.bytes() == run.listed
 }
 
-#[test]
-fn reads_and_writes_that_fail(rt: HostRuntime) -> Result<(), Fail> {
-    let runs = [
+/// Whether it lists so, with status 3, and tells so where this much of its messages is taken.
+fn fails_so(alloc: Global, run: &Failing, heard: usize) -> bool {
+    let Ok(mut err) = Tray::new(alloc, 1, heard, heard == 0) else {
+        return false;
+    };
+    lists_so(alloc, run, &mut err) && err.bytes() == run.told
+}
+
+/// Runs of which a read or a write fails, and how much of their messages is taken: of the last one, which lists
+/// all, nothing.
+const FAILING: [(Failing, usize); 3] = [
+    (
         Failing {
             fails_at: None,
             room: 5,
             listed: b"1:\n a",
             told: b"Write failed at solution 1.\n",
         },
+        100,
+    ),
+    (
         Failing {
             fails_at: Some(7),
             room: 100,
             listed: b"",
             told: b"Read failed.\n",
         },
-    ];
-    for run in &runs {
-        assert!(rt; fails_so(rt.alloc(), run)?);
+        100,
+    ),
+    (
+        Failing {
+            fails_at: None,
+            room: 100,
+            listed: SEVEN_LISTING,
+            told: b"",
+        },
+        0,
+    ),
+];
+
+#[test]
+fn reads_and_writes_that_fail(rt: HostRuntime) {
+    for (run, heard) in &FAILING {
+        assert!(rt; fails_so(rt.alloc(), run, *heard));
     }
-    assert!(rt; lists_all_unheard(rt.alloc())?);
-    Ok(())
 }
 
 /// The status of `judge` by these words.
@@ -86,9 +92,9 @@ fn judged<O: Sink>(
     listing: &mut Feed,
     out: &mut O,
     err: &mut Tray,
-) -> Result<u8, Fail> {
-    let words = gathered(alloc, words)?;
-    Ok(judge(alloc, &words, problem, listing, out, err))
+) -> Option<u8> {
+    let words = gathered(alloc, words).ok()?;
+    Some(judge(alloc, &words, problem, listing, out, err))
 }
 
 /// Whether the verdicts break off so, with status 3, where the sink takes so many bytes.
@@ -98,19 +104,15 @@ fn judges_so(
     room: usize,
     verdicts: &[u8],
     err: &mut Tray,
-) -> Result<bool, Fail> {
+) -> bool {
+    let Ok(mut out) = Tray::new(alloc, 1, room, false) else {
+        return false;
+    };
     let mut problem = Feed::new(COLOURED, 1000, fails_at[0]);
     let mut listing = Feed::new(COLOURED_LISTING, 20, fails_at[1]);
-    let mut out = Tray::new(alloc, 1, room, false)?;
-    let status = judged(
-        alloc,
-        &[b"PROBLEM"],
-        &mut problem,
-        &mut listing,
-        &mut out,
-        err,
-    )?;
-    Ok(status == 3 && out.bytes() == verdicts)
+    let words: [&[u8]; 1] = [b"PROBLEM"];
+    judged(alloc, &words, &mut problem, &mut listing, &mut out, err) == Some(3)
+        && out.bytes() == verdicts
 }
 
 fn judge_fails_so(
@@ -119,18 +121,18 @@ fn judge_fails_so(
     room: usize,
     verdicts: &[u8],
     told: &[u8],
-) -> Result<bool, Fail> {
-    let mut err = Tray::new(alloc, 1, 100, false)?;
-    Ok(judges_so(alloc, fails_at, room, verdicts, &mut err)? && err.bytes() == told)
+) -> bool {
+    on_one(Tray::new(alloc, 1, 100, false).ok(), |err| {
+        judges_so(alloc, fails_at, room, verdicts, err) && err.bytes() == told
+    })
 }
 
 #[test]
-fn reads_and_writes_of_the_judge_that_fail(rt: HostRuntime) -> Result<(), Fail> {
+fn reads_and_writes_of_the_judge_that_fail(rt: HostRuntime) {
     let read = b"Read failed.\n";
-    assert!(rt; judge_fails_so(rt.alloc(), [Some(1), None], 100, b"", read)?);
-    assert!(rt; judge_fails_so(rt.alloc(), [None, Some(2)], 100, b"", read)?);
-    assert!(rt; judge_fails_so(rt.alloc(), [None, None], 4, b"1: c", b"Write failed.\n")?);
-    Ok(())
+    assert!(rt; judge_fails_so(rt.alloc(), [Some(1), None], 100, b"", read));
+    assert!(rt; judge_fails_so(rt.alloc(), [None, Some(2)], 100, b"", read));
+    assert!(rt; judge_fails_so(rt.alloc(), [None, None], 4, b"1: c", b"Write failed.\n"));
 }
 
 /// Takes all bytes, and fails at each flush.
@@ -185,50 +187,56 @@ fn is_unflushed(out: &Unflushed, text: &[u8]) -> bool {
 }
 
 /// Whether a listing that is taken and not flushed is whole.
-fn is_listed_unflushed(alloc: Global, err: &mut Tray) -> Result<bool, Fail> {
+fn is_listed_unflushed(alloc: Global, err: &mut Tray) -> bool {
     let mut out = Unflushed::new(alloc);
-    let status = solved(alloc, SEVEN, None, &mut out, err)?;
-    Ok(status == 3 && is_unflushed(&out, SEVEN_LISTING))
+    solved(alloc, SEVEN, None, &mut out, err) == Some(3) && is_unflushed(&out, SEVEN_LISTING)
 }
 
 #[test]
-fn a_flush_that_fails(rt: HostRuntime) -> Result<(), Fail> {
-    let mut err = Tray::new(rt.alloc(), 1, 100, false)?;
-    assert!(rt; is_listed_unflushed(rt.alloc(), &mut err)?);
-    assert!(rt; err.bytes() == b"Write failed.\n".as_slice());
-    Ok(())
+fn a_flush_that_fails(rt: HostRuntime) {
+    let alloc = rt.alloc();
+    assert!(rt;
+        on_one(Tray::new(alloc, 1, 100, false).ok(), |err| {
+            is_listed_unflushed(alloc, err) && err.bytes() == b"Write failed.\n".as_slice()
+        })
+    );
 }
 
 /// Whether verdicts that are taken and not flushed are whole.
-fn is_judged_unflushed(alloc: Global, err: &mut Tray) -> Result<bool, Fail> {
+fn is_judged_unflushed(alloc: Global, err: &mut Tray) -> bool {
     let mut problem = Feed::new(SEVEN, 1000, None);
     let mut listing = Feed::new(SEVEN_LISTING, 1000, None);
     let mut out = Unflushed::new(alloc);
     let words: [&[u8]; 2] = [b"PROBLEM", b"1"];
-    let status = judged(alloc, &words, &mut problem, &mut listing, &mut out, err)?;
-    Ok(status == 3 && is_unflushed(&out, b"1: cover\n"))
+    judged(alloc, &words, &mut problem, &mut listing, &mut out, err) == Some(3)
+        && is_unflushed(&out, b"1: cover\n")
 }
 
 #[test]
-fn a_flush_of_verdicts_that_fails(rt: HostRuntime) -> Result<(), Fail> {
-    let mut err = Tray::new(rt.alloc(), 1, 100, false)?;
-    assert!(rt; is_judged_unflushed(rt.alloc(), &mut err)?);
-    assert!(rt; err.bytes() == b"Write failed.\n".as_slice());
-    Ok(())
+fn a_flush_of_verdicts_that_fails(rt: HostRuntime) {
+    let alloc = rt.alloc();
+    assert!(rt;
+        on_one(Tray::new(alloc, 1, 100, false).ok(), |err| {
+            is_judged_unflushed(alloc, err) && err.bytes() == b"Write failed.\n".as_slice()
+        })
+    );
 }
 
 /// The status of a run that nobody hears.
-fn unheard(alloc: Global, text: &[u8], err: &mut Tray) -> Result<u8, Fail> {
-    let mut out = Tray::new(alloc, 1, 100, false)?;
+fn unheard(alloc: Global, text: &[u8], err: &mut Tray) -> Option<u8> {
+    let mut out = Tray::new(alloc, 1, 100, false).ok()?;
     solved(alloc, text, None, &mut out, err)
 }
 
+/// Whether a run that nobody hears has this status.
+fn is_unheard(alloc: Global, text: &[u8], status: u8) -> bool {
+    on_one(Tray::new(alloc, 1, 0, false).ok(), |err| {
+        unheard(alloc, text, err) == Some(status) && err.bytes().is_empty()
+    })
+}
+
 #[test]
-fn messages_that_nobody_takes(rt: HostRuntime) -> Result<(), Fail> {
-    let rows: [(&[u8], u8); 2] = [(SEVEN, 3), (b"A B\nA B A\n", 2)];
-    for &(text, status) in &rows {
-        let mut err = Tray::new(rt.alloc(), 1, 0, false)?;
-        assert!(rt; unheard(rt.alloc(), text, &mut err)? == status && err.bytes().is_empty());
-    }
-    Ok(())
+fn messages_that_nobody_takes(rt: HostRuntime) {
+    assert!(rt; is_unheard(rt.alloc(), SEVEN, 3));
+    assert!(rt; is_unheard(rt.alloc(), b"A B\nA B A\n", 2));
 }

@@ -1,11 +1,9 @@
 //! Large problems and listings, with ample memory: no run gives up.
-use crate::told::solve_tells;
-use crate::words::gathered;
+use crate::told::{Told, solve_tells};
+use fixtures::on_one;
 use std::alloc::Global;
 use std::test::Fail;
-use xc_input::{Feed, Kind};
-use xc_list::Tray;
-use xc_tools::{judge, solve};
+use xc_input::Kind;
 
 /// So many items, the n-th of which the n-th option holds alone.
 fn each_alone(alloc: Global, items: u32) -> Result<String, Fail> {
@@ -23,7 +21,7 @@ fn each_alone(alloc: Global, items: u32) -> Result<String, Fail> {
 fn two_thousand_levels(rt: HostRuntime) -> Result<(), Fail> {
     let text = each_alone(rt.alloc(), 2000)?;
     let end = b"Altogether 1 solution.\n";
-    assert!(rt; solve_tells(rt.alloc(), Kind::Plain, &[], text.as_bytes(), 0, b"", end)?);
+    assert!(rt; solve_tells(rt.alloc(), Kind::Plain, &[], text.as_bytes(), 0, b"", end));
     Ok(())
 }
 
@@ -36,43 +34,34 @@ fn all_alike(alloc: Global, options: u32) -> Result<Vec<u8>, Fail> {
     Ok(text)
 }
 
-/// What `solve` lists of a text.
-fn listed(alloc: Global, text: &[u8], err: &mut Tray) -> Result<Tray, Fail> {
-    let words = gathered(alloc, &[b"m1"])?;
-    let mut out = Tray::new(alloc, 65536, 1_000_000, false)?;
-    let _ = solve(
-        alloc,
-        Kind::Plain,
-        &words,
-        &mut Feed::new(text, 65536, None),
-        &mut out,
-        err,
-    );
-    Ok(out)
+/// Whether all solutions were listed.
+fn are_listed(told: &Told) -> bool {
+    told.err.bytes() == b"Altogether 20000 solutions.\n".as_slice()
+        && told.out.bytes().len() > 500_000
+        && told.out.bytes().ends_with(b"20000:\n A (20000 of 20000)\n")
 }
 
-/// What `judge` says of a listing.
-fn verdicts(alloc: Global, text: &[u8], listing: &[u8], err: &mut Tray) -> Result<Tray, Fail> {
-    let words = gathered(alloc, &[b"PROBLEM"])?;
-    let mut problem = Feed::new(text, 65536, None);
-    let mut listing = Feed::new(listing, 65536, None);
-    let mut out = Tray::new(alloc, 65536, 1_000_000, false)?;
-    let _ = judge(alloc, &words, &mut problem, &mut listing, &mut out, err);
-    Ok(out)
+/// Whether the judge finds all of a listing right.
+fn are_judged(alloc: Global, text: &[u8], listing: &[u8]) -> bool {
+    on_one(Told::new(alloc, 65536, 1_000_000), |told| {
+        told.judge(alloc, &[b"PROBLEM"], text, listing, 65536)
+            .is_ok()
+            && told.err.bytes().is_empty()
+            && told.out.bytes().ends_with(b"\n20000: cover\n")
+    })
 }
 
 #[test]
 fn twenty_thousand_options_and_verdicts(rt: HostRuntime) -> Result<(), Fail> {
-    let text = all_alike(rt.alloc(), 20_000)?;
-    let mut err = Tray::new(rt.alloc(), 100, 100, false)?;
-    let listing = listed(rt.alloc(), &text, &mut err)?;
-    assert!(rt; err.bytes() == b"Altogether 20000 solutions.\n".as_slice());
-    assert!(rt; listing.bytes().len() > 500_000);
-    assert!(rt; listing.bytes().ends_with(b"20000:\n A (20000 of 20000)\n"));
-
-    let mut err = Tray::new(rt.alloc(), 100, 100, false)?;
-    let verdicts = verdicts(rt.alloc(), &text, listing.bytes(), &mut err)?;
-    assert!(rt; err.bytes().is_empty());
-    assert!(rt; verdicts.bytes().ends_with(b"\n20000: cover\n"));
+    let alloc = rt.alloc();
+    let text = all_alike(alloc, 20_000)?;
+    assert!(rt;
+        on_one(Told::new(alloc, 65536, 1_000_000), |told| {
+            told.solve(alloc, Kind::Plain, &[b"m1"], &text, 65536)
+                .is_ok()
+                && are_listed(told)
+                && are_judged(alloc, &text, told.out.bytes())
+        })
+    );
     Ok(())
 }

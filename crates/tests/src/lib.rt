@@ -5,8 +5,6 @@
 // Helpers.
 #[cfg(test)]
 mod told;
-#[cfg(test)]
-mod words;
 
 // What is read.
 #[cfg(test)]

@@ -1,11 +1,24 @@
 //! Whole runs over parts of a search.
-use crate::words::gathered;
-use fixtures::{SEVEN, THREE_ALIKE, TWICE};
-use std::alloc::Global;
+use crate::told::Told;
+use fixtures::{SEVEN, THREE_ALIKE, TWICE, gathered, on_one};
+use std::alloc::{AllocError, Global};
 use std::test::Fail;
 use xc_input::Feed;
 use xc_list::Tray;
 use xc_tools::{Outgoing, solve_parts};
+
+/// Runs `solve_parts` over a text.
+fn give_parts(
+    alloc: Global,
+    words: &[&[u8]],
+    text: &[u8],
+    told: &mut Told,
+) -> Result<(), AllocError> {
+    let words = gathered(alloc, words)?;
+    let mut input = Feed::new(text, 100, None);
+    told.status = solve_parts(alloc, &words, &mut input, &mut told.out, &mut told.err);
+    Ok(())
+}
 
 /// Whether `solve_parts` tells this of a problem.
 fn parts_give(
@@ -15,17 +28,14 @@ fn parts_give(
     status: u8,
     out: &[u8],
     err: &[u8],
-) -> Result<bool, Fail> {
-    let words = gathered(alloc, words)?;
-    let mut input = Feed::new(text, 100, None);
-    let mut listing = Tray::new(alloc, 100, 1000, false)?;
-    let mut told = Tray::new(alloc, 100, 1000, false)?;
-    let ended = solve_parts(alloc, &words, &mut input, &mut listing, &mut told);
-    Ok(ended == status && listing.bytes() == out && told.bytes() == err)
+) -> bool {
+    on_one(Told::new(alloc, 100, 1000), |told| {
+        give_parts(alloc, words, text, told).is_ok() && told.is(status, out, err)
+    })
 }
 
 #[test]
-fn parts_of_small_problems(rt: HostRuntime) -> Result<(), Fail> {
+fn parts_of_small_problems(rt: HostRuntime) {
     let alloc = rt.alloc();
     let counts = b"Altogether 2 solutions.\nAltogether 1 solution.\n";
     assert!(rt;
@@ -36,16 +46,15 @@ fn parts_of_small_problems(rt: HostRuntime) -> Result<(), Fail> {
             0,
             counts,
             b""
-        )?
+        )
     );
     let part = b"1:\n A B (2 of 2)\n null A (1 of 1)\nAltogether 1 solution.\n";
-    assert!(rt; parts_give(alloc, &[b"3", b"m1", b"2", b"1", b"0"], TWICE, 0, part, b"")?);
-    assert!(rt; parts_give(alloc, &[b"1", b"m1"], SEVEN, 0, b"", b"")?);
-    Ok(())
+    assert!(rt; parts_give(alloc, &[b"3", b"m1", b"2", b"1", b"0"], TWICE, 0, part, b""));
+    assert!(rt; parts_give(alloc, &[b"1", b"m1"], SEVEN, 0, b"", b""));
 }
 
 #[test]
-fn parts_that_are_refused(rt: HostRuntime) -> Result<(), Fail> {
+fn parts_that_are_refused(rt: HostRuntime) {
     let alloc = rt.alloc();
     let usage = b"Usage: dlx_below 1|2|3 m0|m1 {BRANCH.. 0}..\n";
     for words in [
@@ -55,11 +64,11 @@ fn parts_that_are_refused(rt: HostRuntime) -> Result<(), Fail> {
         &[b"1", b"m2", b"0"],
         &[b"1", b"m1", b"2"],
     ] {
-        assert!(rt; parts_give(alloc, words, SEVEN, 1, b"", usage)?);
+        assert!(rt; parts_give(alloc, words, SEVEN, 1, b"", usage));
     }
     let first = b"Altogether 1 solution.\n";
     let words: &[&[u8]] = &[b"1", b"m0", b"2", b"0", b"3", b"0"];
-    assert!(rt; parts_give(alloc, words, SEVEN, 5, first, b"No such path.\n")?);
+    assert!(rt; parts_give(alloc, words, SEVEN, 5, first, b"No such path.\n"));
     assert!(rt;
         parts_give(
             alloc,
@@ -68,26 +77,21 @@ fn parts_that_are_refused(rt: HostRuntime) -> Result<(), Fail> {
             2,
             b"",
             b"Line 1: no items.\n"
-        )?
+        )
     );
-    Ok(())
 }
 
-/// The status of a run whose output holds some lines back, with what it passes on.
-fn passed_on(
+/// Passes on what a run gives whose output holds some lines back, and answers its status.
+fn pass_on(
     alloc: Global,
-    words: &[&[u8]],
+    words: &[Vec<u8>],
     text: &[u8],
+    passed: &mut Vec<u8>,
     err: &mut Tray,
-) -> Result<(u8, Vec<u8>), Fail> {
-    let words = gathered(alloc, words)?;
+) -> Result<u8, AllocError> {
     let mut input = Feed::new(text, 100, None);
-    let mut passed = Vec::new(alloc);
-    let status = {
-        let mut out = Outgoing::new(alloc, &mut passed, false)?;
-        solve_parts(alloc, &words, &mut input, &mut out, err)
-    };
-    Ok((status, passed))
+    let mut out = Outgoing::new(alloc, passed, false)?;
+    Ok(solve_parts(alloc, words, &mut input, &mut out, err))
 }
 
 /// Whether a text is a part so many times.
@@ -102,6 +106,20 @@ fn is_repeated(text: &[u8], part: &[u8], times: u64) -> bool {
     left.is_empty()
 }
 
+/// Whether a run of these words ends at a path that isn't there, behind a part so many times, which are passed on.
+fn passes_on(
+    alloc: Global,
+    words: &[&[u8]],
+    part: &[u8],
+    times: u64,
+    err: &mut Tray,
+) -> Result<bool, AllocError> {
+    let words = gathered(alloc, words)?;
+    let mut passed = Vec::new(alloc);
+    let status = pass_on(alloc, &words, THREE_ALIKE, &mut passed, err);
+    Ok(status.is_ok_and(|status| status == 5) && is_repeated(&passed, part, times))
+}
+
 #[test]
 fn parts_before_a_refused_one_are_passed_on(rt: HostRuntime) -> Result<(), Fail> {
     let part = b"1:\n A (1 of 3)\n2:\n A (2 of 3)\n3:\n A (3 of 3)\nAltogether 3 solutions.\n";
@@ -111,8 +129,7 @@ fn parts_before_a_refused_one_are_passed_on(rt: HostRuntime) -> Result<(), Fail>
     words[1] = b"m1";
     words[32] = b"4";
     let mut err = Tray::new(rt.alloc(), 100, 100, false)?;
-    let (status, passed) = passed_on(rt.alloc(), &words, THREE_ALIKE, &mut err)?;
-    assert!(rt; status == 5 && is_repeated(&passed, part, 30));
+    assert!(rt; passes_on(rt.alloc(), &words, part, 30, &mut err)?);
     assert!(rt; err.bytes() == b"No such path.\n".as_slice());
     Ok(())
 }

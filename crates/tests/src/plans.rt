@@ -1,11 +1,22 @@
 //! Whole runs of the planner.
-use crate::words::gathered;
-use fixtures::{SEVEN, TWICE};
-use std::alloc::Global;
-use std::test::Fail;
+use crate::told::Told;
+use fixtures::{SEVEN, TWICE, gathered, on_one};
+use std::alloc::{AllocError, Global};
 use xc_input::Feed;
-use xc_list::Tray;
 use xc_tools::make_plan;
+
+/// Runs `make_plan` over a text.
+fn give_plan(
+    alloc: Global,
+    words: &[&[u8]],
+    text: &[u8],
+    told: &mut Told,
+) -> Result<(), AllocError> {
+    let words = gathered(alloc, words)?;
+    let mut input = Feed::new(text, 100, None);
+    told.status = make_plan(alloc, &words, &mut input, &mut told.out, &mut told.err);
+    Ok(())
+}
 
 /// Whether `make_plan` tells this of a problem.
 fn plan_gives(
@@ -15,34 +26,30 @@ fn plan_gives(
     status: u8,
     out: &[u8],
     err: &[u8],
-) -> Result<bool, Fail> {
-    let words = gathered(alloc, words)?;
-    let mut input = Feed::new(text, 100, None);
-    let mut plan = Tray::new(alloc, 100, 1000, false)?;
-    let mut told = Tray::new(alloc, 100, 1000, false)?;
-    let ended = make_plan(alloc, &words, &mut input, &mut plan, &mut told);
-    Ok(ended == status && plan.bytes() == out && told.bytes() == err)
+) -> bool {
+    on_one(Told::new(alloc, 100, 1000), |told| {
+        give_plan(alloc, words, text, told).is_ok() && told.is(status, out, err)
+    })
 }
 
 #[test]
-fn plans_of_small_problems(rt: HostRuntime) -> Result<(), Fail> {
+fn plans_of_small_problems(rt: HostRuntime) {
     let cut = b" A:1/2@1 A:1/2@2\n A:1/2@1 A:2/2@0 B:1/1@3\n A:2/2@2 A:1/1@0\n";
-    assert!(rt; plan_gives(rt.alloc(), &[b"3", b"0"], TWICE, 0, cut, b"")?);
-    assert!(rt; plan_gives(rt.alloc(), &[b"3", b"100"], TWICE, 0, b"\n", b"")?);
+    assert!(rt; plan_gives(rt.alloc(), &[b"3", b"0"], TWICE, 0, cut, b""));
+    assert!(rt; plan_gives(rt.alloc(), &[b"3", b"100"], TWICE, 0, b"\n", b""));
     let whole = b" a:2/2@4 b:1/1@5 c:1/1@1\n";
-    assert!(rt; plan_gives(rt.alloc(), &[b"1", b"0", b"0", b"9"], SEVEN, 0, whole, b"")?);
-    Ok(())
+    assert!(rt; plan_gives(rt.alloc(), &[b"1", b"0", b"0", b"9"], SEVEN, 0, whole, b""));
 }
 
 #[test]
-fn plans_that_are_refused(rt: HostRuntime) -> Result<(), Fail> {
+fn plans_that_are_refused(rt: HostRuntime) {
     let usage = b"Usage: dlx_parts 1|2|3 BUDGET [SIZE [LIMIT]]\n";
     for words in [&[] as &[&[u8]], &[b"1"], &[b"4", b"1"], &[b"1", b"x"]] {
-        assert!(rt; plan_gives(rt.alloc(), words, SEVEN, 1, b"", usage)?);
+        assert!(rt; plan_gives(rt.alloc(), words, SEVEN, 1, b"", usage));
     }
     let met = b"The limit of parts was met.\n";
     let first = b" A:1/2@1 A:1/2@2\n";
-    assert!(rt; plan_gives(rt.alloc(), &[b"3", b"0", b"0", b"1"], TWICE, 5, first, met)?);
+    assert!(rt; plan_gives(rt.alloc(), &[b"3", b"0", b"0", b"1"], TWICE, 5, first, met));
     assert!(rt;
         plan_gives(
             rt.alloc(),
@@ -51,7 +58,6 @@ fn plans_that_are_refused(rt: HostRuntime) -> Result<(), Fail> {
             2,
             b"",
             b"Line 1: no items.\n"
-        )?
+        )
     );
-    Ok(())
 }

@@ -1,109 +1,111 @@
 //! Words and texts that a solver refuses.
 use crate::told::solve_tells;
-use std::test::Fail;
+use fixtures::on_one;
+use std::alloc::{AllocError, Global};
 use xc_input::Kind;
 
 #[test]
-fn no_items(rt: HostRuntime) -> Result<(), Fail> {
+fn no_items(rt: HostRuntime) {
     let rows: [(&[u8], &[u8]); 2] = [
         (b"", b"Line 1: no items.\n"),
         (b"| hi\n", b"Line 2: no items.\n"),
     ];
     for (text, message) in &rows {
-        assert!(rt; solve_tells(rt.alloc(), Kind::Plain, &[b"m1"], text, 2, b"", message)?);
+        assert!(rt; solve_tells(rt.alloc(), Kind::Plain, &[b"m1"], text, 2, b"", message));
     }
-    Ok(())
+}
+
+/// Words that a solver refuses, and what it says of them.
+const WORDS: [(&[&[u8]], &[u8]); 6] = [
+    (&[b"t0"], b"Word 1: limit must be at least 1.\n"),
+    (&[b"v1"], b"Word 1: unknown.\n"),
+    (&[b"m1", b"m18446744073709551616"], b"Word 2: bad number.\n"),
+    (&[b"m"], b"Word 1: bad number.\n"),
+    (&[b""], b"Word 1: unknown.\n"),
+    (&[b"t0", b"t5"], b"Word 1: limit must be at least 1.\n"),
+];
+
+#[test]
+fn words_come_before_the_input(rt: HostRuntime) {
+    for (words, message) in &WORDS {
+        assert!(rt; solve_tells(rt.alloc(), Kind::Plain, words, b"", 1, b"", message));
+    }
+}
+
+/// Texts that a solver refuses, and what it says of their first fault.
+const FAULTS: [(Kind, &[u8], &[u8]); 25] = [
+    (
+        Kind::Plain,
+        b"A B\nA B A\n",
+        b"Line 2: item repeated in option.\n",
+    ),
+    (Kind::Bounds, b"B|x A\n", b"Line 1: bad bound.\n"),
+    (Kind::Plain, b"B|x A\n", b"Line 1: bad byte in name.\n"),
+    (Kind::Bounds, b"9999999999|a", b"Line 1: bad bound.\n"),
+    (Kind::Bounds, b"2:1|A", b"Line 1: bound order.\n"),
+    (Kind::Bounds, b"0|A", b"Line 1: bound order.\n"),
+    (
+        Kind::Bounds,
+        b"A |1|x",
+        b"Line 1: bound on a secondary item.\n",
+    ),
+    (Kind::Bounds, b"A |0|x", b"Line 1: bound order.\n"),
+    (Kind::Bounds, b"2|", b"Line 1: empty name.\n"),
+    (Kind::Bounds, b"1|2|A", b"Line 1: bad byte in name.\n"),
+    (Kind::Bounds, b"A:b", b"Line 1: bad byte in name.\n"),
+    (Kind::Plain, b"A A", b"Line 1: name repeated.\n"),
+    (Kind::Plain, b"A | | x", b"Line 1: second bar.\n"),
+    (
+        Kind::Plain,
+        b"123456789012345678901234567890123",
+        b"Line 1: name too long.\n",
+    ),
+    (Kind::Plain, b"A\nB", b"Line 2: unknown item.\n"),
+    (
+        Kind::Plain,
+        b"A | x\nA x:1",
+        b"Line 2: colour not allowed here.\n",
+    ),
+    (
+        Kind::Plain,
+        b"A | x\nx x",
+        b"Line 2: item repeated in option.\n",
+    ),
+    (
+        Kind::Colours,
+        b"A | x\nA:1",
+        b"Line 2: colour on a primary item.\n",
+    ),
+    (Kind::Colours, b"A | x\nA x:", b"Line 2: bad colour.\n"),
+    (
+        Kind::Colours,
+        b"A | x\nA x:123456789",
+        b"Line 2: bad colour.\n",
+    ),
+    (
+        Kind::Colours,
+        b"A | x\nA A:1",
+        b"Line 2: item repeated in option.\n",
+    ),
+    (Kind::Colours, b"A\n:", b"Line 2: empty name.\n"),
+    (
+        Kind::Plain,
+        b"A B\nA ABCDEFGHIJ Q A\n",
+        b"Line 2: unknown item.\n",
+    ),
+    (Kind::Plain, b"A B\nA A \0\n", b"Line 2: NUL byte.\n"),
+    (Kind::Plain, b"| a\0b\nA\n", b"Line 1: NUL byte.\n"),
+];
+
+#[test]
+fn faults(rt: HostRuntime) {
+    for (kind, text, message) in &FAULTS {
+        assert!(rt; solve_tells(rt.alloc(), *kind, &[b"m1"], text, 2, b"", message));
+    }
 }
 
 #[test]
-fn words_come_before_the_input(rt: HostRuntime) -> Result<(), Fail> {
-    let rows: [(&[&[u8]], &[u8]); 6] = [
-        (&[b"t0"], b"Word 1: limit must be at least 1.\n"),
-        (&[b"v1"], b"Word 1: unknown.\n"),
-        (&[b"m1", b"m18446744073709551616"], b"Word 2: bad number.\n"),
-        (&[b"m"], b"Word 1: bad number.\n"),
-        (&[b""], b"Word 1: unknown.\n"),
-        (&[b"t0", b"t5"], b"Word 1: limit must be at least 1.\n"),
-    ];
-    for (words, message) in &rows {
-        assert!(rt; solve_tells(rt.alloc(), Kind::Plain, words, b"", 1, b"", message)?);
-    }
-    Ok(())
-}
-
-#[test]
-fn faults(rt: HostRuntime) -> Result<(), Fail> {
-    let rows: [(Kind, &[u8], &[u8]); 25] = [
-        (
-            Kind::Plain,
-            b"A B\nA B A\n",
-            b"Line 2: item repeated in option.\n",
-        ),
-        (Kind::Bounds, b"B|x A\n", b"Line 1: bad bound.\n"),
-        (Kind::Plain, b"B|x A\n", b"Line 1: bad byte in name.\n"),
-        (Kind::Bounds, b"9999999999|a", b"Line 1: bad bound.\n"),
-        (Kind::Bounds, b"2:1|A", b"Line 1: bound order.\n"),
-        (Kind::Bounds, b"0|A", b"Line 1: bound order.\n"),
-        (
-            Kind::Bounds,
-            b"A |1|x",
-            b"Line 1: bound on a secondary item.\n",
-        ),
-        (Kind::Bounds, b"A |0|x", b"Line 1: bound order.\n"),
-        (Kind::Bounds, b"2|", b"Line 1: empty name.\n"),
-        (Kind::Bounds, b"1|2|A", b"Line 1: bad byte in name.\n"),
-        (Kind::Bounds, b"A:b", b"Line 1: bad byte in name.\n"),
-        (Kind::Plain, b"A A", b"Line 1: name repeated.\n"),
-        (Kind::Plain, b"A | | x", b"Line 1: second bar.\n"),
-        (
-            Kind::Plain,
-            b"123456789012345678901234567890123",
-            b"Line 1: name too long.\n",
-        ),
-        (Kind::Plain, b"A\nB", b"Line 2: unknown item.\n"),
-        (
-            Kind::Plain,
-            b"A | x\nA x:1",
-            b"Line 2: colour not allowed here.\n",
-        ),
-        (
-            Kind::Plain,
-            b"A | x\nx x",
-            b"Line 2: item repeated in option.\n",
-        ),
-        (
-            Kind::Colours,
-            b"A | x\nA:1",
-            b"Line 2: colour on a primary item.\n",
-        ),
-        (Kind::Colours, b"A | x\nA x:", b"Line 2: bad colour.\n"),
-        (
-            Kind::Colours,
-            b"A | x\nA x:123456789",
-            b"Line 2: bad colour.\n",
-        ),
-        (
-            Kind::Colours,
-            b"A | x\nA A:1",
-            b"Line 2: item repeated in option.\n",
-        ),
-        (Kind::Colours, b"A\n:", b"Line 2: empty name.\n"),
-        (
-            Kind::Plain,
-            b"A B\nA ABCDEFGHIJ Q A\n",
-            b"Line 2: unknown item.\n",
-        ),
-        (Kind::Plain, b"A B\nA A \0\n", b"Line 2: NUL byte.\n"),
-        (Kind::Plain, b"| a\0b\nA\n", b"Line 1: NUL byte.\n"),
-    ];
-    for (kind, text, message) in &rows {
-        assert!(rt; solve_tells(rt.alloc(), *kind, &[b"m1"], text, 2, b"", message)?);
-    }
-    Ok(())
-}
-
-#[test]
-fn a_text_cut_at_each_byte(rt: HostRuntime) -> Result<(), Fail> {
+fn a_text_cut_at_each_byte(rt: HostRuntime) {
     let text = b"A B\nA B A\n";
     let none: &[u8] = b"Altogether 0 solutions.\n";
     let fault: &[u8] = b"Line 2: item repeated in option.\n";
@@ -124,35 +126,73 @@ fn a_text_cut_at_each_byte(rt: HostRuntime) -> Result<(), Fail> {
                 status,
                 listing,
                 message
-            )?
+            )
         );
     }
-    Ok(())
+}
+
+/// A text with a thousand times the same byte in its midst.
+fn with_a_thousand(
+    alloc: Global,
+    before: &[u8],
+    byte: u8,
+    behind: &[u8],
+) -> Result<Vec<u8>, AllocError> {
+    let mut text = Vec::from_slice(alloc, before)?;
+    for _ in 0..1000 {
+        text.push(byte)?;
+    }
+    text.extend_from_slice(behind)?;
+    Ok(text)
+}
+
+/// Whether it is refused so.
+fn is_refused(
+    alloc: Global,
+    kind: Kind,
+    before: &[u8],
+    byte: u8,
+    behind: &[u8],
+    message: &[u8],
+) -> bool {
+    on_one(with_a_thousand(alloc, before, byte, behind).ok(), |text| {
+        solve_tells(alloc, kind, &[], text, 2, b"", message)
+    })
 }
 
 #[test]
-fn tokens_of_a_thousand_bytes(rt: HostRuntime) -> Result<(), Fail> {
-    let mut letters = Vec::new(rt.alloc());
-    let mut digits = Vec::new(rt.alloc());
-    for _ in 0..1000 {
-        letters.push(b'a')?;
-        digits.push(b'1')?;
-    }
-    digits.extend_from_slice(b"|A")?;
-    let mut name = Vec::new(rt.alloc());
-    name.extend_from_slice(b"A\n")?;
-    name.extend_from_slice(&letters)?;
-    let mut colour = Vec::new(rt.alloc());
-    colour.extend_from_slice(b"A | x\nA x:")?;
-    colour.extend_from_slice(&letters)?;
-    let rows: [(Kind, &[u8], &[u8]); 4] = [
-        (Kind::Plain, &letters, b"Line 1: name too long.\n"),
-        (Kind::Plain, &name, b"Line 2: name too long.\n"),
-        (Kind::Bounds, &digits, b"Line 1: bad bound.\n"),
-        (Kind::Colours, &colour, b"Line 2: bad colour.\n"),
-    ];
-    for (kind, text, message) in &rows {
-        assert!(rt; solve_tells(rt.alloc(), *kind, &[], text, 2, b"", message)?);
-    }
-    Ok(())
+fn tokens_of_a_thousand_bytes(rt: HostRuntime) {
+    let alloc = rt.alloc();
+    let too_long = b"Line 1: name too long.\n";
+    assert!(rt; is_refused(alloc, Kind::Plain, b"", b'a', b"", too_long));
+    assert!(rt;
+        is_refused(
+            alloc,
+            Kind::Plain,
+            b"A\n",
+            b'a',
+            b"",
+            b"Line 2: name too long.\n"
+        )
+    );
+    assert!(rt;
+        is_refused(
+            alloc,
+            Kind::Bounds,
+            b"",
+            b'1',
+            b"|A",
+            b"Line 1: bad bound.\n"
+        )
+    );
+    assert!(rt;
+        is_refused(
+            alloc,
+            Kind::Colours,
+            b"A | x\nA x:",
+            b'a',
+            b"",
+            b"Line 2: bad colour.\n"
+        )
+    );
 }

@@ -1,11 +1,10 @@
 //! The seed that hashes names: what is read is the same by each.
-use crate::told::{solved, status_by};
-use crate::words::gathered;
-use fixtures::{SEVEN, has_option, read};
+use crate::told::Told;
+use fixtures::{SEVEN, SEVEN_LISTING, gathered, has_option, on_one, on_read, on_source};
+use std::alloc::{AllocError, Global};
 use std::test::Fail;
-use xc_input::{Kind, ReadFailed, Reader, Seed, Seeded, SliceSource, Source, read_problem};
-use xc_list::Tray;
-use xc_tools::{Incoming, solve};
+use xc_input::{Feed, Kind, Problem, ReadFailed, Reader, Seed, Seeded, SliceSource, Source};
+use xc_tools::{Incoming, judge, solve};
 
 /// Names of one hash in base 257 modulo 2^64, and an option of each.
 const ONE_HASH: [&[u8]; 3] = [
@@ -14,25 +13,42 @@ const ONE_HASH: [&[u8]; 3] = [
     b"\x94\x96\x9e\x96\x8e\x99\x8e\x88\xab\xab\x8b\x92\x90\x86\x9c\xa2\x9e\x88\x90\xb6\x82\x81\xb2\x88\x93\xaf\x87\x8a\xa0\x98\x94\x96",
 ];
 
-#[test]
-fn names_of_one_hash(rt: HostRuntime) {
-    let mut text = Vec::new(rt.alloc());
-    for separator in [b" ", b"\n"] {
+/// These names as items, and an option of each.
+fn text_of_one_hash(alloc: Global) -> Result<Vec<u8>, Fail> {
+    let mut text = Vec::new(alloc);
+    for separator in &[b" ", b"\n"] {
         for name in &ONE_HASH {
-            assert!(rt; text.extend_from_slice(*name).is_ok());
-            assert!(rt; text.extend_from_slice(separator).is_ok());
+            text.extend_from_slice(*name)?;
+            text.extend_from_slice(*separator)?;
         }
-        assert!(rt; text.push(b'\n').is_ok());
+        text.push(b'\n')?;
     }
-    let Ok(read) = read(rt.alloc(), Kind::Plain, text.as_slice(), 65536) else {
-        return assert!(rt; false);
-    };
-    let problem = &read.problem;
-    assert!(rt; problem.items() == 3 && problem.options() == 3);
+    Ok(text)
+}
+
+/// Whether the names are told apart.
+fn are_three(problem: &Problem) -> bool {
+    if problem.items() != 3 || problem.options() != 3 {
+        return false;
+    }
     for i in 1..4u32 {
-        assert!(rt; problem.find(ONE_HASH[i as usize - 1]) == Some(i));
-        assert!(rt; has_option(problem, i, &[(i, 0)]));
+        let found = problem.find(ONE_HASH[i as usize - 1]);
+        if found != Some(i) || !has_option(problem, i, &[(i, 0)]) {
+            return false;
+        }
     }
+    true
+}
+
+#[test]
+fn names_of_one_hash(rt: HostRuntime) -> Result<(), Fail> {
+    let text = text_of_one_hash(rt.alloc())?;
+    assert!(rt;
+        on_read(rt.alloc(), Kind::Plain, &text, 65536, |read| {
+            are_three(&read.problem)
+        })
+    );
+    Ok(())
 }
 
 /// A source around another, which passes its calls on and forgets its seed.
@@ -49,25 +65,31 @@ impl<'a> Source for Around<'a> {
     }
 }
 
+/// Whether the problem has the names of that text, and hashes them by this seed.
+fn is_same(problem: &Problem, seed: Seed) -> bool {
+    problem.seed() == seed
+        && problem.find(b"y") == Some(4)
+        && problem.find_colour(b"green") == Some(2)
+        && has_option(problem, 1, &[(1, 0), (3, 1)])
+        && has_option(problem, 2, &[(2, 0), (4, 2), (3, 1)])
+}
+
 #[test]
 fn each_seed_reads_the_same(rt: HostRuntime) {
     let text = b"a b | x y\na x:red\nb y:green x:red\n";
     let other = Seed::new(0x0123_4567_89ab_cdef_fedc_ba98_7654_3210);
     assert!(rt; other != Seed::FIXED);
-    for seed in [Seed::FIXED, other, Seed::new(0)] {
+    for &seed in &[Seed::FIXED, other, Seed::new(0)] {
         let source = SliceSource::with_seed(text, Seed::new(9));
         let around = Around { source };
         assert!(rt; around.seed() == Seed::FIXED);
         let mut source = Seeded::new(around, seed);
         assert!(rt; source.seed() == seed);
-        let Ok(read) = read_problem(rt.alloc(), Kind::Colours, &mut source) else {
-            return assert!(rt; false);
-        };
-        let problem = &read.problem;
-        assert!(rt; problem.seed() == seed);
-        assert!(rt; problem.find(b"y") == Some(4) && problem.find_colour(b"green") == Some(2));
-        assert!(rt; has_option(problem, 1, &[(1, 0), (3, 1)]));
-        assert!(rt; has_option(problem, 2, &[(2, 0), (4, 2), (3, 1)]));
+        assert!(rt;
+            on_source(rt.alloc(), Kind::Colours, &mut source, |read| {
+                is_same(&read.problem, seed)
+            })
+        );
         assert!(rt; source.into_source().read(&mut [0; 10]) == Ok(0));
     }
 }
@@ -77,28 +99,65 @@ fn lines_by_a_seed(rt: HostRuntime) {
     let seed = Seed::new(7);
     let mut reader = Reader::with_seed(rt.alloc(), Kind::Plain, seed);
     assert!(rt; reader.line(b"a b").is_ok() && reader.line(b"b a").is_ok());
-    let Ok(read) = reader.finish() else {
-        return assert!(rt; false);
-    };
-    assert!(rt; read.problem.seed() == seed && has_option(&read.problem, 1, &[(2, 0), (1, 0)]));
+    assert!(rt;
+        on_one(reader.finish().ok(), |read| {
+            read.problem.seed() == seed && has_option(&read.problem, 1, &[(2, 0), (1, 0)])
+        })
+    );
+}
+
+/// Runs `solve` over seven items by a seed.
+fn solve_by(alloc: Global, seed: Seed, told: &mut Told) -> Result<(), AllocError> {
+    let words = gathered(alloc, &[b"m1"])?;
+    let mut input = Incoming::new(Some(SEVEN), seed);
+    told.status = solve(
+        alloc,
+        Kind::Plain,
+        &words,
+        &mut input,
+        &mut told.out,
+        &mut told.err,
+    );
+    Ok(())
+}
+
+/// Runs `judge` over a listing of seven items by a seed.
+fn judge_by(alloc: Global, seed: Seed, listing: &[u8], told: &mut Told) -> Result<(), AllocError> {
+    let words = gathered(alloc, &[b"PROBLEM", b"1"])?;
+    let mut problem = Incoming::new(Some(SEVEN), seed);
+    let mut listing = Feed::new(listing, 100, None);
+    told.status = judge(
+        alloc,
+        &words,
+        &mut problem,
+        &mut listing,
+        &mut told.out,
+        &mut told.err,
+    );
+    Ok(())
+}
+
+/// Whether by a seed `solve` lists the cover of seven items, and `judge` finds it right.
+fn is_solved_and_judged(alloc: Global, seed: Seed) -> bool {
+    let solved = Told::new(alloc, 100, 1000);
+    let judged = Told::new(alloc, 100, 100);
+    on_one(solved, |told| {
+        solve_by(alloc, seed, told).is_ok() && told.status == 0 && told.out.bytes() == SEVEN_LISTING
+    }) && on_one(judged, |told| {
+        judge_by(alloc, seed, SEVEN_LISTING, told).is_ok() && told.status == 0
+    })
 }
 
 #[test]
-fn the_same_by_each_seed(rt: HostRuntime) -> Result<(), Fail> {
-    let alloc = rt.alloc();
-    let words = gathered(alloc, &[b"m1"])?;
-    let usual = solved(alloc, Kind::Plain, &[b"m1"], SEVEN, 100)?;
-    for keys in [0, 1, 12_345, u128::MAX] {
-        let seed = Seed::new(keys);
+fn the_same_by_each_seed(rt: HostRuntime) {
+    for keys in &[0, 1, 12_345, u128::MAX] {
+        let seed = Seed::new(*keys);
         let mut source = Incoming::new(Some(SEVEN), seed);
-        let read = read_problem(alloc, Kind::Plain, &mut source);
-        assert!(rt; read.is_ok_and(|read| read.problem.seed() == seed));
-        let mut input = Incoming::new(Some(SEVEN), seed);
-        let mut out = Tray::new(alloc, 100, 1000, false)?;
-        let mut err = Tray::new(alloc, 100, 1000, false)?;
-        let status = solve(alloc, Kind::Plain, &words, &mut input, &mut out, &mut err);
-        assert!(rt; status == usual.status && out.bytes() == usual.out.bytes());
-        assert!(rt; status_by(alloc, seed, SEVEN, out.bytes())? == 0);
+        assert!(rt;
+            on_source(rt.alloc(), Kind::Plain, &mut source, |read| {
+                read.problem.seed() == seed
+            })
+        );
+        assert!(rt; is_solved_and_judged(rt.alloc(), seed));
     }
-    Ok(())
 }

@@ -1,4 +1,5 @@
 //! The system's streams as sinks, over a writer that takes few bytes at a call.
+use fixtures::on_one;
 use std::alloc::Global;
 use std::io::Write;
 use std::test::Fail;
@@ -43,46 +44,71 @@ fn long_text(alloc: Global) -> Result<Vec<u8>, Fail> {
     Ok(text)
 }
 
-fn write_and_flush<S: Sink>(sink: &mut S, text: &[u8]) -> Result<(), Fail> {
-    write_all(sink, text)?;
-    sink.flush()?;
-    Ok(())
+fn writes_and_flushes<S: Sink>(sink: &mut S, text: &[u8]) -> bool {
+    write_all(sink, text).is_ok() && sink.flush().is_ok()
+}
+
+/// Whether a writer took the text, with one flush behind it.
+fn took(writer: &Narrow, text: &[u8]) -> bool {
+    writer.bytes.as_slice() == text && writer.flushes == 1
+}
+
+/// Whether a sink over a writer that holds back takes a text.
+fn is_held(alloc: Global, text: &[u8], writer: &mut Narrow) -> bool {
+    on_one(
+        Outgoing::new(alloc, writer, false).ok(),
+        |sink| writes_and_flushes(sink, text),
+    )
+}
+
+/// Whether a text goes whole through a sink that holds back.
+fn is_held_and_passed(alloc: Global, text: &[u8]) -> bool {
+    on_one(Some(Narrow::new(alloc)), |writer| {
+        is_held(alloc, text, writer) && took(writer, text)
+    })
+}
+
+/// Whether a text goes whole through a sink that passes it on at once.
+fn is_passed(alloc: Global, text: &[u8]) -> bool {
+    on_one(Some(Narrow::new(alloc)), |writer| {
+        writes_and_flushes(&mut Direct::new(&mut *writer), text) && took(writer, text)
+    })
 }
 
 #[test]
 fn short_writes_of_a_long_text(rt: HostRuntime) -> Result<(), Fail> {
     let text = long_text(rt.alloc())?;
-
-    let mut held = Narrow::new(rt.alloc());
-    write_and_flush(&mut Outgoing::new(rt.alloc(), &mut held, false)?, &text)?;
-    assert!(rt; held.bytes == text);
-    assert!(rt; held.flushes == 1);
-
-    let mut direct = Narrow::new(rt.alloc());
-    write_and_flush(&mut Direct::new(&mut direct), &text)?;
-    assert!(rt; direct.bytes == text);
-    assert!(rt; direct.flushes == 1);
+    assert!(rt; is_held_and_passed(rt.alloc(), &text));
+    assert!(rt; is_passed(rt.alloc(), &text));
     Ok(())
 }
 
-/// What a writer gets of lines of ten bytes and a beginning of one, without a flush.
+/// Writes lines of ten bytes and the beginning of one.
+fn write_lines<S: Sink>(sink: &mut S, lines: usize) -> Result<(), Fail> {
+    for _ in 0..lines {
+        write_all(sink, b" A (1 of ")?;
+        write_all(sink, b"\n")?;
+    }
+    write_all(sink, b" A (")?;
+    Ok(())
+}
+
+/// Writes them to a sink that holds back, without a flush.
+fn hold(alloc: Global, by_line: bool, lines: usize, writer: &mut Narrow) -> Result<(), Fail> {
+    write_lines(&mut Outgoing::new(alloc, writer, by_line)?, lines)
+}
+
+/// How many bytes a writer gets of them.
 fn passed_on(alloc: Global, by_line: bool, lines: usize) -> Result<usize, Fail> {
     let mut writer = Narrow::new(alloc);
-    {
-        let mut out = Outgoing::new(alloc, &mut writer, by_line)?;
-        for _ in 0..lines {
-            write_all(&mut out, b" A (1 of ")?;
-            write_all(&mut out, b"\n")?;
-        }
-        write_all(&mut out, b" A (")?;
-    }
+    hold(alloc, by_line, lines, &mut writer)?;
     Ok(writer.bytes.len())
 }
 
 #[test]
 fn lines_appear_when_they_end(rt: HostRuntime) -> Result<(), Fail> {
     // For a terminal all of them; else all but a ninth, in few calls, and at most 65,536 bytes.
-    for lines in [0, 1, 2, 10, 1000] {
+    for &lines in &[0, 1, 2, 10, 1000] {
         assert!(rt; passed_on(rt.alloc(), true, lines)? == 10 * lines);
         let passed = passed_on(rt.alloc(), false, lines)?;
         assert!(rt; passed <= 10 * lines && 10 * lines - passed <= 10 + passed / 8);

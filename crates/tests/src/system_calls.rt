@@ -1,9 +1,8 @@
 //! A stream of which one call fails: the adapters ask no more of it.
 ghost use Rattle.std.specs.Prelude.{◌≡◌, ◌≤◌, length, IfOk};
 
-use crate::words::gathered;
-use fixtures::SEVEN;
-use std::alloc::Global;
+use fixtures::{SEVEN, gathered, on_one};
+use std::alloc::{AllocError, Global};
 use std::io::{Read, Write};
 use std::test::Fail;
 use xc_input::{Kind, Seed, Source};
@@ -64,13 +63,12 @@ fn successful_reads<S: Source>(source: &mut S) -> u64 {
 }
 
 #[test]
-fn a_read_that_fails_once(rt: HostRuntime) -> Result<(), Fail> {
+fn a_read_that_fails_once(rt: HostRuntime) {
     for n in 1..4 {
         let mut reader = FailsOnce::at(n);
         assert!(rt; successful_reads(&mut Incoming::new(Some(&mut reader), Seed::FIXED)) == n - 1);
         assert!(rt; reader.calls == n);
     }
-    Ok(())
 }
 
 /// Makes five calls of a sink, the last of them a flush, and counts those that succeed.
@@ -87,76 +85,105 @@ fn successes<S: Sink>(sink: &mut S) -> u64 {
     count
 }
 
+/// Whether a sink that holds back has so many successes.
+fn has_successes(alloc: Global, writer: &mut FailsOnce, many: u64) -> bool {
+    on_one(
+        Outgoing::new(alloc, writer, true).ok(),
+        |sink| successes(sink) == many,
+    )
+}
+
 #[test]
-fn a_write_that_fails_once(rt: HostRuntime) -> Result<(), Fail> {
+fn a_write_that_fails_once(rt: HostRuntime) {
     for n in 1..6 {
         let mut direct = FailsOnce::at(n);
         assert!(rt; successes(&mut Direct::new(&mut direct)) == n - 1);
         assert!(rt; direct.calls == n);
 
         let mut by_line = FailsOnce::at(n);
-        assert!(rt; successes(&mut Outgoing::new(rt.alloc(), &mut by_line, true)?) == n - 1);
+        assert!(rt; has_successes(rt.alloc(), &mut by_line, n - 1));
         assert!(rt; by_line.calls == n);
     }
-    Ok(())
+}
+
+/// Whether of five flushes those before this one succeed, and no other.
+fn fails_from<S: Sink>(sink: &mut S, n: u64) -> bool {
+    for call in 1..6 {
+        if sink.flush().is_ok() != (call < n) {
+            return false;
+        }
+    }
+    true
+}
+
+/// Whether it is so of a sink that holds back.
+fn holding_fails_from(alloc: Global, writer: &mut FailsOnce, n: u64) -> bool {
+    on_one(
+        Outgoing::new(alloc, writer, false).ok(),
+        |sink| fails_from(sink, n),
+    )
 }
 
 #[test]
-fn a_flush_that_fails_once(rt: HostRuntime) -> Result<(), Fail> {
+fn a_flush_that_fails_once(rt: HostRuntime) {
     for n in 1..4 {
         let mut direct = FailsOnce::at(n);
-        {
-            let mut sink = Direct::new(&mut direct);
-            for call in 1..6 {
-                assert!(rt; sink.flush().is_ok() == (call < n));
-            }
-        }
+        assert!(rt; fails_from(&mut Direct::new(&mut direct), n));
         assert!(rt; direct.calls == n);
 
         let mut held = FailsOnce::at(n);
-        {
-            let mut sink = Outgoing::new(rt.alloc(), &mut held, false)?;
-            for call in 1..6 {
-                assert!(rt; sink.flush().is_ok() == (call < n));
-            }
-        }
+        assert!(rt; holding_fails_from(rt.alloc(), &mut held, n));
         assert!(rt; held.calls == n);
     }
-    Ok(())
 }
 
-/// The status of a run whose output fails at this call, what it tells, and how many calls it made.
-fn solved(alloc: Global, text: &[u8], by_line: bool, n: u64) -> Result<(u8, Tray, u64), Fail> {
-    let mut writer = FailsOnce::at(n);
-    let mut err = Tray::new(alloc, 100, 100, false)?;
-    let words = gathered(alloc, &[b"m1"])?;
+/// The status of a run whose output goes to this writer.
+fn solved(
+    alloc: Global,
+    words: &[Vec<u8>],
+    text: &[u8],
+    by_line: bool,
+    writer: &mut FailsOnce,
+    err: &mut Tray,
+) -> Result<u8, AllocError> {
     let mut input = Incoming::new(Some(text), Seed::FIXED);
-    let status = {
-        let mut out = Outgoing::new(alloc, &mut writer, by_line)?;
-        solve(alloc, Kind::Plain, &words, &mut input, &mut out, &mut err)
-    };
-    Ok((status, err, writer.calls))
+    let mut out = Outgoing::new(alloc, writer, by_line)?;
+    Ok(solve(alloc, Kind::Plain, words, &mut input, &mut out, err))
+}
+
+/// Whether a run whose output fails at the n-th call has this status, makes so many calls and tells this.
+fn ends_so(
+    alloc: Global,
+    text: &[u8],
+    by_line: bool,
+    n: u64,
+    status: u8,
+    calls: u64,
+    told: &[u8],
+) -> Result<bool, AllocError> {
+    let words = gathered(alloc, &[b"m1"])?;
+    Ok(on_one(Tray::new(alloc, 100, 100, false).ok(), |err| {
+        let mut writer = FailsOnce::at(n);
+        solved(alloc, &words, text, by_line, &mut writer, err).is_ok_and(|ended| ended == status)
+            && writer.calls == calls
+            && err.bytes() == told
+    }))
 }
 
 #[test]
 fn a_run_whose_output_fails_once(rt: HostRuntime) -> Result<(), Fail> {
+    let alloc = rt.alloc();
     let two: &[u8] = b"A\nA\nA\n";
     let at_1: &[u8] = b"Write failed at solution 1.\n";
     let at_2: &[u8] = b"Write failed at solution 2.\n";
     let at_flush: &[u8] = b"Write failed.\n";
     // By lines each of two solutions, which is put together and written at once, is a call, and then the flush.
-    for (n, told) in [(1, at_1), (2, at_2), (3, at_flush)] {
-        let (status, err, calls) = solved(rt.alloc(), two, true, n)?;
-        assert!(rt; status == 3 && calls == n);
-        assert!(rt; err.bytes() == told);
-    }
+    assert!(rt; ends_so(alloc, two, true, 1, 3, 1, at_1)?);
+    assert!(rt; ends_so(alloc, two, true, 2, 3, 2, at_2)?);
+    assert!(rt; ends_so(alloc, two, true, 3, 3, 3, at_flush)?);
+    assert!(rt; ends_so(alloc, two, true, 4, 0, 3, b"Altogether 2 solutions.\n")?);
     // Else the first solution is passed on at its end.
-    for (n, told) in [(1, at_1), (2, at_flush)] {
-        let (status, err, calls) = solved(rt.alloc(), SEVEN, false, n)?;
-        assert!(rt; status == 3 && calls == n);
-        assert!(rt; err.bytes() == told);
-    }
-    let (status, _, calls) = solved(rt.alloc(), two, true, 4)?;
-    assert!(rt; status == 0 && calls == 3);
+    assert!(rt; ends_so(alloc, SEVEN, false, 1, 3, 1, at_1)?);
+    assert!(rt; ends_so(alloc, SEVEN, false, 2, 3, 2, at_flush)?);
     Ok(())
 }

@@ -1,12 +1,9 @@
 //! What whole runs tell.
-ghost use Rattle.std.specs.Prelude.{◌<◌};
-
-use crate::words::gathered;
-use std::alloc::Global;
-use std::test::Fail;
-use xc_input::{Feed, Kind, Seed};
+use fixtures::{gathered, on_one};
+use std::alloc::{AllocError, Global};
+use xc_input::{Feed, Kind};
 use xc_list::Tray;
-use xc_tools::{Incoming, judge, solve};
+use xc_tools::{judge, solve};
 
 /// What a program tells: its status, its listing and its messages.
 #[derive(Drop)]
@@ -16,22 +13,83 @@ pub struct Told {
     pub err: Tray,
 }
 
-/// Runs `solve` over a text that is read, and whose answers are taken, so many bytes at a time.
-pub fn solved(
+impl Told {
+    /// Nothing yet. There is room for so many bytes each, which are taken so many at a time.
+    pub fn new(alloc: Global, step: usize, room: usize) -> Option<Told> {
+        let out = Tray::new(alloc, step.max(1), room, false).ok()?;
+        let err = Tray::new(alloc, step.max(1), room, false).ok()?;
+        Some(Told {
+            status: 0,
+            out,
+            err,
+        })
+    }
+
+    /// Whether this was told.
+    pub fn is(&self, status: u8, out: &[u8], err: &[u8]) -> bool {
+        self.status == status && self.out.bytes() == out && self.err.bytes() == err
+    }
+
+    /// Runs `solve` over a text that is read so many bytes at a time.
+    pub fn solve(
+        &mut self,
+        alloc: Global,
+        kind: Kind,
+        words: &[&[u8]],
+        text: &[u8],
+        step: usize,
+    ) -> Result<(), AllocError> {
+        let words = gathered(alloc, words)?;
+        let mut input = Feed::new(text, step.max(1), None);
+        self.status = solve(
+            alloc,
+            kind,
+            &words,
+            &mut input,
+            &mut self.out,
+            &mut self.err,
+        );
+        Ok(())
+    }
+
+    /// Runs `judge` by these words, over texts that are read so many bytes at a time.
+    pub fn judge(
+        &mut self,
+        alloc: Global,
+        words: &[&[u8]],
+        problem: &[u8],
+        listing: &[u8],
+        step: usize,
+    ) -> Result<(), AllocError> {
+        let words = gathered(alloc, words)?;
+        let mut problem = Feed::new(problem, step.max(1), None);
+        let mut listing = Feed::new(listing, step.max(1), None);
+        self.status = judge(
+            alloc,
+            &words,
+            &mut problem,
+            &mut listing,
+            &mut self.out,
+            &mut self.err,
+        );
+        Ok(())
+    }
+}
+
+/// Whether `solve` tells this of a text that is read, and whose answers are taken, so many bytes at a time.
+fn solve_gives_by(
     alloc: Global,
     kind: Kind,
     words: &[&[u8]],
     text: &[u8],
     step: usize,
-) -> Result<Told, Fail>
-    requires { 0 < step }
-{
-    let asked = gathered(alloc, words)?;
-    let mut input = Feed::new(text, step, None);
-    let mut out = Tray::new(alloc, step, 1000, false)?;
-    let mut err = Tray::new(alloc, step, 1000, false)?;
-    let status = solve(alloc, kind, &asked, &mut input, &mut out, &mut err);
-    Ok(Told { status, out, err })
+    status: u8,
+    out: &[u8],
+    err: &[u8],
+) -> bool {
+    on_one(Told::new(alloc, step, 1000), |told| {
+        told.solve(alloc, kind, words, text, step).is_ok() && told.is(status, out, err)
+    })
 }
 
 /// Whether `solve` tells this, by steps of one byte as by large ones.
@@ -43,14 +101,9 @@ pub fn solve_gives(
     status: u8,
     out: &[u8],
     err: &[u8],
-) -> Result<bool, Fail> {
-    for step in [1, 4096] {
-        let told = solved(alloc, kind, words, text, step)?;
-        if told.status != status || told.out.bytes() != out || told.err.bytes() != err {
-            return Ok(false);
-        }
-    }
-    Ok(true)
+) -> bool {
+    solve_gives_by(alloc, kind, words, text, 1, status, out, err)
+        && solve_gives_by(alloc, kind, words, text, 4096, status, out, err)
 }
 
 /// Whether `solve` tells this, and the judge finds nothing but covers in what it lists.
@@ -62,9 +115,9 @@ pub fn solve_tells(
     status: u8,
     out: &[u8],
     err: &[u8],
-) -> Result<bool, Fail> {
-    let given = solve_gives(alloc, kind, words, text, status, out, err)?;
-    Ok(given && (status != 0 || status_of(alloc, kind, text, out)? == 0))
+) -> bool {
+    solve_gives(alloc, kind, words, text, status, out, err)
+        && (status != 0 || finds_covers(alloc, kind, text, out))
 }
 
 /// The word that stands for a kind.
@@ -76,54 +129,29 @@ fn number_of(kind: Kind) -> &'static [u8] {
     }
 }
 
-/// Runs `judge` by these words, over texts that are read, and whose answers are taken, so many bytes
+/// Whether the judge finds nothing but covers in a listing.
+fn finds_covers(alloc: Global, kind: Kind, problem: &[u8], listing: &[u8]) -> bool {
+    let words: [&[u8]; 2] = [b"PROBLEM", number_of(kind)];
+    on_one(Told::new(alloc, 4096, 1000), |told| {
+        told.judge(alloc, &words, problem, listing, 4096).is_ok() && told.status == 0
+    })
+}
+
+/// Whether `judge` by these words tells this of texts that are read, and whose answers are taken, so many bytes
 /// at a time.
-pub fn judged_by(
+pub fn judge_gives(
     alloc: Global,
     words: &[&[u8]],
     problem: &[u8],
     listing: &[u8],
     step: usize,
-) -> Result<Told, Fail>
-    requires { 0 < step }
-{
-    let asked = gathered(alloc, words)?;
-    let mut problem = Feed::new(problem, step, None);
-    let mut listing = Feed::new(listing, step, None);
-    let mut out = Tray::new(alloc, step, 1000, false)?;
-    let mut err = Tray::new(alloc, step, 1000, false)?;
-    let status = judge(
-        alloc,
-        &asked,
-        &mut problem,
-        &mut listing,
-        &mut out,
-        &mut err,
-    );
-    Ok(Told { status, out, err })
-}
-
-/// The status of `judge` on this listing.
-pub fn status_of(alloc: Global, kind: Kind, problem: &[u8], listing: &[u8]) -> Result<u8, Fail> {
-    let words: [&[u8]; 2] = [b"PROBLEM", number_of(kind)];
-    Ok(judged_by(alloc, &words, problem, listing, 4096)?.status)
-}
-
-/// The status of the judge of plain problems on this listing, by a seed.
-pub fn status_by(alloc: Global, seed: Seed, problem: &[u8], listing: &[u8]) -> Result<u8, Fail> {
-    let words = gathered(alloc, &[b"PROBLEM", b"1"])?;
-    let mut problem = Incoming::new(Some(problem), seed);
-    let mut listing = Feed::new(listing, 100, None);
-    let mut out = Tray::new(alloc, 100, 100, false)?;
-    let mut err = Tray::new(alloc, 100, 100, false)?;
-    Ok(judge(
-        alloc,
-        &words,
-        &mut problem,
-        &mut listing,
-        &mut out,
-        &mut err,
-    ))
+    status: u8,
+    out: &[u8],
+    err: &[u8],
+) -> bool {
+    on_one(Told::new(alloc, step, 1000), |told| {
+        told.judge(alloc, words, problem, listing, step).is_ok() && told.is(status, out, err)
+    })
 }
 
 /// Whether `judge` tells this, by steps of one byte as by large ones.
@@ -135,13 +163,8 @@ pub fn judge_tells(
     status: u8,
     out: &[u8],
     err: &[u8],
-) -> Result<bool, Fail> {
+) -> bool {
     let words: [&[u8]; 2] = [b"PROBLEM", number_of(kind)];
-    for step in [1, 4096] {
-        let told = judged_by(alloc, &words, problem, listing, step)?;
-        if told.status != status || told.out.bytes() != out || told.err.bytes() != err {
-            return Ok(false);
-        }
-    }
-    Ok(true)
+    judge_gives(alloc, &words, problem, listing, 1, status, out, err)
+        && judge_gives(alloc, &words, problem, listing, 4096, status, out, err)
 }
