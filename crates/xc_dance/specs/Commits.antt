@@ -7,7 +7,7 @@ use Rattle.xc_dance.specs.declared.dance.Move.{Move}
 use Rattle.xc_dance.specs.declared.dance.Move.TheVariants.{Cover, Purify, Spend}
 use Rattle.xc_input.specs.Problem.{Puzzle, IsItem, IsOption, primary_count, high_at, uses_of}
 use Rattle.xc_dance.specs.Moves.{is_open, spends, AreLegal, listed_numbers}
-use Rattle.xc_dance.specs.Fields.{Node, unused, own, spacer, used, layout, link_place}
+use Rattle.xc_dance.specs.Fields.{Node, spacer, used, layout, link_place}
 
 -- item i is spent, and covered where nothing is left of its bound
 abbrev pub after_spend : Puzzle → ℕ → List Move → List Move

@@ -3,7 +3,7 @@ use Rattle.std.proofs.Common.{◌≡◌, ℕ, ◌+◌, ◌/◌, ◌%◌, ◌^◌
 use Rattle.std.proofs.Common.{drop, get_or, sym, ap, ◌∙◌, append-nil, arith, subst, zero, suc, refl}
 use Rattle.std.proofs.KnownBytes.{Appends-nil}
 use Rattle.xc_list.specs.inner.LineParts.{colour_text}
-use Rattle.std.specs.Prelude.{flat_map, IsErr, codes, decimal, ◌==◌}
+use Rattle.std.specs.Prelude.{flat_map, IsErr, codes, decimal}
 use Rattle.std.proofs.lemmas.Fmt.{decimal_digit, decimal_step}
 use Rattle.xc_list.specs.Output.{bytes_at, from_item}
 use Rattle.std.proofs.lemmas.Grind.{common_steps}

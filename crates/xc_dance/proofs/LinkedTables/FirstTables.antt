@@ -30,7 +30,6 @@ use Rattle.xc_dance.specs.inner.Links.FirstItems.{linked_to, bound_to}
 use Rattle.xc_dance.specs.Moves.{is_covered}
 use Rattle.xc_dance.proofs.LinkedTables.LaidLemmas.{head_is}
 use Rattle.xc_dance.proofs.LinkedTables.PlaceLemmas.{spacer_at, place_next}
-use Rattle.xc_dance.proofs.LinkedTables.LinkColumns.{same_nodes}
 use Rattle.xc_dance.proofs.LinkedTables.RingStep.{same_items}
 use Rattle.xc_dance.proofs.LinkedTables.Sweep.{last_below-more, last_of-more}
 use Rattle.xc_dance.specs.declared.links.nodes.TheConstants.{SPACER}
