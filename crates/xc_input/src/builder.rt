@@ -7,7 +7,7 @@ ghost use Rattle.xc_input.specs.inner.Stages.{row_checks, no_row, row_of, line_c
 ghost use Rattle.xc_input.specs.inner.Stages.{with_option, written_by, no_stage, with_row};
 ghost use Rattle.xc_input.specs.Tokens.{parts};
 ghost use Rattle.xc_input.specs.inner.Builders.{Judged, IsBuilder, IsItemTable, AreMarks, AreTablesFor, row_of_line};
-ghost use Rattle.xc_input.specs.inner.Builders.{stage_of_builder, sheet_of_builder};
+ghost use Rattle.xc_input.specs.inner.Builders.{stage_of_builder, sheet_of_builder, named_by, IsReadable};
 
 use crate::guess::{ColourGuesses, Guesses};
 use crate::item_line::{ItemLine, item_line};
@@ -15,7 +15,8 @@ use crate::limits::MOST_USES;
 use crate::line_error::LineError;
 use crate::names::{NameSet, no_names};
 use crate::option_line::option_line;
-use crate::problem::{Item, Use};
+use crate::problem::{Item, Problem, Use};
+use crate::reader::Read;
 use crate::seed::Seed;
 use crate::tokens::{has_byte, is_skipped_line};
 use crate::{FaultKind, Kind};
@@ -83,6 +84,31 @@ impl ProblemBuilder {
             uses: Vec::new(alloc),
             starts: Vec::new(alloc),
             ignored: Vec::new(alloc),
+        }
+    }
+
+    /// The problem that the lines gave, and the numbers of the ignored ones.
+    pub fn finish(self) -> Read
+        requires { IsReadable self }
+        ensures problem { result.problem ≡ named_by self }
+        ensures ignored { result.ignored.items ≡ self.ignored.items }
+    {
+        let ProblemBuilder {
+            started: _,
+            names,
+            guesses: _,
+            items,
+            primary,
+            marks: _,
+            colours,
+            colour_guesses: _,
+            uses,
+            starts,
+            ignored,
+        } = self;
+        Read {
+            problem: Problem::new(names, items, primary, uses, starts, colours),
+            ignored,
         }
     }
 

@@ -134,23 +134,7 @@ impl Reader {
                 kind: FaultKind::NoItems,
             });
         }
-        let ProblemBuilder {
-            started: _,
-            names,
-            guesses: _,
-            items,
-            primary,
-            marks: _,
-            colours,
-            colour_guesses: _,
-            uses,
-            starts,
-            ignored,
-        } = builder;
-        Ok(Read {
-            problem: Problem::new(names, items, primary, uses, starts, colours),
-            ignored,
-        })
+        Ok(builder.finish())
     }
 }
 

@@ -13,10 +13,10 @@ use Rattle.xc_input.specs.inner.Stages.{Stage, stage_of}
 use Rattle.xc_input.proofs.ValidLemmas.SheetValidity.{IsSheetOf}
 use Rattle.xc_input.specs.Text.{StandsFor}
 use Rattle.xc_input.specs.Named.{Named, IsSound}
-use Rattle.xc_input.specs.inner.Vectors.{named_from, IsOptional, AreOptionStarts}
+use Rattle.xc_input.specs.inner.Vectors.{IsOptional, AreOptionStarts}
 use Rattle.xc_input.specs.inner.Stored.{key_names}
 use Rattle.xc_input.specs.inner.Flat.{pieces}
-use Rattle.xc_input.specs.inner.Builders.{IsBuilder, stage_of_builder, sheet_of_builder, entry_of}
+use Rattle.xc_input.specs.inner.Builders.{IsBuilder, IsReadable, named_by, stage_of_builder, sheet_of_builder, entry_of}
 use Rattle.xc_input.specs.inner.EndedLines.{AreWhole}
 use Rattle.xc_input.specs.Readings.{Reading, IsStateOf}
 use Rattle.xc_input.specs.inner.Feeding.{IsEndOf}
@@ -33,10 +33,6 @@ refutes kind lines (Fault n k) h f p ig s = let g : first_fault kind lines ≡ N
     (stands-only kind lines p ig s).0 in absurd (cc)
 refutes kind lines Device h f p ig s = absurd h
 refutes kind lines Memory h f p ig s = absurd (f refl)
-
--- the problem that a draft holds
-abbrev pub named_by : ProblemBuilder → Named
-named_by d = named_from d.items.items d.primary d.uses.items d.starts.items d.colours.keys
 
 by-builder : (d : ProblemBuilder) → named_of (sheet_of_builder d) ≡ named_by d
 by-builder d = named-is d.items.items d.primary (pieces d.starts.items d.uses.items) (key_names d.colours.keys)
@@ -87,10 +83,10 @@ module _ (v : Reading) (kind : Kind) (lines : List (List ℕ)) (o : Option Input
               ∙ ap (λ (st : Stage). st.ignored) (sym whole.1),
         )
 
-    pub table-names : key_names d.names.keys ≡ map (λ x. x.name.items) d.items.items
+    table-names : key_names d.names.keys ≡ map (λ x. x.name.items) d.items.items
     table-names = whole.0.names ∙ item-names d.items.items
 
-    pub primary-within : d.started ≡ true → d.primary ≤ length d.items.items
+    primary-within : d.started ≡ true → d.primary ≤ length d.items.items
     primary-within g =
         omega (
           arith,
@@ -99,14 +95,24 @@ module _ (v : Reading) (kind : Kind) (lines : List (List ℕ)) (o : Option Input
               d.items.items entry_of,
         )
 
-    pub optional-behind : d.started ≡ true → All IsOptional (drop d.primary d.items.items)
+    optional-behind : d.started ≡ true → All IsOptional (drop d.primary d.items.items)
     optional-behind g =
         behind-bounds d.primary d.items.items (valid kind lines (sheet_of_builder d) d.ignored.items (written g)).bounds
 
-    pub starts-are : d.started ≡ true → AreOptionStarts d.starts.items d.uses.items
+    starts-are : d.started ≡ true → AreOptionStarts d.starts.items d.uses.items
     starts-are g = whole.0.starts g
 
     pub is-sound : AreWhole lines → d.started ≡ true → IsSound (named_by d)
     is-sound w g =
         let few : length (key_names d.colours.keys) ≤ 10000000 = omega (arith, whole.0.few_colours, whole.0.few_uses) in
         subst IsSound (by-builder d) (sheet-sound kind lines (sheet_of_builder d) d.ignored.items (written g) w few)
+
+    pub readable : AreWhole lines → d.started ≡ true → IsReadable d
+    readable w g =
+        record {
+          names = table-names;
+          primary = primary-within g;
+          secondary = optional-behind g;
+          starts = starts-are g;
+          sound = is-sound w g;
+        }

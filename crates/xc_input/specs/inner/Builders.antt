@@ -1,6 +1,6 @@
 -- No public clause cites this module. What the parts of the reader hold, in the words of the grammar.
 use Rattle.std.specs.Prelude.{◌≡◌, ◌≢◌, ℕ, ◌+◌, ◌<◌, ◌≤◌, Bool, true, false, nat_eq, List, [], ◌∷◌, Option, None, Some}
-use Rattle.std.specs.Prelude.{Result, Ok, Err, All, AllPairs, map, length, get_or}
+use Rattle.std.specs.Prelude.{Result, Ok, Err, All, AllPairs, map, drop, length, get_or}
 use Rattle.std.specs.List.{list_any}
 use Rattle.xc_input.specs.declared.problem.Item.{Item}
 use Rattle.xc_input.specs.declared.fault.FaultKind.{FaultKind}
@@ -12,11 +12,11 @@ use Rattle.xc_input.specs.declared.line_error.LineError.TheVariants.{Fault, Memo
 use Rattle.xc_input.specs.declared.option_line.WrittenUse.{WrittenUse}
 use Rattle.xc_input.specs.declared.builder.ProblemBuilder.{ProblemBuilder}
 use Rattle.xc_input.specs.declared.builder.Tables.{Tables}
-use Rattle.xc_input.specs.Named.{IsName}
+use Rattle.xc_input.specs.Named.{Named, IsName, IsSound}
 use Rattle.xc_input.specs.Tokens.{is_space}
 use Rattle.xc_input.specs.inner.Flat.{pieces}
 use Rattle.xc_input.specs.inner.GuessedWords.{AreWords}
-use Rattle.xc_input.specs.inner.Vectors.{AreOptionStarts}
+use Rattle.xc_input.specs.inner.Vectors.{named_from, IsOptional, AreOptionStarts}
 use Rattle.xc_input.specs.inner.Stored.{key_names}
 use Rattle.xc_input.specs.inner.Stages.{Stage, Row}
 use Rattle.xc_input.specs.Sheets.{Entry, Written}
@@ -95,6 +95,18 @@ pub record IsBuilder (d : ProblemBuilder) : Type 0 where
   pub few_colours : length (key_names d.colours.keys) ≤ length d.uses.items
   pub distinct_colours : AreDistinct (key_names d.colours.keys)
   pub words : AreWords (key_names d.names.keys) d.guesses.words.items
+
+-- the problem that it holds
+abbrev pub named_by : ProblemBuilder → Named
+named_by d = named_from d.items.items d.primary d.uses.items d.starts.items d.colours.keys
+
+-- its parts make up a sound problem
+pub record IsReadable (d : ProblemBuilder) : Type 0 where
+  pub names : key_names d.names.keys ≡ map (λ x. x.name.items) d.items.items
+  pub primary : d.primary ≤ length d.items.items
+  pub secondary : All IsOptional (drop d.primary d.items.items)
+  pub starts : AreOptionStarts d.starts.items d.uses.items
+  pub sound : IsSound (named_by d)
 
 -- what is kept beside these items before any option
 pub record AreTablesFor (row : ItemLine) (t : Tables) : Type 0 where
