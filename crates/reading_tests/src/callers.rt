@@ -1,17 +1,22 @@
 //! What is there for callers: sources, items and options in order, names and colours of uses.
-use fixtures::{COLOURED, SEVEN, problem};
-use std::test::Fail;
-use xc_input::{Kind, Problem, Seed, SliceSource, Use, place_in, read_problem};
+use fixtures::{COLOURED, SEVEN, on_problem, on_source};
+use xc_input::{Kind, Problem, Seed, SliceSource, Use, place_in};
 
 #[test]
 fn a_slice_is_read_by_each_seed(rt: HostRuntime) {
     let mut source = SliceSource::new(SEVEN);
-    let read = read_problem(rt.alloc(), Kind::Plain, &mut source);
-    assert!(rt; read.is_ok_and(|it| it.problem.items() == 7 && it.problem.options() == 6));
+    assert!(rt;
+        on_source(rt.alloc(), Kind::Plain, &mut source, |it| {
+            it.problem.items() == 7 && it.problem.options() == 6
+        })
+    );
     let seed = Seed::new(0x1234_5678_9abc_def0);
     let mut seeded = SliceSource::with_seed(COLOURED, seed);
-    let read = read_problem(rt.alloc(), Kind::Colours, &mut seeded);
-    assert!(rt; read.is_ok_and(|it| it.problem.items() == 5 && it.problem.seed() == seed));
+    assert!(rt;
+        on_source(rt.alloc(), Kind::Colours, &mut seeded, |it| {
+            it.problem.items() == 5 && it.problem.seed() == seed
+        })
+    );
 }
 
 fn has_names(problem: &Problem, names: &[&[u8]]) -> bool {
@@ -41,12 +46,16 @@ fn are_five(problem: &Problem) -> bool {
         && problem.get_option(6).is_none()
 }
 
+/// Whether the items and options are those of the problem with colours.
+fn are_in_order(problem: &Problem) -> bool {
+    has_names(problem, &[b"p", b"q", b"r", b"x", b"y"])
+        && options_and_uses(problem) == (5, 14)
+        && are_five(problem)
+}
+
 #[test]
-fn items_and_options_in_order(rt: HostRuntime) -> Result<(), Fail> {
-    let problem = problem(rt.alloc(), Kind::Colours, COLOURED)?;
-    assert!(rt; has_names(&problem, &[b"p", b"q", b"r", b"x", b"y"]));
-    assert!(rt; options_and_uses(&problem) == (5, 14) && are_five(&problem));
-    Ok(())
+fn items_and_options_in_order(rt: HostRuntime) {
+    assert!(rt; on_problem(rt.alloc(), Kind::Colours, COLOURED, are_in_order));
 }
 
 /// Whether the last option's last use is `y` with the colour `B`.
@@ -61,11 +70,12 @@ fn ends_in_y(problem: &Problem) -> bool {
 }
 
 #[test]
-fn names_and_colours_of_uses(rt: HostRuntime) -> Result<(), Fail> {
-    let problem = problem(rt.alloc(), Kind::Colours, COLOURED)?;
-    assert!(rt; ends_in_y(&problem));
-    assert!(rt; problem.colour_of(Use { item: 1, colour: 0 }).is_none());
-    Ok(())
+fn names_and_colours_of_uses(rt: HostRuntime) {
+    assert!(rt;
+        on_problem(rt.alloc(), Kind::Colours, COLOURED, |problem| {
+            ends_in_y(problem) && problem.colour_of(Use { item: 1, colour: 0 }).is_none()
+        })
+    );
 }
 
 /// Whether the first item is its copy, and the second one isn't.
@@ -77,10 +87,8 @@ fn first_is_its_copy(problem: &Problem) -> bool {
 }
 
 #[test]
-fn an_item_is_its_copy(rt: HostRuntime) -> Result<(), Fail> {
-    let problem = problem(rt.alloc(), Kind::Plain, SEVEN)?;
-    assert!(rt; first_is_its_copy(&problem));
-    Ok(())
+fn an_item_is_its_copy(rt: HostRuntime) {
+    assert!(rt; on_problem(rt.alloc(), Kind::Plain, SEVEN, first_is_its_copy));
 }
 
 #[test]

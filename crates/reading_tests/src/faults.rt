@@ -18,88 +18,92 @@ pub fn has_fault(alloc: Global, kind: Kind, text: &[u8], line: u64, wanted: Faul
         && refusal(alloc, kind, text, 1) == fault(line, wanted)
 }
 
+/// Texts with a fault in their item line, and its number.
+const OF_ITEM_LINES: [(Kind, &[u8], u64, FaultKind); 26] = [
+    (Kind::Plain, b"", 1, FaultKind::NoItems),
+    (Kind::Plain, b"\n", 2, FaultKind::NoItems),
+    (Kind::Plain, b"| hi", 2, FaultKind::NoItems),
+    (Kind::Plain, b"| hi\n", 2, FaultKind::NoItems),
+    (Kind::Plain, b"\n| a\0b\nA A", 2, FaultKind::NulByte),
+    (Kind::Bounds, b"B|x A", 1, FaultKind::BadBound),
+    (Kind::Plain, b"B|x A", 1, FaultKind::BadByteInName),
+    (Kind::Bounds, b"9999999999|a", 1, FaultKind::BadBound),
+    (Kind::Bounds, b"2:1|A", 1, FaultKind::BoundOrder),
+    (Kind::Bounds, b"0|A", 1, FaultKind::BoundOrder),
+    (Kind::Bounds, b"A |1|x", 1, FaultKind::BoundOnSecondary),
+    (Kind::Bounds, b"A |0|x", 1, FaultKind::BoundOrder),
+    (Kind::Bounds, b"2|", 1, FaultKind::EmptyName),
+    (Kind::Bounds, b"1|2|A", 1, FaultKind::BadByteInName),
+    (Kind::Bounds, b"2||A", 1, FaultKind::BadByteInName),
+    (Kind::Bounds, b"A:b", 1, FaultKind::BadByteInName),
+    (Kind::Bounds, b"1:2", 1, FaultKind::BadByteInName),
+    (Kind::Bounds, b"A||x", 1, FaultKind::BadBound),
+    (Kind::Bounds, b"x|", 1, FaultKind::BadBound),
+    (Kind::Bounds, b"1:|A", 1, FaultKind::BadBound),
+    (Kind::Bounds, b":1|A", 1, FaultKind::BadBound),
+    (Kind::Bounds, b"1:2:3|A", 1, FaultKind::BadBound),
+    (Kind::Plain, b"A A", 1, FaultKind::RepeatedName),
+    (Kind::Plain, b"A | | x", 1, FaultKind::TwoBars),
+    (Kind::Plain, b"A || x", 1, FaultKind::TwoBars),
+    (
+        Kind::Plain,
+        b"123456789012345678901234567890123",
+        1,
+        FaultKind::NameTooLong,
+    ),
+];
+
 #[test]
 fn faults_of_item_lines(rt: HostRuntime) {
-    let rows: [(Kind, &[u8], u64, FaultKind); 26] = [
-        (Kind::Plain, b"", 1, FaultKind::NoItems),
-        (Kind::Plain, b"\n", 2, FaultKind::NoItems),
-        (Kind::Plain, b"| hi", 2, FaultKind::NoItems),
-        (Kind::Plain, b"| hi\n", 2, FaultKind::NoItems),
-        (Kind::Plain, b"\n| a\0b\nA A", 2, FaultKind::NulByte),
-        (Kind::Bounds, b"B|x A", 1, FaultKind::BadBound),
-        (Kind::Plain, b"B|x A", 1, FaultKind::BadByteInName),
-        (Kind::Bounds, b"9999999999|a", 1, FaultKind::BadBound),
-        (Kind::Bounds, b"2:1|A", 1, FaultKind::BoundOrder),
-        (Kind::Bounds, b"0|A", 1, FaultKind::BoundOrder),
-        (Kind::Bounds, b"A |1|x", 1, FaultKind::BoundOnSecondary),
-        (Kind::Bounds, b"A |0|x", 1, FaultKind::BoundOrder),
-        (Kind::Bounds, b"2|", 1, FaultKind::EmptyName),
-        (Kind::Bounds, b"1|2|A", 1, FaultKind::BadByteInName),
-        (Kind::Bounds, b"2||A", 1, FaultKind::BadByteInName),
-        (Kind::Bounds, b"A:b", 1, FaultKind::BadByteInName),
-        (Kind::Bounds, b"1:2", 1, FaultKind::BadByteInName),
-        (Kind::Bounds, b"A||x", 1, FaultKind::BadBound),
-        (Kind::Bounds, b"x|", 1, FaultKind::BadBound),
-        (Kind::Bounds, b"1:|A", 1, FaultKind::BadBound),
-        (Kind::Bounds, b":1|A", 1, FaultKind::BadBound),
-        (Kind::Bounds, b"1:2:3|A", 1, FaultKind::BadBound),
-        (Kind::Plain, b"A A", 1, FaultKind::RepeatedName),
-        (Kind::Plain, b"A | | x", 1, FaultKind::TwoBars),
-        (Kind::Plain, b"A || x", 1, FaultKind::TwoBars),
-        (
-            Kind::Plain,
-            b"123456789012345678901234567890123",
-            1,
-            FaultKind::NameTooLong,
-        ),
-    ];
-    for (kind, text, line, fault) in &rows {
+    for (kind, text, line, fault) in &OF_ITEM_LINES {
         assert!(rt; has_fault(rt.alloc(), *kind, text, *line, *fault));
     }
 }
 
+/// Texts with a fault in an option line, and its number.
+const OF_OPTION_LINES: [(Kind, &[u8], u64, FaultKind); 17] = [
+    (Kind::Plain, b"A B\nA B A", 2, FaultKind::RepeatedInOption),
+    (Kind::Plain, b"A\nB", 2, FaultKind::UnknownItem),
+    (Kind::Plain, b"A\n\n\tA |B", 3, FaultKind::BadByteInName),
+    (Kind::Plain, b"A | x\nA x:1", 2, FaultKind::ColourNotHere),
+    (Kind::Plain, b"A | x\nx x", 2, FaultKind::RepeatedInOption),
+    (Kind::Plain, b"A | x\nx\ny", 3, FaultKind::UnknownItem),
+    (Kind::Colours, b"A | x\nA:1", 2, FaultKind::ColourOnPrimary),
+    (Kind::Colours, b"A | x\nA:", 2, FaultKind::ColourOnPrimary),
+    (Kind::Colours, b"A | x\nA x:", 2, FaultKind::BadColour),
+    (
+        Kind::Colours,
+        b"A | x\nA x:123456789",
+        2,
+        FaultKind::BadColour,
+    ),
+    (
+        Kind::Colours,
+        b"A | x\nA A:1",
+        2,
+        FaultKind::RepeatedInOption,
+    ),
+    (Kind::Colours, b"A\n:", 2, FaultKind::EmptyName),
+    (Kind::Colours, b"A\n:A", 2, FaultKind::EmptyName),
+    (
+        Kind::Plain,
+        b"A B\nA ABCDEFGHIJ Q A",
+        2,
+        FaultKind::UnknownItem,
+    ),
+    (Kind::Plain, b"A B\nA A \0", 2, FaultKind::NulByte),
+    (
+        Kind::Plain,
+        b"A\n123456789012345678901234567890123",
+        2,
+        FaultKind::NameTooLong,
+    ),
+    (Kind::Bounds, b"2|A\nA\nA 2|A", 3, FaultKind::BadByteInName),
+];
+
 #[test]
 fn faults_of_option_lines(rt: HostRuntime) {
-    let rows: [(Kind, &[u8], u64, FaultKind); 17] = [
-        (Kind::Plain, b"A B\nA B A", 2, FaultKind::RepeatedInOption),
-        (Kind::Plain, b"A\nB", 2, FaultKind::UnknownItem),
-        (Kind::Plain, b"A\n\n\tA |B", 3, FaultKind::BadByteInName),
-        (Kind::Plain, b"A | x\nA x:1", 2, FaultKind::ColourNotHere),
-        (Kind::Plain, b"A | x\nx x", 2, FaultKind::RepeatedInOption),
-        (Kind::Plain, b"A | x\nx\ny", 3, FaultKind::UnknownItem),
-        (Kind::Colours, b"A | x\nA:1", 2, FaultKind::ColourOnPrimary),
-        (Kind::Colours, b"A | x\nA:", 2, FaultKind::ColourOnPrimary),
-        (Kind::Colours, b"A | x\nA x:", 2, FaultKind::BadColour),
-        (
-            Kind::Colours,
-            b"A | x\nA x:123456789",
-            2,
-            FaultKind::BadColour,
-        ),
-        (
-            Kind::Colours,
-            b"A | x\nA A:1",
-            2,
-            FaultKind::RepeatedInOption,
-        ),
-        (Kind::Colours, b"A\n:", 2, FaultKind::EmptyName),
-        (Kind::Colours, b"A\n:A", 2, FaultKind::EmptyName),
-        (
-            Kind::Plain,
-            b"A B\nA ABCDEFGHIJ Q A",
-            2,
-            FaultKind::UnknownItem,
-        ),
-        (Kind::Plain, b"A B\nA A \0", 2, FaultKind::NulByte),
-        (
-            Kind::Plain,
-            b"A\n123456789012345678901234567890123",
-            2,
-            FaultKind::NameTooLong,
-        ),
-        (Kind::Bounds, b"2|A\nA\nA 2|A", 3, FaultKind::BadByteInName),
-    ];
-    for (kind, text, line, fault) in &rows {
+    for (kind, text, line, fault) in &OF_OPTION_LINES {
         assert!(rt; has_fault(rt.alloc(), *kind, text, *line, *fault));
     }
 }
@@ -126,152 +130,204 @@ fn is_at_fault(
     answer.is_ok_and(|found| found == Some(wanted))
 }
 
+/// Item lines, and how the token at fault cuts them.
+const CUT_ITEM_LINES: [(Kind, &[u8], &[u8], &[u8], &[u8], FaultKind); 9] = [
+    (
+        Kind::Plain,
+        b"A A B A",
+        b"A ",
+        b"A",
+        b" B A",
+        FaultKind::RepeatedName,
+    ),
+    (
+        Kind::Plain,
+        b" A || x",
+        b" A |",
+        b"|",
+        b" x",
+        FaultKind::TwoBars,
+    ),
+    (
+        Kind::Bounds,
+        b"A B|x C",
+        b"A ",
+        b"B|x",
+        b" C",
+        FaultKind::BadBound,
+    ),
+    (
+        Kind::Plain,
+        b"A B|x\t",
+        b"A ",
+        b"B|x",
+        b"\t",
+        FaultKind::BadByteInName,
+    ),
+    (
+        Kind::Bounds,
+        b"2:1|A",
+        b"",
+        b"2:1|A",
+        b"",
+        FaultKind::BoundOrder,
+    ),
+    (
+        Kind::Bounds,
+        b"A |1|x y",
+        b"A |",
+        b"1|x",
+        b" y",
+        FaultKind::BoundOnSecondary,
+    ),
+    (
+        Kind::Bounds,
+        b"A 2| B",
+        b"A ",
+        b"2|",
+        b" B",
+        FaultKind::EmptyName,
+    ),
+    (
+        Kind::Plain,
+        b"A 123456789012345678901234567890123",
+        b"A ",
+        b"123456789012345678901234567890123",
+        b"",
+        FaultKind::NameTooLong,
+    ),
+    (
+        Kind::Colours,
+        b"A | x:1",
+        b"A | ",
+        b"x:1",
+        b"",
+        FaultKind::BadByteInName,
+    ),
+];
+
 #[test]
 fn tokens_at_fault_in_item_lines(rt: HostRuntime) {
-    let rows: [(Kind, &[u8], Cut, FaultKind); 9] = [
-        (
-            Kind::Plain,
-            b"A A B A",
-            [b"A ", b"A", b" B A"],
-            FaultKind::RepeatedName,
-        ),
-        (
-            Kind::Plain,
-            b" A || x",
-            [b" A |", b"|", b" x"],
-            FaultKind::TwoBars,
-        ),
-        (
-            Kind::Bounds,
-            b"A B|x C",
-            [b"A ", b"B|x", b" C"],
-            FaultKind::BadBound,
-        ),
-        (
-            Kind::Plain,
-            b"A B|x\t",
-            [b"A ", b"B|x", b"\t"],
-            FaultKind::BadByteInName,
-        ),
-        (
-            Kind::Bounds,
-            b"2:1|A",
-            [b"", b"2:1|A", b""],
-            FaultKind::BoundOrder,
-        ),
-        (
-            Kind::Bounds,
-            b"A |1|x y",
-            [b"A |", b"1|x", b" y"],
-            FaultKind::BoundOnSecondary,
-        ),
-        (
-            Kind::Bounds,
-            b"A 2| B",
-            [b"A ", b"2|", b" B"],
-            FaultKind::EmptyName,
-        ),
-        (
-            Kind::Plain,
-            b"A 123456789012345678901234567890123",
-            [b"A ", b"123456789012345678901234567890123", b""],
-            FaultKind::NameTooLong,
-        ),
-        (
-            Kind::Colours,
-            b"A | x:1",
-            [b"A | ", b"x:1", b""],
-            FaultKind::BadByteInName,
-        ),
-    ];
-    for (kind, line, cut, fault) in &rows {
-        assert!(rt; is_at_fault(rt.alloc(), *kind, None, line, *cut, *fault));
+    for (kind, line, before, token, behind, fault) in &CUT_ITEM_LINES {
+        let cut: Cut = [*before, *token, *behind];
+        assert!(rt; is_at_fault(rt.alloc(), *kind, None, line, cut, *fault));
     }
 }
 
+/// Option lines, and how the token at fault cuts them.
+const CUT_OPTION_LINES: [(Kind, &[u8], &[u8], &[u8], &[u8], FaultKind); 10] = [
+    (
+        Kind::Plain,
+        b"A B A C",
+        b"A B ",
+        b"A",
+        b" C",
+        FaultKind::RepeatedInOption,
+    ),
+    (
+        Kind::Plain,
+        b"A AB B",
+        b"A ",
+        b"AB",
+        b" B",
+        FaultKind::UnknownItem,
+    ),
+    (
+        Kind::Plain,
+        b"A x:1",
+        b"A ",
+        b"x:1",
+        b"",
+        FaultKind::ColourNotHere,
+    ),
+    (
+        Kind::Colours,
+        b"x:1 A:1 B",
+        b"x:1 ",
+        b"A:1",
+        b" B",
+        FaultKind::ColourOnPrimary,
+    ),
+    (
+        Kind::Colours,
+        b"A x: ",
+        b"A ",
+        b"x:",
+        b" ",
+        FaultKind::BadColour,
+    ),
+    (
+        Kind::Colours,
+        b"x:1 x:1",
+        b"x:1 ",
+        b"x:1",
+        b"",
+        FaultKind::RepeatedInOption,
+    ),
+    (
+        Kind::Colours,
+        b"A x:123456789",
+        b"A ",
+        b"x:123456789",
+        b"",
+        FaultKind::BadColour,
+    ),
+    (
+        Kind::Bounds,
+        b":A A",
+        b"",
+        b":A",
+        b" A",
+        FaultKind::EmptyName,
+    ),
+    (
+        Kind::Plain,
+        b"\tA |B",
+        b"\tA ",
+        b"|B",
+        b"",
+        FaultKind::BadByteInName,
+    ),
+    (
+        Kind::Plain,
+        b"123456789012345678901234567890123",
+        b"",
+        b"123456789012345678901234567890123",
+        b"",
+        FaultKind::NameTooLong,
+    ),
+];
+
 #[test]
 fn tokens_at_fault_in_option_lines(rt: HostRuntime) {
-    let rows: [(Kind, &[u8], Cut, FaultKind); 10] = [
-        (
-            Kind::Plain,
-            b"A B A C",
-            [b"A B ", b"A", b" C"],
-            FaultKind::RepeatedInOption,
-        ),
-        (
-            Kind::Plain,
-            b"A AB B",
-            [b"A ", b"AB", b" B"],
-            FaultKind::UnknownItem,
-        ),
-        (
-            Kind::Plain,
-            b"A x:1",
-            [b"A ", b"x:1", b""],
-            FaultKind::ColourNotHere,
-        ),
-        (
-            Kind::Colours,
-            b"x:1 A:1 B",
-            [b"x:1 ", b"A:1", b" B"],
-            FaultKind::ColourOnPrimary,
-        ),
-        (
-            Kind::Colours,
-            b"A x: ",
-            [b"A ", b"x:", b" "],
-            FaultKind::BadColour,
-        ),
-        (
-            Kind::Colours,
-            b"x:1 x:1",
-            [b"x:1 ", b"x:1", b""],
-            FaultKind::RepeatedInOption,
-        ),
-        (
-            Kind::Colours,
-            b"A x:123456789",
-            [b"A ", b"x:123456789", b""],
-            FaultKind::BadColour,
-        ),
-        (
-            Kind::Bounds,
-            b":A A",
-            [b"", b":A", b" A"],
-            FaultKind::EmptyName,
-        ),
-        (
-            Kind::Plain,
-            b"\tA |B",
-            [b"\tA ", b"|B", b""],
-            FaultKind::BadByteInName,
-        ),
-        (
-            Kind::Plain,
-            b"123456789012345678901234567890123",
-            [b"", b"123456789012345678901234567890123", b""],
-            FaultKind::NameTooLong,
-        ),
-    ];
-    for (kind, line, cut, fault) in &rows {
-        assert!(rt; is_at_fault(rt.alloc(), *kind, Some(b"A B C | x"), line, *cut, *fault));
+    for (kind, line, before, token, behind, fault) in &CUT_OPTION_LINES {
+        let cut: Cut = [*before, *token, *behind];
+        assert!(rt; is_at_fault(rt.alloc(), *kind, Some(b"A B C | x"), line, cut, *fault));
     }
+}
+
+/// Item lines without a token at fault.
+const ITEM_LINES: [&[u8]; 3] = [b"A B | x", b"| A A", b"A A \0"];
+
+/// Item lines, and lines behind them without a token at fault.
+const LINES_BEHIND: [(&[u8], &[u8]); 4] = [
+    (b"A B", b"B A"),
+    (b"A B", b"A A \0"),
+    (b"A B", b" "),
+    (b"A A", b"B"),
+];
+
+fn is_none_at_fault(alloc: Global, items: Option<&[u8]>, line: &[u8]) -> bool {
+    faulty_token(alloc, Seed::FIXED, Kind::Plain, items, line).is_ok_and(|found| found.is_none())
 }
 
 #[test]
 fn no_token_at_fault(rt: HostRuntime) {
-    let rows: [(Option<&[u8]>, &[u8]); 7] = [
-        (None, b"A B | x"),
-        (None, b"| A A"),
-        (None, b"A A \0"),
-        (Some(b"A B"), b"B A"),
-        (Some(b"A B"), b"A A \0"),
-        (Some(b"A B"), b" "),
-        (Some(b"A A"), b"B"),
-    ];
-    for (items, line) in &rows {
-        let answer = faulty_token(rt.alloc(), Seed::FIXED, Kind::Plain, *items, line);
-        assert!(rt; answer.is_ok_and(|found| found.is_none()));
+    for line in &ITEM_LINES {
+        assert!(rt; is_none_at_fault(rt.alloc(), None, *line));
+    }
+    for (items, line) in &LINES_BEHIND {
+        assert!(rt; is_none_at_fault(rt.alloc(), Some(*items), *line));
     }
 }
 
@@ -293,31 +349,35 @@ fn errors_stay(rt: HostRuntime) {
     assert!(rt; reader.finish().err() == fault(2, FaultKind::UnknownItem));
 }
 
+/// Each fault and its words.
+const WORDS: [(FaultKind, &str); 17] = [
+    (FaultKind::NoItems, "no items"),
+    (FaultKind::NulByte, "NUL byte"),
+    (FaultKind::EmptyName, "empty name"),
+    (FaultKind::NameTooLong, "name too long"),
+    (FaultKind::BadByteInName, "bad byte in name"),
+    (FaultKind::RepeatedName, "name repeated"),
+    (FaultKind::TwoBars, "second bar"),
+    (FaultKind::BadBound, "bad bound"),
+    (FaultKind::BoundOrder, "bound order"),
+    (FaultKind::BoundOnSecondary, "bound on a secondary item"),
+    (FaultKind::UnknownItem, "unknown item"),
+    (FaultKind::RepeatedInOption, "item repeated in option"),
+    (FaultKind::ColourOnPrimary, "colour on a primary item"),
+    (FaultKind::BadColour, "bad colour"),
+    (FaultKind::ColourNotHere, "colour not allowed here"),
+    (FaultKind::TooManyItems, "too many items"),
+    (FaultKind::TooManyUses, "too many uses"),
+];
+
+fn has_words(alloc: Global, kind: FaultKind, wanted: &str) -> bool {
+    kind.to_string(alloc)
+        .is_ok_and(|text| text.as_str() == wanted)
+}
+
 #[test]
 fn texts_of_faults(rt: HostRuntime) {
-    let rows: [(FaultKind, &str); 17] = [
-        (FaultKind::NoItems, "no items"),
-        (FaultKind::NulByte, "NUL byte"),
-        (FaultKind::EmptyName, "empty name"),
-        (FaultKind::NameTooLong, "name too long"),
-        (FaultKind::BadByteInName, "bad byte in name"),
-        (FaultKind::RepeatedName, "name repeated"),
-        (FaultKind::TwoBars, "second bar"),
-        (FaultKind::BadBound, "bad bound"),
-        (FaultKind::BoundOrder, "bound order"),
-        (FaultKind::BoundOnSecondary, "bound on a secondary item"),
-        (FaultKind::UnknownItem, "unknown item"),
-        (FaultKind::RepeatedInOption, "item repeated in option"),
-        (FaultKind::ColourOnPrimary, "colour on a primary item"),
-        (FaultKind::BadColour, "bad colour"),
-        (FaultKind::ColourNotHere, "colour not allowed here"),
-        (FaultKind::TooManyItems, "too many items"),
-        (FaultKind::TooManyUses, "too many uses"),
-    ];
-    for (kind, wanted) in &rows {
-        let Ok(text) = kind.to_string(rt.alloc()) else {
-            return assert!(rt; false);
-        };
-        assert!(rt; text.as_str() == *wanted);
+    for (kind, wanted) in &WORDS {
+        assert!(rt; has_words(rt.alloc(), *kind, *wanted));
     }
 }

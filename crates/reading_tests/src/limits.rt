@@ -1,6 +1,6 @@
 //! The most items and uses, and one more.
 use crate::faults::{fault, refusal};
-use fixtures::read;
+use fixtures::{on_one, on_read};
 use std::alloc::Global;
 use std::test::Fail;
 use xc_input::{FaultKind, InputError, Kind, Reader, Seed, faulty_token};
@@ -33,19 +33,27 @@ fn no_more_items(rt: HostRuntime) -> Result<(), Fail> {
     Ok(())
 }
 
-#[test]
-fn no_more_uses(rt: HostRuntime) {
-    let mut reader = Reader::new(rt.alloc(), Kind::Plain);
-    assert!(rt; reader.line(b"a b c d e f g h i j | x").is_ok());
-    for _ in 0..1_000_000u32 {
-        assert!(rt; reader.line(b"a b c d e f g h i j").is_ok());
-    }
-    assert!(rt; reader.line(b"x").is_ok());
+/// Whether a reader takes as many uses as are let in, and refuses one more in this line.
+fn takes_most_uses(reader: &mut Reader, line: u64) -> bool {
     let wanted = InputError::Fault {
-        line: 1_000_003,
+        line,
         kind: FaultKind::TooManyUses,
     };
-    assert!(rt; reader.line(b"a") == Err(wanted));
+    if reader.line(b"a b c d e f g h i j | x").is_err() {
+        return false;
+    }
+    for _ in 0..1_000_000u32 {
+        if reader.line(b"a b c d e f g h i j").is_err() {
+            return false;
+        }
+    }
+    reader.line(b"x").is_ok() && reader.line(b"a") == Err(wanted)
+}
+
+#[test]
+fn no_more_uses(rt: HostRuntime) {
+    let reader = Some(Reader::new(rt.alloc(), Kind::Plain));
+    assert!(rt; on_one(reader, |reader| takes_most_uses(reader, 1_000_003)));
 }
 
 /// A hundred primary items and a secondary one, in as many options of all the primary ones as uses are
@@ -67,7 +75,7 @@ fn most_uses(alloc: Global) -> Result<String, Fail> {
 
 /// Whether these options are all taken, and one line is ignored, that number.
 fn are_taken(alloc: Global, text: &[u8], options: u32, ignored: u64) -> bool {
-    read(alloc, Kind::Plain, text, 65536).is_ok_and(|read| {
+    on_read(alloc, Kind::Plain, text, 65536, |read| {
         read.problem.options() == options && read.ignored.as_slice() == [ignored].as_slice()
     })
 }

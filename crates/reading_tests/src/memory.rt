@@ -1,24 +1,37 @@
 //! Want of memory.
 use fixtures::SEVEN;
-use xc_input::{Feed, InputError, Kind, ReadFailed, Reader, Source, read_problem};
+use xc_input::{Feed, InputError, Kind, Read, ReadFailed, Reader, Source, read_problem};
+
+const LINES: [&[u8]; 3] = [b"A B | x", b"A x:red", b"B x:red"];
+
+/// Whether a reader takes these lines, up to one that it refuses for want of memory, as all behind it.
+/// `refused` tells whether there is one.
+fn takes_or_wants_memory(reader: &mut Reader, refused: &mut bool) -> bool {
+    for line in &LINES {
+        match reader.line(*line) {
+            Ok(()) if *refused => return false,
+            Ok(()) => (),
+            Err(InputError::Memory) => *refused = true,
+            Err(_) => return false,
+        }
+    }
+    true
+}
+
+/// Whether a reader ends so: with two options, or with want of memory where a line was refused.
+fn ends_so(read: &Result<Read, InputError>, refused: bool) -> bool {
+    match read {
+        Ok(read) => !refused && read.problem.options() == 2,
+        Err(e) => refused && *e == InputError::Memory,
+    }
+}
 
 #[test]
 fn answers_or_wants_memory(rt: HostRuntime) {
     let mut reader = Reader::new(rt.alloc(), Kind::Colours);
     let mut refused = false;
-    for line in [b"A B | x", b"A x:red", b"B x:red"] {
-        match reader.line(line) {
-            Ok(()) => assert!(rt; !refused),
-            Err(e) => {
-                assert!(rt; e == InputError::Memory);
-                refused = true;
-            }
-        }
-    }
-    match reader.finish() {
-        Ok(read) => assert!(rt; !refused && read.problem.options() == 2),
-        Err(e) => assert!(rt; refused && e == InputError::Memory),
-    }
+    assert!(rt; takes_or_wants_memory(&mut reader, &mut refused));
+    assert!(rt; ends_so(&reader.finish(), refused));
 }
 
 /// A source that counts the bytes that it gave.
@@ -38,8 +51,16 @@ impl<'a> Source for Counted<'a> {
     }
 }
 
-// A test can't refuse a growth: `rt try --test --fail-alloc N -- memory` does. Then the buffer was refused,
-// and nothing is read, or a later growth was, and the whole text was read before.
+/// Whether an answer is right behind so many bytes of the seven items: with want of memory the buffer was
+/// refused, and nothing is read, or a later growth was, and the whole text was read before.
+fn is_right(answer: &Result<Read, InputError>, bytes: usize) -> bool {
+    match answer {
+        Ok(read) => bytes == SEVEN.len() && read.problem.options() == 6,
+        Err(e) => *e == InputError::Memory && (bytes == 0 || bytes == SEVEN.len()),
+    }
+}
+
+// A test can't refuse a growth: `rt try --test --fail-alloc N -- memory` does.
 #[test]
 fn nothing_is_read_behind_a_refused_growth(rt: HostRuntime) {
     let mut source = Counted {
@@ -47,10 +68,5 @@ fn nothing_is_read_behind_a_refused_growth(rt: HostRuntime) {
         bytes: 0,
     };
     let answer = read_problem(rt.alloc(), Kind::Plain, &mut source);
-    let refused = matches!(answer, Err(InputError::Memory)) && source.bytes == 0;
-    assert!(rt; refused || source.bytes == SEVEN.len());
-    match answer {
-        Ok(read) => assert!(rt; read.problem.options() == 6),
-        Err(e) => assert!(rt; e == InputError::Memory),
-    }
+    assert!(rt; is_right(&answer, source.bytes));
 }

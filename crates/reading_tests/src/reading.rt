@@ -1,6 +1,6 @@
 //! Problems as they are read, by steps of one byte and of many.
 use crate::faults::has_fault;
-use fixtures::{has_option, read};
+use fixtures::{has_option, on_read};
 use std::alloc::Global;
 use xc_input::{Bounds, FaultKind, Kind, Problem, Read};
 
@@ -52,18 +52,10 @@ fn is_of_two_colours(read: &Read) -> bool {
 }
 
 /// Whether what is read of a text is so, in pieces of one byte and in large ones.
-fn is_read<F: Fn(&Read) -> bool>(alloc: Global, kind: Kind, text: &[u8], is_so: F) -> bool
+fn is_read<F: Copy + Fn(&Read) -> bool>(alloc: Global, kind: Kind, text: &[u8], is_so: F) -> bool
     requires { F.IsAlwaysCallable is_so }
 {
-    for step in [1, 65536] {
-        let Ok(read) = read(alloc, kind, text, step) else {
-            return false;
-        };
-        if !is_so(&read) {
-            return false;
-        }
-    }
-    true
+    on_read(alloc, kind, text, 1, is_so) && on_read(alloc, kind, text, 65536, is_so)
 }
 
 #[test]
