@@ -1,5 +1,5 @@
 //! Plans: the parts of a search as lines.
-use fixtures::{THREE_ALIKE, problem};
+use fixtures::{THREE_ALIKE, gathered, on_one, on_problem};
 use std::alloc::Global;
 use std::test::Fail;
 use xc_input::{Kind, Problem};
@@ -7,11 +7,7 @@ use xc_list::{End, PlanWords, Tray, plan};
 
 /// What one to three words ask for.
 fn asked(alloc: Global, words: &[&[u8]]) -> Result<Option<PlanWords>, Fail> {
-    let mut all = Vec::new(alloc);
-    for word in words {
-        all.push(word.to_vec(alloc)?)?;
-    }
-    Ok(PlanWords::read(&all))
+    Ok(PlanWords::read(&gathered(alloc, words)?))
 }
 
 fn words(budget: u64, size: u64, limit: u64) -> PlanWords {
@@ -32,29 +28,21 @@ fn words_of_a_plan(rt: HostRuntime) -> Result<(), Fail> {
     Ok(())
 }
 
-/// What a plan of three parts is written as into a sink that takes so many bytes, and its end.
-fn planned(alloc: Global, problem: &Problem, room: usize) -> Result<(Tray, End), Fail> {
-    let mut tray = Tray::new(alloc, 5, room, false)?;
-    let end = plan(alloc, problem, words(0, 0, 9), &mut tray)?;
-    Ok((tray, end))
-}
-
-/// Whether the plan of three equal options is written whole.
-fn is_written(alloc: Global, problem: &Problem) -> Result<bool, Fail> {
-    let (tray, end) = planned(alloc, problem, 100)?;
-    Ok(end == End::Done(3) && tray.bytes() == b" A:1/3@1\n A:2/3@2\n A:3/3@3\n".as_slice())
-}
-
-/// Whether the plan breaks off in its second part where the sink takes twelve bytes.
-fn breaks_off(alloc: Global, problem: &Problem) -> Result<bool, Fail> {
-    let (_, end) = planned(alloc, problem, 12)?;
-    Ok(end == End::WriteFailed(2))
+/// Whether a plan ends so into a sink that takes so many bytes, with this in it.
+fn ends_so(alloc: Global, problem: &Problem, room: usize, end: End, written: &[u8]) -> bool {
+    on_one(Tray::new(alloc, 5, room, false).ok(), |tray| {
+        plan(alloc, problem, words(0, 0, 9), tray) == Ok(end) && tray.bytes() == written
+    })
 }
 
 #[test]
-fn a_part_for_each_solution(rt: HostRuntime) -> Result<(), Fail> {
-    let problem = problem(rt.alloc(), Kind::Plain, THREE_ALIKE)?;
-    assert!(rt; is_written(rt.alloc(), &problem)?);
-    assert!(rt; breaks_off(rt.alloc(), &problem)?);
-    Ok(())
+fn a_part_for_each_solution(rt: HostRuntime) {
+    let alloc = rt.alloc();
+    let parts = b" A:1/3@1\n A:2/3@2\n A:3/3@3\n";
+    assert!(rt;
+        on_problem(alloc, Kind::Plain, THREE_ALIKE, |problem| {
+            ends_so(alloc, problem, 100, End::Done(3), parts)
+                && ends_so(alloc, problem, 12, End::WriteFailed(2), &parts[..12])
+        })
+    );
 }

@@ -1,20 +1,20 @@
 //! A solution without choices, as it is written.
-use fixtures::{SEVEN, problem};
-use std::alloc::Global;
-use std::test::Fail;
-use xc_input::Kind;
+use fixtures::{SEVEN, on_one, on_problem};
+use xc_input::{Kind, Problem};
 use xc_list::{Tray, write_solution};
 
 /// Whether the header of the twelfth solution is written.
-fn is_header_written(alloc: Global, tray: &mut Tray) -> Result<bool, Fail> {
-    let problem = problem(alloc, Kind::Plain, SEVEN)?;
-    Ok(write_solution(12, &[], &problem, tray).is_ok())
+fn is_header_written(problem: &Problem, tray: &mut Tray) -> bool {
+    write_solution(12, &[], problem, tray).is_ok() && tray.bytes() == b"12:\n".as_slice()
 }
 
 #[test]
-fn a_header_alone(rt: HostRuntime) -> Result<(), Fail> {
-    let mut tray = Tray::new(rt.alloc(), 1, 100, false)?;
-    assert!(rt; is_header_written(rt.alloc(), &mut tray)?);
-    assert!(rt; tray.bytes() == b"12:\n".as_slice());
-    Ok(())
+fn a_header_alone(rt: HostRuntime) {
+    let alloc = rt.alloc();
+    assert!(rt;
+        on_problem(alloc, Kind::Plain, SEVEN, |problem| {
+            let tray = Tray::new(alloc, 1, 100, false).ok();
+            on_one(tray, |tray| is_header_written(problem, tray))
+        })
+    );
 }

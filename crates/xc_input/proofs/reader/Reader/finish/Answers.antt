@@ -26,8 +26,9 @@ finish-requires c =
 
 pub returns-clause-accepted : goal.returns-clause-accepted
 returns-clause-accepted c =
-    rw (c.finish.ensures.problem, c.finish.ensures.ignored) (accepts _ c.self.inside.kind c.self.inside.given.lines c.self.inside.error (sym c.self.view_is)
-    c.self.invariant.1 c.in_default.is c.self.inside.builder c.self.invariant.2
+    rw (c.finish.ensures.problem, c.finish.ensures.ignored) (accepts _ c.self.inside.kind
+    c.self.inside.given.lines c.self.inside.error (sym c.self.view_is) c.self.invariant.1 c.in_default.is
+    c.self.inside.builder c.self.invariant.2
     (not-false _ c.if-not-builder.false))
 
 pub returns-clause-only : goal.returns-clause-only
@@ -38,6 +39,7 @@ returns-clause-only c = λ p ig s. let q =
 
 pub returns-clause-valid : goal.returns-clause-valid
 returns-clause-valid c =
-    rw c.finish.ensures.problem (is-sound _ c.self.inside.kind c.self.inside.given.lines c.self.inside.error (sym c.self.view_is)
-    c.self.invariant.1 c.in_default.is c.self.inside.builder c.self.invariant.2 c.self.invariant.3
+    rw c.finish.ensures.problem (is-sound _ c.self.inside.kind c.self.inside.given.lines
+    c.self.inside.error (sym c.self.view_is) c.self.invariant.1 c.in_default.is c.self.inside.builder
+    c.self.invariant.2 c.self.invariant.3
     (not-false _ c.if-not-builder.false))
