@@ -1,4 +1,7 @@
 -- The token at fault is found as its line is read, one token after another.
+use Rattle.std.proofs.Common.{arith}
+use Rattle.std.proofs.lemmas.Bool.Decides.{nat_tests}
+use Rattle.std.proofs.lemmas.List.{length-map}
 use Rattle.std.proofs.Common.{◌≡◌, ℕ, List, [], ◌∷◌, ◌++◌, Option, None, Some, Bool, true, false, is_some, length, map}
 use Rattle.std.proofs.Common.{Result, Ok, Err, IfOk, refl, sym, ap, ◌∙◌, subst, append_assoc, append-nil, if◌then◌else◌}
 use Rattle.std.specs.List.{list_any}
@@ -16,7 +19,7 @@ use Rattle.xc_input.specs.inner.Sheets.{names_of}
 use Rattle.xc_input.specs.inner.Stages.{Row, entry, with_part}
 use Rattle.xc_input.specs.inner.Stages.{part_checks as row_part_checks}
 use Rattle.xc_input.proofs.FaultLemmas.FirstChecks.{first-front, first-back}
-use Rattle.xc_input.proofs.FaultLemmas.Checks.{names_of-snoc, names_of-length, map-length}
+use Rattle.xc_input.proofs.FaultLemmas.Checks.{names_of-snoc, names_of-length}
 use Rattle.xc_input.proofs.FaultLemmas.FirstFaults.{names-snoc, barred-snoc, or-true, or-same}
 use Rattle.xc_input.proofs.GrammarLemmas.LawLemmas.{at-bar, at-word}
 
@@ -25,11 +28,7 @@ checks-append : {A B : Type 0} (checks : List A → A → List B) (before xs ys 
     ≡ checks_of_each checks before xs ++ checks_of_each checks (before ++ xs) ys
 checks-append checks before [] ys = ap (λ b. checks_of_each checks b ys) (sym (append-nil before))
 checks-append checks before (x ∷ xs) ys =
-    ap (λ cs. checks before x ++ cs) (checks-append checks (before ++ x ∷ []) xs ys
-    ∙ ap (λ b. checks_of_each checks (before ++ x ∷ []) xs ++ checks_of_each checks b ys)
-    (append_assoc before (x ∷ []) xs))
-    ∙ sym (append_assoc (checks before x) (checks_of_each checks (before ++ x ∷ []) xs)
-    (checks_of_each checks (before ++ x ∷ xs) ys))
+    grind (arith, nat_tests, checks-append checks (before ++ x ∷ []) xs ys, append_assoc)
 
 -- a line is read up to this rest: the tokens before it have no fault
 pub record IsReadTo (cut : List ℕ → List (List ℕ)) (checks : List (List ℕ) → List ℕ → List (FaultKind × Bool))
@@ -51,11 +50,8 @@ module _ (cut : List ℕ → List (List ℕ)) (checks : List (List ℕ) → List
   -- the next token stands in the line too
   pub read-stands : (line rest piece behind : List ℕ) (others : List (List ℕ)) → IsReadTo cut checks line rest others
       → StandsBefore rest piece behind → StandsBefore line piece behind
-  read-stands line rest piece behind others r s = (
-    r.front ++ s.0,
-    r.place ∙ ap (λ xs. r.front ++ xs) s.1 ∙ sym (append_assoc r.front (s.0 ++ piece) behind)
-        ∙ ap (λ xs. xs ++ behind) (sym (append_assoc r.front s.0 piece)),
-  )
+  read-stands line rest piece behind others r s =
+      grind (arith, nat_tests, append_assoc r.front (s.0 ++ piece) behind, append_assoc r.front s.0 piece)
 
   pub read-on : (line rest piece behind : List ℕ) (others : List (List ℕ)) → IsReadTo cut checks line rest others
       → cut rest ≡ piece ∷ cut behind → StandsBefore rest piece behind → first (checks others piece) ≡ None
@@ -82,15 +78,7 @@ module _ (cut : List ℕ → List (List ℕ)) (checks : List (List ℕ) → List
 
   pub read-end : (line rest : List ℕ) (others : List (List ℕ)) → IsReadTo cut checks line rest others
       → cut rest ≡ [] → (t : FaultyToken) → IsAtFault cut checks line t → ⊥
-  read-end line rest others r e t h =
-      let all : List (List ℕ) → Option FaultKind = λ ps. first (checks_of_each checks [] ps) in
-      let none : all (cut line) ≡ None =
-      ap all (r.order ∙ ap (λ ps. others ++ ps) e ∙ append-nil others) ∙ r.faultless in
-      let some : all (cut line) ≡ Some t.kind =
-      ap all h.order ∙ first-each h.others (t.token.now ∷ cut t.behind.now) h.faultless
-      ∙ first-front (checks h.others t.token.now)
-      (checks_of_each checks (h.others ++ t.token.now ∷ []) (cut t.behind.now)) t.kind h.fault in
-      cc
+  read-end line rest others r e t h = grind (arith, nat_tests, append-nil, first-each, first-front)
 
 -- the items of these parts of an item line
 pub record IsRowOf (kind : Kind) (row : Row) (others : List (List ℕ)) : Type 0 where
@@ -123,8 +111,8 @@ row-more kind row others part r =
 
 -- there are as many names as items
 pub keys-length : (i : ItemLine) → IsItemTable i → length i.names.keys ≡ length i.items.items
-keys-length i t = sym (map-length (λ v. v.items) i.names.keys) ∙ ap length t.0
-    ∙ names_of-length (map entry_of i.items.items) ∙ map-length entry_of i.items.items
+keys-length i t = sym (length-map i.names.keys (λ v. v.items)) ∙ ap length t.0
+    ∙ names_of-length (map entry_of i.items.items) ∙ length-map i.items.items entry_of
 
 -- what is told of the one is told of the other, where both say the same
 pub tells-same : {A : Type 0} (P Q : A → Type 0) (o : Option A) → ((x : A) → P x → Q x) → ((x : A) → Q x → P x)

@@ -1,11 +1,11 @@
 -- Checks in their order, as `add_item`, `item_line` and `option_line` come to them.
-use Rattle.std.proofs.Common.{◌≡◌, ℕ, suc, ◌+◌, ◌<◌, ◌≤◌, List, [], ◌∷◌, ◌++◌, Option, None, Some, Bool, true, false}
-use Rattle.std.proofs.Common.{◌||◌, not, nat_lt, is_none, is_some, length, map, position, refl, ap, ◌∙◌, sym, subst}
+use Rattle.std.proofs.Common.{◌≡◌, ℕ, ◌+◌, ◌<◌, ◌≤◌, List, [], ◌∷◌, ◌++◌, Option, None, Some, Bool, true, false}
+use Rattle.std.proofs.Common.{nat_lt, is_none, is_some, length, map, position, refl, ap, ◌∙◌, sym, subst}
 use Rattle.std.proofs.Common.{arith, if◌then◌else◌, Result, Ok, Err, Vec, Global, vec_len}
 use Rattle.std.proofs.lemmas.Bool.Decides.{nat_tests}
 use Rattle.std.specs.List.{list_any, position_or_len}
 use Rattle.std.specs.Str.{bytes_eq}
-use Rattle.std.proofs.lemmas.List.{map-append, length-map}
+use Rattle.std.proofs.lemmas.List.{length-map}
 use Rattle.std.specs.Result.{OnOk, IsErrAnd}
 use Rattle.xc_input.specs.declared.kind.Kind.{Kind}
 use Rattle.xc_input.specs.declared.fault.FaultKind.{FaultKind}
@@ -24,6 +24,8 @@ use Rattle.xc_input.specs.inner.Stored.{key_names}
 use Rattle.std.proofs.lemmas.Grind.{common_steps}
 use Rattle.xc_input.proofs.TokenLemmas.Bytes.{not_false, position-map}
 use Rattle.xc_input.proofs.FaultLemmas.FirstChecks.{first-front, first-back, alone, behind_name, past-name}
+-- by the name that other modules have for it
+pub use Rattle.std.proofs.lemmas.List.{map_push as map-snoc}
 
 pub none-is : {A : Type 0} (o : Option A) → is_some o ≡ false → o ≡ None
 none-is None e = refl
@@ -44,7 +46,7 @@ OnOk-map (Ok x) A B h f = f h
 OnOk-map (Err e) A B h f = h
 
 pub names_of-snoc : (es : List Entry) (e : Entry) → names_of (es ++ e ∷ []) ≡ names_of es ++ e.name ∷ []
-names_of-snoc es e = map-append (λ d. d.name) es (e ∷ [])
+names_of-snoc es e = map-snoc (λ d. d.name) es e
 
 pub names_of-length : (es : List Entry) → length (names_of es) ≡ length es
 names_of-length es = length-map es (λ e. e.name)
@@ -95,32 +97,13 @@ module _ (kind : Kind) (entries : List Entry) (bar : Option ℕ) (sec : Bool) (t
           let d : nat_lt (length (names_of entries)) most_items ≡ true = grind (arith, nat_tests) in
           past ∙ rw (new b g h, d)
 
-pub map-snoc : {A B : Type 0} (f : A → B) (xs : List A) (x : A) → map f (xs ++ x ∷ []) ≡ map f xs ++ f x ∷ []
-map-snoc f xs x = map-append f xs (x ∷ [])
-
-pub map-length : {A B : Type 0} (f : A → B) (xs : List A) → length (map f xs) ≡ length xs
-map-length f xs = length-map xs f
-
 found : {A : Type 0} (p : A → Bool) (xs : List A) → list_any p xs ≡ true → position_or_len p xs < length xs
 found p [] f = absurd (cc)
-found p (x ∷ xs) f =
-    let P : Bool → Type 0 =
-    λ t. (t || list_any p xs) ≡ true → (if not t then 1 + position_or_len p xs else 0) < length (x ∷ xs) in
-    let h : P (p x) =
-    (elim (p x) as P [
-      | true ↦ λ g. omega arith
-      | false ↦ λ g. let r : position_or_len p xs < length xs = found p xs
-          g in omega arith
-    ]) in h f
+found p (x ∷ xs) f = grind (arith, found p xs)
 
 -- a place that isn't there
 pub no-place : {A : Type 0} (p : A → Bool) (xs : List A) → position p xs ≡ None → list_any p xs ≡ false
-no-place p xs e =
-    not_false (list_any p xs)
-    (λ f. let lt : position_or_len p xs < length xs =
-    found p xs f in let t : nat_lt (position_or_len p xs) (length xs) ≡ true = grind (arith, nat_tests) in
-    let g : position p xs ≡ Some (position_or_len p xs) =
-    ap (λ b. if b then Some (position_or_len p xs) else None) t in absurd (cc))
+no-place p xs e = grind (arith, nat_tests, not_false (list_any p xs), found p xs)
 
 -- the keys behind one that is new
 pub new-key : (keys : List (Vec ℕ Global)) (k : Vec ℕ Global) (all : List (Vec ℕ Global)) (name : List ℕ)
@@ -148,7 +131,7 @@ pub grown : (kind : Kind) (bar : Option ℕ) (sec : Bool) (token : List ℕ) →
     × (map entry_of items' ≡ map entry_of items ++ entry kind (is_some bar) token ∷ [])
 grown kind bar sec token s P keys keys' items items' e is n p k m all =
     let l : length items' ≡ length items + 1 =
-    sym (map-length entry_of items') ∙ ap length all ∙ grind (arith, common_steps, map-length entry_of items) in (
+    sym (length-map items' entry_of) ∙ ap length all ∙ grind (arith, common_steps, length-map items entry_of) in (
       (
         k ∙ ap (λ ns. ns ++ e.name ∷ []) n.0 ∙ sym (names_of-snoc (map entry_of items) e)
             ∙ ap names_of (sym all),
@@ -163,12 +146,7 @@ pub row-step : (kind : Kind) (row next : Row) (line : List (List ℕ)) (part : L
     (a : Option FaultKind) (b : Row) → a ≡ first (row_checks kind row line) → b ≡ row_of kind row line
     → line ≡ part ∷ parts → first (part_checks kind row part) ≡ None → next ≡ with_part kind row part
     → (a ≡ first (row_checks kind next parts)) × (b ≡ row_of kind next parts)
-row-step kind row next line part parts a b e f l g h = (
-  e ∙ ap (λ ps. first (row_checks kind row ps)) l
-      ∙ first-back (part_checks kind row part) (row_checks kind (with_part kind row part) parts) g
-      ∙ ap (λ q. first (row_checks kind q parts)) (sym h),
-  f ∙ ap (row_of kind row) l ∙ ap (λ q. row_of kind q parts) (sym h),
-)
+row-step kind row next line part parts a b e f l g h = grind (arith, nat_tests, first-back)
 
 pub row-stop : (S T : Type 0) (kind : Kind) (row : Row) (line : List (List ℕ)) (part : List ℕ) (parts : List (List ℕ))
     (a : Option FaultKind) (e : LineError) → a ≡ first (row_checks kind row line)
@@ -179,15 +157,7 @@ row-stop S T kind row line part parts a e f l j =
 
 pub last-place : {A : Type 0} (p : A → Bool) (xs : List A) → list_any p xs ≡ false → position_or_len p xs ≡ length xs
 last-place p [] e = refl
-last-place p (x ∷ xs) e =
-    let P : Bool → Type 0 =
-    λ t. (t || list_any p xs) ≡ false → (if not t then 1 + position_or_len p xs else 0) ≡ suc (length xs) in
-    let h : P (p x) =
-    (elim (p x) as P [
-      | true ↦ λ g. absurd (cc)
-      | false ↦ λ g. let r : position_or_len p xs ≡ length xs = last-place
-          p xs g in omega arith
-    ]) in h e
+last-place p (x ∷ xs) e = grind (arith, last-place p xs)
 
 pub new-place-is : (keys : List (Vec ℕ Global)) (k : Vec ℕ Global) (name : List ℕ)
     → position (bytes_eq name) (key_names keys) ≡ None → k.items ≡ name
@@ -201,7 +171,7 @@ pub items-length : {A : Type 0} (v : Vec A Global) → vec_len v ≡ length v.it
 items-length v = grind (arith, common_steps)
 
 pub length-items : (v : Vec Item Global) → vec_len v ≡ length (map entry_of v.items)
-length-items v = items-length v ∙ sym (map-length entry_of v.items)
+length-items v = items-length v ∙ sym (length-map v.items entry_of)
 
 pub IsErr-judged : (T S : Type 0) (a : Option FaultKind) (r : Result T LineError) (e : LineError)
     (P : LineError → Type 0) → IsErrAnd r P → ((x : LineError) → P x → x ≡ e) → Judged {T = S} a (Err e) → Judged a r

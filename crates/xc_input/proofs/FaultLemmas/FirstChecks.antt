@@ -2,7 +2,7 @@
 -- No list of checks is written out here or by those who use this: a check is asked for by its fault, and a list's
 -- front and rest by `take` and `drop`. So where a check is added to a list, only what speaks of that check changes.
 use Rattle.std.proofs.Common.{◌≡◌, ℕ, List, [], ◌∷◌, ◌++◌, drop, None, Some, Bool, true, false}
-use Rattle.std.proofs.Common.{length, refl, ◌∙◌, if◌then◌else◌}
+use Rattle.std.proofs.Common.{length, refl, ◌∙◌, if◌then◌else◌, arith}
 use denote.Enum.Bare.{sameb}
 use Rattle.xc_input.specs.contracts.fault.FaultKind.{the_type}
 use Rattle.xc_input.specs.declared.fault.FaultKind.{FaultKind}
@@ -18,28 +18,19 @@ test k (c ∷ cs) = (if sameb the_type k c.0 then c.1 else test k cs)
 pub fails : (cs : List (FaultKind × Bool)) → first cs ≡ None → (k : FaultKind) → test k cs ≡ false
 fails [] e k = refl
 fails (c ∷ cs) e k =
-    let P : Bool → Type 0 = λ t. (if t then Some c.0 else first cs) ≡ None
-    → (if sameb the_type k c.0 then t else test k cs) ≡ false in
-    let Q : Bool → Type 0 = λ s. first cs ≡ None → (if s then false else test k cs) ≡ false in
-    let q : Q (sameb the_type k c.0) =
-    (elim (sameb the_type k c.0) as Q [ true ↦ λ f. refl | false ↦ λ f. fails cs f k ]) in
-    let h : P c.1 = (elim c.1 as P [ true ↦ λ f. absurd (cc) | false ↦ λ f. q f ]) in h e
+    let rest : first cs ≡ None → test k cs ≡ false = λ f. fails cs f k in
+    elim c.1 as (λ t. (if t then Some c.0 else first cs) ≡ None → (if sameb the_type k c.0 then t else test k cs) ≡ false)
+    [ true ↦ λ f. absurd (cc) | false ↦ λ f. grind (arith) ] e
 
 -- a check that holds among the first ones
 pub first-front : {A : Type 0} (a b : List (A × Bool)) (k : A) → first a ≡ Some k → first (a ++ b) ≡ Some k
 first-front [] b k e = absurd (cc)
-first-front (c ∷ cs) b k e =
-    let P : Bool → Type 0 =
-    λ t. (if t then Some c.0 else first cs) ≡ Some k → (if t then Some c.0 else first (cs ++ b)) ≡ Some k in
-    let h : P c.1 = (elim c.1 as P [ true ↦ λ f. f | false ↦ λ f. first-front cs b k f ]) in h e
+first-front (c ∷ cs) b k e = grind (arith, first-front cs b k)
 
 -- where none of the first ones holds, the later ones decide
 pub first-back : {A : Type 0} (a b : List (A × Bool)) → first a ≡ None → first (a ++ b) ≡ first b
 first-back [] b e = refl
-first-back (c ∷ cs) b e =
-    let P : Bool → Type 0 =
-    λ t. (if t then Some c.0 else first cs) ≡ None → (if t then Some c.0 else first (cs ++ b)) ≡ first b in
-    let h : P c.1 = (elim c.1 as P [ true ↦ λ f. absurd (cc) | false ↦ λ f. first-back cs b f ]) in h e
+first-back (c ∷ cs) b e = grind (arith, first-back cs b)
 
 pub first-all : {A : Type 0} (a b : List (A × Bool)) → first a ≡ None → first b ≡ None → first (a ++ b) ≡ None
 first-all a b e f = first-back a b e ∙ f
@@ -47,10 +38,7 @@ first-all a b e f = first-back a b e ∙ f
 -- where none holds, none of either part does
 pub split : {A : Type 0} (a b : List (A × Bool)) → first (a ++ b) ≡ None → (first a ≡ None) × (first b ≡ None)
 split [] b e = (refl, e)
-split (c ∷ cs) b e =
-    let P : Bool → Type 0 = λ t. (if t then Some c.0 else first (cs ++ b)) ≡ None
-    → ((if t then Some c.0 else first cs) ≡ None) × (first b ≡ None) in
-    let h : P c.1 = (elim c.1 as P [ true ↦ λ f. absurd (cc) | false ↦ λ f. split cs b f ]) in h e
+split (c ∷ cs) b e = grind (arith, split cs b)
 
 -- the checks of an item's name, behind those of its bounds: those of a token that can have none
 abbrev pub alone : List (List ℕ) → List ℕ → List (FaultKind × Bool)

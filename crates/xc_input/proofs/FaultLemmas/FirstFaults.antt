@@ -1,9 +1,10 @@
 -- For `line`, `finish` and the laws: the first fault of a text is the first one of its lines as they are read.
+use Rattle.std.proofs.lemmas.Bool.Decides.{nat_tests}
 use Rattle.std.proofs.Common.{◌≡◌, ℕ, ◌+◌, List, [], ◌∷◌, ◌++◌, Option, None, Some, Bool, true, false, ◌||◌, ◌&&◌, cond}
-use Rattle.std.proofs.Common.{not, nat_le, nat_lt, is_some, length, map, filter, sum_by, refl, ap, ◌∙◌, sym, subst}
+use Rattle.std.proofs.Common.{not, nat_le, is_some, length, map, filter, sum_by, refl, ap, ◌∙◌, sym, subst}
 use Rattle.std.proofs.Common.{arith, if◌then◌else◌, append_assoc, append-nil}
 use Rattle.std.proofs.lemmas.Grind.{common_steps}
-use Rattle.std.proofs.lemmas.List.{map-append}
+use Rattle.std.proofs.lemmas.List.{map-append, length-map}
 use Rattle.std.proofs.lemmas.List.Elements.{filter-append}
 use Rattle.std.proofs.lemmas.List.Folds.{list_any-append}
 use Rattle.std.proofs.lemmas.List.Sums.{sum_by-append}
@@ -11,10 +12,9 @@ use Rattle.std.specs.List.{list_any, list_all}
 use Rattle.std.specs.Option.{option_map, option_or}
 use Rattle.xc_input.specs.declared.kind.Kind.{Kind}
 use Rattle.xc_input.specs.declared.fault.FaultKind.{FaultKind}
-use Rattle.xc_input.specs.declared.fault.FaultKind.TheVariants.{NulByte, NoItems, TwoBars, TooManyUses}
+use Rattle.xc_input.specs.declared.fault.FaultKind.TheVariants.{NulByte, TwoBars}
 use Rattle.xc_input.specs.declared.problem.Use.{Use}
 use Rattle.xc_input.specs.Problem.{use_count}
-use Rattle.xc_input.specs.Limits.{most_uses}
 use Rattle.xc_input.specs.Words.{has}
 use Rattle.xc_input.specs.Tokens.{tokens, parts, is_bar, is_skipped}
 use Rattle.xc_input.specs.Sheets.{Entry}
@@ -22,7 +22,7 @@ use Rattle.xc_input.specs.inner.Sheets.{names_of, with_uses}
 use Rattle.xc_input.proofs.GrammarLemmas.SheetGrammar.{named_of}
 use Rattle.xc_input.specs.Faults.{first, checks_of_each, name_of, item_checks, item_names, part_checks, Context}
 use Rattle.xc_input.specs.Faults.{context_of, item_of, token_checks, has_primary}
-use Rattle.xc_input.specs.FirstFault.{line_number, content, is_kept, kept_uses, option_checks, content_checks}
+use Rattle.xc_input.specs.FirstFault.{line_number, content, is_kept, kept_uses, content_checks}
 use Rattle.xc_input.specs.FirstFault.{line_checks, line_fault, first_fault}
 use Rattle.xc_input.specs.inner.ColourNumbers.{numbered}
 use Rattle.xc_input.specs.inner.Stages.{entry, row_checks, row_of, no_row, context, written, Stage, no_stage}
@@ -33,7 +33,7 @@ use Rattle.xc_input.specs.Named.{Named}
 use Rattle.xc_input.specs.Text.{StandsFor}
 use Rattle.xc_input.proofs.GrammarLemmas.Standing.{read-stands, stands-read}
 use Rattle.xc_input.proofs.ValidLemmas.SheetValidity.{IsSheetOf}
-use Rattle.xc_input.proofs.FaultLemmas.Checks.{names_of-snoc, map-snoc, map-length}
+use Rattle.xc_input.proofs.FaultLemmas.Checks.{names_of-snoc, map-snoc}
 use Rattle.xc_input.proofs.OptionLemmas.Items.{ItemsBehind, behind-items}
 use Rattle.xc_input.proofs.GrammarLemmas.LawLemmas.{fault_from, end_fault, fault_or, R, S, P, row-good, by-part}
 use Rattle.xc_input.proofs.GrammarLemmas.LawLemmas.{by-line, clear, unskipped, lineuses, count-next, by-first-line}
@@ -79,23 +79,11 @@ kept-is kind names primaries (t ∷ ts) = ap (λ b. nat_le (item_of (context kin
 -- THE ITEM LINE
 pub names-snoc : (kind : Kind) (before : List (List ℕ)) (p : List ℕ) (t : Bool) → is_bar p ≡ t
     → item_names kind (before ++ p ∷ []) ≡ item_names kind before ++ (if t then [] else name_of kind p ∷ [])
-names-snoc kind before p t f =
-    ap (map (name_of kind)) (filter-append (λ q. not (is_bar q)) before (p ∷ []))
-    ∙ map-append (name_of kind) (filter (λ q. not (is_bar q)) before) (filter (λ q. not (is_bar q)) (p ∷ []))
-    ∙ ap (λ ns. item_names kind before ++ ns) (ap (λ b. map (name_of kind) (cond (not b) (p ∷ []) [])) f ∙ one t)
-  where
-    one : (b : Bool) → map (name_of kind) (cond (not b) (p ∷ []) []) ≡ (if b then [] else name_of kind p ∷ [])
-    one true = refl
-    one false = refl
+names-snoc kind before p t f = grind (arith, nat_tests, filter-append, map-append (name_of kind))
 
 pub barred-snoc : (before : List (List ℕ)) (p : List ℕ) (t : Bool) → is_bar p ≡ t
     → list_any is_bar (before ++ p ∷ []) ≡ (list_any is_bar before || t)
-barred-snoc before p t f = list_any-append is_bar before (p ∷ []) ∙ ap (λ b. list_any is_bar before || (b || false)) f
-    ∙ ap (λ b. list_any is_bar before || b) (same t)
-  where
-    same : (b : Bool) → (b || false) ≡ b
-    same true = refl
-    same false = refl
+barred-snoc before p t f = grind (arith, nat_tests, list_any-append is_bar before (p ∷ []))
 
 pub or-true : (b : Bool) → true ≡ (b || true)
 or-true true = refl
@@ -189,13 +177,7 @@ module _ (kind : Kind) (entries : List Entry) (primaries : ℕ) (items : List �
       (line : List ℕ) → use_count options ≡ kept_uses c os
       → stage_content kind (S entries primaries options colours ignored) line ≡ content_checks kind (items ∷ os) line
   checks-are options colours ignored os line u =
-      let here : stage_content kind (S entries primaries options colours ignored) line ≡ option_checks c os line =
-      λ i. tokens-checked c [] (tokens line) i ++ (
-        TooManyUses,
-        kept-is kind (names_of entries) primaries (tokens line) i && nat_lt most_uses
-            (u i + length (tokens line)),
-      ) ∷ [] in
-      here ∙ ap (λ d. option_checks d os line) (sym said)
+      grind (arith, nat_tests, tokens-checked c, kept-is kind (names_of entries) primaries (tokens line))
 
   rest-is : (n : ℕ) (before lines os : List (List ℕ)) (options : List (List Use)) (colours : List (List ℕ))
       (ignored : List ℕ) → n ≡ length before → content before ≡ items ∷ os → use_count options ≡ kept_uses c os
@@ -216,7 +198,7 @@ module _ (kind : Kind) (entries : List Entry) (primaries : ℕ) (items : List �
       (with_uses colours (lineuses kind entries primaries line)) ignored
       (length-snoc n before line hn) (content-more before line (items ∷ os) f hb)
       (count-next kind entries primaries options colours line
-      ∙ (λ i. u i + map-length (written (names_of entries)) (tokens line) i)
+      ∙ (λ i. u i + length-map (tokens line) (written (names_of entries)) i)
       ∙ sym (uses-snoc c os line true (sym (kept-is kind (names_of entries) primaries (tokens line)) ∙ g))))
       (λ f g. rest-is (n + 1) behind lines (os ++ line ∷ []) options colours (ignored ++ line_number (n + 1) ∷ [])
       (length-snoc n before line hn) (content-more before line (items ∷ os) f hb)
@@ -280,13 +262,7 @@ started-is kind n (line ∷ lines) =
 -- the fault of a whole text is that of its lines, or that the item line isn't there
 pub first_fault-is : (kind : Kind) (lines : List (List ℕ)) → first_fault kind lines
     ≡ option_or (fault_from kind 0 no_stage lines) (end_fault (length lines) (stage_of kind lines).started)
-first_fault-is kind lines =
-    let last : (b : Bool) → (if b then Some (line_number (length lines + 1), NoItems) else None)
-    ≡ end_fault (length lines) (not b) = λ b. elim b as (λ t.
-    (if t then Some (line_number (length lines + 1), NoItems) else None)
-    ≡ end_fault (length lines) (not t)) [ true ↦ refl | false ↦ refl ] in
-    λ i. option_or (line_fault-is kind lines i) ((last (list_all is_skipped lines)
-    ∙ ap (end_fault (length lines)) (sym (started-is kind 0 lines))) i)
+first_fault-is kind lines = grind (arith, nat_tests, line_fault-is, started-is)
 
 end-none : (n : ℕ) (b : Bool) → end_fault n b ≡ None → b ≡ true
 end-none n true e = refl

@@ -1,11 +1,13 @@
 -- What stands for a problem as one kind stands for it as each kind that allows more.
-use Rattle.std.proofs.Common.{◌≡◌, ℕ, ◌+◌, List, [], ◌∷◌, Bool, true, false, length, inl, inr, take, drop}
-use Rattle.std.specs.List.{AllZip, before_first, after_first}
+use Rattle.std.proofs.Common.{arith}
+use Rattle.std.proofs.lemmas.Bool.Decides.{nat_tests}
+use Rattle.std.proofs.Common.{◌≡◌, ℕ, ◌+◌, List, [], ◌∷◌, Bool, true, false, length, inl, inr}
+use Rattle.std.specs.List.{AllZip}
 use Rattle.xc_input.specs.declared.kind.Kind.{Kind}
 use Rattle.xc_input.specs.declared.problem.Use.{Use}
-use Rattle.xc_input.specs.Tokens.{tokens, parts, is_bar}
+use Rattle.xc_input.specs.Tokens.{tokens}
 use Rattle.xc_input.specs.Sheets.{Entry, Written}
-use Rattle.xc_input.specs.inner.Sheets.{Sheet, names_of, with_uses}
+use Rattle.xc_input.specs.inner.Sheets.{Sheet, with_uses}
 use Rattle.xc_input.specs.Faults.{is_plain, is_bounds}
 use Rattle.xc_input.specs.inner.Stages.{context}
 use Rattle.xc_input.specs.Named.{Named}
@@ -30,13 +32,7 @@ module _ (a b : Kind) (bounds : is_bounds a ≡ true → is_bounds b ≡ true)
   entries-also secondary (p ∷ ps) (e ∷ es) h = (entry-also secondary p e h.0, entries-also secondary ps es h.1)
 
   items-also : (ps : List (List ℕ)) (es : List Entry) (n : ℕ) → AreItems a ps es n → AreItems b ps es n
-  items-also ps es n h = record {
-    count = h.count;
-    primary = entries-also false (before_first is_bar ps) (take n es) h.primary;
-    secondary = entries-also true (after_first is_bar ps) (drop n es) h.secondary;
-    distinct = h.distinct;
-    few = h.few;
-  }
+  items-also ps es n h = grind (arith, nat_tests, entries-also)
 
   use-also : (names : List (List ℕ)) (primaries : ℕ) (token : List ℕ) (u : Written)
       → IsUse (context a names primaries) token u → IsUse (context b names primaries) token u
@@ -58,47 +54,27 @@ module _ (a b : Kind) (bounds : is_bounds a ≡ true → is_bounds b ≡ true)
   options-also names primaries n used cs [] os ig last h = h
   options-also names primaries n used cs (line ∷ lines) os ig last (z, inl (f, r)) =
       (z, inl (f, options-also names primaries (n + 1) used cs lines os ig last r))
-  options-also names primaries n used cs (line ∷ lines) os ig last (z, inr (us, f, u, inl (others, none, i, r))) = (
-    z,
-    inr (
-      us,
-      f,
-      (uses-also names primaries (tokens line) us u.0, u.1),
-      inl
-          (others, none, i, options-also names primaries (n + 1) used cs lines os others last r),
-    ),
-  )
+  options-also names primaries n used cs (line ∷ lines) os ig last (z, inr (us, f, u, inl (others, none, i, r))) =
+      grind (
+        arith,
+        nat_tests,
+        options-also names primaries (n + 1) used cs lines os others last r,
+        uses-also names primaries (tokens line) us u.0,
+      )
   options-also names primaries n used cs (line ∷ lines) os ig last
-      (z, inr (us, f, u, inr (others, prim, room, o, r))) = (
-        z,
-        inr (
-          us,
-          f,
-          (uses-also names primaries (tokens line) us u.0, u.1),
-          inr (
-            others,
-            prim,
-            room,
-            o,
-            options-also names primaries (n + 1) (used + length us) (with_uses cs us) lines others
-                ig last r,
-          ),
-        ),
+      (z, inr (us, f, u, inr (others, prim, room, o, r))) =
+      grind (
+        arith,
+        nat_tests,
+        options-also names primaries (n + 1) (used + length us) (with_uses cs us) lines others ig last r,
+        uses-also names primaries (tokens line) us u.0,
       )
 
   sheet-also : (n : ℕ) (lines : List (List ℕ)) (sheet : Sheet) (ignored : List ℕ) → IsSheetFrom a n lines sheet ignored
       → IsSheetFrom b n lines sheet ignored
   sheet-also n [] sheet ignored h = h
   sheet-also n (line ∷ lines) sheet ignored (z, inl (f, r)) = (z, inl (f, sheet-also (n + 1) lines sheet ignored r))
-  sheet-also n (line ∷ lines) sheet ignored (z, inr (f, items, r)) = (
-    z,
-    inr (
-      f,
-      items-also (parts line) sheet.entries sheet.primaries items,
-      options-also (names_of sheet.entries)
-          sheet.primaries (n + 1) 0 [] lines sheet.options ignored sheet.colours r,
-    ),
-  )
+  sheet-also n (line ∷ lines) sheet ignored (z, inr (f, items, r)) = grind (arith, nat_tests, items-also, options-also)
 
   pub stands-also : (lines : List (List ℕ)) (named : Named) (ignored : List ℕ) → StandsFor a lines named ignored
       → StandsFor b lines named ignored

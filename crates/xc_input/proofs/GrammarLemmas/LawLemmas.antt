@@ -26,17 +26,16 @@ use Rattle.xc_input.specs.Faults.{first, is_plain, item_checks, is_bad_colour, h
 use Rattle.xc_input.specs.inner.Stages.{entry, Row, no_row, part_checks, with_part, row_checks, row_of, item_number}
 use Rattle.xc_input.specs.inner.Stages.{token_checks, option_checks, written, context, Stage, no_stage, content_checks}
 use Rattle.xc_input.specs.inner.Stages.{whole_checks, line_checks, with_line, stage_from}
-use Rattle.xc_input.specs.Limits.{longest_colour, most_uses}
+use Rattle.xc_input.specs.Limits.{most_uses}
 use Rattle.xc_input.specs.FirstFault.{line_number}
 use Rattle.xc_input.specs.Named.{IsName, IsColour}
 use Rattle.xc_input.specs.Text.{IsUse}
 use Rattle.xc_input.proofs.GrammarLemmas.SheetGrammar.{AreUses, AreOptions, IsSheetFrom}
 use Rattle.xc_input.proofs.ValidLemmas.SheetValidity.{numbered-length, so_far}
-use Rattle.std.proofs.lemmas.Bool.{or_parts, not-false}
-use Rattle.std.proofs.Math.Bool.{and-true, and-false}
+use Rattle.std.proofs.Math.Bool.{and-false}
 use Rattle.xc_input.proofs.FaultLemmas.FirstChecks.{test, fails, first-all, split}
 use Rattle.xc_input.proofs.FaultLemmas.Checks.{some-is, names_of-snoc, names_of-length}
-use Rattle.xc_input.proofs.GrammarLemmas.NoFault.{solid, good-name, cut-is, no-cut, cut-at, item-good, good-item}
+use Rattle.xc_input.proofs.GrammarLemmas.NoFault.{solid, cut-is, no-cut, cut-at, item-good, good-item}
 use Rattle.xc_input.proofs.OptionLemmas.OneToken.{none-after, past-name}
 use Rattle.std.specs.Option.{option_map, option_or}
 use Rattle.xc_input.proofs.TokenLemmas.Separators.{COLON}
@@ -179,19 +178,7 @@ module _ (kind : Kind) (names : List (List ℕ)) (primaries : ℕ) (seen token :
       ⊎ ((token ≡ before COLON token ++ COLON ∷ after COLON token) × (is_plain kind ≡ false)
       × (primaries < item_number names (before COLON token)) × IsColour (after COLON token))
   use-form false f a b c = inl (sym (no-cut COLON token f), none-after COLON token f)
-  use-form true f a b c =
-      let p : (is_plain kind && true) ≡ false = rw f at a in
-      let l : nat_lt primaries (item_number names (before COLON token)) ≡ true = not-false _ (rw f at b) in
-      let o = or_parts (nat_lt (length (after COLON token)) 1) (nat_lt longest_colour (length (after COLON token)))
-      (rw f at c) in
-      let o0 : nat_lt (length (after COLON token)) 1 ≡ false = o.0 in
-      let o1 : nat_lt longest_colour (length (after COLON token)) ≡ false = o.1 in
-      inr (
-        (cut-is COLON token f).0,
-        sym (and-true (is_plain kind)) ∙ p,
-        grind (arith, nat_tests),
-        (grind (arith, nat_tests), grind (arith, nat_tests)),
-      )
+  use-form true f a b c = grind (arith, nat_tests, cut-is)
 
   pub use-good : first checks ≡ None
       → IsUse (context kind names primaries) token (written names token)
@@ -216,13 +203,7 @@ module _ (kind : Kind) (names : List (List ℕ)) (primaries : ℕ) (seen token :
       → (has COLON token && not (nat_lt primaries (item_number names (before COLON token)))) ≡ false
       → (has COLON token && is_bad_colour (after COLON token)) ≡ false
       → (u ≡ written names token) × (first checks ≡ None)
-  use-parts name i u n p q bf af once a b c =
-      let it : item_number names (before COLON token) ≡ u.item =
-      ap (λ x. unwrap_or (place names x) 0 + 1) bf ∙ ap (λ o. unwrap_or o 0 + 1) p ∙ sym q in (
-        (λ j. record { item = sym it j; colour = sym af j }),
-        past-name kind names primaries seen token a (good-name (before COLON token) (subst IsName (sym bf) n))
-            ∙ rw (bf, p, ← q, once, ← it, b, c),
-      )
+  use-parts name i u n p q bf af once a b c = grind (arith, nat_tests, past-name)
 
   pub good-use : (u : Written) → IsUse (context kind names primaries) token u
       → list_any (λ j. nat_eq j u.item) seen ≡ false → (u ≡ written names token)
@@ -232,19 +213,13 @@ module _ (kind : Kind) (names : List (List ℕ)) (primaries : ℕ) (seen token :
       use-parts name i u n p q (no-cut COLON token no ∙ h.0) (none-after COLON token no ∙ sym h.1) once
       (rw (no, and-false (is_plain kind))) (rw no) (rw no)
   good-use u (name, i, n, p, q, inr h) once =
-      let c = cut-at COLON name u.colour n.no_colon in
-      let bf : before COLON token ≡ name = ap (before COLON) h.0 ∙ c.0 in
-      let af : after COLON token ≡ u.colour = ap (after COLON) h.0 ∙ c.1 in
-      let it : item_number names (before COLON token) ≡ u.item =
-      ap (λ x. unwrap_or (place names x) 0 + 1) bf ∙ ap (λ o. unwrap_or o 0 + 1) p ∙ sym q in
-      let lt : primaries < u.item = h.2 in
-      let s : 1 ≤ length u.colour = h.3.0 in
-      let l : length u.colour ≤ longest_colour = h.3.1 in
-      let x : nat_lt primaries u.item ≡ true = grind (arith, nat_tests) in
-      let y : nat_lt (length u.colour) 1 ≡ false = grind (arith, nat_tests) in
-      let z : nat_lt longest_colour (length u.colour) ≡ false = grind (arith, nat_tests) in
-      use-parts name i u n p q bf af once (rw h.1) (rw (it, x, and-false (has COLON token)))
-      (rw (af, y, z, and-false (has COLON token)))
+      grind (
+        arith,
+        nat_tests,
+        cut-at COLON name u.colour n.no_colon,
+        use-parts name i u n p q,
+        and-false (has COLON token),
+      )
 
 -- tokens with no fault are uses
 pub uses-good : (kind : Kind) (names : List (List ℕ)) (primaries : ℕ) (seen : List ℕ) (ts : List (List ℕ))
@@ -252,17 +227,13 @@ pub uses-good : (kind : Kind) (names : List (List ℕ)) (primaries : ℕ) (seen 
     → UsesBehind (context kind names primaries) seen ts (map (written names) ts)
 uses-good kind names primaries seen [] e = refl
 uses-good kind names primaries seen (t ∷ ts) e =
-    let a =
-    split (token_checks (context kind names primaries) seen t)
-    (option_checks (context kind names primaries) (seen ++ item_number names (before COLON t) ∷ []) ts) e in
-    let g = use-good kind names primaries seen t a.0 in (
-      written names t,
-      map (written names) ts,
-      refl,
-      g.0,
-      g.1,
-      uses-good kind names primaries
-          (seen ++ item_number names (before COLON t) ∷ []) ts a.1,
+    grind (
+      arith,
+      nat_tests,
+      uses-good kind names primaries (seen ++ item_number names (before COLON t) ∷ []) ts,
+      split (token_checks (context kind names primaries) seen t) (option_checks (context kind names primaries) (seen ++
+          item_number names (before COLON t) ∷ []) ts) e,
+      use-good kind names primaries seen t,
     )
 
 pub good-uses : (kind : Kind) (names : List (List ℕ)) (primaries : ℕ) (seen : List ℕ) (ts : List (List ℕ))
@@ -294,14 +265,7 @@ S entries primaries options colours ignored =
 none-from : (kind : Kind) (n : ℕ) (stage : Stage) (line : List ℕ) (lines : List (List ℕ))
     → fault_from kind n stage (line ∷ lines) ≡ None → (first (line_checks kind stage line) ≡ None)
     × (fault_from kind (n + 1) (with_line kind (line_number (n + 1)) stage line) lines ≡ None)
-none-from kind n stage line lines e = both (first (line_checks kind stage line)) e
-  where
-    later : Option (ℕ × FaultKind)
-    later = fault_from kind (n + 1) (with_line kind (line_number (n + 1)) stage line) lines
-
-    both : (k : Option FaultKind) → fault_or (n + 1) k later ≡ None → (k ≡ None) × (later ≡ None)
-    both None e = (refl, e)
-    both (Some k) e = absurd (cc)
+none-from kind n stage line lines e = grind (arith, nat_tests)
 
 from-none : (kind : Kind) (n : ℕ) (stage next : Stage) (line : List ℕ) (lines : List (List ℕ))
     → first (line_checks kind stage line) ≡ None → with_line kind (line_number (n + 1)) stage line ≡ next

@@ -1,4 +1,5 @@
 -- The grammar says the same line by line: what was read before a line goes on to the next.
+use Rattle.std.proofs.lemmas.Bool.Decides.{nat_tests}
 use Rattle.std.proofs.Common.{◌≡◌, ◌≢◌, ℕ, ◌+◌, ◌-◌, ◌≤◌, List, [], ◌∷◌, ◌++◌, Bool, true, false, cond, not, length}
 use Rattle.std.proofs.Common.{take, drop, map, filter, flat_map, refl, ap, ◌∙◌, sym, subst, arith, inl, inr}
 use Rattle.std.proofs.lemmas.List.{length-append, length-drop, length-map, take-append-drop}
@@ -237,61 +238,27 @@ finds : (kind : Kind) (n : ℕ) (lines : List (List ℕ)) (sheet : Sheet) (ignor
     → IsSheetFrom kind n lines sheet ignored → IsFound kind n lines sheet ignored
 finds kind n [] sheet ignored h = absurd h
 finds kind n (line ∷ lines) sheet ignored (z, inl (f, r)) =
-    let q = finds kind (n + 1) lines sheet ignored r in (
-      or_from (has 0 line) (list_any (has 0) lines) z q.0,
-      q.1,
-      q.2,
-      skip-content (n + 1) line lines f
-          ∙ q.3,
-      q.4,
-      q.5,
-      q.6,
-      q.7,
-      q.8,
+    grind (
+      arith,
+      nat_tests,
+      finds kind (n + 1) lines sheet ignored r,
+      or_from (has 0 line) (list_any (has 0) lines) z,
+      skip-content (n + 1) line lines f,
     )
 finds kind n (line ∷ lines) sheet ignored (z, inr (f, items, r)) =
-    let w = all-lines (said kind sheet) (n + 1) 0 [] lines sheet.options ignored sheet.colours (omega arith) r in (
-      or_from (has 0 line) (list_any (has 0) lines) z w.0,
-      (n + 1, line),
-      content_from (n + 1 + 1) lines,
+    grind (
+      arith,
+      nat_tests,
+      all-lines (said kind sheet) (n + 1) 0,
+      or_from (has 0 line) (list_any (has 0) lines) z,
       keep-content (n + 1) line lines f,
-      items,
-      w.1,
-      w.2,
-      w.3,
-      w.4,
     )
 
 found : (kind : Kind) (n : ℕ) (lines : List (List ℕ)) (sheet : Sheet) (ignored : List ℕ)
     → IsFound kind n lines sheet ignored → IsSheetFrom kind n lines sheet ignored
 found kind n [] sheet ignored (z, item, rest, e, items, ws, a, i, k) = absurd (cc)
 found kind n (line ∷ lines) sheet ignored (z, item, rest, e, items, ws, a, i, k) =
-    let y = or_parts (has 0 line) (list_any (has 0) lines) z in
-    let Q : Bool → Type 0 = λ t. is_skipped line ≡ t → IsSheetFrom kind n (line ∷ lines) sheet ignored in
-    let h : Q (is_skipped line) = (elim (is_skipped line) as Q [
-      | true ↦ λ f. (
-        y.0,
-        inl (
-          f,
-          found kind (n + 1) lines sheet ignored
-              (y.1, item, rest, sym (skip-content (n + 1) line lines f) ∙ e, items, ws, a, i, k),
-        ),
-      )
-      | false ↦ λ f.
-          let g : (n + 1, line) ∷ content_from (n + 1 + 1) lines ≡ item ∷ rest =
-          sym (keep-content (n + 1) line lines f) ∙ e in
-          let first : (n + 1, line) ≡ item = cc in
-          let others : content_from (n + 1 + 1) lines ≡ rest = cc in (
-            y.0,
-            inr (
-              f,
-              subst (λ (l : ℕ × List ℕ). AreItems kind (parts l.1) sheet.entries sheet.primaries)
-                  (sym first) items,
-              line-by-line (said kind sheet) (n + 1) 0 [] lines ws sheet.options ignored sheet.colours y.1
-                  (subst (λ ls. AllZip (IsOptionLine (said kind sheet)) ls ws) (sym others) a) i k,
-            ),
-          )
-    ]) in h refl
+    grind (arith, nat_tests, found kind (n + 1) lines sheet ignored, skip-content, keep-content, line-by-line)
 
 abbrev bounds_in : List Entry → List Bounds
 bounds_in es = map (λ e. record { low = e.low; high = e.high }) es

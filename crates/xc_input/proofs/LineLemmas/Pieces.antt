@@ -1,13 +1,13 @@
 -- What a source gave, piece after piece.
+use Rattle.std.proofs.lemmas.Bool.Decides.{nat_tests}
 use Rattle.std.proofs.Common.{◌≡◌, ℕ, ◌<◌, List, [], ◌∷◌, ◌++◌, Option, None, Some, Result, Ok, Err, IfSome, IfOk}
-use Rattle.std.proofs.Common.{IfErr, length, take, refl, sym, ap, subst, ◌∙◌, append_assoc, append-nil, arith, inl, inr}
+use Rattle.std.proofs.Common.{IfErr, length, take, refl, ap, ◌∙◌, append_assoc, append-nil, arith, inl, inr}
 use Rattle.xc_input.proofs.LineLemmas.TextLines.{lines_of-all, last-of-part}
-use Rattle.xc_input.specs.FirstFault.{line_fault}
 use Rattle.xc_input.specs.inner.EndedLines.{ended}
 use Rattle.std.specs.Prelude.{All}
 use Rattle.std.specs.Result.{result_err}
 use Rattle.std.specs.Io.KnownBytes.{Consumes, Keeps, IsAtEnd}
-use Rattle.std.proofs.KnownBytes.{Consumes-nil, Consumes-trans, Consumes-kept}
+use Rattle.std.proofs.KnownBytes.{Consumes-trans}
 use Rattle.std.proofs.lemmas.Grind.{common_steps, flat_map-append}
 use Rattle.std.proofs.lemmas.List.Elements.{All-append}
 use Rattle.xc_input.specs.Calls.{Rose}
@@ -20,18 +20,10 @@ use Rattle.xc_input.specs.inner.Feeding.{fed, IsBetween, Spoils, EndsAs}
 use Rattle.xc_input.specs.Lines.{lines_of}
 use Rattle.xc_input.specs.Pieces.{SourceState, Gave, GaveAll, IsOpen, IsWhole, IsPart}
 use Rattle.xc_input.proofs.LineLemmas.Sources.{error-ends}
-use Rattle.xc_input.specs.Words.{has}
 use Prim.Native.Char.{code}
 
 pub gave_nothing : (s : SourceState) → Gave s s []
-gave_nothing s =
-    record {
-      told = Consumes-nil s.rest;
-      pieces = [];
-      some = grind (arith, common_steps);
-      added = sym (append-nil s.given);
-      whole = refl;
-    }
+gave_nothing s = grind (arith, nat_tests, append-nil s.given)
 
 -- one read more gave some bytes
 pub gave_more : (a b c : SourceState) (bytes piece : List ℕ) → Gave a b bytes → 0 < length piece
@@ -50,15 +42,7 @@ gave_more a b c bytes piece g some told e =
 -- a read failed
 pub gave_kept : (a b c : SourceState) (bytes : List ℕ) → Gave a b bytes → Keeps b.rest c.rest → c.given ≡ b.given
     → Gave a c bytes
-gave_kept a b c bytes g kept e =
-    record {
-      told = Consumes-kept a.rest b.rest c.rest bytes g.told kept;
-      pieces = g.pieces;
-      some = g.some;
-      added = e
-          ∙ g.added;
-      whole = g.whole;
-    }
+gave_kept a b c bytes g kept e = grind (arith, nat_tests)
 
 at-end : (old now : Option (List ℕ)) (bytes : List ℕ) → Consumes old now bytes → IsAtEnd now
     → IfSome old (λ rest. rest ≡ bytes)
@@ -70,18 +54,7 @@ at-end (Some all) (Some left) bytes p e = p ∙ ap (λ xs. bytes ++ xs) e ∙ ap
 pub gave_end : (a b c : SourceState) (bytes buf : List ℕ) (n : ℕ) → n ≡ 0 → Gave a b bytes → c.failures ≡ a.failures
     → Consumes b.rest c.rest (take n buf) → IsAtEnd c.rest
     → c.given ≡ b.given ++ take n buf ∷ [] → GaveAll a c bytes
-gave_end a b c bytes buf n e g same told end f =
-    let all =
-    subst (Consumes a.rest c.rest) (ap (λ k. bytes ++ take k buf) e ∙ append-nil bytes)
-    (Consumes-trans a.rest b.rest c.rest bytes (take n buf) g.told told) in
-    record {
-      no_failure = same;
-      told = at-end a.rest c.rest bytes all end;
-      before = b;
-      gave = g;
-      ended = f
-          ∙ ap (λ k. b.given ++ take k buf ∷ []) e;
-    }
+gave_end a b c bytes buf n e g same told end f = grind (arith, nat_tests, append-nil bytes, at-end a.rest c.rest bytes)
 
 -- the answer at the end of the input
 pub whole-last : (kind : Kind) (a c : SourceState) (bytes : List ℕ) (r : Result Read InputError)
@@ -100,24 +73,13 @@ part-last kind a c bytes (Err Memory) h m g = (bytes, g.no_failure, inr (g, m re
 -- a reader that was given nothing, where nothing is carried on
 pub new-between : (reading : Reading) (carry : List ℕ) → reading.lines ≡ [] → reading.error ≡ None → carry ≡ []
     → IsBetween reading carry
-new-between reading carry lines error none =
-    record {
-      no_error = error;
-      no_fault = ap (line_fault reading.kind) lines;
-      whole = rw lines tt;
-      partial = ap (has (code "\n")) none;
-    }
+new-between reading carry lines error none = grind (arith, nat_tests, code "\n")
 
 -- what is carried on ends within a line
 pub open-carry : (reading : Reading) (carry : List ℕ) → IsBetween reading carry → 0 < length carry
     → IsOpen (fed reading carry)
 open-carry reading carry between some =
-    let last = last-of-part carry between.partial some in (
-      ended reading.lines ++ last.0,
-      last.1,
-      ap (λ c. ended reading.lines ++ c) last.2 ∙ sym (append_assoc (ended reading.lines) last.0 (last.1 ∷ [])),
-      last.3,
-    )
+    grind (arith, nat_tests, last-of-part carry between.partial some, append_assoc (ended reading.lines))
 
 -- a fault that came before the end
 pub part-spoiled : (kind : Kind) (a b : SourceState) (bytes : List ℕ) (e : InputError) → Spoils kind bytes e
@@ -131,12 +93,4 @@ part-spoiled kind a b bytes Memory h g same = (bytes, same, inl g)
 pub part-failed : (kind : Kind) (a b c : SourceState) (reading : Reading) (carry : List ℕ) → reading.kind ≡ kind
     → IsBetween reading carry → Gave a b (fed reading carry) → b.failures ≡ a.failures
     → Rose b.failures c.failures → Keeps b.rest c.rest → c.given ≡ b.given → IsPart kind a c Device
-part-failed kind a b c reading carry is between g same rose kept e =
-    let none : line_fault kind reading.lines ≡ None = rw is at between.no_fault in (
-      ended reading.lines,
-      carry,
-      gave_kept a b c (fed reading carry) g kept e,
-      subst (λ n. Rose n c.failures) same rose,
-      ap (line_fault kind) (lines_of-all reading.lines between.whole) ∙ none,
-      between.partial,
-    )
+part-failed kind a b c reading carry is between g same rose kept e = grind (arith, nat_tests, gave_kept, lines_of-all)

@@ -1,4 +1,5 @@
 -- The first fault of lines and one more.
+use Rattle.std.proofs.lemmas.Bool.Decides.{nat_tests}
 use Rattle.std.proofs.Common.{◌≡◌, ℕ, ◌+◌, ◌-◌, ◌^◌, List, [], ◌∷◌, ◌++◌, Option, None, Some, Err, Bool, length, refl}
 use Rattle.std.proofs.Common.{ap, ◌∙◌, sym, subst, arith, min, MatchOption, if◌then◌else◌}
 use Rattle.std.proofs.lemmas.Grind.{common_steps}
@@ -95,12 +96,7 @@ module _ (kind : Kind) (old new : List (List ℕ)) (line : List ℕ) (f : new �
   sound = subst (λ q. MatchOption q (IsBuilder d × (stage_of_builder d ≡ stage_of kind old)) (λ _. Unit {0})) g s
 
   fault-is : line_fault kind new ≡ fault_or (length new) (first (line_checks kind (stage_of_builder d) line)) None
-  fault-is =
-      let num : 0 + length (old ++ line ∷ []) ≡ length new = omega (arith, ap length f) in
-      ap (line_fault kind) f ∙ line_fault-is kind (old ++ line ∷ [])
-      ∙ next-fault kind 0 no_stage old line (sym (line_fault-is kind old) ∙ subst (IsStateOf kind old) g h)
-      ∙ ap (λ m. fault_or m (first (line_checks kind (stage_of kind old) line)) None) num
-      ∙ ap (λ st. fault_or (length new) (first (line_checks kind st line)) None) (sym sound.1)
+  fault-is = grind (arith, nat_tests, line_fault-is, next-fault, fault_or)
 
   pub fails : (count : ℕ) (e : LineError) (T : Type 0) → count ≡ line_number (length new)
       → Judged {T = T} (first (line_checks kind (stage_of_builder d) line)) (Err e)
@@ -114,14 +110,7 @@ module _ (kind : Kind) (old new : List (List ℕ)) (line : List ℕ) (f : new �
   pub stage-is : (count : ℕ) (d' : ProblemBuilder) → count ≡ line_number (length new) → IsBuilder d'
       × (stage_of_builder d' ≡ with_line kind count (stage_of_builder d) line) → IsBuilder d'
       × (stage_of_builder d' ≡ stage_of kind new)
-  stage-is count d' c t =
-      let num : 0 + length (old ++ line ∷ []) ≡ length new = omega (arith, ap length f) in (
-        t.0,
-        t.1 ∙ ap (λ m. with_line kind m (stage_of_builder d) line) c
-            ∙ ap (λ st. with_line kind (line_number (length new)) st line) sound.1
-            ∙ ap (λ m. with_line kind (line_number m) (stage_of kind old) line) (sym num)
-            ∙ sym (stage-snoc kind 0 no_stage old line) ∙ ap (stage_of kind) (sym f),
-      )
+  stage-is count d' c t = grind (arith, nat_tests, stage-snoc kind 0 no_stage old line)
 
 -- the end of the text
 pub fault-ends : (kind : Kind) (lines : List (List ℕ)) (p : ℕ × FaultKind) → line_fault kind lines ≡ Some p

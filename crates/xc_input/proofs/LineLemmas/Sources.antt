@@ -1,4 +1,6 @@
 -- What the end of a source says of its text.
+use Rattle.std.proofs.Common.{arith}
+use Rattle.std.proofs.lemmas.Bool.Decides.{nat_tests}
 use Rattle.std.proofs.Common.{◌≡◌, ℕ, ◌<◌, List, [], ◌∷◌, ◌++◌, Result, Err, length, sym, ap, ◌∙◌, subst, append-nil}
 use Rattle.xc_input.proofs.LineLemmas.Reading.{fault-ends}
 use Rattle.xc_input.specs.declared.kind.Kind.{Kind}
@@ -25,12 +27,7 @@ error-ends kind lines Memory h = tt
 pub line-ends : (kind : Kind) (lines : List (List ℕ)) (e : InputError) → IsErrorOf kind lines e
     → EndsAs kind lines (Err e)
 line-ends kind lines e h =
-    record {
-      accepted = tt;
-      only = tt;
-      first = error-ends kind lines e h;
-      refused = refutes kind lines e (error-ends kind lines e h);
-    }
+    grind (arith, nat_tests, error-ends kind lines e h, refutes kind lines e (error-ends kind lines e h))
 
 -- the lines of what was fed
 pub no-part : (reading : Reading) (carry : List ℕ) → IsBetween reading carry → length carry ≡ 0

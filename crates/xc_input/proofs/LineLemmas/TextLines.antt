@@ -101,13 +101,7 @@ Spoils-more kind bytes more all e f h =
 -- the answer to a line that ends
 bytes-are : (old new : Reading) (carry end whole : List ℕ) → whole ≡ carry ++ end → new.lines ≡ old.lines ++ whole ∷ []
     → (fed old carry ++ end) ++ 10 ∷ [] ≡ ended new.lines
-bytes-are old new carry end whole f g =
-    let a : (fed old carry ++ end) ++ 10 ∷ [] ≡ (ended old.lines ++ (carry ++ end)) ++ 10 ∷ [] =
-    ap (λ bs. bs ++ 10 ∷ []) (append_assoc (ended old.lines) carry end) in
-    let b : (ended old.lines ++ (carry ++ end)) ++ 10 ∷ [] ≡ ended old.lines ++ ((carry ++ end) ++ 10 ∷ []) =
-    append_assoc (ended old.lines) (carry ++ end) (10 ∷ []) in
-    a ∙ b ∙ ap (λ w. ended old.lines ++ (w ++ 10 ∷ [])) (sym f) ∙ sym (ended-append old.lines (whole ∷ []))
-    ∙ ap ended (sym g)
+bytes-are old new carry end whole f g = grind (arith, nat_tests, append_assoc, ended-append)
 
 pub ends : (old new : Reading) (carry end whole left : List ℕ) (r : Result (Unit {0}) InputError) → IsBetween old carry
     → has 10 end ≡ false → whole ≡ carry ++ end → new.kind ≡ old.kind
@@ -136,11 +130,4 @@ ends old new carry end whole left (Err x) b l f k g e s n =
 -- a piece of a line is carried on
 pub between-more : (reading : Reading) (carry rest new : List ℕ) → IsBetween reading carry → has 10 rest ≡ false
     → new ≡ carry ++ rest → IsBetween reading new
-between-more reading carry rest new b l e =
-    record {
-      no_error = b.no_error;
-      no_fault = b.no_fault;
-      whole = b.whole;
-      partial = ap (has 10) e
-          ∙ lacks-append 10 carry rest b.partial l;
-    }
+between-more reading carry rest new b l e = grind (arith, nat_tests, lacks-append 10 carry rest b.partial l)

@@ -1,6 +1,6 @@
 -- A colour keeps the number that it has where it is met first.
 use Rattle.std.proofs.Common.{◌≡◌, ℕ, suc, ◌+◌, ◌<◌, ◌≤◌, List, [], ◌∷◌, ◌++◌, Option, None, Some, Bool, true, false}
-use Rattle.std.proofs.Common.{◌||◌, not, nat_lt, is_none, unwrap_or, length, map, take, append-nil, append_assoc, refl}
+use Rattle.std.proofs.Common.{not, nat_lt, is_none, unwrap_or, length, map, take, append-nil, append_assoc, refl}
 use Rattle.std.proofs.Common.{sym, ap, subst, ◌∙◌, length-append, arith, if◌then◌else◌}
 use Rattle.xc_input.specs.declared.problem.Use.{Use}
 use Rattle.std.proofs.lemmas.Bool.Decides.{nat_tests}
@@ -18,15 +18,7 @@ use Rattle.xc_input.proofs.FaultLemmas.Checks.{no-place, some-is}
 last-or-len : {A : Type 0} (p : A → Bool) (xs : List A) (x : A) → list_any p xs ≡ false → p x ≡ true
     → position_or_len p (xs ++ x ∷ []) ≡ length xs
 last-or-len p [] x e f = ap (λ t. if not t then 1 + 0 else 0) f
-last-or-len p (y ∷ ys) x e f =
-    let P : Bool → Type 0 = λ t. (t || list_any p ys) ≡ false
-    → (if not t then 1 + position_or_len p (ys ++ x ∷ []) else 0) ≡ suc (length ys) in
-    let h : P (p y) =
-    (elim (p y) as P [
-      | true ↦ λ g. absurd (cc)
-      | false ↦ λ g. let r : position_or_len p (ys ++ x ∷ []) ≡ length ys =
-          last-or-len p ys x g f in omega arith
-    ]) in h e
+last-or-len p (y ∷ ys) x e f = grind (arith, nat_tests, last-or-len p ys x)
 
 pub last-position : {A : Type 0} (p : A → Bool) (xs : List A) (x : A) → position p xs ≡ None → p x ≡ true
     → position p (xs ++ x ∷ []) ≡ Some (length xs)
@@ -40,25 +32,11 @@ last-position p xs x e f =
 or-len-stays : {A : Type 0} (p : A → Bool) (xs ys : List A) → position_or_len p xs < length xs
     → position_or_len p (xs ++ ys) ≡ position_or_len p xs
 or-len-stays p [] ys h = absurd (omega (arith, h))
-or-len-stays p (x ∷ xs) ys h =
-    let P : Bool → Type 0 = λ t. (if not t then 1 + position_or_len p xs else 0) < suc (length xs)
-    → (if not t then 1 + position_or_len p (xs ++ ys) else 0) ≡ (if not t then 1 + position_or_len p xs else 0) in
-    let g : P (p x) =
-    (elim (p x) as P [
-      | true ↦ λ h. refl
-      | false ↦ λ h. ap (λ k. 1 + k) (or-len-stays p xs ys (omega (arith, h)))
-    ]) in g h
+or-len-stays p (x ∷ xs) ys h = grind (arith, nat_tests, or-len-stays p xs ys)
 
 found : {A : Type 0} (p : A → Bool) (xs : List A) (i : ℕ) → position p xs ≡ Some i → (i < length xs)
     × (position_or_len p xs ≡ i)
-found p xs i e =
-    let P : Bool → Type 0 = λ t. nat_lt (position_or_len p xs) (length xs) ≡ t
-    → (if t then Some (position_or_len p xs) else None) ≡ Some i → (i < length xs) × (position_or_len p xs ≡ i) in
-    let h : P (nat_lt (position_or_len p xs) (length xs)) = (elim (nat_lt (position_or_len p xs) (length xs)) as P [
-      | true ↦ λ f g. let z : position_or_len p xs ≡ i = cc in let l : position_or_len p xs < length xs =
-          grind (arith, nat_tests) in (subst (λ n. n < length xs) z l, z)
-      | false ↦ λ f g. absurd (cc)
-    ]) in h refl e
+found p xs i e = grind (arith, nat_tests)
 
 position-stays : {A : Type 0} (p : A → Bool) (xs ys : List A) (i : ℕ) → position p xs ≡ Some i
     → position p (xs ++ ys) ≡ Some i
@@ -119,10 +97,7 @@ numbered_in_turn colours (u ∷ us) = use_behind colours u ∷ numbered_in_turn 
 
 pub in_turn : (cs : List (List ℕ)) (us : List Written) → numbered_in_turn cs us ≡ numbered cs us
 in_turn cs [] = refl
-in_turn cs (u ∷ us) =
-    let same = kept (with_colour cs u.colour) us u.colour (met cs u.colour) in
-    let later = in_turn (with_colour cs u.colour) us in
-    λ i. record { item = u.item; colour = sym same i } ∷ later i
+in_turn cs (u ∷ us) = grind (arith, nat_tests, in_turn (with_colour cs u.colour) us, kept (with_colour cs u.colour) us u.colour (met cs u.colour), met cs u.colour)
 
 -- one use more
 pub in_turn_more : (cs : List (List ℕ)) (us : List Written) (u : Written)

@@ -4,7 +4,6 @@ use Rattle.std.proofs.Common.{◌||◌, nat_le, nat_lt, unwrap_or, length, map, 
 use Rattle.std.proofs.Common.{arith, if◌then◌else◌, Vec, Global, length-append}
 use Rattle.std.proofs.Math.Seq.{take-append_seam, drop-append_seam}
 use Rattle.xc_input.proofs.OptionLemmas.Colours.{last-position, first_met}
-use Rattle.xc_input.proofs.lists.Places.{rest_taken}
 use Rattle.xc_input.specs.inner.ColourNumbers.{numbered}
 use Rattle.std.proofs.lemmas.Bool.Decides.{nat_tests}
 use Rattle.std.proofs.lemmas.Slice.Eq.{bytes_eq-Decides}
@@ -29,13 +28,13 @@ use Rattle.xc_input.specs.inner.Stored.{key_names}
 use Rattle.xc_input.specs.inner.GuessedWords.{AreWords}
 use Rattle.xc_input.specs.inner.Flat.{pieces}
 use Rattle.xc_input.specs.inner.Vectors.{AreOptionStarts}
-use Rattle.std.proofs.lemmas.List.{length-map, take-map}
+use Rattle.std.proofs.lemmas.List.{length-map, take-map, take_rest}
 use Rattle.xc_input.proofs.ValidLemmas.SheetValidity.{numbered-length}
 use Rattle.xc_input.proofs.OptionLemmas.FlatParts.{option-more, all-uses}
 use Rattle.xc_input.proofs.FaultLemmas.FirstChecks.{first-back}
 use Rattle.xc_input.specs.inner.Stages.{whole_checks}
 use Rattle.std.proofs.Math.Bool.{and-false}
-use Rattle.xc_input.proofs.FaultLemmas.Checks.{map-length, names_of-length}
+use Rattle.xc_input.proofs.FaultLemmas.Checks.{names_of-length}
 
 -- the number of a colour that was added last
 pub new-number : (old new : List (List ℕ)) (colour : List ℕ) (n : ℕ) → 0 < length colour → place old colour ≡ None
@@ -49,21 +48,21 @@ new-number old new (b ∷ bs) n h e f g =
 pub keys-count : (d : ProblemBuilder) → IsBuilder d → length d.marks.items ≡ length d.names.keys
 keys-count d s =
     let a : length (key_names d.names.keys) ≡ length d.names.keys =
-    map-length (λ (v : Vec ℕ Global). v.items) d.names.keys in
+    length-map d.names.keys (λ (v : Vec ℕ Global). v.items) in
     let b : length (key_names d.names.keys) ≡ length (names_of (map entry_of d.items.items)) = ap length s.names in
     let e : length (names_of (map entry_of d.items.items)) ≡ length (map entry_of d.items.items) =
     names_of-length (map entry_of d.items.items) in
-    let g : length (map entry_of d.items.items) ≡ length d.items.items = map-length entry_of d.items.items in
+    let g : length (map entry_of d.items.items) ≡ length d.items.items = length-map d.items.items entry_of in
     let m : length d.marks.items ≡ length d.items.items = s.marks in omega arith
 
 pub keys-few : (d : ProblemBuilder) → IsBuilder d → length d.names.keys ≤ most_items
 keys-few d s =
     let a : length (key_names d.names.keys) ≡ length d.names.keys =
-    map-length (λ (v : Vec ℕ Global). v.items) d.names.keys in
+    length-map d.names.keys (λ (v : Vec ℕ Global). v.items) in
     let b : length (key_names d.names.keys) ≡ length (names_of (map entry_of d.items.items)) = ap length s.names in
     let e : length (names_of (map entry_of d.items.items)) ≡ length (map entry_of d.items.items) =
     names_of-length (map entry_of d.items.items) in
-    let g : length (map entry_of d.items.items) ≡ length d.items.items = map-length entry_of d.items.items in
+    let g : length (map entry_of d.items.items) ≡ length d.items.items = length-map d.items.items entry_of in
     let m : length d.items.items ≤ most_items = s.few_items in omega arith
 
 pub uses-length : (old new : List Use) (cs : List (List ℕ)) (us : List Written) → new ≡ old ++ numbered cs us
@@ -86,7 +85,7 @@ pub late-primary : (primary : ℕ) (old new : List Use) (cs : List (List ℕ)) (
     (b : Bool) → b ≡ list_any (λ u. nat_le u.item primary) (take (length all - n) (drop n all))
     → all ≡ new → n ≡ length old → new ≡ old ++ numbered cs us → b ≡ has_primary primary us
 late-primary primary old new cs us all n b e f g h =
-    let late : take (length all - n) (drop n all) ≡ numbered cs us = rest_taken n all ∙ ap (drop n) (f ∙ h)
+    let late : take (length all - n) (drop n all) ≡ numbered cs us = take_rest all n ∙ ap (drop n) (f ∙ h)
     ∙ ap (λ k. drop k (old ++ numbered cs us)) g ∙ drop-append_seam old (numbered cs us) in
     e ∙ ap (list_any (λ u. nat_le u.item primary)) late ∙ primary-numbered primary cs us
 

@@ -10,7 +10,6 @@ use Rattle.std.proofs.lemmas.List.Quantifiers.{all_pairs_push}
 use Rattle.std.proofs.lemmas.Slice.Eq.{bytes_eq-Decides}
 use Rattle.std.proofs.Math.Seq.{take-append_seam, drop-append_seam}
 use Rattle.std.specs.List.{list_any, AllZip, position, position_or_len, before_first, after_first}
-use Rattle.std.specs.Str.{bytes_eq}
 use Rattle.xc_input.specs.declared.kind.Kind.{Kind}
 use Rattle.xc_input.specs.Limits.{most_items}
 use Rattle.xc_input.specs.Words.{has, place}
@@ -21,8 +20,7 @@ use Rattle.xc_input.specs.Text.{IsEntry}
 use Rattle.xc_input.proofs.GrammarLemmas.SheetGrammar.{AreItems}
 use Rattle.xc_input.proofs.ValidLemmas.SheetValidity.{AllNew}
 use Rattle.xc_input.proofs.FaultLemmas.Checks.{no-place}
-use Rattle.std.proofs.lemmas.Bool.{or_parts, or_from}
-use Rattle.xc_input.proofs.TokenLemmas.Bytes.{not_false}
+use Rattle.std.proofs.lemmas.Bool.{or_parts}
 use Rattle.xc_input.proofs.TokenLemmas.TableNames.{apart}
 use Rattle.xc_input.proofs.TokenLemmas.Separators.{BAR}
 
@@ -74,12 +72,7 @@ absent-is p xs h =
     ap (λ b. cond b (Some (position_or_len p xs)) None) t
 
 still-new : (names : List (List ℕ)) (x y : List ℕ) → place names y ≡ None → x ≢ y → place (names ++ x ∷ []) y ≡ None
-still-new names x y none differ =
-    let other : bytes_eq y x ≡ false = not_false (bytes_eq y x) (λ f. differ (sym ((bytes_eq-Decides y x).0 f))) in
-    absent-is (bytes_eq y) (names ++ x ∷ [])
-    (list_any-append (bytes_eq y) names (x ∷ [])
-    ∙ or_from (list_any (bytes_eq y) names) (list_any (bytes_eq y) (x ∷ [])) (no-place (bytes_eq y) names none)
-    (or_from (bytes_eq y x) false other refl))
+still-new names x y none differ = grind (arith, nat_tests, bytes_eq-Decides, absent-is, list_any-append, no-place)
 
 all-new : (earlier xs : List (List ℕ)) → All (λ x. place earlier x ≡ None) xs → AllPairs (λ x y. x ≢ y) xs
     → AllNew earlier xs

@@ -1,9 +1,9 @@
 -- Marks at the items of a line.
-use Rattle.std.proofs.Common.{◌≡◌, ◌≢◌, ℕ, zero, suc, ◌+◌, ◌-◌, ◌<◌, ◌≤◌, List, [], ◌∷◌, ◌++◌, Bool, true, false}
-use Rattle.std.proofs.Common.{true≢false, ◌||◌, nat_eq, length, map, get_or, set, take, drop, All, refl, ap, ◌∙◌, sym}
+use Rattle.std.proofs.Common.{◌≡◌, ℕ, zero, suc, ◌+◌, ◌-◌, ◌<◌, ◌≤◌, List, [], ◌∷◌, ◌++◌, Bool, true, false}
+use Rattle.std.proofs.Common.{true≢false, nat_eq, length, map, get_or, set, take, drop, All, refl, ap, ◌∙◌, sym}
 use Rattle.std.proofs.Common.{subst, arith, length-set, Option, None, Some, position, IfSome}
 use Rattle.std.proofs.lemmas.Bool.Decides.{nat_tests}
-use Rattle.std.proofs.Math.Bool.{or-true, or-false}
+use Rattle.std.proofs.Math.Bool.{or-true}
 use Rattle.std.proofs.lemmas.Grind.{get_or-set_at}
 use Rattle.std.proofs.lemmas.List.{get_or-set_other}
 use Rattle.std.proofs.lemmas.List.Elements.{All-push}
@@ -19,21 +19,8 @@ use Rattle.xc_input.proofs.FaultLemmas.Checks.{map-snoc}
 -- one item more
 pub mark : (marks : List Bool) (seen : List ℕ) (i : ℕ) → AreMarks marks seen → 1 ≤ i → i ≤ length marks
     → AreMarks (set marks (i - 1) true) (seen ++ i ∷ [])
-mark marks seen i are low high = λ k within.
-    let all : length (set marks (i - 1) true) ≡ length marks = length-set marks (i - 1) true in
-    let split : list_any (λ j. nat_eq j (k + 1)) (seen ++ i ∷ []) ≡
-    (list_any (λ j. nat_eq j (k + 1)) seen || (nat_eq i (k + 1) || false)) =
-    list_any-append (λ j. nat_eq j (k + 1)) seen (i ∷ []) in
-    let P : Bool → Type 0 = λ t. nat_eq i (k + 1) ≡ t
-    → get_or (set marks (i - 1) true) k false ≡ (list_any (λ j. nat_eq j (k + 1)) seen || (t || false)) in
-    let h : P (nat_eq i (k + 1)) = (elim (nat_eq i (k + 1)) as P [
-      | true ↦ λ e. let here : i ≡ k + 1 = grind (arith, nat_tests) in
-          get_or-set_at marks (i - 1) k true false (omega (arith, here)) (omega (arith, low, high))
-          ∙ sym (or-true (list_any (λ j. nat_eq j (k + 1)) seen))
-      | false ↦ λ e. let there : i ≢ k + 1 = grind (arith, nat_tests) in
-          get_or-set_other marks (i - 1) k true false (λ same. there (omega (arith, same, low)))
-          ∙ are k (omega (arith, within, all)) ∙ sym (or-false (list_any (λ j. nat_eq j (k + 1)) seen))
-    ]) in h refl ∙ sym split
+mark marks seen i are low high =
+    grind (arith, nat_tests, length-set, list_any-append, get_or-set_at, or-true, get_or-set_other)
 
 -- the item of one use more
 pub mark-more : (marks : List Bool) (us : List Written) (u : Written) → AreMarks marks (items_of us)

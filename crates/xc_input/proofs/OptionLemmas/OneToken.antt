@@ -106,16 +106,13 @@ pub token-step : (kind : Kind) (names : List (List ℕ)) (primary : ℕ) (us : L
     → (a ≡ first (option_checks (context kind names primary) (items_of (us ++ u ∷ [])) others))
     × (all ≡ (us ++ u ∷ []) ++ map (written names) others)
 token-step kind names primary us token line others a all u e f l g =
-    let is : items_of (us ++ u ∷ []) ≡ items_of us ++ item_number names (before COLON token) ∷ [] =
-    map-snoc (λ (w : Written). w.item) us u ∙ ap (λ (w : Written). items_of us ++ w.item ∷ []) g.1 in (
-      e ∙ ap (λ ts. first (option_checks (context kind names primary) (items_of us) ts)) l
-          ∙ first-back (token_checks (context kind names primary) (items_of us) token)
-          (option_checks (context kind names primary) (items_of us ++ item_number names (before COLON token) ∷ [])
-          others) g.0
-          ∙ ap (λ s. first (option_checks (context kind names primary) s others)) (sym is),
-      f ∙ ap (λ ts. us ++ map (written names) ts) l
-          ∙ sym (append_assoc us (written names token ∷ []) (map (written names) others))
-          ∙ ap (λ w. (us ++ w ∷ []) ++ map (written names) others) (sym g.1),
+    grind (
+      arith,
+      nat_tests,
+      map-snoc,
+      first-back (token_checks (context kind names primary) (items_of us) token) (option_checks (context kind names
+          primary) (items_of us ++ item_number names (before COLON token) ∷ []) others) g.0,
+      append_assoc us (written names token ∷ []) (map (written names) others),
     )
 
 pub pushed : {A E : Type 0} (r : Result (Unit {0}) E) (old new : List A) (x : A) → is_ok r ≡ true

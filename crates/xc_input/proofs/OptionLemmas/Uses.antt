@@ -1,5 +1,5 @@
 -- Uses of an option, each behind those before it.
-use Rattle.std.proofs.Common.{◌≡◌, ◌≢◌, ℕ, zero, suc, ◌<◌, List, [], ◌∷◌, ◌++◌, false, true, nat_eq, true≢false, length}
+use Rattle.std.proofs.Common.{◌≡◌, ◌≢◌, ℕ, zero, suc, ◌<◌, List, [], ◌∷◌, ◌++◌, false, nat_eq, true≢false, length}
 use Rattle.std.proofs.Common.{map, get_or, refl, sym, subst, ◌∙◌, append_assoc, append-nil, arith, All, AllPairs}
 use Rattle.std.proofs.lemmas.Bool.Decides.{nat_tests}
 use Rattle.std.proofs.lemmas.List.{map-append}
@@ -47,11 +47,7 @@ uses-behind c ts us h = all-behind c [] ts us h.0 h.1 (λ k d within. refl)
 unlike : (front : List Written) (i : ℕ) → list_any (λ j. nat_eq j i) (map (λ u. u.item) front) ≡ false
     → (k : ℕ) (d : Written) → k < length front → (get_or front k d).item ≢ i
 unlike [] i e k d within same = absurd (omega (arith, within))
-unlike (u ∷ front) i e zero d within same =
-    let other : nat_eq u.item i ≡ false =
-    (or_parts (nat_eq u.item i) (list_any (λ j. nat_eq j i) (map (λ u. u.item) front)) e).0 in
-    let equal : nat_eq u.item i ≡ true = grind (arith, nat_tests, same) in
-    true≢false (sym equal ∙ other)
+unlike (u ∷ front) i e zero d within same = grind (arith, nat_tests, or_parts (nat_eq u.item i), true≢false)
 unlike (u ∷ front) i e (suc k) d within same =
     unlike front i (or_parts (nat_eq u.item i) (list_any (λ j. nat_eq j i) (map (λ u. u.item) front)) e).1 k d
     (omega (arith, within)) same

@@ -1,10 +1,9 @@
 -- Where a byte stands in a list.
-use Rattle.std.proofs.Common.{cond, filter, zero, ◌^◌, ◌≡◌, ℕ, suc, ◌+◌, ◌-◌, ◌<◌, ◌≤◌, List, [], ◌∷◌, ◌++◌, None, Some}
+use Rattle.std.proofs.Common.{filter, zero, ◌^◌, ◌≡◌, ℕ, suc, ◌+◌, ◌-◌, ◌<◌, ◌≤◌, List, [], ◌∷◌, ◌++◌, None, Some}
 use Rattle.std.proofs.Common.{Bool, length, get_or, take, drop, refl, sym, ap, ◌∙◌, arith, subst, map, length-drop}
-use Rattle.std.proofs.Common.{nat_eq, position, not, nat_lt, append_assoc, if◌then◌else◌, ◌||◌, ◌&&◌, true, false}
+use Rattle.std.proofs.Common.{nat_eq, position, not, nat_lt, append_assoc, if◌then◌else◌, true, false}
 use Rattle.std.proofs.Math.Nat.{pow-le-pow_right}
 use Rattle.std.specs.List.{position_or_len, list_all, onto_first, slice_split}
-use Rattle.std.proofs.lemmas.Bool.{eqb-true}
 use Rattle.std.proofs.lemmas.Bool.Decides.{nat_tests}
 use Rattle.std.proofs.lemmas.Grind.{common_steps}
 use Rattle.std.proofs.lemmas.List.{length-map, take-append-drop}
@@ -13,40 +12,27 @@ use Rattle.xc_input.specs.Tokens.{is_space, is_bar, is_skipped, parts, split_bar
 use Rattle.xc_input.specs.inner.Fronts.{drop_white, word, StandsBefore}
 use Rattle.std.specs.Prelude.{flat_map}
 use Rattle.xc_input.proofs.TokenLemmas.Separators.{BAR}
+use Rattle.std.proofs.Math.Bool.{and-true}
+-- by the name that other modules have for it
+pub use Rattle.std.proofs.lemmas.Bool.{false_from_ne_true as not_false}
 
 -- a byte that isn't found
 pub has-all : (b : ℕ) (xs : List ℕ) → ((k : ℕ) → k < length xs → nat_eq (get_or xs k 0) b ≡ false) → (has b xs ≡ false)
     × (before b xs ≡ xs)
 has-all b [] h = (refl, refl)
 has-all b (x ∷ xs) h =
-    let first : nat_eq x b ≡ false = h 0 (omega arith) in
-    let rest : (has b xs ≡ false) × (before b xs ≡ xs) = has-all b xs (λ k p. h (suc k) (omega arith)) in (
-      ap (λ t. t || has b xs) first ∙ rest.0,
-      ap (λ t. if t then [] else x ∷ before b xs) first
-          ∙ ap (λ ys. x ∷ ys) rest.1,
-    )
+    let rest = has-all b xs (λ k p. h (suc k) (omega arith)) in
+    rw (h 0 (omega arith)) (rest.0, ap (λ ys. x ∷ ys) rest.1)
 
 -- a byte that is found first at i
 pub has-at : (b : ℕ) (xs : List ℕ) (i : ℕ) → i < length xs → ((k : ℕ) → k < i → nat_eq (get_or xs k 0) b ≡ false)
     → nat_eq (get_or xs i 0) b ≡ true
     → (has b xs ≡ true) × (take i xs ≡ before b xs) × (drop (suc i) xs ≡ after b xs)
 has-at b [] i p h e = absurd (omega arith)
-has-at b (x ∷ xs) zero p h e = (
-  ap (λ t. t || has b xs) e,
-  sym (ap (λ t. if t then [] else x ∷ before b xs) e),
-  sym
-      (ap (λ t. if t then xs else after b xs) e),
-)
+has-at b (x ∷ xs) zero p h e = rw e (refl, refl, refl)
 has-at b (x ∷ xs) (suc i) p h e =
-    let first : nat_eq x b ≡ false = h 0 (omega arith) in
-    let rest : (has b xs ≡ true) × (take i xs ≡ before b xs) × (drop (suc i) xs ≡ after b xs) =
-    has-at b xs i (omega arith) (λ k q. h (suc k) (omega arith)) e in (
-      ap (λ t. t || has b xs) first ∙ rest.0,
-      ap (λ ys. x ∷ ys) rest.1
-          ∙ sym (ap (λ t. if t then [] else x ∷ before b xs) first),
-      rest.2
-          ∙ sym (ap (λ t. if t then xs else after b xs) first),
-    )
+    let rest = has-at b xs i (omega arith) (λ k q. h (suc k) (omega arith)) e in
+    rw (h 0 (omega arith)) (rest.0, ap (λ ys. x ∷ ys) rest.1, rest.2)
 
 place-map : {A B : Type 0} (p : B → Bool) (f : A → B) (xs : List A)
     → position_or_len p (map f xs) ≡ position_or_len (λ x. p (f x)) xs
@@ -79,87 +65,40 @@ some-first : (b c : ℕ) (parts : List (List ℕ))
     → filter is_some_token (onto_first b (onto_first c parts))
     ≡ onto_first b (filter is_some_token (onto_first c parts))
 some-first b c [] = refl
-some-first b c (p ∷ ps) =
-    ap (λ t. cond t ((b ∷ c ∷ p) ∷ filter is_some_token ps) (filter is_some_token ps)) (some-token b (c ∷ p))
-    ∙ sym (ap (λ t. onto_first b (cond t ((c ∷ p) ∷ filter is_some_token ps) (filter is_some_token ps)))
-    (some-token c p))
+some-first b c (p ∷ ps) = grind (arith, nat_tests, some-token b (c ∷ p), some-token c p)
 
 tokens-onto : (b : ℕ) (bs : List ℕ) → filter is_some_token (onto_first b (slice_split is_space bs))
     ≡ onto b bs (tokens bs)
 tokens-onto b [] = refl
-tokens-onto b (c ∷ cs) =
-    let P : Bool → Type 0 = λ t. filter is_some_token (onto_first b
-    (cond t ([] ∷ slice_split is_space cs) (onto_first c (slice_split is_space cs))))
-    ≡ (if t then (b ∷ []) ∷ filter is_some_token (cond t ([] ∷ slice_split is_space cs)
-    (onto_first c (slice_split is_space cs)))
-    else onto_first b (filter is_some_token (cond t ([] ∷ slice_split is_space cs)
-    (onto_first c (slice_split is_space cs))))) in
-    let h : P (is_space c) = (elim (is_space c) as P [
-      | true ↦ refl
-      | false ↦
-          some-first b c (slice_split is_space cs)
-    ]) in h
+tokens-onto b (c ∷ cs) = grind (arith, some-first b c (slice_split is_space cs))
 
 -- the tokens of a line by its first byte
 pub tokens-cons : (b : ℕ) (bs : List ℕ) → tokens (b ∷ bs) ≡ (if is_space b then tokens bs else onto b bs (tokens bs))
-tokens-cons b bs =
-    let P : Bool → Type 0 = λ t. filter is_some_token (cond t ([] ∷ slice_split is_space bs)
-    (onto_first b (slice_split is_space bs))) ≡ (if t then tokens bs else onto b bs (tokens bs)) in
-    let h : P (is_space b) = (elim (is_space b) as P [ true ↦ refl | false ↦ tokens-onto b bs ]) in h
+tokens-cons b bs = grind (arith, tokens-onto b bs)
 
 pub tokens-drop_white : (xs : List ℕ) → tokens (drop_white xs) ≡ tokens xs
 tokens-drop_white [] = refl
-tokens-drop_white (b ∷ bs) =
-    let P : Bool → Type 0 = λ t. is_space b ≡ t
-    → tokens (if t then drop_white bs else b ∷ bs) ≡ (if t then tokens bs else onto b bs (tokens bs)) in
-    let h : P (is_space b) = (elim (is_space b) as P [
-      | true ↦ λ e. tokens-drop_white bs
-      | false ↦
-          λ e. tokens-cons b bs ∙ ap (λ t. if t then tokens bs else onto b bs (tokens bs)) e
-    ]) in h refl
-    ∙ sym (tokens-cons b bs)
+tokens-drop_white (b ∷ bs) = grind (arith, tokens-drop_white bs, tokens-cons b bs)
 
 -- what is left behind white space begins with none
 pub drop_white-first : (xs : List ℕ) (b : ℕ) (bs : List ℕ) → drop_white xs ≡ b ∷ bs → is_space b ≡ false
 drop_white-first [] b bs e = absurd (cc)
-drop_white-first (x ∷ xs) b bs e =
-    let P : Bool → Type 0 = λ t. is_space x ≡ t → (if t then drop_white xs else x ∷ xs) ≡ b ∷ bs → is_space b ≡ false in
-    let h : P (is_space x) =
-    (elim (is_space x) as P [
-      | true ↦ λ f g. drop_white-first xs b bs g
-      | false ↦ λ f g. let same : x ≡ b = cc in ap
-          is_space (sym same) ∙ f
-    ]) in h refl e
+drop_white-first (x ∷ xs) b bs e = grind (arith, drop_white-first xs b bs)
 
 -- a byte that is no white space begins the first token
 pub tokens-first : (b : ℕ) (bs : List ℕ) → is_space b ≡ false → tokens (b ∷ bs) ≡ (b ∷ word bs) ∷ tokens (behind bs)
 tokens-first b [] e = tokens-cons b [] ∙ ap (λ t. if t then [] else onto b [] []) e
-tokens-first b (c ∷ cs) e =
-    let start : tokens (b ∷ c ∷ cs) ≡ onto b (c ∷ cs) (tokens (c ∷ cs)) = tokens-cons b (c ∷ cs)
-    ∙ ap (λ t. if t then tokens (c ∷ cs) else onto b (c ∷ cs) (tokens (c ∷ cs))) e in
-    let P : Bool → Type 0 = λ t. is_space c ≡ t
-    → (if t then (b ∷ []) ∷ tokens (c ∷ cs) else onto_first b (tokens (c ∷ cs))) ≡
-    (b ∷ (if t then [] else c ∷ word cs)) ∷ tokens (if t then c ∷ cs else behind cs) in
-    let h : P (is_space c) =
-    (elim (is_space c) as P [ true ↦ λ f. refl | false ↦ λ f. ap (onto_first b) (tokens-first c cs f) ]) in start
-    ∙ h refl
+tokens-first b (c ∷ cs) e = grind (arith, tokens-cons b (c ∷ cs), tokens-first c cs)
 
 -- whether what stands behind leading white space begins no item or option: it is empty, or a comment
 abbrev pub starts_nothing : List ℕ → Bool
 starts_nothing [] = true
 starts_nothing (b ∷ bs) = nat_eq b BAR
 
-and-one : (b : Bool) → (b && true) ≡ b
-and-one true = refl
-and-one false = refl
-
 -- what stands behind leading white space says whether a line is skipped
 pub skipped-front : (line front : List ℕ) → front ≡ drop_white line → starts_nothing front ≡ is_skipped line
 skipped-front line [] e = ap (λ ts. list_all is_bar (take 1 ts)) (ap tokens e ∙ tokens-drop_white line)
-skipped-front line (b ∷ bs) e =
-    let dark : is_space b ≡ false = drop_white-first line b bs (sym e) in
-    sym (and-one (nat_eq b BAR))
-    ∙ ap (λ ts. list_all is_bar (take 1 ts)) (sym (tokens-first b bs dark) ∙ ap tokens e ∙ tokens-drop_white line)
+skipped-front line (b ∷ bs) e = grind (arith, nat_tests, drop_white-first line b bs (sym e), and-true (nat_eq b BAR), tokens-first b bs, tokens-drop_white line)
 
 pub skipped-first : (line front : List ℕ) → front ≡ drop_white line → 1 ≤ length front
     → nat_eq (get_or front 0 0) BAR ≡ is_skipped line
@@ -168,23 +107,15 @@ skipped-first line (b ∷ bs) e h = skipped-front line (b ∷ bs) e
 
 pub take-word : (xs : List ℕ) → take (length (word xs)) xs ≡ word xs
 take-word [] = refl
-take-word (b ∷ bs) =
-    let P : Bool → Type 0 =
-    λ t. take (length (if t then [] else b ∷ word bs)) (b ∷ bs) ≡ (if t then [] else b ∷ word bs) in
-    (elim (is_space b) as P [ true ↦ refl | false ↦ ap (λ ys. b ∷ ys) (take-word bs) ])
+take-word (b ∷ bs) = grind (arith, common_steps, take-word bs)
 
 pub drop-word : (xs : List ℕ) → drop (length (word xs)) xs ≡ behind xs
 drop-word [] = refl
-drop-word (b ∷ bs) =
-    let P : Bool → Type 0 =
-    λ t. drop (length (if t then [] else b ∷ word bs)) (b ∷ bs) ≡ (if t then b ∷ bs else behind bs) in
-    (elim (is_space b) as P [ true ↦ refl | false ↦ drop-word bs ])
+drop-word (b ∷ bs) = grind (arith, common_steps, drop-word bs)
 
 pub drop_white-length : (xs : List ℕ) → length (drop_white xs) ≤ length xs
 drop_white-length [] = omega arith
-drop_white-length (b ∷ bs) =
-    let P : Bool → Type 0 = λ t. length (if t then drop_white bs else b ∷ bs) ≤ length (b ∷ bs) in
-    (elim (is_space b) as P [ true ↦ omega (arith, drop_white-length bs) | false ↦ omega arith ])
+drop_white-length (b ∷ bs) = grind (arith, drop_white-length bs)
 
 -- leading white space stands before what is left behind it
 drop_white-front : (xs : List ℕ) → (front : List ℕ) × (xs ≡ front ++ drop_white xs)
@@ -227,31 +158,14 @@ cuts_first line (b ∷ bs) front back e h f g =
 -- behind a bar, the rest of its token and what follows are the parts of the bytes behind it
 word-parts : (bs : List ℕ) → split_bars (word bs) ++ flat_map split_bars (tokens (behind bs)) ≡ parts bs
 word-parts [] = refl
-word-parts (c ∷ cs) =
-    let P : Bool → Type 0 = λ t. is_space c ≡ t
-    → split_bars (if t then [] else c ∷ word cs) ++ flat_map split_bars (tokens (if t then c ∷ cs else behind cs)) ≡
-    parts (c ∷ cs) in
-    let h : P (is_space c) =
-    (elim (is_space c) as P [
-      | true ↦ λ e. refl
-      | false ↦ λ e. ap (flat_map split_bars) (sym (tokens-first c cs e))
-    ]) in h refl
+word-parts (c ∷ cs) = grind (arith, tokens-first c cs)
 
 -- cutting behind a bar gives the first part
 pub cuts_bar : (line rest front back : List ℕ) → rest ≡ drop_white line → 0 < length rest → get_or rest 0 0 ≡ BAR
     → front ≡ take 1 rest → back ≡ drop 1 rest
     → (parts line ≡ front ∷ parts back) × (length back < length line)
 cuts_bar line [] front back e h b f g = absurd (omega arith)
-cuts_bar line (b ∷ bs) front back e h is f g =
-    let dark : is_space b ≡ false = drop_white-first line b bs (sym e) in
-    let l : length (b ∷ bs) ≤ length line = subst (λ xs. length xs ≤ length line) (sym e) (drop_white-length line) in
-    let m : length back ≡ length bs = ap length g in
-    let all : parts line ≡ (BAR ∷ []) ∷ parts bs =
-    ap (flat_map split_bars) (sym (tokens-drop_white line) ∙ ap tokens (sym e) ∙ tokens-first b bs dark)
-    ∙ ap (λ x. split_bars (x ∷ word bs) ++ flat_map split_bars (tokens (behind bs))) is
-    ∙ ap (λ ps. (BAR ∷ []) ∷ ps) (word-parts bs) in
-    let f' : front ≡ BAR ∷ [] = f ∙ ap (λ x. x ∷ []) is in
-    (all ∙ (λ i. sym f' i ∷ parts (sym g i)), omega arith)
+cuts_bar line (b ∷ bs) front back e h is f g = grind (arith, nat_tests, drop_white-first line b bs (sym e), drop_white-length line, tokens-drop_white line, tokens-first b bs, word-parts bs)
 
 -- cutting at white space gives the first part, where it is no bar
 pub cuts_part : (line rest front back : List ℕ) → rest ≡ drop_white line → 0 < length rest
@@ -259,25 +173,7 @@ pub cuts_part : (line rest front back : List ℕ) → rest ≡ drop_white line �
     → back ≡ drop (length (word rest)) rest
     → (parts line ≡ front ∷ parts back) × (length back < length line)
 cuts_part line [] front back e h n f g = absurd (omega arith)
-cuts_part line (b ∷ bs) front back e h n f g =
-    let dark : is_space b ≡ false = drop_white-first line b bs (sym e) in
-    let w : word (b ∷ bs) ≡ b ∷ word bs = ap (λ t. if t then [] else b ∷ word bs) dark in
-    let f' : front ≡ b ∷ word bs = f ∙ take-word (b ∷ bs) ∙ w in
-    let one : split_bars front ≡ front ∷ [] = ap split_bars f'
-    ∙ ap (λ t. if t then (BAR ∷ []) ∷ split_bars (word bs) else (b ∷ word bs) ∷ []) n ∙ ap (λ x. x ∷ []) (sym f') in
-    let cut : (tokens line ≡ front ∷ tokens back) × (length back < length line) =
-    cuts_first line (b ∷ bs) front back e h f g in
-    (ap (flat_map split_bars) cut.0 ∙ ap (λ ps. ps ++ flat_map split_bars (tokens back)) one, cut.1)
-
-pub not_false : (b : Bool) → (b ≡ true → ⊥) → b ≡ false
-not_false true h = absurd (h refl)
-not_false false h = refl
-
-pub whole : {A : Type 0} (xs ys : List A) (n : ℕ) → ys ≡ take (length xs - n) (drop n xs) → ys ≡ drop n xs
-whole xs ys n e = e ∙ grind (arith, common_steps)
-
-pub differs : (a b : ℕ) → (a ≡ b → ⊥) → nat_eq a b ≡ false
-differs a b h = not_false (nat_eq a b) (λ e. h (eqb-true a b e))
+cuts_part line (b ∷ bs) front back e h n f g = grind (arith, nat_tests, drop_white-first line b bs (sym e), cuts_first line (b ∷ bs) front back e h f g)
 
 pub below_pow : (n i : ℕ) → n < 10 ^ i → i ≤ 8 → n < 100000000
 below_pow n i h l = let p : 10 ^ i ≤ 10 ^ 8 = pow-le-pow_right {n = 10} (omega arith) l in omega arith

@@ -22,10 +22,9 @@ use Rattle.xc_input.specs.declared.kind.Kind.{Kind}
 use Rattle.xc_input.specs.Words.{place, after}
 use Rattle.xc_input.specs.inner.Stored.{number_in}
 use Rattle.xc_input.specs.Tokens.{is_space}
-use Rattle.xc_input.specs.Sheets.{Entry}
 use Rattle.xc_input.specs.inner.Builders.{AreNames, AreDistinct}
 use Rattle.xc_input.specs.inner.Stored.{key_names}
-use Rattle.xc_input.specs.Faults.{first, name_checks, has_prefix}
+use Rattle.xc_input.specs.Faults.{first, name_checks}
 use Rattle.xc_input.specs.inner.Stages.{entry}
 use Rattle.xc_input.specs.Named.{IsName}
 use Rattle.xc_input.proofs.GrammarLemmas.NoFault.{name-good}
@@ -72,11 +71,7 @@ after-solid b (x ∷ xs) h =
 pub name-solid : (kind : Kind) (secondary : Bool) (token name : List ℕ) (low high : ℕ)
     → record { name = name; low = low; high = high } ≡ entry kind secondary token → list_any is_space token ≡ false
     → list_any is_space name ≡ false
-name-solid kind secondary token name low high e h =
-    let P : Bool → Type 0 = λ t. list_any is_space (if t then after BAR token else token) ≡ false in
-    let g : P (has_prefix kind token) =
-    (elim (has_prefix kind token) as P [ true ↦ after-solid BAR token h | false ↦ h ]) in
-    ap (λ (x : Entry). list_any is_space x.name) e ∙ g
+name-solid kind secondary token name low high e h = grind (arith, nat_tests, after-solid BAR token h)
 
 -- where no two names are the same, a name that was met at a place has no other
 pub distinct-place : (names : List (List ℕ)) (name : List ℕ) (k : ℕ) → AreDistinct names → slice_get names k ≡ Some name

@@ -1,8 +1,9 @@
 -- Names and colours have no white space, no NUL byte and no line feed.
+use Rattle.std.proofs.Common.{arith}
+use Rattle.std.proofs.lemmas.Bool.Decides.{nat_tests}
 use Rattle.std.proofs.Common.{◌≡◌, ℕ, ◌+◌, List, [], ◌∷◌, ◌++◌, Option, Some, Bool, true, false, nat_eq, is_none}
 use Rattle.std.proofs.Common.{length, All, refl, ap, ◌∙◌, sym, subst, if◌then◌else◌, inl, inr, None}
 use Rattle.xc_input.proofs.OptionLemmas.Items.{ItemsBehind, items-behind}
-use Rattle.std.proofs.lemmas.Bool.{eqb-true}
 use Rattle.std.proofs.lemmas.List.Elements.{All-nil, All-cons}
 use Rattle.std.proofs.lemmas.List.Folds.{list_any-append}
 use Rattle.std.specs.List.{list_any, onto_first, AllZip}
@@ -64,29 +65,11 @@ lack-tokens p (b ∷ bs) h =
 
 lack-spaces : (xs : List ℕ) → AllLack is_space (tokens xs)
 lack-spaces [] = tt
-lack-spaces (b ∷ bs) =
-    let P : Bool → Type 0 = λ t. is_space b ≡ t → AllLack is_space (if t then tokens bs else onto b bs (tokens bs)) in
-    let h : P (is_space b) = (elim (is_space b) as P [
-      | true ↦ λ e. lack-spaces bs
-      | false ↦
-          λ e. lack-onto is_space b bs (tokens bs) e (lack-spaces bs)
-    ]) in subst (AllLack is_space)
-    (sym (tokens-cons b bs)) (h refl)
+lack-spaces (b ∷ bs) = grind (arith, nat_tests, lack-spaces bs, lack-onto is_space b bs (tokens bs), tokens-cons b bs)
 
 lack-bars : (p : ℕ → Bool) (t : List ℕ) → list_any p t ≡ false → AllLack p (split_bars t)
 lack-bars p [] h = tt
-lack-bars p (b ∷ bs) h =
-    let apart = or_parts (p b) (list_any p bs) h in
-    let P : Bool → Type 0 =
-    λ t. nat_eq b BAR ≡ t → AllLack p (if t then (BAR ∷ []) ∷ split_bars bs else (b ∷ bs) ∷ []) in
-    let g : P (nat_eq b BAR) = (elim (nat_eq b BAR) as P [
-      | true ↦ λ e. (
-        or_from (p BAR) false (subst (λ x. p x ≡ false) (eqb-true b BAR e) apart.0) refl,
-        lack-bars p bs
-            apart.1,
-      )
-      | false ↦ λ e. (h, tt)
-    ]) in g refl
+lack-bars p (b ∷ bs) h = grind (arith, nat_tests, lack-bars p bs)
 
 lack-all : (p : ℕ → Bool) (ts : List (List ℕ)) → AllLack p ts → AllLack p (flat_map split_bars ts)
 lack-all p [] h = tt

@@ -1,4 +1,5 @@
 -- The number of a word: how large it is, what it is of, and what of it the first bytes give.
+use Rattle.std.proofs.lemmas.Bool.Decides.{nat_tests}
 use Rattle.std.proofs.Common.{◌≡◌, ℕ, zero, suc, ◌+◌, ◌*◌, ◌<◌, ◌≤◌, ◌%◌, ◌/◌, ◌^◌, List, [], ◌∷◌, length, get_or}
 use Rattle.std.proofs.Common.{take, drop}
 use Rattle.std.proofs.Common.{refl, ap, ap₂, ◌∙◌, arith}
@@ -68,13 +69,7 @@ bytes-dropped (suc n) (x ∷ xs) p i = bytes-dropped n xs (λ j. p (suc j)) i
 -- a number of at most six bytes, of seven
 pub short-number : (n number : ℕ) (xs : List ℕ) → AreBytes xs → length xs ≤ 7 → 0 < n → n ≤ length xs
     → number ≡ word_number (drop n xs) → number < 2 * 256 ^ 6
-short-number n number xs p most one within e =
-    omega (
-      arith,
-      e,
-      below-cap 6 (drop n xs) (bytes-dropped n xs p)
-          (omega (arith, length-drop n xs, most, one, within)),
-    )
+short-number n number xs p most one within e = grind (arith, nat_tests, below-cap, bytes-dropped, length-drop)
 
 -- the number that eight bytes are read as
 abbrev eight : List ℕ → ℕ

@@ -41,11 +41,7 @@ no-pairs R i j d lt within = absurd (omega (arith, within))
 unlike : (front : List Use) (i : ℕ) → list_any (λ j. nat_eq j i) (map (λ u. u.item) front) ≡ false → (k : ℕ) (d : Use)
     → k < length front → (get_or front k d).item ≢ i
 unlike [] i e k d within same = absurd (omega (arith, within))
-unlike (u ∷ front) i e zero d within same =
-    let other : nat_eq u.item i ≡ false =
-    (or_parts (nat_eq u.item i) (list_any (λ j. nat_eq j i) (map (λ u. u.item) front)) e).0 in
-    let equal : nat_eq u.item i ≡ true = grind (arith, nat_tests, same) in
-    true≢false (sym equal ∙ other)
+unlike (u ∷ front) i e zero d within same = grind (arith, nat_tests, or_parts (nat_eq u.item i), true≢false)
 unlike (u ∷ front) i e (suc k) d within same =
     unlike front i (or_parts (nat_eq u.item i) (list_any (λ j. nat_eq j i) (map (λ u. u.item) front)) e).1 k d
     (omega (arith, within)) same
@@ -267,16 +263,7 @@ pub named-is : (items : List Item) (primary : ℕ) (options : List (List Use)) (
       puzzle =
           record { bounds = map bounds_of (take primary items); secondary = length items - primary; options = options };
     }
-named-is items primary options colours = λ i. record {
-  names = item-names items i;
-  colours = colours;
-  puzzle =
-      record {
-        bounds = item-bounds primary items i;
-        secondary = length-map items entry_of i - primary;
-        options = options;
-      };
-}
+named-is items primary options colours = grind (arith, nat_tests, item-names, item-bounds, length-map)
 
 -- the items behind the primary ones
 pub behind-bounds : (n : ℕ) (items : List Item) → HaveBounds n (map entry_of items) → All IsOptional (drop n items)

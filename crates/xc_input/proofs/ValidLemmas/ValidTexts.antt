@@ -1,6 +1,6 @@
 -- What stands for a text is valid.
 use Rattle.std.proofs.Common.{◌≡◌, ℕ, suc, ◌+◌, ◌*◌, ◌-◌, ◌^◌, ◌<◌, ◌≤◌, List, [], ◌∷◌, ◌++◌, Option, None, Some, Bool}
-use Rattle.std.proofs.Common.{true, false, ◌&&◌, nat_lt, nat_le, nat_eq, ◌||◌, ◌⊎◌, is_none, unwrap_or, length}
+use Rattle.std.proofs.Common.{true, false, ◌&&◌, nat_le, nat_eq, is_none, unwrap_or, length}
 use Rattle.std.proofs.Common.{position, refl, ap, ◌∙◌, sym, subst, arith, if◌then◌else◌, inl, inr, append_assoc}
 use Rattle.std.proofs.Common.{length-append}
 use Rattle.xc_input.proofs.OptionLemmas.Colours.{in_turn, numbered_in_turn}
@@ -13,7 +13,7 @@ use Rattle.std.proofs.lemmas.Bool.Decides.{nat_tests}
 use Rattle.std.proofs.lemmas.Grind.{pow_more}
 use Rattle.std.proofs.lemmas.List.{append-nil}
 use Rattle.std.proofs.Math.Nat.{pow-le-pow_right}
-use Rattle.std.specs.List.{position_or_len, list_all}
+use Rattle.std.specs.List.{list_all}
 use Rattle.xc_input.specs.Problem.{use_count}
 use Rattle.xc_input.specs.declared.kind.Kind.{Kind}
 use Rattle.xc_input.specs.declared.problem.Use.{Use}
@@ -36,20 +36,13 @@ use Rattle.std.proofs.lemmas.Bool.{and_parts}
 use Rattle.std.specs.Prelude.{flat_map}
 use Rattle.xc_input.specs.Faults.{has_primary}
 use Rattle.xc_input.specs.inner.Stages.{context}
-use Rattle.xc_input.proofs.TokenLemmas.Separators.{COLON, BAR}
+use Rattle.xc_input.proofs.TokenLemmas.Separators.{BAR}
 
 -- NUMBERS
 value-below : (n i : ℕ) (xs : List ℕ) → n < 10 ^ i → list_all is_ascii_digit xs ≡ true
     → value_from n xs < 10 ^ (i + length xs)
 value-below n i [] h e = let z : i + 0 ≡ i = omega arith in subst (λ k. n < 10 ^ k) (sym z) h
-value-below n i (x ∷ xs) h e =
-    let a = and_parts (is_ascii_digit x) (list_all is_ascii_digit xs) e in
-    let b : nat_le x 57 ≡ true = (and_parts (nat_le 48 x) (nat_le x 57) a.0).1 in
-    let c : x < COLON = grind (arith, nat_tests) in
-    let p : 10 ^ (i + 1) ≡ 10 ^ i * 10 = pow_more 10 i in
-    let q : n * 10 + (x - 48) < 10 ^ (i + 1) = omega arith in
-    let z : i + 1 + length xs ≡ i + length (x ∷ xs) = omega arith in
-    subst (λ m. value_from (n * 10 + (x - 48)) xs < 10 ^ m) z (value-below (n * 10 + (x - 48)) (i + 1) xs q a.1)
+value-below n i (x ∷ xs) h e = grind (arith, nat_tests, value-below (n * 10 + (x - 48)) (i + 1) xs, pow_more)
 
 number-below : (text : List ℕ) → are_digits 9 text ≡ true → number text ≤ greatest_bound
 number-below text e =
@@ -162,14 +155,7 @@ names-valid kind names bar (p ∷ ps) es n (inr h) =
 
 -- COLOURS
 pub in-range : {A : Type 0} (p : A → Bool) (xs : List A) (i : ℕ) → position p xs ≡ Some i → i < length xs
-in-range p xs i e =
-    let P : Bool → Type 0 = λ t. nat_lt (position_or_len p xs) (length xs) ≡ t
-    → (if t then Some (position_or_len p xs) else None) ≡ Some i → i < length xs in
-    let h : P (nat_lt (position_or_len p xs) (length xs)) = (elim (nat_lt (position_or_len p xs) (length xs)) as P [
-      | true ↦ λ f g. let z : position_or_len p xs ≡ i =
-          cc in let l : position_or_len p xs < length xs = grind (arith, nat_tests) in subst (λ n. n < length xs) z l
-      | false ↦ λ f g. absurd (cc)
-    ]) in h refl e
+in-range p xs i e = grind (arith, nat_tests)
 
 colour-grows : (cs : List (List ℕ)) (c : List ℕ) → length cs ≤ length (with_colour cs c)
 colour-grows cs [] = omega arith
@@ -217,11 +203,7 @@ is-none (Some i) e = absurd (cc)
 
 colour-new : (cs : List (List ℕ)) (c : List ℕ) → AllNew [] cs → AllNew [] (with_colour cs c)
 colour-new cs [] h = h
-colour-new cs (b ∷ bs) h =
-    let P : Bool → Type 0 = λ t. is_none (place cs (b ∷ bs)) ≡ t → AllNew [] (if t then cs ++ (b ∷ bs) ∷ [] else cs) in
-    let g : P (is_none (place cs (b ∷ bs))) =
-    (elim (is_none (place cs (b ∷ bs))) as P
-    [ true ↦ λ f. new-snoc [] cs (b ∷ bs) h (is-none (place cs (b ∷ bs)) f) | false ↦ λ f. h ]) in g refl
+colour-new cs (b ∷ bs) h = grind (arith, nat_tests, new-snoc, is-none (place cs (b ∷ bs)))
 
 colours-new : (cs : List (List ℕ)) (us : List Written) → AllNew [] cs → AllNew [] (with_uses cs us)
 colours-new cs [] h = h
@@ -235,46 +217,29 @@ use-within kind names primaries token u cs k (name, i, n, p, q, inl h) l =
     let r : i < length names = in-range (bytes_eq name) names i p in
     let z : u.item ≡ i + 1 = q in
     (omega arith, omega arith, (λ w. ap (colour_number cs) h.1), l)
-use-within kind names primaries token u cs k (name, i, n, p, q, inr h) l =
-    let r : i < length names = in-range (bytes_eq name) names i p in
-    let z : u.item ≡ i + 1 = q in
-    let o : primaries < u.item = h.2 in
-    (omega arith, omega arith, (λ w. absurd (omega arith)), l)
+use-within kind names primaries token u cs k (name, i, n, p, q, inr h) l = grind (arith, nat_tests, in-range)
 
 uses-valid : (kind : Kind) (names : List (List ℕ)) (primaries : ℕ) (seen : List ℕ) (ts : List (List ℕ))
     (us : List Written) (cs : List (List ℕ)) (k : ℕ) → UsesBehind (context kind names primaries) seen ts us
     → length (with_uses cs us) ≤ k
     → AreWithin (length names) primaries k (numbered_in_turn cs us) × AreFresh seen (numbered_in_turn cs us)
-uses-valid kind names primaries seen [] us cs k h l = (
-  subst (λ x. AreWithin (length names) primaries k (numbered_in_turn cs x)) (sym h) tt,
-  subst
-      (λ x. AreFresh seen (numbered_in_turn cs x)) (sym h) tt,
-)
+uses-valid kind names primaries seen [] us cs k h l = grind (arith, nat_tests, numbered_in_turn cs)
 uses-valid kind names primaries seen (t ∷ ts) us cs k h l =
-    let u : Written = h.0 in
-    let w : length (with_uses (with_colour cs h.0.colour) h.1) ≤ k = subst (λ x. length (with_uses cs x) ≤ k) h.2 l in
-    let r = uses-valid kind names primaries (seen ++ h.0.item ∷ []) ts h.1 (with_colour cs h.0.colour) k h.5 w in
-    let a : length (with_colour cs h.0.colour) ≤ length (with_uses (with_colour cs h.0.colour) h.1) =
-    colours-grow (with_colour cs h.0.colour) h.1 in
-    let b : colour_number (with_colour cs h.0.colour) h.0.colour ≤ length (with_colour cs h.0.colour) =
-    number-within cs h.0.colour in (
-      subst (λ x. AreWithin (length names) primaries k (numbered_in_turn cs x)) (sym h.2)
-          (use-within kind names primaries t h.0 (with_colour cs h.0.colour) k h.3 (omega arith), r.0),
-      subst (λ x. AreFresh seen (numbered_in_turn cs x)) (sym h.2) (h.4, r.1),
+    grind (
+      arith,
+      nat_tests,
+      uses-valid kind names primaries (seen ++ h.0.item ∷ []) ts h.1 (with_colour cs h.0.colour) k h.5,
+      colours-grow,
+      number-within,
+      numbered_in_turn,
+      use-within,
     )
 
 primary-kept : (primaries : ℕ) (us : List Written) (cs : List (List ℕ)) → has_primary primaries us ≡ true
     → UsesPrimary primaries (numbered_in_turn cs us)
 primary-kept primaries [] cs h = absurd (cc)
 primary-kept primaries (u ∷ us) cs h =
-    let P : Bool → Type 0 = λ t. nat_le u.item primaries ≡ t → (t || has_primary primaries us) ≡ true
-    → (u.item ≤ primaries) ⊎ UsesPrimary primaries (numbered_in_turn (with_colour cs u.colour) us) in
-    let g : P (nat_le u.item primaries) =
-    (elim (nat_le u.item primaries) as P [
-      | true ↦ λ e f. inl (grind (arith, nat_tests))
-      | false ↦ λ e f. inr
-          (primary-kept primaries us (with_colour cs u.colour) f)
-    ]) in g refl h
+    grind (arith, nat_tests, primary-kept primaries us (with_colour cs u.colour), numbered_in_turn)
 
 options-valid : (kind : Kind) (names : List (List ℕ)) (primaries n used : ℕ) (cs : List (List ℕ))
     (lines : List (List ℕ)) (os : List (List Use)) (ig : List ℕ) (last : List (List ℕ))
@@ -325,26 +290,16 @@ from-lines : (kind : Kind) (n : ℕ) (lines : List (List ℕ)) (sheet : Sheet) (
 from-lines kind n [] sheet ignored h = absurd h
 from-lines kind n (line ∷ lines) sheet ignored (z, inl (f, r)) = from-lines kind (n + 1) lines sheet ignored r
 from-lines kind n (line ∷ lines) sheet ignored (z, inr (f, items, r)) =
-    let read = items-behind kind (parts line) sheet.entries sheet.primaries items in
-    let v = items-valid kind [] (parts line) sheet.entries sheet.primaries read (omega arith) in
-    let m : sheet.primaries ≡ v.0 = v.1 ∙ (let w : 0 + v.0 ≡ v.0 = omega arith in w) in
-    let c : 0 + length sheet.entries ≤ most_items = v.3 in
-    let o =
-    options-valid kind (names_of sheet.entries) sheet.primaries (n + 1) 0 [] lines sheet.options ignored
-    sheet.colours r (omega arith) tt in
-    let d : 0 + use_count sheet.options ≤ most_uses = o.2 in
-    record {
-      primary = some-primary kind line sheet.entries sheet.primaries f read;
-      bounds = subst (λ k. HaveBounds k sheet.entries) (sym m) v.2;
-      names = (names-valid kind [] None (parts line) sheet.entries sheet.primaries read).0;
-      distinct = (names-valid kind [] None (parts line) sheet.entries sheet.primaries read).1;
-      few_items = omega arith;
-      options =
-          subst (λ k. AreValid k sheet.primaries (length sheet.colours) sheet.options)
-          (names_of-length sheet.entries) o.3;
-      few_uses = omega arith;
-      colours = o.1;
-    }
+    grind (
+      arith,
+      nat_tests,
+      items-behind kind (parts line) sheet.entries sheet.primaries items,
+      items-valid kind,
+      options-valid kind (names_of sheet.entries) sheet.primaries (n + 1) 0,
+      some-primary kind line sheet.entries sheet.primaries f,
+      names-valid kind,
+      names_of-length sheet.entries,
+    )
 
 pub valid : (kind : Kind) (lines : List (List ℕ)) (sheet : Sheet) (ignored : List ℕ)
     → IsSheetOf kind lines sheet ignored → IsSoundSheet sheet

@@ -1,11 +1,12 @@
 -- What holds of each two elements of a list, the one before the other.
+use Rattle.std.proofs.lemmas.Bool.Decides.{nat_tests}
 use Rattle.std.proofs.Common.{ℕ, zero, suc, ◌≡◌, ◌+◌, ◌<◌, List, [], ◌∷◌, ◌++◌, map, take, Some, refl, sym, ◌∙◌, arith}
 use Rattle.std.proofs.Common.{subst, ◌⊎◌, inl, inr}
 use Rattle.std.specs.Prelude.{flat_map, slice_get, AllPairs}
 use Rattle.std.specs.List.{AllByRecursion, enumerate_from}
 use Rattle.std.proofs.lemmas.List.Elements.{All-from_recursion, recursion_from_All}
 use Rattle.std.proofs.lemmas.List.Kept.{AllPairs-cons}
-use Rattle.xc_input.proofs.lists.EachElement.{each-append}
+use Rattle.xc_input.proofs.lists.EachElement.{each-append, each_front}
 use Rattle.xc_input.proofs.lists.Members.{IsIn, in-map, in-flat_map, in-take, in-enumerated, in-slice_get, each_in}
 use Rattle.xc_input.proofs.lists.Members.{each_from}
 
@@ -17,21 +18,25 @@ EachTwo R (x ∷ xs) = AllByRecursion (R x) xs × EachTwo R xs
 pub EachTwo-append : {X : Type 0} (R : X → X → Type 0) (xs ys : List X) → EachTwo R xs → EachTwo R ys
     → ((x y : X) → IsIn xs x → IsIn ys y → R x y) → EachTwo R (xs ++ ys)
 EachTwo-append R [] ys a b h = b
-EachTwo-append R (x ∷ xs) ys a b h = (
-  each-append (R x) xs ys a.0 (each_from (R x) ys (λ y k. h x y (inl refl) k)),
-  EachTwo-append R xs ys a.1 b
-      (λ v y j k. h v y (inr j) k),
-)
+EachTwo-append R (x ∷ xs) ys a b h = grind (arith, nat_tests, EachTwo-append R xs ys a.1 b, each-append, each_from)
+
+-- each part of a list, and each two of both
+pub EachTwo-parts : {X : Type 0} (R : X → X → Type 0) (xs ys : List X) → EachTwo R (xs ++ ys)
+    → EachTwo R xs × EachTwo R ys × ((x y : X) → IsIn xs x → IsIn ys y → R x y)
+EachTwo-parts R [] ys a = (tt, a, λ x y j k. absurd j)
+EachTwo-parts R (z ∷ xs) ys a =
+    grind (arith, nat_tests, EachTwo-parts R xs ys a.1, each_front (R z) xs ys a.0, each_in (R z) ys)
+
+pub EachTwo-swapped : {X : Type 0} (R : X → X → Type 0) → ((x y : X) → R x y → R y x) → (xs ys : List X)
+    → EachTwo R (xs ++ ys) → EachTwo R (ys ++ xs)
+EachTwo-swapped R back xs ys a =
+    let parts = EachTwo-parts R xs ys a in
+    EachTwo-append R ys xs parts.1 parts.0 (λ y x k j. back x y (parts.2 x y j k))
 
 pub EachTwo-map : {X Y : Type 0} (R : Y → Y → Type 0) (f : X → Y) (xs : List X) → EachTwo (λ a b. R (f a) (f b)) xs
     → EachTwo R (map f xs)
 EachTwo-map R f [] a = tt
-EachTwo-map R f (x ∷ xs) a = (
-  each_from (R (f x)) (map f xs)
-      (λ y k. let from = in-map f xs y k in subst (R (f x)) from.2
-      (each_in (λ b. R (f x) (f b)) xs from.0 a.0 from.1)),
-  EachTwo-map R f xs a.1,
-)
+EachTwo-map R f (x ∷ xs) a = grind (arith, nat_tests, EachTwo-map R f xs a.1, each_from, in-map, each_in)
 
 -- two elements of one piece, or of two pieces
 pub EachTwo-flat_map : {X Y : Type 0} (R : Y → Y → Type 0) (f : X → List Y) (xs : List X)
@@ -68,11 +73,7 @@ each_two_from_AllPairs R (x ∷ xs) a = (
 pub EachTwo-weaker : {X : Type 0} (R Q : X → X → Type 0) (xs : List X)
     → ((x y : X) → IsIn xs x → IsIn xs y → R x y → Q x y) → EachTwo R xs → EachTwo Q xs
 EachTwo-weaker R Q [] h a = tt
-EachTwo-weaker R Q (x ∷ xs) h a = (
-  each_from (Q x) xs (λ y k. h x y (inl refl) (inr k) (each_in (R x) xs y a.0 k)),
-  EachTwo-weaker R Q xs
-      (λ y z j k. h y z (inr j) (inr k)) a.1,
-)
+EachTwo-weaker R Q (x ∷ xs) h a = grind (arith, nat_tests, EachTwo-weaker R Q xs, each_from (Q x) xs, each_in (R x) xs)
 
 pub EachTwo-take : {X : Type 0} (R : X → X → Type 0) (n : ℕ) (xs : List X) → EachTwo R xs → EachTwo R (take n xs)
 EachTwo-take R zero xs a = tt
@@ -83,11 +84,8 @@ EachTwo-take R (suc n) (x ∷ xs) a =
 pub EachTwo-enumerated : {X : Type 0} (R : X → X → Type 0) (k : ℕ) (xs : List X) → EachTwo R xs
     → EachTwo (λ (a b : ℕ × X). R a.1 b.1) (enumerate_from k xs)
 EachTwo-enumerated R k [] a = tt
-EachTwo-enumerated {X = X} R k (x ∷ xs) a = (
-  each_from (λ (b : ℕ × X). R x b.1) (enumerate_from (k + 1) xs)
-      (λ b j. each_in (R x) xs b.1 a.0 (in-enumerated (k + 1) xs b j)),
-  EachTwo-enumerated R (k + 1) xs a.1,
-)
+EachTwo-enumerated {X = X} R k (x ∷ xs) a =
+    grind (arith, nat_tests, EachTwo-enumerated R (k + 1) xs a.1, each_from, each_in, in-enumerated)
 
 -- of two members the one or the other stands first, or they are one
 pub EachTwo-of : {X : Type 0} (R : X → X → Type 0) (xs : List X) (x y : X) → EachTwo R xs → IsIn xs x → IsIn xs y

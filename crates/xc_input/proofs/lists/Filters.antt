@@ -1,4 +1,5 @@
 -- Filters and maps.
+use Rattle.std.proofs.lemmas.Bool.Decides.{nat_tests}
 use Rattle.std.proofs.Common.{suc, ◌≡◌, ◌≤◌, Bool, true, false, cond, ◌&&◌, List, [], ◌∷◌, ◌++◌, length, map, filter}
 use Rattle.std.proofs.Common.{refl, sym, ap, ap₂, ◌∙◌, arith}
 use Rattle.std.proofs.Math.Bool.{and_comm}
@@ -15,12 +16,7 @@ filter_same p q (x ∷ xs) a = ap₂ (λ b ys. cond b (x ∷ ys) ys) a.0 (filter
 
 pub filter_both : {X : Type 0} (p q : X → Bool) (xs : List X) → filter p (filter q xs) ≡ filter (λ x. q x && p x) xs
 filter_both p q [] = refl
-filter_both p q (x ∷ xs) =
-    elim (q x) as (λ b. filter p (cond b (x ∷ filter q xs) (filter q xs)) ≡ cond (b && p x)
-    (x ∷ filter (λ x. q x && p x) xs) (filter (λ x. q x && p x) xs)) [
-      | true ↦ ap (λ ys. cond (p x) (x ∷ ys) ys) (filter_both p q xs)
-      | false ↦ filter_both p q xs
-    ]
+filter_both p q (x ∷ xs) = grind (arith, nat_tests, filter_both p q xs)
 
 pub filter_swap : {X : Type 0} (p q : X → Bool) (xs : List X) → filter p (filter q xs) ≡ filter q (filter p xs)
 filter_swap p q xs = filter_both p q xs ∙ filter_agree _ _ (λ x. and_comm (q x) (p x)) xs ∙ sym (filter_both q p xs)
@@ -32,12 +28,7 @@ keep_all p (x ∷ xs) a = rw a.0 (ap (λ ys. x ∷ ys) (keep_all p xs a.1))
 pub filter-map : {X Y : Type 0} (p : Y → Bool) (f : X → Y) (xs : List X)
     → filter p (map f xs) ≡ map f (filter (λ x. p (f x)) xs)
 filter-map p f [] = refl
-filter-map p f (x ∷ xs) =
-    elim (p (f x)) as (λ b. cond b (f x ∷ filter p (map f xs)) (filter p (map f xs)) ≡ map f
-    (cond b (x ∷ filter (λ x. p (f x)) xs) (filter (λ x. p (f x)) xs))) [
-      | true ↦ ap (λ ys. f x ∷ ys) (filter-map p f xs)
-      | false ↦ filter-map p f xs
-    ]
+filter-map p f (x ∷ xs) = grind (arith, nat_tests, filter-map p f xs)
 
 pub map-same : {X Y : Type 0} (f g : X → Y) (xs : List X) → ((x : X) → f x ≡ g x) → map f xs ≡ map g xs
 map-same f g [] h = refl

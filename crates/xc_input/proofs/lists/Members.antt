@@ -1,5 +1,6 @@
 -- Members of lists, and what holds of each two of them.
-use Rattle.std.proofs.Common.{ℕ, zero, suc, ◌≡◌, ◌+◌, ◌<◌, Bool, true, false, cond, List, [], ◌∷◌, ◌++◌, length, map}
+use Rattle.std.proofs.lemmas.Bool.Decides.{nat_tests}
+use Rattle.std.proofs.Common.{ℕ, zero, suc, ◌≡◌, ◌+◌, ◌<◌, Bool, true, List, [], ◌∷◌, ◌++◌, length, map}
 use Rattle.std.proofs.Common.{filter, take, get_or, Some, refl, sym, ap, ◌∙◌, arith, subst, ◌⊎◌, inl, inr}
 use Rattle.std.specs.Prelude.{flat_map, slice_get, Contains}
 use Rattle.std.specs.List.{AllByRecursion, enumerate_from}
@@ -13,24 +14,12 @@ IsIn (y ∷ ys) x = (y ≡ x) ⊎ IsIn ys x
 
 pub in-filter : {X : Type 0} (p : X → Bool) (xs : List X) (x : X) → IsIn (filter p xs) x → IsIn xs x × (p x ≡ true)
 in-filter p [] x h = absurd h
-in-filter p (y ∷ ys) x h =
-    elim (p y) as (λ b. p y ≡ b → IsIn (cond b (y ∷ filter p ys) (filter p ys)) x → IsIn (y ∷ ys) x × (p x ≡ true)) [
-      | true ↦ λ e k. elim k [
-        | inl q ↦ (inl q, subst (λ z. p z ≡ true) q e)
-        | inr q ↦ let later = in-filter p ys x q in
-            (inr later.0, later.1)
-      ]
-      | false ↦ λ e k. let later = in-filter p ys x k in (inr later.0, later.1)
-    ] refl h
+in-filter p (y ∷ ys) x h = grind (arith, nat_tests, in-filter p ys x)
 
 pub filter-in : {X : Type 0} (p : X → Bool) (xs : List X) (x : X) → IsIn xs x → p x ≡ true → IsIn (filter p xs) x
 filter-in p [] x h e = absurd h
 filter-in p (y ∷ ys) x (inl q) e = let here : p y ≡ true = ap p q ∙ e in rw here (inl q)
-filter-in p (y ∷ ys) x (inr q) e =
-    elim (p y) as (λ b. IsIn (cond b (y ∷ filter p ys) (filter p ys)) x) [
-      | true ↦ inr (filter-in p ys x q e)
-      | false ↦ filter-in p ys x q e
-    ]
+filter-in p (y ∷ ys) x (inr q) e = grind (arith, nat_tests, filter-in p ys x q e)
 
 pub map-in : {X Y : Type 0} (f : X → Y) (xs : List X) (x : X) → IsIn xs x → IsIn (map f xs) (f x)
 map-in f [] x h = absurd h

@@ -1,4 +1,5 @@
 -- Sums over numbers in a row.
+use Rattle.std.proofs.lemmas.Bool.Decides.{nat_tests}
 use Rattle.std.proofs.Common.{ℕ, zero, suc, ◌≡◌, ◌≢◌, ◌+◌, ◌<◌, ◌≤◌, Bool, true, false, cond, eqb, List, [], ◌∷◌, refl}
 use Rattle.std.proofs.Common.{sym, ap, arith, subst, eqb-true, eq-eqb, ne_eqb}
 use Rattle.std.specs.List.{range_with_len}
@@ -50,11 +51,7 @@ total_none j a (suc n) h = let apart : eqb j a ≡ false = ne_eqb j a (λ e. ome
 
 pub total_once : (j a n : ℕ) → total (λ i. one_if (eqb j i)) (range_with_len a n) ≤ 1
 total_once j a zero = omega arith
-total_once j a (suc n) =
-    elim (eqb j a) as (λ b. eqb j a ≡ b → one_if b + total (λ i. one_if (eqb j i)) (range_with_len (a + 1) n) ≤ 1) [
-      | true ↦ λ e. omega (arith, total_none j (a + 1) n (omega (arith, eqb-true j a e)))
-      | false ↦ λ e. omega (arith, total_once j (a + 1) n)
-    ] refl
+total_once j a (suc n) = grind (arith, nat_tests, total_once j (a + 1) n, total_none j (a + 1) n, eqb-true j a)
 
 pub total_shifted : (f : ℕ → ℕ) (a n : ℕ)
     → total f (range_with_len (a + 1) n) ≡ total (λ i. f (i + 1)) (range_with_len a n)

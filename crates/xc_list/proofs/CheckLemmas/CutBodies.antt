@@ -4,10 +4,9 @@ use Rattle.std.proofs.Common.{slice_index, List, [], ◌∷◌, ◌++◌, length
 use Rattle.std.proofs.Common.{◌∙◌, append_assoc, arith, length-append, if◌then◌else◌}
 use Rattle.std.specs.List.{list_all, list_any, onto_first}
 use Rattle.std.proofs.lemmas.Bool.Decides.{nat_tests}
-use Rattle.std.proofs.lemmas.Bool.{eq-eqb}
+use Rattle.std.proofs.lemmas.Bool.{eq-eqb, ne_eqb}
 use Rattle.std.proofs.Math.Seq.{take-append_seam, drop-append_seam}
 use Rattle.xc_input.specs.Tokens.{is_space}
-use Rattle.xc_input.proofs.TokenLemmas.Bytes.{differs}
 use Rattle.xc_list.specs.ListingLines.{words_in, before_last, is_word, is_ending, body_of_words}
 
 -- LAST BYTES
@@ -31,7 +30,7 @@ last_is b x text front e f =
 
 pub last_differs : (b x : ℕ) (text front : List ℕ) → text ≡ front ++ x ∷ [] → (x ≡ b → ⊥) → None ≡ before_last b text
 last_differs b x text front e f =
-    sym (ap (before_last b) e ∙ last_byte b x front ∙ ap (λ t. if t then Some front else None) (differs x b f))
+    sym (ap (before_last b) e ∙ last_byte b x front ∙ ap (λ t. if t then Some front else None) (ne_eqb x b f))
 
 -- WORDS OF A TEXT
 -- whether what is left of words is words; fresh: no byte of the first one was seen

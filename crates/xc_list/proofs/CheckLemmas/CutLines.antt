@@ -1,4 +1,5 @@
 -- Texts cut at a byte, and what is left of their lines and words.
+use Rattle.std.proofs.lemmas.List.{take_rest}
 use Rattle.std.proofs.Common.{◌≡◌, ℕ, zero, suc, ◌+◌, ◌-◌, ◌<◌, Bool, true, false, nat_eq, List, [], ◌∷◌, ◌++◌, length}
 use Rattle.std.proofs.Common.{take, drop, get_or, refl, sym, ap, ◌∙◌, append_assoc, add-one, arith, if◌then◌else◌}
 use Rattle.std.proofs.Common.{Option, None, MatchOption, subst}
@@ -8,7 +9,7 @@ use Rattle.xc_input.specs.Words.{has, before, after}
 use Rattle.xc_input.specs.Lines.{lines_of}
 use Rattle.xc_input.proofs.GrammarLemmas.NoFault.{or-false, cut-is}
 use Rattle.xc_input.proofs.LineLemmas.TextLines.{lines_of-ended}
-use Rattle.xc_input.proofs.TokenLemmas.Bytes.{has-all, has-at, whole}
+use Rattle.xc_input.proofs.TokenLemmas.Bytes.{has-all, has-at}
 use Rattle.xc_list.specs.ListingLines.{words_in}
 
 -- CUTTING
@@ -19,7 +20,7 @@ pub first_cut : (b : ℕ) (xs ys : List ℕ) (k : ℕ) → ys ≡ take (length x
 first_cut b xs ys k e l h g =
     let f : (has b xs ≡ true) × (take k xs ≡ before b xs) × (drop (suc k) xs ≡ after b xs) = has-at b xs k l h g in
     let cut = cut-is b xs f.0 in
-    let rest : ys ≡ after b xs = whole xs ys (k + 1) e ∙ ap (λ n. drop n xs) (add-one k) ∙ f.2 in
+    let rest : ys ≡ after b xs = e ∙ take_rest xs (k + 1) ∙ ap (λ n. drop n xs) (add-one k) ∙ f.2 in
     (ap (has b) f.1 ∙ cut.1, cut.0 ∙ (λ i. sym f.1 i ++ b ∷ sym rest i))
 
 at_last : (b : ℕ) (xs : List ℕ) (k : ℕ) → k < length xs
@@ -39,7 +40,7 @@ pub last_cut : (b : ℕ) (xs ys : List ℕ) (k : ℕ) → ys ≡ take (length xs
     → (has b ys ≡ false) × (xs ≡ take k xs ++ b ∷ ys)
 last_cut b xs ys k e l h g =
     let f = at_last b xs k l h g in
-    let rest : ys ≡ drop (suc k) xs = whole xs ys (k + 1) e ∙ ap (λ n. drop n xs) (add-one k) in
+    let rest : ys ≡ drop (suc k) xs = e ∙ take_rest xs (k + 1) ∙ ap (λ n. drop n xs) (add-one k) in
     (ap (has b) rest ∙ f.1, f.0 ∙ ap (λ zs. take k xs ++ b ∷ zs) (sym rest))
 
 -- LINES

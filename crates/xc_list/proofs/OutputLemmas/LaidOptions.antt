@@ -1,6 +1,6 @@
 -- Texts of options laid out one behind another.
 use Rattle.std.proofs.Math.Seq.{take-append_seam}
-use Rattle.std.proofs.lemmas.List.{drop-append-le, take-append-le, drop-take, drop-drop, take-take, length-take}
+use Rattle.std.proofs.lemmas.List.{drop-append-le, take-append-le, drop-take, drop-drop, take-take, length-take, length-map}
 use Rattle.xc_list.specs.inner.LineParts.{use_text}
 use Rattle.std.proofs.Common.{ℕ, zero, suc, ◌≡◌, ◌+◌, ◌-◌, ◌<◌, ◌≤◌, List, [], ◌∷◌, ◌++◌, length, map, take, drop}
 use Rattle.std.proofs.Common.{get_or, Some, refl, sym, ap, ap₂, ◌∙◌, arith, subst, length-append, length-drop}
@@ -13,7 +13,7 @@ use Rattle.xc_input.specs.declared.problem.Use.{Use}
 use Rattle.xc_input.specs.UsePlaces.{place_in}
 use Rattle.xc_input.specs.Problem.{numbered_get}
 use Rattle.xc_input.specs.Named.{Named}
-use Rattle.xc_input.proofs.FaultLemmas.Checks.{map-length, map-snoc}
+use Rattle.xc_input.proofs.FaultLemmas.Checks.{map-snoc}
 use Rattle.xc_input.proofs.OptionLemmas.FlatParts.{length-pieces, option_part, pieces-snoc}
 use Rattle.xc_list.specs.Output.{from_item}
 use Rattle.xc_list.proofs.Writing.{flat_map-parts}
@@ -23,7 +23,7 @@ use Rattle.xc_list.specs.inner.Layout.{AreLaid, ArePadded, first_item, uses_text
 pub laid-count : (a : Named) (os : List (List Use)) (texts starts : List ℕ) → AreLaid a os texts starts
     → length starts ≡ length os + 1
 laid-count a os texts starts l =
-    omega (arith, length-pieces starts texts l.rising, ap length l.parts, map-length (uses_text a) os)
+    omega (arith, length-pieces starts texts l.rising, ap length l.parts, length-map os (uses_text a))
 
 numbered-map : (f : List Use → List ℕ) (os : List (List Use)) (o : ℕ) → 1 ≤ o → o ≤ length os
     → numbered_get (map f os) o ≡ Some (f (unwrap_or (numbered_get os o) []))
@@ -211,4 +211,4 @@ from_first item (u ∷ us) e =
     ap (λ n. drop n (u ∷ us) ++ take n (u ∷ us)) at ∙ append-nil (u ∷ us)
 
 pub firsts-length : (os : List (List Use)) (firsts : List ℕ) → firsts ≡ map first_item os → length firsts ≡ length os
-firsts-length os firsts e = ap length e ∙ map-length first_item os
+firsts-length os firsts e = ap length e ∙ length-map os first_item

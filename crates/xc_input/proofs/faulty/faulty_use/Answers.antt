@@ -1,3 +1,4 @@
+use Rattle.std.proofs.lemmas.List.{length-map}
 use Rattle.std.proofs.Common.{◌≡◌, [], None, Some, length, unwrap_or, refl, sym, ap, ◌∙◌, subst}
 use Rattle.xc_input.specs.Tokens.{tokens, parts}
 use Rattle.xc_input.specs.Faults.{first, checks_of_each, part_checks, token_checks, Context, context_of}
@@ -6,7 +7,7 @@ use Rattle.xc_input.specs.inner.Sheets.{names_of}
 use Rattle.xc_input.specs.inner.Stages.{Row, context, row_checks, row_of, no_row}
 use Rattle.xc_input.specs.inner.Stored.{key_names}
 use Rattle.xc_input.specs.inner.Builders.{entry_of}
-use Rattle.xc_input.proofs.FaultLemmas.Checks.{items-length, map-length}
+use Rattle.xc_input.proofs.FaultLemmas.Checks.{items-length}
 use Rattle.xc_input.proofs.FaultyLemmas.{keys-length, tells-same}
 use Rattle.xc_input.proofs.FaultLemmas.FirstFaults.{parts-checked, context-is}
 use Rattle.xc_input.proofs.GrammarLemmas.LawLemmas.{P}
@@ -41,7 +42,7 @@ returns c =
     let are : names_of (row_of kind no_row ps).entries ≡ names =
     ap (λ (r : Row). names_of r.entries) (sym c.in-Ok.ensures.row.1) ∙ sym c.in-Ok.ensures.row.0.0 in
     let many : P (row_of kind no_row ps) ≡ primary = ap P (sym c.in-Ok.ensures.row.1)
-    ∙ ap (λ n. unwrap_or row.bar n) (map-length entry_of row.items.items ∙ sym (items-length row.items)
+    ∙ ap (λ n. unwrap_or row.bar n) (length-map row.items.items entry_of ∙ sym (items-length row.items)
     ∙ sym c.len.ensures) ∙ sym c.unwrap_or-primary.ensures in
     let said : context_of kind ps ≡ context kind names primary =
     context-is kind ps none ∙ (λ i. context kind (are i) (many i)) in

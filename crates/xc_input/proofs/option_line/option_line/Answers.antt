@@ -1,5 +1,5 @@
 use Rattle.std.proofs.Common.{◌∙◌, ap, sym, subst, List, map, drop, arith}
-use Rattle.std.proofs.lemmas.List.{length-map}
+use Rattle.std.proofs.lemmas.List.{length-map, take_rest}
 use Rattle.xc_input.specs.Tokens.{tokens}
 use Rattle.xc_input.specs.declared.problem.Use.{Use}
 use Rattle.xc_input.specs.declared.line_error.LineError.TheVariants.{Fault}
@@ -8,7 +8,6 @@ use Rattle.xc_input.specs.inner.Stored.{key_names}
 use Rattle.xc_input.proofs.FaultLemmas.Checks.{IsErr-judged, items-length}
 use Rattle.xc_input.proofs.OptionLemmas.OneToken.{token-stop}
 use Rattle.xc_input.proofs.OptionSteps.{behind_none, behind_few, behind_more, all_added, late_marked}
-use Rattle.xc_input.proofs.lists.Places.{rest_taken}
 use Rattle.xc_input.proofs.option_line.option_line.Goals as goal
 
 pub loop-token-init : goal.loop-token-init
@@ -44,7 +43,7 @@ loop-token-preserved c =
 pub clear-requires-clause-marked : goal.clear-requires-clause-marked
 clear-requires-clause-marked c =
     let start = c.len-start.ensures ∙ items-length c.args.uses.now in
-    let rest = rest_taken c.len-start.result c.deref.result.now in
+    let rest = take_rest c.deref.result.now c.len-start.result in
     let late = ap (drop c.len-start.result) c.deref.ensures.value ∙ ap (λ n. drop n c.loop-token.uses.items) start in
     subst (λ (us : List Use). AreMarks c.loop-token.marks (map (λ u. u.item) us)) (sym (rest ∙ late))
     (late_marked c.loop-token.invariant)

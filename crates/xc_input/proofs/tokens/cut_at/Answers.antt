@@ -1,6 +1,7 @@
-use Rattle.std.proofs.Common.{suc, ◌≡◌, ◌+◌, take, drop, arith, sym, ap, ◌∙◌, refl, true, add-one}
+use Rattle.std.proofs.lemmas.List.{take_rest}
+use Rattle.std.proofs.Common.{suc, ◌≡◌, ◌+◌, take, drop, arith, sym, ap, ◌∙◌, true, add-one}
 use Rattle.xc_input.specs.Words.{has, before, after}
-use Rattle.xc_input.proofs.TokenLemmas.Bytes.{has-all, has-at, not_false, whole}
+use Rattle.xc_input.proofs.TokenLemmas.Bytes.{has-all, has-at, not_false}
 use Rattle.xc_input.proofs.tokens.cut_at.Goals as goal
 
 pub returns-in-None-clause-front : goal.returns-in-None-clause-front
@@ -25,6 +26,6 @@ returns-in-Some-clause-back c =
     has-at c.args.byte c.args.bytes.now c.in-Some.i h.0.high (λ k p. not_false _ (h.0.before k (omega arith) p))
     h.1 in (
       f.0,
-      whole c.args.bytes.now _ (c.in-Some.i + 1) refl
+      take_rest c.args.bytes.now (c.in-Some.i + 1)
           ∙ ap (λ n. drop n c.args.bytes.now) (add-one c.in-Some.i) ∙ f.2,
     )
