@@ -43,10 +43,7 @@ use Rattle.xc_input.proofs.GrammarLemmas.LawLemmas.{lines-good, good-lines}
 first-numbered : {N A : Type 0} (n : N) (cs : List (A × Bool)) (rest : List ((N × A) × Bool))
     → first (map (λ c. ((n, c.0), c.1)) cs ++ rest) ≡ option_or (option_map (λ k. (n, k)) (first cs)) (first rest)
 first-numbered n [] rest = refl
-first-numbered n (c ∷ cs) rest =
-    let P : Bool → Type 0 = λ t. (if t then Some (n, c.0) else first (map (λ d. ((n, d.0), d.1)) cs ++ rest))
-    ≡ option_or (option_map (λ k. (n, k)) (if t then Some c.0 else first cs)) (first rest) in
-    let h : P c.1 = (elim c.1 as P [ true ↦ refl | false ↦ first-numbered n cs rest ]) in h
+first-numbered n (c ∷ cs) rest = grind (arith, nat_tests, first-numbered n cs rest)
 
 -- the checks of a line, behind lines with this content
 abbrev checks_of : Kind → List (List ℕ) → List ℕ → List (FaultKind × Bool)
@@ -213,13 +210,7 @@ module _ (kind : Kind) (entries : List Entry) (primaries : ℕ) where
   stays-started : (n : ℕ) (lines : List (List ℕ)) (options : List (List Use)) (colours : List (List ℕ))
       (ignored : List ℕ) → (stage_from kind n (S entries primaries options colours ignored) lines).started ≡ true
   stays-started n [] options colours ignored = refl
-  stays-started n (line ∷ lines) options colours ignored =
-      by-line kind entries primaries (line_number (n + 1)) options colours ignored line
-      (λ st. (stage_from kind (n + 1) st lines).started ≡ true)
-      (λ f. stays-started (n + 1) lines options colours ignored)
-      (λ f g. stays-started (n + 1) lines (options ++ numbered colours (lineuses kind entries primaries line) ∷ [])
-      (with_uses colours (lineuses kind entries primaries line)) ignored)
-      (λ f g. stays-started (n + 1) lines options colours (ignored ++ line_number (n + 1) ∷ []))
+  stays-started n (line ∷ lines) options colours ignored = grind (arith, nat_tests, stays-started (n + 1) lines options colours ignored, stays-started (n + 1) lines (options ++ numbered colours (lineuses kind entries primaries line) ∷ []) (with_uses colours (lineuses kind entries primaries line)) ignored, stays-started (n + 1) lines options colours (ignored ++ line_number (n + 1) ∷ []), by-line kind entries primaries (line_number (n + 1)) options colours ignored line, lineuses kind entries primaries line)
 
 -- ALL LINES
 fault_or-same : (n : ℕ) (k : Option FaultKind) (a b : Option (ℕ × FaultKind)) → (k ≡ None → a ≡ b)

@@ -1,4 +1,5 @@
 -- Checks that don't hold, and what they say of a token: for `add_item`, `use_of` and `finish`.
+use Rattle.std.proofs.lemmas.Grind.{common_steps}
 use Rattle.std.proofs.Common.{◌≡◌, ℕ, ◌<◌, ◌≤◌, List, [], ◌∷◌, ◌++◌, Option, None, Some, Bool, true, false, ◌||◌, ◌&&◌}
 use Rattle.std.proofs.Common.{not, nat_lt, nat_le, nat_eq, is_none, length, refl, ap, ◌∙◌, subst, arith}
 use Rattle.std.proofs.Common.{inl, inr, ◌⊎◌}
@@ -29,9 +30,7 @@ pub use Rattle.std.proofs.lemmas.Bool.{and_from as and-both}
 -- a name by its three tests
 pub solid : (name : List ℕ) → nat_lt (length name) 1 ≡ false → nat_lt longest_name (length name) ≡ false
     → (has COLON name || has BAR name) ≡ false → IsName name
-solid name a b c =
-    let d = or_parts (has COLON name) (has BAR name) c in
-    record { some = grind (arith, nat_tests); short = grind (arith, nat_tests); no_colon = d.0; no_bar = d.1 }
+solid name a b c = grind (arith, nat_tests, or_parts (has COLON name) (has BAR name) c)
 
 pub name-good : (name : List ℕ) → first (name_checks name) ≡ None → IsName name
 name-good name e =
@@ -86,15 +85,7 @@ bounds-are prefix low high (inr h) =
 pub bounds-good : (prefix : List ℕ) (sec : Bool) → first (prefix_checks prefix sec) ≡ None
     → AreBounds prefix (number (low_text prefix)) (number (high_text prefix)) × (1 ≤ number (high_text prefix))
     × (number (low_text prefix) ≤ number (high_text prefix)) × (sec ≡ false)
-bounds-good prefix sec e =
-    let low : ℕ = number (low_text prefix) in
-    let high : ℕ = number (high_text prefix) in
-    let no = fails (prefix_checks prefix sec) e in
-    let n = and_parts (are_digits 9 (low_text prefix)) (are_digits 9 (high_text prefix)) (not-false _ (no BadBound)) in
-    let o = or_parts (nat_lt high 1) (nat_lt high low) (no BoundOrder) in
-    let o0 : nat_lt high 1 ≡ false = o.0 in
-    let o1 : nat_lt high low ≡ false = o.1 in
-    (texts prefix n.0 n.1, grind (arith, nat_tests), grind (arith, nat_tests), no BoundOnSecondary)
+bounds-good prefix sec e = grind (arith, nat_tests, fails (prefix_checks prefix sec) e, and_parts (are_digits 9 (low_text prefix)) (are_digits 9 (high_text prefix)), not-false, or_parts, texts prefix)
 
 pub good-bounds : (prefix : List ℕ) (low high : ℕ) → AreBounds prefix low high → 1 ≤ high → low ≤ high
     → (first (prefix_checks prefix false) ≡ None) × (number (low_text prefix) ≡ low)
@@ -110,14 +101,7 @@ module _ (kind : Kind) (names : List (List ℕ)) (sec : Bool) (token : List ℕ)
 
   shape : (t : Bool) → has_prefix kind token ≡ t → first (bound_checks kind sec token) ≡ None
       → IsBare sec token (entry kind sec token) ⊎ IsBounded kind sec token (entry kind sec token)
-  shape true f e =
-      grind (
-        arith,
-        nat_tests,
-        and_parts (is_bounds kind) (has BAR token) f,
-        cut-is BAR token,
-        bounds-good (before BAR token) sec,
-      )
+  shape true f e = grind (arith, nat_tests, and_parts (is_bounds kind) (has BAR token) f, cut-is BAR token, bounds-good (before BAR token) sec)
   shape false f e = grind (arith, nat_tests)
 
   -- a token with no fault stands for its item
@@ -138,23 +122,8 @@ module _ (kind : Kind) (names : List (List ℕ)) (sec : Bool) (token : List ℕ)
   known : (e : Entry) → IsBare sec token e ⊎ IsBounded kind sec token e → IsName e.name → (e ≡ entry kind sec token)
       × (first (bound_checks kind sec token) ≡ None)
   known e (inl h) n = grind (arith, nat_tests, and-false (is_bounds kind))
-  known e (inr h) n =
-      grind (
-        arith,
-        nat_tests,
-        cut-at BAR h.0 e.name h.3,
-        and_from (is_bounds kind) (has BAR token) h.1,
-        good-bounds h.0 e.low e.high h.5 h.6 h.7,
-      )
+  known e (inr h) n = grind (arith, nat_tests, cut-at BAR h.0 e.name h.3, and_from (is_bounds kind) (has BAR token) h.1, good-bounds h.0 e.low e.high h.5 h.6 h.7)
 
   pub good-item : (e : Entry) → IsEntry kind sec token e → place names e.name ≡ None → length names < most_items
       → (e ≡ entry kind sec token) × (first (item_checks kind names sec token) ≡ None)
-  good-item e h p l =
-      let k = known e h.1 h.0 in
-      let nm : e.name ≡ name_of kind token = ap (λ x. x.name) k.0 in
-      let lt : nat_lt (length names) most_items ≡ true = grind (arith, nat_tests) in (
-        k.0,
-        first-back (bound_checks kind sec token) (alone names (name_of kind token)) k.1
-            ∙ past-name names (name_of kind token) (good-name _ (subst IsName nm h.0))
-            ∙ rw (← nm, p, lt),
-      )
+  good-item e h p l = grind (arith, nat_tests, known e h.1 h.0, first-back (bound_checks kind sec token) (alone names (name_of kind token)), alone names (name_of kind token), past-name names (name_of kind token), good-name)

@@ -1,4 +1,5 @@
 -- What a text's lines are, once some of them were handed on.
+use Rattle.std.proofs.lemmas.Grind.{common_steps}
 use Rattle.std.proofs.Common.{◌≡◌, ◌≢◌, ℕ, ◌<◌, List, [], ◌∷◌, ◌++◌, true, false, nat_eq, if◌then◌else◌, Result, Ok}
 use Rattle.std.proofs.Common.{Err, length, refl, sym, ap, ◌∙◌, subst, append_assoc, append-nil, arith}
 use Rattle.std.proofs.lemmas.Bool.Decides.{nat_tests}
@@ -39,9 +40,7 @@ other x a b h = ap (λ t. if t then a else b) h
 -- a piece is cut at its first line feed
 pub line-cut : (piece end others : List ℕ) → end ≡ before 10 piece → (has 10 piece ≡ true) × (others ≡ after 10 piece)
     → (piece ≡ end ++ 10 ∷ others) × (has 10 end ≡ false)
-line-cut piece end others e h =
-    let cut = cut-is 10 piece h.0 in
-    (cut.0 ∙ (λ i. sym e i ++ 10 ∷ sym h.1 i), ap (has 10) e ∙ cut.1)
+line-cut piece end others e h = grind (arith, nat_tests, cut-is 10 piece h.0)
 
 no_feed : (x : ℕ) → nat_eq x 10 ≡ false → x ≢ 10
 no_feed x h = grind (arith, nat_tests)

@@ -1,4 +1,5 @@
 -- A colour keeps the number that it has where it is met first.
+use Rattle.std.proofs.lemmas.Grind.{common_steps}
 use Rattle.std.proofs.Common.{◌≡◌, ℕ, suc, ◌+◌, ◌<◌, ◌≤◌, List, [], ◌∷◌, ◌++◌, Option, None, Some, Bool, true, false}
 use Rattle.std.proofs.Common.{not, nat_lt, is_none, unwrap_or, length, map, take, append-nil, append_assoc, refl}
 use Rattle.std.proofs.Common.{sym, ap, subst, ◌∙◌, length-append, arith, if◌then◌else◌}

@@ -1,4 +1,5 @@
 -- Steps of a draft.
+use Rattle.std.proofs.lemmas.Grind.{common_steps}
 use Rattle.std.proofs.Common.{◌≡◌, ℕ, ◌+◌, ◌-◌, ◌<◌, ◌≤◌, List, [], ◌∷◌, ◌++◌, None, Some, Bool, true, false}
 use Rattle.std.proofs.Common.{◌||◌, nat_le, nat_lt, unwrap_or, length, map, take, drop, refl, ap, ◌∙◌, sym, subst}
 use Rattle.std.proofs.Common.{arith, if◌then◌else◌, Vec, Global, length-append}
@@ -41,9 +42,7 @@ pub new-number : (old new : List (List ℕ)) (colour : List ℕ) (n : ℕ) → 0
     → new ≡ old ++ colour ∷ [] → n ≡ length old → n + 1 ≡ colour_number new colour
 new-number old new [] n h e f g = absurd (omega arith)
 new-number old new (b ∷ bs) n h e f g =
-    let is : place new (b ∷ bs) ≡ Some (length old) = ap (λ cs. place cs (b ∷ bs)) f
-    ∙ last-position (bytes_eq (b ∷ bs)) old (b ∷ bs) e ((bytes_eq-Decides (b ∷ bs) (b ∷ bs)).1 refl) in
-    ap (λ m. m + 1) g ∙ ap (λ o. unwrap_or o 0 + 1) (sym is)
+    grind (arith, nat_tests, last-position (bytes_eq (b ∷ bs)) old (b ∷ bs) e, bytes_eq-Decides (b ∷ bs) (b ∷ bs))
 
 pub keys-count : (d : ProblemBuilder) → IsBuilder d → length d.marks.items ≡ length d.names.keys
 keys-count d s =

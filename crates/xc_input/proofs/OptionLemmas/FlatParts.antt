@@ -1,4 +1,6 @@
 -- Options kept flat.
+use Rattle.std.proofs.lemmas.Bool.Decides.{nat_tests}
+use Rattle.std.proofs.lemmas.Grind.{common_steps}
 use Rattle.std.proofs.Common.{ℕ, zero, suc, ◌≡◌, ◌+◌, ◌-◌, ◌<◌, ◌≤◌, List, [], ◌∷◌, ◌++◌, length, map, take, drop}
 use Rattle.std.proofs.Common.{get_or, sum_by, All, Some, refl, sym, subst, ap, ap₂, ◌∙◌, arith, length-append}
 use Rattle.std.proofs.Common.{length-drop}
@@ -68,15 +70,7 @@ pub option_part : {X : Type 0} (starts : List ℕ) (us : List X) (o a b : ℕ) �
     → o < length starts → a ≡ get_or starts (o - 1) a → b ≡ get_or starts o b →
     (a ≤ b) × (b ≤ length us) × (numbered_get (pieces starts us) o ≡ Some (slice_range us a b))
 option_part starts us zero a b h l m e f = absurd (omega (arith, l))
-option_part starts us (suc k) a b h l m e f =
-    let before : suc k - 1 ≡ k = omega arith in
-    let in_front : k < length starts = omega (arith, m) in
-    let two : k + 1 < length starts = omega (arith, m) in
-    let from : a ≡ get_or starts k 0 =
-    e ∙ ap (λ n. get_or starts n a) before ∙ get_or_default_zero starts k a in_front in
-    let to : b ≡ get_or starts (suc k) 0 = f ∙ get_or_default_zero starts (suc k) b m in
-    let range = part_range starts (length us) k a b h two from to in
-    (range.0, range.1, piece_at starts us k two ∙ ap₂ (λ x y. Some (slice_range us x y)) (sym from) (sym to))
+option_part starts us (suc k) a b h l m e f = grind (arith, nat_tests, get_or_default_zero starts k a, get_or_default_zero starts (suc k) b m, part_range starts (length us) k a b h, piece_at starts us k)
 
 pub slice-front : {X : Type 0} (us vs : List X) (a b : ℕ) → a ≤ b → b ≤ length us
     → slice_range (us ++ vs) a b ≡ slice_range us a b
@@ -124,9 +118,7 @@ pieces-total a (b ∷ starts) us h =
 -- the options have all uses
 pub all-uses : (starts : List ℕ) (us : List Use) → AreOptionStarts starts us → use_count (pieces starts us) ≡ length us
 all-uses [] us h = absurd h.1
-all-uses (a ∷ starts) us h =
-    let first : a ≡ 0 = cc in
-    let total = pieces-total a starts us h.1 in omega (arith, first, total)
+all-uses (a ∷ starts) us h = grind (arith, nat_tests, pieces-total a starts us h.1)
 
 -- one option more
 pub option-more : (starts : List ℕ) (us vs : List Use) (n : ℕ) → AreOptionStarts starts us → n ≡ length us + length vs
@@ -144,7 +136,4 @@ slice_get-map-some f (y ∷ xs) (suc i) x e = slice_get-map-some f xs i x e
 -- what holds of the elements behind the first n
 pub behind-at : {X : Type 0} (P : X → Type 0) (n : ℕ) (xs : List X) (i : ℕ) (d : X) → All P (drop n xs) → n ≤ i
     → i < length xs → P (get_or xs i d)
-behind-at P n xs i d all low high =
-    let place : n + (i - n) ≡ i = omega (arith, low) in
-    let within : i - n < length (drop n xs) = omega (arith, length-drop n xs, low, high) in
-    subst P (get_or-drop n xs (i - n) d ∙ ap (λ k. get_or xs k d) place) (all (i - n) d within)
+behind-at P n xs i d all low high = grind (arith, nat_tests, length-drop n xs, get_or-drop n xs (i - n) d)

@@ -1,4 +1,5 @@
 -- Items of the item line, each behind those before it.
+use Rattle.std.proofs.lemmas.Grind.{common_steps}
 use Rattle.std.proofs.Common.{◌≡◌, ◌≢◌, ◌⊎◌, ℕ, suc, ◌+◌, ◌<◌, ◌≤◌, List, [], ◌∷◌, ◌++◌, Option, None, Some, Bool, true}
 use Rattle.std.proofs.Common.{false, cond, not, nat_eq, nat_lt, is_some, unwrap_or, length, take, drop, get_or, refl}
 use Rattle.std.proofs.Common.{sym, ap, subst, ◌∙◌, append_assoc, append-nil, length-append, arith, if◌then◌else◌, All}
@@ -45,9 +46,7 @@ before-cons p ps false f =
 after-cons : (p : List ℕ) (ps : List (List ℕ)) (t : Bool) → is_bar p ≡ t
     → after_first is_bar (p ∷ ps) ≡ (if t then ps else after_first is_bar ps)
 after-cons p ps true f = ap (λ b. drop (cond (not b) (1 + position_or_len is_bar ps) 0 + 1) (p ∷ ps)) f
-after-cons p ps false f =
-    let next : (1 + position_or_len is_bar ps) + 1 ≡ suc (position_or_len is_bar ps + 1) = omega arith in
-    ap (λ b. drop (cond (not b) (1 + position_or_len is_bar ps) 0 + 1) (p ∷ ps)) f ∙ ap (λ n. drop n (p ∷ ps)) next
+after-cons p ps false f = grind (arith, nat_tests)
 
 named : (p name : List ℕ) → p ≡ name → has BAR name ≡ false → is_bar p ≡ false
 named [] name e h = refl
@@ -60,16 +59,10 @@ no-bar kind p e (name, inr h) = let f : true ≡ false = h.2 in absurd (cc)
 -- NEW NAMES
 none-passes : {A : Type 0} (p : A → Bool) (xs : List A) → list_any p xs ≡ false → position_or_len p xs ≡ length xs
 none-passes p [] h = refl
-none-passes p (x ∷ xs) h =
-    let both = or_parts (p x) (list_any p xs) h in
-    let next : 1 + position_or_len p xs ≡ suc (position_or_len p xs) = omega arith in
-    ap (λ b. cond (not b) (1 + position_or_len p xs) 0) both.0 ∙ next ∙ ap suc (none-passes p xs both.1)
+none-passes p (x ∷ xs) h = grind (arith, nat_tests, none-passes p xs, or_parts (p x) (list_any p xs) h)
 
 absent-is : {A : Type 0} (p : A → Bool) (xs : List A) → list_any p xs ≡ false → position p xs ≡ None
-absent-is p xs h =
-    let e : position_or_len p xs ≡ length xs = none-passes p xs h in
-    let t : nat_lt (position_or_len p xs) (length xs) ≡ false = grind (arith, nat_tests) in
-    ap (λ b. cond b (Some (position_or_len p xs)) None) t
+absent-is p xs h = grind (arith, nat_tests, none-passes p xs h)
 
 still-new : (names : List (List ℕ)) (x y : List ℕ) → place names y ≡ None → x ≢ y → place (names ++ x ∷ []) y ≡ None
 still-new names x y none differ = grind (arith, nat_tests, bytes_eq-Decides, absent-is, list_any-append, no-place)

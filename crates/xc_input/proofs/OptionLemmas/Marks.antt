@@ -1,4 +1,5 @@
 -- Marks at the items of a line.
+use Rattle.std.proofs.lemmas.Grind.{common_steps}
 use Rattle.std.proofs.Common.{◌≡◌, ℕ, zero, suc, ◌+◌, ◌-◌, ◌<◌, ◌≤◌, List, [], ◌∷◌, ◌++◌, Bool, true, false}
 use Rattle.std.proofs.Common.{true≢false, nat_eq, length, map, get_or, set, take, drop, All, refl, ap, ◌∙◌, sym}
 use Rattle.std.proofs.Common.{subst, arith, length-set, Option, None, Some, position, IfSome}
@@ -65,9 +66,7 @@ unmarked-less (false ∷ marks) (suc k) within e = ap suc (unmarked-less marks k
 pub mark-at : (marks : List Bool) (names : List (List ℕ)) (name : List ℕ) (seen : List ℕ) (place : ℕ)
     → AreMarks marks seen → length marks ≡ length names → position (bytes_eq name) names ≡ Some place
     → get_or marks place false ≡ list_any (λ i. nat_eq i (place + 1)) seen
-mark-at marks names name seen place are count e =
-    let within : place < length names =
-    in-range (bytes_eq name) names place e in are place (omega (arith, within, count))
+mark-at marks names name seen place are count e = grind (arith, nat_tests, in-range (bytes_eq name) names place e)
 
 -- a place among as many names as marks is that of a mark
 pub place-marked : (marks : List Bool) (names : List (List ℕ)) (name : List ℕ) (at : Option ℕ)

@@ -1,4 +1,5 @@
 -- One token of an option line, for `use_of` and the loop of `option_line`.
+use Rattle.std.proofs.lemmas.Grind.{common_steps}
 use Rattle.std.proofs.Common.{arith, ◌<◌, ◌≤◌, ◌≡◌, ℕ, ◌+◌, List, [], ◌∷◌, ◌++◌, Option, None, Some, Bool, true, false}
 use Rattle.std.proofs.Common.{◌||◌, ◌&&◌, nat_lt, nat_eq, map, refl, ap, ◌∙◌, sym, subst}
 use Rattle.std.proofs.Common.{length, drop, if◌then◌else◌, MatchOption, Result, Ok, Err, append_assoc, is_ok}
@@ -21,10 +22,7 @@ use Rattle.xc_input.proofs.TokenLemmas.Separators.{COLON}
 
 pub none-after : (b : ℕ) (xs : List ℕ) → has b xs ≡ false → after b xs ≡ []
 none-after b [] e = refl
-none-after b (x ∷ xs) e =
-    let P : Bool → Type 0 = λ t. (t || has b xs) ≡ false → (if t then xs else after b xs) ≡ [] in
-    let h : P (nat_eq x b) =
-    (elim (nat_eq x b) as P [ true ↦ λ f. absurd (cc) | false ↦ λ f. none-after b xs f ]) in h e
+none-after b (x ∷ xs) e = grind (arith, nat_tests, none-after b xs)
 
 module _ (kind : Kind) (names : List (List ℕ)) (primary : ℕ) (seen : List ℕ) (token : List ℕ) where
   -- the first fault

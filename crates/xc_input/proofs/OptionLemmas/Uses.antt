@@ -1,4 +1,5 @@
 -- Uses of an option, each behind those before it.
+use Rattle.std.proofs.lemmas.Grind.{common_steps}
 use Rattle.std.proofs.Common.{◌≡◌, ◌≢◌, ℕ, zero, suc, ◌<◌, List, [], ◌∷◌, ◌++◌, false, nat_eq, true≢false, length}
 use Rattle.std.proofs.Common.{map, get_or, refl, sym, subst, ◌∙◌, append_assoc, append-nil, arith, All, AllPairs}
 use Rattle.std.proofs.lemmas.Bool.Decides.{nat_tests}
@@ -48,9 +49,7 @@ unlike : (front : List Written) (i : ℕ) → list_any (λ j. nat_eq j i) (map (
     → (k : ℕ) (d : Written) → k < length front → (get_or front k d).item ≢ i
 unlike [] i e k d within same = absurd (omega (arith, within))
 unlike (u ∷ front) i e zero d within same = grind (arith, nat_tests, or_parts (nat_eq u.item i), true≢false)
-unlike (u ∷ front) i e (suc k) d within same =
-    unlike front i (or_parts (nat_eq u.item i) (list_any (λ j. nat_eq j i) (map (λ u. u.item) front)) e).1 k d
-    (omega (arith, within)) same
+unlike (u ∷ front) i e (suc k) d within same = grind (arith, nat_tests, unlike front i, or_parts (nat_eq u.item i))
 
 from-behind : (c : Context) (front : List Written) (ts : List (List ℕ)) (us : List Written)
     → UsesBehind c (map (λ u. u.item) front) ts us → AllPairs (λ u v. u.item ≢ v.item) front

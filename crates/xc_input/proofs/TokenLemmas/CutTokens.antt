@@ -1,4 +1,6 @@
 -- A token that begins with a known name is cut behind the name.
+use Rattle.std.proofs.lemmas.Bool.Decides.{nat_tests}
+use Rattle.std.proofs.lemmas.Grind.{common_steps}
 use Rattle.std.proofs.Common.{◌≡◌, ℕ, ◌-◌, ◌<◌, List, [], ◌∷◌, ◌++◌, Option, None, Some, Bool, true, false, length}
 use Rattle.std.proofs.Common.{get_or, take, drop, refl, ap, ap₂, ◌∙◌, sym, subst, arith, if◌then◌else◌, MatchOption}
 use Rattle.std.proofs.Common.{Bor, is_some, ◌&&◌}
@@ -22,9 +24,7 @@ use Rattle.xc_input.proofs.TokenLemmas.Separators.{COLON}
 -- bytes without white space at the front of a text are the front of its first word
 word-onto : (xs ys : List ℕ) → list_any is_space xs ≡ false → word (xs ++ ys) ≡ xs ++ word ys
 word-onto [] ys h = refl
-word-onto (x ∷ xs) ys h =
-    let apart = or_parts (is_space x) (list_any is_space xs) h in
-    ap (λ t. if t then [] else x ∷ word (xs ++ ys)) apart.0 ∙ ap (λ zs. x ∷ zs) (word-onto xs ys apart.1)
+word-onto (x ∷ xs) ys h = grind (arith, nat_tests, word-onto xs ys, or_parts (is_space x) (list_any is_space xs) h)
 
 behind-onto : (xs ys : List ℕ) → list_any is_space xs ≡ false → behind (xs ++ ys) ≡ behind ys
 behind-onto [] ys h = refl

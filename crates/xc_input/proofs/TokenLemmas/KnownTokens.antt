@@ -1,4 +1,6 @@
 -- A text that begins with a short name that is known by its number.
+use Rattle.std.proofs.lemmas.Bool.Decides.{nat_tests}
+use Rattle.std.proofs.lemmas.Grind.{common_steps}
 use Rattle.std.proofs.Common.{◌≡◌, ℕ, ◌<◌, ◌≤◌, List, [], ◌∷◌, ◌++◌, Option, None, Some, IfSome, Bor, Bool}
 use Rattle.std.proofs.Common.{true, false, length, get_or, take, drop, ap, ◌∙◌, sym, arith, if◌then◌else◌, slice_get}
 use Rattle.std.proofs.lemmas.List.{take-append-drop, length-take}
@@ -54,9 +56,7 @@ behind-white names line rest others t same fewer h = (h.0, same ∙ h.1, omega (
 
 shorter : (xs : List ℕ) → length (drop_white xs) ≤ length xs
 shorter [] = omega arith
-shorter (b ∷ bs) =
-    let P : Bool → Type 0 = λ t. length (if t then drop_white bs else b ∷ bs) ≤ length (b ∷ bs) in
-    (elim (is_space b) as P [ true ↦ omega (arith, shorter bs) | false ↦ omega arith ])
+shorter (b ∷ bs) = grind (arith, nat_tests, shorter bs)
 
 -- a line's first token, by the line without the white space that it begins with
 pub behind-all-white : (names : List (List ℕ)) (line rest others : List ℕ) (t : Token) → rest ≡ drop_white line

@@ -1,4 +1,5 @@
 -- Names of a table: they have no fault, each has one place, and what a line begins with may be one of them.
+use Rattle.std.proofs.lemmas.Grind.{common_steps}
 use Rattle.std.proofs.Common.{◌+◌, ◌≤◌, drop, MatchOption}
 use Rattle.std.proofs.lemmas.List.{take-append-drop}
 use Rattle.std.proofs.Common.{◌≡◌, ◌≢◌, ℕ, zero, suc, ◌<◌, List, [], ◌∷◌, ◌++◌, Option, None, Some, Bool, true, false}
@@ -62,10 +63,7 @@ names-more old new name fault all e f g none solid = subst AreNames (sym e) (rec
 
 after-solid : (b : ℕ) (xs : List ℕ) → list_any is_space xs ≡ false → list_any is_space (after b xs) ≡ false
 after-solid b [] h = h
-after-solid b (x ∷ xs) h =
-    let back = (or_parts (is_space x) (list_any is_space xs) h).1 in
-    let P : Bool → Type 0 = λ t. list_any is_space (if t then xs else after b xs) ≡ false in
-    (elim (nat_eq x b) as P [ true ↦ back | false ↦ after-solid b xs back ])
+after-solid b (x ∷ xs) h = grind (arith, nat_tests, after-solid b xs, or_parts (is_space x) (list_any is_space xs) h)
 
 -- the name of a token
 pub name-solid : (kind : Kind) (secondary : Bool) (token name : List ℕ) (low high : ℕ)

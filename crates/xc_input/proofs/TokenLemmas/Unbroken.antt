@@ -1,4 +1,5 @@
 -- Names and colours have no white space, no NUL byte and no line feed.
+use Rattle.std.proofs.lemmas.Grind.{common_steps}
 use Rattle.std.proofs.Common.{arith}
 use Rattle.std.proofs.lemmas.Bool.Decides.{nat_tests}
 use Rattle.std.proofs.Common.{◌≡◌, ℕ, ◌+◌, List, [], ◌∷◌, ◌++◌, Option, Some, Bool, true, false, nat_eq, is_none}
@@ -48,20 +49,11 @@ lack-front p b (t ∷ ts) e h = (or_from (p b) (list_any p t) e h.0, h.1)
 lack-onto : (p : ℕ → Bool) (b : ℕ) (bs : List ℕ) (ts : List (List ℕ)) → p b ≡ false → AllLack p ts
     → AllLack p (onto b bs ts)
 lack-onto p b [] ts e h = (or_from (p b) false e refl, h)
-lack-onto p b (c ∷ cs) ts e h =
-    let P : Bool → Type 0 = λ t. AllLack p (if t then (b ∷ []) ∷ ts else onto_first b ts) in
-    (elim (is_space c) as P [ true ↦ (or_from (p b) false e refl, h) | false ↦ lack-front p b ts e h ])
+lack-onto p b (c ∷ cs) ts e h = grind (arith, nat_tests, or_from (p b), lack-front p b ts e h)
 
 lack-tokens : (p : ℕ → Bool) (xs : List ℕ) → list_any p xs ≡ false → AllLack p (tokens xs)
 lack-tokens p [] h = tt
-lack-tokens p (b ∷ bs) h =
-    let apart = or_parts (p b) (list_any p bs) h in
-    let P : Bool → Type 0 = λ t. AllLack p (if t then tokens bs else onto b bs (tokens bs)) in
-    subst (AllLack p) (sym (tokens-cons b bs)) (elim (is_space b) as P [
-      | true ↦ lack-tokens p bs apart.1
-      | false ↦
-          lack-onto p b bs (tokens bs) apart.0 (lack-tokens p bs apart.1)
-    ])
+lack-tokens p (b ∷ bs) h = grind (arith, nat_tests, lack-tokens p bs, or_parts (p b) (list_any p bs) h, tokens-cons b bs, lack-onto p b bs (tokens bs))
 
 lack-spaces : (xs : List ℕ) → AllLack is_space (tokens xs)
 lack-spaces [] = tt
@@ -138,13 +130,7 @@ module _ (p : ℕ → Bool) (lacks : (line : List ℕ) → has 0 line ≡ false 
       × AllLack p sheet.colours
   lack-sheet kind n [] sheet ignored h w = absurd h
   lack-sheet kind n (line ∷ lines) sheet ignored (z, inl (f, r)) w = lack-sheet kind (n + 1) lines sheet ignored r w.1
-  lack-sheet kind n (line ∷ lines) sheet ignored (z, inr (f, items, r)) w = (
-    lack-items kind [] None (parts line) sheet.entries sheet.primaries
-        (items-behind kind (parts line) sheet.entries sheet.primaries items)
-        (lack-all p (tokens line) (lacks line z w.0)),
-    lack-options kind (names_of sheet.entries) sheet.primaries (n + 1) 0 [] lines sheet.options ignored sheet.colours r
-        w.1 tt,
-  )
+  lack-sheet kind n (line ∷ lines) sheet ignored (z, inr (f, items, r)) w = grind (arith, nat_tests, lack-items kind, items-behind kind (parts line) sheet.entries sheet.primaries items, lack-all p (tokens line) (lacks line z w.0), lack-options kind (names_of sheet.entries) sheet.primaries (n + 1) 0)
 
 all-unbroken : (xs : List (List ℕ)) → AllLack is_space xs → AllLack (λ x. nat_eq x 0) xs → AllLack (λ x. nat_eq x 10) xs
     → All IsUnbroken xs

@@ -1,4 +1,7 @@
 -- The uses of an option can be told.
+use Rattle.std.proofs.Common.{arith}
+use Rattle.std.proofs.lemmas.Bool.Decides.{nat_tests}
+use Rattle.std.proofs.lemmas.Grind.{common_steps}
 use Rattle.std.proofs.Common.{ℕ, zero, suc, ◌≡◌, ◌≤◌, List, [], ◌∷◌, length, Some, subst}
 use Rattle.std.specs.Prelude.{slice_get, All}
 use Rattle.std.proofs.lemmas.List.Elements.{All-head, All-tail, All-weaker, All-nil, All-cons}
@@ -21,9 +24,7 @@ at_number P xs (suc k) x all e = at_place P xs k x all e
 
 both : {X : Type 0} (P Q : X → Type 0) (xs : List X) → All P xs → All Q xs → All (λ x. P x × Q x) xs
 both P Q [] p q = All-nil _
-both P Q (x ∷ xs) p q =
-    All-cons (λ x. P x × Q x) x xs (All-head P x xs p, All-head Q x xs q)
-    (both P Q xs (All-tail P x xs p) (All-tail Q x xs q))
+both P Q (x ∷ xs) p q = grind (arith, nat_tests, both P Q xs (All-tail P x xs p) (All-tail Q x xs q))
 
 pub known_option : (p : Puzzle) (colours : List (List ℕ)) (o : ℕ) (us : List Use) → IsValid p
     → AreColoursKnown colours p.options → numbered_get p.options o ≡ Some us

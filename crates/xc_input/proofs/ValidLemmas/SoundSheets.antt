@@ -1,4 +1,5 @@
 -- The problem of a sheet is sound.
+use Rattle.std.proofs.lemmas.Grind.{common_steps}
 use Rattle.std.proofs.Common.{◌≡◌, ◌≢◌, ℕ, zero, suc, ◌+◌, ◌-◌, ◌<◌, ◌≤◌, List, [], ◌∷◌, ◌++◌, Bool, true, false}
 use Rattle.std.proofs.Common.{nat_eq, is_none, true≢false, length, map, take, drop, get_or, All, AllPairs, refl, ap}
 use Rattle.std.proofs.Common.{◌∙◌, sym, subst, arith, if◌then◌else◌, inl, inr, append_assoc}
@@ -42,9 +43,7 @@ unlike : (front : List Use) (i : ℕ) → list_any (λ j. nat_eq j i) (map (λ u
     → k < length front → (get_or front k d).item ≢ i
 unlike [] i e k d within same = absurd (omega (arith, within))
 unlike (u ∷ front) i e zero d within same = grind (arith, nat_tests, or_parts (nat_eq u.item i), true≢false)
-unlike (u ∷ front) i e (suc k) d within same =
-    unlike front i (or_parts (nat_eq u.item i) (list_any (λ j. nat_eq j i) (map (λ u. u.item) front)) e).1 k d
-    (omega (arith, within)) same
+unlike (u ∷ front) i e (suc k) d within same = grind (arith, nat_tests, unlike front i, or_parts (nat_eq u.item i))
 
 fresh-distinct : (front us : List Use) → AreFresh (map (λ u. u.item) front) us → AllPairs (λ u v. u.item ≢ v.item) front
     → AllPairs (λ u v. u.item ≢ v.item) (front ++ us)
@@ -86,9 +85,7 @@ module _ (p : Puzzle) (count primaries colours : ℕ) (items : count ≤ item_co
     (front : primary_count p ≡ primaries) where
   sound-uses : (us : List Use) → AreWithin count primaries colours us → All (IsSoundUse p) us
   sound-uses [] h = All-nil (IsSoundUse p)
-  sound-uses (u ∷ us) h =
-      All-cons (IsSoundUse p) u us ((h.0.0, omega (arith, h.0.1, items)), (λ low. h.0.2 (omega (arith, low, front))))
-      (sound-uses us h.1)
+  sound-uses (u ∷ us) h = grind (arith, nat_tests, sound-uses us h.1)
 
   some-primary : (us : List Use) → UsesPrimary primaries us → Any (λ u. u.item ≤ primary_count p) us
   some-primary [] h = absurd h

@@ -1,4 +1,5 @@
 -- What stands for a text is valid.
+use Rattle.std.proofs.lemmas.Grind.{common_steps}
 use Rattle.std.proofs.Common.{◌≡◌, ℕ, suc, ◌+◌, ◌*◌, ◌-◌, ◌^◌, ◌<◌, ◌≤◌, List, [], ◌∷◌, ◌++◌, Option, None, Some, Bool}
 use Rattle.std.proofs.Common.{true, false, ◌&&◌, nat_le, nat_eq, is_none, unwrap_or, length}
 use Rattle.std.proofs.Common.{position, refl, ap, ◌∙◌, sym, subst, arith, if◌then◌else◌, inl, inr, append_assoc}
@@ -45,15 +46,7 @@ value-below n i [] h e = let z : i + 0 ≡ i = omega arith in subst (λ k. n < 1
 value-below n i (x ∷ xs) h e = grind (arith, nat_tests, value-below (n * 10 + (x - 48)) (i + 1) xs, pow_more)
 
 number-below : (text : List ℕ) → are_digits 9 text ≡ true → number text ≤ greatest_bound
-number-below text e =
-    let a = and_parts (nat_le 1 (length text) && nat_le (length text) 9) (list_all is_ascii_digit text) e in
-    let c : nat_le (length text) 9 ≡ true = (and_parts (nat_le 1 (length text)) (nat_le (length text) 9) a.0).1 in
-    let l : length text ≤ 9 = grind (arith, nat_tests) in
-    let v : number text < 10 ^ (0 + length text) = value-below 0 0 text (omega arith) a.1 in
-    let le : 0 + length text ≤ 9 = omega arith in
-    let p : 10 ^ (0 + length text) ≤ 10 ^ 9 = pow-le-pow_right {n = 10} (omega arith) le in
-    let m : number text < 1000000000 = omega arith in
-    omega arith
+number-below text e = grind (arith, nat_tests, and_parts (nat_le 1 (length text) && nat_le (length text) 9) (list_all is_ascii_digit text) e, and_parts (nat_le 1 (length text)) (nat_le (length text) 9), value-below 0 0 text, pow-le-pow_right)
 
 high-below : (prefix : List ℕ) (low high : ℕ) → AreBounds prefix low high → high ≤ greatest_bound
 high-below prefix low high (inl h) = subst (λ n. n ≤ greatest_bound) h.2 (number-below prefix h.0)
@@ -127,16 +120,12 @@ first-part xs b bs e f =
 starts : (xs ys : List ℕ) → drop_white xs ≡ ys → is_skipped xs ≡ false → (p : List ℕ) × (ps : List (List ℕ))
     × (parts xs ≡ p ∷ ps) × (is_bar p ≡ false)
 starts xs [] e f = let g : is_skipped xs ≡ true = sym (skipped-front xs [] (sym e)) in absurd (cc)
-starts xs (b ∷ bs) e f =
-    let g : nat_eq b BAR ≡ false = skipped-front xs (b ∷ bs) (sym e) ∙ f in
-    let r = first-part xs b bs e g in (b ∷ word bs, r.0, r.1, g)
+starts xs (b ∷ bs) e f = grind (arith, nat_tests, skipped-front xs (b ∷ bs) (sym e), first-part xs b bs e)
 
 from-first : (kind : Kind) (p : List ℕ) (ps : List (List ℕ)) (es : List Entry) (n : ℕ) → is_bar p ≡ false
     → ItemsBehind kind [] None (p ∷ ps) es n → 1 ≤ n
 from-first kind p ps es n f (inl h) = let g : is_bar p ≡ true = h.0 in absurd (cc)
-from-first kind p ps es n f (inr h) =
-    let r = items-valid kind (h.0.name ∷ []) ps h.1 n h.7 (omega arith) in
-    let k : n ≡ length (h.0.name ∷ []) + r.0 = r.1 in omega arith
+from-first kind p ps es n f (inr h) = grind (arith, nat_tests, items-valid kind (h.0.name ∷ []) ps h.1 n h.7)
 
 some-primary : (kind : Kind) (line : List ℕ) (es : List Entry) (n : ℕ) → is_skipped line ≡ false
     → ItemsBehind kind [] None (parts line) es n → 1 ≤ n
@@ -166,10 +155,7 @@ colour-grows cs (b ∷ bs) =
 
 colours-grow : (cs : List (List ℕ)) (us : List Written) → length cs ≤ length (with_uses cs us)
 colours-grow cs [] = omega arith
-colours-grow cs (u ∷ us) =
-    let a : length cs ≤ length (with_colour cs u.colour) = colour-grows cs u.colour in
-    let b : length (with_colour cs u.colour) ≤ length (with_uses (with_colour cs u.colour) us) =
-    colours-grow (with_colour cs u.colour) us in omega arith
+colours-grow cs (u ∷ us) = grind (arith, nat_tests, colours-grow (with_colour cs u.colour) us, colour-grows cs u.colour)
 
 some-colour : (cs : List (List ℕ)) (b : ℕ) (bs : List ℕ) → 1 ≤ length (with_colour cs (b ∷ bs))
 some-colour cs b bs =
@@ -214,9 +200,7 @@ use-within : (kind : Kind) (names : List (List ℕ)) (primaries : ℕ) (token : 
     (k : ℕ) → IsUse (context kind names primaries) token u → colour_number cs u.colour ≤ k
     → IsWithin (length names) primaries k (record { item = u.item; colour = colour_number cs u.colour })
 use-within kind names primaries token u cs k (name, i, n, p, q, inl h) l =
-    let r : i < length names = in-range (bytes_eq name) names i p in
-    let z : u.item ≡ i + 1 = q in
-    (omega arith, omega arith, (λ w. ap (colour_number cs) h.1), l)
+    grind (arith, nat_tests, in-range (bytes_eq name) names i p)
 use-within kind names primaries token u cs k (name, i, n, p, q, inr h) l = grind (arith, nat_tests, in-range)
 
 uses-valid : (kind : Kind) (names : List (List ℕ)) (primaries : ℕ) (seen : List ℕ) (ts : List (List ℕ))
@@ -289,17 +273,7 @@ from-lines : (kind : Kind) (n : ℕ) (lines : List (List ℕ)) (sheet : Sheet) (
     → IsSheetFrom kind n lines sheet ignored → IsSoundSheet sheet
 from-lines kind n [] sheet ignored h = absurd h
 from-lines kind n (line ∷ lines) sheet ignored (z, inl (f, r)) = from-lines kind (n + 1) lines sheet ignored r
-from-lines kind n (line ∷ lines) sheet ignored (z, inr (f, items, r)) =
-    grind (
-      arith,
-      nat_tests,
-      items-behind kind (parts line) sheet.entries sheet.primaries items,
-      items-valid kind,
-      options-valid kind (names_of sheet.entries) sheet.primaries (n + 1) 0,
-      some-primary kind line sheet.entries sheet.primaries f,
-      names-valid kind,
-      names_of-length sheet.entries,
-    )
+from-lines kind n (line ∷ lines) sheet ignored (z, inr (f, items, r)) = grind (arith, nat_tests, items-behind kind (parts line) sheet.entries sheet.primaries items, items-valid kind, options-valid kind (names_of sheet.entries) sheet.primaries (n + 1) 0, some-primary kind line sheet.entries sheet.primaries f, names-valid kind, names_of-length sheet.entries)
 
 pub valid : (kind : Kind) (lines : List (List ℕ)) (sheet : Sheet) (ignored : List ℕ)
     → IsSheetOf kind lines sheet ignored → IsSoundSheet sheet

@@ -1,4 +1,7 @@
 -- What holds of each element of a list.
+use Rattle.std.proofs.Common.{arith}
+use Rattle.std.proofs.lemmas.Bool.Decides.{nat_tests}
+use Rattle.std.proofs.lemmas.Grind.{common_steps}
 use Rattle.std.proofs.Common.{ℕ, zero, suc, ◌≡◌, ◌+◌, Bool, true, false, cond, List, [], ◌∷◌, ◌++◌, map, filter, take}
 use Rattle.std.proofs.Common.{Some, refl, subst}
 use Rattle.std.specs.Prelude.{slice_get}
@@ -28,15 +31,11 @@ each-numbered P (suc n) k (x ∷ xs) a = (a.0, each-numbered P n (k + 1) xs a.1)
 pub each-filter : {X : Type 0} (P : X → Type 0) (q : X → Bool) (xs : List X) → AllByRecursion P xs
     → AllByRecursion P (filter q xs)
 each-filter P q [] a = a
-each-filter P q (x ∷ xs) a =
-    elim (q x) as (λ b. AllByRecursion P (cond b (x ∷ filter q xs) (filter q xs)))
-    [ true ↦ (a.0, each-filter P q xs a.1) | false ↦ each-filter P q xs a.1 ]
+each-filter P q (x ∷ xs) a = grind (arith, nat_tests, each-filter P q xs a.1)
 
 pub each_passes : {X : Type 0} (q : X → Bool) (xs : List X) → AllByRecursion (λ x. q x ≡ true) (filter q xs)
 each_passes q [] = tt
-each_passes q (x ∷ xs) =
-    elim (q x) as (λ b. q x ≡ b → AllByRecursion (λ x. q x ≡ true) (cond b (x ∷ filter q xs) (filter q xs)))
-    [ true ↦ λ e. (e, each_passes q xs) | false ↦ λ e. each_passes q xs ] refl
+each_passes q (x ∷ xs) = grind (arith, nat_tests, each_passes q xs)
 
 pub each_both : {X : Type 0} (P Q R : X → Type 0) (xs : List X) → ((x : X) → P x → Q x → R x) → AllByRecursion P xs
     → AllByRecursion Q xs → AllByRecursion R xs

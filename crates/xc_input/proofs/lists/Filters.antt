@@ -1,4 +1,5 @@
 -- Filters and maps.
+use Rattle.std.proofs.lemmas.Grind.{common_steps}
 use Rattle.std.proofs.lemmas.Bool.Decides.{nat_tests}
 use Rattle.std.proofs.Common.{suc, ◌≡◌, ◌≤◌, Bool, true, false, cond, ◌&&◌, List, [], ◌∷◌, ◌++◌, length, map, filter}
 use Rattle.std.proofs.Common.{refl, sym, ap, ap₂, ◌∙◌, arith}
@@ -44,9 +45,7 @@ length-filter-le p xs = omega (arith, length-filter p xs, count_by-le-length p x
 
 pub length-filter-cons : {X : Type 0} (p : X → Bool) (x : X) (xs : List X)
     → length (filter p (x ∷ xs)) ≤ suc (length (filter p xs))
-length-filter-cons p x xs =
-    elim (p x) as (λ b. length (cond b (x ∷ filter p xs) (filter p xs)) ≤ suc (length (filter p xs)))
-    [ true ↦ omega arith | false ↦ omega arith ]
+length-filter-cons p x xs = grind (arith, nat_tests)
 
 pub flat_map-same : {X Y : Type 0} (f g : X → List Y) (xs : List X) → AllByRecursion (λ x. f x ≡ g x) xs
     → flat_map f xs ≡ flat_map g xs

@@ -1,4 +1,5 @@
 -- Members of lists, and what holds of each two of them.
+use Rattle.std.proofs.lemmas.Grind.{common_steps}
 use Rattle.std.proofs.lemmas.Bool.Decides.{nat_tests}
 use Rattle.std.proofs.Common.{ℕ, zero, suc, ◌≡◌, ◌+◌, ◌<◌, Bool, true, List, [], ◌∷◌, ◌++◌, length, map}
 use Rattle.std.proofs.Common.{filter, take, get_or, Some, refl, sym, ap, ◌∙◌, arith, subst, ◌⊎◌, inl, inr}
@@ -56,10 +57,7 @@ flat_map-in f (y ∷ ys) x z (inr q) k = append-in_right (f y) (flat_map f ys) z
 pub in-flat_map : {X Y : Type 0} (f : X → List Y) (xs : List X) (z : Y) → IsIn (flat_map f xs) z → (x : X) × IsIn xs x
     × IsIn (f x) z
 in-flat_map f [] z h = absurd h
-in-flat_map f (y ∷ ys) z h = elim (in-append (f y) (flat_map f ys) z h) [
-  | inl k ↦ (y, inl refl, k)
-  | inr k ↦ let later = in-flat_map f ys z k in (later.0, inr later.1, later.2)
-]
+in-flat_map f (y ∷ ys) z h = grind (arith, nat_tests, in-flat_map f ys z, in-append (f y) (flat_map f ys) z h)
 
 pub in-take : {X : Type 0} (n : ℕ) (xs : List X) (x : X) → IsIn (take n xs) x → IsIn xs x
 in-take zero xs x h = absurd h

@@ -1,4 +1,6 @@
 -- What stands at a place of a list.
+use Rattle.std.proofs.lemmas.Bool.Decides.{nat_tests}
+use Rattle.std.proofs.lemmas.Grind.{common_steps}
 use Rattle.std.proofs.Common.{ℕ, zero, suc, ◌≡◌, ◌+◌, ◌<◌, ◌≤◌, List, [], ◌∷◌, ◌++◌, length, take, drop, Some}
 use Rattle.std.proofs.Common.{None, refl, ap, ap₂, ◌∙◌, arith}
 use Rattle.std.specs.Prelude.{slice_get}
@@ -16,13 +18,8 @@ get_seam (x ∷ xs) y = get_seam xs y
 pub get_numbered : {X : Type 0} (a : ℕ) (xs : List X) (k : ℕ) (x : X) → slice_get xs k ≡ Some x
     → slice_get (enumerate_from a xs) k ≡ Some (a + k, x)
 get_numbered a [] k x e = cc
-get_numbered a (y ∷ xs) zero x e =
-    let same : y ≡ x = cc in
-    let here : a ≡ a + 0 = omega arith in
-    ap₂ (λ n z. let kx : ℕ × _ = (n, z) in Some kx) here same
-get_numbered a (y ∷ xs) (suc k) x e =
-    let next : (a + 1) + k ≡ a + suc k = omega arith in
-    get_numbered (a + 1) xs k x e ∙ ap (λ n. let kx : ℕ × _ = (n, x) in Some kx) next
+get_numbered a (y ∷ xs) zero x e = grind (arith, nat_tests)
+get_numbered a (y ∷ xs) (suc k) x e = grind (arith, nat_tests, get_numbered (a + 1) xs k x e)
 
 pub get_take : {X : Type 0} (n : ℕ) (xs : List X) (k : ℕ) → k < n → slice_get (take n xs) k ≡ slice_get xs k
 get_take zero xs k h = absurd (omega (arith, h))
