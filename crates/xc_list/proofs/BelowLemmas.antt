@@ -3,12 +3,12 @@ use Rattle.std.proofs.Common.{◌≡◌, ℕ, zero, suc, Bool, true, false, Resu
 use Rattle.std.proofs.Common.{◌++◌, length, take, drop, map, get_or, eqb, refl, sym, ap, ◌∙◌, append-nil, arith, subst}
 use Rattle.std.specs.Prelude.{All, IsErr, MatchResult, slice_get, option_map, flat_map, min, if◌then◌else◌}
 use Rattle.std.proofs.lemmas.Bool.Decides.{nat_tests}
-use Rattle.std.proofs.lemmas.Option.{slice_get-map, slice_get_read}
+use Rattle.std.proofs.lemmas.Option.{slice_get-map, slice_get_read, slice_get_within, get_or_from_slice_get}
 use Rattle.std.specs.List.{AllByRecursion}
 use Rattle.std.specs.List.{enumerate_from}
 use Rattle.std.proofs.lemmas.Grind.{common_steps}
 use Rattle.std.proofs.lemmas.List.Concat.{flat_map-append}
-use Rattle.std.proofs.lemmas.List.{map-append}
+use Rattle.std.proofs.lemmas.List.{map-append, take_all, take_more}
 use Rattle.std.proofs.lemmas.List.Elements.{All-nil, All-cons, All-append, All-from_recursion, recursion_from_All}
 use Rattle.xc_input.proofs.lists.EachElement.{each_front}
 use Rattle.xc_input.specs.Problem.{Puzzle}
@@ -26,8 +26,9 @@ use Rattle.xc_list.specs.declared.below.PartFault.TheVariants.{Memory, NoPath, W
 use Rattle.xc_list.specs.Known.{IsKnownChoice}
 use Rattle.xc_list.specs.Output.{member_text}
 use Rattle.xc_list.specs.Texts.{SinkState, Took, BrokeOff}
+use Rattle.xc_list.proofs.CheckLemmas.ListedNumbers.{last_or}
 use Rattle.xc_list.proofs.OutputLemmas.KnownMembers.{members_known}
-use Rattle.xc_list.proofs.Outputs.{take_next, within_next, enumerate_more, enumerate_append, take_split}
+use Rattle.xc_list.proofs.Outputs.{take_next, within_next, enumerate_append, take_split}
 use Rattle.xc_list.proofs.Writing.{then_took, then_broke, broke_before, took_nothing}
 
 -- the choices of the members below a path can be told
@@ -49,16 +50,10 @@ pub text_next : (a : Named) (ms : List (List Choice)) (k : ℕ) (m : List Choice
 text_next a ms k m rest e =
     let before : 1 + length (take k ms) ≡ k + 1 = grind (arith, common_steps, within_next ms k m rest e) in
     ap (λ l. flat_map (member_text a) (enumerate_from 1 l)) (take_next ms k m rest e)
-    ∙ ap (flat_map (member_text a)) (enumerate_more 1 (take k ms) m)
+    ∙ ap (flat_map (member_text a)) (enumerate_append 1 (take k ms) (m ∷ []))
     ∙ flat_map-append (member_text a) (enumerate_from 1 (take k ms)) ((1 + length (take k ms), m) ∷ [])
     ∙ ap (λ l. text_to a k ms ++ l) (append-nil (member_text a (1 + length (take k ms), m)))
     ∙ ap (λ n. text_to a k ms ++ member_text a (n, m)) before
-
-pub take_long : {X : Type 0} (n : ℕ) (xs : List X) → length xs ≤ n → take n xs ≡ xs
-take_long zero [] h = refl
-take_long (suc n) [] h = refl
-take_long zero (x ∷ xs) h = absurd (omega (arith, h))
-take_long (suc n) (x ∷ xs) h = ap (λ l. x ∷ l) (take_long n xs (omega (arith, h)))
 
 pub text_end : (a : Named) (ms : List (List Choice)) (k : ℕ) {x y : SinkState} → k ≡ most_counted → Took x y
     (text_to a k ms) → Took x y (members_text a ms)
@@ -67,8 +62,8 @@ text_end a ms k {x = x} {y = y} e took = subst (λ n. Took x y (text_to a n ms))
 pub text_all : (a : Named) (ms : List (List Choice)) (k : ℕ) → k ≡ length ms → k ≤ most_counted →
     text_to a k ms ≡ members_text a ms
 text_all a ms k e h =
-    let same : take k ms ≡ take most_counted ms = take_long k ms (omega (arith, e)) ∙ sym
-    (take_long most_counted ms (omega (arith, e, h))) in
+    let same : take k ms ≡ take most_counted ms =
+    take_all k ms (omega (arith, e)) ∙ sym (take_all most_counted ms (omega (arith, e, h))) in
     ap (λ l. flat_map (member_text a) (enumerate_from 1 l)) same
 
 -- one member more was written, which a search shows
@@ -160,10 +155,9 @@ counted_behind a listed ms end n e count is =
     (ap (λ b. (if b then members_text a ms else []) ++ summary_text (end_behind (length ms))) is)
 
 taken_at : {X : Type 0} (xs : List X) (i : ℕ) (x : X) → slice_get xs i ≡ Some x → take (i + 1) xs ≡ take i xs ++ x ∷ []
-taken_at [] i x e = absurd (cc e)
-taken_at (y ∷ xs) zero x e = cc e
-taken_at (y ∷ xs) (suc i) x e = let h : suc i + 1 ≡ suc (i + 1) = omega arith in ap (λ n. take n (y ∷ xs)) h ∙ ap
-    (λ l. y ∷ l) (taken_at xs i x e)
+taken_at xs i x e =
+    take_more xs i x (slice_get_within xs i x e)
+    ∙ ap (λ y. take i xs ++ y ∷ []) (get_or_from_slice_get xs i x x e)
 
 -- where a run over parts ended
 ended_at : (a : Named) (listed : Bool) (parts : List (List ℕ)) (i : ℕ) (numbers : List ℕ)
@@ -210,30 +204,22 @@ items_at f xs i x h e = slice_get-map f xs i ∙ ap (option_map f) (slice_get_re
 
 -- ---- rows of numbers
 
-last_or : ℕ → List ℕ → ℕ
-last_or d [] = d
-last_or d (x ∷ xs) = last_or x xs
-
 last_behind : (d : ℕ) (xs ys : List ℕ) → last_or d (xs ++ ys) ≡ last_or (last_or d xs) ys
-unfolding last_or
 last_behind d [] ys = refl
 last_behind d (x ∷ xs) ys = last_behind x xs ys
 
 -- a row of paths ends with 0
 last_told : (paths : List (List ℕ)) → last_or 0 (numbers_told paths) ≡ 0
-unfolding last_or
 last_told [] = refl
 last_told (path ∷ paths) =
     last_behind 0 (path ++ 0 ∷ []) (numbers_told paths) ∙ ap (λ d. last_or d (numbers_told paths))
     (last_behind 0 path (0 ∷ [])) ∙ last_told paths
 
 last_some : (d : ℕ) (xs : List ℕ) → AllByRecursion (λ n. 0 < n) xs → 0 < d → 0 < last_or d xs
-unfolding last_or
 last_some d [] a h = h
 last_some d (x ∷ xs) a h = last_some x xs a.1 a.0
 
 last_path : (d : ℕ) (xs : List ℕ) → AllByRecursion (λ n. 0 < n) xs → 0 < length xs → 0 < last_or d xs
-unfolding last_or
 last_path d [] a h = absurd (omega (arith, h))
 last_path d (x ∷ xs) a h = last_some x xs a.1 a.0
 

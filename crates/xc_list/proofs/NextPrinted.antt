@@ -1,8 +1,8 @@
 -- A search that goes on to the next member that is printed.
-use Rattle.std.proofs.Common.{◌≡◌, ℕ, zero, suc, ◌+◌, ◌-◌, ◌<◌, ◌≤◌, false, List, [], ◌∷◌, ◌++◌, length, drop, refl}
+use Rattle.std.proofs.Common.{◌≡◌, ℕ, zero, suc, ◌+◌, ◌-◌, ◌<◌, ◌≤◌, false, List, [], ◌∷◌, ◌++◌, length, drop, get_or, refl}
 use Rattle.std.proofs.Common.{sym, ap, ap₂, ◌∙◌, append-nil, arith, subst, length-drop}
 use Rattle.std.specs.Prelude.{if◌then◌else◌}
-use Rattle.std.proofs.lemmas.List.{drop-drop}
+use Rattle.std.proofs.lemmas.List.{drop-drop, drop_more}
 use Rattle.xc_search.specs.declared.choice.Choice.{Choice}
 use Rattle.xc_search.specs.Outlook.{Outlook, shown_after}
 use Rattle.xc_search.specs.Cover.{members}
@@ -17,11 +17,7 @@ use Rattle.xc_list.proofs.Outputs.{at_next, output_next, rest_next, stopped, wit
 
 next_of : {X : Type 0} (xs : List X) (n : ℕ) → n < length xs → (x : X) × (drop n xs ≡ x ∷ drop (n + 1) xs)
 next_of [] n h = absurd (omega (arith, h))
-next_of (x ∷ xs) zero h = (x, refl)
-next_of (x ∷ xs) (suc n) h =
-    let next = next_of xs n (omega (arith, h)) in
-    let e : suc (n + 1) ≡ suc n + 1 = omega arith in
-    (next.0, next.1 ∙ ap (λ k. next.0 ∷ drop k (x ∷ xs)) e)
+next_of (x ∷ xs) n h = (get_or (x ∷ xs) n x, drop_more (x ∷ xs) n x h)
 
 -- none of the members behind the k-th and before the one numbered end is printed
 abbrev pub AreSilent : ℕ → ℕ → ℕ → Type 0

@@ -1,7 +1,9 @@
 -- The output grows member by member.
 use Rattle.std.proofs.Common.{◌≡◌, ℕ, zero, suc, ◌+◌, ◌<◌, ◌≤◌, ◌-◌, Bool, true, false, cond, List, [], ◌∷◌, ◌++◌, Some}
-use Rattle.std.proofs.Common.{length, take, drop, filter, refl, sym, ap, ◌∙◌, append-nil, arith, subst, nat_lt, lt-ltb}
-use Rattle.std.proofs.Math.Seq.{take-append_seam}
+use Rattle.std.proofs.Common.{length, take, drop, filter, refl, sym, ap, ◌∙◌, append-nil, add-one, arith, subst, nat_lt, lt-ltb}
+use Rattle.std.proofs.Math.Seq.{take-append_seam, take-add}
+use Rattle.std.proofs.lemmas.List.{drop-drop, take-take, take-append-drop, length-drop}
+use Rattle.xc_input.proofs.lists.Places.{slice_get-drop, drop_at}
 use Rattle.std.specs.Prelude.{flat_map, slice_get, if◌then◌else◌}
 use Rattle.std.specs.List.{enumerate_from}
 use Rattle.std.proofs.lemmas.Grind.{common_steps}
@@ -27,56 +29,48 @@ use Rattle.xc_list.proofs.OutputLemmas.KnownMembers.{members_known}
 
 pub take_next : {X : Type 0} (ms : List X) (k : ℕ) (m : X) (rest : List X) → drop k ms ≡ m ∷ rest
     → take (k + 1) ms ≡ take k ms ++ m ∷ []
-take_next [] zero m rest e = absurd (cc e)
-take_next [] (suc k) m rest e = absurd (cc e)
-take_next (x ∷ ms) zero m rest e = cc e
-take_next (x ∷ ms) (suc k) m rest e = let h : suc k + 1 ≡ suc (k + 1) = omega arith in ap (λ n. take n (x ∷ ms)) h
-    ∙ ap (λ l. x ∷ l) (take_next ms k m rest e)
+take_next ms k m rest e = take-add k 1 ms ∙ ap (λ l. take k ms ++ take 1 l) e
 
 pub rest_next : {X : Type 0} (ms : List X) (k : ℕ) (m : X) (rest : List X) → drop k ms ≡ m ∷ rest
     → rest ≡ drop (k + 1) ms
-rest_next [] zero m rest e = absurd (cc e)
-rest_next [] (suc k) m rest e = absurd (cc e)
-rest_next (x ∷ ms) zero m rest e = cc e
-rest_next (x ∷ ms) (suc k) m rest e =
-    let h : suc (k + 1) ≡ suc k + 1 = omega arith in rest_next ms k m rest e ∙ ap (λ n. drop n (x ∷ ms)) h
+rest_next ms k m rest e = sym (ap (drop 1) e) ∙ drop-drop 1 k ms
 
 pub within_next : {X : Type 0} (ms : List X) (k : ℕ) (m : X) (rest : List X) → drop k ms ≡ m ∷ rest → k < length ms
 within_next ms k m rest e = grind (arith, common_steps)
 
 pub at_next : {X : Type 0} (ms : List X) (k : ℕ) (m : X) (rest : List X) → drop k ms ≡ m ∷ rest
     → numbered_get ms (k + 1) ≡ Some m
-at_next [] zero m rest e = absurd (cc e)
-at_next [] (suc k) m rest e = absurd (cc e)
-at_next (x ∷ ms) zero m rest e = cc e
-at_next (x ∷ ms) (suc k) m rest e =
-    let there = at_next ms k m rest e in
-    let f : k + 1 ≡ suc k = omega arith in
-    let h : suc k + 1 ≡ suc (suc k) = omega arith in
-    ap (λ n. numbered_get (x ∷ ms) n) h ∙ sym (ap (λ n. numbered_get ms n) f) ∙ there
+at_next ms k m rest e = rw add-one (sym (slice_get-drop ms k) ∙ ap (λ l. slice_get l 0) e)
 
-pub enumerate_more : {X : Type 0} (n : ℕ) (xs : List X) (x : X) → enumerate_from n
-    (xs ++ x ∷ []) ≡ enumerate_from n xs ++ (n + length xs, x) ∷ []
-enumerate_more n [] x = grind (arith, common_steps)
-enumerate_more n (y ∷ xs) x = grind (arith, common_steps, enumerate_more (n + 1) xs x)
+pub enumerate_append : {X : Type 0} (n : ℕ) (xs ys : List X) → enumerate_from n
+    (xs ++ ys) ≡ enumerate_from n xs ++ enumerate_from (n + length xs) ys
+enumerate_append n [] ys = let e : n ≡ n + 0 = omega arith in ap (λ k. enumerate_from k ys) e
+enumerate_append n (x ∷ xs) ys =
+    let e : (n + 1) + length xs ≡ n + suc (length xs) = omega arith in
+    ap (λ l. (n, x) ∷ l) (enumerate_append (n + 1) xs ys ∙ ap (λ k. enumerate_from (n + 1) xs ++ enumerate_from k ys) e)
 
 -- the text of these members, numbered from 1, as far as they are printed
 abbrev text_of : Named → ℕ → List (List Choice) → List ℕ
 text_of a spacing ms = flat_map (member_text a) (filter (λ nm. is_printed spacing nm.0) (enumerate_from 1 ms))
 
+-- the text of the members behind
+abbrev text_behind : Named → ℕ → ℕ → List (List Choice) → List ℕ
+text_behind a spacing n ms = flat_map (member_text a) (filter (λ nm. is_printed spacing nm.0) (enumerate_from (1 + n) ms))
+
+text_append : (a : Named) (spacing : ℕ) (xs ys : List (List Choice))
+    → text_of a spacing (xs ++ ys) ≡ text_of a spacing xs ++ text_behind a spacing (length xs) ys
+text_append a spacing xs ys = simp (enumerate_append, filter-append, flat_map-append)
+
 text_more : (a : Named) (spacing : ℕ) (ms : List (List Choice)) (m : List Choice)
     → text_of a spacing (ms ++ m ∷ []) ≡ text_of a spacing ms ++ printed_text a spacing (1 + length ms, m)
 text_more a spacing ms m =
-    let p = λ (nm : ℕ × List Choice). is_printed spacing nm.0 in
-    ap (λ l. flat_map (member_text a) (filter p l)) (enumerate_more 1 ms m)
-    ∙ ap (flat_map (member_text a)) (filter-append p (enumerate_from 1 ms) ((1 + length ms, m) ∷ []))
-    ∙ flat_map-append (member_text a) (filter p (enumerate_from 1 ms)) (filter p ((1 + length ms, m) ∷ []))
-    ∙ ap (λ l. text_of a spacing ms ++ l) (one (p (1 + length ms, m)) (member_text a (1 + length ms, m)) refl)
+    text_append a spacing ms (m ∷ [])
+    ∙ ap (λ l. text_of a spacing ms ++ l) (one (is_printed spacing (1 + length ms)) (1 + length ms, m))
   where
-    one : (b : Bool) (t : List ℕ) → t ≡ t
-        → flat_map (member_text a) (cond b ((1 + length ms, m) ∷ []) []) ≡ cond b (member_text a (1 + length ms, m)) []
-    one true t e = append-nil (member_text a (1 + length ms, m))
-    one false t e = refl
+    one : (b : Bool) (nm : ℕ × List Choice)
+        → flat_map (member_text a) (cond b (nm ∷ []) []) ≡ cond b (member_text a nm) []
+    one true nm = append-nil (member_text a nm)
+    one false nm = refl
 
 pub output_next : (a : Named) (spacing k : ℕ) (m : List Choice) (rest : List (List Choice))
     → drop k (members a.puzzle) ≡ m ∷ rest
@@ -88,10 +82,7 @@ output_next a spacing k m rest e =
     ∙ ap (λ n. output a spacing k ++ printed_text a spacing (n, m)) so_far
 
 pub all_done : {X : Type 0} (ms : List X) (k : ℕ) → drop k ms ≡ [] → k ≤ length ms → k ≡ length ms
-all_done [] zero e h = refl
-all_done [] (suc k) e h = absurd (omega (arith, h))
-all_done (x ∷ ms) zero e h = absurd (cc e)
-all_done (x ∷ ms) (suc k) e h = ap suc (all_done ms k e (omega (arith, h)))
+all_done ms k e h = omega (arith, ap length e, length-drop k ms, h)
 
 pub output_all : (a : Named) (spacing k limit : ℕ) → k ≡ length (members a.puzzle) → k ≤ limit
     → output a spacing limit ≡ output a spacing k
@@ -125,57 +116,28 @@ known_next p k m rest e =
     All-head (All (IsKnownChoice p)) m rest
     (subst (All (All (IsKnownChoice p))) e (All-drop (All (IsKnownChoice p)) k (members p) (members_known p)))
 
-pub enumerate_append : {X : Type 0} (n : ℕ) (xs ys : List X) → enumerate_from n
-    (xs ++ ys) ≡ enumerate_from n xs ++ enumerate_from (n + length xs) ys
-enumerate_append n [] ys = let e : n ≡ n + 0 = omega arith in ap (λ k. enumerate_from k ys) e
-enumerate_append n (x ∷ xs) ys =
-    let e : (n + 1) + length xs ≡ n + suc (length xs) = omega arith in
-    ap (λ l. (n, x) ∷ l) (enumerate_append (n + 1) xs ys ∙ ap (λ k. enumerate_from (n + 1) xs ++ enumerate_from k ys) e)
-
--- the text of the members behind
-text_behind : (a : Named) (spacing : ℕ) (xs ys : List (List Choice)) → (tail : List ℕ)
-    × (text_of a spacing (xs ++ ys) ≡ text_of a spacing xs ++ tail)
-text_behind a spacing xs ys =
-    let p = λ (nm : ℕ × List Choice). is_printed spacing nm.0 in (
-      flat_map (member_text a) (filter p (enumerate_from (1 + length xs) ys)),
-      ap (λ l. flat_map (member_text a) (filter p l)) (enumerate_append 1 xs ys)
-          ∙ ap (flat_map (member_text a)) (filter-append p (enumerate_from 1 xs) (enumerate_from (1 + length xs) ys))
-          ∙ flat_map-append (member_text a) (filter p (enumerate_from 1 xs))
-          (filter p (enumerate_from (1 + length xs) ys)),
-    )
-
 pub take_split : {X : Type 0} (ms : List X) (k limit : ℕ) → k ≤ limit → take limit ms ≡ take k ms ++ drop k
     (take limit ms)
-take_split ms zero limit h = refl
-take_split ms (suc k) zero h = absurd (omega (arith, h))
-take_split [] (suc k) (suc l) h = refl
-take_split (x ∷ ms) (suc k) (suc l) h = ap (λ r. x ∷ r) (take_split ms k l (omega (arith, h)))
+take_split ms k limit h = sym (take-append-drop k (take limit ms)) ∙ ap (λ l. l ++ drop k (take limit ms)) (take-take k limit ms h)
 
 -- a smaller output stands before a larger one
 pub output_behind : (a : Named) (spacing k limit : ℕ) → k ≤ limit → (tail : List ℕ)
     × (output a spacing limit ≡ output a spacing k ++ tail)
 output_behind a spacing k limit h =
-    let behind = text_behind a spacing (take k (members a.puzzle)) (drop k (take limit (members a.puzzle))) in
-    let split : take limit (members a.puzzle) ≡ take k (members a.puzzle) ++ drop k (take limit (members a.puzzle)) =
-    take_split (members a.puzzle) k limit h in
-    (behind.0, ap (text_of a spacing) split ∙ behind.1)
+    let ms = members a.puzzle in (
+      text_behind a spacing (length (take k ms)) (drop k (take limit ms)),
+      ap (text_of a spacing) (take_split ms k limit h) ∙ text_append a spacing (take k ms) (drop k (take limit ms)),
+    )
 
 pub begins_front : (x y : SinkState) (text front tail : List ℕ) → text ≡ front ++ tail → Appends x.taken y.taken front
     → Begins x y text
 begins_front x y text front tail e p =
     (length front, subst (Appends x.taken y.taken) (sym (ap (take (length front)) e ∙ take-append_seam front tail)) p)
 
-pub drop_at : {X : Type 0} (ms : List X) (k : ℕ) (m : X) → slice_get ms k ≡ Some m → drop k ms ≡ m ∷ drop (k + 1) ms
-drop_at [] k m e = absurd (cc e)
-drop_at (x ∷ ms) zero m e = let f : x ≡ m = cc e in ap (λ y. y ∷ ms) f
-drop_at (x ∷ ms) (suc k) m e =
-    let h : suc (k + 1) ≡ suc k + 1 = omega arith in drop_at ms k m e ∙ ap (λ n. m ∷ drop n (x ∷ ms)) h
-
 drop_before : {X : Type 0} (ms : List X) (t : ℕ) (m : X) → numbered_get ms t ≡ Some m
     → drop (t - 1) ms ≡ m ∷ drop ((t - 1) + 1) ms
 drop_before ms zero m e = absurd (cc e)
-drop_before ms (suc k) m e = let h : k ≡ suc k - 1 = omega arith in ap (λ n. drop n ms) (sym h) ∙ drop_at ms k m e
-    ∙ ap (λ n. m ∷ drop (n + 1) ms) h
+drop_before ms (suc k) m e = let h : suc k - 1 ≡ k = omega arith in rw (h, add-one) (drop_at ms k m e)
 
 pub stopped_begins : (a : Named) (spacing limit t : ℕ) (x z : SinkState) → StoppedAt a spacing limit t x z
     → Begins x z (output a spacing limit)
@@ -190,16 +152,13 @@ stopped_begins a spacing limit t x z s =
     ap (λ n. printed_text a spacing (n, s.member)) again ∙ ap (λ b. if b then text else []) s.printed in
     let b = output_behind a spacing ((t - 1) + 1) limit (omega (arith, again, s.within.1)) in
     let n : ℕ = s.stopped.2.many in
-    let cut : text ≡ take n text ++ drop n text = take_drop text n in
+    let cut : text ≡ take n text ++ drop n text = sym (take-append-drop n text) in
     begins_front x z (output a spacing limit) (output a spacing (t - 1) ++ take n text) (drop n text ++ b.0)
     (b.1 ∙ ap (λ l. l ++ b.0) (next ∙ ap (λ l. output a spacing (t - 1) ++ l) (printed ∙ cut))
     ∙ regroup (output a spacing (t - 1)) (take n text) (drop n text) b.0)
     (appends_more x.taken s.stopped.0.taken z.taken (output a spacing (t - 1)) (take n text) s.stopped.1.whole
     s.stopped.2.begun)
   where
-    take_drop : (text : List ℕ) (n : ℕ) → text ≡ take n text ++ drop n text
-    take_drop text n = grind (arith, common_steps)
-
     regroup : (p q r s : List ℕ) → (p ++ (q ++ r)) ++ s ≡ (p ++ q) ++ (r ++ s)
     regroup p q r s = grind (arith, common_steps)
 

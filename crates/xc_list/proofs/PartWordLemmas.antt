@@ -1,15 +1,15 @@
 -- The numbers that words tell, word by word.
 use Rattle.std.proofs.Common.{◌≡◌, ℕ, ◌+◌, ◌<◌, List, [], ◌∷◌, ◌++◌, length, drop, map, get_or, Option, None, Some}
-use Rattle.std.proofs.Common.{refl, sym, ap, ◌∙◌, append_assoc}
+use Rattle.std.proofs.Common.{refl, sym, ap, ◌∙◌, append_assoc, add-one}
 use Rattle.std.specs.Prelude.{option_map, option_and_then}
 use Rattle.xc_list.specs.PartWords.{branch_number, branch_numbers}
 use Rattle.xc_list.proofs.BelowLemmas.{items_at}
-use Rattle.xc_list.proofs.Outputs.{drop_at}
+use Rattle.xc_input.proofs.lists.Places.{drop_at}
 
 -- the word at a place
 pub word_at : {X : Type 0} (f : X → List ℕ) (ws : List X) (i : ℕ) (w : X) → i < length ws → w ≡ get_or ws i w →
     drop i (map f ws) ≡ f w ∷ drop (i + 1) (map f ws)
-word_at f ws i w h e = drop_at (map f ws) i (f w) (items_at f ws i w h e)
+word_at f ws i w h e = rw add-one (drop_at (map f ws) i (f w) (items_at f ws i w h e))
 
 -- a word that tells none
 pub none_told : (ws : List (List ℕ)) (i : ℕ) (ns w : List ℕ) →

@@ -3,20 +3,19 @@ use Rattle.std.proofs.Common.{ℕ, ◌≡◌, ◌⊎◌, ◌+◌, ◌-◌, Bool,
 use Rattle.std.proofs.Common.{◌∙◌, arith, subst, length-drop, inl, inr}
 use Rattle.std.specs.Prelude.{MatchOption, IsTrue, codes}
 use Rattle.std.specs.Io.KnownBytes.{Keeps}
-use Rattle.std.proofs.lemmas.List.{drop-map}
+use Rattle.std.proofs.lemmas.List.{drop-map, take_all}
 use Rattle.xc_input.specs.Calls.{Rose}
 use Rattle.xc_input.specs.Named.{Named}
 use Rattle.xc_list.specs.Below.{OfParts, HasNoPathAt}
 use Rattle.xc_list.specs.PartWords.{AskForParts}
 use Rattle.xc_list.specs.Texts.{SinkState, Took, WasTold}
-use Rattle.xc_list.proofs.BelowLemmas.{take_long}
 use Rattle.xc_tools.specs.Parts.{AskForNone, DidListParts, PartsUnwritten}
 use Rattle.xc_tools.specs.Solves.{TookAll}
 use Rattle.xc_tools.proofs.RunLemmas.{took_all, failed_behind}
 
 -- the words behind the first
 pub behind_first : {X : Type 0} (words : List X) → take (length words - 1) (drop 1 words) ≡ drop 1 words
-behind_first words = take_long (length words - 1) (drop 1 words) (omega (arith, length-drop 1 words))
+behind_first words = take_all (length words - 1) (drop 1 words) (omega (arith, length-drop 1 words))
 
 pub at_none : {X : Type 0} {A : Type 0} (B : X → Type 0) (o : Option X) → o ≡ None → MatchOption o A B → A
 at_none B None e m = m
@@ -60,7 +59,7 @@ pub all_parts : {a : Named} {listed : Bool} {parts : List (List ℕ)} {old mid t
 all_parts new of kept flushed (inl h) = inl (h.0, flushed_parts new of h.1 h.2 kept flushed)
 all_parts {a = a} {listed = listed} {parts = parts} {old = old} {mid = mid} new of kept flushed (inr h) =
     let all = subst (λ ps. OfParts a listed ps Took old mid)
-    (sym (take_long (length parts) parts (omega arith))) of in
+    (sym (take_all (length parts) parts (omega arith))) of in
     inr (inr (inl (h.0, unflushed_parts (length parts) new all h.1 h.2 kept flushed h.3)))
 
 pub parts_before_no_path : {a : Named} {listed : Bool} {parts : List (List ℕ)} {old mid told told_new : SinkState}

@@ -1,5 +1,5 @@
 -- How often classes are asked, by numbers of classes and by options.
-use Rattle.std.proofs.lemmas.Option.{slice_get_within}
+use Rattle.std.proofs.lemmas.Option.{slice_get_within, get_or_from_slice_get}
 use Rattle.std.proofs.Common.{ℕ, zero, suc, ◌≡◌, ◌+◌, ◌<◌, ◌≤◌, Bool, true, false, cond, ◌==◌, List, [], ◌∷◌, length}
 use Rattle.std.proofs.Common.{get_or, replicate, Some, refl, sym, ap, ap₂, ◌∙◌, arith, subst, eqb-true, eq-eqb}
 use Rattle.std.specs.Prelude.{slice_get, nat_le, count_by}
@@ -12,7 +12,6 @@ use Rattle.xc_list.proofs.CheckLemmas.ListedNumbers.{one_place}
 use Rattle.xc_list.proofs.CheckLemmas.DifferentOptions.{counted, is_counted, count_same, one_class}
 use Rattle.xc_list.proofs.CheckLemmas.BodiesOfClasses.{same_uses-are, same_uses-itself}
 use Rattle.xc_list.proofs.CheckLemmas.DecidedByClasses.{alike-classes}
-use Rattle.xc_list.proofs.CheckLemmas.CountedClasses.{slice_get-at}
 use Rattle.xc_list.proofs.CheckLemmas.HeldItems.{raised-at}
 
 same_class : (b : Classes) → AreClasses b.problem.puzzle b.classes → (j k q o : ℕ) → IsOfClass b j q → IsOfClass b k o
@@ -63,7 +62,7 @@ asked-at b are k o g ks reps z =
 
 pub members-at : (b : Classes) (k o : ℕ) → IsOfClass b k o
     → class_size b.problem.puzzle (uses_at b.classes k) ≡ counted (alike b.problem.puzzle o) (numbers b.problem.puzzle)
-members-at b k o g = ap (class_size b.problem.puzzle) (slice_get-at b.classes k (class_at b.problem.puzzle o) [] g.1)
+members-at b k o g = ap (class_size b.problem.puzzle) (get_or_from_slice_get b.classes k (class_at b.problem.puzzle o) [] g.1)
     ∙ is_counted (alike b.problem.puzzle o) (numbers b.problem.puzzle)
 
 -- an option that passes a test, with its class

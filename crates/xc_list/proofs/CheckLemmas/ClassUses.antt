@@ -8,7 +8,7 @@ use Rattle.xc_input.specs.Named.{Named, IsKnownUse}
 use Rattle.xc_input.proofs.OptionLemmas.FlatParts.{slice_get-map-some}
 use Rattle.xc_list.specs.inner.Classes.{AreClasses}
 use Rattle.xc_list.specs.inner.OptionIndex.{AreClassesTo, IsOptionIndex}
-use Rattle.xc_list.proofs.CheckLemmas.Rotations.{class-place}
+use Rattle.xc_list.proofs.CheckLemmas.Rotations.{class_start}
 use Rattle.xc_list.proofs.CheckLemmas.BodiesOfClasses.{All-turned}
 use Rattle.xc_list.proofs.CheckLemmas.DecidedByClasses.{option-known}
 
@@ -27,6 +27,5 @@ pub known-uses : (p : Named) (keys : List (Vec Use Global)) (counts : List ℕ) 
 known-uses p keys counts b k v e =
     let u = b.complete.used k v.items (slice_get-map-some (λ v. v.items) keys k v e) in
     let us = uses_of p.puzzle u.0 in
-    let j = class-place us in
-    subst (All (IsKnownUse p)) (sym j.1 ∙ u.3)
-    (All-turned (IsKnownUse p) j.0 us (option-known p b.sound u.0 (u.1, u.2)))
+    subst (All (IsKnownUse p)) u.3
+    (All-turned (IsKnownUse p) (class_start us) us (option-known p b.sound u.0 (u.1, u.2)))

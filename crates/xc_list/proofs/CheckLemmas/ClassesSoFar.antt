@@ -1,10 +1,12 @@
 -- One option more among the classes.
 use Rattle.std.proofs.Common.{ℕ, zero, suc, ◌≡◌, ◌≢◌, ◌+◌, ◌≤◌, Bool, true, false, cond, List, [], ◌∷◌, ◌++◌, map}
 use Rattle.std.proofs.Common.{get_or, Some, ◌⊎◌, refl, sym, ap, ap₂, ◌∙◌, arith, subst, inl, inr, ◌==◌, eqb-true}
-use Rattle.std.proofs.Common.{eq-eqb}
+use Rattle.std.proofs.Common.{eq-eqb, add-one}
 use Rattle.std.specs.Prelude.{slice_get, Contains}
 use Rattle.std.proofs.Math.ListN.{set}
 use Rattle.std.proofs.lemmas.List.Elements.{Contains-append_left, Contains-push}
+use Rattle.std.proofs.lemmas.List.{map-id}
+use Rattle.std.proofs.lemmas.List.FromFn.{length-range_with_len, sum_by-map-range_with_len_more}
 use Rattle.std.proofs.lemmas.List.Sums.{count_by-le-length}
 use Rattle.xc_input.specs.declared.problem.Use.{Use}
 use Rattle.xc_input.specs.Problem.{Puzzle}
@@ -18,28 +20,19 @@ use Rattle.xc_list.specs.inner.Classes.{class_at, same_uses}
 use Rattle.xc_list.specs.inner.OptionIndex.{AreClassesTo, class_size_to}
 use Rattle.xc_list.proofs.CheckLemmas.DifferentOptions.{counted, is_counted}
 use Rattle.xc_list.proofs.CheckLemmas.BodiesOfClasses.{same_uses-are, same_uses-itself}
-use Rattle.xc_list.proofs.CheckLemmas.ListedNumbers.{in-range, range-more, length-range}
-
-counted-append : (p : ℕ → Bool) (xs ys : List ℕ) → counted p (xs ++ ys) ≡ counted p xs + counted p ys
-counted-append p [] ys = omega arith
-counted-append p (x ∷ xs) ys = omega (arith, counted-append p xs ys)
+use Rattle.xc_list.proofs.CheckLemmas.ListedNumbers.{in-range}
 
 -- no more of the first n options are of a class than there are
 pub members-few : (p : Puzzle) (n : ℕ) (us : List Use) → class_size_to p n us ≤ n
 members-few p n us =
-    omega (arith, count_by-le-length (λ o. same_uses us (class_at p o)) (range_with_len 1 n), length-range 1 n)
+    omega (arith, count_by-le-length (λ o. same_uses us (class_at p o)) (range_with_len 1 n), length-range_with_len 1 n)
 
 members-suc : (p : Puzzle) (n : ℕ) (us : List Use)
     → class_size_to p (suc n) us ≡ class_size_to p n us + cond (same_uses us (class_at p (suc n))) 1 0
 members-suc p n us =
-    let last : 1 + n ≡ suc n = omega arith in
-    let more : counted test (range_with_len 1 (suc n)) ≡ counted test (range_with_len 1 n) + counted test (suc n ∷ []) =
-    ap (counted test) (range-more 1 n ∙ ap (λ k. range_with_len 1 n ++ k ∷ []) last)
-    ∙ counted-append test (range_with_len 1 n) (suc n ∷ []) in
-    omega (arith, is_counted test (range_with_len 1 (suc n)), is_counted test (range_with_len 1 n), more)
-  where
-    test : ℕ → Bool
-    test o = same_uses us (class_at p o)
+    let more = sum_by-map-range_with_len_more (λ o. cond (same_uses us (class_at p o)) 1 0) (λ o. o) 1 n (suc n)
+    (omega arith) in
+    simp add-one at (simp map-id at more)
 
 -- the counts of classes of which one is x
 module _ (f g : List Use → ℕ) (x : List Use) (same : (us : List Use) → us ≢ x → f us ≡ g us) where

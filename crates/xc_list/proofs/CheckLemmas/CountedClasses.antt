@@ -8,16 +8,17 @@ use Rattle.std.proofs.lemmas.List.{append-nil, append_assoc, get_or-set_same, ge
 use Rattle.std.proofs.lemmas.List.{length-take-le, length-replicate, get_or-replicate, get_or_past, ext_get_or}
 use Rattle.std.proofs.lemmas.List.{take_more}
 use Rattle.std.proofs.lemmas.List.Elements.{All-weaker, recursion_from_All}
-use Rattle.std.proofs.lemmas.Option.{slice_get-get_or}
+use Rattle.std.proofs.lemmas.Option.{slice_get-get_or, get_or_from_slice_get}
 use Rattle.xc_input.specs.declared.problem.Use.{Use}
 use Rattle.xc_input.specs.Problem.{item_count, uses_of, IsSoundUse}
 use Rattle.xc_input.specs.Named.{Named, IsKnownUse, IsSound}
-use Rattle.xc_input.proofs.lists.EachElement.{each_weaker, each-append, each_turned}
-use Rattle.xc_list.specs.Output.{rotated_at}
+use Rattle.xc_input.proofs.lists.EachElement.{each_weaker, each-append}
 use Rattle.xc_list.specs.inner.Classes.{Classes, AreClasses, class_of}
 use Rattle.xc_list.specs.inner.CoverCounts.{added, coloured, cleared, raised, lowered, uses_at, uses_in}
-use Rattle.xc_list.proofs.CheckLemmas.DifferentOptions.{counted}
-use Rattle.xc_list.proofs.CheckLemmas.Rotations.{DifferInItems, differ-turned, class-place, halves}
+use Rattle.xc_list.proofs.CheckLemmas.DifferentOptions.{counted, is_counted}
+use Rattle.std.proofs.lemmas.List.Sums.{count_by-le-length}
+use Rattle.xc_list.proofs.CheckLemmas.Rotations.{DifferInItems, differ-turned, class_start}
+use Rattle.xc_list.proofs.CheckLemmas.BodiesOfClasses.{All-turned}
 use Rattle.xc_list.proofs.CheckLemmas.DecidedByClasses.{option-sound, option-differs}
 use Rattle.xc_list.proofs.CheckLemmas.HeldItems.{AreItems, held, added-at, added-append, coloured-append}
 use Rattle.xc_list.proofs.CheckLemmas.HeldItems.{cleared-append, raised-append, lowered-append, raised-at}
@@ -29,21 +30,11 @@ use Rattle.xc_list.proofs.CheckLemmas.HeldItems.{length-raised, length-lowered, 
 abbrev pub AreUsable : ℕ → List (List Use) → Type 0
 AreUsable n classes = (k : ℕ) → k < length classes → AreItems n (uses_at classes k) × DifferInItems (uses_at classes k)
 
-pub slice_get-at : {X : Type 0} (xs : List X) (k : ℕ) (x d : X) → slice_get xs k ≡ Some x → get_or xs k d ≡ x
-slice_get-at [] k x d e = cc
-slice_get-at (y ∷ xs) zero x d e = cc
-slice_get-at (y ∷ xs) (suc k) x d e = slice_get-at xs k x d e
-
 -- known uses are of the items that there are
 pub known_items : (p : Named) (us : List Use) (n : ℕ) → n ≡ item_count p.puzzle → All (IsKnownUse p) us
     → All (λ u. (1 ≤ u.item) × (u.item ≤ n)) us
 known_items p us n e =
     All-weaker (IsKnownUse p) (λ u. (1 ≤ u.item) × (u.item ≤ n)) (λ u h. (h.0.0, omega (arith, h.0.1, e))) us
-
-pub class-differs : (us : List Use) → DifferInItems us → DifferInItems (class_of us)
-class-differs us d =
-    let turn = class-place us in
-    subst DifferInItems (sym turn.1) (differ-turned turn.0 us d)
 
 pub classes_usable : (b : Classes) → IsSound b.problem → AreClasses b.problem.puzzle b.classes
     → AreUsable (item_count b.problem.puzzle) b.classes
@@ -52,16 +43,12 @@ classes_usable b s are k l =
     let n = item_count p in
     let one = are.used k (uses_at b.classes k) (slice_get-get_or b.classes k [] l) in
     let us = uses_of p one.0 in
-    let turn = class-place us in
-    let is : rotated_at turn.0 us ≡ uses_at b.classes k = sym turn.1 ∙ one.2 in
-    let sound = option-sound p s.valid one.0 one.1 in
-    let items : AreItems n us =
-    each_weaker (IsSoundUse p) (λ u. (1 ≤ u.item) × (u.item ≤ n)) us (λ u h. h.0)
-    (recursion_from_All (IsSoundUse p) us sound.sound) in
-    let whole : AreItems n (take turn.0 us ++ drop turn.0 us) = subst (AreItems n) (sym (halves turn.0 us)) items in (
-      subst (AreItems n) is (each_turned (λ u. (1 ≤ u.item) × (u.item ≤ n)) (take turn.0 us) (drop turn.0 us) whole),
-      subst DifferInItems one.2 (class-differs us (option-differs p s.valid one.0 one.1)),
-    )
+    let sound = All-turned (IsSoundUse p) (class_start us) us (option-sound p s.valid one.0 one.1).sound in
+    let items : AreItems n (class_of us) =
+    each_weaker (IsSoundUse p) (λ u. (1 ≤ u.item) × (u.item ≤ n)) (class_of us) (λ u h. h.0)
+    (recursion_from_All (IsSoundUse p) (class_of us) sound) in
+    let differ = differ-turned (class_start us) us (option-differs p s.valid one.0 one.1) in
+    subst (λ vs. AreItems n vs × DifferInItems vs) one.2 (items, differ)
 
 -- ---- the uses of classes
 
@@ -77,7 +64,7 @@ uses_in-take : (classes : List (List Use)) (ks : List ℕ) (i : ℕ) (us : List 
     → uses_in classes (take (i + 1) ks) ≡ uses_in classes (take i ks) ++ us
 uses_in-take classes ks i us l e =
     ap (uses_in classes) (take_more ks i 0 l) ∙ uses_in-more classes (take i ks) (get_or ks i 0)
-    ∙ ap (λ vs. uses_in classes (take i ks) ++ vs) (slice_get-at classes (get_or ks i 0) us [] e)
+    ∙ ap (λ vs. uses_in classes (take i ks) ++ vs) (get_or_from_slice_get classes (get_or ks i 0) us [] e)
 
 pub added_class_more : (classes : List (List Use)) (ks : List ℕ) (i : ℕ) (us : List Use) (ts : List ℕ) → i < length ks
     → slice_get classes (get_or ks i 0) ≡ Some us →
@@ -165,13 +152,6 @@ pub lowered_more : (ks : List ℕ) (i : ℕ) (ns : List ℕ) → i < length ks
 lowered_more ks i ns l =
     ap (λ js. lowered js ns) (take_more ks i 0 l) ∙ lowered-append (take i ks) (get_or ks i 0 ∷ []) ns
 
-counted-le : (p : ℕ → Bool) (xs : List ℕ) → counted p xs ≤ length xs
-counted-le p [] = omega arith
-counted-le p (x ∷ xs) = elim (p x) as (λ b. cond b 1 0 + counted p xs ≤ suc (length xs)) [
-  | true ↦ omega (arith, counted-le p xs)
-  | false ↦ omega (arith, counted-le p xs)
-]
-
 pub raised_few : (n : ℕ) (ks : List ℕ) (i k : ℕ) → k < n → i ≤ length ks
     → get_or (raised (take i ks) (replicate n 0)) k 0 ≤ i
 raised_few n ks i k l m =
@@ -179,7 +159,8 @@ raised_few n ks i k l m =
       arith,
       raised-at (take i ks) (replicate n 0) k (omega (arith, l, length-replicate {A = ℕ} n 0)),
       get_or-replicate {A = ℕ} n k 0 0 l,
-      counted-le (λ j. j == k) (take i ks),
+      is_counted (λ j. j == k) (take i ks),
+      count_by-le-length (λ j. j == k) (take i ks),
       length-take-le i ks m,
     )
 

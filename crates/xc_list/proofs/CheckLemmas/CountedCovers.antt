@@ -2,13 +2,18 @@
 use Rattle.std.proofs.lemmas.Bool.{and_parts}
 use Rattle.xc_input.specs.declared.problem.Bounds.{Bounds}
 use Rattle.std.specs.Cmp.Derive.{both_true}
-use Rattle.std.proofs.lemmas.Option.{slice_get_within}
+use Rattle.std.proofs.lemmas.Option.{slice_get_within, slice_get_past}
+use Rattle.std.proofs.lemmas.List.Sums.{AllPass-from_list_all, list_all-from_AllPass}
+use Rattle.std.proofs.lemmas.List.Elements.{recursion_from_All, All-from_recursion}
+use Rattle.xc_input.proofs.lists.Places.{not_some}
+use Rattle.xc_list.proofs.CheckLemmas.ListedNumbers.{last_or}
 use Rattle.std.proofs.Common.{ℕ, zero, suc, ◌≡◌, ◌≢◌, ◌-◌, ◌<◌, ◌≤◌, ◌⊎◌, inl, inr, Bool, true, false, not, ◌&&◌, ◌||◌}
 use Rattle.std.proofs.Common.{◌==◌, List, [], ◌∷◌, length, get_or, replicate, Some, None, refl, sym, ap, ◌∙◌, arith}
 use Rattle.std.proofs.Common.{subst, eqb-true, eq-eqb, ne_eqb}
 use Rattle.std.specs.Prelude.{Option, slice_get, nat_le}
 use Rattle.std.specs.List.{AllByRecursion, AllZip, list_all}
 use Rattle.std.proofs.lemmas.Bool.{leb-true, le-leb}
+use Rattle.std.proofs.lemmas.Bool.Decides.{nat_tests}
 use Rattle.std.proofs.lemmas.List.{length-replicate, get_or-replicate}
 use Rattle.xc_input.specs.declared.problem.Use.{Use}
 use Rattle.xc_input.specs.Problem.{IsSecondary, bounds_at, item_count}
@@ -21,7 +26,7 @@ use Rattle.xc_list.specs.inner.CoverCounts.{added, coloured, raised, uses_at, us
 use Rattle.xc_list.specs.inner.CoverCounts.{is_class_met}
 use Rattle.xc_list.proofs.CheckLemmas.ShortItems.{short_none, none_short}
 use Rattle.xc_list.proofs.CheckLemmas.HeldItems.{AreItems, added-at}
-use Rattle.xc_list.proofs.CheckLemmas.LastColours.{given, gathered, last_or, length-given, coloured-at, given-gathered}
+use Rattle.xc_list.proofs.CheckLemmas.LastColours.{given, gathered, length-given, coloured-at, given-gathered}
 use Rattle.xc_list.proofs.CheckLemmas.LastColours.{length-gathered, given-each, each-given, AgreeAt, gathered-agree}
 use Rattle.xc_list.proofs.CheckLemmas.LastColours.{agree-gathered, IsLast, agree-last, last-agree}
 use Rattle.xc_list.proofs.CheckLemmas.CountedClasses.{AreBelow, classes_usable, items_in}
@@ -30,12 +35,10 @@ use Rattle.xc_list.proofs.CheckLemmas.AskedClasses.{IsRoomFor, asked_by_classes,
 -- ---- tests
 
 each_passes : {X : Type 0} (f : X → Bool) (xs : List X) → list_all f xs ≡ true → AllByRecursion (λ x. f x ≡ true) xs
-each_passes f [] h = tt
-each_passes f (x ∷ xs) h = let parts = and_parts (f x) (list_all f xs) h in (parts.0, each_passes f xs parts.1)
+each_passes f xs h = recursion_from_All (λ x. f x ≡ true) xs (AllPass-from_list_all f xs h)
 
 passes_each : {X : Type 0} (f : X → Bool) (xs : List X) → AllByRecursion (λ x. f x ≡ true) xs → list_all f xs ≡ true
-passes_each f [] a = refl
-passes_each f (x ∷ xs) a = both_true a.0 (passes_each f xs a.1)
+passes_each f xs a = list_all-from_AllPass f xs (All-from_recursion (λ x. f x ≡ true) xs a)
 
 -- ---- the counts of a solution
 
@@ -71,36 +74,11 @@ AreAsked b ks = AllByRecursion (IsRoomFor b ks) ks
 
 -- ---- places and tests of one use
 
-past_none : (xs : List Bounds) (k : ℕ) → length xs ≤ k → slice_get xs k ≡ None
-past_none [] k l = refl
-past_none (x ∷ xs) zero l = absurd (omega (arith, l))
-past_none (x ∷ xs) (suc k) l = past_none xs k (omega (arith, l))
-
-none_past : (xs : List Bounds) (k : ℕ) → slice_get xs k ≡ None → length xs ≤ k
-none_past [] k e = omega arith
-none_past (x ∷ xs) zero e = cc
-none_past (x ∷ xs) (suc k) e = omega (arith, none_past xs k e)
-
 agrees_last : (t c d : ℕ) → agrees None t c d ≡ true → (t ≡ 1) ⊎ ((0 < d) × (d ≡ c))
-agrees_last t c d h = by_one (t == 1) refl h
-  where
-    by_one : (v : Bool) → (t == 1) ≡ v → (t == 1 || (not (d == 0) && d == c)) ≡ true → (t ≡ 1) ⊎ ((0 < d) × (d ≡ c))
-    by_one true q k = inl (eqb-true t 1 q)
-    by_one false q k =
-        let rest : (not (d == 0) && d == c) ≡ true = (rw q at k) in
-        let parts = and_parts (not (d == 0)) (d == c) rest in
-        inr (above (d == 0) refl parts.0, eqb-true d c parts.1)
-      where
-        above : (w : Bool) → (d == 0) ≡ w → not (d == 0) ≡ true → 0 < d
-        above true r m = (let no : not true ≡ true = (rw r at m) in cc)
-        above false r m = let ne : d ≢ 0 = λ z. (let y = eq-eqb d 0 z in cc) in omega (arith, ne)
+agrees_last t c d h = grind (arith, nat_tests)
 
 last_agrees : (t c d : ℕ) → (t ≡ 1) ⊎ ((0 < d) × (d ≡ c)) → agrees None t c d ≡ true
-last_agrees t c d (inl e) = let one : (t == 1) ≡ true = eq-eqb t 1 e in rw one refl
-last_agrees t c d (inr e) =
-    let some : (d == 0) ≡ false = ne_eqb d 0 (λ z. omega (arith, z, e.0)) in
-    let same : (d == c) ≡ true = eq-eqb d c e.1 in
-    elim (t == 1) as (λ v. (v || (not (d == 0) && d == c)) ≡ true) [ true ↦ refl | false ↦ rw (some, same) refl ]
+last_agrees t c d h = grind (arith, nat_tests)
 
 each_class : (b : Classes) (P : ℕ → Type 0) (ks reps : List ℕ) → ((k o : ℕ) → IsOfClass b k o → P k)
     → AllZip (IsOfClass b) ks reps → AllByRecursion P ks
@@ -225,7 +203,7 @@ module _ (b : Classes) (stored : List Bounds) (cs ks reps : List ℕ) (s : IsSol
 
       agree : (i : ℕ) → IsSecondary b.problem.puzzle i → AgreeAt b.problem.puzzle i reps
       agree zero sec = absurd (omega (arith, sec))
-      agree (suc k) sec = agree_at met k (omega (arith, sec)) (past_none stored k (omega (arith, sec, primaries)))
+      agree (suc k) sec = agree_at met k (omega (arith, sec)) (slice_get_past stored k (omega (arith, sec, primaries)))
 
   -- ---- to the counts
 
@@ -257,7 +235,7 @@ module _ (b : Classes) (stored : List Bounds) (cs ks reps : List ℕ) (s : IsSol
           let p = b.problem.puzzle in
           let d = get_or cs (u.item - 1) 0 in
           let sec : IsSecondary p i =
-          (omega (arith, none_past stored (u.item - 1) e, primaries), omega (arith, known)) in
+          (omega (arith, not_some stored (u.item - 1) e, primaries), omega (arith, known)) in
           let agree : AgreeAt p i reps = λ j k a q c d l e f y z. h.agree j k a q i c d l e f sec y z in
           let lasts : AllByRecursion (IsLast d (given i (uses_in b.classes ks))) (given i (uses_in b.classes ks)) =
           subst (λ g. AllByRecursion (IsLast d g) g) (sym (gives i))

@@ -7,6 +7,8 @@ use Rattle.std.specs.Prelude.{slice_get, is_some, All, IsTrue, ◌↔◌}
 use Rattle.std.proofs.lemmas.List.Elements.{recursion_from_All, All-from_recursion}
 use Rattle.std.proofs.lemmas.Slice.Zip.{AllZip-left, AllZip-right}
 use Rattle.std.specs.Option.{IsSomeAnd}
+use Rattle.std.proofs.lemmas.Bool.{cases_order}
+use Rattle.std.proofs.lemmas.Option.{same_Some}
 use Rattle.xc_input.specs.declared.problem.Use.{Use}
 use Rattle.xc_input.specs.Problem.{Puzzle, IsSoundOption, IsValid, IsSecondary, option_count, uses_of, colour_in}
 use Rattle.xc_input.specs.Problem.{IsOption}
@@ -211,22 +213,15 @@ cover_of_classes p v reps s a g c = record {
     at : (o u i x y : ℕ) → o ≢ u → IsSecondary p i → colour_in (uses_of p o) i ≡ Some x
         → colour_in (uses_of p u) i ≡ Some y → (j k : ℕ) → slice_get s j ≡ Some o → slice_get s k ≡ Some u → (x ≡ y)
         × (0 < x)
-    at o u i x y ne second e f j k m n = by_order (ltb j k) refl
-      where
-        by_order : (t : Bool) → ltb j k ≡ t → (x ≡ y) × (0 < x)
-        by_order true l = ordered o u i x y second e f j k (ltb-true j k l) m n
-        by_order false l = by_same (j == k) refl
-          where
-            by_same : (t : Bool) → (j == k) ≡ t → (x ≡ y) × (0 < x)
-            by_same true q =
-                absurd (ne (let same = eqb-true j k q in let w : slice_get s k ≡ Some o = subst
-                (λ z. slice_get s z ≡ Some o) same m in cc))
-            by_same false q =
-                let apart : j ≢ k = λ z. (let w = eq-eqb j k z in cc) in
-                let le = ltb-false j k l in
-                let r = ordered u o i y x second f e k j (omega (arith, le, apart)) n m in
-                let same = r.0 in
-                (sym r.0, omega (arith, r.1, same))
+    at o u i x y ne second e f j k m n = elim (cases_order j k) [
+      | inl q ↦
+          (let w : slice_get s k ≡ Some o = subst (λ z. slice_get s z ≡ Some o) q m in
+          absurd (ne (same_Some o u (sym w ∙ n))))
+      | inr (inl l) ↦ ordered o u i x y second e f j k l m n
+      | inr (inr l) ↦
+          let r = ordered u o i y x second f e k j l n m in
+          (sym r.0, omega (arith, r))
+    ]
 
 -- Whatever options are taken for the bodies, different ones can be given to them so that their set is a cover exactly
 -- where those taken are a cover of their classes.

@@ -1,19 +1,21 @@
 -- Different options in place of options that are alike: there are such exactly where no class is asked more often than
 -- it has members.
 use Rattle.std.proofs.Common.{ℕ, zero, suc, ◌≡◌, ◌≢◌, ◌+◌, ◌<◌, ◌≤◌, Bool, true, false, cond, not, ◌==◌, List, [], ◌∷◌}
-use Rattle.std.proofs.Common.{length, filter, Some, refl, sym, ap, ap₂, ◌∙◌, arith, subst, inl, inr, ne_eqb, eq-eqb}
+use Rattle.std.proofs.Common.{length, get_or, filter, Some, refl, sym, ap, ap₂, ◌∙◌, arith, subst, inl, inr, ne_eqb, eq-eqb}
 use Rattle.std.specs.Prelude.{slice_get, count_by}
 use Rattle.std.specs.List.{AllZip}
+use Rattle.std.proofs.lemmas.List.Elements.{filter_agree}
 use Rattle.std.proofs.lemmas.List.Sums.{length-filter}
+use Rattle.std.proofs.lemmas.Option.{slice_get-get_or}
 use Rattle.xc_input.proofs.lists.Members.{IsIn, each_from, each_in, in-filter, filter-in, in-slice_get}
 use Rattle.xc_input.proofs.lists.EachTwo.{EachTwo, EachTwo-at}
 
 -- `count_by` by recursion from the front
-abbrev pub counted : (ℕ → Bool) → List ℕ → ℕ
+abbrev pub counted : {X : Type 0} → (X → Bool) → List X → ℕ
 counted p [] = 0
 counted p (x ∷ xs) = cond (p x) 1 0 + counted p xs
 
-pub counted-length : (p : ℕ → Bool) (xs : List ℕ) → length (filter p xs) ≡ counted p xs
+pub counted-length : {X : Type 0} (p : X → Bool) (xs : List X) → length (filter p xs) ≡ counted p xs
 counted-length p [] = refl
 counted-length p (x ∷ xs) =
     elim (p x) as (λ b. length (cond b (x ∷ filter p xs) (filter p xs)) ≡ cond b 1 0 + counted p xs) [
@@ -27,10 +29,6 @@ is_counted p xs = sym (length-filter p xs) ∙ counted-length p xs
 pub count_same : (p q : ℕ → Bool) (xs : List ℕ) → ((x : ℕ) → p x ≡ q x) → counted p xs ≡ counted q xs
 count_same p q [] h = refl
 count_same p q (x ∷ xs) h = ap₂ (λ b n. cond b 1 0 + n) (h x) (count_same p q xs h)
-
-pub filter_alike : (p q : ℕ → Bool) (xs : List ℕ) → ((x : ℕ) → p x ≡ q x) → filter p xs ≡ filter q xs
-filter_alike p q [] h = refl
-filter_alike p q (x ∷ xs) h = ap₂ (λ b ys. cond b (x ∷ ys) ys) (h x) (filter_alike p q xs h)
 
 pub count_filter_le : (q t : ℕ → Bool) (xs : List ℕ) → counted q (filter t xs) ≤ counted q xs
 count_filter_le q t [] = omega arith
@@ -117,9 +115,7 @@ asked_within same classes all reps s z d h r =
     omega (arith, count_alike same classes r reps s z, count_within (same r) s all d h)
 
 pub slice_get_there : (xs : List ℕ) (n : ℕ) → n < length xs → (x : ℕ) × (slice_get xs n ≡ Some x)
-slice_get_there [] n l = absurd (omega (arith, l))
-slice_get_there (x ∷ xs) zero l = (x, refl)
-slice_get_there (x ∷ xs) (suc n) l = slice_get_there xs n (omega (arith, l))
+slice_get_there xs n l = (get_or xs n 0, slice_get-get_or xs n 0 l)
 
 pub EachTwo-filter : (t : ℕ → Bool) (xs : List ℕ) → AreApart xs → AreApart (filter t xs)
 EachTwo-filter t [] a = tt
@@ -167,7 +163,7 @@ give_one same classes all d r reps s g o e = record {
     as_one = one_class same classes r o of_class
 
     e_own : slice_get (filter (same o) all) (counted (same r) reps) ≡ Some o
-    e_own = subst (λ xs. slice_get xs (counted (same r) reps) ≡ Some o) (filter_alike (same r) (same o) all as_one) e
+    e_own = subst (λ xs. slice_get xs (counted (same r) reps) ≡ Some o) (filter_agree (same r) (same o) as_one all) e
 
     mine : HasPlace same all (r ∷ reps) o
     mine = (

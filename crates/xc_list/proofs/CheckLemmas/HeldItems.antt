@@ -13,8 +13,7 @@ use Rattle.xc_list.proofs.CheckLemmas.Rotations.{DifferInItems}
 
 -- how many of these uses are of item i
 abbrev pub held : ℕ → List Use → ℕ
-held i [] = 0
-held i (u ∷ us) = cond (u.item == i) 1 0 + held i us
+held i us = counted (λ u. u.item == i) us
 
 abbrev pub AreItems : ℕ → List Use → Type 0
 AreItems n us = AllByRecursion (λ u. (1 ≤ u.item) × (u.item ≤ n)) us

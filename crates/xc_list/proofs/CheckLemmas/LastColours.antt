@@ -1,27 +1,30 @@
 -- The colours that options give an item, in turn.
 use Rattle.std.proofs.Common.{ℕ, zero, suc, ◌≡◌, ◌≢◌, ◌+◌, ◌-◌, ◌<◌, ◌⊎◌, inl, inr, Bool, true, false, cond, ◌==◌, List}
-use Rattle.std.proofs.Common.{[], ◌∷◌, ◌++◌, length, get_or, set, Some, None, refl, sym, ap, ap₂, ◌∙◌, arith, subst}
+use Rattle.std.proofs.Common.{[], ◌∷◌, ◌++◌, length, map, filter, get_or, set, Some, None, refl, sym, ap, ap₂, ◌∙◌, arith, subst}
 use Rattle.std.proofs.Common.{eqb-true, ne_eqb, eq-eqb}
 use Rattle.std.specs.Prelude.{Option, slice_get, is_some}
 use Rattle.std.specs.List.{AllByRecursion, AllZip}
-use Rattle.std.proofs.lemmas.List.{get_or-set_same, get_or-set_other, length-set}
+use Rattle.std.proofs.lemmas.List.{get_or-set_same, get_or-set_other, length-set, length-map, map-append}
 use Rattle.xc_input.specs.declared.problem.Use.{Use}
 use Rattle.xc_input.specs.Problem.{Puzzle, colour_in, uses_of}
 use Rattle.xc_input.specs.Named.{IsSound}
 use Rattle.xc_search.specs.Cover.{times_held}
 use Rattle.xc_input.proofs.lists.EachTwo.{EachTwo}
+use Rattle.xc_input.proofs.lists.EachElement.{each-map, each-filter, each_both, each_passes}
+use Rattle.xc_input.proofs.lists.Members.{each_in, each_from, map-in, filter-in}
+use Rattle.std.proofs.lemmas.List.Elements.{filter-append}
 use Rattle.xc_list.specs.inner.Classes.{Classes, IsOfClass, class_at}
 use Rattle.xc_list.specs.inner.CoverCounts.{coloured, uses_at, uses_in}
-use Rattle.xc_list.proofs.CheckLemmas.DifferentOptions.{counted, is_counted}
-use Rattle.xc_list.proofs.CheckLemmas.Rotations.{DifferInItems, colour-class}
+use Rattle.xc_list.proofs.CheckLemmas.DifferentOptions.{counted, counted-length, is_counted}
+use Rattle.xc_list.proofs.CheckLemmas.Rotations.{DifferInItems, class_start, differ-turned, colour-class}
 use Rattle.xc_list.proofs.CheckLemmas.DecidedByClasses.{option-differs}
+use Rattle.xc_list.proofs.CheckLemmas.ListedNumbers.{last_or}
 use Rattle.xc_list.proofs.CheckLemmas.HeldItems.{AreItems, held}
-use Rattle.xc_list.proofs.CheckLemmas.CountedClasses.{slice_get-at, class-differs}
+use Rattle.std.proofs.lemmas.Option.{get_or_from_slice_get}
 
 -- the colours of these uses of item i
 abbrev pub given : ℕ → List Use → List ℕ
-given i [] = []
-given i (u ∷ us) = cond (u.item == i) (u.colour ∷ given i us) (given i us)
+given i us = map (λ u. u.colour) (filter (λ u. u.item == i) us)
 
 abbrev pub with_some : Option ℕ → List ℕ → List ℕ
 with_some None cs = cs
@@ -32,26 +35,11 @@ abbrev pub gathered : Puzzle → ℕ → List ℕ → List ℕ
 gathered p i [] = []
 gathered p i (o ∷ reps) = with_some (colour_in (uses_of p o) i) (gathered p i reps)
 
-abbrev pub last_or : ℕ → List ℕ → ℕ
-last_or d [] = d
-last_or d (c ∷ cs) = last_or c cs
-
 pub length-given : (i : ℕ) (us : List Use) → length (given i us) ≡ held i us
-length-given i [] = refl
-length-given i (u ∷ us) =
-    elim (u.item == i) as (λ b. length (cond b (u.colour ∷ given i us) (given i us)) ≡ cond b 1 0 + held i us) [
-      | true ↦ omega (arith, length-given i us)
-      | false ↦ omega (arith, length-given i us)
-    ]
+length-given i us = length-map (filter (λ u. u.item == i) us) (λ u. u.colour) ∙ counted-length (λ u. u.item == i) us
 
 given-append : (i : ℕ) (us vs : List Use) → given i (us ++ vs) ≡ given i us ++ given i vs
-given-append i [] vs = refl
-given-append i (u ∷ us) vs =
-    elim (u.item == i) as (λ b. cond b (u.colour ∷ given i (us ++ vs)) (given i (us ++ vs)) ≡ cond b
-    (u.colour ∷ given i us) (given i us) ++ given i vs) [
-      | true ↦ ap (λ cs. u.colour ∷ cs) (given-append i us vs)
-      | false ↦ given-append i us vs
-    ]
+given-append i us vs = simp (filter-append, map-append)
 
 -- the colour that was given last
 pub coloured-at : (n : ℕ) (us : List Use) (cs : List ℕ) (k : ℕ) → AreItems n us → n ≡ length cs → k < n
@@ -63,7 +51,7 @@ coloured-at n (u ∷ us) cs k a e l =
   where
     here : (v : Bool) → (u.item == suc k) ≡ v
         → last_or (get_or (set cs (u.item - 1) u.colour) k 0) (given (suc k) us) ≡ last_or (get_or cs k 0)
-        (cond (u.item == suc k) (u.colour ∷ given (suc k) us) (given (suc k) us))
+        (given (suc k) (u ∷ us))
     here true q =
         let at : u.item - 1 ≡ k = omega (arith, eqb-true u.item (suc k) q) in
         let value : get_or (set cs (u.item - 1) u.colour) k 0 ≡ u.colour =
@@ -88,9 +76,8 @@ given_once : (i : ℕ) (us : List Use) → DifferInItems us → given i us ≡ w
 given_once i [] d = refl
 given_once i (u ∷ us) d = by_case (given_once i us d.1) (u.item == i) refl
   where
-    by_case : given i us ≡ with_some (colour_in us i) [] → (v : Bool) → (u.item == i) ≡ v →
-        cond (u.item == i) (u.colour ∷ given i us) (given i us) ≡ with_some
-        (cond (u.item == i) (Some u.colour) (colour_in us i)) []
+    by_case : given i us ≡ with_some (colour_in us i) [] → (v : Bool) → (u.item == i) ≡ v
+        → given i (u ∷ us) ≡ with_some (colour_in (u ∷ us) i) []
     by_case later true q =
         let none = given_none i us (subst (λ j. AllByRecursion (λ v. j ≢ v.item) us) (eqb-true u.item i q) d.0) in
         rw q (ap (λ cs. u.colour ∷ cs) none)
@@ -108,17 +95,15 @@ given-gathered i b (k ∷ ks) [] s z = absurd z
 given-gathered i b (k ∷ ks) (o ∷ reps) s z =
     let p = b.problem.puzzle in
     let differ = option-differs p s.valid o z.0.0 in
-    let is : uses_at b.classes k ≡ class_at p o = slice_get-at b.classes k (class_at p o) [] z.0.1 in
-    let colour = colour-class i (uses_of p o) differ in
+    let is : uses_at b.classes k ≡ class_at p o = get_or_from_slice_get b.classes k (class_at p o) [] z.0.1 in
+    let us = uses_of p o in
+    let colour = colour-class i us differ in
     let here : given i (uses_at b.classes k) ≡ with_some (colour_in (uses_of p o) i) [] =
-    ap (given i) is ∙ class_once p o i differ ∙ ap (λ c. with_some c []) colour in
+    ap (given i) is ∙ given_once i (class_at p o) (differ-turned (class_start us) us differ)
+    ∙ ap (λ c. with_some c []) colour in
     given-append i (uses_at b.classes k) (uses_in b.classes ks)
     ∙ ap₂ (λ x y. x ++ y) here (given-gathered i b ks reps s z.1)
     ∙ with_some-append (colour_in (uses_of p o) i) (gathered p i reps)
-  where
-    class_once : (p : Puzzle) (o i : ℕ) → DifferInItems (uses_of p o)
-        → given i (class_at p o) ≡ with_some (colour_in (class_at p o) i) []
-    class_once p o i d = given_once i (class_at p o) (class-differs (uses_of p o) d)
 
 length-with_some : (c : Option ℕ) (cs : List ℕ) → length (with_some c cs) ≡ cond (is_some c) 1 0 + length cs
 length-with_some None cs = omega arith
@@ -136,28 +121,19 @@ length-gathered p i reps = by_count reps ∙ sym (is_counted (λ o. is_some (col
 -- what holds of the colour of each use of item i
 pub given-each : (P : ℕ → Type 0) (i : ℕ) (us : List Use) → AllByRecursion (λ u. u.item ≡ i → P u.colour) us
     → AllByRecursion P (given i us)
-given-each P i [] a = tt
-given-each P i (u ∷ us) a = by_case (given-each P i us a.1) (u.item == i) refl
+given-each P i us a =
+    each-map P (λ u. u.colour) (filter is us)
+    (each_both (λ u. u.item ≡ i → P u.colour) (λ u. is u ≡ true) (λ u. P u.colour) (filter is us)
+    (λ u h e. h (eqb-true u.item i e)) (each-filter (λ u. u.item ≡ i → P u.colour) is us a) (each_passes is us))
   where
-    by_case : AllByRecursion P (given i us) → (v : Bool) → (u.item == i) ≡ v
-        → AllByRecursion P (cond (u.item == i) (u.colour ∷ given i us) (given i us))
-    by_case later true q = rw q (a.0 (eqb-true u.item i q), later)
-    by_case later false q = rw q later
+    is : Use → Bool
+    is u = u.item == i
 
 pub each-given : (P : ℕ → Type 0) (i : ℕ) (us : List Use) → AllByRecursion P (given i us)
     → AllByRecursion (λ u. u.item ≡ i → P u.colour) us
-each-given P i [] a = tt
-each-given P i (u ∷ us) a = by_case (u.item == i) refl a (λ h. each-given P i us h)
-  where
-    by_case : (v : Bool) → (u.item == i) ≡ v
-        → AllByRecursion P (cond (u.item == i) (u.colour ∷ given i us) (given i us)) →
-        (AllByRecursion P (given i us) → AllByRecursion (λ u. u.item ≡ i → P u.colour) us)
-        → AllByRecursion (λ u. u.item ≡ i → P u.colour) (u ∷ us)
-    by_case true q h later =
-        let parts : AllByRecursion P (u.colour ∷ given i us) = (rw q at h) in ((λ e. parts.0), later parts.1)
-    by_case false q h later =
-        let rest : AllByRecursion P (given i us) = (rw q at h) in
-        ((λ e. absurd (let t = eq-eqb u.item i e in cc)), later rest)
+each-given P i us a =
+    each_from (λ u. u.item ≡ i → P u.colour) us (λ u k e. each_in P (given i us) u.colour a
+    (map-in (λ u. u.colour) (filter (λ u. u.item == i) us) u (filter-in (λ u. u.item == i) us u k (eq-eqb u.item i e))))
 
 -- what holds of the colour of each option that holds item i
 gathered-each : (P : ℕ → Type 0) (p : Puzzle) (i : ℕ) (reps : List ℕ)

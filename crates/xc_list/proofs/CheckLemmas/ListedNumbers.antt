@@ -35,14 +35,10 @@ range-apart a (suc n) = (
   range-apart (a + 1) n,
 )
 
-pub range-more : (a n : ℕ) → range_with_len a (suc n) ≡ range_with_len a n ++ (a + n) ∷ []
-range-more a zero = let e : a ≡ a + 0 = omega arith in ap (λ k. k ∷ []) e
-range-more a (suc n) = let e : (a + 1) + n ≡ a + suc n = omega arith in
-    ap (λ r. a ∷ r) (range-more (a + 1) n ∙ ap (λ k. range_with_len (a + 1) n ++ k ∷ []) e)
-
-pub length-range : (a n : ℕ) → length (range_with_len a n) ≡ n
-length-range a zero = refl
-length-range a (suc n) = ap suc (length-range (a + 1) n)
+-- the last number
+abbrev pub last_or : ℕ → List ℕ → ℕ
+last_or d [] = d
+last_or d (n ∷ ns) = last_or n ns
 
 -- ---- tests
 

@@ -1,58 +1,117 @@
--- Rotations of uses.
-use Rattle.std.proofs.Common.{ℕ, suc, ◌+◌, ◌≡◌, ◌≢◌, ◌<◌, Bool, true, false, cond, ◌==◌, ◌||◌, List, [], ◌∷◌, ◌++◌}
-use Rattle.std.proofs.Common.{length, take, drop, min, Some, None, refl, sym, ap, ap₂, ◌∙◌, arith, subst, inl, inr}
-use Rattle.std.proofs.Common.{eqb-true, eq-eqb}
-use Rattle.std.specs.Prelude.{map, not, fold}
-use Rattle.std.specs.List.{list_any}
+-- Rotations of uses, and that those of one list have one class: for `rotate` and the checker's classes.
+use Rattle.std.proofs.Common.{ℕ, zero, suc, ◌+◌, ◌≡◌, ◌≢◌, ◌<◌, ◌≤◌, Bool, true, false, cond, not, ◌==◌, List, [], ◌∷◌, ◌++◌}
+use Rattle.std.proofs.Common.{length, take, drop, get_or, map, min, Option, Some, None, refl, sym, ap, ◌∙◌, arith, subst, inl, inr}
+use Rattle.std.proofs.Common.{eqb-true, eq-eqb, append_assoc}
+use Rattle.std.specs.Prelude.{fold}
+use Rattle.std.proofs.lemmas.Bool.{cases_lt, cases_eq}
+use Rattle.std.proofs.lemmas.Bool.Decides.{nat_tests}
+use Rattle.std.proofs.lemmas.List.{append-nil, take-append-drop, length-append, length-drop, get_or_default, drop_all}
+use Rattle.std.proofs.lemmas.List.{drop-append-le, take-append-le}
+use Rattle.std.proofs.lemmas.List.Folds.{prefix_len-append}
+use Rattle.std.proofs.lemmas.List.Sums.{prefix_len-le-length, passes_at_first}
+use Rattle.std.proofs.Math.Seq.{take-append-add, drop-append-add}
 use Rattle.xc_input.specs.declared.problem.Use.{Use}
 use Rattle.xc_input.specs.UsePlaces.{place_in}
 use Rattle.xc_input.specs.Problem.{colour_in}
 use Rattle.xc_list.specs.Output.{rotated_at, from_item}
 use Rattle.xc_list.specs.inner.Classes.{least_of, class_of}
-use Rattle.std.proofs.lemmas.List.{append-nil, take-append-drop, length-append, length-drop}
-use Rattle.xc_input.proofs.lists.Members.{IsIn, each_in}
-use Rattle.xc_input.proofs.lists.EachTwo.{EachTwo, EachTwo-append}
-use Rattle.xc_input.proofs.lists.EachElement.{each_front}
+use Rattle.xc_input.proofs.lists.Members.{IsIn, each_in, in-contains}
+use Rattle.xc_input.proofs.lists.EachTwo.{EachTwo, EachTwo-parts, EachTwo-swapped}
 
--- the uses before item i's, and those from it on
-abbrev pub before_item : ℕ → List Use → List Use
-before_item i [] = []
-before_item i (u ∷ us) = cond (u.item == i) [] (u ∷ before_item i us)
+-- ---- uses of different items
 
-abbrev pub behind_item : ℕ → List Use → List Use
-behind_item i [] = []
-behind_item i (u ∷ us) = cond (u.item == i) (u ∷ us) (behind_item i us)
+abbrev pub DifferInItems : List Use → Type 0
+DifferInItems us = EachTwo (λ u v. u.item ≢ v.item) us
 
-abbrev pub turned_to : ℕ → List Use → List Use
-turned_to i us = behind_item i us ++ before_item i us
+-- the uses of a rotation differ exactly where those of the other do
+pub differ-turned : (k : ℕ) (us : List Use) → DifferInItems us → DifferInItems (rotated_at k us)
+differ-turned k us d =
+    EachTwo-swapped (λ u v. u.item ≢ v.item) (λ u v n e. n (sym e)) (take k us) (drop k us)
+    (subst DifferInItems (sym (take-append-drop k us)) d)
 
--- a place behind a first use
-place_suc : (i : ℕ) (us : List Use) → 1 + place_in i us ≡ suc (place_in i us)
-place_suc i us = omega arith
+pub turned-differ : (k : ℕ) (us : List Use) → DifferInItems (rotated_at k us) → DifferInItems us
+turned-differ k us d =
+    subst DifferInItems (take-append-drop k us)
+    (EachTwo-swapped (λ u v. u.item ≢ v.item) (λ u v n e. n (sym e)) (drop k us) (take k us) d)
 
-from_item-turned : (i : ℕ) (us : List Use) → from_item i us ≡ turned_to i us
-from_item-turned i us = ap₂ (λ x y. x ++ y) (dropped us) (taken us)
-  where
-    dropped : (us : List Use) → drop (place_in i us) us ≡ behind_item i us
-    dropped [] = refl
-    dropped (u ∷ us) =
-        elim (u.item == i) as (λ t. drop (cond (not t) (1 + place_in i us) 0) (u ∷ us) ≡ cond t (u ∷ us)
-        (behind_item i us)) [
-          | true ↦ refl
-          | false ↦ ap (λ n. drop n (u ∷ us)) (place_suc i us) ∙ dropped us
-        ]
+-- ---- where an item stands
 
-    taken : (us : List Use) → take (place_in i us) us ≡ before_item i us
-    taken [] = refl
-    taken (u ∷ us) =
-        elim (u.item == i) as (λ t. take (cond (not t) (1 + place_in i us) 0) (u ∷ us) ≡ cond t []
-        (u ∷ before_item i us)) [
-          | true ↦ refl
-          | false ↦ ap (λ n. take n (u ∷ us)) (place_suc i us) ∙ ap (λ z. u ∷ z) (taken us)
-        ]
+-- a use of item i is among these
+abbrev Holds : ℕ → List Use → Type 0
+Holds i us = place_in i us < length us
 
-class_of-turned : (us : List Use) → class_of us ≡ turned_to (least_of us) us
-class_of-turned us = from_item-turned (least_of us) us
+module _ (i : ℕ) (a b : List Use) where
+  place : place_in i (a ++ b) ≡ cond (place_in i a == length a) (length a + place_in i b) (place_in i a)
+  place = prefix_len-append (λ u. not (u.item == i)) a b
+
+  place-le : place_in i a ≤ length a
+  place-le = prefix_len-le-length (λ u. not (u.item == i)) a
+
+  place_front : Holds i a → place_in i (a ++ b) ≡ place_in i a
+  place_front h = grind (arith, nat_tests, place)
+
+  place_behind : length a ≤ place_in i a → place_in i (a ++ b) ≡ length a + place_in i b
+  place_behind h = grind (arith, nat_tests, place, place-le)
+
+holds-swapped : (i : ℕ) (a b : List Use) → Holds i (a ++ b) → Holds i (b ++ a)
+holds-swapped i a b h =
+    grind (arith, nat_tests, place i a b, place i b a, place-le i a b, place-le i b a, length-append a b, length-append b a)
+
+-- turned to an item of one half, both orders of the halves are one list
+halves-turned : (i : ℕ) (a b : List Use) → Holds i a → length b ≤ place_in i b → from_item i (b ++ a) ≡ from_item i (a ++ b)
+halves-turned i a b h k =
+    let before : place_in i a ≤ length a = omega arith in
+    rw (place_front i a b h, place_behind i b a k, drop-append-add, take-append-add, drop-append-le, take-append-le)
+    (sym (append_assoc (drop (place_in i a) a) b (take (place_in i a) a)))
+
+held_use : (i : ℕ) (us : List Use) → Holds i us → (u : Use) × IsIn us u × (u.item ≡ i)
+held_use i us h =
+    let none : Use = record { item = 0; colour = 0 } in
+    let u = get_or us (place_in i us) none in (
+      u,
+      in-contains us u (place_in i us, h, get_or_default us (place_in i us) u none h),
+      eqb-true u.item i (passes_at_first (λ v. v.item == i) us none h),
+    )
+
+one_half : (i : ℕ) (a b : List Use) → DifferInItems (a ++ b) → Holds i a → Holds i b → ⊥
+one_half i a b d h k =
+    let u = held_use i a h in
+    let v = held_use i b k in
+    (EachTwo-parts (λ u v. u.item ≢ v.item) a b d).2 u.0 v.0 u.1 v.1 (u.2 ∙ sym v.2)
+
+-- turning to an item gives one list for all rotations
+swapped-turned : (i : ℕ) (a b : List Use) → DifferInItems (a ++ b) → Holds i (a ++ b)
+    → from_item i (b ++ a) ≡ from_item i (a ++ b)
+swapped-turned i a b d h = elim (cases_lt (place_in i a) (length a)) [
+  | inl k ↦ halves-turned i a b k (elim (cases_lt (place_in i b) (length b))
+      [ inl l ↦ absurd (one_half i a b d k l) | inr l ↦ l ])
+  | inr k ↦ sym (halves-turned i b a (omega (arith, h, place_behind i a b k, length-append a b)) k)
+]
+
+-- ---- rotations
+
+holds-turned : (i k : ℕ) (us : List Use) → Holds i us → Holds i (rotated_at k us)
+holds-turned i k us h = holds-swapped i (take k us) (drop k us) (subst (Holds i) (sym (take-append-drop k us)) h)
+
+turned-holds : (i k : ℕ) (us : List Use) → Holds i (rotated_at k us) → Holds i us
+turned-holds i k us h = subst (Holds i) (take-append-drop k us) (holds-swapped i (drop k us) (take k us) h)
+
+item-turned : (i k : ℕ) (us : List Use) → DifferInItems us → Holds i us → from_item i (rotated_at k us) ≡ from_item i us
+item-turned i k us =
+    subst (λ vs. DifferInItems vs → Holds i vs → from_item i (rotated_at k us) ≡ from_item i vs) (take-append-drop k us)
+    (swapped-turned i (take k us) (drop k us))
+
+-- a rotation is what is turned to its first item
+pub turned-first : (u : Use) (us : List Use) → from_item u.item (u ∷ us) ≡ u ∷ us
+turned-first u us = let own : (u.item == u.item) ≡ true = eq-eqb u.item u.item refl in rw own (append-nil (u ∷ us))
+
+first-held : (u : Use) (us : List Use) → Holds u.item (u ∷ us)
+first-held u us = let own : (u.item == u.item) ≡ true = eq-eqb u.item u.item refl in rw own (omega arith)
+
+holds-behind : (i : ℕ) (u : Use) (us : List Use) → Holds i us → Holds i (u ∷ us)
+holds-behind i u us h = grind (arith, nat_tests)
+
+-- ---- the least item
 
 fold-min : (a b : ℕ) (xs : List ℕ) → fold min (min a b) xs ≡ min a (fold min b xs)
 fold-min a b [] = refl
@@ -62,295 +121,112 @@ fold-min a b (x ∷ xs) =
 least_of-cons : (u v : Use) (us : List Use) → least_of (u ∷ v ∷ us) ≡ min u.item (least_of (v ∷ us))
 least_of-cons u v us = fold-min u.item v.item (map (λ w. w.item) us)
 
--- the two pieces of a rotation, put behind nothing
-pub class_of-pieces : (us x y a b c : List Use) (k least : ℕ) → least ≡ least_of us → k ≡ place_in least us
-    → y ≡ take k us → x ≡ drop k us → a ≡ [] → b ≡ a ++ x → c ≡ b ++ y → c ≡ class_of us
-class_of-pieces us x y a b c k least l p ey ex f g h =
-    let front : b ≡ drop k us = g ∙ ap₂ (λ s t. s ++ t) f ex in
-    h ∙ ap₂ (λ s t. s ++ t) front ey ∙ ap (λ j. rotated_at j us) p ∙ ap (λ i. from_item i us) l
-
--- whether uses hold item i
-abbrev pub has : ℕ → List Use → Bool
-has i us = list_any (λ u. u.item == i) us
-
-abbrev pub DifferInItems : List Use → Type 0
-DifferInItems us = EachTwo (λ u v. u.item ≢ v.item) us
-
-pub assoc : (a b c : List Use) → (a ++ b) ++ c ≡ a ++ (b ++ c)
-assoc [] b c = refl
-assoc (x ∷ a) b c = ap (λ t. x ∷ t) (assoc a b c)
-
-pub behind-lacks : (i : ℕ) (a b : List Use) → has i a ≡ false → behind_item i (a ++ b) ≡ behind_item i b
-behind-lacks i [] b h = refl
-behind-lacks i (u ∷ a) b h =
-    elim (u.item == i) as (λ t. (t || has i a) ≡ false
-    → cond t (u ∷ (a ++ b)) (behind_item i (a ++ b)) ≡ behind_item i b) [
-      | true ↦ λ k. cc
-      | false ↦ λ k. behind-lacks i a b k
-    ] h
-
-pub before-lacks : (i : ℕ) (a b : List Use) → has i a ≡ false → before_item i (a ++ b) ≡ a ++ before_item i b
-before-lacks i [] b h = refl
-before-lacks i (u ∷ a) b h =
-    elim (u.item == i) as (λ t. (t || has i a) ≡ false
-    → cond t [] (u ∷ before_item i (a ++ b)) ≡ u ∷ (a ++ before_item i b)) [
-      | true ↦ λ k. cc
-      | false ↦ λ k. ap (λ t. u ∷ t) (before-lacks i a b k)
-    ] h
-
-pub behind-has : (i : ℕ) (a b : List Use) → has i a ≡ true → behind_item i (a ++ b) ≡ behind_item i a ++ b
-behind-has i [] b h = cc
-behind-has i (u ∷ a) b h =
-    elim (u.item == i) as (λ t. (t || has i a) ≡ true
-    → cond t (u ∷ (a ++ b)) (behind_item i (a ++ b)) ≡ cond t (u ∷ a) (behind_item i a) ++ b) [
-      | true ↦ λ k. refl
-      | false ↦ λ k. behind-has i a b k
-    ] h
-
-pub before-has : (i : ℕ) (a b : List Use) → has i a ≡ true → before_item i (a ++ b) ≡ before_item i a
-before-has i [] b h = cc
-before-has i (u ∷ a) b h =
-    elim (u.item == i) as (λ t. (t || has i a) ≡ true
-    → cond t [] (u ∷ before_item i (a ++ b)) ≡ cond t [] (u ∷ before_item i a)) [
-      | true ↦ λ k. refl
-      | false ↦ λ k. ap (λ t. u ∷ t) (before-has i a b k)
-    ] h
-
-pub turned_to-halves : (i : ℕ) (a b : List Use) → has i a ≡ true → has i b ≡ false
-    → turned_to i (b ++ a) ≡ turned_to i (a ++ b)
-turned_to-halves i a b h k =
-    ap₂ (λ x y. x ++ y) (behind-lacks i b a k) (before-lacks i b a k)
-    ∙ sym (assoc (behind_item i a) b (before_item i a))
-    ∙ sym (ap₂ (λ x y. x ++ y) (behind-has i a b h) (before-has i a b h))
-
-pub has-append : (i : ℕ) (a b : List Use) → has i (a ++ b) ≡ (has i a || has i b)
-has-append i [] b = refl
-has-append i (u ∷ a) b =
-    elim (u.item == i) as (λ t. (t || has i (a ++ b)) ≡ ((t || has i a) || has i b))
-    [ true ↦ refl | false ↦ has-append i a b ]
-
--- some use has the item
-pub has-in : (i : ℕ) (a : List Use) → has i a ≡ true → (u : Use) × IsIn a u × (u.item ≡ i)
-has-in i [] h = cc
-has-in i (u ∷ a) h =
-    elim (u.item == i) as (λ t. (u.item == i) ≡ t → (t || has i a) ≡ true → (v : Use) × IsIn (u ∷ a) v × (v.item ≡ i)) [
-      | true ↦ λ e k. (u, inl refl, eqb-true u.item i e)
-      | false ↦ λ e k. let later = has-in i a k in (later.0, inr later.1, later.2)
-    ] refl h
-
-pub in-has : (a : List Use) (u : Use) → IsIn a u → has u.item a ≡ true
-in-has [] u h = absurd h
-in-has (v ∷ a) u (inl q) = let same : v.item ≡ u.item = ap (λ (z : Use). z.item) q in
-    let here : (v.item == u.item) ≡ true = eq-eqb v.item u.item same in rw here refl
-in-has (v ∷ a) u (inr q) = let later = in-has a u q in
-    elim (v.item == u.item) as (λ t. (t || has u.item a) ≡ true) [ true ↦ refl | false ↦ later ]
-
-pub EachTwo-between : (a b : List Use) (u v : Use) → DifferInItems (a ++ b) → IsIn a u → IsIn b v → u.item ≢ v.item
-EachTwo-between [] b u v d h k = absurd h
-EachTwo-between (x ∷ a) b u v d (inl q) k =
-    subst (λ (z : Use). z.item ≢ v.item) q (each_in (λ y. x.item ≢ y.item) (a ++ b) v d.0 (in_right a b v k))
-  where
-    in_right : (a b : List Use) (v : Use) → IsIn b v → IsIn (a ++ b) v
-    in_right [] b v k = k
-    in_right (x ∷ a) b v k = inr (in_right a b v k)
-EachTwo-between (x ∷ a) b u v d (inr q) k = EachTwo-between a b u v d.1 q k
-
--- an item stands in one half alone
-pub one_half : (i : ℕ) (a b : List Use) → DifferInItems (a ++ b) → has i a ≡ true → has i b ≡ false
-one_half i a b d h =
-    elim (has i b) as (λ t. has i b ≡ t → t ≡ false) [
-      | true ↦ λ k. (let u = has-in i a h in let v = has-in i b k in absurd
-          (EachTwo-between a b u.0 v.0 d u.1 v.1 (u.2 ∙ sym v.2)))
-      | false ↦ λ k. refl
-    ] refl
-
--- Turning to an item gives one list for all rotations.
-pub turned_to-rotated : (i : ℕ) (a b : List Use) → DifferInItems (a ++ b) → has i (a ++ b) ≡ true
-    → turned_to i (b ++ a) ≡ turned_to i (a ++ b)
-turned_to-rotated i a b d h =
-    elim (has i a) as (λ t. has i a ≡ t → turned_to i (b ++ a) ≡ turned_to i (a ++ b)) [
-      | true ↦ λ k. turned_to-halves i a b k (one_half i a b d k)
-      | false ↦ λ k. (let other : has i b ≡ true = other_half k in sym (turned_to-halves i b a other k))
-    ] refl
-  where
-    other_half : has i a ≡ false → has i b ≡ true
-    other_half k =
-        let e : (has i a || has i b) ≡ true = sym (has-append i a b) ∙ h in subst (λ t. (t || has i b) ≡ true) k e
-
-pub least-append : (u v : Use) (a b : List Use)
+least-append : (u v : Use) (a b : List Use)
     → least_of ((u ∷ a) ++ (v ∷ b)) ≡ min (least_of (u ∷ a)) (least_of (v ∷ b))
 least-append u v [] b = least_of-cons u v b
 least-append u v (w ∷ a) b = omega (arith, least-append w v a b, least_of-cons u w (a ++ v ∷ b), least_of-cons u w a)
 
-pub least-rotated : (a b : List Use) → least_of (b ++ a) ≡ least_of (a ++ b)
-least-rotated [] b = ap least_of (append-nil b)
-least-rotated (u ∷ a) [] = ap least_of (sym (append-nil (u ∷ a)))
-least-rotated (u ∷ a) (v ∷ b) = omega (arith, least-append u v a b, least-append v u b a)
+least-swapped : (a b : List Use) → least_of (b ++ a) ≡ least_of (a ++ b)
+least-swapped [] b = ap least_of (append-nil b)
+least-swapped (u ∷ a) [] = ap least_of (sym (append-nil (u ∷ a)))
+least-swapped (u ∷ a) (v ∷ b) = omega (arith, least-append u v a b, least-append v u b a)
 
-pub has-least : (u : Use) (us : List Use) → has (least_of (u ∷ us)) (u ∷ us) ≡ true
-has-least u [] = let e : (u.item == u.item) ≡ true = eq-eqb u.item u.item refl in rw e refl
-has-least u (v ∷ us) =
-    subst (λ m. has m (u ∷ v ∷ us) ≡ true) (sym (least_of-cons u v us))
-    (by_case (has-least v us) (u.item == least) refl)
-  where
-    least : ℕ
-    least = min u.item (least_of (v ∷ us))
+least-held : (u : Use) (us : List Use) → Holds (least_of (u ∷ us)) (u ∷ us)
+least-held u [] = first-held u []
+least-held u (v ∷ us) = elim (cases_eq (least_of (u ∷ v ∷ us)) u.item) [
+  | inl e ↦ subst (λ m. Holds m (u ∷ v ∷ us)) (sym e) (first-held u (v ∷ us))
+  | inr e ↦
+      let rest : least_of (u ∷ v ∷ us) ≡ least_of (v ∷ us) = omega (arith, least_of-cons u v us, e) in
+      subst (λ m. Holds m (u ∷ v ∷ us)) (sym rest) (holds-behind (least_of (v ∷ us)) u (v ∷ us) (least-held v us))
+]
 
-    by_case : has (least_of (v ∷ us)) (v ∷ us) ≡ true → (t : Bool) → (u.item == least) ≡ t
-        → (t || has least (v ∷ us)) ≡ true
-    by_case later true e = refl
-    by_case later false e =
-        let ne : u.item ≢ least = λ q. (let z = eq-eqb u.item least q in cc) in
-        let is : least_of (v ∷ us) ≡ least = omega (arith, ne) in
-        subst (λ m. has m (v ∷ us) ≡ true) is later
+-- ---- classes
 
--- Rotations have the same class.
-pub class-rotated : (a b : List Use) → DifferInItems (a ++ b) → class_of (b ++ a) ≡ class_of (a ++ b)
-class-rotated [] b d = ap class_of (append-nil b)
-class-rotated (u ∷ a) b d =
-    class_of-turned (b ++ (u ∷ a)) ∙ ap (λ m. turned_to m (b ++ (u ∷ a))) (least-rotated (u ∷ a) b)
-    ∙ turned_to-rotated (least_of ((u ∷ a) ++ b)) (u ∷ a) b d (has-least u (a ++ b))
-    ∙ sym (class_of-turned ((u ∷ a) ++ b))
-
--- turning to an item is a rotation
-pub turned_to-place : (i : ℕ) (us : List Use) → has i us ≡ true → (place_in i us < length us)
-    × (rotated_at (place_in i us) us ≡ turned_to i us)
-turned_to-place i us h = (in_range us h, from_item-turned i us)
-  where
-    in_range : (us : List Use) → has i us ≡ true → place_in i us < length us
-    in_range [] h = cc
-    in_range (u ∷ us) h =
-        elim (u.item == i) as (λ t. (t || has i us) ≡ true → cond (not t) (1 + place_in i us) 0 < suc (length us))
-        [ true ↦ λ k. omega arith | false ↦ λ k. omega (arith, in_range us k) ] h
-
--- A rotation is what is turned to its first item.
-pub turned_to-first : (u : Use) (us : List Use) → turned_to u.item (u ∷ us) ≡ u ∷ us
-turned_to-first u us = let e : (u.item == u.item) ≡ true = eq-eqb u.item u.item refl in rw e (append-nil (u ∷ us))
-
-pub has-swapped : (i : ℕ) (a b : List Use) → has i (b ++ a) ≡ has i (a ++ b)
-has-swapped i a b = has-append i b a
-    ∙ elim (has i a) as (λ t. (has i b || t) ≡ (t || has i b)) [
-      | true ↦ elim (has i b) as (λ t. (t || true) ≡ true) [ true ↦ refl | false ↦ refl ]
-      | false ↦ elim (has i b) as
-          (λ t. (t || false) ≡ t) [ true ↦ refl | false ↦ refl ]
-    ] ∙ sym (has-append i a b)
-
--- the halves of a rotation
-pub halves : (k : ℕ) (us : List Use) → take k us ++ drop k us ≡ us
-halves k us = take-append-drop k us
-
-pub DifferInItems-halves : (k : ℕ) (us : List Use) → DifferInItems us → DifferInItems (take k us ++ drop k us)
-DifferInItems-halves k us d = subst (λ v. DifferInItems v) (sym (halves k us)) d
-
-two_front : (us vs : List Use) → DifferInItems (us ++ vs) → DifferInItems us × DifferInItems vs
-two_front [] vs d = (tt, d)
-two_front (u ∷ us) vs d = let later = two_front us vs d.1 in let first = each_front (λ v. u.item ≢ v.item) us vs d.0 in
-    ((first.0, later.0), later.1)
-
-differ-swapped : (us vs : List Use) → DifferInItems (us ++ vs) → DifferInItems (vs ++ us)
-differ-swapped us vs d = let two = two_front us vs d in
-    EachTwo-append (λ u v. u.item ≢ v.item) vs us two.1 two.0 (λ x y j k e. EachTwo-between us vs y x d k j (sym e))
-
--- the uses of a rotation differ exactly where those of the other do
-pub differ-turned : (k : ℕ) (us : List Use) → DifferInItems us → DifferInItems (rotated_at k us)
-differ-turned k us d = differ-swapped (take k us) (drop k us) (DifferInItems-halves k us d)
-
-pub turned-differ : (k : ℕ) (us : List Use) → DifferInItems (rotated_at k us) → DifferInItems us
-turned-differ k us d = subst (λ v. DifferInItems v) (halves k us) (differ-swapped (drop k us) (take k us) d)
+-- where the least item stands: a class is the rotation from there
+abbrev pub class_start : List Use → ℕ
+class_start us = place_in (least_of us) us
 
 pub class-turned : (k : ℕ) (us : List Use) → DifferInItems us → class_of (rotated_at k us) ≡ class_of us
-class-turned k us d = class-rotated (take k us) (drop k us) (DifferInItems-halves k us d) ∙ ap class_of (halves k us)
-
-pub turned_to-turned : (i k : ℕ) (us : List Use) → DifferInItems us → has i us ≡ true
-    → turned_to i (rotated_at k us) ≡ turned_to i us
-turned_to-turned i k us d h =
-    turned_to-rotated i (take k us) (drop k us) (DifferInItems-halves k us d) (ap (has i) (halves k us) ∙ h)
-    ∙ ap (turned_to i) (halves k us)
-
-pub has-turned : (i k : ℕ) (us : List Use) → has i (rotated_at k us) ≡ has i us
-has-turned i k us = has-swapped i (take k us) (drop k us) ∙ ap (has i) (halves k us)
-
--- a class is a rotation of the uses
-pub class-place : (us : List Use) → (k : ℕ) × (class_of us ≡ rotated_at k us)
-class-place us = (place_in (least_of us) us, refl)
-
-pub has-class : (i : ℕ) (us : List Use) → has i (class_of us) ≡ has i us
-has-class i us = let k = class-place us in ap (has i) k.1 ∙ has-turned i k.0 us
-
-pub turned_to-class : (i : ℕ) (us : List Use) → DifferInItems us → has i us ≡ true
-    → turned_to i (class_of us) ≡ turned_to i us
-turned_to-class i us d h = let k = class-place us in ap (turned_to i) k.1 ∙ turned_to-turned i k.0 us d h
+class-turned zero [] d = refl
+class-turned (suc k) [] d = refl
+class-turned k (u ∷ us) d =
+    let vs = u ∷ us in
+    let least : least_of (rotated_at k vs) ≡ least_of vs =
+    least-swapped (take k vs) (drop k vs) ∙ ap least_of (take-append-drop k vs) in
+    ap (λ i. from_item i (rotated_at k vs)) least ∙ item-turned (least_of vs) k vs d (least-held u us)
 
 -- Uses of one class hold the same items, and turned to one of them they are the same.
-pub has-alike : (us vs : List Use) (i : ℕ) → class_of us ≡ class_of vs → has i us ≡ has i vs
-has-alike us vs i q = sym (has-class i us) ∙ ap (has i) q ∙ has-class i vs
+module _ (us vs : List Use) (i : ℕ) (q : class_of us ≡ class_of vs) (h : Holds i us) where
+  holds-alike : Holds i vs
+  holds-alike = turned-holds i (class_start vs) vs (subst (Holds i) q (holds-turned i (class_start us) us h))
 
-pub turned_to-alike : (us vs : List Use) (i : ℕ) → DifferInItems us → DifferInItems vs → class_of us ≡ class_of vs
-    → has i us ≡ true → turned_to i us ≡ turned_to i vs
-turned_to-alike us vs i d e q h =
-    sym (turned_to-class i us d h) ∙ ap (turned_to i) q ∙ turned_to-class i vs e (sym (has-alike us vs i q) ∙ h)
+  turned_to-alike : DifferInItems us → DifferInItems vs → from_item i us ≡ from_item i vs
+  turned_to-alike d e =
+      sym (item-turned i (class_start us) us d h) ∙ ap (from_item i) q
+      ∙ item-turned i (class_start vs) vs e holds-alike
 
 -- A rotation of uses is a rotation of the others of their class.
 pub turned-alike : (us vs : List Use) (k : ℕ) → DifferInItems us → DifferInItems vs → class_of us ≡ class_of vs
     → k < length us → (j : ℕ) × (j < length vs) × (rotated_at k us ≡ rotated_at j vs)
 turned-alike us vs k d e q l = by_first (rotated_at k us) refl
   where
-    some : rotated_at k us ≡ [] → ⊥
-    some z =
-        (let n = ap (λ (x : List Use). length x) z in let m = length-append (drop k us) (take k us) in let o =
-        length-drop k us in omega (arith, n, m, o, l))
-
     by_first : (t : List Use) → rotated_at k us ≡ t → (j : ℕ) × (j < length vs) × (rotated_at k us ≡ rotated_at j vs)
-    by_first [] z = absurd (some z)
+    by_first [] z =
+        absurd (omega (arith, ap length z, length-append (drop k us) (take k us), length-drop k us, l))
     by_first (u ∷ rest) z =
-        let own : turned_to u.item (rotated_at k us) ≡ rotated_at k us =
-        ap (turned_to u.item) z ∙ turned_to-first u rest ∙ sym z in
-        let there : has u.item us ≡ true =
-        sym (has-turned u.item k us) ∙ ap (has u.item) z ∙ in-has (u ∷ rest) u (inl refl) in
-        let other : has u.item vs ≡ true = sym (has-alike us vs u.item q) ∙ there in
-        let at = turned_to-place u.item vs other in (
-          place_in u.item vs,
-          at.0,
-          sym own ∙ turned_to-turned u.item k us d there
-              ∙ turned_to-alike us vs u.item d e q there ∙ sym at.1,
+        let i : ℕ = u.item in
+        let there : Holds i us = turned-holds i k us (subst (Holds i) (sym z) (first-held u rest)) in (
+          place_in i vs,
+          holds-alike us vs i q there,
+          z ∙ sym (turned-first u rest) ∙ ap (from_item i) (sym z) ∙ item-turned i k us d there
+              ∙ turned_to-alike us vs i q there d e,
         )
 
-pub colour-lacks : (i : ℕ) (a b : List Use) → has i a ≡ false → colour_in (a ++ b) i ≡ colour_in b i
-colour-lacks i [] b h = refl
-colour-lacks i (u ∷ a) b h =
-    elim (u.item == i) as (λ t. (t || has i a) ≡ false → cond t (Some u.colour) (colour_in (a ++ b) i) ≡ colour_in b i)
-    [ true ↦ λ k. cc | false ↦ λ k. colour-lacks i a b k ] h
+-- ---- colours
 
-pub colour-has : (i : ℕ) (a b : List Use) → has i a ≡ true → colour_in (a ++ b) i ≡ colour_in a i
-colour-has i [] b h = cc
-colour-has i (u ∷ a) b h =
-    elim (u.item == i) as (λ t. (t || has i a) ≡ true
-    → cond t (Some u.colour) (colour_in (a ++ b) i) ≡ cond t (Some u.colour) (colour_in a i))
-    [ true ↦ λ k. refl | false ↦ λ k. colour-has i a b k ] h
+-- the colour of the first use
+abbrev first_colour : List Use → Option ℕ
+first_colour [] = None
+first_colour (u ∷ us) = Some u.colour
 
-pub colour-none : (i : ℕ) (a : List Use) → has i a ≡ false → colour_in a i ≡ None
-colour-none i [] h = refl
-colour-none i (u ∷ a) h =
-    elim (u.item == i) as (λ t. (t || has i a) ≡ false → cond t (Some u.colour) (colour_in a i) ≡ None)
-    [ true ↦ λ k. cc | false ↦ λ k. colour-none i a k ] h
+colour-first : (i : ℕ) (us : List Use) → colour_in us i ≡ first_colour (drop (place_in i us) us)
+colour-first i [] = refl
+colour-first i (u ∷ us) =
+    let next : 1 + place_in i us ≡ suc (place_in i us) = omega arith in
+    elim (u.item == i) as (λ t. cond t (Some u.colour) (colour_in us i)
+    ≡ first_colour (drop (cond (not t) (1 + place_in i us) 0) (u ∷ us)))
+    [ true ↦ refl | false ↦ rw next (colour-first i us) ]
 
-pub colour-rotated : (i : ℕ) (a b : List Use) → DifferInItems (a ++ b) → colour_in (b ++ a) i ≡ colour_in (a ++ b) i
-colour-rotated i a b d = by_case (has i a) (has i b) refl refl
-  where
-    by_case : (s t : Bool) → has i a ≡ s → has i b ≡ t → colour_in (b ++ a) i ≡ colour_in (a ++ b) i
-    by_case true true h k = (let z = one_half i a b d h in cc)
-    by_case true false h k = colour-lacks i b a k ∙ sym (colour-has i a b h)
-    by_case false true h k = colour-has i b a k ∙ sym (colour-lacks i a b h)
-    by_case false false h k =
-        colour-lacks i b a k ∙ colour-none i a h ∙ sym (colour-none i b k) ∙ sym (colour-lacks i a b h)
+first-append : (xs ys : List Use) → 0 < length xs → first_colour (xs ++ ys) ≡ first_colour xs
+first-append [] ys h = absurd (omega (arith, h))
+first-append (x ∷ xs) ys h = refl
+
+colour-held : (i : ℕ) (us : List Use) → Holds i us → colour_in us i ≡ first_colour (from_item i us)
+colour-held i us h =
+    colour-first i us ∙ sym (first-append (drop (place_in i us) us) (take (place_in i us) us)
+    (omega (arith, length-drop (place_in i us) us, h)))
+
+colour-lost : (i : ℕ) (us : List Use) → length us ≤ place_in i us → colour_in us i ≡ None
+colour-lost i us h = colour-first i us ∙ ap first_colour (drop_all (place_in i us) us h)
+
+colour-turned : (i k : ℕ) (us : List Use) → DifferInItems us → colour_in (rotated_at k us) i ≡ colour_in us i
+colour-turned i k us d = elim (cases_lt (place_in i us) (length us)) [
+  | inl h ↦ colour-held i (rotated_at k us) (holds-turned i k us h) ∙ ap first_colour (item-turned i k us d h)
+      ∙ sym (colour-held i us h)
+  | inr h ↦ colour-lost i (rotated_at k us)
+      (elim (cases_lt (place_in i (rotated_at k us)) (length (rotated_at k us)))
+      [ inl l ↦ absurd (omega (arith, h, turned-holds i k us l)) | inr l ↦ l ]) ∙ sym (colour-lost i us h)
+]
 
 -- Uses of one class give each item the same colour.
 pub colour-class : (i : ℕ) (us : List Use) → DifferInItems us → colour_in (class_of us) i ≡ colour_in us i
-colour-class i us d =
-    let k = class-place us in
-    ap (λ v. colour_in v i) k.1 ∙ colour-rotated i (take k.0 us) (drop k.0 us) (DifferInItems-halves k.0 us d)
-    ∙ ap (λ v. colour_in v i) (halves k.0 us)
+colour-class i us = colour-turned i (class_start us) us
 
 pub colour-alike : (us vs : List Use) (i : ℕ) → DifferInItems us → DifferInItems vs → class_of us ≡ class_of vs
     → colour_in us i ≡ colour_in vs i
 colour-alike us vs i d e q = sym (colour-class i us d) ∙ ap (λ v. colour_in v i) q ∙ colour-class i vs e
+
+-- the two pieces of a rotation, put behind nothing
+pub class_of-pieces : (us x y a b c : List Use) (k least : ℕ) → least ≡ least_of us → k ≡ place_in least us
+    → y ≡ take k us → x ≡ drop k us → a ≡ [] → b ≡ a ++ x → c ≡ b ++ y → c ≡ class_of us
+class_of-pieces us x y a b c k least l p ey ex f g h = rw (h, g, f, ex, ey, p, l) refl

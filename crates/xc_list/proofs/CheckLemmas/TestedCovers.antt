@@ -4,7 +4,8 @@ use Rattle.std.proofs.Common.{Option, Some, None, refl, sym, ap, ◌∙◌, arit
 use Rattle.std.specs.Prelude.{All, AllPairs, nat_le, ◌||◌}
 use Rattle.std.specs.List.{list_all, list_any, AllByRecursion}
 use Rattle.std.proofs.lemmas.Bool.Decides.{nat_tests}
-use Rattle.std.proofs.lemmas.List.Elements.{recursion_from_All}
+use Rattle.std.proofs.lemmas.List.Elements.{recursion_from_All, All-from_recursion, All-contains}
+use Rattle.std.proofs.lemmas.List.Sums.{AllPass-from_list_all, list_all-from_AllPass}
 use Rattle.xc_input.specs.declared.problem.Use.{Use}
 use Rattle.xc_input.specs.declared.problem.Bounds.{Bounds}
 use Rattle.xc_input.specs.Problem.{Puzzle, IsValid, IsItem, IsOption, IsSecondary, IsSoundUse, bounds_at, colour_in}
@@ -13,7 +14,8 @@ use Rattle.xc_search.specs.Cover.{IsCover, times_held}
 use Rattle.xc_input.proofs.FaultLemmas.BooleanTests.{and_left, and_right}
 use Rattle.xc_input.proofs.lists.EachTwo.{EachTwo}
 use Rattle.std.proofs.lemmas.Option.{slice_get_within}
-use Rattle.xc_input.proofs.lists.Members.{IsIn, each_in, in-contains, contains-in}
+use Rattle.xc_input.proofs.lists.Members.{IsIn, each_in, each_from, in-contains, contains-in}
+use Rattle.xc_list.proofs.CheckLemmas.ListedNumbers.{any-in, in-any}
 use Rattle.xc_list.specs.inner.Tested.{is_colour_met, is_use_met, are_uses_met, do_agree, is_within, is_held_within}
 use Rattle.xc_list.proofs.CheckLemmas.DecidedByClasses.{option-sound, option-differs}
 use Rattle.xc_list.proofs.CheckLemmas.Rotations.{DifferInItems}
@@ -21,13 +23,10 @@ use Rattle.xc_list.proofs.CheckLemmas.Rotations.{DifferInItems}
 -- ---- tests of lists
 
 each-passes : {X : Type 0} (f : X → Bool) (xs : List X) → ((x : X) → IsIn xs x → f x ≡ true) → list_all f xs ≡ true
-each-passes f [] h = refl
-each-passes f (x ∷ xs) h = rw (h x (inl refl)) (each-passes f xs (λ y k. h y (inr k)))
+each-passes f xs h = list_all-from_AllPass f xs (All-from_recursion (λ x. f x ≡ true) xs (each_from (λ x. f x ≡ true) xs h))
 
 passes-at : {X : Type 0} (f : X → Bool) (xs : List X) (x : X) → list_all f xs ≡ true → IsIn xs x → f x ≡ true
-passes-at f [] x h k = absurd k
-passes-at f (y ∷ xs) x h (inl q) = subst (λ z. f z ≡ true) q (and_left _ _ h)
-passes-at f (y ∷ xs) x h (inr q) = passes-at f xs x (and_right _ _ h) q
+passes-at f xs x h k = All-contains (λ x. f x ≡ true) xs x (AllPass-from_list_all f xs h) (contains-in xs x k)
 
 -- ---- colours
 
@@ -132,29 +131,17 @@ agree p v a b known h =
 -- a number that stands again behind the first
 pub stands_again : (x : ℕ) (others rest : List ℕ) → rest ≡ x ∷ others → list_any (λ y. y == x) others ≡ true
     → EachTwo (λ a b. a ≢ b) rest → ⊥
-stands_again x others rest e h apart = again others h (subst (EachTwo (λ a b. a ≢ b)) e apart).0
-  where
-    again : (ys : List ℕ) → list_any (λ y. y == x) ys ≡ true → AllByRecursion (λ y. x ≢ y) ys → ⊥
-    again [] k a = cc
-    again (y ∷ ys) k a =
-        elim (y == x) as (λ t. (y == x) ≡ t → (t || list_any (λ z. z == x) ys) ≡ true → ⊥) [
-          | true ↦ λ q m. a.0 (sym (eqb-true _ _ q))
-          | false ↦ λ q m. again ys m a.1
-        ] refl k
+stands_again x others rest e h apart =
+    let y = in-any (λ y. y == x) others h in
+    each_in (λ y. x ≢ y) others y.0 (subst (EachTwo (λ a b. a ≢ b)) e apart).0 y.1 (sym (eqb-true y.0 x y.2))
 
 -- one that doesn't
 pub stands_alone : (x : ℕ) (others rest : List ℕ) → rest ≡ x ∷ others → list_any (λ y. y == x) others ≡ false
     → EachTwo (λ a b. a ≢ b) others → EachTwo (λ a b. a ≢ b) rest
-stands_alone x others rest e h apart = subst (EachTwo (λ a b. a ≢ b)) (sym e) (alone others h, apart)
-  where
-    alone : (ys : List ℕ) → list_any (λ y. y == x) ys ≡ false → AllByRecursion (λ y. x ≢ y) ys
-    alone [] k = tt
-    alone (y ∷ ys) k =
-        elim (y == x) as (λ t. (y == x) ≡ t → (t || list_any (λ z. z == x) ys) ≡ false
-        → AllByRecursion (λ z. x ≢ z) (y ∷ ys)) [
-          | true ↦ λ q m. cc
-          | false ↦ λ q m. (λ z. (let t = eq-eqb _ _ (sym z) in cc), alone ys m)
-        ] refl k
+stands_alone x others rest e h apart =
+    let alone : AllByRecursion (λ y. x ≢ y) others =
+    each_from (λ y. x ≢ y) others (λ y k q. let t = any-in (λ y. y == x) others y k (eq-eqb y x (sym q)) in cc) in
+    subst (EachTwo (λ a b. a ≢ b)) (sym e) (alone, apart)
 
 -- ---- covers
 

@@ -4,7 +4,7 @@ use Rattle.std.proofs.lemmas.List.{take_more}
 use Rattle.xc_input.specs.Problem.{IsPrimary}
 use Rattle.xc_input.specs.ItemBounds.{bounds_of}
 use Rattle.xc_input.proofs.OptionLemmas.FlatParts.{numbered_get-at}
-use Rattle.xc_list.proofs.CheckLemmas.CountedClasses.{slice_get-at}
+use Rattle.std.proofs.lemmas.Option.{get_or_from_slice_get}
 use Rattle.xc_list.proofs.checker.cover_counter.primary_bounds.Goals as goal
 
 pub loop-i-preserved : goal.loop-i-preserved
@@ -16,7 +16,7 @@ loop-i-preserved c =
     let is_primary : IsPrimary c.args.problem.now.puzzle (i + 1) =
     (omega arith, omega (arith, c.primary-i-end.ensures.value, c.loop-i-test.true)) in
     let read : get_or bounds i blank ≡ bounds_of item =
-    slice_get-at bounds i (bounds_of item) blank
+    get_or_from_slice_get bounds i (bounds_of item) blank
     (sym (numbered_get-at bounds (i + 1) i refl) ∙ c.item.ensures.bounds is_primary) in
     c.in_ok-push.ensures.items ∙ ap (λ l. l ++ c.bounds.result ∷ []) c.loop-i.invariant
     ∙ ap (λ b. take i bounds ++ b ∷ []) (c.bounds.ensures ∙ sym read)

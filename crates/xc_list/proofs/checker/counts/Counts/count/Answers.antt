@@ -1,6 +1,7 @@
 use Rattle.std.proofs.Common.{ℕ, List, arith, ◌≡◌, ◌+◌, ◌<◌, ◌≢◌, [], ◌∷◌, length, get_or, set, take, replicate, sym}
 use Rattle.std.proofs.Common.{◌∙◌, ap, subst}
 use Rattle.std.proofs.lemmas.List.{get_or_default, length-replicate}
+use Rattle.std.proofs.lemmas.Option.{get_or_from_slice_get}
 use Rattle.std.proofs.lemmas.List.Elements.{recursion_from_All}
 use Rattle.xc_input.specs.declared.problem.Use.{Use}
 use Rattle.xc_input.specs.Problem.{item_count}
@@ -8,7 +9,7 @@ use Rattle.xc_input.proofs.lists.EachTwo.{AllPairs-from_each_two}
 use Rattle.xc_list.specs.inner.CoverCounts.{item_places, added, coloured, raised, uses_at, uses_in}
 use Rattle.xc_list.proofs.CheckLemmas.HeldItems.{length-raised, length-coloured}
 use Rattle.xc_list.proofs.CheckLemmas.Rotations.{DifferInItems}
-use Rattle.xc_list.proofs.CheckLemmas.CountedClasses.{AreBelow, known_items, classes_usable, slice_get-at, added_few}
+use Rattle.xc_list.proofs.CheckLemmas.CountedClasses.{AreBelow, known_items, classes_usable, added_few}
 use Rattle.xc_list.proofs.CheckLemmas.CountedClasses.{added_class_more, coloured_class_more, raised_few, raised_more}
 use Rattle.xc_list.proofs.checker.counts.Counts.count.Goals as goal
 
@@ -55,7 +56,7 @@ add-requires-clause-distinct c =
     let i = c.loop-class.class-index in
     let k = get_or c.args.chosen.now i 0 in
     let us = c.uses.result.now in
-    let is : uses_at b.classes k ≡ us = slice_get-at b.classes k us [] c.uses.ensures.value in
+    let is : uses_at b.classes k ≡ us = get_or_from_slice_get b.classes k us [] c.uses.ensures.value in
     let usable =
     classes_usable b c.requires.indexed.sound c.requires.indexed.classes k
     (c.requires.known i 0 c.loop-class-test.true) in
