@@ -1,6 +1,4 @@
 -- What the tokens of an option line leave behind, one after another.
-use Rattle.std.proofs.lemmas.Bool.Decides.{nat_tests}
-use Rattle.std.proofs.lemmas.Grind.{common_steps}
 use Rattle.std.proofs.Common.{◌≡◌, ℕ, ◌+◌, ◌-◌, ◌≤◌, List, [], ◌∷◌, ◌++◌, None, Bool, true, false, length, map, get_or}
 use Rattle.std.proofs.Common.{set, drop, All, refl, ap, ◌∙◌, sym, subst, arith, length-append, length-set, append-nil}
 use Rattle.std.proofs.Common.{append_assoc}

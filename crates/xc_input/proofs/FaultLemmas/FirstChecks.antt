@@ -19,8 +19,9 @@ pub fails : (cs : List (FaultKind × Bool)) → first cs ≡ None → (k : Fault
 fails [] e k = refl
 fails (c ∷ cs) e k =
     let rest : first cs ≡ None → test k cs ≡ false = λ f. fails cs f k in
-    elim c.1 as (λ t. (if t then Some c.0 else first cs) ≡ None → (if sameb the_type k c.0 then t else test k cs) ≡ false)
-    [ true ↦ λ f. absurd (cc) | false ↦ λ f. grind (arith) ] e
+    elim c.1 as (λ t. (if t then Some c.0 else first cs) ≡ None
+    → (if sameb the_type k c.0 then t else test k cs) ≡ false)
+    [ true ↦ λ f. absurd (cc) | false ↦ λ f. grind arith ] e
 
 -- a check that holds among the first ones
 pub first-front : {A : Type 0} (a b : List (A × Bool)) (k : A) → first a ≡ Some k → first (a ++ b) ≡ Some k

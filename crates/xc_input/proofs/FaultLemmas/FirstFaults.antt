@@ -210,7 +210,13 @@ module _ (kind : Kind) (entries : List Entry) (primaries : ℕ) where
   stays-started : (n : ℕ) (lines : List (List ℕ)) (options : List (List Use)) (colours : List (List ℕ))
       (ignored : List ℕ) → (stage_from kind n (S entries primaries options colours ignored) lines).started ≡ true
   stays-started n [] options colours ignored = refl
-  stays-started n (line ∷ lines) options colours ignored = grind (arith, nat_tests, stays-started (n + 1) lines options colours ignored, stays-started (n + 1) lines (options ++ numbered colours (lineuses kind entries primaries line) ∷ []) (with_uses colours (lineuses kind entries primaries line)) ignored, stays-started (n + 1) lines options colours (ignored ++ line_number (n + 1) ∷ []), by-line kind entries primaries (line_number (n + 1)) options colours ignored line, lineuses kind entries primaries line)
+  stays-started n (line ∷ lines) options colours ignored =
+      by-line kind entries primaries (line_number (n + 1)) options colours ignored line
+      (λ st. (stage_from kind (n + 1) st lines).started ≡ true)
+      (λ f. stays-started (n + 1) lines options colours ignored)
+      (λ f g. stays-started (n + 1) lines (options ++ numbered colours (lineuses kind entries primaries line) ∷ [])
+      (with_uses colours (lineuses kind entries primaries line)) ignored)
+      (λ f g. stays-started (n + 1) lines options colours (ignored ++ line_number (n + 1) ∷ []))
 
 -- ALL LINES
 fault_or-same : (n : ℕ) (k : Option FaultKind) (a b : Option (ℕ × FaultKind)) → (k ≡ None → a ≡ b)

@@ -1,5 +1,4 @@
 -- What stands for a problem as one kind stands for it as each kind that allows more.
-use Rattle.std.proofs.lemmas.Grind.{common_steps}
 use Rattle.std.proofs.Common.{arith}
 use Rattle.std.proofs.lemmas.Bool.Decides.{nat_tests}
 use Rattle.std.proofs.Common.{◌≡◌, ℕ, ◌+◌, List, [], ◌∷◌, Bool, true, false, length, inl, inr}
@@ -55,9 +54,21 @@ module _ (a b : Kind) (bounds : is_bounds a ≡ true → is_bounds b ≡ true)
   options-also names primaries n used cs [] os ig last h = h
   options-also names primaries n used cs (line ∷ lines) os ig last (z, inl (f, r)) =
       (z, inl (f, options-also names primaries (n + 1) used cs lines os ig last r))
-  options-also names primaries n used cs (line ∷ lines) os ig last (z, inr (us, f, u, inl (others, none, i, r))) = grind (arith, nat_tests, options-also names primaries (n + 1) used cs lines os others last r, uses-also names primaries (tokens line) us u.0)
+  options-also names primaries n used cs (line ∷ lines) os ig last (z, inr (us, f, u, inl (others, none, i, r))) =
+      grind (
+        arith,
+        nat_tests,
+        options-also names primaries (n + 1) used cs lines os others last r,
+        uses-also names primaries (tokens line) us u.0,
+      )
   options-also names primaries n used cs (line ∷ lines) os ig last
-      (z, inr (us, f, u, inr (others, prim, room, o, r))) = grind (arith, nat_tests, options-also names primaries (n + 1) (used + length us) (with_uses cs us) lines others ig last r, uses-also names primaries (tokens line) us u.0)
+      (z, inr (us, f, u, inr (others, prim, room, o, r))) =
+      grind (
+        arith,
+        nat_tests,
+        options-also names primaries (n + 1) (used + length us) (with_uses cs us) lines others ig last r,
+        uses-also names primaries (tokens line) us u.0,
+      )
 
   sheet-also : (n : ℕ) (lines : List (List ℕ)) (sheet : Sheet) (ignored : List ℕ) → IsSheetFrom a n lines sheet ignored
       → IsSheetFrom b n lines sheet ignored

@@ -1,6 +1,5 @@
 -- For `finish` and the laws: the grammar relates lines to a problem exactly where they have no fault, and then to the
 -- one that the lines give.
-use Rattle.std.proofs.lemmas.Grind.{common_steps}
 use Rattle.std.proofs.Common.{◌≡◌, ℕ, ◌+◌, ◌<◌, ◌≤◌, List, [], ◌∷◌, ◌++◌, Option, None, Some, Bool, true, false, ◌&&◌}
 use Rattle.std.proofs.Common.{not, nat_lt, nat_eq, is_some, unwrap_or, length, refl, ap, ◌∙◌, sym, subst}
 use Rattle.std.proofs.Common.{arith, if◌then◌else◌, inl, inr, ◌⊎◌, append_assoc, map}
@@ -210,20 +209,37 @@ module _ (kind : Kind) (names : List (List ℕ)) (primaries : ℕ) (seen token :
       let no : has COLON token ≡ false = ap (has COLON) h.0 ∙ n.no_colon in
       use-parts name i u n p q (no-cut COLON token no ∙ h.0) (none-after COLON token no ∙ sym h.1) once
       (rw (no, and-false (is_plain kind))) (rw no) (rw no)
-  good-use u (name, i, n, p, q, inr h) once = grind (arith, nat_tests, cut-at COLON name u.colour n.no_colon, use-parts name i u n p q, and-false (has COLON token))
+  good-use u (name, i, n, p, q, inr h) once =
+      grind (arith, nat_tests, cut-at COLON name u.colour n.no_colon, use-parts name i u n p q)
 
 -- tokens with no fault are uses
 pub uses-good : (kind : Kind) (names : List (List ℕ)) (primaries : ℕ) (seen : List ℕ) (ts : List (List ℕ))
     → first (option_checks (context kind names primaries) seen ts) ≡ None
     → UsesBehind (context kind names primaries) seen ts (map (written names) ts)
 uses-good kind names primaries seen [] e = refl
-uses-good kind names primaries seen (t ∷ ts) e = grind (arith, nat_tests, uses-good kind names primaries (seen ++ item_number names (before COLON t) ∷ []) ts, split (token_checks (context kind names primaries) seen t) (option_checks (context kind names primaries) (seen ++ item_number names (before COLON t) ∷ []) ts) e, use-good kind names primaries seen t)
+uses-good kind names primaries seen (t ∷ ts) e =
+    grind (
+      arith,
+      nat_tests,
+      uses-good kind names primaries (seen ++ item_number names (before COLON t) ∷ []) ts,
+      split (token_checks (context kind names primaries) seen t)
+          (option_checks (context kind names primaries) (seen ++ item_number names (before COLON t) ∷ []) ts) e,
+      use-good kind names primaries seen t,
+    )
 
 pub good-uses : (kind : Kind) (names : List (List ℕ)) (primaries : ℕ) (seen : List ℕ) (ts : List (List ℕ))
     (us : List Written) → UsesBehind (context kind names primaries) seen ts us → (us ≡ map (written names) ts)
     × (first (option_checks (context kind names primaries) seen ts) ≡ None)
 good-uses kind names primaries seen [] us h = (h, refl)
-good-uses kind names primaries seen (t ∷ ts) us h = grind (arith, nat_tests, good-uses kind names primaries (seen ++ item_number names (before COLON t) ∷ []) ts h.1, good-use kind names primaries seen t h.0 h.3 h.4, first-all (token_checks (context kind names primaries) seen t) (option_checks (context kind names primaries) (seen ++ item_number names (before COLON t) ∷ []) ts))
+good-uses kind names primaries seen (t ∷ ts) us h =
+    grind (
+      arith,
+      nat_tests,
+      good-uses kind names primaries (seen ++ item_number names (before COLON t) ∷ []) ts h.1,
+      good-use kind names primaries seen t h.0 h.3 h.4,
+      first-all (token_checks (context kind names primaries) seen t)
+          (option_checks (context kind names primaries) (seen ++ item_number names (before COLON t) ∷ []) ts),
+    )
 
 -- THE LINES
 abbrev pub S : List Entry → ℕ → List (List Use) → List (List ℕ) → List ℕ → Stage
@@ -258,7 +274,13 @@ IsClear kind stage line = (has 0 line ≡ false)
 
 pub clear : (kind : Kind) (stage : Stage) (line : List ℕ) → first (line_checks kind stage line) ≡ None
     → IsClear kind stage line
-clear kind stage line e = grind (arith, nat_tests, split ((NulByte, has 0 line) ∷ []) (if is_skipped line then [] else content_checks kind stage line) e, fails ((NulByte, has 0 line) ∷ []))
+clear kind stage line e =
+    let a = split ((NulByte, has 0 line) ∷ []) (if is_skipped line then [] else content_checks kind stage line) e in
+    let P : Bool → Type 0 = λ t. is_skipped line ≡ t → first (if t then [] else content_checks kind stage line) ≡ None
+    → (is_skipped line ≡ true) ⊎ ((is_skipped line ≡ false) × (first (content_checks kind stage line) ≡ None)) in
+    let h : P (is_skipped line) =
+    (elim (is_skipped line) as P [ true ↦ λ f g. inl f | false ↦ λ f g. inr (f, g) ]) in
+    (fails ((NulByte, has 0 line) ∷ []) a.0 NulByte, h refl a.1)
 
 pub unskipped : (kind : Kind) (stage : Stage) (line : List ℕ) → IsClear kind stage line → is_skipped line ≡ false
     → first (content_checks kind stage line) ≡ None

@@ -1,16 +1,15 @@
 -- Checks that don't hold, and what they say of a token: for `add_item`, `use_of` and `finish`.
-use Rattle.std.proofs.lemmas.Grind.{common_steps}
 use Rattle.std.proofs.Common.{◌≡◌, ℕ, ◌<◌, ◌≤◌, List, [], ◌∷◌, ◌++◌, Option, None, Some, Bool, true, false, ◌||◌, ◌&&◌}
 use Rattle.std.proofs.Common.{not, nat_lt, nat_le, nat_eq, is_none, length, refl, ap, ◌∙◌, subst, arith}
 use Rattle.std.proofs.Common.{inl, inr, ◌⊎◌}
 use Rattle.xc_input.specs.inner.BoundTexts.{low_text, high_text}
 use Rattle.std.specs.Char.{is_ascii_digit}
 use Rattle.std.proofs.lemmas.Bool.Decides.{nat_tests}
-use Rattle.std.proofs.lemmas.Bool.{or_parts, or_from, and_parts, and_from, not-false}
+use Rattle.std.proofs.lemmas.Bool.{or_parts, or_from, and_parts, not-false}
 use Rattle.std.proofs.Math.Bool.{and-false}
 use Rattle.xc_input.specs.declared.kind.Kind.{Kind}
 use Rattle.xc_input.specs.declared.fault.FaultKind.TheVariants.{EmptyName, NameTooLong, BadByteInName, RepeatedName}
-use Rattle.xc_input.specs.declared.fault.FaultKind.TheVariants.{BadBound, BoundOrder, BoundOnSecondary, TooManyItems}
+use Rattle.xc_input.specs.declared.fault.FaultKind.TheVariants.{TooManyItems}
 use Rattle.xc_input.specs.Words.{has, before, after, place, are_digits, number}
 use Rattle.xc_input.specs.Sheets.{Entry}
 use Rattle.xc_input.specs.Faults.{first, is_bounds, name_checks, has_prefix, name_of, prefix_checks, bound_checks}
@@ -85,7 +84,7 @@ bounds-are prefix low high (inr h) =
 pub bounds-good : (prefix : List ℕ) (sec : Bool) → first (prefix_checks prefix sec) ≡ None
     → AreBounds prefix (number (low_text prefix)) (number (high_text prefix)) × (1 ≤ number (high_text prefix))
     × (number (low_text prefix) ≤ number (high_text prefix)) × (sec ≡ false)
-bounds-good prefix sec e = grind (arith, nat_tests, fails (prefix_checks prefix sec) e, and_parts (are_digits 9 (low_text prefix)) (are_digits 9 (high_text prefix)), not-false, or_parts, texts prefix)
+bounds-good prefix sec e = grind (arith, nat_tests, fails (prefix_checks prefix sec) e, texts prefix)
 
 pub good-bounds : (prefix : List ℕ) (low high : ℕ) → AreBounds prefix low high → 1 ≤ high → low ≤ high
     → (first (prefix_checks prefix false) ≡ None) × (number (low_text prefix) ≡ low)
@@ -101,7 +100,7 @@ module _ (kind : Kind) (names : List (List ℕ)) (sec : Bool) (token : List ℕ)
 
   shape : (t : Bool) → has_prefix kind token ≡ t → first (bound_checks kind sec token) ≡ None
       → IsBare sec token (entry kind sec token) ⊎ IsBounded kind sec token (entry kind sec token)
-  shape true f e = grind (arith, nat_tests, and_parts (is_bounds kind) (has BAR token) f, cut-is BAR token, bounds-good (before BAR token) sec)
+  shape true f e = grind (arith, nat_tests, cut-is BAR token, bounds-good (before BAR token) sec)
   shape false f e = grind (arith, nat_tests)
 
   -- a token with no fault stands for its item
@@ -122,8 +121,16 @@ module _ (kind : Kind) (names : List (List ℕ)) (sec : Bool) (token : List ℕ)
   known : (e : Entry) → IsBare sec token e ⊎ IsBounded kind sec token e → IsName e.name → (e ≡ entry kind sec token)
       × (first (bound_checks kind sec token) ≡ None)
   known e (inl h) n = grind (arith, nat_tests, and-false (is_bounds kind))
-  known e (inr h) n = grind (arith, nat_tests, cut-at BAR h.0 e.name h.3, and_from (is_bounds kind) (has BAR token) h.1, good-bounds h.0 e.low e.high h.5 h.6 h.7)
+  known e (inr h) n = grind (arith, nat_tests, cut-at BAR h.0 e.name h.3, good-bounds h.0 e.low e.high h.5 h.6 h.7)
 
   pub good-item : (e : Entry) → IsEntry kind sec token e → place names e.name ≡ None → length names < most_items
       → (e ≡ entry kind sec token) × (first (item_checks kind names sec token) ≡ None)
-  good-item e h p l = grind (arith, nat_tests, known e h.1 h.0, first-back (bound_checks kind sec token) (alone names (name_of kind token)), alone names (name_of kind token), past-name names (name_of kind token), good-name)
+  good-item e h p l =
+      let k = known e h.1 h.0 in
+      let nm : e.name ≡ name_of kind token = ap (λ x. x.name) k.0 in
+      let lt : nat_lt (length names) most_items ≡ true = grind (arith, nat_tests) in (
+        k.0,
+        first-back (bound_checks kind sec token) (alone names (name_of kind token)) k.1
+            ∙ past-name names (name_of kind token) (good-name _ (subst IsName nm h.0))
+            ∙ rw (← nm, p, lt),
+      )

@@ -1,7 +1,4 @@
 -- The grammar line by line, as a text is read: what was read before a line goes on to the next.
-use Rattle.std.proofs.Common.{arith}
-use Rattle.std.proofs.lemmas.Bool.Decides.{nat_tests}
-use Rattle.std.proofs.lemmas.Grind.{common_steps}
 use Rattle.std.specs.Prelude.{◌≡◌, ◌≢◌, ℕ, ◌+◌, ◌-◌, ◌≤◌, map, length, List, [], ◌∷◌, true, false, ◌⊎◌, AllPairs, take}
 use Rattle.std.specs.Prelude.{drop}
 use Rattle.std.specs.List.{AllZip, before_first, after_first}

@@ -1,5 +1,4 @@
 -- The grammar says the same line by line: what was read before a line goes on to the next.
-use Rattle.std.proofs.lemmas.Grind.{common_steps}
 use Rattle.std.proofs.lemmas.Bool.Decides.{nat_tests}
 use Rattle.std.proofs.Common.{◌≡◌, ◌≢◌, ℕ, ◌+◌, ◌-◌, ◌≤◌, List, [], ◌∷◌, ◌++◌, Bool, true, false, cond, not, length}
 use Rattle.std.proofs.Common.{take, drop, map, filter, flat_map, refl, ap, ◌∙◌, sym, subst, arith, inl, inr}
@@ -82,7 +81,11 @@ with_uses-append cs (u ∷ us) vs = with_uses-append (with_colour cs u.colour) u
 number-later : (cs : List (List ℕ)) (us more : List Written)
     → number_uses (with_uses (with_uses cs us) more) us ≡ number_uses (with_uses cs us) us
 number-later cs [] more = refl
-number-later cs (u ∷ us) more = grind (arith, nat_tests, number-later (with_colour cs u.colour) us more, with_uses-append (with_colour cs u.colour) us more, kept (with_colour cs u.colour) (us ++ more) u.colour (met cs u.colour), met cs u.colour, kept (with_colour cs u.colour) us u.colour (met cs u.colour))
+number-later cs (u ∷ us) more =
+    let number = ap (λ ds. colour_number ds u.colour) (sym (with_uses-append (with_colour cs u.colour) us more))
+    ∙ kept (with_colour cs u.colour) (us ++ more) u.colour (met cs u.colour)
+    ∙ sym (kept (with_colour cs u.colour) us u.colour (met cs u.colour)) in
+    λ i. record { item = u.item; colour = number i } ∷ number-later (with_colour cs u.colour) us more i
 
 abbrev AreKept : ℕ → List (List ℕ) → List (List Use) → List (List ℕ) → List (List Written) → Type 0
 AreKept used cs os last uss = (used + length (flat uss) ≤ most_uses) × (last ≡ with_uses cs (flat uss))
@@ -234,8 +237,10 @@ IsFound kind n lines sheet ignored =
 finds : (kind : Kind) (n : ℕ) (lines : List (List ℕ)) (sheet : Sheet) (ignored : List ℕ)
     → IsSheetFrom kind n lines sheet ignored → IsFound kind n lines sheet ignored
 finds kind n [] sheet ignored h = absurd h
-finds kind n (line ∷ lines) sheet ignored (z, inl (f, r)) = grind (arith, nat_tests, finds kind (n + 1) lines sheet ignored r, or_from (has 0 line) (list_any (has 0) lines) z, skip-content (n + 1) line lines f)
-finds kind n (line ∷ lines) sheet ignored (z, inr (f, items, r)) = grind (arith, nat_tests, all-lines (said kind sheet) (n + 1) 0, or_from (has 0 line) (list_any (has 0) lines) z, keep-content (n + 1) line lines f)
+finds kind n (line ∷ lines) sheet ignored (z, inl (f, r)) =
+    grind (arith, nat_tests, finds kind (n + 1) lines sheet ignored r, skip-content (n + 1) line lines f)
+finds kind n (line ∷ lines) sheet ignored (z, inr (f, items, r)) =
+    grind (arith, nat_tests, all-lines (said kind sheet) (n + 1) 0, keep-content (n + 1) line lines f)
 
 found : (kind : Kind) (n : ℕ) (lines : List (List ℕ)) (sheet : Sheet) (ignored : List ℕ)
     → IsFound kind n lines sheet ignored → IsSheetFrom kind n lines sheet ignored

@@ -1,5 +1,4 @@
 -- A colour keeps the number that it has where it is met first.
-use Rattle.std.proofs.lemmas.Grind.{common_steps}
 use Rattle.std.proofs.Common.{◌≡◌, ℕ, suc, ◌+◌, ◌<◌, ◌≤◌, List, [], ◌∷◌, ◌++◌, Option, None, Some, Bool, true, false}
 use Rattle.std.proofs.Common.{not, nat_lt, is_none, unwrap_or, length, map, take, append-nil, append_assoc, refl}
 use Rattle.std.proofs.Common.{sym, ap, subst, ◌∙◌, length-append, arith, if◌then◌else◌}
@@ -98,7 +97,10 @@ numbered_in_turn colours (u ∷ us) = use_behind colours u ∷ numbered_in_turn 
 
 pub in_turn : (cs : List (List ℕ)) (us : List Written) → numbered_in_turn cs us ≡ numbered cs us
 in_turn cs [] = refl
-in_turn cs (u ∷ us) = grind (arith, nat_tests, in_turn (with_colour cs u.colour) us, kept (with_colour cs u.colour) us u.colour (met cs u.colour), met cs u.colour)
+in_turn cs (u ∷ us) =
+    let same = kept (with_colour cs u.colour) us u.colour (met cs u.colour) in
+    let later = in_turn (with_colour cs u.colour) us in
+    λ i. record { item = u.item; colour = sym same i } ∷ later i
 
 -- one use more
 pub in_turn_more : (cs : List (List ℕ)) (us : List Written) (u : Written)

@@ -1,7 +1,6 @@
 -- Steps of a draft.
-use Rattle.std.proofs.lemmas.Grind.{common_steps}
 use Rattle.std.proofs.Common.{◌≡◌, ℕ, ◌+◌, ◌-◌, ◌<◌, ◌≤◌, List, [], ◌∷◌, ◌++◌, None, Some, Bool, true, false}
-use Rattle.std.proofs.Common.{◌||◌, nat_le, nat_lt, unwrap_or, length, map, take, drop, refl, ap, ◌∙◌, sym, subst}
+use Rattle.std.proofs.Common.{◌||◌, nat_le, nat_lt, length, map, take, drop, refl, ap, ◌∙◌, sym, subst}
 use Rattle.std.proofs.Common.{arith, if◌then◌else◌, Vec, Global, length-append}
 use Rattle.std.proofs.Math.Seq.{take-append_seam, drop-append_seam}
 use Rattle.xc_input.proofs.OptionLemmas.Colours.{last-position, first_met}

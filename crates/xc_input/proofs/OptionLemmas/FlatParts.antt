@@ -1,8 +1,7 @@
 -- Options kept flat.
 use Rattle.std.proofs.lemmas.Bool.Decides.{nat_tests}
-use Rattle.std.proofs.lemmas.Grind.{common_steps}
 use Rattle.std.proofs.Common.{ℕ, zero, suc, ◌≡◌, ◌+◌, ◌-◌, ◌<◌, ◌≤◌, List, [], ◌∷◌, ◌++◌, length, map, take, drop}
-use Rattle.std.proofs.Common.{get_or, sum_by, All, Some, refl, sym, subst, ap, ap₂, ◌∙◌, arith, length-append}
+use Rattle.std.proofs.Common.{get_or, sum_by, All, Some, refl, sym, ap, ap₂, ◌∙◌, arith, length-append}
 use Rattle.std.proofs.Common.{length-drop}
 use Rattle.std.proofs.lemmas.List.{take-append-le, drop-append-le, length-take-le, get_or-drop}
 use Rattle.std.proofs.lemmas.List.Sums.{sum_by-cons}
@@ -70,7 +69,15 @@ pub option_part : {X : Type 0} (starts : List ℕ) (us : List X) (o a b : ℕ) �
     → o < length starts → a ≡ get_or starts (o - 1) a → b ≡ get_or starts o b →
     (a ≤ b) × (b ≤ length us) × (numbered_get (pieces starts us) o ≡ Some (slice_range us a b))
 option_part starts us zero a b h l m e f = absurd (omega (arith, l))
-option_part starts us (suc k) a b h l m e f = grind (arith, nat_tests, get_or_default_zero starts k a, get_or_default_zero starts (suc k) b m, part_range starts (length us) k a b h, piece_at starts us k)
+option_part starts us (suc k) a b h l m e f =
+    let before : suc k - 1 ≡ k = omega arith in
+    let in_front : k < length starts = omega (arith, m) in
+    let two : k + 1 < length starts = omega (arith, m) in
+    let from : a ≡ get_or starts k 0 =
+    e ∙ ap (λ n. get_or starts n a) before ∙ get_or_default_zero starts k a in_front in
+    let to : b ≡ get_or starts (suc k) 0 = f ∙ get_or_default_zero starts (suc k) b m in
+    let range = part_range starts (length us) k a b h two from to in
+    (range.0, range.1, piece_at starts us k two ∙ ap₂ (λ x y. Some (slice_range us x y)) (sym from) (sym to))
 
 pub slice-front : {X : Type 0} (us vs : List X) (a b : ℕ) → a ≤ b → b ≤ length us
     → slice_range (us ++ vs) a b ≡ slice_range us a b

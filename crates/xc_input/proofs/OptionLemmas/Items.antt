@@ -1,7 +1,6 @@
 -- Items of the item line, each behind those before it.
-use Rattle.std.proofs.lemmas.Grind.{common_steps}
 use Rattle.std.proofs.Common.{◌≡◌, ◌≢◌, ◌⊎◌, ℕ, suc, ◌+◌, ◌<◌, ◌≤◌, List, [], ◌∷◌, ◌++◌, Option, None, Some, Bool, true}
-use Rattle.std.proofs.Common.{false, cond, not, nat_eq, nat_lt, is_some, unwrap_or, length, take, drop, get_or, refl}
+use Rattle.std.proofs.Common.{false, cond, not, nat_eq, is_some, unwrap_or, length, take, drop, get_or, refl}
 use Rattle.std.proofs.Common.{sym, ap, subst, ◌∙◌, append_assoc, append-nil, length-append, arith, if◌then◌else◌, All}
 use Rattle.std.proofs.Common.{AllPairs, inl, inr}
 use Rattle.std.proofs.lemmas.Bool.Decides.{nat_tests}

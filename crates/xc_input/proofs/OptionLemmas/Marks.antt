@@ -1,5 +1,4 @@
 -- Marks at the items of a line.
-use Rattle.std.proofs.lemmas.Grind.{common_steps}
 use Rattle.std.proofs.Common.{◌≡◌, ℕ, zero, suc, ◌+◌, ◌-◌, ◌<◌, ◌≤◌, List, [], ◌∷◌, ◌++◌, Bool, true, false}
 use Rattle.std.proofs.Common.{true≢false, nat_eq, length, map, get_or, set, take, drop, All, refl, ap, ◌∙◌, sym}
 use Rattle.std.proofs.Common.{subst, arith, length-set, Option, None, Some, position, IfSome}

@@ -1,7 +1,6 @@
 -- One token of an option line, for `use_of` and the loop of `option_line`.
-use Rattle.std.proofs.lemmas.Grind.{common_steps}
 use Rattle.std.proofs.Common.{arith, ◌<◌, ◌≤◌, ◌≡◌, ℕ, ◌+◌, List, [], ◌∷◌, ◌++◌, Option, None, Some, Bool, true, false}
-use Rattle.std.proofs.Common.{◌||◌, ◌&&◌, nat_lt, nat_eq, map, refl, ap, ◌∙◌, sym, subst}
+use Rattle.std.proofs.Common.{◌&&◌, nat_lt, nat_eq, map, refl, ap, ◌∙◌, sym, subst}
 use Rattle.std.proofs.Common.{length, drop, if◌then◌else◌, MatchOption, Result, Ok, Err, append_assoc, is_ok}
 use Rattle.std.proofs.lemmas.Bool.Decides.{nat_tests}
 use Rattle.std.specs.List.{list_any}

@@ -1,5 +1,4 @@
 -- Uses of an option, each behind those before it.
-use Rattle.std.proofs.lemmas.Grind.{common_steps}
 use Rattle.std.proofs.Common.{◌≡◌, ◌≢◌, ℕ, zero, suc, ◌<◌, List, [], ◌∷◌, ◌++◌, false, nat_eq, true≢false, length}
 use Rattle.std.proofs.Common.{map, get_or, refl, sym, subst, ◌∙◌, append_assoc, append-nil, arith, All, AllPairs}
 use Rattle.std.proofs.lemmas.Bool.Decides.{nat_tests}

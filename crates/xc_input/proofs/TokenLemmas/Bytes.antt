@@ -12,7 +12,6 @@ use Rattle.xc_input.specs.Tokens.{is_space, is_bar, is_skipped, parts, split_bar
 use Rattle.xc_input.specs.inner.Fronts.{drop_white, word, StandsBefore}
 use Rattle.std.specs.Prelude.{flat_map}
 use Rattle.xc_input.proofs.TokenLemmas.Separators.{BAR}
-use Rattle.std.proofs.Math.Bool.{and-true}
 -- by the name that other modules have for it
 pub use Rattle.std.proofs.lemmas.Bool.{false_from_ne_true as not_false}
 
@@ -98,7 +97,8 @@ starts_nothing (b ∷ bs) = nat_eq b BAR
 -- what stands behind leading white space says whether a line is skipped
 pub skipped-front : (line front : List ℕ) → front ≡ drop_white line → starts_nothing front ≡ is_skipped line
 skipped-front line [] e = ap (λ ts. list_all is_bar (take 1 ts)) (ap tokens e ∙ tokens-drop_white line)
-skipped-front line (b ∷ bs) e = grind (arith, nat_tests, drop_white-first line b bs (sym e), and-true (nat_eq b BAR), tokens-first b bs, tokens-drop_white line)
+skipped-front line (b ∷ bs) e =
+    grind (arith, nat_tests, drop_white-first line b bs (sym e), tokens-first b bs, tokens-drop_white line)
 
 pub skipped-first : (line front : List ℕ) → front ≡ drop_white line → 1 ≤ length front
     → nat_eq (get_or front 0 0) BAR ≡ is_skipped line
@@ -165,7 +165,16 @@ pub cuts_bar : (line rest front back : List ℕ) → rest ≡ drop_white line �
     → front ≡ take 1 rest → back ≡ drop 1 rest
     → (parts line ≡ front ∷ parts back) × (length back < length line)
 cuts_bar line [] front back e h b f g = absurd (omega arith)
-cuts_bar line (b ∷ bs) front back e h is f g = grind (arith, nat_tests, drop_white-first line b bs (sym e), drop_white-length line, tokens-drop_white line, tokens-first b bs, word-parts bs)
+cuts_bar line (b ∷ bs) front back e h is f g =
+    let dark : is_space b ≡ false = drop_white-first line b bs (sym e) in
+    let l : length (b ∷ bs) ≤ length line = subst (λ xs. length xs ≤ length line) (sym e) (drop_white-length line) in
+    let m : length back ≡ length bs = ap length g in
+    let all : parts line ≡ (BAR ∷ []) ∷ parts bs =
+    ap (flat_map split_bars) (sym (tokens-drop_white line) ∙ ap tokens (sym e) ∙ tokens-first b bs dark)
+    ∙ ap (λ x. split_bars (x ∷ word bs) ++ flat_map split_bars (tokens (behind bs))) is
+    ∙ ap (λ ps. (BAR ∷ []) ∷ ps) (word-parts bs) in
+    let f' : front ≡ BAR ∷ [] = f ∙ ap (λ x. x ∷ []) is in
+    (all ∙ (λ i. sym f' i ∷ parts (sym g i)), omega arith)
 
 -- cutting at white space gives the first part, where it is no bar
 pub cuts_part : (line rest front back : List ℕ) → rest ≡ drop_white line → 0 < length rest
@@ -173,7 +182,8 @@ pub cuts_part : (line rest front back : List ℕ) → rest ≡ drop_white line �
     → back ≡ drop (length (word rest)) rest
     → (parts line ≡ front ∷ parts back) × (length back < length line)
 cuts_part line [] front back e h n f g = absurd (omega arith)
-cuts_part line (b ∷ bs) front back e h n f g = grind (arith, nat_tests, drop_white-first line b bs (sym e), cuts_first line (b ∷ bs) front back e h f g)
+cuts_part line (b ∷ bs) front back e h n f g =
+    grind (arith, nat_tests, drop_white-first line b bs (sym e), cuts_first line (b ∷ bs) front back e h f g)
 
 pub below_pow : (n i : ℕ) → n < 10 ^ i → i ≤ 8 → n < 100000000
 below_pow n i h l = let p : 10 ^ i ≤ 10 ^ 8 = pow-le-pow_right {n = 10} (omega arith) l in omega arith

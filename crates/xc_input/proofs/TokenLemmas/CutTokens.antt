@@ -1,6 +1,5 @@
 -- A token that begins with a known name is cut behind the name.
 use Rattle.std.proofs.lemmas.Bool.Decides.{nat_tests}
-use Rattle.std.proofs.lemmas.Grind.{common_steps}
 use Rattle.std.proofs.Common.{◌≡◌, ℕ, ◌-◌, ◌<◌, List, [], ◌∷◌, ◌++◌, Option, None, Some, Bool, true, false, length}
 use Rattle.std.proofs.Common.{get_or, take, drop, refl, ap, ap₂, ◌∙◌, sym, subst, arith, if◌then◌else◌, MatchOption}
 use Rattle.std.proofs.Common.{Bor, is_some, ◌&&◌}

@@ -1,7 +1,4 @@
 -- The bytes that part a token, by their names: for `tokens` and `names`, and for the words of a listing.
-use Rattle.std.proofs.Common.{arith}
-use Rattle.std.proofs.lemmas.Bool.Decides.{nat_tests}
-use Rattle.std.proofs.lemmas.Grind.{common_steps}
 use Rattle.std.proofs.Common.{ℕ}
 use Prim.Native.Char.{code}
 

@@ -1,9 +1,8 @@
 -- Names of a table: they have no fault, each has one place, and what a line begins with may be one of them.
-use Rattle.std.proofs.lemmas.Grind.{common_steps}
 use Rattle.std.proofs.Common.{◌+◌, ◌≤◌, drop, MatchOption}
 use Rattle.std.proofs.lemmas.List.{take-append-drop}
 use Rattle.std.proofs.Common.{◌≡◌, ◌≢◌, ℕ, zero, suc, ◌<◌, List, [], ◌∷◌, ◌++◌, Option, None, Some, Bool, true, false}
-use Rattle.std.proofs.Common.{nat_eq, nat_lt, All, length, take, refl, ap, ap₂, ◌∙◌, sym, subst, arith, true≢false}
+use Rattle.std.proofs.Common.{nat_lt, All, length, take, refl, ap, ap₂, ◌∙◌, sym, subst, arith, true≢false}
 use Rattle.std.proofs.Common.{if◌then◌else◌, Vec, Global, get_or}
 use Rattle.std.proofs.lemmas.List.Elements.{All-nil, All-cons, All-append, All-push, All-get_or}
 use Rattle.std.proofs.lemmas.List.Quantifiers.{position-Some, all_pairs_push}

@@ -1,5 +1,4 @@
 -- Names and colours have no white space, no NUL byte and no line feed.
-use Rattle.std.proofs.lemmas.Grind.{common_steps}
 use Rattle.std.proofs.Common.{arith}
 use Rattle.std.proofs.lemmas.Bool.Decides.{nat_tests}
 use Rattle.std.proofs.Common.{◌≡◌, ℕ, ◌+◌, List, [], ◌∷◌, ◌++◌, Option, Some, Bool, true, false, nat_eq, is_none}
@@ -53,7 +52,7 @@ lack-onto p b (c ∷ cs) ts e h = grind (arith, nat_tests, or_from (p b), lack-f
 
 lack-tokens : (p : ℕ → Bool) (xs : List ℕ) → list_any p xs ≡ false → AllLack p (tokens xs)
 lack-tokens p [] h = tt
-lack-tokens p (b ∷ bs) h = grind (arith, nat_tests, lack-tokens p bs, or_parts (p b) (list_any p bs) h, tokens-cons b bs, lack-onto p b bs (tokens bs))
+lack-tokens p (b ∷ bs) h = grind (arith, nat_tests, lack-tokens p bs, tokens-cons b bs, lack-onto p b bs (tokens bs))
 
 lack-spaces : (xs : List ℕ) → AllLack is_space (tokens xs)
 lack-spaces [] = tt
@@ -130,7 +129,13 @@ module _ (p : ℕ → Bool) (lacks : (line : List ℕ) → has 0 line ≡ false 
       × AllLack p sheet.colours
   lack-sheet kind n [] sheet ignored h w = absurd h
   lack-sheet kind n (line ∷ lines) sheet ignored (z, inl (f, r)) w = lack-sheet kind (n + 1) lines sheet ignored r w.1
-  lack-sheet kind n (line ∷ lines) sheet ignored (z, inr (f, items, r)) w = grind (arith, nat_tests, lack-items kind, items-behind kind (parts line) sheet.entries sheet.primaries items, lack-all p (tokens line) (lacks line z w.0), lack-options kind (names_of sheet.entries) sheet.primaries (n + 1) 0)
+  lack-sheet kind n (line ∷ lines) sheet ignored (z, inr (f, items, r)) w = (
+    lack-items kind [] None (parts line) sheet.entries sheet.primaries
+        (items-behind kind (parts line) sheet.entries sheet.primaries items)
+        (lack-all p (tokens line) (lacks line z w.0)),
+    lack-options kind (names_of sheet.entries) sheet.primaries (n + 1) 0 [] lines sheet.options ignored sheet.colours r
+        w.1 tt,
+  )
 
 all-unbroken : (xs : List (List ℕ)) → AllLack is_space xs → AllLack (λ x. nat_eq x 0) xs → AllLack (λ x. nat_eq x 10) xs
     → All IsUnbroken xs

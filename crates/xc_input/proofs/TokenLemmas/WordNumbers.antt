@@ -1,5 +1,4 @@
 -- The number of a word: how large it is, what it is of, and what of it the first bytes give.
-use Rattle.std.proofs.lemmas.Grind.{common_steps}
 use Rattle.std.proofs.lemmas.Bool.Decides.{nat_tests}
 use Rattle.std.proofs.Common.{◌≡◌, ℕ, zero, suc, ◌+◌, ◌*◌, ◌<◌, ◌≤◌, ◌%◌, ◌/◌, ◌^◌, List, [], ◌∷◌, length, get_or}
 use Rattle.std.proofs.Common.{take, drop}

@@ -1,7 +1,4 @@
 -- A sheet that is valid and within the limits.
-use Rattle.std.proofs.Common.{arith}
-use Rattle.std.proofs.lemmas.Bool.Decides.{nat_tests}
-use Rattle.std.proofs.lemmas.Grind.{common_steps}
 use Rattle.std.specs.Prelude.{◌≡◌, ℕ, zero, suc, ◌≤◌, length, List, [], ◌∷◌, ◌++◌, false, None, ◌⊎◌, nat_eq, map}
 use Rattle.xc_input.specs.inner.ColourNumbers.{numbered}
 use Rattle.std.proofs.Common.{refl, ap}

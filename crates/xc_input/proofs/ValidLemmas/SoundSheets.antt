@@ -1,5 +1,4 @@
 -- The problem of a sheet is sound.
-use Rattle.std.proofs.lemmas.Grind.{common_steps}
 use Rattle.std.proofs.Common.{◌≡◌, ◌≢◌, ℕ, zero, suc, ◌+◌, ◌-◌, ◌<◌, ◌≤◌, List, [], ◌∷◌, ◌++◌, Bool, true, false}
 use Rattle.std.proofs.Common.{nat_eq, is_none, true≢false, length, map, take, drop, get_or, All, AllPairs, refl, ap}
 use Rattle.std.proofs.Common.{◌∙◌, sym, subst, arith, if◌then◌else◌, inl, inr, append_assoc}

@@ -1,7 +1,6 @@
 -- What stands for a text is valid.
-use Rattle.std.proofs.lemmas.Grind.{common_steps}
 use Rattle.std.proofs.Common.{◌≡◌, ℕ, suc, ◌+◌, ◌*◌, ◌-◌, ◌^◌, ◌<◌, ◌≤◌, List, [], ◌∷◌, ◌++◌, Option, None, Some, Bool}
-use Rattle.std.proofs.Common.{true, false, ◌&&◌, nat_le, nat_eq, is_none, unwrap_or, length}
+use Rattle.std.proofs.Common.{true, false, nat_eq, is_none, unwrap_or, length}
 use Rattle.std.proofs.Common.{position, refl, ap, ◌∙◌, sym, subst, arith, if◌then◌else◌, inl, inr, append_assoc}
 use Rattle.std.proofs.Common.{length-append}
 use Rattle.xc_input.proofs.OptionLemmas.Colours.{in_turn, numbered_in_turn}
@@ -33,7 +32,6 @@ use Rattle.xc_input.proofs.ValidLemmas.SheetValidity.{AreWithin, AreFresh, UsesP
 use Rattle.xc_input.proofs.ValidLemmas.SheetValidity.{IsSoundSheet, so_far}
 use Rattle.std.specs.Str.{bytes_eq}
 use Rattle.xc_input.proofs.FaultLemmas.Checks.{some-is, names_of-length}
-use Rattle.std.proofs.lemmas.Bool.{and_parts}
 use Rattle.std.specs.Prelude.{flat_map}
 use Rattle.xc_input.specs.Faults.{has_primary}
 use Rattle.xc_input.specs.inner.Stages.{context}
@@ -46,7 +44,7 @@ value-below n i [] h e = let z : i + 0 ≡ i = omega arith in subst (λ k. n < 1
 value-below n i (x ∷ xs) h e = grind (arith, nat_tests, value-below (n * 10 + (x - 48)) (i + 1) xs, pow_more)
 
 number-below : (text : List ℕ) → are_digits 9 text ≡ true → number text ≤ greatest_bound
-number-below text e = grind (arith, nat_tests, and_parts (nat_le 1 (length text) && nat_le (length text) 9) (list_all is_ascii_digit text) e, and_parts (nat_le 1 (length text)) (nat_le (length text) 9), value-below 0 0 text, pow-le-pow_right)
+number-below text e = grind (arith, nat_tests, value-below 0 0 text, pow-le-pow_right)
 
 high-below : (prefix : List ℕ) (low high : ℕ) → AreBounds prefix low high → high ≤ greatest_bound
 high-below prefix low high (inl h) = subst (λ n. n ≤ greatest_bound) h.2 (number-below prefix h.0)
@@ -273,7 +271,17 @@ from-lines : (kind : Kind) (n : ℕ) (lines : List (List ℕ)) (sheet : Sheet) (
     → IsSheetFrom kind n lines sheet ignored → IsSoundSheet sheet
 from-lines kind n [] sheet ignored h = absurd h
 from-lines kind n (line ∷ lines) sheet ignored (z, inl (f, r)) = from-lines kind (n + 1) lines sheet ignored r
-from-lines kind n (line ∷ lines) sheet ignored (z, inr (f, items, r)) = grind (arith, nat_tests, items-behind kind (parts line) sheet.entries sheet.primaries items, items-valid kind, options-valid kind (names_of sheet.entries) sheet.primaries (n + 1) 0, some-primary kind line sheet.entries sheet.primaries f, names-valid kind, names_of-length sheet.entries)
+from-lines kind n (line ∷ lines) sheet ignored (z, inr (f, items, r)) =
+    grind (
+      arith,
+      nat_tests,
+      items-behind kind (parts line) sheet.entries sheet.primaries items,
+      items-valid kind,
+      options-valid kind (names_of sheet.entries) sheet.primaries (n + 1) 0,
+      some-primary kind line sheet.entries sheet.primaries f,
+      names-valid kind,
+      names_of-length sheet.entries,
+    )
 
 pub valid : (kind : Kind) (lines : List (List ℕ)) (sheet : Sheet) (ignored : List ℕ)
     → IsSheetOf kind lines sheet ignored → IsSoundSheet sheet

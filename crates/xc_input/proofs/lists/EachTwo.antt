@@ -1,5 +1,4 @@
 -- What holds of each two elements of a list, the one before the other.
-use Rattle.std.proofs.lemmas.Grind.{common_steps}
 use Rattle.std.proofs.lemmas.Bool.Decides.{nat_tests}
 use Rattle.std.proofs.Common.{ℕ, zero, suc, ◌≡◌, ◌+◌, ◌<◌, List, [], ◌∷◌, ◌++◌, map, take, Some, refl, sym, ◌∙◌, arith}
 use Rattle.std.proofs.Common.{subst, ◌⊎◌, inl, inr}

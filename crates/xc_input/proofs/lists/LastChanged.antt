@@ -1,6 +1,4 @@
 -- A list whose last element is changed, turned round.
-use Rattle.std.proofs.lemmas.Bool.Decides.{nat_tests}
-use Rattle.std.proofs.lemmas.Grind.{common_steps}
 use Rattle.std.proofs.Common.{ℕ, ◌≡◌, ◌-◌, ◌<◌, List, [], ◌∷◌, ◌++◌, length, reverse, sym, ap, ap₂, ◌∙◌, arith, subst}
 use Rattle.std.proofs.Math.ListN.{set, get_or}
 use Rattle.std.proofs.Math.Seq.{set-append_seam, get_or-append_seam}

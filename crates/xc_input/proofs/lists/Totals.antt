@@ -1,5 +1,4 @@
 -- Sums over numbers in a row.
-use Rattle.std.proofs.lemmas.Grind.{common_steps}
 use Rattle.std.proofs.lemmas.Bool.Decides.{nat_tests}
 use Rattle.std.proofs.Common.{ℕ, zero, suc, ◌≡◌, ◌≢◌, ◌+◌, ◌<◌, ◌≤◌, Bool, true, false, cond, eqb, List, [], ◌∷◌, refl}
 use Rattle.std.proofs.Common.{sym, ap, arith, subst, eqb-true, eq-eqb, ne_eqb}
