@@ -61,10 +61,7 @@ text_end a ms k {x = x} {y = y} e took = subst (λ n. Took x y (text_to a n ms))
 
 pub text_all : (a : Named) (ms : List (List Choice)) (k : ℕ) → k ≡ length ms → k ≤ most_counted →
     text_to a k ms ≡ members_text a ms
-text_all a ms k e h =
-    let same : take k ms ≡ take most_counted ms =
-    take_all k ms (omega (arith, e)) ∙ sym (take_all most_counted ms (omega (arith, e, h))) in
-    ap (λ l. flat_map (member_text a) (enumerate_from 1 l)) same
+text_all a ms k e h = grind (arith, nat_tests, take_all k ms, take_all most_counted ms)
 
 -- one member more was written, which a search shows
 pub text_took : (a : Named) (ms : List (List Choice)) (k : ℕ) (m shown : List Choice)
@@ -106,11 +103,7 @@ one_more : (f : List Choice → List ℕ) (plan : List (List Choice)) (path : Li
 one_more f plan path = flat_map-append f plan (path ∷ []) ∙ ap (λ xs. flat_map f plan ++ xs) (append-nil (f path))
 
 pub no_parts : (a : Named) (listed : _) (s : SinkState) → OfParts a listed [] Took s s
-no_parts a listed s = record {
-  plan = [];
-  paths = record { paths = All-nil (IsPath a.puzzle); told = refl };
-  said = took_nothing s;
-}
+no_parts a listed s = grind (arith, nat_tests, took_nothing s)
 
 pub parts_more : (a : Named) (listed : _) (parts : List (List ℕ)) (numbers : List ℕ)
     (path : List Choice) {x y z : SinkState} → OfParts a listed parts Took x y → IsPathBy a.puzzle numbers path →

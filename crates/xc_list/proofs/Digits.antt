@@ -1,5 +1,6 @@
 -- Numbers in decimal, digit by digit.
-use Rattle.std.proofs.Common.{◌≡◌, ℕ, ◌+◌, ◌*◌, ◌^◌, ◌<◌, ◌≤◌, ◌-◌, Bool, true, false, cond, ◌&&◌, nat_lt, Option, List}
+use Rattle.std.proofs.lemmas.Bool.Decides.{nat_tests}
+use Rattle.std.proofs.Common.{◌≡◌, ℕ, ◌+◌, ◌*◌, ◌^◌, ◌<◌, ◌≤◌, ◌-◌, cond, ◌&&◌, nat_lt, Option, List}
 use Rattle.std.proofs.Common.{[], ◌∷◌, None, Some, length, drop, get_or, refl, arith, le_trans, le-ltb}
 use Rattle.std.specs.Char.{is_ascii_digit}
 use Rattle.xc_input.proofs.TokenLemmas.DecimalValues.{value_from}
@@ -16,13 +17,7 @@ value_from-le v [] = omega arith
 value_from-le v (b ∷ bs) = omega (arith, value_from-le (v * 10 + (b - 48)) bs)
 
 pub too_large : (v b : ℕ) (bs : List ℕ) → 2 ^ 64 ≤ v * 10 + (b - 48) → digits_in v (b ∷ bs) ≡ None
-too_large v b bs h =
-    let larger : 2 ^ 64 ≤ value_from v (b ∷ bs) = le_trans h (value_from-le (v * 10 + (b - 48)) bs) in
-    rw (le-ltb _ _ larger) (both (list_all is_ascii_digit (b ∷ bs)))
-  where
-    both : (t : Bool) → cond (t && false) (Some (value_from v (b ∷ bs))) None ≡ None
-    both true = refl
-    both false = refl
+too_large v b bs h = grind (arith, nat_tests, le_trans, value_from-le, le-ltb)
 
 pub behind : {X : Type 0} (xs : List X) (i : ℕ) (d : X) → i < length xs → drop i xs ≡ get_or xs i d ∷ drop (i + 1) xs
 behind xs i d h = grind (arith, common_steps)

@@ -1,6 +1,8 @@
 -- A search that goes on to the next member that is printed.
-use Rattle.std.proofs.Common.{◌≡◌, ℕ, zero, suc, ◌+◌, ◌-◌, ◌<◌, ◌≤◌, false, List, [], ◌∷◌, ◌++◌, length, drop, get_or, refl}
-use Rattle.std.proofs.Common.{sym, ap, ap₂, ◌∙◌, append-nil, arith, subst, length-drop}
+use Rattle.std.proofs.lemmas.Bool.Decides.{nat_tests}
+use Rattle.std.proofs.Common.{◌≡◌, ℕ, zero, suc, ◌+◌, ◌-◌, ◌<◌, ◌≤◌, false, List, [], ◌∷◌, ◌++◌, length}
+use Rattle.std.proofs.Common.{drop, get_or}
+use Rattle.std.proofs.Common.{sym, ap, ◌∙◌, append-nil, arith, subst, length-drop}
 use Rattle.std.specs.Prelude.{if◌then◌else◌}
 use Rattle.std.proofs.lemmas.List.{drop-drop, drop_more}
 use Rattle.xc_search.specs.declared.choice.Choice.{Choice}
@@ -66,25 +68,13 @@ reaches a spacing k n o s come shown some enough silent =
 pub ends : (a : Named) (spacing k n passed limit : ℕ) → k ≤ length (members a.puzzle)
     → passed ≡ length (drop k (members a.puzzle)) → passed < n → AreSilent spacing k (k + n) →
     (k + passed ≡ length (members a.puzzle)) × (output a spacing (k + passed) ≡ output a spacing k)
-ends a spacing k n passed limit within is less silent =
-    let all : k + passed ≡ length (members a.puzzle) = omega (arith, within, is, length-drop k (members a.puzzle)) in (
-      all,
-      output_silent a spacing k passed (omega (arith, all))
-          (λ j from below. silent j from (omega (arith, below, less))),
-    )
+ends a spacing k n passed limit within is less silent = grind (arith, nat_tests, length-drop, output_silent)
 
 -- its text was taken, or broke off
 pub takes : (a : Named) (spacing k n : ℕ) (o : Outlook) (m : List Choice) (x y z : SinkState) → Reaches a spacing k n o
     → m ≡ o.shown → 0 < n →
     Took x y (output a spacing k) → Took y z (printed_text a spacing (k + n, m)) → Took x z (output a spacing (k + n))
-takes a spacing k n o m x y z r is some so_far t =
-    let last = k + (n - 1) in
-    let end : last + 1 ≡ k + n = omega (arith, some) in
-    let next : drop last (members a.puzzle) ≡ m ∷ o.to_come = r.next ∙ ap (λ m. m ∷ o.to_come) (sym is) in
-    let grown : output a spacing last ++ printed_text a spacing (k + n, m) ≡ output a spacing (k + n) =
-    ap (λ j. output a spacing last ++ printed_text a spacing (j, m)) (sym end)
-    ∙ sym (output_next a spacing last m o.to_come next) ∙ ap (output a spacing) end in
-    subst (Took x z) grown (then_took (subst (Took x y) (sym r.same) so_far) t)
+takes a spacing k n o m x y z r is some so_far t = grind (arith, nat_tests, output_next, then_took)
 
 pub stops : (a : Named) (spacing limit k n : ℕ) (o : Outlook) (m : List Choice) (x y z : SinkState)
     → Reaches a spacing k n o → m ≡ o.shown → 0 < n → k + n ≤ limit →
@@ -100,13 +90,7 @@ stops a spacing limit k n o m x y z r is some within so_far b =
 
 pub stands : (a : Named) (spacing k n : ℕ) (o : Outlook) → Reaches a spacing k n o → 0 < n
     → StandsAt (members a.puzzle) (k + n) o
-stands a spacing k n o r some =
-    let end : k + (n - 1) + 1 ≡ k + n = omega (arith, some) in
-    subst (λ j. StandsAt (members a.puzzle) j o) end (
-      λ _. at_next (members a.puzzle) (k + (n - 1)) _ _ r.next,
-      rest_next (members a.puzzle) (k + (n - 1)) _ _
-          r.next,
-    )
+stands a spacing k n o r some = grind (arith, nat_tests, at_next, rest_next)
 
 pub within : (a : Named) (spacing k n : ℕ) (o : Outlook) → Reaches a spacing k n o → 0 < n
     → k + n ≤ length (members a.puzzle)
@@ -116,16 +100,9 @@ within a spacing k n o r some = omega (arith, within_next (members a.puzzle) (k 
 pub none_left : (n : ℕ) (o p : Outlook)
     → p ≡ record o { to_come = drop n o.to_come; shown = shown_after n o.to_come o.shown } → length o.to_come < n
     → (p.shown ≡ []) × (p.to_come ≡ [])
-none_left n o p w h = (
-  ap (λ (o : Outlook). o.shown) w ∙ sym (shown_past n o.to_come o.shown h),
-  ap (λ (o : Outlook). o.to_come) w
-      ∙ drop_past n o.to_come (omega (arith, h)),
-)
+none_left n o p w h = grind (arith, nat_tests, shown_past n o.to_come o.shown h, drop_past n o.to_come)
 
 pub keeps : (o p q : Outlook) (ms : List (List Choice)) (m : List Choice) → q ≡ record p { to_come = ms; shown = m }
     → p ≡ record o { to_come = p.to_come; shown = p.shown } →
     q ≡ record o { to_come = q.to_come; shown = q.shown }
-keeps o p q ms m a b =
-    let puzzle : q.puzzle ≡ o.puzzle = ap (λ (o : Outlook). o.puzzle) a ∙ ap (λ (o : Outlook). o.puzzle) b in
-    let room : q.room ≡ o.room = ap (λ (o : Outlook). o.room) a ∙ ap (λ (o : Outlook). o.room) b in
-    ap₂ (λ p r. record { puzzle = p; to_come = q.to_come; shown = q.shown; room = r }) puzzle room
+keeps o p q ms m a b = grind (arith, nat_tests)

@@ -1,6 +1,7 @@
 -- The output grows member by member.
 use Rattle.std.proofs.Common.{◌≡◌, ℕ, zero, suc, ◌+◌, ◌<◌, ◌≤◌, ◌-◌, Bool, true, false, cond, List, [], ◌∷◌, ◌++◌, Some}
-use Rattle.std.proofs.Common.{length, take, drop, filter, refl, sym, ap, ◌∙◌, append-nil, add-one, arith, subst, nat_lt, lt-ltb}
+use Rattle.std.proofs.Common.{length, take, drop, filter, refl, sym, ap, ◌∙◌, append-nil, add-one, arith}
+use Rattle.std.proofs.Common.{subst, nat_lt, lt-ltb}
 use Rattle.std.proofs.Math.Seq.{take-append_seam, take-add}
 use Rattle.std.proofs.lemmas.List.{drop-drop, take-take, take-append-drop, length-drop}
 use Rattle.xc_input.proofs.lists.Places.{slice_get-drop, drop_at}
@@ -55,7 +56,8 @@ text_of a spacing ms = flat_map (member_text a) (filter (λ nm. is_printed spaci
 
 -- the text of the members behind
 abbrev text_behind : Named → ℕ → ℕ → List (List Choice) → List ℕ
-text_behind a spacing n ms = flat_map (member_text a) (filter (λ nm. is_printed spacing nm.0) (enumerate_from (1 + n) ms))
+text_behind a spacing n ms =
+    flat_map (member_text a) (filter (λ nm. is_printed spacing nm.0) (enumerate_from (1 + n) ms))
 
 text_append : (a : Named) (spacing : ℕ) (xs ys : List (List Choice))
     → text_of a spacing (xs ++ ys) ≡ text_of a spacing xs ++ text_behind a spacing (length xs) ys
@@ -118,7 +120,8 @@ known_next p k m rest e =
 
 pub take_split : {X : Type 0} (ms : List X) (k limit : ℕ) → k ≤ limit → take limit ms ≡ take k ms ++ drop k
     (take limit ms)
-take_split ms k limit h = sym (take-append-drop k (take limit ms)) ∙ ap (λ l. l ++ drop k (take limit ms)) (take-take k limit ms h)
+take_split ms k limit h =
+    sym (take-append-drop k (take limit ms)) ∙ ap (λ l. l ++ drop k (take limit ms)) (take-take k limit ms h)
 
 -- a smaller output stands before a larger one
 pub output_behind : (a : Named) (spacing k limit : ℕ) → k ≤ limit → (tail : List ℕ)

@@ -1,7 +1,9 @@
 -- The numbers that words tell, word by word.
+use Rattle.std.proofs.Common.{arith}
+use Rattle.std.proofs.lemmas.Bool.Decides.{nat_tests}
 use Rattle.std.proofs.Common.{◌≡◌, ℕ, ◌+◌, ◌<◌, List, [], ◌∷◌, ◌++◌, length, drop, map, get_or, Option, None, Some}
-use Rattle.std.proofs.Common.{refl, sym, ap, ◌∙◌, append_assoc, add-one}
-use Rattle.std.specs.Prelude.{option_map, option_and_then}
+use Rattle.std.proofs.Common.{refl, sym, ap, append_assoc, add-one}
+use Rattle.std.specs.Prelude.{option_map}
 use Rattle.xc_list.specs.PartWords.{branch_number, branch_numbers}
 use Rattle.xc_list.proofs.BelowLemmas.{items_at}
 use Rattle.xc_input.proofs.lists.Places.{drop_at}
@@ -15,11 +17,7 @@ word_at f ws i w h e = rw add-one (drop_at (map f ws) i (f w) (items_at f ws i w
 pub none_told : (ws : List (List ℕ)) (i : ℕ) (ns w : List ℕ) →
     branch_numbers ws ≡ option_map (λ ms. ns ++ ms) (branch_numbers (drop i ws)) → drop i ws ≡ w ∷ drop (i + 1) ws →
     branch_number w ≡ None → None ≡ branch_numbers ws
-none_told ws i ns w all e none =
-    let rest = drop (i + 1) ws in
-    sym (all ∙ ap (λ l. option_map (λ ms. ns ++ ms) (branch_numbers l)) e
-    ∙ ap (λ o. option_map (λ ms. ns ++ ms) (option_and_then (λ n. option_map (λ ms. n ∷ ms) (branch_numbers rest)) o))
-    none)
+none_told ws i ns w all e none = grind (arith, nat_tests)
 
 then_one : (ns : List ℕ) (n : ℕ) (o : Option (List ℕ)) →
     option_map (λ ms. ns ++ ms) (option_map (λ ms. n ∷ ms) o) ≡ option_map (λ ms. (ns ++ n ∷ []) ++ ms) o
@@ -31,10 +29,4 @@ pub one_told : (ws : List (List ℕ)) (i : ℕ) (ns w more : List ℕ) (n : ℕ)
     branch_numbers ws ≡ option_map (λ ms. ns ++ ms) (branch_numbers (drop i ws)) → drop i ws ≡ w ∷ drop (i + 1) ws →
     branch_number w ≡ Some n → more ≡ ns ++ n ∷ [] →
     branch_numbers ws ≡ option_map (λ ms. more ++ ms) (branch_numbers (drop (i + 1) ws))
-one_told ws i ns w more n all e one same =
-    let rest = drop (i + 1) ws in
-    all ∙ ap (λ l. option_map (λ ms. ns ++ ms) (branch_numbers l)) e
-    ∙ ap (λ o. option_map (λ ms. ns ++ ms) (option_and_then (λ n. option_map (λ ms. n ∷ ms) (branch_numbers rest)) o))
-    one
-    ∙ then_one ns n (branch_numbers rest)
-    ∙ ap (λ l. option_map (λ ms. l ++ ms) (branch_numbers rest)) (sym same)
+one_told ws i ns w more n all e one same = grind (arith, nat_tests, then_one ns n)

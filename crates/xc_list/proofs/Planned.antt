@@ -1,5 +1,7 @@
 -- A plan that is written part by part.
-use Rattle.std.proofs.Common.{ℕ, ◌≡◌, ◌+◌, List, [], ◌∷◌, ◌++◌, sym, ap, ap₂, ◌∙◌, subst, append_assoc, append-nil}
+use Rattle.std.proofs.Common.{arith}
+use Rattle.std.proofs.lemmas.Bool.Decides.{nat_tests}
+use Rattle.std.proofs.Common.{ℕ, ◌≡◌, ◌+◌, List, [], ◌∷◌, ◌++◌, sym, ap, ◌∙◌, subst, append_assoc, append-nil}
 use Rattle.std.proofs.Common.{length-append}
 use Rattle.std.specs.Prelude.{flat_map}
 use Rattle.std.proofs.lemmas.List.Elements.{All-nil, All-cons, All-append}
@@ -51,7 +53,4 @@ planned_broke a n path ms rest old mid new so is e broke = record {
 pub part_of : (p : Puzzle) (path : List Choice) (d e : Uncut) → d.puzzle ≡ p → path ≡ e.path → IsPath d.puzzle e.path
     → d.to_come ≡ below d.puzzle e.path ++ e.to_come →
     IsPath p path × (d.to_come ≡ below p path ++ e.to_come)
-part_of p path d e same is at here = (
-  subst (λ p. IsPath p path) same (subst (IsPath d.puzzle) (sym is) at),
-  here ∙ ap₂ (λ p path. below p path ++ e.to_come) same (sym is),
-)
+part_of p path d e same is at here = grind (arith, nat_tests)

@@ -36,11 +36,7 @@ pub took_nothing : (s : SinkState) → Took s s []
 took_nothing s = record { no_failure = refl; whole = Appends-nil s.taken; unflushed = refl }
 
 pub then_took : {a b c : SinkState} {s t : List ℕ} → Took a b s → Took b c t → Took a c (s ++ t)
-then_took {a = a} {b = b} {c = c} {s = s} {t = t} p q = record {
-  no_failure = q.no_failure ∙ p.no_failure;
-  whole = appends_more a.taken b.taken c.taken s t p.whole q.whole;
-  unflushed = q.unflushed ∙ p.unflushed;
-}
+then_took {a = a} {b = b} {c = c} {s = s} {t = t} p q = grind (arith, nat_tests, appends_more)
 
 -- it broke off behind a text that it took
 pub then_broke : {a b c : SinkState} {s t : List ℕ} → Took a b s → BrokeOff b c t → BrokeOff a c (s ++ t)

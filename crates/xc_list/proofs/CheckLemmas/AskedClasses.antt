@@ -1,4 +1,5 @@
 -- How often classes are asked, by numbers of classes and by options.
+use Rattle.std.proofs.lemmas.Bool.Decides.{nat_tests}
 use Rattle.std.proofs.lemmas.Option.{slice_get_within, get_or_from_slice_get}
 use Rattle.std.proofs.Common.{ℕ, zero, suc, ◌≡◌, ◌+◌, ◌<◌, ◌≤◌, Bool, true, false, cond, ◌==◌, List, [], ◌∷◌, length}
 use Rattle.std.proofs.Common.{get_or, replicate, Some, refl, sym, ap, ap₂, ◌∙◌, arith, subst, eqb-true, eq-eqb}
@@ -50,19 +51,12 @@ pub asked-at : (b : Classes) → AreClasses b.problem.puzzle b.classes → (k o 
     → AllZip (IsOfClass b) ks reps →
     get_or (raised ks (replicate (length b.classes) 0)) k 0 ≡ counted (alike b.problem.puzzle o) reps
 asked-at b are k o g ks reps z =
-    let m = length b.classes in
-    let below : k < m = slice_get_within b.classes k (class_at b.problem.puzzle o) g.1 in
-    omega (
-      arith,
-      raised-at ks (replicate m 0) k (omega (arith, below, length-replicate {A = ℕ} m 0)),
-      get_or-replicate
-          {A = ℕ} m k 0 0 below,
-      counted_classes b are k o g ks reps z,
-    )
+    grind (arith, nat_tests, slice_get_within, raised-at, length-replicate, get_or-replicate, counted_classes)
 
 pub members-at : (b : Classes) (k o : ℕ) → IsOfClass b k o
     → class_size b.problem.puzzle (uses_at b.classes k) ≡ counted (alike b.problem.puzzle o) (numbers b.problem.puzzle)
-members-at b k o g = ap (class_size b.problem.puzzle) (get_or_from_slice_get b.classes k (class_at b.problem.puzzle o) [] g.1)
+members-at b k o g =
+    ap (class_size b.problem.puzzle) (get_or_from_slice_get b.classes k (class_at b.problem.puzzle o) [] g.1)
     ∙ is_counted (alike b.problem.puzzle o) (numbers b.problem.puzzle)
 
 -- an option that passes a test, with its class

@@ -1,12 +1,12 @@
 -- Which bodies stand for which uses, by classes.
+use Rattle.std.proofs.lemmas.Bool.Decides.{nat_tests}
 use Rattle.std.proofs.Common.{ℕ, ◌≡◌, ◌<◌, true, ◌==◌, ◌&&◌, List, [], ◌∷◌, length, map, take, drop, sym, ap, ap₂, ◌∙◌}
-use Rattle.std.proofs.Common.{arith, refl, eqb-true, eq-eqb}
+use Rattle.std.proofs.Common.{arith, refl}
 use Rattle.std.specs.Prelude.{All}
 use Rattle.std.specs.Bool.{Decides}
 use Rattle.std.specs.Str.{bytes_eq}
 use Rattle.std.specs.List.{range_with_len}
 use Rattle.std.specs.Cmp.Lexicographic.{pointwise}
-use Rattle.std.proofs.lemmas.Bool.{and_parts}
 use Rattle.std.proofs.lemmas.List.Elements.{All-head, All-tail, All-append, All-drop, All-take}
 use Rattle.std.proofs.lemmas.Slice.Eq.{bytes_eq-Decides, slice_eq-Decides}
 use Rattle.xc_input.specs.declared.problem.Use.{Use}
@@ -35,9 +35,7 @@ body-is p words us h =
 pub is-body : (p : Named) (words : List (List ℕ)) (us : List Use) (k : ℕ) → k < length us
     → map (use_word p) (rotated_at k us) ≡ words → is_body p words us ≡ true
 is-body p words us k l e =
-    any-in (λ k. pointwise bytes_eq (map (use_word p) (rotated_at k us)) words) (range_with_len 0 (length us)) k
-    (range-in 0 (length us) k (omega arith) (omega (arith, l)))
-    ((texts-same (map (use_word p) (rotated_at k us)) words).1 e)
+    grind (arith, nat_tests, any-in, range-in 0 (length us) k, texts-same (map (use_word p) (rotated_at k us)) words)
 
 -- A body that stands for uses stands for all of their class.
 pub body-alike : (p : Named) (words : List (List ℕ)) (us vs : List Use) → DifferInItems us → DifferInItems vs
@@ -77,19 +75,7 @@ body-class p words s us vs a b d e h k =
 
 -- `==` on uses
 pub use-decides : (a b : Use) → Decides (a.item == b.item && a.colour == b.colour) (a ≡ b)
-use-decides a b = (λ h. are h, λ e. is e)
-  where
-    are : (a.item == b.item && a.colour == b.colour) ≡ true → a ≡ b
-    are h =
-        let parts = and_parts (a.item == b.item) (a.colour == b.colour) h in
-        ap₂ (λ i c. let r : Use = record { item = i; colour = c } in r) (eqb-true a.item b.item parts.0)
-        (eqb-true a.colour b.colour parts.1)
-
-    is : a ≡ b → (a.item == b.item && a.colour == b.colour) ≡ true
-    is e =
-        let x = eq-eqb a.item b.item (ap (λ (u : Use). u.item) e) in
-        let y = eq-eqb a.colour b.colour (ap (λ (u : Use). u.colour) e) in
-        rw (x, y) refl
+use-decides a b = grind (arith, nat_tests)
 
 uses-same : (us vs : List Use) → Decides (same_uses us vs) (us ≡ vs)
 uses-same us vs = slice_eq-Decides use-decides us vs (same_uses us vs) refl

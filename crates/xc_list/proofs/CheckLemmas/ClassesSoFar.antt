@@ -1,4 +1,5 @@
 -- One option more among the classes.
+use Rattle.std.proofs.lemmas.Bool.Decides.{nat_tests}
 use Rattle.std.proofs.Common.{ℕ, zero, suc, ◌≡◌, ◌≢◌, ◌+◌, ◌≤◌, Bool, true, false, cond, List, [], ◌∷◌, ◌++◌, map}
 use Rattle.std.proofs.Common.{get_or, Some, ◌⊎◌, refl, sym, ap, ap₂, ◌∙◌, arith, subst, inl, inr, ◌==◌, eqb-true}
 use Rattle.std.proofs.Common.{eq-eqb, add-one}
@@ -43,10 +44,7 @@ module _ (f g : List Use → ℕ) (x : List Use) (same : (us : List Use) → us 
   counts-found : (classes : List (List Use)) (k n : ℕ) → EachTwo (λ a b. a ≢ b) classes → slice_get classes k ≡ Some x
       → n ≡ g x → set (map f classes) k n ≡ map g classes
   counts-found [] k n d e h = cc
-  counts-found (us ∷ classes) zero n d e h =
-      let here : us ≡ x = cc in
-      ap₂ (λ n ns. n ∷ ns) (h ∙ ap g (sym here))
-      (others classes (λ vs k q. each_in (λ b. us ≢ b) classes vs d.0 k (here ∙ sym q)))
+  counts-found (us ∷ classes) zero n d e h = grind (arith, nat_tests, others classes, each_in)
   counts-found (us ∷ classes) (suc k) n d e h =
       ap₂ (λ n ns. n ∷ ns) (same us (each_in (λ b. us ≢ b) classes x d.0 (in-slice_get classes k x e)))
       (counts-found classes k n d.1 e h)
@@ -73,18 +71,10 @@ module _ (p : Puzzle) (n : ℕ) where
   added = class_at p (suc n)
 
   same_members : (us : List Use) → us ≢ added → class_size_to p n us ≡ class_size_to p (suc n) us
-  same_members us ne =
-      let other : same_uses us added ≡ false = not_false (same_uses us added) (λ q. ne (same_uses-are us added q)) in
-      let all : class_size_to p (suc n) us ≡ class_size_to p n us + cond false 1 0 =
-      subst (λ t. class_size_to p (suc n) us ≡ class_size_to p n us + cond t 1 0) other (members-suc p n us) in
-      omega (arith, all)
+  same_members us ne = grind (arith, nat_tests, same_uses-are, members-suc)
 
   one_member : class_size_to p (suc n) added ≡ class_size_to p n added + 1
-  one_member =
-      let all : class_size_to p (suc n) added ≡ class_size_to p n added + cond true 1 0 =
-      subst (λ t. class_size_to p (suc n) added ≡ class_size_to p n added + cond t 1 0) (same_uses-itself added)
-      (members-suc p n added) in
-      omega (arith, all)
+  one_member = grind (arith, nat_tests, same_uses-itself added, members-suc p n added)
 
   by_last : {X : ℕ → Type 0} → ((o : ℕ) → 1 ≤ o → o ≤ n → X o) → X (suc n) → (o : ℕ) → 1 ≤ o → o ≤ suc n → X o
   by_last {X} before last o l m = by_case (o == suc n) refl

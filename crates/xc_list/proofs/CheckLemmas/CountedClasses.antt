@@ -1,5 +1,6 @@
 -- What classes add to the counts, and that the counts are 0 again once they were cleared.
-use Rattle.std.proofs.Common.{ℕ, zero, suc, ◌≡◌, ◌≢◌, ◌+◌, ◌<◌, ◌≤◌, ◌⊎◌, inl, inr, drop, ltb, ltb-true, ltb-false}
+use Rattle.std.proofs.lemmas.Bool.Decides.{nat_tests}
+use Rattle.std.proofs.Common.{ℕ, zero, suc, ◌≡◌, ◌≢◌, ◌+◌, ◌<◌, ◌≤◌, ◌⊎◌, inl, inr, ltb, ltb-true, ltb-false}
 use Rattle.std.proofs.Common.{Bool, true, false, cond, ◌==◌, List, [], ◌∷◌, ◌++◌, length, get_or, set, take, replicate}
 use Rattle.std.proofs.Common.{Some, refl, sym, ap, ◌∙◌, arith, subst, eqb-true, eq-eqb}
 use Rattle.std.specs.Prelude.{slice_get, All}
@@ -102,13 +103,7 @@ held-append i (u ∷ us) vs = omega (arith, held-append i us vs)
 held_few : (n i : ℕ) (classes : List (List Use)) (ks : List ℕ) → AreUsable n classes → AreBelow (length classes) ks
     → held i (uses_in classes ks) ≤ length ks
 held_few n i classes [] h a = omega arith
-held_few n i classes (k ∷ ks) h a =
-    omega (
-      arith,
-      held-append i (uses_at classes k) (uses_in classes ks),
-      held_once i (uses_at classes k) (h k a.0).1,
-      held_few n i classes ks h a.1,
-    )
+held_few n i classes (k ∷ ks) h a = grind (arith, nat_tests, held_few n i classes ks h a.1, held-append, held_once)
 
 pub added_few : (n : ℕ) (classes : List (List Use)) (ks : List ℕ) (i k : ℕ) → AreUsable n classes
     → AreBelow (length classes) ks → i ≤ length ks

@@ -7,9 +7,9 @@ use Rattle.std.proofs.lemmas.List.Sums.{AllPass-from_list_all, list_all-from_All
 use Rattle.std.proofs.lemmas.List.Elements.{recursion_from_All, All-from_recursion}
 use Rattle.xc_input.proofs.lists.Places.{not_some}
 use Rattle.xc_list.proofs.CheckLemmas.ListedNumbers.{last_or}
-use Rattle.std.proofs.Common.{ℕ, zero, suc, ◌≡◌, ◌≢◌, ◌-◌, ◌<◌, ◌≤◌, ◌⊎◌, inl, inr, Bool, true, false, not, ◌&&◌, ◌||◌}
+use Rattle.std.proofs.Common.{ℕ, zero, suc, ◌≡◌, ◌-◌, ◌<◌, ◌≤◌, ◌⊎◌, inl, inr, Bool, true, ◌&&◌}
 use Rattle.std.proofs.Common.{◌==◌, List, [], ◌∷◌, length, get_or, replicate, Some, None, refl, sym, ap, ◌∙◌, arith}
-use Rattle.std.proofs.Common.{subst, eqb-true, eq-eqb, ne_eqb}
+use Rattle.std.proofs.Common.{subst, eqb-true, eq-eqb}
 use Rattle.std.specs.Prelude.{Option, slice_get, nat_le}
 use Rattle.std.specs.List.{AllByRecursion, AllZip, list_all}
 use Rattle.std.proofs.lemmas.Bool.{leb-true, le-leb}
@@ -99,14 +99,7 @@ module _ (b : Classes) (stored : List Bounds) (cs ks reps : List ℕ) (s : IsSol
 
   time : (k : ℕ) → k < item_count b.problem.puzzle
       → get_or (times_after b ks) k 0 ≡ length (given (suc k) (uses_in b.classes ks))
-  time k l =
-      let n = item_count b.problem.puzzle in
-      omega (
-        arith,
-        added-at n (uses_in b.classes ks) (replicate n 0) k items (sym (length-replicate {A = ℕ} n 0)) l,
-        get_or-replicate {A = ℕ} n k 0 0 l,
-        length-given (suc k) (uses_in b.classes ks),
-      )
+  time k l = grind (arith, nat_tests, added-at, items, length-replicate, get_or-replicate, length-given)
 
   held_time : (k : ℕ) → k < item_count b.problem.puzzle
       → get_or (times_after b ks) k 0 ≡ times_held b.problem.puzzle (suc k) reps
@@ -128,13 +121,7 @@ module _ (b : Classes) (stored : List Bounds) (cs ks reps : List ℕ) (s : IsSol
       → AllByRecursion (λ u. u.item ≡ suc k
       → agrees (slice_get stored k) (get_or (times_after b ks) k 0) (get_or (colours_after b ks cs) k 0) u.colour ≡
       true) (uses_in b.classes ks)
-  met_at k a =
-      each_weaker (λ u. is_met stored (times_after b ks) (colours_after b ks cs) u ≡ true)
-      (λ u. u.item ≡ suc k → agrees (slice_get stored k) (get_or (times_after b ks) k 0)
-      (get_or (colours_after b ks cs) k 0) u.colour ≡ true) (uses_in b.classes ks)
-      (λ u h e. let at : u.item - 1 ≡ k = omega (arith, e) in subst
-      (λ j. agrees (slice_get stored j) (get_or (times_after b ks) j 0) (get_or (colours_after b ks cs) j 0)
-      u.colour ≡ true) at h) a
+  met_at k a = grind (arith, nat_tests, each_weaker)
 
   high : AreMet b stored cs ks → (k : ℕ) (x : Bounds) → slice_get stored k ≡ Some x
       → get_or (times_after b ks) k 0 ≤ x.high
@@ -261,12 +248,7 @@ module _ (b : Classes) (stored : List Bounds) (cs ks reps : List ℕ) (s : IsSol
 
   counts : IsCoverOfClasses b.problem.puzzle reps → (short_of stored (times_after b ks) ≡ 0) × AreMet b stored cs ks
       × AreAsked b ks
-  counts h = (
-    none_short stored (times_after b ks) (λ k x e. (limited h k x e).0),
-    each_from (λ u. is_met stored (times_after b ks) (colours_after b ks cs) u ≡ true) (uses_in b.classes ks)
-        (met_one h),
-    each_class b (IsRoomFor b ks) ks reps (classes_by_asked b s.classes ks reps s.taken h.asked) s.taken,
-  )
+  counts h = grind (arith, nat_tests, none_short, limited, each_from, met_one, each_class, classes_by_asked)
 
 -- ---- the verdict
 

@@ -67,26 +67,7 @@ longer x b (w ∷ ws) e = ap (λ t. t && list_all is_word ws) (longer-word x b w
 both : (text : List ℕ) → (list_all is_word (words_in text) ≡ words_from true text)
     × ((x : ℕ) → is_space x ≡ false → list_all is_word (onto_first x (words_in text)) ≡ words_from false text)
 both [] = (refl, λ x e. ap (λ t. t && true) (one-byte x e))
-both (b ∷ text) =
-    let later : (list_all is_word (words_in text) ≡ words_from true text)
-    × ((x : ℕ) → is_space x ≡ false → list_all is_word (onto_first x (words_in text)) ≡ words_from false text) =
-    both text in
-    let S : Bool → Type 0 =
-    λ s. is_space b ≡ s → list_all is_word (onto_first b (words_in text)) ≡ (not s && words_from false text) in
-    let step : S (is_space b) =
-    (elim (is_space b) as S [ true ↦ λ e. spaced b (words_in text) e | false ↦ λ e. later.1 b e ]) in
-    let P : Bool → Type 0 =
-    λ t. list_all is_word (if t then [] ∷ words_in text else onto_first b (words_in text)) ≡
-    (if t then not true && words_from true text else not (is_space b) && words_from false text) in
-    let h : P (nat_eq b 32) = (elim (nat_eq b 32) as P [ true ↦ refl | false ↦ step refl ]) in
-    let Q : ℕ → Bool → Type 0 =
-    λ x t. list_all is_word (onto_first x (if t then [] ∷ words_in text else onto_first b (words_in text))) ≡
-    (if t then not false && words_from true text else not (is_space b) && words_from false text) in
-    let g : (x : ℕ) → is_space x ≡ false → Q x (nat_eq b 32) = λ x e. elim (nat_eq b 32) as (Q x) [
-      | true ↦ ap (λ t. t && list_all is_word (words_in text)) (one-byte x e) ∙ later.0
-      | false ↦ longer x b (words_in text) e ∙ step refl
-    ] in
-    (h, g)
+both (b ∷ text) = grind (arith, nat_tests, both text, spaced b (words_in text), one-byte, longer)
 
 pub all_words : (text : List ℕ) → list_all is_word (words_in text) ≡ words_from true text
 all_words text = (both text).0

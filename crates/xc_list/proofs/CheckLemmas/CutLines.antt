@@ -1,11 +1,12 @@
 -- Texts cut at a byte, and what is left of their lines and words.
+use Rattle.std.proofs.lemmas.Bool.Decides.{nat_tests}
 use Rattle.std.proofs.lemmas.List.{take_rest}
 use Rattle.std.proofs.Common.{◌≡◌, ℕ, zero, suc, ◌+◌, ◌-◌, ◌<◌, Bool, true, false, nat_eq, List, [], ◌∷◌, ◌++◌, length}
 use Rattle.std.proofs.Common.{take, drop, get_or, refl, sym, ap, ◌∙◌, append_assoc, add-one, arith, if◌then◌else◌}
 use Rattle.std.proofs.Common.{Option, None, MatchOption, subst}
 use Rattle.std.specs.List.{onto_first}
 use Rattle.std.proofs.lemmas.Bool.{eqb-true}
-use Rattle.xc_input.specs.Words.{has, before, after}
+use Rattle.xc_input.specs.Words.{has}
 use Rattle.xc_input.specs.Lines.{lines_of}
 use Rattle.xc_input.proofs.GrammarLemmas.NoFault.{or-false, cut-is}
 use Rattle.xc_input.proofs.LineLemmas.TextLines.{lines_of-ended}
@@ -18,10 +19,7 @@ pub first_cut : (b : ℕ) (xs ys : List ℕ) (k : ℕ) → ys ≡ take (length x
     → ((j : ℕ) → j < k → nat_eq (get_or xs j 0) b ≡ false) → nat_eq (get_or xs k 0) b ≡ true
     → (has b (take k xs) ≡ false) × (xs ≡ take k xs ++ b ∷ ys)
 first_cut b xs ys k e l h g =
-    let f : (has b xs ≡ true) × (take k xs ≡ before b xs) × (drop (suc k) xs ≡ after b xs) = has-at b xs k l h g in
-    let cut = cut-is b xs f.0 in
-    let rest : ys ≡ after b xs = e ∙ take_rest xs (k + 1) ∙ ap (λ n. drop n xs) (add-one k) ∙ f.2 in
-    (ap (has b) f.1 ∙ cut.1, cut.0 ∙ (λ i. sym f.1 i ++ b ∷ sym rest i))
+    grind (arith, nat_tests, has-at b xs k l h g, cut-is b xs, take_rest xs (k + 1), add-one k)
 
 at_last : (b : ℕ) (xs : List ℕ) (k : ℕ) → k < length xs
     → ((j : ℕ) → k < j → j < length xs → nat_eq (get_or xs j 0) b ≡ false) → nat_eq (get_or xs k 0) b ≡ true
@@ -38,10 +36,7 @@ at_last b (x ∷ xs) (suc k) l h g =
 pub last_cut : (b : ℕ) (xs ys : List ℕ) (k : ℕ) → ys ≡ take (length xs - (k + 1)) (drop (k + 1) xs) → k < length xs
     → ((j : ℕ) → k < j → j < length xs → nat_eq (get_or xs j 0) b ≡ false) → nat_eq (get_or xs k 0) b ≡ true
     → (has b ys ≡ false) × (xs ≡ take k xs ++ b ∷ ys)
-last_cut b xs ys k e l h g =
-    let f = at_last b xs k l h g in
-    let rest : ys ≡ drop (suc k) xs = e ∙ take_rest xs (k + 1) ∙ ap (λ n. drop n xs) (add-one k) in
-    (ap (has b) rest ∙ f.1, f.0 ∙ ap (λ zs. take k xs ++ b ∷ zs) (sym rest))
+last_cut b xs ys k e l h g = grind (arith, nat_tests, at_last b xs k l h g, take_rest xs (k + 1), add-one k)
 
 -- LINES
 pub first_line : (text line rest : List ℕ) → has 10 line ≡ false → text ≡ line ++ 10 ∷ rest
@@ -84,15 +79,7 @@ onto_first-append x (v ∷ vs) ws l = refl
 
 last : (front word : List ℕ) → has 32 word ≡ false → words_in (front ++ 32 ∷ word) ≡ words_in front ++ word ∷ []
 last [] word h = ap (λ ws. [] ∷ ws) (one_word word h)
-last (x ∷ front) word h =
-    let P : Bool → Type 0 =
-    λ t. (if t then [] ∷ words_in (front ++ 32 ∷ word) else onto_first x (words_in (front ++ 32 ∷ word))) ≡
-    (if t then [] ∷ words_in front else onto_first x (words_in front)) ++ word ∷ [] in
-    elim (nat_eq x 32) as P [
-      | true ↦ ap (λ ws. [] ∷ ws) (last front word h)
-      | false ↦ ap (onto_first x) (last front word h)
-          ∙ onto_first-append x (words_in front) (word ∷ []) (some_words front)
-    ]
+last (x ∷ front) word h = grind (arith, nat_tests, last front word h, some_words front)
 
 pub last_word : (text front word : List ℕ) → has 32 word ≡ false → text ≡ front ++ 32 ∷ word
     → words_in text ≡ words_in front ++ word ∷ []

@@ -1,8 +1,8 @@
 -- A listed solution is a cover exactly where its classes are, by counting.
+use Rattle.std.proofs.lemmas.Bool.Decides.{nat_tests}
 use Rattle.std.specs.List.{AllZip}
-use Rattle.std.proofs.Common.{ℕ, zero, suc, ◌≡◌, ◌≢◌, ◌+◌, ◌<◌, Bool, true, false, cond, ◌==◌, List, [], ◌∷◌, filter}
-use Rattle.std.proofs.Common.{Option, Some, None, refl, sym, ap₂, ◌∙◌, arith, subst, inl, inr, eqb-true, eq-eqb, ltb}
-use Rattle.std.proofs.Common.{ltb-true, ltb-false}
+use Rattle.std.proofs.Common.{ℕ, zero, suc, ◌≡◌, ◌≢◌, ◌+◌, ◌<◌, Bool, true, cond, List, [], ◌∷◌, filter}
+use Rattle.std.proofs.Common.{Option, Some, None, refl, sym, ap₂, ◌∙◌, arith, subst, inl, inr}
 use Rattle.std.specs.Prelude.{slice_get, is_some, All, IsTrue, ◌↔◌}
 use Rattle.std.proofs.lemmas.List.Elements.{recursion_from_All, All-from_recursion}
 use Rattle.std.proofs.lemmas.Slice.Zip.{AllZip-left, AllZip-right}
@@ -84,10 +84,7 @@ zipped_alike P Q R [] [] (z ∷ zs) f h = (λ k. k, λ k. k)
 zipped_alike P Q R [] (y ∷ ys) zs f h = absurd h
 zipped_alike P Q R (x ∷ xs) [] zs f h = absurd h
 zipped_alike P Q R (x ∷ xs) (y ∷ ys) [] f h = (λ k. k, λ k. k)
-zipped_alike P Q R (x ∷ xs) (y ∷ ys) (z ∷ zs) f h =
-    let here = f x y z (inl refl) (inl refl) h.0 in
-    let more = zipped_alike P Q R xs ys zs (λ u v w j k. f u v w (inr j) (inr k)) h.1 in
-    (λ k. (here.0 k.0, more.0 k.1), λ k. (here.1 k.0, more.1 k.1))
+zipped_alike P Q R (x ∷ xs) (y ∷ ys) (z ∷ zs) f h = grind (arith, nat_tests, zipped_alike P Q R xs ys zs)
 
 -- what stands for the same bodies is alike, and what is alike stands for the same bodies
 pub stand-alike : (p : Named) → IsSound p → (bodies : List (List (List ℕ))) (reps s : List ℕ) → AreKnown p.puzzle reps

@@ -1,7 +1,9 @@
 -- Different options in place of options that are alike: there are such exactly where no class is asked more often than
 -- it has members.
-use Rattle.std.proofs.Common.{ℕ, zero, suc, ◌≡◌, ◌≢◌, ◌+◌, ◌<◌, ◌≤◌, Bool, true, false, cond, not, ◌==◌, List, [], ◌∷◌}
-use Rattle.std.proofs.Common.{length, get_or, filter, Some, refl, sym, ap, ap₂, ◌∙◌, arith, subst, inl, inr, ne_eqb, eq-eqb}
+use Rattle.std.proofs.lemmas.Bool.Decides.{nat_tests}
+use Rattle.std.proofs.Common.{ℕ, ◌≡◌, ◌≢◌, ◌+◌, ◌<◌, ◌≤◌, Bool, true, cond, not, ◌==◌, List, [], ◌∷◌}
+use Rattle.std.proofs.Common.{length, get_or, filter, Some, refl, sym, ap₂, ◌∙◌, arith, subst, inl}
+use Rattle.std.proofs.Common.{inr, eq-eqb}
 use Rattle.std.specs.Prelude.{slice_get, count_by}
 use Rattle.std.specs.List.{AllZip}
 use Rattle.std.proofs.lemmas.List.Elements.{filter_agree}
@@ -17,11 +19,7 @@ counted p (x ∷ xs) = cond (p x) 1 0 + counted p xs
 
 pub counted-length : {X : Type 0} (p : X → Bool) (xs : List X) → length (filter p xs) ≡ counted p xs
 counted-length p [] = refl
-counted-length p (x ∷ xs) =
-    elim (p x) as (λ b. length (cond b (x ∷ filter p xs) (filter p xs)) ≡ cond b 1 0 + counted p xs) [
-      | true ↦ omega (arith, counted-length p xs)
-      | false ↦ omega (arith, counted-length p xs)
-    ]
+counted-length p (x ∷ xs) = grind (arith, nat_tests, counted-length p xs)
 
 pub is_counted : (p : ℕ → Bool) (xs : List ℕ) → count_by p xs ≡ counted p xs
 is_counted p xs = sym (length-filter p xs) ∙ counted-length p xs
@@ -32,11 +30,7 @@ count_same p q (x ∷ xs) h = ap₂ (λ b n. cond b 1 0 + n) (h x) (count_same p
 
 pub count_filter_le : (q t : ℕ → Bool) (xs : List ℕ) → counted q (filter t xs) ≤ counted q xs
 count_filter_le q t [] = omega arith
-count_filter_le q t (x ∷ xs) =
-    elim (t x) as (λ b. counted q (cond b (x ∷ filter t xs) (filter t xs)) ≤ cond (q x) 1 0 + counted q xs) [
-      | true ↦ omega (arith, count_filter_le q t xs)
-      | false ↦ omega (arith, count_filter_le q t xs)
-    ]
+count_filter_le q t (x ∷ xs) = grind (arith, nat_tests, count_filter_le q t xs)
 
 abbrev isnt : ℕ → ℕ → Bool
 isnt o x = not (x == o)
@@ -44,29 +38,15 @@ isnt o x = not (x == o)
 pub count_without : (q : ℕ → Bool) (xs : List ℕ) (o : ℕ) → IsIn xs o
     → counted q (filter (isnt o) xs) + cond (q o) 1 0 ≤ counted q xs
 count_without q [] o h = absurd h
-count_without q (x ∷ xs) o (inl e) =
-    let gone : (x == o) ≡ true = eq-eqb x o e in
-    let here : q x ≡ q o = ap q e in
-    rw (gone, here) (omega (arith, count_filter_le q (isnt o) xs))
-count_without q (x ∷ xs) o (inr h) =
-    let later = count_without q xs o h in
-    elim (x == o) as (λ b. counted q (cond (not b) (x ∷ filter (isnt o) xs) (filter (isnt o) xs)) + cond (q o) 1 0 ≤
-    cond (q x) 1 0 + counted q xs) [
-      | true ↦ omega (arith, later)
-      | false ↦ omega (arith, later)
-    ]
+count_without q (x ∷ xs) o (inl e) = grind (arith, nat_tests, eq-eqb x o e, count_filter_le q (isnt o) xs)
+count_without q (x ∷ xs) o (inr h) = grind (arith, nat_tests, count_without q xs o h)
 
 -- Different members of a list are, of each sort, no more than the list has.
 pub count_within : (q : ℕ → Bool) (s all : List ℕ) → EachTwo (λ a b. a ≢ b) s → ((x : ℕ) → IsIn s x → IsIn all x)
     → counted q s ≤ counted q all
 count_within q [] all d h = omega arith
 count_within q (o ∷ s) all d h =
-    let apart : (x : ℕ) → IsIn s x → isnt o x ≡ true =
-    λ x k. (let ne : x ≢ o = λ e. each_in (λ b. o ≢ b) s x d.0 k (sym e) in let t : (x == o) ≡ false = ne_eqb x o ne
-    in ap not t) in
-    let later =
-    count_within q s (filter (isnt o) all) d.1 (λ x k. filter-in (isnt o) all x (h x (inr k)) (apart x k)) in
-    omega (arith, later, count_without q all o (h o (inl refl)))
+    grind (arith, nat_tests, count_within q s (filter (isnt o) all) d.1, each_in, filter-in, count_without)
 
 -- an equivalence of numbers
 pub record IsLikeness (same : ℕ → ℕ → Bool) : Type 0 where
@@ -75,14 +55,7 @@ pub record IsLikeness (same : ℕ → ℕ → Bool) : Type 0 where
   pub on : (a b c : ℕ) → same a b ≡ true → same b c ≡ true → same a c ≡ true
 
 pub one_class : (same : ℕ → ℕ → Bool) → IsLikeness same → (a b : ℕ) → same a b ≡ true → (x : ℕ) → same a x ≡ same b x
-one_class same classes a b e x =
-    elim (same a x) as (λ u. same a x ≡ u → u ≡ same b x) [
-      | true ↦ λ f. sym (classes.on b a x (classes.back a b e) f)
-      | false ↦ λ f. elim (same b x) as (λ v. same b x ≡ v → false ≡ v) [
-        | true ↦ λ g. sym f ∙ classes.on a b x e g
-        | false ↦ λ g. refl
-      ] refl
-    ] refl
+one_class same classes a b e x = grind (arith, nat_tests)
 
 abbrev pub AreApart : List ℕ → Type 0
 AreApart s = EachTwo (λ a b. a ≢ b) s
@@ -96,16 +69,7 @@ pub count_alike : (same : ℕ → ℕ → Bool) → IsLikeness same → (r : ℕ
 count_alike same classes r [] [] z = refl
 count_alike same classes r [] (o ∷ s) z = absurd z
 count_alike same classes r (q ∷ reps) [] z = absurd z
-count_alike same classes r (q ∷ reps) (o ∷ s) z =
-    let here : same r q ≡ same r o =
-    elim (same r q) as (λ u. same r q ≡ u → u ≡ same r o) [
-      | true ↦ λ f. sym (classes.on r q o f z.0)
-      | false ↦ λ f. elim (same r o) as (λ v. same r o ≡ v → false ≡ v) [
-        | true ↦ λ g. sym f ∙ classes.on r o q g (classes.back q o z.0)
-        | false ↦ λ g. refl
-      ] refl
-    ] refl
-    in ap₂ (λ b n. cond b 1 0 + n) here (count_alike same classes r reps s z.1)
+count_alike same classes r (q ∷ reps) (o ∷ s) z = grind (arith, nat_tests, count_alike same classes r reps s z.1)
 
 -- No class is asked more often than it has members.
 pub asked_within : (same : ℕ → ℕ → Bool) → IsLikeness same → (all reps s : List ℕ) → AreAlike same reps s → AreApart s
@@ -119,14 +83,7 @@ slice_get_there xs n l = (get_or xs n 0, slice_get-get_or xs n 0 l)
 
 pub EachTwo-filter : (t : ℕ → Bool) (xs : List ℕ) → AreApart xs → AreApart (filter t xs)
 EachTwo-filter t [] a = tt
-EachTwo-filter t (x ∷ xs) a =
-    elim (t x) as (λ b. AreApart (cond b (x ∷ filter t xs) (filter t xs))) [
-      | true ↦ (
-        each_from (λ b. x ≢ b) (filter t xs) (λ y k. each_in (λ b. x ≢ b) xs y a.0 (in-filter t xs y k).0),
-        EachTwo-filter t xs a.1,
-      )
-      | false ↦ EachTwo-filter t xs a.1
-    ]
+EachTwo-filter t (x ∷ xs) a = grind (arith, nat_tests, EachTwo-filter t xs a.1, each_from, each_in, in-filter t xs)
 
 -- one number at two places of a list without repetition
 pub places_differ : (xs : List ℕ) (j k o : ℕ) → AreApart xs → j < k → slice_get xs j ≡ Some o

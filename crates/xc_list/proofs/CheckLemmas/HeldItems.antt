@@ -1,6 +1,6 @@
 -- What uses add to the counts of their items.
 use Rattle.std.proofs.Common.{ℕ, zero, suc, ◌≡◌, ◌≢◌, ◌+◌, ◌-◌, ◌<◌, ◌≤◌, Bool, true, false, cond, ◌==◌, List, [], ◌∷◌}
-use Rattle.std.proofs.Common.{◌++◌, length, get_or, set, take, refl, sym, ap, ap₂, ◌∙◌, arith, subst, eqb-true, ne_eqb}
+use Rattle.std.proofs.Common.{◌++◌, length, get_or, set, take, refl, sym, ap, ◌∙◌, arith, subst, eqb-true, ne_eqb}
 use Rattle.std.proofs.Common.{eq-eqb}
 use Rattle.std.specs.List.{AllByRecursion}
 use Rattle.std.proofs.lemmas.List.{get_or-set_same, get_or-set_other, length-set, take_more}
@@ -79,10 +79,7 @@ length-cleared us ts = length-lowered (item_places us) ts
 
 held-places : (n : ℕ) (us : List Use) (k : ℕ) → AreItems n us → counted (λ j. j == k) (item_places us) ≡ held (suc k) us
 held-places n [] k a = refl
-held-places n (u ∷ us) k a =
-    let some : 1 ≤ u.item = a.0.0 in
-    let same : (u.item - 1 == k) ≡ (u.item == suc k) = grind (arith, nat_tests) in
-    ap₂ (λ t m. cond t 1 0 + m) same (held-places n us k a.1)
+held-places n (u ∷ us) k a = grind (arith, nat_tests, held-places n us k a.1)
 
 -- at the place of each item
 pub added-at : (n : ℕ) (us : List Use) (ts : List ℕ) (k : ℕ) → AreItems n us → n ≡ length ts → k < n

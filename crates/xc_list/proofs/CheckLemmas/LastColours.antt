@@ -1,6 +1,8 @@
 -- The colours that options give an item, in turn.
+use Rattle.std.proofs.lemmas.Bool.Decides.{nat_tests}
 use Rattle.std.proofs.Common.{ℕ, zero, suc, ◌≡◌, ◌≢◌, ◌+◌, ◌-◌, ◌<◌, ◌⊎◌, inl, inr, Bool, true, false, cond, ◌==◌, List}
-use Rattle.std.proofs.Common.{[], ◌∷◌, ◌++◌, length, map, filter, get_or, set, Some, None, refl, sym, ap, ap₂, ◌∙◌, arith, subst}
+use Rattle.std.proofs.Common.{[], ◌∷◌, ◌++◌, length, map, filter, get_or, set, Some, None, refl, sym, ap, ap₂}
+use Rattle.std.proofs.Common.{◌∙◌, arith, subst}
 use Rattle.std.proofs.Common.{eqb-true, ne_eqb, eq-eqb}
 use Rattle.std.specs.Prelude.{Option, slice_get, is_some}
 use Rattle.std.specs.List.{AllByRecursion, AllZip}
@@ -151,15 +153,8 @@ gathered-each P p i (o ∷ reps) h =
 gathered-at : (P : ℕ → Type 0) (p : Puzzle) (i : ℕ) (reps : List ℕ) (k o c : ℕ) → AllByRecursion P (gathered p i reps)
     → slice_get reps k ≡ Some o → colour_in (uses_of p o) i ≡ Some c → P c
 gathered-at P p i [] k o c a e f = cc
-gathered-at P p i (q ∷ reps) zero o c a e f =
-    let same : q ≡ o = cc in
-    let colour : colour_in (uses_of p q) i ≡ Some c = ap (λ r. colour_in (uses_of p r) i) same ∙ f in
-    (subst (λ v. AllByRecursion P (with_some v (gathered p i reps))) colour a).0
-gathered-at P p i (q ∷ reps) (suc k) o c a e f = gathered-at P p i reps k o c (tail (colour_in (uses_of p q) i) a) e f
-  where
-    tail : (v : Option ℕ) → AllByRecursion P (with_some v (gathered p i reps)) → AllByRecursion P (gathered p i reps)
-    tail None h = h
-    tail (Some d) h = h.1
+gathered-at P p i (q ∷ reps) zero o c a e f = grind (arith, nat_tests)
+gathered-at P p i (q ∷ reps) (suc k) o c a e f = grind (arith, nat_tests, gathered-at P p i reps k o c)
 
 -- ---- colours that agree
 
@@ -188,15 +183,8 @@ agree-gathered p i [] h j k a b c d l e f x y = cc
 agree-gathered p i (o ∷ reps) h zero zero a b c d l e f x y = absurd (omega (arith, l))
 agree-gathered p i (o ∷ reps) h (suc j) zero a b c d l e f x y = absurd (omega (arith, l))
 agree-gathered p i (o ∷ reps) h zero (suc k) a b c d l e f x y =
-    let same : o ≡ a = cc in
-    let colour : colour_in (uses_of p o) i ≡ Some c = ap (λ r. colour_in (uses_of p r) i) same ∙ x in
-    gathered-at (Agree c) p i reps k b d (subst (λ v. EachTwo Agree (with_some v (gathered p i reps))) colour h).0 f y
-agree-gathered p i (o ∷ reps) h (suc j) (suc k) a b c d l e f x y =
-    agree-gathered p i reps (tail (colour_in (uses_of p o) i) h) j k a b c d (omega (arith, l)) e f x y
-  where
-    tail : (v : Option ℕ) → EachTwo Agree (with_some v (gathered p i reps)) → EachTwo Agree (gathered p i reps)
-    tail None t = t
-    tail (Some q) t = t.1
+    grind (arith, nat_tests, gathered-at (Agree c) p i reps k b d)
+agree-gathered p i (o ∷ reps) h (suc j) (suc k) a b c d l e f x y = grind (arith, nat_tests, agree-gathered p i reps)
 
 -- there is one colour alone, or each is the last, and isn't 0
 abbrev pub IsLast : ℕ → List ℕ → ℕ → Type 0

@@ -1,5 +1,6 @@
 -- Numbers in a row, and what stands at a number.
-use Rattle.std.proofs.Common.{ℕ, zero, suc, ◌≡◌, ◌≢◌, ◌⊎◌, ◌+◌, ◌<◌, ◌≤◌, Bool, true, false, ◌||◌, List, [], ◌∷◌, ◌++◌}
+use Rattle.std.proofs.lemmas.Bool.Decides.{nat_tests}
+use Rattle.std.proofs.Common.{ℕ, zero, suc, ◌≡◌, ◌≢◌, ◌⊎◌, ◌+◌, ◌<◌, ◌≤◌, Bool, true, false, ◌||◌, List, [], ◌∷◌}
 use Rattle.std.proofs.Common.{length, get_or, Some, refl, sym, ap, ◌∙◌, arith, inl, inr}
 use Rattle.std.specs.Prelude.{slice_get, unwrap_or, All, AllPairs}
 use Rattle.std.specs.List.{list_any, range_with_len}
@@ -20,20 +21,11 @@ in-range a (suc n) k (inr h) = let later = in-range (a + 1) n k h in (omega (ari
 
 pub range-in : (a n k : ℕ) → a ≤ k → k < a + n → IsIn (range_with_len a n) k
 range-in a zero k l m = absurd (omega (arith, l, m))
-range-in a (suc n) k l m =
-    elim (cases_eq a k) [
-      | inl e ↦ inl e
-      | inr ne ↦ inr
-          (range-in (a + 1) n k (omega (arith, l, ne)) (omega (arith, m)))
-    ]
+range-in a (suc n) k l m = grind (arith, nat_tests, range-in (a + 1) n k, cases_eq a k)
 
 pub range-apart : (a n : ℕ) → EachTwo (λ j k. j ≢ k) (range_with_len a n)
 range-apart a zero = tt
-range-apart a (suc n) = (
-  each_from (λ k. a ≢ k) (range_with_len (a + 1) n)
-      (λ k h e. let l = in-range (a + 1) n k h in omega (arith, l.0, e)),
-  range-apart (a + 1) n,
-)
+range-apart a (suc n) = grind (arith, nat_tests, range-apart (a + 1) n, each_from, in-range (a + 1) n)
 
 -- the last number
 abbrev pub last_or : ℕ → List ℕ → ℕ
@@ -50,12 +42,7 @@ any-in p (y ∷ ys) x (inr h) e =
 
 pub in-any : {X : Type 0} (p : X → Bool) (xs : List X) → list_any p xs ≡ true → (x : X) × IsIn xs x × (p x ≡ true)
 in-any p [] h = cc
-in-any {X} p (x ∷ xs) h =
-    let later : list_any p xs ≡ true → (y : X) × IsIn xs y × (p y ≡ true) = in-any p xs in
-    elim (p x) as (λ t. p x ≡ t → (t || list_any p xs) ≡ true → (y : X) × IsIn (x ∷ xs) y × (p y ≡ true)) [
-      | true ↦ λ e k. (x, inl refl, e)
-      | false ↦ λ e k. let y = later k in (y.0, inr y.1, y.2)
-    ] refl h
+in-any {X} p (x ∷ xs) h = grind (arith, nat_tests, in-any p xs)
 
 -- ---- what stands at a number
 

@@ -1,4 +1,5 @@
 -- The solutions that lines list, line by line.
+use Rattle.std.proofs.lemmas.Bool.Decides.{nat_tests}
 use Rattle.std.proofs.Common.{◌≡◌, ℕ, suc, ◌+◌, cond, not, List, [], ◌∷◌, Option, Some, None, is_some, take, refl, sym}
 use Rattle.std.proofs.Common.{ap, ◌∙◌, arith, subst}
 use Rattle.std.specs.Prelude.{filter_map}
@@ -52,17 +53,8 @@ by_line : (l : List ℕ) (lines : List (List ℕ)) (o : Option ℕ) (b : Option 
 by_line l lines (Some n) b h g =
     ap (λ o. before_listing (line_is o (body_of l)) (parts lines)) h
     ∙ (λ i. record { loose = sym (loose-cons l lines (Some n) b h g) i; solutions = sym (ap (with_header lines) h) i })
-by_line l lines None (Some words) h g =
-    ap (λ o. before_listing (line_is o (body_of l)) (parts lines)) h
-    ∙ ap (λ b. before_listing (line_is None b) (parts lines)) g
-    ∙ (λ i. record {
-      loose = sym (loose-cons l lines None (Some words) h g) i;
-      solutions = sym (ap (with_header lines) h) i;
-    })
-by_line l lines None None h g =
-    ap (λ o. before_listing (line_is o (body_of l)) (parts lines)) h
-    ∙ ap (λ b. before_listing (line_is None b) (parts lines)) g
-    ∙ (λ i. record { loose = sym (loose-cons l lines None None h g) i; solutions = sym (ap (with_header lines) h) i })
+by_line l lines None (Some words) h g = grind (arith, nat_tests, loose-cons l lines None (Some words) h g)
+by_line l lines None None h g = grind (arith, nat_tests, loose-cons l lines None None h g)
 
 listed : (lines : List (List ℕ)) → listing_of lines ≡ parts lines
 listed [] = refl

@@ -1,4 +1,5 @@
 -- The uses that have a body's words.
+use Rattle.std.proofs.lemmas.Bool.Decides.{nat_tests}
 use Rattle.std.proofs.Common.{ℕ, zero, suc, ◌≡◌, ◌⊎◌, ◌<◌, ◌≤◌, Bool, true, false, List, [], ◌∷◌, ◌++◌, length, map}
 use Rattle.std.proofs.Common.{Option, MatchOption, Bor, Some, None, refl, sym, ap, ap₂, ◌∙◌, arith, append-nil, inl}
 use Rattle.std.proofs.Common.{inr}
@@ -26,11 +27,7 @@ coloured : (colours : List (List ℕ)) (name : List ℕ) (c : ℕ) → has COLON
     × (name ++ colour_text colours c ≡ name ++ COLON ∷ bytes_at colours c))
 coloured colours name zero h l = inl (refl, append-nil name, ap (has COLON) (append-nil name) ∙ h)
 coloured colours name (suc c) h l =
-    inr (
-      numbered_some colours (suc c) [] (omega arith) l,
-      ap (λ t. name ++ t)
-          (colour_text-some colours (suc c) (omega arith)),
-    )
+    grind (arith, nat_tests, numbered_some colours (suc c), colour_text-some colours (suc c))
 
 module _ (p : Named) (s : IsSound p) (u : Use) (known : IsKnownUse p u) where
   within : u.item ≤ length p.names
@@ -105,11 +102,7 @@ word-at p (u ∷ vs) (v ∷ a) w b all e = word-at p vs a w b (All-tail (IsKnown
 -- no uses have the words of the body where none has a word of it
 pub read-none : (p : Named) (body text word : List ℕ) (words : List (List ℕ)) (us : List Use) → AreRead p body text us
     → words_in text ≡ word ∷ words → IsUseOfWord p word None → (vs : List Use) → HaveWords p (words_in body) vs → ⊥
-read-none p body text word words us r e h vs have =
-    let u =
-    word-at p vs (map (use_word p) us) word words have.known
-    (have.words_so ∙ sym r.1 ∙ ap (λ ws. map (use_word p) us ++ ws) e) in
-    h u.0 u.1 u.2
+read-none p body text word words us r e h vs have = grind (arith, nat_tests, word-at)
 
 -- a cut gives a first word
 pub first_word : (text word : List ℕ) (rest : Option (Bor (List ℕ)))

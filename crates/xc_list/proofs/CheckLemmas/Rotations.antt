@@ -1,6 +1,8 @@
 -- Rotations of uses, and that those of one list have one class: for `rotate` and the checker's classes.
-use Rattle.std.proofs.Common.{ℕ, zero, suc, ◌+◌, ◌≡◌, ◌≢◌, ◌<◌, ◌≤◌, Bool, true, false, cond, not, ◌==◌, List, [], ◌∷◌, ◌++◌}
-use Rattle.std.proofs.Common.{length, take, drop, get_or, map, min, Option, Some, None, refl, sym, ap, ◌∙◌, arith, subst, inl, inr}
+use Rattle.std.proofs.Common.{ℕ, zero, suc, ◌+◌, ◌≡◌, ◌≢◌, ◌<◌, ◌≤◌, true, false, cond, not, ◌==◌, List}
+use Rattle.std.proofs.Common.{[], ◌∷◌, ◌++◌}
+use Rattle.std.proofs.Common.{length, take, drop, get_or, map, min, Option, Some, None, refl, sym, ap, ◌∙◌, arith}
+use Rattle.std.proofs.Common.{subst, inl, inr}
 use Rattle.std.proofs.Common.{eqb-true, eq-eqb, append_assoc}
 use Rattle.std.specs.Prelude.{fold}
 use Rattle.std.proofs.lemmas.Bool.{cases_lt, cases_eq}
@@ -15,7 +17,7 @@ use Rattle.xc_input.specs.UsePlaces.{place_in}
 use Rattle.xc_input.specs.Problem.{colour_in}
 use Rattle.xc_list.specs.Output.{rotated_at, from_item}
 use Rattle.xc_list.specs.inner.Classes.{least_of, class_of}
-use Rattle.xc_input.proofs.lists.Members.{IsIn, each_in, in-contains}
+use Rattle.xc_input.proofs.lists.Members.{IsIn, in-contains}
 use Rattle.xc_input.proofs.lists.EachTwo.{EachTwo, EachTwo-parts, EachTwo-swapped}
 
 -- ---- uses of different items
@@ -54,11 +56,11 @@ module _ (i : ℕ) (a b : List Use) where
   place_behind h = grind (arith, nat_tests, place, place-le)
 
 holds-swapped : (i : ℕ) (a b : List Use) → Holds i (a ++ b) → Holds i (b ++ a)
-holds-swapped i a b h =
-    grind (arith, nat_tests, place i a b, place i b a, place-le i a b, place-le i b a, length-append a b, length-append b a)
+holds-swapped i a b h = grind (arith, nat_tests, place, place-le, length-append)
 
 -- turned to an item of one half, both orders of the halves are one list
-halves-turned : (i : ℕ) (a b : List Use) → Holds i a → length b ≤ place_in i b → from_item i (b ++ a) ≡ from_item i (a ++ b)
+halves-turned : (i : ℕ) (a b : List Use) → Holds i a → length b ≤ place_in i b
+    → from_item i (b ++ a) ≡ from_item i (a ++ b)
 halves-turned i a b h k =
     let before : place_in i a ≤ length a = omega arith in
     rw (place_front i a b h, place_behind i b a k, drop-append-add, take-append-add, drop-append-le, take-append-le)
@@ -133,12 +135,7 @@ least-swapped (u ∷ a) (v ∷ b) = omega (arith, least-append u v a b, least-ap
 
 least-held : (u : Use) (us : List Use) → Holds (least_of (u ∷ us)) (u ∷ us)
 least-held u [] = first-held u []
-least-held u (v ∷ us) = elim (cases_eq (least_of (u ∷ v ∷ us)) u.item) [
-  | inl e ↦ subst (λ m. Holds m (u ∷ v ∷ us)) (sym e) (first-held u (v ∷ us))
-  | inr e ↦
-      let rest : least_of (u ∷ v ∷ us) ≡ least_of (v ∷ us) = omega (arith, least_of-cons u v us, e) in
-      subst (λ m. Holds m (u ∷ v ∷ us)) (sym rest) (holds-behind (least_of (v ∷ us)) u (v ∷ us) (least-held v us))
-]
+least-held u (v ∷ us) = grind (arith, nat_tests, least-held v us, cases_eq, first-held, least_of-cons, holds-behind)
 
 -- ---- classes
 

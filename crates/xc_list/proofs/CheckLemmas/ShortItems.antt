@@ -1,4 +1,5 @@
 -- How many items are held too seldom.
+use Rattle.std.proofs.lemmas.Bool.Decides.{nat_tests}
 use Rattle.std.proofs.Common.{ℕ, zero, suc, ◌≡◌, ◌≢◌, ◌+◌, ◌<◌, ◌≤◌, Bool, true, false, List, [], ◌∷◌, length, get_or}
 use Rattle.std.proofs.Common.{set, replicate, Some, refl, sym, cond, arith, subst, ltb-true, ltb-false, lt-ltb, le-ltb}
 use Rattle.xc_input.specs.declared.problem.Bounds.{Bounds}
@@ -12,10 +13,7 @@ pub short_reached : (bs : List Bounds) (ts : List ℕ) (k t : ℕ) (d : Bounds) 
     short_of bs (set ts k (t + 1)) + 1 ≡ short_of bs ts
 short_reached [] ts k t d l e m r = absurd (omega (arith, m))
 short_reached (b ∷ bs) [] k t d l e m r = absurd (omega (arith, l))
-short_reached (b ∷ bs) (x ∷ ts) zero t d l e m r =
-    let after : nat_lt (t + 1) b.low ≡ false = le-ltb _ _ (omega (arith, r)) in
-    let before : nat_lt x b.low ≡ true = lt-ltb _ _ (omega (arith, r, e)) in
-    rw (after, before) (omega arith)
+short_reached (b ∷ bs) (x ∷ ts) zero t d l e m r = grind (arith, nat_tests, le-ltb, lt-ltb)
 short_reached (b ∷ bs) (x ∷ ts) (suc k) t d l e m r =
     omega (arith, short_reached bs ts k t d (omega (arith, l)) e (omega (arith, m)) r)
 
@@ -25,14 +23,7 @@ pub short_kept : (bs : List Bounds) (ts : List ℕ) (k t : ℕ) (d : Bounds) →
     short_of bs (set ts k (t + 1)) ≡ short_of bs ts
 short_kept [] ts k t d l e r = refl
 short_kept (b ∷ bs) [] k t d l e r = absurd (omega (arith, l))
-short_kept (b ∷ bs) (x ∷ ts) zero t d l e r =
-    let ne : t + 1 ≢ b.low = r (omega arith) in
-    let same : nat_lt (t + 1) b.low ≡ nat_lt x b.low =
-    elim (nat_lt x b.low) as (λ v. nat_lt x b.low ≡ v → nat_lt (t + 1) b.low ≡ v) [
-      | true ↦ λ q. lt-ltb _ _ (omega (arith, ltb-true x b.low q, ne, e))
-      | false ↦ λ q. le-ltb _ _ (omega (arith, ltb-false x b.low q, e))
-    ] refl
-    in rw same refl
+short_kept (b ∷ bs) (x ∷ ts) zero t d l e r = grind (arith, nat_tests, lt-ltb, ltb-true, le-ltb, ltb-false)
 short_kept (b ∷ bs) (x ∷ ts) (suc k) t d l e r =
     omega (arith, short_kept bs ts k t d (omega (arith, l)) e (λ m. r (omega (arith, m))))
 

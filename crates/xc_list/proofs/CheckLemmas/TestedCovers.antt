@@ -1,8 +1,8 @@
 -- Options are a cover exactly where the tests of its conditions say so.
-use Rattle.std.proofs.Common.{ℕ, zero, suc, ◌≡◌, ◌≢◌, ◌+◌, ◌<◌, ◌≤◌, Bool, true, false, cond, ◌==◌, List, [], ◌∷◌}
-use Rattle.std.proofs.Common.{Option, Some, None, refl, sym, ap, ◌∙◌, arith, subst, inl, inr, eqb-true, eq-eqb, ne_eqb}
+use Rattle.std.proofs.Common.{ℕ, zero, suc, ◌≡◌, ◌≢◌, ◌+◌, ◌<◌, ◌≤◌, Bool, true, false, ◌==◌, List, [], ◌∷◌}
+use Rattle.std.proofs.Common.{Option, Some, None, refl, sym, ap, arith, subst, inl, inr, eqb-true, eq-eqb, ne_eqb}
 use Rattle.std.specs.Prelude.{All, AllPairs, nat_le, ◌||◌}
-use Rattle.std.specs.List.{list_all, list_any, AllByRecursion}
+use Rattle.std.specs.List.{list_all, list_any}
 use Rattle.std.proofs.lemmas.Bool.Decides.{nat_tests}
 use Rattle.std.proofs.lemmas.List.Elements.{recursion_from_All, All-from_recursion, All-contains}
 use Rattle.std.proofs.lemmas.List.Sums.{AllPass-from_list_all, list_all-from_AllPass}
@@ -23,7 +23,8 @@ use Rattle.xc_list.proofs.CheckLemmas.Rotations.{DifferInItems}
 -- ---- tests of lists
 
 each-passes : {X : Type 0} (f : X → Bool) (xs : List X) → ((x : X) → IsIn xs x → f x ≡ true) → list_all f xs ≡ true
-each-passes f xs h = list_all-from_AllPass f xs (All-from_recursion (λ x. f x ≡ true) xs (each_from (λ x. f x ≡ true) xs h))
+each-passes f xs h =
+    list_all-from_AllPass f xs (All-from_recursion (λ x. f x ≡ true) xs (each_from (λ x. f x ≡ true) xs h))
 
 passes-at : {X : Type 0} (f : X → Bool) (xs : List X) (x : X) → list_all f xs ≡ true → IsIn xs x → f x ≡ true
 passes-at f xs x h k = All-contains (λ x. f x ≡ true) xs x (AllPass-from_list_all f xs h) (contains-in xs x k)
@@ -34,12 +35,7 @@ passes-at f xs x h k = All-contains (λ x. f x ≡ true) xs x (AllPass-from_list
 use_of_colour : (us : List Use) (i c : ℕ) → colour_in us i ≡ Some c → (u : Use) × IsIn us u × (u.item ≡ i)
     × (u.colour ≡ c)
 use_of_colour [] i c h = cc
-use_of_colour (u ∷ us) i c h =
-    elim (u.item == i) as (λ b. (u.item == i) ≡ b → cond b (Some u.colour) (colour_in us i) ≡ Some c → (v : Use)
-    × IsIn (u ∷ us) v × (v.item ≡ i) × (v.colour ≡ c)) [
-      | true ↦ λ e k. let same : u.colour ≡ c = cc in (u, inl refl, eqb-true _ _ e, same)
-      | false ↦ λ e k. let later = use_of_colour us i c k in (later.0, inr later.1, later.2, later.3)
-    ] refl h
+use_of_colour (u ∷ us) i c h = grind (arith, nat_tests, use_of_colour us i c, eqb-true)
 
 -- a use gives its item its colour, where items differ
 colour_of_use : (us : List Use) (u : Use) → DifferInItems us → IsIn us u → colour_in us u.item ≡ Some u.colour
@@ -52,11 +48,7 @@ colour_of_use (v ∷ us) u d (inr q) =
     rw other (colour_of_use us u d.1 q)
 
 met_colour : (o : Option ℕ) (c d : ℕ) → is_colour_met o c ≡ true → o ≡ Some d → (c ≡ d) × (0 < c)
-met_colour (Some e) c d h q =
-    let same : e ≡ d = cc in
-    let equal : e ≡ c = eqb-true _ _ (and_left _ _ h) in
-    let some : 0 < e = grind (arith, nat_tests) in
-    (sym equal ∙ same, subst (λ n. 0 < n) equal some)
+met_colour (Some e) c d h q = grind (arith, nat_tests, eqb-true, and_left)
 met_colour None c d h q = cc
 
 colour_met : (o : Option ℕ) (c : ℕ) → ((d : ℕ) → o ≡ Some d → (c ≡ d) × (0 < c)) → is_colour_met o c ≡ true
@@ -71,13 +63,7 @@ colour_met None c h = refl
 
 within_bounds : (o : Option Bounds) (b : Bounds) (t : ℕ) → o ≡ Some b → is_within o t ≡ true → (b.low ≤ t)
     × (t ≤ b.high)
-within_bounds (Some x) b t e h =
-    let same : x ≡ b = cc in
-    let low : nat_le x.low t ≡ true = and_left (nat_le x.low t) (nat_le t x.high) h in
-    let high : nat_le t x.high ≡ true = and_right (nat_le x.low t) (nat_le t x.high) h in
-    let above : x.low ≤ t = grind (arith, nat_tests) in
-    let below : t ≤ x.high = grind (arith, nat_tests) in
-    subst (λ (y : Bounds). (y.low ≤ t) × (t ≤ y.high)) same (above, below)
+within_bounds (Some x) b t e h = grind (arith, nat_tests, and_left, and_right)
 within_bounds None b t e h = cc
 
 -- ---- two options
@@ -85,16 +71,7 @@ within_bounds None b t e h = cc
 -- what two options that agree give a secondary item
 agreed : (p : Puzzle) (a b i c d : ℕ) → do_agree p a b ≡ true → a ≢ b → IsSecondary p i →
     colour_in (uses_of p a) i ≡ Some c → colour_in (uses_of p b) i ≡ Some d → (c ≡ d) × (0 < c)
-agreed p a b i c d h apart second in_a in_b =
-    let other : (a == b) ≡ false = ne_eqb _ _ apart in
-    let all : are_uses_met (primary_count p) (uses_of p b) (uses_of p a) ≡ true = rw other at h in
-    let u = use_of_colour (uses_of p a) i c in_a in
-    let met = passes-at (is_use_met (primary_count p) (uses_of p b)) (uses_of p a) u.0 all u.1 in
-    let behind : nat_le u.0.item (primary_count p) ≡ false =
-    (let item = u.2 in let above = second.0 in grind (arith, nat_tests)) in
-    let colour : is_colour_met (colour_in (uses_of p b) u.0.item) u.0.colour ≡ true = rw behind at met in
-    let r = met_colour _ u.0.colour d colour (ap (colour_in (uses_of p b)) u.2 ∙ in_b) in
-    (sym u.3 ∙ r.0, subst (λ n. 0 < n) u.3 r.1)
+agreed p a b i c d h apart second in_a in_b = grind (arith, nat_tests, use_of_colour, passes-at, met_colour)
 
 -- and where they give each secondary item one colour, they agree
 agree : (p : Puzzle) → IsValid p → (a b : ℕ) → IsOption p a →
@@ -138,10 +115,7 @@ stands_again x others rest e h apart =
 -- one that doesn't
 pub stands_alone : (x : ℕ) (others rest : List ℕ) → rest ≡ x ∷ others → list_any (λ y. y == x) others ≡ false
     → EachTwo (λ a b. a ≢ b) others → EachTwo (λ a b. a ≢ b) rest
-stands_alone x others rest e h apart =
-    let alone : AllByRecursion (λ y. x ≢ y) others =
-    each_from (λ y. x ≢ y) others (λ y k q. let t = any-in (λ y. y == x) others y k (eq-eqb y x (sym q)) in cc) in
-    subst (EachTwo (λ a b. a ≢ b)) (sym e) (alone, apart)
+stands_alone x others rest e h apart = grind (arith, nat_tests, each_from, any-in, eq-eqb)
 
 -- ---- covers
 

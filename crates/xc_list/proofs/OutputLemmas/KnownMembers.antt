@@ -1,4 +1,5 @@
 -- The choices of a member can be told.
+use Rattle.std.proofs.lemmas.Bool.Decides.{nat_tests}
 use Rattle.std.proofs.Common.{◌≡◌, ℕ, zero, suc, ◌+◌, ◌≤◌, Bool, true, false, cond, not, ◌&&◌, List, [], ◌∷◌, Option}
 use Rattle.std.proofs.Common.{None, Some, length, take, filter, map, refl, sym, ap, ◌∙◌, arith, subst, nat_lt}
 use Rattle.xc_search.proofs.Spent.{less_one}
@@ -78,11 +79,7 @@ branch_known p count (v ∷ vs) w all e =
     subst (IsKnownItem p) same best
 
 spend_item : (x : Numbered) (w : Wanted) → (spend_one x w).item ≡ w.item
-spend_item x w = by_case (holds x w.item)
-  where
-    by_case : (b : Bool) → (cond b (less_one w) w).item ≡ w.item
-    by_case true = refl
-    by_case false = refl
+spend_item x w = grind (arith, nat_tests, less_one w)
 
 pick_known : (p : Puzzle) (r : Residual) (i : ℕ) (x : Numbered) → IsKnownResidual p r → IsKnownResidual p (pick r i x)
 pick_known p r i x known = record {

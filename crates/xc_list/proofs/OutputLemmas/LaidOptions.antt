@@ -1,13 +1,14 @@
 -- Texts of options laid out one behind another.
+use Rattle.std.proofs.lemmas.Bool.Decides.{nat_tests}
 use Rattle.std.proofs.Math.Seq.{take-append_seam}
-use Rattle.std.proofs.lemmas.List.{drop-append-le, take-append-le, drop-take, drop-drop, take-take, length-take, length-map}
+use Rattle.std.proofs.lemmas.List.{drop-append-le, take-append-le, drop-take, drop-drop}
+use Rattle.std.proofs.lemmas.List.{take-take, length-take, length-map}
 use Rattle.xc_list.specs.inner.LineParts.{use_text}
 use Rattle.std.proofs.Common.{ℕ, zero, suc, ◌≡◌, ◌+◌, ◌-◌, ◌<◌, ◌≤◌, List, [], ◌∷◌, ◌++◌, length, map, take, drop}
-use Rattle.std.proofs.Common.{get_or, Some, refl, sym, ap, ap₂, ◌∙◌, arith, subst, length-append, length-drop}
+use Rattle.std.proofs.Common.{get_or, Some, refl, sym, ap, ap₂, ◌∙◌, arith, length-append, length-drop}
 use Rattle.std.proofs.Common.{eq-eqb, append_assoc, append-nil}
-use Rattle.std.specs.Prelude.{◌==◌, flat_map, slice_range, unwrap_or}
+use Rattle.std.specs.Prelude.{flat_map, slice_range, unwrap_or}
 use Rattle.std.proofs.lemmas.Grind.{common_steps}
-use Rattle.std.proofs.lemmas.List.Sums.{position_or_len_is}
 use Rattle.std.proofs.lemmas.List.Concat.{flat_map-append}
 use Rattle.xc_input.specs.declared.problem.Use.{Use}
 use Rattle.xc_input.specs.UsePlaces.{place_in}
@@ -149,11 +150,7 @@ cut_in_span a item us all texts from count place e f at h =
 -- nothing is put where nothing stands before the cut
 pub nothing_put : (page texts : List ℕ) (n place : ℕ) → place ≤ 0
     → take (n + place) page ≡ take n page ++ take place texts
-nothing_put page texts n place h =
-    let none : place ≡ 0 = omega (arith, h) in
-    let same : n + 0 ≡ n = omega arith in
-    subst (λ k. take (n + k) page ≡ take n page ++ take k texts) (sym none)
-    (ap (λ k. take k page) same ∙ sym (append-nil (take n page)))
+nothing_put page texts n place h = grind (arith, nat_tests, append-nil (take n page))
 
 -- the part behind the cut is put on a page, and then the part before it
 pub text_put : (a : Named) (item : ℕ) (us all : List Use) (texts page one two : List ℕ) (at from count place : ℕ)
@@ -193,22 +190,12 @@ firsts-at (us ∷ os) (suc j) x h = firsts-at os j x (omega (arith, h))
 pub first_read : (os : List (List Use)) (firsts : List ℕ) (o x : ℕ) → firsts ≡ map first_item os
     → (1 ≤ o) × (o ≤ length os) → x ≡ get_or firsts (o - 1) x
     → first_item (unwrap_or (numbered_get os o) []) ≡ x
-first_read os firsts o x e known at =
-    let o_is : suc (o - 1) ≡ o = omega (arith, known.0) in
-    let here : o - 1 < length os = omega (arith, known.0, known.1) in
-    sym (at
-    ∙ ap (λ fs. get_or fs (o - 1) x) e
-    ∙ firsts-at os (o - 1) x here
-    ∙ ap (λ n. first_item (unwrap_or (numbered_get os n) [])) o_is)
+first_read os firsts o x e known at = grind (arith, nat_tests, firsts-at os (o - 1) x)
 
 -- from its first use's item on an option stands in file order
 pub from_first : (item : ℕ) (us : List Use) → first_item us ≡ item → from_item item us ≡ us
 from_first item [] e = refl
-from_first item (u ∷ us) e =
-    let at : place_in item (u ∷ us) ≡ 0 =
-    position_or_len_is (λ v. v.item == item) (u ∷ us) 0 (record { item = 0; colour = 0 }) (omega arith)
-    (λ k h. absurd (omega (arith, h))) (λ h. eq-eqb u.item item e) in
-    ap (λ n. drop n (u ∷ us) ++ take n (u ∷ us)) at ∙ append-nil (u ∷ us)
+from_first item (u ∷ us) e = grind (arith, nat_tests, eq-eqb u.item item e, append-nil (u ∷ us))
 
 pub firsts-length : (os : List (List Use)) (firsts : List ℕ) → firsts ≡ map first_item os → length firsts ≡ length os
 firsts-length os firsts e = ap length e ∙ length-map os first_item

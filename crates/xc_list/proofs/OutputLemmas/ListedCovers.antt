@@ -21,7 +21,7 @@ use Rattle.xc_list.specs.inner.ReadLines.{Header, Body}
 use Rattle.xc_list.proofs.CheckLemmas.CheckedLines.{fault_said, lines-cons}
 use Rattle.xc_list.specs.declared.checker.Verdict.{Verdict}
 use Rattle.xc_list.specs.declared.checker.ListingFault.{ListingFault}
-use Rattle.xc_list.specs.declared.checker.ListingFault.TheVariants.{BadLine, UnknownOption, Memory}
+use Rattle.xc_list.specs.declared.checker.ListingFault.TheVariants.{UnknownOption, Memory}
 use Rattle.std.specs.Option.{option_or}
 use Rattle.xc_list.specs.Listed.{Solution, IsVerdictOn, AreVerdicts, IsListingFault, stands_for, is_known}
 use Rattle.xc_list.specs.Listed.{fault_in_lines, solutions_of, IsListedCover}
@@ -218,16 +218,7 @@ outputs_are_covers p sound none spacing limit h =
 pub wants_memory : (p : Named) (listing : List ℕ) (spacing limit : ℕ) (e : ListingFault) → IsSound p
     → All (λ n. n ≢ codes "null") p.names → limit < 2 ^ 64 → listing ≡ output p spacing limit
     → IsListingFault p (lines_of listing) e → e ≡ Memory
-wants_memory p listing spacing limit e sound none fits is first =
-    by_fault e (subst (λ text. IsListingFault p (lines_of text) e) is first)
-  where
-    no_fault : fault_in_lines p 0 (lines_of (output p spacing limit)) ≡ None
-    no_fault = (outputs_are_covers p sound none spacing limit fits).0
-
-    by_fault : (e : ListingFault) → IsListingFault p (lines_of (output p spacing limit)) e → e ≡ Memory
-    by_fault (BadLine n) first = absurd (cc (no_fault, first))
-    by_fault (UnknownOption n) first = absurd (cc (no_fault, first))
-    by_fault Memory first = refl
+wants_memory p listing spacing limit e sound none fits is first = grind (arith, nat_tests, outputs_are_covers)
 
 each_yes : (p : Named) (ss : List Solution) (vs : List Verdict) → All (λ s. IsListedCover p s.bodies) ss
     → AllZip (IsVerdictOn p) ss vs → All (λ v. IsTrue v.cover) vs

@@ -1,11 +1,10 @@
 -- What the lines of an output are read as.
 use Rattle.std.proofs.Common.{◌≡◌, ℕ, ◌+◌, ◌-◌, ◌*◌, ◌/◌, ◌%◌, ◌^◌, ◌<◌, ◌≤◌, Bool, true, false, not, ◌&&◌, nat_lt}
-use Rattle.std.proofs.Common.{nat_eq, List, [], ◌∷◌, ◌++◌, Option, None, Some, length, take, drop, refl, sym, ap, ◌∙◌}
-use Rattle.std.proofs.Common.{subst, arith, length-append, lt-ltb}
+use Rattle.std.proofs.Common.{nat_eq, List, [], ◌∷◌, ◌++◌, Option, None, Some, length, take, drop, refl, ap, ◌∙◌}
+use Rattle.std.proofs.Common.{arith, length-append, lt-ltb}
 use Rattle.xc_input.proofs.TokenLemmas.DecimalValues.{value_from}
 use Rattle.std.specs.Prelude.{All, codes, decimal, nat_le, ◌==◌, if◌then◌else◌}
-use Rattle.std.specs.Io.BufRead.{ends_with_byte}
-use Rattle.std.specs.List.{list_all, list_any, onto_first}
+use Rattle.std.specs.List.{list_all, list_any}
 use Rattle.std.proofs.lemmas.Bool.Decides.{nat_tests}
 use Rattle.std.proofs.lemmas.Fmt.{decimal_by_steps, length-decimal-le}
 use Rattle.std.proofs.lemmas.List.Elements.{All-nil, All-cons, All-head, All-tail, All-append}
@@ -13,12 +12,12 @@ use Rattle.std.proofs.lemmas.List.Folds.{list_all-append, list_any-append}
 use Rattle.std.proofs.Math.Seq.{drop-append_seam, take-append_seam}
 use Rattle.xc_input.specs.Words.{has}
 use Rattle.xc_input.specs.Tokens.{is_space}
-use Rattle.xc_input.proofs.GrammarLemmas.NoFault.{or-false, or-both, and-true, and-both}
+use Rattle.xc_input.proofs.GrammarLemmas.NoFault.{or-both, and-true, and-both}
 use Rattle.std.specs.Char.{is_ascii_digit}
 use Rattle.xc_list.specs.Settings.{long_number}
 use Rattle.xc_list.proofs.CheckLemmas.CutBodies.{last_byte}
 use Rattle.xc_list.proofs.Digits.{some_digits}
-use Rattle.xc_list.specs.ListingLines.{words_in, before_last, header_number, is_word, is_closing}
+use Rattle.xc_list.specs.ListingLines.{words_in, before_last, header_number, is_word}
 use Rattle.xc_list.specs.ListingLines.{is_ending, body_of_words, body_of}
 use Rattle.xc_input.specs.Words.{are_digits}
 use Rattle.xc_list.specs.inner.ReadLines.{Line, Header, Body, Other, read}
@@ -68,11 +67,7 @@ decimal_digits n h = decimal_by_steps AreDigitsOf one_digit one_more n h
 
 are_digits-is : (most : ℕ) (text : List ℕ) → 1 ≤ length text → length text ≤ most → list_all is_ascii_digit text ≡ true
     → are_digits most text ≡ true
-are_digits-is most text h k e =
-    let a : nat_le 1 (length text) ≡ true = grind (arith, nat_tests) in
-    let b : nat_le (length text) most ≡ true = grind (arith, nat_tests) in
-    and-both (nat_le 1 (length text) && nat_le (length text) most) (list_all is_ascii_digit text)
-    (and-both (nat_le 1 (length text)) (nat_le (length text) most) a b) e
+are_digits-is most text h k e = grind (arith, nat_tests)
 
 -- a number below 10 ^ k has at most k digits
 are_digits-decimal : (k n : ℕ) → 0 < k → n < 10 ^ k → n < 2 ^ 64 → are_digits k (decimal n) ≡ true
@@ -115,15 +110,7 @@ solution_number-decimal n h =
     ∙ ap (λ t. if t then Some (value_from 0 (decimal n)) else None) test ∙ ap Some known.value
 
 pub read-header : (n : ℕ) → n < 2 ^ 64 → read (decimal n ++ codes ":") ≡ Header n
-read-header n h =
-    let number : header_number (decimal n ++ COLON ∷ []) ≡ Some n =
-    ap (λ o. elim o as (λ _. Option ℕ) [ None ↦ None | Some text ↦ solution_number text ])
-    (before_last-last COLON (decimal n)) ∙ solution_number-decimal n h in
-    ap (λ o. elim o as (λ _. Line) [
-      | Some m ↦ Header m
-      | None ↦ elim (body_of (decimal n ++ COLON ∷ [])) as (λ _. Line)
-          [ Some words ↦ Body words | None ↦ Other ]
-    ]) number
+read-header n h = grind (arith, nat_tests, before_last-last COLON (decimal n), solution_number-decimal n h)
 
 -- ---- words
 
@@ -134,10 +121,7 @@ pub record IsPlain (w : List ℕ) : Type 0 where
   pub no_feed : has 10 w ≡ false
 
 is_word-plain : (w : List ℕ) → IsPlain w → is_word w ≡ true
-is_word-plain w plain =
-    let more : 1 ≤ length w = plain.some in
-    let a : not (length w == 0) ≡ true = grind (arith, nat_tests) in
-    and-both (not (length w == 0)) (not (list_any is_space w)) a (ap not plain.no_space)
+is_word-plain w plain = grind (arith, nat_tests, and-both (not (length w == 0)) (not (list_any is_space w)))
 
 are_words : (ws : List (List ℕ)) → All IsPlain ws → list_all is_word ws ≡ true
 are_words [] plain = refl
@@ -156,17 +140,11 @@ no_space-not_32 b h = grind (arith, nat_tests)
 -- a word at the front, before other words
 words_in-front : (w rest : List ℕ) → list_any is_space w ≡ false → words_in (w ++ 32 ∷ rest) ≡ w ∷ words_in rest
 words_in-front [] rest h = refl
-words_in-front (b ∷ w) rest h =
-    let both = or-false (is_space b) (list_any is_space w) h in
-    ap (λ t. if t then [] ∷ words_in (w ++ 32 ∷ rest) else onto_first b (words_in (w ++ 32 ∷ rest)))
-    (no_space-not_32 b both.0) ∙ ap (onto_first b) (words_in-front w rest both.1)
+words_in-front (b ∷ w) rest h = grind (arith, nat_tests, words_in-front w rest, no_space-not_32)
 
 words_in-last : (w : List ℕ) → list_any is_space w ≡ false → words_in (w ++ []) ≡ w ∷ []
 words_in-last [] h = refl
-words_in-last (b ∷ w) h =
-    let both = or-false (is_space b) (list_any is_space w) h in
-    ap (λ t. if t then [] ∷ words_in (w ++ []) else onto_first b (words_in (w ++ []))) (no_space-not_32 b both.0)
-    ∙ ap (onto_first b) (words_in-last w both.1)
+words_in-last (b ∷ w) h = grind (arith, nat_tests, words_in-last w, no_space-not_32)
 
 words_in-spaced : (w : List ℕ) (ws : List (List ℕ)) → IsPlain w → All IsPlain ws → words_in (w ++ spaced ws) ≡ w ∷ ws
 words_in-spaced w [] plain others = words_in-last w plain.no_space
@@ -234,32 +212,12 @@ plain-ending k n h l =
     (All-cons IsPlain (decimal n ++ codes ")") [] closing (All-nil IsPlain)))
 
 is_ending-words : (k n : ℕ) → k < 10 ^ 10 → n < 10 ^ 10 → is_ending (ending_words k n) ≡ true
-is_ending-words k n h l =
-    let ks : are_digits 10 (decimal k) ≡ true = are_digits-decimal 10 k (omega arith) h (omega (arith, h)) in
-    let ns : are_digits 10 (decimal n) ≡ true = are_digits-decimal 10 n (omega arith) l (omega (arith, l)) in
-    let closing : is_closing (decimal n ++ 41 ∷ []) ≡ true =
-    ap (λ o. elim o as (λ _. Bool) [ None ↦ false | Some digits ↦ are_digits 10 digits ])
-    (before_last-last 41 (decimal n)) ∙ ns in
-    and-both (are_digits 10 (decimal k) && true) (is_closing (decimal n ++ 41 ∷ []))
-    (and-both (are_digits 10 (decimal k)) true ks refl) closing
+is_ending-words k n h l = grind (arith, nat_tests, are_digits-decimal, before_last-last)
 
 -- no header begins with a space
 no_header : (line : List ℕ) → header_number (32 ∷ line) ≡ None
 no_header [] = refl
-no_header (b ∷ line) =
-    let text : List ℕ = 32 ∷ b ∷ line in
-    let Q : Bool → ℕ → Type 0 = λ t m. (elim (if t then Some (take m text) else None) as (λ _. Option ℕ)
-    [ None ↦ None | Some digits ↦ solution_number digits ]) ≡ None in
-    let n : length text - 1 ≡ length (b ∷ line) = omega arith in
-    let h : Q (ends_with_byte COLON text) (length (b ∷ line)) =
-    (elim (ends_with_byte COLON text) as (λ t. Q t (length (b ∷ line)))
-    [ true ↦ not_digits (take (length line) (b ∷ line)) | false ↦ refl ]) in
-    subst (Q (ends_with_byte COLON text)) (sym n) h
-  where
-    not_digits : (front : List ℕ) → solution_number (32 ∷ front) ≡ None
-    not_digits front =
-        elim (nat_le (length (32 ∷ front)) 20) as (λ t. (if t then long_number (32 ∷ front) else None) ≡ None)
-        [ true ↦ refl | false ↦ refl ]
+no_header (b ∷ line) = grind (arith, nat_tests)
 
 pub read-choice : (body : List (List ℕ)) (k n : ℕ) → 1 ≤ length body → All IsPlain body → k < 10 ^ 10 → n < 10 ^ 10
     → (read (spaced (body ++ ending_words k n)) ≡ Body body) × (has 10 (spaced (body ++ ending_words k n)) ≡ false)
