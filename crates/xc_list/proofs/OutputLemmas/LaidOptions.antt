@@ -1,14 +1,13 @@
 -- Texts of options laid out one behind another.
 use Rattle.std.proofs.lemmas.Bool.Decides.{nat_tests}
-use Rattle.std.proofs.Math.Seq.{take-append_seam}
+use Rattle.std.proofs.Math.Seq.{take-append_seam, drop-append_seam}
 use Rattle.std.proofs.lemmas.List.{drop-append-le, take-append-le, drop-take, drop-drop}
-use Rattle.std.proofs.lemmas.List.{take-take, length-take, length-map}
+use Rattle.std.proofs.lemmas.List.{take-take, length-take, length-map, take-append-drop}
 use Rattle.xc_list.specs.inner.LineParts.{use_text}
 use Rattle.std.proofs.Common.{ℕ, zero, suc, ◌≡◌, ◌+◌, ◌-◌, ◌<◌, ◌≤◌, List, [], ◌∷◌, ◌++◌, length, map, take, drop}
 use Rattle.std.proofs.Common.{get_or, Some, refl, sym, ap, ap₂, ◌∙◌, arith, length-append, length-drop}
 use Rattle.std.proofs.Common.{eq-eqb, append_assoc, append-nil}
 use Rattle.std.specs.Prelude.{flat_map, slice_range, unwrap_or}
-use Rattle.std.proofs.lemmas.Grind.{common_steps}
 use Rattle.std.proofs.lemmas.List.Concat.{flat_map-append}
 use Rattle.xc_input.specs.declared.problem.Use.{Use}
 use Rattle.xc_input.specs.UsePlaces.{place_in}
@@ -44,12 +43,10 @@ laid_part a os texts starts o x y l known e f =
     sym part.2 ∙ ap (λ ts. numbered_get ts o) l.parts ∙ numbered-map (uses_text a) os o known.0 known.1 in
     (part.0, part.1, cc text)
 
-take_drop : (us : List Use) (n : ℕ) → us ≡ take n us ++ drop n us
-take_drop us n = grind (arith, common_steps)
-
 -- the text of uses, cut behind some of them
 text-cut : (a : Named) (us : List Use) (n : ℕ) → uses_text a us ≡ uses_text a (take n us) ++ uses_text a (drop n us)
-text-cut a us n = ap (uses_text a) (take_drop us n) ∙ flat_map-append (use_text a) (take n us) (drop n us)
+text-cut a us n =
+    ap (uses_text a) (sym (take-append-drop n us)) ∙ flat_map-append (use_text a) (take n us) (drop n us)
 
 -- one use more is within the text
 pub length-more : (a : Named) (us : List Use) (i : ℕ) (d : Use) → i < length us
@@ -61,9 +58,6 @@ length-more a us i d h =
       length-append (uses_text a (take i us) ++ use_text a (get_or us i d)) (uses_text a (drop (i + 1) us)),
       length-append (uses_text a (take i us)) (use_text a (get_or us i d)),
     )
-
-drop-front : (xs ys : List ℕ) → drop (length xs) (xs ++ ys) ≡ ys
-drop-front xs ys = grind (arith, common_steps)
 
 -- where an item's use starts in the text of uses that were read
 pub cut_within : (a : Named) (item : ℕ) (us all : List Use) (text : List ℕ) (place : ℕ) → us ≡ all
@@ -93,7 +87,7 @@ cut_gives a item us all text before after place e f at b d =
     let back = uses_text a (drop p us) in
     let whole : text ≡ front ++ back = f ∙ ap (uses_text a) (sym e) ∙ text-cut a us p in
     let before_is : before ≡ front = b ∙ ap₂ take at whole ∙ take-append_seam front back in
-    let after_is : after ≡ back = d ∙ ap₂ drop at whole ∙ drop-front front back in
+    let after_is : after ≡ back = d ∙ ap₂ drop at whole ∙ drop-append_seam front back in
     ap (λ vs. flat_map (use_text a) (from_item item vs)) (sym e)
     ∙ flat_map-append (use_text a) (drop p us) (take p us)
     ∙ ap₂ (λ x y. x ++ y) (sym after_is) (sym before_is)
