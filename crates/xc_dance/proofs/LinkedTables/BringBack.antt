@@ -5,8 +5,8 @@ use Rattle.std.proofs.Common.{fold, get_or, set, refl, ap, sym, subst, ◌∙◌
 use Rattle.std.proofs.Common.{not, ◌&&◌, ◌++◌, filter, reverse, ap₂, ne_eqb}
 use Rattle.std.specs.List.{list_any}
 use Rattle.std.proofs.lemmas.Grind.{common_steps}
-use Rattle.std.proofs.lemmas.Bool.{false≢true, eqb-false, and_parts}
-use Rattle.std.proofs.lemmas.List.{length-map, reverse-append, map-append}
+use Rattle.std.proofs.lemmas.Bool.{false≢true, and_parts}
+use Rattle.std.proofs.lemmas.List.{length-map}
 use Rattle.std.proofs.lemmas.Option.{slice_get_within}
 use Rattle.std.proofs.Math.Bool.{or-true}
 use Rattle.xc_input.specs.Problem.{Puzzle, item_count, uses_of}
@@ -31,8 +31,8 @@ use Rattle.xc_dance.proofs.LinkedTables.OneOption.{is_mark, IsApart, AllApart, c
 use Rattle.xc_dance.proofs.LinkedTables.OneOption.{gone_count, all_at, line_here, line_there}
 use Rattle.xc_dance.proofs.LinkedTables.Sweep.{mended, with_line, in_above, by_first, put_at-same, put_at-other, put_at}
 use Rattle.xc_dance.proofs.LinkedTables.Sweep.{other_items}
-use Rattle.xc_dance.proofs.LinkedTables.OtherItems.{out_of, or_swap, leaves, in_others, others_apart, own_apart}
-use Rattle.xc_dance.proofs.LinkedTables.OtherItems.{item_range}
+use Rattle.xc_dance.proofs.LinkedTables.OtherItems.{out_of, leaves, in_others, others_apart, own_apart}
+use Rattle.xc_dance.proofs.LinkedTables.OtherItems.{item_range, in_reverse, apart_reverse}
 use Rattle.xc_dance.proofs.LinkedTables.UnmarkedNodes.{costs-are, unhidden_color, unmarked-reverse, unmarked_items}
 use Rattle.xc_dance.proofs.LinkedTables.GoodLines.{IsMember, Named, IsGood, member, all_good, numbers_named}
 use Rattle.xc_dance.proofs.MoveLemmas.Members.{element_of}
@@ -165,35 +165,6 @@ unhidden_walk p col ln o (j ∷ js) laid pos apart h =
 -- ---- down the nodes that Tweaks of one item took off: each option comes back into the lists of its other items, and
 -- under the node above it into its own
 
--- ---- lists turned round
-
-in_push : (k x : ℕ) (xs : List ℕ) → is_in k (xs ++ x ∷ []) ≡ (is_in k (x ∷ xs))
-in_push k x [] = refl
-in_push k x (y ∷ ys) = ap (λ b. eqb y k || b) (in_push k x ys) ∙ or_swap (eqb y k) (eqb x k) (is_in k ys)
-
-pub in_reverse : (k : ℕ) (xs : List ℕ) → is_in k (reverse xs) ≡ is_in k xs
-in_reverse k [] = refl
-in_reverse k (x ∷ xs) =
-    ap (is_in k) (reverse-append (x ∷ []) xs) ∙ in_push k x (reverse xs) ∙ ap (λ b. eqb x k || b) (in_reverse k xs)
-
-apart_push : (k x : ℕ) (xs : List ℕ) → IsApart k xs → x ≢ k → IsApart k (xs ++ x ∷ [])
-apart_push k x [] h ne = (ne, tt)
-apart_push k x (y ∷ ys) h ne = (h.0, apart_push k x ys h.1 ne)
-
-all_push : (x : ℕ) (xs : List ℕ) → AllApart xs → is_in x xs ≡ false → AllApart (xs ++ x ∷ [])
-all_push x [] h e = (tt, tt)
-all_push x (y ∷ ys) h e =
-    elim (eqb y x) as (λ b. eqb y x ≡ b → (b || is_in x ys) ≡ false → AllApart (y ∷ (ys ++ x ∷ []))) [
-      | true ↦ λ f g. absurd (false≢true (sym g))
-      | false ↦ λ f g. (apart_push y x ys h.0 (λ s. eqb-false y x f (sym s)), all_push x ys h.1 g)
-    ] refl e
-
-pub apart_reverse : (xs : List ℕ) → AllApart xs → AllApart (reverse xs)
-apart_reverse [] h = tt
-apart_reverse (x ∷ xs) h =
-    subst AllApart (sym (reverse-append (x ∷ []) xs))
-    (all_push x (reverse xs) (apart_reverse xs h.1) (in_reverse x xs ∙ out_of x xs h.0))
-
 -- ---- the lines on the way
 
 -- the options of item i's list that are still to come back to item j's
@@ -245,8 +216,8 @@ raised_is p col ln i o laid h =
 -- ---- one step
 
 pub map_reverse : (f : ℕ → ℕ) (xs : List ℕ) → reverse (map f xs) ≡ map f (reverse xs)
-map_reverse f [] = grind (arith, common_steps, map-append, reverse-append)
-map_reverse f (x ∷ xs) = grind (arith, common_steps, map-append, reverse-append, map_reverse f xs)
+map_reverse f [] = grind (arith, common_steps)
+map_reverse f (x ∷ xs) = grind (arith, common_steps, map_reverse f xs)
 
 -- what a step writes for option o
 abbrev pub back_writes : Puzzle → (Node → ℕ) → Bool → ℕ → ℕ → ℕ

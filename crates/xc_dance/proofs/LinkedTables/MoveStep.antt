@@ -1,17 +1,17 @@
 -- From one move to the next: the tables after moves let the next legal move be made, and are then those after it; and
 -- back.
-use Rattle.std.proofs.Common.{◌≡◌, ℕ, ◌+◌, ◌-◌, cond, eqb, List, ◌∷◌, refl, ap, ◌≢◌, ◌<◌, ◌≤◌, Bool, true, false, not}
+use Rattle.std.proofs.Common.{◌≡◌, ℕ, ◌+◌, ◌-◌, cond, eqb, List, ◌∷◌, refl, ap, ◌≢◌, ◌<◌, ◌≤◌, true, false, not}
 use Rattle.std.proofs.Common.{◌||◌, [], length, get_or, sym, subst, ◌∙◌, arith, eqb-true, eq-eqb, ne_eqb, None, ◌++◌}
 use Rattle.std.proofs.Common.{reverse}
 use Rattle.std.proofs.lemmas.Grind.{common_steps}
 use Rattle.std.proofs.lemmas.Bool.{false≢true}
-use Rattle.std.proofs.lemmas.List.{reverse-append, length-reverse}
+use Rattle.std.proofs.lemmas.List.{reverse-append}
 use Rattle.xc_input.specs.Problem.{Puzzle, primary_count, item_count, high_at}
 use Rattle.xc_dance.specs.declared.dance.Move.{Move}
 use Rattle.xc_dance.specs.Moves.{spends, is_covered, AreLegal, IsLegal, listed_numbers}
 use Rattle.xc_dance.specs.inner.Links.ItemCells.{items_after, llink_at, rlink_at, bound_at}
 use Rattle.xc_dance.specs.declared.dance.Move.TheVariants.{Cover, Purify, Tweak, Spend}
-use Rattle.xc_dance.specs.Fields.{left_of, right_of, last_below, ring_head, ring_of, Node, unused, link_place, first_of}
+use Rattle.xc_dance.specs.Fields.{Node, unused, link_place, first_of}
 use Rattle.xc_dance.specs.inner.Links.Rings.{is_off}
 use Rattle.xc_dance.specs.inner.Links.Span.{Span}
 use Rattle.xc_dance.specs.inner.Links.Cells.{color_in, nodes_after, line_of}
@@ -23,9 +23,9 @@ use Rattle.xc_dance.specs.inner.Links.Taken.{CanNote, taken_nodes, noted, IsReca
 use Rattle.xc_dance.specs.declared.links.nodes.Nodes.{Nodes}
 use Rattle.xc_dance.specs.declared.links.items.Items.{Items}
 use Rattle.xc_dance.proofs.LinkedTables.RingStep.{same_items, row_same, still_llink, still_rlink, row_get, row_len}
-use Rattle.xc_dance.proofs.LinkedTables.RingStep.{still_left, spend_step}
-use Rattle.xc_dance.proofs.LinkedTables.Turned.{side, leftwards, rightwards, way_beside, way_next, way_back}
-use Rattle.xc_dance.proofs.LinkedTables.Turned.{beside_place, beside_covered, ring_step}
+use Rattle.xc_dance.proofs.LinkedTables.RingStep.{spend_step}
+use Rattle.xc_dance.proofs.LinkedTables.Turned.{Stays, link_gone, link_beside, link_other, link_back, link_next}
+use Rattle.xc_dance.proofs.LinkedTables.Turned.{ring_step}
 use Rattle.xc_dance.proofs.MoveLemmas.StateLemmas.{open_uncovered, open_or_covered}
 use Rattle.xc_dance.proofs.LinkedTables.Sweep.{leave_none, stay_all}
 use Rattle.xc_dance.proofs.LinkedTables.GoodLines.{SameCut, line_after, tables_same}
@@ -53,62 +53,46 @@ still_items p t m s =
 
 -- what leads past a covered item
 pub record IsPast (p : Puzzle) (t : List Move) (i : ℕ) : Type 0 where
-  pub place : left_of p t i < item_count p + 2
-  pub past : rlink_at p t (left_of p t i) ≢ i
+  pub place : llink_at p t i < item_count p + 2
+  pub past : rlink_at p t (llink_at p t i) ≢ i
 
-still_past : (p : Puzzle) (t : List Move) (m : Move) (i : ℕ) → left_of p (m ∷ t) i ≡ left_of p t i
-    → ((q : ℕ) → rlink_at p (m ∷ t) q ≡ rlink_at p t q) → IsPast p t i → IsPast p (m ∷ t) i
-still_past p t m i l r h = grind (arith, common_steps)
+still_past : (p : Puzzle) (t : List Move) (m : Move) (i : ℕ) → ((q : ℕ) → is_covered q (m ∷ t) ≡ is_covered q t)
+    → IsPast p t i → IsPast p (m ∷ t) i
+still_past p t m i still h = grind (arith, common_steps, still_llink, still_rlink)
 
 pub past_covered : (p : Puzzle) (t : List Move) (i : ℕ) → AreLegal p t → 0 < i → i ≤ item_count p
     → is_covered i t ≡ true → IsPast p t i
 past_covered p [] i legal pos le e = absurd (false≢true e)
-past_covered p (Purify j c ∷ t) i legal pos le e =
-    still_past p t (Purify j c) i (still_left p t (Purify j c) i (λ q. refl))
-    (λ q. still_rlink p t (Purify j c) q (λ q. refl)) (past_covered p t i legal.1 pos le e)
-past_covered p (Tweak j ∷ t) i legal pos le e =
-    still_past p t (Tweak j) i (still_left p t (Tweak j) i (λ q. refl)) (λ q. still_rlink p t (Tweak j) q (λ q. refl))
-    (past_covered p t i legal.1 pos le e)
-past_covered p (Spend j ∷ t) i legal pos le e =
-    still_past p t (Spend j) i (still_left p t (Spend j) i (λ q. refl)) (λ q. still_rlink p t (Spend j) q (λ q. refl))
-    (past_covered p t i legal.1 pos le e)
 past_covered p (Cover k ∷ t) i legal pos le e =
     let k_pos : 0 < k = let h = legal.0.0.0 in omega (arith, h) in
     let k_le : k ≤ item_count p = legal.0.0.1 in
     let un : is_covered k t ≡ false = open_uncovered k t legal.0.1 in
-    let next = Cover k ∷ t in
-    let l = left_of p t i in
-    let same_l : left_of p next i ≡ l = ap (λ v. cond v l (last_below (ring_head p i) i (ring_of p next i))) e in
-    elim (eqb i k) as (λ b. eqb i k ≡ b → (b || is_covered i t) ≡ true → IsPast p next i) [
+    let l = llink_at p t i in
+    let gone : llink_at p (Cover k ∷ t) i ≡ l = link_gone p false t (Cover k) i pos le e in
+    let next : ℕ = cond (eqb l (llink_at p t k)) (rlink_at p t k) (rlink_at p t l) in
+    let beyond : (l < item_count p + 2) × (next ≢ i) =
+    elim (eqb i k) as (λ b. eqb i k ≡ b → (b || is_covered i t) ≡ true → (l < item_count p + 2) × (next ≢ i)) [
       | true ↦ λ f g.
           let same : i ≡ k = eqb-true i k f in
-          let un_i : is_covered i t ≡ false = ap (λ j. is_covered j t) same ∙ un in
-          let l_in : l < item_count p + 2 =
-          beside_place p t (side p i) l (way_beside p (rightwards p) t i pos le un_i).0 in
-          let leads : rlink_at p (Cover i ∷ t) l ≡ right_of p t i = way_next p (rightwards p) t i pos le un_i l l_in
-          ∙ ap (λ v. cond v (right_of p t i) (rlink_at p t l)) (eq-eqb l l refl) in
-          record {
-            place = subst (λ j. j < item_count p + 2) (sym same_l) l_in;
-            past =
-                λ h. (way_beside p (leftwards p) t i pos le un_i).1
-                (sym leads ∙ ap (λ j. rlink_at p (Cover j ∷ t) l) same ∙ ap (rlink_at p next) (sym same_l) ∙ h);
-          }
+          let un_i : is_covered i t ≡ false = ap (λ j. is_covered j t) same ∙ un in (
+            (link_beside p false t i (omega (arith, le)) (λ _ _. un_i)).place,
+            λ h. link_other p true t k k_pos k_le un
+                (sym (ap (λ b. cond b (rlink_at p t k) (rlink_at p t l))
+                (eq-eqb l (llink_at p t k) (ap (llink_at p t) same))) ∙ h ∙ same),
+          )
       | false ↦ λ f g.
           let before = past_covered p t i legal.1 pos le g in
-          let r = right_of p t k in
-          let r_ne : i ≢ r =
-          beside_covered p t (side p k) r i (way_beside p (leftwards p) t k k_pos k_le un).0 pos le g in
-          let leads : rlink_at p next l ≡ cond (eqb l (left_of p t k)) r (rlink_at p t l) =
-          way_next p (rightwards p) t k k_pos k_le un l before.place in
-          let no : (v : Bool) → cond v r (rlink_at p t l) ≢ i = λ v. elim v as (λ v. cond v r (rlink_at p t l) ≢ i) [
-            | true ↦ λ h. r_ne (sym h)
-            | false ↦ before.past
-          ] in
-          record {
-            place = subst (λ j. j < item_count p + 2) (sym same_l) before.place;
-            past = λ h. no (eqb l (left_of p t k)) (sym leads ∙ ap (rlink_at p next) (sym same_l) ∙ h);
-          }
-    ] refl e
+          let r = link_beside p true t k (omega (arith, k_le)) (λ _ _. un) in
+          let r_ne : rlink_at p t k ≢ i = λ s. false≢true (sym (subst (Stays p t) s r.stays pos le) ∙ g) in (
+            before.place,
+            elim (eqb l (llink_at p t k)) as (λ v. cond v (rlink_at p t k) (rlink_at p t l) ≢ i)
+                [ true ↦ r_ne | false ↦ before.past ],
+          )
+    ] refl e in
+    let leads : rlink_at p (Cover k ∷ t) (llink_at p (Cover k ∷ t) i) ≡ next =
+    ap (rlink_at p (Cover k ∷ t)) gone ∙ link_next p true t k k_pos k_le un l beyond.0 in
+    record { place = omega (arith, gone, beyond.0); past = λ h. beyond.1 (sym leads ∙ h) }
+past_covered p (m ∷ t) i legal pos le e = still_past p t m i (λ q. refl) (past_covered p t i legal.1 pos le e)
 
 -- the ring tells whether an item is covered
 pub record OffStep (p : Puzzle) (t : List Move) (i : ℕ) : Type 0 where
@@ -119,16 +103,15 @@ pub record OffStep (p : Puzzle) (t : List Move) (i : ℕ) : Type 0 where
 pub off_is : (p : Puzzle) (t : List Move) (i : ℕ) → AreLegal p t → 0 < i → i ≤ item_count p → OffStep p t i
 off_is p t i legal pos le =
     let n = item_count p + 2 in
-    let l = left_of p t i in
-    let get_l : get_or (items_after p t).llink i 0 ≡ l =
-    row_get (llink_at p t) n i (omega (arith, le)) ∙ (leftwards p).at_item t i pos le in
+    let l = llink_at p t i in
+    let within : i < n = omega (arith, le) in
+    let get_l : get_or (items_after p t).llink i 0 ≡ l = row_get (llink_at p t) n i within in
     let both : (l < n) × (eqb (rlink_at p t l) i ≡ not (is_covered i t)) =
     elim (is_covered i t) as (λ b. is_covered i t ≡ b → (l < n) × (eqb (rlink_at p t l) i ≡ not b)) [
       | true ↦ λ e. let h = past_covered p t i legal pos le e in (h.place, ne_eqb (rlink_at p t l) i h.past)
       | false ↦ λ e. (
-        beside_place p t (side p i) l (way_beside p (rightwards p) t i pos le e).0,
-        eq-eqb
-            (rlink_at p t l) i (way_back p (rightwards p) t i pos le e),
+        (link_beside p false t i within (λ _ _. e)).place,
+        eq-eqb (rlink_at p t l) i (link_back p false t i within (λ _ _. e)),
       )
     ] refl in
     let get_r : get_or (items_after p t).rlink (get_or (items_after p t).llink i 0) 0 ≡ rlink_at p t l =
@@ -273,14 +256,14 @@ taken_few p (_ ∷ t) = omega (arith, taken_few p t)
 
 pub taken_short : (p : Puzzle) (xs : List ℕ) (moves : List Move) → reverse xs ≡ taken_nodes p (reverse moves)
     → length xs ≤ length moves
-taken_short p xs moves e = grind (arith, common_steps, length-reverse, taken_few)
+taken_short p xs moves e = grind (arith, common_steps, taken_few)
 
 -- the node is the first that item i's own node leads to
 pub taken_then : (p : Puzzle) (t : List Move) (nodes : Nodes) (old new : List ℕ) (m : Move) → FirstLed p t m
     → nodes ≡ nodes_after p t → reverse old ≡ taken_nodes p t → new ≡ noted old nodes m
     → reverse new ≡ taken_nodes p (m ∷ t)
-taken_then p t nodes old new (Tweak i) led a b e = grind (arith, common_steps, reverse-append)
-taken_then p t nodes old new _ led a b e = grind (arith, common_steps, reverse-append)
+taken_then p t nodes old new (Tweak i) led a b e = grind (arith, common_steps)
+taken_then p t nodes old new _ led a b e = grind (arith, common_steps)
 
 pub record Recalled (p : Puzzle) (t : List Move) (m : Move) (new : List ℕ) (x : ℕ) : Type 0 where
   pub off : IsTakenOff p t m x
@@ -288,5 +271,5 @@ pub record Recalled (p : Puzzle) (t : List Move) (m : Move) (new : List ℕ) (x 
 
 pub recalled : (p : Puzzle) (t : List Move) (m : Move) (old new : List ℕ) (x : ℕ) → reverse old ≡ taken_nodes p (m ∷ t)
     → IsRecalled old new m x → Recalled p t m new x
-recalled p t (Tweak i) old new x a e = grind (arith, common_steps, reverse-append)
-recalled p t _ old new x a e = grind (arith, common_steps, reverse-append)
+recalled p t (Tweak i) old new x a e = grind (arith, common_steps)
+recalled p t _ old new x a e = grind (arith, common_steps)

@@ -6,6 +6,9 @@ use Rattle.std.specs.List.{AllByRecursion}
 use Rattle.std.proofs.lemmas.Grind.{common_steps}
 use Rattle.std.proofs.lemmas.Bool.{eqb-false, false≢true}
 use Rattle.std.proofs.lemmas.List.Folds.{list_any-append}
+use Rattle.std.proofs.lemmas.List.Sorted.{list_any-IsPermutation, IsPermutation-reverse}
+use Rattle.std.proofs.lemmas.List.{reverse-append}
+use Rattle.std.proofs.Common.{reverse, subst}
 use Rattle.std.proofs.Math.Bool.{or-false}
 use Rattle.xc_input.specs.declared.problem.Use.{Use}
 use Rattle.xc_input.specs.Problem.{Puzzle, colour_in, uses_of, item_count}
@@ -115,6 +118,16 @@ others_apart_of : (us : List Use) (i : ℕ) → AreDistinct us → AllApart (beh
 others_apart_of [] i d = grind (arith, common_steps, all_insert, append_none, items_apart, others_by)
 others_apart_of (u ∷ us) i d =
     grind (arith, common_steps, all_insert, append_none, items_apart, others_by, others_apart_of us i d.1)
+
+pub in_reverse : (k : ℕ) (xs : List ℕ) → is_in k (reverse xs) ≡ is_in k xs
+in_reverse k xs = sym (list_any-IsPermutation (λ j. eqb j k) xs (reverse xs) (IsPermutation-reverse xs))
+
+pub apart_reverse : (xs : List ℕ) → AllApart xs → AllApart (reverse xs)
+apart_reverse [] h = tt
+apart_reverse (x ∷ xs) h =
+    subst AllApart (sym (reverse-append (x ∷ []) xs))
+    (all_insert x (reverse xs) [] (ap (λ b. b || false) (in_reverse x xs ∙ out_of x xs h.0))
+    (append_none (reverse xs) (apart_reverse xs h.1)))
 
 pub others_apart : (p : Puzzle) (o i : ℕ) → IsFit p → AllApart (other_items p o i)
 others_apart p o i fit = others_apart_of (uses_of p o) i (fit.distinct o)

@@ -6,10 +6,10 @@ use Rattle.std.proofs.lemmas.Grind.{common_steps}
 use Rattle.std.proofs.lemmas.Bool.{false≢true}
 use Rattle.xc_dance.specs.inner.Links.Lines.{Line}
 use Rattle.xc_dance.specs.Fields.{last_below, first_above, first_of, last_of, is_in}
-use Rattle.xc_dance.proofs.LinkedTables.Sweep.{in_more, Rises, Rises-filter, Swept, swept, stay, cuts, rises, not_in}
-use Rattle.xc_dance.proofs.LinkedTables.Sweep.{in_above, is_in-first, is_in-other, by_first, put_at-same, put_at-other}
-use Rattle.xc_dance.proofs.LinkedTables.Sweep.{last_below-none, last_below-self, last_below-more, last_of-more}
-use Rattle.xc_dance.proofs.LinkedTables.Sweep.{first_above-first, first_above-more, mended, IsLinkedFrom}
+use Rattle.xc_dance.proofs.LinkedTables.Sweep.{in_more, Rises, Rises-filter, Swept, swept, stay, cuts, rises}
+use Rattle.xc_dance.proofs.LinkedTables.Sweep.{above, below, members, in_above, is_in-first, by_first, put_at-same, put_at-other}
+use Rattle.xc_dance.proofs.LinkedTables.Sweep.{last_below-none, last_below-self, last_below-more}
+use Rattle.xc_dance.proofs.LinkedTables.Sweep.{mended, IsLinkedFrom}
 use Rattle.xc_dance.proofs.MoveLemmas.Members.{in_filter}
 
 -- The members before xs are back, a being the last of them and b the last of them that had stayed; those of xs that
@@ -48,24 +48,7 @@ up_next l m a b y (z ∷ zs) g r pos e h =
 pub pass_on : (l m : Line) (a b y : ℕ) (ys : List ℕ) (g : ℕ → Bool) → IsLinkedFrom l a (y ∷ ys) → g y ≡ false
     → Held l m a b (y ∷ ys) g → Held l m y y ys g
 pass_on l m a b y ys g linked e h =
-    grind (
-      arith,
-      common_steps,
-      Rises-filter,
-      by_first,
-      first_above-first,
-      first_above-more,
-      in_above,
-      in_more,
-      is_in-first,
-      is_in-other,
-      last_below-more,
-      last_of-more,
-      not_in,
-      rises,
-      stay_first,
-      up_next,
-    )
+    grind (arith, common_steps, above, below, members, Rises-filter, rises, stay_first, up_next)
 
 -- ---- a member that was gone comes back
 
@@ -85,21 +68,7 @@ not_next x (z ∷ zs) nz f s = false≢true (sym f ∙ ap (λ k. is_in x (k ∷ 
 pub come_back : (l m : Line) (a b y : ℕ) (ys : List ℕ) (g : ℕ → Bool) → IsLinkedFrom l a (y ∷ ys) → g y ≡ true
     → Held l m a b (y ∷ ys) g → Held l (mended m y) y b ys g
 come_back l m a b y ys g linked e h =
-    grind (
-      arith,
-      common_steps,
-      by_first,
-      finds,
-      in_above,
-      in_more,
-      is_in-other,
-      next_is,
-      not_next,
-      put_at-other,
-      put_at-same,
-      rises,
-      stay_gone,
-    )
+    grind (arith, common_steps, members, finds, next_is, not_next, put_at-other, put_at-same, rises, stay_gone)
 
 -- ---- the end
 

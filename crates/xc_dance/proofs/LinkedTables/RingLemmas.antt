@@ -1,281 +1,106 @@
--- Neighbours in a list that rises, after one member has left.
-use Rattle.std.proofs.Common.{◌≡◌, ◌≢◌, ℕ, ◌<◌, ◌⊎◌, inl, inr, true, false, not, cond, eqb, List, [], ◌∷◌, refl, ap}
-use Rattle.std.proofs.Common.{ap₂, sym, subst, ◌∙◌, arith, eq-eqb, ne_eqb}
+-- The way through a list of numbers that are apart: what stands behind each of them, also on the way back, and also
+-- where one has left. For the rings of items.
+use Rattle.std.proofs.Common.{◌≡◌, ◌≢◌, ℕ, ◌⊎◌, true, false, cond, eqb, List, [], ◌∷◌, ◌++◌}
+use Rattle.std.proofs.Common.{reverse, refl, ap, sym, ◌∙◌, arith, eq-eqb, ne_eqb, eqb-true}
 use Rattle.std.proofs.lemmas.Grind.{common_steps}
-use Rattle.std.proofs.lemmas.Bool.{false≢true}
+use Rattle.std.proofs.lemmas.Bool.{false≢true, eqb-false}
 use Rattle.xc_dance.specs.Fields.{last_below, first_above, first_of, last_of, is_in}
-use Rattle.xc_dance.proofs.LinkedTables.Sweep.{Rises, Rises-filter, stay, not_in, in_above, is_in-first, is_in-other}
-use Rattle.xc_dance.proofs.LinkedTables.Sweep.{last_below-self, last_below-more, first_above-first, first_above-more}
-use Rattle.xc_dance.proofs.LinkedTables.Sweep.{last_of-more, by_first, in_rest, out_rest, in_more, others_stay}
+use Rattle.xc_dance.proofs.LinkedTables.Sweep.{Rises, stay, is_in-first, by_first, in_more, stay_same, last_of-more}
+use Rattle.xc_dance.proofs.LinkedTables.Sweep.{out_rest, is_in-other, above, below, members}
+use Rattle.xc_dance.proofs.LinkedTables.OneOption.{AllApart}
+use Rattle.xc_dance.proofs.LinkedTables.OtherItems.{out_of, in_reverse}
 
 abbrev pub less : ℕ → List ℕ → List ℕ
 less i xs = stay (λ x. eqb x i) xs
 
-next_one : (h y : ℕ) (ys : List ℕ) → Rises y ys → (first_above h y (y ∷ ys) ≡ h)
-    ⊎ ((is_in (first_above h y (y ∷ ys)) (y ∷ ys) ≡ true) × (y < first_above h y (y ∷ ys)))
-next_one h y [] r = grind (arith, common_steps, first_above-first, first_above-more, in_more, is_in-first)
-next_one h y (z ∷ zs) r = grind (arith, common_steps, first_above-first, first_above-more, in_more, is_in-first)
+-- behind q on the way through these numbers to e
+abbrev pub behind : ℕ → ℕ → List ℕ → ℕ
+behind e q [] = e
+behind e q (y ∷ ys) = cond (eqb y q) (first_of e ys) (behind e q ys)
 
--- the first above a member is the other, or a member above it
-pub first_above-in : (h i n : ℕ) (xs : List ℕ) → Rises n xs → is_in i xs ≡ true → (first_above h i xs ≡ h)
-    ⊎ ((is_in (first_above h i xs) xs ≡ true) × (i < first_above h i xs))
-first_above-in h i n [] r e = absurd (false≢true e)
-first_above-in h i n (y ∷ ys) r e =
-    by_first ((first_above h i (y ∷ ys) ≡ h)
-    ⊎ ((is_in (first_above h i (y ∷ ys)) (y ∷ ys) ≡ true) × (i < first_above h i (y ∷ ys)))) y i
-    (λ same. subst (λ k. (first_above h k (y ∷ ys) ≡ h)
-    ⊎ ((is_in (first_above h k (y ∷ ys)) (y ∷ ys) ≡ true) × (k < first_above h k (y ∷ ys)))) same
-    (next_one h y ys r.1))
-    (λ ne.
-    let within = in_rest y i ys ne e in
-    let is = first_above-more h i y ys (omega (arith, in_above y i ys r.1 within)) in
-    elim (first_above-in h i y ys r.1 within) [
-      | inl f ↦ inl (is ∙ f)
-      | inr f ↦ inr (ap (λ k. is_in k (y ∷ ys)) is ∙ in_more y (first_above h i ys) ys f.0, omega (arith, is, f.1))
-    ])
+first_push : (e y : ℕ) (ys : List ℕ) → first_of e (ys ++ y ∷ []) ≡ first_of y ys
+first_push e y [] = refl
+first_push e y (z ∷ zs) = refl
 
--- the last below a member is the other, or a member below it
-pub last_below-in : (a i n : ℕ) (xs : List ℕ) → Rises n xs → is_in i xs ≡ true → (last_below a i xs ≡ a)
-    ⊎ ((is_in (last_below a i xs) xs ≡ true) × (last_below a i xs < i))
-last_below-in a i n [] r e = absurd (false≢true e)
-last_below-in a i n (y ∷ ys) r e =
-    by_first ((last_below a i (y ∷ ys) ≡ a)
-    ⊎ ((is_in (last_below a i (y ∷ ys)) (y ∷ ys) ≡ true) × (last_below a i (y ∷ ys) < i))) y i
-    (λ same. inl (ap (λ k. last_below a k (y ∷ ys)) (sym same) ∙ last_below-self a y ys r.1))
-    (λ ne.
-    let within = in_rest y i ys ne e in
-    let lt = in_above y i ys r.1 within in
-    let is = last_below-more a i y ys lt in
-    elim (last_below-in y i y ys r.1 within) [
-      | inl f ↦ let at = is ∙ f in inr (ap (λ k. is_in k (y ∷ ys)) at ∙ is_in-first y ys, omega (arith, at, lt))
-      | inr f ↦ inr (ap (λ k. is_in k (y ∷ ys)) is ∙ in_more y (last_below y i ys) ys f.0, omega (arith, is, f.1))
-    ])
+behind_push : (e y q : ℕ) (ys : List ℕ) → behind e q (ys ++ y ∷ []) ≡ cond (is_in q ys) (behind y q ys) e
+behind_push e y q [] = grind (arith, common_steps)
+behind_push e y q (z ∷ zs) = grind (arith, common_steps, first_push, behind_push e y q zs)
 
-less_first : (i : ℕ) (ys : List ℕ) → Rises i ys → less i (i ∷ ys) ≡ ys
-less_first i ys r = rw (eq-eqb i i refl) (others_stay i i ys (omega arith) r)
+-- ---- in a list that rises it is the first number above, and on the way back the last below
 
-less_more : (i y : ℕ) (ys : List ℕ) → y ≢ i → less i (y ∷ ys) ≡ y ∷ less i ys
-less_more i y ys ne = rw (ne_eqb y i ne) refl
+pub behind_above : (e q n : ℕ) (xs : List ℕ) → Rises n xs → is_in q xs ≡ true → behind e q xs ≡ first_above e q xs
+behind_above e q n [] r h = absurd (false≢true h)
+behind_above e q n (y ∷ ys) r h =
+    grind (arith, common_steps, above, members, eqb-false, eqb-true, behind_above e q y ys r.1)
 
-prev_first : (h a y q : ℕ) (ys : List ℕ) → Rises y ys → is_in q ys ≡ true
-    → last_below a q ys ≡ cond (eqb q (first_of h ys)) a (last_below y q ys)
-prev_first h a y q [] r e = absurd (false≢true e)
-prev_first h a y q (z ∷ zs) r e =
-    grind (
-      arith,
-      common_steps,
-      by_first,
-      eq-eqb,
-      false≢true,
-      in_above,
-      in_rest,
-      last_below-more,
-      last_below-self,
-      ne_eqb,
-    )
+pub first_back : (e : ℕ) (xs : List ℕ) → first_of e (reverse xs) ≡ last_of e xs
+first_back e [] = refl
+first_back e (y ∷ ys) = grind (arith, common_steps, first_push, last_of-more, first_back y ys)
 
--- what stands before q
-pub prev_without : (h a i q n : ℕ) (xs : List ℕ) → Rises n xs → is_in i xs ≡ true → is_in q xs ≡ true → q ≢ i → h ≢ q →
-    last_below a q (less i xs) ≡ cond (eqb q (first_above h i xs)) (last_below a i xs) (last_below a q xs)
-prev_without h a i q n [] r e f ne hq = absurd (false≢true e)
-prev_without h a i q n (y ∷ ys) r e f ne hq =
-    by_first (last_below a q (less i (y ∷ ys)) ≡ cond (eqb q (first_above h i (y ∷ ys))) (last_below a i (y ∷ ys))
-    (last_below a q (y ∷ ys))) y i
+pub behind_below : (e q n : ℕ) (xs : List ℕ) → Rises n xs → is_in q xs ≡ true
+    → behind e q (reverse xs) ≡ last_below e q xs
+behind_below e q n [] r h = absurd (false≢true h)
+behind_below e q n (y ∷ ys) r h =
+    grind (arith, common_steps, below, members, behind_push, in_reverse, behind_below y q y ys r.1)
+
+-- ---- what is behind a number
+
+first_within : (e : ℕ) (ys : List ℕ) → is_in (first_of e ys) (e ∷ ys) ≡ true
+first_within e [] = is_in-first e []
+first_within e (y ∷ ys) = in_more e y (y ∷ ys) (is_in-first y ys)
+
+pub behind_within : (e q : ℕ) (ys : List ℕ) → is_in (behind e q ys) (e ∷ ys) ≡ true
+behind_within e q [] = is_in-first e []
+behind_within e q (y ∷ ys) = grind (arith, common_steps, first_within, behind_within e q ys)
+
+-- so also on the way round from h to h
+pub round_within : (h q : ℕ) (ys : List ℕ) → is_in (behind h q (h ∷ ys)) (h ∷ ys) ≡ true
+round_within h q ys = grind (arith, common_steps, behind_within, first_within)
+
+first_other : (e q : ℕ) (ys : List ℕ) → e ≢ q → is_in q ys ≡ false → first_of e ys ≢ q
+first_other e q [] ne out = ne
+first_other e q (y ∷ ys) ne out = out_rest y q ys out
+
+pub behind_other : (e q : ℕ) (ys : List ℕ) → AllApart ys → e ≢ q → behind e q ys ≢ q
+behind_other e q [] apart ne = ne
+behind_other e q (y ∷ ys) apart ne =
+    elim (eqb y q) as (λ b. eqb y q ≡ b → cond b (first_of e ys) (behind e q ys) ≢ q) [
+      | true ↦ λ f. first_other e q ys ne (ap (λ k. is_in k ys) (sym (eqb-true y q f)) ∙ out_of y ys apart.0)
+      | false ↦ λ f. behind_other e q ys apart.1 ne
+    ] refl
+
+-- ---- one has left
+
+first_less : (e i : ℕ) (ys : List ℕ) → AllApart ys → e ≢ i
+    → first_of e (less i ys) ≡ cond (eqb (first_of e ys) i) (behind e i ys) (first_of e ys)
+first_less e i [] apart ne = rw (ne_eqb e i ne) refl
+first_less e i (y ∷ ys) apart ne =
+    grind (arith, common_steps, eqb-false, eqb-true, false≢true, out_of, stay_same)
+
+pub behind_less : (e i q : ℕ) (ys : List ℕ) → AllApart ys → e ≢ i → q ≢ i
+    → behind e q (less i ys) ≡ cond (eqb (behind e q ys) i) (behind e i ys) (behind e q ys)
+behind_less e i q [] apart ne nq = rw (ne_eqb e i ne) refl
+behind_less e i q (y ∷ ys) apart ne nq =
+    by_first (behind e q (less i (y ∷ ys)) ≡ cond (eqb (behind e q (y ∷ ys)) i) (behind e i (y ∷ ys))
+    (behind e q (y ∷ ys))) y i
     (λ same.
-    let within = in_rest y q ys (λ s. ne (sym s ∙ same)) f in
-    subst (λ k. last_below a q (less k (y ∷ ys)) ≡ cond (eqb q (first_above h k (y ∷ ys))) (last_below a k (y ∷ ys))
-    (last_below a q (y ∷ ys))) same
-    (ap (last_below a q) (less_first y ys r.1) ∙ prev_first h a y q ys r.1 within
-    ∙ ap₂ (λ k v. cond (eqb q k) v (last_below y q ys))
-    (sym (first_above-more h y y ys (omega arith) ∙ first_above-first h y y ys (omega arith) r.1))
-    (sym (last_below-self a y ys r.1))
-    ∙ ap (λ v. cond (eqb q (first_above h y (y ∷ ys))) (last_below a y (y ∷ ys)) v)
-    (sym (last_below-more a q y ys (in_above y q ys r.1 within)))))
-    (λ other.
-    let i_in = in_rest y i ys other e in
-    let lt = in_above y i ys r.1 i_in in
-    let at_i = first_above-more h i y ys (omega (arith, lt)) in
-    let low_i = last_below-more a i y ys lt in
-    ap (last_below a q) (less_more i y ys other)
-    ∙ by_first (last_below a q (y ∷ less i ys) ≡ cond (eqb q (first_above h i (y ∷ ys))) (last_below a i (y ∷ ys))
-    (last_below a q (y ∷ ys))) y q
-    (λ same.
-    let apart : q ≢ first_above h i (y ∷ ys) = λ s. elim (first_above-in h i y ys r.1 i_in) [
-      | inl g ↦ hq (sym g ∙ sym at_i ∙ sym s)
-      | inr g ↦ absurd (omega (arith, s, at_i, g.1, lt, same))
-    ] in
-    rw (ne_eqb q (first_above h i (y ∷ ys)) apart)
-    (ap (λ k. last_below a k (y ∷ less i ys)) (sym same)
-    ∙ last_below-self a y (less i ys) (Rises-filter (λ x. not (eqb x i)) y ys r.1)
-    ∙ sym (ap (λ k. last_below a k (y ∷ ys)) (sym same) ∙ last_below-self a y ys r.1)))
-    (λ ne_q.
-    let within = in_rest y q ys ne_q f in
-    let lt_q = in_above y q ys r.1 within in
-    last_below-more a q y (less i ys) lt_q ∙ prev_without h y i q y ys r.1 i_in within ne hq
-    ∙ ap₂ (λ k v. cond (eqb q k) v (last_below y q ys)) (sym at_i) (sym low_i)
-    ∙ ap (λ v. cond (eqb q (first_above h i (y ∷ ys))) (last_below a i (y ∷ ys)) v)
-    (sym (last_below-more a q y ys lt_q))))
+    let out : is_in i ys ≡ false = ap (λ k. is_in k ys) (sym same) ∙ out_of y ys apart.0 in
+    let no : behind e q ys ≢ i = λ s. false≢true (sym (is_in-other e i ys ne ∙ out)
+    ∙ ap (λ k. is_in k (e ∷ ys)) (sym s) ∙ behind_within e q ys) in
+    rw (eq-eqb y i same, ne_eqb y q (λ s. nq (sym s ∙ same)), ne_eqb (behind e q ys) i no)
+    (ap (behind e q) (stay_same i ys (λ f. false≢true (sym out ∙ f)))))
+    (λ other. grind (arith, common_steps, ne_eqb, first_less, behind_less e i q ys apart.1 ne nq))
 
--- the first one
-pub first_without : (h a i n : ℕ) (xs : List ℕ) → Rises n xs → is_in i xs ≡ true → is_in a xs ≡ false →
-    first_of h (less i xs) ≡ cond (eqb a (last_below a i xs)) (first_above h i xs) (first_of h xs)
-first_without h a i n [] r e out = absurd (false≢true e)
-first_without h a i n (y ∷ ys) r e out =
-    grind (
-      arith,
-      common_steps,
-      by_first,
-      eq-eqb,
-      false≢true,
-      first_above-first,
-      first_above-more,
-      in_above,
-      in_more,
-      in_rest,
-      last_below-in,
-      last_below-more,
-      last_below-self,
-      less_first,
-      less_more,
-      ne_eqb,
-      out_rest,
-    )
+-- ---- there and back
 
--- what stands behind q
-pub next_without : (h a i q n : ℕ) (xs : List ℕ) → Rises n xs → is_in i xs ≡ true → is_in q xs ≡ true → q ≢ i → a ≢ q →
-    first_above h q (less i xs) ≡ cond (eqb q (last_below a i xs)) (first_above h i xs) (first_above h q xs)
-next_without h a i q n [] r e f ne aq = absurd (false≢true e)
-next_without h a i q n (y ∷ ys) r e f ne aq =
-    by_first (first_above h q (less i (y ∷ ys)) ≡ cond (eqb q (last_below a i (y ∷ ys))) (first_above h i (y ∷ ys))
-    (first_above h q (y ∷ ys))) y i
-    (λ same.
-    let within = in_rest y q ys (λ s. ne (sym s ∙ same)) f in
-    let lt_q = in_above y q ys r.1 within in
-    subst (λ k. first_above h q (less k (y ∷ ys)) ≡ cond (eqb q (last_below a k (y ∷ ys))) (first_above h k (y ∷ ys))
-    (first_above h q (y ∷ ys))) same
-    (rw (ne_eqb q (last_below a y (y ∷ ys)) (λ s. aq (sym (s ∙ last_below-self a y ys r.1))))
-    (ap (first_above h q) (less_first y ys r.1) ∙ sym (first_above-more h q y ys (omega (arith, lt_q))))))
-    (λ other.
-    let i_in = in_rest y i ys other e in
-    let lt = in_above y i ys r.1 i_in in
-    let at_i = first_above-more h i y ys (omega (arith, lt)) in
-    let low_i = last_below-more a i y ys lt in
-    let ry : Rises y (less i ys) = Rises-filter (λ x. not (eqb x i)) y ys r.1 in
-    ap (first_above h q) (less_more i y ys other)
-    ∙ by_first (first_above h q (y ∷ less i ys) ≡ cond (eqb q (last_below a i (y ∷ ys))) (first_above h i (y ∷ ys))
-    (first_above h q (y ∷ ys))) y q
-    (λ same.
-    subst (λ k. first_above h k (y ∷ less i ys) ≡ cond (eqb k (last_below a i (y ∷ ys))) (first_above h i (y ∷ ys))
-    (first_above h k (y ∷ ys))) same
-    (first_above-more h y y (less i ys) (omega arith) ∙ first_above-first h y y (less i ys) (omega arith) ry
-    ∙ first_without h y i y ys r.1 i_in (not_in y y ys (omega arith) r.1)
-    ∙ ap₂ (λ k v. cond (eqb y k) v (first_of h ys)) (sym low_i) (sym at_i)
-    ∙ ap (λ v. cond (eqb y (last_below a i (y ∷ ys))) (first_above h i (y ∷ ys)) v)
-    (sym (first_above-more h y y ys (omega arith) ∙ first_above-first h y y ys (omega arith) r.1))))
-    (λ ne_q.
-    let within = in_rest y q ys ne_q f in
-    let lt_q = in_above y q ys r.1 within in
-    first_above-more h q y (less i ys) (omega (arith, lt_q)) ∙ next_without h y i q y ys r.1 i_in within ne ne_q
-    ∙ ap₂ (λ k v. cond (eqb q k) v (first_above h q ys)) (sym low_i) (sym at_i)
-    ∙ ap (λ v. cond (eqb q (last_below a i (y ∷ ys))) (first_above h i (y ∷ ys)) v)
-    (sym (first_above-more h q y ys (omega (arith, lt_q))))))
+-- from a on through the numbers to e
+round_from : (a e q : ℕ) (ys : List ℕ) → AllApart (a ∷ ys) → is_in q (a ∷ ys) ≡ true
+    → ((behind e q (a ∷ ys) ≡ e) × (first_of a (reverse ys) ≡ q))
+    ⊎ ((is_in (behind e q (a ∷ ys)) ys ≡ true) × (behind a (behind e q (a ∷ ys)) (reverse ys) ≡ q))
+round_from a e q [] apart h = grind (arith, common_steps, eqb-true)
+round_from a e q (y ∷ ys) apart h =
+    grind (arith, common_steps, members, behind_push, first_push, in_reverse, out_of, round_from y e q ys apart.1)
 
-last_first : (h a y : ℕ) (ys : List ℕ) → is_in h ys ≡ false
-    → last_of a ys ≡ cond (eqb h (first_of h ys)) a (last_of y ys)
-last_first h a y [] out = rw (eq-eqb h h refl) refl
-last_first h a y (z ∷ zs) out =
-    rw (ne_eqb h z (λ s. out_rest z h zs out (sym s))) (last_of-more a z zs ∙ sym (last_of-more y z zs))
-
--- the last one
-pub last_without : (h a i n : ℕ) (xs : List ℕ) → Rises n xs → is_in i xs ≡ true → is_in h xs ≡ false →
-    last_of a (less i xs) ≡ cond (eqb h (first_above h i xs)) (last_below a i xs) (last_of a xs)
-last_without h a i n [] r e out = absurd (false≢true e)
-last_without h a i n (y ∷ ys) r e out =
-    let rest_out : is_in h ys ≡ false = sym (is_in-other y h ys (out_rest y h ys out)) ∙ out in
-    by_first (last_of a (less i (y ∷ ys)) ≡ cond (eqb h (first_above h i (y ∷ ys))) (last_below a i (y ∷ ys))
-    (last_of a (y ∷ ys))) y i
-    (λ same. subst (λ k. last_of a (less k (y ∷ ys)) ≡ cond (eqb h (first_above h k (y ∷ ys))) (last_below a k (y ∷ ys))
-    (last_of a (y ∷ ys))) same
-    (ap (last_of a) (less_first y ys r.1) ∙ last_first h a y ys rest_out
-    ∙ ap₂ (λ k v. cond (eqb h k) v (last_of y ys))
-    (sym (first_above-more h y y ys (omega arith) ∙ first_above-first h y y ys (omega arith) r.1))
-    (sym (last_below-self a y ys r.1))
-    ∙ ap (λ v. cond (eqb h (first_above h y (y ∷ ys))) (last_below a y (y ∷ ys)) v) (sym (last_of-more a y ys))))
-    (λ other.
-    let i_in = in_rest y i ys other e in
-    let lt = in_above y i ys r.1 i_in in
-    ap (last_of a) (less_more i y ys other) ∙ last_of-more a y (less i ys) ∙ last_without h y i y ys r.1 i_in rest_out
-    ∙ ap₂ (λ k v. cond (eqb h k) v (last_of y ys)) (sym (first_above-more h i y ys (omega (arith, lt))))
-    (sym (last_below-more a i y ys lt))
-    ∙ ap (λ v. cond (eqb h (first_above h i (y ∷ ys))) (last_below a i (y ∷ ys)) v) (sym (last_of-more a y ys)))
-
--- behind the one before i stands i
-pub link_behind : (h a i n : ℕ) (xs : List ℕ) → Rises n xs → is_in i xs ≡ true → is_in a xs ≡ false →
-    cond (eqb (last_below a i xs) a) (first_of h xs) (first_above h (last_below a i xs) xs) ≡ i
-link_behind h a i n [] r e out = absurd (false≢true e)
-link_behind h a i n (y ∷ ys) r e out =
-    by_first (cond (eqb (last_below a i (y ∷ ys)) a) y (first_above h (last_below a i (y ∷ ys)) (y ∷ ys)) ≡ i) y i
-    (λ same. subst (λ k. cond (eqb (last_below a k (y ∷ ys)) a) y (first_above h (last_below a k (y ∷ ys)) (y ∷ ys)) ≡
-    k) same (rw (eq-eqb (last_below a y (y ∷ ys)) a (last_below-self a y ys r.1)) refl))
-    (λ other.
-    let i_in = in_rest y i ys other e in
-    let lt = in_above y i ys r.1 i_in in
-    let is : last_below a i (y ∷ ys) ≡ last_below y i ys = last_below-more a i y ys lt in
-    let rest = link_behind h y i y ys r.1 i_in (not_in y y ys (omega arith) r.1) in
-    let apart : last_below a i (y ∷ ys) ≢ a = λ s. elim (last_below-in y i y ys r.1 i_in) [
-      | inl g ↦ out_rest y a ys out (sym g ∙ sym is ∙ s)
-      | inr g ↦ false≢true (sym out ∙ ap (λ k. is_in k (y ∷ ys)) (sym s ∙ is) ∙ in_more y (last_below y i ys) ys g.0)
-    ] in
-    rw (ne_eqb (last_below a i (y ∷ ys)) a apart)
-    (ap (λ k. first_above h k (y ∷ ys)) is
-    ∙ by_first (first_above h (last_below y i ys) (y ∷ ys) ≡ i) (last_below y i ys) y
-    (λ at. ap (λ k. first_above h k (y ∷ ys)) at ∙ first_above-more h y y ys (omega arith)
-    ∙ first_above-first h y y ys (omega arith) r.1
-    ∙ sym (ap (λ b. cond b (first_of h ys) (first_above h (last_below y i ys) ys)) (eq-eqb (last_below y i ys) y at))
-    ∙ rest)
-    (λ ne. elim (last_below-in y i y ys r.1 i_in) [
-      | inl g ↦ absurd (ne g)
-      | inr g ↦ let gt = in_above y (last_below y i ys) ys r.1 g.0 in
-          first_above-more h (last_below y i ys) y ys (omega (arith, gt))
-          ∙ sym (ap (λ b. cond b (first_of h ys) (first_above h (last_below y i ys) ys))
-          (ne_eqb (last_below y i ys) y ne)) ∙ rest
-    ])))
-
-behind_first : (h a y : ℕ) (ys : List ℕ) → Rises y ys → is_in h ys ≡ false
-    → cond (eqb (first_of h ys) h) (last_of y ys) (last_below a (first_of h ys) (y ∷ ys)) ≡ y
-behind_first h a y [] r out = rw (eq-eqb h h refl) refl
-behind_first h a y (z ∷ zs) r out =
-    rw (ne_eqb z h (out_rest z h zs out)) (last_below-more a z y (z ∷ zs) r.0 ∙ last_below-self y z zs r.1)
-
--- before the one behind i stands i
-pub link_before : (h a i n : ℕ) (xs : List ℕ) → Rises n xs → is_in i xs ≡ true → is_in h xs ≡ false →
-    cond (eqb (first_above h i xs) h) (last_of a xs) (last_below a (first_above h i xs) xs) ≡ i
-link_before h a i n [] r e out = absurd (false≢true e)
-link_before h a i n (y ∷ ys) r e out =
-    let rest_out : is_in h ys ≡ false = sym (is_in-other y h ys (out_rest y h ys out)) ∙ out in
-    by_first (cond (eqb (first_above h i (y ∷ ys)) h) (last_of a (y ∷ ys))
-    (last_below a (first_above h i (y ∷ ys)) (y ∷ ys)) ≡ i) y i
-    (λ same.
-    let at : first_above h y (y ∷ ys) ≡ first_of h ys =
-    first_above-more h y y ys (omega arith) ∙ first_above-first h y y ys (omega arith) r.1 in
-    subst (λ k. cond (eqb (first_above h k (y ∷ ys)) h) (last_of a (y ∷ ys))
-    (last_below a (first_above h k (y ∷ ys)) (y ∷ ys)) ≡ k) same
-    (ap (λ k. cond (eqb k h) (last_of a (y ∷ ys)) (last_below a k (y ∷ ys))) at
-    ∙ ap (λ v. cond (eqb (first_of h ys) h) v (last_below a (first_of h ys) (y ∷ ys))) (last_of-more a y ys)
-    ∙ behind_first h a y ys r.1 rest_out))
-    (λ other.
-    let i_in = in_rest y i ys other e in
-    let lt = in_above y i ys r.1 i_in in
-    let is : first_above h i (y ∷ ys) ≡ first_above h i ys = first_above-more h i y ys (omega (arith, lt)) in
-    let rest = link_before h y i y ys r.1 i_in rest_out in
-    ap (λ k. cond (eqb k h) (last_of a (y ∷ ys)) (last_below a k (y ∷ ys))) is
-    ∙ by_first (cond (eqb (first_above h i ys) h) (last_of a (y ∷ ys)) (last_below a (first_above h i ys) (y ∷ ys)) ≡ i)
-    (first_above h i ys) h
-    (λ at.
-    let t = eq-eqb (first_above h i ys) h at in
-    ap (λ b. cond b (last_of a (y ∷ ys)) (last_below a (first_above h i ys) (y ∷ ys))) t ∙ last_of-more a y ys
-    ∙ sym (ap (λ b. cond b (last_of y ys) (last_below y (first_above h i ys) ys)) t) ∙ rest)
-    (λ ne. elim (first_above-in h i y ys r.1 i_in) [
-      | inl g ↦ absurd (ne g)
-      | inr g ↦ grind (arith, common_steps, last_below-more, ne_eqb)
-    ]))
+pub round : (h q : ℕ) (xs : List ℕ) → AllApart (h ∷ xs) → is_in q (h ∷ xs) ≡ true
+    → behind h (behind h q (h ∷ xs)) (h ∷ reverse xs) ≡ q
+round h q xs apart e = grind (arith, common_steps, eq-eqb, false≢true, out_of, round_from)

@@ -128,6 +128,11 @@ first_above-first o x n (y ∷ ys) h r = let yes : ltb x y ≡ true = lt-ltb x y
 pub first_above-more : (o x y : ℕ) (ys : List ℕ) → y ≤ x → first_above o x (y ∷ ys) ≡ first_above o x ys
 first_above-more o x y ys h = let no : ltb x y ≡ false = le-ltb x y h in rw no refl
 
+-- what stands beside a number in a list that rises
+pub ruleset below = (last_below-none, last_below-self, last_below-more, last_of-more)
+
+pub ruleset above = (first_above-first, first_above-more)
+
 -- ---- one leaves from the top
 
 -- what stands further down sees the links further down alone
@@ -200,6 +205,9 @@ in_rest y x ys ne e = sym (is_in-other y x ys ne) ∙ e
 pub out_rest : (y x : ℕ) (ys : List ℕ) → is_in x (y ∷ ys) ≡ false → y ≢ x
 out_rest y x ys e same = false≢true (sym e ∙ ap (λ k. is_in x (k ∷ ys)) same ∙ is_in-first x ys)
 
+-- members of lists
+pub ruleset members = (by_first, in_above, in_more, in_rest, is_in-first, is_in-other, not_in, out_rest)
+
 first_leaves : (l m : Line) (a y : ℕ) (ys ks : List ℕ) → IsLinkedFrom l a (y ∷ ys) → Rises a ks → Rises y ks
     → Swept (cut l y) m a ys ks → Swept l m a (y ∷ ys) ks
 first_leaves l m a y ys ks h ra ry s =
@@ -265,8 +273,7 @@ swept l a (y ∷ ys) g h =
       first_leaves,
       first_stays,
       rises,
-      swept (cut l y) a ys g
-          (cut-linked l a y ys h),
+      swept (cut l y) a ys g (cut-linked l a y ys h),
       swept l y ys g h.3,
     )
 
@@ -279,8 +286,7 @@ swept_len l (y ∷ ys) g n e =
       arith,
       common_steps,
       swept_len (cut l y) ys g n (omega (arith, e)),
-      swept_len l ys g (n + 1)
-          (omega (arith, e)),
+      swept_len l ys g (n + 1) (omega (arith, e)),
     )
 
 -- a number that isn't in is not taken out

@@ -1,25 +1,28 @@
 -- Cover on the item table: an item leaves its ring and comes back.
 use Rattle.std.proofs.Common.{◌≡◌, ◌≢◌, ℕ, zero, suc, ◌+◌, ◌<◌, ◌≤◌, ◌⊎◌, inl, inr, Bool, true, false, not, cond, ◌&&◌}
 use Rattle.std.proofs.Common.{◌||◌, eqb, leb, List, ◌∷◌, length, map, filter, get_or, set, refl, ap, ap₂, sym, subst}
-use Rattle.std.proofs.Common.{◌∙◌, arith, eq-eqb, ne_eqb, le-leb, leb-true}
+use Rattle.std.proofs.Common.{◌∙◌, arith, eq-eqb, ne_eqb, le-leb, leb-true, reverse, []}
 use Rattle.std.proofs.lemmas.Grind.{common_steps}
 use Rattle.std.specs.List.{range_with_len}
-use Rattle.std.proofs.lemmas.Bool.{false≢true, not-true, and_parts, lt-leb, leb-false}
+use Rattle.std.proofs.lemmas.Bool.{false≢true, not-true, and_parts, lt-leb, leb-false, or_parts}
+use Rattle.std.proofs.Math.Bool.{not-not}
+use Rattle.std.proofs.lemmas.List.{reverse-reverse}
 use Rattle.std.proofs.lemmas.List.Elements.{filter_agree}
 use Rattle.xc_dance.specs.declared.dance.Move.{Move}
 use Rattle.xc_dance.specs.declared.dance.Move.TheVariants.{Cover}
 use Rattle.xc_input.specs.Problem.{Puzzle, primary_count, item_count}
 use Rattle.xc_dance.specs.Moves.{IsLegal, is_covered}
-use Rattle.xc_dance.specs.Fields.{ring_of, ring_head, left_of, right_of, first_of, last_of, last_below, first_above}
-use Rattle.xc_dance.specs.Fields.{is_in}
+use Rattle.xc_dance.specs.Fields.{ring_of, left_of, right_of, first_of, last_of, is_in}
 use Rattle.xc_dance.specs.inner.Links.ItemCells.{items_after, llink_at, rlink_at}
 use Rattle.xc_dance.specs.inner.Links.Rings.{left_ring, back_in_ring}
 use Rattle.xc_dance.proofs.LinkedTables.LinkColumns.{written_back}
 use Rattle.xc_input.proofs.lists.Filters.{filter_both}
 use Rattle.xc_dance.proofs.LinkedTables.Sweep.{Rises, Rises-filter, Rises-weaker, is_in-first, by_first, in_rest}
-use Rattle.xc_dance.proofs.LinkedTables.Sweep.{stay_same, in_more}
-use Rattle.xc_dance.proofs.LinkedTables.RingLemmas.{less, first_above-in, last_below-in, prev_without, next_without}
-use Rattle.xc_dance.proofs.LinkedTables.RingLemmas.{first_without, last_without, link_behind, link_before}
+use Rattle.xc_dance.proofs.LinkedTables.Sweep.{in_more, not_in}
+use Rattle.xc_dance.proofs.LinkedTables.OneOption.{AllApart}
+use Rattle.xc_dance.proofs.LinkedTables.OtherItems.{apart_from, in_reverse, apart_reverse}
+use Rattle.xc_dance.proofs.LinkedTables.RingLemmas.{less, behind, behind_above, behind_below, behind_less, behind_other}
+use Rattle.xc_dance.proofs.LinkedTables.RingLemmas.{round_within, first_back, round}
 use Rattle.xc_dance.proofs.LinkedTables.RingStep.{row_put, row_get, row_len, same_items, left_now, right_now}
 use Rattle.xc_dance.proofs.MoveLemmas.ListLemmas.{Rises-range}
 use Rattle.xc_dance.proofs.MoveLemmas.Members.{in_filter}
@@ -109,135 +112,49 @@ heads_apart p false true e = absurd (omega (arith, e))
 head_out : (p : Puzzle) (t : List Move) (b c : Bool) → is_in (hd p b) (ring p t c) ≡ false
 head_out p t b c = grind (arith, common_steps, head_item, ring_in)
 
--- a place beside item i in its ring: the head, or a member that isn't covered
-abbrev pub IsBeside : Puzzle → List Move → Bool → ℕ → Type 0
-IsBeside p t b k = (k ≡ hd p b) ⊎ (is_in k (ring p t b) ≡ true)
+-- ---- the way round a ring
 
-pub beside_covered : (p : Puzzle) (t : List Move) (b : Bool) (k q : ℕ) → IsBeside p t b k → 0 < q → q ≤ item_count p
-    → is_covered q t ≡ true → q ≢ k
-beside_covered p t b k q (inl h) pos le c e = head_item p b q pos le (sym h ∙ sym e)
-beside_covered p t b k q (inr h) pos le c e =
-    false≢true (sym (ring_in p t b k h).0 ∙ ap (λ j. is_covered j t) (sym e) ∙ c)
+-- to the right, or to the left
+abbrev pub turned : Bool → List ℕ → List ℕ
+turned d xs = cond d xs (reverse xs)
 
-beside_other : (p : Puzzle) (t : List Move) (b c : Bool) (k q : ℕ) → IsBeside p t b k → 0 < q → q ≤ item_count p
-    → side p q ≡ c → (c ≡ b → ⊥) → q ≢ k
-beside_other p t b c k q (inl h) pos le s ne e = head_item p b q pos le (sym h ∙ sym e)
-beside_other p t b c k q (inr h) pos le s ne e = ne (sym s ∙ ap (side p) e ∙ (ring_in p t b k h).1.2)
+abbrev pub way : Puzzle → List Move → Bool → Bool → List ℕ
+way p t d b = hd p b ∷ turned d (ring p t b)
 
-beside_head : (p : Puzzle) (t : List Move) (b c : Bool) (k : ℕ) → IsBeside p t b k → (c ≡ b → ⊥) → hd p c ≢ k
-beside_head p t b c k (inl h) ne e = ne (heads_apart p c b (e ∙ h))
-beside_head p t b c k (inr h) ne e = let r = ring_in p t b k h in head_item p c k r.1.0 r.1.1 e
+-- the item of a cell, if it is one's, isn't covered
+abbrev pub Stays : Puzzle → List Move → ℕ → Type 0
+Stays p t q = 0 < q → q ≤ item_count p → is_covered q t ≡ false
 
-pub beside_place : (p : Puzzle) (t : List Move) (b : Bool) (k : ℕ) → IsBeside p t b k → k < item_count p + 2
-beside_place p t true k (inl h) = omega (arith, h)
-beside_place p t false k (inl h) = omega (arith, h)
-beside_place p t b k (inr h) = let r = ring_in p t b k h in omega (arith, r.1.1)
+-- a place in a ring: the head, or an item that isn't covered
+pub record IsBeside (p : Puzzle) (t : List Move) (b : Bool) (q : ℕ) : Type 0 where
+  pub place : q < item_count p + 2
+  pub side : side p q ≡ b
+  pub stays : Stays p t q
 
--- the other ring stays
-other_ring : (p : Puzzle) (t : List Move) (i : ℕ) (b : Bool) → (b ≡ side p i → ⊥) → ring p (Cover i ∷ t) b ≡ ring p t b
-other_ring p t i b ne = ring_next p t i b ∙ stay_same i (ring p t b) (λ e. ne (sym (ring_in p t b i e).1.2))
+side_head : (p : Puzzle) (b : Bool) → side p (hd p b) ≡ b
+side_head p true = side_true p 0 (omega arith)
+side_head p false = side_false p (item_count p + 1) (omega arith)
 
--- ---- cells of the table
+in_turned : (d : Bool) (q : ℕ) (xs : List ℕ) → is_in q (turned d xs) ≡ is_in q xs
+in_turned true q xs = refl
+in_turned false q xs = in_reverse q xs
 
-side_zero : (p : Puzzle) → side p 0 ≡ true
-side_zero p = side_true p 0 (omega arith)
+head_place : (p : Puzzle) (b : Bool) → hd p b < item_count p + 2
+head_place p true = omega arith
+head_place p false = omega arith
 
-by_side : (P : Type 0) (b c : Bool) → (b ≡ c → P) → ((b ≡ c → ⊥) → P) → P
-by_side P true true same other = same refl
-by_side P false false same other = same refl
-by_side P true false same other = other (λ e. false≢true (sym e))
-by_side P false true same other = other (λ e. false≢true e)
-
--- what stands at the head of a ring in a column of links, and at an item
-pub head_cell : (p : Puzzle) (t : List Move) (b : Bool) (f : ℕ → List ℕ → ℕ) (g : ℕ → ℕ) →
-    cond (eqb (hd p b) 0) (f 0 (ring_of p t 0))
-    (cond (leb (hd p b) (item_count p)) (g (hd p b)) (f (item_count p + 1) (ring_of p t (primary_count p + 1)))) ≡ f
-    (hd p b) (ring p t b)
-head_cell p t true f g = grind (arith, common_steps, lt-leb, ne_eqb, side_false, side_zero)
-head_cell p t false f g = grind (arith, common_steps, lt-leb, ne_eqb, side_false, side_zero)
-
-pub item_cell : (p : Puzzle) (q first inner last : ℕ) → 0 < q → q ≤ item_count p
-    → cond (eqb q 0) first (cond (leb q (item_count p)) inner last) ≡ inner
-item_cell p q first inner last pos le =
-    ap₂ (λ u v. cond u first (cond v inner last)) (ne_eqb q 0 (λ e. omega (arith, e, pos))) (le-leb q (item_count p) le)
-
--- One way round the rings, by the cells, the neighbour of an item and what it is in the list. What is `before` is the
--- same the other way.
-pub record Way (p : Puzzle) : Type 0 where
-  pub cell : List Move → ℕ → ℕ
-  pub beside : List Move → ℕ → ℕ
-  pub before : List Move → ℕ → ℕ
-  pub end : ℕ → List ℕ → ℕ
-  pub next : ℕ → ℕ → List ℕ → ℕ
-  pub last : ℕ → ℕ → List ℕ → ℕ
-  pub at_head : (t : List Move) (b : Bool) → cell t (hd p b) ≡ end (hd p b) (ring p t b)
-  pub at_item : (t : List Move) (q : ℕ) → 0 < q → q ≤ item_count p → cell t q ≡ beside t q
-  pub now : (t : List Move) (q : ℕ) → is_covered q t ≡ false
-      → beside t q ≡ next (hd p (side p q)) q (ring p t (side p q))
-  pub now_before : (t : List Move) (q : ℕ) → is_covered q t ≡ false
-      → before t q ≡ last (hd p (side p q)) q (ring p t (side p q))
-  pub gone : (t : List Move) (m : Move) (q : ℕ) → is_covered q (m ∷ t) ≡ true → beside (m ∷ t) q ≡ beside t q
-  pub end_without : (h i : ℕ) (xs : List ℕ) → Rises 0 xs → is_in i xs ≡ true → is_in h xs ≡ false
-      → end h (less i xs) ≡ cond (eqb h (last h i xs)) (next h i xs) (end h xs)
-  pub next_without : (h i q : ℕ) (xs : List ℕ) → Rises 0 xs → is_in i xs ≡ true → is_in q xs ≡ true → q ≢ i → h ≢ q
-      → next h q (less i xs) ≡ cond (eqb q (last h i xs)) (next h i xs) (next h q xs)
-  pub round : (h i : ℕ) (xs : List ℕ) → Rises 0 xs → is_in i xs ≡ true → is_in h xs ≡ false
-      → cond (eqb (last h i xs) h) (end h xs) (next h (last h i xs) xs) ≡ i
-  pub last_in : (h i : ℕ) (xs : List ℕ) → Rises 0 xs → is_in i xs ≡ true → (last h i xs ≡ h)
-      ⊎ ((is_in (last h i xs) xs ≡ true) × (last h i xs ≢ i))
-
-abbrev way_column : (p : Puzzle) → Way p → List Move → List ℕ
-way_column p w t = map (w.cell t) (range_with_len 0 (item_count p + 2))
-
-abbrev pub rightwards : (p : Puzzle) → Way p
-rightwards p = record {
-  cell = rlink_at p;
-  beside = right_of p;
-  before = left_of p;
-  end = first_of;
-  next = first_above;
-  last = last_below;
-  at_head = λ t b. head_cell p t b first_of (right_of p t);
-  at_item =
-      λ t q. item_cell p q (first_of 0 (ring_of p t 0)) (right_of p t q)
-      (first_of (item_count p + 1) (ring_of p t (primary_count p + 1)));
-  now = right_now p;
-  now_before = left_now p;
-  gone = λ t m q e. ap (λ v. cond v (right_of p t q) (first_above (ring_head p q) q (ring_of p (m ∷ t) q))) e;
-  end_without = λ h i xs. first_without h h i 0 xs;
-  next_without = λ h i q xs. next_without h h i q 0 xs;
-  round = λ h i xs. link_behind h h i 0 xs;
-  last_in =
-      λ h i xs r e. elim (last_below-in h i 0 xs r e)
-      [ inl f ↦ inl f | inr f ↦ let lt = f.1 in inr (f.0, λ s. omega (arith, s, lt)) ];
-}
-
-abbrev pub leftwards : (p : Puzzle) → Way p
-leftwards p = record {
-  cell = llink_at p;
-  beside = left_of p;
-  before = right_of p;
-  end = last_of;
-  next = last_below;
-  last = first_above;
-  at_head = λ t b. head_cell p t b last_of (left_of p t);
-  at_item =
-      λ t q. item_cell p q (last_of 0 (ring_of p t 0)) (left_of p t q)
-      (last_of (item_count p + 1) (ring_of p t (primary_count p + 1)));
-  now = left_now p;
-  now_before = right_now p;
-  gone = λ t m q e. ap (λ v. cond v (left_of p t q) (last_below (ring_head p q) q (ring_of p (m ∷ t) q))) e;
-  end_without = λ h i xs. last_without h h i 0 xs;
-  next_without = λ h i q xs. prev_without h h i q 0 xs;
-  round = λ h i xs. link_before h h i 0 xs;
-  last_in =
-      λ h i xs r e. elim (first_above-in h i 0 xs r e)
-      [ inl f ↦ inl f | inr f ↦ let lt = f.1 in inr (f.0, λ s. omega (arith, s, lt)) ];
-}
-
-pub way_beside : (p : Puzzle) (w : Way p) (t : List Move) (i : ℕ) → 0 < i → i ≤ item_count p → is_covered i t ≡ false
-    → IsBeside p t (side p i) (w.before t i) × (w.before t i ≢ i)
-way_beside p w t i pos le un = grind (arith, common_steps, head_item, in_ring, ring_rises)
+way_in : (p : Puzzle) (t : List Move) (d b : Bool) (q : ℕ) → is_in q (way p t d b) ≡ true → IsBeside p t b q
+way_in p t d b q e =
+    by_first (IsBeside p t b q) (hd p b) q
+    (λ same. subst (IsBeside p t b) same (record {
+      place = head_place p b;
+      side = side_head p b;
+      stays = λ pos le. absurd (head_item p b (hd p b) pos le refl);
+    }))
+    (λ ne.
+    let rest = in_rest (hd p b) q (turned d (ring p t b)) ne e in
+    let r = ring_in p t b q (sym (in_turned d q (ring p t b)) ∙ rest) in
+    record { place = omega (arith, r.1.1); side = r.1.2; stays = λ _ _. r.0 })
 
 place_case : (p : Puzzle) (q : ℕ) → q < item_count p + 2 → ((b : Bool) × (q ≡ hd p b)) ⊎ ((0 < q) × (q ≤ item_count p))
 place_case p q lt =
@@ -247,68 +164,163 @@ place_case p q lt =
     (λ e. inl (false, e))
     (λ ne. inr (omega (arith, nz), omega (arith, lt, ne))))
 
--- a Cover changes one cell each way, that of the neighbour before
-pub way_next : (p : Puzzle) (w : Way p) (t : List Move) (i : ℕ) → 0 < i → i ≤ item_count p → is_covered i t ≡ false
-    → (q : ℕ) → q < item_count p + 2 →
-    w.cell (Cover i ∷ t) q ≡ cond (eqb q (w.before t i)) (w.beside t i) (w.cell t q)
-way_next p w t i pos le un q lt =
-    let b = side p i in
-    let l = w.before t i in
-    let r = w.beside t i in
-    let beside = way_beside p w t i pos le un in
-    let i_in = in_ring p t i pos le un in
-    let is_l = w.now_before t i un in
-    let is_r = w.now t i un in
-    let next = Cover i ∷ t in
-    let at_head : (c : Bool) → w.cell next (hd p c) ≡ cond (eqb (hd p c) l) r (w.cell t (hd p c)) = λ c.
-    w.at_head next c
-    ∙ by_side (w.end (hd p c) (ring p next c) ≡ cond (eqb (hd p c) l) r (w.end (hd p c) (ring p t c))) c b
-    (λ same. subst (λ d. w.end (hd p d) (ring p next d) ≡ cond (eqb (hd p d) l) r (w.end (hd p d) (ring p t d)))
-    (sym same)
-    (ap (w.end (hd p b)) (ring_next p t i b)
-    ∙ w.end_without (hd p b) i (ring p t b) (ring_rises p t b) i_in (head_out p t b b)
-    ∙ ap₂ (λ k v. cond (eqb (hd p b) k) v (w.end (hd p b) (ring p t b))) (sym is_l) (sym is_r)))
-    (λ ne. ap (w.end (hd p c)) (other_ring p t i c ne)
-    ∙ sym (ap (λ v. cond v r (w.end (hd p c) (ring p t c)))
-    (ne_eqb (hd p c) l (beside_head p t b c l beside.0 ne))))
-    ∙ ap (cond (eqb (hd p c) l) r) (sym (w.at_head t c)) in
-    let at_item : 0 < q → q ≤ item_count p → w.cell next q ≡ cond (eqb q l) r (w.cell t q) = λ q_pos q_le.
-    w.at_item next q q_pos q_le
-    ∙ by_first (w.beside next q ≡ cond (eqb q l) r (w.beside t q)) q i
-    (λ same. w.gone t (Cover i) q (ap (λ v. v || is_covered q t) (eq-eqb q i same))
-    ∙ sym (ap (λ v. cond v r (w.beside t q)) (ne_eqb q l (λ e. beside.1 (sym e ∙ same)))))
-    (λ other.
-    let as_before : is_covered q next ≡ is_covered q t = ap (λ v. v || is_covered q t) (ne_eqb q i other) in
-    elim (is_covered q t) as (λ v. is_covered q t ≡ v → w.beside next q ≡ cond (eqb q l) r (w.beside t q)) [
-      | true ↦ λ c. w.gone t (Cover i) q (as_before ∙ c)
-          ∙ sym (ap (λ v. cond v r (w.beside t q)) (ne_eqb q l (beside_covered p t b l q beside.0 q_pos q_le c)))
-      | false ↦ λ c.
-          let s = side p q in
-          w.now next q (as_before ∙ c)
-          ∙ by_side (w.next (hd p s) q (ring p next s) ≡ cond (eqb q l) r (w.next (hd p s) q (ring p t s))) s b
-          (λ same.
-          let q_in : is_in q (ring p t b) ≡ true =
-          ap (λ d. is_in q (ring p t d)) (sym same) ∙ in_ring p t q q_pos q_le c in
-          subst (λ d. w.next (hd p d) q (ring p next d) ≡ cond (eqb q l) r (w.next (hd p d) q (ring p t d))) (sym same)
-          (ap (w.next (hd p b) q) (ring_next p t i b)
-          ∙ w.next_without (hd p b) i q (ring p t b) (ring_rises p t b) i_in q_in other (head_item p b q q_pos q_le)
-          ∙ ap₂ (λ k v. cond (eqb q k) v (w.next (hd p b) q (ring p t b))) (sym is_l) (sym is_r)))
-          (λ ne. ap (w.next (hd p s) q) (other_ring p t i s ne)
-          ∙ sym (ap (λ v. cond v r (w.next (hd p s) q (ring p t s)))
-          (ne_eqb q l (beside_other p t b s l q beside.0 q_pos q_le refl ne))))
-          ∙ ap (cond (eqb q l) r) (sym (w.now t q c))
-    ] refl)
-    ∙ ap (cond (eqb q l) r) (sym (w.at_item t q q_pos q_le)) in
-    elim (place_case p q lt) [
-      | inl c ↦ subst (λ k. w.cell next k ≡ cond (eqb k l) r (w.cell t k)) (sym c.1) (at_head c.0)
-      | inr h ↦ at_item h.0 h.1
-    ]
+in_way : (p : Puzzle) (t : List Move) (d : Bool) (q : ℕ) → q < item_count p + 2 → Stays p t q
+    → is_in q (way p t d (side p q)) ≡ true
+in_way p t d q lt stays = elim (place_case p q lt) [
+  | inl c ↦ subst (λ k. is_in k (way p t d (side p k)) ≡ true) (sym c.1)
+      (ap (λ b. is_in (hd p c.0) (way p t d b)) (side_head p c.0) ∙ is_in-first (hd p c.0) (turned d (ring p t c.0)))
+  | inr r ↦ in_more (hd p (side p q)) q (turned d (ring p t (side p q)))
+      (in_turned d q (ring p t (side p q)) ∙ in_ring p t q r.0 r.1 (stays r.0 r.1))
+]
 
--- from the neighbour back to i
-pub way_back : (p : Puzzle) (w : Way p) (t : List Move) (i : ℕ) → 0 < i → i ≤ item_count p → is_covered i t ≡ false
-    → w.cell t (w.before t i) ≡ i
-way_back p w t i pos le un =
-    grind (arith, common_steps, by_first, eq-eqb, head_out, in_ring, ne_eqb, ring_in, ring_rises)
+rises_apart : (n : ℕ) (xs : List ℕ) → Rises n xs → AllApart xs
+rises_apart n [] r = tt
+rises_apart n (x ∷ xs) r = (apart_from x xs (not_in x x xs (omega arith) r.1), rises_apart x xs r.1)
+
+way_apart : (p : Puzzle) (t : List Move) (d b : Bool) → AllApart (way p t d b)
+way_apart p t d b =
+    (apart_from (hd p b) (turned d (ring p t b)) (in_turned d (hd p b) (ring p t b) ∙ head_out p t b b), rest d)
+  where
+    rest : (d : Bool) → AllApart (turned d (ring p t b))
+    rest true = rises_apart 0 (ring p t b) (ring_rises p t b)
+    rest false = apart_reverse (ring p t b) (rises_apart 0 (ring p t b) (ring_rises p t b))
+
+way_round : (p : Puzzle) (t : List Move) (d b : Bool) (q : ℕ) → is_in q (way p t d b) ≡ true
+    → behind (hd p b) (behind (hd p b) q (way p t d b)) (way p t (not d) b) ≡ q
+way_round p t true b q e = round (hd p b) q (ring p t b) (way_apart p t true b) e
+way_round p t false b q e =
+    ap (λ xs. behind (hd p b) (behind (hd p b) q (way p t false b)) (hd p b ∷ xs)) (sym (reverse-reverse (ring p t b)))
+    ∙ round (hd p b) q (reverse (ring p t b)) (way_apart p t false b) e
+
+-- a Cover takes its item out
+less_turned : (d : Bool) (i : ℕ) (xs : List ℕ) → turned d (less i xs) ≡ less i (turned d xs)
+less_turned true i xs = refl
+less_turned false i [] = refl
+less_turned false i (x ∷ xs) =
+    grind (arith, common_steps, less_turned false i xs)
+
+way_less : (p : Puzzle) (t : List Move) (i : ℕ) (d b : Bool) → 0 < i → i ≤ item_count p
+    → way p (Cover i ∷ t) d b ≡ less i (way p t d b)
+way_less p t i d b pos le =
+    rw (ne_eqb (hd p b) i (head_item p b i pos le))
+    (ap (λ xs. hd p b ∷ xs) (ap (turned d) (ring_next p t i b) ∙ less_turned d i (ring p t b)))
+
+-- ---- cells of the table
+
+-- what stands in a cell of RLINK, or of LLINK
+abbrev pub link : Puzzle → Bool → List Move → ℕ → ℕ
+link p true t q = rlink_at p t q
+link p false t q = llink_at p t q
+
+-- what stands at the head of a ring in a column of links, and at an item
+head_cell : (p : Puzzle) (t : List Move) (b : Bool) (f : ℕ → List ℕ → ℕ) (g : ℕ → ℕ) →
+    cond (eqb (hd p b) 0) (f 0 (ring_of p t 0))
+    (cond (leb (hd p b) (item_count p)) (g (hd p b)) (f (item_count p + 1) (ring_of p t (primary_count p + 1)))) ≡ f
+    (hd p b) (ring p t b)
+head_cell p t true f g = grind (arith, common_steps, lt-leb, ne_eqb, side_false, side_true)
+head_cell p t false f g = grind (arith, common_steps, lt-leb, ne_eqb, side_false, side_true)
+
+item_cell : (p : Puzzle) (q first inner last : ℕ) → 0 < q → q ≤ item_count p
+    → cond (eqb q 0) first (cond (leb q (item_count p)) inner last) ≡ inner
+item_cell p q first inner last pos le =
+    ap₂ (λ u v. cond u first (cond v inner last)) (ne_eqb q 0 (λ e. omega (arith, e, pos))) (le-leb q (item_count p) le)
+
+-- a covered item's cells stay
+pub link_gone : (p : Puzzle) (d : Bool) (t : List Move) (m : Move) (q : ℕ) → 0 < q → q ≤ item_count p
+    → is_covered q (m ∷ t) ≡ true → link p d (m ∷ t) q ≡ link p d t q
+link_gone p true t m q pos le e = grind (arith, common_steps, item_cell)
+link_gone p false t m q pos le e = grind (arith, common_steps, item_cell)
+
+-- the others lead to what is behind in the ring
+link_head : (p : Puzzle) (d : Bool) (t : List Move) (b : Bool)
+    → link p d t (hd p b) ≡ behind (hd p b) (hd p b) (way p t d b)
+link_head p true t b = head_cell p t b first_of (right_of p t) ∙ rw (eq-eqb (hd p b) (hd p b) refl) refl
+link_head p false t b =
+    head_cell p t b last_of (left_of p t)
+    ∙ rw (eq-eqb (hd p b) (hd p b) refl) (sym (first_back (hd p b) (ring p t b)))
+
+link_item : (p : Puzzle) (d : Bool) (t : List Move) (q : ℕ) → 0 < q → q ≤ item_count p → is_covered q t ≡ false
+    → link p d t q ≡ behind (hd p (side p q)) q (way p t d (side p q))
+link_item p true t q pos le un =
+    let b = side p q in
+    item_cell p q _ (right_of p t q) _ pos le ∙ right_now p t q un
+    ∙ rw (ne_eqb (hd p b) q (head_item p b q pos le))
+    (sym (behind_above (hd p b) q 0 (ring p t b) (ring_rises p t b) (in_ring p t q pos le un)))
+link_item p false t q pos le un =
+    let b = side p q in
+    item_cell p q _ (left_of p t q) _ pos le ∙ left_now p t q un
+    ∙ rw (ne_eqb (hd p b) q (head_item p b q pos le))
+    (sym (behind_below (hd p b) q 0 (ring p t b) (ring_rises p t b) (in_ring p t q pos le un)))
+
+link_is : (p : Puzzle) (d : Bool) (t : List Move) (q : ℕ) → q < item_count p + 2 → Stays p t q
+    → link p d t q ≡ behind (hd p (side p q)) q (way p t d (side p q))
+link_is p d t q lt stays = elim (place_case p q lt) [
+  | inl c ↦ subst (λ k. link p d t k ≡ behind (hd p (side p k)) k (way p t d (side p k))) (sym c.1)
+      (link_head p d t c.0 ∙ ap (λ b. behind (hd p b) (hd p c.0) (way p t d b)) (sym (side_head p c.0)))
+  | inr r ↦ link_item p d t q r.0 r.1 (stays r.0 r.1)
+]
+
+pub link_beside : (p : Puzzle) (d : Bool) (t : List Move) (q : ℕ) → q < item_count p + 2 → Stays p t q
+    → IsBeside p t (side p q) (link p d t q)
+link_beside p d t q lt stays =
+    subst (IsBeside p t (side p q)) (sym (link_is p d t q lt stays))
+    (way_in p t d (side p q) _ (round_within (hd p (side p q)) q (turned d (ring p t (side p q)))))
+
+-- an item's links lead to others
+pub link_other : (p : Puzzle) (d : Bool) (t : List Move) (q : ℕ) → 0 < q → q ≤ item_count p → is_covered q t ≡ false
+    → link p d t q ≢ q
+link_other p d t q pos le un = grind (arith, common_steps, behind_other, head_item, link_item, way_apart)
+
+-- there and back
+pub link_back : (p : Puzzle) (d : Bool) (t : List Move) (q : ℕ) → q < item_count p + 2 → Stays p t q
+    → link p (not d) t (link p d t q) ≡ q
+link_back p d t q lt stays =
+    let r = link_beside p d t q lt stays in
+    grind (arith, common_steps, in_way, link_is, way_round)
+
+-- a Cover changes one cell each way, that of the neighbour before
+link_next_in : (p : Puzzle) (d : Bool) (t : List Move) (i : ℕ) → 0 < i → i ≤ item_count p → is_covered i t ≡ false
+    → (q : ℕ) → q < item_count p + 2 → Stays p (Cover i ∷ t) q
+    → link p d (Cover i ∷ t) q ≡ cond (eqb q (link p (not d) t i)) (link p d t i) (link p d t q)
+link_next_in p d t i pos le un q lt stays =
+    let within : i < item_count p + 2 = omega (arith, le) in
+    let l = link p (not d) t i in
+    let h = hd p (side p q) in
+    let w = way p t d (side p q) in
+    let now : Stays p t q = λ a b. (or_parts (eqb q i) (is_covered q t) (stays a b)).1 in
+    let ne : q ≢ i = λ same. false≢true
+    (sym (subst (Stays p (Cover i ∷ t)) same stays pos le) ∙ ap (λ b. b || is_covered i t) (eq-eqb i i refl)) in
+    let after : link p d (Cover i ∷ t) q ≡ cond (eqb (link p d t q) i) (behind h i w) (link p d t q) =
+    link_is p d (Cover i ∷ t) q lt stays ∙ ap (behind h q) (way_less p t i d (side p q) pos le)
+    ∙ behind_less h i q w (way_apart p t d (side p q)) (head_item p (side p q) i pos le) ne
+    ∙ ap (λ v. cond (eqb v i) (behind h i w) v) (sym (link_is p d t q lt now)) in
+    let there : link p d t q ≡ i → (q ≡ l) × (behind h i w ≡ link p d t i) = λ e. (
+      sym (link_back p d t q lt now) ∙ ap (link p (not d) t) e,
+      ap (λ b. behind (hd p b) i (way p t d b)) (sym (link_beside p d t q lt now).side ∙ ap (side p) e)
+          ∙ sym (link_is p d t i within (λ _ _. un)),
+    ) in
+    let back : q ≡ l → link p d t q ≡ i = λ e. ap (link p d t) e
+    ∙ ap (λ c. link p c t l) (sym (not-not d)) ∙ link_back p (not d) t i within (λ _ _. un) in
+    after ∙ by_first (cond (eqb (link p d t q) i) (behind h i w) (link p d t q) ≡ cond (eqb q l) (link p d t i)
+    (link p d t q)) (link p d t q) i
+    (λ same. rw (eq-eqb (link p d t q) i same, eq-eqb q l (there same).0) (there same).1)
+    (λ other. rw (ne_eqb (link p d t q) i other, ne_eqb q l (λ e. other (back e))) refl)
+
+pub link_next : (p : Puzzle) (d : Bool) (t : List Move) (i : ℕ) → 0 < i → i ≤ item_count p → is_covered i t ≡ false
+    → (q : ℕ) → q < item_count p + 2
+    → link p d (Cover i ∷ t) q ≡ cond (eqb q (link p (not d) t i)) (link p d t i) (link p d t q)
+link_next p d t i pos le un q lt = elim (place_case p q lt) [
+  | inl c ↦ link_next_in p d t i pos le un q lt (λ q_pos q_le. absurd (head_item p c.0 q q_pos q_le (sym c.1)))
+  | inr r ↦ elim (is_covered q (Cover i ∷ t)) as (λ b. is_covered q (Cover i ∷ t) ≡ b
+      → link p d (Cover i ∷ t) q ≡ cond (eqb q (link p (not d) t i)) (link p d t i) (link p d t q)) [
+        | true ↦ λ e. rw (ne_eqb q (link p (not d) t i) (λ same.
+            by_first ⊥ q i (λ own. link_other p (not d) t i pos le un (sym same ∙ own)) (λ other.
+            let beside = link_beside p (not d) t i (omega (arith, le)) (λ _ _. un) in
+            false≢true (sym (subst (Stays p t) (sym same) beside.stays r.0 r.1)
+            ∙ sym (ap (λ b. b || is_covered q t) (ne_eqb q i other)) ∙ e)))) (link_gone p d t (Cover i) q r.0 r.1 e)
+        | false ↦ λ e. link_next_in p d t i pos le un q lt (λ _ _. e)
+      ] refl
+]
 
 -- ---- both ways
 
@@ -319,28 +331,31 @@ pub record RingStep (p : Puzzle) (t : List Move) (i : ℕ) : Type 0 where
   pub can_back : CanTurn (items_after p (Cover i ∷ t)) i
   pub undone : back_in_ring (items_after p (Cover i ∷ t)) i ≡ items_after p t
 
--- a column of links before a Cover and after it
-record WayStep (p : Puzzle) (w : Way p) (t : List Move) (i : ℕ) : Type 0 where
-  beside : w.before t i < item_count p + 2
-  long : length (way_column p w t) ≡ item_count p + 2
-  long' : length (way_column p w (Cover i ∷ t)) ≡ item_count p + 2
-  get : get_or (way_column p w t) i 0 ≡ w.beside t i
-  get' : get_or (way_column p w (Cover i ∷ t)) i 0 ≡ w.beside t i
-  put : way_column p w (Cover i ∷ t) ≡ set (way_column p w t) (w.before t i) (w.beside t i)
-  back : set (way_column p w (Cover i ∷ t)) (w.before t i) i ≡ way_column p w t
+abbrev links : Puzzle → Bool → List Move → List ℕ
+links p d t = map (link p d t) (range_with_len 0 (item_count p + 2))
 
-way_step : (p : Puzzle) (w : Way p) (t : List Move) (i : ℕ) → 0 < i → i ≤ item_count p → is_covered i t ≡ false
-    → WayStep p w t i
-way_step p w t i pos le un =
-    let n = item_count p + 2 in
-    let next = Cover i ∷ t in
-    let l = w.before t i in
-    let r = w.beside t i in
-    let within : i < n = omega (arith, le) in
-    let l_in : l < n = beside_place p t (side p i) l (way_beside p w t i pos le un).0 in
-    let put : way_column p w next ≡ set (way_column p w t) l r =
-    grind (arith, common_steps, eq-eqb, ne_eqb, row_put, way_next) in
-    grind (arith, common_steps, eq-eqb, row_get, row_len, way_back, written_back)
+-- a column of links before a Cover and after it
+record WayStep (p : Puzzle) (d : Bool) (t : List Move) (i : ℕ) : Type 0 where
+  beside : link p (not d) t i < item_count p + 2
+  long : length (links p d t) ≡ item_count p + 2
+  long' : length (links p d (Cover i ∷ t)) ≡ item_count p + 2
+  get : get_or (links p d t) i 0 ≡ link p d t i
+  get' : get_or (links p d (Cover i ∷ t)) i 0 ≡ link p d t i
+  put : links p d (Cover i ∷ t) ≡ set (links p d t) (link p (not d) t i) (link p d t i)
+  back : set (links p d (Cover i ∷ t)) (link p (not d) t i) i ≡ links p d t
+
+way_step : (p : Puzzle) (d : Bool) (t : List Move) (i : ℕ) → 0 < i → i ≤ item_count p → is_covered i t ≡ false
+    → WayStep p d t i
+way_step p d t i pos le un =
+    let within : i < item_count p + 2 = omega (arith, le) in
+    let beside : link p (not d) t i < item_count p + 2 = (link_beside p (not d) t i within (λ _ _. un)).place in
+    let put : links p d (Cover i ∷ t) ≡ set (links p d t) (link p (not d) t i) (link p d t i) =
+    grind (arith, common_steps, eq-eqb, ne_eqb, row_put, link_next) in
+    let there : link p d t (link p (not d) t i) ≡ i =
+    ap (λ c. link p c t (link p (not d) t i)) (sym (not-not d)) ∙ link_back p (not d) t i within (λ _ _. un) in
+    let gone : link p d (Cover i ∷ t) i ≡ link p d t i =
+    link_gone p d t (Cover i) i pos le (ap (λ b. b || is_covered i t) (eq-eqb i i refl)) in
+    grind (arith, common_steps, row_get, row_len, written_back)
 
 pub ring_step : (p : Puzzle) (t : List Move) (i : ℕ) → IsLegal p t (Cover i) → RingStep p t i
 ring_step p t i may =
@@ -349,6 +364,6 @@ ring_step p t i may =
     let un : is_covered i t ≡ false = open_uncovered i t may.1 in
     let now = items_after p t in
     let next = items_after p (Cover i ∷ t) in
-    let a = way_step p (rightwards p) t i pos le un in
-    let b = way_step p (leftwards p) t i pos le un in
+    let a = way_step p true t i pos le un in
+    let b = way_step p false t i pos le un in
     grind (arith, common_steps, same_items)
