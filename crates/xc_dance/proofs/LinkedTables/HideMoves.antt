@@ -111,7 +111,7 @@ back_is p t i laid pos le =
 
 pub in_table : (p : Puzzle) (t : List Move) (i : ℕ) → IsLaid p → 0 < i → i ≤ item_count p
     → i < length (nodes_after p t).top
-in_table p t i laid pos le = grind (arith, common_steps, length-map, slice_get_within)
+in_table p t i laid pos le = grind (arith, common_steps, slice_get_within)
 
 pub few_in : (p : Puzzle) (t : List Move) (i : ℕ) → IsLaid p → IsFit p → 0 < i → i ≤ item_count p
     → get_or (nodes_after p t).top i 0 < 2 ^ 30

@@ -7,7 +7,6 @@ use Rattle.std.proofs.lemmas.Option.{same_Some, slice_get_within}
 use Rattle.std.proofs.lemmas.Grind.{common_steps}
 use Rattle.std.proofs.lemmas.List.{get_or-set_same, get_or-set_other, set-set, set-get_or, reverse-append, length-map}
 use Rattle.std.proofs.lemmas.List.{length-set, map-set}
-use Rattle.std.proofs.lemmas.List.Sums.{fold-append}
 use Rattle.std.proofs.Math.Path.{fun_ext}
 use Rattle.std.proofs.Math.Seq.{map-set_same}
 use Rattle.xc_input.specs.Problem.{Puzzle, item_count}
@@ -61,7 +60,7 @@ get_or-set_kept (x ∷ xs) (suc i) (suc k) v h = get_or-set_kept xs i k v h
 
 -- a cell that is written and then written back is as it was
 pub written_back : (xs : List ℕ) (i j v w : ℕ) → j ≡ i → get_or xs i 0 ≡ w → set (set xs i v) j w ≡ xs
-written_back xs i j v w e h = grind (arith, common_steps, set-get_or, set-set)
+written_back xs i j v w e h = grind (arith, common_steps, set-set)
 
 -- tables with the same columns are the same
 pub same_nodes : (s t : Nodes) → s.top ≡ t.top → s.ulink ≡ t.ulink → s.dlink ≡ t.dlink → s.color ≡ t.color → s ≡ t
@@ -78,7 +77,7 @@ pub record IsLinked (t : Nodes) (q : ℕ) : Type 0 where
 -- a node that left its list goes back to where it was
 pub relinked-unlinked : (t : Nodes) (q : ℕ) → IsLinked t q → relinked (unlinked t q) q ≡ t
 relinked-unlinked t q h =
-    grind (arith, common_steps, get_or-set_kept, get_or-set_other, get_or-set_same, same_nodes, written_back)
+    grind (arith, common_steps, get_or-set_kept, get_or-set_same, same_nodes, written_back)
 
 -- a marked node is passed over
 pub hidden-marked : (t : Nodes) (q : ℕ) → eqb (get_or t.color q 0) MARK ≡ true → hidden t q ≡ t
@@ -112,9 +111,9 @@ IsUndone t (q ∷ qs) = (unhidden (hidden t q) q ≡ t) × IsUndone (hidden t q)
 -- unhide, from the last place back, undoes hide
 pub fold-unhidden-reverse : (t : Nodes) (qs : List ℕ) → IsUndone t qs
     → fold unhidden (fold hidden t qs) (reverse qs) ≡ t
-fold-unhidden-reverse t [] h = grind (arith, common_steps, fold-append, reverse-append)
+fold-unhidden-reverse t [] h = grind (arith, common_steps)
 fold-unhidden-reverse t (q ∷ qs) h =
-    grind (arith, common_steps, fold-append, reverse-append, fold-unhidden-reverse (hidden t q) qs h.1)
+    grind (arith, common_steps, fold-unhidden-reverse (hidden t q) qs h.1)
 
 -- ---- the columns of links and counts of a table of lines, and one write to them
 
@@ -206,7 +205,7 @@ get_item p ln j o h pos =
 
 pub size_from : (p : Puzzle) (ln : ℕ → Line) (col : Node → ℕ)
     → HasSize (nodes_from p ln col) (length (nodes_from p ln col).top)
-size_from p ln col = grind (arith, common_steps, length-map)
+size_from p ln col = grind (arith, common_steps)
 
 -- what stands in the cells of member o's node in item j's list, where the members beside it have nodes too
 pub record NodeCells (p : Puzzle) (ln : ℕ → Line) (col : Node → ℕ) (j o : ℕ) : Type 0 where
@@ -278,7 +277,7 @@ pub Stands-without : (ys : List ℕ) (q : ℕ) (zs : List ℕ) (r : ℕ) → r �
 Stands-without ys q zs r ne s = without_at ys q zs r ne s.ys s.zs s.is
 
 HasSize-unlinked : (t : Nodes) (q : ℕ) → HasSize t (length t.top) → HasSize (unlinked t q) (length (unlinked t q).top)
-HasSize-unlinked t q h = grind (arith, common_steps, length-set)
+HasSize-unlinked t q h = grind (arith, common_steps)
 
 -- a node that has just left can be put back
 pub record CanRelink (t : Nodes) (q : ℕ) : Type 0 where
@@ -289,12 +288,12 @@ pub record CanRelink (t : Nodes) (q : ℕ) : Type 0 where
 pub CanRelink-unlinked : (t : Nodes) (q : ℕ) → HasSize t (length t.top) → NamesPlaces t q → IsLinked t q
     → get_or t.top (get_or t.top q 0) 0 < 2 ^ 31 → CanRelink (unlinked t q) q
 CanRelink-unlinked t q size names linked few =
-    grind (arith, common_steps, HasSize-unlinked, get_or-set_kept, get_or-set_other, get_or-set_same, length-set)
+    grind (arith, common_steps, HasSize-unlinked, get_or-set_kept, get_or-set_same)
 
 -- so a step of unhide may be made there
 pub CanUnhide-unlinked : (t : Nodes) (q : ℕ) → HasSize t (length t.top) → NamesPlaces t q → IsLinked t q
     → get_or t.top q 0 < SPACER → get_or t.top (get_or t.top q 0) 0 < 2 ^ 31 → CanUnhide (unlinked t q) q
-CanUnhide-unlinked t q size names linked use_of few = grind (arith, common_steps, CanRelink-unlinked, get_or-set_other)
+CanUnhide-unlinked t q size names linked use_of few = grind (arith, common_steps, CanRelink-unlinked)
 
 -- one place more at the end of a walk
 CanUnhideAll-push : (t : Nodes) (ps : List ℕ) (q : ℕ) → CanUnhideAll t ps → CanUnhide (fold unhidden t ps) q
@@ -306,7 +305,7 @@ CanUnhideAll-push t (p ∷ ps) q h c = (h.0, CanUnhideAll-push (unhidden t p) ps
 pub back_more : (t : Nodes) (q : ℕ) (qs : List ℕ) → IsUndone (hidden t q) qs
     → CanUnhideAll (fold hidden (hidden t q) qs) (reverse qs) → CanUnhide (hidden t q) q
     → CanUnhideAll (fold hidden t (q ∷ qs)) (reverse (q ∷ qs))
-back_more t q qs undone back can = grind (arith, common_steps, CanUnhideAll-push, fold-unhidden-reverse, reverse-append)
+back_more t q qs undone back can = grind (arith, common_steps, CanUnhideAll-push, fold-unhidden-reverse)
 
 -- the nodes can be hidden one after another, each step can be undone, and the walk back can be made
 pub record Rest (t : Nodes) (qs : List ℕ) : Type 0 where

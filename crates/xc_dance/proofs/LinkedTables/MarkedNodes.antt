@@ -251,8 +251,7 @@ marked_at p i keep now (o ∷ xs) n =
       common_steps,
       cond_at,
       none_kept,
-      marked_at p i keep
-          (cond (is_kept p i keep o) (with_color now i o MARK) now) xs n,
+      marked_at p i keep (cond (is_kept p i keep o) (with_color now i o MARK) now) xs n,
     )
 
 pub cover_colours : (p : Puzzle) (t : List Move) (i : ℕ) (n : Node) → color_in p (Cover i ∷ t) n ≡ color_in p t n

@@ -6,7 +6,6 @@ use Rattle.std.specs.Prelude.{slice_get}
 use Rattle.std.proofs.lemmas.Grind.{common_steps}
 use Rattle.std.proofs.lemmas.Bool.{false≢true, and_right}
 use Rattle.std.proofs.lemmas.List.{length-map, reverse-append}
-use Rattle.std.proofs.lemmas.List.Sums.{fold-append}
 use Rattle.std.proofs.lemmas.Option.{slice_get_within}
 use Rattle.xc_input.specs.Problem.{Puzzle, item_count, uses_of}
 use Rattle.xc_dance.specs.Fields.{Node, layout, link_place, is_in}
@@ -151,8 +150,7 @@ all_same p i col now xs lists o ln (j ∷ js) pos same apart h =
       arith,
       common_steps,
       mark_by,
-      all_same p i col now xs lists o (left_one p col o ln j) js pos same
-          apart.1 h.5,
+      all_same p i col now xs lists o (left_one p col o ln j) js pos same apart.1 h.5,
     )
 
 ready_same : (p : Puzzle) (i : ℕ) (col now : Node → ℕ) (xs : List ℕ) (lists : ℕ → List ℕ) (o : ℕ) (js : List ℕ) → 0 < o
@@ -213,7 +211,7 @@ hide_step : (p : Puzzle) (now : Node → ℕ) (spans : List Span) (keep : Option
     OneStep spans keep (nodes_from p ln now) (nodes_from p (left_all p now o ln (other_items p o i)) now)
     (link_place p i o) (3 * gone_count p now i o)
 hide_step p now spans keep ln i o spanned h pos named other unmarked turns =
-    grind (arith, common_steps, length-map, no_mark, slice_get_within, turns)
+    grind (arith, common_steps, no_mark, slice_get_within, turns)
 
 -- the first step, and what is then asked of the rest
 pub record Turn (p : Puzzle) (col now : Node → ℕ) (spans : List Span) (i : ℕ) (keep : Option ℕ) (ln : ℕ → Line) (o : ℕ)
@@ -319,8 +317,7 @@ back_push spans keep t u v q (y ∷ ys) x w done at next within can =
     grind (
       arith,
       common_steps,
-      back_push spans keep (back_node spans keep t y) u v
-          (get_or (back_node spans keep t y).ulink y 0) ys x w.3 done at next within can,
+      back_push spans keep (back_node spans keep t y) u v (get_or (back_node spans keep t y).ulink y 0) ys x w.3 done at next within can,
     )
 
 leads_push : (spans : List Span) (keep : Option ℕ) (t u v : Nodes) (q : ℕ) (xs : List ℕ) (x : ℕ)
@@ -405,7 +402,7 @@ listed_walk p col now spans i keep ln lists a (o ∷ xs) laid spanned pos le goo
           subst (IsWalkBack spans keep end' q0) (sym turned)
           (back_push spans keep end' t1 t0 q0 (reverse places) x back rest.undone ends s.undone
           (omega (arith, up_long, x_in)) s.back);
-      undone = grind (arith, common_steps, fold-append);
+      undone = grind (arith, common_steps);
       ends = ap (leads spans keep end' q0) turned
           ∙ leads_push spans keep end' t1 t0 q0 (reverse places) x rest.undone s.undone ∙ up_at
           ∙ ap (link_place p i) linked.2;

@@ -86,8 +86,7 @@ all_at change p col o ln (j ∷ js) k apart =
       eqb-true,
       one_here,
       one_other,
-      all_at change p col o
-          (changed_one change p col o ln j) js k apart.1,
+      all_at change p col o (changed_one change p col o ln j) js k apart.1,
     )
 
 -- the option stands in the list of each of them in which it isn't marked

@@ -3,7 +3,7 @@ use Rattle.std.proofs.Common.{◌≡◌, ◌≢◌, ℕ, zero, suc, ◌+◌, ◌
 use Rattle.std.proofs.Common.{◌∷◌, ◌++◌, length, map, filter, drop, reverse, get_or, refl, ap, sym, subst, ◌∙◌, arith}
 use Rattle.std.proofs.Common.{length-append, inr, ◌||◌, fold, ap₂, eq-eqb, ◌^◌, eqb-true}
 use Rattle.std.proofs.lemmas.Grind.{common_steps}
-use Rattle.std.proofs.lemmas.List.{reverse-append, append_assoc, map-append, length-map}
+use Rattle.std.proofs.lemmas.List.{append_assoc, length-map}
 use Rattle.std.proofs.lemmas.List.Sums.{fold-append}
 use Rattle.std.proofs.lemmas.List.Elements.{filter-append}
 use Rattle.std.proofs.lemmas.Option.{slice_get_within}
@@ -193,7 +193,7 @@ tweaked_lines p t spans covered i (suc k) legal fit opened =
         others = more_others p t s spans covered i os legal.1 fit opened f h;
         colours = λ n. tweak_colours p s i n ∙ h.colours n;
         opened = h.opened;
-        taken = grind (arith, common_steps, map-append, reverse-append);
+        taken = grind (arith, common_steps);
       };
     }
 

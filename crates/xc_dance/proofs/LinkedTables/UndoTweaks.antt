@@ -4,7 +4,7 @@ use Rattle.std.proofs.Common.{map, drop, take, reverse, get_or, refl, ap, ap₂,
 use Rattle.std.proofs.lemmas.Grind.{common_steps}
 use Rattle.std.specs.Prelude.{replicate}
 use Rattle.std.proofs.lemmas.List.{reverse-append, reverse-reverse, length-reverse, length-drop, length-map}
-use Rattle.std.proofs.lemmas.List.{get_or_default, take-append-drop, get_or-append-add}
+use Rattle.std.proofs.lemmas.List.{take-append-drop, get_or-append-add}
 use Rattle.std.proofs.Math.Seq.{drop-append_seam, take-append_seam}
 use Rattle.xc_dance.specs.declared.dance.Move.{Move}
 use Rattle.xc_dance.specs.declared.dance.Move.TheVariants.{Tweak}
@@ -178,7 +178,7 @@ tweaks_found p s spans (suc k) xs are legal fit e =
 
 pub node_is : {p : Puzzle} {s t : List Move} {spans : List Span} {i k n x : ℕ} {xs : List ℕ} → Found p s t spans i k xs
     → 1 ≤ k → x ≡ get_or xs (n - k) x → n ≡ length xs → x ≡ first_place p t i
-node_is {k = k} {x = x} {xs = xs} f some read long = grind (arith, common_steps, get_or_default)
+node_is {k = k} {x = x} {xs = xs} f some read long = grind (arith, common_steps)
 
 -- the first node that they took off, and its item, as they were read from the tables
 pub record IsRead (p : Puzzle) (s t : List Move) (spans : List Span) (i k : ℕ) (xs : List ℕ) (nodes : Nodes)

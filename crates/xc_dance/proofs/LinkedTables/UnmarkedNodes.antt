@@ -5,7 +5,7 @@ use Rattle.std.proofs.Common.{Option, Some, None, sym, subst, ltb-true, ltb-fals
 use Rattle.std.specs.Prelude.{slice_get, is_some}
 use Rattle.std.specs.List.{AllByRecursion}
 use Rattle.std.proofs.lemmas.Grind.{common_steps}
-use Rattle.std.proofs.lemmas.List.{reverse-append, length-map}
+use Rattle.std.proofs.lemmas.List.{length-map}
 use Rattle.std.proofs.lemmas.Bool.{eqb-false}
 use Rattle.std.proofs.lemmas.Option.{slice_get_within, slice_get-get_or, same_Some}
 use Rattle.xc_input.specs.Problem.{Puzzle, colour_in, uses_of, item_count, option_count}
@@ -65,9 +65,9 @@ unmarked-append color (p ∷ ps) qs = let r = unmarked-append color ps qs in ome
 
 -- back it is the same
 pub unmarked-reverse : (color qs : List ℕ) → unmarked_costs color (reverse qs) ≡ unmarked_costs color qs
-unmarked-reverse color [] = grind (arith, common_steps, reverse-append, unmarked-append)
+unmarked-reverse color [] = grind (arith, common_steps, unmarked-append)
 unmarked-reverse color (q ∷ qs) =
-    grind (arith, common_steps, reverse-append, unmarked-append, unmarked-reverse color qs)
+    grind (arith, common_steps, unmarked-append, unmarked-reverse color qs)
 
 -- for option o's nodes in the lists of the items js
 pub unmarked_items : (p : Puzzle) (col : Node → ℕ) (o : ℕ) (js : List ℕ)

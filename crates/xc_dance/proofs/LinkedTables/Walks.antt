@@ -4,8 +4,7 @@ use Rattle.std.proofs.Common.{get_or, drop, fold, refl, ap, sym, subst, ◌∙�
 use Rattle.std.specs.List.{range_with_len}
 use Rattle.std.proofs.lemmas.Grind.{common_steps}
 use Rattle.std.proofs.lemmas.Bool.{eqb-false}
-use Rattle.std.proofs.lemmas.List.{drop_more, drop_all, reverse-append}
-use Rattle.std.proofs.lemmas.List.Sums.{fold-append}
+use Rattle.std.proofs.lemmas.List.{drop_more, reverse-append}
 use Rattle.xc_dance.specs.declared.links.nodes.Nodes.{Nodes}
 use Rattle.xc_dance.specs.inner.Links.Steps.{followed, IsSpacer, places}
 use Rattle.xc_dance.specs.inner.Links.Walks.{costs, CanAll, CanFollow}
@@ -69,7 +68,7 @@ pub both_reached : {step : Nodes → ℕ → Nodes} {writes : Nodes → ℕ → 
     → m ≡ costs step writes t rs
     → Reached step writes t0 (ps ++ qs) u (n + m)
 both_reached {step} {writes} {t0} {ps} {t} {n} qs rs u m h same is paid =
-    grind (arith, common_steps, costs-append, fold-append)
+    grind (arith, common_steps, costs-append)
 
 -- ---- up to a spacer
 
@@ -148,7 +147,7 @@ pub follow_end : {step : Nodes → ℕ → Nodes} {writes : Nodes → ℕ → �
     {t0 : Nodes} {m x : ℕ} {t : Nodes} {p k n : ℕ} → m ≤ k → Following step writes Can links t0 m x t p k n
     → Reached step writes t0 (followed (links t0) m x) t n
 follow_end {step} {writes} {Can} {links} {t0} {m} {x} {t} {p} {k} {n} le h =
-    grind (arith, common_steps, drop_all, length-followed)
+    grind (arith, common_steps, length-followed)
 
 -- ---- places in a row, one by one
 

@@ -6,9 +6,8 @@ use Rattle.std.proofs.lemmas.Grind.{common_steps}
 use Rattle.std.specs.Prelude.{AllPairs}
 use Rattle.std.specs.List.{range_with_len}
 use Rattle.std.proofs.lemmas.Bool.{ne_eqb}
-use Rattle.std.proofs.lemmas.List.{length-take-le, get_or-take, get_or_default, map-append, append-nil}
+use Rattle.std.proofs.lemmas.List.{length-take-le, get_or-take, get_or_default, append-nil}
 use Rattle.std.proofs.lemmas.List.Folds.{list_any_none}
-use Rattle.std.proofs.lemmas.List.Elements.{filter-append}
 use Rattle.xc_input.specs.declared.problem.Use.{Use}
 use Rattle.xc_input.specs.Problem.{Puzzle, Numbered, item_count, holding}
 use Rattle.xc_dance.specs.inner.Lists.Taking.{list_at}
@@ -81,7 +80,7 @@ filled_more : (os : List (List Use)) (us : List Use) (i : ℕ)
     → cond (has_use us i) (map (λ o. o.number) (holding i (numbered_from 1 os)) ++ (length os + 1) ∷ [])
     (map (λ o. o.number) (holding i (numbered_from 1 os))) ≡ map (λ o. o.number)
     (holding i (numbered_from 1 (os ++ us ∷ [])))
-filled_more os us i = grind (arith, common_steps, at_end, filter-append, holds_use, map-append, numbered_more)
+filled_more os us i = grind (arith, common_steps, at_end, holds_use, numbered_more)
 
 pub lists_more : (p : Puzzle) (os : List (List Use)) (us : List Use) (o : ℕ) → o ≡ length os + 1
     → enlisted us o (lists_of p os) ≡ lists_of p (os ++ us ∷ [])

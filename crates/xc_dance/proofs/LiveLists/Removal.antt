@@ -5,10 +5,9 @@ use Rattle.std.proofs.Common.{sum_by}
 use Rattle.std.proofs.lemmas.Grind.{common_steps}
 use Rattle.std.specs.List.{insert, remove}
 use Rattle.std.specs.Global.{Vec}
-use Rattle.std.proofs.lemmas.List.{map-set, get_or-map, get_or-set_same, set-get_or, length-set, length-map, set-set}
+use Rattle.std.proofs.lemmas.List.{map-set, get_or-map, get_or-set_same, set-set}
 use Rattle.std.proofs.Math.Seq.{map-set_same}
 use Rattle.std.proofs.lemmas.List.Edits.{length-insert, length-remove}
-use Rattle.std.proofs.lemmas.List.Sums.{sum_by-set}
 use Rattle.xc_dance.specs.declared.lists.undo_log.Removed.{Removed}
 use Rattle.xc_dance.specs.inner.Lists.Rising.{Rises}
 use Rattle.xc_dance.specs.inner.Lists.Taking.{numbers_of, rooms_of, list_at, less, put_back, HasRoom, IsPutBack}
@@ -90,7 +89,7 @@ pub removed : (rooms : List ℕ) (ls : List (List ℕ)) (list place number : ℕ
     IsPutBack rooms (record { place = place; list = list; number = number })
     (set ls list (remove (list_at ls list) place)) ls
 removed rooms ls list place number lt within is fits =
-    grind (arith, common_steps, get_or-set_same, insert-remove, length-remove, length-set, set-get_or, set-set)
+    grind (arith, common_steps, get_or-set_same, insert-remove, length-remove, set-set)
 
 -- as a vector's row is changed
 pub row_removed : (ls : List (Vec ℕ)) (new : Vec ℕ) (list place number : ℕ) (row : Vec ℕ) → list < length ls
@@ -100,9 +99,9 @@ pub row_removed : (ls : List (Vec ℕ)) (new : Vec ℕ) (list place number : ℕ
     IsPutBack (rooms_of ls) (record { place = place; list = list; number = number }) (numbers_of (set ls list new))
     (numbers_of ls)
 row_removed ls new list place number row lt is_row within is gone fits =
-    grind (arith, common_steps, length-map, list_at-numbers_of, numbers_of-set, removed, room_at)
+    grind (arith, common_steps, list_at-numbers_of, numbers_of-set, removed, room_at)
 
 -- there is one number more after one was put back
 pub sum-put_back : (rooms : List ℕ) (e : Removed) (ls : List (List ℕ)) → HasRoom rooms e ls
     → sum_by length (put_back e ls) ≡ sum_by length ls + 1
-sum-put_back rooms e ls h = grind (arith, common_steps, length-insert, sum_by-set)
+sum-put_back rooms e ls h = grind (arith, common_steps, length-insert)

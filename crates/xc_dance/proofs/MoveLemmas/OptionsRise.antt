@@ -22,8 +22,7 @@ NumbersRise-filter p n (o ∷ os) r =
       common_steps,
       NumbersRise-weaker,
       NumbersRise-filter p o.number os r.1,
-      NumbersRise-filter p n os
-          (NumbersRise-weaker n o.number os (omega (arith, r.0)) r.1),
+      NumbersRise-filter p n os (NumbersRise-weaker n o.number os (omega (arith, r.0)) r.1),
     )
 
 pub NumbersRise-from : (n : ℕ) (os : List (List Use)) → NumbersRise n (numbered_from (n + 1) os)

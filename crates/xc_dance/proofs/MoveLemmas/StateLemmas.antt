@@ -4,7 +4,7 @@ use Rattle.std.proofs.Common.{[], ◌∷◌, Some, None, refl, ap, sym, set, get
 use Rattle.std.proofs.Common.{eqb-true, eq-eqb}
 use Rattle.xc_input.specs.declared.problem.Bounds.{Bounds}
 use Rattle.std.proofs.lemmas.Grind.{common_steps}
-use Rattle.std.proofs.lemmas.List.{length-set, get_or-set_same, get_or-set_other, get_or_default}
+use Rattle.std.proofs.lemmas.List.{get_or-set_same}
 use Rattle.std.specs.Prelude.{Option, is_some, unwrap_or, filter}
 use Rattle.std.specs.List.{range_with_len}
 use Rattle.std.proofs.lemmas.Bool.{lt-ltb, le-ltb, and_parts, not-true}
@@ -69,12 +69,12 @@ pub set_state : (p : Puzzle) (t u : List Move) (states : List ItemState) (i : �
     ((k : ℕ) → k + 1 ≢ i → state_of (k + 1) t ≡ state_of (k + 1) u) → state_of i u ≡ s
     → AreStates p u (set states (i - 1) s)
 set_state p t u states i s are low high others here =
-    grind (arith, common_steps, eq-eqb, eqb-true, get_or-set_other, get_or-set_same, length-set)
+    grind (arith, common_steps, eq-eqb, eqb-true, get_or-set_same)
 
 -- what was read at the item's place is its state
 pub state_at : (p : Puzzle) (t : List Move) (states : List ItemState) (i : ℕ) (r : ItemState) → AreStates p t states
     → 1 ≤ i → i ≤ item_count p → r ≡ get_or states (i - 1) r → state_of i t ≡ r
-state_at p t states i r are low high read = grind (arith, common_steps, get_or_default)
+state_at p t states i r are low high read = grind (arith, common_steps)
 
 pub closed_state : (s : ItemState) → (s ≡ Open → ⊥) → is_open_state s ≡ false
 closed_state Open h = absurd (h refl)

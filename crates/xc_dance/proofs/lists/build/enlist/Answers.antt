@@ -1,6 +1,6 @@
 use Rattle.std.proofs.Common.{arith, sym}
 use Rattle.std.proofs.lemmas.Grind.{common_steps}
-use Rattle.std.proofs.lemmas.List.{length-map, take_more}
+use Rattle.std.proofs.lemmas.List.{take_more}
 use Rattle.xc_dance.proofs.LiveLists.Removal.{numbers_of-set, list_at-numbers_of}
 use Rattle.xc_dance.specs.inner.Lists.Taking.{numbers_of}
 use Rattle.xc_dance.proofs.LiveLists.Filled.{enlisted_none, enlisted_more, new_use, length-enlisted_from}
@@ -10,7 +10,7 @@ pub loop-u-init : goal.loop-u-init
 loop-u-init c = sym (enlisted_none c.args.option 1 (numbers_of c.args.lists.now.items))
 
 pub index_mut-list-requires : goal.index_mut-list-requires
-index_mut-list-requires c = grind (arith, common_steps, length-enlisted_from, length-map)
+index_mut-list-requires c = grind (arith, common_steps, length-enlisted_from)
 
 pub loop-u-preserved : goal.loop-u-preserved
 loop-u-preserved c =
@@ -19,7 +19,6 @@ loop-u-preserved c =
       common_steps,
       enlisted_more,
       length-enlisted_from,
-      length-map,
       list_at-numbers_of,
       new_use,
       numbers_of-set,

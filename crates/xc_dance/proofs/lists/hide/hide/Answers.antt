@@ -1,6 +1,6 @@
 use Rattle.std.proofs.Common.{arith, ℕ, ◌-◌, ◌<◌, ap, sym, subst, length, get_or, take, List}
 use Rattle.std.proofs.lemmas.Grind.{common_steps}
-use Rattle.std.proofs.lemmas.List.{take_more, take_all}
+use Rattle.std.proofs.lemmas.List.{take_more}
 use Rattle.xc_input.specs.declared.problem.Use.{Use}
 use Rattle.xc_input.specs.Problem.{item_count}
 use Rattle.xc_dance.specs.inner.Lists.Taking.{list_at}
@@ -39,4 +39,4 @@ pub loop-u-preserved : goal.loop-u-preserved
 loop-u-preserved c = grind (arith, common_steps, hidden_more, hidden_same, take_more)
 
 pub returns : goal.returns
-returns c = grind (arith, common_steps, hidden_all, same_versions, take_all)
+returns c = grind (arith, common_steps, hidden_all, same_versions)

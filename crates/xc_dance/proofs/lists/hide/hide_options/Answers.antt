@@ -2,8 +2,7 @@ use Rattle.std.proofs.Common.{arith, ℕ, ◌-◌, ◌<◌, ap, length, take, Li
 use Rattle.std.proofs.lemmas.Grind.{common_steps}
 use Rattle.std.specs.Prelude.{Option}
 use Rattle.xc_input.specs.Problem.{Puzzle}
-use Rattle.std.proofs.lemmas.List.{take_more, append-nil}
-use Rattle.std.proofs.lemmas.List.Elements.{filter-append}
+use Rattle.std.proofs.lemmas.List.{take_more}
 use Rattle.xc_dance.specs.inner.Lists.Taking.{list_at}
 use Rattle.xc_dance.specs.inner.Lists.Losing.{is_kept}
 use Rattle.xc_dance.proofs.LiveLists.OptionsLost.{lose_none, lose_more, length-lose_from, lists-lose_from, read_option}
@@ -41,4 +40,4 @@ pub hide-requires-clause-lists : goal.hide-requires-clause-lists
 hide-requires-clause-lists c = grind (arith, common_steps, length-lose_from, lists-lose_from)
 
 pub loop-at-preserved : goal.loop-at-preserved
-loop-at-preserved c = grind (arith, common_steps, append-nil, filter-append, lose_more, read_option, take_more)
+loop-at-preserved c = grind (arith, common_steps, lose_more, read_option, take_more)

@@ -1,11 +1,10 @@
 use Rattle.std.proofs.Common.{arith}
 use Rattle.std.proofs.lemmas.Grind.{common_steps}
-use Rattle.std.proofs.lemmas.List.{length-reverse}
 use Rattle.xc_dance.proofs.LiveLists.Marks.{restored_at}
 use Rattle.xc_dance.proofs.lists.undo_log.restore.Goals as goal
 
 pub returns-clause-lists : goal.returns-clause-lists
-returns-clause-lists c = grind (arith, common_steps, length-reverse, restored_at)
+returns-clause-lists c = grind (arith, common_steps, restored_at)
 
 pub returns-clause-taken : goal.returns-clause-taken
-returns-clause-taken c = grind (arith, common_steps, length-reverse, restored_at)
+returns-clause-taken c = grind (arith, common_steps, restored_at)

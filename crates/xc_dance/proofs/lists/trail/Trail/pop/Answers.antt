@@ -2,7 +2,6 @@ use Rattle.std.proofs.Common.{arith, ◌≡◌, ◌+◌, reverse, [], ◌∷◌,
 use Rattle.std.proofs.lemmas.Grind.{common_steps}
 use Rattle.std.proofs.lemmas.Grind.{get_or_default_zero}
 use Rattle.xc_input.specs.Problem.{Puzzle}
-use Rattle.std.proofs.lemmas.List.{reverse-append}
 use Rattle.std.proofs.lemmas.Bool.{ne_eqb}
 use Rattle.xc_dance.specs.declared.dance.Move.{Move}
 use Rattle.xc_dance.specs.declared.dance.Move.TheVariants.{Cover, Purify}
@@ -22,7 +21,7 @@ record Before (p : Puzzle) (m : Move) (t : List Move) (items : List ItemState) (
 before : (p : Puzzle) (old new : List Move) (n m : Move) (items : List ItemState) (bounds : List ℕ)
     → old ≡ new ++ n ∷ [] → n ≡ m → AreLegal p (reverse old) → AreStates p (reverse old) items
     → AreLeft p (reverse old) bounds → Before p m (reverse new) items bounds
-before p old new n m items bounds e is legal states left = grind (arith, common_steps, reverse-append)
+before p old new n m items bounds e is legal states left = grind (arith, common_steps)
 
 pub invariant_of-self : goal.invariant_of-self
 invariant_of-self c =

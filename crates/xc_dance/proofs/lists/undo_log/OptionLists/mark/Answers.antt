@@ -1,14 +1,13 @@
 use Rattle.std.proofs.Common.{arith}
 use Rattle.std.proofs.lemmas.Grind.{common_steps}
-use Rattle.std.proofs.lemmas.List.{length-reverse, reverse-append}
 use Rattle.xc_dance.proofs.LiveLists.Marks.{length-lists_at_marks, marks_new, marks_weaker, same_versions}
 use Rattle.xc_dance.proofs.lists.undo_log.OptionLists.mark.Goals as goal
 
 pub push_reserved-requires : goal.push_reserved-requires
-push_reserved-requires c = grind (arith, common_steps, length-lists_at_marks, length-reverse)
+push_reserved-requires c = grind (arith, common_steps, length-lists_at_marks)
 
 pub invariant_of-self : goal.invariant_of-self
-invariant_of-self c = grind (arith, common_steps, length-lists_at_marks, length-reverse, marks_weaker, reverse-append)
+invariant_of-self c = grind (arith, common_steps, length-lists_at_marks, marks_weaker)
 
 pub returns : goal.returns
-returns c = grind (arith, common_steps, length-reverse, marks_new, reverse-append, same_versions)
+returns c = grind (arith, common_steps, marks_new, same_versions)

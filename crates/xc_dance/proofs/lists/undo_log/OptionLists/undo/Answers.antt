@@ -1,8 +1,7 @@
 use Rattle.std.proofs.Common.{arith}
 use Rattle.std.proofs.lemmas.Grind.{common_steps}
-use Rattle.std.proofs.lemmas.List.{length-reverse, reverse-append}
 use Rattle.xc_dance.proofs.LiveLists.Marks.{length-still_taken}
 use Rattle.xc_dance.proofs.lists.undo_log.OptionLists.undo.Goals as goal
 
 pub invariant_of-self : goal.invariant_of-self
-invariant_of-self c = grind (arith, common_steps, length-reverse, length-still_taken, reverse-append)
+invariant_of-self c = grind (arith, common_steps, length-still_taken)
