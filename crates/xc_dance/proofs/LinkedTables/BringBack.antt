@@ -42,6 +42,9 @@ use Rattle.xc_dance.proofs.LinkedTables.Leaving.{met_at}
 use Rattle.xc_dance.proofs.LinkedTables.Regained.{Regaining, NextBack, next_back}
 use Rattle.xc_dance.proofs.LinkedTables.Spacers.{others_are, can_unhide_node}
 use Rattle.xc_dance.specs.declared.links.nodes.TheConstants.{MARK}
+use Rattle.xc_dance.proofs.LinkedTables.Sweep.{is_in-first}
+use Rattle.xc_dance.proofs.LinkedTables.TweakStep.{to_come}
+use Rattle.xc_dance.proofs.LinkedTables.TweakStep.{back_writes}
 
 -- ---- an option comes back into the lists of some of its items, whatever state these lists are in: what a step of
 -- unhide does where its neighbours are named
@@ -144,7 +147,7 @@ unhidden_walk p col ln o (j ∷ js) laid pos apart h =
     let q = link_place p j o in
     let qs = map (λ j. link_place p j o) js in
     let t : Nodes = nodes_from p ln col in
-    let here = h j (ap (λ b. b || is_in j js) (eq-eqb j j refl)) in
+    let here = h j (is_in-first j js) in
     let first : Unhidden t (nodes_from p (back_one p col o ln j) col) q =
     elim (is_mark p col o j) as
     (λ b. is_mark p col o j ≡ b → Unhidden t (nodes_from p (cond b ln (with_line ln j (mended (ln j) o))) col) q) [
@@ -167,10 +170,6 @@ unhidden_walk p col ln o (j ∷ js) laid pos apart h =
 
 -- ---- the lines on the way
 
--- the options of item i's list that are still to come back to item j's
-abbrev pub to_come : Puzzle → List Move → Bool → ℕ → ℕ → List ℕ → List ℕ
-to_come p t covered i j os = cond covered [] (filter (leaves p (color_in p t) i j) os)
-
 -- x is below one of these
 abbrev pub is_below : Line → ℕ → List ℕ → Bool
 is_below l x os = list_any (λ o. eqb (l.down o) x) os
@@ -179,8 +178,6 @@ pub record BringingBack (p : Puzzle) (t : List Move) (covered : Bool) (i : ℕ) 
     0 where
   pub others : (j : ℕ) → 0 < j → j ≤ item_count p → j ≢ i
       → Regaining (line_of p t j) (ln j) (to_come p t covered i j os)
-  pub few : (j : ℕ) → 0 < j → j ≤ item_count p → j ≢ i
-      → (ln j).len + length (to_come p t covered i j os) ≡ (line_of p t j).len
   pub own_down : (x : ℕ) → (ln i).down x ≡ (line_of p t i).down x
   pub own_up : (x : ℕ) → is_below (line_of p t i) x os ≡ false → (ln i).up x ≡ (line_of p t i).up x
 
@@ -219,10 +216,6 @@ pub map_reverse : (f : ℕ → ℕ) (xs : List ℕ) → reverse (map f xs) ≡ m
 map_reverse f [] = grind (arith, common_steps)
 map_reverse f (x ∷ xs) = grind (arith, common_steps, map_reverse f xs)
 
--- what a step writes for option o
-abbrev pub back_writes : Puzzle → (Node → ℕ) → Bool → ℕ → ℕ → ℕ
-back_writes p col covered i o = cond covered 0 (3 * gone_count p col i o)
-
 -- the lines when the option is back in the lists of its other items
 pub record Opened (p : Puzzle) (t : List Move) (spans : List Span) (covered : Bool) (i : ℕ) (ln : ℕ → Line) (o : ℕ)
     (os : List ℕ) : Type 0 where
@@ -237,8 +230,6 @@ pub record Opened (p : Puzzle) (t : List Move) (spans : List Span) (covered : Bo
       (color_in p t) covered i o
   pub others : (j : ℕ) → 0 < j → j ≤ item_count p → j ≢ i
       → Regaining (line_of p t j) (ln1 j) (to_come p t covered i j os)
-  pub few : (j : ℕ) → 0 < j → j ≤ item_count p → j ≢ i
-      → (ln1 j).len + length (to_come p t covered i j os) ≡ (line_of p t j).len
 
 opened_covered : (p : Puzzle) (t : List Move) (spans : List Span) (i : ℕ) (ln : ℕ → Line) (o : ℕ) (os : List ℕ)
     → BringingBack p t true i ln (o ∷ os) → Opened p t spans true i ln o os
@@ -289,7 +280,7 @@ opened_open p t spans i ln o os legal fit opened o_pos named within h =
           let good : IsGood p j (line_of p t j) (st.ys ++ o ∷ st.zs) =
           subst (IsGood p j (line_of p t j)) st.is (all_good p t fit.fit j r.0 r.1) in
           let m : IsMember p j (line_of p t j) o = member p j (line_of p t j) st.ys o st.zs r.0 r.1 good in
-          let count = h.few j r.0 r.1 ne in
+          let count = (h.others j r.0 r.1 ne).len in
           let all : (line_of p t j).len ≡ length (st.ys ++ o ∷ st.zs) = good.len in
           let most : length (st.ys ++ o ∷ st.zs) < 2 ^ 31 = good.few in
           record {
@@ -330,14 +321,6 @@ opened_open p t spans i ln o os legal fit opened o_pos named within h =
           (λ b. leaves p col i j o ≡ b → Regaining (line_of p t j) (ln1 j) (filter (leaves p col i j) os)) [
             | true ↦ λ e. subst (λ (l : Line). Regaining (line_of p t j) l (filter (leaves p col i j) os))
                 (sym (at j ∙ ap (λ b. cond b (mended (ln j) o) (ln j)) e)) (comes j e pos le ne).next
-            | false ↦ λ e. grind (arith, common_steps)
-          ] refl;
-      few = λ j pos le ne.
-          let count = h.few j pos le ne in
-          elim (leaves p col i j o) as
-          (λ b. leaves p col i j o ≡ b
-          → (ln1 j).len + length (filter (leaves p col i j) os) ≡ (line_of p t j).len) [
-            | true ↦ λ e. grind (arith, common_steps)
             | false ↦ λ e. grind (arith, common_steps)
           ] refl;
     }
@@ -395,8 +378,6 @@ by_opened p t spans covered i ln o os fit pos le within h m1 =
         others =
             λ j jpos jle ne. subst (λ (k : Line). Regaining (line_of p t j) k (to_come p t covered i j os))
             (sym (line_there ln1 i j w ne)) (m1.others j jpos jle ne);
-        few = λ j jpos jle ne. let a = m1.few j jpos jle ne in let b =
-            ap (λ (k : Line). k.len) (line_there ln1 i j w ne) in omega (arith, a, b);
         own_down = λ y. ap (λ (k : Line). k.down y) at_i ∙ ap (λ (k : Line). k.down y) m1.own ∙ h.own_down y;
         own_up = λ y e.
             ap (λ (k : Line). k.up y) at_i

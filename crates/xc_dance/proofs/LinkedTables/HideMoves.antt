@@ -45,18 +45,21 @@ use Rattle.xc_dance.proofs.MoveLemmas.Shortened.{rises_listed}
 use Rattle.xc_dance.proofs.MoveLemmas.StateLemmas.{open_unpurified}
 use Rattle.xc_dance.proofs.LinkedTables.MarkedNodes.{marked_none, cover_colours, purify_start, purify_colours}
 use Rattle.xc_dance.proofs.LinkedTables.LaidLemmas.{IsOption}
+use Rattle.std.proofs.Common.{append-nil}
 
 -- ---- a list as the links and LEN of the node table lead to it
 
 above_zero : (l : Line) (a : ℕ) (xs : List ℕ) (x : ℕ) → IsLinkedFrom l a (x ∷ xs) → 0 < x
 above_zero l a xs x h = let lt : a < x = h.0 in omega arith
 
-follow_down : (p : Puzzle) (ln : ℕ → Line) (i a : ℕ) (xs : List ℕ) → IsLaid p → 0 < i → i ≤ item_count p
-    → AllByRecursion (Named p i) xs → IsLinkedFrom (ln i) a xs →
-    followed (map (dlink_in p ln) (layout p)) (length xs) (link_place p i ((ln i).down a)) ≡ map (link_place p i) xs
-follow_down p ln i a [] laid pos le named h = grind (arith, common_steps, above_zero, get_down)
-follow_down p ln i a (o ∷ xs) laid pos le named h =
-    grind (arith, common_steps, above_zero, get_down, follow_down p ln i o xs laid pos le named.1 h.3)
+-- down the first members of item i's list, by the links of its line l
+pub follow_down : (p : Puzzle) (ln : ℕ → Line) (l : Line) (i a : ℕ) (xs rest : List ℕ) → IsLaid p → 0 < i
+    → i ≤ item_count p → AllByRecursion (Named p i) (xs ++ rest) → IsLinkedFrom l a (xs ++ rest)
+    → ((x : ℕ) → (ln i).down x ≡ l.down x) →
+    followed (map (dlink_in p ln) (layout p)) (length xs) (link_place p i (l.down a)) ≡ map (link_place p i) xs
+follow_down p ln l i a [] rest laid pos le named h down = refl
+follow_down p ln l i a (o ∷ xs) rest laid pos le named h down =
+    grind (arith, common_steps, above_zero, get_down, follow_down p ln l i o xs rest laid pos le named.1 h.3 down)
 
 abbrev led : List ℕ → ℕ → ℕ → ℕ
 led f zero q = q
@@ -100,7 +103,9 @@ pub list_is : (p : Puzzle) (t : List Move) (i : ℕ) → IsLaid p → 0 < i → 
 list_is p t i laid pos le =
     ap₂ (followed (nodes_after p t).dlink) (long_is p t i laid pos le)
     (get_down p (line_of p t) i 0 (own_placed p i laid pos le))
-    ∙ follow_down p (line_of p t) i 0 (listed_numbers p t i) laid pos le (numbers_named p t i) (stands p t i)
+    ∙ follow_down p (line_of p t) (line_of p t i) i 0 (listed_numbers p t i) [] laid pos le
+    (subst (AllByRecursion (Named p i)) (sym (append-nil (listed_numbers p t i))) (numbers_named p t i))
+    (subst (IsLinkedFrom (line_of p t i) 0) (sym (append-nil (listed_numbers p t i))) (stands p t i)) (λ x. refl)
 
 pub back_is : (p : Puzzle) (t : List Move) (i : ℕ) → IsLaid p → 0 < i → i ≤ item_count p
     → list_back (nodes_after p t) i ≡ reverse (map (link_place p i) (listed_numbers p t i))

@@ -29,6 +29,7 @@ use Rattle.xc_dance.proofs.LinkedTables.OneOption.{all_other, gone_count}
 use Rattle.xc_dance.proofs.LinkedTables.Spacers.{Turns, turns}
 use Rattle.xc_dance.proofs.LinkedTables.Walks.{costs-append}
 use Rattle.xc_dance.specs.declared.links.nodes.TheConstants.{MARK}
+use Rattle.xc_dance.proofs.LinkedTables.Sweep.{is_in-first}
 
 -- ---- the colour of one node of the table
 
@@ -213,6 +214,16 @@ hide_step : (p : Puzzle) (now : Node → ℕ) (spans : List Span) (keep : Option
 hide_step p now spans keep ln i o spanned h pos named other unmarked turns =
     grind (arith, common_steps, no_mark, slice_get_within, turns)
 
+-- an option whose uses are ready is hidden and comes back
+pub turns_ready : (p : Puzzle) (ln : ℕ → Line) (col : Node → ℕ) (lists : ℕ → List ℕ) (spans : List Span) (o i : ℕ)
+    → IsLaid p → HasSpans p spans → 0 < o → Named p i o → AllGood p ln lists → AreReady p col lists o (other_items p o i)
+    → Turns p ln col spans o i
+turns_ready p ln col lists spans o i laid spanned pos named good ready =
+    let us = uses_of p o in
+    turns p ln col lists spans o i spanned pos named (walked p col ln lists o (other_items p o i) laid pos good ready)
+    (walked p col ln lists o (behind_use i us) laid pos good
+    (ready_front p col lists o (behind_use i us) (before_use i us) ready))
+
 -- the first step, and what is then asked of the rest
 pub record Turn (p : Puzzle) (col now : Node → ℕ) (spans : List Span) (i : ℕ) (keep : Option ℕ) (ln : ℕ → Line) (o : ℕ)
     (xs : List ℕ) : Type 0 where
@@ -234,7 +245,7 @@ turn : (p : Puzzle) (col now : Node → ℕ) (spans : List Span) (i : ℕ) (keep
     → Turn p col now spans i keep ln o xs
 turn p col now spans i keep ln lists o xs laid spanned pos le o_pos good ready r passed =
     let here = laid.there i o pos le (inr (o_pos, ready.0)) in
-    let first : is_in o (o ∷ xs) ≡ true = ap (λ b. b || is_in o xs) (eq-eqb o o refl) in
+    let first : is_in o (o ∷ xs) ≡ true = is_in-first o xs in
     let same : own_color p now i o ≡ own_color p col i o = passed.own o first in
     let test : is_kept_colour keep (own_color p now i o) ≡ is_kept p i keep o =
     ap (is_kept_colour keep) same ∙ ready.3.test in
@@ -268,12 +279,9 @@ turn p col now spans i keep ln lists o xs laid spanned pos le o_pos good ready r
           let js = other_items p o i in
           let all_ready = ready_same p i col now (o ∷ xs) lists o js o_pos passed ready.2 ready.1 in
           let w = walked p now ln lists o js laid o_pos good all_ready in
-          let mid =
-          walked p now ln lists o (behind_use i (uses_of p o)) laid o_pos good
-          (ready_front p now lists o (behind_use i (uses_of p o)) (before_use i (uses_of p o)) all_ready) in
           let s =
           hide_step p now spans keep ln i o spanned here o_pos ready.0 (test ∙ e) unmarked
-          (turns p ln now lists spans o i spanned o_pos ready.0 w mid) in
+          (turns_ready p ln now lists spans o i laid spanned o_pos ready.0 good all_ready) in
           record {
             ln' = left_all p now o ln js;
             now' = now;

@@ -11,6 +11,11 @@ use Rattle.xc_dance.proofs.LinkedTables.Sweep.{above, below, members, in_above, 
 use Rattle.xc_dance.proofs.LinkedTables.Sweep.{last_below-none, last_below-self, last_below-more}
 use Rattle.xc_dance.proofs.LinkedTables.Sweep.{mended, IsLinkedFrom}
 use Rattle.xc_dance.proofs.MoveLemmas.Members.{in_filter}
+use Rattle.xc_dance.proofs.LinkedTables.GoodLines.{line_is}
+use Rattle.std.proofs.Common.{◌+◌}
+use Rattle.std.proofs.Common.{length}
+use Rattle.xc_input.proofs.lists.Filters.{length-filter-le}
+use Rattle.xc_dance.proofs.LinkedTables.Sweep.{cut}
 
 -- The members before xs are back, a being the last of them and b the last of them that had stayed; those of xs that
 -- pass the test are still gone.
@@ -89,16 +94,22 @@ pub record Regaining (l m : Line) (ks : List ℕ) : Type 0 where
   pub linked : IsLinkedFrom l a xs
   pub held : Held l m a b xs g
   pub left : filter g xs ≡ ks
+  pub len : m.len + length ks ≡ l.len
 
 first_up : (l m : Line) (xs : List ℕ) (g : ℕ → Bool) → IsLinkedFrom l 0 xs → Swept l m 0 xs (stay g xs)
     → m.up (first_of 0 xs) ≡ 0
 first_up l m [] g linked s = s.last
 first_up l m (y ∷ ys) g linked s = s.up_in y (is_in-first y ys) ∙ near 0 y ys g (rises l y ys linked.3)
 
+pub cuts_len : (l : Line) (ks : List ℕ) → length ks ≤ l.len → (cuts l ks).len + length ks ≡ l.len
+cuts_len l [] h = omega arith
+cuts_len l (k ∷ ks) h = let r = cuts_len (cut l k) ks (omega (arith, h)) in omega (arith, r, h)
+
 -- before the first comes back
-pub regaining : (l : Line) (xs : List ℕ) (g : ℕ → Bool) → IsLinkedFrom l 0 xs
+pub regaining : (l : Line) (xs : List ℕ) (g : ℕ → Bool) → IsLinkedFrom l 0 xs → l.len ≡ length xs
     → Regaining l (cuts l (filter g xs)) (filter g xs)
-regaining l xs g linked =
+regaining l xs g linked long =
+    let len = cuts_len l (filter g xs) (omega (arith, long, length-filter-le g xs)) in
     let m : Line = cuts l (filter g xs) in
     let s : Swept l m 0 xs (stay g xs) = swept l 0 xs g linked in
     let r : Rises 0 xs = rises l 0 xs linked in
@@ -117,9 +128,9 @@ pub record NextBack (l m : Line) (k : ℕ) (ks : List ℕ) : Type 0 where
   pub next : Regaining l (mended m k) ks
 
 reached : (l m : Line) (a b : ℕ) (xs : List ℕ) (g : ℕ → Bool) (k : ℕ) (ks : List ℕ) → IsLinkedFrom l a xs
-    → Held l m a b xs g → filter g xs ≡ k ∷ ks → NextBack l m k ks
-reached l m a b [] g k ks linked h e = cc
-reached l m a b (y ∷ ys) g k ks linked h e =
+    → Held l m a b xs g → filter g xs ≡ k ∷ ks → m.len + length (k ∷ ks) ≡ l.len → NextBack l m k ks
+reached l m a b [] g k ks linked h e len = cc
+reached l m a b (y ∷ ys) g k ks linked h e len =
     elim (g y) as (λ c. g y ≡ c → cond c (y ∷ filter g ys) (filter g ys) ≡ k ∷ ks → NextBack l m k ks) [
       | true ↦ λ f i.
           let first : y ≡ k = cc in
@@ -137,13 +148,14 @@ reached l m a b (y ∷ ys) g k ks linked h e =
                   linked = linked.3;
                   held = come_back l m a b y ys g linked f h;
                   left = rest;
+                  len = omega (arith, len);
                 };
           })
-      | false ↦ λ f i. reached l m y y ys g k ks linked.3 (pass_on l m a b y ys g linked f h) i
+      | false ↦ λ f i. reached l m y y ys g k ks linked.3 (pass_on l m a b y ys g linked f h) i len
     ] refl e
 
 pub next_back : (l m : Line) (k : ℕ) (ks : List ℕ) → Regaining l m (k ∷ ks) → NextBack l m k ks
-next_back l m k ks r = reached l m r.a r.b r.xs r.g k ks r.linked r.held r.left
+next_back l m k ks r = reached l m r.a r.b r.xs r.g k ks r.linked r.held r.left r.len
 
 ended : (l m : Line) (a b : ℕ) (xs : List ℕ) (g : ℕ → Bool) → IsLinkedFrom l a xs → Held l m a b xs g → filter g xs ≡ []
     → SameLinks l m
@@ -154,5 +166,6 @@ ended l m a b (y ∷ ys) g linked h e =
       | false ↦ λ f i. ended l m y y ys g linked.3 (pass_on l m a b y ys g linked f h) i
     ] refl e
 
-pub regained : (l m : Line) → Regaining l m [] → SameLinks l m
-regained l m r = ended l m r.a r.b r.xs r.g r.linked r.held r.left
+pub regained : (l m : Line) → Regaining l m [] → m ≡ l
+regained l m r =
+    let s = ended l m r.a r.b r.xs r.g r.linked r.held r.left in line_is l m (omega (arith, r.len)) s.up s.down

@@ -37,6 +37,10 @@ use Rattle.xc_dance.proofs.LinkedTables.Leaving.{takes_tweak, tweak_others, twea
 use Rattle.xc_dance.specs.Cost.{cost_of, leaving}
 use Rattle.xc_dance.proofs.LinkedTables.HideMoves.{own_placed}
 use Rattle.xc_dance.proofs.MoveLemmas.Shortened.{rises_listed}
+use Rattle.xc_dance.specs.inner.Links.Laid.{IsFit}
+use Rattle.xc_dance.proofs.LinkedTables.OneOption.{gone_count}
+use Rattle.xc_dance.proofs.LinkedTables.OneList.{turns_ready}
+use Rattle.xc_dance.proofs.LinkedTables.Leaving.{InRange}
 
 -- the first of item i's list
 pub record HasFirst (p : Puzzle) (t : List Move) (i : ℕ) : Type 0 where
@@ -81,110 +85,127 @@ tweak_cut p t i f =
           ∙ ap (λ ks. stay (λ x. eqb x (first_of 0 ks)) (listed_numbers p t i)) f.is;
     }
 
--- a closed item's Tweak takes none from other lines
-pub tweak_shut : (p : Puzzle) (t : List Move) (i j : ℕ) → is_open i t ≡ false → j ≢ i → SameCut p t (Tweak i) j []
-tweak_shut p t i j shut ne = record {
+-- the options of item i's list that leave item j's by Tweaks of i
+abbrev pub to_come : Puzzle → List Move → Bool → ℕ → ℕ → List ℕ → List ℕ
+to_come p t covered i j os = cond covered [] (filter (leaves p (color_in p t) i j) os)
+
+-- every other line loses the first too, if the item is open
+pub tweak_cuts : (p : Puzzle) (t : List Move) (spans : List Span) (covered : Bool) (i j : ℕ) → AreLegal p t
+    → IsFitted p spans → is_open i t ≡ not covered → (f : HasFirst p t i) → InRange p j → j ≢ i
+    → SameCut p t (Tweak i) j (to_come p t covered i j (f.o ∷ []))
+tweak_cuts p t spans true i j legal fit shut f r ne = record {
   test = λ x. false;
   cut_is = sym (leave_none (listed_numbers p t j));
   stay_is = tweak_others p t i j shut ne ∙ sym (stay_all (listed_numbers p t j));
 }
+tweak_cuts p t spans false i j legal fit opened f r ne =
+    let rise : Rises 0 (f.o ∷ f.os) = subst (Rises 0) f.is (rises_listed p t i) in
+    let of : AreOf p t i (first_alone (listed_numbers p t i)) = grind (arith, common_steps, false≢true) in
+    subst (λ ks. SameCut p t (Tweak i) j (filter (leaves p (color_in p t) i j) ks)) (ap first_alone f.is)
+    (cut_others p t (Tweak i) i j (first_alone (listed_numbers p t i)) legal fit.laid fit.fit opened r of
+    (takes_tweak p t i opened) ne)
 
-pub first_of-list : (p : Puzzle) (t : List Move) (i : ℕ) → HasFirst p t i
-    → AreOf p t i (first_alone (listed_numbers p t i))
-first_of-list p t i f =
-    let r : Rises 0 (f.o ∷ f.os) = subst (Rises 0) f.is (rises_listed p t i) in
-    grind (arith, common_steps, false≢true)
+-- what the step at option o writes for its other items
+abbrev pub back_writes : Puzzle → (Node → ℕ) → Bool → ℕ → ℕ → ℕ
+back_writes p col covered i o = cond covered 0 (3 * gone_count p col i o)
+
+come_count : (p : Puzzle) (t : List Move) (covered : Bool) (i o : ℕ) → IsFit p
+    → 3 * total (λ j. length (to_come p t covered i j (o ∷ []))) 1 (item_count p) ≡ back_writes p (color_in p t) covered i o
+come_count p t true i o fit = let z = total_zero 1 (item_count p) in omega (arith, z)
+come_count p t false i o fit = let e = exchanged p (color_in p t) i (o ∷ []) fit in omega (arith, e)
+
+come_own : (p : Puzzle) (t : List Move) (covered : Bool) (i o : ℕ) → IsFit p → 0 < o
+    → to_come p t covered i i (o ∷ []) ≡ []
+come_own p t true i o fit pos = refl
+come_own p t false i o fit pos = leaves_own p t i (o ∷ []) fit (pos, tt)
+
+-- one node leaves i's list, and those of the other lines
+pub tweak_cost_is : (p : Puzzle) (t : List Move) (spans : List Span) (covered : Bool) (i : ℕ) → AreLegal p t
+    → IsFitted p spans → is_open i t ≡ not covered → 0 < i → i ≤ item_count p → (f : HasFirst p t i)
+    → cost_of p t (Tweak i) ≡ 3 + back_writes p (color_in p t) covered i f.o
+tweak_cost_is p t spans covered i legal fit opened pos le f =
+    let n = item_count p in
+    let ks : ℕ → List ℕ = λ j. to_come p t covered i j (f.o ∷ []) in
+    let k : ℕ → List ℕ = λ j. cond (eqb i j) (f.o ∷ []) (ks j) in
+    let all : leaving p t (Tweak i) ≡ total (λ j. length (k j)) 1 n = leaving_is p t (Tweak i) k (λ j r.
+    elim (eqb i j) as (λ b. eqb i j ≡ b → SameCut p t (Tweak i) j (cond b (f.o ∷ []) (ks j))) [
+      | true ↦ λ e. subst (λ m. SameCut p t (Tweak i) m (f.o ∷ [])) (eqb-true i j e) (tweak_cut p t i f)
+      | false ↦ λ e. tweak_cuts p t spans covered i j legal fit opened f r (λ g. eqb-false i j e (sym g))
+    ] refl) in
+    let o_pos : 0 < f.o = (subst (Rises 0) f.is (rises_listed p t i)).0 in
+    let split : total (λ j. length (k j)) 1 n ≡ total (λ j. cond (eqb i j) 1 0 + length (ks j)) 1 n =
+    total_same _ _ 1 n (λ j u v.
+    elim (eqb i j) as (λ b. eqb i j ≡ b → length (cond b (f.o ∷ []) (ks j)) ≡ cond b 1 0 + length (ks j)) [
+      | true ↦ λ e. let z : length (ks j) ≡ 0 =
+          ap (λ m. length (ks m)) (sym (eqb-true i j e)) ∙ ap length (come_own p t covered i f.o fit.fit o_pos) in
+          omega (arith, z)
+      | false ↦ λ e. omega arith
+    ] refl) in
+    let sum = total_plus (λ j. cond (eqb i j) 1 0) (λ j. length (ks j)) 1 n in
+    omega (
+      arith,
+      all,
+      split,
+      sum,
+      total_point i 1 1 n (omega (arith, pos)) (omega (arith, le)),
+      come_count p t covered i f.o fit.fit,
+    )
 
 -- ---- the option is hidden, if the item is open
 
--- the table when the first node is about to leave
-pub record Mid (p : Puzzle) (t : List Move) (spans : List Span) (covered : Bool) (i : ℕ) (o : ℕ) : Type 0 where
-  pub ln : ℕ → Line
-  pub lists : ℕ → List ℕ
-  pub good : AllGood p ln lists
-  pub own : ln i ≡ line_of p t i
-  pub list : lists i ≡ listed_numbers p t i
-  -- the members that leave the lines of the other items
-  pub ks : ℕ → List ℕ
-  pub none : ks i ≡ []
-  pub cut : (j : ℕ) → (0 < j) × (j ≤ item_count p) → j ≢ i → SameCut p t (Tweak i) j (ks j)
-  pub line : (j : ℕ) → ln j ≡ cuts (line_of p t j) (ks j)
-  pub hide : covered ≡ false → (link_place p i o < length spans)
-      × CanHideNode spans (nodes_after p t) (link_place p i o)
-  pub done : hidden_unless spans covered (nodes_after p t) (link_place p i o) ≡ nodes_from p ln (color_in p t)
-  pub unhide : covered ≡ false → (link_place p i o < length spans)
-      × CanUnhideNode spans (nodes_from p ln (color_in p t)) (link_place p i o)
-  pub undone : unhidden_unless spans covered (nodes_from p ln (color_in p t)) (link_place p i o) ≡ nodes_after p t
-  pub cost : cond covered 0 (hide_costs (nodes_after p t) (others_of spans (link_place p i o))) ≡ 3 * total
-      (λ j. length (ks j)) 1 (item_count p)
-  pub cost_back : cond covered 0
-      (unhide_costs (nodes_from p ln (color_in p t)) (reverse (others_of spans (link_place p i o)))) ≡ 3 * total
-      (λ j. length (ks j)) 1 (item_count p)
+-- the lines when the first node is about to leave
+abbrev mid_lines : Puzzle → List Move → Bool → ℕ → ℕ → ℕ → Line
+mid_lines p t covered i o =
+    cond covered (line_of p t) (left_all p (color_in p t) o (line_of p t) (other_items p o i))
 
-mid_covered : (p : Puzzle) (t : List Move) (spans : List Span) (i : ℕ) → IsFitted p spans → is_open i t ≡ false
-    → (f : HasFirst p t i) → Mid p t spans true i f.o
-mid_covered p t spans i fit shut f = record {
-  ln = line_of p t;
-  lists = listed_numbers p t;
-  good = all_good p t fit.fit;
+-- the table then
+abbrev mid : Puzzle → List Move → Bool → ℕ → ℕ → Nodes
+mid p t covered i o = nodes_from p (mid_lines p t covered i o) (color_in p t)
+
+record Mid (p : Puzzle) (t : List Move) (spans : List Span) (covered : Bool) (i : ℕ) (o : ℕ) : Type 0 where
+  own : mid_lines p t covered i o i ≡ line_of p t i
+  line : (j : ℕ) → mid_lines p t covered i o j ≡ cuts (line_of p t j) (to_come p t covered i j (o ∷ []))
+  hide : covered ≡ false → (link_place p i o < length spans) × CanHideNode spans (nodes_after p t) (link_place p i o)
+  done : hidden_unless spans covered (nodes_after p t) (link_place p i o) ≡ mid p t covered i o
+  unhide : covered ≡ false
+      → (link_place p i o < length spans) × CanUnhideNode spans (mid p t covered i o) (link_place p i o)
+  undone : unhidden_unless spans covered (mid p t covered i o) (link_place p i o) ≡ nodes_after p t
+  cost : cond covered 0 (hide_costs (nodes_after p t) (others_of spans (link_place p i o))) ≡
+      back_writes p (color_in p t) covered i o
+  cost_back : cond covered 0
+      (unhide_costs (mid p t covered i o) (reverse (others_of spans (link_place p i o)))) ≡
+      back_writes p (color_in p t) covered i o
+
+mid_is : (p : Puzzle) (t : List Move) (spans : List Span) (covered : Bool) (i : ℕ) → AreLegal p t → IsFitted p spans
+    → is_open i t ≡ not covered → (f : HasFirst p t i) → Mid p t spans covered i f.o
+mid_is p t spans true i legal fit shut f = record {
   own = refl;
-  list = refl;
-  ks = λ j. [];
-  none = refl;
-  cut = λ j r ne. tweak_shut p t i j shut ne;
   line = λ j. refl;
   hide = λ e. absurd (false≢true (sym e));
   done = refl;
   unhide = λ e. absurd (false≢true (sym e));
   undone = refl;
-  cost = let z = total_zero 1 (item_count p) in omega (arith, z);
-  cost_back = let z = total_zero 1 (item_count p) in omega (arith, z);
+  cost = refl;
+  cost_back = refl;
 }
-
-mid_open : (p : Puzzle) (t : List Move) (spans : List Span) (i : ℕ) → AreLegal p t → IsFitted p spans
-    → is_open i t ≡ true → 0 < i → i ≤ item_count p → (f : HasFirst p t i) → Mid p t spans false i f.o
-mid_open p t spans i legal fit opened pos le f =
+mid_is p t spans false i legal fit opened f =
     let o = f.o in
-    let laid = fit.laid in
-    let spanned = fit.spanned in
     let col = color_in p t in
-    let js = other_items p o i in
-    let x = link_place p i o in
-    let r : Rises 0 (o ∷ f.os) = subst (Rises 0) f.is (rises_listed p t i) in
+    let pos : 0 < o = (subst (Rises 0) f.is (rises_listed p t i)).0 in
     let within : is_in o (listed_numbers p t i) ≡ true =
     subst (λ ks. is_in o ks ≡ true) (sym f.is) (is_in-first o f.os) in
-    let named : Named p i o = (subst (λ ks. AllByRecursion (Named p i) ks) f.is (numbers_named p t i)).0 in
-    let ready = ready_at p t i o legal laid fit.fit opened within in
-    let w = walked p col (line_of p t) (listed_numbers p t) o js laid r.0 (all_good p t fit.fit) ready in
-    let mid =
-    walked p col (line_of p t) (listed_numbers p t) o (behind_use i (uses_of p o)) laid r.0 (all_good p t fit.fit)
-    (ready_front p col (listed_numbers p t) o (behind_use i (uses_of p o)) (before_use i (uses_of p o))
-    ready) in
-    let both = turns p (line_of p t) col (listed_numbers p t) spans o i spanned r.0 named w mid in
-    let apart = own_apart p i o fit.fit in
-    let of = first_of-list p t i f in
-    let one : first_alone (listed_numbers p t i) ≡ o ∷ [] = ap first_alone f.is in
-    let counted = exchanged p col i (o ∷ []) fit.fit in
+    let named : Named p i o = (subst (AllByRecursion (Named p i)) f.is (numbers_named p t i)).0 in
+    let s = turns_ready p (line_of p t) col (listed_numbers p t) spans o i fit.laid fit.spanned pos named
+    (all_good p t fit.fit) (ready_at p t i o legal fit.laid fit.fit opened within) in
     record {
-      ln = left_all p col o (line_of p t) js;
-      lists = w.gone.lists';
-      good = w.gone.good;
-      own = all_other cut p col o (line_of p t) js i apart;
-      list = w.gone.other i apart;
-      ks = λ j. filter (leaves p col i j) (o ∷ []);
-      none = leaves_own p t i (o ∷ []) fit.fit (r.0, tt);
-      cut = λ j rj ne.
-          let cut_j : SameCut p t (Tweak i) j (filter (leaves p col i j) (first_alone (listed_numbers p t i))) =
-          cut_others p t (Tweak i) i j (first_alone (listed_numbers p t i)) legal laid fit.fit opened rj of
-          (takes_tweak p t i opened) ne in
-          subst (λ ks. SameCut p t (Tweak i) j (filter (leaves p col i j) ks)) one cut_j;
+      own = all_other cut p col o (line_of p t) (other_items p o i) i (own_apart p i o fit.fit);
       line = λ j. list_at p col i (line_of p t) (o ∷ []) j (each_apart p i (o ∷ []) fit.fit);
-      hide = λ e. (spanned.within o i r.0 named, both.hide);
-      done = both.done;
-      unhide = λ e. (spanned.within o i r.0 named, both.unhide);
-      undone = both.undone;
-      cost = let a = both.cost in omega (arith, a, counted);
-      cost_back = let a = both.cost_back in omega (arith, a, counted);
+      hide = λ e. (fit.spanned.within o i pos named, s.hide);
+      done = s.done;
+      unhide = λ e. (fit.spanned.within o i pos named, s.unhide);
+      undone = s.undone;
+      cost = s.cost;
+      cost_back = s.cost_back;
     }
 
 -- ---- the whole move
@@ -200,59 +221,41 @@ pub record TweakMade (p : Puzzle) (t : List Move) (spans : List Span) (covered :
   pub cost_back : untweak_cost spans covered (nodes_after p (Tweak i ∷ t))
       (link_place p i (first_of 0 (listed_numbers p t i))) ≡ cost_of p t (Tweak i)
 
--- one node leaves i's list, and those of the other lines
-leaving_tweak : (p : Puzzle) (t : List Move) (spans : List Span) (covered : Bool) (i : ℕ) → 0 < i → i ≤ item_count p
-    → (f : HasFirst p t i) → (mid : Mid p t spans covered i f.o)
-    → leaving p t (Tweak i) ≡ 1 + total (λ j. length (mid.ks j)) 1 (item_count p)
-leaving_tweak p t spans covered i pos le f mid =
-    let n = item_count p in
-    let k : ℕ → List ℕ = λ j. cond (eqb i j) (f.o ∷ []) (mid.ks j) in
-    let all : leaving p t (Tweak i) ≡ total (λ j. length (k j)) 1 n = leaving_is p t (Tweak i) k (λ j r.
-    elim (eqb i j) as (λ b. eqb i j ≡ b → SameCut p t (Tweak i) j (cond b (f.o ∷ []) (mid.ks j))) [
-      | true ↦ λ e. subst (λ m. SameCut p t (Tweak i) m (f.o ∷ [])) (eqb-true i j e) (tweak_cut p t i f)
-      | false ↦ λ e. mid.cut j r (λ g. eqb-false i j e (sym g))
-    ] refl) in
-    let split : total (λ j. length (k j)) 1 n ≡ total (λ j. cond (eqb i j) 1 0 + length (mid.ks j)) 1 n =
-    total_same _ _ 1 n (λ j u v.
-    elim (eqb i j) as (λ b. eqb i j ≡ b → length (cond b (f.o ∷ []) (mid.ks j)) ≡ cond b 1 0 + length (mid.ks j)) [
-      | true ↦ λ e. let z : length (mid.ks j) ≡ 0 =
-          ap (λ m. length (mid.ks m)) (sym (eqb-true i j e)) ∙ ap length mid.none in omega (arith, z)
-      | false ↦ λ e. omega arith
-    ] refl) in
-    let sum = total_plus (λ j. cond (eqb i j) 1 0) (λ j. length (mid.ks j)) 1 n in
-    omega (arith, all, split, sum, total_point i 1 1 n (omega (arith, pos)) (omega (arith, le)))
-
-by_mid : (p : Puzzle) (t : List Move) (spans : List Span) (covered : Bool) (i : ℕ) → IsFitted p spans → 0 < i
-    → i ≤ item_count p → (f : HasFirst p t i) → Mid p t spans covered i f.o → TweakMade p t spans covered i
-by_mid p t spans covered i fit pos le f mid =
+pub tweak_made : (p : Puzzle) (t : List Move) (spans : List Span) (covered : Bool) (i : ℕ) → AreLegal p t
+    → IsFitted p spans → 0 < i → i ≤ item_count p → 0 < length (listed p t i) → is_open i t ≡ not covered
+    → TweakMade p t spans covered i
+tweak_made p t spans covered i legal fit pos le some opened =
+    let f = has_first p t i some in
     let o = f.o in
-    let gone = leaving_tweak p t spans covered i pos le f mid in
+    let m = mid_is p t spans covered i legal fit opened f in
+    let gone = tweak_cost_is p t spans covered i legal fit opened pos le f in
     let laid = fit.laid in
     let col = color_in p t in
+    let ln = mid_lines p t covered i o in
     let x = link_place p i o in
     let t0 : Nodes = nodes_after p t in
-    let u : Nodes = nodes_from p mid.ln col in
+    let u : Nodes = mid p t covered i o in
     let next : Nodes = nodes_after p (Tweak i ∷ t) in
-    let l : Line = cut (mid.ln i) o in
-    let good : IsGood p i (mid.ln i) (o ∷ f.os) = subst (IsGood p i (mid.ln i)) (mid.list ∙ f.is) (mid.good i pos le) in
-    let m : IsMember p i (mid.ln i) o = member p i (mid.ln i) [] o f.os pos le good in
-    let few : (mid.ln i).len < 2 ^ 31 = let a : (mid.ln i).len ≡ length (o ∷ f.os) = good.len in
-    let b : length (o ∷ f.os) < 2 ^ 31 = good.few in omega arith in
-    let linked = linked-is p col mid.ln i o laid m in
-    let cells = member_cells p col mid.ln i o laid m in
-    let names = cells.names in
-    let size = size_from p mid.ln col in
-    let count : get_or u.top (get_or u.top x 0) 0 ≡ (mid.ln i).len =
-    ap (λ k. get_or u.top k 0) cells.item ∙ cells.len in
-    let out : unlinked u x ≡ nodes_from p (with_line mid.ln i l) col = unlinked-is p col mid.ln i o laid m in
-    let end : next ≡ nodes_from p (with_line mid.ln i l) col =
-    tables_same p (with_line mid.ln i l) (line_of p (Tweak i ∷ t)) col (color_in p (Tweak i ∷ t)) laid
-    (λ j r. elim (eqb j i) as (λ b. eqb j i ≡ b → line_of p (Tweak i ∷ t) j ≡ with_line mid.ln i l j) [
-      | true ↦ λ e. subst (λ k. line_of p (Tweak i ∷ t) k ≡ with_line mid.ln i l k) (sym (eqb-true j i e))
+    let l : Line = cut (ln i) o in
+    let good : IsGood p i (ln i) (o ∷ f.os) =
+    subst (λ (l : Line). IsGood p i l (o ∷ f.os)) (sym m.own)
+    (subst (IsGood p i (line_of p t i)) f.is (all_good p t fit.fit i pos le)) in
+    let s : IsMember p i (ln i) o = member p i (ln i) [] o f.os pos le good in
+    let few : (ln i).len < 2 ^ 31 = omega (arith, good.len, good.few) in
+    let linked = linked-is p col ln i o laid s in
+    let cells = member_cells p col ln i o laid s in
+    let size = size_from p ln col in
+    let count : get_or u.top (get_or u.top x 0) 0 ≡ (ln i).len = ap (λ k. get_or u.top k 0) cells.item ∙ cells.len in
+    let end : next ≡ nodes_from p (with_line ln i l) col =
+    tables_same p (with_line ln i l) (line_of p (Tweak i ∷ t)) col (color_in p (Tweak i ∷ t)) laid
+    (λ j r. elim (eqb j i) as (λ b. eqb j i ≡ b → line_of p (Tweak i ∷ t) j ≡ with_line ln i l j) [
+      | true ↦ λ e. subst (λ k. line_of p (Tweak i ∷ t) k ≡ with_line ln i l k) (sym (eqb-true j i e))
           (line_after p t (Tweak i) i (o ∷ []) (tweak_cut p t i f)
-          ∙ sym (line_here mid.ln i l ∙ ap (λ (k : Line). cut k o) mid.own))
-      | false ↦ λ e. let ne : j ≢ i = eqb-false j i e in line_after p t (Tweak i) j (mid.ks j) (mid.cut j r ne)
-          ∙ sym (line_there mid.ln i j l ne ∙ mid.line j)
+          ∙ sym (line_here ln i l ∙ ap (λ (k : Line). cut k o) m.own))
+      | false ↦ λ e. let ne : j ≢ i = eqb-false j i e in
+          line_after p t (Tweak i) j (to_come p t covered i j (o ∷ []))
+          (tweak_cuts p t spans covered i j legal fit opened f r ne)
+          ∙ sym (line_there ln i j l ne ∙ m.line j)
     ] refl)
     (λ k n at. tweak_colours p t i n) in
     let first : get_or t0.dlink i 0 ≡ x =
@@ -260,40 +263,31 @@ by_mid p t spans covered i fit pos le f mid =
     let taken : link_place p i (first_of 0 (listed_numbers p t i)) ≡ x =
     ap (λ ks. link_place p i (first_of 0 ks)) f.is in
     let down_long : length t0.dlink ≡ length (layout p) = length-map (layout p) (dlink_in p (line_of p t)) in
-    let back = CanRelink-unlinked u x size names linked (omega (arith, count, few)) in
-    let same : unlinked u x ≡ next = out ∙ sym end in
+    let back = CanRelink-unlinked u x size cells.names linked (omega (arith, count, few)) in
+    let same : unlinked u x ≡ next = unlinked-is p col ln i o laid s ∙ sym end in
     let again : relinked next x ≡ u = ap (λ (v : Nodes). relinked v x) (sym same) ∙ relinked-unlinked u x linked in
     record {
       can = subst (λ k. CanTweakAt spans covered t0 i k) (sym first) (record {
         place = omega (arith, slice_get_within (layout p) i (own i) (laid.head i pos le), down_long);
-        hide = mid.hide;
-        size = subst (λ (v : Nodes). HasSize v (length v.top)) (sym mid.done) size;
-        names = subst (λ (v : Nodes). NamesPlaces v x) (sym mid.done) names;
-        some = subst (λ (v : Nodes). 0 < get_or v.top (get_or v.top x 0) 0) (sym mid.done) linked.some;
+        hide = m.hide;
+        size = subst (λ (v : Nodes). HasSize v (length v.top)) (sym m.done) size;
+        names = subst (λ (v : Nodes). NamesPlaces v x) (sym m.done) cells.names;
+        some = subst (λ (v : Nodes). 0 < get_or v.top (get_or v.top x 0) 0) (sym m.done) linked.some;
       });
-      done = ap (λ k. unlinked (hidden_unless spans covered t0 k) k) first ∙ ap (λ (v : Nodes). unlinked v x) mid.done
+      done = ap (λ k. unlinked (hidden_unless spans covered t0 k) k) first ∙ ap (λ (v : Nodes). unlinked v x) m.done
           ∙ same;
       can_back = subst (CanUntweak spans covered next) (sym taken) (record {
         size = subst (λ (v : Nodes). HasSize v (length v.top)) same back.size;
         names = subst (λ (v : Nodes). NamesPlaces v x) same back.names;
         few = subst (λ (v : Nodes). get_or v.top (get_or v.top x 0) 0 < 2 ^ 31) same back.few;
         unhide =
-            subst (λ (v : Nodes). covered ≡ false → (x < length spans) × CanUnhideNode spans v x) (sym again)
-            mid.unhide;
+            subst (λ (v : Nodes). covered ≡ false → (x < length spans) × CanUnhideNode spans v x) (sym again) m.unhide;
       });
       undone = ap (untweaked spans covered next) taken ∙ ap (λ (v : Nodes). unhidden_unless spans covered v x) again
-          ∙ mid.undone;
-      cost = let a = ap (λ k. cond covered 0 (hide_costs t0 (others_of spans k))) first in let b = mid.cost in
+          ∙ m.undone;
+      cost = let a = ap (λ k. cond covered 0 (hide_costs t0 (others_of spans k))) first in let b = m.cost in
           omega (arith, a, b, gone);
       cost_back = let a = ap (untweak_cost spans covered next) taken in let b =
           ap (λ (v : Nodes). cond covered 0 (unhide_costs v (reverse (others_of spans x)))) again in let c =
-          mid.cost_back in omega (arith, a, b, c, gone);
+          m.cost_back in omega (arith, a, b, c, gone);
     }
-
-pub tweak_made : (p : Puzzle) (t : List Move) (spans : List Span) (covered : Bool) (i : ℕ) → AreLegal p t
-    → IsFitted p spans → 0 < i → i ≤ item_count p → 0 < length (listed p t i) → is_open i t ≡ not covered
-    → TweakMade p t spans covered i
-tweak_made p t spans true i legal fit pos le some shut =
-    let f = has_first p t i some in by_mid p t spans true i fit pos le f (mid_covered p t spans i fit shut f)
-tweak_made p t spans false i legal fit pos le some opened = let f = has_first p t i some in
-    by_mid p t spans false i fit pos le f (mid_open p t spans i legal fit opened pos le f)

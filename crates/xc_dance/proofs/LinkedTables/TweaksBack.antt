@@ -37,9 +37,9 @@ use Rattle.xc_dance.proofs.LinkedTables.GoodLines.{line_is}
 use Rattle.xc_dance.proofs.LinkedTables.Leaving.{cut_others, first_alone, takes_tweak, tweak_own, AreOf, leaves_open}
 use Rattle.xc_dance.proofs.LinkedTables.Leaving.{leaves_shut}
 use Rattle.xc_dance.proofs.LinkedTables.Spacers.{others_are}
-use Rattle.xc_dance.proofs.LinkedTables.TweakStep.{tweak_made, HasFirst, has_first, tweak_cut, tweak_shut}
-use Rattle.xc_dance.proofs.LinkedTables.TweakStep.{tweak_colours, first_of-list}
-use Rattle.xc_dance.proofs.LinkedTables.BringBack.{to_come, back_writes, BringingBack, bring_back_step, is_below}
+use Rattle.xc_dance.proofs.LinkedTables.TweakStep.{tweak_made, HasFirst, has_first, tweak_cut}
+use Rattle.xc_dance.proofs.LinkedTables.TweakStep.{tweak_colours}
+use Rattle.xc_dance.proofs.LinkedTables.BringBack.{BringingBack, bring_back_step, is_below}
 use Rattle.xc_dance.proofs.LinkedTables.BringBack.{top_kept, down_kept}
 use Rattle.xc_dance.proofs.LinkedTables.OneOption.{gone_count, line_there, line_here}
 use Rattle.xc_dance.proofs.LinkedTables.HideMoves.{own_placed}
@@ -49,6 +49,13 @@ use Rattle.xc_dance.proofs.LinkedTables.UnmarkedNodes.{costs-are, hidden_color, 
 use Rattle.xc_dance.proofs.LinkedTables.MoveStep.{none_newest}
 use Rattle.xc_dance.proofs.LinkedTables.Regained.{Regaining, regaining, regained}
 use Rattle.xc_dance.specs.declared.links.nodes.TheConstants.{MARK}
+use Rattle.xc_dance.proofs.LinkedTables.TweakStep.{tweak_cost_is, to_come, back_writes}
+use Rattle.xc_dance.proofs.LinkedTables.Sweep.{in_more}
+use Rattle.xc_dance.proofs.LinkedTables.HideMoves.{follow_down}
+use Rattle.std.proofs.Common.{◌&&◌}
+use Rattle.xc_dance.proofs.LinkedTables.TweakStep.{tweak_cuts}
+use Rattle.std.specs.List.{AllByRecursion}
+use Rattle.xc_dance.proofs.LinkedTables.Regained.{cuts_len}
 
 -- ---- the lines after some Tweaks of one item, from those before
 
@@ -72,36 +79,16 @@ pub none_yet : (p : Puzzle) (t : List Move) (covered : Bool) (i j : ℕ) → to_
 none_yet p t true i j = refl
 none_yet p t false i j = refl
 
-tweak_open : (p : Puzzle) (t : List Move) (spans : List Span) (i j : ℕ) → AreLegal p t → IsFitted p spans
-    → is_open i t ≡ true → (f : HasFirst p t i) → 0 < j → j ≤ item_count p → j ≢ i
-    → SameCut p t (Tweak i) j (filter (leaves p (color_in p t) i j) (f.o ∷ []))
-tweak_open p t spans i j legal fit opened f pos le ne =
-    subst (λ ks. SameCut p t (Tweak i) j (filter (leaves p (color_in p t) i j) ks)) (ap first_alone f.is)
-    (cut_others p t (Tweak i) i j (first_alone (listed_numbers p t i)) legal fit.laid fit.fit opened (pos, le)
-    (first_of-list p t i f) (takes_tweak p t i opened) ne)
+come_same : (p : Puzzle) (t s : List Move) (covered : Bool) (i j : ℕ) (os : List ℕ)
+    → map (color_in p s) (layout p) ≡ map (color_in p t) (layout p) → to_come p s covered i j os ≡ to_come p t covered i j os
+come_same p t s covered i j os same =
+    ap (λ (cs : List ℕ). cond covered []
+    (filter (λ o. is_in j (other_items p o i) && not (eqb (get_or cs (link_place p j o) 0) MARK)) os)) same
 
--- one Tweak more
-more_others : (p : Puzzle) (t s : List Move) (spans : List Span) (covered : Bool) (i : ℕ) (os : List ℕ) → AreLegal p s
-    → IsFitted p spans → is_open i t ≡ not covered → (f : HasFirst p s i) → TweakedLines p t s covered i os
-    → (j : ℕ) → 0 < j → j ≤ item_count p → j ≢ i
-    → line_of p (Tweak i ∷ s) j ≡ cuts (line_of p t j) (to_come p t covered i j (os ++ f.o ∷ []))
-more_others p t s spans true i os legal fit shut f h j pos le ne =
-    line_after p s (Tweak i) j [] (tweak_shut p s i j (h.opened ∙ shut) ne) ∙ h.others j pos le ne
-more_others p t s spans false i os legal fit opened f h j pos le ne =
-    let col = color_in p t in
-    let o = f.o in
-    let same : map (color_in p s) (layout p) ≡ map col (layout p) =
-    map_same col (color_in p s) (layout p) (λ k n e. h.colours n) in
-    let test : filter (leaves p (color_in p s) i j) (o ∷ []) ≡ filter (leaves p col i j) (o ∷ []) =
-    grind (arith, common_steps) in
-    let l = line_of p t j in
-    let before = filter (leaves p col i j) os in
-    let one = filter (leaves p col i j) (o ∷ []) in
-    let cut_one : SameCut p s (Tweak i) j one =
-    subst (SameCut p s (Tweak i) j) test (tweak_open p s spans i j legal fit (h.opened ∙ opened) f pos le ne) in
-    let all : cuts l (filter (leaves p col i j) (os ++ o ∷ [])) ≡ cuts (cuts l before) one =
-    ap (cuts l) (filter-append (leaves p col i j) os (o ∷ [])) ∙ fold-append cut l before one in
-    line_after p s (Tweak i) j one cut_one ∙ ap (λ (m : Line). cuts m one) (h.others j pos le ne) ∙ sym all
+come_append : (p : Puzzle) (t : List Move) (covered : Bool) (i j : ℕ) (os qs : List ℕ)
+    → to_come p t covered i j (os ++ qs) ≡ to_come p t covered i j os ++ to_come p t covered i j qs
+come_append p t true i j os qs = refl
+come_append p t false i j os qs = filter-append (leaves p (color_in p t) i j) os qs
 
 -- ---- what the Tweaks wrote
 
@@ -115,29 +102,6 @@ tweak_writes-append : (p : Puzzle) (col : Node → ℕ) (covered : Bool) (i : �
     covered i os
 tweak_writes-append p col covered i [] o = refl
 tweak_writes-append p col covered i (x ∷ xs) o = let r = tweak_writes-append p col covered i xs o in omega (arith, r)
-
-one_writes : (p : Puzzle) (s : List Move) (spans : List Span) (covered : Bool) (i : ℕ) → AreLegal p s → IsFitted p spans
-    → IsLegal p s (Tweak i) → is_open i s ≡ not covered → (f : HasFirst p s i)
-    → cost_of p s (Tweak i) ≡ 3 + back_writes p (color_in p s) covered i f.o
-one_writes p s spans true i legal fit may shut f =
-    let pos : 0 < i = let h = may.0.0 in omega (arith, h) in
-    sym (tweak_made p s spans true i legal fit pos may.0.1 may.2 shut).cost
-one_writes p s spans false i legal fit may opened f =
-    let pos : 0 < i = let h = may.0.0 in omega (arith, h) in
-    let le : i ≤ item_count p = may.0.1 in
-    let o = f.o in
-    let col = color_in p s in
-    let t0 : Nodes = nodes_after p s in
-    let js = other_items p o i in
-    let within : is_in o (listed_numbers p s i) ≡ true =
-    subst (λ ks. is_in o ks ≡ true) (sym f.is) (is_in-first o f.os) in
-    let named : Named p i o = element_of (Named p i) o (listed_numbers p s i) (numbers_named p s i) within in
-    let o_pos : 0 < o = in_above 0 o (listed_numbers p s i) (rises_listed p s i) within in
-    let first : get_or t0.dlink i 0 ≡ link_place p i o = get_down p (line_of p s) i 0 (own_placed p i fit.laid pos le)
-    ∙ ap (λ ks. link_place p i (first_of 0 ks)) f.is in
-    let hides : hide_costs t0 (others_of spans (get_or t0.dlink i 0)) ≡ 3 * gone_count p col i o =
-    grind (arith, common_steps, costs-are, hidden_color, others_are, unmarked_items) in
-    omega (arith, (tweak_made p s spans false i legal fit pos le may.2 opened).cost, hides)
 
 gone_alike : (p : Puzzle) (col now : Node → ℕ) (i o : ℕ) → map now (layout p) ≡ map col (layout p)
     → gone_count p now i o ≡ gone_count p col i o
@@ -174,13 +138,16 @@ tweaked_lines p t spans covered i (suc k) legal fit opened =
     let o = f.o in
     let rest : listed_numbers p (Tweak i ∷ s) i ≡ f.os = tweak_own p s i ∙ ap (drop 1) f.is in
     let x = link_place p i o in
+    let pos : 0 < i = let m = legal.0.0.0 in omega (arith, m) in
+    let le : i ≤ item_count p = legal.0.0.1 in
+    let opened_s : is_open i s ≡ not covered = h.opened ∙ opened in
+    let same : map (color_in p s) (layout p) ≡ map (color_in p t) (layout p) =
+    map_same (color_in p t) (color_in p s) (layout p) (λ m n e. h.colours n) in
     record {
       os = os ++ o ∷ [];
       count = let a = length-append os (o ∷ []) in let b = before.count in omega (arith, a, b);
       costs =
-          let one = one_writes p s spans covered i legal.1 fit legal.0 (h.opened ∙ opened) f in
-          let same : map (color_in p s) (layout p) ≡ map (color_in p t) (layout p) =
-          map_same (color_in p t) (color_in p s) (layout p) (λ m n e. h.colours n) in
+          let one = tweak_cost_is p s spans covered i legal.1 fit opened_s pos le f in
           let alike : back_writes p (color_in p s) covered i o ≡ back_writes p (color_in p t) covered i o =
           ap (λ n. cond covered 0 (3 * n)) (gone_alike p (color_in p t) (color_in p s) i o same) in
           let rest = before.costs in
@@ -190,7 +157,14 @@ tweaked_lines p t spans covered i (suc k) legal fit opened =
             ∙ ap (λ ks. (os ++ o ∷ []) ++ ks) (sym rest);
         own = line_after p s (Tweak i) i (o ∷ []) (tweak_cut p s i f) ∙ ap (λ (m : Line). cut m o) h.own
             ∙ sym (fold-append cut (line_of p t i) os (o ∷ []));
-        others = more_others p t s spans covered i os legal.1 fit opened f h;
+        others = λ j jpos jle ne.
+            let one = to_come p t covered i j (o ∷ []) in
+            line_after p s (Tweak i) j one
+            (subst (SameCut p s (Tweak i) j) (come_same p t s covered i j (o ∷ []) same)
+            (tweak_cuts p s spans covered i j legal.1 fit opened_s f (jpos, jle) ne))
+            ∙ ap (λ (m : Line). cuts m one) (h.others j jpos jle ne)
+            ∙ sym (ap (cuts (line_of p t j)) (come_append p t covered i j os (o ∷ []))
+            ∙ fold-append cut (line_of p t j) (to_come p t covered i j os) one);
         colours = λ n. tweak_colours p s i n ∙ h.colours n;
         opened = h.opened;
         taken = grind (arith, common_steps);
@@ -233,7 +207,7 @@ bring_back_walk p t spans covered i ln a [] rest legal fit pos le opened among l
 bring_back_walk p t spans covered i ln a (o ∷ os) rest legal fit pos le opened among linked h =
     let col = color_in p t in
     let x = link_place p i o in
-    let within : is_in o (listed_numbers p t i) ≡ true = among o (ap (λ b. b || is_in o os) (eq-eqb o o refl)) in
+    let within : is_in o (listed_numbers p t i) ≡ true = among o (is_in-first o os) in
     let named : Named p i o = element_of (Named p i) o (listed_numbers p t i) (numbers_named p t i) within in
     let o_pos : 0 < o = in_above 0 o (listed_numbers p t i) (rises_listed p t i) within in
     let here = fit.laid.there i o pos le (inr (o_pos, named)) in
@@ -242,7 +216,7 @@ bring_back_walk p t spans covered i ln a (o ∷ os) rest legal fit pos le opened
     let t1 : Nodes = nodes_from p s.ln' col in
     let rest' =
     bring_back_walk p t spans covered i s.ln' o os rest legal fit pos le opened
-    (λ z e. among z (elim (eqb o z) as (λ b. (b || is_in z os) ≡ true) [ true ↦ refl | false ↦ e ])) linked.3
+    (λ z e. among z (in_more o z os e)) linked.3
     s.bringing in
     let x_in = slice_get_within (layout p) x here.node here.at in
     let long : length t1.dlink ≡ length (layout p) = length-map (layout p) (dlink_in p s.ln') in
@@ -251,28 +225,6 @@ bring_back_walk p t spans covered i ln a (o ∷ os) rest legal fit pos le opened
     let places = map (link_place p i) os in
     let first : link_place p i ((line_of p t i).down a) ≡ x = ap (link_place p i) linked.1 in
     grind (arith, common_steps)
-
--- the nodes that come back, by the links of the table before
-pub bring_back_follow : (p : Puzzle) (t : List Move) (spans : List Span) (i : ℕ) (ln : ℕ → Line) (a : ℕ)
-    (os rest : List ℕ) → IsFitted p spans → 0 < i → i ≤ item_count p
-    → ((x : ℕ) → is_in x os ≡ true → is_in x (listed_numbers p t i) ≡ true)
-    → IsLinkedFrom (line_of p t i) a (os ++ rest) → ((x : ℕ) → (ln i).down x ≡ (line_of p t i).down x)
-    → followed (nodes_from p ln (color_in p t)).dlink (length os) (link_place p i ((line_of p t i).down a)) ≡ map
-    (link_place p i) os
-bring_back_follow p t spans i ln a [] rest fit pos le among linked down = refl
-bring_back_follow p t spans i ln a (o ∷ os) rest fit pos le among linked down =
-    let t0 : Nodes = nodes_from p ln (color_in p t) in
-    let within : is_in o (listed_numbers p t i) ≡ true = among o (ap (λ b. b || is_in o os) (eq-eqb o o refl)) in
-    let named : Named p i o = element_of (Named p i) o (listed_numbers p t i) (numbers_named p t i) within in
-    let o_pos : 0 < o = in_above 0 o (listed_numbers p t i) (rises_listed p t i) within in
-    let here = fit.laid.there i o pos le (inr (o_pos, named)) in
-    let first : link_place p i ((line_of p t i).down a) ≡ link_place p i o = ap (link_place p i) linked.1 in
-    let next : get_or t0.dlink (link_place p i o) 0 ≡ link_place p i ((line_of p t i).down o) =
-    get_down p ln i o here ∙ ap (link_place p i) (down o) in
-    ap₂ (λ q qs. q ∷ qs) first
-    (ap (λ q. followed t0.dlink (length os) (get_or t0.dlink q 0)) first ∙ ap (followed t0.dlink (length os)) next
-    ∙ bring_back_follow p t spans i ln o os rest fit pos le
-    (λ z e. among z (elim (eqb o z) as (λ b. (b || is_in z os) ≡ true) [ true ↦ refl | false ↦ e ])) linked.3 down)
 
 -- ---- some Tweaks of one item undone at once: from the node table after them to that before
 
@@ -300,11 +252,8 @@ start_other : (p : Puzzle) (t : List Move) (spans : List Span) (covered : Bool) 
 start_other p t spans covered i j os legal fit opened of pos le ne =
     let come = come_is p t spans covered i j os legal fit opened of pos le ne in
     subst (λ ks. Regaining (line_of p t j) (cuts (line_of p t j) ks) ks) (sym come.1)
-    (regaining (line_of p t j) (listed_numbers p t j) come.0 (stands p t j))
-
-cuts_len : (l : Line) (ks : List ℕ) → length ks ≤ l.len → (cuts l ks).len + length ks ≡ l.len
-cuts_len l [] h = omega arith
-cuts_len l (k ∷ ks) h = let r = cuts_len (cut l k) ks (omega (arith, h)) in omega (arith, r, h)
+    (regaining (line_of p t j) (listed_numbers p t j) come.0 (stands p t j)
+    (sym (length-map (listed p t j) (λ o. o.number))))
 
 -- ---- its own line has lost its first members
 
@@ -374,14 +323,6 @@ longer_is p col ln i n laid pos le =
 
 -- ---- all together
 
-come_few : (p : Puzzle) (t : List Move) (spans : List Span) (covered : Bool) (i j : ℕ) (os : List ℕ) → AreLegal p t
-    → IsFitted p spans → is_open i t ≡ not covered → AreOf p t i os → 0 < j → j ≤ item_count p → j ≢ i →
-    length (to_come p t covered i j os) ≤ (line_of p t j).len
-come_few p t spans covered i j os legal fit opened of pos le ne =
-    let come = come_is p t spans covered i j os legal fit opened of pos le ne in
-    let long : length (listed_numbers p t j) ≡ (line_of p t j).len = length-map (listed p t j) (λ o. o.number) in
-    omega (arith, ap length come.1, length-filter-le come.0 (listed_numbers p t j), long)
-
 -- where the first node stands that Tweaks of item i after the moves t take off
 abbrev pub first_place : Puzzle → List Move → ℕ → ℕ
 first_place p t i = link_place p i (first_of 0 (listed_numbers p t i))
@@ -450,12 +391,6 @@ by_lines p t spans covered i k o os legal fit pos le opened count costs h =
           λ j jpos jle ne. subst (λ (m : Line). Regaining (line_of p t j) m (to_come p t covered i j all))
           (sym (line_there lnS i j w ne ∙ h.others j jpos jle ne))
           (start_other p t spans covered i j all legal fit opened of jpos jle ne);
-      few = λ j jpos jle ne.
-          let a =
-          cuts_len (line_of p t j) (to_come p t covered i j all)
-          (come_few p t spans covered i j all legal fit opened of jpos jle ne) in
-          let b = ap (λ (m : Line). m.len) (h.others j jpos jle ne) in
-          omega (arith, a, b, ap (λ (m : Line). m.len) (line_there lnS i j w ne));
       own_down = down0;
       own_up = λ y e. ap (λ (m : Line). m.up y) at_i ∙ ap (λ (m : Line). m.up y) h.own ∙ lost_own.1 y e;
     } in
@@ -463,7 +398,8 @@ by_lines p t spans covered i k o os legal fit pos le opened count costs h =
     let lead : link_place p i (l.down 0) ≡ x = ap (link_place p i) linked.1 in
     let follow : followed t0.dlink k x ≡ map (link_place p i) all =
     ap₂ (followed t0.dlink) (sym count) (sym lead)
-    ∙ bring_back_follow p t spans i ln0 0 all rest fit pos le among linked down0 in
+    ∙ follow_down p ln0 l i 0 all rest laid pos le
+    (subst (AllByRecursion (Named p i)) h.list (numbers_named p t i)) linked down0 in
     let follow' : followed (with_dlink T i x).dlink k x ≡ map (link_place p i) all =
     ap (λ (u : Nodes). followed u.dlink k x) start ∙ follow in
     let fold_is : fold (brought_back spans covered) (with_dlink T i x) (followed (with_dlink T i x).dlink k x) ≡
@@ -491,15 +427,10 @@ by_lines p t spans covered i k o os legal fit pos le opened count costs h =
           ∙ line_is l (longer (cw.end i) n) (omega (arith, len_end, end_len, own_len, lost, count))
           (λ y. cw.bringing.own_up y refl) cw.bringing.own_down)
       | false ↦ λ e.
-          let ne : j ≢ i = eqb-false j i e in
-          let back =
-          regained (line_of p t j) (cw.end j)
+          line_there cw.end i j (longer (cw.end i) n) (eqb-false j i e)
+          ∙ regained (line_of p t j) (cw.end j)
           (subst (Regaining (line_of p t j) (cw.end j)) (none_yet p t covered i j)
-          (cw.bringing.others j r.0 r.1 ne)) in
-          let few = cw.bringing.few j r.0 r.1 ne in
-          let none = ap length (none_yet p t covered i j) in
-          line_there cw.end i j (longer (cw.end i) n) ne
-          ∙ line_is (line_of p t j) (cw.end j) (omega (arith, few, none)) back.up back.down
+          (cw.bringing.others j r.0 r.1 (eqb-false j i e)))
     ] refl)
     (λ m k e. refl) in
     subst (λ y. Undoes spans covered T i y k (nodes_after p t) (undo_tweaks_cost k p s))
