@@ -397,26 +397,8 @@ pub bring_back_step : (p : Puzzle) (t : List Move) (spans : List Span) (covered 
     → is_in o (listed_numbers p t i) ≡ true
     → BringingBack p t covered i ln (o ∷ os) → BringBackStep p t spans covered i ln o os
 bring_back_step p t spans true i ln o os legal fit pos le shut within h =
-    grind (
-      arith,
-      common_steps,
-      by_opened,
-      element_of,
-      in_above,
-      numbers_named,
-      opened_covered,
-      opened_open,
-      rises_listed,
-    )
+    by_opened p t spans true i ln o os fit pos le within h (opened_covered p t spans i ln o os h)
 bring_back_step p t spans false i ln o os legal fit pos le opened within h =
-    grind (
-      arith,
-      common_steps,
-      by_opened,
-      element_of,
-      in_above,
-      numbers_named,
-      opened_covered,
-      opened_open,
-      rises_listed,
-    )
+    by_opened p t spans false i ln o os fit pos le within h
+    (opened_open p t spans i ln o os legal fit opened (in_above 0 o (listed_numbers p t i) (rises_listed p t i) within)
+    (element_of (Named p i) o (listed_numbers p t i) (numbers_named p t i) within) within h)

@@ -246,13 +246,8 @@ pub marked_at : (p : Puzzle) (i : ℕ) (keep : Option ℕ) (now : Node → ℕ) 
     → marked_list p i keep now xs n ≡ cond (slot_kept p i keep xs (slot_of n)) MARK (now n)
 marked_at p i keep now [] n = grind (arith, common_steps, cond_at, none_kept)
 marked_at p i keep now (o ∷ xs) n =
-    grind (
-      arith,
-      common_steps,
-      cond_at,
-      none_kept,
-      marked_at p i keep (cond (is_kept p i keep o) (with_color now i o MARK) now) xs n,
-    )
+    let rest = marked_at p i keep (cond (is_kept p i keep o) (with_color now i o MARK) now) xs n in
+    grind (arith, common_steps, cond_at, none_kept)
 
 pub cover_colours : (p : Puzzle) (t : List Move) (i : ℕ) (n : Node) → color_in p (Cover i ∷ t) n ≡ color_in p t n
 cover_colours p t i unused = refl

@@ -147,12 +147,8 @@ all_same : (p : Puzzle) (i : ℕ) (col now : Node → ℕ) (xs : List ℕ) (list
     → left_all p now o ln js ≡ left_all p col o ln js
 all_same p i col now xs lists o ln [] pos same apart h = grind (arith, common_steps, mark_by)
 all_same p i col now xs lists o ln (j ∷ js) pos same apart h =
-    grind (
-      arith,
-      common_steps,
-      mark_by,
-      all_same p i col now xs lists o (left_one p col o ln j) js pos same apart.1 h.5,
-    )
+    let rest = all_same p i col now xs lists o (left_one p col o ln j) js pos same apart.1 h.5 in
+    grind (arith, common_steps, mark_by)
 
 ready_same : (p : Puzzle) (i : ℕ) (col now : Node → ℕ) (xs : List ℕ) (lists : ℕ → List ℕ) (o : ℕ) (js : List ℕ) → 0 < o
     → Passed p i col now xs → IsApart i js → AreReady p col lists o js → AreReady p now lists o js
@@ -216,8 +212,8 @@ hide_step p now spans keep ln i o spanned h pos named other unmarked turns =
 
 -- an option whose uses are ready is hidden and comes back
 pub turns_ready : (p : Puzzle) (ln : ℕ → Line) (col : Node → ℕ) (lists : ℕ → List ℕ) (spans : List Span) (o i : ℕ)
-    → IsLaid p → HasSpans p spans → 0 < o → Named p i o → AllGood p ln lists → AreReady p col lists o (other_items p o i)
-    → Turns p ln col spans o i
+    → IsLaid p → HasSpans p spans → 0 < o → Named p i o → AllGood p ln lists
+    → AreReady p col lists o (other_items p o i) → Turns p ln col spans o i
 turns_ready p ln col lists spans o i laid spanned pos named good ready =
     let us = uses_of p o in
     turns p ln col lists spans o i spanned pos named (walked p col ln lists o (other_items p o i) laid pos good ready)
@@ -322,11 +318,9 @@ back_push : (spans : List Span) (keep : Option ℕ) (t u v : Nodes) (q : ℕ) (x
     → IsWalkBack spans keep t q (xs ++ x ∷ [])
 back_push spans keep t u v q [] x w done at next within can = grind (arith, common_steps)
 back_push spans keep t u v q (y ∷ ys) x w done at next within can =
-    grind (
-      arith,
-      common_steps,
-      back_push spans keep (back_node spans keep t y) u v (get_or (back_node spans keep t y).ulink y 0) ys x w.3 done at next within can,
-    )
+    let t' : Nodes = back_node spans keep t y in
+    let rest = back_push spans keep t' u v (get_or t'.ulink y 0) ys x w.3 done at next within can in
+    grind (arith, common_steps)
 
 leads_push : (spans : List Span) (keep : Option ℕ) (t u v : Nodes) (q : ℕ) (xs : List ℕ) (x : ℕ)
     → fold (back_node spans keep) t xs ≡ u → back_node spans keep u x ≡ v

@@ -78,16 +78,8 @@ pub all_at : (change : Line → ℕ → Line) (p : Puzzle) (col : Node → ℕ) 
     (change (ln k) o) (ln k)
 all_at change p col o ln [] k apart = grind (arith, common_steps, all_other, eqb-false, eqb-true, one_here, one_other)
 all_at change p col o ln (j ∷ js) k apart =
-    grind (
-      arith,
-      common_steps,
-      all_other,
-      eqb-false,
-      eqb-true,
-      one_here,
-      one_other,
-      all_at change p col o (changed_one change p col o ln j) js k apart.1,
-    )
+    let rest = all_at change p col o (changed_one change p col o ln j) js k apart.1 in
+    grind (arith, common_steps, all_other, eqb-false, eqb-true, one_here, one_other)
 
 -- the option stands in the list of each of them in which it isn't marked
 abbrev pub AreReady : Puzzle → (Node → ℕ) → (ℕ → List ℕ) → ℕ → List ℕ → Type 0

@@ -7,7 +7,8 @@ use Rattle.std.proofs.lemmas.Bool.{false≢true}
 use Rattle.xc_dance.specs.inner.Links.Lines.{Line}
 use Rattle.xc_dance.specs.Fields.{last_below, first_above, first_of, last_of, is_in}
 use Rattle.xc_dance.proofs.LinkedTables.Sweep.{in_more, Rises, Rises-filter, Swept, swept, stay, cuts, rises}
-use Rattle.xc_dance.proofs.LinkedTables.Sweep.{above, below, members, in_above, is_in-first, by_first, put_at-same, put_at-other}
+use Rattle.xc_dance.proofs.LinkedTables.Sweep.{above, below, members, in_above, is_in-first, by_first, put_at-same}
+use Rattle.xc_dance.proofs.LinkedTables.Sweep.{put_at-other}
 use Rattle.xc_dance.proofs.LinkedTables.Sweep.{last_below-none, last_below-self, last_below-more}
 use Rattle.xc_dance.proofs.LinkedTables.Sweep.{mended, IsLinkedFrom}
 use Rattle.xc_dance.proofs.MoveLemmas.Members.{in_filter}

@@ -265,29 +265,18 @@ pub swept : (l : Line) (a : ℕ) (xs : List ℕ) (g : ℕ → Bool) → IsLinked
     → Swept l (cuts l (filter g xs)) a xs (stay g xs)
 swept l a [] g h = grind (arith, common_steps, cut-linked, false≢true, first_leaves, first_stays, rises)
 swept l a (y ∷ ys) g h =
-    grind (
-      arith,
-      common_steps,
-      cut-linked,
-      false≢true,
-      first_leaves,
-      first_stays,
-      rises,
-      swept (cut l y) a ys g (cut-linked l a y ys h),
-      swept l y ys g h.3,
-    )
+    let gone = swept (cut l y) a ys g (cut-linked l a y ys h) in
+    let staying = swept l y ys g h.3 in
+    grind (arith, common_steps, false≢true, first_leaves, first_stays, rises)
 
 -- how many are left
 pub swept_len : (l : Line) (xs : List ℕ) (g : ℕ → Bool) (n : ℕ) → l.len ≡ n + length xs
     → (cuts l (filter g xs)).len ≡ n + length (stay g xs)
 swept_len l [] g n e = grind (arith, common_steps)
 swept_len l (y ∷ ys) g n e =
-    grind (
-      arith,
-      common_steps,
-      swept_len (cut l y) ys g n (omega (arith, e)),
-      swept_len l ys g (n + 1) (omega (arith, e)),
-    )
+    let gone = swept_len (cut l y) ys g n (omega (arith, e)) in
+    let staying = swept_len l ys g (n + 1) (omega (arith, e)) in
+    grind (arith, common_steps)
 
 -- a number that isn't in is not taken out
 pub stay_same : (i : ℕ) (xs : List ℕ) → (is_in i xs ≡ true → ⊥) → stay (λ x. eqb x i) xs ≡ xs

@@ -110,7 +110,8 @@ abbrev pub back_writes : Puzzle → (Node → ℕ) → Bool → ℕ → ℕ → 
 back_writes p col covered i o = cond covered 0 (3 * gone_count p col i o)
 
 come_count : (p : Puzzle) (t : List Move) (covered : Bool) (i o : ℕ) → IsFit p
-    → 3 * total (λ j. length (to_come p t covered i j (o ∷ []))) 1 (item_count p) ≡ back_writes p (color_in p t) covered i o
+    → 3 * total (λ j. length (to_come p t covered i j (o ∷ []))) 1 (item_count p) ≡
+    back_writes p (color_in p t) covered i o
 come_count p t true i o fit = let z = total_zero 1 (item_count p) in omega (arith, z)
 come_count p t false i o fit = let e = exchanged p (color_in p t) i (o ∷ []) fit in omega (arith, e)
 
@@ -142,14 +143,8 @@ tweak_cost_is p t spans covered i legal fit opened pos le f =
       | false ↦ λ e. omega arith
     ] refl) in
     let sum = total_plus (λ j. cond (eqb i j) 1 0) (λ j. length (ks j)) 1 n in
-    omega (
-      arith,
-      all,
-      split,
-      sum,
-      total_point i 1 1 n (omega (arith, pos)) (omega (arith, le)),
-      come_count p t covered i f.o fit.fit,
-    )
+    let point = total_point i 1 1 n (omega (arith, pos)) (omega (arith, le)) in
+    omega (arith, all, split, sum, point, come_count p t covered i f.o fit.fit)
 
 -- ---- the option is hidden, if the item is open
 

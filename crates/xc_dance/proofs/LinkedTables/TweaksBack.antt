@@ -80,7 +80,8 @@ none_yet p t true i j = refl
 none_yet p t false i j = refl
 
 come_same : (p : Puzzle) (t s : List Move) (covered : Bool) (i j : ℕ) (os : List ℕ)
-    → map (color_in p s) (layout p) ≡ map (color_in p t) (layout p) → to_come p s covered i j os ≡ to_come p t covered i j os
+    → map (color_in p s) (layout p) ≡ map (color_in p t) (layout p)
+    → to_come p s covered i j os ≡ to_come p t covered i j os
 come_same p t s covered i j os same =
     ap (λ (cs : List ℕ). cond covered []
     (filter (λ o. is_in j (other_items p o i) && not (eqb (get_or cs (link_place p j o) 0) MARK)) os)) same
