@@ -147,23 +147,7 @@ leaves_by : (p : Puzzle) (t : List Move) (i j x : ℕ) → IsFit p
     ((not (eqb j i) && is_some (colour_in (uses_of p x) j)) && not (is_mark p (color_in p t) x j))
 leaves_by p t i j x fit = ap (λ b. b && not (is_mark p (color_in p t) x j)) (in_others p x i j (fit.distinct x))
 
--- from a closed item's list none leaves
-pub leaves_shut : (p : Puzzle) (t : List Move) (i j : ℕ) (gs : List ℕ) → AreLegal p t → IsLaid p → IsFit p
-    → is_open i t ≡ true → InRange p j → AreOf p t i gs → is_open j t ≡ false
-    → filter (leaves p (color_in p t) i j) gs ≡ []
-leaves_shut p t i j gs legal laid fit opened r of shut =
-    none_in (leaves p (color_in p t) i j) 0 gs (Rises-filter (leaves p (color_in p t) i j) 0 gs of.rise)
-    (λ x e. leaves_by p t i j x fit
-    ∙ elim (is_some (colour_in (uses_of p x) j)) as
-    (λ b. is_some (colour_in (uses_of p x) j) ≡ b
-    → ((not (eqb j i) && b) && not (is_mark p (color_in p t) x j)) ≡ false) [
-      | true ↦ λ n. ap (λ b. (not (eqb j i) && true) && not b)
-          ((met_at p t i j x legal laid fit opened r.0 r.1 (of.among x e) n).shut shut)
-          ∙ and-false (not (eqb j i) && true)
-      | false ↦ λ n. ap (λ b. b && not (is_mark p (color_in p t) x j)) (and-false (not (eqb j i)))
-    ] refl)
-
--- nor from the list that is walked
+-- none leaves the list that is walked
 pub leaves_own : (p : Puzzle) (t : List Move) (i : ℕ) (gs : List ℕ) → IsFit p → Rises 0 gs
     → filter (leaves p (color_in p t) i i) gs ≡ []
 leaves_own p t i gs fit rise =
@@ -172,58 +156,47 @@ leaves_own p t i gs fit rise =
     ∙ ap (λ b. (not b && is_some (colour_in (uses_of p x) i)) && not (is_mark p (color_in p t) x i))
     (eq-eqb i i refl))
 
--- from an open item's list those of them that it has
-pub leaves_open : (p : Puzzle) (t : List Move) (i j : ℕ) (gs : List ℕ) → AreLegal p t → IsLaid p → IsFit p
-    → is_open i t ≡ true → InRange p j → AreOf p t i gs → j ≢ i → is_open j t ≡ true →
-    filter (leaves p (color_in p t) i j) gs ≡ filter (λ x. is_in x gs) (listed_numbers p t j)
-leaves_open p t i j gs legal laid fit opened r of ne j_open =
+-- each leaves the lists of the other open items that it is in
+leaves_at : (p : Puzzle) (t : List Move) (i j x : ℕ) → AreLegal p t → IsLaid p → IsFit p → is_open i t ≡ true
+    → InRange p j → j ≢ i → is_in x (listed_numbers p t i) ≡ true
+    → leaves p (color_in p t) i j x ≡ (is_open j t && is_in x (listed_numbers p t j))
+leaves_at p t i j x legal laid fit opened r ne within =
+    let there = element_of (Named p j) x (listed_numbers p t j) (numbers_named p t j) in
+    let met : Named p j x → Met p t x j = met_at p t i j x legal laid fit opened r.0 r.1 within in
+    leaves_by p t i j x fit ∙ rw (ne_eqb j i ne)
+    (elim (is_some (colour_in (uses_of p x) j)) as (λ b. is_some (colour_in (uses_of p x) j) ≡ b
+    → (b && not (is_mark p (color_in p t) x j)) ≡ (is_open j t && is_in x (listed_numbers p t j))) [
+      | true ↦ λ n. let m = met n in grind (arith, common_steps)
+      | false ↦ λ n. grind (arith, common_steps)
+    ] refl)
+
+pub leaves_are : (p : Puzzle) (t : List Move) (i j : ℕ) (gs : List ℕ) → AreLegal p t → IsLaid p → IsFit p
+    → is_open i t ≡ true → InRange p j → AreOf p t i gs → j ≢ i →
+    filter (leaves p (color_in p t) i j) gs ≡ filter (λ x. is_open j t && is_in x gs) (listed_numbers p t j)
+leaves_are p t i j gs legal laid fit opened r of ne =
     same_members 0 _ _ (Rises-filter (leaves p (color_in p t) i j) 0 gs of.rise)
-    (Rises-filter (λ x. is_in x gs) 0 (listed_numbers p t j) (rises_listed p t j))
+    (Rises-filter (λ x. is_open j t && is_in x gs) 0 (listed_numbers p t j) (rises_listed p t j))
     (λ x.
     in_filter (leaves p (color_in p t) i j) x gs
     ∙ elim (is_in x gs) as (λ b. is_in x gs ≡ b
-    → (leaves p (color_in p t) i j x && b) ≡ (b && is_in x (listed_numbers p t j))) [
-      | true ↦ λ e.
-          ap (λ b. b && true) (leaves_by p t i j x fit
-          ∙ ap (λ b. (not b && is_some (colour_in (uses_of p x) j)) && not (is_mark p (color_in p t) x j))
-          (ne_eqb j i ne))
-          ∙ elim (is_some (colour_in (uses_of p x) j)) as
-          (λ b. is_some (colour_in (uses_of p x) j) ≡ b
-          → ((b && not (is_mark p (color_in p t) x j)) && true) ≡ is_in x (listed_numbers p t j)) [
-            | true ↦ λ n.
-                let met = (met_at p t i j x legal laid fit opened r.0 r.1 (of.among x e) n).opened j_open in
-                ap (λ b. (true && not b) && true) met.0 ∙ sym met.1
-            | false ↦ λ n. elim (is_in x (listed_numbers p t j)) as
-                (λ b. is_in x (listed_numbers p t j) ≡ b → false ≡ b) [
-                  | true ↦ λ f. absurd (false≢true
-                      (sym n ∙ element_of (Named p j) x (listed_numbers p t j) (numbers_named p t j) f))
-                  | false ↦ λ f. refl
-                ] refl
-          ] refl
+    → (leaves p (color_in p t) i j x && b) ≡ ((is_open j t && b) && is_in x (listed_numbers p t j))) [
+      | true ↦ λ e. ap (λ b. b && true) (leaves_at p t i j x legal laid fit opened r ne (of.among x e)) ∙ grind (arith, common_steps)
       | false ↦ λ e. and-false (leaves p (color_in p t) i j x)
+          ∙ sym (ap (λ b. b && is_in x (listed_numbers p t j)) (and-false (is_open j t)))
     ] refl
-    ∙ sym (in_filter (λ x. is_in x gs) x (listed_numbers p t j)))
+    ∙ sym (in_filter (λ x. is_open j t && is_in x gs) x (listed_numbers p t j)))
 
 -- so each other item's line loses what the move takes
 pub cut_others : (p : Puzzle) (t : List Move) (m : Move) (i j : ℕ) (gs : List ℕ) → AreLegal p t → IsLaid p → IsFit p
     → is_open i t ≡ true → InRange p j → AreOf p t i gs → TakesOut p t m i gs → j ≢ i
     → SameCut p t m j (filter (leaves p (color_in p t) i j) gs)
-cut_others p t m i j gs legal laid fit opened r of takes ne =
-    elim (is_open j t) as (λ b. is_open j t ≡ b → SameCut p t m j (filter (leaves p (color_in p t) i j) gs)) [
-      | true ↦ λ e. record {
-        test = λ x. is_in x gs;
-        cut_is = leaves_open p t i j gs legal laid fit opened r of ne e;
-        stay_is = takes.others j ne
-            ∙ ap (λ b. cond b (stay (λ x. is_in x gs) (listed_numbers p t j)) (listed_numbers p t j)) e;
-      }
-      | false ↦ λ e. record {
-        test = λ x. false;
-        cut_is = leaves_shut p t i j gs legal laid fit opened r of e ∙ sym (leave_none (listed_numbers p t j));
-        stay_is = takes.others j ne
-            ∙ ap (λ b. cond b (stay (λ x. is_in x gs) (listed_numbers p t j)) (listed_numbers p t j)) e
-            ∙ sym (stay_all (listed_numbers p t j));
-      }
-    ] refl
+cut_others p t m i j gs legal laid fit opened r of takes ne = record {
+  test = λ x. is_open j t && is_in x gs;
+  cut_is = leaves_are p t i j gs legal laid fit opened r of ne;
+  stay_is = takes.others j ne ∙ elim (is_open j t) as (λ b.
+      cond b (stay (λ x. is_in x gs) (listed_numbers p t j)) (listed_numbers p t j) ≡
+      stay (λ x. b && is_in x gs) (listed_numbers p t j)) [ true ↦ refl | false ↦ sym (stay_all (listed_numbers p t j)) ];
+}
 
 -- and its own none, where the move takes none from it
 pub cut_own : (p : Puzzle) (t : List Move) (m : Move) (i : ℕ) (gs : List ℕ) → IsFit p → Rises 0 gs

@@ -34,8 +34,7 @@ use Rattle.xc_dance.proofs.LinkedTables.LinkColumns.{map_same, get_down, same_no
 use Rattle.xc_dance.proofs.LinkedTables.OtherItems.{leaves}
 use Rattle.xc_dance.proofs.LinkedTables.GoodLines.{SameCut, line_after, Named, numbers_named, numbers_few, tables_same}
 use Rattle.xc_dance.proofs.LinkedTables.GoodLines.{line_is}
-use Rattle.xc_dance.proofs.LinkedTables.Leaving.{cut_others, first_alone, takes_tweak, tweak_own, AreOf, leaves_open}
-use Rattle.xc_dance.proofs.LinkedTables.Leaving.{leaves_shut}
+use Rattle.xc_dance.proofs.LinkedTables.Leaving.{leaves_are, cut_others, first_alone, takes_tweak, tweak_own, AreOf}
 use Rattle.xc_dance.proofs.LinkedTables.Spacers.{others_are}
 use Rattle.xc_dance.proofs.LinkedTables.TweakStep.{tweak_made, HasFirst, has_first, tweak_cut}
 use Rattle.xc_dance.proofs.LinkedTables.TweakStep.{tweak_colours}
@@ -237,15 +236,7 @@ come_is : (p : Puzzle) (t : List Move) (spans : List Span) (covered : Bool) (i j
     (f : ℕ → Bool) × (to_come p t covered i j os ≡ filter f (listed_numbers p t j))
 come_is p t spans true i j os legal fit shut of pos le ne = (λ x. false, sym (leave_none (listed_numbers p t j)))
 come_is p t spans false i j os legal fit opened of pos le ne =
-    elim (is_open j t) as (λ b. is_open j t ≡ b → (f : ℕ → Bool)
-    × (filter (leaves p (color_in p t) i j) os ≡ filter f (listed_numbers p t j))) [
-      | true ↦ λ e. (λ x. is_in x os, leaves_open p t i j os legal fit.laid fit.fit opened (pos, le) of ne e)
-      | false ↦ λ e. (
-        λ x. false,
-        leaves_shut p t i j os legal fit.laid fit.fit opened (pos, le) of e
-            ∙ sym (leave_none (listed_numbers p t j)),
-      )
-    ] refl
+    (λ x. is_open j t && is_in x os, leaves_are p t i j os legal fit.laid fit.fit opened (pos, le) of ne)
 
 start_other : (p : Puzzle) (t : List Move) (spans : List Span) (covered : Bool) (i j : ℕ) (os : List ℕ) → AreLegal p t
     → IsFitted p spans → is_open i t ≡ not covered → AreOf p t i os → 0 < j → j ≤ item_count p → j ≢ i →
