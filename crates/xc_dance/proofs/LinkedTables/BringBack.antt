@@ -188,10 +188,8 @@ raised l o = record { len = l.len; up = put_at l.up (l.down o) o; down = l.down 
 
 pub top_kept : (ln : ℕ → Line) (i : ℕ) (l : Line) (n : Node) → l.len ≡ (ln i).len
     → top_in (with_line ln i l) n ≡ top_in ln n
-top_kept ln i l unused e = grind (arith, common_steps, eqb-true)
-top_kept ln i l (spacer m) e = grind (arith, common_steps, eqb-true)
-top_kept ln i l (used o u) e = grind (arith, common_steps, eqb-true)
 top_kept ln i l (own k) e = grind (arith, common_steps, eqb-true)
+top_kept ln i l _ e = refl
 
 pub down_kept : (p : Puzzle) (ln : ℕ → Line) (i : ℕ) (l : Line) (n : Node) → ((x : ℕ) → l.down x ≡ (ln i).down x)
     → dlink_in p (with_line ln i l) n ≡ dlink_in p ln n

@@ -82,10 +82,7 @@ ready_at p t i x legal laid fit opened within =
       r.0,
       r.1,
       named,
-      λ un. elim (is_open j t) as (λ b. is_open j t ≡ b → Stands (listed_numbers p t j) x) [
-        | true ↦ λ f. stands_in x (listed_numbers p t j) (m.opened f).1
-        | false ↦ λ f. absurd (false≢true (sym un ∙ m.shut f))
-      ] refl,
+      λ un. grind (arith, common_steps, false≢true, stands_in),
     ))
     (others_apart p x i fit)
 
@@ -164,11 +161,7 @@ leaves_at p t i j x legal laid fit opened r ne within =
     let there = element_of (Named p j) x (listed_numbers p t j) (numbers_named p t j) in
     let met : Named p j x → Met p t x j = met_at p t i j x legal laid fit opened r.0 r.1 within in
     leaves_by p t i j x fit ∙ rw (ne_eqb j i ne)
-    (elim (is_some (colour_in (uses_of p x) j)) as (λ b. is_some (colour_in (uses_of p x) j) ≡ b
-    → (b && not (is_mark p (color_in p t) x j)) ≡ (is_open j t && is_in x (listed_numbers p t j))) [
-      | true ↦ λ n. let m = met n in grind (arith, common_steps)
-      | false ↦ λ n. grind (arith, common_steps)
-    ] refl)
+    (grind (arith, common_steps))
 
 pub leaves_are : (p : Puzzle) (t : List Move) (i j : ℕ) (gs : List ℕ) → AreLegal p t → IsLaid p → IsFit p
     → is_open i t ≡ true → InRange p j → AreOf p t i gs → j ≢ i →
@@ -178,12 +171,7 @@ leaves_are p t i j gs legal laid fit opened r of ne =
     (Rises-filter (λ x. is_open j t && is_in x gs) 0 (listed_numbers p t j) (rises_listed p t j))
     (λ x.
     in_filter (leaves p (color_in p t) i j) x gs
-    ∙ elim (is_in x gs) as (λ b. is_in x gs ≡ b
-    → (leaves p (color_in p t) i j x && b) ≡ ((is_open j t && b) && is_in x (listed_numbers p t j))) [
-      | true ↦ λ e. ap (λ b. b && true) (leaves_at p t i j x legal laid fit opened r ne (of.among x e)) ∙ grind (arith, common_steps)
-      | false ↦ λ e. and-false (leaves p (color_in p t) i j x)
-          ∙ sym (ap (λ b. b && is_in x (listed_numbers p t j)) (and-false (is_open j t)))
-    ] refl
+    ∙ grind (arith, common_steps, and-false, leaves_at)
     ∙ sym (in_filter (λ x. is_open j t && is_in x gs) x (listed_numbers p t j)))
 
 -- so each other item's line loses what the move takes
@@ -194,8 +182,8 @@ cut_others p t m i j gs legal laid fit opened r of takes ne = record {
   test = λ x. is_open j t && is_in x gs;
   cut_is = leaves_are p t i j gs legal laid fit opened r of ne;
   stay_is = takes.others j ne ∙ elim (is_open j t) as (λ b.
-      cond b (stay (λ x. is_in x gs) (listed_numbers p t j)) (listed_numbers p t j) ≡
-      stay (λ x. b && is_in x gs) (listed_numbers p t j)) [ true ↦ refl | false ↦ sym (stay_all (listed_numbers p t j)) ];
+      cond b (stay (λ x. is_in x gs) (listed_numbers p t j)) (listed_numbers p t j) ≡ stay (λ x. b && is_in x gs)
+      (listed_numbers p t j)) [ true ↦ refl | false ↦ sym (stay_all (listed_numbers p t j)) ];
 }
 
 -- and its own none, where the move takes none from it

@@ -44,10 +44,7 @@ pub color_put : (p : Puzzle) (col : Node → ℕ) (j x v : ℕ) → IsLaid p →
     → map (with_color col j x v) (layout p) ≡ set (map col (layout p)) (link_place p j x) v
 color_put p col j x v laid h =
     map_put col (with_color col j x v) (layout p) (link_place p j x) v
-    (λ q n at ne. elim (is_slot j x (slot_of n)) as (λ b. is_slot j x (slot_of n) ≡ b → cond b v (col n) ≡ col n) [
-      | true ↦ λ e. absurd (ne (sym (laid.unique q n j x at (slot_is j x (slot_of n) e))))
-      | false ↦ λ e. refl
-    ] refl)
+    (λ q n at ne. grind (arith, common_steps, slot_is))
     (λ n at.
     let same : n ≡ h.node = same_at (layout p) (link_place p j x) n h.node at h.at in
     ap (λ b. cond b v (col n)) (slot_here j x (slot_of n) (ap slot_of same ∙ h.slot)))

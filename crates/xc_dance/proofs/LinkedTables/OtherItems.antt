@@ -42,12 +42,7 @@ others_by (u ∷ us) i k d =
       | true ↦ λ e.
           let at_i : u.item ≡ i = eqb-true u.item i e in
           or-false (is_in k (map (λ v. v.item) us)) ∙ items_of us k
-          ∙ elim (eqb u.item k) as
-          (λ c. eqb u.item k ≡ c → is_some (colour_in us k) ≡
-          (not (eqb k i) && is_some (cond c (Some u.colour) (colour_in us k)))) [
-            | true ↦ λ f. grind (arith, common_steps, eq-eqb, eqb-true)
-            | false ↦ λ f. grind (arith, common_steps, eqb-false, ne_eqb)
-          ] refl
+          ∙ grind (arith, common_steps, eq-eqb, eqb-false, eqb-true, ne_eqb)
       | false ↦ λ e.
           or_swap (is_in k (behind_use i us)) (eqb u.item k) (is_in k (before_use i us))
           ∙ elim (eqb u.item k) as

@@ -332,15 +332,10 @@ pub leave_none : (xs : List ℕ) → filter (λ (x : ℕ). false) xs ≡ []
 leave_none [] = refl
 leave_none (x ∷ xs) = leave_none xs
 
-pub others_stay : (x n : ℕ) (ys : List ℕ) → x ≤ n → Rises n ys → stay (λ y. eqb y x) ys ≡ ys
-others_stay x n [] le r = refl
-others_stay x n (y ∷ ys) le r =
-    rw (ne_eqb y x (λ e. omega (arith, e, r.0, le)))
-    (ap (λ ks. y ∷ ks) (others_stay x y ys (omega (arith, r.0, le)) r.1))
-
 pub drop_first : (n : ℕ) (xs : List ℕ) → Rises n xs → drop 1 xs ≡ stay (λ x. eqb x (first_of 0 xs)) xs
 drop_first n [] r = refl
-drop_first n (x ∷ xs) r = rw (eq-eqb x x refl) (sym (others_stay x x xs (omega arith) r.1))
+drop_first n (x ∷ xs) r = rw (eq-eqb x x refl)
+    (sym (stay_same x xs (λ e. false≢true (sym (not_in x x xs (omega arith) r.1) ∙ e))))
 
 pub record Shrinks (xs ks : List ℕ) : Type 0 where
   pub test : ℕ → Bool
@@ -360,9 +355,7 @@ drop_numbers (o ∷ os) = refl
 pub shrinks : (p : Puzzle) (t : List Move) (m : Move) (i : ℕ) → Rises 0 (listed_numbers p t i)
     → Shrinks (listed_numbers p t i) (listed_numbers p (m ∷ t) i)
 shrinks p t (Cover j) i r = grind (arith, common_steps, by_case, drop_first, drop_numbers, eqb-true, same_list)
-shrinks p t (Purify j c) i r = grind (arith, common_steps, by_case, drop_first, drop_numbers, eqb-true, same_list)
-shrinks p t (Tweak j) i r = grind (arith, common_steps, by_case, drop_first, drop_numbers, eqb-true, same_list)
-shrinks p t (Spend j) i r = grind (arith, common_steps, by_case, drop_first, drop_numbers, eqb-true, same_list)
+shrinks p t _ i r = grind (arith, common_steps, by_case, drop_first, drop_numbers, eqb-true, same_list)
 
 -- ---- the line after a move
 
@@ -377,11 +370,6 @@ pub down_after : (p : Puzzle) (t : List Move) (m : Move) (j : ℕ) (l : Line)
     → down_of p (m ∷ t) j x ≡ l.down x
 down_after p t m j l s zero = grind (arith, common_steps)
 down_after p t m j l s (suc x) = grind (arith, common_steps)
-
-linked_same : (l m : Line) (a : ℕ) (xs : List ℕ) → ((x : ℕ) → m.up x ≡ l.up x) → ((x : ℕ) → m.down x ≡ l.down x)
-    → IsLinkedFrom l a xs → IsLinkedFrom m a xs
-linked_same l m a [] up down h = (down a ∙ h.0, up 0 ∙ h.1)
-linked_same l m a (x ∷ xs) up down h = (h.0, down a ∙ h.1, up x ∙ h.2, linked_same l m x xs up down h.3)
 
 built : (p : Puzzle) (j : ℕ) → IsLinkedFrom (line_of p [] j) 0 (listed_numbers p [] j)
 built p j =
@@ -398,5 +386,5 @@ stands p (m ∷ t) j =
     let l : Line = cuts (line_of p t j) (filter sh.test xs) in
     let s : Swept (line_of p t j) l 0 xs (listed_numbers p (m ∷ t) j) =
     subst (Swept (line_of p t j) l 0 xs) (sym sh.is) (swept (line_of p t j) 0 xs sh.test (stands p t j)) in
-    linked_same l (line_of p (m ∷ t) j) 0 (listed_numbers p (m ∷ t) j) (up_after p t m j l s) (down_after p t m j l s)
-    s.linked
+    IsLinkedFrom-same l (line_of p (m ∷ t) j) 0 (listed_numbers p (m ∷ t) j) (λ k le. down_after p t m j l s k)
+    (λ k lt. up_after p t m j l s k) (up_after p t m j l s 0) s.linked

@@ -1,4 +1,5 @@
 -- The nodes of an option's uses, and what the tables tell there: for calls that go over an option by its nodes.
+use Rattle.std.proofs.lemmas.Grind.{common_steps}
 use Rattle.std.proofs.Common.{◌≡◌, ℕ, zero, suc, ◌+◌, ◌-◌, ◌<◌, ◌≤◌, true, false, cond, not, eqb, List, [], ◌∷◌, length}
 use Rattle.std.proofs.Common.{get_or, drop, take, Some, Option, refl, ap, sym, ◌∙◌, arith, subst, eqb-true, eq-eqb}
 use Rattle.std.proofs.Common.{ne_eqb}
@@ -127,17 +128,7 @@ slot_number i y (used n u) e h = ap (λ (s : Option (ℕ × ℕ)). (unwrap_or s 
 pub option_there : (p : Puzzle) (i y : ℕ) → IsLaid p → 0 < i → i ≤ item_count p → IsName p i y
     → option_at p i (link_place p i y) ≡ named y
 option_there p i y laid pos le name =
-    elim (eqb y 0) as (λ b. eqb y 0 ≡ b → option_at p i (link_place p i y) ≡ named y) [
-      | true ↦ λ e. (let z = eqb-true y 0 e in subst (λ y. option_at p i (link_place p i y) ≡ named y) (sym z)
-          (rw (eq-eqb i i refl) refl))
-      | false ↦ λ e.
-          let q = laid.there i y pos le name in
-          let other : eqb (link_place p i y) i ≡ false =
-          ne_eqb (link_place p i y) i
-          (λ h. let z : eqb y 0 ≡ true = eq-eqb y 0 (at_own p i y pos le name (sym h)) in cc (z, e)) in
-          rw (other, e) (ap (λ o. Some (unwrap_or (option_map number_of o) 0)) q.at
-          ∙ ap Some (slot_number i y q.node q.slot (above_zero y e)))
-    ] refl
+    grind (arith, common_steps, above_zero, at_own, eq-eqb, eqb-true, ne_eqb, slot_number)
 
 -- ---- uses that stand side by side
 

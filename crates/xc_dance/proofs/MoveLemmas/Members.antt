@@ -31,10 +31,7 @@ same_members n (x ∷ xs) [] r s h = absurd (false≢true (sym (h x) ∙ is_in-f
 same_members n (x ∷ xs) (y ∷ ys) r s h =
     let y_in : is_in y (x ∷ xs) ≡ true = first_in y ys (x ∷ xs) (h y) in
     let x_in : is_in x (y ∷ ys) ≡ true = sym (h x) ∙ is_in-first x xs in
-    let le : x ≤ y = elim (eqb x y) as (λ b. eqb x y ≡ b → (b || is_in y xs) ≡ true → x ≤ y) [
-      | true ↦ λ e f. omega (arith, eqb-true x y e)
-      | false ↦ λ e f. omega (arith, in_above x y xs r.1 f)
-    ] refl y_in in
+    let le : x ≤ y = grind (arith, common_steps, eqb-true, in_above) in
     let ge : y ≤ x = elim (eqb y x) as (λ b. eqb y x ≡ b → (b || is_in x ys) ≡ true → y ≤ x) [
       | true ↦ λ e f. omega (arith, eqb-true y x e)
       | false ↦ λ e f. omega (arith, in_above y x ys s.1 f)
@@ -51,7 +48,4 @@ same_members n (x ∷ xs) (y ∷ ys) r s h =
 pub none_in : (f : ℕ → Bool) (n : ℕ) (xs : List ℕ) → Rises n (filter f xs) → ((x : ℕ) → is_in x xs ≡ true → f x ≡ false)
     → filter f xs ≡ []
 none_in f n xs r h = same_members n (filter f xs) [] r tt (λ x. in_filter f x xs
-    ∙ elim (is_in x xs) as (λ b. is_in x xs ≡ b → (f x && b) ≡ false) [
-      | true ↦ λ e. ap (λ b. b && true) (h x e)
-      | false ↦ λ e. elim (f x) as (λ b. (b && false) ≡ false) [ true ↦ refl | false ↦ refl ]
-    ] refl)
+    ∙ grind (arith, common_steps))

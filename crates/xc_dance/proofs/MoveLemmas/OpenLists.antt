@@ -20,10 +20,8 @@ use Rattle.xc_dance.proofs.MoveLemmas.OptionsRise.{NumbersRise, NumbersRise-weak
 
 pub left_rises : (p : Puzzle) (t : List Move) → NumbersRise 0 (left p t)
 left_rises p [] = grind (arith, common_steps, NumbersRise-filter, options_rise)
-left_rises p (Cover j ∷ t) = grind (arith, common_steps, NumbersRise-filter, options_rise, left_rises p t)
-left_rises p (Purify j c ∷ t) = grind (arith, common_steps, NumbersRise-filter, options_rise, left_rises p t)
-left_rises p (Tweak j ∷ t) = grind (arith, common_steps, NumbersRise-filter, options_rise, left_rises p t)
-left_rises p (Spend j ∷ t) = grind (arith, common_steps, NumbersRise-filter, options_rise, left_rises p t)
+left_rises p (Cover j ∷ t) = grind (arith, common_steps, NumbersRise-filter, left_rises p t)
+left_rises p (_ ∷ t) = grind (arith, common_steps, NumbersRise-filter, left_rises p t)
 
 above : (n : ℕ) (os : List Numbered) → NumbersRise n os → AllByRecursion (λ o. n < o.number) os
 above n [] r = tt

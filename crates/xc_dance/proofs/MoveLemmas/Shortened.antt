@@ -105,11 +105,7 @@ pub rises_listed : (p : Puzzle) (t : List Move) (i : ℕ) → Rises 0 (listed_nu
 rises_listed p [] i = grind (arith, common_steps, eqb-true, rises_drop, rises_filter, rises_from, rises_if)
 rises_listed p (Cover j ∷ t) i =
     grind (arith, common_steps, eqb-true, rises_drop, rises_filter, rises_from, rises_if, rises_listed p t i)
-rises_listed p (Purify j c ∷ t) i =
-    grind (arith, common_steps, eqb-true, rises_drop, rises_filter, rises_from, rises_if, rises_listed p t i)
-rises_listed p (Tweak j ∷ t) i =
-    grind (arith, common_steps, eqb-true, rises_drop, rises_filter, rises_from, rises_if, rises_listed p t i)
-rises_listed p (Spend j ∷ t) i =
+rises_listed p (_ ∷ t) i =
     grind (arith, common_steps, eqb-true, rises_drop, rises_filter, rises_from, rises_if, rises_listed p t i)
 
 -- ---- the lists of all items

@@ -46,7 +46,6 @@ open_state i t e = grind (arith, common_steps, open_by_state)
 pub open_is : (t : List Move) (i : ℕ) → (not (is_covered i t) && not (is_some (purified i t))) ≡ is_open i t
 open_is [] i = grind (arith, common_steps, and-false)
 open_is (Cover j ∷ t) i = grind (arith, common_steps, and-false, open_is t i)
-open_is (Purify j c ∷ t) i = grind (arith, common_steps, and-false, open_is t i)
 open_is (_ ∷ t) i = grind (arith, common_steps, and-false, open_is t i)
 
 pub open_uncovered : (i : ℕ) (t : List Move) → is_open i t ≡ true → is_covered i t ≡ false
@@ -88,8 +87,6 @@ pub purified_by_state : (p : Puzzle) (i : ℕ) (t : List Move) → AreLegal p t
     → is_some (purified i t) ≡ is_purified_state (state_of i t)
 purified_by_state p i [] legal = grind (arith, common_steps, eqb-true, open_unpurified)
 purified_by_state p i (Cover j ∷ t) legal =
-    grind (arith, common_steps, eqb-true, open_unpurified, purified_by_state p i t legal.1)
-purified_by_state p i (Purify j c ∷ t) legal =
     grind (arith, common_steps, eqb-true, open_unpurified, purified_by_state p i t legal.1)
 purified_by_state p i (_ ∷ t) legal =
     grind (arith, common_steps, eqb-true, open_unpurified, purified_by_state p i t legal.1)
