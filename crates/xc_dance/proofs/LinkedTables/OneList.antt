@@ -30,6 +30,7 @@ use Rattle.xc_dance.proofs.LinkedTables.Spacers.{Turns, turns}
 use Rattle.xc_dance.proofs.LinkedTables.Walks.{costs-append}
 use Rattle.xc_dance.specs.declared.links.nodes.TheConstants.{MARK}
 use Rattle.xc_dance.proofs.LinkedTables.Sweep.{is_in-first}
+use Rattle.xc_dance.proofs.LinkedTables.LinkColumns.{same_at}
 
 -- ---- the colour of one node of the table
 
@@ -48,9 +49,6 @@ color_put p col j x v laid h =
     (λ n at.
     let same : n ≡ h.node = same_at (layout p) (link_place p j x) n h.node at h.at in
     ap (λ b. cond b v (col n)) (slot_here j x (slot_of n) (ap slot_of same ∙ h.slot)))
-  where
-    same_at : (ns : List Node) (k : ℕ) (m n : Node) → slice_get ns k ≡ Some m → slice_get ns k ≡ Some n → m ≡ n
-    same_at ns k m n a b = let e : Some m ≡ Some n = sym a ∙ b in cc
 
 -- a node is coloured in the table
 pub coloured_is : (p : Puzzle) (col : Node → ℕ) (ln : ℕ → Line) (j x v : ℕ) → IsLaid p → Placed p j x

@@ -22,11 +22,6 @@ use Rattle.xc_dance.proofs.LinkedTables.OneList.{left_list}
 
 -- ---- the other items of an option, and what its leaving does to the line of one item
 
-pub or_swap : (a b c : Bool) → (a || (b || c)) ≡ (b || (a || c))
-or_swap true true c = refl
-or_swap true false c = refl
-or_swap false b c = refl
-
 pub items_of : (us : List Use) (k : ℕ) → is_in k (map (λ u. u.item) us) ≡ is_some (colour_in us k)
 items_of [] k = grind (arith, common_steps)
 items_of (u ∷ us) k = grind (arith, common_steps, items_of us k)
@@ -43,14 +38,7 @@ others_by (u ∷ us) i k d =
           let at_i : u.item ≡ i = eqb-true u.item i e in
           or-false (is_in k (map (λ v. v.item) us)) ∙ items_of us k
           ∙ grind (arith, common_steps, eq-eqb, eqb-false, eqb-true, ne_eqb)
-      | false ↦ λ e.
-          or_swap (is_in k (behind_use i us)) (eqb u.item k) (is_in k (before_use i us))
-          ∙ elim (eqb u.item k) as
-          (λ c. eqb u.item k ≡ c → (c || (is_in k (behind_use i us) || is_in k (before_use i us))) ≡
-          (not (eqb k i) && is_some (cond c (Some u.colour) (colour_in us k)))) [
-            | true ↦ λ f. grind (arith, common_steps, eqb-false, eqb-true, ne_eqb)
-            | false ↦ λ f. others_by us i k d.1
-          ] refl
+      | false ↦ λ e. let rest = others_by us i k d.1 in grind (arith, common_steps, eqb-false, eqb-true, ne_eqb)
     ] refl
 
 pub in_others : (p : Puzzle) (o i k : ℕ) → AreDistinct (uses_of p o)

@@ -26,6 +26,8 @@ use Rattle.xc_dance.proofs.LinkedTables.TopCells.{dlink_cell, color_own, color_u
 use Rattle.xc_dance.proofs.LinkedTables.TopCells.{natural_same, same_list, IsSound, top_cells}
 use Rattle.xc_dance.proofs.LinkedTables.LinkColumns.{same_nodes}
 use Rattle.xc_dance.proofs.LinkedTables.RingStep.{same_items}
+use Rattle.std.proofs.Common.{Option, ℤ}
+use Rattle.xc_dance.specs.inner.Links.ItemCells.{bound_at, slack_at}
 
 -- ---- tables have the same columns exactly where they have the same fields
 
@@ -41,30 +43,30 @@ by_zero P z h k =
 pub row_first : (f : ℕ → ℕ) (n : ℕ) → slice_get (map f (range_with_len 0 (n + 1))) 0 ≡ Some (f 0)
 row_first f n = let s : n + 1 ≡ suc n = omega arith in ap (λ m. slice_get (map f (range_with_len 0 m)) 0) s
 
+-- rows that are read alike are the same
+rows_same : (xs ys : List ℕ) (f g : ℕ → Option ℤ) → ((k : ℕ) → option_map natural (slice_get xs k) ≡ f k)
+    → ((k : ℕ) → option_map natural (slice_get ys k) ≡ g k) → ((k : ℕ) → f k ≡ g k) → xs ≡ ys
+rows_same xs ys f g a b h =
+    same_list xs ys (λ k. natural_same (slice_get xs k) (slice_get ys k) (a k ∙ h k ∙ sym (b k)))
+
+rows_behind : (xs ys : List ℕ) (f g : ℕ → Option ℤ) → slice_get xs 0 ≡ slice_get ys 0
+    → ((k : ℕ) → k ≢ 0 → option_map natural (slice_get xs k) ≡ f k)
+    → ((k : ℕ) → k ≢ 0 → option_map natural (slice_get ys k) ≡ g k) → ((k : ℕ) → f k ≡ g k) → xs ≡ ys
+rows_behind xs ys f g first a b h =
+    same_list xs ys (by_zero (λ k. slice_get xs k ≡ slice_get ys k) first
+    (λ k ne. natural_same (slice_get xs k) (slice_get ys k) (a k ne ∙ h k ∙ sym (b k ne))))
+
 pub llinks : (p q : Puzzle) (t s : List Move) → FieldsSame p t q s → (items_after p t).llink ≡ (items_after q s).llink
-llinks p q t s h = same_list (items_after p t).llink (items_after q s).llink
-    (λ k. natural_same (slice_get (items_after p t).llink k) (slice_get (items_after q s).llink k)
-    (llink_read p t k ∙ h Llink k ∙ sym (llink_read q s k)))
+llinks p q t s h = rows_same _ _ _ _ (llink_read p t) (llink_read q s) (h Llink)
 
 pub items_from : (p q : Puzzle) (t s : List Move) → FieldsSame p t q s → items_after p t ≡ items_after q s
 items_from p q t s h =
-    same_items (items_after p t) (items_after q s)
-    (llinks p q t s h)
-    (same_list (items_after p t).rlink (items_after q s).rlink
-    (λ k. natural_same (slice_get (items_after p t).rlink k) (slice_get (items_after q s).rlink k)
-    (rlink_read p t k ∙ h Rlink k ∙ sym (rlink_read q s k))))
-    (same_list (items_after p t).bound (items_after q s).bound
-    (by_zero (λ k. slice_get (items_after p t).bound k ≡ slice_get (items_after q s).bound k)
-    (row_first (Rattle.xc_dance.specs.inner.Links.ItemCells.bound_at p t) (primary_count p)
-    ∙ sym (row_first (Rattle.xc_dance.specs.inner.Links.ItemCells.bound_at q s) (primary_count q)))
-    (λ k ne. natural_same (slice_get (items_after p t).bound k) (slice_get (items_after q s).bound k)
-    (bound_read p t k ne ∙ h Bound k ∙ sym (bound_read q s k ne)))))
-    (same_list (items_after p t).slack (items_after q s).slack
-    (by_zero (λ k. slice_get (items_after p t).slack k ≡ slice_get (items_after q s).slack k)
-    (row_first (Rattle.xc_dance.specs.inner.Links.ItemCells.slack_at p) (primary_count p)
-    ∙ sym (row_first (Rattle.xc_dance.specs.inner.Links.ItemCells.slack_at q) (primary_count q)))
-    (λ k ne. natural_same (slice_get (items_after p t).slack k) (slice_get (items_after q s).slack k)
-    (slack_read p t k ne ∙ h Slack k ∙ sym (slack_read q s k ne)))))
+    same_items (items_after p t) (items_after q s) (llinks p q t s h)
+    (rows_same _ _ _ _ (rlink_read p t) (rlink_read q s) (h Rlink))
+    (rows_behind _ _ _ _ (row_first (bound_at p t) (primary_count p) ∙ sym (row_first (bound_at q s) (primary_count q)))
+    (bound_read p t) (bound_read q s) (h Bound))
+    (rows_behind _ _ _ _ (row_first (slack_at p) (primary_count p) ∙ sym (row_first (slack_at q) (primary_count q)))
+    (slack_read p t) (slack_read q s) (h Slack))
 
 -- tables with equal rows of links have as many items
 pub items_many : (p q : Puzzle) (t s : List Move) → (items_after p t).llink ≡ (items_after q s).llink
@@ -95,12 +97,8 @@ nodes_from_fields p q t s a b h =
     (same_list (nodes_after p t).top (nodes_after q s).top
     (λ k. top_cells p q t s k a b items
     (top_cell p t k a.laid a.fit a.items ∙ h Top k ∙ sym (top_cell q s k b.laid b.fit b.items))))
-    (same_list (nodes_after p t).ulink (nodes_after q s).ulink
-    (λ k. natural_same (slice_get (nodes_after p t).ulink k) (slice_get (nodes_after q s).ulink k)
-    (ulink_cell p t k a.laid ∙ h Ulink k ∙ sym (ulink_cell q s k b.laid))))
-    (same_list (nodes_after p t).dlink (nodes_after q s).dlink
-    (λ k. natural_same (slice_get (nodes_after p t).dlink k) (slice_get (nodes_after q s).dlink k)
-    (dlink_cell p t k a.laid ∙ h Dlink k ∙ sym (dlink_cell q s k b.laid))))
+    (rows_same _ _ _ _ (λ k. ulink_cell p t k a.laid) (λ k. ulink_cell q s k b.laid) (h Ulink))
+    (rows_same _ _ _ _ (λ k. dlink_cell p t k a.laid) (λ k. dlink_cell q s k b.laid) (h Dlink))
     (same_list (nodes_after p t).color (nodes_after q s).color (λ k. color_cells p q t s k a b items (h Color k)))
 
 -- and the other way round
@@ -111,20 +109,26 @@ fields_from p q t s a b i n f k = by_field f
     items : item_count p ≡ item_count q
     items = items_many p q t s (ap (λ (x : Items). x.llink) i)
 
-    bound_field : (k : ℕ) → field_of p t Bound k ≡ field_of q s Bound k
-    bound_field k =
+    by_field : (f : Field) → field_of p t f k ≡ field_of q s f k
+    by_field Llink =
+        sym (llink_read p t k) ∙ ap (λ (x : Items). option_map natural (slice_get x.llink k)) i ∙ llink_read q s k
+    by_field Rlink =
+        sym (rlink_read p t k) ∙ ap (λ (x : Items). option_map natural (slice_get x.rlink k)) i ∙ rlink_read q s k
+    by_field Bound =
         by_zero (λ k. field_of p t Bound k ≡ field_of q s Bound k) refl
         (λ k ne. sym (bound_read p t k ne) ∙ ap (λ (x : Items). option_map natural (slice_get x.bound k)) i
         ∙ bound_read q s k ne) k
-
-    slack_field : (k : ℕ) → field_of p t Slack k ≡ field_of q s Slack k
-    slack_field k =
+    by_field Slack =
         by_zero (λ k. field_of p t Slack k ≡ field_of q s Slack k) refl
         (λ k ne. sym (slack_read p t k ne) ∙ ap (λ (x : Items). option_map natural (slice_get x.slack k)) i
         ∙ slack_read q s k ne) k
-
-    color_field : field_of p t Color k ≡ field_of q s Color k
-    color_field =
+    by_field Top = sym (top_cell p t k a.laid a.fit a.items)
+        ∙ ap (λ (x : Nodes). option_map top_read (slice_get x.top k)) n ∙ top_cell q s k b.laid b.fit b.items
+    by_field Ulink = sym (ulink_cell p t k a.laid) ∙ ap (λ (x : Nodes). option_map natural (slice_get x.ulink k)) n
+        ∙ ulink_cell q s k b.laid
+    by_field Dlink = sym (dlink_cell p t k a.laid) ∙ ap (λ (x : Nodes). option_map natural (slice_get x.dlink k)) n
+        ∙ dlink_cell q s k b.laid
+    by_field Color =
         elim (ltb (item_count p) k) as (λ c. ltb (item_count p) k ≡ c → field_of p t Color k ≡ field_of q s Color k) [
           | true ↦ λ e. (let high = ltb-true (item_count p) k e in
               sym (color_use p t k a.laid a.fit high)
@@ -134,21 +138,6 @@ fields_from p q t s a b i n f k = by_field f
               sym (color_own p t k a.laid low) ∙ ap (λ (x : Nodes). option_map natural (slice_get x.color k)) n
               ∙ color_own q s k b.laid (omega (arith, low, items)))
         ] refl
-
-    by_field : (f : Field) → field_of p t f k ≡ field_of q s f k
-    by_field Llink =
-        sym (llink_read p t k) ∙ ap (λ (x : Items). option_map natural (slice_get x.llink k)) i ∙ llink_read q s k
-    by_field Rlink =
-        sym (rlink_read p t k) ∙ ap (λ (x : Items). option_map natural (slice_get x.rlink k)) i ∙ rlink_read q s k
-    by_field Bound = bound_field k
-    by_field Slack = slack_field k
-    by_field Top = sym (top_cell p t k a.laid a.fit a.items)
-        ∙ ap (λ (x : Nodes). option_map top_read (slice_get x.top k)) n ∙ top_cell q s k b.laid b.fit b.items
-    by_field Ulink = sym (ulink_cell p t k a.laid) ∙ ap (λ (x : Nodes). option_map natural (slice_get x.ulink k)) n
-        ∙ ulink_cell q s k b.laid
-    by_field Dlink = sym (dlink_cell p t k a.laid) ∙ ap (λ (x : Nodes). option_map natural (slice_get x.dlink k)) n
-        ∙ dlink_cell q s k b.laid
-    by_field Color = color_field
 
 -- ---- when two keepers of tables are the same
 

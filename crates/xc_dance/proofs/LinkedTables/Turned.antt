@@ -47,14 +47,8 @@ ring_rises p t false =
     Rises-filter (λ j. not (is_covered j t)) 0 (base p false)
     (Rises-weaker 0 (primary_count p) (base p false) (omega arith) (Rises-range (primary_count p) p.secondary))
 
-not_or : (a b : Bool) → not (a || b) ≡ (not b && not a)
-not_or true true = refl
-not_or true false = refl
-not_or false true = refl
-not_or false false = refl
-
 ring_next : (p : Puzzle) (t : List Move) (i : ℕ) (b : Bool) → ring p (Cover i ∷ t) b ≡ less i (ring p t b)
-ring_next p t i b = grind (arith, common_steps, filter_agree, filter_both, not_or)
+ring_next p t i b = grind (arith, common_steps, filter_agree, filter_both)
 
 -- ---- members
 

@@ -29,6 +29,8 @@ use Rattle.xc_dance.proofs.LinkedTables.OneOption.{is_mark}
 use Rattle.xc_dance.proofs.LinkedTables.LinkColumns.{get_map}
 use Rattle.xc_dance.proofs.LinkedTables.PlaceLemmas.{spacer_at, there}
 use Rattle.xc_dance.specs.declared.links.nodes.TheConstants.{MARK, SPACER}
+use Rattle.std.proofs.lemmas.Option.{slice_get-map}
+use Rattle.std.proofs.Common.{option_map}
 
 -- ---- what steps of hide and unhide write: 3 at each node that isn't marked
 
@@ -158,19 +160,15 @@ plain_unmarked p t legal fitted plain = record {
       let here = slice_get-get_or (layout p) x unused (omega (arith, lt, length-map (layout p) (span_of p))) in
       let d : Span = record { first = 0; end = 0 } in
       subst (λ (s : Span). HasUnmarked (nodes_after p t).color s x)
-      (sym (span_at (layout p) (span_of p) x (get_or (layout p) x unused) d here))
+      (sym (span_at (span_of p) x (get_or (layout p) x unused) d lt here))
       (by_node p t x (get_or (layout p) x unused) fitted.laid legal plain
       (omega (arith, lt, length-map (layout p) (span_of p), fitted.fit.near)) here);
 }
   where
-    span_at : (ns : List Node) (f : Node → Span) (k : ℕ) (n : Node) (d : Span) → slice_get ns k ≡ Some n
-        → get_or (map f ns) k d ≡ f n
-    span_at [] f k n d e = cc
-    span_at (m ∷ ns) f zero n d e = ap f (same_node m n e)
-      where
-        same_node : (a b : Node) → Some a ≡ Some b → a ≡ b
-        same_node a b e = cc
-    span_at (m ∷ ns) f (suc k) n d e = span_at ns f k n d e
+    span_at : (f : Node → Span) (k : ℕ) (n : Node) (d : Span) → k < length (map f (layout p))
+        → slice_get (layout p) k ≡ Some n → get_or (map f (layout p)) k d ≡ f n
+    span_at f k n d lt e = same_Some _ _
+        (sym (slice_get-get_or (map f (layout p)) k d lt) ∙ slice_get-map f (layout p) k ∙ ap (option_map f) e)
 
 -- the same for the tables of a keeper
 pub kept_unmarked : (p : Puzzle) (t : List Move) (coloured : Bool) (spans : List Span) (nodes : Nodes) → AreLegal p t
