@@ -20,6 +20,7 @@ use Rattle.xc_dance.proofs.MoveLemmas.Commits.{stood_before, first_use}
 use Rattle.xc_dance.proofs.LinkedTables.UsePlaces.{Segment, OptionNodes, option_nodes, use_cells, spacer_cells}
 use Rattle.xc_dance.proofs.LinkedTables.UsePlaces.{place_at_use, behind_segment, before_segment}
 use Rattle.xc_dance.specs.declared.links.nodes.TheConstants.{SPACER}
+use Rattle.std.proofs.lemmas.List.{nil_from_length}
 
 abbrev no_use : Use
 no_use = record { item = 0; colour = 0 }
@@ -56,16 +57,12 @@ along_next p off q vs s t a h =
           ∙ a.trail;
     }
 
-nothing : {X : Type 0} (ys : List X) → length ys ≡ 0 → ys ≡ []
-nothing [] h = refl
-nothing (y ∷ ys) h = absurd (omega (arith, h))
-
 -- behind the last one all were
 pub along_end : (p : Puzzle) (off q : ℕ) (vs : List Use) (s t : List Move) → IsAlong p off vs s t q →
     q ≡ off + length vs → t ≡ after_uses p vs s
 along_end p off q vs s t a e =
     let d = length-drop (q - off) vs in
-    let none : drop (q - off) vs ≡ [] = nothing (drop (q - off) vs) (omega (arith, d, e)) in
+    let none : drop (q - off) vs ≡ [] = nil_from_length (drop (q - off) vs) (omega (arith, d, e)) in
     ap (λ us. after_uses p us t) (sym none) ∙ a.trail
 
 -- the node at place q is of the next use, u
@@ -108,52 +105,34 @@ pub record Behind (p : Puzzle) (i x place : ℕ) (s t : List Move) (q : ℕ) : T
   -- the spacer: all were committed
   pub end : SPACER ≤ top_at p t q → (t ≡ after_uses p (uses_behind p i x) s) × (q ≡ spacer_place p x)
 
-behind_use : (p : Puzzle) (i x place q : ℕ) (s t : List Move) → IsLaid p →
-    IsNext p x (place + 1) (uses_behind p i x) s t q → Behind p i x place s t q
-behind_use p i x place q s t laid n =
-    let most = (laid.nodes.ranged q (used x n.u) n.u.item x n.node refl).1 in
-    let item = n.item in
-    let few = laid.small in
-    record { within = n.within; node = λ _. n; end = λ g. absurd (omega (arith, g, item, most, few)) }
-
-behind_end : (p : Puzzle) (i x place q : ℕ) (s t : List Move) → OptionNodes p x (x - 1) → 0 < x →
-    q ≡ start_at p (x - 1) + length (uses_of p x) → t ≡ after_uses p (uses_behind p i x) s → Behind p i x place s t q
-behind_end p i x place q s t o pos e all =
-    let cells = spacer_cells p t x (x - 1) q (omega (arith, pos)) (ap (slice_get (layout p)) e ∙ o.behind) in
-    let top = cells.top in
-    record { within = cells.within; node = λ g. absurd (omega (arith, g, top)); end = λ _. (all, e ∙ sym o.end) }
-
 pub behind_at : (p : Puzzle) (i x place q : ℕ) (s t : List Move) → IsLaid p → IsFit p → IsUseAt p i x place →
     IsAlong p (place + 1) (uses_behind p i x) s t q → Behind p i x place s t q
-behind_at p i x place q s t laid fit held a = by_place (ltb q (place + 1 + length (uses_behind p i x))) refl
-  where
-    us : List Use
-    us = uses_of p x
-
-    vs : List Use
-    vs = uses_behind p i x
-
-    o : OptionNodes p x (x - 1)
-    o = option_nodes p x fit held.known
-
-    stands : place ≡ start_at p (x - 1) + place_in i us
-    stands = place_at_use p i x (x - 1) place o held
-
-    seg : Segment p x (place + 1) vs
-    seg = let e : start_at p (x - 1) + (place_in i us + 1) ≡ place + 1 = omega (arith, stands) in
-        subst (λ n. Segment p x n vs) e (behind_segment p i x (x - 1) o)
-
-    all : place + 1 + length vs ≡ start_at p (x - 1) + length us
-    all = let d = length-drop (place_in i us + 1) us in let h = held.holds in omega (arith, d, h, stands)
-
-    by_place : (b : Bool) → ltb q (place + 1 + length vs) ≡ b → Behind p i x place s t q
-    by_place true e = behind_use p i x place q s t laid (next_at p x (place + 1)
-        q vs s t seg a (ltb-true q (place + 1 + length vs) e))
-    by_place false e =
-        let ge = ltb-false q (place + 1 + length vs) e in
-        let to = a.to in
-        let at : q ≡ place + 1 + length vs = omega (arith, ge, to) in
-        behind_end p i x place q s t o held.known.0 (at ∙ all) (along_end p (place + 1) q vs s t a at)
+behind_at p i x place q s t laid fit held a =
+    let us = uses_of p x in
+    let vs = uses_behind p i x in
+    let k = place_in i us in
+    let o = option_nodes p x fit held.known in
+    let stands = place_at_use p i x (x - 1) place o held in
+    let first : start_at p (x - 1) + (k + 1) ≡ place + 1 = omega (arith, stands) in
+    let seg : Segment p x (place + 1) vs = subst (λ n. Segment p x n vs) first (behind_segment p i x (x - 1) o) in
+    let all : place + 1 + length vs ≡ start_at p (x - 1) + length us =
+    omega (arith, length-drop (k + 1) us, held.holds, stands) in
+    elim (ltb q (place + 1 + length vs)) as (λ b. ltb q (place + 1 + length vs) ≡ b → Behind p i x place s t q) [
+      | true ↦ λ e.
+          let n = next_at p x (place + 1) q vs s t seg a (ltb-true q (place + 1 + length vs) e) in
+          let few = (laid.nodes.ranged q (used x n.u) n.u.item x n.node refl).1 in
+          record { within = n.within; node = λ _. n; end = λ g. absurd (omega (arith, g, n.item, few, laid.small)) }
+      | false ↦ λ e.
+          let at : q ≡ place + 1 + length vs = omega (arith, ltb-false q (place + 1 + length vs) e, a.to) in
+          let cells =
+          spacer_cells p t x (x - 1) q (omega (arith, held.known.0))
+          (ap (slice_get (layout p)) (at ∙ all) ∙ o.behind) in
+          record {
+            within = cells.within;
+            node = λ g. absurd (omega (arith, g, cells.top));
+            end = λ _. (along_end p (place + 1) q vs s t a at, at ∙ all ∙ sym o.end);
+          }
+    ] refl
 
 -- ---- Before it, from the option's first node up
 

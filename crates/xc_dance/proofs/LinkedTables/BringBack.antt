@@ -45,6 +45,7 @@ use Rattle.xc_dance.specs.declared.links.nodes.TheConstants.{MARK}
 use Rattle.xc_dance.proofs.LinkedTables.Sweep.{is_in-first}
 use Rattle.xc_dance.proofs.LinkedTables.TweakStep.{to_come}
 use Rattle.xc_dance.proofs.LinkedTables.TweakStep.{back_writes}
+use Rattle.xc_dance.proofs.LinkedTables.Sweep.{in_more}
 
 -- ---- an option comes back into the lists of some of its items, whatever state these lists are in: what a step of
 -- unhide does where its neighbours are named
@@ -155,7 +156,7 @@ unhidden_walk p col ln o (j ∷ js) laid pos apart h =
       | false ↦ λ e. unhide_open p col ln j o laid here.pos here.le pos (here.returner e) e
     ] refl in
     let rest = unhidden_walk p col (back_one p col o ln j) o js laid pos apart.1 (λ k e.
-    let r = h k (ap (λ b. eqb j k || b) e ∙ or-true (eqb j k)) in
+    let r = h k (in_more j k js e) in
     let same : back_one p col o ln j k ≡ ln k = one_other mended p col o ln j k (apart_in j k js apart.0 e) in
     record {
       pos = r.pos;
@@ -186,14 +187,19 @@ pub record BringingBack (p : Puzzle) (t : List Move) (covered : Bool) (i : ℕ) 
 abbrev pub raised : Line → ℕ → Line
 raised l o = record { len = l.len; up = put_at l.up (l.down o) o; down = l.down }
 
-pub top_kept : (ln : ℕ → Line) (i : ℕ) (l : Line) (n : Node) → l.len ≡ (ln i).len
-    → top_in (with_line ln i l) n ≡ top_in ln n
-top_kept ln i l (own k) e = grind (arith, common_steps, eqb-true)
-top_kept ln i l _ e = refl
+-- the columns that one line's change leaves
+pub top_kept : (p : Puzzle) (ln : ℕ → Line) (i : ℕ) (l : Line) → l.len ≡ (ln i).len
+    → map (top_in ln) (layout p) ≡ map (top_in (with_line ln i l)) (layout p)
+top_kept p ln i l e = map_same (top_in (with_line ln i l)) (top_in ln) (layout p) (λ k n at. by_node n)
+  where
+    by_node : (n : Node) → top_in ln n ≡ top_in (with_line ln i l) n
+    by_node (own k) = grind (arith, common_steps, eqb-true)
+    by_node _ = refl
 
-pub down_kept : (p : Puzzle) (ln : ℕ → Line) (i : ℕ) (l : Line) (n : Node) → ((x : ℕ) → l.down x ≡ (ln i).down x)
-    → dlink_in p (with_line ln i l) n ≡ dlink_in p ln n
-down_kept p ln i l n h = grind (arith, common_steps, eqb-true)
+pub down_kept : (p : Puzzle) (ln : ℕ → Line) (i : ℕ) (l : Line) → ((x : ℕ) → l.down x ≡ (ln i).down x)
+    → map (dlink_in p ln) (layout p) ≡ map (dlink_in p (with_line ln i l)) (layout p)
+down_kept p ln i l h =
+    map_same (dlink_in p (with_line ln i l)) (dlink_in p ln) (layout p) (λ _ n _. grind (arith, common_steps, eqb-true))
 
 raised_is : (p : Puzzle) (col : Node → ℕ) (ln : ℕ → Line) (i o : ℕ) → IsLaid p → Placed p i ((ln i).down o) →
     with_ulink (nodes_from p ln col) (link_place p i ((ln i).down o)) (link_place p i o) ≡ nodes_from p
@@ -201,11 +207,9 @@ raised_is : (p : Puzzle) (col : Node → ℕ) (ln : ℕ → Line) (i o : ℕ) �
 raised_is p col ln i o laid h =
     same_nodes (with_ulink (nodes_from p ln col) (link_place p i ((ln i).down o)) (link_place p i o))
     (nodes_from p (with_line ln i (raised (ln i) o)) col)
-    (sym (map_same (top_in ln) (top_in (with_line ln i (raised (ln i) o))) (layout p)
-    (λ k n e. top_kept ln i (raised (ln i) o) n refl)))
+    (top_kept p ln i (raised (ln i) o) refl)
     (sym (set_link p (λ k x. (ln k).up x) (fixed_up p) i ((ln i).down o) o laid h))
-    (sym (map_same (dlink_in p ln) (dlink_in p (with_line ln i (raised (ln i) o))) (layout p)
-    (λ k n e. down_kept p ln i (raised (ln i) o) n (λ x. refl))))
+    (down_kept p ln i (raised (ln i) o) (λ x. refl))
     refl
 
 -- ---- one step
@@ -270,7 +274,7 @@ opened_open p t spans i ln o os legal fit opened o_pos named within h =
       returner = λ un.
           let leave : leaves p col i j o ≡ true = ap₂ (λ a b. a && not b) in_js un in
           let nb = comes j leave r.0 r.1 ne in
-          let met = met_at p t i j o legal laid fit.fit opened r.0 r.1 within j_named in
+          let met = met_at p t i legal laid fit.fit opened j o r.0 r.1 within j_named in
           let j_open : is_open j t ≡ true =
           elim (is_open j t) as (λ b. is_open j t ≡ b → b ≡ true)
           [ true ↦ λ f. refl | false ↦ λ f. absurd (false≢true (sym un ∙ met.shut f)) ] refl in

@@ -138,64 +138,108 @@ pub leavers_of : (p : Puzzle) (t : List Move) (i : ℕ) (keep : Option ℕ)
     → AreOf p t i (leavers p i keep (listed_numbers p t i))
 leavers_of p t i keep = grind (arith, common_steps, Rises-filter, and_parts, in_filter, rises_listed)
 
--- what leaves each line is what the move takes from it
-pub hides_cut : (p : Puzzle) (t : List Move) (m : Move) (i : ℕ) (keep : Option ℕ) (start : Node → ℕ) (j : ℕ)
-    → AreLegal p t → IsLaid p → IsFit p → is_open i t ≡ true → Hides p t m i keep start → (0 < j) × (j ≤ item_count p) →
-    SameCut p t m j (filter (leaves p (color_in p t) i j) (leavers p i keep (listed_numbers p t i)))
-hides_cut p t m i keep start j legal laid fit opened h r =
-    let gs = leavers p i keep (listed_numbers p t i) in
-    let of = leavers_of p t i keep in
-    elim (eqb j i) as (λ b. eqb j i ≡ b → SameCut p t m j (filter (leaves p (color_in p t) i j) gs)) [
-      | true ↦ λ e. subst (λ k. SameCut p t m k (filter (leaves p (color_in p t) i k) gs)) (sym (eqb-true j i e))
-          (cut_own p t m i gs fit of.rise h.own)
-      | false ↦ λ e. cut_others p t m i j gs legal laid fit opened r of h.takes (eqb-false j i e)
-    ] refl
-
-hides_table : (p : Puzzle) (t : List Move) (m : Move) (i : ℕ) (keep : Option ℕ) (start : Node → ℕ) → AreLegal p t
-    → IsLaid p → IsFit p → is_open i t ≡ true → Hides p t m i keep start →
-    nodes_after p (m ∷ t) ≡ walked_table p (color_in p t) start i keep (line_of p t) (listed_numbers p t i)
-hides_table p t m i keep start legal laid fit opened h =
-    let gs = leavers p i keep (listed_numbers p t i) in
-    tables_same p (left_list p (color_in p t) i (line_of p t) gs) (line_of p (m ∷ t))
-    (marked_list p i keep start (listed_numbers p t i)) (color_in p (m ∷ t)) laid
-    (λ j r. line_after p t m j (filter (leaves p (color_in p t) i j) gs)
-    (hides_cut p t m i keep start j legal laid fit opened h r)
-    ∙ sym (list_at p (color_in p t) i (line_of p t) gs j (each_apart p i gs fit)))
-    h.colours
-
 -- what the walk writes: a cell for each option that is kept, three for each node that leaves
 abbrev pub hide_writes : Puzzle → List Move → Move → ℕ → Option ℕ → ℕ
 hide_writes p t m i keep = length (filter (is_kept p i keep) (listed_numbers p t i)) + 3 * leaving p t m
 
-hides_cost : (p : Puzzle) (t : List Move) (m : Move) (i : ℕ) (keep : Option ℕ) (start : Node → ℕ) → AreLegal p t
-    → IsLaid p → IsFit p → is_open i t ≡ true → Hides p t m i keep start →
-    step_costs p (color_in p t) i keep (listed_numbers p t i) ≡ hide_writes p t m i keep
-hides_cost p t m i keep start legal laid fit opened h =
-    let gs = leavers p i keep (listed_numbers p t i) in
-    let all =
-    leaving_is p t m (λ j. filter (leaves p (color_in p t) i j) gs)
-    (λ j r. hides_cut p t m i keep start j legal laid fit opened h r) in
-    omega (arith, all, exchanged p (color_in p t) i gs fit, costs_split p (color_in p t) i keep (listed_numbers p t i))
+pub record WalkMade (p : Puzzle) (t : List Move) (spans : List Span) (m : Move) (i : ℕ) (keep : Option ℕ)
+    (start : Node → ℕ) : Type 0 where
+  pub can : CanHideList spans keep (nodes_from p (line_of p t) start) i
+  pub done : fold (left_node spans keep) (nodes_from p (line_of p t) start) (list_of (nodes_after p t) i) ≡ nodes_after
+      p (m ∷ t)
+  pub can_back : CanUnhideList spans keep (nodes_after p (m ∷ t)) i
+  pub undone : fold (back_node spans keep) (nodes_after p (m ∷ t)) (list_back (nodes_after p (m ∷ t)) i) ≡ nodes_from p
+      (line_of p t) start
+  pub costs : walk_costs spans keep (nodes_from p (line_of p t) start) (list_of (nodes_after p t) i) ≡ hide_writes p t
+      m i keep
+  pub costs_back : back_costs spans keep (nodes_after p (m ∷ t)) (list_back (nodes_after p (m ∷ t)) i) ≡ hide_writes p t
+      m i keep
 
--- the walk down i's list and the walk back, where they lead to the tables after the move m
-abbrev pub HideStep : Puzzle → List Move → List Span → Move → ℕ → Option ℕ → (Node → ℕ) → Type 0
-HideStep p t spans m i keep start =
-    Listed p (color_in p t) start spans i keep (line_of p t) 0 (listed_numbers p t i) (nodes_after p (m ∷ t))
-    (hide_writes p t m i keep)
+module _ (p : Puzzle) (t : List Move) (spans : List Span) (m : Move) (i : ℕ) (keep : Option ℕ) (start : Node → ℕ)
+    (legal : AreLegal p t) (f : IsFitted p spans) (pos : 0 < i) (le : i ≤ item_count p) (opened : is_open i t ≡ true)
+    (h : Hides p t m i keep start) where
+  abbrev going : List ℕ
+  going = leavers p i keep (listed_numbers p t i)
 
-pub hide_step : (p : Puzzle) (t : List Move) (spans : List Span) (m : Move) (i : ℕ) (keep : Option ℕ) (start : Node → ℕ)
-    → AreLegal p t → IsLaid p → HasSpans p spans → IsFit p → 0 < i → i ≤ item_count p → is_open i t ≡ true
-    → Hides p t m i keep start → HideStep p t spans m i keep start
-hide_step p t spans m i keep start legal laid spanned fit pos le opened h =
-    let xs = listed_numbers p t i in
-    let w =
-    listed_walk p (color_in p t) start spans i keep (line_of p t) (listed_numbers p t) 0 xs laid spanned pos le
-    (all_good p t fit) (stands p t i)
-    (each_ready p t i keep xs legal laid fit opened pos le (λ x e. e)) (rises_listed p t i) h.passed in
-    let L : Nodes → ℕ → Type 0 = Listed p (color_in p t) start spans i keep (line_of p t) 0 xs in
-    subst (λ u. L u (hide_writes p t m i keep)) (sym (hides_table p t m i keep start legal laid fit opened h))
-    (subst (L (walked_table p (color_in p t) start i keep (line_of p t) xs))
-    (hides_cost p t m i keep start legal laid fit opened h) w)
+  -- what leaves each line is what the move takes from it
+  hides_cut : (j : ℕ) → (0 < j) × (j ≤ item_count p) → SameCut p t m j (filter (leaves p (color_in p t) i j) going)
+  hides_cut j r =
+      let of = leavers_of p t i keep in
+      elim (eqb j i) as (λ b. eqb j i ≡ b → SameCut p t m j (filter (leaves p (color_in p t) i j) going)) [
+        | true ↦ λ e. subst (λ k. SameCut p t m k (filter (leaves p (color_in p t) i k) going))
+            (sym (eqb-true j i e)) (cut_own p t m i going f.fit of.rise h.own)
+        | false ↦ λ e.
+            cut_others p t i legal f.laid f.fit opened m j going r of h.takes (eqb-false j i e)
+      ] refl
+
+  hides_table : nodes_after p (m ∷ t) ≡ walked_table p (color_in p t) start i keep (line_of p t) (listed_numbers p t i)
+  hides_table =
+      tables_same p (left_list p (color_in p t) i (line_of p t) going) (line_of p (m ∷ t))
+      (marked_list p i keep start (listed_numbers p t i)) (color_in p (m ∷ t)) f.laid
+      (λ j r. line_after p t m j (filter (leaves p (color_in p t) i j) going) (hides_cut j r)
+      ∙ sym (list_at p (color_in p t) i (line_of p t) going j (each_apart p i going f.fit)))
+      h.colours
+
+  hides_cost : step_costs p (color_in p t) i keep (listed_numbers p t i) ≡ hide_writes p t m i keep
+  hides_cost =
+      let all = leaving_is p t m (λ j. filter (leaves p (color_in p t) i j) going) hides_cut in
+      omega (
+        arith,
+        all,
+        exchanged p (color_in p t) i going f.fit,
+        costs_split p (color_in p t) i keep (listed_numbers p t i),
+      )
+
+  -- the walk down i's list and the walk back lead to the tables after the move m, and to those before it
+  hide_step : Listed p (color_in p t) start spans i keep (line_of p t) 0 (listed_numbers p t i) (nodes_after p (m ∷ t))
+      (hide_writes p t m i keep)
+  hide_step =
+      let xs = listed_numbers p t i in
+      let w =
+      listed_walk p (color_in p t) start spans i keep (line_of p t) (listed_numbers p t) 0 xs f.laid f.spanned pos le
+      (all_good p t f.fit) (stands p t i) (each_ready p t i legal f.laid f.fit opened keep xs pos le (λ x e. e))
+      (rises_listed p t i) h.passed in
+      let L : Nodes → ℕ → Type 0 = Listed p (color_in p t) start spans i keep (line_of p t) 0 xs in
+      subst (λ u. L u (hide_writes p t m i keep)) (sym hides_table)
+      (subst (L (walked_table p (color_in p t) start i keep (line_of p t) xs)) hides_cost w)
+
+  pub walk_made : WalkMade p t spans m i keep start
+  walk_made =
+      let laid = f.laid in
+      let fit = f.fit in
+      let s = hide_step in
+      let next = m ∷ t in
+      let down = list_is p t i laid pos le in
+      let up : list_back (nodes_after p next) i ≡ reverse (map (link_place p i) (listed_numbers p t i)) =
+      back_is p next i laid pos le ∙ ap (λ ks. reverse (map (link_place p i) ks)) h.own in
+      let first : get_or (nodes_after p t).dlink i 0 ≡ link_place p i ((line_of p t i).down 0) =
+      get_down p (line_of p t) i 0 (own_placed p i laid pos le) in
+      let last : get_or (nodes_after p next).ulink i 0 ≡ link_place p i ((line_of p t i).up 0) =
+      get_up p (line_of p next) i 0 (own_placed p i laid pos le) ∙ ap (λ ks. link_place p i (last_of 0 ks)) h.own in
+      let t0 : Nodes = nodes_from p (line_of p t) start in
+      record {
+        can = record {
+          place = in_table p t i laid pos le;
+          size = size_from p (line_of p t) start;
+          few = few_in p t i laid fit pos le;
+          walk =
+              subst (λ q. IsWalk spans keep t0 q (list_of (nodes_after p t) i)) (sym first)
+              (subst (IsWalk spans keep t0 (link_place p i ((line_of p t i).down 0))) (sym down) s.walk);
+        };
+        done = ap (fold (left_node spans keep) t0) down ∙ s.done;
+        can_back = record {
+          place = in_table p next i laid pos le;
+          size = size_from p (line_of p next) (color_in p next);
+          few = few_in p next i laid fit pos le;
+          walk =
+              subst (λ q. IsWalkBack spans keep (nodes_after p next) q (list_back (nodes_after p next) i)) (sym last)
+              (subst (IsWalkBack spans keep (nodes_after p next) (link_place p i ((line_of p t i).up 0))) (sym up)
+              s.back);
+        };
+        undone = ap (fold (back_node spans keep) (nodes_after p next)) up ∙ s.undone;
+        costs = ap (walk_costs spans keep t0) down ∙ s.costs;
+        costs_back = ap (back_costs spans keep (nodes_after p next)) up ∙ s.costs_back;
+      }
 
 -- ---- cover and Purify: from the node table after moves to that after one move more, and back
 
@@ -217,61 +261,6 @@ purify_hides p t i c legal laid pos le opened = record {
   own = own_purify p t i c;
   colours = purify_colours p t i c laid;
 }
-
--- ---- the walks as the code makes them
-
-pub record WalkMade (p : Puzzle) (t : List Move) (spans : List Span) (m : Move) (i : ℕ) (keep : Option ℕ)
-    (start : Node → ℕ) : Type 0 where
-  pub can : CanHideList spans keep (nodes_from p (line_of p t) start) i
-  pub done : fold (left_node spans keep) (nodes_from p (line_of p t) start) (list_of (nodes_after p t) i) ≡ nodes_after
-      p (m ∷ t)
-  pub can_back : CanUnhideList spans keep (nodes_after p (m ∷ t)) i
-  pub undone : fold (back_node spans keep) (nodes_after p (m ∷ t)) (list_back (nodes_after p (m ∷ t)) i) ≡ nodes_from p
-      (line_of p t) start
-  pub costs : walk_costs spans keep (nodes_from p (line_of p t) start) (list_of (nodes_after p t) i) ≡ hide_writes p t
-      m i keep
-  pub costs_back : back_costs spans keep (nodes_after p (m ∷ t)) (list_back (nodes_after p (m ∷ t)) i) ≡ hide_writes p t
-      m i keep
-
-pub walk_made : (p : Puzzle) (t : List Move) (spans : List Span) (m : Move) (i : ℕ) (keep : Option ℕ) (start : Node → ℕ)
-    → AreLegal p t → IsFitted p spans → 0 < i → i ≤ item_count p → is_open i t ≡ true → Hides p t m i keep start
-    → WalkMade p t spans m i keep start
-walk_made p t spans m i keep start legal f pos le opened h =
-    let laid = f.laid in
-    let fit = f.fit in
-    let s = hide_step p t spans m i keep start legal laid f.spanned fit pos le opened h in
-    let next = m ∷ t in
-    let down : list_of (nodes_after p t) i ≡ map (link_place p i) (listed_numbers p t i) = list_is p t i laid pos le in
-    let up : list_back (nodes_after p next) i ≡ reverse (map (link_place p i) (listed_numbers p t i)) =
-    back_is p next i laid pos le ∙ ap (λ ks. reverse (map (link_place p i) ks)) h.own in
-    let first : get_or (nodes_after p t).dlink i 0 ≡ link_place p i ((line_of p t i).down 0) =
-    get_down p (line_of p t) i 0 (own_placed p i laid pos le) in
-    let last : get_or (nodes_after p next).ulink i 0 ≡ link_place p i ((line_of p t i).up 0) =
-    get_up p (line_of p next) i 0 (own_placed p i laid pos le) ∙ ap (λ ks. link_place p i (last_of 0 ks)) h.own in
-    let t0 : Nodes = nodes_from p (line_of p t) start in
-    record {
-      can = record {
-        place = in_table p t i laid pos le;
-        size = size_from p (line_of p t) start;
-        few = few_in p t i laid fit pos le;
-        walk =
-            subst (λ q. IsWalk spans keep t0 q (list_of (nodes_after p t) i)) (sym first)
-            (subst (IsWalk spans keep t0 (link_place p i ((line_of p t i).down 0))) (sym down) s.walk);
-      };
-      done = ap (fold (left_node spans keep) t0) down ∙ s.done;
-      can_back = record {
-        place = in_table p next i laid pos le;
-        size = size_from p (line_of p next) (color_in p next);
-        few = few_in p next i laid fit pos le;
-        walk =
-            subst (λ q. IsWalkBack spans keep (nodes_after p next) q (list_back (nodes_after p next) i)) (sym last)
-            (subst (IsWalkBack spans keep (nodes_after p next) (link_place p i ((line_of p t i).up 0))) (sym up)
-            s.back);
-      };
-      undone = ap (fold (back_node spans keep) (nodes_after p next)) up ∙ s.undone;
-      costs = ap (walk_costs spans keep t0) down ∙ s.costs;
-      costs_back = ap (back_costs spans keep (nodes_after p next)) up ∙ s.costs_back;
-    }
 
 -- ---- Purify's own node
 

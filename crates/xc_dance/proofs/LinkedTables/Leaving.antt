@@ -38,53 +38,22 @@ use Rattle.xc_dance.proofs.LinkedTables.MarkedNodes.{options_left, Met, each_met
 use Rattle.xc_dance.proofs.LinkedTables.MarkedNodes.{colour_some, colour_small}
 use Rattle.xc_dance.proofs.LinkedTables.LaidLemmas.{IsOption}
 use Rattle.xc_dance.specs.declared.links.nodes.TheConstants.{MARK}
-
--- ---- the options of an open item's list are met: their other uses stand in their lists or are marked, so they are
--- ready to leave
-
--- an option of an open item's list, and another item that it holds
-pub met_at : (p : Puzzle) (t : List Move) (i j x : ℕ) → AreLegal p t → IsLaid p → IsFit p → is_open i t ≡ true → 0 < j
-    → j ≤ item_count p → is_in x (listed_numbers p t i) ≡ true → Named p j x → Met p t x j
-met_at p t i j x legal laid fit opened pos le within named =
-    let list : listed p t i ≡ holding i (left p t) = listed_open p t legal i opened in
-    let each : AllByRecursion (λ o. Named p j o.number → Met p t o.number j) (left p t) =
-    each_both (IsOption p) (λ o. holds o j ≡ true → Met p t o.number j) (λ o. Named p j o.number → Met p t o.number j)
-    (left p t)
-    (λ o is h n. h (ap (λ us. is_some (colour_in us j)) (sym is.1) ∙ n)) (options_left p t)
-    (each_met p t j legal laid fit pos le) in
-    let listed_each : AllByRecursion (λ x. Named p j x → Met p t x j) (map (λ o. o.number) (holding i (left p t))) =
-    grind (arith, common_steps, each-filter, each-map) in
-    grind (arith, common_steps, element_of)
+use Rattle.xc_dance.proofs.LinkedTables.Sweep.{is_in-first}
+use Rattle.xc_dance.proofs.LinkedTables.Sweep.{in_more}
 
 ready_by : (p : Puzzle) (col : Node → ℕ) (lists : ℕ → List ℕ) (o : ℕ) (js : List ℕ)
     → ((j : ℕ) → is_in j js ≡ true → (0 < j) × (j ≤ item_count p) × Named p j o
     × (is_mark p col o j ≡ false → Stands (lists j) o)) → AllApart js → AreReady p col lists o js
 ready_by p col lists o [] h apart = tt
 ready_by p col lists o (j ∷ js) h apart =
-    let here = h j (ap (λ b. b || is_in j js) (eq-eqb j j refl)) in (
+    let here = h j (is_in-first j js) in (
       here.0,
       here.1,
       here.2,
       here.3,
       apart.0,
-      ready_by p col lists o js (λ k e. h k (ap (λ b. eqb j k || b) e ∙ or-true (eqb j k))) apart.1,
+      ready_by p col lists o js (λ k e. h k (in_more j k js e)) apart.1,
     )
-
--- its other uses are ready to leave
-pub ready_at : (p : Puzzle) (t : List Move) (i x : ℕ) → AreLegal p t → IsLaid p → IsFit p → is_open i t ≡ true
-    → is_in x (listed_numbers p t i) ≡ true → AreReady p (color_in p t) (listed_numbers p t) x (other_items p x i)
-ready_at p t i x legal laid fit opened within =
-    ready_by p (color_in p t) (listed_numbers p t) x (other_items p x i)
-    (λ j e.
-    let named : Named p j x = (and_parts _ _ (sym (in_others p x i j (fit.distinct x)) ∙ e)).1 in
-    let r = item_range p (uses_of p x) j (fit.items x) named in
-    let m = met_at p t i j x legal laid fit opened r.0 r.1 within named in (
-      r.0,
-      r.1,
-      named,
-      λ un. grind (arith, common_steps, false≢true, stands_in),
-    ))
-    (others_apart p x i fit)
 
 eqb_turn : (a b : ℕ) → eqb a b ≡ eqb b a
 eqb_turn a b = grind (arith, common_steps, eq-eqb, eqb-false, eqb-true, ne_eqb)
@@ -93,37 +62,6 @@ test_is : (p : Puzzle) (i : ℕ) (keep : Option ℕ) (x c : ℕ) → colour_in (
     → is_kept_colour keep c ≡ is_kept p i keep x
 test_is p i None x c e = refl
 test_is p i (Some d) x c e = eqb_turn c d ∙ sym (not-not (eqb d c)) ∙ sym (ap (λ o. not (is_other_colour d o)) e)
-
--- its own node isn't marked, and tells whether it is kept
-pub own_ready : (p : Puzzle) (t : List Move) (i : ℕ) (keep : Option ℕ) (x : ℕ) → IsLaid p → IsFit p → is_open i t ≡ true
-    → 0 < i → i ≤ item_count p → is_in x (listed_numbers p t i) ≡ true → OwnReady p (color_in p t) i keep x
-own_ready p t i keep x laid fit opened pos le within =
-    let x_pos : 0 < x = in_above 0 x (listed_numbers p t i) (rises_listed p t i) within in
-    let named : Named p i x = element_of (Named p i) x (listed_numbers p t i) (numbers_named p t i) within in
-    let c = colour_some (uses_of p x) i named in
-    let small : c.0 < MARK = colour_small (uses_of p x) i c.0 (fit.colours x) c.1 in
-    let is : own_color p (color_in p t) i x ≡ c.0 =
-    color_is p t x i c.0 laid pos le x_pos named c.1 ∙ ap (λ b. cond b MARK c.0) (open_unmarked p t i x c.0 opened) in
-    grind (arith, common_steps, ne_eqb, test_is)
-
--- options of the list, one after another
-pub each_ready : (p : Puzzle) (t : List Move) (i : ℕ) (keep : Option ℕ) (xs : List ℕ) → AreLegal p t → IsLaid p
-    → IsFit p → is_open i t ≡ true → 0 < i → i ≤ item_count p
-    → ((x : ℕ) → is_in x xs ≡ true → is_in x (listed_numbers p t i) ≡ true)
-    → EachReady p (color_in p t) (listed_numbers p t) i keep xs
-each_ready p t i keep [] legal laid fit opened pos le h = tt
-each_ready p t i keep (x ∷ xs) legal laid fit opened pos le h =
-    let within : is_in x (listed_numbers p t i) ≡ true = h x (ap (λ b. b || is_in x xs) (eq-eqb x x refl)) in (
-      element_of (Named p i) x (listed_numbers p t i) (numbers_named p t i) within,
-      ready_at p t i x legal laid fit opened within,
-      own_apart p i x fit,
-      own_ready p t i keep x laid fit opened pos le within,
-      each_ready p t i keep xs legal laid fit opened pos le
-          (λ z e. h z (elim (eqb x z) as (λ b. (b || is_in z xs) ≡ true) [ true ↦ refl | false ↦ e ])),
-    )
-
--- ---- options that leave an open item's list take their other uses out of the lists of the open items, and of no
--- others
 
 -- options of item i's list, in order
 pub record AreOf (p : Puzzle) (t : List Move) (i : ℕ) (gs : List ℕ) : Type 0 where
@@ -153,40 +91,7 @@ leaves_own p t i gs fit rise =
     ∙ ap (λ b. (not b && is_some (colour_in (uses_of p x) i)) && not (is_mark p (color_in p t) x i))
     (eq-eqb i i refl))
 
--- each leaves the lists of the other open items that it is in
-leaves_at : (p : Puzzle) (t : List Move) (i j x : ℕ) → AreLegal p t → IsLaid p → IsFit p → is_open i t ≡ true
-    → InRange p j → j ≢ i → is_in x (listed_numbers p t i) ≡ true
-    → leaves p (color_in p t) i j x ≡ (is_open j t && is_in x (listed_numbers p t j))
-leaves_at p t i j x legal laid fit opened r ne within =
-    let there = element_of (Named p j) x (listed_numbers p t j) (numbers_named p t j) in
-    let met : Named p j x → Met p t x j = met_at p t i j x legal laid fit opened r.0 r.1 within in
-    leaves_by p t i j x fit ∙ rw (ne_eqb j i ne)
-    (grind (arith, common_steps))
-
-pub leaves_are : (p : Puzzle) (t : List Move) (i j : ℕ) (gs : List ℕ) → AreLegal p t → IsLaid p → IsFit p
-    → is_open i t ≡ true → InRange p j → AreOf p t i gs → j ≢ i →
-    filter (leaves p (color_in p t) i j) gs ≡ filter (λ x. is_open j t && is_in x gs) (listed_numbers p t j)
-leaves_are p t i j gs legal laid fit opened r of ne =
-    same_members 0 _ _ (Rises-filter (leaves p (color_in p t) i j) 0 gs of.rise)
-    (Rises-filter (λ x. is_open j t && is_in x gs) 0 (listed_numbers p t j) (rises_listed p t j))
-    (λ x.
-    in_filter (leaves p (color_in p t) i j) x gs
-    ∙ grind (arith, common_steps, and-false, leaves_at)
-    ∙ sym (in_filter (λ x. is_open j t && is_in x gs) x (listed_numbers p t j)))
-
--- so each other item's line loses what the move takes
-pub cut_others : (p : Puzzle) (t : List Move) (m : Move) (i j : ℕ) (gs : List ℕ) → AreLegal p t → IsLaid p → IsFit p
-    → is_open i t ≡ true → InRange p j → AreOf p t i gs → TakesOut p t m i gs → j ≢ i
-    → SameCut p t m j (filter (leaves p (color_in p t) i j) gs)
-cut_others p t m i j gs legal laid fit opened r of takes ne = record {
-  test = λ x. is_open j t && is_in x gs;
-  cut_is = leaves_are p t i j gs legal laid fit opened r of ne;
-  stay_is = takes.others j ne ∙ elim (is_open j t) as (λ b.
-      cond b (stay (λ x. is_in x gs) (listed_numbers p t j)) (listed_numbers p t j) ≡ stay (λ x. b && is_in x gs)
-      (listed_numbers p t j)) [ true ↦ refl | false ↦ sym (stay_all (listed_numbers p t j)) ];
-}
-
--- and its own none, where the move takes none from it
+-- so its own line loses none, where the move takes none from it
 pub cut_own : (p : Puzzle) (t : List Move) (m : Move) (i : ℕ) (gs : List ℕ) → IsFit p → Rises 0 gs
     → listed_numbers p (m ∷ t) i ≡ listed_numbers p t i → SameCut p t m i (filter (leaves p (color_in p t) i i) gs)
 cut_own p t m i gs fit rise same = record {
@@ -194,6 +99,92 @@ cut_own p t m i gs fit rise same = record {
   cut_is = leaves_own p t i gs fit rise ∙ sym (leave_none (listed_numbers p t i));
   stay_is = same ∙ sym (stay_all (listed_numbers p t i));
 }
+
+-- ---- the options of an open item's list are met: their other uses stand in their lists or are marked, so they are
+-- ready to leave
+
+-- ---- and then they take their other uses out of the lists of the open items, and of no others
+
+module _ (p : Puzzle) (t : List Move) (i : ℕ) (legal : AreLegal p t) (laid : IsLaid p) (fit : IsFit p)
+    (opened : is_open i t ≡ true) where
+  -- an option of the list, and another item that it holds
+  pub met_at : (j x : ℕ) → 0 < j → j ≤ item_count p → is_in x (listed_numbers p t i) ≡ true → Named p j x → Met p t x j
+  met_at j x pos le within named =
+      let list : listed p t i ≡ holding i (left p t) = listed_open p t legal i opened in
+      let each : AllByRecursion (λ o. Named p j o.number → Met p t o.number j) (left p t) =
+      each_both (IsOption p) (λ o. holds o j ≡ true → Met p t o.number j)
+      (λ o. Named p j o.number → Met p t o.number j) (left p t)
+      (λ o is h n. h (ap (λ us. is_some (colour_in us j)) (sym is.1) ∙ n)) (options_left p t)
+      (each_met p t j legal laid fit pos le) in
+      let listed_each : AllByRecursion (λ x. Named p j x → Met p t x j) (map (λ o. o.number) (holding i (left p t))) =
+      grind (arith, common_steps, each-filter, each-map) in
+      grind (arith, common_steps, element_of)
+
+  -- its other uses are ready to leave
+  pub ready_at : (x : ℕ) → is_in x (listed_numbers p t i) ≡ true
+      → AreReady p (color_in p t) (listed_numbers p t) x (other_items p x i)
+  ready_at x within =
+      ready_by p (color_in p t) (listed_numbers p t) x (other_items p x i)
+      (λ j e.
+      let named : Named p j x = (and_parts _ _ (sym (in_others p x i j (fit.distinct x)) ∙ e)).1 in
+      let r = item_range p (uses_of p x) j (fit.items x) named in
+      let m = met_at j x r.0 r.1 within named in
+      (r.0, r.1, named, λ un. grind (arith, common_steps, false≢true, stands_in)))
+      (others_apart p x i fit)
+
+  -- its own node isn't marked, and tells whether it is kept
+  own_ready : (keep : Option ℕ) (x : ℕ) → 0 < i → i ≤ item_count p → is_in x (listed_numbers p t i) ≡ true
+      → OwnReady p (color_in p t) i keep x
+  own_ready keep x pos le within =
+      let x_pos : 0 < x = in_above 0 x (listed_numbers p t i) (rises_listed p t i) within in
+      let named : Named p i x = element_of (Named p i) x (listed_numbers p t i) (numbers_named p t i) within in
+      let c = colour_some (uses_of p x) i named in
+      let small : c.0 < MARK = colour_small (uses_of p x) i c.0 (fit.colours x) c.1 in
+      let is : own_color p (color_in p t) i x ≡ c.0 =
+      color_is p t x i c.0 laid pos le x_pos named c.1
+      ∙ ap (λ b. cond b MARK c.0) (open_unmarked p t i x c.0 opened) in
+      grind (arith, common_steps, ne_eqb, test_is)
+
+  -- options of the list, one after another
+  pub each_ready : (keep : Option ℕ) (xs : List ℕ) → 0 < i → i ≤ item_count p
+      → ((x : ℕ) → is_in x xs ≡ true → is_in x (listed_numbers p t i) ≡ true)
+      → EachReady p (color_in p t) (listed_numbers p t) i keep xs
+  each_ready keep [] pos le h = tt
+  each_ready keep (x ∷ xs) pos le h =
+      let within : is_in x (listed_numbers p t i) ≡ true = h x (is_in-first x xs) in (
+        element_of (Named p i) x (listed_numbers p t i) (numbers_named p t i) within,
+        ready_at x within,
+        own_apart p i x fit,
+        own_ready keep x pos le within,
+        each_ready keep xs pos le (λ z e. h z (in_more x z xs e)),
+      )
+
+  -- each leaves the lists of the other open items that it is in
+  leaves_at : (j x : ℕ) → InRange p j → j ≢ i → is_in x (listed_numbers p t i) ≡ true
+      → leaves p (color_in p t) i j x ≡ (is_open j t && is_in x (listed_numbers p t j))
+  leaves_at j x r ne within =
+      let there = element_of (Named p j) x (listed_numbers p t j) (numbers_named p t j) in
+      let met : Named p j x → Met p t x j = met_at j x r.0 r.1 within in
+      leaves_by p t i j x fit ∙ rw (ne_eqb j i ne) (grind (arith, common_steps))
+
+  pub leaves_are : (j : ℕ) (gs : List ℕ) → InRange p j → AreOf p t i gs → j ≢ i →
+      filter (leaves p (color_in p t) i j) gs ≡ filter (λ x. is_open j t && is_in x gs) (listed_numbers p t j)
+  leaves_are j gs r of ne =
+      same_members 0 _ _ (Rises-filter (leaves p (color_in p t) i j) 0 gs of.rise)
+      (Rises-filter (λ x. is_open j t && is_in x gs) 0 (listed_numbers p t j) (rises_listed p t j))
+      (λ x. in_filter (leaves p (color_in p t) i j) x gs ∙ grind (arith, common_steps, and-false, leaves_at)
+      ∙ sym (in_filter (λ x. is_open j t && is_in x gs) x (listed_numbers p t j)))
+
+  -- so each other item's line loses what the move takes
+  pub cut_others : (m : Move) (j : ℕ) (gs : List ℕ) → InRange p j → AreOf p t i gs → TakesOut p t m i gs → j ≢ i
+      → SameCut p t m j (filter (leaves p (color_in p t) i j) gs)
+  cut_others m j gs r of takes ne = record {
+    test = λ x. is_open j t && is_in x gs;
+    cut_is = leaves_are j gs r of ne;
+    stay_is = takes.others j ne ∙ elim (is_open j t) as (λ b.
+        cond b (stay (λ x. is_in x gs) (listed_numbers p t j)) (listed_numbers p t j) ≡ stay (λ x. b && is_in x gs)
+        (listed_numbers p t j)) [ true ↦ refl | false ↦ sym (stay_all (listed_numbers p t j)) ];
+  }
 
 -- ---- totals over numbers in a row
 
@@ -257,8 +248,8 @@ pub counted_over : (n : ℕ) (f : ℕ → Bool) (js : List ℕ) → AllApart js
     → length (filter f js) ≡ total (λ j. one_if (is_in j js && f j)) 1 n
 counted_over n f [] apart within = sym (total_zero 1 n)
 counted_over n f (j ∷ js) apart within =
-    let rest = counted_over n f js apart.1 (λ k e. within k (ap (λ b. eqb j k || b) e ∙ or-true (eqb j k))) in
-    let here = within j (ap (λ b. b || is_in j js) (eq-eqb j j refl)) in
+    let rest = counted_over n f js apart.1 (λ k e. within k (in_more j k js e)) in
+    let here = within j (is_in-first j js) in
     let sum = total_plus (λ k. cond (eqb j k) (one_if (f j)) 0) (λ k. one_if (is_in k js && f k)) 1 n in
     let same : total (λ k. one_if ((eqb j k || is_in k js) && f k)) 1 n ≡ total
     (λ k. cond (eqb j k) (one_if (f j)) 0 + one_if (is_in k js && f k)) 1 n =

@@ -102,7 +102,7 @@ tweak_cuts p t spans false i j legal fit opened f r ne =
     let rise : Rises 0 (f.o ∷ f.os) = subst (Rises 0) f.is (rises_listed p t i) in
     let of : AreOf p t i (first_alone (listed_numbers p t i)) = grind (arith, common_steps, false≢true) in
     subst (λ ks. SameCut p t (Tweak i) j (filter (leaves p (color_in p t) i j) ks)) (ap first_alone f.is)
-    (cut_others p t (Tweak i) i j (first_alone (listed_numbers p t i)) legal fit.laid fit.fit opened r of
+    (cut_others p t i legal fit.laid fit.fit opened (Tweak i) j (first_alone (listed_numbers p t i)) r of
     (takes_tweak p t i opened) ne)
 
 -- what the step at option o writes for its other items
@@ -191,7 +191,7 @@ mid_is p t spans false i legal fit opened f =
     subst (λ ks. is_in o ks ≡ true) (sym f.is) (is_in-first o f.os) in
     let named : Named p i o = (subst (AllByRecursion (Named p i)) f.is (numbers_named p t i)).0 in
     let s = turns_ready p (line_of p t) col (listed_numbers p t) spans o i fit.laid fit.spanned pos named
-    (all_good p t fit.fit) (ready_at p t i o legal fit.laid fit.fit opened within) in
+    (all_good p t fit.fit) (ready_at p t i legal fit.laid fit.fit opened o within) in
     record {
       own = all_other cut p col o (line_of p t) (other_items p o i) i (own_apart p i o fit.fit);
       line = λ j. list_at p col i (line_of p t) (o ∷ []) j (each_apart p i (o ∷ []) fit.fit);

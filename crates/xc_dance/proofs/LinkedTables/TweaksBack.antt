@@ -236,7 +236,7 @@ come_is : (p : Puzzle) (t : List Move) (spans : List Span) (covered : Bool) (i j
     (f : ℕ → Bool) × (to_come p t covered i j os ≡ filter f (listed_numbers p t j))
 come_is p t spans true i j os legal fit shut of pos le ne = (λ x. false, sym (leave_none (listed_numbers p t j)))
 come_is p t spans false i j os legal fit opened of pos le ne =
-    (λ x. is_open j t && is_in x os, leaves_are p t i j os legal fit.laid fit.fit opened (pos, le) of ne)
+    (λ x. is_open j t && is_in x os, leaves_are p t i legal fit.laid fit.fit opened j os (pos, le) of ne)
 
 start_other : (p : Puzzle) (t : List Move) (spans : List Span) (covered : Bool) (i j : ℕ) (os : List ℕ) → AreLegal p t
     → IsFitted p spans → is_open i t ≡ not covered → AreOf p t i os → 0 < j → j ≤ item_count p → j ≢ i →
@@ -282,19 +282,17 @@ own_cuts l (o ∷ os) rest linked =
 abbrev lowered : Line → ℕ → Line
 lowered l o = record { len = l.len; up = l.up; down = put_at l.down 0 o }
 
-up_kept : (p : Puzzle) (ln : ℕ → Line) (i : ℕ) (l : Line) (n : Node) → ((x : ℕ) → l.up x ≡ (ln i).up x)
-    → ulink_in p (with_line ln i l) n ≡ ulink_in p ln n
-up_kept p ln i l n h = grind (arith, common_steps, eqb-true)
+up_kept : (p : Puzzle) (ln : ℕ → Line) (i : ℕ) (l : Line) → ((x : ℕ) → l.up x ≡ (ln i).up x)
+    → map (ulink_in p ln) (layout p) ≡ map (ulink_in p (with_line ln i l)) (layout p)
+up_kept p ln i l h =
+    map_same (ulink_in p (with_line ln i l)) (ulink_in p ln) (layout p) (λ _ n _. grind (arith, common_steps, eqb-true))
 
 lowered_is : (p : Puzzle) (col : Node → ℕ) (ln : ℕ → Line) (i o : ℕ) → IsLaid p → 0 < i → i ≤ item_count p
     → with_dlink (nodes_from p ln col) i (link_place p i o) ≡ nodes_from p (with_line ln i (lowered (ln i) o)) col
 lowered_is p col ln i o laid pos le =
     same_nodes (with_dlink (nodes_from p ln col) i (link_place p i o))
     (nodes_from p (with_line ln i (lowered (ln i) o)) col)
-    (sym (map_same (top_in ln) (top_in (with_line ln i (lowered (ln i) o))) (layout p)
-    (λ k n e. top_kept ln i (lowered (ln i) o) n refl)))
-    (sym (map_same (ulink_in p ln) (ulink_in p (with_line ln i (lowered (ln i) o))) (layout p)
-    (λ k n e. up_kept p ln i (lowered (ln i) o) n (λ x. refl))))
+    (top_kept p ln i (lowered (ln i) o) refl) (up_kept p ln i (lowered (ln i) o) (λ x. refl))
     (sym (set_link p (λ k x. (ln k).down x) (fixed_down p) i 0 o laid (own_placed p i laid pos le)))
     refl
 
@@ -307,10 +305,7 @@ longer_is : (p : Puzzle) (col : Node → ℕ) (ln : ℕ → Line) (i n : ℕ) �
 longer_is p col ln i n laid pos le =
     same_nodes (with_top (nodes_from p ln col) i n) (nodes_from p (with_line ln i (longer (ln i) n)) col)
     (sym (set_top p ln i (longer (ln i) n) laid pos le))
-    (sym (map_same (ulink_in p ln) (ulink_in p (with_line ln i (longer (ln i) n))) (layout p)
-    (λ k m e. up_kept p ln i (longer (ln i) n) m (λ x. refl))))
-    (sym (map_same (dlink_in p ln) (dlink_in p (with_line ln i (longer (ln i) n))) (layout p)
-    (λ k m e. down_kept p ln i (longer (ln i) n) m (λ x. refl))))
+    (up_kept p ln i (longer (ln i) n) (λ x. refl)) (down_kept p ln i (longer (ln i) n) (λ x. refl))
     refl
 
 -- ---- all together
