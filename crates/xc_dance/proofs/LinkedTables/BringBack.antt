@@ -129,12 +129,7 @@ pub record Returning (p : Puzzle) (col : Node → ℕ) (ln : ℕ → Line) (o j 
   pub returner : is_mark p col o j ≡ false → IsReturner p j (ln j) o
 
 apart_in : (j k : ℕ) (js : List ℕ) → IsApart j js → is_in k js ≡ true → j ≢ k
-apart_in j k [] apart e = absurd (false≢true e)
-apart_in j k (i ∷ is) apart e =
-    elim (eqb i k) as (λ b. eqb i k ≡ b → (b || is_in k is) ≡ true → j ≢ k) [
-      | true ↦ λ f g h. apart.0 (eqb-true i k f ∙ sym h)
-      | false ↦ λ f g. apart_in j k is apart.1 g
-    ] refl e
+apart_in j k js apart e h = false≢true (sym (out_of j js apart) ∙ ap (λ m. is_in m js) h ∙ e)
 
 pub record UnhiddenAll (t u : Nodes) (qs : List ℕ) : Type 0 where
   pub can : CanUnhideAll t qs

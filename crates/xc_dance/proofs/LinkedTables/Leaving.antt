@@ -219,12 +219,7 @@ total_none k v a (suc n) h = grind (arith, common_steps, ne_eqb, total_none k v 
 pub total_point : (k v a n : ℕ) → a ≤ k → k < a + n → total (λ j. cond (eqb k j) v 0) a n ≡ v
 total_point k v a zero u w = absurd (omega (arith, u, w))
 total_point k v a (suc n) u w =
-    elim (eqb k a) as (λ b. eqb k a ≡ b → cond b v 0 + total (λ j. cond (eqb k j) v 0) (a + 1) n ≡ v) [
-      | true ↦ λ e. let same =
-          eqb-true k a e in let r = total_none k v (a + 1) n (omega (arith, same)) in omega (arith, r)
-      | false ↦ λ e. let ne = eqb-false k a e in let r =
-          total_point k v (a + 1) n (omega (arith, u, ne)) (omega (arith, w)) in omega (arith, r)
-    ] refl
+    let rest = total_point k v (a + 1) n in grind (arith, common_steps, eqb-false, eqb-true, total_none)
 
 -- the members that pass a test and the others are all
 pub parts : (f : ℕ → Bool) (xs : List ℕ) → length (filter f xs) + length (filter (λ x. not (f x)) xs) ≡ length xs

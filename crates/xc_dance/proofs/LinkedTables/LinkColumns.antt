@@ -96,12 +96,11 @@ unhidden-open t q e = ap (λ b. cond b t (relinked t q)) e
 pub unhidden-hidden : (t : Nodes) (q : ℕ) → (eqb (get_or t.color q 0) MARK ≡ false → IsLinked t q)
     → unhidden (hidden t q) q ≡ t
 unhidden-hidden t q h =
-    let by : (b : Bool) → eqb (get_or t.color q 0) MARK ≡ b → unhidden (hidden t q) q ≡ t =
-    λ b. elim b as (λ b. eqb (get_or t.color q 0) MARK ≡ b → unhidden (hidden t q) q ≡ t) [
-      | true ↦ (λ e. ap (λ u. unhidden u q) (hidden-marked t q e) ∙ unhidden-marked t q e)
-      | false ↦ (λ e. ap (λ u. unhidden u q) (hidden-open t q e) ∙ unhidden-open (unlinked t q) q e
-          ∙ relinked-unlinked t q (h e))
-    ] in by (eqb (get_or t.color q 0) MARK) refl
+    elim (eqb (get_or t.color q 0) MARK) as (λ b. eqb (get_or t.color q 0) MARK ≡ b → unhidden (hidden t q) q ≡ t) [
+      | true ↦ λ e. ap (λ u. unhidden u q) (hidden-marked t q e) ∙ unhidden-marked t q e
+      | false ↦ λ e. ap (λ u. unhidden u q) (hidden-open t q e) ∙ unhidden-open (unlinked t q) q e
+          ∙ relinked-unlinked t q (h e)
+    ] refl
 
 -- each step of a walk can be undone
 abbrev pub IsUndone : Nodes → List ℕ → Type 0

@@ -77,12 +77,8 @@ pub open_unmarked : (p : Puzzle) (t : List Move) (j o c : ℕ) → is_open j t �
 open_unmarked p [] j o c e = refl
 open_unmarked p (Cover k ∷ t) j o c e = open_unmarked p t j o c (and_right _ _ e)
 open_unmarked p (Purify k d ∷ t) j o c e =
-    elim (eqb k j) as (λ b. eqb k j ≡ b
-    → cond ((b && eqb d c) && is_in o (listed_numbers p t j)) true (is_marked p t j o c) ≡ false) [
-      | true ↦ λ f. let same : eqb j k ≡ true = eq-eqb j k (sym (eqb-true k j f)) in
-          absurd (false≢true (sym (ap not same) ∙ and_left (not (eqb j k)) (is_open j t) e))
-      | false ↦ λ f. open_unmarked p t j o c (and_right _ _ e)
-    ] refl
+    let rest = open_unmarked p t j o c (and_right _ _ e) in
+    grind (arith, common_steps, and_left, eq-eqb, eqb-true, false≢true)
 open_unmarked p (_ ∷ t) j o c e = open_unmarked p t j o c e
 
 true_either : (b : Bool) → cond b true true ≡ true
@@ -175,10 +171,7 @@ pub colour_small : (us : List Use) (j c : ℕ) → AllByRecursion (λ u. u.colou
     → c < MARK
 colour_small [] j c a e = cc
 colour_small (u ∷ us) j c a e =
-    elim (eqb u.item j) as (λ b. cond b (Some u.colour) (colour_in us j) ≡ Some c → c < MARK) [
-      | true ↦ λ f. let same : u.colour ≡ c = same_Some u.colour c f in omega (arith, a.0, same)
-      | false ↦ λ f. colour_small us j c a.1 f
-    ] e
+    let rest = colour_small us j c a.1 in grind (arith, common_steps, same_Some)
 
 pub each_met : (p : Puzzle) (t : List Move) (j : ℕ) → AreLegal p t → IsLaid p → IsFit p → 0 < j → j ≤ item_count p
     → AllByRecursion (λ o. holds o j ≡ true → Met p t o.number j) (left p t)

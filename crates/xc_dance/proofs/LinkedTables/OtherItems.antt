@@ -31,15 +31,8 @@ pub others_by : (us : List Use) (i k : ℕ) → AreDistinct us
     → (is_in k (behind_use i us) || is_in k (before_use i us)) ≡ (not (eqb k i) && is_some (colour_in us k))
 others_by [] i k d = elim (eqb k i) as (λ b. false ≡ (not b && false)) [ true ↦ refl | false ↦ refl ]
 others_by (u ∷ us) i k d =
-    elim (eqb u.item i) as (λ b. eqb u.item i ≡ b
-    → (is_in k (cond b (map (λ v. v.item) us) (behind_use i us)) || is_in k (cond b [] (u.item ∷ before_use i us)))
-    ≡ (not (eqb k i) && is_some (cond (eqb u.item k) (Some u.colour) (colour_in us k)))) [
-      | true ↦ λ e.
-          let at_i : u.item ≡ i = eqb-true u.item i e in
-          or-false (is_in k (map (λ v. v.item) us)) ∙ items_of us k
-          ∙ grind (arith, common_steps, eq-eqb, eqb-false, eqb-true, ne_eqb)
-      | false ↦ λ e. let rest = others_by us i k d.1 in grind (arith, common_steps, eqb-false, eqb-true, ne_eqb)
-    ] refl
+    let rest = others_by us i k d.1 in
+    grind (arith, common_steps, eq-eqb, eqb-false, eqb-true, items_of, ne_eqb)
 
 pub in_others : (p : Puzzle) (o i k : ℕ) → AreDistinct (uses_of p o)
     → is_in k (other_items p o i) ≡ (not (eqb k i) && is_some (colour_in (uses_of p o) k))
@@ -55,10 +48,7 @@ out_of j (k ∷ ks) h = ap (λ b. b || is_in j ks) (ne_eqb k j h.0) ∙ out_of j
 pub apart_from : (k : ℕ) (js : List ℕ) → is_in k js ≡ false → IsApart k js
 apart_from k [] e = tt
 apart_from k (j ∷ js) e =
-    elim (eqb j k) as (λ b. eqb j k ≡ b → (b || is_in k js) ≡ false → IsApart k (j ∷ js)) [
-      | true ↦ λ f g. absurd (false≢true (sym g))
-      | false ↦ λ f g. (eqb-false j k f, apart_from k js g)
-    ] refl e
+    let rest = apart_from k js in grind (arith, common_steps, eqb-false, false≢true)
 
 -- whether option o leaves item k's list by a walk down i's
 abbrev pub leaves : Puzzle → (Node → ℕ) → ℕ → ℕ → ℕ → Bool
@@ -123,12 +113,7 @@ pub item_range : (p : Puzzle) (us : List Use) (j : ℕ) → AllByRecursion (λ u
     → is_some (colour_in us j) ≡ true → (0 < j) × (j ≤ item_count p)
 item_range p [] j a e = absurd (false≢true e)
 item_range p (u ∷ us) j a e =
-    elim (eqb u.item j) as (λ b. eqb u.item j ≡ b → is_some (cond b (Some u.colour) (colour_in us j)) ≡ true → (0 < j)
-    × (j ≤ item_count p)) [
-      | true ↦ λ f g. let same : u.item ≡ j =
-          eqb-true u.item j f in (omega (arith, a.0.0, same), omega (arith, a.0.1, same))
-      | false ↦ λ f g. item_range p us j a.1 g
-    ] refl e
+    let rest = item_range p us j a.1 in grind (arith, common_steps, eqb-true)
 
 -- the item itself isn't among them
 pub own_apart : (p : Puzzle) (i o : ℕ) → IsFit p → IsApart i (other_items p o i)

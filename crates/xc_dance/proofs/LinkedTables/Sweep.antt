@@ -82,10 +82,7 @@ not_in n x (y ∷ ys) h r =
 pub in_above : (n x : ℕ) (xs : List ℕ) → Rises n xs → is_in x xs ≡ true → n < x
 in_above n x [] r e = absurd (false≢true e)
 in_above n x (y ∷ ys) r e =
-    elim (eqb y x) as (λ b. eqb y x ≡ b → (b || is_in x ys) ≡ true → n < x) [
-      | true ↦ λ f g. let same : y ≡ x = eqb-true y x f in omega (arith, r.0, same)
-      | false ↦ λ f g. omega (arith, r.0, in_above y x ys r.1 g)
-    ] refl e
+    let rest = in_above y x ys r.1 in grind (arith, common_steps, eqb-true)
 
 pub is_in-other : (y x : ℕ) (ys : List ℕ) → y ≢ x → is_in x (y ∷ ys) ≡ is_in x ys
 is_in-other y x ys ne = rw (ne_eqb y x ne) refl

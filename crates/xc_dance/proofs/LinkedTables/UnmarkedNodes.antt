@@ -39,14 +39,10 @@ unmarked_costs color [] = 0
 unmarked_costs color (q ∷ qs) = cond (eqb (get_or color q 0) MARK) 0 3 + unmarked_costs color qs
 
 pub hidden_color : (t : Nodes) (q : ℕ) → (hidden t q).color ≡ t.color
-hidden_color t q =
-    elim (eqb (get_or t.color q 0) MARK) as (λ b. (cond b t (unlinked t q)).color ≡ t.color)
-    [ true ↦ refl | false ↦ refl ]
+hidden_color t q = grind (arith, common_steps)
 
 pub unhidden_color : (t : Nodes) (q : ℕ) → (unhidden t q).color ≡ t.color
-unhidden_color t q =
-    elim (eqb (get_or t.color q 0) MARK) as (λ b. (cond b t (relinked t q)).color ≡ t.color)
-    [ true ↦ refl | false ↦ refl ]
+unhidden_color t q = grind (arith, common_steps)
 
 -- steps that leave the colours as they are
 pub costs-are : (step : Nodes → ℕ → Nodes) → ((t : Nodes) (q : ℕ) → (step t q).color ≡ t.color)
@@ -83,10 +79,7 @@ unmarked_items p col o (j ∷ js) = grind (arith, common_steps, unmarked_items p
 no_colour : (us : List Use) (j c : ℕ) → AllByRecursion (λ u. u.colour ≡ 0) us → colour_in us j ≡ Some c → c ≡ 0
 no_colour [] j c a e = cc
 no_colour (u ∷ us) j c a e =
-    elim (eqb u.item j) as (λ b. cond b (Some u.colour) (colour_in us j) ≡ Some c → c ≡ 0) [
-      | true ↦ λ f. sym (same_Some u.colour c f) ∙ a.0
-      | false ↦ λ f. no_colour us j c a.1 f
-    ] e
+    let rest = no_colour us j c a.1 in grind (arith, common_steps, same_Some)
 
 -- ---- the colours of its nodes
 

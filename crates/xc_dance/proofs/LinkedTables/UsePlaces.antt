@@ -26,33 +26,19 @@ use Rattle.xc_dance.specs.declared.links.nodes.TheConstants.{SPACER}
 pub item_there : (us : List Use) (i : ℕ) (d : Use) → place_in i us < length us → (get_or us (place_in i us) d).item ≡ i
 item_there [] i d h = absurd (omega (arith, h))
 item_there (u ∷ us) i d h =
-    elim (eqb u.item i) as (λ b. eqb u.item i ≡ b → cond (not b) (1 + place_in i us) 0 < suc (length us)
-    → (get_or (u ∷ us) (cond (not b) (1 + place_in i us) 0) d).item ≡ i) [
-      | true ↦ λ e l. eqb-true u.item i e
-      | false ↦ λ e l.
-          let next : 1 + place_in i us ≡ suc (place_in i us) = omega arith in
-          rw next (item_there us i d (omega (arith, l)))
-    ] refl h
+    let rest = item_there us i d in grind (arith, common_steps, eqb-true)
 
 -- an item that stands among uses is held
 pub held_of : (i : ℕ) (us : List Use) → place_in i us < length us → is_some (colour_in us i) ≡ true
 held_of i [] h = absurd (omega (arith, h))
 held_of i (u ∷ us) h =
-    elim (eqb u.item i) as (λ b. eqb u.item i ≡ b → cond (not b) (1 + place_in i us) 0 < suc (length us)
-    → is_some (colour_in (u ∷ us) i) ≡ true) [
-      | true ↦ λ e l. rw e refl
-      | false ↦ λ e l. rw e (held_of i us (omega (arith, l)))
-    ] refl h
+    let rest = held_of i us in grind (arith, common_steps)
 
 -- and the other way
 pub of_held : (us : List Use) (i : ℕ) → is_some (colour_in us i) ≡ true → place_in i us < length us
 of_held [] i h = cc
 of_held (u ∷ us) i h =
-    elim (eqb u.item i) as (λ b. eqb u.item i ≡ b → is_some (cond b (Some u.colour) (colour_in us i)) ≡ true
-    → cond (not b) (1 + place_in i us) 0 < suc (length us)) [
-      | true ↦ λ e l. omega arith
-      | false ↦ λ e l. omega (arith, of_held us i l)
-    ] refl h
+    let rest = of_held us i in grind (arith, common_steps)
 
 -- ---- the nodes of an option
 

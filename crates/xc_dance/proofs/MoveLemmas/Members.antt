@@ -32,10 +32,7 @@ same_members n (x ∷ xs) (y ∷ ys) r s h =
     let y_in : is_in y (x ∷ xs) ≡ true = first_in y ys (x ∷ xs) (h y) in
     let x_in : is_in x (y ∷ ys) ≡ true = sym (h x) ∙ is_in-first x xs in
     let le : x ≤ y = grind (arith, common_steps, eqb-true, in_above) in
-    let ge : y ≤ x = elim (eqb y x) as (λ b. eqb y x ≡ b → (b || is_in x ys) ≡ true → y ≤ x) [
-      | true ↦ λ e f. omega (arith, eqb-true y x e)
-      | false ↦ λ e f. omega (arith, in_above y x ys s.1 f)
-    ] refl x_in in
+    let ge : y ≤ x = grind (arith, common_steps, eqb-true, in_above) in
     let same : x ≡ y = omega (arith, le, ge) in
     ap₂ (λ k ks. k ∷ ks) same
     (same_members x xs ys r.1 (subst (λ k. Rises k ys) (sym same) s.1) (λ z.
