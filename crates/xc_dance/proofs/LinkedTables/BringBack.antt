@@ -96,23 +96,9 @@ pub unhide_marked : (p : Puzzle) (col : Node → ℕ) (ln : ℕ → Line) (j o :
     → Unhidden (nodes_from p ln col) (nodes_from p ln col) (link_place p j o)
 unhide_marked p col ln j o laid pos le o_pos name marked =
     let here = laid.there j o pos le name in
-    let q = link_place p j o in
-    let t : Nodes = nodes_from p ln col in
-    let q_in : q < length (layout p) = slice_get_within (layout p) q here.node here.at in
-    let long : length (map (top_in ln) (layout p)) ≡ length (layout p) = length-map (layout p) (top_in ln) in
-    let bad : get_or (map col (layout p)) q 0 ≢ MARK → ⊥ =
-    λ ne. ne (eqb-true (get_or (map col (layout p)) q 0) MARK marked) in
-    record {
-      can =
-          record {
-            size = size_from p ln col;
-            place = omega (arith, long, q_in);
-            use_of = omega (arith, get_item p ln j o here o_pos, le, laid.small);
-            places = λ ne. absurd (bad ne);
-            few = λ ne. absurd (bad ne);
-          };
-      done = unhidden-marked t q marked;
-    }
+    let within = slice_get_within (layout p) (link_place p j o) here.node here.at in
+    let item = get_item p ln j o here o_pos in
+    grind (arith, common_steps, eqb-true, size_from, unhidden-marked)
 
 -- ---- some items in turn
 

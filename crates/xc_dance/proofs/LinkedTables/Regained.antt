@@ -162,10 +162,7 @@ ended : (l m : Line) (a b : ℕ) (xs : List ℕ) (g : ℕ → Bool) → IsLinked
     → SameLinks l m
 ended l m a b [] g linked h e = all_back l m a b g linked h
 ended l m a b (y ∷ ys) g linked h e =
-    elim (g y) as (λ c. g y ≡ c → cond c (y ∷ filter g ys) (filter g ys) ≡ [] → SameLinks l m) [
-      | true ↦ λ f i. cc
-      | false ↦ λ f i. ended l m y y ys g linked.3 (pass_on l m a b y ys g linked f h) i
-    ] refl e
+    let rest = ended l m y y ys g linked.3 in grind (arith, common_steps, pass_on)
 
 pub regained : (l m : Line) → Regaining l m [] → m ≡ l
 regained l m r =

@@ -208,55 +208,13 @@ pub ruleset members = (by_first, in_above, in_more, in_rest, is_in-first, is_in-
 first_leaves : (l m : Line) (a y : ℕ) (ys ks : List ℕ) → IsLinkedFrom l a (y ∷ ys) → Rises a ks → Rises y ks
     → Swept (cut l y) m a ys ks → Swept l m a (y ∷ ys) ks
 first_leaves l m a y ys ks h ra ry s =
-    let lt : a < y = h.0 in
-    let is_u : l.up y ≡ a = h.2 in
     let r : Rises y ys = rises l y ys h.3 in
-    let y_out : is_in y ys ≡ false = not_in y y ys (omega arith) r in
-    let kept_up : (x : ℕ) → x ≢ 0 → is_in x ys ≡ false → m.up x ≡ l.up x = λ x nz out.
-    s.up_out x nz out ∙ put_at-other l.up (l.down y) (l.up y) x (below_first l y ys x h.3 nz out) in
-    record {
-      linked = s.linked;
-      up_in = λ x e. by_first (m.up x ≡ last_below a x ks) y x
-          (λ same. let nz : x ≢ 0 = λ z. omega arith in
-          let out : is_in x ys ≡ false = ap (λ k. is_in k ys) (sym same) ∙ y_out in
-          kept_up x nz out ∙ ap l.up (sym same) ∙ is_u ∙ sym (last_below-none a x y ks (omega arith) ry))
-          (λ ne. s.up_in x (in_rest y x ys ne e));
-      up_out = λ x nz e. let ne : y ≢ x = out_rest y x ys e in kept_up x nz (sym (is_in-other y x ys ne) ∙ e);
-      down_in = s.down_in;
-      down_out = λ x ne e. s.down_out x ne e ∙ put_at-other l.down (l.up y) (l.down y) x (λ f. ne (f ∙ is_u));
-      first = s.first;
-      last = s.last;
-    }
+    grind (arith, common_steps, above, below, members, below_first, put_at-other)
 
 first_stays : (l m : Line) (a y : ℕ) (ys ks : List ℕ) → IsLinkedFrom l a (y ∷ ys) → Rises y ks → Swept l m y ys ks
     → Swept l m a (y ∷ ys) (y ∷ ks)
 first_stays l m a y ys ks h ry s =
-    let lt : a < y = h.0 in
-    let r : Rises y ys = rises l y ys h.3 in
-    let y_out : is_in y ys ≡ false = not_in y y ys (omega arith) r in
-    let a_out : is_in a ks ≡ false = not_in y a ks (omega arith) ry in
-    let a_ne : a ≢ y = λ e. omega arith in
-    let nz : y ≢ 0 = λ z. omega arith in
-    let at_a : m.down a ≡ y = s.down_out a a_ne a_out ∙ h.1 in
-    let at_y : m.up y ≡ a = s.up_out y nz y_out ∙ h.2 in
-    record {
-      linked = (lt, at_a, at_y, s.linked);
-      up_in = λ x e. by_first (m.up x ≡ last_below a x (y ∷ ks)) y x
-          (λ same. ap m.up (sym same) ∙ at_y ∙ sym (last_below-self a y ks ry) ∙ ap (λ k. last_below a k (y ∷ ks)) same)
-          (λ ne. let within =
-          in_rest y x ys ne e in s.up_in x within ∙ sym (last_below-more a x y ks (in_above y x ys r within)));
-      up_out = λ x nz' e. let ne : y ≢ x = out_rest y x ys e in s.up_out x nz' (sym (is_in-other y x ys ne) ∙ e);
-      down_in = λ x ne e. by_first (m.down x ≡ first_above 0 x (y ∷ ks)) y x
-          (λ same. ap m.down (sym same) ∙ s.first ∙ sym (first_above-first 0 x y ks (omega arith) ry)
-          ∙ sym (first_above-more 0 x y ks (omega arith)))
-          (λ ne'. let within = in_rest y x ks ne' e in
-          let gt : y < x = in_above y x ks ry within in
-          s.down_in x (λ f. ne' (sym f)) within ∙ sym (first_above-more 0 x y ks (omega arith)));
-      down_out = λ x ne e. let ne' : y ≢ x = out_rest y x ks e in
-          s.down_out x (λ f. ne' (sym f)) (sym (is_in-other y x ks ne') ∙ e);
-      first = at_a;
-      last = s.last ∙ sym (last_of-more a y ks);
-    }
+    let r : Rises y ys = rises l y ys h.3 in grind (arith, common_steps, above, below, members)
 
 pub swept : (l : Line) (a : ℕ) (xs : List ℕ) (g : ℕ → Bool) → IsLinkedFrom l a xs
     → Swept l (cuts l (filter g xs)) a xs (stay g xs)
@@ -279,9 +237,7 @@ swept_len l (y ∷ ys) g n e =
 pub stay_same : (i : ℕ) (xs : List ℕ) → (is_in i xs ≡ true → ⊥) → stay (λ x. eqb x i) xs ≡ xs
 stay_same i [] out = refl
 stay_same i (y ∷ ys) out =
-    by_first (stay (λ x. eqb x i) (y ∷ ys) ≡ y ∷ ys) y i
-    (λ same. absurd (out (ap (λ k. is_in k (y ∷ ys)) (sym same) ∙ is_in-first y ys)))
-    (λ ne. rw (ne_eqb y i ne) (ap (λ ks. y ∷ ks) (stay_same i ys (λ e. out (is_in-other y i ys ne ∙ e)))))
+    let rest = stay_same i ys in grind (arith, common_steps, is_in-first, is_in-other)
 
 -- ---- the line that stands for an item's list, move by move
 
@@ -293,18 +249,7 @@ pub linked_by : (l : Line) (a : ℕ) (xs : List ℕ) → Rises a xs
     → l.down a ≡ first_of 0 xs → l.up 0 ≡ last_of a xs → IsLinkedFrom l a xs
 linked_by l a [] r up down first last = (first, last)
 linked_by l a (y ∷ ys) r up down first last =
-    let here = is_in-first y ys in (
-      r.0,
-      first,
-      up y here ∙ last_below-self a y ys r.1,
-      linked_by l y ys r.1
-          (λ x e. let lt = in_above y x ys r.1 e in let ne : y ≢ x = λ s. omega arith in up x
-          (is_in-other y x ys ne ∙ e) ∙ last_below-more a x y ys lt)
-          (λ x e. let lt = in_above y x ys r.1 e in let ne : y ≢ x = λ s. omega arith in down x
-          (is_in-other y x ys ne ∙ e) ∙ first_above-more 0 x y ys (omega arith))
-          (down y here ∙ first_above-more 0 y y ys (omega arith) ∙ first_above-first 0 y y ys (omega arith) r.1)
-          (last ∙ last_of-more a y ys),
-    )
+    let rest = linked_by l y ys r.1 in grind (arith, common_steps, above, below, members)
 
 -- ---- lists shrink
 

@@ -28,6 +28,7 @@ use Rattle.xc_dance.proofs.MoveLemmas.ListLemmas.{Rises-range}
 use Rattle.xc_dance.proofs.MoveLemmas.Members.{in_filter}
 use Rattle.xc_dance.proofs.MoveLemmas.StateLemmas.{open_uncovered}
 use Rattle.xc_dance.specs.inner.Links.Made.{CanTurn}
+use Rattle.std.proofs.Common.{eqb-true}
 
 abbrev pub base : Puzzle → Bool → List ℕ
 base p b = cond b (range_with_len 1 (primary_count p)) (range_with_len (primary_count p + 1) p.secondary)
@@ -55,17 +56,11 @@ ring_next p t i b = grind (arith, common_steps, filter_agree, filter_both)
 in_range : (a n q : ℕ) → a ≤ q → q < a + n → is_in q (range_with_len a n) ≡ true
 in_range a zero q le lt = absurd (omega arith)
 in_range a (suc n) q le lt =
-    by_first (is_in q (a ∷ range_with_len (a + 1) n) ≡ true) a q
-    (λ same. ap (λ k. is_in k (a ∷ range_with_len (a + 1) n)) (sym same) ∙ is_in-first a (range_with_len (a + 1) n))
-    (λ ne. in_more a q (range_with_len (a + 1) n) (in_range (a + 1) n q (omega arith) (omega arith)))
+    let rest = in_range (a + 1) n q in grind (arith, common_steps, eq-eqb, in_more, is_in-first)
 
 range_in : (a n q : ℕ) → is_in q (range_with_len a n) ≡ true → (a ≤ q) × (q < a + n)
 range_in a zero q e = absurd (false≢true e)
-range_in a (suc n) q e =
-    by_first ((a ≤ q) × (q < a + suc n)) a q
-    (λ same. (omega arith, omega arith))
-    (λ ne. let r =
-    range_in (a + 1) n q (in_rest a q (range_with_len (a + 1) n) ne e) in (omega (arith, r.0), omega (arith, r.1)))
+range_in a (suc n) q e = let rest = range_in (a + 1) n q in grind (arith, common_steps, eqb-true)
 
 side_true : (p : Puzzle) (q : ℕ) → q ≤ primary_count p → side p q ≡ true
 side_true p q h = le-leb q (primary_count p) h

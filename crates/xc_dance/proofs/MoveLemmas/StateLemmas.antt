@@ -103,28 +103,7 @@ pub next_open_here : (t : List Move) (n a len : ℕ) → is_open (n + 1) t ≡ t
     → next_above n (filter (λ i. is_open i t) (range_with_len a len)) ≡ Some (n + 1)
 next_open_here t n a zero e low high = absurd (omega (arith, low, high))
 next_open_here t n a (suc len) e low high =
-    by_place (λ more less. next_open_here t n (a + 1) len e more less) (eqb a (n + 1)) refl
-  where
-    by_place : (a + 1 ≤ n + 1 → n + 1 < a + 1 + len
-        → next_above n (filter (λ i. is_open i t) (range_with_len (a + 1) len)) ≡ Some (n + 1)) → (b : Bool)
-        → eqb a (n + 1) ≡ b → next_above n
-        (cond (is_open a t) (a ∷ filter (λ i. is_open i t) (range_with_len (a + 1) len))
-        (filter (λ i. is_open i t) (range_with_len (a + 1) len))) ≡ Some (n + 1)
-    by_place later true q =
-        let same : a ≡ n + 1 = eqb-true a (n + 1) q in
-        let above : ltb n a ≡ true = lt-ltb n a (omega (arith, same)) in
-        let open_here : is_open a t ≡ true = ap (λ k. is_open k t) same ∙ e in
-        rw (open_here, above, same) refl
-    by_place later false q =
-        let other : a ≢ n + 1 = λ e. (let y = eq-eqb a (n + 1) e in cc) in
-        let before : ltb n a ≡ false = le-ltb n a (omega (arith, other, low)) in
-        let rest = later (omega (arith, other, low)) (omega (arith, high)) in
-        elim (is_open a t) as (λ b. next_above n
-        (cond b (a ∷ filter (λ i. is_open i t) (range_with_len (a + 1) len))
-        (filter (λ i. is_open i t) (range_with_len (a + 1) len))) ≡ Some (n + 1)) [
-          | true ↦ rw before rest
-          | false ↦ rest
-        ]
+    let rest = next_open_here t n (a + 1) len e in grind (arith, common_steps, eq-eqb, eqb-true, le-ltb, lt-ltb)
 
 pub next_open_none : (t : List Move) (n a len : ℕ) → a + len ≤ n + 1
     → next_above n (filter (λ i. is_open i t) (range_with_len a len)) ≡ None
