@@ -21,6 +21,7 @@ use Rattle.xc_dance.proofs.LinkedTables.UsePlaces.{Segment, OptionNodes, option_
 use Rattle.xc_dance.proofs.LinkedTables.UsePlaces.{place_at_use, behind_segment, before_segment}
 use Rattle.xc_dance.specs.declared.links.nodes.TheConstants.{SPACER}
 use Rattle.std.proofs.lemmas.List.{nil_from_length}
+use Rattle.std.proofs.lemmas.Grind.{common_steps}
 
 abbrev no_use : Use
 no_use = record { item = 0; colour = 0 }
@@ -121,17 +122,13 @@ behind_at p i x place q s t laid fit held a =
       | true ↦ λ e.
           let n = next_at p x (place + 1) q vs s t seg a (ltb-true q (place + 1 + length vs) e) in
           let few = (laid.nodes.ranged q (used x n.u) n.u.item x n.node refl).1 in
-          record { within = n.within; node = λ _. n; end = λ g. absurd (omega (arith, g, n.item, few, laid.small)) }
+          let small = laid.small in grind (arith, common_steps)
       | false ↦ λ e.
           let at : q ≡ place + 1 + length vs = omega (arith, ltb-false q (place + 1 + length vs) e, a.to) in
           let cells =
           spacer_cells p t x (x - 1) q (omega (arith, held.known.0))
           (ap (slice_get (layout p)) (at ∙ all) ∙ o.behind) in
-          record {
-            within = cells.within;
-            node = λ g. absurd (omega (arith, g, cells.top));
-            end = λ _. (along_end p (place + 1) q vs s t a at, at ∙ all ∙ sym o.end);
-          }
+          grind (arith, common_steps, along_end)
     ] refl
 
 -- ---- Before it, from the option's first node up
@@ -156,11 +153,7 @@ before_at p i x place q s t fit held a =
     let o = option_nodes p x fit held.known in
     let all = before_all p i x place o held in
     let to = a.to in
-    record {
-      node = λ h. next_at p x (start_at p (x - 1)) q (uses_before p i x) s t (before_segment p i x (x - 1) o)
-          a (omega (arith, h, all));
-      end = λ h. along_end p (start_at p (x - 1)) q (uses_before p i x) s t a (omega (arith, h, all, to));
-    }
+    grind (arith, common_steps, along_end, before_segment, next_at)
 
 -- ULINK of the spacer leads to where that walk begins
 pub record Leads (p : Puzzle) (x place end : ℕ) (t : List Move) : Type 0 where

@@ -231,21 +231,8 @@ node_cells p ln col j o laid pos le o_pos name name_up name_down =
     let u_in = slice_get_within (layout p) (link_place p j ((ln j).up o)) above.node above.at in
     let d_in = slice_get_within (layout p) (link_place p j ((ln j).down o)) below.node below.at in
     let j_in = slice_get_within (layout p) j (own j) (laid.head j pos le) in
-    record {
-      above = above;
-      below = below;
-      up = up;
-      down = down;
-      item = item;
-      len = get_len p ln j laid pos le;
-      names =
-          record {
-            place = omega (arith, long, q_in);
-            top = omega (arith, long, j_in, item);
-            above = omega (arith, long, u_in, up);
-            below = omega (arith, long, d_in, down);
-          };
-    }
+    let len = get_len p ln j laid pos le in
+    grind (arith, common_steps)
 
 -- columns of links that lead the same way
 pub column_same : (p : Puzzle) (f g : ℕ → ℕ → ℕ) (fixed : Node → ℕ) → ((j x : ℕ) → g j x ≡ f j x)

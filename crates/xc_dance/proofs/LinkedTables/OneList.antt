@@ -349,15 +349,8 @@ pub listed_walk : (p : Puzzle) (col now : Node → ℕ) (spans : List Span) (i :
     → AllGood p ln lists → IsLinkedFrom (ln i) a xs → EachReady p col lists i keep xs → Rises a xs
     → Passed p i col now xs → Listed p col now spans i keep ln a xs (walked_table p col now i keep ln xs)
     (step_costs p col i keep xs)
-listed_walk p col now spans i keep ln lists a [] laid spanned pos le good linked ready r passed = record {
-  walk = tt;
-  done = refl;
-  back = tt;
-  undone = refl;
-  ends = ap (link_place p i) linked.1;
-  costs = refl;
-  costs_back = refl;
-}
+listed_walk p col now spans i keep ln lists a [] laid spanned pos le good linked ready r passed =
+    grind (arith, common_steps)
 listed_walk p col now spans i keep ln lists a (o ∷ xs) laid spanned pos le good linked ready r passed =
     let o_pos : 0 < o = let lt : a < o = r.0 in omega arith in
     let x = link_place p i o in

@@ -173,16 +173,7 @@ record Mid (p : Puzzle) (t : List Move) (spans : List Span) (covered : Bool) (i 
 
 mid_is : (p : Puzzle) (t : List Move) (spans : List Span) (covered : Bool) (i : ℕ) → AreLegal p t → IsFitted p spans
     → is_open i t ≡ not covered → (f : HasFirst p t i) → Mid p t spans covered i f.o
-mid_is p t spans true i legal fit shut f = record {
-  own = refl;
-  line = λ j. refl;
-  hide = λ e. absurd (false≢true (sym e));
-  done = refl;
-  unhide = λ e. absurd (false≢true (sym e));
-  undone = refl;
-  cost = refl;
-  cost_back = refl;
-}
+mid_is p t spans true i legal fit shut f = grind (arith, common_steps, false≢true)
 mid_is p t spans false i legal fit opened f =
     let o = f.o in
     let col = color_in p t in
