@@ -86,14 +86,8 @@ taken_last p t covered i k xs some tw e =
     let long : length xs ≡ length (reverse b) + length places = ap length is ∙ length-append (reverse b) places in
     let count : length places ≡ k = length-map os (link_place p i) ∙ tw.count in
     let at : length xs - k ≡ length (reverse b) = omega (arith, long, count) in
-    record {
-      enough = omega (arith, long, count);
-      first =
-          ap₂ (λ ys n. get_or ys n 0) is (at ∙ omega arith) ∙ get_or-append-add (reverse b) places 0 0
-          ∙ first_place os tw.count (tw.lines.list);
-      rest = ap₂ (λ n ys. reverse (take n ys)) at is ∙ ap reverse (take-append_seam (reverse b) places)
-          ∙ reverse-reverse b;
-    }
+    let first = first_place os tw.count tw.lines.list in
+    grind (arith, common_steps, get_or-append-add, take-append_seam)
   where
     first_place : (os : List ℕ) → length os ≡ k → listed_numbers p t i ≡ os ++ listed_numbers p (tweaks k i t) i
         → get_or (map (link_place p i) os) 0 0 ≡ link_place p i (first_of 0 (listed_numbers p t i))

@@ -123,12 +123,7 @@ follow_here {step} {writes} {Can} {links} {t0} {m} {x} {t} {p} {k} {n} lt h =
     let first : drop k all ≡ p ∷ drop (k + 1) all =
     at ∙ ap (λ y. y ∷ drop (k + 1) all) (sym (subst (CanFollow step Can links t p) at h.walk).0) in
     let w : CanFollow step Can links t p (p ∷ drop (k + 1) all) = subst (CanFollow step Can links t p) first h.walk in
-    record {
-      first = first;
-      can = w.1;
-      within = λ u is. subst (λ (v : Nodes). p < length (links v)) (sym is) w.2;
-      next = w.3;
-    }
+    grind (arith, common_steps)
 
 pub follow_on : {step : Nodes → ℕ → Nodes} {writes : Nodes → ℕ → ℕ} {Can : Nodes → ℕ → Type 0} {links : Nodes → List ℕ}
     {t0 : Nodes} {m x : ℕ} {t : Nodes} {p k n : ℕ} (u : Nodes) (q w : ℕ) → k < m → u ≡ step t p

@@ -1,4 +1,5 @@
 -- Commits of uses, one after another: what is legal and fits behind them did before.
+use Rattle.std.proofs.lemmas.Grind.{common_steps}
 use Rattle.std.proofs.Common.{ℕ, suc, ◌≡◌, ◌+◌, ◌-◌, ◌<◌, ◌≤◌, true, false, cond, leb, eqb, List, [], ◌∷◌, ◌++◌, length}
 use Rattle.std.proofs.Common.{drop, take, refl, sym, ap, ◌∙◌, arith, get_or, Some, drop-cons, length-drop}
 use Rattle.std.specs.Prelude.{unwrap_or}
@@ -13,60 +14,20 @@ use Rattle.xc_dance.specs.Commits.{CanStand, after_spend, after_use, after_uses,
 use Rattle.xc_input.specs.UsePlaces.{place_in}
 
 legal_after_spend : (p : Puzzle) (i : ℕ) (t : List Move) → AreLegal p (after_spend p i t) → AreLegal p t
-legal_after_spend p i t =
-    elim (eqb (high_at p i - spends i (Spend i ∷ t)) 0) as
-    (λ b. AreLegal p (cond b (Cover i ∷ Spend i ∷ t) (Spend i ∷ t)) → AreLegal p t) [
-      | true ↦ λ l. l.1.1
-      | false ↦ λ l. l.1
-    ]
+legal_after_spend p i t l = grind (arith, common_steps)
 
 pub legal_after_use : (p : Puzzle) (u : Use) (t : List Move) → AreLegal p (after_use p u t) → AreLegal p t
-legal_after_use p u t =
-    elim (leb u.item (primary_count p)) as
-    (λ b. AreLegal p (cond b (after_spend p u.item t)
-    (cond (eqb u.colour 0) (Cover u.item ∷ t) (cond (is_open u.item t) (Purify u.item u.colour ∷ t) t)))
-    → AreLegal p t) [
-      | true ↦ legal_after_spend p u.item t
-      | false ↦ elim (eqb u.colour 0) as
-          (λ b. AreLegal p (cond b (Cover u.item ∷ t) (cond (is_open u.item t) (Purify u.item u.colour ∷ t) t))
-          → AreLegal p t) [
-            | true ↦ λ l. l.1
-            | false ↦ elim (is_open u.item t) as
-                (λ b. AreLegal p (cond b (Purify u.item u.colour ∷ t) t) → AreLegal p t) [
-                  | true ↦ λ l. l.1
-                  | false ↦ λ l. l
-                ]
-          ]
-    ]
+legal_after_use p u t l = grind (arith, common_steps, legal_after_spend)
 
 pub legal_after_uses : (p : Puzzle) (us : List Use) (t : List Move) → AreLegal p (after_uses p us t) → AreLegal p t
 legal_after_uses p [] t l = l
 legal_after_uses p (u ∷ us) t l = legal_after_use p u t (legal_after_uses p us (after_use p u t) l)
 
 longer_spend : (p : Puzzle) (i : ℕ) (t : List Move) → length t ≤ length (after_spend p i t)
-longer_spend p i t =
-    elim (eqb (high_at p i - spends i (Spend i ∷ t)) 0) as
-    (λ b. length t ≤ length (cond b (Cover i ∷ Spend i ∷ t) (Spend i ∷ t))) [
-      | true ↦ omega arith
-      | false ↦ omega arith
-    ]
+longer_spend p i t = grind (arith, common_steps)
 
 longer_use : (p : Puzzle) (u : Use) (t : List Move) → length t ≤ length (after_use p u t)
-longer_use p u t =
-    elim (leb u.item (primary_count p)) as
-    (λ b. length t ≤ length (cond b (after_spend p u.item t)
-    (cond (eqb u.colour 0) (Cover u.item ∷ t) (cond (is_open u.item t) (Purify u.item u.colour ∷ t) t)))) [
-      | true ↦ longer_spend p u.item t
-      | false ↦ elim (eqb u.colour 0) as
-          (λ b. length t ≤ length (cond b (Cover u.item ∷ t)
-          (cond (is_open u.item t) (Purify u.item u.colour ∷ t) t))) [
-            | true ↦ omega arith
-            | false ↦ elim (is_open u.item t) as (λ b. length t ≤ length (cond b (Purify u.item u.colour ∷ t) t)) [
-              | true ↦ omega arith
-              | false ↦ omega arith
-            ]
-          ]
-    ]
+longer_use p u t = grind (arith, common_steps, longer_spend)
 
 longer_uses : (p : Puzzle) (us : List Use) (t : List Move) → length t ≤ length (after_uses p us t)
 longer_uses p [] t = omega arith
