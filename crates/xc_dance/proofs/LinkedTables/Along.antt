@@ -1,5 +1,5 @@
 -- Along an option's nodes: which uses were committed where a walk over them stands, and what it finds there.
-use Rattle.std.proofs.Common.{Bool, true, false, ltb, ltb-true, ltb-false, ℕ, ◌≡◌, ◌+◌, ◌-◌, ◌<◌, ◌≤◌, List, [], ◌∷◌}
+use Rattle.std.proofs.Common.{true, false, ltb, ltb-true, ltb-false, ℕ, ◌≡◌, ◌+◌, ◌-◌, ◌<◌, ◌≤◌, List, []}
 use Rattle.std.proofs.Common.{length, drop, get_or, Some, refl, sym, ap, ◌∙◌, arith, subst, length-drop, length-take}
 use Rattle.std.specs.Prelude.{slice_get}
 use Rattle.std.proofs.lemmas.Option.{slice_get-get_or}

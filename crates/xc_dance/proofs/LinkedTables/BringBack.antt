@@ -1,7 +1,7 @@
 -- Down the nodes that Tweaks of one item took off: each option comes back into the lists of its other items, and into
 -- its own.
 use Rattle.std.proofs.Common.{◌≡◌, ◌≢◌, ℕ, ◌+◌, ◌<◌, ◌≤◌, ◌^◌, true, false, cond, ◌||◌, eqb, List, [], ◌∷◌, length, map}
-use Rattle.std.proofs.Common.{fold, get_or, set, refl, ap, sym, subst, ◌∙◌, arith, eqb-true, eq-eqb, ◌*◌, inr, Bool}
+use Rattle.std.proofs.Common.{fold, get_or, set, refl, ap, sym, subst, ◌∙◌, arith, eqb-true, eq-eqb, inr, Bool}
 use Rattle.std.proofs.Common.{not, ◌&&◌, ◌++◌, filter, reverse, ap₂, ne_eqb}
 use Rattle.std.specs.List.{list_any}
 use Rattle.std.proofs.lemmas.Grind.{common_steps}
@@ -11,7 +11,7 @@ use Rattle.std.proofs.lemmas.Option.{slice_get_within}
 use Rattle.std.proofs.Math.Bool.{or-true}
 use Rattle.xc_input.specs.Problem.{Puzzle, item_count, uses_of}
 use Rattle.xc_dance.specs.declared.links.nodes.Nodes.{Nodes}
-use Rattle.xc_dance.specs.Fields.{Node, layout, link_place, is_in, unused, own, spacer, used}
+use Rattle.xc_dance.specs.Fields.{Node, layout, link_place, is_in, own}
 use Rattle.xc_dance.specs.inner.Links.Lines.{Line}
 use Rattle.xc_dance.specs.inner.Links.Steps.{relinked, unhidden, CanUnhide, CanUnhideAll, CanUnhideNode, others_of}
 use Rattle.xc_dance.specs.inner.Links.Steps.{unhide_costs}
@@ -28,9 +28,9 @@ use Rattle.xc_dance.specs.inner.Links.Made.{IsFitted}
 use Rattle.xc_dance.proofs.LinkedTables.LinkColumns.{same_nodes, unhidden-open, unhidden-marked, set_link, set_top}
 use Rattle.xc_dance.proofs.LinkedTables.LinkColumns.{get_item, size_from, node_cells, map_same, Stands, get_down}
 use Rattle.xc_dance.proofs.LinkedTables.OneOption.{is_mark, IsApart, AllApart, changed_one, changed_all, one_other}
-use Rattle.xc_dance.proofs.LinkedTables.OneOption.{gone_count, all_at, line_here, line_there}
+use Rattle.xc_dance.proofs.LinkedTables.OneOption.{all_at, line_here, line_there}
 use Rattle.xc_dance.proofs.LinkedTables.Sweep.{mended, with_line, in_above, by_first, put_at-same, put_at-other, put_at}
-use Rattle.xc_dance.proofs.LinkedTables.Sweep.{other_items}
+use Rattle.xc_dance.proofs.LinkedTables.Sweep.{other_items, is_in-first, in_more}
 use Rattle.xc_dance.proofs.LinkedTables.OtherItems.{out_of, leaves, in_others, others_apart, own_apart}
 use Rattle.xc_dance.proofs.LinkedTables.OtherItems.{item_range, in_reverse, apart_reverse}
 use Rattle.xc_dance.proofs.LinkedTables.UnmarkedNodes.{costs-are, unhidden_color, unmarked-reverse, unmarked_items}
@@ -41,11 +41,7 @@ use Rattle.xc_dance.proofs.LinkedTables.MarkedNodes.{stands_in}
 use Rattle.xc_dance.proofs.LinkedTables.Leaving.{met_at}
 use Rattle.xc_dance.proofs.LinkedTables.Regained.{Regaining, NextBack, next_back}
 use Rattle.xc_dance.proofs.LinkedTables.Spacers.{others_are, can_unhide_node}
-use Rattle.xc_dance.specs.declared.links.nodes.TheConstants.{MARK}
-use Rattle.xc_dance.proofs.LinkedTables.Sweep.{is_in-first}
-use Rattle.xc_dance.proofs.LinkedTables.TweakStep.{to_come}
-use Rattle.xc_dance.proofs.LinkedTables.TweakStep.{back_writes}
-use Rattle.xc_dance.proofs.LinkedTables.Sweep.{in_more}
+use Rattle.xc_dance.proofs.LinkedTables.TweakStep.{to_come, back_writes}
 
 -- ---- an option comes back into the lists of some of its items, whatever state these lists are in: what a step of
 -- unhide does where its neighbours are named

@@ -2,7 +2,7 @@
 -- more.
 use Rattle.std.proofs.Common.{◌≡◌, ℕ, zero, suc, ◌<◌, ◌≤◌, ◌^◌, List, [], ◌∷◌, ◌++◌, length, map, get_or, reverse, refl}
 use Rattle.std.proofs.Common.{ap, ap₂, sym, ◌∙◌, arith, inl, inr, ◌+◌, ◌*◌, true, false, eqb, filter, Option, Some}
-use Rattle.std.proofs.Common.{subst, eqb-true, not, fold, None, eq-eqb, ne_eqb}
+use Rattle.std.proofs.Common.{subst, eqb-true, not, fold, None, eq-eqb, ne_eqb, append-nil}
 use Rattle.std.specs.List.{AllByRecursion}
 use Rattle.std.specs.Prelude.{slice_get, unwrap_or}
 use Rattle.std.proofs.lemmas.Grind.{common_steps}
@@ -20,7 +20,6 @@ use Rattle.xc_dance.specs.inner.Links.Laid.{Placed, IsLaid, IsFit}
 use Rattle.xc_dance.specs.declared.links.nodes.Nodes.{Nodes}
 use Rattle.xc_dance.specs.inner.Links.Span.{Span}
 use Rattle.xc_dance.specs.inner.Lists.Losing.{is_kept}
-use Rattle.xc_dance.specs.inner.Links.Others.{HasSpans}
 use Rattle.xc_dance.specs.Cost.{leaving, cost_of, marking}
 use Rattle.xc_dance.specs.declared.dance.Move.TheVariants.{Cover, Purify}
 use Rattle.xc_dance.specs.inner.Links.ListWalks.{left_node, back_node, with_colour, IsWalk, IsWalkBack, CanHideList}
@@ -45,7 +44,6 @@ use Rattle.xc_dance.proofs.MoveLemmas.Shortened.{rises_listed}
 use Rattle.xc_dance.proofs.MoveLemmas.StateLemmas.{open_unpurified}
 use Rattle.xc_dance.proofs.LinkedTables.MarkedNodes.{marked_none, cover_colours, purify_start, purify_colours}
 use Rattle.xc_dance.proofs.LinkedTables.LaidLemmas.{IsOption}
-use Rattle.std.proofs.Common.{append-nil}
 
 -- ---- a list as the links and LEN of the node table lead to it
 

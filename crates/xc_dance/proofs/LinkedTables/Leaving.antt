@@ -7,7 +7,7 @@ use Rattle.std.specs.Prelude.{is_some, sum_by}
 use Rattle.std.specs.List.{AllByRecursion, range_with_len}
 use Rattle.std.proofs.lemmas.Grind.{common_steps}
 use Rattle.std.proofs.lemmas.Bool.{eqb-false, false≢true, and_parts}
-use Rattle.std.proofs.Math.Bool.{not-not, or-true, and-false}
+use Rattle.std.proofs.Math.Bool.{not-not, and-false}
 use Rattle.std.proofs.lemmas.List.Sums.{sum_by-cons}
 use Rattle.std.proofs.lemmas.List.{length-map}
 use Rattle.std.proofs.lemmas.List.Elements.{filter_agree}
@@ -25,7 +25,8 @@ use Rattle.xc_dance.specs.declared.dance.Move.TheVariants.{Cover, Purify, Tweak}
 use Rattle.xc_input.proofs.lists.EachElement.{each-filter, each_both, each-map, each_weaker}
 use Rattle.xc_input.proofs.lists.Filters.{filter_same}
 use Rattle.xc_dance.proofs.LinkedTables.Sweep.{other_items, in_above, Rises, Rises-filter, stay, stay_all, leave_none}
-use Rattle.xc_dance.proofs.LinkedTables.Sweep.{goes, without_numbers, filter_numbers, drop_numbers}
+use Rattle.xc_dance.proofs.LinkedTables.Sweep.{goes, without_numbers, filter_numbers, drop_numbers, is_in-first}
+use Rattle.xc_dance.proofs.LinkedTables.Sweep.{in_more}
 use Rattle.xc_dance.proofs.LinkedTables.LinkColumns.{Stands}
 use Rattle.xc_dance.proofs.MoveLemmas.OpenLists.{listed_open}
 use Rattle.xc_dance.proofs.LinkedTables.GoodLines.{Named, numbers_named, SameCut}
@@ -38,8 +39,6 @@ use Rattle.xc_dance.proofs.LinkedTables.MarkedNodes.{options_left, Met, each_met
 use Rattle.xc_dance.proofs.LinkedTables.MarkedNodes.{colour_some, colour_small}
 use Rattle.xc_dance.proofs.LinkedTables.LaidLemmas.{IsOption}
 use Rattle.xc_dance.specs.declared.links.nodes.TheConstants.{MARK}
-use Rattle.xc_dance.proofs.LinkedTables.Sweep.{is_in-first}
-use Rattle.xc_dance.proofs.LinkedTables.Sweep.{in_more}
 
 ready_by : (p : Puzzle) (col : Node → ℕ) (lists : ℕ → List ℕ) (o : ℕ) (js : List ℕ)
     → ((j : ℕ) → is_in j js ≡ true → (0 < j) × (j ≤ item_count p) × Named p j o

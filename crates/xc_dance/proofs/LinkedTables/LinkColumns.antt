@@ -1,6 +1,6 @@
 -- The columns of the node table, one write to them, and steps of hide that undo one another.
 use Rattle.std.proofs.Common.{◌≡◌, ◌≢◌, ℕ, zero, suc, List, [], ◌∷◌, map, get_or, set, Some, refl, ap, ap₂, arith, ◌<◌}
-use Rattle.std.proofs.Common.{Bool, true, false, cond, eqb, reverse, fold, ◌∙◌, length, ◌≤◌, Option, None, sym}
+use Rattle.std.proofs.Common.{true, false, cond, eqb, reverse, fold, ◌∙◌, length, ◌≤◌, Option, None, sym}
 use Rattle.std.proofs.Common.{eqb-true, eq-eqb, ne_eqb, ◌^◌, ◌++◌}
 use Rattle.std.specs.Prelude.{slice_get}
 use Rattle.std.proofs.lemmas.Option.{same_Some, slice_get_within}

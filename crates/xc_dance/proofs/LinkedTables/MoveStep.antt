@@ -1,8 +1,7 @@
 -- From one move to the next: the tables after moves let the next legal move be made, and are then those after it; and
 -- back.
-use Rattle.std.proofs.Common.{◌≡◌, ℕ, ◌+◌, ◌-◌, cond, eqb, List, ◌∷◌, refl, ap, ◌≢◌, ◌<◌, ◌≤◌, true, false, not}
-use Rattle.std.proofs.Common.{◌||◌, [], length, get_or, sym, subst, ◌∙◌, arith, eqb-true, eq-eqb, ne_eqb, None, ◌++◌}
-use Rattle.std.proofs.Common.{reverse}
+use Rattle.std.proofs.Common.{◌≡◌, ℕ, ◌+◌, ◌-◌, cond, eqb, List, ◌∷◌, refl, ap, ◌≢◌, ◌<◌, ◌≤◌, true, false, not, ◌||◌}
+use Rattle.std.proofs.Common.{[], length, get_or, sym, subst, ◌∙◌, arith, eqb-true, eq-eqb, ne_eqb, None, ◌++◌, reverse}
 use Rattle.std.proofs.lemmas.Grind.{common_steps}
 use Rattle.std.proofs.lemmas.Bool.{false≢true}
 use Rattle.std.proofs.lemmas.List.{reverse-append}

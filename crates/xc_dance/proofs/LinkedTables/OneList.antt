@@ -2,7 +2,6 @@
 use Rattle.std.proofs.Common.{◌≡◌, ℕ, true, false, cond, ◌&&◌, eqb, List, map, get_or, set, Option, Some, None, refl}
 use Rattle.std.proofs.Common.{ap, ap₂, sym, ◌∙◌, eqb-true, eq-eqb, arith, ◌≢◌, ◌+◌, ◌*◌, ◌<◌, ◌≤◌, inr, not, ◌||◌, []}
 use Rattle.std.proofs.Common.{◌∷◌, ◌++◌, length, fold, filter, reverse, subst, ne_eqb}
-use Rattle.std.specs.Prelude.{slice_get}
 use Rattle.std.proofs.lemmas.Grind.{common_steps}
 use Rattle.std.proofs.lemmas.Bool.{false≢true, and_right}
 use Rattle.std.proofs.lemmas.List.{length-map, reverse-append}
@@ -20,17 +19,15 @@ use Rattle.xc_dance.specs.inner.Links.Span.{Span}
 use Rattle.xc_dance.specs.inner.Lists.Losing.{is_kept}
 use Rattle.xc_dance.specs.inner.Links.Others.{before_use, behind_use, HasSpans}
 use Rattle.xc_dance.proofs.LinkedTables.LinkColumns.{get_map, map_put, same_nodes, written_back, Stands, get_up}
-use Rattle.xc_dance.proofs.LinkedTables.LinkColumns.{get_down}
+use Rattle.xc_dance.proofs.LinkedTables.LinkColumns.{get_down, same_at}
 use Rattle.xc_dance.proofs.LinkedTables.Sweep.{is_slot, with_color, in_more, Rises, in_above, cut, IsLinkedFrom}
-use Rattle.xc_dance.proofs.LinkedTables.Sweep.{other_items}
+use Rattle.xc_dance.proofs.LinkedTables.Sweep.{other_items, is_in-first}
 use Rattle.xc_dance.proofs.LinkedTables.GoodLines.{Named, AllGood}
 use Rattle.xc_dance.proofs.LinkedTables.OneOption.{is_mark, left_one, left_all, IsApart, AreReady, walked, ready_front}
 use Rattle.xc_dance.proofs.LinkedTables.OneOption.{all_other, gone_count}
 use Rattle.xc_dance.proofs.LinkedTables.Spacers.{Turns, turns}
 use Rattle.xc_dance.proofs.LinkedTables.Walks.{costs-append}
 use Rattle.xc_dance.specs.declared.links.nodes.TheConstants.{MARK}
-use Rattle.xc_dance.proofs.LinkedTables.Sweep.{is_in-first}
-use Rattle.xc_dance.proofs.LinkedTables.LinkColumns.{same_at}
 
 -- ---- the colour of one node of the table
 

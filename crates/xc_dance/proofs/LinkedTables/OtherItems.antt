@@ -1,6 +1,6 @@
 -- The other items of an option: what its leaving does to the line of each, and that they are apart.
-use Rattle.std.proofs.Common.{◌≡◌, ℕ, Bool, true, false, not, cond, ◌&&◌, ◌||◌, eqb, List, [], ◌∷◌, map, filter, Some}
-use Rattle.std.proofs.Common.{refl, ap, sym, ◌∙◌, eqb-true, eq-eqb, ne_eqb, arith, ◌≢◌, ◌<◌, ◌≤◌, ◌++◌}
+use Rattle.std.proofs.Common.{◌≡◌, ℕ, Bool, true, false, not, ◌&&◌, ◌||◌, eqb, List, [], ◌∷◌, map, filter, refl, ap}
+use Rattle.std.proofs.Common.{sym, ◌∙◌, eqb-true, eq-eqb, ne_eqb, arith, ◌≢◌, ◌<◌, ◌≤◌, ◌++◌, reverse, subst}
 use Rattle.std.specs.Prelude.{is_some}
 use Rattle.std.specs.List.{AllByRecursion}
 use Rattle.std.proofs.lemmas.Grind.{common_steps}
@@ -8,8 +8,6 @@ use Rattle.std.proofs.lemmas.Bool.{eqb-false, false≢true}
 use Rattle.std.proofs.lemmas.List.Folds.{list_any-append}
 use Rattle.std.proofs.lemmas.List.Sorted.{list_any-IsPermutation, IsPermutation-reverse}
 use Rattle.std.proofs.lemmas.List.{reverse-append}
-use Rattle.std.proofs.Common.{reverse, subst}
-use Rattle.std.proofs.Math.Bool.{or-false}
 use Rattle.xc_input.specs.declared.problem.Use.{Use}
 use Rattle.xc_input.specs.Problem.{Puzzle, colour_in, uses_of, item_count}
 use Rattle.xc_dance.specs.Fields.{Node, is_in}

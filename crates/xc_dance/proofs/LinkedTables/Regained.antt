@@ -1,22 +1,18 @@
 -- Members that left one line from top to bottom come back in the same order: each finds its neighbours of before, and
 -- at the end the line is as it was.
 use Rattle.std.proofs.Common.{◌≡◌, ◌≢◌, ℕ, ◌<◌, ◌≤◌, ◌⊎◌, Bool, true, false, not, cond, ◌&&◌, List, [], ◌∷◌, filter}
-use Rattle.std.proofs.Common.{refl, ap, ap₂, sym, subst, ◌∙◌, arith}
+use Rattle.std.proofs.Common.{refl, ap, ap₂, sym, subst, ◌∙◌, arith, ◌+◌, length}
 use Rattle.std.proofs.lemmas.Grind.{common_steps}
 use Rattle.std.proofs.lemmas.Bool.{false≢true}
 use Rattle.xc_dance.specs.inner.Links.Lines.{Line}
 use Rattle.xc_dance.specs.Fields.{last_below, first_above, first_of, last_of, is_in}
-use Rattle.xc_dance.proofs.LinkedTables.Sweep.{in_more, Rises, Rises-filter, Swept, swept, stay, cuts, rises}
-use Rattle.xc_dance.proofs.LinkedTables.Sweep.{above, below, members, in_above, is_in-first, by_first, put_at-same}
-use Rattle.xc_dance.proofs.LinkedTables.Sweep.{put_at-other}
-use Rattle.xc_dance.proofs.LinkedTables.Sweep.{last_below-none, last_below-self, last_below-more}
-use Rattle.xc_dance.proofs.LinkedTables.Sweep.{mended, IsLinkedFrom}
+use Rattle.xc_dance.proofs.LinkedTables.Sweep.{in_more, Rises, Rises-filter, Swept, swept, stay, cuts, rises, above}
+use Rattle.xc_dance.proofs.LinkedTables.Sweep.{below, members, in_above, is_in-first, by_first, put_at-same}
+use Rattle.xc_dance.proofs.LinkedTables.Sweep.{put_at-other, last_below-none, last_below-self, last_below-more, mended}
+use Rattle.xc_dance.proofs.LinkedTables.Sweep.{IsLinkedFrom, cut}
 use Rattle.xc_dance.proofs.MoveLemmas.Members.{in_filter}
 use Rattle.xc_dance.proofs.LinkedTables.GoodLines.{line_is}
-use Rattle.std.proofs.Common.{◌+◌}
-use Rattle.std.proofs.Common.{length}
 use Rattle.xc_input.proofs.lists.Filters.{length-filter-le}
-use Rattle.xc_dance.proofs.LinkedTables.Sweep.{cut}
 
 -- The members before xs are back, a being the last of them and b the last of them that had stayed; those of xs that
 -- pass the test are still gone.

@@ -1,6 +1,6 @@
 -- Tables have the same columns exactly where they have the same fields; when two keepers are the same.
 use Rattle.std.proofs.Common.{◌≡◌, ◌≢◌, ℕ, suc, ◌+◌, true, false, eqb, ltb, List, length, map, Some, refl, ap, sym}
-use Rattle.std.proofs.Common.{subst, ◌∙◌, arith, eqb-true, ltb-true, ltb-false, Bool, reverse, IsTrue}
+use Rattle.std.proofs.Common.{subst, ◌∙◌, arith, eqb-true, ltb-true, ltb-false, Bool, reverse, IsTrue, Option, ℤ}
 use Rattle.std.specs.Prelude.{slice_get, option_map}
 use Rattle.std.specs.List.{range_with_len}
 use Rattle.std.proofs.lemmas.Bool.{eqb-false}
@@ -15,7 +15,7 @@ use Rattle.xc_dance.specs.declared.links.nodes.Nodes.{Nodes}
 use Rattle.xc_dance.specs.declared.links.items.Items.{Items}
 use Rattle.xc_dance.specs.Fields.{field_of}
 use Rattle.xc_dance.specs.inner.Links.Cells.{nodes_after}
-use Rattle.xc_dance.specs.inner.Links.ItemCells.{items_after, llink_at}
+use Rattle.xc_dance.specs.inner.Links.ItemCells.{items_after, llink_at, bound_at, slack_at}
 use Rattle.xc_dance.specs.inner.Links.Read.{color_read, top_read}
 use Rattle.xc_dance.specs.inner.Links.Span.{Span}
 use Rattle.xc_dance.specs.inner.Links.Made.{IsFitted}
@@ -26,8 +26,6 @@ use Rattle.xc_dance.proofs.LinkedTables.TopCells.{dlink_cell, color_own, color_u
 use Rattle.xc_dance.proofs.LinkedTables.TopCells.{natural_same, same_list, IsSound, top_cells}
 use Rattle.xc_dance.proofs.LinkedTables.LinkColumns.{same_nodes}
 use Rattle.xc_dance.proofs.LinkedTables.RingStep.{same_items}
-use Rattle.std.proofs.Common.{Option, ℤ}
-use Rattle.xc_dance.specs.inner.Links.ItemCells.{bound_at, slack_at}
 
 -- ---- tables have the same columns exactly where they have the same fields
 

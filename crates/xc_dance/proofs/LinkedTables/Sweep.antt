@@ -11,7 +11,7 @@ use Rattle.xc_dance.specs.Fields.{Node, last_below, first_above, first_of, last_
 use Rattle.xc_dance.specs.inner.Links.Cells.{slot_of, line_of, up_of, down_of}
 use Rattle.xc_dance.specs.inner.Links.Others.{before_use, behind_use}
 use Rattle.xc_dance.specs.declared.dance.Move.{Move}
-use Rattle.xc_dance.specs.declared.dance.Move.TheVariants.{Cover, Purify, Tweak, Spend}
+use Rattle.xc_dance.specs.declared.dance.Move.TheVariants.{Cover}
 use Rattle.xc_dance.specs.Moves.{without, listed_numbers}
 use Rattle.xc_input.proofs.lists.Filters.{filter-map}
 use Rattle.xc_dance.proofs.MoveLemmas.Shortened.{rises_listed}

@@ -1,7 +1,7 @@
 -- Cover on the item table: an item leaves its ring and comes back.
 use Rattle.std.proofs.Common.{◌≡◌, ◌≢◌, ℕ, zero, suc, ◌+◌, ◌<◌, ◌≤◌, ◌⊎◌, inl, inr, Bool, true, false, not, cond, ◌&&◌}
 use Rattle.std.proofs.Common.{◌||◌, eqb, leb, List, ◌∷◌, length, map, filter, get_or, set, refl, ap, ap₂, sym, subst}
-use Rattle.std.proofs.Common.{◌∙◌, arith, eq-eqb, ne_eqb, le-leb, leb-true, reverse, []}
+use Rattle.std.proofs.Common.{◌∙◌, arith, eq-eqb, ne_eqb, le-leb, leb-true, reverse, [], eqb-true}
 use Rattle.std.proofs.lemmas.Grind.{common_steps}
 use Rattle.std.specs.List.{range_with_len}
 use Rattle.std.proofs.lemmas.Bool.{false≢true, not-true, and_parts, lt-leb, leb-false, or_parts}
@@ -28,7 +28,6 @@ use Rattle.xc_dance.proofs.MoveLemmas.ListLemmas.{Rises-range}
 use Rattle.xc_dance.proofs.MoveLemmas.Members.{in_filter}
 use Rattle.xc_dance.proofs.MoveLemmas.StateLemmas.{open_uncovered}
 use Rattle.xc_dance.specs.inner.Links.Made.{CanTurn}
-use Rattle.std.proofs.Common.{eqb-true}
 
 abbrev pub base : Puzzle → Bool → List ℕ
 base p b = cond b (range_with_len 1 (primary_count p)) (range_with_len (primary_count p + 1) p.secondary)

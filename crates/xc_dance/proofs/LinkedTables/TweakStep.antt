@@ -10,7 +10,7 @@ use Rattle.xc_dance.specs.declared.dance.Move.{Move}
 use Rattle.xc_dance.specs.declared.dance.Move.TheVariants.{Tweak}
 use Rattle.xc_dance.specs.declared.links.nodes.Nodes.{Nodes}
 use Rattle.xc_dance.specs.inner.Links.Span.{Span}
-use Rattle.xc_input.specs.Problem.{Puzzle, item_count, uses_of}
+use Rattle.xc_input.specs.Problem.{Puzzle, item_count}
 use Rattle.xc_dance.specs.Moves.{listed, is_open, AreLegal, listed_numbers}
 use Rattle.xc_dance.specs.Fields.{Node, unused, own, layout, link_place, first_of, is_in}
 use Rattle.xc_dance.specs.inner.Links.Lines.{Line}
@@ -19,28 +19,23 @@ use Rattle.xc_dance.specs.inner.Links.Steps.{CanUnhideNode, hide_costs, unhide_c
 use Rattle.xc_dance.specs.inner.Links.Tweaking.{hidden_unless, unhidden_unless, tweaked, untweaked, CanTweak}
 use Rattle.xc_dance.specs.inner.Links.Tweaking.{CanTweakAt, CanUntweak, tweak_cost, untweak_cost}
 use Rattle.xc_dance.specs.inner.Links.Cells.{color_in, dlink_in, nodes_from, nodes_after, line_of}
-use Rattle.xc_dance.specs.inner.Links.Others.{before_use, behind_use}
 use Rattle.xc_dance.specs.inner.Links.Made.{IsFitted}
 use Rattle.std.proofs.lemmas.Option.{slice_get_within}
 use Rattle.xc_dance.proofs.LinkedTables.LinkColumns.{relinked-unlinked, CanRelink-unlinked, get_down, size_from}
 use Rattle.xc_dance.proofs.LinkedTables.GoodLines.{IsMember, unlinked-is, linked-is, member_cells, Named, IsGood}
-use Rattle.xc_dance.proofs.LinkedTables.GoodLines.{AllGood, member, all_good, numbers_named, SameCut, line_after}
-use Rattle.xc_dance.proofs.LinkedTables.GoodLines.{tables_same}
+use Rattle.xc_dance.proofs.LinkedTables.GoodLines.{member, all_good, numbers_named, SameCut, line_after, tables_same}
 use Rattle.xc_dance.proofs.LinkedTables.Sweep.{Rises, stay, cuts, is_in-first, drop_first, stay_all, leave_none, cut}
 use Rattle.xc_dance.proofs.LinkedTables.Sweep.{with_line, other_items}
-use Rattle.xc_dance.proofs.LinkedTables.OneOption.{left_all, walked, ready_front, all_other, line_here, line_there}
-use Rattle.xc_dance.proofs.LinkedTables.Spacers.{turns}
+use Rattle.xc_dance.proofs.LinkedTables.OneOption.{left_all, all_other, line_here, line_there, gone_count}
 use Rattle.xc_dance.proofs.LinkedTables.OtherItems.{leaves, list_at, each_apart, own_apart}
 use Rattle.xc_dance.proofs.LinkedTables.Leaving.{ready_at, AreOf, cut_others, leaves_own, total, total_same, total_plus}
 use Rattle.xc_dance.proofs.LinkedTables.Leaving.{total_zero, total_point, exchanged, leaving_is, first_alone}
-use Rattle.xc_dance.proofs.LinkedTables.Leaving.{takes_tweak, tweak_others, tweak_own}
+use Rattle.xc_dance.proofs.LinkedTables.Leaving.{takes_tweak, tweak_others, tweak_own, InRange}
 use Rattle.xc_dance.specs.Cost.{cost_of, leaving}
 use Rattle.xc_dance.proofs.LinkedTables.HideMoves.{own_placed}
 use Rattle.xc_dance.proofs.MoveLemmas.Shortened.{rises_listed}
 use Rattle.xc_dance.specs.inner.Links.Laid.{IsFit}
-use Rattle.xc_dance.proofs.LinkedTables.OneOption.{gone_count}
 use Rattle.xc_dance.proofs.LinkedTables.OneList.{turns_ready}
-use Rattle.xc_dance.proofs.LinkedTables.Leaving.{InRange}
 
 -- the first of item i's list
 pub record HasFirst (p : Puzzle) (t : List Move) (i : ℕ) : Type 0 where

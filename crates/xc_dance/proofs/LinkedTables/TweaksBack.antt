@@ -1,7 +1,7 @@
 -- Some Tweaks of one item undone at once: the lines before and after them, the whole way down, and the node table.
 use Rattle.std.proofs.Common.{◌≡◌, ◌≢◌, ℕ, zero, suc, ◌+◌, ◌*◌, ◌<◌, ◌≤◌, Bool, true, false, not, cond, eqb, List, []}
 use Rattle.std.proofs.Common.{◌∷◌, ◌++◌, length, map, filter, drop, reverse, get_or, refl, ap, sym, subst, ◌∙◌, arith}
-use Rattle.std.proofs.Common.{length-append, inr, ◌||◌, fold, ap₂, eq-eqb, ◌^◌, eqb-true}
+use Rattle.std.proofs.Common.{length-append, inr, ◌||◌, fold, ap₂, eq-eqb, ◌^◌, eqb-true, ◌&&◌}
 use Rattle.std.proofs.lemmas.Grind.{common_steps}
 use Rattle.std.proofs.lemmas.List.{append_assoc, length-map}
 use Rattle.std.proofs.lemmas.List.Sums.{fold-append}
@@ -13,7 +13,7 @@ use Rattle.xc_input.specs.Problem.{Puzzle, item_count}
 use Rattle.xc_dance.specs.declared.dance.Move.{Move}
 use Rattle.xc_dance.specs.declared.dance.Move.TheVariants.{Tweak}
 use Rattle.xc_dance.specs.inner.Links.Span.{Span}
-use Rattle.xc_dance.specs.Moves.{is_open, AreLegal, IsLegal, listed_numbers, listed}
+use Rattle.xc_dance.specs.Moves.{is_open, AreLegal, listed_numbers, listed}
 use Rattle.xc_dance.specs.Fields.{Node, layout, link_place, is_in, first_of, own}
 use Rattle.xc_dance.specs.inner.Links.Lines.{Line}
 use Rattle.xc_dance.specs.inner.Links.Taken.{taken_nodes}
@@ -21,40 +21,30 @@ use Rattle.xc_dance.specs.inner.Links.Cells.{color_in, line_of, nodes_after, dli
 use Rattle.xc_dance.specs.inner.Links.Cells.{ulink_in}
 use Rattle.xc_dance.specs.inner.Links.Made.{IsFitted}
 use Rattle.xc_dance.specs.declared.links.nodes.Nodes.{Nodes}
-use Rattle.xc_dance.specs.Cost.{cost_of, cost_of_newest, undo_tweaks_cost}
-use Rattle.xc_dance.specs.inner.Links.Steps.{hide_costs, others_of, followed}
+use Rattle.xc_dance.specs.Cost.{cost_of_newest, undo_tweaks_cost}
+use Rattle.xc_dance.specs.inner.Links.Steps.{followed}
 use Rattle.xc_dance.specs.inner.Links.TweaksBack.{brought_back, CanBringBackAll, bring_back_costs, with_top, with_dlink}
 use Rattle.xc_dance.specs.inner.Links.TweaksBack.{untweaked_all, untweak_all_cost, CanUntweakAll}
 use Rattle.xc_dance.specs.inner.Links.Laid.{IsLaid}
-use Rattle.xc_input.proofs.lists.Filters.{length-filter-le}
 use Rattle.xc_dance.proofs.LinkedTables.Sweep.{other_items, cut, cuts, is_in-first, in_above, IsLinkedFrom, Rises}
 use Rattle.xc_dance.proofs.LinkedTables.Sweep.{rises, by_first, put_at-same, put_at-other, cut-linked, stands}
-use Rattle.xc_dance.proofs.LinkedTables.Sweep.{leave_none, put_at, with_line}
+use Rattle.xc_dance.proofs.LinkedTables.Sweep.{leave_none, put_at, with_line, in_more}
 use Rattle.xc_dance.proofs.LinkedTables.LinkColumns.{map_same, get_down, same_nodes, set_link, set_top, get_len}
 use Rattle.xc_dance.proofs.LinkedTables.OtherItems.{leaves}
 use Rattle.xc_dance.proofs.LinkedTables.GoodLines.{SameCut, line_after, Named, numbers_named, numbers_few, tables_same}
 use Rattle.xc_dance.proofs.LinkedTables.GoodLines.{line_is}
-use Rattle.xc_dance.proofs.LinkedTables.Leaving.{leaves_are, cut_others, first_alone, takes_tweak, tweak_own, AreOf}
-use Rattle.xc_dance.proofs.LinkedTables.Spacers.{others_are}
-use Rattle.xc_dance.proofs.LinkedTables.TweakStep.{tweak_made, HasFirst, has_first, tweak_cut}
-use Rattle.xc_dance.proofs.LinkedTables.TweakStep.{tweak_colours}
-use Rattle.xc_dance.proofs.LinkedTables.BringBack.{BringingBack, bring_back_step, is_below}
-use Rattle.xc_dance.proofs.LinkedTables.BringBack.{top_kept, down_kept}
+use Rattle.xc_dance.proofs.LinkedTables.Leaving.{leaves_are, tweak_own, AreOf}
+use Rattle.xc_dance.proofs.LinkedTables.TweakStep.{has_first, tweak_cut, tweak_colours, tweak_cost_is, to_come}
+use Rattle.xc_dance.proofs.LinkedTables.TweakStep.{back_writes, tweak_cuts}
+use Rattle.xc_dance.proofs.LinkedTables.BringBack.{BringingBack, bring_back_step, is_below, top_kept, down_kept}
 use Rattle.xc_dance.proofs.LinkedTables.OneOption.{gone_count, line_there, line_here}
-use Rattle.xc_dance.proofs.LinkedTables.HideMoves.{own_placed}
+use Rattle.xc_dance.proofs.LinkedTables.HideMoves.{own_placed, follow_down}
 use Rattle.xc_dance.proofs.MoveLemmas.Shortened.{rises_listed}
 use Rattle.xc_dance.proofs.MoveLemmas.Members.{element_of}
-use Rattle.xc_dance.proofs.LinkedTables.UnmarkedNodes.{costs-are, hidden_color, unmarked_items}
 use Rattle.xc_dance.proofs.LinkedTables.MoveStep.{none_newest}
-use Rattle.xc_dance.proofs.LinkedTables.Regained.{Regaining, regaining, regained}
+use Rattle.xc_dance.proofs.LinkedTables.Regained.{Regaining, regaining, regained, cuts_len}
 use Rattle.xc_dance.specs.declared.links.nodes.TheConstants.{MARK}
-use Rattle.xc_dance.proofs.LinkedTables.TweakStep.{tweak_cost_is, to_come, back_writes}
-use Rattle.xc_dance.proofs.LinkedTables.Sweep.{in_more}
-use Rattle.xc_dance.proofs.LinkedTables.HideMoves.{follow_down}
-use Rattle.std.proofs.Common.{◌&&◌}
-use Rattle.xc_dance.proofs.LinkedTables.TweakStep.{tweak_cuts}
 use Rattle.std.specs.List.{AllByRecursion}
-use Rattle.xc_dance.proofs.LinkedTables.Regained.{cuts_len}
 
 -- ---- the lines after some Tweaks of one item, from those before
 

@@ -1,18 +1,18 @@
 -- What steps write at nodes that aren't marked, and where no node of an option is.
 use Rattle.std.proofs.Common.{◌≡◌, ℕ, ◌+◌, ◌*◌, true, false, not, cond, eqb, List, [], ◌∷◌, ◌++◌, length, map, filter}
 use Rattle.std.proofs.Common.{get_or, reverse, refl, ap, ◌∙◌, arith, fold, ◌≢◌, zero, suc, ◌-◌, ◌<◌, ◌≤◌, Bool, ltb}
-use Rattle.std.proofs.Common.{Option, Some, None, sym, subst, ltb-true, ltb-false, eqb-true, ne_eqb}
+use Rattle.std.proofs.Common.{Option, Some, None, sym, subst, ltb-true, ltb-false, eqb-true, ne_eqb, option_map}
 use Rattle.std.specs.Prelude.{slice_get, is_some}
 use Rattle.std.specs.List.{AllByRecursion}
 use Rattle.std.proofs.lemmas.Grind.{common_steps}
 use Rattle.std.proofs.lemmas.List.{length-map}
 use Rattle.std.proofs.lemmas.Bool.{eqb-false}
-use Rattle.std.proofs.lemmas.Option.{slice_get_within, slice_get-get_or, same_Some}
+use Rattle.std.proofs.lemmas.Option.{slice_get_within, slice_get-get_or, same_Some, slice_get-map}
 use Rattle.xc_input.specs.Problem.{Puzzle, colour_in, uses_of, item_count, option_count}
 use Rattle.xc_input.specs.declared.problem.Use.{Use}
 use Rattle.xc_dance.specs.declared.links.nodes.Nodes.{Nodes}
 use Rattle.xc_dance.specs.Fields.{Node, layout, link_place, unused, own, used, spacer_place, is_marked}
-use Rattle.xc_dance.specs.inner.Links.Steps.{unlinked, relinked, hidden, unhidden, hide_cost, others_of}
+use Rattle.xc_dance.specs.inner.Links.Steps.{hidden, unhidden, hide_cost, others_of}
 use Rattle.xc_dance.specs.inner.Links.Walks.{costs}
 use Rattle.xc_dance.specs.declared.dance.Move.{Move}
 use Rattle.xc_dance.specs.declared.dance.Move.TheVariants.{Purify}
@@ -29,8 +29,6 @@ use Rattle.xc_dance.proofs.LinkedTables.OneOption.{is_mark}
 use Rattle.xc_dance.proofs.LinkedTables.LinkColumns.{get_map}
 use Rattle.xc_dance.proofs.LinkedTables.PlaceLemmas.{spacer_at, there}
 use Rattle.xc_dance.specs.declared.links.nodes.TheConstants.{MARK, SPACER}
-use Rattle.std.proofs.lemmas.Option.{slice_get-map}
-use Rattle.std.proofs.Common.{option_map}
 
 -- ---- what steps of hide and unhide write: 3 at each node that isn't marked
 

@@ -1,15 +1,14 @@
 -- Commits of uses, one after another: what is legal and fits behind them did before.
 use Rattle.std.proofs.lemmas.Grind.{common_steps}
-use Rattle.std.proofs.Common.{ℕ, suc, ◌≡◌, ◌+◌, ◌-◌, ◌<◌, ◌≤◌, true, false, cond, leb, eqb, List, [], ◌∷◌, ◌++◌, length}
+use Rattle.std.proofs.Common.{ℕ, suc, ◌≡◌, ◌+◌, ◌-◌, ◌<◌, ◌≤◌, List, [], ◌∷◌, ◌++◌, length}
 use Rattle.std.proofs.Common.{drop, take, refl, sym, ap, ◌∙◌, arith, get_or, Some, drop-cons, length-drop}
 use Rattle.std.specs.Prelude.{unwrap_or}
 use Rattle.std.proofs.Math.Seq.{take-length}
 use Rattle.xc_input.specs.declared.problem.Use.{Use}
 use Rattle.xc_dance.specs.declared.dance.Move.{Move}
-use Rattle.xc_dance.specs.declared.dance.Move.TheVariants.{Cover, Purify, Spend}
-use Rattle.xc_input.specs.Problem.{Puzzle, primary_count, high_at, numbered_get, uses_of}
+use Rattle.xc_input.specs.Problem.{Puzzle, numbered_get, uses_of}
 use Rattle.xc_dance.specs.Dancing.{Dancing}
-use Rattle.xc_dance.specs.Moves.{AreLegal, is_open, spends}
+use Rattle.xc_dance.specs.Moves.{AreLegal}
 use Rattle.xc_dance.specs.Commits.{CanStand, after_spend, after_use, after_uses, others}
 use Rattle.xc_input.specs.UsePlaces.{place_in}
 

@@ -1,5 +1,5 @@
 -- Members of lists of numbers: lists that rise and have the same members are the same.
-use Rattle.std.proofs.Common.{◌≡◌, ℕ, ◌≤◌, Bool, true, false, ◌&&◌, ◌||◌, eqb, List, [], ◌∷◌, filter, refl, ap, ap₂}
+use Rattle.std.proofs.Common.{◌≡◌, ℕ, ◌≤◌, Bool, true, false, ◌&&◌, ◌||◌, eqb, List, [], ◌∷◌, filter, refl, ap₂}
 use Rattle.std.proofs.Common.{sym, subst, ◌∙◌, arith, eqb-true}
 use Rattle.std.proofs.lemmas.Grind.{common_steps}
 use Rattle.std.specs.List.{AllByRecursion}
@@ -36,10 +36,7 @@ same_members n (x ∷ xs) (y ∷ ys) r s h =
     let same : x ≡ y = omega (arith, le, ge) in
     ap₂ (λ k ks. k ∷ ks) same
     (same_members x xs ys r.1 (subst (λ k. Rises k ys) (sym same) s.1) (λ z.
-    elim (eqb x z) as (λ b. eqb x z ≡ b → is_in z xs ≡ is_in z ys) [
-      | true ↦ λ e. grind (arith, common_steps, eqb-true, not_in)
-      | false ↦ λ e. grind (arith, common_steps, eqb-false, is_in-other)
-    ] refl))
+    let same = h z in grind (arith, common_steps, eqb-false, eqb-true, is_in-other, not_in)))
 
 -- nothing passes
 pub none_in : (f : ℕ → Bool) (n : ℕ) (xs : List ℕ) → Rises n (filter f xs) → ((x : ℕ) → is_in x xs ≡ true → f x ≡ false)

@@ -259,13 +259,7 @@ lists_tweaked p t j x low high some is =
         first_number (listed p t j) some ∙ ap (λ n. n ∷ []) (sym is) in
         let tweaked = ap (λ g. cond (is_open i t) (less g (listed_numbers p t i)) (listed_numbers p t i)) (sym first)
         ∙ losing (take 1 (listed p t j)) (listed p t i) (is_open i t) in
-        rw differs (elim (is_open j t) as
-        (λ b. cond b (cond (is_open i t) (less (x ∷ []) (listed_numbers p t i)) (listed_numbers p t i))
-        (listed_numbers p t i) ≡ map (λ o. o.number)
-        (cond (b && is_open i t) (without (take 1 (listed p t j)) (listed p t i)) (listed p t i))) [
-          | true ↦ tweaked
-          | false ↦ refl
-        ])
+        rw differs (grind (arith, common_steps))
 
     here : less (x ∷ []) (listed_numbers p t j) ≡ listed_numbers p (Tweak j ∷ t) (1 + (j - 1))
     here =

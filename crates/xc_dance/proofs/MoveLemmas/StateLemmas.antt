@@ -1,7 +1,6 @@
 -- The states of items after moves.
-use Rattle.std.proofs.Common.{ℕ, zero, suc, ◌≡◌, ◌≢◌, ◌+◌, ◌-◌, ◌<◌, ◌≤◌, Bool, true, false, not, cond, ◌&&◌, eqb, List}
-use Rattle.std.proofs.Common.{[], ◌∷◌, Some, None, refl, ap, sym, set, get_or, ltb, ltb-true, ltb-false, ◌∙◌, arith}
-use Rattle.std.proofs.Common.{eqb-true, eq-eqb}
+use Rattle.std.proofs.Common.{ℕ, zero, suc, ◌≡◌, ◌≢◌, ◌+◌, ◌-◌, ◌<◌, ◌≤◌, Bool, true, false, not, ◌&&◌, List, [], ◌∷◌}
+use Rattle.std.proofs.Common.{Some, None, refl, ap, sym, set, get_or, ltb-true, ltb-false, ◌∙◌, arith, eqb-true, eq-eqb}
 use Rattle.xc_input.specs.declared.problem.Bounds.{Bounds}
 use Rattle.std.proofs.lemmas.Grind.{common_steps}
 use Rattle.std.proofs.lemmas.List.{get_or-set_same}
@@ -12,7 +11,7 @@ use Rattle.std.proofs.Math.Bool.{and-true, and-false}
 use Rattle.xc_dance.specs.declared.dance.Move.{Move}
 use Rattle.xc_dance.specs.declared.dance.Move.TheVariants.{Cover, Purify}
 use Rattle.xc_dance.specs.declared.lists.item_states.ItemState.{ItemState}
-use Rattle.xc_dance.specs.declared.lists.item_states.ItemState.TheVariants.{Open, Covered, Purified}
+use Rattle.xc_dance.specs.declared.lists.item_states.ItemState.TheVariants.{Open, Purified}
 use Rattle.xc_input.specs.Problem.{Puzzle, item_count, high_at, numbered_get, IsWithinLimits}
 use Rattle.xc_input.proofs.ValidLemmas.Known.{at_number}
 use Rattle.xc_dance.specs.Moves.{is_open, is_covered, purified, next_above, AreLegal}
@@ -31,12 +30,8 @@ open_by_state i t s e = told t ∙ ap (λ s. is_open_state s) e
   where
     told : (t : List Move) → is_open i t ≡ is_open_state (state_of i t)
     told [] = refl
-    told (Cover j ∷ t) =
-        elim (eqb i j) as (λ b. (not b && is_open i t) ≡ is_open_state (cond b Covered (state_of i t)))
-        [ true ↦ refl | false ↦ told t ]
-    told (Purify j c ∷ t) =
-        elim (eqb i j) as (λ b. (not b && is_open i t) ≡ is_open_state (cond b Purified (state_of i t)))
-        [ true ↦ refl | false ↦ told t ]
+    told (Cover j ∷ t) = let rest = told t in grind (arith, common_steps)
+    told (Purify j c ∷ t) = let rest = told t in grind (arith, common_steps)
     told (_ ∷ t) = told t
 
 pub open_state : (i : ℕ) (t : List Move) → is_open i t ≡ true → state_of i t ≡ Open

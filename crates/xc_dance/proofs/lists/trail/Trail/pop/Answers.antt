@@ -1,6 +1,5 @@
 use Rattle.std.proofs.Common.{arith, ◌≡◌, ◌+◌, reverse, [], ◌∷◌, List, false, eqb, eq-eqb, refl, ◌++◌, ℕ}
-use Rattle.std.proofs.lemmas.Grind.{common_steps}
-use Rattle.std.proofs.lemmas.Grind.{get_or_default_zero}
+use Rattle.std.proofs.lemmas.Grind.{common_steps, get_or_default_zero}
 use Rattle.xc_input.specs.Problem.{Puzzle}
 use Rattle.std.proofs.lemmas.Bool.{ne_eqb}
 use Rattle.xc_dance.specs.declared.dance.Move.{Move}
