@@ -13,11 +13,12 @@ use Rattle.xc_dance.specs.Fields.{used, layout, spacer_place}
 use Rattle.xc_dance.specs.Commits.{CanStand, IsUseAt, after_use, after_uses}
 use Rattle.xc_input.specs.UsePlaces.{place_in}
 use Rattle.xc_dance.specs.inner.Links.Cells.{nodes_after}
-use Rattle.xc_dance.specs.inner.Links.Laid.{IsLaid, IsFit}
+use Rattle.xc_dance.specs.inner.Links.Laid.{IsLaid}
 use Rattle.xc_dance.specs.inner.Links.OptionPlaces.{start_at}
 use Rattle.xc_dance.specs.inner.Links.UseNodes.{uses_behind, uses_before}
 use Rattle.xc_dance.proofs.MoveLemmas.Commits.{stood_before, first_use}
-use Rattle.xc_dance.proofs.LinkedTables.UsePlaces.{Segment, OptionNodes, option_nodes, use_cells, spacer_cells}
+use Rattle.xc_dance.proofs.LinkedTables.UsePlaces.{Segment, use_cells, spacer_cells}
+use Rattle.xc_dance.proofs.LinkedTables.PlaceLemmas.{OptionNodes, option_nodes}
 use Rattle.xc_dance.proofs.LinkedTables.UsePlaces.{place_at_use, behind_segment, before_segment}
 use Rattle.xc_dance.specs.declared.links.nodes.TheConstants.{SPACER}
 use Rattle.std.proofs.lemmas.List.{nil_from_length}
@@ -106,13 +107,13 @@ pub record Behind (p : Puzzle) (i x place : ℕ) (s t : List Move) (q : ℕ) : T
   -- the spacer: all were committed
   pub end : SPACER ≤ top_at p t q → (t ≡ after_uses p (uses_behind p i x) s) × (q ≡ spacer_place p x)
 
-pub behind_at : (p : Puzzle) (i x place q : ℕ) (s t : List Move) → IsLaid p → IsFit p → IsUseAt p i x place →
+pub behind_at : (p : Puzzle) (i x place q : ℕ) (s t : List Move) → IsLaid p → IsUseAt p i x place →
     IsAlong p (place + 1) (uses_behind p i x) s t q → Behind p i x place s t q
-behind_at p i x place q s t laid fit held a =
+behind_at p i x place q s t laid held a =
     let us = uses_of p x in
     let vs = uses_behind p i x in
     let k = place_in i us in
-    let o = option_nodes p x fit held.known in
+    let o = option_nodes p x held.known in
     let stands = place_at_use p i x (x - 1) place o held in
     let first : start_at p (x - 1) + (k + 1) ≡ place + 1 = omega (arith, stands) in
     let seg : Segment p x (place + 1) vs = subst (λ n. Segment p x n vs) first (behind_segment p i x (x - 1) o) in
@@ -125,9 +126,10 @@ behind_at p i x place q s t laid fit held a =
           let small = laid.small in grind (arith, common_steps)
       | false ↦ λ e.
           let at : q ≡ place + 1 + length vs = omega (arith, ltb-false q (place + 1 + length vs) e, a.to) in
+          let is : q ≡ spacer_place p x = at ∙ all ∙ sym o.end in
           let cells =
           spacer_cells p t x (x - 1) q (omega (arith, held.known.0))
-          (ap (slice_get (layout p)) (at ∙ all) ∙ o.behind) in
+          (ap (slice_get (layout p)) is ∙ o.behind) in
           grind (arith, common_steps, along_end)
     ] refl
 
@@ -147,10 +149,10 @@ before_all p i x place o held =
     let h = held.holds in
     omega (arith, d, h, stands)
 
-pub before_at : (p : Puzzle) (i x place q : ℕ) (s t : List Move) → IsFit p → IsUseAt p i x place →
+pub before_at : (p : Puzzle) (i x place q : ℕ) (s t : List Move) → IsUseAt p i x place →
     IsAlong p (start_at p (x - 1)) (uses_before p i x) s t q → Before p i x place s t q
-before_at p i x place q s t fit held a =
-    let o = option_nodes p x fit held.known in
+before_at p i x place q s t held a =
+    let o = option_nodes p x held.known in
     let all = before_all p i x place o held in
     let to = a.to in
     grind (arith, common_steps, along_end, before_segment, next_at)
@@ -161,17 +163,15 @@ pub record Leads (p : Puzzle) (x place end : ℕ) (t : List Move) : Type 0 where
   pub behind : place < end
   pub first : get_or (nodes_after p t).ulink end 0 ≡ start_at p (x - 1)
 
-pub leads : (p : Puzzle) (i x place end : ℕ) (t : List Move) → IsFit p → IsUseAt p i x place →
+pub leads : (p : Puzzle) (i x place end : ℕ) (t : List Move) → IsUseAt p i x place →
     end ≡ spacer_place p x → Leads p x place end t
-leads p i x place end t fit held e =
-    let o = option_nodes p x fit held.known in
+leads p i x place end t held e =
+    let o = option_nodes p x held.known in
     let stands = place_at_use p i x (x - 1) place o held in
-    let pos = held.known.0 in
-    let few = held.holds in
     let is = e ∙ o.end in
-    let at = ap (slice_get (layout p)) is ∙ o.behind in
-    let cells = spacer_cells p t x (x - 1) end (omega (arith, pos)) at in
-    record { within = cells.within; behind = omega (arith, stands, is, few); first = cells.ulink ∙ o.first }
+    let at = ap (slice_get (layout p)) e ∙ o.behind in
+    let cells = spacer_cells p t x (x - 1) end (omega (arith, held.known.0)) at in
+    record { within = cells.within; behind = omega (arith, stands, is, held.holds); first = cells.ulink }
 
 -- ---- A step of the walk: the next use is committed
 

@@ -1,6 +1,6 @@
 -- Which node is which use, and what stands below a node.
-use Rattle.std.proofs.Common.{Bool, Some, ap₂, subst, [], eqb-true, le-leb, ◌≡◌, ℕ, ◌<◌, ◌⊎◌, inl, inr, true, false}
-use Rattle.std.proofs.Common.{cond, eqb, List, ◌∷◌, length, get_or, refl, ap, sym, ◌∙◌, arith, eq-eqb}
+use Rattle.std.proofs.Common.{Bool, Some, ap₂, subst, le-leb, ◌≡◌, ℕ, ◌<◌, ◌⊎◌, inl, inr, true, false}
+use Rattle.std.proofs.Common.{cond, eqb, List, ◌∷◌, length, get_or, refl, ap, sym, ◌∙◌, arith}
 use Rattle.std.specs.Prelude.{is_some, slice_get, Contains, unwrap_or}
 use Rattle.std.proofs.lemmas.Grind.{common_steps}
 use Rattle.std.proofs.lemmas.List.{length-map}
@@ -8,17 +8,18 @@ use Rattle.std.proofs.lemmas.Option.{slice_get_within}
 use Rattle.xc_input.specs.declared.problem.Use.{Use}
 use Rattle.xc_dance.proofs.LinkedTables.LinkColumns.{get_map}
 use Rattle.xc_input.specs.Problem.{Puzzle, IsItem, primary_count, uses_of, colour_in}
-use Rattle.xc_dance.specs.declared.dance.Move.TheVariants.{Cover, Purify, Tweak, Spend}
+use Rattle.xc_dance.specs.declared.dance.Move.TheVariants.{Cover, Purify}
 use Rattle.xc_dance.specs.declared.dance.Move.{Move}
 use Rattle.xc_dance.specs.Moves.{is_open, listed_numbers}
 use Rattle.xc_dance.specs.Commits.{IsListedAt, IsUseAt, after_use}
-use Rattle.xc_dance.specs.Fields.{layout, used, is_marked, link_place, first_above, is_in}
+use Rattle.xc_dance.specs.Fields.{layout, used, link_place, first_above, is_in}
 use Rattle.xc_dance.specs.inner.Links.Cells.{color_in, dlink_in, line_of, nodes_after}
 use Rattle.xc_dance.specs.inner.Links.Laid.{IsLaid, IsName}
 use Rattle.xc_dance.specs.inner.Links.Answered.{named, IsNodeOf}
 use Rattle.xc_dance.proofs.LinkedTables.NodeOptions.{own_down, use_down, node_within, contained}
 use Rattle.xc_dance.proofs.LinkedTables.GoodLines.{numbers_named}
 use Rattle.xc_dance.proofs.LinkedTables.Sweep.{in_above}
+use Rattle.xc_dance.proofs.LinkedTables.MarkedNodes.{open_unmarked}
 use Rattle.xc_dance.proofs.LinkedTables.UsePlaces.{held_of}
 use Rattle.xc_dance.proofs.MoveLemmas.Members.{element_of}
 use Rattle.xc_dance.proofs.MoveLemmas.Shortened.{rises_listed}
@@ -73,15 +74,7 @@ named_back x = grind (arith, common_steps)
 
 -- ---- the use of a secondary item
 
--- a node of an open item isn't marked
-pub open_unmarked : (p : Puzzle) (t : List Move) (i o c : ℕ) → is_open i t ≡ true → is_marked p t i o c ≡ false
-open_unmarked p [] i o c e = refl
-open_unmarked p (Purify j d ∷ t) i o c e = grind (arith, common_steps, eqb-true, eq-eqb, open_unmarked p t i o c)
-open_unmarked p (Cover j ∷ t) i o c e = grind (arith, common_steps, open_unmarked p t i o c)
-open_unmarked p (Tweak j ∷ t) i o c e = open_unmarked p t i o c e
-open_unmarked p (Spend j ∷ t) i o c e = open_unmarked p t i o c e
-
--- COLOR of such a node is its use's colour
+-- COLOR of a node of an open item, which isn't marked, is its use's colour
 pub open_colour : (p : Puzzle) (t : List Move) (q o : ℕ) (u : Use) → slice_get (layout p) q ≡ Some (used o u) →
     is_open u.item t ≡ true → get_or (nodes_after p t).color q 0 ≡ u.colour
 open_colour p t q o u at e =

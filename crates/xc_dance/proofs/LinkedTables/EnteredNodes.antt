@@ -1,7 +1,7 @@
 -- The nodes of uses enter the lists of their items one by one, until the table is that of no moves.
 use Rattle.std.proofs.Common.{◌≡◌, ℕ, ◌+◌, ◌<◌, ◌≤◌, List, [], ◌∷◌, ◌++◌, length, fold, refl, sym, subst, ◌∙◌, arith}
-use Rattle.std.proofs.Common.{zero, suc, true, false, cond, eqb, map, take, Some, ap, eqb-true, eq-eqb, ◌-◌, inl, Bool}
-use Rattle.std.proofs.Common.{get_or, set, ne_eqb, filter}
+use Rattle.std.proofs.Common.{zero, suc, true, false, cond, eqb, map, take, Some, ap, eqb-true, eq-eqb, inl, Bool}
+use Rattle.std.proofs.Common.{get_or, set, ne_eqb, filter, inr}
 use Rattle.std.specs.List.{AllByRecursion, range_with_len}
 use Rattle.std.specs.Prelude.{slice_get, is_some, flat_map, slice_index}
 use Rattle.std.proofs.lemmas.Grind.{common_steps}
@@ -13,6 +13,7 @@ use Rattle.std.proofs.Math.Bool.{or-true}
 use Rattle.std.proofs.Math.Path.{fun_ext}
 use Rattle.xc_input.specs.declared.problem.Use.{Use}
 use Rattle.xc_input.specs.Problem.{Puzzle, Numbered, numbered_options, holding, colour_in, item_count, IsWithinLimits}
+use Rattle.xc_input.specs.Problem.{uses_of}
 use Rattle.xc_dance.specs.inner.Lists.Rising.{Rises}
 use Rattle.xc_dance.specs.inner.Links.Lines.{Line}
 use Rattle.xc_dance.specs.inner.Links.FirstNodes.{blank, entered, blanks}
@@ -22,12 +23,11 @@ use Rattle.xc_dance.specs.inner.Links.Laid.{IsFit, AreDistinct, IsName, Placed, 
 use Rattle.xc_dance.specs.declared.links.nodes.Nodes.{Nodes}
 use Rattle.xc_dance.specs.inner.Links.Cells.{top_in, color_in, fixed_up, fixed_down, nodes_from, ulink_in, dlink_in}
 use Rattle.xc_dance.specs.inner.Links.Cells.{line_of, up_of, down_of, nodes_after}
-use Rattle.xc_input.proofs.lists.EachElement.{each-append, each_at}
 use Rattle.xc_dance.proofs.LinkedTables.Sweep.{put_at-same, put_at-other, put_at, IsLinkedFrom, with_line, Swept, swept}
 use Rattle.xc_dance.proofs.LinkedTables.Sweep.{stay, cuts, stay_all, leave_none}
 use Rattle.xc_dance.proofs.Copied.{take_more-get}
-use Rattle.xc_dance.proofs.LinkedTables.LaidLemmas.{distinct_options, layout_ok, is_laid}
-use Rattle.xc_dance.proofs.LinkedTables.PlaceLemmas.{length_front, tail_from, front, layout_small, get_behind}
+use Rattle.xc_dance.proofs.LinkedTables.LaidLemmas.{distinct_options, is_laid}
+use Rattle.xc_dance.proofs.LinkedTables.PlaceLemmas.{length_front, tail_from, layout_small, get_taken}
 use Rattle.xc_dance.proofs.LinkedTables.LinkColumns.{get_map, same_nodes, column, put_link, column_same, get_link}
 use Rattle.xc_dance.proofs.LinkedTables.LinkColumns.{set_link, set_top, get_len, map_same}
 use Rattle.xc_dance.proofs.MoveLemmas.Shortened.{rises_listed}
@@ -243,15 +243,14 @@ entered-is p ln col q o u laid e here head last item =
 
 -- ---- the nodes so far
 
-take_get : {X : Type 0} (k i : ℕ) (xs : List X) (x : X) → slice_get (take k xs) i ≡ Some x → slice_get xs i ≡ Some x
-take_get zero i xs x e = cc
-take_get (suc k) i [] x e = cc
-take_get (suc k) zero (y ∷ xs) x e = e
-take_get (suc k) (suc i) (y ∷ xs) x e = take_get k i xs x e
-
 use_name : (p : Puzzle) (k o j : ℕ) (u : Use) → IsFit p → slice_get (layout p) k ≡ Some (used o u) → u.item ≡ j
     → IsName p j o
-use_name p k o j u fit e same = grind (arith, common_steps, each_at, layout_ok)
+use_name p k o j u fit e same =
+    let nodes = (is_laid p fit).nodes in
+    inr (
+      nodes.numbered k o u e,
+      ap (λ i. is_some (colour_in (uses_of p o) i)) (sym same) ∙ ap is_some (nodes.coloured k o u e),
+    )
 
 -- an item's line once one node more is entered
 line_then : (p : Puzzle) (q o : ℕ) (u : Use) → slice_get (layout p) q ≡ Some (used o u) → (k : ℕ) →
@@ -298,7 +297,7 @@ use_step p q o u fit limits e =
     let name : IsName p j ((ln j).up 0) =
     grown_last (IsName p j) (held j ns) (inl refl)
     (held_each (IsName p j) j ns
-    (λ k x v f same. use_name p k x j v fit (take_get q k (layout p) (used x v) f) same)) in
+    (λ k x v f same. use_name p k x j v fit (get_taken q k (layout p) (used x v) f) same)) in
     let last = laid.there j ((ln j).up 0) range.0 range.1 name in
     let is_i : get_or tops q 0 ≡ j = get_map (top_in ln) (layout p) q (used o u) e in
     let is_u : get_or ups (get_or tops q 0) 0 ≡ link_place p j ((ln j).up 0) =
@@ -330,31 +329,6 @@ spacer_step p q n e =
 pub spacer_top : (p : Puzzle) (ln : ℕ → Line) (col : Node → ℕ) (q n : ℕ) → slice_get (layout p) q ≡ Some (spacer n)
     → slice_index (nodes_from p ln col).top q ≡ SPACER + n
 spacer_top p ln col q n e = get_map (top_in ln) (layout p) q (spacer n) e
-
--- ---- behind the items' own nodes stand uses and spacers alone
-
-abbrev pub IsUseOrSpacer : Node → Type 0
-IsUseOrSpacer (spacer n) = Unit {0}
-IsUseOrSpacer (used o u) = Unit {0}
-IsUseOrSpacer _ = ⊥
-
-all_used : (o : ℕ) (us : List Use) → AllByRecursion IsUseOrSpacer (map (used o) us)
-all_used o [] = tt
-all_used o (u ∷ us) = (tt, all_used o us)
-
-all_behind : (os : List Numbered) → AllByRecursion IsUseOrSpacer (flat_map nodes_of os)
-all_behind [] = tt
-all_behind (x ∷ os) =
-    each-append IsUseOrSpacer (nodes_of x) (flat_map nodes_of os)
-    (each-append IsUseOrSpacer (map (used x.number) x.uses) (spacer x.number ∷ []) (all_used x.number x.uses)
-    (tt, tt)) (all_behind os)
-
-pub behind_items : (p : Puzzle) (q : ℕ) (n : Node) → item_count p + 1 ≤ q → slice_get (layout p) q ≡ Some n
-    → IsUseOrSpacer n
-behind_items p q n le e =
-    let size = length_front p in
-    each_at IsUseOrSpacer (tail_from 0 p.options) (q - (item_count p + 1)) n (tt, all_behind (numbered_options p))
-    (sym (get_behind (front p) (tail_from 0 p.options) q (q - (item_count p + 1)) (omega (arith, size, le))) ∙ e)
 
 -- ---- once every node is entered, the table is that of no moves
 
@@ -398,13 +372,15 @@ top_is p _ = refl
 ulink_is : (p : Puzzle) (q : ℕ) (n : Node) → IsFit p → slice_get (layout p) q ≡ Some n
     → ulink_in p (whole p) n ≡ ulink_in p (line_of p []) n
 ulink_is p q (own i) fit e = ap (link_place p i) (along (listed_numbers p [] i) (rises_listed p [] i)).last
-ulink_is p q (used o u) fit e = grind (arith, common_steps, each_at, in_list, layout_ok, up_is)
+ulink_is p q (used o u) fit e =
+    ap (link_place p u.item) (up_is p u.item o (in_list p q o u fit e) ((is_laid p fit).nodes.numbered q o u e))
 ulink_is p q _ fit e = refl
 
 dlink_is : (p : Puzzle) (q : ℕ) (n : Node) → IsFit p → slice_get (layout p) q ≡ Some n
     → dlink_in p (whole p) n ≡ dlink_in p (line_of p []) n
 dlink_is p q (own i) fit e = ap (link_place p i) (along (listed_numbers p [] i) (rises_listed p [] i)).first
-dlink_is p q (used o u) fit e = grind (arith, common_steps, down_is, each_at, in_list, layout_ok)
+dlink_is p q (used o u) fit e =
+    ap (link_place p u.item) (down_is p u.item o (in_list p q o u fit e) ((is_laid p fit).nodes.numbered q o u e))
 dlink_is p q _ fit e = refl
 
 pub all_entered : (p : Puzzle) (n : ℕ) → IsFit p → length (layout p) ≤ n

@@ -3,7 +3,7 @@ use Rattle.std.proofs.Common.{◌≡◌, ℕ, zero, suc, ◌+◌, ◌<◌, ◌�
 use Rattle.std.proofs.Common.{Some, refl, ap, sym, ◌∙◌, arith, ◌-◌, ap₂, lt-ltb, ne_eqb, ◌≢◌, true, false, not, cond}
 use Rattle.std.proofs.Common.{ltb, nat_lt, filter, find, le-ltb, ltb-true, ltb-false, le-leb}
 use Rattle.xc_input.specs.declared.problem.Bounds.{Bounds}
-use Rattle.std.specs.Prelude.{slice_get, unwrap_or, nat_le}
+use Rattle.std.specs.Prelude.{slice_get, unwrap_or}
 use Rattle.std.specs.List.{range_with_len, AllByRecursion}
 use Rattle.std.proofs.lemmas.Grind.{common_steps}
 use Rattle.std.proofs.lemmas.Option.{same_Some}
@@ -13,7 +13,7 @@ use Rattle.std.proofs.lemmas.Bool.{lt-leb}
 use Rattle.xc_input.specs.declared.problem.Use.{Use}
 use Rattle.xc_input.specs.Problem.{Puzzle, item_count, option_count, primary_count, high_at, low_at, IsValid}
 use Rattle.xc_input.specs.Problem.{AreSoundBounds}
-use Rattle.std.proofs.lemmas.List.{length-map, map-append}
+use Rattle.std.proofs.lemmas.List.{length-map, length-take-le, map-append}
 use Rattle.std.proofs.lemmas.Option.{slice_get_within}
 use Rattle.std.proofs.Math.Seq.{take-length}
 use Rattle.xc_dance.specs.inner.Links.Columns.{Laying}
@@ -22,14 +22,12 @@ use Rattle.xc_dance.proofs.Copied.{take_more-get}
 use Rattle.xc_dance.specs.declared.links.nodes.Nodes.{Nodes}
 use Rattle.xc_dance.specs.declared.links.nodes.Row.{Row}
 use Rattle.xc_dance.specs.Fields.{Node, unused, own, spacer, layout, spacer_place, last_below, first_above, first_of}
-use Rattle.xc_dance.specs.Fields.{last_of, ring_of, ring_head, left_of, right_of}
+use Rattle.xc_dance.specs.Fields.{last_of, ring_of, left_of, right_of}
 use Rattle.xc_dance.specs.inner.Links.Cells.{top_in, ulink_in, dlink_in, color_in, fixed_up, fixed_down, nodes_from}
-use Rattle.xc_dance.specs.inner.Links.OptionPlaces.{place_at}
 use Rattle.xc_dance.specs.inner.Links.ItemCells.{bound_at, slack_at, items_after, llink_at, rlink_at}
 use Rattle.xc_dance.specs.inner.Links.FirstItems.{linked_to, bound_to}
 use Rattle.xc_dance.specs.Moves.{is_covered}
-use Rattle.xc_dance.proofs.LinkedTables.LaidLemmas.{head_is}
-use Rattle.xc_dance.proofs.LinkedTables.PlaceLemmas.{spacer_at, place_next}
+use Rattle.xc_dance.proofs.LinkedTables.PlaceLemmas.{head_is, place_next, range_get}
 use Rattle.xc_dance.proofs.LinkedTables.RingStep.{same_items}
 use Rattle.xc_dance.proofs.LinkedTables.Sweep.{last_below-more, last_of-more}
 use Rattle.xc_dance.specs.declared.links.nodes.TheConstants.{SPACER}
@@ -61,12 +59,6 @@ pub filled_more : {X : Type 0} (f : X → ℕ) (ns : List X) (k : ℕ) (n : X) (
     → set (filled f ns k) k v ≡ filled f ns (k + 1)
 filled_more f ns k n v e is = grind (arith, common_steps, set_suc)
 
-pub range_get : (a n k : ℕ) → k < n → slice_get (range_with_len a n) k ≡ Some (a + k)
-range_get a zero k lt = absurd (omega (arith, lt))
-range_get a (suc n) zero lt = let z : a ≡ a + 0 = omega arith in ap Some z
-range_get a (suc n) (suc k) lt =
-    let s : a + 1 + k ≡ a + suc k = omega arith in range_get (a + 1) n k (omega (arith, lt)) ∙ ap Some s
-
 -- ---- the node table as it is laid node by node
 
 -- what stands in a node's cells where all lists are empty
@@ -97,33 +89,23 @@ laid_none p c e = ap no_rows e
 pub laid_all : (p : Puzzle) → (laid_to p (length (layout p))).nodes ≡ nodes_from p blanks (color_in p [])
 laid_all p = ap (rows_of p) (take-length (layout p))
 
-taken_count : {X : Type 0} (xs : List X) (k : ℕ) → k ≤ length xs → length (take k xs) ≡ k
-taken_count xs zero le = refl
-taken_count [] (suc k) le = absurd (omega (arith, le))
-taken_count (x ∷ xs) (suc k) le = ap suc (taken_count xs k (omega (arith, le)))
-
 -- there is room for the next one
 pub laid_room : (p : Puzzle) (k : ℕ) (n : Node) → slice_get (layout p) k ≡ Some n
     → length (laid_to p k).nodes.top < (laid_to p k).count
 laid_room p k n e =
     let within = slice_get_within (layout p) k n e in
     let count = length-map (take k (layout p)) (top_in blanks) in
-    omega (arith, within, count, taken_count (layout p) k (omega (arith, within)))
+    omega (arith, within, count, length-take-le k (layout p) (omega (arith, within)))
 
 -- ---- what a spacer leads to
 
-pub up_next : (p : Puzzle) (o : ℕ) → o ≤ option_count p → place_at p o + 1 ≡ fixed_up p (spacer (o + 1))
-up_next p o le =
-    let s : suc o ≡ o + 1 = omega arith in
-    let is : place_at p o + 1 ≡ fixed_up p (spacer (suc o)) = omega (arith, spacer_at p o le) in
-    is ∙ ap (λ n. fixed_up p (spacer n)) s
+pub up_next : (p : Puzzle) (o : ℕ) → spacer_place p o + 1 ≡ fixed_up p (spacer (o + 1))
+up_next p o = let s : suc o ≡ o + 1 = omega arith in ap (λ n. fixed_up p (spacer n)) s
 
 pub down_next : (p : Puzzle) (o : ℕ) (us : List Use) → o < option_count p → slice_get p.options o ≡ Some us
-    → place_at p o + length us ≡ fixed_down p (spacer o)
+    → spacer_place p o + length us ≡ fixed_down p (spacer o)
 down_next p o us lt e =
-    let here = spacer_at p (o + 1) (omega (arith, lt)) in
-    let is : place_at p o + length us ≡ spacer_place p (o + 1) - 1 = omega (arith, here, place_next p o us e) in
-    rw (lt-ltb o (option_count p) lt) is
+    rw (lt-ltb o (option_count p) lt) (omega (arith, place_next p o us e))
 
 -- ---- the rows
 
@@ -225,69 +207,51 @@ keep : (js : List ℕ) → filter (λ j. not (is_covered j [])) js ≡ js
 keep [] = refl
 keep (j ∷ js) = ap (λ l. j ∷ l) (keep js)
 
-low_test : (i n : ℕ) → i ≤ n → nat_le i n ≡ true
-low_test i n le = le-leb i n le
-
-high_test : (i n : ℕ) → n < i → nat_le i n ≡ false
-high_test i n lt = lt-leb i n lt
-
 low_ring : (p : Puzzle) (i : ℕ) → i ≤ primary_count p → ring_of p [] i ≡ range_with_len 1 (primary_count p)
-low_ring p i le =
-    keep (cond (nat_le i (primary_count p)) (range_with_len 1 (primary_count p))
-    (range_with_len (primary_count p + 1) p.secondary))
-    ∙ ap (λ b. cond b (range_with_len 1 (primary_count p)) (range_with_len (primary_count p + 1) p.secondary))
-    (low_test i (primary_count p) le)
+low_ring p i le = rw (le-leb i (primary_count p) le) (keep (range_with_len 1 (primary_count p)))
 
 high_ring : (p : Puzzle) (i : ℕ) → primary_count p < i
     → ring_of p [] i ≡ range_with_len (primary_count p + 1) p.secondary
-high_ring p i lt =
-    keep (cond (nat_le i (primary_count p)) (range_with_len 1 (primary_count p))
-    (range_with_len (primary_count p + 1) p.secondary))
-    ∙ ap (λ b. cond b (range_with_len 1 (primary_count p)) (range_with_len (primary_count p + 1) p.secondary))
-    (high_test i (primary_count p) lt)
-
-low_head : (p : Puzzle) (i : ℕ) → i ≤ primary_count p → ring_head p i ≡ 0
-low_head p i le = ap (λ b. cond b 0 (item_count p + 1)) (low_test i (primary_count p) le)
-
-high_head : (p : Puzzle) (i : ℕ) → primary_count p < i → ring_head p i ≡ item_count p + 1
-high_head p i lt = ap (λ b. cond b 0 (item_count p + 1)) (high_test i (primary_count p) lt)
+high_ring p i lt = rw (lt-leb i (primary_count p) lt) (keep (range_with_len (primary_count p + 1) p.secondary))
 
 low_left : (p : Puzzle) (i : ℕ) → i ≤ primary_count p
     → left_of p [] i ≡ last_below 0 i (range_with_len 1 (primary_count p))
-low_left p i le = ap (λ h. last_below h i (ring_of p [] i)) (low_head p i le) ∙ ap (last_below 0 i) (low_ring p i le)
+low_left p i le = rw (le-leb i (primary_count p) le) (ap (last_below 0 i) (keep (range_with_len 1 (primary_count p))))
 
 high_left : (p : Puzzle) (i : ℕ) → primary_count p < i
     → left_of p [] i ≡ last_below (item_count p + 1) i (range_with_len (primary_count p + 1) p.secondary)
-high_left p i lt = ap (λ h. last_below h i (ring_of p [] i)) (high_head p i lt)
-    ∙ ap (last_below (item_count p + 1) i) (high_ring p i lt)
+high_left p i lt =
+    rw (lt-leb i (primary_count p) lt)
+    (ap (last_below (item_count p + 1) i) (keep (range_with_len (primary_count p + 1) p.secondary)))
 
 low_right : (p : Puzzle) (i : ℕ) → i ≤ primary_count p
     → right_of p [] i ≡ first_above 0 i (range_with_len 1 (primary_count p))
-low_right p i le = ap (λ h. first_above h i (ring_of p [] i)) (low_head p i le) ∙ ap (first_above 0 i) (low_ring p i le)
+low_right p i le = rw (le-leb i (primary_count p) le) (ap (first_above 0 i) (keep (range_with_len 1 (primary_count p))))
 
 high_right : (p : Puzzle) (i : ℕ) → primary_count p < i
     → right_of p [] i ≡ first_above (item_count p + 1) i (range_with_len (primary_count p + 1) p.secondary)
-high_right p i lt = ap (λ h. first_above h i (ring_of p [] i)) (high_head p i lt)
-    ∙ ap (first_above (item_count p + 1) i) (high_ring p i lt)
+high_right p i lt =
+    rw (lt-leb i (primary_count p) lt)
+    (ap (first_above (item_count p + 1) i) (keep (range_with_len (primary_count p + 1) p.secondary)))
 
 -- ---- the cells
 
 inner_left : (p : Puzzle) (i : ℕ) → i ≢ 0 → i ≤ item_count p → llink_at p [] i ≡ left_of p [] i
-inner_left p i ne le = rw (ne_eqb i 0 ne, low_test i (item_count p) le) refl
+inner_left p i ne le = rw (ne_eqb i 0 ne, le-leb i (item_count p) le) refl
 
 inner_right : (p : Puzzle) (i : ℕ) → i ≢ 0 → i ≤ item_count p → rlink_at p [] i ≡ right_of p [] i
-inner_right p i ne le = rw (ne_eqb i 0 ne, low_test i (item_count p) le) refl
+inner_right p i ne le = rw (ne_eqb i 0 ne, le-leb i (item_count p) le) refl
 
 end_left : (p : Puzzle) (i : ℕ) → item_count p < i
     → llink_at p [] i ≡ last_of (item_count p + 1) (range_with_len (primary_count p + 1) p.secondary)
 end_left p i lt =
-    rw (ne_eqb i 0 (λ z. omega (arith, z, lt)), high_test i (item_count p) lt)
+    rw (ne_eqb i 0 (λ z. omega (arith, z, lt)), lt-leb i (item_count p) lt)
     (ap (last_of (item_count p + 1)) (high_ring p (primary_count p + 1) (omega arith)))
 
 end_right : (p : Puzzle) (i : ℕ) → item_count p < i
     → rlink_at p [] i ≡ first_of (item_count p + 1) (range_with_len (primary_count p + 1) p.secondary)
 end_right p i lt =
-    rw (ne_eqb i 0 (λ z. omega (arith, z, lt)), high_test i (item_count p) lt)
+    rw (ne_eqb i 0 (λ z. omega (arith, z, lt)), lt-leb i (item_count p) lt)
     (ap (first_of (item_count p + 1)) (high_ring p (primary_count p + 1) (omega arith)))
 
 -- a fact by which of two numbers is greater

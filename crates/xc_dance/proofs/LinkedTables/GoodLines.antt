@@ -18,7 +18,8 @@ use Rattle.xc_dance.specs.inner.Links.Laid.{IsName, IsLaid, IsFit}
 use Rattle.xc_dance.specs.declared.dance.Move.{Move}
 use Rattle.xc_dance.specs.Moves.{listed_numbers, listed}
 use Rattle.xc_input.proofs.lists.EachElement.{each-map, each_weaker}
-use Rattle.xc_dance.proofs.LinkedTables.LinkColumns.{member_of, same_at, set_link, set_top, size_from, NodeCells}
+use Rattle.xc_dance.proofs.LinkedTables.PlaceLemmas.{behind_items}
+use Rattle.xc_dance.proofs.LinkedTables.LinkColumns.{set_link, set_top, size_from, NodeCells}
 use Rattle.xc_dance.proofs.LinkedTables.LinkColumns.{node_cells, get_up, get_down, CanUnhide-unlinked, same_nodes}
 use Rattle.xc_dance.proofs.LinkedTables.LinkColumns.{hidden-open, hidden-marked, unhidden-marked, unhidden-hidden}
 use Rattle.xc_dance.proofs.LinkedTables.LinkColumns.{IsLinked, map_same}
@@ -67,14 +68,8 @@ linked-is p col ln j o laid m =
     let c = member_cells p col ln j o laid m in
     let t : Nodes = nodes_from p ln col in
     let q = link_place p j o in
-    let here = laid.there j o m.item.0 m.item.1 m.name in
-    let pos : 0 < o = m.pos in
-    let some : 0 < (ln j).len = m.some in
-    let not_head : j ≢ q = λ e.
-    let same : own j ≡ here.node =
-    same_at (layout p) q (own j) here.node
-    (subst (λ k. slice_get (layout p) k ≡ Some (own j)) e (laid.head j m.item.0 m.item.1)) here.at in
-    let z : 0 ≡ o = ap member_of (ap slot_of same ∙ here.slot) in absurd (omega arith) in
+    let some = m.some in
+    let not_head : j ≢ q = λ e. omega (arith, e, m.item.1, behind_items p j o m.pos) in
     grind (arith, common_steps, get_down, get_up)
 
 -- ---- a step of hide

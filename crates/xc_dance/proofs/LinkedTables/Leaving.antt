@@ -114,7 +114,7 @@ module _ (p : Puzzle) (t : List Move) (i : ℕ) (legal : AreLegal p t) (laid : I
       each_both (IsOption p) (λ o. holds o j ≡ true → Met p t o.number j)
       (λ o. Named p j o.number → Met p t o.number j) (left p t)
       (λ o is h n. h (ap (λ us. is_some (colour_in us j)) (sym is.1) ∙ n)) (options_left p t)
-      (each_met p t j legal laid fit pos le) in
+      (each_met p t j legal fit) in
       let listed_each : AllByRecursion (λ x. Named p j x → Met p t x j) (map (λ o. o.number) (holding i (left p t))) =
       grind (arith, common_steps, each-filter, each-map) in
       grind (arith, common_steps, element_of)
@@ -140,7 +140,7 @@ module _ (p : Puzzle) (t : List Move) (i : ℕ) (legal : AreLegal p t) (laid : I
       let c = colour_some (uses_of p x) i named in
       let small : c.0 < MARK = colour_small (uses_of p x) i c.0 (fit.colours x) c.1 in
       let is : own_color p (color_in p t) i x ≡ c.0 =
-      color_is p t x i c.0 laid pos le x_pos named c.1
+      color_is p t x i c.0 x_pos c.1
       ∙ ap (λ b. cond b MARK c.0) (open_unmarked p t i x c.0 opened) in
       grind (arith, common_steps, ne_eqb, test_is)
 

@@ -1,10 +1,10 @@
 -- Places in an item's list by the problem alone: the item's own node, or that of an option in the list.
-use Rattle.std.proofs.Common.{◌≡◌, ℕ, zero, suc, ◌<◌, ◌≤◌, ◌⊎◌, inl, inr, true, List, Some, refl, ap, sym, ◌∙◌, subst}
+use Rattle.std.proofs.Common.{◌≡◌, ℕ, zero, suc, ◌<◌, ◌≤◌, ◌⊎◌, inl, inr, List, Some, refl, ap, sym, ◌∙◌, subst}
 use Rattle.std.proofs.Common.{arith}
-use Rattle.std.specs.Prelude.{Option, is_some, Contains}
+use Rattle.std.specs.Prelude.{Option, Contains}
 use Rattle.std.proofs.lemmas.List.Elements.{All-from_recursion}
 use Rattle.std.proofs.lemmas.Option.{slice_get_within}
-use Rattle.xc_input.specs.Problem.{Puzzle, IsItem, uses_of, item_count, colour_in}
+use Rattle.xc_input.specs.Problem.{Puzzle, IsItem, uses_of, item_count}
 use Rattle.xc_input.specs.Named.{Named, IsSound}
 use Rattle.xc_dance.specs.declared.dance.Move.{Move}
 use Rattle.xc_dance.specs.Dancing.{Dancing}
@@ -12,45 +12,31 @@ use Rattle.xc_dance.specs.Moves.{listed_numbers, next_above}
 use Rattle.xc_dance.specs.Fields.{link_place, first_above}
 use Rattle.xc_dance.specs.Commits.{IsListedAt, IsUseAt, option_at}
 use Rattle.xc_dance.specs.inner.Links.Laid.{IsFit}
-use Rattle.xc_dance.proofs.LinkedTables.LaidLemmas.{is_laid}
 use Rattle.xc_dance.proofs.LinkedTables.NodeOptions.{above_name, above_named, contained, next_contained}
-use Rattle.xc_dance.proofs.LinkedTables.PlaceLemmas.{place_first, there}
-use Rattle.xc_dance.proofs.LinkedTables.UsePlaces.{of_held, option_there}
+use Rattle.xc_dance.proofs.LinkedTables.PlaceLemmas.{held_node}
+use Rattle.xc_input.specs.UsePlaces.{place_in}
+use Rattle.xc_dance.proofs.LinkedTables.UsePlaces.{option_there}
 use Rattle.xc_dance.proofs.LinkedTables.CommitLemmas.{in_list_name}
-use Rattle.xc_dance.proofs.LinkedTables.PassedOptions.{behind_first, sound_fit}
-
--- an option that holds an item uses it
-held_at : (p : Puzzle) (i x : ℕ) → IsFit p → 0 < x → is_some (colour_in (uses_of p x) i) ≡ true →
-    IsUseAt p i x (link_place p i x)
-held_at p i zero fit pos held = absurd (omega (arith, pos))
-held_at p i (suc k) fit pos held =
-    let us = uses_of p (suc k) in
-    let lt = slice_get_within p.options k us (there p.options k i held) in
-    record {
-      known = (omega arith, omega (arith, lt));
-      holds = of_held us i held;
-      items = All-from_recursion _ us (fit.items (suc k));
-      at = refl;
-    }
+use Rattle.xc_dance.proofs.LinkedTables.PassedOptions.{sound_fit}
 
 -- an option in an item's list uses the item
 pub listed_use : (p : Puzzle) (t : List Move) (i x : ℕ) → IsFit p → Contains (listed_numbers p t i) x →
     IsUseAt p i x (link_place p i x)
 listed_use p t i x fit h =
     let is = in_list_name p t i x (contained (listed_numbers p t i) x h) in
-    held_at p i x fit is.0 is.1
+    let us = uses_of p x in
+    let w = held_node p i x is.0 is.1 in
+    record {
+      known = w.known;
+      holds = slice_get_within us (place_in i us) w.held.use_of w.held.at;
+      items = All-from_recursion _ us (fit.items x);
+      at = refl;
+    }
 
 -- the place of an item's own node is below those of options
-pub own_place : (p : Puzzle) (t : List Move) (i x q : ℕ) → IsFit p → IsListedAt p t i x q → q ≤ item_count p → x ≡ 0
-own_place p t i x q fit at le = by_listed at.listed
-  where
-    by_listed : (x ≡ 0) ⊎ Contains (listed_numbers p t i) x → x ≡ 0
-    by_listed (inl z) = z
-    by_listed (inr h) =
-        let behind = behind_first p i x (link_place p i x) fit (listed_use p t i x fit h) in
-        let first = place_first p in
-        let is = at.at in
-        absurd (omega (arith, behind, first, is, le))
+pub own_place : (p : Puzzle) (t : List Move) (i x q : ℕ) → IsListedAt p t i x q → q ≤ item_count p → x ≡ 0
+own_place p t i zero q at le = refl
+own_place p t i (suc m) q at le = absurd (omega (arith, at.at, le))
 
 -- and an option's is behind them
 pub option_place : (p : Puzzle) (t : List Move) (i x q : ℕ) → IsItem p i → IsListedAt p t i x q → item_count p < q →
@@ -72,12 +58,12 @@ abbrev pub list_of : Dancing → ℕ → List ℕ
 list_of s i = listed_numbers s.puzzle s.trail i
 
 -- the first of the list
-pub next_of_own : (s : Dancing) (a : Named) (i x q items : ℕ) (n : Option ℕ) → s.puzzle ≡ a.puzzle → IsSound a →
+pub next_of_own : (s : Dancing) (a : Named) (i x q items : ℕ) (n : Option ℕ) → s.puzzle ≡ a.puzzle →
     items ≡ item_count a.puzzle → IsListedAt s.puzzle s.trail i x q → q ≤ items → n ≡ next_above 0 (list_of s i) →
     next_above x (list_of s i) ≡ n
-next_of_own s a i x q items n same sound count at le is =
+next_of_own s a i x q items n same count at le is =
     let all = count ∙ ap item_count (sym same) in
-    let own = own_place s.puzzle s.trail i x q (fit_state s a same sound) at (omega (arith, le, all)) in
+    let own = own_place s.puzzle s.trail i x q at (omega (arith, le, all)) in
     ap (λ y. next_above y (list_of s i)) own ∙ sym is
 
 -- an option's use stands there
@@ -109,11 +95,9 @@ next_use s a i x o same sound is =
     (listed_use s.puzzle s.trail i o (fit_state s a same sound) (next_contained x o (list_of s i) is))
 
 -- its place, or the item's own node, tells what is next
-pub place_tells : (s : Dancing) (a : Named) (i x r : ℕ) → s.puzzle ≡ a.puzzle → IsSound a → IsItem s.puzzle i →
+pub place_tells : (s : Dancing) (i x r : ℕ) → IsItem s.puzzle i →
     r ≡ link_place s.puzzle i (first_above 0 x (list_of s i)) → option_at s.puzzle i r ≡ next_above x (list_of s i)
-place_tells s a i x r same sound item is =
+place_tells s i x r item is =
     let p = s.puzzle in
-    let laid = is_laid p (fit_state s a same sound) in
-    ap (option_at p i) is
-    ∙ option_there p i (first_above 0 x (list_of s i)) laid item.0 item.1 (above_name p s.trail i x)
+    ap (option_at p i) is ∙ option_there p i (first_above 0 x (list_of s i)) item.1 (above_name p s.trail i x)
     ∙ above_named x (list_of s i)

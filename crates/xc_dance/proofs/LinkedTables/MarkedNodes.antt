@@ -1,5 +1,5 @@
 -- Which nodes are marked, and the colours after Cover and Purify.
-use Rattle.std.proofs.Common.{◌≡◌, ℕ, ◌<◌, ◌≤◌, ◌⊎◌, inl, inr, Bool, true, false, not, cond, ◌&&◌, ◌||◌, eqb, List, []}
+use Rattle.std.proofs.Common.{◌≡◌, ℕ, ◌<◌, ◌⊎◌, inl, inr, Bool, true, false, not, cond, ◌&&◌, ◌||◌, eqb, List, []}
 use Rattle.std.proofs.Common.{◌∷◌, map, get_or, Some, None, refl, ap, ap₂, sym, subst, ◌∙◌, arith, eqb-true, eq-eqb}
 use Rattle.std.proofs.Common.{ne_eqb, Option}
 use Rattle.std.specs.Prelude.{is_some, slice_get, nat_lt}
@@ -9,7 +9,7 @@ use Rattle.std.proofs.lemmas.Bool.{false≢true, eqb-false}
 use Rattle.std.proofs.lemmas.Option.{same_Some}
 use Rattle.std.proofs.Math.Bool.{not-not}
 use Rattle.xc_input.specs.declared.problem.Use.{Use}
-use Rattle.xc_input.specs.Problem.{Puzzle, Numbered, numbered_options, item_count, colour_in, colour_at, uses_of, holds}
+use Rattle.xc_input.specs.Problem.{Puzzle, Numbered, numbered_options, colour_in, colour_at, uses_of, holds}
 use Rattle.xc_input.specs.Problem.{holding}
 use Rattle.xc_dance.specs.declared.dance.Move.{Move}
 use Rattle.xc_dance.specs.declared.dance.Move.TheVariants.{Cover, Purify, Tweak, Spend}
@@ -19,7 +19,7 @@ use Rattle.xc_dance.specs.inner.Left.{left}
 use Rattle.xc_dance.specs.inner.Links.Cells.{color_in, slot_of}
 use Rattle.xc_dance.specs.inner.Links.Laid.{IsLaid, IsFit}
 use Rattle.xc_dance.specs.inner.Lists.Losing.{is_kept}
-use Rattle.xc_input.proofs.FaultLemmas.BooleanTests.{and_right, and_left}
+use Rattle.xc_input.proofs.FaultLemmas.BooleanTests.{and_right}
 use Rattle.xc_input.proofs.lists.EachElement.{each_weaker, each_both}
 use Rattle.xc_dance.proofs.MoveLemmas.StateLemmas.{open_is}
 use Rattle.xc_dance.proofs.LinkedTables.LinkColumns.{get_map, Stands}
@@ -27,6 +27,7 @@ use Rattle.xc_dance.proofs.MoveLemmas.OpenLists.{listed_open}
 use Rattle.xc_dance.proofs.MoveLemmas.LeftOptions.{left_free, left_agrees, kept}
 use Rattle.xc_dance.proofs.LinkedTables.Sweep.{is_in-first, not_in, with_color}
 use Rattle.xc_dance.proofs.LinkedTables.GoodLines.{Named}
+use Rattle.xc_dance.proofs.LinkedTables.PlaceLemmas.{held_node}
 use Rattle.xc_dance.proofs.LinkedTables.OneOption.{is_mark}
 use Rattle.xc_dance.proofs.LinkedTables.LaidLemmas.{IsOption, options_numbered}
 use Rattle.xc_dance.proofs.LinkedTables.OneList.{marked_list}
@@ -73,13 +74,11 @@ stands_in x (y ∷ ys) e =
 -- ---- marks
 
 -- no node of an open item is marked
-pub open_unmarked : (p : Puzzle) (t : List Move) (j o c : ℕ) → is_open j t ≡ true → is_marked p t j o c ≡ false
-open_unmarked p [] j o c e = refl
-open_unmarked p (Cover k ∷ t) j o c e = open_unmarked p t j o c (and_right _ _ e)
-open_unmarked p (Purify k d ∷ t) j o c e =
-    let rest = open_unmarked p t j o c (and_right _ _ e) in
-    grind (arith, common_steps, and_left, eq-eqb, eqb-true, false≢true)
-open_unmarked p (_ ∷ t) j o c e = open_unmarked p t j o c e
+pub open_unmarked : (p : Puzzle) (t : List Move) (i o c : ℕ) → is_open i t ≡ true → is_marked p t i o c ≡ false
+open_unmarked p [] i o c e = refl
+open_unmarked p (Purify j d ∷ t) i o c e = grind (arith, common_steps, eqb-true, eq-eqb, open_unmarked p t i o c)
+open_unmarked p (Cover j ∷ t) i o c e = grind (arith, common_steps, open_unmarked p t i o c)
+open_unmarked p (_ ∷ t) i o c e = open_unmarked p t i o c e
 
 true_either : (b : Bool) → cond b true true ≡ true
 true_either true = refl
@@ -117,29 +116,18 @@ purified_marked p (Spend k ∷ t) j c legal e = purified_marked p t j c legal.1 
 
 -- ---- a node's colour cell
 
-used_by : (p : Puzzle) (j o k : ℕ) (n : Node) → 0 < o → slice_get (layout p) k ≡ Some n → slot_of n ≡ Some (j, o)
-    → (u : Use) × (slice_get (layout p) k ≡ Some (used o u)) × (u.item ≡ j)
-used_by p j o k unused pos at e = grind (arith, common_steps)
-used_by p j o k (spacer n) pos at e = grind (arith, common_steps)
-used_by p j o k (own i) pos at e = grind (arith, common_steps)
-used_by p j o k (used m u) pos at e = grind (arith, common_steps)
-
 -- what stands in the colour cell of an option's node in item j's list
-pub color_is : (p : Puzzle) (t : List Move) (o j c : ℕ) → IsLaid p → 0 < j → j ≤ item_count p → 0 < o → Named p j o
-    → colour_in (uses_of p o) j ≡ Some c →
+pub color_is : (p : Puzzle) (t : List Move) (o j c : ℕ) → 0 < o → colour_in (uses_of p o) j ≡ Some c →
     get_or (map (color_in p t) (layout p)) (link_place p j o) 0 ≡ cond (is_marked p t j o c) MARK c
-color_is p t o j c laid jpos jle pos named has =
-    let h = laid.there j o jpos jle (inr (pos, named)) in
-    let u = used_by p j o (link_place p j o) h.node pos h.at h.slot in
-    let colour : colour_in (uses_of p o) u.0.item ≡ Some u.0.colour =
-    laid.nodes.coloured (link_place p j o) o u.0 u.1 in
-    let same : u.0.colour ≡ c = same_Some u.0.colour c (sym colour ∙ ap (colour_in (uses_of p o)) u.2 ∙ has) in
-    grind (arith, common_steps, get_map)
+color_is p t o j c pos has =
+    let w = held_node p j o pos (ap is_some has) in
+    let u = w.held.use_of in
+    get_map (color_in p t) (layout p) (link_place p j o) (used o u) w.node
+    ∙ ap₂ (λ i k. cond (is_marked p t i o k) MARK k) w.held.item (same_Some u.colour c (sym w.held.colour ∙ has))
 
-pub mark_is : (p : Puzzle) (t : List Move) (o j c : ℕ) → IsLaid p → 0 < j → j ≤ item_count p → 0 < o → Named p j o
-    → colour_in (uses_of p o) j ≡ Some c →
+pub mark_is : (p : Puzzle) (t : List Move) (o j c : ℕ) → 0 < o → colour_in (uses_of p o) j ≡ Some c →
     is_mark p (color_in p t) o j ≡ eqb (cond (is_marked p t j o c) MARK c) MARK
-mark_is p t o j c laid jpos jle pos named has = ap (λ v. eqb v MARK) (color_is p t o j c laid jpos jle pos named has)
+mark_is p t o j c pos has = ap (λ v. eqb v MARK) (color_is p t o j c pos has)
 
 -- ---- closed items
 
@@ -173,9 +161,9 @@ colour_small [] j c a e = cc
 colour_small (u ∷ us) j c a e =
     let rest = colour_small us j c a.1 in grind (arith, common_steps, same_Some)
 
-pub each_met : (p : Puzzle) (t : List Move) (j : ℕ) → AreLegal p t → IsLaid p → IsFit p → 0 < j → j ≤ item_count p
+pub each_met : (p : Puzzle) (t : List Move) (j : ℕ) → AreLegal p t → IsFit p
     → AllByRecursion (λ o. holds o j ≡ true → Met p t o.number j) (left p t)
-each_met p t j legal laid fit jpos jle =
+each_met p t j legal fit =
     elim (is_open j t) as (λ b. is_open j t ≡ b
     → AllByRecursion (λ o. holds o j ≡ true → Met p t o.number j) (left p t)) [
       | true ↦ λ e.
@@ -186,7 +174,7 @@ each_met p t j legal laid fit jpos jle =
           let c = colour_some (uses_of p o.number) j named in
           let small : c.0 < MARK = colour_small (uses_of p o.number) j c.0 (fit.colours o.number) c.1 in
           let m : is_mark p (color_in p t) o.number j ≡ false =
-          mark_is p t o.number j c.0 laid jpos jle is.0 named c.1
+          mark_is p t o.number j c.0 is.0 c.1
           ∙ ap (λ b. eqb (cond b MARK c.0) MARK) (open_unmarked p t j o.number c.0 e)
           ∙ ne_eqb c.0 MARK (λ f. omega (arith, small, f)) in
           record { opened = λ _. (m, h held); shut = λ f. absurd (false≢true (sym f ∙ e)) })
@@ -204,7 +192,7 @@ each_met p t j legal laid fit jpos jle =
                 let at : colour_at o j ≡ Some c.0 = ap (λ us. colour_in us j) (sym is.1) ∙ c.1 in
                 let same : c.0 ≡ has.0 = agrees_same has.0 c.0 (ap (agrees has.0) (sym at) ∙ h.1) in
                 let m : is_mark p (color_in p t) o.number j ≡ true =
-                mark_is p t o.number j c.0 laid jpos jle is.0 named c.1
+                mark_is p t o.number j c.0 is.0 c.1
                 ∙ ap (λ b. eqb (cond b MARK c.0) MARK) (ap (is_marked p t j o.number) same ∙ h.0 held) in
                 record { opened = λ f. absurd (false≢true (sym e ∙ f)); shut = λ _. m })
                 (options_left p t)

@@ -1,13 +1,13 @@
 -- What the tables answer: the node by which an option uses an item, the option of a node, and the links downwards.
 use Rattle.std.proofs.Common.{◌≡◌, ℕ, zero, suc, ◌+◌, ◌-◌, ◌<◌, ◌≤◌, Bool, true, false, not, cond, eqb, List, [], ◌∷◌}
 use Rattle.std.proofs.Common.{length, get_or, Some, None, filter, refl, ap₂, subst, arith, eqb-true, ne_eqb, le-leb}
-use Rattle.std.proofs.Common.{◌≢◌, ◌⊎◌, inl, inr, ltb, Option, ap, sym, ◌∙◌, eq-eqb, ltb-true, ltb-false}
+use Rattle.std.proofs.Common.{◌≢◌, ◌⊎◌, inl, inr, ltb, Option, ap, sym, ◌∙◌, eq-eqb}
 use Rattle.std.specs.Prelude.{is_some, unwrap_or, slice_get, Contains}
 use Rattle.std.specs.List.{range_with_len, AllByRecursion}
 use Rattle.std.proofs.lemmas.Grind.{common_steps}
-use Rattle.std.proofs.lemmas.Option.{slice_get_within, same_Some, slice_get-get_or}
+use Rattle.std.proofs.lemmas.Option.{slice_get_within}
 use Rattle.xc_input.specs.Problem.{Puzzle, primary_count, item_count, high_at, IsItem, IsPrimary, uses_of, colour_in}
-use Rattle.xc_input.specs.declared.problem.Use.{Use}
+use Rattle.std.proofs.lemmas.Bool.{cases_lt}
 use Rattle.xc_dance.specs.declared.dance.Move.{Move}
 use Rattle.xc_dance.specs.declared.links.nodes.Nodes.{Nodes}
 use Rattle.xc_dance.specs.Linked.{Linked}
@@ -17,21 +17,20 @@ use Rattle.xc_dance.specs.Moves.{purified, spends, AreLegal, listed, next_above,
 use Rattle.xc_dance.specs.Moves.{IsOpenPrimary}
 use Rattle.xc_dance.specs.Fields.{own, layout, first_above, ring_of, spacer, used, spacer_place, is_in, below_of}
 use Rattle.xc_dance.specs.Fields.{link_place}
-use Rattle.xc_dance.specs.inner.Links.Cells.{top_in, color_in, line_of, nodes_after, slot_of, link_at, fixed_down}
+use Rattle.xc_dance.specs.inner.Links.Cells.{top_in, color_in, line_of, nodes_after, link_at, fixed_down}
 use Rattle.xc_dance.specs.inner.Links.Cells.{dlink_in}
 use Rattle.xc_dance.specs.inner.Links.ItemCells.{items_after, bound_at, rlink_at}
-use Rattle.xc_dance.specs.inner.Links.Laid.{IsLaid, IsName, IsFit}
+use Rattle.xc_dance.specs.inner.Links.Laid.{IsLaid, IsName}
 use Rattle.xc_dance.specs.inner.Links.Answered.{named, IsNodeOf}
-use Rattle.xc_dance.specs.inner.Links.OptionPlaces.{start_at, place_at}
+use Rattle.xc_dance.specs.inner.Links.OptionPlaces.{start_at}
 use Rattle.xc_dance.proofs.MoveLemmas.ListLemmas.{next_above-gt, Rises-filter, Rises-range}
-use Rattle.xc_dance.proofs.LinkedTables.LinkColumns.{get_map, member_of}
+use Rattle.xc_dance.proofs.LinkedTables.LinkColumns.{get_map}
 use Rattle.xc_dance.proofs.LinkedTables.RingStep.{row_get, row_len, right_now}
 use Rattle.xc_dance.proofs.MoveLemmas.StateLemmas.{open_or_covered, open_uncovered}
-use Rattle.xc_dance.proofs.LinkedTables.LaidLemmas.{placed, head_is}
 use Rattle.xc_dance.proofs.LinkedTables.GoodLines.{Named, numbers_named}
 use Rattle.xc_dance.proofs.MoveLemmas.Shortened.{rises_listed}
-use Rattle.xc_dance.proofs.LinkedTables.PlaceLemmas.{use_here, spacer_here, place_next, get_behind, parted, there}
-use Rattle.xc_dance.proofs.LinkedTables.PlaceLemmas.{use_at, spacer_at}
+use Rattle.xc_dance.proofs.LinkedTables.PlaceLemmas.{place_is, option_nodes, HeldNode, held_node}
+use Rattle.xc_dance.proofs.LinkedTables.PlaceLemmas.{node_between}
 use Rattle.xc_dance.proofs.LinkedTables.Sweep.{first_above-first}
 use Rattle.xc_dance.specs.declared.links.nodes.TheConstants.{SPACER}
 
@@ -108,13 +107,9 @@ ring_open p t i legal le = grind (arith, common_steps, le-leb, open_or_covered, 
 -- ---- an item's own node
 
 -- an own node is of no option
-pub at_own : (p : Puzzle) (i x : ℕ) → 0 < i → i ≤ item_count p → IsName p i x → i ≡ link_place p i x → x ≡ 0
-at_own p i x pos le name at =
-    let q = placed p i x pos le name in
-    let two : Some (own i) ≡ Some q.node = sym (head_is p i pos le) ∙ ap (slice_get (layout p)) at ∙ q.at in
-    let same : own i ≡ q.node = cc in
-    let slots : Some (i, 0) ≡ Some (i, x) = ap slot_of same ∙ q.slot in
-    sym (ap member_of slots)
+pub at_own : (p : Puzzle) (i x : ℕ) → i ≤ item_count p → i ≡ link_place p i x → x ≡ 0
+at_own p i zero le at = refl
+at_own p i (suc m) le at = absurd (omega (arith, at, le))
 
 -- ---- the node of an option
 
@@ -124,68 +119,24 @@ pub record OnTheWay (p : Puzzle) (t : List Move) (i o q : ℕ) : Type 0 where
   pub found : get_or (nodes_after p t).top q 0 ≡ i → q ≡ link_place p i o
   pub next : get_or (nodes_after p t).top q 0 ≢ i → q + 1 ≤ link_place p i o
 
--- by which of its uses an option uses an item
-record UsePlace (p : Puzzle) (i m : ℕ) : Type 0 where
-  uses : List Use
-  index : ℕ
-  use_of : Use
-  uses_are : slice_get p.options m ≡ Some uses
-  use_is : slice_get uses index ≡ Some use_of
-  item : use_of.item ≡ i
-  place : link_place p i (suc m) ≡ start_at p m + index
+pub starts_below : (p : Puzzle) (i o : ℕ) → 0 < o → start_at p (o - 1) ≤ link_place p i o
+starts_below p i o pos = omega (arith, place_is p i o (o - 1) (omega (arith, pos)))
 
-use_place : (p : Puzzle) (i m : ℕ) → IsFit p → is_some (colour_in (uses_of p (suc m)) i) ≡ true → UsePlace p i m
-use_place p i m fit held =
-    let us = unwrap_or (slice_get p.options m) [] in
-    let r = parted us i held in
-    let k = length r.before in
-    let s : suc m ≡ m + 1 = omega arith in
-    let uses_are = there p.options m i held in
-    let use_is : slice_get us k ≡ Some r.use_of =
-    ap (λ l. slice_get l k) r.is ∙ get_behind r.before (r.use_of ∷ r.behind) k 0 (omega arith) in
-    record {
-      uses = us;
-      index = k;
-      use_of = r.use_of;
-      uses_are = uses_are;
-      use_is = use_is;
-      item = r.item;
-      place = ap₂ (link_place p) (sym r.item) s ∙ use_at p m k us r.use_of fit uses_are use_is;
-    }
-
-pub starts_below : (p : Puzzle) (i o : ℕ) → IsFit p → 0 < o → is_some (colour_in (uses_of p o) i) ≡ true
-    → start_at p (o - 1) ≤ link_place p i o
-starts_below p i zero fit pos held = absurd (omega (arith, pos))
-starts_below p i (suc m) fit pos held =
-    let w = use_place p i m fit held in
-    let same : suc m - 1 ≡ m = omega arith in
-    subst (λ n. start_at p n ≤ link_place p i (suc m)) (sym same) (omega (arith, w.place))
-
-pub on_the_way : (p : Puzzle) (t : List Move) (i o q : ℕ) → IsLaid p → IsFit p → 0 < o
+pub on_the_way : (p : Puzzle) (t : List Move) (i o q : ℕ) → IsLaid p → 0 < o
     → is_some (colour_in (uses_of p o) i) ≡ true → start_at p (o - 1) ≤ q → q ≤ link_place p i o → OnTheWay p t i o q
-on_the_way p t i zero q laid fit pos held from to = absurd (omega (arith, pos))
-on_the_way p t i (suc m) q laid fit pos held from to =
-    let w = use_place p i m fit held in
-    let place = w.place in
-    let same : suc m - 1 ≡ m = omega arith in
-    let s : m + 1 ≡ suc m = omega arith in
-    let first : start_at p m ≤ q = subst (λ n. start_at p n ≤ q) same from in
-    let long = slice_get_within w.uses w.index w.use_of w.use_is in
-    let k = q - start_at p m in
-    let d : Use = record { item = 0; colour = 0 } in
-    let u = get_or w.uses k d in
-    let use_is : slice_get w.uses k ≡ Some u = slice_get-get_or w.uses k d (omega (arith, first, to, place, long)) in
-    let node : slice_get (layout p) q ≡ Some (used (m + 1) u) =
-    use_here p m k q w.uses u w.uses_are use_is (omega (arith, first)) in
-    let top : get_or (nodes_after p t).top q 0 ≡ u.item =
-    get_map (top_in (line_of p t)) (layout p) q (used (m + 1) u) node in
-    let here : u.item ≡ i → link_place p i (suc m) ≡ q =
-    λ e. laid.unique q (used (m + 1) u) i (suc m) node (ap₂ (λ a b. Some (a, b)) e s) in
-    let its_item : q ≡ link_place p i (suc m) → u.item ≡ i = λ e.
-    let at : k ≡ w.index = omega (arith, e, place) in
-    let one : Some u ≡ Some w.use_of = sym use_is ∙ ap (slice_get w.uses) at ∙ w.use_is in
-    ap (λ (v : Use). v.item) (same_Some u w.use_of one) ∙ w.item in
-    grind (arith, common_steps, slice_get_within)
+on_the_way p t i o q laid pos held from to =
+    let w = held_node p i o pos held in
+    let b = node_between p o q w.known from (omega (arith, to, w.below)) in
+    let top = get_map (top_in (line_of p t)) (layout p) q (used o b.0) b.2 in
+    record {
+      within = slice_get_within (layout p) q (used o b.0) b.2;
+      found = λ e. sym (laid.unique q (used o b.0) i o b.2 (ap (λ j. let s : ℕ × ℕ = (j, o) in Some s) (sym top ∙ e)));
+      next = λ ne.
+          let other : q ≢ link_place p i o = λ e.
+          ne (get_map (top_in (line_of p t)) (layout p) q (used o w.held.use_of) (ap (slice_get (layout p)) e ∙ w.node)
+          ∙ w.held.item) in
+          omega (arith, to, other);
+    }
 
 -- ---- which option a node is of
 
@@ -195,55 +146,34 @@ record ToSpacer (p : Puzzle) (t : List Move) (o q : ℕ) : Type 0 where
   next : get_or (nodes_after p t).top q 0 < SPACER → q + 1 ≤ spacer_place p o
   number : SPACER ≤ get_or (nodes_after p t).top q 0 → get_or (nodes_after p t).top q 0 ≡ SPACER + o
 
--- where an option's nodes end
-spacer_behind : (p : Puzzle) (i m : ℕ) (w : UsePlace p i m) → spacer_place p (suc m) ≡ start_at p m + length w.uses
-spacer_behind p i m w =
-    let s : m + 1 ≡ suc m = omega arith in
-    let some = slice_get_within p.options m w.uses w.uses_are in
-    let next = place_next p m w.uses w.uses_are in
-    ap (spacer_place p) (sym s) ∙ omega (arith, spacer_at p (m + 1) (omega (arith, some)), next)
-
-to_spacer : (p : Puzzle) (t : List Move) (i o q : ℕ) → IsLaid p → IsFit p → 0 < o
+to_spacer : (p : Puzzle) (t : List Move) (i o q : ℕ) → IsLaid p → 0 < o
     → is_some (colour_in (uses_of p o) i) ≡ true → link_place p i o ≤ q → q ≤ spacer_place p o → ToSpacer p t o q
-to_spacer p t i zero q laid fit pos held from to = absurd (omega (arith, pos))
-to_spacer p t i (suc m) q laid fit pos held from to =
-    let w = use_place p i m fit held in
-    let place = w.place in
-    let end = spacer_behind p i m w in
-    elim (ltb q (start_at p m + length w.uses)) as
-    (λ b. ltb q (start_at p m + length w.uses) ≡ b → ToSpacer p t (suc m) q) [
-      | true ↦ λ e.
-          let lt = ltb-true q (start_at p m + length w.uses) e in
-          let k = q - start_at p m in
-          let d : Use = record { item = 0; colour = 0 } in
-          let u = get_or w.uses k d in
-          let use_is : slice_get w.uses k ≡ Some u = slice_get-get_or w.uses k d (omega (arith, from, lt, place)) in
-          let node : slice_get (layout p) q ≡ Some (used (m + 1) u) =
-          use_here p m k q w.uses u w.uses_are use_is (omega (arith, from, place)) in
-          let top : get_or (nodes_after p t).top q 0 ≡ u.item =
-          get_map (top_in (line_of p t)) (layout p) q (used (m + 1) u) node in
-          let most = (laid.nodes.ranged q (used (m + 1) u) u.item (m + 1) node refl).1 in
-          let small = laid.small in
-          record {
-            within = slice_get_within (layout p) q (used (m + 1) u) node;
-            next = λ h. omega (arith, lt, end);
-            number = λ h. absurd (omega (arith, h, top, most, small));
-          }
-      | false ↦ λ e.
-          let ge = ltb-false q (start_at p m + length w.uses) e in
-          let some = slice_get_within p.options m w.uses w.uses_are in
-          let next = place_next p m w.uses w.uses_are in
-          let at : q ≡ place_at p (m + 1) = omega (arith, ge, to, end, next) in
-          let node : slice_get (layout p) q ≡ Some (spacer (m + 1)) =
-          ap (slice_get (layout p)) at ∙ spacer_here p (m + 1) (omega (arith, some)) in
-          let top : get_or (nodes_after p t).top q 0 ≡ SPACER + (m + 1) =
-          get_map (top_in (line_of p t)) (layout p) q (spacer (m + 1)) node in
-          record {
-            within = slice_get_within (layout p) q (spacer (m + 1)) node;
-            next = λ h. absurd (omega (arith, h, top));
-            number = λ h. omega (arith, top);
-          }
-    ] refl
+to_spacer p t i o q laid pos held from to = by_place (cases_lt q (spacer_place p o))
+  where
+    w : HeldNode p i o
+    w = held_node p i o pos held
+
+    by_place : (q < spacer_place p o) ⊎ (spacer_place p o ≤ q) → ToSpacer p t o q
+    by_place (inl lt) =
+        let b = node_between p o q w.known (omega (arith, from, w.from)) lt in
+        let top : get_or (nodes_after p t).top q 0 ≡ b.0.item =
+        get_map (top_in (line_of p t)) (layout p) q (used o b.0) b.2 in
+        let most = (laid.nodes.ranged q (used o b.0) b.0.item o b.2 refl).1 in
+        record {
+          within = slice_get_within (layout p) q (used o b.0) b.2;
+          next = λ h. omega (arith, lt);
+          number = λ h. absurd (omega (arith, h, top, most, laid.small));
+        }
+    by_place (inr ge) =
+        let at : q ≡ spacer_place p o = omega (arith, ge, to) in
+        let node = ap (slice_get (layout p)) at ∙ (option_nodes p o w.known).behind in
+        let top : get_or (nodes_after p t).top q 0 ≡ SPACER + o =
+        get_map (top_in (line_of p t)) (layout p) q (spacer o) node in
+        record {
+          within = slice_get_within (layout p) q (spacer o) node;
+          next = λ h. absurd (omega (arith, h, top));
+          number = λ h. top;
+        }
 
 -- a node that isn't the item's own is of an option
 name_used : (p : Puzzle) (i place x : ℕ) → IsName p i x → place ≡ link_place p i x → place ≢ i → (0 < x)
@@ -258,13 +188,13 @@ pub record Seeks (p : Puzzle) (i place : ℕ) (top : List ℕ) (q : ℕ) : Type 
   pub high : SPACER ≤ get_or top q 0 → (x : ℕ) → IsName p i x → place ≡ link_place p i x
       → Some (get_or top q 0 - SPACER) ≡ named x
 
-pub seeks : (p : Puzzle) (t : List Move) (i place q : ℕ) → IsLaid p → IsFit p → IsNodeOf p i place → place ≢ i
+pub seeks : (p : Puzzle) (t : List Move) (i place q : ℕ) → IsLaid p → IsNodeOf p i place → place ≢ i
     → place ≤ q → ((x : ℕ) → IsName p i x → place ≡ link_place p i x → q ≤ spacer_place p x) →
     Seeks p i place (nodes_after p t).top q
-seeks p t i place q laid fit node other from to =
+seeks p t i place q laid node other from to =
     let tells : (x : ℕ) → IsName p i x → place ≡ link_place p i x → ToSpacer p t x q = λ x name at.
     let is = name_used p i place x name at other in
-    to_spacer p t i x q laid fit is.0 is.1 (omega (arith, from, at)) (to x name at) in
+    to_spacer p t i x q laid is.0 is.1 (omega (arith, from, at)) (to x name at) in
     grind (arith, common_steps, name_used, ne_eqb)
 
 -- ---- links downwards, by option numbers

@@ -186,7 +186,20 @@ mark_step p now spans (Some c) ln i o laid h near e =
     let colour : own_color p now i o ≡ c = eqb-true (own_color p now i o) c e in
     let marked : is_kept_mark keep (get_or u.color x 0) ≡ true =
     eq-eqb (get_or u.color x 0) MARK (color_here p now i o MARK h) in
-    grind (arith, common_steps, false≢true, same_nodes, written_back)
+    record {
+      can = record { span = near; place = omega (arith, within, long); hide = λ no. absurd (false≢true (sym no ∙ e)) };
+      done = rw e is;
+      back = record {
+        span = near;
+        place = omega (arith, within, long');
+        unhide = λ no. absurd (false≢true (sym no ∙ marked));
+      };
+      undone = rw marked (ap (λ (w : Nodes). with_colour w x c) (sym is)
+          ∙ same_nodes (with_colour (with_colour t x MARK) x c) t refl refl refl
+          (written_back t.color x x MARK c refl colour));
+      cost = rw e refl;
+      cost_back = rw marked refl;
+    }
 
 no_mark : (keep : Option ℕ) (v : ℕ) → eqb v MARK ≡ false → is_kept_mark keep v ≡ false
 no_mark None v e = refl
@@ -199,8 +212,19 @@ hide_step : (p : Puzzle) (now : Node → ℕ) (spans : List Span) (keep : Option
     → Turns p ln now spans o i →
     OneStep spans keep (nodes_from p ln now) (nodes_from p (left_all p now o ln (other_items p o i)) now)
     (link_place p i o) (3 * gone_count p now i o)
-hide_step p now spans keep ln i o spanned h pos named other unmarked turns =
-    grind (arith, common_steps, no_mark, slice_get_within, turns)
+hide_step p now spans keep ln i o spanned h pos named other unmarked s =
+    let within = slice_get_within (layout p) (link_place p i o) h.node h.at in
+    let place : link_place p i o < length (map now (layout p)) = omega (arith, within, length-map (layout p) now) in
+    let span = spanned.within o i pos named in
+    let no = no_mark keep (own_color p now i o) unmarked in
+    record {
+      can = record { span = span; place = place; hide = λ e. s.hide };
+      done = rw other s.done;
+      back = record { span = span; place = place; unhide = λ e. s.unhide };
+      undone = rw no s.undone;
+      cost = rw other s.cost;
+      cost_back = rw no s.cost_back;
+    }
 
 -- an option whose uses are ready is hidden and comes back
 pub turns_ready : (p : Puzzle) (ln : ℕ → Line) (col : Node → ℕ) (lists : ℕ → List ℕ) (spans : List Span) (o i : ℕ)

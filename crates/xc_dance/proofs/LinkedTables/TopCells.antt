@@ -19,7 +19,8 @@ use Rattle.xc_dance.specs.declared.links.field.Field.TheVariants.{Llink, Rlink, 
 use Rattle.xc_dance.specs.Moves.{listed, spends}
 use Rattle.xc_dance.specs.inner.Links.ItemCells.{items_after}
 use Rattle.xc_dance.proofs.MoveLemmas.ListLemmas.{length-listed}
-use Rattle.xc_dance.proofs.LinkedTables.PlaceLemmas.{spacer_here, place_first, spacer_is, spacer_at}
+use Rattle.xc_dance.specs.Fields.{spacer_place}
+use Rattle.xc_dance.proofs.LinkedTables.PlaceLemmas.{is_at, spacer_here, place_first}
 use Rattle.xc_dance.proofs.LinkedTables.MarkedNodes.{colour_small}
 use Rattle.xc_dance.proofs.LinkedTables.GoodLines.{numbers_few}
 use Rattle.xc_dance.specs.declared.links.nodes.TheConstants.{MARK, SPACER}
@@ -94,8 +95,7 @@ pub first_spacer : (p : Puzzle) (t : List Move) (q : ℕ) (n : Node) → IsSound
 first_spacer p t q unused s e f = absurd (omega (arith, f))
 first_spacer p t q (own i) s e f = grind (arith, common_steps, length-listed)
 first_spacer p t q (spacer n) s e f =
-    let z : n ≡ 0 = omega (arith, f) in
-    sym (spacer_is p q 0 (e ∙ ap (λ k. Some (spacer k)) z)) ∙ spacer_at p 0 (omega arith) ∙ place_first p
+    let z : n ≡ 0 = omega (arith, f) in sym (is_at p q (spacer n) e) ∙ ap (spacer_place p) z ∙ place_first p
 first_spacer p t q (used o u) s e f =
     let r = s.laid.nodes.ranged q (used o u) u.item o e refl in
     absurd (omega (arith, f, r.1, s.items))
@@ -231,9 +231,7 @@ color_use p t q laid fit gt = node_read p (color_in p t) color_read (color_of p 
     by_node : (n : Node) → slice_get (layout p) q ≡ Some n → color_read (color_in p t n) ≡ color_of p t n
     by_node unused e = refl
     by_node (own i) e =
-        let at : i ≡ q = laid.unique q (own i) i 0 e refl in
-        let r = laid.nodes.ranged q (own i) i 0 e refl in
-        absurd (omega (arith, at, r.1, gt))
+        let s = is_at p q (own i) e in absurd (omega (arith, s.1, s.2, gt))
     by_node (spacer n) e = refl
     by_node (used o u) e =
         let small = colour_small (uses_of p o) u.item u.colour (fit.colours o) (laid.nodes.coloured q o u e) in

@@ -1,17 +1,16 @@
 -- What steps write at nodes that aren't marked, and where no node of an option is.
 use Rattle.std.proofs.Common.{◌≡◌, ℕ, ◌+◌, ◌*◌, true, false, not, cond, eqb, List, [], ◌∷◌, ◌++◌, length, map, filter}
-use Rattle.std.proofs.Common.{get_or, reverse, refl, ap, ◌∙◌, arith, fold, ◌≢◌, zero, suc, ◌-◌, ◌<◌, ◌≤◌, Bool, ltb}
-use Rattle.std.proofs.Common.{Option, Some, None, sym, subst, ltb-true, ltb-false, eqb-true, ne_eqb, option_map}
-use Rattle.std.specs.Prelude.{slice_get, is_some}
+use Rattle.std.proofs.Common.{get_or, reverse, refl, ap, ◌∙◌, arith, fold, ◌≢◌, zero, suc, ◌<◌, ◌≤◌, Bool, ltb}
+use Rattle.std.proofs.Common.{Option, Some, None, sym, subst, ltb-true, ltb-false, ne_eqb, option_map}
+use Rattle.std.specs.Prelude.{slice_get}
 use Rattle.std.specs.List.{AllByRecursion}
 use Rattle.std.proofs.lemmas.Grind.{common_steps}
 use Rattle.std.proofs.lemmas.List.{length-map}
-use Rattle.std.proofs.lemmas.Bool.{eqb-false}
-use Rattle.std.proofs.lemmas.Option.{slice_get_within, slice_get-get_or, same_Some, slice_get-map}
-use Rattle.xc_input.specs.Problem.{Puzzle, colour_in, uses_of, item_count, option_count}
+use Rattle.std.proofs.lemmas.Option.{slice_get-get_or, same_Some, slice_get-map}
+use Rattle.xc_input.specs.Problem.{Puzzle, colour_in, uses_of, item_count}
 use Rattle.xc_input.specs.declared.problem.Use.{Use}
 use Rattle.xc_dance.specs.declared.links.nodes.Nodes.{Nodes}
-use Rattle.xc_dance.specs.Fields.{Node, layout, link_place, unused, own, used, spacer_place, is_marked}
+use Rattle.xc_dance.specs.Fields.{Node, layout, link_place, unused, own, used, is_marked}
 use Rattle.xc_dance.specs.inner.Links.Steps.{hidden, unhidden, hide_cost, others_of}
 use Rattle.xc_dance.specs.inner.Links.Walks.{costs}
 use Rattle.xc_dance.specs.declared.dance.Move.{Move}
@@ -21,13 +20,12 @@ use Rattle.xc_dance.specs.Moves.{AreLegal}
 use Rattle.xc_dance.specs.inner.Links.Cells.{color_in, nodes_after}
 use Rattle.xc_dance.specs.inner.Links.Laid.{IsLaid}
 use Rattle.xc_dance.specs.inner.Links.Made.{IsFitted}
-use Rattle.xc_dance.specs.inner.Links.OptionPlaces.{place_at}
 use Rattle.xc_dance.specs.inner.Links.OptionSpans.{span_of, spans_of}
 use Rattle.xc_dance.specs.inner.Links.ListWalks.{left_node, back_node}
 use Rattle.xc_dance.specs.inner.Links.Unmarked.{IsPlain, HasUnmarked, IsUnmarked}
 use Rattle.xc_dance.proofs.LinkedTables.OneOption.{is_mark}
 use Rattle.xc_dance.proofs.LinkedTables.LinkColumns.{get_map}
-use Rattle.xc_dance.proofs.LinkedTables.PlaceLemmas.{spacer_at, there}
+use Rattle.xc_dance.proofs.LinkedTables.PlaceLemmas.{is_at}
 use Rattle.xc_dance.specs.declared.links.nodes.TheConstants.{MARK, SPACER}
 
 -- ---- what steps of hide and unhide write: 3 at each node that isn't marked
@@ -90,9 +88,7 @@ never_marked p (_ ∷ t) i o legal = grind (arith, common_steps, ne_eqb, never_m
 no_color : (p : Puzzle) (t : List Move) (q : ℕ) (n : Node) → IsLaid p → AreLegal p t → IsPlain p → item_count p < q
     → slice_get (layout p) q ≡ Some n → color_in p t n ≡ 0
 no_color p t q (own i) laid legal plain gt e =
-    let at : i ≡ q = laid.unique q (own i) i 0 e refl in
-    let r = laid.nodes.ranged q (own i) i 0 e refl in
-    absurd (omega (arith, at, r.1, gt))
+    let s = is_at p q (own i) e in absurd (omega (arith, s.1, s.2, gt))
 no_color p t q (used o u) laid legal plain gt e =
     let none : u.colour ≡ 0 = no_colour (uses_of p o) u.item u.colour (plain o) (laid.nodes.coloured q o u e) in
     grind (arith, common_steps, never_marked)
@@ -119,27 +115,15 @@ unmarked_behind p t q laid legal plain gt =
 
 -- ---- the spans
 
-pub used_behind : (p : Puzzle) (x o : ℕ) (u : Use) → IsLaid p → slice_get (layout p) x ≡ Some (used o u)
-    → item_count p < x
-used_behind p x o u laid e = grind (arith, common_steps, eqb-false, eqb-true, ltb-false, ltb-true)
-
-pub starts_behind : (p : Puzzle) (o i : ℕ) → 0 < o → is_some (colour_in (uses_of p o) i) ≡ true
-    → item_count p < spacer_place p (o - 1)
-starts_behind p zero i pos e = absurd (omega (arith, pos))
-starts_behind p (suc o) i pos e =
-    let lt : o < option_count p = slice_get_within p.options o _ (there p.options o i e) in
-    let z : suc o - 1 ≡ o = omega arith in
-    let at : spacer_place p (suc o - 1) ≡ place_at p o = ap (spacer_place p) z ∙ spacer_at p o (omega (arith, lt)) in
-    let low : item_count p < place_at p o = omega arith in
-    omega (arith, at, low)
+pub used_behind : (p : Puzzle) (x o : ℕ) (u : Use) → slice_get (layout p) x ≡ Some (used o u) → item_count p < x
+used_behind p x o u e = omega (arith, (is_at p x (used o u) e).4)
 
 by_node : (p : Puzzle) (t : List Move) (x : ℕ) (n : Node) → IsLaid p → AreLegal p t → IsPlain p → x < SPACER
     → slice_get (layout p) x ≡ Some n → HasUnmarked (nodes_after p t).color (span_of p n) x
-by_node p t x (used o u) laid legal plain small e =
-    let start = starts_behind p o u.item (laid.nodes.numbered x o u e) (ap is_some (laid.nodes.coloured x o u e)) in (
-      (λ q from below. unmarked_behind p t q laid legal plain (omega (arith, used_behind p x o u laid e, from))),
-      (λ q from below. unmarked_behind p t q laid legal plain (omega (arith, start, from))),
-    )
+by_node p t x (used o u) laid legal plain small e = (
+  λ q from below. unmarked_behind p t q laid legal plain (omega (arith, used_behind p x o u e, from)),
+  λ q from below. unmarked_behind p t q laid legal plain (omega (arith, from)),
+)
 by_node p t x _ laid legal plain small e =
     (λ q from below. absurd (omega (arith, below)), λ q from below. absurd (omega (arith, small, from, below)))
 

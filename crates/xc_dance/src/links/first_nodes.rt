@@ -4,7 +4,7 @@ ghost use Rattle.xc_input.specs.Problem.{IsWithinLimits, item_count, option_coun
 ghost use Rattle.xc_dance.specs.Fields.{layout, spacer};
 ghost use Rattle.xc_dance.specs.inner.Links.Laid.{IsFit};
 ghost use Rattle.xc_dance.specs.inner.Links.Cells.{fixed_up, fixed_down, nodes_from, nodes_after, color_in};
-ghost use Rattle.xc_dance.specs.inner.Links.OptionPlaces.{place_at};
+ghost use Rattle.xc_dance.specs.Fields.{spacer_place};
 ghost use Rattle.xc_dance.specs.inner.Links.FirstNodes.{laid_to, blanks};
 
 use crate::links::nodes::{Nodes, Row, Rows, SPACER};
@@ -71,7 +71,7 @@ fn lay_options(rows: &mut Rows, problem: &Problem)
 fn lay_spacer(rows: &mut Rows, problem: &Problem, o: u32, place: u32, above: u32)
     requires limits { IsWithinLimits problem.now.puzzle }
     requires option { o ≤ option_count problem.now.puzzle }
-    requires place { place ≡ place_at problem.now.puzzle o }
+    requires place { place ≡ spacer_place problem.now.puzzle o }
     requires above { above ≡ fixed_up problem.now.puzzle (spacer o) }
     requires before { rows.old ≡ laid_to problem.now.puzzle place }
     ensures { rows.new ≡ laid_to problem.now.puzzle (place + 1) }
@@ -91,7 +91,7 @@ fn lay_spacer(rows: &mut Rows, problem: &Problem, o: u32, place: u32, above: u32
 fn last_node(problem: &Problem, o: u32, place: u32) -> u32
     requires limits { IsWithinLimits problem.now.puzzle }
     requires option { o ≤ option_count problem.now.puzzle }
-    requires place { place ≡ place_at problem.now.puzzle o }
+    requires place { place ≡ spacer_place problem.now.puzzle o }
     ensures { result ≡ fixed_down problem.now.puzzle (spacer o) }
 {
     if o < problem.options() {
@@ -105,8 +105,8 @@ fn last_node(problem: &Problem, o: u32, place: u32) -> u32
 fn lay_uses(rows: &mut Rows, problem: &Problem, o: u32)
     requires limits { IsWithinLimits problem.now.puzzle }
     requires option { o < option_count problem.now.puzzle }
-    requires before { rows.old ≡ laid_to problem.now.puzzle (place_at problem.now.puzzle o + 1) }
-    ensures { rows.new ≡ laid_to problem.now.puzzle (place_at problem.now.puzzle (o + 1)) }
+    requires before { rows.old ≡ laid_to problem.now.puzzle (spacer_place problem.now.puzzle o + 1) }
+    ensures { rows.new ≡ laid_to problem.now.puzzle (spacer_place problem.now.puzzle (o + 1)) }
 {
     for u in problem.option(o + 1) {
         let row = Row {

@@ -1,6 +1,6 @@
 -- Taking an option: its branch item's use first, the others cyclically after it.
 use Rattle.std.proofs.Common.{ℕ, suc, ◌≡◌, ◌+◌, ◌<◌, Bool, true, false, cond, not, ◌&&◌, ◌||◌, eqb, List, [], ◌∷◌, ◌++◌}
-use Rattle.std.proofs.Common.{length, filter, take, drop, Some, refl, sym, ap, ◌∙◌, arith, eqb-true, eq-eqb, ne_eqb}
+use Rattle.std.proofs.Common.{length, filter, take, drop, Some, refl, sym, ap, ◌∙◌, arith, eq-eqb, ne_eqb}
 use Rattle.xc_search.proofs.Spent.{less_one}
 use Rattle.std.proofs.lemmas.List.Elements.{filter_agree}
 use Rattle.std.specs.Prelude.{nat_le, is_some}
@@ -10,6 +10,10 @@ use Rattle.xc_input.specs.Problem.{Numbered, colour_in, holds}
 use Rattle.xc_search.specs.Listing.{Residual, may_stay, item_left, pick, spend_one}
 use Rattle.xc_input.specs.UsePlaces.{place_in}
 use Rattle.xc_search.proofs.residual.PickedByUses.{is_wanted, spend_uses, all_stay, committed, as_residual}
+use Rattle.std.proofs.lemmas.List.{take-append-drop}
+use Rattle.std.proofs.lemmas.Option.{slice_get_within}
+use Rattle.xc_input.proofs.lists.Places.{drop_at}
+use Rattle.xc_dance.proofs.LinkedTables.PlaceLemmas.{held_use}
 use Rattle.xc_input.proofs.lists.EachElement.{each-append, each_front}
 use Rattle.xc_input.proofs.lists.Filters.{filter_both, map-same}
 use Rattle.std.proofs.Math.Bool.{and_comm, or_comm}
@@ -25,30 +29,17 @@ pub record Placed (i : ℕ) (us : List Use) : Type 0 where
   pub within : place_in i us < length us
 
 pub placed : (i : ℕ) (us : List Use) → is_some (colour_in us i) ≡ true → Placed i us
-placed i [] h = cc
-placed i (u ∷ us) h = by_case (eqb u.item i) refl (λ l. placed i us l)
-  where
-    by_case : (b : Bool) → eqb u.item i ≡ b → (is_some (colour_in us i) ≡ true → Placed i us) → Placed i (u ∷ us)
-    by_case true e later =
-        let here : place_in i (u ∷ us) ≡ 0 = rw e refl in
-        record {
-          use_of = u;
-          at = eqb-true u.item i e;
-          whole = rw e refl;
-          within = omega (arith, here);
-        }
-    by_case false e later =
-        let held : is_some (colour_in us i) ≡ true = (rw e at h) in
-        let rest = later held in
-        let one : 1 + place_in i us ≡ suc (place_in i us) = omega arith in
-        let there : place_in i (u ∷ us) ≡ suc (place_in i us) = rw e one in
-        let next : suc (place_in i us) + 1 ≡ suc (place_in i us + 1) = omega arith in
-        record {
-          use_of = rest.use_of;
-          at = rest.at;
-          whole = rw (there, next) (ap (λ vs. u ∷ vs) rest.whole);
-          within = omega (arith, there, rest.within);
-        }
+placed i us h =
+    let w = held_use us i h in
+    let n = place_in i us in
+    let s : suc n ≡ n + 1 = omega arith in
+    record {
+      use_of = w.use_of;
+      at = w.item;
+      whole = sym (take-append-drop n us)
+          ∙ ap (λ l. take n us ++ l) (drop_at us n w.use_of w.at ∙ ap (λ k. w.use_of ∷ drop k us) s);
+      within = slice_get_within us n w.use_of w.at;
+    }
 
 -- ---- the order of the uses doesn't matter
 

@@ -1,8 +1,8 @@
 use Rattle.std.proofs.Common.{arith, ap, ◌∙◌, ◌≡◌, ◌+◌, ◌<◌}
 use Rattle.xc_input.specs.Problem.{option_count}
-use Rattle.xc_dance.specs.inner.Links.OptionPlaces.{place_at}
+use Rattle.xc_dance.specs.Fields.{spacer_place}
 use Rattle.xc_dance.proofs.LinkedTables.PlaceLemmas.{place_first, option_fits, uses_here}
-use Rattle.xc_dance.proofs.LinkedTables.PassedOptions.{sound_fit, behind_first, before_last, option_between}
+use Rattle.xc_dance.proofs.LinkedTables.PassedOptions.{behind_first, before_last, option_between}
 use Rattle.xc_dance.proofs.places.number_at.Goals as goal
 
 pub loop-before-init : goal.loop-before-init
@@ -11,7 +11,7 @@ loop-before-init c =
     let u = c.requires in
     let first = place_first p in
     let items = c.items-spacer.ensures.value in
-    let behind = behind_first p u.0 u.1 c.args.place (sound_fit c.args.problem.now c.items-spacer.ensures.whole) u.2 in
+    let behind = behind_first p u.0 u.1 c.args.place u.2 in
     record { spacer = omega (arith, items, first); passed = omega (arith, items, first, behind) }
 
 pub returns-then-place-spacer : goal.returns-then-place-spacer
@@ -24,16 +24,16 @@ returns-then-place-spacer c = λ i x u.
     let found = uses_here p (o + 1) us c.option.ensures.value in
     let fits = option_fits p o us c.option.ensures.whole.limits within found in
     let at = c.loop-before.invariant.spacer in
-    option_between p i x c.args.place o (sound_fit c.args.problem.now c.option.ensures.whole) u within
-    (omega (arith, at, c.loop-before.invariant.passed)) (omega (arith, at, fits.next, c.if-place-spacer.true))
+    option_between p i x c.args.place o u (omega (arith, at, c.loop-before.invariant.passed))
+    (omega (arith, at, fits.next, c.if-place-spacer.true))
 
 pub unreachable-requires : goal.unreachable-requires
 unreachable-requires c =
     let p = c.args.problem.now.puzzle in
     let u = c.requires in
-    let last = before_last p u.0 u.1 c.args.place (sound_fit c.args.problem.now c.items-spacer.ensures.whole) u.2 in
+    let last = before_last p u.0 u.1 c.args.place u.2 in
     let count = c.options-before-end.ensures.value in
     let all : c.loop-before.before ≡ c.options-before-end.result =
     omega (arith, c.loop-before-test.false, c.loop-before.auto.before-end) in
-    let at = c.loop-before.invariant.spacer ∙ ap (place_at p) (all ∙ count) in
+    let at = c.loop-before.invariant.spacer ∙ ap (spacer_place p) (all ∙ count) in
     omega (arith, last, at, c.loop-before.invariant.passed)

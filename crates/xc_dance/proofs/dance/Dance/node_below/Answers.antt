@@ -41,7 +41,7 @@ some_next g c x at =
     let same = c.requires.same in
     elim c.if-place-items.branch [
       | then-place-items w ↦
-          next_of_own s a c.args.i x c.args.place c.items.result _ same items.whole items.value at
+          next_of_own s a c.args.i x c.args.place c.items.result _ same items.value at
           w.if-place-items.true (w.next-is ∙ w.first-next.ensures)
       | else-place-items w ↦
           next_of_option s a c.args.i x c.args.place c.items.result _ _ same items.whole items.value c.requires.item at
@@ -72,8 +72,7 @@ pub returns-in-Some-clause-option : goal.returns-in-Some-clause-option
 returns-in-Some-clause-option g c = λ x at.
     let s = g.Self.Dance.state c.args.self.now in
     let is = some_next g (goal.at.returns-in-Some-clause-option g c).In-Some x at in
-    place_tells s c.args.problem.now c.args.i x c.node_place.result c.requires.same c.items.ensures.whole
-    c.requires.item
+    place_tells s c.args.i x c.node_place.result c.requires.item
     (c.node_place.ensures
     ∙ ap (λ (p : Puzzle). link_place p c.args.i c.in-Some.o) (sym c.requires.same)
     ∙ ap (λ n. link_place s.puzzle c.args.i (unwrap_or n 0)) (sym is))
@@ -90,7 +89,7 @@ own_next g c x at =
     let same = c.requires.same in
     elim c.if-place-items.branch [
       | then-place-items w ↦
-          next_of_own s a c.args.i x c.args.place c.items.result _ same items.whole items.value at
+          next_of_own s a c.args.i x c.args.place c.items.result _ same items.value at
           w.if-place-items.true (w.next-is ∙ w.first-next.ensures)
       | else-place-items w ↦
           next_of_option s a c.args.i x c.args.place c.items.result _ _ same items.whole items.value c.requires.item at
@@ -104,5 +103,5 @@ returns-in-None-clause-place g c = λ x at.
 pub returns-in-None-clause-option : goal.returns-in-None-clause-option
 returns-in-None-clause-option g c = λ x at.
     let s = g.Self.Dance.state c.args.self.now in
-    place_tells s c.args.problem.now c.args.i x c.args.i c.requires.same c.items.ensures.whole c.requires.item
+    place_tells s c.args.i x c.args.i c.requires.item
     (ap (λ n. link_place s.puzzle c.args.i (unwrap_or n 0)) (sym (own_next g c x at)))

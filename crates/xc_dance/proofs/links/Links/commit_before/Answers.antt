@@ -1,12 +1,10 @@
-use Rattle.std.proofs.Common.{◌≡◌, ◌+◌, ◌-◌, ℕ, length, get_or, ap, subst, ◌∙◌, arith, refl}
+use Rattle.std.proofs.Common.{◌≡◌, ◌+◌, ◌-◌, ℕ, length, get_or, ap, ◌∙◌, arith, refl}
 use Rattle.std.specs.Prelude.{slice_index}
 use Rattle.std.proofs.lemmas.List.{length-map}
 use Rattle.xc_dance.specs.declared.links.nodes.Nodes.{Nodes}
 use Rattle.xc_dance.specs.Commits.{IsUseAt}
 use Rattle.xc_dance.specs.Fields.{layout}
-use Rattle.xc_dance.specs.Linked.{Linked}
 use Rattle.xc_dance.specs.inner.Links.Cells.{nodes_after, top_in, ulink_in, line_of}
-use Rattle.xc_dance.specs.inner.Links.Laid.{IsFit}
 use Rattle.xc_dance.specs.inner.Links.OptionPlaces.{start_at}
 use Rattle.xc_dance.specs.inner.Links.UseNodes.{uses_before}
 use Rattle.xc_dance.proofs.LinkedTables.Along.{along_first, before_at, Leads, leads, IsNext, nodes_told, may_commit}
@@ -15,17 +13,14 @@ use Rattle.xc_dance.proofs.LinkedTables.Written.{written_then}
 use Rattle.xc_dance.proofs.links.Links.commit_before.Goals as goal
 use Rattle.xc_dance.proofs.links.Links.commit_before.Goals.{After-self, After-self-in-loop-q}
 
-fit : (c : After-self) → IsFit c.args.self.now.puzzle
-fit c = subst (λ (s : Linked). IsFit s.puzzle) c.self.view_is c.self.invariant.fitted.fit
-
 first_nodes : (c : After-self) → c.self.inside.nodes ≡ nodes_after c.args.self.now.puzzle c.args.self.now.trail
 first_nodes c = nodes_told _ _ _ _ c.self.invariant.nodes c.self.view_is refl
 
 -- where the spacer leads
 led : (c : After-self) (x : ℕ) → IsUseAt c.args.self.now.puzzle c.args.i x c.args.place →
     Leads c.args.self.now.puzzle x c.args.place c.args.end c.args.self.now.trail
-led c x held = leads c.args.self.now.puzzle c.args.i x c.args.place c.args.end c.args.self.now.trail (fit c)
-    held (c.requires.end x held)
+led c x held =
+    leads c.args.self.now.puzzle c.args.i x c.args.place c.args.end c.args.self.now.trail held (c.requires.end x held)
 
 pub ulink-first-requires : goal.ulink-first-requires
 ulink-first-requires c =
@@ -78,8 +73,7 @@ next : (c : After-self-in-loop-q) (x : ℕ) → IsUseAt c.args.self.now.puzzle c
     (uses_before c.args.self.now.puzzle c.args.i x) c.args.self.now.trail c.loop-q.self.trail c.loop-q.q
 next c x held =
     let s = c.args.self.now in
-    let fit : IsFit s.puzzle = subst (λ (s : Linked). IsFit s.puzzle) c.self.view_is c.self.invariant.fitted.fit in
-    (before_at s.puzzle c.args.i x c.args.place c.loop-q.q s.trail c.loop-q.self.trail fit held
+    (before_at s.puzzle c.args.i x c.args.place c.loop-q.q s.trail c.loop-q.self.trail held
     (c.loop-q.invariant.along x held)).node c.loop-q-test.true
 
 pub commit_node-requires : goal.commit_node-requires
@@ -116,7 +110,6 @@ loop-q-preserved c =
 pub returns-clause-committed : goal.returns-clause-committed
 returns-clause-committed c = λ x held.
     let s = c.args.self.now in
-    let here = (goal.at.returns-clause-committed c).After-self in
-    let all = (before_at s.puzzle c.args.i x c.args.place c.loop-q.q s.trail c.loop-q.self.trail (fit here)
-    held (c.loop-q.invariant.along x held)).end c.loop-q-test.false in
+    let all = (before_at s.puzzle c.args.i x c.args.place c.loop-q.q s.trail c.loop-q.self.trail held
+    (c.loop-q.invariant.along x held)).end c.loop-q-test.false in
     whole s.puzzle s.room c.loop-q.self _ c.loop-q.invariant.puzzle c.loop-q.invariant.room all

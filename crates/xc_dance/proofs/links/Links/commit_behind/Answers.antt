@@ -25,8 +25,7 @@ begun : (c : After-self) → Behind c.args.self.now.puzzle c.args.i c.requires.0
     c.args.self.now.trail (c.args.place + 1)
 begun c =
     let s = c.args.self.now in
-    behind_at s.puzzle c.args.i c.requires.0 c.args.place (c.args.place + 1) s.trail s.trail (laid c) (fit c)
-    c.requires.1
+    behind_at s.puzzle c.args.i c.requires.0 c.args.place (c.args.place + 1) s.trail s.trail (laid c) c.requires.1
     (along_first s.puzzle (c.args.place + 1) (c.args.place + 1) (uses_behind s.puzzle c.args.i c.requires.0)
     s.trail refl)
 
@@ -51,9 +50,8 @@ found : (c : After-self-in-loop-self) (x : ℕ) → IsUseAt c.args.self.now.puzz
     Behind c.args.self.now.puzzle c.args.i x c.args.place c.args.self.now.trail c.loop-self.self.trail c.loop-self.q
 found c x held =
     let p = c.args.self.now.puzzle in
-    let fit : IsFit p = subst (λ (s : Linked). IsFit s.puzzle) c.self.view_is c.self.invariant.fitted.fit in
     let laid : IsLaid p = subst (λ (s : Linked). IsLaid s.puzzle) c.self.view_is c.self.invariant.fitted.laid in
-    behind_at p c.args.i x c.args.place c.loop-self.q c.args.self.now.trail c.loop-self.self.trail laid fit held
+    behind_at p c.args.i x c.args.place c.loop-self.q c.args.self.now.trail c.loop-self.self.trail laid held
     (c.loop-self.invariant.along x held)
 
 nodes_is : (c : After-self-in-loop-self) → c.self-in-loop-self.inside.nodes

@@ -48,6 +48,6 @@ returns-clause-option c = λ x h.
     ap (λ (s : Linked). option_at s.puzzle c.args.i c.dlink.result) (sym c.self.view_is)
     ∙ ap (option_at p c.args.i) down
     ∙ option_there p c.args.i (first_above 0 x (listed_numbers p t c.args.i))
-    c.self.invariant.fitted.laid (item here).0 (item here).1 (above_name p t c.args.i x)
+    (item here).1 (above_name p t c.args.i x)
     ∙ above_named x (listed_numbers p t c.args.i)
     ∙ ap (λ (s : Linked). next_above x (listed_numbers s.puzzle s.trail c.args.i)) c.self.view_is

@@ -1,13 +1,13 @@
 use Rattle.std.proofs.Common.{◌≡◌}
 use Rattle.xc_dance.specs.Fields.{spacer}
 use Rattle.xc_dance.specs.inner.Links.Cells.{fixed_up}
-use Rattle.xc_dance.specs.inner.Links.OptionPlaces.{place_at}
+use Rattle.xc_dance.specs.Fields.{spacer_place}
 use Rattle.xc_dance.specs.inner.Links.FirstNodes.{laid_to}
 use Rattle.xc_dance.proofs.links.first_nodes.lay_options.Given as goal
 
 abbrev pub invariant-loop-o : goal.invariant-loop-o
 invariant-loop-o l = record {
   rows : l.rows ≡ laid_to l.problem.puzzle l.place;
-  place : l.place ≡ place_at l.problem.puzzle l.o;
+  place : l.place ≡ spacer_place l.problem.puzzle l.o;
   above : l.above ≡ fixed_up l.problem.puzzle (spacer l.o);
 }

@@ -5,43 +5,49 @@ use Rattle.xc_dance.specs.Fields.{used}
 use Rattle.xc_dance.specs.declared.links.nodes.Row.{Row}
 use Rattle.xc_dance.specs.inner.Links.Columns.{Laying}
 use Rattle.xc_dance.specs.inner.Links.FirstNodes.{with_row, laid_to}
-use Rattle.xc_dance.specs.inner.Links.OptionPlaces.{place_at}
+use Rattle.xc_dance.specs.Fields.{spacer_place}
 use Rattle.xc_dance.proofs.LinkedTables.PlaceLemmas.{uses_here, use_here, option_fits}
 use Rattle.xc_dance.proofs.LinkedTables.FirstTables.{laid_room, laid_more}
 use Rattle.xc_dance.proofs.links.first_nodes.lay_uses.Goals as goal
+use Rattle.xc_dance.proofs.links.first_nodes.lay_uses.Goals.{In-loop-u}
+use Rattle.std.proofs.Common.{ℕ, Some}
+use Rattle.std.specs.Prelude.{slice_get}
+use Rattle.xc_dance.specs.Fields.{layout, spacer_place}
+
+-- the next use, and its place
+abbrev use_now : (c : In-loop-u) → Use
+use_now c = get_or c.option-u-items.result.now c.loop-u.u-index (record { item = 0; colour = 0 })
+
+abbrev place_now : (c : In-loop-u) → ℕ
+place_now c = spacer_place c.args.problem.now.puzzle c.args.o + 1 + c.loop-u.u-index
+
+-- its node stands there
+node : (c : In-loop-u) → slice_get (layout c.args.problem.now.puzzle) (place_now c)
+    ≡ Some (used (c.args.o + 1) (use_now c))
+node c =
+    let p = c.args.problem.now.puzzle in
+    let us = c.option-u-items.result.now in
+    let fits =
+    option_fits p c.args.o us c.requires.limits c.requires.option
+    (uses_here p (c.args.o + 1) us c.option-u-items.ensures.value) in
+    use_here p c.args.o c.loop-u.u-index (place_now c) us (use_now c) fits.at
+    (slice_get-get_or us c.loop-u.u-index _ c.loop-u-test.true) refl
 
 pub lay-requires : goal.lay-requires
 lay-requires c =
-    let p = c.args.problem.now.puzzle in
-    let us = c.option-u-items.result.now in
-    let k = c.loop-u.u-index in
-    let d : Use = record { item = 0; colour = 0 } in
-    let u = get_or us k d in
-    let fits =
-    option_fits p c.args.o us c.requires.limits c.requires.option
-    (uses_here p (c.args.o + 1) us c.option-u-items.ensures.value) in
-    let at =
-    use_here p c.args.o k (place_at p c.args.o + 1 + k) us u fits.at (slice_get-get_or us k d c.loop-u-test.true)
-    refl in
+    let here = (goal.at.lay-requires c).In-loop-u in
     subst (λ (t : Laying). length t.nodes.top < t.count) (sym c.loop-u.invariant)
-    (laid_room p (place_at p c.args.o + 1 + k) (used (c.args.o + 1) u) at)
+    (laid_room c.args.problem.now.puzzle (place_now here) (used (c.args.o + 1) (use_now here)) (node here))
 
 pub loop-u-preserved : goal.loop-u-preserved
 loop-u-preserved c =
+    let here = (goal.at.loop-u-preserved c).In-loop-u in
     let p = c.args.problem.now.puzzle in
-    let us = c.option-u-items.result.now in
-    let k = c.loop-u.u-index in
-    let q = place_at p c.args.o + 1 + k in
-    let d : Use = record { item = 0; colour = 0 } in
-    let u = get_or us k d in
+    let u = use_now here in
     let row : Row = record { top = u.item; ulink = u.item; dlink = u.item; color = u.colour } in
-    let fits =
-    option_fits p c.args.o us c.requires.limits c.requires.option
-    (uses_here p (c.args.o + 1) us c.option-u-items.ensures.value) in
-    let at = use_here p c.args.o k q us u fits.at (slice_get-get_or us k d c.loop-u-test.true) refl in
-    let next : q + 1 ≡ place_at p c.args.o + 1 + (k + 1) = omega arith in
+    let next : place_now here + 1 ≡ spacer_place p c.args.o + 1 + (c.loop-u.u-index + 1) = omega arith in
     c.lay.ensures ∙ ap (λ (t : Laying). with_row t row) c.loop-u.invariant
-    ∙ laid_more p q (used (c.args.o + 1) u) row at refl ∙ ap (laid_to p) next
+    ∙ laid_more p (place_now here) (used (c.args.o + 1) u) row (node here) refl ∙ ap (laid_to p) next
 
 pub returns : goal.returns
 returns c =
@@ -50,6 +56,6 @@ returns c =
     let fits =
     option_fits p c.args.o us c.requires.limits c.requires.option
     (uses_here p (c.args.o + 1) us c.option-u-items.ensures.value) in
-    let end : place_at p c.args.o + 1 + c.loop-u.u-index ≡ place_at p (c.args.o + 1) =
+    let end : spacer_place p c.args.o + 1 + c.loop-u.u-index ≡ spacer_place p (c.args.o + 1) =
     omega (arith, fits.next, c.loop-u-test.false, c.loop-u.auto.u-index-end) in
     c.loop-u.invariant ∙ ap (laid_to p) end

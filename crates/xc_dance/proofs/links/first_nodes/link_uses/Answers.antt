@@ -10,7 +10,8 @@ use Rattle.xc_dance.specs.inner.Links.Cells.{nodes_from, color_in}
 use Rattle.xc_dance.specs.inner.Links.FirstNodes.{entered}
 use Rattle.std.proofs.lemmas.Option.{slice_get-get_or}
 use Rattle.xc_dance.proofs.LinkedTables.EnteredNodes.{lines_of, UseStep, use_step, spacer_step, spacer_top}
-use Rattle.xc_dance.proofs.LinkedTables.EnteredNodes.{behind_items, none_entered, all_entered}
+use Rattle.xc_dance.proofs.LinkedTables.EnteredNodes.{none_entered, all_entered}
+use Rattle.xc_dance.proofs.LinkedTables.PlaceLemmas.{is_at}
 use Rattle.xc_dance.proofs.links.first_nodes.link_uses.Goals as goal
 use Rattle.xc_dance.proofs.links.first_nodes.link_uses.Goals.{Then-top-lt-SPACER, then-top-lt-SPACER}
 use Rattle.xc_dance.proofs.links.first_nodes.link_uses.Goals.{else-top-lt-SPACER}
@@ -19,24 +20,19 @@ use Rattle.xc_dance.specs.declared.links.nodes.TheConstants.{SPACER}
 abbrev so_far : Puzzle → ℕ → Nodes
 so_far p q = nodes_from p (lines_of (take q (layout p))) (color_in p [])
 
--- the node at q is a use's where its TOP is small
-is_use : (p : Puzzle) (q : ℕ) (n : Node) → IsFit p → IsWithinLimits p → item_count p + 1 ≤ q
-    → slice_get (layout p) q ≡ Some n → slice_index (so_far p q).top q < SPACER →
-    (o : ℕ) × (u : Use) × UseStep p (so_far p q) q o u
-is_use p q unused fit limits from e small = absurd (behind_items p q unused from e)
-is_use p q (own i) fit limits from e small = absurd (behind_items p q (own i) from e)
-is_use p q (spacer n) fit limits from e small =
-    let top = spacer_top p (lines_of (take q (layout p))) (color_in p []) q n e in absurd (omega (arith, top, small))
-is_use p q (used o u) fit limits from e small = (o, u, use_step p q o u fit limits e)
-
--- and a spacer's where it isn't
-is_spacer : (p : Puzzle) (q : ℕ) (n : Node) → IsFit p → IsWithinLimits p → item_count p + 1 ≤ q
-    → slice_get (layout p) q ≡ Some n → (slice_index (so_far p q).top q < SPACER → ⊥) → so_far p q ≡ so_far p (q + 1)
-is_spacer p q unused fit limits from e large = absurd (behind_items p q unused from e)
-is_spacer p q (own i) fit limits from e large = absurd (behind_items p q (own i) from e)
-is_spacer p q (spacer n) fit limits from e large = spacer_step p q n e
-is_spacer p q (used o u) fit limits from e large =
-    let s = use_step p q o u fit limits e in absurd (large (omega (arith, s.is_item, s.item_small)))
+-- the node at q is a use's where its TOP is small, and a spacer's where it isn't
+step : (p : Puzzle) (q : ℕ) (n : Node) → IsFit p → IsWithinLimits p → item_count p + 1 ≤ q
+    → slice_get (layout p) q ≡ Some n
+    → (slice_index (so_far p q).top q < SPACER → (o : ℕ) × (u : Use) × UseStep p (so_far p q) q o u)
+    × (SPACER ≤ slice_index (so_far p q).top q → so_far p q ≡ so_far p (q + 1))
+step p q unused fit limits from e = absurd (omega (arith, is_at p q unused e, from))
+step p q (own i) fit limits from e = let s = is_at p q (own i) e in absurd (omega (arith, s.1, s.2, from))
+step p q (spacer n) fit limits from e =
+    let top = spacer_top p (lines_of (take q (layout p))) (color_in p []) q n e in
+    (λ small. absurd (omega (arith, top, small)), λ large. spacer_step p q n e)
+step p q (used o u) fit limits from e =
+    let s = use_step p q o u fit limits e in
+    (λ small. (o, u, s), λ large. absurd (omega (arith, large, s.is_item, s.item_small)))
 
 pub loop-q-init : goal.loop-q-init
 loop-q-init c =
@@ -52,7 +48,7 @@ use_here c =
     let at = slice_get-get_or (layout p) q unused (omega (arith, c.loop-q-test.true, c.requires.count)) in
     let top = ap (λ (t : Nodes). slice_index t.top q) c.loop-q.invariant in
     let s =
-    is_use p q _ c.requires.fit c.requires.limits (omega (arith, c.loop-q.auto.q, c.items-q.ensures.value)) at
+    (step p q _ c.requires.fit c.requires.limits (omega (arith, c.loop-q.auto.q, c.items-q.ensures.value)) at).0
     (omega (arith, top, c.top.ensures, c.if-top-lt-SPACER.true)) in
     (s.0, s.1, subst (λ (t : Nodes). UseStep p t q s.0 s.1) (sym c.loop-q.invariant) s.2)
 
@@ -76,13 +72,13 @@ loop-q-preserved c =
     let top = ap (λ (t : Nodes). slice_index t.top q) c.loop-q.invariant in
     elim c.if-top-lt-SPACER.branch [
       | then-top-lt-SPACER w ↦
-          (let s = is_use p q n c.requires.fit c.requires.limits from at
+          (let s = (step p q n c.requires.fit c.requires.limits from at).0
           (omega (arith, top, c.top.ensures, w.if-top-lt-SPACER)) in
           w.nodes-is ∙ w.enter.ensures ∙ ap (λ (t : Nodes). entered t q) c.loop-q.invariant ∙ s.2.done)
       | else-top-lt-SPACER w ↦
           w.nodes-is ∙ c.loop-q.invariant
-          ∙ is_spacer p q n c.requires.fit c.requires.limits from at
-          (λ small. omega (arith, top, c.top.ensures, w.if-top-lt-SPACER, small))
+          ∙ (step p q n c.requires.fit c.requires.limits from at).1
+          (omega (arith, top, c.top.ensures, w.if-top-lt-SPACER))
     ]
 
 pub returns : goal.returns
