@@ -163,7 +163,8 @@ pub fn next_token<'a>(
 {
     let rest = match line {
         [] => return None,
-        [first, more @ ..] if is_white(*first) => more,
+        // Other white space is rare, and left to `other_token`: a test of one byte is some instructions a token less.
+        [b' ', more @ ..] => more,
         _ => line,
     };
     if let Some(cut) = known_token(guesses, rest) {
