@@ -4,8 +4,8 @@ ghost use Rattle.std.specs.Prelude.{◌≡◌, ℕ, ◌+◌, ◌-◌, ◌*◌, �
 ghost use Rattle.std.specs.Prelude.{Some, false, if◌then◌else◌, IfOk, IsTrue, ◌↔◌};
 
 use crate::links::cells::{
-    Cell, Link, down, get, push, push_links, read, read_down, read_up, same_cells, same_links, set,
-    set_down, set_up, up,
+    Cell, Link, down, get, get_at, push, push_links, read, read_down, read_up, same_cells,
+    same_links, set, set_down, set_up, up,
 };
 use crate::links::spans::Spans;
 use crate::links::steps::{relink, unlink};
@@ -132,6 +132,15 @@ impl Nodes {
         ensures { result ≡ slice_index self.now.top q }
     {
         get(&self.top, q)
+    }
+
+    /// The same by an index.
+    #[inline(always)]
+    pub(crate) fn top_at(&self, q: usize) -> u32
+        requires { q < length self.now.top }
+        ensures { result ≡ slice_index self.now.top q }
+    {
+        get_at(&self.top, q)
     }
 
     /// ULINK of node q.
