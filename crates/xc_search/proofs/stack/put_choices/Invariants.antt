@@ -1,6 +1,6 @@
-use Rattle.std.proofs.Common.{◌≡◌, ◌++◌, map, take}
-use Rattle.std.specs.Prelude.{vec_capacity}
-use Rattle.xc_search.specs.inner.Levels.{chosen}
+use Rattle.std.proofs.Common.{◌≡◌, ◌++◌, map, take, length}
+use Rattle.std.specs.Prelude.{All, vec_capacity}
+use Rattle.xc_search.specs.inner.Levels.{chosen, IsShown}
 use Rattle.xc_search.proofs.stack.put_choices.Given as goal
 
 abbrev pub invariant-loop-choice : goal.invariant-loop-choice
@@ -9,8 +9,14 @@ invariant-loop-choice g l = record {
   capacity : vec_capacity l.choices ≡ vec_capacity l.fn.choices;
 }
 
-abbrev pub invariant-loop-level : goal.invariant-loop-level
-invariant-loop-level g l = record {
-  items : l.choices.items ≡ l.before ++ map (chosen l.position.puzzle) (take l.level-index l.levels);
+-- with the choices of the levels that are left they are all
+abbrev pub invariant-loop-rest : goal.invariant-loop-rest
+invariant-loop-rest g l = record {
+  items : l.choices.items ++ map (chosen l.position.puzzle) l.rest
+      ≡ l.fn.shown.0.now ++ map (chosen l.position.puzzle) l.fn.shown.1.now;
   capacity : vec_capacity l.choices ≡ vec_capacity l.fn.choices;
+  shown : All (IsShown l.position.puzzle) l.rest;
 }
+
+abbrev pub decreases-loop-rest : goal.decreases-loop-rest
+decreases-loop-rest g l = length l.rest

@@ -1,11 +1,14 @@
-use Rattle.std.proofs.Common.{sym, subst}
+use Rattle.std.proofs.Common.{sym, subst, ap, arith, length}
 use Rattle.std.specs.Prelude.{All}
 use Rattle.xc_search.specs.inner.Levels.{Levels, IsShown}
 use Rattle.xc_search.proofs.stacked.ShownLevels.{shown_back}
 use Rattle.xc_search.proofs.stack.Stack.show.Goals as goal
 
-pub put_choices-requires-clause-shown : goal.put_choices-requires-clause-shown
-put_choices-requires-clause-shown g c =
+pub replace_with-requires : goal.replace_with-requires
+replace_with-requires g c =
     let p = c.args.position.now.puzzle in
     let shown = subst (λ (v : Levels). All (IsShown p) v.levels) (sym c.self.view_is) c.requires in
-    subst (All (IsShown p)) (sym c.deref.ensures.value) (shown_back p c.self.inside.levels.items shown)
+    let room = c.self.invariant in (
+      omega (arith, ap length c.as_slice.ensures.value, room.few, room.choices_fit),
+      subst (All (IsShown p)) (sym c.as_slice.ensures.value) (shown_back p c.self.inside.levels.items shown),
+    )
