@@ -1,5 +1,5 @@
 -- A text that is put together on a page.
-use Rattle.std.proofs.Common.{◌≡◌, ℕ, ◌+◌, ◌-◌, ◌<◌, ◌≤◌, List, [], ◌++◌, length, take, drop, sym, ap, ◌∙◌, arith}
+use Rattle.std.proofs.Common.{◌≡◌, ℕ, ◌+◌, ◌-◌, ◌≤◌, List, [], ◌++◌, length, take, drop, sym, ap, ◌∙◌, arith}
 use Rattle.std.proofs.Common.{subst, append-nil, append_assoc, ◌∷◌, get_or}
 use Rattle.std.proofs.Math.Seq.{drop-cons, take-append-add}
 use Rattle.std.proofs.lemmas.List.{drop-append-le, take-take, length-take, length-take-le, drop-set, drop-set-add}
@@ -11,8 +11,9 @@ use Rattle.std.specs.Prelude.{Result, Ok, Err, IsErr, flat_map}
 use Rattle.xc_list.specs.Texts.{SinkState, Took, BrokeOff, Writes}
 use Rattle.xc_list.specs.inner.Pages.{Puts, IsPut, held_text}
 use Rattle.xc_list.specs.declared.page.Held.{Held}
-use Rattle.xc_list.proofs.Writing.{then_took, then_broke, took_nothing, broke_before, flat_map-parts}
-use Rattle.xc_list.proofs.Writing.{flat_map-take-more}
+use Rattle.xc_list.proofs.Writing.{then_took, then_broke, took_nothing, broke_before}
+use Rattle.xc_search.proofs.stacked.LevelsLeft.{behind_first, cut_first}
+use Rattle.std.proofs.lemmas.Grind.{common_steps, flat_map-append}
 use Rattle.xc_input.proofs.TokenLemmas.Separators.{COLON}
 
 -- a text put on the page is held behind what was held
@@ -25,6 +26,13 @@ held_more page more text from to end h l e =
 -- and the sink was not asked
 pub puts_held : (s : SinkState) (before after text : List ℕ) → after ≡ before ++ text → Puts s s before after text
 puts_held s before after text e = record { front = []; took = took_nothing s; whole = sym e }
+
+-- the texts of the front of a list were put, up to where the rest begins
+pub record PutsFront (a b : SinkState) {X : Type 0} (before held : List ℕ) (f : X → List ℕ) (rest all : List X) : Type 0
+  where
+    pub done : List X
+    pub whole : done ++ rest ≡ all
+    pub puts : Puts a b before held (flat_map f done)
 
 pub puts_nothing : (s : SinkState) (before : List ℕ) → Puts s s before before []
 puts_nothing s before = record { front = []; took = took_nothing s; whole = append-nil before }
@@ -109,26 +117,40 @@ pub kept_out : {a b : SinkState} (page more text : List ℕ) (from to : ℕ) →
 kept_out {a = a} {b = b} page more text from to e p =
     puts_out (subst (λ t. Took a b (drop from t ++ text)) e p)
 
--- one text more
-pub lines_put : {X : Type 0} {a b c : SinkState} {before held next : List ℕ} (f : X → List ℕ) (xs : List X) (i : ℕ)
-    (d : X) → i < length xs → Puts a b before held (flat_map f (take i xs)) → Puts b c held next (f (get_or xs i d))
-    → Puts a c before next (flat_map f (take (i + 1) xs))
-lines_put {a = a} {c = c} {before = before} {next = next} f xs i d h p q =
-    subst (Puts a c before next) (sym (flat_map-take-more f xs i d h)) (then_puts p q)
+next_done : {X : Type 0} (done rest all : List X) (d : X) → 1 ≤ length rest → done ++ rest ≡ all
+    → (done ++ get_or rest 0 d ∷ []) ++ behind_first rest ≡ all
+next_done done rest all d some whole =
+    let cut = cut_first rest d some in grind (arith, common_steps, cut, whole)
 
-pub lines_broke : {X : Type 0} {a b c : SinkState} {before held : List ℕ} (f : X → List ℕ) (xs : List X) (i : ℕ) (d : X)
-    → i < length xs → Puts a b before held (flat_map f (take i xs)) → BrokeOff b c (held ++ f (get_or xs i d))
-    → BrokeOff a c (before ++ flat_map f xs)
-lines_broke {a = a} {c = c} {before = before} f xs i d h p q =
-    let some : List ℕ = flat_map f (take i xs) ++ f (get_or xs i d) in
-    let rest : List ℕ = flat_map f (drop (i + 1) xs) in
-    let broke : BrokeOff a c ((before ++ some) ++ rest) = broke_before rest (puts_broke (f (get_or xs i d)) p q) in
-    subst (BrokeOff a c) (append_assoc before some rest ∙ ap (λ t. before ++ t) (sym (flat_map-parts f xs i d h))) broke
+-- the texts of the first of a list, and the next one's
+module _ {X : Type 0} {a b c : SinkState} {before held : List ℕ} (f : X → List ℕ) (done rest all : List X) (d : X)
+    (some : 1 ≤ length rest) (whole : done ++ rest ≡ all) where
+  pub line_put : {next : List ℕ} → Puts a b before held (flat_map f done) → Puts b c held next (f (get_or rest 0 d))
+      → PutsFront a c before next f (behind_first rest) all
+  line_put {next = next} p q = record {
+    done = done ++ get_or rest 0 d ∷ [];
+    whole = next_done done rest all d some whole;
+    puts =
+        let more : flat_map f (done ++ get_or rest 0 d ∷ []) ≡ flat_map f done ++ f (get_or rest 0 d) =
+        grind (arith, common_steps, flat_map-append f done (get_or rest 0 d ∷ [])) in
+        subst (Puts a c before next) (sym more) (then_puts p q);
+  }
 
-pub lines_all : {X : Type 0} {a b : SinkState} {before held : List ℕ} (f : X → List ℕ) (xs : List X) (i : ℕ)
-    → take i xs ≡ xs → Puts a b before held (flat_map f (take i xs)) → Puts a b before held (flat_map f xs)
-lines_all {a = a} {b = b} {before = before} {held = held} f xs i all p =
-    subst (λ ys. Puts a b before held (flat_map f ys)) all p
+  pub lines_broke : Puts a b before held (flat_map f done) → BrokeOff b c (held ++ f (get_or rest 0 d))
+      → BrokeOff a c (before ++ flat_map f all)
+  lines_broke p q =
+      let front : List ℕ = flat_map f done ++ f (get_or rest 0 d) in
+      let behind : List ℕ = flat_map f (behind_first rest) in
+      let text : flat_map f all ≡ front ++ behind =
+      ap (flat_map f) (sym (next_done done rest all d some whole))
+      ∙ grind (
+        arith,
+        common_steps,
+        flat_map-append f (done ++ get_or rest 0 d ∷ []) (behind_first rest),
+        flat_map-append f done (get_or rest 0 d ∷ []),
+      ) in
+      subst (BrokeOff a c) (append_assoc before front behind ∙ ap (λ t. before ++ t) (sym text))
+      (broke_before behind (puts_broke (f (get_or rest 0 d)) p q))
 
 pub member_broke : {a b : SinkState} (head held lines : List ℕ) → held ≡ head → BrokeOff a b (held ++ lines)
     → BrokeOff a b (head ++ lines)

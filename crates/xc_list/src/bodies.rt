@@ -296,20 +296,16 @@ impl<'a> Bodies<'a> {
         self.problem
     }
 
-    /// Puts an option's uses on a page, cyclically from an item's; none where they aren't laid out, or
-    /// there is no room for them and a little more.
+    /// The options as they are laid out, if they are.
     #[inline(always)]
-    pub fn put_option(&self, item: u32, o: u32, page: &mut [u8], at: usize) -> Option<usize>
-        requires known { IsOption self.now.puzzle o }
-        requires room { (at ≤ 4096) × (length page.old ≡ 4096) }
-        ensures put { IfSome result (λ to. take to page.new ≡ take at page.old
-            ++ flat_map (use_text self.now) (from_item item (uses_of self.now.puzzle o))) }
-        ensures end { IfSome result (λ to. (at ≤ to) × (to + 16 ≤ 4096)) }
-        ensures none { IsNone result → page.new ≡ page.old }
-        ensures size { length page.new ≡ 4096 }
+    pub fn laid(&self) -> Option<LaidOut<'_>>
+        ensures { IfSome result (λ l. l ≡ self.now) }
     {
         match &self.layout {
-            Some(layout) => put_text(self.problem, layout, item, o, page, at),
+            Some(layout) => Some(LaidOut {
+                problem: self.problem,
+                layout,
+            }),
             None => None,
         }
     }
@@ -327,5 +323,44 @@ impl<'a> Bodies<'a> {
         let (before, after) = cut_text(self.problem, layout, item, o);
         write_all(sink, after)?;
         write_all(sink, before)
+    }
+}
+
+/// The options of a problem that are laid out, told once for all lines of a page.
+#[derive(Drop)]
+pub struct LaidOut<'b> {
+    problem: &'b Problem,
+    layout: &'b Layout,
+}
+
+impl<'b> Model for LaidOut<'b> {
+    ghost use Rattle.std.specs.Prelude.{◌≡◌, map};
+    ghost use Rattle.xc_input.specs.Named.{Named};
+    ghost use Rattle.xc_list.specs.inner.Layout.{ArePadded, first_item};
+
+    ghost Value = { Named };
+
+    ghost view = { λ b. b.problem.now };
+
+    ghost invariant = { λ b. record {
+      laid : ArePadded b.problem.now b.problem.now.puzzle.options b.layout.now.texts.items b.layout.now.starts.items;
+      firsts : b.layout.now.firsts.items ≡ map first_item b.problem.now.puzzle.options;
+    } };
+}
+
+impl<'b> LaidOut<'b> {
+    /// Puts an option's uses on a page, cyclically from an item's; none where there is no room for them
+    /// and a little more.
+    #[inline(always)]
+    pub fn put_option(&self, item: u32, o: u32, page: &mut [u8], at: usize) -> Option<usize>
+        requires known { IsOption self.now.puzzle o }
+        requires room { (at ≤ 4096) × (length page.old ≡ 4096) }
+        ensures put { IfSome result (λ to. take to page.new ≡ take at page.old
+            ++ flat_map (use_text self.now) (from_item item (uses_of self.now.puzzle o))) }
+        ensures end { IfSome result (λ to. (at ≤ to) × (to + 16 ≤ 4096)) }
+        ensures none { IsNone result → page.new ≡ page.old }
+        ensures size { length page.new ≡ 4096 }
+    {
+        put_text(self.problem, self.layout, item, o, page, at)
     }
 }

@@ -8,7 +8,7 @@ ghost use Rattle.xc_list.specs.inner.LineParts.{branch_text};
 ghost use Rattle.xc_list.specs.inner.Pages.{IsPut, held_text};
 ghost use Rattle.xc_list.specs.Known.{IsKnownChoice};
 
-use crate::bodies::Bodies;
+use crate::bodies::{Bodies, LaidOut};
 use crate::page::{Held, put_bytes, put_header};
 use crate::sink::Sink;
 use crate::uses::write_name;
@@ -171,9 +171,9 @@ pub fn write_member<S: Sink>(
     write_choices(bodies, choices, sink)
 }
 
-/// Puts branch and number of branches on a page, to the end of the line, where the branch has one digit
-/// or two and the number two; none else.
-#[inline(never)]
+/// Puts branch and number of branches on a page, to the end of the line, where the number has two digits
+/// and the branch one or two; none else.
+#[inline(always)]
 fn put_long_branch(page: &mut [u8], at: usize, k: u32, n: u32) -> Option<usize>
     requires { at + 16 ≤ length page.old }
     ensures put { IfSome result (λ to. take to page.new ≡ take at page.old ++ branch_text k n) }
@@ -195,7 +195,7 @@ fn put_long_branch(page: &mut [u8], at: usize, k: u32, n: u32) -> Option<usize>
 }
 
 /// Puts branch and number of branches on a page, to the end of the line, unless one has three digits
-/// or more.
+/// or more, or the branch more than their number.
 #[inline(always)]
 fn put_branch(page: &mut [u8], at: usize, k: u32, n: u32) -> Option<usize>
     requires { at + 16 ≤ length page.old }
@@ -204,19 +204,23 @@ fn put_branch(page: &mut [u8], at: usize, k: u32, n: u32) -> Option<usize>
     ensures none { IsNone result → page.new ≡ page.old }
     ensures size { length page.new ≡ length page.old }
 {
-    if k < 10 && n < 10 {
-        put_bytes(page, at, &digit_of_digit(k as u8, n as u8));
-        return Some(at + 10);
+    if n >= 10 {
+        return put_long_branch(page, at, k, n);
     }
-    put_long_branch(page, at, k, n)
+    // A test of its own, for which the compiler jumps, where one of both numbers at once is some instructions more.
+    if k >= 10 {
+        return None;
+    }
+    put_bytes(page, at, &digit_of_digit(k as u8, n as u8));
+    Some(at + 10)
 }
 
 /// Puts the line of a choice on a page, if it is one that takes an option and there is room for it.
 #[inline(always)]
-fn put_choice(bodies: &Bodies, choice: &Choice, page: &mut [u8], at: usize) -> Option<usize>
-    requires known { IsKnownChoice bodies.now.puzzle choice.now }
+fn put_choice(laid: &LaidOut, choice: &Choice, page: &mut [u8], at: usize) -> Option<usize>
+    requires known { IsKnownChoice laid.now.puzzle choice.now }
     requires room { (at ≤ 4096) × (length page.old ≡ 4096) }
-    ensures put { IfSome result (λ to. take to page.new ≡ take at page.old ++ choice_text bodies.now choice.now) }
+    ensures put { IfSome result (λ to. take to page.new ≡ take at page.old ++ choice_text laid.now choice.now) }
     ensures end { IfSome result (λ to. (at ≤ to) × (to ≤ 4096)) }
     ensures none { IsNone result → take at page.new ≡ take at page.old }
     ensures size { length page.new ≡ 4096 }
@@ -224,7 +228,7 @@ fn put_choice(bodies: &Bodies, choice: &Choice, page: &mut [u8], at: usize) -> O
     let Some(o) = choice.option else {
         return None;
     };
-    match bodies.put_option(choice.item, o, page, at) {
+    match laid.put_option(choice.item, o, page, at) {
         Some(to) => put_branch(page, to, choice.k, choice.n),
         None => None,
     }
@@ -252,11 +256,13 @@ fn write_past<S: Sink>(
 #[inline(always)]
 fn put_line<S: Sink>(
     bodies: &Bodies,
+    laid: &LaidOut,
     choice: &Choice,
     page: &mut [u8],
     held: Held,
     sink: &mut S,
 ) -> Result<Held, SinkFault>
+    requires same { laid.now ≡ bodies.now }
     requires known { IsKnownChoice bodies.now.puzzle choice.now }
     requires size { length page.old ≡ 4096 }
     requires within { (held.from ≤ held.to) × (held.to ≤ 4096) }
@@ -265,7 +271,7 @@ fn put_line<S: Sink>(
     ensures within { IfOk result (λ h. (h.from ≤ h.to) × (h.to ≤ 4096)) }
     ensures size { length page.new ≡ 4096 }
 {
-    if let Some(to) = put_choice(bodies, choice, page, held.to) {
+    if let Some(to) = put_choice(laid, choice, page, held.to) {
         return Ok(Held {
             from: held.from,
             to,
@@ -279,11 +285,13 @@ fn put_line<S: Sink>(
 #[inline(always)]
 fn put_lines<S: Sink>(
     bodies: &Bodies,
+    laid: &LaidOut,
     choices: &[Choice],
     page: &mut [u8],
     start: Held,
     sink: &mut S,
 ) -> Result<Held, SinkFault>
+    requires same { laid.now ≡ bodies.now }
     requires known { All (IsKnownChoice bodies.now.puzzle) choices.now }
     requires size { length page.old ≡ 4096 }
     requires within { (start.from ≤ start.to) × (start.to ≤ 4096) }
@@ -293,15 +301,18 @@ fn put_lines<S: Sink>(
     ensures size { length page.new ≡ 4096 }
 {
     let mut held = start;
-    for choice in choices {
-        let next = put_line(bodies, choice, page, held, sink)?;
+    // Each is taken off the front: a `for` would seek it by its number.
+    let mut rest = choices;
+    while let [choice, behind @ ..] = rest {
+        let next = put_line(bodies, laid, choice, page, held, sink)?;
         held = next;
+        rest = behind;
     }
     Ok(held)
 }
 
-/// Writes a solution as `write_member` does, but puts its lines together on a page and lets the sink
-/// take them at once. With three writes a line these took two fifths of what printing takes.
+/// Writes a solution as `write_member` does, but where options are laid out puts its lines together on a page and
+/// lets the sink take them at once. With three writes a line these took two fifths of what printing takes.
 // Out of line: among the search's values too few would be left in registers.
 #[inline(never)]
 pub fn write_by_page<S: Sink>(
@@ -317,8 +328,11 @@ pub fn write_by_page<S: Sink>(
         result (member_text bodies.now (number, choices.now)) }
     ensures size { length page.new ≡ 4096 }
 {
+    let Some(laid) = bodies.laid() else {
+        return write_member(number, choices, bodies, sink);
+    };
     let header = put_header(page, number);
-    let held = put_lines(bodies, choices, page, header, sink)?;
+    let held = put_lines(bodies, &laid, choices, page, header, sink)?;
     // Written here, and not kept until the page is full: so a write that fails is one of this solution's.
     write_all(sink, &page[held.from..held.to])
 }

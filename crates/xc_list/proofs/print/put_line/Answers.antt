@@ -1,4 +1,4 @@
-use Rattle.std.proofs.Common.{arith, refl}
+use Rattle.std.proofs.Common.{arith, refl, ap, take, ◌++◌, ◌∙◌}
 use Rattle.xc_list.specs.Output.{choice_text}
 use Rattle.xc_list.specs.inner.Pages.{held_text}
 use Rattle.xc_list.proofs.PageLemmas.{held_more, kept_out, kept_text, puts_held, put_failed}
@@ -8,7 +8,9 @@ pub returns-in-Some-clause-put : goal.returns-in-Some-clause-put
 returns-in-Some-clause-put g c =
     puts_held (g.S.Sink.state c.args.sink.now) _ _ _
     (held_more c.args.page.now c.put_choice.new.page _ c.args.held.from c.args.held.to c.in-Some.to c.requires.within.0
-    (omega (arith, c.requires.within.1, c.requires.size)) c.in-Some.ensures.put)
+    (omega (arith, c.requires.within.1, c.requires.size))
+    (c.in-Some.ensures.put
+    ∙ ap (λ a. take c.args.held.to c.args.page.now ++ choice_text a c.args.choice.now) c.requires.same))
 
 pub returns-in_err-write_past-clause-put : goal.returns-in_err-write_past-clause-put
 returns-in_err-write_past-clause-put g c =

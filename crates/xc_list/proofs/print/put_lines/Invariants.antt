@@ -1,14 +1,20 @@
-use Rattle.std.proofs.Common.{◌≡◌, ◌≤◌, length, take}
-use Rattle.std.specs.Prelude.{flat_map}
+use Rattle.std.proofs.Common.{◌≡◌, ◌≤◌, length}
+use Rattle.std.specs.Prelude.{All}
+use Rattle.xc_list.specs.Known.{IsKnownChoice}
 use Rattle.xc_list.specs.Output.{choice_text}
-use Rattle.xc_list.specs.inner.Pages.{Puts, held_text}
+use Rattle.xc_list.specs.inner.Pages.{held_text}
+use Rattle.xc_list.proofs.PageLemmas.{PutsFront}
 use Rattle.xc_list.proofs.print.put_lines.Given as goal
 
--- the lines so far were put
-abbrev pub invariant-loop-choice : goal.invariant-loop-choice
-invariant-loop-choice g l = record {
-  put : Puts (g.S.Sink.state l.fn.sink) (g.S.Sink.state l.sink) (held_text l.fn.page l.fn.start.from l.fn.start.to)
-      (held_text l.page l.held.from l.held.to) (flat_map (choice_text l.bodies) (take l.choice-index l.choices));
+-- the lines of the choices before those that are left were put
+abbrev pub invariant-loop-rest : goal.invariant-loop-rest
+invariant-loop-rest g l = record {
+  put : PutsFront (g.S.Sink.state l.fn.sink) (g.S.Sink.state l.sink) (held_text l.fn.page l.fn.start.from l.fn.start.to)
+      (held_text l.page l.held.from l.held.to) (choice_text l.bodies) l.rest l.fn.choices;
+  known : All (IsKnownChoice l.bodies.puzzle) l.rest;
   within : (l.held.from ≤ l.held.to) × (l.held.to ≤ 4096);
   size : length l.page ≡ 4096;
 }
+
+abbrev pub decreases-loop-rest : goal.decreases-loop-rest
+decreases-loop-rest g l = length l.rest
