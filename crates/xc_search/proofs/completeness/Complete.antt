@@ -1,6 +1,7 @@
 -- Each cover of a valid problem is the set of options of a member of its listing.
+use Rattle.std.proofs.lemmas.Grind.{common_steps}
 use Rattle.std.proofs.Common.{ℕ, zero, suc, ◌≡◌, ◌≢◌, ◌+◌, ◌≤◌, Bool, true, false, cond, not, ◌&&◌, ◌||◌, eqb, List, []}
-use Rattle.std.proofs.Common.{◌∷◌, length, map, take, Option, Some, None, refl, sym, ap, ap₂, ◌∙◌, arith, subst, ◌⊎◌}
+use Rattle.std.proofs.Common.{◌∷◌, length, map, take, Option, Some, None, refl, sym, ap, ◌∙◌, arith, subst, ◌⊎◌}
 use Rattle.std.proofs.Common.{inl, inr, eqb-true, eq-eqb, ltb-false, le-leb, leb-true}
 use Rattle.xc_search.proofs.Spent.{less_one}
 use Rattle.xc_search.specs.inner.Sizes.{size_of}
@@ -85,22 +86,11 @@ pub record IsFirst (r : Residual) (chosen : ℕ → Bool) (i : ℕ) (x : Numbere
 
 -- it goes, and all others that are chosen stay
 goes : (r : Residual) (chosen : ℕ → Bool) (i : ℕ) (x : Numbered) → IsFirst r chosen i x → goes_on r i x x ≡ false
-goes r chosen i x f =
-    let self : nat_le x.number x.number ≡ true = le-leb x.number x.number (omega arith) in rw (f.at, self) refl
+goes r chosen i x f = grind (arith, common_steps, le-leb)
 
 stay : (n : ℕ) (r : Residual) (chosen : ℕ → Bool) (i : ℕ) (x y : Numbered) → IsProper n r → Covers n r chosen
     → IsFirst r chosen i x → IsIn r.options y → chosen y.number ≡ true → x.number ≢ y.number → goes_on r i x y ≡ true
-stay n r chosen i x y p c f k e apart =
-    ap₂ (λ a b. a && b)
-    (elim (holds y i) as (λ b. holds y i ≡ b → not (b && nat_le y.number x.number) ≡ true) [
-      | true ↦ λ at. elim (nat_le y.number x.number) as (λ b. nat_le y.number x.number ≡ b → not b ≡ true) [
-        | true ↦ λ q. absurd (apart (omega (arith, f.first y k at e, leb-true y.number x.number q)))
-        | false ↦ λ q. refl
-      ] refl
-      | false ↦ λ at. refl
-    ] refl)
-    (list_all-each (λ u. may_stay (item_left r u.item) u y) x.uses
-    (λ u j. may_stay_beside n r chosen x y u (item_left r u.item) p c f.known k f.taken e apart j refl))
+stay n r chosen i x y p c f k e apart = grind (arith, common_steps, leb-true, list_all-each, may_stay_beside)
 
 pub covers_pick : (n : ℕ) (r : Residual) (chosen : ℕ → Bool) (i : ℕ) (x : Numbered) → IsProper n r → Covers n r chosen
     → IsFirst r chosen i x → Covers n (pick r i x) chosen
@@ -146,17 +136,7 @@ NoneTakes r chosen i = (y : Numbered) → IsIn r.options y → chosen y.number �
 
 covers_none : (n : ℕ) (r : Residual) (chosen : ℕ → Bool) (i : ℕ) → Covers n r chosen → NoneTakes r chosen i
     → Covers n (none r i) chosen
-covers_none n r chosen i c free = record {
-  met = λ w k.
-      let m = c.met w (in-filter (λ w. not (eqb w.item i)) r.items w k).0 in
-      let same : passing (is_held chosen w.item) r.options ≡ passing (is_held chosen w.item) (none r i).options =
-      same_passing (is_held chosen w.item) (λ o. not (holds o i)) r.options
-      (λ y j e. free y j (and_right (holds y w.item) (chosen y.number) e)) in
-      (omega (arith, m.0, same), omega (arith, m.1, same));
-  agreed =
-      λ y z j k. c.agreed y z (in-filter (λ o. not (holds o i)) r.options y j).0
-      (in-filter (λ o. not (holds o i)) r.options z k).0;
-}
+covers_none n r chosen i c free = grind (arith, common_steps, in-filter, same_passing, and_right)
 
 -- ---- the member
 
@@ -169,13 +149,7 @@ IsMemberOf r chosen m =
     (k : ℕ) → (IsIn (options_of m) k → IsChosen r chosen k) × (IsChosen r chosen k → IsIn (options_of m) k)
 
 member_end : (n : ℕ) (r : Residual) (chosen : ℕ → Bool) → IsProper n r → r.items ≡ [] → IsMemberOf r chosen []
-member_end n r chosen p e k = (
-  λ h. absurd h,
-  λ h.
-      let one = p.one_primary h.0 h.1 in
-      let w = p.items_left h.0 one.0 h.1 one.1 one.2 in
-      absurd (subst (λ ws. IsIn ws w.0) e w.1),
-)
+member_end n r chosen p e k = grind (arith, common_steps)
 
 pub member_pick : (n : ℕ) (r : Residual) (chosen : ℕ → Bool) (i : ℕ) (x : Numbered) (c : Choice) (m : List Choice)
     → IsProper n r → Covers n r chosen → IsFirst r chosen i x → c.option ≡ Some x.number →
@@ -207,12 +181,7 @@ member_pick n r chosen i x c m p covers f e h k = (
 
 member_none : (r : Residual) (chosen : ℕ → Bool) (i : ℕ) (c : Choice) (m : List Choice) → NoneTakes r chosen i
     → c.option ≡ None → IsMemberOf (none r i) chosen m → IsMemberOf r chosen (c ∷ m)
-member_none r chosen i c m free e h k = (
-  λ j. let at = (h k).0 (subst (λ o. IsIn (cons_option o (options_of m)) k) e j) in
-      (at.0, (in-filter (λ o. not (holds o i)) r.options at.0 at.1).0, at.2, at.3),
-  λ j. subst (λ o. IsIn (cons_option o (options_of m)) k) (sym e)
-      ((h k).1 (j.0, filter-in (λ o. not (holds o i)) r.options j.0 j.1 (free j.0 j.1 j.2), j.2, j.3)),
-)
+member_none r chosen i c m free e h k = grind (arith, common_steps, in-filter, filter-in)
 
 -- The branch of a choice: the first chosen option of the item, which is among its first options, or none.
 abbrev pub IsBranchFor : ℕ → Residual → Wanted → (ℕ → Bool) → Type 0
@@ -247,12 +216,7 @@ branch_none n r w chosen p c free low =
 
 -- no option of an item is chosen
 no_one : (r : Residual) (chosen : ℕ → Bool) (i : ℕ) → passing (is_held chosen i) r.options ≡ 0 → NoneTakes r chosen i
-no_one r chosen i e y k taken = elim (holds y i) as (λ b. holds y i ≡ b → not b ≡ true) [
-  | true ↦ λ at.
-      let held : is_held chosen i y ≡ true = rw (at, taken) refl in
-      absurd (omega (arith, e, one_passes (is_held chosen i) r.options y k held))
-  | false ↦ λ at. refl
-] refl
+no_one r chosen i e y k taken = grind (arith, common_steps, one_passes)
 
 -- the first option of an item that is chosen
 first_of : (n : ℕ) (r : Residual) (w : Wanted) (chosen : ℕ → Bool) → IsProper n r
@@ -283,12 +247,8 @@ branch_for : (n : ℕ) (r : Residual) (w : Wanted) (chosen : ℕ → Bool) → I
 branch_for n r w chosen p c h = by_count (passing (is_held chosen w.item) r.options) refl
   where
     by_count : (k : ℕ) → passing (is_held chosen w.item) r.options ≡ k → IsBranchFor n r w chosen
-    by_count zero e =
-        let m = c.met w h in branch_none n r w chosen p c (no_one r chosen w.item e) (omega (arith, m.0, e))
-    by_count (suc k) e =
-        let m = c.met w h in
-        let x = first_of n r w chosen p (omega (arith, e)) m.0 in
-        branch_taken n r w chosen x.0 p c x.1 x.2
+    by_count zero e = grind (arith, common_steps, branch_none, no_one)
+    by_count (suc k) e = grind (arith, common_steps, first_of n r w chosen p, branch_taken n r w chosen)
 
 -- each choice that covers is the set of a member
 pub listed_for : (n d : ℕ) (r : Residual) (chosen : ℕ → Bool) → IsProper n r → Covers n r chosen → size_of r ≤ d

@@ -1,18 +1,19 @@
 -- Each member of a valid problem's listing is a cover.
+use Rattle.std.proofs.lemmas.Grind.{common_steps}
 use Rattle.xc_dance.specs.Moves.{agrees}
 use Rattle.xc_search.specs.inner.Sizes.{size_of}
 use Rattle.xc_input.specs.declared.problem.Bounds.{Bounds}
 use Rattle.std.proofs.Common.{ℕ, zero, suc, ◌≡◌, ◌≢◌, ◌+◌, ◌<◌, ◌≤◌, Bool, true, false, cond, ◌||◌, eqb, List, [], ◌∷◌}
 use Rattle.std.proofs.Common.{length, map, Some, None, refl, sym, ap, ◌∙◌, arith, subst, ◌⊎◌, inl, inr, eqb-true}
 use Rattle.std.proofs.Common.{ltb-true, leb-true}
-use Rattle.std.specs.Prelude.{nat_le, is_some}
+use Rattle.std.specs.Prelude.{nat_le}
 use Rattle.std.specs.List.{AllByRecursion, list_all, cons_option}
 use Rattle.std.proofs.lemmas.List.Elements.{All-from_recursion}
 use Rattle.std.proofs.lemmas.List.Sums.{sum_by-cons}
 use Rattle.xc_input.specs.declared.problem.Use.{Use}
 use Rattle.xc_search.specs.declared.choice.Choice.{Choice}
 use Rattle.xc_input.specs.Problem.{Puzzle, Numbered, numbered_options, primary_count, option_count, colour_in}
-use Rattle.xc_input.specs.Problem.{colour_at, holds, uses_of, bounds_at, IsSecondary, IsValid, holding}
+use Rattle.xc_input.specs.Problem.{colour_at, uses_of, bounds_at, IsSecondary, IsValid, holding}
 use Rattle.xc_search.specs.Listing.{Wanted, Residual, Branch, whole, item_left, pick, none, branch_item, branch_count}
 use Rattle.xc_search.specs.Listing.{branches_of, level, listing_to, listing}
 use Rattle.xc_search.specs.Cover.{IsCover, times_held, options_of, members, EachMemberCovers}
@@ -65,19 +66,12 @@ solution_back n r w b l p h (inr t) s =
 
 pub proper_behind : (n : ℕ) (r : Residual) (w : Wanted) (b : Branch) → IsProper n r → IsIn (branches_of r w) b
     → IsProper n b.next
-proper_behind n r w b p h = elim (in-branches r w b h) [
-  | inl t ↦ subst (λ z. IsProper n z) (sym t.next) (proper_pick n w.item r t.x p)
-  | inr t ↦ subst (λ z. IsProper n z) (sym t.next) (proper_none n w.item r p)
-]
+proper_behind n r w b p h =
+    grind (arith, common_steps, in-branches r w b h, proper_pick n w.item r, proper_none n w.item r p)
 
 -- nothing is left to do
 solution_end : (n : ℕ) (r : Residual) (m : List Choice) → r.items ≡ [] → IsIn ([] ∷ []) m → Solution n r m
-solution_end n r m e (inl q) = (
-  [],
-  record { chosen = tt; met = subst (λ ws. AllByRecursion (IsMet []) ws) (sym e) tt; agreed = tt },
-  ap options_of
-      (sym q),
-)
+solution_end n r m e (inl q) = grind (arith, common_steps)
 solution_end n r m e (inr q) = absurd q
 
 -- each member is a solution
@@ -101,11 +95,7 @@ members_solve n (suc d) r m p l k =
 held_count : (p : Puzzle) (i : ℕ) (s : List Numbered) → AllByRecursion (IsIn (numbered_options p)) s
     → times_held p i (map number_of s) ≡ count i s
 held_count p i [] a = refl
-held_count p i (o ∷ s) a =
-    sum_by-cons (λ k. cond (is_some (colour_in (uses_of p k) i)) 1 0) o.number (map number_of s)
-    ∙ ap (λ us. cond (is_some (colour_in us i)) 1 0 + times_held p i (map number_of s)) (uses_known p o a.0)
-    ∙ ap (λ c. cond (holds o i) 1 0 + c) (held_count p i s a.1)
-    ∙ one_more (holds o i)
+held_count p i (o ∷ s) a = grind (arith, common_steps, held_count p i s a.1, sum_by-cons, uses_known, one_more)
   where
     one_more : (b : Bool) → cond b 1 0 + count i s ≡ length (cond b (o ∷ holding i s) (holding i s))
     one_more true = omega arith
@@ -122,17 +112,7 @@ agrees_at : (n : ℕ) (us : List Use) (y : Numbered) (i c : ℕ)
     → colour_in us i ≡ Some c → agrees c (colour_at y i) ≡ true
 agrees_at n [] y i c a h e = cc
 agrees_at n (u ∷ us) y i c a h e =
-    elim (eqb u.item i) as (λ b. eqb u.item i ≡ b → cond b (Some u.colour) (colour_in us i) ≡ Some c
-    → agrees c (colour_at y i) ≡ true) [
-      | true ↦ λ q k.
-          let item = eqb-true u.item i q in
-          let colour : u.colour ≡ c = cc in
-          let above : nat_le u.item n ≡ false = ap (λ j. nat_le j n) item ∙ h in
-          let here = or_other _ _ above (and_left _ _ a) in
-          subst (λ d. agrees d (colour_at y i) ≡ true) colour
-          (subst (λ j. agrees u.colour (colour_at y j) ≡ true) item here)
-      | false ↦ λ q k. agrees_at n us y i c (and_right _ _ a) h k
-    ] refl e
+    grind (arith, common_steps, agrees_at n us y i c, eqb-true, or_other, and_left, and_right)
 
 agreed_colours : (c d : ℕ) → agrees c (Some d) ≡ true → (c ≡ d) × (0 < c)
 agreed_colours c d e = (eqb-true c d (and_right _ _ e), ltb-true 0 c (and_left _ _ e))
@@ -165,9 +145,7 @@ colours_agree p x y i c d t secondary e f =
     agreed_colours c d (subst (λ o. agrees c o ≡ true) f (agrees_at (primary_count p) x.uses y i c t.1 above e))
   where
     above_n : (i n : ℕ) → n < i → nat_le i n ≡ false
-    above_n i n h =
-        elim (nat_le i n) as (λ b. nat_le i n ≡ b → b ≡ false)
-        [ true ↦ λ e. absurd (omega (arith, h, leb-true i n e)) | false ↦ λ e. refl ] refl
+    above_n i n h = grind (arith, common_steps, leb-true)
 
 pub solution_covers : (p : Puzzle) (s : List Numbered) → Solves (primary_count p) (whole p) s
     → IsCover p (map number_of s)

@@ -1,8 +1,9 @@
 -- Members at two places have different sets of options.
-use Rattle.std.proofs.Common.{ℕ, zero, suc, ◌≡◌, ◌<◌, ◌≤◌, true, false, cond, not, ◌&&◌, eqb, List, [], ◌∷◌, take}
+use Rattle.std.proofs.lemmas.Grind.{common_steps}
+use Rattle.std.proofs.Common.{ℕ, zero, suc, ◌≡◌, ◌<◌, ◌≤◌, true, false, cond, not, eqb, List, [], ◌∷◌, take}
 use Rattle.std.proofs.Common.{Option, Some, None, refl, sym, arith, subst, ◌⊎◌, inl, inr, le-leb}
 use Rattle.xc_search.specs.inner.Sizes.{size_of}
-use Rattle.std.specs.Prelude.{nat_le, slice_get}
+use Rattle.std.specs.Prelude.{slice_get}
 use Rattle.std.specs.List.{cons_option, enumerate_from}
 use Rattle.xc_search.specs.declared.choice.Choice.{Choice}
 use Rattle.xc_input.specs.Problem.{Puzzle, Numbered, holds, IsValid, holding}
@@ -27,19 +28,8 @@ HasNumber r k = (o : Numbered) × IsIn r.options o × (o.number ≡ k)
 
 own_option : (r : Residual) (w : Wanted) (b : Branch) (ks : List ℕ) (k : ℕ) → IsTaken r w b ⊎ IsNone r w b
     → (IsIn ks k → HasNumber b.next k) → IsIn (cons_option b.choice.option ks) k → HasNumber r k
-own_option r w b ks k (inl t) later h =
-    elim (subst (λ o. IsIn (cons_option o ks) k) t.option h) [
-      | inl q ↦ (t.x, t.known, q)
-      | inr q ↦
-          let at = later q in
-          let there : IsIn (pick r w.item t.x).options at.0 =
-          subst (λ (z : Residual). IsIn z.options at.0) t.next at.1 in
-          (at.0, (in-filter (goes_on r w.item t.x) r.options at.0 there).0, at.2)
-    ]
-own_option r w b ks k (inr t) later h =
-    let at = later (subst (λ o. IsIn (cons_option o ks) k) t.option h) in
-    let there : IsIn (none r w.item).options at.0 = subst (λ (z : Residual). IsIn z.options at.0) t.next at.1 in
-    (at.0, (in-filter (λ o. not (holds o w.item)) r.options at.0 there).0, at.2)
+own_option r w b ks k (inl t) later h = grind (arith, common_steps, in-filter)
+own_option r w b ks k (inr t) later h = grind (arith, common_steps, in-filter)
 
 no_options : (m : List Choice) (k : ℕ) → IsIn ([] ∷ []) m → IsIn (options_of m) k → ⊥
 no_options m k (inl q) h = subst (λ l. IsIn (options_of l) k) (sym q) h
@@ -63,23 +53,11 @@ options_left (suc d) r m k h j =
 -- x isn't left where y of the same item was taken, if it stands at y or before
 gone_by_pick : (r : Residual) (i : ℕ) (x y : Numbered) → NumbersRise 0 r.options → IsIn r.options x → holds x i ≡ true
     → x.number ≤ y.number → HasNumber (pick r i y) x.number → ⊥
-gone_by_pick r i x y rise known at low h =
-    let found = in-filter (goes_on r i y) r.options h.0 h.1 in
-    let is : h.0 ≡ x = same_number 0 r.options h.0 x rise found.0 known h.2 in
-    let went : goes_on r i y x ≡ true = subst (λ z. goes_on r i y z ≡ true) is found.1 in
-    let before : nat_le x.number y.number ≡ true = le-leb x.number y.number low in
-    let front : not (holds x i && nat_le x.number y.number) ≡ true = and_left _ _ went in
-    let clash : not (true && true) ≡ true = rw (at, before) at front in
-    cc
+gone_by_pick r i x y rise known at low h = grind (arith, common_steps, in-filter, same_number, le-leb, and_left)
 
 gone_by_none : (r : Residual) (i : ℕ) (x : Numbered) → NumbersRise 0 r.options → IsIn r.options x → holds x i ≡ true
     → HasNumber (none r i) x.number → ⊥
-gone_by_none r i x rise known at h =
-    let found = in-filter (λ o. not (holds o i)) r.options h.0 h.1 in
-    let is : h.0 ≡ x = same_number 0 r.options h.0 x rise found.0 known h.2 in
-    let free : not (holds x i) ≡ true = subst (λ z. not (holds z i) ≡ true) is found.1 in
-    let clash : not true ≡ true = subst (λ b. not b ≡ true) at free in
-    cc
+gone_by_none r i x rise known at h = grind (arith, common_steps, in-filter, same_number)
 
 -- ---- two members
 
@@ -94,10 +72,7 @@ differ_behind : (x : Option ℕ) (l m : List ℕ) → ((k : ℕ) → x ≡ Some 
     × (IsIn (cons_option x m) k → IsIn (cons_option x l) k)) → (k : ℕ) → (IsIn l k → IsIn m k)
     × (IsIn m k → IsIn l k)
 differ_behind None l m out same k = same k
-differ_behind (Some x) l m out same k = (
-  λ h. other m k ((same k).0 (inr h)) (λ e. (out x refl).0 (subst (IsIn l) (sym e) h)),
-  λ h. other l k ((same k).1 (inr h)) (λ e. (out x refl).1 (subst (IsIn m) (sym e) h)),
-)
+differ_behind (Some x) l m out same k = grind (arith, common_steps)
   where
     other : (ks : List ℕ) (k : ℕ) → (x ≡ k) ⊎ IsIn ks k → (x ≡ k → ⊥) → IsIn ks k
     other ks k (inl e) never = absurd (never e)
@@ -106,11 +81,7 @@ differ_behind (Some x) l m out same k = (
 -- the option of a branch isn't left behind it
 out_behind : (d : ℕ) (r : Residual) (w : Wanted) (b : Branch) (l : List Choice) (k : ℕ) → NumbersRise 0 r.options
     → IsTaken r w b ⊎ IsNone r w b → b.choice.option ≡ Some k → IsIn (listing_to d b.next) l → IsIn (options_of l) k → ⊥
-out_behind d r w b l k rise (inl t) e h j =
-    let number : t.x.number ≡ k = cc (t.option, e) in
-    let here : HasNumber b.next t.x.number =
-    subst (λ z. HasNumber b.next z) (sym number) (options_left d b.next l k h j) in
-    gone_by_pick r w.item t.x t.x rise t.known t.at (omega arith) (subst (λ z. HasNumber z t.x.number) t.next here)
+out_behind d r w b l k rise (inl t) e h j = grind (arith, common_steps, options_left, gone_by_pick)
 out_behind d r w b l k rise (inr t) e h j = cc (t.option, e)
 
 rise_behind : (r : Residual) (w : Wanted) (b : Branch) → NumbersRise 0 r.options → IsTaken r w b ⊎ IsNone r w b
@@ -125,8 +96,7 @@ rise_behind r w b rise (inr t) =
 -- numbers that rise, two by two
 pub two_rise : (n : ℕ) (os : List Numbered) → NumbersRise n os → EachTwo (λ x y. x.number < y.number) os
 two_rise n [] r = tt
-two_rise n (o ∷ os) r =
-    (each_from (λ y. o.number < y.number) os (λ y k. above_in o.number os y r.1 k), two_rise o.number os r.1)
+two_rise n (o ∷ os) r = grind (arith, common_steps, two_rise o.number os r.1, each_from, above_in)
 
 -- all members behind one branch differ from all behind another
 abbrev AreApart : ℕ → Branch → Branch → Type 0
@@ -135,13 +105,7 @@ AreApart d a b = (l m : List Choice) → IsIn (behind (listing_to d) a) l → Is
 -- an option that is in the one set and in no other
 apart_by : (d : ℕ) (a b : Branch) (k : ℕ) → a.choice.option ≡ Some k
     → ((m : List Choice) → IsIn (listing_to d b.next) m → IsIn (options_of (b.choice ∷ m)) k → ⊥) → AreApart d a b
-apart_by d a b k e out l m h j same =
-    let from_l = in-map (λ l. a.choice ∷ l) (listing_to d a.next) l h in
-    let from_m = in-map (λ m. b.choice ∷ m) (listing_to d b.next) m j in
-    let first : IsIn (cons_option a.choice.option (options_of from_l.0)) k =
-    subst (λ o. IsIn (cons_option o (options_of from_l.0)) k) (sym e) (inl refl) in
-    let in_l : IsIn (options_of l) k = subst (λ z. IsIn (options_of z) k) from_l.2 first in
-    out from_m.0 from_m.1 (subst (λ z. IsIn (options_of z) k) (sym from_m.2) ((same k).0 in_l))
+apart_by d a b k e out l m h j same = grind (arith, common_steps, in-map)
 
 takes_apart : (d : ℕ) (r : Residual) (w : Wanted) (n : ℕ) (a b : ℕ × Numbered) → NumbersRise 0 r.options
     → IsIn (holding w.item r.options) a.1 → a.1.number < b.1.number →
@@ -157,12 +121,7 @@ takes_apart d r w n a b rise h less =
 none_apart : (d : ℕ) (r : Residual) (w : Wanted) (n : ℕ) (a : ℕ × Numbered) (b : Branch) → NumbersRise 0 r.options
     → IsIn (holding w.item r.options) a.1 → IsNone r w b →
     AreApart d (take_branch r w.item n a) b
-none_apart d r w n a b rise h t =
-    let found = in-filter (λ o. holds o w.item) r.options a.1 h in
-    apart_by d (take_branch r w.item n a) b a.1.number refl (λ m j k.
-    let behind_it = subst (λ o. IsIn (cons_option o (options_of m)) a.1.number) t.option k in
-    gone_by_none r w.item a.1 rise found.0 found.1
-    (subst (λ z. HasNumber z a.1.number) t.next (options_left d b.next m a.1.number j behind_it)))
+none_apart d r w n a b rise h t = grind (arith, common_steps, in-filter, apart_by, gone_by_none, options_left)
 
 branches_apart : (d : ℕ) (r : Residual) (w : Wanted) → NumbersRise 0 r.options → EachTwo (AreApart d) (branches_of r w)
 branches_apart d r w rise =

@@ -1,4 +1,5 @@
 -- How many of the options that are left pass a test, and the first that does.
+use Rattle.std.proofs.lemmas.Grind.{common_steps}
 use Rattle.std.proofs.Common.{ℕ, zero, suc, ◌≡◌, ◌≢◌, ◌+◌, ◌≤◌, Bool, true, false, cond, List, [], ◌∷◌, length, filter}
 use Rattle.std.proofs.Common.{take, refl, sym, ap, ◌∙◌, arith, subst, inl, inr}
 use Rattle.std.specs.List.{list_all}
@@ -23,17 +24,14 @@ none_pass t (o ∷ os) h = rw (h o (inl refl)) (none_pass t os (λ y k. h y (inr
 pub one_passes : (t : Numbered → Bool) (os : List Numbered) (x : Numbered) → IsIn os x → t x ≡ true → 1 ≤ passing t os
 one_passes t [] x h e = absurd h
 one_passes t (o ∷ os) x (inl q) e = let here : t o ≡ true = ap t q ∙ e in rw here (omega arith)
-one_passes t (o ∷ os) x (inr q) e =
-    elim (t o) as (λ b. 1 ≤ length (cond b (o ∷ filter t os) (filter t os)))
-    [ true ↦ omega arith | false ↦ one_passes t os x q e ]
+one_passes t (o ∷ os) x (inr q) e = grind (arith, common_steps, one_passes t os x q e)
 
 -- two pass
 pub two_pass : (t : Numbered → Bool) (os : List Numbered) (x y : Numbered) → IsIn os x → IsIn os y → t x ≡ true
     → t y ≡ true → x.number ≢ y.number → 2 ≤ passing t os
 two_pass t [] x y h k e f apart = absurd h
 two_pass t (o ∷ os) x y (inl h) (inl k) e f apart = absurd (apart (ap (λ (z : Numbered). z.number) (sym h ∙ k)))
-two_pass t (o ∷ os) x y (inl h) (inr k) e f apart =
-    let here : t o ≡ true = ap t h ∙ e in rw here (omega (arith, one_passes t os y k f))
+two_pass t (o ∷ os) x y (inl h) (inr k) e f apart = grind (arith, common_steps, one_passes t os y k f)
 two_pass t (o ∷ os) x y (inr h) (inl k) e f apart =
     let here : t o ≡ true = ap t k ∙ f in rw here (omega (arith, one_passes t os x h e))
 two_pass t (o ∷ os) x y (inr h) (inr k) e f apart =
@@ -45,14 +43,7 @@ two_pass t (o ∷ os) x y (inr h) (inr k) e f apart =
 pub same_passing : (t q : Numbered → Bool) (os : List Numbered) → ((y : Numbered) → IsIn os y → t y ≡ true → q y ≡ true)
     → passing t os ≡ passing t (filter q os)
 same_passing t q [] h = refl
-same_passing t q (o ∷ os) h =
-    let later = same_passing t q os (λ y k. h y (inr k)) in
-    elim (t o) as (λ b. t o ≡ b
-    → length (cond b (o ∷ filter t os) (filter t os)) ≡ passing t (cond (q o) (o ∷ filter q os) (filter q os))) [
-      | true ↦ λ e. let kept = h o (inl refl) e in rw (kept, e) (ap suc later)
-      | false ↦ λ e. elim (q o) as (λ c. passing t os ≡ passing t (cond c (o ∷ filter q os) (filter q os)))
-          [ true ↦ rw e later | false ↦ later ]
-    ] refl
+same_passing t q (o ∷ os) h = grind (arith, common_steps, same_passing t q os)
 
 -- a filter that keeps whoever passes, x aside
 pub passing_without : (t q : Numbered → Bool) (n : ℕ) (os : List Numbered) (x : Numbered) → NumbersRise n os → IsIn os x
@@ -60,31 +51,9 @@ pub passing_without : (t q : Numbered → Bool) (n : ℕ) (os : List Numbered) (
     ((y : Numbered) → IsIn os y → t y ≡ true → x.number ≢ y.number → q y ≡ true)
     → passing t os ≡ cond (t x) 1 0 + passing t (filter q os)
 passing_without t q n [] x r k e h = absurd k
-passing_without t q n (o ∷ os) x r (inl k) e h =
-    let later =
-    same_passing t q os (λ y j f. h y (inr j) f
-    (λ same. let above = above_in o.number os y r.1 j in let is = ap (λ (z : Numbered). z.number) k in omega
-    (arith, above, is, same))) in
-    let gone : q o ≡ false = ap q k ∙ e in
-    let alike : t o ≡ t x = ap t k in
-    rw (gone, alike) (elim (t x) as
-    (λ b. length (cond b (o ∷ filter t os) (filter t os)) ≡ cond b 1 0 + passing t (filter q os)) [
-      | true ↦ omega (arith, later)
-      | false ↦ omega (arith, later)
-    ])
+passing_without t q n (o ∷ os) x r (inl k) e h = grind (arith, common_steps, same_passing, above_in)
 passing_without t q n (o ∷ os) x r (inr k) e h =
-    let later = passing_without t q o.number os x r.1 k e (λ y j. h y (inr j)) in
-    let above = above_in o.number os x r.1 k in
-    elim (t o) as (λ b. t o ≡ b
-    → length (cond b (o ∷ filter t os) (filter t os)) ≡ cond (t x) 1 0 + passing t
-    (cond (q o) (o ∷ filter q os) (filter q os))) [
-      | true ↦ λ f.
-          let kept = h o (inl refl) f (λ same. omega (arith, above, same)) in
-          rw (kept, f) (omega (arith, later))
-      | false ↦ λ f. elim (q o) as
-          (λ c. passing t os ≡ cond (t x) 1 0 + passing t (cond c (o ∷ filter q os) (filter q os)))
-          [ true ↦ rw f later | false ↦ later ]
-    ] refl
+    grind (arith, common_steps, passing_without t q o.number os x r.1 k e, above_in)
 
 -- The first that passes stands among the first n, where no more than n pass or come after it.
 pub first_passing : (t : Numbered → Bool) (a : ℕ) (os : List Numbered) (n : ℕ) → NumbersRise a os → 1 ≤ passing t os
@@ -92,31 +61,7 @@ pub first_passing : (t : Numbered → Bool) (a : ℕ) (os : List Numbered) (n : 
     (x : Numbered) × IsIn (take n os) x × (t x ≡ true) × ((y : Numbered) → IsIn os y → t y ≡ true → x.number ≤ y.number)
 first_passing t a [] n r h l = absurd (omega (arith, h))
 first_passing t a (o ∷ os) zero r h l = absurd (omega (arith, l, length-filter-le t (o ∷ os)))
-first_passing t a (o ∷ os) (suc n) r h l =
-    elim (t o) as (λ b. t o ≡ b → 1 ≤ length (cond b (o ∷ filter t os) (filter t os))
-    → suc (length os) + 1 ≤ suc n + length (cond b (o ∷ filter t os) (filter t os)) →
-    (x : Numbered) × IsIn (take (suc n) (o ∷ os)) x × (t x ≡ true)
-    × ((y : Numbered) → IsIn (o ∷ os) y → t y ≡ true → x.number ≤ y.number)) [
-      | true ↦ λ e i j. (
-        o,
-        inl refl,
-        e,
-        λ y k f. elim k [
-          | inl q ↦ let same = ap (λ (z : Numbered). z.number) q in omega (arith, same)
-          | inr q ↦ let above = above_in o.number os y r.1 q in omega (arith, above)
-        ],
-      )
-      | false ↦ λ e i j.
-          let later = first_passing t o.number os n r.1 i (omega (arith, j)) in (
-            later.0,
-            inr later.1,
-            later.2,
-            λ y k f. elim k [
-              | inl q ↦ let clash : t o ≡ true = ap t q ∙ f in cc
-              | inr q ↦ later.3 y q f
-            ],
-          )
-    ] refl h l
+first_passing t a (o ∷ os) (suc n) r h l = grind (arith, common_steps, first_passing t o.number os n r.1, above_in)
 
 -- ---- the uses of an option
 

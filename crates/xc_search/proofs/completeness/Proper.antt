@@ -1,8 +1,8 @@
 -- What holds of the whole problem, and of all that its branches leave.
-use Rattle.std.proofs.Common.{ℕ, ◌≡◌, ◌≢◌, ◌+◌, ◌-◌, ◌<◌, ◌≤◌, Bool, true, false, cond, not, ◌&&◌, eqb, List, [], ◌∷◌}
-use Rattle.std.proofs.Common.{length, map, filter, find, Some, refl, sym, ap, ◌∙◌, arith, subst, inl, inr, eqb-true}
+use Rattle.std.proofs.lemmas.Grind.{common_steps}
+use Rattle.std.proofs.Common.{ℕ, ◌≡◌, ◌≢◌, ◌+◌, ◌<◌, ◌≤◌, Bool, true, false, cond, not, ◌&&◌, eqb, List, [], ◌∷◌}
+use Rattle.std.proofs.Common.{length, map, filter, find, Some, refl, sym, ◌∙◌, arith, subst, inl, inr, eqb-true}
 use Rattle.std.proofs.Common.{eq-eqb, lt-ltb, ltb-true, ne_eqb}
-use Rattle.xc_search.proofs.Spent.{less_one}
 use Rattle.xc_input.specs.declared.problem.Bounds.{Bounds}
 use Rattle.std.specs.Prelude.{nat_lt, nat_le}
 use Rattle.std.specs.List.{AllByRecursion}
@@ -48,17 +48,11 @@ ItemsRise-filter p n (w ∷ ws) r = elim (p w) as (λ b. ItemsRise n (cond b (w 
 ]
 
 pub item-spend_one : (x : Numbered) (w : Wanted) → (spend_one x w).item ≡ w.item
-item-spend_one x w =
-    elim (holds x w.item) as (λ b. (cond b (less_one w) w).item ≡ w.item) [ true ↦ refl | false ↦ refl ]
+item-spend_one x w = grind (arith, common_steps)
 
 ItemsRise-spend : (x : Numbered) (n : ℕ) (ws : List Wanted) → ItemsRise n ws → ItemsRise n (map (spend_one x) ws)
 ItemsRise-spend x n [] r = tt
-ItemsRise-spend x n (w ∷ ws) r =
-    let same = item-spend_one x w in (
-      omega (arith, r.0, same),
-      ItemsRise-weaker (spend_one x w).item w.item (map (spend_one x) ws) (omega (arith, same))
-          (ItemsRise-spend x w.item ws r.1),
-    )
+ItemsRise-spend x n (w ∷ ws) r = grind (arith, common_steps, ItemsRise-spend x w.item ws r.1, item-spend_one)
 
 above_item : (n : ℕ) (ws : List Wanted) (w : Wanted) → ItemsRise n ws → IsIn ws w → n < w.item
 above_item n [] w r h = absurd h
@@ -69,27 +63,17 @@ above_item n (v ∷ ws) w r (inr q) = let later = above_item v.item ws w r.1 q i
 pub find-in : (n : ℕ) (ws : List Wanted) (w : Wanted) → ItemsRise n ws → IsIn ws w
     → find (λ v. eqb v.item w.item) ws ≡ Some w
 find-in n [] w r h = absurd h
-find-in n (v ∷ ws) w r (inl q) =
-    let same : eqb v.item w.item ≡ true = eq-eqb _ _ (ap (λ (z : Wanted). z.item) q) in
-    rw same (ap (λ z. Some z) q)
+find-in n (v ∷ ws) w r (inl q) = grind (arith, common_steps, eq-eqb)
 find-in n (v ∷ ws) w r (inr q) =
-    let later = above_item v.item ws w r.1 q in
-    let other : eqb v.item w.item ≡ false = ne_eqb _ _ (λ e. omega (arith, later, e)) in
-    rw other (find-in v.item ws w r.1 q)
+    grind (arith, common_steps, find-in v.item ws w r.1 q, above_item v.item ws w r.1 q, ne_eqb)
 
 pub in-find : (ws : List Wanted) (j : ℕ) (w : Wanted) → find (λ v. eqb v.item j) ws ≡ Some w → IsIn ws w × (w.item ≡ j)
 in-find [] j w e = cc
-in-find (v ∷ ws) j w e =
-    elim (eqb v.item j) as (λ b. eqb v.item j ≡ b → cond b (Some v) (find (λ v. eqb v.item j) ws) ≡ Some w
-    → IsIn (v ∷ ws) w × (w.item ≡ j)) [
-      | true ↦ λ i k. let same : v ≡ w = cc in (inl same, subst (λ (z : Wanted). z.item ≡ j) same (eqb-true _ _ i))
-      | false ↦ λ i k. let later = in-find ws j w k in (inr later.0, later.1)
-    ] refl e
+in-find (v ∷ ws) j w e = grind (arith, common_steps, in-find ws j w, find, eqb-true)
 
 -- the facts that `solves_pick` asks for
 pub sound_items : (n : ℕ) (r : Residual) → IsProper n r → AllByRecursion (IsSound n r) r.items
-sound_items n r p =
-    each_from (IsSound n r) r.items (λ w k. let s = p.sound w k in (s.0, s.1, s.2, find-in 0 r.items w p.items_rise k))
+sound_items n r p = grind (arith, common_steps, each_from, find-in)
 
 pub low_items : (n : ℕ) (r : Residual) (j : ℕ) (w : Wanted) → IsProper n r → item_left r j ≡ Some w → j ≤ n
 low_items n r j w p e = let found = in-find r.items j w e in let s = p.sound w found.0 in omega (arith, s.0, found.1)
@@ -126,24 +110,11 @@ proper_pick n i r x p = record {
   where
     spent : (w : Wanted) → (w.item ≤ n) × (w.low ≤ w.high) × (0 < w.high) → ((spend_one x w).item ≤ n)
         × ((spend_one x w).low ≤ (spend_one x w).high)
-    spent w s =
-        elim (holds x w.item) as
-        (λ b. ((cond b (less_one w) w).item ≤ n) × ((cond b (less_one w) w).low ≤ (cond b (less_one w) w).high)) [
-          | true ↦ (s.0, omega (arith, s.1))
-          | false ↦ (s.0, s.1)
-        ]
+    spent w s = grind (arith, common_steps)
 
     still : (o : Numbered) (w : Wanted) → IsIn r.items w → stays r x o ≡ true → holds o w.item ≡ true
         → nat_lt 0 (spend_one x w).high ≡ true
-    still o w k stay here =
-        elim (holds x w.item) as (λ b. holds x w.item ≡ b → nat_lt 0 (cond b (less_one w) w).high ≡ true) [
-          | true ↦ λ e. elim (nat_lt 1 w.high) as (λ c. nat_lt 1 w.high ≡ c → nat_lt 0 (w.high - 1) ≡ true) [
-            | true ↦ λ f. let more = ltb-true 1 w.high f in lt-ltb 0 (w.high - 1) (omega (arith, more))
-            | false ↦ λ f. let gone : holds o w.item ≡ false =
-                used_up r x o w stay e (find-in 0 r.items w p.items_rise k) f in cc
-          ] refl
-          | false ↦ λ e. let s = p.sound w k in lt-ltb 0 w.high s.2
-        ] refl
+    still o w k stay here = grind (arith, common_steps, ltb-true, lt-ltb, used_up, find-in)
 
 -- where none is
 pub proper_none : (n i : ℕ) (r : Residual) → IsProper n r → IsProper n (none r i)
@@ -163,13 +134,7 @@ proper_none n i r p = record {
 }
   where
     other : (o : Numbered) (j : ℕ) → not (holds o i) ≡ true → holds o j ≡ true → not (eqb j i) ≡ true
-    other o j free here = elim (eqb j i) as (λ b. eqb j i ≡ b → not b ≡ true) [
-      | true ↦ λ e.
-          let at : holds o i ≡ true = subst (λ z. holds o z ≡ true) (eqb-true j i e) here in
-          let clash : not true ≡ true = subst (λ b. not b ≡ true) at free in
-          cc
-      | false ↦ λ e. refl
-    ] refl
+    other o j free here = grind (arith, common_steps, eqb-true)
 
 -- ---- the whole problem
 
@@ -193,13 +158,8 @@ ItemsRise-from k (b ∷ bs) = (omega arith, ItemsRise-from (k + 1) bs)
 sound_from : (k : ℕ) (bs : List Bounds) (w : Wanted) → AllByRecursion AreSoundBounds bs
     → IsIn (wanted_from (k + 1) bs) w → (w.item ≤ k + length bs) × (w.low ≤ w.high) × (0 < w.high)
 sound_from k [] w a h = absurd h
-sound_from k (b ∷ bs) w a (inl q) =
-    let item = ap (λ (z : Wanted). z.item) q in
-    let low = ap (λ (z : Wanted). z.low) q in
-    let high = ap (λ (z : Wanted). z.high) q in
-    (omega (arith, item), omega (arith, low, high, a.0.0), omega (arith, high, a.0.1))
-sound_from k (b ∷ bs) w a (inr q) =
-    let later = sound_from (k + 1) bs w a.1 q in (omega (arith, later.0), later.1, later.2)
+sound_from k (b ∷ bs) w a (inl q) = grind (arith, common_steps)
+sound_from k (b ∷ bs) w a (inr q) = grind (arith, common_steps, sound_from (k + 1) bs w a.1 q)
 
 pub proper_whole : (p : Puzzle) → IsValid p → IsProper (primary_count p) (whole p)
 proper_whole p v = record {

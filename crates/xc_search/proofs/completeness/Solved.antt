@@ -1,8 +1,8 @@
 -- Selections that solve what is left: one branch back.
-use Rattle.std.proofs.Common.{ℕ, suc, ◌≡◌, ◌≢◌, ◌-◌, ◌<◌, ◌≤◌, Bool, true, false, cond, not, ◌&&◌, ◌||◌, eqb, List, []}
-use Rattle.std.proofs.Common.{◌∷◌, length, map, filter, Some, None, refl, sym, ap, ap₂, ◌∙◌, arith, subst, eqb-true}
+use Rattle.std.proofs.lemmas.Grind.{common_steps}
+use Rattle.std.proofs.Common.{ℕ, ◌≡◌, ◌≢◌, ◌<◌, ◌≤◌, Bool, true, false, not, ◌&&◌, ◌||◌, eqb, List, []}
+use Rattle.std.proofs.Common.{◌∷◌, length, map, filter, Some, refl, ap, arith, eqb-true}
 use Rattle.std.proofs.Common.{lt-ltb, le-ltb, ltb-false, le-leb}
-use Rattle.xc_search.proofs.Spent.{less_one}
 use Rattle.std.specs.Prelude.{nat_lt, nat_le, is_some}
 use Rattle.std.specs.List.{AllByRecursion, list_all}
 use Rattle.xc_input.specs.declared.problem.Use.{Use}
@@ -47,25 +47,12 @@ IsSound n r w = (w.item ≤ n) × (w.low ≤ w.high) × (0 < w.high) × (item_le
 pub use_passes : (f : Use → Bool) (us : List Use) (j : ℕ) → list_all f us ≡ true → is_some (colour_in us j) ≡ true
     → (u : Use) × (u.item ≡ j) × (f u ≡ true)
 use_passes f [] j all held = cc
-use_passes f (u ∷ us) j all held =
-    elim (eqb u.item j) as (λ b. eqb u.item j ≡ b → is_some (cond b (Some u.colour) (colour_in us j)) ≡ true → (u : Use)
-    × (u.item ≡ j) × (f u ≡ true)) [
-      | true ↦ λ e k. (u, eqb-true _ _ e, and_left _ _ all)
-      | false ↦ λ e k. use_passes f us j (and_right _ _ all) k
-    ] refl held
+use_passes f (u ∷ us) j all held = grind (arith, common_steps, use_passes f us j, eqb-true, and_left, and_right)
 
 -- an item that x uses up is held by no option that stays
 pub used_up : (r : Residual) (x y : Numbered) (w : Wanted) → stays r x y ≡ true → holds x w.item ≡ true
     → item_left r w.item ≡ Some w → nat_lt 1 w.high ≡ false → holds y w.item ≡ false
-used_up r x y w stay held left full =
-    let passed = use_passes (λ u. may_stay (item_left r u.item) u y) x.uses w.item stay held in
-    let u = passed.0 in
-    let at : may_stay (item_left r w.item) u y ≡ true =
-    subst (λ j. may_stay (item_left r j) u y ≡ true) passed.1 passed.2 in
-    let at_w : may_stay (Some w) u y ≡ true = subst (λ o. may_stay o u y ≡ true) left at in
-    let free : not (holds y u.item) ≡ true = subst (λ b. (b || not (holds y u.item)) ≡ true) full at_w in
-    let free_w : not (holds y w.item) ≡ true = subst (λ j. not (holds y j) ≡ true) passed.1 free in
-    elim (holds y w.item) as (λ b. not b ≡ true → b ≡ false) [ true ↦ λ e. sym e | false ↦ λ e. refl ] free_w
+used_up r x y w stay held left full = grind (arith, common_steps, use_passes)
 
 -- whoever stays agrees above n
 stays_beside : (n : ℕ) (r : Residual) (y : Numbered) (us : List Use)
@@ -74,14 +61,7 @@ stays_beside : (n : ℕ) (r : Residual) (y : Numbered) (us : List Use)
     → list_all (λ u. nat_le u.item n || agrees u.colour (colour_at y u.item)) us ≡ true
 stays_beside n r y [] low e = refl
 stays_beside n r y (u ∷ us) low e =
-    ap₂ (λ a b. a && b)
-    (elim (item_left r u.item) as
-    (λ o. item_left r u.item ≡ o → may_stay o u y ≡ true
-    → (nat_le u.item n || agrees u.colour (colour_at y u.item)) ≡ true) [
-      | Some w ↦ λ i k. rw (le-leb u.item n (low u.item w i)) refl
-      | None ↦ λ i k. rw k (or-true (nat_le u.item n))
-    ] refl (and_left _ _ e))
-    (stays_beside n r y us low (and_right _ _ e))
+    grind (arith, common_steps, stays_beside n r y us low, le-leb, or-true, and_left, and_right)
 
 none_hold : (j : ℕ) (s : List Numbered) → AllByRecursion (λ y. holds y j ≡ false) s → holding j s ≡ []
 none_hold j [] a = refl
@@ -94,34 +74,7 @@ met_back : (x : Numbered) (s : List Numbered) (ws : List Wanted) →
     × (holds x w.item ≡ true → nat_lt 1 w.high ≡ false → count w.item s ≡ 0)) ws →
     AllByRecursion (IsMet s) (filter (λ w. nat_lt 0 w.high) (map (spend_one x) ws)) → AllByRecursion (IsMet (x ∷ s)) ws
 met_back x s [] a m = tt
-met_back x s (w ∷ ws) a m =
-    let pos : Wanted → Bool = λ v. nat_lt 0 v.high in
-    let c = count w.item s in
-    let one =
-    elim (holds x w.item) as
-    (λ b. holds x w.item ≡ b
-    → AllByRecursion (IsMet s)
-    (filter (λ v. nat_lt 0 v.high) (cond b (less_one w) w ∷ map (spend_one x) ws)) →
-    (w.low ≤ length (cond b (x ∷ holding w.item s) (holding w.item s)))
-    × (length (cond b (x ∷ holding w.item s) (holding w.item s)) ≤ w.high)
-    × AllByRecursion (IsMet s) (filter (λ v. nat_lt 0 v.high) (map (spend_one x) ws))) [
-      | true ↦ λ h k. elim (nat_lt 0 (w.high - 1)) as
-          (λ d. nat_lt 0 (w.high - 1) ≡ d
-          → AllByRecursion (IsMet s)
-          (cond d (less_one w ∷ filter (λ v. nat_lt 0 v.high) (map (spend_one x) ws))
-          (filter (λ v. nat_lt 0 v.high) (map (spend_one x) ws))) →
-          (w.low ≤ suc (length (holding w.item s))) × (suc (length (holding w.item s)) ≤ w.high)
-          × AllByRecursion (IsMet s) (filter (λ v. nat_lt 0 v.high) (map (spend_one x) ws))) [
-            | true ↦ λ e q. (omega (arith, q.0.0), omega (arith, q.0.1, a.0.1), q.1)
-            | false ↦ λ e q.
-                let small = ltb-false 0 (w.high - 1) e in
-                let full : nat_lt 1 w.high ≡ false = le-ltb 1 w.high (omega (arith, small)) in
-                let zero_more = a.0.2 h full in
-                (omega (arith, zero_more, small, a.0.0), omega (arith, zero_more, a.0.1), q)
-          ] refl k
-      | false ↦ λ h k. let q = rw (lt-ltb 0 w.high a.0.1) at k in (q.0.0, q.0.1, q.1)
-    ] refl m in
-    ((one.0, one.1), met_back x s ws a.1 one.2)
+met_back x s (w ∷ ws) a m = grind (arith, common_steps, met_back x s ws a.1, ltb-false, le-ltb, lt-ltb)
 
 -- A selection that solves what is left by taking x solves with x what was left before.
 pub solves_pick : (n i : ℕ) (r : Residual) (x : Numbered) (s : List Numbered) → NumbersRise 0 r.options
@@ -153,28 +106,13 @@ solves_pick n i r x s rising sound low in_x at solved =
     }
   where
     apart : (y : Numbered) → IsIn r.options y → not (holds y i && nat_le y.number x.number) ≡ true → x.number ≢ y.number
-    apart y k e same =
-        let it : x ≡ y = same_number 0 r.options x y rising in_x k same in
-        let here : holds y i ≡ true = subst (λ z. holds z i ≡ true) it at in
-        let not_above : nat_le y.number x.number ≡ true = le-leb y.number x.number (omega (arith, same)) in
-        let clash : not (true && true) ≡ true = rw (here, not_above) at e in
-        cc
+    apart y k e same = grind (arith, common_steps, same_number, le-leb)
 
 none_back : (i : ℕ) (s : List Numbered) (ws : List Wanted) → count i s ≡ 0
     → AllByRecursion (λ w. eqb w.item i ≡ true → w.low ≡ 0) ws →
     AllByRecursion (IsMet s) (filter (λ w. not (eqb w.item i)) ws) → AllByRecursion (IsMet s) ws
 none_back i s [] z free m = tt
-none_back i s (w ∷ ws) z free m =
-    elim (eqb w.item i) as (λ b. eqb w.item i ≡ b
-    → AllByRecursion (IsMet s)
-    (cond (not b) (w ∷ filter (λ w. not (eqb w.item i)) ws) (filter (λ w. not (eqb w.item i)) ws))
-    → AllByRecursion (IsMet s) (w ∷ ws)) [
-      | true ↦ λ e q.
-          let zero_here : count w.item s ≡ 0 = ap (λ j. count j s) (eqb-true _ _ e) ∙ z in
-          let zero_low = free.0 e in
-          ((omega (arith, zero_low), omega (arith, zero_here)), none_back i s ws z free.1 q)
-      | false ↦ λ e q. (q.0, none_back i s ws z free.1 q.1)
-    ] refl m
+none_back i s (w ∷ ws) z free m = grind (arith, common_steps, none_back i s ws z free.1, eqb-true)
 
 -- A selection that solves what is left without item i solves what was left before, where i need not be held.
 pub solves_none : (n i : ℕ) (r : Residual) (s : List Numbered)

@@ -1,16 +1,17 @@
 -- A cover as a choice of numbers that covers the whole problem.
+use Rattle.std.proofs.lemmas.Grind.{common_steps}
 use Rattle.std.proofs.Common.{ℕ, suc, ◌≡◌, ◌≢◌, ◌+◌, ◌-◌, ◌≤◌, Bool, true, false, cond, not, ◌&&◌, ◌||◌, eqb, List, []}
 use Rattle.std.proofs.Common.{◌∷◌, length, Some, None, refl, sym, ap, ap₂, ◌∙◌, arith, subst, inl, inr, eqb-true}
 use Rattle.std.proofs.Common.{eq-eqb, ne_eqb, lt-ltb, leb-false}
 use Rattle.xc_search.specs.inner.Sizes.{size_of}
-use Rattle.std.specs.Prelude.{nat_le, is_some}
+use Rattle.std.specs.Prelude.{nat_le}
 use Rattle.std.specs.List.{AllByRecursion, list_any}
 use Rattle.std.proofs.lemmas.List.Elements.{recursion_from_All}
 use Rattle.std.proofs.lemmas.List.Sums.{sum_by-cons}
 use Rattle.xc_input.specs.declared.problem.Use.{Use}
 use Rattle.xc_search.specs.declared.choice.Choice.{Choice}
 use Rattle.xc_input.specs.Problem.{Puzzle, Numbered, numbered_options, primary_count, option_count, colour_in}
-use Rattle.xc_input.specs.Problem.{colour_at, holds, uses_of, bounds_at, IsSoundUse, IsSoundOption, IsValid}
+use Rattle.xc_input.specs.Problem.{colour_at, holds, bounds_at, IsSoundUse, IsSoundOption, IsValid}
 use Rattle.xc_search.specs.Listing.{whole, listing}
 use Rattle.xc_search.specs.Cover.{IsCover, SameSet, times_held, options_of, members, EachCoverIsListed}
 use Rattle.xc_input.proofs.lists.Members.{IsIn, in-contains, contains-in, slice_get-in, each_in, each_from}
@@ -31,10 +32,7 @@ is_listed s k = list_any (λ a. eqb a k) s
 
 pub listed_in : (s : List ℕ) (k : ℕ) → is_listed s k ≡ true → IsIn s k
 listed_in [] k e = cc
-listed_in (a ∷ s) k e = elim (eqb a k) as (λ b. eqb a k ≡ b → (b || is_listed s k) ≡ true → IsIn (a ∷ s) k) [
-  | true ↦ λ q h. inl (eqb-true a k q)
-  | false ↦ λ q h. inr (listed_in s k h)
-] refl e
+listed_in (a ∷ s) k e = grind (arith, common_steps, listed_in s k, eqb-true)
 
 pub in_listed : (s : List ℕ) (k : ℕ) → IsIn s k → is_listed s k ≡ true
 in_listed [] k h = absurd h
@@ -42,9 +40,7 @@ in_listed (a ∷ s) k (inl q) = let same : eqb a k ≡ true = eq-eqb a k q in rw
 in_listed (a ∷ s) k (inr q) = rw (in_listed s k q) (or-true (eqb a k))
 
 not_listed : (s : List ℕ) (k : ℕ) → (IsIn s k → ⊥) → is_listed s k ≡ false
-not_listed s k h =
-    elim (is_listed s k) as (λ b. is_listed s k ≡ b → b ≡ false)
-    [ true ↦ λ e. absurd (h (listed_in s k e)) | false ↦ λ e. refl ] refl
+not_listed s k h = grind (arith, common_steps, listed_in)
 
 -- ---- how often an item is held
 
@@ -71,21 +67,10 @@ one_more p i a s x h e out =
     other y apart = let same : eqb a y.number ≡ false = ne_eqb a y.number apart in ap not same
 
     is_x : is_held (is_listed (a ∷ s)) i x ≡ holds x i
-    is_x =
-        let same : eqb a x.number ≡ true = eq-eqb a x.number (sym e) in
-        rw same (elim (holds x i) as (λ b. (b && true) ≡ b) [ true ↦ refl | false ↦ refl ])
+    is_x = grind (arith, common_steps, eq-eqb)
 
     alike : (y : Numbered) → (others y && is_held (is_listed (a ∷ s)) i y) ≡ is_held (is_listed s) i y
-    alike y =
-        elim (eqb a y.number) as
-        (λ b. eqb a y.number ≡ b
-        → (not b && (holds y i && (b || is_listed s y.number))) ≡ (holds y i && is_listed s y.number)) [
-          | true ↦ λ q.
-              let gone : is_listed s y.number ≡ false =
-              not_listed s y.number (λ k. out (subst (IsIn s) (sym (eqb-true a y.number q)) k)) in
-              rw gone (sym (and-false (holds y i)))
-          | false ↦ λ q. refl
-        ] refl
+    alike y = grind (arith, common_steps, not_listed, eqb-true, and-false)
 
 -- the option of a number
 pub option_of : (p : Puzzle) (a : ℕ) → 1 ≤ a → a ≤ option_count p → (x : Numbered) × IsIn (numbered_options p) x
@@ -97,11 +82,8 @@ held_times : (p : Puzzle) (i : ℕ) (s : List ℕ) → EachTwo (λ a b. a ≢ b)
     passing (is_held (is_listed s) i) (numbered_options p) ≡ times_held p i s
 held_times p i [] two known = none_pass (is_held (is_listed []) i) (numbered_options p) (λ y k. and-false (holds y i))
 held_times p i (a ∷ s) two known =
-    let x = option_of p a known.0.0 known.0.1 in
-    let uses : x.0.uses ≡ uses_of p a = sym (uses_known p x.0 x.1) ∙ ap (uses_of p) x.2 in
-    one_more p i a s x.0 x.1 x.2 (λ h. each_in (λ b. a ≢ b) s a two.0 h refl)
-    ∙ ap₂ (λ us n. cond (is_some (colour_in us i)) 1 0 + n) uses (held_times p i s two.1 known.1)
-    ∙ sym (sum_by-cons (λ k. cond (is_some (colour_in (uses_of p k) i)) 1 0) a s)
+    let rest = held_times p i s two.1 known.1 in
+    grind (arith, common_steps, option_of p a known.0.0 known.0.1, uses_known p, one_more p i a s, each_in, sum_by-cons)
 
 -- ---- the cover
 

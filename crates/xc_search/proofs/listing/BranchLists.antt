@@ -1,12 +1,13 @@
 -- The branches of an item in their order.
-use Rattle.std.proofs.Common.{ℕ, suc, ◌≡◌, ◌+◌, ◌<◌, ◌≤◌, true, false, cond, eqb, List, [], ◌∷◌, ◌++◌, length, map}
-use Rattle.std.proofs.Common.{take, drop, Some, None, refl, ap, ◌∙◌, arith, eqb-true, eq-eqb, length-append}
+use Rattle.std.proofs.lemmas.Grind.{common_steps}
+use Rattle.std.proofs.Common.{ℕ, suc, ◌≡◌, ◌+◌, ◌<◌, true, eqb, List, [], length, map}
+use Rattle.std.proofs.Common.{take, drop, Some, None, ap, ◌∙◌, arith, eqb-true, eq-eqb}
 use Rattle.std.proofs.lemmas.Option.{slice_get-map}
 use Rattle.std.specs.Prelude.{slice_get, option_map}
 use Rattle.std.specs.List.{enumerate_from}
 use Rattle.xc_input.specs.Problem.{Numbered, holding}
 use Rattle.xc_search.specs.Listing.{Wanted, Residual, Branch, branches_of, branch_count, take_branch, none_branch}
-use Rattle.std.proofs.lemmas.List.{length-map, length-take, drop_all}
+use Rattle.std.proofs.lemmas.List.{length-map, length-take}
 use Rattle.std.proofs.lemmas.List.FromFn.{length-enumerate_from}
 use Rattle.xc_input.proofs.lists.Places.{get_left, get_seam, get_numbered, get_take, not_some}
 
@@ -48,23 +49,4 @@ branch_none r w k h e =
     )
 
 pub branches_end : (r : Residual) (w : Wanted) → drop (branch_count r w) (branches_of r w) ≡ []
-branches_end r w =
-    drop_all (branch_count r w) (branches_of r w)
-    (elim (eqb w.low 0) as (λ b. eqb w.low 0 ≡ b
-    → length (picks r w ++ cond b (none_branch r w.item (branch_count r w) ∷ []) []) ≤ branch_count r w) [
-      | true ↦ λ e. omega (
-        arith,
-        length-append (picks r w) (none_branch r w.item (branch_count r w) ∷ []),
-        length-picks
-            r w,
-        length-take (branch_count r w) (holding w.item r.options),
-        eqb-true w.low 0 e,
-      )
-      | false ↦ λ e. omega (
-        arith,
-        length-append (picks r w) [],
-        length-picks r w,
-        length-take (branch_count r w)
-            (holding w.item r.options),
-      )
-    ] refl)
+branches_end r w = grind (arith, common_steps, length-picks, eqb-true)

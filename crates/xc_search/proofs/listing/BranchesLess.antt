@@ -1,6 +1,7 @@
 -- Each branch leaves less.
-use Rattle.std.proofs.Common.{ℕ, suc, ◌≡◌, ◌<◌, Bool, true, false, cond, not, ◌&&◌, List, [], ◌∷◌, length, map, filter}
-use Rattle.std.proofs.Common.{Some, refl, ap, arith, inl, inr, subst, le-leb, eq-eqb, eqb}
+use Rattle.std.proofs.lemmas.Grind.{common_steps}
+use Rattle.std.proofs.Common.{ℕ, ◌≡◌, ◌<◌, Bool, true, false, cond, not, ◌&&◌, List, [], ◌∷◌, length, map, filter}
+use Rattle.std.proofs.Common.{Some, refl, arith, inl, inr, le-leb, eq-eqb, eqb}
 use Rattle.xc_search.specs.inner.Sizes.{size_of}
 use Rattle.std.specs.Prelude.{nat_lt, nat_le}
 use Rattle.std.specs.List.{AllByRecursion, best_of}
@@ -17,16 +18,7 @@ pub less_options : (i : ℕ) (q : Numbered → Numbered → Bool) → ((x : Numb
     → (os : List Numbered) → AllByRecursion (λ x. length (filter (q x) os) < length os) (holding i os)
 less_options i q fails [] = tt
 less_options i q fails (o ∷ os) =
-    let later : AllByRecursion (λ x. length (filter (q x) (o ∷ os)) < suc (length os)) (holding i os) =
-    each_weaker (λ x. length (filter (q x) os) < length os) (λ x. length (filter (q x) (o ∷ os)) < suc (length os))
-    (holding i os)
-    (λ x h. omega (arith, length-filter-cons (q x) o os, h)) (less_options i q fails os) in
-    elim (holds o i) as (λ b. holds o i ≡ b
-    → AllByRecursion (λ x. length (filter (q x) (o ∷ os)) < suc (length os))
-    (cond b (o ∷ holding i os) (holding i os))) [
-      | true ↦ λ e. (rw (fails o e) (omega (arith, length-filter-le (q o) os)), later)
-      | false ↦ λ e. later
-    ] refl
+    grind (arith, common_steps, less_options i q fails os, each_weaker, length-filter-cons, length-filter-le)
 
 picks_less : (r : Residual) (i : ℕ) → AllByRecursion (λ x. size_of (pick r i x) < size_of r) (holding i r.options)
 picks_less r i =
@@ -45,25 +37,16 @@ picks_less r i =
 pub less_items : (w : Wanted) (ws : List Wanted) → IsIn ws w
     → length (filter (λ v. not (eqb v.item w.item)) ws) < length ws
 less_items w [] h = absurd h
-less_items w (v ∷ vs) (inl e) =
-    let same : eqb v.item w.item ≡ true = eq-eqb _ _ (ap (λ (x : Wanted). x.item) e) in
-    rw same (omega (arith, length-filter-le (λ v. not (eqb v.item w.item)) vs))
-less_items w (v ∷ vs) (inr h) =
-    omega (arith, length-filter-cons (λ v. not (eqb v.item w.item)) v vs, less_items w vs h)
+less_items w (v ∷ vs) (inl e) = grind (arith, common_steps, eq-eqb, length-filter-le)
+less_items w (v ∷ vs) (inr h) = grind (arith, common_steps, less_items w vs h, length-filter-cons)
 
 best_is_one : (beats : Wanted → Wanted → Bool) (w : Wanted) (ws : List Wanted) → IsIn (w ∷ ws) (best_of beats w ws)
 best_is_one beats w [] = inl refl
-best_is_one beats w (v ∷ vs) =
-    elim (beats v w) as (λ b. IsIn (w ∷ v ∷ vs) (best_of beats (cond b v w) vs)) [
-      | true ↦ inr (best_is_one beats v vs)
-      | false ↦ elim (best_is_one beats w vs) [ inl e ↦ inl e | inr h ↦ inr (inr h) ]
-    ]
+best_is_one beats w (v ∷ vs) = grind (arith, common_steps, best_is_one beats v vs, best_is_one beats w vs)
 
 pub least_is_one : (count : Wanted → ℕ) (ws : List Wanted) (w : Wanted) → first_least count ws ≡ Some w → IsIn ws w
 least_is_one count [] w e = cc
-least_is_one count (v ∷ vs) w e =
-    let same : best_of (λ x best. nat_lt (count x) (count best)) v vs ≡ w = cc in
-    subst (λ x. IsIn (v ∷ vs) x) same (best_is_one (λ x best. nat_lt (count x) (count best)) v vs)
+least_is_one count (v ∷ vs) w e = grind (arith, common_steps, best_is_one)
 
 pub branches_less : (r : Residual) (w : Wanted) → branch_item r ≡ Some w
     → AllByRecursion (λ b. size_of b.next < size_of r) (branches_of r w)

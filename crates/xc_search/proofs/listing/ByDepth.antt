@@ -1,4 +1,5 @@
 -- What is computed level by level, to a depth of the size, is one level over itself.
+use Rattle.std.proofs.lemmas.Grind.{common_steps}
 use Rattle.std.proofs.Common.{ℕ, zero, suc, ◌≡◌, ◌<◌, ◌≤◌, List, [], ◌∷◌, length, Option, Some, None, refl, sym, ap}
 use Rattle.std.proofs.Common.{◌∙◌, arith}
 use Rattle.xc_search.specs.inner.Sizes.{size_of}
@@ -41,10 +42,7 @@ same_depth by zero zero r h k = refl
 same_depth {to = to} by zero (suc g) r h k = sym (by.next g r ∙ at_last by (to g) r h)
 same_depth {to = to} by (suc f) zero r h k = by.next f r ∙ at_last by (to f) r k
 same_depth {to = to} by (suc f) (suc g) r h k =
-    by.next f r
-    ∙ level-same by (to f) (to g) (branch_item r) r refl
-    (λ s less. same_depth by f g s (omega (arith, less, h)) (omega (arith, less, k)))
-    ∙ sym (by.next g r)
+    grind (arith, common_steps, same_depth by f g, level-same by (to f) (to g) (branch_item r) r)
 
 pub by_depth : {X : Type 0} {level : (Residual → X) → Option Wanted → Residual → X} {to : ℕ → Residual → X}
     → IsByDepth level to → (r : Residual) → to (size_of r) r ≡ level (λ s. to (size_of s) s) (branch_item r) r

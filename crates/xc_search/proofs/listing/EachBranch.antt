@@ -1,6 +1,8 @@
 -- The branches of an item, one by one.
-use Rattle.std.proofs.Common.{ℕ, ◌≡◌, ◌<◌, true, false, cond, eqb, List, [], ◌∷◌, map, take, Some, None, refl, sym, ap}
-use Rattle.std.proofs.Common.{subst, ◌⊎◌, inl, inr, eqb-true, eq-eqb}
+use Rattle.std.proofs.Common.{arith}
+use Rattle.std.proofs.lemmas.Grind.{common_steps}
+use Rattle.std.proofs.Common.{ℕ, ◌≡◌, ◌<◌, true, cond, eqb, List, [], ◌∷◌, map, take, Some, None, refl}
+use Rattle.std.proofs.Common.{◌⊎◌, eqb-true, eq-eqb}
 use Rattle.xc_search.specs.inner.Sizes.{size_of}
 use Rattle.std.specs.List.{enumerate_from}
 use Rattle.xc_search.specs.declared.choice.Choice.{Choice}
@@ -34,39 +36,13 @@ abbrev pub nones : Residual → Wanted → List Branch
 nones r w = cond (eqb w.low 0) (none_branch r w.item (branch_count r w) ∷ []) []
 
 pub in-takes : (r : Residual) (w : Wanted) (b : Branch) → IsIn (takes r w) b → IsTaken r w b
-in-takes r w b h =
-    let n = branch_count r w in
-    let from = in-map (take_branch r w.item n) (enumerate_from 1 (take n (holding w.item r.options))) b h in
-    let x = from.0.1 in
-    let held =
-    in-take n (holding w.item r.options) x (in-enumerated 1 (take n (holding w.item r.options)) from.0 from.1) in
-    let found = in-filter (λ o. holds o w.item) r.options x held in
-    record {
-      x = x;
-      known = found.0;
-      at = found.1;
-      next = sym (ap (λ (z : Branch). z.next) from.2);
-      option = sym (ap (λ (z : Branch). z.choice.option) from.2);
-    }
+in-takes r w b h = grind (arith, common_steps, in-map, in-take, in-enumerated, in-filter)
 
 pub in-nones : (r : Residual) (w : Wanted) (b : Branch) → IsIn (nones r w) b → IsNone r w b
-in-nones r w b h =
-    elim (eqb w.low 0) as (λ c. eqb w.low 0 ≡ c → IsIn (cond c (none_branch r w.item (branch_count r w) ∷ []) []) b
-    → IsNone r w b) [
-      | true ↦ λ e k. elim k [
-        | inl q ↦ record {
-          free = eqb-true _ _ e;
-          next = sym (ap (λ (z : Branch). z.next) q);
-          option = sym (ap (λ (z : Branch). z.choice.option) q);
-        }
-        | inr q ↦ absurd q
-      ]
-      | false ↦ λ e k. absurd k
-    ] refl h
+in-nones r w b h = grind (arith, common_steps, eqb-true)
 
 pub in-branches : (r : Residual) (w : Wanted) (b : Branch) → IsIn (branches_of r w) b → IsTaken r w b ⊎ IsNone r w b
-in-branches r w b h =
-    elim (in-append (takes r w) (nones r w) b h) [ inl k ↦ inl (in-takes r w b k) | inr k ↦ inr (in-nones r w b k) ]
+in-branches r w b h = grind (arith, common_steps, in-append, in-takes, in-nones)
 
 pub takes-in : (r : Residual) (w : Wanted) (x : Numbered) → IsIn (take (branch_count r w) (holding w.item r.options)) x
     → (k : ℕ) × IsIn (branches_of r w) (take_branch r w.item (branch_count r w) (k, x))
@@ -80,11 +56,7 @@ takes-in r w x h =
 
 pub nones-in : (r : Residual) (w : Wanted) → w.low ≡ 0
     → IsIn (branches_of r w) (none_branch r w.item (branch_count r w))
-nones-in r w e =
-    let here : eqb w.low 0 ≡ true = eq-eqb _ _ e in
-    append-in_right (takes r w) (nones r w) _
-    (subst (λ c. IsIn (cond c (none_branch r w.item (branch_count r w) ∷ []) [])
-    (none_branch r w.item (branch_count r w))) (sym here) (inl refl))
+nones-in r w e = grind (arith, common_steps, eq-eqb, append-in_right)
 
 -- ---- one level
 
@@ -96,10 +68,7 @@ behind rest b = map (λ m. b.choice ∷ m) (rest b.next)
 pub in-level : (rest : Residual → List (List Choice)) (w : Wanted) (r : Residual) (m : List Choice)
     → IsIn (level rest (Some w) r) m →
     (b : Branch) × (l : List Choice) × IsIn (branches_of r w) b × IsIn (rest b.next) l × (b.choice ∷ l ≡ m)
-in-level rest w r m h =
-    let at = in-flat_map (behind rest) (branches_of r w) m h in
-    let from = in-map (λ l. at.0.choice ∷ l) (rest at.0.next) m at.2 in
-    (at.0, from.0, at.1, from.1, from.2)
+in-level rest w r m h = grind (arith, common_steps, in-flat_map, in-map)
 
 pub level-in : (rest : Residual → List (List Choice)) (w : Wanted) (r : Residual) (b : Branch) (l : List Choice)
     → IsIn (branches_of r w) b → IsIn (rest b.next) l → IsIn (level rest (Some w) r) (b.choice ∷ l)

@@ -1,10 +1,11 @@
 -- Options with their numbers, and items with their bounds.
-use Rattle.std.proofs.Common.{ℕ, zero, suc, ◌≡◌, ◌+◌, ◌<◌, ◌≤◌, List, [], ◌∷◌, length, Some, refl, ap, ◌∙◌, arith}
+use Rattle.std.proofs.lemmas.Grind.{common_steps}
+use Rattle.std.proofs.Common.{ℕ, zero, suc, ◌≡◌, ◌+◌, ◌<◌, ◌≤◌, List, [], ◌∷◌, length, Some, refl, ap, arith}
 use Rattle.std.proofs.Common.{subst, sym, inl, inr}
 use Rattle.xc_input.proofs.OptionLemmas.NumberedOptions.{numbered_from}
 use Rattle.xc_input.specs.declared.problem.Bounds.{Bounds}
 use Rattle.std.proofs.lemmas.List.Elements.{recursion_from_All}
-use Rattle.std.specs.Prelude.{slice_get, unwrap_or}
+use Rattle.std.specs.Prelude.{slice_get}
 use Rattle.std.specs.List.{AllByRecursion}
 use Rattle.xc_input.specs.declared.problem.Use.{Use}
 use Rattle.xc_input.specs.Problem.{Puzzle, Numbered, numbered_options, option_count, uses_of, IsSoundOption, IsValid}
@@ -15,9 +16,7 @@ use Rattle.xc_input.proofs.lists.Members.{IsIn, each_from}
 pub numbered_at : (k : ℕ) (os : List (List Use)) (o : Numbered) → IsIn (numbered_from (k + 1) os) o → (j : ℕ)
     × (o.number ≡ k + suc j) × (j < length os) × (slice_get os j ≡ Some o.uses)
 numbered_at k [] o h = absurd h
-numbered_at k (us ∷ os) o (inl q) =
-    let same = ap (λ (z : Numbered). z.number) q in
-    (zero, omega (arith, same), omega arith, ap (λ (z : Numbered). Some z.uses) q)
+numbered_at k (us ∷ os) o (inl q) = grind (arith, common_steps)
 numbered_at k (us ∷ os) o (inr q) =
     let later = numbered_at (k + 1) os o q in
     (suc later.0, omega (arith, later.1), omega (arith, later.2), later.3)
@@ -26,8 +25,7 @@ pub at_number : (k : ℕ) (os : List (List Use)) (j : ℕ) → j < length os →
     × IsIn (numbered_from (k + 1) os) o × (o.number ≡ k + suc j)
 at_number k [] j h = absurd (omega (arith, h))
 at_number k (us ∷ os) zero h = (record { number = k + 1; uses = us }, inl refl, omega arith)
-at_number k (us ∷ os) (suc j) h =
-    let later = at_number (k + 1) os j (omega (arith, h)) in (later.0, inr later.1, omega (arith, later.2))
+at_number k (us ∷ os) (suc j) h = grind (arith, common_steps, at_number (k + 1) os j)
 
 pub option_sound : (p : Puzzle) (k : ℕ) (os : List (List Use)) (o : Numbered) → AllByRecursion (IsSoundOption p) os
     → IsIn (numbered_from (k + 1) os) o → IsSoundOption p o.uses
@@ -36,10 +34,7 @@ option_sound p k (us ∷ os) o a (inl q) = subst (λ (z : Numbered). IsSoundOpti
 option_sound p k (us ∷ os) o a (inr q) = option_sound p (k + 1) os o a.1 q
 
 pub uses_known : (p : Puzzle) (o : Numbered) → IsIn (numbered_options p) o → uses_of p o.number ≡ o.uses
-uses_known p o h =
-    let at = numbered_at 0 p.options o h in
-    let number : o.number ≡ suc at.0 = omega (arith, at.1) in
-    ap (uses_of p) number ∙ ap (λ us. unwrap_or us []) at.3
+uses_known p o h = grind (arith, common_steps, numbered_at 0 p.options o h)
 
 pub record IsOption (p : Puzzle) (o : Numbered) : Type 0 where
   pub known : (1 ≤ o.number) × (o.number ≤ option_count p)
@@ -89,5 +84,4 @@ at_item k (c ∷ bs) zero b e =
       ap
           (λ (z : Bounds). z.high) same,
     )
-at_item k (c ∷ bs) (suc j) b e =
-    let later = at_item (k + 1) bs j b e in (later.0, inr later.1, omega (arith, later.2), later.3, later.4)
+at_item k (c ∷ bs) (suc j) b e = grind (arith, common_steps, at_item (k + 1) bs j b e)

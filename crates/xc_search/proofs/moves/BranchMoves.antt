@@ -1,5 +1,6 @@
 -- A branch of a level, by its moves and by what is left.
-use Rattle.std.proofs.Common.{ℕ, zero, suc, ◌≡◌, ◌≢◌, ◌+◌, ◌-◌, ◌<◌, ◌≤◌, Bool, true, false, cond, not, ◌&&◌, eqb, List}
+use Rattle.std.proofs.lemmas.Grind.{common_steps}
+use Rattle.std.proofs.Common.{ℕ, zero, suc, ◌≡◌, ◌≢◌, ◌+◌, ◌-◌, ◌<◌, ◌≤◌, Bool, true, false, not, ◌&&◌, eqb, List}
 use Rattle.std.proofs.Common.{[], ◌∷◌, ◌++◌, length, map, filter, take, drop, Some, refl, sym, ap, ◌∙◌, arith, subst}
 use Rattle.std.proofs.Common.{eq-eqb, ne_eqb, le-leb, get_or}
 use Rattle.std.proofs.lemmas.List.Elements.{filter_agree, recursion_from_All}
@@ -177,9 +178,7 @@ none_taken p t i m n h = by_case (eqb (high_at p i - spends i (Spend i ∷ t)) 0
         ∙ spent_none p t i
 
 pub legal_after_none : (p : Puzzle) (i : ℕ) (t : List Move) → IsItem p i → AreLegal p t → AreLegal p (after_none i t)
-legal_after_none p i t h l =
-    elim (is_open i t) as (λ b. is_open i t ≡ b → AreLegal p (cond b (Cover i ∷ t) t))
-    [ true ↦ λ e. ((h, e), l) | false ↦ λ e. l ] refl
+legal_after_none p i t h l = grind (arith, common_steps)
 
 pub none_wanted : (r : Residual) (i : ℕ) → AreWanted r.items → AreWanted (none r i).items
 none_wanted r i a = each-filter (λ w. is_wanted w ≡ true) (λ w. not (eqb w.item i)) r.items a

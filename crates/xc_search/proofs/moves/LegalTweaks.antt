@@ -1,7 +1,8 @@
 -- Opening a level, and tweaks of its item.
+use Rattle.std.proofs.lemmas.Grind.{common_steps}
 use Rattle.std.proofs.Common.{ℕ, zero, suc, ◌≡◌, ◌≢◌, ◌-◌, ◌<◌, ◌≤◌, Bool, true, false, cond, not, ◌&&◌, eqb, leb, List}
 use Rattle.std.proofs.Common.{[], ◌∷◌, length, filter, take, drop, Some, None, refl, sym, ap, ◌∙◌, arith, subst}
-use Rattle.std.proofs.Common.{eqb-true, eq-eqb, le-leb, lt-ltb, le-ltb, leb-true, length-drop}
+use Rattle.std.proofs.Common.{eqb-true, eq-eqb, le-leb, lt-ltb, le-ltb, leb-true}
 use Rattle.std.proofs.lemmas.Bool.{lt-leb, eqb-false}
 use Rattle.std.proofs.lemmas.List.Elements.{filter_agree}
 use Rattle.std.specs.Prelude.{nat_lt, nat_le, slice_get}
@@ -48,29 +49,17 @@ spends_tweaked j (suc m) i s = spends_tweaked j m i s
 
 pub listed_tweaked : (p : Puzzle) (m i : ℕ) (s : List Move) → listed p (tweaked m i s) i ≡ drop m (listed p s i)
 listed_tweaked p zero i s = refl
-listed_tweaked p (suc m) i s =
-    let same : eqb i i ≡ true = eq-eqb i i refl in
-    rw same (ap (drop 1) (listed_tweaked p m i s) ∙ drop_one m (listed p s i))
+listed_tweaked p (suc m) i s = grind (arith, common_steps, listed_tweaked p m i s, eq-eqb, drop_one)
 
 pub legal_tweaked : (p : Puzzle) (m i : ℕ) (s : List Move) → AreLegal p s → IsItem p i → purified i s ≡ None
     → m ≤ length (listed p s i) → AreLegal p (tweaked m i s)
 legal_tweaked p zero i s l h q k = l
-legal_tweaked p (suc m) i s l h q k = (
-  (
-    h,
-    purified_tweaked i m i s
-        ∙ q,
-    omega (arith, ap length (listed_tweaked p m i s), length-drop m (listed p s i), k),
-  ),
-  legal_tweaked p m i s
-      l h q (omega (arith, k)),
-)
+legal_tweaked p (suc m) i s l h q k =
+    grind (arith, common_steps, legal_tweaked p m i s l h q, purified_tweaked, listed_tweaked)
 
 pub left_closed : (p : Puzzle) (m i : ℕ) (s : List Move) → is_open i s ≡ false → left p (tweaked m i s) ≡ left p s
 left_closed p zero i s e = refl
-left_closed p (suc m) i s e =
-    let closed : is_open i (tweaked m i s) ≡ false = open_tweaked i m i s ∙ e in
-    rw closed (left_closed p m i s e)
+left_closed p (suc m) i s e = grind (arith, common_steps, left_closed p m i s e, open_tweaked)
 
 -- ---- the first options that hold an item
 
@@ -117,10 +106,7 @@ rise_above n (o ∷ os) (suc m) x r e = let later = rise_above o.number os m x r
 pub rise_step : (n : ℕ) (os : List Numbered) (m : ℕ) (y x : Numbered) → NumbersRise n os → slice_get os m ≡ Some y
     → slice_get os (suc m) ≡ Some x → y.number < x.number
 rise_step n [] m y x r d e = cc
-rise_step n (o ∷ os) zero y x r d e =
-    let same : o ≡ y = cc in
-    let later = rise_above o.number os 0 x r.1 e in
-    omega (arith, later, ap (λ (y : Numbered). y.number) same)
+rise_step n (o ∷ os) zero y x r d e = grind (arith, common_steps, rise_above)
 rise_step n (o ∷ os) (suc m) y x r d e = rise_step o.number os m y x r.1 d e
 
 cut_more : (a b c : Bool) → (b ≡ true → c ≡ true) → (not (a && b) && not (a && c)) ≡ not (a && c)
@@ -159,29 +145,18 @@ left_open p (suc m) i s x l o h e =
 
 pub listed_after_spend : (p : Puzzle) (i : ℕ) (t : List Move) → IsNode p t i
     → listed p (after_spend p i t) i ≡ holding i (left p t)
-listed_after_spend p i t n =
-    elim (eqb (high_at p i - spends i (Spend i ∷ t)) 0) as
-    (λ b. listed p (cond b (Cover i ∷ Spend i ∷ t) (Spend i ∷ t)) i ≡ holding i (left p t)) [
-      | true ↦ let same : eqb i i ≡ true = eq-eqb i i refl in rw same (listed_open p t n.searchable.legal i n.is_open)
-      | false ↦ listed_open p t n.searchable.legal i n.is_open
-    ]
+listed_after_spend p i t n = grind (arith, common_steps, eq-eqb, listed_open)
 
 purified_after_spend : (p : Puzzle) (i : ℕ) (t : List Move) → purified i (after_spend p i t) ≡ purified i t
-purified_after_spend p i t =
-    elim (eqb (high_at p i - spends i (Spend i ∷ t)) 0) as
-    (λ b. purified i (cond b (Cover i ∷ Spend i ∷ t) (Spend i ∷ t)) ≡ purified i t) [ true ↦ refl | false ↦ refl ]
+purified_after_spend p i t = grind (arith, common_steps)
 
 pub legal_node : (p : Puzzle) (i : ℕ) (t : List Move) → IsNode p t i → AreLegal p (after_spend p i t)
-legal_node p i t n =
-    legal_opening p i t n.searchable.legal n.item n.is_open (has_left p t i n.searchable.wanted n.item n.is_open)
+legal_node p i t n = grind (arith, common_steps, legal_opening, has_left)
 
 pub legal_branch : (p : Puzzle) (m i : ℕ) (t : List Move) → IsNode p t i → m ≤ length (holding i (left p t))
     → AreLegal p (tweaked m i (after_spend p i t))
 legal_branch p m i t n h =
-    let item : IsItem p i = (n.item.0, omega (arith, n.item.1)) in
-    legal_tweaked p m i (after_spend p i t) (legal_node p i t n) item
-    (purified_after_spend p i t ∙ primary_pure p i t n.searchable.legal n.item.1)
-    (omega (arith, h, ap length (listed_after_spend p i t n)))
+    grind (arith, common_steps, legal_tweaked, legal_node, purified_after_spend, primary_pure, listed_after_spend)
 
 pub listed_branch : (p : Puzzle) (m i : ℕ) (t : List Move) → IsNode p t i
     → listed p (tweaked m i (after_spend p i t)) i ≡ drop m (holding i (left p t))

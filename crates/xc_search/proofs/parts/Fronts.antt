@@ -1,5 +1,6 @@
 -- A part lists the same where it is a problem of its own, with its item in front.
-use Rattle.std.proofs.Common.{ℕ, zero, suc, ◌≡◌, ◌≢◌, ◌+◌, ◌<◌, ◌≤◌, true, false, cond, not, eqb, List, [], ◌∷◌, map}
+use Rattle.std.proofs.lemmas.Grind.{common_steps}
+use Rattle.std.proofs.Common.{ℕ, zero, suc, ◌≡◌, ◌+◌, ◌<◌, ◌≤◌, List, [], ◌∷◌, map}
 use Rattle.std.proofs.Common.{filter, Some, refl, sym, ap, ap₂, ◌∙◌, arith, eqb-true, ne_eqb}
 use Rattle.xc_input.proofs.OptionLemmas.NumberedOptions.{numbered_from}
 use Rattle.xc_input.specs.declared.problem.Bounds.{Bounds}
@@ -45,37 +46,21 @@ items_behind : (i n : ℕ) (bs : List Bounds) → 1 ≤ i → i < n
     → map (renumber_item (front_item i)) (wanted_from n (map bounds_of (filter (is_other i) (wanted_from n bs)))) ≡
     filter (is_other i) (wanted_from n bs)
 items_behind i n [] h k = refl
-items_behind i n (b ∷ bs) h k =
-    let kept : eqb n i ≡ false = ne_eqb n i (λ e. omega (arith, k, e)) in
-    rw kept (ap₂ (λ j vs. let v : Wanted = record { item = j; low = b.low; high = b.high } in v ∷ vs)
-    (item_behind i n h k) (items_behind i (n + 1) bs h (omega (arith, k))))
+items_behind i n (b ∷ bs) h k = grind (arith, common_steps, items_behind i (n + 1) bs h, ne_eqb, item_behind)
 
 items_before : (i n : ℕ) (bs : List Bounds) → 1 ≤ n → n ≤ i
     → map (renumber_item (front_item i)) (wanted_from (n + 1) (map bounds_of (filter (is_other i) (wanted_from n bs))))
     ≡ filter (is_other i) (wanted_from n bs)
 items_before i n [] h k = refl
 items_before i n (b ∷ bs) h k =
-    let rest = filter (is_other i) (wanted_from (n + 1) bs) in
-    let here : Wanted = record { item = n; low = b.low; high = b.high } in
-    elim (eqb n i) as (λ c. eqb n i ≡ c
-    → map (renumber_item (front_item i)) (wanted_from (n + 1) (map bounds_of (cond (not c) (here ∷ rest) rest))) ≡
-    cond (not c) (here ∷ rest) rest) [
-      | true ↦ λ e. items_behind i (n + 1) bs (omega (arith, h, k)) (omega (arith, eqb-true n i e))
-      | false ↦ λ e.
-          let apart : n ≢ i = grind (arith, nat_tests, e) in
-          ap₂ (λ j vs. let v : Wanted = record { item = j; low = b.low; high = b.high } in v ∷ vs)
-          (item_before i n h (omega (arith, k, apart)))
-          (items_before i (n + 1) bs (omega arith) (omega (arith, k, apart)))
-    ] refl
+    grind (arith, common_steps, items_before i (n + 1) bs, items_behind, eqb-true, item_before)
 
 -- ---- options
 
 uses_back : (i : ℕ) (us : List Use) → 1 ≤ i → AllByRecursion (λ u. 1 ≤ u.item) us
     → map (renumber_use (front_item i)) (map (renumber_use (front_number i)) us) ≡ us
 uses_back i [] h a = refl
-uses_back i (u ∷ us) h a =
-    ap₂ (λ j vs. let v : Use = record { item = j; colour = u.colour } in v ∷ vs) (back_in_place i u.item h a.0)
-    (uses_back i us h a.1)
+uses_back i (u ∷ us) h a = grind (arith, common_steps, uses_back i us h a.1, back_in_place)
 
 options_back : (i k : ℕ) (g : ℕ → ℕ) (os : List Numbered) → 1 ≤ i
     → ((j : ℕ) (o : Numbered) → slice_get os j ≡ Some o → g (k + suc j) ≡ o.number)

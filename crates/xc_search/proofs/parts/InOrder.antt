@@ -1,4 +1,5 @@
 -- The members of a problem are those of its parts in turn.
+use Rattle.std.proofs.lemmas.Grind.{common_steps}
 use Rattle.std.proofs.Common.{ℕ, suc, ◌≡◌, ◌-◌, ◌≤◌, Bool, true, false, cond, not, ◌&&◌, eqb, List, [], ◌∷◌, length}
 use Rattle.std.proofs.Common.{map, filter, find, Option, Some, refl, sym, ap, ◌∙◌, arith, subst, inl, inr, eqb-true}
 use Rattle.std.proofs.Common.{eq-eqb, ne_eqb, le-ltb}
@@ -7,11 +8,10 @@ use Rattle.std.specs.Prelude.{nat_le, flat_map}
 use Rattle.std.specs.List.{list_all, enumerate_from}
 use Rattle.std.proofs.Math.Bool.{and-false}
 use Rattle.std.proofs.Math.Seq.{take-length}
-use Rattle.std.proofs.lemmas.List.{append-nil}
 use Rattle.std.proofs.lemmas.List.Folds.{flat_map-map}
 use Rattle.xc_input.specs.Problem.{Puzzle, Numbered, numbered_options, primary_count, bounds_at, holds, holding}
 use Rattle.xc_input.specs.Problem.{IsValid}
-use Rattle.xc_search.specs.Listing.{Wanted, whole, spend_one, may_stay, item_left, pick, branch_count, branch_item}
+use Rattle.xc_search.specs.Listing.{Wanted, whole, spend_one, may_stay, item_left, pick, branch_item}
 use Rattle.xc_search.specs.Listing.{take_branch, branches_of, level, listing}
 use Rattle.xc_search.specs.Parts.{IsHeldOnce, is_in_part, part_options, part_in_front, first_as, PartsInOrder}
 use Rattle.xc_dance.proofs.MoveLemmas.OptionsRise.{NumbersRise, NumbersRise-filter, options_rise}
@@ -59,14 +59,7 @@ is_other i v = not (eqb v.item i)
 find_other : (i j : ℕ) (ws : List Wanted) → eqb i j ≡ false
     → find (λ v. eqb v.item j) (filter (is_other i) ws) ≡ find (λ v. eqb v.item j) ws
 find_other i j [] e = refl
-find_other i j (v ∷ ws) e =
-    elim (eqb v.item i) as (λ b. eqb v.item i ≡ b
-    → find (λ v. eqb v.item j) (cond (not b) (v ∷ filter (is_other i) ws) (filter (is_other i) ws)) ≡ cond
-    (eqb v.item j) (Some v) (find (λ v. eqb v.item j) ws)) [
-      | true ↦ λ q. let other : eqb v.item j ≡ false =
-          ap (λ n. eqb n j) (eqb-true v.item i q) ∙ e in rw other (find_other i j ws e)
-      | false ↦ λ q. ap (cond (eqb v.item j) (Some v)) (find_other i j ws e)
-    ] refl
+find_other i j (v ∷ ws) e = grind (arith, common_steps, find_other i j ws e, find, eqb-true)
 
 same_left : (p : Puzzle) (w : Wanted) (x : Numbered) (j : ℕ) → IsProper (primary_count p) (whole p)
     → IsIn (whole p).items w → item_left (part_in_front p w x) j ≡ item_left (whole p) j
@@ -158,9 +151,7 @@ part_branch p w x c low h =
 part_listed : (p : Puzzle) (w : Wanted) (x : Numbered) (k n : ℕ) → IsSplit p w x → w.low ≡ 1
     → IsIn (holding w.item (numbered_options p)) x →
     behind listing (take_branch (whole p) w.item n (k, x)) ≡ map (first_as k n) (listing (part_in_front p w x))
-part_listed p w x k n c low h =
-    sym (ap (map (first_as k n)) (part_branch p w x c low h)
-    ∙ map-map (λ m. only_choice w.item x ∷ m) (first_as k n) (listing (pick (whole p) w.item x)))
+part_listed p w x k n c low h = grind (arith, common_steps, part_branch, map-map)
 
 -- the bounds of an item that is to be held once
 pub held_once : (p : Puzzle) (w : Wanted) → IsIn (whole p).items w → IsHeldOnce p w.item → (w.low ≡ 1) × (w.high ≡ 1)
@@ -174,11 +165,7 @@ held_once p w h once =
 all_branches : (p : Puzzle) (w : Wanted) → w.low ≡ 1 →
     branches_of (whole p) w ≡ map (take_branch (whole p) w.item (length (holding w.item (numbered_options p))))
     (enumerate_from 1 (holding w.item (numbered_options p)))
-all_branches p w low =
-    let hs = holding w.item (numbered_options p) in
-    let count : branch_count (whole p) w ≡ length hs = omega (arith, low) in
-    let needed : eqb w.low 0 ≡ false = ne_eqb w.low 0 (λ q. omega (arith, low, q)) in
-    rw (count, needed, take-length hs) (append-nil _)
+all_branches p w low = grind (arith, common_steps, ne_eqb, take-length)
 
 pub parts_in_order : (p : Puzzle) → IsValid p → (w : Wanted) → branch_item (whole p) ≡ Some w → IsHeldOnce p w.item
     → PartsInOrder p w

@@ -1,7 +1,8 @@
 -- The options of a part by their numbers in it: a set of them is a cover of the part where it is one of the problem.
-use Rattle.std.proofs.Common.{ℕ, zero, suc, ◌≡◌, ◌≢◌, ◌+◌, ◌<◌, ◌≤◌, cond, List, [], ◌∷◌, map, Some, None, refl, sym}
-use Rattle.std.proofs.Common.{ap, ap₂, ◌∙◌, arith, subst}
-use Rattle.std.specs.Prelude.{is_some, slice_get, option_map, unwrap_or}
+use Rattle.std.proofs.lemmas.Grind.{common_steps}
+use Rattle.std.proofs.Common.{ℕ, zero, suc, ◌≡◌, ◌≢◌, ◌<◌, ◌≤◌, List, [], ◌∷◌, map, Some, None, refl, sym}
+use Rattle.std.proofs.Common.{ap, ◌∙◌, arith, subst}
+use Rattle.std.specs.Prelude.{slice_get, option_map, unwrap_or}
 use Rattle.std.specs.List.{AllByRecursion}
 use Rattle.std.proofs.lemmas.List.{length-map}
 use Rattle.std.proofs.lemmas.Option.{slice_get-map, slice_get_within}
@@ -19,7 +20,7 @@ use Rattle.xc_input.proofs.lists.Members.{IsIn, in-filter, in-map, map-in, in-sl
 use Rattle.xc_input.proofs.lists.Members.{each_from, in-contains, contains-in}
 use Rattle.xc_input.proofs.lists.Places.{not_some}
 use Rattle.xc_search.proofs.completeness.Once.{two_rise}
-use Rattle.xc_search.proofs.listing.Numbering.{numbered_at, uses_known, IsOption, all_options}
+use Rattle.xc_search.proofs.listing.Numbering.{numbered_at, uses_known, all_options}
 
 -- an option of a part is one of the problem
 pub in_whole : (p : Puzzle) (i : ℕ) (x o : Numbered) → IsIn (part_options p i x) o → IsIn (numbered_options p) o
@@ -36,24 +37,13 @@ parts_are_valid p v i x =
     }
   where
     each : AllByRecursion (λ o. IsSoundOption (part p i x) o.uses) (part_options p i x)
-    each = each_from _ (part_options p i x) (λ o h.
-        let s = (each_in (IsOption p) (numbered_options p) o (all_options p v) (in_whole p i x o h)).sound in
-        record { sound = s.sound; distinct = s.distinct; one_primary = s.one_primary })
+    each = grind (arith, common_steps, each_from, each_in, all_options, in_whole)
 
 -- its uses are the same under both numbers
 pub same_uses : (p : Puzzle) (i : ℕ) (x : Numbered) (k : ℕ)
     → uses_of (part p i x) k ≡ uses_of p (number_in_problem p i x k)
 same_uses p i x zero = refl
-same_uses p i x (suc k) =
-    let os = part_options p i x in
-    ap (λ us. unwrap_or us []) (slice_get-map (λ (o : Numbered). o.uses) os k)
-    ∙ elim (slice_get os k) as
-    (λ g. slice_get os k ≡ g
-    → unwrap_or (option_map (λ (o : Numbered). o.uses) g) [] ≡ uses_of p
-    (unwrap_or (option_map (λ (o : Numbered). o.number) g) 0)) [
-      | None ↦ λ e. refl
-      | Some o ↦ λ e. sym (uses_known p o (in_whole p i x o (in-slice_get os k o e)))
-    ] refl
+same_uses p i x (suc k) = grind (arith, common_steps, slice_get-map, uses_known p, in_whole p i x, in-slice_get)
 
 abbrev pub IsNumber : Puzzle → ℕ → Type 0
 IsNumber p k = (1 ≤ k) × (k ≤ option_count p)
@@ -105,18 +95,11 @@ same_place p i x j k a b e = grind (arith, e, numbers_rise p i x j k a b, number
 same_times : (p : Puzzle) (i : ℕ) (x : Numbered) (j : ℕ) (t : List ℕ)
     → times_held (part p i x) j t ≡ times_held p j (in_problem p i x t)
 same_times p i x j [] = refl
-same_times p i x j (k ∷ t) =
-    sum_by-cons (λ o. cond (is_some (colour_in (uses_of (part p i x) o) j)) 1 0) k t
-    ∙ ap₂ (λ us n. cond (is_some (colour_in us j)) 1 0 + n) (same_uses p i x k) (same_times p i x j t)
-    ∙ sym (sum_by-cons (λ o. cond (is_some (colour_in (uses_of p o) j)) 1 0) (number_in_problem p i x k)
-    (in_problem p i x t))
+same_times p i x j (k ∷ t) = grind (arith, common_steps, same_times p i x j t, sum_by-cons, same_uses)
 
 distinct_before : (f : ℕ → ℕ) (t : List ℕ) → EachTwo (λ a b. a ≢ b) (map f t) → EachTwo (λ a b. a ≢ b) t
 distinct_before f [] a = tt
-distinct_before f (k ∷ t) a = (
-  each_from (λ b. k ≢ b) t (λ b h e. each_in (λ c. f k ≢ c) (map f t) (f b) a.0 (map-in f t b h) (ap f e)),
-  distinct_before f t a.1,
-)
+distinct_before f (k ∷ t) a = grind (arith, common_steps, distinct_before f t a.1, each_from, each_in, map-in f t)
 
 pub cover_of_problem : (p : Puzzle) (i : ℕ) (x : Numbered) (t : List ℕ) → IsCover (part p i x) t
     → IsCover p (in_problem p i x t)

@@ -1,14 +1,14 @@
 -- The listing of what is left where its first item is to be held once and one option holds it.
+use Rattle.std.proofs.lemmas.Grind.{common_steps}
 use Rattle.std.proofs.Common.{ℕ, ◌≡◌, ◌-◌, ◌<◌, ◌≤◌, true, false, cond, eqb, List, [], ◌∷◌, length, map, filter, Some}
 use Rattle.std.proofs.Common.{refl, sym, ap, ◌∙◌, arith, subst, ◌⊎◌, inl, inr, ltb-true, ltb-false, lt-ltb, le-leb}
 use Rattle.std.proofs.Common.{ne_eqb}
 use Rattle.xc_search.proofs.Spent.{less_one}
 use Rattle.std.specs.Prelude.{nat_lt, flat_map}
 use Rattle.std.specs.List.{best_of}
-use Rattle.std.proofs.lemmas.List.{append-nil}
 use Rattle.xc_search.specs.declared.choice.Choice.{Choice}
 use Rattle.xc_input.specs.Problem.{Numbered, holds, holding}
-use Rattle.xc_search.specs.Listing.{Wanted, Residual, branch_count, branch_item, first_least, spend_one, pick}
+use Rattle.xc_search.specs.Listing.{Wanted, Residual, branch_count, branch_item, spend_one, pick}
 use Rattle.xc_search.specs.Listing.{take_branch, branches_of, level, listing}
 use Rattle.xc_input.proofs.lists.Filters.{filter_swap, length-filter-le}
 use Rattle.xc_input.proofs.lists.Members.{IsIn, in-filter, filter-in, map-in, each_in}
@@ -48,19 +48,12 @@ best_first : (count : Wanted → ℕ) (w : Wanted) (ws : List Wanted) → (best 
     ⊎ (count (best count w ws) < count w)
 best_first count w [] = inl refl
 best_first count w (u ∷ us) =
-    elim (nat_lt (count u) (count w)) as
-    (λ b. nat_lt (count u) (count w) ≡ b → (best count (cond b u w) us ≡ w)
-    ⊎ (count (best count (cond b u w) us) < count w)) [
-      | true ↦ λ e. inr (omega (arith, ltb-true (count u) (count w) e, best_least count u us u (inl refl)))
-      | false ↦ λ e. best_first count w us
-    ] refl
+    grind (arith, common_steps, best_first count w us, ltb-true (count u) (count w), best_least count u us u)
 
 -- ---- an item without branches
 
 no_branches : (r : Residual) (v : Wanted) → branch_count r v ≡ 0 → branches_of r v ≡ []
-no_branches r v e =
-    let needed : eqb v.low 0 ≡ false = ne_eqb v.low 0 (λ q. omega (arith, e, q)) in
-    rw (e, needed) refl
+no_branches r v e = grind (arith, common_steps, ne_eqb)
 
 -- ends the listing
 nothing_listed : (r : Residual) (v : Wanted) → IsIn r.items v → branch_count r v ≡ 0 → listing r ≡ []
@@ -68,11 +61,7 @@ nothing_listed r v h e = listing_unrolled r ∙ by_items r.items refl h
   where
     by_items : (ws : List Wanted) → r.items ≡ ws → IsIn ws v → level listing (branch_item r) r ≡ []
     by_items [] q k = absurd k
-    by_items (w ∷ ws) q k =
-        let z = best (branch_count r) w ws in
-        let none_left : branch_count r z ≡ 0 = omega (arith, e, best_least (branch_count r) w ws v k) in
-        ap (λ vs. level listing (first_least (branch_count r) vs) r) q
-        ∙ ap (flat_map (behind listing)) (no_branches r z none_left)
+    by_items (w ∷ ws) q k = grind (arith, common_steps, best_least, no_branches)
 
 -- It stays without where an option is taken.
 still_short : (r : Residual) (i : ℕ) (x : Numbered) (v : Wanted) → IsIn (holding i r.options) x → IsIn r.items v
@@ -121,9 +110,7 @@ only_choice i x = record { item = i; option = Some x.number; k = 1; n = 1 }
 pub one_branch : (r : Residual) (w : Wanted) (ws : List Wanted) (x : Numbered) → r.items ≡ w ∷ ws → w.low ≡ 1
     → holding w.item r.options ≡ x ∷ [] → ((v : Wanted) → IsIn r.items v → v.low ≤ v.high) →
     listing r ≡ map (λ m. only_choice w.item x ∷ m) (listing (pick r w.item x))
-one_branch r w ws x first low held sound =
-    listing_unrolled r ∙ ap (λ vs. level listing (first_least (branch_count r) vs) r) first
-    ∙ by_best (best_first (branch_count r) w ws)
+one_branch r w ws x first low held sound = grind (arith, common_steps, listing_unrolled, by_best, best_first)
   where
     one : branch_count r w ≡ 1
     one = omega (arith, low, ap length held)
@@ -134,8 +121,7 @@ one_branch r w ws x first low held sound =
     by_best : (best (branch_count r) w ws ≡ w) ⊎ (branch_count r (best (branch_count r) w ws) < branch_count r w)
         → level listing (Some (best (branch_count r) w ws)) r ≡ map (λ m. only_choice w.item x ∷ m)
         (listing (pick r w.item x))
-    by_best (inl q) =
-        ap (λ v. flat_map (behind listing) (branches_of r v)) q ∙ ap (flat_map (behind listing)) only ∙ append-nil _
+    by_best (inl q) = grind (arith, common_steps)
     by_best (inr less) =
         let z = best (branch_count r) w ws in
         let none_left : branch_count r z ≡ 0 = omega (arith, one, less) in

@@ -1,7 +1,7 @@
 -- The listing is the same under other numbers, level by level.
+use Rattle.std.proofs.lemmas.Grind.{common_steps}
 use Rattle.xc_dance.specs.Moves.{agrees}
 use Rattle.xc_search.proofs.Spent.{less_one, count_of}
-use Rattle.xc_search.specs.inner.Sizes.{size_of}
 use Rattle.std.proofs.Common.{ℕ, zero, suc, ◌≡◌, ◌+◌, true, false, cond, not, ◌&&◌, ◌||◌, eqb, List, [], ◌∷◌, ◌++◌}
 use Rattle.std.proofs.Common.{length, map, filter, find, take, Option, Some, None, refl, sym, ap, ap₂, ◌∙◌, arith}
 use Rattle.std.proofs.Common.{subst, ◌⊎◌, inl, inr}
@@ -204,15 +204,8 @@ module _ (f g : ℕ → ℕ) (apart : AreKeptApart f) where
 
 pub listing_renumbered : (f g : ℕ → ℕ) → AreKeptApart f → (r : Residual) → AreKeptInOrder g r.options → ListsAlike f g r
 unfolding listing
-listing_renumbered f g apart r order =
-    ap (λ d. listing_to d (renumber f g r))
-    (ap₂ (λ a b. a + b) (length-map r.items (renumber_item f)) (length-map r.options (renumber_option f g)))
-    ∙ same_listing f g apart (size_of r) r in_order
+listing_renumbered f g apart r order = grind (arith, common_steps, same_listing, in_order)
   where
     in_order : (x y : Numbered) → IsIn r.options x → IsIn r.options y
         → nat_le (g x.number) (g y.number) ≡ nat_le x.number y.number
-    in_order x y h k =
-        let up = order x y (contains-in r.options x h) (contains-in r.options y k) in
-        let down = order y x (contains-in r.options y k) (contains-in r.options x h) in
-        let same : x.number ≡ y.number → g x.number ≡ g y.number = λ e. ap g e in
-        grind (arith, nat_tests, up, down, same)
+    in_order x y h k = grind (arith, common_steps, contains-in)

@@ -1,16 +1,18 @@
 -- What a path leaves is what the search has there.
-use Rattle.std.proofs.Common.{ℕ, ◌≡◌, ◌-◌, Bool, true, cond, eqb, ◌&&◌, List, [], ◌∷◌, ◌++◌, map, Option, Some, None}
-use Rattle.std.proofs.Common.{refl, sym, ap, ap₂, ◌∙◌, subst, eq-eqb}
-use Rattle.std.specs.Prelude.{All, slice_get, unwrap_or, option_map, option_and_then}
+use Rattle.std.proofs.Common.{arith}
+use Rattle.std.proofs.lemmas.Grind.{common_steps}
+use Rattle.std.proofs.Common.{ℕ, ◌≡◌, true, eqb, List, [], ◌∷◌, ◌++◌, Option, Some, None}
+use Rattle.std.proofs.Common.{refl, sym, ap, ◌∙◌, eq-eqb}
+use Rattle.std.specs.Prelude.{All, option_and_then}
 use Rattle.xc_search.specs.declared.choice.Choice.{Choice}
 use Rattle.xc_dance.specs.declared.dance.Move.{Move}
 use Rattle.xc_search.specs.declared.level.Level.{Level}
 use Rattle.xc_input.specs.Problem.{Puzzle, IsPrimary}
-use Rattle.xc_search.specs.Listing.{Wanted, Residual, Branch, whole, branch_item, listing}
-use Rattle.xc_search.specs.Cut.{branches_left, option_or_none, has_choice, left_by_one, left_by, below, IsPath}
+use Rattle.xc_search.specs.Listing.{Wanted, Residual, Branch, whole, branch_item}
+use Rattle.xc_search.specs.Cut.{branches_left, has_choice, left_by_one, left_by, below, IsPath}
 use Rattle.xc_search.specs.inner.Residual.{residual_of}
 use Rattle.xc_search.specs.inner.Commits.{oldest}
-use Rattle.std.proofs.lemmas.List.Elements.{All-nil, All-cons, All-append}
+use Rattle.std.proofs.lemmas.List.Elements.{All-nil}
 use Rattle.xc_search.specs.inner.Levels.{AreStacked, branches_at, chosen, choices_of, to_give, coming}
 use Rattle.xc_search.specs.inner.Paths.{IsLed, AreLed}
 use Rattle.xc_search.proofs.residual.BranchItemLeft.{no_moves_leave_all}
@@ -34,10 +36,7 @@ left_by_more [] c r = at_end (left_by_one c r)
 left_by_more (x ∷ path) c r = further path c (left_by_more path c) (left_by_one x r)
 
 pub has_its_choice : (b : Branch) → has_choice b.choice b ≡ true
-has_its_choice b =
-    let both : (x y : Bool) → x ≡ true → y ≡ true → x && y ≡ true = λ x y e f. ap₂ (λ x y. x && y) e f in
-    both _ _ (both _ _ (both _ _ (same b.choice.item) (same (option_or_none b.choice.option))) (same b.choice.k))
-    (same b.choice.n)
+has_its_choice b = grind (arith, common_steps, same)
   where
     same : (n : ℕ) → eqb n n ≡ true
     same n = eq-eqb n n refl
@@ -52,23 +51,13 @@ branches_same p t = by_case (branch_item (residual_of p t)) refl
 
 led_by_one : (p : Puzzle) (t : List Move) (l : Level) → IsLed p t l
     → left_by_one (chosen p l) (residual_of p (oldest l.mark t)) ≡ Some (residual_of p t)
-led_by_one p t l a =
-    let b = a.branch in
-    ap (λ bs. option_and_then (λ b. cond (has_choice (chosen p l) b) (Some b.next) None) (slice_get bs (l.begun - 1)))
-    (branches_same p (oldest l.mark t))
-    ∙ ap (option_and_then (λ b. cond (has_choice (chosen p l) b) (Some b.next) None)) a.at
-    ∙ ap (λ c. cond (has_choice c b) (Some b.next) None) a.choice
-    ∙ ap (λ x. cond x (Some b.next) None) (has_its_choice b)
-    ∙ ap Some (sym a.next)
+led_by_one p t l a = grind (arith, common_steps, branches_same, has_its_choice)
 
 pub led_left : (p : Puzzle) (t : List Move) (ls : List Level) → AreLed p [] t ls
     → left_by (choices_of p ls) (whole p) ≡ Some (residual_of p t)
 led_left p t [] a = ap Some (sym (no_moves_leave_all p)) ∙ ap (λ t. Some (residual_of p t)) (sym a)
 led_left p t (l ∷ ls) a =
-    ap (λ path. left_by path (whole p)) (choices_more p l ls)
-    ∙ left_by_more (choices_of p ls) (chosen p l) (whole p)
-    ∙ ap (option_and_then (left_by_one (chosen p l))) (led_left p (oldest l.mark t) ls a.1)
-    ∙ led_by_one p t l a.0
+    grind (arith, common_steps, led_left p (oldest l.mark t) ls a.1, choices_more, left_by_more, led_by_one)
 
 pub led_path : (p : Puzzle) (t : List Move) (ls : List Level) → AreLed p [] t ls → IsPath p (choices_of p ls)
 led_path p t ls a = (residual_of p t, led_left p t ls a)
@@ -76,16 +65,10 @@ led_path p t ls a = (residual_of p t, led_left p t ls a)
 -- what comes is what is below the path, and then what the levels have to give
 pub comes_below : (p : Puzzle) (t : List Move) (ls : List Level) → AreLed p [] t ls
     → coming p t ls true ≡ below p (choices_of p ls) ++ to_give p t ls
-comes_below p t ls a =
-    sym (ap (λ o. unwrap_or (option_map (λ r. map (λ m. choices_of p ls ++ m) (listing r)) o) [] ++ to_give p t ls)
-    (led_left p t ls a))
+comes_below p t ls a = grind (arith, common_steps, led_left)
 
 -- the items of the choices are primary
 pub primary_choices : (p : Puzzle) (t : List Move) (ls : List Level) → AreStacked p t ls
     → All (λ (c : Choice). IsPrimary p c.item) (choices_of p ls)
 primary_choices p t [] a = All-nil (λ (c : Choice). IsPrimary p c.item)
-primary_choices p t (l ∷ ls) a =
-    let is : Choice → Type 0 = λ c. IsPrimary p c.item in
-    subst (All is) (sym (choices_more p l ls))
-    (All-append is (choices_of p ls) (chosen p l ∷ []) (primary_choices p (oldest l.mark t) ls a.2)
-    (All-cons is (chosen p l) [] a.0.node.item (All-nil is)))
+primary_choices p t (l ∷ ls) a = grind (arith, common_steps, primary_choices p (oldest l.mark t) ls a.2, choices_more)

@@ -1,9 +1,9 @@
 -- The way down a path.
-use Rattle.std.proofs.Common.{ℕ, ◌≡◌, ◌+◌, ◌-◌, ◌<◌, true, cond, List, [], ◌∷◌, ◌++◌, length, take, drop, get_or, map}
+use Rattle.std.proofs.Common.{ℕ, ◌≡◌, ◌+◌, ◌-◌, ◌<◌, true, List, [], ◌∷◌, ◌++◌, length, take, drop, get_or, map}
 use Rattle.std.proofs.Common.{Option, Some, None, refl, sym, ap, ap₂, ◌∙◌, arith, subst, append-nil}
-use Rattle.std.specs.Prelude.{slice_get, option_and_then}
+use Rattle.std.specs.Prelude.{slice_get}
 use Rattle.std.proofs.lemmas.Grind.{common_steps}
-use Rattle.std.proofs.lemmas.List.{map-append, map-id}
+use Rattle.std.proofs.lemmas.List.{map-id}
 use Rattle.xc_dance.specs.declared.dance.Move.{Move}
 use Rattle.xc_search.specs.declared.choice.Choice.{Choice}
 use Rattle.xc_search.specs.declared.level.Level.{Level}
@@ -12,11 +12,11 @@ use Rattle.xc_input.specs.Problem.{Puzzle, IsValid, uses_of}
 use Rattle.xc_dance.specs.Commits.{others, after_spend}
 use Rattle.xc_search.specs.Listing.{whole, branch_item, branch_count, listing}
 use Rattle.xc_search.specs.Residuals.{wanted_at}
-use Rattle.xc_search.specs.Cut.{has_choice, left_by_one, below, IsPathBy}
+use Rattle.xc_search.specs.Cut.{left_by_one, below, IsPathBy}
 use Rattle.xc_search.specs.inner.Commits.{oldest}
 use Rattle.xc_search.specs.inner.Residual.{residual_of}
 use Rattle.xc_search.specs.inner.Sizes.{size_of}
-use Rattle.xc_search.specs.inner.Levels.{IsLevel, IsLevelAt, IsNode, IsSearchable, IsShallow, IsStanding, IsEntered}
+use Rattle.xc_search.specs.inner.Levels.{IsLevel, IsNode, IsSearchable, IsShallow, IsStanding, IsEntered}
 use Rattle.xc_search.specs.inner.Levels.{MayBegin, first_level, begun_level, after_branch, taken, branches_at, chosen}
 use Rattle.xc_search.specs.inner.Levels.{coming, behind}
 use Rattle.xc_search.specs.inner.Descent.{LeadsTo, Leads, IsDown}
@@ -35,25 +35,7 @@ ext_after_branch p i (Some o) t = ext_uses p (others i (uses_of p o)) t
 -- a level stands with its own moves where it stands below more
 before_branch : (p : Puzzle) (t s : List Move) (l : Level) → IsLevel p t l → Extends t s → l.base ≡ length s →
     IsLevel p s l × (oldest l.mark s ≡ oldest l.mark t)
-before_branch p t s l is_level ext own =
-    let whole : oldest l.base t ≡ s = ap (λ n. oldest n t) own ∙ ext_whole t s ext in
-    let under : oldest l.mark s ≡ oldest l.mark t = ap (oldest l.mark) (sym whole)
-    ∙ oldest-oldest l.mark l.base t is_level.within.0 is_level.within.1 in (
-      subst (λ u. IsLevelAt p u s l) (sym under) (record {
-        within = (is_level.within.0, omega (arith, own));
-        node = is_level.node;
-        branch = is_level.branch;
-        count = is_level.count;
-        begun = is_level.begun;
-        walking = is_level.walking;
-        tweaks = is_level.tweaks;
-        option = is_level.option;
-        place = is_level.place;
-        base = ap (oldest l.base) (sym whole) ∙ oldest-oldest l.base l.base t (omega arith) is_level.within.1
-            ∙ is_level.base;
-      }),
-      under,
-    )
+before_branch p t s l is_level ext own = grind (arith, common_steps, ext_whole, oldest-oldest)
 
 -- before the next branch
 pub leads_on : (p : Puzzle) (u s t : List Move) (l k : Level) (b : Begun) → Leads p u s l → k ≡ begun_level b l →
@@ -82,19 +64,7 @@ leads_on p u s t l k b a ek own entered =
 pub leads_first : (p : Puzzle) (u t : List Move) (l : Level) (i n : ℕ) → IsNode p u i → branch_item
     (residual_of p u) ≡ Some (wanted_at p u i) → n ≡ branch_count (residual_of p u) (wanted_at p u i) →
     t ≡ after_spend p i u → l ≡ first_level p u i n → Leads p u t l
-leads_first p u t l i n node item count et el =
-    let s = after_spend p i u in
-    let f = first_level p u i n in
-    let under : oldest f.mark s ≡ u = ext_whole s u (ext_after_spend p i u) in
-    subst (λ t. Leads p u t l) (sym et) (subst (Leads p u s) (sym el) (record {
-      level = subst (λ v. IsLevelAt p v s f) (sym under)
-          (first_stands p u i n node.searchable
-          (record { branch = item; count = count; item = node.item; is_open = node.is_open }));
-      own = refl;
-      under = under;
-      can = λ h. absurd (omega (arith, h));
-      next = λ h. absurd (omega (arith, h));
-    }))
+leads_first p u t l i n node item count et el = grind (arith, common_steps, ext_whole, ext_after_spend, first_stands)
 
 -- what may be begun
 pub leads_may : (p : Puzzle) (u s : List Move) (l : Level) → Leads p u s l → l.begun < l.count → MayBegin p s l
@@ -103,24 +73,13 @@ leads_may p u s l a more = record { level = a.level; whole = a.own; more = more 
 -- the branch's choice leads from what was left to what its moves leave
 pub leads_left : (p : Puzzle) (u t : List Move) (l : Level) → LeadsTo p u t l → left_by_one (chosen p l)
     (residual_of p u) ≡ Some (residual_of p t)
-leads_left p u t l a =
-    let b = a.branch in
-    ap (λ bs. option_and_then (λ b. cond (has_choice (chosen p l) b) (Some b.next) None)
-    (slice_get bs (l.begun - 1))) (branches_same p u)
-    ∙ ap (option_and_then (λ b. cond (has_choice (chosen p l) b) (Some b.next) None)) a.at
-    ∙ ap (λ c. cond (has_choice c b) (Some b.next) None) a.choice
-    ∙ ap (λ x. cond x (Some b.next) None) (has_its_choice b)
-    ∙ ap Some (sym a.next)
+leads_left p u t l a = grind (arith, common_steps, branches_same, has_its_choice)
 
 -- a path of one choice more
 pub down_more : (p : Puzzle) (numbers : List ℕ) (path : List Choice) (t s : List Move) (c : Choice) →
     IsDown p numbers path t → IsSearchable p s →
     left_by_one c (residual_of p t) ≡ Some (residual_of p s) → IsDown p (numbers ++ c.k ∷ []) (path ++ c ∷ []) s
-down_more p numbers path t s c d searchable left = record {
-  left = left_by_more path c (whole p) ∙ ap (option_and_then (left_by_one c)) d.left ∙ left;
-  told = map-append (λ (c : Choice). c.k) path (c ∷ []) ∙ ap (λ ks. ks ++ c.k ∷ []) d.told;
-  searchable = searchable;
-}
+down_more p numbers path t s c d searchable left = grind (arith, common_steps, left_by_more)
 
 pub down_first : (p : Puzzle) (t : List Move) → IsValid p → t ≡ [] → IsDown p [] [] t
 down_first p t v e = record {
@@ -134,9 +93,7 @@ pub down_none : (p : Puzzle) (numbers all : List ℕ) (path other : List Choice)
     (ks : List ℕ) → IsDown p numbers path t →
     ((c : Choice) → c.k ≡ k → left_by_one c (residual_of p t) ≡ None) → all ≡ numbers ++ k ∷ ks →
     IsPathBy p all other → ⊥
-down_none p numbers all path other t k ks d none e is =
-    no_further path other (whole p) (residual_of p t) is.0.0 k ks d.left none
-    (is.1 ∙ e ∙ ap (λ ns. ns ++ k ∷ ks) (sym d.told)) is.0.1
+down_none p numbers all path other t k ks d none e is = grind (arith, common_steps, no_further)
 
 -- a search stands there
 pub down_standing : (p : Puzzle) (numbers : List ℕ) (path : List Choice) (t : List Move) (ls : List Level) →

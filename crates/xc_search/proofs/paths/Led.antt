@@ -1,6 +1,6 @@
 -- The levels of a search lead to where it stands.
-use Rattle.std.proofs.Common.{ℕ, ◌≡◌, ◌-◌, List, [], ◌∷◌, drop, sym, ap, ap₂, ◌∙◌, arith, subst}
-use Rattle.std.specs.Prelude.{slice_get}
+use Rattle.std.proofs.lemmas.Grind.{common_steps}
+use Rattle.std.proofs.Common.{ℕ, ◌≡◌, List, [], ◌∷◌, drop, sym, ap, ap₂, ◌∙◌, arith, subst}
 use Rattle.xc_dance.specs.declared.dance.Move.{Move}
 use Rattle.xc_search.specs.declared.level.Level.{Level}
 use Rattle.xc_search.specs.declared.level.Begun.{Begun}
@@ -8,7 +8,7 @@ use Rattle.xc_input.specs.Problem.{Puzzle}
 use Rattle.xc_dance.specs.Dancing.{Dancing}
 use Rattle.xc_dance.specs.Commits.{after_spend, option_at}
 use Rattle.xc_search.specs.inner.Commits.{oldest}
-use Rattle.xc_search.specs.inner.Levels.{Levels, AreStacked, IsBegun, IsEntered, branches_at, first_level, begun_level}
+use Rattle.xc_search.specs.inner.Levels.{Levels, AreStacked, IsBegun, IsEntered, first_level, begun_level}
 use Rattle.xc_search.specs.inner.Levels.{newest_begun, after_branch}
 use Rattle.xc_search.specs.inner.Paths.{AreLed, KeepsPath, ground}
 use Rattle.xc_search.proofs.stacked.NextLevel.{ext_after_spend, ext_whole, oldest-oldest}
@@ -21,17 +21,7 @@ led_ground p u t (l ∷ ls) a = led_ground p u (oldest l.mark t) ls a.1
 -- a branch was begun
 pub led_begun : (p : Puzzle) (u t s : List Move) (l k : Level) (ls : List Level) → IsBegun p t l s k
     → AreLed p u (oldest l.mark t) ls → AreLed p u s (k ∷ ls)
-led_begun p u t s l k ls b a =
-    let under : oldest k.mark s ≡ oldest l.mark t = ap (λ n. oldest n s) b.mark ∙ b.below in
-    let place : k.begun - 1 ≡ l.begun = omega (arith, b.begun) in (
-      record {
-        branch = b.branch;
-        at = ap₂ (λ v n. slice_get (branches_at p v) n) under place ∙ b.at;
-        choice = b.choice;
-        next = b.next;
-      },
-      subst (λ v. AreLed p u v ls) (sym under) a,
-    )
+led_begun p u t s l k ls b a = grind (arith, common_steps)
 
 keeps_at : (d e : Dancing) (ls ks : Levels) → d.puzzle ≡ e.puzzle
     → ((u : List Move) → AreLed d.puzzle u d.trail ls.levels → AreLed d.puzzle u e.trail ks.levels)
@@ -65,12 +55,7 @@ keeps_first d e f h ls ks i n l b ed el ef entered eh ek =
 pub keeps_over : (d e f : Dancing) (ls : Levels) (i n : ℕ) (l : Level) →
     e ≡ record d { trail = after_spend d.puzzle i d.trail } → l ≡ first_level d.puzzle d.trail i n
     → f ≡ record e { trail = oldest l.mark e.trail } → KeepsPath d ls f ls
-keeps_over d e f ls i n l ed el ef =
-    let same : f.puzzle ≡ d.puzzle = ap (λ (s : Dancing). s.puzzle) ef ∙ ap (λ (s : Dancing). s.puzzle) ed in
-    let under : f.trail ≡ d.trail =
-    ap (λ (s : Dancing). s.trail) ef ∙ ap₂ (λ (l : Level) (e : Dancing). oldest l.mark e.trail) el ed
-    ∙ ext_whole (after_spend d.puzzle i d.trail) d.trail (ext_after_spend d.puzzle i d.trail) in
-    keeps_at d f ls ls (sym same) (λ u a. subst (λ t. AreLed d.puzzle u t ls.levels) (sym under) a)
+keeps_over d e f ls i n l ed el ef = grind (arith, common_steps, ext_whole, ext_after_spend, keeps_at)
 
 -- the next branch of the newest level
 pub keeps_next : (d e f h : Dancing) (l : Level) (b : Begun) (vs ks : Levels) → AreStacked d.puzzle d.trail vs.levels
@@ -105,8 +90,4 @@ keeps_next d e f h l b vs ks stacked top ed ef entered eh ek =
 -- the newest level ended
 pub keeps_back : (d e : Dancing) (l : Level) (vs ks : Levels) → vs.levels ≡ l ∷ drop 1 vs.levels →
     e ≡ record d { trail = oldest l.mark d.trail } → ks ≡ record vs { levels = drop 1 vs.levels } → KeepsPath d vs e ks
-keeps_back d e l vs ks top ed ek =
-    keeps_at d e vs ks (sym (ap (λ (s : Dancing). s.puzzle) ed))
-    (λ u a. subst (λ js. AreLed d.puzzle u e.trail js) (sym (ap (λ (s : Levels). s.levels) ek))
-    (subst (λ t. AreLed d.puzzle u t (drop 1 vs.levels)) (sym (ap (λ (s : Dancing). s.trail) ed))
-    (subst (AreLed d.puzzle u d.trail) top a).1))
+keeps_back d e l vs ks top ed ek = grind (arith, common_steps, keeps_at)

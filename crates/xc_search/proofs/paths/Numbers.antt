@@ -1,16 +1,17 @@
 -- A path is told by the numbers of its branches, and its members are a run of the listing.
-use Rattle.std.proofs.Common.{ℕ, zero, suc, ◌≡◌, ◌+◌, ◌-◌, ◌<◌, ◌≤◌, Bool, true, false, cond, ◌&&◌, List, [], ◌∷◌, ◌++◌}
-use Rattle.std.proofs.Common.{length, map, take, drop, Option, Some, None, refl, sym, ap, ap₂, ◌∙◌, arith, subst}
-use Rattle.std.proofs.Common.{eqb-true, append-nil, append_assoc, ◌⊎◌, inl, inr}
+use Rattle.std.proofs.lemmas.Grind.{common_steps}
+use Rattle.std.proofs.Common.{ℕ, zero, suc, ◌≡◌, ◌-◌, ◌<◌, ◌≤◌, Bool, true, false, cond, ◌&&◌, List, [], ◌∷◌, ◌++◌}
+use Rattle.std.proofs.Common.{length, map, take, drop, Option, Some, None, refl, sym, ap, ap₂, ◌∙◌, arith}
+use Rattle.std.proofs.Common.{eqb-true, append-nil, ◌⊎◌, inl, inr}
 use Rattle.std.specs.Prelude.{All, slice_get, flat_map, unwrap_or, option_map, option_and_then}
-use Rattle.std.proofs.lemmas.List.{map-append, map-id}
+use Rattle.std.proofs.lemmas.List.{map-id}
 use Rattle.std.proofs.lemmas.Option.{slice_get_within}
 use Rattle.std.specs.List.{AllByRecursion}
 use Rattle.std.proofs.lemmas.List.Elements.{recursion_from_All}
 use Rattle.xc_search.specs.declared.choice.Choice.{Choice}
 use Rattle.xc_input.specs.Problem.{Puzzle, Numbered, holding}
 use Rattle.xc_search.specs.Listing.{Wanted, Residual, Branch, whole, branch_item, branch_count, branches_of}
-use Rattle.xc_search.specs.Listing.{take_branch, none_branch, level, listing}
+use Rattle.xc_search.specs.Listing.{none_branch, level, listing}
 use Rattle.xc_search.specs.Cut.{branches_left, option_or_none, has_choice, left_by_one, left_by, numbers_on, IsPath}
 use Rattle.xc_search.specs.Cut.{IsCut, below}
 use Rattle.xc_search.specs.Cover.{members}
@@ -34,14 +35,7 @@ same_option (Some a) (Some b) e = ap Some (cc e)
 
 -- the choice of a branch is its own
 pub its_choice : (c : Choice) (b : Branch) → has_choice c b ≡ true → b.choice ≡ c
-its_choice c b e =
-    let with_n = both _ _ e in
-    let with_k = both _ _ with_n.0 in
-    let with_option = both _ _ with_k.0 in
-    let choice : ℕ → Option ℕ → ℕ → ℕ → Choice = λ i o k n. record { item = i; option = o; k = k; n = n } in
-    ap₂ (λ i o. choice i o b.choice.k b.choice.n) (eqb-true _ _ with_option.0)
-    (same_option _ _ (eqb-true _ _ with_option.1))
-    ∙ ap₂ (λ k n. choice c.item c.option k n) (eqb-true _ _ with_k.1) (eqb-true _ _ with_n.1)
+its_choice c b e = grind (arith, common_steps, both, eqb-true, same_option)
 
 -- a choice of a path is that of a branch
 record Stepped (c : Choice) (r s : Residual) : Type 0 where
@@ -71,15 +65,7 @@ then_left f (Some r) s e = (r, refl, e)
 -- branches of the same number are the same
 same_step : (c d : Choice) (r x y : Residual) → c.k ≡ d.k → left_by_one c r ≡ Some x → left_by_one d r ≡ Some y →
     (c ≡ d) × (x ≡ y)
-same_step c d r x y k e f =
-    let a = stepped c r x e in
-    let b = stepped d r y f in
-    let one : Some a.branch ≡ Some b.branch = sym a.at ∙ ap (λ k. slice_get (branches_left r) (k - 1)) k ∙ b.at in
-    let same : a.branch ≡ b.branch = cc one in (
-      sym a.choice ∙ ap (λ (b : Branch). b.choice) same ∙ b.choice,
-      sym a.next ∙ ap (λ (b : Branch). b.next) same
-          ∙ b.next,
-    )
+same_step c d r x y k e f = grind (arith, common_steps, stepped)
 
 first_same : (a b : ℕ) (xs ys : List ℕ) → a ∷ xs ≡ b ∷ ys → (a ≡ b) × (xs ≡ ys)
 first_same a b xs ys e = (cc e, cc e)
@@ -90,12 +76,7 @@ paths_same : (a b : List Choice) (r x y : Residual) → left_by a r ≡ Some x �
 paths_same [] [] r x y e f n = refl
 paths_same [] (d ∷ b) r x y e f n = absurd (cc n)
 paths_same (c ∷ a) [] r x y e f n = absurd (cc n)
-paths_same (c ∷ a) (d ∷ b) r x y e f n =
-    let first = first_same c.k d.k (numbers_on a) (numbers_on b) n in
-    let s = then_left (left_by a) (left_by_one c r) x e in
-    let t = then_left (left_by b) (left_by_one d r) y f in
-    let one = same_step c d r s.0 t.0 first.0 s.1 t.1 in
-    ap₂ (λ c a. c ∷ a) one.0 (paths_same a b s.0 x y s.2 (subst (λ r. left_by b r ≡ Some y) (sym one.1) t.2) first.1)
+paths_same (c ∷ a) (d ∷ b) r x y e f n = grind (arith, common_steps, paths_same a b, first_same, then_left, same_step)
 
 pub numbers_tell : (p : Puzzle) (a b : List Choice) → IsPath p a → IsPath p b → numbers_on a ≡ numbers_on b → a ≡ b
 numbers_tell p a b is has n = paths_same a b (whole p) is.0 has.0 is.1 has.1 n
@@ -105,18 +86,10 @@ pub no_further : (done path : List Choice) (r s x : Residual) (k : ℕ) (ks : Li
     ((c : Choice) → c.k ≡ k → left_by_one c s ≡ None) →
     numbers_on path ≡ numbers_on done ++ k ∷ ks → left_by path r ≡ Some x → ⊥
 no_further [] [] r s x k ks e none n f = absurd (cc n)
-no_further [] (c ∷ path) r s x k ks e none n f =
-    let here : r ≡ s = cc e in
-    let first = first_same c.k k (numbers_on path) ks n in
-    let nowhere : left_by_one c r ≡ None = ap (left_by_one c) here ∙ none c first.0 in
-    absurd (cc (sym (ap (option_and_then (left_by path)) nowhere) ∙ f))
+no_further [] (c ∷ path) r s x k ks e none n f = grind (arith, common_steps, first_same)
 no_further (d ∷ done) [] r s x k ks e none n f = absurd (cc n)
 no_further (d ∷ done) (c ∷ path) r s x k ks e none n f =
-    let first = first_same c.k d.k (numbers_on path) (numbers_on done ++ k ∷ ks) n in
-    let a = then_left (left_by done) (left_by_one d r) s e in
-    let b = then_left (left_by path) (left_by_one c r) x f in
-    let one = same_step c d r b.0 a.0 first.0 b.1 a.1 in
-    no_further done path a.0 s x k ks a.2 none first.1 (subst (λ r. left_by path r ≡ Some x) one.1 b.2)
+    grind (arith, common_steps, no_further done path, first_same, then_left, same_step)
 
 -- the number of a branch is its place
 number_at : (r : Residual) (w : Wanted) (j : ℕ) (b : Branch) → j < branch_count r w → slice_get
@@ -127,23 +100,16 @@ number_at r w j b h e = by_option (slice_get (holding w.item r.options) j) refl
     from a f k = let same : b ≡ a = cc (sym e ∙ f) in ap (λ (b : Branch). b.choice.k) same ∙ k
 
     by_option : (o : Option Numbered) → slice_get (holding w.item r.options) j ≡ o → b.choice.k ≡ suc j
-    by_option (Some x) f = from (take_branch r w.item (branch_count r w) (1 + j, x)) (branch_takes r w j x h f)
-        (omega arith)
+    by_option (Some x) f = grind (arith, common_steps, branch_takes r w j x h f)
     by_option None f = let last = branch_none r w j h f in from (none_branch r w.item (branch_count r w)) last.0 last.2
 
 -- there is no branch where there is no item
 pub no_item : (c : Choice) (r : Residual) → branch_item r ≡ None → left_by_one c r ≡ None
-no_item c r e = ap (λ o. option_and_then (λ b. cond (has_choice c b) (Some b.next) None)
-    (slice_get (unwrap_or (option_map (branches_of r) o) []) (c.k - 1))) e
+no_item c r e = grind (arith, common_steps)
 
 few_branches : (r : Residual) (w : Wanted) (j : ℕ) (b : Branch) → slice_get (branches_of r w) j ≡ Some b →
     j < branch_count r w
-few_branches r w j b e = omega (
-  arith,
-  slice_get_within (branches_of r w) j b e,
-  past (branch_count r w)
-      (branches_of r w) (branches_end r w),
-)
+few_branches r w j b e = grind (arith, common_steps, slice_get_within (branches_of r w) j b e, branches_end r w)
   where
     past : {X : Type 0} (n : ℕ) (xs : List X) → drop n xs ≡ [] → length xs ≤ n
     past n [] e = omega arith
@@ -153,16 +119,11 @@ few_branches r w j b e = omega (
 -- and none whose number is 0 or greater than theirs
 pub no_branch : (c : Choice) (r : Residual) (w : Wanted) (n : ℕ) → branch_item r ≡ Some w → n ≡ branch_count r w →
     (c.k ≡ 0) ⊎ (n < c.k) → left_by_one c r ≡ None
-no_branch c r w n e count out =
-    ap (λ o. option_and_then (λ b. cond (has_choice c b) (Some b.next) None)
-    (slice_get (unwrap_or (option_map (branches_of r) o) []) (c.k - 1))) e
-    ∙ by_branch (slice_get (branches_of r w) (c.k - 1)) refl
+no_branch c r w n e count out = grind (arith, common_steps, by_branch (slice_get (branches_of r w) (c.k - 1)))
   where
     not_here : (b : Branch) → slice_get (branches_of r w) (c.k - 1) ≡ Some b → has_choice c b ≡ true → (c.k ≡ 0) ⊎
         (n < c.k) → ⊥
-    not_here b at t (inl none) =
-        let within = few_branches r w (c.k - 1) b at in
-        omega (arith, none, number_at r w (c.k - 1) b within at, ap (λ (c : Choice). c.k) (its_choice c b t))
+    not_here b at t (inl none) = grind (arith, common_steps, few_branches, number_at, its_choice)
     not_here b at t (inr more) = omega (arith, more, count, few_branches r w (c.k - 1) b at)
 
     by_test : (b : Branch) (t : Bool) → slice_get (branches_of r w) (c.k - 1) ≡ Some b → has_choice c b ≡ t →
@@ -182,8 +143,7 @@ item_of r j b e = by_item (branch_item r) refl
   where
     by_item : (o : Option Wanted) → branch_item r ≡ o → (w : Wanted) × (branch_item r ≡ Some w) ×
         (slice_get (branches_of r w) j ≡ Some b)
-    by_item None f = let none : slice_get (branches_left r) j ≡ None = ap
-        (λ o. slice_get (unwrap_or (option_map (branches_of r) o) []) j) f in absurd (cc (sym none ∙ e))
+    by_item None f = grind (arith, common_steps)
     by_item (Some w) f = (w, f, sym (ap (λ o. slice_get (unwrap_or (option_map (branches_of r) o) []) j) f) ∙ e)
 
 -- a path leaves no more than there was
@@ -209,9 +169,7 @@ split_at : (bs : List Branch) (k : ℕ) (b : Branch) → slice_get bs k ≡ Some
     flat_map of_branch bs ≡ flat_map of_branch (take k bs) ++ (of_branch b ++ flat_map of_branch (drop (suc k) bs))
 split_at [] k b e = absurd (cc e)
 split_at (a ∷ bs) zero b e = let same : a ≡ b = cc e in ap (λ a. of_branch a ++ flat_map of_branch bs) same
-split_at (a ∷ bs) (suc k) b e =
-    ap (λ ms. of_branch a ++ ms) (split_at bs k b e) ∙ sym
-    (append_assoc (of_branch a) (flat_map of_branch (take k bs)) (of_branch b ++ flat_map of_branch (drop (suc k) bs)))
+split_at (a ∷ bs) (suc k) b e = grind (arith, common_steps, split_at bs k b e)
 
 -- the members below a path stand one behind another in the listing
 pub record IsRun (before : List Choice) (r s : Residual) : Type 0 where
@@ -222,14 +180,7 @@ pub record IsRun (before : List Choice) (r s : Residual) : Type 0 where
 run_on : (c : Choice) (path : List Choice) (ms f g x y : List (List Choice)) →
     x ++ (map (λ m. c ∷ m) (f ++ (map (λ m. path ++ m) ms ++ g)) ++ y) ≡ (x ++ map (λ m. c ∷ m) f) ++
     (map (λ m. (c ∷ path) ++ m) ms ++ (map (λ m. c ∷ m) g ++ y))
-run_on c path ms f g x y =
-    let h : List Choice → List Choice = λ m. c ∷ m in
-    let ps = map (λ m. path ++ m) ms in
-    ap (λ l. x ++ (l ++ y)) (map-append h f (ps ++ g) ∙ ap (λ l. map h f ++ l) (map-append h ps g))
-    ∙ ap (λ l. x ++ ((map h f ++ (l ++ map h g)) ++ y)) (map-map (λ m. path ++ m) h ms)
-    ∙ ap (λ l. x ++ l) (append_assoc (map h f) (map (λ m. (c ∷ path) ++ m) ms ++ map h g) y)
-    ∙ sym (append_assoc x (map h f) ((map (λ m. (c ∷ path) ++ m) ms ++ map h g) ++ y))
-    ∙ ap (λ l. (x ++ map h f) ++ l) (append_assoc (map (λ m. (c ∷ path) ++ m) ms) (map h g) y)
+run_on c path ms f g x y = grind (arith, common_steps, map-map)
 
 pub runs : (path : List Choice) (r s : Residual) → left_by path r ≡ Some s → IsRun path r s
 runs [] r s e =
@@ -265,9 +216,7 @@ below_left p path s e = ap (λ o. unwrap_or (option_map (λ r. map (λ m. path +
 -- and so are the members below a path
 pub below_run : (p : Puzzle) (path : List Choice) → IsPath p path → (front back : List (List Choice)) ×
     (members p ≡ front ++ (below p path ++ back))
-below_run p path is =
-    let a = runs path (whole p) is.0 is.1 in
-    (a.front, a.back, a.all ∙ ap (λ ms. a.front ++ (ms ++ a.back)) (sym (below_left p path is.0 is.1)))
+below_run p path is = grind (arith, common_steps, runs path (whole p) is.0 is.1, below_left p path is.0 is.1)
 
 plans_same : (p : Puzzle) (plan paths : List (List Choice)) → AllByRecursion (IsPath p) plan → AllByRecursion
     (IsPath p) paths → map numbers_on paths ≡ map numbers_on plan → plan ≡ paths
@@ -275,9 +224,7 @@ plans_same p [] [] is has e = refl
 plans_same p [] (b ∷ bs) is has e = absurd (cc e)
 plans_same p (a ∷ plan) [] is has e = absurd (cc e)
 plans_same p (a ∷ plan) (b ∷ bs) is has e =
-    let first : numbers_on b ≡ numbers_on a = cc e in
-    let rest : map numbers_on bs ≡ map numbers_on plan = cc e in
-    ap₂ (λ a plan. a ∷ plan) (numbers_tell p a b is.0 has.0 (sym first)) (plans_same p plan bs is.1 has.1 rest)
+    grind (arith, common_steps, plans_same p plan bs is.1 has.1, numbers_tell p a b is.0 has.0)
 
 -- the parts of a cut, by their numbers
 pub cut_told : (p : Puzzle) (plan paths : List (List Choice)) → IsCut p plan → All (IsPath p) paths →

@@ -1,4 +1,5 @@
 -- What is known of a node that was tried.
+use Rattle.std.proofs.lemmas.Grind.{common_steps}
 use Rattle.std.proofs.Common.{◌≡◌, ◌<◌, Bool, true, false, List, [], ◌++◌, map, Option, Some, None, refl, sym, ap, ◌∙◌}
 use Rattle.std.proofs.Common.{arith, subst, append-nil}
 use Rattle.std.proofs.lemmas.List.{map-id}
@@ -31,17 +32,7 @@ stands_behind p t ls a = record { stacked = a; searchable = λ e. cc; shallow = 
 pub goes_behind : (d e : Dancing) (ls : Levels) → e ≡ d → IsStanding d.puzzle d.trail ls.levels true
     → listing (residual_of d.puzzle d.trail) ≡ [] →
     GoesOn d ls true e ls false × (visits e.puzzle e.trail ls.levels < ahead d.puzzle d.trail ls.levels true)
-goes_behind d e ls same s none =
-    subst (λ (e : Dancing). GoesOn d ls true e ls false
-    × (visits e.puzzle e.trail ls.levels < ahead d.puzzle d.trail ls.levels true)) (sym same) (
-      record {
-        still = (refl, refl);
-        standing = stands_behind d.puzzle d.trail ls.levels s.stacked;
-        members =
-            ap (λ ms. map (λ m. choices_of d.puzzle ls.levels ++ m) ms ++ to_give d.puzzle d.trail ls.levels) none;
-      },
-      omega (arith, some_work (residual_of d.puzzle d.trail)),
-    )
+goes_behind d e ls same s none = grind (arith, common_steps, stands_behind, some_work)
 
 -- it finds nothing where nothing is left
 pub nothing_listed : (p : Puzzle) (t : List Move) (ls : List Level) → ls ≡ [] → coming p t ls true ≡ []
@@ -64,10 +55,4 @@ pub part_below : (d e : Dancing) (ls ks js : Levels) (down : Bool) (o : Uncut) �
     js ≡ record ks { shown = choices_of e.puzzle ks.levels } →
     record { puzzle = d.puzzle; to_come = coming d.puzzle d.trail ls.levels down; path = ls.shown; room = d.room } ≡ o →
     o.to_come ≡ below o.puzzle js.shown ++ to_give e.puzzle e.trail js.levels
-part_below d e ls ks js down o a led shows is =
-    let same : e.puzzle ≡ o.puzzle = ap (λ (s : Dancing). s.puzzle) a.still.0 ∙ ap (λ (u : Uncut). u.puzzle) is in
-    sym (ap (λ (u : Uncut). u.to_come) is)
-    ∙ a.members
-    ∙ comes_below e.puzzle e.trail ks.levels led
-    ∙ ap (λ (s : Levels). below e.puzzle s.shown ++ to_give e.puzzle e.trail s.levels) (sym shows)
-    ∙ ap (λ p. below p js.shown ++ to_give e.puzzle e.trail js.levels) same
+part_below d e ls ks js down o a led shows is = grind (arith, common_steps, comes_below)

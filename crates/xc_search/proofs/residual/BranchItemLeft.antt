@@ -1,7 +1,7 @@
 -- The branch item by the lists is that of what is left.
-use Rattle.std.proofs.Common.{ℕ, suc, ◌≡◌, ◌+◌, ◌-◌, true, false, cond, List, [], ◌∷◌, length, map, filter, Option}
+use Rattle.std.proofs.lemmas.Grind.{common_steps}
+use Rattle.std.proofs.Common.{ℕ, suc, ◌≡◌, ◌+◌, ◌-◌, true, List, [], ◌∷◌, length, map, filter, Option}
 use Rattle.std.proofs.Common.{Some, refl, sym, ap, ap₂, ◌∙◌, arith}
-use Rattle.xc_search.proofs.Spent.{count_of}
 use Rattle.xc_input.specs.declared.problem.Bounds.{Bounds}
 use Rattle.std.specs.Prelude.{nat_lt, option_map, slice_get, unwrap_or}
 use Rattle.std.specs.List.{AllByRecursion, best_of, range_with_len}
@@ -20,36 +20,19 @@ use Rattle.xc_input.proofs.lists.Filters.{map-same}
 best_same : (f g : Wanted → ℕ) (w : Wanted) (ws : List Wanted) → f w ≡ g w → AllByRecursion (λ v. f v ≡ g v) ws →
     best_of (λ x b. nat_lt (f x) (f b)) w ws ≡ best_of (λ x b. nat_lt (g x) (g b)) w ws
 best_same f g w [] e a = refl
-best_same f g w (v ∷ vs) e a =
-    rw (e, a.0) (elim (nat_lt (g v) (g w)) as
-    (λ c. best_of (λ x b. nat_lt (f x) (f b)) (cond c v w) vs ≡ best_of (λ x b. nat_lt (g x) (g b))
-    (cond c v w) vs) [
-      | true ↦ best_same f g v vs a.0 a.1
-      | false ↦ best_same f g w vs e a.1
-    ])
+best_same f g w (v ∷ vs) e a = grind (arith, common_steps, best_same f g v vs a.0 a.1, best_same f g w vs e a.1)
 
 each_open : (p : Puzzle) (t : List Move) → AllByRecursion (λ i. is_open i t ≡ true) (open_items p t)
-each_open p t =
-    recursion_from_All (λ i. is_open i t ≡ true) (open_items p t)
-    (filter_passes (λ i. is_open i t) (range_with_len 1 (primary_count p)))
+each_open p t = grind (arith, common_steps, recursion_from_All, filter_passes)
 
 counts_same : (p : Puzzle) (t : List Move) → AreLegal p t
     → AllByRecursion (λ w. branches_after p t w ≡ branch_count (residual_of p t) w) (wanted_after p t)
-counts_same p t legal =
-    each-map (λ w. branches_after p t w ≡ branch_count (residual_of p t) w) (wanted_at p t) (open_items p t)
-    (each_weaker _ _ (open_items p t)
-    (λ i o. ap (λ os. count_of (length os) (wanted_at p t i).low) (listed_open p t legal i o)) (each_open p t))
+counts_same p t legal = grind (arith, common_steps, each-map, each_weaker, listed_open, each_open)
 
 best_counts : (f g : Wanted → ℕ) (w : Wanted) (ws : List Wanted) → f w ≡ g w → AllByRecursion (λ v. f v ≡ g v) ws →
     f (best_of (λ x b. nat_lt (f x) (f b)) w ws) ≡ g (best_of (λ x b. nat_lt (f x) (f b)) w ws)
 best_counts f g w [] e a = e
-best_counts f g w (v ∷ vs) e a =
-    elim (nat_lt (f v) (f w)) as
-    (λ c. f (best_of (λ x b. nat_lt (f x) (f b)) (cond c v w) vs) ≡ g
-    (best_of (λ x b. nat_lt (f x) (f b)) (cond c v w) vs)) [
-      | true ↦ best_counts f g v vs a.0 a.1
-      | false ↦ best_counts f g w vs e a.1
-    ]
+best_counts f g w (v ∷ vs) e a = grind (arith, common_steps, best_counts f g v vs a.0 a.1, best_counts f g w vs e a.1)
 
 abbrev with_count : (Wanted → ℕ) → Wanted → ℕ × ℕ
 with_count f w = (w.item, f w)
@@ -57,10 +40,7 @@ with_count f w = (w.item, f w)
 least_with_count : (f g : Wanted → ℕ) (ws : List Wanted) → AllByRecursion (λ v. f v ≡ g v) ws →
     option_map (with_count f) (first_least f ws) ≡ option_map (with_count g) (first_least g ws)
 least_with_count f g [] a = refl
-least_with_count f g (w ∷ ws) a =
-    let best = best_of (λ x b. nat_lt (f x) (f b)) w ws in
-    ap (λ c. Some (best.item, c)) (best_counts f g w ws a.0 a.1)
-    ∙ ap (λ b. Some (with_count g b)) (best_same f g w ws a.0 a.1)
+least_with_count f g (w ∷ ws) a = grind (arith, common_steps, best_counts, best_same)
 
 -- the branch item of what is left, and its number of branches
 abbrev pub choice_of : Residual → Option (ℕ × ℕ)

@@ -1,6 +1,7 @@
 -- Taking an option: its branch item's use first, the others cyclically after it.
+use Rattle.std.proofs.lemmas.Grind.{common_steps}
 use Rattle.std.proofs.Common.{ℕ, suc, ◌≡◌, ◌+◌, ◌<◌, Bool, true, false, cond, not, ◌&&◌, ◌||◌, eqb, List, [], ◌∷◌, ◌++◌}
-use Rattle.std.proofs.Common.{length, filter, take, drop, Some, refl, sym, ap, ◌∙◌, arith, eq-eqb, ne_eqb}
+use Rattle.std.proofs.Common.{length, filter, take, drop, refl, sym, ap, ◌∙◌, arith, eq-eqb, ne_eqb}
 use Rattle.xc_search.proofs.Spent.{less_one}
 use Rattle.std.proofs.lemmas.List.Elements.{filter_agree}
 use Rattle.std.specs.Prelude.{nat_le, is_some}
@@ -46,10 +47,7 @@ placed i us h =
 held_append : (us vs : List Use) (j : ℕ)
     → is_some (colour_in (us ++ vs) j) ≡ (is_some (colour_in us j) || is_some (colour_in vs j))
 held_append [] vs j = refl
-held_append (u ∷ us) vs j =
-    elim (eqb u.item j) as (λ b. is_some (cond b (Some u.colour) (colour_in (us ++ vs) j)) ≡
-    (is_some (cond b (Some u.colour) (colour_in us j)) || is_some (colour_in vs j)))
-    [ true ↦ refl | false ↦ held_append us vs j ]
+held_append (u ∷ us) vs j = grind (arith, common_steps, held_append us vs j)
 
 held_turned : (us vs : List Use) (j : ℕ) → is_some (colour_in (us ++ vs) j) ≡ is_some (colour_in (vs ++ us) j)
 held_turned us vs j =
@@ -82,8 +80,7 @@ join [] vs a b c = b
 join (u ∷ us) vs a b c = (each-append (Apart u) us vs a.0 c.0, join us vs a.1 b c.1)
 
 apart_sym : (u v : Use) → Apart u v → Apart v u
-apart_sym u v e =
-    ne_eqb v.item u.item (λ i. let same : eqb u.item v.item ≡ true = eq-eqb u.item v.item (sym i) in cc (e, same))
+apart_sym u v e = grind (arith, common_steps, ne_eqb v.item u.item, eq-eqb u.item v.item)
 
 cross_empty : (vs : List Use) → AreCross vs []
 cross_empty [] = tt

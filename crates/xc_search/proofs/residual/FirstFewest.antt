@@ -1,5 +1,6 @@
 -- The branch item by a walk over the open items.
-use Rattle.std.proofs.Common.{ℕ, ◌≡◌, ◌-◌, Bool, false, cond, ltb, nat_lt, List, [], ◌∷◌, map, filter, Some, None, refl}
+use Rattle.std.proofs.lemmas.Grind.{common_steps}
+use Rattle.std.proofs.Common.{ℕ, ◌≡◌, ◌-◌, Bool, cond, ltb, nat_lt, List, [], ◌∷◌, map, filter, Some, None, refl}
 use Rattle.std.proofs.Common.{sym, ap, ◌∙◌, arith, le-ltb}
 use Rattle.std.specs.Prelude.{option_map}
 use Rattle.std.specs.List.{range_with_len, best_of}
@@ -70,9 +71,7 @@ choice_last p t i n e = ap (best_from p t (wanted_at p t i)) (next_above-none n 
 pub choice_settled : (p : Puzzle) (t : List Move) (i : ℕ) (is : List ℕ) → branches_after p t (wanted_at p t i) ≡ 0
     → best_from p t (wanted_at p t i) is ≡ wanted_at p t i
 choice_settled p t i [] e = refl
-choice_settled p t i (k ∷ is) e =
-    let not_fewer : fewer p t k i ≡ false = le-ltb _ _ (omega (arith, e)) in
-    ap (λ c. best_from p t (cond c (wanted_at p t k) (wanted_at p t i)) is) not_fewer ∙ choice_settled p t i is e
+choice_settled p t i (k ∷ is) e = grind (arith, common_steps, choice_settled p t i is e, le-ltb)
 
 -- no later item is better
 pub choice_done : (p : Puzzle) (t : List Move) (i n count : ℕ) →
@@ -81,13 +80,9 @@ pub choice_done : (p : Puzzle) (t : List Move) (i n count : ℕ) →
     count ≡ branches_after p t (wanted_at p t i)
     → best_from p t (wanted_at p t i) (filter (λ j. ltb n j) (open_items p t)) ≡ wanted_at p t i
     → Some (i, count) ≡ choice_after p t
-choice_done p t i n count best counted stays =
-    ap (λ c. Some (i, c)) counted
-    ∙ sym (ap (λ o. option_map (λ w. (w.item, branches_after p t w)) o) (best ∙ ap Some stays))
+choice_done p t i n count best counted stays = grind (arith, common_steps)
 
 -- where each is to be held once, an open item is to be held once more
 pub once_more : (p : Puzzle) (t : List Move) (i : ℕ) → IsOnce p × AreAllWanted (wanted_after p t) → IsOpenPrimary p t i
     → low_at p i - spends i t ≡ 1
-once_more p t i h o =
-    let bounds = h.0 i o.0 in
-    omega (arith, bounds.0, bounds.1, has_left p t i h.1 o.0 o.1)
+once_more p t i h o = grind (arith, common_steps, has_left)

@@ -1,10 +1,11 @@
 -- The uses of an option that is left are ready to be committed.
-use Rattle.std.proofs.Common.{ℕ, zero, suc, ◌≡◌, ◌-◌, ◌<◌, ◌≤◌, Bool, true, false, cond, not, ◌&&◌, eqb, leb, List, []}
+use Rattle.std.proofs.lemmas.Grind.{common_steps}
+use Rattle.std.proofs.Common.{ℕ, zero, suc, ◌≡◌, ◌-◌, ◌<◌, ◌≤◌, Bool, true, false, eqb, leb, List, []}
 use Rattle.std.proofs.Common.{◌∷◌, filter, find, Option, Some, None, refl, ap, ◌∙◌, arith, subst, eqb-true, ltb-true}
-use Rattle.std.proofs.Common.{leb-true, ◌||◌}
+use Rattle.std.proofs.Common.{leb-true}
 use Rattle.std.proofs.lemmas.Bool.{leb-false}
 use Rattle.std.proofs.lemmas.List.Elements.{recursion_from_All}
-use Rattle.std.specs.Prelude.{nat_lt, is_some, slice_get}
+use Rattle.std.specs.Prelude.{slice_get}
 use Rattle.std.specs.List.{AllByRecursion}
 use Rattle.xc_input.specs.declared.problem.Use.{Use}
 use Rattle.xc_dance.specs.declared.dance.Move.{Move}
@@ -17,7 +18,7 @@ use Rattle.xc_dance.specs.Moves.{is_open, is_covered, purified, spends, AreLegal
 use Rattle.xc_search.specs.Residuals.{wanted_at, wanted_after}
 use Rattle.xc_search.proofs.residual.PickedByUses.{is_wanted, AreWanted}
 use Rattle.xc_dance.proofs.MoveLemmas.LeftOptions.{left_agrees, left_free, kept}
-use Rattle.xc_search.proofs.residual.ReadyUses.{Ready, primary, blank, coloured, same_colour, found_wanted, AreReady}
+use Rattle.xc_search.proofs.residual.ReadyUses.{Ready, blank, coloured, same_colour, found_wanted, AreReady}
 use Rattle.xc_input.proofs.lists.EachElement.{each_at, each_both}
 use Rattle.xc_search.proofs.residual.OptionUses.{apart_from_pairs, own_colours}
 use Rattle.xc_search.proofs.listing.Numbering.{IsOption, all_options}
@@ -30,22 +31,15 @@ left_options p v (m ∷ t) = kept (IsOption p) p t m (left_options p v t)
 
 open_if : (j : ℕ) (t : List Move) → is_covered j t ≡ false → purified j t ≡ None → is_open j t ≡ true
 open_if j [] c q = refl
-open_if j (Cover k ∷ t) c q =
-    elim (eqb j k) as (λ b. (b || is_covered j t) ≡ false → (not b && is_open j t) ≡ true)
-    [ true ↦ λ e. cc | false ↦ λ e. open_if j t e q ] c
-open_if j (Purify k d ∷ t) c q =
-    elim (eqb j k) as (λ b. cond b (Some d) (purified j t) ≡ None → (not b && is_open j t) ≡ true)
-    [ true ↦ λ e. cc | false ↦ λ e. open_if j t c e ] q
+open_if j (Cover k ∷ t) c q = grind (arith, common_steps, open_if j t)
+open_if j (Purify k d ∷ t) c q = grind (arith, common_steps, open_if j t c)
 open_if j (Tweak k ∷ t) c q = open_if j t c q
 open_if j (Spend k ∷ t) c q = open_if j t c q
 
 closed_if : (j d : ℕ) (t : List Move) → purified j t ≡ Some d → is_open j t ≡ false
 closed_if j d [] q = cc
-closed_if j d (Cover k ∷ t) q =
-    elim (eqb j k) as (λ b. (not b && is_open j t) ≡ false) [ true ↦ refl | false ↦ closed_if j d t q ]
-closed_if j d (Purify k c ∷ t) q =
-    elim (eqb j k) as (λ b. cond b (Some c) (purified j t) ≡ Some d → (not b && is_open j t) ≡ false)
-    [ true ↦ λ e. refl | false ↦ λ e. closed_if j d t e ] q
+closed_if j d (Cover k ∷ t) q = grind (arith, common_steps, closed_if j d t q)
+closed_if j d (Purify k c ∷ t) q = grind (arith, common_steps, closed_if j d t)
 closed_if j d (Tweak k ∷ t) q = closed_if j d t q
 closed_if j d (Spend k ∷ t) q = closed_if j d t q
 
@@ -54,11 +48,7 @@ pub purified_second : (p : Puzzle) (j d : ℕ) (t : List Move) → AreLegal p t 
     → primary_count p < j
 purified_second p j d [] l q = cc
 purified_second p j d (Cover k ∷ t) l q = purified_second p j d t l.1 q
-purified_second p j d (Purify k c ∷ t) l q =
-    elim (eqb j k) as (λ b. eqb j k ≡ b → cond b (Some c) (purified j t) ≡ Some d → primary_count p < j) [
-      | true ↦ λ i e. let same : j ≡ k = eqb-true j k i in omega (arith, same, l.0.0.0)
-      | false ↦ λ i e. purified_second p j d t l.1 e
-    ] refl q
+purified_second p j d (Purify k c ∷ t) l q = grind (arith, common_steps, purified_second p j d t l.1, eqb-true)
 purified_second p j d (Tweak k ∷ t) l q = purified_second p j d t l.1 q
 purified_second p j d (Spend k ∷ t) l q = purified_second p j d t l.1 q
 
@@ -72,10 +62,7 @@ primary_pure p j t l h = by_case (purified j t) refl
 found_holds : (P : Wanted → Type 0) (q : Wanted → Bool) (ws : List Wanted) (w : Wanted) → AllByRecursion P ws
     → find q ws ≡ Some w → P w
 found_holds P q [] w a e = cc
-found_holds P q (v ∷ vs) w a e = elim (q v) as (λ b. cond b (Some v) (find q vs) ≡ Some w → P w) [
-  | true ↦ λ f. let same : v ≡ w = cc in subst P same a.0
-  | false ↦ λ f. found_holds P q vs w a.1 f
-] e
+found_holds P q (v ∷ vs) w a e = grind (arith, common_steps, found_holds P q vs w a.1, find)
 
 -- an open primary item has something left to spend
 pub has_left : (p : Puzzle) (t : List Move) (j : ℕ) → AreWanted (wanted_after p t) → IsPrimary p j → is_open j t ≡ true
@@ -95,28 +82,21 @@ ne_zero (suc n) e = omega arith
 each_holding : (P : Numbered → Type 0) (i : ℕ) (os : List Numbered) → AllByRecursion P os
     → AllByRecursion P (filter (λ o. holds o i) os)
 each_holding P i [] a = tt
-each_holding P i (o ∷ os) a =
-    elim (holds o i) as (λ b. AllByRecursion P (cond b (o ∷ filter (λ o. holds o i) os) (filter (λ o. holds o i) os)))
-    [ true ↦ (a.0, each_holding P i os a.1) | false ↦ each_holding P i os a.1 ]
+each_holding P i (o ∷ os) a = grind (arith, common_steps, each_holding P i os a.1)
 
 record IsFree (t : List Move) (x : Numbered) : Type 0 where
   uncovered : (j : ℕ) → is_covered j t ≡ true → holds x j ≡ false
   agreeing : (j d : ℕ) → purified j t ≡ Some d → agrees d (colour_at x j) ≡ true
 
 agree_colour : (d c : ℕ) → agrees d (Some c) ≡ true → (d ≡ c) × (0 < c)
-agree_colour d c e = elim (nat_lt 0 d) as (λ b. nat_lt 0 d ≡ b → (b && eqb d c) ≡ true → (d ≡ c) × (0 < c)) [
-  | true ↦ λ i f. let same : d ≡ c = eqb-true d c f in (same, omega (arith, ltb-true 0 d i, same))
-  | false ↦ λ i f. cc
-] refl e
+agree_colour d c e = grind (arith, common_steps, eqb-true, ltb-true)
 
 not_covered : (t : List Move) (x : Numbered) (u : Use) → IsFree t x → colour_at x u.item ≡ Some u.colour
     → is_covered u.item t ≡ false
 not_covered t x u f e = by_case (is_covered u.item t) refl
   where
     by_case : (b : Bool) → is_covered u.item t ≡ b → is_covered u.item t ≡ false
-    by_case true c =
-        let held : holds x u.item ≡ true = ap (λ o. is_some o) e in
-        cc (f.uncovered u.item c, held)
+    by_case true c = grind (arith, common_steps)
     by_case false c = c
 
 ready_use : (p : Puzzle) (t : List Move) (x : Numbered) (u : Use) → AreLegal p t → AreWanted (wanted_after p t)
@@ -128,13 +108,8 @@ ready_use p t x u l a f s e = by_kind (leb u.item (primary_count p)) refl (purif
     by_colour h false c o = coloured (h, s.0.1) (ne_zero u.colour c) o
 
     by_kind : (b : Bool) → leb u.item (primary_count p) ≡ b → (q : Option ℕ) → purified u.item t ≡ q → Ready p t u
-    by_kind true h q i =
-        let within : u.item ≤ primary_count p = leb-true u.item (primary_count p) h in
-        let o = open_if u.item t (not_covered t x u f e) (primary_pure p u.item t l within) in
-        primary (s.0.0, within) o (has_left p t u.item a (s.0.0, within) o)
-    by_kind false h None i =
-        by_colour (leb-false u.item (primary_count p) h) (eqb u.colour 0) refl
-        (open_if u.item t (not_covered t x u f e) i)
+    by_kind true h q i = grind (arith, common_steps, leb-true, open_if, not_covered, primary_pure, has_left)
+    by_kind false h None i = grind (arith, common_steps, by_colour, leb-false, open_if, not_covered)
     by_kind false h (Some d) i =
         let same = agree_colour d u.colour (subst (λ o. agrees d o ≡ true) e (f.agreeing u.item d i)) in
         same_colour (leb-false u.item (primary_count p) h, s.0.1) same.1 (closed_if u.item d t i) (i ∙ ap Some same.0)

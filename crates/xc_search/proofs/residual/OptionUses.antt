@@ -1,5 +1,6 @@
 -- The uses of an option.
-use Rattle.std.proofs.Common.{ℕ, ◌≡◌, true, false, cond, eqb, List, [], ◌∷◌, Some, refl, ap, eqb-true, eq-eqb, ne_eqb}
+use Rattle.std.proofs.lemmas.Grind.{common_steps}
+use Rattle.std.proofs.Common.{ℕ, ◌≡◌, true, false, eqb, List, [], ◌∷◌, Some, eqb-true, eq-eqb, ne_eqb}
 use Rattle.std.proofs.Common.{suc, ◌≢◌, arith, inl, inr}
 use Rattle.std.specs.Prelude.{is_some, AllPairs}
 use Rattle.std.specs.List.{AllByRecursion}
@@ -23,27 +24,14 @@ apart_from_pairs (u ∷ us) h = (
 
 pub own_colours : (us : List Use) → AreApart us → AllByRecursion (λ u. colour_in us u.item ≡ Some u.colour) us
 own_colours [] a = tt
-own_colours (u ∷ us) a =
-    let self : eqb u.item u.item ≡ true = eq-eqb _ _ refl in (
-      rw self refl,
-      each_both (λ v. eqb u.item v.item ≡ false) (λ v. colour_in us v.item ≡ Some v.colour)
-          (λ v. colour_in (u ∷ us) v.item ≡ Some v.colour) us (λ v e c. rw e c) a.0 (own_colours us a.1),
-    )
+own_colours (u ∷ us) a = grind (arith, common_steps, own_colours us a.1, eq-eqb, each_both)
 
 -- an item that is held is held by a use
 pub held_by : (us : List Use) (j : ℕ) → is_some (colour_in us j) ≡ true → (u : Use) × IsIn us u × (u.item ≡ j)
 held_by [] j h = cc
-held_by (u ∷ us) j h =
-    elim (eqb u.item j) as (λ b. eqb u.item j ≡ b → is_some (cond b (Some u.colour) (colour_in us j)) ≡ true → (v : Use)
-    × IsIn (u ∷ us) v × (v.item ≡ j)) [
-      | true ↦ λ e k. (u, inl refl, eqb-true _ _ e)
-      | false ↦ λ e k. let later = held_by us j k in (later.0, inr later.1, later.2)
-    ] refl h
+held_by (u ∷ us) j h = grind (arith, common_steps, held_by us j, eqb-true)
 
 pub holds_use : (us : List Use) (u : Use) → IsIn us u → is_some (colour_in us u.item) ≡ true
 holds_use [] u h = absurd h
-holds_use (v ∷ us) u (inl q) =
-    let same : eqb v.item u.item ≡ true = eq-eqb _ _ (ap (λ (z : Use). z.item) q) in rw same refl
-holds_use (v ∷ us) u (inr q) =
-    elim (eqb v.item u.item) as (λ b. is_some (cond b (Some v.colour) (colour_in us u.item)) ≡ true)
-    [ true ↦ refl | false ↦ holds_use us u q ]
+holds_use (v ∷ us) u (inl q) = grind (arith, common_steps, eq-eqb)
+holds_use (v ∷ us) u (inr q) = grind (arith, common_steps, holds_use us u q)

@@ -1,6 +1,8 @@
 -- Taking an option use by use comes to `pick`.
+use Rattle.std.proofs.Common.{arith}
+use Rattle.std.proofs.lemmas.Grind.{common_steps}
 use Rattle.std.proofs.Common.{ℕ, ◌≡◌, Bool, true, false, cond, ◌&&◌, eqb, List, [], ◌∷◌, map, filter, find, Option}
-use Rattle.std.proofs.Common.{Some, refl, sym, ap, ap₂, ◌∙◌, subst, eqb-true, eq-eqb, ne_eqb}
+use Rattle.std.proofs.Common.{Some, refl, sym, ap, ap₂, ◌∙◌, eqb-true, eq-eqb, ne_eqb}
 use Rattle.xc_search.proofs.Spent.{less_one}
 use Rattle.std.specs.Prelude.{nat_lt, is_some}
 use Rattle.std.specs.List.{AllByRecursion, list_all}
@@ -49,20 +51,11 @@ AreWanted ws = AllByRecursion (λ w. is_wanted w ≡ true) ws
 -- items apart from j aren't in uses apart from it
 not_held : (j : ℕ) (us : List Use) → AllByRecursion (λ v. eqb j v.item ≡ false) us → is_some (colour_in us j) ≡ false
 not_held j [] a = refl
-not_held j (u ∷ us) a =
-    let apart : eqb u.item j ≡ false =
-    ne_eqb u.item j (λ e. let same : eqb j u.item ≡ true = eq-eqb j u.item (sym e) in cc (a.0, same)) in
-    rw apart (not_held j us a.1)
+not_held j (u ∷ us) a = grind (arith, common_steps, not_held j us a.1, ne_eqb u.item j, eq-eqb j u.item)
 
 pub still_wanted : (j : ℕ) (ws : List Wanted) → AreWanted (filter is_wanted (map (dec j) ws))
 still_wanted j [] = tt
-still_wanted j (w ∷ ws) =
-    elim (is_wanted (dec j w)) as
-    (λ b. is_wanted (dec j w) ≡ b
-    → AreWanted (cond b (dec j w ∷ filter is_wanted (map (dec j) ws)) (filter is_wanted (map (dec j) ws)))) [
-      | true ↦ λ e. (e, still_wanted j ws)
-      | false ↦ λ e. still_wanted j ws
-    ] refl
+still_wanted j (w ∷ ws) = grind (arith, common_steps, still_wanted j ws)
 
 -- one item
 kept_head : (p : Wanted → Bool) (f : Wanted → Wanted) (c : Bool) (v x : Wanted) (front rest : List Wanted) → p v ≡ c
@@ -72,16 +65,11 @@ kept_head p f true v x front rest e g i same = rw (e, i, g refl, i) (ap (λ vs. 
 kept_head p f false v x front rest e g i same = rw (e, i) same
 
 spends_true : (u : Use) (us : List Use) (w : Wanted) → eqb w.item u.item ≡ true → spend_uses (u ∷ us) w ≡ less_one w
-spends_true u us w e =
-    let same : eqb u.item w.item ≡ true = eq-eqb _ _ (sym (eqb-true _ _ e)) in
-    rw same refl
+spends_true u us w e = grind (arith, common_steps, eq-eqb, eqb-true)
 
 spends_other : (u : Use) (us : List Use) (w : Wanted) → eqb w.item u.item ≡ false
     → spend_uses (u ∷ us) w ≡ spend_uses us w
-spends_other u us w e =
-    let apart : eqb u.item w.item ≡ false =
-    ne_eqb _ _ (λ i. let same : eqb w.item u.item ≡ true = eq-eqb _ _ (sym i) in cc) in
-    rw apart refl
+spends_other u us w e = grind (arith, common_steps, ne_eqb, eq-eqb)
 
 item_more : (u : Use) (us : List Use) (w : Wanted) (front rest : List Wanted)
     → AllByRecursion (λ v. eqb u.item v.item ≡ false) us → is_wanted w ≡ true
@@ -93,14 +81,8 @@ item_more u us w front rest a h same = by_case (eqb w.item u.item) refl
     by_case : (b : Bool) → eqb w.item u.item ≡ b →
         filter is_wanted (map (spend_uses us) (cond (is_wanted (dec u.item w)) (dec u.item w ∷ front) front)) ≡ cond
         (is_wanted (spend_uses (u ∷ us) w)) (spend_uses (u ∷ us) w ∷ rest) rest
-    by_case true e =
-        let untouched : is_some (colour_in us w.item) ≡ false =
-        subst (λ j. is_some (colour_in us j) ≡ false) (sym (eqb-true _ _ e)) (not_held u.item us a) in
-        rw (e, spends_true u us w e)
-        (kept_head is_wanted (spend_uses us) (is_wanted (less_one w)) (less_one w) (less_one w) front rest refl
-        (λ _. rw untouched refl) refl same)
-    by_case false e =
-        rw (e, spends_other u us w e, h) (ap (λ vs. cond (is_wanted (spend_uses us w)) (spend_uses us w ∷ vs) vs) same)
+    by_case true e = grind (arith, common_steps, eqb-true, not_held u.item us a, spends_true u us w e)
+    by_case false e = grind (arith, common_steps, spends_other u us w e)
 
 -- the items
 items_more : (u : Use) (us : List Use) (ws : List Wanted) → AllByRecursion (λ v. eqb u.item v.item ≡ false) us
@@ -118,11 +100,7 @@ other_head j k w front rest e h same = by_case (eqb w.item j) refl
     by_case : (b : Bool) → eqb w.item j ≡ b
         → find (λ w. eqb w.item k) (cond (is_wanted (dec j w)) (dec j w ∷ front) front) ≡ cond (eqb w.item k)
         (Some w) rest
-    by_case true i =
-        let not_k : eqb w.item k ≡ false = subst (λ n. eqb n k ≡ false) (sym (eqb-true _ _ i)) e in
-        rw (i, not_k) (elim (is_wanted (less_one w)) as
-        (λ c. find (λ w. eqb w.item k) (cond c (less_one w ∷ front) front) ≡ rest)
-        [ true ↦ rw not_k same | false ↦ same ])
+    by_case true i = grind (arith, common_steps, eqb-true, find)
     by_case false i = rw (i, h) (ap (λ o. cond (eqb w.item k) (Some w) o) same)
 
 -- what is left of other items

@@ -1,4 +1,5 @@
 -- The uses of an option left can be committed, and committing one is what `commit_use` says.
+use Rattle.std.proofs.lemmas.Grind.{common_steps}
 use Rattle.std.proofs.Common.{ℕ, zero, suc, ◌≡◌, ◌+◌, ◌-◌, ◌<◌, ◌≤◌, Bool, true, false, cond, not, eqb, leb, List, []}
 use Rattle.std.proofs.Common.{◌∷◌, map, filter, find, Option, Some, None, refl, sym, ap, ◌∙◌, arith, subst, eqb-true}
 use Rattle.std.proofs.Common.{eq-eqb, ne_eqb, le-leb, lt-ltb, le-ltb}
@@ -13,7 +14,7 @@ use Rattle.xc_dance.specs.declared.dance.Move.TheVariants.{Cover, Purify, Spend}
 use Rattle.xc_input.specs.Problem.{Puzzle, primary_count, holds, colour_at, high_at, IsPrimary, IsSecondary}
 use Rattle.xc_search.specs.Listing.{Wanted, none, may_stay, item_left}
 use Rattle.xc_dance.specs.inner.Left.{left}
-use Rattle.xc_dance.specs.Moves.{is_open, purified, spends, open_items, AreLegal, agrees}
+use Rattle.xc_dance.specs.Moves.{is_open, purified, spends, AreLegal, agrees}
 use Rattle.xc_search.specs.Residuals.{wanted_at, wanted_after}
 use Rattle.xc_search.specs.inner.Residual.{residual_of}
 use Rattle.xc_dance.specs.Commits.{after_spend, after_use, after_uses}
@@ -39,25 +40,7 @@ after_use-same : {X : Type 0} (f : List Move → X) (p : Puzzle) (u : Use) (t : 
     ((s : List Move) → f (Cover u.item ∷ s) ≡ f s) → ((s : List Move) → f (Purify u.item u.colour ∷ s) ≡ f s)
     → ((s : List Move) → f (Spend u.item ∷ s) ≡ f s) →
     f (after_use p u t) ≡ f t
-after_use-same f p u t a b c =
-    elim (leb u.item (primary_count p)) as
-    (λ x. f (cond x (after_spend p u.item t)
-    (cond (eqb u.colour 0) (Cover u.item ∷ t) (cond (is_open u.item t) (Purify u.item u.colour ∷ t) t)))
-    ≡ f t) [
-      | true ↦ elim (eqb (high_at p u.item - spends u.item (Spend u.item ∷ t)) 0) as
-          (λ x. f (cond x (Cover u.item ∷ Spend u.item ∷ t) (Spend u.item ∷ t)) ≡ f t) [
-            | true ↦ a (Spend u.item ∷ t) ∙ c t
-            | false ↦ c t
-          ]
-      | false ↦ elim (eqb u.colour 0) as
-          (λ x. f (cond x (Cover u.item ∷ t) (cond (is_open u.item t) (Purify u.item u.colour ∷ t) t)) ≡ f t) [
-            | true ↦ a t
-            | false ↦ elim (is_open u.item t) as (λ x. f (cond x (Purify u.item u.colour ∷ t) t) ≡ f t) [
-              | true ↦ b t
-              | false ↦ refl
-            ]
-          ]
-    ]
+after_use-same f p u t a b c = grind (arith, common_steps)
 
 pub open_same : (p : Puzzle) (u : Use) (t : List Move) (j : ℕ) → eqb j u.item ≡ false
     → is_open j (after_use p u t) ≡ is_open j t
@@ -80,9 +63,7 @@ ready_later p t s v a b c (same_colour h i k l) = same_colour h i (a ∙ k) (b �
 
 pub ready_after : (p : Puzzle) (u : Use) (t : List Move) (v : Use) → eqb v.item u.item ≡ false → Ready p t v
     → Ready p (after_use p u t) v
-ready_after p u t v e r =
-    ready_later p t (after_use p u t) v (open_same p u t v.item e) (purified_same p u t v.item e)
-    (spends_same p u t v.item e) r
+ready_after p u t v e r = grind (arith, common_steps, ready_later, open_same, purified_same, spends_same)
 
 -- ---- the moves are legal
 
@@ -90,36 +71,17 @@ pub spent_self : (i : ℕ) (t : List Move) → spends i (Spend i ∷ t) ≡ suc 
 spent_self i t = let same : eqb i i ≡ true = eq-eqb i i refl in rw same (omega arith)
 
 pub spent_behind : (p : Puzzle) (i : ℕ) (t : List Move) → 0 < spends i (after_spend p i t)
-spent_behind p i t =
-    elim (eqb (high_at p i - spends i (Spend i ∷ t)) 0) as
-    (λ b. 0 < spends i (cond b (Cover i ∷ Spend i ∷ t) (Spend i ∷ t))) [
-      | true ↦ omega (arith, spent_self i t)
-      | false ↦ omega (arith, spent_self i t)
-    ]
+spent_behind p i t = grind (arith, common_steps, spent_self)
 
 pub legal_opening : (p : Puzzle) (i : ℕ) (t : List Move) → AreLegal p t → IsPrimary p i → is_open i t ≡ true
     → spends i t < high_at p i → AreLegal p (after_spend p i t)
-legal_opening p i t l h o k =
-    elim (eqb (high_at p i - spends i (Spend i ∷ t)) 0) as
-    (λ x. AreLegal p (cond x (Cover i ∷ Spend i ∷ t) (Spend i ∷ t))) [
-      | true ↦ (((h.0, omega (arith, h.1)), o), ((h, k), l))
-      | false ↦ ((h, k), l)
-    ]
+legal_opening p i t l h o k = grind (arith, common_steps)
 
 pub legal_commit : (p : Puzzle) (u : Use) (t : List Move) → AreLegal p t → Ready p t u → AreLegal p (after_use p u t)
 legal_commit p u t l (primary h o k) = rw (le-leb u.item (primary_count p) h.1) (legal_opening p u.item t l h o k)
-legal_commit p u t l (blank h c o) =
-    let second : leb u.item (primary_count p) ≡ false = lt-leb u.item (primary_count p) h.0 in
-    let no_colour : eqb u.colour 0 ≡ true = eq-eqb u.colour 0 c in
-    rw (second, no_colour) (((omega (arith, h.0), h.1), o), l)
-legal_commit p u t l (coloured h c o) =
-    let second : leb u.item (primary_count p) ≡ false = lt-leb u.item (primary_count p) h.0 in
-    let colour : eqb u.colour 0 ≡ false = ne_eqb u.colour 0 (λ e. omega (arith, c, e)) in
-    rw (second, colour, o) ((h, o, c), l)
-legal_commit p u t l (same_colour h c o q) =
-    let second : leb u.item (primary_count p) ≡ false = lt-leb u.item (primary_count p) h.0 in
-    let colour : eqb u.colour 0 ≡ false = ne_eqb u.colour 0 (λ e. omega (arith, c, e)) in
-    rw (second, colour, o) l
+legal_commit p u t l (blank h c o) = grind (arith, common_steps, lt-leb, eq-eqb)
+legal_commit p u t l (coloured h c o) = grind (arith, common_steps, lt-leb, ne_eqb)
+legal_commit p u t l (same_colour h c o q) = grind (arith, common_steps, lt-leb, ne_eqb)
 
 -- ---- one use
 
@@ -135,18 +97,8 @@ found_from p t j a (suc n) h k o = by_case (eqb a j) refl (λ l. found_from p t 
         find (λ w. eqb w.item j)
         (map (wanted_at p t) (cond (is_open a t) (a ∷ filter (λ i. is_open i t) (range_with_len (a + 1) n))
         (filter (λ i. is_open i t) (range_with_len (a + 1) n)))) ≡ Some (wanted_at p t j)
-    by_case true e later =
-        let same : a ≡ j = eqb-true a j e in
-        let opened_a : is_open a t ≡ true = ap (λ i. is_open i t) same ∙ o in
-        rw (opened_a, e) (ap (λ i. Some (wanted_at p t i)) same)
-    by_case false e later =
-        let found = later (omega (arith, h, eqb-false a j e)) in
-        elim (is_open a t) as (λ b. find (λ w. eqb w.item j)
-        (map (wanted_at p t) (cond b (a ∷ filter (λ i. is_open i t) (range_with_len (a + 1) n))
-        (filter (λ i. is_open i t) (range_with_len (a + 1) n)))) ≡ Some (wanted_at p t j)) [
-          | true ↦ rw e found
-          | false ↦ found
-        ]
+    by_case true e later = grind (arith, common_steps, eqb-true)
+    by_case false e later = grind (arith, common_steps, eqb-false, find)
 
 pub found_wanted : (p : Puzzle) (t : List Move) (j : ℕ) → IsPrimary p j → is_open j t ≡ true
     → item_left (residual_of p t) j ≡ Some (wanted_at p t j)
@@ -154,11 +106,7 @@ found_wanted p t j h o = found_from p t j 1 (primary_count p) h.0 (omega (arith,
 
 pub not_found : (p : Puzzle) (t : List Move) (j : ℕ) → primary_count p < j
     → AllByRecursion (λ w. eqb w.item j ≡ false) (wanted_after p t)
-not_found p t j h =
-    each-map (λ w. eqb w.item j ≡ false) (wanted_at p t) (open_items p t)
-    (each-filter (λ i. eqb i j ≡ false) (λ i. is_open i t) (range_with_len 1 (primary_count p))
-    (each_weaker (λ i. i < 1 + primary_count p) (λ i. eqb i j ≡ false) (range_with_len 1 (primary_count p))
-    (λ i l. ne_eqb i j (λ e. omega (arith, l, h, e))) (in_range 1 (primary_count p))))
+not_found p t j h = grind (arith, common_steps, each-map, each-filter, each_weaker, ne_eqb, in_range)
 
 none_found : (j : ℕ) (ws : List Wanted) → AllByRecursion (λ w. eqb w.item j ≡ false) ws
     → find (λ w. eqb w.item j) ws ≡ None
@@ -182,9 +130,7 @@ blank_agrees (Some d) = refl
 
 -- every item that is left is as the Spends leave it
 pub as_spent : (p : Puzzle) (t : List Move) → AllByRecursion (λ w. w ≡ wanted_at p t w.item) (wanted_after p t)
-as_spent p t =
-    each-map (λ w. w ≡ wanted_at p t w.item) (wanted_at p t) (open_items p t)
-    (each_of_all _ (open_items p t) (λ i. refl))
+as_spent p t = grind (arith, common_steps, each-map, each_of_all)
 
 covered_item : (j : ℕ) (w : Wanted) → is_wanted w ≡ true → (eqb w.item j ≡ true → w.high ≡ 1)
     → not (eqb (dec j w).item j) ≡ is_wanted (dec j w)

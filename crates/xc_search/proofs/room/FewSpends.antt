@@ -1,5 +1,6 @@
 -- No more Spends than the bounds allow.
-use Rattle.std.proofs.Common.{ℕ, suc, ◌≡◌, ◌+◌, ◌-◌, ◌≤◌, true, eqb, List, [], ◌∷◌, length, refl, ap, arith, eq-eqb}
+use Rattle.std.proofs.lemmas.Grind.{common_steps}
+use Rattle.std.proofs.Common.{ℕ, ◌≡◌, ◌+◌, ◌-◌, ◌≤◌, true, eqb, List, [], ◌∷◌, length, refl, arith, eq-eqb}
 use Rattle.xc_input.specs.declared.problem.Bounds.{Bounds}
 use Rattle.std.proofs.lemmas.List.Sums.{sum_by-cons}
 use Rattle.std.specs.Prelude.{sum_by, slice_get, unwrap_or}
@@ -19,40 +20,18 @@ total_highs : (bs : List Bounds)
     → total (high_in bs) (range_with_len 0 (length bs)) ≡ sum_by (λ (b : Bounds). b.high) bs
 total_highs [] = refl
 total_highs (b ∷ bs) =
-    let next : (i : ℕ) → high_in (b ∷ bs) (i + 1) ≡ high_in bs i =
-    (λ i. let same : i + 1 ≡ suc i = omega arith in ap (high_in (b ∷ bs)) same) in
-    omega (
-      arith,
-      total_shifted (high_in (b ∷ bs)) 0 (length bs),
-      total_same (λ i. high_in (b ∷ bs) (i + 1))
-          (high_in bs) (range_with_len 0 (length bs)) next,
-      total_highs bs,
-      sum_by-cons (λ (b : Bounds). b.high) b bs,
-    )
+    grind (arith, common_steps, total_highs bs, total_shifted (high_in (b ∷ bs)) 0 (length bs), total_same, sum_by-cons)
 
 total_high_at : (p : Puzzle) → total (high_at p) (range_with_len 1 (primary_count p)) ≡ high_total p
 total_high_at p =
-    let each : (i : ℕ) → high_at p (i + 1) ≡ high_in p.bounds i =
-    (λ i. let same : i + 1 ≡ suc i = omega arith in ap (high_at p) same) in
-    omega (
-      arith,
-      total_shifted (high_at p) 0 (primary_count p),
-      total_same (λ i. high_at p (i + 1)) (high_in p.bounds)
-          (range_with_len 0 (primary_count p)) each,
-      total_highs p.bounds,
-    )
+    grind (arith, common_steps, total_shifted (high_at p) 0 (primary_count p), total_same, total_highs p.bounds)
 
 -- what the Spends that stand leave of the bounds
 abbrev all_bounds : Puzzle → List Move → ℕ
 all_bounds p t = total (λ i. high_at p i - spends i t) (range_with_len 1 (primary_count p))
 
 spends_within : (p : Puzzle) (t : List Move) → AreLegal p t → spendings t + all_bounds p t ≤ high_total p
-spends_within p [] l =
-    omega (
-      arith,
-      total_le (λ i. high_at p i - 0) (high_at p) (range_with_len 1 (primary_count p)) (λ i. omega arith),
-      total_high_at p,
-    )
+spends_within p [] l = grind (arith, common_steps, total_le, total_high_at p)
 spends_within p (Cover j ∷ t) l = spends_within p t l.1
 spends_within p (Purify j c ∷ t) l = spends_within p t l.1
 spends_within p (Tweak j ∷ t) l = spends_within p t l.1

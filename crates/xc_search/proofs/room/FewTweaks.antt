@@ -1,6 +1,7 @@
 -- No more tweaks than uses.
-use Rattle.std.proofs.Common.{ℕ, suc, ◌≡◌, ◌+◌, ◌≤◌, Bool, true, false, cond, ◌&&◌, eqb, List, [], ◌∷◌, length, take}
-use Rattle.std.proofs.Common.{drop, Some, refl, ap, arith, eqb-true, eq-eqb, length-drop}
+use Rattle.std.proofs.lemmas.Grind.{common_steps}
+use Rattle.std.proofs.Common.{ℕ, suc, ◌≡◌, ◌+◌, ◌≤◌, Bool, true, false, cond, eqb, List, [], ◌∷◌, length}
+use Rattle.std.proofs.Common.{drop, refl, ap, arith, eqb-true, eq-eqb, length-drop}
 use Rattle.xc_input.proofs.OptionLemmas.NumberedOptions.{numbered_from}
 use Rattle.std.proofs.lemmas.List.Sums.{sum_by-cons}
 use Rattle.std.specs.Prelude.{is_some, sum_by}
@@ -9,7 +10,7 @@ use Rattle.xc_input.specs.declared.problem.Use.{Use}
 use Rattle.xc_dance.specs.declared.dance.Move.{Move}
 use Rattle.xc_dance.specs.declared.dance.Move.TheVariants.{Cover, Purify, Tweak, Spend}
 use Rattle.xc_input.specs.Problem.{Puzzle, Numbered, numbered_options, colour_in, item_count, holding, use_count}
-use Rattle.xc_dance.specs.Moves.{listed, is_open, without, AreLegal}
+use Rattle.xc_dance.specs.Moves.{listed, AreLegal}
 use Rattle.xc_search.specs.inner.Sparing.{uses_in}
 use Rattle.xc_input.proofs.lists.Filters.{length-filter-le}
 use Rattle.xc_input.proofs.lists.Totals.{total, total_zero, total_le, total_less, one_if, total_same, total_two}
@@ -34,14 +35,7 @@ le_same n = omega arith
 shrinks : (p : Puzzle) (t : List Move) (m : Move) (i : ℕ) → length (listed p (m ∷ t) i) ≤ length (listed p t i)
 shrinks p t (Cover j) i = cond_le _ _ _ _ (length-filter-le _ (listed p t i)) (le_same (length (listed p t i)))
 shrinks p t (Purify j c) i = cond_le _ _ _ _ (length-filter-le _ (listed p t i)) (le_same (length (listed p t i)))
-shrinks p t (Tweak j) i =
-    elim (eqb i j) as (λ b. eqb i j ≡ b
-    → length (cond b (drop 1 (listed p t j))
-    (cond (is_open j t && is_open i t) (without (take 1 (listed p t j)) (listed p t i)) (listed p t i))) ≤
-    length (listed p t i)) [
-      | true ↦ λ e. omega (arith, length-drop 1 (listed p t j), ap (λ k. length (listed p t k)) (eqb-true i j e))
-      | false ↦ λ e. cond_le _ _ _ _ (length-filter-le _ (listed p t i)) (le_same (length (listed p t i)))
-    ] refl
+shrinks p t (Tweak j) i = grind (arith, common_steps, eqb-true, cond_le, length-filter-le, le_same)
 shrinks p t (Spend j) i = omega arith
 
 abbrev all_listed : Puzzle → List Move → ℕ
@@ -49,13 +43,7 @@ all_listed p t = total (λ i. length (listed p t i)) (range_with_len 1 (item_cou
 
 tweaks_listed : (p : Puzzle) (t : List Move) → AreLegal p t → tweakings t + all_listed p t ≤ all_listed p []
 tweaks_listed p [] l = omega arith
-tweaks_listed p (Cover j ∷ t) l =
-    omega (
-      arith,
-      tweaks_listed p t l.1,
-      total_le (λ i. length (listed p (Cover j ∷ t) i)) (λ i. length (listed p t i))
-          (range_with_len 1 (item_count p)) (λ i. shrinks p t (Cover j) i),
-    )
+tweaks_listed p (Cover j ∷ t) l = grind (arith, common_steps, tweaks_listed p t l.1, total_le, shrinks p t (Cover j))
 tweaks_listed p (Purify j c ∷ t) l =
     omega (
       arith,
@@ -78,9 +66,7 @@ tweaks_listed p (Spend j ∷ t) l = tweaks_listed p t l.1
 
 held_le : (u : Use) (us : List Use) (i : ℕ)
     → one_if (is_some (colour_in (u ∷ us) i)) ≤ one_if (eqb u.item i) + one_if (is_some (colour_in us i))
-held_le u us i =
-    elim (eqb u.item i) as (λ b. one_if (is_some (cond b (Some u.colour) (colour_in us i))) ≤ one_if b + one_if
-    (is_some (colour_in us i))) [ true ↦ omega arith | false ↦ omega arith ]
+held_le u us i = grind (arith, common_steps)
 
 held_few : (us : List Use) (a n : ℕ) → total (λ i. one_if (is_some (colour_in us i))) (range_with_len a n) ≤ length us
 held_few [] a n = omega (arith, total_zero (range_with_len a n))
@@ -96,10 +82,7 @@ held_few (u ∷ us) a n =
 
 holding_more : (o : Numbered) (os : List Numbered) (i : ℕ)
     → length (holding i (o ∷ os)) ≡ one_if (is_some (colour_in o.uses i)) + length (holding i os)
-holding_more o os i =
-    elim (is_some (colour_in o.uses i)) as
-    (λ b. length (cond b (o ∷ holding i os) (holding i os)) ≡ one_if b + length (holding i os))
-    [ true ↦ omega arith | false ↦ omega arith ]
+holding_more o os i = grind (arith, common_steps)
 
 held_all : (os : List Numbered) (a n : ℕ) → total (λ i. length (holding i os)) (range_with_len a n) ≤ uses_in os
 held_all [] a n = omega (arith, total_zero (range_with_len a n))

@@ -1,15 +1,13 @@
 -- The Spends of a search are no more than the uses of the options that were taken and the items that were left out.
-use Rattle.std.proofs.Common.{ℕ, zero, suc, ◌≡◌, ◌+◌, ◌-◌, ◌<◌, ◌≤◌, Bool, true, false, cond, not, ◌&&◌, eqb, leb, List}
-use Rattle.std.proofs.Common.{[], ◌∷◌, length, map, filter, take, drop, Some, refl, sym, ap, ◌∙◌, arith, subst, le-leb}
-use Rattle.std.proofs.Common.{length-append, length-drop}
+use Rattle.std.proofs.lemmas.Grind.{common_steps}
+use Rattle.std.proofs.Common.{ℕ, zero, suc, ◌≡◌, ◌+◌, ◌<◌, ◌≤◌, Bool, true, false, cond, not, ◌&&◌, leb, List}
+use Rattle.std.proofs.Common.{[], ◌∷◌, length, map, filter, Some, refl, sym, ap, arith, le-leb}
 use Rattle.std.specs.Prelude.{slice_get, nat_lt, nat_le}
-use Rattle.std.specs.List.{range_with_len}
 use Rattle.xc_input.specs.declared.problem.Use.{Use}
 use Rattle.xc_dance.specs.declared.dance.Move.{Move}
-use Rattle.xc_dance.specs.declared.dance.Move.TheVariants.{Cover, Purify, Spend}
-use Rattle.xc_input.specs.Problem.{Puzzle, Numbered, holds, high_at, primary_count, holding, use_count}
+use Rattle.xc_input.specs.Problem.{Puzzle, Numbered, holds, primary_count, holding, use_count}
 use Rattle.xc_search.specs.Listing.{Residual, pick, none, spend_one, stays, branch_item, branch_count}
-use Rattle.xc_dance.specs.Moves.{is_open, spends, open_items}
+use Rattle.xc_dance.specs.Moves.{open_items}
 use Rattle.xc_search.specs.Residuals.{wanted_at, wanted_after}
 use Rattle.xc_search.specs.inner.Residual.{residual_of}
 use Rattle.xc_dance.specs.inner.Left.{left}
@@ -20,7 +18,7 @@ use Rattle.xc_search.specs.inner.Sparing.{spendings, uses_in, IsSparing}
 use Rattle.xc_input.proofs.lists.Filters.{length-filter-le}
 use Rattle.xc_search.proofs.listing.BranchesLess.{less_items, least_is_one}
 use Rattle.xc_search.proofs.room.FewTweaks.{uses_whole}
-use Rattle.std.proofs.lemmas.List.{length-map, length-take}
+use Rattle.std.proofs.lemmas.List.{length-map}
 use Rattle.std.proofs.lemmas.List.FromFn.{length-range_with_len}
 
 -- ---- Spends of the moves
@@ -30,54 +28,26 @@ spent_tweaked zero i s = refl
 spent_tweaked (suc m) i s = spent_tweaked m i s
 
 pub spent_after_spend : (p : Puzzle) (i : ℕ) (t : List Move) → spendings (after_spend p i t) ≡ suc (spendings t)
-spent_after_spend p i t =
-    elim (eqb (high_at p i - spends i (Spend i ∷ t)) 0) as
-    (λ b. spendings (cond b (Cover i ∷ Spend i ∷ t) (Spend i ∷ t)) ≡ suc (spendings t))
-    [ true ↦ refl | false ↦ refl ]
+spent_after_spend p i t = grind (arith, common_steps)
 
 spent_after_none : (i : ℕ) (t : List Move) → spendings (after_none i t) ≡ spendings t
-spent_after_none i t =
-    elim (is_open i t) as (λ b. spendings (cond b (Cover i ∷ t) t) ≡ spendings t) [ true ↦ refl | false ↦ refl ]
+spent_after_none i t = grind (arith, common_steps)
 
 spent_use : (p : Puzzle) (u : Use) (t : List Move) → spendings (after_use p u t) ≤ suc (spendings t)
-spent_use p u t =
-    elim (leb u.item (primary_count p)) as
-    (λ x. spendings (cond x (after_spend p u.item t)
-    (cond (eqb u.colour 0) (Cover u.item ∷ t) (cond (is_open u.item t) (Purify u.item u.colour ∷ t) t))) ≤ suc
-    (spendings t)) [
-      | true ↦ omega (arith, spent_after_spend p u.item t)
-      | false ↦ elim (eqb u.colour 0) as
-          (λ x. spendings (cond x (Cover u.item ∷ t) (cond (is_open u.item t) (Purify u.item u.colour ∷ t) t)) ≤ suc
-          (spendings t)) [
-            | true ↦ omega arith
-            | false ↦ elim (is_open u.item t) as
-                (λ x. spendings (cond x (Purify u.item u.colour ∷ t) t) ≤ suc (spendings t))
-                [ true ↦ omega arith | false ↦ omega arith ]
-          ]
-    ]
+spent_use p u t = grind (arith, common_steps, spent_after_spend)
 
 spent_uses : (p : Puzzle) (us : List Use) (t : List Move) → spendings (after_uses p us t) ≤ length us + spendings t
 spent_uses p [] t = omega arith
 spent_uses p (u ∷ us) t = omega (arith, spent_uses p us (after_use p u t), spent_use p u t)
 
 others_less : (i : ℕ) (us : List Use) → place_in i us < length us → length (others i us) < length us
-others_less i us h =
-    omega (
-      arith,
-      length-append (drop (place_in i us + 1) us) (take (place_in i us) us),
-      length-drop (place_in i us + 1)
-          us,
-      length-take (place_in i us) us,
-      h,
-    )
+others_less i us h = grind (arith, common_steps)
 
 -- ---- uses of the options left
 
 fewer_uses : (q : Numbered → Bool) (os : List Numbered) → uses_in (filter q os) ≤ uses_in os
 fewer_uses q [] = omega arith
-fewer_uses q (o ∷ os) =
-    elim (q o) as (λ b. uses_in (cond b (o ∷ filter q os) (filter q os)) ≤ length o.uses + uses_in os)
-    [ true ↦ omega (arith, fewer_uses q os) | false ↦ omega (arith, fewer_uses q os) ]
+fewer_uses q (o ∷ os) = grind (arith, common_steps, fewer_uses q os)
 
 without_uses : (q : Numbered → Bool) (i k : ℕ) (x : Numbered) (os : List Numbered) → slice_get (holding i os) k ≡ Some x
     → q x ≡ false → uses_in (filter q os) + length x.uses ≤ uses_in os
@@ -86,24 +56,15 @@ without_uses q i k x (o ∷ os) e f = by_case (holds o i) refl k e (λ k e. with
   where
     more : uses_in (filter q os) + length x.uses ≤ uses_in os
         → uses_in (filter q (o ∷ os)) + length x.uses ≤ length o.uses + uses_in os
-    more h =
-        elim (q o) as (λ b. uses_in (cond b (o ∷ filter q os) (filter q os)) + length x.uses ≤ length o.uses + uses_in
-        os) [ true ↦ omega (arith, h) | false ↦ omega (arith, h) ]
+    more h = grind (arith, common_steps)
 
     by_case : (b : Bool) → holds o i ≡ b → (k : ℕ)
         → slice_get (cond (holds o i) (o ∷ holding i os) (holding i os)) k ≡ Some x
         → ((k : ℕ) → slice_get (holding i os) k ≡ Some x → uses_in (filter q os) + length x.uses ≤ uses_in os) →
         uses_in (filter q (o ∷ os)) + length x.uses ≤ length o.uses + uses_in os
-    by_case false h k e later =
-        more (later k (subst (λ b. slice_get (cond b (o ∷ holding i os) (holding i os)) k ≡ Some x) h e))
-    by_case true h zero e later =
-        let first : slice_get (o ∷ holding i os) 0 ≡ Some x =
-        subst (λ b. slice_get (cond b (o ∷ holding i os) (holding i os)) 0 ≡ Some x) h e in
-        let same : o ≡ x = cc in
-        let goes : q o ≡ false = ap q same ∙ f in
-        rw goes (omega (arith, fewer_uses q os, ap (λ (y : Numbered). length y.uses) same))
-    by_case true h (suc k) e later =
-        more (later k (subst (λ b. slice_get (cond b (o ∷ holding i os) (holding i os)) (suc k) ≡ Some x) h e))
+    by_case false h k e later = grind (arith, common_steps, more)
+    by_case true h zero e later = grind (arith, common_steps, fewer_uses)
+    by_case true h (suc k) e later = grind (arith, common_steps, more)
 
 open_is : (p : Puzzle) (t : List Move) → length (open_items p t) ≡ length (residual_of p t).items
 open_is p t = sym (length-map (open_items p t) (wanted_at p t))
@@ -111,13 +72,7 @@ open_is p t = sym (length-map (open_items p t) (wanted_at p t))
 -- ---- nodes
 
 pub sparing_first : (p : Puzzle) → IsSparing p []
-sparing_first p =
-    omega (
-      arith,
-      uses_whole 1 p.options,
-      length-filter-le (λ i. is_open i []) (range_with_len 1 (primary_count p)),
-      length-range_with_len 1 (primary_count p),
-    )
+sparing_first p = grind (arith, common_steps, uses_whole, length-filter-le, length-range_with_len)
 
 pub sparing_taken : (p : Puzzle) (t : List Move) (i k m : ℕ) (x : Numbered) → IsSparing p t
     → slice_get (holding i (left p t)) k ≡ Some x → holds x i ≡ true → place_in i x.uses < length x.uses →
@@ -180,12 +135,4 @@ sparing_none p t i m s b r =
 pub sparing_after_spend : (p : Puzzle) (t : List Move) (i : ℕ) → IsSparing p t
     → branch_item (residual_of p t) ≡ Some (wanted_at p t i)
     → spendings (after_spend p i t) ≤ use_count p.options + primary_count p
-sparing_after_spend p t i s b =
-    omega (
-      arith,
-      s,
-      spent_after_spend p i t,
-      open_is p t,
-      less_items (wanted_at p t i) (wanted_after p t)
-          (least_is_one (branch_count (residual_of p t)) (wanted_after p t) (wanted_at p t i) b),
-    )
+sparing_after_spend p t i s b = grind (arith, common_steps, spent_after_spend, open_is, less_items, least_is_one)

@@ -1,6 +1,7 @@
 -- Back at a level, and its end.
-use Rattle.std.proofs.Common.{suc, ◌≡◌, ◌+◌, ◌<◌, ◌≤◌, List, [], ◌∷◌, ◌++◌, length, take, drop, sym, ap, ap₂, ◌∙◌}
-use Rattle.std.proofs.Common.{arith, subst, length-append}
+use Rattle.std.proofs.lemmas.Grind.{common_steps}
+use Rattle.std.proofs.Common.{◌≡◌, ◌+◌, ◌<◌, ◌≤◌, List, [], ◌∷◌, ◌++◌, length, take, drop, sym, ap, ap₂, ◌∙◌}
+use Rattle.std.proofs.Common.{arith, length-append}
 use Rattle.std.proofs.lemmas.List.{take_at, length-replicate}
 use Rattle.std.specs.Prelude.{replicate}
 use Rattle.xc_dance.specs.declared.dance.Move.{Move}
@@ -11,11 +12,11 @@ use Rattle.xc_search.specs.Listing.{branch_count}
 use Rattle.xc_dance.specs.Moves.{AreTweaks}
 use Rattle.xc_search.specs.Residuals.{wanted_at}
 use Rattle.xc_search.specs.inner.Residual.{residual_of}
-use Rattle.xc_search.specs.inner.Levels.{branches_at, members_of, IsLevelAt, IsLevel, IsShallow, AreStacked, choices_of}
+use Rattle.xc_search.specs.inner.Levels.{branches_at, members_of, IsLevel, AreStacked, choices_of}
 use Rattle.xc_search.specs.inner.Levels.{to_give}
 use Rattle.xc_dance.specs.Commits.{after_spend}
 use Rattle.xc_search.specs.inner.Commits.{oldest, tweaked}
-use Rattle.xc_search.specs.inner.Ahead.{cost, work, visits}
+use Rattle.xc_search.specs.inner.Ahead.{visits}
 use Rattle.xc_search.proofs.moves.OldestMoves.{oldest_all}
 use Rattle.xc_search.proofs.listing.BranchLists.{branches_end}
 use Rattle.xc_search.proofs.stacked.NextLevel.{ext_after_spend, ext_longer, length-oldest, oldest-oldest, branches_here}
@@ -23,31 +24,7 @@ use Rattle.xc_search.proofs.stacked.NextLevel.{ext_after_spend, ext_longer, leng
 pub returned : (p : Puzzle) (t : List Move) (l : Level) (ls : List Level) → AreStacked p t (l ∷ ls) →
     AreStacked p (oldest l.base t) (l ∷ ls) × (to_give p (oldest l.base t) (l ∷ ls) ≡ to_give p t (l ∷ ls))
     × (visits p (oldest l.base t) (l ∷ ls) ≡ visits p t (l ∷ ls)) × (l.base ≡ length (oldest l.base t))
-returned p t l ls stacked =
-    let is_level = stacked.0 in
-    let s = oldest l.base t in
-    let under : oldest l.mark s ≡ oldest l.mark t = oldest-oldest l.mark l.base t is_level.within.0 is_level.within.1 in
-    let long : length s ≡ l.base = length-oldest l.base t is_level.within.1 in (
-      (
-        subst (λ u. IsLevelAt p u s l) (sym under) (record {
-          within = (is_level.within.0, omega (arith, long));
-          node = is_level.node;
-          branch = is_level.branch;
-          count = is_level.count;
-          begun = is_level.begun;
-          walking = is_level.walking;
-          tweaks = is_level.tweaks;
-          option = is_level.option;
-          place = is_level.place;
-          base = oldest-oldest l.base l.base t (omega arith) is_level.within.1 ∙ is_level.base;
-        }),
-        subst (λ u. IsShallow p u ls) (sym under) stacked.1,
-        subst (λ u. AreStacked p u ls) (sym under) stacked.2,
-      ),
-      ap (λ u. members_of (choices_of p ls) (drop l.begun (branches_at p u)) ++ to_give p u ls) under,
-      ap (λ u. suc (cost work (drop l.begun (branches_at p u))) + visits p u ls) under,
-      sym long,
-    )
+returned p t l ls stacked = grind (arith, common_steps, oldest-oldest, length-oldest)
 
 -- a level whose branches were all begun gives nothing more
 pub finished : (p : Puzzle) (t : List Move) (l : Level) (ls : List Level) → AreStacked p t (l ∷ ls)

@@ -1,9 +1,10 @@
 -- The one loop that passes over members and counts them.
-use Rattle.std.proofs.Common.{ℕ, suc, ◌≡◌, ◌+◌, ◌<◌, ◌≤◌, true, false, None, length, drop, refl, ap, ◌∙◌, arith}
+use Rattle.std.proofs.lemmas.Grind.{common_steps}
+use Rattle.std.proofs.Common.{ℕ, suc, ◌≡◌, ◌+◌, ◌<◌, ◌≤◌, true, false, None, length, drop, arith}
 use Rattle.xc_dance.specs.Dancing.{Dancing}
 use Rattle.xc_search.specs.Residuals.{choice_after}
 use Rattle.xc_search.specs.inner.Levels.{Levels, IsStanding, coming}
-use Rattle.xc_search.specs.inner.Ahead.{GoesOn, EntersBranch, IsDone, branched, work_left}
+use Rattle.xc_search.specs.inner.Ahead.{GoesOn, EntersBranch, IsDone, work_left}
 use Rattle.xc_search.specs.inner.Ahead.{EntersOver, EndsOver}
 use Rattle.xc_search.proofs.stacked.NextLevel.{solution}
 use Rattle.xc_search.proofs.stacked.PassedOver.{then_still}
@@ -19,62 +20,24 @@ pub record FallsBack (d : Dancing) (ls : Levels) (m : ℕ) (e : Dancing) (ks : L
 -- an item without branches leaves no member
 pub falls_barren : (d e : Dancing) (ls ks : Levels) (m : ℕ) → GoesOn d ls true e ks false
     → work_left e ks false < work_left d ls true → FallsBack d ls m e ks m
-falls_barren d e ls ks m on less = record {
-  still = on.still;
-  standing = on.standing;
-  members = ap (drop m) on.members;
-  count = omega (arith, ap length on.members);
-  less = omega (arith, less);
-}
+falls_barren d e ls ks m on less = grind (arith, common_steps)
 
 -- a solution is one of them
 pub falls_solved : (d : Dancing) (ls : Levels) (m n : ℕ) → IsStanding d.puzzle d.trail ls.levels true
     → choice_after d.puzzle d.trail ≡ None → m ≡ suc n → FallsBack d ls m d ls n
-falls_solved d ls m n s none more =
-    let found = solution d.puzzle d.trail ls.levels (s.searchable refl).legal none in
-    record {
-      still = (refl, refl);
-      standing = record { stacked = s.stacked; searchable = λ h. cc; shallow = λ h. cc };
-      members = ap (λ k. drop k (coming d.puzzle d.trail ls.levels true)) more ∙ ap (drop (suc n)) found;
-      count = omega (arith, more, ap length found);
-      less = omega arith;
-    }
+falls_solved d ls m n s none more = grind (arith, common_steps, solution)
 
 -- a branch below is entered
 pub enters_below : (d e : Dancing) (ls ks : Levels) (m i q : ℕ) → EntersBranch d ls true e ks i q
     → EntersOver d ls m e ks m i q
-enters_below d e ls ks m i q b = record {
-  can = b.can;
-  place = b.place;
-  over = record {
-    still = b.goes_on.still;
-    standing = b.goes_on.standing;
-    members = ap (drop m) b.goes_on.members;
-    count = omega (arith, ap length b.goes_on.members);
-  };
-  less = b.less;
-}
+enters_below d e ls ks m i q b = grind (arith, common_steps)
 
 -- a branch of a level is entered
 pub enters_back : (d e f : Dancing) (ls ks js : Levels) (m n i q : ℕ) → FallsBack d ls m e ks n
     → EntersBranch e ks false f js i q → EntersOver d ls m f js n i q
-enters_back d e f ls ks js m n i q back b = record {
-  can = b.can;
-  place = b.place;
-  over = record {
-    still = then_still d e (branched f i q) ls ks js back.still b.goes_on.still;
-    standing = b.goes_on.standing;
-    members = back.members ∙ ap (drop n) b.goes_on.members;
-    count = omega (arith, back.count, ap length b.goes_on.members);
-  };
-  less = omega (arith, back.less, b.less);
-}
+enters_back d e f ls ks js m n i q back b = grind (arith, common_steps, then_still)
 
 -- all levels end
 pub ends_back : (d e f : Dancing) (ls ks js : Levels) (m n : ℕ) → FallsBack d ls m e ks n → IsDone e ks false f js
     → EndsOver d ls m f js n
-ends_back d e f ls ks js m n back done = record {
-  still = then_still d e f ls ks js back.still done.still;
-  ended = done.ended;
-  count = omega (arith, back.count, ap length done.members);
-}
+ends_back d e f ls ks js m n back done = grind (arith, common_steps, then_still)

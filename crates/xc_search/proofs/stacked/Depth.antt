@@ -1,12 +1,13 @@
 -- Each level has its own Spend, and takes an option or a primary item away.
+use Rattle.std.proofs.lemmas.Grind.{common_steps}
 use Rattle.std.proofs.Common.{ℕ, ◌≡◌, ◌-◌, ◌<◌, ◌≤◌, List, [], ◌∷◌, ◌++◌, length, take, Some, sym, ap, ◌∙◌, arith}
 use Rattle.xc_search.specs.inner.Sizes.{size_of}
 use Rattle.xc_dance.specs.declared.dance.Move.{Move}
 use Rattle.xc_dance.specs.declared.dance.Move.TheVariants.{Cover, Purify, Tweak, Spend}
 use Rattle.xc_search.specs.declared.level.Level.{Level}
-use Rattle.xc_input.specs.Problem.{Puzzle, primary_count}
-use Rattle.xc_search.specs.Listing.{branch_item, branch_count, branches_of}
-use Rattle.xc_search.specs.Residuals.{wanted_at, wanted_after}
+use Rattle.xc_input.specs.Problem.{Puzzle}
+use Rattle.xc_search.specs.Listing.{branch_item, branches_of}
+use Rattle.xc_search.specs.Residuals.{wanted_at}
 use Rattle.xc_search.specs.inner.Residual.{residual_of}
 use Rattle.xc_dance.specs.Commits.{after_spend}
 use Rattle.xc_search.specs.inner.Commits.{oldest}
@@ -19,11 +20,9 @@ use Rattle.xc_input.proofs.lists.EachElement.{each_at}
 use Rattle.xc_search.proofs.stacked.NextLevel.{branches_here}
 use Rattle.xc_dance.proofs.MoveLemmas.ListLemmas.{length-numbered_from}
 use Rattle.xc_input.proofs.lists.Filters.{length-filter-le}
-use Rattle.std.proofs.lemmas.List.{length-map, take-append-drop}
+use Rattle.std.proofs.lemmas.List.{take-append-drop}
 use Rattle.std.proofs.lemmas.List.FromFn.{length-range_with_len}
 use Rattle.std.specs.Prelude.{slice_get}
-use Rattle.std.specs.List.{range_with_len}
-use Rattle.xc_dance.specs.Moves.{is_open, open_items}
 use Rattle.xc_search.proofs.room.FewSpends.{few_spendings}
 use Rattle.xc_search.proofs.moves.LegalTweaks.{legal_node}
 
@@ -53,14 +52,7 @@ depth p t (l ∷ ls) s =
     )
 
 pub shallow_first : (p : Puzzle) → IsShallow p [] []
-shallow_first p =
-    omega (
-      arith,
-      length-map (open_items p []) (wanted_at p []),
-      length-filter-le (λ i. is_open i []) (range_with_len 1 (primary_count p)),
-      length-range_with_len 1 (primary_count p),
-      length-numbered_from 1 p.options,
-    )
+shallow_first p = grind (arith, common_steps, length-filter-le, length-range_with_len, length-numbered_from)
 
 -- a branch leaves less than there was at its level
 pub shallower : (p : Puzzle) (t s : List Move) (l k : Level) (ls : List Level) → AreStacked p t (l ∷ ls)
@@ -80,12 +72,7 @@ shallower p t s l k ls stacked b =
 -- what has a branch item isn't empty
 some_left : (p : Puzzle) (t : List Move) (i : ℕ) → branch_item (residual_of p t) ≡ Some (wanted_at p t i)
     → 0 < size_of (residual_of p t)
-some_left p t i b =
-    omega (
-      arith,
-      less_items (wanted_at p t i) (wanted_after p t)
-          (least_is_one (branch_count (residual_of p t)) (wanted_after p t) (wanted_at p t i) b),
-    )
+some_left p t i b = grind (arith, common_steps, less_items, least_is_one)
 
 -- before another level is begun there is room for it
 pub depth_at : (p : Puzzle) (t : List Move) (ls : List Level) (i : ℕ) → AreStacked p t ls → IsShallow p t ls

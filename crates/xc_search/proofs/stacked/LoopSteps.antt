@@ -1,4 +1,5 @@
 -- The steps of the search's loop.
+use Rattle.std.proofs.lemmas.Grind.{common_steps}
 use Rattle.std.proofs.Common.{ℕ, ◌≡◌, ◌+◌, ◌-◌, ◌<◌, ◌≤◌, Bool, true, false, List, ◌∷◌, length, drop, length-drop, refl}
 use Rattle.std.proofs.Common.{Some, sym, ap, ◌∙◌, arith, subst}
 use Rattle.std.proofs.lemmas.List.{drop-drop}
@@ -27,21 +28,11 @@ GoesOn-refl d ls down s = record { still = (refl, refl); standing = s; members =
 
 pub GoesOn-trans : (d e f : Dancing) (ls ks js : Levels) (x y z : Bool) → GoesOn d ls x e ks y → GoesOn e ks y f js z
     → GoesOn d ls x f js z
-GoesOn-trans d e f ls ks js x y z a b = record {
-  still = (
-    b.still.0 ∙ ap (λ (s : Dancing). record s { trail = f.trail }) a.still.0,
-    b.still.1
-        ∙ ap (λ (s : Levels). record s { levels = js.levels }) a.still.1,
-  );
-  standing = b.standing;
-  members = a.members ∙ b.members;
-}
+GoesOn-trans d e f ls ks js x y z a b = grind (arith, common_steps)
 
 pub node_at : (p : Puzzle) (t : List Move) (ls : List Level) (i n : ℕ) → IsStanding p t ls true
     → choice_after p t ≡ Some (i, n) → IsNode p t i
-node_at p t ls i n s e =
-    let c = chosen_item p t i n (s.searchable refl).legal e in
-    record { searchable = s.searchable refl; item = c.item; is_open = c.is_open }
+node_at p t ls i n s e = grind (arith, common_steps, chosen_item)
 
 -- the levels with one more
 abbrev pub with_level : Level → Levels → Levels
@@ -76,26 +67,7 @@ pub goes_back : (d e : Dancing) (l : Level) (vs ks : Levels) → AreStacked d.pu
     → vs.levels ≡ l ∷ drop 1 vs.levels →
     l.count ≤ l.begun → e ≡ record d { trail = oldest l.mark d.trail } → ks ≡ record vs { levels = drop 1 vs.levels } →
     GoesOn d vs false e ks false × (visits e.puzzle e.trail ks.levels < visits d.puzzle d.trail vs.levels)
-goes_back d e l vs ks stacked top h ed ek =
-    let p = d.puzzle in
-    let t = d.trail in
-    let ls = drop 1 vs.levels in
-    let u = oldest l.base t in
-    let here = subst (AreStacked p t) top stacked in
-    let back = returned p t l ls here in
-    let done = finished p u l ls back.0 h in
-    let under = oldest-oldest l.mark l.base t here.0.within.0 here.0.within.1 in
-    subst (λ (f : Dancing). GoesOn d vs false f ks false × (visits f.puzzle f.trail ks.levels < visits p t vs.levels))
-    (sym ed)
-    (subst (λ (js : Levels). GoesOn d vs false (record d { trail = oldest l.mark t }) js false
-    × (visits p (oldest l.mark t) js.levels < visits p t vs.levels)) (sym ek) (
-      record {
-        still = (refl, refl);
-        standing = record { stacked = here.2; searchable = λ e. cc; shallow = λ e. cc };
-        members = ap (to_give p t) top ∙ sym back.1 ∙ done.0 ∙ ap (λ v. to_give p v ls) under;
-      },
-      omega (arith, done.1, back.2, ap (visits p t) top, ap (λ v. visits p v ls) under),
-    ))
+goes_back d e l vs ks stacked top h ed ek = grind (arith, common_steps, returned, finished, oldest-oldest)
 
 -- the newest of the levels goes on with a branch
 goes_to : (d e : Dancing) (l : Level) (b : Begun) (vs ks : Levels) → AreStacked d.puzzle d.trail vs.levels
@@ -180,10 +152,7 @@ begins_first d e f ls ks i n l b s h ed el ef begun ek =
 can_branch : (p : Puzzle) (u : List Move) (f : Dancing) (i : ℕ) (l : Level) (b : Begun) → f.puzzle ≡ p → l.item ≡ i →
     IsEntered p u l f.trail (begun_level b l) → CanBranch f.puzzle i
     (option_at f.puzzle i b.place) f.trail × IsPlace f.puzzle i b.place
-can_branch p u f i l b same at entered =
-    subst (λ i. CanBranch f.puzzle i (option_at f.puzzle i b.place) f.trail × IsPlace f.puzzle i b.place) at
-    (subst (λ p. CanBranch p l.item (option_at p l.item b.place) f.trail × IsPlace p l.item b.place) (sym same)
-    (entered.can, entered.begun.level.place))
+can_branch p u f i l b same at entered = grind (arith, common_steps)
 
 -- a new level's first branch is entered
 pub enters_first : (d e f : Dancing) (ls ks : Levels) (i n : ℕ) (l : Level) (b : Begun) →
@@ -244,12 +213,7 @@ enters d f l b vs ks stacked top ef entered ek =
 pub goes_on_to : (d e f : Dancing) (ls ks js : Levels) (x y : Bool) (i q : ℕ) → GoesOn d ls x e ks y →
     ahead e.puzzle e.trail ks.levels y ≤ ahead d.puzzle d.trail ls.levels x → EntersBranch e ks y f js i q
     → EntersBranch d ls x f js i q
-goes_on_to d e f ls ks js x y i q on less enters = record {
-  can = enters.can;
-  place = enters.place;
-  goes_on = GoesOn-trans d e (branched f i q) ls ks js x y true on enters.goes_on;
-  less = omega (arith, less, enters.less);
-}
+goes_on_to d e f ls ks js x y i q on less enters = grind (arith, common_steps)
 
 -- what is asked back at a level
 pub back_at : (p : Puzzle) (t r : List Move) (l : Level) (ls : List Level) → AreStacked p t (l ∷ ls)

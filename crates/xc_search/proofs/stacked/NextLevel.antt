@@ -1,7 +1,8 @@
 -- What one step of the search does to the levels.
+use Rattle.std.proofs.lemmas.Grind.{common_steps}
 use Rattle.std.proofs.Common.{ℕ, zero, suc, ◌≡◌, ◌+◌, ◌-◌, ◌<◌, ◌≤◌, true, false, cond, eqb, leb, List, [], ◌∷◌, ◌++◌}
-use Rattle.std.proofs.Common.{length, map, take, drop, min, Option, Some, None, refl, sym, ap, ap₂, ◌∙◌, arith, subst}
-use Rattle.std.proofs.Common.{eq-eqb, ne_eqb, ◌≢◌, append_assoc, append-nil, length-append, length-drop}
+use Rattle.std.proofs.Common.{length, map, drop, Option, Some, None, refl, sym, ap, ◌∙◌, arith, subst}
+use Rattle.std.proofs.Common.{eq-eqb, ne_eqb, ◌≢◌, append_assoc, length-append, length-drop}
 use Rattle.std.specs.Prelude.{option_map, flat_map, unwrap_or, slice_get}
 use Rattle.std.specs.List.{AllByRecursion, range_with_len}
 use Rattle.xc_input.specs.declared.problem.Use.{Use}
@@ -14,11 +15,11 @@ use Rattle.xc_search.specs.Listing.{Wanted, Branch, branches_of, branch_count, b
 use Rattle.xc_dance.specs.Moves.{is_open, spends, open_items, AreLegal}
 use Rattle.xc_search.specs.Residuals.{wanted_at, wanted_after, choice_after}
 use Rattle.xc_search.specs.inner.Residual.{residual_of}
-use Rattle.xc_search.specs.inner.Levels.{branches_at, members_of, IsSearchable, options_at, IsLevelAt, IsShallow}
+use Rattle.xc_search.specs.inner.Levels.{branches_at, members_of, IsSearchable, IsLevelAt, IsShallow}
 use Rattle.xc_search.specs.inner.Levels.{AreStacked, IsPlace, choices_of, to_give, coming, first_level}
 use Rattle.xc_dance.specs.Fields.{link_place, layout}
 use Rattle.xc_dance.specs.Commits.{option_at, number_of, after_spend, after_use, after_uses}
-use Rattle.xc_search.specs.inner.Commits.{oldest, after_none, walks}
+use Rattle.xc_search.specs.inner.Commits.{oldest, after_none}
 use Rattle.xc_search.specs.inner.Ahead.{cost, work, work_level, visits, ahead}
 use Rattle.xc_input.proofs.lists.Members.{each_in}
 use Rattle.xc_search.proofs.listing.Unrolled.{listing_unrolled}
@@ -30,7 +31,6 @@ use Rattle.xc_search.proofs.moves.OldestMoves.{oldest_all}
 use Rattle.xc_search.proofs.stacked.WorkUnrolled.{work_unrolled}
 use Rattle.xc_input.proofs.lists.EachElement.{each_weaker, each-map, each-filter, each_passes, each_both}
 use Rattle.xc_input.proofs.lists.Filters.{map-map}
-use Rattle.std.proofs.lemmas.List.{map-append, take-append-drop}
 
 -- ---- the oldest moves
 
@@ -44,9 +44,7 @@ oldest-append n (m ∷ ms) t h =
     ap (λ k. drop k (m ∷ ms ++ t)) one_more ∙ oldest-append n ms t h
 
 pub oldest-oldest : (m n : ℕ) (t : List Move) → m ≤ n → n ≤ length t → oldest m (oldest n t) ≡ oldest m t
-oldest-oldest m n t h k =
-    sym (ap (oldest m) (sym (take-append-drop (length t - n) t))
-    ∙ oldest-append m (take (length t - n) t) (oldest n t) (omega (arith, length-oldest n t k, h)))
+oldest-oldest m n t h k = grind (arith, common_steps, oldest-append, length-oldest)
 
 -- ---- moves on top
 
@@ -102,11 +100,7 @@ ext_longer s t e = omega (arith, ap length e.1, length-append e.0 t)
 
 range_from : (a n : ℕ) → AllByRecursion (λ i. a ≤ i) (range_with_len a n)
 range_from a zero = tt
-range_from a (suc n) = (
-  omega arith,
-  each_weaker (λ i. a + 1 ≤ i) (λ i. a ≤ i) (range_with_len (a + 1) n) (λ i h. omega (arith, h))
-      (range_from (a + 1) n),
-)
+range_from a (suc n) = grind (arith, common_steps, range_from (a + 1) n, each_weaker)
 
 all_primary : (p : Puzzle) (t : List Move)
     → AllByRecursion (λ w. IsPrimary p w.item × (is_open w.item t ≡ true)) (wanted_after p t)
@@ -174,19 +168,12 @@ branches_here p t w e = rw e refl
 -- no primary item is left: one member, with no more choices
 pub solution : (p : Puzzle) (t : List Move) (ls : List Level) → AreLegal p t → choice_after p t ≡ None
     → coming p t ls true ≡ choices_of p ls ∷ to_give p t ls
-solution p t ls l e =
-    let one : listing (residual_of p t) ≡ [] ∷ [] =
-    listing_unrolled (residual_of p t) ∙ ap (λ o. level listing o (residual_of p t)) (chosen_none p t l e) in
-    ap (λ ms. map (λ m. choices_of p ls ++ m) ms ++ to_give p t ls) one
-    ∙ ap (λ m. m ∷ to_give p t ls) (append-nil (choices_of p ls))
+solution p t ls l e = grind (arith, common_steps, listing_unrolled, chosen_none)
 
 members_all : (before : List Choice) (bs : List Branch)
     → map (λ m. before ++ m) (flat_map (λ b. map (λ m. b.choice ∷ m) (listing b.next)) bs) ≡ members_of before bs
 members_all before [] = refl
-members_all before (b ∷ bs) =
-    map-append (λ m. before ++ m) (map (λ m. b.choice ∷ m) (listing b.next))
-    (flat_map (λ b. map (λ m. b.choice ∷ m) (listing b.next)) bs)
-    ∙ ap₂ (λ x y. x ++ y) (map-map (λ m. b.choice ∷ m) (λ m. before ++ m) (listing b.next)) (members_all before bs)
+members_all before (b ∷ bs) = grind (arith, common_steps, members_all before bs, map-map)
 
 -- at an item's own node stands no option
 pub at_own : (p : Puzzle) (i : ℕ) → option_at p i i ≡ None
@@ -202,23 +189,7 @@ own_place p i = ap (λ o. link_place p i (unwrap_or o 0)) (sym (at_own p i))
 -- a level's own moves stand before its first branch
 pub first_stands : (p : Puzzle) (t : List Move) (i n : ℕ) → IsSearchable p t → Chosen p t i n →
     IsLevelAt p t (after_spend p i t) (first_level p t i n)
-first_stands p t i n here c =
-    let s = after_spend p i t in
-    let no_tweaks : 0 ≡ cond (walks p t i) 0 (min 0 (length (options_at p t i))) =
-    elim (walks p t i) as (λ b. 0 ≡ cond b 0 (min 0 (length (options_at p t i))))
-    [ true ↦ refl | false ↦ omega arith ] in
-    record {
-      within = (ext_longer s t (ext_after_spend p i t), omega arith);
-      node = record { searchable = here; item = c.item; is_open = c.is_open };
-      branch = c.branch;
-      count = c.count;
-      begun = omega arith;
-      walking = refl;
-      tweaks = no_tweaks;
-      option = at_own p i;
-      place = own_place p i;
-      base = oldest_all s;
-    }
+first_stands p t i n here c = grind (arith, common_steps, ext_longer, ext_after_spend, at_own, own_place, oldest_all)
 
 -- a level is begun
 pub descended : (p : Puzzle) (t : List Move) (ls : List Level) (i n : ℕ) → IsSearchable p t → IsShallow p t ls

@@ -1,5 +1,6 @@
 -- The option that a level's next branch takes.
-use Rattle.std.proofs.Common.{inl, inr, cond, Option, ℕ, zero, suc, ◌≡◌, ◌<◌, ◌≤◌, Bool, true, false, ltb, List, []}
+use Rattle.std.proofs.lemmas.Grind.{common_steps}
+use Rattle.std.proofs.Common.{inl, inr, cond, Option, ℕ, zero, suc, ◌≡◌, ◌<◌, ◌≤◌, Bool, true, false, List, []}
 use Rattle.std.proofs.Common.{◌∷◌, length, map, drop, min, Some, None, refl, sym, ap, ap₂, ◌∙◌, arith, lt-ltb, le-ltb}
 use Rattle.std.proofs.Common.{get_or}
 use Rattle.std.proofs.lemmas.Option.{slice_get_within, slice_get-get_or}
@@ -11,8 +12,8 @@ use Rattle.xc_input.specs.Problem.{Puzzle, Numbered, numbered_get, holds}
 use Rattle.xc_dance.specs.Moves.{listed, listed_numbers, next_above}
 use Rattle.xc_dance.specs.inner.Left.{left}
 use Rattle.xc_dance.specs.Fields.{link_place}
-use Rattle.xc_dance.specs.Commits.{IsListedAt, after_spend}
-use Rattle.xc_search.specs.inner.Commits.{oldest, tweaked}
+use Rattle.xc_dance.specs.Commits.{IsListedAt}
+use Rattle.xc_search.specs.inner.Commits.{oldest}
 use Rattle.xc_search.specs.inner.Levels.{taken, next_number, options_at, IsLevelAt, IsLevel}
 use Rattle.xc_search.proofs.moves.OldestMoves.{oldest_all}
 use Rattle.xc_dance.proofs.MoveLemmas.OpenLists.{left_rises}
@@ -33,15 +34,9 @@ first_above n (o ∷ os) r = rw (lt-ltb n o.number r.0) refl
 above_place : (n m : ℕ) (os : List Numbered) (k : ℕ) (y : Numbered) → NumbersRise n os → slice_get os k ≡ Some y
     → next_above y.number (map number_of os) ≡ option_map number_of (slice_get os (suc k))
 above_place n m [] k y r e = cc
-above_place n m (o ∷ os) zero y r e =
-    let same : o ≡ y = cc in
-    let number_is : o.number ≡ y.number = ap number_of same in
-    let not_itself : ltb y.number o.number ≡ false = le-ltb y.number o.number (omega (arith, number_is)) in
-    rw not_itself (first_above y.number os (NumbersRise-weaker y.number o.number os (omega (arith, number_is)) r.1))
+above_place n m (o ∷ os) zero y r e = grind (arith, common_steps, le-ltb, first_above)
 above_place n m (o ∷ os) (suc k) y r e =
-    let later = rise_above o.number os k y r.1 e in
-    let not_before : ltb y.number o.number ≡ false = le-ltb y.number o.number (omega (arith, later)) in
-    rw not_before (above_place o.number m os k y r.1 e)
+    grind (arith, common_steps, above_place o.number m os k y r.1 e, rise_above, le-ltb)
 
 rise_drop : (n m : ℕ) (os : List Numbered) → NumbersRise n os → NumbersRise n (drop m os)
 rise_drop n zero os r = r
@@ -55,11 +50,7 @@ rises_at p u i = NumbersRise-filter (λ o. holds o i) 0 (left p u) (left_rises p
 -- what the level's list is before its next branch
 list_is : (p : Puzzle) (t : List Move) (l : Level) → IsLevel p t l → l.base ≡ length t
     → listed p t l.item ≡ drop l.tweaks (options_at p (oldest l.mark t) l.item)
-list_is p t l is_level whole =
-    let u = oldest l.mark t in
-    let t_is : t ≡ tweaked l.tweaks l.item (after_spend p l.item u) =
-    sym (ap (λ n. oldest n t) whole ∙ oldest_all t) ∙ is_level.base in
-    ap (λ t. listed p t l.item) t_is ∙ listed_branch p l.tweaks l.item u is_level.node
+list_is p t l is_level whole = grind (arith, common_steps, oldest_all, listed_branch)
 
 few_begun : (p : Puzzle) (u t : List Move) (l : Level) → IsLevelAt p u t l → l.begun < l.count
     → l.begun ≤ length (options_at p u l.item)

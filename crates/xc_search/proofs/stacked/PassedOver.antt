@@ -1,8 +1,8 @@
 -- A search that goes on over many members.
 use Rattle.std.proofs.Common.{ℕ, zero, suc, ◌≡◌, ◌+◌, ◌<◌, ◌≤◌, Bool, true, false, List, [], ◌∷◌, ◌++◌, length, drop}
-use Rattle.std.proofs.Common.{min, refl, sym, ap, ap₂, ◌∙◌, arith, subst}
+use Rattle.std.proofs.Common.{min, refl, sym, ap, ◌∙◌, arith, subst}
 use Rattle.std.proofs.lemmas.Grind.{common_steps}
-use Rattle.std.proofs.lemmas.List.{drop-map, length-map}
+use Rattle.std.proofs.lemmas.List.{drop-map}
 use Rattle.xc_search.specs.declared.choice.Choice.{Choice}
 use Rattle.xc_dance.specs.Dancing.{Dancing}
 use Rattle.xc_search.specs.Outlook.{Outlook, shown_after}
@@ -17,8 +17,7 @@ rest_behind : {X : Type 0} (n : ℕ) (ms : List X) (m : X) (rest : List X) → d
 rest_behind zero [] m rest e = absurd (cc e)
 rest_behind (suc n) [] m rest e = absurd (cc e)
 rest_behind zero (x ∷ ms) m rest e = cc e
-rest_behind (suc n) (x ∷ ms) m rest e =
-    let h : suc (n + 1) ≡ suc n + 1 = omega arith in rest_behind n ms m rest e ∙ ap (λ k. drop k (x ∷ ms)) h
+rest_behind (suc n) (x ∷ ms) m rest e = grind (arith, common_steps, rest_behind n ms m rest e)
 
 within_behind : {X : Type 0} (n : ℕ) (ms : List X) (m : X) (rest : List X) → drop n ms ≡ m ∷ rest → n < length ms
 within_behind n ms m rest e = grind (arith, common_steps)
@@ -41,8 +40,7 @@ pub shown_next : (n : ℕ) (ms : List (List Choice)) (s m : List Choice) (rest :
 shown_next zero [] s m rest e = absurd (cc e)
 shown_next (suc n) [] s m rest e = absurd (cc e)
 shown_next zero (x ∷ ms) s m rest e = cc e
-shown_next (suc n) (x ∷ ms) s m rest e =
-    let h : suc (n + 1) ≡ suc n + 1 = omega arith in shown_next n ms x m rest e ∙ ap (λ k. shown_after k (x ∷ ms) s) h
+shown_next (suc n) (x ∷ ms) s m rest e = grind (arith, common_steps, shown_next n ms x m rest e)
 
 -- none is shown where there are fewer
 pub shown_past : (n : ℕ) (ms : List (List Choice)) (s : List Choice) → length ms < n → [] ≡ shown_after n ms s
@@ -56,27 +54,14 @@ pub then_still : (d e f : Dancing) (ls ks js : Levels) → (e ≡ record d { tra
     × (ks ≡ record ls { levels = ks.levels }) →
     (f ≡ record e { trail = f.trail }) × (js ≡ record ks { levels = js.levels }) → (f ≡ record d { trail = f.trail })
     × (js ≡ record ls { levels = js.levels })
-then_still d e f ls ks js a b = (
-  b.0 ∙ ap (λ (s : Dancing). record s { trail = f.trail }) a.0,
-  b.1
-      ∙ ap (λ (s : Levels). record s { levels = js.levels }) a.1,
-)
+then_still d e f ls ks js a b = grind (arith, common_steps)
 
 -- it stands at the member behind the first n
 pub went_to : (d e : Dancing) (ls ks : Levels) (down : Bool) (n : ℕ) → (e ≡ record d { trail = e.trail })
     × (ks ≡ record ls { levels = ks.levels }) → IsSolved e.puzzle e.trail ks.levels →
     drop n (coming d.puzzle d.trail ls.levels down) ≡ coming e.puzzle e.trail ks.levels true
     → WentOver d ls down (n + 1) e ks
-went_to d e ls ks down n still at come =
-    let ms = coming d.puzzle d.trail ls.levels down in
-    let next = come ∙ solution e.puzzle e.trail ks.levels (at.standing.searchable refl).legal at.none in
-    record {
-      still = still;
-      solved = at;
-      come = rest_behind n ms _ _ next;
-      shown = shown_next n ms (choices_of d.puzzle ls.levels) _ _ next;
-      within = omega (arith, within_behind n ms _ _ next);
-    }
+went_to d e ls ks down n still at come = grind (arith, common_steps, solution, rest_behind, shown_next, within_behind)
 
 -- The search stands at a solution where what is left was searched: it finds that one again, and passes over one more.
 pub record HasToPass (p : Puzzle) (t : List Move) (ls : List Level) (down : Bool) (many more : ℕ) : Type 0 where
@@ -107,18 +92,8 @@ went_over d e ls ks false many more some has at = by_many many refl
 pub went_past : (d e : Dancing) (ls ks : Levels) (down : Bool) (many more n lacks : ℕ)
     → HasToPass d.puzzle d.trail ls.levels down many more → EndsOver d ls more e ks lacks →
     (lacks < many) × (n + 1 + lacks ≡ many → WentPast d ls down n e ks)
-went_past d e ls ks true many more n lacks has ends =
-    let first = has.first refl in (
-      omega (arith, first, ends.count),
-      λ h. record { still = ends.still; ended = ends.ended; count = omega (arith, h, first, ends.count) },
-    )
-went_past d e ls ks false many more n lacks has ends =
-    let again = has.again refl in
-    let found =
-    ap length (solution d.puzzle d.trail ls.levels (again.1.standing.searchable refl).legal again.1.none) in (
-      omega (arith, again.0, found, ends.count),
-      λ h. record { still = ends.still; ended = ends.ended; count = omega (arith, h, again.0, found, ends.count) },
-    )
+went_past d e ls ks true many more n lacks has ends = grind (arith, common_steps)
+went_past d e ls ks false many more n lacks has ends = grind (arith, common_steps, solution)
 
 -- a member is shown behind the choices before it
 shown_behind : (n : ℕ) (before : List Choice) (ms : List (List Choice)) (s t : List Choice) → 0 < n → n ≤ length ms →
@@ -148,16 +123,7 @@ pub outlook_over : (d e : Dancing) (ls ks : Levels) (down : Bool) (n : ℕ) (o :
       room = e.room;
     }
     ≡ record o { to_come = drop n o.to_come; shown = shown_after n o.to_come o.shown }
-outlook_over d e ls ks down n o some w is =
-    let ms = coming d.puzzle d.trail ls.levels down in
-    let same : ks.before ≡ ls.before = ap (λ (s : Levels). s.before) w.still.1 in
-    ap (λ before. outlook (behind before (coming e.puzzle e.trail ks.levels false))
-    (before ++ choices_of e.puzzle ks.levels) e) same
-    ∙ ap₂ (λ ms m. outlook (behind ls.before ms) (ls.before ++ m) e) w.come w.shown
-    ∙ ap₂ (λ ms m. outlook ms m e) (sym (drop-map (λ m. ls.before ++ m) n ms))
-    (sym (shown_behind n ls.before ms ls.shown (choices_of d.puzzle ls.levels) some w.within))
-    ∙ ap (λ s. outlook (drop n (behind ls.before ms)) (shown_after n (behind ls.before ms) ls.shown) s) w.still.0
-    ∙ ap (λ (o : Outlook). record o { to_come = drop n o.to_come; shown = shown_after n o.to_come o.shown }) is
+outlook_over d e ls ks down n o some w is = grind (arith, common_steps, drop-map, shown_behind)
 
 -- and where it ended
 pub outlook_past : (d e : Dancing) (ls ks : Levels) (down : Bool) (n many : ℕ) (o : Outlook) →
@@ -175,18 +141,4 @@ pub outlook_past : (d e : Dancing) (ls ks : Levels) (down : Bool) (n many : ℕ)
       room = e.room;
     } ≡ record o { to_come = drop many o.to_come; shown = shown_after many o.to_come o.shown }) ×
     (n ≡ min many (length o.to_come))
-outlook_past d e ls ks down n many o w less is =
-    let ms = coming d.puzzle d.trail ls.levels down in
-    let long : length (behind ls.before ms) ≡ length ms = length-map ms (λ m. ls.before ++ m) in
-    let all : length (behind ls.before ms) < many = omega (arith, long, w.count, less) in (
-      ap (λ js. outlook (behind ks.before (coming e.puzzle e.trail js false)) [] e) w.ended
-          ∙ ap (λ s. outlook [] [] s) w.still.0
-          ∙ ap₂ (λ ms m. outlook ms m d) (sym (drop_past many (behind ls.before ms) (omega (arith, all))))
-          (shown_past many (behind ls.before ms) ls.shown all)
-          ∙ ap (λ (o : Outlook). record o {
-            to_come = drop many o.to_come;
-            shown =
-                shown_after many o.to_come o.shown;
-          }) is,
-      omega (arith, long, w.count, less) ∙ ap (λ (o : Outlook). min many (length o.to_come)) is,
-    )
+outlook_past d e ls ks down n many o w less is = grind (arith, common_steps, drop_past, shown_past)

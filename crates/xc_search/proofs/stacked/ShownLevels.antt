@@ -1,4 +1,5 @@
 -- The levels of a search show their options.
+use Rattle.std.proofs.lemmas.Grind.{common_steps}
 use Rattle.std.proofs.Common.{ℕ, zero, suc, ◌≡◌, ◌<◌, List, [], ◌∷◌, length, reverse, Option, Some, None, refl, sym, ap}
 use Rattle.std.proofs.Common.{◌∙◌, arith, subst}
 use Rattle.std.specs.Prelude.{All, IfSome, option_map, slice_get, unwrap_or}
@@ -21,10 +22,7 @@ number : Numbered → ℕ
 number o = o.number
 
 level_shown : (p : Puzzle) (u t : List Move) (l : Level) → IsLevelAt p u t l → IsShown p l
-level_shown p u t l is_level = record {
-  item = omega (arith, is_level.node.item);
-  option = by_begun l.begun refl;
-}
+level_shown p u t l is_level = grind (arith, common_steps, by_begun)
   where
     shows : (o : Option ℕ) → taken p l ≡ o → IfSome o (λ x. IsUseAt p l.item x l.place)
         → IfSome (taken p l) (λ x. IsUseAt p l.item x l.place)
@@ -46,9 +44,7 @@ level_shown p u t l is_level = record {
         })
 
     by_begun : (n : ℕ) → l.begun ≡ n → IfSome (taken p l) (λ x. IsUseAt p l.item x l.place)
-    by_begun zero e =
-        shows None (is_level.option
-        ∙ ap (λ n. option_map (λ (o : Numbered). o.number) (numbered_get (options_at p u l.item) n)) e) tt
+    by_begun zero e = grind (arith, common_steps, shows)
     by_begun (suc k) e =
         by_option k (slice_get (options_at p u l.item) k) refl
         (is_level.option ∙ ap (λ n. option_map (λ (o : Numbered). o.number)

@@ -1,5 +1,6 @@
 -- A search begins with all members to come.
-use Rattle.std.proofs.Common.{ℕ, ◌≡◌, ◌+◌, true, List, [], ◌∷◌, ◌++◌, map, sym, ap, ap₂, ◌∙◌, arith, subst, lt-ltb}
+use Rattle.std.proofs.lemmas.Grind.{common_steps}
+use Rattle.std.proofs.Common.{ℕ, ◌≡◌, ◌+◌, true, List, [], ◌∷◌, ◌++◌, map, ap, ap₂, ◌∙◌, arith, lt-ltb}
 use Rattle.std.proofs.Common.{append-nil}
 use Rattle.xc_input.specs.declared.problem.Bounds.{Bounds}
 use Rattle.std.proofs.lemmas.List.{map-id}
@@ -9,8 +10,7 @@ use Rattle.xc_search.specs.declared.choice.Choice.{Choice}
 use Rattle.xc_dance.specs.declared.dance.Move.{Move}
 use Rattle.xc_search.specs.declared.level.Level.{Level}
 use Rattle.xc_input.specs.Problem.{Puzzle, AreSoundBounds, IsValid}
-use Rattle.xc_search.specs.Listing.{Residual, wanted_from, listing}
-use Rattle.xc_search.specs.Residuals.{wanted_after}
+use Rattle.xc_search.specs.Listing.{wanted_from, listing}
 use Rattle.xc_search.specs.inner.Residual.{residual_of}
 use Rattle.xc_search.specs.Cover.{members}
 use Rattle.xc_search.specs.inner.Levels.{AreAllWanted, IsStanding, coming}
@@ -25,17 +25,7 @@ wanted_at_first i (b ∷ bs) a = (lt-ltb 0 b.high (omega (arith, a.0)), wanted_a
 pub starts_standing : (p : Puzzle) (t : List Move) (ls : List Level) → IsValid p → t ≡ [] → ls ≡ []
     → IsStanding p t ls true
 starts_standing p t ls v et el =
-    let wanted : AreAllWanted (wanted_after p []) =
-    subst (λ (r : Residual). AreAllWanted r.items) (sym (no_moves_leave_all p))
-    (wanted_at_first 1 p.bounds (recursion_from_All AreSoundBounds p.bounds v.bounds)) in
-    let made : IsStanding p [] [] true =
-    record {
-      stacked = tt;
-      searchable = λ e. record
-          { valid = v; legal = tt; wanted = wanted; sparing = sparing_first p };
-      shallow = λ e. shallow_first p;
-    } in
-    subst (λ t. IsStanding p t ls true) (sym et) (subst (λ ls. IsStanding p [] ls true) (sym el) made)
+    grind (arith, common_steps, no_moves_leave_all, wanted_at_first, recursion_from_All, sparing_first, shallow_first)
 
 pub starts_coming : (p : Puzzle) (t : List Move) (ls : List Level) → t ≡ [] → ls ≡ [] → coming p t ls true ≡ members p
 starts_coming p t ls et el =

@@ -1,4 +1,5 @@
 -- What the code of a branch asks and gives.
+use Rattle.std.proofs.lemmas.Grind.{common_steps}
 use Rattle.std.proofs.Common.{ℕ, suc, ◌≡◌, ◌≢◌, ◌+◌, ◌-◌, ◌<◌, ◌≤◌, Bool, true, false, cond, List, ◌∷◌, length, min}
 use Rattle.std.proofs.Common.{Option, Some, None, refl, sym, ap, ◌∙◌, arith, subst}
 use Rattle.std.proofs.lemmas.Option.{slice_get_within}
@@ -60,18 +61,8 @@ taking_at p t l x m q is_level more at place e hm = by_case l.walks refl
         }
 
     by_case : (b : Bool) → l.walks ≡ b → Taking p t l x.number m q
-    by_case true c =
-        let stood : l.tweaks ≡ 0 = is_level.tweaks ∙ rw c refl in
-        let m_is : m ≡ 0 = hm ∙ rw c stood in
-        let used_up = covered_walks p (oldest l.mark t) l.item (sym is_level.walking ∙ c) in
-        made (omega (arith, m_is)) (λ h. absurd (h used_up))
-    by_case false c =
-        let within = slice_get_within (options_at p (oldest l.mark t) l.item) l.begun x e in
-        let stood : l.tweaks ≡ min l.begun (length (options_at p (oldest l.mark t) l.item)) =
-        is_level.tweaks ∙ rw c refl in
-        let m_is : m ≡ l.tweaks + 1 = hm ∙ rw c refl in
-        let all : m ≡ l.begun + 1 = omega (arith, m_is, stood, within) in
-        made (omega (arith, all)) (λ h. omega (arith, all))
+    by_case true c = grind (arith, common_steps, covered_walks, made)
+    by_case false c = grind (arith, common_steps, slice_get_within, made)
 
 some_option : (o : Option Numbered) (n : ℕ) → option_map (λ (x : Numbered). x.number) o ≡ Some n → (x : Numbered)
     × (o ≡ Some x) × (x.number ≡ n)

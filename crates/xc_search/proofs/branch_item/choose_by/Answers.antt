@@ -1,9 +1,8 @@
-use Rattle.std.proofs.Common.{arith, ℕ, List, ◌-◌, ◌<◌, ◌≡◌, sym, ◌∙◌, true, false, lt-ltb, le-ltb, Some, None, filter}
-use Rattle.std.proofs.Common.{ltb}
+use Rattle.std.proofs.lemmas.Grind.{common_steps}
+use Rattle.std.proofs.Common.{arith, ℕ, List, ◌-◌, ◌<◌, ◌≡◌, true, false, lt-ltb, le-ltb, Some, None}
 use Rattle.xc_dance.specs.Moves.{next_above, open_items}
 use Rattle.xc_dance.specs.declared.dance.Move.{Move}
 use Rattle.xc_input.specs.Problem.{Puzzle, primary_count}
-use Rattle.xc_search.specs.Residuals.{branches_after, wanted_at}
 use Rattle.xc_search.proofs.residual.FirstFewest.{next_open, choice_first, choice_none, choice_next, choice_last}
 use Rattle.xc_search.proofs.residual.FirstFewest.{choice_settled, choice_done, fewer, once_more}
 use Rattle.xc_dance.proofs.MoveLemmas.ListLemmas.{next_above-gt}
@@ -15,9 +14,7 @@ nearer : (p : Puzzle) (t : List Move) (n k : ℕ) → next_above n (open_items p
 nearer p t n k e = omega (arith, next_above-gt n k (open_items p t) e, next_open p t n k e)
 
 pub returns-in_err-item-clause-choice : goal.returns-in_err-item-clause-choice
-returns-in_err-item-clause-choice g c =
-    c.from_residual.ensures ∙ sym
-    (choice_none c.args.problem.now.puzzle (g.D.Dance.state c.args.dance.now).trail (cc (c.in_err-item.ensures)))
+returns-in_err-item-clause-choice g c = grind (arith, common_steps, choice_none)
 
 pub branches_of-fewest-requires-clause-open : goal.branches_of-fewest-requires-clause-open
 branches_of-fewest-requires-clause-open g c =
@@ -25,10 +22,7 @@ branches_of-fewest-requires-clause-open g c =
     (cc (c.in_ok-item.ensures))
 
 pub branches_of-fewest-requires-clause-once : goal.branches_of-fewest-requires-clause-once
-branches_of-fewest-requires-clause-once g c h =
-    let p = c.args.problem.now.puzzle in
-    let t = (g.D.Dance.state c.args.dance.now).trail in
-    once_more p t c.in_ok-item.item (c.requires.once h) (next_open p t 0 c.in_ok-item.item (cc (c.in_ok-item.ensures)))
+branches_of-fewest-requires-clause-once g c h = grind (arith, common_steps, once_more, next_open)
 
 pub loop-fewest-init : goal.loop-fewest-init
 loop-fewest-init g c =
@@ -47,16 +41,10 @@ branches_of-n-requires-clause-open g c =
     (cc (c.in-Some.ensures))
 
 pub branches_of-n-requires-clause-once : goal.branches_of-n-requires-clause-once
-branches_of-n-requires-clause-once g c h =
-    let p = c.args.problem.now.puzzle in
-    let t = (g.D.Dance.state c.args.dance.now).trail in
-    once_more p t c.in-Some.next (c.requires.once h)
-    (next_open p t c.loop-fewest.at c.in-Some.next (cc (c.in-Some.ensures)))
+branches_of-n-requires-clause-once g c h = grind (arith, common_steps, once_more, next_open)
 
 pub loop-fewest-smaller-then-n-fewest : goal.loop-fewest-smaller-then-n-fewest
-loop-fewest-smaller-then-n-fewest g c =
-    nearer c.args.problem.now.puzzle (g.D.Dance.state c.args.dance.now).trail c.loop-fewest.at c.in-Some.next
-    (cc (c.in-Some.ensures))
+loop-fewest-smaller-then-n-fewest g c = grind (arith, common_steps, nearer)
 
 pub loop-fewest-preserved-then-n-fewest : goal.loop-fewest-preserved-then-n-fewest
 loop-fewest-preserved-then-n-fewest g c =
@@ -73,9 +61,7 @@ loop-fewest-preserved-then-n-fewest g c =
     }
 
 pub loop-fewest-smaller : goal.loop-fewest-smaller
-loop-fewest-smaller g c =
-    nearer c.args.problem.now.puzzle (g.D.Dance.state c.args.dance.now).trail c.loop-fewest.at c.in-Some.next
-    (cc (c.in-Some.ensures))
+loop-fewest-smaller g c = grind (arith, common_steps, nearer)
 
 pub loop-fewest-preserved : goal.loop-fewest-preserved
 loop-fewest-preserved g c =
@@ -102,11 +88,4 @@ returns-in_default-clause-choice g c =
     (choice_last p t i c.loop-fewest.at e)
 
 pub returns-clause-choice : goal.returns-clause-choice
-returns-clause-choice g c =
-    let p = c.args.problem.now.puzzle in
-    let t = (g.D.Dance.state c.args.dance.now).trail in
-    let i = c.loop-fewest.item in
-    let none : branches_after p t (wanted_at p t i) ≡ 0 =
-    omega (arith, c.loop-fewest-test.false, c.loop-fewest.invariant.counted) in
-    choice_done p t i c.loop-fewest.at c.loop-fewest.fewest c.loop-fewest.invariant.best c.loop-fewest.invariant.counted
-    (choice_settled p t i (filter (λ j. ltb c.loop-fewest.at j) (open_items p t)) none)
+returns-clause-choice g c = grind (arith, common_steps, choice_done, choice_settled)

@@ -1,3 +1,4 @@
+use Rattle.std.proofs.lemmas.Grind.{common_steps}
 use Rattle.std.proofs.Common.{arith, ◌≡◌, ◌<◌, ◌∙◌, Some, true, false, refl, sym, ap, subst, ◌+◌}
 use Rattle.xc_search.specs.declared.level.Level.{Level}
 use Rattle.xc_search.specs.Residuals.{choice_after}
@@ -21,16 +22,10 @@ pub returns-in_default-clause-solved : goal.returns-in_default-clause-solved
 returns-in_default-clause-solved g c _ = cc (c.choose.ensures.choice, c.in_default.is)
 
 pub descend-level-requires-clause-node : goal.descend-level-requires-clause-node
-descend-level-requires-clause-node g c =
-    let s = c.args.position.now in
-    node_at s.puzzle s.trail c.args.stack.now.levels c.in-Some.item c.in-Some.count c.requires.standing
-    (chose g (goal.at.descend-level-requires-clause-node g c).In-Some)
+descend-level-requires-clause-node g c = grind (arith, common_steps, node_at, chose)
 
 pub descend-level-requires-clause-branch : goal.descend-level-requires-clause-branch
-descend-level-requires-clause-branch g c =
-    let s = c.args.position.now in
-    (chosen_item s.puzzle s.trail c.in-Some.item c.in-Some.count (c.requires.standing.searchable refl).legal
-    (chose g (goal.at.descend-level-requires-clause-branch g c).In-Some)).branch
+descend-level-requires-clause-branch g c = grind (arith, common_steps, chosen_item, chose)
 
 pub push-requires : goal.push-requires
 push-requires g c =
@@ -48,12 +43,7 @@ push-requires g c =
     )
 
 pub undo_to-requires : goal.undo_to-requires
-undo_to-requires g c =
-    let e = c.descend-level.new.self in
-    let stacked = begins_at c.args.position.now e c.args.stack.now c.in-Some.item c.in-Some.count c.descend-level.result
-    c.requires.standing (chose g (goal.at.undo_to-requires g c).In-Some) c.descend-level.ensures.trail
-    c.descend-level.ensures.level in
-    omega (arith, stacked.0.within.0, stacked.0.within.1)
+undo_to-requires g c = grind (arith, common_steps, begins_at, chose)
 
 same_branch : (a b : Entered) → Branch a ≡ Branch b → a ≡ b
 same_branch a b is = cc is
@@ -121,7 +111,4 @@ returns-clause-deeper_path g c b is =
     (goal.at.returns-clause-deeper_path g c).After-push)
 
 pub returns-then-count-eq0-clause-path : goal.returns-then-count-eq0-clause-path
-returns-then-count-eq0-clause-path g c _ =
-    keeps_over c.args.position.now c.descend-level.new.self c.undo_to.new.self c.args.stack.now c.in-Some.item
-    c.in-Some.count c.descend-level.result
-    c.descend-level.ensures.trail c.descend-level.ensures.level c.undo_to.ensures
+returns-then-count-eq0-clause-path g c _ = grind (arith, common_steps, keeps_over)

@@ -1,33 +1,23 @@
-use Rattle.std.proofs.Common.{◌<◌, ◌∷◌, drop, false, arith, refl, subst}
+use Rattle.std.proofs.lemmas.Grind.{common_steps}
+use Rattle.std.proofs.Common.{◌<◌, ◌∷◌, drop, false, arith, refl}
 use Rattle.xc_search.specs.inner.Commits.{oldest}
 use Rattle.xc_search.specs.inner.Levels.{AreStacked}
 use Rattle.xc_search.specs.inner.Ahead.{GoesOn, EntersBranch, branched, visits}
 use Rattle.xc_search.proofs.paths.Led.{keeps_next, keeps_back}
-use Rattle.xc_search.proofs.stacked.LoopSteps.{GoesOn-refl, GoesOn-trans, goes_on_to, enters, goes_back}
+use Rattle.xc_search.proofs.stacked.LoopSteps.{GoesOn-trans, goes_on_to, enters, goes_back}
 use Rattle.xc_search.proofs.levels.resume.Goals as goal
 use Rattle.xc_search.proofs.levels.resume.Goals.{In-Some, After-note_branch, After-pop}
 
 pub loop-level-init : goal.loop-level-init
-loop-level-init g c =
-    record {
-      goes_on = GoesOn-refl c.args.position.now c.args.stack.now false c.requires.standing;
-      path = λ u a. a;
-      less = omega arith;
-    }
+loop-level-init g c = grind (arith, common_steps)
 
 stacked : (g : _) (c : In-Some g)
     → AreStacked c.loop-level.position.puzzle c.loop-level.position.trail
     (c.in-Some.level.now ∷ drop 1 c.loop-level.stack.levels)
-stacked g c =
-    subst (AreStacked c.loop-level.position.puzzle c.loop-level.position.trail) c.in-Some.ensures.some
-    c.loop-level.invariant.goes_on.standing.stacked
+stacked g c = grind (arith, common_steps)
 
 pub enter_next-branch-requires-clause-stacked : goal.enter_next-branch-requires-clause-stacked
-enter_next-branch-requires-clause-stacked g c = (
-  drop 1 c.loop-level.stack.levels,
-  stacked g
-      (goal.at.enter_next-branch-requires-clause-stacked g c).In-Some,
-)
+enter_next-branch-requires-clause-stacked g c = grind (arith, common_steps, stacked)
 
 pub enter_next-branch-requires-clause-more : goal.enter_next-branch-requires-clause-more
 enter_next-branch-requires-clause-more g c = c.if-level.true
@@ -45,10 +35,7 @@ back : (g : _) (c : After-pop g)
     → GoesOn c.loop-level.position c.loop-level.stack false c.end_level.new.position c.pop.new.self false
     × (visits c.end_level.new.position.puzzle c.end_level.new.position.trail c.pop.new.self.levels < visits
     c.loop-level.position.puzzle c.loop-level.position.trail c.loop-level.stack.levels)
-back g c =
-    goes_back c.loop-level.position c.end_level.new.position c.in-Some.level.now c.loop-level.stack c.pop.new.self
-    c.loop-level.invariant.goes_on.standing.stacked c.in-Some.ensures.some c.if-level.false c.end_level.ensures
-    c.pop.ensures
+back g c = grind (arith, common_steps, goes_back)
 
 pub returns-then-level-clause-resumed : goal.returns-then-level-clause-resumed
 returns-then-level-clause-resumed g c =

@@ -1,11 +1,9 @@
-use Rattle.std.proofs.Common.{arith, ℕ, true, List, [], ap, ap₂, ◌∙◌, sym, subst}
+use Rattle.std.proofs.lemmas.Grind.{common_steps}
+use Rattle.std.proofs.Common.{arith, true, [], ap, ◌∙◌, sym, subst}
 use Rattle.xc_dance.specs.Dancing.{Dancing}
-use Rattle.xc_input.specs.Problem.{Puzzle, IsValid}
-use Rattle.xc_search.specs.declared.choice.Choice.{Choice}
-use Rattle.xc_search.specs.Cut.{Uncut}
+use Rattle.xc_input.specs.Problem.{IsValid}
 use Rattle.xc_search.specs.inner.MostLevels.{most_levels}
-use Rattle.xc_search.specs.Cover.{members}
-use Rattle.xc_search.specs.inner.Levels.{Levels, IsStanding, coming}
+use Rattle.xc_search.specs.inner.Levels.{Levels, IsStanding}
 use Rattle.xc_search.specs.inner.Paths.{AreLed}
 use Rattle.xc_search.proofs.stacked.Start.{starts_standing, starts_coming}
 use Rattle.xc_search.proofs.cut.Cut.new.Goals as goal
@@ -30,13 +28,4 @@ invariant_of-result g c =
     }
 
 pub returns-clause-begun : goal.returns-clause-begun
-returns-clause-begun g c =
-    let d = g.D.Dance.state c.args.dance in
-    let uncut : Puzzle → List (List Choice) → List Choice → ℕ → Uncut =
-    λ p ms path room. record { puzzle = p; to_come = ms; path = path; room = room } in
-    ap (λ (s : Dancing). uncut s.puzzle (coming s.puzzle s.trail c.in-Ok.stack.levels true) c.in-Ok.stack.shown s.room)
-    c.new-3.ensures
-    ∙ ap₂ (λ ms path. uncut d.puzzle ms path d.room)
-    (starts_coming d.puzzle d.trail c.in-Ok.stack.levels c.requires.none
-    (ap (λ (s : Levels). s.levels) c.in-Ok.ensures)) (ap (λ (s : Levels). s.shown) c.in-Ok.ensures)
-    ∙ ap (λ p. uncut p (members p) [] d.room) c.requires.same
+returns-clause-begun g c = grind (arith, common_steps, starts_coming)

@@ -1,16 +1,17 @@
-use Rattle.std.proofs.Common.{◌≡◌, None, Some, sym, ap, ◌∙◌, subst}
+use Rattle.std.proofs.Common.{arith}
+use Rattle.std.proofs.lemmas.Grind.{common_steps}
+use Rattle.std.proofs.Common.{◌≡◌, None, Some, ap, ◌∙◌, subst}
 use Rattle.std.specs.Prelude.{unwrap_or}
 use Rattle.xc_dance.specs.Fields.{link_place}
 use Rattle.xc_dance.specs.Commits.{option_at, IsUseAt}
-use Rattle.xc_search.specs.inner.Levels.{CanBranch, after_branch}
+use Rattle.xc_search.specs.inner.Levels.{CanBranch}
 use Rattle.xc_search.proofs.stacked.NextLevel.{at_own, at_other}
 use Rattle.xc_search.proofs.position.Position.commit_branch.Goals as goal
 use Rattle.xc_search.proofs.position.Position.commit_branch.Goals.{Then-place-item, Else-place-item}
 
 -- at the item's own node
 none : (g : _) (c : Then-place-item g) → option_at c.args.self.now.puzzle c.args.item c.args.place ≡ None
-none g c =
-    ap (option_at c.args.self.now.puzzle c.args.item) c.if-place-item.true ∙ at_own c.args.self.now.puzzle c.args.item
+none g c = grind (arith, common_steps, at_own)
 
 some : (g : _) (c : Else-place-item g) → (o : _) × (option_at c.args.self.now.puzzle c.args.item c.args.place ≡ Some o)
 some g c = at_other c.args.self.now.puzzle c.args.item c.args.place c.if-place-item.false
@@ -30,25 +31,13 @@ use_at g c =
     }
 
 pub cover_if_open-requires-clause-room : goal.cover_if_open-requires-clause-room
-cover_if_open-requires-clause-room g c =
-    (subst (λ o. CanBranch c.args.self.now.puzzle c.args.item o c.args.self.now.trail)
-    (none g (goal.at.cover_if_open-requires-clause-room g c).Then-place-item) c.requires.can).stands.room
+cover_if_open-requires-clause-room g c = grind (arith, common_steps)
 
 pub commit-requires-clause-can : goal.commit-requires-clause-can
-commit-requires-clause-can g c =
-    let at = (goal.at.commit-requires-clause-can g c).Else-place-item in
-    ((some g at).0, use_at g at, (can g at).stands)
+commit-requires-clause-can g c = grind (arith, common_steps, use_at)
 
 pub returns-then-place-item : goal.returns-then-place-item
-returns-then-place-item g c =
-    let s = c.args.self.now in
-    c.cover_if_open.ensures
-    ∙ ap (λ o. record s { trail = after_branch s.puzzle c.args.item o s.trail })
-    (sym (none g (goal.at.returns-then-place-item g c).Then-place-item))
+returns-then-place-item g c = grind (arith, common_steps)
 
 pub returns-else-place-item : goal.returns-else-place-item
-returns-else-place-item g c =
-    let s = c.args.self.now in
-    let at = (goal.at.returns-else-place-item g c).Else-place-item in
-    c.commit.ensures (some g at).0 (use_at g at)
-    ∙ ap (λ o. record s { trail = after_branch s.puzzle c.args.item o s.trail }) (sym (some g at).1)
+returns-else-place-item g c = grind (arith, common_steps, use_at)

@@ -1,4 +1,5 @@
-use Rattle.std.proofs.Common.{arith, ℕ, ◌≡◌, ◌∙◌, true, List, [], refl, sym, ap, subst}
+use Rattle.std.proofs.lemmas.Grind.{common_steps}
+use Rattle.std.proofs.Common.{arith, ℕ, ◌≡◌, ◌∙◌, true, List, [], ap, subst}
 use Rattle.xc_dance.specs.Dancing.{Dancing}
 use Rattle.xc_input.specs.Problem.{Puzzle}
 use Rattle.xc_search.specs.declared.choice.Choice.{Choice}
@@ -16,14 +17,11 @@ same : (g : _) (c : In-Ok-behind g) → c.go_down.new.position ≡ record (g.D.D
   trail =
       c.go_down.new.position.trail;
 }
-same g c = c.go_down.ensures.still ∙ ap
-    (λ (d : Dancing). record d { trail = c.go_down.new.position.trail }) c.new-position.ensures
+same g c = grind (arith, common_steps)
 
 here : (g : _) (c : In-Ok-behind g) →
     IsDown c.go_down.new.position.puzzle c.args.numbers.now c.go_down.new.path.items c.go_down.new.position.trail
-here g c =
-    subst (λ (d : Dancing). IsDown d.puzzle c.args.numbers.now c.go_down.new.path.items c.go_down.new.position.trail)
-    (sym c.go_down.ensures.still) (c.if-not-go_down.ensures.down refl)
+here g c = grind (arith, common_steps)
 
 pub invariant_of-result : goal.invariant_of-result
 invariant_of-result g c =

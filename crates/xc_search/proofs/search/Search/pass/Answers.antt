@@ -1,3 +1,4 @@
+use Rattle.std.proofs.lemmas.Grind.{common_steps}
 use Rattle.std.proofs.Common.{◌≡◌, ◌<◌, arith}
 use Rattle.xc_search.proofs.stacked.PassedOver.{outlook_over, outlook_past}
 use Rattle.xc_search.proofs.stacked.ShownLevels.{all_shown}
@@ -5,12 +6,7 @@ use Rattle.xc_search.proofs.search.Search.pass.Goals as goal
 use Rattle.xc_search.proofs.search.Search.pass.Goals.{then-passed-many, else-passed-many}
 
 pub show_whole-requires : goal.show_whole-requires
-show_whole-requires g c =
-    let at = c.replace_with-passed.new.dest in
-    let all : c.replace_with-passed.result ≡ c.args.many =
-    omega (arith, c.if-passed-many.false, c.replace_with-passed.ensures.within) in
-    all_shown at.position.puzzle at.position.trail at.stack.levels
-    (c.replace_with-passed.ensures.over all).solved.standing.stacked
+show_whole-requires g c = grind (arith, common_steps, all_shown)
 
 pub returns-clause-went : goal.returns-clause-went
 returns-clause-went g c =

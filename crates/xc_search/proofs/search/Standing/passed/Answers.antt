@@ -1,21 +1,12 @@
-use Rattle.std.proofs.Common.{◌≡◌, ◌+◌, arith, sym, refl}
+use Rattle.std.proofs.lemmas.Grind.{common_steps}
+use Rattle.std.proofs.Common.{◌≡◌, ◌+◌, arith, refl}
 use Rattle.xc_search.proofs.stacked.PassedOver.{HasToPass, went_over, went_past}
 use Rattle.xc_search.proofs.search.Standing.passed.Goals as goal
 use Rattle.xc_search.proofs.search.Standing.passed.Goals.{then-down, else-down, in-None, in-Some, Joined-down}
 
 has : (g : _) (c : Joined-down g) → HasToPass c.args.self.position.puzzle c.args.self.position.trail
     c.args.self.stack.levels c.args.self.down c.args.many c.if-down.more
-has g c =
-    elim c.if-down.branch [
-      | then-down w ↦ record {
-        first = λ _. omega (arith, w.more-is, c.requires.some);
-        again = λ h. absurd (cc (h, w.if-down.true));
-      }
-      | else-down w ↦ record {
-        first = λ h. absurd (cc (h, w.if-down.false));
-        again = λ h. (sym w.more-is, c.requires.solved h);
-      }
-    ]
+has g c = grind (arith, common_steps)
 
 pub fewer-passed-requires : goal.fewer-passed-requires
 fewer-passed-requires g c =

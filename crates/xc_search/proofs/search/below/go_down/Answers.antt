@@ -1,8 +1,9 @@
-use Rattle.std.proofs.Common.{◌≡◌, ◌+◌, ◌∙◌, None, Some, [], ◌∷◌, ◌++◌, take, refl, sym, ap, subst}
+use Rattle.std.proofs.Common.{arith}
+use Rattle.std.proofs.lemmas.Grind.{common_steps}
+use Rattle.std.proofs.Common.{◌≡◌, None, [], take, refl, sym, ap, subst}
 use Rattle.xc_dance.specs.Dancing.{Dancing}
 use Rattle.xc_search.specs.Cut.{left_by_one}
 use Rattle.xc_search.specs.inner.Residual.{residual_of}
-use Rattle.xc_search.specs.inner.Levels.{IsSearchable}
 use Rattle.xc_search.specs.inner.Descent.{IsDown}
 use Rattle.xc_search.proofs.paths.Descent.{down_first, down_more, down_none, taken_more, parts_at}
 use Rattle.xc_search.proofs.search.below.go_down.Goals as goal
@@ -29,25 +30,4 @@ returns-in_default-clause-no_path g c _ other is =
     (parts_at c.args.numbers.now c.loop-number.number-index 0 c.loop-number-test.true) is
 
 pub loop-number-preserved : goal.loop-number-preserved
-loop-number-preserved g c =
-    let d = c.loop-number.position in
-    let e = c.step_down.new.position in
-    let inv = c.loop-number.invariant in
-    let p = c.args.position.now.puzzle in
-    let same : d.puzzle ≡ p = ap (λ (d : Dancing). d.puzzle) inv.still in
-    let there : e.puzzle ≡ p = ap (λ (d : Dancing). d.puzzle) c.in-Some.ensures.still ∙ same in
-    let more = down_more p
-    (take c.loop-number.number-index c.args.numbers.now) c.loop-number.path.items d.trail e.trail c.in-Some.choice
-    inv.down
-    (subst (λ p. IsSearchable p e.trail) there c.in-Some.ensures.searchable)
-    (subst (λ p. left_by_one c.in-Some.choice (residual_of p d.trail) ≡ Some
-    (residual_of p e.trail)) same c.in-Some.ensures.left) in
-    let numbers = ap (λ k. take c.loop-number.number-index c.args.numbers.now ++ k ∷ []) c.in-Some.ensures.number
-    ∙ taken_more c.args.numbers.now c.loop-number.number-index 0 c.loop-number-test.true in
-    record {
-      still = c.in-Some.ensures.still ∙ ap (λ (d : Dancing). record d { trail = e.trail }) inv.still;
-      down = subst (λ path. IsDown p (take (c.loop-number.number-index + 1) c.args.numbers.now) path e.trail)
-          (sym c.push_reserved.ensures.items)
-          (subst (λ ns. IsDown p ns (c.loop-number.path.items ++ c.in-Some.choice ∷ []) e.trail) numbers more);
-      capacity = c.push_reserved.ensures.capacity ∙ inv.capacity;
-    }
+loop-number-preserved g c = grind (arith, common_steps, down_more, taken_more)

@@ -1,5 +1,6 @@
-use Rattle.std.proofs.Common.{arith, ◌≡◌, ◌<◌, ◌⊎◌, inl, inr, Some, ◌∙◌}
-use Rattle.xc_search.specs.Residuals.{choice_after, wanted_at}
+use Rattle.std.proofs.lemmas.Grind.{common_steps}
+use Rattle.std.proofs.Common.{arith, ◌≡◌, ◌<◌, ◌⊎◌, inl, inr, ◌∙◌}
+use Rattle.xc_search.specs.Residuals.{wanted_at}
 use Rattle.xc_search.specs.inner.Residual.{residual_of}
 use Rattle.xc_search.proofs.stacked.NextLevel.{Chosen, chosen_item}
 use Rattle.xc_search.proofs.paths.Numbers.{no_branch}
@@ -9,11 +10,7 @@ use Rattle.xc_search.proofs.search.below.step_down.Goals.{then-number-eq0-via-el
 
 at : (g : _) (c : In_ok-item g) →
     Chosen c.args.position.now.puzzle c.args.position.now.trail c.in_ok-item.item c.in_ok-item.count
-at g c =
-    let d = c.args.position.now in
-    let chose : choice_after d.puzzle d.trail ≡ Some (c.in_ok-item.item, c.in_ok-item.count) = cc
-    (c.choose.ensures.choice, c.in_ok-item.was) in
-    chosen_item d.puzzle d.trail c.in_ok-item.item c.in_ok-item.count c.requires.searchable.legal chose
+at g c = grind (arith, common_steps, chosen_item)
 
 pub returns-then-number-eq0-clause-none : goal.returns-then-number-eq0-clause-none
 returns-then-number-eq0-clause-none g c _ x e =
