@@ -73,10 +73,6 @@ differ_behind : (x : Option ℕ) (l m : List ℕ) → ((k : ℕ) → x ≡ Some 
     × (IsIn m k → IsIn l k)
 differ_behind None l m out same k = same k
 differ_behind (Some x) l m out same k = grind (arith, common_steps)
-  where
-    other : (ks : List ℕ) (k : ℕ) → (x ≡ k) ⊎ IsIn ks k → (x ≡ k → ⊥) → IsIn ks k
-    other ks k (inl e) never = absurd (never e)
-    other ks k (inr h) never = h
 
 -- the option of a branch isn't left behind it
 out_behind : (d : ℕ) (r : Residual) (w : Wanted) (b : Branch) (l : List Choice) (k : ℕ) → NumbersRise 0 r.options

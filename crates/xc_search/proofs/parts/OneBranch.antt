@@ -1,6 +1,6 @@
 -- The listing of what is left where its first item is to be held once and one option holds it.
 use Rattle.std.proofs.lemmas.Grind.{common_steps}
-use Rattle.std.proofs.Common.{ℕ, ◌≡◌, ◌-◌, ◌<◌, ◌≤◌, true, false, cond, eqb, List, [], ◌∷◌, length, map, filter, Some}
+use Rattle.std.proofs.Common.{ℕ, ◌≡◌, ◌-◌, ◌<◌, ◌≤◌, true, false, cond, List, [], ◌∷◌, length, map, filter, Some}
 use Rattle.std.proofs.Common.{refl, sym, ap, ◌∙◌, arith, subst, ◌⊎◌, inl, inr, ltb-true, ltb-false, lt-ltb, le-leb}
 use Rattle.std.proofs.Common.{ne_eqb}
 use Rattle.xc_search.proofs.Spent.{less_one}
@@ -9,7 +9,7 @@ use Rattle.std.specs.List.{best_of}
 use Rattle.xc_search.specs.declared.choice.Choice.{Choice}
 use Rattle.xc_input.specs.Problem.{Numbered, holds, holding}
 use Rattle.xc_search.specs.Listing.{Wanted, Residual, branch_count, branch_item, spend_one, pick}
-use Rattle.xc_search.specs.Listing.{take_branch, branches_of, level, listing}
+use Rattle.xc_search.specs.Listing.{branches_of, level, listing}
 use Rattle.xc_input.proofs.lists.Filters.{filter_swap, length-filter-le}
 use Rattle.xc_input.proofs.lists.Members.{IsIn, in-filter, filter-in, map-in, each_in}
 use Rattle.xc_search.proofs.completeness.Proper.{goes_on}
@@ -114,9 +114,6 @@ one_branch r w ws x first low held sound = grind (arith, common_steps, listing_u
   where
     one : branch_count r w ≡ 1
     one = omega (arith, low, ap length held)
-
-    only : branches_of r w ≡ take_branch r w.item 1 (1, x) ∷ []
-    only = let needed : eqb w.low 0 ≡ false = ne_eqb w.low 0 (λ q. omega (arith, low, q)) in rw (one, held, needed) refl
 
     by_best : (best (branch_count r) w ws ≡ w) ⊎ (branch_count r (best (branch_count r) w ws) < branch_count r w)
         → level listing (Some (best (branch_count r) w ws)) r ≡ map (λ m. only_choice w.item x ∷ m)

@@ -17,15 +17,15 @@ use Rattle.xc_search.specs.inner.Commits.{oldest}
 use Rattle.xc_search.specs.inner.Residual.{residual_of}
 use Rattle.xc_search.specs.inner.Sizes.{size_of}
 use Rattle.xc_search.specs.inner.Levels.{IsLevel, IsNode, IsSearchable, IsShallow, IsStanding, IsEntered}
-use Rattle.xc_search.specs.inner.Levels.{MayBegin, first_level, begun_level, after_branch, taken, branches_at, chosen}
+use Rattle.xc_search.specs.inner.Levels.{first_level, begun_level, after_branch, taken, branches_at}
 use Rattle.xc_search.specs.inner.Levels.{coming, behind}
-use Rattle.xc_search.specs.inner.Descent.{LeadsTo, Leads, IsDown}
+use Rattle.xc_search.specs.inner.Descent.{Leads, IsDown}
 use Rattle.xc_search.proofs.residual.BranchItemLeft.{no_moves_leave_all}
 use Rattle.xc_search.proofs.stacked.NextLevel.{Extends, ext_uses, ext_after_none, ext_after_spend, ext_whole}
 use Rattle.xc_search.proofs.stacked.NextLevel.{oldest-oldest, first_stands}
 use Rattle.xc_search.proofs.stacked.Start.{starts_standing}
 use Rattle.xc_search.proofs.stacked.Depth.{shallow_first}
-use Rattle.xc_search.proofs.paths.Below.{branches_same, has_its_choice, left_by_more}
+use Rattle.xc_search.proofs.paths.Below.{left_by_more}
 use Rattle.xc_search.proofs.paths.Numbers.{no_further, left_less, below_left}
 
 ext_after_branch : (p : Puzzle) (i : ℕ) (o : Option ℕ) (t : List Move) → Extends (after_branch p i o t) t
@@ -65,15 +65,6 @@ pub leads_first : (p : Puzzle) (u t : List Move) (l : Level) (i n : ℕ) → IsN
     (residual_of p u) ≡ Some (wanted_at p u i) → n ≡ branch_count (residual_of p u) (wanted_at p u i) →
     t ≡ after_spend p i u → l ≡ first_level p u i n → Leads p u t l
 leads_first p u t l i n node item count et el = grind (arith, common_steps, ext_whole, ext_after_spend, first_stands)
-
--- what may be begun
-pub leads_may : (p : Puzzle) (u s : List Move) (l : Level) → Leads p u s l → l.begun < l.count → MayBegin p s l
-leads_may p u s l a more = record { level = a.level; whole = a.own; more = more }
-
--- the branch's choice leads from what was left to what its moves leave
-pub leads_left : (p : Puzzle) (u t : List Move) (l : Level) → LeadsTo p u t l → left_by_one (chosen p l)
-    (residual_of p u) ≡ Some (residual_of p t)
-leads_left p u t l a = grind (arith, common_steps, branches_same, has_its_choice)
 
 -- a path of one choice more
 pub down_more : (p : Puzzle) (numbers : List ℕ) (path : List Choice) (t s : List Move) (c : Choice) →

@@ -103,10 +103,6 @@ number_at r w j b h e = by_option (slice_get (holding w.item r.options) j) refl
     by_option (Some x) f = grind (arith, common_steps, branch_takes r w j x h f)
     by_option None f = let last = branch_none r w j h f in from (none_branch r w.item (branch_count r w)) last.0 last.2
 
--- there is no branch where there is no item
-pub no_item : (c : Choice) (r : Residual) → branch_item r ≡ None → left_by_one c r ≡ None
-no_item c r e = grind (arith, common_steps)
-
 few_branches : (r : Residual) (w : Wanted) (j : ℕ) (b : Branch) → slice_get (branches_of r w) j ≡ Some b →
     j < branch_count r w
 few_branches r w j b e = grind (arith, common_steps, slice_get_within (branches_of r w) j b e, branches_end r w)

@@ -57,13 +57,6 @@ pub still_wanted : (j : ℕ) (ws : List Wanted) → AreWanted (filter is_wanted 
 still_wanted j [] = tt
 still_wanted j (w ∷ ws) = grind (arith, common_steps, still_wanted j ws)
 
--- one item
-kept_head : (p : Wanted → Bool) (f : Wanted → Wanted) (c : Bool) (v x : Wanted) (front rest : List Wanted) → p v ≡ c
-    → (c ≡ true → f v ≡ x) → p x ≡ c → filter p (map f front) ≡ rest →
-    filter p (map f (cond (p v) (v ∷ front) front)) ≡ cond (p x) (x ∷ rest) rest
-kept_head p f true v x front rest e g i same = rw (e, i, g refl, i) (ap (λ vs. x ∷ vs) same)
-kept_head p f false v x front rest e g i same = rw (e, i) same
-
 spends_true : (u : Use) (us : List Use) (w : Wanted) → eqb w.item u.item ≡ true → spend_uses (u ∷ us) w ≡ less_one w
 spends_true u us w e = grind (arith, common_steps, eq-eqb, eqb-true)
 

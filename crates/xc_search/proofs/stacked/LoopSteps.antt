@@ -22,10 +22,6 @@ use Rattle.xc_search.proofs.stacked.BackAtLevel.{returned, finished, closing}
 use Rattle.xc_search.proofs.stacked.BegunComesFirst.{begun_coming}
 use Rattle.xc_search.proofs.stacked.Depth.{shallower}
 
-pub GoesOn-refl : (d : Dancing) (ls : Levels) (down : Bool) → IsStanding d.puzzle d.trail ls.levels down
-    → GoesOn d ls down d ls down
-GoesOn-refl d ls down s = record { still = (refl, refl); standing = s; members = refl }
-
 pub GoesOn-trans : (d e f : Dancing) (ls ks js : Levels) (x y z : Bool) → GoesOn d ls x e ks y → GoesOn e ks y f js z
     → GoesOn d ls x f js z
 GoesOn-trans d e f ls ks js x y z a b = grind (arith, common_steps)
