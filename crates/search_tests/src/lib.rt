@@ -19,3 +19,5 @@ mod closing;
 mod cutting;
 #[cfg(test)]
 mod searching;
+#[cfg(test)]
+mod walking;

@@ -1,13 +1,19 @@
-//! Searches and cuts over live lists that were made for them.
+//! Searches, walks and cuts over live lists that were made for them, and choices.
 use std::alloc::Global;
 use xc_dance::Lists;
 use xc_input::Problem;
-use xc_search::{Cut, PathFault, Search, most_moves};
+use xc_search::{Choice, Cut, PathFault, Search, Walk, most_moves};
 
 /// A search with all members of a problem's listing to come.
 pub fn search<'a>(alloc: Global, problem: &'a Problem) -> Option<Search<'a, Lists>> {
     let lists = Lists::new(alloc, problem, most_moves(problem)).ok()?;
     Search::new(alloc, lists, problem).ok()
+}
+
+/// A walk over all solutions of a problem.
+pub fn walk<'a>(alloc: Global, problem: &'a Problem) -> Option<Walk<'a, Lists>> {
+    let lists = Lists::new(alloc, problem, most_moves(problem)).ok()?;
+    Walk::new(alloc, lists, problem).ok()
 }
 
 /// A search below the path of these numbers.
@@ -30,4 +36,14 @@ pub fn refused(alloc: Global, problem: &Problem, numbers: &[u32]) -> Option<(Lis
 pub fn cut<'a>(alloc: Global, problem: &'a Problem) -> Option<Cut<'a, Lists>> {
     let lists = Lists::new(alloc, problem, most_moves(problem)).ok()?;
     Cut::new(alloc, lists, problem).ok()
+}
+
+/// The choice of this option in branch `k` of `n`.
+pub fn choice(item: u32, option: u32, k: u32, n: u32) -> Choice {
+    Choice {
+        item,
+        option: Some(option),
+        k,
+        n,
+    }
 }

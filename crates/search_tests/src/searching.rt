@@ -1,5 +1,5 @@
 //! A search over live lists.
-use crate::made::search;
+use crate::made::{choice, search};
 use fixtures::{SEVEN, THREE_ALIKE, on_problem};
 use std::alloc::Global;
 use xc_dance::{Dance, Lists};
@@ -14,15 +14,6 @@ fn finds_alone(search: &mut Search<Lists>, wanted: &[Choice]) -> bool {
         && search.next() == Step::Done
         && search.next() == Step::Done
         && search.choices().is_empty()
-}
-
-fn choice(item: u32, option: u32, k: u32, n: u32) -> Choice {
-    Choice {
-        item,
-        option: Some(option),
-        k,
-        n,
-    }
 }
 
 /// Whether a search finds the cover of seven items alone, and undoes all moves.

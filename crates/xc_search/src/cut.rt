@@ -69,12 +69,14 @@ pub struct Cut<'a, D: Dance> {
     stack: Stack,
     /// The levels of a trial, and none between trials.
     trial: Stack,
+    /// The choices of the part that was found last.
+    path: Vec<Choice>,
     /// What is left wasn't looked at yet.
     down: bool,
 }
 
 impl<'a, D: Dance> Model for Cut<'a, D> {
-    ghost use Rattle.std.specs.Prelude.{◌≡◌, ◌≤◌, []};
+    ghost use Rattle.std.specs.Prelude.{◌≡◌, ◌≤◌, [], vec_capacity};
     ghost use Rattle.xc_search.specs.Cut.{Uncut};
     ghost use Rattle.xc_search.specs.inner.MostLevels.{most_levels};
     ghost use Rattle.xc_search.specs.inner.Levels.{coming, IsStanding};
@@ -85,7 +87,7 @@ impl<'a, D: Dance> Model for Cut<'a, D> {
     ghost view = { λ s. record {
       puzzle = s.position.puzzle;
       to_come = coming s.position.puzzle s.position.trail s.stack.levels s.down;
-      path = s.stack.shown;
+      path = s.path.items;
       room = s.position.room;
     } };
 
@@ -95,6 +97,7 @@ impl<'a, D: Dance> Model for Cut<'a, D> {
       untried : s.trial.levels ≡ [];
       levels_fit : most_levels s.position.puzzle ≤ s.stack.room;
       trial_fits : most_levels s.position.puzzle ≤ s.trial.room;
+      path_fits : s.stack.room ≤ vec_capacity s.path;
     } };
 }
 
@@ -120,10 +123,14 @@ impl<'a, D: Dance> Cut<'a, D> {
         let Ok(trial) = Stack::new(alloc, most) else {
             return Err((dance, Memory));
         };
+        let Ok(path) = Vec::with_capacity(alloc, most) else {
+            return Err((dance, Memory));
+        };
         Ok(Cut {
             position: Position::new(dance, problem),
             stack,
             trial,
+            path,
             down: true,
         })
     }
@@ -132,7 +139,7 @@ impl<'a, D: Dance> Cut<'a, D> {
     pub fn path(&self) -> &[Choice]
         ensures { result.now ≡ self.now.path }
     {
-        self.stack.choices()
+        &self.path
     }
 
     /// Goes on to the next part, whose path `path` then gives. A node is a part where its search
@@ -157,7 +164,7 @@ impl<'a, D: Dance> Cut<'a, D> {
             self.down,
             Allowance { budget, size },
         );
-        self.stack.show(&self.position);
+        self.stack.show(&[], &self.position, &mut self.path);
         self.down = false;
         found
     }
@@ -170,6 +177,7 @@ impl<'a, D: Dance> Cut<'a, D> {
             mut position,
             stack,
             trial: _,
+            path: _,
             down: _,
         } = self;
         unwind(&mut position, stack);

@@ -25,6 +25,7 @@ mod search;
 mod stack;
 mod steps;
 mod visiting;
+mod walk;
 
 pub use begin::NoSearch;
 pub use branch_item::{branches, choose};
@@ -32,3 +33,4 @@ pub use choice::Choice;
 pub use counts::most_moves;
 pub use cut::{Cut, Cutting};
 pub use search::{PathFault, Search, Step};
+pub use walk::{Solution, Walk};

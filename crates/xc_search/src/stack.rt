@@ -1,6 +1,6 @@
-//! The stack of the search's levels, and the choices of a solution beside it.
-ghost use Rattle.std.specs.Prelude.{◌≡◌, ◌+◌, ◌<◌, ◌≤◌, [], ◌∷◌, ◌++◌, length, drop, map, vec_capacity, IfSome, IfOk};
-ghost use Rattle.std.specs.Prelude.{IsNone, All};
+//! The stack of the search's levels, and their choices.
+ghost use Rattle.std.specs.Prelude.{◌≡◌, ◌+◌, ◌<◌, ◌≤◌, [], ◌∷◌, ◌++◌, length, drop, map, reverse, vec_capacity};
+ghost use Rattle.std.specs.Prelude.{IfSome, IfOk, IsNone, All};
 ghost use Rattle.xc_search.specs.inner.Levels.{chosen, choices_of, newest_begun, IsShown};
 
 use crate::choice::Choice;
@@ -14,59 +14,38 @@ use xc_dance::Dance;
 /// A whole search, of which `share` tells how much is done.
 pub const WHOLE: u64 = 1 << 63;
 
-/// The levels of a search, and the choices that it shows.
+/// The levels of a search.
 #[derive(Drop)]
 pub struct Stack {
     /// The oldest first.
     levels: Vec<Level>,
-    /// The choices that lead to the oldest level.
-    before: Vec<Choice>,
-    choices: Vec<Choice>,
     room: usize,
 }
 
 impl Model for Stack {
-    ghost use Rattle.std.specs.Prelude.{◌+◌, ◌≤◌, length, reverse, vec_capacity};
+    ghost use Rattle.std.specs.Prelude.{◌≤◌, length, reverse, vec_capacity};
     ghost use Rattle.xc_search.specs.inner.Levels.{Levels};
 
     ghost Value = { Levels };
 
     ghost view = { λ a. record {
       levels = reverse a.levels.items;
-      before = a.before.items;
-      shown = a.choices.items;
       room = a.room;
     } };
 
     ghost invariant = { λ a. record {
       few : length a.levels.items ≤ a.room;
       levels_fit : a.room ≤ vec_capacity a.levels;
-      choices_fit : length a.before.items + a.room ≤ vec_capacity a.choices;
     } };
 }
 
 impl Stack {
     /// No levels, and room for `room` of them. No later call takes memory.
     pub fn new(alloc: Global, room: usize) -> Result<Stack, AllocError>
-        ensures { IfOk result (λ s. s ≡ record { levels = []; before = []; shown = []; room = room }) }
-    {
-        Stack::behind(alloc, room, Vec::new(alloc))
-    }
-
-    /// No levels behind the choices that lead to them, and room for `room` levels. No later call takes
-    /// memory.
-    pub fn behind(alloc: Global, room: usize, before: Vec<Choice>) -> Result<Stack, AllocError>
-        ensures { IfOk result (λ s. s ≡ record { levels = []; before = before.items; shown = []; room = room }) }
+        ensures { IfOk result (λ s. s ≡ record { levels = []; room = room }) }
     {
         let levels = Vec::with_capacity(alloc, room)?;
-        let most = room.checked_add(before.len()).ok_or(AllocError)?;
-        let choices = Vec::with_capacity(alloc, most)?;
-        Ok(Stack {
-            levels,
-            before,
-            choices,
-            room,
-        })
+        Ok(Stack { levels, room })
     }
 
     /// Puts a level on top.
@@ -119,41 +98,29 @@ impl Stack {
         share
     }
 
-    /// Shows the levels' choices, from the oldest level on. It is called where a search stops: choices
-    /// that are kept in step with the levels take stores which a count never reads.
-    pub fn show<D: Dance>(&mut self, position: &Position<D>)
-        requires { All (IsShown position.now.puzzle) self.old.levels }
-        ensures { self.new ≡ record self.old { shown = choices_of position.now.puzzle self.old.levels } }
+    /// The levels, the oldest first.
+    #[inline(always)]
+    pub fn levels(&self) -> &[Level]
+        ensures levels { reverse result.now ≡ self.now.levels }
+        ensures few { length result.now ≤ self.now.room }
     {
-        let none: &[Choice] = &[];
-        let shown = (none, self.levels.as_slice(), position);
-        replace_with(&mut self.choices, shown, put_choices);
+        &self.levels
     }
 
-    /// Shows the choices that lead to the levels, and theirs, from the oldest level on.
-    #[cold]
-    #[inline(never)]
-    pub fn show_whole<D: Dance>(&mut self, position: &Position<D>)
-        requires { All (IsShown position.now.puzzle) self.old.levels }
-        ensures { self.new ≡ record self.old
-            { shown = self.old.before ++ choices_of position.now.puzzle self.old.levels } }
+    /// Puts choices, and behind them the levels', in the place of those that stand in `shown`. It is called where a
+    /// search stops: choices that are kept in step with the levels take stores which a count never reads.
+    pub fn show<D: Dance>(
+        &self,
+        before: &[Choice],
+        position: &Position<D>,
+        shown: &mut Vec<Choice>,
+    )
+        requires shown { All (IsShown position.now.puzzle) self.now.levels }
+        requires room { length before.now + self.now.room ≤ vec_capacity shown.old }
+        ensures items { shown.new.items ≡ before.now ++ choices_of position.now.puzzle self.now.levels }
+        ensures capacity { vec_capacity shown.new ≡ vec_capacity shown.old }
     {
-        let shown = (self.before.as_slice(), self.levels.as_slice(), position);
-        replace_with(&mut self.choices, shown, put_choices);
-    }
-
-    /// Shows no choices.
-    pub fn show_none(&mut self)
-        ensures { self.new ≡ record self.old { shown = [] } }
-    {
-        self.choices.clear();
-    }
-
-    /// The choices that were shown last.
-    pub fn choices(&self) -> &[Choice]
-        ensures { result.now ≡ self.now.shown }
-    {
-        &self.choices
+        replace_with(shown, (before, self.levels(), position), put_choices);
     }
 }
 

@@ -4,6 +4,7 @@ use Rattle.std.proofs.Common.{◌≡◌, ◌<◌, Bool, true, false, List, [], �
 use Rattle.std.proofs.Common.{arith, subst, append-nil}
 use Rattle.std.proofs.lemmas.List.{map-id}
 use Rattle.xc_dance.specs.declared.dance.Move.{Move}
+use Rattle.xc_search.specs.declared.choice.Choice.{Choice}
 use Rattle.xc_search.specs.declared.level.Level.{Level}
 use Rattle.xc_input.specs.Problem.{Puzzle}
 use Rattle.xc_search.specs.Listing.{Wanted, Residual, branch_item, listing}
@@ -50,9 +51,8 @@ comes_back d e f ls ks none ed keeps ef =
     ∙ ap (λ t. record d { trail = t }) (led_ground e.puzzle d.trail e.trail ks.levels (keeps d.trail here))
 
 -- what was to come begins with what is below the part's path
-pub part_below : (d e : Dancing) (ls ks js : Levels) (down : Bool) (o : Uncut) → IsPart d ls down e ks
-    → AreLed e.puzzle [] e.trail ks.levels →
-    js ≡ record ks { shown = choices_of e.puzzle ks.levels } →
-    record { puzzle = d.puzzle; to_come = coming d.puzzle d.trail ls.levels down; path = ls.shown; room = d.room } ≡ o →
-    o.to_come ≡ below o.puzzle js.shown ++ to_give e.puzzle e.trail js.levels
-part_below d e ls ks js down o a led shows is = grind (arith, common_steps, comes_below)
+pub part_below : (d e : Dancing) (ls ks : Levels) (down : Bool) (path : List Choice) (o : Uncut)
+    → IsPart d ls down e ks → AreLed e.puzzle [] e.trail ks.levels →
+    record { puzzle = d.puzzle; to_come = coming d.puzzle d.trail ls.levels down; path = path; room = d.room } ≡ o →
+    o.to_come ≡ below o.puzzle (choices_of e.puzzle ks.levels) ++ to_give e.puzzle e.trail ks.levels
+part_below d e ls ks down path o a led is = grind (arith, common_steps, comes_below)

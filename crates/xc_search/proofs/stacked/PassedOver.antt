@@ -1,16 +1,16 @@
 -- A search that goes on over many members.
 use Rattle.std.proofs.Common.{ℕ, zero, suc, ◌≡◌, ◌+◌, ◌<◌, ◌≤◌, Bool, true, false, List, [], ◌∷◌, ◌++◌, length, drop}
-use Rattle.std.proofs.Common.{min, refl, sym, ap, ◌∙◌, arith, subst}
+use Rattle.std.proofs.Common.{min, refl, sym, ap, ap₂, ◌∙◌, arith, subst, ltb, ltb-true, ltb-false, ◌≢◌}
 use Rattle.std.proofs.lemmas.Grind.{common_steps}
-use Rattle.std.proofs.lemmas.List.{drop-map}
+use Rattle.std.proofs.lemmas.List.{drop-map, map-id}
 use Rattle.xc_search.specs.declared.choice.Choice.{Choice}
 use Rattle.xc_dance.specs.Dancing.{Dancing}
 use Rattle.xc_search.specs.Outlook.{Outlook, shown_after}
 use Rattle.xc_input.specs.Problem.{Puzzle}
 use Rattle.xc_dance.specs.declared.dance.Move.{Move}
 use Rattle.xc_search.specs.declared.level.Level.{Level}
-use Rattle.xc_search.specs.inner.Levels.{Levels, coming, behind, choices_of}
-use Rattle.xc_search.specs.inner.Ahead.{IsSolved, StandsOver, EndsOver, WentOver, WentPast}
+use Rattle.xc_search.specs.inner.Levels.{Levels, IsStanding, coming, behind, choices_of}
+use Rattle.xc_search.specs.inner.Ahead.{IsSolved, StandsOver, EndsOver, WentOver, WentPast, Passed}
 use Rattle.xc_search.proofs.stacked.NextLevel.{solution}
 
 rest_behind : {X : Type 0} (n : ℕ) (ms : List X) (m : X) (rest : List X) → drop n ms ≡ m ∷ rest → rest ≡ drop (n + 1) ms
@@ -104,41 +104,82 @@ shown_behind (suc zero) before (m ∷ ms) s t h k = refl
 shown_behind (suc (suc n)) before (m ∷ ms) s t h k = shown_behind (suc n) before ms (before ++ m) m (omega arith)
     (omega (arith, k))
 
-abbrev outlook : List (List Choice) → List Choice → Dancing → Outlook
-outlook ms m s = record { puzzle = s.puzzle; to_come = ms; shown = m; room = s.room }
+abbrev outlook : Dancing → Levels → Bool → Outlook
+outlook d ls down = record {
+  puzzle = d.puzzle;
+  to_come = coming d.puzzle d.trail ls.levels down;
+  shown = choices_of d.puzzle ls.levels;
+  room = d.room;
+}
 
--- what the search then stands for
-pub outlook_over : (d e : Dancing) (ls ks : Levels) (down : Bool) (n : ℕ) (o : Outlook) → 0 < n →
-    WentOver d ls down n e ks →
-    record {
-      puzzle = d.puzzle;
-      to_come = behind ls.before (coming d.puzzle d.trail ls.levels down);
-      shown = ls.shown;
-      room = d.room;
-    } ≡ o →
-    record {
-      puzzle = e.puzzle;
-      to_come = behind ks.before (coming e.puzzle e.trail ks.levels false);
-      shown = ks.before ++ choices_of e.puzzle ks.levels;
-      room = e.room;
-    }
-    ≡ record o { to_come = drop n o.to_come; shown = shown_after n o.to_come o.shown }
-outlook_over d e ls ks down n o some w is = grind (arith, common_steps, drop-map, shown_behind)
+-- what this stands for after many more of its members
+abbrev past : ℕ → Outlook → Outlook
+past many o = record o { to_come = drop many o.to_come; shown = shown_after many o.to_come o.shown }
+
+-- what the walk then stands for
+outlook_over : (d e : Dancing) (ls ks : Levels) (down : Bool) (many : ℕ) → WentOver d ls down many e ks
+    → (outlook e ks false ≡ past many (outlook d ls down)) × (many ≡ min many (length (outlook d ls down).to_come))
+outlook_over d e ls ks down many w = grind (arith, common_steps)
 
 -- and where it ended
-pub outlook_past : (d e : Dancing) (ls ks : Levels) (down : Bool) (n many : ℕ) (o : Outlook) →
-    WentPast d ls down n e ks → n < many →
-    record {
-      puzzle = d.puzzle;
-      to_come = behind ls.before (coming d.puzzle d.trail ls.levels down);
-      shown = ls.shown;
-      room = d.room;
-    } ≡ o →
-    (record {
-      puzzle = e.puzzle;
-      to_come = behind ks.before (coming e.puzzle e.trail ks.levels false);
-      shown = [];
-      room = e.room;
-    } ≡ record o { to_come = drop many o.to_come; shown = shown_after many o.to_come o.shown }) ×
-    (n ≡ min many (length o.to_come))
-outlook_past d e ls ks down n many o w less is = grind (arith, common_steps, drop_past, shown_past)
+outlook_past : (d e : Dancing) (ls ks : Levels) (down : Bool) (n many : ℕ) → WentPast d ls down n e ks → n < many
+    → (outlook e ks false ≡ past many (outlook d ls down)) × (n ≡ min many (length (outlook d ls down).to_come))
+outlook_past d e ls ks down n many w less = grind (arith, common_steps, drop_past, shown_past)
+
+by_order : {C : Type 0} (n many : ℕ) → n ≤ many → (n < many → C) → (n ≡ many → C) → C
+by_order {C = C} n many within less all = by_test (ltb n many) refl
+  where
+    by_test : (b : Bool) → ltb n many ≡ b → C
+    by_test true h = less (ltb-true n many h)
+    by_test false h = all (omega (arith, within, ltb-false n many h))
+
+module _ (d e : Dancing) (ls ks : Levels) (down below : Bool) (many n : ℕ) (p : Passed d ls down many n e ks below)
+    where
+  pub outlook_passed : (o : Outlook) → outlook d ls down ≡ o
+      → (outlook e ks below ≡ past many o) × (n ≡ min many (length o.to_come))
+  outlook_passed o is =
+      let went = by_order n many p.within (λ less. outlook_past d e ls ks down n many (p.past less) less)
+      (λ all. let to = outlook_over d e ls ks down many (p.over all) in (to.0, all ∙ to.1)) in
+      grind (arith, common_steps, went.0, went.1, is, p.searched)
+
+  -- and where it stands
+  pub stands_there : IsStanding e.puzzle e.trail ks.levels below
+      × (ks.levels ≢ [] → IsSolved e.puzzle e.trail ks.levels) × (e.puzzle ≡ d.puzzle) × (ks.room ≡ ls.room)
+  stands_there = by_order n many p.within
+      (λ less. let w = p.past less in (
+        record { stacked = rw w.ended tt; searchable = λ e. cc (e, p.searched); shallow = λ e. cc (e, p.searched) },
+        (λ some. absurd (some w.ended)),
+        ap (λ (s : Dancing). s.puzzle) w.still.0,
+        ap (λ (s : Levels). s.room) w.still.1,
+      ))
+      (λ all. let w = p.over all in (
+        record {
+          stacked = w.solved.standing.stacked;
+          searchable = λ e. cc (e, p.searched);
+          shallow = λ e. cc (e, p.searched);
+        },
+        (λ some. w.solved),
+        ap (λ (s : Dancing). s.puzzle) w.still.0,
+        ap (λ (s : Levels). s.room) w.still.1,
+      ))
+
+-- what a search stands for behind the choices before its first level
+abbrev of_search : List Choice → List Choice → Outlook → Outlook
+of_search before shown w = record w { to_come = behind before w.to_come; shown = shown }
+
+-- and after many more members, all of which were there
+pub search_over : (w v o : Outlook) (before shown : List Choice) (many : ℕ) → 0 < many → many ≤ length w.to_come
+    → v ≡ past many w → of_search before shown w ≡ o → of_search before (before ++ v.shown) v ≡ past many o
+search_over w v o before shown many some there was is = grind (arith, common_steps, drop-map, shown_behind)
+
+-- or were not
+pub search_past : (w v o : Outlook) (before shown : List Choice) (many : ℕ) → length w.to_come < many
+    → v ≡ past many w → of_search before shown w ≡ o → of_search before [] v ≡ past many o
+search_past w v o before shown many less was is = grind (arith, common_steps, drop-map, shown_past)
+
+-- and where it begins, with no choices before
+pub search_begins : (w o : Outlook) (before shown : List Choice) → w ≡ o → o.shown ≡ [] → before ≡ [] → shown ≡ []
+    → of_search before shown w ≡ o
+search_begins w o before shown is none no_choices not_shown =
+    ap (of_search before shown) is ∙ ap₂ (λ before shown. of_search before shown o) no_choices not_shown
+    ∙ ap₂ (λ ms m. record o { to_come = ms; shown = m }) (map-id o.to_come) (sym none)

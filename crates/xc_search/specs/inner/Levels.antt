@@ -26,10 +26,6 @@ use Rattle.xc_search.specs.inner.Sparing.{IsSparing}
 pub record Levels : Type 0 where
   -- the newest first
   pub levels : List Level
-  -- the choices that lead to the oldest
-  pub before : List Choice
-  -- the choices that were shown last
-  pub shown : List Choice
   -- how many levels there is room for
   pub room : ℕ
 

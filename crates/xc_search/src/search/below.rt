@@ -14,9 +14,10 @@ use crate::choice::Choice;
 use crate::counts::most_levels;
 use crate::level::{Level, begin_level};
 use crate::position::Position;
-use crate::search::{Search, Standing};
+use crate::search::Search;
 use crate::stack::Stack;
-use std::alloc::Global;
+use crate::walk::Walk;
+use std::alloc::{AllocError, Global};
 use xc_dance::Dance;
 use xc_input::Problem;
 
@@ -103,6 +104,14 @@ fn give_back<'a, D: Dance>(mut position: Position<'a, D>) -> D
     position.into_dance()
 }
 
+/// Room for so many choices, and as many more behind them.
+fn room_behind(alloc: Global, before: usize, more: usize) -> Result<Vec<Choice>, AllocError>
+    ensures { IfOk result (λ choices. (choices.items ≡ []) × (before + more ≤ vec_capacity choices)) }
+{
+    let most = before.checked_add(more).ok_or(AllocError)?;
+    Vec::with_capacity(alloc, most)
+}
+
 impl<'a, D: Dance> Search<'a, D> {
     /// Begins a search below a path of the problem's search, over a dance that has no moves and room
     /// for `2 * items + 2 * uses` of them. `numbers` are those of the path's branches, `k` of the
@@ -139,15 +148,16 @@ impl<'a, D: Dance> Search<'a, D> {
         if !go_down(&mut position, numbers, &mut path) {
             return Err((give_back(position), PathFault::NoPath));
         }
-        match Stack::behind(alloc, most, path) {
-            Ok(stack) => Ok(Search {
-                standing: Standing {
-                    position,
-                    stack,
-                    down: true,
-                },
-            }),
-            Err(_) => Err((give_back(position), PathFault::Memory)),
-        }
+        let Ok(stack) = Stack::new(alloc, most) else {
+            return Err((give_back(position), PathFault::Memory));
+        };
+        let Ok(choices) = room_behind(alloc, path.len(), most) else {
+            return Err((give_back(position), PathFault::Memory));
+        };
+        Ok(Search {
+            walk: Walk::from(position, stack),
+            before: path,
+            choices,
+        })
     }
 }

@@ -23,6 +23,7 @@ invariant_of-result g c =
           (ap (λ (s : Dancing). s.trail) c.new-3.ensures ∙ c.requires.none);
       untried = ap (λ (s : Levels). s.levels) c.in-Ok-new.ensures;
       levels_fit = omega (arith, c.most_levels-most.ensures.value, ap (λ (s : Levels). s.room) c.in-Ok.ensures, most);
+      path_fits = omega (arith, ap (λ (s : Levels). s.room) c.in-Ok.ensures, c.in-Ok-with_capacity.ensures);
       trial_fits =
           omega (arith, c.most_levels-most.ensures.value, ap (λ (s : Levels). s.room) c.in-Ok-new.ensures, most);
     }

@@ -1,12 +1,12 @@
-use Rattle.std.proofs.Common.{arith}
+use Rattle.std.proofs.Common.{arith, []}
 use Rattle.std.proofs.lemmas.Grind.{common_steps}
 use Rattle.xc_search.proofs.paths.Below.{led_path, primary_choices}
 use Rattle.xc_search.proofs.paths.Settled.{part_below}
 use Rattle.xc_search.proofs.stacked.ShownLevels.{all_shown}
 use Rattle.xc_search.proofs.cut.Cut.next.Goals as goal
 
-pub show-requires : goal.show-requires
-show-requires g c = all_shown _ _ _ c.next_part-found.ensures.stacked
+pub show-requires-clause-shown : goal.show-requires-clause-shown
+show-requires-clause-shown g c = all_shown _ _ _ c.next_part-found.ensures.stacked
 
 pub returns-clause-path : goal.returns-clause-path
 returns-clause-path g c is = grind (arith, common_steps, led_path)
@@ -15,4 +15,11 @@ pub returns-clause-known : goal.returns-clause-known
 returns-clause-known g c is = grind (arith, common_steps, primary_choices)
 
 pub returns-clause-part : goal.returns-clause-part
-returns-clause-part g c is = grind (arith, common_steps, part_below)
+returns-clause-part g c is =
+    let e = c.next_part-found.new.position in
+    let found = c.next_part-found.ensures in
+    let at = c.self.inside in
+    let below =
+    part_below at.position e at.stack c.next_part-found.new.stack at.down at.path.items c.args.self.now
+    (found.part is) (found.path [] c.self.invariant.led) c.self.view_is in
+    grind (arith, common_steps, below, c.show.ensures.items)

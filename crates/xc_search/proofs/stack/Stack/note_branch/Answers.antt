@@ -13,7 +13,6 @@ invariant_of-self c =
     record {
       few = omega (arith, length-set levels (c.len-top.result - 1) c.begin_level.new.level, c.self.invariant.few);
       levels_fit = c.self.invariant.levels_fit;
-      choices_fit = c.self.invariant.choices_fit;
     }
 
 pub returns : goal.returns
@@ -31,9 +30,6 @@ returns c =
     ∙ newest_changed (begun_level b) levels c.index_mut.result.now some in
     ap (λ (ls : List Level). record {
       levels = ls;
-      before = c.self.inside.before.items;
-      shown =
-          c.self.inside.choices.items;
       room = c.self.inside.room;
     }) turned ∙ ap
     (λ (v : Levels). record v { levels = first_changed (begun_level b) v.levels }) c.self.view_is

@@ -1,0 +1,43 @@
+//! A walk over live lists.
+use crate::made::{choice, walk};
+use fixtures::{SEVEN, on_problem};
+use xc_dance::{Dance, Lists};
+use xc_input::Kind;
+use xc_search::{Choice, Walk};
+
+/// Whether a walk stands at the solution of these choices.
+fn stands_at(walk: &Walk<Lists>, wanted: &[Choice]) -> bool {
+    let mut choices = walk.solution();
+    for choice in wanted {
+        if choices.next() != Some(*choice) {
+            return false;
+        }
+    }
+    choices.next().is_none()
+}
+
+/// Whether a walk stands at no solution, then at this one alone, and then at none.
+fn passes_over_one(walk: &mut Walk<Lists>, wanted: &[Choice]) -> bool {
+    stands_at(walk, &[])
+        && walk.pass(1) == 1
+        && stands_at(walk, wanted)
+        && walk.pass(1) == 0
+        && stands_at(walk, &[])
+}
+
+/// Whether a walk finds the cover of seven items alone, and undoes all moves.
+fn finds_seven_items(mut walk: Walk<Lists>) -> bool {
+    let wanted = [choice(1, 4, 2, 2), choice(2, 5, 1, 1), choice(3, 1, 1, 1)];
+    let found = passes_over_one(&mut walk, &wanted);
+    walk.close().moves().is_empty() && found
+}
+
+#[test]
+fn a_walk_over_one_cover(rt: HostRuntime) {
+    let alloc = rt.alloc();
+    assert!(rt;
+        on_problem(alloc, Kind::Plain, SEVEN, |problem| {
+            walk(alloc, problem).is_some_and(finds_seven_items)
+        })
+    );
+}

@@ -1,0 +1,268 @@
+//! A walk over a problem's solutions.
+ghost use Rattle.std.specs.Prelude.{◌≡◌, ◌≢◌, ◌+◌, ◌<◌, ◌≤◌, [], ◌∷◌, ◌++◌, drop, length, min, true, false};
+ghost use Rattle.std.specs.Prelude.{IfOk, IfErr, IfSome, IsNone, vec_capacity};
+ghost use Rattle.xc_search.specs.Outlook.{shown_after};
+ghost use Rattle.xc_search.specs.Room.{room_for};
+ghost use Rattle.xc_search.specs.Cover.{members, EachMemberCovers, EachCoverIsListedOnce};
+ghost use Rattle.xc_search.specs.inner.MostLevels.{most_levels};
+ghost use Rattle.xc_search.specs.inner.Levels.{coming, choices_of, IsStanding};
+
+use crate::choice::Choice;
+use crate::counts::most_levels;
+use crate::level::Level;
+use crate::levels::{advance, unwind};
+use crate::position::Position;
+use crate::stack::Stack;
+use core::mem::replace_with;
+use std::alloc::Global;
+use std::marker::Model;
+use xc_dance::{Dance, Memory};
+use xc_input::Problem;
+
+/// A walk over the solutions of a problem, over a dance of that problem, whose moves it makes and undoes. It stands for
+/// the members of the problem's listing that are still to come, and at one of them. It is what `Search` goes by, and
+/// keeps no choices: `solution` reads them where it stands. It may be let go as it stands, where its dance may; `close`
+/// gives the dance back.
+#[derive(Drop)]
+pub struct Walk<'a, D: Dance> {
+    standing: Standing<'a, D>,
+}
+
+/// Where a walk stands.
+// It has no model, so that the contract of `passed` names its fields.
+#[derive(Drop)]
+struct Standing<'a, D: Dance> {
+    position: Position<'a, D>,
+    stack: Stack,
+    /// What is left wasn't searched yet.
+    down: bool,
+    /// By how many solutions it went on last. It is handed back here, and not beside the rest: else the whole would be
+    /// copied once more.
+    passed: u64,
+}
+
+impl<'a, D: Dance> Model for Walk<'a, D> {
+    ghost use Rattle.std.specs.Prelude.{◌≡◌, ◌≢◌, [], false};
+    ghost use Rattle.xc_search.specs.Outlook.{Outlook};
+    ghost use Rattle.xc_search.specs.inner.Ahead.{IsSolved};
+    ghost use Rattle.xc_search.specs.inner.MostLevels.{most_levels};
+    ghost use Rattle.xc_search.specs.inner.Levels.{choices_of, coming, IsStanding};
+
+    ghost Value = { Outlook };
+
+    ghost view = { λ s. let at = s.standing in record {
+      puzzle = at.position.puzzle;
+      to_come = coming at.position.puzzle at.position.trail at.stack.levels at.down;
+      shown = choices_of at.position.puzzle at.stack.levels;
+      room = at.position.room;
+    } };
+
+    ghost invariant = { λ s. let at = s.standing in record {
+      standing : IsStanding at.position.puzzle at.position.trail at.stack.levels at.down;
+      solved : at.down ≡ false → at.stack.levels ≢ [] → IsSolved at.position.puzzle at.position.trail at.stack.levels;
+      levels_fit : at.stack.room ≡ most_levels at.position.puzzle;
+    } };
+}
+
+impl<'a, D: Dance> Walk<'a, D> {
+    /// Begins a walk over a dance that has no moves and room for `2 * items + 2 * uses` of them.
+    /// All memory is taken here: where there is none, the dance comes back as it was.
+    // Before the first move, so that want of memory means that nothing was written.
+    pub fn new(alloc: Global, dance: D, problem: &'a Problem) -> Result<Walk<'a, D>, (D, Memory)>
+        requires same { (D.state dance).puzzle ≡ problem.now.puzzle }
+        requires none { (D.state dance).trail ≡ [] }
+        requires room { room_for problem.now.puzzle ≤ (D.state dance).room }
+        ensures begun { IfOk result (λ s. s ≡ record {
+          puzzle = problem.now.puzzle;
+          to_come = members problem.now.puzzle;
+          shown = [];
+          room = (D.state dance).room;
+        }) }
+        ensures right { EachMemberCovers problem.now.puzzle }
+        ensures complete { EachCoverIsListedOnce problem.now.puzzle }
+        ensures back { IfErr result (λ e. e.0 ≡ dance) }
+    {
+        let Ok(stack) = Stack::new(alloc, most_levels(problem)) else {
+            return Err((dance, Memory));
+        };
+        Ok(Walk::from(Position::new(dance, problem), stack))
+    }
+
+    /// A walk over what the moves of a position leave.
+    pub(crate) fn from(position: Position<'a, D>, stack: Stack) -> Walk<'a, D>
+        requires standing { IsStanding position.puzzle position.trail stack.levels true }
+        requires levels_fit { stack.room ≡ most_levels position.puzzle }
+        ensures { result ≡ record {
+          puzzle = position.entry.puzzle;
+          to_come = coming position.entry.puzzle position.entry.trail stack.levels true;
+          shown = choices_of position.entry.puzzle stack.levels;
+          room = position.entry.room;
+        } }
+    {
+        Walk {
+            standing: Standing {
+                position,
+                stack,
+                down: true,
+                passed: 0,
+            },
+        }
+    }
+
+    /// The choices of the solution at which the walk stands, from the first level down; none where it stands at none.
+    #[inline(always)]
+    pub fn solution(&self) -> Solution<'_, 'a, D>
+        ensures { result ≡ self.now.shown }
+    {
+        Solution {
+            levels: self.standing.stack.levels(),
+            position: &self.standing.position,
+        }
+    }
+
+    /// Puts choices, and behind them those of `solution`, in the place of those that stand in `shown`.
+    pub(crate) fn show(&self, before: &[Choice], shown: &mut Vec<Choice>)
+        requires { length before.now + most_levels self.now.puzzle ≤ vec_capacity shown.old }
+        ensures items { shown.new.items ≡ before.now ++ self.now.shown }
+        ensures capacity { vec_capacity shown.new ≡ vec_capacity shown.old }
+    {
+        let standing = &self.standing;
+        standing.stack.show(before, &standing.position, shown);
+    }
+
+    /// Goes on by so many solutions, or over all where fewer are left, and answers by how many. It then stands at the
+    /// last one; at none where fewer were left.
+    pub fn pass(&mut self, many: u64) -> u64
+        ensures went { self.new ≡ record self.old {
+          to_come = drop many self.old.to_come;
+          shown = shown_after many self.old.to_come self.old.shown;
+        } }
+        ensures count { result ≡ min many (length self.old.to_come) }
+    {
+        // Told apart here: in the loop's function this test alone took 0.07 more of the instructions.
+        if many == 0 {
+            return 0;
+        }
+        let standing = &mut self.standing;
+        if standing.has_ended() {
+            return 0;
+        }
+        replace_with(standing, many, Standing::passed);
+        standing.passed
+    }
+
+    /// Undoes every move and gives the dance back, after any answer of `pass`.
+    pub fn close(self) -> D
+        ensures { D.state result ≡ record { puzzle = self.entry.puzzle; trail = []; room = self.entry.room } }
+    {
+        let Standing {
+            mut position,
+            stack,
+            down: _,
+            passed: _,
+        } = self.standing;
+        unwind(&mut position, stack);
+        position.into_dance()
+    }
+}
+
+/// The choices of a solution that are still to be read.
+#[derive(Drop)]
+pub struct Solution<'w, 'a, D: Dance> {
+    levels: &'w [Level],
+    position: &'w Position<'a, D>,
+}
+
+impl<'w, 'a, D: Dance> Model for Solution<'w, 'a, D> {
+    ghost use Rattle.std.specs.Prelude.{List, All, map};
+    ghost use Rattle.xc_search.specs.declared.choice.Choice.{Choice};
+    ghost use Rattle.xc_search.specs.inner.Levels.{IsShown, chosen};
+
+    ghost Value = { List Choice };
+
+    ghost view = { λ s. map (chosen s.position.now.puzzle) s.levels.now };
+
+    ghost invariant = { λ s. record { shown : All (IsShown s.position.now.puzzle) s.levels.now } };
+}
+
+impl<'w, 'a, D: Dance> Solution<'w, 'a, D> {
+    /// The next choice; None behind the last. So none is stored, which with what a search of its own choices stores
+    /// took 0.88 of what it takes to print a short solution.
+    #[inline(always)]
+    pub fn next(&mut self) -> Option<Choice>
+        ensures some { IfSome result (λ c. self.old ≡ c ∷ self.new) }
+        ensures none { IsNone result → self.old ≡ [] }
+    {
+        match self.levels {
+            [] => None,
+            [level, behind @ ..] => {
+                self.levels = behind;
+                Some(self.position.choice_of(level))
+            }
+        }
+    }
+}
+
+impl<'a, D: Dance> Standing<'a, D> {
+    ghost use Rattle.xc_search.specs.inner.Ahead.{Passed, IsSolved};
+    ghost use Rattle.xc_search.specs.inner.Levels.{IsStanding};
+    ghost use Rattle.xc_search.specs.inner.MostLevels.{most_levels};
+
+    /// Whether no level stands, and what is left was searched.
+    #[inline(always)]
+    fn has_ended(&self) -> bool
+        ensures ended { result ≡ true → (self.now.down ≡ false) × (self.now.stack.levels ≡ []) }
+        ensures goes_on { result ≡ false → self.now.down ≡ false → self.now.stack.levels ≢ [] }
+    {
+        !self.down && self.stack.top().is_none()
+    }
+
+    /// Goes on by so many solutions, or over all where fewer are left, and tells by how many. It takes the search by
+    /// value, so that its loop holds the bases and lengths of all tables as values of its own: behind a reference each
+    /// would be loaded anew after each write to a table. By itself that took 0.99 of the instructions.
+    // It holds while no address of the state leaves the loop: what stands out of line there takes slices, and all else
+    // asks to be inlined. Together with what follows from it this took 0.90 over thirteen problems.
+    #[inline(never)]
+    fn passed(self, many: u64) -> (Standing<'a, D>, ())
+        requires some { 0 < many }
+        requires standing { IsStanding self.position.puzzle self.position.trail self.stack.levels true }
+        requires solved { self.down ≡ false → IsSolved self.position.puzzle self.position.trail self.stack.levels }
+        requires levels_fit { most_levels self.position.puzzle ≤ self.stack.room }
+        ensures { Passed self.entry.position self.entry.stack self.entry.down many result.0.passed
+            result.0.position result.0.stack result.0.down }
+    {
+        let Standing {
+            mut position,
+            mut stack,
+            down,
+            passed: _,
+        } = self;
+        // Where it stands at a solution, it finds that one again.
+        let more = if down { many - 1 } else { many };
+        let passed = match advance(&mut position, &mut stack, more) {
+            None => many,
+            Some(more) => fewer(many, more),
+        };
+        (
+            Standing {
+                position,
+                stack,
+                down: false,
+                passed,
+            },
+            (),
+        )
+    }
+}
+
+/// How many solutions were passed over of `many`, where the search then ended and `more` lacked beside the last.
+// A call for its coldness alone: else the compiler takes a search's end for as likely as a step of its loop, 1.021 of
+// the instructions.
+#[cold]
+#[inline(never)]
+fn fewer(many: u64, more: u64) -> u64
+    requires { more < many }
+    ensures { result + 1 + more ≡ many }
+{
+    many - 1 - more
+}
