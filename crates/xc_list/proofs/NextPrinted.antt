@@ -71,22 +71,21 @@ pub ends : (a : Named) (spacing k n passed limit : ℕ) → k ≤ length (member
 ends a spacing k n passed limit within is less silent = grind (arith, nat_tests, length-drop, output_silent)
 
 -- its text was taken, or broke off
-pub takes : (a : Named) (spacing k n : ℕ) (o : Outlook) (m : List Choice) (x y z : SinkState) → Reaches a spacing k n o
-    → m ≡ o.shown → 0 < n →
-    Took x y (output a spacing k) → Took y z (printed_text a spacing (k + n, m)) → Took x z (output a spacing (k + n))
-takes a spacing k n o m x y z r is some so_far t = grind (arith, nat_tests, output_next, then_took)
+pub takes : (a : Named) (spacing k n : ℕ) (o : Outlook) (x y z : SinkState) → Reaches a spacing k n o → 0 < n →
+    Took x y (output a spacing k) → Took y z (printed_text a spacing (k + n, o.shown)) →
+    Took x z (output a spacing (k + n))
+takes a spacing k n o x y z r some so_far t = grind (arith, nat_tests, output_next, then_took)
 
-pub stops : (a : Named) (spacing limit k n : ℕ) (o : Outlook) (m : List Choice) (x y z : SinkState)
-    → Reaches a spacing k n o → m ≡ o.shown → 0 < n → k + n ≤ limit →
-    Took x y (output a spacing k) → BrokeOff y z (printed_text a spacing (k + n, m))
+pub stops : (a : Named) (spacing limit k n : ℕ) (o : Outlook) (x y z : SinkState) → Reaches a spacing k n o → 0 < n
+    → k + n ≤ limit → Took x y (output a spacing k) → BrokeOff y z (printed_text a spacing (k + n, o.shown))
     → StoppedAt a spacing limit (k + n) x z
-stops a spacing limit k n o m x y z r is some within so_far b =
+stops a spacing limit k n o x y z r some within so_far b =
     let last = k + (n - 1) in
     let end : last + 1 ≡ k + n = omega (arith, some) in
-    let next : drop last (members a.puzzle) ≡ m ∷ o.to_come = r.next ∙ ap (λ m. m ∷ o.to_come) (sym is) in
     subst (λ j. StoppedAt a spacing limit j x z) end
-    (stopped a spacing limit last m o.to_come next (omega (arith, end, within)) (subst (Took x y) (sym r.same) so_far)
-    (subst (λ j. BrokeOff y z (printed_text a spacing (j, m))) (sym end) b))
+    (stopped a spacing limit last o.shown o.to_come r.next (omega (arith, end, within))
+    (subst (Took x y) (sym r.same) so_far)
+    (subst (λ j. BrokeOff y z (printed_text a spacing (j, o.shown))) (sym end) b))
 
 pub stands : (a : Named) (spacing k n : ℕ) (o : Outlook) → Reaches a spacing k n o → 0 < n
     → StandsAt (members a.puzzle) (k + n) o

@@ -12,7 +12,6 @@ use Rattle.xc_list.specs.Texts.{SinkState, Took, BrokeOff, Writes}
 use Rattle.xc_list.specs.inner.Pages.{Puts, IsPut, held_text}
 use Rattle.xc_list.specs.declared.page.Held.{Held}
 use Rattle.xc_list.proofs.Writing.{then_took, then_broke, took_nothing, broke_before}
-use Rattle.xc_search.proofs.stacked.LevelsLeft.{behind_first, cut_first}
 use Rattle.std.proofs.lemmas.Grind.{common_steps, flat_map-append}
 use Rattle.xc_input.proofs.TokenLemmas.Separators.{COLON}
 
@@ -117,40 +116,45 @@ pub kept_out : {a b : SinkState} (page more text : List ℕ) (from to : ℕ) →
 kept_out {a = a} {b = b} page more text from to e p =
     puts_out (subst (λ t. Took a b (drop from t ++ text)) e p)
 
-next_done : {X : Type 0} (done rest all : List X) (d : X) → 1 ≤ length rest → done ++ rest ≡ all
-    → (done ++ get_or rest 0 d ∷ []) ++ behind_first rest ≡ all
-next_done done rest all d some whole =
-    let cut = cut_first rest d some in grind (arith, common_steps, cut, whole)
+next_done : {X : Type 0} (done rest next all : List X) (x : X) → rest ≡ x ∷ next → done ++ rest ≡ all
+    → (done ++ x ∷ []) ++ next ≡ all
+next_done done rest next all x cut whole = grind (arith, common_steps, cut, whole)
 
 -- the texts of the first of a list, and the next one's
-module _ {X : Type 0} {a b c : SinkState} {before held : List ℕ} (f : X → List ℕ) (done rest all : List X) (d : X)
-    (some : 1 ≤ length rest) (whole : done ++ rest ≡ all) where
-  pub line_put : {next : List ℕ} → Puts a b before held (flat_map f done) → Puts b c held next (f (get_or rest 0 d))
-      → PutsFront a c before next f (behind_first rest) all
-  line_put {next = next} p q = record {
-    done = done ++ get_or rest 0 d ∷ [];
-    whole = next_done done rest all d some whole;
+module _ {X : Type 0} {a b c : SinkState} {before held : List ℕ} (f : X → List ℕ) (done rest next all : List X) (x : X)
+    (cut : rest ≡ x ∷ next) (whole : done ++ rest ≡ all) where
+  pub line_put : {text : List ℕ} → Puts a b before held (flat_map f done) → Puts b c held text (f x)
+      → PutsFront a c before text f next all
+  line_put {text = text} p q = record {
+    done = done ++ x ∷ [];
+    whole = next_done done rest next all x cut whole;
     puts =
-        let more : flat_map f (done ++ get_or rest 0 d ∷ []) ≡ flat_map f done ++ f (get_or rest 0 d) =
-        grind (arith, common_steps, flat_map-append f done (get_or rest 0 d ∷ [])) in
-        subst (Puts a c before next) (sym more) (then_puts p q);
+        let more : flat_map f (done ++ x ∷ []) ≡ flat_map f done ++ f x =
+        grind (arith, common_steps, flat_map-append f done (x ∷ [])) in
+        subst (Puts a c before text) (sym more) (then_puts p q);
   }
 
-  pub lines_broke : Puts a b before held (flat_map f done) → BrokeOff b c (held ++ f (get_or rest 0 d))
+  pub lines_broke : Puts a b before held (flat_map f done) → BrokeOff b c (held ++ f x)
       → BrokeOff a c (before ++ flat_map f all)
   lines_broke p q =
-      let front : List ℕ = flat_map f done ++ f (get_or rest 0 d) in
-      let behind : List ℕ = flat_map f (behind_first rest) in
+      let front : List ℕ = flat_map f done ++ f x in
+      let behind : List ℕ = flat_map f next in
       let text : flat_map f all ≡ front ++ behind =
-      ap (flat_map f) (sym (next_done done rest all d some whole))
-      ∙ grind (
-        arith,
-        common_steps,
-        flat_map-append f (done ++ get_or rest 0 d ∷ []) (behind_first rest),
-        flat_map-append f done (get_or rest 0 d ∷ []),
-      ) in
+      ap (flat_map f) (sym (next_done done rest next all x cut whole))
+      ∙ grind (arith, common_steps, flat_map-append f (done ++ x ∷ []) next, flat_map-append f done (x ∷ [])) in
       subst (BrokeOff a c) (append_assoc before front behind ∙ ap (λ t. before ++ t) (sym text))
-      (broke_before behind (puts_broke (f (get_or rest 0 d)) p q))
+      (broke_before behind (puts_broke (f x) p q))
+
+-- all were put
+pub all_put : {X : Type 0} {a b : SinkState} {before held : List ℕ} (f : X → List ℕ) (rest all : List X) → rest ≡ []
+    → PutsFront a b before held f rest all → Puts a b before held (flat_map f all)
+all_put {a = a} {b = b} {before = before} {held = held} f rest all none p =
+    subst (λ xs. Puts a b before held (flat_map f xs))
+    (sym (append-nil p.done) ∙ ap (λ xs. p.done ++ xs) (sym none) ∙ p.whole) p.puts
+
+-- and none of it is held
+pub all_taken : {a b : SinkState} {text : List ℕ} → Puts a b [] [] text → Took a b text
+all_taken {a = a} {b = b} p = subst (Took a b) (sym (p.whole ∙ append-nil p.front)) p.took
 
 pub member_broke : {a b : SinkState} (head held lines : List ℕ) → held ≡ head → BrokeOff a b (held ++ lines)
     → BrokeOff a b (head ++ lines)

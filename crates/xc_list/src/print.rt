@@ -13,8 +13,9 @@ use crate::page::{Held, put_bytes, put_header};
 use crate::sink::Sink;
 use crate::uses::write_name;
 use crate::write::{SinkFault, write_all, write_number, write_numbered};
+use xc_dance::Dance;
 use xc_input::Problem;
-use xc_search::Choice;
+use xc_search::{Choice, Walk};
 
 /// Writes that no option is taken.
 fn write_none<S: Sink>(problem: &Problem, item: u32, sink: &mut S) -> Result<(), SinkFault>
@@ -217,10 +218,10 @@ fn put_branch(page: &mut [u8], at: usize, k: u32, n: u32) -> Option<usize>
 
 /// Puts the line of a choice on a page, if it is one that takes an option and there is room for it.
 #[inline(always)]
-fn put_choice(laid: &LaidOut, choice: &Choice, page: &mut [u8], at: usize) -> Option<usize>
-    requires known { IsKnownChoice laid.now.puzzle choice.now }
+fn put_choice(laid: &LaidOut, choice: Choice, page: &mut [u8], at: usize) -> Option<usize>
+    requires known { IsKnownChoice laid.now.puzzle choice }
     requires room { (at ≤ 4096) × (length page.old ≡ 4096) }
-    ensures put { IfSome result (λ to. take to page.new ≡ take at page.old ++ choice_text laid.now choice.now) }
+    ensures put { IfSome result (λ to. take to page.new ≡ take at page.old ++ choice_text laid.now choice) }
     ensures end { IfSome result (λ to. (at ≤ to) × (to ≤ 4096)) }
     ensures none { IsNone result → take at page.new ≡ take at page.old }
     ensures size { length page.new ≡ 4096 }
@@ -234,22 +235,24 @@ fn put_choice(laid: &LaidOut, choice: &Choice, page: &mut [u8], at: usize) -> Op
     }
 }
 
-/// Writes what a page holds and the line of a choice.
+/// Writes what a page holds and the line of a choice. It takes the choice in parts, so that one that is put on the page
+/// is never stored.
 #[inline(never)]
 fn write_past<S: Sink>(
     bodies: &Bodies,
-    choice: &Choice,
-    page: &[u8],
-    held: Held,
+    item: u32,
+    option: Option<u32>,
+    k: u32,
+    n: u32,
+    held: &[u8],
     sink: &mut S,
 ) -> Result<(), SinkFault>
-    requires known { IsKnownChoice bodies.now.puzzle choice.now }
-    requires within { (held.from ≤ held.to) × (held.to ≤ length page.now) }
-    ensures { Writes (S.state sink.old) (S.state sink.new)
-        result (held_text page.now held.from held.to ++ choice_text bodies.now choice.now) }
+    requires { IsKnownChoice bodies.now.puzzle (record { item = item; option = option; k = k; n = n }) }
+    ensures { Writes (S.state sink.old) (S.state sink.new) result (held.now
+        ++ choice_text bodies.now (record { item = item; option = option; k = k; n = n })) }
 {
-    write_all(sink, &page[held.from..held.to])?;
-    write_choice(bodies, choice, sink)
+    write_all(sink, held)?;
+    write_choice(bodies, &Choice { item, option, k, n }, sink)
 }
 
 /// Puts the line of a choice behind what a page holds, or writes both.
@@ -257,17 +260,17 @@ fn write_past<S: Sink>(
 fn put_line<S: Sink>(
     bodies: &Bodies,
     laid: &LaidOut,
-    choice: &Choice,
+    choice: Choice,
     page: &mut [u8],
     held: Held,
     sink: &mut S,
 ) -> Result<Held, SinkFault>
     requires same { laid.now ≡ bodies.now }
-    requires known { IsKnownChoice bodies.now.puzzle choice.now }
+    requires known { IsKnownChoice bodies.now.puzzle choice }
     requires size { length page.old ≡ 4096 }
     requires within { (held.from ≤ held.to) × (held.to ≤ 4096) }
     ensures put { IsPut (S.state sink.old) (S.state sink.new) (held_text page.old held.from held.to)
-        result page.new (choice_text bodies.now choice.now) }
+        result page.new (choice_text bodies.now choice) }
     ensures within { IfOk result (λ h. (h.from ≤ h.to) × (h.to ≤ 4096)) }
     ensures size { length page.new ≡ 4096 }
 {
@@ -277,62 +280,96 @@ fn put_line<S: Sink>(
             to,
         });
     }
-    write_past(bodies, choice, page, held, sink)?;
+    let Choice { item, option, k, n } = choice;
+    write_past(bodies, item, option, k, n, &page[held.from..held.to], sink)?;
     Ok(Held { from: 0, to: 0 })
 }
 
-/// Puts the lines of choices behind what a page holds.
+/// Puts the lines of a solution behind what a page holds.
 #[inline(always)]
-fn put_lines<S: Sink>(
+fn put_lines<'a, D: Dance, S: Sink>(
     bodies: &Bodies,
     laid: &LaidOut,
-    choices: &[Choice],
+    walk: &Walk<'a, D>,
     page: &mut [u8],
     start: Held,
     sink: &mut S,
 ) -> Result<Held, SinkFault>
     requires same { laid.now ≡ bodies.now }
-    requires known { All (IsKnownChoice bodies.now.puzzle) choices.now }
+    requires known { All (IsKnownChoice bodies.now.puzzle) walk.now.shown }
     requires size { length page.old ≡ 4096 }
     requires within { (start.from ≤ start.to) × (start.to ≤ 4096) }
     ensures put { IsPut (S.state sink.old) (S.state sink.new) (held_text page.old start.from start.to)
-        result page.new (flat_map (choice_text bodies.now) choices.now) }
+        result page.new (flat_map (choice_text bodies.now) walk.now.shown) }
     ensures within { IfOk result (λ h. (h.from ≤ h.to) × (h.to ≤ 4096)) }
     ensures size { length page.new ≡ 4096 }
 {
     let mut held = start;
-    // Each is taken off the front: a `for` would seek it by its number.
-    let mut rest = choices;
-    while let [choice, behind @ ..] = rest {
+    let mut choices = walk.solution();
+    while let Some(choice) = choices.next() {
         let next = put_line(bodies, laid, choice, page, held, sink)?;
         held = next;
-        rest = behind;
     }
     Ok(held)
 }
 
-/// Writes a solution as `write_member` does, but where options are laid out puts its lines together on a page and
-/// lets the sink take them at once. With three writes a line these took two fifths of what printing takes.
-// Out of line: among the search's values too few would be left in registers.
-#[inline(never)]
-pub fn write_by_page<S: Sink>(
+/// Writes a line for each choice of the solution at which a walk stands.
+fn write_lines<'a, D: Dance, S: Sink>(
+    walk: &Walk<'a, D>,
+    bodies: &Bodies,
+    sink: &mut S,
+) -> Result<(), SinkFault>
+    requires { All (IsKnownChoice bodies.now.puzzle) walk.now.shown }
+    ensures { Writes (S.state sink.old) (S.state sink.new)
+        result (flat_map (choice_text bodies.now) walk.now.shown) }
+{
+    let mut choices = walk.solution();
+    while let Some(choice) = choices.next() {
+        write_choice(bodies, &choice, sink)?;
+    }
+    Ok(())
+}
+
+/// Writes the solution at which a walk stands piece by piece: its number, and a line for each choice.
+fn write_in_pieces<'a, D: Dance, S: Sink>(
     number: u64,
-    choices: &[Choice],
+    walk: &Walk<'a, D>,
+    bodies: &Bodies,
+    sink: &mut S,
+) -> Result<(), SinkFault>
+    requires { All (IsKnownChoice bodies.now.puzzle) walk.now.shown }
+    ensures { Writes (S.state sink.old) (S.state sink.new)
+        result (member_text bodies.now (number, walk.now.shown)) }
+{
+    write_number(sink, number)?;
+    write_all(sink, b":\n")?;
+    write_lines(walk, bodies, sink)
+}
+
+/// Writes the solution at which a walk stands as `write_member` does, but where options are laid out puts its lines
+/// together on a page and lets the sink take them at once. With three writes a line these took two fifths of what
+/// printing takes.
+// Out of line: among the search's values too few would be left in registers. It takes the walk and not a `Solution`,
+// which holds its address: the compiler would then copy the walk once more at each call of `pass`.
+#[inline(never)]
+pub fn write_by_page<'a, D: Dance, S: Sink>(
+    number: u64,
+    walk: &Walk<'a, D>,
     bodies: &Bodies,
     page: &mut [u8],
     sink: &mut S,
 ) -> Result<(), SinkFault>
-    requires known { All (IsKnownChoice bodies.now.puzzle) choices.now }
+    requires known { All (IsKnownChoice bodies.now.puzzle) walk.now.shown }
     requires size { length page.old ≡ 4096 }
     ensures written { Writes (S.state sink.old) (S.state sink.new)
-        result (member_text bodies.now (number, choices.now)) }
+        result (member_text bodies.now (number, walk.now.shown)) }
     ensures size { length page.new ≡ 4096 }
 {
     let Some(laid) = bodies.laid() else {
-        return write_member(number, choices, bodies, sink);
+        return write_in_pieces(number, walk, bodies, sink);
     };
     let header = put_header(page, number);
-    let held = put_lines(bodies, &laid, choices, page, header, sink)?;
+    let held = put_lines(bodies, &laid, walk, page, header, sink)?;
     // Written here, and not kept until the page is full: so a write that fails is one of this solution's.
     write_all(sink, &page[held.from..held.to])
 }

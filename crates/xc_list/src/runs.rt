@@ -19,7 +19,7 @@ use crate::write::SinkFault;
 use std::alloc::Global;
 use xc_dance::{Dance, Links, Memory};
 use xc_input::Problem;
-use xc_search::{Choice, Search, most_moves};
+use xc_search::{Walk, most_moves};
 
 /// How a run ended, and at how many solutions.
 #[derive(Clone, Copy, Debug, PartialEq, Eq)]
@@ -50,23 +50,23 @@ fn is_printed(spacing: u64, number: u64) -> bool
     spacing != 0 && number % spacing == 0
 }
 
-/// Writes a solution if its number is one to print.
-fn write_printed<S: Sink>(
+/// Writes the solution at which a walk stands if its number is one to print.
+fn write_printed<'a, D: Dance, S: Sink>(
     spacing: u64,
     number: u64,
-    choices: &[Choice],
+    walk: &Walk<'a, D>,
     bodies: &Bodies,
     page: &mut [u8],
     sink: &mut S,
 ) -> Result<(), SinkFault>
-    requires known { All (IsKnownChoice bodies.now.puzzle) choices.now }
+    requires known { All (IsKnownChoice bodies.now.puzzle) walk.now.shown }
     requires size { length page.old ≡ 4096 }
     ensures written { Writes (S.state sink.old) (S.state sink.new)
-        result (printed_text bodies.now spacing (number, choices.now)) }
+        result (printed_text bodies.now spacing (number, walk.now.shown)) }
     ensures size { length page.new ≡ 4096 }
 {
     if is_printed(spacing, number) {
-        write_by_page(number, choices, bodies, page, sink)
+        write_by_page(number, walk, bodies, page, sink)
     } else {
         Ok(())
     }
@@ -88,17 +88,17 @@ fn steps_to_printed(spacing: u64, found: u64, limit: u64) -> u64
     }
 }
 
-/// Writes what a search has to come, up to the limit.
+/// Writes what a walk has to come, up to the limit.
 fn write_members<'a, D: Dance, S: Sink>(
-    search: &mut Search<'a, D>,
+    walk: &mut Walk<'a, D>,
     bodies: &Bodies,
     words: &Words,
     sink: &mut S,
 ) -> End
-    requires puzzle { search.old.puzzle ≡ bodies.now.puzzle }
-    requires all { search.old.to_come ≡ members bodies.now.puzzle }
-    ensures still { search.new ≡ record search.old { to_come = search.new.to_come; shown = search.new.shown } }
-    ensures went { WentTo (members bodies.now.puzzle) search.new result }
+    requires puzzle { walk.old.puzzle ≡ bodies.now.puzzle }
+    requires all { walk.old.to_come ≡ members bodies.now.puzzle }
+    ensures still { walk.new ≡ record walk.old { to_come = walk.new.to_come; shown = walk.new.shown } }
+    ensures went { WentTo (members bodies.now.puzzle) walk.new result }
     ensures run { IsRun bodies.now words.now.spacing words.now.limit
         (S.state sink.old) (S.state sink.new) result }
 {
@@ -106,19 +106,12 @@ fn write_members<'a, D: Dance, S: Sink>(
     let mut found = 0;
     while found < words.limit {
         let steps = steps_to_printed(words.spacing, found, words.limit);
-        let passed = search.pass(steps);
+        let passed = walk.pass(steps);
         if passed < steps {
             return End::Done(found + passed);
         }
         let number = found + steps;
-        match write_printed(
-            words.spacing,
-            number,
-            search.choices(),
-            bodies,
-            &mut page,
-            sink,
-        ) {
+        match write_printed(words.spacing, number, walk, bodies, &mut page, sink) {
             Ok(()) => {}
             Err(_) => return End::WriteFailed(number),
         }
@@ -164,11 +157,11 @@ pub fn run_over<D: Dance, S: Sink>(
     ensures right { EachMemberCovers problem.now.puzzle }
     ensures complete { EachCoverIsListedOnce problem.now.puzzle }
 {
-    match Search::new(alloc, dance, problem) {
-        Ok(mut search) => {
+    match Walk::new(alloc, dance, problem) {
+        Ok(mut walk) => {
             let bodies = bodies_for(alloc, problem, &words);
-            let end = write_members(&mut search, &bodies, &words, sink);
-            (search.close(), Ok(end))
+            let end = write_members(&mut walk, &bodies, &words, sink);
+            (walk.close(), Ok(end))
         }
         Err((dance, memory)) => (dance, Err(memory)),
     }

@@ -7,14 +7,14 @@ use Rattle.xc_list.proofs.PageLemmas.{PutsFront}
 use Rattle.xc_list.proofs.print.put_lines.Given as goal
 
 -- the lines of the choices before those that are left were put
-abbrev pub invariant-loop-rest : goal.invariant-loop-rest
-invariant-loop-rest g l = record {
+abbrev pub invariant-loop-choice : goal.invariant-loop-choice
+invariant-loop-choice g l = record {
   put : PutsFront (g.S.Sink.state l.fn.sink) (g.S.Sink.state l.sink) (held_text l.fn.page l.fn.start.from l.fn.start.to)
-      (held_text l.page l.held.from l.held.to) (choice_text l.bodies) l.rest l.fn.choices;
-  known : All (IsKnownChoice l.bodies.puzzle) l.rest;
+      (held_text l.page l.held.from l.held.to) (choice_text l.bodies) l.choices l.fn.walk.shown;
+  known : All (IsKnownChoice l.bodies.puzzle) l.choices;
   within : (l.held.from ≤ l.held.to) × (l.held.to ≤ 4096);
   size : length l.page ≡ 4096;
 }
 
-abbrev pub decreases-loop-rest : goal.decreases-loop-rest
-decreases-loop-rest g l = length l.rest
+abbrev pub decreases-loop-choice : goal.decreases-loop-choice
+decreases-loop-choice g l = length l.choices

@@ -10,12 +10,12 @@ pub returns-in_err-held-clause-written : goal.returns-in_err-held-clause-written
 returns-in_err-held-clause-written g c =
     failed c.from_residual.result c.from_residual.ensures.0
     (member_broke (decimal c.args.number ++ codes ":\n") _
-    (flat_map (choice_text c.args.bodies.now) c.args.choices.now) c.put_header-header.ensures.put
+    (flat_map (choice_text c.args.bodies.now) c.args.walk.now.shown) c.put_header-header.ensures.put
     c.in_err-held.ensures.put)
 
 pub returns-clause-written : goal.returns-clause-written
 returns-clause-written g c =
     puts_writes _ (decimal c.args.number ++ codes ":\n") _ _ _
-    (flat_map (choice_text c.args.bodies.now) c.args.choices.now) c.write_all.result c.put_header-header.ensures.put
+    (flat_map (choice_text c.args.bodies.now) c.args.walk.now.shown) c.write_all.result c.put_header-header.ensures.put
     (between_is c.put_lines.new.page c.in_ok-held.held.from c.in_ok-held.held.to) c.in_ok-held.ensures.put
     c.write_all.ensures

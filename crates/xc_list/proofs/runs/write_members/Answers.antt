@@ -1,8 +1,6 @@
 use Rattle.std.proofs.Common.{arith, ◌+◌, ◌-◌, ◌<◌, ◌≤◌, length, sym, ap, ◌∙◌, drop, subst}
-use Rattle.std.proofs.lemmas.List.Elements.{All-same}
 use Rattle.xc_search.specs.Outlook.{Outlook, shown_after}
 use Rattle.xc_list.specs.Texts.{Took}
-use Rattle.xc_list.specs.Known.{IsKnownChoice}
 use Rattle.xc_list.proofs.Outputs.{known_next, output_all, done_end}
 use Rattle.xc_list.proofs.NextPrinted.{Reaches, reaches, ends, takes, stops, stands, within, none_left, keeps}
 use Rattle.xc_list.proofs.runs.write_members.Goals as goal
@@ -13,7 +11,7 @@ at : (g : _) (c : After-pass-passed g) → c.steps_to_printed-steps.result ≤ c
     c.pass-passed.new.self
 at g c enough =
     let n = c.steps_to_printed-steps.result in
-    let o = c.loop-found.search in
+    let o = c.loop-found.walk in
     let went = c.pass-passed.ensures.went in
     let had = ap length c.loop-found.invariant.come in
     reaches c.args.bodies.now c.args.words.now.spacing c.loop-found.found n c.pass-passed.new.self o.shown
@@ -25,17 +23,15 @@ at g c enough =
 pub write_printed-requires-clause-known : goal.write_printed-requires-clause-known
 write_printed-requires-clause-known g c =
     let to = at g (goal.at.write_printed-requires-clause-known g c).After-pass-passed c.if-passed-steps.false in
-    All-same (IsKnownChoice c.args.bodies.now.puzzle) c.choices.result.now c.pass-passed.new.self.shown
-    c.choices.ensures
-    (known_next c.args.bodies.now.puzzle (c.loop-found.found + (c.steps_to_printed-steps.result - 1)) _ _ to.next)
+    known_next c.args.bodies.now.puzzle (c.loop-found.found + (c.steps_to_printed-steps.result - 1)) _ _ to.next
 
 pub returns-in-Err-clause-run : goal.returns-in-Err-clause-run
 returns-in-Err-clause-run g c =
     let to = at g (goal.at.returns-in-Err-clause-run g c).After-pass-passed c.if-passed-steps.false in
     let steps = c.steps_to_printed-steps.ensures in
     stops c.args.bodies.now c.args.words.now.spacing c.args.words.now.limit c.loop-found.found
-    c.steps_to_printed-steps.result c.pass-passed.new.self c.choices.result.now _ _ _
-    to c.choices.ensures steps.some steps.within c.loop-found.invariant.taken c.in-Err.ensures.written
+    c.steps_to_printed-steps.result c.pass-passed.new.self _ _ _ to steps.some steps.within c.loop-found.invariant.taken
+    c.in-Err.ensures.written
 
 pub returns-in-Err-clause-went : goal.returns-in-Err-clause-went
 returns-in-Err-clause-went g c =
@@ -45,7 +41,7 @@ returns-in-Err-clause-went g c =
 
 pub returns-then-passed-steps-clause-went : goal.returns-then-passed-steps-clause-went
 returns-then-passed-steps-clause-went g c =
-    none_left c.steps_to_printed-steps.result c.loop-found.search c.pass-passed.new.self c.pass-passed.ensures.went
+    none_left c.steps_to_printed-steps.result c.loop-found.walk c.pass-passed.new.self c.pass-passed.ensures.went
     (omega (arith, c.pass-passed.ensures.count, c.if-passed-steps.true))
 
 pub returns-then-passed-steps-clause-run : goal.returns-then-passed-steps-clause-run
@@ -75,13 +71,13 @@ loop-found-preserved g c =
     stands a spacing c.loop-found.found c.steps_to_printed-steps.result c.pass-passed.new.self to steps.some in
     record {
       still =
-          keeps c.args.search.now c.loop-found.search c.pass-passed.new.self _ _ c.pass-passed.ensures.went
+          keeps c.args.walk.now c.loop-found.walk c.pass-passed.new.self _ _ c.pass-passed.ensures.went
           c.loop-found.invariant.still;
       shown = there.0;
       come = there.1;
       within = within a spacing c.loop-found.found c.steps_to_printed-steps.result c.pass-passed.new.self to steps.some;
       below = steps.within;
       taken =
-          takes a spacing c.loop-found.found c.steps_to_printed-steps.result c.pass-passed.new.self c.choices.result.now
-          _ _ _ to c.choices.ensures steps.some c.loop-found.invariant.taken c.in-Ok.ensures.written;
+          takes a spacing c.loop-found.found c.steps_to_printed-steps.result c.pass-passed.new.self _ _ _ to steps.some
+          c.loop-found.invariant.taken c.in-Ok.ensures.written;
     }

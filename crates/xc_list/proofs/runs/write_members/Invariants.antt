@@ -8,9 +8,9 @@ use Rattle.xc_list.proofs.runs.write_members.Given as goal
 -- the members so far are written as far as they are printed, and the others are to come
 abbrev pub invariant-loop-found : goal.invariant-loop-found
 invariant-loop-found g l = record {
-  still : l.search ≡ record l.fn.search { to_come = l.search.to_come; shown = l.search.shown };
-  shown : 1 ≤ l.found → numbered_get (members l.bodies.puzzle) l.found ≡ Some l.search.shown;
-  come : l.search.to_come ≡ drop l.found (members l.bodies.puzzle);
+  still : l.walk ≡ record l.fn.walk { to_come = l.walk.to_come; shown = l.walk.shown };
+  shown : 1 ≤ l.found → numbered_get (members l.bodies.puzzle) l.found ≡ Some l.walk.shown;
+  come : l.walk.to_come ≡ drop l.found (members l.bodies.puzzle);
   within : l.found ≤ length (members l.bodies.puzzle);
   below : l.found ≤ l.words.limit;
   taken : Took (g.S.Sink.state l.fn.sink) (g.S.Sink.state l.sink) (output l.bodies l.words.spacing l.found);
