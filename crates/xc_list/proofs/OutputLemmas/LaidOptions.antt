@@ -128,7 +128,7 @@ padded_part a os texts starts o x y p known e f =
       ap (λ ts. take (y - x) (drop x ts)) p.whole ∙ front_part p.laid p.padding x y part.0 part.1 ∙ part.2,
     )
 
-span-length : (texts : List ℕ) (from count : ℕ) → from + count + 16 ≤ length texts
+pub span-length : (texts : List ℕ) (from count : ℕ) → from + count + 16 ≤ length texts
     → length (take count (drop from texts)) ≡ count
 span-length texts from count h = omega (arith, length-take count (drop from texts), length-drop from texts, h)
 
