@@ -80,6 +80,7 @@ fn feed_all<S: Source>(
 }
 
 /// A buffer of zeros.
+// `xc_tools/src/whole_text.rt` has the same: six lines twice are less than a public call that is nothing of a problem's.
 fn buffer(alloc: Global) -> Result<Vec<u8>, AllocError>
     ensures { IfOk result (λ v. length v.items ≡ 65536) }
 {

@@ -11,6 +11,7 @@ use xc_input::{ReadFailed, Source};
 const PIECE: usize = 65536;
 
 /// Why a text was not read.
+// Its two conversions are as those of `InputError`: that one has faults too, which reading a whole text can't answer.
 #[derive(Clone, Copy)]
 pub(crate) enum TextError {
     Device,
@@ -51,6 +52,7 @@ pub(crate) fn read_text<S: Source>(alloc: Global, source: &mut S) -> Result<Vec<
 }
 
 /// A buffer of zeros.
+// As in `xc_input/src/read.rt`, where it isn't public: six lines twice are less than a call more for those who use it.
 fn buffer(alloc: Global) -> Result<Vec<u8>, AllocError>
     ensures { IfOk result (λ v. length v.items ≡ 65536) }
 {

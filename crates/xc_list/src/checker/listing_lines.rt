@@ -139,6 +139,8 @@ fn is_ending(first: &[u8], middle: &[u8], last: &[u8]) -> bool
 }
 
 /// Whether a byte is white space.
+// As in `xc_input/src/tokens.rt`, where it isn't public: a call more there would be more than these lines, and both say
+// by `is_space` what white space is.
 fn is_white(b: u8) -> bool
     ensures { result ≡ is_space b }
 {
