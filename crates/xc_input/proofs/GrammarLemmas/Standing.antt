@@ -83,8 +83,8 @@ number-later : (cs : List (List ℕ)) (us more : List Written)
 number-later cs [] more = refl
 number-later cs (u ∷ us) more =
     let number = ap (λ ds. colour_number ds u.colour) (sym (with_uses-append (with_colour cs u.colour) us more))
-    ∙ kept (with_colour cs u.colour) (us ++ more) u.colour (met cs u.colour)
-    ∙ sym (kept (with_colour cs u.colour) us u.colour (met cs u.colour)) in
+    ∙ (kept (with_colour cs u.colour) (us ++ more) u.colour (met cs u.colour)).1
+    ∙ sym (kept (with_colour cs u.colour) us u.colour (met cs u.colour)).1 in
     λ i. record { item = u.item; colour = number i } ∷ number-later (with_colour cs u.colour) us more i
 
 abbrev AreKept : ℕ → List (List ℕ) → List (List Use) → List (List ℕ) → List (List Written) → Type 0

@@ -1,6 +1,6 @@
 -- The answer at the end of a text.
-use Rattle.std.proofs.Common.{◌≡◌, ◌≢◌, ◌≤◌, ◌+◌, ◌-◌, ◌^◌, min, ℕ, List, Option, None, Some, Bool, true, false, length}
-use Rattle.std.proofs.Common.{map, drop, All, refl, ap, ◌∙◌, sym, subst, arith, MatchOption}
+use Rattle.std.proofs.Common.{◌≡◌, ◌≢◌, ◌+◌, ◌-◌, ◌^◌, min, ℕ, List, Option, None, Some, Bool, true, false, length}
+use Rattle.std.proofs.Common.{refl, ap, ◌∙◌, sym, subst, arith, MatchOption}
 use Rattle.std.proofs.lemmas.List.{length-map}
 use Rattle.xc_input.specs.declared.kind.Kind.{Kind}
 use Rattle.xc_input.specs.declared.fault.InputError.{InputError}
@@ -13,7 +13,6 @@ use Rattle.xc_input.specs.inner.Stages.{Stage, stage_of}
 use Rattle.xc_input.proofs.ValidLemmas.SheetValidity.{IsSheetOf}
 use Rattle.xc_input.specs.Text.{StandsFor}
 use Rattle.xc_input.specs.Named.{Named, IsSound}
-use Rattle.xc_input.specs.inner.Vectors.{IsOptional, AreOptionStarts}
 use Rattle.xc_input.specs.inner.Stored.{key_names}
 use Rattle.xc_input.specs.inner.Flat.{pieces}
 use Rattle.xc_input.specs.inner.Builders.{IsBuilder, IsReadable, named_by, stage_of_builder, sheet_of_builder, entry_of}
@@ -21,8 +20,8 @@ use Rattle.xc_input.specs.inner.EndedLines.{AreWhole}
 use Rattle.xc_input.specs.Readings.{Reading, IsStateOf}
 use Rattle.xc_input.specs.inner.Feeding.{IsEndOf}
 use Rattle.xc_input.proofs.LineLemmas.Reading.{ends-at, end-is}
-use Rattle.xc_input.proofs.ValidLemmas.SoundSheets.{sheet-sound, primaries-within, item-names, named-is, behind-bounds}
-use Rattle.xc_input.proofs.ValidLemmas.ValidTexts.{valid}
+use Rattle.xc_input.proofs.ValidLemmas.SoundSheets.{primaries-within, item-names, named-is, behind-bounds}
+use Rattle.xc_input.proofs.ValidLemmas.ValidTexts.{sound}
 use Rattle.xc_input.proofs.GrammarLemmas.LawLemmas.{end_fault}
 use Rattle.xc_input.proofs.FaultLemmas.FirstFaults.{stands, stands-only}
 use Rattle.xc_input.proofs.GrammarLemmas.Standing.{read-stands}
@@ -70,9 +69,12 @@ module _ (v : Reading) (kind : Kind) (lines : List (List ℕ)) (o : Option Input
         subst (λ (st : Stage). IsSheetOf kind lines st.sheet st.ignored) (sym whole.1)
         (stands kind lines (ended true g))
 
+    stands-here : d.started ≡ true → StandsFor kind lines (named_by d) d.ignored.items
+    stands-here g = read-stands kind lines (named_by d) d.ignored.items
+        (sheet_of_builder d, sym (by-builder d), written g)
+
     pub accepts : d.started ≡ true → StandsFor v.kind v.lines (named_by d) d.ignored.items
-    accepts g = subst (λ (r : Reading). StandsFor r.kind r.lines (named_by d) d.ignored.items) (sym is)
-        (read-stands kind lines (named_by d) d.ignored.items (sheet_of_builder d, sym (by-builder d), written g))
+    accepts g = subst (λ (r : Reading). StandsFor r.kind r.lines (named_by d) d.ignored.items) (sym is) (stands-here g)
 
     pub alone : (p : Named) (ig : List ℕ) → StandsFor v.kind v.lines p ig → (p ≡ named_by d) × (ig ≡ d.ignored.items)
     alone p ig s =
@@ -83,36 +85,18 @@ module _ (v : Reading) (kind : Kind) (lines : List (List ℕ)) (o : Option Input
               ∙ ap (λ (st : Stage). st.ignored) (sym whole.1),
         )
 
-    table-names : key_names d.names.keys ≡ map (λ x. x.name.items) d.items.items
-    table-names = whole.0.names ∙ item-names d.items.items
-
-    primary-within : d.started ≡ true → d.primary ≤ length d.items.items
-    primary-within g =
-        omega (
-          arith,
-          primaries-within kind lines (sheet_of_builder d) d.ignored.items (written g),
-          length-map
-              d.items.items entry_of,
-        )
-
-    optional-behind : d.started ≡ true → All IsOptional (drop d.primary d.items.items)
-    optional-behind g =
-        behind-bounds d.primary d.items.items (valid kind lines (sheet_of_builder d) d.ignored.items (written g)).bounds
-
-    starts-are : d.started ≡ true → AreOptionStarts d.starts.items d.uses.items
-    starts-are g = whole.0.starts g
-
     pub is-sound : AreWhole lines → d.started ≡ true → IsSound (named_by d)
-    is-sound w g =
-        let few : length (key_names d.colours.keys) ≤ 10000000 = omega (arith, whole.0.few_colours, whole.0.few_uses) in
-        subst IsSound (by-builder d) (sheet-sound kind lines (sheet_of_builder d) d.ignored.items (written g) w few)
+    is-sound w g = sound kind lines (named_by d) d.ignored.items (stands-here g) w
 
     pub readable : AreWhole lines → d.started ≡ true → IsReadable d
-    readable w g =
-        record {
-          names = table-names;
-          primary = primary-within g;
-          secondary = optional-behind g;
-          starts = starts-are g;
-          sound = is-sound w g;
-        }
+    readable w g = record {
+      names = whole.0.names ∙ item-names d.items.items;
+      primary = omega (
+        arith,
+        primaries-within kind lines (sheet_of_builder d) d.ignored.items (written g),
+        length-map d.items.items entry_of,
+      );
+      secondary = behind-bounds kind lines (sheet_of_builder d) d.ignored.items d.items.items (written g) refl;
+      starts = whole.0.starts g;
+      sound = is-sound w g;
+    }

@@ -1,7 +1,8 @@
 -- A colour keeps the number that it has where it is met first.
 use Rattle.std.proofs.Common.{◌≡◌, ℕ, suc, ◌+◌, ◌<◌, ◌≤◌, List, [], ◌∷◌, ◌++◌, Option, None, Some, Bool, true, false}
+use Rattle.std.proofs.Common.{◌||◌, nat_le}
 use Rattle.std.proofs.Common.{not, nat_lt, is_none, unwrap_or, length, map, take, append-nil, append_assoc, refl}
-use Rattle.std.proofs.Common.{sym, ap, subst, ◌∙◌, length-append, arith, if◌then◌else◌}
+use Rattle.std.proofs.Common.{sym, ap, ◌∙◌, length-append, arith, if◌then◌else◌}
 use Rattle.xc_input.specs.declared.problem.Use.{Use}
 use Rattle.std.proofs.lemmas.Bool.Decides.{nat_tests}
 use Rattle.std.proofs.lemmas.Slice.Eq.{bytes_eq-Decides}
@@ -9,7 +10,8 @@ use Rattle.std.proofs.Math.Seq.{take-append_seam}
 use Rattle.std.specs.List.{list_any, position, position_or_len}
 use Rattle.std.specs.Str.{bytes_eq}
 use Rattle.xc_input.specs.Words.{place}
-use Rattle.xc_input.specs.Sheets.{Written, with_colour, colour_number}
+use Rattle.xc_input.specs.Sheets.{Written, with_colour, colour_number, number_uses}
+use Rattle.xc_input.specs.Faults.{has_primary}
 use Rattle.xc_input.specs.inner.Sheets.{with_uses}
 use Rattle.xc_input.specs.inner.Builders.{items_of}
 use Rattle.xc_input.specs.inner.ColourNumbers.{numbered, use_behind}
@@ -34,16 +36,19 @@ or-len-stays : {A : Type 0} (p : A → Bool) (xs ys : List A) → position_or_le
 or-len-stays p [] ys h = absurd (omega (arith, h))
 or-len-stays p (x ∷ xs) ys h = grind (arith, nat_tests, or-len-stays p xs ys)
 
-found : {A : Type 0} (p : A → Bool) (xs : List A) (i : ℕ) → position p xs ≡ Some i → (i < length xs)
-    × (position_or_len p xs ≡ i)
-found p xs i e = grind (arith, nat_tests)
+pub in-range : {A : Type 0} (p : A → Bool) (xs : List A) (i : ℕ) → position p xs ≡ Some i → i < length xs
+in-range p xs i e = grind (arith, nat_tests)
+
+found-at : {A : Type 0} (p : A → Bool) (xs : List A) (i : ℕ) → position p xs ≡ Some i → position_or_len p xs ≡ i
+found-at p xs i e = grind (arith, nat_tests)
 
 position-stays : {A : Type 0} (p : A → Bool) (xs ys : List A) (i : ℕ) → position p xs ≡ Some i
     → position p (xs ++ ys) ≡ Some i
 position-stays p xs ys i e =
-    let g = found p xs i e in
-    let k : position_or_len p (xs ++ ys) ≡ i = or-len-stays p xs ys (subst (λ n. n < length xs) (sym g.1) g.0) ∙ g.1 in
-    let l : position_or_len p (xs ++ ys) < length (xs ++ ys) = omega (arith, k, length-append xs ys, g.0) in
+    let g = found-at p xs i e in
+    let n = in-range p xs i e in
+    let k : position_or_len p (xs ++ ys) ≡ i = or-len-stays p xs ys (omega (arith, g, n)) ∙ g in
+    let l : position_or_len p (xs ++ ys) < length (xs ++ ys) = omega (arith, k, length-append xs ys, n) in
     let t : nat_lt (position_or_len p (xs ++ ys)) (length (xs ++ ys)) ≡ true = grind (arith, nat_tests) in
     ap (λ b. if b then Some (position_or_len p (xs ++ ys)) else None) t ∙ ap Some k
 
@@ -86,9 +91,17 @@ knows-more cs (b ∷ bs) (x ∷ xs) k =
     ]) in h
 
 pub kept : (cs : List (List ℕ)) (us : List Written) (c : List ℕ) → Knows cs c
-    → colour_number (with_uses cs us) c ≡ colour_number cs c
-kept cs [] c k = refl
-kept cs (u ∷ us) c k = let m = knows-more cs u.colour c k in kept (with_colour cs u.colour) us c m.0 ∙ m.1
+    → Knows (with_uses cs us) c × (colour_number (with_uses cs us) c ≡ colour_number cs c)
+kept cs [] c k = (k, refl)
+kept cs (u ∷ us) c k =
+    let m = knows-more cs u.colour c k in
+    let later = kept (with_colour cs u.colour) us c m.0 in (later.0, later.1 ∙ m.1)
+
+-- whether a use of an option that is kept is of a primary item
+pub primary-numbered : (primary : ℕ) (cs : List (List ℕ)) (us : List Written)
+    → list_any (λ u. nat_le u.item primary) (number_uses cs us) ≡ has_primary primary us
+primary-numbered primary cs [] = refl
+primary-numbered primary cs (u ∷ us) = ap (λ t. nat_le u.item primary || t) (primary-numbered primary cs us)
 
 -- uses of an option that is kept, each numbered as soon as it is met, behind options that used these colours
 abbrev pub numbered_in_turn : List (List ℕ) → List Written → List Use
@@ -98,7 +111,7 @@ numbered_in_turn colours (u ∷ us) = use_behind colours u ∷ numbered_in_turn 
 pub in_turn : (cs : List (List ℕ)) (us : List Written) → numbered_in_turn cs us ≡ numbered cs us
 in_turn cs [] = refl
 in_turn cs (u ∷ us) =
-    let same = kept (with_colour cs u.colour) us u.colour (met cs u.colour) in
+    let same = (kept (with_colour cs u.colour) us u.colour (met cs u.colour)).1 in
     let later = in_turn (with_colour cs u.colour) us in
     λ i. record { item = u.item; colour = sym same i } ∷ later i
 

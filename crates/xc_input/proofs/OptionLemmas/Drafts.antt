@@ -1,9 +1,9 @@
 -- Steps of a draft.
 use Rattle.std.proofs.Common.{◌≡◌, ℕ, ◌+◌, ◌-◌, ◌<◌, ◌≤◌, List, [], ◌∷◌, ◌++◌, None, Some, Bool, true, false}
-use Rattle.std.proofs.Common.{◌||◌, nat_le, nat_lt, length, map, take, drop, refl, ap, ◌∙◌, sym, subst}
+use Rattle.std.proofs.Common.{nat_le, nat_lt, length, map, take, drop, ap, ◌∙◌, sym, subst}
 use Rattle.std.proofs.Common.{arith, if◌then◌else◌, Vec, Global, length-append}
 use Rattle.std.proofs.Math.Seq.{take-append_seam, drop-append_seam}
-use Rattle.xc_input.proofs.OptionLemmas.Colours.{last-position, first_met}
+use Rattle.xc_input.proofs.OptionLemmas.Colours.{last-position, first_met, primary-numbered}
 use Rattle.xc_input.specs.inner.ColourNumbers.{numbered}
 use Rattle.std.proofs.lemmas.Bool.Decides.{nat_tests}
 use Rattle.std.proofs.lemmas.Slice.Eq.{bytes_eq-Decides}
@@ -16,7 +16,7 @@ use Rattle.xc_input.specs.declared.builder.ProblemBuilder.{ProblemBuilder}
 use Rattle.xc_input.specs.Words.{place}
 use Rattle.xc_input.specs.Tokens.{tokens}
 use Rattle.std.specs.List.{list_any}
-use Rattle.xc_input.specs.Sheets.{Written, number_uses, colour_number}
+use Rattle.xc_input.specs.Sheets.{Written, colour_number}
 use Rattle.xc_input.specs.inner.Sheets.{names_of, with_uses}
 use Rattle.xc_input.specs.Faults.{first, has_primary}
 use Rattle.xc_input.specs.inner.Stages.{option_checks, context, written, content_checks}
@@ -68,16 +68,6 @@ pub uses-length : (old new : List Use) (cs : List (List ℕ)) (us : List Written
 uses-length old new cs us e =
     ap length e ∙ length-append old (numbered cs us) ∙ ap (λ n. length old + n) (numbered-length cs us)
 
--- whether a use of an option that is kept is of a primary item
-pub primary-numbered : (primary : ℕ) (cs : List (List ℕ)) (us : List Written)
-    → list_any (λ u. nat_le u.item primary) (numbered cs us) ≡ has_primary primary us
-primary-numbered primary cs us = each (with_uses cs us) us
-  where
-    each : (ds : List (List ℕ)) (us : List Written)
-        → list_any (λ u. nat_le u.item primary) (number_uses ds us) ≡ has_primary primary us
-    each ds [] = refl
-    each ds (u ∷ us) = ap (λ t. nat_le u.item primary || t) (each ds us)
-
 -- of the uses behind so many others
 pub late-primary : (primary : ℕ) (old new : List Use) (cs : List (List ℕ)) (us : List Written) (all : List Use) (n : ℕ)
     (b : Bool) → b ≡ list_any (λ u. nat_le u.item primary) (take (length all - n) (drop n all))
@@ -85,7 +75,7 @@ pub late-primary : (primary : ℕ) (old new : List Use) (cs : List (List ℕ)) (
 late-primary primary old new cs us all n b e f g h =
     let late : take (length all - n) (drop n all) ≡ numbered cs us = take_rest all n ∙ ap (drop n) (f ∙ h)
     ∙ ap (λ k. drop k (old ++ numbered cs us)) g ∙ drop-append_seam old (numbered cs us) in
-    e ∙ ap (list_any (λ u. nat_le u.item primary)) late ∙ primary-numbered primary cs us
+    e ∙ ap (list_any (λ u. nat_le u.item primary)) late ∙ primary-numbered primary (with_uses cs us) us
 
 -- the uses and colours of before, behind which others were added
 pub uses-before : (old new left : List Use) (cs : List (List ℕ)) (us : List Written) (n : ℕ) → left ≡ take n new

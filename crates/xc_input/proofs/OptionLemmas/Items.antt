@@ -35,7 +35,7 @@ ItemsBehind kind names bar (part ∷ parts) entries primaries =
     × ItemsBehind kind (names ++ e.name ∷ []) bar parts es primaries)
 
 -- THE FIRST BAR
-before-cons : (p : List ℕ) (ps : List (List ℕ)) (t : Bool) → is_bar p ≡ t
+pub before-cons : (p : List ℕ) (ps : List (List ℕ)) (t : Bool) → is_bar p ≡ t
     → before_first is_bar (p ∷ ps) ≡ (if t then [] else p ∷ before_first is_bar ps)
 before-cons p ps true f = ap (λ b. take (cond (not b) (1 + position_or_len is_bar ps) 0) (p ∷ ps)) f
 before-cons p ps false f =

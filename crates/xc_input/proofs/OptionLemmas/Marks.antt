@@ -10,7 +10,7 @@ use Rattle.std.proofs.lemmas.List.Elements.{All-push}
 use Rattle.std.proofs.lemmas.List.Folds.{list_any-append}
 use Rattle.std.specs.List.{list_any}
 use Rattle.std.specs.Str.{bytes_eq}
-use Rattle.xc_input.proofs.ValidLemmas.ValidTexts.{in-range}
+use Rattle.xc_input.proofs.OptionLemmas.Colours.{in-range}
 use Rattle.xc_input.specs.declared.problem.Use.{Use}
 use Rattle.xc_input.specs.Sheets.{Written}
 use Rattle.xc_input.specs.inner.Builders.{AreMarks, IsMarkable, items_of}

@@ -1,41 +1,75 @@
--- What stands for a text is valid.
-use Rattle.std.proofs.Common.{◌≡◌, ℕ, suc, ◌+◌, ◌*◌, ◌-◌, ◌^◌, ◌<◌, ◌≤◌, List, [], ◌∷◌, ◌++◌, Option, None, Some, Bool}
-use Rattle.std.proofs.Common.{true, false, nat_eq, is_none, unwrap_or, length}
-use Rattle.std.proofs.Common.{position, refl, ap, ◌∙◌, sym, subst, arith, if◌then◌else◌, inl, inr, append_assoc}
-use Rattle.std.proofs.Common.{length-append}
-use Rattle.xc_input.proofs.OptionLemmas.Colours.{in_turn, numbered_in_turn}
-use Rattle.xc_input.specs.inner.ColourNumbers.{numbered}
-use Rattle.xc_input.proofs.OptionLemmas.Items.{ItemsBehind, items-behind}
-use Rattle.xc_input.proofs.OptionLemmas.Uses.{UsesBehind, uses-behind}
+-- What stands for a text is sound.
+use Rattle.std.proofs.Common.{◌≡◌, ◌≢◌, ℕ, ◌+◌, ◌*◌, ◌-◌, ◌^◌, ◌<◌, ◌≤◌, List, [], ◌∷◌, ◌++◌, Option, None, Some}
+use Rattle.std.proofs.Common.{Bool, true, false, nat_eq, nat_le, not, is_none, map, length, All, AllPairs, refl}
+use Rattle.std.proofs.Common.{ap, ◌∙◌, sym, subst, arith, if◌then◌else◌, inl, inr, length-append}
+use Rattle.std.specs.Prelude.{flat_map}
+use Rattle.std.specs.List.{list_all, list_any, AllZip, AllByRecursion as Each, before_first, after_first}
+use Rattle.std.specs.List.{enumerate_from}
 use Rattle.std.specs.Char.{is_ascii_digit}
-use Rattle.xc_input.proofs.TokenLemmas.DecimalValues.{value_from}
+use Rattle.std.specs.Str.{bytes_eq}
+use Rattle.std.proofs.lemmas.Bool.{or_parts}
 use Rattle.std.proofs.lemmas.Bool.Decides.{nat_tests}
 use Rattle.std.proofs.lemmas.Grind.{pow_more}
-use Rattle.std.proofs.lemmas.List.{append-nil}
-use Rattle.std.proofs.Math.Nat.{pow-le-pow_right}
-use Rattle.std.specs.List.{list_all}
-use Rattle.xc_input.specs.Problem.{use_count}
-use Rattle.xc_input.specs.declared.kind.Kind.{Kind}
-use Rattle.xc_input.specs.declared.problem.Use.{Use}
-use Rattle.xc_input.specs.Words.{place, are_digits, number}
-use Rattle.xc_input.specs.Tokens.{tokens, parts, is_bar, is_skipped, split_bars, is_space}
-use Rattle.xc_input.specs.inner.Fronts.{drop_white, word}
-use Rattle.xc_input.proofs.TokenLemmas.Bytes.{skipped-front, behind, tokens-drop_white, tokens-first, drop_white-first}
+use Rattle.std.proofs.lemmas.List.{length-map}
+use Rattle.std.proofs.lemmas.List.Elements.{All-nil, All-push, All-take, All-drop, All-from_recursion}
+use Rattle.std.proofs.lemmas.List.Elements.{recursion_from_All}
+use Rattle.std.proofs.lemmas.List.Folds.{Any-from_list_any}
+use Rattle.std.proofs.lemmas.List.Quantifiers.{all_pairs_push}
 use Rattle.std.proofs.lemmas.List.Sums.{sum_by-cons}
-use Rattle.xc_input.specs.Sheets.{Entry, Written, with_colour, colour_number}
-use Rattle.xc_input.specs.inner.Sheets.{Sheet, names_of, with_uses}
-use Rattle.xc_input.specs.Limits.{most_items, most_uses, greatest_bound}
-use Rattle.xc_input.specs.Text.{IsEntry, AreBounds, IsUse}
-use Rattle.xc_input.proofs.GrammarLemmas.SheetGrammar.{AreOptions, IsSheetFrom}
-use Rattle.xc_input.proofs.ValidLemmas.SheetValidity.{numbered-length, IsSheetOf, AllNew, HaveBounds, IsWithin}
-use Rattle.xc_input.proofs.ValidLemmas.SheetValidity.{AreWithin, AreFresh, UsesPrimary, AreValid, HaveNames}
-use Rattle.xc_input.proofs.ValidLemmas.SheetValidity.{IsSoundSheet, so_far}
-use Rattle.std.specs.Str.{bytes_eq}
-use Rattle.xc_input.proofs.FaultLemmas.Checks.{some-is, names_of-length}
-use Rattle.std.specs.Prelude.{flat_map}
-use Rattle.xc_input.specs.Faults.{has_primary}
+use Rattle.std.proofs.lemmas.Slice.Zip.{AllZip-long}
+use Rattle.std.proofs.Math.Nat.{pow-le-pow_right}
+use Rattle.xc_input.specs.declared.kind.Kind.{Kind}
+use Rattle.xc_input.specs.declared.problem.Bounds.{Bounds}
+use Rattle.xc_input.specs.declared.problem.Use.{Use}
+use Rattle.xc_input.specs.Problem.{Puzzle, AreSoundBounds, IsSoundUse, IsSoundOption, item_count, use_count}
+use Rattle.xc_input.specs.Words.{has, place, are_digits, number}
+use Rattle.xc_input.specs.Tokens.{tokens, parts, is_bar, is_skipped, split_bars, is_space}
+use Rattle.xc_input.specs.Sheets.{Entry, Written, with_colour, colour_number, number_uses}
+use Rattle.xc_input.specs.Limits.{greatest_bound}
+use Rattle.xc_input.specs.Faults.{Context, has_primary}
+use Rattle.xc_input.specs.Named.{Named, IsName, IsColour, IsUnbroken, IsSound}
+use Rattle.xc_input.specs.Text.{IsEntry, AreBounds, IsUse, IsOptionLine, StandsFor}
+use Rattle.xc_input.specs.inner.Sheets.{with_uses}
+use Rattle.xc_input.specs.inner.Fronts.{drop_white, word}
+use Rattle.xc_input.specs.inner.EndedLines.{AreWhole}
 use Rattle.xc_input.specs.inner.Stages.{context}
-use Rattle.xc_input.proofs.TokenLemmas.Separators.{BAR}
+use Rattle.xc_input.proofs.lists.EachElement.{each_weaker, each-append, each-map, each-filter, each_passes, each_both}
+use Rattle.xc_input.proofs.lists.EachElement.{each_front}
+use Rattle.xc_input.proofs.lists.EachTwo.{EachTwo-map, AllPairs-from_each_two, each_two_from_AllPairs}
+use Rattle.xc_input.proofs.TokenLemmas.Bytes.{skipped-front, behind, tokens-drop_white, tokens-first, drop_white-first}
+use Rattle.xc_input.proofs.TokenLemmas.DecimalValues.{value_from}
+use Rattle.xc_input.proofs.TokenLemmas.Separators.{BAR, COLON}
+use Rattle.xc_input.proofs.TokenLemmas.TableNames.{apart}
+use Rattle.xc_input.proofs.TokenLemmas.Unbroken.{unbroken-tokens, unbroken-parts, unbroken-behind}
+use Rattle.xc_input.proofs.OptionLemmas.Colours.{Knows, met, kept, in-range, colours_more, primary-numbered}
+use Rattle.xc_input.proofs.OptionLemmas.Items.{before-cons}
+
+-- LISTS
+abbrev flat : {A : Type 0} → List (List A) → List A
+flat xss = flat_map (λ xs. xs) xss
+
+-- what holds of the elements of one list, and of each beside one of another
+pub each-zip : {A B : Type 0} (R : A → B → Type 0) (P : A → Type 0) (Q : B → Type 0)
+    → ((x : A) (y : B) → P x → R x y → Q y) → (xs : List A) (ys : List B) → Each P xs → AllZip R xs ys
+    → Each Q ys
+each-zip R P Q f [] [] a z = tt
+each-zip R P Q f [] (y ∷ ys) a z = absurd z
+each-zip R P Q f (x ∷ xs) [] a z = absurd z
+each-zip R P Q f (x ∷ xs) (y ∷ ys) a z = (f x y a.0 z.0, each-zip R P Q f xs ys a.1 z.1)
+
+each-flat : {A : Type 0} (P : A → Type 0) (xss : List (List A)) → Each (Each P) xss
+    → Each P (flat xss)
+each-flat P [] a = tt
+each-flat P (xs ∷ xss) a = each-append P xs (flat xss) a.0 (each-flat P xss a.1)
+
+flat-each : {A : Type 0} (P : A → Type 0) (xss : List (List A)) → Each P (flat xss)
+    → Each (Each P) xss
+flat-each P [] a = tt
+flat-each P (xs ∷ xss) a =
+    let both = each_front P xs (flat xss) a in (both.0, flat-each P xss both.1)
+
+all-of : {A : Type 0} (P Q : A → Type 0) → ((x : A) → P x → Q x) → (xs : List A) → Each P xs → All Q xs
+all-of P Q f xs a = All-from_recursion Q xs (each_weaker P Q xs f a)
 
 -- NUMBERS
 value-below : (n i : ℕ) (xs : List ℕ) → n < 10 ^ i → list_all is_ascii_digit xs ≡ true
@@ -51,56 +85,23 @@ high-below prefix low high (inl h) = subst (λ n. n ≤ greatest_bound) h.2 (num
 high-below prefix low high (inr h) = subst (λ n. n ≤ greatest_bound) h.6 (number-below h.1 h.4)
 
 -- ITEMS
-secondary-good : (kind : Kind) (token : List ℕ) (e : Entry) → IsEntry kind true token e → (e.low ≡ 0) × (e.high ≡ 1)
-secondary-good kind token e (n, inl h) = (h.1, h.2)
-secondary-good kind token e (n, inr h) = let f : true ≡ false = h.2 in absurd (cc)
+abbrev bounds_in : Entry → Bounds
+bounds_in e = record { low = e.low; high = e.high }
 
-primary-good : (kind : Kind) (token : List ℕ) (e : Entry) → IsEntry kind false token e → (e.low ≤ e.high) × (1 ≤ e.high)
-    × (e.high ≤ greatest_bound)
+primary-good : (kind : Kind) (token : List ℕ) (e : Entry) → IsEntry kind false token e
+    → AreSoundBounds (bounds_in e) × (e.high ≤ greatest_bound)
 primary-good kind token e (n, inl h) =
-    let l : e.low ≡ 1 = h.1 in let k : e.high ≡ 1 = h.2 in (omega arith, omega arith, omega arith)
-primary-good kind token e (n, inr h) = (h.7, h.6, high-below h.0 e.low e.high h.5)
+    let l : e.low ≡ 1 = h.1 in let k : e.high ≡ 1 = h.2 in ((omega arith, omega arith), omega arith)
+primary-good kind token e (n, inr h) = ((h.7, h.6), high-below h.0 e.low e.high h.5)
 
-behind-bar : (kind : Kind) (names : List (List ℕ)) (k : ℕ) (ps : List (List ℕ)) (es : List Entry) (n : ℕ)
-    → ItemsBehind kind names (Some k) ps es n → length names ≤ most_items → HaveBounds 0 es × (n ≡ k)
-    × (length names + length es ≤ most_items)
-behind-bar kind names k [] es n h m =
-    (subst (HaveBounds 0) (sym h.0) tt, h.1, (let z : length es ≡ 0 = ap length h.0 in omega arith))
-behind-bar kind names k (p ∷ ps) es n (inl h) m = absurd (let f : Some k ≡ None = h.1 in cc)
-behind-bar kind names k (p ∷ ps) es n (inr h) m =
-    let l : length (names ++ h.0.name ∷ []) ≡ length names + 1 = length-append names (h.0.name ∷ []) in
-    let c : length names < most_items = h.6 in
-    let r = behind-bar kind (names ++ h.0.name ∷ []) k ps h.1 n h.7 (omega arith) in
-    let q : length (names ++ h.0.name ∷ []) + length h.1 ≤ most_items = r.2 in
-    let z : length es ≡ length h.1 + 1 =
-    ap length h.2 ∙ (let w : suc (length h.1) ≡ length h.1 + 1 = omega arith in w) in (
-      subst (HaveBounds 0) (sym h.2) ((secondary-good kind p h.0 h.4).0, (secondary-good kind p h.0 h.4).1, r.0),
-      r.1,
-      omega arith,
-    )
+-- the name of an item
+abbrev IsGoodName : List ℕ → Type 0
+IsGoodName name = IsName name × IsUnbroken name
 
-items-valid : (kind : Kind) (names : List (List ℕ)) (ps : List (List ℕ)) (es : List Entry) (n : ℕ)
-    → ItemsBehind kind names None ps es n → length names ≤ most_items
-    → (m : ℕ) × (n ≡ length names + m) × HaveBounds m es × (length names + length es ≤ most_items)
-items-valid kind names [] es n h m = (
-  0,
-  h.1 ∙ (let w : length names ≡ length names + 0 = omega arith in w),
-  subst (HaveBounds 0) (sym h.0) tt,
-  (let z : length es ≡ 0 = ap length h.0 in omega arith),
-)
-items-valid kind names (p ∷ ps) es n (inl h) m =
-    let r = behind-bar kind names (length names) ps es n h.2 m in
-    (0, r.1 ∙ (let w : length names ≡ length names + 0 = omega arith in w), r.0, r.2)
-items-valid kind names (p ∷ ps) es n (inr h) m =
-    let l : length (names ++ h.0.name ∷ []) ≡ length names + 1 = length-append names (h.0.name ∷ []) in
-    let c : length names < most_items = h.6 in
-    let r = items-valid kind (names ++ h.0.name ∷ []) ps h.1 n h.7 (omega arith) in
-    let q : length (names ++ h.0.name ∷ []) + length h.1 ≤ most_items = r.3 in
-    let z : length es ≡ length h.1 + 1 =
-    ap length h.2 ∙ (let w : suc (length h.1) ≡ length h.1 + 1 = omega arith in w) in
-    let k : n ≡ length (names ++ h.0.name ∷ []) + r.0 = r.1 in
-    let g = primary-good kind p h.0 h.4 in
-    (suc r.0, omega arith, subst (HaveBounds (suc r.0)) (sym h.2) (g.0, g.1, g.2, r.2), omega arith)
+name-good : (kind : Kind) (secondary : Bool) (token : List ℕ) (e : Entry) → IsUnbroken token
+    → IsEntry kind secondary token e → IsGoodName e.name
+name-good kind secondary token e u (n, inl h) = (n, subst IsUnbroken h.0 u)
+name-good kind secondary token e u (n, inr h) = (n, unbroken-behind h.0 BAR e.name (subst IsUnbroken h.4 u))
 
 -- the item line begins with an item
 first-part : (xs : List ℕ) (b : ℕ) (bs : List ℕ) → drop_white xs ≡ b ∷ bs → nat_eq b BAR ≡ false → (ps : List (List ℕ))
@@ -120,169 +121,232 @@ starts : (xs ys : List ℕ) → drop_white xs ≡ ys → is_skipped xs ≡ false
 starts xs [] e f = let g : is_skipped xs ≡ true = sym (skipped-front xs [] (sym e)) in absurd (cc)
 starts xs (b ∷ bs) e f = grind (arith, nat_tests, skipped-front xs (b ∷ bs) (sym e), first-part xs b bs e)
 
-from-first : (kind : Kind) (p : List ℕ) (ps : List (List ℕ)) (es : List Entry) (n : ℕ) → is_bar p ≡ false
-    → ItemsBehind kind [] None (p ∷ ps) es n → 1 ≤ n
-from-first kind p ps es n f (inl h) = let g : is_bar p ≡ true = h.0 in absurd (cc)
-from-first kind p ps es n f (inr h) = grind (arith, nat_tests, items-valid kind (h.0.name ∷ []) ps h.1 n h.7)
-
-some-primary : (kind : Kind) (line : List ℕ) (es : List Entry) (n : ℕ) → is_skipped line ≡ false
-    → ItemsBehind kind [] None (parts line) es n → 1 ≤ n
-some-primary kind line es n f h =
+some-primary : (line : List ℕ) → is_skipped line ≡ false → 1 ≤ length (before_first is_bar (parts line))
+some-primary line f =
     let s = starts line (drop_white line) refl f in
-    from-first kind s.0 s.1 es n s.3 (subst (λ ps. ItemsBehind kind [] None ps es n) s.2 h)
+    rw s.2 (subst (λ ps. 1 ≤ length ps) (sym (before-cons s.0 s.1 false s.3)) (omega arith))
 
-names-valid : (kind : Kind) (names : List (List ℕ)) (bar : Option ℕ) (ps : List (List ℕ)) (es : List Entry) (n : ℕ)
-    → ItemsBehind kind names bar ps es n → HaveNames es × AllNew names (names_of es)
-names-valid kind names bar [] es n h =
-    (subst HaveNames (sym h.0) tt, subst (λ x. AllNew names (names_of x)) (sym h.0) tt)
-names-valid kind names bar (p ∷ ps) es n (inl h) = names-valid kind names (Some (length names)) ps es n h.2
-names-valid kind names bar (p ∷ ps) es n (inr h) =
-    let r = names-valid kind (names ++ h.0.name ∷ []) bar ps h.1 n h.7 in
-    (subst HaveNames (sym h.2) (h.4.0, r.0), subst (λ x. AllNew names (names_of x)) (sym h.2) (h.5, r.1))
+-- USES AND COLOURS
+record IsGoodUse (c : Context) (u : Written) : Type 0 where
+  item : (1 ≤ u.item) × (u.item ≤ length c.names)
+  plain : u.item ≤ c.primaries → u.colour ≡ []
+  colour : 0 < length u.colour → IsColour u.colour × IsUnbroken u.colour
 
--- COLOURS
-pub in-range : {A : Type 0} (p : A → Bool) (xs : List A) (i : ℕ) → position p xs ≡ Some i → i < length xs
-in-range p xs i e = grind (arith, nat_tests)
+use-good : (c : Context) (token : List ℕ) (u : Written) → IsUnbroken token → IsUse c token u → IsGoodUse c u
+use-good c token u k (name, i, n, p, q, inl h) = record {
+  item = (omega (arith, q), omega (arith, q, in-range (bytes_eq name) c.names i p));
+  plain = λ l. h.1;
+  colour = λ l. absurd (omega (arith, l, ap length h.1));
+}
+use-good c token u k (name, i, n, p, q, inr h) = record {
+  item = (omega (arith, q), omega (arith, q, in-range (bytes_eq name) c.names i p));
+  plain = λ l. absurd (omega (arith, l, h.2));
+  colour = λ l. (h.3, unbroken-behind name COLON u.colour (subst IsUnbroken h.0 k));
+}
 
-colour-grows : (cs : List (List ℕ)) (c : List ℕ) → length cs ≤ length (with_colour cs c)
-colour-grows cs [] = omega arith
-colour-grows cs (b ∷ bs) =
-    let P : Bool → Type 0 = λ t. length cs ≤ length (if t then cs ++ (b ∷ bs) ∷ [] else cs) in
-    let l : length (cs ++ (b ∷ bs) ∷ []) ≡ length cs + 1 = length-append cs ((b ∷ bs) ∷ []) in
-    (elim (is_none (place cs (b ∷ bs))) as P [ true ↦ omega arith | false ↦ omega arith ])
+record AreGood (cs : List (List ℕ)) : Type 0 where
+  form : All IsColour cs
+  unbroken : All IsUnbroken cs
+  distinct : AllPairs (λ x y. x ≢ y) cs
 
-colours-grow : (cs : List (List ℕ)) (us : List Written) → length cs ≤ length (with_uses cs us)
-colours-grow cs [] = omega arith
-colours-grow cs (u ∷ us) = grind (arith, nat_tests, colours-grow (with_colour cs u.colour) us, colour-grows cs u.colour)
+good-more : (cs : List (List ℕ)) (c : List ℕ) → (0 < length c → IsColour c × IsUnbroken c) → AreGood cs
+    → AreGood (with_colour cs c)
+good-more cs [] f g = g
+good-more cs (b ∷ bs) f g = cases (place cs (b ∷ bs)) refl
+  where
+    cases : (o : Option ℕ) → place cs (b ∷ bs) ≡ o → AreGood (if is_none o then cs ++ (b ∷ bs) ∷ [] else cs)
+    cases (Some i) e = g
+    cases None e = let k = f (omega arith) in record {
+      form = All-push IsColour cs (b ∷ bs) g.form k.0;
+      unbroken = All-push IsUnbroken cs (b ∷ bs) g.unbroken k.1;
+      distinct = all_pairs_push (λ x y. x ≢ y) cs (b ∷ bs) g.distinct (apart cs (b ∷ bs) e);
+    }
 
-some-colour : (cs : List (List ℕ)) (b : ℕ) (bs : List ℕ) → 1 ≤ length (with_colour cs (b ∷ bs))
-some-colour cs b bs =
-    let P : Bool → Type 0 = λ t. is_none (place cs (b ∷ bs)) ≡ t → 1 ≤ length (if t then cs ++ (b ∷ bs) ∷ [] else cs) in
-    let l : length (cs ++ (b ∷ bs) ∷ []) ≡ length cs + 1 = length-append cs ((b ∷ bs) ∷ []) in
-    let h : P (is_none (place cs (b ∷ bs))) = (elim (is_none (place cs (b ∷ bs))) as P [
-      | true ↦ λ f. omega arith
-      | false ↦ λ f. let i = some-is (place cs (b ∷ bs)) f in let k : i.0 < length cs =
-          in-range (bytes_eq (b ∷ bs)) cs i.0 i.1 in omega arith
-    ]) in h refl
+good-colours : (c : Context) (us : List Written) (cs : List (List ℕ)) → Each (IsGoodUse c) us → AreGood cs
+    → AreGood (with_uses cs us)
+good-colours c [] cs a g = g
+good-colours c (u ∷ us) cs a g = good-colours c us (with_colour cs u.colour) a.1 (good-more cs u.colour a.0.colour g)
 
-number-of : (o : Option ℕ) (n : ℕ) → ((i : ℕ) → o ≡ Some i → i < n) → 1 ≤ n → unwrap_or o 0 + 1 ≤ n
-number-of None n h l = omega arith
-number-of (Some i) n h l = let k : i < n = h i refl in omega arith
+few-colours : (us : List Written) (cs : List (List ℕ)) → length (with_uses cs us) ≤ length cs + length us
+few-colours [] cs = omega arith
+few-colours (u ∷ us) cs = omega (arith, few-colours us (with_colour cs u.colour), colours_more cs u.colour)
 
-number-within : (cs : List (List ℕ)) (c : List ℕ) → colour_number (with_colour cs c) c ≤ length (with_colour cs c)
-number-within cs [] = omega arith
-number-within cs (b ∷ bs) =
-    number-of (place (with_colour cs (b ∷ bs)) (b ∷ bs)) (length (with_colour cs (b ∷ bs)))
-    (λ i e. in-range (bytes_eq (b ∷ bs)) (with_colour cs (b ∷ bs)) i e) (some-colour cs b bs)
+number-within : (cs : List (List ℕ)) (c : List ℕ) → Knows cs c → colour_number cs c ≤ length cs
+number-within cs [] k = omega arith
+number-within cs (b ∷ bs) (i, e) = rw e (omega (arith, in-range (bytes_eq (b ∷ bs)) cs i e))
 
-new-snoc : (earlier xs : List (List ℕ)) (c : List ℕ) → AllNew earlier xs → place (earlier ++ xs) c ≡ None
-    → AllNew earlier (xs ++ c ∷ [])
-new-snoc earlier [] c h e = (ap (λ l. place l c) (sym (append-nil earlier)) ∙ e, tt)
-new-snoc earlier (x ∷ xs) c h e =
-    (h.0, new-snoc (earlier ++ x ∷ []) xs c h.1 (ap (λ l. place l c) (append_assoc earlier (x ∷ []) xs) ∙ e))
+numbers-within : (us : List Written) (cs : List (List ℕ))
+    → Each (λ u. colour_number (with_uses cs us) u.colour ≤ length (with_uses cs us)) us
+numbers-within [] cs = tt
+numbers-within (u ∷ us) cs = (
+  number-within (with_uses cs (u ∷ us)) u.colour (kept (with_colour cs u.colour) us u.colour (met cs u.colour)).0,
+  numbers-within us (with_colour cs u.colour),
+)
 
-is-none : (o : Option ℕ) → is_none o ≡ true → o ≡ None
-is-none None e = refl
-is-none (Some i) e = absurd (cc)
+-- OPTIONS
+all-counted : (cs : List (List ℕ)) (uss : List (List Written))
+    → use_count (map (number_uses cs) uss) ≡ length (flat uss)
+all-counted cs [] = refl
+all-counted cs (us ∷ uss) =
+    sum_by-cons (λ us. length us) (number_uses cs us) (map (number_uses cs) uss)
+    ∙ (λ i. length-map {B = Use} us (λ u. record { item = u.item; colour = colour_number cs u.colour }) i
+    + all-counted cs uss i)
+    ∙ sym (length-append us (flat uss))
 
-colour-new : (cs : List (List ℕ)) (c : List ℕ) → AllNew [] cs → AllNew [] (with_colour cs c)
-colour-new cs [] h = h
-colour-new cs (b ∷ bs) h = grind (arith, nat_tests, new-snoc, is-none (place cs (b ∷ bs)))
+record IsGoodOption (c : Context) (us : List Written) : Type 0 where
+  uses : Each (IsGoodUse c) us
+  distinct : AllPairs (λ u v. u.item ≢ v.item) us
 
-colours-new : (cs : List (List ℕ)) (us : List Written) → AllNew [] cs → AllNew [] (with_uses cs us)
-colours-new cs [] h = h
-colours-new cs (u ∷ us) h = colours-new (with_colour cs u.colour) us (colour-new cs u.colour h)
+sound-option : (p : Puzzle) (c : Context) (cs : List (List ℕ)) (us : List Written) → length c.names ≡ item_count p
+    → c.primaries ≡ length p.bounds → IsGoodOption c us → has_primary c.primaries us ≡ true
+    → IsSoundOption p (number_uses cs us)
+sound-option p c cs us count front g e =
+    let f : Written → Use = λ u. record { item = u.item; colour = colour_number cs u.colour } in
+    let some = Any-from_list_any (λ u. nat_le u.item c.primaries) (map f us) (primary-numbered c.primaries cs us ∙ e) in
+    let sound : (u : Written) → IsGoodUse c u → IsSoundUse p (f u) = λ u h. (
+      (h.item.0, omega (arith, h.item.1, count)),
+      λ l. ap (colour_number cs) (h.plain (omega (arith, l, front))),
+    ) in
+    record {
+      sound = All-from_recursion (IsSoundUse p) (map f us)
+          (each-map (IsSoundUse p) f us (each_weaker (IsGoodUse c) _ us sound g.uses));
+      distinct = AllPairs-from_each_two (λ u v. u.item ≢ v.item) (map f us) (EachTwo-map (λ u v. u.item ≢ v.item) f us
+          (each_two_from_AllPairs (λ u v. u.item ≢ v.item) us g.distinct));
+      one_primary = (some.0, some.1, some.2, some.3, grind (arith, nat_tests, front));
+    }
 
--- USES
-use-within : (kind : Kind) (names : List (List ℕ)) (primaries : ℕ) (token : List ℕ) (u : Written) (cs : List (List ℕ))
-    (k : ℕ) → IsUse (context kind names primaries) token u → colour_number cs u.colour ≤ k
-    → IsWithin (length names) primaries k (record { item = u.item; colour = colour_number cs u.colour })
-use-within kind names primaries token u cs k (name, i, n, p, q, inl h) l =
-    grind (arith, nat_tests, in-range (bytes_eq name) names i p)
-use-within kind names primaries token u cs k (name, i, n, p, q, inr h) l = grind (arith, nat_tests, in-range)
+no-more : (p : Puzzle) (os : List (List Use)) → Each (IsSoundOption p) os → length os ≤ use_count os
+no-more p [] a = omega arith
+no-more p (o ∷ os) a =
+    omega (arith, no-more p os a.1, a.0.one_primary.2, sum_by-cons (λ (us : List Use). length us) o os)
 
-uses-valid : (kind : Kind) (names : List (List ℕ)) (primaries : ℕ) (seen : List ℕ) (ts : List (List ℕ))
-    (us : List Written) (cs : List (List ℕ)) (k : ℕ) → UsesBehind (context kind names primaries) seen ts us
-    → length (with_uses cs us) ≤ k
-    → AreWithin (length names) primaries k (numbered_in_turn cs us) × AreFresh seen (numbered_in_turn cs us)
-uses-valid kind names primaries seen [] us cs k h l = grind (arith, nat_tests, numbered_in_turn cs)
-uses-valid kind names primaries seen (t ∷ ts) us cs k h l =
-    grind (
-      arith,
-      nat_tests,
-      uses-valid kind names primaries (seen ++ h.0.item ∷ []) ts h.1 (with_colour cs h.0.colour) k h.5,
-      colours-grow,
-      number-within,
-      numbered_in_turn,
-      use-within,
-    )
+-- LINES
+-- a line without a NUL byte and a line feed
+abbrev IsClean : ℕ × List ℕ → Type 0
+IsClean line = (has 0 line.1 ≡ false) × (has 10 line.1 ≡ false)
 
-primary-kept : (primaries : ℕ) (us : List Written) (cs : List (List ℕ)) → has_primary primaries us ≡ true
-    → UsesPrimary primaries (numbered_in_turn cs us)
-primary-kept primaries [] cs h = absurd (cc)
-primary-kept primaries (u ∷ us) cs h =
-    grind (arith, nat_tests, primary-kept primaries us (with_colour cs u.colour), numbered_in_turn)
+clean : (k : ℕ) (lines : List (List ℕ)) → list_any (has 0) lines ≡ false → AreWhole lines
+    → Each IsClean (enumerate_from k lines)
+clean k [] z w = tt
+clean k (line ∷ lines) z w =
+    let y = or_parts (has 0 line) (list_any (has 0) lines) z in ((y.0, w.0), clean (k + 1) lines y.1 w.1)
 
-options-valid : (kind : Kind) (names : List (List ℕ)) (primaries n used : ℕ) (cs : List (List ℕ))
-    (lines : List (List ℕ)) (os : List (List Use)) (ig : List ℕ) (last : List (List ℕ))
-    → AreOptions (context kind names primaries) (so_far n used cs) lines os ig last
-    → used ≤ most_uses → AllNew [] cs → (length cs ≤ length last) × AllNew [] last × (used + use_count os ≤ most_uses)
-    × AreValid (length names) primaries (length last) os
-options-valid kind names primaries n used cs [] os ig last h m a =
-    let z : use_count os ≡ 0 = ap use_count h.0 in
-    let w : length last ≡ length cs = ap length h.2 in (
-      omega arith,
-      subst (AllNew []) (sym h.2) a,
-      omega arith,
-      subst (AreValid (length names) primaries (length last))
-          (sym h.0) tt,
-    )
-options-valid kind names primaries n used cs (line ∷ lines) os ig last (z, inl (f, r)) m a =
-    options-valid kind names primaries (n + 1) used cs lines os ig last r m a
-options-valid kind names primaries n used cs (line ∷ lines) os ig last (z, inr (us, f, u, inl (others, none, i, r))) m a
-    = options-valid kind names primaries (n + 1) used cs lines os others last r m a
-options-valid kind names primaries n used cs (line ∷ lines) os ig last
-    (z, inr (us, f, u, inr (others, prim, room, o, r))) m a =
-    let q =
-    options-valid kind names primaries (n + 1) (used + length us) (with_uses cs us) lines others ig last r room
-    (colours-new cs us a) in
-    let g : length cs ≤ length (with_uses cs us) = colours-grow cs us in
-    let l : length (with_uses cs us) ≤ length last = q.0 in
-    let v =
-    uses-valid kind names primaries [] (tokens line) us cs (length last)
-    (uses-behind (context kind names primaries) (tokens line) us u) l in
-    let c : use_count os ≡ length us + use_count others = ap use_count o
-    ∙ sum_by-cons (λ us. length us) (numbered cs us) others
-    ∙ ap (λ k. k + use_count others) (numbered-length cs us) in
-    let d : used + length us + use_count others ≤ most_uses = q.2 in (
-      omega arith,
-      q.1,
-      omega arith,
-      subst (AreValid (length names) primaries (length last)) (sym o) (
-        subst (AreWithin (length names) primaries (length last)) (in_turn cs us) v.0,
-        subst (AreFresh []) (in_turn cs us) v.1,
-        subst (UsesPrimary primaries) (in_turn cs us) (primary-kept primaries us cs prim),
-        q.3,
-      ),
-    )
+module _ (kind : Kind) (lines : List (List ℕ)) (named : Named) (ignored : List ℕ)
+    (h : StandsFor kind lines named ignored) (w : AreWhole lines) where
+  abbrev c : Context
+  c = context kind named.names (length named.puzzle.bounds)
 
--- a text that stands for a sheet stands for a valid one
-from-lines : (kind : Kind) (n : ℕ) (lines : List (List ℕ)) (sheet : Sheet) (ignored : List ℕ)
-    → IsSheetFrom kind n lines sheet ignored → IsSoundSheet sheet
-from-lines kind n [] sheet ignored h = absurd h
-from-lines kind n (line ∷ lines) sheet ignored (z, inl (f, r)) = from-lines kind (n + 1) lines sheet ignored r
-from-lines kind n (line ∷ lines) sheet ignored (z, inr (f, items, r)) =
-    grind (
-      arith,
-      nat_tests,
-      items-behind kind (parts line) sheet.entries sheet.primaries items,
-      items-valid kind,
-      options-valid kind (names_of sheet.entries) sheet.primaries (n + 1) 0,
-      some-primary kind line sheet.entries sheet.primaries f,
-      names-valid kind,
-      names_of-length sheet.entries,
-    )
+  abbrev ps : List (List ℕ)
+  ps = parts h.item_line.1
 
-pub valid : (kind : Kind) (lines : List (List ℕ)) (sheet : Sheet) (ignored : List ℕ)
-    → IsSheetOf kind lines sheet ignored → IsSoundSheet sheet
-valid kind lines sheet ignored h = from-lines kind 0 lines sheet ignored h
+  abbrev written : List Written
+  written = flat h.options.kept
+
+  lines-clean : Each IsClean (h.item_line ∷ h.option_lines)
+  lines-clean =
+      subst (Each IsClean) h.content (each-filter IsClean _ (enumerate_from 1 lines) (clean 1 lines h.no_nul w))
+
+  not-skipped : is_skipped h.item_line.1 ≡ false
+  not-skipped =
+      let content : not (is_skipped h.item_line.1) ≡ true = (subst (Each (λ l. not (is_skipped l.1) ≡ true)) h.content
+      (each_passes (λ l. not (is_skipped l.1)) (enumerate_from 1 lines))).0 in grind (arith, nat_tests)
+
+  -- ITEMS
+  parts-unbroken : All IsUnbroken ps
+  parts-unbroken = All-from_recursion IsUnbroken ps (unbroken-parts h.item_line.1 lines-clean.0.0 lines-clean.0.1)
+
+  front-unbroken : Each IsUnbroken (before_first is_bar ps)
+  front-unbroken = recursion_from_All IsUnbroken _ (All-take IsUnbroken _ ps parts-unbroken)
+
+  names-good : Each IsGoodName named.names
+  names-good = subst (Each IsGoodName) (sym h.items.names) (each-map IsGoodName (λ e. e.name) _ (each-append _ _ _
+      (each-zip (IsEntry kind false) IsUnbroken _ (name-good kind false) (before_first is_bar ps) _ front-unbroken
+      h.items.before_bar)
+      (each-zip (IsEntry kind true) IsUnbroken _ (name-good kind true) (after_first is_bar ps) _
+      (recursion_from_All IsUnbroken _ (All-drop IsUnbroken _ ps parts-unbroken)) h.items.behind_bar)))
+
+  bounds-good : Each (λ b. AreSoundBounds b × (b.high ≤ greatest_bound)) named.puzzle.bounds
+  bounds-good = subst (Each _) (sym h.items.bounds) (each-map _ bounds_in _ (each-zip (IsEntry kind false) IsUnbroken _
+      (λ t e u. primary-good kind t e) (before_first is_bar ps) _ front-unbroken h.items.before_bar))
+
+  primaries : length named.puzzle.bounds ≡ length h.items.primary
+  primaries = ap length h.items.bounds ∙ length-map h.items.primary bounds_in
+
+  items : length named.names ≡ item_count named.puzzle
+  items = omega (
+    arith,
+    primaries,
+    h.items.count,
+    ap length h.items.names,
+    length-map (h.items.primary ++ h.items.secondary) (λ e. e.name),
+    length-append h.items.primary h.items.secondary,
+  )
+
+  -- OPTIONS
+  lines-good : Each (λ o. IsGoodOption c o.1) h.options.options
+  lines-good = each-zip (IsOptionLine c) IsClean _ (λ l o s is. record {
+    uses = each-zip (IsUse c) IsUnbroken _ (use-good c) (tokens l.1) o.1 (unbroken-tokens l.1 s.0 s.1) is.1;
+    distinct = is.2;
+  }) h.option_lines h.options.options lines-clean.1 h.options.stand
+
+  options-good : Each (λ us. IsGoodOption c us × (has_primary c.primaries us ≡ true)) h.options.kept
+  options-good = subst (Each _) (sym h.options.are_kept) (each-map _ (λ o. o.1) _ (each_both _ _ _ _ (λ o g p. (g, p))
+      (each-filter _ _ h.options.options lines-good)
+      (each_passes (λ o. has_primary c.primaries o.1) h.options.options)))
+
+  numbers-known : Each (Each (λ u. colour_number named.colours u.colour ≤ length named.colours)) h.options.kept
+  numbers-known = flat-each _ h.options.kept (subst (λ cs. Each (λ u. colour_number cs u.colour ≤ length cs) written)
+      (sym h.options.colours) (numbers-within written []))
+
+  options-sound : Each (λ os. IsSoundOption named.puzzle os × All (λ u. u.colour ≤ length named.colours) os)
+      named.puzzle.options
+  options-sound = subst (Each _) (sym h.options.numbered) (each-map _ _ h.options.kept (each_both _ _ _ h.options.kept
+      (λ us g k. (
+        sound-option named.puzzle c named.colours us items refl g.0 g.1,
+        All-from_recursion _ _ (each-map (λ u. u.colour ≤ length named.colours) _ us k),
+      )) options-good numbers-known))
+
+  colours-good : AreGood named.colours
+  colours-good = subst AreGood (sym h.options.colours) (good-colours c written []
+      (each-flat _ h.options.kept (each_weaker _ _ h.options.kept (λ us g. g.0.uses) options-good)) (record {
+        form = All-nil IsColour;
+        unbroken = All-nil IsUnbroken;
+        distinct = λ i j d lt within. absurd (omega (arith, within));
+      }))
+
+  uses : use_count named.puzzle.options ≡ length written
+  uses = ap use_count h.options.numbered ∙ all-counted named.colours h.options.kept
+
+  few-options : length named.puzzle.options ≤ use_count named.puzzle.options
+  few-options = no-more named.puzzle named.puzzle.options (each_weaker _ _ _ (λ o g. g.0) options-sound)
+
+  pub sound : IsSound named
+  sound = record {
+    valid = record {
+      one_primary = omega (
+        arith,
+        primaries,
+        some-primary h.item_line.1 not-skipped,
+        AllZip-long (IsEntry kind false) (before_first is_bar ps) h.items.primary h.items.before_bar,
+      );
+      bounds = all-of _ AreSoundBounds (λ b g. g.0) named.puzzle.bounds bounds-good;
+      options = all-of _ (IsSoundOption named.puzzle) (λ o g. g.0) named.puzzle.options options-sound;
+    };
+    limits = record {
+      items = omega (arith, items, h.items.few);
+      uses = omega (arith, uses, h.options.few);
+      options = omega (arith, uses, h.options.few, few-options);
+      bounds = all-of _ (λ b. b.high ≤ greatest_bound) (λ b g. g.1) named.puzzle.bounds bounds-good;
+    };
+    coloured = all-of _ _ (λ o g. g.1) named.puzzle.options options-sound;
+    few_colours = omega (arith, h.options.few, ap length h.options.colours, few-colours written []);
+    named = record {
+      count = items;
+      names = all-of IsGoodName IsName (λ n g. g.0) named.names names-good;
+      unbroken_names = all-of IsGoodName IsUnbroken (λ n g. g.1) named.names names-good;
+      distinct = h.items.distinct;
+      colours = colours-good.form;
+      unbroken_colours = colours-good.unbroken;
+      distinct_colours = colours-good.distinct;
+    };
+  }
