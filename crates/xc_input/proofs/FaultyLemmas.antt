@@ -2,26 +2,17 @@
 use Rattle.std.proofs.Common.{arith}
 use Rattle.std.proofs.lemmas.Bool.Decides.{nat_tests}
 use Rattle.std.proofs.lemmas.List.{length-map}
-use Rattle.std.proofs.Common.{◌≡◌, ℕ, List, [], ◌∷◌, ◌++◌, Option, None, Some, Bool, true, false, is_some, length, map}
-use Rattle.std.proofs.Common.{Result, Ok, Err, IfOk, refl, sym, ap, ◌∙◌, subst, append_assoc, append-nil, if◌then◌else◌}
-use Rattle.std.specs.List.{list_any}
-use Rattle.xc_input.specs.declared.kind.Kind.{Kind}
+use Rattle.std.proofs.Common.{◌≡◌, ℕ, List, [], ◌∷◌, ◌++◌, Option, None, Some, Bool, length, map}
+use Rattle.std.proofs.Common.{Result, Ok, Err, IfOk, refl, sym, ap, ◌∙◌, append_assoc, append-nil}
 use Rattle.xc_input.specs.declared.fault.FaultKind.{FaultKind}
-use Rattle.xc_input.specs.declared.fault.FaultKind.TheVariants.{TwoBars}
 use Rattle.xc_input.specs.declared.faulty.FaultyToken.{FaultyToken}
 use Rattle.xc_input.specs.declared.item_line.ItemLine.{ItemLine}
-use Rattle.xc_input.specs.Tokens.{is_bar}
-use Rattle.xc_input.specs.Faults.{first, checks_of_each, item_names, item_checks, part_checks, name_of}
+use Rattle.xc_input.specs.Faults.{first, checks_of_each}
 use Rattle.xc_input.specs.FaultyTokens.{IsAtFault, Tells}
 use Rattle.xc_input.specs.inner.Fronts.{StandsBefore}
 use Rattle.xc_input.specs.inner.Builders.{IsItemTable, entry_of}
-use Rattle.xc_input.specs.inner.Sheets.{names_of}
-use Rattle.xc_input.specs.inner.Stages.{Row, entry, with_part}
-use Rattle.xc_input.specs.inner.Stages.{part_checks as row_part_checks}
 use Rattle.xc_input.proofs.FaultLemmas.FirstChecks.{first-front, first-back}
-use Rattle.xc_input.proofs.FaultLemmas.Checks.{names_of-snoc, names_of-length}
-use Rattle.xc_input.proofs.FaultLemmas.FirstFaults.{names-snoc, barred-snoc, or-true, or-same}
-use Rattle.xc_input.proofs.GrammarLemmas.LawLemmas.{at-bar, at-word}
+use Rattle.xc_input.proofs.FaultLemmas.Checks.{names_of-length}
 
 checks-append : {A B : Type 0} (checks : List A → A → List B) (before xs ys : List A)
     → checks_of_each checks before (xs ++ ys)
@@ -79,35 +70,6 @@ module _ (cut : List ℕ → List (List ℕ)) (checks : List (List ℕ) → List
   pub read-end : (line rest : List ℕ) (others : List (List ℕ)) → IsReadTo cut checks line rest others
       → cut rest ≡ [] → (t : FaultyToken) → IsAtFault cut checks line t → ⊥
   read-end line rest others r e t h = grind (arith, nat_tests, append-nil, first-each, first-front)
-
--- the items of these parts of an item line
-pub record IsRowOf (kind : Kind) (row : Row) (others : List (List ℕ)) : Type 0 where
-  pub names : names_of row.entries ≡ item_names kind others
-  pub barred : is_some row.bar ≡ list_any is_bar others
-
-pub row-checks : (kind : Kind) (row : Row) (others : List (List ℕ)) (part : List ℕ) → IsRowOf kind row others
-    → row_part_checks kind row part ≡ part_checks kind others part
-row-checks kind row others part r =
-    λ i. if is_bar part then (TwoBars, r.barred i) ∷ [] else item_checks kind (r.names i) (r.barred i) part
-
-pub row-more : (kind : Kind) (row : Row) (others : List (List ℕ)) (part : List ℕ) → IsRowOf kind row others
-    → IsRowOf kind (with_part kind row part) (others ++ part ∷ [])
-row-more kind row others part r =
-    let Q : Bool → Type 0 = λ t. is_bar part ≡ t → IsRowOf kind (with_part kind row part) (others ++ part ∷ []) in
-    let h : Q (is_bar part) = (elim (is_bar part) as Q [
-      | true ↦ λ f. subst (λ (w : Row). IsRowOf kind w (others ++ part ∷ []))
-          (sym (at-bar kind row.entries row.bar part f).1) (record {
-            names = r.names ∙ sym (append-nil (item_names kind others)) ∙ sym (names-snoc kind others part true f);
-            barred = or-true (list_any is_bar others) ∙ sym (barred-snoc others part true f);
-          })
-      | false ↦ λ f. subst (λ (w : Row). IsRowOf kind w (others ++ part ∷ []))
-          (sym (at-word kind row.entries row.bar part f).1) (record {
-            names = names_of-snoc row.entries (entry kind (is_some row.bar) part)
-                ∙ ap (λ ns. ns ++ name_of kind part ∷ []) r.names ∙ sym (names-snoc kind others part false f);
-            barred = r.barred ∙ or-same (list_any is_bar others) ∙ sym (barred-snoc others part false f);
-          })
-    ]) in
-    h refl
 
 -- there are as many names as items
 pub keys-length : (i : ItemLine) → IsItemTable i → length i.names.keys ≡ length i.items.items

@@ -13,31 +13,29 @@ use Rattle.std.specs.Option.{option_map, option_or}
 use Rattle.xc_input.specs.declared.kind.Kind.{Kind}
 use Rattle.xc_input.specs.declared.fault.FaultKind.{FaultKind}
 use Rattle.xc_input.specs.declared.fault.FaultKind.TheVariants.{NulByte, TwoBars}
-use Rattle.xc_input.specs.declared.problem.Use.{Use}
 use Rattle.xc_input.specs.Problem.{use_count}
 use Rattle.xc_input.specs.Words.{has}
 use Rattle.xc_input.specs.Tokens.{tokens, parts, is_bar, is_skipped}
-use Rattle.xc_input.specs.Sheets.{Entry}
-use Rattle.xc_input.specs.inner.Sheets.{names_of, with_uses}
-use Rattle.xc_input.proofs.GrammarLemmas.SheetGrammar.{named_of}
+use Rattle.xc_input.specs.inner.Sheets.{Sheet, names_of}
+use Rattle.xc_input.proofs.GrammarLemmas.SheetGrammar.{named_of, AreItems}
 use Rattle.xc_input.specs.Faults.{first, checks_of_each, name_of, item_checks, item_names, part_checks, Context}
 use Rattle.xc_input.specs.Faults.{context_of, item_of, token_checks, has_primary}
 use Rattle.xc_input.specs.FirstFault.{line_number, content, is_kept, kept_uses, content_checks}
 use Rattle.xc_input.specs.FirstFault.{line_checks, line_fault, first_fault}
-use Rattle.xc_input.specs.inner.ColourNumbers.{numbered}
-use Rattle.xc_input.specs.inner.Stages.{entry, row_checks, row_of, no_row, context, written, Stage, no_stage}
+use Rattle.xc_input.specs.inner.Stages.{entry, Row, row_checks, row_of, no_row, with_part, context, written, written_by}
+use Rattle.xc_input.specs.inner.Stages.{Stage, no_stage}
 use Rattle.xc_input.specs.inner.Stages.{stage_from, stage_of}
 use Rattle.xc_input.specs.inner.Stages.{part_checks as row_part_checks, option_checks as tokens_checks}
 use Rattle.xc_input.specs.inner.Stages.{content_checks as stage_content, line_checks as stage_checks}
 use Rattle.xc_input.specs.Named.{Named}
-use Rattle.xc_input.specs.Text.{StandsFor}
-use Rattle.xc_input.proofs.GrammarLemmas.Standing.{read-stands, stands-read}
-use Rattle.xc_input.proofs.ValidLemmas.SheetValidity.{IsSheetOf}
+use Rattle.xc_input.specs.Text.{StandsFor, numbered_content}
+use Rattle.xc_input.proofs.GrammarLemmas.Standing.{clear-stands, stands-clear}
 use Rattle.xc_input.proofs.FaultLemmas.Checks.{names_of-snoc, map-snoc}
 use Rattle.xc_input.proofs.OptionLemmas.Items.{ItemsBehind, behind-items}
-use Rattle.xc_input.proofs.GrammarLemmas.LawLemmas.{fault_from, end_fault, fault_or, R, S, P, row-good, by-part}
-use Rattle.xc_input.proofs.GrammarLemmas.LawLemmas.{by-line, clear, unskipped, lineuses, count-next, by-first-line}
-use Rattle.xc_input.proofs.GrammarLemmas.LawLemmas.{lines-good, good-lines}
+use Rattle.xc_input.proofs.GrammarLemmas.LawLemmas.{fault_from, end_fault, fault_or, said, start, more, S, P, row-good}
+use Rattle.xc_input.proofs.GrammarLemmas.LawLemmas.{by-part, by-line, by-first-line, clear, unskipped, count-next}
+use Rattle.xc_input.proofs.GrammarLemmas.LawLemmas.{stage-behind, stage_by, stage-by, IsClearText, lines-clear}
+use Rattle.xc_input.proofs.GrammarLemmas.LawLemmas.{clear-lines}
 
 -- NUMBERED CHECKS
 first-numbered : {N A : Type 0} (n : N) (cs : List (A × Bool)) (rest : List ((N × A) × Bool))
@@ -66,60 +64,66 @@ tokens-checked c before (t ∷ ts) =
     ap (λ rest. token_checks c before t ++ rest) (ap (λ seen. tokens_checks c seen ts)
     (sym (map-snoc (item_of c) before t)) ∙ tokens-checked c (before ++ t ∷ []) ts)
 
-kept-is : (kind : Kind) (names : List (List ℕ)) (primaries : ℕ) (ts : List (List ℕ))
-    → has_primary primaries (map (written names) ts) ≡ list_any
-    (λ t. nat_le (item_of (context kind names primaries) t) primaries) ts
-kept-is kind names primaries [] = refl
-kept-is kind names primaries (t ∷ ts) = ap (λ b. nat_le (item_of (context kind names primaries) t) primaries || b)
-    (kept-is kind names primaries ts)
+kept-is : (c : Context) (ts : List (List ℕ)) → has_primary c.primaries (map (written c.names) ts)
+    ≡ list_any (λ t. nat_le (item_of c t) c.primaries) ts
+kept-is c [] = refl
+kept-is c (t ∷ ts) = ap (λ b. nat_le (item_of c t) c.primaries || b) (kept-is c ts)
 
 -- THE ITEM LINE
-pub names-snoc : (kind : Kind) (before : List (List ℕ)) (p : List ℕ) (t : Bool) → is_bar p ≡ t
+names-snoc : (kind : Kind) (before : List (List ℕ)) (p : List ℕ) (t : Bool) → is_bar p ≡ t
     → item_names kind (before ++ p ∷ []) ≡ item_names kind before ++ (if t then [] else name_of kind p ∷ [])
 names-snoc kind before p t f = grind (arith, nat_tests, filter-append, map-append (name_of kind))
 
-pub barred-snoc : (before : List (List ℕ)) (p : List ℕ) (t : Bool) → is_bar p ≡ t
+barred-snoc : (before : List (List ℕ)) (p : List ℕ) (t : Bool) → is_bar p ≡ t
     → list_any is_bar (before ++ p ∷ []) ≡ (list_any is_bar before || t)
 barred-snoc before p t f = grind (arith, nat_tests, list_any-append is_bar before (p ∷ []))
 
-pub or-true : (b : Bool) → true ≡ (b || true)
+or-true : (b : Bool) → true ≡ (b || true)
 or-true true = refl
 or-true false = refl
 
-pub or-same : (b : Bool) → b ≡ (b || false)
+or-same : (b : Bool) → b ≡ (b || false)
 or-same true = refl
 or-same false = refl
 
-pub parts-checked : (kind : Kind) (entries : List Entry) (bar : Option ℕ) (before ps : List (List ℕ))
-    → names_of entries ≡ item_names kind before → is_some bar ≡ list_any is_bar before
-    → row_checks kind (R entries bar) ps ≡ checks_of_each (part_checks kind) before ps
-parts-checked kind entries bar before [] hn hb = refl
-parts-checked kind entries bar before (p ∷ ps) hn hb =
-    let now : row_part_checks kind (R entries bar) p ≡ part_checks kind before p =
-    λ i. if is_bar p then (TwoBars, hb i) ∷ [] else item_checks kind (hn i) (hb i) p in
-    let rest = by-part kind entries bar p
-    (λ row. row_checks kind row ps ≡ checks_of_each (part_checks kind) (before ++ p ∷ []) ps)
-    (λ f. parts-checked kind entries (Some (length entries)) (before ++ p ∷ []) ps
-    (hn ∙ sym (append-nil (item_names kind before)) ∙ sym (names-snoc kind before p true f))
-    (or-true (list_any is_bar before) ∙ sym (barred-snoc before p true f)))
-    (λ f. parts-checked kind (entries ++ entry kind (is_some bar) p ∷ []) bar (before ++ p ∷ []) ps
-    (names_of-snoc entries (entry kind (is_some bar) p) ∙ ap (λ ns. ns ++ name_of kind p ∷ []) hn
-    ∙ sym (names-snoc kind before p false f)) (hb ∙ or-same (list_any is_bar before)
-    ∙ sym (barred-snoc before p false f))) in
-    (λ i. now i ++ rest i)
+-- the items of these parts of an item line
+pub record IsRowOf (kind : Kind) (row : Row) (others : List (List ℕ)) : Type 0 where
+  pub names : names_of row.entries ≡ item_names kind others
+  pub barred : is_some row.bar ≡ list_any is_bar others
 
-row-names : (kind : Kind) (entries : List Entry) (bar : Option ℕ) (before ps : List (List ℕ))
-    → names_of entries ≡ item_names kind before
-    → names_of (row_of kind (R entries bar) ps).entries ≡ item_names kind (before ++ ps)
-row-names kind entries bar before [] hn = hn ∙ ap (item_names kind) (sym (append-nil before))
-row-names kind entries bar before (p ∷ ps) hn =
-    by-part kind entries bar p
-    (λ row. names_of (row_of kind row ps).entries ≡ item_names kind ((before ++ p ∷ []) ++ ps))
-    (λ f. row-names kind entries (Some (length entries)) (before ++ p ∷ []) ps
-    (hn ∙ sym (append-nil (item_names kind before)) ∙ sym (names-snoc kind before p true f)))
-    (λ f. row-names kind (entries ++ entry kind (is_some bar) p ∷ []) bar (before ++ p ∷ []) ps
-    (names_of-snoc entries (entry kind (is_some bar) p) ∙ ap (λ ns. ns ++ name_of kind p ∷ []) hn
-    ∙ sym (names-snoc kind before p false f)))
+pub no-row : (kind : Kind) → IsRowOf kind no_row []
+no-row kind = record { names = refl; barred = refl }
+
+pub row-checks : (kind : Kind) (row : Row) (others : List (List ℕ)) (part : List ℕ) → IsRowOf kind row others
+    → row_part_checks kind row part ≡ part_checks kind others part
+row-checks kind row others part r =
+    λ i. if is_bar part then (TwoBars, r.barred i) ∷ [] else item_checks kind (r.names i) (r.barred i) part
+
+pub row-more : (kind : Kind) (row : Row) (others : List (List ℕ)) (part : List ℕ) → IsRowOf kind row others
+    → IsRowOf kind (with_part kind row part) (others ++ part ∷ [])
+row-more kind row others part r = by-part kind row.entries row.bar part (λ w. IsRowOf kind w (others ++ part ∷ []))
+    (λ f. record {
+      names = r.names ∙ sym (append-nil (item_names kind others)) ∙ sym (names-snoc kind others part true f);
+      barred = or-true (list_any is_bar others) ∙ sym (barred-snoc others part true f);
+    })
+    (λ f. record {
+      names = names_of-snoc row.entries (entry kind (is_some row.bar) part)
+          ∙ ap (λ ns. ns ++ name_of kind part ∷ []) r.names ∙ sym (names-snoc kind others part false f);
+      barred = r.barred ∙ or-same (list_any is_bar others) ∙ sym (barred-snoc others part false f);
+    })
+
+pub parts-checked : (kind : Kind) (row : Row) (before ps : List (List ℕ)) → IsRowOf kind row before
+    → row_checks kind row ps ≡ checks_of_each (part_checks kind) before ps
+parts-checked kind row before [] r = refl
+parts-checked kind row before (p ∷ ps) r =
+    λ i. row-checks kind row before p r i
+    ++ parts-checked kind (with_part kind row p) (before ++ p ∷ []) ps (row-more kind row before p r) i
+
+row-names : (kind : Kind) (row : Row) (before ps : List (List ℕ)) → IsRowOf kind row before
+    → names_of (row_of kind row ps).entries ≡ item_names kind (before ++ ps)
+row-names kind row before [] r = r.names ∙ ap (item_names kind) (sym (append-nil before))
+row-names kind row before (p ∷ ps) r =
+    row-names kind (with_part kind row p) (before ++ p ∷ []) ps (row-more kind row before p r)
     ∙ ap (item_names kind) (append_assoc before (p ∷ []) ps)
 
 -- what an item line without a fault says
@@ -130,7 +134,7 @@ context-is kind ps e =
     let g = row-good kind [] None ps e in
     let items = behind-items kind ps (row_of kind no_row ps).entries (P (row_of kind no_row ps))
     (subst (λ es. ItemsBehind kind [] None ps es (P (row_of kind no_row ps))) (sym g.1) g.2) in
-    λ i. context kind (sym (row-names kind [] None [] ps refl) i) (sym items.count i)
+    λ i. context kind (sym (row-names kind no_row [] ps (no-row kind)) i) (sym items.count i)
 
 -- CONTENT
 length-snoc : {A : Type 0} (n : ℕ) (xs : List A) (x : A) → n ≡ length xs → n + 1 ≡ length (xs ++ x ∷ [])
@@ -165,58 +169,37 @@ uses-snoc c os line t f =
     one false = refl
 
 -- THE LINES BEHIND THE ITEM LINE
-module _ (kind : Kind) (entries : List Entry) (primaries : ℕ) (items : List ℕ)
-    (said : context_of kind (parts items) ≡ context kind (names_of entries) primaries) where
-  abbrev c : Context
-  c = context kind (names_of entries) primaries
+module _ (kind : Kind) (items : List ℕ) where
+  checks-are : (sheet : Sheet) (ignored : List ℕ) (os : List (List ℕ)) (line : List ℕ)
+      → context_of kind (parts items) ≡ said kind sheet → use_count sheet.options ≡ kept_uses (said kind sheet) os
+      → stage_content kind (S sheet ignored) line ≡ content_checks kind (items ∷ os) line
+  checks-are sheet ignored os line c u =
+      grind (arith, nat_tests, tokens-checked (said kind sheet), kept-is (said kind sheet) (tokens line))
 
-  checks-are : (options : List (List Use)) (colours : List (List ℕ)) (ignored : List ℕ) (os : List (List ℕ))
-      (line : List ℕ) → use_count options ≡ kept_uses c os
-      → stage_content kind (S entries primaries options colours ignored) line ≡ content_checks kind (items ∷ os) line
-  checks-are options colours ignored os line u =
-      grind (arith, nat_tests, tokens-checked c, kept-is kind (names_of entries) primaries (tokens line))
-
-  rest-is : (n : ℕ) (before lines os : List (List ℕ)) (options : List (List Use)) (colours : List (List ℕ))
-      (ignored : List ℕ) → n ≡ length before → content before ≡ items ∷ os → use_count options ≡ kept_uses c os
-      → fault_from kind n (S entries primaries options colours ignored) lines ≡ fault_behind kind before lines
-  rest-is n before [] os options colours ignored hn hb u = refl
-  rest-is n before (line ∷ lines) os options colours ignored hn hb u =
-      let same : first (stage_checks kind (S entries primaries options colours ignored) line)
-      ≡ first (checks_of kind (content before) line) =
+  rest-is : (n : ℕ) (before lines os : List (List ℕ)) (sheet : Sheet) (ignored : List ℕ)
+      → context_of kind (parts items) ≡ said kind sheet → n ≡ length before → content before ≡ items ∷ os
+      → use_count sheet.options ≡ kept_uses (said kind sheet) os
+      → fault_from kind n (S sheet ignored) lines ≡ fault_behind kind before lines
+  rest-is n before [] os sheet ignored c hn hb u = refl
+  rest-is n before (line ∷ lines) os sheet ignored c hn hb u =
+      let same : first (stage_checks kind (S sheet ignored) line) ≡ first (checks_of kind (content before) line) =
       ap (λ cs. first ((NulByte, has 0 line) ∷ (if is_skipped line then [] else cs)))
-      (checks-are options colours ignored os line u ∙ ap (λ d. content_checks kind d line) (sym hb)) in
+      (checks-are sheet ignored os line c u ∙ ap (λ d. content_checks kind d line) (sym hb)) in
       let behind = before ++ line ∷ [] in
-      let next = by-line kind entries primaries (line_number (n + 1)) options colours ignored line
+      let m = length-snoc n before line hn in
+      let next = by-line kind (line_number (n + 1)) sheet ignored line
       (λ st. fault_from kind (n + 1) st lines ≡ fault_behind kind behind lines)
-      (λ f. rest-is (n + 1) behind lines os options colours ignored (length-snoc n before line hn)
-      (content-same before line (items ∷ os) f hb) u)
-      (λ f g. rest-is (n + 1) behind lines (os ++ line ∷ [])
-      (options ++ numbered colours (lineuses kind entries primaries line) ∷ [])
-      (with_uses colours (lineuses kind entries primaries line)) ignored
-      (length-snoc n before line hn) (content-more before line (items ∷ os) f hb)
-      (count-next kind entries primaries options colours line
-      ∙ (λ i. u i + length-map (tokens line) (written (names_of entries)) i)
-      ∙ sym (uses-snoc c os line true (sym (kept-is kind (names_of entries) primaries (tokens line)) ∙ g))))
-      (λ f g. rest-is (n + 1) behind lines (os ++ line ∷ []) options colours (ignored ++ line_number (n + 1) ∷ [])
-      (length-snoc n before line hn) (content-more before line (items ∷ os) f hb)
-      (u ∙ omega (
+      (λ f. rest-is (n + 1) behind lines os sheet ignored c m (content-same before line (items ∷ os) f hb) u)
+      (λ f g. rest-is (n + 1) behind lines (os ++ line ∷ []) (more sheet (written_by sheet line)) ignored c m
+      (content-more before line (items ∷ os) f hb) (count-next sheet (written_by sheet line)
+      ∙ (λ i. u i + length-map (tokens line) (written (names_of sheet.entries)) i)
+      ∙ sym (uses-snoc (said kind sheet) os line true (sym (kept-is (said kind sheet) (tokens line)) ∙ g))))
+      (λ f g. rest-is (n + 1) behind lines (os ++ line ∷ []) sheet (ignored ++ line_number (n + 1) ∷ []) c m
+      (content-more before line (items ∷ os) f hb) (u ∙ omega (
         arith,
-        uses-snoc c os line false (sym (kept-is kind (names_of entries) primaries (tokens line)) ∙ g),
+        uses-snoc (said kind sheet) os line false (sym (kept-is (said kind sheet) (tokens line)) ∙ g),
       ))) in
       (λ i. fault_or (hn i + 1) (same i) (next i)) ∙ sym (unroll kind before line lines)
-
--- the item line stays read
-module _ (kind : Kind) (entries : List Entry) (primaries : ℕ) where
-  stays-started : (n : ℕ) (lines : List (List ℕ)) (options : List (List Use)) (colours : List (List ℕ))
-      (ignored : List ℕ) → (stage_from kind n (S entries primaries options colours ignored) lines).started ≡ true
-  stays-started n [] options colours ignored = refl
-  stays-started n (line ∷ lines) options colours ignored =
-      by-line kind entries primaries (line_number (n + 1)) options colours ignored line
-      (λ st. (stage_from kind (n + 1) st lines).started ≡ true)
-      (λ f. stays-started (n + 1) lines options colours ignored)
-      (λ f g. stays-started (n + 1) lines (options ++ numbered colours (lineuses kind entries primaries line) ∷ [])
-      (with_uses colours (lineuses kind entries primaries line)) ignored)
-      (λ f g. stays-started (n + 1) lines options colours (ignored ++ line_number (n + 1) ∷ []))
 
 -- ALL LINES
 fault_or-same : (n : ℕ) (k : Option FaultKind) (a b : Option (ℕ × FaultKind)) → (k ≡ None → a ≡ b)
@@ -230,15 +213,15 @@ start-is kind n before [] hn hb = refl
 start-is kind n before (line ∷ lines) hn hb =
     let same : first (stage_checks kind no_stage line) ≡ first (checks_of kind (content before) line) =
     ap (λ cs. first ((NulByte, has 0 line) ∷ (if is_skipped line then [] else cs)))
-    (parts-checked kind [] None [] (parts line) refl refl ∙ ap (λ d. content_checks kind d line) (sym hb)) in
+    (parts-checked kind no_row [] (parts line) (no-row kind) ∙ ap (λ d. content_checks kind d line) (sym hb)) in
     let next = λ (e : first (stage_checks kind no_stage line) ≡ None).
     by-first-line kind (line_number (n + 1)) line
     (λ st. fault_from kind (n + 1) st lines ≡ fault_behind kind (before ++ line ∷ []) lines)
     (λ f. start-is kind (n + 1) (before ++ line ∷ []) lines (length-snoc n before line hn)
     (content-same before line [] f hb))
-    (λ f. rest-is kind (row_of kind no_row (parts line)).entries (P (row_of kind no_row (parts line))) line
-    (context-is kind (parts line) (unskipped kind no_stage line (clear kind no_stage line e) f)) (n + 1)
-    (before ++ line ∷ []) lines [] [] [] [] (length-snoc n before line hn) (content-more before line [] f hb) refl) in
+    (λ f. rest-is kind line (n + 1) (before ++ line ∷ []) lines [] (start kind line) []
+    (context-is kind (parts line) (unskipped kind no_stage line (clear kind no_stage line e) f))
+    (length-snoc n before line hn) (content-more before line [] f hb) refl) in
     fault_or-same (n + 1) (first (stage_checks kind no_stage line)) _ _ next
     ∙ (λ i. fault_or (hn i + 1) (same i) (fault_behind kind (before ++ line ∷ []) lines))
     ∙ sym (unroll kind before line lines)
@@ -253,8 +236,7 @@ started-is kind n (line ∷ lines) =
     by-first-line kind (line_number (n + 1)) line
     (λ st. (stage_from kind (n + 1) st lines).started ≡ not (is_skipped line && list_all is_skipped lines))
     (λ f. rw f (started-is kind (n + 1) lines))
-    (λ f. rw f (stays-started kind (row_of kind no_row (parts line)).entries (P (row_of kind no_row (parts line)))
-    (n + 1) lines [] [] []))
+    (λ f. rw f (ap (λ (st : Stage). st.started) (stage-behind kind (n + 1) (start kind line) [] lines)))
 
 -- the fault of a whole text is that of its lines, or that the item line isn't there
 pub first_fault-is : (kind : Kind) (lines : List (List ℕ)) → first_fault kind lines
@@ -269,19 +251,37 @@ or-none : (o p : Option (ℕ × FaultKind)) → option_or o p ≡ None → (o �
 or-none None p e = (refl, e)
 or-none (Some q) p e = absurd (cc)
 
+-- what a stage says stands for these lines
+abbrev Stands : Kind → List (List ℕ) → Stage → Type 0
+Stands kind lines st =
+    ((line : List ℕ) × AreItems kind (parts line) st.sheet.entries st.sheet.primaries)
+    × StandsFor kind lines (named_of st.sheet) st.ignored
+
 -- a text with no fault stands for what its lines give
-pub stands : (kind : Kind) (lines : List (List ℕ)) → first_fault kind lines ≡ None
-    → IsSheetOf kind lines (stage_of kind lines).sheet (stage_of kind lines).ignored
+stands : (kind : Kind) (lines : List (List ℕ)) → first_fault kind lines ≡ None → Stands kind lines (stage_of kind lines)
 stands kind lines e =
     let a = or-none (fault_from kind 0 no_stage lines) (end_fault (length lines) (stage_of kind lines).started)
     (sym (first_fault-is kind lines) ∙ e) in
-    lines-good kind 0 lines a.0 (end-none (length lines) (stage_of kind lines).started a.1)
+    let same = stage-by kind 0 lines in
+    let begun = sym (ap (λ (st : Stage). st.started) same)
+    ∙ end-none (length lines) (stage_of kind lines).started a.1 in
+    let clear = lines-clear kind 0 lines a.0 in
+    subst (Stands kind lines) (sym same) (by-content clear.0 (numbered_content lines) refl begun clear.1)
+  where
+    by-content : list_any (has 0) lines ≡ false → (ls : List (ℕ × List ℕ)) → numbered_content lines ≡ ls
+        → (stage_by kind ls).started ≡ true → IsClearText kind ls → Stands kind lines (stage_by kind ls)
+    by-content z [] d s h = absurd (cc)
+    by-content z (item ∷ rest) d s h =
+        let r = clear-stands kind lines item rest z d h in ((item.1, r.0), r.1)
 
 pub faultless-stands : (kind : Kind) (lines : List (List ℕ)) → first_fault kind lines ≡ None
     → StandsFor kind lines (named_of (stage_of kind lines).sheet) (stage_of kind lines).ignored
-faultless-stands kind lines e =
-    read-stands kind lines (named_of (stage_of kind lines).sheet) (stage_of kind lines).ignored
-    ((stage_of kind lines).sheet, refl, stands kind lines e)
+faultless-stands kind lines e = (stands kind lines e).1
+
+-- the item line of such a text
+pub faultless-items : (kind : Kind) (lines : List (List ℕ)) → first_fault kind lines ≡ None → (line : List ℕ)
+    × AreItems kind (parts line) (stage_of kind lines).sheet.entries (stage_of kind lines).sheet.primaries
+faultless-items kind lines e = (stands kind lines e).0
 
 -- a text that stands for a problem has no fault, and this is what its lines give
 pub stands-only : (kind : Kind) (lines : List (List ℕ)) (named : Named) (ignored : List ℕ)
@@ -289,10 +289,11 @@ pub stands-only : (kind : Kind) (lines : List (List ℕ)) (named : Named) (ignor
     → (first_fault kind lines ≡ None) × (named ≡ named_of (stage_of kind lines).sheet)
     × (ignored ≡ (stage_of kind lines).ignored)
 stands-only kind lines named ignored h =
-    let r = stands-read kind lines named ignored h in
-    let g = good-lines kind 0 lines r.0 ignored r.2 in (
-      first_fault-is kind lines ∙ ap (λ o. option_or o (end_fault (length lines) (stage_of kind lines).started)) g.0
-          ∙ ap (end_fault (length lines)) (ap (λ (st : Stage). st.started) g.1),
-      r.1 ∙ ap (λ (st : Stage). named_of st.sheet) (sym g.1),
-      sym (ap (λ (st : Stage). st.ignored) g.1),
+    let r = stands-clear kind lines named ignored h in
+    let same = stage-by kind 0 lines ∙ ap (stage_by kind) h.content in
+    let none = clear-lines kind 0 lines h.no_nul (subst (IsClearText kind) (sym h.content) r.0) in (
+      first_fault-is kind lines ∙ ap (λ o. option_or o (end_fault (length lines) (stage_of kind lines).started)) none
+          ∙ ap (end_fault (length lines)) (ap (λ (st : Stage). st.started) same),
+      r.1 ∙ ap (λ (st : Stage). named_of st.sheet) (sym same),
+      r.2 ∙ ap (λ (st : Stage). st.ignored) (sym same),
     )

@@ -4,8 +4,16 @@ use Rattle.std.proofs.Common.{◌≡◌, ℕ, ◌+◌, ◌<◌, ◌≤◌, List,
 use Rattle.std.proofs.Common.{not, nat_lt, nat_eq, is_some, unwrap_or, length, refl, ap, ◌∙◌, sym, subst}
 use Rattle.std.proofs.Common.{arith, if◌then◌else◌, inl, inr, ◌⊎◌, append_assoc, map}
 use Rattle.xc_input.specs.inner.ColourNumbers.{numbered}
-use Rattle.xc_input.proofs.OptionLemmas.Items.{ItemsBehind, items-behind, behind-items}
-use Rattle.xc_input.proofs.OptionLemmas.Uses.{UsesBehind, uses-behind, behind-uses}
+use Rattle.xc_input.proofs.OptionLemmas.Colours.{met, kept}
+use Rattle.std.specs.Prelude.{filter, flat_map}
+use Rattle.std.specs.List.{AllByRecursion, enumerate_from}
+use Rattle.std.proofs.lemmas.Bool.{or_parts, or_from}
+use Rattle.std.proofs.lemmas.List.{length-append}
+use Rattle.xc_input.specs.Faults.{Context}
+use Rattle.xc_input.specs.Sheets.{number_uses, with_colour}
+use Rattle.xc_input.specs.inner.Stages.{written_by}
+use Rattle.xc_input.proofs.OptionLemmas.Items.{ItemsBehind}
+use Rattle.xc_input.proofs.OptionLemmas.Uses.{UsesBehind}
 use Rattle.std.proofs.lemmas.Bool.Decides.{nat_tests}
 use Rattle.std.proofs.lemmas.List.{append-nil, length-map}
 use Rattle.std.specs.List.{list_any}
@@ -30,8 +38,7 @@ use Rattle.xc_input.specs.Limits.{most_uses}
 use Rattle.xc_input.specs.FirstFault.{line_number}
 use Rattle.xc_input.specs.Named.{IsName, IsColour}
 use Rattle.xc_input.specs.Text.{IsUse}
-use Rattle.xc_input.proofs.GrammarLemmas.SheetGrammar.{AreUses, AreOptions, IsSheetFrom}
-use Rattle.xc_input.proofs.ValidLemmas.SheetValidity.{numbered-length, so_far}
+use Rattle.xc_input.proofs.ValidLemmas.SheetValidity.{numbered-length}
 use Rattle.std.proofs.Math.Bool.{and-false}
 use Rattle.xc_input.proofs.FaultLemmas.FirstChecks.{test, fails, first-all, split}
 use Rattle.xc_input.proofs.FaultLemmas.Checks.{some-is, names_of-snoc, names_of-length}
@@ -54,6 +61,9 @@ end_fault n started = (if started then None else Some (line_number (n + 1), NoIt
 -- the fault of line n, or else the later one
 abbrev pub fault_or : ℕ → Option FaultKind → Option (ℕ × FaultKind) → Option (ℕ × FaultKind)
 fault_or n fault later = option_or (option_map (λ k. (line_number n, k)) fault) later
+
+abbrev pub P : Row → ℕ
+P row = unwrap_or row.bar (length row.entries)
 
 -- a step at a bar, and at another part
 abbrev pub R : List Entry → Option ℕ → Row
@@ -242,30 +252,18 @@ good-uses kind names primaries seen (t ∷ ts) us h =
     )
 
 -- THE LINES
-abbrev pub S : List Entry → ℕ → List (List Use) → List (List ℕ) → List ℕ → Stage
-S entries primaries options colours ignored =
-    record {
-      started = true;
-      sheet = record { entries = entries; primaries = primaries; options = options; colours = colours };
-      ignored =
-          ignored;
-    }
+-- behind the item line
+abbrev pub S : Sheet → List ℕ → Stage
+S sheet ignored = record { started = true; sheet = sheet; ignored = ignored }
+
+abbrev pub said : Kind → Sheet → Context
+said kind sheet = context kind (names_of sheet.entries) sheet.primaries
 
 -- a line and those behind it have no fault
 none-from : (kind : Kind) (n : ℕ) (stage : Stage) (line : List ℕ) (lines : List (List ℕ))
     → fault_from kind n stage (line ∷ lines) ≡ None → (first (line_checks kind stage line) ≡ None)
     × (fault_from kind (n + 1) (with_line kind (line_number (n + 1)) stage line) lines ≡ None)
 none-from kind n stage line lines e = grind (arith, nat_tests)
-
-from-none : (kind : Kind) (n : ℕ) (stage next : Stage) (line : List ℕ) (lines : List (List ℕ))
-    → first (line_checks kind stage line) ≡ None → with_line kind (line_number (n + 1)) stage line ≡ next
-    → fault_from kind (n + 1) next lines ≡ None → fault_from kind n stage (line ∷ lines) ≡ None
-from-none kind n stage next line lines e w q =
-    (λ i. fault_or (n + 1) (e i) (fault_from kind (n + 1) (w i) lines)) ∙ q
-
-count-snoc : (os : List (List Use)) (o : List Use) → use_count (os ++ o ∷ []) ≡ use_count os + length o
-count-snoc os o = let split : use_count (os ++ o ∷ []) ≡ use_count os + (0 + length o) =
-    sum_by-append (λ us. length us) os (o ∷ []) in omega (arith, split)
 
 -- a line with no fault
 abbrev pub IsClear : Kind → Stage → List ℕ → Type 0
@@ -295,274 +293,259 @@ content-clear : (kind : Kind) (stage : Stage) (line : List ℕ) → has 0 line �
     → first (content_checks kind stage line) ≡ None → first (line_checks kind stage line) ≡ None
 content-clear kind stage line e f g = rw (e, f) g
 
-module _ (kind : Kind) (entries : List Entry) (primaries : ℕ) where
-  abbrev pub names : List (List ℕ)
-  names = names_of entries
+-- the sheet with one option more
+abbrev pub more : Sheet → List Written → Sheet
+more sheet us = record sheet {
+  options = sheet.options ++ numbered sheet.colours us ∷ [];
+  colours = with_uses sheet.colours us;
+}
 
-  abbrev pub lineuses : List ℕ → List Written
-  lineuses line = map (written names) (tokens line)
+-- what holds of the lines with one more: it is skipped, it is kept, or its number is
+pub by-line : (kind : Kind) (m : ℕ) (sheet : Sheet) (ignored line : List ℕ) (Q : Stage → Type 0)
+    → (is_skipped line ≡ true → Q (S sheet ignored))
+    → (is_skipped line ≡ false → has_primary sheet.primaries (written_by sheet line) ≡ true
+    → Q (S (more sheet (written_by sheet line)) ignored))
+    → (is_skipped line ≡ false → has_primary sheet.primaries (written_by sheet line) ≡ false
+    → Q (S sheet (ignored ++ m ∷ []))) → Q (with_line kind m (S sheet ignored) line)
+by-line kind m sheet ignored line Q a b c =
+    cases (is_skipped line) (has_primary sheet.primaries (written_by sheet line)) refl refl
+  where
+    cases : (s p : Bool) → is_skipped line ≡ s → has_primary sheet.primaries (written_by sheet line) ≡ p
+        → Q (with_line kind m (S sheet ignored) line)
+    cases true p f g = rw f (a f)
+    cases false true f g = rw (f, g) (b f g)
+    cases false false f g = rw (f, g) (c f g)
 
-  abbrev whole : List (List Use) → List ℕ → List (FaultKind × Bool)
-  whole options line = whole_checks (S entries primaries options [] []).sheet line
+pub count-next : (sheet : Sheet) (us : List Written)
+    → use_count (more sheet us).options ≡ use_count sheet.options + length us
+count-next sheet us =
+    omega (
+      arith,
+      sum_by-append (λ (us : List Use). length us) sheet.options (numbered sheet.colours us ∷ []),
+      numbered-length sheet.colours us,
+    )
 
-  pub skips : (m : ℕ) (options : List (List Use)) (colours : List (List ℕ)) (ignored : List ℕ) (line : List ℕ)
-      → is_skipped line ≡ true → with_line kind m (S entries primaries options colours ignored) line
-      ≡ S entries primaries options colours ignored
-  skips m options colours ignored line f = rw f
+room-of : (sheet : Sheet) (line : List ℕ) → has_primary sheet.primaries (written_by sheet line) ≡ true
+    → (has_primary sheet.primaries (written_by sheet line)
+    && nat_lt most_uses (use_count sheet.options + length (tokens line))) ≡ false
+    → use_count sheet.options + length (written_by sheet line) ≤ most_uses
+room-of sheet line e f =
+    let l = length-map (tokens line) (written (names_of sheet.entries)) in
+    let g : nat_lt most_uses (use_count sheet.options + length (tokens line)) ≡ false = rw e at f in
+    grind (arith, nat_tests)
 
-  pub keeps : (m : ℕ) (options : List (List Use)) (colours : List (List ℕ)) (ignored : List ℕ) (line : List ℕ)
-      → is_skipped line ≡ false → has_primary primaries (lineuses line) ≡ true
-      → with_line kind m (S entries primaries options colours ignored) line ≡ S entries primaries
-      (options ++ numbered colours (lineuses line) ∷ []) (with_uses colours (lineuses line)) ignored
-  keeps m options colours ignored line f g = rw (f, g)
+no-room : (sheet : Sheet) (line : List ℕ) → use_count sheet.options + length (written_by sheet line) ≤ most_uses
+    → (has_primary sheet.primaries (written_by sheet line)
+    && nat_lt most_uses (use_count sheet.options + length (tokens line))) ≡ false
+no-room sheet line h =
+    let l = length-map (tokens line) (written (names_of sheet.entries)) in
+    let g : nat_lt most_uses (use_count sheet.options + length (tokens line)) ≡ false = grind (arith, nat_tests) in
+    rw g (and-false (has_primary sheet.primaries (written_by sheet line)))
 
-  pub drops : (m : ℕ) (options : List (List Use)) (colours : List (List ℕ)) (ignored : List ℕ) (line : List ℕ)
-      → is_skipped line ≡ false → has_primary primaries (lineuses line) ≡ false
-      → with_line kind m (S entries primaries options colours ignored) line ≡ S entries primaries options colours
-      (ignored ++ m ∷ [])
-  drops m options colours ignored line f g = rw (f, g)
-
-  -- what holds of the lines with one more: it is skipped, it is kept, or its number is
-  pub by-line : (m : ℕ) (options : List (List Use)) (colours : List (List ℕ)) (ignored : List ℕ) (line : List ℕ)
-      (Q : Stage → Type 0) → (is_skipped line ≡ true → Q (S entries primaries options colours ignored))
-      → (is_skipped line ≡ false → has_primary primaries (lineuses line) ≡ true → Q (S entries primaries
-      (options ++ numbered colours (lineuses line) ∷ []) (with_uses colours (lineuses line)) ignored))
-      → (is_skipped line ≡ false → has_primary primaries (lineuses line) ≡ false
-      → Q (S entries primaries options colours (ignored ++ m ∷ [])))
-      → Q (with_line kind m (S entries primaries options colours ignored) line)
-  by-line m options colours ignored line Q a b c =
-      cases (is_skipped line) (has_primary primaries (lineuses line)) refl refl
-    where
-      cases : (s p : Bool) → is_skipped line ≡ s → has_primary primaries (lineuses line) ≡ p
-          → Q (with_line kind m (S entries primaries options colours ignored) line)
-      cases true p f g = subst Q (sym (skips m options colours ignored line f)) (a f)
-      cases false true f g = subst Q (sym (keeps m options colours ignored line f g)) (b f g)
-      cases false false f g = subst Q (sym (drops m options colours ignored line f g)) (c f g)
-
-  abbrev IsRest : List (List Use) → List (List ℕ) → List ℕ → ℕ → List (List ℕ) → Stage → Type 0
-  IsRest options colours ignored n lines stage =
-      (os : List (List Use)) × (ig : List ℕ) × (cs : List (List ℕ))
-      × (stage ≡ S entries primaries (options ++ os) cs (ignored ++ ig))
-      × AreOptions (context kind names primaries) (so_far n (use_count options) colours) lines os ig cs
-
-  room-of : (options : List (List Use)) (line : List ℕ) → has_primary primaries (lineuses line) ≡ true
-      → (has_primary primaries (lineuses line) && nat_lt most_uses (use_count options + length (tokens line))) ≡ false
-      → use_count options + length (lineuses line) ≤ most_uses
-  room-of options line e f =
-      let g : nat_lt most_uses (use_count options + length (tokens line)) ≡ false =
-      ap (λ t. t && nat_lt most_uses (use_count options + length (tokens line))) (sym e) ∙ f in
-      let l : length (lineuses line) ≡ length (tokens line) =
-      length-map (tokens line) (written names) in grind (arith, nat_tests)
-
-  no-room : (options : List (List Use)) (line : List ℕ) → use_count options + length (lineuses line) ≤ most_uses
-      → (has_primary primaries (lineuses line) && nat_lt most_uses (use_count options + length (tokens line))) ≡ false
-  no-room options line h =
-      let l : length (lineuses line) ≡ length (tokens line) = length-map (tokens line) (written names) in
-      let g : nat_lt most_uses (use_count options + length (tokens line)) ≡ false = grind (arith, nat_tests) in
-      ap (λ t. has_primary primaries (lineuses line) && t) g ∙ and-false (has_primary primaries (lineuses line))
-
-  pub count-next : (options : List (List Use)) (colours : List (List ℕ)) (line : List ℕ)
-      → use_count (options ++ numbered colours (lineuses line) ∷ []) ≡ use_count options + length (lineuses line)
-  count-next options colours line = count-snoc options (numbered colours (lineuses line))
-      ∙ ap (λ n. use_count options + n) (numbered-length colours (lineuses line))
-
-  -- lines behind the item line that have no fault
-  pub options-good : (options : List (List Use)) (colours : List (List ℕ)) (ignored : List ℕ) (n : ℕ)
-      (lines : List (List ℕ)) → fault_from kind n (S entries primaries options colours ignored) lines ≡ None
-      → IsRest options colours ignored n lines (stage_from kind n (S entries primaries options colours ignored) lines)
-  options-good options colours ignored n [] e = (
-    [],
-    [],
-    colours,
-    sym (ap (λ os. S entries primaries os colours (ignored ++ [])) (append-nil options)
-        ∙ ap (S entries primaries options colours) (append-nil ignored)),
-    (refl, refl, refl),
-  )
-  options-good options colours ignored n (line ∷ lines) e =
-      let a = none-from kind n (S entries primaries options colours ignored) line lines e in
-      let b = clear kind (S entries primaries options colours ignored) line a.0 in
-      let m = line_number (n + 1) in
-      let uses : is_skipped line ≡ false → (AreUses (context kind names primaries) (tokens line) (lineuses line))
-      × (first (whole options line) ≡ None) = λ f.
-      let s = split (option_checks (context kind names primaries) [] (tokens line)) (whole options line)
-      (unskipped kind (S entries primaries options colours ignored) line b f) in (
-        behind-uses (context kind names primaries) (tokens line) (lineuses line)
-            (uses-good kind names primaries [] (tokens line) s.0),
-        s.1,
-      ) in
-      by-line m options colours ignored line
-      (λ st. fault_from kind (n + 1) st lines ≡ None
-      → IsRest options colours ignored n (line ∷ lines) (stage_from kind (n + 1) st lines))
-      (λ f q. let r = options-good options colours ignored (n + 1) lines q in
-      (r.0, r.1, r.2, r.3, (b.0, inl (f, r.4))))
-      (λ f g q.
-      let u = uses f in
-      let r = options-good (options ++ numbered colours (lineuses line) ∷ []) (with_uses colours (lineuses line))
-      ignored (n + 1) lines q in (
-        numbered colours (lineuses line) ∷ r.0,
-        r.1,
-        r.2,
-        r.3 ∙ ap (λ os. S entries primaries os r.2 (ignored ++ r.1))
-            (append_assoc options (numbered colours (lineuses line) ∷ []) r.0),
-        (
-          b.0,
-          inr (
-            lineuses line,
-            f,
-            u.0,
-            inr (
-              r.0,
-              g,
-              room-of options line g (fails (whole options line) u.1 TooManyUses),
-              refl,
-              subst (λ c. AreOptions (context kind names primaries)
-                  (so_far (n + 1) c (with_uses colours (lineuses line))) lines r.0 r.1 r.2)
-                  (count-next options colours line) r.4,
-            ),
-          ),
-        ),
-      ))
-      (λ f g q. let r = options-good options colours (ignored ++ m ∷ []) (n + 1) lines q in (
-        r.0,
-        m ∷ r.1,
-        r.2,
-        r.3 ∙ ap (λ ig. S entries primaries (options ++ r.0) r.2 ig) (append_assoc ignored (m ∷ []) r.1),
-        (b.0, inr (lineuses line, f, (uses f).0, inl (r.1, g, refl, r.4))),
-      )) a.1
-
-  -- lines that stand for options have no fault, and give them
-  abbrev IsGiven : List (List Use) → List (List ℕ) → List ℕ → ℕ → List (List ℕ) → List (List Use) → List ℕ
-      → List (List ℕ) → Type 0
-  IsGiven options colours ignored n lines os ig cs =
-      (fault_from kind n (S entries primaries options colours ignored) lines ≡ None)
-      × (stage_from kind n (S entries primaries options colours ignored) lines ≡ S entries primaries (options ++ os)
-      cs (ignored ++ ig))
-
-  pub good-options : (options : List (List Use)) (colours : List (List ℕ)) (ignored : List ℕ) (n : ℕ)
-      (lines : List (List ℕ)) (os : List (List Use)) (ig : List ℕ) (cs : List (List ℕ))
-      → AreOptions (context kind names primaries) (so_far n (use_count options) colours) lines os ig cs
-      → IsGiven options colours ignored n lines os ig cs
-  good-options options colours ignored n [] os ig cs h = (
-    refl,
-    λ i. S entries primaries ((sym (append-nil options) ∙ ap (λ x. options ++ x) (sym h.0)) i) (sym h.2 i)
-        ((sym (append-nil ignored) ∙ ap (λ x. ignored ++ x) (sym h.1)) i),
-  )
-  good-options options colours ignored n (line ∷ lines) os ig cs (z, inl (f, r)) =
-      let q = good-options options colours ignored (n + 1) lines os ig cs r in
-      let w = skips (line_number (n + 1)) options colours ignored line f in (
-        from-none kind n (S entries primaries options colours ignored) _ line lines
-            (skipped-clear kind (S entries primaries options colours ignored) line z f) w q.0,
-        ap (λ st. stage_from kind (n + 1) st lines) w ∙ q.1,
-      )
-  good-options options colours ignored n (line ∷ lines) os ig cs (z, inr (us, f, u, inl (others, none, i, r))) =
-      let v =
-      good-uses kind names primaries [] (tokens line) us
-      (uses-behind (context kind names primaries) (tokens line) us u) in
-      let g : has_primary primaries (lineuses line) ≡ false = ap (has_primary primaries) (sym v.0) ∙ none in
-      let q = good-options options colours (ignored ++ line_number (n + 1) ∷ []) (n + 1) lines os others cs r in
-      let w = drops (line_number (n + 1)) options colours ignored line f g in (
-        from-none kind n (S entries primaries options colours ignored) _ line lines
-            (content-clear kind (S entries primaries options colours ignored) line z f
-            (first-all (option_checks (context kind names primaries) [] (tokens line)) (whole options line) v.1
-            (rw g))) w q.0,
-        ap (λ st. stage_from kind (n + 1) st lines) w ∙ q.1
-            ∙ ap (S entries primaries (options ++ os) cs)
-            (append_assoc ignored (line_number (n + 1) ∷ []) others ∙ ap (λ x. ignored ++ x) (sym i)),
-      )
-  good-options options colours ignored n (line ∷ lines) os ig cs (z, inr (us, f, u, inr (others, prim, room, o, r))) =
-      let v =
-      good-uses kind names primaries [] (tokens line) us
-      (uses-behind (context kind names primaries) (tokens line) us u) in
-      let g : has_primary primaries (lineuses line) ≡ true = ap (has_primary primaries) (sym v.0) ∙ prim in
-      let r' : AreOptions (context kind names primaries)
-      (so_far (n + 1) (use_count (options ++ numbered colours (lineuses line) ∷ []))
-      (with_uses colours (lineuses line))) lines others ig cs =
-      subst (λ c. AreOptions (context kind names primaries) (so_far (n + 1) c (with_uses colours (lineuses line))) lines
-      others ig cs) (sym (count-next options colours line))
-      (subst (λ x. AreOptions (context kind names primaries)
-      (so_far (n + 1) (use_count options + length x) (with_uses colours x)) lines others ig cs) v.0 r) in
-      let q =
-      good-options (options ++ numbered colours (lineuses line) ∷ []) (with_uses colours (lineuses line)) ignored
-      (n + 1) lines others ig cs r' in
-      let w = keeps (line_number (n + 1)) options colours ignored line f g in (
-        from-none kind n (S entries primaries options colours ignored) _ line lines
-            (content-clear kind (S entries primaries options colours ignored) line z f
-            (first-all (option_checks (context kind names primaries) [] (tokens line)) (whole options line) v.1
-            (rw (no-room options line (subst (λ x. use_count options + length x ≤ most_uses) v.0 room))))) w q.0,
-        ap (λ st. stage_from kind (n + 1) st lines) w ∙ q.1
-            ∙ ap (λ x. S entries primaries x cs (ignored ++ ig))
-            (append_assoc options (numbered colours (lineuses line) ∷ []) others
-            ∙ ap (λ x. options ++ numbered colours x ∷ others) (sym v.0) ∙ ap (λ x. options ++ x) (sym o)),
-      )
-
--- THE WHOLE TEXT
-abbrev pub P : Row → ℕ
-P row = unwrap_or row.bar (length row.entries)
-
-pub item-line : (kind : Kind) (m : ℕ) (line : List ℕ) → is_skipped line ≡ false
-    → with_line kind m no_stage line ≡ S (row_of kind no_row (parts line)).entries
-    (P (row_of kind no_row (parts line))) [] [] []
-item-line kind m line f = rw f
-
-pub no-line : (kind : Kind) (m : ℕ) (line : List ℕ) → is_skipped line ≡ true → with_line kind m no_stage line ≡ no_stage
-no-line kind m line f = rw f
+-- the items of the item line, before any option
+abbrev pub start : Kind → List ℕ → Sheet
+start kind line =
+    let row = row_of kind no_row (parts line) in
+    record { entries = row.entries; primaries = P row; options = []; colours = [] }
 
 -- what holds of the lines up to the first one with content: it is skipped, or is the item line
 pub by-first-line : (kind : Kind) (m : ℕ) (line : List ℕ) (Q : Stage → Type 0) → (is_skipped line ≡ true → Q no_stage)
-    → (is_skipped line ≡ false → Q (S (row_of kind no_row (parts line)).entries (P (row_of kind no_row (parts line)))
-    [] [] [])) → Q (with_line kind m no_stage line)
+    → (is_skipped line ≡ false → Q (S (start kind line) [])) → Q (with_line kind m no_stage line)
 by-first-line kind m line Q a b = cases (is_skipped line) refl
   where
     cases : (t : Bool) → is_skipped line ≡ t → Q (with_line kind m no_stage line)
-    cases true f = subst Q (sym (no-line kind m line f)) (a f)
-    cases false f = subst Q (sym (item-line kind m line f)) (b f)
+    cases true f = rw f (a f)
+    cases false f = rw f (b f)
 
-pub lines-good : (kind : Kind) (n : ℕ) (lines : List (List ℕ)) → fault_from kind n no_stage lines ≡ None
-    → (stage_from kind n no_stage lines).started ≡ true → IsSheetFrom kind n lines
-    (stage_from kind n no_stage lines).sheet (stage_from kind n no_stage lines).ignored
-lines-good kind n [] e s = absurd (cc)
-lines-good kind n (line ∷ lines) e s =
+-- WHAT LINES GIVE
+abbrev pub content_from : ℕ → List (List ℕ) → List (ℕ × List ℕ)
+content_from k lines = filter (λ line. not (is_skipped line.1)) (enumerate_from k lines)
+
+abbrev pub flat : List (List Written) → List Written
+flat uss = flat_map (λ us. us) uss
+
+abbrev pub ignored_of : ℕ → List (ℕ × List Written) → List ℕ
+ignored_of p os = map (λ o. o.0) (filter (λ o. not (has_primary p o.1)) os)
+
+abbrev pub kept_of : ℕ → List (ℕ × List Written) → List (List Written)
+kept_of p os = map (λ o. o.1) (filter (λ o. has_primary p o.1) os)
+
+-- the options of such lines with their numbers, those that are kept, and the numbers of the others
+abbrev pub written_in : Sheet → List (ℕ × List ℕ) → List (ℕ × List Written)
+written_in sheet ls = map (λ l. (line_number l.0, written_by sheet l.1)) ls
+
+abbrev pub kept_in : Sheet → List (ℕ × List ℕ) → List (List Written)
+kept_in sheet ls = kept_of sheet.primaries (written_in sheet ls)
+
+abbrev pub ignored_in : Sheet → List (ℕ × List ℕ) → List ℕ
+ignored_in sheet ls = ignored_of sheet.primaries (written_in sheet ls)
+
+-- the sheet with these options more
+abbrev pub with_kept : Sheet → List (List Written) → Sheet
+with_kept sheet uss =
+    let last = with_uses sheet.colours (flat uss) in
+    record sheet { options = sheet.options ++ map (number_uses last) uss; colours = last }
+
+with_uses-append : (cs : List (List ℕ)) (us vs : List Written)
+    → with_uses cs (us ++ vs) ≡ with_uses (with_uses cs us) vs
+with_uses-append cs [] vs = refl
+with_uses-append cs (u ∷ us) vs = with_uses-append (with_colour cs u.colour) us vs
+
+-- a colour of an option has one number behind it and behind all options
+number-later : (cs : List (List ℕ)) (us more : List Written)
+    → number_uses (with_uses cs (us ++ more)) us ≡ number_uses (with_uses cs us) us
+number-later cs [] more = refl
+number-later cs (u ∷ us) more =
+    let number = (kept (with_colour cs u.colour) (us ++ more) u.colour (met cs u.colour)).1
+    ∙ sym (kept (with_colour cs u.colour) us u.colour (met cs u.colour)).1 in
+    λ i. record { item = u.item; colour = number i } ∷ number-later (with_colour cs u.colour) us more i
+
+with_kept-more : (sheet : Sheet) (us : List Written) (uss : List (List Written))
+    → with_kept (more sheet us) uss ≡ with_kept sheet (us ∷ uss)
+with_kept-more sheet us uss =
+    let last = sym (with_uses-append sheet.colours us (flat uss)) in
+    let here = sym (number-later sheet.colours us (flat uss)) in
+    let all = append_assoc sheet.options (numbered sheet.colours us ∷ [])
+    (map (number_uses (with_uses (with_uses sheet.colours us) (flat uss))) uss)
+    ∙ (λ i. sheet.options ++ here i ∷ map (number_uses (last i)) uss) in
+    λ i. record sheet { options = all i; colours = last i }
+
+abbrev pub stage_behind : Sheet → List ℕ → List (ℕ × List ℕ) → Stage
+stage_behind sheet ignored ls = S (with_kept sheet (kept_in sheet ls)) (ignored ++ ignored_in sheet ls)
+
+pub stage-behind : (kind : Kind) (n : ℕ) (sheet : Sheet) (ignored : List ℕ) (lines : List (List ℕ))
+    → stage_from kind n (S sheet ignored) lines ≡ stage_behind sheet ignored (content_from (n + 1) lines)
+stage-behind kind n sheet ignored [] =
+    λ i. S (record sheet { options = sym (append-nil sheet.options) i }) (sym (append-nil ignored) i)
+stage-behind kind n sheet ignored (line ∷ lines) =
+    let ls = content_from (n + 1 + 1) lines in
+    let us = written_by sheet line in
+    by-line kind (line_number (n + 1)) sheet ignored line
+    (λ st. stage_from kind (n + 1) st lines ≡ stage_behind sheet ignored (content_from (n + 1) (line ∷ lines)))
+    (λ f. rw f (stage-behind kind (n + 1) sheet ignored lines))
+    (λ f g. rw (f, g) (stage-behind kind (n + 1) (more sheet us) ignored lines
+    ∙ ap (λ s. S s (ignored ++ ignored_in sheet ls)) (with_kept-more sheet us (kept_in sheet ls))))
+    (λ f g. rw (f, g) (stage-behind kind (n + 1) sheet (ignored ++ line_number (n + 1) ∷ []) lines
+    ∙ ap (S (with_kept sheet (kept_in sheet ls)))
+    (append_assoc ignored (line_number (n + 1) ∷ []) (ignored_in sheet ls))))
+
+-- what all lines give, by those with content
+abbrev pub stage_by : Kind → List (ℕ × List ℕ) → Stage
+stage_by kind [] = no_stage
+stage_by kind (item ∷ rest) = stage_behind (start kind item.1) [] rest
+
+pub stage-by : (kind : Kind) (n : ℕ) (lines : List (List ℕ))
+    → stage_from kind n no_stage lines ≡ stage_by kind (content_from (n + 1) lines)
+stage-by kind n [] = refl
+stage-by kind n (line ∷ lines) =
+    by-first-line kind (line_number (n + 1)) line
+    (λ st. stage_from kind (n + 1) st lines ≡ stage_by kind (content_from (n + 1) (line ∷ lines)))
+    (λ f. rw f (stage-by kind (n + 1) lines)) (λ f. rw f (stage-behind kind (n + 1) (start kind line) [] lines))
+
+-- LINES WITHOUT A FAULT
+-- options behind the item line
+pub record AreClear (kind : Kind) (sheet : Sheet) (ls : List (ℕ × List ℕ)) : Type 0 where
+  pub tokens : AllByRecursion (λ l. first (option_checks (said kind sheet) [] (tokens l.1)) ≡ None) ls
+  pub few : use_count sheet.options + length (flat (kept_in sheet ls)) ≤ most_uses
+
+behind-clear : (kind : Kind) (n : ℕ) (sheet : Sheet) (ignored : List ℕ) (lines : List (List ℕ))
+    → use_count sheet.options ≤ most_uses → fault_from kind n (S sheet ignored) lines ≡ None
+    → (list_any (has 0) lines ≡ false) × AreClear kind sheet (content_from (n + 1) lines)
+behind-clear kind n sheet ignored [] l e = (refl, record { tokens = tt; few = omega (arith, l) })
+behind-clear kind n sheet ignored (line ∷ lines) l e =
+    let a = none-from kind n (S sheet ignored) line lines e in
+    let b = clear kind (S sheet ignored) line a.0 in
+    let us = written_by sheet line in
+    let checks = λ (f : is_skipped line ≡ false). split (option_checks (said kind sheet) [] (tokens line))
+    (whole_checks sheet line) (unskipped kind (S sheet ignored) line b f) in
+    by-line kind (line_number (n + 1)) sheet ignored line
+    (λ st. fault_from kind (n + 1) st lines ≡ None
+    → (list_any (has 0) (line ∷ lines) ≡ false) × AreClear kind sheet (content_from (n + 1) (line ∷ lines)))
+    (λ f q. let r = behind-clear kind (n + 1) sheet ignored lines l q in
+    (or_from (has 0 line) _ b.0 r.0, record { tokens = rw f r.1.tokens; few = rw f r.1.few }))
+    (λ f g q.
+    let room = room-of sheet line g (fails (whole_checks sheet line) (checks f).1 TooManyUses) in
+    let r = behind-clear kind (n + 1) (more sheet us) ignored lines (omega (arith, room, count-next sheet us)) q in (
+      or_from (has 0 line) _ b.0 r.0,
+      record {
+        tokens = rw f ((checks f).0, r.1.tokens);
+        few = rw (f, g) (omega (
+          arith,
+          r.1.few,
+          count-next sheet us,
+          length-append us (flat (kept_in sheet (content_from (n + 1 + 1) lines))),
+        ));
+      },
+    ))
+    (λ f g q. let r = behind-clear kind (n + 1) sheet (ignored ++ line_number (n + 1) ∷ []) lines l q in
+    (or_from (has 0 line) _ b.0 r.0, record { tokens = rw f ((checks f).0, r.1.tokens); few = rw (f, g) r.1.few })) a.1
+
+clear-behind : (kind : Kind) (n : ℕ) (sheet : Sheet) (ignored : List ℕ) (lines : List (List ℕ))
+    → list_any (has 0) lines ≡ false → AreClear kind sheet (content_from (n + 1) lines)
+    → fault_from kind n (S sheet ignored) lines ≡ None
+clear-behind kind n sheet ignored [] z h = refl
+clear-behind kind n sheet ignored (line ∷ lines) z h =
+    let y = or_parts (has 0 line) (list_any (has 0) lines) z in
+    let us = written_by sheet line in
+    let checks = option_checks (said kind sheet) [] (tokens line) in
+    let m = line_number (n + 1) in
+    let r = by-line kind m sheet ignored line (λ st. (first (line_checks kind (S sheet ignored) line) ≡ None)
+    × (fault_from kind (n + 1) st lines ≡ None))
+    (λ f. (
+      skipped-clear kind (S sheet ignored) line y.0 f,
+      clear-behind kind (n + 1) sheet ignored lines y.1
+          (record { tokens = rw f at h.tokens; few = rw f at h.few }),
+    ))
+    (λ f g.
+    let o = rw f at h.tokens in
+    let l : use_count sheet.options + length us + length (flat (kept_in sheet (content_from (n + 1 + 1) lines)))
+    ≤ most_uses = omega (
+      arith,
+      rw (f, g) at h.few,
+      length-append us (flat (kept_in sheet (content_from (n + 1 + 1) lines))),
+    ) in (
+      content-clear kind (S sheet ignored) line y.0 f
+          (first-all checks (whole_checks sheet line) o.0 (rw (no-room sheet line (omega (arith, l))))),
+      clear-behind kind (n + 1) (more sheet us) ignored lines y.1
+          (record { tokens = o.1; few = omega (arith, l, count-next sheet us) }),
+    ))
+    (λ f g. let o = rw f at h.tokens in (
+      content-clear kind (S sheet ignored) line y.0 f (first-all checks (whole_checks sheet line) o.0 (rw g)),
+      clear-behind kind (n + 1) sheet (ignored ++ m ∷ []) lines y.1
+          (record { tokens = o.1; few = rw (f, g) at h.few }),
+    )) in
+    (λ i. fault_or (n + 1) (r.0 i) (fault_from kind (n + 1) (with_line kind m (S sheet ignored) line) lines)) ∙ r.1
+
+-- all lines with content
+abbrev pub IsClearText : Kind → List (ℕ × List ℕ) → Type 0
+IsClearText kind [] = Unit {0}
+IsClearText kind (item ∷ rest) =
+    (first (row_checks kind no_row (parts item.1)) ≡ None) × AreClear kind (start kind item.1) rest
+
+pub lines-clear : (kind : Kind) (n : ℕ) (lines : List (List ℕ)) → fault_from kind n no_stage lines ≡ None
+    → (list_any (has 0) lines ≡ false) × IsClearText kind (content_from (n + 1) lines)
+lines-clear kind n [] e = (refl, tt)
+lines-clear kind n (line ∷ lines) e =
     let a = none-from kind n no_stage line lines e in
     let b = clear kind no_stage line a.0 in
     by-first-line kind (line_number (n + 1)) line
-    (λ st. fault_from kind (n + 1) st lines ≡ None → (stage_from kind (n + 1) st lines).started ≡ true
-    → IsSheetFrom kind n (line ∷ lines) (stage_from kind (n + 1) st lines).sheet
-    (stage_from kind (n + 1) st lines).ignored)
-    (λ f q t. (b.0, inl (f, lines-good kind (n + 1) lines q t)))
-    (λ f q t.
-    let row : Row = row_of kind no_row (parts line) in
-    let g = row-good kind [] None (parts line) (unskipped kind no_stage line b f) in
-    let r = options-good kind row.entries (P row) [] [] [] (n + 1) lines q in
-    subst (λ (st : Stage). IsSheetFrom kind n (line ∷ lines) st.sheet st.ignored) (sym r.3) (
-      b.0,
-      inr (
-        f,
-        behind-items kind (parts line) row.entries (P row)
-            (subst (λ es. ItemsBehind kind [] None (parts line) es (P row)) (sym g.1) g.2),
-        r.4,
-      ),
-    )) a.1 s
+    (λ st. fault_from kind (n + 1) st lines ≡ None
+    → (list_any (has 0) (line ∷ lines) ≡ false) × IsClearText kind (content_from (n + 1) (line ∷ lines)))
+    (λ f q. let r = lines-clear kind (n + 1) lines q in (or_from (has 0 line) _ b.0 r.0, rw f r.1))
+    (λ f q. let r = behind-clear kind (n + 1) (start kind line) [] lines (omega arith) q in
+    (or_from (has 0 line) _ b.0 r.0, rw f (unskipped kind no_stage line b f, r.1))) a.1
 
-pub good-lines : (kind : Kind) (n : ℕ) (lines : List (List ℕ)) (sheet : Sheet) (ignored : List ℕ)
-    → IsSheetFrom kind n lines sheet ignored
-    → (fault_from kind n no_stage lines ≡ None)
-    × (stage_from kind n no_stage lines ≡ record { started = true; sheet = sheet; ignored = ignored })
-good-lines kind n [] sheet ignored h = absurd h
-good-lines kind n (line ∷ lines) sheet ignored (z, inl (f, r)) =
-    let w = no-line kind (line_number (n + 1)) line f in
-    let q = good-lines kind (n + 1) lines sheet ignored r in (
-      from-none kind n no_stage _ line lines (skipped-clear kind no_stage line z f) w q.0,
-      ap (λ st. stage_from kind (n + 1) st lines) w ∙ q.1,
-    )
-good-lines kind n (line ∷ lines) sheet ignored (z, inr (f, items, r)) =
-    let g =
-    good-row kind [] None (parts line) sheet.entries sheet.primaries
-    (items-behind kind (parts line) sheet.entries sheet.primaries items) in
-    let w : with_line kind (line_number (n + 1)) no_stage line ≡ S sheet.entries sheet.primaries [] [] [] =
-    item-line kind (line_number (n + 1)) line f ∙ (λ i. S (g.1 i) (sym g.2 i) [] [] []) in
-    let q =
-    good-options kind sheet.entries sheet.primaries [] [] [] (n + 1) lines sheet.options ignored
-    sheet.colours r in (
-      from-none kind n no_stage _ line lines (content-clear kind no_stage line z f g.0) w q.0,
-      ap (λ st. stage_from kind (n + 1) st lines) w ∙ q.1,
-    )
+pub clear-lines : (kind : Kind) (n : ℕ) (lines : List (List ℕ)) → list_any (has 0) lines ≡ false
+    → IsClearText kind (content_from (n + 1) lines) → fault_from kind n no_stage lines ≡ None
+clear-lines kind n [] z h = refl
+clear-lines kind n (line ∷ lines) z h =
+    let y = or_parts (has 0 line) (list_any (has 0) lines) z in
+    let m = line_number (n + 1) in
+    let r = by-first-line kind m line (λ st. (first (line_checks kind no_stage line) ≡ None)
+    × (fault_from kind (n + 1) st lines ≡ None))
+    (λ f. (skipped-clear kind no_stage line y.0 f, clear-lines kind (n + 1) lines y.1 (rw f at h)))
+    (λ f. let k = rw f at h in (
+      content-clear kind no_stage line y.0 f k.0,
+      clear-behind kind (n + 1) (start kind line) [] lines y.1 k.1,
+    )) in
+    (λ i. fault_or (n + 1) (r.0 i) (fault_from kind (n + 1) (with_line kind m no_stage line) lines)) ∙ r.1

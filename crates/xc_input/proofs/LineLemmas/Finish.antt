@@ -6,11 +6,12 @@ use Rattle.xc_input.specs.declared.kind.Kind.{Kind}
 use Rattle.xc_input.specs.declared.fault.InputError.{InputError}
 use Rattle.xc_input.specs.declared.fault.InputError.TheVariants.{Fault, Device, Memory}
 use Rattle.xc_input.specs.declared.builder.ProblemBuilder.{ProblemBuilder}
-use Rattle.xc_input.proofs.GrammarLemmas.SheetGrammar.{named_of}
+use Rattle.xc_input.proofs.GrammarLemmas.SheetGrammar.{named_of, AreItems}
 use Rattle.xc_input.specs.FirstFault.{line_number, first_fault}
 use Rattle.xc_input.specs.declared.fault.FaultKind.TheVariants.{NoItems}
 use Rattle.xc_input.specs.inner.Stages.{Stage, stage_of}
-use Rattle.xc_input.proofs.ValidLemmas.SheetValidity.{IsSheetOf}
+use Rattle.std.proofs.Common.{map}
+use Rattle.xc_input.specs.Tokens.{parts}
 use Rattle.xc_input.specs.Text.{StandsFor}
 use Rattle.xc_input.specs.Named.{Named, IsSound}
 use Rattle.xc_input.specs.inner.Stored.{key_names}
@@ -23,8 +24,7 @@ use Rattle.xc_input.proofs.LineLemmas.Reading.{ends-at, end-is}
 use Rattle.xc_input.proofs.ValidLemmas.SoundSheets.{primaries-within, item-names, named-is, behind-bounds}
 use Rattle.xc_input.proofs.ValidLemmas.ValidTexts.{sound}
 use Rattle.xc_input.proofs.GrammarLemmas.LawLemmas.{end_fault}
-use Rattle.xc_input.proofs.FaultLemmas.FirstFaults.{stands, stands-only}
-use Rattle.xc_input.proofs.GrammarLemmas.Standing.{read-stands}
+use Rattle.xc_input.proofs.FaultLemmas.FirstFaults.{faultless-stands, faultless-items, stands-only}
 
 pub refutes : (kind : Kind) (lines : List (List ℕ)) (e : InputError) → IsEndOf kind lines e → e ≢ Memory
     → (p : Named) (ig : List ℕ) → StandsFor kind lines p ig → ⊥
@@ -64,17 +64,17 @@ module _ (v : Reading) (kind : Kind) (lines : List (List ℕ)) (o : Option Input
         let t : StandsFor kind lines p ig = subst (λ (r : Reading). StandsFor r.kind r.lines p ig) is s in
         let b : first_fault kind lines ≡ None = (stands-only kind lines p ig t).0 in absurd (cc)
 
-    written : d.started ≡ true → IsSheetOf kind lines (sheet_of_builder d) d.ignored.items
-    written g =
-        subst (λ (st : Stage). IsSheetOf kind lines st.sheet st.ignored) (sym whole.1)
-        (stands kind lines (ended true g))
+    items : d.started ≡ true → (line : List ℕ) × AreItems kind (parts line) (map entry_of d.items.items) d.primary
+    items g = subst (λ (st : Stage). (line : List ℕ) × AreItems kind (parts line) st.sheet.entries st.sheet.primaries)
+        (sym whole.1) (faultless-items kind lines (ended true g))
 
-    stands-here : d.started ≡ true → StandsFor kind lines (named_by d) d.ignored.items
-    stands-here g = read-stands kind lines (named_by d) d.ignored.items
-        (sheet_of_builder d, sym (by-builder d), written g)
+    stands : d.started ≡ true → StandsFor kind lines (named_by d) d.ignored.items
+    stands g = subst (λ p. StandsFor kind lines p d.ignored.items) (by-builder d)
+        (subst (λ (st : Stage). StandsFor kind lines (named_of st.sheet) st.ignored) (sym whole.1)
+        (faultless-stands kind lines (ended true g)))
 
     pub accepts : d.started ≡ true → StandsFor v.kind v.lines (named_by d) d.ignored.items
-    accepts g = subst (λ (r : Reading). StandsFor r.kind r.lines (named_by d) d.ignored.items) (sym is) (stands-here g)
+    accepts g = subst (λ (r : Reading). StandsFor r.kind r.lines (named_by d) d.ignored.items) (sym is) (stands g)
 
     pub alone : (p : Named) (ig : List ℕ) → StandsFor v.kind v.lines p ig → (p ≡ named_by d) × (ig ≡ d.ignored.items)
     alone p ig s =
@@ -86,17 +86,17 @@ module _ (v : Reading) (kind : Kind) (lines : List (List ℕ)) (o : Option Input
         )
 
     pub is-sound : AreWhole lines → d.started ≡ true → IsSound (named_by d)
-    is-sound w g = sound kind lines (named_by d) d.ignored.items (stands-here g) w
+    is-sound w g = sound kind lines (named_by d) d.ignored.items (stands g) w
 
     pub readable : AreWhole lines → d.started ≡ true → IsReadable d
     readable w g = record {
       names = whole.0.names ∙ item-names d.items.items;
       primary = omega (
         arith,
-        primaries-within kind lines (sheet_of_builder d) d.ignored.items (written g),
+        primaries-within kind (parts (items g).0) (map entry_of d.items.items) d.primary (items g).1,
         length-map d.items.items entry_of,
       );
-      secondary = behind-bounds kind lines (sheet_of_builder d) d.ignored.items d.items.items (written g) refl;
+      secondary = behind-bounds kind (parts (items g).0) d.items.items d.primary (items g).1;
       starts = whole.0.starts g;
       sound = is-sound w g;
     }

@@ -1,7 +1,7 @@
 -- The problem of a sheet.
-use Rattle.std.proofs.Common.{◌≡◌, ℕ, zero, suc, ◌+◌, ◌-◌, ◌≤◌, false, List, [], ◌∷◌, true, length, map, take, drop}
+use Rattle.std.proofs.Common.{◌≡◌, ℕ, zero, suc, ◌-◌, ◌≤◌, false, List, [], ◌∷◌, true, length, map, take, drop}
 use Rattle.std.proofs.Common.{All, refl, ap}
-use Rattle.std.proofs.Common.{◌∙◌, arith, subst, inl, inr, length-take}
+use Rattle.std.proofs.Common.{arith, subst, inl, inr, length-take}
 use Rattle.std.proofs.lemmas.Bool.Decides.{nat_tests}
 use Rattle.std.proofs.lemmas.List.{length-map, drop-map}
 use Rattle.std.proofs.lemmas.List.Elements.{All-from_recursion}
@@ -12,14 +12,13 @@ use Rattle.xc_input.specs.declared.problem.Bounds.{Bounds}
 use Rattle.xc_input.specs.declared.problem.Item.{Item}
 use Rattle.xc_input.specs.declared.problem.Use.{Use}
 use Rattle.xc_input.specs.ItemBounds.{bounds_of, secondary_bounds}
-use Rattle.xc_input.specs.Tokens.{parts, is_bar}
+use Rattle.xc_input.specs.Tokens.{is_bar}
 use Rattle.xc_input.specs.Sheets.{Entry}
 use Rattle.xc_input.specs.Text.{IsEntry}
-use Rattle.xc_input.specs.inner.Sheets.{Sheet, names_of}
+use Rattle.xc_input.specs.inner.Sheets.{names_of}
 use Rattle.xc_input.specs.inner.Vectors.{IsOptional}
 use Rattle.xc_input.specs.inner.Builders.{entry_of}
-use Rattle.xc_input.proofs.GrammarLemmas.SheetGrammar.{AreItems, IsSheetFrom, named_of}
-use Rattle.xc_input.proofs.ValidLemmas.SheetValidity.{IsSheetOf}
+use Rattle.xc_input.proofs.GrammarLemmas.SheetGrammar.{AreItems, named_of}
 use Rattle.xc_input.proofs.ValidLemmas.ValidTexts.{each-zip}
 use Rattle.xc_input.proofs.lists.EachElement.{each_of_all}
 
@@ -49,24 +48,14 @@ pub named-is : (items : List Item) (primary : ℕ) (options : List (List Use)) (
 named-is items primary options colours = grind (arith, nat_tests, item-names, item-bounds, length-map)
 
 -- THE ITEM LINE
-item_line-of : (kind : Kind) (n : ℕ) (lines : List (List ℕ)) (sheet : Sheet) (ignored : List ℕ)
-    → IsSheetFrom kind n lines sheet ignored
-    → (line : List ℕ) × AreItems kind (parts line) sheet.entries sheet.primaries
-item_line-of kind n [] sheet ignored h = absurd h
-item_line-of kind n (line ∷ lines) sheet ignored (z, inl (f, r)) = item_line-of kind (n + 1) lines sheet ignored r
-item_line-of kind n (line ∷ lines) sheet ignored (z, inr (f, items, r)) = (line, items)
-
-pub primaries-within : (kind : Kind) (lines : List (List ℕ)) (sheet : Sheet) (ignored : List ℕ)
-    → IsSheetOf kind lines sheet ignored → sheet.primaries ≤ length sheet.entries
-primaries-within kind lines sheet ignored h =
-    let r = item_line-of kind 0 lines sheet ignored h in
-    omega (
-      arith,
-      r.1.count,
-      AllZip-long (IsEntry kind false) (before_first is_bar (parts r.0))
-          (take sheet.primaries sheet.entries) r.1.primary,
-      length-take sheet.primaries sheet.entries,
-    )
+pub primaries-within : (kind : Kind) (ps : List (List ℕ)) (es : List Entry) (n : ℕ) → AreItems kind ps es n
+    → n ≤ length es
+primaries-within kind ps es n h = omega (
+  arith,
+  h.count,
+  AllZip-long (IsEntry kind false) (before_first is_bar ps) (take n es) h.primary,
+  length-take n es,
+)
 
 -- the elements of a list whose images these are
 each-of : {X Y : Type 0} (P : Y → Type 0) (f : X → Y) (xs : List X) → AllByRecursion P (map f xs)
@@ -79,12 +68,9 @@ optional kind token e (n, inl h) = λ i. record { low = h.1 i; high = h.2 i }
 optional kind token e (n, inr h) = let f : true ≡ false = h.2 in absurd (cc)
 
 -- the items behind the primary ones
-pub behind-bounds : (kind : Kind) (lines : List (List ℕ)) (sheet : Sheet) (ignored : List ℕ) (items : List Item)
-    → IsSheetOf kind lines sheet ignored → sheet.entries ≡ map entry_of items
-    → All IsOptional (drop sheet.primaries items)
-behind-bounds kind lines sheet ignored items h e =
-    let r = item_line-of kind 0 lines sheet ignored h in
-    let behind = each-zip (IsEntry kind true) (λ t. Unit {0}) _ (λ t e u. optional kind t e)
-    (after_first is_bar (parts r.0)) (drop sheet.primaries sheet.entries) (each_of_all _ _ (λ t. tt)) r.1.secondary in
-    All-from_recursion IsOptional (drop sheet.primaries items) (each-of _ entry_of (drop sheet.primaries items)
-    (subst (AllByRecursion _) (ap (drop sheet.primaries) e ∙ drop-map entry_of sheet.primaries items) behind))
+pub behind-bounds : (kind : Kind) (ps : List (List ℕ)) (items : List Item) (n : ℕ)
+    → AreItems kind ps (map entry_of items) n → All IsOptional (drop n items)
+behind-bounds kind ps items n h = All-from_recursion IsOptional (drop n items) (each-of _ entry_of (drop n items)
+    (subst (AllByRecursion _) (drop-map entry_of n items) (each-zip (IsEntry kind true) (λ t. Unit {0}) _
+    (λ t e u. optional kind t e) (after_first is_bar ps) (drop n (map entry_of items)) (each_of_all _ _ (λ t. tt))
+    h.secondary)))

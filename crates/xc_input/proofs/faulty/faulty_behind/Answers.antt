@@ -3,8 +3,9 @@ use Rattle.xc_input.specs.Tokens.{parts}
 use Rattle.xc_input.specs.Faults.{first, part_checks}
 use Rattle.xc_input.specs.inner.Stages.{Row}
 use Rattle.xc_input.specs.inner.Builders.{row_of_line}
-use Rattle.xc_input.proofs.FaultyLemmas.{IsRowOf, read-start, read-stands, read-on, read-stop, read-end, row-checks}
-use Rattle.xc_input.proofs.FaultyLemmas.{row-more}
+use Rattle.xc_input.proofs.FaultyLemmas.{read-start, read-stands, read-on, read-stop, read-end}
+use Rattle.xc_input.proofs.FaultLemmas.FirstFaults.{IsRowOf, row-checks}
+use Rattle.xc_input.proofs.FaultLemmas.FirstFaults.{row-more}
 use Rattle.xc_input.proofs.TokenLemmas.Unbroken.{part-solid}
 use Rattle.xc_input.proofs.faulty.faulty_behind.Goals as goal
 

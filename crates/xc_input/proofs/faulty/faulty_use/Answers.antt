@@ -1,5 +1,5 @@
 use Rattle.std.proofs.lemmas.List.{length-map}
-use Rattle.std.proofs.Common.{◌≡◌, [], None, Some, length, unwrap_or, refl, sym, ap, ◌∙◌, subst}
+use Rattle.std.proofs.Common.{◌≡◌, [], None, Some, length, unwrap_or, sym, ap, ◌∙◌, subst}
 use Rattle.xc_input.specs.Tokens.{tokens, parts}
 use Rattle.xc_input.specs.Faults.{first, checks_of_each, part_checks, token_checks, Context, context_of}
 use Rattle.xc_input.specs.FaultyTokens.{IsAtFault, IsFaulty}
@@ -9,7 +9,7 @@ use Rattle.xc_input.specs.inner.Stored.{key_names}
 use Rattle.xc_input.specs.inner.Builders.{entry_of}
 use Rattle.xc_input.proofs.FaultLemmas.Checks.{items-length}
 use Rattle.xc_input.proofs.FaultyLemmas.{keys-length, tells-same}
-use Rattle.xc_input.proofs.FaultLemmas.FirstFaults.{parts-checked, context-is}
+use Rattle.xc_input.proofs.FaultLemmas.FirstFaults.{parts-checked, context-is, no-row}
 use Rattle.xc_input.proofs.GrammarLemmas.LawLemmas.{P}
 use Rattle.xc_input.proofs.faulty.faulty_use.Goals as goal
 
@@ -20,7 +20,7 @@ returns-in-Err-Fault c = λ t h.
     let bad : first (row_checks kind no_row ps) ≡ Some c.in-Err-Fault.field-0-0 =
     rw c.in-Err-Fault.field-0-is at c.in-Err-Fault.ensures.judged in
     let none : first (row_checks kind no_row ps) ≡ None =
-    ap first (parts-checked kind [] None [] ps refl refl) ∙ h.0 in
+    ap first (parts-checked kind no_row [] ps (no-row kind)) ∙ h.0 in
     cc
 
 pub faulty_among-requires-clause-marks : goal.faulty_among-requires-clause-marks
@@ -38,7 +38,7 @@ returns c =
     let primary = c.unwrap_or-primary.result in
     let none : first (row_checks kind no_row ps) ≡ None = c.in-Ok.ensures.judged in
     let faultless : first (checks_of_each (part_checks kind) [] ps) ≡ None =
-    ap first (sym (parts-checked kind [] None [] ps refl refl)) ∙ none in
+    ap first (sym (parts-checked kind no_row [] ps (no-row kind))) ∙ none in
     let are : names_of (row_of kind no_row ps).entries ≡ names =
     ap (λ (r : Row). names_of r.entries) (sym c.in-Ok.ensures.row.1) ∙ sym c.in-Ok.ensures.row.0.0 in
     let many : P (row_of kind no_row ps) ≡ primary = ap P (sym c.in-Ok.ensures.row.1)
