@@ -1,5 +1,4 @@
 -- What was read is valid: for `read_problem` and `Problem`.
 pub mod ValidTexts
-pub mod SheetValidity
 pub mod SoundSheets
 pub mod Known

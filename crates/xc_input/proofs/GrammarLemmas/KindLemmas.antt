@@ -40,7 +40,8 @@ module _ (a b : Kind) (bounds : is_bounds a ≡ true → is_bounds b ≡ true)
       (use-also names primaries t u h.0, uses-also names primaries ts us h.1)
 
   lines-also : (names : List (List ℕ)) (primaries : ℕ) (ls : List (ℕ × List ℕ)) (ws : List (ℕ × List Written))
-      → AllZip (IsOptionLine (context a names primaries)) ls ws → AllZip (IsOptionLine (context b names primaries)) ls ws
+      → AllZip (IsOptionLine (context a names primaries)) ls ws
+      → AllZip (IsOptionLine (context b names primaries)) ls ws
   lines-also names primaries [] [] h = h
   lines-also names primaries [] (w ∷ ws) h = absurd h
   lines-also names primaries (l ∷ ls) [] h = absurd h

@@ -38,7 +38,7 @@ use Rattle.xc_input.specs.Limits.{most_uses}
 use Rattle.xc_input.specs.FirstFault.{line_number}
 use Rattle.xc_input.specs.Named.{IsName, IsColour}
 use Rattle.xc_input.specs.Text.{IsUse}
-use Rattle.xc_input.proofs.ValidLemmas.SheetValidity.{numbered-length}
+use Rattle.xc_input.proofs.OptionLemmas.Colours.{numbered-length}
 use Rattle.std.proofs.Math.Bool.{and-false}
 use Rattle.xc_input.proofs.FaultLemmas.FirstChecks.{test, fails, first-all, split}
 use Rattle.xc_input.proofs.FaultLemmas.Checks.{some-is, names_of-snoc, names_of-length}

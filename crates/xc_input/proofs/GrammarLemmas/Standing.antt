@@ -92,7 +92,8 @@ clear-stands kind lines item rest z e h =
     let many : length (bounds_in (take s.primaries s.entries)) ≡ s.primaries =
     length-map (take s.primaries s.entries) _ ∙ AllZip-long (IsEntry kind false) (before_first is_bar (parts item.1))
     (take s.primaries s.entries) items.primary ∙ sym items.count in
-    let options : HaveOptions (said kind s) rest (named_of (with_kept s (kept_in s rest))) (ignored_in s rest) = record {
+    let all : Sheet = with_kept s (kept_in s rest) in
+    let options : HaveOptions (said kind s) rest (named_of all) (ignored_in s rest) = record {
       options = written_in s rest;
       stand = good-lines kind s rest h.1.tokens;
       others = refl;
@@ -108,9 +109,9 @@ clear-stands kind lines item rest z e h =
         item_line = item;
         option_lines = rest;
         content = e;
-        items = have-items kind (parts item.1) (with_kept s (kept_in s rest)) items;
-        options = subst (λ n. HaveOptions (context kind (names_of s.entries) n) rest
-            (named_of (with_kept s (kept_in s rest))) (ignored_in s rest)) (sym many) options;
+        items = have-items kind (parts item.1) all items;
+        options = subst (λ n. HaveOptions (context kind (names_of s.entries) n) rest (named_of all) (ignored_in s rest))
+            (sym many) options;
       },
     )
 

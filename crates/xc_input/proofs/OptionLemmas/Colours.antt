@@ -6,6 +6,7 @@ use Rattle.std.proofs.Common.{sym, ap, ◌∙◌, length-append, arith, if◌the
 use Rattle.xc_input.specs.declared.problem.Use.{Use}
 use Rattle.std.proofs.lemmas.Bool.Decides.{nat_tests}
 use Rattle.std.proofs.lemmas.Slice.Eq.{bytes_eq-Decides}
+use Rattle.std.proofs.lemmas.List.{length-map}
 use Rattle.std.proofs.Math.Seq.{take-append_seam}
 use Rattle.std.specs.List.{list_any, position, position_or_len}
 use Rattle.std.specs.Str.{bytes_eq}
@@ -102,6 +103,11 @@ pub primary-numbered : (primary : ℕ) (cs : List (List ℕ)) (us : List Written
     → list_any (λ u. nat_le u.item primary) (number_uses cs us) ≡ has_primary primary us
 primary-numbered primary cs [] = refl
 primary-numbered primary cs (u ∷ us) = ap (λ t. nat_le u.item primary || t) (primary-numbered primary cs us)
+
+-- an option keeps its number of uses
+pub numbered-length : (colours : List (List ℕ)) (us : List Written) → length (numbered colours us) ≡ length us
+numbered-length colours us =
+    length-map us (λ u. record { item = u.item; colour = colour_number (with_uses colours us) u.colour })
 
 -- uses of an option that is kept, each numbered as soon as it is met, behind options that used these colours
 abbrev pub numbered_in_turn : List (List ℕ) → List Written → List Use

@@ -1,7 +1,7 @@
 -- Steps of a draft.
 use Rattle.std.proofs.Common.{◌≡◌, ℕ, ◌+◌, ◌-◌, ◌<◌, ◌≤◌, List, [], ◌∷◌, ◌++◌, None, Some, Bool, true, false}
 use Rattle.std.proofs.Common.{nat_le, nat_lt, length, map, take, drop, ap, ◌∙◌, sym, subst}
-use Rattle.std.proofs.Common.{arith, if◌then◌else◌, Vec, Global, length-append}
+use Rattle.std.proofs.Common.{arith, Vec, Global, length-append}
 use Rattle.std.proofs.Math.Seq.{take-append_seam, drop-append_seam}
 use Rattle.xc_input.proofs.OptionLemmas.Colours.{last-position, first_met, primary-numbered}
 use Rattle.xc_input.specs.inner.ColourNumbers.{numbered}
@@ -10,6 +10,7 @@ use Rattle.std.proofs.lemmas.Slice.Eq.{bytes_eq-Decides}
 use Rattle.std.specs.Str.{bytes_eq}
 use Rattle.xc_input.specs.Problem.{use_count}
 use Rattle.xc_input.specs.declared.kind.Kind.{Kind}
+use Rattle.xc_input.specs.declared.fault.FaultKind.{FaultKind}
 use Rattle.xc_input.specs.declared.fault.FaultKind.TheVariants.{TooManyUses}
 use Rattle.xc_input.specs.declared.problem.Use.{Use}
 use Rattle.xc_input.specs.declared.builder.ProblemBuilder.{ProblemBuilder}
@@ -17,24 +18,21 @@ use Rattle.xc_input.specs.Words.{place}
 use Rattle.xc_input.specs.Tokens.{tokens}
 use Rattle.std.specs.List.{list_any}
 use Rattle.xc_input.specs.Sheets.{Written, colour_number}
-use Rattle.xc_input.specs.inner.Sheets.{names_of, with_uses}
+use Rattle.xc_input.specs.inner.Sheets.{with_uses}
 use Rattle.xc_input.specs.Faults.{first, has_primary}
 use Rattle.xc_input.specs.inner.Stages.{option_checks, context, written, content_checks}
 use Rattle.xc_input.specs.inner.Stages.{with_option, written_by}
-use Rattle.xc_input.specs.Limits.{most_uses, most_items}
-use Rattle.xc_input.specs.inner.Builders.{AreMarks, AreDistinct, AreNames, IsBuilder, stage_of_builder}
-use Rattle.xc_input.specs.inner.Builders.{sheet_of_builder, entry_of}
+use Rattle.xc_input.specs.Limits.{most_uses}
+use Rattle.xc_input.specs.inner.Builders.{AreMarks, AreDistinct, IsBuilder, stage_of_builder}
+use Rattle.xc_input.specs.inner.Builders.{sheet_of_builder}
 use Rattle.xc_input.specs.inner.Stored.{key_names}
-use Rattle.xc_input.specs.inner.GuessedWords.{AreWords}
 use Rattle.xc_input.specs.inner.Flat.{pieces}
-use Rattle.xc_input.specs.inner.Vectors.{AreOptionStarts}
 use Rattle.std.proofs.lemmas.List.{length-map, take-map, take_rest}
-use Rattle.xc_input.proofs.ValidLemmas.SheetValidity.{numbered-length}
+use Rattle.xc_input.proofs.OptionLemmas.Colours.{numbered-length}
 use Rattle.xc_input.proofs.OptionLemmas.FlatParts.{option-more, all-uses}
 use Rattle.xc_input.proofs.FaultLemmas.FirstChecks.{first-back}
 use Rattle.xc_input.specs.inner.Stages.{whole_checks}
 use Rattle.std.proofs.Math.Bool.{and-false}
-use Rattle.xc_input.proofs.FaultLemmas.Checks.{names_of-length}
 
 -- the number of a colour that was added last
 pub new-number : (old new : List (List ℕ)) (colour : List ℕ) (n : ℕ) → 0 < length colour → place old colour ≡ None
@@ -42,26 +40,6 @@ pub new-number : (old new : List (List ℕ)) (colour : List ℕ) (n : ℕ) → 0
 new-number old new [] n h e f g = absurd (omega arith)
 new-number old new (b ∷ bs) n h e f g =
     grind (arith, nat_tests, last-position (bytes_eq (b ∷ bs)) old (b ∷ bs) e, bytes_eq-Decides (b ∷ bs) (b ∷ bs))
-
-pub keys-count : (d : ProblemBuilder) → IsBuilder d → length d.marks.items ≡ length d.names.keys
-keys-count d s =
-    let a : length (key_names d.names.keys) ≡ length d.names.keys =
-    length-map d.names.keys (λ (v : Vec ℕ Global). v.items) in
-    let b : length (key_names d.names.keys) ≡ length (names_of (map entry_of d.items.items)) = ap length s.names in
-    let e : length (names_of (map entry_of d.items.items)) ≡ length (map entry_of d.items.items) =
-    names_of-length (map entry_of d.items.items) in
-    let g : length (map entry_of d.items.items) ≡ length d.items.items = length-map d.items.items entry_of in
-    let m : length d.marks.items ≡ length d.items.items = s.marks in omega arith
-
-pub keys-few : (d : ProblemBuilder) → IsBuilder d → length d.names.keys ≤ most_items
-keys-few d s =
-    let a : length (key_names d.names.keys) ≡ length d.names.keys =
-    length-map d.names.keys (λ (v : Vec ℕ Global). v.items) in
-    let b : length (key_names d.names.keys) ≡ length (names_of (map entry_of d.items.items)) = ap length s.names in
-    let e : length (names_of (map entry_of d.items.items)) ≡ length (map entry_of d.items.items) =
-    names_of-length (map entry_of d.items.items) in
-    let g : length (map entry_of d.items.items) ≡ length d.items.items = length-map d.items.items entry_of in
-    let m : length d.items.items ≤ most_items = s.few_items in omega arith
 
 pub uses-length : (old new : List Use) (cs : List (List ℕ)) (us : List Written) → new ≡ old ++ numbered cs us
     → length new ≡ length old + length us
@@ -90,34 +68,35 @@ colours-before old new left us n e f g =
     ∙ first_met (key_names old) us
 
 module _ (kind : Kind) (d : ProblemBuilder) (line : List ℕ) (s : IsBuilder d) (t : d.started ≡ true) where
-  uses-counted : use_count (pieces d.starts.items d.uses.items) ≡ length d.uses.items
-  uses-counted = all-uses d.starts.items d.uses.items (s.starts t)
+  abbrev us : List Written
+  us = map (written (key_names d.names.keys)) (tokens line)
+
+  abbrev checks : List (FaultKind × Bool)
+  checks = option_checks (context kind (key_names d.names.keys) d.primary) [] (tokens line)
 
   -- the checks of the tokens, and then that of the whole line
   pub content-is : first (content_checks kind (stage_of_builder d) line)
-      ≡ first (option_checks (context kind (key_names d.names.keys) d.primary) [] (tokens line)
-      ++ whole_checks (sheet_of_builder d) line)
+      ≡ first (checks ++ whole_checks (sheet_of_builder d) line)
   content-is = rw (t, s.names)
 
-  module _ (us : List Written) (are : us ≡ map (written (key_names d.names.keys)) (tokens line)) where
-    pub by-parts : written_by (sheet_of_builder d) line ≡ us
-    by-parts = ap (λ ns. map (written ns) (tokens line)) (sym s.names) ∙ sym are
+  by-parts : written_by (sheet_of_builder d) line ≡ us
+  by-parts = ap (λ ns. map (written ns) (tokens line)) (sym s.names)
 
-    module _ (ok : first (option_checks (context kind (key_names d.names.keys) d.primary) [] (tokens line)) ≡ None)
-        (b : Bool) (p : b ≡ has_primary d.primary us) where
+  module _ (b : Bool) (p : b ≡ has_primary d.primary us) where
+    kept : has_primary d.primary (written_by (sheet_of_builder d) line) ≡ b
+    kept = ap (has_primary d.primary) by-parts ∙ sym p
+
+    module _ (ok : first checks ≡ None) where
       whole-line : first (content_checks kind (stage_of_builder d) line)
           ≡ first (whole_checks (sheet_of_builder d) line)
-      whole-line =
-          content-is ∙ first-back (option_checks (context kind (key_names d.names.keys) d.primary) [] (tokens line))
-          (whole_checks (sheet_of_builder d) line) ok
-
-      kept : has_primary d.primary (written_by (sheet_of_builder d) line) ≡ b
-      kept = ap (has_primary d.primary) by-parts ∙ sym p
+      whole-line = content-is ∙ first-back checks (whole_checks (sheet_of_builder d) line) ok
 
       count : use_count (pieces d.starts.items d.uses.items) + length (tokens line) ≡ length d.uses.items + length us
-      count =
-          λ i. uses-counted i + (sym (length-map (tokens line) (written (key_names d.names.keys)))
-          ∙ ap length (sym are)) i
+      count = omega (
+        arith,
+        all-uses d.starts.items d.uses.items (s.starts t),
+        length-map (tokens line) (written (key_names d.names.keys)),
+      )
 
       pub no-primary : b ≡ false → first (content_checks kind (stage_of_builder d) line) ≡ None
       no-primary e = whole-line ∙ rw (kept, e)
@@ -134,136 +113,82 @@ module _ (kind : Kind) (d : ProblemBuilder) (line : List ℕ) (s : IsBuilder d) 
           let z : nat_lt most_uses (length d.uses.items + length us) ≡ false = grind (arith, nat_tests) in
           whole-line ∙ rw (kept, count, z, and-false b)
 
-    module _ (b : Bool) (p : b ≡ has_primary d.primary us) (e : b ≡ true) (count : ℕ) (d' : ProblemBuilder)
-        (same : (d'.started ≡ d.started) × (d'.names ≡ d.names) × (d'.items ≡ d.items) × (d'.primary ≡ d.primary)
-        × (d'.ignored ≡ d.ignored))
-        (words : AreWords (key_names d'.names.keys) d'.guesses.words.items)
-        (uses : d'.uses.items ≡ d.uses.items ++ numbered (key_names d.colours.keys) us)
-        (colours : key_names d'.colours.keys ≡ with_uses (key_names d.colours.keys) us)
-        (marks : length d'.marks.items ≡ length d'.items.items) (unmarked : AreMarks d'.marks.items [])
-        (few : length (key_names d'.colours.keys) ≤ length d'.uses.items)
-        (distinct : AreDistinct (key_names d'.colours.keys))
-        (starts : d'.starts.items ≡ d.starts.items ++ length d'.uses.items ∷ [])
-        (room : length d.uses.items + length us ≤ most_uses) where
-      new-length : length d'.uses.items ≡ length d.uses.items + length us
-      new-length = uses-length d.uses.items d'.uses.items (key_names d.colours.keys) us uses
+    -- the line of this number was taken
+    abbrev IsTaken : ℕ → ProblemBuilder → Type 0
+    IsTaken count d' = IsBuilder d'
+        × (stage_of_builder d' ≡ with_option count (stage_of_builder d) (written_by (sheet_of_builder d) line))
 
-      cut : AreOptionStarts (d.starts.items ++ length d'.uses.items ∷ [])
-          (d.uses.items ++ numbered (key_names d.colours.keys) us)
-          × (pieces (d.starts.items ++ length d'.uses.items ∷ [])
-          (d.uses.items ++ numbered (key_names d.colours.keys) us) ≡ pieces d.starts.items d.uses.items ++ numbered
-          (key_names d.colours.keys) us ∷ [])
-      cut =
-          let f : length (numbered (key_names d.colours.keys) us) ≡ length us =
-          numbered-length (key_names d.colours.keys) us in
-          option-more d.starts.items d.uses.items (numbered (key_names d.colours.keys) us) (length d'.uses.items)
-          (s.starts t) (let n : length d'.uses.items ≡ length d.uses.items + length us = new-length in omega arith)
+    module _ (count : ℕ) (d' : ProblemBuilder) (marks : length d'.marks.items ≡ length d.items.items)
+        (unmarked : AreMarks d'.marks.items []) where
+      pub taken : b ≡ true
+          → d' ≡ record d {
+            marks = d'.marks;
+            colours = d'.colours;
+            colour_guesses = d'.colour_guesses;
+            uses = d'.uses;
+            starts = d'.starts;
+          }
+          → d'.uses.items ≡ d.uses.items ++ numbered (key_names d.colours.keys) us
+          → key_names d'.colours.keys ≡ with_uses (key_names d.colours.keys) us
+          → length (key_names d'.colours.keys) ≤ length d'.uses.items → AreDistinct (key_names d'.colours.keys)
+          → d'.starts.items ≡ d.starts.items ++ length d'.uses.items ∷ []
+          → length d.uses.items + length us ≤ most_uses → IsTaken count d'
+      taken e same uses colours few distinct starts room =
+          let cs = key_names d.colours.keys in
+          let cut = option-more d.starts.items d.uses.items (numbered cs us) (length (d.uses.items ++ numbered cs us))
+          (s.starts t) (length-append d.uses.items (numbered cs us)) in
+          let options : pieces d'.starts.items d'.uses.items ≡ pieces d.starts.items d.uses.items
+          ++ numbered cs (written_by (sheet_of_builder d) line) ∷ [] = rw (starts, uses, by-parts) cut.1 in
+          let known = colours ∙ ap (with_uses cs) (sym by-parts) in
+          subst (IsTaken count) (sym same) (
+            record {
+              names = s.names;
+              named = s.named;
+              few_items = s.few_items;
+              starts = λ _. rw (starts, uses) cut.0;
+              unstarted = λ f. absurd (cc);
+              few_uses = omega (arith, room, uses-length d.uses.items d'.uses.items cs us uses);
+              marks = marks;
+              unmarked = unmarked;
+              few_colours = few;
+              distinct_colours = distinct;
+              words = s.words;
+            },
+            rw (kept, e) (λ i. record {
+              started = t i;
+              sheet = record (sheet_of_builder d) { options = options i; colours = known i };
+              ignored = d.ignored.items;
+            }),
+          )
 
-      pub taken : IsBuilder d'
-          × (stage_of_builder d' ≡ with_option count (stage_of_builder d) (written_by (sheet_of_builder d) line))
-      taken = (
-        record {
-          names =
-              subst (λ k. key_names k.keys ≡ names_of (map entry_of d'.items.items)) (sym same.1)
-              (subst (λ k. key_names d.names.keys ≡ names_of (map entry_of k.items)) (sym same.2) s.names);
-          named = subst (λ k. AreNames (key_names k.keys)) (sym same.1) s.named;
-          few_items = subst (λ k. length k.items ≤ most_items) (sym same.2) s.few_items;
-          starts =
-              λ _. subst (λ xs. AreOptionStarts xs d'.uses.items) (sym starts)
-              (subst (AreOptionStarts (d.starts.items ++ length d'.uses.items ∷ [])) (sym uses) cut.0);
-          unstarted = λ e. absurd (let f : d'.started ≡ true = same.0 ∙ t in cc);
-          few_uses = let n : length d'.uses.items ≡ length d.uses.items + length us = new-length in omega arith;
-          marks = marks;
-          unmarked = unmarked;
-          few_colours = few;
-          distinct_colours = distinct;
-          words = words;
-        },
-        (λ i. record {
-          started = (same.0 ∙ t) i;
-          sheet = record {
-            entries = map entry_of (same.2 i).items;
-            primaries = same.3 i;
-            options = ((λ j. pieces (starts j) (uses j)) ∙ cut.1) i;
-            colours = colours i;
-          };
-          ignored = (same.4 i).items;
-        })
-            ∙ ap (λ vs. record {
-              started = true;
-              sheet = record {
-                entries = map entry_of d.items.items;
-                primaries = d.primary;
-                options = pieces d.starts.items d.uses.items ++ numbered (key_names d.colours.keys) vs ∷ [];
-                colours = with_uses (key_names d.colours.keys) vs;
-              };
-              ignored = d.ignored.items;
-            }) (sym by-parts)
-            ∙ sym (ap (λ c. if c then record {
-              started = true;
-              sheet = record {
-                entries = map entry_of d.items.items;
-                primaries = d.primary;
-                options =
-                    pieces d.starts.items d.uses.items ++ numbered (key_names d.colours.keys)
-                    (written_by (sheet_of_builder d) line) ∷ [];
-                colours = with_uses (key_names d.colours.keys) (written_by (sheet_of_builder d) line);
-              };
-              ignored = d.ignored.items;
-            } else record { started = true; sheet = sheet_of_builder d; ignored = d.ignored.items ++ count ∷ [] })
-            (ap (has_primary d.primary) by-parts ∙ sym p ∙ e)),
-      )
-
-    module _ (b : Bool) (p : b ≡ has_primary d.primary us) (e : b ≡ false) (count : ℕ) (d' : ProblemBuilder)
-        (same : (d'.started ≡ d.started) × (d'.names ≡ d.names) × (d'.items ≡ d.items) × (d'.primary ≡ d.primary)
-        × (d'.starts ≡ d.starts))
-        (words : AreWords (key_names d'.names.keys) d'.guesses.words.items)
-        (uses : d'.uses.items ≡ d.uses.items) (colours : key_names d'.colours.keys ≡ key_names d.colours.keys)
-        (marks : length d'.marks.items ≡ length d'.items.items) (unmarked : AreMarks d'.marks.items [])
-        (ignored : d'.ignored.items ≡ d.ignored.items ++ count ∷ []) where
-      pub left-out : IsBuilder d'
-          × (stage_of_builder d' ≡ with_option count (stage_of_builder d) (written_by (sheet_of_builder d) line))
-      left-out = (
-        record {
-          names =
-              subst (λ k. key_names k.keys ≡ names_of (map entry_of d'.items.items)) (sym same.1)
-              (subst (λ k. key_names d.names.keys ≡ names_of (map entry_of k.items)) (sym same.2) s.names);
-          named = subst (λ k. AreNames (key_names k.keys)) (sym same.1) s.named;
-          few_items = subst (λ k. length k.items ≤ most_items) (sym same.2) s.few_items;
-          starts =
-              λ _. subst (λ xs. AreOptionStarts xs.items d'.uses.items) (sym same.4)
-              (subst (AreOptionStarts d.starts.items) (sym uses) (s.starts t));
-          unstarted = λ g. absurd (let f : d'.started ≡ true = same.0 ∙ t in cc);
-          few_uses = subst (λ xs. length xs ≤ most_uses) (sym uses) s.few_uses;
-          marks = marks;
-          unmarked = unmarked;
-          few_colours =
-              subst (λ xs. length (key_names d'.colours.keys) ≤ length xs) (sym uses)
-              (subst (λ cs. length cs ≤ length d.uses.items) (sym colours) s.few_colours);
-          distinct_colours = subst AreDistinct (sym colours) s.distinct_colours;
-          words = words;
-        },
-        (λ i. record {
-          started = (same.0 ∙ t) i;
-          sheet = record {
-            entries = map entry_of (same.2 i).items;
-            primaries = same.3 i;
-            options = pieces (same.4 i).items (uses i);
-            colours = colours i;
-          };
-          ignored = ignored i;
-        })
-            ∙ sym (ap (λ c. if c then record {
-              started = true;
-              sheet = record {
-                entries = map entry_of d.items.items;
-                primaries = d.primary;
-                options =
-                    pieces d.starts.items d.uses.items ++ numbered (key_names d.colours.keys)
-                    (written_by (sheet_of_builder d) line) ∷ [];
-                colours = with_uses (key_names d.colours.keys) (written_by (sheet_of_builder d) line);
-              };
-              ignored = d.ignored.items;
-            } else record { started = true; sheet = sheet_of_builder d; ignored = d.ignored.items ++ count ∷ [] })
-            (ap (has_primary d.primary) by-parts ∙ sym p ∙ e)),
-      )
+      pub left-out : b ≡ false
+          → d' ≡ record d {
+            marks = d'.marks;
+            colours = d'.colours;
+            colour_guesses = d'.colour_guesses;
+            uses = d'.uses;
+            ignored = d'.ignored;
+          }
+          → d'.uses.items ≡ d.uses.items → key_names d'.colours.keys ≡ key_names d.colours.keys
+          → d'.ignored.items ≡ d.ignored.items ++ count ∷ [] → IsTaken count d'
+      left-out e same uses colours ignored =
+          subst (IsTaken count) (sym same) (
+            record {
+              names = s.names;
+              named = s.named;
+              few_items = s.few_items;
+              starts = λ _. rw uses (s.starts t);
+              unstarted = λ f. absurd (cc);
+              few_uses = rw uses s.few_uses;
+              marks = marks;
+              unmarked = unmarked;
+              few_colours = rw (uses, colours) s.few_colours;
+              distinct_colours = rw colours s.distinct_colours;
+              words = s.words;
+            },
+            rw (kept, e) (λ i. record {
+              started = t i;
+              sheet = record (sheet_of_builder d) { options = pieces d.starts.items (uses i); colours = colours i };
+              ignored = ignored i;
+            }),
+          )

@@ -18,11 +18,15 @@ use Rattle.xc_input.specs.Sheets.{Entry}
 use Rattle.xc_input.specs.inner.Sheets.{names_of}
 use Rattle.xc_input.specs.Text.{IsEntry}
 use Rattle.xc_input.proofs.GrammarLemmas.SheetGrammar.{AreItems}
-use Rattle.xc_input.proofs.ValidLemmas.SheetValidity.{AllNew}
 use Rattle.xc_input.proofs.FaultLemmas.Checks.{no-place}
 use Rattle.std.proofs.lemmas.Bool.{or_parts}
 use Rattle.xc_input.proofs.TokenLemmas.TableNames.{apart}
 use Rattle.xc_input.proofs.TokenLemmas.Separators.{BAR}
+
+-- each is another than those before
+abbrev AllNew : List (List ℕ) → List (List ℕ) → Type 0
+AllNew earlier [] = Unit {0}
+AllNew earlier (x ∷ xs) = (place earlier x ≡ None) × AllNew (earlier ++ x ∷ []) xs
 
 -- parts of the item line, behind items of these names and perhaps a bar with so many before it, stand for these items,
 -- of which so many are primary

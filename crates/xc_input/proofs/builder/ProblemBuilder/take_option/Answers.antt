@@ -63,40 +63,39 @@ count c =
 pub returns-then-not-has_primary_use-clause-judged : goal.returns-then-not-has_primary_use-clause-judged
 returns-then-not-has_primary_use-clause-judged c =
     let h = (goal.at.returns-then-not-has_primary_use-clause-judged c).After-has_primary_use in
-    no-primary c.args.kind c.args.self.now c.args.line.now c.requires.sound c.requires.started (us h) refl
-    c.in_ok-option_line.ensures.judged c.has_primary_use.result (primary h) c.if-not-has_primary_use.true
+    no-primary c.args.kind c.args.self.now c.args.line.now c.requires.sound c.requires.started
+    c.has_primary_use.result (primary h) c.in_ok-option_line.ensures.judged c.if-not-has_primary_use.true
 
 pub returns-then-not-has_primary_use-clause-taken : goal.returns-then-not-has_primary_use-clause-taken
 returns-then-not-has_primary_use-clause-taken c =
     let h = (goal.at.returns-then-not-has_primary_use-clause-taken c).After-has_primary_use in
     let o = (goal.at.returns-then-not-has_primary_use-clause-taken c).After-option_line in
     let d = c.args.self.now in
-    left-out c.args.kind d c.args.line.now c.requires.sound c.requires.started (us h) refl c.has_primary_use.result
-    (primary h) c.if-not-has_primary_use.true c.args.count _ (refl, refl, refl, refl, refl)
-    c.requires.sound.words
+    left-out c.args.kind d c.args.line.now c.requires.sound c.requires.started c.has_primary_use.result (primary h)
+    c.args.count _ (all_marks o c.requires.sound)
+    (subst (λ ms. AreMarks ms []) (sym (back o)) c.in_ok-option_line.ensures.unmarked) c.if-not-has_primary_use.true
+    refl
     (uses-before d.uses.items c.option_line.new.uses.items c.truncate.new.self.items (key_names d.colours.keys) (us h)
     c.len-start.result c.truncate.ensures.items (c.len-start.ensures ∙ items-length d.uses)
     c.in_ok-option_line.ensures.uses)
     (colours-before d.colours.keys c.option_line.new.colours.keys c.truncate-then-not-has_primary_use.new.self.keys
     (us h) c.len-met.result c.truncate-then-not-has_primary_use.ensures.keys c.len-met.ensures.len
     c.in_ok-option_line.ensures.colours)
-    (all_marks o c.requires.sound)
-    (subst (λ ms. AreMarks ms []) (sym (back o)) c.in_ok-option_line.ensures.unmarked)
     (pushed c.push.result d.ignored.items c.push.new.self.items c.args.count (ap is_ok c.in_ok-push.was)
     c.push.ensures.items)
 
 pub returns-then-len-gt-MOST_USES-clause-judged : goal.returns-then-len-gt-MOST_USES-clause-judged
 returns-then-len-gt-MOST_USES-clause-judged c =
     let h = (goal.at.returns-then-len-gt-MOST_USES-clause-judged c).After-has_primary_use in
-    too-long c.args.kind c.args.self.now c.args.line.now c.requires.sound c.requires.started (us h) refl
-    c.in_ok-option_line.ensures.judged c.has_primary_use.result (primary h) c.if-not-has_primary_use.false
+    too-long c.args.kind c.args.self.now c.args.line.now c.requires.sound c.requires.started
+    c.has_primary_use.result (primary h) c.in_ok-option_line.ensures.judged c.if-not-has_primary_use.false
     (omega (arith, count h, c.len.ensures ∙ items-length c.option_line.new.uses, c.if-len-gt-MOST_USES.true))
 
 pub returns-clause-judged : goal.returns-clause-judged
 returns-clause-judged c =
     let h = (goal.at.returns-clause-judged c).After-has_primary_use in
-    fits c.args.kind c.args.self.now c.args.line.now c.requires.sound c.requires.started (us h) refl
-    c.in_ok-option_line.ensures.judged c.has_primary_use.result (primary h)
+    fits c.args.kind c.args.self.now c.args.line.now c.requires.sound c.requires.started
+    c.has_primary_use.result (primary h) c.in_ok-option_line.ensures.judged
     (omega (arith, count h, c.len.ensures ∙ items-length c.option_line.new.uses, c.if-len-gt-MOST_USES.false))
 
 pub returns-clause-taken : goal.returns-clause-taken
@@ -104,13 +103,11 @@ returns-clause-taken c =
     let h = (goal.at.returns-clause-taken c).After-has_primary_use in
     let o = (goal.at.returns-clause-taken c).After-option_line in
     let d = c.args.self.now in
-    taken c.args.kind d c.args.line.now c.requires.sound c.requires.started (us h) refl c.has_primary_use.result
-    (primary h) c.if-not-has_primary_use.false c.args.count _ (refl, refl, refl, refl, refl)
-    c.requires.sound.words
-    c.in_ok-option_line.ensures.uses c.in_ok-option_line.ensures.colours (all_marks o c.requires.sound)
-    (subst (λ ms. AreMarks ms []) (sym (back o)) c.in_ok-option_line.ensures.unmarked)
-    c.in_ok-option_line.ensures.few_colours
-    c.in_ok-option_line.ensures.distinct
+    taken c.args.kind d c.args.line.now c.requires.sound c.requires.started c.has_primary_use.result (primary h)
+    c.args.count _ (all_marks o c.requires.sound)
+    (subst (λ ms. AreMarks ms []) (sym (back o)) c.in_ok-option_line.ensures.unmarked) c.if-not-has_primary_use.false
+    refl c.in_ok-option_line.ensures.uses c.in_ok-option_line.ensures.colours
+    c.in_ok-option_line.ensures.few_colours c.in_ok-option_line.ensures.distinct
     (pushed c.push-2.result d.starts.items c.push-2.new.self.items c.len-2.result (ap is_ok c.in_ok-push-2.was)
     c.push-2.ensures.items
     ∙ ap (λ n. d.starts.items ++ n ∷ []) (c.len-2.ensures ∙ items-length c.option_line.new.uses))
