@@ -31,7 +31,9 @@ use Rattle.xc_input.specs.Named.{Named}
 use Rattle.xc_input.specs.Text.{StandsFor, numbered_content}
 use Rattle.xc_input.proofs.GrammarLemmas.Standing.{clear-stands, stands-clear}
 use Rattle.xc_input.proofs.FaultLemmas.Checks.{names_of-snoc, map-snoc}
-use Rattle.xc_input.proofs.OptionLemmas.Items.{ItemsBehind, behind-items}
+use Rattle.std.specs.List.{before_first}
+use Rattle.std.proofs.lemmas.Slice.Zip.{AllZip-long}
+use Rattle.xc_input.specs.Text.{IsEntry}
 use Rattle.xc_input.proofs.GrammarLemmas.LawLemmas.{fault_from, end_fault, fault_or, said, start, more, S, P, row-good}
 use Rattle.xc_input.proofs.GrammarLemmas.LawLemmas.{by-part, by-line, by-first-line, clear, unskipped, count-next}
 use Rattle.xc_input.proofs.GrammarLemmas.LawLemmas.{stage-behind, stage_by, stage-by, IsClearText, lines-clear}
@@ -130,11 +132,10 @@ row-names kind row before (p ∷ ps) r =
 pub context-is : (kind : Kind) (ps : List (List ℕ)) → first (row_checks kind no_row ps) ≡ None
     → context_of kind ps ≡ context kind (names_of (row_of kind no_row ps).entries) (P (row_of kind no_row ps))
 context-is kind ps e =
-    let row = row_of kind no_row ps in
-    let g = row-good kind [] None ps e in
-    let items = behind-items kind ps (row_of kind no_row ps).entries (P (row_of kind no_row ps))
-    (subst (λ es. ItemsBehind kind [] None ps es (P (row_of kind no_row ps))) (sym g.1) g.2) in
-    λ i. context kind (sym (row-names kind no_row [] ps (no-row kind)) i) (sym items.count i)
+    let items = row-good kind [] ps (omega arith) e in
+    let count : length (before_first is_bar ps) ≡ P (row_of kind no_row ps) =
+    omega (arith, items.count, AllZip-long (IsEntry kind false) (before_first is_bar ps) items.first items.primary) in
+    λ i. context kind (sym (row-names kind no_row [] ps (no-row kind)) i) (count i)
 
 -- CONTENT
 length-snoc : {A : Type 0} (n : ℕ) (xs : List A) (x : A) → n ≡ length xs → n + 1 ≡ length (xs ++ x ∷ [])
@@ -254,7 +255,7 @@ or-none (Some q) p e = absurd (cc)
 -- what a stage says stands for these lines
 abbrev Stands : Kind → List (List ℕ) → Stage → Type 0
 Stands kind lines st =
-    ((line : List ℕ) × AreItems kind (parts line) st.sheet.entries st.sheet.primaries)
+    ((line : List ℕ) × AreItems kind [] (parts line) st.sheet.entries st.sheet.primaries)
     × StandsFor kind lines (named_of st.sheet) st.ignored
 
 -- a text with no fault stands for what its lines give
@@ -280,7 +281,7 @@ faultless-stands kind lines e = (stands kind lines e).1
 
 -- the item line of such a text
 pub faultless-items : (kind : Kind) (lines : List (List ℕ)) → first_fault kind lines ≡ None → (line : List ℕ)
-    × AreItems kind (parts line) (stage_of kind lines).sheet.entries (stage_of kind lines).sheet.primaries
+    × AreItems kind [] (parts line) (stage_of kind lines).sheet.entries (stage_of kind lines).sheet.primaries
 faultless-items kind lines e = (stands kind lines e).0
 
 -- a text that stands for a problem has no fault, and this is what its lines give

@@ -12,7 +12,11 @@ use Rattle.std.proofs.lemmas.List.{length-append}
 use Rattle.xc_input.specs.Faults.{Context}
 use Rattle.xc_input.specs.Sheets.{number_uses, with_colour}
 use Rattle.xc_input.specs.inner.Stages.{written_by}
-use Rattle.xc_input.proofs.OptionLemmas.Items.{ItemsBehind}
+use Rattle.xc_input.proofs.OptionLemmas.Items.{AllNew, before-cons, after-cons, bar-first, word-first, no-bar}
+use Rattle.xc_input.proofs.GrammarLemmas.SheetGrammar.{AreItems, AreOthers}
+use Rattle.xc_input.specs.Limits.{most_items}
+use Rattle.xc_input.specs.Text.{IsEntry}
+use Rattle.std.specs.List.{AllZip, before_first, after_first}
 use Rattle.xc_input.proofs.OptionLemmas.Uses.{UsesBehind}
 use Rattle.std.proofs.lemmas.Bool.Decides.{nat_tests}
 use Rattle.std.proofs.lemmas.List.{append-nil, length-map}
@@ -90,87 +94,139 @@ by-part kind entries bar p Q a b = cases (is_bar p) refl
     cases true f = subst Q (sym (at-bar kind entries bar p f).1) (a f)
     cases false f = subst Q (sym (at-word kind entries bar p f).1) (b f)
 
-abbrev pub IsRead : Kind → List Entry → Option ℕ → List (List ℕ) → Row → Type 0
-IsRead kind entries bar ps row = (es : List Entry) × (row.entries ≡ entries ++ es)
-    × ItemsBehind kind (names_of entries) bar ps es (unwrap_or row.bar (length row.entries))
-
-two-bars : (bar : Option ℕ) → (if is_some bar then Some TwoBars else None) ≡ None → bar ≡ None
-two-bars None e = refl
-two-bars (Some n) e = absurd (cc)
-
--- parts with no fault are read
-pub row-good : (kind : Kind) (entries : List Entry) (bar : Option ℕ) (ps : List (List ℕ))
-    → first (row_checks kind (R entries bar) ps) ≡ None → IsRead kind entries bar ps (row_of kind (R entries bar) ps)
-row-good kind entries bar [] e =
-    ([], sym (append-nil entries), (refl, ap (unwrap_or bar) (sym (names_of-length entries))))
-row-good kind entries bar (p ∷ ps) e =
-    let a = split (part_checks kind (R entries bar) p) (row_checks kind (with_part kind (R entries bar) p) ps) e in
-    by-part kind entries bar p
-    (λ row. first (row_checks kind row ps) ≡ None → IsRead kind entries bar (p ∷ ps) (row_of kind row ps))
+-- parts with no fault stand for items, those behind the bar
+others-good : (kind : Kind) (es : List Entry) (n : ℕ) (ps : List (List ℕ)) → length es ≤ most_items
+    → first (row_checks kind (R es (Some n)) ps) ≡ None → AreOthers kind es ps (row_of kind (R es (Some n)) ps) n
+others-good kind es n [] m e = record {
+  others = [];
+  all = ap (λ es. R es (Some n)) (sym (append-nil es));
+  secondary = tt;
+  new = tt;
+  few = omega (arith, m);
+}
+others-good kind es n (p ∷ ps) m e =
+    let a = split (part_checks kind (R es (Some n)) p) (row_checks kind (with_part kind (R es (Some n)) p) ps) e in
+    by-part kind es (Some n) p
+    (λ row. first (row_checks kind row ps) ≡ None → AreOthers kind es (p ∷ ps) (row_of kind row ps) n)
+    (λ f q. absurd (let two = rw f at a.0 in cc))
     (λ f q.
-    let row = row_of kind (R entries (Some (length entries))) ps in
-    let r = row-good kind entries (Some (length entries)) ps q in (
-      r.0,
-      r.1,
-      inl (
-        f,
-        two-bars bar (sym (at-bar kind entries bar p f).0 ∙ a.0),
-        subst
-            (λ n. ItemsBehind kind (names_of entries) (Some n) ps r.0 (unwrap_or row.bar (length row.entries)))
-            (sym (names_of-length entries)) r.2,
-      ),
-    ))
-    (λ f q.
-    let e1 : Entry = entry kind (is_some bar) p in
-    let row = row_of kind (R (entries ++ e1 ∷ []) bar) ps in
-    let g = item-good kind (names_of entries) (is_some bar) p (sym (at-word kind entries bar p f).0 ∙ a.0) in
-    let r = row-good kind (entries ++ e1 ∷ []) bar ps q in (
-      e1 ∷ r.0,
-      r.1 ∙ append_assoc entries (e1 ∷ []) r.0,
-      inr (
-        e1,
-        r.0,
-        refl,
-        f,
-        g.0,
-        g.1,
-        g.2,
-        subst (λ ns. ItemsBehind kind ns bar ps r.0 (unwrap_or row.bar (length row.entries)))
-            (names_of-snoc entries e1) r.2,
-      ),
-    )) a.1
+    let new : Entry = entry kind true p in
+    let g = item-good kind (names_of es) true p (rw f at a.0) in
+    let l = length-append es (new ∷ []) in
+    let r = others-good kind (es ++ new ∷ []) n ps (omega (arith, g.2, names_of-length es, l)) q in record {
+      others = new ∷ r.others;
+      all = r.all ∙ ap (λ es. R es (Some n)) (append_assoc es (new ∷ []) r.others);
+      secondary = (g.0, r.secondary);
+      new = (g.1, subst (λ ns. AllNew ns (names_of r.others)) (names_of-snoc es new) r.new);
+      few = omega (arith, r.few, l);
+    }) a.1
 
--- parts that are read have no fault, and give what is read
-pub good-row : (kind : Kind) (entries : List Entry) (bar : Option ℕ) (ps : List (List ℕ)) (es : List Entry) (n : ℕ)
-    → ItemsBehind kind (names_of entries) bar ps es n
-    → (first (row_checks kind (R entries bar) ps) ≡ None) × ((row_of kind (R entries bar) ps).entries ≡ entries ++ es)
-    × (n ≡ unwrap_or (row_of kind (R entries bar) ps).bar (length (row_of kind (R entries bar) ps).entries))
-good-row kind entries bar [] es n h =
-    (refl, sym (ap (λ x. entries ++ x) h.0 ∙ append-nil entries), h.1 ∙ ap (unwrap_or bar) (names_of-length entries))
-good-row kind entries bar (p ∷ ps) es n (inl h) =
-    let w = at-bar kind entries bar p h.0 in
-    let r =
-    good-row kind entries (Some (length entries)) ps es n
-    (subst (λ m. ItemsBehind kind (names_of entries) (Some m) ps es n) (names_of-length entries) h.2) in (
-      first-all (part_checks kind (R entries bar) p) (row_checks kind (with_part kind (R entries bar) p) ps)
-          (w.0 ∙ ap (λ o. if is_some o then Some TwoBars else None) h.1)
-          (ap (λ row. first (row_checks kind row ps)) w.1 ∙ r.0),
-      ap (λ row. (row_of kind row ps).entries) w.1 ∙ r.1,
-      r.2 ∙ ap (λ row. unwrap_or (row_of kind row ps).bar (length (row_of kind row ps).entries)) (sym w.1),
-    )
-good-row kind entries bar (p ∷ ps) es n (inr h) =
-    let w = at-word kind entries bar p h.3 in
-    let g = good-item kind (names_of entries) (is_some bar) p h.0 h.4 h.5 h.6 in
-    let ns : names_of entries ++ h.0.name ∷ [] ≡ names_of (entries ++ entry kind (is_some bar) p ∷ []) =
-    ap (λ e. names_of entries ++ e.name ∷ []) g.0 ∙ sym (names_of-snoc entries (entry kind (is_some bar) p)) in
-    let r =
-    good-row kind (entries ++ entry kind (is_some bar) p ∷ []) bar ps h.1 n
-    (subst (λ ms. ItemsBehind kind ms bar ps h.1 n) ns h.7) in (
-      first-all (part_checks kind (R entries bar) p) (row_checks kind (with_part kind (R entries bar) p) ps) (w.0 ∙ g.1)
-          (ap (λ row. first (row_checks kind row ps)) w.1 ∙ r.0),
-      ap (λ row. (row_of kind row ps).entries) w.1 ∙ r.1 ∙ append_assoc entries (entry kind (is_some bar) p ∷ []) h.1
-          ∙ ap (λ e. entries ++ e ∷ h.1) (sym g.0) ∙ ap (λ x. entries ++ x) (sym h.2),
-      r.2 ∙ ap (λ row. unwrap_or (row_of kind row ps).bar (length (row_of kind row ps).entries)) (sym w.1),
+-- and from the front
+pub row-good : (kind : Kind) (es : List Entry) (ps : List (List ℕ)) → length es ≤ most_items
+    → first (row_checks kind (R es None) ps) ≡ None
+    → AreItems kind es ps (row_of kind (R es None) ps).entries (P (row_of kind (R es None) ps))
+row-good kind es [] m e = record {
+  first = [];
+  others = [];
+  all = sym (append-nil es);
+  count = omega arith;
+  primary = tt;
+  secondary = tt;
+  new = tt;
+  few = omega (arith, m);
+}
+row-good kind es (p ∷ ps) m e =
+    let a = split (part_checks kind (R es None) p) (row_checks kind (with_part kind (R es None) p) ps) e in
+    by-part kind es None p (λ row. first (row_checks kind row ps) ≡ None
+    → AreItems kind es (p ∷ ps) (row_of kind row ps).entries (P (row_of kind row ps)))
+    (λ f q. let r = others-good kind es (length es) ps m q in record {
+      first = [];
+      others = r.others;
+      all = ap (λ (row : Row). row.entries) r.all;
+      count = omega (arith, ap P r.all);
+      primary = rw (before-cons p ps true f) tt;
+      secondary = rw (after-cons p ps true f) r.secondary;
+      new = r.new;
+      few = r.few;
+    })
+    (λ f q.
+    let new : Entry = entry kind false p in
+    let g = item-good kind (names_of es) false p (rw f at a.0) in
+    let l = length-append es (new ∷ []) in
+    let r = row-good kind (es ++ new ∷ []) ps (omega (arith, g.2, names_of-length es, l)) q in record {
+      first = new ∷ r.first;
+      others = r.others;
+      all = r.all ∙ append_assoc es (new ∷ []) (r.first ++ r.others);
+      count = omega (arith, r.count, l);
+      primary = rw (before-cons p ps false f) (g.0, r.primary);
+      secondary = rw (after-cons p ps false f) r.secondary;
+      new = (g.1, subst (λ ns. AllNew ns (names_of (r.first ++ r.others))) (names_of-snoc es new) r.new);
+      few = omega (arith, r.few, l);
+    }) a.1
+
+-- one part more that stands for an item, and any part that has no fault
+word-step : (kind : Kind) (es : List Entry) (bar : Option ℕ) (p : List ℕ) (e : Entry) → is_bar p ≡ false
+    → IsEntry kind (is_some bar) p e → place (names_of es) e.name ≡ None → length es < most_items
+    → (first (part_checks kind (R es bar) p) ≡ None) × (with_part kind (R es bar) p ≡ R (es ++ e ∷ []) bar)
+word-step kind es bar p e b i new few =
+    let w = at-word kind es bar p b in
+    let g = good-item kind (names_of es) (is_some bar) p e i new (omega (arith, few, names_of-length es)) in
+    (w.0 ∙ g.1, w.1 ∙ ap (λ e. R (es ++ e ∷ []) bar) (sym g.0))
+
+go-on : (kind : Kind) (row next : Row) (p : List ℕ) (ps : List (List ℕ)) → first (part_checks kind row p) ≡ None
+    → with_part kind row p ≡ next → first (row_checks kind next ps) ≡ None
+    → (first (row_checks kind row (p ∷ ps)) ≡ None) × (row_of kind row (p ∷ ps) ≡ row_of kind next ps)
+go-on kind row next p ps e w q = (
+  first-all (part_checks kind row p) (row_checks kind (with_part kind row p) ps) e
+      (ap (λ row. first (row_checks kind row ps)) w ∙ q),
+  ap (λ row. row_of kind row ps) w,
+)
+
+new-names : (es xs : List Entry) (e : Entry) → AllNew (names_of es ++ e.name ∷ []) (names_of xs)
+    → AllNew (names_of (es ++ e ∷ [])) (names_of xs)
+new-names es xs e = subst (λ ns. AllNew ns (names_of xs)) (sym (names_of-snoc es e))
+
+-- parts that stand for items have no fault, and give these
+good-others : (kind : Kind) (es : List Entry) (n : ℕ) (ps : List (List ℕ)) (xs : List Entry)
+    → AllZip (IsEntry kind true) ps xs → AllNew (names_of es) (names_of xs) → length es + length xs ≤ most_items
+    → (first (row_checks kind (R es (Some n)) ps) ≡ None)
+    × (row_of kind (R es (Some n)) ps ≡ R (es ++ xs) (Some n))
+good-others kind es n [] [] z f m = (refl, ap (λ es. R es (Some n)) (sym (append-nil es)))
+good-others kind es n [] (x ∷ xs) z f m = absurd z
+good-others kind es n (p ∷ ps) [] z f m = absurd z
+good-others kind es n (p ∷ ps) (x ∷ xs) z f m =
+    let s = word-step kind es (Some n) p x (no-bar kind p x z.0) z.0 f.0 (omega (arith, m)) in
+    let r = good-others kind (es ++ x ∷ []) n ps xs z.1 (new-names es xs x f.1)
+    (omega (arith, m, length-append es (x ∷ []))) in
+    let o = go-on kind (R es (Some n)) (R (es ++ x ∷ []) (Some n)) p ps s.0 s.1 r.0 in
+    (o.0, o.1 ∙ r.1 ∙ ap (λ es. R es (Some n)) (append_assoc es (x ∷ []) xs))
+
+pub good-row : (kind : Kind) (es : List Entry) (ps : List (List ℕ)) (xs ys : List Entry)
+    → AllZip (IsEntry kind false) (before_first is_bar ps) xs → AllZip (IsEntry kind true) (after_first is_bar ps) ys
+    → AllNew (names_of es) (names_of (xs ++ ys)) → length es + length (xs ++ ys) ≤ most_items
+    → (first (row_checks kind (R es None) ps) ≡ None)
+    × ((row_of kind (R es None) ps).entries ≡ es ++ (xs ++ ys))
+    × (P (row_of kind (R es None) ps) ≡ length es + length xs)
+good-row kind es [] [] [] y z f m = (refl, sym (append-nil es), omega arith)
+good-row kind es [] [] (x ∷ ys) y z f m = absurd z
+good-row kind es [] (x ∷ xs) ys y z f m = absurd y
+good-row kind es (p ∷ ps) [] ys y z f m =
+    let b = bar-first kind p ps y in
+    let w = at-bar kind es None p b in
+    let r = good-others kind es (length es) ps ys (rw (after-cons p ps true b) at z) f m in
+    let o = go-on kind (R es None) (R es (Some (length es))) p ps w.0 w.1 r.0 in
+    (o.0, ap (λ (row : Row). row.entries) (o.1 ∙ r.1), omega (arith, ap P (o.1 ∙ r.1)))
+good-row kind es (p ∷ ps) (x ∷ xs) ys y z f m =
+    let b = word-first kind p ps x xs y in
+    let h = rw (before-cons p ps false b) at y in
+    let s = word-step kind es None p x b h.0 f.0 (omega (arith, m)) in
+    let l = length-append es (x ∷ []) in
+    let r = good-row kind (es ++ x ∷ []) ps xs ys h.1 (rw (after-cons p ps false b) at z)
+    (new-names es (xs ++ ys) x f.1) (omega (arith, m, l)) in
+    let o = go-on kind (R es None) (R (es ++ x ∷ []) None) p ps s.0 s.1 r.0 in (
+      o.0,
+      ap (λ (row : Row). row.entries) o.1 ∙ r.1 ∙ append_assoc es (x ∷ []) (xs ++ ys),
+      omega (arith, r.2, l, ap P o.1),
     )
 
 -- AN OPTION LINE

@@ -1,29 +1,29 @@
 -- Lines without a fault stand for what they give, and no other lines stand for a problem.
-use Rattle.std.proofs.Common.{◌≡◌, ◌≢◌, ℕ, ◌-◌, List, [], ◌∷◌, ◌++◌, None, length, map, take, drop}
+use Rattle.std.proofs.Common.{length-take}
+use Rattle.std.proofs.Common.{◌≡◌, ◌≢◌, ℕ, ◌-◌, List, [], ◌∷◌, ◌++◌, None, length, map, take}
 use Rattle.std.proofs.Common.{refl, ap, ◌∙◌, sym, subst, arith, false}
-use Rattle.std.proofs.lemmas.List.{length-append, length-drop, length-map, take-append-drop}
-use Rattle.std.proofs.lemmas.Slice.Zip.{AllZip-long}
-use Rattle.std.proofs.Math.Seq.{take-append_seam, drop-append_seam}
+use Rattle.std.proofs.lemmas.List.{length-append, length-map}
+use Rattle.std.proofs.Math.Seq.{take-append_seam}
 use Rattle.std.specs.Prelude.{AllPairs}
-use Rattle.std.specs.List.{AllZip, AllByRecursion, list_any, before_first}
+use Rattle.std.specs.List.{AllZip, AllByRecursion, list_any}
 use Rattle.xc_input.specs.declared.kind.Kind.{Kind}
 use Rattle.xc_input.specs.declared.problem.Bounds.{Bounds}
 use Rattle.xc_input.specs.Words.{has}
-use Rattle.xc_input.specs.Tokens.{tokens, parts, is_bar}
+use Rattle.xc_input.specs.Tokens.{tokens, parts}
 use Rattle.xc_input.specs.Sheets.{Entry, Written, number_uses}
 use Rattle.xc_input.specs.Named.{Named}
 use Rattle.xc_input.specs.Faults.{Context, first}
-use Rattle.xc_input.specs.Text.{IsEntry, IsOptionLine, StandsFor, numbered_content}
+use Rattle.xc_input.specs.Text.{IsOptionLine, StandsFor, numbered_content}
 use Rattle.xc_input.specs.Text.{AreOptions as HaveOptions, AreItems as HaveItems}
 use Rattle.xc_input.specs.inner.Sheets.{Sheet, names_of}
-use Rattle.xc_input.specs.inner.Stages.{context, option_checks, written}
+use Rattle.xc_input.specs.inner.Stages.{row_of, no_row, context, option_checks, written}
 use Rattle.xc_input.proofs.GrammarLemmas.SheetGrammar.{AreItems, named_of}
-use Rattle.xc_input.proofs.GrammarLemmas.LawLemmas.{said, start, written_in, kept_in, ignored_in, kept_of, ignored_of}
-use Rattle.xc_input.proofs.GrammarLemmas.LawLemmas.{flat}
+use Rattle.xc_input.proofs.GrammarLemmas.LawLemmas.{P, said, start, written_in, kept_in, ignored_in}
+use Rattle.xc_input.proofs.GrammarLemmas.LawLemmas.{kept_of, ignored_of, flat}
 use Rattle.xc_input.proofs.GrammarLemmas.LawLemmas.{with_kept, stage_by, AreClear, IsClearText, row-good, good-row}
 use Rattle.xc_input.proofs.GrammarLemmas.LawLemmas.{uses-good, good-uses}
 use Rattle.xc_input.proofs.FaultLemmas.Checks.{names_of-length}
-use Rattle.xc_input.proofs.OptionLemmas.Items.{ItemsBehind, items-behind, behind-items}
+use Rattle.xc_input.proofs.OptionLemmas.Items.{all-new, new-distinct}
 use Rattle.xc_input.proofs.OptionLemmas.Uses.{uses-behind, behind-uses}
 
 -- OPTION LINES
@@ -53,45 +53,40 @@ module _ (kind : Kind) (sheet : Sheet) where
 abbrev bounds_in : List Entry → List Bounds
 bounds_in es = map (λ e. record { low = e.low; high = e.high }) es
 
--- items by their number of primary ones, and in two lists
-have-items : (kind : Kind) (ps : List (List ℕ)) (sheet : Sheet) → AreItems kind ps sheet.entries sheet.primaries
+-- the items of a sheet
+have-items : (kind : Kind) (ps : List (List ℕ)) (sheet : Sheet) → AreItems kind [] ps sheet.entries sheet.primaries
     → HaveItems kind ps (named_of sheet)
-have-items kind ps sheet h = record {
-  primary = take sheet.primaries sheet.entries;
-  secondary = drop sheet.primaries sheet.entries;
-  before_bar = h.primary;
-  behind_bar = h.secondary;
-  names = ap names_of (sym (take-append-drop sheet.primaries sheet.entries));
-  bounds = refl;
-  count = sym (length-drop sheet.primaries sheet.entries);
-  distinct = h.distinct;
-  few = omega (arith, names_of-length sheet.entries, h.few);
-}
-
-are-items : (kind : Kind) (ps : List (List ℕ)) (named : Named) (h : HaveItems kind ps named)
-    → AreItems kind ps (h.primary ++ h.secondary) (length h.primary)
-are-items kind ps named h = record {
-  count = AllZip-long (IsEntry kind false) (before_first is_bar ps) h.primary h.before_bar;
-  primary = rw take-append_seam h.before_bar;
-  secondary = rw drop-append_seam h.behind_bar;
-  distinct = subst (AllPairs (λ x y. x ≢ y)) h.names h.distinct;
-  few = omega (arith, h.few, ap length h.names, names_of-length (h.primary ++ h.secondary));
-}
+have-items kind ps sheet h =
+    let count : sheet.primaries ≡ length h.first = omega (arith, h.count) in record {
+      primary = h.first;
+      secondary = h.others;
+      before_bar = h.primary;
+      behind_bar = h.secondary;
+      names = ap names_of h.all;
+      bounds = (λ i. bounds_in (take (count i) (h.all i))) ∙ ap bounds_in (take-append_seam h.first h.others);
+      count = omega (arith, ap length h.all, length-append h.first h.others, count);
+      distinct = subst (λ es. AllPairs (λ x y. x ≢ y) (names_of es)) (sym h.all)
+          (new-distinct [] (names_of (h.first ++ h.others)) h.new (λ i j d lt within. absurd (omega (arith, within))));
+      few = omega (arith, names_of-length sheet.entries, ap length h.all, h.few);
+    }
 
 -- THE TEXT
 -- lines with content that have no fault, the first of them the item line
 pub clear-stands : (kind : Kind) (lines : List (List ℕ)) (item : ℕ × List ℕ) (rest : List (ℕ × List ℕ))
     → list_any (has 0) lines ≡ false → numbered_content lines ≡ item ∷ rest → IsClearText kind (item ∷ rest)
-    → AreItems kind (parts item.1) (start kind item.1).entries (start kind item.1).primaries
+    → AreItems kind [] (parts item.1) (start kind item.1).entries (start kind item.1).primaries
     × StandsFor kind lines (named_of (stage_by kind (item ∷ rest)).sheet) (stage_by kind (item ∷ rest)).ignored
 clear-stands kind lines item rest z e h =
     let s = start kind item.1 in
-    let g = row-good kind [] None (parts item.1) h.0 in
-    let items : AreItems kind (parts item.1) s.entries s.primaries = behind-items kind (parts item.1) s.entries
-    s.primaries (subst (λ es. ItemsBehind kind [] None (parts item.1) es s.primaries) (sym g.1) g.2) in
-    let many : length (bounds_in (take s.primaries s.entries)) ≡ s.primaries =
-    length-map (take s.primaries s.entries) _ ∙ AllZip-long (IsEntry kind false) (before_first is_bar (parts item.1))
-    (take s.primaries s.entries) items.primary ∙ sym items.count in
+    let items = row-good kind [] (parts item.1) (omega arith) h.0 in
+    let many : length (bounds_in (take s.primaries s.entries)) ≡ s.primaries = omega (
+      arith,
+      length-map {B = Bounds} (take s.primaries s.entries) (λ e. record { low = e.low; high = e.high }),
+      length-take s.primaries s.entries,
+      ap length items.all,
+      length-append items.first items.others,
+      items.count,
+    ) in
     let all : Sheet = with_kept s (kept_in s rest) in
     let options : HaveOptions (said kind s) rest (named_of all) (ignored_in s rest) = record {
       options = written_in s rest;
@@ -129,8 +124,10 @@ stands-clear kind lines named ignored h =
     let rest = h.option_lines in
     let entries = h.items.primary ++ h.items.secondary in
     let s : Sheet = record { entries = entries; primaries = length h.items.primary; options = []; colours = [] } in
-    let row = good-row kind [] None ps entries (length h.items.primary)
-    (items-behind kind ps entries (length h.items.primary) (are-items kind ps named h.items)) in
+    let new = all-new [] (names_of entries) (λ k d within. refl)
+    (subst (AllPairs (λ x y. x ≢ y)) h.items.names h.items.distinct) in
+    let row = good-row kind [] ps h.items.primary h.items.secondary h.items.before_bar h.items.behind_bar new
+    (omega (arith, h.items.few, ap length h.items.names, names_of-length entries)) in
     let many : length named.puzzle.bounds ≡ length h.items.primary = ap length h.items.bounds
     ∙ length-map h.items.primary _ in
     let o = subst (λ (c : Context). HaveOptions c rest named ignored)
@@ -154,6 +151,7 @@ stands-clear kind lines named ignored h =
       sheet,
       o.others ∙ ap (ignored_of (length h.items.primary)) w.0,
     ) in
+    let count : P (row_of kind no_row ps) ≡ length h.items.primary = omega (arith, row.2) in
     let same : s ≡ start kind h.item_line.1 =
-    λ i. record { entries = sym row.1 i; primaries = row.2 i; options = []; colours = [] } in
+    λ i. record { entries = sym row.1 i; primaries = sym count i; options = []; colours = [] } in
     let there = subst (IsBehind kind named ignored rest) same behind in ((row.0, there.0), there.1, there.2)

@@ -1,6 +1,6 @@
 -- The answer at the end of a text.
 use Rattle.std.proofs.Common.{◌≡◌, ◌≢◌, ◌+◌, ◌-◌, ◌^◌, min, ℕ, List, Option, None, Some, Bool, true, false, length}
-use Rattle.std.proofs.Common.{refl, ap, ◌∙◌, sym, subst, arith, MatchOption}
+use Rattle.std.proofs.Common.{[], refl, ap, ◌∙◌, sym, subst, arith, MatchOption}
 use Rattle.std.proofs.lemmas.List.{length-map}
 use Rattle.xc_input.specs.declared.kind.Kind.{Kind}
 use Rattle.xc_input.specs.declared.fault.InputError.{InputError}
@@ -10,7 +10,7 @@ use Rattle.xc_input.proofs.GrammarLemmas.SheetGrammar.{named_of, AreItems}
 use Rattle.xc_input.specs.FirstFault.{line_number, first_fault}
 use Rattle.xc_input.specs.declared.fault.FaultKind.TheVariants.{NoItems}
 use Rattle.xc_input.specs.inner.Stages.{Stage, stage_of}
-use Rattle.std.proofs.Common.{map}
+use Rattle.std.proofs.Common.{[], map}
 use Rattle.xc_input.specs.Tokens.{parts}
 use Rattle.xc_input.specs.Text.{StandsFor}
 use Rattle.xc_input.specs.Named.{Named, IsSound}
@@ -64,8 +64,9 @@ module _ (v : Reading) (kind : Kind) (lines : List (List ℕ)) (o : Option Input
         let t : StandsFor kind lines p ig = subst (λ (r : Reading). StandsFor r.kind r.lines p ig) is s in
         let b : first_fault kind lines ≡ None = (stands-only kind lines p ig t).0 in absurd (cc)
 
-    items : d.started ≡ true → (line : List ℕ) × AreItems kind (parts line) (map entry_of d.items.items) d.primary
-    items g = subst (λ (st : Stage). (line : List ℕ) × AreItems kind (parts line) st.sheet.entries st.sheet.primaries)
+    items : d.started ≡ true → (line : List ℕ) × AreItems kind [] (parts line) (map entry_of d.items.items) d.primary
+    items g =
+        subst (λ (st : Stage). (line : List ℕ) × AreItems kind [] (parts line) st.sheet.entries st.sheet.primaries)
         (sym whole.1) (faultless-items kind lines (ended true g))
 
     stands : d.started ≡ true → StandsFor kind lines (named_by d) d.ignored.items

@@ -1,12 +1,13 @@
 -- The problem of a sheet.
 use Rattle.std.proofs.Common.{◌≡◌, ℕ, zero, suc, ◌-◌, ◌≤◌, false, List, [], ◌∷◌, true, length, map, take, drop}
 use Rattle.std.proofs.Common.{All, refl, ap}
-use Rattle.std.proofs.Common.{arith, subst, inl, inr, length-take}
+use Rattle.std.proofs.Common.{arith, subst, inl, inr}
 use Rattle.std.proofs.lemmas.Bool.Decides.{nat_tests}
-use Rattle.std.proofs.lemmas.List.{length-map, drop-map}
+use Rattle.std.proofs.lemmas.List.{length-append, length-map, drop-map}
+use Rattle.std.proofs.Math.Seq.{drop-append_seam}
+use Rattle.std.proofs.Common.{sym, ◌∙◌}
 use Rattle.std.proofs.lemmas.List.Elements.{All-from_recursion}
-use Rattle.std.proofs.lemmas.Slice.Zip.{AllZip-long}
-use Rattle.std.specs.List.{AllByRecursion, before_first, after_first}
+use Rattle.std.specs.List.{AllByRecursion, after_first}
 use Rattle.xc_input.specs.declared.kind.Kind.{Kind}
 use Rattle.xc_input.specs.declared.problem.Bounds.{Bounds}
 use Rattle.xc_input.specs.declared.problem.Item.{Item}
@@ -48,14 +49,9 @@ pub named-is : (items : List Item) (primary : ℕ) (options : List (List Use)) (
 named-is items primary options colours = grind (arith, nat_tests, item-names, item-bounds, length-map)
 
 -- THE ITEM LINE
-pub primaries-within : (kind : Kind) (ps : List (List ℕ)) (es : List Entry) (n : ℕ) → AreItems kind ps es n
+pub primaries-within : (kind : Kind) (ps : List (List ℕ)) (es : List Entry) (n : ℕ) → AreItems kind [] ps es n
     → n ≤ length es
-primaries-within kind ps es n h = omega (
-  arith,
-  h.count,
-  AllZip-long (IsEntry kind false) (before_first is_bar ps) (take n es) h.primary,
-  length-take n es,
-)
+primaries-within kind ps es n h = omega (arith, h.count, ap length h.all, length-append h.first h.others)
 
 -- the elements of a list whose images these are
 each-of : {X Y : Type 0} (P : Y → Type 0) (f : X → Y) (xs : List X) → AllByRecursion P (map f xs)
@@ -69,8 +65,11 @@ optional kind token e (n, inr h) = let f : true ≡ false = h.2 in absurd (cc)
 
 -- the items behind the primary ones
 pub behind-bounds : (kind : Kind) (ps : List (List ℕ)) (items : List Item) (n : ℕ)
-    → AreItems kind ps (map entry_of items) n → All IsOptional (drop n items)
-behind-bounds kind ps items n h = All-from_recursion IsOptional (drop n items) (each-of _ entry_of (drop n items)
-    (subst (AllByRecursion _) (drop-map entry_of n items) (each-zip (IsEntry kind true) (λ t. Unit {0}) _
-    (λ t e u. optional kind t e) (after_first is_bar ps) (drop n (map entry_of items)) (each_of_all _ _ (λ t. tt))
-    h.secondary)))
+    → AreItems kind [] ps (map entry_of items) n → All IsOptional (drop n items)
+behind-bounds kind ps items n h =
+    let count : n ≡ length h.first = omega (arith, h.count) in
+    let same : h.others ≡ map entry_of (drop n items) = sym (drop-append_seam h.first h.others)
+    ∙ (λ i. drop (sym count i) (sym h.all i)) ∙ drop-map entry_of n items in
+    All-from_recursion IsOptional (drop n items) (each-of _ entry_of (drop n items) (subst (AllByRecursion _) same
+    (each-zip (IsEntry kind true) (λ t. Unit {0}) _ (λ t e u. optional kind t e) (after_first is_bar ps) h.others
+    (each_of_all _ _ (λ t. tt)) h.secondary)))
