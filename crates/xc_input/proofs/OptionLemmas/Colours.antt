@@ -16,7 +16,7 @@ use Rattle.xc_input.specs.Faults.{has_primary}
 use Rattle.xc_input.specs.inner.Sheets.{with_uses}
 use Rattle.xc_input.specs.inner.Builders.{items_of}
 use Rattle.xc_input.specs.inner.ColourNumbers.{numbered, use_behind}
-use Rattle.xc_input.proofs.FaultLemmas.Checks.{no-place, some-is}
+use Rattle.xc_input.proofs.FaultLemmas.Checks.{no-place}
 
 last-or-len : {A : Type 0} (p : A → Bool) (xs : List A) (x : A) → list_any p xs ≡ false → p x ≡ true
     → position_or_len p (xs ++ x ∷ []) ≡ length xs
@@ -58,38 +58,32 @@ abbrev pub Knows : List (List ℕ) → List ℕ → Type 0
 Knows cs [] = Unit {0}
 Knows cs (b ∷ bs) = (i : ℕ) × (place cs (b ∷ bs) ≡ Some i)
 
-none-is : {A : Type 0} (o : Option A) → is_none o ≡ true → o ≡ None
-none-is None e = refl
-none-is (Some x) e = absurd (cc)
+-- what holds of the colours with one more: it is a new one, or is there
+pub by-colour : (cs : List (List ℕ)) (b : ℕ) (bs : List ℕ) (Q : List (List ℕ) → Type 0)
+    → (place cs (b ∷ bs) ≡ None → Q (cs ++ (b ∷ bs) ∷ [])) → ((i : ℕ) → place cs (b ∷ bs) ≡ Some i → Q cs)
+    → Q (with_colour cs (b ∷ bs))
+by-colour cs b bs Q new old = cases (place cs (b ∷ bs)) refl
+  where
+    cases : (o : Option ℕ) → place cs (b ∷ bs) ≡ o → Q (if is_none o then cs ++ (b ∷ bs) ∷ [] else cs)
+    cases None e = new e
+    cases (Some i) e = old i e
 
 pub met : (cs : List (List ℕ)) (c : List ℕ) → Knows (with_colour cs c) c
 met cs [] = tt
-met cs (b ∷ bs) =
-    let P : Bool → Type 0 = λ t. is_none (place cs (b ∷ bs)) ≡ t → (i : ℕ)
-    × (place (if t then cs ++ (b ∷ bs) ∷ [] else cs) (b ∷ bs) ≡ Some i) in
-    let h : P (is_none (place cs (b ∷ bs))) = (elim (is_none (place cs (b ∷ bs))) as P [
-      | true ↦ λ f. (
-        length cs,
-        last-position (bytes_eq (b ∷ bs)) cs (b ∷ bs) (none-is (place cs (b ∷ bs)) f)
-            ((bytes_eq-Decides (b ∷ bs) (b ∷ bs)).1 refl),
-      )
-      | false ↦ λ f. some-is (place cs (b ∷ bs)) f
-    ]) in h refl
+met cs (b ∷ bs) = by-colour cs b bs (λ ds. Knows ds (b ∷ bs))
+    (λ e. (
+      length cs,
+      last-position (bytes_eq (b ∷ bs)) cs (b ∷ bs) e ((bytes_eq-Decides (b ∷ bs) (b ∷ bs)).1 refl),
+    )) (λ i e. (i, e))
 
 knows-more : (cs : List (List ℕ)) (d c : List ℕ) → Knows cs c → Knows (with_colour cs d) c
     × (colour_number (with_colour cs d) c ≡ colour_number cs c)
 knows-more cs [] c k = (k, refl)
 knows-more cs (b ∷ bs) [] k = (tt, refl)
 knows-more cs (b ∷ bs) (x ∷ xs) k =
-    let P : Bool → Type 0 = λ t. ((i : ℕ) × (place (if t then cs ++ (b ∷ bs) ∷ [] else cs) (x ∷ xs) ≡ Some i))
-    × (unwrap_or (place (if t then cs ++ (b ∷ bs) ∷ [] else cs) (x ∷ xs)) 0 + 1 ≡ unwrap_or (place cs (x ∷ xs)) 0
-    + 1) in
-    let stays : place (cs ++ (b ∷ bs) ∷ []) (x ∷ xs) ≡ Some k.0 =
-    position-stays (bytes_eq (x ∷ xs)) cs ((b ∷ bs) ∷ []) k.0 k.1 in
-    let h : P (is_none (place cs (b ∷ bs))) = (elim (is_none (place cs (b ∷ bs))) as P [
-      | true ↦ ((k.0, stays), ap (λ o. unwrap_or o 0 + 1) (stays ∙ sym k.1))
-      | false ↦ (k, refl)
-    ]) in h
+    let stays = position-stays (bytes_eq (x ∷ xs)) cs ((b ∷ bs) ∷ []) k.0 k.1 in
+    by-colour cs b bs (λ ds. Knows ds (x ∷ xs) × (colour_number ds (x ∷ xs) ≡ colour_number cs (x ∷ xs)))
+    (λ e. ((k.0, stays), ap (λ o. unwrap_or o 0 + 1) (stays ∙ sym k.1))) (λ i e. (k, refl))
 
 pub kept : (cs : List (List ℕ)) (us : List Written) (c : List ℕ) → Knows cs c
     → Knows (with_uses cs us) c × (colour_number (with_uses cs us) c ≡ colour_number cs c)
@@ -144,12 +138,8 @@ in_turn_items cs (u ∷ us) = ap (λ is. u.item ∷ is) (in_turn_items (with_col
 -- at most one colour more
 pub colours_more : (cs : List (List ℕ)) (c : List ℕ) → length (with_colour cs c) ≤ length cs + 1
 colours_more cs [] = omega arith
-colours_more cs (b ∷ bs) =
-    let P : Bool → Type 0 = λ t. length (if t then cs ++ (b ∷ bs) ∷ [] else cs) ≤ length cs + 1 in
-    (elim (is_none (place cs (b ∷ bs))) as P [
-      | true ↦ omega (arith, length-append cs ((b ∷ bs) ∷ []))
-      | false ↦ omega arith
-    ])
+colours_more cs (b ∷ bs) = by-colour cs b bs (λ ds. length ds ≤ length cs + 1)
+    (λ e. omega (arith, length-append cs ((b ∷ bs) ∷ []))) (λ i e. omega arith)
 
 -- the colours that were met stand first
 pub first_met : (cs : List (List ℕ)) (us : List Written) → take (length cs) (with_uses cs us) ≡ cs
@@ -157,9 +147,8 @@ first_met cs us = let m = more us cs in ap (take (length cs)) m.1 ∙ take-appen
   where
     new_or_not : (cs : List (List ℕ)) (c : List ℕ) → (d : List (List ℕ)) × (with_colour cs c ≡ cs ++ d)
     new_or_not cs [] = ([], sym (append-nil cs))
-    new_or_not cs (b ∷ bs) =
-        let P : Bool → Type 0 = λ t. (d : List (List ℕ)) × ((if t then cs ++ (b ∷ bs) ∷ [] else cs) ≡ cs ++ d) in
-        (elim (is_none (place cs (b ∷ bs))) as P [ true ↦ ((b ∷ bs) ∷ [], refl) | false ↦ ([], sym (append-nil cs)) ])
+    new_or_not cs (b ∷ bs) = by-colour cs b bs (λ ds. (d : List (List ℕ)) × (ds ≡ cs ++ d))
+        (λ e. ((b ∷ bs) ∷ [], refl)) (λ i e. ([], sym (append-nil cs)))
 
     more : (us : List Written) (cs : List (List ℕ)) → (d : List (List ℕ)) × (with_uses cs us ≡ cs ++ d)
     more [] cs = ([], sym (append-nil cs))

@@ -3,7 +3,9 @@ use Rattle.std.proofs.lemmas.Bool.Decides.{nat_tests}
 use Rattle.std.proofs.Common.{ℕ, zero, suc, ◌≡◌, ◌+◌, ◌-◌, ◌<◌, ◌≤◌, List, [], ◌∷◌, ◌++◌, length, map, take, drop}
 use Rattle.std.proofs.Common.{get_or, sum_by, All, Some, refl, sym, ap, ap₂, ◌∙◌, arith, length-append}
 use Rattle.std.proofs.Common.{length-drop}
-use Rattle.std.proofs.lemmas.List.{take-append-le, drop-append-le, length-take-le, get_or-drop}
+use Rattle.std.proofs.lemmas.Option.{slice_get-map as slice_get-mapped, slice_get-get_or}
+use Rattle.std.specs.Option.{option_map}
+use Rattle.std.proofs.lemmas.List.{length-map, take-append-le, drop-append-le, length-take-le, get_or-drop}
 use Rattle.std.proofs.lemmas.List.Sums.{sum_by-cons}
 use Rattle.std.proofs.Math.Seq.{drop-append_seam, take-length}
 use Rattle.std.proofs.lemmas.Grind.{get_or_default_zero}
@@ -15,9 +17,7 @@ use Rattle.xc_input.specs.inner.Vectors.{AreOptionStarts}
 
 pub slice_get-map : {X Y : Type 0} (f : X → Y) (xs : List X) (i : ℕ) (d : X) → i < length xs
     → slice_get (map f xs) i ≡ Some (f (get_or xs i d))
-slice_get-map f [] i d h = absurd (omega (arith, h))
-slice_get-map f (x ∷ xs) zero d h = refl
-slice_get-map f (x ∷ xs) (suc i) d h = slice_get-map f xs i d (omega (arith, h))
+slice_get-map f xs i d h = slice_get-mapped f xs i ∙ ap (option_map f) (slice_get-get_or xs i d h)
 
 pub slice_get-map-take : {X Y : Type 0} (f : X → Y) (n : ℕ) (xs : List X) (i : ℕ) (d : X) → i < n → i < length xs
     → slice_get (map f (take n xs)) i ≡ Some (f (get_or xs i d))
@@ -55,9 +55,7 @@ numbered_get-at xs zero k e = absurd (omega (arith, e))
 numbered_get-at xs (suc i) k e = let same : i ≡ k = omega (arith, e) in ap (slice_get xs) same
 
 pub length-map-take : {X Y : Type 0} (f : X → Y) (n : ℕ) (xs : List X) → n ≤ length xs → length (map f (take n xs)) ≡ n
-length-map-take f zero xs h = refl
-length-map-take f (suc n) [] h = absurd (omega (arith, h))
-length-map-take f (suc n) (x ∷ xs) h = ap suc (length-map-take f n xs (omega (arith, h)))
+length-map-take f n xs h = length-map (take n xs) f ∙ length-take-le n xs h
 
 -- the part between two starts that were read
 pub part_range : (starts : List ℕ) (n k a b : ℕ) → AreStarts starts n → k + 1 < length starts → a ≡ get_or starts k 0
@@ -136,9 +134,7 @@ option-more (a ∷ starts) us vs n h e = let more = pieces-snoc a starts us vs n
 
 pub slice_get-map-some : {X Y : Type 0} (f : X → Y) (xs : List X) (i : ℕ) (x : X) → Some x ≡ slice_get xs i
     → slice_get (map f xs) i ≡ Some (f x)
-slice_get-map-some f [] i x e = absurd (cc)
-slice_get-map-some f (y ∷ xs) zero x e = let same : x ≡ y = cc in ap (λ z. Some (f z)) (sym same)
-slice_get-map-some f (y ∷ xs) (suc i) x e = slice_get-map-some f xs i x e
+slice_get-map-some f xs i x e = slice_get-mapped f xs i ∙ ap (option_map f) (sym e)
 
 -- what holds of the elements behind the first n
 pub behind-at : {X : Type 0} (P : X → Type 0) (n : ℕ) (xs : List X) (i : ℕ) (d : X) → All P (drop n xs) → n ≤ i

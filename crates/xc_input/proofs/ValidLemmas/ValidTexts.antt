@@ -41,7 +41,7 @@ use Rattle.xc_input.proofs.TokenLemmas.DecimalValues.{value_from}
 use Rattle.xc_input.proofs.TokenLemmas.Separators.{BAR, COLON}
 use Rattle.xc_input.proofs.TokenLemmas.TableNames.{apart}
 use Rattle.xc_input.proofs.TokenLemmas.Unbroken.{unbroken-tokens, unbroken-parts, unbroken-behind}
-use Rattle.xc_input.proofs.OptionLemmas.Colours.{Knows, met, kept, in-range, colours_more, primary-numbered}
+use Rattle.xc_input.proofs.OptionLemmas.Colours.{Knows, by-colour, met, kept, in-range, colours_more, primary-numbered}
 use Rattle.xc_input.proofs.OptionLemmas.Items.{before-cons}
 
 -- LISTS
@@ -152,15 +152,12 @@ record AreGood (cs : List (List ℕ)) : Type 0 where
 good-more : (cs : List (List ℕ)) (c : List ℕ) → (0 < length c → IsColour c × IsUnbroken c) → AreGood cs
     → AreGood (with_colour cs c)
 good-more cs [] f g = g
-good-more cs (b ∷ bs) f g = cases (place cs (b ∷ bs)) refl
-  where
-    cases : (o : Option ℕ) → place cs (b ∷ bs) ≡ o → AreGood (if is_none o then cs ++ (b ∷ bs) ∷ [] else cs)
-    cases (Some i) e = g
-    cases None e = let k = f (omega arith) in record {
+good-more cs (b ∷ bs) f g = by-colour cs b bs AreGood
+    (λ e. let k = f (omega arith) in record {
       form = All-push IsColour cs (b ∷ bs) g.form k.0;
       unbroken = All-push IsUnbroken cs (b ∷ bs) g.unbroken k.1;
       distinct = all_pairs_push (λ x y. x ≢ y) cs (b ∷ bs) g.distinct (apart cs (b ∷ bs) e);
-    }
+    }) (λ i e. g)
 
 good-colours : (c : Context) (us : List Written) (cs : List (List ℕ)) → Each (IsGoodUse c) us → AreGood cs
     → AreGood (with_uses cs us)
